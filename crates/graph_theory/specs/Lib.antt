@@ -1,0 +1,6 @@
+pub mod Sums
+pub mod Graph
+pub mod Walk
+pub mod Parts
+pub mod Barrier
+pub mod Duals

@@ -1,0 +1,9 @@
+use mb_base::VertexId;
+
+/// An edge between `u` and `v` of weight `w`.
+#[derive(Clone, Copy, PartialEq, Eq, Debug)]
+pub struct Edge {
+    pub u: VertexId,
+    pub v: VertexId,
+    pub w: i64,
+}

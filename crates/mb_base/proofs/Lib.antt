@@ -1,0 +1,5 @@
+pub mod Positions
+pub mod LineLemmas
+pub mod FieldLemmas
+pub mod NumberLemmas
+pub mod StreamLemmas

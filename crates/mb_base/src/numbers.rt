@@ -1,0 +1,40 @@
+ghost use Rattle.std.specs.Prelude.{◌≡◌, ℕ, ◌<◌, ◌≤◌, pos, ◌≤ℤ◌, min, ◌^◌, option_map};
+ghost use Rattle.mb_base.specs.Text.{natural, number_of};
+
+/// The number that digits spell, or `cap` where it is greater.
+fn natural_at_most(digits: &[u8], cap: u64) -> Option<u64>
+    requires { cap < 2 ^ 60 }
+    ensures { result ≡ option_map (λ n. min n cap) (natural digits.now) }
+{
+    if digits.is_empty() {
+        return None;
+    }
+    let mut value = 0u64;
+    for b in digits {
+        if !b.is_ascii_digit() {
+            return None;
+        }
+        value = (10 * value + u64::from(*b - b'0')).min(cap);
+    }
+    Some(value)
+}
+
+/// The number that a field spells: an optional minus, then decimal digits and nothing else. A value
+/// beyond `bound` is answered as `bound + 1`, with its sign. None exactly where the field is no number.
+pub fn number(field: &[u8], bound: i64) -> Option<i64>
+    requires low { pos 0 ≤ℤ bound }
+    requires high { bound ≤ℤ pos (10 ^ 18) }
+    ensures { result ≡ number_of bound field.now }
+{
+    let cap = bound as u64 + 1;
+    match field {
+        [b'-', digits @ ..] => {
+            let value = natural_at_most(digits, cap)?;
+            Some(-(value as i64))
+        }
+        _ => {
+            let value = natural_at_most(field, cap)?;
+            Some(value as i64)
+        }
+    }
+}
