@@ -7,6 +7,7 @@
 mod fields;
 mod ids;
 mod lines;
+mod memory;
 mod memory_sinks;
 mod memory_sources;
 mod numbers;
@@ -19,6 +20,7 @@ mod whole;
 pub use fields::Fields;
 pub use ids::{EdgeId, VertexId};
 pub use lines::next_line;
+pub use memory::OutOfMemory;
 pub use memory_sinks::{MemSink, SureSink};
 pub use memory_sources::{MemSource, SureSource};
 pub use numbers::number;

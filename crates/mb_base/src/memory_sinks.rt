@@ -1,7 +1,8 @@
 ghost use Rattle.std.specs.Prelude.{◌≡◌, ℕ, ◌+◌, ◌-◌, ◌<◌, ◌≤◌, [], ◌++◌, length, take, IsTrue, ◌↔◌, Some, None, vec_len, vec_capacity, IfOk, IfSome, if◌then◌else◌};
 
+use crate::memory::OutOfMemory;
 use crate::streams::{Failed, Sink};
-use std::alloc::{AllocError, Global};
+use std::alloc::Global;
 
 /// Keeps the front of `bytes` as far as there is room, and answers whether that is all of them.
 fn keep(kept: &mut Vec<u8>, room: usize, bytes: &[u8]) -> bool
@@ -33,7 +34,7 @@ pub struct SureSink {
 
 impl SureSink {
     /// A sink with memory for `room` bytes.
-    pub fn new(alloc: Global, room: usize, piece: usize) -> Result<SureSink, AllocError>
+    pub fn new(alloc: Global, room: usize, piece: usize) -> Result<SureSink, OutOfMemory>
         requires { 0 < piece }
         ensures empty { IfOk result (λ s. ⟦<SureSink as Sink>⟧.taken s ≡ Some []) }
         ensures count { IfOk result (λ s. ⟦<SureSink as Sink>⟧.faults s ≡ 0) }
@@ -95,7 +96,7 @@ impl MemSink {
         room: usize,
         piece: usize,
         fails: Vec<u64>,
-    ) -> Result<MemSink, AllocError>
+    ) -> Result<MemSink, OutOfMemory>
         requires { 0 < piece }
         ensures empty { IfOk result (λ s. ⟦<MemSink as Sink>⟧.taken s ≡ Some []) }
         ensures count { IfOk result (λ s. ⟦<MemSink as Sink>⟧.faults s ≡ 0) }

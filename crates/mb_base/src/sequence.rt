@@ -1,6 +1,7 @@
-ghost use Rattle.std.specs.Prelude.{◌≡◌, ◌++◌, ◌∷◌, [], length, OnOk, OnErr};
+ghost use Rattle.std.specs.Prelude.{◌≡◌, ◌++◌, ◌∷◌, [], ◌↔◌, length, IsTrue, OnOk, OnErr};
 
-use std::alloc::{AllocError, Global};
+use crate::memory::OutOfMemory;
+use std::alloc::Global;
 use std::marker::Model;
 
 /// A list inside a public type. Contracts see it as the list of its items; it is made from a `Vec`
@@ -43,7 +44,7 @@ impl<T: Drop> Sequence<T> {
     }
 
     /// Puts an item at the end.
-    pub fn push(&mut self, item: T) -> Result<(), AllocError>
+    pub fn push(&mut self, item: T) -> Result<(), OutOfMemory>
         ensures ok { OnOk result (self.new ≡ self.old ++ item ∷ []) }
         ensures err { OnErr result (self.new ≡ self.old) }
     {
@@ -63,5 +64,12 @@ impl<T: Drop> Sequence<T> {
         ensures { result ≡ length self.now }
     {
         self.items.len()
+    }
+
+    /// Whether there are none.
+    pub fn is_empty(&self) -> bool
+        ensures { IsTrue result ↔ (self.now ≡ []) }
+    {
+        self.items.is_empty()
     }
 }

@@ -1,0 +1,8 @@
+-- The edges at each vertex.
+use Rattle.std.specs.Prelude.{◌≡◌, ℕ, ◌+◌, ◌≤◌, List, [], length, slice_index_or}
+use Rattle.graph_theory.specs.Graph.{Multigraph, edges_around}
+
+-- for each vertex the numbers of its edges, ascending; place 0 is no vertex
+pub record IsIndex (g : Multigraph) (lists : List (List ℕ)) : Type 0 where
+  pub size : length lists ≡ g.vertices + 1
+  pub exact : (v : ℕ) → v ≤ g.vertices → slice_index_or lists v [] ≡ edges_around g v

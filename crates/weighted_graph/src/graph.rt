@@ -1,0 +1,116 @@
+ghost use Rattle.std.specs.Prelude.{◌≡◌, ℕ, ◌+◌, ◌<◌, ◌≤◌, ◌^◌, length, [], ◌∷◌, ◌++◌, ℤ, pos, ◌≤ℤ◌};
+
+use crate::incidence::Incidence;
+use graph_theory::Edge;
+use mb_base::{EdgeId, OutOfMemory, Steps, VertexId};
+use std::alloc::Global;
+use std::marker::Model;
+use std::sync::ledger::Ledger;
+
+/// A graph with the vertices 1 to n, and weighted edges between different ones. Edges are numbered
+/// from 1 in the order in which they were added.
+#[derive(Drop, Debug)]
+pub struct Graph {
+    alloc: Global,
+    vertices: u32,
+    edges: Vec<Edge>,
+}
+
+impl Model for Graph {
+    ghost use Rattle.std.specs.Prelude.{◌≡◌, ℕ, length};
+    ghost use Rattle.graph_theory.specs.Graph.{Multigraph, IsGraph};
+
+    ghost Value = { Multigraph };
+
+    ghost view = { λ g. record { vertices = g.vertices; edges = g.edges.items } };
+
+    ghost invariant = { λ g. IsGraph (record { vertices = g.vertices; edges = g.edges.items }) };
+}
+
+impl Graph {
+    ghost use Rattle.std.specs.Prelude.{◌≡◌, ◌≢◌, ℕ, ◌+◌, ◌<◌, ◌≤◌, ◌^◌, length, [], ◌∷◌, ◌++◌, OnOk, OnErr, IfOk, ℤ, pos, ◌-◌};
+    ghost use Rattle.graph_theory.specs.Graph.{Multigraph, IsGraph, IsEdgeWithin, IsWeight, IsEdgeNumber, edge_of};
+    ghost use Rattle.weighted_graph.specs.Index.{IsIndex};
+
+    /// A graph with n vertices and no edges. It takes no memory.
+    pub fn new(alloc: Global, n: u32) -> Self
+        ensures { result ≡ record { vertices = n; edges = [] } }
+    {
+        Graph {
+            alloc,
+            vertices: n,
+            edges: Vec::new(alloc),
+        }
+    }
+
+    /// Adds an edge between `u` and `v` of weight `w`, and answers its number.
+    pub fn add(&mut self, u: VertexId, v: VertexId, w: i64) -> Result<EdgeId, OutOfMemory>
+        requires room { length self.old.edges < 2 ^ 32 - 1 }
+        requires ends { IsEdgeWithin self.old.vertices (record { u = u; v = v; w = w }) }
+        requires weight { IsWeight w }
+        ensures added { OnOk result (self.new ≡ record self.old { edges = self.old.edges ++ record { u = u; v = v; w = w } ∷ [] }) }
+        ensures number { IfOk result (λ e. e ≡ length self.old.edges + 1) }
+        ensures unchanged { OnErr result (self.new ≡ self.old) }
+        ensures graph { IsGraph self.new }
+    {
+        self.edges.push(Edge { u, v, w })?;
+        Ok(EdgeId::new(self.edges.len() as u32))
+    }
+
+    /// The ends and the weight of an edge, and one step more on the counter.
+    pub fn look<L: Ledger>(&self, e: EdgeId, steps: &mut Steps<L>) -> (VertexId, VertexId, i64)
+        requires { IsEdgeNumber self.now e }
+        ensures from { result.0 ≡ (edge_of self.now e).u }
+        ensures to { result.1 ≡ (edge_of self.now e).v }
+        ensures weight { result.2 ≡ (edge_of self.now e).w }
+        ensures step { steps.new ≡ steps.old + 1 }
+        ensures graph { IsGraph self.now }
+    {
+        steps.tick();
+        self.edge(e)
+    }
+
+    /// The ends and the weight of an edge. It counts no step.
+    pub fn edge(&self, e: EdgeId) -> (VertexId, VertexId, i64)
+        requires { IsEdgeNumber self.now e }
+        ensures from { result.0 ≡ (edge_of self.now e).u }
+        ensures to { result.1 ≡ (edge_of self.now e).v }
+        ensures weight { result.2 ≡ (edge_of self.now e).w }
+        ensures graph { IsGraph self.now }
+    {
+        let edge = self.edges[e.number() as usize - 1];
+        (edge.u, edge.v, edge.w)
+    }
+
+    /// How many vertices there are.
+    pub fn vertices(&self) -> u32
+        ensures count { result ≡ self.now.vertices }
+        ensures graph { IsGraph self.now }
+    {
+        self.vertices
+    }
+
+    /// How many edges there are.
+    pub fn edges(&self) -> u32
+        ensures count { result ≡ length self.now.edges }
+        ensures graph { IsGraph self.now }
+    {
+        self.edges.len() as u32
+    }
+
+    /// The edges in the order of their numbers, for passes over all of them.
+    pub fn edge_list(&self) -> &[Edge]
+        ensures list { result.now ≡ self.now.edges }
+        ensures graph { IsGraph self.now }
+    {
+        &self.edges
+    }
+
+    /// For each vertex its edges, ascending, in time linear in vertices and edges.
+    pub fn index(&self) -> Result<Incidence, OutOfMemory>
+        ensures index { IfOk result (IsIndex self.now) }
+        ensures graph { IsGraph self.now }
+    {
+        Incidence::of(self.alloc, self.vertices, &self.edges)
+    }
+}
