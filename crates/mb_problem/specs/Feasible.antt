@@ -1,0 +1,94 @@
+-- Which answers are feasible, and which are best, for each of the eight kinds (Schrijver, volume A,
+-- chapters 24 and 26 for matchings, 29 for joins, walks and paths, 31 for b-matchings, 32 for
+-- capacities, 33 for factors).
+use Rattle.std.specs.Prelude.{◌≡◌, ℕ, ◌+◌, ◌-◌, ◌%◌, ◌≤◌, ◌<◌, ℤ, pos, ◌≤ℤ◌, Bool, true, ◌==◌, List, [], ◌∷◌, length, All, slice_index, IfSome, ◌↔◌, ◌⊎◌}
+use Rattle.std.specs.List.{list_any}
+use Rattle.graph_theory.specs.Graph.{Multigraph, degree, weight, IsPerfect}
+use Rattle.graph_theory.specs.Parts.{holds}
+use Rattle.graph_theory.specs.Walk.{IsWalk, walk_end, walk_vertices, walk_weight, IsClosedWalk, AllDiffer}
+use Rattle.mb_problem.specs.declared.kind.Kind.{Kind}
+use Rattle.mb_problem.specs.declared.kind.Kind.TheVariants.{Perfect, Match, BMatch, CapMatch, FFactor, TJoin, Postman, Path}
+use Rattle.mb_problem.specs.declared.answer.Answer.{Answer}
+use Rattle.mb_problem.specs.declared.answer.Answer.TheVariants.{Counts, Walk, Nothing}
+use Rattle.mb_problem.specs.Network.{Network, vertices, graph_of, value_of, instance_edge_at}
+
+-- one count for each edge
+abbrev pub HasCounts : Network → List ℕ → Type 0
+HasCounts i counts = length counts ≡ length i.edges
+
+abbrev pub AtMostOnce : List ℕ → Type 0
+AtMostOnce counts = All (λ c. c ≤ 1) counts
+
+-- a fact holds of each vertex and its degree
+abbrev pub DegreesMeet : Network → List ℕ → (ℕ → ℕ → Type 0) → Type 0
+DegreesMeet i counts P = (v : ℕ) → 1 ≤ v → v ≤ vertices i → P v (degree (graph_of i) counts v)
+
+-- counts with the value of each vertex as its degree
+pub record IsBMatching (i : Network) (counts : List ℕ) : Type 0 where
+  pub one_each : HasCounts i counts
+  pub degrees : DegreesMeet i counts (λ v d. d ≡ value_of i v)
+
+-- no count passes the capacity of its edge
+abbrev pub WithinCapacities : Network → List ℕ → Type 0
+WithinCapacities i counts = (k : ℕ) → k < length i.edges → IfSome (instance_edge_at i k).capacity (λ c. slice_index counts k ≤ c)
+
+-- counts 0 or 1, with degree at most 1 at each vertex
+pub record IsMatching (i : Network) (counts : List ℕ) : Type 0 where
+  pub one_each : HasCounts i counts
+  pub at_most_once : AtMostOnce counts
+  pub degrees : DegreesMeet i counts (λ v d. d ≤ 1)
+
+-- counts 0 or 1, with an odd degree exactly at the vertices of odd value
+pub record IsJoin (i : Network) (counts : List ℕ) : Type 0 where
+  pub one_each : HasCounts i counts
+  pub at_most_once : AtMostOnce counts
+  pub degrees : DegreesMeet i counts (λ v d. d % 2 ≡ value_of i v % 2)
+
+-- a closed walk of at least one edge that uses each edge
+pub record IsTour (i : Network) (start : ℕ) (edges : List ℕ) : Type 0 where
+  pub closed : IsClosedWalk (graph_of i) start edges
+  pub some : 1 ≤ length edges
+  pub all : (e : ℕ) → 1 ≤ e → e ≤ length i.edges → holds edges e ≡ true
+
+-- s and t are the two vertices of odd value, s the lesser
+pub record AreEnds (i : Network) (s t : ℕ) : Type 0 where
+  pub order : s < t
+  pub exact : (v : ℕ) → ((1 ≤ v) × (v ≤ vertices i) × (value_of i v % 2 ≡ 1)) ↔ ((v ≡ s) ⊎ (v ≡ t))
+
+-- a walk of at least one edge from s to t that comes to no vertex twice
+pub record IsPath (i : Network) (start : ℕ) (edges : List ℕ) : Type 0 where
+  pub finish : ℕ
+  pub ends : AreEnds i start finish
+  pub walk : IsWalk (graph_of i) start edges
+  pub arrives : walk_end (graph_of i) start edges ≡ finish
+  pub some : 1 ≤ length edges
+  pub no_vertex_twice : AllDiffer (walk_vertices (graph_of i) start edges)
+
+-- the answer is feasible for the kind
+abbrev pub IsFeasible : Kind → Network → Answer → Type 0
+IsFeasible Perfect i (Counts counts) = IsPerfect (graph_of i) counts
+IsFeasible Match i (Counts counts) = IsMatching i counts
+IsFeasible BMatch i (Counts counts) = IsBMatching i counts
+IsFeasible CapMatch i (Counts counts) = IsBMatching i counts × WithinCapacities i counts
+IsFeasible FFactor i (Counts counts) = IsBMatching i counts × AtMostOnce counts
+IsFeasible TJoin i (Counts counts) = IsJoin i counts
+IsFeasible Postman i (Walk start edges) = IsTour i start edges
+IsFeasible Postman i Nothing = length i.edges ≡ 0
+IsFeasible Path i (Walk start edges) = IsPath i start edges
+IsFeasible kind i answer = ⊥
+
+-- the weights of the edges, each as often as the answer uses it, added up
+abbrev pub weight_of : Network → Answer → ℤ
+weight_of i (Counts counts) = weight (graph_of i) counts
+weight_of i (Walk start edges) = walk_weight (graph_of i) edges
+weight_of i Nothing = pos 0
+
+-- the first answer is at least as good as the second: for matchings it weighs no less, else no more
+abbrev pub IsAsGood : Kind → ℤ → ℤ → Type 0
+IsAsGood Match one other = other ≤ℤ one
+IsAsGood kind one other = one ≤ℤ other
+
+-- a best answer: feasible, and as good as every feasible one
+pub record IsBest (kind : Kind) (i : Network) (answer : Answer) : Type 0 where
+  pub feasible : IsFeasible kind i answer
+  pub best : (other : Answer) → IsFeasible kind i other → IsAsGood kind (weight_of i answer) (weight_of i other)

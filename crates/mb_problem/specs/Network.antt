@@ -1,0 +1,49 @@
+-- What an instance is: a graph whose edges may have capacities and whose vertices have values.
+use Rattle.std.specs.Prelude.{◌≡◌, ℕ, ◌+◌, ◌-◌, ◌%◌, ◌≤◌, ◌<◌, ◌^◌, ℤ, pos, Bool, ◌==◌, List, length, map, filter, All, slice_index, slice_index_or, Option, None, Some, IfSome}
+use Rattle.graph_theory.specs.declared.edge.Edge.{Edge}
+use Rattle.graph_theory.specs.Graph.{Multigraph, IsEdgeWithin, IsWeight}
+use Rattle.mb_problem.specs.declared.instance.InstanceEdge.{InstanceEdge}
+
+-- edges, and the values of the vertices 1 to n
+pub record Network : Type 0 where
+  pub edges : List InstanceEdge
+  pub values : List ℕ
+
+abbrev pub vertices : Network → ℕ
+vertices i = length i.values
+
+-- the edge without its capacity
+abbrev pub plain : InstanceEdge → Edge
+plain e = record { u = e.u; v = e.v; w = e.w }
+
+-- the graph of an instance
+abbrev pub graph_of : Network → Multigraph
+graph_of i = record { vertices = vertices i; edges = map plain i.edges }
+
+abbrev pub no_instance_edge : InstanceEdge
+no_instance_edge = record { u = 0; v = 0; w = pos 0; capacity = None }
+
+-- the edge at a place, from 0
+abbrev pub instance_edge_at : Network → ℕ → InstanceEdge
+instance_edge_at i k = slice_index_or i.edges k no_instance_edge
+
+-- the edge of a number, from 1
+abbrev pub instance_edge_of : Network → ℕ → InstanceEdge
+instance_edge_of i e = instance_edge_at i (e - 1)
+
+-- the value of vertex v
+abbrev pub value_of : Network → ℕ → ℕ
+value_of i v = slice_index i.values (v - 1)
+
+-- different ends among the vertices, a weight in range, and a capacity of at most 4,096 where there is one
+pub record IsInstanceEdge (n : ℕ) (e : InstanceEdge) : Type 0 where
+  pub ends : IsEdgeWithin n (plain e)
+  pub weight : IsWeight e.w
+  pub capacity : IfSome e.capacity (λ c. c ≤ 4096)
+
+-- the ranges that every instance keeps
+pub record IsNetwork (i : Network) : Type 0 where
+  pub few_vertices : vertices i ≤ 4096
+  pub few_edges : length i.edges ≤ 65536
+  pub edges : All (IsInstanceEdge (vertices i)) i.edges
+  pub values : All (λ b. b ≤ 4096) i.values

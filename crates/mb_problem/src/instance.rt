@@ -1,0 +1,152 @@
+ghost use Rattle.std.specs.Prelude.{◌≡◌, ℕ, ◌+◌, ◌-◌, ◌<◌, ◌≤◌, ◌^◌, length, [], ◌∷◌, ◌++◌, replicate};
+
+use mb_base::{EdgeId, OutOfMemory, VertexId};
+use std::alloc::Global;
+use std::marker::Model;
+
+/// An edge of an instance: its ends, its weight, and its capacity where it has one.
+#[derive(Clone, Copy, Debug, PartialEq, Eq)]
+pub struct InstanceEdge {
+    pub u: VertexId,
+    pub v: VertexId,
+    pub w: i64,
+    pub capacity: Option<u32>,
+}
+
+/// An instance: vertices 1 to n with a value each, and edges numbered from 1. It has at most 4,096
+/// vertices and 65,536 edges; weights are within 10^9 and values and capacities at most 4,096.
+#[derive(Drop, Debug)]
+pub struct Instance {
+    alloc: Global,
+    edges: Vec<InstanceEdge>,
+    values: Vec<u32>,
+}
+
+impl Model for Instance {
+    ghost use Rattle.std.specs.Prelude.{length};
+    ghost use Rattle.mb_problem.specs.Network.{Network, IsNetwork};
+
+    ghost Value = { Network };
+
+    ghost view = { λ i. record { edges = i.edges.items; values = i.values.items } };
+
+    ghost invariant = { λ i. IsNetwork (record { edges = i.edges.items; values = i.values.items }) };
+}
+
+impl Instance {
+    ghost use Rattle.std.specs.Prelude.{◌≡◌, ◌≢◌, ℕ, ◌+◌, ◌-◌, ◌<◌, ◌≤◌, ◌^◌, length, [], ◌∷◌, ◌++◌, OnOk, OnErr, IfOk, ℤ, pos, replicate, slice_set};
+    ghost use Rattle.graph_theory.specs.Graph.{IsWeight};
+    ghost use Rattle.mb_problem.specs.Network.{Network, IsNetwork, IsInstanceEdge, instance_edge_of, value_of, graph_of, vertices};
+
+    /// An instance of n vertices, each of this value, and no edges.
+    pub fn new(alloc: Global, n: u32, value: u32) -> Result<Instance, OutOfMemory>
+        requires vertices { n ≤ 4096 }
+        requires small { value ≤ 4096 }
+        ensures { IfOk result (λ i. i ≡ record { edges = []; values = replicate n value }) }
+    {
+        let values = vec![in alloc; value; n as usize]?;
+        Ok(Instance {
+            alloc,
+            edges: Vec::new(alloc),
+            values,
+        })
+    }
+
+    /// Puts an edge at the end of the list.
+    fn push(&mut self, edge: InstanceEdge) -> Result<EdgeId, OutOfMemory>
+        requires room { length self.old.edges < 65536 }
+        requires edge { IsInstanceEdge (vertices self.old) edge }
+        ensures added { OnOk result (self.new ≡ record self.old { edges = self.old.edges ++ edge ∷ [] }) }
+        ensures number { IfOk result (λ e. e ≡ length self.old.edges + 1) }
+        ensures unchanged { OnErr result (self.new ≡ self.old) }
+        ensures network { IsNetwork self.new }
+    {
+        self.edges.push(edge)?;
+        Ok(EdgeId::new(self.edges.len() as u32))
+    }
+
+    /// Adds an edge and answers its number.
+    pub fn add_edge(
+        &mut self,
+        u: VertexId,
+        v: VertexId,
+        w: i64,
+        capacity: Option<u32>,
+    ) -> Result<EdgeId, OutOfMemory>
+        requires room { length self.old.edges < 65536 }
+        requires edge { IsInstanceEdge (vertices self.old) (record { u = u; v = v; w = w; capacity = capacity }) }
+        ensures added { OnOk result (self.new ≡ record self.old { edges = self.old.edges ++ record { u = u; v = v; w = w; capacity = capacity } ∷ [] }) }
+        ensures number { IfOk result (λ e. e ≡ length self.old.edges + 1) }
+        ensures unchanged { OnErr result (self.new ≡ self.old) }
+        ensures network { IsNetwork self.new }
+    {
+        self.push(InstanceEdge { u, v, w, capacity })
+    }
+
+    /// Gives a vertex its value.
+    pub fn set_value(&mut self, v: VertexId, value: u32)
+        requires low { 1 ≤ v }
+        requires high { v ≤ vertices self.old }
+        requires small { value ≤ 4096 }
+        ensures set { self.new ≡ record self.old { values = slice_set self.old.values (v - 1) value } }
+        ensures network { IsNetwork self.new }
+    {
+        self.values[v.number() as usize - 1] = value;
+    }
+
+    /// How many vertices there are.
+    pub fn vertices(&self) -> u32
+        ensures count { result ≡ vertices self.now }
+        ensures network { IsNetwork self.now }
+    {
+        self.values.len() as u32
+    }
+
+    /// How many edges there are.
+    pub fn edges(&self) -> u32
+        ensures count { result ≡ length self.now.edges }
+        ensures network { IsNetwork self.now }
+    {
+        self.edges.len() as u32
+    }
+
+    /// The ends, the weight and the capacity of an edge.
+    pub fn edge(&self, e: EdgeId) -> (VertexId, VertexId, i64, Option<u32>)
+        requires low { 1 ≤ e }
+        requires high { e ≤ length self.now.edges }
+        ensures from { result.0 ≡ (instance_edge_of self.now e).u }
+        ensures to { result.1 ≡ (instance_edge_of self.now e).v }
+        ensures weight { result.2 ≡ (instance_edge_of self.now e).w }
+        ensures capacity { result.3 ≡ (instance_edge_of self.now e).capacity }
+        ensures network { IsNetwork self.now }
+    {
+        let edge = self.edges[e.number() as usize - 1];
+        (edge.u, edge.v, edge.w, edge.capacity)
+    }
+
+    /// The value of a vertex.
+    pub fn value(&self, v: VertexId) -> u32
+        requires low { 1 ≤ v }
+        requires high { v ≤ vertices self.now }
+        ensures value { result ≡ value_of self.now v }
+        ensures network { IsNetwork self.now }
+    {
+        self.values[v.number() as usize - 1]
+    }
+
+    /// The edges in the order of their numbers, for passes over all of them.
+    pub fn edge_list(&self) -> &[InstanceEdge]
+        ensures list { result.now ≡ self.now.edges }
+        ensures network { IsNetwork self.now }
+    {
+        &self.edges
+    }
+
+    /// The values of the vertices 1 to n.
+    pub fn value_list(&self) -> &[u32]
+        ensures list { result.now ≡ self.now.values }
+        ensures network { IsNetwork self.now }
+    {
+        &self.values
+    }
+}

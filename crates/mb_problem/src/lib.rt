@@ -1,0 +1,13 @@
+//! Instances of the eight problems, their answers, and which answers are feasible.
+//! It stands on `mb_base`, `graph_theory` and `weighted_graph`. It promises the definitions of a
+//! feasible and of a best answer for each kind, that `feasible`, `degree` and `weight` are these
+//! definitions, and that `gadget_size` is the size of the graph that certificates speak of.
+#![tactic(auto)]
+
+mod answer;
+mod instance;
+mod kind;
+
+pub use answer::{Answer, Join, Parity};
+pub use instance::{Instance, InstanceEdge};
+pub use kind::Kind;
