@@ -1,5 +1,5 @@
 ghost use Rattle.std.specs.Prelude.{◌≡◌, ℕ, ◌<◌, [], ◌∷◌, length, IsNone, ◌↔◌, IfSome};
-ghost use Rattle.std.specs.List.{position};
+ghost use Rattle.std.specs.List.{position, after_first};
 ghost use Rattle.std.specs.Str.Lines.{strip_carriage_return};
 ghost use Rattle.mb_base.specs.Text.{lines, raw_lines, is_line_feed};
 
@@ -12,6 +12,7 @@ fn first_line_feed(bytes: &[u8]) -> Option<usize>
 fn cut_line(bytes: &[u8]) -> (&[u8], &[u8])
     requires { 0 < length bytes.now }
     ensures lines { raw_lines bytes.now ≡ result.0.now ∷ raw_lines result.1.now }
+    ensures after { result.1.now ≡ after_first is_line_feed bytes.now }
     ensures rest { length result.1.now < length bytes.now }
 {
     match first_line_feed(bytes) {
@@ -34,6 +35,7 @@ fn trim(line: &[u8]) -> &[u8]
 pub fn next_line(bytes: &[u8]) -> Option<(&[u8], &[u8])>
     ensures none { IsNone result ↔ (bytes.now ≡ []) }
     ensures line { IfSome result (λ r. lines bytes.now ≡ r.0.now ∷ lines r.1.now) }
+    ensures after { IfSome result (λ r. r.1.now ≡ after_first is_line_feed bytes.now) }
     ensures rest { IfSome result (λ r. length r.1.now < length bytes.now) }
 {
     if bytes.is_empty() {
