@@ -11,8 +11,8 @@ mod memory;
 mod memory_sinks;
 mod memory_sources;
 mod numbers;
-mod sequence;
 mod process_streams;
+mod sequence;
 mod steps;
 mod streams;
 mod whole;
@@ -24,8 +24,11 @@ pub use memory::OutOfMemory;
 pub use memory_sinks::{MemSink, SureSink};
 pub use memory_sources::{MemSource, SureSource};
 pub use numbers::number;
-pub use sequence::Sequence;
 pub use process_streams::{RealIn, RealOut};
+pub use sequence::Sequence;
 pub use steps::Steps;
 pub use streams::{Failed, Sink, Source};
 pub use whole::{ReadAll, WriteFault, read_all, write_all};
+
+#[cfg(test)]
+mod tests;
