@@ -6,7 +6,8 @@
 
 mod graph;
 mod incidence;
+#[cfg(test)]
+mod tests;
 
 pub use graph::Graph;
 pub use incidence::Incidence;
-
