@@ -1,0 +1,5 @@
+pub mod SumLemmas
+pub mod Handshake
+pub mod Members
+pub mod Crossings
+pub mod Duality

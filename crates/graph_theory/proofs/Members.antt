@@ -1,0 +1,140 @@
+-- Lemmas on the members of lists that stand for sets.
+use Rattle.std.proofs.Common.{◌≡◌, ℕ, zero, suc, ◌+◌, ◌<◌, ◌≤◌, ℤ, pos, ◌+ℤ◌, Bool, true, false, cond, ◌||◌, eqb, refl, ap, sym, ◌∙◌, subst, inl, inr, arith, List, [], ◌∷◌, ◌++◌, length, get_or, slice_index, take, All, AllPairs, add-one}
+use Rattle.std.specs.List.Sorted.{IsStrictlyIncreasing}
+use Rattle.std.proofs.lemmas.Int.{ints}
+use Rattle.std.proofs.lemmas.Bool.{eq-eqb, eqb-true, or_cases, or_right, cases_eq, false≢true}
+use Rattle.std.proofs.lemmas.Grind.{common_steps}
+use Rattle.std.proofs.lemmas.List.{get_or-take}
+use Rattle.std.proofs.lemmas.List.Kept.{AllPairs-from_increasing}
+use Rattle.std.proofs.lemmas.List.Elements.{All-tail, All-head}
+use Rattle.graph_theory.specs.Sums.{int_sum_to}
+use Rattle.graph_theory.specs.Parts.{holds}
+use Rattle.graph_theory.proofs.SumLemmas.{int_sum_to-same, int_sum_to-add, int_sum_to-zero, int_sum_to-at_one}
+
+-- a member stands at some place
+pub holds_place : (ms : List ℕ) (v : ℕ) → holds ms v ≡ true → (k : ℕ) × (k < length ms) × (get_or ms k 0 ≡ v)
+holds_place [] v h = absurd (cc)
+holds_place (m ∷ ms) v h =
+    elim (or_cases (eqb m v) (holds ms v) h) [
+      | inl e ↦ (0, omega arith, eqb-true m v e)
+      | inr e ↦ let r = holds_place ms v e in (suc r.0, omega arith, r.2)
+    ]
+
+-- what stands at a place is a member
+pub holds_at : (ms : List ℕ) (k d : ℕ) → k < length ms → holds ms (get_or ms k d) ≡ true
+holds_at [] k d b = absurd (omega arith)
+holds_at (m ∷ ms) zero d b = rw (eq-eqb m m refl) refl
+holds_at (m ∷ ms) (suc k) d b = or_right (eqb m (get_or ms k d)) (holds ms (get_or ms k d)) (holds_at ms k d (omega arith))
+
+-- what is true of all that stand in a list is true of each member, and the other way round
+pub holds_all : (P : ℕ → Type 0) (ms : List ℕ) (v : ℕ) → All P ms → holds ms v ≡ true → P v
+holds_all P ms v all h =
+    let place = holds_place ms v h in
+    subst P place.2 (all place.0 0 place.1)
+
+pub all_holds : (P : ℕ → Type 0) (ms : List ℕ) → ((v : ℕ) → holds ms v ≡ true → P v) → All P ms
+all_holds P ms each = λ k d b. each (get_or ms k d) (holds_at ms k d b)
+
+-- a first member
+pub holds_first : (ms : List ℕ) → 0 < length ms → holds ms (slice_index ms 0) ≡ true
+holds_first [] h = absurd (omega arith)
+holds_first (m ∷ ms) h = rw (eq-eqb m m refl) refl
+
+-- one member more
+
+or_false : (b : Bool) → (b || false) ≡ b
+or_false true = refl
+or_false false = refl
+
+or-assoc : (a b c : Bool) → ((a || b) || c) ≡ (a || (b || c))
+or-assoc true b c = refl
+or-assoc false b c = refl
+
+pub holds-append : (xs ys : List ℕ) (w : ℕ) → holds (xs ++ ys) w ≡ (holds xs w || holds ys w)
+holds-append [] ys w = refl
+holds-append (x ∷ xs) ys w = ap (λ b. eqb x w || b) (holds-append xs ys w) ∙ sym (or-assoc (eqb x w) (holds xs w) (holds ys w))
+
+pub holds-push : (xs : List ℕ) (x w : ℕ) → holds (xs ++ x ∷ []) w ≡ (holds xs w || eqb x w)
+holds-push xs x w = holds-append xs (x ∷ []) w ∙ ap (λ b. holds xs w || b) (or_false (eqb x w))
+
+take-suc : (xs : List ℕ) (i w : ℕ) → i < length xs → holds (take (suc i) xs) w ≡ (holds (take i xs) w || eqb (get_or xs i 0) w)
+take-suc [] i w b = absurd (omega arith)
+take-suc (x ∷ xs) zero w b = or_false (eqb x w)
+take-suc (x ∷ xs) (suc i) w b = ap (λ t. eqb x w || t) (take-suc xs i w (omega arith)) ∙ sym (or-assoc (eqb x w) (holds (take i xs) w) (eqb (get_or xs i 0) w))
+
+pub holds-take : (xs : List ℕ) (i w : ℕ) → i < length xs → holds (take (i + 1) xs) w ≡ (holds (take i xs) w || eqb (get_or xs i 0) w)
+holds-take xs i w b = rw add-one (take-suc xs i w b)
+
+-- ascending lists
+
+-- a later member is greater than the first
+pub first_less : (m : ℕ) (ms : List ℕ) (v : ℕ) → AllPairs (λ x y. x < y) (m ∷ ms) → holds ms v ≡ true → m < v
+first_less m ms v up h =
+    let r = holds_place ms v h in
+    let above : m < get_or ms r.0 0 = up 0 (suc r.0) 0 (omega arith) (omega arith) in
+    let here : get_or ms r.0 0 ≡ v = r.2 in
+    omega arith
+
+pub least_first : (ms : List ℕ) (v : ℕ) → IsStrictlyIncreasing ms → holds ms v ≡ true → slice_index ms 0 ≤ v
+least_first ms v up h =
+    let place = holds_place ms v h in
+    let at : get_or ms place.0 0 ≡ v = place.2 in
+    elim (cases_eq place.0 0) [
+      | inl e ↦ let same : get_or ms place.0 0 ≡ get_or ms 0 0 = ap (λ i. get_or ms i 0) e in omega arith
+      | inr d ↦ let below : get_or ms 0 0 < get_or ms place.0 0 = AllPairs-from_increasing ms up 0 place.0 0 (omega arith) place.1 in omega arith
+    ]
+
+pub pairs_tail : (m : ℕ) (ms : List ℕ) → AllPairs (λ x y. x < y) (m ∷ ms) → AllPairs (λ x y. x < y) ms
+pairs_tail m ms up = λ i j d a b. up (suc i) (suc j) d (omega arith) (omega arith)
+
+pub increasing-push : (xs : List ℕ) (y : ℕ) → IsStrictlyIncreasing xs → All (λ x. x < y) xs → IsStrictlyIncreasing (xs ++ y ∷ [])
+increasing-push xs y up below = grind (arith, common_steps)
+
+-- none stands there twice
+pub not_before : (xs : List ℕ) (i : ℕ) → IsStrictlyIncreasing xs → i < length xs → holds (take i xs) (get_or xs i 0) ≡ false
+not_before xs i up b = decide_before (holds (take i xs) (get_or xs i 0)) refl
+  where
+    decide_before : (t : Bool) → holds (take i xs) (get_or xs i 0) ≡ t → holds (take i xs) (get_or xs i 0) ≡ false
+    decide_before false h = h
+    decide_before true h =
+        let p = holds_place (take i xs) (get_or xs i 0) h in
+        let short : p.0 < i = grind (arith, p.1, common_steps) in
+        let here : get_or (take i xs) p.0 0 ≡ get_or xs p.0 0 = grind (arith, common_steps) in
+        let less : get_or xs p.0 0 < get_or xs i 0 = AllPairs-from_increasing xs up p.0 i 0 short b in
+        absurd (omega (arith, less, here, p.2))
+
+-- sums over the members
+
+-- a term where one of two tests that exclude each other passes
+either_test : (p q : Bool) (a : ℤ) → (p ≡ true → q ≡ true → ⊥) → cond (p || q) a (pos 0) ≡ cond p a (pos 0) +ℤ cond q a (pos 0)
+either_test true true a h = absurd (h refl refl)
+either_test true false a h = omega (arith, ints)
+either_test false true a h = omega (arith, ints)
+either_test false false a h = omega (arith, ints)
+
+members_by_pairs : (n : ℕ) (ms : List ℕ) → AllPairs (λ x y. x < y) ms → All (λ m. (1 ≤ m) × (m ≤ n)) ms → int_sum_to (λ i. cond (holds ms (i + 1)) (pos 1) (pos 0)) n ≡ pos (length ms)
+members_by_pairs n [] up within = int_sum_to-zero n
+members_by_pairs n (m ∷ ms) up within =
+    let parts = int_sum_to-same (λ i. cond (holds (m ∷ ms) (i + 1)) (pos 1) (pos 0)) (λ i. cond (eqb m (i + 1)) (pos 1) (pos 0) +ℤ cond (holds ms (i + 1)) (pos 1) (pos 0)) n
+    (λ i b. either_test (eqb m (i + 1)) (holds ms (i + 1)) (pos 1) (λ p q. let same = eqb-true m (i + 1) p in let above = first_less m ms (i + 1) up q in omega arith)) in
+    let both = int_sum_to-add (λ i. cond (eqb m (i + 1)) (pos 1) (pos 0)) (λ i. cond (holds ms (i + 1)) (pos 1) (pos 0)) n in
+    let here : (1 ≤ m) × (m ≤ n) = All-head (λ m. (1 ≤ m) × (m ≤ n)) m ms within in
+    let first = int_sum_to-at_one (λ _. pos 1) m n here.0 here.1 in
+    let rest = members_by_pairs n ms (pairs_tail m ms up) (All-tail (λ m. (1 ≤ m) × (m ≤ n)) m ms within) in
+    omega (arith, ints, parts, both, first, rest)
+
+-- of an ascending list each member is counted once
+pub members_counted : (n : ℕ) (ms : List ℕ) → IsStrictlyIncreasing ms → All (λ m. (1 ≤ m) × (m ≤ n)) ms → int_sum_to (λ i. cond (holds ms (i + 1)) (pos 1) (pos 0)) n ≡ pos (length ms)
+members_counted n ms up within = members_by_pairs n ms (AllPairs-from_increasing ms up) within
+
+same_tests : (a b : Bool) → (a ≡ true → b ≡ true) → (b ≡ true → a ≡ true) → a ≡ b
+same_tests a b f h = grind arith
+
+-- ascending lists of vertices with the same members have the same length
+pub same_length : (n : ℕ) (xs ys : List ℕ) → IsStrictlyIncreasing xs → IsStrictlyIncreasing ys → All (λ m. (1 ≤ m) × (m ≤ n)) xs → All (λ m. (1 ≤ m) × (m ≤ n)) ys → ((v : ℕ) → holds xs v ≡ true → holds ys v ≡ true) → ((v : ℕ) → holds ys v ≡ true → holds xs v ≡ true) → length xs ≡ length ys
+same_length n xs ys up_x up_y within_x within_y to from =
+    let counted_x = members_counted n xs up_x within_x in
+    let counted_y = members_counted n ys up_y within_y in
+    let same = int_sum_to-same (λ i. cond (holds xs (i + 1)) (pos 1) (pos 0)) (λ i. cond (holds ys (i + 1)) (pos 1) (pos 0)) n
+    (λ i b. ap (λ (t : Bool). cond t (pos 1) (pos 0)) (same_tests (holds xs (i + 1)) (holds ys (i + 1)) (to (i + 1)) (from (i + 1)))) in
+    omega (arith, ints, counted_x, counted_y, same)
