@@ -1,3 +1,4 @@
 pub mod Network
 pub mod Feasible
 pub mod Size
+pub mod Measured

@@ -7,7 +7,9 @@
 mod answer;
 mod instance;
 mod kind;
+mod measure;
 
 pub use answer::{Answer, Join, Parity};
 pub use instance::{Instance, InstanceEdge};
 pub use kind::Kind;
+pub use measure::{degree, weight};
