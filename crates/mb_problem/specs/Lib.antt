@@ -2,3 +2,5 @@ pub mod Network
 pub mod Feasible
 pub mod Size
 pub mod Measured
+pub mod Degrees
+pub mod Counted

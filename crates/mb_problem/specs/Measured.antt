@@ -1,5 +1,5 @@
 -- Answers that can be measured: each count and each step of a walk belongs to an edge.
-use Rattle.std.specs.Prelude.{◌≡◌, ℕ, ◌≤◌, List, length, All}
+use Rattle.std.specs.Prelude.{◌≡◌, length, All}
 use Rattle.graph_theory.specs.Graph.{IsEdgeNumber}
 use Rattle.mb_problem.specs.declared.answer.Answer.{Answer}
 use Rattle.mb_problem.specs.declared.answer.Answer.TheVariants.{Counts, Walk, Nothing}

@@ -2,9 +2,9 @@ use Rattle.std.proofs.Common.{◌≡◌, ℕ, ◌+◌, ◌-◌, ◌+ℤ◌, drop
 use Rattle.std.proofs.lemmas.Int.{ints}
 use Rattle.std.proofs.lemmas.List.{at_drop_more, get_or_read}
 use Rattle.graph_theory.specs.declared.edge.Edge.{Edge}
-use Rattle.graph_theory.specs.Graph.{edge_at, edge_of}
+use Rattle.graph_theory.specs.Graph.{edge_of}
 use Rattle.graph_theory.specs.Walk.{walk_weight}
-use Rattle.mb_problem.specs.Network.{graph_of, plain, instance_edge_at, instance_edge_of}
+use Rattle.mb_problem.specs.Network.{graph_of}
 use Rattle.mb_problem.proofs.EdgeLemmas.{edge_at-graph_of}
 use Rattle.mb_problem.proofs.measure.weight_of_walk.Goals as goal
 
