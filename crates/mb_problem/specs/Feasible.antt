@@ -1,9 +1,8 @@
 -- Which answers are feasible, and which are best, for each of the eight kinds (Schrijver, volume A,
 -- chapters 24 and 26 for matchings, 29 for joins, walks and paths, 31 for b-matchings, 32 for
 -- capacities, 33 for factors).
-use Rattle.std.specs.Prelude.{◌≡◌, ℕ, ◌+◌, ◌-◌, ◌%◌, ◌≤◌, ◌<◌, ℤ, pos, ◌≤ℤ◌, Bool, true, ◌==◌, List, [], ◌∷◌, length, All, slice_index, IfSome, ◌↔◌, ◌⊎◌}
-use Rattle.std.specs.List.{list_any}
-use Rattle.graph_theory.specs.Graph.{Multigraph, degree, weight, IsPerfect}
+use Rattle.std.specs.Prelude.{◌≡◌, ℕ, ◌%◌, ◌≤◌, ◌<◌, ℤ, pos, ◌≤ℤ◌, true, List, length, All, slice_index, IfSome, ◌↔◌, ◌⊎◌}
+use Rattle.graph_theory.specs.Graph.{degree, weight, IsPerfect}
 use Rattle.graph_theory.specs.Parts.{holds}
 use Rattle.graph_theory.specs.Walk.{IsWalk, walk_end, walk_vertices, walk_weight, IsClosedWalk, AllDiffer}
 use Rattle.mb_problem.specs.declared.kind.Kind.{Kind}

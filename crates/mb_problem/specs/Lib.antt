@@ -1,3 +1,6 @@
 pub mod Network
 pub mod Feasible
 pub mod Size
+pub mod Measured
+pub mod Degrees
+pub mod Counted

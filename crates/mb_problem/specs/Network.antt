@@ -1,5 +1,5 @@
 -- What an instance is: a graph whose edges may have capacities and whose vertices have values.
-use Rattle.std.specs.Prelude.{◌≡◌, ℕ, ◌+◌, ◌-◌, ◌%◌, ◌≤◌, ◌<◌, ◌^◌, ℤ, pos, Bool, ◌==◌, List, length, map, filter, All, slice_index, slice_index_or, Option, None, Some, IfSome}
+use Rattle.std.specs.Prelude.{ℕ, ◌-◌, ◌≤◌, pos, List, length, map, All, slice_index, slice_index_or, None, IfSome}
 use Rattle.graph_theory.specs.declared.edge.Edge.{Edge}
 use Rattle.graph_theory.specs.Graph.{Multigraph, IsEdgeWithin, IsWeight}
 use Rattle.mb_problem.specs.declared.instance.InstanceEdge.{InstanceEdge}

@@ -5,9 +5,14 @@
 #![tactic(auto)]
 
 mod answer;
+mod degrees;
+mod feasibility;
 mod instance;
 mod kind;
+mod measure;
 
 pub use answer::{Answer, Join, Parity};
+pub use feasibility::feasible;
 pub use instance::{Instance, InstanceEdge};
 pub use kind::Kind;
+pub use measure::{degree, weight};

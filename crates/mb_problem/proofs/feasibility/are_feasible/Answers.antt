@@ -1,0 +1,19 @@
+use Rattle.mb_problem.proofs.feasibility.are_feasible.Goals as goal
+
+pub returns-in-Perfect : goal.returns-in-Perfect
+returns-in-Perfect c = rw c.in-Perfect.is c.is_perfect.ensures
+
+pub returns-in-Match : goal.returns-in-Match
+returns-in-Match c = rw c.in-Match.is c.is_matching.ensures
+
+pub returns-in-BMatch : goal.returns-in-BMatch
+returns-in-BMatch c = rw c.in-BMatch.is c.is_b_matching.ensures
+
+pub returns-in-CapMatch : goal.returns-in-CapMatch
+returns-in-CapMatch c = rw c.in-CapMatch.is c.is_capacitated.ensures
+
+pub returns-in-FFactor : goal.returns-in-FFactor
+returns-in-FFactor c = rw c.in-FFactor.is c.is_factor.ensures
+
+pub returns-in-TJoin : goal.returns-in-TJoin
+returns-in-TJoin c = rw c.in-TJoin.is c.is_join.ensures

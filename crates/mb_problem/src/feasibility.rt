@@ -1,0 +1,203 @@
+ghost use Rattle.std.specs.Prelude.{◌≡◌, ℕ, ◌+◌, ◌-◌, ◌*◌, ◌%◌, ◌<◌, ◌≤◌, ◌↔◌, length, All, List, slice_index, IsTrue, IfOk, IfSome};
+ghost use Rattle.graph_theory.specs.Graph.{IsPerfect};
+ghost use Rattle.mb_problem.specs.Network.{Network, graph_of, instance_edge_at};
+ghost use Rattle.mb_problem.specs.Counted.{IsCountKind};
+ghost use Rattle.mb_problem.specs.Feasible.{IsFeasible, IsMatching, IsBMatching, IsJoin, HasCounts, AtMostOnce, WithinCapacities};
+
+use crate::answer::Answer;
+use crate::degrees::degrees_of;
+use crate::instance::Instance;
+use crate::kind::Kind;
+use mb_base::OutOfMemory;
+use std::alloc::Global;
+
+/// Whether there is one count for each edge.
+fn has_counts(instance: &Instance, counts: &[u32]) -> bool
+    ensures { IsTrue result ↔ HasCounts instance.now counts.now }
+{
+    counts.len() == instance.edge_list().len()
+}
+
+/// Whether no edge is used more than once.
+fn is_at_most_once(counts: &[u32]) -> bool
+    ensures { IsTrue result ↔ AtMostOnce counts.now }
+{
+    counts.iter().all(|&count| count <= 1)
+}
+
+/// Whether no edge is used more often than its capacity allows.
+fn is_within_capacities(instance: &Instance, counts: &[u32]) -> bool
+    requires { HasCounts instance.now counts.now }
+    ensures { IsTrue result ↔ WithinCapacities instance.now counts.now }
+{
+    for (k, edge) in instance.edge_list().iter().enumerate() {
+        if let Some(capacity) = edge.capacity {
+            if counts[k] > capacity {
+                return false;
+            }
+        }
+    }
+    true
+}
+
+/// Whether each degree is 1.
+fn are_all_one(degrees: &[u64]) -> bool
+    ensures { IsTrue result ↔ ((k : ℕ) → k < length degrees.now → slice_index degrees.now k ≡ 1) }
+{
+    for degree in degrees {
+        if *degree != 1 {
+            return false;
+        }
+    }
+    true
+}
+
+/// Whether no degree is more than 1.
+fn are_at_most_one(degrees: &[u64]) -> bool
+    ensures { IsTrue result ↔ ((k : ℕ) → k < length degrees.now → slice_index degrees.now k ≤ 1) }
+{
+    for degree in degrees {
+        if *degree > 1 {
+            return false;
+        }
+    }
+    true
+}
+
+/// Whether each degree is the value of its vertex.
+fn are_values(degrees: &[u64], values: &[u32]) -> bool
+    requires { length degrees.now ≡ length values.now }
+    ensures { IsTrue result ↔ ((k : ℕ) → k < length values.now → slice_index degrees.now k ≡ slice_index values.now k) }
+{
+    for (k, value) in values.iter().enumerate() {
+        if degrees[k] != u64::from(*value) {
+            return false;
+        }
+    }
+    true
+}
+
+/// Whether each degree is odd where the value of its vertex is, and only there.
+fn have_parities(degrees: &[u64], values: &[u32]) -> bool
+    requires { length degrees.now ≡ length values.now }
+    ensures { IsTrue result ↔ ((k : ℕ) → k < length values.now → slice_index degrees.now k % 2 ≡ slice_index values.now k % 2) }
+{
+    for (k, value) in values.iter().enumerate() {
+        if degrees[k] % 2 != u64::from(*value % 2) {
+            return false;
+        }
+    }
+    true
+}
+
+/// Whether the counts are a perfect matching.
+fn is_perfect(alloc: Global, instance: &Instance, counts: &[u32]) -> Result<bool, OutOfMemory>
+    ensures { IfOk result (λ b. IsTrue b ↔ IsPerfect (graph_of instance.now) counts.now) }
+{
+    if !has_counts(instance, counts) {
+        return Ok(false);
+    }
+    if !is_at_most_once(counts) {
+        return Ok(false);
+    }
+    let degrees = degrees_of(alloc, instance, counts)?;
+    Ok(are_all_one(&degrees))
+}
+
+/// Whether the counts are a matching.
+fn is_matching(alloc: Global, instance: &Instance, counts: &[u32]) -> Result<bool, OutOfMemory>
+    ensures { IfOk result (λ b. IsTrue b ↔ IsMatching instance.now counts.now) }
+{
+    if !has_counts(instance, counts) {
+        return Ok(false);
+    }
+    if !is_at_most_once(counts) {
+        return Ok(false);
+    }
+    let degrees = degrees_of(alloc, instance, counts)?;
+    Ok(are_at_most_one(&degrees))
+}
+
+/// Whether the degree of each vertex is its value.
+fn is_b_matching(alloc: Global, instance: &Instance, counts: &[u32]) -> Result<bool, OutOfMemory>
+    ensures { IfOk result (λ b. IsTrue b ↔ IsBMatching instance.now counts.now) }
+{
+    if !has_counts(instance, counts) {
+        return Ok(false);
+    }
+    let degrees = degrees_of(alloc, instance, counts)?;
+    Ok(are_values(&degrees, instance.value_list()))
+}
+
+/// Whether the degree of each vertex is its value, within the capacities.
+fn is_capacitated(alloc: Global, instance: &Instance, counts: &[u32]) -> Result<bool, OutOfMemory>
+    ensures { IfOk result (λ b. IsTrue b ↔ (IsBMatching instance.now counts.now × WithinCapacities instance.now counts.now)) }
+{
+    if !is_b_matching(alloc, instance, counts)? {
+        return Ok(false);
+    }
+    Ok(is_within_capacities(instance, counts))
+}
+
+/// Whether the degree of each vertex is its value, with no edge used twice.
+fn is_factor(alloc: Global, instance: &Instance, counts: &[u32]) -> Result<bool, OutOfMemory>
+    ensures { IfOk result (λ b. IsTrue b ↔ (IsBMatching instance.now counts.now × AtMostOnce counts.now)) }
+{
+    if !is_at_most_once(counts) {
+        return Ok(false);
+    }
+    is_b_matching(alloc, instance, counts)
+}
+
+/// Whether the counts are a join: odd degrees at the vertices of odd value, and only there.
+fn is_join(alloc: Global, instance: &Instance, counts: &[u32]) -> Result<bool, OutOfMemory>
+    ensures { IfOk result (λ b. IsTrue b ↔ IsJoin instance.now counts.now) }
+{
+    if !has_counts(instance, counts) {
+        return Ok(false);
+    }
+    if !is_at_most_once(counts) {
+        return Ok(false);
+    }
+    let degrees = degrees_of(alloc, instance, counts)?;
+    Ok(have_parities(&degrees, instance.value_list()))
+}
+
+/// Whether counts are feasible for a kind whose answers are counts.
+fn are_feasible(
+    alloc: Global,
+    instance: &Instance,
+    kind: Kind,
+    counts: &[u32],
+) -> Result<bool, OutOfMemory>
+    requires { IsCountKind kind }
+    ensures { IfOk result (λ b. IsTrue b ↔ IsFeasible kind instance.now (Answer.Counts counts.now)) }
+{
+    match kind {
+        Kind::Perfect => is_perfect(alloc, instance, counts),
+        Kind::Match => is_matching(alloc, instance, counts),
+        Kind::BMatch => is_b_matching(alloc, instance, counts),
+        Kind::CapMatch => is_capacitated(alloc, instance, counts),
+        Kind::FFactor => is_factor(alloc, instance, counts),
+        Kind::TJoin => is_join(alloc, instance, counts),
+        Kind::Postman | Kind::Path => Ok(false),
+    }
+}
+
+/// Whether an answer is feasible, in time linear in vertices and edges. Any answer may be asked
+/// about: a walk isn't feasible here, nor is a list with another number of counts than edges. The
+/// kind is one whose answers are counts: neither `Postman` nor `Path`.
+pub fn feasible(
+    alloc: Global,
+    instance: &Instance,
+    kind: Kind,
+    answer: &Answer,
+) -> Result<bool, OutOfMemory>
+    requires { IsCountKind kind }
+    ensures { IfOk result (λ b. IsTrue b ↔ IsFeasible kind instance.now answer.now) }
+{
+    match answer {
+        Answer::Counts(counts) => are_feasible(alloc, instance, kind, counts.as_slice()),
+        Answer::Walk { .. } | Answer::Nothing => Ok(false),
+    }
+}

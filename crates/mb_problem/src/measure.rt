@@ -1,0 +1,76 @@
+ghost use Rattle.std.specs.Prelude.{◌≡◌, ℕ, ◌+◌, ◌-◌, ◌*◌, ◌<◌, ◌≤◌, ◌^◌, length, pos, neg_ℤ, ◌*ℤ◌, ◌≤ℤ◌, All};
+ghost use Rattle.graph_theory.specs.Graph.{degree, ends_at, weight, IsEdgeNumber};
+ghost use Rattle.graph_theory.specs.Walk.{walk_weight};
+ghost use Rattle.mb_problem.specs.Network.{Network, IsNetwork, graph_of, plain};
+ghost use Rattle.mb_problem.specs.Feasible.{weight_of};
+ghost use Rattle.mb_problem.specs.Measured.{HasPlaces};
+
+use crate::answer::Answer;
+use crate::instance::{Instance, InstanceEdge};
+use mb_base::{EdgeId, VertexId};
+
+/// How many ends of an edge are this vertex.
+fn ends_at(edge: &InstanceEdge, v: VertexId) -> u64
+    ensures ends { result ≡ ends_at (plain edge.now) v }
+    ensures small { result ≤ 2 }
+{
+    u64::from(edge.u == v) + u64::from(edge.v == v)
+}
+
+/// The degree of a vertex: the counts of the edges at it, added up.
+pub fn degree(instance: &Instance, counts: &[u32], v: VertexId) -> u64
+    requires { length counts.now ≡ length instance.now.edges }
+    ensures degree { result ≡ degree (graph_of instance.now) counts.now v }
+    ensures network { IsNetwork instance.now }
+{
+    let mut total = 0;
+    for (k, edge) in instance.edge_list().iter().enumerate() {
+        total += u64::from(counts[k]) * ends_at(edge, v);
+    }
+    total
+}
+
+/// The weight of an edge, as often as it is used.
+fn used_weight(count: u32, weight: i64) -> i128
+    ensures value { result ≡ pos count *ℤ weight }
+    ensures low { neg_ℤ (pos (2 ^ 95)) ≤ℤ result }
+    ensures high { result ≤ℤ pos (2 ^ 95) }
+{
+    i128::from(count) * i128::from(weight)
+}
+
+/// The weights of the edges, each as often as it is counted, added up.
+fn weight_of_counts(instance: &Instance, counts: &[u32]) -> i128
+    requires { length counts.now ≡ length instance.now.edges }
+    ensures { result ≡ weight (graph_of instance.now) counts.now }
+{
+    let mut total = 0;
+    for (k, edge) in instance.edge_list().iter().enumerate() {
+        total += used_weight(counts[k], edge.w);
+    }
+    total
+}
+
+/// The weights of the edges of a walk, added up.
+fn weight_of_walk(instance: &Instance, edges: &[EdgeId]) -> i128
+    requires { All (IsEdgeNumber (graph_of instance.now)) edges.now }
+    ensures { result ≡ walk_weight (graph_of instance.now) edges.now }
+{
+    let mut total = 0;
+    for edge in edges {
+        total += i128::from(instance.edge(*edge).2);
+    }
+    total
+}
+
+/// The weight of an answer: the weights of the edges, each as often as it is used, added up.
+pub fn weight(instance: &Instance, answer: &Answer) -> i128
+    requires { HasPlaces instance.now answer.now }
+    ensures { result ≡ weight_of instance.now answer.now }
+{
+    match answer {
+        Answer::Counts(counts) => weight_of_counts(instance, counts.as_slice()),
+        Answer::Walk { edges, .. } => weight_of_walk(instance, edges.as_slice()),
+        Answer::Nothing => 0,
+    }
+}
