@@ -1,0 +1,36 @@
+"""Made inputs for the benches: graphs with an optimal perfect matching and the duals that prove it."""
+import random
+
+
+def with_document(n, m, seed=1):
+    """n vertices (even), m edges, and a document: an instance and its certificate, as bytes."""
+    draw = random.Random(seed)
+    dual = [0] + [2 * draw.randint(-100_000_000, 100_000_000) for _ in range(n)]
+    mates = list(range(1, n + 1))
+    draw.shuffle(mates)
+    edges = []
+    for k in range(0, n, 2):
+        u, v = mates[k], mates[k + 1]
+        edges.append((u, v, (dual[u] + dual[v]) // 2, True))
+    while len(edges) < m:
+        u, v = draw.randint(1, n), draw.randint(1, n)
+        if u != v:
+            edges.append((u, v, (dual[u] + dual[v]) // 2 + draw.randint(0, 1_000_000), False))
+    draw.shuffle(edges)
+    lines = ["p edge %d %d" % (n, m)] + ["e %d %d %d" % e[:3] for e in edges]
+    weight = sum(e[2] for e in edges if e[3])
+    lines.append("s OPTIMAL perfect %d" % weight)
+    lines += ["x %d 1" % (k + 1) for k, e in enumerate(edges) if e[3]]
+    lines += ["y %d %d" % (v, dual[v]) for v in range(1, n + 1)]
+    return ("\n".join(lines) + "\n").encode()
+
+
+def instance(n, m, seed=1):
+    """n vertices and m edges with weights of all lengths."""
+    draw = random.Random(seed)
+    lines = ["p edge %d %d" % (n, m)]
+    for _ in range(m):
+        u = draw.randint(1, n)
+        v = draw.randint(1, n - 1)
+        lines.append("e %d %d %d" % (u, v + (v >= u), draw.randint(-10**9, 10**9)))
+    return ("\n".join(lines) + "\n").encode()

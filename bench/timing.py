@@ -1,0 +1,44 @@
+"""What the benches share: the plain reader, and the best wall time of several runs."""
+import os
+import subprocess
+import sys
+import time
+
+HERE = os.path.dirname(os.path.abspath(__file__))
+PROGRAM = os.path.join(HERE, "..", "crates", "blossom", "out", "blossom")
+
+
+def plain_reader():
+    """The plain reader, compiled where it isn't yet."""
+    source, program = os.path.join(HERE, "plain_reader.cpp"), os.path.join(HERE, "out", "plain_reader")
+    os.makedirs(os.path.dirname(program), exist_ok=True)
+    if not os.path.exists(program) or os.path.getmtime(program) < os.path.getmtime(source):
+        subprocess.run(["g++", "-O2", "-o", program, source], check=True)
+    return program
+
+
+def seconds(words, given, wanted=None, runs=7):
+    """The least wall time of several runs, input from a file. Where `wanted` is given, the output is compared."""
+    path = os.path.join(HERE, "out", "input")
+    with open(path, "wb") as file:
+        file.write(given)
+    best = None
+    for _ in range(runs):
+        with open(path, "rb") as file:
+            start = time.perf_counter()
+            done = subprocess.run(words, stdin=file, capture_output=True)
+            took = time.perf_counter() - start
+        if wanted is not None and done.stdout != wanted:
+            sys.exit("%s printed %r, wanted %r" % (words, done.stdout[:200], wanted))
+        best = took if best is None else min(best, took)
+    return best
+
+
+def report(name, words, given, wanted, most):
+    """Prints the ratio of the program to the plain reader, and says whether it is within the bound."""
+    plain = seconds([plain_reader()], given)
+    own = seconds([PROGRAM] + words, given, wanted)
+    ratio = own / plain
+    print("%-40s %8.1f MiB  plain %7.1f ms  blossom %7.1f ms  ratio %.2f (at most %g) %s"
+          % (name, len(given) / 2**20, plain * 1000, own * 1000, ratio, most, "ok" if ratio <= most else "TOO SLOW"))
+    return ratio <= most

@@ -1,0 +1,99 @@
+#!/usr/bin/env python3
+"""End-to-end tests of the built program: runs it on the cases of tests/cases and on made inputs.
+
+Usage: run.py PROGRAM. Prints each failure; the last line is 'N passed, M failed'; the status is 1 if a
+test failed or none ran."""
+import glob
+import json
+import os
+import subprocess
+import sys
+
+HERE = os.path.dirname(os.path.abspath(__file__))
+USAGE = "s USAGE\n"
+
+
+def run(words, given):
+    """One run of the program: its status, what it printed, and what it wrote to standard error."""
+    done = subprocess.run([PROGRAM] + words, input=given, capture_output=True, timeout=300)
+    return done.returncode, done.stdout.decode("latin-1"), done.stderr.decode("latin-1")
+
+
+class Tests:
+    def __init__(self):
+        self.passed = 0
+        self.failed = 0
+
+    def expect(self, name, words, given, output, status):
+        got = run(words, given)
+        if got == (status, output, ""):
+            self.passed += 1
+            return
+        self.failed += 1
+        print("FAILED %s\n  words    %s\n  input    %r\n  expected %r, status %d\n  got      %r, status %d, stderr %r"
+              % (name, " ".join(words), given[:300], output, status, got[1][:300], got[0], got[2][:300]))
+
+
+def cases(tests):
+    """The tables in tests/cases: for each case the words, the lines of the input, the output, the status."""
+    for path in sorted(glob.glob(os.path.join(HERE, "cases", "*.json"))):
+        with open(path, encoding="utf-8") as file:
+            table = json.load(file)
+        for case in table:
+            given = "".join(line + "\n" for line in case["input"]) if isinstance(case["input"], list) else case["input"]
+            tests.expect(os.path.basename(path) + ": " + case["name"], case["words"],
+                         given.encode("latin-1"), case["output"], case["status"])
+
+
+def cut_files(tests):
+    """An accepted input cut after each byte has the exact answer of what is left."""
+    whole = b"p edge 2 1\ne 1 2 5\ns OPTIMAL perfect 5\nx 1 1\ny 1 5\ny 2 5\n"
+    answers = [(0, "s MALFORMED HeaderMissing 1", 3), (1, "s MALFORMED HeaderForm 1", 3),
+               (10, "s MALFORMED EdgeCount 2", 3), (12, "s MALFORMED FieldCount 2", 3),
+               (16, "s REJECTED DocForm 3", 1), (38, "s REJECTED NotFeasible 3", 1),
+               (40, "s REJECTED DocForm 4", 1), (44, "s REJECTED DualMissing 3", 1),
+               (46, "s REJECTED DocForm 5", 1), (50, "s REJECTED DualMissing 3", 1),
+               (52, "s REJECTED DocForm 6", 1), (56, "s ACCEPTED", 0)]
+    for length in range(len(whole) + 1):
+        output, status = [(text, code) for start, text, code in answers if start <= length][-1]
+        tests.expect("cut after %d bytes" % length, ["check", "perfect"], whole[:length], output + "\n", status)
+
+
+def hostile_input(tests):
+    """Input that no tool writes gets its exact refusal."""
+    check = ["check", "perfect"]
+    long_number = b"9" * 1000
+    tests.expect("a vertex of a thousand digits", check, b"p edge 2 1\ne 1 " + long_number + b"\n", "s MALFORMED Range 2\n", 3)
+    tests.expect("a count of a thousand digits", check, b"p edge " + long_number + b" 0\n", "s MALFORMED Range 1\n", 3)
+    tests.expect("a thousand zeros before a digit", check,
+                 b"p edge " + b"0" * 1000 + b"2 0\ns INFEASIBLE perfect\n", "s REJECTED NotBarrier 2\n", 1)
+    tests.expect("NUL bytes", check, b"\0\0\0\n", "s MALFORMED UnknownLine 1\n", 3)
+    tests.expect("a NUL byte in a number", check, b"p edge 2\0 1\n", "s MALFORMED Number 1\n", 3)
+    tests.expect("bytes above 127", check, b"p edge 2 1\ne 1 \xff\n", "s MALFORMED Number 2\n", 3)
+    tests.expect("a carriage return inside a line", check, b"p edge\r 2 1\n", "s MALFORMED HeaderForm 1\n", 3)
+    tests.expect("16 MiB without a line end", check, b"x" * 16_777_216, "s MALFORMED UnknownLine 1\n", 3)
+    tests.expect("16 MiB of comments", check, b"c no edge\n" * 1_677_721, "s MALFORMED HeaderMissing 1677722\n", 3)
+    tests.expect("the longest input", check, b"\n" * 67_108_864, "s MALFORMED HeaderMissing 67108865\n", 3)
+    tests.expect("one byte more than that", check, b"\n" * 67_108_865, "s TOOLONG\n", 5)
+
+
+def words(tests):
+    """Words that are no command are answered so, whatever the input is."""
+    for line in ([], ["check"], ["check", "perfec"], ["perfect", "check"], ["check", "perfect", "--brief"],
+                 ["--help"], ["--version"], ["check", "--", "perfect"], ["solve", "perfect"], ["check", "match"]):
+        tests.expect("words " + " ".join(line), line, b"p edge 0 0\n", USAGE, 2)
+
+
+def examples(tests):
+    """The documents in examples/ are accepted."""
+    for path in sorted(glob.glob(os.path.join(HERE, "..", "examples", "*.checked"))):
+        with open(path, "rb") as file:
+            tests.expect(os.path.basename(path), ["check", os.path.basename(path).split("-")[0]], file.read(), "s ACCEPTED\n", 0)
+
+
+PROGRAM = os.path.abspath(sys.argv[1])
+TESTS = Tests()
+for part in (cases, cut_files, hostile_input, words, examples):
+    part(TESTS)
+print("%d passed, %d failed" % (TESTS.passed, TESTS.failed))
+sys.exit(0 if TESTS.failed == 0 and TESTS.passed > 0 else 1)
