@@ -1,15 +1,15 @@
 -- Lemmas on the members of lists that stand for sets.
-use Rattle.std.proofs.Common.{◌≡◌, ℕ, zero, suc, ◌+◌, ◌<◌, ◌≤◌, ℤ, pos, ◌+ℤ◌, Bool, true, false, cond, ◌||◌, eqb, refl, ap, sym, ◌∙◌, subst, inl, inr, arith, List, [], ◌∷◌, ◌++◌, length, get_or, slice_index, take, All, AllPairs, add-one}
+use Rattle.std.proofs.Common.{◌≡◌, ℕ, zero, suc, ◌+◌, ◌<◌, ◌≤◌, ℤ, pos, ◌+ℤ◌, ◌≤ℤ◌, Bool, true, false, cond, ◌||◌, eqb, refl, ap, sym, ◌∙◌, subst, inl, inr, arith, List, [], ◌∷◌, ◌++◌, length, get_or, slice_index, take, All, AllPairs, add-one}
 use Rattle.std.specs.List.Sorted.{IsStrictlyIncreasing}
 use Rattle.std.proofs.lemmas.Int.{ints}
-use Rattle.std.proofs.lemmas.Bool.{eq-eqb, eqb-true, or_cases, or_right, cases_eq, false≢true}
+use Rattle.std.proofs.lemmas.Bool.{eq-eqb, ne_eqb, eqb-true, or_cases, or_right, cases_eq, false≢true}
 use Rattle.std.proofs.lemmas.Grind.{common_steps}
 use Rattle.std.proofs.lemmas.List.{get_or-take}
 use Rattle.std.proofs.lemmas.List.Kept.{AllPairs-from_increasing}
 use Rattle.std.proofs.lemmas.List.Elements.{All-tail, All-head}
 use Rattle.graph_theory.specs.Sums.{int_sum_to}
 use Rattle.graph_theory.specs.Parts.{holds}
-use Rattle.graph_theory.proofs.SumLemmas.{int_sum_to-same, int_sum_to-add, int_sum_to-zero, int_sum_to-at_one}
+use Rattle.graph_theory.proofs.SumLemmas.{int_sum_to-same, int_sum_to-add, int_sum_to-le, int_sum_to-zero, int_sum_to-at_one, int_sum_to-at_none}
 
 -- a member stands at some place
 pub holds_place : (ms : List ℕ) (v : ℕ) → holds ms v ≡ true → (k : ℕ) × (k < length ms) × (get_or ms k 0 ≡ v)
@@ -127,6 +127,34 @@ members_by_pairs n (m ∷ ms) up within =
 pub members_counted : (n : ℕ) (ms : List ℕ) → IsStrictlyIncreasing ms → All (λ m. (1 ≤ m) × (m ≤ n)) ms → int_sum_to (λ i. cond (holds ms (i + 1)) (pos 1) (pos 0)) n ≡ pos (length ms)
 members_counted n ms up within = members_by_pairs n ms (AllPairs-from_increasing ms up) within
 
+-- .. and of any list at most once for each place
+one_at_most : (u n : ℕ) → int_sum_to (λ i. cond (eqb u (i + 1)) (pos 1) (pos 0)) n ≤ℤ pos 1
+one_at_most u zero = omega (arith, ints)
+one_at_most u (suc n) =
+    elim (cases_eq u (n + 1)) [
+      | inl e ↦
+          let front = int_sum_to-at_none (λ _. pos 1) u n (omega arith) in
+          let on : eqb u (n + 1) ≡ true = eq-eqb u (n + 1) e in
+          rw on (omega (arith, ints, front))
+      | inr d ↦
+          let front = one_at_most u n in
+          let off : eqb u (n + 1) ≡ false = ne_eqb u (n + 1) d in
+          rw off (omega (arith, ints, front))
+    ]
+
+either_at_most : (p q : Bool) → cond (p || q) (pos 1) (pos 0) ≤ℤ (cond p (pos 1) (pos 0) +ℤ cond q (pos 1) (pos 0))
+either_at_most true true = omega (arith, ints)
+either_at_most true false = omega (arith, ints)
+either_at_most false true = omega (arith, ints)
+either_at_most false false = omega (arith, ints)
+
+pub members_at_most : (n : ℕ) (ms : List ℕ) → int_sum_to (λ i. cond (holds ms (i + 1)) (pos 1) (pos 0)) n ≤ℤ pos (length ms)
+members_at_most n [] = omega (arith, ints, int_sum_to-zero n)
+members_at_most n (m ∷ ms) =
+    let parts = int_sum_to-le (λ i. cond (holds (m ∷ ms) (i + 1)) (pos 1) (pos 0)) (λ i. cond (eqb m (i + 1)) (pos 1) (pos 0) +ℤ cond (holds ms (i + 1)) (pos 1) (pos 0)) n (λ i b. either_at_most (eqb m (i + 1)) (holds ms (i + 1))) in
+    let both = int_sum_to-add (λ i. cond (eqb m (i + 1)) (pos 1) (pos 0)) (λ i. cond (holds ms (i + 1)) (pos 1) (pos 0)) n in
+    omega (arith, ints, parts, both, one_at_most m n, members_at_most n ms)
+
 same_tests : (a b : Bool) → (a ≡ true → b ≡ true) → (b ≡ true → a ≡ true) → a ≡ b
 same_tests a b f h = grind arith
 
@@ -138,3 +166,36 @@ same_length n xs ys up_x up_y within_x within_y to from =
     let same = int_sum_to-same (λ i. cond (holds xs (i + 1)) (pos 1) (pos 0)) (λ i. cond (holds ys (i + 1)) (pos 1) (pos 0)) n
     (λ i b. ap (λ (t : Bool). cond t (pos 1) (pos 0)) (same_tests (holds xs (i + 1)) (holds ys (i + 1)) (to (i + 1)) (from (i + 1)))) in
     omega (arith, ints, counted_x, counted_y, same)
+
+-- ascending lists with the same members are equal
+
+first_equal : (x y : ℕ) (xs ys : List ℕ) → AllPairs (λ x y. x < y) (x ∷ xs) → AllPairs (λ x y. x < y) (y ∷ ys) → holds (y ∷ ys) x ≡ true → holds (x ∷ xs) y ≡ true → x ≡ y
+first_equal x y xs ys up_x up_y hx hy =
+    elim (or_cases (eqb y x) (holds ys x) hx) [
+      | inl e ↦ sym (eqb-true y x e)
+      | inr above ↦
+          elim (or_cases (eqb x y) (holds xs y) hy) [
+            | inl e ↦ eqb-true x y e
+            | inr below ↦ absurd (let a = first_less y ys x up_y above in let b = first_less x xs y up_x below in omega arith)
+          ]
+    ]
+
+-- a later member of the one stands late in the other
+later : (x y : ℕ) (xs ys : List ℕ) (v : ℕ) → x ≡ y → AllPairs (λ x y. x < y) (x ∷ xs) → holds xs v ≡ true → holds (y ∷ ys) v ≡ true → holds ys v ≡ true
+later x y xs ys v same up h there =
+    elim (or_cases (eqb y v) (holds ys v) there) [
+      | inl e ↦ absurd (let here = eqb-true y v e in let above = first_less x xs v up h in omega arith)
+      | inr r ↦ r
+    ]
+
+same_by_pairs : (xs ys : List ℕ) → AllPairs (λ x y. x < y) xs → AllPairs (λ x y. x < y) ys → ((v : ℕ) → holds xs v ≡ true → holds ys v ≡ true) → ((v : ℕ) → holds ys v ≡ true → holds xs v ≡ true) → xs ≡ ys
+same_by_pairs [] [] up_x up_y to from = refl
+same_by_pairs [] (y ∷ ys) up_x up_y to from = absurd (false≢true (from y (holds_first (y ∷ ys) (omega arith))))
+same_by_pairs (x ∷ xs) [] up_x up_y to from = absurd (false≢true (to x (holds_first (x ∷ xs) (omega arith))))
+same_by_pairs (x ∷ xs) (y ∷ ys) up_x up_y to from =
+    let same : x ≡ y = first_equal x y xs ys up_x up_y (to x (holds_first (x ∷ xs) (omega arith))) (from y (holds_first (y ∷ ys) (omega arith))) in
+    let tails : xs ≡ ys = same_by_pairs xs ys (pairs_tail x xs up_x) (pairs_tail y ys up_y) (λ v h. later x y xs ys v same up_x h (to v (or_right (eqb x v) (holds xs v) h))) (λ v h. later y x ys xs v (sym same) up_y h (from v (or_right (eqb y v) (holds ys v) h))) in
+    ap (λ z. z ∷ xs) same ∙ ap (λ zs. y ∷ zs) tails
+
+pub same_list : (xs ys : List ℕ) → IsStrictlyIncreasing xs → IsStrictlyIncreasing ys → ((v : ℕ) → holds xs v ≡ true → holds ys v ≡ true) → ((v : ℕ) → holds ys v ≡ true → holds xs v ≡ true) → xs ≡ ys
+same_list xs ys up_x up_y to from = same_by_pairs xs ys (AllPairs-from_increasing xs up_x) (AllPairs-from_increasing ys up_y) to from

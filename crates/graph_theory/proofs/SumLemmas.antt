@@ -204,10 +204,11 @@ int_sum_to-pairs f (suc m) =
 
 -- the term of one place among 1 to n
 
-at_one_past : (f : ℕ → ℤ) (u n : ℕ) → n < u → int_sum_to (λ i. cond (eqb u (i + 1)) (f (i + 1)) (pos 0)) n ≡ pos 0
-at_one_past f u zero h = refl
-at_one_past f u (suc n) h =
-    let front = at_one_past f u n (omega arith) in
+-- .. which stands past the sum
+pub int_sum_to-at_none : (f : ℕ → ℤ) (u n : ℕ) → n < u → int_sum_to (λ i. cond (eqb u (i + 1)) (f (i + 1)) (pos 0)) n ≡ pos 0
+int_sum_to-at_none f u zero h = refl
+int_sum_to-at_none f u (suc n) h =
+    let front = int_sum_to-at_none f u n (omega arith) in
     let off : eqb u (n + 1) ≡ false = ne_eqb u (n + 1) (λ e. omega arith) in
     rw off (omega (arith, ints, front))
 
@@ -216,7 +217,7 @@ int_sum_to-at_one f u zero low high = absurd (omega arith)
 int_sum_to-at_one f u (suc n) low high =
     elim (cases_eq u (n + 1)) [
       | inl e ↦
-          let front = at_one_past f u n (omega arith) in
+          let front = int_sum_to-at_none f u n (omega arith) in
           let on : eqb u (n + 1) ≡ true = eq-eqb u (n + 1) e in
           let same : f (n + 1) ≡ f u = ap f (sym e) in
           rw on (omega (arith, ints, front, same))

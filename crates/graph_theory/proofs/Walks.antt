@@ -1,0 +1,215 @@
+-- Lemmas on walks: their edges and vertices, one walk after another, back again, and sets that they can't leave.
+use Rattle.std.proofs.Common.{◌≡◌, ℕ, ◌+◌, ◌-◌, ◌<◌, ◌≤◌, ℤ, pos, ◌+ℤ◌, Bool, true, false, not, cond, ◌||◌, eqb, refl, ap, sym, ◌∙◌, subst, inl, inr, arith, List, [], ◌∷◌, ◌++◌, length, reverse, All}
+use Rattle.std.proofs.lemmas.Int.{ints}
+use Rattle.std.proofs.lemmas.Bool.{cases_Bool, eqb-true, eq-eqb, ne_eqb, or_right, or_cases, false≢true}
+use Rattle.std.proofs.lemmas.List.{reverse-append}
+use Rattle.std.proofs.lemmas.List.Elements.{All-nil, All-cons, All-head, All-tail}
+use Rattle.graph_theory.specs.declared.edge.Edge.{Edge}
+use Rattle.graph_theory.specs.Graph.{Multigraph, IsEdgeWithin, no_edge, edge_at, edge_of, IsEdgeNumber, touches, other_end}
+use Rattle.graph_theory.specs.Parts.{holds, crosses, LeavesNone}
+use Rattle.graph_theory.specs.Walk.{IsWalk, walk_end, walk_left, walk_vertices, walk_weight}
+
+-- one edge
+
+pub edge_of_within : (g : Multigraph) (e : ℕ) → All (IsEdgeWithin g.vertices) g.edges → IsEdgeNumber g e → IsEdgeWithin g.vertices (edge_of g e)
+edge_of_within g e ends is =
+    let low : 1 ≤ e = is.0 in
+    let high : e ≤ length g.edges = is.1 in
+    ends (e - 1) no_edge (omega arith)
+
+-- the edge of the number after a place
+pub edge_of-place : (g : Multigraph) (k : ℕ) → edge_of g (k + 1) ≡ edge_at g k
+edge_of-place g k = ap (edge_at g) (let e : k + 1 - 1 ≡ k = omega arith in e)
+
+pub touches-u : (e : Edge) → touches e e.u ≡ true
+touches-u e = rw (eq-eqb e.u e.u refl) refl
+
+pub touches-v : (e : Edge) → touches e e.v ≡ true
+touches-v e = or_right (eqb e.u e.v) (eqb e.v e.v) (eq-eqb e.v e.v refl)
+
+pub other_end-u : (e : Edge) → other_end e e.u ≡ e.v
+other_end-u e = rw (eq-eqb e.u e.u refl) refl
+
+pub other_end-v : (n : ℕ) (e : Edge) → IsEdgeWithin n e → other_end e e.v ≡ e.u
+other_end-v n e within = rw (ne_eqb e.u e.v within.differ) refl
+
+pub other_end-within : (n : ℕ) (e : Edge) (v : ℕ) → IsEdgeWithin n e → (1 ≤ other_end e v) × (other_end e v ≤ n)
+other_end-within n e v within =
+    elim (cases_Bool (eqb e.u v)) [
+      | inl h ↦ rw h (within.v_low, within.v_high)
+      | inr h ↦ rw h (within.u_low, within.u_high)
+    ]
+
+-- a vertex at the edge is one of its ends, and a vertex of the graph
+pub touched-within : (n : ℕ) (e : Edge) (v : ℕ) → IsEdgeWithin n e → touches e v ≡ true → (1 ≤ v) × (v ≤ n)
+touched-within n e v within meets =
+    let P : ℕ → Type 0 = λ x. (1 ≤ x) × (x ≤ n) in
+    elim (or_cases (eqb e.u v) (eqb e.v v) meets) [
+      | inl h ↦ subst P (eqb-true e.u v h) (within.u_low, within.u_high)
+      | inr h ↦ subst P (eqb-true e.v v h) (within.v_low, within.v_high)
+    ]
+
+-- an edge leads back
+pub edge_back : (n : ℕ) (e : Edge) (v : ℕ) → IsEdgeWithin n e → touches e v ≡ true → (touches e (other_end e v) ≡ true) × (other_end e (other_end e v) ≡ v)
+edge_back n e v within meets =
+    elim (cases_Bool (eqb e.u v)) [
+      | inl at_u ↦
+          let same = eqb-true e.u v at_u in
+          let off : eqb e.u e.v ≡ false = ne_eqb e.u e.v within.differ in
+          rw at_u (or_right (eqb e.u e.v) (eqb e.v e.v) (eq-eqb e.v e.v refl), rw off same)
+      | inr off ↦
+          let at_v : eqb e.v v ≡ true = elim (or_cases (eqb e.u v) (eqb e.v v) meets) [ inl h ↦ absurd (false≢true (sym off ∙ h)) | inr h ↦ h ] in
+          let here : eqb e.u e.u ≡ true = eq-eqb e.u e.u refl in
+          rw (off, here) (refl, eqb-true e.v v at_v)
+    ]
+
+-- what a walk comes to
+
+pub walk-numbers : (g : Multigraph) (v : ℕ) (es : List ℕ) → IsWalk g v es → All (IsEdgeNumber g) es
+walk-numbers g v [] walk = All-nil (IsEdgeNumber g)
+walk-numbers g v (e ∷ es) walk = All-cons (IsEdgeNumber g) e es walk.0 (walk-numbers g (other_end (edge_of g e) v) es walk.2)
+
+pub walk-within : (g : Multigraph) (v : ℕ) (es : List ℕ) → All (IsEdgeWithin g.vertices) g.edges → (1 ≤ v) × (v ≤ g.vertices) → IsWalk g v es → (1 ≤ walk_end g v es) × (walk_end g v es ≤ g.vertices)
+walk-within g v [] ends within walk = within
+walk-within g v (e ∷ es) ends within walk = walk-within g (other_end (edge_of g e) v) es ends (other_end-within g.vertices (edge_of g e) v (edge_of_within g e ends walk.0)) walk.2
+
+pub vertices-within : (g : Multigraph) (v : ℕ) (es : List ℕ) → All (IsEdgeWithin g.vertices) g.edges → (1 ≤ v) × (v ≤ g.vertices) → IsWalk g v es → All (λ x. (1 ≤ x) × (x ≤ g.vertices)) (walk_vertices g v es)
+vertices-within g v [] ends within walk = All-cons (λ x. (1 ≤ x) × (x ≤ g.vertices)) v [] within (All-nil (λ x. (1 ≤ x) × (x ≤ g.vertices)))
+vertices-within g v (e ∷ es) ends within walk =
+    let w = other_end (edge_of g e) v in
+    All-cons (λ x. (1 ≤ x) × (x ≤ g.vertices)) v (walk_vertices g w es) within (vertices-within g w es ends (other_end-within g.vertices (edge_of g e) v (edge_of_within g e ends walk.0)) walk.2)
+
+-- the start of a walk of at least one edge is a vertex
+pub start-within : (g : Multigraph) (v e : ℕ) (es : List ℕ) → All (IsEdgeWithin g.vertices) g.edges → IsWalk g v (e ∷ es) → (1 ≤ v) × (v ≤ g.vertices)
+start-within g v e es ends walk = touched-within g.vertices (edge_of g e) v (edge_of_within g e ends walk.0) walk.1
+
+-- the start and the end are among the vertices
+
+pub start_has : (P : ℕ → Type 0) (g : Multigraph) (v : ℕ) (es : List ℕ) → All P (walk_vertices g v es) → P v
+start_has P g v [] a = All-head P v [] a
+start_has P g v (e ∷ es) a = All-head P v (walk_vertices g (other_end (edge_of g e) v) es) a
+
+pub end_has : (P : ℕ → Type 0) (g : Multigraph) (v : ℕ) (es : List ℕ) → All P (walk_vertices g v es) → P (walk_end g v es)
+end_has P g v [] a = All-head P v [] a
+end_has P g v (e ∷ es) a =
+    let w = other_end (edge_of g e) v in
+    end_has P g w es (All-tail P v (walk_vertices g w es) a)
+
+-- all vertices are those that are left, and the end
+pub vertices-left : (g : Multigraph) (v : ℕ) (es : List ℕ) → walk_vertices g v es ≡ walk_left g v es ++ walk_end g v es ∷ []
+vertices-left g v [] = refl
+vertices-left g v (e ∷ es) = ap (λ xs. v ∷ xs) (vertices-left g (other_end (edge_of g e) v) es)
+
+pub left-length : (g : Multigraph) (v : ℕ) (es : List ℕ) → length (walk_left g v es) ≡ length es
+left-length g v [] = refl
+left-length g v (e ∷ es) = omega (arith, left-length g (other_end (edge_of g e) v) es)
+
+pub vertices-length : (g : Multigraph) (v : ℕ) (es : List ℕ) → length (walk_vertices g v es) ≡ length es + 1
+vertices-length g v [] = refl
+vertices-length g v (e ∷ es) = omega (arith, vertices-length g (other_end (edge_of g e) v) es)
+
+-- one walk after another
+
+pub walk-append : (g : Multigraph) (v : ℕ) (es fs : List ℕ) → IsWalk g v es → IsWalk g (walk_end g v es) fs → IsWalk g v (es ++ fs)
+walk-append g v [] fs a b = b
+walk-append g v (e ∷ es) fs a b = (a.0, a.1, walk-append g (other_end (edge_of g e) v) es fs a.2 b)
+
+pub end-append : (g : Multigraph) (v : ℕ) (es fs : List ℕ) → walk_end g v (es ++ fs) ≡ walk_end g (walk_end g v es) fs
+end-append g v [] fs = refl
+end-append g v (e ∷ es) fs = end-append g (other_end (edge_of g e) v) es fs
+
+pub left-append : (g : Multigraph) (v : ℕ) (es fs : List ℕ) → walk_left g v (es ++ fs) ≡ walk_left g v es ++ walk_left g (walk_end g v es) fs
+left-append g v [] fs = refl
+left-append g v (e ∷ es) fs = ap (λ xs. v ∷ xs) (left-append g (other_end (edge_of g e) v) es fs)
+
+pub vertices-append : (g : Multigraph) (v : ℕ) (es fs : List ℕ) → walk_vertices g v (es ++ fs) ≡ walk_left g v es ++ walk_vertices g (walk_end g v es) fs
+vertices-append g v [] fs = refl
+vertices-append g v (e ∷ es) fs = ap (λ xs. v ∷ xs) (vertices-append g (other_end (edge_of g e) v) es fs)
+
+pub weight-append : (g : Multigraph) (es fs : List ℕ) → walk_weight g (es ++ fs) ≡ walk_weight g es +ℤ walk_weight g fs
+weight-append g [] fs = omega (arith, ints)
+weight-append g (e ∷ es) fs = omega (arith, ints, weight-append g es fs)
+
+pub all_vertices-append : (P : ℕ → Type 0) (g : Multigraph) (v : ℕ) (es fs : List ℕ) → All P (walk_vertices g v es) → All P (walk_vertices g (walk_end g v es) fs) → All P (walk_vertices g v (es ++ fs))
+all_vertices-append P g v [] fs a b = b
+all_vertices-append P g v (e ∷ es) fs a b =
+    let w = other_end (edge_of g e) v in
+    All-cons P v (walk_vertices g w (es ++ fs)) (All-head P v (walk_vertices g w es) a) (all_vertices-append P g w es fs (All-tail P v (walk_vertices g w es) a) b)
+
+-- the two parts of a walk
+pub walk-front : (g : Multigraph) (v : ℕ) (es fs : List ℕ) → IsWalk g v (es ++ fs) → IsWalk g v es
+walk-front g v [] fs walk = tt
+walk-front g v (e ∷ es) fs walk = (walk.0, walk.1, walk-front g (other_end (edge_of g e) v) es fs walk.2)
+
+pub walk-rest : (g : Multigraph) (v : ℕ) (es fs : List ℕ) → IsWalk g v (es ++ fs) → IsWalk g (walk_end g v es) fs
+walk-rest g v [] fs walk = walk
+walk-rest g v (e ∷ es) fs walk = walk-rest g (other_end (edge_of g e) v) es fs walk.2
+
+-- one edge more at the end
+pub walk-push : (g : Multigraph) (v : ℕ) (es : List ℕ) (e : ℕ) → IsWalk g v es → IsEdgeNumber g e → touches (edge_of g e) (walk_end g v es) ≡ true → IsWalk g v (es ++ e ∷ [])
+walk-push g v es e walk is meets = walk-append g v es (e ∷ []) walk (is, meets, tt)
+
+pub end-push : (g : Multigraph) (v : ℕ) (es : List ℕ) (e : ℕ) → walk_end g v (es ++ e ∷ []) ≡ other_end (edge_of g e) (walk_end g v es)
+end-push g v es e = end-append g v es (e ∷ [])
+
+-- back again
+
+reverse-cons : (e : ℕ) (es : List ℕ) → reverse (e ∷ es) ≡ reverse es ++ e ∷ []
+reverse-cons e es = reverse-append (e ∷ []) es
+
+record IsWayBack (g : Multigraph) (v : ℕ) (es : List ℕ) : Type 0 where
+  walk : IsWalk g (walk_end g v es) (reverse es)
+  ends : walk_end g (walk_end g v es) (reverse es) ≡ v
+
+way_back : (g : Multigraph) (v : ℕ) (es : List ℕ) → All (IsEdgeWithin g.vertices) g.edges → IsWalk g v es → IsWayBack g v es
+way_back g v [] ends walk = record { walk = tt; ends = refl }
+way_back g v (e ∷ es) ends walk =
+    let w = other_end (edge_of g e) v in
+    let last = walk_end g w es in
+    let home = edge_back g.vertices (edge_of g e) v (edge_of_within g e ends walk.0) walk.1 in
+    let rest = way_back g w es ends walk.2 in
+    let meets : touches (edge_of g e) (walk_end g last (reverse es)) ≡ true = ap (touches (edge_of g e)) rest.ends ∙ home.0 in
+    let leads : other_end (edge_of g e) (walk_end g last (reverse es)) ≡ v = ap (other_end (edge_of g e)) rest.ends ∙ home.1 in
+    record {
+      walk = subst (IsWalk g last) (sym (reverse-cons e es)) (walk-push g last (reverse es) e rest.walk walk.0 meets);
+      ends = ap (walk_end g last) (reverse-cons e es) ∙ end-push g last (reverse es) e ∙ leads;
+    }
+
+pub walk-reverse : (g : Multigraph) (v : ℕ) (es : List ℕ) → All (IsEdgeWithin g.vertices) g.edges → IsWalk g v es → IsWalk g (walk_end g v es) (reverse es)
+walk-reverse g v es ends walk = (way_back g v es ends walk).walk
+
+pub end-reverse : (g : Multigraph) (v : ℕ) (es : List ℕ) → All (IsEdgeWithin g.vertices) g.edges → IsWalk g v es → walk_end g (walk_end g v es) (reverse es) ≡ v
+end-reverse g v es ends walk = (way_back g v es ends walk).ends
+
+pub weight-reverse : (g : Multigraph) (es : List ℕ) → walk_weight g (reverse es) ≡ walk_weight g es
+weight-reverse g [] = refl
+weight-reverse g (e ∷ es) =
+    let turned : walk_weight g (reverse (e ∷ es)) ≡ walk_weight g (reverse es ++ e ∷ []) = ap (walk_weight g) (reverse-cons e es) in
+    omega (arith, ints, turned, weight-append g (reverse es) (e ∷ []), weight-reverse g es)
+
+-- a set that no edge leaves
+
+same_side : (p q : Bool) → cond p (not q) q ≡ false → p ≡ q
+same_side true true h = refl
+same_side true false h = h
+same_side false true h = sym h
+same_side false false h = refl
+
+-- both ends of an edge lie in the set, or none
+pub leaves_none-edge : (g : Multigraph) (set : List ℕ) (e v : ℕ) → LeavesNone g set → IsEdgeNumber g e → touches (edge_of g e) v ≡ true → holds set (other_end (edge_of g e) v) ≡ holds set v
+leaves_none-edge g set e v closed is meets =
+    let low : 1 ≤ e = is.0 in
+    let high : e ≤ length g.edges = is.1 in
+    let stays : crosses set (edge_of g e) ≡ false = closed (e - 1) no_edge (omega arith) in
+    let side = same_side (holds set (edge_of g e).u) (holds set (edge_of g e).v) stays in
+    elim (cases_Bool (eqb (edge_of g e).u v)) [
+      | inl at_u ↦ rw at_u (sym side ∙ ap (holds set) (eqb-true (edge_of g e).u v at_u))
+      | inr off ↦
+          let at_v : eqb (edge_of g e).v v ≡ true = elim (or_cases (eqb (edge_of g e).u v) (eqb (edge_of g e).v v) meets) [ inl h ↦ absurd (false≢true (sym off ∙ h)) | inr h ↦ h ] in
+          rw off (side ∙ ap (holds set) (eqb-true (edge_of g e).v v at_v))
+    ]
+
+-- a walk stays in the set, or outside
+pub leaves_none-walk : (g : Multigraph) (set : List ℕ) (v : ℕ) (es : List ℕ) → LeavesNone g set → IsWalk g v es → holds set (walk_end g v es) ≡ holds set v
+leaves_none-walk g set v [] closed walk = refl
+leaves_none-walk g set v (e ∷ es) closed walk = leaves_none-walk g set (other_end (edge_of g e) v) es closed walk.2 ∙ leaves_none-edge g set e v closed walk.0 walk.1
