@@ -4,3 +4,4 @@ pub mod Walk
 pub mod Parts
 pub mod Barrier
 pub mod Duals
+pub mod Laws

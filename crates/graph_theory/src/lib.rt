@@ -5,7 +5,9 @@
 #![tactic(auto)]
 
 mod edge;
+mod law;
 mod odd_set;
 
 pub use edge::Edge;
+pub use law::laws;
 pub use odd_set::OddSet;

@@ -1,0 +1,13 @@
+use Rattle.graph_theory.proofs.Handshake.{handshake}
+use Rattle.graph_theory.proofs.Duality.{weak_duality}
+use Rattle.graph_theory.proofs.Barriers.{barrier_excludes}
+use Rattle.graph_theory.proofs.law.laws.Goals as goal
+
+pub returns-clause-handshake : goal.returns-clause-handshake
+returns-clause-handshake c = handshake
+
+pub returns-clause-duality : goal.returns-clause-duality
+returns-clause-duality c = weak_duality
+
+pub returns-clause-barrier : goal.returns-clause-barrier
+returns-clause-barrier c = barrier_excludes
