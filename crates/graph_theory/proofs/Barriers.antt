@@ -14,7 +14,7 @@ use Rattle.graph_theory.proofs.SumLemmas.{int_sum_to-same, int_sum_to-le, int_su
 use Rattle.graph_theory.proofs.Handshake.{handshake-perfect}
 use Rattle.graph_theory.proofs.Members.{holds_at, holds_first, members_at_most, same_length}
 use Rattle.graph_theory.proofs.Crossings.{crossings, crosses_odd, crossing_sums}
-use Rattle.graph_theory.proofs.Walks.{edge_of-place, touches-u, touches-v, other_end-u, other_end-v}
+use Rattle.graph_theory.proofs.Edges.{edge_of-place, touches-u, touches-v, other_end-u, other_end-v}
 use Rattle.graph_theory.proofs.Components.{AreApart, component-border, component-within, heads-apart}
 
 -- components of odd size

@@ -8,7 +8,8 @@ use Rattle.graph_theory.specs.Parts.{holds, IsVertexSet}
 use Rattle.graph_theory.specs.Walk.{IsWalk, walk_end, walk_vertices}
 use Rattle.graph_theory.specs.Barrier.{AreTogether, IsComponent}
 use Rattle.graph_theory.proofs.Members.{holds_place, holds_at, holds_all, holds_first, least_first, same_length, same_list}
-use Rattle.graph_theory.proofs.Walks.{edge_of_within, edge_back, start_has, end_has, walk-append, end-append, all_vertices-append, walk-within}
+use Rattle.graph_theory.proofs.Edges.{edge_of_within, edge_back}
+use Rattle.graph_theory.proofs.Walks.{start_has, end_has, walk-append, end-append, all_vertices-append, walk-within}
 
 -- x is outside the removed set
 abbrev IsFree : List ℕ → ℕ → Type 0

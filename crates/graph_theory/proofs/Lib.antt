@@ -1,4 +1,6 @@
 pub mod SumLemmas
+pub mod Edges
+pub mod Around
 pub mod Handshake
 pub mod Members
 pub mod Crossings

@@ -8,60 +8,7 @@ use Rattle.graph_theory.specs.declared.edge.Edge.{Edge}
 use Rattle.graph_theory.specs.Graph.{Multigraph, IsEdgeWithin, no_edge, edge_at, edge_of, IsEdgeNumber, touches, other_end}
 use Rattle.graph_theory.specs.Parts.{holds, crosses, LeavesNone}
 use Rattle.graph_theory.specs.Walk.{IsWalk, walk_end, walk_left, walk_vertices, walk_weight}
-
--- one edge
-
-pub edge_of_within : (g : Multigraph) (e : ℕ) → All (IsEdgeWithin g.vertices) g.edges → IsEdgeNumber g e → IsEdgeWithin g.vertices (edge_of g e)
-edge_of_within g e ends is =
-    let low : 1 ≤ e = is.0 in
-    let high : e ≤ length g.edges = is.1 in
-    ends (e - 1) no_edge (omega arith)
-
--- the edge of the number after a place
-pub edge_of-place : (g : Multigraph) (k : ℕ) → edge_of g (k + 1) ≡ edge_at g k
-edge_of-place g k = ap (edge_at g) (let e : k + 1 - 1 ≡ k = omega arith in e)
-
-pub touches-u : (e : Edge) → touches e e.u ≡ true
-touches-u e = rw (eq-eqb e.u e.u refl) refl
-
-pub touches-v : (e : Edge) → touches e e.v ≡ true
-touches-v e = or_right (eqb e.u e.v) (eqb e.v e.v) (eq-eqb e.v e.v refl)
-
-pub other_end-u : (e : Edge) → other_end e e.u ≡ e.v
-other_end-u e = rw (eq-eqb e.u e.u refl) refl
-
-pub other_end-v : (n : ℕ) (e : Edge) → IsEdgeWithin n e → other_end e e.v ≡ e.u
-other_end-v n e within = rw (ne_eqb e.u e.v within.differ) refl
-
-pub other_end-within : (n : ℕ) (e : Edge) (v : ℕ) → IsEdgeWithin n e → (1 ≤ other_end e v) × (other_end e v ≤ n)
-other_end-within n e v within =
-    elim (cases_Bool (eqb e.u v)) [
-      | inl h ↦ rw h (within.v_low, within.v_high)
-      | inr h ↦ rw h (within.u_low, within.u_high)
-    ]
-
--- a vertex at the edge is one of its ends, and a vertex of the graph
-pub touched-within : (n : ℕ) (e : Edge) (v : ℕ) → IsEdgeWithin n e → touches e v ≡ true → (1 ≤ v) × (v ≤ n)
-touched-within n e v within meets =
-    let P : ℕ → Type 0 = λ x. (1 ≤ x) × (x ≤ n) in
-    elim (or_cases (eqb e.u v) (eqb e.v v) meets) [
-      | inl h ↦ subst P (eqb-true e.u v h) (within.u_low, within.u_high)
-      | inr h ↦ subst P (eqb-true e.v v h) (within.v_low, within.v_high)
-    ]
-
--- an edge leads back
-pub edge_back : (n : ℕ) (e : Edge) (v : ℕ) → IsEdgeWithin n e → touches e v ≡ true → (touches e (other_end e v) ≡ true) × (other_end e (other_end e v) ≡ v)
-edge_back n e v within meets =
-    elim (cases_Bool (eqb e.u v)) [
-      | inl at_u ↦
-          let same = eqb-true e.u v at_u in
-          let off : eqb e.u e.v ≡ false = ne_eqb e.u e.v within.differ in
-          rw at_u (or_right (eqb e.u e.v) (eqb e.v e.v) (eq-eqb e.v e.v refl), rw off same)
-      | inr off ↦
-          let at_v : eqb e.v v ≡ true = elim (or_cases (eqb e.u v) (eqb e.v v) meets) [ inl h ↦ absurd (false≢true (sym off ∙ h)) | inr h ↦ h ] in
-          let here : eqb e.u e.u ≡ true = eq-eqb e.u e.u refl in
-          rw (off, here) (refl, eqb-true e.v v at_v)
-    ]
+use Rattle.graph_theory.proofs.Edges.{edge_of_within, other_end-within, touched-within, edge_back}
 
 -- what a walk comes to
 
