@@ -1,12 +1,12 @@
 -- Lemmas on the lists of the edges at a vertex: what they list, in which order, and how one edge more changes them.
-use Rattle.std.proofs.Common.{◌≡◌, ℕ, zero, suc, ◌+◌, ◌-◌, ◌<◌, ◌≤◌, Bool, true, false, cond, eqb, ◌||◌, ◌↔◌, refl, ap, sym, ◌∙◌, subst, inl, inr, arith, add-one, List, [], ◌∷◌, ◌++◌, length, get_or, All}
+use Rattle.std.proofs.Common.{◌≡◌, ℕ, zero, suc, ◌+◌, ◌-◌, ◌<◌, ◌≤◌, Bool, true, false, cond, eqb, ◌||◌, ◌↔◌, refl, ap, sym, ◌∙◌, subst, inl, inr, arith, add-one, [], ◌∷◌, ◌++◌, length, get_or, All}
 use Rattle.std.specs.List.Sorted.{IsStrictlyIncreasing}
 use Rattle.std.proofs.lemmas.Bool.{false≢true, cases_Bool, or_cases, or_left, or_right, eqb-true, eq-eqb, cases_eq, cond-true, cond-false}
 use Rattle.std.proofs.lemmas.Grind.{common_steps}
 use Rattle.graph_theory.specs.Graph.{Multigraph, IsEdgeWithin, edge_at, edge_of, IsEdgeNumber, touches, edges_below, edges_around}
 use Rattle.graph_theory.specs.Parts.{holds}
 use Rattle.graph_theory.proofs.Members.{holds_at, holds-push, increasing-push, all_holds}
-use Rattle.graph_theory.proofs.Edges.{touches-u, touches-v, touches-none, edge_of-place}
+use Rattle.graph_theory.proofs.Edges.{touches-u, touches-v, touches-none}
 
 -- one edge more: the step of a loop over the edges
 

@@ -1,5 +1,5 @@
 -- The easy direction of Tutte's theorem: a graph with a barrier has no perfect matching.
-use Rattle.std.proofs.Common.{◌≡◌, ℕ, zero, suc, ◌+◌, ◌-◌, ◌<◌, ◌≤◌, ◌%◌, ℤ, pos, ◌+ℤ◌, ◌*ℤ◌, ◌≤ℤ◌, Bool, true, false, cond, not, eqb, refl, ap, sym, ◌∙◌, subst, inl, inr, arith, List, [], ◌∷◌, length, get_or, slice_index, slice_index_or, All, AllPairs}
+use Rattle.std.proofs.Common.{◌≡◌, ℕ, zero, suc, ◌+◌, ◌<◌, ◌≤◌, ◌%◌, ℤ, pos, ◌+ℤ◌, ◌*ℤ◌, ◌≤ℤ◌, Bool, true, false, cond, not, eqb, refl, sym, ◌∙◌, subst, inl, inr, arith, List, [], ◌∷◌, length, get_or, slice_index, slice_index_or, All, AllPairs}
 use Rattle.std.proofs.lemmas.Int.{ints}
 use Rattle.std.proofs.lemmas.Bool.{cases_Bool, or_right, false≢true}
 use Rattle.std.proofs.lemmas.List.{get_or_default}
@@ -7,7 +7,7 @@ use Rattle.std.proofs.lemmas.List.Kept.{AllPairs-from_increasing}
 use Rattle.std.proofs.lemmas.List.Elements.{All-nil, All-cons}
 use Rattle.graph_theory.specs.Sums.{int_sum_to}
 use Rattle.graph_theory.specs.declared.edge.Edge.{Edge}
-use Rattle.graph_theory.specs.Graph.{Multigraph, IsGraph, IsEdgeWithin, no_edge, edge_at, edge_of, IsEdgeNumber, touches, other_end, IsPerfect}
+use Rattle.graph_theory.specs.Graph.{Multigraph, IsGraph, IsEdgeWithin, no_edge, edge_at, IsEdgeNumber, touches, other_end, IsPerfect}
 use Rattle.graph_theory.specs.Parts.{holds, crosses}
 use Rattle.graph_theory.specs.Barrier.{IsComponent, IsOddHead, IsOddCount, IsBarrier}
 use Rattle.graph_theory.proofs.SumLemmas.{int_sum_to-same, int_sum_to-le, int_sum_to-add, int_sum_to-zero, int_sum_to-one, int_sum_to-cond, times-le}

@@ -1,13 +1,12 @@
 -- Lemmas on vertices that hang together where a set is removed, and on the components that they make.
-use Rattle.std.proofs.Common.{◌≡◌, ℕ, ◌<◌, ◌≤◌, Bool, true, false, refl, ap, sym, ◌∙◌, subst, inl, inr, arith, List, [], ◌∷◌, ◌++◌, length, get_or, slice_index, All}
-use Rattle.std.specs.List.Sorted.{IsStrictlyIncreasing}
+use Rattle.std.proofs.Common.{◌≡◌, ℕ, ◌≤◌, Bool, true, false, refl, ap, sym, ◌∙◌, subst, inl, inr, arith, List, [], ◌∷◌, ◌++◌, get_or, slice_index, All}
 use Rattle.std.proofs.lemmas.Bool.{cases_Bool, false≢true}
 use Rattle.std.proofs.lemmas.List.Elements.{All-nil, All-cons, All-head, All-tail}
-use Rattle.graph_theory.specs.Graph.{Multigraph, IsEdgeWithin, no_edge, edge_of, IsEdgeNumber, touches, other_end}
+use Rattle.graph_theory.specs.Graph.{Multigraph, IsEdgeWithin, edge_of, IsEdgeNumber, touches, other_end}
 use Rattle.graph_theory.specs.Parts.{holds, IsVertexSet}
 use Rattle.graph_theory.specs.Walk.{IsWalk, walk_end, walk_vertices}
 use Rattle.graph_theory.specs.Barrier.{AreTogether, IsComponent}
-use Rattle.graph_theory.proofs.Members.{holds_place, holds_at, holds_all, holds_first, least_first, same_length, same_list}
+use Rattle.graph_theory.proofs.Members.{holds_place, holds_at, holds_all, holds_first, same_list}
 use Rattle.graph_theory.proofs.Edges.{edge_of_within, edge_back}
 use Rattle.graph_theory.proofs.Walks.{start_has, end_has, walk-append, end-append, all_vertices-append, walk-within}
 

@@ -4,6 +4,7 @@ pub mod Around
 pub mod Handshake
 pub mod Members
 pub mod Crossings
+pub mod OddParts
 pub mod Duality
 pub mod Walks
 pub mod Components

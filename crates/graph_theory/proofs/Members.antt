@@ -1,15 +1,15 @@
 -- Lemmas on the members of lists that stand for sets.
-use Rattle.std.proofs.Common.{◌≡◌, ℕ, zero, suc, ◌+◌, ◌<◌, ◌≤◌, ℤ, pos, ◌+ℤ◌, ◌≤ℤ◌, Bool, true, false, cond, ◌||◌, eqb, refl, ap, sym, ◌∙◌, subst, inl, inr, arith, List, [], ◌∷◌, ◌++◌, length, get_or, slice_index, take, All, AllPairs, add-one}
+use Rattle.std.proofs.Common.{◌≡◌, ℕ, zero, suc, ◌+◌, ◌<◌, ◌≤◌, ℤ, pos, ◌+ℤ◌, ◌≤ℤ◌, Bool, true, false, cond, ◌||◌, eqb, refl, ap, sym, ◌∙◌, subst, inl, inr, arith, List, [], ◌∷◌, ◌++◌, length, get_or, slice_index, take, sum_by, All, AllPairs, add-one}
 use Rattle.std.specs.List.Sorted.{IsStrictlyIncreasing}
 use Rattle.std.proofs.lemmas.Int.{ints}
 use Rattle.std.proofs.lemmas.Bool.{eq-eqb, ne_eqb, eqb-true, or_cases, or_right, cases_eq, false≢true}
 use Rattle.std.proofs.lemmas.Grind.{common_steps}
-use Rattle.std.proofs.lemmas.List.{get_or-take}
+use Rattle.std.proofs.lemmas.List.Sums.{sum_by-cons}
 use Rattle.std.proofs.lemmas.List.Kept.{AllPairs-from_increasing}
 use Rattle.std.proofs.lemmas.List.Elements.{All-tail, All-head}
-use Rattle.graph_theory.specs.Sums.{int_sum_to}
+use Rattle.graph_theory.specs.Sums.{sum_to, int_sum_to}
 use Rattle.graph_theory.specs.Parts.{holds}
-use Rattle.graph_theory.proofs.SumLemmas.{int_sum_to-same, int_sum_to-add, int_sum_to-le, int_sum_to-zero, int_sum_to-at_one, int_sum_to-at_none}
+use Rattle.graph_theory.proofs.SumLemmas.{sum_to-same, sum_to-zero, sum_to-add, sum_to-at_one, int_sum_to-same, int_sum_to-add, int_sum_to-le, int_sum_to-zero, int_sum_to-at_one, int_sum_to-at_none}
 
 -- a member stands at some place
 pub holds_place : (ms : List ℕ) (v : ℕ) → holds ms v ≡ true → (k : ℕ) × (k < length ms) × (get_or ms k 0 ≡ v)
@@ -126,6 +126,29 @@ members_by_pairs n (m ∷ ms) up within =
 -- of an ascending list each member is counted once
 pub members_counted : (n : ℕ) (ms : List ℕ) → IsStrictlyIncreasing ms → All (λ m. (1 ≤ m) × (m ≤ n)) ms → int_sum_to (λ i. cond (holds ms (i + 1)) (pos 1) (pos 0)) n ≡ pos (length ms)
 members_counted n ms up within = members_by_pairs n ms (AllPairs-from_increasing ms up) within
+
+-- a sum over the members of an ascending list, by numbers or along the list
+
+either_term : (p q : Bool) (a : ℕ) → (p ≡ true → q ≡ true → ⊥) → cond (p || q) a 0 ≡ cond p a 0 + cond q a 0
+either_term true true a h = absurd (h refl refl)
+either_term true false a h = omega arith
+either_term false true a h = omega arith
+either_term false false a h = omega arith
+
+sum_by_pairs : (f : ℕ → ℕ) (n : ℕ) (ms : List ℕ) → AllPairs (λ x y. x < y) ms → All (λ m. (1 ≤ m) × (m ≤ n)) ms → sum_to (λ i. cond (holds ms (i + 1)) (f (i + 1)) 0) n ≡ sum_by f ms
+sum_by_pairs f n [] up within = sum_to-zero n
+sum_by_pairs f n (m ∷ ms) up within =
+    let parts = sum_to-same (λ i. cond (holds (m ∷ ms) (i + 1)) (f (i + 1)) 0) (λ i. cond (eqb m (i + 1)) (f (i + 1)) 0 + cond (holds ms (i + 1)) (f (i + 1)) 0) n
+    (λ i b. either_term (eqb m (i + 1)) (holds ms (i + 1)) (f (i + 1)) (λ p q. let same = eqb-true m (i + 1) p in let above = first_less m ms (i + 1) up q in omega arith)) in
+    let both = sum_to-add (λ i. cond (eqb m (i + 1)) (f (i + 1)) 0) (λ i. cond (holds ms (i + 1)) (f (i + 1)) 0) n in
+    let here : (1 ≤ m) × (m ≤ n) = All-head (λ m. (1 ≤ m) × (m ≤ n)) m ms within in
+    let first = sum_to-at_one f m n here.0 here.1 in
+    let rest = sum_by_pairs f n ms (pairs_tail m ms up) (All-tail (λ m. (1 ≤ m) × (m ≤ n)) m ms within) in
+    let whole = sum_by-cons f m ms in
+    omega (arith, parts, both, first, rest, whole)
+
+pub members_sum : (f : ℕ → ℕ) (n : ℕ) (ms : List ℕ) → IsStrictlyIncreasing ms → All (λ m. (1 ≤ m) × (m ≤ n)) ms → sum_to (λ i. cond (holds ms (i + 1)) (f (i + 1)) 0) n ≡ sum_by f ms
+members_sum f n ms up within = sum_by_pairs f n ms (AllPairs-from_increasing ms up) within
 
 -- .. and of any list at most once for each place
 one_at_most : (u n : ℕ) → int_sum_to (λ i. cond (eqb u (i + 1)) (pos 1) (pos 0)) n ≤ℤ pos 1

@@ -1,5 +1,5 @@
 -- Lemmas on sums over the first numbers: same and lesser terms, sums of sums, factors, one term alone, two parts.
-use Rattle.std.proofs.Common.{◌≡◌, ℕ, zero, suc, ◌+◌, ◌*◌, ◌<◌, ◌≤◌, ℤ, pos, ◌+ℤ◌, ◌*ℤ◌, ◌≤ℤ◌, neg_ℤ, Bool, true, false, cond, eqb, refl, ap, sym, inl, inr, arith, add-one}
+use Rattle.std.proofs.Common.{◌≡◌, ℕ, zero, suc, ◌+◌, ◌*◌, ◌%◌, ◌<◌, ◌≤◌, ℤ, pos, ◌+ℤ◌, ◌*ℤ◌, ◌≤ℤ◌, neg_ℤ, Bool, true, false, cond, eqb, refl, ap, sym, inl, inr, arith, add-one}
 use Rattle.std.proofs.lemmas.Int.{ints}
 use Rattle.std.proofs.lemmas.Bool.{cases_eq, eq-eqb, ne_eqb}
 use Rattle.std.proofs.Math.Nat.{mul-le-mul_right}
@@ -226,6 +226,38 @@ int_sum_to-at_one f u (suc n) low high =
           let off : eqb u (n + 1) ≡ false = ne_eqb u (n + 1) d in
           rw off (omega (arith, ints, front))
     ]
+
+-- the same for natural terms
+
+pub sum_to-at_none : (f : ℕ → ℕ) (u n : ℕ) → n < u → sum_to (λ i. cond (eqb u (i + 1)) (f (i + 1)) 0) n ≡ 0
+sum_to-at_none f u zero h = refl
+sum_to-at_none f u (suc n) h =
+    let front = sum_to-at_none f u n (omega arith) in
+    let off : eqb u (n + 1) ≡ false = ne_eqb u (n + 1) (λ e. omega arith) in
+    rw off (omega (arith, front))
+
+pub sum_to-at_one : (f : ℕ → ℕ) (u n : ℕ) → 1 ≤ u → u ≤ n → sum_to (λ i. cond (eqb u (i + 1)) (f (i + 1)) 0) n ≡ f u
+sum_to-at_one f u zero low high = absurd (omega arith)
+sum_to-at_one f u (suc n) low high =
+    elim (cases_eq u (n + 1)) [
+      | inl e ↦
+          let front = sum_to-at_none f u n (omega arith) in
+          let on : eqb u (n + 1) ≡ true = eq-eqb u (n + 1) e in
+          let same : f (n + 1) ≡ f u = ap f (sym e) in
+          rw on (omega (arith, front, same))
+      | inr d ↦
+          let front = sum_to-at_one f u n low (omega arith) in
+          let off : eqb u (n + 1) ≡ false = ne_eqb u (n + 1) d in
+          rw off (omega (arith, front))
+    ]
+
+-- terms of the same parity have sums of the same parity
+pub sum_to-parity : (f g : ℕ → ℕ) (n : ℕ) → ((k : ℕ) → k < n → f k % 2 ≡ g k % 2) → sum_to f n % 2 ≡ sum_to g n % 2
+sum_to-parity f g zero h = refl
+sum_to-parity f g (suc n) h =
+    let front = sum_to-parity f g n (λ k b. h k (omega arith)) in
+    let last : f n % 2 ≡ g n % 2 = h n (omega arith) in
+    omega (arith, front, last)
 
 -- one term is at most a sum of natural ones
 pub sum_to-has : (f : ℕ → ℕ) (n k : ℕ) → k < n → f k ≤ sum_to f n

@@ -1,14 +1,14 @@
 -- Lemmas on walks: their edges and vertices, one walk after another, back again, and sets that they can't leave.
-use Rattle.std.proofs.Common.{◌≡◌, ℕ, ◌+◌, ◌-◌, ◌<◌, ◌≤◌, ℤ, pos, ◌+ℤ◌, Bool, true, false, not, cond, ◌||◌, eqb, refl, ap, sym, ◌∙◌, subst, inl, inr, arith, List, [], ◌∷◌, ◌++◌, length, reverse, All}
+use Rattle.std.proofs.Common.{◌≡◌, ℕ, ◌+◌, ◌-◌, ◌≤◌, ◌+ℤ◌, Bool, true, false, not, cond, eqb, refl, ap, sym, ◌∙◌, subst, inl, inr, arith, List, [], ◌∷◌, ◌++◌, length, reverse, All}
 use Rattle.std.proofs.lemmas.Int.{ints}
-use Rattle.std.proofs.lemmas.Bool.{cases_Bool, eqb-true, eq-eqb, ne_eqb, or_right, or_cases, false≢true}
+use Rattle.std.proofs.lemmas.Bool.{cases_Bool, eqb-true, or_cases, false≢true}
 use Rattle.std.proofs.lemmas.List.{reverse-append}
 use Rattle.std.proofs.lemmas.List.Elements.{All-nil, All-cons, All-head, All-tail}
 use Rattle.graph_theory.specs.declared.edge.Edge.{Edge}
 use Rattle.graph_theory.specs.Graph.{Multigraph, IsEdgeWithin, no_edge, edge_at, edge_of, IsEdgeNumber, touches, other_end}
-use Rattle.graph_theory.specs.Parts.{holds, crosses, LeavesNone}
+use Rattle.graph_theory.specs.Parts.{holds, crosses, LeavesNone, IsSplitPart}
 use Rattle.graph_theory.specs.Walk.{IsWalk, walk_end, walk_left, walk_vertices, walk_weight}
-use Rattle.graph_theory.proofs.Edges.{edge_of_within, other_end-within, touched-within, edge_back}
+use Rattle.graph_theory.proofs.Edges.{edge_of_within, edge_of-place, number_of-place, other_end-within, touched-within, edge_back}
 
 -- what a walk comes to
 
@@ -160,3 +160,37 @@ leaves_none-edge g set e v closed is meets =
 pub leaves_none-walk : (g : Multigraph) (set : List ℕ) (v : ℕ) (es : List ℕ) → LeavesNone g set → IsWalk g v es → holds set (walk_end g v es) ≡ holds set v
 leaves_none-walk g set v [] closed walk = refl
 leaves_none-walk g set v (e ∷ es) closed walk = leaves_none-walk g set (other_end (edge_of g e) v) es closed walk.2 ∙ leaves_none-edge g set e v closed walk.0 walk.1
+
+first_side : (g : Multigraph) (set : List ℕ) (e v : ℕ) → LeavesNone g set → IsEdgeNumber g e → touches (edge_of g e) v ≡ true → holds set (edge_of g e).u ≡ holds set v
+first_side g set e v closed is meets =
+    elim (or_cases (eqb (edge_of g e).u v) (eqb (edge_of g e).v v) meets) [
+      | inl at_u ↦ ap (holds set) (eqb-true (edge_of g e).u v at_u)
+      | inr at_v ↦
+          let low : 1 ≤ e = is.0 in
+          let high : e ≤ length g.edges = is.1 in
+          let stays : crosses set (edge_of g e) ≡ false = closed (e - 1) no_edge (omega arith) in
+          same_side (holds set (edge_of g e).u) (holds set (edge_of g e).v) stays ∙ ap (holds set) (eqb-true (edge_of g e).v v at_v)
+    ]
+
+-- both ends of an edge that a walk uses lie where its start does
+pub leaves_none-used : (g : Multigraph) (set : List ℕ) (v : ℕ) (es : List ℕ) (e : ℕ) → LeavesNone g set → IsWalk g v es → holds es e ≡ true → holds set (edge_of g e).u ≡ holds set v
+leaves_none-used g set v [] e closed walk used = absurd (false≢true used)
+leaves_none-used g set v (f ∷ fs) e closed walk used =
+    elim (or_cases (eqb f e) (holds fs e) used) [
+      | inl same ↦
+          let here : edge_of g f ≡ edge_of g e = ap (edge_of g) (eqb-true f e same) in
+          sym (ap (λ (x : Edge). holds set x.u) here) ∙ first_side g set f v closed walk.0 walk.1
+      | inr later ↦ leaves_none-used g set (other_end (edge_of g f) v) fs e closed walk.2 later ∙ leaves_none-edge g set f v closed walk.0 walk.1
+    ]
+
+place_side : (g : Multigraph) (set : List ℕ) (v : ℕ) (es : List ℕ) (k : ℕ) → LeavesNone g set → IsWalk g v es → holds es (k + 1) ≡ true → holds set (edge_at g k).u ≡ holds set v
+place_side g set v es k closed walk used = sym (ap (λ (x : Edge). holds set x.u) (edge_of-place g k)) ∙ leaves_none-used g set v es (k + 1) closed walk used
+
+-- where no edge leaves a set, no walk uses both an edge in it and an edge outside
+pub split_part_excludes : (g : Multigraph) (set : List ℕ) (v : ℕ) (es : List ℕ) → IsSplitPart g set → IsWalk g v es → ((e : ℕ) → IsEdgeNumber g e → holds es e ≡ true) → ⊥
+split_part_excludes g set v es part walk all =
+    let within : holds set (edge_at g part.inside.0).u ≡ true = part.inside.2 in
+    let beyond : holds set (edge_at g part.outside.0).u ≡ false = part.outside.2 in
+    let one = place_side g set v es part.inside.0 part.closed walk (all (part.inside.0 + 1) (number_of-place g part.inside.0 part.inside.1)) in
+    let other = place_side g set v es part.outside.0 part.closed walk (all (part.outside.0 + 1) (number_of-place g part.outside.0 part.outside.1)) in
+    absurd (false≢true (sym beyond ∙ other ∙ sym one ∙ within))

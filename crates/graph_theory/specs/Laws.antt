@@ -1,8 +1,10 @@
 -- The theorems that certificates rest on, as facts about all graphs.
-use Rattle.std.specs.Prelude.{◌≡◌, ℕ, ◌+◌, ℤ, pos, ◌+ℤ◌, ◌*ℤ◌, ◌≤ℤ◌, List, length, All, slice_index}
+use Rattle.std.specs.Prelude.{◌≡◌, ℕ, ◌+◌, ◌≤◌, ◌%◌, ℤ, pos, ◌+ℤ◌, ◌*ℤ◌, ◌≤ℤ◌, Bool, true, ◌↔◌, List, length, All, slice_index}
 use Rattle.graph_theory.specs.Sums.{int_sum_to}
 use Rattle.graph_theory.specs.declared.odd_set.OddSet.{OddSet}
-use Rattle.graph_theory.specs.Graph.{Multigraph, IsGraph, IsEdgeWithin, edge_at, degree, weight, IsPerfect}
+use Rattle.graph_theory.specs.Graph.{Multigraph, IsGraph, IsEdgeWithin, edge_at, IsEdgeNumber, degree, weight, IsPerfect}
+use Rattle.graph_theory.specs.Parts.{holds, IsOddPart, IsSplitPart}
+use Rattle.graph_theory.specs.Walk.{IsWalk}
 use Rattle.graph_theory.specs.Duals.{AreDuals, dual_value}
 use Rattle.graph_theory.specs.Barrier.{IsBarrier}
 
@@ -17,3 +19,11 @@ WeakDuality = (g : Multigraph) (y : List ℤ) (sets : List OddSet) (counts : Lis
 -- the easy direction of Tutte's theorem (24): a graph with a barrier has no perfect matching
 abbrev pub BarrierExcludes : Type 0
 BarrierExcludes = (g : Multigraph) (removed counts : List ℕ) → IsGraph g → IsBarrier g removed → IsPerfect g counts → ⊥
+
+-- a set that no edge leaves and that holds an odd number of the vertices of T excludes T-joins (29)
+abbrev pub OddPartExcludes : Type 0
+OddPartExcludes = (g : Multigraph) (terminal : ℕ → Bool) (set counts : List ℕ) → IsGraph g → IsOddPart g terminal set → ((v : ℕ) → 1 ≤ v → v ≤ g.vertices → (degree g counts v % 2 ≡ 1) ↔ (terminal v ≡ true)) → ⊥
+
+-- a set that no edge leaves, with edges inside and outside, excludes walks that use all edges
+abbrev pub SplitPartExcludes : Type 0
+SplitPartExcludes = (g : Multigraph) (set : List ℕ) (v : ℕ) (es : List ℕ) → IsSplitPart g set → IsWalk g v es → ((e : ℕ) → IsEdgeNumber g e → holds es e ≡ true) → ⊥
