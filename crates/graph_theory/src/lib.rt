@@ -1,7 +1,6 @@
-//! The theory of undirected multigraphs with whole weights that certificates rest on: degrees,
-//! weights, walks, circuits, components, barriers, and duals on vertices and odd sets.
-//! It stands on `mb_base`. It promises the definitions that contracts cite, and lemmas about them:
-//! the handshake lemma, weak duality with odd sets, and that a barrier excludes a perfect matching.
+//! What certificates on undirected multigraphs rest on: degrees, weights, walks, components, duals on odd sets.
+//! It stands on `mb_base`, and holds the definitions that contracts cite and lemmas about them.
+//! It promises the handshake lemma, weak duality with odd sets, and what barriers, odd and split parts exclude.
 #![tactic(auto)]
 
 mod edge;
