@@ -7,3 +7,7 @@ sum_to-more f n = rw add-one refl
 
 pub int_sum_to-more : (f : ℕ → ℤ) (n : ℕ) → int_sum_to f (n + 1) ≡ int_sum_to f n +ℤ f n
 int_sum_to-more f n = rw add-one refl
+
+-- a running sum and the next term are the longer sum
+pub sum_to-step : (f : ℕ → ℕ) (n s x : ℕ) → s ≡ sum_to f n → x ≡ f n → s + x ≡ sum_to f (n + 1)
+sum_to-step f n s x so_far next = rw (so_far, next, sum_to-more f n) refl

@@ -4,3 +4,4 @@ pub mod Size
 pub mod Measured
 pub mod Degrees
 pub mod Counted
+pub mod Rooms

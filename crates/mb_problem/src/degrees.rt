@@ -62,6 +62,7 @@ pub fn count_edges(degrees: &mut [u64], instance: &Instance)
     requires start { (k : ℕ) → k < length degrees.old → slice_index degrees.old k ≡ 0 }
     ensures size { length degrees.new ≡ length degrees.old }
     ensures counts { (k : ℕ) → k < vertices instance.now → slice_index degrees.new k ≡ edge_count_at instance.now (k + 1) }
+    ensures small { (k : ℕ) → k < vertices instance.now → slice_index degrees.new k ≤ 131072 }
 {
     for edge in instance.edge_list() {
         add_edge(degrees, edge, 1);

@@ -10,9 +10,11 @@ mod feasibility;
 mod instance;
 mod kind;
 mod measure;
+mod size;
 
 pub use answer::{Answer, Join, Parity};
 pub use feasibility::feasible;
 pub use instance::{Instance, InstanceEdge};
 pub use kind::Kind;
 pub use measure::{degree, weight};
+pub use size::gadget_size;
