@@ -3,6 +3,7 @@ ghost use Rattle.std.specs.Prelude.{◌≡◌, ℕ, ◌+◌, ◌-◌, ◌<◌, �
 use mb_base::{EdgeId, OutOfMemory, VertexId};
 use std::alloc::Global;
 use std::marker::Model;
+use weighted_graph::Graph;
 
 /// An edge of an instance: its ends, its weight, and its capacity where it has one.
 #[derive(Clone, Copy, Debug, PartialEq, Eq)]
@@ -148,5 +149,16 @@ impl Instance {
         ensures network { IsNetwork self.now }
     {
         &self.values
+    }
+
+    /// The graph of the instance: its edges without their capacities.
+    pub fn graph(&self) -> Result<Graph, OutOfMemory>
+        ensures { IfOk result (λ g. g ≡ graph_of self.now) }
+    {
+        let mut graph = Graph::new(self.alloc, self.vertices());
+        for edge in self.edge_list() {
+            graph.add(edge.u, edge.v, edge.w)?;
+        }
+        Ok(graph)
     }
 }
