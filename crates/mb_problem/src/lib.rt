@@ -18,3 +18,6 @@ pub use instance::{Instance, InstanceEdge};
 pub use kind::Kind;
 pub use measure::{degree, weight};
 pub use size::gadget_size;
+
+#[cfg(test)]
+mod tests;

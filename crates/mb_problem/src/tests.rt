@@ -1,0 +1,91 @@
+ghost use Rattle.mb_problem.specs.Counted.{IsCountKind};
+
+use super::*;
+use mb_base::{EdgeId, OutOfMemory, Sequence, VertexId};
+use std::alloc::Global;
+use std::test::Fail;
+
+/// Whether these counts are feasible.
+fn allows(
+    alloc: Global,
+    instance: &Instance,
+    kind: Kind,
+    counts: &[u32],
+) -> Result<bool, OutOfMemory>
+    requires { IsCountKind kind }
+{
+    let counts = Sequence::from_vec(Vec::from_slice(alloc, counts)?);
+    feasible(alloc, instance, kind, &Answer::Counts(counts))
+}
+
+#[test]
+fn triangle(rt: HostRuntime) -> Result<(), Fail> {
+    let alloc = rt.alloc();
+    let (one, two, three) = (VertexId::new(1), VertexId::new(2), VertexId::new(3));
+    let mut instance = Instance::new(alloc, 3, 2)?;
+    instance.add_edge(one, two, 5, Some(1))?;
+    instance.add_edge(two, three, -1, None)?;
+    let last = instance.add_edge(three, one, 2, Some(4096))?;
+    assert_eq!(rt; instance.vertices(), 3);
+    assert_eq!(rt; instance.edges(), 3);
+    assert_eq!(rt; last.number(), 3);
+    assert_eq!(rt; instance.edge(last), (three, one, 2, Some(4096)));
+    assert_eq!(rt; instance.graph()?.edge(last), (three, one, 2));
+    assert_eq!(rt; degree(&instance, &[1, 2, 4], two), 3);
+    let walk = Vec::from_slice(alloc, &[last, EdgeId::new(2), EdgeId::new(2)])?;
+    let walk = Answer::Walk {
+        start: one,
+        edges: Sequence::from_vec(walk),
+    };
+    assert_eq!(rt; weight(&instance, &walk), 0);
+    assert_eq!(rt; feasible(alloc, &instance, Kind::Match, &walk)?, false);
+    let counts = Answer::Counts(Sequence::from_vec(Vec::from_slice(alloc, &[1, 2, 4])?));
+    assert_eq!(rt; weight(&instance, &counts), 11);
+    assert_eq!(rt; weight(&instance, &Answer::Nothing), 0);
+    assert_eq!(rt; allows(alloc, &instance, Kind::FFactor, &[1, 1, 1])?, true);
+    assert_eq!(rt; allows(alloc, &instance, Kind::TJoin, &[1, 1, 1])?, true);
+    assert_eq!(rt; allows(alloc, &instance, Kind::TJoin, &[1, 1, 0])?, false);
+    assert_eq!(rt; allows(alloc, &instance, Kind::Match, &[1, 1, 1])?, false);
+    assert_eq!(rt; allows(alloc, &instance, Kind::Match, &[0, 0, 1])?, true);
+    Ok(())
+}
+
+#[test]
+fn one_edge_with_a_capacity(rt: HostRuntime) -> Result<(), Fail> {
+    let alloc = rt.alloc();
+    let (one, two) = (VertexId::new(1), VertexId::new(2));
+    let mut instance = Instance::new(alloc, 2, 1)?;
+    instance.add_edge(one, two, 7, Some(1))?;
+    assert_eq!(rt; allows(alloc, &instance, Kind::Perfect, &[1])?, true);
+    assert_eq!(rt; allows(alloc, &instance, Kind::CapMatch, &[1])?, true);
+    assert_eq!(rt; allows(alloc, &instance, Kind::Perfect, &[0])?, false);
+    assert_eq!(rt; allows(alloc, &instance, Kind::Perfect, &[1, 0])?, false);
+    instance.set_value(one, 2);
+    instance.set_value(two, 2);
+    assert_eq!(rt; instance.value(two), 2);
+    assert_eq!(rt; allows(alloc, &instance, Kind::BMatch, &[2])?, true);
+    assert_eq!(rt; allows(alloc, &instance, Kind::CapMatch, &[2])?, false);
+    assert_eq!(rt; gadget_size(&instance, Kind::CapMatch), (6, 5));
+    instance.set_value(one, 2049);
+    instance.set_value(two, 2049);
+    assert_eq!(rt; gadget_size(&instance, Kind::BMatch), (4098, 4_198_401));
+    Ok(())
+}
+
+#[test]
+fn sizes(rt: HostRuntime) -> Result<(), Fail> {
+    let alloc = rt.alloc();
+    let empty = Instance::new(alloc, 4096, 1)?;
+    assert_eq!(rt; gadget_size(&empty, Kind::Match), (8192, 4096));
+    let (one, two, three) = (VertexId::new(1), VertexId::new(2), VertexId::new(3));
+    let mut instance = Instance::new(alloc, 3, 1)?;
+    instance.set_value(two, 0);
+    instance.add_edge(one, two, 0, None)?;
+    instance.add_edge(two, three, 0, None)?;
+    assert_eq!(rt; gadget_size(&instance, Kind::Postman), (4, 3));
+    instance.add_edge(one, three, 0, None)?;
+    assert_eq!(rt; gadget_size(&instance, Kind::Path), (8, 10));
+    assert_eq!(rt; instance.edge_list().len(), 3);
+    assert_eq!(rt; instance.value_list(), [1, 0, 1].as_slice());
+    Ok(())
+}
