@@ -1,0 +1,3 @@
+pub mod SumSteps
+pub mod EdgeLists
+pub mod CrossLemmas
