@@ -1,15 +1,17 @@
 -- Lemmas on what crosses sets.
-use Rattle.std.proofs.Common.{◌≡◌, ◌∙◌, sym, ap, ap₂, subst, refl, inl, inr, arith, ℕ, zero, suc, ◌+◌, ◌*◌, ◌^◌, ◌<◌, ◌≤◌, ℤ, pos, neg_ℤ, ◌+ℤ◌, ◌≤ℤ◌, Bool, true, false, not, cond, eqb, ◌||◌, ◌&&◌, List, length, get_or, take, All, slice_index_or}
+use Rattle.std.proofs.Common.{◌≡◌, ◌∙◌, sym, ap, ap₂, subst, refl, inl, inr, arith, ℕ, zero, suc, ◌+◌, ◌-◌, ◌*◌, ◌^◌, ◌<◌, ◌≤◌, ℤ, pos, neg_ℤ, ◌+ℤ◌, ◌-ℤ◌, ◌*ℤ◌, ◌≤ℤ◌, Bool, true, false, not, cond, eqb, ◌||◌, ◌&&◌, List, length, get_or, take, All, slice_index_or}
 use Rattle.std.proofs.lemmas.Int.{ints}
 use Rattle.std.proofs.lemmas.Bool.{false≢true, eqb-true, cases_eq, eq-eqb, ne_eqb}
 use Rattle.std.specs.List.Sorted.{IsStrictlyIncreasing}
 use Rattle.graph_theory.specs.declared.edge.Edge.{Edge}
 use Rattle.graph_theory.specs.declared.odd_set.OddSet.{OddSet}
-use Rattle.graph_theory.specs.Graph.{Multigraph, IsEdgeNumber, edge_of, edges_around, touches, other_end}
+use Rattle.graph_theory.specs.Graph.{Multigraph, edge_at, edge_of, touches, other_end}
 use Rattle.graph_theory.specs.Parts.{crosses, holds}
-use Rattle.graph_theory.specs.Duals.{crossed_by, set_at, no_set, IsNumber}
+use Rattle.graph_theory.specs.Duals.{crossed_by, set_at, no_set, IsNumber, dual_of, slack}
 use Rattle.dual_check.specs.Crossed.{is_marked, leads_out}
-use Rattle.dual_check.proofs.EdgeLists.{IsBelow, below-is, below-has, below-ascending, fresh, holds_at, holds-take, holds-of_take}
+use Rattle.std.proofs.lemmas.List.{get_or_read}
+use Rattle.dual_check.proofs.SumSteps.{int_sum_to-more}
+use Rattle.dual_check.proofs.EdgeLists.{fresh, holds_at, holds-take, holds-of_take}
 
 either : (t : Bool) (a : ℤ) → IsNumber a → (neg_ℤ (pos (10 ^ 15)) ≤ℤ cond t a (pos 0)) × (cond t a (pos 0) ≤ℤ pos (10 ^ 15))
 either true a h = h
@@ -26,7 +28,7 @@ crossed-within sets (suc n) e b small =
 
 -- One more member x is taken. p and q: the ends are members; i and j: they are taken so far; a and b: they are x.
 pub one_end : (p q i j a b : Bool) (d : ℤ) → (a ≡ true → p ≡ true) → (b ≡ true → q ≡ true) → (a ≡ true → i ≡ false) → (b ≡ true → j ≡ false) → (i ≡ true → p ≡ true) → (j ≡ true → q ≡ true)
-  → cond (cond p (not q) q && ((i || a) || (j || b))) d (pos 0) ≡ cond (cond p (not q) q && (i || j)) d (pos 0) +ℤ cond ((a || b) && not (cond a q p)) d (pos 0)
+    → cond (cond p (not q) q && ((i || a) || (j || b))) d (pos 0) ≡ cond (cond p (not q) q && (i || j)) d (pos 0) +ℤ cond ((a || b) && not (cond a q p)) d (pos 0)
 one_end true true i j true b d ap bq ai bj ip jq = refl
 one_end true true i j false true d ap bq ai bj ip jq = refl
 one_end true true i j false false d ap bq ai bj ip jq = refl
@@ -58,9 +60,9 @@ is_fresh s i v up b same = subst (λ (w : ℕ). holds (take i s) w ≡ false) (s
 
 turned : (a b : ℕ) → eqb a b ≡ eqb b a
 turned a b = elim (cases_eq a b) [
-    | inl e ↦ eq-eqb a b e ∙ sym (eq-eqb b a (sym e))
-    | inr d ↦ ne_eqb a b d ∙ sym (ne_eqb b a (λ same. d (sym same)))
-  ]
+  | inl e ↦ eq-eqb a b e ∙ sym (eq-eqb b a (sym e))
+  | inr d ↦ ne_eqb a b d ∙ sym (ne_eqb b a (λ same. d (sym same)))
+]
 
 end_held : (s : List ℕ) (t : Bool) (v u : ℕ) → holds s (cond t v u) ≡ cond t (holds s v) (holds s u)
 end_held s true v u = refl
@@ -68,7 +70,7 @@ end_held s false v u = refl
 
 -- the next member gives what leads from it out of the marks, which are at the members
 pub next_member : (s : List ℕ) (marks : List Bool) (i : ℕ) (e : Edge) (dual : ℤ) → IsStrictlyIncreasing s → i < length s → ((w : ℕ) → is_marked marks w ≡ holds s w)
-  → given_by s (i + 1) e dual ≡ given_by s i e dual +ℤ cond (leads_out marks (get_or s i 0) e) dual (pos 0)
+    → given_by s (i + 1) e dual ≡ given_by s i e dual +ℤ cond (leads_out marks (get_or s i 0) e) dual (pos 0)
 next_member s marks i e dual up b marked =
     let x = get_or s i 0 in
     let u = e.u in
@@ -78,8 +80,12 @@ next_member s marks i e dual up b marked =
     let other : is_marked marks (other_end e x) ≡ cond (eqb u x) (holds s v) (holds s u) = marked (other_end e x) ∙ end_held s (eqb u x) v u in
     let back : cond ((eqb u x || eqb v x) && not (cond (eqb u x) (holds s v) (holds s u))) dual (pos 0) ≡ cond (leads_out marks x e) dual (pos 0) = ap (λ t. cond ((eqb u x || eqb v x) && not t) dual (pos 0)) (sym other) in
     let step = one_end (holds s u) (holds s v) (holds (take i s) u) (holds (take i s) v) (eqb u x) (eqb v x) dual
-      (is_member s i u b) (is_member s i v b) (is_fresh s i u up b) (is_fresh s i v up b) (holds-of_take s i u) (holds-of_take s i v) in
+    (is_member s i u b) (is_member s i v b) (is_fresh s i u up b) (is_fresh s i v up b) (holds-of_take s i u) (holds-of_take s i v) in
     front ∙ step ∙ ap (λ z. given_by s i e dual +ℤ z) back
+
+pub next_given : (s : List ℕ) (marks : List Bool) (i x : ℕ) (e : Edge) (dual : ℤ) → IsStrictlyIncreasing s → i < length s → x ≡ get_or s i 0 → ((w : ℕ) → is_marked marks w ≡ holds s w)
+    → given_by s (i + 1) e dual ≡ given_by s i e dual +ℤ cond (leads_out marks x e) dual (pos 0)
+next_given s marks i x e dual up b here marked = next_member s marks i e dual up b marked ∙ ap (λ (y : ℕ). given_by s i e dual +ℤ cond (leads_out marks y e) dual (pos 0)) (sym here)
 
 -- at the end the members give the dual at each edge that crosses the set
 crossed_some : (p q : Bool) → (cond p (not q) q && (p || q)) ≡ cond p (not q) q
@@ -91,28 +97,16 @@ crossed_some false false = refl
 pub all_members : (s : List ℕ) (e : Edge) → (crosses s e && (holds s e.u || holds s e.v)) ≡ crosses s e
 all_members s e = crossed_some (holds s e.u) (holds s e.v)
 
--- the edge at place i of the list of the edges at v: none before it is the same
-pub record IsNext (g : Multigraph) (v : ℕ) (xs : List ℕ) (i : ℕ) : Type 0 where
-  pub low : 1 ≤ get_or xs i 0
-  pub high : get_or xs i 0 ≤ length g.edges
-  pub new : holds (take i xs) (get_or xs i 0) ≡ false
+-- one more set
+pub crossed_by-more : (sets : List OddSet) (i : ℕ) (s : OddSet) (e : Edge) → i < length sets → s ≡ slice_index_or sets i s → crossed_by sets (i + 1) e ≡ crossed_by sets i e +ℤ cond (crosses s.members e) s.dual (pos 0)
+crossed_by-more sets i s e b is =
+    int_sum_to-more (λ j. cond (crosses (set_at sets j).members e) (set_at sets j).dual (pos 0)) i
+    ∙ ap (λ (t : OddSet). crossed_by sets i e +ℤ cond (crosses t.members e) t.dual (pos 0)) (sym (get_or_read sets i s b is no_set))
 
-pub next_edge : (g : Multigraph) (v : ℕ) (xs : List ℕ) (i : ℕ) → xs ≡ edges_around g v → i < length xs → IsNext g v xs i
-next_edge g v xs i is b =
-    let ys = edges_around g v in
-    let c : i < length ys = subst (λ (zs : List ℕ). i < length zs) is b in
-    let at = below-is g v (length g.edges) (get_or ys i 0) (holds_at ys i 0 c) in
-    let P : List ℕ → Type 0 = λ zs. IsNext g v zs i in
-    subst P (sym is) (record { low = at.low; high = at.high; new = fresh ys i (below-ascending g v (length g.edges)) c })
-
-and_false : (b : Bool) → (b && false) ≡ false
-and_false true = refl
-and_false false = refl
-
--- of the edges that lead out from v none is missing at the end of the list
-pub all_edges : (g : Multigraph) (marks : List Bool) (v : ℕ) (xs : List ℕ) (e : ℕ) → xs ≡ edges_around g v → IsEdgeNumber g e → (holds xs e && leads_out marks v (edge_of g e)) ≡ leads_out marks v (edge_of g e)
-all_edges g marks v xs e is b = go (touches (edge_of g e) v) refl
-  where
-    go : (t : Bool) → touches (edge_of g e) v ≡ t → (holds xs e && leads_out marks v (edge_of g e)) ≡ leads_out marks v (edge_of g e)
-    go true t = let has = subst (λ (zs : List ℕ). holds zs e ≡ true) (sym is) (below-has g v (length g.edges) e (record { low = b.0; high = b.1; meets = t })) in ap (λ h. h && leads_out marks v (edge_of g e)) has
-    go false t = let out : leads_out marks v (edge_of g e) ≡ false = ap (λ h. h && not (is_marked marks (other_end (edge_of g e) v))) t in ap (λ o. holds xs e && o) out ∙ and_false (holds xs e) ∙ sym out
+-- the slack of the edge at place k, from what is added up at its number
+pub slack_is : (g : Multigraph) (y : List ℤ) (sets : List OddSet) (k : ℕ) (e : Edge) (total result : ℤ) → edge_at g k ≡ e → total ≡ crossed_by sets (length sets) (edge_of g (k + 1))
+    → result ≡ pos 2 *ℤ e.w -ℤ dual_of y e.u -ℤ dual_of y e.v -ℤ total → result ≡ slack y sets (edge_at g k)
+slack_is g y sets k e total result here crossed value =
+    let place : k + 1 - 1 ≡ k = omega arith in
+    let all : total ≡ crossed_by sets (length sets) e = crossed ∙ ap (λ (f : Edge). crossed_by sets (length sets) f) (ap (edge_at g) place ∙ here) in
+    value ∙ ap (λ z. pos 2 *ℤ e.w -ℤ dual_of y e.u -ℤ dual_of y e.v -ℤ z) all ∙ ap (slack y sets) (sym here)

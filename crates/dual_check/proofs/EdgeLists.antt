@@ -95,13 +95,13 @@ below-has g v (suc n) e b = go (λ less. below-has g v n e (record { low = b.low
   where
     go : (e ≤ n → holds (edges_below g v n) e ≡ true) → (c : Bool) → touches (edge_at g n) v ≡ c → holds (edges_below g v (suc n)) e ≡ true
     go ih true c = ap (λ d. holds (cond d (edges_below g v n ++ suc n ∷ []) (edges_below g v n)) e) c ∙ holds-push (edges_below g v n) (suc n) e ∙ elim (cases_eq (suc n) e) [
-        | inl s ↦ or_right (holds (edges_below g v n) e) (eqb (suc n) e) (eq-eqb (suc n) e s)
-        | inr d ↦ or_left (holds (edges_below g v n) e) (eqb (suc n) e) (ih (omega (arith, d, b.high)))
-      ]
+      | inl s ↦ or_right (holds (edges_below g v n) e) (eqb (suc n) e) (eq-eqb (suc n) e s)
+      | inr d ↦ or_left (holds (edges_below g v n) e) (eqb (suc n) e) (ih (omega (arith, d, b.high)))
+    ]
     go ih false c = ap (λ d. holds (cond d (edges_below g v n ++ suc n ∷ []) (edges_below g v n)) e) c ∙ elim (cases_eq (suc n) e) [
-        | inl s ↦ absurd (false≢true (sym c ∙ ap (λ (f : _). touches f v) (sym (last g n)) ∙ subst (λ (x : ℕ). touches (edge_of g x) v ≡ true) (sym s) b.meets))
-        | inr d ↦ ih (omega (arith, d, b.high))
-      ]
+      | inl s ↦ absurd (false≢true (sym c ∙ ap (λ (f : _). touches f v) (sym (last g n)) ∙ subst (λ (x : ℕ). touches (edge_of g x) v ≡ true) (sym s) b.meets))
+      | inr d ↦ ih (omega (arith, d, b.high))
+    ]
 
 rises-push : (xs : List ℕ) (y : ℕ) → IsStrictlyIncreasing xs → All (λ x. x < y) xs → IsStrictlyIncreasing (xs ++ y ∷ [])
 rises-push xs y up below = grind (arith, common_steps)

@@ -66,7 +66,14 @@ fn add_set(
     let members = set.members.as_slice();
     mark(marks, members);
     for vertex in members {
-        add_from(graph, incidence.at(*vertex), marks, *vertex, set.dual, totals);
+        add_from(
+            graph,
+            incidence.at(*vertex),
+            marks,
+            *vertex,
+            set.dual,
+            totals,
+        );
     }
     unmark(marks, members);
 }

@@ -1,7 +1,7 @@
 use Rattle.std.proofs.Common.{arith}
 use Rattle.std.proofs.lemmas.Int.{ints}
 use Rattle.graph_theory.specs.Duals.{AreDuals}
-use Rattle.graph_theory.proofs.DualLemmas.{weak_duality}
+use Rattle.graph_theory.proofs.Duality.{weak_duality}
 use Rattle.dual_check.proofs.duals.bound.Goals as goal
 
 pub returns-clause-below : goal.returns-clause-below
@@ -12,5 +12,5 @@ returns-clause-below c = λ counts perfect.
       forms = c.in_default.ensures;
       slacks = c.in_default-first_slack_fault.ensures.slacks;
     } in
-    let least = weak_duality c.args.graph.now c.args.y.now c.args.sets.now counts c.in_default-first_slack_fault.ensures.good duals perfect in
+    let least = weak_duality c.args.graph.now c.args.y.now c.args.sets.now counts c.in_default-first_slack_fault.ensures.graph duals perfect in
     omega (arith, ints, least)
