@@ -1,0 +1,4 @@
+pub mod SumSteps
+pub mod EdgeLists
+pub mod CrossLemmas
+pub mod AddLemmas

@@ -1,0 +1,12 @@
+use Rattle.std.proofs.Common.{pos, arith, slice_index_or}
+use Rattle.std.proofs.lemmas.Int.{ints}
+use Rattle.graph_theory.specs.Duals.{IsNumber}
+use Rattle.dual_check.proofs.SumSteps.{int_sum_to-more}
+use Rattle.dual_check.proofs.duals.vertex_total.Goals as goal
+
+pub loop-a-preserved : goal.loop-a-preserved
+loop-a-preserved c =
+    let i = c.loop-a.a-index in
+    let step = int_sum_to-more (λ k. slice_index_or c.args.y.now k (pos 0)) i in
+    let small : IsNumber (slice_index_or c.args.y.now i (pos 0)) = c.requires i (pos 0) (omega arith) in
+    (omega (arith, ints), omega (arith, ints), omega (arith, ints))

@@ -1,0 +1,16 @@
+use Rattle.std.proofs.Common.{◌≡◌, arith, ap}
+use Rattle.std.proofs.lemmas.Int.{ints}
+use Rattle.std.proofs.lemmas.List.{get_or_read}
+use Rattle.graph_theory.specs.declared.odd_set.OddSet.{OddSet}
+use Rattle.graph_theory.specs.Duals.{IsNumber, set_at, no_set}
+use Rattle.dual_check.proofs.SumSteps.{int_sum_to-more}
+use Rattle.dual_check.proofs.sets.set_total.Goals as goal
+
+pub loop-set-preserved : goal.loop-set-preserved
+loop-set-preserved c =
+    let i = c.loop-set.set-index in
+    let s = c.set-item.result in
+    let step = int_sum_to-more (λ j. (set_at c.args.sets.now j).dual) i in
+    let here : s.dual ≡ (set_at c.args.sets.now i).dual = ap (λ (t : OddSet). t.dual) (get_or_read c.args.sets.now i s (omega arith) c.set-item.is no_set) in
+    let small : IsNumber (set_at c.args.sets.now i).dual = c.requires i no_set (omega arith) in
+    (omega (arith, ints), omega (arith, ints), omega (arith, ints))

@@ -1,0 +1,26 @@
+-- When a fault is the first of duals: the sets come before the slacks. Sets and edges count from 1.
+use Rattle.std.specs.Prelude.{ℕ, ◌-◌, ◌<◌, ◌≤◌, ℤ, pos, ◌≤ℤ◌, ◌<ℤ◌, List, length, All}
+use Rattle.graph_theory.specs.declared.odd_set.OddSet.{OddSet}
+use Rattle.graph_theory.specs.Graph.{Multigraph, IsEdgeNumber, edge_of}
+use Rattle.graph_theory.specs.Duals.{HasForm, set_at, slack}
+use Rattle.dual_check.specs.declared.fault.DualFault.{DualFault}
+use Rattle.dual_check.specs.declared.fault.DualFault.TheVariants.{SetForm, Slack, OutOfMemory}
+
+-- the set of this number lacks form, and none before it does
+pub record IsFirstSetFault (sets : List OddSet) (number : ℕ) : Type 0 where
+  pub low : 1 ≤ number
+  pub high : number ≤ length sets
+  pub lacks : ¬ HasForm (set_at sets (number - 1)).members
+  pub before : (j : ℕ) → 1 ≤ j → j < number → HasForm (set_at sets (j - 1)).members
+
+-- all sets have form, the slack of edge e is below 0, and that of no edge before it is
+pub record IsFirstSlackFault (g : Multigraph) (y : List ℤ) (sets : List OddSet) (e : ℕ) : Type 0 where
+  pub forms : All (λ s. HasForm s.members) sets
+  pub number : IsEdgeNumber g e
+  pub below : slack y sets (edge_of g e) <ℤ pos 0
+  pub before : (f : ℕ) → 1 ≤ f → f < e → pos 0 ≤ℤ slack y sets (edge_of g f)
+
+abbrev pub IsFirstFault : Multigraph → List ℤ → List OddSet → DualFault → Type 0
+IsFirstFault g y sets (SetForm number) = IsFirstSetFault sets number
+IsFirstFault g y sets (Slack e) = IsFirstSlackFault g y sets e
+IsFirstFault g y sets OutOfMemory = Unit {0}

@@ -1,0 +1,100 @@
+ghost use Rattle.std.specs.Prelude.{◌≡◌, ℕ, ◌+◌, ◌≤◌, false, length, All, IfOk};
+ghost use Rattle.std.specs.List.Sorted.{IsStrictlyIncreasing};
+ghost use Rattle.graph_theory.specs.Graph.{IsEdgeNumber, edge_of, edges_around, other_end};
+ghost use Rattle.graph_theory.specs.Duals.{HasForm, IsNumber, IsSetWithin};
+ghost use Rattle.weighted_graph.specs.Index.{IsIndex};
+ghost use Rattle.dual_check.specs.Crossed.{is_marked, total_of, AddsFrom, AddsSet, AreCrossed, IsWithin};
+
+use crate::marks::{mark, unmark};
+use graph_theory::OddSet;
+use mb_base::{EdgeId, OutOfMemory, VertexId};
+use std::alloc::Global;
+use weighted_graph::{Graph, Incidence};
+
+/// The end of an edge that is not `vertex`, where `vertex` is an end.
+fn other_end(graph: &Graph, number: EdgeId, vertex: VertexId) -> VertexId
+    requires { IsEdgeNumber graph.now number }
+    ensures end { result ≡ other_end (edge_of graph.now number) vertex }
+    ensures high { result ≤ graph.now.vertices }
+{
+    let (u, v, _) = graph.edge(number);
+    if u == vertex { v } else { u }
+}
+
+/// Adds the dual at each edge of the vertex that leads to a vertex with no mark.
+fn add_from(
+    graph: &Graph,
+    numbers: &[EdgeId],
+    marks: &[bool],
+    vertex: VertexId,
+    dual: i64,
+    totals: &mut [i128],
+)
+    requires numbers { numbers.now ≡ edges_around graph.now vertex }
+    requires marks { length marks.now ≡ graph.now.vertices + 1 }
+    requires size { length totals.old ≡ length graph.now.edges + 1 }
+    requires small { (e : ℕ) → IsEdgeNumber graph.now e → IsWithin 36 (total_of totals.old e) }
+    requires dual { IsNumber dual }
+    ensures { AddsFrom graph.now marks.now vertex dual totals.old totals.new }
+{
+    for number in numbers {
+        if !marks[other_end(graph, *number, vertex).number() as usize] {
+            totals[number.number() as usize] += i128::from(dual);
+        }
+    }
+}
+
+/// Adds the set's dual at each edge that crosses the set. There are no marks before and after.
+fn add_set(
+    graph: &Graph,
+    incidence: &Incidence,
+    set: &OddSet,
+    marks: &mut [bool],
+    totals: &mut [i128],
+)
+    requires index { IsIndex graph.now incidence.now }
+    requires ascending { IsStrictlyIncreasing set.now.members }
+    requires in_range { All (λ m. (1 ≤ m) × (m ≤ graph.now.vertices)) set.now.members }
+    requires dual { IsNumber set.now.dual }
+    requires marks { length marks.old ≡ graph.now.vertices + 1 }
+    requires none { (v : ℕ) → is_marked marks.old v ≡ false }
+    requires size { length totals.old ≡ length graph.now.edges + 1 }
+    requires small { (e : ℕ) → IsEdgeNumber graph.now e → IsWithin 35 (total_of totals.old e) }
+    ensures none { (v : ℕ) → is_marked marks.new v ≡ false }
+    ensures adds { AddsSet graph.now set.now totals.old totals.new }
+{
+    let members = set.members.as_slice();
+    mark(marks, members);
+    for vertex in members {
+        add_from(
+            graph,
+            incidence.at(*vertex),
+            marks,
+            *vertex,
+            set.dual,
+            totals,
+        );
+    }
+    unmark(marks, members);
+}
+
+/// At each edge, by its number, the duals of the sets that it crosses, in time linear in vertices,
+/// edges, and the degrees of the members of all sets.
+pub(crate) fn crossed_all(
+    alloc: Global,
+    graph: &Graph,
+    sets: &[OddSet],
+) -> Result<Vec<i128>, OutOfMemory>
+    requires numbers { All (λ s. IsNumber s.dual) sets.now }
+    requires within { All (IsSetWithin graph.now.vertices) sets.now }
+    requires forms { All (λ s. HasForm s.members) sets.now }
+    ensures totals { IfOk result (λ totals. AreCrossed graph.now sets.now totals.items) }
+{
+    let incidence = graph.index()?;
+    let mut marks = vec![in alloc; false; graph.vertices() as usize + 1]?;
+    let mut totals = vec![in alloc; 0i128; graph.edges() as usize + 1]?;
+    for set in sets {
+        add_set(graph, &incidence, set, &mut marks, &mut totals);
+    }
+    Ok(totals)
+}

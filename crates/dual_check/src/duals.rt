@@ -1,0 +1,56 @@
+ghost use Rattle.std.specs.Prelude.{◌≡◌, ℕ, ◌*◌, ◌^◌, List, length, ℤ, pos, neg_ℤ, ◌*ℤ◌, ◌≤ℤ◌, All, IfOk, IfErr, OnOk, slice_index_or};
+ghost use Rattle.graph_theory.specs.Sums.{int_sum_to};
+ghost use Rattle.graph_theory.specs.Graph.{IsPerfect, weight};
+ghost use Rattle.graph_theory.specs.Duals.{AreDuals, IsNumber, IsSetWithin, dual_value};
+ghost use Rattle.dual_check.specs.Fault.{IsFirstFault};
+
+use crate::crossings::crossed_all;
+use crate::fault::DualFault;
+use crate::sets::{first_set_fault, set_total};
+use crate::slacks::first_slack_fault;
+use graph_theory::OddSet;
+use std::alloc::Global;
+use weighted_graph::Graph;
+
+/// The duals of the vertices, added up.
+fn vertex_total(y: &[i64]) -> i128
+    requires { All IsNumber y.now }
+    ensures value { result ≡ int_sum_to (λ k. slice_index_or y.now k (pos 0)) (length y.now) }
+    ensures low { neg_ℤ (pos (10 ^ 15 * length y.now)) ≤ℤ result }
+    ensures high { result ≤ℤ pos (10 ^ 15 * length y.now) }
+{
+    let mut total = 0;
+    for a in y {
+        total += i128::from(*a);
+    }
+    total
+}
+
+/// The value of duals: one for each vertex, in `y`, and one for each odd set of vertices. Duals that
+/// are not feasible have none: the answer is their first fault, of the sets first, then of the slacks.
+/// Duals, slacks and the value are in doubled units: an edge counts twice its weight.
+pub fn bound(alloc: Global, graph: &Graph, y: &[i64], sets: &[OddSet]) -> Result<i128, DualFault>
+    requires one_each { length y.now ≡ graph.now.vertices }
+    requires y_numbers { All IsNumber y.now }
+    requires set_numbers { All (λ s. IsNumber s.dual) sets.now }
+    requires sets_within { All (IsSetWithin graph.now.vertices) sets.now }
+
+    ensures value { IfOk result (λ value. value ≡ dual_value y.now sets.now) }
+    ensures duals { OnOk result (AreDuals graph.now y.now sets.now) }
+    ensures fault { IfErr result (IsFirstFault graph.now y.now sets.now) }
+
+    // Twice the weight of a perfect matching is at least the value.
+    ensures below { IfOk result
+        (λ value. (counts : List ℕ) → IsPerfect graph.now counts → value ≤ℤ (pos 2 *ℤ weight graph.now counts)) }
+{
+    if let Some(number) = first_set_fault(sets) {
+        return Err(DualFault::SetForm(number));
+    }
+    let Ok(totals) = crossed_all(alloc, graph, sets) else {
+        return Err(DualFault::OutOfMemory);
+    };
+    if let Some(e) = first_slack_fault(graph, y, sets, &totals) {
+        return Err(DualFault::Slack(e));
+    }
+    Ok(vertex_total(y) + set_total(sets))
+}
