@@ -1,0 +1,4 @@
+pub mod Names
+pub mod Form
+-- Reading
+-- Spelling
