@@ -119,13 +119,13 @@ at_most_one made (Some part) = made part ∷ []
 abbrev pub parts_of : Body → List Part
 parts_of b = map Count b.counts ++ (at_most_one Walk b.walk ++ (map Dual b.duals ++ (map Set b.sets ++ (at_most_one Barrier b.barrier ++ (at_most_one Odd b.odd ++ at_most_one Split b.split)))))
 
+abbrev pub is_some_list : List ℤ → Bool
+is_some_list [] = false
+is_some_list (z ∷ zs) = true
+
 abbrev pub has_edges : Option WalkLine → Bool
 has_edges None = true
 has_edges (Some w) = is_some_list w.edges
-  where
-    is_some_list : List ℤ → Bool
-    is_some_list [] = false
-    is_some_list (e ∷ es) = true
 
 abbrev pub have_order : Option MemberLine → Bool
 have_order None = true

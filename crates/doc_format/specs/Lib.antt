@@ -1,4 +1,6 @@
 pub mod Names
 pub mod Form
--- Reading
--- Spelling
+pub mod Rows
+pub mod Reading
+pub mod Spelling
+pub mod Law

@@ -5,11 +5,14 @@
 #![tactic(auto)]
 
 mod document;
+mod error;
+mod head;
 mod names;
 mod part;
 mod status;
 
 pub use document::Document;
+pub use error::DocError;
 pub use names::kind_name;
 pub use part::{CountLine, DualLine, MemberLine, SetLine, WalkLine};
 pub use status::DocStatus;
