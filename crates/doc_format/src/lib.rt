@@ -8,6 +8,7 @@ mod document;
 mod error;
 mod head;
 mod names;
+mod numbers;
 mod part;
 mod status;
 
