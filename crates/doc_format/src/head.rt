@@ -1,3 +1,6 @@
+ghost use Rattle.std.specs.Prelude.{◌≡◌};
+ghost use Rattle.doc_format.specs.Form.{is_head};
+
 use crate::status::DocStatus;
 use mb_problem::Kind;
 
@@ -8,4 +11,15 @@ pub struct Head {
     pub status: DocStatus,
     pub kind: Kind,
     pub weight: i64,
+}
+
+/// Whether a document of this kind can have this status.
+pub fn fits(status: DocStatus, kind: Kind) -> bool
+    ensures { result ≡ is_head status kind }
+{
+    match status {
+        DocStatus::Optimal => true,
+        DocStatus::Infeasible => kind != Kind::Match,
+        DocStatus::NonConservative => kind == Kind::Path,
+    }
 }

@@ -9,7 +9,9 @@ mod error;
 mod head;
 mod names;
 mod numbers;
+mod opening;
 mod part;
+mod part_reading;
 mod status;
 
 pub use document::Document;
