@@ -1,0 +1,6 @@
+pub mod Names
+pub mod Form
+pub mod Rows
+pub mod Reading
+pub mod Spelling
+pub mod Law

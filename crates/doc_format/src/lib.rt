@@ -1,0 +1,21 @@
+//! Documents: answers and their certificates as text.
+//! It stands on `mb_base` for lines, fields and numbers, and on `mb_problem` for the kinds.
+//! It promises that a text is read as exactly the document that its lines hold or refused at its
+//! first wrong line, and that a document is written as one text, which reads back as it.
+#![tactic(auto)]
+
+mod document;
+mod error;
+mod head;
+mod names;
+mod numbers;
+mod opening;
+mod part;
+mod part_reading;
+mod status;
+
+pub use document::Document;
+pub use error::DocError;
+pub use names::kind_name;
+pub use part::{CountLine, DualLine, MemberLine, SetLine, WalkLine};
+pub use status::DocStatus;
