@@ -1,0 +1,62 @@
+-- What a document claims: an answer, duals on vertices and on odd sets, or a set of vertices.
+use Rattle.std.specs.Prelude.{◌≡◌, ℕ, ◌<◌, ℤ, pos, ◌*ℤ◌, nat_abs, List, [], ◌∷◌, length, map, slice_index_or, if◌then◌else◌, Option, None, Some}
+use Rattle.std.specs.Ordering.{int_eq}
+use Rattle.std.specs.List.{range_with_len}
+use Rattle.graph_theory.specs.declared.odd_set.OddSet.{OddSet}
+use Rattle.graph_theory.specs.Graph.{Multigraph}
+use Rattle.mb_problem.specs.declared.kind.Kind.{Kind}
+use Rattle.mb_problem.specs.declared.kind.Kind.TheVariants.{Perfect, Match, BMatch, CapMatch, FFactor, TJoin, Postman, Path}
+use Rattle.mb_problem.specs.declared.answer.Answer.{Answer}
+use Rattle.mb_problem.specs.declared.answer.Answer.TheVariants.{Counts, Walk, Nothing}
+use Rattle.mb_problem.specs.Network.{Network, graph_of}
+use Rattle.doc_format.specs.declared.document.Document.{Document}
+use Rattle.doc_format.specs.declared.part.CountLine.{CountLine}
+use Rattle.doc_format.specs.declared.part.DualLine.{DualLine}
+use Rattle.doc_format.specs.declared.part.SetLine.{SetLine}
+use Rattle.doc_format.specs.declared.part.WalkLine.{WalkLine}
+
+-- the numbers of a line as numbers of vertices or edges
+abbrev pub numbers : List ℤ → List ℕ
+numbers zs = map nat_abs zs
+
+-- the count of the x line of edge e, and 0 where there is none
+abbrev pub count_of : List CountLine → ℕ → ℕ
+count_of [] e = 0
+count_of (x ∷ xs) e = if int_eq x.edge (pos e) then nat_abs x.count else count_of xs e
+
+-- a count for each of m edges
+abbrev pub counts_of : List CountLine → ℕ → List ℕ
+counts_of xs m = map (count_of xs) (range_with_len 1 m)
+
+abbrev pub walk_of : Option WalkLine → Answer
+walk_of None = Nothing
+walk_of (Some w) = Walk (nat_abs w.start) (numbers w.edges)
+
+-- the answer that a document states: counts from its x lines, or the walk of its w line
+abbrev pub answer_of : Kind → Network → Document → Answer
+answer_of Postman i d = walk_of d.walk
+answer_of Path i d = walk_of d.walk
+answer_of kind i d = Counts (counts_of d.counts (length i.edges))
+
+-- the duals of the vertices, in the order of the y lines
+abbrev pub duals_of : Document → List ℤ
+duals_of d = map (λ y. y.dual) d.duals
+
+-- vertex v has a y line
+abbrev pub HasDual : Document → ℕ → Type 0
+HasDual d v = (k : ℕ) × (k < length d.duals) × (slice_index_or (map (λ y. y.vertex) d.duals) k (pos 0) ≡ pos v)
+
+-- the odd sets with their duals, in the order of the z lines
+abbrev pub set_of : SetLine → OddSet
+set_of z = record { dual = z.dual; members = numbers z.members }
+
+abbrev pub sets_of : Document → List OddSet
+sets_of d = map set_of d.sets
+
+-- the graph that a document's duals and barriers speak of
+abbrev pub certified_graph : Kind → Network → Multigraph
+certified_graph kind i = graph_of i
+
+-- the value that the duals of an optimal document of weight w have
+abbrev pub value_for : Kind → Network → ℤ → ℤ
+value_for kind i w = pos 2 *ℤ w

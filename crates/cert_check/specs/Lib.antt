@@ -1,0 +1,5 @@
+pub mod Claims
+pub mod Ranges
+pub mod Certificates
+pub mod Verdicts
+pub mod Proved

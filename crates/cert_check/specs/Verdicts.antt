@@ -1,0 +1,75 @@
+-- The rules that a document can break, in order, and the verdict that they call for.
+use Rattle.std.specs.Prelude.{◌≡◌, ◌≢◌, ℕ, ◌<◌, List, length, Option, None, Some, ⊤, slice_index_or}
+use Rattle.graph_theory.specs.Duals.{HasForm}
+use Rattle.mb_problem.specs.declared.kind.Kind.{Kind}
+use Rattle.mb_problem.specs.Network.{Network}
+use Rattle.doc_format.specs.declared.document.Document.{Document}
+use Rattle.doc_format.specs.declared.part.SetLine.{SetLine}
+use Rattle.doc_format.specs.declared.status.DocStatus.TheVariants.{Optimal, Infeasible, NonConservative}
+use Rattle.cert_check.specs.declared.rule.DocRule.{DocRule}
+use Rattle.cert_check.specs.declared.rule.DocRule.TheVariants.{DocForm, KindDiffers, DocRange, NotFeasible, WeightDiffers, DualMissing, SetForm, Slack, ValueDiffers, NotBarrier, NotClosed, NotCircuit}
+use Rattle.cert_check.specs.declared.rule.Verdict.{Verdict}
+use Rattle.cert_check.specs.declared.rule.Verdict.TheVariants.{Accepted, Rejected}
+use Rattle.cert_check.specs.Claims.{numbers}
+use Rattle.cert_check.specs.Ranges.{first_out_of_range}
+use Rattle.cert_check.specs.Certificates.{HasFeasibleAnswer, HasStatedWeight, HasDuals, HaveForm, HaveSlack, HasValue, HasWantedBarrier, HasWantedPart, HasNegativeCircuit}
+
+-- The document keeps the rule. Its form is the reader's matter, since what isn't one is no document.
+abbrev pub Keeps : Kind → Network → Document → DocRule → Type 0
+Keeps kind i d DocForm = ⊤
+Keeps kind i d KindDiffers = d.kind ≡ kind
+Keeps kind i d DocRange = first_out_of_range kind i d ≡ None
+Keeps kind i d NotFeasible = d.status ≡ Optimal → HasFeasibleAnswer kind i d
+Keeps kind i d WeightDiffers = d.status ≡ Optimal → HasStatedWeight kind i d
+Keeps kind i d DualMissing = d.status ≡ Optimal → HasDuals kind i d
+Keeps kind i d SetForm = HaveForm d
+Keeps kind i d Slack = d.status ≡ Optimal → HaveSlack kind i d
+Keeps kind i d ValueDiffers = d.status ≡ Optimal → HasValue kind i d
+Keeps kind i d NotBarrier = d.status ≡ Infeasible → HasWantedBarrier kind i d
+Keeps kind i d NotClosed = d.status ≡ Infeasible → HasWantedPart kind i d
+Keeps kind i d NotCircuit = d.status ≡ NonConservative → HasNegativeCircuit i d
+
+-- the set of the z line at a place lacks form, and none before it does
+pub record IsFirstFormless (sets : List SetLine) (line : ℕ) : Type 0 where
+  pub at : ℕ
+  pub there : at < length sets
+  pub set : SetLine
+  pub is : set ≡ slice_index_or sets at set
+  pub lacks : ¬ HasForm (numbers set.members)
+  pub line_is : line ≡ set.line
+  pub before : (j : ℕ) (other : SetLine) → j < at → other ≡ slice_index_or sets j other → HasForm (numbers other.members)
+
+-- The document breaks the rule, at this line: the s line where no other is at fault.
+abbrev pub Breaks : Kind → Network → Document → DocRule → ℕ → Type 0
+Breaks kind i d DocForm line = ⊥
+Breaks kind i d KindDiffers line = (d.kind ≢ kind) × (line ≡ d.line)
+Breaks kind i d DocRange line = first_out_of_range kind i d ≡ Some line
+Breaks kind i d NotFeasible line = (d.status ≡ Optimal) × (¬ HasFeasibleAnswer kind i d) × (line ≡ d.line)
+Breaks kind i d WeightDiffers line = (d.status ≡ Optimal) × (¬ HasStatedWeight kind i d) × (line ≡ d.line)
+Breaks kind i d DualMissing line = (d.status ≡ Optimal) × (¬ HasDuals kind i d) × (line ≡ d.line)
+Breaks kind i d SetForm line = IsFirstFormless d.sets line
+Breaks kind i d Slack line = (d.status ≡ Optimal) × (¬ HaveSlack kind i d) × (line ≡ d.line)
+Breaks kind i d ValueDiffers line = (d.status ≡ Optimal) × (¬ HasValue kind i d) × (line ≡ d.line)
+Breaks kind i d NotBarrier line = (d.status ≡ Infeasible) × (¬ HasWantedBarrier kind i d) × (line ≡ d.line)
+Breaks kind i d NotClosed line = (d.status ≡ Infeasible) × (¬ HasWantedPart kind i d) × (line ≡ d.line)
+Breaks kind i d NotCircuit line = (d.status ≡ NonConservative) × (¬ HasNegativeCircuit i d) × (line ≡ d.line)
+
+-- the place of a rule in the order
+abbrev pub rank : DocRule → ℕ
+rank DocForm = 1
+rank KindDiffers = 2
+rank DocRange = 3
+rank NotFeasible = 4
+rank WeightDiffers = 5
+rank DualMissing = 6
+rank SetForm = 7
+rank Slack = 8
+rank ValueDiffers = 9
+rank NotBarrier = 10
+rank NotClosed = 11
+rank NotCircuit = 12
+
+-- accepted where every rule is kept, else refused by the first that is broken, at its line
+abbrev pub IsVerdict : Kind → Network → Document → Verdict → Type 0
+IsVerdict kind i d Accepted = (rule : DocRule) → Keeps kind i d rule
+IsVerdict kind i d (Rejected rule line) = Breaks kind i d rule line × ((earlier : DocRule) → rank earlier < rank rule → Keeps kind i d earlier)

@@ -1,0 +1,10 @@
+//! The judge of documents: whether one proves what it states of an instance.
+//! It stands on `mb_problem`, `doc_format` and `dual_check`. It promises that the verdict names the first
+//! rule that a document breaks, that an accepted one proves what it states, and that this is true.
+#![tactic(auto)]
+
+mod numbers;
+mod ranges;
+mod rule;
+
+pub use rule::{DocRule, Verdict};

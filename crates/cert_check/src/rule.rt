@@ -1,0 +1,37 @@
+/// The rules that a document can break, in the order in which they are tried.
+#[derive(Clone, Copy, Debug, PartialEq, Eq)]
+pub enum DocRule {
+    /// The text is no document.
+    DocForm,
+    /// The document is of another kind than the command.
+    KindDiffers,
+    /// A number is out of range.
+    DocRange,
+    /// The answer isn't feasible.
+    NotFeasible,
+    /// The answer's weight isn't the stated one.
+    WeightDiffers,
+    /// A vertex has no dual.
+    DualMissing,
+    /// A set with a dual has fewer than three members, an even number, or members that don't ascend.
+    SetForm,
+    /// An edge has a slack below 0.
+    Slack,
+    /// The value of the duals isn't what the stated weight asks.
+    ValueDiffers,
+    /// The set is missing or is no barrier.
+    NotBarrier,
+    /// The set is missing, or isn't as an infeasible document of its kind wants it.
+    NotClosed,
+    /// The walk is missing or is no circuit of weight below 0.
+    NotCircuit,
+}
+
+/// What the judge says of a document.
+#[derive(Clone, Copy, Debug, PartialEq, Eq)]
+pub enum Verdict {
+    /// It proves what it states.
+    Accepted,
+    /// The first rule that it breaks, and the line.
+    Rejected { rule: DocRule, line: u64 },
+}
