@@ -1,1 +1,3 @@
 pub mod RangeLemmas
+pub mod AscentLemmas
+pub mod CountLemmas

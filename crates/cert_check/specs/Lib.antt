@@ -1,5 +1,6 @@
 pub mod Claims
 pub mod Ranges
+pub mod Within
 pub mod Certificates
 pub mod Verdicts
 pub mod Proved

@@ -3,6 +3,7 @@
 //! rule that a document breaks, that an accepted one proves what it states, and that this is true.
 #![tactic(auto)]
 
+mod claims;
 mod numbers;
 mod ranges;
 mod rule;

@@ -1,0 +1,70 @@
+ghost use Rattle.std.specs.Prelude.{◌≡◌, ℕ, ◌<◌, ◌≤◌, ◌^◌, ℤ, pos, ◌≤ℤ◌, ◌<ℤ◌, nat_abs, map, length, All, IfOk};
+ghost use Rattle.doc_format.specs.Form.{AscendsBy};
+ghost use Rattle.cert_check.specs.Claims.{numbers, counts_of, set_of};
+ghost use Rattle.cert_check.specs.Within.{IsUpTo, IsCountWithin, IsSetLineWithin};
+
+use doc_format::{CountLine, DualLine, SetLine};
+use graph_theory::OddSet;
+use mb_base::{OutOfMemory, Sequence, VertexId};
+use std::alloc::Global;
+
+/// A number of a document as the number of a vertex or an edge, or a count.
+fn natural(number: i64) -> u32
+    requires low { pos 0 ≤ℤ number }
+    requires high { number <ℤ pos (2 ^ 32) }
+    ensures { result ≡ nat_abs number }
+{
+    number as u32
+}
+
+/// The numbers of a line as vertices, of a graph with at most 4,096 of them.
+pub fn members_of(alloc: Global, members: &[i64]) -> Result<Vec<VertexId>, OutOfMemory>
+    requires { All (IsUpTo 4096) members.now }
+    ensures { IfOk result (λ v. v.items ≡ numbers members.now) }
+{
+    let mut vertices = Vec::new(alloc);
+    for member in members {
+        vertices.push(VertexId::new(natural(*member)))?;
+    }
+    Ok(vertices)
+}
+
+/// A count for each of `m` edges.
+pub fn counts_of(alloc: Global, lines: &[CountLine], m: u32) -> Result<Vec<u32>, OutOfMemory>
+    requires in_range { All (IsCountWithin m) lines.now }
+    requires ascending { AscendsBy (λ x. x.edge) lines.now }
+    ensures { IfOk result (λ v. v.items ≡ counts_of lines.now m) }
+{
+    let mut counts = vec![in alloc; 0u32; m as usize]?;
+    for x in lines {
+        counts[natural(x.edge) as usize - 1] = natural(x.count);
+    }
+    Ok(counts)
+}
+
+/// The duals of the vertices.
+pub fn duals_of(alloc: Global, lines: &[DualLine]) -> Result<Vec<i64>, OutOfMemory>
+    ensures { IfOk result (λ v. v.items ≡ map (λ y. y.dual) lines.now) }
+{
+    let mut duals = Vec::new(alloc);
+    for y in lines {
+        duals.push(y.dual)?;
+    }
+    Ok(duals)
+}
+
+/// The odd sets with their duals.
+pub fn sets_of(alloc: Global, lines: &[SetLine]) -> Result<Vec<OddSet>, OutOfMemory>
+    requires { All (IsSetLineWithin 4096) lines.now }
+    ensures { IfOk result (λ v. v.items ≡ map set_of lines.now) }
+{
+    let mut sets = Vec::new(alloc);
+    for z in lines {
+        let members = Sequence::from_vec(members_of(alloc, z.members.as_slice())?);
+        sets.push(OddSet {
+            dual: z.dual,
+            members,
+        })?;
+    }
+    Ok(sets)
+}
