@@ -69,7 +69,11 @@ rank NotBarrier = 10
 rank NotClosed = 11
 rank NotCircuit = 12
 
+-- every rule before this one is kept
+abbrev pub KeepsBefore : Kind → Network → Document → DocRule → Type 0
+KeepsBefore kind i d rule = (earlier : DocRule) → rank earlier < rank rule → Keeps kind i d earlier
+
 -- accepted where every rule is kept, else refused by the first that is broken, at its line
 abbrev pub IsVerdict : Kind → Network → Document → Verdict → Type 0
 IsVerdict kind i d Accepted = (rule : DocRule) → Keeps kind i d rule
-IsVerdict kind i d (Rejected rule line) = Breaks kind i d rule line × ((earlier : DocRule) → rank earlier < rank rule → Keeps kind i d earlier)
+IsVerdict kind i d (Rejected rule line) = Breaks kind i d rule line × KeepsBefore kind i d rule

@@ -5,6 +5,7 @@
 
 mod claims;
 mod numbers;
+mod optimal;
 mod ranges;
 mod rule;
 

@@ -1,0 +1,115 @@
+-- The duals and sets that a document states.
+use Rattle.std.proofs.Common.{◌≡◌, ℕ, zero, suc, ◌+◌, ◌-◌, ◌*◌, ◌<◌, ◌≤◌, ◌^◌, ℤ, pos, neg_ℤ, ◌<ℤ◌, ◌≤ℤ◌, List, length, get_or, map, [], All, slice_index_or, nat_abs, refl, sym, ap, ◌∙◌, subst, arith}
+use Rattle.std.proofs.lemmas.Int.{ints}
+use Rattle.std.proofs.lemmas.List.{get_or-map, length-map}
+use Rattle.std.proofs.lemmas.List.Elements.{All-map, All-weaker, All-get_or, All-from_get_or}
+use Rattle.graph_theory.specs.declared.edge.Edge.{Edge}
+use Rattle.graph_theory.specs.declared.odd_set.OddSet.{OddSet}
+use Rattle.graph_theory.specs.Graph.{Multigraph, edge_at, edge_of, IsEdgeNumber, no_edge}
+use Rattle.graph_theory.specs.Duals.{IsNumber, IsSetWithin, HasForm, AreDuals, slack, set_at, no_set}
+use Rattle.mb_problem.specs.declared.kind.Kind.{Kind}
+use Rattle.mb_problem.specs.Network.{Network, graph_of, vertices}
+use Rattle.doc_format.specs.declared.document.Document.{Document}
+use Rattle.doc_format.specs.declared.part.DualLine.{DualLine}
+use Rattle.doc_format.specs.declared.part.SetLine.{SetLine}
+use Rattle.doc_format.specs.Form.{AscendsBy}
+use Rattle.dual_check.specs.Fault.{IsFirstSetFault, IsFirstSlackFault}
+use Rattle.cert_check.specs.Claims.{numbers, duals_of, sets_of, set_of, HasDual, certified_graph}
+use Rattle.cert_check.specs.Certificates.{HasDuals, HaveForm, HaveSlack}
+use Rattle.cert_check.specs.Verdicts.{IsFirstFormless}
+use Rattle.cert_check.specs.Within.{IsUpTo, IsDualWithin, IsSetLineWithin, AreWithin}
+use Rattle.cert_check.proofs.AscentLemmas.{at_place, as_many}
+
+vertex : DualLine → ℤ
+vertex y = y.vertex
+
+no_dual : DualLine
+no_dual = record { line = 0; vertex = pos 0; dual = pos 0 }
+
+vertex_at : (ys : List DualLine) (k : ℕ) → k < length ys → get_or (map (λ (y : DualLine). y.vertex) ys) k (pos 0) ≡ (get_or ys k no_dual).vertex
+vertex_at ys k below = get_or-map (λ (y : DualLine). y.vertex) ys k no_dual (pos 0) below
+
+within_at : (n : ℕ) (ys : List DualLine) → All (IsDualWithin n) ys → (k : ℕ) → k < length ys → IsUpTo n (get_or (map (λ (y : DualLine). y.vertex) ys) k (pos 0))
+within_at n ys within k below = subst (IsUpTo n) (sym (vertex_at ys k below)) (All-get_or (IsDualWithin n) ys k no_dual below within).0
+
+-- as many y lines as vertices: each vertex has one
+pub has_duals : (kind : Kind) (i : Network) (d : Document) → AscendsBy (λ y. y.vertex) d.duals → AreWithin kind i d → length d.duals ≡ vertices i → HasDuals kind i d
+has_duals kind i d ascending within size v low high =
+    let zs = map (λ (y : DualLine). y.vertex) d.duals in
+    let long : length zs ≡ length d.duals = length-map d.duals (λ (y : DualLine). y.vertex) in
+    let inside = within_at (vertices i) d.duals within.duals in
+    let place : v - 1 < vertices i = omega arith in
+    let is = at_place zs (vertices i) ascending (λ k below. (inside k (omega arith)).low) (λ k below. (inside k (omega arith)).high) (long ∙ size) (v - 1) place in
+    let number : v - 1 + 1 ≡ v = omega arith in
+    (v - 1, (omega arith), is ∙ ap (λ (k : ℕ). pos k) number)
+
+-- and only then
+pub duals_size : (kind : Kind) (i : Network) (d : Document) → AscendsBy (λ y. y.vertex) d.duals → AreWithin kind i d → HasDuals kind i d → length d.duals ≡ vertices i
+duals_size kind i d ascending within have =
+    let zs = map (λ (y : DualLine). y.vertex) d.duals in
+    let long : length zs ≡ length d.duals = length-map d.duals (λ (y : DualLine). y.vertex) in
+    let inside = within_at (vertices i) d.duals within.duals in
+    let all = as_many zs (vertices i) ascending (λ k below. (inside k (omega arith)).low) (λ k below. (inside k (omega arith)).high)
+      (λ v low high. (let one : HasDual d v = have v low high in (one.0, (let below : one.0 < length d.duals = one.1 in omega arith), one.2))) in
+    sym long ∙ all
+
+pub duals-numbers : (n : ℕ) (ys : List DualLine) → All (IsDualWithin n) ys → All IsNumber (map (λ (y : DualLine). y.dual) ys)
+duals-numbers n ys within = All-map IsNumber (λ (y : DualLine). y.dual) ys (All-weaker (IsDualWithin n) (λ (y : DualLine). IsNumber y.dual) (λ y h. h.1) ys within)
+
+pub sets-numbers : (n : ℕ) (zs : List SetLine) → All (IsSetLineWithin n) zs → All (λ s. IsNumber s.dual) (map set_of zs)
+sets-numbers n zs within = All-map (λ (s : OddSet). IsNumber s.dual) set_of zs (All-weaker (IsSetLineWithin n) (λ (z : SetLine). IsNumber z.dual)
+    (λ z h. (let low : pos 1 ≤ℤ z.dual = h.0.low in let high : z.dual ≤ℤ pos 1000000000000000 = h.0.high in (omega (arith, ints), omega (arith, ints)))) zs within)
+
+member_within : (n : ℕ) (z : ℤ) → IsUpTo n z → (1 ≤ nat_abs z) × (nat_abs z ≤ n)
+member_within n z h = (let low : pos 1 ≤ℤ z = h.low in let high : z ≤ℤ pos n = h.high in (omega (arith, ints), omega (arith, ints)))
+
+pub members-within : (n : ℕ) (zs : List ℤ) → All (IsUpTo n) zs → All (λ m. (1 ≤ m) × (m ≤ n)) (numbers zs)
+members-within n zs within = All-map (λ (m : ℕ). (1 ≤ m) × (m ≤ n)) nat_abs zs (All-weaker (IsUpTo n) (λ (z : ℤ). (1 ≤ nat_abs z) × (nat_abs z ≤ n)) (member_within n) zs within)
+
+pub sets-within : (n : ℕ) (zs : List SetLine) → All (IsSetLineWithin n) zs → All (IsSetWithin n) (map set_of zs)
+sets-within n zs within = All-map (IsSetWithin n) set_of zs (All-weaker (IsSetLineWithin n) (λ (z : SetLine). IsSetWithin n (set_of z))
+    (λ z h. record { positive = h.0.low; in_range = members-within n z.members h.1 }) zs within)
+
+no_set_line : SetLine
+no_set_line = record { line = 0; dual = pos 0; members = [] }
+
+set_line_at : (zs : List SetLine) (k : ℕ) (e : OddSet) → k < length zs → get_or (map set_of zs) k e ≡ set_of (get_or zs k no_set_line)
+set_line_at zs k e below = get_or-map set_of zs k no_set_line e below
+
+pub forms-of_lines : (d : Document) → All (λ s. HasForm s.members) (sets_of d) → HaveForm d
+forms-of_lines d forms = All-from_get_or (λ (z : SetLine). HasForm (numbers z.members)) d.sets no_set_line
+    (λ k below. (let long : length (map set_of d.sets) ≡ length d.sets = length-map d.sets set_of in
+      subst (λ (s : OddSet). HasForm s.members) (set_line_at d.sets k no_set below) (All-get_or (λ (s : OddSet). HasForm s.members) (sets_of d) k no_set (omega arith) forms)))
+
+pub lines-forms : (d : Document) → HaveForm d → All (λ s. HasForm s.members) (sets_of d)
+lines-forms d have = All-map (λ (s : OddSet). HasForm s.members) set_of d.sets have
+
+-- the first set without form is that of the first line
+pub first_formless : (d : Document) (number : ℕ) (z : SetLine) → IsFirstSetFault (sets_of d) number → z ≡ get_or d.sets (number - 1) z → IsFirstFormless d.sets z.line
+first_formless d number z fault is =
+    let long : length (map set_of d.sets) ≡ length d.sets = length-map d.sets set_of in
+    let low : 1 ≤ number = fault.low in
+    let high : number ≤ length (sets_of d) = fault.high in
+    let here : number - 1 < length d.sets = omega arith in
+    record {
+      at = number - 1;
+      there = here;
+      set = z;
+      is = is;
+      lacks = λ (form : HasForm (numbers z.members)). fault.lacks (subst (λ (s : OddSet). HasForm s.members) (sym (get_or-map set_of d.sets (number - 1) z no_set here ∙ ap set_of (sym is))) form);
+      line_is = refl;
+      before = λ j other earlier other_is.
+        (let below : j < length d.sets = omega arith in
+         let number_of : j + 1 - 1 ≡ j = omega arith in
+         let form = fault.before (j + 1) (omega arith) (omega arith) in
+         subst (λ (s : OddSet). HasForm s.members) (ap (λ (k : ℕ). set_at (sets_of d) k) number_of ∙ get_or-map set_of d.sets j other no_set below ∙ ap set_of (sym other_is)) form);
+    }
+
+-- an edge with a slack below 0 leaves no room for slack
+pub no_slack : (g : Multigraph) (y : List ℤ) (sets : List OddSet) (e : ℕ) → IsFirstSlackFault g y sets e → All (λ e. pos 0 ≤ℤ slack y sets e) g.edges → ⊥
+no_slack g y sets e fault all =
+    let low : 1 ≤ e = fault.number.0 in
+    let high : e ≤ length g.edges = fault.number.1 in
+    let there : pos 0 ≤ℤ slack y sets (edge_of g e) = All-get_or (λ (t : Edge). pos 0 ≤ℤ slack y sets t) g.edges (e - 1) no_edge (omega arith) all in
+    let below : slack y sets (edge_of g e) <ℤ pos 0 = fault.below in
+    omega (arith, ints)

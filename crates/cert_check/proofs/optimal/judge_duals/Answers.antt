@@ -1,0 +1,115 @@
+use Rattle.std.proofs.Common.{◌≡◌, ℕ, ◌+◌, ◌-◌, List, ℤ, pos, get_or, ◌≤ℤ◌, length, map, All, refl, sym, ap, ◌∙◌, subst, arith, rules}
+use Rattle.graph_theory.specs.declared.edge.Edge.{Edge}
+use Rattle.graph_theory.specs.declared.odd_set.OddSet.{OddSet}
+use Rattle.graph_theory.specs.Duals.{AreDuals, IsNumber, IsSetWithin, HasForm, slack}
+use Rattle.graph_theory.specs.Graph.{Multigraph}
+use Rattle.mb_problem.specs.Network.{graph_of, vertices}
+use Rattle.doc_format.specs.declared.part.DualLine.{DualLine}
+use Rattle.doc_format.specs.declared.part.SetLine.{SetLine}
+use Rattle.doc_format.specs.Form.{AscendsBy}
+use Rattle.dual_check.specs.Fault.{IsFirstSetFault, IsFirstSlackFault}
+use Rattle.cert_check.specs.declared.rule.DocRule.TheVariants.{DualMissing, SetForm, Slack, ValueDiffers}
+use Rattle.cert_check.specs.Claims.{duals_of, sets_of, set_of}
+use Rattle.cert_check.specs.Certificates.{HasDuals, HaveForm, HaveSlack}
+use Rattle.cert_check.specs.Verdicts.{KeepsBefore, IsFirstFormless}
+use Rattle.cert_check.specs.Within.{AreWithin}
+use Rattle.cert_check.proofs.RuleLemmas.{keeps-next}
+use Rattle.cert_check.proofs.DualLemmas.{has_duals, duals_size, duals-numbers, sets-numbers, sets-within, forms-of_lines, first_formless, no_slack}
+use Rattle.cert_check.proofs.optimal.judge_duals.Goals as goal
+
+pub returns-then-len-vertices : goal.returns-then-len-vertices
+returns-then-len-vertices c =
+    let i = c.args.instance.now in
+    let d = c.args.document.now in
+    let within : AreWithin c.args.kind i d = c.requires.within in
+    let ascending : AscendsBy (λ y. y.vertex) d.duals = d.form.vertices_ascend in
+    let lacks : HasDuals c.args.kind i d → ⊥ = λ have. c.if-len-vertices.true (c.len.ensures ∙ duals_size c.args.kind i d ascending within have ∙ sym c.vertices.ensures.count) in
+    ((c.requires.status, lacks, refl), c.requires.before)
+
+pub bound-requires-clause-y_numbers : goal.bound-requires-clause-y_numbers
+bound-requires-clause-y_numbers c =
+    let i = c.args.instance.now in
+    let d = c.args.document.now in
+    let within : AreWithin c.args.kind i d = c.requires.within in
+    let ys : c.deref.result.now ≡ duals_of d = c.deref.ensures.value ∙ c.in_ok-y.ensures ∙ ap (λ (xs : List DualLine). map (λ (y : DualLine). y.dual) xs) c.as_slice.ensures in
+    subst (λ (y : List ℤ). All IsNumber y) (sym ys) (duals-numbers (vertices i) d.duals within.duals)
+
+pub bound-requires-clause-set_numbers : goal.bound-requires-clause-set_numbers
+bound-requires-clause-set_numbers c =
+    let i = c.args.instance.now in
+    let d = c.args.document.now in
+    let within : AreWithin c.args.kind i d = c.requires.within in
+    let sets : c.deref-2.result.now ≡ sets_of d = c.deref-2.ensures.value ∙ c.in_ok-sets.ensures ∙ ap (λ (zs : List SetLine). map set_of zs) c.as_slice-2.ensures in
+    subst (λ (zs : List OddSet). All (λ s. IsNumber s.dual) zs) (sym sets) (sets-numbers (vertices i) d.sets within.sets)
+
+pub bound-requires-clause-sets_within : goal.bound-requires-clause-sets_within
+bound-requires-clause-sets_within c =
+    let i = c.args.instance.now in
+    let d = c.args.document.now in
+    let within : AreWithin c.args.kind i d = c.requires.within in
+    let sets : c.deref-2.result.now ≡ sets_of d = c.deref-2.ensures.value ∙ c.in_ok-sets.ensures ∙ ap (λ (zs : List SetLine). map set_of zs) c.as_slice-2.ensures in
+    let graph : c.in_ok-graph.graph ≡ graph_of i = c.in_ok-graph.ensures in
+    subst (λ (g : Multigraph). All (IsSetWithin g.vertices) c.deref-2.result.now) (sym graph) (subst (λ (zs : List OddSet). All (IsSetWithin (vertices i)) zs) (sym sets) (sets-within (vertices i) d.sets within.sets))
+
+pub judge_value-requires-clause-before : goal.judge_value-requires-clause-before
+judge_value-requires-clause-before c =
+    let i = c.args.instance.now in
+    let d = c.args.document.now in
+    let within : AreWithin c.args.kind i d = c.requires.within in
+    let ys : c.deref.result.now ≡ duals_of d = c.deref.ensures.value ∙ c.in_ok-y.ensures ∙ ap (λ (xs : List DualLine). map (λ (y : DualLine). y.dual) xs) c.as_slice.ensures in
+    let sets : c.deref-2.result.now ≡ sets_of d = c.deref-2.ensures.value ∙ c.in_ok-sets.ensures ∙ ap (λ (zs : List SetLine). map set_of zs) c.as_slice-2.ensures in
+    let graph : c.in_ok-graph.graph ≡ graph_of i = c.in_ok-graph.ensures in
+    let ascending : AscendsBy (λ y. y.vertex) d.duals = d.form.vertices_ascend in
+    let size : length d.duals ≡ vertices i = sym c.len.ensures ∙ c.if-len-vertices.false ∙ c.vertices.ensures.count in
+    let have : HasDuals c.args.kind i d = has_duals c.args.kind i d ascending within size in
+    let to_forms : KeepsBefore c.args.kind i d SetForm = keeps-next c.args.kind i d DualMissing SetForm refl c.requires.before (λ _. have) in
+    let duals : AreDuals c.in_ok-graph.graph c.deref.result.now c.deref-2.result.now = c.in-Ok.ensures.duals in
+    let forms : HaveForm d = forms-of_lines d (subst (λ (zs : List OddSet). All (λ s. HasForm s.members) zs) sets duals.forms) in
+    let to_slacks : KeepsBefore c.args.kind i d Slack = keeps-next c.args.kind i d SetForm Slack refl to_forms forms in
+    let at_duals : All (λ e. pos 0 ≤ℤ slack (duals_of d) c.deref-2.result.now e) c.in_ok-graph.graph.edges = subst (λ (y : List ℤ). All (λ e. pos 0 ≤ℤ slack y c.deref-2.result.now e) c.in_ok-graph.graph.edges) ys duals.slacks in
+    let at_sets : All (λ e. pos 0 ≤ℤ slack (duals_of d) (sets_of d) e) c.in_ok-graph.graph.edges = subst (λ (zs : List OddSet). All (λ e. pos 0 ≤ℤ slack (duals_of d) zs e) c.in_ok-graph.graph.edges) sets at_duals in
+    let slacks : HaveSlack c.args.kind i d = subst (λ (g : Multigraph). All (λ e. pos 0 ≤ℤ slack (duals_of d) (sets_of d) e) g.edges) graph at_sets in
+    keeps-next c.args.kind i d Slack ValueDiffers refl to_slacks (λ _. slacks)
+
+pub refuse_set-requires-clause-before : goal.refuse_set-requires-clause-before
+refuse_set-requires-clause-before c =
+    let i = c.args.instance.now in
+    let d = c.args.document.now in
+    let within : AreWithin c.args.kind i d = c.requires.within in
+    let ascending : AscendsBy (λ y. y.vertex) d.duals = d.form.vertices_ascend in
+    let size : length d.duals ≡ vertices i = sym c.len.ensures ∙ c.if-len-vertices.false ∙ c.vertices.ensures.count in
+    let have : HasDuals c.args.kind i d = has_duals c.args.kind i d ascending within size in
+    keeps-next c.args.kind i d DualMissing SetForm refl c.requires.before (λ _. have)
+
+pub refuse_set-requires-clause-fault : goal.refuse_set-requires-clause-fault
+refuse_set-requires-clause-fault c =
+    let d = c.args.document.now in
+    let sets : c.deref-2.result.now ≡ sets_of d = c.deref-2.ensures.value ∙ c.in_ok-sets.ensures ∙ ap (λ (zs : List SetLine). map set_of zs) c.as_slice-2.ensures in
+    let found : IsFirstSetFault c.deref-2.result.now c.in-Err-SetForm.number = rw c.in-Err-SetForm.field-0-is at c.in-Err-SetForm.ensures.fault in
+    subst (λ (zs : List OddSet). IsFirstSetFault zs c.in-Err-SetForm.number) sets found
+
+pub returns-in-Err-Slack : goal.returns-in-Err-Slack
+returns-in-Err-Slack c =
+    let i = c.args.instance.now in
+    let d = c.args.document.now in
+    let within : AreWithin c.args.kind i d = c.requires.within in
+    let ys : c.deref.result.now ≡ duals_of d = c.deref.ensures.value ∙ c.in_ok-y.ensures ∙ ap (λ (xs : List DualLine). map (λ (y : DualLine). y.dual) xs) c.as_slice.ensures in
+    let sets : c.deref-2.result.now ≡ sets_of d = c.deref-2.ensures.value ∙ c.in_ok-sets.ensures ∙ ap (λ (zs : List SetLine). map set_of zs) c.as_slice-2.ensures in
+    let graph : c.in_ok-graph.graph ≡ graph_of i = c.in_ok-graph.ensures in
+    let ascending : AscendsBy (λ y. y.vertex) d.duals = d.form.vertices_ascend in
+    let size : length d.duals ≡ vertices i = sym c.len.ensures ∙ c.if-len-vertices.false ∙ c.vertices.ensures.count in
+    let have : HasDuals c.args.kind i d = has_duals c.args.kind i d ascending within size in
+    let to_forms : KeepsBefore c.args.kind i d SetForm = keeps-next c.args.kind i d DualMissing SetForm refl c.requires.before (λ _. have) in
+    let y = c.deref.result.now in
+    let zs = c.deref-2.result.now in
+    let g = c.in_ok-graph.graph in
+    let e = c.in-Err-Slack.field-0-0 in
+    let fault : IsFirstSlackFault g y zs e = rw c.in-Err-Slack.field-0-is at c.in-Err-Slack.ensures.fault in
+    let forms : HaveForm d = forms-of_lines d (subst (λ (zs : List OddSet). All (λ s. HasForm s.members) zs) sets fault.forms) in
+    let to_slacks : KeepsBefore c.args.kind i d Slack = keeps-next c.args.kind i d SetForm Slack refl to_forms forms in
+    let lacks : HaveSlack c.args.kind i d → ⊥ = λ (have : All (λ e. pos 0 ≤ℤ slack (duals_of d) (sets_of d) e) (graph_of i).edges).
+      (let at_graph : All (λ e. pos 0 ≤ℤ slack (duals_of d) (sets_of d) e) g.edges = subst (λ (h : Multigraph). All (λ e. pos 0 ≤ℤ slack (duals_of d) (sets_of d) e) h.edges) (sym graph) have in
+       let at_sets : All (λ e. pos 0 ≤ℤ slack (duals_of d) zs e) g.edges = subst (λ (ws : List OddSet). All (λ e. pos 0 ≤ℤ slack (duals_of d) ws e) g.edges) (sym sets) at_graph in
+       let at_duals : All (λ e. pos 0 ≤ℤ slack y zs e) g.edges = subst (λ (x : List ℤ). All (λ e. pos 0 ≤ℤ slack x zs e) g.edges) (sym ys) at_sets in
+       no_slack g y zs e fault at_duals) in
+    ((c.requires.status, lacks, refl), to_slacks)

@@ -1,0 +1,15 @@
+use Rattle.std.proofs.Common.{◌≡◌, ◌-◌, ◌≤◌, List, length, map, get_or, ap, ◌∙◌, subst, arith}
+use Rattle.std.proofs.lemmas.List.{length-map}
+use Rattle.doc_format.specs.declared.part.SetLine.{SetLine}
+use Rattle.cert_check.specs.Claims.{sets_of, set_of}
+use Rattle.cert_check.specs.Verdicts.{IsFirstFormless}
+use Rattle.cert_check.proofs.DualLemmas.{first_formless}
+use Rattle.cert_check.proofs.optimal.refuse_set.Goals as goal
+
+pub returns : goal.returns
+returns c =
+    let d = c.args.document.now in
+    let number = c.args.number in
+    let z : SetLine = c.index-as_slice-number.result in
+    let there : z ≡ get_or d.sets (number - 1) z = c.index-as_slice-number.is ∙ ap (λ (zs : List SetLine). get_or zs (number - 1) z) c.as_slice.ensures in
+    (subst (λ (t : SetLine). IsFirstFormless d.sets t.line) c.index-as_slice-number.is (first_formless d number z c.requires.fault there), c.requires.before)

@@ -1,0 +1,121 @@
+ghost use Rattle.std.specs.Prelude.{◌≡◌, ℕ, IfOk};
+ghost use Rattle.dual_check.specs.Fault.{IsFirstSetFault};
+ghost use Rattle.cert_check.specs.Claims.{answer_of, duals_of, sets_of};
+ghost use Rattle.graph_theory.specs.Duals.{dual_value};
+ghost use Rattle.cert_check.specs.Within.{AreWithin};
+ghost use Rattle.cert_check.specs.Verdicts.{IsVerdict, KeepsBefore};
+
+use crate::claims::{counts_of, duals_of, sets_of};
+use crate::rule::{DocRule, Verdict};
+use doc_format::{DocStatus, Document};
+use dual_check::{DualFault, bound};
+use mb_base::{OutOfMemory, Sequence};
+use mb_problem::{Answer, Instance, Kind, feasible, weight};
+use std::alloc::{AllocError, Global};
+
+/// The answer that a document states by its counts.
+fn counted_answer(
+    alloc: Global,
+    instance: &Instance,
+    kind: Kind,
+    document: &Document,
+) -> Result<Answer, OutOfMemory>
+    requires kind { kind ≡ Kind.Perfect }
+    requires within { AreWithin kind instance.now document.now }
+    ensures { IfOk result (λ a. a ≡ answer_of kind instance.now document.now) }
+{
+    let _ = kind;
+    let counts = counts_of(alloc, document.counts.as_slice(), instance.edges())?;
+    Ok(Answer::Counts(Sequence::from_vec(counts)))
+}
+
+/// The verdict on a document that states a best answer, whose duals are feasible and have this value.
+fn judge_value(instance: &Instance, kind: Kind, document: &Document, value: i128) -> Verdict
+    requires kind { kind ≡ Kind.Perfect }
+    requires status { document.now.status ≡ DocStatus.Optimal }
+    requires within { AreWithin kind instance.now document.now }
+    requires value { value ≡ dual_value (duals_of document.now) (sets_of document.now) }
+    requires before { KeepsBefore kind instance.now document.now DocRule.ValueDiffers }
+    ensures { IsVerdict kind instance.now document.now result }
+{
+    let _ = instance;
+    let _ = kind;
+    if value != 2 * i128::from(document.weight) {
+        let rule = DocRule::ValueDiffers;
+        let line = document.line;
+        return Verdict::Rejected { rule, line };
+    }
+    Verdict::Accepted
+}
+
+/// The verdict on a document whose set of this number, from 1, is the first without form.
+fn refuse_set(instance: &Instance, kind: Kind, document: &Document, number: u64) -> Verdict
+    requires before { KeepsBefore kind instance.now document.now DocRule.SetForm }
+    requires fault { IsFirstSetFault (sets_of document.now) number }
+    ensures { IsVerdict kind instance.now document.now result }
+{
+    let _ = instance;
+    let _ = kind;
+    let rule = DocRule::SetForm;
+    let line = document.sets.as_slice()[number as usize - 1].line;
+    Verdict::Rejected { rule, line }
+}
+
+/// The verdict on the duals of a document that states a best answer, whose answer is in order.
+fn judge_duals(
+    alloc: Global,
+    instance: &Instance,
+    kind: Kind,
+    document: &Document,
+) -> Result<Verdict, OutOfMemory>
+    requires kind { kind ≡ Kind.Perfect }
+    requires status { document.now.status ≡ DocStatus.Optimal }
+    requires within { AreWithin kind instance.now document.now }
+    requires before { KeepsBefore kind instance.now document.now DocRule.DualMissing }
+    ensures { IfOk result (IsVerdict kind instance.now document.now) }
+{
+    let line = document.line;
+    if document.duals.len() != instance.vertices() as usize {
+        let rule = DocRule::DualMissing;
+        return Ok(Verdict::Rejected { rule, line });
+    }
+    let _ = kind;
+    let graph = instance.graph()?;
+    let y = duals_of(alloc, document.duals.as_slice())?;
+    let sets = sets_of(alloc, document.sets.as_slice())?;
+    match bound(alloc, &graph, &y, &sets) {
+        Ok(value) => Ok(judge_value(instance, kind, document, value)),
+        Err(DualFault::SetForm(number)) => Ok(refuse_set(instance, kind, document, number)),
+        Err(DualFault::Slack(_)) => {
+            let rule = DocRule::Slack;
+            Ok(Verdict::Rejected { rule, line })
+        }
+        Err(DualFault::OutOfMemory) => Err(AllocError),
+    }
+}
+
+/// The verdict on a document that states a best answer.
+pub fn judge_optimal(
+    alloc: Global,
+    instance: &Instance,
+    kind: Kind,
+    document: &Document,
+) -> Result<Verdict, OutOfMemory>
+    requires kind { kind ≡ Kind.Perfect }
+    requires status { document.now.status ≡ DocStatus.Optimal }
+    requires within { AreWithin kind instance.now document.now }
+    requires before { KeepsBefore kind instance.now document.now DocRule.NotFeasible }
+    ensures { IfOk result (IsVerdict kind instance.now document.now) }
+{
+    let line = document.line;
+    let answer = counted_answer(alloc, instance, kind, document)?;
+    if !feasible(alloc, instance, kind, &answer)? {
+        let rule = DocRule::NotFeasible;
+        return Ok(Verdict::Rejected { rule, line });
+    }
+    if weight(instance, &answer) != i128::from(document.weight) {
+        let rule = DocRule::WeightDiffers;
+        return Ok(Verdict::Rejected { rule, line });
+    }
+    judge_duals(alloc, instance, kind, document)
+}
