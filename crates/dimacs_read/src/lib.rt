@@ -15,3 +15,6 @@ pub use law::one_reading;
 pub use reader::{InstanceError, read};
 pub use rest::Rest;
 pub use rule::Rule;
+
+#[cfg(test)]
+mod tests;
