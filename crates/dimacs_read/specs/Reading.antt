@@ -1,5 +1,5 @@
 -- What the code says of one line, and of the whole text.
-use Rattle.std.specs.Prelude.{Bool, ◌≡◌, ◌≤◌, ◌<◌, ◌^◌, ◌==◌, ℕ, ◌+◌, ◌-◌, pos, int_lt, if◌then◌else◌, take, map, count_by, slice_index_or, replicate, slice_set, length, List, [], ◌∷◌, ◌++◌, true, false, Option, None, Some, Result, Ok, Err}
+use Rattle.std.specs.Prelude.{Bool, ◌≡◌, ◌≤◌, ◌==◌, ℕ, ◌+◌, ◌-◌, pos, int_lt, if◌then◌else◌, take, map, count_by, slice_index_or, replicate, slice_set, length, List, [], ◌∷◌, ◌++◌, true, false, Option, None, Some, Result, Ok, Err}
 use Rattle.mb_base.specs.Rows.{Row, rows, is_skipped}
 use Rattle.mb_problem.specs.declared.kind.Kind.{Kind}
 use Rattle.mb_problem.specs.declared.instance.Instance.{Instance}
@@ -80,7 +80,7 @@ pub record IsRead (rs : List Row) (k : ℕ) (header : Option Header) (values : L
 -- all lines of the instance have been read without a fault, and this is what follows them
 pub record IsDraft (bytes : List ℕ) (draft : Draft) : Type 0 where
   pub lines : draft.lines ≡ length (instance_rows (rows bytes))
-  pub few_lines : draft.lines < 2 ^ 63
+  pub short : draft.lines ≤ length bytes
   pub so_far : IsRead (instance_rows (rows bytes)) draft.lines draft.header draft.values.items draft.edges.items draft.negative
   pub rest : draft.rest.now ≡ after_lines draft.lines bytes
 

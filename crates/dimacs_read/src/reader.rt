@@ -241,7 +241,8 @@ fn build(
 /// The instance's lines are those before the first whose first field is exactly `s`. Lines that only
 /// the end shows to be missing are named by the number after the last of them.
 pub fn read(alloc: Global, bytes: &[u8], kind: Kind) -> Result<(Instance, Rest), InstanceError>
-    ensures { Reads kind bytes.now result }
+    ensures reading { Reads kind bytes.now result }
+    ensures short { IfOk result (λ r. r.1.line ≤ length bytes.now + 1) }
 {
     let draft = match read_lines(alloc, bytes) {
         Ok(draft) => draft,

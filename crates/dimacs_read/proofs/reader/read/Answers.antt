@@ -18,10 +18,10 @@ overflow_add-result c =
     let so_far : IsRead rs (length rs) d.header d.values.items d.edges.items d.negative = subst (λ (n : ℕ). IsRead rs n d.header d.values.items d.edges.items d.negative) draft.lines draft.so_far in
     let within : (k : ℕ) → d.negative ≡ Some k → k ≤ d.lines = λ k e. let le = negative_within rs d.header d.values.items d.edges.items d.negative so_far k e in omega (arith, le, draft.lines) in
     let place = end_place c.args.kind (sizes d.header) c.deref.result.now (length c.deref-2.result.now) d.negative d.lines c.in-Some.fault within (sym c.in-Some.ensures) in
-    omega (arith, place, draft.few_lines)
+    omega (arith, place, draft.short)
 
-pub returns-in-Some : goal.returns-in-Some
-returns-in-Some c =
+pub returns-in-Some-clause-reading : goal.returns-in-Some-clause-reading
+returns-in-Some-clause-reading c =
     let rs = instance_rows (rows c.args.bytes.now) in
     let d = c.in-Ok.draft in
     let draft = c.in-Ok.ensures in
@@ -39,8 +39,8 @@ build-requires c =
     let whole = end_whole c.args.kind d.header c.deref.result.now (length c.deref-2.result.now) d.negative d.lines (sym c.in_default.ensures) in
     rw c.deref-3.ensures.value (network rs d.header d.values.items d.edges.items d.negative so_far c.args.kind whole.0 whole.1 (ap length (sym c.deref-2.ensures.value) ∙ whole.2))
 
-pub returns : goal.returns
-returns c =
+pub returns-clause-reading : goal.returns-clause-reading
+returns-clause-reading c =
     let rs = instance_rows (rows c.args.bytes.now) in
     let d = c.in-Ok.draft in
     let draft = c.in-Ok.ensures in
@@ -57,3 +57,6 @@ returns c =
         line_is = c.in-Ok-copy_rest.ensures.line ∙ ap (λ (n : ℕ). n + 1) draft.lines;
       },
     )
+
+pub returns-clause-short : goal.returns-clause-short
+returns-clause-short c = omega (arith, c.in-Ok.ensures.short, c.in-Ok-copy_rest.ensures.line)

@@ -50,7 +50,7 @@ returns c =
     in
     record {
       lines = end_count rs c.lines.line at_end c.lines.invariant.within;
-      few_lines = omega (arith, c.lines.invariant.small);
+      short = omega (arith, c.lines.invariant.small);
       so_far = c.lines.invariant.so_far;
       rest = c.lines.invariant.after;
     }
