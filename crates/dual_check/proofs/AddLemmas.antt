@@ -6,7 +6,7 @@ use Rattle.std.proofs.lemmas.List.{get_or_read}
 use Rattle.graph_theory.specs.Graph.{Multigraph, IsEdgeNumber, edge_of, edges_around, touches, other_end}
 use Rattle.graph_theory.specs.Parts.{holds}
 use Rattle.dual_check.specs.Crossed.{is_marked, leads_out, total_of}
-use Rattle.dual_check.proofs.EdgeLists.{IsBelow, below-is, below-has, below-ascending, fresh, holds_at, holds-take}
+use Rattle.dual_check.proofs.EdgeLists.{below-is, below-has, below-ascending, fresh, holds_at, holds-take}
 
 -- p is the edge at place i of the list of the edges at v, and none before it is the same
 pub record IsNext (g : Multigraph) (v : ℕ) (xs : List ℕ) (i p : ℕ) : Type 0 where

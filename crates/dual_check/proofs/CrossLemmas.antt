@@ -5,7 +5,7 @@ use Rattle.std.proofs.lemmas.Bool.{false≢true, eqb-true, cases_eq, eq-eqb, ne_
 use Rattle.std.specs.List.Sorted.{IsStrictlyIncreasing}
 use Rattle.graph_theory.specs.declared.edge.Edge.{Edge}
 use Rattle.graph_theory.specs.declared.odd_set.OddSet.{OddSet}
-use Rattle.graph_theory.specs.Graph.{Multigraph, edge_at, edge_of, touches, other_end}
+use Rattle.graph_theory.specs.Graph.{Multigraph, edge_at, edge_of, other_end}
 use Rattle.graph_theory.specs.Parts.{crosses, holds}
 use Rattle.graph_theory.specs.Duals.{crossed_by, set_at, no_set, IsNumber, dual_of, slack}
 use Rattle.dual_check.specs.Crossed.{is_marked, leads_out}

@@ -5,7 +5,7 @@ use Rattle.std.proofs.lemmas.Grind.{common_steps}
 use Rattle.std.proofs.lemmas.List.{get_or-take}
 use Rattle.std.proofs.lemmas.List.Kept.{AllPairs-from_increasing}
 use Rattle.std.specs.List.Sorted.{IsStrictlyIncreasing}
-use Rattle.graph_theory.specs.Graph.{Multigraph, edge_at, edge_of, touches, edges_below, edges_around, IsEdgeNumber}
+use Rattle.graph_theory.specs.Graph.{Multigraph, edge_at, edge_of, touches, edges_below}
 use Rattle.graph_theory.specs.Parts.{holds}
 
 or_false : (b : Bool) → (b || false) ≡ b

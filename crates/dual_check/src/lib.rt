@@ -9,6 +9,8 @@ mod fault;
 mod marks;
 mod sets;
 mod slacks;
+#[cfg(test)]
+mod tests;
 
 pub use duals::bound;
 pub use fault::DualFault;

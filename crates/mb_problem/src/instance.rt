@@ -53,6 +53,18 @@ impl Instance {
         })
     }
 
+    /// The instance of these edges and of the values of the vertices 1 to n.
+    pub fn from_parts(alloc: Global, edges: Vec<InstanceEdge>, values: Vec<u32>) -> Instance
+        requires { IsNetwork (record { edges = edges.items; values = values.items }) }
+        ensures { result ≡ record { edges = edges.items; values = values.items } }
+    {
+        Instance {
+            alloc,
+            edges,
+            values,
+        }
+    }
+
     /// Puts an edge at the end of the list.
     fn push(&mut self, edge: InstanceEdge) -> Result<EdgeId, OutOfMemory>
         requires room { length self.old.edges < 65536 }

@@ -1,10 +1,9 @@
-use Rattle.std.proofs.Common.{arith, rules, to_z, of_z, w64, ℤ, sym, ap, ◌≡◌, ◌∙◌, ◌&&◌, cond, pos, ◌+ℤ◌, List, ℕ, get_or, take, length}
+use Rattle.std.proofs.Common.{arith, rules, to_z, of_z, w64, ℤ, sym, ap, ◌≡◌, ◌∙◌, ◌&&◌, cond, pos, ◌+ℤ◌, List, ℕ}
 use Rattle.std.proofs.lemmas.List.{take_all}
 use Rattle.graph_theory.specs.Graph.{edge_of}
 use Rattle.graph_theory.specs.Parts.{holds}
 use Rattle.dual_check.specs.Crossed.{total_of, is_marked, leads_out}
 use Rattle.std.proofs.lemmas.Int.{ints}
-use mir.Syntax.{w128}
 use Rattle.dual_check.proofs.AddLemmas.{next_edge, all_edges, written_next, passed_next}
 use Rattle.dual_check.proofs.crossings.add_from.Goals as goal
 use Rattle.dual_check.proofs.crossings.add_from.Goals.{then-not-marks-number, else-not-marks-number}

@@ -1,4 +1,4 @@
-use Rattle.std.proofs.Common.{arith, to_z, of_z, w64, sym, ap, subst, ◌≡◌, ◌∙◌, ◌||◌, ◌<◌, ◌+ℤ◌, pos, cond, List, ℕ, ℤ, get_or, length}
+use Rattle.std.proofs.Common.{arith, to_z, of_z, w64, ap, subst, ◌≡◌, ◌∙◌, ◌||◌, ◌<◌, ◌+ℤ◌, pos, cond, List, ℕ, ℤ, get_or, length}
 use Rattle.std.proofs.lemmas.Int.{ints}
 use Rattle.std.proofs.lemmas.List.{get_or_read}
 use Rattle.graph_theory.specs.Graph.{edge_of}

@@ -1,11 +1,11 @@
-use Rattle.std.proofs.Common.{◌≡◌, ◌∙◌, ℕ, ℤ, ◌+◌, ◌-◌, ◌≤◌, pos, ◌≤ℤ◌, ◌<ℤ◌, arith, rules, to_z, of_z, below_more, subst, sym, ap, List, length, slice_index_or}
+use Rattle.std.proofs.Common.{◌≡◌, ◌∙◌, ℕ, ℤ, ◌+◌, ◌-◌, pos, ◌≤ℤ◌, ◌<ℤ◌, arith, rules, to_z, of_z, below_more, subst, sym, ap, List, length, slice_index_or}
 use Rattle.std.proofs.lemmas.Int.{ints}
 use Rattle.std.proofs.lemmas.List.{get_or_read}
 use Rattle.std.proofs.lemmas.List.Elements.{All-from_get_or}
 use mir.Syntax.{w128}
 use Rattle.graph_theory.specs.declared.edge.Edge.{Edge}
 use Rattle.graph_theory.specs.Duals.{slack}
-use Rattle.graph_theory.specs.Graph.{Multigraph, edge_at, edge_of, no_edge}
+use Rattle.graph_theory.specs.Graph.{edge_at, edge_of, no_edge}
 use Rattle.dual_check.specs.Crossed.{total_of}
 use Rattle.dual_check.proofs.CrossLemmas.{crossed-within, slack_is}
 use Rattle.dual_check.proofs.slacks.first_slack_fault.Goals as goal

@@ -1,0 +1,173 @@
+-- What the tests at the end answer, and the instance that lines without a fault hold.
+use Rattle.std.proofs.Common.{◌≡◌, ℕ, suc, ◌+◌, ◌-◌, ◌<◌, ◌≤◌, Bool, true, false, cond, eqb, List, [], ◌∷◌, length, take, get_or, map, All, Option, Some, None, refl, sym, ap, ap₂, subst, ◌∙◌, arith}
+use Rattle.std.specs.Prelude.{count_by, unwrap_or}
+use Rattle.std.specs.List.{range_with_len}
+use Rattle.std.specs.Option.{option_map}
+use Rattle.std.proofs.lemmas.Bool.{eqb-true}
+use Rattle.std.proofs.lemmas.List.{take_all, length-map, get_or-map, ext_get_or}
+use Rattle.std.proofs.lemmas.List.Elements.{All-map}
+use Rattle.std.proofs.lemmas.List.FromFn.{get_or-map-range_with_len, length-map-range_with_len}
+use Rattle.mb_base.specs.Rows.{Row}
+use Rattle.mb_problem.specs.declared.kind.Kind.{Kind}
+use Rattle.mb_problem.specs.declared.kind.Kind.TheVariants.{Perfect, Match, BMatch, CapMatch, FFactor, TJoin, Postman, Path}
+use Rattle.mb_problem.specs.declared.instance.InstanceEdge.{InstanceEdge}
+use Rattle.mb_problem.specs.Network.{Network, IsNetwork, IsInstanceEdge}
+use Rattle.dimacs_read.specs.declared.line.Header.{Header}
+use Rattle.dimacs_read.specs.declared.rule.Rule.{Rule}
+use Rattle.dimacs_read.specs.declared.rule.Rule.TheVariants.{HeaderMissing, EdgeCount, Negative, PathEnds}
+use Rattle.dimacs_read.specs.declared.rule.Fault.{Fault}
+use Rattle.dimacs_read.specs.Format.{Sizes, header_of, value_in, edges_of, values_of, value_or, default_of, first_place, is_negative, is_odd, kind_fault, end_fault, HoldsInstance}
+use Rattle.dimacs_read.specs.Line.{sizes, sizes_of_header, FitsHeader, IsWithinLimits, HasValues, HasFewVertices}
+use Rattle.dimacs_read.specs.Reading.{IsRead, kind_fault_from, end_fault_from}
+
+-- ---- the place of the first row that passes is within the rows
+
+abbrev some_fault : Fault → Option Fault
+some_fault f = Some f
+
+pub fault_is : (f g : Fault) → some_fault f ≡ some_fault g → f ≡ g
+fault_is f g e = cc
+
+abbrev some_place : ℕ → Option ℕ
+some_place k = Some k
+
+place_is : (j k : ℕ) → some_place j ≡ some_place k → j ≡ k
+place_is j k e = cc
+
+place_step : (b : Bool) (o : Option ℕ) (k n : ℕ) → ((j : ℕ) → o ≡ Some j → j < n) → cond b (Some 0) (option_map (λ k. suc k) o) ≡ Some k → k < suc n
+place_step true o k n h e = let z : 0 ≡ k = place_is 0 k e in omega (arith, z)
+place_step false None k n h e = absurd cc
+place_step false (Some j) k n h e = let z : suc j ≡ k = place_is (suc j) k e in omega (arith, z, h j refl)
+
+pub first_place-within : (p : Row → Bool) (rs : List Row) (k : ℕ) → first_place p rs ≡ Some k → k < length rs
+first_place-within p [] k e = absurd cc
+first_place-within p (row ∷ rs) k e = place_step (p row) (first_place p rs) k (length rs) (first_place-within p rs) e
+
+-- ---- a fault at the end stands on a line, or on the one after the last
+
+negative_place : (neg : Option ℕ) (lines : ℕ) (f : Fault) → ((k : ℕ) → neg ≡ Some k → k ≤ lines) → option_map (λ k. record { rule = Negative; place = k }) neg ≡ some_fault f → f.place ≤ lines
+negative_place None lines f h e = absurd cc
+negative_place (Some k) lines f h e = let is = fault_is (record { rule = Negative; place = k }) f e in let z : k ≡ f.place = ap (λ (x : Fault). x.place) is in omega (arith, z, h k refl)
+
+ends_place : (b : Bool) (lines : ℕ) (f : Fault) → cond b None (some_fault (record { rule = PathEnds; place = lines })) ≡ some_fault f → f.place ≤ lines
+ends_place true lines f e = absurd cc
+ends_place false lines f e = let z : lines ≡ f.place = ap (λ (x : Fault). x.place) (fault_is (record { rule = PathEnds; place = lines }) f e) in omega (arith, z)
+
+kind_place : (kind : Kind) (vs : List (Option ℕ)) (neg : Option ℕ) (lines : ℕ) (f : Fault) → ((k : ℕ) → neg ≡ Some k → k ≤ lines) → kind_fault_from kind vs neg lines ≡ some_fault f → f.place ≤ lines
+kind_place Perfect vs neg lines f h e = absurd cc
+kind_place Match vs neg lines f h e = absurd cc
+kind_place BMatch vs neg lines f h e = absurd cc
+kind_place CapMatch vs neg lines f h e = absurd cc
+kind_place FFactor vs neg lines f h e = absurd cc
+kind_place TJoin vs neg lines f h e = absurd cc
+kind_place Postman vs neg lines f h e = negative_place neg lines f h e
+kind_place Path vs neg lines f h e = ends_place (eqb (count_by is_odd (map (value_or 0) vs)) 2) lines f e
+
+count_place : (b : Bool) (o : Option Fault) (lines : ℕ) (f : Fault) → (o ≡ some_fault f → f.place ≤ lines) → cond b o (some_fault (record { rule = EdgeCount; place = lines })) ≡ some_fault f → f.place ≤ lines
+count_place true o lines f h e = h e
+count_place false o lines f h e = let z : lines ≡ f.place = ap (λ (x : Fault). x.place) (fault_is (record { rule = EdgeCount; place = lines }) f e) in omega (arith, z)
+
+pub end_place : (kind : Kind) (s : Option Sizes) (vs : List (Option ℕ)) (count : ℕ) (neg : Option ℕ) (lines : ℕ) (f : Fault) → ((k : ℕ) → neg ≡ Some k → k ≤ lines) → end_fault_from kind s vs count neg lines ≡ some_fault f → f.place ≤ lines
+end_place kind None vs count neg lines f h e = let z : lines ≡ f.place = ap (λ (x : Fault). x.place) (fault_is (record { rule = HeaderMissing; place = lines }) f e) in omega (arith, z)
+end_place kind (Some s) vs count neg lines f h e = count_place (eqb count s.edges) (kind_fault_from kind vs neg lines) lines f (kind_place kind vs neg lines f h) e
+
+-- ---- without a fault at the end there is a header, and as many edges as it says
+
+count_whole : (b : Bool) (o : Option Fault) (f : Fault) → cond b o (some_fault f) ≡ None → b ≡ true
+count_whole true o f e = refl
+count_whole false o f e = absurd cc
+
+pub end_whole : (kind : Kind) (h : Option Header) (vs : List (Option ℕ)) (count : ℕ) (neg : Option ℕ) (lines : ℕ) → end_fault_from kind (sizes h) vs count neg lines ≡ None → (g : Header) × (h ≡ Some g) × (count ≡ g.edges)
+end_whole kind None vs count neg lines e = absurd cc
+end_whole kind (Some g) vs count neg lines e = (g, refl, eqb-true count g.edges (count_whole (eqb count g.edges) (kind_fault_from kind vs neg lines) (record { rule = EdgeCount; place = lines }) e))
+
+-- ---- all lines
+
+default_small : (kind : Kind) → default_of kind ≤ 4096
+default_small Perfect = omega arith
+default_small Match = omega arith
+default_small BMatch = omega arith
+default_small CapMatch = omega arith
+default_small FFactor = omega arith
+default_small TJoin = omega arith
+default_small Postman = omega arith
+default_small Path = omega arith
+
+small_value : (kind : Kind) (o : Option ℕ) → IsWithinLimits o → value_or (default_of kind) o ≤ 4096
+small_value kind None h = default_small kind
+small_value kind (Some b) h = h
+
+module _ (rs : List Row) (h : Option Header) (vs : List (Option ℕ)) (es : List InstanceEdge) (neg : Option ℕ) (so_far : IsRead rs (length rs) h vs es neg) where
+  all_rows : take (length rs) rs ≡ rs
+  all_rows = take_all (length rs) rs (omega arith)
+
+  pub all_header : sizes h ≡ header_of rs
+  all_header = so_far.header_is ∙ ap header_of all_rows
+
+  pub all_edges : es ≡ edges_of rs
+  all_edges = so_far.edges_are ∙ ap edges_of all_rows
+
+  all_negative : neg ≡ first_place is_negative rs
+  all_negative = so_far.negative_is ∙ ap (first_place is_negative) all_rows
+
+  pub negative_within : (k : ℕ) → neg ≡ Some k → k ≤ length rs
+  negative_within k e = let lt = first_place-within is_negative rs k (sym all_negative ∙ e) in omega (arith, lt)
+
+  one_value : (default i : ℕ) → i < length vs → get_or (map (value_or default) vs) i 0 ≡ value_or default (value_in rs (i + 1))
+  one_value default i lt =
+      let back : i + 1 - 1 ≡ i = omega arith in
+      get_or-map (value_or default) vs i None 0 lt
+      ∙ ap (λ (j : ℕ). value_or default (get_or vs j None)) (sym back)
+      ∙ ap (value_or default) (so_far.values_are (i + 1) (omega arith) ∙ ap (λ (r : List Row). value_in r (i + 1)) all_rows)
+
+  pub all_values : (default n : ℕ) → length vs ≡ n → map (value_or default) vs ≡ values_of default n rs
+  all_values default n len =
+      ext_get_or 0 (map (value_or default) vs) (values_of default n rs)
+      (length-map vs (value_or default) ∙ len ∙ sym (length-map-range_with_len (λ v. value_or default (value_in rs v)) 1 n))
+      (λ i lt.
+      let short : i < length vs = subst (λ (m : ℕ). i < m) (length-map vs (value_or default)) lt in
+      one_value default i short ∙ sym (get_or-map-range_with_len (λ v. value_or default (value_in rs v)) 1 n i (i + 1) 0 (omega (arith, short, len)) (omega arith)))
+
+  kind_same : (kind : Kind) (n : ℕ) → length vs ≡ n → kind_fault_from kind vs neg (length rs) ≡ kind_fault kind n rs
+  kind_same Perfect n len = refl
+  kind_same Match n len = refl
+  kind_same BMatch n len = refl
+  kind_same CapMatch n len = refl
+  kind_same FFactor n len = refl
+  kind_same TJoin n len = refl
+  kind_same Postman n len = ap (option_map (λ k. record { rule = Negative; place = k })) all_negative
+  kind_same Path n len = ap (λ (xs : List ℕ). cond (eqb (count_by is_odd xs) 2) None (some_fault (record { rule = PathEnds; place = length rs }))) (all_values 0 n len)
+
+  header_count : (g : Header) → h ≡ Some g → length vs ≡ g.vertices
+  header_count g e = subst (λ (x : Option Header). HasValues x (length vs)) e so_far.room
+
+  pub end_same : (kind : Kind) → end_fault_from kind (sizes h) vs (length es) neg (length rs) ≡ end_fault kind (header_of rs) rs
+  end_same kind = by_header h refl ∙ ap (λ (s : Option Sizes). end_fault kind s rs) all_header
+    where
+      by_header : (x : Option Header) → h ≡ x → end_fault_from kind (sizes h) vs (length es) neg (length rs) ≡ end_fault kind (sizes h) rs
+      by_header None e = rw e refl
+      by_header (Some g) e =
+          rw e (ap₂ (λ (m : ℕ) (o : Option Fault). cond (eqb m g.edges) o (some_fault (record { rule = EdgeCount; place = length rs }))) (ap length all_edges) (kind_same kind g.vertices (header_count g e)))
+
+  pub network : (kind : Kind) (g : Header) → h ≡ Some g → length es ≡ g.edges → IsNetwork (record { edges = es; values = map (value_or (default_of kind)) vs })
+  network kind g e count =
+      let few = subst HasFewVertices e so_far.few in
+      let len : length (map (value_or (default_of kind)) vs) ≡ g.vertices = length-map vs (value_or (default_of kind)) ∙ header_count g e in
+      record {
+        few_vertices = omega (arith, few.0, len);
+        few_edges = omega (arith, few.1, count);
+        edges = λ j d lt. subst (λ (n : ℕ). IsInstanceEdge n (get_or es j d)) (sym len) (subst (λ (x : Option Header). FitsHeader x (get_or es j d)) e (so_far.fit j d lt));
+        values = All-map (λ b. b ≤ 4096) (value_or (default_of kind)) vs (λ j d lt. small_value kind (get_or vs j d) (so_far.small j d lt));
+      }
+
+  pub holds : (kind : Kind) (g : Header) → h ≡ Some g → end_fault_from kind (sizes h) vs (length es) neg (length rs) ≡ None → HoldsInstance kind rs (record { edges = es; values = map (value_or (default_of kind)) vs })
+  holds kind g e none =
+      let header : header_of rs ≡ Some (sizes_of_header g) = sym all_header ∙ ap sizes e in
+      record {
+        faultless = so_far.faultless;
+        header = sizes_of_header g;
+        header_is = header;
+        whole = ap (λ (s : Option Sizes). end_fault kind s rs) (sym header) ∙ sym (end_same kind) ∙ none;
+        edges_are = all_edges;
+        values_are = all_values (default_of kind) g.vertices (header_count g e);
+      }

@@ -1,0 +1,5 @@
+pub mod FieldsLemmas
+pub mod ValueLemmas
+pub mod StepLemmas
+pub mod EndLemmas
+pub mod ReadingLemmas

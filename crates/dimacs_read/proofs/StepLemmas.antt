@@ -1,0 +1,369 @@
+-- One line more.
+use Rattle.std.proofs.Common.{◌-◌, ◌&&◌, zero, suc, eqb, replicate, ◌≡◌, ℕ, ◌+◌, ◌<◌, ◌≤◌, Bool, true, false, List, [], ◌∷◌, ◌++◌, length, take, drop, get_or, map, filter, Option, Some, None, refl, sym, ap, subst, ◌∙◌, arith}
+use Rattle.std.proofs.Common.{inl, inr, cond}
+use Rattle.std.specs.List.{find}
+use Rattle.std.proofs.lemmas.Bool.{cases_lt, cases_eq, eqb-true, eq-eqb, ne_eqb}
+use Rattle.std.proofs.lemmas.List.{drop_more, drop_all, take_more, map_push}
+use Rattle.std.proofs.lemmas.Slice.Eq.{bytes_eq-Decides}
+use Rattle.std.specs.Prelude.{codes}
+use borrow.Author.Count.{below_more}
+use Rattle.dimacs_read.specs.declared.rule.Rule.{Rule}
+use Rattle.dimacs_read.specs.declared.rule.Rule.TheVariants.{UnknownLine}
+use Rattle.dimacs_read.specs.declared.line.Node.{Node}
+use Rattle.std.specs.Option.{option_map, is_some}
+use Rattle.mb_problem.specs.declared.instance.InstanceEdge.{InstanceEdge}
+use Rattle.mb_base.specs.Rows.{Row, rows, is_skipped}
+use Rattle.dimacs_read.specs.Rows.{is_header, is_edge, is_node, is_solution, instance_rows}
+use Rattle.dimacs_read.specs.Format.{value_in, names, natural_at, fault_of, header_at, edge_at, node_at, Sizes, header_of, sizes_in, edges_of, edge_of, fault_at, line_fault, NoFaultBelow, IsFirstFaulty, first_place, is_negative}
+use Rattle.std.specs.Prelude.{Result, Ok, Err}
+use Rattle.std.proofs.lemmas.List.{take_all, length-map, length-drop, length-replicate, length-set, nil_from_length, get_or-set_same, get_or-set_other}
+use Rattle.mb_base.specs.Text.{lines, fields}
+use Rattle.dimacs_read.specs.declared.line.Header.{Header}
+use Rattle.dimacs_read.specs.declared.keep.Line.{Line}
+use Rattle.dimacs_read.specs.declared.keep.Line.TheVariants as line
+use Rattle.dimacs_read.specs.declared.reader.InstanceError.{InstanceError}
+use Rattle.dimacs_read.specs.declared.reader.InstanceError.TheVariants.{Malformed, OutOfMemory}
+use Rattle.dimacs_read.specs.Line.{sizes, sizes_of_header, HasFewVertices, HasValues, is_valued, FitsHeader, IsWithinLimits}
+use Rattle.dimacs_read.specs.Reading.{IsLine, GivesLine, HasPlace, values_after, header_after, edges_after, negative_after, IsRead}
+use Rattle.dimacs_read.specs.Rest.{after_lines}
+use Rattle.std.specs.List.{after_first}
+use Rattle.mb_base.specs.Text.{is_line_feed}
+use Rattle.std.proofs.Common.{pos, add-one}
+use Rattle.std.specs.Prelude.{int_lt, slice_set}
+use Rattle.std.proofs.lemmas.List.{length-take}
+use Rattle.std.proofs.lemmas.List.Elements.{All-push, All-replicate, All-set}
+use Rattle.dimacs_read.proofs.FieldsLemmas.{is_skipped-six, is_header-six, is_edge-six, is_solution-six, is_node-six, node_at-six, header_at-six, edge_at-six}
+use Rattle.dimacs_read.proofs.ValueLemmas.{header_is, edge_is, node_is, node_at-same, node_unnamed}
+
+next_row : (rs : List Row) (k : ℕ) (row : Row) (more : List Row) → drop k rs ≡ row ∷ more → (k < length rs) × (get_or rs k [] ≡ row) × (drop (k + 1) rs ≡ more)
+next_row rs k row more e =
+    elim (cases_lt k (length rs)) [
+      | inl lt ↦ let f = drop_more rs k [] lt in (lt, cc, cc)
+      | inr le ↦ let f = drop_all k rs le in absurd cc
+    ]
+
+find_push-no : (p : Row → Bool) (xs : List Row) (x : Row) → p x ≡ false → find p (xs ++ x ∷ []) ≡ find p xs
+find_push-no p [] x h = rw h refl
+find_push-no p (y ∷ ys) x h = ap (cond (p y) (Some y)) (find_push-no p ys x h)
+
+and_false : (x y : Bool) → y ≡ false → (x && y) ≡ false
+and_false true y h = h
+and_false false y h = refl
+
+no_value : (o : Option Row) → option_map (λ (r : Row). natural_at r 2) o ≡ None → o ≡ None
+no_value None e = refl
+no_value (Some row) e = absurd cc
+
+found_push : (b : Bool) (y x : Row) (before after : Option Row) → (before ≡ None → after ≡ Some x) → cond b (Some y) before ≡ None → cond b (Some y) after ≡ Some x
+found_push true y x before after f e = absurd cc
+found_push false y x before after f e = f e
+
+find_push-yes : (p : Row → Bool) (xs : List Row) (x : Row) → p x ≡ true → find p xs ≡ None → find p (xs ++ x ∷ []) ≡ Some x
+find_push-yes p [] x h e = rw h refl
+find_push-yes p (y ∷ ys) x h e = found_push (p y) y x (find p ys) (find p (ys ++ x ∷ [])) (find_push-yes p ys x h) e
+
+filter_push-no : (p : Row → Bool) (xs : List Row) (x : Row) → p x ≡ false → filter p (xs ++ x ∷ []) ≡ filter p xs
+filter_push-no p [] x h = rw h refl
+filter_push-no p (y ∷ ys) x h = ap (λ (l : List Row). cond (p y) (y ∷ l) l) (filter_push-no p ys x h)
+
+filter_joined : (b : Bool) (y x : Row) (ys : List Row) → cond b (y ∷ (ys ++ x ∷ [])) (ys ++ x ∷ []) ≡ cond b (y ∷ ys) ys ++ x ∷ []
+filter_joined true y x ys = refl
+filter_joined false y x ys = refl
+
+filter_push-yes : (p : Row → Bool) (xs : List Row) (x : Row) → p x ≡ true → filter p (xs ++ x ∷ []) ≡ filter p xs ++ x ∷ []
+filter_push-yes p [] x h = rw h refl
+filter_push-yes p (y ∷ ys) x h = ap (λ (l : List Row). cond (p y) (y ∷ l) l) (filter_push-yes p ys x h) ∙ filter_joined (p y) y x (filter p ys)
+
+-- ---- kinds of lines exclude each other
+
+skipped_kind : (row : Row) → is_skipped row ≡ true → (is_header row ≡ false) × (is_edge row ≡ false) × (is_node row ≡ false)
+skipped_kind [] h = (refl, refl, refl)
+skipped_kind ([] ∷ fs) h = absurd cc
+skipped_kind ((b ∷ bs) ∷ fs) h =
+    let e : b ≡ 99 = eqb-true b 99 h in
+    (rw e refl, rw e refl, rw e refl)
+
+header_kind : (row : Row) → is_header row ≡ true → (is_edge row ≡ false) × (is_node row ≡ false)
+header_kind [] h = absurd cc
+header_kind (f ∷ fs) h = let e = (bytes_eq-Decides f (codes "p")).0 h in (rw e refl, rw e refl)
+
+edge_kind : (row : Row) → is_edge row ≡ true → is_node row ≡ false
+edge_kind [] h = absurd cc
+edge_kind (f ∷ fs) h = rw ((bytes_eq-Decides f (codes "e")).0 h) refl
+
+no_sizes : (o : Option Row) → sizes_in o ≡ None → o ≡ None
+no_sizes None e = refl
+no_sizes (Some row) e = absurd cc
+
+abbrev some_sizes : Sizes → Option Sizes
+some_sizes s = Some s
+
+sizes_vertices : (s t : Sizes) → some_sizes s ≡ some_sizes t → s.vertices ≡ t.vertices
+sizes_vertices s t e = ap (λ (z : Sizes). z.vertices) (some_is s t e)
+  where
+    some_is : (s t : Sizes) → some_sizes s ≡ some_sizes t → s ≡ t
+    some_is s t e = cc
+
+no_header : (h : Option Header) → sizes h ≡ None → h ≡ None
+no_header None e = refl
+no_header (Some g) e = absurd cc
+
+no_values : (h : Option Header) (count : ℕ) → h ≡ None → HasValues h count → count ≡ 0
+no_values None count e room = room
+no_values (Some g) count e room = absurd cc
+
+-- what earlier lines have named
+abbrev named_in : List Row → ℕ → Bool
+named_in earlier v = is_some (value_in earlier v)
+
+marked_nodes : (h : Option Header) (values : List (Option ℕ)) (earlier : List Row) (row : Row) → ((v : ℕ) → 1 ≤ v → get_or values (v - 1) None ≡ value_in earlier v) → node_at (sizes h) (is_valued values) row ≡ node_at (sizes h) (named_in earlier) row
+unfolding node_at
+marked_nodes None values earlier row are = refl
+marked_nodes (Some g) values earlier row are = node_at-same (sizes_of_header g) (is_valued values) (named_in earlier) row (λ v low high. ap is_some (are v low))
+
+-- a vertex that the code has marked is one that an earlier line names
+same_marks : (h : Option Header) (values : List (Option ℕ)) (earlier : List Row) (row : Row) → ((v : ℕ) → 1 ≤ v → get_or values (v - 1) None ≡ value_in earlier v) → line_fault (sizes h) (is_valued values) row ≡ line_fault (sizes h) (named_in earlier) row
+same_marks h values earlier row are =
+    ap (λ (r : Result Node Rule). cond (is_skipped row) None (cond (is_header row) (fault_of (header_at (sizes h) row)) (cond (is_edge row) (fault_of (edge_at (sizes h) row)) (cond (is_node row) (fault_of r) (Some UnknownLine))))) (marked_nodes h values earlier row are)
+
+abbrev nothing : Option ℕ
+nothing = None
+
+get_or-nones : (n i : ℕ) → get_or (replicate n nothing) i nothing ≡ nothing
+get_or-nones zero i = refl
+get_or-nones (suc n) zero = refl
+get_or-nones (suc n) (suc i) = get_or-nones n i
+
+-- ---- one line more
+
+module _ (rs : List Row) (k : ℕ) (row : Row) (more : List Row) (at : drop k rs ≡ row ∷ more) where
+  took : take (k + 1) rs ≡ take k rs ++ row ∷ []
+  took = let n = next_row rs k row more at in take_more rs k [] n.0 ∙ ap (λ (r : Row). take k rs ++ r ∷ []) n.1
+
+  no_fault_more : (h : Option Sizes) → h ≡ header_of (take k rs) → line_fault h (named_in (take k rs)) row ≡ None → NoFaultBelow rs k → NoFaultBelow rs (k + 1)
+  no_fault_more h e none below =
+      let n = next_row rs k row more at in
+      let here : fault_at rs k ≡ None = subst (λ (r : Row). line_fault (header_of (take k rs)) (named_in (take k rs)) r ≡ None) (sym n.1) (subst (λ (s : Option Sizes). line_fault s (named_in (take k rs)) row ≡ None) e none) in
+      below_more (λ j. fault_at rs j ≡ None) k below here
+
+  faulty_here : (h : Option Sizes) (rule : Rule) → h ≡ header_of (take k rs) → line_fault h (named_in (take k rs)) row ≡ Some rule → NoFaultBelow rs k → IsFirstFaulty rs rule k
+  faulty_here h rule e some below =
+      let n = next_row rs k row more at in
+      record {
+        there = n.0;
+        fault = subst (λ (r : Row). line_fault (header_of (take k rs)) (named_in (take k rs)) r ≡ Some rule) (sym n.1) (subst (λ (s : Option Sizes). line_fault s (named_in (take k rs)) row ≡ Some rule) e some);
+        least = below;
+      }
+
+  values_stay : is_node row ≡ false → (v : ℕ) → value_in (take (k + 1) rs) v ≡ value_in (take k rs) v
+  values_stay h v = ap (λ (r : List Row). value_in r v) took ∙ ap (option_map (λ (r : Row). natural_at r 2)) (find_push-no (names v) (take k rs) row (rw h refl))
+
+  values_other : (v : ℕ) → (natural_at row 1 ≡ v → ⊥) → value_in (take (k + 1) rs) v ≡ value_in (take k rs) v
+  values_other v ne = ap (λ (r : List Row). value_in r v) took ∙ ap (option_map (λ (r : Row). natural_at r 2)) (find_push-no (names v) (take k rs) row (and_false (is_node row) (eqb (natural_at row 1) v) (ne_eqb (natural_at row 1) v ne)))
+
+  values_here : is_node row ≡ true → value_in (take k rs) (natural_at row 1) ≡ None → value_in (take (k + 1) rs) (natural_at row 1) ≡ Some (natural_at row 2)
+  values_here h none =
+      let v = natural_at row 1 in
+      let there : names v row ≡ true = rw h (eq-eqb v v refl) in
+      ap (λ (r : List Row). value_in r v) took ∙ ap (option_map (λ (r : Row). natural_at r 2)) (find_push-yes (names v) (take k rs) row there (no_value (find (names v) (take k rs)) none))
+
+  header_stays : is_header row ≡ false → header_of (take (k + 1) rs) ≡ header_of (take k rs)
+  header_stays h = ap header_of took ∙ ap sizes_in (find_push-no is_header (take k rs) row h)
+
+  edges_stay : is_edge row ≡ false → edges_of (take (k + 1) rs) ≡ edges_of (take k rs)
+  edges_stay h = ap edges_of took ∙ ap (map edge_of) (filter_push-no is_edge (take k rs) row h)
+
+  edges_grow : is_edge row ≡ true → edges_of (take (k + 1) rs) ≡ edges_of (take k rs) ++ edge_of row ∷ []
+  edges_grow h = ap edges_of took ∙ ap (map edge_of) (filter_push-yes is_edge (take k rs) row h) ∙ map_push edge_of (filter is_edge (take k rs)) row
+
+six_fault : (h : Option Sizes) (named : ℕ → Bool) (row : Row) → line_fault h named (take 6 row) ≡ line_fault h named row
+six_fault h named row =
+    let a = is_skipped-six row in
+    let b = is_header-six row in
+    let d = header_at-six h row in
+    let e = is_edge-six row in
+    let f = edge_at-six h row in
+    let i = is_node-six row in
+    let j = node_at-six h named row in
+    rw (a, b, d, e, f, i, j) refl
+
+-- a vertex whose line is taken has had no value
+unnamed : (s : Option Sizes) (named : ℕ → Bool) (row : Row) (node : Node) → node_at s named row ≡ Ok node → named node.vertex ≡ false
+unnamed s named row node e = node_unnamed s named row node e
+
+not_some : (o : Option ℕ) → is_some o ≡ false → o ≡ None
+not_some None e = refl
+not_some (Some x) e = absurd cc
+
+room_set : (h : Option Header) (count other : ℕ) → HasValues h count → other ≡ count → HasValues h other
+room_set h count other room e = subst (HasValues h) (sym e) room
+
+-- ---- the first edge of a weight below 0
+
+abbrev or_here : Option ℕ → Bool → ℕ → Option ℕ
+or_here (Some j) b n = Some j
+or_here None b n = cond b (Some n) None
+
+shifted : (o : Option ℕ) (b : Bool) (n : ℕ) → option_map (λ k. suc k) (or_here o b n) ≡ or_here (option_map (λ k. suc k) o) b (suc n)
+shifted (Some j) b n = refl
+shifted None true n = refl
+shifted None false n = refl
+
+place_cond : (b c : Bool) (o : Option ℕ) (n : ℕ) → cond b (Some 0) (option_map (λ k. suc k) (or_here o c n)) ≡ or_here (cond b (Some 0) (option_map (λ k. suc k) o)) c (suc n)
+place_cond true c o n = refl
+place_cond false c o n = shifted o c n
+
+first_place-push : (p : Row → Bool) (xs : List Row) (x : Row) → first_place p (xs ++ x ∷ []) ≡ or_here (first_place p xs) (p x) (length xs)
+first_place-push p [] x = refl
+first_place-push p (y ∷ ys) x = ap (λ (o : Option ℕ). cond (p y) (Some 0) (option_map (λ k. suc k) o)) (first_place-push p ys x) ∙ place_cond (p y) (p x) (first_place p ys) (length ys)
+
+negative_no : (neg : Option ℕ) (k : ℕ) → or_here neg false k ≡ neg
+negative_no (Some j) k = refl
+negative_no None k = refl
+
+no_edge_negative : (row : Row) → is_edge row ≡ false → is_negative row ≡ false
+no_edge_negative row h = rw h refl
+
+after_skipped : (neg : Option ℕ) (k : ℕ) → negative_after neg line.Skipped k ≡ neg
+after_skipped (Some j) k = refl
+after_skipped None k = refl
+
+after_header : (neg : Option ℕ) (h : Header) (k : ℕ) → negative_after neg (line.Header h) k ≡ neg
+after_header (Some j) h k = refl
+after_header None h k = refl
+
+after_node : (neg : Option ℕ) (node : Node) (k : ℕ) → negative_after neg (line.Node node) k ≡ neg
+after_node (Some j) node k = refl
+after_node None node k = refl
+
+after_edge : (neg : Option ℕ) (e : InstanceEdge) (k : ℕ) → negative_after neg (line.Edge e) k ≡ or_here neg (int_lt e.w (pos 0)) k
+after_edge (Some j) e k = refl
+after_edge None e k = refl
+
+edge_negative : (row : Row) (e : InstanceEdge) → is_edge row ≡ true → edge_of row ≡ e → is_negative row ≡ int_lt e.w (pos 0)
+edge_negative row e h is = rw h (ap (λ (x : InstanceEdge). int_lt x.w (pos 0)) is)
+
+module _ (rs : List Row) (k : ℕ) (row : Row) (more : List Row) (at : drop k rs ≡ row ∷ more) where
+  faultless_more : (h : Option Header) (vs : List (Option ℕ)) (es : List InstanceEdge) (neg : Option ℕ) → IsRead rs k h vs es neg → line_fault (sizes h) (is_valued vs) (take 6 row) ≡ None → NoFaultBelow rs (k + 1)
+  faultless_more h vs es neg so_far none = no_fault_more rs k row more at (sizes h) so_far.header_is (sym (same_marks h vs (take k rs) row so_far.values_are) ∙ sym (six_fault (sizes h) (is_valued vs) row) ∙ none) so_far.faultless
+
+  negative_more : (neg : Option ℕ) → neg ≡ first_place is_negative (take k rs) → first_place is_negative (take (k + 1) rs) ≡ or_here neg (is_negative row) k
+  negative_more neg e =
+      let n = next_row rs k row more at in
+      let len : length (take k rs) ≡ k = length-take k rs ∙ omega (arith, n.0) in
+      ap (first_place is_negative) (took rs k row more at) ∙ first_place-push is_negative (take k rs) row ∙ ap (λ (o : Option ℕ). or_here o (is_negative row) (length (take k rs))) (sym e) ∙ ap (or_here neg (is_negative row)) len
+
+  negative_stays : (neg : Option ℕ) → neg ≡ first_place is_negative (take k rs) → is_edge row ≡ false → neg ≡ first_place is_negative (take (k + 1) rs)
+  negative_stays neg e h = sym (negative_more neg e ∙ ap (λ (b : Bool). or_here neg b k) (no_edge_negative row h) ∙ negative_no neg k)
+
+  pub goes_on : (h : Option Header) (vs : List (Option ℕ)) (es : List InstanceEdge) (neg : Option ℕ) (l : Line) → IsRead rs k h vs es neg → GivesLine h (is_valued vs) (length vs) (take 6 row) (Ok l) → IsRead rs (k + 1) (header_after h l) (values_after vs l) (edges_after es l) (negative_after neg l k)
+  goes_on h vs es neg line.Skipped so_far given =
+      let kind = skipped_kind row (sym (is_skipped-six row) ∙ given.1) in
+      record {
+        faultless = faultless_more h vs es neg so_far given.0;
+        header_is = so_far.header_is ∙ sym (header_stays rs k row more at kind.0);
+        values_are = λ v low. so_far.values_are v low ∙ sym (values_stay rs k row more at kind.2 v);
+        edges_are = so_far.edges_are ∙ sym (edges_stay rs k row more at kind.1);
+        negative_is = after_skipped neg k ∙ negative_stays neg so_far.negative_is kind.1;
+        room = so_far.room;
+        few = so_far.few;
+        fit = so_far.fit;
+        small = so_far.small;
+      }
+  goes_on h vs es neg (line.Header found) so_far given =
+      let yes_header : is_header row ≡ true = sym (is_header-six row) ∙ given.1.1 in
+      let kind = header_kind row yes_header in
+      let value = header_is (sizes h) row (sizes_of_header found) (sym (header_at-six (sizes h) row) ∙ given.1.2) in
+      let no_one = no_header h value.0 in
+      let none : find is_header (take k rs) ≡ None = no_sizes (find is_header (take k rs)) (sym so_far.header_is ∙ value.0) in
+      let empty : vs ≡ [] = nil_from_length vs (no_values h (length vs) no_one so_far.room) in
+      record {
+        faultless = faultless_more h vs es neg so_far given.0;
+        header_is = sym (ap header_of (took rs k row more at) ∙ ap sizes_in (find_push-yes is_header (take k rs) row yes_header none) ∙ ap (λ (s : Sizes). Some s) value.1);
+        values_are = λ v low. get_or-nones found.vertices (v - 1) ∙ sym (ap (λ (l : List (Option ℕ)). get_or l (v - 1) None) empty) ∙ so_far.values_are v low ∙ sym (values_stay rs k row more at kind.1 v);
+        edges_are = so_far.edges_are ∙ sym (edges_stay rs k row more at kind.0);
+        negative_is = after_header neg found k ∙ negative_stays neg so_far.negative_is kind.0;
+        room = length-replicate found.vertices None;
+        few = (given.1.3, given.1.4);
+        fit = λ j d lt. absurd (subst (λ (x : Option Header). FitsHeader x (get_or es j d)) no_one (so_far.fit j d lt));
+        small = All-replicate IsWithinLimits found.vertices None tt;
+      }
+  goes_on h vs es neg (line.Edge e) so_far given =
+      let is_one : is_edge row ≡ true = sym (is_edge-six row) ∙ given.1.2 in
+      let value = edge_is (sizes h) row e (sym (edge_at-six (sizes h) row) ∙ given.1.3) in
+      record {
+        faultless = faultless_more h vs es neg so_far given.0;
+        header_is = so_far.header_is ∙ sym (header_stays rs k row more at (sym (is_header-six row) ∙ given.1.1));
+        values_are = λ v low. so_far.values_are v low ∙ sym (values_stay rs k row more at (edge_kind row is_one) v);
+        edges_are = ap (λ (l : List InstanceEdge). l ++ e ∷ []) so_far.edges_are ∙ ap (λ (x : InstanceEdge). edges_of (take k rs) ++ x ∷ []) (sym value) ∙ sym (edges_grow rs k row more at is_one);
+        negative_is = after_edge neg e k ∙ ap (λ (b : Bool). or_here neg b k) (sym (edge_negative row e is_one value)) ∙ sym (negative_more neg so_far.negative_is);
+        room = so_far.room;
+        few = so_far.few;
+        fit = All-push (FitsHeader h) es e so_far.fit given.1.4;
+        small = so_far.small;
+      }
+  goes_on h vs es neg (line.Node node) so_far given =
+      let is_one : is_node row ≡ true = sym (is_node-six row) ∙ given.1.2 in
+      let no_edge : is_edge row ≡ false = sym (is_edge-six row) ∙ given.1.1 in
+      let at_row : node_at (sizes h) (is_valued vs) row ≡ Ok node = sym (node_at-six (sizes h) (is_valued vs) row) ∙ given.1.3 in
+      let value = node_is (sizes h) (is_valued vs) row node at_row in
+      let unmarked : get_or vs (node.vertex - 1) None ≡ None = not_some _ (unnamed (sizes h) (is_valued vs) row node at_row) in
+      let before : value_in (take k rs) (natural_at row 1) ≡ None = ap (value_in (take k rs)) value.0 ∙ sym (so_far.values_are node.vertex given.1.4) ∙ unmarked in
+      let after : value_in (take (k + 1) rs) node.vertex ≡ Some node.value = ap (value_in (take (k + 1) rs)) (sym value.0) ∙ values_here rs k row more at is_one before ∙ ap (λ (n : ℕ). Some n) value.1 in
+      record {
+        faultless = faultless_more h vs es neg so_far given.0;
+        header_is = so_far.header_is ∙ sym (header_stays rs k row more at (sym (is_header-six row) ∙ given.1.0));
+        values_are = λ v low. elim (cases_eq v node.vertex) [
+          | inl same ↦ rw same (get_or-set_same vs (node.vertex - 1) (Some node.value) None (omega (arith, given.1.4, given.1.5)) ∙ sym after)
+          | inr other ↦ get_or-set_other vs (node.vertex - 1) (v - 1) (Some node.value) None (λ e. other (omega (arith, given.1.4))) ∙ so_far.values_are v low ∙ sym (values_other rs k row more at v (λ e. other (sym e ∙ value.0)))
+        ];
+        edges_are = so_far.edges_are ∙ sym (edges_stay rs k row more at no_edge);
+        negative_is = after_node neg node k ∙ negative_stays neg so_far.negative_is no_edge;
+        room = room_set h (length vs) (length (slice_set vs (node.vertex - 1) (Some node.value))) so_far.room (length-set vs (node.vertex - 1) (Some node.value));
+        few = so_far.few;
+        fit = so_far.fit;
+        small = All-set IsWithinLimits vs (node.vertex - 1) (Some node.value) given.1.6 so_far.small;
+      }
+
+  pub stops : (h : Option Header) (vs : List (Option ℕ)) (es : List InstanceEdge) (neg : Option ℕ) (rule : Rule) → IsRead rs k h vs es neg → GivesLine h (is_valued vs) (length vs) (take 6 row) (Err rule) → IsFirstFaulty rs rule k
+  stops h vs es neg rule so_far given = faulty_here rs k row more at (sizes h) rule so_far.header_is (sym (same_marks h vs (take k rs) row so_far.values_are) ∙ sym (six_fault (sizes h) (is_valued vs) row) ∙ given) so_far.faultless
+
+  pub within_more : k + 1 ≤ length rs
+  within_more = let n = next_row rs k row more at in omega (arith, n.0)
+
+  pub left_more : drop (k + 1) rs ≡ more
+  left_more = (next_row rs k row more at).2
+
+instance_turn : (row : Row) (more : List Row) → is_solution row ≡ false → instance_rows (row ∷ more) ≡ row ∷ instance_rows more
+instance_turn row more h = rw h refl
+
+instance_end : (row : Row) (more : List Row) → is_solution row ≡ true → instance_rows (row ∷ more) ≡ []
+instance_end row more h = rw h refl
+
+pub turn_at : (rs : List Row) (k : ℕ) (rest text after : List ℕ) (six : Row) → drop k rs ≡ instance_rows (rows rest) → lines rest ≡ text ∷ lines after → six ≡ take 6 (fields text) → is_solution six ≡ false → drop k rs ≡ fields text ∷ instance_rows (rows after)
+turn_at rs k rest text after six left e s h = left ∙ ap (λ (ls : List (List ℕ)). instance_rows (map fields ls)) e ∙ instance_turn (fields text) (rows after) (sym (is_solution-six (fields text)) ∙ ap is_solution (sym s) ∙ h)
+
+pub end_at : (rs : List Row) (k : ℕ) (rest text after : List ℕ) (six : Row) → drop k rs ≡ instance_rows (rows rest) → lines rest ≡ text ∷ lines after → six ≡ take 6 (fields text) → is_solution six ≡ true → drop k rs ≡ []
+end_at rs k rest text after six left e s h = left ∙ ap (λ (ls : List (List ℕ)). instance_rows (map fields ls)) e ∙ instance_end (fields text) (rows after) (sym (is_solution-six (fields text)) ∙ ap is_solution (sym s) ∙ h)
+
+-- ---- the end of the lines
+
+pub end_count : (rs : List Row) (k : ℕ) → drop k rs ≡ [] → k ≤ length rs → k ≡ length rs
+end_count rs k e le = omega (arith, length-drop k rs, ap length e)
+
+-- ---- what is kept stays small
+
+pub has_place : (seen : Option Header) (named : ℕ → Bool) (count : ℕ) (row : Row) (l : Line) → IsLine seen named count row l → HasPlace count l
+has_place seen named count row line.Skipped given = tt
+has_place seen named count row (line.Header found) given = tt
+has_place seen named count row (line.Edge e) given = tt
+has_place seen named count row (line.Node node) given = (given.4, given.5)
+
+-- ---- what follows the lines
+
+pub after_lines-more : (k : ℕ) (bytes : List ℕ) → after_lines (suc k) bytes ≡ after_first is_line_feed (after_lines k bytes)
+after_lines-more zero bytes = refl
+after_lines-more (suc k) bytes = after_lines-more k (after_first is_line_feed bytes)
+
+pub after_lines-one : (k : ℕ) (bytes : List ℕ) → after_lines (k + 1) bytes ≡ after_first is_line_feed (after_lines k bytes)
+after_lines-one k bytes = rw add-one (after_lines-more k bytes)

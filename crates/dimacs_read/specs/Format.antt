@@ -1,0 +1,209 @@
+-- Which line of an instance is at fault, by which rule, and what instance the lines hold.
+use Rattle.std.specs.Prelude.{Bool, ◌≡◌, ℕ, suc, ◌∷◌, ◌+◌, ◌-◌, ◌%◌, ◌<◌, ◌≤◌, ◌⊎◌, is_some, List, [], length, take, map, filter, count_by, not, ◌&&◌, ◌||◌, ◌==◌, nat_lt, if◌then◌else◌, Option, None, Some, Result, Ok, Err, ℤ, pos, neg_ℤ, nat_abs, int_le, int_lt, unwrap_or, codes, slice_index_or}
+use Rattle.std.specs.List.{find, range_with_len}
+use Rattle.std.specs.Option.{option_map}
+use Rattle.std.specs.Str.{bytes_eq}
+use Rattle.mb_base.specs.Text.{numeral}
+use Rattle.mb_base.specs.Rows.{Row, field_at, is_skipped}
+use Rattle.mb_problem.specs.declared.kind.Kind.{Kind}
+use Rattle.mb_problem.specs.declared.kind.Kind.TheVariants.{Perfect, Match, BMatch, CapMatch, FFactor, TJoin, Postman, Path}
+use Rattle.mb_problem.specs.declared.instance.InstanceEdge.{InstanceEdge}
+use Rattle.mb_problem.specs.Network.{Network}
+use Rattle.dimacs_read.specs.declared.rule.Rule.{Rule}
+use Rattle.dimacs_read.specs.declared.rule.Rule.TheVariants.{UnknownLine, HeaderMissing, HeaderTwice, HeaderForm, FieldCount, Number, Range, Loop, NodeTwice, EdgeCount, Negative, PathEnds}
+use Rattle.dimacs_read.specs.declared.rule.Fault.{Fault}
+use Rattle.dimacs_read.specs.declared.line.Node.{Node}
+use Rattle.dimacs_read.specs.Rows.{is_header, is_edge, is_node}
+
+-- ---- tests in order: the first that fails gives the rule
+
+infixl 10 ◌>>=◌
+abbrev pub ◌>>=◌ : {A B : Type 0} → Result A Rule → (A → Result B Rule) → Result B Rule
+(Ok x) >>= f = f x
+(Err rule) >>= f = Err rule
+
+abbrev pub within : ℤ → ℤ → ℤ → Result ℤ Rule
+within low high z = if int_le low z && int_le z high then Ok z else Err Range
+
+abbrev pub ranged : ℤ → ℤ → Option ℤ → Result ℤ Rule
+ranged low high None = Err Number
+ranged low high (Some z) = within low high z
+
+-- a field that has to be a number, and one in a range
+abbrev pub number_in : ℤ → ℤ → List ℕ → Result ℤ Rule
+number_in low high field = ranged low high (numeral field)
+
+abbrev pub natural_in : ℕ → ℕ → List ℕ → Result ℕ Rule
+natural_in low high field = number_in (pos low) (pos high) field >>= λ z. Ok (nat_abs z)
+
+-- what a header says: how many vertices and edges
+pub record Sizes : Type 0 where
+  pub vertices : ℕ
+  pub edges : ℕ
+
+abbrev pub billion : ℕ
+billion = 1000000000
+
+abbrev pub sizes_at : Row → Result Sizes Rule
+sizes_at row = natural_in 0 4096 (field_at row 2) >>= λ n. natural_in 0 65536 (field_at row 3) >>= λ m. Ok (record { vertices = n; edges = m })
+
+-- a header line, after a header or none
+abbrev pub header_at : Option Sizes → Row → Result Sizes Rule
+header_at (Some s) row = Err HeaderTwice
+header_at None row =
+    if not (length row == 4) then Err HeaderForm else
+    (if not (bytes_eq (field_at row 1) (codes "edge") || bytes_eq (field_at row 1) (codes "col")) then Err HeaderForm else
+    sizes_at row)
+
+-- the weight of an edge line that has one, and else 1
+abbrev pub weight_at : Row → Result ℤ Rule
+weight_at row = if nat_lt (length row) 4 then Ok (pos 1) else number_in (neg_ℤ (pos billion)) (pos billion) (field_at row 3)
+
+abbrev pub capacity_at : Row → Result (Option ℕ) Rule
+capacity_at row = if nat_lt (length row) 5 then Ok None else (natural_in 0 4096 (field_at row 4) >>= λ c. Ok (Some c))
+
+-- an edge line, after a header or none
+unfoldable pub edge_at : Option Sizes → Row → Result InstanceEdge Rule
+edge_at None row = Err HeaderMissing
+edge_at (Some s) row =
+    if nat_lt (length row) 3 || nat_lt 5 (length row) then Err FieldCount else
+    (natural_in 1 s.vertices (field_at row 1) >>= λ u.
+    natural_in 1 s.vertices (field_at row 2) >>= λ v.
+    weight_at row >>= λ w.
+    capacity_at row >>= λ c.
+    (if u == v then Err Loop else Ok (record { u = u; v = v; w = w; capacity = c })))
+
+-- A value line, after a header or none. `named` tells the vertices of earlier value lines.
+unfoldable pub node_at : Option Sizes → (ℕ → Bool) → Row → Result Node Rule
+node_at None named row = Err HeaderMissing
+node_at (Some s) named row =
+    if not (length row == 3) then Err FieldCount else
+    (natural_in 1 s.vertices (field_at row 1) >>= λ v.
+    natural_in 0 4096 (field_at row 2) >>= λ b.
+    (if named v then Err NodeTwice else Ok (record { vertex = v; value = b })))
+
+-- ---- lines
+
+abbrev pub fault_of : {A : Type 0} → Result A Rule → Option Rule
+fault_of (Ok x) = None
+fault_of (Err rule) = Some rule
+
+-- the rule that a line breaks, after a header or none and lines that name vertices
+abbrev pub line_fault : Option Sizes → (ℕ → Bool) → Row → Option Rule
+line_fault header named row =
+    if is_skipped row then None else
+    (if is_header row then fault_of (header_at header row) else
+    (if is_edge row then fault_of (edge_at header row) else
+    (if is_node row then fault_of (node_at header named row) else Some UnknownLine)))
+
+-- the number that a field spells, where it does
+abbrev pub number_at : Row → ℕ → ℤ
+number_at row k = unwrap_or (numeral (field_at row k)) (pos 0)
+
+abbrev pub natural_at : Row → ℕ → ℕ
+natural_at row k = nat_abs (number_at row k)
+
+abbrev pub sizes_of : Row → Sizes
+sizes_of row = record { vertices = natural_at row 2; edges = natural_at row 3 }
+
+abbrev pub sizes_in : Option Row → Option Sizes
+sizes_in None = None
+sizes_in (Some row) = Some (sizes_of row)
+
+-- the header among some lines: the first header line of them
+abbrev pub header_of : List Row → Option Sizes
+header_of rs = sizes_in (find is_header rs)
+
+-- a line gives this vertex a value
+abbrev pub names : ℕ → Row → Bool
+names v row = is_node row && (natural_at row 1 == v)
+
+-- the value that some lines give a vertex
+abbrev pub value_in : List Row → ℕ → Option ℕ
+value_in rs v = option_map (λ row. natural_at row 2) (find (names v) rs)
+
+-- the rule that line number k, from 0, breaks: some earlier line is a header, or names a vertex
+abbrev pub fault_at : List Row → ℕ → Option Rule
+fault_at rs k = let earlier = take k rs in line_fault (header_of earlier) (λ v. is_some (value_in earlier v)) (slice_index_or rs k [])
+
+abbrev pub NoFaultBelow : List Row → ℕ → Type 0
+NoFaultBelow rs k = (j : ℕ) → j < k → fault_at rs j ≡ None
+
+-- ---- what the lines hold
+
+abbrev pub edge_of : Row → InstanceEdge
+edge_of row = record {
+  u = natural_at row 1;
+  v = natural_at row 2;
+  w = if nat_lt (length row) 4 then pos 1 else number_at row 3;
+  capacity = if nat_lt (length row) 5 then None else Some (natural_at row 4);
+}
+
+abbrev pub edges_of : List Row → List InstanceEdge
+edges_of rs = map edge_of (filter is_edge rs)
+
+abbrev pub value_or : ℕ → Option ℕ → ℕ
+value_or default o = unwrap_or o default
+
+-- the values of vertices 1 to n: those that value lines give, else the default
+abbrev pub values_of : ℕ → ℕ → List Row → List ℕ
+values_of default n rs = map (λ v. value_or default (value_in rs v)) (range_with_len 1 n)
+
+-- the value of a vertex without a value line
+abbrev pub default_of : Kind → ℕ
+default_of BMatch = 1
+default_of CapMatch = 1
+default_of FFactor = 1
+default_of kind = 0
+
+-- ---- what only the end shows
+
+abbrev pub is_odd : ℕ → Bool
+is_odd b = b % 2 == 1
+
+-- the place of the first row that passes
+abbrev pub first_place : (Row → Bool) → List Row → Option ℕ
+first_place p [] = None
+first_place p (row ∷ rs) = if p row then Some 0 else option_map (λ k. suc k) (first_place p rs)
+
+-- the first edge line of a weight below 0
+abbrev pub is_negative : Row → Bool
+is_negative row = is_edge row && int_lt (edge_of row).w (pos 0)
+
+-- what a kind asks besides: of the postman weights from 0 on, of a path two vertices of odd value
+abbrev pub kind_fault : Kind → ℕ → List Row → Option Fault
+kind_fault Postman n rs = option_map (λ k. record { rule = Negative; place = k }) (first_place is_negative rs)
+kind_fault Path n rs = if count_by is_odd (values_of 0 n rs) == 2 then None else Some (record { rule = PathEnds; place = length rs })
+kind_fault kind n rs = None
+
+abbrev pub end_fault : Kind → Option Sizes → List Row → Option Fault
+end_fault kind None rs = Some (record { rule = HeaderMissing; place = length rs })
+end_fault kind (Some s) rs =
+    if length (edges_of rs) == s.edges then kind_fault kind s.vertices rs
+    else Some (record { rule = EdgeCount; place = length rs })
+
+-- ---- the whole
+
+-- the least faulty line
+pub record IsFirstFaulty (rs : List Row) (rule : Rule) (place : ℕ) : Type 0 where
+  pub there : place < length rs
+  pub fault : fault_at rs place ≡ Some rule
+  pub least : NoFaultBelow rs place
+
+-- no line is faulty, and a test at the end fails
+pub record FailsAtEnd (kind : Kind) (rs : List Row) (rule : Rule) (place : ℕ) : Type 0 where
+  pub faultless : NoFaultBelow rs (length rs)
+  pub fault : end_fault kind (header_of rs) rs ≡ Some (record { rule = rule; place = place })
+
+-- the first fault, on a line counted from 1
+abbrev pub IsFirstFault : Kind → List Row → Rule → ℕ → Type 0
+IsFirstFault kind rs rule line = (k : ℕ) × (line ≡ k + 1) × (IsFirstFaulty rs rule k ⊎ FailsAtEnd kind rs rule k)
+
+-- lines without a fault, and the instance that they hold
+pub record HoldsInstance (kind : Kind) (rs : List Row) (i : Network) : Type 0 where
+  pub faultless : NoFaultBelow rs (length rs)
+  pub header : Sizes
+  pub header_is : header_of rs ≡ Some header
+  pub whole : end_fault kind (Some header) rs ≡ None
+  pub edges_are : i.edges ≡ edges_of rs
+  pub values_are : i.values ≡ values_of (default_of kind) header.vertices rs

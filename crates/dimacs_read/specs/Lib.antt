@@ -1,0 +1,6 @@
+pub mod Rows
+pub mod Format
+pub mod Rest
+pub mod Line
+pub mod Reading
+pub mod Law

@@ -1,0 +1,20 @@
+//! Instances from their text: `read` gives the instance and the rest of the input, or the first rule
+//! that the text breaks, with its line.
+//! It stands on `mb_base` for lines, fields and numbers, and on `mb_problem` for instances.
+//! It promises that `read` answers exactly as the format says, and that each text has one reading.
+#![tactic(auto)]
+
+mod keep;
+mod law;
+mod line;
+mod reader;
+mod rest;
+mod rule;
+
+pub use law::one_reading;
+pub use reader::{InstanceError, read};
+pub use rest::Rest;
+pub use rule::Rule;
+
+#[cfg(test)]
+mod tests;

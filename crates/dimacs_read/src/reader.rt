@@ -1,0 +1,272 @@
+ghost use Rattle.std.specs.Prelude.{◌≡◌, ℕ, ◌+◌, ◌<◌, ◌≤◌, ◌^◌, ◌==◌, ◌%◌, length, map, take, count_by, Option, Some, None, OnOk, IfOk, vec_len, pos, int_lt, option_map, Bool};
+ghost use Rattle.std.specs.List.{position};
+ghost use Rattle.mb_base.specs.Text.{fields};
+ghost use Rattle.mb_base.specs.Rows.{Row, rows, is_skipped};
+ghost use Rattle.mb_problem.specs.Network.{IsNetwork};
+ghost use Rattle.dimacs_read.specs.Rows.{instance_rows, is_header, is_edge, is_solution};
+ghost use Rattle.dimacs_read.specs.Format.{line_fault, default_of, value_or, is_odd};
+ghost use Rattle.dimacs_read.specs.Line.{sizes, field_list, HasFewVertices, HasValues, is_valued};
+ghost use Rattle.dimacs_read.specs.Reading.{GivesLine, Reads, ReadsLines, IsDraft, negative_after, kind_fault_from, end_fault_from};
+
+use crate::keep::{Line, keep_line, with_default};
+use crate::line::{Header, read_edge, read_header, read_node};
+use crate::rest::Rest;
+use crate::rule::{Fault, Rule};
+use arrayvec::ArrayVec;
+use mb_base::{Fields, OutOfMemory, Sequence, next_line};
+use mb_problem::{Instance, InstanceEdge, Kind};
+use std::alloc::Global;
+
+/// Why there is no instance.
+#[derive(Clone, Copy, Debug, PartialEq, Eq)]
+pub enum InstanceError {
+    /// The text breaks this rule at this line.
+    Malformed { rule: Rule, line: u64 },
+    /// There isn't enough memory.
+    OutOfMemory,
+}
+
+/// The fields of a line, but at most six: one more than the longest line may have.
+fn some_fields(line: &[u8]) -> ArrayVec<&[u8], 6>
+    ensures { field_list result.items ≡ take 6 (fields line.now) }
+{
+    let mut row = ArrayVec::new();
+    for field in Fields::new(line) {
+        if row.is_full() {
+            return row;
+        }
+        row.push(field);
+    }
+    row
+}
+
+/// What a line is, after a header or none.
+fn read_line(earlier: Option<Header>, values: &[Option<u32>], row: &[&[u8]]) -> Result<Line, Rule>
+    requires few { HasFewVertices earlier }
+    requires room { HasValues earlier (length values.now) }
+    ensures { GivesLine earlier (is_valued values.now) (length values.now) (field_list row.now) result }
+{
+    let Some(first) = row.first() else {
+        return Ok(Line::Skipped);
+    };
+    if first.first() == Some(&b'c') {
+        return Ok(Line::Skipped);
+    }
+    if *first == b"p".as_slice() {
+        let header = read_header(earlier, row)?;
+        return Ok(Line::Header(header));
+    }
+    if *first == b"e".as_slice() {
+        let edge = read_edge(earlier, row)?;
+        return Ok(Line::Edge(edge));
+    }
+    if *first == b"n".as_slice() {
+        let node = read_node(earlier, values, row)?;
+        return Ok(Line::Node(node));
+    }
+    Err(Rule::UnknownLine)
+}
+
+fn begins_solution(row: &[&[u8]]) -> bool
+    ensures { result ≡ is_solution (field_list row.now) }
+{
+    let Some(first) = row.first() else {
+        return false;
+    };
+    *first == b"s".as_slice()
+}
+
+/// The place of the first edge of a weight below 0, after one more line.
+fn first_negative(earlier: Option<u64>, line: &Line, place: u64) -> Option<u64>
+    ensures { result ≡ negative_after earlier line.now place }
+{
+    if earlier.is_some() {
+        return earlier;
+    }
+    match line {
+        Line::Edge(edge) if edge.w < 0 => Some(place),
+        _ => None,
+    }
+}
+
+/// What the lines of an instance say, and what follows them.
+#[derive(Drop)]
+pub struct Draft<'a> {
+    pub header: Option<Header>,
+    pub values: Vec<Option<u32>>,
+    pub edges: Vec<InstanceEdge>,
+    pub negative: Option<u64>,
+    pub lines: u64,
+    pub rest: &'a [u8],
+}
+
+/// Reads all lines before a document, up to the first that is at fault.
+fn read_lines<'a>(alloc: Global, bytes: &'a [u8]) -> Result<Draft<'a>, InstanceError>
+    ensures { ReadsLines bytes.now result }
+{
+    let mut header: Option<Header> = None;
+    let mut values = Vec::new(alloc);
+    let mut edges = Vec::new(alloc);
+    let mut negative: Option<u64> = None;
+    let mut rest = bytes;
+    let mut line = 0u64;
+    'lines: while let Some((text, after)) = next_line(rest) {
+        let row = some_fields(text);
+        if begins_solution(&row) {
+            break;
+        }
+        match read_line(header, &values, &row) {
+            Err(rule) => {
+                return Err(InstanceError::Malformed {
+                    rule,
+                    line: line + 1,
+                });
+            }
+            Ok(found) => {
+                negative = first_negative(negative, &found, line);
+                if let Err(_) = keep_line(alloc, &mut header, &mut values, &mut edges, found) {
+                    return Err(InstanceError::OutOfMemory);
+                }
+            }
+        }
+        line += 1;
+        rest = after;
+    }
+    Ok(Draft {
+        header,
+        values,
+        edges,
+        negative,
+        lines: line,
+        rest,
+    })
+}
+
+/// How many of the values that were given are odd.
+fn odd_values(values: &[Option<u32>]) -> usize
+    ensures { result ≡ count_by is_odd (map (value_or 0) values.now) }
+{
+    values
+        .iter()
+        .filter(|value| value.unwrap_or(0) % 2 == 1)
+        .count()
+}
+
+/// What a kind asks of the whole instance besides.
+fn kind_fault(
+    kind: Kind,
+    values: &[Option<u32>],
+    negative: Option<u64>,
+    lines: u64,
+) -> Option<Fault>
+    ensures { result ≡ kind_fault_from kind values.now negative lines }
+{
+    match kind {
+        Kind::Postman => {
+            let place = negative?;
+            let rule = Rule::Negative;
+            Some(Fault { rule, place })
+        }
+        Kind::Path => {
+            if odd_values(values) == 2 {
+                return None;
+            }
+            let rule = Rule::PathEnds;
+            Some(Fault { rule, place: lines })
+        }
+        _ => None,
+    }
+}
+
+/// The first test at the end that fails.
+fn end_fault(
+    kind: Kind,
+    header: Option<Header>,
+    values: &[Option<u32>],
+    edges: &[InstanceEdge],
+    negative: Option<u64>,
+    lines: u64,
+) -> Option<Fault>
+    ensures { result ≡ end_fault_from kind (sizes header) values.now (length edges.now) negative lines }
+{
+    let Some(header) = header else {
+        let rule = Rule::HeaderMissing;
+        return Some(Fault { rule, place: lines });
+    };
+    if edges.len() as u64 != u64::from(header.edges) {
+        let rule = Rule::EdgeCount;
+        return Some(Fault { rule, place: lines });
+    }
+    kind_fault(kind, values, negative, lines)
+}
+
+/// The value of a vertex that no line gives one.
+fn default_value(kind: Kind) -> u32
+    ensures { result ≡ default_of kind }
+{
+    match kind {
+        Kind::BMatch | Kind::CapMatch | Kind::FFactor => 1,
+        _ => 0,
+    }
+}
+
+/// A copy of what follows the instance.
+fn copy_rest(alloc: Global, rest: &[u8], line: u64) -> Result<Rest, OutOfMemory>
+    ensures bytes { IfOk result (λ r. r.bytes ≡ rest.now) }
+    ensures line { IfOk result (λ r. r.line ≡ line) }
+{
+    let bytes = Vec::from_slice(alloc, rest)?;
+    Ok(Rest {
+        bytes: Sequence::from_vec(bytes),
+        line,
+    })
+}
+
+/// The instance of lines that are all in order, and a copy of what follows them.
+fn build(
+    alloc: Global,
+    kind: Kind,
+    values: &[Option<u32>],
+    edges: Vec<InstanceEdge>,
+) -> Result<Instance, OutOfMemory>
+    requires { IsNetwork (record { edges = edges.items; values = map (value_or (default_of kind)) values.now }) }
+    ensures { IfOk result (λ i. i ≡ record { edges = edges.items; values = map (value_or (default_of kind)) values.now }) }
+{
+    let all = with_default(alloc, values, default_value(kind))?;
+    Ok(Instance::from_parts(alloc, edges, all))
+}
+
+/// The instance of a text, for a kind, and what follows it; or the first rule that the text breaks.
+///
+/// The instance's lines are those before the first whose first field is exactly `s`. Lines that only
+/// the end shows to be missing are named by the number after the last of them.
+pub fn read(alloc: Global, bytes: &[u8], kind: Kind) -> Result<(Instance, Rest), InstanceError>
+    ensures reading { Reads kind bytes.now result }
+    ensures short { IfOk result (λ r. r.1.line ≤ length bytes.now + 1) }
+{
+    let draft = match read_lines(alloc, bytes) {
+        Ok(draft) => draft,
+        Err(error) => return Err(error),
+    };
+    let Draft {
+        header,
+        values,
+        edges,
+        negative,
+        lines,
+        rest,
+    } = draft;
+    if let Some(fault) = end_fault(kind, header, &values, &edges, negative, lines) {
+        return Err(InstanceError::Malformed {
+            rule: fault.rule,
+            line: fault.place + 1,
+        });
+    }
+    let Ok(instance) = build(alloc, kind, &values, edges) else {
+        return Err(InstanceError::OutOfMemory);
+    };
+    let Ok(rest) = copy_rest(alloc, rest, lines + 1) else {
+        return Err(InstanceError::OutOfMemory);
+    };
+    Ok((instance, rest))
+}

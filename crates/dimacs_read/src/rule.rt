@@ -1,0 +1,35 @@
+/// What can be wrong with the text of an instance.
+#[derive(Clone, Copy, Debug, PartialEq, Eq)]
+pub enum Rule {
+    /// A line is no header, edge or value line.
+    UnknownLine,
+    /// An edge or a value comes before the header, or there is no header.
+    HeaderMissing,
+    /// A second header.
+    HeaderTwice,
+    /// A header without exactly four fields, or of another format.
+    HeaderForm,
+    /// An edge or a value line with too few or too many fields.
+    FieldCount,
+    /// A field that should be a number is none.
+    Number,
+    /// A number is out of its range.
+    Range,
+    /// An edge has two equal ends.
+    Loop,
+    /// A vertex is given a second value.
+    NodeTwice,
+    /// There are fewer or more edges than the header says.
+    EdgeCount,
+    /// For the postman an edge weighs less than 0.
+    Negative,
+    /// For a path other than two vertices have odd values.
+    PathEnds,
+}
+
+/// A rule that is broken, and the place of the line that breaks it, from 0.
+#[derive(Clone, Copy, Debug, PartialEq, Eq)]
+pub struct Fault {
+    pub rule: Rule,
+    pub place: u64,
+}
