@@ -2,5 +2,6 @@ pub mod Names
 pub mod Form
 pub mod Rows
 pub mod Reading
+pub mod Order
 pub mod Spelling
 pub mod Law

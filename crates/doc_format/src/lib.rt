@@ -4,12 +4,14 @@
 //! first wrong line, and that a document is written as one text, which reads back as it.
 #![tactic(auto)]
 
+mod adding;
 mod document;
 mod error;
 mod head;
 mod names;
 mod numbers;
 mod opening;
+mod order;
 mod part;
 mod part_reading;
 mod status;
