@@ -6,8 +6,10 @@
 
 mod adding;
 mod document;
+mod draft;
 mod error;
 mod head;
+mod letter;
 mod names;
 mod numbers;
 mod opening;
