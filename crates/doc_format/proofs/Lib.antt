@@ -1,1 +1,2 @@
 pub mod OnePartMore
+pub mod Following
