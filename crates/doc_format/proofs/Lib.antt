@@ -1,2 +1,3 @@
 pub mod OnePartMore
 pub mod Following
+pub mod Lines

@@ -16,10 +16,12 @@ mod opening;
 mod order;
 mod part;
 mod part_reading;
+mod reading;
 mod status;
 
 pub use document::Document;
 pub use error::DocError;
 pub use names::kind_name;
 pub use part::{CountLine, DualLine, MemberLine, SetLine, WalkLine};
+pub use reading::read;
 pub use status::DocStatus;

@@ -31,6 +31,7 @@ fn weight(status: DocStatus, fields: Fields<'_>) -> Option<i64>
 fn read_claim(line: u64, fields: Fields<'_>) -> Option<Head>
     ensures value { result ≡ headed line fields.entry }
     ensures table { IfSome result IsTabled }
+    ensures line { IfSome result (λ head. head.line ≡ line) }
 {
     let mut fields = fields;
     let status = fields.next()?;
@@ -53,6 +54,7 @@ fn read_claim(line: u64, fields: Fields<'_>) -> Option<Head>
 pub fn read_head(line: u64, letter: &[u8], fields: Fields<'_>) -> Option<Head>
     ensures value { result ≡ head_at line (letter.now ∷ fields.entry) }
     ensures table { IfSome result IsTabled }
+    ensures line { IfSome result (λ head. head.line ≡ line) }
 {
     if letter != b"s".as_slice() {
         return None;
