@@ -127,6 +127,14 @@ abbrev pub has_edges : Option WalkLine → Bool
 has_edges None = true
 has_edges (Some w) = is_some_list w.edges
 
+-- a walk has an edge, and the members of a set of vertices ascend
+abbrev pub is_formed : Part → Bool
+is_formed (Walk w) = is_some_list w.edges
+is_formed (Barrier u) = ascends u.members
+is_formed (Odd t) = ascends t.members
+is_formed (Split q) = ascends q.members
+is_formed part = true
+
 abbrev pub have_order : Option MemberLine → Bool
 have_order None = true
 have_order (Some u) = ascends u.members

@@ -1,5 +1,5 @@
 -- What one line of a document says by itself.
-use Rattle.std.specs.Prelude.{ℕ, ℤ, pos, List, [], ◌∷◌, length, codes, bytes_eq, Bool, true, false, if◌then◌else◌, Option, None, Some}
+use Rattle.std.specs.Prelude.{◌≡◌, ℕ, ℤ, pos, List, [], ◌∷◌, length, codes, bytes_eq, Bool, true, false, if◌then◌else◌, Option, None, Some}
 use Rattle.std.specs.Ordering.{int_eq}
 use Rattle.mb_base.specs.Text.{number_of}
 use Rattle.mb_base.specs.Rows.{Row}
@@ -11,7 +11,7 @@ use Rattle.doc_format.specs.declared.part.Part.{Part}
 use Rattle.doc_format.specs.declared.part.Part.TheVariants.{Count, Walk, Dual, Set, Barrier, Odd, Split}
 use Rattle.doc_format.specs.declared.head.Head.{Head}
 use Rattle.doc_format.specs.Names.{kind_named, status_named}
-use Rattle.doc_format.specs.Form.{is_head, ascends, is_some_list}
+use Rattle.doc_format.specs.Form.{is_head, is_best, ascends, is_some_list}
 
 infixl 10 ◌>>=◌
 abbrev pub ◌>>=◌ : {A B : Type 0} → Option A → (A → Option B) → Option B
@@ -68,6 +68,11 @@ headed n (status ∷ kind ∷ others) =
 abbrev pub head_at : ℕ → Row → Option Head
 head_at n [] = None
 head_at n (letter ∷ others) = if bytes_eq letter (codes "s") then headed n others else None
+
+-- a status that the kind has, and a weight of 0 where it isn't that of a best answer
+pub record IsTabled (head : Head) : Type 0 where
+  pub status : is_head head.status head.kind ≡ true
+  pub no_weight : is_best head.status ≡ false → head.weight ≡ pos 0
 
 -- ---- the other lines
 

@@ -4,18 +4,24 @@
 //! first wrong line, and that a document is written as one text, which reads back as it.
 #![tactic(auto)]
 
+mod adding;
 mod document;
+mod draft;
 mod error;
 mod head;
+mod letter;
 mod names;
 mod numbers;
 mod opening;
+mod order;
 mod part;
 mod part_reading;
+mod reading;
 mod status;
 
 pub use document::Document;
 pub use error::DocError;
 pub use names::kind_name;
 pub use part::{CountLine, DualLine, MemberLine, SetLine, WalkLine};
+pub use reading::read;
 pub use status::DocStatus;

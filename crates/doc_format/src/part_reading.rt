@@ -1,5 +1,5 @@
-ghost use Rattle.std.specs.Prelude.{◌≡◌, ◌∷◌, IfOk};
-ghost use Rattle.doc_format.specs.Form.{ascends};
+ghost use Rattle.std.specs.Prelude.{◌≡◌, ◌∷◌, IfOk, IfSome, true};
+ghost use Rattle.doc_format.specs.Form.{ascends, is_formed};
 ghost use Rattle.doc_format.specs.Rows.{count_in, dual_in, walk_in, set_in, members_in, part_in};
 
 use crate::numbers::{counted_numbers, kept_number, pair};
@@ -21,21 +21,24 @@ fn is_ascending(numbers: &[i64]) -> bool
 }
 
 fn read_count(line: u64, fields: Fields<'_>) -> Option<Part>
-    ensures { result ≡ count_in line fields.entry }
+    ensures value { result ≡ count_in line fields.entry }
+    ensures form { IfSome result (λ p. is_formed p ≡ true) }
 {
     let (edge, count) = pair(fields)?;
     Some(Part::Count(CountLine { line, edge, count }))
 }
 
 fn read_dual(line: u64, fields: Fields<'_>) -> Option<Part>
-    ensures { result ≡ dual_in line fields.entry }
+    ensures value { result ≡ dual_in line fields.entry }
+    ensures form { IfSome result (λ p. is_formed p ≡ true) }
 {
     let (vertex, dual) = pair(fields)?;
     Some(Part::Dual(DualLine { line, vertex, dual }))
 }
 
 fn read_walk(alloc: Global, line: u64, fields: Fields<'_>) -> Result<Option<Part>, OutOfMemory>
-    ensures { IfOk result (λ o. o ≡ walk_in line fields.entry) }
+    ensures value { IfOk result (λ o. o ≡ walk_in line fields.entry) }
+    ensures form { IfOk result (λ o. IfSome o (λ p. is_formed p ≡ true)) }
 {
     let mut fields = fields;
     let Some(field) = fields.next() else {
@@ -54,7 +57,8 @@ fn read_walk(alloc: Global, line: u64, fields: Fields<'_>) -> Result<Option<Part
 }
 
 fn read_set(alloc: Global, line: u64, fields: Fields<'_>) -> Result<Option<Part>, OutOfMemory>
-    ensures { IfOk result (λ o. o ≡ set_in line fields.entry) }
+    ensures value { IfOk result (λ o. o ≡ set_in line fields.entry) }
+    ensures form { IfOk result (λ o. IfSome o (λ p. is_formed p ≡ true)) }
 {
     let mut fields = fields;
     let Some(field) = fields.next() else {
@@ -78,7 +82,8 @@ fn read_members(
     line: u64,
     fields: Fields<'_>,
 ) -> Result<Option<MemberLine>, OutOfMemory>
-    ensures { IfOk result (λ o. o ≡ members_in line fields.entry) }
+    ensures value { IfOk result (λ o. o ≡ members_in line fields.entry) }
+    ensures form { IfOk result (λ o. IfSome o (λ u. ascends u.members ≡ true)) }
 {
     let Some(members) = counted_numbers(alloc, fields)? else {
         return Ok(None);
@@ -96,7 +101,8 @@ pub fn read_part(
     letter: &[u8],
     fields: Fields<'_>,
 ) -> Result<Option<Part>, OutOfMemory>
-    ensures { IfOk result (λ o. o ≡ part_in line letter.now fields.entry) }
+    ensures value { IfOk result (λ o. o ≡ part_in line letter.now fields.entry) }
+    ensures form { IfOk result (λ o. IfSome o (λ p. is_formed p ≡ true)) }
 {
     if letter == b"x".as_slice() {
         return Ok(read_count(line, fields));

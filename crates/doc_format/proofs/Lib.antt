@@ -1,0 +1,3 @@
+pub mod OnePartMore
+pub mod Following
+pub mod Lines
