@@ -8,7 +8,7 @@ use Rattle.doc_format.specs.Form.{ascends}
 int_lt-true : (a b : ℤ) → int_lt a b ≡ true → a <ℤ b
 int_lt-true a b h = grind (arith, ints)
 
-both : (a b : Bool) → (a && b) ≡ true → (a ≡ true) × (b ≡ true)
+pub both : (a b : Bool) → (a && b) ≡ true → (a ≡ true) × (b ≡ true)
 both true b h = (refl, h)
 both false b h = (h, absurd (cc))
 
@@ -75,10 +75,10 @@ far zs n ascending there (suc (suc v)) k high below is =
     let one : other.0 < length zs = other.1 in
     let is_one : get_or zs other.0 (pos 0) ≡ pos (suc v) = other.2 in
     elim (dec_lt other.0 k) [
-      yes h ↦ omega arith
-    | no h ↦ elim (dec_lt k other.0) [
-        yes g ↦ (let more : get_or zs k (pos 0) <ℤ get_or zs other.0 (pos 0) = ascends-below zs ascending k other.0 g one in absurd (omega (arith, ints)))
-      | no g ↦ (let same : k ≡ other.0 = omega arith in let equal : get_or zs k (pos 0) ≡ get_or zs other.0 (pos 0) = ap (λ (p : ℕ). get_or zs p (pos 0)) same in absurd (omega (arith, ints)))
+      | yes h ↦ omega arith
+      | no h ↦ elim (dec_lt k other.0) [
+        | yes g ↦ (let more : get_or zs k (pos 0) <ℤ get_or zs other.0 (pos 0) = ascends-below zs ascending k other.0 g one in absurd (omega (arith, ints)))
+        | no g ↦ (let same : k ≡ other.0 = omega arith in let equal : get_or zs k (pos 0) ≡ get_or zs other.0 (pos 0) = ap (λ (p : ℕ). get_or zs p (pos 0)) same in absurd (omega (arith, ints)))
       ]
     ]
 

@@ -1,5 +1,5 @@
 -- The counts that the lines give to edges.
-use Rattle.std.proofs.Common.{◌≡◌, ◌≢◌, ℕ, zero, suc, ◌+◌, ◌-◌, ◌<◌, ◌≤◌, ℤ, pos, ◌<ℤ◌, ◌≤ℤ◌, Bool, true, false, cond, List, [], ◌∷◌, ◌++◌, length, get_or, map, take, set, slice_index, slice_set, refl, sym, ap, ◌∙◌, arith, int_eq, nat_abs}
+use Rattle.std.proofs.Common.{◌≡◌, ℕ, suc, ◌+◌, ◌-◌, ◌<◌, ℤ, pos, ◌≤ℤ◌, Bool, true, false, cond, List, [], ◌∷◌, ◌++◌, length, get_or, map, take, slice_index, slice_set, refl, sym, ap, ◌∙◌, arith, int_eq, nat_abs}
 use Rattle.std.proofs.Math.Decide.{ℕ_discrete}
 use Rattle.std.proofs.lemmas.Int.{ints}
 use Rattle.std.proofs.lemmas.Bool.Decides.{Decides-int_eq}
@@ -51,12 +51,12 @@ count-step xs k p v d x ascending below there edge within before e inside =
     let longer : take (k + 1) xs ≡ take k xs ++ x ∷ [] = take_more xs k d below ∙ ap (λ (y : CountLine). take k xs ++ y ∷ []) (sym there) in
     let others = none_before xs d x k (p + 1) ascending below there edge in
     rw longer (elim (ℕ_discrete e p) [
-      yes same ↦
-        let number : e + 1 ≡ p + 1 = omega arith in
-        rw same (get_or-set_same v p (nat_abs x.count) 0 within ∙ sym (count_of-last (take k xs) d x (p + 1) others (rw edge (int_eq-refl (pos (p + 1))))))
-    | no other ↦
-        let apart : int_eq x.edge (pos (e + 1)) ≡ false = int_eq-false x.edge (pos (e + 1)) (λ (h : x.edge ≡ pos (e + 1)). other (omega (arith, ints))) in
-        get_or-set_other v p e (nat_abs x.count) 0 other ∙ before e inside ∙ sym (count_of-other (take k xs) x (e + 1) apart)
+      | yes same ↦
+          let number : e + 1 ≡ p + 1 = omega arith in
+          rw same (get_or-set_same v p (nat_abs x.count) 0 within ∙ sym (count_of-last (take k xs) d x (p + 1) others (rw edge (int_eq-refl (pos (p + 1))))))
+      | no other ↦
+          let apart : int_eq x.edge (pos (e + 1)) ≡ false = int_eq-false x.edge (pos (e + 1)) (λ (h : x.edge ≡ pos (e + 1)). other (omega (arith, ints))) in
+          get_or-set_other v p e (nat_abs x.count) 0 other ∙ before e inside ∙ sym (count_of-other (take k xs) x (e + 1) apart)
     ])
 
 -- counts that are right for each edge are the counts of the lines
@@ -64,8 +64,8 @@ pub all-counts : (xs : List CountLine) (m : ℕ) (v : List ℕ) → length v ≡
 all-counts xs m v size each =
     let long : length (counts_of xs m) ≡ m = length-map-range_with_len (count_of xs) 1 m in
     ext_get_or 0 v (counts_of xs m) (size ∙ sym long) (λ e inside.
-      let within : e < m = omega arith in
-      each e within ∙ sym (get_or-map-range_with_len (count_of xs) 1 m e (e + 1) 0 within (omega arith)))
+    let within : e < m = omega arith in
+    each e within ∙ sym (get_or-map-range_with_len (count_of xs) 1 m e (e + 1) 0 within (omega arith)))
 
 -- a number from 1 on is the next of a natural one
 pub from_one : (z : ℤ) → pos 1 ≤ℤ z → z ≡ pos (nat_abs z - 1 + 1)

@@ -1,21 +1,21 @@
 -- The duals and sets that a document states.
-use Rattle.std.proofs.Common.{◌≡◌, ℕ, zero, suc, ◌+◌, ◌-◌, ◌*◌, ◌<◌, ◌≤◌, ◌^◌, ℤ, pos, neg_ℤ, ◌<ℤ◌, ◌≤ℤ◌, List, length, get_or, map, [], All, slice_index_or, nat_abs, refl, sym, ap, ◌∙◌, subst, arith}
+use Rattle.std.proofs.Common.{◌≡◌, ℕ, ◌+◌, ◌-◌, ◌<◌, ◌≤◌, ℤ, pos, ◌<ℤ◌, ◌≤ℤ◌, List, length, get_or, map, [], All, nat_abs, refl, sym, ap, ◌∙◌, subst, arith}
 use Rattle.std.proofs.lemmas.Int.{ints}
 use Rattle.std.proofs.lemmas.List.{get_or-map, length-map}
 use Rattle.std.proofs.lemmas.List.Elements.{All-map, All-weaker, All-get_or, All-from_get_or}
 use Rattle.graph_theory.specs.declared.edge.Edge.{Edge}
 use Rattle.graph_theory.specs.declared.odd_set.OddSet.{OddSet}
-use Rattle.graph_theory.specs.Graph.{Multigraph, edge_at, edge_of, IsEdgeNumber, no_edge}
-use Rattle.graph_theory.specs.Duals.{IsNumber, IsSetWithin, HasForm, AreDuals, slack, set_at, no_set}
+use Rattle.graph_theory.specs.Graph.{Multigraph, edge_of, no_edge}
+use Rattle.graph_theory.specs.Duals.{IsNumber, IsSetWithin, HasForm, slack, set_at, no_set}
 use Rattle.mb_problem.specs.declared.kind.Kind.{Kind}
-use Rattle.mb_problem.specs.Network.{Network, graph_of, vertices}
+use Rattle.mb_problem.specs.Network.{Network, vertices}
 use Rattle.doc_format.specs.declared.document.Document.{Document}
 use Rattle.doc_format.specs.declared.part.DualLine.{DualLine}
 use Rattle.doc_format.specs.declared.part.SetLine.{SetLine}
 use Rattle.doc_format.specs.Form.{AscendsBy}
 use Rattle.dual_check.specs.Fault.{IsFirstSetFault, IsFirstSlackFault}
-use Rattle.cert_check.specs.Claims.{numbers, duals_of, sets_of, set_of, HasDual, certified_graph}
-use Rattle.cert_check.specs.Certificates.{HasDuals, HaveForm, HaveSlack}
+use Rattle.cert_check.specs.Claims.{numbers, sets_of, set_of, HasDual}
+use Rattle.cert_check.specs.Certificates.{HasDuals, HaveForm}
 use Rattle.cert_check.specs.Verdicts.{IsFirstFormless}
 use Rattle.cert_check.specs.Within.{IsUpTo, IsDualWithin, IsSetLineWithin, AreWithin}
 use Rattle.cert_check.proofs.AscentLemmas.{at_place, as_many}
@@ -50,7 +50,7 @@ duals_size kind i d ascending within have =
     let long : length zs ≡ length d.duals = length-map d.duals (λ (y : DualLine). y.vertex) in
     let inside = within_at (vertices i) d.duals within.duals in
     let all = as_many zs (vertices i) ascending (λ k below. (inside k (omega arith)).low) (λ k below. (inside k (omega arith)).high)
-      (λ v low high. (let one : HasDual d v = have v low high in (one.0, (let below : one.0 < length d.duals = one.1 in omega arith), one.2))) in
+    (λ v low high. (let one : HasDual d v = have v low high in (one.0, (let below : one.0 < length d.duals = one.1 in omega arith), one.2))) in
     sym long ∙ all
 
 pub duals-numbers : (n : ℕ) (ys : List DualLine) → All (IsDualWithin n) ys → All IsNumber (map (λ (y : DualLine). y.dual) ys)
@@ -79,7 +79,7 @@ set_line_at zs k e below = get_or-map set_of zs k no_set_line e below
 pub forms-of_lines : (d : Document) → All (λ s. HasForm s.members) (sets_of d) → HaveForm d
 forms-of_lines d forms = All-from_get_or (λ (z : SetLine). HasForm (numbers z.members)) d.sets no_set_line
     (λ k below. (let long : length (map set_of d.sets) ≡ length d.sets = length-map d.sets set_of in
-      subst (λ (s : OddSet). HasForm s.members) (set_line_at d.sets k no_set below) (All-get_or (λ (s : OddSet). HasForm s.members) (sets_of d) k no_set (omega arith) forms)))
+    subst (λ (s : OddSet). HasForm s.members) (set_line_at d.sets k no_set below) (All-get_or (λ (s : OddSet). HasForm s.members) (sets_of d) k no_set (omega arith) forms)))
 
 pub lines-forms : (d : Document) → HaveForm d → All (λ s. HasForm s.members) (sets_of d)
 lines-forms d have = All-map (λ (s : OddSet). HasForm s.members) set_of d.sets have
@@ -99,10 +99,10 @@ first_formless d number z fault is =
       lacks = λ (form : HasForm (numbers z.members)). fault.lacks (subst (λ (s : OddSet). HasForm s.members) (sym (get_or-map set_of d.sets (number - 1) z no_set here ∙ ap set_of (sym is))) form);
       line_is = refl;
       before = λ j other earlier other_is.
-        (let below : j < length d.sets = omega arith in
-         let number_of : j + 1 - 1 ≡ j = omega arith in
-         let form = fault.before (j + 1) (omega arith) (omega arith) in
-         subst (λ (s : OddSet). HasForm s.members) (ap (λ (k : ℕ). set_at (sets_of d) k) number_of ∙ get_or-map set_of d.sets j other no_set below ∙ ap set_of (sym other_is)) form);
+          (let below : j < length d.sets = omega arith in
+          let number_of : j + 1 - 1 ≡ j = omega arith in
+          let form = fault.before (j + 1) (omega arith) (omega arith) in
+          subst (λ (s : OddSet). HasForm s.members) (ap (λ (k : ℕ). set_at (sets_of d) k) number_of ∙ get_or-map set_of d.sets j other no_set below ∙ ap set_of (sym other_is)) form);
     }
 
 -- an edge with a slack below 0 leaves no room for slack

@@ -1,5 +1,9 @@
 pub mod RangeLemmas
+pub mod WithinLemmas
 pub mod AscentLemmas
 pub mod CountLemmas
 pub mod RuleLemmas
 pub mod DualLemmas
+pub mod BarrierLemmas
+pub mod VerdictLemmas
+pub mod TruthLemmas

@@ -1,5 +1,5 @@
 -- The first fault of lists of lines, one after another.
-use Rattle.std.proofs.Common.{◌≡◌, ℕ, Bool, not, List, ◌++◌, Option, None, Some, refl}
+use Rattle.std.proofs.Common.{◌≡◌, ℕ, not, List, ◌++◌, Option, None, Some, refl}
 use Rattle.std.specs.Option.{option_map, option_or}
 use Rattle.std.proofs.lemmas.List.Folds.{find-append}
 use Rattle.cert_check.specs.Ranges.{Checked, first_fault}
@@ -8,7 +8,7 @@ option_or-line : (a b : Option Checked) → option_map (λ l. l.line) (option_or
 option_or-line None b = refl
 option_or-line (Some x) b = refl
 
-first_fault-append : (xs ys : List Checked) → first_fault (xs ++ ys) ≡ option_or (first_fault xs) (first_fault ys)
+pub first_fault-append : (xs ys : List Checked) → first_fault (xs ++ ys) ≡ option_or (first_fault xs) (first_fault ys)
 first_fault-append xs ys = rw (find-append (λ (l : Checked). not l.in_range) xs ys, option_or-line) refl
 
 option_or-assoc : (a b c : Option ℕ) → option_or (option_or a b) c ≡ option_or a (option_or b c)

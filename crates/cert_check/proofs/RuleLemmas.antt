@@ -1,11 +1,14 @@
 -- The rules in their order.
-use Rattle.std.proofs.Common.{◌≡◌, ℕ, ◌+◌, ◌<◌, ◌≤◌, ◌==◌, cond, refl, sym, ap, ◌∙◌, subst, arith}
+use Rattle.std.proofs.Common.{◌≡◌, ℕ, ◌+◌, ◌≤◌, ◌==◌, cond, None, refl, sym, ap, ◌∙◌, subst, arith}
 use Rattle.std.proofs.Math.Decide.{dec_lt}
 use Rattle.mb_problem.specs.declared.kind.Kind.{Kind}
 use Rattle.mb_problem.specs.Network.{Network}
 use Rattle.doc_format.specs.declared.document.Document.{Document}
+use Rattle.doc_format.specs.declared.status.DocStatus.TheVariants.{Optimal, Infeasible}
 use Rattle.cert_check.specs.declared.rule.DocRule.{DocRule}
 use Rattle.cert_check.specs.declared.rule.DocRule.TheVariants.{DocForm, KindDiffers, DocRange, NotFeasible, WeightDiffers, DualMissing, SetForm, Slack, ValueDiffers, NotBarrier, NotClosed, NotCircuit}
+use Rattle.cert_check.specs.Ranges.{first_out_of_range}
+use Rattle.cert_check.specs.Certificates.{HaveForm}
 use Rattle.cert_check.specs.Verdicts.{Keeps, KeepsBefore, rank}
 
 rule_at : ℕ → DocRule
@@ -46,13 +49,28 @@ rank-most NotCircuit = omega arith
 -- one more rule is kept
 pub keeps-next : (kind : Kind) (i : Network) (d : Document) (rule next : DocRule) → rank next ≡ rank rule + 1 → KeepsBefore kind i d rule → Keeps kind i d rule → KeepsBefore kind i d next
 keeps-next kind i d rule next follows before kept earlier low = elim (dec_lt (rank earlier) (rank rule)) [
-    yes h ↦ before earlier h
+  | yes h ↦ before earlier h
   | no h ↦ subst (Keeps kind i d) (rank-injective rule earlier (omega arith)) kept
-  ]
+]
 
 -- all rules are kept
 pub keeps-all : (kind : Kind) (i : Network) (d : Document) → KeepsBefore kind i d NotCircuit → Keeps kind i d NotCircuit → (rule : DocRule) → Keeps kind i d rule
 keeps-all kind i d before kept rule = elim (dec_lt (rank rule) 12) [
-    yes h ↦ before rule h
+  | yes h ↦ before rule h
   | no h ↦ subst (Keeps kind i d) (rank-injective NotCircuit rule (let most = rank-most rule in omega arith)) kept
-  ]
+]
+
+-- a document of the kind in range that states that nothing is feasible: all rules before the barrier's are kept
+pub infeasible-before : (kind : Kind) (i : Network) (d : Document) → d.kind ≡ kind → first_out_of_range kind i d ≡ None → HaveForm d → d.status ≡ Infeasible → KeepsBefore kind i d NotBarrier
+infeasible-before kind i d same in_range forms status DocForm low = tt
+infeasible-before kind i d same in_range forms status KindDiffers low = same
+infeasible-before kind i d same in_range forms status DocRange low = in_range
+infeasible-before kind i d same in_range forms status NotFeasible low = λ (other : d.status ≡ Optimal). absurd (cc)
+infeasible-before kind i d same in_range forms status WeightDiffers low = λ (other : d.status ≡ Optimal). absurd (cc)
+infeasible-before kind i d same in_range forms status DualMissing low = λ (other : d.status ≡ Optimal). absurd (cc)
+infeasible-before kind i d same in_range forms status SetForm low = forms
+infeasible-before kind i d same in_range forms status Slack low = λ (other : d.status ≡ Optimal). absurd (cc)
+infeasible-before kind i d same in_range forms status ValueDiffers low = λ (other : d.status ≡ Optimal). absurd (cc)
+infeasible-before kind i d same in_range forms status NotBarrier low = absurd (omega arith)
+infeasible-before kind i d same in_range forms status NotClosed low = absurd (omega arith)
+infeasible-before kind i d same in_range forms status NotCircuit low = absurd (omega arith)

@@ -1,11 +1,11 @@
 -- What the parts of a document have to be for it to prove its answer, one fact a rule.
-use Rattle.std.specs.Prelude.{◌≡◌, ℕ, ◌≤◌, ◌%◌, ℤ, pos, ◌≤ℤ◌, ◌<ℤ◌, ◌==◌, All, ⊤, Option, MatchOption, nat_abs}
+use Rattle.std.specs.Prelude.{◌≡◌, ℕ, ◌≤◌, ◌%◌, pos, ◌≤ℤ◌, ◌<ℤ◌, ◌==◌, All, ⊤, MatchOption, nat_abs}
 use Rattle.graph_theory.specs.Barrier.{IsBarrier}
 use Rattle.graph_theory.specs.Duals.{HasForm, slack, dual_value}
 use Rattle.graph_theory.specs.Parts.{IsOddPart, IsSplitPart}
 use Rattle.graph_theory.specs.Walk.{IsCircuit, walk_weight}
 use Rattle.mb_problem.specs.declared.kind.Kind.{Kind}
-use Rattle.mb_problem.specs.declared.kind.Kind.TheVariants.{Perfect, Match, BMatch, CapMatch, FFactor, TJoin, Postman, Path}
+use Rattle.mb_problem.specs.declared.kind.Kind.TheVariants.{TJoin, Postman, Path}
 use Rattle.mb_problem.specs.Network.{Network, graph_of, value_of}
 use Rattle.mb_problem.specs.Feasible.{IsFeasible, weight_of}
 use Rattle.doc_format.specs.declared.document.Document.{Document}

@@ -1,5 +1,5 @@
 -- What an accepted document proves, and what it says of the instance, by the problem alone.
-use Rattle.std.specs.Prelude.{◌≡◌, ◌≢◌, Option, None}
+use Rattle.std.specs.Prelude.{◌≡◌, None}
 use Rattle.graph_theory.specs.Duals.{AreDuals}
 use Rattle.graph_theory.specs.Walk.{IsConservative}
 use Rattle.mb_problem.specs.declared.kind.Kind.{Kind}

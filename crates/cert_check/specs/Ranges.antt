@@ -1,8 +1,7 @@
 -- Which numbers of a document are in range, and the first line with one that isn't.
-use Rattle.std.specs.Prelude.{◌≡◌, ℕ, ℤ, pos, neg_ℤ, int_le, Bool, true, ◌&&◌, not, List, [], ◌∷◌, ◌++◌, length, map, Option, None, Some}
+use Rattle.std.specs.Prelude.{ℕ, ℤ, pos, neg_ℤ, int_le, Bool, ◌&&◌, not, List, [], ◌∷◌, ◌++◌, length, map, Option, None, Some}
 use Rattle.std.specs.List.{list_all, find}
 use Rattle.std.specs.Option.{option_map}
-use Rattle.graph_theory.specs.Graph.{Multigraph}
 use Rattle.mb_problem.specs.declared.kind.Kind.{Kind}
 use Rattle.mb_problem.specs.Network.{Network, vertices}
 use Rattle.doc_format.specs.declared.document.Document.{Document}
@@ -56,17 +55,17 @@ listed (Some x) = x ∷ []
 -- all lines of a document in their order, the s line first
 abbrev pub checked_lines : Kind → Network → Document → List Checked
 checked_lines kind i d =
-  let n = vertices i in
-  let m = length i.edges in
-  let certified = (certified_graph kind i).vertices in
-  record { line = d.line; in_range = is_dual d.weight }
-  ∷ (map (checked_count m) d.counts
-  ++ (map (checked_walk n m) (listed d.walk)
-  ++ (map (checked_dual certified) d.duals
-  ++ (map (checked_set certified) d.sets
-  ++ (map (checked_members certified) (listed d.barrier)
-  ++ (map (checked_members n) (listed d.odd)
-  ++ map (checked_members n) (listed d.split)))))))
+    let n = vertices i in
+    let m = length i.edges in
+    let certified = (certified_graph kind i).vertices in
+    record { line = d.line; in_range = is_dual d.weight }
+    ∷ (map (checked_count m) d.counts
+    ++ (map (checked_walk n m) (listed d.walk)
+    ++ (map (checked_dual certified) d.duals
+    ++ (map (checked_set certified) d.sets
+    ++ (map (checked_members certified) (listed d.barrier)
+    ++ (map (checked_members n) (listed d.odd)
+    ++ map (checked_members n) (listed d.split)))))))
 
 -- the first line that isn't in range
 abbrev pub first_fault : List Checked → Option ℕ

@@ -4,9 +4,12 @@
 #![tactic(auto)]
 
 mod claims;
+mod infeasible;
+mod judging;
 mod numbers;
 mod optimal;
 mod ranges;
 mod rule;
 
+pub use judging::judge;
 pub use rule::{DocRule, Verdict};

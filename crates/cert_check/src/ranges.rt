@@ -1,5 +1,6 @@
-ghost use Rattle.std.specs.Prelude.{◌≡◌, map, length, [], ◌∷◌};
-ghost use Rattle.mb_problem.specs.Network.{Network, vertices};
+ghost use Rattle.std.specs.Prelude.{◌≡◌, map, length, MatchOption, ⊤, [], ◌∷◌};
+ghost use Rattle.mb_problem.specs.Network.{Network, IsNetwork, vertices};
+ghost use Rattle.cert_check.specs.Within.{AreWithin};
 ghost use Rattle.cert_check.specs.Ranges.{is_dual, first_fault, first_out_of_range, checked_count, checked_walk, checked_dual, checked_set, checked_members, listed};
 
 use crate::numbers::{are_up_to, is_dual, is_set_dual, is_up_to};
@@ -75,7 +76,9 @@ fn first_members(members: &Option<MemberLine>, n: u32) -> Option<u64>
 
 /// The first line of a document with a number out of range.
 pub fn first_out_of_range(instance: &Instance, kind: Kind, document: &Document) -> Option<u64>
-    ensures { result ≡ first_out_of_range kind instance.now document.now }
+    ensures fault { result ≡ first_out_of_range kind instance.now document.now }
+    ensures within { MatchOption result (AreWithin kind instance.now document.now) (λ line. ⊤) }
+    ensures network { IsNetwork instance.now }
 {
     let _ = kind;
     let n = instance.vertices();

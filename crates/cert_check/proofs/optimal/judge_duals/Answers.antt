@@ -1,5 +1,4 @@
-use Rattle.std.proofs.Common.{◌≡◌, ℕ, ◌+◌, ◌-◌, List, ℤ, pos, get_or, ◌≤ℤ◌, length, map, All, refl, sym, ap, ◌∙◌, subst, arith, rules}
-use Rattle.graph_theory.specs.declared.edge.Edge.{Edge}
+use Rattle.std.proofs.Common.{◌≡◌, List, ℤ, pos, ◌≤ℤ◌, length, map, All, refl, sym, ap, ◌∙◌, subst}
 use Rattle.graph_theory.specs.declared.odd_set.OddSet.{OddSet}
 use Rattle.graph_theory.specs.Duals.{AreDuals, IsNumber, IsSetWithin, HasForm, slack}
 use Rattle.graph_theory.specs.Graph.{Multigraph}
@@ -11,10 +10,10 @@ use Rattle.dual_check.specs.Fault.{IsFirstSetFault, IsFirstSlackFault}
 use Rattle.cert_check.specs.declared.rule.DocRule.TheVariants.{DualMissing, SetForm, Slack, ValueDiffers}
 use Rattle.cert_check.specs.Claims.{duals_of, sets_of, set_of}
 use Rattle.cert_check.specs.Certificates.{HasDuals, HaveForm, HaveSlack}
-use Rattle.cert_check.specs.Verdicts.{KeepsBefore, IsFirstFormless}
+use Rattle.cert_check.specs.Verdicts.{KeepsBefore}
 use Rattle.cert_check.specs.Within.{AreWithin}
 use Rattle.cert_check.proofs.RuleLemmas.{keeps-next}
-use Rattle.cert_check.proofs.DualLemmas.{has_duals, duals_size, duals-numbers, sets-numbers, sets-within, forms-of_lines, first_formless, no_slack}
+use Rattle.cert_check.proofs.DualLemmas.{has_duals, duals_size, duals-numbers, sets-numbers, sets-within, forms-of_lines, no_slack}
 use Rattle.cert_check.proofs.optimal.judge_duals.Goals as goal
 
 pub returns-then-len-vertices : goal.returns-then-len-vertices
@@ -108,8 +107,8 @@ returns-in-Err-Slack c =
     let forms : HaveForm d = forms-of_lines d (subst (λ (zs : List OddSet). All (λ s. HasForm s.members) zs) sets fault.forms) in
     let to_slacks : KeepsBefore c.args.kind i d Slack = keeps-next c.args.kind i d SetForm Slack refl to_forms forms in
     let lacks : HaveSlack c.args.kind i d → ⊥ = λ (have : All (λ e. pos 0 ≤ℤ slack (duals_of d) (sets_of d) e) (graph_of i).edges).
-      (let at_graph : All (λ e. pos 0 ≤ℤ slack (duals_of d) (sets_of d) e) g.edges = subst (λ (h : Multigraph). All (λ e. pos 0 ≤ℤ slack (duals_of d) (sets_of d) e) h.edges) (sym graph) have in
-       let at_sets : All (λ e. pos 0 ≤ℤ slack (duals_of d) zs e) g.edges = subst (λ (ws : List OddSet). All (λ e. pos 0 ≤ℤ slack (duals_of d) ws e) g.edges) (sym sets) at_graph in
-       let at_duals : All (λ e. pos 0 ≤ℤ slack y zs e) g.edges = subst (λ (x : List ℤ). All (λ e. pos 0 ≤ℤ slack x zs e) g.edges) (sym ys) at_sets in
-       no_slack g y zs e fault at_duals) in
+    (let at_graph : All (λ e. pos 0 ≤ℤ slack (duals_of d) (sets_of d) e) g.edges = subst (λ (h : Multigraph). All (λ e. pos 0 ≤ℤ slack (duals_of d) (sets_of d) e) h.edges) (sym graph) have in
+    let at_sets : All (λ e. pos 0 ≤ℤ slack (duals_of d) zs e) g.edges = subst (λ (ws : List OddSet). All (λ e. pos 0 ≤ℤ slack (duals_of d) ws e) g.edges) (sym sets) at_graph in
+    let at_duals : All (λ e. pos 0 ≤ℤ slack y zs e) g.edges = subst (λ (x : List ℤ). All (λ e. pos 0 ≤ℤ slack x zs e) g.edges) (sym ys) at_sets in
+    no_slack g y zs e fault at_duals) in
     ((c.requires.status, lacks, refl), to_slacks)

@@ -1,7 +1,5 @@
-use Rattle.std.proofs.Common.{◌≡◌, ◌-◌, ◌≤◌, List, length, map, get_or, ap, ◌∙◌, subst, arith}
-use Rattle.std.proofs.lemmas.List.{length-map}
+use Rattle.std.proofs.Common.{◌≡◌, ◌-◌, List, get_or, ap, ◌∙◌, subst}
 use Rattle.doc_format.specs.declared.part.SetLine.{SetLine}
-use Rattle.cert_check.specs.Claims.{sets_of, set_of}
 use Rattle.cert_check.specs.Verdicts.{IsFirstFormless}
 use Rattle.cert_check.proofs.DualLemmas.{first_formless}
 use Rattle.cert_check.proofs.optimal.refuse_set.Goals as goal

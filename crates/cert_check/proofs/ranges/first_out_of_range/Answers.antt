@@ -5,10 +5,11 @@ use Rattle.doc_format.specs.declared.part.DualLine.{DualLine}
 use Rattle.doc_format.specs.declared.part.SetLine.{SetLine}
 use Rattle.cert_check.specs.Ranges.{first_fault, is_dual, checked_count, checked_walk, checked_dual, checked_set, checked_members, listed}
 use Rattle.cert_check.proofs.RangeLemmas.{first_fault-eight}
+use Rattle.cert_check.proofs.WithinLemmas.{within-where_none}
 use Rattle.cert_check.proofs.ranges.first_out_of_range.Goals as goal
 
-pub returns : goal.returns
-returns c =
+pub returns-clause-fault : goal.returns-clause-fault
+returns-clause-fault c =
     let i = c.args.instance.now in
     let d = c.args.document.now in
     let n = vertices i in
@@ -22,4 +23,7 @@ returns c =
     let odd : c.first_members-2.result ≡ first_fault (map (checked_members n) (listed d.odd)) = c.first_members-2.ensures ∙ ap (λ (k : ℕ). first_fault (map (checked_members k) (listed d.odd))) c.vertices-n.ensures.count in
     let split : c.first_members-3.result ≡ first_fault (map (checked_members n) (listed d.split)) = c.first_members-3.ensures ∙ ap (λ (k : ℕ). first_fault (map (checked_members k) (listed d.split))) c.vertices-n.ensures.count in
     rw (c.or-7.ensures, c.or-6.ensures, c.or-5.ensures, c.or-4.ensures, c.or-3.ensures, c.or-2.ensures, c.or.ensures)
-      (first_fault-eight (record { line = d.line; in_range = is_dual d.weight } ∷ []) (map (checked_count m) d.counts) (map (checked_walk n m) (listed d.walk)) (map (checked_dual n) d.duals) (map (checked_set n) d.sets) (map (checked_members n) (listed d.barrier)) (map (checked_members n) (listed d.odd)) (map (checked_members n) (listed d.split)) _ _ _ _ _ _ _ _ head counts walk duals sets barrier odd split)
+    (first_fault-eight (record { line = d.line; in_range = is_dual d.weight } ∷ []) (map (checked_count m) d.counts) (map (checked_walk n m) (listed d.walk)) (map (checked_dual n) d.duals) (map (checked_set n) d.sets) (map (checked_members n) (listed d.barrier)) (map (checked_members n) (listed d.odd)) (map (checked_members n) (listed d.split)) _ _ _ _ _ _ _ _ head counts walk duals sets barrier odd split)
+
+pub returns-clause-within : goal.returns-clause-within
+returns-clause-within c = within-where_none c.args.kind c.args.instance.now c.args.document.now c.or-7.result (returns-clause-fault c)

@@ -1,0 +1,102 @@
+-- A verdict accepts exactly what is proved.
+use Rattle.std.proofs.Common.{◌≡◌, ◌↔◌, ℕ, None, Some, Result, Ok, Err, IfOk, refl, sym, ◌∙◌, subst}
+use Rattle.std.proofs.lemmas.List.{length-map}
+use Rattle.std.proofs.lemmas.List.Elements.{All-get_or}
+use Rattle.graph_theory.specs.Duals.{HasForm, AreDuals}
+use Rattle.mb_problem.specs.declared.kind.Kind.{Kind}
+use Rattle.mb_problem.specs.Network.{Network, vertices}
+use Rattle.doc_format.specs.declared.document.Document.{Document}
+use Rattle.doc_format.specs.declared.status.DocStatus.{DocStatus}
+use Rattle.doc_format.specs.declared.status.DocStatus.TheVariants.{Optimal, Infeasible, NonConservative}
+use Rattle.doc_format.specs.declared.part.DualLine.{DualLine}
+use Rattle.doc_format.specs.declared.part.SetLine.{SetLine}
+use Rattle.doc_format.specs.Form.{AscendsBy}
+use Rattle.cert_check.specs.declared.rule.DocRule.{DocRule}
+use Rattle.cert_check.specs.declared.rule.DocRule.TheVariants.{DocForm, KindDiffers, DocRange, NotFeasible, WeightDiffers, DualMissing, SetForm, Slack, ValueDiffers, NotBarrier, NotClosed, NotCircuit}
+use Rattle.cert_check.specs.declared.rule.Verdict.{Verdict}
+use Rattle.cert_check.specs.declared.rule.Verdict.TheVariants.{Accepted, Rejected}
+use Rattle.cert_check.specs.Claims.{numbers, duals_of, sets_of}
+use Rattle.cert_check.specs.Ranges.{first_out_of_range}
+use Rattle.cert_check.specs.Certificates.{HaveForm}
+use Rattle.cert_check.specs.Verdicts.{Keeps, Breaks, IsVerdict}
+use Rattle.cert_check.specs.Proved.{IsProved, ProvesOptimal, ProvesByStatus}
+use Rattle.cert_check.proofs.WithinLemmas.{are-within}
+use Rattle.cert_check.proofs.DualLemmas.{has_duals, duals_size, sets-within, forms-of_lines, lines-forms}
+
+-- what the type of a document keeps, as far as it counts here
+pub record IsFormed (d : Document) : Type 0 where
+  pub vertices_ascend : AscendsBy (λ y. y.vertex) d.duals
+  pub forms_where_none : (d.status ≡ Optimal → ⊥) → HaveForm d
+
+-- a proof by the status that the document has
+optimal_of : (kind : Kind) (i : Network) (d : Document) → IsProved kind i d → d.status ≡ Optimal → ProvesOptimal kind i d
+optimal_of kind i d p status = subst (λ (s : DocStatus). ProvesByStatus s kind i d) status p.proves
+
+set_forms : (kind : Kind) (i : Network) (d : Document) → IsFormed d → IsProved kind i d → (s : DocStatus) → d.status ≡ s → HaveForm d
+set_forms kind i d formed p Optimal is = forms-of_lines d (optimal_of kind i d p is).duals.forms
+set_forms kind i d formed p Infeasible is = formed.forms_where_none (λ (other : d.status ≡ Optimal). absurd (cc))
+set_forms kind i d formed p NonConservative is = formed.forms_where_none (λ (other : d.status ≡ Optimal). absurd (cc))
+
+-- what is proved keeps every rule
+proved-keeps : (kind : Kind) (i : Network) (d : Document) → IsFormed d → IsProved kind i d → (rule : DocRule) → Keeps kind i d rule
+proved-keeps kind i d formed p DocForm = tt
+proved-keeps kind i d formed p KindDiffers = p.same_kind
+proved-keeps kind i d formed p DocRange = p.in_range
+proved-keeps kind i d formed p NotFeasible = λ status. (optimal_of kind i d p status).feasible
+proved-keeps kind i d formed p WeightDiffers = λ status. (optimal_of kind i d p status).weighs
+proved-keeps kind i d formed p DualMissing = λ status.
+    has_duals kind i d formed.vertices_ascend (are-within kind i d p.in_range) (sym (length-map d.duals (λ (y : DualLine). y.dual)) ∙ (optimal_of kind i d p status).duals.one_each)
+proved-keeps kind i d formed p SetForm = set_forms kind i d formed p d.status refl
+proved-keeps kind i d formed p Slack = λ status. (optimal_of kind i d p status).duals.slacks
+proved-keeps kind i d formed p ValueDiffers = λ status. (optimal_of kind i d p status).value
+proved-keeps kind i d formed p NotBarrier = λ status. (subst (λ (s : DocStatus). ProvesByStatus s kind i d) status p.proves).0
+proved-keeps kind i d formed p NotClosed = λ status. (subst (λ (s : DocStatus). ProvesByStatus s kind i d) status p.proves).1
+proved-keeps kind i d formed p NotCircuit = λ status. subst (λ (s : DocStatus). ProvesByStatus s kind i d) status p.proves
+
+proves-by : (kind : Kind) (i : Network) (d : Document) → IsFormed d → ((rule : DocRule) → Keeps kind i d rule) → (s : DocStatus) → d.status ≡ s → ProvesByStatus s kind i d
+proves-by kind i d formed keeps Optimal is =
+    let within = are-within kind i d (keeps DocRange) in
+    let duals : AreDuals _ (duals_of d) (sets_of d) = record {
+      one_each = length-map d.duals (λ (y : DualLine). y.dual) ∙ duals_size kind i d formed.vertices_ascend within (keeps DualMissing is);
+      sets_within = sets-within (vertices i) d.sets within.sets;
+      forms = lines-forms d (keeps SetForm);
+      slacks = keeps Slack is;
+    } in
+    record { feasible = keeps NotFeasible is; weighs = keeps WeightDiffers is; duals = duals; value = keeps ValueDiffers is }
+proves-by kind i d formed keeps Infeasible is = (keeps NotBarrier is, keeps NotClosed is)
+proves-by kind i d formed keeps NonConservative is = keeps NotCircuit is
+
+-- what keeps every rule is proved
+keeps-proved : (kind : Kind) (i : Network) (d : Document) → IsFormed d → ((rule : DocRule) → Keeps kind i d rule) → IsProved kind i d
+keeps-proved kind i d formed keeps = record { same_kind = keeps KindDiffers; in_range = keeps DocRange; proves = proves-by kind i d formed keeps d.status refl }
+
+-- no rule is both kept and broken
+not_both : (kind : Kind) (i : Network) (d : Document) (rule : DocRule) (line : ℕ) → Breaks kind i d rule line → Keeps kind i d rule → ⊥
+not_both kind i d DocForm line breaks keeps = breaks
+not_both kind i d KindDiffers line breaks keeps = breaks.0 keeps
+not_both kind i d DocRange line breaks keeps = (let here : first_out_of_range kind i d ≡ Some line = breaks in let none : first_out_of_range kind i d ≡ None = keeps in absurd (cc))
+not_both kind i d NotFeasible line breaks keeps = breaks.1 (keeps breaks.0)
+not_both kind i d WeightDiffers line breaks keeps = breaks.1 (keeps breaks.0)
+not_both kind i d DualMissing line breaks keeps = breaks.1 (keeps breaks.0)
+not_both kind i d SetForm line breaks keeps =
+    breaks.lacks (subst (λ (z : SetLine). HasForm (numbers z.members)) (sym breaks.is) (All-get_or (λ (z : SetLine). HasForm (numbers z.members)) d.sets breaks.at breaks.set breaks.there keeps))
+not_both kind i d Slack line breaks keeps = breaks.1 (keeps breaks.0)
+not_both kind i d ValueDiffers line breaks keeps = breaks.1 (keeps breaks.0)
+not_both kind i d NotBarrier line breaks keeps = breaks.1 (keeps breaks.0)
+not_both kind i d NotClosed line breaks keeps = breaks.1 (keeps breaks.0)
+not_both kind i d NotCircuit line breaks keeps = breaks.1 (keeps breaks.0)
+
+accepted_of : (kind : Kind) (i : Network) (d : Document) (v : Verdict) → IsFormed d → IsVerdict kind i d v → IsProved kind i d → v ≡ Accepted
+accepted_of kind i d Accepted formed verdict proved = refl
+accepted_of kind i d (Rejected rule line) formed verdict proved = absurd (not_both kind i d rule line verdict.0 (proved-keeps kind i d formed proved rule))
+
+pub accepted-proved : (kind : Kind) (i : Network) (d : Document) (v : Verdict) → IsFormed d → IsVerdict kind i d v → (v ≡ Accepted) ↔ IsProved kind i d
+accepted-proved kind i d v formed verdict = (
+  (λ is. keeps-proved kind i d formed (subst (IsVerdict kind i d) is verdict)),
+  (λ proved. accepted_of kind i d v formed verdict proved),
+)
+
+-- what follows of a value follows of the result
+pub if_ok : {E : Type 0} (P Q : Verdict → Type 0) → ((v : Verdict) → P v → Q v) → (r : Result Verdict E) → IfOk r P → IfOk r Q
+if_ok P Q step (Ok v) h = step v h
+if_ok P Q step (Err e) h = tt

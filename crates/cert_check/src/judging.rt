@@ -1,0 +1,66 @@
+ghost use Rattle.std.specs.Prelude.{◌≡◌, ◌↔◌, None, IfOk};
+ghost use Rattle.cert_check.specs.Ranges.{first_out_of_range};
+ghost use Rattle.cert_check.specs.Within.{AreWithin};
+ghost use Rattle.cert_check.specs.Verdicts.{IsVerdict};
+ghost use Rattle.cert_check.specs.Proved.{IsProved, StatesTruth};
+
+use crate::infeasible::judge_infeasible;
+use crate::optimal::judge_optimal;
+use crate::ranges::first_out_of_range;
+use crate::rule::{DocRule, Verdict};
+use doc_format::{DocStatus, Document};
+use mb_base::OutOfMemory;
+use mb_problem::{Instance, Kind};
+use std::alloc::Global;
+
+/// The verdict on a document that is of the kind and whose numbers are in range.
+fn judge_claims(
+    alloc: Global,
+    instance: &Instance,
+    kind: Kind,
+    document: &Document,
+) -> Result<Verdict, OutOfMemory>
+    requires kind { kind ≡ Kind.Perfect }
+    requires same { document.now.kind ≡ kind }
+    requires within { AreWithin kind instance.now document.now }
+    requires in_range { first_out_of_range kind instance.now document.now ≡ None }
+    ensures { IfOk result (IsVerdict kind instance.now document.now) }
+{
+    match document.status {
+        DocStatus::Optimal => judge_optimal(alloc, instance, kind, document),
+        DocStatus::Infeasible => judge_infeasible(alloc, instance, kind, document),
+        DocStatus::NonConservative => {
+            let rule = DocRule::NotCircuit;
+            let line = document.line;
+            Ok(Verdict::Rejected { rule, line })
+        }
+    }
+}
+
+/// Whether a document proves what it states of an instance, or the first rule that it breaks, and the
+/// line, in time linear in the instance and the document, sets' members times their degrees aside.
+/// The kind is `Perfect`.
+pub fn judge(
+    alloc: Global,
+    instance: &Instance,
+    kind: Kind,
+    document: &Document,
+) -> Result<Verdict, OutOfMemory>
+    requires kind { kind ≡ Kind.Perfect }
+    ensures verdict { IfOk result (IsVerdict kind instance.now document.now) }
+    ensures accepted { IfOk result (λ v. (v ≡ Verdict.Accepted) ↔ IsProved kind instance.now document.now) }
+
+    // What an accepted document states is true of the instance.
+    ensures sound { IfOk result (λ v. v ≡ Verdict.Accepted → StatesTruth kind instance.now document.now) }
+{
+    if document.kind != kind {
+        let rule = DocRule::KindDiffers;
+        let line = document.line;
+        return Ok(Verdict::Rejected { rule, line });
+    }
+    if let Some(line) = first_out_of_range(instance, kind, document) {
+        let rule = DocRule::DocRange;
+        return Ok(Verdict::Rejected { rule, line });
+    }
+    judge_claims(alloc, instance, kind, document)
+}
