@@ -29,3 +29,6 @@ pub use reading::read;
 pub use status::DocStatus;
 pub use writing::write;
 
+
+#[cfg(test)]
+mod tests;
