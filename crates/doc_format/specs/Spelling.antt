@@ -1,0 +1,83 @@
+-- The one text of a document.
+use Rattle.std.specs.Prelude.{ℕ, ℤ, pos, List, [], ◌∷◌, ◌++◌, map, flat_map, length, codes, Bool, true, false, if◌then◌else◌}
+use Rattle.std.specs.Fmt.{signed_decimal}
+use Rattle.mb_base.specs.Rows.{Row}
+use Rattle.doc_format.specs.declared.status.DocStatus.{DocStatus}
+use Rattle.doc_format.specs.declared.status.DocStatus.TheVariants.{Optimal, Infeasible, NonConservative}
+use Rattle.doc_format.specs.declared.part.Part.{Part}
+use Rattle.doc_format.specs.declared.part.Part.TheVariants.{Count, Walk, Dual, Set, Barrier, Odd, Split}
+use Rattle.mb_problem.specs.declared.kind.Kind.{Kind}
+use Rattle.doc_format.specs.declared.document.Document.{Document}
+use Rattle.doc_format.specs.Names.{kind_text, status_text}
+use Rattle.doc_format.specs.Form.{Body, at_most_one, parts_of}
+use Rattle.doc_format.specs.Reading.{body_of}
+
+-- ---- lines
+
+abbrev pub after_space : List ℕ → List ℕ
+after_space field = 32 ∷ field
+
+-- fields with one space between them, and a line feed
+abbrev pub row_text : Row → List ℕ
+row_text [] = 10 ∷ []
+row_text (field ∷ others) = field ++ (flat_map after_space others ++ 10 ∷ [])
+
+-- numbers with a space before each
+abbrev pub spaced : List ℤ → List ℕ
+spaced zs = flat_map after_space (map signed_decimal zs)
+
+abbrev pub weight_fields : DocStatus → ℤ → Row
+weight_fields Optimal weight = signed_decimal weight ∷ []
+weight_fields status weight = []
+
+abbrev pub head_row : DocStatus → Kind → ℤ → Row
+head_row status kind weight = codes "s" ∷ status_text status ∷ kind_text kind ∷ weight_fields status weight
+
+abbrev pub letter : Part → List ℕ
+letter (Count x) = codes "x"
+letter (Walk w) = codes "w"
+letter (Dual y) = codes "y"
+letter (Set z) = codes "z"
+letter (Barrier u) = codes "u"
+letter (Odd t) = codes "t"
+letter (Split q) = codes "q"
+
+-- numbers after their count
+abbrev pub with_count : List ℤ → List ℤ
+with_count zs = pos (length zs) ∷ zs
+
+abbrev pub numbers_of : Part → List ℤ
+numbers_of (Count x) = x.edge ∷ x.count ∷ []
+numbers_of (Walk w) = w.start ∷ with_count w.edges
+numbers_of (Dual y) = y.vertex ∷ y.dual ∷ []
+numbers_of (Set z) = z.dual ∷ with_count z.members
+numbers_of (Barrier u) = with_count u.members
+numbers_of (Odd t) = with_count t.members
+numbers_of (Split q) = with_count q.members
+
+-- the letter and its numbers, without leading zeros
+abbrev pub part_row : Part → Row
+part_row part = letter part ∷ map signed_decimal (numbers_of part)
+
+abbrev pub parts_text : List Part → List ℕ
+parts_text parts = flat_map row_text (map part_row parts)
+
+-- ---- documents
+
+-- the answer: counts or a walk, but no circuit of negative weight
+abbrev pub answer : DocStatus → Body → List Part
+answer NonConservative body = map Count body.counts
+answer status body = map Count body.counts ++ at_most_one Walk body.walk
+
+abbrev pub certificate : Body → List Part
+certificate body = map Dual body.duals ++ (map Set body.sets ++ (at_most_one Barrier body.barrier ++ (at_most_one Odd body.odd ++ at_most_one Split body.split)))
+
+abbrev pub written_parts : Document → Bool → List Part
+written_parts d true = answer d.status (body_of d)
+written_parts d false = parts_of (body_of d)
+
+abbrev pub document_rows : Document → Bool → List Row
+document_rows d brief = head_row d.status d.kind d.weight ∷ map part_row (written_parts d brief)
+
+abbrev pub document_text : Document → Bool → List ℕ
+document_text d brief = flat_map row_text (document_rows d brief)

@@ -1,0 +1,90 @@
+ghost use Rattle.std.specs.Prelude.{◌≡◌, [], true, OnOk, IfOk};
+ghost use Rattle.mb_base.specs.Text.{fields};
+ghost use Rattle.doc_format.specs.Form.{parts_of, is_formed};
+ghost use Rattle.doc_format.specs.Rows.{IsTabled};
+ghost use Rattle.doc_format.specs.Reading.{body_of, head_of};
+ghost use Rattle.doc_format.specs.Order.{IsLast};
+ghost use Rattle.doc_format.specs.Steps.{Pushes, Takes};
+
+use crate::document::Document;
+use crate::error::DocError;
+use crate::head::Head;
+use crate::letter::letter;
+use crate::order::{Place, may_follow, may_have, place_of};
+use crate::part::Part;
+use crate::part_reading::read_part;
+use mb_base::Sequence;
+use std::alloc::Global;
+
+/// What has been read of a document, and the place of its last part.
+#[derive(Debug, Drop)]
+pub struct Draft {
+    pub document: Document,
+    pub last: Option<Place>,
+}
+
+impl Draft {
+    /// A document of its first line alone.
+    pub fn new(alloc: Global, head: Head) -> Draft
+        requires { IsTabled head }
+        ensures head { head_of result.document ≡ head }
+        ensures parts { parts_of (body_of result.document) ≡ [] }
+        ensures last { IsLast result.last (parts_of (body_of result.document)) }
+    {
+        let document = Document {
+            status: head.status,
+            kind: head.kind,
+            weight: head.weight,
+            line: head.line,
+            counts: Sequence::new(alloc),
+            walk: None,
+            duals: Sequence::new(alloc),
+            sets: Sequence::new(alloc),
+            barrier: None,
+            odd: None,
+            split: None,
+        };
+        Draft {
+            document,
+            last: None,
+        }
+    }
+
+    fn push(&mut self, line: u64, part: Part) -> Result<(), DocError>
+        requires last { IsLast self.old.last (parts_of (body_of self.old.document)) }
+        requires form { is_formed part ≡ true }
+        ensures pushed { Pushes self.old.document self.new.document line part result }
+        ensures last { OnOk result (IsLast self.new.last (parts_of (body_of self.new.document))) }
+    {
+        if !may_have(self.document.status, self.document.kind, &part) {
+            return Err(DocError::DocForm { line });
+        }
+        if !may_follow(self.last, &part) {
+            return Err(DocError::DocForm { line });
+        }
+        let place = place_of(&part);
+        if let Err(_) = self.document.add(part) {
+            return Err(DocError::OutOfMemory);
+        }
+        self.last = Some(place);
+        Ok(())
+    }
+
+    /// Takes a line after the first, of this number.
+    pub fn take(&mut self, alloc: Global, line: u64, text: &[u8]) -> Result<(), DocError>
+        requires { IsLast self.old.last (parts_of (body_of self.old.document)) }
+        ensures taken { Takes self.old.document self.new.document line (fields text.now) result }
+        ensures last { OnOk result (IsLast self.new.last (parts_of (body_of self.new.document))) }
+    {
+        let Some((letter, others)) = letter(text) else {
+            return Ok(());
+        };
+        let Ok(part) = read_part(alloc, line, letter, others) else {
+            return Err(DocError::OutOfMemory);
+        };
+        let Some(part) = part else {
+            return Err(DocError::DocForm { line });
+        };
+        self.push(line, part)
+    }
+}

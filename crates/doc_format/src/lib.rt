@@ -1,0 +1,34 @@
+//! Documents: answers and their certificates as text.
+//! It stands on `mb_base` for lines, fields and numbers, and on `mb_problem` for the kinds.
+//! It promises that a text is read as exactly the document that its lines hold or refused at its
+//! first wrong line, and that a document is written as one text, which reads back as it.
+#![tactic(auto)]
+
+mod adding;
+mod document;
+mod draft;
+mod error;
+mod head;
+mod letter;
+mod names;
+mod numbers;
+mod opening;
+mod order;
+mod part;
+mod part_reading;
+mod reading;
+mod spelling;
+mod status;
+mod writing;
+
+pub use document::Document;
+pub use error::DocError;
+pub use names::kind_name;
+pub use part::{CountLine, DualLine, MemberLine, SetLine, WalkLine};
+pub use reading::read;
+pub use status::DocStatus;
+pub use writing::write;
+
+
+#[cfg(test)]
+mod tests;
