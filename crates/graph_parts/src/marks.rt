@@ -1,0 +1,30 @@
+ghost use Rattle.std.specs.Prelude.{◌≡◌, ℕ, ◌<◌, ◌≤◌, ◌^◌, ◌||◌, length, All, IfOk};
+ghost use Rattle.graph_theory.specs.Parts.{holds};
+ghost use Rattle.graph_parts.specs.Marks.{is_marked, ListsMarked};
+
+use mb_base::{OutOfMemory, VertexId};
+use std::alloc::Global;
+
+/// Marks all members.
+pub(crate) fn mark_all(marks: &mut [bool], members: &[VertexId])
+    requires { All (λ v. v < length marks.old) members.now }
+    ensures { (w : ℕ) → is_marked marks.new w ≡ (is_marked marks.old w || holds members.now w) }
+{
+    for vertex in members {
+        marks[vertex.number() as usize] = true;
+    }
+}
+
+/// The marked vertices, ascending.
+pub(crate) fn list_marked(alloc: Global, marks: &[bool]) -> Result<Vec<VertexId>, OutOfMemory>
+    requires { length marks.now ≤ 2 ^ 32 }
+    ensures { IfOk result (λ vertices. ListsMarked marks.now vertices.items) }
+{
+    let mut vertices = Vec::new(alloc);
+    for (number, marked) in marks.iter().enumerate() {
+        if *marked && number > 0 {
+            vertices.push(VertexId::new(number as u32))?;
+        }
+    }
+    Ok(vertices)
+}
