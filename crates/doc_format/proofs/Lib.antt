@@ -1,3 +1,4 @@
 pub mod OnePartMore
 pub mod Following
 pub mod Lines
+pub mod Texts

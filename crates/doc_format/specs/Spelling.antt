@@ -6,25 +6,32 @@ use Rattle.doc_format.specs.declared.status.DocStatus.{DocStatus}
 use Rattle.doc_format.specs.declared.status.DocStatus.TheVariants.{Optimal, Infeasible, NonConservative}
 use Rattle.doc_format.specs.declared.part.Part.{Part}
 use Rattle.doc_format.specs.declared.part.Part.TheVariants.{Count, Walk, Dual, Set, Barrier, Odd, Split}
-use Rattle.doc_format.specs.declared.head.Head.{Head}
+use Rattle.mb_problem.specs.declared.kind.Kind.{Kind}
 use Rattle.doc_format.specs.declared.document.Document.{Document}
 use Rattle.doc_format.specs.Names.{kind_text, status_text}
-use Rattle.doc_format.specs.Form.{Body, parts_of, at_most_one}
-use Rattle.doc_format.specs.Reading.{body_of, head_of}
+use Rattle.doc_format.specs.Form.{Body, at_most_one, parts_of}
+use Rattle.doc_format.specs.Reading.{body_of}
 
 -- ---- lines
+
+abbrev pub after_space : List ℕ → List ℕ
+after_space field = 32 ∷ field
 
 -- fields with one space between them, and a line feed
 abbrev pub row_text : Row → List ℕ
 row_text [] = 10 ∷ []
-row_text (field ∷ others) = field ++ (flat_map (λ f. 32 ∷ f) others ++ 10 ∷ [])
+row_text (field ∷ others) = field ++ (flat_map after_space others ++ 10 ∷ [])
+
+-- numbers with a space before each
+abbrev pub spaced : List ℤ → List ℕ
+spaced zs = flat_map after_space (map signed_decimal zs)
 
 abbrev pub weight_fields : DocStatus → ℤ → Row
 weight_fields Optimal weight = signed_decimal weight ∷ []
 weight_fields status weight = []
 
-abbrev pub head_row : Head → Row
-head_row head = codes "s" ∷ status_text head.status ∷ kind_text head.kind ∷ weight_fields head.status head.weight
+abbrev pub head_row : DocStatus → Kind → ℤ → Row
+head_row status kind weight = codes "s" ∷ status_text status ∷ kind_text kind ∷ weight_fields status weight
 
 abbrev pub letter : Part → List ℕ
 letter (Count x) = codes "x"
@@ -52,19 +59,25 @@ numbers_of (Split q) = with_count q.members
 abbrev pub part_row : Part → Row
 part_row part = letter part ∷ map signed_decimal (numbers_of part)
 
+abbrev pub parts_text : List Part → List ℕ
+parts_text parts = flat_map row_text (map part_row parts)
+
 -- ---- documents
 
-abbrev pub answer_walk : DocStatus → Body → List Part
-answer_walk NonConservative body = []
-answer_walk status body = at_most_one Walk body.walk
+-- the answer: counts or a walk, but no circuit of negative weight
+abbrev pub answer : DocStatus → Body → List Part
+answer NonConservative body = map Count body.counts
+answer status body = map Count body.counts ++ at_most_one Walk body.walk
 
--- in brief, the answer without its certificate
+abbrev pub certificate : Body → List Part
+certificate body = map Dual body.duals ++ (map Set body.sets ++ (at_most_one Barrier body.barrier ++ (at_most_one Odd body.odd ++ at_most_one Split body.split)))
+
 abbrev pub written_parts : Document → Bool → List Part
-written_parts d true = map Count d.counts ++ answer_walk d.status (body_of d)
+written_parts d true = answer d.status (body_of d)
 written_parts d false = parts_of (body_of d)
 
 abbrev pub document_rows : Document → Bool → List Row
-document_rows d brief = head_row (head_of d) ∷ map part_row (written_parts d brief)
+document_rows d brief = head_row d.status d.kind d.weight ∷ map part_row (written_parts d brief)
 
 abbrev pub document_text : Document → Bool → List ℕ
 document_text d brief = flat_map row_text (document_rows d brief)

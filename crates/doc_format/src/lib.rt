@@ -17,7 +17,9 @@ mod order;
 mod part;
 mod part_reading;
 mod reading;
+mod spelling;
 mod status;
+mod writing;
 
 pub use document::Document;
 pub use error::DocError;
@@ -25,3 +27,8 @@ pub use names::kind_name;
 pub use part::{CountLine, DualLine, MemberLine, SetLine, WalkLine};
 pub use reading::read;
 pub use status::DocStatus;
+pub use writing::write;
+
+
+#[cfg(test)]
+mod tests;

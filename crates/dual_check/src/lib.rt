@@ -1,8 +1,9 @@
 //! Bounds that duals on vertices and on odd sets of vertices prove on the weight of each perfect matching.
-//! It stands on `mb_base`, `graph_theory` and `weighted_graph`. It promises the value of feasible
-//! duals, which twice the weight of a perfect matching never falls below, or the first fault of others.
+//! It stands on `mb_base`, `graph_theory`, `weighted_graph` and `graph_parts`. It promises the value of feasible duals, which
+//! twice the weight of a perfect matching never falls below, or the first fault of others, and whether a set is a barrier.
 #![tactic(auto)]
 
+mod barrier;
 mod crossings;
 mod duals;
 mod fault;
@@ -12,6 +13,7 @@ mod slacks;
 #[cfg(test)]
 mod tests;
 
+pub use barrier::is_barrier;
 pub use duals::bound;
 pub use fault::DualFault;
 pub use graph_theory::OddSet;

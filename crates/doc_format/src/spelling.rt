@@ -1,0 +1,94 @@
+ghost use Rattle.std.specs.Prelude.{◌≡◌, ◌++◌, ◌∷◌, [], map, OnOk};
+ghost use Rattle.std.specs.Fmt.{signed_decimal};
+ghost use Rattle.doc_format.specs.Spelling.{row_text, spaced, with_count, head_row};
+
+use crate::names::{kind_name, status_name};
+use crate::status::DocStatus;
+use itoa::Buffer;
+use mb_base::OutOfMemory;
+use mb_problem::Kind;
+
+fn put_number(out: &mut Vec<u8>, number: i64) -> Result<(), OutOfMemory>
+    ensures { OnOk result (out.new.items ≡ out.old.items ++ 32 ∷ signed_decimal number) }
+{
+    out.push(b' ')?;
+    let mut buffer = Buffer::new();
+    out.extend_from_slice(buffer.format(number).as_bytes())?;
+    Ok(())
+}
+
+fn put_numbers(out: &mut Vec<u8>, numbers: &[i64]) -> Result<(), OutOfMemory>
+    ensures { OnOk result (out.new.items ≡ out.old.items ++ spaced numbers.now) }
+{
+    for number in numbers {
+        put_number(out, *number)?;
+    }
+    Ok(())
+}
+
+/// A line of a letter and two numbers.
+pub fn put_pair(
+    out: &mut Vec<u8>,
+    letter: u8,
+    first: i64,
+    second: i64,
+) -> Result<(), OutOfMemory>
+    ensures { OnOk result (out.new.items ≡ out.old.items
+        ++ row_text ((letter ∷ []) ∷ map signed_decimal (first ∷ second ∷ []))) }
+{
+    out.push(letter)?;
+    put_number(out, first)?;
+    put_number(out, second)?;
+    out.push(b'\n')?;
+    Ok(())
+}
+
+/// A line of a letter, how many members there are, and the members.
+pub fn put_members(out: &mut Vec<u8>, letter: u8, members: &[i64]) -> Result<(), OutOfMemory>
+    ensures { OnOk result (out.new.items ≡ out.old.items
+        ++ row_text ((letter ∷ []) ∷ map signed_decimal (with_count members.now))) }
+{
+    out.push(letter)?;
+    put_number(out, members.len() as i64)?;
+    put_numbers(out, members)?;
+    out.push(b'\n')?;
+    Ok(())
+}
+
+/// A line of a letter, a number, how many members there are, and the members.
+pub fn put_number_and_members(
+    out: &mut Vec<u8>,
+    letter: u8,
+    number: i64,
+    members: &[i64],
+) -> Result<(), OutOfMemory>
+    ensures { OnOk result (out.new.items ≡ out.old.items
+        ++ row_text ((letter ∷ []) ∷ map signed_decimal (number ∷ with_count members.now))) }
+{
+    out.push(letter)?;
+    put_number(out, number)?;
+    put_number(out, members.len() as i64)?;
+    put_numbers(out, members)?;
+    out.push(b'\n')?;
+    Ok(())
+}
+
+/// The first line of a document.
+pub fn put_head(
+    out: &mut Vec<u8>,
+    status: DocStatus,
+    kind: Kind,
+    weight: i64,
+) -> Result<(), OutOfMemory>
+    ensures { OnOk result (out.new.items ≡ out.old.items ++ row_text (head_row status kind weight)) }
+{
+    out.extend_from_slice(b"s ")?;
+    out.extend_from_slice(status_name(status))?;
+    out.push(b' ')?;
+    out.extend_from_slice(kind_name(kind))?;
+    if status == DocStatus::Optimal {
+        put_number(out, weight)?;
+    }
+    out.push(b'\n')?;
+    Ok(())
+}
