@@ -11,7 +11,7 @@ use Rattle.doc_format.specs.declared.order.Place.{Place}
 use Rattle.doc_format.specs.Form.{rank, key, is_set, may_follow}
 use Rattle.doc_format.specs.Order.{follows, IsLast}
 
-int_lt-trans : (x y z : ℤ) → int_lt x y ≡ true → int_lt y z ≡ true → int_lt x z ≡ true
+pub int_lt-trans : (x y z : ℤ) → int_lt x y ≡ true → int_lt y z ≡ true → int_lt x z ≡ true
 int_lt-trans x y z a b = grind (arith, ints)
 
 set_rank : (part : Part) → is_set part ≡ eqb (rank part) 4

@@ -123,7 +123,7 @@ taken_length : (rs : List Row) (k : ℕ) → k ≤ length rs → length (take k 
 taken_length rs k h = omega (arith, length-take k rs)
 
 -- whether line k is refused, by what its look-backs give
-refusal : (n : ℕ) (rs : List Row) (k number : ℕ) (row : Row) (head : Option Head) (parts : List Part) → k ≤ length rs → number ≡ n + k → get_or rs k [] ≡ row → head_from n (take k rs) ≡ head → parts_from n (take k rs) ≡ parts → is_refused_at n rs k ≡ cond (is_skipped row) false (refuses head parts number row)
+pub refusal : (n : ℕ) (rs : List Row) (k number : ℕ) (row : Row) (head : Option Head) (parts : List Part) → k ≤ length rs → number ≡ n + k → get_or rs k [] ≡ row → head_from n (take k rs) ≡ head → parts_from n (take k rs) ≡ parts → is_refused_at n rs k ≡ cond (is_skipped row) false (refuses head parts number row)
 refusal n rs k number row head parts le e r h p =
     let f : n + length (take k rs) ≡ number = omega (arith, taken_length rs k le) in
     rw (r, h, p, f) refl
