@@ -1,6 +1,5 @@
 -- Numbers that are written are the numbers that are kept.
-use Rattle.std.proofs.Common.{◌≡◌, ℕ, suc, ◌+◌, ◌-◌, ◌*◌, ◌/◌, ◌%◌, ◌<◌, ◌≤◌, ◌^◌, Bool, true, false, cond, ◌&&◌, eqb, min, List, [], ◌∷◌, ◌++◌, length, map, Option, None, Some, ℤ, pos, negsuc, neg_ℤ, refl, sym, ap, ◌∙◌, arith}
-use Rattle.std.specs.Prelude.{nat_abs}
+use Rattle.std.proofs.Common.{◌≡◌, ℕ, suc, ◌+◌, ◌-◌, ◌*◌, ◌%◌, ◌<◌, ◌≤◌, ◌^◌, Bool, true, false, ◌&&◌, eqb, min, List, [], ◌∷◌, ◌++◌, length, map, Some, ℤ, pos, negsuc, neg_ℤ, refl, ap, ◌∙◌, arith}
 use Rattle.std.specs.Option.{option_map}
 use Rattle.std.specs.Ordering.{int_eq}
 use Rattle.std.specs.List.{list_all, AllByRecursion}
@@ -9,7 +8,6 @@ use Rattle.std.proofs.lemmas.Bool.Decides.{nat_tests, Decides-int_eq}
 use Rattle.std.proofs.lemmas.Fmt.{decimal_by_steps}
 use Rattle.std.proofs.lemmas.List.{length_push}
 use Rattle.mb_base.specs.Text.{is_digit, value_from, natural, numeral, clamped}
-use Rattle.mb_base.specs.Rows.{Row}
 use Rattle.doc_format.specs.Plain.{is_plain, IsField, HasFields}
 use Rattle.doc_format.specs.Law.{IsKept}
 use Rattle.doc_format.specs.Rows.{kept, numbers, counted}

@@ -1,25 +1,21 @@
 -- A document's lines, written and read.
-use Rattle.std.proofs.Common.{◌≡◌, ℕ, zero, suc, ◌+◌, ◌<◌, ◌≤◌, Bool, true, false, cond, not, ◌&&◌, List, [], ◌∷◌, ◌++◌, length, map, take, drop, get_or, Option, None, Some, ℤ, pos, refl, sym, ap, subst, ◌∙◌, arith}
-use Rattle.std.specs.Prelude.{codes, int_lt}
+use Rattle.std.proofs.Common.{◌≡◌, ℕ, ◌+◌, Bool, true, false, ◌&&◌, List, [], ◌∷◌, map, Some, ℤ, pos, refl, sym, ap, arith}
 use Rattle.std.specs.List.{list_all, AllByRecursion}
-use Rattle.std.specs.Fmt.{signed_decimal}
-use Rattle.std.proofs.lemmas.Bool.Decides.{nat_tests}
-use Rattle.mb_base.specs.Rows.{Row, rows, is_skipped}
+use Rattle.mb_base.specs.Rows.{is_skipped}
 use Rattle.mb_problem.specs.declared.kind.Kind.{Kind}
 use Rattle.mb_problem.specs.declared.kind.Kind.TheVariants.{Perfect, Match, BMatch, CapMatch, FFactor, TJoin, Postman, Path}
 use Rattle.doc_format.specs.declared.status.DocStatus.{DocStatus}
 use Rattle.doc_format.specs.declared.status.DocStatus.TheVariants.{Optimal, Infeasible, NonConservative}
 use Rattle.doc_format.specs.declared.part.Part.{Part}
 use Rattle.doc_format.specs.declared.part.Part.TheVariants.{Count, Walk, Dual, Set, Barrier, Odd, Split}
-use Rattle.doc_format.specs.declared.head.Head.{Head}
 use Rattle.doc_format.specs.Names.{kind_text, status_text, kind_named, status_named}
-use Rattle.doc_format.specs.Form.{is_formed, is_head, is_best, admits, may_follow}
-use Rattle.doc_format.specs.Rows.{headed, head_at, part_at, weight_in, only_if, IsTabled}
-use Rattle.doc_format.specs.Reading.{head_from, parts_from, onto}
+use Rattle.doc_format.specs.Form.{is_formed, is_head, is_best}
+use Rattle.doc_format.specs.Rows.{head_at, part_at, weight_in}
+use Rattle.doc_format.specs.Reading.{parts_from}
 use Rattle.doc_format.specs.Plain.{IsField, HasFields}
 use Rattle.doc_format.specs.Law.{IsKept, unnumbered}
 use Rattle.doc_format.specs.Spelling.{letter, numbers_of, part_row, head_row, weight_fields}
-use Rattle.doc_format.proofs.NumbersBack.{kept_back, numbers_back, counted_back, numbers_are_fields, number_is_field}
+use Rattle.doc_format.proofs.NumbersBack.{kept_back, counted_back, numbers_are_fields, number_is_field}
 
 -- the part as if it stood on line n
 abbrev pub on_line : ℕ → Part → Part

@@ -1,12 +1,12 @@
 -- Rows that are written are the rows that are read.
 use Rattle.std.proofs.Common.{◌≡◌, ℕ, ◌-◌, ◌<◌, Bool, true, false, not, ◌&&◌, eqb, List, [], ◌∷◌, ◌++◌, length, map, filter, refl, sym, ap, ◌∙◌, append_assoc, arith}
 use Rattle.std.specs.Prelude.{flat_map}
-use Rattle.std.specs.List.{list_all, AllByRecursion, slice_split}
+use Rattle.std.specs.List.{list_all, AllByRecursion}
 use Rattle.std.specs.Str.Lines.{strip_carriage_return}
 use Rattle.std.proofs.lemmas.List.Splits.{slice_split_at, slice_split_none}
 use Rattle.std.proofs.lemmas.List.Elements.{All-from_recursion}
 use Rattle.std.proofs.lemmas.List.{append-nil}
-use Rattle.mb_base.specs.Text.{is_line_feed, closed, raw_lines, lines, is_blank, is_nonempty, fields}
+use Rattle.mb_base.specs.Text.{is_line_feed, closed, raw_lines, is_blank, is_nonempty, fields}
 use Rattle.mb_base.specs.Rows.{Row, rows}
 use Rattle.mb_base.proofs.LineLemmas.{closed-split}
 use Rattle.doc_format.specs.Plain.{is_plain, IsField, HasFields}

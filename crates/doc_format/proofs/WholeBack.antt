@@ -1,10 +1,10 @@
 -- The text of a document reads back as it.
-use Rattle.std.proofs.Common.{◌≡◌, ℕ, zero, suc, ◌+◌, ◌<◌, ◌≤◌, Bool, true, false, cond, not, ◌&&◌, List, [], ◌∷◌, ◌++◌, length, map, take, get_or, Option, None, Some, ℤ, pos, refl, sym, ap, subst, ◌∙◌, arith, inl, inr}
+use Rattle.std.proofs.Common.{◌≡◌, ℕ, zero, suc, ◌+◌, ◌<◌, Bool, true, false, cond, not, ◌&&◌, List, [], ◌∷◌, length, map, take, get_or, Some, pos, refl, sym, ap, subst, ◌∙◌, arith, inl, inr}
 use Rattle.std.specs.Prelude.{Result, Ok, Err, All}
 use Rattle.std.specs.List.{list_all, AllByRecursion}
 use Rattle.std.proofs.lemmas.List.{take-map, get_or-map, length-map}
 use Rattle.std.proofs.lemmas.List.Elements.{recursion_from_All}
-use Rattle.mb_base.specs.Rows.{Row, rows, is_skipped}
+use Rattle.mb_base.specs.Rows.{Row, rows}
 use Rattle.doc_format.specs.declared.part.Part.{Part}
 use Rattle.doc_format.specs.declared.part.Part.TheVariants.{Count}
 use Rattle.doc_format.specs.declared.head.Head.{Head}
@@ -13,10 +13,9 @@ use Rattle.doc_format.specs.declared.error.DocError.{DocError}
 use Rattle.doc_format.specs.declared.error.DocError.TheVariants.{DocForm, OutOfMemory}
 use Rattle.doc_format.specs.Form.{parts_of, may_follow, admits, is_formed}
 use Rattle.doc_format.specs.Rows.{head_at, part_at}
-use Rattle.doc_format.specs.Reading.{body_of, head_of, head_from, parts_from, may_stand, stands, refuses, is_refused_at, NoneRefusedBelow, HoldsDocument, IsFirstRefused, ReadsRows}
-use Rattle.doc_format.specs.Plain.{HasFields}
+use Rattle.doc_format.specs.Reading.{body_of, head_of, head_from, parts_from, stands, refuses, is_refused_at, ReadsRows}
 use Rattle.doc_format.specs.Spelling.{numbers_of, part_row, head_row, document_rows, document_text}
-use Rattle.doc_format.specs.Law.{IsKept, HasKeptNumbers, unnumbered, SaysTheSame, GivesAgain, ReadsBack}
+use Rattle.doc_format.specs.Law.{IsKept, HasKeptNumbers, unnumbered, GivesAgain, ReadsBack}
 use Rattle.doc_format.proofs.RowsBack.{rows_back}
 use Rattle.doc_format.proofs.PartsBack.{on_line, on_lines, HasKept, part_back, part_there, parts_back, parts_have_fields, head_back, head_has_fields, unnumbered_all}
 use Rattle.doc_format.proofs.InOrder.{passes, all_taken, parts_in_order, in_order_at, parts_formed, admits-line, follow-lines}

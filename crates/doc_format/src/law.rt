@@ -4,5 +4,4 @@ ghost use Rattle.doc_format.specs.Law.{ReadsBack};
 /// numbers aside, wherever it begins.
 pub fn reads_back()
     ensures { ReadsBack }
-{
-}
+{}

@@ -31,6 +31,5 @@ pub use reading::read;
 pub use status::DocStatus;
 pub use writing::write;
 
-
 #[cfg(test)]
 mod tests;
