@@ -1,6 +1,6 @@
 -- The last part stands for all that came before it.
-use Rattle.std.proofs.Common.{◌≡◌, ◌++◌, ◌∷◌, [], ℕ, ◌<◌, ◌≤◌, List, Bool, true, false, ◌&&◌, eqb, Option, None, Some, ℤ, refl, sym, ap, subst, ◌∙◌, arith}
-use Rattle.std.specs.Prelude.{int_lt, nat_lt, ◌||◌, ◌<ℤ◌}
+use Rattle.std.proofs.Common.{◌≡◌, ◌++◌, ◌∷◌, [], ℕ, List, Bool, true, false, ◌&&◌, eqb, Option, None, Some, ℤ, refl, sym, ap, ◌∙◌, arith}
+use Rattle.std.specs.Prelude.{int_lt, nat_lt, ◌||◌}
 use Rattle.std.specs.List.{list_all}
 use Rattle.std.proofs.lemmas.List.Folds.{list_all-append}
 use Rattle.std.proofs.lemmas.Bool.Decides.{nat_tests}
@@ -11,7 +11,7 @@ use Rattle.doc_format.specs.declared.order.Place.{Place}
 use Rattle.doc_format.specs.Form.{rank, key, is_set, may_follow}
 use Rattle.doc_format.specs.Order.{follows, IsLast}
 
-int_lt-trans : (x y z : ℤ) → int_lt x y ≡ true → int_lt y z ≡ true → int_lt x z ≡ true
+pub int_lt-trans : (x y z : ℤ) → int_lt x y ≡ true → int_lt y z ≡ true → int_lt x z ≡ true
 int_lt-trans x y z a b = grind (arith, ints)
 
 set_rank : (part : Part) → is_set part ≡ eqb (rank part) 4

@@ -2,3 +2,8 @@ pub mod OnePartMore
 pub mod Following
 pub mod Lines
 pub mod Texts
+pub mod RowsBack
+pub mod NumbersBack
+pub mod PartsBack
+pub mod InOrder
+pub mod WholeBack

@@ -1,6 +1,6 @@
 -- One line of a text more.
-use Rattle.std.proofs.Common.{◌≡◌, ℕ, zero, suc, ◌+◌, ◌<◌, ◌≤◌, ◌&&◌, not, Bool, true, false, cond, List, [], ◌∷◌, ◌++◌, length, take, drop, get_or, map, Option, None, Some, refl, sym, ap, subst, ◌∙◌, arith, inl, inr, append_assoc, add-zero, zero-add}
-use Rattle.std.specs.Prelude.{codes, bytes_eq, is_none, Result, Ok, Err}
+use Rattle.std.proofs.Common.{◌≡◌, ℕ, zero, suc, ◌+◌, ◌<◌, ◌≤◌, ◌&&◌, not, Bool, true, false, cond, List, [], ◌∷◌, ◌++◌, length, take, drop, get_or, map, Option, None, Some, refl, sym, ap, subst, ◌∙◌, arith, inl, inr}
+use Rattle.std.specs.Prelude.{codes, bytes_eq, Err}
 use Rattle.std.specs.List.{list_all}
 use Rattle.std.proofs.lemmas.Bool.{cases_lt, eqb-true}
 use Rattle.std.proofs.lemmas.List.{append-nil, drop_more, drop_all, take_more, take_all, length-take, length-drop}
@@ -14,7 +14,7 @@ use Rattle.doc_format.specs.declared.head.Head.{Head}
 use Rattle.doc_format.specs.declared.document.Document.{Document}
 use Rattle.doc_format.specs.Form.{parts_of}
 use Rattle.doc_format.specs.Rows.{head_at, headed, part_at, part_in}
-use Rattle.doc_format.specs.Reading.{head_from, onto, parts_from, may_stand, stands, refuses, is_refused, is_refused_at, row_at, NoneRefusedBelow, IsFirstRefused, body_of, head_of, HoldsDocument, ReadsRows}
+use Rattle.doc_format.specs.Reading.{head_from, onto, parts_from, may_stand, stands, refuses, is_refused_at, NoneRefusedBelow, body_of, head_of, HoldsDocument, ReadsRows}
 use Rattle.doc_format.specs.declared.error.DocError.{DocError}
 use Rattle.doc_format.specs.declared.error.DocError.TheVariants.{DocForm, OutOfMemory}
 use Rattle.doc_format.specs.Steps.{with_part, taken, Takes, Skips, IsOpening, IsFault, IsRead}
@@ -123,7 +123,7 @@ taken_length : (rs : List Row) (k : ℕ) → k ≤ length rs → length (take k 
 taken_length rs k h = omega (arith, length-take k rs)
 
 -- whether line k is refused, by what its look-backs give
-refusal : (n : ℕ) (rs : List Row) (k number : ℕ) (row : Row) (head : Option Head) (parts : List Part) → k ≤ length rs → number ≡ n + k → get_or rs k [] ≡ row → head_from n (take k rs) ≡ head → parts_from n (take k rs) ≡ parts → is_refused_at n rs k ≡ cond (is_skipped row) false (refuses head parts number row)
+pub refusal : (n : ℕ) (rs : List Row) (k number : ℕ) (row : Row) (head : Option Head) (parts : List Part) → k ≤ length rs → number ≡ n + k → get_or rs k [] ≡ row → head_from n (take k rs) ≡ head → parts_from n (take k rs) ≡ parts → is_refused_at n rs k ≡ cond (is_skipped row) false (refuses head parts number row)
 refusal n rs k number row head parts le e r h p =
     let f : n + length (take k rs) ≡ number = omega (arith, taken_length rs k le) in
     rw (r, h, p, f) refl

@@ -296,4 +296,3 @@ split-parts head b x h = split-added b x (both (admits head.status head.kind (Sp
 
 pub split-keeps : (head : Head) (b : Body) (x : MemberLine) → IsDocument head.status head.kind head.weight b → may_stand head (parts_of b) (Split x) ≡ true → is_formed (Split x) ≡ true → IsDocument head.status head.kind head.weight (record b { split = Some x })
 split-keeps head b x form h formed = let t = (both (admits head.status head.kind (Split x)) (list_all (λ earlier. may_follow earlier (Split x)) (parts_of b)) h) in split-form head.status head.kind head.weight b x form t.0 t.1 formed
-

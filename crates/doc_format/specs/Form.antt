@@ -119,17 +119,17 @@ at_most_one made (Some part) = made part ∷ []
 abbrev pub parts_of : Body → List Part
 parts_of b = map Count b.counts ++ (at_most_one Walk b.walk ++ (map Dual b.duals ++ (map Set b.sets ++ (at_most_one Barrier b.barrier ++ (at_most_one Odd b.odd ++ at_most_one Split b.split)))))
 
-abbrev pub is_some_list : List ℤ → Bool
-is_some_list [] = false
-is_some_list (z ∷ zs) = true
+abbrev pub has_any : List ℤ → Bool
+has_any [] = false
+has_any (z ∷ zs) = true
 
 abbrev pub has_edges : Option WalkLine → Bool
 has_edges None = true
-has_edges (Some w) = is_some_list w.edges
+has_edges (Some w) = has_any w.edges
 
 -- a walk has an edge, and the members of a set of vertices ascend
 abbrev pub is_formed : Part → Bool
-is_formed (Walk w) = is_some_list w.edges
+is_formed (Walk w) = has_any w.edges
 is_formed (Barrier u) = ascends u.members
 is_formed (Odd t) = ascends t.members
 is_formed (Split q) = ascends q.members

@@ -1,5 +1,5 @@
 -- What is written reads back.
-use Rattle.std.specs.Prelude.{◌≡◌, ℕ, ◌≤◌, ℤ, nat_abs, List, map, All, false, Result, Ok, Err}
+use Rattle.std.specs.Prelude.{◌≡◌, ℕ, ◌≤◌, ℤ, nat_abs, map, All, false, Result, Ok, Err}
 use Rattle.doc_format.specs.declared.part.Part.{Part}
 use Rattle.doc_format.specs.declared.part.Part.TheVariants.{Count, Walk, Dual, Set, Barrier, Odd, Split}
 use Rattle.doc_format.specs.declared.document.Document.{Document}

@@ -5,4 +5,5 @@ pub mod Reading
 pub mod Order
 pub mod Steps
 pub mod Spelling
+pub mod Plain
 pub mod Law

@@ -3,15 +3,14 @@ use Rattle.std.specs.Prelude.{◌≡◌, ℕ, ℤ, pos, List, [], ◌∷◌, len
 use Rattle.std.specs.Ordering.{int_eq}
 use Rattle.mb_base.specs.Text.{number_of}
 use Rattle.mb_base.specs.Rows.{Row}
-use Rattle.mb_problem.specs.declared.kind.Kind.{Kind}
 use Rattle.doc_format.specs.declared.status.DocStatus.{DocStatus}
-use Rattle.doc_format.specs.declared.status.DocStatus.TheVariants.{Optimal, Infeasible, NonConservative}
+use Rattle.doc_format.specs.declared.status.DocStatus.TheVariants.{Optimal}
 use Rattle.doc_format.specs.declared.part.MemberLine.{MemberLine}
 use Rattle.doc_format.specs.declared.part.Part.{Part}
 use Rattle.doc_format.specs.declared.part.Part.TheVariants.{Count, Walk, Dual, Set, Barrier, Odd, Split}
 use Rattle.doc_format.specs.declared.head.Head.{Head}
 use Rattle.doc_format.specs.Names.{kind_named, status_named}
-use Rattle.doc_format.specs.Form.{is_head, is_best, ascends, is_some_list}
+use Rattle.doc_format.specs.Form.{is_head, is_best, ascends, has_any}
 
 infixl 10 ◌>>=◌
 abbrev pub ◌>>=◌ : {A B : Type 0} → Option A → (A → Option B) → Option B
@@ -84,7 +83,7 @@ dual_in n fields = two_numbers fields >>= λ p. Some (Dual (record { line = n; v
 
 abbrev pub walk_in : ℕ → Row → Option Part
 walk_in n [] = None
-walk_in n (start ∷ others) = kept start >>= λ s. counted others >>= λ es. only_if (is_some_list es) (Walk (record { line = n; start = s; edges = es }))
+walk_in n (start ∷ others) = kept start >>= λ s. counted others >>= λ es. only_if (has_any es) (Walk (record { line = n; start = s; edges = es }))
 
 abbrev pub set_in : ℕ → Row → Option Part
 set_in n [] = None

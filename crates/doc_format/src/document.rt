@@ -24,17 +24,17 @@ pub struct Document {
     pub sets: Sequence<SetLine>,
     /// A barrier, members ascending.
     pub barrier: Option<MemberLine>,
-    /// Vertices that no edge leaves, with an odd number of ends; members ascending.
+    /// Vertices that no edge leaves, with an odd number of T; members ascending.
     pub odd: Option<MemberLine>,
     /// Vertices that no edge leaves, with edges inside and outside; members ascending.
     pub split: Option<MemberLine>,
     pub ghost form: { IsDocument status kind weight (record {
-        counts = counts;
-        walk = walk;
-        duals = duals;
-        sets = sets;
-        barrier = barrier;
-        odd = odd;
-        split = split;
+      counts = counts;
+      walk = walk;
+      duals = duals;
+      sets = sets;
+      barrier = barrier;
+      odd = odd;
+      split = split;
     }) },
 }

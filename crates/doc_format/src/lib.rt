@@ -9,6 +9,7 @@ mod document;
 mod draft;
 mod error;
 mod head;
+mod law;
 mod letter;
 mod names;
 mod numbers;
@@ -23,12 +24,12 @@ mod writing;
 
 pub use document::Document;
 pub use error::DocError;
+pub use law::reads_back;
 pub use names::kind_name;
 pub use part::{CountLine, DualLine, MemberLine, SetLine, WalkLine};
 pub use reading::read;
 pub use status::DocStatus;
 pub use writing::write;
-
 
 #[cfg(test)]
 mod tests;

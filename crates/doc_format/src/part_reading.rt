@@ -12,7 +12,9 @@ fn is_ascending(numbers: &[i64]) -> bool
 {
     let mut rest = numbers;
     'numbers: while let [first, others @ ..] = rest {
-        if let Some(second) = others.first() && *first >= *second {
+        if let Some(second) = others.first()
+            && *first >= *second
+        {
             return false;
         }
         rest = others;

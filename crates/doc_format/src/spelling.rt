@@ -27,12 +27,7 @@ fn put_numbers(out: &mut Vec<u8>, numbers: &[i64]) -> Result<(), OutOfMemory>
 }
 
 /// A line of a letter and two numbers.
-pub fn put_pair(
-    out: &mut Vec<u8>,
-    letter: u8,
-    first: i64,
-    second: i64,
-) -> Result<(), OutOfMemory>
+pub fn put_pair(out: &mut Vec<u8>, letter: u8, first: i64, second: i64) -> Result<(), OutOfMemory>
     ensures { OnOk result (out.new.items ≡ out.old.items
         ++ row_text ((letter ∷ []) ∷ map signed_decimal (first ∷ second ∷ []))) }
 {

@@ -20,7 +20,10 @@ fn first_wrong_line_is_named(rt: HostRuntime) -> Result<(), Fail> {
         (b"s OPTIMAL perfect 5\nx 1 +1\n", 4),
         (b"s OPTIMAL perfect 5\nx 2 1\nx 1 1\n", 5),
         (b"s OPTIMAL perfect 5\nx 1 1\nx 1 1\n", 5),
-        (b"s OPTIMAL perfect 5\nx 2000000000000000 1\nx 3000000000000000 1\n", 5),
+        (
+            b"s OPTIMAL perfect 5\nx 2000000000000000 1\nx 3000000000000000 1\n",
+            5,
+        ),
         (b"s OPTIMAL perfect 5\nw 1 1 1\n", 4),
         (b"s OPTIMAL postman 5\nx 1 1\n", 4),
         (b"s OPTIMAL postman 5\nw 1 0\n", 4),
@@ -56,7 +59,10 @@ fn every_letter_is_read_and_written(rt: HostRuntime) -> Result<(), Fail> {
         ),
         (b"s INFEASIBLE bmatch\nu 2 5 6\n", b"s INFEASIBLE bmatch\n"),
         (b"s INFEASIBLE tjoin\nt 1 2\n", b"s INFEASIBLE tjoin\n"),
-        (b"s INFEASIBLE postman\nq 2 1 2\n", b"s INFEASIBLE postman\n"),
+        (
+            b"s INFEASIBLE postman\nq 2 1 2\n",
+            b"s INFEASIBLE postman\n",
+        ),
         (
             b"s NONCONSERVATIVE path\nw 1 3 1 2 3\n",
             b"s NONCONSERVATIVE path\n",

@@ -1,7 +1,6 @@
-use Rattle.std.proofs.Common.{◌≡◌, ◌∷◌, List, refl, sym, ap, subst, ◌∙◌, true, false, Option, Some, None, arith}
+use Rattle.std.proofs.Common.{◌≡◌, ◌∷◌, sym, ap, subst, ◌∙◌, Some, arith}
 use Rattle.mb_base.specs.Text.{fields}
-use Rattle.mb_base.specs.Rows.{Row, rows, is_skipped}
-use Rattle.doc_format.specs.declared.head.Head.{Head}
+use Rattle.mb_base.specs.Rows.{rows}
 use Rattle.doc_format.specs.Rows.{head_at}
 use Rattle.doc_format.specs.Steps.{Skips}
 use Rattle.doc_format.proofs.Lines.{rows_more, skips_more, no_head, skips_at}

@@ -1,0 +1,108 @@
+-- The text of a document reads back as it.
+use Rattle.std.proofs.Common.{◌≡◌, ℕ, zero, suc, ◌+◌, ◌<◌, Bool, true, false, cond, not, ◌&&◌, List, [], ◌∷◌, length, map, take, get_or, Some, pos, refl, sym, ap, subst, ◌∙◌, arith, inl, inr}
+use Rattle.std.specs.Prelude.{Result, Ok, Err, All}
+use Rattle.std.specs.List.{list_all, AllByRecursion}
+use Rattle.std.proofs.lemmas.List.{take-map, get_or-map, length-map}
+use Rattle.std.proofs.lemmas.List.Elements.{recursion_from_All}
+use Rattle.mb_base.specs.Rows.{Row, rows}
+use Rattle.doc_format.specs.declared.part.Part.{Part}
+use Rattle.doc_format.specs.declared.part.Part.TheVariants.{Count}
+use Rattle.doc_format.specs.declared.head.Head.{Head}
+use Rattle.doc_format.specs.declared.document.Document.{Document}
+use Rattle.doc_format.specs.declared.error.DocError.{DocError}
+use Rattle.doc_format.specs.declared.error.DocError.TheVariants.{DocForm, OutOfMemory}
+use Rattle.doc_format.specs.Form.{parts_of, may_follow, admits, is_formed}
+use Rattle.doc_format.specs.Rows.{head_at, part_at}
+use Rattle.doc_format.specs.Reading.{body_of, head_of, head_from, parts_from, stands, refuses, is_refused_at, ReadsRows}
+use Rattle.doc_format.specs.Spelling.{numbers_of, part_row, head_row, document_rows, document_text}
+use Rattle.doc_format.specs.Law.{IsKept, HasKeptNumbers, unnumbered, GivesAgain, ReadsBack}
+use Rattle.doc_format.proofs.RowsBack.{rows_back}
+use Rattle.doc_format.proofs.PartsBack.{on_line, on_lines, HasKept, part_back, part_there, parts_back, parts_have_fields, head_back, head_has_fields, unnumbered_all}
+use Rattle.doc_format.proofs.InOrder.{passes, all_taken, parts_in_order, in_order_at, parts_formed, admits-line, follow-lines}
+use Rattle.doc_format.proofs.Lines.{refusal}
+
+every : (P Q : Part → Type 0) → ((part : Part) → P part → Q part) → (parts : List Part) → AllByRecursion P parts → AllByRecursion Q parts
+every P Q f [] h = tt
+every P Q f (p ∷ ps) h = (f p h.0, every P Q f ps h.1)
+
+kept_parts : (parts : List Part) → All (λ part. All IsKept (numbers_of part)) parts → AllByRecursion HasKept parts
+kept_parts parts h = every (λ part. All IsKept (numbers_of part)) HasKept (λ part k. recursion_from_All IsKept (numbers_of part) k) parts (recursion_from_All (λ part. All IsKept (numbers_of part)) parts h)
+
+kept_taken : (parts : List Part) (k : ℕ) → AllByRecursion HasKept parts → AllByRecursion HasKept (take k parts)
+kept_taken [] zero h = tt
+kept_taken [] (suc k) h = tt
+kept_taken (p ∷ ps) zero h = tt
+kept_taken (p ∷ ps) (suc k) h = (h.0, kept_taken ps k h.1)
+
+kept_at : (parts : List Part) (k : ℕ) (d : Part) → AllByRecursion HasKept parts → k < length parts → HasKept (get_or parts k d)
+kept_at [] k d h lt = absurd (omega arith)
+kept_at (p ∷ ps) zero d h lt = h.0
+kept_at (p ∷ ps) (suc k) d h lt = kept_at ps k d h.1 (omega arith)
+
+abbrev no_part : Part
+no_part = Count (record { line = 0; edge = pos 0; count = pos 0 })
+
+joined : (x y : Bool) → x ≡ true → y ≡ true → (x && y) ≡ true
+joined true y a b = b
+joined false y a b = absurd cc
+
+abbrev head_on : Document → ℕ → Head
+head_on d n = record { line = n; status = d.status; kind = d.kind; weight = d.weight }
+
+head_read : (d : Document) (n : ℕ) → HasKeptNumbers d → head_at n (head_row d.status d.kind d.weight) ≡ Some (head_on d n)
+head_read d n kept = head_back n d.status d.kind d.weight kept.weight d.form.headed d.form.no_weight
+
+parts_read : (d : Document) (n k : ℕ) → HasKeptNumbers d → parts_from n (map part_row (take k (parts_of (body_of d)))) ≡ on_lines n (take k (parts_of (body_of d)))
+parts_read d n k kept =
+    let parts = parts_of (body_of d) in
+    parts_back n (take k parts) (kept_taken parts k (kept_parts parts kept.parts)) (all_taken is_formed parts k (parts_formed d.status d.kind d.weight (body_of d) d.form))
+
+-- line k + 1 isn't refused
+part_stands : (d : Document) (n m k : ℕ) → HasKeptNumbers d → k < length (parts_of (body_of d)) → stands (head_on d n) (on_lines (n + 1) (take k (parts_of (body_of d)))) (part_at m (part_row (get_or (parts_of (body_of d)) k no_part))) ≡ true
+part_stands d n m k kept lt =
+    let parts = parts_of (body_of d) in
+    let part = get_or parts k no_part in
+    let formed = passes is_formed parts k no_part (parts_formed d.status d.kind d.weight (body_of d) d.form) lt in
+    let back : part_at m (part_row part) ≡ Some (on_line m part) = part_back m part (kept_at parts k no_part (kept_parts parts kept.parts) lt) formed in
+    let letter : admits d.status d.kind (on_line m part) ≡ true = admits-line d.status d.kind m part ∙ passes (admits d.status d.kind) parts k no_part d.form.letters lt in
+    let order : list_all (λ earlier. may_follow earlier (on_line m part)) (on_lines (n + 1) (take k parts)) ≡ true = follow-lines (n + 1) m (take k parts) part ∙ in_order_at parts k no_part (parts_in_order d.status d.kind d.weight (body_of d) d.form) lt in
+    ap (stands (head_on d n) (on_lines (n + 1) (take k parts))) back
+    ∙ joined (admits d.status d.kind (on_line m part)) (list_all (λ earlier. may_follow earlier (on_line m part)) (on_lines (n + 1) (take k parts))) letter order
+
+none_refused : (d : Document) (n : ℕ) → HasKeptNumbers d → (k : ℕ) → k < length (document_rows d false) → is_refused_at n (document_rows d false) k ≡ false
+none_refused d n kept zero lt = rw (head_read d (n + 0) kept) refl
+none_refused d n kept (suc k) lt =
+    let parts = parts_of (body_of d) in
+    let part = get_or parts k no_part in
+    let rs = document_rows d false in
+    let m = n + suc k in
+    let lt' : k < length parts = omega (arith, length-map parts part_row) in
+    let row : get_or rs (suc k) [] ≡ part_row part = get_or-map part_row parts k no_part [] lt' in
+    let heads : head_from n (take (suc k) rs) ≡ Some (head_on d n) = head_read d n kept in
+    let before : parts_from n (take (suc k) rs) ≡ on_lines (n + 1) (take k parts) = ap (parts_from (n + 1)) (take-map part_row k parts) ∙ parts_read d (n + 1) k kept in
+    refusal n rs (suc k) m (part_row part) (Some (head_on d n)) (on_lines (n + 1) (take k parts)) (omega arith) refl row heads before
+    ∙ ap (λ (b : Bool). cond b false (refuses (Some (head_on d n)) (on_lines (n + 1) (take k parts)) m (part_row part))) (part_there part)
+    ∙ ap not (part_stands d n m k kept lt')
+
+text_back : (d : Document) → HasKeptNumbers d → rows (document_text d false) ≡ document_rows d false
+text_back d kept = rows_back (document_rows d false) (head_has_fields d.status d.kind d.weight kept.weight, parts_have_fields (parts_of (body_of d)) (kept_parts (parts_of (body_of d)) kept.parts))
+
+same_head : (a b : Head) → Some a ≡ Some b → a ≡ b
+same_head a b h = cc
+
+gives_again : (d : Document) (n : ℕ) (answer : Result Document DocError) → HasKeptNumbers d → ReadsRows n (document_rows d false) answer → GivesAgain d answer
+gives_again d n (Ok e) kept holds =
+    let head : head_on d n ≡ head_of e = same_head (head_on d n) (head_of e) (sym (head_read d n kept) ∙ holds.head) in
+    let parts = parts_of (body_of d) in
+    let back : parts_of (body_of e) ≡ on_lines (n + 1) parts = holds.parts ∙ parts_back (n + 1) parts (kept_parts parts kept.parts) (parts_formed d.status d.kind d.weight (body_of d) d.form) in
+    record {
+      status = ap (λ (h : Head). h.status) head;
+      kind = ap (λ (h : Head). h.kind) head;
+      weight = ap (λ (h : Head). h.weight) head;
+      parts = sym (ap (map unnumbered) back ∙ unnumbered_all (n + 1) parts);
+    }
+gives_again d n (Err OutOfMemory) kept holds = tt
+gives_again d n (Err (DocForm line)) kept holds = elim holds.2.fault [ inl f ↦ (let no_fault = none_refused d n kept holds.0 f.0 in let fault = f.1 in absurd cc) | inr f ↦ (let fault = f.1 in absurd cc) ]
+
+pub reads_back : ReadsBack
+reads_back = λ d kept n answer reads. gives_again d n answer kept (subst (λ (rs : List Row). ReadsRows n rs answer) (text_back d kept) reads)
