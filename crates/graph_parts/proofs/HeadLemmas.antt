@@ -4,10 +4,14 @@ use Rattle.std.proofs.lemmas.Bool.{cases_eq, false≢true, or_cases, or_left, or
 use Rattle.std.proofs.lemmas.Grind.{common_steps}
 use Rattle.graph_theory.specs.Graph.{Multigraph, IsGraph}
 use Rattle.graph_theory.specs.Parts.{holds}
-use Rattle.graph_theory.specs.Barrier.{AreTogether, IsComponent, IsOddHead}
+use Rattle.graph_theory.specs.Barrier.{AreTogether, IsComponent, IsOddHead, IsOddCount}
 use Rattle.graph_theory.proofs.Members.{holds_first, least_first, holds-push, increasing-push, all_holds}
-use Rattle.graph_theory.proofs.Components.{together-sym, together-trans, together-free, component-outside, component-within, component-unique}
-use Rattle.graph_parts.specs.Marks.{is_marked, SeenBelow, CountsBelow}
+use Rattle.graph_theory.proofs.Components.{together-refl, together-sym, together-trans, together-free, component-outside, component-within, component-unique}
+use Rattle.graph_parts.specs.Marks.{is_marked, MarksSet}
+use Rattle.graph_parts.specs.Search.{Finds}
+use Rattle.graph_parts.specs.Heads.{SeenBelow, CountsBelow}
+use Rattle.graph_parts.proofs.Once.{members_to, to-has, to-length}
+use Rattle.graph_parts.proofs.ComponentLemmas.{found_component}
 
 -- the least vertex of a component is a member
 head_held : (g : Multigraph) (removed component : List ℕ) (v : ℕ) → IsComponent g removed component → slice_index component 0 ≡ v → holds component v ≡ true
@@ -46,19 +50,26 @@ seen-same g removed v marks ok seen why = λ w. (
 )
 
 -- the component of the vertex is marked
-pub seen-more : (g : Multigraph) (removed component : List ℕ) (v : ℕ) (old new : List Bool) → 1 ≤ v → SeenBelow g removed v old → IsComponent g removed component → holds component v ≡ true → ((w : ℕ) → is_marked new w ≡ (is_marked old w || holds component w)) → SeenBelow g removed (v + 1) new
-seen-more g removed component v old new low seen is here now = λ w. (
-  λ h. elim (or_cases (is_marked old w) (holds component w) (sym (now w) ∙ h)) [
+pub seen-more : (g : Multigraph) (removed reached : List ℕ) (v : ℕ) (old new : List Bool) → 1 ≤ v → SeenBelow g removed v old → ((w : ℕ) → (holds reached w ≡ true) ↔ AreTogether g removed v w) → ((w : ℕ) → is_marked new w ≡ (is_marked old w || holds reached w)) → SeenBelow g removed (v + 1) new
+seen-more g removed reached v old new low seen exact now = λ w. (
+  λ h. elim (or_cases (is_marked old w) (holds reached w) (sym (now w) ∙ h)) [
     | inl before ↦ let s = (seen w).0 before in (s.0, s.1, omega arith, s.3)
-    | inr member ↦ (v, low, omega arith, is.joined v w here member)
+    | inr member ↦ (v, low, omega arith, (exact w).0 member)
   ],
   λ s. elim (cases_eq s.0 v) [
     | inl e ↦
         let P : ℕ → Type 0 = λ x. AreTogether g removed x w in
-        now w ∙ or_right (is_marked old w) (holds component w) (is.whole v w here (subst P e s.3))
-    | inr d ↦ now w ∙ or_left (is_marked old w) (holds component w) ((seen w).1 (s.0, s.1, omega (arith, s.2), s.3))
+        now w ∙ or_right (is_marked old w) (holds reached w) ((exact w).1 (subst P e s.3))
+    | inr d ↦ now w ∙ or_left (is_marked old w) (holds reached w) ((seen w).1 (s.0, s.1, omega (arith, s.2), s.3))
   ],
 )
+
+-- nothing marked is together with a vertex that is not
+pub seen-apart : (g : Multigraph) (removed : List ℕ) (v : ℕ) (marks : List Bool) → IsGraph g → SeenBelow g removed v marks → is_marked marks v ≡ false → (w : ℕ) → is_marked marks w ≡ true → AreTogether g removed v w → ⊥
+seen-apart g removed v marks ok seen off w h a =
+    let s = (seen w).0 h in
+    let home = together-trans g removed s.0 w v s.3 (together-sym g removed v w ok.ends a) in
+    false≢true (sym off ∙ (seen v).1 (s.0, s.1, s.2, home))
 
 first_is : (g : Multigraph) (removed component : List ℕ) (v : ℕ) (marks : List Bool) → SeenBelow g removed v marks → is_marked marks v ≡ false → IsComponent g removed component → holds component v ≡ true → slice_index component 0 ≡ v
 first_is g removed component v marks seen off is here =
@@ -80,6 +91,21 @@ odd_head g removed component v marks seen off is here = (
       let same : component ≡ head.0 = component-unique g removed component head.0 v is head.1 here (head_held g removed head.0 v head.1 head.3) in
       ap (λ (c : List ℕ). length c % 2) same ∙ head.2,
 )
+
+-- what the visit of a vertex finds, that is neither marked nor removed
+pub visit-seen : (g : Multigraph) (out : List Bool) (removed reached : List ℕ) (v : ℕ) (old new : List Bool) → IsGraph g → 1 ≤ v → MarksSet out removed → SeenBelow g removed v old → is_marked old v ≡ false → Finds g out v old new reached → SeenBelow g removed (v + 1) new
+visit-seen g out removed reached v old new ok low is seen off found = seen-more g removed reached v old new low seen (found.exact removed is (seen-apart g removed v old ok seen off)) found.marked
+
+pub visit-head : (g : Multigraph) (out : List Bool) (removed reached : List ℕ) (v : ℕ) (old new : List Bool) → IsGraph g → 1 ≤ v → v ≤ g.vertices → MarksSet out removed → SeenBelow g removed v old → is_marked old v ≡ false → is_marked out v ≡ false → Finds g out v old new reached → (length reached % 2 ≡ 1) ↔ IsOddHead g removed v
+visit-head g out removed reached v old new ok low high is seen off free found =
+    let component = members_to reached g.vertices in
+    let exact = found.exact removed is (seen-apart g removed v old ok seen off) in
+    let outside : holds removed v ≡ false = sym (is v) ∙ free in
+    let held = to-has reached g.vertices v low high ((exact v).1 (together-refl g removed v outside)) in
+    let whole : IsComponent g removed component = found_component g removed reached v ok low high outside exact in
+    let head = odd_head g removed component v old seen off whole held in
+    let size : length component % 2 ≡ length reached % 2 = ap (λ n. n % 2) (to-length reached g.vertices found.once) in
+    (λ odd. head.0 (size ∙ odd), λ h. sym size ∙ head.1 h)
 
 -- one more least vertex of a component of odd size
 pub counts-more : (g : Multigraph) (removed : List ℕ) (v count : ℕ) → CountsBelow g removed v count → IsOddHead g removed v → CountsBelow g removed (v + 1) (count + 1)
@@ -116,6 +142,21 @@ counts-same g removed v count so_far none = record {
       | inl e ↦ let P : ℕ → Type 0 = λ x. IsOddHead g removed x in absurd (none (subst P (sym e) s.1))
       | inr d ↦ (so_far.exact w).1 (omega (arith, s.0), s.1)
     ],
+  );
+  size = so_far.size;
+}
+
+-- all vertices are below
+pub counts-all : (g : Multigraph) (removed : List ℕ) (n count : ℕ) → n ≡ g.vertices → CountsBelow g removed (n + 1) count → IsOddCount g removed count
+counts-all g removed n count all so_far = record {
+  heads = so_far.heads;
+  ascending = so_far.ascending;
+  exact = λ v. (
+    λ h. ((so_far.exact v).0 h).1,
+    λ head.
+        let is : IsComponent g removed head.0 = head.1 in
+        let within = component-within g removed head.0 v is (head_held g removed head.0 v is head.3) in
+        (so_far.exact v).1 (omega (arith, within.1, all), head),
   );
   size = so_far.size;
 }

@@ -6,6 +6,7 @@
 mod components;
 mod marks;
 mod odd;
+mod search;
 
 pub use components::component;
 pub use odd::odd_components;

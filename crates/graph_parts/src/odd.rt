@@ -1,13 +1,15 @@
-ghost use Rattle.std.specs.Prelude.{◌≡◌, ℕ, ◌+◌, ◌%◌, ◌≤◌, ◌↔◌, length, IsTrue, IfOk};
+ghost use Rattle.std.specs.Prelude.{◌≡◌, ℕ, ◌+◌, ◌%◌, ◌≤◌, ◌↔◌, List, length, IsTrue, IfOk};
 ghost use Rattle.graph_theory.specs.Parts.{IsVertexSet};
 ghost use Rattle.graph_theory.specs.Barrier.{IsOddHead, IsOddCount};
-ghost use Rattle.graph_parts.specs.Marks.{SeenBelow};
+ghost use Rattle.weighted_graph.specs.Index.{IsIndex};
+ghost use Rattle.graph_parts.specs.Marks.{MarksSet};
+ghost use Rattle.graph_parts.specs.Heads.{SeenBelow};
 
-use crate::components::{component_outside, contains};
 use crate::marks::mark_all;
+use crate::search::search;
 use mb_base::{OutOfMemory, VertexId};
 use std::alloc::Global;
-use weighted_graph::Graph;
+use weighted_graph::{Graph, Incidence};
 
 fn is_odd(members: &[VertexId]) -> bool
     ensures { IsTrue result ↔ (length members.now % 2 ≡ 1) }
@@ -16,34 +18,39 @@ fn is_odd(members: &[VertexId]) -> bool
 }
 
 /// Whether the vertex is the least of a component of odd size, where all components of lesser
-/// vertices are marked.
+/// vertices are marked. Its own is marked then.
 fn visit(
-    alloc: Global,
     graph: &Graph,
-    removed: &[VertexId],
-    seen: &mut [bool],
+    index: &Incidence,
+    removed: &[bool],
     vertex: VertexId,
+    seen: &mut [bool],
+    reached: &mut Vec<VertexId>,
 ) -> Result<bool, OutOfMemory>
+    requires index { IsIndex graph.now index.now }
     requires low { 1 ≤ vertex }
     requires high { vertex ≤ graph.now.vertices }
+    requires removed { length removed.now ≡ graph.now.vertices + 1 }
     requires size { length seen.old ≡ graph.now.vertices + 1 }
-    requires seen { SeenBelow graph.now removed.now vertex seen.old }
-    ensures seen { IfOk result (λ _. SeenBelow graph.now removed.now (vertex + 1) seen.new) }
-    ensures head { IfOk result (λ odd. IsTrue odd ↔ IsOddHead graph.now removed.now vertex) }
+    ensures seen { IfOk result (λ _. (set : List ℕ) → MarksSet removed.now set → SeenBelow graph.now set vertex seen.old
+        → SeenBelow graph.now set (vertex + 1) seen.new) }
+    ensures head { IfOk result (λ odd. (set : List ℕ) → MarksSet removed.now set → SeenBelow graph.now set vertex seen.old
+        → IsTrue odd ↔ IsOddHead graph.now set vertex) }
 {
     let _ = graph.vertices();
-    if seen[vertex.number() as usize] {
+    let place = vertex.number() as usize;
+    if seen[place] {
         return Ok(false);
     }
-    if contains(removed, vertex) {
+    if removed[place] {
         return Ok(false);
     }
-    let component = component_outside(alloc, graph, removed, vertex)?;
-    mark_all(seen, &component);
-    Ok(is_odd(&component))
+    search(graph, index, removed, vertex, seen, reached)?;
+    Ok(is_odd(reached))
 }
 
-/// How many components have an odd number of vertices where the set is removed.
+/// How many components have an odd number of vertices where the set is removed. It takes time linear
+/// in vertices and edges.
 pub fn odd_components(
     alloc: Global,
     graph: &Graph,
@@ -52,10 +59,16 @@ pub fn odd_components(
     requires { IsVertexSet graph.now.vertices removed.now }
     ensures { IfOk result (IsOddCount graph.now removed.now) }
 {
-    let mut seen = vec![in alloc; false; graph.vertices() as usize + 1]?;
+    let index = graph.index()?;
+    let places = graph.vertices() as usize + 1;
+    let mut out = vec![in alloc; false; places]?;
+    mark_all(&mut out, removed);
+    let mut seen = vec![in alloc; false; places]?;
+    let mut reached = Vec::new(alloc);
     let mut count = 0u64;
     for number in 0..graph.vertices() {
-        if visit(alloc, graph, removed, &mut seen, VertexId::new(number + 1))? {
+        let vertex = VertexId::new(number + 1);
+        if visit(graph, &index, &out, vertex, &mut seen, &mut reached)? {
             count += 1;
         }
     }

@@ -1,5 +1,5 @@
 use Rattle.std.proofs.Common.{◌≡◌, ◌+◌, ◌≤◌, length}
-use Rattle.graph_parts.specs.Marks.{SeenBelow, CountsBelow}
+use Rattle.graph_parts.specs.Heads.{SeenBelow, CountsBelow}
 use Rattle.graph_parts.proofs.odd.odd_components.Given as goal
 
 abbrev pub invariant-loop-number : goal.invariant-loop-number

@@ -1,0 +1,12 @@
+use Rattle.std.proofs.Common.{ℕ, ◌≤◌, ◌-◌, length}
+use Rattle.graph_parts.proofs.SearchLemmas.{IsDone}
+use Rattle.graph_parts.proofs.search.search.Given as goal
+
+abbrev pub invariant-loop-done : goal.invariant-loop-done
+invariant-loop-done l = record {
+  most : l.done ≤ length l.reached.items;
+  is : IsDone l.graph l.removed l.fn.start l.fn.marks l.marks l.reached.items l.done;
+}
+
+abbrev pub decreases-loop-done : goal.decreases-loop-done
+decreases-loop-done l = l.graph.vertices - l.done
