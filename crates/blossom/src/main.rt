@@ -1,0 +1,64 @@
+//! The program `blossom`: `match_cli::run` over the words, the input and the output of a process.
+//! It stands on `match_cli` and `mb_base`. It promises nothing of its own: what the operating system
+//! does with standard input and output is trusted.
+#![tactic(auto)]
+
+ghost use Rattle.std.specs.Prelude.{◌≡◌, ◌<◌};
+
+use match_cli::{Status, run};
+use mb_base::{OutOfMemory, RealIn, RealOut, Steps};
+use std::marker::Brand;
+use std::process::ExitCode;
+use std::sync::ledger::{Blank, Ledger};
+use std::{env, io};
+
+/// The exit status of the process.
+fn code(status: Status) -> u8 {
+    match status {
+        Status::Done => 0,
+        Status::Rejected => 1,
+        Status::Usage => 2,
+        Status::Malformed => 3,
+        Status::TooLarge => 4,
+        Status::TooLong => 5,
+        Status::ReadFault => 6,
+        Status::WriteFault => 7,
+        Status::OutOfMemory => 8,
+    }
+}
+
+/// The words of the command line. Where they can't be had as text there are none, which is no command.
+fn words(rt: &HostRuntime) -> Result<Vec<String>, OutOfMemory> {
+    let mut words = Vec::new(rt.alloc());
+    match env::args(rt) {
+        Ok(args) => {
+            for word in args {
+                words.push(word)?;
+            }
+        }
+        Err(error) => {
+            if error.kind() == io::ErrorKind::OutOfMemory {
+                return Err(std::alloc::AllocError);
+            }
+        }
+    }
+    Ok(words)
+}
+
+fn start<L: Ledger>(blank: Blank, rt: &HostRuntime, words: &Vec<String>) -> Status
+    requires name { blank.name ≡ L.name }
+    requires parts { blank.parts ≡ L.parts }
+    requires some { 0 < blank.parts }
+{
+    let mut steps = Steps::<L>::new(blank);
+    let mut source = RealIn::new(rt.reader());
+    let mut sink = RealOut::new(io::writer(rt));
+    run(rt.alloc(), words, &mut source, &mut sink, &mut steps)
+}
+
+fn main(rt: HostRuntime) -> ExitCode {
+    let Ok(words) = words(&rt) else {
+        return ExitCode::from(8u8);
+    };
+    ExitCode::from(code(start::<Brand>(Blank::new(1), &rt, &words)))
+}

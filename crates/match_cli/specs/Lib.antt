@@ -1,0 +1,6 @@
+pub mod Commands
+pub mod Lines
+pub mod Checking
+pub mod Answers
+pub mod Runs
+pub mod Prepared

@@ -1,0 +1,41 @@
+-- The answer that stands ready before anything is written.
+use Rattle.std.specs.Prelude.{◌≡◌, ℕ, ◌<◌, List, Option, Some, None, Result, Ok, Err}
+use Rattle.match_cli.specs.declared.status.Status.{Status}
+use Rattle.match_cli.specs.declared.status.Status.TheVariants.{Done, Rejected, Usage, Malformed, TooLarge, TooLong}
+use Rattle.match_cli.specs.declared.answer.Answer.{Answer}
+use Rattle.match_cli.specs.declared.top.Stop.{Stop}
+use Rattle.match_cli.specs.declared.top.Stop.TheVariants as stop
+use Rattle.match_cli.specs.declared.words.Command.{Command}
+use Rattle.match_cli.specs.Commands.{command_of}
+use Rattle.match_cli.specs.Runs.{IsAnswer, IsUsage, TellsTruth}
+
+-- this text and status, or want of memory
+abbrev pub Readies : List ℕ → Status → Result Answer Stop → Type 0
+Readies text status (Ok a) = (a.text.items ≡ text) × (a.status ≡ status)
+Readies text status (Err stop.ReadFault) = ⊥
+Readies text status (Err stop.OutOfMemory) = Unit {0}
+
+-- a status with something to write
+abbrev pub IsWritten : Status → Type 0
+IsWritten Done = Unit {0}
+IsWritten Rejected = Unit {0}
+IsWritten Usage = Unit {0}
+IsWritten Malformed = Unit {0}
+IsWritten TooLarge = Unit {0}
+IsWritten TooLong = Unit {0}
+IsWritten _ = ⊥
+
+abbrev pub Prepares : List (List ℕ) → Option (List ℕ) → Option (List ℕ) → Result Answer Stop → Type 0
+Prepares words before after (Ok a) = IsWritten a.status × IsAnswer words before after a.text.items a.status
+Prepares words before after (Err stop.ReadFault) = (command : Command) × (command_of words ≡ Some command)
+Prepares words before after (Err stop.OutOfMemory) = Unit {0}
+
+-- Usage is for words that are no command, whatever the source tells
+abbrev pub PreparesUsage : List (List ℕ) → Result Answer Stop → Type 0
+PreparesUsage words (Ok a) = IsUsage words a.status
+PreparesUsage words (Err e) = Unit {0}
+
+abbrev pub CountsPrepared : ℕ → ℕ → Result Answer Stop → Type 0
+CountsPrepared before after (Ok a) = after ≡ before
+CountsPrepared before after (Err stop.ReadFault) = before < after
+CountsPrepared before after (Err stop.OutOfMemory) = after ≡ before

@@ -1,0 +1,27 @@
+ghost use Rattle.std.specs.Prelude.{◌≡◌, ◌++◌, codes, decimal, IfOk};
+ghost use Rattle.match_cli.specs.Lines.{fault_line};
+
+use crate::status::Status;
+use itoa::Buffer;
+use mb_base::OutOfMemory;
+use std::alloc::Global;
+
+/// What is to be written, and the status then.
+#[derive(Drop)]
+pub struct Answer {
+    pub text: Vec<u8>,
+    pub status: Status,
+}
+
+/// A line of words, a name and a number.
+pub fn line(alloc: Global, words: &[u8], name: &[u8], number: u64) -> Result<Vec<u8>, OutOfMemory>
+    ensures { IfOk result (λ v. v.items ≡ fault_line words.now name.now number) }
+{
+    let mut buffer = Buffer::new();
+    let mut text = Vec::from_slice(alloc, words)?;
+    text.extend_from_slice(name)?;
+    text.extend_from_slice(b" ")?;
+    text.extend_from_slice(buffer.format(number).as_bytes())?;
+    text.extend_from_slice(b"\n")?;
+    Ok(text)
+}

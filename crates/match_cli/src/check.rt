@@ -1,0 +1,128 @@
+ghost use Rattle.std.specs.Prelude.{◌≡◌, ◌+◌, ◌<◌, ◌≤◌, ◌^◌, codes, length, IfOk};
+ghost use Rattle.mb_problem.specs.Size.{size_of};
+ghost use Rattle.match_cli.specs.Lines.{malformed_line, rejected_line, too_large_line};
+ghost use Rattle.match_cli.specs.Answers.{Decides};
+ghost use Rattle.match_cli.specs.Checking.{DecidesDocument, DecidesRest, DecidesInstance};
+
+use crate::answer::{Answer, line};
+use crate::names::{document_rule, instance_rule};
+use crate::status::Status;
+use cert_check::{DocRule, Verdict, judge};
+use dimacs_read::{InstanceError, Rest, Rule, read};
+use doc_format::{DocError, Document};
+use itoa::Buffer;
+use mb_base::OutOfMemory;
+use mb_problem::{Instance, Kind, gadget_size};
+use std::alloc::{AllocError, Global};
+
+fn malformed(alloc: Global, rule: Rule, number: u64) -> Result<Answer, OutOfMemory>
+    ensures text { IfOk result (λ a. a.text.items ≡ malformed_line rule number) }
+    ensures status { IfOk result (λ a. a.status ≡ Status.Malformed) }
+{
+    let text = line(alloc, b"s MALFORMED ", instance_rule(rule), number)?;
+    let status = Status::Malformed;
+    Ok(Answer { text, status })
+}
+
+fn rejected(alloc: Global, rule: DocRule, number: u64) -> Result<Answer, OutOfMemory>
+    ensures text { IfOk result (λ a. a.text.items ≡ rejected_line rule number) }
+    ensures status { IfOk result (λ a. a.status ≡ Status.Rejected) }
+{
+    let text = line(alloc, b"s REJECTED ", document_rule(rule), number)?;
+    let status = Status::Rejected;
+    Ok(Answer { text, status })
+}
+
+fn accepted(alloc: Global) -> Result<Answer, OutOfMemory>
+    ensures text { IfOk result (λ a. a.text.items ≡ codes "s ACCEPTED\n") }
+    ensures status { IfOk result (λ a. a.status ≡ Status.Done) }
+{
+    let text = Vec::from_slice(alloc, b"s ACCEPTED\n")?;
+    let status = Status::Done;
+    Ok(Answer { text, status })
+}
+
+/// The answer to a document of an instance.
+fn check_document(
+    alloc: Global,
+    kind: Kind,
+    instance: &Instance,
+    document: &Document,
+) -> Result<Answer, OutOfMemory>
+    requires { kind ≡ Kind.Perfect }
+    ensures { IfOk result (DecidesDocument kind instance.now document.now) }
+{
+    match judge(alloc, instance, kind, document)? {
+        Verdict::Accepted => accepted(alloc),
+        Verdict::Rejected { rule, line } => rejected(alloc, rule, line),
+    }
+}
+
+/// The answer to what follows an instance.
+fn check_rest(
+    alloc: Global,
+    kind: Kind,
+    instance: &Instance,
+    rest: &Rest,
+) -> Result<Answer, OutOfMemory>
+    requires kind { kind ≡ Kind.Perfect }
+    requires low { 1 ≤ rest.now.line }
+    requires high { rest.now.line ≤ 2 ^ 62 }
+    ensures { IfOk result (DecidesRest kind instance.now rest.now.line rest.now.bytes) }
+{
+    match doc_format::read(alloc, rest.bytes.as_slice(), rest.line) {
+        Ok(document) => check_document(alloc, kind, instance, &document),
+        Err(DocError::DocForm { line }) => rejected(alloc, DocRule::DocForm, line),
+        Err(DocError::OutOfMemory) => Err(AllocError),
+    }
+}
+
+fn too_large(alloc: Global, vertices: u64, edges: u64) -> Result<Answer, OutOfMemory>
+    ensures text { IfOk result (λ a. a.text.items ≡ too_large_line (record { vertices = vertices; edges = edges })) }
+    ensures status { IfOk result (λ a. a.status ≡ Status.TooLarge) }
+{
+    let mut buffer = Buffer::new();
+    let text = line(
+        alloc,
+        b"s TOOLARGE ",
+        buffer.format(vertices).as_bytes(),
+        edges,
+    )?;
+    let status = Status::TooLarge;
+    Ok(Answer { text, status })
+}
+
+/// The answer to an instance and what follows it: the size is tested first.
+fn check_instance(
+    alloc: Global,
+    kind: Kind,
+    instance: &Instance,
+    rest: &Rest,
+) -> Result<Answer, OutOfMemory>
+    requires kind { kind ≡ Kind.Perfect }
+    requires low { 1 ≤ rest.now.line }
+    requires high { rest.now.line ≤ 2 ^ 62 }
+    ensures { IfOk result (DecidesInstance kind instance.now rest.now.line rest.now.bytes) }
+{
+    let (vertices, edges) = gadget_size(instance, kind);
+    if vertices > 4096 {
+        return too_large(alloc, vertices, edges);
+    }
+    if edges > 1_048_576 {
+        return too_large(alloc, vertices, edges);
+    }
+    check_rest(alloc, kind, instance, rest)
+}
+
+/// What `check` answers to bytes within its limit.
+pub fn check(alloc: Global, kind: Kind, bytes: &[u8]) -> Result<Answer, OutOfMemory>
+    requires kind { kind ≡ Kind.Perfect }
+    requires short { length bytes.now ≤ 2 ^ 32 }
+    ensures { IfOk result (λ a. Decides kind bytes.now a.text.items a.status) }
+{
+    match read(alloc, bytes, kind) {
+        Ok((instance, rest)) => check_instance(alloc, kind, &instance, &rest),
+        Err(InstanceError::Malformed { rule, line }) => malformed(alloc, rule, line),
+        Err(InstanceError::OutOfMemory) => Err(AllocError),
+    }
+}

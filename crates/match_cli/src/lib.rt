@@ -1,0 +1,19 @@
+//! The program as one call over any source and any sink: `run` reads the words of the command line,
+//! the input, and writes the answer.
+//! It stands on the readers of instances and documents and on the judge of certificates. It promises
+//! the whole way from bytes to bytes: which answer comes for which input, that an accepted document
+//! is true of its instance, and what each fault leaves.
+#![tactic(auto)]
+
+mod answer;
+mod check;
+mod names;
+mod status;
+mod top;
+mod words;
+
+pub use status::Status;
+pub use top::run;
+
+#[cfg(test)]
+mod tests;
