@@ -1,7 +1,6 @@
 -- What the tests at the end answer, and the instance that lines without a fault hold.
-use Rattle.std.proofs.Common.{◌≡◌, ℕ, suc, ◌+◌, ◌-◌, ◌<◌, ◌≤◌, Bool, true, false, cond, eqb, List, [], ◌∷◌, length, take, get_or, map, All, Option, Some, None, refl, sym, ap, ap₂, subst, ◌∙◌, arith}
-use Rattle.std.specs.Prelude.{count_by, unwrap_or}
-use Rattle.std.specs.List.{range_with_len}
+use Rattle.std.proofs.Common.{◌≡◌, ℕ, suc, ◌+◌, ◌-◌, ◌<◌, ◌≤◌, Bool, true, false, cond, eqb, List, [], ◌∷◌, length, take, get_or, map, Option, Some, None, refl, sym, ap, ap₂, subst, ◌∙◌, arith}
+use Rattle.std.specs.Prelude.{count_by}
 use Rattle.std.specs.Option.{option_map}
 use Rattle.std.proofs.lemmas.Bool.{eqb-true}
 use Rattle.std.proofs.lemmas.List.{take_all, length-map, get_or-map, ext_get_or}
@@ -11,9 +10,8 @@ use Rattle.mb_base.specs.Rows.{Row}
 use Rattle.mb_problem.specs.declared.kind.Kind.{Kind}
 use Rattle.mb_problem.specs.declared.kind.Kind.TheVariants.{Perfect, Match, BMatch, CapMatch, FFactor, TJoin, Postman, Path}
 use Rattle.mb_problem.specs.declared.instance.InstanceEdge.{InstanceEdge}
-use Rattle.mb_problem.specs.Network.{Network, IsNetwork, IsInstanceEdge}
+use Rattle.mb_problem.specs.Network.{IsNetwork, IsInstanceEdge}
 use Rattle.dimacs_read.specs.declared.line.Header.{Header}
-use Rattle.dimacs_read.specs.declared.rule.Rule.{Rule}
 use Rattle.dimacs_read.specs.declared.rule.Rule.TheVariants.{HeaderMissing, EdgeCount, Negative, PathEnds}
 use Rattle.dimacs_read.specs.declared.rule.Fault.{Fault}
 use Rattle.dimacs_read.specs.Format.{Sizes, header_of, value_in, edges_of, values_of, value_or, default_of, first_place, is_negative, is_odd, kind_fault, end_fault, HoldsInstance}

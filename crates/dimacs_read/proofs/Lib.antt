@@ -3,3 +3,4 @@ pub mod ValueLemmas
 pub mod StepLemmas
 pub mod EndLemmas
 pub mod ReadingLemmas
+pub mod ReadyLemmas

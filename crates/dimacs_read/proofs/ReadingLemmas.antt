@@ -1,7 +1,6 @@
 -- Each text has exactly one reading: one first fault, or one instance.
-use Rattle.std.proofs.Common.{◌≡◌, ℕ, zero, suc, ◌+◌, ◌-◌, ◌<◌, ◌⊎◌, List, length, get_or, Option, Some, None, sym, ap, ap₂, subst, ◌∙◌, arith, inl, inr, refl}
+use Rattle.std.proofs.Common.{◌≡◌, ℕ, zero, suc, ◌+◌, ◌<◌, ◌⊎◌, List, length, Option, Some, None, sym, ap, ap₂, ◌∙◌, arith, inl, inr, refl}
 use Rattle.std.proofs.lemmas.Bool.{cases_lt, cases_eq}
-use borrow.Author.Count.{below_more}
 use Rattle.mb_base.specs.Rows.{Row}
 use Rattle.mb_problem.specs.declared.kind.Kind.{Kind}
 use Rattle.mb_problem.specs.declared.instance.InstanceEdge.{InstanceEdge}
@@ -10,7 +9,8 @@ use Rattle.dimacs_read.specs.declared.rule.Rule.{Rule}
 use Rattle.dimacs_read.specs.declared.rule.Rule.TheVariants.{HeaderMissing}
 use Rattle.dimacs_read.specs.declared.rule.Fault.{Fault}
 use Rattle.dimacs_read.specs.Format.{Sizes, fault_at, header_of, edges_of, values_of, default_of, end_fault, NoFaultBelow, IsFirstFaulty, FailsAtEnd, IsFirstFault, HoldsInstance}
-use Rattle.dimacs_read.specs.Law.{EachIsRead, OneFault, OneInstance, NoInstanceAndFault}
+use Rattle.dimacs_read.specs.declared.rest.Rest.{Rest}
+use Rattle.dimacs_read.specs.Law.{EachIsRead, OneFault, OneInstance, NoInstanceAndFault, OneRest}
 use Rattle.dimacs_read.proofs.EndLemmas.{fault_is}
 
 abbrev some_rule : Rule → Option Rule
@@ -92,3 +92,11 @@ each_is_read kind rs =
       | inl below ↦ by_header kind rs (header_of rs) below refl
       | inr r ↦ inr (r.1, r.0 + 1, (r.0, refl, inl (record { there = r.2; fault = r.3; least = r.4 })))
     ]
+
+-- ---- what follows the instance
+
+same_rest : (r s : Rest) → r.bytes ≡ s.bytes → r.line ≡ s.line → r ≡ s
+same_rest r s e f = ap₂ (λ (bytes : List ℕ) (line : ℕ). record { bytes = bytes; line = line }) e f
+
+pub one_rest : OneRest
+one_rest bytes r s a b = same_rest r s (a.bytes_are ∙ sym b.bytes_are) (a.line_is ∙ sym b.line_is)

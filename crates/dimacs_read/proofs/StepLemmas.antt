@@ -16,14 +16,12 @@ use Rattle.mb_base.specs.Rows.{Row, rows, is_skipped}
 use Rattle.dimacs_read.specs.Rows.{is_header, is_edge, is_node, is_solution, instance_rows}
 use Rattle.dimacs_read.specs.Format.{value_in, names, natural_at, fault_of, header_at, edge_at, node_at, Sizes, header_of, sizes_in, edges_of, edge_of, fault_at, line_fault, NoFaultBelow, IsFirstFaulty, first_place, is_negative}
 use Rattle.std.specs.Prelude.{Result, Ok, Err}
-use Rattle.std.proofs.lemmas.List.{take_all, length-map, length-drop, length-replicate, length-set, nil_from_length, get_or-set_same, get_or-set_other}
+use Rattle.std.proofs.lemmas.List.{length-drop, length-replicate, length-set, nil_from_length, get_or-set_same, get_or-set_other}
 use Rattle.mb_base.specs.Text.{lines, fields}
 use Rattle.dimacs_read.specs.declared.line.Header.{Header}
 use Rattle.dimacs_read.specs.declared.keep.Line.{Line}
 use Rattle.dimacs_read.specs.declared.keep.Line.TheVariants as line
-use Rattle.dimacs_read.specs.declared.reader.InstanceError.{InstanceError}
-use Rattle.dimacs_read.specs.declared.reader.InstanceError.TheVariants.{Malformed, OutOfMemory}
-use Rattle.dimacs_read.specs.Line.{sizes, sizes_of_header, HasFewVertices, HasValues, is_valued, FitsHeader, IsWithinLimits}
+use Rattle.dimacs_read.specs.Line.{sizes, sizes_of_header, HasValues, is_valued, FitsHeader, IsWithinLimits}
 use Rattle.dimacs_read.specs.Reading.{IsLine, GivesLine, HasPlace, values_after, header_after, edges_after, negative_after, IsRead}
 use Rattle.dimacs_read.specs.Rest.{after_lines}
 use Rattle.std.specs.List.{after_first}

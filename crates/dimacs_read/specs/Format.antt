@@ -1,12 +1,12 @@
 -- Which line of an instance is at fault, by which rule, and what instance the lines hold.
-use Rattle.std.specs.Prelude.{Bool, ◌≡◌, ℕ, suc, ◌∷◌, ◌+◌, ◌-◌, ◌%◌, ◌<◌, ◌≤◌, ◌⊎◌, is_some, List, [], length, take, map, filter, count_by, not, ◌&&◌, ◌||◌, ◌==◌, nat_lt, if◌then◌else◌, Option, None, Some, Result, Ok, Err, ℤ, pos, neg_ℤ, nat_abs, int_le, int_lt, unwrap_or, codes, slice_index_or}
+use Rattle.std.specs.Prelude.{Bool, ◌≡◌, ℕ, suc, ◌∷◌, ◌+◌, ◌%◌, ◌<◌, ◌⊎◌, is_some, List, [], length, take, map, filter, count_by, not, ◌&&◌, ◌||◌, ◌==◌, nat_lt, if◌then◌else◌, Option, None, Some, Result, Ok, Err, ℤ, pos, neg_ℤ, nat_abs, int_le, int_lt, unwrap_or, codes, slice_index_or}
 use Rattle.std.specs.List.{find, range_with_len}
 use Rattle.std.specs.Option.{option_map}
 use Rattle.std.specs.Str.{bytes_eq}
 use Rattle.mb_base.specs.Text.{numeral}
 use Rattle.mb_base.specs.Rows.{Row, field_at, is_skipped}
 use Rattle.mb_problem.specs.declared.kind.Kind.{Kind}
-use Rattle.mb_problem.specs.declared.kind.Kind.TheVariants.{Perfect, Match, BMatch, CapMatch, FFactor, TJoin, Postman, Path}
+use Rattle.mb_problem.specs.declared.kind.Kind.TheVariants.{BMatch, CapMatch, FFactor, Postman, Path}
 use Rattle.mb_problem.specs.declared.instance.InstanceEdge.{InstanceEdge}
 use Rattle.mb_problem.specs.Network.{Network}
 use Rattle.dimacs_read.specs.declared.rule.Rule.{Rule}

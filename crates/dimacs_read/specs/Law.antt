@@ -4,6 +4,8 @@ use Rattle.mb_base.specs.Rows.{Row}
 use Rattle.mb_problem.specs.declared.kind.Kind.{Kind}
 use Rattle.mb_problem.specs.Network.{Network}
 use Rattle.dimacs_read.specs.declared.rule.Rule.{Rule}
+use Rattle.dimacs_read.specs.declared.rest.Rest.{Rest}
+use Rattle.dimacs_read.specs.Rest.{IsRest}
 use Rattle.dimacs_read.specs.Format.{IsFirstFault, HoldsInstance}
 
 -- lines hold an instance or have a first fault
@@ -18,3 +20,7 @@ OneInstance = (kind : Kind) (rs : List Row) (i j : Network) → HoldsInstance ki
 
 abbrev pub NoInstanceAndFault : Type 0
 NoInstanceAndFault = (kind : Kind) (rs : List Row) (i : Network) (rule : Rule) (line : ℕ) → HoldsInstance kind rs i → IsFirstFault kind rs rule line → ⊥
+
+-- one thing follows the instance of a text
+abbrev pub OneRest : Type 0
+OneRest = (bytes : List ℕ) (r s : Rest) → IsRest bytes r → IsRest bytes s → r ≡ s

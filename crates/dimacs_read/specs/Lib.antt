@@ -4,3 +4,4 @@ pub mod Rest
 pub mod Line
 pub mod Reading
 pub mod Law
+pub mod Ready

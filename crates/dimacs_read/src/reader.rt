@@ -6,6 +6,7 @@ ghost use Rattle.mb_problem.specs.Network.{IsNetwork};
 ghost use Rattle.dimacs_read.specs.Rows.{instance_rows, is_header, is_edge, is_solution};
 ghost use Rattle.dimacs_read.specs.Format.{line_fault, default_of, value_or, is_odd};
 ghost use Rattle.dimacs_read.specs.Line.{sizes, field_list, HasFewVertices, HasValues, is_valued};
+ghost use Rattle.dimacs_read.specs.Ready.{IsReady};
 ghost use Rattle.dimacs_read.specs.Reading.{GivesLine, Reads, ReadsLines, IsDraft, negative_after, kind_fault_from, end_fault_from};
 
 use crate::keep::{Line, keep_line, with_default};
@@ -242,6 +243,7 @@ fn build(
 /// the end shows to be missing are named by the number after the last of them.
 pub fn read(alloc: Global, bytes: &[u8], kind: Kind) -> Result<(Instance, Rest), InstanceError>
     ensures reading { Reads kind bytes.now result }
+    ensures ready { IfOk result (λ r. IsReady kind r.0) }
     ensures short { IfOk result (λ r. r.1.line ≤ length bytes.now + 1) }
 {
     let draft = match read_lines(alloc, bytes) {

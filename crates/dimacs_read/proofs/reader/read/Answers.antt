@@ -1,13 +1,12 @@
-use Rattle.std.proofs.Common.{◌≡◌, ℕ, ◌+◌, ◌≤◌, List, length, map, Option, Some, None, arith, sym, ap, ap₂, subst, ◌∙◌, refl, inr}
+use Rattle.std.proofs.Common.{◌≡◌, ℕ, ◌+◌, ◌≤◌, List, length, map, Option, Some, None, arith, sym, ap, subst, ◌∙◌, refl, inr}
 use Rattle.mb_base.specs.Rows.{rows}
-use Rattle.mb_problem.specs.Network.{Network, IsNetwork}
-use Rattle.dimacs_read.specs.declared.rule.Fault.{Fault}
 use Rattle.dimacs_read.specs.Rows.{instance_rows}
-use Rattle.dimacs_read.specs.Format.{value_or, default_of, end_fault, header_of, HoldsInstance}
+use Rattle.dimacs_read.specs.Format.{value_or, default_of, HoldsInstance}
 use Rattle.dimacs_read.specs.Line.{sizes}
 use Rattle.dimacs_read.specs.Rest.{after_lines}
 use Rattle.dimacs_read.specs.Reading.{IsRead, end_fault_from}
 use Rattle.dimacs_read.proofs.EndLemmas.{end_place, end_whole, end_same, negative_within, network, holds}
+use Rattle.dimacs_read.proofs.ReadyLemmas.{is_ready}
 use Rattle.dimacs_read.proofs.reader.read.Goals as goal
 
 pub overflow_add-result : goal.overflow_add-result
@@ -60,3 +59,6 @@ returns-clause-reading c =
 
 pub returns-clause-short : goal.returns-clause-short
 returns-clause-short c = omega (arith, c.in-Ok.ensures.short, c.in-Ok-copy_rest.ensures.line)
+
+pub returns-clause-ready : goal.returns-clause-ready
+returns-clause-ready c = is_ready c.args.kind (instance_rows (rows c.args.bytes.now)) c.in-Ok-build.instance (returns-clause-reading c).0

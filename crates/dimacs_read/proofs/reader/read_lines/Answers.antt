@@ -3,9 +3,8 @@ use Rattle.std.specs.List.{after_first}
 use Rattle.mb_base.specs.Text.{fields, is_line_feed}
 use Rattle.mb_base.specs.Rows.{Row, rows}
 use Rattle.dimacs_read.specs.Rows.{instance_rows}
-use Rattle.dimacs_read.specs.Rest.{after_lines}
 use Rattle.dimacs_read.specs.Line.{field_list, is_valued}
-use Rattle.dimacs_read.specs.Reading.{GivesLine, IsRead}
+use Rattle.dimacs_read.specs.Reading.{GivesLine}
 use Rattle.dimacs_read.proofs.StepLemmas.{turn_at, end_at, goes_on, stops, within_more, left_more, end_count, after_lines-one}
 use Rattle.dimacs_read.proofs.reader.read_lines.Goals as goal
 use Rattle.dimacs_read.proofs.reader.read_lines.Goals.{in-Some+then-begins_solution, in_default}
