@@ -13,3 +13,6 @@ mod rule;
 
 pub use judging::judge;
 pub use rule::{DocRule, Verdict};
+
+#[cfg(test)]
+mod tests;
