@@ -17,7 +17,6 @@ pub fn is_barrier(alloc: Global, graph: &Graph, set: &[VertexId]) -> Result<bool
     // A graph with a barrier has no perfect matching.
     ensures none { IfOk result (λ b. IsTrue b → (counts : List ℕ) → IsPerfect graph.now counts → ⊥) }
 {
-    let _ = graph.vertices();
     let odd = odd_components(alloc, graph, set)?;
     Ok((set.len() as u64) < odd)
 }

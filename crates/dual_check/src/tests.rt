@@ -104,3 +104,25 @@ fn sets_come_before_slacks(rt: HostRuntime) -> Result<(), Fail> {
     assert_eq!(rt; bound(alloc, &graph, &y, &even), Err(DualFault::SetForm(2)));
     Ok(())
 }
+
+// A star: its middle is a barrier, and no ray's end is one.
+#[test]
+fn middle_of_a_star(rt: HostRuntime) -> Result<(), Fail> {
+    let alloc = rt.alloc();
+    let mut star = Graph::new(alloc, 4);
+    star.add(VertexId::new(1), VertexId::new(2), 0)?;
+    star.add(VertexId::new(1), VertexId::new(3), 0)?;
+    star.add(VertexId::new(4), VertexId::new(1), 0)?;
+    assert!(rt; is_barrier(alloc, &star, &[VertexId::new(1)])?);
+    assert!(rt; !is_barrier(alloc, &star, &[VertexId::new(2)])?);
+    assert!(rt; !is_barrier(alloc, &star, &[])?);
+    Ok(())
+}
+
+// Of an odd number of vertices the empty set is a barrier.
+#[test]
+fn lone_vertex(rt: HostRuntime) -> Result<(), Fail> {
+    let lone = Graph::new(rt.alloc(), 1);
+    assert!(rt; is_barrier(rt.alloc(), &lone, &[])?);
+    Ok(())
+}

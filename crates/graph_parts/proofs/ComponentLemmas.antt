@@ -1,5 +1,5 @@
 -- Lemmas on components and what a search finds.
-use Rattle.std.proofs.Common.{◌≡◌, ℕ, ◌≤◌, ◌↔◌, Bool, true, false, ◌||◌, replicate, refl, ap, sym, ◌∙◌, subst, arith, List, [], length}
+use Rattle.std.proofs.Common.{◌≡◌, ℕ, ◌≤◌, ◌↔◌, Bool, true, false, ◌||◌, replicate, refl, ap, sym, ◌∙◌, arith, List, []}
 use Rattle.std.proofs.lemmas.Bool.{false≢true}
 use Rattle.std.proofs.lemmas.Grind.{common_steps}
 use Rattle.graph_theory.specs.Graph.{Multigraph, IsGraph}
@@ -9,7 +9,7 @@ use Rattle.graph_theory.proofs.Members.{all_holds}
 use Rattle.graph_theory.proofs.Components.{component_from, together-refl, together-within}
 use Rattle.graph_parts.specs.Marks.{is_marked, MarksSet, ListsMarked}
 use Rattle.graph_parts.specs.Search.{Finds}
-use Rattle.graph_parts.proofs.Once.{members_to, to-is, to-has, to-set, to-length}
+use Rattle.graph_parts.proofs.Once.{members_to, to-is, to-has, to-set}
 
 -- the vertices together with a start, as an ascending list, are a component
 component_of : (g : Multigraph) (removed component : List ℕ) (start : ℕ) → IsGraph g → 1 ≤ start → start ≤ g.vertices → holds removed start ≡ false → IsVertexSet g.vertices component → ((w : ℕ) → (holds component w ≡ true) ↔ AreTogether g removed start w) → IsComponent g removed component

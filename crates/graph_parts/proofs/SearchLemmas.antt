@@ -1,16 +1,16 @@
 -- Lemmas on a search: one vertex more, all neighbours of a vertex, and what is found in the end.
-use Rattle.std.proofs.Common.{◌≡◌, ℕ, zero, suc, ◌+◌, ◌<◌, ◌≤◌, ◌↔◌, Bool, true, false, ◌||◌, eqb, refl, ap, sym, ◌∙◌, subst, inl, inr, arith, List, [], ◌∷◌, ◌++◌, length, get_or, set, take, All, length-set, length-append}
+use Rattle.std.proofs.Common.{◌≡◌, ℕ, ◌+◌, ◌<◌, ◌≤◌, Bool, true, false, ◌||◌, eqb, refl, ap, sym, ◌∙◌, subst, inl, inr, arith, List, [], ◌∷◌, ◌++◌, length, get_or, set, take, length-set, length-append}
 use Rattle.std.proofs.Math.Bool.{or_assoc}
-use Rattle.std.proofs.lemmas.Bool.{cases_Bool, cases_eq, eqb-true, eq-eqb, ne_eqb, false≢true, or_cases, or_parts, or_left, or_right}
+use Rattle.std.proofs.lemmas.Bool.{cases_eq, eqb-true, eq-eqb, ne_eqb, false≢true, or_cases, or_parts, or_left, or_right}
 use Rattle.std.proofs.lemmas.List.{get_or-set_same, get_or-set_other, get_or_read, take-append-le, take_all, append-nil, append_assoc}
 use Rattle.graph_theory.specs.Graph.{Multigraph, IsGraph, IsEdgeNumber, edge_of, edges_around, touches, other_end}
 use Rattle.graph_theory.specs.Parts.{holds}
 use Rattle.graph_theory.specs.Barrier.{AreTogether}
-use Rattle.graph_theory.proofs.Members.{holds_place, holds_at, holds_all, all_holds, holds-append, holds-push, holds-take}
+use Rattle.graph_theory.proofs.Members.{holds_at, holds_all, all_holds, holds-append, holds-push, holds-take}
 use Rattle.graph_theory.proofs.Edges.{edge_of_within, other_end-within}
 use Rattle.graph_theory.proofs.Around.{around-is, around-has}
 use Rattle.graph_theory.proofs.Components.{together-refl, together-free, together-push, closed_has}
-use Rattle.graph_parts.specs.Marks.{is_marked, MarksSet}
+use Rattle.graph_parts.specs.Marks.{is_marked}
 use Rattle.graph_parts.specs.Search.{HoldsOnce, ReachesOne, Grows, IsReached, IsSettled, ReachesFrom, Finds}
 use Rattle.graph_parts.proofs.Once.{once-none, once-push}
 
@@ -47,11 +47,11 @@ grows-one out v old before new reached b one =
           let Q : List ℕ → Type 0 = λ xs. Grows old before old xs in
           subst P (sym same.0) (subst Q (sym same.1) (grows-refl old before))
       | inr more ↦ record {
-          size = ap length more.2 ∙ length-set old v true;
-          kept = λ w h. ap (λ (m : List Bool). is_marked m w) more.2 ∙ marked_now old v w b ∙ or_left (is_marked old w) (eqb v w) h;
-          more = v ∷ [];
-          list = more.3;
-        }
+        size = ap length more.2 ∙ length-set old v true;
+        kept = λ w h. ap (λ (m : List Bool). is_marked m w) more.2 ∙ marked_now old v w b ∙ or_left (is_marked old w) (eqb v w) h;
+        more = v ∷ [];
+        list = more.3;
+      }
     ]
 
 -- one vertex more is reached
@@ -104,16 +104,18 @@ reached-start g out start old new reached low high b free off one =
       | inl same ↦ absurd (false≢true (sym off ∙ ap (λ (m : List Bool). is_marked m start) (sym same.0) ∙ one.settled free))
       | inr more ↦
           let list : (w : ℕ) → holds reached w ≡ eqb start w = λ w. ap (λ (xs : List ℕ). holds xs w) more.3 ∙ holds-push [] start w in
-          let H : List ℕ → Type 0 = HoldsOnce g.vertices in
-          (record {
-            marked = λ w. ap (λ (m : List Bool). is_marked m w) more.2 ∙ marked_now old start w b ∙ ap (λ t. is_marked old w || t) (sym (list w));
-            sound = λ removed is w h.
-                let P : ℕ → Type 0 = λ x. AreTogether g removed start x in
-                subst P (eqb-true start w (sym (list w) ∙ h)) (together-refl g removed start (sym (is start) ∙ free));
-            in_range = all_holds (λ x. (1 ≤ x) × (x ≤ g.vertices)) reached
-                (λ w h. let P : ℕ → Type 0 = λ x. (1 ≤ x) × (x ≤ g.vertices) in subst P (eqb-true start w (sym (list w) ∙ h)) (low, high));
-            once = subst H (sym more.3) (once-push g.vertices [] start low high refl (once-none g.vertices));
-          }, more.3)
+          let H : List ℕ → Type 0 = HoldsOnce g.vertices in (
+            record {
+              marked = λ w. ap (λ (m : List Bool). is_marked m w) more.2 ∙ marked_now old start w b ∙ ap (λ t. is_marked old w || t) (sym (list w));
+              sound = λ removed is w h.
+                  let P : ℕ → Type 0 = λ x. AreTogether g removed start x in
+                  subst P (eqb-true start w (sym (list w) ∙ h)) (together-refl g removed start (sym (is start) ∙ free));
+              in_range = all_holds (λ x. (1 ≤ x) × (x ≤ g.vertices)) reached
+                  (λ w h. let P : ℕ → Type 0 = λ x. (1 ≤ x) × (x ≤ g.vertices) in subst P (eqb-true start w (sym (list w) ∙ h)) (low, high));
+              once = subst H (sym more.3) (once-push g.vertices [] start low high refl (once-none g.vertices));
+            },
+            more.3,
+          )
     ]
 
 -- the first i edges at v are followed
@@ -161,7 +163,7 @@ reaches-all g out v numbers old before new reached is so_far = record {
   keeps = so_far.keeps;
   settled = λ e number meets free.
       let P : List ℕ → Type 0 = λ xs. holds xs e ≡ true in
-      so_far.settled e (subst P (sym (take_all (length numbers) numbers (omega arith)) ) (subst P (sym is) (around-has g v e number meets))) free;
+      so_far.settled e (subst P (sym (take_all (length numbers) numbers (omega arith))) (subst P (sym is) (around-has g v e number meets))) free;
 }
 
 -- the neighbours of the first n reached vertices are followed
@@ -221,13 +223,13 @@ done-all g out start old marks reached is =
         λ h. is.so_far.sound removed out_is w h,
         λ a. closed_has g removed (holds reached) start w
             (λ e v number meets h free.
-              let to = other_end (edge_of g e) v in
-              let marked : is_marked marks to ≡ true = is.settled v (subst (λ (xs : List ℕ). P xs v) (sym (take_all (length reached) reached (omega arith))) h) e number meets (out_is to ∙ free) in
-              let near = is.so_far.sound removed out_is v h in
-              elim (or_cases (is_marked old to) (holds reached to) (sym (is.so_far.marked to) ∙ marked)) [
-                | inl was ↦ absurd (apart to was (together-push g removed e start v near number meets (together-free g removed start v near) free))
-                | inr now ↦ now
-              ])
+            let to = other_end (edge_of g e) v in
+            let marked : is_marked marks to ≡ true = is.settled v (subst (λ (xs : List ℕ). P xs v) (sym (take_all (length reached) reached (omega arith))) h) e number meets (out_is to ∙ free) in
+            let near = is.so_far.sound removed out_is v h in
+            elim (or_cases (is_marked old to) (holds reached to) (sym (is.so_far.marked to) ∙ marked)) [
+              | inl was ↦ absurd (apart to was (together-push g removed e start v near number meets (together-free g removed start v near) free))
+              | inr now ↦ now
+            ])
             is.begun a,
       );
       once = is.so_far.once;

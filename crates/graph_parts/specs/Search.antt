@@ -1,5 +1,5 @@
 -- A search through a graph where a set of vertices is removed. `out` marks the removed set.
-use Rattle.std.specs.Prelude.{◌≡◌, ℕ, ◌+◌, ◌≤◌, ◌↔◌, ◌⊎◌, ℤ, pos, Bool, true, false, ◌||◌, List, [], ◌∷◌, ◌++◌, length, All, slice_set, if◌then◌else◌}
+use Rattle.std.specs.Prelude.{◌≡◌, ℕ, ◌+◌, ◌≤◌, ◌↔◌, ◌⊎◌, pos, Bool, true, false, ◌||◌, List, [], ◌∷◌, ◌++◌, length, All, slice_set, if◌then◌else◌}
 use Rattle.graph_theory.specs.Sums.{int_sum_to}
 use Rattle.graph_theory.specs.Graph.{Multigraph, IsEdgeNumber, edge_of, touches, other_end}
 use Rattle.graph_theory.specs.Parts.{holds}

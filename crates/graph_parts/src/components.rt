@@ -1,4 +1,5 @@
 ghost use Rattle.std.specs.Prelude.{◌≡◌, ℕ, ◌≤◌, true, [], IfOk};
+ghost use Rattle.graph_theory.specs.Graph.{IsGraph};
 ghost use Rattle.graph_theory.specs.Parts.{holds};
 ghost use Rattle.graph_theory.specs.Barrier.{IsComponent};
 
@@ -15,6 +16,7 @@ pub fn component(alloc: Global, graph: &Graph, v: VertexId) -> Result<Vec<Vertex
     requires high { v ≤ graph.now.vertices }
     ensures component { IfOk result (λ c. IsComponent graph.now [] c.items) }
     ensures start { IfOk result (λ c. holds c.items v ≡ true) }
+    ensures graph { IsGraph graph.now }
 {
     let index = graph.index()?;
     let places = graph.vertices() as usize + 1;

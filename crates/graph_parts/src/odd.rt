@@ -1,4 +1,5 @@
 ghost use Rattle.std.specs.Prelude.{◌≡◌, ℕ, ◌+◌, ◌%◌, ◌≤◌, ◌↔◌, List, length, IsTrue, IfOk};
+ghost use Rattle.graph_theory.specs.Graph.{IsGraph};
 ghost use Rattle.graph_theory.specs.Parts.{IsVertexSet};
 ghost use Rattle.graph_theory.specs.Barrier.{IsOddHead, IsOddCount};
 ghost use Rattle.weighted_graph.specs.Index.{IsIndex};
@@ -27,6 +28,7 @@ fn visit(
     seen: &mut [bool],
     reached: &mut Vec<VertexId>,
 ) -> Result<bool, OutOfMemory>
+    requires graph { IsGraph graph.now }
     requires index { IsIndex graph.now index.now }
     requires low { 1 ≤ vertex }
     requires high { vertex ≤ graph.now.vertices }
@@ -37,7 +39,6 @@ fn visit(
     ensures head { IfOk result (λ odd. (set : List ℕ) → MarksSet removed.now set → SeenBelow graph.now set vertex seen.old
         → IsTrue odd ↔ IsOddHead graph.now set vertex) }
 {
-    let _ = graph.vertices();
     let place = vertex.number() as usize;
     if seen[place] {
         return Ok(false);
@@ -57,7 +58,8 @@ pub fn odd_components(
     removed: &[VertexId],
 ) -> Result<u64, OutOfMemory>
     requires { IsVertexSet graph.now.vertices removed.now }
-    ensures { IfOk result (IsOddCount graph.now removed.now) }
+    ensures count { IfOk result (IsOddCount graph.now removed.now) }
+    ensures graph { IsGraph graph.now }
 {
     let index = graph.index()?;
     let places = graph.vertices() as usize + 1;

@@ -12,6 +12,7 @@ fn other_end(graph: &Graph, number: EdgeId, vertex: VertexId) -> VertexId
     requires { IsEdgeNumber graph.now number }
     ensures end { result ≡ other_end (edge_of graph.now number) vertex }
     ensures high { result ≤ graph.now.vertices }
+    ensures graph { IsGraph graph.now }
 {
     let (u, v, _) = graph.edge(number);
     if u == vertex { v } else { u }
@@ -52,10 +53,8 @@ fn reach_from(
     requires numbers { numbers.now ≡ edges_around graph.now vertex }
     requires removed { length removed.now ≡ graph.now.vertices + 1 }
     requires marks { length marks.old ≡ graph.now.vertices + 1 }
-    ensures reaches { OnOk result (ReachesFrom graph.now removed.now vertex marks.old reached.old.items marks.new reached.new.items) }
-    ensures graph { IsGraph graph.now }
+    ensures { OnOk result (ReachesFrom graph.now removed.now vertex marks.old reached.old.items marks.new reached.new.items) }
 {
-    let _ = graph.vertices();
     for number in numbers {
         reach(removed, other_end(graph, *number, vertex), marks, reached)?;
     }

@@ -1,10 +1,8 @@
-use Rattle.std.proofs.Common.{◌≡◌, ◌↔◌, ℕ, ◌+◌, List, Bool, true, false, [], length, replicate, arith, sym, ◌∙◌, ap, subst}
+use Rattle.std.proofs.Common.{◌≡◌, ℕ, List, Bool, true, false, [], length, replicate, arith, ◌∙◌, ap, subst}
 use Rattle.std.proofs.lemmas.List.{with_items_is}
-use Rattle.std.specs.Vec.{with_items}
 use Rattle.graph_theory.specs.Parts.{holds}
 use Rattle.graph_theory.specs.Barrier.{IsComponent}
 use Rattle.graph_parts.specs.Marks.{is_marked, ListsMarked}
-use Rattle.graph_parts.specs.Search.{Finds}
 use Rattle.graph_parts.proofs.ComponentLemmas.{marks_component, all_off}
 use Rattle.graph_parts.proofs.components.component.Goals as goal
 

@@ -43,5 +43,5 @@ loop-number-preserved c =
       small = elim c.if-branch.branch [ then-branch w ↦ omega arith | else-branch w ↦ omega arith ];
     }
 
-pub returns : goal.returns
-returns c = counts-all c.args.graph.now c.args.removed.now c.loop-number.number c.loop-number.count (omega arith) c.loop-number.invariant.counts
+pub returns-clause-count : goal.returns-clause-count
+returns-clause-count c = counts-all c.args.graph.now c.args.removed.now c.loop-number.number c.loop-number.count (omega arith) c.loop-number.invariant.counts

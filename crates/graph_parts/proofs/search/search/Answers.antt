@@ -1,5 +1,5 @@
-use Rattle.std.proofs.Common.{◌≡◌, ℕ, ◌+◌, ◌<◌, ◌≤◌, List, Bool, [], arith, length, sym, ◌∙◌, subst}
-use Rattle.graph_parts.specs.Search.{ReachesOne, ReachesFrom}
+use Rattle.std.proofs.Common.{◌≡◌, ℕ, ◌<◌, List, arith, length, subst}
+use Rattle.graph_parts.specs.Search.{ReachesOne}
 use Rattle.graph_parts.proofs.Once.{once-short}
 use Rattle.graph_parts.proofs.SearchLemmas.{IsDone, done-none, done-next, done-most, done-all}
 use Rattle.graph_parts.proofs.search.search.Goals as goal
@@ -19,8 +19,8 @@ pub loop-done-preserved : goal.loop-done-preserved
 loop-done-preserved c =
     let some = c.loop-done.reached.items in
     let b : c.loop-done.done < length some = omega arith in
-    let next = done-next c.args.graph.now c.args.removed.now c.args.start c.index-vertex.result.now c.loop-done.done c.args.marks.now c.loop-done.marks some c.reach_from.new.marks c.reach_from.new.reached.items b c.index-vertex.ensures c.loop-done.invariant.is c.in_ok-reach_from.ensures.reaches in
-    record { most = done-most c.args.graph.now c.args.removed.now c.index-vertex.result.now c.loop-done.done c.loop-done.marks some c.reach_from.new.marks c.reach_from.new.reached.items b c.in_ok-reach_from.ensures.reaches; is = next }
+    let next = done-next c.args.graph.now c.args.removed.now c.args.start c.index-vertex.result.now c.loop-done.done c.args.marks.now c.loop-done.marks some c.reach_from.new.marks c.reach_from.new.reached.items b c.index-vertex.ensures c.loop-done.invariant.is c.in_ok-reach_from.ensures in
+    record { most = done-most c.args.graph.now c.args.removed.now c.index-vertex.result.now c.loop-done.done c.loop-done.marks some c.reach_from.new.marks c.reach_from.new.reached.items b c.in_ok-reach_from.ensures; is = next }
 
 pub returns : goal.returns
 returns c =
