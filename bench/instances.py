@@ -25,6 +25,35 @@ def with_document(n, m, seed=1):
     return ("\n".join(lines) + "\n").encode()
 
 
+def with_nested_sets(n, m, count, seed=1):
+    """The same with `count` nested odd sets of dual 2, of 3, 5, 7, .. vertices."""
+    draw = random.Random(seed)
+    order = list(range(1, n + 1))
+    draw.shuffle(order)
+    dual = [0] + [2 * draw.randint(-100_000_000, 100_000_000) for _ in range(n)]
+    rank = {v: min(max(k // 2 + k % 2, 1), count + 1) for k, v in enumerate(order)}
+    rank[order[0]] = 1
+
+    def weight(u, v):
+        return (dual[u] + dual[v]) // 2 + abs(rank[u] - rank[v])
+
+    pairs = [(order[0], order[-1])] + [(order[k], order[k + 1]) for k in range(1, n - 2, 2)]
+    edges = [(u, v, weight(u, v), True) for u, v in pairs]
+    while len(edges) < m:
+        u, v = draw.randint(1, n), draw.randint(1, n)
+        if u != v:
+            edges.append((u, v, weight(u, v) + draw.randint(0, 1_000_000), False))
+    draw.shuffle(edges)
+    lines = ["p edge %d %d" % (n, m)] + ["e %d %d %d" % e[:3] for e in edges]
+    lines.append("s OPTIMAL perfect %d" % sum(e[2] for e in edges if e[3]))
+    lines += ["x %d 1" % (k + 1) for k, e in enumerate(edges) if e[3]]
+    lines += ["y %d %d" % (v, dual[v]) for v in range(1, n + 1)]
+    for k in range(1, count + 1):
+        members = sorted(order[:2 * k + 1])
+        lines.append("z 2 %d %s" % (len(members), " ".join(map(str, members))))
+    return ("\n".join(lines) + "\n").encode()
+
+
 def instance(n, m, seed=1):
     """n vertices and m edges with weights of all lengths."""
     draw = random.Random(seed)

@@ -1,4 +1,4 @@
-"""What the benches share: the plain reader, and the best wall time of several runs."""
+"""What the benches share: the plain programs that they compare with, and the best wall time of several runs."""
 import os
 import subprocess
 import sys
@@ -8,9 +8,9 @@ HERE = os.path.dirname(os.path.abspath(__file__))
 PROGRAM = os.path.join(HERE, "..", "crates", "blossom", "out", "blossom")
 
 
-def plain_reader():
-    """The plain reader, compiled where it isn't yet."""
-    source, program = os.path.join(HERE, "plain_reader.cpp"), os.path.join(HERE, "out", "plain_reader")
+def compiled(name):
+    """A program in C++ of this folder, compiled where it isn't yet."""
+    source, program = os.path.join(HERE, name + ".cpp"), os.path.join(HERE, "out", name)
     os.makedirs(os.path.dirname(program), exist_ok=True)
     if not os.path.exists(program) or os.path.getmtime(program) < os.path.getmtime(source):
         subprocess.run(["g++", "-O2", "-o", program, source], check=True)
@@ -34,9 +34,9 @@ def seconds(words, given, wanted=None, runs=7):
     return best
 
 
-def report(name, words, given, wanted, most):
-    """Prints the ratio of the program to the plain reader, and says whether it is within the bound."""
-    plain = seconds([plain_reader()], given)
+def report(name, words, given, wanted, most, peer="plain_reader"):
+    """Prints the ratio of the program to a plain one, and says whether it is within the bound."""
+    plain = seconds([compiled(peer)], given)
     own = seconds([PROGRAM] + words, given, wanted)
     ratio = own / plain
     print("%-40s %8.1f MiB  plain %7.1f ms  blossom %7.1f ms  ratio %.2f (at most %g) %s"
