@@ -12,21 +12,6 @@ use std::process::ExitCode;
 use std::sync::ledger::{Blank, Ledger};
 use std::{env, io};
 
-/// The exit status of the process.
-fn code(status: Status) -> u8 {
-    match status {
-        Status::Done => 0,
-        Status::Rejected => 1,
-        Status::Usage => 2,
-        Status::Malformed => 3,
-        Status::TooLarge => 4,
-        Status::TooLong => 5,
-        Status::ReadFault => 6,
-        Status::WriteFault => 7,
-        Status::OutOfMemory => 8,
-    }
-}
-
 /// The words of the command line. Where they can't be had as text there are none, which is no command.
 fn words(rt: &HostRuntime) -> Result<Vec<String>, OutOfMemory> {
     let mut words = Vec::new(rt.alloc());
@@ -58,7 +43,7 @@ fn start<L: Ledger>(blank: Blank, rt: &HostRuntime, words: &Vec<String>) -> Stat
 
 fn main(rt: HostRuntime) -> ExitCode {
     let Ok(words) = words(&rt) else {
-        return ExitCode::from(8u8);
+        return ExitCode::from(Status::OutOfMemory.code());
     };
-    ExitCode::from(code(start::<Brand>(Blank::new(1), &rt, &words)))
+    ExitCode::from(start::<Brand>(Blank::new(1), &rt, &words).code())
 }

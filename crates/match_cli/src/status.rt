@@ -1,3 +1,6 @@
+ghost use Rattle.std.specs.Prelude.{◌≡◌};
+ghost use Rattle.match_cli.specs.Codes.{code_of};
+
 /// How a run ended.
 #[derive(Clone, Copy, Debug, PartialEq, Eq)]
 pub enum Status {
@@ -19,4 +22,23 @@ pub enum Status {
     WriteFault,
     /// There isn't enough memory.
     OutOfMemory,
+}
+
+impl Status {
+    /// The exit status that tells it.
+    pub fn code(self) -> u8
+        ensures { result ≡ code_of self }
+    {
+        match self {
+            Status::Done => 0,
+            Status::Rejected => 1,
+            Status::Usage => 2,
+            Status::Malformed => 3,
+            Status::TooLarge => 4,
+            Status::TooLong => 5,
+            Status::ReadFault => 6,
+            Status::WriteFault => 7,
+            Status::OutOfMemory => 8,
+        }
+    }
 }
