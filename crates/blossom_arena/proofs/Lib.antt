@@ -1,3 +1,10 @@
 pub mod Lists
 pub mod Nested
 pub mod Sets
+pub mod Tails
+pub mod Parents
+pub mod Taken
+pub mod Writes
+pub mod Orders
+pub mod Builds
+pub mod Joins
