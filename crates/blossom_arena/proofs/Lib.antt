@@ -8,3 +8,6 @@ pub mod Writes
 pub mod Orders
 pub mod Builds
 pub mod Joins
+pub mod Sound
+pub mod Shrunk
+pub mod Dissolved

@@ -131,7 +131,7 @@ outermost_by_member n bs x v h o m =
     sym (eqb-true x (outermost bs v) (sym (outer_member n bs v h iv x o) ∙ m))
 
 -- members are different
-union_new : (n : ℕ) (bs : List Blossom) (ring : List Link) → IsNested n bs → AllNew (nodes_of ring) → ((a : ℕ) → in_ring ring a ≡ true → (is_outermost n bs a ≡ true) × AllNew (members_of bs a)) → AllNew (union_of bs ring)
+pub union_new : (n : ℕ) (bs : List Blossom) (ring : List Link) → IsNested n bs → AllNew (nodes_of ring) → ((a : ℕ) → in_ring ring a ≡ true → (is_outermost n bs a ≡ true) × AllNew (members_of bs a)) → AllNew (union_of bs ring)
 union_new n bs [] h d each = tt
 union_new n bs (l ∷ ring) h d each =
     let here = each l.node (first_in l.node (nodes_of ring)) in

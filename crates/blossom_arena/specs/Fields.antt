@@ -1,5 +1,5 @@
 -- How an arena keeps its family. No public clause cites this module.
-use Rattle.std.specs.Prelude.{◌≡◌, ℕ, zero, suc, ◌+◌, ◌-◌, ◌<◌, ◌≤◌, true, ◌==◌, nat_le, if◌then◌else◌, List, [], ◌∷◌, length, map, Option, Some, None, IsSome, slice_index, slice_set, vec_len}
+use Rattle.std.specs.Prelude.{◌≡◌, ℕ, zero, suc, ◌+◌, ◌-◌, ◌<◌, ◌≤◌, true, ◌==◌, nat_le, if◌then◌else◌, List, [], ◌∷◌, length, map, Option, Some, None, IsSome, slice_index, slice_set}
 use Rattle.std.specs.List.{AllByRecursion}
 use Rattle.slab.specs.Slab.{Slab, get, slab_len}
 use Rattle.graph_theory.specs.Parts.{holds}
@@ -106,13 +106,13 @@ family_of a = record { vertex_count = a.vertex_count; duals = a.duals.items; blo
 
 -- each table has a place for each of the numbers
 pub record HasPlaces (a : Inside) : Type 0 where
-  pub parents : vec_len a.parents ≡ a.vertex_count + room_of a.vertex_count + 1
-  pub nexts : vec_len a.nexts ≡ a.vertex_count + room_of a.vertex_count + 1
-  pub edges : vec_len a.edges ≡ a.vertex_count + room_of a.vertex_count + 1
-  pub older : vec_len a.older ≡ a.vertex_count + room_of a.vertex_count + 1
-  pub newer : vec_len a.newer ≡ a.vertex_count + room_of a.vertex_count + 1
-  pub outer : vec_len a.outer ≡ a.vertex_count + 1
-  pub followers : vec_len a.followers ≡ a.vertex_count + 1
+  pub parents : length a.parents.items ≡ a.vertex_count + room_of a.vertex_count + 1
+  pub nexts : length a.nexts.items ≡ a.vertex_count + room_of a.vertex_count + 1
+  pub edges : length a.edges.items ≡ a.vertex_count + room_of a.vertex_count + 1
+  pub older : length a.older.items ≡ a.vertex_count + room_of a.vertex_count + 1
+  pub newer : length a.newer.items ≡ a.vertex_count + room_of a.vertex_count + 1
+  pub outer : length a.outer.items ≡ a.vertex_count + 1
+  pub followers : length a.followers.items ≡ a.vertex_count + 1
 
 pub record IsSound (a : Inside) : Type 0 where
   pub family : IsFamily (family_of a)
