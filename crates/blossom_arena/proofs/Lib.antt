@@ -10,4 +10,5 @@ pub mod Builds
 pub mod Joins
 pub mod Sound
 pub mod Shrunk
+pub mod Opened
 pub mod Dissolved

@@ -69,7 +69,7 @@ ring_written nexts edges (l ∷ rest) new in_nexts in_edges =
 other_key : (n : ℕ) (kept : Slab Kept) (x key : ℕ) → IsSome (get kept (key_of n x)) → get kept key ≡ None → key_of n x ≢ key
 other_key n kept x key some none same = both_ways (is_some (get kept key)) (ap (λ o. is_some o) none) (ap (λ k. is_some (get kept k)) (sym same) ∙ some)
 
-each_some : (n : ℕ) (kept : Slab Kept) (xs : List ℕ) (x : ℕ) → AllByRecursion (λ y. IsSome (get kept (key_of n y))) xs → holds xs x ≡ true → IsSome (get kept (key_of n x))
+pub each_some : (n : ℕ) (kept : Slab Kept) (xs : List ℕ) (x : ℕ) → AllByRecursion (λ y. IsSome (get kept (key_of n y))) xs → holds xs x ≡ true → IsSome (get kept (key_of n x))
 each_some n kept [] x h e = absurd (both_ways false refl e)
 each_some n kept (y ∷ ys) x h e = ⊎_elim (λ s. subst (λ z. IsSome (get kept (key_of n z))) (eqb-true y x s) h.0) (λ m. each_some n kept ys x h.1 m) (or_cases (eqb y x) (holds ys x) e)
 
