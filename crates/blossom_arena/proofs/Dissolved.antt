@@ -136,9 +136,9 @@ module _ (a : Inside) (parents outer older newer : Vec ℕ) (kept : Slab Kept) (
           ap (λ t. slice_index t v) h.outer
           ∙ outermost_lowered n bs node v a.outer.items (λ x. vertices_of a.followers.items (run_of n kept x)) s.family.nested named free (range_vertex n v low high) (omega (arith, high, s.places.outer)) run_is (s.outer v low high)
           ∙ ap (λ us. outermost us v) (sym blossoms_after);
-      parents = λ x low high.
+      parents = λ x high.
           ap (λ t. slice_index t x) h.parents ∙ filled_at a.parents.items (nodes_of (ring_of bs node)) 0 x (omega (arith, high, s.places.parents))
-          ∙ ap (λ p. cond (in_ring (ring_of bs node) x) 0 p) (s.parents x low high) ∙ sym (parent_without n bs node x s.family.nested) ∙ ap (λ us. parent_of us x) (sym blossoms_after);
+          ∙ ap (λ p. cond (in_ring (ring_of bs node) x) 0 p) (s.parents x high) ∙ sym (parent_without n bs node x s.family.nested) ∙ ap (λ us. parent_of us x) (sym blossoms_after);
       order = subst (IsOrder older.items newer.items 0) (sym order_after) order;
       runs = λ x e.
           let m : holds (removed xs node) x ≡ true = ap (λ ys. holds ys x) (sym order_after) ∙ e in

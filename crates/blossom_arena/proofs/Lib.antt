@@ -12,3 +12,5 @@ pub mod Sound
 pub mod Shrunk
 pub mod Opened
 pub mod Dissolved
+pub mod Duals
+pub mod Fresh

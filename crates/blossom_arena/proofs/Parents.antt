@@ -144,10 +144,10 @@ chain_first (b ∷ older) v =
     (λ m. (r.0, ap (λ q. cond q (chain_of older v ++ b.node ∷ []) (chain_of older v)) m ∙ r.1))
 
 -- the table has the parents of these nodes
-pub at_nodes : (n : ℕ) (bs : List Blossom) (ps xs : List ℕ) → IsNested n bs → ((x : ℕ) → 1 ≤ x → x ≤ n + room_of n → get_or ps x 0 ≡ parent_of bs x) → ((x : ℕ) → holds xs x ≡ true → is_node n bs x ≡ true) → AllByRecursion (λ y. get_or ps y 0 ≡ parent_of bs y) xs
-at_nodes n bs ps xs h table nodes = each_from (λ y. get_or ps y 0 ≡ parent_of bs y) xs (λ x e. let r = node_range n bs x h (nodes x e) in table x r.0 r.1)
+pub at_nodes : (n : ℕ) (bs : List Blossom) (ps xs : List ℕ) → IsNested n bs → ((x : ℕ) → x ≤ n + room_of n → get_or ps x 0 ≡ parent_of bs x) → ((x : ℕ) → holds xs x ≡ true → is_node n bs x ≡ true) → AllByRecursion (λ y. get_or ps y 0 ≡ parent_of bs y) xs
+at_nodes n bs ps xs h table nodes = each_from (λ y. get_or ps y 0 ≡ parent_of bs y) xs (λ x e. let r = node_range n bs x h (nodes x e) in table x r.1)
 
-pub climb_chain : (n k : ℕ) (bs : List Blossom) (ps : List ℕ) (v : ℕ) → IsNested n bs → is_vertex n v ≡ true → ((x : ℕ) → 1 ≤ x → x ≤ n + room_of n → get_or ps x 0 ≡ parent_of bs x) → length bs + 1 ≤ k → climb k ps v ≡ chain_of bs v
+pub climb_chain : (n k : ℕ) (bs : List Blossom) (ps : List ℕ) (v : ℕ) → IsNested n bs → is_vertex n v ≡ true → ((x : ℕ) → x ≤ n + room_of n → get_or ps x 0 ≡ parent_of bs x) → length bs + 1 ≤ k → climb k ps v ≡ chain_of bs v
 climb_chain n k bs ps v h iv table short =
     let first = chain_first bs v in
     let is : chain_of bs v ≡ v ∷ first.0 = first.1 in
@@ -158,7 +158,7 @@ climb_chain n k bs ps v h iv table short =
     (omega (arith, chain_short bs v, ap length is))
     ∙ sym is
 
-pub can_climb : (n : ℕ) (bs : List Blossom) (ps : List ℕ) (v : ℕ) → IsNested n bs → is_vertex n v ≡ true → ((x : ℕ) → 1 ≤ x → x ≤ n + room_of n → get_or ps x 0 ≡ parent_of bs x) → length ps ≡ n + room_of n + 1 → CanClimb ps v
+pub can_climb : (n : ℕ) (bs : List Blossom) (ps : List ℕ) (v : ℕ) → IsNested n bs → is_vertex n v ≡ true → ((x : ℕ) → x ≤ n + room_of n → get_or ps x 0 ≡ parent_of bs x) → length ps ≡ n + room_of n + 1 → CanClimb ps v
 can_climb n bs ps v h iv table len =
     let few : length bs + 1 ≤ length ps = omega (arith, blossoms_few n bs h, len) in
     let at_len = climb_chain n (length ps) bs ps v h iv table few in
@@ -209,7 +209,7 @@ chain_through (b ∷ older) a v k m =
       (λ held. (r.0, ap (λ q. cond q (chain_of older v ++ b.node ∷ []) (chain_of older v)) held ∙ r.1 ∙ ap (λ c. c ++ (a ∷ r.0)) (sym below))))
 
 pub climb_child : (n : ℕ) (bs : List Blossom) (ps : List ℕ) (a v : ℕ) → IsNested n bs → is_vertex n v ≡ true → holds (names_of bs) a ≡ true → holds (members_of bs a) v ≡ true
-    → ((x : ℕ) → 1 ≤ x → x ≤ n + room_of n → get_or ps x 0 ≡ parent_of bs x) → length ps ≡ n + room_of n + 1 → climb_to (length ps) ps a v ≡ child_holding bs a v
+    → ((x : ℕ) → x ≤ n + room_of n → get_or ps x 0 ≡ parent_of bs x) → length ps ≡ n + room_of n + 1 → climb_to (length ps) ps a v ≡ child_holding bs a v
 climb_child n bs ps a v h iv k m table len =
     let older : List Blossom = older_than bs a in
     let through = chain_through bs a v k m in
@@ -221,3 +221,49 @@ climb_child n bs ps a v h iv k m table len =
     (subst (AllByRecursion (λ y. y ≢ a)) is (each_from (λ y. y ≢ a) (chain_of older v) (λ x e. λ s. both_ways (is_node n older a) (older_fresh n bs a h k) (subst (λ y. is_node n older y ≡ true) s (chain_node n older v x iv e)))))
     (omega (arith, ap length is, chain_short older v, older_short bs a, blossoms_few n bs h, len))
     ∙ sym (ap (last_of v) is) ∙ chain_last older v v
+
+-- a step of a climb
+pub climb_to_step : (k j : ℕ) (ps : List ℕ) (stop x : ℕ) → k ≡ suc j → get_or ps x 0 ≢ stop → climb_to j ps stop (get_or ps x 0) ≡ climb_to k ps stop x
+climb_to_step k j ps stop x e ne = sym (ap (λ i. climb_to i ps stop x) e ∙ ap (λ q. cond q x (climb_to j ps stop (get_or ps x 0))) (ne_eqb (get_or ps x 0) stop ne))
+
+cut_head : (x y : ℕ) (xs ys : List ℕ) → x ∷ xs ≡ y ∷ ys → xs ≡ ys
+cut_head x y xs ys e = cc
+
+climb_past : (k : ℕ) (ps : List ℕ) (x : ℕ) → x ≢ 0 → climb (suc k) ps x ≡ x ∷ climb k ps (get_or ps x 0)
+climb_past k ps x ne = ap (λ q. cond q [] (x ∷ climb k ps (get_or ps x 0))) (ne_eqb x 0 ne)
+
+nothing : (x : ℕ) (xs : List ℕ) → [] ≡ x ∷ xs → ⊥
+nothing x xs s = cc
+
+-- a climb that more steps don't change isn't changed by still more
+climb_settled : (k : ℕ) (ps : List ℕ) (x : ℕ) → climb k ps x ≡ climb (suc k) ps x → climb (suc k) ps x ≡ climb (suc (suc k)) ps x
+climb_settled zero ps x e = ⊎_elim
+  (λ z. ap (climb 1 ps) z ∙ sym (ap (climb 2 ps) z))
+  (λ ne. absurd (nothing x (climb zero ps (get_or ps x 0)) (e ∙ climb_past zero ps x ne)))
+  (cases_eq x 0)
+climb_settled (suc k) ps x e = ⊎_elim
+  (λ z. ap (climb (suc (suc k)) ps) z ∙ sym (ap (climb (suc (suc (suc k))) ps) z))
+  (λ ne. climb_past (suc k) ps x ne
+    ∙ ap (λ t. x ∷ t) (climb_settled k ps (get_or ps x 0) (cut_head x x (climb k ps (get_or ps x 0)) (climb (suc k) ps (get_or ps x 0)) (sym (climb_past k ps x ne) ∙ e ∙ climb_past (suc k) ps x ne)))
+    ∙ sym (climb_past (suc (suc k)) ps x ne))
+  (cases_eq x 0)
+
+-- the next node of a chain
+pub record IsStep (ps : List ℕ) (x : ℕ) : Type 0 where
+  pub now : climb (length ps) ps x ≡ x ∷ climb (length ps) ps (get_or ps x 0)
+  pub place : x < length ps
+  pub next : CanClimb ps (get_or ps x 0)
+
+pub climb_step : (ps : List ℕ) (x : ℕ) → CanClimb ps x → x ≢ 0 → IsStep ps x
+climb_step ps x h ne =
+    let now : climb (length ps) ps x ≡ x ∷ climb (length ps) ps (get_or ps x 0) = sym h.ends ∙ climb_past (length ps) ps x ne in
+    let within : AllByRecursion (λ a. a < length ps) (x ∷ climb (length ps) ps (get_or ps x 0)) = subst (AllByRecursion (λ a. a < length ps)) now h.within in
+    record {
+      now = now;
+      place = within.0;
+      next = record { ends = sym (settled (length ps) within.0 now); within = within.1 };
+    }
+  where
+    settled : (len : ℕ) → x < len → climb len ps x ≡ x ∷ climb len ps (get_or ps x 0) → climb len ps (get_or ps x 0) ≡ climb (suc len) ps (get_or ps x 0)
+    settled zero low e = absurd (omega arith)
+    settled (suc k) low e = climb_settled k ps (get_or ps x 0) (cut_head x x (climb k ps (get_or ps x 0)) (climb (suc k) ps (get_or ps x 0)) (sym (climb_past k ps x ne) ∙ e))

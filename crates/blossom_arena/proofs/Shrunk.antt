@@ -243,9 +243,9 @@ module _ (a : Inside) (duals : Vec ℤ) (parents nexts edges outer followers old
       outer = λ v low high.
           ap (λ t. slice_index t v) h.outer ∙ filled_at a.outer.items (union_of bs ring) node v (omega (arith, high, s.places.outer))
           ∙ ap (λ o. cond (holds (union_of bs ring) v) node o) (s.outer v low high) ∙ ap (λ us. outermost us v) (sym blossoms_after);
-      parents = λ x low high.
+      parents = λ x high.
           ap (λ t. slice_index t x) h.parents ∙ filled_at a.parents.items (nodes_of ring) node x (omega (arith, high, s.places.parents))
-          ∙ ap (λ p. cond (in_ring ring x) node p) (s.parents x low high) ∙ ap (λ us. parent_of us x) (sym blossoms_after);
+          ∙ ap (λ p. cond (in_ring ring x) node p) (s.parents x high) ∙ ap (λ us. parent_of us x) (sym blossoms_after);
       order = subst (IsOrder older.items newer.items 0) (sym order_after) order;
       runs = λ x e. subst (λ us. IsRun followers.items (kept_of n kept x).run (members_of us x)) (sym blossoms_after) (runs_after x (ap (λ ys. holds ys x) (sym order_after) ∙ e));
       kept = subst (AllByRecursion (λ x. IsSome (get kept (key_of n x)))) (sym order_after)

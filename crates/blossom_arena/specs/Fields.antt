@@ -118,7 +118,7 @@ pub record IsSound (a : Inside) : Type 0 where
   pub family : IsFamily (family_of a)
   pub places : HasPlaces a
   pub outer : (v : ℕ) → 1 ≤ v → v ≤ a.vertex_count → slice_index a.outer.items v ≡ outermost (blossoms_of a) v
-  pub parents : (x : ℕ) → 1 ≤ x → x ≤ a.vertex_count + room_of a.vertex_count → slice_index a.parents.items x ≡ parent_of (blossoms_of a) x
+  pub parents : (x : ℕ) → x ≤ a.vertex_count + room_of a.vertex_count → slice_index a.parents.items x ≡ parent_of (blossoms_of a) x
   pub order : IsOrder a.older.items a.newer.items 0 (order_of a)
   pub runs : (x : ℕ) → holds (order_of a) x ≡ true → IsRun a.followers.items (kept_of a.vertex_count a.kept x).run (members_of (blossoms_of a) x)
   pub kept : AllByRecursion (λ x. IsSome (get a.kept (key_of a.vertex_count x))) (order_of a)

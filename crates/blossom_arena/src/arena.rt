@@ -110,7 +110,7 @@ impl Arena {
         ensures good { IfOk result IsFamily }
     {
         let count = n as usize;
-        let room = if n == 0 { 0 } else { (count - 1) / 2 };
+        let room = n.saturating_sub(1) as usize / 2;
         let kept = Slab::with_capacity(alloc, room)?;
         if kept.capacity() != room {
             return Err(AllocError);
