@@ -14,3 +14,4 @@ pub mod Opened
 pub mod Dissolved
 pub mod Duals
 pub mod Fresh
+pub mod Written
