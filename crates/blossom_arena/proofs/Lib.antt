@@ -15,3 +15,4 @@ pub mod Dissolved
 pub mod Duals
 pub mod Fresh
 pub mod Written
+pub mod Undone
