@@ -21,7 +21,7 @@ use Rattle.blossom_arena.proofs.Parents.{ring_child}
 use Rattle.blossom_arena.proofs.Taken.{members_without, nested_without, parent_without}
 use Rattle.blossom_arena.proofs.Opened.{outermost_lowered, ring_other}
 use Rattle.blossom_arena.proofs.Writes.{length-filled, filled_at, length-lowered}
-use Rattle.blossom_arena.proofs.Orders.{removed, length-removed, removed_sub, removed_not, take_out_order, walk_order}
+use Rattle.blossom_arena.proofs.Orders.{removed, length-removed, removed_sub, removed_has, removed_not, take_out_order, walk_order}
 use Rattle.blossom_arena.proofs.Builds.{build-same, build-without}
 use Rattle.blossom_arena.proofs.Sound.{rings, order_names, order_len, order_new, order_range, order_no_zero, node_run}
 use Rattle.blossom_arena.proofs.Shrunk.{each_some}
@@ -147,5 +147,8 @@ module _ (a : Inside) (parents outer older newer : Vec ℕ) (kept : Slab Kept) (
           (subst (λ (k : Kept). IsRun a.followers.items k.run (members_of bs x)) (sym (ap kept_or_none (same_kept x m))) (s.runs x (removed_sub xs node x m))));
       kept = subst (AllByRecursion (λ x. IsSome (get kept (key_of n x)))) (sym order_after)
           (each_from (λ x. IsSome (get kept (key_of n x))) (removed xs node) (λ x e. ap (λ o. is_some o) (same_kept x e) ∙ each_some n a.kept xs x s.kept (removed_sub xs node x e)));
+      only = λ x low some. ap (λ ys. holds ys x) order_after ∙ by_test (eqb node x)
+          (λ same. absurd (both_ways (is_some (get kept (key_of n x))) (ap (λ y. is_some (get kept (key_of n y))) (sym (eqb-true node x same)) ∙ ap (λ o. is_some o) h.updates.changed) some))
+          (λ differs. removed_has xs node x differs (s.only x low (ap (λ o. is_some o) (sym (other_kept n a.kept kept node x h.updates above low differs)) ∙ some)));
       room = h.capacity ∙ s.room;
     }

@@ -39,5 +39,6 @@ sound_with_duals a duals s h = record {
   order = s.order;
   runs = s.runs;
   kept = s.kept;
+  only = s.only;
   room = s.room;
 }

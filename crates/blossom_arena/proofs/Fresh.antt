@@ -1,16 +1,17 @@
 -- The fields of an arena without blossoms.
-use Rattle.std.proofs.Common.{◌≡◌, ◌∙◌, ℕ, zero, suc, ◌+◌, ◌≤◌, ◌<◌, true, false, List, [], length, refl, sym, ap, subst, arith, get_or}
+use Rattle.std.proofs.Common.{◌≡◌, ◌∙◌, ℕ, zero, suc, ◌+◌, ◌≤◌, ◌<◌, true, false, List, [], length, refl, sym, ap, subst, arith, get_or, Option, None}
 use Rattle.std.specs.Prelude.{ℤ, pos, ◌≤ℤ◌, replicate, slice_index, count_by, is_some, All}
 use Rattle.std.specs.List.{AllByRecursion}
 use Rattle.std.proofs.lemmas.Bool.{both_ways}
 use Rattle.std.proofs.lemmas.Int.{ints}
 use Rattle.std.proofs.lemmas.List.{length-replicate, get_or-replicate}
-use Rattle.slab.specs.Slab.{slab_len}
+use Rattle.slab.specs.Slab.{slab_len, get}
 use Rattle.graph_theory.specs.Parts.{holds}
+use Rattle.blossom_arena.specs.declared.runs.Kept.{Kept}
 use Rattle.blossom_arena.specs.declared.arena.Arena.TheInside.{Inside}
 use Rattle.blossom_arena.specs.Tables.{walk}
 use Rattle.blossom_arena.specs.Family.{Blossom, Family, IsFamily, IsNested, IsDual, HasDuals, empty_family, room_of, outermost}
-use Rattle.blossom_arena.specs.Fields.{IsSound, HasPlaces, blossoms_of, order_of, family_of, build, parent_of, IsOrder}
+use Rattle.blossom_arena.specs.Fields.{IsSound, HasPlaces, blossoms_of, order_of, family_of, key_of, build, parent_of, IsOrder}
 use Rattle.blossom_arena.proofs.Sound.{rings}
 
 pub record IsFresh (a : Inside) : Type 0 where
@@ -74,5 +75,6 @@ module _ (a : Inside) (h : IsFresh a) where
     order = subst (IsOrder a.older.items a.newer.items 0) (sym no_order) (zero_at a.older.items 0 h.older (omega arith), zero_at a.newer.items 0 h.newer (omega arith));
     runs = λ x e. absurd (both_ways false refl (ap (λ xs. holds xs x) (sym no_order) ∙ e));
     kept = subst (AllByRecursion _) (sym no_order) tt;
+    only = λ x low some. absurd (both_ways (is_some (get a.kept (key_of n x))) (ap (λ (ss : List (Option Kept)). is_some (get_or ss (key_of n x) None)) h.slots) some);
     room = h.room;
   }

@@ -16,3 +16,4 @@ pub mod Duals
 pub mod Fresh
 pub mod Written
 pub mod Undone
+pub mod Asked

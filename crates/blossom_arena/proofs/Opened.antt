@@ -35,7 +35,7 @@ ring_members n (b ∷ older) a h k =
       let out : in_ring (ring_of older a) b.node ≡ false = false_from_ne_true (in_ring (ring_of older a) b.node) (λ r. both_ways (is_child older b.node) free.1 (ring_child older a b.node r)) in
       members_past b older a e ∙ ring_members n older a h.1 there ∙ sym (union_past b older (ring_of older a) out) ∙ ap (λ q. union_of (b ∷ older) (cond q b.ring (ring_of older a))) (sym e))
 
-child_parent : (n : ℕ) (bs : List Blossom) (x : ℕ) → IsNested n bs → is_child bs x ≡ true → parent_of bs x ≢ 0
+pub child_parent : (n : ℕ) (bs : List Blossom) (x : ℕ) → IsNested n bs → is_child bs x ≡ true → parent_of bs x ≢ 0
 child_parent n [] x h e z = both_ways false refl e
 child_parent n (b ∷ older) x h e z =
     by_test (in_ring b.ring x)

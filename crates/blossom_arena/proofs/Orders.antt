@@ -28,6 +28,15 @@ removed_sub (y ∷ ys) a x k =
     (λ e. ⊎_elim (λ s. subst (λ z. holds (y ∷ ys) z ≡ true) (eqb-true y x s) (first_in y ys)) (λ m. later_in y ys x (removed_sub ys a x m))
       (or_cases (eqb y x) (holds (removed ys a) x) (sym (ap (λ q. holds (cond q ys (y ∷ removed ys a)) x) e) ∙ k)))
 
+pub removed_has : (xs : List ℕ) (a x : ℕ) → eqb a x ≡ false → holds xs x ≡ true → holds (removed xs a) x ≡ true
+removed_has [] a x ne k = k
+removed_has (y ∷ ys) a x ne k =
+    by_test (eqb y a)
+    (λ e. ap (λ q. holds (cond q ys (y ∷ removed ys a)) x) e
+      ∙ ⊎_elim (λ s. absurd (eqb-false a x ne (sym (eqb-true y a e) ∙ eqb-true y x s))) (λ m. m) (or_cases (eqb y x) (holds ys x) k))
+    (λ e. ap (λ q. holds (cond q ys (y ∷ removed ys a)) x) e
+      ∙ ⊎_elim (λ s. subst (λ z. holds (y ∷ removed ys a) z ≡ true) (eqb-true y x s) (first_in y (removed ys a))) (λ m. later_in y (removed ys a) x (removed_has ys a x ne m)) (or_cases (eqb y x) (holds ys x) k))
+
 pub removed_not : (xs : List ℕ) (a : ℕ) → AllNew xs → holds (removed xs a) a ≡ false
 removed_not [] a h = refl
 removed_not (y ∷ ys) a h =

@@ -3,7 +3,7 @@ use Rattle.std.proofs.Common.{◌≡◌, ℕ, zero, suc, ◌+◌, ◌≤◌, ◌
 use Rattle.std.specs.Prelude.{slice_set, vec_len, slice_index, IsSome, is_some, ℤ, pos, ◌≤ℤ◌}
 use Rattle.std.specs.List.{AllByRecursion}
 use Rattle.std.specs.Global.{Vec}
-use Rattle.std.proofs.lemmas.Bool.{eqb-true, eqb-false, eq-eqb, ne_eqb, or_cases, or_parts, or_from, both_ways, false_from_ne_true, lt-leb, and_right}
+use Rattle.std.proofs.lemmas.Bool.{eqb-true, eqb-false, eq-eqb, ne_eqb, or_cases, or_parts, or_from, or_left, both_ways, false_from_ne_true, lt-leb, and_right}
 use Rattle.std.proofs.lemmas.Int.{ints}
 use Rattle.std.proofs.lemmas.List.{get_or-set_other, get_or-set_same, length-set}
 use Rattle.std.proofs.lemmas.List.Elements.{All-set, recursion_from_All}
@@ -250,5 +250,8 @@ module _ (a : Inside) (duals : Vec ℤ) (parents nexts edges outer followers old
       runs = λ x e. subst (λ us. IsRun followers.items (kept_of n kept x).run (members_of us x)) (sym blossoms_after) (runs_after x (ap (λ ys. holds ys x) (sym order_after) ∙ e));
       kept = subst (AllByRecursion (λ x. IsSome (get kept (key_of n x)))) (sym order_after)
           (ap (λ o. is_some o) at_new, each_from (λ x. IsSome (get kept (key_of n x))) xs (λ x e. ap (λ o. is_some o) (same_kept x e) ∙ alive x e));
+      only = λ x low some. ap (λ ys. holds ys x) order_after ∙ by_test (eqb node x)
+          (λ same. or_left (eqb node x) (holds xs x) same)
+          (λ other. later_in node xs x (s.only x low (ap (λ o. is_some o) (sym (h.updates.others (key_of n x) (λ e. eqb-false node x other (omega (arith, e, h.number, low))))) ∙ some)));
       room = h.capacity ∙ s.room;
     }

@@ -122,4 +122,5 @@ pub record IsSound (a : Inside) : Type 0 where
   pub order : IsOrder a.older.items a.newer.items 0 (order_of a)
   pub runs : (x : ℕ) → holds (order_of a) x ≡ true → IsRun a.followers.items (kept_of a.vertex_count a.kept x).run (members_of (blossoms_of a) x)
   pub kept : AllByRecursion (λ x. IsSome (get a.kept (key_of a.vertex_count x))) (order_of a)
+  pub only : (x : ℕ) → a.vertex_count < x → IsSome (get a.kept (key_of a.vertex_count x)) → holds (order_of a) x ≡ true
   pub room : a.kept.capacity ≡ room_of a.vertex_count

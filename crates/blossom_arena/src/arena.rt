@@ -10,8 +10,8 @@ use crate::members::Members;
 use crate::nodes::NodeId;
 use crate::order::{put_first, take_out};
 use crate::ring::Ring;
-use crate::runs::{Kept, find_kept, find_run, join, lower};
-use crate::tables::{fill, hang, note, thread};
+use crate::runs::{Kept, find_kept, find_run, has_kept, join, lower};
+use crate::tables::{fill, hang, note, renumber, thread, wipe};
 use mb_base::{EdgeId, OutOfMemory, VertexId};
 use slab::Slab;
 use std::alloc::{AllocError, Global};
@@ -93,6 +93,12 @@ fn set_dual(duals: &mut Vec<i64>, node: u32, y: i64)
     duals[node as usize] = y;
 }
 
+fn wipe_duals(duals: &mut Vec<i64>)
+    ensures { duals.new.items ≡ replicate (vec_len duals.old) (pos 0) }
+{
+    duals.fill(0);
+}
+
 fn raise_dual(duals: &mut Vec<i64>, node: u32, d: i64)
     requires place { node < vec_len duals.old }
     requires in_range { IsDual (dual_at duals.old.items node +ℤ d) }
@@ -136,6 +142,35 @@ impl Arena {
         ensures good { IsFamily self.now }
     {
         self.vertex_count
+    }
+
+    /// The greatest number that a node can have.
+    pub fn node_limit(&self) -> u32
+        ensures limit { result ≡ self.now.vertex_count + room_of self.now.vertex_count }
+        ensures good { IsFamily self.now }
+    {
+        self.vertex_count + self.vertex_count.saturating_sub(1) / 2
+    }
+
+    /// Whether this is a vertex or a blossom.
+    pub fn is_node(&self, node: NodeId) -> bool
+        ensures node { result ≡ is_node self.now.vertex_count self.now.blossoms node }
+        ensures good { IsFamily self.now }
+    {
+        let number = node.number();
+        if number <= self.vertex_count {
+            return number != 0;
+        }
+        has_kept(&self.kept, self.vertex_count, number)
+    }
+
+    /// Whether no other node holds a node.
+    pub fn is_outermost(&self, node: NodeId) -> bool
+        requires { is_node self.now.vertex_count self.now.blossoms node ≡ true }
+        ensures outer { result ≡ is_outermost self.now.vertex_count self.now.blossoms node }
+        ensures good { IsFamily self.now }
+    {
+        self.parents[node.number() as usize] == 0
     }
 
     /// The outermost node that holds a vertex, in constant time.
@@ -249,5 +284,18 @@ impl Arena {
         take_out(&mut self.older, &mut self.newer, node);
         hang(&mut self.parents, Ring::of(&self.nexts, &self.edges, kept.first, kept.links), 0);
         lower(&mut self.outer, Ring::of(&self.nexts, &self.edges, kept.first, kept.links), &self.followers, &self.kept, self.vertex_count);
+    }
+
+    /// Takes away all blossoms and makes all duals 0.
+    pub fn clear(&mut self)
+        ensures family { self.new ≡ empty_family self.old.vertex_count }
+        ensures good { IsFamily self.new }
+    {
+        self.kept.clear();
+        wipe_duals(&mut self.duals);
+        wipe(&mut self.parents);
+        wipe(&mut self.older);
+        wipe(&mut self.newer);
+        renumber(&mut self.outer);
     }
 }

@@ -1,9 +1,10 @@
-ghost use Rattle.std.specs.Prelude.{◌≡◌, ◌<◌, ◌≤◌, ◌^◌, ◌+◌, ℕ, map, length, vec_len, slice_index};
+ghost use Rattle.std.specs.Prelude.{◌≡◌, ◌<◌, ◌≤◌, ◌^◌, ◌+◌, ℕ, map, length, vec_len, slice_index, is_some};
+ghost use Rattle.slab.specs.Slab.{get};
 ghost use Rattle.std.specs.List.{AllByRecursion};
 ghost use Rattle.blossom_arena.specs.declared.links.Link.{Link};
 ghost use Rattle.blossom_arena.specs.declared.runs.Run.{Run};
 ghost use Rattle.blossom_arena.specs.Family.{nodes_of};
-ghost use Rattle.blossom_arena.specs.Fields.{kept_of, run_of, runs_of, joined, joined_tail, joined_size, lowered, vertices_of};
+ghost use Rattle.blossom_arena.specs.Fields.{key_of, kept_of, run_of, runs_of, joined, joined_tail, joined_size, lowered, vertices_of};
 
 use crate::links::Link;
 use crate::members::Members;
@@ -45,6 +46,14 @@ pub(crate) fn find_kept(kept: &Slab<Kept>, count: u32, node: u32) -> Kept
             },
         },
     }
+}
+
+/// Whether there is a blossom of this node.
+pub(crate) fn has_kept(kept: &Slab<Kept>, count: u32, node: u32) -> bool
+    requires { count < node }
+    ensures { result ≡ is_some (get kept.now (key_of count node)) }
+{
+    kept.get((node - (count + 1)) as usize).is_some()
 }
 
 /// Where the vertices of a node stand.

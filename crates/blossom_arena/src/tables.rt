@@ -1,4 +1,4 @@
-ghost use Rattle.std.specs.Prelude.{◌≡◌, ◌<◌, ℕ, map, drop, length, vec_len};
+ghost use Rattle.std.specs.Prelude.{◌≡◌, ◌<◌, ◌^◌, ℕ, replicate, slice_index, map, drop, length, vec_len};
 ghost use Rattle.std.specs.List.{AllByRecursion};
 ghost use Rattle.blossom_arena.specs.Tables.{filled, threaded, noted};
 ghost use Rattle.blossom_arena.specs.Family.{nodes_of};
@@ -17,6 +17,24 @@ pub(crate) fn fill(table: &mut Vec<u32>, vertices: Members<'_>, entry: u32)
 {
     for v in vertices {
         table[v.number() as usize] = entry;
+    }
+}
+
+/// Puts 0 at each place.
+pub(crate) fn wipe(table: &mut Vec<u32>)
+    ensures { table.new.items ≡ replicate (vec_len table.old) 0 }
+{
+    table.fill(0);
+}
+
+/// Puts its number at each place.
+pub(crate) fn renumber(table: &mut Vec<u32>)
+    requires { vec_len table.old < 2 ^ 32 }
+    ensures len { vec_len table.new ≡ vec_len table.old }
+    ensures each { (i : ℕ) → i < vec_len table.old → slice_index table.new.items i ≡ i }
+{
+    for place in 0..table.len() {
+        table[place] = place as u32;
     }
 }
 
