@@ -17,3 +17,5 @@ pub mod Fresh
 pub mod Written
 pub mod Undone
 pub mod Asked
+pub mod Forms
+pub mod Slacks

@@ -1,5 +1,5 @@
 -- A nested family of odd sets with duals (24, 26), as contracts see an arena.
-use Rattle.std.specs.Prelude.{◌≡◌, ℕ, zero, suc, ◌+◌, ◌-◌, ◌/◌, ◌%◌, ◌<◌, ◌≤◌, ℤ, pos, ◌≤ℤ◌, ◌+ℤ◌, Bool, true, false, ◌==◌, nat_eq, ◌&&◌, ◌||◌, not, nat_le, if◌then◌else◌, List, [], ◌∷◌, ◌++◌, length, map, All, replicate, slice_index_or, slice_set, negsuc}
+use Rattle.std.specs.Prelude.{◌≡◌, ℕ, zero, suc, ◌+◌, ◌-◌, ◌/◌, ◌%◌, ◌<◌, ◌≤◌, ℤ, pos, ◌≤ℤ◌, ◌+ℤ◌, ◌⊎◌, Bool, true, false, ◌==◌, nat_eq, ◌&&◌, ◌||◌, not, nat_le, if◌then◌else◌, List, [], ◌∷◌, ◌++◌, length, map, All, replicate, slice_index_or, slice_set, negsuc}
 use Rattle.std.specs.List.{list_any, flat_map, IsDistinct, AllByRecursion}
 use Rattle.graph_theory.specs.Parts.{holds}
 use Rattle.blossom_arena.specs.declared.links.Link.{Link}
@@ -93,6 +93,19 @@ pub record HasDuals (n : ℕ) (ys : List ℤ) (bs : List Blossom) : Type 0 where
   pub one_each : length ys ≡ n + room_of n + 1
   pub in_range : All IsDual ys
   pub blossoms : AllByRecursion (λ (b : Blossom). pos 0 ≤ℤ dual_at ys b.node) bs
+
+-- an odd number of at least three different vertices
+pub record IsOddSet (n : ℕ) (set : List ℕ) : Type 0 where
+  pub three : 3 ≤ length set
+  pub odd : length set % 2 ≡ 1
+  pub different : IsDistinct nat_eq set
+  pub in_range : All (λ v. (1 ≤ v) × (v ≤ n)) set
+
+-- one of two sets holds the other, or they have no vertex in common
+abbrev pub AreLaminar : List ℕ → List ℕ → Type 0
+AreLaminar xs ys =
+    ((v : ℕ) → holds ys v ≡ true → holds xs v ≡ true)
+    ⊎ (((v : ℕ) → holds xs v ≡ true → holds ys v ≡ true) ⊎ ((v : ℕ) → holds xs v ≡ true → holds ys v ≡ false))
 
 -- what an arena keeps
 pub record IsFamily (f : Family) : Type 0 where
