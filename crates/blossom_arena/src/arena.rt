@@ -152,6 +152,18 @@ impl Arena {
         self.vertex_count + self.vertex_count.saturating_sub(1) / 2
     }
 
+    /// Whether this is the node of a blossom.
+    pub fn is_blossom(&self, node: NodeId) -> bool
+        ensures blossom { result ≡ holds (names_of self.now.blossoms) node }
+        ensures good { IsFamily self.now }
+    {
+        let number = node.number();
+        if number <= self.vertex_count {
+            return false;
+        }
+        has_kept(&self.kept, self.vertex_count, number)
+    }
+
     /// Whether this is a vertex or a blossom.
     pub fn is_node(&self, node: NodeId) -> bool
         ensures node { result ≡ is_node self.now.vertex_count self.now.blossoms node }
@@ -161,7 +173,7 @@ impl Arena {
         if number <= self.vertex_count {
             return number != 0;
         }
-        has_kept(&self.kept, self.vertex_count, number)
+        self.is_blossom(node)
     }
 
     /// Whether no other node holds a node.

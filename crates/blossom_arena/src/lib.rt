@@ -10,10 +10,11 @@ mod links;
 mod members;
 mod nodes;
 mod order;
-mod probe;
 mod ring;
 mod runs;
 mod tables;
+#[cfg(test)]
+mod tests;
 
 pub use arena::Arena;
 pub use blossoms::Blossoms;

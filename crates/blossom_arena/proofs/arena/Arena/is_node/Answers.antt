@@ -1,4 +1,4 @@
-use Rattle.std.proofs.Common.{◌≡◌, ◌∙◌, ℕ, ◌≤◌, ◌<◌, sym, ap, ap₂, arith, not, eqb, Bool}
+use Rattle.std.proofs.Common.{◌≡◌, ◌∙◌, ℕ, ◌≤◌, ◌<◌, ap₂, subst, arith}
 use Rattle.blossom_arena.specs.Family.{Family, is_node}
 use Rattle.blossom_arena.specs.Fields.{blossoms_of}
 use Rattle.blossom_arena.proofs.Asked.{node_low, node_high}
@@ -11,5 +11,5 @@ returns-then-number-self-clause-node c =
 
 pub returns-clause-node : goal.returns-clause-node
 returns-clause-node c =
-    c.has_kept.ensures ∙ node_high c.self.inside c.number-number.result c.self.invariant (omega (arith, c.if-number-self.false))
-    ∙ ap₂ (λ (f : Family) (x : ℕ). is_node f.vertex_count f.blossoms x) c.self.view_is c.number-number.ensures
+    let above = subst (λ (f : Family). f.vertex_count < c.number-number.result) c.self.view_is c.if-number-self.false in
+    c.is_blossom.ensures.blossom ∙ node_high c.args.self.now.vertex_count c.args.self.now.blossoms c.args.node (subst (λ x. c.args.self.now.vertex_count < x) c.number-number.ensures above)
