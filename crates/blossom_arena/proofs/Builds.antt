@@ -23,7 +23,7 @@ ring-build ring (y ∷ ys) x k =
     by_test (eqb y x)
     (λ e. ap (λ q. cond q (ring y) (ring_of (build ring ys) x)) e ∙ ap ring (eqb-true y x e))
     (λ e. ap (λ q. cond q (ring y) (ring_of (build ring ys) x)) e
-      ∙ ring-build ring ys x (⊎_elim (λ s. absurd (both_ways (eqb y x) e s)) (λ m. m) (or_cases (eqb y x) (holds ys x) k)))
+    ∙ ring-build ring ys x (⊎_elim (λ s. absurd (both_ways (eqb y x) e s)) (λ m. m) (or_cases (eqb y x) (holds ys x) k)))
 
 pub build-same : (ring ring' : ℕ → List Link) (xs : List ℕ) → ((x : ℕ) → holds xs x ≡ true → ring' x ≡ ring x) → build ring' xs ≡ build ring xs
 build-same ring ring' [] same = refl
@@ -37,6 +37,6 @@ build-without ring (x ∷ xs) a out =
     by_test (eqb x a)
     (λ e. ap (λ q. build ring (cond q xs (x ∷ removed xs a))) e ∙ sym (ap (λ q. cond q (build ring xs) (made_of (build ring xs) (ring x) x ∷ without (build ring xs) a)) e))
     (λ e. ap (λ q. build ring (cond q xs (x ∷ removed xs a))) e
-      ∙ ap (λ bs. made_of bs (ring x) x ∷ bs) (build-without ring xs a p.1)
-      ∙ ap (λ ms. record { node = x; ring = ring x; members = ms } ∷ without (build ring xs) a) (union_without (build ring xs) (ring x) a p.0)
-      ∙ sym (ap (λ q. cond q (build ring xs) (made_of (build ring xs) (ring x) x ∷ without (build ring xs) a)) e))
+    ∙ ap (λ bs. made_of bs (ring x) x ∷ bs) (build-without ring xs a p.1)
+    ∙ ap (λ ms. record { node = x; ring = ring x; members = ms } ∷ without (build ring xs) a) (union_without (build ring xs) (ring x) a p.0)
+    ∙ sym (ap (λ q. cond q (build ring xs) (made_of (build ring xs) (ring x) x ∷ without (build ring xs) a)) e))

@@ -50,8 +50,8 @@ other_run n kept kept' node x updates low_node ne =
     by_test (leb x n)
     (λ e. ap (λ q. cond q (record { head = x; tail = x; size = 1 }) (kept_of n kept' x).run) e ∙ sym (ap (λ q. cond q (record { head = x; tail = x; size = 1 }) (kept_of n kept x).run) e))
     (λ e. ap (λ q. cond q (record { head = x; tail = x; size = 1 }) (kept_of n kept' x).run) e
-      ∙ ap (λ o. (kept_or_none o).run) (other_kept n kept kept' node x updates low_node (high e) ne)
-      ∙ sym (ap (λ q. cond q (record { head = x; tail = x; size = 1 }) (kept_of n kept x).run) e))
+    ∙ ap (λ o. (kept_or_none o).run) (other_kept n kept kept' node x updates low_node (high e) ne)
+    ∙ sym (ap (λ q. cond q (record { head = x; tail = x; size = 1 }) (kept_of n kept x).run) e))
   where
     high : leb x n ≡ false → n < x
     high e = grind (arith, nat_tests)

@@ -16,9 +16,9 @@ each_dual : (n : ℕ) (bs : List Blossom) (ys : List ℤ) (node : ℕ) (y : ℤ)
 each_dual n [] ys node y nested high fine each = tt
 each_dual n (b ∷ older) ys node y nested high fine each = (
   by_test (eqb node b.node)
-  (λ e. let same : node ≡ b.node = eqb-true node b.node e in
-    subst (λ a. pos 0 ≤ℤ dual_at (slice_set ys node y) a) same (rw (get_or-set_same ys node y (pos 0) high) (fine (subst (λ a. n < a) (sym same) nested.0.after_vertices))))
-  (λ e. rw (get_or-set_other ys node b.node y (pos 0) (λ s. eqb-false node b.node e (sym s))) each.0),
+      (λ e. let same : node ≡ b.node = eqb-true node b.node e in
+      subst (λ a. pos 0 ≤ℤ dual_at (slice_set ys node y) a) same (rw (get_or-set_same ys node y (pos 0) high) (fine (subst (λ a. n < a) (sym same) nested.0.after_vertices))))
+      (λ e. rw (get_or-set_other ys node b.node y (pos 0) (λ s. eqb-false node b.node e (sym s))) each.0),
   each_dual n older ys node y nested.1 high fine each.1,
 )
 

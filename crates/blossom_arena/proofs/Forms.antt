@@ -32,8 +32,7 @@ sorted_form n xs ys odd up same =
     let new : AllNew ys = new_by_pairs ys (AllPairs-from_increasing ys up) in
     let to = length-within ys xs new (λ v m. sym (same v) ∙ m) in
     let from = length-within xs ys (new_from_distinct xs odd.different) (λ v m. same v ∙ m) in
-    let equal : length ys ≡ length xs = omega (arith, to, from) in
-    (
+    let equal : length ys ≡ length xs = omega (arith, to, from) in (
       record { three = subst (λ k. 3 ≤ k) (sym equal) odd.three; odd = ap (λ k. k % 2) equal ∙ odd.odd; ascending = up },
       all_holds (λ v. (1 ≤ v) × (v ≤ n)) ys (λ v m. range xs v odd.in_range (sym (same v) ∙ m)),
     )
@@ -50,17 +49,17 @@ one_outermost n [] x v w h k mv mw = at v mv ∙ sym (at w mw)
 one_outermost n (b ∷ older) x v w h k mv mw =
     by_test (eqb b.node x)
     (λ e.
-      let in_v : holds b.members v ≡ true = sym (ap (λ ms. holds ms v) (members_here b older x e)) ∙ mv in
-      let in_w : holds b.members w ≡ true = sym (ap (λ ms. holds ms w) (members_here b older x e)) ∙ mw in
-      ap (λ q. cond q b.node (outermost older v)) in_v ∙ sym (ap (λ q. cond q b.node (outermost older w)) in_w))
+    let in_v : holds b.members v ≡ true = sym (ap (λ ms. holds ms v) (members_here b older x e)) ∙ mv in
+    let in_w : holds b.members w ≡ true = sym (ap (λ ms. holds ms w) (members_here b older x e)) ∙ mw in
+    ap (λ q. cond q b.node (outermost older v)) in_v ∙ sym (ap (λ q. cond q b.node (outermost older w)) in_w))
     (λ e.
-      let node = node_before n b older x e k in
-      let in_v : holds (members_of older x) v ≡ true = sym (ap (λ ms. holds ms v) (members_past b older x e)) ∙ mv in
-      let in_w : holds (members_of older x) w ≡ true = sym (ap (λ ms. holds ms w) (members_past b older x e)) ∙ mw in
-      let below = one_outermost n older x v w h.1 node in_v in_w in
-      let same : holds b.members v ≡ holds b.members w =
-          member_by_ring n older b v h (member_vertex n older x v h.1 node in_v) ∙ ap (in_ring b.ring) below ∙ sym (member_by_ring n older b w h (member_vertex n older x w h.1 node in_w)) in
-      ap (λ q. cond q b.node (outermost older v)) same ∙ ap (λ o. cond (holds b.members w) b.node o) below)
+    let node = node_before n b older x e k in
+    let in_v : holds (members_of older x) v ≡ true = sym (ap (λ ms. holds ms v) (members_past b older x e)) ∙ mv in
+    let in_w : holds (members_of older x) w ≡ true = sym (ap (λ ms. holds ms w) (members_past b older x e)) ∙ mw in
+    let below = one_outermost n older x v w h.1 node in_v in_w in
+    let same : holds b.members v ≡ holds b.members w =
+    member_by_ring n older b v h (member_vertex n older x v h.1 node in_v) ∙ ap (in_ring b.ring) below ∙ sym (member_by_ring n older b w h (member_vertex n older x w h.1 node in_w)) in
+    ap (λ q. cond q b.node (outermost older v)) same ∙ ap (λ o. cond (holds b.members w) b.node o) below)
 
 -- a newer blossom has all vertices of an older node or none
 one_side : (n : ℕ) (b : Blossom) (older : List Blossom) (y v w : ℕ) → IsNested n (b ∷ older) → is_node n older y ≡ true → holds (members_of older y) v ≡ true → holds (members_of older y) w ≡ true → holds b.members v ≡ holds b.members w
@@ -69,9 +68,9 @@ one_side n b older y v w h k mv mw =
 
 turned : (xs ys : List ℕ) → AreLaminar xs ys → AreLaminar ys xs
 turned xs ys h = ⊎_elim
-  (λ f. inr (inl f))
-  (λ g. ⊎_elim (λ f. inl f) (λ f. inr (inr (λ v m. false_from_ne_true (holds xs v) (λ e. both_ways (holds ys v) (f v e) m)))) g)
-  h
+    (λ f. inr (inl f))
+    (λ g. ⊎_elim (λ f. inl f) (λ f. inr (inr (λ v m. false_from_ne_true (holds xs v) (λ e. both_ways (holds ys v) (f v e) m)))) g)
+    h
 
 newer_laminar : (n : ℕ) (b : Blossom) (older : List Blossom) (y : ℕ) → IsNested n (b ∷ older) → is_node n older y ≡ true → AreLaminar b.members (members_of older y)
 newer_laminar n b older y h k = go (members_of older y) (λ v w mv mw. one_side n b older y v w h k mv mw)
@@ -92,14 +91,15 @@ members_laminar n [] x y h kx ky =
   where
     at : (a z : ℕ) → holds (a ∷ []) z ≡ true → a ≡ z
     at a z m = ⊎_elim (λ s. eqb-true a z s) (λ f. absurd (both_ways false refl f)) (or_cases (eqb a z) false m)
+
     same : (v : ℕ) → holds (x ∷ []) v ≡ true → holds (y ∷ []) v ≡ true → eqb x y ≡ true
     same v m q = eq-eqb x y (at x v m ∙ sym (at y v q))
 members_laminar n (b ∷ older) x y h kx ky =
     by_test (eqb b.node x)
     (λ ex. by_test (eqb b.node y)
-      (λ ey. subst (λ ms. AreLaminar ms (members_of (b ∷ older) y)) (sym (members_here b older x ex)) (subst (λ ms. AreLaminar b.members ms) (sym (members_here b older y ey)) (inl (λ v m. m))))
-      (λ ey. subst (λ ms. AreLaminar ms (members_of (b ∷ older) y)) (sym (members_here b older x ex))
-        (subst (λ ms. AreLaminar b.members ms) (sym (members_past b older y ey)) (newer_laminar n b older y h (node_before n b older y ey ky)))))
+    (λ ey. subst (λ ms. AreLaminar ms (members_of (b ∷ older) y)) (sym (members_here b older x ex)) (subst (λ ms. AreLaminar b.members ms) (sym (members_here b older y ey)) (inl (λ v m. m))))
+    (λ ey. subst (λ ms. AreLaminar ms (members_of (b ∷ older) y)) (sym (members_here b older x ex))
+    (subst (λ ms. AreLaminar b.members ms) (sym (members_past b older y ey)) (newer_laminar n b older y h (node_before n b older y ey ky)))))
     (λ ex. subst (λ ms. AreLaminar ms (members_of (b ∷ older) y)) (sym (members_past b older x ex)) (by_test (eqb b.node y)
-      (λ ey. subst (λ ms. AreLaminar (members_of older x) ms) (sym (members_here b older y ey)) (turned b.members (members_of older x) (newer_laminar n b older x h (node_before n b older x ex kx))))
-      (λ ey. subst (λ ms. AreLaminar (members_of older x) ms) (sym (members_past b older y ey)) (members_laminar n older x y h.1 (node_before n b older x ex kx) (node_before n b older y ey ky)))))
+    (λ ey. subst (λ ms. AreLaminar (members_of older x) ms) (sym (members_here b older y ey)) (turned b.members (members_of older x) (newer_laminar n b older x h (node_before n b older x ex kx))))
+    (λ ey. subst (λ ms. AreLaminar (members_of older x) ms) (sym (members_past b older y ey)) (members_laminar n older x y h.1 (node_before n b older x ex kx) (node_before n b older y ey ky)))))

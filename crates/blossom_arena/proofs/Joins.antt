@@ -68,9 +68,9 @@ new_front (x ∷ xs) ys h = ((or_parts (holds xs x) (holds ys x) (sym (holds-app
 pub new_apart : (xs ys : List ℕ) (v : ℕ) → AllNew (xs ++ ys) → holds xs v ≡ true → holds ys v ≡ false
 new_apart [] ys v h e = absurd (both_ways false refl e)
 new_apart (x ∷ xs) ys v h e = ⊎_elim
-  (λ s. ap (holds ys) (sym (eqb-true x v s)) ∙ (or_parts (holds xs x) (holds ys x) (sym (holds-append xs ys x) ∙ h.0)).1)
-  (λ m. new_apart xs ys v h.1 m)
-  (or_cases (eqb x v) (holds xs v) e)
+    (λ s. ap (holds ys) (sym (eqb-true x v s)) ∙ (or_parts (holds xs x) (holds ys x) (sym (holds-append xs ys x) ∙ h.0)).1)
+    (λ m. new_apart xs ys v h.1 m)
+    (or_cases (eqb x v) (holds xs v) e)
 
 abbrev runs : (ℕ → Run) → List Link → List Run
 runs run ring = map (λ (l : Link). run l.node) ring
@@ -107,8 +107,8 @@ join_is f t p ps bs run (l ∷ ring) j each =
     let f' : List ℕ = set f t r.head in
     let more : length (p ∷ (ps ++ ms)) ≡ length (p ∷ ps) + r.size = omega (arith, length-append ps ms, size) in
     let walked : walk (length (p ∷ (ps ++ ms))) f' p ≡ p ∷ (ps ++ ms) =
-        ap (λ k. walk k f' p) more
-        ∙ walk_join f t r.head r.size p ps ms j.walked j.last (front_out l.node t_in new) t_low here.0.vertices t_parts.0 in
+    ap (λ k. walk k f' p) more
+    ∙ walk_join f t r.head r.size p ps ms j.walked j.last (front_out l.node t_in new) t_low here.0.vertices t_parts.0 in
     let joined_more : IsJoined f' r.tail p (ps ++ ms) (union_of bs ring) = record {
       walked = walked;
       last = last_append p 0 ps ms here.1 ∙ here.0.tail;
@@ -116,11 +116,11 @@ join_is f t p ps bs run (l ∷ ring) j each =
       within = λ v e. omega (arith, length-set f t r.head, j.within v (ap (λ xs. holds xs v) (sym assoc) ∙ e));
     } in
     let rest = join_is f' r.tail p (ps ++ ms) bs run ring joined_more
-        (λ a in_it. let old = each a (later_in l.node (nodes_of ring) a in_it) in
-          (run_keeps f f' (run a) (members_of bs a) old.0
-            (λ y e. get_or-set_other f t y r.head 0 (λ s. both_ways (holds (union_of bs ring) t) t_parts.1 (in_it_all ring a t in_it (subst (λ z. holds (members_of bs a) z ≡ true) s (front_sub (members_of bs a) y e))))),
-          old.1)) in
-    (
+    (λ a in_it. let old = each a (later_in l.node (nodes_of ring) a in_it) in (
+      run_keeps f f' (run a) (members_of bs a) old.0
+          (λ y e. get_or-set_other f t y r.head 0 (λ s. both_ways (holds (union_of bs ring) t) t_parts.1 (in_it_all ring a t in_it (subst (λ z. holds (members_of bs a) z ≡ true) s (front_sub (members_of bs a) y e))))),
+      old.1,
+    )) in (
       ap (λ xs. walk (length xs) (joined f' r.tail (runs run ring)) p) (sym assoc) ∙ rest.0 ∙ assoc,
       rest.1 ∙ ap (last_of p) (append_assoc ps ms (union_of bs ring) ∙ ap (λ u. ps ++ u) (sym union)),
       omega (arith, rest.2, size, ap length union, length-append ms (union_of bs ring)),
@@ -128,11 +128,12 @@ join_is f t p ps bs run (l ∷ ring) j each =
   where
     front_out : (x : ℕ) → holds (p ∷ ps) t ≡ true → AllNew ((p ∷ ps) ++ (members_of bs x ++ union_of bs ring)) → holds (front (p ∷ ps)) t ≡ false
     front_out x e new = subst (λ z. holds (front (p ∷ ps)) z ≡ false) j.last (last_not_front 0 (p ∷ ps) (new_front (p ∷ ps) (members_of bs x ++ union_of bs ring) new))
+
     in_it_all : (ls : List Link) (a v : ℕ) → in_ring ls a ≡ true → holds (members_of bs a) v ≡ true → holds (union_of bs ls) v ≡ true
     in_it_all [] a v e m = absurd (both_ways false refl e)
     in_it_all (k ∷ ks) a v e m =
         ap (λ xs. holds xs v) (flat_map-cons (λ (l : Link). members_of bs l.node) k ks) ∙ holds-append (members_of bs k.node) (union_of bs ks) v
         ∙ ⊎_elim
-          (λ s. or_left (holds (members_of bs k.node) v) (holds (union_of bs ks) v) (ap (λ x. holds (members_of bs x) v) (eqb-true k.node a s) ∙ m))
-          (λ later. or_right (holds (members_of bs k.node) v) (holds (union_of bs ks) v) (in_it_all ks a v later m))
-          (or_cases (eqb k.node a) (in_ring ks a) e)
+        (λ s. or_left (holds (members_of bs k.node) v) (holds (union_of bs ks) v) (ap (λ x. holds (members_of bs x) v) (eqb-true k.node a s) ∙ m))
+        (λ later. or_right (holds (members_of bs k.node) v) (holds (union_of bs ks) v) (in_it_all ks a v later m))
+        (or_cases (eqb k.node a) (in_ring ks a) e)

@@ -11,6 +11,8 @@ use Rattle.std.proofs.lemmas.Bool.Decides.{nat_tests}
 use Rattle.std.proofs.lemmas.Bool.{eqb-true, eq-eqb, ne_eqb, eqb-false, or_parts, or_from, or_cases, or_left, or_right, both_ways, false_from_ne_true}
 use Rattle.graph_theory.specs.Parts.{holds}
 use Rattle.graph_theory.proofs.Members.{holds-append}
+use Rattle.blossom_arena.specs.declared.links.Link.{Link}
+use Rattle.blossom_arena.specs.Family.{nodes_of, in_ring}
 
 -- what follows from a test either way
 pub by_test : {P : Type 0} (t : Bool) → (t ≡ true → P) → (t ≡ false → P) → P
@@ -59,11 +61,11 @@ holds-filter p (x ∷ xs) v =
     let rest : holds (filter p xs) v ≡ (holds xs v && p v) = holds-filter p xs v in
     by_test (p x)
     (λ e. rw e (by_test (eqb x v)
-      (λ s. let same : p v ≡ true = ap p (sym (eqb-true x v s)) ∙ e in rw (s, same) refl)
-      (λ s. rw s rest)))
+    (λ s. let same : p v ≡ true = ap p (sym (eqb-true x v s)) ∙ e in rw (s, same) refl)
+    (λ s. rw s rest)))
     (λ e. rw e (by_test (eqb x v)
-      (λ s. let same : p v ≡ false = ap p (sym (eqb-true x v s)) ∙ e in rw (rest, s, same) (grind arith))
-      (λ s. rw s rest)))
+    (λ s. let same : p v ≡ false = ap p (sym (eqb-true x v s)) ∙ e in rw (rest, s, same) (grind arith))
+    (λ s. rw s rest)))
 
 pub new-filter : (p : ℕ → Bool) (xs : List ℕ) → AllNew xs → AllNew (filter p xs)
 new-filter p [] h = h
@@ -79,8 +81,8 @@ pub length-without : (rs xs : List ℕ) → AllNew rs → AllNew xs
     → length (filter (λ a. not (holds rs a)) xs) + length rs ≡ length xs
 length-without rs xs dr dx sub =
     let inside : length (filter (holds rs) xs) ≡ length rs =
-        length-from_same_keys nat_eq_equiv (filter (holds rs) xs) rs (distinct_from_new (filter (holds rs) xs) (new-filter (holds rs) xs dx)) (distinct_from_new rs dr)
-        (λ v. sym (holds_is (filter (holds rs) xs) v) ∙ holds-filter (holds rs) xs v ∙ both v ∙ holds_is rs v) in
+    length-from_same_keys nat_eq_equiv (filter (holds rs) xs) rs (distinct_from_new (filter (holds rs) xs) (new-filter (holds rs) xs dx)) (distinct_from_new rs dr)
+    (λ v. sym (holds_is (filter (holds rs) xs) v) ∙ holds-filter (holds rs) xs v ∙ both v ∙ holds_is rs v) in
     let all : length (filter (holds rs) xs) + length (filter (λ a. not (holds rs a)) xs) ≡ length xs = length-filter_both (holds rs) (λ a. not (holds rs a)) (λ a. refl) xs in
     omega arith
   where
@@ -130,3 +132,15 @@ first_in x xs = or_left (eqb x x) (holds xs x) (eq-eqb x x refl)
 
 pub later_in : (x : ℕ) (xs : List ℕ) (v : ℕ) → holds xs v ≡ true → holds (x ∷ xs) v ≡ true
 later_in x xs v e = or_right (eqb x v) (holds xs v) e
+
+-- what a search for a node finds
+pub ring_any : (ring : List Link) (a : ℕ) → list_any (λ (l : Link). eqb l.node a) ring ≡ in_ring ring a
+ring_any [] a = refl
+ring_any (l ∷ ring) a = ap (λ t. eqb l.node a || t) (ring_any ring a)
+
+-- one node more, that no other is
+pub distinct_cons : (l : Link) (ring : List Link) → list_any (λ (k : Link). eqb k.node l.node) ring ≡ false → IsDistinct nat_eq (nodes_of ring) → IsDistinct nat_eq (nodes_of (l ∷ ring))
+distinct_cons l ring none h = distinct_from_new (nodes_of (l ∷ ring)) (sym (ring_any ring l.node) ∙ none, new_from_distinct (nodes_of ring) h)
+
+pub distinct_none : IsDistinct nat_eq []
+distinct_none = distinct_from_new [] tt

@@ -33,18 +33,18 @@ circuit_node n bs ring a c e = (outermost_parts n bs a (circuit_outer n bs ring 
 -- nodes stay nodes
 pub node_grows : (n : ℕ) (b : Blossom) (older : List Blossom) (a : ℕ) → is_node n older a ≡ true → is_node n (b ∷ older) a ≡ true
 node_grows n b older a e = ⊎_elim
-  (λ v. or_left (is_vertex n a) (holds (names_of (b ∷ older)) a) v)
-  (λ m. or_right (is_vertex n a) (holds (names_of (b ∷ older)) a) (or_right (eqb b.node a) (holds (names_of older) a) m))
-  (or_cases (is_vertex n a) (holds (names_of older) a) e)
+    (λ v. or_left (is_vertex n a) (holds (names_of (b ∷ older)) a) v)
+    (λ m. or_right (is_vertex n a) (holds (names_of (b ∷ older)) a) (or_right (eqb b.node a) (holds (names_of older) a) m))
+    (or_cases (is_vertex n a) (holds (names_of older) a) e)
 
 pub new_is_node : (n : ℕ) (b : Blossom) (older : List Blossom) → is_node n (b ∷ older) b.node ≡ true
 new_is_node n b older = or_right (is_vertex n b.node) (holds (names_of (b ∷ older)) b.node) (or_left (eqb b.node b.node) (holds (names_of older) b.node) (eq-eqb b.node b.node refl))
 
 pub node_before : (n : ℕ) (b : Blossom) (older : List Blossom) (a : ℕ) → eqb b.node a ≡ false → is_node n (b ∷ older) a ≡ true → is_node n older a ≡ true
 node_before n b older a s e = ⊎_elim
-  (λ v. or_left (is_vertex n a) (holds (names_of older) a) v)
-  (λ m. ⊎_elim (λ t. absurd (both_ways (eqb b.node a) s t)) (λ t. or_right (is_vertex n a) (holds (names_of older) a) t) (or_cases (eqb b.node a) (holds (names_of older) a) m))
-  (or_cases (is_vertex n a) (holds (names_of (b ∷ older)) a) e)
+    (λ v. or_left (is_vertex n a) (holds (names_of older) a) v)
+    (λ m. ⊎_elim (λ t. absurd (both_ways (eqb b.node a) s t)) (λ t. or_right (is_vertex n a) (holds (names_of older) a) t) (or_cases (eqb b.node a) (holds (names_of older) a) m))
+    (or_cases (is_vertex n a) (holds (names_of (b ∷ older)) a) e)
 
 pub vertex_is_node : (n : ℕ) (bs : List Blossom) (v : ℕ) → is_vertex n v ≡ true → is_node n bs v ≡ true
 vertex_is_node n bs v e = or_left (is_vertex n v) (holds (names_of bs) v) e
@@ -62,16 +62,16 @@ range_vertex n v low high = and_from (leb 1 v) (leb v n) (le-leb 1 v low) (le-le
 pub name_range : (n : ℕ) (bs : List Blossom) (a : ℕ) → IsNested n bs → holds (names_of bs) a ≡ true → (n < a) × (a ≤ n + room_of n)
 name_range n [] a h e = absurd (both_ways false refl e)
 name_range n (b ∷ older) a h e = ⊎_elim
-  (λ s. let same : b.node ≡ a = eqb-true b.node a s in let low : n < b.node = h.0.after_vertices in let high : b.node ≤ n + room_of n = h.0.within_room in (subst (λ x. n < x) same low, subst (λ x. x ≤ n + room_of n) same high))
-  (λ m. name_range n older a h.1 m)
-  (or_cases (eqb b.node a) (holds (names_of older) a) e)
+    (λ s. let same : b.node ≡ a = eqb-true b.node a s in let low : n < b.node = h.0.after_vertices in let high : b.node ≤ n + room_of n = h.0.within_room in (subst (λ x. n < x) same low, subst (λ x. x ≤ n + room_of n) same high))
+    (λ m. name_range n older a h.1 m)
+    (or_cases (eqb b.node a) (holds (names_of older) a) e)
 
 -- a node's number lies in range
 pub node_range : (n : ℕ) (bs : List Blossom) (a : ℕ) → IsNested n bs → is_node n bs a ≡ true → (1 ≤ a) × (a ≤ n + room_of n)
 node_range n bs a h e = ⊎_elim
-  (λ v. let r = vertex_range n a v in (r.0, omega (arith, r.1)))
-  (λ m. let r = name_range n bs a h m in (omega (arith, r.0), r.1))
-  (or_cases (is_vertex n a) (holds (names_of bs) a) e)
+    (λ v. let r = vertex_range n a v in (r.0, omega (arith, r.1)))
+    (λ m. let r = name_range n bs a h m in (omega (arith, r.0), r.1))
+    (or_cases (is_vertex n a) (holds (names_of bs) a) e)
 
 pub name_no_vertex : (n : ℕ) (bs : List Blossom) (a : ℕ) → IsNested n bs → holds (names_of bs) a ≡ true → is_vertex n a ≡ false
 name_no_vertex n bs a h e = let r = name_range n bs a h e in false_from_ne_true (is_vertex n a) (λ v. let s = vertex_range n a v in absurd (omega (arith, r.0, s.1)))
@@ -80,9 +80,9 @@ name_no_vertex n bs a h e = let r = name_range n bs a h e in false_from_ne_true 
 pub child_is_node : (n : ℕ) (bs : List Blossom) (a : ℕ) → IsNested n bs → is_child bs a ≡ true → is_node n bs a ≡ true
 child_is_node n [] a h e = absurd (both_ways false refl e)
 child_is_node n (b ∷ older) a h e = ⊎_elim
-  (λ here. node_grows n b older a (circuit_node n older b.ring a h.0.circuit here))
-  (λ more. node_grows n b older a (child_is_node n older a h.1 more))
-  (or_cases (in_ring b.ring a) (is_child older a) e)
+    (λ here. node_grows n b older a (circuit_node n older b.ring a h.0.circuit here))
+    (λ more. node_grows n b older a (child_is_node n older a h.1 more))
+    (or_cases (in_ring b.ring a) (is_child older a) e)
 
 -- the newest node is in no ring
 pub new_free : (n : ℕ) (b : Blossom) (older : List Blossom) → IsNested n (b ∷ older) → (in_ring b.ring b.node ≡ false) × (is_child older b.node ≡ false)
@@ -154,7 +154,7 @@ pub new-outer_nodes : (n : ℕ) (bs : List Blossom) → IsNested n bs → AllNew
 new-outer_nodes n [] h = new-vertices n
 new-outer_nodes n (b ∷ older) h = (
   holds-filter (λ a. not (in_ring b.ring a)) (outer_nodes n older) b.node
-  ∙ and_left (holds (outer_nodes n older) b.node) (not (in_ring b.ring b.node)) (holds-outer_nodes n older b.node h.1 ∙ and_left (is_node n older b.node) (not (is_child older b.node)) h.0.fresh),
+      ∙ and_left (holds (outer_nodes n older) b.node) (not (in_ring b.ring b.node)) (holds-outer_nodes n older b.node h.1 ∙ and_left (is_node n older b.node) (not (is_child older b.node)) h.0.fresh),
   new-filter (λ a. not (in_ring b.ring a)) (outer_nodes n older) (new-outer_nodes n older h.1),
 )
 

@@ -31,9 +31,9 @@ ring_members n (b ∷ older) a h k =
     by_test (eqb b.node a)
     (λ e. members_here b older a e ∙ h.0.union ∙ sym (union_past b older b.ring free.0) ∙ ap (λ q. union_of (b ∷ older) (cond q b.ring (ring_of older a))) (sym e))
     (λ e.
-      let there : holds (names_of older) a ≡ true = ⊎_elim (λ s. absurd (both_ways (eqb b.node a) e s)) (λ m. m) (or_cases (eqb b.node a) (holds (names_of older) a) k) in
-      let out : in_ring (ring_of older a) b.node ≡ false = false_from_ne_true (in_ring (ring_of older a) b.node) (λ r. both_ways (is_child older b.node) free.1 (ring_child older a b.node r)) in
-      members_past b older a e ∙ ring_members n older a h.1 there ∙ sym (union_past b older (ring_of older a) out) ∙ ap (λ q. union_of (b ∷ older) (cond q b.ring (ring_of older a))) (sym e))
+    let there : holds (names_of older) a ≡ true = ⊎_elim (λ s. absurd (both_ways (eqb b.node a) e s)) (λ m. m) (or_cases (eqb b.node a) (holds (names_of older) a) k) in
+    let out : in_ring (ring_of older a) b.node ≡ false = false_from_ne_true (in_ring (ring_of older a) b.node) (λ r. both_ways (is_child older b.node) free.1 (ring_child older a b.node r)) in
+    members_past b older a e ∙ ring_members n older a h.1 there ∙ sym (union_past b older (ring_of older a) out) ∙ ap (λ q. union_of (b ∷ older) (cond q b.ring (ring_of older a))) (sym e))
 
 pub child_parent : (n : ℕ) (bs : List Blossom) (x : ℕ) → IsNested n bs → is_child bs x ≡ true → parent_of bs x ≢ 0
 child_parent n [] x h e z = both_ways false refl e
@@ -50,7 +50,7 @@ child_outer n bs a c h free r =
     and_from (is_node n (without bs a) c) (not (is_child (without bs a) c))
     (node_without n bs a c (ring_other bs a c free r) ∙ child_is_node n bs c h (ring_child bs a c r))
     (ap not (false_from_ne_true (is_child (without bs a) c) (λ e.
-      child_parent n (without bs a) c (nested_without n bs a h free) e (parent_without n bs a c h ∙ ap (λ q. cond q 0 (parent_of bs c)) r))))
+    child_parent n (without bs a) c (nested_without n bs a h free) e (parent_without n bs a c h ∙ ap (λ q. cond q 0 (parent_of bs c)) r))))
 
 -- the table of outermost nodes once each child is put at its vertices
 pub outermost_lowered : (n : ℕ) (bs : List Blossom) (a v : ℕ) (t : List ℕ) (run : ℕ → List ℕ) → IsNested n bs → holds (names_of bs) a ≡ true → is_child bs a ≡ false → is_vertex n v ≡ true → v < length t
@@ -63,17 +63,17 @@ outermost_lowered n bs a v t run h k free iv low runs was =
     outermost_by_member n (without bs a) c v nested (child_outer n bs a c h free r) (ap (λ ms. holds ms v) (members_without bs a c (ring_other bs a c free r)) ∙ m) in
     by_test (holds (members_of bs a) v)
     (λ m.
-      let found = of_union bs ring v (sym (ap (λ ms. holds ms v) (ring_members n bs a h k)) ∙ m) in
-      let is : outermost (without bs a) v ≡ found.node = tells found.node found.within found.has in
-      lowered_in t run (nodes_of ring) v found.node low found.within (ap (λ ms. holds ms v) (runs found.node found.within) ∙ found.has)
-      (λ c r e. sym (tells c r (sym (ap (λ ms. holds ms v) (runs c r)) ∙ e)) ∙ is)
-      ∙ sym is)
+    let found = of_union bs ring v (sym (ap (λ ms. holds ms v) (ring_members n bs a h k)) ∙ m) in
+    let is : outermost (without bs a) v ≡ found.node = tells found.node found.within found.has in
+    lowered_in t run (nodes_of ring) v found.node low found.within (ap (λ ms. holds ms v) (runs found.node found.within) ∙ found.has)
+    (λ c r e. sym (tells c r (sym (ap (λ ms. holds ms v) (runs c r)) ∙ e)) ∙ is)
+    ∙ sym is)
     (λ m.
-      let has = outermost_has n bs v h iv in
-      let o : ℕ = outermost bs v in
-      let ne : eqb a o ≡ false = ne_eqb a o (λ s. both_ways (holds (members_of bs a) v) m (ap (λ x. holds (members_of bs x) v) s ∙ has.1)) in
-      lowered_out t run (nodes_of ring) v low
-      (λ c r. false_from_ne_true (holds (run c) v) (λ e. both_ways (holds (members_of bs a) v) m
-        (ap (λ ms. holds ms v) (ring_members n bs a h k) ∙ in_union bs ring c v r (sym (ap (λ ms. holds ms v) (runs c r)) ∙ e))))
-      ∙ was
-      ∙ sym (outermost_by_member n (without bs a) o v nested (outermost_stays n bs a o ne has.0) (ap (λ ms. holds ms v) (members_without bs a o ne) ∙ has.1)))
+    let has = outermost_has n bs v h iv in
+    let o : ℕ = outermost bs v in
+    let ne : eqb a o ≡ false = ne_eqb a o (λ s. both_ways (holds (members_of bs a) v) m (ap (λ x. holds (members_of bs x) v) s ∙ has.1)) in
+    lowered_out t run (nodes_of ring) v low
+    (λ c r. false_from_ne_true (holds (run c) v) (λ e. both_ways (holds (members_of bs a) v) m
+    (ap (λ ms. holds ms v) (ring_members n bs a h k) ∙ in_union bs ring c v r (sym (ap (λ ms. holds ms v) (runs c r)) ∙ e))))
+    ∙ was
+    ∙ sym (outermost_by_member n (without bs a) o v nested (outermost_stays n bs a o ne has.0) (ap (λ ms. holds ms v) (members_without bs a o ne) ∙ has.1)))

@@ -83,10 +83,10 @@ chain_node n [] v x iv e = ⊎_elim (λ s. or_left (is_vertex n x) false (ap (is
 chain_node n (b ∷ older) v x iv e =
     by_test (holds b.members v)
     (λ m. ⊎_elim
-      (λ r. node_grows n b older x (chain_node n older v x iv r))
-      (λ r. ⊎_elim (λ s. subst (λ y. is_node n (b ∷ older) y ≡ true) (eqb-true b.node x s) (new_is_node n b older)) (λ f. absurd (both_ways false refl f)) (or_cases (eqb b.node x) false r))
-      (or_cases (holds (chain_of older v) x) (holds (b.node ∷ []) x)
-        (sym (holds-append (chain_of older v) (b.node ∷ []) x) ∙ sym (ap (λ q. holds (cond q (chain_of older v ++ b.node ∷ []) (chain_of older v)) x) m) ∙ e)))
+    (λ r. node_grows n b older x (chain_node n older v x iv r))
+    (λ r. ⊎_elim (λ s. subst (λ y. is_node n (b ∷ older) y ≡ true) (eqb-true b.node x s) (new_is_node n b older)) (λ f. absurd (both_ways false refl f)) (or_cases (eqb b.node x) false r))
+    (or_cases (holds (chain_of older v) x) (holds (b.node ∷ []) x)
+    (sym (holds-append (chain_of older v) (b.node ∷ []) x) ∙ sym (ap (λ q. holds (cond q (chain_of older v ++ b.node ∷ []) (chain_of older v)) x) m) ∙ e)))
     (λ m. node_grows n b older x (chain_node n older v x iv (sym (ap (λ q. holds (cond q (chain_of older v ++ b.node ∷ []) (chain_of older v)) x) m) ∙ e)))
 
 pub chain_nonzero : (n : ℕ) (bs : List Blossom) (v : ℕ) → IsNested n bs → is_vertex n v ≡ true → AllByRecursion (λ x. x ≢ 0) (chain_of bs v)
@@ -99,21 +99,21 @@ chain_up n (b ∷ older) v h iv =
     let below = chain_up n older v h.1 iv in
     let nz = chain_nonzero n older v h.1 iv in
     let same : (x : ℕ) → parent_of older x ≢ 0 → parent_of (b ∷ older) x ≡ parent_of older x = λ x ne.
-        ap (λ q. cond q b.node (parent_of older x)) (false_from_ne_true (in_ring b.ring x) (λ r. both_ways (is_child older x) (child_free n older b x h.0 r) (parent_child older x ne))) in
+    ap (λ q. cond q b.node (parent_of older x)) (false_from_ne_true (in_ring b.ring x) (λ r. both_ways (is_child older x) (child_free n older b x h.0 r) (parent_child older x ne))) in
     let o : ℕ = outermost older v in
     let last : last_of 0 (chain_of older v) ≡ o = chain_last older 0 v in
     by_test (holds b.members v)
     (λ m.
-      let in_it : in_ring b.ring o ≡ true = sym (member_by_ring n older b v h iv) ∙ m in
-      subst (λ q. IsUp (parent_of (b ∷ older)) (cond q (chain_of older v ++ b.node ∷ []) (chain_of older v))) (sym m)
-      (up_more (parent_of older) (parent_of (b ∷ older)) 0 b.node (chain_of older v) (chain_some older v) below nz same
-      (ap (parent_of (b ∷ older)) last ∙ ap (λ q. cond q b.node (parent_of older o)) in_it)
-      (free_parent (b ∷ older) b.node (new_no_child n b older h))))
+    let in_it : in_ring b.ring o ≡ true = sym (member_by_ring n older b v h iv) ∙ m in
+    subst (λ q. IsUp (parent_of (b ∷ older)) (cond q (chain_of older v ++ b.node ∷ []) (chain_of older v))) (sym m)
+    (up_more (parent_of older) (parent_of (b ∷ older)) 0 b.node (chain_of older v) (chain_some older v) below nz same
+    (ap (parent_of (b ∷ older)) last ∙ ap (λ q. cond q b.node (parent_of older o)) in_it)
+    (free_parent (b ∷ older) b.node (new_no_child n b older h))))
     (λ m.
-      let out : in_ring b.ring o ≡ false = sym (member_by_ring n older b v h iv) ∙ m in
-      subst (λ q. IsUp (parent_of (b ∷ older)) (cond q (chain_of older v ++ b.node ∷ []) (chain_of older v))) (sym m)
-      (up_keep (parent_of older) (parent_of (b ∷ older)) 0 (chain_of older v) below nz same
-      (ap (parent_of (b ∷ older)) last ∙ ap (λ q. cond q b.node (parent_of older o)) out ∙ free_parent older o (outermost_free n older v h.1 iv))))
+    let out : in_ring b.ring o ≡ false = sym (member_by_ring n older b v h iv) ∙ m in
+    subst (λ q. IsUp (parent_of (b ∷ older)) (cond q (chain_of older v ++ b.node ∷ []) (chain_of older v))) (sym m)
+    (up_keep (parent_of older) (parent_of (b ∷ older)) 0 (chain_of older v) below nz same
+    (ap (parent_of (b ∷ older)) last ∙ ap (λ q. cond q b.node (parent_of older o)) out ∙ free_parent older o (outermost_free n older v h.1 iv))))
 
 -- a climb by the table gives the chain
 climb_zero : (k : ℕ) (ps : List ℕ) → climb k ps 0 ≡ []
@@ -179,7 +179,7 @@ older_fresh n (b ∷ older) a h k =
     by_test (eqb b.node a)
     (λ e. ap (λ q. is_node n (cond q older (older_than older a)) a) e ∙ ap (is_node n older) (sym (eqb-true b.node a e)) ∙ h.0.fresh)
     (λ e. ap (λ q. is_node n (cond q older (older_than older a)) a) e
-      ∙ older_fresh n older a h.1 (⊎_elim (λ s. absurd (both_ways (eqb b.node a) e s)) (λ m. m) (or_cases (eqb b.node a) (holds (names_of older) a) k)))
+    ∙ older_fresh n older a h.1 (⊎_elim (λ s. absurd (both_ways (eqb b.node a) e s)) (λ m. m) (or_cases (eqb b.node a) (holds (names_of older) a) k)))
 
 pub older_short : (bs : List Blossom) (a : ℕ) → length (older_than bs a) ≤ length bs
 older_short [] a = omega arith
@@ -197,16 +197,19 @@ chain_through [] a v k m = absurd (both_ways false refl k)
 chain_through (b ∷ older) a v k m =
     by_test (eqb b.node a)
     (λ e.
-      let held : holds b.members v ≡ true = sym (ap (λ ms. holds ms v) (members_here b older a e)) ∙ m in
-      let below : chain_of (older_than (b ∷ older) a) v ≡ chain_of older v = ap (λ q. chain_of (cond q older (older_than older a)) v) e in
-      ([], ap (λ q. cond q (chain_of older v ++ b.node ∷ []) (chain_of older v)) held ∙ ap (λ c. chain_of older v ++ c ∷ []) (eqb-true b.node a e) ∙ ap (λ c. c ++ a ∷ []) (sym below)))
+    let held : holds b.members v ≡ true = sym (ap (λ ms. holds ms v) (members_here b older a e)) ∙ m in
+    let below : chain_of (older_than (b ∷ older) a) v ≡ chain_of older v = ap (λ q. chain_of (cond q older (older_than older a)) v) e in
+    ([], ap (λ q. cond q (chain_of older v ++ b.node ∷ []) (chain_of older v)) held ∙ ap (λ c. chain_of older v ++ c ∷ []) (eqb-true b.node a e) ∙ ap (λ c. c ++ a ∷ []) (sym below)))
     (λ e.
-      let r = chain_through older a v (⊎_elim (λ s. absurd (both_ways (eqb b.node a) e s)) (λ m. m) (or_cases (eqb b.node a) (holds (names_of older) a) k)) (sym (ap (λ ms. holds ms v) (members_past b older a e)) ∙ m) in
-      let below : chain_of (older_than (b ∷ older) a) v ≡ chain_of (older_than older a) v = ap (λ q. chain_of (cond q older (older_than older a)) v) e in
-      by_test (holds b.members v)
-      (λ held. (r.0 ++ b.node ∷ [], ap (λ q. cond q (chain_of older v ++ b.node ∷ []) (chain_of older v)) held ∙ ap (λ c. c ++ b.node ∷ []) r.1
-        ∙ append_assoc (chain_of (older_than older a) v) (a ∷ r.0) (b.node ∷ []) ∙ ap (λ c. c ++ (a ∷ (r.0 ++ b.node ∷ []))) (sym below)))
-      (λ held. (r.0, ap (λ q. cond q (chain_of older v ++ b.node ∷ []) (chain_of older v)) held ∙ r.1 ∙ ap (λ c. c ++ (a ∷ r.0)) (sym below))))
+    let r = chain_through older a v (⊎_elim (λ s. absurd (both_ways (eqb b.node a) e s)) (λ m. m) (or_cases (eqb b.node a) (holds (names_of older) a) k)) (sym (ap (λ ms. holds ms v) (members_past b older a e)) ∙ m) in
+    let below : chain_of (older_than (b ∷ older) a) v ≡ chain_of (older_than older a) v = ap (λ q. chain_of (cond q older (older_than older a)) v) e in
+    by_test (holds b.members v)
+    (λ held. (
+      r.0 ++ b.node ∷ [],
+      ap (λ q. cond q (chain_of older v ++ b.node ∷ []) (chain_of older v)) held ∙ ap (λ c. c ++ b.node ∷ []) r.1
+          ∙ append_assoc (chain_of (older_than older a) v) (a ∷ r.0) (b.node ∷ []) ∙ ap (λ c. c ++ (a ∷ (r.0 ++ b.node ∷ []))) (sym below),
+    ))
+    (λ held. (r.0, ap (λ q. cond q (chain_of older v ++ b.node ∷ []) (chain_of older v)) held ∙ r.1 ∙ ap (λ c. c ++ (a ∷ r.0)) (sym below))))
 
 pub climb_child : (n : ℕ) (bs : List Blossom) (ps : List ℕ) (a v : ℕ) → IsNested n bs → is_vertex n v ≡ true → holds (names_of bs) a ≡ true → holds (members_of bs a) v ≡ true
     → ((x : ℕ) → x ≤ n + room_of n → get_or ps x 0 ≡ parent_of bs x) → length ps ≡ n + room_of n + 1 → climb_to (length ps) ps a v ≡ child_holding bs a v
@@ -238,15 +241,15 @@ nothing x xs s = cc
 -- a climb that more steps don't change isn't changed by still more
 climb_settled : (k : ℕ) (ps : List ℕ) (x : ℕ) → climb k ps x ≡ climb (suc k) ps x → climb (suc k) ps x ≡ climb (suc (suc k)) ps x
 climb_settled zero ps x e = ⊎_elim
-  (λ z. ap (climb 1 ps) z ∙ sym (ap (climb 2 ps) z))
-  (λ ne. absurd (nothing x (climb zero ps (get_or ps x 0)) (e ∙ climb_past zero ps x ne)))
-  (cases_eq x 0)
+    (λ z. ap (climb 1 ps) z ∙ sym (ap (climb 2 ps) z))
+    (λ ne. absurd (nothing x (climb zero ps (get_or ps x 0)) (e ∙ climb_past zero ps x ne)))
+    (cases_eq x 0)
 climb_settled (suc k) ps x e = ⊎_elim
-  (λ z. ap (climb (suc (suc k)) ps) z ∙ sym (ap (climb (suc (suc (suc k))) ps) z))
-  (λ ne. climb_past (suc k) ps x ne
+    (λ z. ap (climb (suc (suc k)) ps) z ∙ sym (ap (climb (suc (suc (suc k))) ps) z))
+    (λ ne. climb_past (suc k) ps x ne
     ∙ ap (λ t. x ∷ t) (climb_settled k ps (get_or ps x 0) (cut_head x x (climb k ps (get_or ps x 0)) (climb (suc k) ps (get_or ps x 0)) (sym (climb_past k ps x ne) ∙ e ∙ climb_past (suc k) ps x ne)))
     ∙ sym (climb_past (suc (suc k)) ps x ne))
-  (cases_eq x 0)
+    (cases_eq x 0)
 
 -- the next node of a chain
 pub record IsStep (ps : List ℕ) (x : ℕ) : Type 0 where

@@ -29,9 +29,9 @@ union_cons bs l ring v =
 pub in_union : (bs : List Blossom) (ring : List Link) (a v : ℕ) → in_ring ring a ≡ true → holds (members_of bs a) v ≡ true → holds (union_of bs ring) v ≡ true
 in_union bs [] a v r m = absurd (both_ways false refl r)
 in_union bs (l ∷ ring) a v r m = union_cons bs l ring v ∙ ⊎_elim
-  (λ s. or_left (holds (members_of bs l.node) v) (holds (union_of bs ring) v) (ap (λ x. holds (members_of bs x) v) (eqb-true l.node a s) ∙ m))
-  (λ t. or_right (holds (members_of bs l.node) v) (holds (union_of bs ring) v) (in_union bs ring a v t m))
-  (or_cases (eqb l.node a) (in_ring ring a) r)
+    (λ s. or_left (holds (members_of bs l.node) v) (holds (union_of bs ring) v) (ap (λ x. holds (members_of bs x) v) (eqb-true l.node a s) ∙ m))
+    (λ t. or_right (holds (members_of bs l.node) v) (holds (union_of bs ring) v) (in_union bs ring a v t m))
+    (or_cases (eqb l.node a) (in_ring ring a) r)
 
 -- a node of a circuit that has the vertex
 pub record HasIn (bs : List Blossom) (ring : List Link) (v : ℕ) : Type 0 where
@@ -42,20 +42,20 @@ pub record HasIn (bs : List Blossom) (ring : List Link) (v : ℕ) : Type 0 where
 pub of_union : (bs : List Blossom) (ring : List Link) (v : ℕ) → holds (union_of bs ring) v ≡ true → HasIn bs ring v
 of_union bs [] v e = absurd (both_ways false refl e)
 of_union bs (l ∷ ring) v e = ⊎_elim
-  (λ here. record { node = l.node; within = first_in l.node (nodes_of ring); has = here })
-  (λ more. let r = of_union bs ring v more in record { node = r.node; within = later_in l.node (nodes_of ring) r.node r.within; has = r.has })
-  (or_cases (holds (members_of bs l.node) v) (holds (union_of bs ring) v) (sym (union_cons bs l ring v) ∙ e))
+    (λ here. record { node = l.node; within = first_in l.node (nodes_of ring); has = here })
+    (λ more. let r = of_union bs ring v more in record { node = r.node; within = later_in l.node (nodes_of ring) r.node r.within; has = r.has })
+    (or_cases (holds (members_of bs l.node) v) (holds (union_of bs ring) v) (sym (union_cons bs l ring v) ∙ e))
 
 -- members are vertices
 pub member_vertex : (n : ℕ) (bs : List Blossom) (x v : ℕ) → IsNested n bs → is_node n bs x ≡ true → holds (members_of bs x) v ≡ true → is_vertex n v ≡ true
 member_vertex n [] x v h k m = ⊎_elim
-  (λ iv. ⊎_elim (λ s. subst (λ y. is_vertex n y ≡ true) (eqb-true x v s) iv) (λ f. absurd (both_ways false refl f)) (or_cases (eqb x v) false m))
-  (λ f. absurd (both_ways false refl f))
-  (or_cases (is_vertex n x) false k)
+    (λ iv. ⊎_elim (λ s. subst (λ y. is_vertex n y ≡ true) (eqb-true x v s) iv) (λ f. absurd (both_ways false refl f)) (or_cases (eqb x v) false m))
+    (λ f. absurd (both_ways false refl f))
+    (or_cases (is_vertex n x) false k)
 member_vertex n (b ∷ older) x v h k m =
     by_test (eqb b.node x)
     (λ e. let r = of_union older b.ring v (sym (ap (λ ms. holds ms v) (members_here b older x e ∙ h.0.union)) ∙ m) in
-        member_vertex n older r.node v h.1 (circuit_node n older b.ring r.node h.0.circuit r.within) r.has)
+    member_vertex n older r.node v h.1 (circuit_node n older b.ring r.node h.0.circuit r.within) r.has)
     (λ e. member_vertex n older x v h.1 (node_before n b older x e k) (sym (ap (λ ms. holds ms v) (members_past b older x e)) ∙ m))
 
 -- the outermost node of a vertex is a node
@@ -76,8 +76,8 @@ by_ring n older b v h next tells =
     ap (λ ms. holds ms v) next.union
     ∙ same_tests (holds (union_of older b.ring) v) (in_ring b.ring (outermost older v))
     (λ e. let r = of_union older b.ring v e in
-        let same : r.node ≡ outermost older v = eqb-true r.node (outermost older v) (sym (tells r.node (circuit_outer n older b.ring r.node next.circuit r.within)) ∙ r.has) in
-        subst (λ x. in_ring b.ring x ≡ true) same r.within)
+    let same : r.node ≡ outermost older v = eqb-true r.node (outermost older v) (sym (tells r.node (circuit_outer n older b.ring r.node next.circuit r.within)) ∙ r.has) in
+    subst (λ x. in_ring b.ring x ≡ true) same r.within)
     (λ e. in_union older b.ring (outermost older v) v e (tells (outermost older v) (circuit_outer n older b.ring (outermost older v) next.circuit e) ∙ eq-eqb (outermost older v) (outermost older v) refl))
 
 or_none : (t : Bool) → (t || false) ≡ t
@@ -91,14 +91,14 @@ outer_member n (b ∷ older) v h iv x o =
     let ring = by_ring n older b v h.1 h.0 (outer_member n older v h.1 iv) in
     by_test (eqb b.node x)
     (λ e. ap (λ ms. holds ms v) (members_here b older x e) ∙ by_test (holds b.members v)
-      (λ m. m ∙ sym (ap (λ q. eqb x (cond q b.node (outermost older v))) m ∙ eq-eqb x b.node (sym (eqb-true b.node x e))))
-      (λ m. m ∙ sym (ap (λ q. eqb x (cond q b.node (outermost older v))) m
-        ∙ ne_eqb x (outermost older v) (λ s. both_ways (is_node n older b.node) h.0.fresh (ap (is_node n older) (eqb-true b.node x e ∙ s) ∙ outermost_node n older v iv)))))
+    (λ m. m ∙ sym (ap (λ q. eqb x (cond q b.node (outermost older v))) m ∙ eq-eqb x b.node (sym (eqb-true b.node x e))))
+    (λ m. m ∙ sym (ap (λ q. eqb x (cond q b.node (outermost older v))) m
+    ∙ ne_eqb x (outermost older v) (λ s. both_ways (is_node n older b.node) h.0.fresh (ap (is_node n older) (eqb-true b.node x e ∙ s) ∙ outermost_node n older v iv)))))
     (λ e. let p = outermost_before n b older x e o in
-      ap (λ ms. holds ms v) (members_past b older x e) ∙ outer_member n older v h.1 iv x p.0 ∙ by_test (holds b.members v)
-      (λ m. ne_eqb x (outermost older v) (λ s. both_ways (in_ring b.ring x) p.1 (ap (in_ring b.ring) s ∙ sym ring ∙ m))
-        ∙ sym (ap (λ q. eqb x (cond q b.node (outermost older v))) m ∙ ne_eqb x b.node (λ s. eqb-false b.node x e (sym s))))
-      (λ m. sym (ap (λ q. eqb x (cond q b.node (outermost older v))) m)))
+    ap (λ ms. holds ms v) (members_past b older x e) ∙ outer_member n older v h.1 iv x p.0 ∙ by_test (holds b.members v)
+    (λ m. ne_eqb x (outermost older v) (λ s. both_ways (in_ring b.ring x) p.1 (ap (in_ring b.ring) s ∙ sym ring ∙ m))
+    ∙ sym (ap (λ q. eqb x (cond q b.node (outermost older v))) m ∙ ne_eqb x b.node (λ s. eqb-false b.node x e (sym s))))
+    (λ m. sym (ap (λ q. eqb x (cond q b.node (outermost older v))) m)))
 
 -- a vertex is in a blossom exactly if its outermost node before was in the ring
 pub member_by_ring : (n : ℕ) (older : List Blossom) (b : Blossom) (v : ℕ) → IsNested n (b ∷ older) → is_vertex n v ≡ true → holds b.members v ≡ in_ring b.ring (outermost older v)
@@ -111,7 +111,7 @@ outermost_free n (b ∷ older) v h iv =
     by_test (holds b.members v)
     (λ m. ap (λ q. is_child (b ∷ older) (cond q b.node (outermost older v))) m ∙ new_no_child n b older h)
     (λ m. ap (λ q. is_child (b ∷ older) (cond q b.node (outermost older v))) m
-      ∙ or_from (in_ring b.ring (outermost older v)) (is_child older (outermost older v)) (sym (member_by_ring n older b v h iv) ∙ m) (outermost_free n older v h.1 iv))
+    ∙ or_from (in_ring b.ring (outermost older v)) (is_child older (outermost older v)) (sym (member_by_ring n older b v h iv) ∙ m) (outermost_free n older v h.1 iv))
 
 -- and holds it
 pub outermost_has : (n : ℕ) (bs : List Blossom) (v : ℕ) → IsNested n bs → is_vertex n v ≡ true → (is_outermost n bs (outermost bs v) ≡ true) × (holds (members_of bs (outermost bs v)) v ≡ true)
@@ -139,18 +139,18 @@ union_new n bs (l ∷ ring) h d each =
     (new-append (members_of bs l.node) (union_of bs ring) here.1
     (union_new n bs ring h d.1 (λ a r. each a (later_in l.node (nodes_of ring) a r)))
     (λ v m. false_from_ne_true (holds (union_of bs ring) v) (λ u.
-      let r = of_union bs ring v u in
-      let other = each r.node (later_in l.node (nodes_of ring) r.node r.within) in
-      let same : r.node ≡ l.node = sym (outermost_by_member n bs r.node v h other.0 r.has) ∙ outermost_by_member n bs l.node v h here.0 m in
-      both_ways (holds (nodes_of ring) l.node) d.0 (ap (in_ring ring) (sym same) ∙ r.within))))
+    let r = of_union bs ring v u in
+    let other = each r.node (later_in l.node (nodes_of ring) r.node r.within) in
+    let same : r.node ≡ l.node = sym (outermost_by_member n bs r.node v h other.0 r.has) ∙ outermost_by_member n bs l.node v h here.0 m in
+    both_ways (holds (nodes_of ring) l.node) d.0 (ap (in_ring ring) (sym same) ∙ r.within))))
 
 pub members_new : (n : ℕ) (bs : List Blossom) (x : ℕ) → IsNested n bs → is_node n bs x ≡ true → AllNew (members_of bs x)
 members_new n [] x h k = (refl, tt)
 members_new n (b ∷ older) x h k =
     by_test (eqb b.node x)
     (λ e. subst AllNew (sym (members_here b older x e ∙ h.0.union))
-      (union_new n older b.ring h.1 (new_from_distinct (nodes_of b.ring) h.0.circuit.different)
-      (λ a r. (circuit_outer n older b.ring a h.0.circuit r, members_new n older a h.1 (circuit_node n older b.ring a h.0.circuit r)))))
+    (union_new n older b.ring h.1 (new_from_distinct (nodes_of b.ring) h.0.circuit.different)
+    (λ a r. (circuit_outer n older b.ring a h.0.circuit r, members_new n older a h.1 (circuit_node n older b.ring a h.0.circuit r)))))
     (λ e. subst AllNew (sym (members_past b older x e)) (members_new n older x h.1 (node_before n b older x e k)))
 
 -- an odd number of them
@@ -167,7 +167,7 @@ members_odd n [] x h k = refl
 members_odd n (b ∷ older) x h k =
     by_test (eqb b.node x)
     (λ e. ap (λ ms. length ms % 2) (members_here b older x e ∙ h.0.union)
-      ∙ (union_odd older b.ring (λ a r. members_odd n older a h.1 (circuit_node n older b.ring a h.0.circuit r))).0 ∙ h.0.circuit.odd)
+    ∙ (union_odd older b.ring (λ a r. members_odd n older a h.1 (circuit_node n older b.ring a h.0.circuit r))).0 ∙ h.0.circuit.odd)
     (λ e. ap (λ ms. length ms % 2) (members_past b older x e) ∙ members_odd n older x h.1 (node_before n b older x e k))
 
 pub members_some : (n : ℕ) (bs : List Blossom) (x : ℕ) → IsNested n bs → is_node n bs x ≡ true → 1 ≤ length (members_of bs x)
@@ -179,9 +179,9 @@ members_three n [] x h k = absurd (both_ways false refl k)
 members_three n (b ∷ older) x h k =
     by_test (eqb b.node x)
     (λ e. let sizes = (union_odd older b.ring (λ a r. members_odd n older a h.1 (circuit_node n older b.ring a h.0.circuit r))).1 in
-        omega (arith, sizes, h.0.circuit.at_least_three, ap length (members_here b older x e ∙ h.0.union)))
+    omega (arith, sizes, h.0.circuit.at_least_three, ap length (members_here b older x e ∙ h.0.union)))
     (λ e. subst (λ ms. 3 ≤ length ms) (sym (members_past b older x e))
-      (members_three n older x h.1 (⊎_elim (λ s. absurd (both_ways (eqb b.node x) e s)) (λ m. m) (or_cases (eqb b.node x) (holds (names_of older) x) k))))
+    (members_three n older x h.1 (⊎_elim (λ s. absurd (both_ways (eqb b.node x) e s)) (λ m. m) (or_cases (eqb b.node x) (holds (names_of older) x) k))))
 
 -- a vertex has itself alone
 pub members_of_vertex : (n : ℕ) (bs : List Blossom) (v : ℕ) → IsNested n bs → is_vertex n v ≡ true → members_of bs v ≡ v ∷ []

@@ -196,10 +196,9 @@ module _ (a : Inside) (duals : Vec ℤ) (parents nexts edges outer followers old
     tails_differ x y k e (l ∷ ls) sub =
         let in_it : in_ring ring l.node ≡ true = sub l.node (first_in l.node (nodes_of ls)) in
         let outer_is = circuit_outer n bs ring l.node c in_it in
-        let last = (node_run a s l.node (circuit_node n bs ring l.node c in_it)).tail in
-        (
+        let last = (node_run a s l.node (circuit_node n bs ring l.node c in_it)).tail in (
           (λ same. both_ways (holds (front (members_of bs x)) (last_of 0 (members_of bs l.node))) (tails_apart n bs l.node x s.family.nested outer_is k)
-            (subst (λ z. holds (front (members_of bs x)) z ≡ true) (same ∙ sym last) e)),
+              (subst (λ z. holds (front (members_of bs x)) z ≡ true) (same ∙ sym last) e)),
           tails_differ x y k e ls (λ z m. sub z (later_in l.node (nodes_of ls) z m)),
         )
 
@@ -209,20 +208,20 @@ module _ (a : Inside) (duals : Vec ℤ) (parents nexts edges outer followers old
         subst (λ f. IsRun f (kept_of n a.kept x).run (members_of bs x)) (sym h.followers)
         (run_keeps a.followers.items (joined a.followers.items 0 (runs_of n a.kept ring)) (kept_of n a.kept x).run (members_of bs x) (s.runs x e)
         (λ y m. joined_out a.followers.items 0 (runs_of n a.kept ring) y
-          (λ z. absurd (omega (arith, z, (vertex_range n y (member_vertex n bs x y s.family.nested k (front_sub (members_of bs x) y m))).0)))
-          (tails_differ x y k m ring (λ z r. r))))
+        (λ z. absurd (omega (arith, z, (vertex_range n y (member_vertex n bs x y s.family.nested k (front_sub (members_of bs x) y m))).0)))
+        (tails_differ x y k m ring (λ z r. r))))
 
     runs_after : (x : ℕ) → holds (node ∷ xs) x ≡ true → IsRun followers.items (kept_of n kept x).run (members_of (made_of bs ring node ∷ bs) x)
     runs_after x e =
         by_test (eqb node x)
         (λ same. subst (λ z. IsRun followers.items (kept_of n kept z).run (members_of (made_of bs ring node ∷ bs) z)) (eqb-true node x same)
-          (subst (λ ms. IsRun followers.items (kept_of n kept node).run ms) (sym (ap (λ q. cond q (union_of bs ring) (members_of bs node)) (eq-eqb node node refl)))
-          (subst (λ (k : Kept). IsRun followers.items k.run (union_of bs ring)) (sym kept_new)
-          (subst (λ f. IsRun f (joined_run a ring) (union_of bs ring)) (sym h.followers) joins))))
+        (subst (λ ms. IsRun followers.items (kept_of n kept node).run ms) (sym (ap (λ q. cond q (union_of bs ring) (members_of bs node)) (eq-eqb node node refl)))
+        (subst (λ (k : Kept). IsRun followers.items k.run (union_of bs ring)) (sym kept_new)
+        (subst (λ f. IsRun f (joined_run a ring) (union_of bs ring)) (sym h.followers) joins))))
         (λ other.
-          let there : holds xs x ≡ true = ⊎_elim (λ t. absurd (both_ways (eqb node x) other t)) (λ m. m) (or_cases (eqb node x) (holds xs x) e) in
-          subst (λ ms. IsRun followers.items (kept_of n kept x).run ms) (sym (members_past (made_of bs ring node) bs x other))
-          (subst (λ (k : Kept). IsRun followers.items k.run (members_of bs x)) (sym (kept_same x there)) (run_stays x there)))
+        let there : holds xs x ≡ true = ⊎_elim (λ t. absurd (both_ways (eqb node x) other t)) (λ m. m) (or_cases (eqb node x) (holds xs x) e) in
+        subst (λ ms. IsRun followers.items (kept_of n kept x).run ms) (sym (members_past (made_of bs ring node) bs x other))
+        (subst (λ (k : Kept). IsRun followers.items k.run (members_of bs x)) (sym (kept_same x there)) (run_stays x there)))
 
     pub sound_after : IsSound after
     sound_after = record {

@@ -46,19 +46,19 @@ order_no_zero a s = false_from_ne_true (holds (order_of a) 0) (λ e. absurd (ome
 -- each node has its run
 pub node_run : (a : Inside) → IsSound a → (x : ℕ) → is_node a.vertex_count (blossoms_of a) x ≡ true → IsRun a.followers.items (run_of a.vertex_count a.kept x) (members_of (blossoms_of a) x)
 node_run a s x k = ⊎_elim
-  (λ iv.
+    (λ iv.
     let low : leb x a.vertex_count ≡ true = le-leb x a.vertex_count (vertex_range a.vertex_count x iv).1 in
     let members : members_of (blossoms_of a) x ≡ x ∷ [] = members_of_vertex a.vertex_count (blossoms_of a) x s.family.nested iv in
     let one : Run = record { head = x; tail = x; size = 1 } in
     let alone : IsRun a.followers.items one (x ∷ []) = record { vertices = refl; tail = refl } in
     subst (λ q. IsRun a.followers.items (cond q one (kept_of a.vertex_count a.kept x).run) (members_of (blossoms_of a) x)) (sym low)
     (subst (λ xs. IsRun a.followers.items one xs) (sym members) alone))
-  (λ m.
+    (λ m.
     let there : holds (order_of a) x ≡ true = sym (ap (λ xs. holds xs x) (order_names a)) ∙ m in
     let high : leb x a.vertex_count ≡ false = lt-leb x a.vertex_count (order_range a s x there).0 in
     subst (λ q. IsRun a.followers.items (cond q (record { head = x; tail = x; size = 1 }) (kept_of a.vertex_count a.kept x).run) (members_of (blossoms_of a) x)) (sym high)
     (s.runs x there))
-  (or_cases (is_vertex a.vertex_count x) (holds (names_of (blossoms_of a)) x) k)
+    (or_cases (is_vertex a.vertex_count x) (holds (names_of (blossoms_of a)) x) k)
 
 -- walks stay within the tables
 pub members_within : (a : Inside) → IsSound a → (x : ℕ) → is_node a.vertex_count (blossoms_of a) x ≡ true → AllByRecursion (λ v. v < length a.followers.items) (vertices_of a.followers.items (run_of a.vertex_count a.kept x))
@@ -80,7 +80,7 @@ pub ring_within : (a : Inside) → IsSound a → (x : ℕ) → holds (order_of a
 ring_within a s x there =
     each_from (λ y. (y < length a.nexts.items) × (y < length a.edges.items)) (walk (kept_of a.vertex_count a.kept x).links a.nexts.items (kept_of a.vertex_count a.kept x).first)
     (λ y e. let r = node_range a.vertex_count (blossoms_of a) y s.family.nested (child_is_node a.vertex_count (blossoms_of a) y s.family.nested (ring_walk_child a x y there e)) in
-      (omega (arith, r.1, s.places.nexts), omega (arith, r.1, s.places.edges)))
+    (omega (arith, r.1, s.places.nexts), omega (arith, r.1, s.places.edges)))
 
 pub order_within : (a : Inside) → IsSound a → AllByRecursion (λ x. x < length a.older.items) (order_of a)
 order_within a s = each_from (λ x. x < length a.older.items) (order_of a) (λ x e. omega (arith, (order_range a s x e).1, s.places.older))
@@ -123,11 +123,13 @@ circuit_joins a ring s c =
           (or_cases (eqb 0 v) (holds U v) e);
     } in
     let all = join_is f 0 0 [] bs (run_of n a.kept) ring start (λ x r. let k = circuit_node n bs ring x c r in (node_run a s x k, members_some n bs x s.family.nested k)) in
-    let walked : walk (length U) F (slice_index F 0) ≡ U = tails 0 0 (walk (length U) F (slice_index F 0)) U all.0 in
-    (record {
-      vertices = ap (λ k. walk k F (slice_index F 0)) all.2 ∙ walked;
-      tail = sym all.1;
-    }, all.2)
+    let walked : walk (length U) F (slice_index F 0) ≡ U = tails 0 0 (walk (length U) F (slice_index F 0)) U all.0 in (
+      record {
+        vertices = ap (λ k. walk k F (slice_index F 0)) all.2 ∙ walked;
+        tail = sym all.1;
+      },
+      all.2,
+    )
 
 -- what a join needs
 pub tails_within : (a : Inside) (ring : List Link) → IsSound a → IsCircuit a.vertex_count (blossoms_of a) ring → AllByRecursion (λ (r : Run). r.tail < length a.followers.items) (runs_of a.vertex_count a.kept ring)

@@ -29,9 +29,9 @@ pub front_sub : (xs : List ℕ) (v : ℕ) → holds (front xs) v ≡ true → ho
 front_sub [] v e = e
 front_sub (x ∷ []) v e = absurd (both_ways false refl e)
 front_sub (x ∷ y ∷ rest) v e = ⊎_elim
-  (λ s. subst (λ w. holds (x ∷ y ∷ rest) w ≡ true) (eqb-true x v s) (first_in x (y ∷ rest)))
-  (λ m. later_in x (y ∷ rest) v (front_sub (y ∷ rest) v m))
-  (or_cases (eqb x v) (holds (front (y ∷ rest)) v) e)
+    (λ s. subst (λ w. holds (x ∷ y ∷ rest) w ≡ true) (eqb-true x v s) (first_in x (y ∷ rest)))
+    (λ m. later_in x (y ∷ rest) v (front_sub (y ∷ rest) v m))
+    (or_cases (eqb x v) (holds (front (y ∷ rest)) v) e)
 
 pub last_not_front : (d : ℕ) (xs : List ℕ) → AllNew xs → holds (front xs) (last_of d xs) ≡ false
 last_not_front d [] h = refl
@@ -78,24 +78,24 @@ tails_apart n [] c x h o k = refl
 tails_apart n (b ∷ older) c x h o k =
     by_test (eqb b.node c)
     (λ ec.
-      let last = last_union older b.ring (omega (arith, h.0.circuit.at_least_three)) (λ a r. members_some n older a h.1 (circuit_node n older b.ring a h.0.circuit r)) in
-      let tail : last_of 0 (members_of (b ∷ older) c) ≡ last_of 0 (members_of older last.node) = ap (last_of 0) (members_here b older c ec ∙ h.0.union) ∙ last.last in
-      by_test (eqb b.node x)
-      (λ ex. let same : c ≡ x = sym (eqb-true b.node c ec) ∙ eqb-true b.node x ex in
-        subst (λ y. holds (front (members_of (b ∷ older) y)) (last_of 0 (members_of (b ∷ older) c)) ≡ false) same
-        (last_not_front 0 (members_of (b ∷ older) c) (members_new n (b ∷ older) c h (outermost_parts n (b ∷ older) c o).0)))
-      (λ ex. ap (λ z. holds (front (members_of (b ∷ older) x)) z) tail ∙ ap (λ ms. holds (front ms) (last_of 0 (members_of older last.node))) (members_past b older x ex)
-        ∙ tails_apart n older last.node x h.1 (circuit_outer n older b.ring last.node h.0.circuit last.within) (node_before n b older x ex k)))
+    let last = last_union older b.ring (omega (arith, h.0.circuit.at_least_three)) (λ a r. members_some n older a h.1 (circuit_node n older b.ring a h.0.circuit r)) in
+    let tail : last_of 0 (members_of (b ∷ older) c) ≡ last_of 0 (members_of older last.node) = ap (last_of 0) (members_here b older c ec ∙ h.0.union) ∙ last.last in
+    by_test (eqb b.node x)
+    (λ ex. let same : c ≡ x = sym (eqb-true b.node c ec) ∙ eqb-true b.node x ex in
+    subst (λ y. holds (front (members_of (b ∷ older) y)) (last_of 0 (members_of (b ∷ older) c)) ≡ false) same
+    (last_not_front 0 (members_of (b ∷ older) c) (members_new n (b ∷ older) c h (outermost_parts n (b ∷ older) c o).0)))
+    (λ ex. ap (λ z. holds (front (members_of (b ∷ older) x)) z) tail ∙ ap (λ ms. holds (front ms) (last_of 0 (members_of older last.node))) (members_past b older x ex)
+    ∙ tails_apart n older last.node x h.1 (circuit_outer n older b.ring last.node h.0.circuit last.within) (node_before n b older x ex k)))
     (λ ec.
-      let p = outermost_before n b older c ec o in
-      let node = (outermost_parts n older c p.0).0 in
-      let z : ℕ = last_of 0 (members_of older c) in
-      let tail : last_of 0 (members_of (b ∷ older) c) ≡ z = ap (last_of 0) (members_past b older c ec) in
-      let has : holds (members_of older c) z ≡ true = last_in 0 (members_of older c) (members_some n older c h.1 node) in
-      by_test (eqb b.node x)
-      (λ ex. ap (λ w. holds (front (members_of (b ∷ older) x)) w) tail ∙ ap (λ ms. holds (front ms) z) (members_here b older x ex)
-        ∙ false_from_ne_true (holds (front b.members) z) (λ f.
-          both_ways (in_ring b.ring c) p.1
-          (ap (in_ring b.ring) (sym (outermost_by_member n older c z h.1 p.0 has)) ∙ sym (member_by_ring n older b z h (member_vertex n older c z h.1 node has)) ∙ front_sub b.members z f)))
-      (λ ex. ap (λ w. holds (front (members_of (b ∷ older) x)) w) tail ∙ ap (λ ms. holds (front ms) z) (members_past b older x ex)
-        ∙ tails_apart n older c x h.1 p.0 (node_before n b older x ex k)))
+    let p = outermost_before n b older c ec o in
+    let node = (outermost_parts n older c p.0).0 in
+    let z : ℕ = last_of 0 (members_of older c) in
+    let tail : last_of 0 (members_of (b ∷ older) c) ≡ z = ap (last_of 0) (members_past b older c ec) in
+    let has : holds (members_of older c) z ≡ true = last_in 0 (members_of older c) (members_some n older c h.1 node) in
+    by_test (eqb b.node x)
+    (λ ex. ap (λ w. holds (front (members_of (b ∷ older) x)) w) tail ∙ ap (λ ms. holds (front ms) z) (members_here b older x ex)
+    ∙ false_from_ne_true (holds (front b.members) z) (λ f.
+    both_ways (in_ring b.ring c) p.1
+    (ap (in_ring b.ring) (sym (outermost_by_member n older c z h.1 p.0 has)) ∙ sym (member_by_ring n older b z h (member_vertex n older c z h.1 node has)) ∙ front_sub b.members z f)))
+    (λ ex. ap (λ w. holds (front (members_of (b ∷ older) x)) w) tail ∙ ap (λ ms. holds (front ms) z) (members_past b older x ex)
+    ∙ tails_apart n older c x h.1 p.0 (node_before n b older x ex k)))

@@ -31,7 +31,7 @@ child_without (b ∷ older) a c e =
     by_test (eqb b.node a)
     (λ s. or_right (in_ring b.ring c) (is_child older c) (sym (ap (λ q. is_child (cond q older (b ∷ without older a)) c) s) ∙ e))
     (λ s. ⊎_elim (λ here. or_left (in_ring b.ring c) (is_child older c) here) (λ more. or_right (in_ring b.ring c) (is_child older c) (child_without older a c more))
-      (or_cases (in_ring b.ring c) (is_child (without older a) c) (sym (ap (λ q. is_child (cond q older (b ∷ without older a)) c) s) ∙ e)))
+    (or_cases (in_ring b.ring c) (is_child (without older a) c) (sym (ap (λ q. is_child (cond q older (b ∷ without older a)) c) s) ∙ e)))
 
 pub outermost_stays : (n : ℕ) (bs : List Blossom) (a c : ℕ) → eqb a c ≡ false → is_outermost n bs c ≡ true → is_outermost n (without bs a) c ≡ true
 outermost_stays n bs a c ne o =
@@ -77,14 +77,16 @@ nested_without n (b ∷ older) a h out =
     let parts : (in_ring b.ring a ≡ false) × (is_child older a ≡ false) = or_parts (in_ring b.ring a) (is_child older a) out in
     by_test (eqb b.node a)
     (λ e. subst (λ q. IsNested n (cond q older (b ∷ without older a))) (sym e) h.1)
-    (λ e. subst (λ q. IsNested n (cond q older (b ∷ without older a))) (sym e)
-      (record {
+    (λ e. subst (λ q. IsNested n (cond q older (b ∷ without older a))) (sym e) (
+      record {
         after_vertices = h.0.after_vertices;
         within_room = h.0.within_room;
         fresh = node_without n older a b.node (ne_eqb a b.node (λ s. eqb-false b.node a e (sym s))) ∙ h.0.fresh;
         circuit = circuit_without n older b.ring a h.0.circuit parts.0;
         union = h.0.union ∙ sym (union_without older b.ring a parts.0);
-      }, nested_without n older a h.1 parts.1))
+      },
+      nested_without n older a h.1 parts.1,
+    ))
 
 -- the nodes of the ring lose their parent
 pub parent_without : (n : ℕ) (bs : List Blossom) (a x : ℕ) → IsNested n bs → parent_of (without bs a) x ≡ cond (in_ring (ring_of bs a) x) 0 (parent_of bs x)
@@ -92,16 +94,16 @@ parent_without n [] a x h = refl
 parent_without n (b ∷ older) a x h =
     by_test (eqb b.node a)
     (λ e. ap (λ q. parent_of (cond q older (b ∷ without older a)) x) e
-      ∙ by_test (in_ring b.ring x)
-        (λ r. free_parent older x (child_free n older b x h.0 r) ∙ sym (ap (λ q. cond (in_ring (cond q b.ring (ring_of older a)) x) 0 (parent_of (b ∷ older) x)) e ∙ ap (λ q. cond q 0 (parent_of (b ∷ older) x)) r))
-        (λ r. sym (ap (λ q. cond (in_ring (cond q b.ring (ring_of older a)) x) 0 (parent_of (b ∷ older) x)) e ∙ ap (λ q. cond q 0 (cond q b.node (parent_of older x))) r)))
+    ∙ by_test (in_ring b.ring x)
+    (λ r. free_parent older x (child_free n older b x h.0 r) ∙ sym (ap (λ q. cond (in_ring (cond q b.ring (ring_of older a)) x) 0 (parent_of (b ∷ older) x)) e ∙ ap (λ q. cond q 0 (parent_of (b ∷ older) x)) r))
+    (λ r. sym (ap (λ q. cond (in_ring (cond q b.ring (ring_of older a)) x) 0 (parent_of (b ∷ older) x)) e ∙ ap (λ q. cond q 0 (cond q b.node (parent_of older x))) r)))
     (λ e. ap (λ q. parent_of (cond q older (b ∷ without older a)) x) e
-      ∙ by_test (in_ring b.ring x)
-        (λ r. ap (λ q. cond q b.node (parent_of (without older a) x)) r
-          ∙ sym (ap (λ q. cond (in_ring (cond q b.ring (ring_of older a)) x) 0 (parent_of (b ∷ older) x)) e
-            ∙ ap (λ q. cond q 0 (parent_of (b ∷ older) x)) (false_from_ne_true (in_ring (ring_of older a) x) (λ s. both_ways (is_child older x) (child_free n older b x h.0 r) (ring_child older a x s)))
-            ∙ ap (λ q. cond q b.node (parent_of older x)) r))
-        (λ r. ap (λ q. cond q b.node (parent_of (without older a) x)) r
-          ∙ parent_without n older a x h.1
-          ∙ sym (ap (λ q. cond (in_ring (cond q b.ring (ring_of older a)) x) 0 (parent_of (b ∷ older) x)) e
-            ∙ ap (λ q. cond (in_ring (ring_of older a) x) 0 (cond q b.node (parent_of older x))) r)))
+    ∙ by_test (in_ring b.ring x)
+    (λ r. ap (λ q. cond q b.node (parent_of (without older a) x)) r
+    ∙ sym (ap (λ q. cond (in_ring (cond q b.ring (ring_of older a)) x) 0 (parent_of (b ∷ older) x)) e
+    ∙ ap (λ q. cond q 0 (parent_of (b ∷ older) x)) (false_from_ne_true (in_ring (ring_of older a) x) (λ s. both_ways (is_child older x) (child_free n older b x h.0 r) (ring_child older a x s)))
+    ∙ ap (λ q. cond q b.node (parent_of older x)) r))
+    (λ r. ap (λ q. cond q b.node (parent_of (without older a) x)) r
+    ∙ parent_without n older a x h.1
+    ∙ sym (ap (λ q. cond (in_ring (cond q b.ring (ring_of older a)) x) 0 (parent_of (b ∷ older) x)) e
+    ∙ ap (λ q. cond (in_ring (ring_of older a) x) 0 (cond q b.node (parent_of older x))) r)))

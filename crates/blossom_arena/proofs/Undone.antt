@@ -65,6 +65,6 @@ module _ (a : Inside) (node : ℕ) (s : IsSound a) (there : holds (order_of a) n
   runs_within kept fs free updates same =
       each_link (λ x. AllByRecursion (λ v. v < length fs) (vertices_of fs (run_of n kept x))) (ring_of (blossoms_of a) node)
       (λ x r.
-        subst (λ (t : List ℕ). AllByRecursion (λ v. v < length t) (vertices_of t (run_of n kept x))) (sym same)
-        (subst (λ (q : Run). AllByRecursion (λ v. v < length a.followers.items) (vertices_of a.followers.items q)) (sym (other_run n a.kept kept node x updates (order_range a s node there).0 (ring_other (blossoms_of a) node x free r)))
-        (members_within a s x (child_node x r))))
+      subst (λ (t : List ℕ). AllByRecursion (λ v. v < length t) (vertices_of t (run_of n kept x))) (sym same)
+      (subst (λ (q : Run). AllByRecursion (λ v. v < length a.followers.items) (vertices_of a.followers.items q)) (sym (other_run n a.kept kept node x updates (order_range a s node there).0 (ring_other (blossoms_of a) node x free r)))
+      (members_within a s x (child_node x r))))

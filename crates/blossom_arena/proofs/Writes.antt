@@ -23,9 +23,9 @@ filled_at t (x ∷ xs) e v h =
     ∙ by_test (holds xs v)
     (λ m. ap (λ q. cond q e (get_or (set t x e) v 0)) m ∙ sym (ap (λ q. cond q e (get_or t v 0)) (later_in x xs v m)))
     (λ m. ap (λ q. cond q e (get_or (set t x e) v 0)) m ∙ by_test (eqb x v)
-      (λ s. let same : v ≡ x = sym (eqb-true x v s) in
-        ap (λ y. get_or (set t x e) y 0) same ∙ get_or-set_same t x e 0 (subst (λ y. y < length t) same h) ∙ sym (ap (λ q. cond (q || holds xs v) e (get_or t v 0)) s))
-      (λ s. get_or-set_other t x v e 0 (λ y. eqb-false x v s (sym y)) ∙ sym (ap₂ (λ (p q : Bool). cond (p || q) e (get_or t v 0)) s m)))
+    (λ s. let same : v ≡ x = sym (eqb-true x v s) in
+    ap (λ y. get_or (set t x e) y 0) same ∙ get_or-set_same t x e 0 (subst (λ y. y < length t) same h) ∙ sym (ap (λ q. cond (q || holds xs v) e (get_or t v 0)) s))
+    (λ s. get_or-set_other t x v e 0 (λ y. eqb-false x v s (sym y)) ∙ sym (ap₂ (λ (p q : Bool). cond (p || q) e (get_or t v 0)) s m)))
 
 -- a table that is filled with each of some nodes at its run
 pub length-lowered : (t : List ℕ) (run : ℕ → List ℕ) (cs : List ℕ) → length (lowered t run cs) ≡ length t
@@ -44,10 +44,10 @@ lowered_in t run (c ∷ cs) v a h k m one =
     by_test (holds cs a)
     (λ later. lowered_in (filled t (run c) c) run cs v a (omega (arith, h, length-filled t (run c) c)) later m (λ d e. one d (later_in c cs d e)))
     (λ none.
-      let same : c ≡ a = ⊎_elim (λ s. eqb-true c a s) (λ s. absurd (both_ways (holds cs a) none s)) (or_cases (eqb c a) (holds cs a) k) in
-      lowered_out (filled t (run c) c) run cs v (omega (arith, h, length-filled t (run c) c))
-      (λ d e. by_test (holds (run d) v) (λ w. absurd (both_ways (holds cs a) none (subst (λ x. holds cs x ≡ true) (one d (later_in c cs d e) w) e))) (λ w. w))
-      ∙ filled_at t (run c) c v h ∙ ap (λ q. cond q c (get_or t v 0)) (subst (λ x. holds (run x) v ≡ true) (sym same) m) ∙ same)
+    let same : c ≡ a = ⊎_elim (λ s. eqb-true c a s) (λ s. absurd (both_ways (holds cs a) none s)) (or_cases (eqb c a) (holds cs a) k) in
+    lowered_out (filled t (run c) c) run cs v (omega (arith, h, length-filled t (run c) c))
+    (λ d e. by_test (holds (run d) v) (λ w. absurd (both_ways (holds cs a) none (subst (λ x. holds cs x ≡ true) (one d (later_in c cs d e) w) e))) (λ w. w))
+    ∙ filled_at t (run c) c v h ∙ ap (λ q. cond q c (get_or t v 0)) (subst (λ x. holds (run x) v ≡ true) (sym same) m) ∙ same)
 
 -- walks
 pub length-walk : (k : ℕ) (next : List ℕ) (x : ℕ) → length (walk k next x) ≡ k
@@ -91,7 +91,7 @@ threaded_walk nexts (l ∷ rest) z new within =
     let nexts' : List ℕ = set nexts l.node (next_node rest z) in
     let here : get_or (threaded nexts' rest z) l.node 0 ≡ next_node rest z = threaded_out nexts' rest z l.node new.0 ∙ get_or-set_same nexts l.node (next_node rest z) 0 within.0 in
     ap (λ t. l.node ∷ t) (ap (walk (length rest) (threaded nexts' rest z)) here
-      ∙ threaded_walk nexts' rest z new.1 (places rest within.1))
+    ∙ threaded_walk nexts' rest z new.1 (places rest within.1))
   where
     places : (ls : List Link) → AllByRecursion (λ (k : Link). k.node < length nexts) ls → AllByRecursion (λ (k : Link). k.node < length (set nexts l.node (next_node rest z))) ls
     places [] h = tt

@@ -230,7 +230,10 @@ impl Arena {
         ensures members { result ≡ members_of self.now.blossoms node }
         ensures good { IsFamily self.now }
     {
-        Members::of(&self.followers, find_run(&self.kept, self.vertex_count, node.number()))
+        Members::of(
+            &self.followers,
+            find_run(&self.kept, self.vertex_count, node.number()),
+        )
     }
 
     /// The nodes that hold a vertex, innermost first.
@@ -277,7 +280,11 @@ impl Arena {
         set_dual(&mut self.duals, node, 0);
         thread(&mut self.nexts, circuit, first);
         note(&mut self.edges, circuit);
-        hang(&mut self.parents, Ring::of(&self.nexts, &self.edges, first, links), node);
+        hang(
+            &mut self.parents,
+            Ring::of(&self.nexts, &self.edges, first, links),
+            node,
+        );
         fill(&mut self.outer, Members::of(&self.followers, run), node);
         put_first(&mut self.older, &mut self.newer, node);
         NodeId::new(node)
@@ -294,8 +301,18 @@ impl Arena {
         let node = b.number();
         let kept = self.kept.remove((node - (self.vertex_count + 1)) as usize);
         take_out(&mut self.older, &mut self.newer, node);
-        hang(&mut self.parents, Ring::of(&self.nexts, &self.edges, kept.first, kept.links), 0);
-        lower(&mut self.outer, Ring::of(&self.nexts, &self.edges, kept.first, kept.links), &self.followers, &self.kept, self.vertex_count);
+        hang(
+            &mut self.parents,
+            Ring::of(&self.nexts, &self.edges, kept.first, kept.links),
+            0,
+        );
+        lower(
+            &mut self.outer,
+            Ring::of(&self.nexts, &self.edges, kept.first, kept.links),
+            &self.followers,
+            &self.kept,
+            self.vertex_count,
+        );
     }
 
     /// Takes away all blossoms and makes all duals 0.

@@ -97,7 +97,13 @@ pub(crate) fn join(followers: &mut Vec<u32>, kept: &Slab<Kept>, count: u32, circ
 }
 
 /// Puts each node of a ring at each of its vertices.
-pub(crate) fn lower(outer: &mut Vec<u32>, ring: Ring<'_>, followers: &[u32], kept: &Slab<Kept>, count: u32)
+pub(crate) fn lower(
+    outer: &mut Vec<u32>,
+    ring: Ring<'_>,
+    followers: &[u32],
+    kept: &Slab<Kept>,
+    count: u32,
+)
     requires places { vec_len outer.old ≡ length followers.now }
     requires within { AllByRecursion (λ (l : Link). AllByRecursion (λ v. v < length followers.now) (vertices_of followers.now (run_of count kept.now l.node))) ring }
     ensures items { outer.new.items ≡ lowered outer.old.items (λ a. vertices_of followers.now (run_of count kept.now a)) (nodes_of ring.entry) }
@@ -105,6 +111,10 @@ pub(crate) fn lower(outer: &mut Vec<u32>, ring: Ring<'_>, followers: &[u32], kep
 {
     for link in ring {
         let node = link.node.number();
-        fill(outer, Members::of(followers, find_run(kept, count, node)), node);
+        fill(
+            outer,
+            Members::of(followers, find_run(kept, count, node)),
+            node,
+        );
     }
 }

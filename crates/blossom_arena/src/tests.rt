@@ -1,8 +1,8 @@
-ghost use Rattle.std.specs.Prelude.{◌≡◌, ◌<◌, ◌≤◌, ℕ, true, pos, nat_eq, length, drop, take, All};
-ghost use Rattle.std.specs.List.{IsDistinct};
+ghost use Rattle.std.specs.Prelude.{◌≡◌, ◌==◌, ℕ, true, nat_eq, All};
+ghost use Rattle.std.specs.List.{IsDistinct, list_any};
 ghost use Rattle.graph_theory.specs.Parts.{holds};
 ghost use Rattle.blossom_arena.specs.declared.links.Link.{Link};
-ghost use Rattle.blossom_arena.specs.Family.{IsCircuit, is_vertex, is_node, is_outermost, names_of, nodes_of, in_ring, members_of, dual_at};
+ghost use Rattle.blossom_arena.specs.Family.{IsCircuit, is_vertex, is_node, is_outermost, nodes_of, members_of};
 
 use super::*;
 use mb_base::{EdgeId, OutOfMemory, VertexId};
@@ -20,11 +20,13 @@ fn vertex_link(vertex: u32, edge: u32) -> Link {
     link(NodeId::new(vertex), edge)
 }
 
-/// Whether a circuit comes to a node at this place or after it.
+/// Whether a circuit comes to a node.
 fn comes_to(circuit: &[Link], node: NodeId) -> bool
-    ensures { result ≡ in_ring circuit.now node }
+    ensures { result ≡ list_any (λ (l : Link). l.node == node) circuit.now }
 {
-    circuit.iter().any(|link| link.node == node)
+    circuit
+        .iter()
+        .any(|link| link.node.number() == node.number())
 }
 
 fn all_differ(circuit: &[Link]) -> bool
@@ -69,16 +71,16 @@ fn is_circuit(arena: &Arena, circuit: &[Link]) -> bool
     all_differ(circuit)
 }
 
-/// The blossom that a circuit is shrunk to, where it is one.
-fn shrunk(arena: &mut Arena, circuit: &[Link]) -> Option<NodeId> {
+/// Shrinks a circuit where it is one, and answers the blossom's number, or 0.
+fn shrink(arena: &mut Arena, circuit: &[Link]) -> u32 {
     if is_circuit(arena, circuit) {
-        return Some(arena.shrink(circuit));
+        return arena.shrink(circuit).number();
     }
-    None
+    0
 }
 
 /// Dissolves a node where it may be, and answers whether it may.
-fn dissolved(arena: &mut Arena, b: NodeId) -> bool {
+fn dissolve(arena: &mut Arena, b: NodeId) -> bool {
     if !arena.is_blossom(b) {
         return false;
     }
@@ -102,11 +104,15 @@ fn members(alloc: Global, arena: &Arena, node: NodeId) -> Result<Vec<u32>, OutOf
     arena.members(node).map(|v| v.number()).collect(alloc)
 }
 
-fn ring(alloc: Global, arena: &Arena, b: NodeId) -> Result<Vec<Link>, OutOfMemory> {
+/// The numbers of the nodes of a blossom's ring and those of its edges.
+fn ring(alloc: Global, arena: &Arena, b: NodeId) -> Result<Vec<(u32, u32)>, OutOfMemory> {
     if !arena.is_blossom(b) {
         return Ok(Vec::new(alloc));
     }
-    arena.ring(b).collect(alloc)
+    arena
+        .ring(b)
+        .map(|l| (l.node.number(), l.edge.number()))
+        .collect(alloc)
 }
 
 fn in_range(arena: &Arena, v: u32) -> bool
@@ -118,26 +124,33 @@ fn in_range(arena: &Arena, v: u32) -> bool
     v <= arena.vertex_count()
 }
 
-fn outermost(arena: &Arena, v: u32) -> Option<NodeId> {
+fn outermost(arena: &Arena, v: u32) -> u32 {
     if in_range(arena, v) {
-        return Some(arena.outermost(VertexId::new(v)));
+        return arena.outermost(VertexId::new(v)).number();
     }
-    None
+    0
 }
 
-fn chain(alloc: Global, arena: &Arena, v: u32) -> Result<Vec<NodeId>, OutOfMemory> {
+fn chain(alloc: Global, arena: &Arena, v: u32) -> Result<Vec<u32>, OutOfMemory> {
     if !in_range(arena, v) {
         return Ok(Vec::new(alloc));
     }
-    arena.chain(VertexId::new(v)).collect(alloc)
+    arena
+        .chain(VertexId::new(v))
+        .map(|a| a.number())
+        .collect(alloc)
 }
 
-/// Whether a node of a blossom has a vertex.
-fn has_member(arena: &Arena, b: NodeId, v: u32) -> bool
-    requires { is_node arena.now.vertex_count arena.now.blossoms b ≡ true }
-    ensures { result ≡ true → holds (members_of arena.now.blossoms b) v ≡ true }
+fn blossoms(alloc: Global, arena: &Arena) -> Result<Vec<u32>, OutOfMemory> {
+    arena.blossoms().map(|a| a.number()).collect(alloc)
+}
+
+/// Whether a node has a vertex.
+fn has_member(arena: &Arena, node: NodeId, v: u32) -> bool
+    requires { is_node arena.now.vertex_count arena.now.blossoms node ≡ true }
+    ensures { result ≡ true → holds (members_of arena.now.blossoms node) v ≡ true }
 {
-    for member in arena.members(b) {
+    for member in arena.members(node) {
         if member.number() == v {
             return true;
         }
@@ -145,87 +158,115 @@ fn has_member(arena: &Arena, b: NodeId, v: u32) -> bool
     false
 }
 
-fn child_holding(arena: &Arena, b: NodeId, v: u32) -> Option<NodeId> {
+fn child_holding(arena: &Arena, b: NodeId, v: u32) -> u32 {
     if !arena.is_blossom(b) {
-        return None;
+        return 0;
     }
     if !arena.is_node(b) {
-        return None;
+        return 0;
     }
     if !has_member(arena, b, v) {
-        return None;
+        return 0;
     }
-    Some(arena.child_holding(b, VertexId::new(v)))
+    arena.child_holding(b, VertexId::new(v)).number()
 }
 
-fn add_dual(arena: &mut Arena, node: NodeId, d: i64) -> Option<i64> {
+/// Adds 5 to the dual of a node, and answers what it was and is.
+fn raise(arena: &mut Arena, node: NodeId) -> (i64, i64) {
     if !arena.is_node(node) {
-        return None;
+        return (-1, -1);
     }
     let old = arena.dual(node);
-    if old < 0 || old > 1_000_000 {
-        return None;
+    if old < 0 {
+        return (old, old);
     }
-    if d < -old || d > 1_000_000 {
-        return None;
+    if old > 1_000_000 {
+        return (old, old);
     }
-    arena.add_dual(node, d);
-    Some(old)
+    arena.add_dual(node, 5);
+    (old, arena.dual(node))
+}
+
+/// The vertices 3, 1 and 2 in the blossom 8, and that with 4 and 5 in the blossom 9.
+fn nested(alloc: Global) -> Result<Arena, OutOfMemory> {
+    let mut arena = Arena::new(alloc, 7)?;
+    let inner = [vertex_link(3, 11), vertex_link(1, 12), vertex_link(2, 13)];
+    let _inner = shrink(&mut arena, inner.as_slice());
+    let outer = [vertex_link(4, 14), vertex_link(8, 15), vertex_link(5, 16)];
+    let _outer = shrink(&mut arena, outer.as_slice());
+    Ok(arena)
 }
 
 #[test]
-fn nested_shrinks_and_dissolves(rt: HostRuntime) -> Result<(), Fail> {
-    let mut arena = Arena::new(rt.alloc(), 7)?;
+fn members_and_rings(rt: HostRuntime) -> Result<(), Fail> {
+    let arena = nested(rt.alloc())?;
     let node = NodeId::new;
-    assert_eq!(rt; arena.vertex_count(), 7);
     assert_eq!(rt; arena.node_limit(), 10);
-    let first = [vertex_link(3, 11), vertex_link(1, 12), vertex_link(2, 13)];
-    let a = shrunk(&mut arena, first.as_slice()).expect(&rt, "a");
-    assert_eq!(rt; members(rt.alloc(), &arena, a)?.as_slice(), [3, 1, 2].as_slice());
-    assert_eq!(rt; ring(rt.alloc(), &arena, a)?.as_slice(), first.as_slice());
-    let b = shrunk(&mut arena, [vertex_link(4, 14), link(a, 15), vertex_link(5, 16)].as_slice()).expect(&rt, "b");
-    assert_eq!(rt; members(rt.alloc(), &arena, b)?.as_slice(), [4, 3, 1, 2, 5].as_slice());
-    assert_eq!(rt; members(rt.alloc(), &arena, node(6))?.as_slice(), [6].as_slice());
-    assert_eq!(rt; chain(rt.alloc(), &arena, 1)?.as_slice(), [node(1), a, b].as_slice());
-    assert_eq!(rt; chain(rt.alloc(), &arena, 5)?.as_slice(), [node(5), b].as_slice());
-    assert_eq!(rt; chain(rt.alloc(), &arena, 7)?.as_slice(), [node(7)].as_slice());
-    assert_eq!(rt; child_holding(&arena, b, 2), Some(a));
-    assert_eq!(rt; child_holding(&arena, b, 4), Some(node(4)));
-    assert_eq!(rt; child_holding(&arena, a, 2), Some(node(2)));
-    assert_eq!(rt; child_holding(&arena, a, 4), None);
-    assert_eq!(rt; outermost(&arena, 1), Some(b));
-    assert_eq!(rt; outermost(&arena, 7), Some(node(7)));
-    assert_eq!(rt; add_dual(&mut arena, b, 5), Some(0));
-    assert!(rt; !dissolved(&mut arena, b));
-    assert_eq!(rt; add_dual(&mut arena, b, -5), Some(5));
-    assert!(rt; !dissolved(&mut arena, a));
-    let c = shrunk(&mut arena, [vertex_link(6, 17), vertex_link(7, 18), link(b, 19)].as_slice()).expect(&rt, "c");
-    assert_eq!(rt; members(rt.alloc(), &arena, c)?.as_slice(), [6, 7, 4, 3, 1, 2, 5].as_slice());
-    let newest: Vec<NodeId> = arena.blossoms().collect(rt.alloc())?;
-    assert_eq!(rt; newest.as_slice(), [c, b, a].as_slice());
-    assert!(rt; dissolved(&mut arena, c));
-    assert!(rt; dissolved(&mut arena, b));
-    assert_eq!(rt; outermost(&arena, 1), Some(a));
-    assert_eq!(rt; outermost(&arena, 4), Some(node(4)));
-    assert_eq!(rt; chain(rt.alloc(), &arena, 1)?.as_slice(), [node(1), a].as_slice());
+    assert_eq!(rt;
+        members(rt.alloc(), &arena, node(8))?.as_slice(),
+        [3, 1, 2].as_slice()
+    );
+    assert_eq!(rt;
+        members(rt.alloc(), &arena, node(9))?.as_slice(),
+        [4, 3, 1, 2, 5].as_slice()
+    );
+    assert_eq!(rt;
+        members(rt.alloc(), &arena, node(6))?.as_slice(),
+        [6].as_slice()
+    );
+    assert_eq!(rt;
+        ring(rt.alloc(), &arena, node(9))?.as_slice(),
+        [(4, 14), (8, 15), (5, 16)].as_slice()
+    );
+    assert_eq!(rt; blossoms(rt.alloc(), &arena)?.as_slice(), [9, 8].as_slice());
     Ok(())
 }
 
 #[test]
-fn an_older_blossom_goes_first(rt: HostRuntime) -> Result<(), Fail> {
-    let mut arena = Arena::new(rt.alloc(), 6)?;
-    let a = shrunk(&mut arena, [vertex_link(1, 1), vertex_link(2, 2), vertex_link(3, 3)].as_slice()).expect(&rt, "a");
-    let b = shrunk(&mut arena, [vertex_link(6, 4), vertex_link(5, 5), vertex_link(4, 6)].as_slice()).expect(&rt, "b");
-    assert!(rt; dissolved(&mut arena, a));
-    assert!(rt; !arena.is_node(a));
-    let left: Vec<NodeId> = arena.blossoms().collect(rt.alloc())?;
-    assert_eq!(rt; left.as_slice(), [b].as_slice());
-    assert_eq!(rt; members(rt.alloc(), &arena, b)?.as_slice(), [6, 5, 4].as_slice());
-    assert_eq!(rt; outermost(&arena, 2), Some(NodeId::new(2)));
-    assert_eq!(rt; outermost(&arena, 5), Some(b));
+fn chains_and_children(rt: HostRuntime) -> Result<(), Fail> {
+    let arena = nested(rt.alloc())?;
+    let node = NodeId::new;
+    assert_eq!(rt;
+        chain(rt.alloc(), &arena, 1)?.as_slice(),
+        [1, 8, 9].as_slice()
+    );
+    assert_eq!(rt; chain(rt.alloc(), &arena, 5)?.as_slice(), [5, 9].as_slice());
+    assert_eq!(rt; chain(rt.alloc(), &arena, 7)?.as_slice(), [7].as_slice());
+    for (b, v, child) in [(9, 2, 8), (9, 4, 4), (8, 2, 2), (8, 4, 0)] {
+        assert_eq!(rt; child_holding(&arena, node(b), v), child, "{v} in {b}");
+    }
+    for (v, outer) in [(1, 9), (4, 9), (6, 6), (8, 0)] {
+        assert_eq!(rt; outermost(&arena, v), outer, "{v}");
+    }
+    Ok(())
+}
+
+#[test]
+fn dissolves(rt: HostRuntime) -> Result<(), Fail> {
+    let mut arena = nested(rt.alloc())?;
+    let node = NodeId::new;
+    assert!(rt; !dissolve(&mut arena, node(8)));
+    assert!(rt; dissolve(&mut arena, node(9)));
+    assert_eq!(rt; outermost(&arena, 1), 8);
+    assert_eq!(rt; outermost(&arena, 4), 4);
+    let second = [vertex_link(4, 1), vertex_link(5, 2), vertex_link(7, 3)];
+    assert_eq!(rt; shrink(&mut arena, second.as_slice()), 9);
+    assert!(rt; dissolve(&mut arena, node(8)));
+    assert_eq!(rt; blossoms(rt.alloc(), &arena)?.as_slice(), [9].as_slice());
+    assert_eq!(rt; chain(rt.alloc(), &arena, 7)?.as_slice(), [7, 9].as_slice());
+    assert_eq!(rt; outermost(&arena, 1), 1);
+    Ok(())
+}
+
+#[test]
+fn duals_and_clear(rt: HostRuntime) -> Result<(), Fail> {
+    let mut arena = nested(rt.alloc())?;
+    let node = NodeId::new;
+    assert_eq!(rt; raise(&mut arena, node(9)), (0, 5));
+    assert!(rt; !dissolve(&mut arena, node(9)));
     arena.clear();
-    assert_eq!(rt; arena.blossoms().count(), 0);
-    assert_eq!(rt; outermost(&arena, 5), Some(NodeId::new(5)));
-    assert_eq!(rt; Arena::new(rt.alloc(), 0)?.node_limit(), 0);
+    assert_eq!(rt; outermost(&arena, 1), 1);
+    assert_eq!(rt; raise(&mut arena, node(7)), (0, 5));
+    assert_eq!(rt; raise(&mut arena, node(9)), (-1, -1));
     Ok(())
 }

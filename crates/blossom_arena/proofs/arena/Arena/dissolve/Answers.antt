@@ -63,7 +63,7 @@ pub hang-requires : goal.hang-requires
 hang-requires c =
     let there = in_order c.self.inside _ c.args.b c.number-node.result c.self.view_is c.requires.blossom c.number-node.ensures in
     let ring : c.of.result ≡ ring_of (blossoms_of c.self.inside) c.number-node.result =
-        c.of.ensures ∙ ring_kept c.self.inside c.number-node.result c.self.invariant there c.remove-kept.result c.remove-kept.ensures.value c.deref.result.now c.deref-2.result.now c.deref.ensures.value c.deref-2.ensures.value in
+    c.of.ensures ∙ ring_kept c.self.inside c.number-node.result c.self.invariant there c.remove-kept.result c.remove-kept.ensures.value c.deref.result.now c.deref-2.result.now c.deref.ensures.value c.deref-2.ensures.value in
     let enough : c.self.inside.vertex_count + room_of c.self.inside.vertex_count < vec_len c.self.inside.parents = omega (arith, c.self.invariant.places.parents) in
     subst (λ (ls : List Link). AllByRecursion (λ (l : Link). l.node < vec_len c.self.inside.parents) ls) (sym ring)
     (children_within c.self.inside c.number-node.result c.self.invariant there (vec_len c.self.inside.parents) enough)
@@ -78,7 +78,7 @@ lower-requires-clause-within c =
     let there = in_order c.self.inside _ c.args.b c.number-node.result c.self.view_is c.requires.blossom c.number-node.ensures in
     let free = is_free c.self.inside _ c.args.b c.number-node.result c.self.view_is c.requires.outer c.number-node.ensures in
     let ring : c.of-2.result ≡ ring_of (blossoms_of c.self.inside) c.number-node.result =
-        c.of-2.ensures ∙ ring_kept c.self.inside c.number-node.result c.self.invariant there c.remove-kept.result c.remove-kept.ensures.value c.deref-3.result.now c.deref-4.result.now c.deref-3.ensures.value c.deref-4.ensures.value in
+    c.of-2.ensures ∙ ring_kept c.self.inside c.number-node.result c.self.invariant there c.remove-kept.result c.remove-kept.ensures.value c.deref-3.result.now c.deref-4.result.now c.deref-3.ensures.value c.deref-4.ensures.value in
     subst (λ (ls : List Link). AllByRecursion (λ (l : Link). AllByRecursion (λ v. v < length c.deref-5.result.now) (vertices_of c.deref-5.result.now (run_of c.self.inside.vertex_count c.remove-kept.new.self l.node))) ls) (sym ring)
     (runs_within c.self.inside c.number-node.result c.self.invariant there c.remove-kept.new.self c.deref-5.result.now free c.remove-kept.ensures.updates c.deref-5.ensures.value)
 
@@ -101,9 +101,9 @@ changes c there =
     let a : Inside = c.self.inside in
     let node : ℕ = c.number-node.result in
     let ring : c.of.result ≡ ring_of (blossoms_of a) node =
-        c.of.ensures ∙ ring_kept a node c.self.invariant there c.remove-kept.result c.remove-kept.ensures.value c.deref.result.now c.deref-2.result.now c.deref.ensures.value c.deref-2.ensures.value in
+    c.of.ensures ∙ ring_kept a node c.self.invariant there c.remove-kept.result c.remove-kept.ensures.value c.deref.result.now c.deref-2.result.now c.deref.ensures.value c.deref-2.ensures.value in
     let ring2 : c.of-2.result ≡ ring_of (blossoms_of a) node =
-        c.of-2.ensures ∙ ring_kept a node c.self.invariant there c.remove-kept.result c.remove-kept.ensures.value c.deref-3.result.now c.deref-4.result.now c.deref-3.ensures.value c.deref-4.ensures.value in
+    c.of-2.ensures ∙ ring_kept a node c.self.invariant there c.remove-kept.result c.remove-kept.ensures.value c.deref-3.result.now c.deref-4.result.now c.deref-3.ensures.value c.deref-4.ensures.value in
     record {
       updates = c.remove-kept.ensures.updates;
       len = c.remove-kept.ensures.len;

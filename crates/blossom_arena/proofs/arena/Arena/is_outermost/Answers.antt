@@ -18,8 +18,8 @@ returns-clause-outer c =
     let is = subst (λ f. is_node f.vertex_count f.blossoms c.args.node ≡ true) (sym c.self.view_is) c.requires in
     let range = node_range n (blossoms_of c.self.inside) c.args.node c.self.invariant.family.nested is in
     let read : c.index.result.now ≡ slice_index c.self.inside.parents.items c.number.result =
-        c.index.ensures ∙ get_or_default c.self.inside.parents.items c.number.result c.index.result.now 0 (omega (arith, range.1, c.number.ensures, c.self.invariant.places.parents)) in
+    c.index.ensures ∙ get_or_default c.self.inside.parents.items c.number.result c.index.result.now 0 (omega (arith, range.1, c.number.ensures, c.self.invariant.places.parents)) in
     let parent : c.index.result.now ≡ parent_of (blossoms_of c.self.inside) c.args.node =
-        read ∙ ap (slice_index c.self.inside.parents.items) c.number.ensures ∙ c.self.invariant.parents c.args.node range.1 in
+    read ∙ ap (slice_index c.self.inside.parents.items) c.number.ensures ∙ c.self.invariant.parents c.args.node range.1 in
     ap (λ (p : ℕ). eqb p 0) parent ∙ outer_test n (blossoms_of c.self.inside) c.args.node c.self.invariant.family.nested is
     ∙ ap (λ (f : Family). is_outermost f.vertex_count f.blossoms c.args.node) c.self.view_is
