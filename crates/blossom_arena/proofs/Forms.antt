@@ -1,0 +1,105 @@
+-- The sets of a nested family: they are odd, and of any two one holds the other or they have no vertex in common.
+use Rattle.std.proofs.Common.{◌≡◌, ℕ, ◌+◌, ◌%◌, ◌≤◌, ◌<◌, ◌⊎◌, Bool, true, false, ◌||◌, eqb, cond, List, [], ◌∷◌, length, refl, sym, ap, ◌∙◌, subst, arith, ⊎_elim, inl, inr, All, AllPairs}
+use Rattle.std.specs.List.Sorted.{IsStrictlyIncreasing}
+use Rattle.std.proofs.lemmas.Bool.{eqb-true, eq-eqb, false_from_ne_true, or_cases, both_ways}
+use Rattle.std.proofs.lemmas.List.Kept.{AllPairs-from_increasing}
+use Rattle.graph_theory.specs.Parts.{holds}
+use Rattle.graph_theory.specs.Duals.{HasForm}
+use Rattle.graph_theory.proofs.Members.{all_holds, holds_all, first_less, pairs_tail}
+use Rattle.blossom_arena.specs.Family.{Blossom, names_of, is_vertex, is_node, in_ring, outermost, members_of, IsOddSet, AreLaminar, IsNested}
+use Rattle.blossom_arena.proofs.Lists.{by_test, AllNew, new_from_distinct, distinct_from_new, length-within, first_in}
+use Rattle.blossom_arena.proofs.Nested.{vertex_range, name_is_node, node_before}
+use Rattle.blossom_arena.proofs.Sets.{members_here, members_past, members_new, members_odd, members_three, member_vertex, member_by_ring, outermost_has}
+
+-- a blossom's vertices are an odd number of at least three different ones
+pub members_form : (n : ℕ) (bs : List Blossom) (x : ℕ) → IsNested n bs → holds (names_of bs) x ≡ true → IsOddSet n (members_of bs x)
+members_form n bs x h k =
+    let node = name_is_node n bs x k in
+    record {
+      three = members_three n bs x h k;
+      odd = members_odd n bs x h node;
+      different = distinct_from_new (members_of bs x) (members_new n bs x h node);
+      in_range = all_holds (λ v. (1 ≤ v) × (v ≤ n)) (members_of bs x) (λ v m. vertex_range n v (member_vertex n bs x v h node m));
+    }
+
+new_by_pairs : (xs : List ℕ) → AllPairs (λ x y. x < y) xs → AllNew xs
+new_by_pairs [] up = tt
+new_by_pairs (x ∷ xs) up = (false_from_ne_true (holds xs x) (λ m. absurd (omega (arith, first_less x xs x up m))), new_by_pairs xs (pairs_tail x xs up))
+
+-- and have the form of a certificate's set once they are ascending
+pub sorted_form : (n : ℕ) (xs ys : List ℕ) → IsOddSet n xs → IsStrictlyIncreasing ys → ((v : ℕ) → holds ys v ≡ holds xs v) → HasForm ys × All (λ v. (1 ≤ v) × (v ≤ n)) ys
+sorted_form n xs ys odd up same =
+    let new : AllNew ys = new_by_pairs ys (AllPairs-from_increasing ys up) in
+    let to = length-within ys xs new (λ v m. sym (same v) ∙ m) in
+    let from = length-within xs ys (new_from_distinct xs odd.different) (λ v m. same v ∙ m) in
+    let equal : length ys ≡ length xs = omega (arith, to, from) in (
+      record { three = subst (λ k. 3 ≤ k) (sym equal) odd.three; odd = ap (λ k. k % 2) equal ∙ odd.odd; ascending = up },
+      all_holds (λ v. (1 ≤ v) × (v ≤ n)) ys (λ v m. range xs v odd.in_range (sym (same v) ∙ m)),
+    )
+  where
+    range : (ms : List ℕ) (v : ℕ) → All (λ w. (1 ≤ w) × (w ≤ n)) ms → holds ms v ≡ true → (1 ≤ v) × (v ≤ n)
+    range ms v all m = holds_all (λ w. (1 ≤ w) × (w ≤ n)) ms v all m
+
+-- the vertices of a node have one outermost node
+pub one_outermost : (n : ℕ) (bs : List Blossom) (x v w : ℕ) → IsNested n bs → is_node n bs x ≡ true → holds (members_of bs x) v ≡ true → holds (members_of bs x) w ≡ true → outermost bs v ≡ outermost bs w
+one_outermost n [] x v w h k mv mw = at v mv ∙ sym (at w mw)
+  where
+    at : (z : ℕ) → holds (x ∷ []) z ≡ true → z ≡ x
+    at z m = ⊎_elim (λ s. sym (eqb-true x z s)) (λ f. absurd (both_ways false refl f)) (or_cases (eqb x z) false m)
+one_outermost n (b ∷ older) x v w h k mv mw =
+    by_test (eqb b.node x)
+    (λ e.
+    let in_v : holds b.members v ≡ true = sym (ap (λ ms. holds ms v) (members_here b older x e)) ∙ mv in
+    let in_w : holds b.members w ≡ true = sym (ap (λ ms. holds ms w) (members_here b older x e)) ∙ mw in
+    ap (λ q. cond q b.node (outermost older v)) in_v ∙ sym (ap (λ q. cond q b.node (outermost older w)) in_w))
+    (λ e.
+    let node = node_before n b older x e k in
+    let in_v : holds (members_of older x) v ≡ true = sym (ap (λ ms. holds ms v) (members_past b older x e)) ∙ mv in
+    let in_w : holds (members_of older x) w ≡ true = sym (ap (λ ms. holds ms w) (members_past b older x e)) ∙ mw in
+    let below = one_outermost n older x v w h.1 node in_v in_w in
+    let same : holds b.members v ≡ holds b.members w =
+    member_by_ring n older b v h (member_vertex n older x v h.1 node in_v) ∙ ap (in_ring b.ring) below ∙ sym (member_by_ring n older b w h (member_vertex n older x w h.1 node in_w)) in
+    ap (λ q. cond q b.node (outermost older v)) same ∙ ap (λ o. cond (holds b.members w) b.node o) below)
+
+-- a newer blossom has all vertices of an older node or none
+one_side : (n : ℕ) (b : Blossom) (older : List Blossom) (y v w : ℕ) → IsNested n (b ∷ older) → is_node n older y ≡ true → holds (members_of older y) v ≡ true → holds (members_of older y) w ≡ true → holds b.members v ≡ holds b.members w
+one_side n b older y v w h k mv mw =
+    member_by_ring n older b v h (member_vertex n older y v h.1 k mv) ∙ ap (in_ring b.ring) (one_outermost n older y v w h.1 k mv mw) ∙ sym (member_by_ring n older b w h (member_vertex n older y w h.1 k mw))
+
+turned : (xs ys : List ℕ) → AreLaminar xs ys → AreLaminar ys xs
+turned xs ys h = ⊎_elim
+    (λ f. inr (inl f))
+    (λ g. ⊎_elim (λ f. inl f) (λ f. inr (inr (λ v m. false_from_ne_true (holds xs v) (λ e. both_ways (holds ys v) (f v e) m)))) g)
+    h
+
+newer_laminar : (n : ℕ) (b : Blossom) (older : List Blossom) (y : ℕ) → IsNested n (b ∷ older) → is_node n older y ≡ true → AreLaminar b.members (members_of older y)
+newer_laminar n b older y h k = go (members_of older y) (λ v w mv mw. one_side n b older y v w h k mv mw)
+  where
+    go : (ys : List ℕ) → ((v w : ℕ) → holds ys v ≡ true → holds ys w ≡ true → holds b.members v ≡ holds b.members w) → AreLaminar b.members ys
+    go [] same = inl (λ v m. absurd (both_ways false refl m))
+    go (z ∷ zs) same =
+        by_test (holds b.members z)
+        (λ e. inl (λ v m. same v z m (first_in z zs) ∙ e))
+        (λ e. inr (inr (λ v m. false_from_ne_true (holds (z ∷ zs) v) (λ q. both_ways (holds b.members v) (same v z q (first_in z zs) ∙ e) m))))
+
+-- of any two nodes one holds the other, or they have no vertex in common
+pub members_laminar : (n : ℕ) (bs : List Blossom) (x y : ℕ) → IsNested n bs → is_node n bs x ≡ true → is_node n bs y ≡ true → AreLaminar (members_of bs x) (members_of bs y)
+members_laminar n [] x y h kx ky =
+    by_test (eqb x y)
+    (λ e. inl (λ v m. subst (λ z. holds (z ∷ []) v ≡ true) (sym (eqb-true x y e)) m))
+    (λ e. inr (inr (λ v m. false_from_ne_true (holds (y ∷ []) v) (λ q. both_ways (eqb x y) e (same v m q)))))
+  where
+    at : (a z : ℕ) → holds (a ∷ []) z ≡ true → a ≡ z
+    at a z m = ⊎_elim (λ s. eqb-true a z s) (λ f. absurd (both_ways false refl f)) (or_cases (eqb a z) false m)
+
+    same : (v : ℕ) → holds (x ∷ []) v ≡ true → holds (y ∷ []) v ≡ true → eqb x y ≡ true
+    same v m q = eq-eqb x y (at x v m ∙ sym (at y v q))
+members_laminar n (b ∷ older) x y h kx ky =
+    by_test (eqb b.node x)
+    (λ ex. by_test (eqb b.node y)
+    (λ ey. subst (λ ms. AreLaminar ms (members_of (b ∷ older) y)) (sym (members_here b older x ex)) (subst (λ ms. AreLaminar b.members ms) (sym (members_here b older y ey)) (inl (λ v m. m))))
+    (λ ey. subst (λ ms. AreLaminar ms (members_of (b ∷ older) y)) (sym (members_here b older x ex))
+    (subst (λ ms. AreLaminar b.members ms) (sym (members_past b older y ey)) (newer_laminar n b older y h (node_before n b older y ey ky)))))
+    (λ ex. subst (λ ms. AreLaminar ms (members_of (b ∷ older) y)) (sym (members_past b older x ex)) (by_test (eqb b.node y)
+    (λ ey. subst (λ ms. AreLaminar (members_of older x) ms) (sym (members_here b older y ey)) (turned b.members (members_of older x) (newer_laminar n b older x h (node_before n b older x ex kx))))
+    (λ ey. subst (λ ms. AreLaminar (members_of older x) ms) (sym (members_past b older y ey)) (members_laminar n older x y h.1 (node_before n b older x ex kx) (node_before n b older y ey ky)))))

@@ -1,0 +1,80 @@
+-- The fields of an arena without blossoms.
+use Rattle.std.proofs.Common.{◌≡◌, ◌∙◌, ℕ, zero, suc, ◌+◌, ◌≤◌, ◌<◌, true, false, List, [], length, refl, sym, ap, subst, arith, get_or, Option, None}
+use Rattle.std.specs.Prelude.{ℤ, pos, ◌≤ℤ◌, replicate, slice_index, count_by, is_some, All}
+use Rattle.std.specs.List.{AllByRecursion}
+use Rattle.std.proofs.lemmas.Bool.{both_ways}
+use Rattle.std.proofs.lemmas.Int.{ints}
+use Rattle.std.proofs.lemmas.List.{length-replicate, get_or-replicate}
+use Rattle.slab.specs.Slab.{slab_len, get}
+use Rattle.graph_theory.specs.Parts.{holds}
+use Rattle.blossom_arena.specs.declared.runs.Kept.{Kept}
+use Rattle.blossom_arena.specs.declared.arena.Arena.TheInside.{Inside}
+use Rattle.blossom_arena.specs.Tables.{walk}
+use Rattle.blossom_arena.specs.Family.{Blossom, Family, IsFamily, IsNested, IsDual, HasDuals, empty_family, room_of, outermost}
+use Rattle.blossom_arena.specs.Fields.{IsSound, HasPlaces, blossoms_of, order_of, family_of, key_of, build, parent_of, IsOrder}
+use Rattle.blossom_arena.proofs.Sound.{rings}
+
+pub record IsFresh (a : Inside) : Type 0 where
+  pub few : a.vertex_count ≤ 4096
+  pub slots : a.kept.slots ≡ []
+  pub room : a.kept.capacity ≡ room_of a.vertex_count
+  pub duals : a.duals.items ≡ replicate (a.vertex_count + room_of a.vertex_count + 1) (pos 0)
+  pub parents : a.parents.items ≡ replicate (a.vertex_count + room_of a.vertex_count + 1) 0
+  pub nexts : length a.nexts.items ≡ a.vertex_count + room_of a.vertex_count + 1
+  pub edges : length a.edges.items ≡ a.vertex_count + room_of a.vertex_count + 1
+  pub older : a.older.items ≡ replicate (a.vertex_count + room_of a.vertex_count + 1) 0
+  pub newer : a.newer.items ≡ replicate (a.vertex_count + room_of a.vertex_count + 1) 0
+  pub outer_len : length a.outer.items ≡ a.vertex_count + 1
+  pub outer : (v : ℕ) → v ≤ a.vertex_count → slice_index a.outer.items v ≡ v
+  pub followers : length a.followers.items ≡ a.vertex_count + 1
+
+module _ (a : Inside) (h : IsFresh a) where
+  abbrev n : ℕ
+  n = a.vertex_count
+
+  abbrev places : ℕ
+  places = n + room_of n + 1
+
+  no_order : order_of a ≡ []
+  no_order = ap (λ ss. walk (count_by is_some ss) a.older.items (slice_index a.older.items 0)) h.slots
+
+  pub no_blossoms : blossoms_of a ≡ []
+  no_blossoms = ap (build (rings a)) no_order
+
+  zero_at : (t : List ℕ) (x : ℕ) → t ≡ replicate places 0 → x < places → get_or t x 0 ≡ 0
+  zero_at t x e low = ap (λ s. get_or s x 0) e ∙ get_or-replicate places x 0 0 low
+
+  no_duals : HasDuals n (replicate places (pos 0)) []
+  no_duals = record {
+    one_each = length-replicate places (pos 0);
+    in_range = λ k d low. subst IsDual (sym (get_or-replicate places k (pos 0) d (omega (arith, low, length-replicate {A = ℤ} places (pos 0))))) (omega (arith, ints), omega (arith, ints));
+    blossoms = tt;
+  }
+
+  pub fresh_family : family_of a ≡ empty_family n
+  fresh_family = ap (λ bs. record { vertex_count = n; duals = a.duals.items; blossoms = bs }) no_blossoms ∙ ap (λ ys. record { vertex_count = n; duals = ys; blossoms = [] }) h.duals
+
+  pub fresh_sound : IsSound a
+  fresh_sound = record {
+    family = record {
+      few = h.few;
+      nested = subst (IsNested n) (sym no_blossoms) tt;
+      duals = subst (HasDuals n a.duals.items) (sym no_blossoms) (subst (λ ys. HasDuals n ys []) (sym h.duals) no_duals);
+    };
+    places = record {
+      parents = ap length h.parents ∙ length-replicate places 0;
+      nexts = h.nexts;
+      edges = h.edges;
+      older = ap length h.older ∙ length-replicate places 0;
+      newer = ap length h.newer ∙ length-replicate places 0;
+      outer = h.outer_len;
+      followers = h.followers;
+    };
+    outer = λ v low high. h.outer v high ∙ ap (λ bs. outermost bs v) (sym no_blossoms);
+    parents = λ x high. zero_at a.parents.items x h.parents (omega (arith, high)) ∙ ap (λ bs. parent_of bs x) (sym no_blossoms);
+    order = subst (IsOrder a.older.items a.newer.items 0) (sym no_order) (zero_at a.older.items 0 h.older (omega arith), zero_at a.newer.items 0 h.newer (omega arith));
+    runs = λ x e. absurd (both_ways false refl (ap (λ xs. holds xs x) (sym no_order) ∙ e));
+    kept = subst (AllByRecursion _) (sym no_order) tt;
+    only = λ x low some. absurd (both_ways (is_some (get a.kept (key_of n x))) (ap (λ (ss : List (Option Kept)). is_some (get_or ss (key_of n x) None)) h.slots) some);
+    room = h.room;
+  }

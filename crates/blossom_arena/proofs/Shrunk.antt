@@ -1,0 +1,256 @@
+-- What a shrink leaves: one blossom more before those that stood.
+use Rattle.std.proofs.Common.{◌≡◌, ℕ, zero, suc, ◌+◌, ◌≤◌, ◌<◌, ◌≢◌, Bool, true, false, ◌||◌, ◌&&◌, not, eqb, leb, cond, List, [], ◌∷◌, ◌++◌, length, map, refl, sym, ap, ◌∙◌, subst, arith, ⊎_elim, get_or, Option, Some, None}
+use Rattle.std.specs.Prelude.{slice_set, vec_len, slice_index, IsSome, is_some, ℤ, pos, ◌≤ℤ◌}
+use Rattle.std.specs.List.{AllByRecursion}
+use Rattle.std.specs.Global.{Vec}
+use Rattle.std.proofs.lemmas.Bool.{eqb-true, eqb-false, eq-eqb, ne_eqb, or_cases, or_parts, or_from, or_left, both_ways, false_from_ne_true, lt-leb, and_right}
+use Rattle.std.proofs.lemmas.Int.{ints}
+use Rattle.std.proofs.lemmas.List.{get_or-set_other, get_or-set_same, length-set}
+use Rattle.std.proofs.lemmas.List.Elements.{All-set, recursion_from_All}
+use Rattle.slab.specs.Slab.{Slab, get, Updates, slab_len}
+use Rattle.graph_theory.specs.Parts.{holds}
+use Rattle.blossom_arena.specs.declared.links.Link.{Link}
+use Rattle.blossom_arena.specs.declared.runs.Run.{Run}
+use Rattle.blossom_arena.specs.declared.runs.Kept.{Kept}
+use Rattle.blossom_arena.specs.declared.arena.Arena.TheInside.{Inside}
+use Rattle.blossom_arena.specs.Tables.{walk, links_of, filled, next_node, threaded, noted}
+use Rattle.blossom_arena.specs.Family.{Blossom, nodes_of, in_ring, names_of, is_vertex, is_node, is_child, members_of, union_of, made_of, room_of, dual_at, IsDual, HasDuals, IsCircuit, IsNext, IsNested, outermost}
+use Rattle.blossom_arena.specs.Fields.{IsSound, blossoms_of, order_of, ring_at, key_of, kept_of, kept_or_none, run_of, runs_of, vertices_of, last_of, IsRun, joined, parent_of, build, IsOrder}
+use Rattle.blossom_arena.proofs.Lists.{by_test, AllNew, new_from_distinct, first_in, later_in, each_from}
+use Rattle.blossom_arena.proofs.Nested.{circuit_outer, circuit_node, outermost_parts, node_range, vertex_range, name_is_node, room_for_circuit}
+use Rattle.blossom_arena.proofs.Sets.{members_past, member_vertex, members_some}
+use Rattle.blossom_arena.proofs.Tails.{front, front_sub, tails_apart}
+use Rattle.blossom_arena.proofs.Writes.{length-filled, filled_at, length-threaded, threaded_out, threaded_walk, length-noted, noted_out, noted_links, walk_same, links_same, length-walk}
+use Rattle.blossom_arena.proofs.Orders.{put_first_order, walk_order}
+use Rattle.blossom_arena.proofs.Builds.{build-same}
+use Rattle.blossom_arena.proofs.Joins.{length-joined, joined_out, run_keeps}
+use Rattle.blossom_arena.proofs.Sound.{rings, order_names, order_len, blossoms_len, order_new, order_range, order_no_zero, node_run, ring_walk_child, circuit_joins, joined_run}
+
+key_of_node : (n key : ℕ) → key_of n (n + 1 + key) ≡ key
+key_of_node n key = omega arith
+
+-- what a shrink keeps of its circuit
+abbrev pub new_kept : Inside → List Link → Kept
+new_kept a ring = record { first = next_node ring 0; links = length ring; run = joined_run a ring }
+
+-- how the fields change in a shrink
+pub record Shrinks (a b : Inside) (ring : List Link) (node key : ℕ) : Type 0 where
+  pub number : node ≡ a.vertex_count + 1 + key
+  pub duals : b.duals.items ≡ slice_set a.duals.items node (pos 0)
+  pub vacant : get a.kept key ≡ None
+  pub updates : Updates a.kept b.kept key (Some (new_kept a ring))
+  pub len : slab_len b.kept ≡ slab_len a.kept + 1
+  pub capacity : b.kept.capacity ≡ a.kept.capacity
+  pub in_range : key < b.kept.capacity
+  pub followers : b.followers.items ≡ joined a.followers.items 0 (runs_of a.vertex_count a.kept ring)
+  pub nexts : b.nexts.items ≡ threaded a.nexts.items ring (next_node ring 0)
+  pub edges : b.edges.items ≡ noted a.edges.items ring
+  pub parents : b.parents.items ≡ filled a.parents.items (nodes_of ring) node
+  pub outer : b.outer.items ≡ filled a.outer.items (union_of (blossoms_of a) ring) node
+  pub older : b.older.items ≡ slice_set (slice_set a.older.items node (slice_index a.older.items 0)) 0 node
+  pub newer : b.newer.items ≡ slice_set (slice_set a.newer.items (slice_index a.older.items 0) node) node 0
+
+-- the places of a circuit's nodes
+pub circuit_places : (n m : ℕ) (bs : List Blossom) (ring : List Link) → IsNested n bs → IsCircuit n bs ring → n + room_of n < m → AllByRecursion (λ (l : Link). l.node < m) ring
+circuit_places n m bs ring h c enough = go ring (λ x r. circuit_node n bs ring x c r)
+  where
+    go : (ls : List Link) → ((x : ℕ) → in_ring ls x ≡ true → is_node n bs x ≡ true) → AllByRecursion (λ (l : Link). l.node < m) ls
+    go [] nodes = tt
+    go (l ∷ ls) nodes = (omega (arith, (node_range n bs l.node h (nodes l.node (first_in l.node (nodes_of ls)))).1), go ls (λ x r. nodes x (later_in l.node (nodes_of ls) x r)))
+
+-- the ring as it is written
+pub ring_written : (nexts edges : List ℕ) (ring : List Link) → AllNew (nodes_of ring) → AllByRecursion (λ (l : Link). l.node < length nexts) ring → AllByRecursion (λ (l : Link). l.node < length edges) ring
+    → links_of (noted edges ring) (walk (length ring) (threaded nexts ring (next_node ring 0)) (next_node ring 0)) ≡ ring
+ring_written nexts edges [] new in_nexts in_edges = refl
+ring_written nexts edges (l ∷ rest) new in_nexts in_edges =
+    ap (links_of (noted edges (l ∷ rest))) (threaded_walk nexts (l ∷ rest) l.node new in_nexts) ∙ noted_links edges (l ∷ rest) new in_edges
+
+-- a key that is empty is none of these
+other_key : (n : ℕ) (kept : Slab Kept) (x key : ℕ) → IsSome (get kept (key_of n x)) → get kept key ≡ None → key_of n x ≢ key
+other_key n kept x key some none same = both_ways (is_some (get kept key)) (ap (λ o. is_some o) none) (ap (λ k. is_some (get kept k)) (sym same) ∙ some)
+
+pub each_some : (n : ℕ) (kept : Slab Kept) (xs : List ℕ) (x : ℕ) → AllByRecursion (λ y. IsSome (get kept (key_of n y))) xs → holds xs x ≡ true → IsSome (get kept (key_of n x))
+each_some n kept [] x h e = absurd (both_ways false refl e)
+each_some n kept (y ∷ ys) x h e = ⊎_elim (λ s. subst (λ z. IsSome (get kept (key_of n z))) (eqb-true y x s) h.0) (λ m. each_some n kept ys x h.1 m) (or_cases (eqb y x) (holds ys x) e)
+
+-- a new blossom's dual changes no older one's
+other_duals : (n : ℕ) (bs : List Blossom) (ys : List ℤ) (node : ℕ) → holds (names_of bs) node ≡ false → AllByRecursion (λ (b : Blossom). pos 0 ≤ℤ dual_at ys b.node) bs → AllByRecursion (λ (b : Blossom). pos 0 ≤ℤ dual_at (slice_set ys node (pos 0)) b.node) bs
+other_duals n [] ys node new each = tt
+other_duals n (b ∷ older) ys node new each =
+    let p = or_parts (eqb b.node node) (holds (names_of older) node) new in
+    (rw (get_or-set_other ys node b.node (pos 0) (pos 0) (eqb-false b.node node p.0)) each.0, other_duals n older ys node p.1 each.1)
+
+module _ (a : Inside) (duals : Vec ℤ) (parents nexts edges outer followers older newer : Vec ℕ) (kept : Slab Kept) (ring : List Link) (node key : ℕ) where
+  abbrev pub after : Inside
+  after = record { vertex_count = a.vertex_count; duals = duals; parents = parents; nexts = nexts; edges = edges; outer = outer; followers = followers; older = older; newer = newer; kept = kept }
+
+  module _ (s : IsSound a) (c : IsCircuit a.vertex_count (blossoms_of a) ring) (h : Shrinks a after ring node key) where
+    abbrev n : ℕ
+    n = a.vertex_count
+
+    abbrev bs : List Blossom
+    bs = blossoms_of a
+
+    abbrev xs : List ℕ
+    xs = order_of a
+
+    -- the new node is none that was
+    above : n < node
+    above = omega (arith, h.number)
+
+    within : node ≤ n + room_of n
+    within = omega (arith, h.number, h.in_range, h.capacity, s.room)
+
+    node_key : key_of n node ≡ key
+    node_key = ap (key_of n) h.number ∙ key_of_node n key
+
+    alive : (x : ℕ) → holds xs x ≡ true → IsSome (get a.kept (key_of n x))
+    alive x e = each_some n a.kept xs x s.kept e
+
+    not_in_order : holds xs node ≡ false
+    not_in_order = false_from_ne_true (holds xs node) (λ e. other_key n a.kept node key (alive node e) h.vacant node_key)
+
+    pub fresh : is_node n bs node ≡ false
+    fresh = or_from (is_vertex n node) (holds (names_of bs) node) (and_right (leb 1 node) (leb node n) (lt-leb node n above)) (ap (λ ys. holds ys node) (order_names a) ∙ not_in_order)
+
+    same_kept : (x : ℕ) → holds xs x ≡ true → get kept (key_of n x) ≡ get a.kept (key_of n x)
+    same_kept x e = h.updates.others (key_of n x) (other_key n a.kept x key (alive x e) h.vacant)
+
+    at_new : get kept (key_of n node) ≡ Some (new_kept a ring)
+    at_new = ap (get kept) node_key ∙ h.updates.changed
+
+    kept_new : kept_of n kept node ≡ new_kept a ring
+    kept_new = ap kept_or_none at_new
+
+    kept_same : (x : ℕ) → holds xs x ≡ true → kept_of n kept x ≡ kept_of n a.kept x
+    kept_same x e = ap kept_or_none (same_kept x e)
+
+    new : AllNew (nodes_of ring)
+    new = new_from_distinct (nodes_of ring) c.different
+
+    -- the order
+    order : IsOrder older.items newer.items 0 (node ∷ xs)
+    order = subst (λ o. IsOrder o newer.items 0 (node ∷ xs)) (sym h.older)
+        (subst (λ w. IsOrder (slice_set (slice_set a.older.items node (slice_index a.older.items 0)) 0 node) w 0 (node ∷ xs)) (sym h.newer)
+        (put_first_order a.older.items a.newer.items node xs s.order (order_new a s) not_in_order (order_no_zero a s) (λ z. absurd (omega (arith, z, above)))
+        (omega (arith, within, s.places.older)) (omega (arith, within, s.places.newer)) (λ x e. omega (arith, (order_range a s x e).1, s.places.newer))))
+
+    order_after : order_of after ≡ node ∷ xs
+    order_after = ap (λ k. walk k older.items (slice_index older.items 0)) many ∙ walk_order older.items newer.items 0 (node ∷ xs) order
+      where
+        many : slab_len kept ≡ length (node ∷ xs)
+        many = omega (arith, h.len, order_len a)
+
+    -- the rings
+    ring_same : (x : ℕ) → holds xs x ≡ true → rings after x ≡ rings a x
+    ring_same x e =
+        let old : Kept = kept_of n a.kept x in
+        let apart : (y : ℕ) → holds (walk old.links a.nexts.items old.first) y ≡ true → holds (nodes_of ring) y ≡ false = λ y m.
+        false_from_ne_true (in_ring ring y) (λ r. both_ways (is_child bs y) (outermost_parts n bs y (circuit_outer n bs ring y c r)).1 (ring_walk_child a x y e m)) in
+        let walked : walk old.links nexts.items old.first ≡ walk old.links a.nexts.items old.first =
+        ap (λ t. walk old.links t old.first) h.nexts ∙ walk_same old.links a.nexts.items (threaded a.nexts.items ring (next_node ring 0)) old.first (λ y m. threaded_out a.nexts.items ring (next_node ring 0) y (apart y m)) in
+        ap (λ (k : Kept). links_of edges.items (walk k.links nexts.items k.first)) (kept_same x e)
+        ∙ ap (links_of edges.items) walked
+        ∙ ap (λ t. links_of t (walk old.links a.nexts.items old.first)) h.edges
+        ∙ links_same a.edges.items (noted a.edges.items ring) (walk old.links a.nexts.items old.first) (λ y m. noted_out a.edges.items ring y (apart y m))
+
+    ring_new : rings after node ≡ ring
+    ring_new =
+        ap (λ (k : Kept). links_of edges.items (walk k.links nexts.items k.first)) kept_new
+        ∙ ap (λ t. links_of t (walk (length ring) nexts.items (next_node ring 0))) h.edges
+        ∙ ap (λ t. links_of (noted a.edges.items ring) (walk (length ring) t (next_node ring 0))) h.nexts
+        ∙ ring_written a.nexts.items a.edges.items ring new
+        (circuit_places n (length a.nexts.items) bs ring s.family.nested c (omega (arith, s.places.nexts)))
+        (circuit_places n (length a.edges.items) bs ring s.family.nested c (omega (arith, s.places.edges)))
+
+    -- the blossoms
+    pub blossoms_after : blossoms_of after ≡ made_of bs ring node ∷ bs
+    blossoms_after =
+        ap (build (rings after)) order_after
+        ∙ ap (λ r. made_of (build (rings after) xs) r node ∷ build (rings after) xs) ring_new
+        ∙ ap (λ us. made_of us ring node ∷ us) (build-same (rings a) (rings after) xs ring_same)
+
+    top : Blossom
+    top = made_of bs ring node
+
+    next : IsNext n bs (made_of bs ring node)
+    next = record { after_vertices = above; within_room = within; fresh = fresh; circuit = c; union = refl }
+
+    -- the duals
+    duals_after : HasDuals n duals.items (made_of bs ring node ∷ bs)
+    duals_after = subst (λ ys. HasDuals n ys (made_of bs ring node ∷ bs)) (sym h.duals) (record {
+      one_each = length-set a.duals.items node (pos 0) ∙ s.family.duals.one_each;
+      in_range = All-set IsDual a.duals.items node (pos 0) (omega (arith, ints), omega (arith, ints)) s.family.duals.in_range;
+      blossoms = (
+        rw (get_or-set_same a.duals.items node (pos 0) (pos 0) (omega (arith, within, s.family.duals.one_each))) (omega (arith, ints)),
+        other_duals n bs a.duals.items node (or_parts (is_vertex n node) (holds (names_of bs) node) fresh).1 s.family.duals.blossoms,
+      );
+    })
+
+    -- the runs
+    joins : IsRun (joined a.followers.items 0 (runs_of n a.kept ring)) (joined_run a ring) (union_of bs ring)
+    joins = (circuit_joins a ring s c).0
+
+    tails_differ : (x y : ℕ) → is_node n bs x ≡ true → holds (front (members_of bs x)) y ≡ true → (ls : List Link) → ((z : ℕ) → in_ring ls z ≡ true → in_ring ring z ≡ true) → AllByRecursion (λ (r : Run). y ≢ r.tail) (runs_of n a.kept ls)
+    tails_differ x y k e [] sub = tt
+    tails_differ x y k e (l ∷ ls) sub =
+        let in_it : in_ring ring l.node ≡ true = sub l.node (first_in l.node (nodes_of ls)) in
+        let outer_is = circuit_outer n bs ring l.node c in_it in
+        let last = (node_run a s l.node (circuit_node n bs ring l.node c in_it)).tail in (
+          (λ same. both_ways (holds (front (members_of bs x)) (last_of 0 (members_of bs l.node))) (tails_apart n bs l.node x s.family.nested outer_is k)
+              (subst (λ z. holds (front (members_of bs x)) z ≡ true) (same ∙ sym last) e)),
+          tails_differ x y k e ls (λ z m. sub z (later_in l.node (nodes_of ls) z m)),
+        )
+
+    run_stays : (x : ℕ) → holds xs x ≡ true → IsRun followers.items (kept_of n a.kept x).run (members_of bs x)
+    run_stays x e =
+        let k : is_node n bs x ≡ true = name_is_node n bs x (ap (λ ys. holds ys x) (order_names a) ∙ e) in
+        subst (λ f. IsRun f (kept_of n a.kept x).run (members_of bs x)) (sym h.followers)
+        (run_keeps a.followers.items (joined a.followers.items 0 (runs_of n a.kept ring)) (kept_of n a.kept x).run (members_of bs x) (s.runs x e)
+        (λ y m. joined_out a.followers.items 0 (runs_of n a.kept ring) y
+        (λ z. absurd (omega (arith, z, (vertex_range n y (member_vertex n bs x y s.family.nested k (front_sub (members_of bs x) y m))).0)))
+        (tails_differ x y k m ring (λ z r. r))))
+
+    runs_after : (x : ℕ) → holds (node ∷ xs) x ≡ true → IsRun followers.items (kept_of n kept x).run (members_of (made_of bs ring node ∷ bs) x)
+    runs_after x e =
+        by_test (eqb node x)
+        (λ same. subst (λ z. IsRun followers.items (kept_of n kept z).run (members_of (made_of bs ring node ∷ bs) z)) (eqb-true node x same)
+        (subst (λ ms. IsRun followers.items (kept_of n kept node).run ms) (sym (ap (λ q. cond q (union_of bs ring) (members_of bs node)) (eq-eqb node node refl)))
+        (subst (λ (k : Kept). IsRun followers.items k.run (union_of bs ring)) (sym kept_new)
+        (subst (λ f. IsRun f (joined_run a ring) (union_of bs ring)) (sym h.followers) joins))))
+        (λ other.
+        let there : holds xs x ≡ true = ⊎_elim (λ t. absurd (both_ways (eqb node x) other t)) (λ m. m) (or_cases (eqb node x) (holds xs x) e) in
+        subst (λ ms. IsRun followers.items (kept_of n kept x).run ms) (sym (members_past (made_of bs ring node) bs x other))
+        (subst (λ (k : Kept). IsRun followers.items k.run (members_of bs x)) (sym (kept_same x there)) (run_stays x there)))
+
+    pub sound_after : IsSound after
+    sound_after = record {
+      family = record {
+        few = s.family.few;
+        nested = subst (IsNested n) (sym blossoms_after) (next, s.family.nested);
+        duals = subst (HasDuals n duals.items) (sym blossoms_after) duals_after;
+      };
+      places = record {
+        parents = ap length h.parents ∙ length-filled a.parents.items (nodes_of ring) node ∙ s.places.parents;
+        nexts = ap length h.nexts ∙ length-threaded a.nexts.items ring (next_node ring 0) ∙ s.places.nexts;
+        edges = ap length h.edges ∙ length-noted a.edges.items ring ∙ s.places.edges;
+        older = ap length h.older ∙ length-set (slice_set a.older.items node (slice_index a.older.items 0)) 0 node ∙ length-set a.older.items node (slice_index a.older.items 0) ∙ s.places.older;
+        newer = ap length h.newer ∙ length-set (slice_set a.newer.items (slice_index a.older.items 0) node) node 0 ∙ length-set a.newer.items (slice_index a.older.items 0) node ∙ s.places.newer;
+        outer = ap length h.outer ∙ length-filled a.outer.items (union_of bs ring) node ∙ s.places.outer;
+        followers = ap length h.followers ∙ length-joined a.followers.items 0 (runs_of n a.kept ring) ∙ s.places.followers;
+      };
+      outer = λ v low high.
+          ap (λ t. slice_index t v) h.outer ∙ filled_at a.outer.items (union_of bs ring) node v (omega (arith, high, s.places.outer))
+          ∙ ap (λ o. cond (holds (union_of bs ring) v) node o) (s.outer v low high) ∙ ap (λ us. outermost us v) (sym blossoms_after);
+      parents = λ x high.
+          ap (λ t. slice_index t x) h.parents ∙ filled_at a.parents.items (nodes_of ring) node x (omega (arith, high, s.places.parents))
+          ∙ ap (λ p. cond (in_ring ring x) node p) (s.parents x high) ∙ ap (λ us. parent_of us x) (sym blossoms_after);
+      order = subst (IsOrder older.items newer.items 0) (sym order_after) order;
+      runs = λ x e. subst (λ us. IsRun followers.items (kept_of n kept x).run (members_of us x)) (sym blossoms_after) (runs_after x (ap (λ ys. holds ys x) (sym order_after) ∙ e));
+      kept = subst (AllByRecursion (λ x. IsSome (get kept (key_of n x)))) (sym order_after)
+          (ap (λ o. is_some o) at_new, each_from (λ x. IsSome (get kept (key_of n x))) xs (λ x e. ap (λ o. is_some o) (same_kept x e) ∙ alive x e));
+      only = λ x low some. ap (λ ys. holds ys x) order_after ∙ by_test (eqb node x)
+          (λ same. or_left (eqb node x) (holds xs x) same)
+          (λ other. later_in node xs x (s.only x low (ap (λ o. is_some o) (sym (h.updates.others (key_of n x) (λ e. eqb-false node x other (omega (arith, e, h.number, low))))) ∙ some)));
+      room = h.capacity ∙ s.room;
+    }

@@ -1,0 +1,40 @@
+-- The slack of an edge by the family's duals is the slack that certificates know.
+use Rattle.std.proofs.Common.{◌≡◌, ℕ, zero, suc, ◌+◌, ◌-◌, ◌≤◌, ◌<◌, ℤ, pos, ◌+ℤ◌, ◌-ℤ◌, ◌*ℤ◌, Bool, true, false, cond, List, [], ◌∷◌, length, map, refl, sym, ap, ap₂, ◌∙◌, subst, arith, get_or, take, drop}
+use Rattle.std.proofs.lemmas.Int.{ints}
+use Rattle.std.proofs.lemmas.List.{get_or-take, get_or-drop, length-map}
+use Rattle.graph_theory.specs.Sums.{int_sum_to}
+use Rattle.graph_theory.specs.declared.edge.Edge.{Edge}
+use Rattle.graph_theory.specs.declared.odd_set.OddSet.{OddSet}
+use Rattle.graph_theory.specs.Graph.{IsEdgeWithin}
+use Rattle.graph_theory.specs.Parts.{crosses}
+use Rattle.graph_theory.specs.Duals.{set_at, dual_of, crossed_by, slack}
+use Rattle.blossom_arena.specs.Family.{Blossom, dual_at}
+use Rattle.blossom_arena.specs.Slack.{pull, vertex_duals, sets_of}
+
+-- the first term of a sum apart
+sum_first : (f : ℕ → ℤ) (n : ℕ) → int_sum_to f (suc n) ≡ f 0 +ℤ int_sum_to (λ k. f (suc k)) n
+sum_first f zero = omega (arith, ints)
+sum_first f (suc n) = omega (arith, ints, sum_first f n)
+
+crossed_cons : (s : OddSet) (sets : List OddSet) (e : Edge) → crossed_by (s ∷ sets) (length (s ∷ sets)) e ≡ cond (crosses s.members e) s.dual (pos 0) +ℤ crossed_by sets (length sets) e
+crossed_cons s sets e = sum_first (λ j. cond (crosses (set_at (s ∷ sets) j).members e) (set_at (s ∷ sets) j).dual (pos 0)) (length sets)
+
+pull_sets : (ys : List ℤ) (bs : List Blossom) (e : Edge) → pull ys bs e ≡ (dual_at ys e.u +ℤ dual_at ys e.v) +ℤ crossed_by (sets_of ys bs) (length (sets_of ys bs)) e
+pull_sets ys [] e = omega (arith, ints)
+pull_sets ys (b ∷ older) e =
+    let first : OddSet = record { dual = dual_at ys b.node; members = b.members } in
+    let cons = crossed_cons first (sets_of ys older) e in
+    omega (arith, ints, pull_sets ys older e, cons)
+
+pub vertex_dual : (n : ℕ) (ys : List ℤ) (v : ℕ) → 1 ≤ v → v ≤ n → dual_of (vertex_duals n ys) v ≡ dual_at ys v
+vertex_dual n ys v low high =
+    let one : 1 + (v - 1) ≡ v = omega arith in
+    get_or-take n (drop 1 ys) (v - 1) (pos 0) (omega arith) ∙ get_or-drop 1 ys (v - 1) (pos 0) ∙ ap (λ i. get_or ys i (pos 0)) one
+
+-- twice the weight, without the duals that the edge feels
+pub slack_pull : (n : ℕ) (ys : List ℤ) (bs : List Blossom) (e : Edge) → IsEdgeWithin n e → slack (vertex_duals n ys) (sets_of ys bs) e ≡ (pos 2 *ℤ e.w) -ℤ pull ys bs e
+slack_pull n ys bs e within =
+    let u = vertex_dual n ys e.u within.u_low within.u_high in
+    let v = vertex_dual n ys e.v within.v_low within.v_high in
+    let all = pull_sets ys bs e in
+    omega (arith, ints, u, v, all)

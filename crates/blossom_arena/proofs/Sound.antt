@@ -1,0 +1,145 @@
+-- What the fields of an arena keep, read off.
+use Rattle.std.proofs.Common.{◌≡◌, ℕ, zero, suc, ◌+◌, ◌*◌, ◌≤◌, ◌<◌, ◌≢◌, Bool, true, false, ◌||◌, eqb, leb, cond, List, [], ◌∷◌, ◌++◌, length, refl, sym, ap, ◌∙◌, subst, arith, ⊎_elim, get_or}
+use Rattle.std.specs.Prelude.{vec_len, slice_index}
+use Rattle.std.specs.List.{AllByRecursion}
+use Rattle.std.proofs.lemmas.Bool.{eqb-true, or_cases, both_ways, false_from_ne_true, le-leb, lt-leb}
+use Rattle.slab.specs.Slab.{Slab, get, slab_len}
+use Rattle.graph_theory.specs.Parts.{holds}
+use Rattle.blossom_arena.specs.declared.links.Link.{Link}
+use Rattle.blossom_arena.specs.declared.runs.Run.{Run}
+use Rattle.blossom_arena.specs.declared.runs.Kept.{Kept}
+use Rattle.blossom_arena.specs.declared.arena.Arena.TheInside.{Inside}
+use Rattle.blossom_arena.specs.Tables.{walk, links_of}
+use Rattle.blossom_arena.specs.Family.{Blossom, nodes_of, in_ring, names_of, is_vertex, is_node, is_child, is_outermost, members_of, union_of, ring_of, room_of, IsCircuit, IsNested}
+use Rattle.blossom_arena.specs.Fields.{IsSound, HasPlaces, blossoms_of, order_of, ring_at, kept_of, run_of, runs_of, vertices_of, last_of, IsRun, joined, joined_tail, joined_size}
+use Rattle.blossom_arena.proofs.Lists.{by_test, AllNew, each_from, first_in, later_in, new_from_distinct, length-within, vertices, holds-vertices, length-vertices}
+use Rattle.blossom_arena.proofs.Nested.{names_new, name_range, node_range, vertex_range, child_is_node, circuit_outer, circuit_node, ring_each}
+use Rattle.blossom_arena.proofs.Sets.{members_of_vertex, member_vertex, members_some, members_new, of_union, union_new}
+use Rattle.blossom_arena.proofs.Tails.{last_in}
+use Rattle.blossom_arena.proofs.Parents.{ring_child}
+use Rattle.blossom_arena.proofs.Writes.{length-walk, nodes-links}
+use Rattle.blossom_arena.proofs.Builds.{names-build, ring-build, length-build}
+use Rattle.blossom_arena.proofs.Joins.{IsJoined, join_is, tails}
+
+-- the rings by the fields
+abbrev pub rings : Inside → ℕ → List Link
+rings a x = ring_at a.vertex_count a.kept a.nexts.items a.edges.items x
+
+pub order_names : (a : Inside) → names_of (blossoms_of a) ≡ order_of a
+order_names a = names-build (rings a) (order_of a)
+
+pub order_len : (a : Inside) → length (order_of a) ≡ slab_len a.kept
+order_len a = length-walk (slab_len a.kept) a.older.items (slice_index a.older.items 0)
+
+pub blossoms_len : (a : Inside) → length (blossoms_of a) ≡ slab_len a.kept
+blossoms_len a = length-build (rings a) (order_of a) ∙ order_len a
+
+pub order_new : (a : Inside) → IsSound a → AllNew (order_of a)
+order_new a s = subst AllNew (order_names a) (names_new a.vertex_count (blossoms_of a) s.family.nested)
+
+pub order_range : (a : Inside) → IsSound a → (x : ℕ) → holds (order_of a) x ≡ true → (a.vertex_count < x) × (x ≤ a.vertex_count + room_of a.vertex_count)
+order_range a s x e = name_range a.vertex_count (blossoms_of a) x s.family.nested (ap (λ xs. holds xs x) (order_names a) ∙ e)
+
+pub order_no_zero : (a : Inside) → IsSound a → holds (order_of a) 0 ≡ false
+order_no_zero a s = false_from_ne_true (holds (order_of a) 0) (λ e. absurd (omega (arith, (order_range a s 0 e).0)))
+
+-- each node has its run
+pub node_run : (a : Inside) → IsSound a → (x : ℕ) → is_node a.vertex_count (blossoms_of a) x ≡ true → IsRun a.followers.items (run_of a.vertex_count a.kept x) (members_of (blossoms_of a) x)
+node_run a s x k = ⊎_elim
+    (λ iv.
+    let low : leb x a.vertex_count ≡ true = le-leb x a.vertex_count (vertex_range a.vertex_count x iv).1 in
+    let members : members_of (blossoms_of a) x ≡ x ∷ [] = members_of_vertex a.vertex_count (blossoms_of a) x s.family.nested iv in
+    let one : Run = record { head = x; tail = x; size = 1 } in
+    let alone : IsRun a.followers.items one (x ∷ []) = record { vertices = refl; tail = refl } in
+    subst (λ q. IsRun a.followers.items (cond q one (kept_of a.vertex_count a.kept x).run) (members_of (blossoms_of a) x)) (sym low)
+    (subst (λ xs. IsRun a.followers.items one xs) (sym members) alone))
+    (λ m.
+    let there : holds (order_of a) x ≡ true = sym (ap (λ xs. holds xs x) (order_names a)) ∙ m in
+    let high : leb x a.vertex_count ≡ false = lt-leb x a.vertex_count (order_range a s x there).0 in
+    subst (λ q. IsRun a.followers.items (cond q (record { head = x; tail = x; size = 1 }) (kept_of a.vertex_count a.kept x).run) (members_of (blossoms_of a) x)) (sym high)
+    (s.runs x there))
+    (or_cases (is_vertex a.vertex_count x) (holds (names_of (blossoms_of a)) x) k)
+
+-- walks stay within the tables
+pub members_within : (a : Inside) → IsSound a → (x : ℕ) → is_node a.vertex_count (blossoms_of a) x ≡ true → AllByRecursion (λ v. v < length a.followers.items) (vertices_of a.followers.items (run_of a.vertex_count a.kept x))
+members_within a s x k =
+    subst (AllByRecursion (λ v. v < length a.followers.items)) (sym (node_run a s x k).vertices)
+    (each_from (λ v. v < length a.followers.items) (members_of (blossoms_of a) x) (λ v e. omega (arith, (vertex_range a.vertex_count v (member_vertex a.vertex_count (blossoms_of a) x v s.family.nested k e)).1, s.places.followers)))
+
+pub ring_is : (a : Inside) → (x : ℕ) → holds (order_of a) x ≡ true → ring_of (blossoms_of a) x ≡ rings a x
+ring_is a x e = ring-build (rings a) (order_of a) x e
+
+-- a number of a ring's walk is a node, and a child
+pub ring_walk_child : (a : Inside) → (x y : ℕ) → holds (order_of a) x ≡ true → holds (walk (kept_of a.vertex_count a.kept x).links a.nexts.items (kept_of a.vertex_count a.kept x).first) y ≡ true → is_child (blossoms_of a) y ≡ true
+ring_walk_child a x y there e =
+    ring_child (blossoms_of a) x y
+    (ap (λ r. in_ring r y) (ring_is a x there)
+    ∙ ap (λ xs. holds xs y) (nodes-links a.edges.items (walk (kept_of a.vertex_count a.kept x).links a.nexts.items (kept_of a.vertex_count a.kept x).first)) ∙ e)
+
+pub ring_within : (a : Inside) → IsSound a → (x : ℕ) → holds (order_of a) x ≡ true → AllByRecursion (λ y. (y < length a.nexts.items) × (y < length a.edges.items)) (walk (kept_of a.vertex_count a.kept x).links a.nexts.items (kept_of a.vertex_count a.kept x).first)
+ring_within a s x there =
+    each_from (λ y. (y < length a.nexts.items) × (y < length a.edges.items)) (walk (kept_of a.vertex_count a.kept x).links a.nexts.items (kept_of a.vertex_count a.kept x).first)
+    (λ y e. let r = node_range a.vertex_count (blossoms_of a) y s.family.nested (child_is_node a.vertex_count (blossoms_of a) y s.family.nested (ring_walk_child a x y there e)) in
+    (omega (arith, r.1, s.places.nexts), omega (arith, r.1, s.places.edges)))
+
+pub order_within : (a : Inside) → IsSound a → AllByRecursion (λ x. x < length a.older.items) (order_of a)
+order_within a s = each_from (λ x. x < length a.older.items) (order_of a) (λ x e. omega (arith, (order_range a s x e).1, s.places.older))
+
+-- the vertices of a circuit
+pub union_vertex : (n : ℕ) (bs : List Blossom) (ring : List Link) (v : ℕ) → IsNested n bs → IsCircuit n bs ring → holds (union_of bs ring) v ≡ true → is_vertex n v ≡ true
+union_vertex n bs ring v h c e = let r = of_union bs ring v e in member_vertex n bs r.node v h (circuit_node n bs ring r.node c r.within) r.has
+
+pub circuit_union_new : (n : ℕ) (bs : List Blossom) (ring : List Link) → IsNested n bs → IsCircuit n bs ring → AllNew (union_of bs ring)
+circuit_union_new n bs ring h c =
+    union_new n bs ring h (new_from_distinct (nodes_of ring) c.different) (λ a r. (circuit_outer n bs ring a c r, members_new n bs a h (circuit_node n bs ring a c r)))
+
+pub union_few : (n : ℕ) (bs : List Blossom) (ring : List Link) → IsNested n bs → IsCircuit n bs ring → length (union_of bs ring) ≤ n
+union_few n bs ring h c = omega (arith, length-vertices n, length-within (union_of bs ring) (vertices n) (circuit_union_new n bs ring h c) (λ v e. holds-vertices n v ∙ union_vertex n bs ring v h c e))
+
+-- the run of a circuit that is joined
+abbrev pub joined_run : Inside → List Link → Run
+joined_run a ring = record {
+  head = slice_index (joined a.followers.items 0 (runs_of a.vertex_count a.kept ring)) 0;
+  tail = joined_tail 0 (runs_of a.vertex_count a.kept ring);
+  size = joined_size (runs_of a.vertex_count a.kept ring);
+}
+
+pub circuit_joins : (a : Inside) (ring : List Link) → IsSound a → IsCircuit a.vertex_count (blossoms_of a) ring
+    → IsRun (joined a.followers.items 0 (runs_of a.vertex_count a.kept ring)) (joined_run a ring) (union_of (blossoms_of a) ring)
+    × (joined_size (runs_of a.vertex_count a.kept ring) ≡ length (union_of (blossoms_of a) ring))
+circuit_joins a ring s c =
+    let n : ℕ = a.vertex_count in
+    let bs : List Blossom = blossoms_of a in
+    let f : List ℕ = a.followers.items in
+    let F : List ℕ = joined f 0 (runs_of n a.kept ring) in
+    let U : List ℕ = union_of bs ring in
+    let start : IsJoined f 0 0 [] U = record {
+      walked = refl;
+      last = refl;
+      new = (false_from_ne_true (holds U 0) (λ e. absurd (omega (arith, (vertex_range n 0 (union_vertex n bs ring 0 s.family.nested c e)).0))), circuit_union_new n bs ring s.family.nested c);
+      within = λ v e. ⊎_elim
+          (λ z. let zero_is : 0 ≡ v = eqb-true 0 v z in omega (arith, zero_is, s.places.followers))
+          (λ m. omega (arith, (vertex_range n v (union_vertex n bs ring v s.family.nested c m)).1, s.places.followers))
+          (or_cases (eqb 0 v) (holds U v) e);
+    } in
+    let all = join_is f 0 0 [] bs (run_of n a.kept) ring start (λ x r. let k = circuit_node n bs ring x c r in (node_run a s x k, members_some n bs x s.family.nested k)) in
+    let walked : walk (length U) F (slice_index F 0) ≡ U = tails 0 0 (walk (length U) F (slice_index F 0)) U all.0 in (
+      record {
+        vertices = ap (λ k. walk k F (slice_index F 0)) all.2 ∙ walked;
+        tail = sym all.1;
+      },
+      all.2,
+    )
+
+-- what a join needs
+pub tails_within : (a : Inside) (ring : List Link) → IsSound a → IsCircuit a.vertex_count (blossoms_of a) ring → AllByRecursion (λ (r : Run). r.tail < length a.followers.items) (runs_of a.vertex_count a.kept ring)
+tails_within a ring s c = go ring (λ x r. circuit_node a.vertex_count (blossoms_of a) ring x c r)
+  where
+    go : (ls : List Link) → ((x : ℕ) → in_ring ls x ≡ true → is_node a.vertex_count (blossoms_of a) x ≡ true) → AllByRecursion (λ (r : Run). r.tail < length a.followers.items) (runs_of a.vertex_count a.kept ls)
+    go [] nodes = tt
+    go (l ∷ ls) nodes =
+        let k = nodes l.node (first_in l.node (nodes_of ls)) in
+        let ms : List ℕ = members_of (blossoms_of a) l.node in
+        let last = last_in 0 ms (members_some a.vertex_count (blossoms_of a) l.node s.family.nested k) in
+        let low = (vertex_range a.vertex_count (last_of 0 ms) (member_vertex a.vertex_count (blossoms_of a) l.node (last_of 0 ms) s.family.nested k last)).1 in
+        (omega (arith, low, (node_run a s l.node k).tail, s.places.followers), go ls (λ x r. nodes x (later_in l.node (nodes_of ls) x r)))

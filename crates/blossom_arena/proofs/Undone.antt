@@ -1,0 +1,70 @@
+-- What the steps of a dissolve need.
+use Rattle.std.proofs.Common.{◌≡◌, ℕ, ◌+◌, ◌≤◌, ◌<◌, true, false, eqb, List, [], ◌∷◌, length, refl, sym, ap, ap₂, ◌∙◌, subst, arith, Some, None}
+use Rattle.std.specs.Prelude.{slice_index}
+use Rattle.std.specs.List.{AllByRecursion}
+use Rattle.slab.specs.Slab.{Slab, get, Updates}
+use Rattle.graph_theory.specs.Parts.{holds}
+use Rattle.blossom_arena.specs.declared.links.Link.{Link}
+use Rattle.blossom_arena.specs.declared.runs.Run.{Run}
+use Rattle.blossom_arena.specs.declared.runs.Kept.{Kept}
+use Rattle.blossom_arena.specs.declared.arena.Arena.TheInside.{Inside}
+use Rattle.blossom_arena.specs.Tables.{walk, links_of}
+use Rattle.blossom_arena.specs.Family.{nodes_of, in_ring, ring_of, is_child, is_node, room_of}
+use Rattle.blossom_arena.specs.Fields.{IsSound, blossoms_of, order_of, key_of, kept_of, kept_or_none, run_of, vertices_of}
+use Rattle.blossom_arena.proofs.Lists.{first_in, later_in}
+use Rattle.blossom_arena.proofs.Nested.{node_range, child_is_node}
+use Rattle.blossom_arena.proofs.Parents.{ring_child}
+use Rattle.blossom_arena.proofs.Opened.{ring_other}
+use Rattle.blossom_arena.proofs.Orders.{neighbours_within}
+use Rattle.blossom_arena.proofs.Sound.{order_range, ring_within, ring_is, members_within}
+use Rattle.blossom_arena.proofs.Dissolved.{other_run}
+
+each_link : (P : ℕ → Type 0) (ring : List Link) → ((x : ℕ) → in_ring ring x ≡ true → P x) → AllByRecursion (λ (l : Link). P l.node) ring
+each_link P [] each = tt
+each_link P (l ∷ ring) each = (each l.node (first_in l.node (nodes_of ring)), each_link P ring (λ x e. each x (later_in l.node (nodes_of ring) x e)))
+
+module _ (a : Inside) (node : ℕ) (s : IsSound a) (there : holds (order_of a) node ≡ true) where
+  abbrev n : ℕ
+  n = a.vertex_count
+
+  child_node : (x : ℕ) → in_ring (ring_of (blossoms_of a) node) x ≡ true → is_node n (blossoms_of a) x ≡ true
+  child_node x r = child_is_node n (blossoms_of a) x s.family.nested (ring_child (blossoms_of a) node x r)
+
+  pub older_place : node < length a.older.items
+  older_place = omega (arith, (order_range a s node there).1, s.places.older)
+
+  pub newer_place : node < length a.newer.items
+  newer_place = omega (arith, (order_range a s node there).1, s.places.newer)
+
+  pub next_place : slice_index a.older.items node < length a.newer.items
+  next_place = (neighbours_within a.older.items a.newer.items node (length a.newer.items) (order_of a) s.order there (λ x e. omega (arith, (order_range a s x e).1, s.places.newer)) (omega (arith, s.places.newer))).0
+
+  pub before_place : slice_index a.newer.items node < length a.older.items
+  before_place = (neighbours_within a.older.items a.newer.items node (length a.older.items) (order_of a) s.order there (λ x e. omega (arith, (order_range a s x e).1, s.places.older)) (omega (arith, s.places.older))).1
+
+  module _ (k : Kept) (found : get a.kept (key_of n node) ≡ Some k) where
+    kept_is : kept_of n a.kept node ≡ k
+    kept_is = ap kept_or_none found
+
+    pub walk_kept : (ns es : List ℕ) → ns ≡ a.nexts.items → es ≡ a.edges.items → AllByRecursion (λ y. (y < length ns) × (y < length es)) (walk k.links ns k.first)
+    walk_kept ns es nexts edges =
+        subst (λ (t : List ℕ). AllByRecursion (λ y. (y < length t) × (y < length es)) (walk k.links t k.first)) (sym nexts)
+        (subst (λ (u : List ℕ). AllByRecursion (λ y. (y < length a.nexts.items) × (y < length u)) (walk k.links a.nexts.items k.first)) (sym edges)
+        (subst (λ (q : Kept). AllByRecursion (λ y. (y < length a.nexts.items) × (y < length a.edges.items)) (walk q.links a.nexts.items q.first)) kept_is (ring_within a s node there)))
+
+    pub ring_kept : (ns es : List ℕ) → ns ≡ a.nexts.items → es ≡ a.edges.items → links_of es (walk k.links ns k.first) ≡ ring_of (blossoms_of a) node
+    ring_kept ns es nexts edges =
+        ap₂ (λ (t u : List ℕ). links_of u (walk k.links t k.first)) nexts edges
+        ∙ ap (λ (q : Kept). links_of a.edges.items (walk q.links a.nexts.items q.first)) (sym kept_is) ∙ sym (ring_is a node there)
+
+  pub children_within : (m : ℕ) → n + room_of n < m → AllByRecursion (λ (l : Link). l.node < m) (ring_of (blossoms_of a) node)
+  children_within m enough = each_link (λ x. x < m) (ring_of (blossoms_of a) node) (λ x r. omega (arith, (node_range n (blossoms_of a) x s.family.nested (child_node x r)).1, enough))
+
+  pub runs_within : (kept : Slab Kept) (fs : List ℕ) → is_child (blossoms_of a) node ≡ false → Updates a.kept kept (key_of n node) None → fs ≡ a.followers.items
+      → AllByRecursion (λ (l : Link). AllByRecursion (λ v. v < length fs) (vertices_of fs (run_of n kept l.node))) (ring_of (blossoms_of a) node)
+  runs_within kept fs free updates same =
+      each_link (λ x. AllByRecursion (λ v. v < length fs) (vertices_of fs (run_of n kept x))) (ring_of (blossoms_of a) node)
+      (λ x r.
+      subst (λ (t : List ℕ). AllByRecursion (λ v. v < length t) (vertices_of t (run_of n kept x))) (sym same)
+      (subst (λ (q : Run). AllByRecursion (λ v. v < length a.followers.items) (vertices_of a.followers.items q)) (sym (other_run n a.kept kept node x updates (order_range a s node there).0 (ring_other (blossoms_of a) node x free r)))
+      (members_within a s x (child_node x r))))

@@ -1,0 +1,119 @@
+-- What writes to tables leave, and what walks by a table give.
+use Rattle.std.proofs.Common.{◌≡◌, ℕ, zero, suc, ◌+◌, ◌≤◌, ◌<◌, ◌≢◌, Bool, true, false, ◌||◌, eqb, cond, List, [], ◌∷◌, ◌++◌, length, map, refl, sym, ap, ap₂, ◌∙◌, subst, arith, ⊎_elim, get_or, set}
+use Rattle.std.specs.List.{AllByRecursion}
+use Rattle.std.proofs.lemmas.Bool.{eqb-true, eq-eqb, eqb-false, ne_eqb, or_cases, or_parts, both_ways, cases_eq}
+use Rattle.std.proofs.lemmas.List.{get_or-set_other, get_or-set_same, length-set}
+use Rattle.graph_theory.specs.Parts.{holds}
+use Rattle.blossom_arena.specs.declared.links.Link.{Link}
+use Rattle.blossom_arena.specs.Tables.{walk, links_of, filled, next_node, threaded, noted}
+use Rattle.blossom_arena.specs.Family.{nodes_of}
+use Rattle.blossom_arena.specs.Fields.{lowered}
+use Rattle.blossom_arena.proofs.Lists.{by_test, AllNew, first_in, later_in}
+use Rattle.blossom_arena.proofs.Tails.{front, front_sub}
+
+-- a table that is filled at some places
+pub length-filled : (t xs : List ℕ) (e : ℕ) → length (filled t xs e) ≡ length t
+length-filled t [] e = refl
+length-filled t (x ∷ xs) e = length-filled (set t x e) xs e ∙ length-set t x e
+
+pub filled_at : (t xs : List ℕ) (e v : ℕ) → v < length t → get_or (filled t xs e) v 0 ≡ cond (holds xs v) e (get_or t v 0)
+filled_at t [] e v h = refl
+filled_at t (x ∷ xs) e v h =
+    filled_at (set t x e) xs e v (omega (arith, h, length-set t x e))
+    ∙ by_test (holds xs v)
+    (λ m. ap (λ q. cond q e (get_or (set t x e) v 0)) m ∙ sym (ap (λ q. cond q e (get_or t v 0)) (later_in x xs v m)))
+    (λ m. ap (λ q. cond q e (get_or (set t x e) v 0)) m ∙ by_test (eqb x v)
+    (λ s. let same : v ≡ x = sym (eqb-true x v s) in
+    ap (λ y. get_or (set t x e) y 0) same ∙ get_or-set_same t x e 0 (subst (λ y. y < length t) same h) ∙ sym (ap (λ q. cond (q || holds xs v) e (get_or t v 0)) s))
+    (λ s. get_or-set_other t x v e 0 (λ y. eqb-false x v s (sym y)) ∙ sym (ap₂ (λ (p q : Bool). cond (p || q) e (get_or t v 0)) s m)))
+
+-- a table that is filled with each of some nodes at its run
+pub length-lowered : (t : List ℕ) (run : ℕ → List ℕ) (cs : List ℕ) → length (lowered t run cs) ≡ length t
+length-lowered t run [] = refl
+length-lowered t run (c ∷ cs) = length-lowered (filled t (run c) c) run cs ∙ length-filled t (run c) c
+
+pub lowered_out : (t : List ℕ) (run : ℕ → List ℕ) (cs : List ℕ) (v : ℕ) → v < length t → ((c : ℕ) → holds cs c ≡ true → holds (run c) v ≡ false) → get_or (lowered t run cs) v 0 ≡ get_or t v 0
+lowered_out t run [] v h out = refl
+lowered_out t run (c ∷ cs) v h out =
+    lowered_out (filled t (run c) c) run cs v (omega (arith, h, length-filled t (run c) c)) (λ d e. out d (later_in c cs d e))
+    ∙ filled_at t (run c) c v h ∙ ap (λ q. cond q c (get_or t v 0)) (out c (first_in c cs))
+
+pub lowered_in : (t : List ℕ) (run : ℕ → List ℕ) (cs : List ℕ) (v a : ℕ) → v < length t → holds cs a ≡ true → holds (run a) v ≡ true → ((c : ℕ) → holds cs c ≡ true → holds (run c) v ≡ true → c ≡ a) → get_or (lowered t run cs) v 0 ≡ a
+lowered_in t run [] v a h k m one = absurd (both_ways false refl k)
+lowered_in t run (c ∷ cs) v a h k m one =
+    by_test (holds cs a)
+    (λ later. lowered_in (filled t (run c) c) run cs v a (omega (arith, h, length-filled t (run c) c)) later m (λ d e. one d (later_in c cs d e)))
+    (λ none.
+    let same : c ≡ a = ⊎_elim (λ s. eqb-true c a s) (λ s. absurd (both_ways (holds cs a) none s)) (or_cases (eqb c a) (holds cs a) k) in
+    lowered_out (filled t (run c) c) run cs v (omega (arith, h, length-filled t (run c) c))
+    (λ d e. by_test (holds (run d) v) (λ w. absurd (both_ways (holds cs a) none (subst (λ x. holds cs x ≡ true) (one d (later_in c cs d e) w) e))) (λ w. w))
+    ∙ filled_at t (run c) c v h ∙ ap (λ q. cond q c (get_or t v 0)) (subst (λ x. holds (run x) v ≡ true) (sym same) m) ∙ same)
+
+-- walks
+pub length-walk : (k : ℕ) (next : List ℕ) (x : ℕ) → length (walk k next x) ≡ k
+length-walk zero next x = refl
+length-walk (suc k) next x = omega (arith, length-walk k next (get_or next x 0))
+
+-- a walk reads the table at all its numbers but the last
+pub walk_front : (k : ℕ) (next next' : List ℕ) (x : ℕ) → ((y : ℕ) → holds (front (walk k next x)) y ≡ true → get_or next' y 0 ≡ get_or next y 0) → walk k next' x ≡ walk k next x
+walk_front zero next next' x same = refl
+walk_front (suc zero) next next' x same = refl
+walk_front (suc (suc k)) next next' x same =
+    let here : get_or next' x 0 ≡ get_or next x 0 = same x (first_in x (front (walk (suc k) next (get_or next x 0)))) in
+    ap (λ t. x ∷ t) (ap (walk (suc k) next') here ∙ walk_front (suc k) next next' (get_or next x 0) (λ y e. same y (later_in x (front (walk (suc k) next (get_or next x 0))) y e)))
+
+pub walk_same : (k : ℕ) (next next' : List ℕ) (x : ℕ) → ((y : ℕ) → holds (walk k next x) y ≡ true → get_or next' y 0 ≡ get_or next y 0) → walk k next' x ≡ walk k next x
+walk_same k next next' x same = walk_front k next next' x (λ y e. same y (front_sub (walk k next x) y e))
+
+pub links_same : (edges edges' xs : List ℕ) → ((y : ℕ) → holds xs y ≡ true → get_or edges' y 0 ≡ get_or edges y 0) → links_of edges' xs ≡ links_of edges xs
+links_same edges edges' [] same = refl
+links_same edges edges' (x ∷ xs) same =
+    ap₂ (λ (e : ℕ) (ls : List Link). record { node = x; edge = e } ∷ ls) (same x (first_in x xs)) (links_same edges edges' xs (λ y e. same y (later_in x xs y e)))
+
+pub nodes-links : (edges xs : List ℕ) → nodes_of (links_of edges xs) ≡ xs
+nodes-links edges [] = refl
+nodes-links edges (x ∷ xs) = ap (λ t. x ∷ t) (nodes-links edges xs)
+
+-- a circuit in the tables
+pub length-threaded : (nexts : List ℕ) (circuit : List Link) (z : ℕ) → length (threaded nexts circuit z) ≡ length nexts
+length-threaded nexts [] z = refl
+length-threaded nexts (l ∷ rest) z = length-threaded (set nexts l.node (next_node rest z)) rest z ∙ length-set nexts l.node (next_node rest z)
+
+pub threaded_out : (nexts : List ℕ) (circuit : List Link) (z x : ℕ) → holds (nodes_of circuit) x ≡ false → get_or (threaded nexts circuit z) x 0 ≡ get_or nexts x 0
+threaded_out nexts [] z x out = refl
+threaded_out nexts (l ∷ rest) z x out =
+    let p = or_parts (eqb l.node x) (holds (nodes_of rest) x) out in
+    threaded_out (set nexts l.node (next_node rest z)) rest z x p.1 ∙ get_or-set_other nexts l.node x (next_node rest z) 0 (λ s. eqb-false l.node x p.0 (sym s))
+
+pub threaded_walk : (nexts : List ℕ) (circuit : List Link) (z : ℕ) → AllNew (nodes_of circuit) → AllByRecursion (λ (l : Link). l.node < length nexts) circuit → walk (length circuit) (threaded nexts circuit z) (next_node circuit z) ≡ nodes_of circuit
+threaded_walk nexts [] z new within = refl
+threaded_walk nexts (l ∷ rest) z new within =
+    let nexts' : List ℕ = set nexts l.node (next_node rest z) in
+    let here : get_or (threaded nexts' rest z) l.node 0 ≡ next_node rest z = threaded_out nexts' rest z l.node new.0 ∙ get_or-set_same nexts l.node (next_node rest z) 0 within.0 in
+    ap (λ t. l.node ∷ t) (ap (walk (length rest) (threaded nexts' rest z)) here
+    ∙ threaded_walk nexts' rest z new.1 (places rest within.1))
+  where
+    places : (ls : List Link) → AllByRecursion (λ (k : Link). k.node < length nexts) ls → AllByRecursion (λ (k : Link). k.node < length (set nexts l.node (next_node rest z))) ls
+    places [] h = tt
+    places (k ∷ ks) h = (omega (arith, h.0, length-set nexts l.node (next_node rest z)), places ks h.1)
+
+pub length-noted : (edges : List ℕ) (circuit : List Link) → length (noted edges circuit) ≡ length edges
+length-noted edges [] = refl
+length-noted edges (l ∷ rest) = length-noted (set edges l.node l.edge) rest ∙ length-set edges l.node l.edge
+
+pub noted_out : (edges : List ℕ) (circuit : List Link) (x : ℕ) → holds (nodes_of circuit) x ≡ false → get_or (noted edges circuit) x 0 ≡ get_or edges x 0
+noted_out edges [] x out = refl
+noted_out edges (l ∷ rest) x out =
+    let p = or_parts (eqb l.node x) (holds (nodes_of rest) x) out in
+    noted_out (set edges l.node l.edge) rest x p.1 ∙ get_or-set_other edges l.node x l.edge 0 (λ s. eqb-false l.node x p.0 (sym s))
+
+pub noted_links : (edges : List ℕ) (circuit : List Link) → AllNew (nodes_of circuit) → AllByRecursion (λ (l : Link). l.node < length edges) circuit → links_of (noted edges circuit) (nodes_of circuit) ≡ circuit
+noted_links edges [] new within = refl
+noted_links edges (l ∷ rest) new within =
+    let edges' : List ℕ = set edges l.node l.edge in
+    let here : get_or (noted edges' rest) l.node 0 ≡ l.edge = noted_out edges' rest l.node new.0 ∙ get_or-set_same edges l.node l.edge 0 within.0 in
+    ap₂ (λ (e : ℕ) (ls : List Link). record { node = l.node; edge = e } ∷ ls) here (noted_links edges' rest new.1 (places rest within.1))
+  where
+    places : (ls : List Link) → AllByRecursion (λ (k : Link). k.node < length edges) ls → AllByRecursion (λ (k : Link). k.node < length (set edges l.node l.edge)) ls
+    places [] h = tt
+    places (k ∷ ks) h = (omega (arith, h.0, length-set edges l.node l.edge), places ks h.1)

@@ -1,0 +1,47 @@
+use Rattle.std.proofs.Common.{◌≡◌, ◌∙◌, ℕ, ◌<◌, ◌≤◌, ◌+◌, List, true, sym, ap, ap₂, subst, length, arith, ⊎_elim}
+use Rattle.std.specs.Prelude.{slice_index}
+use Rattle.graph_theory.specs.Parts.{holds}
+use Rattle.blossom_arena.specs.Family.{Blossom, is_vertex, names_of, members_of, child_holding, room_of}
+use Rattle.blossom_arena.specs.Fields.{blossoms_of, climb_to, parent_of}
+use Rattle.blossom_arena.proofs.Nested.{vertex_range, name_is_node, name_range}
+use Rattle.blossom_arena.proofs.Sets.{member_vertex}
+use Rattle.blossom_arena.proofs.Parents.{climb_child, parent_is}
+use Rattle.blossom_arena.proofs.arena.Arena.child_holding.Goals as goal
+
+named : (c : goal.After-number-2) → holds (names_of (blossoms_of c.self.inside)) c.args.b ≡ true
+named c = subst (λ f. holds (names_of f.blossoms) c.args.b ≡ true) (sym c.self.view_is) c.requires.blossom
+
+inside : (c : goal.After-number-2) → holds (members_of (blossoms_of c.self.inside) c.args.b) c.args.v ≡ true
+inside c = subst (λ f. holds (members_of f.blossoms c.args.b) c.args.v ≡ true) (sym c.self.view_is) c.requires.inside
+
+pub child_below-requires-clause-place : goal.child_below-requires-clause-place
+child_below-requires-clause-place c =
+    let n : ℕ = c.self.inside.vertex_count in
+    let bs : List Blossom = blossoms_of c.self.inside in
+    let s = c.self.invariant in
+    let iv = member_vertex n bs c.args.b c.args.v s.family.nested (name_is_node n bs c.args.b (named c)) (inside c) in
+    omega (arith, (vertex_range n c.args.v iv).1, s.places.parents, c.deref.ensures.len, c.number.ensures)
+
+pub child_below-requires-clause-each : goal.child_below-requires-clause-each
+child_below-requires-clause-each c x low =
+    let n : ℕ = c.self.inside.vertex_count in
+    let bs : List Blossom = blossoms_of c.self.inside in
+    let s = c.self.invariant in
+    let at : slice_index c.deref.result.now x ≡ parent_of bs x = ap (λ (ps : List ℕ). slice_index ps x) c.deref.ensures.value ∙ s.parents x (omega (arith, low, s.places.parents, c.deref.ensures.len)) in
+    ⊎_elim
+    (λ z. omega (arith, at, z, low))
+    (λ m. omega (arith, at, (name_range n bs (parent_of bs x) s.family.nested m).1, s.places.parents, c.deref.ensures.len))
+    (parent_is bs x)
+
+pub returns-clause-child : goal.returns-clause-child
+returns-clause-child c =
+    let n : ℕ = c.self.inside.vertex_count in
+    let bs : List Blossom = blossoms_of c.self.inside in
+    let s = c.self.invariant in
+    let named : holds (names_of bs) c.args.b ≡ true = subst (λ f. holds (names_of f.blossoms) c.args.b ≡ true) (sym c.self.view_is) c.requires.blossom in
+    let inside : holds (members_of bs c.args.b) c.args.v ≡ true = subst (λ f. holds (members_of f.blossoms c.args.b) c.args.v ≡ true) (sym c.self.view_is) c.requires.inside in
+    let iv = member_vertex n bs c.args.b c.args.v s.family.nested (name_is_node n bs c.args.b named) inside in
+    c.new.ensures ∙ c.child_below.ensures ∙ ap (λ (ps : List ℕ). climb_to (length ps) ps c.number-2.result c.number.result) c.deref.ensures.value
+    ∙ ap₂ (climb_to (length c.self.inside.parents.items) c.self.inside.parents.items) c.number-2.ensures c.number.ensures
+    ∙ climb_child n bs c.self.inside.parents.items c.args.b c.args.v s.family.nested iv named inside s.parents s.places.parents
+    ∙ ap (λ f. child_holding f.blossoms c.args.b c.args.v) c.self.view_is

@@ -1,0 +1,52 @@
+use Rattle.std.proofs.Common.{◌≡◌, ◌∙◌, ℕ, ℤ, pos, ◌≤◌, ◌<◌, ◌+◌, List, sym, ap, length, arith, replicate}
+use Rattle.std.specs.Prelude.{vec_len}
+use Rattle.blossom_arena.specs.declared.arena.Arena.TheInside.{Inside}
+use Rattle.blossom_arena.specs.Family.{Family, empty_family, room_of}
+use Rattle.blossom_arena.proofs.Fresh.{IsFresh, fresh_sound, fresh_family}
+use Rattle.blossom_arena.proofs.arena.Arena.clear.Goals as goal
+
+abbrev after : goal.After-renumber → Inside
+after c = record {
+  vertex_count = c.self.inside.vertex_count;
+  duals = c.wipe_duals.new.duals;
+  parents = c.wipe.new.table;
+  nexts = c.self.inside.nexts;
+  edges = c.self.inside.edges;
+  outer = c.renumber.new.table;
+  followers = c.self.inside.followers;
+  older = c.wipe-2.new.table;
+  newer = c.wipe-3.new.table;
+  kept = c.clear.new.self;
+}
+
+is_fresh : (c : goal.After-renumber) → IsFresh (after c)
+is_fresh c =
+    let a : Inside = c.self.inside in
+    let places : ℕ = a.vertex_count + room_of a.vertex_count + 1 in
+    let duals_len : vec_len a.duals ≡ places = omega (arith, c.self.invariant.family.duals.one_each) in
+    let parents_len : vec_len a.parents ≡ places = omega (arith, c.self.invariant.places.parents) in
+    let older_len : vec_len a.older ≡ places = omega (arith, c.self.invariant.places.older) in
+    let newer_len : vec_len a.newer ≡ places = omega (arith, c.self.invariant.places.newer) in
+    record {
+      few = c.self.invariant.family.few;
+      slots = c.clear.ensures.empty;
+      room = c.clear.ensures.capacity ∙ c.self.invariant.room;
+      duals = c.wipe_duals.ensures ∙ ap (λ (k : ℕ). replicate k (pos 0)) duals_len;
+      parents = c.wipe.ensures ∙ ap (λ (k : ℕ). replicate k 0) parents_len;
+      nexts = c.self.invariant.places.nexts;
+      edges = c.self.invariant.places.edges;
+      older = c.wipe-2.ensures ∙ ap (λ (k : ℕ). replicate k 0) older_len;
+      newer = c.wipe-3.ensures ∙ ap (λ (k : ℕ). replicate k 0) newer_len;
+      outer_len = omega (arith, c.renumber.ensures.len, c.self.invariant.places.outer);
+      outer = λ v low. c.renumber.ensures.each v (omega (arith, low, c.self.invariant.places.outer));
+      followers = c.self.invariant.places.followers;
+    }
+
+pub invariant_of-self : goal.invariant_of-self
+invariant_of-self c = fresh_sound (after c) (is_fresh c)
+
+pub returns-clause-family : goal.returns-clause-family
+returns-clause-family c = fresh_family (after c) (is_fresh c) ∙ ap (λ (f : Family). empty_family f.vertex_count) c.self.view_is
+
+pub returns-clause-good : goal.returns-clause-good
+returns-clause-good c = (fresh_sound (after c) (is_fresh c)).family

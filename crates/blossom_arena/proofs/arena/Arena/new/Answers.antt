@@ -1,0 +1,23 @@
+use Rattle.std.proofs.Common.{◌≡◌, ◌∙◌, ℕ, ◌<◌, ◌+◌, List, true, sym, ap, subst, length, arith, rules}
+use Rattle.std.specs.Prelude.{replicate, pos, ℤ}
+use Rattle.blossom_arena.specs.Family.{room_of}
+use Rattle.blossom_arena.proofs.Fresh.{fresh_sound}
+use Rattle.blossom_arena.proofs.arena.Arena.new.Goals as goal
+
+pub invariant_of-result : goal.invariant_of-result
+invariant_of-result c =
+    let places : ℕ = c.args.n + room_of c.args.n + 1 in
+    fresh_sound _ (record {
+      few = c.requires;
+      slots = c.in_ok-kept.ensures.empty;
+      room = omega (arith, c.saturating_sub.ensures, c.if-capacity-room.false, c.capacity.ensures.value);
+      duals = search rules;
+      parents = search rules;
+      nexts = omega (arith, c.in_ok-vec-3.ensures.len, c.saturating_sub.ensures);
+      edges = omega (arith, c.in_ok-vec-4.ensures.len, c.saturating_sub.ensures);
+      older = search rules;
+      newer = search rules;
+      outer_len = omega (arith, c.in_ok-numbered.ensures.len);
+      outer = c.in_ok-numbered.ensures.each;
+      followers = omega (arith, c.in_ok-vec-5.ensures.len);
+    })

@@ -1,0 +1,163 @@
+use Rattle.std.proofs.Common.{◌≡◌, ◌∙◌, ℕ, ◌<◌, ◌≤◌, ◌+◌, List, ◌∷◌, true, sym, ap, ap₂, subst, length, arith, Some}
+use Rattle.std.specs.Prelude.{slice_set, pos, ℤ, vec_len}
+use Rattle.std.specs.List.{AllByRecursion}
+use Rattle.blossom_arena.specs.declared.links.Link.{Link}
+use Rattle.slab.specs.Slab.{Updates}
+use Rattle.blossom_arena.specs.declared.runs.Run.{Run}
+use Rattle.blossom_arena.specs.declared.runs.Kept.{Kept}
+use Rattle.blossom_arena.specs.declared.arena.Arena.TheInside.{Inside}
+use Rattle.blossom_arena.specs.Tables.{walk, links_of, filled, threaded, next_node}
+use Rattle.blossom_arena.specs.Family.{Blossom, Family, IsCircuit, is_node, shrunk, nodes_of, union_of, made_of, room_of}
+use Rattle.blossom_arena.specs.Fields.{blossoms_of, vertices_of, runs_of}
+use Rattle.blossom_arena.proofs.Sound.{tails_within, joined_run}
+use Rattle.blossom_arena.proofs.Shrunk.{Shrinks, sound_after, blossoms_after, fresh}
+use Rattle.blossom_arena.proofs.Written.{room_left, circuit_few, sizes_few, nodes_within, union_within, newest_within, run_is, run_vertices, ring_walk, walk_within}
+use Rattle.blossom_arena.proofs.arena.Arena.shrink.Goals as goal
+
+pub join-run-requires-clause-within : goal.join-run-requires-clause-within
+join-run-requires-clause-within c =
+    let circuit = subst (λ f. IsCircuit f.vertex_count f.blossoms c.args.circuit.now) (sym c.self.view_is) c.requires in
+    let len : vec_len c.self.inside.followers ≡ length c.self.inside.followers.items = omega arith in
+    subst (λ m. AllByRecursion (λ (r : Run). r.tail < m) (runs_of c.self.inside.vertex_count c.self.inside.kept c.args.circuit.now)) (sym len) (tails_within c.self.inside c.args.circuit.now c.self.invariant circuit)
+
+pub join-run-requires-clause-few : goal.join-run-requires-clause-few
+join-run-requires-clause-few c =
+    let circuit = subst (λ f. IsCircuit f.vertex_count f.blossoms c.args.circuit.now) (sym c.self.view_is) c.requires in
+    omega (arith, sizes_few c.self.inside c.args.circuit.now c.self.invariant circuit)
+
+pub overflow_cast-links : goal.overflow_cast-links
+overflow_cast-links c =
+    let circuit = subst (λ f. IsCircuit f.vertex_count f.blossoms c.args.circuit.now) (sym c.self.view_is) c.requires in
+    omega (arith, circuit_few c.self.inside c.args.circuit.now c.self.invariant circuit)
+
+pub insert_reserved-key-requires : goal.insert_reserved-key-requires
+insert_reserved-key-requires c =
+    let circuit = subst (λ f. IsCircuit f.vertex_count f.blossoms c.args.circuit.now) (sym c.self.view_is) c.requires in
+    room_left c.self.inside c.args.circuit.now c.self.invariant circuit
+
+pub thread-requires : goal.thread-requires
+thread-requires c =
+    let circuit = subst (λ f. IsCircuit f.vertex_count f.blossoms c.args.circuit.now) (sym c.self.view_is) c.requires in
+    nodes_within c.self.inside c.args.circuit.now c.self.invariant circuit _ (omega (arith, c.self.invariant.places.nexts))
+
+pub note-requires : goal.note-requires
+note-requires c =
+    let circuit = subst (λ f. IsCircuit f.vertex_count f.blossoms c.args.circuit.now) (sym c.self.view_is) c.requires in
+    nodes_within c.self.inside c.args.circuit.now c.self.invariant circuit _ (omega (arith, c.self.invariant.places.edges))
+
+pub of-requires : goal.of-requires
+of-requires c =
+    let circuit = subst (λ f. IsCircuit f.vertex_count f.blossoms c.args.circuit.now) (sym c.self.view_is) c.requires in
+    walk_within c.self.inside c.args.circuit.now c.self.invariant circuit c.deref.result.now c.deref-2.result.now c.node_at-first.result
+    c.node_at-first.ensures (c.deref.ensures.value ∙ c.thread.ensures.items) (c.deref-2.ensures.value ∙ c.note.ensures.items)
+
+ring_is : (c : goal.After-of) → c.of.result ≡ c.args.circuit.now
+ring_is c =
+    let circuit = subst (λ f. IsCircuit f.vertex_count f.blossoms c.args.circuit.now) (sym c.self.view_is) c.requires in
+    c.of.ensures ∙ ring_walk c.self.inside c.args.circuit.now c.self.invariant circuit c.deref.result.now c.deref-2.result.now c.node_at-first.result
+    c.node_at-first.ensures (c.deref.ensures.value ∙ c.thread.ensures.items) (c.deref-2.ensures.value ∙ c.note.ensures.items)
+
+pub hang-requires : goal.hang-requires
+hang-requires c =
+    let circuit = subst (λ f. IsCircuit f.vertex_count f.blossoms c.args.circuit.now) (sym c.self.view_is) c.requires in
+    let enough : c.self.inside.vertex_count + room_of c.self.inside.vertex_count < vec_len c.self.inside.parents = omega (arith, c.self.invariant.places.parents) in
+    subst (λ (ls : List Link). AllByRecursion (λ (l : Link). l.node < vec_len c.self.inside.parents) ls) (sym (ring_is c))
+    (nodes_within c.self.inside c.args.circuit.now c.self.invariant circuit (vec_len c.self.inside.parents) enough)
+
+vertices_are : (c : goal.After-deref-3) → vertices_of c.deref-3.result.now c.join-run.result ≡ union_of (blossoms_of c.self.inside) c.args.circuit.now
+vertices_are c =
+    let circuit = subst (λ f. IsCircuit f.vertex_count f.blossoms c.args.circuit.now) (sym c.self.view_is) c.requires in
+    run_vertices c.self.inside c.args.circuit.now c.self.invariant circuit c.deref-3.result.now c.join-run.result (c.deref-3.ensures.value ∙ c.join-run.ensures.items)
+    (run_is c.self.inside c.args.circuit.now c.self.invariant circuit c.join-run.new.followers.items c.join-run.result c.join-run.ensures.items c.join-run.ensures.head c.join-run.ensures.tail c.join-run.ensures.size)
+
+pub of-requires-2 : goal.of-requires-2
+of-requires-2 c =
+    let circuit = subst (λ f. IsCircuit f.vertex_count f.blossoms c.args.circuit.now) (sym c.self.view_is) c.requires in
+    subst (AllByRecursion (λ v. v < length c.deref-3.result.now)) (sym (vertices_are c))
+    (union_within c.self.inside c.args.circuit.now c.self.invariant circuit (length c.deref-3.result.now) (omega (arith, c.deref-3.ensures.len, c.join-run.ensures.len, c.self.invariant.places.followers)))
+
+vertices_then : (c : goal.After-of-2) → c.of-2.result ≡ union_of (blossoms_of c.self.inside) c.args.circuit.now
+vertices_then c =
+    let circuit = subst (λ f. IsCircuit f.vertex_count f.blossoms c.args.circuit.now) (sym c.self.view_is) c.requires in
+    c.of-2.ensures ∙ run_vertices c.self.inside c.args.circuit.now c.self.invariant circuit c.deref-3.result.now c.join-run.result (c.deref-3.ensures.value ∙ c.join-run.ensures.items)
+    (run_is c.self.inside c.args.circuit.now c.self.invariant circuit c.join-run.new.followers.items c.join-run.result c.join-run.ensures.items c.join-run.ensures.head c.join-run.ensures.tail c.join-run.ensures.size)
+
+pub fill-requires : goal.fill-requires
+fill-requires c =
+    let circuit = subst (λ f. IsCircuit f.vertex_count f.blossoms c.args.circuit.now) (sym c.self.view_is) c.requires in
+    let enough : c.self.inside.vertex_count < vec_len c.self.inside.outer = omega (arith, c.self.invariant.places.outer) in
+    subst (λ (vs : List ℕ). AllByRecursion (λ v. v < vec_len c.self.inside.outer) vs) (sym (vertices_then c))
+    (union_within c.self.inside c.args.circuit.now c.self.invariant circuit (vec_len c.self.inside.outer) enough)
+
+pub put_first-requires-clause-next : goal.put_first-requires-clause-next
+put_first-requires-clause-next c =
+    let circuit = subst (λ f. IsCircuit f.vertex_count f.blossoms c.args.circuit.now) (sym c.self.view_is) c.requires in
+    omega (arith, newest_within c.self.inside c.args.circuit.now c.self.invariant circuit)
+
+abbrev after : goal.After-new → Inside
+after c = record {
+  vertex_count = c.self.inside.vertex_count;
+  duals = c.set_dual.new.duals;
+  parents = c.hang.new.table;
+  nexts = c.thread.new.nexts;
+  edges = c.note.new.edges;
+  outer = c.fill.new.table;
+  followers = c.join-run.new.followers;
+  older = c.put_first.new.older;
+  newer = c.put_first.new.newer;
+  kept = c.insert_reserved-key.new.self;
+}
+
+abbrev node : goal.After-new → ℕ
+node c = c.self.inside.vertex_count + 1 + c.insert_reserved-key.result
+
+changes : (c : goal.After-new) → IsCircuit c.self.inside.vertex_count (blossoms_of c.self.inside) c.args.circuit.now → Shrinks c.self.inside (after c) c.args.circuit.now (node c) c.insert_reserved-key.result
+changes c circuit =
+    let a : Inside = c.self.inside in
+    let ring : List Link = c.args.circuit.now in
+    let first : c.node_at-first.result ≡ next_node ring 0 = c.node_at-first.ensures in
+    let run : c.join-run.result ≡ joined_run a ring = run_is a ring c.self.invariant circuit c.join-run.new.followers.items c.join-run.result c.join-run.ensures.items c.join-run.ensures.head c.join-run.ensures.tail c.join-run.ensures.size in
+    let written : c.of.result ≡ ring = c.of.ensures ∙ ring_walk a ring c.self.invariant circuit c.deref.result.now c.deref-2.result.now c.node_at-first.result first (c.deref.ensures.value ∙ c.thread.ensures.items) (c.deref-2.ensures.value ∙ c.note.ensures.items) in
+    let vertices : c.of-2.result ≡ union_of (blossoms_of a) ring = c.of-2.ensures ∙ run_vertices a ring c.self.invariant circuit c.deref-3.result.now c.join-run.result (c.deref-3.ensures.value ∙ c.join-run.ensures.items) run in
+    record {
+      number = omega arith;
+      duals = c.set_dual.ensures;
+      vacant = c.insert_reserved-key.ensures.was_vacant;
+      updates = subst (λ (k : Kept). Updates a.kept c.insert_reserved-key.new.self c.insert_reserved-key.result (Some k))
+          (ap₂ (λ (f : ℕ) (r : Run). record { first = f; links = length ring; run = r }) first run) c.insert_reserved-key.ensures.updates;
+      len = c.insert_reserved-key.ensures.len;
+      capacity = c.insert_reserved-key.ensures.capacity;
+      in_range = c.insert_reserved-key.ensures.key_in_range;
+      followers = c.join-run.ensures.items;
+      nexts = c.thread.ensures.items ∙ ap (threaded a.nexts.items ring) first;
+      edges = c.note.ensures.items;
+      parents = c.hang.ensures.items ∙ ap (λ (ls : List Link). filled a.parents.items (nodes_of ls) (node c)) written;
+      outer = c.fill.ensures.items ∙ ap (λ (vs : List ℕ). filled a.outer.items vs (node c)) vertices;
+      older = c.put_first.ensures.older;
+      newer = c.put_first.ensures.newer;
+    }
+
+pub invariant_of-self : goal.invariant_of-self
+invariant_of-self c =
+    let circuit = subst (λ f. IsCircuit f.vertex_count f.blossoms c.args.circuit.now) (sym c.self.view_is) c.requires in
+    sound_after c.self.inside _ _ _ _ _ _ _ _ _ c.args.circuit.now (node c) c.insert_reserved-key.result c.self.invariant circuit (changes c circuit)
+
+pub returns-clause-family : goal.returns-clause-family
+returns-clause-family c =
+    let a : Inside = c.self.inside in
+    let circuit = subst (λ f. IsCircuit f.vertex_count f.blossoms c.args.circuit.now) (sym c.self.view_is) c.requires in
+    let blossoms = blossoms_after a _ _ _ _ _ _ _ _ _ c.args.circuit.now (node c) c.insert_reserved-key.result c.self.invariant circuit (changes c circuit) in
+    ap (λ (bs : List Blossom). record { vertex_count = a.vertex_count; duals = c.set_dual.new.duals.items; blossoms = bs }) blossoms
+    ∙ ap (λ (ys : List ℤ). record { vertex_count = a.vertex_count; duals = ys; blossoms = made_of (blossoms_of a) c.args.circuit.now (node c) ∷ blossoms_of a }) c.set_dual.ensures
+    ∙ ap₂ (λ (f : Family) (x : ℕ). shrunk f x c.args.circuit.now) c.self.view_is (sym c.new.ensures)
+
+pub returns-clause-fresh : goal.returns-clause-fresh
+returns-clause-fresh c =
+    let circuit = subst (λ f. IsCircuit f.vertex_count f.blossoms c.args.circuit.now) (sym c.self.view_is) c.requires in
+    ap₂ (λ (f : Family) (x : ℕ). is_node f.vertex_count f.blossoms x) (sym c.self.view_is) c.new.ensures
+    ∙ fresh c.self.inside _ _ _ _ _ _ _ _ _ c.args.circuit.now (node c) c.insert_reserved-key.result c.self.invariant circuit (changes c circuit)
+
+pub returns-clause-good : goal.returns-clause-good
+returns-clause-good c =
+    let circuit = subst (λ f. IsCircuit f.vertex_count f.blossoms c.args.circuit.now) (sym c.self.view_is) c.requires in
+    (sound_after c.self.inside _ _ _ _ _ _ _ _ _ c.args.circuit.now (node c) c.insert_reserved-key.result c.self.invariant circuit (changes c circuit)).family

@@ -1,0 +1,126 @@
+-- How an arena keeps its family. No public clause cites this module.
+use Rattle.std.specs.Prelude.{◌≡◌, ℕ, zero, suc, ◌+◌, ◌-◌, ◌<◌, ◌≤◌, true, ◌==◌, nat_le, if◌then◌else◌, List, [], ◌∷◌, length, map, Option, Some, None, IsSome, slice_index, slice_set}
+use Rattle.std.specs.List.{AllByRecursion}
+use Rattle.slab.specs.Slab.{Slab, get, slab_len}
+use Rattle.graph_theory.specs.Parts.{holds}
+use Rattle.blossom_arena.specs.declared.links.Link.{Link}
+use Rattle.blossom_arena.specs.declared.runs.Run.{Run}
+use Rattle.blossom_arena.specs.declared.runs.Kept.{Kept}
+use Rattle.blossom_arena.specs.declared.arena.Arena.TheInside.{Inside}
+use Rattle.blossom_arena.specs.Tables.{walk, links_of, filled}
+use Rattle.blossom_arena.specs.Family.{Blossom, Family, IsFamily, outermost, made_of, room_of, in_ring, names_of, members_of}
+
+-- the key of a blossom's node
+abbrev pub key_of : ℕ → ℕ → ℕ
+key_of n node = node - (n + 1)
+
+abbrev pub kept_or_none : Option Kept → Kept
+kept_or_none None = record { first = 0; links = 0; run = record { head = 0; tail = 0; size = 0 } }
+kept_or_none (Some k) = k
+
+abbrev pub kept_of : ℕ → Slab Kept → ℕ → Kept
+kept_of n kept node = kept_or_none (get kept (key_of n node))
+
+-- where the vertices of a node stand
+abbrev pub run_of : ℕ → Slab Kept → ℕ → Run
+run_of n kept node = if nat_le node n then record { head = node; tail = node; size = 1 } else (kept_of n kept node).run
+
+-- the vertices of a run
+abbrev pub vertices_of : List ℕ → Run → List ℕ
+vertices_of followers r = walk r.size followers r.head
+
+-- the last of a list of numbers, or this
+abbrev pub last_of : ℕ → List ℕ → ℕ
+last_of d [] = d
+last_of d (x ∷ xs) = last_of x xs
+
+-- a run gives these vertices
+pub record IsRun (followers : List ℕ) (r : Run) (xs : List ℕ) : Type 0 where
+  pub vertices : vertices_of followers r ≡ xs
+  pub tail : last_of 0 xs ≡ r.tail
+
+-- the runs of the nodes of a circuit
+abbrev pub runs_of : ℕ → Slab Kept → List Link → List Run
+runs_of n kept circuit = map (λ (l : Link). run_of n kept l.node) circuit
+
+-- the followers once runs are joined to one, after this vertex
+abbrev pub joined : List ℕ → ℕ → List Run → List ℕ
+joined followers tail [] = followers
+joined followers tail (r ∷ rest) = joined (slice_set followers tail r.head) r.tail rest
+
+abbrev pub joined_tail : ℕ → List Run → ℕ
+joined_tail tail [] = tail
+joined_tail tail (r ∷ rest) = joined_tail r.tail rest
+
+abbrev pub joined_size : List Run → ℕ
+joined_size [] = 0
+joined_size (r ∷ rest) = r.size + joined_size rest
+
+-- each of these nodes for each vertex of its run
+abbrev pub lowered : List ℕ → (ℕ → List ℕ) → List ℕ → List ℕ
+lowered outer run [] = outer
+lowered outer run (c ∷ cs) = lowered (filled outer (run c) c) run cs
+
+-- up by a table of parents, at most so many numbers, until there is none
+abbrev pub climb : ℕ → List ℕ → ℕ → List ℕ
+climb zero parents x = []
+climb (suc k) parents x = if x == 0 then [] else x ∷ climb k parents (slice_index parents x)
+
+-- the way up ends, and comes to numbers of the table alone
+pub record CanClimb (parents : List ℕ) (x : ℕ) : Type 0 where
+  pub ends : climb (suc (length parents)) parents x ≡ climb (length parents) parents x
+  pub within : AllByRecursion (λ a. a < length parents) (climb (length parents) parents x)
+
+-- up by a table of parents until the parent is this one, at most so many steps
+abbrev pub climb_to : ℕ → List ℕ → ℕ → ℕ → ℕ
+climb_to zero parents stop x = x
+climb_to (suc k) parents stop x = if slice_index parents x == stop then x else climb_to k parents stop (slice_index parents x)
+
+-- the nodes form one circle with 0 between the oldest and the newest: each has the next older and the next newer one
+abbrev pub IsOrder : List ℕ → List ℕ → ℕ → List ℕ → Type 0
+IsOrder older newer before [] = (slice_index older before ≡ 0) × (slice_index newer 0 ≡ before)
+IsOrder older newer before (x ∷ xs) = (slice_index older before ≡ x) × (slice_index newer x ≡ before) × IsOrder older newer x xs
+
+-- the blossoms of these nodes, newest first
+abbrev pub build : (ℕ → List Link) → List ℕ → List Blossom
+build ring [] = []
+build ring (x ∷ xs) = made_of (build ring xs) (ring x) x ∷ build ring xs
+
+-- the ring of a blossom's node
+abbrev pub ring_at : ℕ → Slab Kept → List ℕ → List ℕ → ℕ → List Link
+ring_at n kept nexts edges node = links_of edges (walk (kept_of n kept node).links nexts (kept_of n kept node).first)
+
+-- the node in whose ring this one lies, or 0
+abbrev pub parent_of : List Blossom → ℕ → ℕ
+parent_of [] a = 0
+parent_of (b ∷ older) a = if in_ring b.ring a then b.node else parent_of older a
+
+abbrev pub order_of : Inside → List ℕ
+order_of a = walk (slab_len a.kept) a.older.items (slice_index a.older.items 0)
+
+abbrev pub blossoms_of : Inside → List Blossom
+blossoms_of a = build (ring_at a.vertex_count a.kept a.nexts.items a.edges.items) (order_of a)
+
+abbrev pub family_of : Inside → Family
+family_of a = record { vertex_count = a.vertex_count; duals = a.duals.items; blossoms = blossoms_of a }
+
+-- each table has a place for each of the numbers
+pub record HasPlaces (a : Inside) : Type 0 where
+  pub parents : length a.parents.items ≡ a.vertex_count + room_of a.vertex_count + 1
+  pub nexts : length a.nexts.items ≡ a.vertex_count + room_of a.vertex_count + 1
+  pub edges : length a.edges.items ≡ a.vertex_count + room_of a.vertex_count + 1
+  pub older : length a.older.items ≡ a.vertex_count + room_of a.vertex_count + 1
+  pub newer : length a.newer.items ≡ a.vertex_count + room_of a.vertex_count + 1
+  pub outer : length a.outer.items ≡ a.vertex_count + 1
+  pub followers : length a.followers.items ≡ a.vertex_count + 1
+
+pub record IsSound (a : Inside) : Type 0 where
+  pub family : IsFamily (family_of a)
+  pub places : HasPlaces a
+  pub outer : (v : ℕ) → 1 ≤ v → v ≤ a.vertex_count → slice_index a.outer.items v ≡ outermost (blossoms_of a) v
+  pub parents : (x : ℕ) → x ≤ a.vertex_count + room_of a.vertex_count → slice_index a.parents.items x ≡ parent_of (blossoms_of a) x
+  pub order : IsOrder a.older.items a.newer.items 0 (order_of a)
+  pub runs : (x : ℕ) → holds (order_of a) x ≡ true → IsRun a.followers.items (kept_of a.vertex_count a.kept x).run (members_of (blossoms_of a) x)
+  pub kept : AllByRecursion (λ x. IsSome (get a.kept (key_of a.vertex_count x))) (order_of a)
+  pub only : (x : ℕ) → a.vertex_count < x → IsSome (get a.kept (key_of a.vertex_count x)) → holds (order_of a) x ≡ true
+  pub room : a.kept.capacity ≡ room_of a.vertex_count

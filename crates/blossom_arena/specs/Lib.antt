@@ -1,0 +1,4 @@
+pub mod Tables
+pub mod Family
+pub mod Fields
+pub mod Slack

@@ -1,0 +1,19 @@
+-- The duals of a family that an edge feels, and the family's sets as certificates list them (25, 26).
+use Rattle.std.specs.Prelude.{ℕ, ℤ, pos, ◌+ℤ◌, ◌-ℤ◌, ◌*ℤ◌, List, [], ◌∷◌, map, take, drop, if◌then◌else◌}
+use Rattle.graph_theory.specs.declared.edge.Edge.{Edge}
+use Rattle.graph_theory.specs.declared.odd_set.OddSet.{OddSet}
+use Rattle.graph_theory.specs.Parts.{crosses}
+use Rattle.blossom_arena.specs.Family.{Blossom, dual_at}
+
+-- the duals of the nodes that hold exactly one end of an edge, added up
+abbrev pub pull : List ℤ → List Blossom → Edge → ℤ
+pull ys [] e = dual_at ys e.u +ℤ dual_at ys e.v
+pull ys (b ∷ older) e = (if crosses b.members e then dual_at ys b.node else pos 0) +ℤ pull ys older e
+
+-- the duals of the vertices 1 to n
+abbrev pub vertex_duals : ℕ → List ℤ → List ℤ
+vertex_duals n ys = take n (drop 1 ys)
+
+-- the sets with their duals, newest first
+abbrev pub sets_of : List ℤ → List Blossom → List OddSet
+sets_of ys bs = map (λ (b : Blossom). record { dual = dual_at ys b.node; members = b.members }) bs

@@ -1,0 +1,330 @@
+ghost use Rattle.std.specs.Prelude.{◌≡◌, ℕ, ◌+◌, ◌<◌, ◌≤◌, pos, ◌≤ℤ◌, ◌+ℤ◌, true, false, [], replicate, IfOk, length, slice_index, slice_set, vec_len};
+ghost use Rattle.graph_theory.specs.Parts.{holds};
+ghost use Rattle.blossom_arena.specs.Family.{Family, IsFamily, IsCircuit, IsDual, empty_family, is_vertex, is_node, is_outermost, shrunk, dissolved, raised, dual_at, outermost, child_holding, ring_of, members_of, chain_of, names_of, room_of};
+ghost use Rattle.blossom_arena.specs.Fields.{climb_to};
+
+use crate::blossoms::Blossoms;
+use crate::chain::Chain;
+use crate::links::{Link, node_at};
+use crate::members::Members;
+use crate::nodes::NodeId;
+use crate::order::{put_first, take_out};
+use crate::ring::Ring;
+use crate::runs::{Kept, find_kept, find_run, has_kept, join, lower};
+use crate::tables::{fill, hang, note, renumber, thread, wipe};
+use mb_base::{EdgeId, OutOfMemory, VertexId};
+use slab::Slab;
+use std::alloc::{AllocError, Global};
+use std::marker::Model;
+
+/// Blossoms over the vertices 1 to n, each of them a node, and a dual for each node. Contracts see the
+/// list of the blossoms, newest first, and the list of the duals by node number.
+#[derive(Drop)]
+pub struct Arena {
+    vertex_count: u32,
+    // By node number, with place 0 unused: its dual, the blossom in whose ring it lies or 0, and in that
+    // ring the next node and the edge to it.
+    duals: Vec<i64>,
+    parents: Vec<u32>,
+    nexts: Vec<u32>,
+    edges: Vec<EdgeId>,
+    // By vertex: its outermost node, and the vertex after it in the blossoms that hold both.
+    outer: Vec<u32>,
+    followers: Vec<u32>,
+    // By node number: the next older and the next newer blossom. Place 0 stands between the two ends.
+    older: Vec<u32>,
+    newer: Vec<u32>,
+    // The blossoms, the one of node n + 1 + k under the key k.
+    kept: Slab<Kept>,
+}
+
+impl Model for Arena {
+    ghost use Rattle.blossom_arena.specs.Family.{Family};
+    ghost use Rattle.blossom_arena.specs.Fields.{family_of, IsSound};
+
+    ghost Value = { Family };
+
+    ghost view = { family_of };
+
+    ghost invariant = { IsSound };
+}
+
+/// The numbers 0 to n.
+fn numbered(alloc: Global, n: u32) -> Result<Vec<u32>, OutOfMemory>
+    requires { n ≤ 4096 }
+    ensures len { IfOk result (λ v. vec_len v ≡ n + 1) }
+    ensures each { IfOk result (λ v. (i : ℕ) → i ≤ n → slice_index v.items i ≡ i) }
+{
+    let mut numbers = Vec::with_capacity(alloc, n as usize + 1)?;
+    for number in 0..n + 1 {
+        numbers.push(number)?;
+    }
+    Ok(numbers)
+}
+
+/// The node below `stop` on the way up by the parents from a node that it holds.
+fn child_below(parents: &[u32], node: u32, stop: u32) -> u32
+    requires place { node < length parents.now }
+    requires each { (x : ℕ) → x < length parents.now → slice_index parents.now x < length parents.now }
+    ensures { result ≡ climb_to (length parents.now) parents.now stop node }
+{
+    let mut child = node;
+    for _ in 0..parents.len() {
+        let parent = parents[child as usize];
+        if parent == stop {
+            return child;
+        }
+        child = parent;
+    }
+    child
+}
+
+fn dual_in(duals: &[i64], node: u32) -> i64
+    requires { node < length duals.now }
+    ensures { result ≡ dual_at duals.now node }
+{
+    duals[node as usize]
+}
+
+fn set_dual(duals: &mut Vec<i64>, node: u32, y: i64)
+    requires { node < vec_len duals.old }
+    ensures { duals.new.items ≡ slice_set duals.old.items node y }
+{
+    duals[node as usize] = y;
+}
+
+fn wipe_duals(duals: &mut Vec<i64>)
+    ensures { duals.new.items ≡ replicate (vec_len duals.old) (pos 0) }
+{
+    duals.fill(0);
+}
+
+fn raise_dual(duals: &mut Vec<i64>, node: u32, d: i64)
+    requires place { node < vec_len duals.old }
+    requires in_range { IsDual (dual_at duals.old.items node +ℤ d) }
+    ensures { duals.new.items ≡ slice_set duals.old.items node (dual_at duals.old.items node +ℤ d) }
+{
+    let sum = duals[node as usize] + d;
+    duals[node as usize] = sum;
+}
+
+impl Arena {
+    /// No blossom, all duals 0, and room for all blossoms that n vertices can have.
+    pub fn new(alloc: Global, n: u32) -> Result<Arena, OutOfMemory>
+        requires { n ≤ 4096 }
+        ensures family { IfOk result (λ f. f ≡ empty_family n) }
+        ensures good { IfOk result IsFamily }
+    {
+        let count = n as usize;
+        let room = n.saturating_sub(1) as usize / 2;
+        let kept = Slab::with_capacity(alloc, room)?;
+        if kept.capacity() != room {
+            return Err(AllocError);
+        }
+        let places = count + room + 1;
+        Ok(Arena {
+            vertex_count: n,
+            duals: vec![in alloc; 0i64; places]?,
+            parents: vec![in alloc; 0u32; places]?,
+            nexts: vec![in alloc; 0u32; places]?,
+            edges: vec![in alloc; EdgeId::new(0); places]?,
+            outer: numbered(alloc, n)?,
+            followers: vec![in alloc; 0u32; count + 1]?,
+            older: vec![in alloc; 0u32; places]?,
+            newer: vec![in alloc; 0u32; places]?,
+            kept,
+        })
+    }
+
+    /// How many vertices there are.
+    pub fn vertex_count(&self) -> u32
+        ensures count { result ≡ self.now.vertex_count }
+        ensures good { IsFamily self.now }
+    {
+        self.vertex_count
+    }
+
+    /// The greatest number that a node can have.
+    pub fn node_limit(&self) -> u32
+        ensures limit { result ≡ self.now.vertex_count + room_of self.now.vertex_count }
+        ensures good { IsFamily self.now }
+    {
+        self.vertex_count + self.vertex_count.saturating_sub(1) / 2
+    }
+
+    /// Whether this is the node of a blossom.
+    pub fn is_blossom(&self, node: NodeId) -> bool
+        ensures blossom { result ≡ holds (names_of self.now.blossoms) node }
+        ensures good { IsFamily self.now }
+    {
+        let number = node.number();
+        if number <= self.vertex_count {
+            return false;
+        }
+        has_kept(&self.kept, self.vertex_count, number)
+    }
+
+    /// Whether this is a vertex or a blossom.
+    pub fn is_node(&self, node: NodeId) -> bool
+        ensures node { result ≡ is_node self.now.vertex_count self.now.blossoms node }
+        ensures good { IsFamily self.now }
+    {
+        let number = node.number();
+        if number <= self.vertex_count {
+            return number != 0;
+        }
+        self.is_blossom(node)
+    }
+
+    /// Whether no other node holds a node.
+    pub fn is_outermost(&self, node: NodeId) -> bool
+        requires { is_node self.now.vertex_count self.now.blossoms node ≡ true }
+        ensures outer { result ≡ is_outermost self.now.vertex_count self.now.blossoms node }
+        ensures good { IsFamily self.now }
+    {
+        self.parents[node.number() as usize] == 0
+    }
+
+    /// The outermost node that holds a vertex, in constant time.
+    pub fn outermost(&self, v: VertexId) -> NodeId
+        requires { is_vertex self.now.vertex_count v ≡ true }
+        ensures node { result ≡ outermost self.now.blossoms v }
+        ensures good { IsFamily self.now }
+    {
+        NodeId::new(self.outer[v.number() as usize])
+    }
+
+    /// The dual of a node.
+    pub fn dual(&self, node: NodeId) -> i64
+        requires { is_node self.now.vertex_count self.now.blossoms node ≡ true }
+        ensures dual { result ≡ dual_at self.now.duals node }
+        ensures good { IsFamily self.now }
+    {
+        dual_in(&self.duals, node.number())
+    }
+
+    /// Adds d to the dual of a node.
+    pub fn add_dual(&mut self, node: NodeId, d: i64)
+        requires node { is_node self.old.vertex_count self.old.blossoms node ≡ true }
+        requires in_range { IsDual (dual_at self.old.duals node +ℤ d) }
+        requires not_below { self.old.vertex_count < node → pos 0 ≤ℤ (dual_at self.old.duals node +ℤ d) }
+        ensures family { self.new ≡ raised self.old node d }
+        ensures good { IsFamily self.new }
+    {
+        raise_dual(&mut self.duals, node.number(), d);
+    }
+
+    /// The links of the circuit that a blossom was made of.
+    pub fn ring(&self, b: NodeId) -> Ring<'_>
+        requires { holds (names_of self.now.blossoms) b ≡ true }
+        ensures ring { result ≡ ring_of self.now.blossoms b }
+        ensures good { IsFamily self.now }
+    {
+        let kept = find_kept(&self.kept, self.vertex_count, b.number());
+        Ring::of(&self.nexts, &self.edges, kept.first, kept.links)
+    }
+
+    /// The vertices of a node. It takes no memory.
+    pub fn members(&self, node: NodeId) -> Members<'_>
+        requires { is_node self.now.vertex_count self.now.blossoms node ≡ true }
+        ensures members { result ≡ members_of self.now.blossoms node }
+        ensures good { IsFamily self.now }
+    {
+        Members::of(
+            &self.followers,
+            find_run(&self.kept, self.vertex_count, node.number()),
+        )
+    }
+
+    /// The nodes that hold a vertex, innermost first.
+    pub fn chain(&self, v: VertexId) -> Chain<'_>
+        requires { is_vertex self.now.vertex_count v ≡ true }
+        ensures chain { result ≡ chain_of self.now.blossoms v }
+        ensures good { IsFamily self.now }
+    {
+        Chain::of(&self.parents, v.number())
+    }
+
+    /// The node of a blossom's ring that holds a vertex of the blossom.
+    pub fn child_holding(&self, b: NodeId, v: VertexId) -> NodeId
+        requires blossom { holds (names_of self.now.blossoms) b ≡ true }
+        requires inside { holds (members_of self.now.blossoms b) v ≡ true }
+        ensures child { result ≡ child_holding self.now.blossoms b v }
+        ensures good { IsFamily self.now }
+    {
+        NodeId::new(child_below(&self.parents, v.number(), b.number()))
+    }
+
+    /// The blossoms, newest first.
+    pub fn blossoms(&self) -> Blossoms<'_>
+        ensures blossoms { result ≡ names_of self.now.blossoms }
+        ensures good { IsFamily self.now }
+    {
+        Blossoms::of(&self.older, self.older[0], self.kept.len() as u32)
+    }
+
+    /// Makes one node of a circuit of outermost nodes, of dual 0, in time linear in its vertices.
+    pub fn shrink(&mut self, circuit: &[Link]) -> NodeId
+        requires { IsCircuit self.old.vertex_count self.old.blossoms circuit.now }
+        ensures fresh { is_node self.old.vertex_count self.old.blossoms result ≡ false }
+        ensures above { self.old.vertex_count < result }
+        ensures within { result ≤ self.old.vertex_count + room_of self.old.vertex_count }
+        ensures family { self.new ≡ shrunk self.old result circuit.now }
+        ensures good { IsFamily self.new }
+    {
+        let run = join(&mut self.followers, &self.kept, self.vertex_count, circuit);
+        let first = node_at(circuit, 0, 0);
+        let links = circuit.len() as u32;
+        let key = self.kept.insert_reserved(Kept { first, links, run });
+        let node = self.vertex_count + 1 + key as u32;
+        set_dual(&mut self.duals, node, 0);
+        thread(&mut self.nexts, circuit, first);
+        note(&mut self.edges, circuit);
+        hang(
+            &mut self.parents,
+            Ring::of(&self.nexts, &self.edges, first, links),
+            node,
+        );
+        fill(&mut self.outer, Members::of(&self.followers, run), node);
+        put_first(&mut self.older, &mut self.newer, node);
+        NodeId::new(node)
+    }
+
+    /// Takes away an outermost blossom of dual 0, in time linear in its vertices.
+    pub fn dissolve(&mut self, b: NodeId)
+        requires blossom { holds (names_of self.old.blossoms) b ≡ true }
+        requires outer { is_outermost self.old.vertex_count self.old.blossoms b ≡ true }
+        requires dual { dual_at self.old.duals b ≡ pos 0 }
+        ensures family { self.new ≡ dissolved self.old b }
+        ensures good { IsFamily self.new }
+    {
+        let node = b.number();
+        let kept = self.kept.remove((node - (self.vertex_count + 1)) as usize);
+        take_out(&mut self.older, &mut self.newer, node);
+        hang(
+            &mut self.parents,
+            Ring::of(&self.nexts, &self.edges, kept.first, kept.links),
+            0,
+        );
+        lower(
+            &mut self.outer,
+            Ring::of(&self.nexts, &self.edges, kept.first, kept.links),
+            &self.followers,
+            &self.kept,
+            self.vertex_count,
+        );
+    }
+
+    /// Takes away all blossoms and makes all duals 0.
+    pub fn clear(&mut self)
+        ensures family { self.new ≡ empty_family self.old.vertex_count }
+        ensures good { IsFamily self.new }
+    {
+        self.kept.clear();
+        wipe_duals(&mut self.duals);
+        wipe(&mut self.parents);
+        wipe(&mut self.older);
+        wipe(&mut self.newer);
+        renumber(&mut self.outer);
+    }
+}

@@ -1,0 +1,25 @@
+//! A nested family of odd sets of vertices with duals, for searches that shrink blossoms to nodes.
+//! It stands on `mb_base`, `graph_theory` and `slab`, and takes all its memory when it is made. It
+//! promises that each call changes the family as one equation says, and keeps it nested and in range.
+#![tactic(auto)]
+
+mod arena;
+mod blossoms;
+mod chain;
+mod links;
+mod members;
+mod nodes;
+mod order;
+mod ring;
+mod runs;
+mod tables;
+#[cfg(test)]
+mod tests;
+
+pub use arena::Arena;
+pub use blossoms::Blossoms;
+pub use chain::Chain;
+pub use links::Link;
+pub use members::Members;
+pub use nodes::NodeId;
+pub use ring::Ring;

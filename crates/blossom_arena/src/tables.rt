@@ -1,0 +1,72 @@
+ghost use Rattle.std.specs.Prelude.{◌≡◌, ◌<◌, ◌^◌, ℕ, replicate, slice_index, map, drop, length, vec_len};
+ghost use Rattle.std.specs.List.{AllByRecursion};
+ghost use Rattle.blossom_arena.specs.Tables.{filled, threaded, noted};
+ghost use Rattle.blossom_arena.specs.Family.{nodes_of};
+ghost use Rattle.blossom_arena.specs.declared.links.Link.{Link};
+
+use crate::links::{Link, node_at};
+use crate::members::Members;
+use crate::ring::Ring;
+use mb_base::EdgeId;
+
+/// Puts an entry at each of these vertices.
+pub(crate) fn fill(table: &mut Vec<u32>, vertices: Members<'_>, entry: u32)
+    requires { AllByRecursion (λ v. v < vec_len table.old) vertices }
+    ensures items { table.new.items ≡ filled table.old.items vertices.entry entry }
+    ensures len { vec_len table.new ≡ vec_len table.old }
+{
+    for v in vertices {
+        table[v.number() as usize] = entry;
+    }
+}
+
+/// Puts 0 at each place.
+pub(crate) fn wipe(table: &mut Vec<u32>)
+    ensures { table.new.items ≡ replicate (vec_len table.old) 0 }
+{
+    table.fill(0);
+}
+
+/// Puts its number at each place.
+pub(crate) fn renumber(table: &mut Vec<u32>)
+    requires { vec_len table.old < 2 ^ 32 }
+    ensures len { vec_len table.new ≡ vec_len table.old }
+    ensures each { (i : ℕ) → i < vec_len table.old → slice_index table.new.items i ≡ i }
+{
+    for place in 0..table.len() {
+        table[place] = place as u32;
+    }
+}
+
+/// Puts an entry at each node of a ring.
+pub(crate) fn hang(table: &mut Vec<u32>, ring: Ring<'_>, entry: u32)
+    requires { AllByRecursion (λ (l : Link). l.node < vec_len table.old) ring }
+    ensures items { table.new.items ≡ filled table.old.items (nodes_of ring.entry) entry }
+    ensures len { vec_len table.new ≡ vec_len table.old }
+{
+    for link in ring {
+        table[link.node.number() as usize] = entry;
+    }
+}
+
+/// Puts at each node of a circuit the one that comes after it, and at the last what follows.
+pub(crate) fn thread(nexts: &mut Vec<u32>, circuit: &[Link], after: u32)
+    requires { AllByRecursion (λ (l : Link). l.node < vec_len nexts.old) circuit.now }
+    ensures items { nexts.new.items ≡ threaded nexts.old.items circuit.now after }
+    ensures len { vec_len nexts.new ≡ vec_len nexts.old }
+{
+    for (place, link) in circuit.iter().enumerate() {
+        nexts[link.node.number() as usize] = node_at(circuit, place + 1, after);
+    }
+}
+
+/// Puts at each node of a circuit its edge.
+pub(crate) fn note(edges: &mut Vec<EdgeId>, circuit: &[Link])
+    requires { AllByRecursion (λ (l : Link). l.node < vec_len edges.old) circuit.now }
+    ensures items { edges.new.items ≡ noted edges.old.items circuit.now }
+    ensures len { vec_len edges.new ≡ vec_len edges.old }
+{
+    for link in circuit {
+        edges[link.node.number() as usize] = link.edge;
+    }
+}
