@@ -55,7 +55,8 @@ fn one_edge_with_a_capacity(rt: HostRuntime) -> Result<(), Fail> {
     let alloc = rt.alloc();
     let (one, two) = (VertexId::new(1), VertexId::new(2));
     let mut instance = Instance::new(alloc, 2, 1)?;
-    instance.add_edge(one, two, 7, Some(1))?;
+    let edge = instance.add_edge(one, two, 5, Some(1))?;
+    assert_eq!(rt; instance.graph()?.edge(edge), (one, two, 5));
     assert_eq!(rt; allows(alloc, &instance, Kind::Perfect, &[1])?, true);
     assert_eq!(rt; allows(alloc, &instance, Kind::CapMatch, &[1])?, true);
     assert_eq!(rt; allows(alloc, &instance, Kind::Perfect, &[0])?, false);
@@ -69,6 +70,9 @@ fn one_edge_with_a_capacity(rt: HostRuntime) -> Result<(), Fail> {
     instance.set_value(one, 2049);
     instance.set_value(two, 2049);
     assert_eq!(rt; gadget_size(&instance, Kind::BMatch), (4098, 4_198_401));
+    instance.set_value(one, 1024);
+    instance.set_value(two, 1024);
+    assert_eq!(rt; gadget_size(&instance, Kind::BMatch), (2048, 1_048_576));
     Ok(())
 }
 

@@ -18,6 +18,17 @@ fn look_once<L: Ledger>(graph: &Graph, e: EdgeId, blank: Blank) -> (VertexId, Ve
 }
 
 #[test]
+fn one_edge(rt: HostRuntime) -> Result<(), Fail> {
+    let mut graph = Graph::new(rt.alloc(), 2);
+    let edge = graph.add(VertexId::new(1), VertexId::new(2), 5)?;
+    assert_eq!(rt; graph.edge(edge), (VertexId::new(1), VertexId::new(2), 5));
+    let index = graph.index()?;
+    assert_eq!(rt; index.at(VertexId::new(1)), [edge].as_slice());
+    assert_eq!(rt; index.at(VertexId::new(2)), [edge].as_slice());
+    Ok(())
+}
+
+#[test]
 fn triangle_with_a_parallel_edge(rt: HostRuntime) -> Result<(), Fail> {
     let one = VertexId::new(1);
     let two = VertexId::new(2);
