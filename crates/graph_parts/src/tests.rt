@@ -21,6 +21,38 @@ fn components_are_ascending(rt: HostRuntime) -> Result<(), Fail> {
     Ok(())
 }
 
+// No edges, two edges apart, and a triangle apart from two vertices.
+#[test]
+fn components_that_are_not_the_whole(rt: HostRuntime) -> Result<(), Fail> {
+    let of = VertexId::new;
+    let bare = Graph::new(rt.alloc(), 2);
+    let of_bare = component(rt.alloc(), &bare, of(1))?;
+    assert_eq!(rt; of_bare.as_slice(), [of(1)].as_slice());
+    let mut edges = Graph::new(rt.alloc(), 4);
+    edges.add(of(1), of(2), 1)?;
+    edges.add(of(3), of(4), 1)?;
+    let of_edges = component(rt.alloc(), &edges, of(1))?;
+    assert_eq!(rt; of_edges.as_slice(), [of(1), of(2)].as_slice());
+    let mut triangle = Graph::new(rt.alloc(), 5);
+    triangle.add(of(3), of(4), 1)?;
+    triangle.add(of(4), of(5), 1)?;
+    triangle.add(of(3), of(5), 1)?;
+    let of_triangle = component(rt.alloc(), &triangle, of(1))?;
+    assert_eq!(rt; of_triangle.as_slice(), [of(1)].as_slice());
+    Ok(())
+}
+
+#[test]
+fn rays_of_a_star_are_odd(rt: HostRuntime) -> Result<(), Fail> {
+    let of = VertexId::new;
+    let mut star = Graph::new(rt.alloc(), 4);
+    star.add(of(1), of(2), 1)?;
+    star.add(of(1), of(3), 1)?;
+    star.add(of(1), of(4), 1)?;
+    assert_eq!(rt; odd_components(rt.alloc(), &star, &[of(1)])?, 3);
+    Ok(())
+}
+
 // Two vertices in the middle, each with two rays.
 #[test]
 fn removed_vertices_leave_odd_components(rt: HostRuntime) -> Result<(), Fail> {

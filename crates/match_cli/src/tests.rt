@@ -1,121 +1,116 @@
-ghost use Rattle.std.specs.Prelude.{◌≡◌, ◌<◌};
+mod case;
+mod documents;
+mod instances;
+mod runs;
 
-use super::*;
-use mb_base::{MemSink, MemSource, Steps, SureSink, SureSource};
-use std::marker::Brand;
-use std::sync::ledger::{Blank, Ledger};
+use crate::status::Status;
+use case::Case;
+use documents::DOCUMENTS;
+use instances::INSTANCES;
+use runs::{expect, with_faults};
+use std::alloc::Global;
+use std::process::Abort;
 use std::test::Fail;
+
+const CHECK: &[&str] = &["check", "perfect"];
 
 const ONE_EDGE: &[u8] = b"p edge 2 1\ne 1 2 5\ns OPTIMAL perfect 5\nx 1 1\ny 1 5\ny 2 5\n";
 
-/// The words of a command line of `blossom`.
-fn words(rt: &HostRuntime, line: &[&str]) -> Result<Vec<String>, Fail> {
-    let alloc = rt.alloc();
-    let mut words = Vec::new(alloc);
-    words.push(String::from_str(alloc, "blossom")?)?;
-    for word in line {
-        words.push(String::from_str(alloc, word)?)?;
+/// Asserts each case of a table.
+fn expect_all(rt: &impl Abort, alloc: Global, cases: &[Case]) -> Result<(), Fail> {
+    for case in cases {
+        let mut input = Vec::from_slice(alloc, case.instance)?;
+        input.extend_from_slice(case.document)?;
+        expect(
+            rt,
+            alloc,
+            case.shows,
+            CHECK,
+            &input,
+            (case.output, case.ends),
+        )?;
     }
-    Ok(words)
-}
-
-/// A run over memory that never fails: its status, and what the sink kept.
-fn outcome<L: Ledger>(
-    blank: Blank,
-    rt: &HostRuntime,
-    line: &[&str],
-    input: &[u8],
-    piece: usize,
-) -> Result<(Status, Vec<u8>), Fail>
-    requires name { blank.name ≡ L.name }
-    requires parts { blank.parts ≡ L.parts }
-    requires some { 0 < blank.parts }
-    requires piece { 0 < piece }
-{
-    let alloc = rt.alloc();
-    let mut steps = Steps::<L>::new(blank);
-    let mut source = SureSource::new(Vec::from_slice(alloc, input)?, piece);
-    let mut sink = SureSink::new(alloc, 100, piece)?;
-    let status = run(alloc, &words(rt, line)?, &mut source, &mut sink, &mut steps);
-    let kept = Vec::from_slice(alloc, sink.kept())?;
-    Ok((status, kept))
-}
-
-/// A run of the accepted input whose read and write of these numbers fail.
-fn faulty<L: Ledger>(
-    blank: Blank,
-    rt: &HostRuntime,
-    read_fails: u64,
-    write_fails: u64,
-) -> Result<(Status, Vec<u8>), Fail>
-    requires name { blank.name ≡ L.name }
-    requires parts { blank.parts ≡ L.parts }
-    requires some { 0 < blank.parts }
-{
-    let alloc = rt.alloc();
-    let mut steps = Steps::<L>::new(blank);
-    let bytes = Vec::from_slice(alloc, ONE_EDGE)?;
-    let mut source = MemSource::new(bytes, 1, vec![in alloc; read_fails]?);
-    let mut sink = MemSink::new(alloc, 100, 1, vec![in alloc; write_fails]?)?;
-    let line = words(rt, &["check", "perfect"])?;
-    let status = run(alloc, &line, &mut source, &mut sink, &mut steps);
-    let kept = Vec::from_slice(alloc, sink.kept())?;
-    Ok((status, kept))
+    Ok(())
 }
 
 #[test]
-fn answers(rt: HostRuntime) -> Result<(), Fail> {
-    let rows: [(&[u8], &[u8], Status); 8] = [
-        (ONE_EDGE, b"s ACCEPTED\n", Status::Done),
-        (
-            b"p edge 1 0\ns INFEASIBLE perfect\nu 0\n",
-            b"s ACCEPTED\n",
-            Status::Done,
-        ),
-        (b"", b"s MALFORMED HeaderMissing 1\n", Status::Malformed),
-        (
-            b"p edge 2 1\ne 1 1\n",
-            b"s MALFORMED Loop 2\n",
-            Status::Malformed,
-        ),
-        (b"p edge 2 0\n", b"s REJECTED DocForm 2\n", Status::Rejected),
-        (
-            b"p edge 0 0\ns OPTIMAL match 0\n",
-            b"s REJECTED KindDiffers 2\n",
-            Status::Rejected,
-        ),
-        (
-            b"p edge 2 0\ns OPTIMAL perfect 0\n",
-            b"s REJECTED NotFeasible 2\n",
-            Status::Rejected,
-        ),
-        (
-            b"p edge 0 0\ns INFEASIBLE perfect\n",
-            b"s REJECTED NotBarrier 2\n",
-            Status::Rejected,
-        ),
+fn documents_are_judged(rt: HostRuntime) -> Result<(), Fail> {
+    expect_all(&rt, rt.alloc(), &DOCUMENTS)
+}
+
+#[test]
+fn instances_are_read(rt: HostRuntime) -> Result<(), Fail> {
+    expect_all(&rt, rt.alloc(), &INSTANCES)
+}
+
+#[test]
+fn a_set_ten_thousand_times_more(rt: HostRuntime) -> Result<(), Fail> {
+    let instance = b"p edge 4 2\ne 1 2 1\ne 3 4 1\ns OPTIMAL perfect 2\nx 1 1\nx 2 1\n";
+    let duals = b"y 1 0\ny 2 1\ny 3 1\ny 4 0\nz 1 3 1 2 3\nz 1 3 2 3 4\n";
+    let mut input = Vec::from_slice(rt.alloc(), instance)?;
+    input.extend_from_slice(duals)?;
+    for _ in 0..10_000u32 {
+        input.extend_from_slice(b"z 1 3 2 3 4\n")?;
+    }
+    let wanted = (b"s REJECTED Slack 4\n".as_slice(), Status::Rejected);
+    expect(&rt, rt.alloc(), "ten thousand sets", CHECK, &input, wanted)
+}
+
+/// Asserts the answer to so many of the bytes that are accepted, for each number in a range.
+fn expect_cut(
+    rt: &impl Abort,
+    alloc: Global,
+    from: usize,
+    below: usize,
+    wanted: (&[u8], Status),
+) -> Result<(), Fail> {
+    for length in from..below {
+        let cut = &ONE_EDGE[..length.min(ONE_EDGE.len())];
+        expect(rt, alloc, "a cut input", CHECK, cut, wanted)?;
+    }
+    Ok(())
+}
+
+#[test]
+fn an_input_that_is_cut(rt: HostRuntime) -> Result<(), Fail> {
+    // From how many bytes on, to below how many, the answer is this.
+    let rows: [(usize, usize, &[u8], Status); 12] = [
+        (0, 1, b"s MALFORMED HeaderMissing 1\n", Status::Malformed),
+        (1, 10, b"s MALFORMED HeaderForm 1\n", Status::Malformed),
+        (10, 12, b"s MALFORMED EdgeCount 2\n", Status::Malformed),
+        (12, 16, b"s MALFORMED FieldCount 2\n", Status::Malformed),
+        (16, 38, b"s REJECTED DocForm 3\n", Status::Rejected),
+        (38, 40, b"s REJECTED NotFeasible 3\n", Status::Rejected),
+        (40, 44, b"s REJECTED DocForm 4\n", Status::Rejected),
+        (44, 46, b"s REJECTED DualMissing 3\n", Status::Rejected),
+        (46, 50, b"s REJECTED DocForm 5\n", Status::Rejected),
+        (50, 52, b"s REJECTED DualMissing 3\n", Status::Rejected),
+        (52, 56, b"s REJECTED DocForm 6\n", Status::Rejected),
+        (56, 58, b"s ACCEPTED\n", Status::Done),
     ];
-    for (input, wanted, ends) in rows {
-        let (status, kept) = outcome::<Brand>(Blank::new(1), &rt, &["check", "perfect"], input, 7)?;
-        assert_eq!(rt; kept.as_slice(), wanted);
-        assert_eq!(rt; status, ends);
+    for (from, below, output, ends) in rows {
+        expect_cut(&rt, rt.alloc(), from, below, (output, ends))?;
     }
     Ok(())
 }
 
 #[test]
 fn words_that_are_no_command(rt: HostRuntime) -> Result<(), Fail> {
-    let lines: [&[&str]; 5] = [
+    let lines: [&[&str]; 9] = [
         &[],
         &["check"],
         &["check", "match"],
         &["check", "--", "perfect"],
+        &["solve"],
         &["solve", "perfect"],
+        &["solve", "cover"],
+        &["solve", "--", "perfect"],
+        &["trial", "perfect", "1", "1", "1"],
     ];
+    let usage = (b"s USAGE\n".as_slice(), Status::Usage);
     for line in lines {
-        let (status, kept) = outcome::<Brand>(Blank::new(1), &rt, line, ONE_EDGE, 1)?;
-        assert_eq!(rt; kept.as_slice(), b"s USAGE\n".as_slice());
-        assert_eq!(rt; status, Status::Usage);
+        expect(&rt, rt.alloc(), "no command", line, b"", usage)?;
+        expect(&rt, rt.alloc(), "no command", line, ONE_EDGE, usage)?;
     }
     Ok(())
 }
@@ -123,16 +118,16 @@ fn words_that_are_no_command(rt: HostRuntime) -> Result<(), Fail> {
 #[test]
 fn faults(rt: HostRuntime) -> Result<(), Fail> {
     for call in 1..59u64 {
-        let (status, kept) = faulty::<Brand>(Blank::new(1), &rt, call, 0)?;
+        let (status, kept) = with_faults(rt.alloc(), ONE_EDGE, call, 0)?;
         assert_eq!(rt; status, Status::ReadFault);
         assert_eq!(rt; kept.len(), 0);
     }
     for call in 1..12u64 {
-        let (status, kept) = faulty::<Brand>(Blank::new(1), &rt, 0, call)?;
+        let (status, kept) = with_faults(rt.alloc(), ONE_EDGE, 0, call)?;
         assert_eq!(rt; status, Status::WriteFault);
         assert_eq!(rt; kept.len() as u64, call - 1);
     }
-    let (status, kept) = faulty::<Brand>(Blank::new(1), &rt, 59, 12)?;
+    let (status, kept) = with_faults(rt.alloc(), ONE_EDGE, 59, 12)?;
     assert_eq!(rt; status, Status::Done);
     assert_eq!(rt; kept.as_slice(), b"s ACCEPTED\n".as_slice());
     Ok(())
