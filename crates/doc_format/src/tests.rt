@@ -45,10 +45,40 @@ fn first_wrong_line_is_named(rt: HostRuntime) -> Result<(), Fail> {
     Ok(())
 }
 
+// It follows an instance of two lines.
+#[test]
+fn one_edge_and_its_duals(rt: HostRuntime) -> Result<(), Fail> {
+    match read(rt.alloc(), b"s OPTIMAL perfect 5\nx 1 1\ny 1 5\ny 2 5\n", 3) {
+        Ok(document) => {
+            assert_eq!(rt; document.status, DocStatus::Optimal);
+            assert_eq!(rt; document.kind, Kind::Perfect);
+            assert_eq!(rt; document.weight, 5);
+            assert_eq!(rt; document.line, 3);
+            let (line, edge, count) = (4, 1, 1);
+            let counts = [CountLine { line, edge, count }];
+            assert_eq!(rt; document.counts.as_slice(), counts.as_slice());
+            let dual = 5;
+            let duals = [(5, 1), (6, 2)].map(|(line, vertex)| DualLine { line, vertex, dual });
+            assert_eq!(rt; document.duals.as_slice(), duals.as_slice());
+            assert!(rt; document.walk.is_none());
+            assert!(rt; document.sets.is_empty());
+            assert!(rt; document.barrier.is_none());
+            assert!(rt; document.odd.is_none());
+            assert!(rt; document.split.is_none());
+        }
+        Err(_) => assert!(rt; false),
+    }
+    Ok(())
+}
+
 #[test]
 fn every_letter_is_read_and_written(rt: HostRuntime) -> Result<(), Fail> {
     let alloc = rt.alloc();
-    let rows: [(&[u8], &[u8]); 7] = [
+    let rows: [(&[u8], &[u8]); 8] = [
+        (
+            b"s OPTIMAL perfect 12\nx 1 1\nx 5 1\nx 7 1\ny 1 1\ny 2 1\ny 3 1\ny 4 1\ny 5 1\ny 6 1\nz 9 3 1 2 3\nz 9 3 4 5 6\n",
+            b"s OPTIMAL perfect 12\nx 1 1\nx 5 1\nx 7 1\n",
+        ),
         (
             b"s OPTIMAL perfect -5\nx 1 1\nx 7 1\ny 1 -2\ny 2 0\nz 4 3 3 1 2\nz 1 0\n",
             b"s OPTIMAL perfect -5\nx 1 1\nx 7 1\n",

@@ -20,10 +20,10 @@ fn three(alloc: Global, a: u32, b: u32, c: u32, dual: i64) -> Result<OddSet, All
 fn one_edge(rt: HostRuntime) -> Result<(), Fail> {
     let alloc = rt.alloc();
     let mut graph = Graph::new(alloc, 2);
-    graph.add(VertexId::new(1), VertexId::new(2), 7)?;
-    assert_eq!(rt; bound(alloc, &graph, &[7, 7], &[]), Ok(14));
+    graph.add(VertexId::new(1), VertexId::new(2), 5)?;
+    assert_eq!(rt; bound(alloc, &graph, &[5, 5], &[]), Ok(10));
     assert_eq!(rt;
-        bound(alloc, &graph, &[7, 8], &[]),
+        bound(alloc, &graph, &[5, 6], &[]),
         Err(DualFault::Slack(EdgeId::new(1)))
     );
     Ok(())
