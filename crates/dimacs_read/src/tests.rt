@@ -52,6 +52,25 @@ fn what_a_kind_asks_besides(rt: HostRuntime) -> Result<(), Fail> {
 }
 
 #[test]
+fn one_edge_and_its_document(rt: HostRuntime) -> Result<(), Fail> {
+    let text = b"p edge 2 1\ne 1 2 5\ns OPTIMAL perfect 5\nx 1 1\ny 1 5\ny 2 5\n";
+    match read(rt.alloc(), text, Kind::Perfect) {
+        Ok((instance, rest)) => {
+            assert_eq!(rt; instance.vertices(), 2);
+            for edge in instance.edge_list() {
+                assert_eq!(rt; (edge.u.number(), edge.v.number()), (1, 2));
+                assert_eq!(rt; (edge.w, edge.capacity), (5, None));
+            }
+            assert_eq!(rt; instance.edges(), 1);
+            assert_eq!(rt; rest.line, 3);
+            assert_eq!(rt; rest.bytes.as_slice(), &text[19..]);
+        }
+        Err(_) => assert!(rt; false),
+    }
+    Ok(())
+}
+
+#[test]
 fn an_instance_and_the_rest(rt: HostRuntime) -> Result<(), Fail> {
     let text = b"c x\r\np col 02 1\r\n\r\n  e\t2 1 -0\ns OPTIMAL\nx".as_slice();
     match read(rt.alloc(), text, Kind::BMatch) {
