@@ -6,6 +6,7 @@
 mod arena;
 mod blossoms;
 mod chain;
+mod law;
 mod links;
 mod members;
 mod nodes;
@@ -19,6 +20,7 @@ mod tests;
 pub use arena::Arena;
 pub use blossoms::Blossoms;
 pub use chain::Chain;
+pub use law::laws;
 pub use links::Link;
 pub use members::Members;
 pub use nodes::NodeId;
