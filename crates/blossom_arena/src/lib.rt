@@ -6,6 +6,7 @@
 mod arena;
 mod blossoms;
 mod chain;
+mod dual_table;
 mod law;
 mod links;
 mod members;

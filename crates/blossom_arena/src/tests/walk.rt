@@ -195,14 +195,35 @@ fn depth(alloc: Global, plain: &PlainFamily) -> Result<usize, OutOfMemory> {
     Ok(deepest)
 }
 
+/// What a walk came to: the most nodes over a vertex, and how often the room was filled.
+#[derive(Drop)]
+struct Reached {
+    depth: usize,
+    fills: u32,
+    blossoms: usize,
+}
+
+impl Reached {
+    fn note(&mut self, depth: usize, blossoms: usize) {
+        self.depth = self.depth.max(depth);
+        if self.blossoms < 7 && blossoms == 7 {
+            self.fills = self.fills.saturating_add(1);
+        }
+        self.blossoms = blossoms;
+    }
+}
+
 #[test]
 fn every_reader_after_every_step(rt: HostRuntime) -> Result<(), Fail> {
     let alloc = rt.alloc();
     let mut arena = Arena::new(alloc, 15)?;
     let mut plain = PlainFamily::new(alloc, 15)?;
     let mut dice = Dice { state: 1 };
-    let mut deepest = 0;
-    let mut full = 0;
+    let mut reached = Reached {
+        depth: 0,
+        fills: 0,
+        blossoms: 0,
+    };
     for step in 0..200 {
         assert!(rt;
             take_step(alloc, &mut arena, &mut plain, &mut dice)?,
@@ -217,12 +238,9 @@ fn every_reader_after_every_step(rt: HostRuntime) -> Result<(), Fail> {
         assert!(rt; same_rings(alloc, &arena, &plain)?, "rings at {step}");
         assert!(rt; same_chains(alloc, &arena, &plain)?, "chains at {step}");
         assert!(rt; same_children(&arena, &plain), "children at {step}");
-        deepest = depth(alloc, &plain)?.max(deepest);
-        if plain.count() == 7 {
-            full += 1;
-        }
+        reached.note(depth(alloc, &plain)?, plain.count());
     }
-    assert!(rt; deepest >= 4, "{deepest}");
-    assert!(rt; full >= 2, "{full}");
+    assert!(rt; reached.depth >= 4);
+    assert!(rt; reached.fills >= 3);
     Ok(())
 }
