@@ -19,3 +19,4 @@ pub mod Undone
 pub mod Asked
 pub mod Forms
 pub mod Slacks
+pub mod Theorems

@@ -1,5 +1,5 @@
 -- The slack of an edge by the family's duals is the slack that certificates know.
-use Rattle.std.proofs.Common.{◌≡◌, ℕ, zero, suc, ◌+◌, ◌-◌, ◌≤◌, ◌<◌, ℤ, pos, ◌+ℤ◌, ◌-ℤ◌, ◌*ℤ◌, Bool, true, false, cond, List, [], ◌∷◌, length, map, refl, sym, ap, ap₂, ◌∙◌, subst, arith, get_or, take, drop}
+use Rattle.std.proofs.Common.{◌≡◌, ℕ, zero, suc, ◌+◌, ◌-◌, ◌≤◌, ◌<◌, ℤ, pos, ◌+ℤ◌, ◌-ℤ◌, ◌*ℤ◌, ◌⊎◌, ⊎_elim, Bool, true, false, not, cond, List, [], ◌∷◌, length, map, refl, sym, ap, ap₂, ◌∙◌, subst, arith, get_or, take, drop}
 use Rattle.std.proofs.lemmas.Int.{ints}
 use Rattle.std.proofs.lemmas.List.{get_or-take, get_or-drop, length-map}
 use Rattle.graph_theory.specs.Sums.{int_sum_to}
@@ -9,7 +9,7 @@ use Rattle.graph_theory.specs.Graph.{IsEdgeWithin}
 use Rattle.graph_theory.specs.Parts.{crosses}
 use Rattle.graph_theory.specs.Duals.{set_at, dual_of, crossed_by, slack}
 use Rattle.blossom_arena.specs.Family.{Blossom, dual_at}
-use Rattle.blossom_arena.specs.Slack.{pull, vertex_duals, sets_of}
+use Rattle.blossom_arena.specs.Slack.{pull, vertex_duals, sets_of, AreSame, AreListed}
 
 -- the first term of a sum apart
 sum_first : (f : ℕ → ℤ) (n : ℕ) → int_sum_to f (suc n) ≡ f 0 +ℤ int_sum_to (λ k. f (suc k)) n
@@ -38,3 +38,33 @@ slack_pull n ys bs e within =
     let v = vertex_dual n ys e.v within.v_low within.v_high in
     let all = pull_sets ys bs e in
     omega (arith, ints, u, v, all)
+
+-- a certificate may leave out the sets of dual 0, and list the vertices of the others in any order
+crosses_same : (xs ys : List ℕ) (e : Edge) → AreSame xs ys → crosses xs e ≡ crosses ys e
+crosses_same xs ys e same = ap₂ (λ (p q : Bool). cond p (not q) q) (same e.u) (same e.v)
+
+none_either_way : (q : Bool) (y : ℤ) → y ≡ pos 0 → cond q y (pos 0) ≡ pos 0
+none_either_way true y h = h
+none_either_way false y h = refl
+
+crossed_listed : (ys : List ℤ) (bs : List Blossom) (sets : List OddSet) (e : Edge) → AreListed ys bs sets → crossed_by sets (length sets) e ≡ crossed_by (sets_of ys bs) (length (sets_of ys bs)) e
+crossed_listed ys [] sets e listed = ap (λ ss. crossed_by ss (length ss) e) listed
+crossed_listed ys (b ∷ older) sets e listed =
+    let first : OddSet = record { dual = dual_at ys b.node; members = b.members } in
+    ⊎_elim
+    (λ out.
+    let below = crossed_listed ys older sets e out.1 in
+    let cons = crossed_cons first (sets_of ys older) e in
+    let none = none_either_way (crosses b.members e) (dual_at ys b.node) out.0 in
+    omega (arith, ints, below, cons, none))
+    (λ kept. ap (λ ss. crossed_by ss (length ss) e) kept.2
+    ∙ crossed_cons kept.0 kept.1 e
+    ∙ ap₂ (λ (z w : ℤ). z +ℤ w) (ap₂ (λ (q : Bool) (y : ℤ). cond q y (pos 0)) (crosses_same kept.0.members b.members e kept.3.members) kept.3.dual) (crossed_listed ys older kept.1 e kept.4)
+    ∙ sym (crossed_cons first (sets_of ys older) e))
+    listed
+
+pub slack_listed : (n : ℕ) (ys : List ℤ) (bs : List Blossom) (sets : List OddSet) (e : Edge) → IsEdgeWithin n e → AreListed ys bs sets → slack (vertex_duals n ys) sets e ≡ (pos 2 *ℤ e.w) -ℤ pull ys bs e
+slack_listed n ys bs sets e within listed =
+    let crossed = crossed_listed ys bs sets e listed in
+    let all = slack_pull n ys bs e within in
+    omega (arith, ints, crossed, all)

@@ -2,3 +2,4 @@ pub mod Tables
 pub mod Family
 pub mod Fields
 pub mod Slack
+pub mod Laws

@@ -1,8 +1,8 @@
 -- The duals of a family that an edge feels, and the family's sets as certificates list them (25, 26).
-use Rattle.std.specs.Prelude.{ℕ, ℤ, pos, ◌+ℤ◌, ◌-ℤ◌, ◌*ℤ◌, List, [], ◌∷◌, map, take, drop, if◌then◌else◌}
+use Rattle.std.specs.Prelude.{◌≡◌, ◌⊎◌, ℕ, ℤ, pos, ◌+ℤ◌, List, [], ◌∷◌, map, take, drop, if◌then◌else◌}
 use Rattle.graph_theory.specs.declared.edge.Edge.{Edge}
 use Rattle.graph_theory.specs.declared.odd_set.OddSet.{OddSet}
-use Rattle.graph_theory.specs.Parts.{crosses}
+use Rattle.graph_theory.specs.Parts.{holds, crosses}
 use Rattle.blossom_arena.specs.Family.{Blossom, dual_at}
 
 -- the duals of the nodes that hold exactly one end of an edge, added up
@@ -17,3 +17,19 @@ vertex_duals n ys = take n (drop 1 ys)
 -- the sets with their duals, newest first
 abbrev pub sets_of : List ℤ → List Blossom → List OddSet
 sets_of ys bs = map (λ (b : Blossom). record { dual = dual_at ys b.node; members = b.members }) bs
+
+-- the same vertices, in any order
+abbrev pub AreSame : List ℕ → List ℕ → Type 0
+AreSame xs ys = (v : ℕ) → holds xs v ≡ holds ys v
+
+-- a set as a certificate lists it: a blossom's dual, and its vertices in any order
+pub record IsListed (ys : List ℤ) (b : Blossom) (s : OddSet) : Type 0 where
+  pub dual : s.dual ≡ dual_at ys b.node
+  pub members : AreSame s.members b.members
+
+-- the sets of a certificate are those of the blossoms, newest first; blossoms of dual 0 may be left out
+abbrev pub AreListed : List ℤ → List Blossom → List OddSet → Type 0
+AreListed ys [] sets = sets ≡ []
+AreListed ys (b ∷ older) sets =
+    ((dual_at ys b.node ≡ pos 0) × AreListed ys older sets)
+    ⊎ ((s : OddSet) × (rest : List OddSet) × (sets ≡ s ∷ rest) × IsListed ys b s × AreListed ys older rest)

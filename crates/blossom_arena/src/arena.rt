@@ -1,24 +1,26 @@
-ghost use Rattle.std.specs.Prelude.{◌≡◌, ℕ, ◌+◌, ◌<◌, ◌≤◌, pos, ◌≤ℤ◌, ◌+ℤ◌, true, false, [], replicate, IfOk, length, slice_index, slice_set, vec_len};
+ghost use Rattle.std.specs.Prelude.{◌≡◌, ℕ, ◌+◌, ◌<◌, ◌≤◌, pos, ◌≤ℤ◌, ◌+ℤ◌, true, false, IfOk};
 ghost use Rattle.graph_theory.specs.Parts.{holds};
 ghost use Rattle.blossom_arena.specs.Family.{Family, IsFamily, IsCircuit, IsDual, empty_family, is_vertex, is_node, is_outermost, shrunk, dissolved, raised, dual_at, outermost, child_holding, ring_of, members_of, chain_of, names_of, room_of};
-ghost use Rattle.blossom_arena.specs.Fields.{climb_to};
 
 use crate::blossoms::Blossoms;
-use crate::chain::Chain;
+use crate::chain::{Chain, child_below};
+use crate::dual_table::{dual_in, raise_dual, set_dual, wipe_duals};
 use crate::links::{Link, node_at};
 use crate::members::Members;
 use crate::nodes::NodeId;
 use crate::order::{put_first, take_out};
 use crate::ring::Ring;
 use crate::runs::{Kept, find_kept, find_run, has_kept, join, lower};
-use crate::tables::{fill, hang, note, renumber, thread, wipe};
+use crate::tables::{fill, hang, note, numbered, renumber, thread, wipe};
 use mb_base::{EdgeId, OutOfMemory, VertexId};
 use slab::Slab;
 use std::alloc::{AllocError, Global};
 use std::marker::Model;
 
-/// Blossoms over the vertices 1 to n, each of them a node, and a dual for each node. Contracts see the
-/// list of the blossoms, newest first, and the list of the duals by node number.
+/// Blossoms over the vertices 1 to n, each of them a node, and a dual for each node, as the weighted
+/// matching algorithm keeps them (chapter 26). Duals are in doubled units, so that they stay whole, and
+/// within 10^15. Contracts see the list of the blossoms, newest first, and the list of the duals by node
+/// number.
 #[derive(Drop)]
 pub struct Arena {
     vertex_count: u32,
@@ -49,67 +51,9 @@ impl Model for Arena {
     ghost invariant = { IsSound };
 }
 
-/// The numbers 0 to n.
-fn numbered(alloc: Global, n: u32) -> Result<Vec<u32>, OutOfMemory>
-    requires { n ≤ 4096 }
-    ensures len { IfOk result (λ v. vec_len v ≡ n + 1) }
-    ensures each { IfOk result (λ v. (i : ℕ) → i ≤ n → slice_index v.items i ≡ i) }
-{
-    let mut numbers = Vec::with_capacity(alloc, n as usize + 1)?;
-    for number in 0..n + 1 {
-        numbers.push(number)?;
-    }
-    Ok(numbers)
-}
-
-/// The node below `stop` on the way up by the parents from a node that it holds.
-fn child_below(parents: &[u32], node: u32, stop: u32) -> u32
-    requires place { node < length parents.now }
-    requires each { (x : ℕ) → x < length parents.now → slice_index parents.now x < length parents.now }
-    ensures { result ≡ climb_to (length parents.now) parents.now stop node }
-{
-    let mut child = node;
-    for _ in 0..parents.len() {
-        let parent = parents[child as usize];
-        if parent == stop {
-            return child;
-        }
-        child = parent;
-    }
-    child
-}
-
-fn dual_in(duals: &[i64], node: u32) -> i64
-    requires { node < length duals.now }
-    ensures { result ≡ dual_at duals.now node }
-{
-    duals[node as usize]
-}
-
-fn set_dual(duals: &mut Vec<i64>, node: u32, y: i64)
-    requires { node < vec_len duals.old }
-    ensures { duals.new.items ≡ slice_set duals.old.items node y }
-{
-    duals[node as usize] = y;
-}
-
-fn wipe_duals(duals: &mut Vec<i64>)
-    ensures { duals.new.items ≡ replicate (vec_len duals.old) (pos 0) }
-{
-    duals.fill(0);
-}
-
-fn raise_dual(duals: &mut Vec<i64>, node: u32, d: i64)
-    requires place { node < vec_len duals.old }
-    requires in_range { IsDual (dual_at duals.old.items node +ℤ d) }
-    ensures { duals.new.items ≡ slice_set duals.old.items node (dual_at duals.old.items node +ℤ d) }
-{
-    let sum = duals[node as usize] + d;
-    duals[node as usize] = sum;
-}
-
 impl Arena {
-    /// No blossom, all duals 0, and room for all blossoms that n vertices can have.
+    /// No blossom, all duals 0, and room for all blossoms that n vertices can have: (n - 1) / 2. No later
+    /// call takes memory. An error is want of memory.
     pub fn new(alloc: Global, n: u32) -> Result<Arena, OutOfMemory>
         requires { n ≤ 4096 }
         ensures family { IfOk result (λ f. f ≡ empty_family n) }
@@ -152,7 +96,7 @@ impl Arena {
         self.vertex_count + self.vertex_count.saturating_sub(1) / 2
     }
 
-    /// Whether this is the node of a blossom.
+    /// Whether this is the node of a blossom. Any number may be asked for.
     pub fn is_blossom(&self, node: NodeId) -> bool
         ensures blossom { result ≡ holds (names_of self.now.blossoms) node }
         ensures good { IsFamily self.now }
@@ -164,7 +108,7 @@ impl Arena {
         has_kept(&self.kept, self.vertex_count, number)
     }
 
-    /// Whether this is a vertex or a blossom.
+    /// Whether this is a vertex or a blossom. Any number may be asked for.
     pub fn is_node(&self, node: NodeId) -> bool
         ensures node { result ≡ is_node self.now.vertex_count self.now.blossoms node }
         ensures good { IsFamily self.now }
@@ -176,7 +120,7 @@ impl Arena {
         self.is_blossom(node)
     }
 
-    /// Whether no other node holds a node.
+    /// Whether no other node holds a node, in constant time.
     pub fn is_outermost(&self, node: NodeId) -> bool
         requires { is_node self.now.vertex_count self.now.blossoms node ≡ true }
         ensures outer { result ≡ is_outermost self.now.vertex_count self.now.blossoms node }
@@ -194,7 +138,7 @@ impl Arena {
         NodeId::new(self.outer[v.number() as usize])
     }
 
-    /// The dual of a node.
+    /// The dual of a node, in doubled units.
     pub fn dual(&self, node: NodeId) -> i64
         requires { is_node self.now.vertex_count self.now.blossoms node ≡ true }
         ensures dual { result ≡ dual_at self.now.duals node }
@@ -203,7 +147,8 @@ impl Arena {
         dual_in(&self.duals, node.number())
     }
 
-    /// Adds d to the dual of a node.
+    /// Adds d, in doubled units, to the dual of a node. The sum lies within 10^15, and is not below 0 for
+    /// a blossom.
     pub fn add_dual(&mut self, node: NodeId, d: i64)
         requires node { is_node self.old.vertex_count self.old.blossoms node ≡ true }
         requires in_range { IsDual (dual_at self.old.duals node +ℤ d) }
@@ -224,7 +169,8 @@ impl Arena {
         Ring::of(&self.nexts, &self.edges, kept.first, kept.links)
     }
 
-    /// The vertices of a node. It takes no memory.
+    /// The vertices of a node, in the order of the circuits that it was made of; those of a vertex are
+    /// itself.
     pub fn members(&self, node: NodeId) -> Members<'_>
         requires { is_node self.now.vertex_count self.now.blossoms node ≡ true }
         ensures members { result ≡ members_of self.now.blossoms node }
@@ -245,7 +191,8 @@ impl Arena {
         Chain::of(&self.parents, v.number())
     }
 
-    /// The node of a blossom's ring that holds a vertex of the blossom.
+    /// The node of a blossom's ring that holds a vertex of the blossom, in as many steps as nodes hold
+    /// the vertex.
     pub fn child_holding(&self, b: NodeId, v: VertexId) -> NodeId
         requires blossom { holds (names_of self.now.blossoms) b ≡ true }
         requires inside { holds (members_of self.now.blossoms b) v ≡ true }
@@ -263,7 +210,8 @@ impl Arena {
         Blossoms::of(&self.older, self.older[0], self.kept.len() as u32)
     }
 
-    /// Makes one node of a circuit of outermost nodes, of dual 0, in time linear in its vertices.
+    /// Makes one node of a circuit of outermost nodes, of dual 0, and answers it, in time linear in its
+    /// vertices. The circuit has an odd number of at least three nodes, all different.
     pub fn shrink(&mut self, circuit: &[Link]) -> NodeId
         requires { IsCircuit self.old.vertex_count self.old.blossoms circuit.now }
         ensures fresh { is_node self.old.vertex_count self.old.blossoms result ≡ false }

@@ -1,7 +1,7 @@
-ghost use Rattle.std.specs.Prelude.{◌≡◌, ◌<◌, ℕ, suc, length};
+ghost use Rattle.std.specs.Prelude.{◌≡◌, ◌<◌, ℕ, suc, length, slice_index};
 ghost use Rattle.std.specs.List.{AllByRecursion};
 ghost use Rattle.std.specs.Iterator.{YieldsFirst, item_count};
-ghost use Rattle.blossom_arena.specs.Fields.{climb, CanClimb};
+ghost use Rattle.blossom_arena.specs.Fields.{climb, CanClimb, climb_to};
 
 use crate::nodes::NodeId;
 use std::marker::Model;
@@ -50,4 +50,21 @@ impl<'a> Iterator for Chain<'a> {
         self.at = self.parents[node as usize];
         Some(NodeId::new(node))
     }
+}
+
+/// The node below `stop` on the way up by the parents from a node that it holds.
+pub(crate) fn child_below(parents: &[u32], node: u32, stop: u32) -> u32
+    requires place { node < length parents.now }
+    requires each { (x : ℕ) → x < length parents.now → slice_index parents.now x < length parents.now }
+    ensures { result ≡ climb_to (length parents.now) parents.now stop node }
+{
+    let mut child = node;
+    for _ in 0..parents.len() {
+        let parent = parents[child as usize];
+        if parent == stop {
+            return child;
+        }
+        child = parent;
+    }
+    child
 }

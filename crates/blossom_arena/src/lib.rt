@@ -6,6 +6,8 @@
 mod arena;
 mod blossoms;
 mod chain;
+mod dual_table;
+mod law;
 mod links;
 mod members;
 mod nodes;
@@ -19,6 +21,7 @@ mod tests;
 pub use arena::Arena;
 pub use blossoms::Blossoms;
 pub use chain::Chain;
+pub use law::laws;
 pub use links::Link;
 pub use members::Members;
 pub use nodes::NodeId;

@@ -1,4 +1,4 @@
-ghost use Rattle.std.specs.Prelude.{◌≡◌, ◌<◌, ◌^◌, ℕ, replicate, slice_index, map, drop, length, vec_len};
+ghost use Rattle.std.specs.Prelude.{◌≡◌, ◌<◌, ◌≤◌, ◌+◌, ◌^◌, ℕ, IfOk, replicate, slice_index, map, drop, length, vec_len};
 ghost use Rattle.std.specs.List.{AllByRecursion};
 ghost use Rattle.blossom_arena.specs.Tables.{filled, threaded, noted};
 ghost use Rattle.blossom_arena.specs.Family.{nodes_of};
@@ -7,7 +7,21 @@ ghost use Rattle.blossom_arena.specs.declared.links.Link.{Link};
 use crate::links::{Link, node_at};
 use crate::members::Members;
 use crate::ring::Ring;
-use mb_base::EdgeId;
+use mb_base::{EdgeId, OutOfMemory};
+use std::alloc::Global;
+
+/// The numbers 0 to n.
+pub(crate) fn numbered(alloc: Global, n: u32) -> Result<Vec<u32>, OutOfMemory>
+    requires { n ≤ 4096 }
+    ensures len { IfOk result (λ v. vec_len v ≡ n + 1) }
+    ensures each { IfOk result (λ v. (i : ℕ) → i ≤ n → slice_index v.items i ≡ i) }
+{
+    let mut numbers = Vec::with_capacity(alloc, n as usize + 1)?;
+    for number in 0..n + 1 {
+        numbers.push(number)?;
+    }
+    Ok(numbers)
+}
 
 /// Puts an entry at each of these vertices.
 pub(crate) fn fill(table: &mut Vec<u32>, vertices: Members<'_>, entry: u32)

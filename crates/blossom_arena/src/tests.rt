@@ -1,191 +1,15 @@
-ghost use Rattle.std.specs.Prelude.{◌≡◌, ◌==◌, ℕ, true, nat_eq, All};
-ghost use Rattle.std.specs.List.{IsDistinct, list_any};
-ghost use Rattle.graph_theory.specs.Parts.{holds};
-ghost use Rattle.blossom_arena.specs.declared.links.Link.{Link};
-ghost use Rattle.blossom_arena.specs.Family.{IsCircuit, is_vertex, is_node, is_outermost, nodes_of, members_of};
+mod guards;
+mod plain;
+mod walk;
 
 use super::*;
-use mb_base::{EdgeId, OutOfMemory, VertexId};
+use guards::{
+    add_dual, blossoms, chain, child_holding, dissolve, dual, members, outermost, ring, shrink,
+    vertex_link,
+};
+use mb_base::OutOfMemory;
 use std::alloc::Global;
 use std::test::Fail;
-
-fn link(node: NodeId, edge: u32) -> Link {
-    Link {
-        node,
-        edge: EdgeId::new(edge),
-    }
-}
-
-fn vertex_link(vertex: u32, edge: u32) -> Link {
-    link(NodeId::new(vertex), edge)
-}
-
-/// Whether a circuit comes to a node.
-fn comes_to(circuit: &[Link], node: NodeId) -> bool
-    ensures { result ≡ list_any (λ (l : Link). l.node == node) circuit.now }
-{
-    circuit
-        .iter()
-        .any(|link| link.node.number() == node.number())
-}
-
-fn all_differ(circuit: &[Link]) -> bool
-    ensures { result ≡ true → IsDistinct nat_eq (nodes_of circuit.now) }
-{
-    let mut rest = circuit;
-    'links: while let [link, others @ ..] = rest {
-        if comes_to(others, link.node) {
-            return false;
-        }
-        rest = others;
-    }
-    true
-}
-
-fn all_outermost(arena: &Arena, circuit: &[Link]) -> bool
-    ensures { result ≡ true → All (λ (l : Link). is_outermost arena.now.vertex_count arena.now.blossoms l.node ≡ true) circuit.now }
-{
-    for link in circuit {
-        if !arena.is_node(link.node) {
-            return false;
-        }
-        if !arena.is_outermost(link.node) {
-            return false;
-        }
-    }
-    true
-}
-
-fn is_circuit(arena: &Arena, circuit: &[Link]) -> bool
-    ensures { result ≡ true → IsCircuit arena.now.vertex_count arena.now.blossoms circuit.now }
-{
-    if circuit.len() < 3 {
-        return false;
-    }
-    if circuit.len() % 2 != 1 {
-        return false;
-    }
-    if !all_outermost(arena, circuit) {
-        return false;
-    }
-    all_differ(circuit)
-}
-
-/// Shrinks a circuit where it is one, and answers the blossom's number, or 0.
-fn shrink(arena: &mut Arena, circuit: &[Link]) -> u32 {
-    if is_circuit(arena, circuit) {
-        return arena.shrink(circuit).number();
-    }
-    0
-}
-
-/// Dissolves a node where it may be, and answers whether it may.
-fn dissolve(arena: &mut Arena, b: NodeId) -> bool {
-    if !arena.is_blossom(b) {
-        return false;
-    }
-    if !arena.is_node(b) {
-        return false;
-    }
-    if !arena.is_outermost(b) {
-        return false;
-    }
-    if arena.dual(b) != 0 {
-        return false;
-    }
-    arena.dissolve(b);
-    true
-}
-
-fn members(alloc: Global, arena: &Arena, node: NodeId) -> Result<Vec<u32>, OutOfMemory> {
-    if !arena.is_node(node) {
-        return Ok(Vec::new(alloc));
-    }
-    arena.members(node).map(|v| v.number()).collect(alloc)
-}
-
-/// The numbers of the nodes of a blossom's ring and those of its edges.
-fn ring(alloc: Global, arena: &Arena, b: NodeId) -> Result<Vec<(u32, u32)>, OutOfMemory> {
-    if !arena.is_blossom(b) {
-        return Ok(Vec::new(alloc));
-    }
-    arena
-        .ring(b)
-        .map(|l| (l.node.number(), l.edge.number()))
-        .collect(alloc)
-}
-
-fn in_range(arena: &Arena, v: u32) -> bool
-    ensures { result ≡ true → is_vertex arena.now.vertex_count v ≡ true }
-{
-    if v < 1 {
-        return false;
-    }
-    v <= arena.vertex_count()
-}
-
-fn outermost(arena: &Arena, v: u32) -> u32 {
-    if in_range(arena, v) {
-        return arena.outermost(VertexId::new(v)).number();
-    }
-    0
-}
-
-fn chain(alloc: Global, arena: &Arena, v: u32) -> Result<Vec<u32>, OutOfMemory> {
-    if !in_range(arena, v) {
-        return Ok(Vec::new(alloc));
-    }
-    arena
-        .chain(VertexId::new(v))
-        .map(|a| a.number())
-        .collect(alloc)
-}
-
-fn blossoms(alloc: Global, arena: &Arena) -> Result<Vec<u32>, OutOfMemory> {
-    arena.blossoms().map(|a| a.number()).collect(alloc)
-}
-
-/// Whether a node has a vertex.
-fn has_member(arena: &Arena, node: NodeId, v: u32) -> bool
-    requires { is_node arena.now.vertex_count arena.now.blossoms node ≡ true }
-    ensures { result ≡ true → holds (members_of arena.now.blossoms node) v ≡ true }
-{
-    for member in arena.members(node) {
-        if member.number() == v {
-            return true;
-        }
-    }
-    false
-}
-
-fn child_holding(arena: &Arena, b: NodeId, v: u32) -> u32 {
-    if !arena.is_blossom(b) {
-        return 0;
-    }
-    if !arena.is_node(b) {
-        return 0;
-    }
-    if !has_member(arena, b, v) {
-        return 0;
-    }
-    arena.child_holding(b, VertexId::new(v)).number()
-}
-
-/// Adds 5 to the dual of a node, and answers what it was and is.
-fn raise(arena: &mut Arena, node: NodeId) -> (i64, i64) {
-    if !arena.is_node(node) {
-        return (-1, -1);
-    }
-    let old = arena.dual(node);
-    if old < 0 {
-        return (old, old);
-    }
-    if old > 1_000_000 {
-        return (old, old);
-    }
-    arena.add_dual(node, 5);
-    (old, arena.dual(node))
-}
 
 /// The vertices 3, 1 and 2 in the blossom 8, and that with 4 and 5 in the blossom 9.
 fn nested(alloc: Global) -> Result<Arena, OutOfMemory> {
@@ -262,11 +86,25 @@ fn dissolves(rt: HostRuntime) -> Result<(), Fail> {
 fn duals_and_clear(rt: HostRuntime) -> Result<(), Fail> {
     let mut arena = nested(rt.alloc())?;
     let node = NodeId::new;
-    assert_eq!(rt; raise(&mut arena, node(9)), (0, 5));
+    assert!(rt; add_dual(&mut arena, 9, 5));
+    assert_eq!(rt; dual(&arena, 9), Some(5));
     assert!(rt; !dissolve(&mut arena, node(9)));
+    assert!(rt; add_dual(&mut arena, 7, -3));
     arena.clear();
     assert_eq!(rt; outermost(&arena, 1), 1);
-    assert_eq!(rt; raise(&mut arena, node(7)), (0, 5));
-    assert_eq!(rt; raise(&mut arena, node(9)), (-1, -1));
+    assert_eq!(rt; dual(&arena, 7), Some(0));
+    assert_eq!(rt; dual(&arena, 9), None);
+    Ok(())
+}
+
+// No vertex, the two joined triangles of six and the star of four.
+#[test]
+fn arenas_of_some_sizes(rt: HostRuntime) -> Result<(), Fail> {
+    for (n, limit) in [(0, 0), (4, 5), (6, 8)] {
+        let arena = Arena::new(rt.alloc(), n)?;
+        assert_eq!(rt; arena.vertex_count(), n);
+        assert_eq!(rt; arena.node_limit(), limit, "{n}");
+        assert_eq!(rt; outermost(&arena, n), n);
+    }
     Ok(())
 }

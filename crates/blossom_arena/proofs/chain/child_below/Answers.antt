@@ -1,6 +1,6 @@
 use Rattle.std.proofs.Common.{◌≡◌, ℕ, suc, ◌+◌, ◌-◌, ◌<◌, ◌≢◌, ◌∙◌, length, arith, get_or}
 use Rattle.blossom_arena.proofs.Parents.{climb_to_step}
-use Rattle.blossom_arena.proofs.arena.child_below.Goals as goal
+use Rattle.blossom_arena.proofs.chain.child_below.Goals as goal
 
 pub loop-preserved : goal.loop-preserved
 loop-preserved c =

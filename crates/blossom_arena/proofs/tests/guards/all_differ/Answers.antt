@@ -5,7 +5,7 @@ use Rattle.std.proofs.lemmas.List.{take_all}
 use Rattle.blossom_arena.specs.declared.links.Link.{Link}
 use Rattle.blossom_arena.specs.Family.{nodes_of}
 use Rattle.blossom_arena.proofs.Lists.{distinct_cons, distinct_none}
-use Rattle.blossom_arena.proofs.tests.all_differ.Goals as goal
+use Rattle.blossom_arena.proofs.tests.guards.all_differ.Goals as goal
 
 one_more : (Q : Type 0) (rest : List Link) (item : Link) → 1 ≤ length rest → item ≡ get_or rest 0 item → list_any (λ (l : Link). l.node == item.node) (take (length rest - 1) (drop 1 rest)) ≡ false
     → (IsDistinct nat_eq (nodes_of rest) → Q) → IsDistinct nat_eq (nodes_of (take (length rest - 1) (drop 1 rest))) → Q

@@ -1,6 +1,6 @@
 use Rattle.std.proofs.Common.{◌≡◌, ◌-◌, ◌<◌, length}
 use Rattle.blossom_arena.specs.Fields.{climb_to}
-use Rattle.blossom_arena.proofs.arena.child_below.Given as goal
+use Rattle.blossom_arena.proofs.chain.child_below.Given as goal
 
 abbrev pub invariant-loop : goal.invariant-loop
 invariant-loop l = record {
