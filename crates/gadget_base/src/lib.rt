@@ -1,0 +1,9 @@
+//! What the reductions to perfect matching share: the graphs that certificates speak of, for all kinds,
+//! and rows, rectangles and cliques of edges.
+//! It stands on `mb_base`, `graph_theory`, `weighted_graph` and `mb_problem`. It promises that each
+//! call adds exactly the edges that it names.
+#![tactic(auto)]
+
+mod rows;
+
+pub use rows::add_row;
