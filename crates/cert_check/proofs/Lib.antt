@@ -6,4 +6,5 @@ pub mod RuleLemmas
 pub mod DualLemmas
 pub mod BarrierLemmas
 pub mod VerdictLemmas
+pub mod PartTruths
 pub mod TruthLemmas

@@ -4,7 +4,7 @@ use Rattle.std.proofs.Math.Decide.{dec_lt}
 use Rattle.mb_problem.specs.declared.kind.Kind.{Kind}
 use Rattle.mb_problem.specs.Network.{Network}
 use Rattle.doc_format.specs.declared.document.Document.{Document}
-use Rattle.doc_format.specs.declared.status.DocStatus.TheVariants.{Optimal, Infeasible}
+use Rattle.doc_format.specs.declared.status.DocStatus.TheVariants.{Optimal, Infeasible, NonConservative}
 use Rattle.cert_check.specs.declared.rule.DocRule.{DocRule}
 use Rattle.cert_check.specs.declared.rule.DocRule.TheVariants.{DocForm, KindDiffers, DocRange, NotFeasible, WeightDiffers, DualMissing, SetForm, Slack, ValueDiffers, NotBarrier, NotClosed, NotCircuit}
 use Rattle.cert_check.specs.Ranges.{first_out_of_range}
@@ -74,3 +74,18 @@ infeasible-before kind i d same in_range forms status ValueDiffers low = λ (oth
 infeasible-before kind i d same in_range forms status NotBarrier low = absurd (omega arith)
 infeasible-before kind i d same in_range forms status NotClosed low = absurd (omega arith)
 infeasible-before kind i d same in_range forms status NotCircuit low = absurd (omega arith)
+
+-- a document of the kind in range that states that some circuit weighs less than 0: all rules before the circuit's are kept
+pub circuit-before : (kind : Kind) (i : Network) (d : Document) → d.kind ≡ kind → first_out_of_range kind i d ≡ None → HaveForm d → d.status ≡ NonConservative → KeepsBefore kind i d NotCircuit
+circuit-before kind i d same in_range forms status DocForm low = tt
+circuit-before kind i d same in_range forms status KindDiffers low = same
+circuit-before kind i d same in_range forms status DocRange low = in_range
+circuit-before kind i d same in_range forms status NotFeasible low = λ (other : d.status ≡ Optimal). absurd (cc)
+circuit-before kind i d same in_range forms status WeightDiffers low = λ (other : d.status ≡ Optimal). absurd (cc)
+circuit-before kind i d same in_range forms status DualMissing low = λ (other : d.status ≡ Optimal). absurd (cc)
+circuit-before kind i d same in_range forms status SetForm low = forms
+circuit-before kind i d same in_range forms status Slack low = λ (other : d.status ≡ Optimal). absurd (cc)
+circuit-before kind i d same in_range forms status ValueDiffers low = λ (other : d.status ≡ Optimal). absurd (cc)
+circuit-before kind i d same in_range forms status NotBarrier low = λ (other : d.status ≡ Infeasible). absurd (cc)
+circuit-before kind i d same in_range forms status NotClosed low = λ (other : d.status ≡ Infeasible). absurd (cc)
+circuit-before kind i d same in_range forms status NotCircuit low = absurd (omega arith)

@@ -4,3 +4,4 @@ pub mod Within
 pub mod Certificates
 pub mod Verdicts
 pub mod Proved
+pub mod Excluded
