@@ -1,0 +1,4 @@
+pub mod Grown
+pub mod BlockSums
+pub mod Blocks
+pub mod Over
