@@ -2,3 +2,4 @@ pub mod Grown
 pub mod BlockSums
 pub mod Blocks
 pub mod Over
+pub mod Listed
