@@ -3,3 +3,4 @@ pub mod BlockSums
 pub mod Blocks
 pub mod Over
 pub mod Listed
+pub mod Degrees
