@@ -4,3 +4,4 @@ pub mod Blocks
 pub mod Over
 pub mod Listed
 pub mod Degrees
+pub mod Within
