@@ -5,3 +5,5 @@ pub mod Over
 pub mod Listed
 pub mod Degrees
 pub mod Within
+pub mod Units
+pub mod Used
