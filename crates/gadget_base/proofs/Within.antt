@@ -17,7 +17,7 @@ use Rattle.gadget_base.specs.Certified.{HasSize, IsWithinLimits}
 use Rattle.gadget_base.proofs.BlockSums.{sum_to-grows, sum_to-const}
 use Rattle.gadget_base.proofs.Blocks.{tabled-length, blocks-length, rectangle-length, All-tabled, All-blocks}
 
-All-two : {A : Type 0} (P : A → Type 0) (x y : A) → P x → P y → All P (x ∷ y ∷ [])
+pub All-two : {A : Type 0} (P : A → Type 0) (x y : A) → P x → P y → All P (x ∷ y ∷ [])
 All-two P x y one two = All-cons P x (y ∷ []) one (All-cons P y [] two (All-nil P))
 
 -- the edges of an instance
