@@ -2,6 +2,7 @@
 use Rattle.std.proofs.Common.{◌≡◌, ℕ, zero, suc, ◌+◌, ◌-◌, ◌*◌, ◌<◌, ◌≤◌, ℤ, pos, ◌+ℤ◌, ◌*ℤ◌, Bool, true, false, cond, eqb, refl, ap, sym, ◌∙◌, subst, inl, inr, arith, List, [], ◌∷◌, length, slice_index, All, count_by}
 use Rattle.std.proofs.lemmas.Int.{ints}
 use Rattle.std.proofs.lemmas.Bool.{eq-eqb, ne_eqb, cases_eq}
+use Rattle.std.proofs.lemmas.List.{get_or_default}
 use Rattle.std.proofs.lemmas.List.Sums.{sum_by-cons}
 use Rattle.std.proofs.lemmas.List.Elements.{All-tail, All-head}
 use Rattle.graph_theory.specs.Sums.{sum_to, int_sum_to}
@@ -76,24 +77,34 @@ times_each-degree g es v ends numbers =
     ∙ ap (λ (e : Edge). cond (touches e v) (times es (k + 1)) 0) (sym (edge_of-place g k)))
     ∙ times-sum t es (length g.edges) numbers
 
--- no edge is listed twice: it would count twice at an end
-pub times-small : (g : Multigraph) (es : List ℕ) (k : ℕ) → All (IsEdgeWithin g.vertices) g.edges → IsPerfectList g es → k < length g.edges → times es (k + 1) ≤ 1
-times-small g es k ends list b =
+-- where each vertex has degree 1, no edge counts more than once: it would count more at an end
+pub at_most_one_from_degrees : (g : Multigraph) (counts : List ℕ) → All (IsEdgeWithin g.vertices) g.edges → ((v : ℕ) → 1 ≤ v → v ≤ g.vertices → degree g counts v ≡ 1) → (k : ℕ) → k < length g.edges → slice_index counts k ≤ 1
+at_most_one_from_degrees g counts ends degrees k b =
     let e = edge_at g k in
     let within : IsEdgeWithin g.vertices e = ends k no_edge b in
-    let one = list.one_each e.u within.u_low within.u_high in
-    let sum = degree-touches g (times_each g es) e.u ends in
-    let same = times_each-degree g es e.u ends list.numbers in
-    let term = sum_to-has (λ k. cond (touches (edge_at g k) e.u) (slice_index (times_each g es) k) 0) (length g.edges) k b in
-    let on : cond (touches e e.u) (slice_index (times_each g es) k) 0 ≡ times es (k + 1) = ap (λ (t : Bool). cond t (slice_index (times_each g es) k) 0) (touches-u e) ∙ times_each-at g es k b in
-    omega (arith, one, sum, same, term, on)
+    let one = degrees e.u within.u_low within.u_high in
+    let sum = degree-touches g counts e.u ends in
+    let term = sum_to-has (λ k. cond (touches (edge_at g k) e.u) (slice_index counts k) 0) (length g.edges) k b in
+    let on : cond (touches e e.u) (slice_index counts k) 0 ≡ slice_index counts k = ap (λ (t : Bool). cond t (slice_index counts k) 0) (touches-u e) in
+    omega (arith, one, sum, term, on)
+
+pub perfect_from_degrees : (g : Multigraph) (counts : List ℕ) → All (IsEdgeWithin g.vertices) g.edges → length counts ≡ length g.edges → ((v : ℕ) → 1 ≤ v → v ≤ g.vertices → degree g counts v ≡ 1) → IsPerfect g counts
+perfect_from_degrees g counts ends size degrees = record {
+  one_each = size;
+  at_most_one = λ k d b. subst (λ (c : ℕ). c ≤ 1) (get_or_default counts k 0 d b) (at_most_one_from_degrees g counts ends degrees k (omega (arith, size, b)));
+  degrees = degrees;
+}
 
 pub perfect_from_list : (g : Multigraph) (es : List ℕ) → All (IsEdgeWithin g.vertices) g.edges → IsPerfectList g es → IsPerfect g (times_each g es)
-perfect_from_list g es ends list = record {
-  one_each = times_each-length g es;
-  at_most_one = All-tabled (λ c. c ≤ 1) (λ k. times es (k + 1)) (length g.edges) (λ k b. times-small g es k ends list b);
-  degrees = λ v low high. times_each-degree g es v ends list.numbers ∙ list.one_each v low high;
-}
+perfect_from_list g es ends list = perfect_from_degrees g (times_each g es) ends (times_each-length g es) (λ v low high. times_each-degree g es v ends list.numbers ∙ list.one_each v low high)
+
+-- no edge is listed twice
+pub times-small : (g : Multigraph) (es : List ℕ) (k : ℕ) → All (IsEdgeWithin g.vertices) g.edges → IsPerfectList g es → k < length g.edges → times es (k + 1) ≤ 1
+times-small g es k ends list b =
+    let perfect = perfect_from_list g es ends list in
+    let one = at_most_one_from_degrees g (times_each g es) ends perfect.degrees k b in
+    let is = times_each-at g es k b in
+    omega (arith, one, is)
 
 one_times : (t : Bool) (b : ℤ) → pos (cond t 1 0) *ℤ b ≡ cond t b (pos 0)
 one_times true b = omega (arith, ints)

@@ -43,6 +43,7 @@ pub fn copies(alloc: Global, instance: &Instance) -> Result<Graph, OutOfMemory>
     requires limits { IsWithinLimits (size_of BMatch instance.now) }
     ensures graph { IfOk result (λ h. h ≡ copies_graph instance.now) }
     ensures size { HasSize (size_of BMatch instance.now) (copies_graph instance.now) }
+    ensures reached { ReachesAll BMatch instance.now }
 {
     let starts = starts(alloc, instance.value_list())?;
     let mut graph = Graph::new(alloc, starts[instance.vertices() as usize]);

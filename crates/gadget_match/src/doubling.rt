@@ -64,6 +64,7 @@ pub fn double(alloc: Global, instance: &Instance) -> Result<Graph, OutOfMemory>
     requires limits { IsWithinLimits (size_of Match instance.now) }
     ensures graph { IfOk result (λ h. h ≡ doubled_graph instance.now) }
     ensures size { HasSize (size_of Match instance.now) (doubled_graph instance.now) }
+    ensures reached { ReachesAll Match instance.now }
 {
     let n = instance.vertices();
     let mut graph = Graph::new(alloc, 2 * n);

@@ -3,6 +3,7 @@ use Rattle.graph_theory.specs.Graph.{Multigraph}
 use Rattle.mb_problem.specs.Size.{value_total}
 use Rattle.gadget_base.proofs.Within.{copies-size}
 use Rattle.gadget_match.proofs.BuildLemmas.{edge_here, room-pairs, start-total}
+use Rattle.gadget_match.proofs.CopyLemmas.{copies-reach}
 use Rattle.gadget_match.proofs.copying.copies.Goals as goal
 
 pub returns-in_err-starts-clause-size : goal.returns-in_err-starts-clause-size
@@ -27,3 +28,12 @@ add_pairs-requires-clause-room c =
     let list = c.edge_list-edge-items.ensures.list in
     let below : k < length i.edges = omega (arith, ap length list) in
     room-pairs i c.loop-edge.graph k c.edge-item.result c.requires.limits c.loop-edge.invariant below (edge_here i c.edge_list-edge-items.result.now k c.edge-item.result list c.loop-edge-test.true c.edge-item.is)
+
+pub returns-in_err-starts-clause-reached : goal.returns-in_err-starts-clause-reached
+returns-in_err-starts-clause-reached c = copies-reach c.args.instance.now c.value_list.ensures.network
+
+pub returns-in_err-add_pairs-clause-reached : goal.returns-in_err-add_pairs-clause-reached
+returns-in_err-add_pairs-clause-reached c = copies-reach c.args.instance.now c.value_list.ensures.network
+
+pub returns-clause-reached : goal.returns-clause-reached
+returns-clause-reached c = copies-reach c.args.instance.now c.value_list.ensures.network
