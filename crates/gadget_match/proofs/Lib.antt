@@ -1,3 +1,4 @@
 pub mod BuildLemmas
 pub mod DoubleLemmas
 pub mod CopyLemmas
+pub mod DoubleBack
