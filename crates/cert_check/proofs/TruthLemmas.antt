@@ -1,5 +1,6 @@
 -- What accepted documents state is true.
-use Rattle.std.proofs.Common.{◌≡◌, ℕ, ℤ, pos, neg_ℤ, ◌*ℤ◌, ◌-ℤ◌, ◌≤ℤ◌, ◌<ℤ◌, List, length, map, Option, None, Some, MatchOption, nat_abs, refl, sym, ap, ◌∙◌, subst, arith}
+use Rattle.std.proofs.Common.{◌≡◌, ℕ, ℤ, pos, neg_ℤ, ◌*ℤ◌, ◌-ℤ◌, ◌≤ℤ◌, ◌<ℤ◌, ◌↔◌, Bool, IsTrue, Result, Ok, Err, IfOk, List, length, map, Option, None, Some, MatchOption, nat_abs, refl, sym, ap, ◌∙◌, subst, arith}
+use Rattle.std.specs.declared.alloc.AllocError.{AllocError}
 use Rattle.std.proofs.lemmas.Int.{ints}
 use Rattle.graph_theory.specs.Graph.{IsPerfect, weight}
 use Rattle.graph_theory.specs.Parts.{IsOddPart, IsSplitPart}
@@ -16,7 +17,7 @@ use Rattle.doc_format.specs.declared.part.MemberLine.{MemberLine}
 use Rattle.doc_format.specs.declared.part.WalkLine.{WalkLine}
 use Rattle.doc_format.specs.declared.status.DocStatus.TheVariants.{Optimal, Infeasible, NonConservative}
 use Rattle.cert_check.specs.Claims.{answer_of, numbers}
-use Rattle.cert_check.specs.Certificates.{HasFeasibleAnswer, HasStatedWeight, HasWantedPart, HasNegativeCircuit}
+use Rattle.cert_check.specs.Certificates.{HasBarrier, HasWantedBarrier, HasFeasibleAnswer, HasStatedWeight, HasWantedPart, HasNegativeCircuit}
 use Rattle.cert_check.specs.Excluded.{HasNoAnswer, IsExcludedByBarrier}
 use Rattle.cert_check.specs.Proved.{StatesTruthBy}
 use Rattle.cert_check.proofs.PartTruths.{has_odd_value, odd_part-join, odd_part-path, split_part-tour, split_part-none}
@@ -90,3 +91,24 @@ negative i (Some w) circuit conservative =
 
 pub not_conservative : (i : Network) (d : Document) → HasNegativeCircuit i d → IsConservative (graph_of i) → ⊥
 not_conservative i d circuit = negative i d.walk circuit
+
+-- the kinds with barriers are all but these three
+pub wanted-barrier : (kind : Kind) (i : Network) (d : Document) (r : Result Bool AllocError) → (kind ≡ TJoin → ⊥) → (kind ≡ Postman → ⊥) → (kind ≡ Path → ⊥) → IfOk r (λ b. IsTrue b ↔ HasBarrier kind i d) → IfOk r (λ b. IsTrue b ↔ HasWantedBarrier kind i d)
+wanted-barrier Perfect i d r no_join no_tour no_path h = h
+wanted-barrier Match i d r no_join no_tour no_path h = h
+wanted-barrier BMatch i d r no_join no_tour no_path h = h
+wanted-barrier CapMatch i d r no_join no_tour no_path h = h
+wanted-barrier FFactor i d r no_join no_tour no_path h = h
+wanted-barrier TJoin i d r no_join no_tour no_path h = absurd (no_join refl)
+wanted-barrier Postman i d r no_join no_tour no_path h = absurd (no_tour refl)
+wanted-barrier Path i d r no_join no_tour no_path h = absurd (no_path refl)
+
+pub excluded-by_barrier : (kind : Kind) (i : Network) (r : Result Bool AllocError) → (kind ≡ TJoin → ⊥) → (kind ≡ Postman → ⊥) → (kind ≡ Path → ⊥) → IfOk r (λ b. IsTrue b → HasNoAnswer kind i) → IfOk r (λ b. IsTrue b → IsExcludedByBarrier kind i)
+excluded-by_barrier Perfect i r no_join no_tour no_path h = h
+excluded-by_barrier Match i r no_join no_tour no_path h = h
+excluded-by_barrier BMatch i r no_join no_tour no_path h = h
+excluded-by_barrier CapMatch i r no_join no_tour no_path h = h
+excluded-by_barrier FFactor i r no_join no_tour no_path h = h
+excluded-by_barrier TJoin i r no_join no_tour no_path h = absurd (no_join refl)
+excluded-by_barrier Postman i r no_join no_tour no_path h = absurd (no_tour refl)
+excluded-by_barrier Path i r no_join no_tour no_path h = absurd (no_path refl)

@@ -5,3 +5,4 @@ pub mod Certificates
 pub mod Verdicts
 pub mod Proved
 pub mod Excluded
+pub mod Marked

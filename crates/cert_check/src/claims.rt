@@ -45,12 +45,12 @@ pub fn counts_of(alloc: Global, lines: &[CountLine], m: u32) -> Result<Vec<u32>,
 }
 
 /// The numbers of a line as edges, of an instance.
-fn edges_of(alloc: Global, numbers: &[i64]) -> Result<Vec<EdgeId>, OutOfMemory>
-    requires { All (IsUpTo 65536) numbers.now }
-    ensures { IfOk result (λ v. v.items ≡ numbers numbers.now) }
+fn edges_of(alloc: Global, line: &[i64]) -> Result<Vec<EdgeId>, OutOfMemory>
+    requires { All (IsUpTo 65536) line.now }
+    ensures { IfOk result (λ v. v.items ≡ numbers line.now) }
 {
     let mut edges = Vec::new(alloc);
-    for number in numbers {
+    for number in line {
         edges.push(EdgeId::new(natural(*number)))?;
     }
     Ok(edges)

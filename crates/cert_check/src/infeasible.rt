@@ -7,7 +7,7 @@ ghost use Rattle.cert_check.specs.Certificates.{HasBarrier, HasWantedBarrier};
 ghost use Rattle.cert_check.specs.Excluded.{HasNoAnswer, IsExcludedByBarrier};
 ghost use Rattle.cert_check.specs.Proved.{StatesTruth};
 
-use crate::gadgets::{certified, certified_vertices};
+use crate::gadgets::certified;
 use crate::claims::members_of;
 use crate::parts::has_wanted_part;
 use crate::rule::{DocRule, Verdict};
@@ -30,7 +30,6 @@ fn has_barrier(
     ensures exact { IfOk result (λ b. IsTrue b ↔ HasBarrier kind instance.now document.now) }
     ensures none { IfOk result (λ b. IsTrue b → HasNoAnswer kind instance.now) }
 {
-    let _ = certified_vertices(instance, kind);
     let Some(u) = &document.barrier else {
         return Ok(false);
     };

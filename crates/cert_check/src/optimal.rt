@@ -1,4 +1,4 @@
-ghost use Rattle.std.specs.Prelude.{◌≡◌, ℕ, pos, ◌*ℤ◌, ◌≤ℤ◌, List, All, IfOk};
+ghost use Rattle.std.specs.Prelude.{◌≡◌, ◌≢◌, ℕ, pos, ◌*ℤ◌, ◌≤ℤ◌, List, All, IfOk};
 ghost use Rattle.graph_theory.specs.Graph.{IsPerfect, weight};
 ghost use Rattle.graph_theory.specs.Duals.{dual_value};
 ghost use Rattle.mb_problem.specs.Size.{size_of};
@@ -42,7 +42,8 @@ fn judge_value(instance: &Instance, kind: Kind, document: &Document, value: i128
 fn refuse_set(instance: &Instance, kind: Kind, document: &Document, number: u64) -> Verdict
     requires before { KeepsBefore kind instance.now document.now DocRule.SetForm }
     requires fault { IsFirstSetFault (sets_of document.now) number }
-    ensures { IsVerdict kind instance.now document.now result }
+    ensures verdict { IsVerdict kind instance.now document.now result }
+    ensures refused { result ≢ Verdict.Accepted }
 {
     let _ = instance;
     let _ = kind;
