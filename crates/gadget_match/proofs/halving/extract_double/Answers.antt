@@ -44,7 +44,6 @@ returns-else-weighs_less-clause-feasible c =
     let is : c.from_vec.result ≡ copy_counts i edges 1 = counted i edges _ _ _ 1 c.from_vec.ensures c.in_ok-count_copies.ensures c.edges-m.ensures.count in
     subst (λ (xs : List ℕ). IsMatching i xs) (sym is) (first-matching i edges c.edges-m.ensures.network c.requires.perfect)
 
-
 pub returns-then-weighs_less-clause-heavier : goal.returns-then-weighs_less-clause-heavier
 returns-then-weighs_less-clause-heavier c =
     let i = c.args.instance.now in
