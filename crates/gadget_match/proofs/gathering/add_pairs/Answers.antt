@@ -1,7 +1,7 @@
-use Rattle.std.proofs.Common.{◌≡◌, ℕ, ◌+◌, ◌-◌, ◌*◌, ◌<◌, ◌≤◌, List, Bool, true, false, cond, eqb, length, take, slice_index, ap, sym, arith, ◌∙◌}
+use Rattle.std.proofs.Common.{◌≡◌, ℕ, ◌+◌, ◌<◌, ◌≤◌, List, Bool, true, false, cond, eqb, length, take, slice_index, ap, sym, arith, ◌∙◌}
 use Rattle.std.proofs.lemmas.List.{take_all, get_or_read}
 use Rattle.gadget_base.proofs.Blocks.{is-tabled}
-use Rattle.gadget_match.specs.Extracted.{pairs_before, listed_pairs}
+use Rattle.gadget_match.specs.Extracted.{listed_pairs}
 use Rattle.gadget_match.proofs.CountLemmas.{listed-more, listed-none}
 use Rattle.gadget_match.proofs.gathering.add_pairs.Goals as goal
 

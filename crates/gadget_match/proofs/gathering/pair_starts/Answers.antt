@@ -1,6 +1,5 @@
-use Rattle.std.proofs.Common.{◌≡◌, ℕ, ◌+◌, ◌*◌, ◌<◌, ◌≤◌, length, slice_index, ap, sym, arith, ◌∙◌, inl, inr}
+use Rattle.std.proofs.Common.{◌≡◌, ℕ, ◌+◌, ◌*◌, ◌<◌, ◌≤◌, length, ap, arith, ◌∙◌}
 use Rattle.std.proofs.lemmas.Grind.{common_steps}
-use Rattle.std.proofs.lemmas.Bool.{cases_eq}
 use Rattle.graph_theory.specs.Graph.{IsEdgeWithin}
 use Rattle.graph_theory.proofs.SumLemmas.{sum_to-more}
 use Rattle.mb_problem.specs.declared.instance.InstanceEdge.{InstanceEdge}

@@ -1,4 +1,4 @@
-use Rattle.std.proofs.Common.{◌≡◌, ℕ, ◌≤◌, ◌*◌, ◌+◌, ℤ, pos, neg_ℤ, ◌*ℤ◌, ◌≤ℤ◌, List, length, ap, sym, subst, ◌∙◌, arith, rules}
+use Rattle.std.proofs.Common.{◌≡◌, ℕ, ◌*◌, ◌+◌, List, length, ap, sym, subst, ◌∙◌, arith}
 use Rattle.std.proofs.lemmas.Int.{ints}
 use Rattle.graph_theory.specs.Graph.{weight}
 use Rattle.mb_problem.specs.Network.{Network, graph_of}
@@ -6,7 +6,7 @@ use Rattle.mb_problem.specs.Feasible.{IsMatching}
 use Rattle.gadget_base.specs.Blocks.{tabled}
 use Rattle.gadget_base.specs.Listed.{times}
 use Rattle.gadget_base.proofs.Blocks.{tabled-length}
-use Rattle.gadget_match.specs.Extracted.{copy_counts, heavier_copy}
+use Rattle.gadget_match.specs.Extracted.{copy_counts}
 use Rattle.gadget_match.proofs.DoubleBack.{first-matching, second-matching, copies-weigh, double-few, second-heavier, first-heavier}
 use Rattle.gadget_match.proofs.halving.extract_double.Goals as goal
 
