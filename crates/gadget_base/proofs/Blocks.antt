@@ -1,12 +1,11 @@
 -- Lemmas on lists made of blocks: how long they are, what stands at a place, what all their elements are, and one block more.
-use Rattle.std.proofs.Common.{◌≡◌, ℕ, zero, suc, ◌+◌, ◌-◌, ◌*◌, ◌/◌, ◌<◌, ◌≤◌, ℤ, pos, refl, ap, sym, ◌∙◌, inl, inr, arith, add-one, List, [], ◌∷◌, ◌++◌, length, get_or, slice_index, slice_index_or, All, length-append}
+use Rattle.std.proofs.Common.{◌≡◌, ℕ, zero, suc, ◌+◌, ◌*◌, ◌<◌, ℤ, refl, ap, sym, ◌∙◌, inl, inr, arith, add-one, List, [], ◌∷◌, ◌++◌, length, slice_index, slice_index_or, All, length-append}
 use Rattle.std.proofs.lemmas.Bool.{cases_eq}
 use Rattle.std.proofs.lemmas.List.{get_or_append_left, get_or-append-add, append_assoc, append-nil, ext_get_or}
 use Rattle.std.proofs.lemmas.List.Elements.{All-append, All-cons, All-nil}
-use Rattle.graph_theory.specs.declared.edge.Edge.{Edge}
 use Rattle.graph_theory.specs.Sums.{sum_to}
 use Rattle.graph_theory.proofs.SumLemmas.{sum_to-same}
-use Rattle.gadget_base.specs.Blocks.{blocks, tabled, row, rectangle, clique}
+use Rattle.gadget_base.specs.Blocks.{blocks, tabled, row, rectangle}
 use Rattle.gadget_base.proofs.BlockSums.{sum_to-grows, sum_to-const}
 
 -- how long they are

@@ -1,20 +1,19 @@
 -- Each perfect matching of the graph of copies is a b-matching of the same weight.
-use Rattle.std.proofs.Common.{◌≡◌, ℕ, ◌+◌, ◌-◌, ◌*◌, ◌<◌, ◌≤◌, ◌^◌, ℤ, pos, ◌*ℤ◌, true, false, cond, eqb, refl, ap, sym, ◌∙◌, subst, inl, inr, arith, List, length, slice_index, All}
+use Rattle.std.proofs.Common.{◌≡◌, ℕ, ◌+◌, ◌*◌, ◌<◌, ◌≤◌, ◌^◌, pos, ◌*ℤ◌, true, false, cond, eqb, refl, ap, sym, ◌∙◌, inl, inr, arith, List, length, slice_index, All}
 use Rattle.std.proofs.lemmas.Bool.{cases_eq, eq-eqb, ne_eqb}
-use Rattle.graph_theory.specs.Sums.{sum_to, int_sum_to}
-use Rattle.graph_theory.specs.Graph.{IsEdgeWithin, ends_at, degree, weight, IsPerfect}
+use Rattle.graph_theory.specs.Sums.{sum_to}
+use Rattle.graph_theory.specs.Graph.{IsEdgeWithin, ends_at, degree, weight}
 use Rattle.graph_theory.specs.Walk.{walk_weight}
 use Rattle.graph_theory.proofs.SumLemmas.{sum_to-same, sum_to-add, sum_to-swap, sum_to-most, int_sum_to-same}
 use Rattle.graph_theory.proofs.Edges.{ends_at-u, ends_at-v, ends_at-other}
-use Rattle.mb_problem.specs.declared.instance.InstanceEdge.{InstanceEdge}
 use Rattle.mb_problem.specs.Network.{Network, IsNetwork, vertices, plain, graph_of, instance_edge_at, value_of}
 use Rattle.mb_problem.specs.Size.{value_total, value_u, value_v}
 use Rattle.mb_problem.specs.Feasible.{IsBMatching}
-use Rattle.gadget_base.specs.Blocks.{blocks, tabled}
+use Rattle.gadget_base.specs.Blocks.{tabled}
 use Rattle.gadget_base.specs.Gadgets.{copies_graph, values_below}
 use Rattle.gadget_base.specs.Certified.{IsPerfectList}
 use Rattle.gadget_base.specs.Listed.{times, times_each}
-use Rattle.gadget_base.proofs.BlockSums.{sum_to-none, sum_to-ones, sum_to-cond, sum_to-rows}
+use Rattle.gadget_base.proofs.BlockSums.{sum_to-ones, sum_to-cond, sum_to-rows}
 use Rattle.gadget_base.proofs.Blocks.{tabled-length, tabled-at, tabled-blocks, tabled-rows, blocks-same}
 use Rattle.gadget_base.proofs.Over.{table}
 use Rattle.gadget_base.proofs.Within.{edge-ends, copies-inside, copies-size, copies-within}

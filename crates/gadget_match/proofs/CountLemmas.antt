@@ -1,6 +1,7 @@
 -- Lemmas on counting the edges of a list block by block.
-use Rattle.std.proofs.Common.{◌≡◌, ℕ, ◌+◌, ◌-◌, ◌*◌, ◌<◌, ◌≤◌, ◌^◌, true, false, cond, eqb, refl, ap, sym, ◌∙◌, inl, inr, arith, List, [], length, take, slice_index}
+use Rattle.std.proofs.Common.{◌≡◌, ℕ, ◌+◌, ◌-◌, ◌*◌, ◌<◌, ◌≤◌, true, false, cond, eqb, refl, ap, sym, ◌∙◌, inl, inr, arith, List, [], ◌∷◌, ◌++◌, length, take, slice_index}
 use Rattle.std.proofs.lemmas.Bool.{cases_eq, cases_lt, eq-eqb, ne_eqb}
+use Rattle.std.proofs.lemmas.List.{get_or_append_left, get_or-append-add}
 use Rattle.std.proofs.Math.Nat.{mul-le-mul}
 use Rattle.graph_theory.specs.Sums.{sum_to}
 use Rattle.graph_theory.proofs.SumLemmas.{sum_to-same, sum_to-add, sum_to-more}
@@ -62,3 +63,15 @@ value-small i t network low high = network.values (t - 1) 0 (omega arith)
 
 pub product-small : (a b : ℕ) → a ≤ 4096 → b ≤ 4096 → a * b ≤ 16777216
 product-small a b h h' = mul-le-mul h h'
+
+-- a list of the values of f with one more at the end
+pub pushed-each : (old new : List ℕ) (x n : ℕ) (f : ℕ → ℕ) → new ≡ old ++ x ∷ [] → length old ≡ n → ((k : ℕ) → k < n → slice_index old k ≡ f k) → x ≡ f n → (k : ℕ) → k < n + 1 → slice_index new k ≡ f k
+pushed-each old new x n f is size each next k b =
+    ap (λ (xs : List ℕ). slice_index xs k) is
+    ∙ elim (cases_eq k n) [
+      | inl e ↦
+          ap (slice_index (old ++ x ∷ [])) (let z : k ≡ length old + 0 = omega (arith, e, size) in z)
+          ∙ get_or-append-add old (x ∷ []) 0 0
+          ∙ next ∙ ap f (sym e)
+      | inr d ↦ get_or_append_left old (x ∷ []) 0 k (omega (arith, size, b)) ∙ each k (omega arith)
+    ]

@@ -1,8 +1,8 @@
 -- Each perfect matching of the doubled graph is a matching on either copy.
-use Rattle.std.proofs.Common.{◌≡◌, ℕ, ◌+◌, ◌-◌, ◌*◌, ◌<◌, ◌≤◌, ◌^◌, ℤ, pos, neg_ℤ, ◌+ℤ◌, ◌*ℤ◌, ◌≤ℤ◌, refl, ap, sym, ◌∙◌, arith, List, ◌∷◌, [], ◌++◌, length, slice_index, All}
+use Rattle.std.proofs.Common.{◌≡◌, ℕ, ◌+◌, ◌-◌, ◌*◌, ◌<◌, ◌≤◌, ◌^◌, ℤ, pos, neg_ℤ, ◌+ℤ◌, ◌*ℤ◌, ◌≤ℤ◌, ◌<ℤ◌, int_lt, true, false, ap, ◌∙◌, arith, List, ◌∷◌, [], ◌++◌, length, slice_index}
 use Rattle.std.proofs.lemmas.Int.{ints}
 use Rattle.graph_theory.specs.Sums.{sum_to, int_sum_to}
-use Rattle.graph_theory.specs.Graph.{ends_at, degree, weight, IsPerfect}
+use Rattle.graph_theory.specs.Graph.{ends_at, degree, weight}
 use Rattle.graph_theory.specs.Walk.{walk_weight}
 use Rattle.graph_theory.proofs.SumLemmas.{sum_to-same, int_sum_to-same}
 use Rattle.mb_problem.specs.Network.{Network, IsNetwork, vertices, plain, graph_of, instance_edge_at}
@@ -107,3 +107,10 @@ double-few i edges network perfect =
     let size = list-length (doubled_graph i) edges (doubled-within i network) perfect in
     let few = network.few_vertices in
     omega (arith, size, few)
+
+-- the copy that weighs more weighs at least half of both
+pub second-heavier : (walk a b : ℤ) → walk +ℤ (a +ℤ b) ≡ pos 0 → int_lt a b ≡ true → neg_ℤ walk ≤ℤ (pos 2 *ℤ b)
+second-heavier walk a b sum less = let order : a <ℤ b = grind (arith, ints) in omega (arith, ints, sum, order)
+
+pub first-heavier : (walk a b : ℤ) → walk +ℤ (a +ℤ b) ≡ pos 0 → int_lt a b ≡ false → neg_ℤ walk ≤ℤ (pos 2 *ℤ a)
+first-heavier walk a b sum more = let order : b ≤ℤ a = grind (arith, ints) in omega (arith, ints, sum, order)

@@ -73,6 +73,23 @@ fn add_pairs(counts: &mut [u32], instance: &Instance, starts: &[u64], edges: &[E
     }
 }
 
+/// How often edges of the graph that stand for each edge of the instance are listed.
+fn count_pairs(
+    alloc: Global,
+    instance: &Instance,
+    starts: &[u64],
+    edges: &[EdgeId],
+) -> Result<Vec<u32>, OutOfMemory>
+    requires starts { ArePairStarts instance.now starts.now }
+    requires numbers { All (λ e. (1 ≤ e) × (e ≤ pairs_before instance.now (length instance.now.edges))) edges.now }
+    requires few { length edges.now < 2 ^ 31 }
+    ensures counts { IfOk result (λ counts. counts.items ≡ gathered instance.now edges.now) }
+{
+    let mut counts = vec![in alloc; 0u32; instance.edges() as usize]?;
+    add_pairs(&mut counts, instance, starts, edges);
+    Ok(counts)
+}
+
 /// The b-matching that a perfect matching of the graph of `copies` stands for, given as the numbers of
 /// its edges: each edge of the instance is used as often as copies of its ends are joined (Schrijver,
 /// Combinatorial Optimization, volume A, chapter 31). It takes time linear in the instance, and for
@@ -88,8 +105,8 @@ pub fn extract_copies(
     ensures weighs { IfOk result (λ a. weight_of instance.now a ≡ walk_weight (copies_graph instance.now) edges.now) }
     ensures answer { IfOk result (λ a. a ≡ Counts (gathered instance.now edges.now)) }
 {
+    let _edges = instance.edges();
     let starts = pair_starts(alloc, instance)?;
-    let mut counts = vec![in alloc; 0u32; instance.edges() as usize]?;
-    add_pairs(&mut counts, instance, &starts, edges);
+    let counts = count_pairs(alloc, instance, &starts, edges)?;
     Ok(Answer::Counts(Sequence::from_vec(counts)))
 }

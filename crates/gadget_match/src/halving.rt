@@ -1,8 +1,9 @@
-ghost use Rattle.std.specs.Prelude.{◌≡◌, ℕ, ◌+◌, ◌-◌, ◌*◌, ◌<◌, ◌≤◌, ◌^◌, ◌==◌, if◌then◌else◌, length, slice_index, All, IfOk, pos, neg_ℤ, ◌*ℤ◌, ◌≤ℤ◌};
+ghost use Rattle.std.specs.Prelude.{◌≡◌, ℕ, ◌+◌, ◌-◌, ◌*◌, ◌<◌, ◌≤◌, ◌^◌, ◌==◌, if◌then◌else◌, length, slice_index, All, IfOk, pos, neg_ℤ, ◌*ℤ◌, ◌≤ℤ◌, int_lt};
 ghost use Rattle.graph_theory.specs.Walk.{walk_weight};
 ghost use Rattle.mb_problem.specs.declared.kind.Kind.TheVariants.{Match};
 ghost use Rattle.mb_problem.specs.declared.answer.Answer.TheVariants.{Counts};
 ghost use Rattle.mb_problem.specs.Feasible.{IsFeasible, weight_of};
+ghost use Rattle.mb_problem.specs.Measured.{HasPlaces};
 ghost use Rattle.gadget_base.specs.Blocks.{tabled};
 ghost use Rattle.gadget_base.specs.Gadgets.{doubled_graph};
 ghost use Rattle.gadget_base.specs.Certified.{IsPerfectList};
@@ -43,10 +44,10 @@ fn add_copies(counts: &mut [u32], edges: &[EdgeId], copy: u32)
     }
 }
 
-/// How often copy number `copy`, 1 or 2, of each edge is listed.
+/// How often copy number `copy`, 1 or 2, of each of `m` edges is listed.
 fn count_copies(
     alloc: Global,
-    instance: &Instance,
+    m: usize,
     edges: &[EdgeId],
     copy: u32,
 ) -> Result<Vec<u32>, OutOfMemory>
@@ -54,11 +55,20 @@ fn count_copies(
     requires last { copy ≤ 2 }
     requires numbers { All (λ e. 1 ≤ e) edges.now }
     requires few { length edges.now < 2 ^ 31 }
-    ensures { IfOk result (λ counts. counts.items ≡ copy_counts instance.now edges.now copy) }
+    ensures { IfOk result (λ counts. counts.items ≡ tabled (λ k. times edges.now (2 * k + copy)) m) }
 {
-    let mut counts = vec![in alloc; 0u32; instance.edges() as usize]?;
+    let mut counts = vec![in alloc; 0u32; m]?;
     add_copies(&mut counts, edges, copy);
     Ok(counts)
+}
+
+/// Whether the one answer weighs less than the other.
+fn weighs_less(instance: &Instance, one: &Answer, other: &Answer) -> bool
+    requires one { HasPlaces instance.now one.now }
+    requires other { HasPlaces instance.now other.now }
+    ensures { result ≡ int_lt (weight_of instance.now one.now) (weight_of instance.now other.now) }
+{
+    weight(instance, one) < weight(instance, other)
 }
 
 /// The matching that a perfect matching of the graph of `double` stands for, given as the numbers of
@@ -75,9 +85,10 @@ pub fn extract_double(
     ensures heavier { IfOk result (λ a. neg_ℤ (walk_weight (doubled_graph instance.now) edges.now) ≤ℤ (pos 2 *ℤ weight_of instance.now a)) }
     ensures answer { IfOk result (λ a. a ≡ Counts (heavier_copy instance.now edges.now)) }
 {
-    let first = Answer::Counts(Sequence::from_vec(count_copies(alloc, instance, edges, 1)?));
-    let second = Answer::Counts(Sequence::from_vec(count_copies(alloc, instance, edges, 2)?));
-    if weight(instance, &first) < weight(instance, &second) {
+    let m = instance.edges() as usize;
+    let first = Answer::Counts(Sequence::from_vec(count_copies(alloc, m, edges, 1)?));
+    let second = Answer::Counts(Sequence::from_vec(count_copies(alloc, m, edges, 2)?));
+    if weighs_less(instance, &first, &second) {
         Ok(second)
     } else {
         Ok(first)
