@@ -1,0 +1,5 @@
+pub mod Counted
+pub mod Picks
+pub mod Units
+pub mod Rectangles
+pub mod Gates
