@@ -3,3 +3,5 @@ pub mod Picks
 pub mod Units
 pub mod Rectangles
 pub mod Gates
+pub mod Used
+pub mod Through

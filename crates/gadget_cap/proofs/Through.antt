@@ -1,0 +1,188 @@
+-- Each matching within the rooms has its perfect matching of the graph with gates.
+use Rattle.std.proofs.Common.{◌≡◌, ◌≢◌, ℕ, zero, suc, ◌+◌, ◌*◌, ◌-◌, ◌<◌, ◌≤◌, ℤ, pos, ◌*ℤ◌, Bool, true, false, cond, eqb, refl, ap, sym, ◌∙◌, subst, inl, inr, arith, List, [], ◌∷◌, ◌++◌, length, map, slice_index, All}
+use Rattle.std.proofs.lemmas.Bool.{cases_eq, cases_lt, eq-eqb, ne_eqb}
+use Rattle.std.proofs.lemmas.List.{length-map}
+use Rattle.std.proofs.lemmas.List.Elements.{All-nil, All-cons, All-append}
+use Rattle.graph_theory.specs.declared.edge.Edge.{Edge}
+use Rattle.graph_theory.specs.Sums.{sum_to, int_sum_to}
+use Rattle.graph_theory.specs.Graph.{edge_at, degree, weight, IsPerfect}
+use Rattle.graph_theory.proofs.SumLemmas.{sum_to-same, int_sum_to-same, times-sum_to}
+use Rattle.mb_problem.specs.Network.{Network, IsNetwork, vertices, plain, graph_of, instance_edge_at}
+use Rattle.mb_problem.specs.Size.{value_total, value_u, value_v}
+use Rattle.mb_problem.specs.Feasible.{IsBMatching}
+use Rattle.mb_problem.proofs.EdgeLemmas.{edge_at-graph_of}
+use Rattle.gadget_base.specs.Blocks.{blocks, tabled}
+use Rattle.gadget_base.specs.Gadgets.{before_gates, capped_graph}
+use Rattle.gadget_cap.specs.Matrices.{matrix}
+use Rattle.gadget_cap.proofs.Picks.{find_block}
+use Rattle.gadget_cap.proofs.Units.{taken, units, units-most, taken-each, taken-two, units-row, units-column, units-total}
+use Rattle.gadget_cap.proofs.Gates.{Passage, gate_counts, all_counts, all-one_each, value, below, within, entered, degree-copy, degree-first, degree-second, weight-by_entered}
+use Rattle.gadget_cap.proofs.Used.{share, used, share-at, used-value, used-u, used-v}
+
+-- a matching that uses each edge at most as often as it has room
+pub record IsWithinRooms (i : Network) (room : ℕ → ℕ) (counts : List ℕ) : Type 0 where
+  pub matching : IsBMatching i counts
+  pub rooms : (k : ℕ) → k < length i.edges → slice_index counts k ≤ room k
+
+-- each unit of an edge goes from the next copy of its first end through the next place of both gates to the next copy
+-- of its second end; the places of the gates that are left are joined
+abbrev pub through : Network → (ℕ → ℕ) → List ℕ → Passage
+through i room counts = record {
+  enter = λ k. units (used i counts ((instance_edge_at i k).u - 1) k) 0 (slice_index counts k);
+  cross = λ k. units (slice_index counts k) (slice_index counts k) (room k - slice_index counts k);
+  leave = λ k. units 0 (used i counts ((instance_edge_at i k).v - 1) k) (slice_index counts k);
+}
+
+-- counts of at most one
+
+most-tabled : (f : ℕ → ℕ) (n : ℕ) → ((j : ℕ) → f j ≤ 1) → All (λ c. c ≤ 1) (tabled f n)
+most-tabled f zero most = All-nil (λ c. c ≤ 1)
+most-tabled f (suc n) most = All-append (λ c. c ≤ 1) (tabled f n) (f n ∷ []) (most-tabled f n most) (All-cons (λ c. c ≤ 1) (f n) [] (most n) (All-nil (λ c. c ≤ 1)))
+
+most-blocks : (f : ℕ → List ℕ) (n : ℕ) → ((k : ℕ) → All (λ c. c ≤ 1) (f k)) → All (λ c. c ≤ 1) (blocks f n)
+most-blocks f zero most = All-nil (λ c. c ≤ 1)
+most-blocks f (suc n) most = All-append (λ c. c ≤ 1) (blocks f n) (f n) (most-blocks f n most) (most n)
+
+most-units : (s t x m n : ℕ) → All (λ c. c ≤ 1) (matrix (units s t x) m n)
+most-units s t x m n = most-blocks (λ a. tabled (units s t x a) n) m (λ a. most-tabled (units s t x a) n (λ j. units-most s t x a j))
+
+through-most : (i : Network) (room : ℕ → ℕ) (counts : List ℕ) → All (λ c. c ≤ 1) (all_counts i room (through i room counts))
+through-most i room counts =
+    most-blocks (gate_counts i room (through i room counts)) (length i.edges)
+    (λ k.
+    let x = slice_index counts k in
+    let su = used i counts ((instance_edge_at i k).u - 1) k in
+    let sv = used i counts ((instance_edge_at i k).v - 1) k in
+    let r = room k in
+    let one = matrix (units su 0 x) (value_u i k) r in
+    let two = matrix (units x x (r - x)) r r in
+    let three = matrix (units 0 sv x) r (value_v i k) in
+    All-append (λ c. c ≤ 1) one (two ++ three) (most-units su 0 x (value_u i k) r) (All-append (λ c. c ≤ 1) two three (most-units x x (r - x) r r) (most-units 0 sv x r (value_v i k))))
+
+-- the degrees
+
+cond_cond : (p q : Bool) (s : ℕ) (f : ℕ → ℕ) → (p ≡ true → q ≡ true → ⊥) → f 0 ≡ 0 → cond p (f s) 0 + cond q (f s) 0 ≡ f (cond p s (cond q s 0))
+cond_cond true true s f h none = absurd (h refl refl)
+cond_cond true false s f h none = omega arith
+cond_cond false true s f h none = omega arith
+cond_cond false false s f h none = sym none
+
+-- the copies of vertex t + 1 that an edge takes are the next ones of it
+copy-term : (i : Network) (room : ℕ → ℕ) (counts : List ℕ) (t c k : ℕ) → IsNetwork i → IsWithinRooms i room counts → k < length i.edges → cond (eqb ((instance_edge_at i k).u - 1) t) (sum_to ((through i room counts).enter k c) (room k)) 0 + cond (eqb ((instance_edge_at i k).v - 1) t) (sum_to (λ l. (through i room counts).leave k l c) (room k)) 0 ≡ taken (used i counts t k) (share i counts t k) c
+copy-term i room counts t c k net answer b =
+    let u = (instance_edge_at i k).u in
+    let v = (instance_edge_at i k).v in
+    let x = slice_index counts k in
+    let r = room k in
+    let small : x ≤ r = answer.rooms k b in
+    let row = units-row (used i counts (u - 1) k) 0 x r c (omega arith) in
+    let column = units-column 0 (used i counts (v - 1) k) x r c (omega arith) in
+    let here = share-at i counts t k net b in
+    let is = within i k net b in
+    let differ : u ≢ v = is.differ in
+    let u_low : 1 ≤ u = is.u_low in
+    let v_low : 1 ≤ v = is.v_low in
+    ap (λ y. cond (eqb (u - 1) t) y 0 + cond (eqb (v - 1) t) (sum_to (λ l. units 0 (used i counts (v - 1) k) x l c) r) 0) row
+    ∙ ap (λ y. cond (eqb (u - 1) t) (taken (used i counts (u - 1) k) x c) 0 + cond (eqb (v - 1) t) y 0) column
+    ∙ elim (cases_eq (u - 1) t) [
+      | inl e ↦
+          let on : eqb (u - 1) t ≡ true = eq-eqb (u - 1) t e in
+          let off : eqb (v - 1) t ≡ false = ne_eqb (v - 1) t (λ h. differ (omega arith)) in
+          let all : share i counts t k ≡ x = here ∙ rw on refl in
+          let same : taken (used i counts (u - 1) k) x c ≡ taken (used i counts t k) (share i counts t k) c = ap (λ s. taken (used i counts s k) x c) e ∙ ap (λ y. taken (used i counts t k) y c) (sym all) in
+          rw (on, off) (omega (arith, same))
+      | inr d ↦
+          let off : eqb (u - 1) t ≡ false = ne_eqb (u - 1) t d in
+          elim (cases_eq (v - 1) t) [
+            | inl e ↦
+                let on : eqb (v - 1) t ≡ true = eq-eqb (v - 1) t e in
+                let all : share i counts t k ≡ x = here ∙ rw (off, on) refl in
+                let same : taken (used i counts (v - 1) k) x c ≡ taken (used i counts t k) (share i counts t k) c = ap (λ s. taken (used i counts s k) x c) e ∙ ap (λ y. taken (used i counts t k) y c) (sym all) in
+                rw (off, on) (omega (arith, same))
+            | inr d' ↦
+                let off' : eqb (v - 1) t ≡ false = ne_eqb (v - 1) t d' in
+                let all : share i counts t k ≡ 0 = here ∙ rw (off, off') refl in
+                let same : taken (used i counts t k) (share i counts t k) c ≡ 0 = ap (λ y. taken (used i counts t k) y c) all in
+                rw (off, off') (sym same)
+          ]
+    ]
+
+through-copy : (i : Network) (room : ℕ → ℕ) (counts : List ℕ) (t c : ℕ) → IsNetwork i → IsWithinRooms i room counts → t < vertices i → c < value i t → degree (capped_graph i room) (all_counts i room (through i room counts)) (below i t + c + 1) ≡ 1
+through-copy i room counts t c net answer b l =
+    let p = through i room counts in
+    let all = used-value i counts t answer.matching b in
+    degree-copy i room p t c b l
+    ∙ sum_to-same (λ k. cond (eqb ((instance_edge_at i k).u - 1) t) (sum_to (p.enter k c) (room k)) 0 + cond (eqb ((instance_edge_at i k).v - 1) t) (sum_to (λ l. p.leave k l c) (room k)) 0) (λ k. taken (used i counts t k) (share i counts t k) c) (length i.edges) (λ k h. copy-term i room counts t c k net answer h)
+    ∙ taken-each (share i counts t) (length i.edges) c (omega (arith, all, l))
+
+through-first : (i : Network) (room : ℕ → ℕ) (counts : List ℕ) (k j : ℕ) → IsNetwork i → IsWithinRooms i room counts → k < length i.edges → j < room k → degree (capped_graph i room) (all_counts i room (through i room counts)) (before_gates i room k + j + 1) ≡ 1
+through-first i room counts k j net answer b l =
+    let x = slice_index counts k in
+    let r = room k in
+    let su = used i counts ((instance_edge_at i k).u - 1) k in
+    let small : x ≤ r = answer.rooms k b in
+    let split = degree-first i room (through i room counts) k j net b l in
+    let one = units-column su 0 x (value_u i k) j (used-u i counts k net answer.matching b) in
+    let two = units-row x x (r - x) r j (omega arith) in
+    let both = taken-two x (r - x) j (omega arith) in
+    omega (arith, split, one, two, both)
+
+through-second : (i : Network) (room : ℕ → ℕ) (counts : List ℕ) (k j : ℕ) → IsNetwork i → IsWithinRooms i room counts → k < length i.edges → j < room k → degree (capped_graph i room) (all_counts i room (through i room counts)) (before_gates i room k + room k + j + 1) ≡ 1
+through-second i room counts k j net answer b l =
+    let x = slice_index counts k in
+    let r = room k in
+    let sv = used i counts ((instance_edge_at i k).v - 1) k in
+    let small : x ≤ r = answer.rooms k b in
+    let split = degree-second i room (through i room counts) k j net b l in
+    let one = units-column x x (r - x) r j (omega arith) in
+    let two = units-row 0 sv x (value_v i k) j (used-v i counts k net answer.matching b) in
+    let both = taken-two x (r - x) j (omega arith) in
+    omega (arith, split, one, two, both)
+
+through-degrees : (i : Network) (room : ℕ → ℕ) (counts : List ℕ) (v : ℕ) → IsNetwork i → IsWithinRooms i room counts → 1 ≤ v → v ≤ before_gates i room (length i.edges) → degree (capped_graph i room) (all_counts i room (through i room counts)) v ≡ 1
+through-degrees i room counts v net answer low high =
+    let P : ℕ → Type 0 = λ y. degree (capped_graph i room) (all_counts i room (through i room counts)) y ≡ 1 in
+    elim (cases_lt (v - 1) (value_total i)) [
+      | inl copy ↦
+          let found = find_block (value i) (vertices i) (v - 1) copy in
+          let is : below i found.block + found.place ≡ v - 1 = found.is in
+          let at : below i found.block + found.place + 1 ≡ v = omega arith in
+          subst P at (through-copy i room counts found.block found.place net answer found.block_low found.place_low)
+      | inr gate ↦
+          let twice = times-sum_to 2 room (length i.edges) in
+          let found = find_block (λ k. 2 * room k) (length i.edges) (v - 1 - value_total i) (omega (arith, twice, gate, low, high)) in
+          let k = found.block in
+          let is = found.is in
+          let place_low = found.place_low in
+          let scaled = times-sum_to 2 room k in
+          elim (cases_lt found.place (room k)) [
+            | inl first ↦
+                let at : before_gates i room k + found.place + 1 ≡ v = omega (arith, is, scaled) in
+                subst P at (through-first i room counts k found.place net answer found.block_low first)
+            | inr second ↦
+                let at : before_gates i room k + room k + (found.place - room k) + 1 ≡ v = omega (arith, is, scaled, second) in
+                subst P at (through-second i room counts k (found.place - room k) net answer found.block_low (omega arith))
+          ]
+    ]
+
+pub through-perfect : (i : Network) (room : ℕ → ℕ) (counts : List ℕ) → IsNetwork i → IsWithinRooms i room counts → IsPerfect (capped_graph i room) (all_counts i room (through i room counts))
+through-perfect i room counts net answer = record {
+  one_each = all-one_each i room (through i room counts);
+  at_most_one = through-most i room counts;
+  degrees = λ v low high. through-degrees i room counts v net answer low high;
+}
+
+-- the weight by the edges of the instance
+pub weight-by_edges : (i : Network) (counts : List ℕ) → weight (graph_of i) counts ≡ int_sum_to (λ k. pos (slice_index counts k) *ℤ (instance_edge_at i k).w) (length i.edges)
+weight-by_edges i counts =
+    ap (int_sum_to (λ k. pos (slice_index counts k) *ℤ (edge_at (graph_of i) k).w)) (length-map i.edges plain)
+    ∙ int_sum_to-same (λ k. pos (slice_index counts k) *ℤ (edge_at (graph_of i) k).w) (λ k. pos (slice_index counts k) *ℤ (instance_edge_at i k).w) (length i.edges) (λ k _. ap (λ (e : Edge). pos (slice_index counts k) *ℤ e.w) (edge_at-graph_of i k))
+
+pub through-weight : (i : Network) (room : ℕ → ℕ) (counts : List ℕ) → IsNetwork i → IsWithinRooms i room counts → weight (capped_graph i room) (all_counts i room (through i room counts)) ≡ weight (graph_of i) counts
+through-weight i room counts net answer =
+    weight-by_entered i room (through i room counts)
+    ∙ int_sum_to-same (λ k. pos (entered i room (through i room counts) k) *ℤ (instance_edge_at i k).w) (λ k. pos (slice_index counts k) *ℤ (instance_edge_at i k).w) (length i.edges)
+    (λ k b.
+    let small : slice_index counts k ≤ room k = answer.rooms k b in
+    ap (λ y. pos y *ℤ (instance_edge_at i k).w) (units-total (used i counts ((instance_edge_at i k).u - 1) k) 0 (slice_index counts k) (value_u i k) (room k) (used-u i counts k net answer.matching b) (omega arith)))
+    ∙ sym (weight-by_edges i counts)
