@@ -10,10 +10,12 @@ use Rattle.mb_problem.specs.Network.{Network, IsNetwork, vertices, plain, instan
 use Rattle.mb_problem.specs.Size.{value_total, value_u, value_v}
 use Rattle.gadget_base.specs.Blocks.{blocks, rectangle}
 use Rattle.gadget_base.specs.Gadgets.{values_below, before_gates, gated, capped_graph}
-use Rattle.gadget_cap.specs.Matrices.{matrix}
-use Rattle.gadget_cap.proofs.Counted.{degree_in, weight_in, degree_in-append, weight_in-append, degree_in-blocks, weight_in-blocks, blocks-same_length}
-use Rattle.gadget_cap.proofs.Picks.{pick, pick-none, pick-here, pick-block, sum_to-grows, sum_to-single}
-use Rattle.gadget_cap.proofs.Rectangles.{degree_in-rectangle, weight_in-rectangle, rectangle-length, matrix-length}
+use Rattle.gadget_base.proofs.BlockSums.{sum_to-grows}
+use Rattle.gadget_base.proofs.Blocks.{rectangle-length}
+use Rattle.gadget_base.proofs.Over.{over, int_over, at_vertex, weighing, over-append, int_over-append, over-blocks, int_over-blocks, blocks-lengths, table}
+use Rattle.gadget_base.proofs.Degrees.{rectangle-weight}
+use Rattle.gadget_cap.proofs.Tables.{table-length}
+use Rattle.gadget_cap.proofs.Picks.{pick, pick-none, pick-here, pick-block, sum_to-single, rectangle-picks}
 
 -- counts on the edges that stand for edge number k + 1: into the first gate, from gate to gate, and out of the second
 pub record Passage : Type 0 where
@@ -22,7 +24,7 @@ pub record Passage : Type 0 where
   pub leave : ℕ → ℕ → ℕ → ℕ
 
 abbrev pub gate_counts : Network → (ℕ → ℕ) → Passage → ℕ → List ℕ
-gate_counts i room p k = matrix (p.enter k) (value_u i k) (room k) ++ (matrix (p.cross k) (room k) (room k) ++ matrix (p.leave k) (room k) (value_v i k))
+gate_counts i room p k = table (p.enter k) (value_u i k) (room k) ++ (table (p.cross k) (room k) (room k) ++ table (p.leave k) (room k) (value_v i k))
 
 abbrev pub all_counts : Network → (ℕ → ℕ) → Passage → List ℕ
 all_counts i room p = blocks (gate_counts i room p) (length i.edges)
@@ -45,16 +47,16 @@ gated-length i room k =
 
 pub gate_counts-length : (i : Network) (room : ℕ → ℕ) (p : Passage) (k : ℕ) → length (gate_counts i room p k) ≡ gate_size i room k
 gate_counts-length i room p k =
-    let one = matrix (p.enter k) (value_u i k) (room k) in
-    let two = matrix (p.cross k) (room k) (room k) in
-    let three = matrix (p.leave k) (room k) (value_v i k) in
-    omega (arith, length-append one (two ++ three), length-append two three, matrix-length (p.enter k) (value_u i k) (room k), matrix-length (p.cross k) (room k) (room k), matrix-length (p.leave k) (room k) (value_v i k))
+    let one = table (p.enter k) (value_u i k) (room k) in
+    let two = table (p.cross k) (room k) (room k) in
+    let three = table (p.leave k) (room k) (value_v i k) in
+    omega (arith, length-append one (two ++ three), length-append two three, table-length (p.enter k) (value_u i k) (room k), table-length (p.cross k) (room k) (room k), table-length (p.leave k) (room k) (value_v i k))
 
-pub gate-one_each : (i : Network) (room : ℕ → ℕ) (p : Passage) (k : ℕ) → length (gate_counts i room p k) ≡ length (gated i room k)
-gate-one_each i room p k = gate_counts-length i room p k ∙ sym (gated-length i room k)
+pub gate-one_each : (i : Network) (room : ℕ → ℕ) (p : Passage) (k : ℕ) → length (gated i room k) ≡ length (gate_counts i room p k)
+gate-one_each i room p k = gated-length i room k ∙ sym (gate_counts-length i room p k)
 
 pub all-one_each : (i : Network) (room : ℕ → ℕ) (p : Passage) → length (all_counts i room p) ≡ length (capped_graph i room).edges
-all-one_each i room p = blocks-same_length (gated i room) (gate_counts i room p) (length i.edges) (λ k _. gate-one_each i room p k)
+all-one_each i room p = sym (blocks-lengths (gated i room) (gate_counts i room p) (length i.edges) (λ k _. gate-one_each i room p k))
 
 -- what the edges that stand for edge number k + 1 count at vertex q + 1
 abbrev pub gate_terms : Network → (ℕ → ℕ) → Passage → ℕ → ℕ → ℕ
@@ -66,7 +68,7 @@ gate_terms i room p q k =
     + (pick (before_gates i room k + room k) (room k) (λ l. sum_to (p.leave k l) (value_v i k)) q
     + pick (values_below i (instance_edge_at i k).v) (value_v i k) (λ b. sum_to (λ l. p.leave k l b) (room k)) q))
 
-gate-terms : (i : Network) (room : ℕ → ℕ) (p : Passage) (q k : ℕ) → degree_in (gated i room k) (gate_counts i room p k) (q + 1) ≡ gate_terms i room p q k
+gate-terms : (i : Network) (room : ℕ → ℕ) (p : Passage) (q k : ℕ) → over (at_vertex (q + 1)) (gated i room k) (gate_counts i room p k) ≡ gate_terms i room p q k
 gate-terms i room p q k =
     let r = room k in
     let m = value_u i k in
@@ -78,14 +80,14 @@ gate-terms i room p q k =
     let one = rectangle us m before r w in
     let two = rectangle before r (before + r) r (pos 0) in
     let three = rectangle (before + r) r vs n (pos 0) in
-    let split = degree_in-append one (two ++ three) (matrix (p.enter k) m r) (matrix (p.cross k) r r ++ matrix (p.leave k) r n) (q + 1) (matrix-length (p.enter k) m r ∙ sym (rectangle-length us m before r w)) in
-    let rest = degree_in-append two three (matrix (p.cross k) r r) (matrix (p.leave k) r n) (q + 1) (matrix-length (p.cross k) r r ∙ sym (rectangle-length before r (before + r) r (pos 0))) in
-    omega (arith, split, rest, degree_in-rectangle us m before r w (p.enter k) q, degree_in-rectangle before r (before + r) r (pos 0) (p.cross k) q, degree_in-rectangle (before + r) r vs n (pos 0) (p.leave k) q)
+    let split = over-append (at_vertex (q + 1)) one (two ++ three) (table (p.enter k) m r) (table (p.cross k) r r ++ table (p.leave k) r n) (rectangle-length us m before r w ∙ sym (table-length (p.enter k) m r)) in
+    let rest = over-append (at_vertex (q + 1)) two three (table (p.cross k) r r) (table (p.leave k) r n) (rectangle-length before r (before + r) r (pos 0) ∙ sym (table-length (p.cross k) r r)) in
+    omega (arith, split, rest, rectangle-picks us m before r w (p.enter k) q, rectangle-picks before r (before + r) r (pos 0) (p.cross k) q, rectangle-picks (before + r) r vs n (pos 0) (p.leave k) q)
 
 degree-by_edges : (i : Network) (room : ℕ → ℕ) (p : Passage) (q : ℕ) → degree (capped_graph i room) (all_counts i room p) (q + 1) ≡ sum_to (gate_terms i room p q) (length i.edges)
 degree-by_edges i room p q =
-    degree_in-blocks (gated i room) (gate_counts i room p) (q + 1) (length i.edges) (λ k _. gate-one_each i room p k)
-    ∙ sum_to-same (λ k. degree_in (gated i room k) (gate_counts i room p k) (q + 1)) (gate_terms i room p q) (length i.edges) (λ k _. gate-terms i room p q k)
+    over-blocks (at_vertex (q + 1)) (gated i room) (gate_counts i room p) (length i.edges) (λ k _. gate-one_each i room p k)
+    ∙ sum_to-same (λ k. over (at_vertex (q + 1)) (gated i room k) (gate_counts i room p k)) (gate_terms i room p q) (length i.edges) (λ k _. gate-terms i room p q k)
 
 -- the value of vertex t + 1, and the values of the vertices before it
 
@@ -198,7 +200,7 @@ degree-second i room p k y net l b =
 abbrev pub entered : Network → (ℕ → ℕ) → Passage → ℕ → ℕ
 entered i room p k = sum_to (λ a. sum_to (p.enter k a) (room k)) (value_u i k)
 
-gate-weight : (i : Network) (room : ℕ → ℕ) (p : Passage) (k : ℕ) → weight_in (gated i room k) (gate_counts i room p k) ≡ pos (entered i room p k) *ℤ (instance_edge_at i k).w
+gate-weight : (i : Network) (room : ℕ → ℕ) (p : Passage) (k : ℕ) → int_over weighing (gated i room k) (gate_counts i room p k) ≡ pos (entered i room p k) *ℤ (instance_edge_at i k).w
 gate-weight i room p k =
     let r = room k in
     let m = value_u i k in
@@ -210,11 +212,11 @@ gate-weight i room p k =
     let one = rectangle us m before r w in
     let two = rectangle before r (before + r) r (pos 0) in
     let three = rectangle (before + r) r vs n (pos 0) in
-    let split = weight_in-append one (two ++ three) (matrix (p.enter k) m r) (matrix (p.cross k) r r ++ matrix (p.leave k) r n) (matrix-length (p.enter k) m r ∙ sym (rectangle-length us m before r w)) in
-    let rest = weight_in-append two three (matrix (p.cross k) r r) (matrix (p.leave k) r n) (matrix-length (p.cross k) r r ∙ sym (rectangle-length before r (before + r) r (pos 0))) in
-    omega (arith, ints, split, rest, weight_in-rectangle us m before r w (p.enter k), weight_in-rectangle before r (before + r) r (pos 0) (p.cross k), weight_in-rectangle (before + r) r vs n (pos 0) (p.leave k))
+    let split = int_over-append weighing one (two ++ three) (table (p.enter k) m r) (table (p.cross k) r r ++ table (p.leave k) r n) (rectangle-length us m before r w ∙ sym (table-length (p.enter k) m r)) in
+    let rest = int_over-append weighing two three (table (p.cross k) r r) (table (p.leave k) r n) (rectangle-length before r (before + r) r (pos 0) ∙ sym (table-length (p.cross k) r r)) in
+    omega (arith, ints, split, rest, rectangle-weight (p.enter k) us m before r w, rectangle-weight (p.cross k) before r (before + r) r (pos 0), rectangle-weight (p.leave k) (before + r) r vs n (pos 0))
 
 pub weight-by_entered : (i : Network) (room : ℕ → ℕ) (p : Passage) → weight (capped_graph i room) (all_counts i room p) ≡ int_sum_to (λ k. pos (entered i room p k) *ℤ (instance_edge_at i k).w) (length i.edges)
 weight-by_entered i room p =
-    weight_in-blocks (gated i room) (gate_counts i room p) (length i.edges) (λ k _. gate-one_each i room p k)
-    ∙ int_sum_to-same (λ k. weight_in (gated i room k) (gate_counts i room p k)) (λ k. pos (entered i room p k) *ℤ (instance_edge_at i k).w) (length i.edges) (λ k _. gate-weight i room p k)
+    int_over-blocks weighing (gated i room) (gate_counts i room p) (length i.edges) (λ k _. gate-one_each i room p k)
+    ∙ int_sum_to-same (λ k. int_over weighing (gated i room k) (gate_counts i room p k)) (λ k. pos (entered i room p k) *ℤ (instance_edge_at i k).w) (length i.edges) (λ k _. gate-weight i room p k)

@@ -1,7 +1,6 @@
-pub mod Counted
+pub mod Tables
 pub mod Picks
 pub mod Units
-pub mod Rectangles
 pub mod Gates
 pub mod Used
 pub mod Through

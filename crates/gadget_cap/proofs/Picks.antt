@@ -1,29 +1,18 @@
 -- Sums of tests: the one term that passes, and the terms of one of several rows that follow one another.
-use Rattle.std.proofs.Common.{◌≡◌, ◌≢◌, ℕ, zero, suc, ◌+◌, ◌*◌, ◌-◌, ◌<◌, ◌≤◌, Bool, true, false, cond, eqb, refl, ap, sym, ◌∙◌, subst, inl, inr, arith}
+use Rattle.std.proofs.Common.{◌≡◌, ◌≢◌, ℕ, zero, suc, ◌+◌, ◌*◌, ◌-◌, ◌<◌, ◌≤◌, ℤ, Bool, true, false, cond, eqb, refl, ap, sym, ◌∙◌, subst, inl, inr, arith}
 use Rattle.std.proofs.lemmas.Bool.{cases_eq, cases_lt, eq-eqb, ne_eqb}
 use Rattle.std.proofs.lemmas.Bool.Decides.{nat_tests}
+use Rattle.graph_theory.specs.declared.edge.Edge.{Edge}
 use Rattle.graph_theory.specs.Sums.{sum_to}
-use Rattle.graph_theory.proofs.SumLemmas.{sum_to-same, sum_to-zero, sum_to-one, sum_to-append, sum_to-swap, sum_to-add}
+use Rattle.graph_theory.specs.Graph.{ends_at}
+use Rattle.graph_theory.proofs.SumLemmas.{sum_to-same, sum_to-add, sum_to-swap}
+use Rattle.gadget_base.specs.Blocks.{rectangle}
+use Rattle.gadget_base.proofs.BlockSums.{sum_to-none, sum_to-cond, sum_to-grows}
+use Rattle.gadget_base.proofs.Over.{over, at_vertex, table, over-rectangle}
 
 -- what f counts at place q where it stands at the m places from `first` on
 abbrev pub pick : ℕ → ℕ → (ℕ → ℕ) → ℕ → ℕ
 pick first m f q = sum_to (λ a. cond (eqb (first + a) q) (f a) 0) m
-
-pub sum_to-none : (f : ℕ → ℕ) (n : ℕ) → ((k : ℕ) → k < n → f k ≡ 0) → sum_to f n ≡ 0
-sum_to-none f n h = sum_to-same f (λ _. 0) n h ∙ sum_to-zero n
-
-pub sum_to-cond : (b : Bool) (f : ℕ → ℕ) (n : ℕ) → sum_to (λ k. cond b (f k) 0) n ≡ cond b (sum_to f n) 0
-sum_to-cond true f n = refl
-sum_to-cond false f n = sum_to-zero n
-
--- a later sum is not smaller, by the terms in between
-pub sum_to-grows : (f : ℕ → ℕ) (i n : ℕ) → i < n → (sum_to f i + f i) ≤ sum_to f n
-sum_to-grows f i zero h = absurd (omega arith)
-sum_to-grows f i (suc n) h =
-    elim (cases_eq i n) [
-      | inl e ↦ let same : sum_to f i + f i ≡ sum_to f n + f n = ap (λ k. sum_to f k + f k) e in omega (arith, same)
-      | inr d ↦ omega (arith, sum_to-grows f i n (omega arith))
-    ]
 
 pub pick-none : (first m : ℕ) (f : ℕ → ℕ) (q : ℕ) → ((a : ℕ) → a < m → first + a ≢ q) → pick first m f q ≡ 0
 pick-none first m f q apart =
@@ -80,25 +69,30 @@ sum_to-single f p (suc n) b others =
           omega (arith, front, last)
     ]
 
--- a place lies in one block
-pub record IsInBlock (size : ℕ → ℕ) (n k : ℕ) : Type 0 where
-  pub block : ℕ
-  pub place : ℕ
-  pub block_low : block < n
-  pub place_low : place < size block
-  pub is : sum_to size block + place ≡ k
+eqb_past : (b a q : ℕ) → eqb (b + a + 1) (q + 1) ≡ eqb (b + a) q
+eqb_past b a q = grind (arith, nat_tests)
 
-pub find_block : (size : ℕ → ℕ) (n k : ℕ) → k < sum_to size n → IsInBlock size n k
-find_block size zero k h = absurd (omega arith)
-find_block size (suc n) k h =
-    elim (cases_lt k (sum_to size n)) [
-      | inl below ↦
-          let found = find_block size n k below in
-          let low = found.block_low in
-          record { block = found.block; place = found.place; block_low = omega arith; place_low = found.place_low; is = found.is }
-      | inr past ↦ record { block = n; place = k - sum_to size n; block_low = omega arith; place_low = omega arith; is = omega arith }
-    ]
+times_two_tests : (p q : Bool) (c : ℕ) → c * (cond p 1 0 + cond q 1 0) ≡ cond p c 0 + cond q c 0
+times_two_tests true true c = omega arith
+times_two_tests true false c = omega arith
+times_two_tests false true c = omega arith
+times_two_tests false false c = omega arith
 
-pub sum_to-blocks : (size f : ℕ → ℕ) (n : ℕ) → sum_to f (sum_to size n) ≡ sum_to (λ i. sum_to (λ r. f (sum_to size i + r)) (size i)) n
-sum_to-blocks size f zero = refl
-sum_to-blocks size f (suc n) = omega (arith, sum_to-append f (sum_to size n) (size n), sum_to-blocks size f n)
+-- the degree in a rectangle: the sum of row a at the place `first + a`, and that of column j at the place `second + j`
+pub rectangle-picks : (first m second n : ℕ) (w : ℤ) (f : ℕ → ℕ → ℕ) (q : ℕ) → over (at_vertex (q + 1)) (rectangle first m second n w) (table f m n) ≡ pick first m (λ a. sum_to (f a) n) q + pick second n (λ j. sum_to (λ a. f a j) m) q
+rectangle-picks first m second n w f q =
+    let at_u : ℕ → ℕ → ℕ = λ a j. cond (eqb (first + a) q) (f a j) 0 in
+    let at_v : ℕ → ℕ → ℕ = λ a j. cond (eqb (second + j) q) (f a j) 0 in
+    let whole = over-rectangle (at_vertex (q + 1)) f first m second n w in
+    let rows = sum_to-same (λ a. sum_to (λ j. f a j * ends_at (record { u = first + a + 1; v = second + j + 1; w = w }) (q + 1)) n) (λ a. sum_to (at_u a) n + sum_to (at_v a) n) m
+    (λ a _.
+    sum_to-same (λ j. f a j * ends_at (record { u = first + a + 1; v = second + j + 1; w = w }) (q + 1)) (λ j. at_u a j + at_v a j) n
+    (λ j _.
+    ap (λ (p : Bool). f a j * (cond p 1 0 + cond (eqb (second + j + 1) (q + 1)) 1 0)) (eqb_past first a q)
+    ∙ ap (λ (p : Bool). f a j * (cond (eqb (first + a) q) 1 0 + cond p 1 0)) (eqb_past second j q)
+    ∙ times_two_tests (eqb (first + a) q) (eqb (second + j) q) (f a j))
+    ∙ sum_to-add (at_u a) (at_v a) n) in
+    let parts = sum_to-add (λ a. sum_to (at_u a) n) (λ a. sum_to (at_v a) n) m in
+    let ones = sum_to-same (λ a. sum_to (at_u a) n) (λ a. cond (eqb (first + a) q) (sum_to (f a) n) 0) m (λ a _. sum_to-cond (eqb (first + a) q) (f a) n) in
+    let others = sum_to-swap at_v m n ∙ sum_to-same (λ j. sum_to (λ a. at_v a j) m) (λ j. cond (eqb (second + j) q) (sum_to (λ a. f a j) m) 0) n (λ j _. sum_to-cond (eqb (second + j) q) (λ a. f a j) m) in
+    omega (arith, whole, rows, parts, ones, others)

@@ -13,8 +13,9 @@ use Rattle.mb_problem.specs.Feasible.{IsBMatching}
 use Rattle.mb_problem.proofs.EdgeLemmas.{edge_at-graph_of}
 use Rattle.gadget_base.specs.Blocks.{blocks, tabled}
 use Rattle.gadget_base.specs.Gadgets.{before_gates, capped_graph}
-use Rattle.gadget_cap.specs.Matrices.{matrix}
-use Rattle.gadget_cap.proofs.Picks.{find_block}
+use Rattle.gadget_base.proofs.BlockSums.{IsIn, find_block}
+use Rattle.gadget_base.proofs.Blocks.{All-tabled, All-blocks}
+use Rattle.gadget_base.proofs.Over.{table}
 use Rattle.gadget_cap.proofs.Units.{taken, units, units-most, taken-each, taken-two, units-row, units-column, units-total}
 use Rattle.gadget_cap.proofs.Gates.{Passage, gate_counts, all_counts, all-one_each, value, below, within, entered, degree-copy, degree-first, degree-second, weight-by_entered}
 use Rattle.gadget_cap.proofs.Used.{share, used, share-at, used-value, used-u, used-v}
@@ -35,28 +36,20 @@ through i room counts = record {
 
 -- counts of at most one
 
-most-tabled : (f : ℕ → ℕ) (n : ℕ) → ((j : ℕ) → f j ≤ 1) → All (λ c. c ≤ 1) (tabled f n)
-most-tabled f zero most = All-nil (λ c. c ≤ 1)
-most-tabled f (suc n) most = All-append (λ c. c ≤ 1) (tabled f n) (f n ∷ []) (most-tabled f n most) (All-cons (λ c. c ≤ 1) (f n) [] (most n) (All-nil (λ c. c ≤ 1)))
-
-most-blocks : (f : ℕ → List ℕ) (n : ℕ) → ((k : ℕ) → All (λ c. c ≤ 1) (f k)) → All (λ c. c ≤ 1) (blocks f n)
-most-blocks f zero most = All-nil (λ c. c ≤ 1)
-most-blocks f (suc n) most = All-append (λ c. c ≤ 1) (blocks f n) (f n) (most-blocks f n most) (most n)
-
-most-units : (s t x m n : ℕ) → All (λ c. c ≤ 1) (matrix (units s t x) m n)
-most-units s t x m n = most-blocks (λ a. tabled (units s t x a) n) m (λ a. most-tabled (units s t x a) n (λ j. units-most s t x a j))
+most-units : (s t x m n : ℕ) → All (λ c. c ≤ 1) (table (units s t x) m n)
+most-units s t x m n = All-blocks (λ c. c ≤ 1) (λ a. tabled (units s t x a) n) m (λ a _. All-tabled (λ c. c ≤ 1) (units s t x a) n (λ j _. units-most s t x a j))
 
 through-most : (i : Network) (room : ℕ → ℕ) (counts : List ℕ) → All (λ c. c ≤ 1) (all_counts i room (through i room counts))
 through-most i room counts =
-    most-blocks (gate_counts i room (through i room counts)) (length i.edges)
-    (λ k.
+    All-blocks (λ c. c ≤ 1) (gate_counts i room (through i room counts)) (length i.edges)
+    (λ k _.
     let x = slice_index counts k in
     let su = used i counts ((instance_edge_at i k).u - 1) k in
     let sv = used i counts ((instance_edge_at i k).v - 1) k in
     let r = room k in
-    let one = matrix (units su 0 x) (value_u i k) r in
-    let two = matrix (units x x (r - x)) r r in
-    let three = matrix (units 0 sv x) r (value_v i k) in
+    let one = table (units su 0 x) (value_u i k) r in
+    let two = table (units x x (r - x)) r r in
+    let three = table (units 0 sv x) r (value_v i k) in
     All-append (λ c. c ≤ 1) one (two ++ three) (most-units su 0 x (value_u i k) r) (All-append (λ c. c ≤ 1) two three (most-units x x (r - x) r r) (most-units 0 sv x r (value_v i k))))
 
 -- the degrees
@@ -139,30 +132,35 @@ through-second i room counts k j net answer b l =
     let both = taken-two x (r - x) j (omega arith) in
     omega (arith, split, one, two, both)
 
+through-copy_place : (i : Network) (room : ℕ → ℕ) (counts : List ℕ) (v : ℕ) → IsNetwork i → IsWithinRooms i room counts → 1 ≤ v → IsIn (value i) (vertices i) (v - 1) → degree (capped_graph i room) (all_counts i room (through i room counts)) v ≡ 1
+through-copy_place i room counts v net answer low found =
+    let is : below i found.block + found.place ≡ v - 1 = found.is in
+    let at : below i found.block + found.place + 1 ≡ v = omega arith in
+    subst (λ y. degree (capped_graph i room) (all_counts i room (through i room counts)) y ≡ 1) at (through-copy i room counts found.block found.place net answer found.block_low found.place_low)
+
+through-gate_place : (i : Network) (room : ℕ → ℕ) (counts : List ℕ) (v : ℕ) → IsNetwork i → IsWithinRooms i room counts → 1 ≤ v → value_total i ≤ v - 1 → IsIn (λ k. 2 * room k) (length i.edges) (v - 1 - value_total i) → degree (capped_graph i room) (all_counts i room (through i room counts)) v ≡ 1
+through-gate_place i room counts v net answer low gate found =
+    let P : ℕ → Type 0 = λ y. degree (capped_graph i room) (all_counts i room (through i room counts)) y ≡ 1 in
+    let k = found.block in
+    let is = found.is in
+    let place_low = found.place_low in
+    let scaled = times-sum_to 2 room k in
+    elim (cases_lt found.place (room k)) [
+      | inl first ↦
+          let at : before_gates i room k + found.place + 1 ≡ v = omega (arith, is, scaled) in
+          subst P at (through-first i room counts k found.place net answer found.block_low first)
+      | inr second ↦
+          let at : before_gates i room k + room k + (found.place - room k) + 1 ≡ v = omega (arith, is, scaled, second) in
+          subst P at (through-second i room counts k (found.place - room k) net answer found.block_low (omega arith))
+    ]
+
 through-degrees : (i : Network) (room : ℕ → ℕ) (counts : List ℕ) (v : ℕ) → IsNetwork i → IsWithinRooms i room counts → 1 ≤ v → v ≤ before_gates i room (length i.edges) → degree (capped_graph i room) (all_counts i room (through i room counts)) v ≡ 1
 through-degrees i room counts v net answer low high =
-    let P : ℕ → Type 0 = λ y. degree (capped_graph i room) (all_counts i room (through i room counts)) y ≡ 1 in
     elim (cases_lt (v - 1) (value_total i)) [
-      | inl copy ↦
-          let found = find_block (value i) (vertices i) (v - 1) copy in
-          let is : below i found.block + found.place ≡ v - 1 = found.is in
-          let at : below i found.block + found.place + 1 ≡ v = omega arith in
-          subst P at (through-copy i room counts found.block found.place net answer found.block_low found.place_low)
+      | inl copy ↦ through-copy_place i room counts v net answer low (find_block (value i) (vertices i) (v - 1) copy)
       | inr gate ↦
           let twice = times-sum_to 2 room (length i.edges) in
-          let found = find_block (λ k. 2 * room k) (length i.edges) (v - 1 - value_total i) (omega (arith, twice, gate, low, high)) in
-          let k = found.block in
-          let is = found.is in
-          let place_low = found.place_low in
-          let scaled = times-sum_to 2 room k in
-          elim (cases_lt found.place (room k)) [
-            | inl first ↦
-                let at : before_gates i room k + found.place + 1 ≡ v = omega (arith, is, scaled) in
-                subst P at (through-first i room counts k found.place net answer found.block_low first)
-            | inr second ↦
-                let at : before_gates i room k + room k + (found.place - room k) + 1 ≡ v = omega (arith, is, scaled, second) in
-                subst P at (through-second i room counts k (found.place - room k) net answer found.block_low (omega arith))
-          ]
+          through-gate_place i room counts v net answer low gate (find_block (λ k. 2 * room k) (length i.edges) (v - 1 - value_total i) (omega (arith, twice, gate, low, high)))
     ]
 
 pub through-perfect : (i : Network) (room : ℕ → ℕ) (counts : List ℕ) → IsNetwork i → IsWithinRooms i room counts → IsPerfect (capped_graph i room) (all_counts i room (through i room counts))

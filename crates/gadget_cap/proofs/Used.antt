@@ -11,7 +11,7 @@ use Rattle.mb_problem.specs.Network.{Network, IsNetwork, vertices, plain, graph_
 use Rattle.mb_problem.specs.Size.{value_u, value_v}
 use Rattle.mb_problem.specs.Feasible.{IsBMatching}
 use Rattle.mb_problem.proofs.EdgeLemmas.{edge_at-graph_of}
-use Rattle.gadget_cap.proofs.Picks.{sum_to-grows}
+use Rattle.gadget_base.proofs.BlockSums.{sum_to-grows}
 use Rattle.gadget_cap.proofs.Gates.{value, within}
 
 -- what edge number k + 1 adds to the degree of vertex t + 1
