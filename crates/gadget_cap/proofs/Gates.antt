@@ -14,6 +14,7 @@ use Rattle.gadget_base.proofs.BlockSums.{sum_to-grows}
 use Rattle.gadget_base.proofs.Blocks.{rectangle-length}
 use Rattle.gadget_base.proofs.Over.{over, int_over, at_vertex, weighing, over-append, int_over-append, over-blocks, int_over-blocks, blocks-lengths, table}
 use Rattle.gadget_base.proofs.Degrees.{rectangle-weight}
+use Rattle.gadget_cap.specs.Places.{gate_size}
 use Rattle.gadget_cap.proofs.Tables.{table-length}
 use Rattle.gadget_cap.proofs.Picks.{pick, pick-none, pick-here, pick-block, sum_to-single, rectangle-picks}
 
@@ -28,10 +29,6 @@ gate_counts i room p k = table (p.enter k) (value_u i k) (room k) ++ (table (p.c
 
 abbrev pub all_counts : Network → (ℕ → ℕ) → Passage → List ℕ
 all_counts i room p = blocks (gate_counts i room p) (length i.edges)
-
--- how many edges stand for edge number k + 1
-abbrev pub gate_size : Network → (ℕ → ℕ) → ℕ → ℕ
-gate_size i room k = value_u i k * room k + (room k * room k + room k * value_v i k)
 
 pub gated-length : (i : Network) (room : ℕ → ℕ) (k : ℕ) → length (gated i room k) ≡ gate_size i room k
 gated-length i room k =

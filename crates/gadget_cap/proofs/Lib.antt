@@ -5,3 +5,4 @@ pub mod Gates
 pub mod Used
 pub mod Through
 pub mod Reached
+pub mod Back

@@ -1,0 +1,29 @@
+-- Where the edges stand that stand for an edge of the instance.
+use Rattle.std.specs.Prelude.{◌≡◌, ℕ, ◌+◌, ◌*◌, ◌≤◌, pos, List, ◌++◌, length, slice_index}
+use Rattle.graph_theory.specs.declared.edge.Edge.{Edge}
+use Rattle.graph_theory.specs.Sums.{sum_to}
+use Rattle.mb_problem.specs.declared.instance.InstanceEdge.{InstanceEdge}
+use Rattle.mb_problem.specs.Network.{Network, value_of}
+use Rattle.mb_problem.specs.Size.{value_u, value_v}
+use Rattle.gadget_base.specs.Blocks.{rectangle}
+use Rattle.gadget_base.specs.Gadgets.{values_below}
+
+-- the edges that stand for an edge whose gates have `room` vertices and come after `before` others
+abbrev pub gates_of : Network → InstanceEdge → ℕ → ℕ → List Edge
+gates_of i e before room =
+    rectangle (values_below i e.u) (value_of i e.u) before room e.w
+    ++ (rectangle before room (before + room) room (pos 0)
+    ++ rectangle (before + room) room (values_below i e.v) (value_of i e.v) (pos 0))
+
+-- how many edges stand for edge number k + 1
+abbrev pub gate_size : Network → (ℕ → ℕ) → ℕ → ℕ
+gate_size i room k = value_u i k * room k + (room k * room k + room k * value_v i k)
+
+-- how many stand for the edges before it
+abbrev pub gates_before : Network → (ℕ → ℕ) → ℕ → ℕ
+gates_before i room k = sum_to (gate_size i room) k
+
+-- at place k the sum of the first k numbers
+pub record AreStarts (numbers starts : List ℕ) : Type 0 where
+  pub size : length starts ≡ length numbers + 1
+  pub each : (k : ℕ) → k ≤ length numbers → slice_index starts k ≡ sum_to (λ j. slice_index numbers j) k
