@@ -14,7 +14,7 @@ use Rattle.gadget_base.proofs.Blocks.{blocks-length, blocks-same, tabled-blocks,
 use Rattle.gadget_base.proofs.Over.{table}
 use Rattle.gadget_cap.specs.Places.{gate_size, gates_before}
 use Rattle.gadget_cap.proofs.Tables.{tabled-three}
-use Rattle.gadget_cap.proofs.Gates.{Passage, gate_counts, all_counts, gated-length, value, below, copies-below, within, entered, degree-copy, degree-first, degree-second, weight-by_entered}
+use Rattle.gadget_cap.proofs.GateLemmas.{Passage, gate_counts, all_counts, gated-length, value, below, copies-below, within, entered, degree-copy, degree-first, degree-second, weight-by_entered}
 use Rattle.gadget_cap.proofs.Used.{share, used, used-all, share-at}
 use Rattle.gadget_cap.proofs.Through.{IsWithinRooms, weight-by_edges}
 

@@ -1,8 +1,9 @@
 pub mod Tables
 pub mod Picks
 pub mod Units
-pub mod Gates
+pub mod GateLemmas
 pub mod Used
 pub mod Through
 pub mod Reached
 pub mod Back
+pub mod Sizes

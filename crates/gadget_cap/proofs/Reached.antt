@@ -11,7 +11,7 @@ use Rattle.mb_problem.specs.Size.{value_u, value_v, bounded, room_of, unit_room_
 use Rattle.mb_problem.specs.Feasible.{IsFeasible, IsBMatching}
 use Rattle.gadget_base.specs.Certified.{IsReached, ReachesAll}
 use Rattle.gadget_cap.specs.Capped.{capped_kind, capped_room}
-use Rattle.gadget_cap.proofs.Gates.{all_counts}
+use Rattle.gadget_cap.proofs.GateLemmas.{all_counts}
 use Rattle.gadget_cap.proofs.Used.{used-u, used-v}
 use Rattle.gadget_cap.proofs.Through.{IsWithinRooms, through, through-perfect, through-weight}
 

@@ -17,7 +17,7 @@ use Rattle.gadget_base.proofs.BlockSums.{IsIn, find_block}
 use Rattle.gadget_base.proofs.Blocks.{All-tabled, All-blocks}
 use Rattle.gadget_base.proofs.Over.{table}
 use Rattle.gadget_cap.proofs.Units.{taken, units, units-most, taken-each, taken-two, units-row, units-column, units-total}
-use Rattle.gadget_cap.proofs.Gates.{Passage, gate_counts, all_counts, all-one_each, value, below, within, entered, degree-copy, degree-first, degree-second, weight-by_entered}
+use Rattle.gadget_cap.proofs.GateLemmas.{Passage, gate_counts, all_counts, all-one_each, value, below, within, entered, degree-copy, degree-first, degree-second, weight-by_entered}
 use Rattle.gadget_cap.proofs.Used.{share, used, share-at, used-value, used-u, used-v}
 
 -- a matching that uses each edge at most as often as it has room

@@ -12,7 +12,7 @@ use Rattle.mb_problem.specs.Size.{value_u, value_v}
 use Rattle.mb_problem.specs.Feasible.{IsBMatching}
 use Rattle.mb_problem.proofs.EdgeLemmas.{edge_at-graph_of}
 use Rattle.gadget_base.proofs.BlockSums.{sum_to-grows}
-use Rattle.gadget_cap.proofs.Gates.{value, within}
+use Rattle.gadget_cap.proofs.GateLemmas.{value, within}
 
 -- what edge number k + 1 adds to the degree of vertex t + 1
 abbrev pub share : Network → List ℕ → ℕ → ℕ → ℕ

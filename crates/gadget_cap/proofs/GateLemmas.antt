@@ -6,7 +6,8 @@ use Rattle.std.proofs.lemmas.List.{length-append}
 use Rattle.graph_theory.specs.Sums.{sum_to, int_sum_to}
 use Rattle.graph_theory.specs.Graph.{IsEdgeWithin, degree, weight}
 use Rattle.graph_theory.proofs.SumLemmas.{sum_to-same, int_sum_to-same}
-use Rattle.mb_problem.specs.Network.{Network, IsNetwork, vertices, plain, instance_edge_at, no_instance_edge}
+use Rattle.mb_problem.specs.declared.instance.InstanceEdge.{InstanceEdge}
+use Rattle.mb_problem.specs.Network.{Network, IsNetwork, vertices, plain, instance_edge_at, no_instance_edge, value_of}
 use Rattle.mb_problem.specs.Size.{value_total, value_u, value_v}
 use Rattle.gadget_base.specs.Blocks.{blocks, rectangle}
 use Rattle.gadget_base.specs.Gadgets.{values_below, before_gates, gated, capped_graph}
@@ -14,7 +15,7 @@ use Rattle.gadget_base.proofs.BlockSums.{sum_to-grows}
 use Rattle.gadget_base.proofs.Blocks.{rectangle-length}
 use Rattle.gadget_base.proofs.Over.{over, int_over, at_vertex, weighing, over-append, int_over-append, over-blocks, int_over-blocks, blocks-lengths, table}
 use Rattle.gadget_base.proofs.Degrees.{rectangle-weight}
-use Rattle.gadget_cap.specs.Places.{gate_size}
+use Rattle.gadget_cap.specs.Places.{gates_of, gate_size}
 use Rattle.gadget_cap.proofs.Tables.{table-length}
 use Rattle.gadget_cap.proofs.Picks.{pick, pick-none, pick-here, pick-block, sum_to-single, rectangle-picks}
 
@@ -30,17 +31,18 @@ gate_counts i room p k = table (p.enter k) (value_u i k) (room k) ++ (table (p.c
 abbrev pub all_counts : Network → (ℕ → ℕ) → Passage → List ℕ
 all_counts i room p = blocks (gate_counts i room p) (length i.edges)
 
-pub gated-length : (i : Network) (room : ℕ → ℕ) (k : ℕ) → length (gated i room k) ≡ gate_size i room k
-gated-length i room k =
-    let before = before_gates i room k in
-    let r = room k in
-    let one = rectangle (values_below i (instance_edge_at i k).u) (value_u i k) before r (instance_edge_at i k).w in
+pub gates_of-length : (i : Network) (e : InstanceEdge) (before r : ℕ) → length (gates_of i e before r) ≡ value_of i e.u * r + (r * r + r * value_of i e.v)
+gates_of-length i e before r =
+    let one = rectangle (values_below i e.u) (value_of i e.u) before r e.w in
     let two = rectangle before r (before + r) r (pos 0) in
-    let three = rectangle (before + r) r (values_below i (instance_edge_at i k).v) (value_v i k) (pos 0) in
+    let three = rectangle (before + r) r (values_below i e.v) (value_of i e.v) (pos 0) in
     omega (arith, length-append one (two ++ three), length-append two three,
-      rectangle-length (values_below i (instance_edge_at i k).u) (value_u i k) before r (instance_edge_at i k).w,
+      rectangle-length (values_below i e.u) (value_of i e.u) before r e.w,
       rectangle-length before r (before + r) r (pos 0),
-      rectangle-length (before + r) r (values_below i (instance_edge_at i k).v) (value_v i k) (pos 0))
+      rectangle-length (before + r) r (values_below i e.v) (value_of i e.v) (pos 0))
+
+pub gated-length : (i : Network) (room : ℕ → ℕ) (k : ℕ) → length (gated i room k) ≡ gate_size i room k
+gated-length i room k = gates_of-length i (instance_edge_at i k) (before_gates i room k) (room k)
 
 pub gate_counts-length : (i : Network) (room : ℕ → ℕ) (p : Passage) (k : ℕ) → length (gate_counts i room p k) ≡ gate_size i room k
 gate_counts-length i room p k =
