@@ -7,3 +7,7 @@ pub mod Through
 pub mod Reached
 pub mod Back
 pub mod Sizes
+pub mod Ends
+pub mod EntryLemmas
+pub mod Extracted
+pub mod Steps

@@ -1,5 +1,5 @@
 -- Where the edges stand that stand for an edge of the instance.
-use Rattle.std.specs.Prelude.{◌≡◌, ℕ, ◌+◌, ◌*◌, ◌≤◌, pos, List, ◌++◌, length, slice_index}
+use Rattle.std.specs.Prelude.{◌≡◌, ℕ, ◌+◌, ◌*◌, ◌<◌, ◌≤◌, nat_lt, nat_le, pos, Bool, true, false, ◌&&◌, List, ◌++◌, length, slice_index, Option, None, Some}
 use Rattle.graph_theory.specs.declared.edge.Edge.{Edge}
 use Rattle.graph_theory.specs.Sums.{sum_to}
 use Rattle.mb_problem.specs.declared.instance.InstanceEdge.{InstanceEdge}
@@ -27,3 +27,17 @@ gates_before i room k = sum_to (gate_size i room) k
 pub record AreStarts (numbers starts : List ℕ) : Type 0 where
   pub size : length starts ≡ length numbers + 1
   pub each : (k : ℕ) → k ≤ length numbers → slice_index starts k ≡ sum_to (λ j. slice_index numbers j) k
+
+-- at place k how many edges stand for the edges before edge number k + 1
+pub record AreGateStarts (i : Network) (room : ℕ → ℕ) (starts : List ℕ) : Type 0 where
+  pub size : length starts ≡ length i.edges
+  pub each : (k : ℕ) → k < length i.edges → slice_index starts k ≡ gates_before i room k
+
+-- edge number e of the graph leads from a copy of the first end of edge number k + 1 to its first gate
+abbrev pub enters : Network → (ℕ → ℕ) → ℕ → ℕ → Bool
+enters i room k e = nat_lt (gates_before i room k) e && nat_le e (gates_before i room k + value_u i k * room k)
+
+-- the edge, by its place, whose first gate edge number e of the graph leads to, if there is one
+abbrev pub IsEntry : Network → (ℕ → ℕ) → ℕ → Option ℕ → Type 0
+IsEntry i room e (Some k) = (k < length i.edges) × (enters i room k e ≡ true)
+IsEntry i room e None = (k : ℕ) → k < length i.edges → enters i room k e ≡ false

@@ -7,7 +7,9 @@
 #![tactic(auto)]
 
 mod copies;
+mod entries;
 mod gates;
 mod rooms;
 
+pub use entries::extract;
 pub use gates::capped;
