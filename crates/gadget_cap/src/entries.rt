@@ -1,5 +1,5 @@
-ghost use Rattle.std.specs.Prelude.{◌≡◌, ℕ, ◌+◌, ◌*◌, ◌<◌, ◌≤◌, length, slice_index, IfOk, nat_le};
-ghost use Rattle.std.specs.List.Sorted.{IsNonDecreasing};
+ghost use Rattle.std.specs.Prelude.{◌≡◌, ℕ, ◌+◌, ◌*◌, ◌<◌, ◌≤◌, length, slice_index, IfOk, nat_le, true, false};
+ghost use Rattle.std.specs.List.Sorted.{IsNonDecreasing, IsPartitionPoint};
 ghost use Rattle.graph_theory.specs.Graph.{IsEdgeWithin};
 ghost use Rattle.graph_theory.specs.Walk.{walk_weight};
 ghost use Rattle.mb_problem.specs.Network.{vertices, plain, value_of};
@@ -40,6 +40,19 @@ fn gate_starts(alloc: Global, instance: &Instance, unit: bool) -> Result<Vec<u64
     Ok(starts)
 }
 
+/// How many of the starts are at most `place`.
+fn begun(starts: &[u64], place: u64) -> usize
+    requires rising { IsNonDecreasing starts.now }
+    ensures bound { result ≤ length starts.now }
+    ensures exact { IsPartitionPoint (λ start. nat_le start place ≡ true) (λ start. nat_le start place ≡ false) starts.now result }
+{
+    starts.partition_point(
+        |start: &u64| -> bool
+            ensures { result ≡ nat_le start.now place }
+        { *start <= place },
+    )
+}
+
 /// The last place whose start is at most `place`.
 fn block_of(starts: &[u64], place: u64) -> usize
     requires rising { IsNonDecreasing starts.now }
@@ -49,12 +62,7 @@ fn block_of(starts: &[u64], place: u64) -> usize
     ensures begun { slice_index starts.now result ≤ place }
     ensures last { result + 1 < length starts.now → place < slice_index starts.now (result + 1) }
 {
-    let begun = starts.partition_point(
-        |start: &u64| -> bool
-            ensures { result ≡ nat_le start.now place }
-        { *start <= place },
-    );
-    begun - 1
+    begun(starts, place) - 1
 }
 
 /// The edge, by its place, to whose first gate an edge of the graph leads from a copy, if there is one.
