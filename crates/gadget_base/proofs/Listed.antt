@@ -1,15 +1,18 @@
 -- A perfect matching as a list of numbers of edges, and as counts.
-use Rattle.std.proofs.Common.{◌≡◌, ℕ, zero, suc, ◌+◌, ◌-◌, ◌*◌, ◌<◌, ◌≤◌, ℤ, pos, ◌+ℤ◌, ◌*ℤ◌, Bool, true, false, cond, eqb, refl, ap, sym, ◌∙◌, subst, inl, inr, arith, List, [], ◌∷◌, length, slice_index, All, count_by}
+use Rattle.std.proofs.Common.{◌≡◌, ℕ, zero, suc, ◌+◌, ◌-◌, ◌*◌, ◌<◌, ◌≤◌, ℤ, pos, ◌+ℤ◌, ◌*ℤ◌, Bool, true, false, cond, eqb, refl, ap, sym, ◌∙◌, subst, inl, inr, arith, List, [], ◌∷◌, length, take, slice_index, All, count_by}
 use Rattle.std.proofs.lemmas.Int.{ints}
 use Rattle.std.proofs.lemmas.Bool.{eq-eqb, ne_eqb, cases_eq}
-use Rattle.std.proofs.lemmas.List.Sums.{sum_by-cons}
+use Rattle.std.proofs.lemmas.List.{get_or_default}
+use Rattle.std.proofs.lemmas.List.Sums.{sum_by-cons, count_by_more_yes, count_by_more_no, count_by-le-length}
+use Rattle.std.proofs.lemmas.Grind.{common_steps}
 use Rattle.std.proofs.lemmas.List.Elements.{All-tail, All-head}
 use Rattle.graph_theory.specs.Sums.{sum_to, int_sum_to}
 use Rattle.graph_theory.specs.declared.edge.Edge.{Edge}
 use Rattle.graph_theory.specs.Graph.{Multigraph, IsEdgeWithin, IsEdgeNumber, edge_at, edge_of, touches, ends_at, no_edge, degree, weight, IsPerfect}
 use Rattle.graph_theory.specs.Walk.{walk_weight}
-use Rattle.graph_theory.proofs.SumLemmas.{sum_to-same, sum_to-add, sum_to-has, int_sum_to-same, int_sum_to-add, int_sum_to-zero, plus-times, int_sum_to-at_one}
+use Rattle.graph_theory.proofs.SumLemmas.{sum_to-same, sum_to-add, sum_to-has, int_sum_to-same, int_sum_to-add, int_sum_to-zero, int_sum_to-one, int_sum_to-pos, plus-times, int_sum_to-at_one}
 use Rattle.graph_theory.proofs.Edges.{degree-touches, touches-u, edge_of-place}
+use Rattle.graph_theory.proofs.Handshake.{handshake-perfect}
 use Rattle.gadget_base.specs.Blocks.{tabled}
 use Rattle.gadget_base.specs.Certified.{IsPerfectList}
 use Rattle.gadget_base.specs.Listed.{times, times_each}
@@ -76,24 +79,34 @@ times_each-degree g es v ends numbers =
     ∙ ap (λ (e : Edge). cond (touches e v) (times es (k + 1)) 0) (sym (edge_of-place g k)))
     ∙ times-sum t es (length g.edges) numbers
 
--- no edge is listed twice: it would count twice at an end
-pub times-small : (g : Multigraph) (es : List ℕ) (k : ℕ) → All (IsEdgeWithin g.vertices) g.edges → IsPerfectList g es → k < length g.edges → times es (k + 1) ≤ 1
-times-small g es k ends list b =
+-- where each vertex has degree 1, no edge counts more than once: it would count more at an end
+pub at_most_one_from_degrees : (g : Multigraph) (counts : List ℕ) → All (IsEdgeWithin g.vertices) g.edges → ((v : ℕ) → 1 ≤ v → v ≤ g.vertices → degree g counts v ≡ 1) → (k : ℕ) → k < length g.edges → slice_index counts k ≤ 1
+at_most_one_from_degrees g counts ends degrees k b =
     let e = edge_at g k in
     let within : IsEdgeWithin g.vertices e = ends k no_edge b in
-    let one = list.one_each e.u within.u_low within.u_high in
-    let sum = degree-touches g (times_each g es) e.u ends in
-    let same = times_each-degree g es e.u ends list.numbers in
-    let term = sum_to-has (λ k. cond (touches (edge_at g k) e.u) (slice_index (times_each g es) k) 0) (length g.edges) k b in
-    let on : cond (touches e e.u) (slice_index (times_each g es) k) 0 ≡ times es (k + 1) = ap (λ (t : Bool). cond t (slice_index (times_each g es) k) 0) (touches-u e) ∙ times_each-at g es k b in
-    omega (arith, one, sum, same, term, on)
+    let one = degrees e.u within.u_low within.u_high in
+    let sum = degree-touches g counts e.u ends in
+    let term = sum_to-has (λ k. cond (touches (edge_at g k) e.u) (slice_index counts k) 0) (length g.edges) k b in
+    let on : cond (touches e e.u) (slice_index counts k) 0 ≡ slice_index counts k = ap (λ (t : Bool). cond t (slice_index counts k) 0) (touches-u e) in
+    omega (arith, one, sum, term, on)
+
+pub perfect_from_degrees : (g : Multigraph) (counts : List ℕ) → All (IsEdgeWithin g.vertices) g.edges → length counts ≡ length g.edges → ((v : ℕ) → 1 ≤ v → v ≤ g.vertices → degree g counts v ≡ 1) → IsPerfect g counts
+perfect_from_degrees g counts ends size degrees = record {
+  one_each = size;
+  at_most_one = λ k d b. subst (λ (c : ℕ). c ≤ 1) (get_or_default counts k 0 d b) (at_most_one_from_degrees g counts ends degrees k (omega (arith, size, b)));
+  degrees = degrees;
+}
 
 pub perfect_from_list : (g : Multigraph) (es : List ℕ) → All (IsEdgeWithin g.vertices) g.edges → IsPerfectList g es → IsPerfect g (times_each g es)
-perfect_from_list g es ends list = record {
-  one_each = times_each-length g es;
-  at_most_one = All-tabled (λ c. c ≤ 1) (λ k. times es (k + 1)) (length g.edges) (λ k b. times-small g es k ends list b);
-  degrees = λ v low high. times_each-degree g es v ends list.numbers ∙ list.one_each v low high;
-}
+perfect_from_list g es ends list = perfect_from_degrees g (times_each g es) ends (times_each-length g es) (λ v low high. times_each-degree g es v ends list.numbers ∙ list.one_each v low high)
+
+-- no edge is listed twice
+pub times-small : (g : Multigraph) (es : List ℕ) (k : ℕ) → All (IsEdgeWithin g.vertices) g.edges → IsPerfectList g es → k < length g.edges → times es (k + 1) ≤ 1
+times-small g es k ends list b =
+    let perfect = perfect_from_list g es ends list in
+    let one = at_most_one_from_degrees g (times_each g es) ends perfect.degrees k b in
+    let is = times_each-at g es k b in
+    omega (arith, one, is)
 
 one_times : (t : Bool) (b : ℤ) → pos (cond t 1 0) *ℤ b ≡ cond t b (pos 0)
 one_times true b = omega (arith, ints)
@@ -124,3 +137,39 @@ weight_of_list g es numbers =
     int_sum_to-same (λ k. pos (slice_index (times_each g es) k) *ℤ (edge_at g k).w) (λ k. pos (times es (k + 1)) *ℤ (edge_at g k).w) (length g.edges)
     (λ k b. ap (λ x. pos x *ℤ (edge_at g k).w) (times_each-at g es k b))
     ∙ times-weight g es numbers
+
+-- one number more of a list
+
+pub times-more : (es : List ℕ) (i e : ℕ) → i < length es → times (take (i + 1) es) e ≡ times (take i es) e + cond (eqb (slice_index es i) e) 1 0
+times-more es i e b =
+    elim (cases_eq (slice_index es i) e) [
+      | inl h ↦ let on : eqb (slice_index es i) e ≡ true = eq-eqb _ _ h in rw on (count_by_more_yes (λ x. eqb x e) es i 0 b on)
+      | inr d ↦ let off : eqb (slice_index es i) e ≡ false = ne_eqb _ _ d in rw off (count_by_more_no (λ x. eqb x e) es i 0 b off ∙ (let z : times (take i es) e ≡ times (take i es) e + 0 = omega arith in z))
+    ]
+
+pub times-take : (es : List ℕ) (i e : ℕ) → i < length es → times (take i es) e ≤ i
+times-take es i e b =
+    let most = count_by-le-length (λ x. eqb x e) (take i es) in
+    let size : length (take i es) ≡ i = grind (arith, common_steps) in
+    omega (arith, most, size)
+
+-- how many edges a perfect matching has
+
+count_all : (es : List ℕ) → count_by (λ _. true) es ≡ length es
+count_all [] = refl
+count_all (e ∷ es) = sum_by-cons (λ _. 1) e es ∙ (let rest = count_all es in omega (arith, rest))
+
+pub list-length : (g : Multigraph) (es : List ℕ) → All (IsEdgeWithin g.vertices) g.edges → IsPerfectList g es → 2 * length es ≡ g.vertices
+list-length g es ends list =
+    let m = length g.edges in
+    let c : ℕ → ℕ = λ k. slice_index (times_each g es) k in
+    let one = handshake-perfect g (times_each g es) (λ _. pos 1) ends (perfect_from_list g es ends list) in
+    let vertices = int_sum_to-one g.vertices in
+    let twice = int_sum_to-same (λ k. pos (c k) *ℤ (pos 1 +ℤ pos 1)) (λ k. pos (c k) +ℤ pos (c k)) m (λ k _. omega (arith, ints)) in
+    let both = int_sum_to-add (λ k. pos (c k)) (λ k. pos (c k)) m in
+    let sum = int_sum_to-pos c m in
+    let each = sum_to-same c (λ k. times es (k + 1)) m (λ k b. times_each-at g es k b) in
+    let all = times-sum (λ _. true) es m list.numbers ∙ count_all es in
+    let natural : pos (sum_to c m) ≡ pos (length es) = ap pos (each ∙ all) in
+    let doubled : pos g.vertices ≡ pos (2 * length es) = omega (arith, ints, one, vertices, twice, both, sum, natural) in
+    omega (arith, ints, doubled)

@@ -118,3 +118,6 @@ int_over-rectangle F N first m second n w =
     int_over-blocks F (λ a. row (first + a + 1) second n w) (λ a. tabled (N a) n) m (λ a _. rectangle-table N first m second n w a)
     ∙ int_sum_to-same (λ a. int_over F (row (first + a + 1) second n w) (tabled (N a) n)) (λ a. int_sum_to (λ j. F (record { u = first + a + 1; v = second + j + 1; w = w }) (N a j)) n) m
     (λ a _. int_over-tabled F (λ j. record { u = first + a + 1; v = second + j + 1; w = w }) (N a) n)
+
+pub rectangle-lengths : (N : ℕ → ℕ → ℕ) (first m second n : ℕ) (w : ℤ) → length (rectangle first m second n w) ≡ length (table N m n)
+rectangle-lengths N first m second n w = blocks-lengths (λ a. row (first + a + 1) second n w) (λ a. tabled (N a) n) m (λ a _. rectangle-table N first m second n w a)
