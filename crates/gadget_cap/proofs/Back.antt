@@ -1,22 +1,24 @@
 -- Each perfect matching of the graph with gates is a matching within the rooms.
-use Rattle.std.proofs.Common.{◌≡◌, ◌≢◌, ℕ, zero, suc, ◌+◌, ◌*◌, ◌-◌, ◌<◌, ◌≤◌, ℤ, pos, ◌*ℤ◌, Bool, true, false, cond, eqb, refl, ap, sym, ◌∙◌, subst, inl, inr, arith, List, [], ◌∷◌, ◌++◌, length, map, slice_index, All}
+use Rattle.std.proofs.Common.{◌≡◌, ◌≢◌, ℕ, ◌+◌, ◌*◌, ◌-◌, ◌<◌, ◌≤◌, pos, ◌*ℤ◌, true, false, cond, eqb, refl, ap, sym, ◌∙◌, subst, inl, inr, arith, List, ◌++◌, length, slice_index}
 use Rattle.std.proofs.lemmas.Bool.{cases_eq, eq-eqb, ne_eqb}
-use Rattle.graph_theory.specs.Sums.{sum_to, int_sum_to}
-use Rattle.graph_theory.specs.Graph.{degree, weight, IsPerfect}
+use Rattle.graph_theory.specs.Sums.{sum_to}
+use Rattle.graph_theory.specs.Graph.{degree, weight}
 use Rattle.graph_theory.proofs.SumLemmas.{sum_to-same, int_sum_to-same, sum_to-add, sum_to-swap}
-use Rattle.mb_problem.specs.Network.{Network, IsNetwork, vertices, plain, graph_of, instance_edge_at, value_of}
-use Rattle.mb_problem.specs.Size.{value_total, value_u, value_v}
+use Rattle.mb_problem.specs.Network.{Network, IsNetwork, vertices, graph_of, instance_edge_at}
+use Rattle.mb_problem.specs.Size.{value_u, value_v}
 use Rattle.mb_problem.specs.Feasible.{IsBMatching}
-use Rattle.gadget_base.specs.Blocks.{blocks, tabled}
+use Rattle.gadget_base.specs.Blocks.{tabled}
 use Rattle.gadget_base.specs.Gadgets.{before_gates, gated, capped_graph}
 use Rattle.gadget_base.proofs.BlockSums.{sum_to-ones, sum_to-cond, sum_to-grows}
 use Rattle.gadget_base.proofs.Blocks.{blocks-length, blocks-same, tabled-blocks, tabled-rows, tabled-length, tabled-at}
 use Rattle.gadget_base.proofs.Over.{table}
 use Rattle.gadget_cap.specs.Places.{gate_size, gates_before}
 use Rattle.gadget_cap.proofs.Tables.{tabled-three}
-use Rattle.gadget_cap.proofs.GateLemmas.{Passage, gate_counts, all_counts, gated-length, value, below, copies-below, within, entered, degree-copy, degree-first, degree-second, weight-by_entered}
-use Rattle.gadget_cap.proofs.Used.{share, used, used-all, share-at}
-use Rattle.gadget_cap.proofs.Through.{IsWithinRooms, weight-by_edges}
+use Rattle.gadget_cap.proofs.GateLemmas.{Passage, gate_counts, all_counts, gated-length, value, below, copies-below, entered, degree-copy, degree-first, degree-second, weight-by_entered}
+use Rattle.gadget_base.proofs.Used.{use_at, degree-used, weight-used}
+use Rattle.gadget_base.proofs.Within.{edge-ends}
+use Rattle.gadget_cap.proofs.Uses.{use-at}
+use Rattle.gadget_cap.proofs.Through.{IsWithinRooms}
 
 -- counts that are given by places, by the gates
 abbrev pub passage_of : Network → (ℕ → ℕ) → (ℕ → ℕ) → Passage
@@ -94,7 +96,7 @@ pub passed-at : (i : Network) (room : ℕ → ℕ) (p : Passage) (k : ℕ) → k
 passed-at i room p k b = tabled-at (entered i room p) (length i.edges) k 0 b
 
 -- the copies of vertex t + 1 that an edge takes
-edge-copies : (i : Network) (room : ℕ → ℕ) (p : Passage) (t k : ℕ) → IsNetwork i → AreOnes i room p → k < length i.edges → sum_to (λ c. cond (eqb ((instance_edge_at i k).u - 1) t) (sum_to (p.enter k c) (room k)) 0 + cond (eqb ((instance_edge_at i k).v - 1) t) (sum_to (λ l. p.leave k l c) (room k)) 0) (value i t) ≡ share i (passed i room p) t k
+edge-copies : (i : Network) (room : ℕ → ℕ) (p : Passage) (t k : ℕ) → IsNetwork i → AreOnes i room p → k < length i.edges → sum_to (λ c. cond (eqb ((instance_edge_at i k).u - 1) t) (sum_to (p.enter k c) (room k)) 0 + cond (eqb ((instance_edge_at i k).v - 1) t) (sum_to (λ l. p.leave k l c) (room k)) 0) (value i t) ≡ use_at i (passed i room p) (t + 1) k
 edge-copies i room p t k net ones b =
     let u = (instance_edge_at i k).u in
     let v = (instance_edge_at i k).v in
@@ -105,8 +107,8 @@ edge-copies i room p t k net ones b =
     let two = second_gate i room p k net ones b in
     let count = passed-at i room p k b in
     let turned = sum_to-swap (p.leave k) r (value_v i k) in
-    let here = share-at i (passed i room p) t k net b in
-    let is = within i k net b in
+    let here = use-at i (passed i room p) t k net b in
+    let is = edge-ends i k net b in
     let differ : u ≢ v = is.differ in
     let u_low : 1 ≤ u = is.u_low in
     let v_low : 1 ≤ v = is.v_low in
@@ -118,7 +120,7 @@ edge-copies i room p t k net ones b =
           let on : eqb (u - 1) t ≡ true = eq-eqb (u - 1) t e in
           let off : eqb (v - 1) t ≡ false = ne_eqb (v - 1) t (λ h. differ (omega arith)) in
           let all : sum_to E (value i t) ≡ entered i room p k = ap (λ s. sum_to E (value i s)) (sym e) in
-          let whole : share i (passed i room p) t k ≡ slice_index (passed i room p) k = here ∙ rw on refl in
+          let whole : use_at i (passed i room p) (t + 1) k ≡ slice_index (passed i room p) k = here ∙ rw on refl in
           rw (on, off) (omega (arith, all, count, whole))
       | inr d ↦
           let off : eqb (u - 1) t ≡ false = ne_eqb (u - 1) t d in
@@ -126,11 +128,11 @@ edge-copies i room p t k net ones b =
             | inl e ↦
                 let on : eqb (v - 1) t ≡ true = eq-eqb (v - 1) t e in
                 let all : sum_to L (value i t) ≡ sum_to L (value_v i k) = ap (λ s. sum_to L (value i s)) (sym e) in
-                let whole : share i (passed i room p) t k ≡ slice_index (passed i room p) k = here ∙ rw (off, on) refl in
+                let whole : use_at i (passed i room p) (t + 1) k ≡ slice_index (passed i room p) k = here ∙ rw (off, on) refl in
                 rw (off, on) (omega (arith, all, count, whole, turned, one, two))
             | inr d' ↦
                 let off' : eqb (v - 1) t ≡ false = ne_eqb (v - 1) t d' in
-                let none : share i (passed i room p) t k ≡ 0 = here ∙ rw (off, off') refl in
+                let none : use_at i (passed i room p) (t + 1) k ≡ 0 = here ∙ rw (off, off') refl in
                 rw (off, off') (sym none)
           ]
     ]
@@ -142,8 +144,8 @@ passed-degree i room p t net ones b =
     (λ c l.
     let under = copies-below i t c b l in
     sym (degree-copy i room p t c b l) ∙ ones (below i t + c + 1) (omega arith) (omega (arith, under))) in
-    sym (used-all i (passed i room p) t)
-    ∙ sym (sum_to-same (λ k. sum_to (λ c. T c k) (value i t)) (share i (passed i room p) t) (length i.edges) (λ k l. edge-copies i room p t k net ones l))
+    degree-used i (passed i room p) (t + 1)
+    ∙ sym (sum_to-same (λ k. sum_to (λ c. T c k) (value i t)) (use_at i (passed i room p) (t + 1)) (length i.edges) (λ k l. edge-copies i room p t k net ones l))
     ∙ sym (sum_to-swap T (value i t) (length i.edges))
     ∙ each
 
@@ -163,6 +165,6 @@ passed-answer i room p net ones = record {
 
 pub passed-weight : (i : Network) (room : ℕ → ℕ) (p : Passage) → weight (graph_of i) (passed i room p) ≡ weight (capped_graph i room) (all_counts i room p)
 passed-weight i room p =
-    weight-by_edges i (passed i room p)
+    weight-used i (passed i room p)
     ∙ int_sum_to-same (λ k. pos (slice_index (passed i room p) k) *ℤ (instance_edge_at i k).w) (λ k. pos (entered i room p k) *ℤ (instance_edge_at i k).w) (length i.edges) (λ k b. ap (λ y. pos y *ℤ (instance_edge_at i k).w) (passed-at i room p k b))
     ∙ sym (weight-by_entered i room p)

@@ -1,5 +1,5 @@
 -- Which edges of the graph enter the first gate of an edge, and how many of those listed do.
-use Rattle.std.proofs.Common.{◌≡◌, ◌≢◌, ℕ, ◌+◌, ◌*◌, ◌-◌, ◌<◌, ◌≤◌, Bool, true, false, cond, ltb, leb, nat_lt, nat_le, ◌&&◌, refl, ap, sym, ◌∙◌, subst, inl, inr, arith, List, length, slice_index, slice_index_or, All, count_by}
+use Rattle.std.proofs.Common.{◌≡◌, ◌≢◌, ℕ, ◌+◌, ◌*◌, ◌-◌, ◌<◌, ◌≤◌, Bool, true, false, cond, ltb, nat_lt, nat_le, ◌&&◌, ap, sym, ◌∙◌, subst, inl, inr, arith, List, length, slice_index, slice_index_or, All, count_by}
 use Rattle.std.specs.List.Sorted.{IsNonDecreasing, IsPartitionPoint}
 use Rattle.std.proofs.lemmas.Bool.{cases_Bool, cases_eq, cases_lt, false≢true, le-leb, leb-true, leb-false}
 use Rattle.std.proofs.lemmas.Bool.Decides.{nat_tests}
@@ -7,9 +7,9 @@ use Rattle.std.proofs.lemmas.List.{get_or_default}
 use Rattle.graph_theory.specs.Sums.{sum_to}
 use Rattle.graph_theory.proofs.SumLemmas.{sum_to-same, sum_to-more}
 use Rattle.mb_problem.specs.Network.{Network}
-use Rattle.mb_problem.specs.Size.{value_u, value_v}
+use Rattle.mb_problem.specs.Size.{value_u}
 use Rattle.gadget_base.specs.Listed.{times}
-use Rattle.gadget_base.proofs.BlockSums.{sum_to-none, sum_to-grows, sum_to-longer, sum_to-blocks, sum_to-rows}
+use Rattle.gadget_base.proofs.BlockSums.{sum_to-none, sum_to-longer, sum_to-blocks, sum_to-rows}
 use Rattle.gadget_base.proofs.Degrees.{sum_to-below}
 use Rattle.gadget_base.proofs.Listed.{times-sum}
 use Rattle.gadget_cap.specs.Places.{gate_size, gates_before, AreGateStarts, enters}
@@ -26,9 +26,6 @@ rising i room starts are j k d le b =
     omega (arith, first, second, grows)
 
 -- tests of a place
-
-between : (a b e : ℕ) → a < e → e ≤ b → (nat_lt a e && nat_le e b) ≡ true
-between a b e low high = grind (arith, nat_tests)
 
 not_between : (a b e : ℕ) → (a < e → b < e) → (nat_lt a e && nat_le e b) ≡ false
 not_between a b e h = grind (arith, nat_tests)
@@ -52,9 +49,6 @@ enters-other i room k o e low high differ =
           absurd (blocks-differ (gate_size i room) o k (e - 1 - gates_before i room o) (e - 1 - gates_before i room k) differ (omega arith) (omega arith) (omega arith))
       | inr h ↦ h
     ]
-
-pub enters-here : (i : Network) (room : ℕ → ℕ) (k e : ℕ) → gates_before i room k < e → e ≤ gates_before i room k + value_u i k * room k → enters i room k e ≡ true
-enters-here i room k e low high = between (gates_before i room k) (gates_before i room k + value_u i k * room k) e low high
 
 -- .. nor its own first gate where it comes after those that do
 pub enters-none : (i : Network) (room : ℕ → ℕ) (k o e : ℕ) → gates_before i room k < e → e ≤ gates_before i room k + gate_size i room k → gates_before i room k + value_u i k * room k < e → enters i room o e ≡ false

@@ -1,26 +1,24 @@
 -- The answer that a perfect matching stands for, from the counts of the listed edges that enter each first gate.
-use Rattle.std.proofs.Common.{◌≡◌, ℕ, ◌+◌, ◌*◌, ◌-◌, ◌<◌, ◌≤◌, min, Bool, true, false, cond, refl, ap, sym, ◌∙◌, subst, arith, List, length, take, get_or, slice_index, slice_index_or, All, Option, None, Some, count_by}
+use Rattle.std.proofs.Common.{◌≡◌, ℕ, ◌+◌, ◌-◌, ◌<◌, ◌≤◌, min, Bool, true, false, cond, ap, sym, ◌∙◌, subst, arith, List, length, take, get_or, slice_index, slice_index_or, All, Option, None, Some, count_by}
 use Rattle.std.proofs.lemmas.List.{ext_get_or}
 use Rattle.std.proofs.lemmas.List.Sums.{sum_by-take-le, count_by_more_yes}
-use Rattle.graph_theory.specs.Sums.{sum_to}
-use Rattle.graph_theory.specs.Graph.{degree, weight, IsPerfect, IsEdgeNumber}
+use Rattle.graph_theory.specs.Graph.{weight, IsPerfect}
 use Rattle.graph_theory.specs.Walk.{walk_weight}
 use Rattle.mb_problem.specs.declared.answer.Answer.TheVariants.{Counts}
 use Rattle.mb_problem.specs.Network.{Network, IsNetwork, vertices, graph_of, instance_edge_at}
 use Rattle.mb_problem.specs.Size.{bounded, value_u, value_v}
 use Rattle.mb_problem.specs.Feasible.{IsFeasible}
-use Rattle.gadget_base.specs.Blocks.{tabled}
 use Rattle.gadget_base.specs.Gadgets.{capped_graph}
-use Rattle.gadget_base.specs.Certified.{gadget_graph, IsPerfectList}
+use Rattle.gadget_base.specs.Certified.{IsPerfectList}
 use Rattle.gadget_base.specs.Listed.{times, times_each}
 use Rattle.gadget_base.proofs.Blocks.{tabled-length}
 use Rattle.gadget_base.proofs.Listed.{perfect_from_list, weight_of_list}
+use Rattle.gadget_base.proofs.Within.{edge-ends}
 use Rattle.gadget_cap.specs.Capped.{capped_kind, capped_room}
 use Rattle.gadget_cap.specs.Places.{gates_before, enters}
-use Rattle.gadget_cap.proofs.GateLemmas.{Passage, all_counts, within, entered}
+use Rattle.gadget_cap.proofs.GateLemmas.{Passage, all_counts, entered}
 use Rattle.gadget_cap.proofs.Reached.{feasible_within}
 use Rattle.gadget_cap.proofs.Back.{passage_of, passage-all, all-edges, AreOnes, first_gate, passed, passed-at, passed-answer, passed-weight}
-use Rattle.gadget_cap.proofs.Sizes.{graph-is}
 use Rattle.gadget_cap.proofs.Ends.{capped-within}
 use Rattle.gadget_cap.proofs.EntryLemmas.{entries-count}
 
@@ -71,7 +69,7 @@ room-most false i k = bounded-small (instance_edge_at i k).capacity (min (value_
 pub room-small : (unit : Bool) (i : Network) (k : ℕ) → IsNetwork i → k < length i.edges → capped_room unit i k ≤ 4096
 room-small unit i k net b =
     let u = (instance_edge_at i k).u in
-    let is = within i k net b in
+    let is = edge-ends i k net b in
     let low : 1 ≤ u = is.u_low in
     let high : u ≤ vertices i = is.u_high in
     let small : value_u i k ≤ 4096 = net.values (u - 1) 0 (omega arith) in

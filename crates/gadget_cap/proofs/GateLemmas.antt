@@ -1,13 +1,13 @@
 -- Degrees and weights in the graph with two gates for each edge, for any counts.
-use Rattle.std.proofs.Common.{◌≡◌, ◌≢◌, ℕ, zero, suc, ◌+◌, ◌*◌, ◌-◌, ◌<◌, ◌≤◌, ℤ, pos, ◌+ℤ◌, ◌*ℤ◌, Bool, true, false, cond, eqb, refl, ap, sym, ◌∙◌, subst, inl, inr, arith, List, [], ◌∷◌, ◌++◌, length, slice_index, slice_index_or}
+use Rattle.std.proofs.Common.{◌≡◌, ◌≢◌, ℕ, ◌+◌, ◌*◌, ◌-◌, ◌<◌, ◌≤◌, pos, ◌*ℤ◌, cond, eqb, sym, ◌∙◌, subst, inl, inr, arith, List, ◌++◌, length, slice_index}
 use Rattle.std.proofs.lemmas.Int.{ints}
-use Rattle.std.proofs.lemmas.Bool.{cases_eq, cases_lt}
+use Rattle.std.proofs.lemmas.Bool.{cases_lt}
 use Rattle.std.proofs.lemmas.List.{length-append}
 use Rattle.graph_theory.specs.Sums.{sum_to, int_sum_to}
-use Rattle.graph_theory.specs.Graph.{IsEdgeWithin, degree, weight}
+use Rattle.graph_theory.specs.Graph.{degree, weight}
 use Rattle.graph_theory.proofs.SumLemmas.{sum_to-same, int_sum_to-same}
 use Rattle.mb_problem.specs.declared.instance.InstanceEdge.{InstanceEdge}
-use Rattle.mb_problem.specs.Network.{Network, IsNetwork, vertices, plain, instance_edge_at, no_instance_edge, value_of}
+use Rattle.mb_problem.specs.Network.{Network, IsNetwork, vertices, instance_edge_at, value_of}
 use Rattle.mb_problem.specs.Size.{value_total, value_u, value_v}
 use Rattle.gadget_base.specs.Blocks.{blocks, rectangle}
 use Rattle.gadget_base.specs.Gadgets.{values_below, before_gates, gated, capped_graph}
@@ -15,6 +15,7 @@ use Rattle.gadget_base.proofs.BlockSums.{sum_to-grows}
 use Rattle.gadget_base.proofs.Blocks.{rectangle-length}
 use Rattle.gadget_base.proofs.Over.{over, int_over, at_vertex, weighing, over-append, int_over-append, over-blocks, int_over-blocks, blocks-lengths, table}
 use Rattle.gadget_base.proofs.Degrees.{rectangle-weight}
+use Rattle.gadget_base.proofs.Within.{edge-ends}
 use Rattle.gadget_cap.specs.Places.{gates_of, gate_size}
 use Rattle.gadget_cap.proofs.Tables.{table-length}
 use Rattle.gadget_cap.proofs.Picks.{pick, pick-none, pick-here, pick-block, sum_to-single, rectangle-picks}
@@ -36,10 +37,14 @@ gates_of-length i e before r =
     let one = rectangle (values_below i e.u) (value_of i e.u) before r e.w in
     let two = rectangle before r (before + r) r (pos 0) in
     let three = rectangle (before + r) r (values_below i e.v) (value_of i e.v) (pos 0) in
-    omega (arith, length-append one (two ++ three), length-append two three,
+    omega (
+      arith,
+      length-append one (two ++ three),
+      length-append two three,
       rectangle-length (values_below i e.u) (value_of i e.u) before r e.w,
       rectangle-length before r (before + r) r (pos 0),
-      rectangle-length (before + r) r (values_below i e.v) (value_of i e.v) (pos 0))
+      rectangle-length (before + r) r (values_below i e.v) (value_of i e.v) (pos 0),
+    )
 
 pub gated-length : (i : Network) (room : ℕ → ℕ) (k : ℕ) → length (gated i room k) ≡ gate_size i room k
 gated-length i room k = gates_of-length i (instance_edge_at i k) (before_gates i room k) (room k)
@@ -121,12 +126,9 @@ degree-copy i room p t c b l =
 
 -- the vertices of gates
 
-pub within : (i : Network) (k : ℕ) → IsNetwork i → k < length i.edges → IsEdgeWithin (vertices i) (plain (instance_edge_at i k))
-within i k net b = (net.edges k no_instance_edge b).ends
-
 u-apart : (i : Network) (room : ℕ → ℕ) (k p a x : ℕ) → IsNetwork i → k < length i.edges → a < value_u i k → values_below i (instance_edge_at i k).u + a ≢ before_gates i room p + x
 u-apart i room k p a x net b l h =
-    let is = within i k net b in
+    let is = edge-ends i k net b in
     let low : 1 ≤ (instance_edge_at i k).u = is.u_low in
     let high : (instance_edge_at i k).u ≤ vertices i = is.u_high in
     let under = copies-below i ((instance_edge_at i k).u - 1) a (omega arith) l in
@@ -134,7 +136,7 @@ u-apart i room k p a x net b l h =
 
 v-apart : (i : Network) (room : ℕ → ℕ) (k p a x : ℕ) → IsNetwork i → k < length i.edges → a < value_v i k → values_below i (instance_edge_at i k).v + a ≢ before_gates i room p + x
 v-apart i room k p a x net b l h =
-    let is = within i k net b in
+    let is = edge-ends i k net b in
     let low : 1 ≤ (instance_edge_at i k).v = is.v_low in
     let high : (instance_edge_at i k).v ≤ vertices i = is.v_high in
     let under = copies-below i ((instance_edge_at i k).v - 1) a (omega arith) l in

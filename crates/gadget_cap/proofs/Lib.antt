@@ -1,8 +1,8 @@
 pub mod Tables
 pub mod Picks
-pub mod Units
+pub mod UnitLemmas
 pub mod GateLemmas
-pub mod Used
+pub mod Uses
 pub mod Through
 pub mod Reached
 pub mod Back

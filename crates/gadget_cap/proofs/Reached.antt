@@ -1,18 +1,15 @@
 -- The feasible answers are the matchings within the rooms, and each has its perfect matching.
-use Rattle.std.proofs.Common.{◌≡◌, ℕ, ◌+◌, ◌-◌, ◌<◌, ◌≤◌, ℤ, pos, ◌*ℤ◌, ◌≤ℤ◌, Bool, true, false, min, ap, sym, ◌∙◌, subst, arith, List, length, slice_index, All, Option, None, Some, IfSome}
+use Rattle.std.proofs.Common.{◌≡◌, ℕ, ◌<◌, ◌≤◌, Bool, true, false, min, subst, arith, List, length, slice_index, All, Option, None, Some, IfSome}
 use Rattle.std.proofs.lemmas.Int.{ints}
 use Rattle.std.proofs.lemmas.List.{get_or_default}
-use Rattle.graph_theory.specs.Graph.{weight}
-use Rattle.mb_problem.specs.declared.kind.Kind.TheVariants.{CapMatch, FFactor}
-use Rattle.mb_problem.specs.declared.answer.Answer.{Answer}
 use Rattle.mb_problem.specs.declared.answer.Answer.TheVariants.{Counts, Walk, Nothing}
-use Rattle.mb_problem.specs.Network.{Network, IsNetwork, graph_of, instance_edge_at}
+use Rattle.mb_problem.specs.Network.{Network, IsNetwork, instance_edge_at}
 use Rattle.mb_problem.specs.Size.{value_u, value_v, bounded, room_of, unit_room_of}
 use Rattle.mb_problem.specs.Feasible.{IsFeasible, IsBMatching}
-use Rattle.gadget_base.specs.Certified.{IsReached, ReachesAll}
+use Rattle.gadget_base.specs.Certified.{ReachesAll}
 use Rattle.gadget_cap.specs.Capped.{capped_kind, capped_room}
 use Rattle.gadget_cap.proofs.GateLemmas.{all_counts}
-use Rattle.gadget_cap.proofs.Used.{used-u, used-v}
+use Rattle.gadget_base.proofs.Used.{used-within_u, used-within_v}
 use Rattle.gadget_cap.proofs.Through.{IsWithinRooms, through, through-perfect, through-weight}
 
 bounded-intro : (limit : Option ℕ) (x most : ℕ) → IfSome limit (λ c. x ≤ c) → x ≤ most → x ≤ bounded limit most
@@ -25,8 +22,8 @@ bounded-limit (Some c) x most h = let under : x ≤ min c most = h in let e : x 
 
 small_count : (i : Network) (counts : List ℕ) (k : ℕ) → IsNetwork i → IsBMatching i counts → k < length i.edges → slice_index counts k ≤ min (value_u i k) (value_v i k)
 small_count i counts k net matching b =
-    let at_u = used-u i counts k net matching b in
-    let at_v = used-v i counts k net matching b in
+    let at_u = used-within_u i counts k net matching b in
+    let at_v = used-within_v i counts k net matching b in
     omega arith
 
 pub within_rooms : (unit : Bool) (i : Network) (counts : List ℕ) → IsNetwork i → IsFeasible (capped_kind unit) i (Counts counts) → IsWithinRooms i (capped_room unit i) counts

@@ -1,6 +1,5 @@
 -- The size of the graph with gates, and what comes before an edge in it.
-use Rattle.std.proofs.Common.{◌≡◌, ℕ, ◌+◌, ◌*◌, ◌<◌, ◌≤◌, Bool, true, false, refl, ap, sym, ◌∙◌, arith, length}
-use Rattle.graph_theory.specs.Sums.{sum_to}
+use Rattle.std.proofs.Common.{◌≡◌, ℕ, ◌+◌, ◌*◌, ◌<◌, ◌≤◌, Bool, true, false, refl, ◌∙◌, arith, length}
 use Rattle.graph_theory.proofs.SumLemmas.{sum_to-same}
 use Rattle.mb_problem.specs.Network.{Network, instance_edge_at}
 use Rattle.mb_problem.specs.Size.{size_of, capped_size, value_u, value_v}
@@ -10,7 +9,7 @@ use Rattle.gadget_base.specs.Certified.{gadget_graph, HasSize}
 use Rattle.gadget_base.proofs.BlockSums.{sum_to-grows}
 use Rattle.gadget_base.proofs.Blocks.{blocks-length}
 use Rattle.gadget_cap.specs.Capped.{capped_kind, capped_room, room_at}
-use Rattle.gadget_cap.specs.Places.{gate_size, gates_before}
+use Rattle.gadget_cap.specs.Places.{gate_size}
 use Rattle.gadget_cap.proofs.Back.{all-edges}
 
 pub graph-is : (unit : Bool) (i : Network) → gadget_graph (capped_kind unit) i ≡ capped_graph i (capped_room unit i)

@@ -1,5 +1,5 @@
 -- Where the edges stand that stand for an edge of the instance.
-use Rattle.std.specs.Prelude.{◌≡◌, ℕ, ◌+◌, ◌*◌, ◌<◌, ◌≤◌, nat_lt, nat_le, pos, Bool, true, false, ◌&&◌, List, ◌++◌, length, slice_index, Option, None, Some}
+use Rattle.std.specs.Prelude.{◌≡◌, ℕ, ◌+◌, ◌*◌, ◌<◌, nat_lt, nat_le, pos, Bool, true, false, ◌&&◌, List, ◌++◌, length, slice_index, Option, None, Some}
 use Rattle.graph_theory.specs.declared.edge.Edge.{Edge}
 use Rattle.graph_theory.specs.Sums.{sum_to}
 use Rattle.mb_problem.specs.declared.instance.InstanceEdge.{InstanceEdge}
@@ -22,11 +22,6 @@ gate_size i room k = value_u i k * room k + (room k * room k + room k * value_v 
 -- how many stand for the edges before it
 abbrev pub gates_before : Network → (ℕ → ℕ) → ℕ → ℕ
 gates_before i room k = sum_to (gate_size i room) k
-
--- at place k the sum of the first k numbers
-pub record AreStarts (numbers starts : List ℕ) : Type 0 where
-  pub size : length starts ≡ length numbers + 1
-  pub each : (k : ℕ) → k ≤ length numbers → slice_index starts k ≡ sum_to (λ j. slice_index numbers j) k
 
 -- at place k how many edges stand for the edges before edge number k + 1
 pub record AreGateStarts (i : Network) (room : ℕ → ℕ) (starts : List ℕ) : Type 0 where

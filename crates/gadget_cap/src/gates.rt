@@ -3,12 +3,13 @@ ghost use Rattle.graph_theory.specs.Graph.{IsGraph};
 ghost use Rattle.mb_problem.specs.Network.{vertices, IsInstanceEdge};
 ghost use Rattle.mb_problem.specs.Size.{size_of, value_total};
 ghost use Rattle.gadget_base.specs.Certified.{gadget_graph, ReachesAll, IsWithinLimits, HasSize};
+ghost use Rattle.gadget_base.specs.Starts.{AreStarts};
 ghost use Rattle.gadget_cap.specs.Capped.{capped_kind};
-ghost use Rattle.gadget_cap.specs.Places.{gates_of, AreStarts};
+ghost use Rattle.gadget_cap.specs.Places.{gates_of};
 
-use crate::copies::{copies_of, copy_starts};
+use crate::copies::copies_of;
 use crate::rooms::{kind_of, room_at};
-use gadget_base::add_rectangle;
+use gadget_base::{add_rectangle, starts};
 use mb_base::OutOfMemory;
 use mb_problem::{Instance, InstanceEdge, gadget_size};
 use std::alloc::Global;
@@ -57,7 +58,7 @@ pub fn capped(alloc: Global, instance: &Instance, unit: bool) -> Result<Graph, O
 {
     let (vertices, _) = gadget_size(instance, kind_of(unit));
     let copied = instance.vertices() as usize;
-    let starts = copy_starts(alloc, instance)?;
+    let starts = starts(alloc, instance.value_list())?;
     let mut graph = Graph::new(alloc, vertices as u32);
     let mut before = starts[copied];
     for edge in instance.edge_list() {

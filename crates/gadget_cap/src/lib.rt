@@ -13,3 +13,6 @@ mod rooms;
 
 pub use entries::extract;
 pub use gates::capped;
+
+#[cfg(test)]
+mod tests;

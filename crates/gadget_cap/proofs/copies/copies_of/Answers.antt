@@ -1,7 +1,6 @@
-use Rattle.std.proofs.Common.{◌≡◌, ◌+◌, ◌-◌, ◌<◌, ◌≤◌, arith, ap, slice_index, length}
+use Rattle.std.proofs.Common.{◌≡◌, ◌-◌, ◌≤◌, arith, ap, slice_index}
 use Rattle.graph_theory.specs.Sums.{sum_to}
-use Rattle.mb_problem.specs.Network.{vertices, value_of}
-use Rattle.mb_problem.specs.Size.{value_total}
+use Rattle.mb_problem.specs.Network.{vertices}
 use Rattle.gadget_base.proofs.BlockSums.{sum_to-grows}
 use Rattle.gadget_cap.proofs.GateLemmas.{value}
 use Rattle.gadget_cap.proofs.copies.copies_of.Goals as goal

@@ -1,4 +1,4 @@
-use Rattle.std.proofs.Common.{◌<◌, ◌≤◌, length, arith}
+use Rattle.std.proofs.Common.{◌≤◌, length, arith}
 use Rattle.gadget_cap.proofs.EntryLemmas.{begun-some, begun-at, begun-last}
 use Rattle.gadget_cap.proofs.entries.block_of.Goals as goal
 

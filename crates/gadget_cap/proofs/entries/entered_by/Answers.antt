@@ -1,10 +1,10 @@
-use Rattle.std.proofs.Common.{◌≡◌, ℕ, ◌+◌, ◌-◌, ◌*◌, ◌<◌, ◌≤◌, arith, ap, sym, ◌∙◌, List, length, slice_index, slice_index_or}
+use Rattle.std.proofs.Common.{◌≡◌, ℕ, ◌-◌, ◌*◌, ◌<◌, ◌≤◌, arith, ap, ◌∙◌, List, length, slice_index, slice_index_or}
 use Rattle.std.proofs.lemmas.List.{get_or_read}
 use Rattle.mb_problem.specs.declared.instance.InstanceEdge.{InstanceEdge}
 use Rattle.mb_problem.specs.Network.{no_instance_edge, instance_edge_at, value_of}
 use Rattle.mb_problem.specs.Size.{value_u}
 use Rattle.gadget_cap.specs.Capped.{capped_room, room_at}
-use Rattle.gadget_cap.specs.Places.{gate_size, gates_before}
+use Rattle.gadget_cap.specs.Places.{gates_before}
 use Rattle.gadget_cap.proofs.Sizes.{room-is}
 use Rattle.gadget_cap.proofs.EntryLemmas.{rising, enters-none, within-block}
 use Rattle.gadget_cap.proofs.entries.entered_by.Goals as goal

@@ -1,12 +1,12 @@
-use Rattle.std.proofs.Common.{rules, ◌≡◌, ℕ, ◌+◌, ◌-◌, ◌*◌, ◌<◌, ◌≤◌, Fits, w32, Bool, true, false, arith, ap, sym, ◌∙◌, subst, List, length, take, set, Vec, Global, slice_index, slice_index_or, count_by, Option, None, Some}
+use Rattle.std.proofs.Common.{◌≡◌, ℕ, ◌+◌, ◌<◌, true, arith, ap, sym, ◌∙◌, subst, List, length, take, set, Vec, Global, slice_index, slice_index_or, count_by, None}
 use Rattle.std.proofs.lemmas.List.{get_or_read, take_all, length-set}
 use Rattle.graph_theory.specs.Graph.{Multigraph, weight}
 use Rattle.graph_theory.specs.Walk.{walk_weight}
 use Rattle.mb_problem.specs.Network.{graph_of}
 use Rattle.gadget_base.specs.Gadgets.{capped_graph}
 use Rattle.gadget_base.specs.Certified.{IsPerfectList}
-use Rattle.gadget_cap.specs.Capped.{capped_kind, capped_room}
-use Rattle.gadget_cap.specs.Places.{gates_before, enters, IsEntry}
+use Rattle.gadget_cap.specs.Capped.{capped_room}
+use Rattle.gadget_cap.specs.Places.{enters, IsEntry}
 use Rattle.gadget_cap.proofs.Sizes.{graph-is}
 use Rattle.gadget_cap.proofs.Extracted.{listed-numbers, entries-more, room-small, extracted-feasible, extracted-weight}
 use Rattle.gadget_cap.proofs.Steps.{AreEntries, entry-none, entry-some}

@@ -1,7 +1,6 @@
-use Rattle.std.proofs.Common.{◌≡◌, ℕ, ◌+◌, ◌*◌, ◌<◌, ◌^◌, pos, to_z, of_z, w64, ap, arith, length}
+use Rattle.std.proofs.Common.{◌≡◌, ◌+◌, ◌*◌, pos, to_z, of_z, w64, ap, arith}
 use Rattle.mb_problem.specs.Network.{value_of}
 use Rattle.gadget_base.specs.Blocks.{rectangle}
-use Rattle.gadget_base.specs.Gadgets.{values_below}
 use Rattle.gadget_base.proofs.Blocks.{rectangle-length}
 use Rattle.gadget_base.proofs.Grown.{grown-length}
 use Rattle.gadget_cap.proofs.GateLemmas.{gates_of-length}

@@ -1,13 +1,13 @@
-use Rattle.std.proofs.Common.{◌≡◌, ℕ, ◌+◌, ◌*◌, ◌<◌, ◌≤◌, ◌^◌, ap, sym, ◌∙◌, subst, arith, List, length, slice_index_or}
+use Rattle.std.proofs.Common.{◌≡◌, ◌<◌, ap, ◌∙◌, subst, arith, List, length, slice_index_or}
 use Rattle.std.proofs.lemmas.List.{get_or_read}
 use Rattle.graph_theory.specs.declared.edge.Edge.{Edge}
 use Rattle.mb_problem.specs.declared.instance.InstanceEdge.{InstanceEdge}
 use Rattle.mb_problem.specs.Network.{no_instance_edge, instance_edge_at}
-use Rattle.mb_problem.specs.Size.{Size, size_of, capped_size}
+use Rattle.mb_problem.specs.Size.{capped_size}
 use Rattle.gadget_base.specs.Blocks.{blocks}
 use Rattle.gadget_base.specs.Gadgets.{before_gates, gated}
 use Rattle.gadget_base.specs.Certified.{IsWithinLimits}
-use Rattle.gadget_cap.specs.Capped.{capped_kind, capped_room, room_at}
+use Rattle.gadget_cap.specs.Capped.{capped_room, room_at}
 use Rattle.gadget_cap.specs.Places.{gates_of}
 use Rattle.gadget_cap.proofs.Sizes.{size-is, room-is, gates-within, room-within}
 use Rattle.gadget_cap.proofs.gates.capped.Goals as goal

@@ -1,5 +1,4 @@
-use Rattle.std.proofs.Common.{◌≡◌, ◌≤◌, length}
-use Rattle.mb_problem.specs.Network.{IsNetwork}
+use Rattle.std.proofs.Common.{◌≡◌, length}
 use Rattle.gadget_base.specs.Blocks.{blocks}
 use Rattle.gadget_base.specs.Gadgets.{before_gates, gated}
 use Rattle.gadget_cap.specs.Capped.{capped_room}
