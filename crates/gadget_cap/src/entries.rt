@@ -6,7 +6,7 @@ ghost use Rattle.mb_problem.specs.Network.{vertices, plain, value_of};
 ghost use Rattle.mb_problem.specs.Feasible.{IsFeasible, weight_of};
 ghost use Rattle.gadget_base.specs.Certified.{gadget_graph, IsPerfectList};
 ghost use Rattle.gadget_cap.specs.Capped.{capped_kind, capped_room, room_at};
-ghost use Rattle.gadget_cap.specs.Places.{gates_before, AreGateStarts, IsEntry};
+ghost use Rattle.gadget_cap.specs.Places.{gates_before, AreGateStarts, IsEntry, CountsEntries};
 
 use crate::rooms::room_at;
 use mb_base::{EdgeId, OutOfMemory, Sequence};
@@ -94,6 +94,7 @@ pub fn extract(
     edges: &[EdgeId],
 ) -> Result<Answer, OutOfMemory>
     requires perfect { IsPerfectList (gadget_graph (capped_kind unit) instance.now) edges.now }
+    ensures counts { IfOk result (CountsEntries instance.now (capped_room unit instance.now) edges.now) }
     ensures feasible { IfOk result (IsFeasible (capped_kind unit) instance.now) }
     ensures weighs { IfOk result (λ a. weight_of instance.now a ≡ walk_weight (gadget_graph (capped_kind unit) instance.now) edges.now) }
 {

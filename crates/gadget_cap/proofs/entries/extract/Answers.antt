@@ -71,6 +71,16 @@ loop-edge-preserved c =
           }
     ]
 
+pub returns-clause-counts : goal.returns-clause-counts
+returns-clause-counts c =
+    let i = c.args.instance.now in
+    let room = capped_room c.args.unit i in
+    let es = c.args.edges.now in
+    let past = c.loop-edge-test.false in
+    let whole : take c.loop-edge.edge-index es ≡ es = take_all c.loop-edge.edge-index es (omega (arith, past)) in
+    let items : c.from_vec.result ≡ c.loop-edge.counts.items = c.from_vec.ensures in
+    λ k b. ap (λ (xs : List ℕ). slice_index xs k) items ∙ c.loop-edge.invariant.each k b ∙ ap (λ xs. count_by (enters i room k) xs) whole
+
 pub returns-clause-feasible : goal.returns-clause-feasible
 returns-clause-feasible c =
     let i = c.args.instance.now in
