@@ -1,0 +1,6 @@
+mod OneTerm
+mod Ranks
+mod Over
+mod Cliques
+mod Ports
+mod Reached
