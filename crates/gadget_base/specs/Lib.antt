@@ -1,3 +1,4 @@
 pub mod Blocks
 pub mod Gadgets
 pub mod Certified
+pub mod Listed

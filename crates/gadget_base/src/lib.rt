@@ -6,4 +6,4 @@
 
 mod rows;
 
-pub use rows::add_row;
+pub use rows::{add_clique, add_rectangle, add_row};

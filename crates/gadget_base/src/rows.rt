@@ -22,8 +22,49 @@ pub fn add_row(
     ensures added { OnOk result (graph.new ≡ record graph.old { edges = graph.old.edges ++ row u before count w }) }
     ensures graph { IsGraph graph.new }
 {
+    let _vertices = graph.vertices();
     for j in 0..count {
         graph.add(VertexId::new(u), VertexId::new(before + j + 1), w)?;
+    }
+    Ok(())
+}
+
+/// Adds an edge of weight `w` from each of the `m` vertices after `first` to each of the `n` vertices
+/// after `second`, row by row.
+pub fn add_rectangle(
+    graph: &mut Graph,
+    first: u32,
+    m: u32,
+    second: u32,
+    n: u32,
+    w: i64,
+) -> Result<(), OutOfMemory>
+    requires first_inside { first + m ≤ graph.old.vertices }
+    requires second_inside { second + n ≤ graph.old.vertices }
+    requires apart { (first + m ≤ second) ⊎ (second + n ≤ first) }
+    requires room { length graph.old.edges + m * n < 2 ^ 32 }
+    requires weight { IsWeight w }
+    ensures added { OnOk result (graph.new ≡ record graph.old { edges = graph.old.edges ++ rectangle first m second n w }) }
+    ensures graph { IsGraph graph.new }
+{
+    let _vertices = graph.vertices();
+    for a in 0..m {
+        add_row(graph, first + a + 1, second, n, w)?;
+    }
+    Ok(())
+}
+
+/// Adds an edge of weight 0 between any two of the `n` vertices after `before`, the lesser end first
+/// and slowest.
+pub fn add_clique(graph: &mut Graph, before: u32, n: u32) -> Result<(), OutOfMemory>
+    requires inside { before + n ≤ graph.old.vertices }
+    requires room { length graph.old.edges + n * (n - 1) / 2 < 2 ^ 32 }
+    ensures added { OnOk result (graph.new ≡ record graph.old { edges = graph.old.edges ++ clique before n }) }
+    ensures graph { IsGraph graph.new }
+{
+    let _vertices = graph.vertices();
+    for a in 0..n {
+        add_row(graph, before + a + 1, before + a + 1, n - 1 - a, 0)?;
     }
     Ok(())
 }
