@@ -1,6 +1,7 @@
 mod OneTerm
 mod Ranks
-mod Over
 mod Cliques
 mod Ports
 mod Reached
+mod PortEdges
+mod Back

@@ -1,9 +1,9 @@
--- Sums with one term alone, longer sums, and places in groups of given sizes.
+-- Sums with one term that is not 0, even sums, and places in groups of given sizes.
 use Rattle.std.proofs.Common.{◌≡◌, ◌⊎◌, ℕ, zero, suc, ◌+◌, ◌-◌, ◌*◌, ◌%◌, ◌<◌, ◌≤◌, ℤ, pos, Bool, true, false, cond, eqb, refl, ap, sym, ◌∙◌, inl, inr, arith}
 use Rattle.std.proofs.lemmas.Int.{ints}
 use Rattle.std.proofs.lemmas.Bool.{cases_eq, cases_lt, cases_order, eq-eqb, ne_eqb}
 use Rattle.graph_theory.specs.Sums.{sum_to, int_sum_to}
-use Rattle.graph_theory.proofs.SumLemmas.{sum_to-same, sum_to-zero, int_sum_to-same, int_sum_to-zero}
+use Rattle.gadget_base.proofs.BlockSums.{sum_to-none, int_sum_to-none, sum_to-longer}
 
 -- 1 where the test passes
 abbrev pub one_if : Bool → ℕ
@@ -18,13 +18,6 @@ one_if-same a b e = ap one_if (eq-eqb a b e)
 
 pub one_if-other : (a b : ℕ) → (a ≡ b → ⊥) → one_if (eqb a b) ≡ 0
 one_if-other a b d = ap one_if (ne_eqb a b d)
-
--- all terms are 0
-pub sum_to-none : (f : ℕ → ℕ) (n : ℕ) → ((k : ℕ) → k < n → f k ≡ 0) → sum_to f n ≡ 0
-sum_to-none f n h = sum_to-same f (λ _. 0) n h ∙ sum_to-zero n
-
-pub int_sum_to-none : (f : ℕ → ℤ) (n : ℕ) → ((k : ℕ) → k < n → f k ≡ pos 0) → int_sum_to f n ≡ pos 0
-int_sum_to-none f n h = int_sum_to-same f (λ _. pos 0) n h ∙ int_sum_to-zero n
 
 -- all terms but one are 0
 pub sum_to-only : (f : ℕ → ℕ) (i n : ℕ) → i < n → ((k : ℕ) → k < n → (k ≡ i → ⊥) → f k ≡ 0) → sum_to f n ≡ f i
@@ -55,15 +48,6 @@ int_sum_to-only f i (suc n) b h =
           omega (arith, ints, front, last)
     ]
 
--- a longer sum is no less
-pub sum_to-longer : (f : ℕ → ℕ) (i n : ℕ) → i ≤ n → sum_to f i ≤ sum_to f n
-sum_to-longer f i zero b = let e : i ≡ 0 = omega arith in rw e (omega arith)
-sum_to-longer f i (suc n) b =
-    elim (cases_eq i (suc n)) [
-      | inl e ↦ rw e (omega arith)
-      | inr d ↦ omega (arith, sum_to-longer f i n (omega arith))
-    ]
-
 -- terms that are even have an even sum
 pub sum_to-even : (f : ℕ → ℕ) (n : ℕ) → ((k : ℕ) → k < n → f k % 2 ≡ 0) → sum_to f n % 2 ≡ 0
 sum_to-even f zero h = refl
@@ -83,13 +67,4 @@ group-once size s t a b in_s in_t e =
       | inl h ↦ h
       | inr (inl h) ↦ let l = group-before size s t h in absurd (omega (arith, l, in_s, e))
       | inr (inr h) ↦ let l = group-before size t s h in absurd (omega (arith, l, in_t, e))
-    ]
-
--- each place lies in a group
-pub group-found : (size : ℕ → ℕ) (n p : ℕ) → p < sum_to size n → (t : ℕ) × (x : ℕ) × (t < n) × (x < size t) × (p ≡ sum_to size t + x)
-group-found size zero p b = absurd (omega arith)
-group-found size (suc n) p b =
-    elim (cases_lt p (sum_to size n)) [
-      | inl l ↦ let r = group-found size n p l in (r.0, r.1, omega (arith, r.2), r.3, r.4)
-      | inr l ↦ (n, p - sum_to size n, omega arith, omega arith, omega arith)
     ]

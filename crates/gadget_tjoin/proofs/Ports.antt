@@ -11,7 +11,8 @@ use Rattle.mb_problem.specs.Network.{Network, IsNetwork, vertices, graph_of, pla
 use Rattle.mb_problem.specs.Size.{edge_count_at, port_count}
 use Rattle.mb_problem.proofs.EdgeLemmas.{edge_at-graph_of}
 use Rattle.gadget_base.specs.Gadgets.{ports_below, met_below, port_of, between_ports}
-use Rattle.gadget_tjoin.proofs.OneTerm.{one_if, one_if-same, one_if-other, sum_to-none, sum_to-only, sum_to-longer, group-before, group-once, group-found}
+use Rattle.gadget_base.proofs.BlockSums.{sum_to-none, sum_to-longer, IsIn, find_block}
+use Rattle.gadget_tjoin.proofs.OneTerm.{one_if, one_if-same, one_if-other, sum_to-only, group-before, group-once}
 use Rattle.gadget_tjoin.proofs.Ranks.{none_if_zero}
 use Rattle.gadget_tjoin.proofs.Cliques.{meets_group}
 
@@ -67,10 +68,11 @@ groups-before_or_after i odd s t d =
       | inr (inr l) ↦ inl (groups-apart i odd t s l)
     ]
 
+-- each vertex of the graph of ports is a place of a group
 pub group-of : (i : Network) (odd : ℕ → ℕ) (n v : ℕ) → 1 ≤ v → v ≤ ports_below i odd (n + 1) → (t : ℕ) × (x : ℕ) × (t < n) × (x < group_size i odd t) × (v ≡ ports_below i odd (t + 1) + x + 1)
 group-of i odd n v low high =
-    let r = group-found (group_size i odd) n (v - 1) (let e = before-is i odd n in omega (arith, e, low, high)) in
-    (r.0, r.1, r.2, r.3, let e = before-is i odd r.0 in let p = r.4 in omega (arith, e, p, low))
+    let r = find_block (group_size i odd) n (v - 1) (let e = before-is i odd n in omega (arith, e, low, high)) in
+    (r.block, r.place, r.block_low, r.place_low, let e = before-is i odd r.block in let p = r.is in omega (arith, e, p, low))
 
 -- whether a port is the place x of the group of vertex t + 1
 port-is : (i : Network) (odd : ℕ → ℕ) (k w t x : ℕ) → 1 ≤ w → met_below i w k < port_count i odd w → x < group_size i odd t → one_if (eqb (port_of i odd k w) (ports_below i odd (t + 1) + x + 1)) ≡ cond (eqb w (t + 1)) (one_if (eqb (met_below i (t + 1) k) x)) 0

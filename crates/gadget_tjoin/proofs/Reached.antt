@@ -2,7 +2,7 @@
 -- free ports of each vertex, of which there is an even number, in pairs.
 use Rattle.std.proofs.Common.{◌≡◌, ◌⊎◌, ℕ, zero, suc, ◌+◌, ◌-◌, ◌*◌, ◌%◌, ◌<◌, ◌≤◌, ℤ, pos, ◌*ℤ◌, Bool, true, false, cond, ltb, eqb, refl, ap, sym, ◌∙◌, subst, inl, inr, arith, List, ◌++◌, length, length-append, get_or, slice_index, All}
 use Rattle.std.proofs.lemmas.Int.{ints}
-use Rattle.std.proofs.lemmas.List.{get_or_default, length-map}
+use Rattle.std.proofs.lemmas.List.{get_or_append_left, get_or-append-add, length-map}
 use Rattle.std.proofs.lemmas.List.Elements.{All-append}
 use Rattle.graph_theory.specs.Sums.{sum_to, int_sum_to}
 use Rattle.graph_theory.specs.declared.edge.Edge.{Edge}
@@ -12,12 +12,15 @@ use Rattle.graph_theory.proofs.Edges.{ends_at-touches}
 use Rattle.mb_problem.specs.Network.{Network, IsNetwork, vertices, graph_of, plain, instance_edge_at}
 use Rattle.mb_problem.specs.Size.{edge_count_at, port_count}
 use Rattle.mb_problem.proofs.EdgeLemmas.{edge_at-graph_of}
-use Rattle.gadget_base.specs.Blocks.{blocks, tabled, clique}
+use Rattle.gadget_base.specs.Blocks.{blocks, tabled, row, clique}
 use Rattle.gadget_base.specs.Gadgets.{ports_below, met_below, between_ports, ports_graph}
-use Rattle.gadget_tjoin.proofs.OneTerm.{one_if, one_if-small, sum_to-none, sum_to-only, int_sum_to-none}
+use Rattle.gadget_base.proofs.BlockSums.{int_sum_to-none}
+use Rattle.gadget_base.proofs.Blocks.{tabled-length, tabled-at, All-tabled, All-blocks}
+use Rattle.gadget_base.proofs.Over.{over, at_vertex, over-append, over-blocks, blocks-lengths}
+use Rattle.gadget_base.proofs.Degrees.{clique_table, clique-table, clique-none}
+use Rattle.gadget_tjoin.proofs.OneTerm.{one_if, one_if-small, sum_to-only}
 use Rattle.gadget_tjoin.proofs.Ranks.{zero_or_one, once_of_rank, partners, partners-swap, partners-small, partners-each, to_others}
-use Rattle.gadget_tjoin.proofs.Over.{over, over-append, over-tabled, over-blocks, tabled-size, tabled-place, same_sizes, get_or-front, get_or-back, all_tabled, all_blocks}
-use Rattle.gadget_tjoin.proofs.Cliques.{pair, clique_counts, clique-size, clique-at, clique-away, all_clique, meets_group}
+use Rattle.gadget_tjoin.proofs.Cliques.{clique-others, all_clique, meets_group}
 use Rattle.gadget_tjoin.proofs.Ports.{here, within, degree-here, met-all, group_size, groups-before_or_after, group-of, link-at, link-meets}
 
 -- the edges between ports, and the cliques
@@ -28,16 +31,21 @@ abbrev pub cliques : Network → (ℕ → ℕ) → List Edge
 cliques i odd = blocks (λ k. clique (ports_below i odd (k + 1)) (port_count i odd (k + 1))) (vertices i)
 
 pub links-size : (i : Network) (odd : ℕ → ℕ) → length (links i odd) ≡ length i.edges
-links-size i odd = tabled-size (between_ports i odd) (length i.edges)
+links-size i odd = tabled-length (between_ports i odd) (length i.edges)
 
 pub edges-size : (i : Network) (odd : ℕ → ℕ) → length (ports_graph i odd).edges ≡ length i.edges + length (cliques i odd)
 edges-size i odd = length-append (links i odd) (cliques i odd) ∙ ap (λ (n : ℕ). n + length (cliques i odd)) (links-size i odd)
 
 pub link-here : (i : Network) (odd : ℕ → ℕ) (k : ℕ) → k < length i.edges → edge_at (ports_graph i odd) k ≡ between_ports i odd k
-link-here i odd k b = get_or-front (links i odd) (cliques i odd) no_edge k (omega (arith, links-size i odd)) ∙ tabled-place (between_ports i odd) (length i.edges) k no_edge b
+link-here i odd k b = get_or_append_left (links i odd) (cliques i odd) no_edge k (omega (arith, links-size i odd)) ∙ tabled-at (between_ports i odd) (length i.edges) k no_edge b
 
 pub clique-here : (i : Network) (odd : ℕ → ℕ) (k : ℕ) → edge_at (ports_graph i odd) (length i.edges + k) ≡ get_or (cliques i odd) k no_edge
-clique-here i odd k = get_or-back (links i odd) (cliques i odd) no_edge k (length i.edges + k) (omega (arith, links-size i odd))
+clique-here i odd k =
+    ap (λ (n : ℕ). get_or (links i odd ++ cliques i odd) (n + k) no_edge) (sym (links-size i odd))
+    ∙ get_or-append-add (links i odd) (cliques i odd) k no_edge
+
+clique-size : (c : ℕ → ℕ → ℕ) (before n : ℕ) → length (clique before n) ≡ length (clique_table c n)
+clique-size c before n = blocks-lengths (λ a. row (before + a + 1) (before + a + 1) (n - 1 - a) (pos 0)) (λ a. tabled (λ d. c a (a + d + 1)) (n - 1 - a)) n (λ a _. clique-table c before n a)
 
 -- how often the counted edges are at the place x of the group of vertex t + 1
 abbrev pub used : Network → (ℕ → ℕ) → List ℕ → ℕ → ℕ → ℕ
@@ -48,7 +56,7 @@ free i odd counts t x = 1 - used i odd counts t x
 
 -- the counts of a join with those of the pairs
 abbrev pub paired : Network → (ℕ → ℕ) → List ℕ → List ℕ
-paired i odd counts = counts ++ blocks (λ t. clique_counts (partners (free i odd counts t)) (port_count i odd (t + 1))) (vertices i)
+paired i odd counts = counts ++ blocks (λ t. clique_table (partners (free i odd counts t)) (port_count i odd (t + 1))) (vertices i)
 
 -- what every join has: one count for each edge, at most 1, and its degrees' parities
 pub record IsOddAt (i : Network) (odd : ℕ → ℕ) (counts : List ℕ) : Type 0 where
@@ -101,39 +109,39 @@ paired-degree : (i : Network) (odd : ℕ → ℕ) (counts : List ℕ) (t x : ℕ
 paired-degree i odd counts t x ok join b in_group =
     let m = length i.edges in
     let v = ports_below i odd (t + 1) + x + 1 in
-    let F : Edge → ℕ → ℕ = λ e q. q * ends_at e v in
+    let F : Edge → ℕ → ℕ = at_vertex v in
     let size : ℕ → ℕ = group_size i odd in
     let c : ℕ → ℕ → ℕ → ℕ = λ s. partners (free i odd counts s) in
     let f : ℕ → List Edge = λ s. clique (ports_below i odd (s + 1)) (size s) in
-    let h : ℕ → List ℕ = λ s. clique_counts (c s) (size s) in
+    let h : ℕ → List ℕ = λ s. clique_table (c s) (size s) in
     let split = over-append F (links i odd) (cliques i odd) counts (blocks h (vertices i)) (links-size i odd ∙ sym join.one_each) in
     let front = ap (sum_to (λ k. F (get_or (links i odd) k no_edge) (get_or counts k 0))) (links-size i odd)
     ∙ sum_to-same (λ k. F (get_or (links i odd) k no_edge) (get_or counts k 0)) (λ k. slice_index counts k * ends_at (between_ports i odd k) v) m
-    (λ k l. ap (λ (e : Edge). F e (get_or counts k 0)) (tabled-place (between_ports i odd) m k no_edge l)) in
-    let back = over-blocks F f h (vertices i) (λ s. clique-size (c s) (ports_below i odd (s + 1)) (size s))
+    (λ k l. ap (λ (e : Edge). F e (get_or counts k 0)) (tabled-at (between_ports i odd) m k no_edge l)) in
+    let back = over-blocks F f h (vertices i) (λ s _. clique-size (c s) (ports_below i odd (s + 1)) (size s))
     ∙ sum_to-only (λ s. over F (f s) (h s)) t (vertices i) b
-    (λ s l d. clique-away (c s) (ports_below i odd (s + 1)) (size s) v
-    (elim (groups-before_or_after i odd s t d) [ inl e ↦ inl (omega (arith, e, in_group)) | inr e ↦ inr (omega (arith, e)) ]))
-    ∙ clique-at (c t) (ports_below i odd (t + 1)) (size t) x (partners-swap (free i odd counts t)) in_group in
+    (λ s l d. clique-none (c s) (ports_below i odd (s + 1)) (size s) v
+    (λ a l' e. elim (groups-before_or_after i odd s t d) [ inl h ↦ omega (arith, h, in_group, e) | inr h ↦ omega (arith, h, l', e) ]))
+    ∙ clique-others (c t) (ports_below i odd (t + 1)) (size t) x (partners-swap (free i odd counts t)) in_group in
     let even = free-total i odd counts t ok join b in
     let small = used-small i odd counts t x ok join.one_each join.small in_group in
     let rest = partners-each (free i odd counts t) x (size t) (λ k l. omega arith) even in_group in
     omega (arith, split, front, back, rest, small)
 
-all_counts : (c : ℕ → ℕ → ℕ) (n : ℕ) → ((a b : ℕ) → c a b ≤ 1) → All (λ q. q ≤ 1) (clique_counts c n)
-all_counts c n small = all_blocks (λ q. q ≤ 1) (λ a. tabled (λ j. c a (a + 1 + j)) (n - 1 - a)) n (λ a b. all_tabled (λ q. q ≤ 1) (λ j. c a (a + 1 + j)) (n - 1 - a) (λ j b'. small a (a + 1 + j)))
+all_counts : (c : ℕ → ℕ → ℕ) (n : ℕ) → ((a b : ℕ) → c a b ≤ 1) → All (λ q. q ≤ 1) (clique_table c n)
+all_counts c n small = All-blocks (λ q. q ≤ 1) (λ a. tabled (λ d. c a (a + d + 1)) (n - 1 - a)) n (λ a b. All-tabled (λ q. q ≤ 1) (λ d. c a (a + d + 1)) (n - 1 - a) (λ j b'. small a (a + j + 1)))
 
 -- the perfect matching of a join
 pub paired-perfect : (i : Network) (odd : ℕ → ℕ) (counts : List ℕ) → IsNetwork i → IsOddAt i odd counts → IsPerfect (ports_graph i odd) (paired i odd counts)
 paired-perfect i odd counts ok join =
     let size : ℕ → ℕ = group_size i odd in
     let c : ℕ → ℕ → ℕ → ℕ = λ s. partners (free i odd counts s) in
-    let h : ℕ → List ℕ = λ s. clique_counts (c s) (size s) in
-    let same : length (cliques i odd) ≡ length (blocks h (vertices i)) = same_sizes (λ s. clique (ports_below i odd (s + 1)) (size s)) h (vertices i) (λ s. clique-size (c s) (ports_below i odd (s + 1)) (size s)) in
+    let h : ℕ → List ℕ = λ s. clique_table (c s) (size s) in
+    let same : length (cliques i odd) ≡ length (blocks h (vertices i)) = blocks-lengths (λ s. clique (ports_below i odd (s + 1)) (size s)) h (vertices i) (λ s _. clique-size (c s) (ports_below i odd (s + 1)) (size s)) in
     record {
       one_each = length-append counts (blocks h (vertices i)) ∙ (let one = join.one_each in let all = edges-size i odd in omega (arith, one, all, same));
       at_most_one = All-append (λ q. q ≤ 1) counts (blocks h (vertices i)) join.small
-          (all_blocks (λ q. q ≤ 1) h (vertices i) (λ s b. all_counts (c s) (size s) (λ a d. partners-small (free i odd counts s) a d (omega arith) (omega arith))));
+          (All-blocks (λ q. q ≤ 1) h (vertices i) (λ s b. all_counts (c s) (size s) (λ a d. partners-small (free i odd counts s) a d (omega arith) (omega arith))));
       degrees = λ v low high.
           let r = group-of i odd (vertices i) v low high in
           ap (degree (ports_graph i odd) (paired i odd counts)) r.4 ∙ paired-degree i odd counts r.0 r.1 ok join r.2 r.3;
@@ -156,7 +164,7 @@ ports-weight i odd front counts same =
     let e : (edge_at g k).w ≡ (edge_at (graph_of i) k).w = ap (λ (x : Edge). x.w) (link-here i odd k b) ∙ sym (ap (λ (x : Edge). x.w) (edge_at-graph_of i k)) in
     let c = same k b in
     rw (e, c) refl) in
-    let nothing = all_blocks (λ e. e.w ≡ pos 0) (λ k. clique (ports_below i odd (k + 1)) (port_count i odd (k + 1))) (vertices i)
+    let nothing = All-blocks (λ e. e.w ≡ pos 0) (λ k. clique (ports_below i odd (k + 1)) (port_count i odd (k + 1))) (vertices i)
     (λ k b. all_clique (λ e. e.w ≡ pos 0) (ports_below i odd (k + 1)) (port_count i odd (k + 1)) (λ a b l l'. refl)) in
     let rest = int_sum_to-none (λ k. term (m + k)) (length (cliques i odd))
     (λ k b. times_none (slice_index counts (m + k)) (edge_at g (m + k)).w (ap (λ (x : Edge). x.w) (clique-here i odd k) ∙ nothing k no_edge b)) in
@@ -165,4 +173,4 @@ ports-weight i odd front counts same =
 
 pub paired-weight : (i : Network) (odd : ℕ → ℕ) (counts : List ℕ) → length counts ≡ length i.edges → weight (ports_graph i odd) (paired i odd counts) ≡ weight (graph_of i) counts
 paired-weight i odd counts size = ports-weight i odd counts (paired i odd counts)
-    (λ k b. get_or-front counts (blocks (λ t. clique_counts (partners (free i odd counts t)) (port_count i odd (t + 1))) (vertices i)) 0 k (omega (arith, size)))
+    (λ k b. get_or_append_left counts (blocks (λ t. clique_table (partners (free i odd counts t)) (port_count i odd (t + 1))) (vertices i)) 0 k (omega (arith, size)))
