@@ -1,0 +1,38 @@
+ghost use Rattle.std.specs.Prelude.{◌≡◌, IfOk};
+ghost use Rattle.mb_problem.specs.Network.{Network};
+ghost use Rattle.mb_problem.specs.Size.{ports_size};
+ghost use Rattle.mb_problem.specs.Rooms.{odd_at};
+ghost use Rattle.gadget_base.specs.Gadgets.{ports_graph};
+ghost use Rattle.gadget_base.specs.Certified.{IsWithinLimits, HasSize, ReachesAll};
+ghost use Rattle.mb_problem.specs.declared.kind.Kind.TheVariants.{TJoin};
+ghost use Rattle.mb_problem.specs.declared.answer.Parity.TheVariants.{Values};
+ghost use Rattle.gadget_tjoin.specs.Joins.{ReachesJoins};
+
+use crate::groups::{add_cliques, group_sizes};
+use crate::links::add_links;
+use gadget_base::starts;
+use mb_base::OutOfMemory;
+use mb_problem::{Instance, Parity};
+use std::alloc::Global;
+use weighted_graph::Graph;
+
+/// The graph in which the joins of this parity are perfect matchings (chapter 29): each vertex as one
+/// port for each edge at it, and a spare where its edges and the parity that it asks for differ; each
+/// edge between its two ports, with its weight and number; and the ports of a vertex all joined, at
+/// weight 0. In time linear in the instance and the graph.
+pub fn ports(alloc: Global, instance: &Instance, parity: &Parity) -> Result<Graph, OutOfMemory>
+    requires limits { IsWithinLimits (ports_size instance.now (odd_at parity.now instance.now)) }
+    ensures graph { IfOk result (λ h. h ≡ ports_graph instance.now (odd_at parity.now instance.now)) }
+    ensures size { HasSize (ports_size instance.now (odd_at parity.now instance.now)) (ports_graph instance.now (odd_at parity.now instance.now)) }
+    ensures reached { ReachesJoins parity.now instance.now }
+    ensures tjoin { parity.now ≡ Values → ReachesAll TJoin instance.now }
+{
+    let parity = *parity;
+    let sizes = group_sizes(alloc, instance, parity)?;
+    let before = starts(alloc, &sizes)?;
+    let mut next = Vec::from_slice(alloc, &before)?;
+    let mut graph = Graph::new(alloc, before[sizes.len()]);
+    add_links(&mut graph, instance, parity, &mut next)?;
+    add_cliques(&mut graph, &before, &sizes)?;
+    Ok(graph)
+}
