@@ -4,3 +4,6 @@ pub mod Blocks
 pub mod Over
 pub mod Listed
 pub mod Degrees
+pub mod Within
+pub mod Units
+pub mod Used

@@ -4,6 +4,8 @@
 //! call adds exactly the edges that it names.
 #![tactic(auto)]
 
+mod offsets;
 mod rows;
 
+pub use offsets::starts;
 pub use rows::{add_clique, add_rectangle, add_row};
