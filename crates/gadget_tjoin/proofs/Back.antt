@@ -23,7 +23,7 @@ use Rattle.gadget_base.proofs.Listed.{times-cons, times_each-at, times-small, ti
 use Rattle.gadget_tjoin.specs.Joins.{listed_counts}
 use Rattle.gadget_tjoin.proofs.OneTerm.{one_if-small, sum_to-even}
 use Rattle.gadget_tjoin.proofs.Cliques.{pair, meets_group, all_clique, pair-meets_own, pair-meets_other}
-use Rattle.gadget_tjoin.proofs.Ports.{here, degree-here, group_size, groups-apart, groups-before_or_after, link-meets}
+use Rattle.gadget_tjoin.proofs.Places.{here, degree-here, group_size, groups-apart, groups-before_or_after, link-meets}
 use Rattle.gadget_tjoin.proofs.Reached.{links, cliques, edges-size, link-here, clique-here, IsOddAt, ports-weight}
 use Rattle.gadget_tjoin.proofs.PortEdges.{ports-within}
 

@@ -1,7 +1,10 @@
 mod OneTerm
 mod Ranks
 mod Cliques
-mod Ports
+mod Places
 mod Reached
 mod PortEdges
 mod Back
+mod Steps
+mod Marks
+mod Laws

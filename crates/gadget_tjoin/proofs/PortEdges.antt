@@ -13,7 +13,7 @@ use Rattle.gadget_base.proofs.Grown.{clique-length}
 use Rattle.gadget_base.proofs.Blocks.{blocks-length, All-tabled, All-blocks}
 use Rattle.gadget_tjoin.proofs.OneTerm.{group-before, group-once}
 use Rattle.gadget_tjoin.proofs.Cliques.{pair, all_clique}
-use Rattle.gadget_tjoin.proofs.Ports.{here, within, met-room_u, met-room_v, group_size, before-is, groups-apart}
+use Rattle.gadget_tjoin.proofs.Places.{here, within, met-room_u, met-room_v, group_size, before-is, groups-apart}
 use Rattle.gadget_tjoin.proofs.Reached.{links, cliques, edges-size}
 
 -- a place of the group of a vertex w is a vertex

@@ -21,7 +21,7 @@ use Rattle.gadget_base.proofs.Degrees.{clique_table, clique-table, clique-none}
 use Rattle.gadget_tjoin.proofs.OneTerm.{one_if, one_if-small, sum_to-only}
 use Rattle.gadget_tjoin.proofs.Ranks.{zero_or_one, once_of_rank, partners, partners-swap, partners-small, partners-each, to_others}
 use Rattle.gadget_tjoin.proofs.Cliques.{clique-others, all_clique, meets_group}
-use Rattle.gadget_tjoin.proofs.Ports.{here, within, degree-here, met-all, group_size, groups-before_or_after, group-of, link-at, link-meets}
+use Rattle.gadget_tjoin.proofs.Places.{here, within, degree-here, met-all, group_size, groups-before_or_after, group-of, link-at, link-meets}
 
 -- the edges between ports, and the cliques
 abbrev pub links : Network → (ℕ → ℕ) → List Edge

@@ -1,5 +1,5 @@
 ghost use Rattle.std.specs.Prelude.{◌≡◌, IfOk};
-ghost use Rattle.mb_problem.specs.Network.{Network};
+ghost use Rattle.mb_problem.specs.Network.{Network, IsNetwork};
 ghost use Rattle.mb_problem.specs.Size.{ports_size};
 ghost use Rattle.mb_problem.specs.Rooms.{odd_at};
 ghost use Rattle.gadget_base.specs.Gadgets.{ports_graph};
@@ -7,6 +7,7 @@ ghost use Rattle.gadget_base.specs.Certified.{IsWithinLimits, HasSize, ReachesAl
 ghost use Rattle.mb_problem.specs.declared.kind.Kind.TheVariants.{TJoin};
 ghost use Rattle.mb_problem.specs.declared.answer.Parity.TheVariants.{Values};
 ghost use Rattle.gadget_tjoin.specs.Joins.{ReachesJoins};
+ghost use Rattle.gadget_tjoin.specs.Groups.{AreGroups};
 
 use crate::groups::{add_cliques, group_sizes};
 use crate::links::add_links;
@@ -15,6 +16,41 @@ use mb_base::OutOfMemory;
 use mb_problem::{Instance, Parity};
 use std::alloc::Global;
 use weighted_graph::Graph;
+
+/// Builds the graph from the groups of ports. `next` is `before` at the start, and changes.
+fn fill(
+    alloc: Global,
+    instance: &Instance,
+    parity: Parity,
+    before: &[u32],
+    sizes: &[u32],
+    next: &mut [u32],
+) -> Result<Graph, OutOfMemory>
+    requires limits { IsWithinLimits (ports_size instance.now (odd_at parity instance.now)) }
+    requires groups { AreGroups instance.now (odd_at parity instance.now) before.now sizes.now }
+    requires start { next.old ≡ before.now }
+    ensures graph { IfOk result (λ h. h ≡ ports_graph instance.now (odd_at parity instance.now)) }
+{
+    let count = instance.vertices() as usize;
+    let mut graph = Graph::new(alloc, before[count]);
+    add_links(&mut graph, instance, parity, next)?;
+    add_cliques(&mut graph, before, sizes)?;
+    Ok(graph)
+}
+
+/// Builds the graph.
+fn build(alloc: Global, instance: &Instance, parity: Parity) -> Result<Graph, OutOfMemory>
+    requires limits { IsWithinLimits (ports_size instance.now (odd_at parity instance.now)) }
+    ensures graph { IfOk result (λ h. h ≡ ports_graph instance.now (odd_at parity instance.now)) }
+    ensures network { IsNetwork instance.now }
+{
+    let _vertices = instance.vertices();
+    let sizes = group_sizes(alloc, instance, parity)?;
+    let before = starts(alloc, &sizes)?;
+    let mut next = Vec::from_slice(alloc, &before)?;
+    let graph = fill(alloc, instance, parity, &before, &sizes, &mut next)?;
+    Ok(graph)
+}
 
 /// The graph in which the joins of this parity are perfect matchings (chapter 29): each vertex as one
 /// port for each edge at it, and a spare where its edges and the parity that it asks for differ; each
@@ -27,12 +63,5 @@ pub fn ports(alloc: Global, instance: &Instance, parity: &Parity) -> Result<Grap
     ensures reached { ReachesJoins parity.now instance.now }
     ensures tjoin { parity.now ≡ Values → ReachesAll TJoin instance.now }
 {
-    let parity = *parity;
-    let sizes = group_sizes(alloc, instance, parity)?;
-    let before = starts(alloc, &sizes)?;
-    let mut next = Vec::from_slice(alloc, &before)?;
-    let mut graph = Graph::new(alloc, before[sizes.len()]);
-    add_links(&mut graph, instance, parity, &mut next)?;
-    add_cliques(&mut graph, &before, &sizes)?;
-    Ok(graph)
+    build(alloc, instance, *parity)
 }

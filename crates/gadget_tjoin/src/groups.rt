@@ -1,6 +1,6 @@
 ghost use Rattle.std.specs.Prelude.{◌≡◌, ℕ, ◌+◌, ◌-◌, ◌*◌, ◌/◌, ◌%◌, ◌<◌, ◌≤◌, ◌^◌, ◌++◌, ◌==◌, if◌then◌else◌, length, slice_index, IfOk, OnOk};
 ghost use Rattle.graph_theory.specs.Sums.{sum_to};
-ghost use Rattle.graph_theory.specs.Graph.{IsEdgeWithin, IsGraph, ends_at};
+ghost use Rattle.graph_theory.specs.Graph.{IsEdgeWithin, ends_at};
 ghost use Rattle.mb_problem.specs.Network.{IsNetwork, vertices, plain};
 ghost use Rattle.mb_problem.specs.Size.{edge_count_at, port_count};
 ghost use Rattle.mb_problem.specs.Rooms.{odd_by, odd_at};
@@ -71,9 +71,8 @@ pub fn group_sizes(
 {
     let counts = edge_counts(alloc, instance)?;
     let mut sizes = Vec::with_capacity(alloc, counts.len())?;
-    for (k, met) in counts.iter().enumerate() {
-        let value = instance.value(VertexId::new(k as u32 + 1));
-        sizes.push(group_size(parity, *met, value))?;
+    for (k, value) in instance.value_list().iter().enumerate() {
+        sizes.push(group_size(parity, counts[k], *value))?;
     }
     Ok(sizes)
 }
@@ -84,7 +83,6 @@ pub fn add_cliques(graph: &mut Graph, before: &[u32], sizes: &[u32]) -> Result<(
     requires inside { (k : ℕ) → k < length sizes.now → slice_index before.now k + slice_index sizes.now k ≤ graph.old.vertices }
     requires room { length graph.old.edges + sum_to (λ k. slice_index sizes.now k * (slice_index sizes.now k - 1) / 2) (length sizes.now) < 2 ^ 32 }
     ensures added { OnOk result (graph.new ≡ record graph.old { edges = graph.old.edges ++ blocks (λ k. clique (slice_index before.now k) (slice_index sizes.now k)) (length sizes.now) }) }
-    ensures graph { IsGraph graph.new }
 {
     let _vertices = graph.vertices();
     for (k, size) in sizes.iter().enumerate() {

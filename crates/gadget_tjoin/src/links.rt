@@ -1,5 +1,5 @@
 ghost use Rattle.std.specs.Prelude.{◌≡◌, ◌≢◌, ℕ, ◌+◌, ◌-◌, ◌<◌, ◌≤◌, ◌^◌, ◌==◌, if◌then◌else◌, [], length, slice_index, OnOk};
-ghost use Rattle.graph_theory.specs.Graph.{IsEdgeWithin, IsGraph, ends_at};
+ghost use Rattle.graph_theory.specs.Graph.{IsEdgeWithin, ends_at};
 ghost use Rattle.mb_problem.specs.Network.{IsNetwork, vertices, plain};
 ghost use Rattle.mb_problem.specs.Size.{ports_size};
 ghost use Rattle.mb_problem.specs.Rooms.{odd_at};
@@ -32,7 +32,8 @@ fn take_ports(next: &mut [u32], edge: &InstanceEdge) -> (VertexId, VertexId)
     requires v_low { 1 ≤ edge.now.v }
     requires v_high { edge.now.v ≤ length next.old }
     requires differ { edge.now.u ≢ edge.now.v }
-    requires small { (k : ℕ) → k < length next.old → slice_index next.old k < 2 ^ 30 }
+    requires small_u { slice_index next.old (edge.now.u - 1) < 2 ^ 31 }
+    requires small_v { slice_index next.old (edge.now.v - 1) < 2 ^ 31 }
     ensures u { result.0 ≡ slice_index next.old (edge.now.u - 1) + 1 }
     ensures v { result.1 ≡ slice_index next.old (edge.now.v - 1) + 1 }
     ensures size { length next.new ≡ length next.old }
@@ -56,7 +57,6 @@ pub fn add_links(
     requires size { vertices instance.now ≤ length next.old }
     requires before { (k : ℕ) → k < vertices instance.now → slice_index next.old k ≡ ports_below instance.now (odd_at parity instance.now) (k + 1) }
     ensures added { OnOk result (graph.new ≡ record graph.old { edges = tabled (between_ports instance.now (odd_at parity instance.now)) (length instance.now.edges) }) }
-    ensures graph { IsGraph graph.new }
 {
     let _ = parity;
     for edge in instance.edge_list() {

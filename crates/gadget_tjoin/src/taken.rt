@@ -1,4 +1,4 @@
-ghost use Rattle.std.specs.Prelude.{◌≡◌, ℕ, ◌+◌, ◌<◌, ◌≤◌, Bool, true, false, List, length, slice_index_or, All, IfOk};
+ghost use Rattle.std.specs.Prelude.{◌≡◌, ℕ, ◌+◌, ◌<◌, ◌≤◌, ◌++◌, ◌∷◌, [], Bool, true, false, if◌then◌else◌, List, length, slice_index_or, All, IfOk, OnOk};
 ghost use Rattle.std.specs.List.Sorted.{IsStrictlyIncreasing};
 ghost use Rattle.graph_theory.specs.Graph.{IsEdgeNumber};
 ghost use Rattle.graph_theory.specs.Parts.{holds};
@@ -29,6 +29,17 @@ fn marks_of(alloc: Global, count: usize, edges: &[EdgeId]) -> Result<Vec<bool>, 
     Ok(marks)
 }
 
+/// Puts the number after a place at the end where the place is marked.
+fn note(edges: &mut Vec<EdgeId>, place: usize, marked: bool) -> Result<(), OutOfMemory>
+    requires { place < 65536 }
+    ensures { OnOk result (edges.new.items ≡ (if marked then edges.old.items ++ (place + 1) ∷ [] else edges.old.items)) }
+{
+    if marked {
+        edges.push(EdgeId::new(place as u32 + 1))?;
+    }
+    Ok(())
+}
+
 /// The numbers of the marked edges, ascending.
 fn marked(alloc: Global, marks: &[bool]) -> Result<Vec<EdgeId>, OutOfMemory>
     requires few { length marks.now ≤ 65536 }
@@ -37,10 +48,8 @@ fn marked(alloc: Global, marks: &[bool]) -> Result<Vec<EdgeId>, OutOfMemory>
     ensures exact { IfOk result (λ edges. (k : ℕ) → k < length marks.now → holds edges.items (k + 1) ≡ slice_index_or marks.now k false) }
 {
     let mut edges = Vec::new(alloc);
-    for (place, marked) in marks.iter().enumerate() {
-        if *marked {
-            edges.push(EdgeId::new(place as u32 + 1))?;
-        }
+    for (place, mark) in marks.iter().enumerate() {
+        note(&mut edges, place, *mark)?;
     }
     Ok(edges)
 }
