@@ -21,6 +21,7 @@ use Rattle.gadget_base.proofs.BlockSums.{sum_to-ones}
 use Rattle.gadget_base.proofs.Blocks.{tabled-length, tabled-at, All-tabled, All-blocks}
 use Rattle.gadget_base.proofs.Listed.{times-cons, times_each-at, times-small, times-weight, perfect_from_list, weight_of_list}
 use Rattle.gadget_tjoin.specs.Joins.{listed_counts}
+use Rattle.gadget_tjoin.proofs.Times.{times-holds, ascending-once}
 use Rattle.gadget_tjoin.proofs.OneTerm.{one_if-small, sum_to-even}
 use Rattle.gadget_tjoin.proofs.Cliques.{pair, meets_group, all_clique, pair-meets_own, pair-meets_other}
 use Rattle.gadget_tjoin.proofs.Places.{here, degree-here, group_size, groups-apart, groups-before_or_after, link-meets}
@@ -93,65 +94,6 @@ back-join i odd front counts ok bit perfect size small same = record {
       (λ k b. ap (λ (c : ℕ). c * ends_at (here i k) (t + 1)) (same k b)) in
       omega (arith, back, one, two, agree, bit (t + 1)));
 }
-
--- lists of numbers of edges
-
-test_on : (b : Bool) → b ≡ true → cond {A = ℕ} b 1 0 ≡ 1
-test_on b h = ap (λ (t : Bool). cond {A = ℕ} t 1 0) h
-
-test_off : (b : Bool) → b ≡ false → cond {A = ℕ} b 1 0 ≡ 0
-test_off b h = ap (λ (t : Bool). cond {A = ℕ} t 1 0) h
-
-held : (es : List ℕ) (e : ℕ) → holds es e ≡ true → 1 ≤ times es e
-held [] e h = absurd (true≢false (sym h))
-held (x ∷ es) e h =
-    let more = times-cons x es e in
-    elim (or_cases (eqb x e) (holds es e) h) [
-      | inl on ↦ omega (arith, more, test_on (eqb x e) on)
-      | inr later ↦ omega (arith, more, held es e later)
-    ]
-
-not_held : (es : List ℕ) (e : ℕ) → holds es e ≡ false → times es e ≡ 0
-not_held [] e h = refl
-not_held (x ∷ es) e h =
-    let more = times-cons x es e in
-    elim (cases_Bool (eqb x e)) [
-      | inl on ↦ absurd (true≢false (sym (or_left (eqb x e) (holds es e) on) ∙ h))
-      | inr off ↦ elim (cases_Bool (holds es e)) [
-        | inl later ↦ absurd (true≢false (sym (or_right (eqb x e) (holds es e) later) ∙ h))
-        | inr later ↦ omega (arith, more, test_off (eqb x e) off, not_held es e later)
-      ]
-    ]
-
--- a number that is listed at most once
-pub times-holds : (es : List ℕ) (e : ℕ) → times es e ≤ 1 → times es e ≡ cond (holds es e) 1 0
-times-holds es e h =
-    elim (cases_Bool (holds es e)) [
-      | inl on ↦ let one = held es e on in omega (arith, one, h, test_on (holds es e) on)
-      | inr off ↦ not_held es e off ∙ sym (test_off (holds es e) off)
-    ]
-
-pairs-once : (es : List ℕ) (e : ℕ) → AllPairs (λ x y. x < y) es → times es e ≤ 1
-pairs-once [] e up = omega arith
-pairs-once (x ∷ es) e up =
-    let more = times-cons x es e in
-    let rest = pairs-once es e (pairs_tail x es up) in
-    elim (cases_Bool (eqb x e)) [
-      | inl on ↦
-          let same = eqb-true x e on in
-          let one = test_on (eqb x e) on in
-          elim (cases_Bool (holds es e)) [
-            | inl later ↦ absurd (let less = first_less x es e up later in omega (arith, less, same))
-            | inr none ↦ omega (arith, more, one, not_held es e none)
-          ]
-      | inr off ↦
-          let none = test_off (eqb x e) off in
-          omega (arith, more, none, rest)
-    ]
-
--- an ascending list has each number at most once
-pub ascending-once : (es : List ℕ) (e : ℕ) → IsStrictlyIncreasing es → times es e ≤ 1
-ascending-once es e up = pairs-once es e (AllPairs-from_increasing es up)
 
 -- the edges of a join: the numbers up to that of the last edge in a perfect matching, ascending
 pub record AreOwn (m : ℕ) (join matching : List ℕ) : Type 0 where

@@ -1,5 +1,7 @@
 mod OneTerm
 mod Ranks
+mod Times
+pub mod WalkParity
 mod Cliques
 mod Places
 mod Reached
@@ -8,3 +10,5 @@ mod Back
 mod Steps
 mod Marks
 mod Laws
+mod Tours
+mod Paths

@@ -1,7 +1,8 @@
 -- The ports of an instance: where they stand, and which vertices an edge between ports meets.
-use Rattle.std.proofs.Common.{◌≡◌, ◌⊎◌, ℕ, zero, suc, ◌+◌, ◌-◌, ◌*◌, ◌%◌, ◌<◌, ◌≤◌, Bool, true, false, cond, ltb, eqb, refl, ap, sym, ◌∙◌, subst, inl, inr, arith, List, ◌++◌, length, get_or, slice_index, replicate}
+use Rattle.std.proofs.Common.{◌≡◌, ◌⊎◌, ℕ, zero, suc, ◌+◌, ◌-◌, ◌*◌, ◌%◌, ◌<◌, ◌≤◌, Bool, true, false, cond, ltb, eqb, refl, ap, sym, ◌∙◌, subst, inl, inr, arith, List, ◌++◌, length, get_or, slice_index, replicate, All}
 use Rattle.std.proofs.lemmas.Bool.{cases_eq, cases_lt, cases_order, cases_Bool, eq-eqb, ne_eqb}
 use Rattle.std.proofs.lemmas.List.{get_or-replicate, length-map}
+use Rattle.std.proofs.lemmas.List.Elements.{All-map}
 use Rattle.graph_theory.specs.Sums.{sum_to}
 use Rattle.graph_theory.specs.declared.edge.Edge.{Edge}
 use Rattle.graph_theory.specs.Graph.{IsEdgeWithin, edge_at, ends_at, degree}
@@ -22,6 +23,9 @@ here i k = plain (instance_edge_at i k)
 
 pub within : (i : Network) (k : ℕ) → IsNetwork i → k < length i.edges → IsEdgeWithin (vertices i) (here i k)
 within i k ok b = let e = ok.edges k no_instance_edge b in e.ends
+
+pub graph-within : (i : Network) → IsNetwork i → All (IsEdgeWithin (graph_of i).vertices) (graph_of i).edges
+graph-within i ok = All-map (IsEdgeWithin (vertices i)) plain i.edges (λ k d b. let e = ok.edges k d b in e.ends)
 
 -- the degree as a sum over the instance's edges
 pub degree-here : (i : Network) (counts : List ℕ) (v : ℕ) → degree (graph_of i) counts v ≡ sum_to (λ k. slice_index counts k * ends_at (here i k) v) (length i.edges)

@@ -1,6 +1,8 @@
 use Rattle.mb_problem.specs.Rooms.{odd_at}
 use Rattle.gadget_tjoin.proofs.PortEdges.{ports-size}
 use Rattle.gadget_tjoin.proofs.Laws.{reaches-joins, reaches-tjoins}
+use Rattle.gadget_tjoin.proofs.Tours.{reaches-tours}
+use Rattle.gadget_tjoin.proofs.Paths.{reaches-paths}
 use Rattle.gadget_tjoin.proofs.build.ports.Goals as goal
 
 pub returns-clause-size : goal.returns-clause-size
@@ -11,3 +13,9 @@ returns-clause-reached c = reaches-joins c.args.parity.now c.args.instance.now c
 
 pub returns-clause-tjoin : goal.returns-clause-tjoin
 returns-clause-tjoin c = reaches-tjoins c.args.parity.now c.args.instance.now c.build.ensures.network
+
+pub returns-clause-postman : goal.returns-clause-postman
+returns-clause-postman c = reaches-tours c.args.parity.now c.args.instance.now c.build.ensures.network
+
+pub returns-clause-path : goal.returns-clause-path
+returns-clause-path c = reaches-paths c.args.parity.now c.args.instance.now c.build.ensures.network
