@@ -1,37 +1,28 @@
 ghost use Rattle.std.specs.Prelude.{◌≡◌, ℕ, ◌+◌, ◌-◌, ◌*◌, ◌/◌, ◌%◌, ◌<◌, ◌≤◌, ◌^◌, ◌++◌, ◌==◌, if◌then◌else◌, length, slice_index, IfOk, OnOk};
 ghost use Rattle.graph_theory.specs.Sums.{sum_to};
-ghost use Rattle.graph_theory.specs.Graph.{IsEdgeWithin, ends_at};
-ghost use Rattle.mb_problem.specs.Network.{IsNetwork, vertices, plain};
+ghost use Rattle.mb_problem.specs.Network.{vertices};
 ghost use Rattle.mb_problem.specs.Size.{edge_count_at, port_count};
 ghost use Rattle.mb_problem.specs.Rooms.{odd_by, odd_at};
 ghost use Rattle.gadget_base.specs.Blocks.{blocks, clique};
 
+use crate::links::take_ports;
 use gadget_base::add_clique;
-use mb_base::{OutOfMemory, VertexId};
-use mb_problem::{Instance, InstanceEdge, Parity};
+use mb_base::OutOfMemory;
+use mb_problem::{Instance, Parity};
 use std::alloc::Global;
 use weighted_graph::Graph;
 
-/// Counts one edge more at a vertex.
-fn count_at(counts: &mut [u32], v: VertexId)
-    requires low { 1 ≤ v }
-    requires high { v ≤ length counts.old }
-    requires small { slice_index counts.old (v - 1) < 2 ^ 31 }
+/// Counts the edges at each vertex: as many as the ports that they take from 0 on.
+fn count_edges(counts: &mut [u32], instance: &Instance)
+    requires one_each { length counts.old ≡ vertices instance.now }
+    requires start { (k : ℕ) → k < length counts.old → slice_index counts.old k ≡ 0 }
     ensures size { length counts.new ≡ length counts.old }
-    ensures each { (k : ℕ) → k < length counts.old → slice_index counts.new k ≡ slice_index counts.old k + (if v == k + 1 then 1 else 0) }
+    ensures each { (k : ℕ) → k < vertices instance.now → slice_index counts.new k ≡ edge_count_at instance.now (k + 1) }
+    ensures small { (k : ℕ) → k < vertices instance.now → slice_index counts.new k ≤ 131072 }
 {
-    counts[v.number() as usize - 1] += 1;
-}
-
-/// Counts one edge more at both its ends.
-fn count_ends(counts: &mut [u32], edge: &InstanceEdge)
-    requires ends { IsEdgeWithin (length counts.old) (plain edge.now) }
-    requires small { (k : ℕ) → k < length counts.old → slice_index counts.old k < 2 ^ 30 }
-    ensures size { length counts.new ≡ length counts.old }
-    ensures each { (k : ℕ) → k < length counts.old → slice_index counts.new k ≡ slice_index counts.old k + ends_at (plain edge.now) (k + 1) }
-{
-    count_at(counts, edge.u);
-    count_at(counts, edge.v);
+    for edge in instance.edge_list() {
+        take_ports(counts, edge);
+    }
 }
 
 /// How many edges meet each vertex.
@@ -41,9 +32,7 @@ fn edge_counts(alloc: Global, instance: &Instance) -> Result<Vec<u32>, OutOfMemo
     ensures small { IfOk result (λ counts. (k : ℕ) → k < vertices instance.now → slice_index counts.items k ≤ 131072) }
 {
     let mut counts = vec![in alloc; 0u32; instance.vertices() as usize]?;
-    for edge in instance.edge_list() {
-        count_ends(&mut counts, edge);
-    }
+    count_edges(&mut counts, instance);
     Ok(counts)
 }
 

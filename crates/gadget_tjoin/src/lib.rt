@@ -10,3 +10,6 @@ mod taken;
 
 pub use build::ports;
 pub use taken::extract;
+
+#[cfg(test)]
+mod tests;

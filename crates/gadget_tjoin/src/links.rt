@@ -1,6 +1,6 @@
 ghost use Rattle.std.specs.Prelude.{◌≡◌, ◌≢◌, ℕ, ◌+◌, ◌-◌, ◌<◌, ◌≤◌, ◌^◌, ◌==◌, if◌then◌else◌, [], length, slice_index, OnOk};
-ghost use Rattle.graph_theory.specs.Graph.{IsEdgeWithin, ends_at};
-ghost use Rattle.mb_problem.specs.Network.{IsNetwork, vertices, plain};
+ghost use Rattle.graph_theory.specs.Graph.{ends_at};
+ghost use Rattle.mb_problem.specs.Network.{vertices, plain};
 ghost use Rattle.mb_problem.specs.Size.{ports_size};
 ghost use Rattle.mb_problem.specs.Rooms.{odd_at};
 ghost use Rattle.gadget_base.specs.Blocks.{tabled};
@@ -26,7 +26,7 @@ fn take_port(next: &mut [u32], v: VertexId) -> VertexId
 }
 
 /// The next ports of the two ends of an edge, which are taken.
-fn take_ports(next: &mut [u32], edge: &InstanceEdge) -> (VertexId, VertexId)
+pub fn take_ports(next: &mut [u32], edge: &InstanceEdge) -> (VertexId, VertexId)
     requires u_low { 1 ≤ edge.now.u }
     requires u_high { edge.now.u ≤ length next.old }
     requires v_low { 1 ≤ edge.now.v }

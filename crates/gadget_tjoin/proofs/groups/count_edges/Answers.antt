@@ -2,7 +2,7 @@ use Rattle.std.proofs.Common.{rules, ◌≡◌, ◌+◌, ap, ◌∙◌}
 use Rattle.std.proofs.lemmas.Grind.{common_steps}
 use Rattle.gadget_base.specs.Gadgets.{met_below}
 use Rattle.gadget_tjoin.proofs.Places.{met-all}
-use Rattle.gadget_tjoin.proofs.groups.edge_counts.Goals as goal
+use Rattle.gadget_tjoin.proofs.groups.count_edges.Goals as goal
 
 pub returns-clause-each : goal.returns-clause-each
 returns-clause-each c = λ k b.

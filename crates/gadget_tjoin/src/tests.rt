@@ -1,0 +1,126 @@
+ghost use Rattle.std.specs.Prelude.{◌≡◌, ℕ, ◌+◌, ◌≤◌, IsTrue, All, count_by, length};
+ghost use Rattle.graph_theory.specs.Graph.{IsEdgeNumber, edge_of, touches};
+ghost use Rattle.mb_problem.specs.declared.answer.Parity.TheVariants.{Values};
+ghost use Rattle.mb_problem.specs.Rooms.{odd_at};
+ghost use Rattle.gadget_base.specs.Gadgets.{ports_graph};
+ghost use Rattle.gadget_base.specs.Certified.{IsPerfectList};
+
+use super::*;
+use graph_theory::Edge;
+use mb_base::{EdgeId, OutOfMemory, VertexId};
+use mb_problem::{Instance, Join, Kind, Parity, gadget_size};
+use std::alloc::Global;
+use std::test::Fail;
+use weighted_graph::Graph;
+
+fn edge(u: u32, v: u32, w: i64) -> Edge {
+    Edge {
+        u: VertexId::new(u),
+        v: VertexId::new(v),
+        w,
+    }
+}
+
+/// The graph of ports for joins on the vertices of odd value, where it is within the limits.
+fn on_values(alloc: Global, instance: &Instance) -> Result<Option<Graph>, OutOfMemory> {
+    let (vertices, edges) = gadget_size(instance, Kind::TJoin);
+    if vertices > 4096 {
+        return Ok(None);
+    }
+    if edges > 1_048_576 {
+        return Ok(None);
+    }
+    Ok(Some(ports(alloc, instance, &Parity::Values)?))
+}
+
+/// The graph of ports for joins on the vertices of odd degree, where it is within the limits.
+fn on_degrees(alloc: Global, instance: &Instance) -> Result<Option<Graph>, OutOfMemory> {
+    let (vertices, edges) = gadget_size(instance, Kind::Postman);
+    if vertices > 4096 {
+        return Ok(None);
+    }
+    if edges > 1_048_576 {
+        return Ok(None);
+    }
+    Ok(Some(ports(alloc, instance, &Parity::OddDegrees)?))
+}
+
+/// Whether these are numbers of edges.
+fn are_numbers(graph: &Graph, edges: &[EdgeId]) -> bool
+    ensures { IsTrue result → All (IsEdgeNumber graph.now) edges.now }
+{
+    for edge in edges {
+        if edge.number() < 1 {
+            return false;
+        }
+        if edge.number() > graph.edges() {
+            return false;
+        }
+    }
+    true
+}
+
+/// How many of the edges meet a vertex.
+fn met(graph: &Graph, edges: &[EdgeId], v: VertexId) -> usize
+    requires { All (IsEdgeNumber graph.now) edges.now }
+    ensures { result ≡ count_by (λ e. touches (edge_of graph.now e) v) edges.now }
+{
+    let mut total = 0;
+    for edge in edges {
+        let (from, to, _) = graph.edge(*edge);
+        if from == v || to == v {
+            total += 1;
+        }
+    }
+    total
+}
+
+/// Whether the edges are a perfect matching.
+fn is_perfect(graph: &Graph, edges: &[EdgeId]) -> bool
+    ensures { IsTrue result → IsPerfectList graph.now edges.now }
+{
+    if !are_numbers(graph, edges) {
+        return false;
+    }
+    for before in 0..graph.vertices() {
+        if met(graph, edges, VertexId::new(before + 1)) != 1 {
+            return false;
+        }
+    }
+    true
+}
+
+/// The join of these edges, where they are a perfect matching of the graph of ports.
+fn join_of(
+    alloc: Global,
+    instance: &Instance,
+    graph: &Graph,
+    edges: &[EdgeId],
+) -> Result<Option<Join>, OutOfMemory>
+    requires { graph.now ≡ ports_graph instance.now (odd_at Values instance.now) }
+{
+    if !is_perfect(graph, edges) {
+        return Ok(None);
+    }
+    Ok(Some(extract(alloc, instance, &Parity::Values, edges)?))
+}
+
+#[test]
+fn triangle_with_no_odd_values(rt: HostRuntime) -> Result<(), Fail> {
+    let alloc = rt.alloc();
+    let (one, two, three) = (VertexId::new(1), VertexId::new(2), VertexId::new(3));
+    let mut instance = Instance::new(alloc, 3, 0)?;
+    instance.add_edge(one, two, -1, None)?;
+    instance.add_edge(two, three, -1, None)?;
+    instance.add_edge(one, three, 1, None)?;
+    let graph = on_values(alloc, &instance)?;
+    assert_eq!(rt; graph.is_some(), true);
+    if let Some(graph) = graph {
+        let links = [edge(1, 3, -1), edge(4, 5, -1), edge(2, 6, 1)];
+        let pairs = [edge(1, 2, 0), edge(3, 4, 0), edge(5, 6, 0)];
+        assert_eq!(rt; graph.vertices(), 6);
+        assert_eq!(rt; &graph.edge_list()[..3], links.as_slice());
+        assert_eq!(rt; &graph.edge_list()[3..], pairs.as_slice());
+    }
+    Ok(())
+}
