@@ -1,31 +1,28 @@
 -- The edges of the instance in a perfect matching of the graph of ports are a join.
-use Rattle.std.proofs.Common.{◌≡◌, ◌⊎◌, ℕ, zero, suc, ◌+◌, ◌-◌, ◌*◌, ◌/◌, ◌%◌, ◌<◌, ◌≤◌, ℤ, pos, ◌*ℤ◌, Bool, true, false, cond, eqb, refl, ap, sym, ◌∙◌, subst, inl, inr, arith, List, [], ◌∷◌, length, slice_index, get_or, All, AllPairs}
+use Rattle.std.proofs.Common.{◌≡◌, ℕ, ◌+◌, ◌-◌, ◌*◌, ◌/◌, ◌%◌, ◌<◌, ◌≤◌, Bool, cond, ap, sym, ◌∙◌, subst, inl, inr, arith, List, length, slice_index, All}
 use Rattle.std.specs.List.Sorted.{IsStrictlyIncreasing}
-use Rattle.std.proofs.lemmas.Bool.{cases_eq, cases_Bool, eqb-true, eq-eqb, true≢false, or_cases, or_left, or_right}
+use Rattle.std.proofs.lemmas.Bool.{cases_eq}
 use Rattle.std.proofs.lemmas.List.{length-map}
-use Rattle.std.proofs.lemmas.List.Kept.{AllPairs-from_increasing}
-use Rattle.graph_theory.specs.Sums.{sum_to, int_sum_to}
+use Rattle.graph_theory.specs.Sums.{sum_to}
 use Rattle.graph_theory.specs.declared.edge.Edge.{Edge}
-use Rattle.graph_theory.specs.Graph.{Multigraph, no_edge, edge_at, ends_at, degree, weight, IsPerfect, IsEdgeNumber}
+use Rattle.graph_theory.specs.Graph.{no_edge, edge_at, ends_at, degree, IsPerfect, IsEdgeNumber}
 use Rattle.graph_theory.specs.Parts.{holds}
 use Rattle.graph_theory.specs.Walk.{walk_weight}
-use Rattle.graph_theory.proofs.SumLemmas.{sum_to-same, sum_to-swap, sum_to-append, sum_to-one, times-sum_to, int_sum_to-same}
-use Rattle.graph_theory.proofs.Members.{first_less, pairs_tail}
+use Rattle.graph_theory.proofs.SumLemmas.{sum_to-same, sum_to-swap, sum_to-append, times-sum_to}
 use Rattle.mb_problem.specs.Network.{Network, IsNetwork, vertices, graph_of, plain}
-use Rattle.mb_problem.specs.Size.{edge_count_at, port_count}
-use Rattle.gadget_base.specs.Blocks.{clique, tabled}
-use Rattle.gadget_base.specs.Gadgets.{ports_below, between_ports, ports_graph}
+use Rattle.gadget_base.specs.Blocks.{clique}
+use Rattle.gadget_base.specs.Gadgets.{ports_below, ports_graph}
 use Rattle.gadget_base.specs.Certified.{IsPerfectList}
 use Rattle.gadget_base.specs.Listed.{times, times_each}
 use Rattle.gadget_base.proofs.BlockSums.{sum_to-ones}
 use Rattle.gadget_base.proofs.Blocks.{tabled-length, tabled-at, All-tabled, All-blocks}
-use Rattle.gadget_base.proofs.Listed.{times-cons, times_each-at, times-small, times-weight, perfect_from_list, weight_of_list}
+use Rattle.gadget_base.proofs.Listed.{times_each-at, times-small, perfect_from_list, weight_of_list}
 use Rattle.gadget_tjoin.specs.Joins.{listed_counts}
 use Rattle.gadget_tjoin.proofs.Times.{times-holds, ascending-once}
 use Rattle.gadget_tjoin.proofs.OneTerm.{one_if-small, sum_to-even}
 use Rattle.gadget_tjoin.proofs.Cliques.{pair, meets_group, all_clique, pair-meets_own, pair-meets_other}
 use Rattle.gadget_tjoin.proofs.Places.{here, degree-here, group_size, groups-apart, groups-before_or_after, link-meets}
-use Rattle.gadget_tjoin.proofs.Reached.{links, cliques, edges-size, link-here, clique-here, IsOddAt, ports-weight}
+use Rattle.gadget_tjoin.proofs.Reached.{cliques, edges-size, link-here, clique-here, IsOddAt, ports-weight}
 use Rattle.gadget_tjoin.proofs.PortEdges.{ports-within}
 
 times_even : (q a : ℕ) → a % 2 ≡ 0 → q * a % 2 ≡ 0

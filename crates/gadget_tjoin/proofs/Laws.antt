@@ -1,21 +1,19 @@
 -- The joins of each parity, and what the contracts say of them.
-use Rattle.std.proofs.Common.{◌≡◌, ℕ, ◌%◌, ◌≤◌, ℤ, pos, ◌*ℤ◌, ◌≤ℤ◌, refl, ap, sym, ◌∙◌, subst, arith, List, length, All}
+use Rattle.std.proofs.Common.{◌≡◌, ℕ, ◌≤◌, ℤ, pos, ◌*ℤ◌, ◌≤ℤ◌, arith, List, length}
 use Rattle.std.proofs.lemmas.Int.{ints}
-use Rattle.graph_theory.specs.Graph.{degree, weight}
-use Rattle.graph_theory.specs.Walk.{walk_weight}
+use Rattle.graph_theory.specs.Graph.{weight}
 use Rattle.mb_problem.specs.declared.kind.Kind.TheVariants.{TJoin}
-use Rattle.mb_problem.specs.declared.answer.Answer.{Answer}
 use Rattle.mb_problem.specs.declared.answer.Answer.TheVariants.{Counts, Walk, Nothing}
 use Rattle.mb_problem.specs.declared.answer.Parity.{Parity}
 use Rattle.mb_problem.specs.declared.answer.Parity.TheVariants.{Empty, Values, OddDegrees}
 use Rattle.mb_problem.specs.Network.{Network, IsNetwork, graph_of}
-use Rattle.mb_problem.specs.Feasible.{IsFeasible, IsJoin}
+use Rattle.mb_problem.specs.Feasible.{IsJoin}
 use Rattle.mb_problem.specs.Rooms.{odd_at}
 use Rattle.gadget_base.specs.Gadgets.{ports_graph}
-use Rattle.gadget_base.specs.Certified.{IsReached, ReachesAll, IsPerfectList}
-use Rattle.gadget_tjoin.specs.Joins.{IsJoinOf, HasPerfect, ReachesJoins, listed_counts}
+use Rattle.gadget_base.specs.Certified.{ReachesAll, IsPerfectList}
+use Rattle.gadget_tjoin.specs.Joins.{IsJoinOf, ReachesJoins, listed_counts}
 use Rattle.gadget_tjoin.proofs.Reached.{IsOddAt, paired, paired-perfect, paired-weight}
-use Rattle.gadget_tjoin.proofs.Back.{AreOwn, own-join, own-weight}
+use Rattle.gadget_tjoin.proofs.Back.{AreOwn, own-join}
 
 pub odd_at-bit : (parity : Parity) (i : Network) (v : ℕ) → odd_at parity i v ≤ 1
 odd_at-bit Empty i v = omega arith

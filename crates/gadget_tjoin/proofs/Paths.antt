@@ -1,21 +1,20 @@
 -- A path is a join on its two ends.
-use Rattle.std.proofs.Common.{◌≡◌, ◌⊎◌, ℕ, ◌+◌, ◌-◌, ◌*◌, ◌%◌, ◌<◌, ◌≤◌, ℤ, pos, ◌*ℤ◌, ◌≤ℤ◌, eqb, refl, ap, sym, ◌∙◌, inl, inr, arith, List, length, slice_index, All}
+use Rattle.std.proofs.Common.{◌≡◌, ℕ, ◌+◌, ◌%◌, ◌≤◌, ℤ, pos, ◌*ℤ◌, ◌≤ℤ◌, eqb, ap, sym, ◌∙◌, inl, inr, arith, List, length}
 use Rattle.std.proofs.lemmas.Bool.{cases_eq}
 use Rattle.std.proofs.lemmas.Int.{ints}
 use Rattle.std.proofs.lemmas.List.{length-map}
-use Rattle.graph_theory.specs.Graph.{degree, weight, IsEdgeNumber}
-use Rattle.graph_theory.specs.Walk.{IsWalk, walk_end, walk_weight}
+use Rattle.graph_theory.specs.Graph.{weight}
+use Rattle.graph_theory.specs.Walk.{walk_end, walk_weight}
 use Rattle.graph_theory.proofs.Walks.{walk-numbers}
 use Rattle.mb_problem.specs.declared.kind.Kind.TheVariants.{Path}
-use Rattle.mb_problem.specs.declared.answer.Answer.{Answer}
 use Rattle.mb_problem.specs.declared.answer.Answer.TheVariants.{Counts, Walk, Nothing}
 use Rattle.mb_problem.specs.declared.answer.Parity.{Parity}
 use Rattle.mb_problem.specs.declared.answer.Parity.TheVariants.{Values}
 use Rattle.mb_problem.specs.Network.{Network, IsNetwork, vertices, graph_of, plain, value_of}
-use Rattle.mb_problem.specs.Feasible.{IsFeasible, IsPath, AreEnds}
+use Rattle.mb_problem.specs.Feasible.{IsPath, AreEnds}
 use Rattle.mb_problem.specs.Rooms.{odd_at}
 use Rattle.gadget_base.specs.Gadgets.{ports_graph}
-use Rattle.gadget_base.specs.Certified.{IsReached, ReachesAll}
+use Rattle.gadget_base.specs.Certified.{ReachesAll}
 use Rattle.gadget_base.specs.Listed.{times, times_each}
 use Rattle.gadget_base.proofs.Blocks.{All-tabled}
 use Rattle.gadget_base.proofs.Listed.{times_each-length, weight_of_list}

@@ -1,18 +1,18 @@
 -- The ports of an instance: where they stand, and which vertices an edge between ports meets.
-use Rattle.std.proofs.Common.{◌≡◌, ◌⊎◌, ℕ, zero, suc, ◌+◌, ◌-◌, ◌*◌, ◌%◌, ◌<◌, ◌≤◌, Bool, true, false, cond, ltb, eqb, refl, ap, sym, ◌∙◌, subst, inl, inr, arith, List, ◌++◌, length, get_or, slice_index, replicate, All}
-use Rattle.std.proofs.lemmas.Bool.{cases_eq, cases_lt, cases_order, cases_Bool, eq-eqb, ne_eqb}
+use Rattle.std.proofs.Common.{◌≡◌, ◌⊎◌, ℕ, suc, ◌+◌, ◌-◌, ◌*◌, ◌<◌, ◌≤◌, Bool, true, false, cond, eqb, refl, ap, sym, ◌∙◌, inl, inr, arith, List, length, slice_index, replicate, All}
+use Rattle.std.proofs.lemmas.Bool.{cases_eq, cases_lt, cases_order, eq-eqb, ne_eqb}
 use Rattle.std.proofs.lemmas.List.{get_or-replicate, length-map}
 use Rattle.std.proofs.lemmas.List.Elements.{All-map}
 use Rattle.graph_theory.specs.Sums.{sum_to}
 use Rattle.graph_theory.specs.declared.edge.Edge.{Edge}
 use Rattle.graph_theory.specs.Graph.{IsEdgeWithin, edge_at, ends_at, degree}
-use Rattle.graph_theory.proofs.SumLemmas.{sum_to-same, times-sum_to, sum_to-has}
+use Rattle.graph_theory.proofs.SumLemmas.{sum_to-same}
 use Rattle.graph_theory.proofs.Edges.{ends_at-u, ends_at-v}
 use Rattle.mb_problem.specs.Network.{Network, IsNetwork, vertices, graph_of, plain, instance_edge_at, no_instance_edge}
 use Rattle.mb_problem.specs.Size.{edge_count_at, port_count}
 use Rattle.mb_problem.proofs.EdgeLemmas.{edge_at-graph_of}
 use Rattle.gadget_base.specs.Gadgets.{ports_below, met_below, port_of, between_ports}
-use Rattle.gadget_base.proofs.BlockSums.{sum_to-none, sum_to-longer, IsIn, find_block}
+use Rattle.gadget_base.proofs.BlockSums.{sum_to-none, sum_to-longer, find_block}
 use Rattle.gadget_tjoin.proofs.OneTerm.{one_if, one_if-same, one_if-other, sum_to-only, group-before, group-once}
 use Rattle.gadget_tjoin.proofs.Ranks.{none_if_zero}
 use Rattle.gadget_tjoin.proofs.Cliques.{meets_group}

@@ -1,7 +1,6 @@
 -- The edges of the graph of ports: their ends are vertices and differ, and how many there are.
-use Rattle.std.proofs.Common.{◌≡◌, ℕ, ◌+◌, ◌-◌, ◌*◌, ◌/◌, ◌<◌, ◌≤◌, refl, ap, sym, ◌∙◌, arith, ◌++◌, length, All}
+use Rattle.std.proofs.Common.{◌≡◌, ℕ, ◌+◌, ◌-◌, ◌*◌, ◌/◌, ◌<◌, ◌≤◌, ap, ◌∙◌, arith, length, All}
 use Rattle.std.proofs.lemmas.List.Elements.{All-append}
-use Rattle.graph_theory.specs.Sums.{sum_to}
 use Rattle.graph_theory.specs.Graph.{IsEdgeWithin}
 use Rattle.graph_theory.proofs.SumLemmas.{sum_to-same}
 use Rattle.mb_problem.specs.Network.{Network, IsNetwork, vertices}
@@ -12,7 +11,7 @@ use Rattle.gadget_base.specs.Certified.{HasSize}
 use Rattle.gadget_base.proofs.Grown.{clique-length}
 use Rattle.gadget_base.proofs.Blocks.{blocks-length, All-tabled, All-blocks}
 use Rattle.gadget_tjoin.proofs.OneTerm.{group-before, group-once}
-use Rattle.gadget_tjoin.proofs.Cliques.{pair, all_clique}
+use Rattle.gadget_tjoin.proofs.Cliques.{all_clique}
 use Rattle.gadget_tjoin.proofs.Places.{here, within, met-room_u, met-room_v, group_size, before-is, groups-apart}
 use Rattle.gadget_tjoin.proofs.Reached.{links, cliques, edges-size}
 

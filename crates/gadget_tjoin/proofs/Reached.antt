@@ -1,27 +1,27 @@
 -- Each join has its perfect matching of the graph of ports: its edges between their ports, and the
 -- free ports of each vertex, of which there is an even number, in pairs.
-use Rattle.std.proofs.Common.{◌≡◌, ◌⊎◌, ℕ, zero, suc, ◌+◌, ◌-◌, ◌*◌, ◌%◌, ◌<◌, ◌≤◌, ℤ, pos, ◌*ℤ◌, Bool, true, false, cond, ltb, eqb, refl, ap, sym, ◌∙◌, subst, inl, inr, arith, List, ◌++◌, length, length-append, get_or, slice_index, All}
+use Rattle.std.proofs.Common.{◌≡◌, ℕ, ◌+◌, ◌-◌, ◌*◌, ◌%◌, ◌<◌, ◌≤◌, ℤ, pos, ◌*ℤ◌, ltb, eqb, refl, ap, sym, ◌∙◌, inl, inr, arith, List, ◌++◌, length, length-append, get_or, slice_index, All}
 use Rattle.std.proofs.lemmas.Int.{ints}
 use Rattle.std.proofs.lemmas.List.{get_or_append_left, get_or-append-add, length-map}
 use Rattle.std.proofs.lemmas.List.Elements.{All-append}
 use Rattle.graph_theory.specs.Sums.{sum_to, int_sum_to}
 use Rattle.graph_theory.specs.declared.edge.Edge.{Edge}
-use Rattle.graph_theory.specs.Graph.{Multigraph, no_edge, edge_at, touches, ends_at, degree, weight, IsPerfect}
-use Rattle.graph_theory.proofs.SumLemmas.{sum_to-same, sum_to-add, sum_to-swap, sum_to-append, sum_to-le, sum_to-one, times-sum_to, int_sum_to-same, int_sum_to-append}
+use Rattle.graph_theory.specs.Graph.{no_edge, edge_at, touches, ends_at, degree, weight, IsPerfect}
+use Rattle.graph_theory.proofs.SumLemmas.{sum_to-same, sum_to-add, sum_to-swap, sum_to-le, sum_to-one, times-sum_to, int_sum_to-same, int_sum_to-append}
 use Rattle.graph_theory.proofs.Edges.{ends_at-touches}
-use Rattle.mb_problem.specs.Network.{Network, IsNetwork, vertices, graph_of, plain, instance_edge_at}
-use Rattle.mb_problem.specs.Size.{edge_count_at, port_count}
+use Rattle.mb_problem.specs.Network.{Network, IsNetwork, vertices, graph_of, plain}
+use Rattle.mb_problem.specs.Size.{port_count}
 use Rattle.mb_problem.proofs.EdgeLemmas.{edge_at-graph_of}
 use Rattle.gadget_base.specs.Blocks.{blocks, tabled, row, clique}
-use Rattle.gadget_base.specs.Gadgets.{ports_below, met_below, between_ports, ports_graph}
+use Rattle.gadget_base.specs.Gadgets.{ports_below, between_ports, ports_graph}
 use Rattle.gadget_base.proofs.BlockSums.{int_sum_to-none}
 use Rattle.gadget_base.proofs.Blocks.{tabled-length, tabled-at, All-tabled, All-blocks}
 use Rattle.gadget_base.proofs.Over.{over, at_vertex, over-append, over-blocks, blocks-lengths}
 use Rattle.gadget_base.proofs.Degrees.{clique_table, clique-table, clique-none}
 use Rattle.gadget_tjoin.proofs.OneTerm.{one_if, one_if-small, sum_to-only}
-use Rattle.gadget_tjoin.proofs.Ranks.{zero_or_one, once_of_rank, partners, partners-swap, partners-small, partners-each, to_others}
-use Rattle.gadget_tjoin.proofs.Cliques.{clique-others, all_clique, meets_group}
-use Rattle.gadget_tjoin.proofs.Places.{here, within, degree-here, met-all, group_size, groups-before_or_after, group-of, link-at, link-meets}
+use Rattle.gadget_tjoin.proofs.Ranks.{zero_or_one, once_of_rank, partners, partners-swap, partners-small, partners-each}
+use Rattle.gadget_tjoin.proofs.Cliques.{clique-others, all_clique}
+use Rattle.gadget_tjoin.proofs.Places.{here, within, degree-here, group_size, groups-before_or_after, group-of, link-at, link-meets}
 
 -- the edges between ports, and the cliques
 abbrev pub links : Network → (ℕ → ℕ) → List Edge

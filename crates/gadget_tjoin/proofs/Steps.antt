@@ -1,8 +1,8 @@
 -- What the steps of the builder owe: sizes that fit, and the tables of the groups.
-use Rattle.std.proofs.Common.{◌≡◌, ℕ, ◌+◌, ◌-◌, ◌*◌, ◌/◌, ◌<◌, ◌≤◌, ◌^◌, ℤ, refl, ap, sym, ◌∙◌, arith, List, [], ◌∷◌, ◌++◌, length, slice_index}
+use Rattle.std.proofs.Common.{◌≡◌, ℕ, ◌+◌, ◌-◌, ◌*◌, ◌/◌, ◌<◌, ◌≤◌, ◌^◌, ℤ, ap, sym, ◌∙◌, arith, List, [], ◌∷◌, ◌++◌, length, slice_index}
 use Rattle.graph_theory.specs.Sums.{sum_to}
 use Rattle.graph_theory.specs.declared.edge.Edge.{Edge}
-use Rattle.graph_theory.specs.Graph.{Multigraph, IsEdgeWithin, ends_at}
+use Rattle.graph_theory.specs.Graph.{Multigraph, ends_at}
 use Rattle.graph_theory.proofs.SumLemmas.{sum_to-same, sum_to-more}
 use Rattle.mb_problem.specs.declared.instance.InstanceEdge.{InstanceEdge}
 use Rattle.mb_problem.specs.Network.{Network, IsNetwork, vertices, plain, instance_edge_at}
@@ -15,8 +15,8 @@ use Rattle.gadget_base.proofs.BlockSums.{sum_to-grows}
 use Rattle.gadget_base.proofs.Blocks.{tabled-length, tabled-more, blocks-length, blocks-same}
 use Rattle.gadget_base.proofs.Grown.{clique-length, grown-length}
 use Rattle.gadget_tjoin.specs.Groups.{AreGroups}
-use Rattle.gadget_tjoin.proofs.Places.{here, within, group_size, before-is, groups-apart, met-room_u, met-room_v}
-use Rattle.gadget_tjoin.proofs.PortEdges.{place-high, link-within}
+use Rattle.gadget_tjoin.proofs.Places.{here, within, group_size, before-is, groups-apart}
+use Rattle.gadget_tjoin.proofs.PortEdges.{link-within}
 
 sizes-sum : (i : Network) (odd : ℕ → ℕ) (sizes : List ℕ) (n : ℕ) → ((k : ℕ) → k < vertices i → slice_index sizes k ≡ port_count i odd (k + 1)) → n ≤ vertices i → sum_to (λ k. slice_index sizes k) n ≡ sum_to (group_size i odd) n
 sizes-sum i odd sizes n are b = sum_to-same (λ k. slice_index sizes k) (group_size i odd) n (λ k l. are k (omega arith))

@@ -1,29 +1,25 @@
 -- The edges that a tour uses an even number of times are a join on the vertices of odd degree, and that
 -- many edges more than once each weigh no less, where no edge weighs less than 0.
-use Rattle.std.proofs.Common.{◌≡◌, ℕ, ◌+◌, ◌-◌, ◌*◌, ◌/◌, ◌%◌, ◌<◌, ◌≤◌, ℤ, pos, ◌+ℤ◌, ◌-ℤ◌, ◌*ℤ◌, ◌≤ℤ◌, true, eqb, refl, ap, sym, ◌∙◌, arith, List, [], length, slice_index, replicate, All}
+use Rattle.std.proofs.Common.{◌≡◌, ℕ, ◌+◌, ◌-◌, ◌*◌, ◌/◌, ◌%◌, ◌<◌, ◌≤◌, ℤ, pos, ◌+ℤ◌, ◌-ℤ◌, ◌*ℤ◌, ◌≤ℤ◌, true, eqb, refl, ap, ◌∙◌, arith, List, [], length, slice_index, replicate, All}
 use Rattle.std.proofs.lemmas.Int.{ints}
 use Rattle.std.proofs.lemmas.List.{get_or-replicate, length-map}
-use Rattle.graph_theory.specs.Sums.{sum_to, int_sum_to}
+use Rattle.graph_theory.specs.Sums.{int_sum_to}
 use Rattle.graph_theory.specs.declared.edge.Edge.{Edge}
-use Rattle.graph_theory.specs.Graph.{Multigraph, edge_at, ends_at, degree, weight, IsEdgeNumber}
+use Rattle.graph_theory.specs.Graph.{edge_at, ends_at, weight, IsEdgeNumber}
 use Rattle.graph_theory.specs.Parts.{holds}
-use Rattle.graph_theory.specs.Walk.{IsWalk, walk_end, walk_weight, IsClosedWalk}
-use Rattle.graph_theory.proofs.SumLemmas.{sum_to-same, sum_to-add, sum_to-parity, int_sum_to-same, int_sum_to-add, int_sum_to-le, plus-times, times-le}
+use Rattle.graph_theory.specs.Walk.{walk_end, walk_weight, IsClosedWalk}
+use Rattle.graph_theory.proofs.SumLemmas.{sum_to-add, sum_to-parity, int_sum_to-add, int_sum_to-le, plus-times, times-le}
 use Rattle.graph_theory.proofs.Walks.{walk-numbers}
 use Rattle.mb_problem.specs.declared.kind.Kind.TheVariants.{Postman}
-use Rattle.mb_problem.specs.declared.answer.Answer.{Answer}
 use Rattle.mb_problem.specs.declared.answer.Answer.TheVariants.{Counts, Walk, Nothing}
 use Rattle.mb_problem.specs.declared.answer.Parity.{Parity}
 use Rattle.mb_problem.specs.declared.answer.Parity.TheVariants.{OddDegrees}
-use Rattle.mb_problem.specs.declared.instance.InstanceEdge.{InstanceEdge}
-use Rattle.mb_problem.specs.Network.{Network, IsNetwork, vertices, graph_of, plain, instance_edge_at, no_instance_edge}
-use Rattle.mb_problem.specs.Size.{edge_count_at}
-use Rattle.mb_problem.specs.Feasible.{IsFeasible, IsTour}
+use Rattle.mb_problem.specs.Network.{Network, IsNetwork, graph_of, plain, instance_edge_at, no_instance_edge}
 use Rattle.mb_problem.specs.Rooms.{odd_at}
 use Rattle.mb_problem.proofs.EdgeLemmas.{edge_at-graph_of}
 use Rattle.gadget_base.specs.Blocks.{tabled}
 use Rattle.gadget_base.specs.Gadgets.{ports_graph}
-use Rattle.gadget_base.specs.Certified.{IsReached, ReachesAll, total_weight}
+use Rattle.gadget_base.specs.Certified.{ReachesAll, total_weight}
 use Rattle.gadget_base.specs.Listed.{times, times_each}
 use Rattle.gadget_base.proofs.Blocks.{tabled-length, tabled-at, All-tabled}
 use Rattle.gadget_base.proofs.Listed.{times_each-at, times-weight}

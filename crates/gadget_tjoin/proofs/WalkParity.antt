@@ -1,15 +1,14 @@
 -- Walks and parity, in any graph: a walk is at its start and at its end an odd number of times where they
 -- differ, and else an even number; and a count that changes by an odd number turns the parity of the degrees
 -- at the two ends of its edge.
-use Rattle.std.proofs.Common.{◌≡◌, ◌≢◌, ℕ, suc, ◌+◌, ◌-◌, ◌*◌, ◌/◌, ◌%◌, ◌<◌, ◌≤◌, Bool, true, false, cond, eqb, ◌||◌, refl, ap, sym, ◌∙◌, subst, inl, inr, arith, List, [], ◌∷◌, length, slice_index, All, count_by}
+use Rattle.std.proofs.Common.{◌≡◌, ℕ, suc, ◌+◌, ◌*◌, ◌/◌, ◌%◌, ◌<◌, ◌≤◌, Bool, true, false, cond, eqb, ◌||◌, refl, ap, sym, ◌∙◌, subst, inl, inr, arith, List, [], ◌∷◌, length, slice_index, All, count_by}
 use Rattle.std.proofs.lemmas.Bool.{cases_eq, cases_Bool, eq-eqb, ne_eqb, eqb-true, or_cases, or_left, or_right, false≢true, true≢false, false_from_ne_true}
 use Rattle.std.proofs.lemmas.List.Sums.{sum_by-cons}
-use Rattle.graph_theory.specs.Sums.{sum_to}
 use Rattle.graph_theory.specs.declared.edge.Edge.{Edge}
-use Rattle.graph_theory.specs.Graph.{Multigraph, IsEdgeWithin, IsEdgeNumber, edge_at, edge_of, touches, other_end, ends_at, degree}
+use Rattle.graph_theory.specs.Graph.{Multigraph, IsEdgeWithin, edge_at, edge_of, touches, other_end, ends_at, degree}
 use Rattle.graph_theory.specs.Parts.{holds}
 use Rattle.graph_theory.specs.Walk.{IsWalk, walk_end, walk_vertices, AllDiffer}
-use Rattle.graph_theory.proofs.SumLemmas.{sum_to-same, sum_to-add, sum_to-parity}
+use Rattle.graph_theory.proofs.SumLemmas.{sum_to-add, sum_to-parity}
 use Rattle.graph_theory.proofs.Edges.{edge_of_within, ends_at-touches}
 use Rattle.graph_theory.proofs.Members.{holds_place}
 use Rattle.graph_theory.proofs.Walks.{walk-numbers}
@@ -17,7 +16,7 @@ use Rattle.gadget_base.specs.Listed.{times, times_each}
 use Rattle.gadget_base.proofs.BlockSums.{sum_to-hit}
 use Rattle.gadget_base.proofs.Listed.{times-cons, times_each-degree}
 use Rattle.gadget_tjoin.proofs.OneTerm.{one_if, one_if-same, one_if-other}
-use Rattle.gadget_tjoin.proofs.Times.{held, not_held}
+use Rattle.gadget_tjoin.proofs.Times.{not_held}
 
 -- an edge is at the end that a step leaves and at the one that it comes to
 pub ends_of_step : (n : ℕ) (e : Edge) (v x : ℕ) → IsEdgeWithin n e → touches e v ≡ true → ends_at e x ≡ one_if (eqb v x) + one_if (eqb (other_end e v) x)

@@ -1,8 +1,7 @@
 -- Joins for each of the three parities, and what the graph of ports says of them (Schrijver,
 -- Combinatorial Optimization, volume A, chapter 29).
-use Rattle.std.specs.Prelude.{◌≡◌, ℕ, ◌+◌, ◌%◌, ◌≤◌, ℤ, pos, ◌≤ℤ◌, List, length, All, if◌then◌else◌}
-use Rattle.std.specs.List.Sorted.{IsStrictlyIncreasing}
-use Rattle.graph_theory.specs.Graph.{Multigraph, IsEdgeNumber, weight, IsPerfect}
+use Rattle.std.specs.Prelude.{◌≡◌, ℕ, ◌+◌, ◌%◌, ℤ, pos, ◌≤ℤ◌, List, All, if◌then◌else◌}
+use Rattle.graph_theory.specs.Graph.{Multigraph, weight, IsPerfect}
 use Rattle.graph_theory.specs.Parts.{holds}
 use Rattle.mb_problem.specs.declared.answer.Parity.{Parity}
 use Rattle.mb_problem.specs.declared.instance.InstanceEdge.{InstanceEdge}

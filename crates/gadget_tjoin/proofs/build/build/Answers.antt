@@ -1,4 +1,4 @@
-use Rattle.std.proofs.Common.{◌≡◌, ℕ, ◌<◌, ◌^◌, sym, subst, List, length, slice_index}
+use Rattle.std.proofs.Common.{ℕ, ◌<◌, ◌^◌, sym, subst, List, length, slice_index}
 use Rattle.graph_theory.specs.Sums.{sum_to}
 use Rattle.mb_problem.specs.Rooms.{odd_at}
 use Rattle.gadget_base.specs.Starts.{AreStarts}

@@ -1,10 +1,8 @@
-use Rattle.std.proofs.Common.{rules, ◌≡◌, ℕ, ◌+◌, ◌<◌, ap, sym, ◌∙◌, arith, List, ◌++◌, length, slice_index}
-use Rattle.graph_theory.specs.declared.edge.Edge.{Edge}
+use Rattle.std.proofs.Common.{rules, ◌≡◌, ◌+◌, ap, ◌∙◌, arith, length}
 use Rattle.graph_theory.specs.Graph.{Multigraph}
 use Rattle.mb_problem.specs.Network.{vertices}
 use Rattle.mb_problem.specs.Rooms.{odd_at}
-use Rattle.gadget_base.specs.Blocks.{blocks, clique, tabled}
-use Rattle.gadget_base.specs.Gadgets.{ports_below, between_ports}
+use Rattle.gadget_base.specs.Gadgets.{ports_below}
 use Rattle.gadget_tjoin.proofs.Steps.{groups-inside, groups-room, links-fit, filled-graph}
 use Rattle.gadget_tjoin.proofs.build.fill.Goals as goal
 

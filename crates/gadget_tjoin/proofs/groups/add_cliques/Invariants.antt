@@ -1,4 +1,4 @@
-use Rattle.std.proofs.Common.{◌≡◌, ℕ, ◌++◌, slice_index}
+use Rattle.std.proofs.Common.{◌≡◌, ◌++◌, slice_index}
 use Rattle.gadget_base.specs.Blocks.{blocks, clique}
 use Rattle.gadget_tjoin.proofs.groups.add_cliques.Given as goal
 

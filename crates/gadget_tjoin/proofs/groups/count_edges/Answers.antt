@@ -1,5 +1,4 @@
-use Rattle.std.proofs.Common.{rules, ◌≡◌, ◌+◌, ap, ◌∙◌}
-use Rattle.std.proofs.lemmas.Grind.{common_steps}
+use Rattle.std.proofs.Common.{rules, ◌+◌, ap, ◌∙◌}
 use Rattle.gadget_base.specs.Gadgets.{met_below}
 use Rattle.gadget_tjoin.proofs.Places.{met-all}
 use Rattle.gadget_tjoin.proofs.groups.count_edges.Goals as goal

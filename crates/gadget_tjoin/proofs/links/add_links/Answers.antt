@@ -1,13 +1,10 @@
-use Rattle.std.proofs.Common.{rules, ◌≡◌, ℕ, ◌+◌, ◌-◌, ◌<◌, ◌≤◌, ap, sym, ◌∙◌, subst, arith, List, [], ◌∷◌, ◌++◌, length, slice_index, slice_index_or, to_z, of_z, w64, ℤ}
+use Rattle.std.proofs.Common.{rules, ◌≡◌, ℕ, ◌+◌, ◌<◌, ap, sym, ◌∙◌, subst, arith, List, length, slice_index, slice_index_or, to_z, of_z, w64}
 use Rattle.std.proofs.lemmas.List.{get_or_read}
-use Rattle.graph_theory.specs.declared.edge.Edge.{Edge}
 use Rattle.graph_theory.specs.Graph.{Multigraph, IsEdgeWithin}
 use Rattle.mb_problem.specs.declared.instance.InstanceEdge.{InstanceEdge}
-use Rattle.mb_problem.specs.Network.{Network, IsNetwork, vertices, instance_edge_at, no_instance_edge}
-use Rattle.mb_problem.specs.Size.{ports_size}
+use Rattle.mb_problem.specs.Network.{Network, vertices, instance_edge_at, no_instance_edge}
 use Rattle.mb_problem.specs.Rooms.{odd_at}
-use Rattle.gadget_base.specs.Gadgets.{ports_below, met_below, between_ports}
-use Rattle.gadget_base.specs.Certified.{IsWithinLimits}
+use Rattle.gadget_base.specs.Gadgets.{ports_below, between_ports}
 use Rattle.gadget_tjoin.proofs.PortEdges.{link-within}
 use Rattle.gadget_tjoin.proofs.Steps.{next-ports, link-ends, links-fit, added-link, grown-link, next-step}
 use Rattle.gadget_tjoin.proofs.links.add_links.Goals as goal
