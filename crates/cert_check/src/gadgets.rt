@@ -2,9 +2,12 @@ ghost use Rattle.std.specs.Prelude.{◌≡◌, ◌≤◌, pos, ◌≤ℤ◌, All
 ghost use Rattle.mb_problem.specs.Size.{size_of};
 ghost use Rattle.gadget_base.specs.Certified.{gadget_graph, IsWithinLimits, ReachesAll};
 
+use gadget_cap::capped;
+use gadget_match::{copies, double};
+use gadget_tjoin::ports;
 use mb_base::OutOfMemory;
-use mb_problem::{Instance, Kind, gadget_size};
-use std::alloc::{AllocError, Global};
+use mb_problem::{Instance, Kind, Parity, gadget_size};
+use std::alloc::Global;
 use weighted_graph::Graph;
 
 /// How many vertices the graph has that the certificates of a kind speak of.
@@ -27,9 +30,14 @@ pub fn certified(alloc: Global, instance: &Instance, kind: Kind) -> Result<Graph
     ensures graph { IfOk result (λ h. h ≡ gadget_graph kind instance.now) }
     ensures reached { IfOk result (λ h. ReachesAll kind instance.now) }
 {
-    let _ = alloc;
     match kind {
         Kind::Perfect => instance.graph(),
-        _ => Err(AllocError),
+        Kind::Match => double(alloc, instance),
+        Kind::BMatch => copies(alloc, instance),
+        Kind::CapMatch => capped(alloc, instance, false),
+        Kind::FFactor => capped(alloc, instance, true),
+        Kind::TJoin => ports(alloc, instance, &Parity::Values),
+        Kind::Postman => ports(alloc, instance, &Parity::OddDegrees),
+        Kind::Path => ports(alloc, instance, &Parity::Values),
     }
 }

@@ -1,6 +1,6 @@
 //! The judge of documents: whether one proves what it states of an instance.
-//! It stands on `mb_problem`, `gadget_base`, `doc_format` and `dual_check`. It promises that the verdict names the first
-//! rule that a document breaks, that an accepted one proves what it states, and that this is true.
+//! It stands on `mb_problem`, the gadget crates, `doc_format` and `dual_check`. It promises that the verdict names
+//! the first rule that a document breaks, that an accepted one proves what it states, and that this is true.
 #![tactic(auto)]
 
 mod circuit;
