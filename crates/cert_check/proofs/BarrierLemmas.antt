@@ -1,10 +1,10 @@
 -- Barriers of documents, and what stands in documents that state no answer.
-use Rattle.std.proofs.Common.{◌≡◌, ℕ, ◌+◌, ◌<◌, ℤ, pos, ◌<ℤ◌, ◌≤ℤ◌, Bool, true, false, List, [], ◌∷◌, ◌++◌, length, map, All, get_or, nat_abs, refl, sym, ◌∙◌, arith}
+use Rattle.std.proofs.Common.{◌≡◌, ℕ, ◌+◌, ◌<◌, ◌≤◌, ℤ, pos, ◌<ℤ◌, ◌≤ℤ◌, Bool, true, false, List, [], ◌∷◌, ◌++◌, length, map, All, get_or, nat_abs, refl, sym, ◌∙◌, arith}
 use Rattle.std.specs.List.{list_all}
 use Rattle.std.specs.List.Sorted.{IsStrictlyIncreasing}
 use Rattle.std.proofs.lemmas.Int.{ints}
 use Rattle.std.proofs.lemmas.List.{get_or-map, length-map}
-use Rattle.std.proofs.lemmas.List.Elements.{All-nil, All-get_or}
+use Rattle.std.proofs.lemmas.List.Elements.{All-nil, All-get_or, All-weaker}
 use Rattle.std.proofs.lemmas.List.Folds.{list_all-append}
 use Rattle.graph_theory.specs.Duals.{HasForm}
 use Rattle.graph_theory.specs.Parts.{IsVertexSet}
@@ -59,3 +59,7 @@ forms-where_none status kind b letters other =
     let after_duals = rest p (map Dual b.duals) _ after_walk.1 in
     let sets = rest p (map Set b.sets) _ after_duals.1 in
     no_sets p (λ z. no_set status kind z other) b.sets sets.0
+
+-- numbers up to n are numbers up to a greater one
+pub up_to-more : (n m : ℕ) (zs : List ℤ) → n ≤ m → All (IsUpTo n) zs → All (IsUpTo m) zs
+up_to-more n m zs more within = All-weaker (IsUpTo n) (IsUpTo m) (λ z h. (let low : pos 1 ≤ℤ z = h.low in let high : z ≤ℤ pos n = h.high in record { low = low; high = omega (arith, ints) })) zs within

@@ -8,7 +8,8 @@ use Rattle.graph_theory.specs.declared.odd_set.OddSet.{OddSet}
 use Rattle.graph_theory.specs.Graph.{Multigraph, edge_of, no_edge}
 use Rattle.graph_theory.specs.Duals.{IsNumber, IsSetWithin, HasForm, slack, set_at, no_set}
 use Rattle.mb_problem.specs.declared.kind.Kind.{Kind}
-use Rattle.mb_problem.specs.Network.{Network, vertices}
+use Rattle.mb_problem.specs.Network.{Network}
+use Rattle.gadget_base.specs.Certified.{gadget_graph}
 use Rattle.doc_format.specs.declared.document.Document.{Document}
 use Rattle.doc_format.specs.declared.part.DualLine.{DualLine}
 use Rattle.doc_format.specs.declared.part.SetLine.{SetLine}
@@ -33,23 +34,23 @@ within_at : (n : ℕ) (ys : List DualLine) → All (IsDualWithin n) ys → (k : 
 within_at n ys within k below = subst (IsUpTo n) (sym (vertex_at ys k below)) (All-get_or (IsDualWithin n) ys k no_dual below within).0
 
 -- as many y lines as vertices: each vertex has one
-pub has_duals : (kind : Kind) (i : Network) (d : Document) → AscendsBy (λ y. y.vertex) d.duals → AreWithin kind i d → length d.duals ≡ vertices i → HasDuals kind i d
+pub has_duals : (kind : Kind) (i : Network) (d : Document) → AscendsBy (λ y. y.vertex) d.duals → AreWithin kind i d → length d.duals ≡ (gadget_graph kind i).vertices → HasDuals kind i d
 has_duals kind i d ascending within size v low high =
     let zs = map (λ (y : DualLine). y.vertex) d.duals in
     let long : length zs ≡ length d.duals = length-map d.duals (λ (y : DualLine). y.vertex) in
-    let inside = within_at (vertices i) d.duals within.duals in
-    let place : v - 1 < vertices i = omega arith in
-    let is = at_place zs (vertices i) ascending (λ k below. (inside k (omega arith)).low) (λ k below. (inside k (omega arith)).high) (long ∙ size) (v - 1) place in
+    let inside = within_at (gadget_graph kind i).vertices d.duals within.duals in
+    let place : v - 1 < (gadget_graph kind i).vertices = omega arith in
+    let is = at_place zs (gadget_graph kind i).vertices ascending (λ k below. (inside k (omega arith)).low) (λ k below. (inside k (omega arith)).high) (long ∙ size) (v - 1) place in
     let number : v - 1 + 1 ≡ v = omega arith in
     (v - 1, (omega arith), is ∙ ap (λ (k : ℕ). pos k) number)
 
 -- and only then
-pub duals_size : (kind : Kind) (i : Network) (d : Document) → AscendsBy (λ y. y.vertex) d.duals → AreWithin kind i d → HasDuals kind i d → length d.duals ≡ vertices i
+pub duals_size : (kind : Kind) (i : Network) (d : Document) → AscendsBy (λ y. y.vertex) d.duals → AreWithin kind i d → HasDuals kind i d → length d.duals ≡ (gadget_graph kind i).vertices
 duals_size kind i d ascending within have =
     let zs = map (λ (y : DualLine). y.vertex) d.duals in
     let long : length zs ≡ length d.duals = length-map d.duals (λ (y : DualLine). y.vertex) in
-    let inside = within_at (vertices i) d.duals within.duals in
-    let all = as_many zs (vertices i) ascending (λ k below. (inside k (omega arith)).low) (λ k below. (inside k (omega arith)).high)
+    let inside = within_at (gadget_graph kind i).vertices d.duals within.duals in
+    let all = as_many zs (gadget_graph kind i).vertices ascending (λ k below. (inside k (omega arith)).low) (λ k below. (inside k (omega arith)).high)
     (λ v low high. (let one : HasDual d v = have v low high in (one.0, (let below : one.0 < length d.duals = one.1 in omega arith), one.2))) in
     sym long ∙ all
 

@@ -6,4 +6,7 @@ pub mod RuleLemmas
 pub mod DualLemmas
 pub mod BarrierLemmas
 pub mod VerdictLemmas
+pub mod PartLemmas
+pub mod PartTruths
+pub mod GadgetLemmas
 pub mod TruthLemmas

@@ -4,11 +4,11 @@ use Rattle.std.proofs.Math.Decide.{dec_lt}
 use Rattle.mb_problem.specs.declared.kind.Kind.{Kind}
 use Rattle.mb_problem.specs.Network.{Network}
 use Rattle.doc_format.specs.declared.document.Document.{Document}
-use Rattle.doc_format.specs.declared.status.DocStatus.TheVariants.{Optimal, Infeasible}
+use Rattle.doc_format.specs.declared.status.DocStatus.TheVariants.{Optimal, Infeasible, NonConservative}
 use Rattle.cert_check.specs.declared.rule.DocRule.{DocRule}
 use Rattle.cert_check.specs.declared.rule.DocRule.TheVariants.{DocForm, KindDiffers, DocRange, NotFeasible, WeightDiffers, DualMissing, SetForm, Slack, ValueDiffers, NotBarrier, NotClosed, NotCircuit}
 use Rattle.cert_check.specs.Ranges.{first_out_of_range}
-use Rattle.cert_check.specs.Certificates.{HaveForm}
+use Rattle.cert_check.specs.Certificates.{HaveForm, HasValue}
 use Rattle.cert_check.specs.Verdicts.{Keeps, KeepsBefore, rank}
 
 rule_at : ℕ → DocRule
@@ -74,3 +74,26 @@ infeasible-before kind i d same in_range forms status ValueDiffers low = λ (oth
 infeasible-before kind i d same in_range forms status NotBarrier low = absurd (omega arith)
 infeasible-before kind i d same in_range forms status NotClosed low = absurd (omega arith)
 infeasible-before kind i d same in_range forms status NotCircuit low = absurd (omega arith)
+
+-- a document of the kind in range that states that some circuit weighs less than 0: all rules before the circuit's are kept
+pub circuit-before : (kind : Kind) (i : Network) (d : Document) → d.kind ≡ kind → first_out_of_range kind i d ≡ None → HaveForm d → d.status ≡ NonConservative → KeepsBefore kind i d NotCircuit
+circuit-before kind i d same in_range forms status DocForm low = tt
+circuit-before kind i d same in_range forms status KindDiffers low = same
+circuit-before kind i d same in_range forms status DocRange low = in_range
+circuit-before kind i d same in_range forms status NotFeasible low = λ (other : d.status ≡ Optimal). absurd (cc)
+circuit-before kind i d same in_range forms status WeightDiffers low = λ (other : d.status ≡ Optimal). absurd (cc)
+circuit-before kind i d same in_range forms status DualMissing low = λ (other : d.status ≡ Optimal). absurd (cc)
+circuit-before kind i d same in_range forms status SetForm low = forms
+circuit-before kind i d same in_range forms status Slack low = λ (other : d.status ≡ Optimal). absurd (cc)
+circuit-before kind i d same in_range forms status ValueDiffers low = λ (other : d.status ≡ Optimal). absurd (cc)
+circuit-before kind i d same in_range forms status NotBarrier low = λ (other : d.status ≡ Infeasible). absurd (cc)
+circuit-before kind i d same in_range forms status NotClosed low = λ (other : d.status ≡ Infeasible). absurd (cc)
+circuit-before kind i d same in_range forms status NotCircuit low = absurd (omega arith)
+
+-- a document that states a best answer and has the value that it needs: all rules are kept
+pub optimal-all : (kind : Kind) (i : Network) (d : Document) → d.status ≡ Optimal → KeepsBefore kind i d ValueDiffers → HasValue kind i d → (rule : DocRule) → Keeps kind i d rule
+optimal-all kind i d status before value =
+    let to_barrier = keeps-next kind i d ValueDiffers NotBarrier refl before (λ _. value) in
+    let to_part = keeps-next kind i d NotBarrier NotClosed refl to_barrier (λ (other : d.status ≡ Infeasible). absurd (cc)) in
+    let to_circuit = keeps-next kind i d NotClosed NotCircuit refl to_part (λ (other : d.status ≡ Infeasible). absurd (cc)) in
+    keeps-all kind i d to_circuit (λ (other : d.status ≡ NonConservative). absurd (cc))

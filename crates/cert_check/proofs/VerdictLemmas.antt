@@ -4,7 +4,8 @@ use Rattle.std.proofs.lemmas.List.{length-map}
 use Rattle.std.proofs.lemmas.List.Elements.{All-get_or}
 use Rattle.graph_theory.specs.Duals.{HasForm, AreDuals}
 use Rattle.mb_problem.specs.declared.kind.Kind.{Kind}
-use Rattle.mb_problem.specs.Network.{Network, vertices}
+use Rattle.mb_problem.specs.Network.{Network}
+use Rattle.gadget_base.specs.Certified.{gadget_graph}
 use Rattle.doc_format.specs.declared.document.Document.{Document}
 use Rattle.doc_format.specs.declared.status.DocStatus.{DocStatus}
 use Rattle.doc_format.specs.declared.status.DocStatus.TheVariants.{Optimal, Infeasible, NonConservative}
@@ -58,7 +59,7 @@ proves-by kind i d formed keeps Optimal is =
     let within = are-within kind i d (keeps DocRange) in
     let duals : AreDuals _ (duals_of d) (sets_of d) = record {
       one_each = length-map d.duals (λ (y : DualLine). y.dual) ∙ duals_size kind i d formed.vertices_ascend within (keeps DualMissing is);
-      sets_within = sets-within (vertices i) d.sets within.sets;
+      sets_within = sets-within (gadget_graph kind i).vertices d.sets within.sets;
       forms = lines-forms d (keeps SetForm);
       slacks = keeps Slack is;
     } in

@@ -1,5 +1,5 @@
 -- Where no line is at fault every number is in its range.
-use Rattle.std.proofs.Common.{◌≡◌, ℕ, ℤ, pos, neg_ℤ, ◌≤ℤ◌, Bool, true, false, not, cond, List, [], ◌∷◌, ◌++◌, length, map, All, Option, None, Some, IfSome, MatchOption, refl, sym, ◌∙◌, arith}
+use Rattle.std.proofs.Common.{◌≡◌, ℕ, ℤ, pos, neg_ℤ, ◌≤ℤ◌, Bool, true, false, not, cond, ◌&&◌, List, [], ◌∷◌, ◌++◌, length, map, All, Option, None, Some, IfSome, MatchOption, refl, sym, ◌∙◌, arith}
 use Rattle.std.specs.Prelude.{int_le, ⊤}
 use Rattle.std.specs.Option.{option_map, option_or}
 use Rattle.std.specs.List.{list_all, find}
@@ -8,13 +8,15 @@ use Rattle.std.proofs.lemmas.List.Elements.{All-nil, All-cons, All-weaker}
 use Rattle.graph_theory.specs.Duals.{IsNumber}
 use Rattle.mb_problem.specs.declared.kind.Kind.{Kind}
 use Rattle.mb_problem.specs.Network.{Network, vertices}
+use Rattle.gadget_base.specs.Certified.{gadget_graph}
 use Rattle.doc_format.specs.declared.document.Document.{Document}
 use Rattle.doc_format.specs.declared.part.CountLine.{CountLine}
+use Rattle.doc_format.specs.declared.part.WalkLine.{WalkLine}
 use Rattle.doc_format.specs.declared.part.DualLine.{DualLine}
 use Rattle.doc_format.specs.declared.part.SetLine.{SetLine}
 use Rattle.doc_format.specs.declared.part.MemberLine.{MemberLine}
 use Rattle.cert_check.specs.Ranges.{Checked, first_fault, first_out_of_range, is_between, is_up_to, is_dual, checked_count, checked_walk, checked_dual, checked_set, checked_members, listed}
-use Rattle.cert_check.specs.Within.{IsUpTo, IsCountWithin, IsDualWithin, IsSetLineWithin, AreWithin}
+use Rattle.cert_check.specs.Within.{IsUpTo, IsCountWithin, IsWalkWithin, IsDualWithin, IsSetLineWithin, AreWithin}
 use Rattle.cert_check.proofs.RangeLemmas.{first_fault-append}
 use Rattle.cert_check.proofs.AscentLemmas.{both}
 
@@ -67,22 +69,34 @@ member_line_within : (n : ℕ) (line : Option MemberLine) → first_fault (map (
 member_line_within n None h = tt
 member_line_within n (Some u) h = all_up_to n u.members (one_in_range (list_all (is_up_to n) u.members) (checked_members n u) None h).0
 
+walk_line_within : (n m : ℕ) (line : Option WalkLine) → first_fault (map (checked_walk n m) (listed line)) ≡ None → IfSome line (IsWalkWithin n m)
+walk_line_within n m None h = tt
+walk_line_within n m (Some w) h =
+    let in_range = (one_in_range (is_up_to n w.start && list_all (is_up_to m) w.edges) (checked_walk n m w) None h).0 in
+    let parts = both (is_up_to n w.start) (list_all (is_up_to m) w.edges) in_range in
+    (up_to n w.start parts.0, all_up_to m w.edges parts.1)
+
 pub are-within : (kind : Kind) (i : Network) (d : Document) → first_out_of_range kind i d ≡ None → AreWithin kind i d
 are-within kind i d h =
     let n = vertices i in
     let m = length i.edges in
+    let p = (gadget_graph kind i).vertices in
     let head = one_in_range (is_dual d.weight) (record { line = d.line; in_range = is_dual d.weight }) _ h in
     let counts = none-append (map (checked_count m) d.counts) _ head.1 in
     let walk = none-append (map (checked_walk n m) (listed d.walk)) _ counts.1 in
-    let duals = none-append (map (checked_dual n) d.duals) _ walk.1 in
-    let sets = none-append (map (checked_set n) d.sets) _ duals.1 in
-    let barrier = none-append (map (checked_members n) (listed d.barrier)) _ sets.1 in
+    let duals = none-append (map (checked_dual p) d.duals) _ walk.1 in
+    let sets = none-append (map (checked_set p) d.sets) _ duals.1 in
+    let barrier = none-append (map (checked_members p) (listed d.barrier)) _ sets.1 in
+    let odd = none-append (map (checked_members n) (listed d.odd)) _ barrier.1 in
     record {
       weight = number d.weight head.0;
       counts = All-weaker (λ x. (checked_count m x).in_range ≡ true) (IsCountWithin m) (count_within m) d.counts (all_in_range (checked_count m) d.counts counts.0);
-      duals = All-weaker (λ y. (checked_dual n y).in_range ≡ true) (IsDualWithin n) (dual_within n) d.duals (all_in_range (checked_dual n) d.duals duals.0);
-      sets = All-weaker (λ z. (checked_set n z).in_range ≡ true) (IsSetLineWithin n) (set_within n) d.sets (all_in_range (checked_set n) d.sets sets.0);
-      barrier = member_line_within n d.barrier barrier.0;
+      walk = walk_line_within n m d.walk walk.0;
+      duals = All-weaker (λ y. (checked_dual p y).in_range ≡ true) (IsDualWithin p) (dual_within p) d.duals (all_in_range (checked_dual p) d.duals duals.0);
+      sets = All-weaker (λ z. (checked_set p z).in_range ≡ true) (IsSetLineWithin p) (set_within p) d.sets (all_in_range (checked_set p) d.sets sets.0);
+      barrier = member_line_within p d.barrier barrier.0;
+      odd = member_line_within n d.odd odd.0;
+      split = member_line_within n d.split odd.1;
     }
 
 pub within-where_none : (kind : Kind) (i : Network) (d : Document) (r : Option ℕ) → r ≡ first_out_of_range kind i d → MatchOption r (AreWithin kind i d) (λ line. ⊤)

@@ -8,8 +8,9 @@ use Rattle.mb_problem.specs.declared.kind.Kind.{Kind}
 use Rattle.mb_problem.specs.declared.kind.Kind.TheVariants.{TJoin, Postman, Path}
 use Rattle.mb_problem.specs.Network.{Network, graph_of, value_of}
 use Rattle.mb_problem.specs.Feasible.{IsFeasible, weight_of}
+use Rattle.gadget_base.specs.Certified.{gadget_graph, value_for}
 use Rattle.doc_format.specs.declared.document.Document.{Document}
-use Rattle.cert_check.specs.Claims.{answer_of, duals_of, HasDual, sets_of, numbers, certified_graph, value_for}
+use Rattle.cert_check.specs.Claims.{answer_of, duals_of, HasDual, sets_of, numbers}
 
 abbrev pub HasFeasibleAnswer : Kind → Network → Document → Type 0
 HasFeasibleAnswer kind i d = IsFeasible kind i (answer_of kind i d)
@@ -17,25 +18,25 @@ HasFeasibleAnswer kind i d = IsFeasible kind i (answer_of kind i d)
 abbrev pub HasStatedWeight : Kind → Network → Document → Type 0
 HasStatedWeight kind i d = weight_of i (answer_of kind i d) ≡ d.weight
 
--- every vertex of the certified graph has a y line
+-- every vertex of the graph of certificates has a y line
 abbrev pub HasDuals : Kind → Network → Document → Type 0
-HasDuals kind i d = (v : ℕ) → 1 ≤ v → v ≤ (certified_graph kind i).vertices → HasDual d v
+HasDuals kind i d = (v : ℕ) → 1 ≤ v → v ≤ (gadget_graph kind i).vertices → HasDual d v
 
 -- every z line has at least three members, an odd number of them, ascending
 abbrev pub HaveForm : Document → Type 0
 HaveForm d = All (λ z. HasForm (numbers z.members)) d.sets
 
--- no edge of the certified graph has a slack below 0
+-- no edge of the graph of certificates has a slack below 0
 abbrev pub HaveSlack : Kind → Network → Document → Type 0
-HaveSlack kind i d = All (λ e. pos 0 ≤ℤ slack (duals_of d) (sets_of d) e) (certified_graph kind i).edges
+HaveSlack kind i d = All (λ e. pos 0 ≤ℤ slack (duals_of d) (sets_of d) e) (gadget_graph kind i).edges
 
 -- the value of the duals is the one that the stated weight asks for
 abbrev pub HasValue : Kind → Network → Document → Type 0
 HasValue kind i d = dual_value (duals_of d) (sets_of d) ≡ value_for kind i d.weight
 
--- there is a u line, and its set is a barrier of the certified graph
+-- there is a u line, and its set is a barrier of the graph of certificates
 abbrev pub HasBarrier : Kind → Network → Document → Type 0
-HasBarrier kind i d = MatchOption d.barrier ⊥ (λ u. IsBarrier (certified_graph kind i) (numbers u.members))
+HasBarrier kind i d = MatchOption d.barrier ⊥ (λ u. IsBarrier (gadget_graph kind i) (numbers u.members))
 
 -- there is a t line, and its set is an odd part
 abbrev pub HasOddPart : Network → Document → Type 0

@@ -1,14 +1,13 @@
 -- What a document claims: an answer, duals on vertices and on odd sets, or a set of vertices.
-use Rattle.std.specs.Prelude.{◌≡◌, ℕ, ◌<◌, ℤ, pos, ◌*ℤ◌, nat_abs, List, [], ◌∷◌, length, map, slice_index_or, if◌then◌else◌, Option, None, Some}
+use Rattle.std.specs.Prelude.{◌≡◌, ℕ, ◌<◌, ℤ, pos, nat_abs, List, [], ◌∷◌, length, map, slice_index_or, if◌then◌else◌, Option, None, Some}
 use Rattle.std.specs.Ordering.{int_eq}
 use Rattle.std.specs.List.{range_with_len}
 use Rattle.graph_theory.specs.declared.odd_set.OddSet.{OddSet}
-use Rattle.graph_theory.specs.Graph.{Multigraph}
 use Rattle.mb_problem.specs.declared.kind.Kind.{Kind}
 use Rattle.mb_problem.specs.declared.kind.Kind.TheVariants.{Postman, Path}
 use Rattle.mb_problem.specs.declared.answer.Answer.{Answer}
 use Rattle.mb_problem.specs.declared.answer.Answer.TheVariants.{Counts, Walk, Nothing}
-use Rattle.mb_problem.specs.Network.{Network, graph_of}
+use Rattle.mb_problem.specs.Network.{Network}
 use Rattle.doc_format.specs.declared.document.Document.{Document}
 use Rattle.doc_format.specs.declared.part.CountLine.{CountLine}
 use Rattle.doc_format.specs.declared.part.SetLine.{SetLine}
@@ -51,11 +50,3 @@ set_of z = record { dual = z.dual; members = numbers z.members }
 
 abbrev pub sets_of : Document → List OddSet
 sets_of d = map set_of d.sets
-
--- the graph that a document's duals and barriers speak of
-abbrev pub certified_graph : Kind → Network → Multigraph
-certified_graph kind i = graph_of i
-
--- the value that the duals of an optimal document of weight w have
-abbrev pub value_for : Kind → Network → ℤ → ℤ
-value_for kind i w = pos 2 *ℤ w

@@ -4,3 +4,5 @@ pub mod Within
 pub mod Certificates
 pub mod Verdicts
 pub mod Proved
+pub mod Excluded
+pub mod Marked

@@ -6,10 +6,11 @@ use Rattle.mb_problem.specs.declared.kind.Kind.{Kind}
 use Rattle.mb_problem.specs.declared.answer.Answer.{Answer}
 use Rattle.mb_problem.specs.Network.{Network, graph_of}
 use Rattle.mb_problem.specs.Feasible.{IsFeasible, IsBest, weight_of}
+use Rattle.gadget_base.specs.Certified.{gadget_graph}
 use Rattle.doc_format.specs.declared.document.Document.{Document}
 use Rattle.doc_format.specs.declared.status.DocStatus.{DocStatus}
 use Rattle.doc_format.specs.declared.status.DocStatus.TheVariants.{Optimal, Infeasible, NonConservative}
-use Rattle.cert_check.specs.Claims.{answer_of, duals_of, sets_of, certified_graph}
+use Rattle.cert_check.specs.Claims.{answer_of, duals_of, sets_of}
 use Rattle.cert_check.specs.Ranges.{first_out_of_range}
 use Rattle.cert_check.specs.Certificates.{HasFeasibleAnswer, HasStatedWeight, HasValue, HasWantedBarrier, HasWantedPart, HasNegativeCircuit}
 
@@ -17,7 +18,7 @@ use Rattle.cert_check.specs.Certificates.{HasFeasibleAnswer, HasStatedWeight, Ha
 pub record ProvesOptimal (kind : Kind) (i : Network) (d : Document) : Type 0 where
   pub feasible : HasFeasibleAnswer kind i d
   pub weighs : HasStatedWeight kind i d
-  pub duals : AreDuals (certified_graph kind i) (duals_of d) (sets_of d)
+  pub duals : AreDuals (gadget_graph kind i) (duals_of d) (sets_of d)
   pub value : HasValue kind i d
 
 abbrev pub ProvesByStatus : DocStatus → Kind → Network → Document → Type 0

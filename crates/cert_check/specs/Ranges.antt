@@ -4,13 +4,13 @@ use Rattle.std.specs.List.{list_all, find}
 use Rattle.std.specs.Option.{option_map}
 use Rattle.mb_problem.specs.declared.kind.Kind.{Kind}
 use Rattle.mb_problem.specs.Network.{Network, vertices}
+use Rattle.gadget_base.specs.Certified.{gadget_graph}
 use Rattle.doc_format.specs.declared.document.Document.{Document}
 use Rattle.doc_format.specs.declared.part.CountLine.{CountLine}
 use Rattle.doc_format.specs.declared.part.WalkLine.{WalkLine}
 use Rattle.doc_format.specs.declared.part.DualLine.{DualLine}
 use Rattle.doc_format.specs.declared.part.SetLine.{SetLine}
 use Rattle.doc_format.specs.declared.part.MemberLine.{MemberLine}
-use Rattle.cert_check.specs.Claims.{certified_graph}
 
 -- low to high, both included
 abbrev pub is_between : ℤ → ℤ → ℤ → Bool
@@ -36,11 +36,11 @@ checked_count m x = record { line = x.line; in_range = is_up_to m x.edge && is_u
 abbrev pub checked_walk : ℕ → ℕ → WalkLine → Checked
 checked_walk n m w = record { line = w.line; in_range = is_up_to n w.start && list_all (is_up_to m) w.edges }
 
--- y: a vertex of the certified graph and a dual
+-- y: a vertex of the graph of certificates and a dual
 abbrev pub checked_dual : ℕ → DualLine → Checked
 checked_dual n y = record { line = y.line; in_range = is_up_to n y.vertex && is_dual y.dual }
 
--- z: a dual of at least 1, and vertices of the certified graph
+-- z: a dual of at least 1, and vertices of the graph of certificates
 abbrev pub checked_set : ℕ → SetLine → Checked
 checked_set n z = record { line = z.line; in_range = is_up_to 1000000000000000 z.dual && list_all (is_up_to n) z.members }
 
@@ -57,7 +57,7 @@ abbrev pub checked_lines : Kind → Network → Document → List Checked
 checked_lines kind i d =
     let n = vertices i in
     let m = length i.edges in
-    let certified = (certified_graph kind i).vertices in
+    let certified = (gadget_graph kind i).vertices in
     record { line = d.line; in_range = is_dual d.weight }
     ∷ (map (checked_count m) d.counts
     ++ (map (checked_walk n m) (listed d.walk)

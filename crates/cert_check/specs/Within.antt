@@ -2,12 +2,13 @@
 use Rattle.std.specs.Prelude.{ℕ, ℤ, pos, ◌≤ℤ◌, length, All, IfSome}
 use Rattle.graph_theory.specs.Duals.{IsNumber}
 use Rattle.mb_problem.specs.declared.kind.Kind.{Kind}
-use Rattle.mb_problem.specs.Network.{Network}
+use Rattle.mb_problem.specs.Network.{Network, vertices}
+use Rattle.gadget_base.specs.Certified.{gadget_graph}
 use Rattle.doc_format.specs.declared.part.CountLine.{CountLine}
 use Rattle.doc_format.specs.declared.part.DualLine.{DualLine}
 use Rattle.doc_format.specs.declared.part.SetLine.{SetLine}
+use Rattle.doc_format.specs.declared.part.WalkLine.{WalkLine}
 use Rattle.doc_format.specs.declared.document.Document.{Document}
-use Rattle.cert_check.specs.Claims.{certified_graph}
 
 -- from 1 to n
 pub record IsUpTo (n : ℕ) (z : ℤ) : Type 0 where
@@ -23,10 +24,16 @@ IsDualWithin n y = IsUpTo n y.vertex × IsNumber y.dual
 abbrev pub IsSetLineWithin : ℕ → SetLine → Type 0
 IsSetLineWithin n z = IsUpTo 1000000000000000 z.dual × All (IsUpTo n) z.members
 
+abbrev pub IsWalkWithin : ℕ → ℕ → WalkLine → Type 0
+IsWalkWithin n m w = IsUpTo n w.start × All (IsUpTo m) w.edges
+
 -- every number of the document is in its range
 pub record AreWithin (kind : Kind) (i : Network) (d : Document) : Type 0 where
   pub weight : IsNumber d.weight
   pub counts : All (IsCountWithin (length i.edges)) d.counts
-  pub duals : All (IsDualWithin (certified_graph kind i).vertices) d.duals
-  pub sets : All (IsSetLineWithin (certified_graph kind i).vertices) d.sets
-  pub barrier : IfSome d.barrier (λ u. All (IsUpTo (certified_graph kind i).vertices) u.members)
+  pub walk : IfSome d.walk (IsWalkWithin (vertices i) (length i.edges))
+  pub duals : All (IsDualWithin (gadget_graph kind i).vertices) d.duals
+  pub sets : All (IsSetLineWithin (gadget_graph kind i).vertices) d.sets
+  pub barrier : IfSome d.barrier (λ u. All (IsUpTo (gadget_graph kind i).vertices) u.members)
+  pub odd : IfSome d.odd (λ t. All (IsUpTo (vertices i)) t.members)
+  pub split : IfSome d.split (λ q. All (IsUpTo (vertices i)) q.members)

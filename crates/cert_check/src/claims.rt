@@ -1,11 +1,13 @@
-ghost use Rattle.std.specs.Prelude.{◌≡◌, ℕ, ◌<◌, ◌≤◌, ◌^◌, ℤ, pos, ◌≤ℤ◌, ◌<ℤ◌, nat_abs, map, length, All, IfOk};
+ghost use Rattle.std.specs.Prelude.{◌≡◌, ℕ, ◌<◌, ◌≤◌, ◌^◌, ℤ, pos, ◌≤ℤ◌, ◌<ℤ◌, nat_abs, map, length, All, IfOk, IfSome};
+ghost use Rattle.mb_problem.specs.Network.{Network, vertices};
 ghost use Rattle.doc_format.specs.Form.{AscendsBy};
-ghost use Rattle.cert_check.specs.Claims.{numbers, counts_of, set_of};
-ghost use Rattle.cert_check.specs.Within.{IsUpTo, IsCountWithin, IsSetLineWithin};
+ghost use Rattle.cert_check.specs.Claims.{numbers, counts_of, walk_of, answer_of, set_of};
+ghost use Rattle.cert_check.specs.Within.{IsUpTo, IsCountWithin, IsWalkWithin, IsSetLineWithin, AreWithin};
 
-use doc_format::{CountLine, DualLine, SetLine};
+use doc_format::{CountLine, Document, DualLine, SetLine, WalkLine};
 use graph_theory::OddSet;
-use mb_base::{OutOfMemory, Sequence, VertexId};
+use mb_base::{EdgeId, OutOfMemory, Sequence, VertexId};
+use mb_problem::{Answer, Instance, Kind};
 use std::alloc::Global;
 
 /// A number of a document as the number of a vertex or an edge, or a count.
@@ -40,6 +42,55 @@ pub fn counts_of(alloc: Global, lines: &[CountLine], m: u32) -> Result<Vec<u32>,
         counts[natural(x.edge) as usize - 1] = natural(x.count);
     }
     Ok(counts)
+}
+
+/// The numbers of a line as edges, of an instance.
+fn edges_of(alloc: Global, line: &[i64]) -> Result<Vec<EdgeId>, OutOfMemory>
+    requires { All (IsUpTo 65536) line.now }
+    ensures { IfOk result (λ v. v.items ≡ numbers line.now) }
+{
+    let mut edges = Vec::new(alloc);
+    for number in line {
+        edges.push(EdgeId::new(natural(*number)))?;
+    }
+    Ok(edges)
+}
+
+/// The walk of a line, or the empty walk where there is none.
+pub fn walk_of(
+    alloc: Global,
+    instance: &Instance,
+    walk: &Option<WalkLine>,
+) -> Result<Answer, OutOfMemory>
+    requires { IfSome walk.now (IsWalkWithin (vertices instance.now) (length instance.now.edges)) }
+    ensures { IfOk result (λ a. a ≡ walk_of walk.now) }
+{
+    let _ = instance.vertices();
+    let Some(w) = walk else {
+        return Ok(Answer::Nothing);
+    };
+    let start = VertexId::new(natural(w.start));
+    let edges = Sequence::from_vec(edges_of(alloc, w.edges.as_slice())?);
+    Ok(Answer::Walk { start, edges })
+}
+
+/// The answer that a document states: counts on edges, or a walk.
+pub fn answer_of(
+    alloc: Global,
+    instance: &Instance,
+    kind: Kind,
+    document: &Document,
+) -> Result<Answer, OutOfMemory>
+    requires { AreWithin kind instance.now document.now }
+    ensures { IfOk result (λ a. a ≡ answer_of kind instance.now document.now) }
+{
+    match kind {
+        Kind::Postman | Kind::Path => walk_of(alloc, instance, &document.walk),
+        _ => {
+            let counts = counts_of(alloc, document.counts.as_slice(), instance.edges())?;
+            Ok(Answer::Counts(Sequence::from_vec(counts)))
+        }
+    }
 }
 
 /// The duals of the vertices.

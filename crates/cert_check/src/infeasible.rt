@@ -1,9 +1,15 @@
-ghost use Rattle.std.specs.Prelude.{◌≡◌, ◌↔◌, IsTrue, IfOk};
+ghost use Rattle.std.specs.Prelude.{◌≡◌, ◌↔◌, pos, ◌≤ℤ◌, All, IsTrue, IfOk};
+ghost use Rattle.mb_problem.specs.Size.{size_of};
+ghost use Rattle.gadget_base.specs.Certified.{IsWithinLimits};
 ghost use Rattle.cert_check.specs.Within.{AreWithin};
 ghost use Rattle.cert_check.specs.Verdicts.{IsVerdict, KeepsBefore};
-ghost use Rattle.cert_check.specs.Certificates.{HasBarrier};
+ghost use Rattle.cert_check.specs.Certificates.{HasBarrier, HasWantedBarrier};
+ghost use Rattle.cert_check.specs.Excluded.{HasNoAnswer, IsExcludedByBarrier};
+ghost use Rattle.cert_check.specs.Proved.{StatesTruth};
 
+use crate::gadgets::certified;
 use crate::claims::members_of;
+use crate::parts::has_wanted_part;
 use crate::rule::{DocRule, Verdict};
 use doc_format::{DocStatus, Document};
 use dual_check::is_barrier;
@@ -18,18 +24,37 @@ fn has_barrier(
     kind: Kind,
     document: &Document,
 ) -> Result<bool, OutOfMemory>
-    requires kind { kind ≡ Kind.Perfect }
+    requires limits { IsWithinLimits (size_of kind instance.now) }
+    requires weights { kind ≡ Kind.Postman → All (λ e. pos 0 ≤ℤ e.w) instance.now.edges }
     requires within { AreWithin kind instance.now document.now }
-    ensures { IfOk result (λ b. IsTrue b ↔ HasBarrier kind instance.now document.now) }
+    ensures exact { IfOk result (λ b. IsTrue b ↔ HasBarrier kind instance.now document.now) }
+    ensures none { IfOk result (λ b. IsTrue b → HasNoAnswer kind instance.now) }
 {
-    let _ = kind;
-    let _ = instance.vertices();
     let Some(u) = &document.barrier else {
         return Ok(false);
     };
-    let graph = instance.graph()?;
+    let graph = certified(alloc, instance, kind)?;
     let members = members_of(alloc, u.members.as_slice())?;
     is_barrier(alloc, &graph, &members)
+}
+
+/// Whether a document names the barrier that its kind wants, if it wants one.
+fn has_wanted_barrier(
+    alloc: Global,
+    instance: &Instance,
+    kind: Kind,
+    document: &Document,
+) -> Result<bool, OutOfMemory>
+    requires limits { IsWithinLimits (size_of kind instance.now) }
+    requires weights { kind ≡ Kind.Postman → All (λ e. pos 0 ≤ℤ e.w) instance.now.edges }
+    requires within { AreWithin kind instance.now document.now }
+    ensures exact { IfOk result (λ b. IsTrue b ↔ HasWantedBarrier kind instance.now document.now) }
+    ensures none { IfOk result (λ b. IsTrue b → IsExcludedByBarrier kind instance.now) }
+{
+    match kind {
+        Kind::TJoin | Kind::Postman | Kind::Path => Ok(true),
+        _ => has_barrier(alloc, instance, kind, document),
+    }
 }
 
 /// The verdict on a document that states that no answer is feasible.
@@ -39,15 +64,21 @@ pub fn judge_infeasible(
     kind: Kind,
     document: &Document,
 ) -> Result<Verdict, OutOfMemory>
-    requires kind { kind ≡ Kind.Perfect }
+    requires limits { IsWithinLimits (size_of kind instance.now) }
+    requires weights { kind ≡ Kind.Postman → All (λ e. pos 0 ≤ℤ e.w) instance.now.edges }
     requires status { document.now.status ≡ DocStatus.Infeasible }
     requires within { AreWithin kind instance.now document.now }
     requires before { KeepsBefore kind instance.now document.now DocRule.NotBarrier }
-    ensures { IfOk result (IsVerdict kind instance.now document.now) }
+    ensures verdict { IfOk result (IsVerdict kind instance.now document.now) }
+    ensures sound { IfOk result (λ v. v ≡ Verdict.Accepted → StatesTruth kind instance.now document.now) }
 {
-    if !has_barrier(alloc, instance, kind, document)? {
+    let line = document.line;
+    if !has_wanted_barrier(alloc, instance, kind, document)? {
         let rule = DocRule::NotBarrier;
-        let line = document.line;
+        return Ok(Verdict::Rejected { rule, line });
+    }
+    if !has_wanted_part(alloc, instance, kind, document)? {
+        let rule = DocRule::NotClosed;
         return Ok(Verdict::Rejected { rule, line });
     }
     Ok(Verdict::Accepted)

@@ -1,9 +1,12 @@
-ghost use Rattle.std.specs.Prelude.{◌≡◌, ◌↔◌, None, IfOk};
+ghost use Rattle.std.specs.Prelude.{◌≡◌, ◌↔◌, pos, ◌≤ℤ◌, All, None, IfOk};
+ghost use Rattle.mb_problem.specs.Size.{size_of};
+ghost use Rattle.gadget_base.specs.Certified.{IsWithinLimits};
 ghost use Rattle.cert_check.specs.Ranges.{first_out_of_range};
 ghost use Rattle.cert_check.specs.Within.{AreWithin};
 ghost use Rattle.cert_check.specs.Verdicts.{IsVerdict};
 ghost use Rattle.cert_check.specs.Proved.{IsProved, StatesTruth};
 
+use crate::circuit::judge_conservative;
 use crate::infeasible::judge_infeasible;
 use crate::optimal::judge_optimal;
 use crate::ranges::first_out_of_range;
@@ -20,33 +23,32 @@ fn judge_claims(
     kind: Kind,
     document: &Document,
 ) -> Result<Verdict, OutOfMemory>
-    requires kind { kind ≡ Kind.Perfect }
+    requires limits { IsWithinLimits (size_of kind instance.now) }
+    requires weights { kind ≡ Kind.Postman → All (λ e. pos 0 ≤ℤ e.w) instance.now.edges }
     requires same { document.now.kind ≡ kind }
     requires within { AreWithin kind instance.now document.now }
     requires in_range { first_out_of_range kind instance.now document.now ≡ None }
-    ensures { IfOk result (IsVerdict kind instance.now document.now) }
+    ensures verdict { IfOk result (IsVerdict kind instance.now document.now) }
+    ensures sound { IfOk result (λ v. v ≡ Verdict.Accepted → StatesTruth kind instance.now document.now) }
 {
     match document.status {
         DocStatus::Optimal => judge_optimal(alloc, instance, kind, document),
         DocStatus::Infeasible => judge_infeasible(alloc, instance, kind, document),
-        DocStatus::NonConservative => {
-            let rule = DocRule::NotCircuit;
-            let line = document.line;
-            Ok(Verdict::Rejected { rule, line })
-        }
+        DocStatus::NonConservative => judge_conservative(alloc, instance, kind, document),
     }
 }
 
 /// Whether a document proves what it states of an instance, or the first rule that it breaks, and the
-/// line, in time linear in the instance and the document, sets' members times their degrees aside.
-/// The kind is `Perfect`.
+/// line, in time linear in the instance, the graph of its certificates and the document, sets' members
+/// times their degrees aside. The graph is within its limits, and no weight is below 0 for the postman.
 pub fn judge(
     alloc: Global,
     instance: &Instance,
     kind: Kind,
     document: &Document,
 ) -> Result<Verdict, OutOfMemory>
-    requires kind { kind ≡ Kind.Perfect }
+    requires limits { IsWithinLimits (size_of kind instance.now) }
+    requires weights { kind ≡ Kind.Postman → All (λ e. pos 0 ≤ℤ e.w) instance.now.edges }
     ensures verdict { IfOk result (IsVerdict kind instance.now document.now) }
     ensures accepted { IfOk result (λ v. (v ≡ Verdict.Accepted) ↔ IsProved kind instance.now document.now) }
 

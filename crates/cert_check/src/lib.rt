@@ -1,15 +1,19 @@
 //! The judge of documents: whether one proves what it states of an instance.
-//! It stands on `mb_problem`, `doc_format` and `dual_check`. It promises that the verdict names the first
-//! rule that a document breaks, that an accepted one proves what it states, and that this is true.
+//! It stands on `mb_problem`, the gadget crates, `doc_format` and `dual_check`. It promises that the verdict names
+//! the first rule that a document breaks, that an accepted one proves what it states, and that this is true.
 #![tactic(auto)]
 
+mod circuit;
 mod claims;
+mod gadgets;
 mod infeasible;
 mod judging;
 mod numbers;
 mod optimal;
+mod parts;
 mod ranges;
 mod rule;
+mod value;
 
 pub use judging::judge;
 pub use rule::{DocRule, Verdict};

@@ -1,46 +1,36 @@
-ghost use Rattle.std.specs.Prelude.{◌≡◌, ℕ, IfOk};
-ghost use Rattle.dual_check.specs.Fault.{IsFirstSetFault};
-ghost use Rattle.cert_check.specs.Claims.{answer_of, duals_of, sets_of};
+ghost use Rattle.std.specs.Prelude.{◌≡◌, ◌≢◌, ℕ, pos, ◌*ℤ◌, ◌≤ℤ◌, List, All, IfOk};
+ghost use Rattle.graph_theory.specs.Graph.{IsPerfect, weight};
 ghost use Rattle.graph_theory.specs.Duals.{dual_value};
+ghost use Rattle.mb_problem.specs.Size.{size_of};
+ghost use Rattle.gadget_base.specs.Certified.{gadget_graph, IsWithinLimits, ReachesAll};
+ghost use Rattle.dual_check.specs.Fault.{IsFirstSetFault};
+ghost use Rattle.cert_check.specs.Claims.{duals_of, sets_of};
 ghost use Rattle.cert_check.specs.Within.{AreWithin};
 ghost use Rattle.cert_check.specs.Verdicts.{IsVerdict, KeepsBefore};
+ghost use Rattle.cert_check.specs.Proved.{StatesTruth};
 
-use crate::claims::{counts_of, duals_of, sets_of};
+use crate::gadgets::{certified, certified_vertices};
+use crate::claims::{answer_of, duals_of, sets_of};
 use crate::rule::{DocRule, Verdict};
+use crate::value::value_for;
 use doc_format::{DocStatus, Document};
 use dual_check::{DualFault, bound};
-use mb_base::{OutOfMemory, Sequence};
-use mb_problem::{Answer, Instance, Kind, feasible, weight};
+use mb_base::OutOfMemory;
+use mb_problem::{Instance, Kind, feasible, weight};
 use std::alloc::{AllocError, Global};
-
-/// The answer that a document states by its counts.
-fn counted_answer(
-    alloc: Global,
-    instance: &Instance,
-    kind: Kind,
-    document: &Document,
-) -> Result<Answer, OutOfMemory>
-    requires kind { kind ≡ Kind.Perfect }
-    requires within { AreWithin kind instance.now document.now }
-    ensures { IfOk result (λ a. a ≡ answer_of kind instance.now document.now) }
-{
-    let _ = kind;
-    let counts = counts_of(alloc, document.counts.as_slice(), instance.edges())?;
-    Ok(Answer::Counts(Sequence::from_vec(counts)))
-}
 
 /// The verdict on a document that states a best answer, whose duals are feasible and have this value.
 fn judge_value(instance: &Instance, kind: Kind, document: &Document, value: i128) -> Verdict
-    requires kind { kind ≡ Kind.Perfect }
     requires status { document.now.status ≡ DocStatus.Optimal }
     requires within { AreWithin kind instance.now document.now }
     requires value { value ≡ dual_value (duals_of document.now) (sets_of document.now) }
     requires before { KeepsBefore kind instance.now document.now DocRule.ValueDiffers }
-    ensures { IsVerdict kind instance.now document.now result }
+    requires below { (counts : List ℕ) → IsPerfect (gadget_graph kind instance.now) counts → value ≤ℤ (pos 2 *ℤ weight (gadget_graph kind instance.now) counts) }
+    requires reached { ReachesAll kind instance.now }
+    ensures verdict { IsVerdict kind instance.now document.now result }
+    ensures sound { result ≡ Verdict.Accepted → StatesTruth kind instance.now document.now }
 {
-    let _ = instance;
-    let _ = kind;
-    if value != 2 * i128::from(document.weight) {
+    if value != value_for(instance, kind, document.weight) {
         let rule = DocRule::ValueDiffers;
         let line = document.line;
         return Verdict::Rejected { rule, line };
@@ -52,7 +42,8 @@ fn judge_value(instance: &Instance, kind: Kind, document: &Document, value: i128
 fn refuse_set(instance: &Instance, kind: Kind, document: &Document, number: u64) -> Verdict
     requires before { KeepsBefore kind instance.now document.now DocRule.SetForm }
     requires fault { IsFirstSetFault (sets_of document.now) number }
-    ensures { IsVerdict kind instance.now document.now result }
+    ensures verdict { IsVerdict kind instance.now document.now result }
+    ensures refused { result ≢ Verdict.Accepted }
 {
     let _ = instance;
     let _ = kind;
@@ -68,19 +59,20 @@ fn judge_duals(
     kind: Kind,
     document: &Document,
 ) -> Result<Verdict, OutOfMemory>
-    requires kind { kind ≡ Kind.Perfect }
+    requires limits { IsWithinLimits (size_of kind instance.now) }
+    requires weights { kind ≡ Kind.Postman → All (λ e. pos 0 ≤ℤ e.w) instance.now.edges }
     requires status { document.now.status ≡ DocStatus.Optimal }
     requires within { AreWithin kind instance.now document.now }
     requires before { KeepsBefore kind instance.now document.now DocRule.DualMissing }
-    ensures { IfOk result (IsVerdict kind instance.now document.now) }
+    ensures verdict { IfOk result (IsVerdict kind instance.now document.now) }
+    ensures sound { IfOk result (λ v. v ≡ Verdict.Accepted → StatesTruth kind instance.now document.now) }
 {
     let line = document.line;
-    if document.duals.len() != instance.vertices() as usize {
+    if document.duals.len() != certified_vertices(instance, kind) as usize {
         let rule = DocRule::DualMissing;
         return Ok(Verdict::Rejected { rule, line });
     }
-    let _ = kind;
-    let graph = instance.graph()?;
+    let graph = certified(alloc, instance, kind)?;
     let y = duals_of(alloc, document.duals.as_slice())?;
     let sets = sets_of(alloc, document.sets.as_slice())?;
     match bound(alloc, &graph, &y, &sets) {
@@ -101,14 +93,16 @@ pub fn judge_optimal(
     kind: Kind,
     document: &Document,
 ) -> Result<Verdict, OutOfMemory>
-    requires kind { kind ≡ Kind.Perfect }
+    requires limits { IsWithinLimits (size_of kind instance.now) }
+    requires weights { kind ≡ Kind.Postman → All (λ e. pos 0 ≤ℤ e.w) instance.now.edges }
     requires status { document.now.status ≡ DocStatus.Optimal }
     requires within { AreWithin kind instance.now document.now }
     requires before { KeepsBefore kind instance.now document.now DocRule.NotFeasible }
-    ensures { IfOk result (IsVerdict kind instance.now document.now) }
+    ensures verdict { IfOk result (IsVerdict kind instance.now document.now) }
+    ensures sound { IfOk result (λ v. v ≡ Verdict.Accepted → StatesTruth kind instance.now document.now) }
 {
     let line = document.line;
-    let answer = counted_answer(alloc, instance, kind, document)?;
+    let answer = answer_of(alloc, instance, kind, document)?;
     if !feasible(alloc, instance, kind, &answer)? {
         let rule = DocRule::NotFeasible;
         return Ok(Verdict::Rejected { rule, line });

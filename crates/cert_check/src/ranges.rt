@@ -1,8 +1,11 @@
 ghost use Rattle.std.specs.Prelude.{◌≡◌, map, length, MatchOption, ⊤, [], ◌∷◌};
 ghost use Rattle.mb_problem.specs.Network.{Network, IsNetwork, vertices};
+ghost use Rattle.mb_problem.specs.Size.{size_of};
+ghost use Rattle.gadget_base.specs.Certified.{IsWithinLimits};
 ghost use Rattle.cert_check.specs.Within.{AreWithin};
 ghost use Rattle.cert_check.specs.Ranges.{is_dual, first_fault, first_out_of_range, checked_count, checked_walk, checked_dual, checked_set, checked_members, listed};
 
+use crate::gadgets::certified_vertices;
 use crate::numbers::{are_up_to, is_dual, is_set_dual, is_up_to};
 use doc_format::{CountLine, Document, DualLine, MemberLine, SetLine, WalkLine};
 use mb_problem::{Instance, Kind};
@@ -76,19 +79,19 @@ fn first_members(members: &Option<MemberLine>, n: u32) -> Option<u64>
 
 /// The first line of a document with a number out of range.
 pub fn first_out_of_range(instance: &Instance, kind: Kind, document: &Document) -> Option<u64>
+    requires { IsWithinLimits (size_of kind instance.now) }
     ensures fault { result ≡ first_out_of_range kind instance.now document.now }
     ensures within { MatchOption result (AreWithin kind instance.now document.now) (λ line. ⊤) }
-    ensures network { IsNetwork instance.now }
 {
-    let _ = kind;
     let n = instance.vertices();
     let m = instance.edges();
+    let certified = certified_vertices(instance, kind);
     first_head(document)
         .or(first_count(document.counts.as_slice(), m))
         .or(first_walk(&document.walk, n, m))
-        .or(first_dual(document.duals.as_slice(), n))
-        .or(first_set(document.sets.as_slice(), n))
-        .or(first_members(&document.barrier, n))
+        .or(first_dual(document.duals.as_slice(), certified))
+        .or(first_set(document.sets.as_slice(), certified))
+        .or(first_members(&document.barrier, certified))
         .or(first_members(&document.odd, n))
         .or(first_members(&document.split, n))
 }

@@ -1,10 +1,13 @@
 -- From the answer of a part of `check` to the answer of the whole.
-use Rattle.std.proofs.Common.{◌≡◌, ℕ, ◌+◌, List, length, Result, Ok, Err, inl, inr, sym, ap, ap₂, subst, ◌∙◌, refl}
+use Rattle.std.proofs.Common.{◌≡◌, ℕ, ◌+◌, pos, ◌≤ℤ◌, All, List, length, Result, Ok, Err, inl, inr, sym, ap, ap₂, subst, ◌∙◌, refl}
 use Rattle.std.specs.Prelude.{IfOk}
 use Rattle.mb_base.specs.Rows.{Row, rows}
 use Rattle.mb_problem.specs.declared.kind.Kind.{Kind}
+use Rattle.mb_problem.specs.declared.kind.Kind.TheVariants.{Postman}
 use Rattle.mb_problem.specs.Network.{Network}
 use Rattle.mb_problem.specs.Size.{size_of}
+use Rattle.gadget_base.specs.Certified.{IsWithinLimits}
+use Rattle.dimacs_read.specs.Ready.{IsReady}
 use Rattle.dimacs_read.specs.declared.rest.Rest.{Rest}
 use Rattle.dimacs_read.specs.Rest.{IsRest}
 use Rattle.doc_format.specs.declared.document.Document.{Document}
@@ -68,3 +71,9 @@ check_answers kind bytes i rest r h is =
 pub form_answers : (kind : Kind) (i : Network) (n k line : ℕ) (bytes : List ℕ) {E : Type 0} (r : Result Answer E) → line ≡ n + k → IsFirstRefused n (rows bytes) k → IfOk r (λ a. a.text.items ≡ rejected_line DocForm line) → IfOk r (λ a. a.status ≡ Rejected) → IfOk r (DecidesRest kind i n bytes)
 form_answers kind i n k line bytes (Ok a) e refused text status = subst (λ (s : Status). RestAnswer kind i n bytes a.text.items s) (sym status) (DocForm, line, inl (refl, (k, e, refused)), text)
 form_answers kind i n k line bytes (Err x) e refused text status = tt
+
+pub within_limits : (kind : Kind) (i : Network) → FitsLimits (size_of kind i) → IsWithinLimits (size_of kind i)
+within_limits kind i fits = record { vertices = fits.0; edges = fits.1 }
+
+pub none_below : (kind : Kind) (i : Network) → IsReady kind i → kind ≡ Postman → All (λ e. pos 0 ≤ℤ e.w) i.edges
+none_below kind i ready is = subst (λ (k : Kind). IsReady k i) is ready

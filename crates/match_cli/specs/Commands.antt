@@ -1,14 +1,15 @@
 -- The command that the words of a command line are.
-use Rattle.std.specs.Prelude.{ℕ, List, [], ◌∷◌, codes, ◌&&◌, if◌then◌else◌, Option, None, Some}
+use Rattle.std.specs.Prelude.{ℕ, List, [], ◌∷◌, codes, if◌then◌else◌, Option, None, Some}
+use Rattle.std.specs.Option.{option_map}
 use Rattle.std.specs.Str.{bytes_eq}
 use Rattle.mb_problem.specs.declared.kind.Kind.{Kind}
-use Rattle.mb_problem.specs.declared.kind.Kind.TheVariants.{Perfect}
+use Rattle.doc_format.specs.Names.{kind_named}
 use Rattle.match_cli.specs.declared.words.Command.{Command}
 use Rattle.match_cli.specs.declared.words.Command.TheVariants.{Check}
 
 -- the command that the words after the program's name are
 abbrev pub after_name : List (List ℕ) → Option Command
-after_name (a ∷ b ∷ []) = if bytes_eq a (codes "check") && bytes_eq b (codes "perfect") then Some (Check Perfect) else None
+after_name (a ∷ b ∷ []) = if bytes_eq a (codes "check") then option_map (λ kind. Check kind) (kind_named b) else None
 after_name _ = None
 
 -- the first word, whatever it is, stands for the program's name

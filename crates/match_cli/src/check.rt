@@ -1,8 +1,9 @@
 ghost use Rattle.std.specs.Prelude.{◌≡◌, ◌+◌, ◌<◌, ◌≤◌, ◌^◌, codes, length, IfOk};
 ghost use Rattle.mb_problem.specs.Size.{size_of};
+ghost use Rattle.dimacs_read.specs.Ready.{IsReady};
 ghost use Rattle.match_cli.specs.Lines.{malformed_line, rejected_line, too_large_line};
 ghost use Rattle.match_cli.specs.Answers.{Decides};
-ghost use Rattle.match_cli.specs.Checking.{DecidesDocument, DecidesRest, DecidesInstance};
+ghost use Rattle.match_cli.specs.Checking.{FitsLimits, DecidesDocument, DecidesRest, DecidesInstance};
 
 use crate::answer::{Answer, line};
 use crate::names::{document_rule, instance_rule};
@@ -49,7 +50,8 @@ fn check_document(
     instance: &Instance,
     document: &Document,
 ) -> Result<Answer, OutOfMemory>
-    requires { kind ≡ Kind.Perfect }
+    requires limits { FitsLimits (size_of kind instance.now) }
+    requires ready { IsReady kind instance.now }
     ensures { IfOk result (DecidesDocument kind instance.now document.now) }
 {
     match judge(alloc, instance, kind, document)? {
@@ -65,7 +67,8 @@ fn check_rest(
     instance: &Instance,
     rest: &Rest,
 ) -> Result<Answer, OutOfMemory>
-    requires kind { kind ≡ Kind.Perfect }
+    requires limits { FitsLimits (size_of kind instance.now) }
+    requires ready { IsReady kind instance.now }
     requires low { 1 ≤ rest.now.line }
     requires high { rest.now.line ≤ 2 ^ 62 }
     ensures { IfOk result (DecidesRest kind instance.now rest.now.line rest.now.bytes) }
@@ -99,7 +102,7 @@ fn check_instance(
     instance: &Instance,
     rest: &Rest,
 ) -> Result<Answer, OutOfMemory>
-    requires kind { kind ≡ Kind.Perfect }
+    requires ready { IsReady kind instance.now }
     requires low { 1 ≤ rest.now.line }
     requires high { rest.now.line ≤ 2 ^ 62 }
     ensures { IfOk result (DecidesInstance kind instance.now rest.now.line rest.now.bytes) }
@@ -116,8 +119,7 @@ fn check_instance(
 
 /// What `check` answers to bytes within its limit.
 pub fn check(alloc: Global, kind: Kind, bytes: &[u8]) -> Result<Answer, OutOfMemory>
-    requires kind { kind ≡ Kind.Perfect }
-    requires short { length bytes.now ≤ 2 ^ 32 }
+    requires { length bytes.now ≤ 2 ^ 32 }
     ensures { IfOk result (λ a. Decides kind bytes.now a.text.items a.status) }
 {
     match read(alloc, bytes, kind) {

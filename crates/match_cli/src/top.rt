@@ -48,8 +48,8 @@ fn prepare<I: Source>(alloc: Global, words: &Vec<String>, source: &mut I) -> Res
 }
 
 /// Does what the words of the command line say: reads the source to its end, and writes the answer
-/// to the sink. The words are the program's name and then those of a command; today that is
-/// `check perfect`, which judges the document that follows an instance.
+/// to the sink. The words are the program's name and then those of a command; today that is `check`
+/// and the name of a kind, which judges the document that follows an instance.
 ///
 /// The whole answer stands ready before the first write, so want of memory leaves the sink untouched.
 pub fn run<I: Source, O: Sink, L: Ledger>(

@@ -1,6 +1,7 @@
-ghost use Rattle.std.specs.Prelude.{◌≡◌, ◌≤◌, ◌^◌, map, string_bytes, IfSome};
+ghost use Rattle.std.specs.Prelude.{◌≡◌, ◌≤◌, ◌^◌, map, string_bytes};
 ghost use Rattle.match_cli.specs.Commands.{command_of, limit_of, kind_of};
 
+use doc_format::kind_of_name;
 use mb_problem::Kind;
 
 /// What the program is to do.
@@ -12,11 +13,11 @@ pub enum Command {
 
 /// The command that the words are, the program's name first.
 pub fn read_command(words: &Vec<String>) -> Option<Command>
-    ensures command { result ≡ command_of (map string_bytes words.now.items) }
-    ensures kind { IfSome result (λ command. kind_of command ≡ Kind.Perfect) }
+    ensures { result ≡ command_of (map string_bytes words.now.items) }
 {
-    if words.len() == 3 && words[1].as_str() == "check" && words[2].as_str() == "perfect" {
-        return Some(Command::Check(Kind::Perfect));
+    if words.len() == 3 && words[1].as_str() == "check" {
+        let kind = kind_of_name(words[2].as_bytes())?;
+        return Some(Command::Check(kind));
     }
     None
 }

@@ -1,3 +1,7 @@
 pub mod SumLemmas
 pub mod EdgeLemmas
 pub mod DegreeLemmas
+pub mod MarkLemmas
+pub mod WalkPlaces
+pub mod EndLemmas
+pub mod WalkSteps

@@ -3,5 +3,5 @@ pub mod Feasible
 pub mod Size
 pub mod Measured
 pub mod Degrees
-pub mod Counted
+pub mod Marks
 pub mod Rooms

@@ -1,14 +1,14 @@
 ghost use Rattle.std.specs.Prelude.{◌≡◌, ℕ, ◌+◌, ◌-◌, ◌*◌, ◌%◌, ◌<◌, ◌≤◌, ◌↔◌, length, All, List, slice_index, IsTrue, IfOk, IfSome};
 ghost use Rattle.graph_theory.specs.Graph.{IsPerfect};
 ghost use Rattle.mb_problem.specs.Network.{Network, graph_of, instance_edge_at};
-ghost use Rattle.mb_problem.specs.Counted.{IsCountKind};
 ghost use Rattle.mb_problem.specs.Feasible.{IsFeasible, IsMatching, IsBMatching, IsJoin, HasCounts, AtMostOnce, WithinCapacities};
 
 use crate::answer::Answer;
 use crate::degrees::degrees_of;
 use crate::instance::Instance;
 use crate::kind::Kind;
-use mb_base::OutOfMemory;
+use crate::walks::{is_path, is_tour};
+use mb_base::{EdgeId, OutOfMemory, VertexId};
 use std::alloc::Global;
 
 /// Whether there is one count for each edge.
@@ -170,7 +170,6 @@ fn are_feasible(
     kind: Kind,
     counts: &[u32],
 ) -> Result<bool, OutOfMemory>
-    requires { IsCountKind kind }
     ensures { IfOk result (λ b. IsTrue b ↔ IsFeasible kind instance.now (Answer.Counts counts.now)) }
 {
     match kind {
@@ -184,20 +183,49 @@ fn are_feasible(
     }
 }
 
-/// Whether an answer is feasible, in time linear in vertices and edges. Any answer may be asked
-/// about: a walk isn't feasible here, nor is a list with another number of counts than edges. The
-/// kind is one whose answers are counts: neither `Postman` nor `Path`.
+/// Whether a walk of edges is feasible for a kind.
+fn is_feasible_walk(
+    alloc: Global,
+    instance: &Instance,
+    kind: Kind,
+    start: VertexId,
+    edges: &[EdgeId],
+) -> Result<bool, OutOfMemory>
+    ensures { IfOk result (λ b. IsTrue b ↔ IsFeasible kind instance.now (Answer.Walk start edges.now)) }
+{
+    match kind {
+        Kind::Postman => is_tour(alloc, instance, start, edges),
+        Kind::Path => is_path(alloc, instance, start, edges),
+        _ => Ok(false),
+    }
+}
+
+/// Whether the empty walk is feasible for a kind.
+fn is_nothing_feasible(instance: &Instance, kind: Kind) -> bool
+    ensures { IsTrue result ↔ IsFeasible kind instance.now Answer.Nothing }
+{
+    match kind {
+        Kind::Postman => instance.edges() == 0,
+        _ => false,
+    }
+}
+
+/// Whether an answer is feasible for a kind, in time linear in the answer and in vertices and edges.
+/// Any answer may be asked about: counts aren't feasible where walks are wanted, or walks where counts
+/// are, nor is a list with another number of counts than edges or a walk with a number out of range.
 pub fn feasible(
     alloc: Global,
     instance: &Instance,
     kind: Kind,
     answer: &Answer,
 ) -> Result<bool, OutOfMemory>
-    requires { IsCountKind kind }
     ensures { IfOk result (λ b. IsTrue b ↔ IsFeasible kind instance.now answer.now) }
 {
     match answer {
         Answer::Counts(counts) => are_feasible(alloc, instance, kind, counts.as_slice()),
-        Answer::Walk { .. } | Answer::Nothing => Ok(false),
+        Answer::Walk { start, edges } => {
+            is_feasible_walk(alloc, instance, kind, *start, edges.as_slice())
+        }
+        Answer::Nothing => Ok(is_nothing_feasible(instance, kind)),
     }
 }

@@ -9,8 +9,10 @@ mod degrees;
 mod feasibility;
 mod instance;
 mod kind;
+mod marks;
 mod measure;
 mod size;
+mod walks;
 
 pub use answer::{Answer, Join, Parity};
 pub use feasibility::feasible;
@@ -18,6 +20,7 @@ pub use instance::{Instance, InstanceEdge};
 pub use kind::Kind;
 pub use measure::{degree, weight};
 pub use size::gadget_size;
+pub use walks::is_circuit;
 
 #[cfg(test)]
 mod tests;

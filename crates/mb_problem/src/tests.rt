@@ -1,5 +1,3 @@
-ghost use Rattle.mb_problem.specs.Counted.{IsCountKind};
-
 use super::*;
 use mb_base::{EdgeId, OutOfMemory, Sequence, VertexId};
 use std::alloc::Global;
@@ -11,9 +9,7 @@ fn allows(
     instance: &Instance,
     kind: Kind,
     counts: &[u32],
-) -> Result<bool, OutOfMemory>
-    requires { IsCountKind kind }
-{
+) -> Result<bool, OutOfMemory> {
     let counts = Sequence::from_vec(Vec::from_slice(alloc, counts)?);
     feasible(alloc, instance, kind, &Answer::Counts(counts))
 }
@@ -91,5 +87,72 @@ fn sizes(rt: HostRuntime) -> Result<(), Fail> {
     assert_eq!(rt; gadget_size(&instance, Kind::Path), (8, 10));
     assert_eq!(rt; instance.edge_list().len(), 3);
     assert_eq!(rt; instance.value_list(), [1, 0, 1].as_slice());
+    Ok(())
+}
+
+/// Whether a walk is feasible.
+fn allows_walk(
+    alloc: Global,
+    instance: &Instance,
+    kind: Kind,
+    start: u32,
+    edges: &[EdgeId],
+) -> Result<bool, OutOfMemory> {
+    let edges = Sequence::from_vec(Vec::from_slice(alloc, edges)?);
+    let start = VertexId::new(start);
+    feasible(alloc, instance, kind, &Answer::Walk { start, edges })
+}
+
+#[test]
+fn walks(rt: HostRuntime) -> Result<(), Fail> {
+    let alloc = rt.alloc();
+    let (one, two, three) = (VertexId::new(1), VertexId::new(2), VertexId::new(3));
+    let mut instance = Instance::new(alloc, 3, 0)?;
+    assert_eq!(rt;
+        feasible(alloc, &instance, Kind::Postman, &Answer::Nothing)?,
+        true
+    );
+    assert_eq!(rt;
+        feasible(alloc, &instance, Kind::Path, &Answer::Nothing)?,
+        false
+    );
+    instance.add_edge(one, two, 3, None)?;
+    instance.add_edge(two, three, -1, None)?;
+    instance.add_edge(one, three, 4, None)?;
+    instance.set_value(one, 1);
+    instance.set_value(three, 1);
+    let (a, b, c, none) = (
+        EdgeId::new(1),
+        EdgeId::new(2),
+        EdgeId::new(3),
+        EdgeId::new(4),
+    );
+    let rows: [(Kind, u32, &[EdgeId], bool); 14] = [
+        (Kind::Postman, 1, &[a, b, c], true),
+        (Kind::Postman, 3, &[c, a, b], true),
+        (Kind::Postman, 1, &[a, a], false),
+        (Kind::Postman, 1, &[a, b, c, a], false),
+        (Kind::Postman, 1, &[b, c, a], false),
+        (Kind::Postman, 1, &[a, b, none], false),
+        (Kind::Postman, 1, &[], false),
+        (Kind::Path, 1, &[a, b], true),
+        (Kind::Path, 1, &[c], true),
+        (Kind::Path, 3, &[c], false),
+        (Kind::Path, 1, &[a], false),
+        (Kind::Path, 1, &[a, a, c], false),
+        (Kind::Path, 1, &[], false),
+        (Kind::Match, 1, &[a], false),
+    ];
+    for (kind, start, edges, wanted) in rows {
+        assert_eq!(rt; allows_walk(alloc, &instance, kind, start, edges)?, wanted);
+    }
+    assert_eq!(rt;
+        feasible(alloc, &instance, Kind::Postman, &Answer::Nothing)?,
+        false
+    );
+    assert_eq!(rt; is_circuit(alloc, &instance, one, &[a, b, c])?, true);
+    assert_eq!(rt; is_circuit(alloc, &instance, one, &[a, a])?, false);
+    assert_eq!(rt; is_circuit(alloc, &instance, one, &[a, b, b, a])?, false);
+    assert_eq!(rt; is_circuit(alloc, &instance, one, &[a, b])?, false);
     Ok(())
 }

@@ -1,39 +1,55 @@
-use Rattle.std.proofs.Common.{◌≡◌, ◌≤◌, ◌≤ℤ◌, true, List, ℤ, pos, All, sym, ap, ◌∙◌, subst, arith}
+use Rattle.std.proofs.Common.{◌≡◌, ◌≤◌, ℕ, ◌≤ℤ◌, Bool, true, IsTrue, Result, Ok, Err, IfOk, List, ℤ, pos, All, sym, ap, ◌∙◌, subst, arith}
 use Rattle.std.proofs.lemmas.Int.{ints}
 use Rattle.std.proofs.lemmas.List.Elements.{All-weaker}
 use Rattle.graph_theory.specs.Parts.{IsVertexSet}
-use Rattle.mb_problem.specs.Network.{graph_of, vertices}
+use Rattle.graph_theory.specs.Graph.{Multigraph, IsPerfect}
+use Rattle.mb_problem.specs.declared.kind.Kind.{Kind}
+use Rattle.mb_problem.specs.Network.{Network}
+use Rattle.gadget_base.specs.Certified.{gadget_graph, ReachesAll}
+use Rattle.cert_check.specs.Excluded.{HasNoAnswer}
+use Rattle.cert_check.proofs.TruthLemmas.{no_answer}
+use Rattle.std.specs.declared.alloc.AllocError.{AllocError}
 use Rattle.doc_format.specs.declared.part.MemberLine.{MemberLine}
 use Rattle.doc_format.specs.Form.{ascends}
 use Rattle.cert_check.specs.Claims.{numbers}
 use Rattle.cert_check.specs.Within.{IsUpTo}
-use Rattle.cert_check.proofs.BarrierLemmas.{vertex_set}
+use Rattle.cert_check.proofs.BarrierLemmas.{vertex_set, up_to-more}
+use Rattle.cert_check.proofs.GadgetLemmas.{few_vertices}
 use Rattle.cert_check.proofs.infeasible.has_barrier.Goals as goal
+
+none_of : (kind : Kind) (i : Network) (r : Result Bool AllocError) → ReachesAll kind i → IfOk r (λ b. IsTrue b → (counts : List ℕ) → IsPerfect (gadget_graph kind i) counts → ⊥) → IfOk r (λ b. IsTrue b → HasNoAnswer kind i)
+none_of kind i (Ok b) reached h = λ t. no_answer kind i reached (h t)
+none_of kind i (Err e) reached h = tt
 
 pub members_of-requires : goal.members_of-requires
 members_of-requires c =
-    let i = c.args.instance.now in
+    let g = gadget_graph c.args.kind c.args.instance.now in
     let u : MemberLine = c.in-Some.u in
-    let within : All (IsUpTo (vertices i)) u.members = rw c.in-Some.is at c.requires.within.barrier in
-    let few : vertices i ≤ 4096 = c.vertices.ensures.network.few_vertices in
-    let small : All (IsUpTo 4096) u.members = All-weaker (IsUpTo (vertices i)) (IsUpTo 4096) (λ z h. (let low : pos 1 ≤ℤ z = h.low in let high : z ≤ℤ pos (vertices i) = h.high in record { low = low; high = omega (arith, ints) })) u.members within in
-    subst (λ (zs : List ℤ). All (IsUpTo 4096) zs) (sym c.as_slice.ensures) small
+    let within : All (IsUpTo g.vertices) u.members = rw c.in-Some.is at c.requires.within.barrier in
+    let few : g.vertices ≤ 4096 = few_vertices c.args.kind c.args.instance.now c.requires.limits in
+    subst (λ (zs : List ℤ). All (IsUpTo 4096) zs) (sym c.as_slice.ensures) (up_to-more g.vertices 4096 u.members few within)
 
 pub is_barrier-requires : goal.is_barrier-requires
 is_barrier-requires c =
-    let i = c.args.instance.now in
+    let g = gadget_graph c.args.kind c.args.instance.now in
     let u : MemberLine = c.in-Some.u in
-    let within : All (IsUpTo (vertices i)) u.members = rw c.in-Some.is at c.requires.within.barrier in
+    let within : All (IsUpTo g.vertices) u.members = rw c.in-Some.is at c.requires.within.barrier in
     let ascending : ascends u.members ≡ true = rw c.in-Some.is at c.args.document.now.form.barrier_ascends in
-    let set : IsVertexSet (vertices i) (numbers u.members) = vertex_set (vertices i) u.members ascending within in
+    let set : IsVertexSet g.vertices (numbers u.members) = vertex_set g.vertices u.members ascending within in
     let members : c.deref.result.now ≡ numbers u.members = c.deref.ensures.value ∙ c.in_ok-members.ensures ∙ ap numbers c.as_slice.ensures in
-    let graph : c.in_ok-graph.graph ≡ graph_of i = c.in_ok-graph.ensures in
+    let graph : c.in_ok-graph.graph ≡ g = c.in_ok-graph.ensures.graph in
     rw (graph, members) set
 
-pub returns : goal.returns
-returns c =
-    let i = c.args.instance.now in
+pub returns-clause-exact : goal.returns-clause-exact
+returns-clause-exact c =
+    let g = gadget_graph c.args.kind c.args.instance.now in
     let u : MemberLine = c.in-Some.u in
     let members : c.deref.result.now ≡ numbers u.members = c.deref.ensures.value ∙ c.in_ok-members.ensures ∙ ap numbers c.as_slice.ensures in
-    let graph : c.in_ok-graph.graph ≡ graph_of i = c.in_ok-graph.ensures in
+    let graph : c.in_ok-graph.graph ≡ g = c.in_ok-graph.ensures.graph in
     rw (c.in-Some.is, ← graph, ← members) c.is_barrier.ensures.exact
+
+pub returns-clause-none : goal.returns-clause-none
+returns-clause-none c =
+    let i = c.args.instance.now in
+    let graph : c.in_ok-graph.graph ≡ gadget_graph c.args.kind i = c.in_ok-graph.ensures.graph in
+    none_of c.args.kind i c.is_barrier.result c.in_ok-graph.ensures.reached (subst (λ (g : Multigraph). IfOk c.is_barrier.result (λ b. IsTrue b → (counts : List ℕ) → IsPerfect g counts → ⊥)) graph c.is_barrier.ensures.none)

@@ -2,10 +2,9 @@ use Rattle.std.proofs.Common.{◌≡◌, ◌↔◌}
 use Rattle.cert_check.specs.declared.rule.Verdict.{Verdict}
 use Rattle.cert_check.specs.declared.rule.Verdict.TheVariants.{Accepted}
 use Rattle.cert_check.specs.Verdicts.{IsVerdict}
-use Rattle.cert_check.specs.Proved.{IsProved, StatesTruth}
+use Rattle.cert_check.specs.Proved.{IsProved}
 use Rattle.cert_check.proofs.BarrierLemmas.{forms-where_none}
 use Rattle.cert_check.proofs.VerdictLemmas.{IsFormed, accepted-proved, if_ok}
-use Rattle.cert_check.proofs.TruthLemmas.{proved-true}
 use Rattle.cert_check.proofs.judging.judge.Goals as goal
 
 pub returns-clause-accepted : goal.returns-clause-accepted
@@ -13,11 +12,4 @@ returns-clause-accepted c =
     let i = c.args.instance.now in
     let d = c.args.document.now in
     let formed : IsFormed d = record { vertices_ascend = d.form.vertices_ascend; forms_where_none = λ other. forms-where_none d.status d.kind _ d.form.letters other } in
-    if_ok (IsVerdict c.args.kind i d) (λ (v : Verdict). (v ≡ Accepted) ↔ IsProved c.args.kind i d) (λ v verdict. accepted-proved c.args.kind i d v formed verdict) c.judge_claims.result c.judge_claims.ensures
-
-pub returns-clause-sound : goal.returns-clause-sound
-returns-clause-sound c =
-    let i = c.args.instance.now in
-    let d = c.args.document.now in
-    if_ok (λ (v : Verdict). (v ≡ Accepted) ↔ IsProved c.args.kind i d) (λ (v : Verdict). v ≡ Accepted → StatesTruth c.args.kind i d)
-    (λ v proved is. proved-true c.args.kind i d c.requires.kind c.first_out_of_range.ensures.network d.form.headed (proved.0 is)) c.judge_claims.result (returns-clause-accepted c)
+    if_ok (IsVerdict c.args.kind i d) (λ (v : Verdict). (v ≡ Accepted) ↔ IsProved c.args.kind i d) (λ v verdict. accepted-proved c.args.kind i d v formed verdict) c.judge_claims.result c.judge_claims.ensures.verdict

@@ -1,7 +1,7 @@
 use Rattle.std.proofs.Common.{◌≡◌}
-use Rattle.doc_format.specs.declared.status.DocStatus.TheVariants.{Optimal, Infeasible}
+use Rattle.doc_format.specs.declared.status.DocStatus.TheVariants.{Optimal, Infeasible, NonConservative}
 use Rattle.cert_check.specs.Certificates.{HaveForm}
-use Rattle.cert_check.proofs.RuleLemmas.{infeasible-before}
+use Rattle.cert_check.proofs.RuleLemmas.{infeasible-before, circuit-before}
 use Rattle.cert_check.proofs.BarrierLemmas.{forms-where_none}
 use Rattle.cert_check.proofs.judging.judge_claims.Goals as goal
 
@@ -11,3 +11,10 @@ judge_infeasible-requires-clause-before c =
     let status : d.status ≡ Infeasible = c.in-Infeasible.is in
     let forms : HaveForm d = forms-where_none d.status d.kind _ d.form.letters (λ (other : d.status ≡ Optimal). absurd (cc)) in
     infeasible-before c.args.kind c.args.instance.now d c.requires.same c.requires.in_range forms status
+
+pub judge_conservative-requires-clause-before : goal.judge_conservative-requires-clause-before
+judge_conservative-requires-clause-before c =
+    let d = c.args.document.now in
+    let status : d.status ≡ NonConservative = c.in-NonConservative.is in
+    let forms : HaveForm d = forms-where_none d.status d.kind _ d.form.letters (λ (other : d.status ≡ Optimal). absurd (cc)) in
+    circuit-before c.args.kind c.args.instance.now d c.requires.same c.requires.in_range forms status

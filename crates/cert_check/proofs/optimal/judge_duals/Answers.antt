@@ -2,7 +2,7 @@ use Rattle.std.proofs.Common.{◌≡◌, List, ℤ, pos, ◌≤ℤ◌, length, m
 use Rattle.graph_theory.specs.declared.odd_set.OddSet.{OddSet}
 use Rattle.graph_theory.specs.Duals.{AreDuals, IsNumber, IsSetWithin, HasForm, slack}
 use Rattle.graph_theory.specs.Graph.{Multigraph}
-use Rattle.mb_problem.specs.Network.{graph_of, vertices}
+use Rattle.gadget_base.specs.Certified.{gadget_graph}
 use Rattle.doc_format.specs.declared.part.DualLine.{DualLine}
 use Rattle.doc_format.specs.declared.part.SetLine.{SetLine}
 use Rattle.doc_format.specs.Form.{AscendsBy}
@@ -16,13 +16,13 @@ use Rattle.cert_check.proofs.RuleLemmas.{keeps-next}
 use Rattle.cert_check.proofs.DualLemmas.{has_duals, duals_size, duals-numbers, sets-numbers, sets-within, forms-of_lines, no_slack}
 use Rattle.cert_check.proofs.optimal.judge_duals.Goals as goal
 
-pub returns-then-len-vertices : goal.returns-then-len-vertices
-returns-then-len-vertices c =
+pub returns-then-len-certified_vertices-clause-verdict : goal.returns-then-len-certified_vertices-clause-verdict
+returns-then-len-certified_vertices-clause-verdict c =
     let i = c.args.instance.now in
     let d = c.args.document.now in
     let within : AreWithin c.args.kind i d = c.requires.within in
     let ascending : AscendsBy (λ y. y.vertex) d.duals = d.form.vertices_ascend in
-    let lacks : HasDuals c.args.kind i d → ⊥ = λ have. c.if-len-vertices.true (c.len.ensures ∙ duals_size c.args.kind i d ascending within have ∙ sym c.vertices.ensures.count) in
+    let lacks : HasDuals c.args.kind i d → ⊥ = λ have. c.if-len-certified_vertices.true (c.len.ensures ∙ duals_size c.args.kind i d ascending within have ∙ sym c.certified_vertices.ensures.count) in
     ((c.requires.status, lacks, refl), c.requires.before)
 
 pub bound-requires-clause-y_numbers : goal.bound-requires-clause-y_numbers
@@ -31,7 +31,7 @@ bound-requires-clause-y_numbers c =
     let d = c.args.document.now in
     let within : AreWithin c.args.kind i d = c.requires.within in
     let ys : c.deref.result.now ≡ duals_of d = c.deref.ensures.value ∙ c.in_ok-y.ensures ∙ ap (λ (xs : List DualLine). map (λ (y : DualLine). y.dual) xs) c.as_slice.ensures in
-    subst (λ (y : List ℤ). All IsNumber y) (sym ys) (duals-numbers (vertices i) d.duals within.duals)
+    subst (λ (y : List ℤ). All IsNumber y) (sym ys) (duals-numbers (gadget_graph c.args.kind i).vertices d.duals within.duals)
 
 pub bound-requires-clause-set_numbers : goal.bound-requires-clause-set_numbers
 bound-requires-clause-set_numbers c =
@@ -39,7 +39,7 @@ bound-requires-clause-set_numbers c =
     let d = c.args.document.now in
     let within : AreWithin c.args.kind i d = c.requires.within in
     let sets : c.deref-2.result.now ≡ sets_of d = c.deref-2.ensures.value ∙ c.in_ok-sets.ensures ∙ ap (λ (zs : List SetLine). map set_of zs) c.as_slice-2.ensures in
-    subst (λ (zs : List OddSet). All (λ s. IsNumber s.dual) zs) (sym sets) (sets-numbers (vertices i) d.sets within.sets)
+    subst (λ (zs : List OddSet). All (λ s. IsNumber s.dual) zs) (sym sets) (sets-numbers (gadget_graph c.args.kind i).vertices d.sets within.sets)
 
 pub bound-requires-clause-sets_within : goal.bound-requires-clause-sets_within
 bound-requires-clause-sets_within c =
@@ -47,8 +47,8 @@ bound-requires-clause-sets_within c =
     let d = c.args.document.now in
     let within : AreWithin c.args.kind i d = c.requires.within in
     let sets : c.deref-2.result.now ≡ sets_of d = c.deref-2.ensures.value ∙ c.in_ok-sets.ensures ∙ ap (λ (zs : List SetLine). map set_of zs) c.as_slice-2.ensures in
-    let graph : c.in_ok-graph.graph ≡ graph_of i = c.in_ok-graph.ensures in
-    subst (λ (g : Multigraph). All (IsSetWithin g.vertices) c.deref-2.result.now) (sym graph) (subst (λ (zs : List OddSet). All (IsSetWithin (vertices i)) zs) (sym sets) (sets-within (vertices i) d.sets within.sets))
+    let graph : c.in_ok-graph.graph ≡ gadget_graph c.args.kind i = c.in_ok-graph.ensures.graph in
+    subst (λ (g : Multigraph). All (IsSetWithin g.vertices) c.deref-2.result.now) (sym graph) (subst (λ (zs : List OddSet). All (IsSetWithin (gadget_graph c.args.kind i).vertices) zs) (sym sets) (sets-within (gadget_graph c.args.kind i).vertices d.sets within.sets))
 
 pub judge_value-requires-clause-before : goal.judge_value-requires-clause-before
 judge_value-requires-clause-before c =
@@ -57,9 +57,9 @@ judge_value-requires-clause-before c =
     let within : AreWithin c.args.kind i d = c.requires.within in
     let ys : c.deref.result.now ≡ duals_of d = c.deref.ensures.value ∙ c.in_ok-y.ensures ∙ ap (λ (xs : List DualLine). map (λ (y : DualLine). y.dual) xs) c.as_slice.ensures in
     let sets : c.deref-2.result.now ≡ sets_of d = c.deref-2.ensures.value ∙ c.in_ok-sets.ensures ∙ ap (λ (zs : List SetLine). map set_of zs) c.as_slice-2.ensures in
-    let graph : c.in_ok-graph.graph ≡ graph_of i = c.in_ok-graph.ensures in
+    let graph : c.in_ok-graph.graph ≡ gadget_graph c.args.kind i = c.in_ok-graph.ensures.graph in
     let ascending : AscendsBy (λ y. y.vertex) d.duals = d.form.vertices_ascend in
-    let size : length d.duals ≡ vertices i = sym c.len.ensures ∙ c.if-len-vertices.false ∙ c.vertices.ensures.count in
+    let size : length d.duals ≡ (gadget_graph c.args.kind i).vertices = sym c.len.ensures ∙ c.if-len-certified_vertices.false ∙ c.certified_vertices.ensures.count in
     let have : HasDuals c.args.kind i d = has_duals c.args.kind i d ascending within size in
     let to_forms : KeepsBefore c.args.kind i d SetForm = keeps-next c.args.kind i d DualMissing SetForm refl c.requires.before (λ _. have) in
     let duals : AreDuals c.in_ok-graph.graph c.deref.result.now c.deref-2.result.now = c.in-Ok.ensures.duals in
@@ -76,7 +76,7 @@ refuse_set-requires-clause-before c =
     let d = c.args.document.now in
     let within : AreWithin c.args.kind i d = c.requires.within in
     let ascending : AscendsBy (λ y. y.vertex) d.duals = d.form.vertices_ascend in
-    let size : length d.duals ≡ vertices i = sym c.len.ensures ∙ c.if-len-vertices.false ∙ c.vertices.ensures.count in
+    let size : length d.duals ≡ (gadget_graph c.args.kind i).vertices = sym c.len.ensures ∙ c.if-len-certified_vertices.false ∙ c.certified_vertices.ensures.count in
     let have : HasDuals c.args.kind i d = has_duals c.args.kind i d ascending within size in
     keeps-next c.args.kind i d DualMissing SetForm refl c.requires.before (λ _. have)
 
@@ -87,16 +87,16 @@ refuse_set-requires-clause-fault c =
     let found : IsFirstSetFault c.deref-2.result.now c.in-Err-SetForm.number = rw c.in-Err-SetForm.field-0-is at c.in-Err-SetForm.ensures.fault in
     subst (λ (zs : List OddSet). IsFirstSetFault zs c.in-Err-SetForm.number) sets found
 
-pub returns-in-Err-Slack : goal.returns-in-Err-Slack
-returns-in-Err-Slack c =
+pub returns-in-Err-Slack-clause-verdict : goal.returns-in-Err-Slack-clause-verdict
+returns-in-Err-Slack-clause-verdict c =
     let i = c.args.instance.now in
     let d = c.args.document.now in
     let within : AreWithin c.args.kind i d = c.requires.within in
     let ys : c.deref.result.now ≡ duals_of d = c.deref.ensures.value ∙ c.in_ok-y.ensures ∙ ap (λ (xs : List DualLine). map (λ (y : DualLine). y.dual) xs) c.as_slice.ensures in
     let sets : c.deref-2.result.now ≡ sets_of d = c.deref-2.ensures.value ∙ c.in_ok-sets.ensures ∙ ap (λ (zs : List SetLine). map set_of zs) c.as_slice-2.ensures in
-    let graph : c.in_ok-graph.graph ≡ graph_of i = c.in_ok-graph.ensures in
+    let graph : c.in_ok-graph.graph ≡ gadget_graph c.args.kind i = c.in_ok-graph.ensures.graph in
     let ascending : AscendsBy (λ y. y.vertex) d.duals = d.form.vertices_ascend in
-    let size : length d.duals ≡ vertices i = sym c.len.ensures ∙ c.if-len-vertices.false ∙ c.vertices.ensures.count in
+    let size : length d.duals ≡ (gadget_graph c.args.kind i).vertices = sym c.len.ensures ∙ c.if-len-certified_vertices.false ∙ c.certified_vertices.ensures.count in
     let have : HasDuals c.args.kind i d = has_duals c.args.kind i d ascending within size in
     let to_forms : KeepsBefore c.args.kind i d SetForm = keeps-next c.args.kind i d DualMissing SetForm refl c.requires.before (λ _. have) in
     let y = c.deref.result.now in
@@ -106,7 +106,7 @@ returns-in-Err-Slack c =
     let fault : IsFirstSlackFault g y zs e = rw c.in-Err-Slack.field-0-is at c.in-Err-Slack.ensures.fault in
     let forms : HaveForm d = forms-of_lines d (subst (λ (zs : List OddSet). All (λ s. HasForm s.members) zs) sets fault.forms) in
     let to_slacks : KeepsBefore c.args.kind i d Slack = keeps-next c.args.kind i d SetForm Slack refl to_forms forms in
-    let lacks : HaveSlack c.args.kind i d → ⊥ = λ (have : All (λ e. pos 0 ≤ℤ slack (duals_of d) (sets_of d) e) (graph_of i).edges).
+    let lacks : HaveSlack c.args.kind i d → ⊥ = λ (have : All (λ e. pos 0 ≤ℤ slack (duals_of d) (sets_of d) e) (gadget_graph c.args.kind i).edges).
     (let at_graph : All (λ e. pos 0 ≤ℤ slack (duals_of d) (sets_of d) e) g.edges = subst (λ (h : Multigraph). All (λ e. pos 0 ≤ℤ slack (duals_of d) (sets_of d) e) h.edges) (sym graph) have in
     let at_sets : All (λ e. pos 0 ≤ℤ slack (duals_of d) zs e) g.edges = subst (λ (ws : List OddSet). All (λ e. pos 0 ≤ℤ slack (duals_of d) ws e) g.edges) (sym sets) at_graph in
     let at_duals : All (λ e. pos 0 ≤ℤ slack y zs e) g.edges = subst (λ (x : List ℤ). All (λ e. pos 0 ≤ℤ slack x zs e) g.edges) (sym ys) at_sets in

@@ -4,8 +4,8 @@ use Rattle.cert_check.specs.Verdicts.{IsFirstFormless}
 use Rattle.cert_check.proofs.DualLemmas.{first_formless}
 use Rattle.cert_check.proofs.optimal.refuse_set.Goals as goal
 
-pub returns : goal.returns
-returns c =
+pub returns-clause-verdict : goal.returns-clause-verdict
+returns-clause-verdict c =
     let d = c.args.document.now in
     let number = c.args.number in
     let z : SetLine = c.index-as_slice-number.result in

@@ -1,0 +1,6 @@
+use Rattle.std.proofs.Common.{◌≡◌, take}
+use Rattle.cert_check.specs.Claims.{numbers}
+use Rattle.cert_check.proofs.claims.edges_of.Given as goal
+
+abbrev pub invariant-loop-number : goal.invariant-loop-number
+invariant-loop-number l = l.edges.items ≡ numbers (take l.number-index l.line)

@@ -1,0 +1,33 @@
+use Rattle.std.proofs.Common.{◌≡◌, ℤ, rules, refl, sym, ap, ◌∙◌, subst, arith, to_z, of_z, w64}
+use Rattle.gadget_base.specs.Certified.{value_for}
+use Rattle.graph_theory.specs.Duals.{dual_value}
+use Rattle.doc_format.specs.declared.status.DocStatus.{DocStatus}
+use Rattle.doc_format.specs.declared.status.DocStatus.TheVariants.{Optimal, Infeasible, NonConservative}
+use Rattle.cert_check.specs.declared.rule.DocRule.TheVariants.{NotFeasible, WeightDiffers, ValueDiffers, NotBarrier, NotClosed, NotCircuit}
+use Rattle.cert_check.specs.Claims.{duals_of, sets_of}
+use Rattle.cert_check.specs.Certificates.{HasFeasibleAnswer, HasStatedWeight, HasValue}
+use Rattle.cert_check.specs.Verdicts.{KeepsBefore}
+use Rattle.cert_check.specs.Proved.{StatesTruthBy}
+use Rattle.cert_check.proofs.RuleLemmas.{optimal-all}
+use Rattle.cert_check.proofs.TruthLemmas.{best-by_value}
+use Rattle.cert_check.proofs.optimal.judge_value.Goals as goal
+
+abbrev Value : goal.Else-value-value_for → Type 0
+Value c = c.args.value ≡ value_for c.args.kind c.args.instance.now c.args.document.now.weight
+
+value : (c : goal.Else-value-value_for) → Value c
+value c =
+    let same : c.args.value ≡ c.value_for.result = search rules in
+    let weight : to_z w64 (of_z w64 c.args.document.now.weight) ≡ c.args.document.now.weight = search rules in
+    same ∙ c.value_for.ensures ∙ ap (λ (w : ℤ). value_for c.args.kind c.args.instance.now w) weight
+
+pub returns-clause-verdict : goal.returns-clause-verdict
+returns-clause-verdict c = optimal-all c.args.kind c.args.instance.now c.args.document.now c.requires.status c.requires.before (sym c.requires.value ∙ value c)
+
+pub returns-clause-sound : goal.returns-clause-sound
+returns-clause-sound c =
+    let i = c.args.instance.now in
+    let d = c.args.document.now in
+    let feasible : HasFeasibleAnswer c.args.kind i d = c.requires.before NotFeasible (omega arith) c.requires.status in
+    let weighs : HasStatedWeight c.args.kind i d = c.requires.before WeightDiffers (omega arith) c.requires.status in
+    λ _. subst (λ (s : DocStatus). StatesTruthBy s c.args.kind i d) (sym c.requires.status) (best-by_value c.args.kind i d c.args.value feasible weighs (value c) c.requires.below c.requires.reached)

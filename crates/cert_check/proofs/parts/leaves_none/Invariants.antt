@@ -1,0 +1,7 @@
+use Rattle.std.proofs.Common.{◌≡◌, ℕ, ◌<◌}
+use Rattle.mb_problem.specs.Network.{instance_edge_at}
+use Rattle.cert_check.specs.Marked.{mark_of}
+use Rattle.cert_check.proofs.parts.leaves_none.Given as goal
+
+abbrev pub invariant-loop-edge : goal.invariant-loop-edge
+invariant-loop-edge l = (k : ℕ) → k < l.edge-index → mark_of l.marks (instance_edge_at l.instance k).u ≡ mark_of l.marks (instance_edge_at l.instance k).v

@@ -1,0 +1,6 @@
+use Rattle.std.proofs.Common.{take}
+use Rattle.mb_problem.specs.Marks.{AreMarks}
+use Rattle.cert_check.proofs.parts.marks_of.Given as goal
+
+abbrev pub invariant-loop-v : goal.invariant-loop-v
+invariant-loop-v l = AreMarks l.n l.marks.items (take l.v-index l.members)

@@ -1,0 +1,54 @@
+ghost use Rattle.std.specs.Prelude.{◌≡◌, ◌↔◌, IsTrue, IfOk};
+ghost use Rattle.cert_check.specs.Within.{AreWithin};
+ghost use Rattle.cert_check.specs.Verdicts.{IsVerdict, KeepsBefore};
+ghost use Rattle.cert_check.specs.Certificates.{HasNegativeCircuit};
+ghost use Rattle.cert_check.specs.Proved.{StatesTruth};
+
+use crate::claims::walk_of;
+use crate::rule::{DocRule, Verdict};
+use doc_format::{DocStatus, Document};
+use mb_base::OutOfMemory;
+use mb_problem::{Answer, Instance, Kind, is_circuit, weight};
+use std::alloc::Global;
+
+/// Whether a document names a circuit that weighs less than 0.
+fn has_negative_circuit(
+    alloc: Global,
+    instance: &Instance,
+    kind: Kind,
+    document: &Document,
+) -> Result<bool, OutOfMemory>
+    requires { AreWithin kind instance.now document.now }
+    ensures { IfOk result (λ b. IsTrue b ↔ HasNegativeCircuit instance.now document.now) }
+{
+    let _ = kind;
+    let walk = walk_of(alloc, instance, &document.walk)?;
+    let Answer::Walk { start, edges } = &walk else {
+        return Ok(false);
+    };
+    if !is_circuit(alloc, instance, *start, edges.as_slice())? {
+        return Ok(false);
+    }
+    Ok(weight(instance, &walk) < 0)
+}
+
+/// The verdict on a document that states that the weights aren't conservative.
+pub fn judge_conservative(
+    alloc: Global,
+    instance: &Instance,
+    kind: Kind,
+    document: &Document,
+) -> Result<Verdict, OutOfMemory>
+    requires status { document.now.status ≡ DocStatus.NonConservative }
+    requires within { AreWithin kind instance.now document.now }
+    requires before { KeepsBefore kind instance.now document.now DocRule.NotCircuit }
+    ensures verdict { IfOk result (IsVerdict kind instance.now document.now) }
+    ensures sound { IfOk result (λ v. v ≡ Verdict.Accepted → StatesTruth kind instance.now document.now) }
+{
+    if !has_negative_circuit(alloc, instance, kind, document)? {
+        let rule = DocRule::NotCircuit;
+        let line = document.line;
+        return Ok(Verdict::Rejected { rule, line });
+    }
+    Ok(Verdict::Accepted)
+}

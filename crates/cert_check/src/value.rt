@@ -1,0 +1,31 @@
+ghost use Rattle.std.specs.Prelude.{◌≡◌, ◌≤◌, ◌^◌, pos, neg_ℤ, ◌≤ℤ◌};
+ghost use Rattle.graph_theory.specs.Duals.{IsNumber};
+ghost use Rattle.gadget_base.specs.Certified.{total_weight, value_for};
+
+use mb_problem::{Instance, Kind};
+
+/// The weights of all edges, added up.
+fn total_weight(instance: &Instance) -> i128
+    ensures total { result ≡ total_weight instance.now }
+    ensures low { neg_ℤ (pos (2 ^ 90)) ≤ℤ result }
+    ensures high { result ≤ℤ pos (2 ^ 90) }
+{
+    let mut total = 0;
+    for edge in instance.edge_list() {
+        total += i128::from(edge.w);
+    }
+    total
+}
+
+/// The value that duals have beside a best answer of this weight.
+pub fn value_for(instance: &Instance, kind: Kind, weight: i64) -> i128
+    requires { IsNumber weight }
+    ensures { result ≡ value_for kind instance.now weight }
+{
+    let weight = i128::from(weight);
+    match kind {
+        Kind::Match => -4 * weight,
+        Kind::Postman => 2 * (weight - total_weight(instance)),
+        _ => 2 * weight,
+    }
+}

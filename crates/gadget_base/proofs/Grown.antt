@@ -1,0 +1,59 @@
+-- Lemmas on graphs whose list of edges grows by a row, a rectangle or a clique.
+use Rattle.std.proofs.Common.{◌≡◌, ℕ, zero, suc, ◌+◌, ◌-◌, ◌*◌, ◌/◌, ◌≤◌, pos, refl, ap, sym, ◌∙◌, arith, List, [], ◌∷◌, ◌++◌, length, length-append}
+use Rattle.std.proofs.lemmas.List.{append_assoc, append-nil}
+use Rattle.graph_theory.specs.declared.edge.Edge.{Edge}
+use Rattle.graph_theory.specs.Sums.{sum_to}
+use Rattle.graph_theory.specs.Graph.{Multigraph}
+use Rattle.graph_theory.proofs.SumLemmas.{sum_to-same}
+use Rattle.gadget_base.specs.Blocks.{blocks, tabled, row, clique}
+use Rattle.gadget_base.proofs.Blocks.{blocks-length, tabled-more, blocks-more, row-length}
+
+-- nothing more
+pub grown-none : (g : Multigraph) → g ≡ record g { edges = g.edges ++ [] }
+grown-none g = ap (λ (es : List Edge). record g { edges = es }) (sym (append-nil g.edges))
+
+-- first one list and then another
+pub grown-twice : (old mid new : Multigraph) (es fs : List Edge) → mid ≡ record old { edges = old.edges ++ es } → new ≡ record mid { edges = mid.edges ++ fs } → new ≡ record old { edges = old.edges ++ (es ++ fs) }
+grown-twice old mid new es fs one two =
+    two ∙ ap (λ (g : Multigraph). record g { edges = g.edges ++ fs }) one ∙ ap (λ (xs : List Edge). record old { edges = xs }) (append_assoc old.edges es fs)
+
+-- one block more
+pub grown-block : (old mid new : Multigraph) (f : ℕ → List Edge) (k : ℕ) → mid ≡ record old { edges = old.edges ++ blocks f k } → new ≡ record mid { edges = mid.edges ++ f k } → new ≡ record old { edges = old.edges ++ blocks f (k + 1) }
+grown-block old mid new f k one two = grown-twice old mid new (blocks f k) (f k) one two ∙ ap (λ (xs : List Edge). record old { edges = old.edges ++ xs }) (sym (blocks-more f k))
+
+-- one edge more
+pub grown-one : (old mid new : Multigraph) (f : ℕ → Edge) (k : ℕ) → mid ≡ record old { edges = old.edges ++ tabled f k } → new ≡ record mid { edges = mid.edges ++ f k ∷ [] } → new ≡ record old { edges = old.edges ++ tabled f (k + 1) }
+grown-one old mid new f k one two = grown-twice old mid new (tabled f k) (f k ∷ []) one two ∙ ap (λ (xs : List Edge). record old { edges = old.edges ++ xs }) (sym (tabled-more f k))
+
+-- how many edges there are
+pub grown-length : (old new : Multigraph) (es : List Edge) → new ≡ record old { edges = old.edges ++ es } → length new.edges ≡ length old.edges + length es
+grown-length old new es now = ap (λ (g : Multigraph). length g.edges) now ∙ length-append old.edges es
+
+pub grown-vertices : (old new : Multigraph) (es : List Edge) → new ≡ record old { edges = old.edges ++ es } → new.vertices ≡ old.vertices
+grown-vertices old new es now = ap (λ (g : Multigraph). g.vertices) now
+
+-- the edges of a clique of which n - 1 - a leave the a-th vertex
+pub clique-sum : (n a : ℕ) → a ≤ n → 2 * sum_to (λ j. n - 1 - j) a + a * a + a ≡ 2 * n * a
+clique-sum n zero h = omega arith
+clique-sum n (suc a) h =
+    let front = clique-sum n a (omega arith) in
+    let e1 : suc a * suc a ≡ a * a + 2 * a + 1 = grind arith in
+    let e2 : 2 * n * suc a ≡ 2 * n * a + 2 * n = grind arith in
+    omega (arith, front, e1, e2)
+
+pub square-less : (n : ℕ) → n * (n - 1) + n ≡ n * n
+square-less zero = refl
+square-less (suc n) = let e : suc n - 1 ≡ n = omega arith in rw e (grind arith)
+
+pub clique-rows : (before n a : ℕ) → length (blocks (λ a. row (before + a + 1) (before + a + 1) (n - 1 - a) (pos 0)) a) ≡ sum_to (λ j. n - 1 - j) a
+clique-rows before n a =
+    blocks-length (λ a. row (before + a + 1) (before + a + 1) (n - 1 - a) (pos 0)) a
+    ∙ sum_to-same (λ a. length (row (before + a + 1) (before + a + 1) (n - 1 - a) (pos 0))) (λ a. n - 1 - a) a (λ a _. row-length (before + a + 1) (before + a + 1) (n - 1 - a) (pos 0))
+
+pub clique-length : (before n : ℕ) → length (clique before n) ≡ n * (n - 1) / 2
+clique-length before n =
+    let all = clique-rows before n n in
+    let sum = clique-sum n n (omega arith) in
+    let twice = square-less n in
+    let double : 2 * n * n ≡ n * n + n * n = grind arith in
+    omega (arith, all, sum, twice, double)

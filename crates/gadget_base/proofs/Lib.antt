@@ -1,0 +1,9 @@
+pub mod Grown
+pub mod BlockSums
+pub mod Blocks
+pub mod Over
+pub mod Listed
+pub mod Degrees
+pub mod Within
+pub mod Units
+pub mod Used

@@ -1,0 +1,174 @@
+-- A perfect matching as a list of numbers of edges, and as counts.
+use Rattle.std.proofs.Common.{◌≡◌, ℕ, ◌+◌, ◌-◌, ◌*◌, ◌<◌, ◌≤◌, ℤ, pos, ◌+ℤ◌, ◌*ℤ◌, Bool, true, false, cond, eqb, refl, ap, sym, ◌∙◌, subst, inl, inr, arith, List, [], ◌∷◌, length, take, slice_index, All, count_by}
+use Rattle.std.proofs.lemmas.Int.{ints}
+use Rattle.std.proofs.lemmas.Bool.{eq-eqb, ne_eqb, cases_eq}
+use Rattle.std.proofs.lemmas.List.{get_or_default}
+use Rattle.std.proofs.lemmas.List.Sums.{sum_by-cons, count_by_more_yes, count_by_more_no, count_by-le-length}
+use Rattle.std.proofs.lemmas.Grind.{common_steps}
+use Rattle.std.proofs.lemmas.List.Elements.{All-tail, All-head}
+use Rattle.graph_theory.specs.Sums.{sum_to, int_sum_to}
+use Rattle.graph_theory.specs.declared.edge.Edge.{Edge}
+use Rattle.graph_theory.specs.Graph.{Multigraph, IsEdgeWithin, IsEdgeNumber, edge_at, edge_of, touches, no_edge, degree, weight, IsPerfect}
+use Rattle.graph_theory.specs.Walk.{walk_weight}
+use Rattle.graph_theory.proofs.SumLemmas.{sum_to-same, sum_to-add, sum_to-has, int_sum_to-same, int_sum_to-add, int_sum_to-zero, int_sum_to-one, int_sum_to-pos, plus-times, int_sum_to-at_one}
+use Rattle.graph_theory.proofs.Edges.{degree-touches, touches-u, edge_of-place}
+use Rattle.graph_theory.proofs.Handshake.{handshake-perfect}
+use Rattle.gadget_base.specs.Certified.{IsPerfectList}
+use Rattle.gadget_base.specs.Listed.{times, times_each}
+use Rattle.gadget_base.proofs.BlockSums.{sum_to-none, sum_to-hit}
+use Rattle.gadget_base.proofs.Blocks.{tabled-length, tabled-at}
+
+pub times-cons : (e : ℕ) (es : List ℕ) (k : ℕ) → times (e ∷ es) k ≡ cond (eqb e k) 1 0 + times es k
+times-cons e es k = sum_by-cons (λ x. cond (eqb x k) 1 0) e es
+
+cond_off : (t : Bool) → cond {A = ℕ} t 0 0 ≡ 0
+cond_off true = refl
+cond_off false = refl
+
+split : (t : Bool) (x : ℕ) → cond t (1 + x) 0 ≡ cond t 1 0 + cond t x 0
+split true x = refl
+split false x = refl
+
+no_more : (t : Bool) (x : ℕ) → cond t (0 + x) 0 ≡ 0 + cond t x 0
+no_more true x = refl
+no_more false x = refl
+
+turn_test : (e k : ℕ) (t : Bool) (x : ℕ) → 1 ≤ e → cond t (cond (eqb e (k + 1)) 1 0 + x) 0 ≡ cond (eqb k (e - 1)) (cond t 1 0) 0 + cond t x 0
+turn_test e k t x low =
+    elim (cases_eq e (k + 1)) [
+      | inl h ↦
+          let on : eqb e (k + 1) ≡ true = eq-eqb _ _ h in
+          let on' : eqb k (e - 1) ≡ true = eq-eqb _ _ (let z : k ≡ e - 1 = omega arith in z) in
+          rw (on, on') (split t x)
+      | inr d ↦
+          let off : eqb e (k + 1) ≡ false = ne_eqb _ _ d in
+          let off' : eqb k (e - 1) ≡ false = ne_eqb _ _ (λ h. d (let z : e ≡ k + 1 = omega arith in z)) in
+          rw (off, off') (no_more t x)
+    ]
+
+-- the edges of a list that pass a test, by places
+pub times-sum : (t : ℕ → Bool) (es : List ℕ) (m : ℕ) → All (λ e. (1 ≤ e) × (e ≤ m)) es → sum_to (λ k. cond (t (k + 1)) (times es (k + 1)) 0) m ≡ count_by t es
+times-sum t [] m h = sum_to-none (λ k. cond (t (k + 1)) (times [] (k + 1)) 0) m (λ k _. cond_off (t (k + 1)))
+times-sum t (e ∷ es) m h =
+    let rest = times-sum t es m (All-tail (λ e. (1 ≤ e) × (e ≤ m)) e es h) in
+    let first : (1 ≤ e) × (e ≤ m) = All-head (λ e. (1 ≤ e) × (e ≤ m)) e es h in
+    let low : 1 ≤ e = first.0 in
+    let high : e ≤ m = first.1 in
+    let here : cond {A = ℕ} (t (e - 1 + 1)) 1 0 ≡ cond (t e) 1 0 = ap (λ x. cond {A = ℕ} (t x) 1 0) (let z : e - 1 + 1 ≡ e = omega arith in z) in
+    sum_to-same (λ k. cond (t (k + 1)) (times (e ∷ es) (k + 1)) 0) (λ k. cond (eqb k (e - 1)) (cond (t (k + 1)) 1 0) 0 + cond (t (k + 1)) (times es (k + 1)) 0) m
+    (λ k _. ap (λ x. cond (t (k + 1)) x 0) (times-cons e es (k + 1)) ∙ turn_test e k (t (k + 1)) (times es (k + 1)) low)
+    ∙ sum_to-add (λ k. cond (eqb k (e - 1)) (cond (t (k + 1)) 1 0) 0) (λ k. cond (t (k + 1)) (times es (k + 1)) 0) m
+    ∙ ap (λ x. x + sum_to (λ k. cond (t (k + 1)) (times es (k + 1)) 0) m) (sum_to-hit (λ k. cond (t (k + 1)) 1 0) (e - 1) m (omega arith) ∙ here)
+    ∙ ap (λ x. cond (t e) 1 0 + x) rest
+    ∙ sym (sum_by-cons (λ y. cond (t y) 1 0) e es)
+
+pub times_each-length : (g : Multigraph) (es : List ℕ) → length (times_each g es) ≡ length g.edges
+times_each-length g es = tabled-length (λ k. times es (k + 1)) (length g.edges)
+
+pub times_each-at : (g : Multigraph) (es : List ℕ) (k : ℕ) → k < length g.edges → slice_index (times_each g es) k ≡ times es (k + 1)
+times_each-at g es k b = tabled-at (λ k. times es (k + 1)) (length g.edges) k 0 b
+
+pub times_each-degree : (g : Multigraph) (es : List ℕ) (v : ℕ) → All (IsEdgeWithin g.vertices) g.edges → All (IsEdgeNumber g) es → degree g (times_each g es) v ≡ count_by (λ e. touches (edge_of g e) v) es
+times_each-degree g es v ends numbers =
+    let t : ℕ → Bool = λ e. touches (edge_of g e) v in
+    degree-touches g (times_each g es) v ends
+    ∙ sum_to-same (λ k. cond (touches (edge_at g k) v) (slice_index (times_each g es) k) 0) (λ k. cond (t (k + 1)) (times es (k + 1)) 0) (length g.edges)
+    (λ k b.
+    ap (λ x. cond (touches (edge_at g k) v) x 0) (times_each-at g es k b)
+    ∙ ap (λ (e : Edge). cond (touches e v) (times es (k + 1)) 0) (sym (edge_of-place g k)))
+    ∙ times-sum t es (length g.edges) numbers
+
+-- where each vertex has degree 1, no edge counts more than once: it would count more at an end
+pub at_most_one_from_degrees : (g : Multigraph) (counts : List ℕ) → All (IsEdgeWithin g.vertices) g.edges → ((v : ℕ) → 1 ≤ v → v ≤ g.vertices → degree g counts v ≡ 1) → (k : ℕ) → k < length g.edges → slice_index counts k ≤ 1
+at_most_one_from_degrees g counts ends degrees k b =
+    let e = edge_at g k in
+    let within : IsEdgeWithin g.vertices e = ends k no_edge b in
+    let one = degrees e.u within.u_low within.u_high in
+    let sum = degree-touches g counts e.u ends in
+    let term = sum_to-has (λ k. cond (touches (edge_at g k) e.u) (slice_index counts k) 0) (length g.edges) k b in
+    let on : cond (touches e e.u) (slice_index counts k) 0 ≡ slice_index counts k = ap (λ (t : Bool). cond t (slice_index counts k) 0) (touches-u e) in
+    omega (arith, one, sum, term, on)
+
+pub perfect_from_degrees : (g : Multigraph) (counts : List ℕ) → All (IsEdgeWithin g.vertices) g.edges → length counts ≡ length g.edges → ((v : ℕ) → 1 ≤ v → v ≤ g.vertices → degree g counts v ≡ 1) → IsPerfect g counts
+perfect_from_degrees g counts ends size degrees = record {
+  one_each = size;
+  at_most_one = λ k d b. subst (λ (c : ℕ). c ≤ 1) (get_or_default counts k 0 d b) (at_most_one_from_degrees g counts ends degrees k (omega (arith, size, b)));
+  degrees = degrees;
+}
+
+pub perfect_from_list : (g : Multigraph) (es : List ℕ) → All (IsEdgeWithin g.vertices) g.edges → IsPerfectList g es → IsPerfect g (times_each g es)
+perfect_from_list g es ends list = perfect_from_degrees g (times_each g es) ends (times_each-length g es) (λ v low high. times_each-degree g es v ends list.numbers ∙ list.one_each v low high)
+
+-- no edge is listed twice
+pub times-small : (g : Multigraph) (es : List ℕ) (k : ℕ) → All (IsEdgeWithin g.vertices) g.edges → IsPerfectList g es → k < length g.edges → times es (k + 1) ≤ 1
+times-small g es k ends list b =
+    let perfect = perfect_from_list g es ends list in
+    let one = at_most_one_from_degrees g (times_each g es) ends perfect.degrees k b in
+    let is = times_each-at g es k b in
+    omega (arith, one, is)
+
+one_times : (t : Bool) (b : ℤ) → pos (cond t 1 0) *ℤ b ≡ cond t b (pos 0)
+one_times true b = omega (arith, ints)
+one_times false b = omega (arith, ints)
+
+-- weights by places, with each weight as often as its edge is listed
+pub times-weight : (g : Multigraph) (es : List ℕ) → All (IsEdgeNumber g) es → int_sum_to (λ k. pos (times es (k + 1)) *ℤ (edge_at g k).w) (length g.edges) ≡ walk_weight g es
+times-weight g [] h =
+    int_sum_to-same (λ k. pos (times [] (k + 1)) *ℤ (edge_at g k).w) (λ _. pos 0) (length g.edges) (λ k _. omega (arith, ints))
+    ∙ int_sum_to-zero (length g.edges)
+times-weight g (e ∷ es) h =
+    let m = length g.edges in
+    let rest = times-weight g es (All-tail (IsEdgeNumber g) e es h) in
+    let first : IsEdgeNumber g e = All-head (IsEdgeNumber g) e es h in
+    let here : ℕ → ℤ = λ k. cond (eqb e (k + 1)) (edge_of g (k + 1)).w (pos 0) in
+    let there : ℕ → ℤ = λ k. pos (times es (k + 1)) *ℤ (edge_at g k).w in
+    let parts = int_sum_to-same (λ k. pos (times (e ∷ es) (k + 1)) *ℤ (edge_at g k).w) (λ k. here k +ℤ there k) m
+    (λ k _.
+    ap (λ x. pos x *ℤ (edge_at g k).w) (times-cons e es (k + 1))
+    ∙ plus-times (cond (eqb e (k + 1)) 1 0) (times es (k + 1)) (edge_at g k).w
+    ∙ ap (λ (x : ℤ). x +ℤ there k) (one_times (eqb e (k + 1)) (edge_at g k).w ∙ ap (λ (f : Edge). cond (eqb e (k + 1)) f.w (pos 0)) (sym (edge_of-place g k)))) in
+    let both = int_sum_to-add here there m in
+    let one = int_sum_to-at_one (λ k. (edge_of g k).w) e m first.0 first.1 in
+    omega (arith, ints, rest, parts, both, one)
+
+pub weight_of_list : (g : Multigraph) (es : List ℕ) → All (IsEdgeNumber g) es → weight g (times_each g es) ≡ walk_weight g es
+weight_of_list g es numbers =
+    int_sum_to-same (λ k. pos (slice_index (times_each g es) k) *ℤ (edge_at g k).w) (λ k. pos (times es (k + 1)) *ℤ (edge_at g k).w) (length g.edges)
+    (λ k b. ap (λ x. pos x *ℤ (edge_at g k).w) (times_each-at g es k b))
+    ∙ times-weight g es numbers
+
+-- one number more of a list
+
+pub times-more : (es : List ℕ) (i e : ℕ) → i < length es → times (take (i + 1) es) e ≡ times (take i es) e + cond (eqb (slice_index es i) e) 1 0
+times-more es i e b =
+    elim (cases_eq (slice_index es i) e) [
+      | inl h ↦ let on : eqb (slice_index es i) e ≡ true = eq-eqb _ _ h in rw on (count_by_more_yes (λ x. eqb x e) es i 0 b on)
+      | inr d ↦ let off : eqb (slice_index es i) e ≡ false = ne_eqb _ _ d in rw off (count_by_more_no (λ x. eqb x e) es i 0 b off ∙ (let z : times (take i es) e ≡ times (take i es) e + 0 = omega arith in z))
+    ]
+
+pub times-take : (es : List ℕ) (i e : ℕ) → i < length es → times (take i es) e ≤ i
+times-take es i e b =
+    let most = count_by-le-length (λ x. eqb x e) (take i es) in
+    let size : length (take i es) ≡ i = grind (arith, common_steps) in
+    omega (arith, most, size)
+
+-- how many edges a perfect matching has
+
+count_all : (es : List ℕ) → count_by (λ _. true) es ≡ length es
+count_all [] = refl
+count_all (e ∷ es) = sum_by-cons (λ _. 1) e es ∙ (let rest = count_all es in omega (arith, rest))
+
+pub list-length : (g : Multigraph) (es : List ℕ) → All (IsEdgeWithin g.vertices) g.edges → IsPerfectList g es → 2 * length es ≡ g.vertices
+list-length g es ends list =
+    let m = length g.edges in
+    let c : ℕ → ℕ = λ k. slice_index (times_each g es) k in
+    let one = handshake-perfect g (times_each g es) (λ _. pos 1) ends (perfect_from_list g es ends list) in
+    let vertices = int_sum_to-one g.vertices in
+    let twice = int_sum_to-same (λ k. pos (c k) *ℤ (pos 1 +ℤ pos 1)) (λ k. pos (c k) +ℤ pos (c k)) m (λ k _. omega (arith, ints)) in
+    let both = int_sum_to-add (λ k. pos (c k)) (λ k. pos (c k)) m in
+    let sum = int_sum_to-pos c m in
+    let each = sum_to-same c (λ k. times es (k + 1)) m (λ k b. times_each-at g es k b) in
+    let all = times-sum (λ _. true) es m list.numbers ∙ count_all es in
+    let natural : pos (sum_to c m) ≡ pos (length es) = ap pos (each ∙ all) in
+    let doubled : pos g.vertices ≡ pos (2 * length es) = omega (arith, ints, one, vertices, twice, both, sum, natural) in
+    omega (arith, ints, doubled)

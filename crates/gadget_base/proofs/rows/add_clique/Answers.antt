@@ -1,0 +1,20 @@
+use Rattle.std.proofs.Common.{ℕ, ◌+◌, ◌-◌, List, pos, arith}
+use Rattle.graph_theory.specs.declared.edge.Edge.{Edge}
+use Rattle.gadget_base.specs.Blocks.{blocks, row}
+use Rattle.gadget_base.proofs.BlockSums.{sum_to-grows}
+use Rattle.gadget_base.proofs.Grown.{grown-length, clique-rows, clique-length}
+use Rattle.gadget_base.proofs.rows.add_clique.Goals as goal
+
+pub add_row-requires-clause-room : goal.add_row-requires-clause-room
+add_row-requires-clause-room c =
+    let a = c.loop-a.a in
+    let n = c.args.n in
+    let before = c.args.before in
+    let f : ℕ → List Edge = λ a. row (before + a + 1) (before + a + 1) (n - 1 - a) (pos 0) in
+    let size = grown-length c.args.graph.now c.loop-a.graph (blocks f a) c.loop-a.invariant.added in
+    let here = clique-rows before n a in
+    let all = clique-rows before n n in
+    let whole = clique-length before n in
+    let grows = sum_to-grows (λ j. n - 1 - j) a n (omega arith) in
+    let room = c.requires.room in
+    omega (arith, size, here, all, whole, grows, room)

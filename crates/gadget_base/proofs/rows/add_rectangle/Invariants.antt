@@ -1,0 +1,10 @@
+use Rattle.std.proofs.Common.{◌≡◌, ◌++◌}
+use Rattle.graph_theory.specs.Graph.{IsGraph}
+use Rattle.gadget_base.specs.Blocks.{rectangle}
+use Rattle.gadget_base.proofs.rows.add_rectangle.Given as goal
+
+abbrev pub invariant-loop-a : goal.invariant-loop-a
+invariant-loop-a l = record {
+  added : l.graph ≡ record l.initial.graph { edges = l.initial.graph.edges ++ rectangle l.first l.a l.second l.n l.w };
+  graph : IsGraph l.graph;
+}

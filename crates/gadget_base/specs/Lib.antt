@@ -1,0 +1,5 @@
+pub mod Blocks
+pub mod Gadgets
+pub mod Starts
+pub mod Certified
+pub mod Listed

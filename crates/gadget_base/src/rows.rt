@@ -1,0 +1,71 @@
+ghost use Rattle.std.specs.Prelude.{◌≡◌, ◌≢◌, ℕ, ◌+◌, ◌-◌, ◌*◌, ◌/◌, ◌<◌, ◌≤◌, ◌⊎◌, ◌^◌, ◌++◌, length, OnOk, pos};
+ghost use Rattle.graph_theory.specs.Graph.{IsGraph, IsWeight};
+ghost use Rattle.gadget_base.specs.Blocks.{row, rectangle, clique};
+
+use mb_base::{OutOfMemory, VertexId};
+use weighted_graph::Graph;
+
+/// Adds an edge of weight `w` from vertex `u` to each of the `count` vertices after `before`, which are
+/// the numbers from `before + 1` on. After `OutOfMemory` the first of them may have been added.
+pub fn add_row(
+    graph: &mut Graph,
+    u: u32,
+    before: u32,
+    count: u32,
+    w: i64,
+) -> Result<(), OutOfMemory>
+    requires u_low { 1 ≤ u }
+    requires u_high { u ≤ graph.old.vertices }
+    requires inside { before + count ≤ graph.old.vertices }
+    requires apart { (u ≤ before) ⊎ (before + count < u) }
+    requires room { length graph.old.edges + count < 2 ^ 32 }
+    requires weight { IsWeight w }
+    ensures added { OnOk result (graph.new ≡ record graph.old { edges = graph.old.edges ++ row u before count w }) }
+    ensures graph { IsGraph graph.new }
+{
+    let _vertices = graph.vertices();
+    for j in 0..count {
+        graph.add(VertexId::new(u), VertexId::new(before + j + 1), w)?;
+    }
+    Ok(())
+}
+
+/// Adds an edge of weight `w` from each of the `m` vertices after `first` to each of the `n` vertices
+/// after `second`, row by row. After `OutOfMemory` the first of them may have been added.
+pub fn add_rectangle(
+    graph: &mut Graph,
+    first: u32,
+    m: u32,
+    second: u32,
+    n: u32,
+    w: i64,
+) -> Result<(), OutOfMemory>
+    requires first_inside { first + m ≤ graph.old.vertices }
+    requires second_inside { second + n ≤ graph.old.vertices }
+    requires apart { (first + m ≤ second) ⊎ (second + n ≤ first) }
+    requires room { length graph.old.edges + m * n < 2 ^ 32 }
+    requires weight { IsWeight w }
+    ensures added { OnOk result (graph.new ≡ record graph.old { edges = graph.old.edges ++ rectangle first m second n w }) }
+    ensures graph { IsGraph graph.new }
+{
+    let _vertices = graph.vertices();
+    for a in 0..m {
+        add_row(graph, first + a + 1, second, n, w)?;
+    }
+    Ok(())
+}
+
+/// Adds an edge of weight 0 between any two of the `n` vertices after `before`, the lesser end first
+/// and slowest. After `OutOfMemory` the first of them may have been added.
+pub fn add_clique(graph: &mut Graph, before: u32, n: u32) -> Result<(), OutOfMemory>
+    requires inside { before + n ≤ graph.old.vertices }
+    requires room { length graph.old.edges + n * (n - 1) / 2 < 2 ^ 32 }
+    ensures added { OnOk result (graph.new ≡ record graph.old { edges = graph.old.edges ++ clique before n }) }
+    ensures graph { IsGraph graph.new }
+{
+    let _vertices = graph.vertices();
+    for a in 0..n {
+        add_row(graph, before + a + 1, before + a + 1, n - 1 - a, 0)?;
+    }
+    Ok(())
+}

@@ -1,0 +1,170 @@
+-- Each perfect matching of the graph with gates is a matching within the rooms.
+use Rattle.std.proofs.Common.{◌≡◌, ◌≢◌, ℕ, ◌+◌, ◌*◌, ◌-◌, ◌<◌, ◌≤◌, pos, ◌*ℤ◌, true, false, cond, eqb, refl, ap, sym, ◌∙◌, subst, inl, inr, arith, List, ◌++◌, length, slice_index}
+use Rattle.std.proofs.lemmas.Bool.{cases_eq, eq-eqb, ne_eqb}
+use Rattle.graph_theory.specs.Sums.{sum_to}
+use Rattle.graph_theory.specs.Graph.{degree, weight}
+use Rattle.graph_theory.proofs.SumLemmas.{sum_to-same, int_sum_to-same, sum_to-add, sum_to-swap}
+use Rattle.mb_problem.specs.Network.{Network, IsNetwork, vertices, graph_of, instance_edge_at}
+use Rattle.mb_problem.specs.Size.{value_u, value_v}
+use Rattle.mb_problem.specs.Feasible.{IsBMatching}
+use Rattle.gadget_base.specs.Blocks.{tabled}
+use Rattle.gadget_base.specs.Gadgets.{before_gates, gated, capped_graph}
+use Rattle.gadget_base.proofs.BlockSums.{sum_to-ones, sum_to-cond, sum_to-grows}
+use Rattle.gadget_base.proofs.Blocks.{blocks-length, blocks-same, tabled-blocks, tabled-rows, tabled-length, tabled-at}
+use Rattle.gadget_base.proofs.Over.{table}
+use Rattle.gadget_cap.specs.Places.{gate_size, gates_before}
+use Rattle.gadget_cap.proofs.Tables.{tabled-three}
+use Rattle.gadget_cap.proofs.GateLemmas.{Passage, gate_counts, all_counts, gated-length, value, below, copies-below, entered, degree-copy, degree-first, degree-second, weight-by_entered}
+use Rattle.gadget_base.proofs.Used.{use_at, degree-used, weight-used}
+use Rattle.gadget_base.proofs.Within.{edge-ends}
+use Rattle.gadget_cap.proofs.Uses.{use-at}
+use Rattle.gadget_cap.proofs.Through.{IsWithinRooms}
+
+-- counts that are given by places, by the gates
+abbrev pub passage_of : Network → (ℕ → ℕ) → (ℕ → ℕ) → Passage
+passage_of i room f = record {
+  enter = λ k a j. f (gates_before i room k + (a * room k + j));
+  cross = λ k j l. f (gates_before i room k + (value_u i k * room k + (j * room k + l)));
+  leave = λ k l b. f (gates_before i room k + (value_u i k * room k + (room k * room k + (l * value_v i k + b))));
+}
+
+pub all-edges : (i : Network) (room : ℕ → ℕ) → length (capped_graph i room).edges ≡ gates_before i room (length i.edges)
+all-edges i room =
+    blocks-length (gated i room) (length i.edges)
+    ∙ sum_to-same (λ k. length (gated i room k)) (gate_size i room) (length i.edges) (λ k _. gated-length i room k)
+
+passage-block : (i : Network) (room : ℕ → ℕ) (f : ℕ → ℕ) (k : ℕ) → tabled (λ r. f (gates_before i room k + r)) (gate_size i room k) ≡ gate_counts i room (passage_of i room f) k
+passage-block i room f k =
+    let p = passage_of i room f in
+    let r = room k in
+    let m = value_u i k in
+    let n = value_v i k in
+    let g : ℕ → ℕ = λ y. f (gates_before i room k + y) in
+    let one : tabled g (m * r) ≡ table (p.enter k) m r = tabled-rows g m r in
+    let two : tabled (λ y. g (m * r + y)) (r * r) ≡ table (p.cross k) r r = tabled-rows (λ y. g (m * r + y)) r r in
+    let three : tabled (λ y. g (m * r + (r * r + y))) (r * n) ≡ table (p.leave k) r n = tabled-rows (λ y. g (m * r + (r * r + y))) r n in
+    tabled-three g (m * r) (r * r) (r * n)
+    ∙ ap (λ xs. xs ++ (tabled (λ y. g (m * r + y)) (r * r) ++ tabled (λ y. g (m * r + (r * r + y))) (r * n))) one
+    ∙ ap (λ xs. table (p.enter k) m r ++ (xs ++ tabled (λ y. g (m * r + (r * r + y))) (r * n))) two
+    ∙ ap (λ xs. table (p.enter k) m r ++ (table (p.cross k) r r ++ xs)) three
+
+-- all counts of the graph are those of a passage
+pub passage-all : (i : Network) (room : ℕ → ℕ) (f : ℕ → ℕ) → tabled f (length (capped_graph i room).edges) ≡ all_counts i room (passage_of i room f)
+passage-all i room f =
+    ap (tabled f) (all-edges i room)
+    ∙ tabled-blocks f (gate_size i room) (length i.edges)
+    ∙ blocks-same (λ k. tabled (λ r. f (gates_before i room k + r)) (gate_size i room k)) (gate_counts i room (passage_of i room f)) (length i.edges) (λ k _. passage-block i room f k)
+
+-- each vertex of the graph has degree 1
+abbrev pub AreOnes : Network → (ℕ → ℕ) → Passage → Type 0
+AreOnes i room p = (v : ℕ) → 1 ≤ v → v ≤ before_gates i room (length i.edges) → degree (capped_graph i room) (all_counts i room p) v ≡ 1
+
+-- how often the first gate is left for the second, and the second is left
+abbrev pub crossed : Network → (ℕ → ℕ) → Passage → ℕ → ℕ
+crossed i room p k = sum_to (λ j. sum_to (p.cross k j) (room k)) (room k)
+
+abbrev pub left : Network → (ℕ → ℕ) → Passage → ℕ → ℕ
+left i room p k = sum_to (λ l. sum_to (p.leave k l) (value_v i k)) (room k)
+
+pub first_gate : (i : Network) (room : ℕ → ℕ) (p : Passage) (k : ℕ) → IsNetwork i → AreOnes i room p → k < length i.edges → entered i room p k + crossed i room p k ≡ room k
+first_gate i room p k net ones b =
+    let r = room k in
+    let m = value_u i k in
+    let grows = sum_to-grows room k (length i.edges) b in
+    let each = sum_to-ones (λ j. sum_to (λ a. p.enter k a j) m + sum_to (p.cross k j) r) r
+    (λ j l. sym (degree-first i room p k j net b l) ∙ ones (before_gates i room k + j + 1) (omega arith) (omega (arith, grows, l))) in
+    let both = sum_to-add (λ j. sum_to (λ a. p.enter k a j) m) (λ j. sum_to (p.cross k j) r) r in
+    let turned = sum_to-swap (p.enter k) m r in
+    omega (arith, each, both, turned)
+
+pub second_gate : (i : Network) (room : ℕ → ℕ) (p : Passage) (k : ℕ) → IsNetwork i → AreOnes i room p → k < length i.edges → crossed i room p k + left i room p k ≡ room k
+second_gate i room p k net ones b =
+    let r = room k in
+    let n = value_v i k in
+    let grows = sum_to-grows room k (length i.edges) b in
+    let each = sum_to-ones (λ l. sum_to (λ j. p.cross k j l) r + sum_to (p.leave k l) n) r
+    (λ l h. sym (degree-second i room p k l net b h) ∙ ones (before_gates i room k + r + l + 1) (omega arith) (omega (arith, grows, h))) in
+    let both = sum_to-add (λ l. sum_to (λ j. p.cross k j l) r) (λ l. sum_to (p.leave k l) n) r in
+    let turned = sum_to-swap (p.cross k) r r in
+    omega (arith, each, both, turned)
+
+-- how often each edge is used
+abbrev pub passed : Network → (ℕ → ℕ) → Passage → List ℕ
+passed i room p = tabled (entered i room p) (length i.edges)
+
+pub passed-at : (i : Network) (room : ℕ → ℕ) (p : Passage) (k : ℕ) → k < length i.edges → slice_index (passed i room p) k ≡ entered i room p k
+passed-at i room p k b = tabled-at (entered i room p) (length i.edges) k 0 b
+
+-- the copies of vertex t + 1 that an edge takes
+edge-copies : (i : Network) (room : ℕ → ℕ) (p : Passage) (t k : ℕ) → IsNetwork i → AreOnes i room p → k < length i.edges → sum_to (λ c. cond (eqb ((instance_edge_at i k).u - 1) t) (sum_to (p.enter k c) (room k)) 0 + cond (eqb ((instance_edge_at i k).v - 1) t) (sum_to (λ l. p.leave k l c) (room k)) 0) (value i t) ≡ use_at i (passed i room p) (t + 1) k
+edge-copies i room p t k net ones b =
+    let u = (instance_edge_at i k).u in
+    let v = (instance_edge_at i k).v in
+    let r = room k in
+    let E : ℕ → ℕ = λ c. sum_to (p.enter k c) r in
+    let L : ℕ → ℕ = λ c. sum_to (λ l. p.leave k l c) r in
+    let one = first_gate i room p k net ones b in
+    let two = second_gate i room p k net ones b in
+    let count = passed-at i room p k b in
+    let turned = sum_to-swap (p.leave k) r (value_v i k) in
+    let here = use-at i (passed i room p) t k net b in
+    let is = edge-ends i k net b in
+    let differ : u ≢ v = is.differ in
+    let u_low : 1 ≤ u = is.u_low in
+    let v_low : 1 ≤ v = is.v_low in
+    sum_to-add (λ c. cond (eqb (u - 1) t) (E c) 0) (λ c. cond (eqb (v - 1) t) (L c) 0) (value i t)
+    ∙ ap (λ x. x + sum_to (λ c. cond (eqb (v - 1) t) (L c) 0) (value i t)) (sum_to-cond (eqb (u - 1) t) E (value i t))
+    ∙ ap (λ x. cond (eqb (u - 1) t) (sum_to E (value i t)) 0 + x) (sum_to-cond (eqb (v - 1) t) L (value i t))
+    ∙ elim (cases_eq (u - 1) t) [
+      | inl e ↦
+          let on : eqb (u - 1) t ≡ true = eq-eqb (u - 1) t e in
+          let off : eqb (v - 1) t ≡ false = ne_eqb (v - 1) t (λ h. differ (omega arith)) in
+          let all : sum_to E (value i t) ≡ entered i room p k = ap (λ s. sum_to E (value i s)) (sym e) in
+          let whole : use_at i (passed i room p) (t + 1) k ≡ slice_index (passed i room p) k = here ∙ rw on refl in
+          rw (on, off) (omega (arith, all, count, whole))
+      | inr d ↦
+          let off : eqb (u - 1) t ≡ false = ne_eqb (u - 1) t d in
+          elim (cases_eq (v - 1) t) [
+            | inl e ↦
+                let on : eqb (v - 1) t ≡ true = eq-eqb (v - 1) t e in
+                let all : sum_to L (value i t) ≡ sum_to L (value_v i k) = ap (λ s. sum_to L (value i s)) (sym e) in
+                let whole : use_at i (passed i room p) (t + 1) k ≡ slice_index (passed i room p) k = here ∙ rw (off, on) refl in
+                rw (off, on) (omega (arith, all, count, whole, turned, one, two))
+            | inr d' ↦
+                let off' : eqb (v - 1) t ≡ false = ne_eqb (v - 1) t d' in
+                let none : use_at i (passed i room p) (t + 1) k ≡ 0 = here ∙ rw (off, off') refl in
+                rw (off, off') (sym none)
+          ]
+    ]
+
+passed-degree : (i : Network) (room : ℕ → ℕ) (p : Passage) (t : ℕ) → IsNetwork i → AreOnes i room p → t < vertices i → degree (graph_of i) (passed i room p) (t + 1) ≡ value i t
+passed-degree i room p t net ones b =
+    let T : ℕ → ℕ → ℕ = λ c k. cond (eqb ((instance_edge_at i k).u - 1) t) (sum_to (p.enter k c) (room k)) 0 + cond (eqb ((instance_edge_at i k).v - 1) t) (sum_to (λ l. p.leave k l c) (room k)) 0 in
+    let each = sum_to-ones (λ c. sum_to (T c) (length i.edges)) (value i t)
+    (λ c l.
+    let under = copies-below i t c b l in
+    sym (degree-copy i room p t c b l) ∙ ones (below i t + c + 1) (omega arith) (omega (arith, under))) in
+    degree-used i (passed i room p) (t + 1)
+    ∙ sym (sum_to-same (λ k. sum_to (λ c. T c k) (value i t)) (use_at i (passed i room p) (t + 1)) (length i.edges) (λ k l. edge-copies i room p t k net ones l))
+    ∙ sym (sum_to-swap T (value i t) (length i.edges))
+    ∙ each
+
+passed-matching : (i : Network) (room : ℕ → ℕ) (p : Passage) → IsNetwork i → AreOnes i room p → IsBMatching i (passed i room p)
+passed-matching i room p net ones = record {
+  one_each = tabled-length (entered i room p) (length i.edges);
+  degrees = λ v low high.
+      let at : v - 1 + 1 ≡ v = omega arith in
+      subst (λ y. degree (graph_of i) (passed i room p) y ≡ value i (v - 1)) at (passed-degree i room p (v - 1) net ones (omega arith));
+}
+
+pub passed-answer : (i : Network) (room : ℕ → ℕ) (p : Passage) → IsNetwork i → AreOnes i room p → IsWithinRooms i room (passed i room p)
+passed-answer i room p net ones = record {
+  matching = passed-matching i room p net ones;
+  rooms = λ k b. let one = first_gate i room p k net ones b in let count = passed-at i room p k b in omega arith;
+}
+
+pub passed-weight : (i : Network) (room : ℕ → ℕ) (p : Passage) → weight (graph_of i) (passed i room p) ≡ weight (capped_graph i room) (all_counts i room p)
+passed-weight i room p =
+    weight-used i (passed i room p)
+    ∙ int_sum_to-same (λ k. pos (slice_index (passed i room p) k) *ℤ (instance_edge_at i k).w) (λ k. pos (entered i room p k) *ℤ (instance_edge_at i k).w) (length i.edges) (λ k b. ap (λ y. pos y *ℤ (instance_edge_at i k).w) (passed-at i room p k b))
+    ∙ sym (weight-by_entered i room p)

@@ -1,0 +1,13 @@
+pub mod Tables
+pub mod Picks
+pub mod UnitLemmas
+pub mod GateLemmas
+pub mod Uses
+pub mod Through
+pub mod Reached
+pub mod Back
+pub mod Sizes
+pub mod Ends
+pub mod EntryLemmas
+pub mod Extracted
+pub mod Steps

@@ -1,0 +1,12 @@
+use Rattle.std.proofs.Common.{◌≡◌, length}
+use Rattle.gadget_base.specs.Blocks.{blocks}
+use Rattle.gadget_base.specs.Gadgets.{before_gates, gated}
+use Rattle.gadget_cap.specs.Capped.{capped_room}
+use Rattle.gadget_cap.proofs.gates.capped.Given as goal
+
+abbrev pub invariant-loop-edge : goal.invariant-loop-edge
+invariant-loop-edge l = record {
+  before : l.before ≡ before_gates l.instance (capped_room l.unit l.instance) l.edge-index;
+  vertices : l.graph.vertices ≡ before_gates l.instance (capped_room l.unit l.instance) (length l.instance.edges);
+  edges : l.graph.edges ≡ blocks (gated l.instance (capped_room l.unit l.instance)) l.edge-index;
+}

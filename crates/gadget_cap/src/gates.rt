@@ -1,0 +1,70 @@
+ghost use Rattle.std.specs.Prelude.{◌≡◌, ℕ, ◌+◌, ◌*◌, ◌<◌, ◌≤◌, ◌^◌, ◌++◌, length, OnOk, IfOk};
+ghost use Rattle.graph_theory.specs.Graph.{IsGraph};
+ghost use Rattle.mb_problem.specs.Network.{vertices, IsInstanceEdge};
+ghost use Rattle.mb_problem.specs.Size.{size_of, value_total};
+ghost use Rattle.gadget_base.specs.Certified.{gadget_graph, ReachesAll, IsWithinLimits, HasSize};
+ghost use Rattle.gadget_base.specs.Starts.{AreStarts};
+ghost use Rattle.gadget_cap.specs.Capped.{capped_kind};
+ghost use Rattle.gadget_cap.specs.Places.{gates_of};
+
+use crate::copies::copies_of;
+use crate::rooms::{kind_of, room_at};
+use gadget_base::{add_rectangle, starts};
+use mb_base::OutOfMemory;
+use mb_problem::{Instance, InstanceEdge, gadget_size};
+use std::alloc::Global;
+use weighted_graph::Graph;
+
+/// Adds the edges that stand for an edge whose gates have `room` vertices and come after `before`
+/// others; `starts` are the sums of the first values.
+fn add_gates(
+    graph: &mut Graph,
+    instance: &Instance,
+    starts: &[u32],
+    edge: &InstanceEdge,
+    before: u32,
+    room: u32,
+) -> Result<(), OutOfMemory>
+    requires starts { AreStarts instance.now.values starts.now }
+    requires edge { IsInstanceEdge (vertices instance.now) edge.now }
+    requires copies { value_total instance.now ≤ before }
+    requires vertices { before + 2 * room ≤ graph.old.vertices }
+    requires room { length graph.old.edges + length (gates_of instance.now edge.now before room) < 2 ^ 32 }
+    ensures added { OnOk result (graph.new ≡ record graph.old { edges = graph.old.edges ++ gates_of instance.now edge.now before room }) }
+    ensures graph { IsGraph graph.new }
+{
+    let _vertices = graph.vertices();
+    let (u_before, u_count) = copies_of(instance, starts, edge.u);
+    let (v_before, v_count) = copies_of(instance, starts, edge.v);
+    add_rectangle(graph, u_before, u_count, before, room, edge.w)?;
+    add_rectangle(graph, before, room, before + room, room, 0)?;
+    add_rectangle(graph, before + room, room, v_before, v_count, 0)?;
+    Ok(())
+}
+
+/// The graph whose perfect matchings are the matchings of an instance with a degree for each vertex
+/// and a limit on each edge: the capacities, or, where `unit` is set, 1 for each edge (Schrijver,
+/// Combinatorial Optimization A, chapters 32 and 33). Each vertex stands as often as its value says.
+/// Each edge has two gates of as many vertices as it can be used, the first joined to all copies of one
+/// end at the edge's weight, the second to all copies of the other at weight 0, and the gates to one
+/// another at weight 0. It takes time linear in the instance and the graph. `OutOfMemory` is its one
+/// error.
+#[tactic(auto, using(crate::proofs::Sizes::has_size, crate::proofs::Reached::reached))]
+pub fn capped(alloc: Global, instance: &Instance, unit: bool) -> Result<Graph, OutOfMemory>
+    requires limits { IsWithinLimits (size_of (capped_kind unit) instance.now) }
+    ensures graph { IfOk result (λ h. h ≡ gadget_graph (capped_kind unit) instance.now) }
+    ensures size { HasSize (size_of (capped_kind unit) instance.now) (gadget_graph (capped_kind unit) instance.now) }
+    ensures reached { ReachesAll (capped_kind unit) instance.now }
+{
+    let (vertices, _) = gadget_size(instance, kind_of(unit));
+    let copied = instance.vertices() as usize;
+    let starts = starts(alloc, instance.value_list())?;
+    let mut graph = Graph::new(alloc, vertices as u32);
+    let mut before = starts[copied];
+    for edge in instance.edge_list() {
+        let room = room_at(instance, unit, edge);
+        add_gates(&mut graph, instance, &starts, edge, before, room)?;
+        before += 2 * room;
+    }
+    Ok(graph)
+}

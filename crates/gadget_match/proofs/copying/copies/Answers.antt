@@ -1,0 +1,38 @@
+use Rattle.std.proofs.Common.{◌≡◌, ℕ, ◌<◌, [], length, arith, ap, ◌∙◌}
+use Rattle.mb_problem.specs.Size.{value_total}
+use Rattle.gadget_base.proofs.Within.{copies-size}
+use Rattle.gadget_match.proofs.BuildLemmas.{edge_here, room-pairs, start-total}
+use Rattle.gadget_match.proofs.CopyLemmas.{copies-reach}
+use Rattle.gadget_match.proofs.copying.copies.Goals as goal
+
+pub returns-in_err-starts-clause-size : goal.returns-in_err-starts-clause-size
+returns-in_err-starts-clause-size c = copies-size c.args.instance.now
+
+pub returns-in_err-add_pairs-clause-size : goal.returns-in_err-add_pairs-clause-size
+returns-in_err-add_pairs-clause-size c = copies-size c.args.instance.now
+
+pub returns-clause-size : goal.returns-clause-size
+returns-clause-size c = copies-size c.args.instance.now
+
+pub loop-edge-init : goal.loop-edge-init
+loop-edge-init c =
+    let i = c.args.instance.now in
+    let total : c.index.result.now ≡ value_total i = start-total i c.value_list.result.now c.in_ok-starts.starts.items c.vertices.result c.index.result.now c.value_list.ensures.list c.in_ok-starts.ensures c.vertices.ensures.count c.index.ensures in
+    c.new-graph.ensures ∙ ap (λ (n : ℕ). record { vertices = n; edges = [] }) total
+
+pub add_pairs-requires-clause-room : goal.add_pairs-requires-clause-room
+add_pairs-requires-clause-room c =
+    let i = c.args.instance.now in
+    let k = c.loop-edge.edge-index in
+    let list = c.edge_list-edge-items.ensures.list in
+    let below : k < length i.edges = omega (arith, ap length list) in
+    room-pairs i c.loop-edge.graph k c.edge-item.result c.requires.limits c.loop-edge.invariant below (edge_here i c.edge_list-edge-items.result.now k c.edge-item.result list c.loop-edge-test.true c.edge-item.is)
+
+pub returns-in_err-starts-clause-reached : goal.returns-in_err-starts-clause-reached
+returns-in_err-starts-clause-reached c = copies-reach c.args.instance.now c.value_list.ensures.network
+
+pub returns-in_err-add_pairs-clause-reached : goal.returns-in_err-add_pairs-clause-reached
+returns-in_err-add_pairs-clause-reached c = copies-reach c.args.instance.now c.value_list.ensures.network
+
+pub returns-clause-reached : goal.returns-clause-reached
+returns-clause-reached c = copies-reach c.args.instance.now c.value_list.ensures.network

@@ -1,0 +1,8 @@
+use Rattle.std.proofs.Common.{◌≡◌}
+use Rattle.mb_problem.specs.Size.{value_total}
+use Rattle.gadget_base.specs.Blocks.{blocks}
+use Rattle.gadget_base.specs.Gadgets.{pairs_of_copies}
+use Rattle.gadget_match.proofs.copying.copies.Given as goal
+
+abbrev pub invariant-loop-edge : goal.invariant-loop-edge
+invariant-loop-edge l = l.graph ≡ record { vertices = value_total l.instance; edges = blocks (pairs_of_copies l.instance) l.edge-index }

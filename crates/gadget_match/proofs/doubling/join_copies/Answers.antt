@@ -1,0 +1,29 @@
+use Rattle.std.proofs.Common.{◌≡◌, ℕ, ◌+◌, arith, pos}
+use Rattle.graph_theory.specs.declared.edge.Edge.{Edge}
+use Rattle.gadget_base.specs.Blocks.{tabled}
+use Rattle.gadget_base.proofs.Blocks.{tabled-length}
+use Rattle.gadget_base.proofs.Grown.{grown-length, grown-vertices}
+use Rattle.gadget_match.proofs.doubling.join_copies.Goals as goal
+
+pub add-requires-clause-room : goal.add-requires-clause-room
+add-requires-clause-room c =
+    let f : ℕ → Edge = λ k. record { u = k + 1; v = k + 1 + c.args.n; w = pos 0 } in
+    let size = grown-length c.args.graph.now c.loop-k.graph (tabled f c.loop-k.k) c.loop-k.invariant.added in
+    let more = tabled-length f c.loop-k.k in
+    let room = c.requires.room in
+    omega (arith, size, more, room)
+
+pub add-requires-clause-ends : goal.add-requires-clause-ends
+add-requires-clause-ends c =
+    let f : ℕ → Edge = λ k. record { u = k + 1; v = k + 1 + c.args.n; w = pos 0 } in
+    let same = grown-vertices c.args.graph.now c.loop-k.graph (tabled f c.loop-k.k) c.loop-k.invariant.added in
+    let twice = c.requires.vertices in
+    let u : c.new.result ≡ c.loop-k.k + 1 = c.new.ensures in
+    let v : c.new-in-loop-k.result ≡ c.loop-k.k + 1 + c.args.n = c.new-in-loop-k.ensures in
+    record {
+      u_low = omega (arith, u);
+      u_high = omega (arith, u, same, twice);
+      v_low = omega (arith, v);
+      v_high = omega (arith, v, same, twice);
+      differ = λ e. omega (arith, u, v, e);
+    }

@@ -1,0 +1,55 @@
+ghost use Rattle.std.specs.Prelude.{◌≡◌, ◌≢◌, ℕ, ◌+◌, ◌-◌, ◌*◌, ◌<◌, ◌≤◌, ◌^◌, ◌++◌, ◌∷◌, [], length, OnOk, IfOk, pos, neg_ℤ};
+ghost use Rattle.graph_theory.specs.Sums.{sum_to};
+ghost use Rattle.graph_theory.specs.Graph.{IsGraph, IsEdgeWithin, IsWeight};
+ghost use Rattle.mb_problem.specs.declared.kind.Kind.TheVariants.{BMatch};
+ghost use Rattle.mb_problem.specs.Network.{Network, IsNetwork, IsInstanceEdge, vertices, plain, value_of};
+ghost use Rattle.mb_problem.specs.Size.{size_of, value_total};
+ghost use Rattle.gadget_base.specs.Blocks.{blocks, rectangle};
+ghost use Rattle.gadget_base.specs.Gadgets.{copies_graph, values_below, pairs_of_copies};
+ghost use Rattle.gadget_base.specs.Certified.{HasSize, IsWithinLimits, ReachesAll};
+ghost use Rattle.gadget_base.specs.Starts.{AreStarts};
+
+use gadget_base::{add_rectangle, starts};
+use mb_base::OutOfMemory;
+use mb_problem::{Instance, InstanceEdge};
+use std::alloc::Global;
+use weighted_graph::Graph;
+
+/// Adds an edge between each copy of the one end of an edge and each copy of the other.
+fn add_pairs(
+    graph: &mut Graph,
+    instance: &Instance,
+    starts: &[u32],
+    edge: &InstanceEdge,
+) -> Result<(), OutOfMemory>
+    requires starts { AreStarts instance.now.values starts.now }
+    requires vertices { graph.old.vertices ≡ value_total instance.now }
+    requires edge { IsInstanceEdge (vertices instance.now) edge.now }
+    requires room { length graph.old.edges + value_of instance.now edge.now.u * value_of instance.now edge.now.v < 2 ^ 32 }
+    ensures added { OnOk result (graph.new ≡ record graph.old { edges = graph.old.edges ++ rectangle (values_below instance.now edge.now.u) (value_of instance.now edge.now.u) (values_below instance.now edge.now.v) (value_of instance.now edge.now.v) edge.now.w }) }
+    ensures graph { IsGraph graph.new }
+{
+    let first = starts[edge.u.number() as usize - 1];
+    let second = starts[edge.v.number() as usize - 1];
+    let m = instance.value(edge.u);
+    let n = instance.value(edge.v);
+    add_rectangle(graph, first, m, second, n, edge.w)
+}
+
+/// The graph in which a b-matching, which has the value of each vertex as its degree, is a perfect
+/// matching of the same weight: each vertex as often as its value says, and each edge between any two
+/// copies of its ends (Schrijver, Combinatorial Optimization, volume A, chapter 31). `gadget_size` says
+/// whether it is within the limits. It takes time linear in the graph. `OutOfMemory` is its one error.
+pub fn copies(alloc: Global, instance: &Instance) -> Result<Graph, OutOfMemory>
+    requires limits { IsWithinLimits (size_of BMatch instance.now) }
+    ensures graph { IfOk result (λ h. h ≡ copies_graph instance.now) }
+    ensures size { HasSize (size_of BMatch instance.now) (copies_graph instance.now) }
+    ensures reached { ReachesAll BMatch instance.now }
+{
+    let starts = starts(alloc, instance.value_list())?;
+    let mut graph = Graph::new(alloc, starts[instance.vertices() as usize]);
+    for edge in instance.edge_list() {
+        add_pairs(&mut graph, instance, &starts, edge)?;
+    }
+    Ok(graph)
+}

@@ -1,0 +1,53 @@
+-- The joins of each parity, and what the contracts say of them.
+use Rattle.std.proofs.Common.{◌≡◌, ℕ, ◌≤◌, ℤ, pos, ◌*ℤ◌, ◌≤ℤ◌, arith, List, length}
+use Rattle.std.proofs.lemmas.Int.{ints}
+use Rattle.graph_theory.specs.Graph.{weight}
+use Rattle.mb_problem.specs.declared.kind.Kind.TheVariants.{TJoin}
+use Rattle.mb_problem.specs.declared.answer.Answer.TheVariants.{Counts, Walk, Nothing}
+use Rattle.mb_problem.specs.declared.answer.Parity.{Parity}
+use Rattle.mb_problem.specs.declared.answer.Parity.TheVariants.{Empty, Values, OddDegrees}
+use Rattle.mb_problem.specs.Network.{Network, IsNetwork, graph_of}
+use Rattle.mb_problem.specs.Feasible.{IsJoin}
+use Rattle.mb_problem.specs.Rooms.{odd_at}
+use Rattle.gadget_base.specs.Gadgets.{ports_graph}
+use Rattle.gadget_base.specs.Certified.{ReachesAll, IsPerfectList}
+use Rattle.gadget_tjoin.specs.Joins.{IsJoinOf, ReachesJoins, listed_counts}
+use Rattle.gadget_tjoin.proofs.Reached.{IsOddAt, paired, paired-perfect, paired-weight}
+use Rattle.gadget_tjoin.proofs.Back.{AreOwn, own-join}
+
+pub odd_at-bit : (parity : Parity) (i : Network) (v : ℕ) → odd_at parity i v ≤ 1
+odd_at-bit Empty i v = omega arith
+odd_at-bit Values i v = omega arith
+odd_at-bit OddDegrees i v = omega arith
+
+pub as_odd : (parity : Parity) (i : Network) (counts : List ℕ) → IsJoinOf parity i counts → IsOddAt i (odd_at parity i) counts
+as_odd parity i counts join = record { one_each = join.one_each; small = join.at_most_once; parity = join.degrees }
+
+pub as_join : (parity : Parity) (i : Network) (counts : List ℕ) → IsOddAt i (odd_at parity i) counts → IsJoinOf parity i counts
+as_join parity i counts odd = record { one_each = odd.one_each; at_most_once = odd.small; degrees = odd.parity }
+
+pub reaches-joins : (parity : Parity) (i : Network) → IsNetwork i → ReachesJoins parity i
+reaches-joins parity i ok = λ counts join. record {
+  counts = paired i (odd_at parity i) counts;
+  perfect = paired-perfect i (odd_at parity i) counts ok (as_odd parity i counts join);
+  weighs = paired-weight i (odd_at parity i) counts join.one_each;
+}
+
+value-join : (i : Network) (counts : List ℕ) → IsJoin i counts → IsJoinOf Values i counts
+value-join i counts join = record { one_each = join.one_each; at_most_once = join.at_most_once; degrees = join.degrees }
+
+twice-le : (a b : ℤ) → a ≡ b → (pos 2 *ℤ a) ≤ℤ (pos 2 *ℤ b)
+twice-le a b e = omega (arith, ints, e)
+
+tjoins-reached : (i : Network) → IsNetwork i → ReachesAll TJoin i
+tjoins-reached i ok (Counts counts) join =
+    let r = reaches-joins Values i ok counts (value-join i counts join) in
+    record { counts = r.counts; perfect = r.perfect; weighs = twice-le (weight (ports_graph i (odd_at Values i)) r.counts) (weight (graph_of i) counts) r.weighs }
+tjoins-reached i ok (Walk start edges) join = absurd join
+tjoins-reached i ok Nothing join = absurd join
+
+pub reaches-tjoins : (parity : Parity) (i : Network) → IsNetwork i → parity ≡ Values → ReachesAll TJoin i
+reaches-tjoins parity i ok is = tjoins-reached i ok
+
+pub own-join_of : (parity : Parity) (i : Network) (join matching : List ℕ) → IsNetwork i → AreOwn (length i.edges) join matching → IsPerfectList (ports_graph i (odd_at parity i)) matching → IsJoinOf parity i (listed_counts join (length i.edges))
+own-join_of parity i join matching ok own perfect = as_join parity i (listed_counts join (length i.edges)) (own-join i (odd_at parity i) join matching ok (odd_at-bit parity i) own perfect)

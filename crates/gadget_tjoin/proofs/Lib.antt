@@ -1,0 +1,14 @@
+mod OneTerm
+mod Ranks
+mod Times
+pub mod WalkParity
+mod Cliques
+mod Places
+mod Reached
+mod PortEdges
+mod Back
+mod Steps
+mod Marks
+mod Laws
+mod Tours
+mod Paths

@@ -1,0 +1,134 @@
+-- Free places are paired by rank, where their number is even: the first with the second, the third
+-- with the fourth, and so on. A place is free where a function is 1, and 0 elsewhere.
+use Rattle.std.proofs.Common.{◌≡◌, ◌⊎◌, ℕ, zero, suc, ◌+◌, ◌*◌, ◌/◌, ◌%◌, ◌<◌, ◌≤◌, Bool, true, false, cond, ltb, eqb, refl, ap, sym, ◌∙◌, inl, inr, arith}
+use Rattle.std.proofs.lemmas.Bool.{cases_eq, cases_order, cases_Bool, eq-eqb, ne_eqb, lt-ltb, le-ltb}
+use Rattle.std.proofs.lemmas.Bool.Decides.{nat_tests}
+use Rattle.graph_theory.specs.Sums.{sum_to}
+use Rattle.graph_theory.proofs.SumLemmas.{sum_to-same, sum_to-add}
+use Rattle.gadget_base.proofs.BlockSums.{sum_to-none, sum_to-longer}
+use Rattle.gadget_tjoin.proofs.OneTerm.{one_if, one_if-same, sum_to-only}
+
+-- one term of at most 1: it is 0 or 1
+pub zero_or_one : (a : ℕ) → a ≤ 1 → (a ≡ 0) ⊎ (a ≡ 1)
+zero_or_one zero h = inl refl
+zero_or_one (suc a) h = inr (omega arith)
+
+-- a number below n + 1 is below n or is n
+below_more : (r n : ℕ) → one_if (ltb r (n + 1)) ≡ one_if (ltb r n) + one_if (eqb n r)
+below_more r n =
+    elim (cases_order r n) [
+      | inl e ↦ let a = lt-ltb r (n + 1) (omega arith) in let b = le-ltb r n (omega arith) in let c = eq-eqb n r (sym e) in rw (a, b, c) refl
+      | inr (inl l) ↦ let a = lt-ltb r (n + 1) (omega arith) in let b = lt-ltb r n l in let c = ne_eqb n r (λ x. omega arith) in rw (a, b, c) refl
+      | inr (inr l) ↦ let a = le-ltb r (n + 1) (omega arith) in let b = le-ltb r n (omega arith) in let c = ne_eqb n r (λ x. omega arith) in rw (a, b, c) refl
+    ]
+
+-- one free place has rank r, where more than r are free
+pub once_of_rank : (f : ℕ → ℕ) (r n : ℕ) → ((k : ℕ) → k < n → f k ≤ 1) → sum_to (λ b. f b * one_if (eqb (sum_to f b) r)) n ≡ one_if (ltb r (sum_to f n))
+once_of_rank f r zero small = let e = le-ltb r 0 (omega arith) in rw e refl
+once_of_rank f r (suc n) small =
+    let front = once_of_rank f r n (λ k b. small k (omega arith)) in
+    elim (zero_or_one (f n) (small n (omega arith))) [
+      | inl off ↦
+          let same : sum_to f n + 0 ≡ sum_to f n = omega arith in
+          rw (off, same) (omega (arith, front))
+      | inr held ↦ rw held (omega (arith, front, below_more r (sum_to f n)))
+    ]
+
+half_of : (k h : ℕ) → one_if (eqb (k / 2) h) ≡ one_if (eqb k (2 * h)) + one_if (eqb k (2 * h + 1))
+half_of k h =
+    elim (cases_eq (k / 2) h) [
+      | inl e ↦
+          let on = eq-eqb (k / 2) h e in
+          elim (cases_eq k (2 * h)) [
+            | inl e' ↦ let a = eq-eqb k (2 * h) e' in let b = ne_eqb k (2 * h + 1) (λ x. omega arith) in rw (on, a, b) refl
+            | inr d' ↦ let a = ne_eqb k (2 * h) d' in let b = eq-eqb k (2 * h + 1) (omega arith) in rw (on, a, b) refl
+          ]
+      | inr d ↦
+          let off = ne_eqb (k / 2) h d in
+          let a = ne_eqb k (2 * h) (λ x. d (omega arith)) in
+          let b = ne_eqb k (2 * h + 1) (λ x. d (omega arith)) in
+          rw (off, a, b) refl
+    ]
+
+times-plus : (a b c : ℕ) → a * (b + c) ≡ a * b + a * c
+times-plus a b c = grind arith
+
+-- two free places have a rank whose half is h
+two_of_half : (f : ℕ → ℕ) (h n : ℕ) → ((k : ℕ) → k < n → f k ≤ 1) → sum_to f n % 2 ≡ 0 → 2 * h < sum_to f n → sum_to (λ b. f b * one_if (eqb (sum_to f b / 2) h)) n ≡ 2
+two_of_half f h n small even many =
+    let even_one : ℕ → ℕ = λ b. f b * one_if (eqb (sum_to f b) (2 * h)) in
+    let odd_one : ℕ → ℕ = λ b. f b * one_if (eqb (sum_to f b) (2 * h + 1)) in
+    let parts = sum_to-same (λ b. f b * one_if (eqb (sum_to f b / 2) h)) (λ b. even_one b + odd_one b) n
+    (λ b l. ap (λ x. f b * x) (half_of (sum_to f b) h) ∙ times-plus (f b) (one_if (eqb (sum_to f b) (2 * h))) (one_if (eqb (sum_to f b) (2 * h + 1)))) in
+    let both = sum_to-add even_one odd_one n in
+    let first = once_of_rank f (2 * h) n small in
+    let second = once_of_rank f (2 * h + 1) n small in
+    let a : one_if (ltb (2 * h) (sum_to f n)) ≡ 1 = ap one_if (lt-ltb (2 * h) (sum_to f n) many) in
+    let b : one_if (ltb (2 * h + 1) (sum_to f n)) ≡ 1 = ap one_if (lt-ltb (2 * h + 1) (sum_to f n) (omega arith)) in
+    omega (arith, parts, both, first, second, a, b)
+
+-- 1 where a and b are free and partners
+abbrev pub partners : (ℕ → ℕ) → ℕ → ℕ → ℕ
+partners f a b = f a * (f b * one_if (eqb (sum_to f a / 2) (sum_to f b / 2)))
+
+eqb_swap : (a b : ℕ) → eqb a b ≡ eqb b a
+eqb_swap a b = grind (arith, nat_tests)
+
+pub partners-swap : (f : ℕ → ℕ) (a b : ℕ) → partners f a b ≡ partners f b a
+partners-swap f a b =
+    let s = eqb_swap (sum_to f a / 2) (sum_to f b / 2) in
+    let turn : (p q r : ℕ) → p * (q * r) ≡ q * (p * r) = λ p q r. grind arith in
+    rw s (turn (f a) (f b) (one_if (eqb (sum_to f b / 2) (sum_to f a / 2))))
+
+-- the sum of a row without its own place
+abbrev pub to_others : (ℕ → ℕ → ℕ) → ℕ → ℕ → ℕ
+to_others c x n = sum_to (λ b. cond (eqb b x) 0 (c x b)) n
+
+but_one : (t : Bool) (a : ℕ) → a ≡ cond t 0 a + cond t a 0
+but_one true a = omega arith
+but_one false a = omega arith
+
+cond_zero : (t : Bool) (a : ℕ) → a ≡ 0 → cond t 0 a ≡ 0
+cond_zero true a e = refl
+cond_zero false a e = e
+
+pub none_if_zero : (a b : ℕ) → a ≡ 0 → a * b ≡ 0
+none_if_zero a b e = rw e (omega arith)
+
+pub same_if_one : (a b : ℕ) → a ≡ 1 → a * b ≡ b
+same_if_one a b e = rw e (omega arith)
+
+one_partner : (f : ℕ → ℕ) (x n : ℕ) → ((k : ℕ) → k < n → f k ≤ 1) → sum_to f n % 2 ≡ 0 → x < n → f x ≡ 1 → to_others (partners f) x n ≡ 1
+one_partner f x n small even b held =
+    let h = sum_to f x / 2 in
+    let longer : sum_to f x + f x ≤ sum_to f n = sum_to-longer f (suc x) n (omega arith) in
+    let two = two_of_half f h n small even (omega (arith, longer, held)) in
+    let same = sum_to-same (partners f x) (λ k. f k * one_if (eqb (sum_to f k / 2) h)) n
+    (λ k l. let s = eqb_swap h (sum_to f k / 2) in rw s (same_if_one (f x) (f k * one_if (eqb (sum_to f k / 2) h)) held)) in
+    let split = sum_to-same (partners f x) (λ k. cond (eqb k x) 0 (partners f x k) + cond (eqb k x) (partners f x k) 0) n (λ k l. but_one (eqb k x) (partners f x k)) in
+    let both = sum_to-add (λ k. cond (eqb k x) 0 (partners f x k)) (λ k. cond (eqb k x) (partners f x k) 0) n in
+    let own = sum_to-only (λ k. cond (eqb k x) (partners f x k) 0) x n b (λ k l d. let off = ne_eqb k x d in rw off refl) in
+    let on : eqb x x ≡ true = eq-eqb x x refl in
+    let here : partners f x x ≡ 1 = same_if_one (f x) (f x * one_if (eqb h h)) held ∙ same_if_one (f x) (one_if (eqb h h)) held ∙ one_if-same h h refl in
+    let self : cond (eqb x x) (partners f x x) 0 ≡ 1 = rw on here in
+    omega (arith, two, same, split, both, own, self)
+
+-- a free place has one partner, and another none
+pub partners-each : (f : ℕ → ℕ) (x n : ℕ) → ((k : ℕ) → k < n → f k ≤ 1) → sum_to f n % 2 ≡ 0 → x < n → to_others (partners f) x n ≡ f x
+partners-each f x n small even b =
+    elim (zero_or_one (f x) (small x b)) [
+      | inl off ↦ sum_to-none (λ k. cond (eqb k x) 0 (partners f x k)) n (λ k l. cond_zero (eqb k x) (partners f x k) (none_if_zero (f x) (f k * one_if (eqb (sum_to f x / 2) (sum_to f k / 2))) off)) ∙ sym off
+      | inr held ↦ one_partner f x n small even b held ∙ sym held
+    ]
+
+pub partners-small : (f : ℕ → ℕ) (a b : ℕ) → f a ≤ 1 → f b ≤ 1 → partners f a b ≤ 1
+partners-small f a b small_a small_b =
+    let q = one_if (eqb (sum_to f a / 2) (sum_to f b / 2)) in
+    let most : q ≤ 1 = elim (cases_Bool (eqb (sum_to f a / 2) (sum_to f b / 2))) [ inl h ↦ rw h (omega arith) | inr h ↦ rw h (omega arith) ] in
+    elim (zero_or_one (f a) small_a) [
+      | inl off ↦ let e = none_if_zero (f a) (f b * q) off in omega (arith, e)
+      | inr held ↦ elim (zero_or_one (f b) small_b) [
+        | inl off ↦ let e = same_if_one (f a) (f b * q) held in let e' = none_if_zero (f b) q off in omega (arith, e, e')
+        | inr held' ↦ let e = same_if_one (f a) (f b * q) held in let e' = same_if_one (f b) q held' in omega (arith, e, e', most)
+      ]
+    ]

@@ -1,0 +1,141 @@
+-- Walks and parity, in any graph: a walk is at its start and at its end an odd number of times where they
+-- differ, and else an even number; and a count that changes by an odd number turns the parity of the degrees
+-- at the two ends of its edge.
+use Rattle.std.proofs.Common.{◌≡◌, ℕ, suc, ◌+◌, ◌*◌, ◌/◌, ◌%◌, ◌<◌, ◌≤◌, Bool, true, false, cond, eqb, ◌||◌, refl, ap, sym, ◌∙◌, subst, inl, inr, arith, List, [], ◌∷◌, length, slice_index, All, count_by}
+use Rattle.std.proofs.lemmas.Bool.{cases_eq, cases_Bool, eq-eqb, ne_eqb, eqb-true, or_cases, or_left, or_right, false≢true, true≢false, false_from_ne_true}
+use Rattle.std.proofs.lemmas.List.Sums.{sum_by-cons}
+use Rattle.graph_theory.specs.declared.edge.Edge.{Edge}
+use Rattle.graph_theory.specs.Graph.{Multigraph, IsEdgeWithin, edge_at, edge_of, touches, other_end, ends_at, degree}
+use Rattle.graph_theory.specs.Parts.{holds}
+use Rattle.graph_theory.specs.Walk.{IsWalk, walk_end, walk_vertices, AllDiffer}
+use Rattle.graph_theory.proofs.SumLemmas.{sum_to-add, sum_to-parity}
+use Rattle.graph_theory.proofs.Edges.{edge_of_within, ends_at-touches}
+use Rattle.graph_theory.proofs.Members.{holds_place}
+use Rattle.graph_theory.proofs.Walks.{walk-numbers}
+use Rattle.gadget_base.specs.Listed.{times, times_each}
+use Rattle.gadget_base.proofs.BlockSums.{sum_to-hit}
+use Rattle.gadget_base.proofs.Listed.{times-cons, times_each-degree}
+use Rattle.gadget_tjoin.proofs.OneTerm.{one_if, one_if-same, one_if-other}
+use Rattle.gadget_tjoin.proofs.Times.{not_held}
+
+-- an edge is at the end that a step leaves and at the one that it comes to
+pub ends_of_step : (n : ℕ) (e : Edge) (v x : ℕ) → IsEdgeWithin n e → touches e v ≡ true → ends_at e x ≡ one_if (eqb v x) + one_if (eqb (other_end e v) x)
+ends_of_step n e v x within meets =
+    elim (cases_eq e.u v) [
+      | inl at_u ↦
+          let on = eq-eqb e.u v at_u in
+          rw (on, at_u) refl
+      | inr d ↦
+          let off = ne_eqb e.u v d in
+          let at_v : e.v ≡ v = eqb-true e.v v (elim (or_cases (eqb e.u v) (eqb e.v v) meets) [ inl h ↦ absurd (false≢true (sym off ∙ h)) | inr h ↦ h ]) in
+          rw (off, at_v) (omega arith)
+    ]
+
+count_by-cons : (p : ℕ → Bool) (e : ℕ) (es : List ℕ) → count_by p (e ∷ es) ≡ one_if (p e) + count_by p es
+count_by-cons p e es = sum_by-cons (λ x. cond (p x) 1 0) e es
+
+count-parity : (g : Multigraph) (v x : ℕ) (es : List ℕ) → All (IsEdgeWithin g.vertices) g.edges → IsWalk g v es → (count_by (λ e. touches (edge_of g e) x) es + one_if (eqb v x) + one_if (eqb (walk_end g v es) x)) % 2 ≡ 0
+count-parity g v x [] ends walk = let twice : (0 + one_if (eqb v x) + one_if (eqb v x)) % 2 ≡ 0 = omega arith in twice
+count-parity g v x (e ∷ es) ends walk =
+    let edge = edge_of g e in
+    let within = edge_of_within g e ends walk.0 in
+    let rest = count-parity g (other_end edge v) x es ends walk.2 in
+    let more = count_by-cons (λ e. touches (edge_of g e) x) e es in
+    let both = ends_of_step g.vertices edge v x within walk.1 in
+    let here = ends_at-touches g.vertices edge x within in
+    omega (arith, rest, more, both, here)
+
+-- a walk's degree at x, with 1 where x is its start and 1 where x is its end, is even
+pub walk-parity : (g : Multigraph) (v x : ℕ) (es : List ℕ) → All (IsEdgeWithin g.vertices) g.edges → IsWalk g v es → (degree g (times_each g es) x + one_if (eqb v x) + one_if (eqb (walk_end g v es) x)) % 2 ≡ 0
+walk-parity g v x es ends walk =
+    let same = times_each-degree g es x ends (walk-numbers g v es walk) in
+    omega (arith, same, count-parity g v x es ends walk)
+
+product-parity : (a b c : ℕ) → a % 2 ≡ b % 2 → a * c % 2 ≡ b * c % 2
+product-parity a b c e =
+    let h = a / 2 in
+    let k = b / 2 in
+    let r = a % 2 in
+    let one : a ≡ 2 * h + r = omega arith in
+    let two : b ≡ 2 * k + r = omega (arith, e) in
+    let first : (2 * h + r) * c ≡ 2 * (h * c) + r * c = grind arith in
+    let second : (2 * k + r) * c ≡ 2 * (k * c) + r * c = grind arith in
+    let x : a * c ≡ (2 * h + r) * c = ap (λ (y : ℕ). y * c) one in
+    let y : b * c ≡ (2 * k + r) * c = ap (λ (y : ℕ). y * c) two in
+    omega (arith, first, second, x, y)
+
+-- counts of the same parity have degrees of the same parity
+pub degree-parity : (g : Multigraph) (one other : List ℕ) (x : ℕ) → ((k : ℕ) → k < length g.edges → slice_index one k % 2 ≡ slice_index other k % 2) → degree g one x % 2 ≡ degree g other x % 2
+degree-parity g one other x same = sum_to-parity (λ k. slice_index one k * ends_at (edge_at g k) x) (λ k. slice_index other k * ends_at (edge_at g k) x) (length g.edges)
+    (λ k b. product-parity (slice_index one k) (slice_index other k) (ends_at (edge_at g k) x) (same k b))
+
+-- where the counts of edge j alone differ in parity, the degrees do at its two ends alone
+pub flip-step : (g : Multigraph) (old new : List ℕ) (j v x : ℕ) → All (IsEdgeWithin g.vertices) g.edges → j < length g.edges → touches (edge_at g j) v ≡ true → ((k : ℕ) → k < length g.edges → (slice_index old k + slice_index new k) % 2 ≡ one_if (eqb k j)) → (degree g old x + degree g new x) % 2 ≡ (one_if (eqb v x) + one_if (eqb (other_end (edge_at g j) v) x)) % 2
+flip-step g old new j v x ends b meets differ =
+    let m = length g.edges in
+    let at : ℕ → ℕ = λ k. ends_at (edge_at g k) x in
+    let both = sum_to-add (λ k. slice_index old k * at k) (λ k. slice_index new k * at k) m in
+    let agree = sum_to-parity (λ k. slice_index old k * at k + slice_index new k * at k) (λ k. cond (eqb k j) (at k) 0) m
+    (λ k l.
+    let sum : slice_index old k * at k + slice_index new k * at k ≡ (slice_index old k + slice_index new k) * at k = grind arith in
+    let parity = product-parity (slice_index old k + slice_index new k) (one_if (eqb k j)) (at k) (let d = differ k l in let small : one_if (eqb k j) ≤ 1 = elim (cases_Bool (eqb k j)) [ inl h ↦ rw h (omega arith) | inr h ↦ rw h (omega arith) ] in omega (arith, d, small)) in
+    let test : one_if (eqb k j) * at k ≡ cond (eqb k j) (at k) 0 = elim (cases_Bool (eqb k j)) [ inl h ↦ rw h (omega arith) | inr h ↦ rw h (omega arith) ] in
+    omega (arith, sum, parity, test)) in
+    let hit = sum_to-hit at j m b in
+    let two = ends_of_step g.vertices (edge_at g j) v x (ends j _ b) meets in
+    omega (arith, both, agree, hit, two)
+
+-- a walk comes to both ends of each edge that it uses
+
+start_held : (g : Multigraph) (v : ℕ) (es : List ℕ) → holds (walk_vertices g v es) v ≡ true
+start_held g v [] = or_left (eqb v v) false (eq-eqb v v refl)
+start_held g v (e ∷ es) = or_left (eqb v v) (holds (walk_vertices g (other_end (edge_of g e) v) es) v) (eq-eqb v v refl)
+
+one_of : (v w x : ℕ) → 1 ≤ one_if (eqb v x) + one_if (eqb w x) → (eqb v x || eqb w x) ≡ true
+one_of v w x some =
+    elim (cases_eq v x) [
+      | inl h ↦ or_left (eqb v x) (eqb w x) (eq-eqb v x h)
+      | inr d ↦ elim (cases_eq w x) [
+        | inl h ↦ or_right (eqb v x) (eqb w x) (eq-eqb w x h)
+        | inr d' ↦ absurd (let p = one_if-other v x d in let q = one_if-other w x d' in omega (arith, some, p, q))
+      ]
+    ]
+
+pub used_ends : (g : Multigraph) (v e x : ℕ) (es : List ℕ) → All (IsEdgeWithin g.vertices) g.edges → IsWalk g v es → holds es e ≡ true → touches (edge_of g e) x ≡ true → holds (walk_vertices g v es) x ≡ true
+used_ends g v e x [] ends walk used meets = absurd (true≢false (sym used))
+used_ends g v e x (f ∷ fs) ends walk used meets =
+    let w = other_end (edge_of g f) v in
+    let later = holds (walk_vertices g w fs) x in
+    elim (or_cases (eqb f e) (holds fs e) used) [
+      | inl here ↦
+          let within = edge_of_within g f ends walk.0 in
+          let own : touches (edge_of g f) x ≡ true = ap (λ (i : ℕ). touches (edge_of g i) x) (eqb-true f e here) ∙ meets in
+          let both = ends_of_step g.vertices (edge_of g f) v x within walk.1 in
+          let one : ends_at (edge_of g f) x ≡ 1 = ends_at-touches g.vertices (edge_of g f) x within ∙ ap (λ (t : Bool). cond {A = ℕ} t 1 0) own in
+          elim (or_cases (eqb v x) (eqb w x) (one_of v w x (omega (arith, both, one)))) [
+            | inl h ↦ or_left (eqb v x) later h
+            | inr h ↦ or_right (eqb v x) later (let P : ℕ → Type 0 = λ y. holds (walk_vertices g w fs) y ≡ true in subst P (eqb-true w x h) (start_held g w fs))
+          ]
+      | inr further ↦ or_right (eqb v x) later (used_ends g w e x fs ends walk.2 further meets)
+    ]
+
+differ_tail : (x : ℕ) (xs : List ℕ) → AllDiffer (x ∷ xs) → AllDiffer xs
+differ_tail x xs d = λ i j a b. d (suc i) (suc j) (omega arith) (omega arith)
+
+differ_head : (x : ℕ) (xs : List ℕ) → AllDiffer (x ∷ xs) → holds xs x ≡ false
+differ_head x xs d = false_from_ne_true (holds xs x) (λ h. let r = holds_place xs x h in d 0 (suc r.0) (omega arith) (let b = r.1 in omega arith) (sym r.2))
+
+-- a walk that comes to no vertex twice uses no edge twice
+pub used_once : (g : Multigraph) (v e : ℕ) (es : List ℕ) → All (IsEdgeWithin g.vertices) g.edges → IsWalk g v es → AllDiffer (walk_vertices g v es) → times es e ≤ 1
+used_once g v e [] ends walk differ = omega arith
+used_once g v e (f ∷ fs) ends walk differ =
+    let w = other_end (edge_of g f) v in
+    let vs = walk_vertices g w fs in
+    let more = times-cons f fs e in
+    elim (cases_eq f e) [
+      | inl same ↦
+          let meets : touches (edge_of g e) v ≡ true = ap (λ (i : ℕ). touches (edge_of g i) v) (sym same) ∙ walk.1 in
+          let no_more : holds fs e ≡ false = false_from_ne_true (holds fs e) (λ h. true≢false (sym (used_ends g w e v fs ends walk.2 h meets) ∙ differ_head v vs differ)) in
+          omega (arith, more, one_if-same f e same, not_held fs e no_more)
+      | inr other ↦ omega (arith, more, one_if-other f e other, used_once g w e fs ends walk.2 (differ_tail v vs differ))
+    ]

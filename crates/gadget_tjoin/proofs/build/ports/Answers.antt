@@ -1,0 +1,21 @@
+use Rattle.mb_problem.specs.Rooms.{odd_at}
+use Rattle.gadget_tjoin.proofs.PortEdges.{ports-size}
+use Rattle.gadget_tjoin.proofs.Laws.{reaches-joins, reaches-tjoins}
+use Rattle.gadget_tjoin.proofs.Tours.{reaches-tours}
+use Rattle.gadget_tjoin.proofs.Paths.{reaches-paths}
+use Rattle.gadget_tjoin.proofs.build.ports.Goals as goal
+
+pub returns-clause-size : goal.returns-clause-size
+returns-clause-size c = ports-size c.args.instance.now (odd_at c.args.parity.now c.args.instance.now)
+
+pub returns-clause-reached : goal.returns-clause-reached
+returns-clause-reached c = reaches-joins c.args.parity.now c.args.instance.now c.build.ensures.network
+
+pub returns-clause-tjoin : goal.returns-clause-tjoin
+returns-clause-tjoin c = reaches-tjoins c.args.parity.now c.args.instance.now c.build.ensures.network
+
+pub returns-clause-postman : goal.returns-clause-postman
+returns-clause-postman c = reaches-tours c.args.parity.now c.args.instance.now c.build.ensures.network
+
+pub returns-clause-path : goal.returns-clause-path
+returns-clause-path c = reaches-paths c.args.parity.now c.args.instance.now c.build.ensures.network

@@ -1,0 +1,83 @@
+use Rattle.std.proofs.Common.{rules, ◌≡◌, ℕ, ◌+◌, ◌<◌, ap, sym, ◌∙◌, subst, arith, List, length, slice_index, slice_index_or, to_z, of_z, w64}
+use Rattle.std.proofs.lemmas.List.{get_or_read}
+use Rattle.graph_theory.specs.Graph.{Multigraph, IsEdgeWithin}
+use Rattle.mb_problem.specs.declared.instance.InstanceEdge.{InstanceEdge}
+use Rattle.mb_problem.specs.Network.{Network, vertices, instance_edge_at, no_instance_edge}
+use Rattle.mb_problem.specs.Rooms.{odd_at}
+use Rattle.gadget_base.specs.Gadgets.{ports_below, between_ports}
+use Rattle.gadget_tjoin.proofs.PortEdges.{link-within}
+use Rattle.gadget_tjoin.proofs.Steps.{next-ports, link-ends, links-fit, added-link, grown-link, next-step}
+use Rattle.gadget_tjoin.proofs.links.add_links.Goals as goal
+
+-- an edge that was read is the instance's at its place
+item : (i : Network) (es : List InstanceEdge) (k : ℕ) (e : InstanceEdge) → es ≡ i.edges → k < length es → e ≡ slice_index_or es k e → e ≡ instance_edge_at i k
+item i es k e list b is = get_or_read es k e b is no_instance_edge ∙ ap (λ (xs : List InstanceEdge). slice_index_or xs k no_instance_edge) list
+
+place : (i : Network) (es : List InstanceEdge) (k : ℕ) → es ≡ i.edges → k < length es → k < length i.edges
+place i es k list b = subst (λ (es : List InstanceEdge). k < length es) list b
+
+pub take_ports-u-requires-clause-small_u : goal.take_ports-u-requires-clause-small_u
+take_ports-u-requires-clause-small_u c =
+    let i = c.args.instance.now in
+    let odd = odd_at c.args.parity i in
+    let k = c.loop-edge.edge-index in
+    let items = c.edge_list-edge-items in
+    let b = place i items.result.now k items.ensures.list c.loop-edge-test.true in
+    let is = item i items.result.now k c.edge-item.result items.ensures.list c.loop-edge-test.true c.edge-item.is in
+    let ports = next-ports i odd c.loop-edge.next k c.edge-item.result items.ensures.network b is c.loop-edge.invariant.each in
+    omega (arith, ports.0, (link-ends i odd k items.ensures.network b c.requires.limits).0)
+
+pub take_ports-u-requires-clause-small_v : goal.take_ports-u-requires-clause-small_v
+take_ports-u-requires-clause-small_v c =
+    let i = c.args.instance.now in
+    let odd = odd_at c.args.parity i in
+    let k = c.loop-edge.edge-index in
+    let items = c.edge_list-edge-items in
+    let b = place i items.result.now k items.ensures.list c.loop-edge-test.true in
+    let is = item i items.result.now k c.edge-item.result items.ensures.list c.loop-edge-test.true c.edge-item.is in
+    let ports = next-ports i odd c.loop-edge.next k c.edge-item.result items.ensures.network b is c.loop-edge.invariant.each in
+    omega (arith, ports.1, (link-ends i odd k items.ensures.network b c.requires.limits).1)
+
+pub add-requires-clause-room : goal.add-requires-clause-room
+add-requires-clause-room c =
+    let i = c.args.instance.now in
+    let items = c.edge_list-edge-items in
+    let b = place i items.result.now c.loop-edge.edge-index items.ensures.list c.loop-edge-test.true in
+    let few = items.ensures.network.few_edges in
+    let size = links-fit i (odd_at c.args.parity i) c.loop-edge.graph c.args.graph.now.vertices c.loop-edge.edge-index c.loop-edge.invariant.graph in
+    omega (arith, b, few, size)
+
+pub add-requires-clause-ends : goal.add-requires-clause-ends
+add-requires-clause-ends c =
+    let i = c.args.instance.now in
+    let odd = odd_at c.args.parity i in
+    let k = c.loop-edge.edge-index in
+    let items = c.edge_list-edge-items in
+    let b = place i items.result.now k items.ensures.list c.loop-edge-test.true in
+    let is = item i items.result.now k c.edge-item.result items.ensures.list c.loop-edge-test.true c.edge-item.is in
+    let ports = next-ports i odd c.loop-edge.next k c.edge-item.result items.ensures.network b is c.loop-edge.invariant.each in
+    let weighs : to_z w64 (of_z w64 c.edge-item.result.w) ≡ c.edge-item.result.w = search rules in
+    let edge = added-link i odd k c.edge-item.result c.take_ports-u.result.0 c.take_ports-u.result.1 (to_z w64 (of_z w64 c.edge-item.result.w)) is (c.take_ports-u.ensures.u ∙ ports.0) (c.take_ports-u.ensures.v ∙ ports.1) weighs in
+    let size : c.loop-edge.graph.vertices ≡ ports_below i odd (vertices i + 1) = ap (λ (g : Multigraph). g.vertices) c.loop-edge.invariant.graph ∙ ap (λ (g : Multigraph). g.vertices) c.requires.start in
+    subst (λ (n : ℕ). IsEdgeWithin n (record { u = c.take_ports-u.result.0; v = c.take_ports-u.result.1; w = to_z w64 (of_z w64 c.edge-item.result.w) })) (sym size)
+    (subst (IsEdgeWithin (ports_below i odd (vertices i + 1))) (sym edge) (link-within i odd k items.ensures.network b))
+
+pub loop-edge-preserved : goal.loop-edge-preserved
+loop-edge-preserved c =
+    let i = c.args.instance.now in
+    let odd = odd_at c.args.parity i in
+    let k = c.loop-edge.edge-index in
+    let items = c.edge_list-edge-items in
+    let b = place i items.result.now k items.ensures.list c.loop-edge-test.true in
+    let is = item i items.result.now k c.edge-item.result items.ensures.list c.loop-edge-test.true c.edge-item.is in
+    let ports = next-ports i odd c.loop-edge.next k c.edge-item.result items.ensures.network b is c.loop-edge.invariant.each in
+    let weighs : to_z w64 (of_z w64 c.edge-item.result.w) ≡ c.edge-item.result.w = search rules in
+    let edge = added-link i odd k c.edge-item.result c.take_ports-u.result.0 c.take_ports-u.result.1 (to_z w64 (of_z w64 c.edge-item.result.w)) is (c.take_ports-u.ensures.u ∙ ports.0) (c.take_ports-u.ensures.v ∙ ports.1) weighs in
+    record {
+      graph = grown-link (between_ports i odd) c.loop-edge.graph c.add.new.self c.args.graph.now.vertices k (record { u = c.take_ports-u.result.0; v = c.take_ports-u.result.1; w = to_z w64 (of_z w64 c.edge-item.result.w) }) c.loop-edge.invariant.graph c.in_ok-add.ensures.added edge;
+      size = c.take_ports-u.ensures.size ∙ c.loop-edge.invariant.size;
+      each = λ t below.
+          let long = c.requires.size in
+          let same = c.loop-edge.invariant.size in
+          next-step i odd k t (slice_index c.loop-edge.next t) (slice_index c.take_ports-u.new.next t) c.edge-item.result is (c.loop-edge.invariant.each t below) (c.take_ports-u.ensures.each t (omega (arith, below, long, same)));
+    }

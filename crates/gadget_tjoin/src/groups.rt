@@ -1,0 +1,81 @@
+ghost use Rattle.std.specs.Prelude.{◌≡◌, ℕ, ◌+◌, ◌-◌, ◌*◌, ◌/◌, ◌%◌, ◌<◌, ◌≤◌, ◌^◌, ◌++◌, ◌==◌, if◌then◌else◌, length, slice_index, IfOk, OnOk};
+ghost use Rattle.graph_theory.specs.Sums.{sum_to};
+ghost use Rattle.mb_problem.specs.Network.{vertices};
+ghost use Rattle.mb_problem.specs.Size.{edge_count_at, port_count};
+ghost use Rattle.mb_problem.specs.Rooms.{odd_by, odd_at};
+ghost use Rattle.gadget_base.specs.Blocks.{blocks, clique};
+
+use crate::links::take_ports;
+use gadget_base::add_clique;
+use mb_base::OutOfMemory;
+use mb_problem::{Instance, Parity};
+use std::alloc::Global;
+use weighted_graph::Graph;
+
+/// Counts the edges at each vertex: as many as the ports that they take from 0 on.
+fn count_edges(counts: &mut [u32], instance: &Instance)
+    requires one_each { length counts.old ≡ vertices instance.now }
+    requires start { (k : ℕ) → k < length counts.old → slice_index counts.old k ≡ 0 }
+    ensures size { length counts.new ≡ length counts.old }
+    ensures each { (k : ℕ) → k < vertices instance.now → slice_index counts.new k ≡ edge_count_at instance.now (k + 1) }
+    ensures small { (k : ℕ) → k < vertices instance.now → slice_index counts.new k ≤ 131072 }
+{
+    for edge in instance.edge_list() {
+        take_ports(counts, edge);
+    }
+}
+
+/// How many edges meet each vertex.
+fn edge_counts(alloc: Global, instance: &Instance) -> Result<Vec<u32>, OutOfMemory>
+    ensures size { IfOk result (λ counts. length counts.items ≡ vertices instance.now) }
+    ensures each { IfOk result (λ counts. (k : ℕ) → k < vertices instance.now → slice_index counts.items k ≡ edge_count_at instance.now (k + 1)) }
+    ensures small { IfOk result (λ counts. (k : ℕ) → k < vertices instance.now → slice_index counts.items k ≤ 131072) }
+{
+    let mut counts = vec![in alloc; 0u32; instance.vertices() as usize]?;
+    count_edges(&mut counts, instance);
+    Ok(counts)
+}
+
+/// How many ports and spares a vertex has.
+fn group_size(parity: Parity, met: u32, value: u32) -> u32
+    requires { met ≤ 131072 }
+    ensures { result ≡ met + (met + odd_by parity met value) % 2 }
+{
+    let odd = match parity {
+        Parity::Empty => 0,
+        Parity::Values => value % 2,
+        Parity::OddDegrees => met % 2,
+    };
+    met + (met + odd) % 2
+}
+
+/// How many ports and spares each vertex has.
+pub fn group_sizes(
+    alloc: Global,
+    instance: &Instance,
+    parity: Parity,
+) -> Result<Vec<u32>, OutOfMemory>
+    ensures size { IfOk result (λ sizes. length sizes.items ≡ vertices instance.now) }
+    ensures each { IfOk result (λ sizes. (k : ℕ) → k < vertices instance.now → slice_index sizes.items k ≡ port_count instance.now (odd_at parity instance.now) (k + 1)) }
+{
+    let counts = edge_counts(alloc, instance)?;
+    let mut sizes = Vec::with_capacity(alloc, counts.len())?;
+    for (k, value) in instance.value_list().iter().enumerate() {
+        sizes.push(group_size(parity, counts[k], *value))?;
+    }
+    Ok(sizes)
+}
+
+/// Joins all vertices of each group: group k has `sizes[k]` vertices, after the first `before[k]`.
+pub fn add_cliques(graph: &mut Graph, before: &[u32], sizes: &[u32]) -> Result<(), OutOfMemory>
+    requires one_each { length sizes.now ≤ length before.now }
+    requires inside { (k : ℕ) → k < length sizes.now → slice_index before.now k + slice_index sizes.now k ≤ graph.old.vertices }
+    requires room { length graph.old.edges + sum_to (λ k. slice_index sizes.now k * (slice_index sizes.now k - 1) / 2) (length sizes.now) < 2 ^ 32 }
+    ensures added { OnOk result (graph.new ≡ record graph.old { edges = graph.old.edges ++ blocks (λ k. clique (slice_index before.now k) (slice_index sizes.now k)) (length sizes.now) }) }
+{
+    let _vertices = graph.vertices();
+    for (k, size) in sizes.iter().enumerate() {
+        add_clique(graph, before[k], *size)?;
+    }
+    Ok(())
+}

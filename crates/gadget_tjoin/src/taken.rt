@@ -1,0 +1,75 @@
+ghost use Rattle.std.specs.Prelude.{◌≡◌, ℕ, ◌+◌, ◌<◌, ◌≤◌, ◌++◌, ◌∷◌, [], Bool, true, false, if◌then◌else◌, List, length, slice_index_or, All, IfOk, OnOk};
+ghost use Rattle.std.specs.List.Sorted.{IsStrictlyIncreasing};
+ghost use Rattle.graph_theory.specs.Graph.{IsEdgeNumber};
+ghost use Rattle.graph_theory.specs.Parts.{holds};
+ghost use Rattle.graph_theory.specs.Walk.{walk_weight};
+ghost use Rattle.mb_problem.specs.Network.{Network, graph_of};
+ghost use Rattle.mb_problem.specs.Rooms.{odd_at};
+ghost use Rattle.gadget_base.specs.Gadgets.{ports_graph};
+ghost use Rattle.gadget_base.specs.Certified.{IsPerfectList};
+ghost use Rattle.gadget_tjoin.specs.Joins.{IsJoinOf, listed_counts};
+
+use mb_base::{EdgeId, OutOfMemory, Sequence};
+use mb_problem::{Instance, Join, Parity};
+use std::alloc::Global;
+
+/// Which of the first edges are listed.
+fn marks_of(alloc: Global, count: usize, edges: &[EdgeId]) -> Result<Vec<bool>, OutOfMemory>
+    requires numbers { All (λ e. 1 ≤ e) edges.now }
+    ensures size { IfOk result (λ marks. length marks.items ≡ count) }
+    ensures each { IfOk result (λ marks. (k : ℕ) → k < count → slice_index_or marks.items k false ≡ holds edges.now (k + 1)) }
+{
+    let mut marks = vec![in alloc; false; count]?;
+    for edge in edges {
+        let place = edge.number() as usize - 1;
+        if place < count {
+            marks[place] = true;
+        }
+    }
+    Ok(marks)
+}
+
+/// Puts the number after a place at the end where the place is marked.
+fn note(edges: &mut Vec<EdgeId>, place: usize, marked: bool) -> Result<(), OutOfMemory>
+    requires { place < 65536 }
+    ensures { OnOk result (edges.new.items ≡ (if marked then edges.old.items ++ (place + 1) ∷ [] else edges.old.items)) }
+{
+    if marked {
+        edges.push(EdgeId::new(place as u32 + 1))?;
+    }
+    Ok(())
+}
+
+/// The numbers of the marked edges, ascending.
+fn marked(alloc: Global, marks: &[bool]) -> Result<Vec<EdgeId>, OutOfMemory>
+    requires few { length marks.now ≤ 65536 }
+    ensures ascending { IfOk result (λ edges. IsStrictlyIncreasing edges.items) }
+    ensures in_range { IfOk result (λ edges. All (λ e. (1 ≤ e) × (e ≤ length marks.now)) edges.items) }
+    ensures exact { IfOk result (λ edges. (k : ℕ) → k < length marks.now → holds edges.items (k + 1) ≡ slice_index_or marks.now k false) }
+{
+    let mut edges = Vec::new(alloc);
+    for (place, mark) in marks.iter().enumerate() {
+        note(&mut edges, place, *mark)?;
+    }
+    Ok(edges)
+}
+
+/// The join of a perfect matching of the graph of ports: those of its edges that are the instance's
+/// own, which have the same numbers there. In time linear in the instance and the matching.
+pub fn extract(
+    alloc: Global,
+    instance: &Instance,
+    parity: &Parity,
+    edges: &[EdgeId],
+) -> Result<Join, OutOfMemory>
+    requires perfect { IsPerfectList (ports_graph instance.now (odd_at parity.now instance.now)) edges.now }
+    ensures ascending { IfOk result (λ join. IsStrictlyIncreasing join.edges) }
+    ensures in_range { IfOk result (λ join. All (IsEdgeNumber (graph_of instance.now)) join.edges) }
+    ensures join { IfOk result (λ join. IsJoinOf parity.now instance.now (listed_counts join.edges (length instance.now.edges))) }
+    ensures weighs { IfOk result (λ join. walk_weight (graph_of instance.now) join.edges ≡ walk_weight (ports_graph instance.now (odd_at parity.now instance.now)) edges.now) }
+{
+    let _ = parity;
+    let marks = marks_of(alloc, instance.edges() as usize, edges)?;
+    let edges = Sequence::from_vec(marked(alloc, &marks)?);
+    Ok(Join { edges })
+}

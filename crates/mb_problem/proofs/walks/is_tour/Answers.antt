@@ -1,0 +1,6 @@
+use Rattle.graph_theory.proofs.Walks.{walk-numbers}
+use Rattle.mb_problem.specs.Network.{graph_of}
+use Rattle.mb_problem.proofs.walks.is_tour.Goals as goal
+
+pub uses_all-requires : goal.uses_all-requires
+uses_all-requires c = walk-numbers (graph_of c.args.instance.now) c.args.start c.args.edges.now (c.is_closed.ensures.0 c.if-not-is_closed.false).0
