@@ -1,5 +1,5 @@
 -- Components of what is left where a set of vertices is removed, and the sets that violate Tutte's
--- condition (24). Such a set is called a barrier here.
+-- condition (chapter 24). Such a set is called a barrier here.
 use Rattle.std.specs.Prelude.{◌≡◌, ℕ, ◌%◌, ◌<◌, true, false, ◌↔◌, List, length, All, slice_index}
 use Rattle.std.specs.List.Sorted.{IsStrictlyIncreasing}
 use Rattle.graph_theory.specs.Graph.{Multigraph}

@@ -1,4 +1,4 @@
--- Duals on vertices and on odd sets of vertices (25, 26), in doubled units.
+-- Duals on vertices and on odd sets of vertices (chapters 25 and 26), in doubled units.
 use Rattle.std.specs.Prelude.{◌≡◌, ℕ, ◌%◌, ◌-◌, ◌^◌, neg_ℤ, ◌≤◌, ℤ, pos, ◌+ℤ◌, ◌-ℤ◌, ◌*ℤ◌, ◌≤ℤ◌, List, [], length, All, slice_index_or, if◌then◌else◌}
 use Rattle.std.specs.List.Sorted.{IsStrictlyIncreasing}
 use Rattle.graph_theory.specs.Sums.{int_sum_to}

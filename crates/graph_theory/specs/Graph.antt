@@ -72,7 +72,7 @@ degree g counts v = sum_to (λ k. slice_index counts k * ends_at (edge_at g k) v
 abbrev pub weight : Multigraph → List ℕ → ℤ
 weight g counts = int_sum_to (λ k. pos (slice_index counts k) *ℤ (edge_at g k).w) (length g.edges)
 
--- a perfect matching (24): counts 0 or 1, one for each edge, such that each vertex has degree 1
+-- a perfect matching (chapter 24): counts 0 or 1, one for each edge, such that each vertex has degree 1
 pub record IsPerfect (g : Multigraph) (counts : List ℕ) : Type 0 where
   pub one_each : length counts ≡ length g.edges
   pub at_most_one : All (λ c. c ≤ 1) counts

@@ -1,4 +1,4 @@
--- Sets of vertices, and those that no edge leaves (29).
+-- Sets of vertices, and those that no edge leaves (chapter 29).
 use Rattle.std.specs.Prelude.{◌≡◌, ℕ, ◌≤◌, ◌<◌, ◌%◌, Bool, true, false, not, ◌==◌, List, length, All, count_by, if◌then◌else◌}
 use Rattle.std.specs.List.{list_any}
 use Rattle.std.specs.List.Sorted.{IsStrictlyIncreasing}

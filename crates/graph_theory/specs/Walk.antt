@@ -1,4 +1,4 @@
--- Walks and circuits (3, 29): a start, and the numbers of edges, each of which has the vertex reached
+-- Walks and circuits (chapters 3 and 29): a start, and the numbers of edges, each of which has the vertex reached
 -- so far as an end and leads to its other end.
 use Rattle.std.specs.Prelude.{◌≡◌, ◌≢◌, ℕ, ◌≤◌, ◌<◌, ℤ, pos, ◌+ℤ◌, ◌≤ℤ◌, true, List, [], ◌∷◌, length, slice_index}
 use Rattle.graph_theory.specs.Graph.{Multigraph, edge_of, IsEdgeNumber, touches, other_end}
@@ -43,6 +43,6 @@ pub record IsCircuit (g : Multigraph) (v : ℕ) (es : List ℕ) : Type 0 where
   pub edges_differ : AllDiffer es
   pub vertices_differ : AllDiffer (walk_left g v es)
 
--- the weights are conservative (29): no circuit weighs less than 0
+-- the weights are conservative (chapter 29): no circuit weighs less than 0
 abbrev pub IsConservative : Multigraph → Type 0
 IsConservative g = (v : ℕ) (es : List ℕ) → IsCircuit g v es → pos 0 ≤ℤ walk_weight g es

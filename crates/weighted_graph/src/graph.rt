@@ -43,6 +43,20 @@ impl Graph {
         }
     }
 
+    /// Puts an edge at the end of the list.
+    fn push(&mut self, edge: Edge) -> Result<EdgeId, OutOfMemory>
+        requires room { length self.old.edges < 2 ^ 32 - 1 }
+        requires ends { IsEdgeWithin self.old.vertices edge }
+        requires weight { IsWeight edge.w }
+        ensures added { OnOk result (self.new ≡ record self.old { edges = self.old.edges ++ edge ∷ [] }) }
+        ensures number { IfOk result (λ e. e ≡ length self.old.edges + 1) }
+        ensures unchanged { OnErr result (self.new ≡ self.old) }
+        ensures graph { IsGraph self.new }
+    {
+        self.edges.push(edge)?;
+        Ok(EdgeId::new(self.edges.len() as u32))
+    }
+
     /// Adds an edge between `u` and `v` of weight `w`, and answers its number.
     pub fn add(&mut self, u: VertexId, v: VertexId, w: i64) -> Result<EdgeId, OutOfMemory>
         requires room { length self.old.edges < 2 ^ 32 - 1 }
@@ -53,8 +67,7 @@ impl Graph {
         ensures unchanged { OnErr result (self.new ≡ self.old) }
         ensures graph { IsGraph self.new }
     {
-        self.edges.push(Edge { u, v, w })?;
-        Ok(EdgeId::new(self.edges.len() as u32))
+        self.push(Edge { u, v, w })
     }
 
     /// The ends and the weight of an edge, and one step more on the counter.
