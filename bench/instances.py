@@ -63,3 +63,27 @@ def instance(n, m, seed=1):
         v = draw.randint(1, n - 1)
         lines.append("e %d %d %d" % (u, v + (v >= u), draw.randint(-10**9, 10**9)))
     return ("\n".join(lines) + "\n").encode()
+
+
+def with_postman_walk(count):
+    """A circle of 2,048 edges of weight 0, and a walk of `count` edges round it, which is best as every one is."""
+    n = 2048
+    lines = ["p edge %d %d" % (n, n)] + ["e %d %d 0" % (v, v % n + 1) for v in range(1, n + 1)]
+    rounds = count // n
+    lines.append("s OPTIMAL postman 0")
+    lines.append("w 1 %d %s" % (rounds * n, " ".join([" ".join(map(str, range(1, n + 1)))] * rounds)))
+    lines += ["y %d 0" % v for v in range(1, 2 * n + 1)]
+    return ("\n".join(lines) + "\n").encode()
+
+
+def with_large_copies():
+    """One edge between two vertices of value 1,024, whose copies have 1,048,576 edges, and the optimal document."""
+    lines = ["p edge 2 1", "n 1 1024", "n 2 1024", "e 1 2 7", "s OPTIMAL bmatch %d" % (7 * 1024), "x 1 1024"]
+    lines += ["y %d 7" % v for v in range(1, 2049)]
+    return ("\n".join(lines) + "\n").encode()
+
+
+def copies_as_graph():
+    """The edges of those copies as an instance of their own."""
+    lines = ["p edge 2048 1048576"] + ["e %d %d 7" % (a, 1024 + b) for a in range(1, 1025) for b in range(1, 1025)]
+    return ("\n".join(lines) + "\n").encode()
