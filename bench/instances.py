@@ -63,3 +63,47 @@ def instance(n, m, seed=1):
         v = draw.randint(1, n - 1)
         lines.append("e %d %d %d" % (u, v + (v >= u), draw.randint(-10**9, 10**9)))
     return ("\n".join(lines) + "\n").encode()
+
+
+def with_postman_walk(count):
+    """A circle of 2,048 edges of weight 0, and a walk of `count` edges round it, which is best as every one is."""
+    n = 2048
+    lines = ["p edge %d %d" % (n, n)] + ["e %d %d 0" % (v, v % n + 1) for v in range(1, n + 1)]
+    rounds = count // n
+    lines.append("s OPTIMAL postman 0")
+    lines.append("w 1 %d %s" % (rounds * n, " ".join([" ".join(map(str, range(1, n + 1)))] * rounds)))
+    lines += ["y %d 0" % v for v in range(1, 2 * n + 1)]
+    return ("\n".join(lines) + "\n").encode()
+
+
+def with_large_copies():
+    """One edge between two vertices of value 1,024, whose copies have 1,048,576 edges, and the optimal document."""
+    lines = ["p edge 2 1", "n 1 1024", "n 2 1024", "e 1 2 7", "s OPTIMAL bmatch %d" % (7 * 1024), "x 1 1024"]
+    lines += ["y %d 7" % v for v in range(1, 2049)]
+    return ("\n".join(lines) + "\n").encode()
+
+
+def copies_as_graph():
+    """The edges of those copies as an instance of their own."""
+    lines = ["p edge 2048 1048576"] + ["e %d %d 7" % (a, 1024 + b) for a in range(1, 1025) for b in range(1, 1025)]
+    return ("\n".join(lines) + "\n").encode()
+
+
+def largest_gadgets():
+    """For each kind with a graph of its own an instance whose graph is as large as its limits allow, near enough:
+    the kind, the number of edges of the graph, and the bytes."""
+    draw = random.Random(1)
+    pairs = ["e %d %d %d" % (k % 2048 + 1, (k * 7 + k // 2048 + 1) % 2047 + 1, draw.randint(-10**9, 10**9))
+             for k in range(65536)]
+    pairs = [e if len(set(e.split()[1:3])) == 2 else "e 1 2 3" for e in pairs]
+    one = ["n 1 1024", "n 2 1024", "e 1 2 7"]
+    gates = ["n 1 512", "n 2 512", "e 1 2 7", "e 1 2 8 150"]
+    clique = ["e %d %d 5" % (u, v) for u in range(1, 9) for v in range(u + 1, 9)]
+    star = ["n %d 170" % v for v in range(1, 9)] + clique * 40
+    fan = ["e 1 2 %d" % draw.randint(0, 10**9) for _ in range(1023)]
+    tables = [("match", 2048, pairs, 2 * 65536 + 2048), ("bmatch", 2, one, 1024 * 1024),
+              ("capmatch", 2, gates, 3 * 512 * 512 + 150 * (512 + 150 + 512)), ("ffactor", 8, star, 1120 * (170 + 1 + 170)),
+              ("tjoin", 2, ["n 1 1", "n 2 1"] + fan, 1023 + 1023 * 1022), ("postman", 2, fan, 1023 + 1023 * 1022)]
+    for kind, n, rows, edges in tables:
+        count = sum(row.startswith("e") for row in rows)
+        yield kind, edges, ("\n".join(["p edge %d %d" % (n, count)] + rows) + "\n").encode()

@@ -6,8 +6,12 @@ test failed or none ran."""
 import glob
 import json
 import os
+import random
 import subprocess
 import sys
+
+import mutate
+import plain_checker
 
 HERE = os.path.dirname(os.path.abspath(__file__))
 USAGE = "s USAGE\n"
@@ -80,7 +84,7 @@ def hostile_input(tests):
 def words(tests):
     """Words that are no command are answered so, whatever the input is."""
     for line in ([], ["check"], ["check", "perfec"], ["perfect", "check"], ["check", "perfect", "--brief"],
-                 ["--help"], ["--version"], ["check", "--", "perfect"], ["solve", "perfect"], ["check", "match"]):
+                 ["--help"], ["--version"], ["check", "--", "perfect"], ["solve", "perfect"], ["check", "matching"]):
         tests.expect("words " + " ".join(line), line, b"p edge 0 0\n", USAGE, 2)
 
 
@@ -91,9 +95,37 @@ def examples(tests):
             tests.expect(os.path.basename(path), ["check", os.path.basename(path).split("-")[0]], file.read(), "s ACCEPTED\n", 0)
 
 
+def stored_documents():
+    """The documents in tests/documents: their kinds, names and lines. The first line is a comment with the answer."""
+    for path in sorted(glob.glob(os.path.join(HERE, "documents", "*", "*.checked"))):
+        with open(path, encoding="ascii") as file:
+            yield os.path.basename(os.path.dirname(path)), os.path.basename(path), file.read().splitlines()
+
+
+def documents(tests):
+    """Documents of each kind: accepted ones, and one for each rule that breaks it."""
+    for kind, name, lines in stored_documents():
+        answer = lines[0].removeprefix("c expected: ") + "\n"
+        tests.expect(kind + "/" + name, ["check", kind], ("\n".join(lines) + "\n").encode(), answer,
+                     0 if answer == "s ACCEPTED\n" else 1)
+
+
+def changed_documents(tests):
+    """Accepted documents with one small change: the program answers as the plain checker does."""
+    chance = random.Random(1)
+    for kind, name, lines in stored_documents():
+        if not name.startswith("accepted"):
+            continue
+        first = next(place for place, line in enumerate(lines) if line.startswith("s "))
+        for turn in range(24):
+            text = "\n".join(lines[:first] + mutate.changed(chance, lines[first:])) + "\n"
+            status, answer = plain_checker.answer_of(kind, text)
+            tests.expect("%s/%s, change %d" % (kind, name, turn), ["check", kind], text.encode(), answer, status)
+
+
 PROGRAM = os.path.abspath(sys.argv[1])
 TESTS = Tests()
-for part in (cases, cut_files, hostile_input, words, examples):
+for part in (cases, cut_files, hostile_input, words, examples, documents, changed_documents):
     part(TESTS)
 print("%d passed, %d failed" % (TESTS.passed, TESTS.failed))
 sys.exit(0 if TESTS.failed == 0 and TESTS.passed > 0 else 1)
