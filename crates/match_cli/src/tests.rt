@@ -1,12 +1,14 @@
 mod case;
 mod documents;
 mod instances;
+mod kinds;
 mod runs;
 
 use crate::status::Status;
 use case::Case;
 use documents::DOCUMENTS;
 use instances::INSTANCES;
+use kinds::{B_MATCHINGS, CAPACITIES, FACTORS, JOINS, MATCHINGS, PATHS, TOURS};
 use runs::{expect, with_faults};
 use std::alloc::Global;
 use std::process::Abort;
@@ -16,8 +18,8 @@ const CHECK: &[&str] = &["check", "perfect"];
 
 const ONE_EDGE: &[u8] = b"p edge 2 1\ne 1 2 5\ns OPTIMAL perfect 5\nx 1 1\ny 1 5\ny 2 5\n";
 
-/// Asserts each case of a table.
-fn expect_all(rt: &impl Abort, alloc: Global, cases: &[Case]) -> Result<(), Fail> {
+/// Asserts each case of a table of a kind.
+fn expect_all(rt: &impl Abort, alloc: Global, kind: &str, cases: &[Case]) -> Result<(), Fail> {
     for case in cases {
         let mut input = Vec::from_slice(alloc, case.instance)?;
         input.extend_from_slice(case.document)?;
@@ -25,7 +27,7 @@ fn expect_all(rt: &impl Abort, alloc: Global, cases: &[Case]) -> Result<(), Fail
             rt,
             alloc,
             case.shows,
-            CHECK,
+            &["check", kind],
             &input,
             (case.output, case.ends),
         )?;
@@ -35,12 +37,48 @@ fn expect_all(rt: &impl Abort, alloc: Global, cases: &[Case]) -> Result<(), Fail
 
 #[test]
 fn documents_are_judged(rt: HostRuntime) -> Result<(), Fail> {
-    expect_all(&rt, rt.alloc(), &DOCUMENTS)
+    expect_all(&rt, rt.alloc(), "perfect", &DOCUMENTS)
 }
 
 #[test]
 fn instances_are_read(rt: HostRuntime) -> Result<(), Fail> {
-    expect_all(&rt, rt.alloc(), &INSTANCES)
+    expect_all(&rt, rt.alloc(), "perfect", &INSTANCES)
+}
+
+#[test]
+fn each_kind_is_judged(rt: HostRuntime) -> Result<(), Fail> {
+    let alloc = rt.alloc();
+    expect_all(&rt, alloc, "match", &MATCHINGS)?;
+    expect_all(&rt, alloc, "bmatch", &B_MATCHINGS)?;
+    expect_all(&rt, alloc, "capmatch", &CAPACITIES)?;
+    expect_all(&rt, alloc, "ffactor", &FACTORS)?;
+    expect_all(&rt, alloc, "tjoin", &JOINS)?;
+    expect_all(&rt, alloc, "postman", &TOURS)?;
+    expect_all(&rt, alloc, "path", &PATHS)
+}
+
+/// The duals of a document on the largest copies: 1 at each of 2,048 vertices.
+fn large_input(alloc: Global, instance: &[u8]) -> Result<Vec<u8>, Fail> {
+    let mut input = Vec::from_slice(alloc, instance)?;
+    for vertex in 1..2049u32 {
+        input.extend_from_slice(b"y ")?;
+        let mut digits = itoa::Buffer::new();
+        input.extend_from_slice(digits.format(vertex).as_bytes())?;
+        input.extend_from_slice(b" 1\n")?;
+    }
+    Ok(input)
+}
+
+#[test]
+fn the_largest_copies_and_one_more(rt: HostRuntime) -> Result<(), Fail> {
+    let alloc = rt.alloc();
+    let line = &["check", "bmatch"];
+    let input = large_input(alloc, b"p edge 2 1\nn 1 1024\nn 2 1024\ne 1 2 1\ns OPTIMAL bmatch 1024\nx 1 1024\n")?;
+    let wanted = (b"s ACCEPTED\n".as_slice(), Status::Done);
+    expect(&rt, alloc, "1,048,576 pairs of copies", line, &input, wanted)?;
+    let input = large_input(alloc, b"p edge 2 1\nn 1 1024\nn 2 1025\ne 1 2 1\ns OPTIMAL bmatch 1024\nx 1 1024\n")?;
+    let wanted = (b"s TOOLARGE 2049 1049600\n".as_slice(), Status::TooLarge);
+    expect(&rt, alloc, "one copy more", line, &input, wanted)
 }
 
 #[test]
@@ -99,7 +137,7 @@ fn words_that_are_no_command(rt: HostRuntime) -> Result<(), Fail> {
     let lines: [&[&str]; 9] = [
         &[],
         &["check"],
-        &["check", "match"],
+        &["check", "cover"],
         &["check", "--", "perfect"],
         &["solve"],
         &["solve", "perfect"],
