@@ -79,13 +79,48 @@ fn answers_are(rt: &HostRuntime, rows: &[Row]) -> Result<(), Fail> {
 #[test]
 fn perfect_matchings(rt: HostRuntime) -> Result<(), Fail> {
     let rows: [Row; 7] = [
-        ("perfect", b"p edge 2 1\ne 1 2 5\ns OPTIMAL perfect 5\nx 1 1\ny 1 5\ny 2 5\n", b"s ACCEPTED\n", Status::Done),
-        ("perfect", b"p edge 1 0\ns INFEASIBLE perfect\nu 0\n", b"s ACCEPTED\n", Status::Done),
-        ("perfect", b"p edge 2 1\ne 1 1\n", b"s MALFORMED Loop 2\n", Status::Malformed),
-        ("perfect", b"p edge 2 0\n", b"s REJECTED DocForm 2\n", Status::Rejected),
-        ("perfect", b"p edge 0 0\ns OPTIMAL match 0\n", b"s REJECTED KindDiffers 2\n", Status::Rejected),
-        ("perfect", b"p edge 2 0\ns OPTIMAL perfect 0\n", b"s REJECTED NotFeasible 2\n", Status::Rejected),
-        ("perfect", b"p edge 0 0\ns INFEASIBLE perfect\n", b"s REJECTED NotBarrier 2\n", Status::Rejected),
+        (
+            "perfect",
+            b"p edge 2 1\ne 1 2 5\ns OPTIMAL perfect 5\nx 1 1\ny 1 5\ny 2 5\n",
+            b"s ACCEPTED\n",
+            Status::Done,
+        ),
+        (
+            "perfect",
+            b"p edge 1 0\ns INFEASIBLE perfect\nu 0\n",
+            b"s ACCEPTED\n",
+            Status::Done,
+        ),
+        (
+            "perfect",
+            b"p edge 2 1\ne 1 1\n",
+            b"s MALFORMED Loop 2\n",
+            Status::Malformed,
+        ),
+        (
+            "perfect",
+            b"p edge 2 0\n",
+            b"s REJECTED DocForm 2\n",
+            Status::Rejected,
+        ),
+        (
+            "perfect",
+            b"p edge 0 0\ns OPTIMAL match 0\n",
+            b"s REJECTED KindDiffers 2\n",
+            Status::Rejected,
+        ),
+        (
+            "perfect",
+            b"p edge 2 0\ns OPTIMAL perfect 0\n",
+            b"s REJECTED NotFeasible 2\n",
+            Status::Rejected,
+        ),
+        (
+            "perfect",
+            b"p edge 0 0\ns INFEASIBLE perfect\n",
+            b"s REJECTED NotBarrier 2\n",
+            Status::Rejected,
+        ),
     ];
     answers_are(&rt, &rows)
 }
@@ -93,11 +128,36 @@ fn perfect_matchings(rt: HostRuntime) -> Result<(), Fail> {
 #[test]
 fn matchings_speak_of_the_graph_twice(rt: HostRuntime) -> Result<(), Fail> {
     let rows: [Row; 5] = [
-        ("match", b"p edge 2 1\ne 1 2 -5\ns OPTIMAL match 0\ny 1 0\ny 2 0\ny 3 0\ny 4 0\n", b"s ACCEPTED\n", Status::Done),
-        ("match", b"p edge 2 1\ne 1 2 5\ns OPTIMAL match 5\nx 1 1\ny 1 -5\ny 2 -5\ny 3 -5\ny 4 -5\n", b"s ACCEPTED\n", Status::Done),
-        ("match", b"p edge 2 1\ne 1 2 5\ns OPTIMAL match 0\ny 1 0\ny 2 0\ny 3 0\ny 4 0\n", b"s REJECTED Slack 3\n", Status::Rejected),
-        ("match", b"p edge 2 1\ne 1 2 5\ns OPTIMAL match 5\nx 1 1\ny 1 -5\ny 2 -5\n", b"s REJECTED DualMissing 3\n", Status::Rejected),
-        ("match", b"p edge 4096 0\n", b"s TOOLARGE 8192 4096\n", Status::TooLarge),
+        (
+            "match",
+            b"p edge 2 1\ne 1 2 -5\ns OPTIMAL match 0\ny 1 0\ny 2 0\ny 3 0\ny 4 0\n",
+            b"s ACCEPTED\n",
+            Status::Done,
+        ),
+        (
+            "match",
+            b"p edge 2 1\ne 1 2 5\ns OPTIMAL match 5\nx 1 1\ny 1 -5\ny 2 -5\ny 3 -5\ny 4 -5\n",
+            b"s ACCEPTED\n",
+            Status::Done,
+        ),
+        (
+            "match",
+            b"p edge 2 1\ne 1 2 5\ns OPTIMAL match 0\ny 1 0\ny 2 0\ny 3 0\ny 4 0\n",
+            b"s REJECTED Slack 3\n",
+            Status::Rejected,
+        ),
+        (
+            "match",
+            b"p edge 2 1\ne 1 2 5\ns OPTIMAL match 5\nx 1 1\ny 1 -5\ny 2 -5\n",
+            b"s REJECTED DualMissing 3\n",
+            Status::Rejected,
+        ),
+        (
+            "match",
+            b"p edge 4096 0\n",
+            b"s TOOLARGE 8192 4096\n",
+            Status::TooLarge,
+        ),
     ];
     answers_are(&rt, &rows)
 }
@@ -105,12 +165,42 @@ fn matchings_speak_of_the_graph_twice(rt: HostRuntime) -> Result<(), Fail> {
 #[test]
 fn copies_stand_for_values(rt: HostRuntime) -> Result<(), Fail> {
     let rows: [Row; 6] = [
-        ("bmatch", b"p edge 2 1\nn 1 2\nn 2 2\ne 1 2 4\ns OPTIMAL bmatch 8\nx 1 2\ny 1 4\ny 2 4\ny 3 4\ny 4 4\n", b"s ACCEPTED\n", Status::Done),
-        ("bmatch", b"p edge 2 1\nn 1 2049\nn 2 2049\ne 1 2 1\n", b"s TOOLARGE 4098 4198401\n", Status::TooLarge),
-        ("capmatch", b"p edge 2 1\nn 1 2\nn 2 2\ne 1 2 4 1\ns INFEASIBLE capmatch\nu 2 5 6\n", b"s ACCEPTED\n", Status::Done),
-        ("capmatch", b"p edge 2 1\nn 1 2\nn 2 2\ne 1 2 4 1\ns INFEASIBLE capmatch\nu 1 3\n", b"s REJECTED NotBarrier 5\n", Status::Rejected),
-        ("ffactor", b"p edge 2 1\ne 1 2 3\ns OPTIMAL ffactor 3\nx 1 1\ny 1 6\ny 2 0\ny 3 0\ny 4 0\n", b"s ACCEPTED\n", Status::Done),
-        ("ffactor", b"p edge 2 1\ne 1 2 3\ns OPTIMAL ffactor 3\ny 1 6\ny 2 0\ny 3 0\ny 4 0\n", b"s REJECTED NotFeasible 3\n", Status::Rejected),
+        (
+            "bmatch",
+            b"p edge 2 1\nn 1 2\nn 2 2\ne 1 2 4\ns OPTIMAL bmatch 8\nx 1 2\ny 1 4\ny 2 4\ny 3 4\ny 4 4\n",
+            b"s ACCEPTED\n",
+            Status::Done,
+        ),
+        (
+            "bmatch",
+            b"p edge 2 1\nn 1 2049\nn 2 2049\ne 1 2 1\n",
+            b"s TOOLARGE 4098 4198401\n",
+            Status::TooLarge,
+        ),
+        (
+            "capmatch",
+            b"p edge 2 1\nn 1 2\nn 2 2\ne 1 2 4 1\ns INFEASIBLE capmatch\nu 2 5 6\n",
+            b"s ACCEPTED\n",
+            Status::Done,
+        ),
+        (
+            "capmatch",
+            b"p edge 2 1\nn 1 2\nn 2 2\ne 1 2 4 1\ns INFEASIBLE capmatch\nu 1 3\n",
+            b"s REJECTED NotBarrier 5\n",
+            Status::Rejected,
+        ),
+        (
+            "ffactor",
+            b"p edge 2 1\ne 1 2 3\ns OPTIMAL ffactor 3\nx 1 1\ny 1 6\ny 2 0\ny 3 0\ny 4 0\n",
+            b"s ACCEPTED\n",
+            Status::Done,
+        ),
+        (
+            "ffactor",
+            b"p edge 2 1\ne 1 2 3\ns OPTIMAL ffactor 3\ny 1 6\ny 2 0\ny 3 0\ny 4 0\n",
+            b"s REJECTED NotFeasible 3\n",
+            Status::Rejected,
+        ),
     ];
     answers_are(&rt, &rows)
 }
@@ -118,15 +208,60 @@ fn copies_stand_for_values(rt: HostRuntime) -> Result<(), Fail> {
 #[test]
 fn joins_and_tours_speak_of_ports(rt: HostRuntime) -> Result<(), Fail> {
     let rows: [Row; 9] = [
-        ("tjoin", b"p edge 3 3\ne 1 2 -1\ne 2 3 -1\ne 1 3 1\ns OPTIMAL tjoin -1\nx 1 1\nx 2 1\nx 3 1\ny 1 -1\ny 2 1\ny 3 -1\ny 4 -1\ny 5 -1\ny 6 1\n", b"s ACCEPTED\n", Status::Done),
-        ("tjoin", b"p edge 2 0\nn 1 1\nn 2 1\ns INFEASIBLE tjoin\nt 1 2\n", b"s ACCEPTED\n", Status::Done),
-        ("tjoin", b"p edge 2 0\nn 1 1\nn 2 1\ns INFEASIBLE tjoin\nt 2 1 2\n", b"s REJECTED NotClosed 4\n", Status::Rejected),
-        ("postman", b"p edge 3 2\ne 1 2 4\ne 2 3 6\ns OPTIMAL postman 20\nw 1 4 1 2 2 1\ny 1 8\ny 2 0\ny 3 0\ny 4 12\n", b"s ACCEPTED\n", Status::Done),
-        ("postman", b"p edge 3 2\ne 1 2 4\ne 2 3 6\ns OPTIMAL postman 20\nw 1 2 1 2\n", b"s REJECTED NotFeasible 4\n", Status::Rejected),
-        ("postman", b"p edge 3 0\ns OPTIMAL postman 0\n", b"s ACCEPTED\n", Status::Done),
-        ("postman", b"p edge 4 2\ne 1 2 1\ne 3 4 1\ns INFEASIBLE postman\nq 2 1 2\n", b"s ACCEPTED\n", Status::Done),
-        ("postman", b"p edge 4 2\ne 1 2 1\ne 3 4 1\ns INFEASIBLE postman\nq 1 1\n", b"s REJECTED NotClosed 4\n", Status::Rejected),
-        ("postman", b"p edge 4 2\ne 1 2 -1\ne 3 4 1\n", b"s MALFORMED Negative 2\n", Status::Malformed),
+        (
+            "tjoin",
+            b"p edge 3 3\ne 1 2 -1\ne 2 3 -1\ne 1 3 1\ns OPTIMAL tjoin -1\nx 1 1\nx 2 1\nx 3 1\ny 1 -1\ny 2 1\ny 3 -1\ny 4 -1\ny 5 -1\ny 6 1\n",
+            b"s ACCEPTED\n",
+            Status::Done,
+        ),
+        (
+            "tjoin",
+            b"p edge 2 0\nn 1 1\nn 2 1\ns INFEASIBLE tjoin\nt 1 2\n",
+            b"s ACCEPTED\n",
+            Status::Done,
+        ),
+        (
+            "tjoin",
+            b"p edge 2 0\nn 1 1\nn 2 1\ns INFEASIBLE tjoin\nt 2 1 2\n",
+            b"s REJECTED NotClosed 4\n",
+            Status::Rejected,
+        ),
+        (
+            "postman",
+            b"p edge 3 2\ne 1 2 4\ne 2 3 6\ns OPTIMAL postman 20\nw 1 4 1 2 2 1\ny 1 8\ny 2 0\ny 3 0\ny 4 12\n",
+            b"s ACCEPTED\n",
+            Status::Done,
+        ),
+        (
+            "postman",
+            b"p edge 3 2\ne 1 2 4\ne 2 3 6\ns OPTIMAL postman 20\nw 1 2 1 2\n",
+            b"s REJECTED NotFeasible 4\n",
+            Status::Rejected,
+        ),
+        (
+            "postman",
+            b"p edge 3 0\ns OPTIMAL postman 0\n",
+            b"s ACCEPTED\n",
+            Status::Done,
+        ),
+        (
+            "postman",
+            b"p edge 4 2\ne 1 2 1\ne 3 4 1\ns INFEASIBLE postman\nq 2 1 2\n",
+            b"s ACCEPTED\n",
+            Status::Done,
+        ),
+        (
+            "postman",
+            b"p edge 4 2\ne 1 2 1\ne 3 4 1\ns INFEASIBLE postman\nq 1 1\n",
+            b"s REJECTED NotClosed 4\n",
+            Status::Rejected,
+        ),
+        (
+            "postman",
+            b"p edge 4 2\ne 1 2 -1\ne 3 4 1\n",
+            b"s MALFORMED Negative 2\n",
+            Status::Malformed,
+        ),
     ];
     answers_are(&rt, &rows)
 }
@@ -134,11 +269,36 @@ fn joins_and_tours_speak_of_ports(rt: HostRuntime) -> Result<(), Fail> {
 #[test]
 fn paths_and_negative_circuits(rt: HostRuntime) -> Result<(), Fail> {
     let rows: [Row; 5] = [
-        ("path", b"p edge 3 3\nn 1 1\nn 3 1\ne 1 2 3\ne 2 3 -1\ne 1 3 4\ns OPTIMAL path 2\nw 1 2 1 2\ny 1 0\ny 2 0\ny 3 0\ny 4 0\ny 5 -2\ny 6 0\ny 7 0\ny 8 0\nz 6 3 1 2 3\n", b"s ACCEPTED\n", Status::Done),
-        ("path", b"p edge 3 3\nn 1 1\nn 3 1\ne 1 2 -1\ne 2 3 -1\ne 1 3 1\ns NONCONSERVATIVE path\nw 1 3 1 2 3\n", b"s ACCEPTED\n", Status::Done),
-        ("path", b"p edge 3 3\nn 1 1\nn 3 1\ne 1 2 -1\ne 2 3 -1\ne 1 3 1\ns NONCONSERVATIVE path\nw 1 2 1 1\n", b"s REJECTED NotCircuit 7\n", Status::Rejected),
-        ("path", b"p edge 5 3\nn 1 1\nn 2 1\ne 3 4 1\ne 4 5 1\ne 3 5 1\ns INFEASIBLE path\nt 1 1\n", b"s ACCEPTED\n", Status::Done),
-        ("path", b"p edge 2 1\nn 1 1\ne 1 2 1\n", b"s MALFORMED PathEnds 4\n", Status::Malformed),
+        (
+            "path",
+            b"p edge 3 3\nn 1 1\nn 3 1\ne 1 2 3\ne 2 3 -1\ne 1 3 4\ns OPTIMAL path 2\nw 1 2 1 2\ny 1 0\ny 2 0\ny 3 0\ny 4 0\ny 5 -2\ny 6 0\ny 7 0\ny 8 0\nz 6 3 1 2 3\n",
+            b"s ACCEPTED\n",
+            Status::Done,
+        ),
+        (
+            "path",
+            b"p edge 3 3\nn 1 1\nn 3 1\ne 1 2 -1\ne 2 3 -1\ne 1 3 1\ns NONCONSERVATIVE path\nw 1 3 1 2 3\n",
+            b"s ACCEPTED\n",
+            Status::Done,
+        ),
+        (
+            "path",
+            b"p edge 3 3\nn 1 1\nn 3 1\ne 1 2 -1\ne 2 3 -1\ne 1 3 1\ns NONCONSERVATIVE path\nw 1 2 1 1\n",
+            b"s REJECTED NotCircuit 7\n",
+            Status::Rejected,
+        ),
+        (
+            "path",
+            b"p edge 5 3\nn 1 1\nn 2 1\ne 3 4 1\ne 4 5 1\ne 3 5 1\ns INFEASIBLE path\nt 1 1\n",
+            b"s ACCEPTED\n",
+            Status::Done,
+        ),
+        (
+            "path",
+            b"p edge 2 1\nn 1 1\ne 1 2 1\n",
+            b"s MALFORMED PathEnds 4\n",
+            Status::Malformed,
+        ),
     ];
     answers_are(&rt, &rows)
 }
