@@ -7,8 +7,8 @@ ghost use Rattle.cert_check.specs.Certificates.{HasBarrier, HasWantedBarrier};
 ghost use Rattle.cert_check.specs.Excluded.{HasNoAnswer, IsExcludedByBarrier};
 ghost use Rattle.cert_check.specs.Proved.{StatesTruth};
 
-use crate::gadgets::certified;
 use crate::claims::members_of;
+use crate::gadgets::certified;
 use crate::parts::has_wanted_part;
 use crate::rule::{DocRule, Verdict};
 use doc_format::{DocStatus, Document};

@@ -9,8 +9,8 @@ ghost use Rattle.cert_check.specs.Within.{AreWithin};
 ghost use Rattle.cert_check.specs.Verdicts.{IsVerdict, KeepsBefore};
 ghost use Rattle.cert_check.specs.Proved.{StatesTruth};
 
-use crate::gadgets::{certified, certified_vertices};
 use crate::claims::{answer_of, duals_of, sets_of};
+use crate::gadgets::{certified, certified_vertices};
 use crate::rule::{DocRule, Verdict};
 use crate::value::value_for;
 use doc_format::{DocStatus, Document};

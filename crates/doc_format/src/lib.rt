@@ -25,7 +25,7 @@ mod writing;
 pub use document::Document;
 pub use error::DocError;
 pub use law::reads_back;
-pub use names::kind_name;
+pub use names::{kind_name, kind_of_name};
 pub use part::{CountLine, DualLine, MemberLine, SetLine, WalkLine};
 pub use reading::read;
 pub use status::DocStatus;
