@@ -23,6 +23,7 @@ pub fn add_row(
     ensures added { OnOk result (graph.new ≡ record graph.old { edges = graph.old.edges ++ row u before count w }) }
     ensures graph { IsGraph graph.new }
 {
+    // The prover learns here that the graph is valid.
     let _vertices = graph.vertices();
     for j in 0..count {
         graph.add(VertexId::new(u), VertexId::new(before + j + 1), w)?;
@@ -48,6 +49,7 @@ pub fn add_rectangle(
     ensures added { OnOk result (graph.new ≡ record graph.old { edges = graph.old.edges ++ rectangle first m second n w }) }
     ensures graph { IsGraph graph.new }
 {
+    // The prover learns here that the graph is valid.
     let _vertices = graph.vertices();
     for a in 0..m {
         add_row(graph, first + a + 1, second, n, w)?;
@@ -63,6 +65,7 @@ pub fn add_clique(graph: &mut Graph, before: u32, n: u32) -> Result<(), OutOfMem
     ensures added { OnOk result (graph.new ≡ record graph.old { edges = graph.old.edges ++ clique before n }) }
     ensures graph { IsGraph graph.new }
 {
+    // The prover learns here that the graph is valid.
     let _vertices = graph.vertices();
     for a in 0..n {
         add_row(graph, before + a + 1, before + a + 1, n - 1 - a, 0)?;

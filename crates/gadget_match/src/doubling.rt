@@ -20,6 +20,7 @@ fn add_twice(graph: &mut Graph, edge: &InstanceEdge, n: u32) -> Result<(), OutOf
     ensures added { OnOk result (graph.new ≡ record graph.old { edges = graph.old.edges ++ (record { u = edge.now.u; v = edge.now.v; w = neg_ℤ edge.now.w } ∷ record { u = edge.now.u + n; v = edge.now.v + n; w = neg_ℤ edge.now.w } ∷ []) }) }
     ensures graph { IsGraph graph.new }
 {
+    // The prover learns here that the graph is valid.
     let _vertices = graph.vertices();
     let u = VertexId::new(edge.u.number() + n);
     let v = VertexId::new(edge.v.number() + n);
@@ -36,6 +37,7 @@ fn add_edges_twice(graph: &mut Graph, instance: &Instance) -> Result<(), OutOfMe
     ensures graph { IsGraph graph.new }
 {
     let n = instance.vertices();
+    // The prover learns here that the graph is valid.
     let _vertices = graph.vertices();
     for edge in instance.edge_list() {
         add_twice(graph, edge, n)?;
@@ -50,6 +52,7 @@ fn join_copies(graph: &mut Graph, n: u32) -> Result<(), OutOfMemory>
     ensures added { OnOk result (graph.new ≡ record graph.old { edges = graph.old.edges ++ tabled (λ k. record { u = k + 1; v = k + 1 + n; w = pos 0 }) n }) }
     ensures graph { IsGraph graph.new }
 {
+    // The prover learns here that the graph is valid.
     let _vertices = graph.vertices();
     for k in 0..n {
         graph.add(VertexId::new(k + 1), VertexId::new(k + 1 + n), 0)?;

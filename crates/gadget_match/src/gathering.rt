@@ -105,6 +105,7 @@ pub fn extract_copies(
     ensures weighs { IfOk result (λ a. weight_of instance.now a ≡ walk_weight (copies_graph instance.now) edges.now) }
     ensures answer { IfOk result (λ a. a ≡ Counts (gathered instance.now edges.now)) }
 {
+    // The prover learns here that the instance is valid.
     let _edges = instance.edges();
     let starts = pair_starts(alloc, instance)?;
     let counts = count_pairs(alloc, instance, &starts, edges)?;
