@@ -1,7 +1,8 @@
-ghost use Rattle.std.specs.Prelude.{◌≡◌, ℕ, ◌+◌, ◌*◌, ◌<◌, ◌≤◌, ◌^◌, ◌++◌, length, OnOk, IfOk};
+ghost use Rattle.std.specs.Prelude.{◌≡◌, ℕ, ◌+◌, ◌*◌, ◌<◌, ◌≤◌, ◌^◌, ◌++◌, length, OnOk, IfOk, pos};
 ghost use Rattle.graph_theory.specs.Graph.{IsGraph};
 ghost use Rattle.mb_problem.specs.Network.{vertices, IsInstanceEdge};
 ghost use Rattle.mb_problem.specs.Size.{size_of, value_total};
+ghost use Rattle.gadget_base.specs.Blocks.{rectangle};
 ghost use Rattle.gadget_base.specs.Certified.{gadget_graph, ReachesAll, IsWithinLimits, HasSize};
 ghost use Rattle.gadget_base.specs.Starts.{AreStarts};
 ghost use Rattle.gadget_cap.specs.Capped.{capped_kind};
@@ -14,6 +15,17 @@ use mb_base::OutOfMemory;
 use mb_problem::{Instance, InstanceEdge, gadget_size};
 use std::alloc::Global;
 use weighted_graph::Graph;
+
+/// Joins each of the `room` vertices after `before` to each of the `room` vertices after these.
+fn add_crossing(graph: &mut Graph, before: u32, room: u32) -> Result<(), OutOfMemory>
+    requires vertices { before + 2 * room ≤ graph.old.vertices }
+    requires room { length graph.old.edges + room * room < 2 ^ 32 }
+    ensures added { OnOk result (graph.new ≡ record graph.old { edges = graph.old.edges ++ rectangle before room (before + room) room (pos 0) }) }
+    ensures graph { IsGraph graph.new }
+{
+    let _vertices = graph.vertices();
+    add_rectangle(graph, before, room, before + room, room, 0)
+}
 
 /// Adds the edges that stand for an edge whose gates have `room` vertices and come after `before`
 /// others; `starts` are the sums of the first values.
@@ -37,7 +49,7 @@ fn add_gates(
     let (u_before, u_count) = copies_of(instance, starts, edge.u);
     let (v_before, v_count) = copies_of(instance, starts, edge.v);
     add_rectangle(graph, u_before, u_count, before, room, edge.w)?;
-    add_rectangle(graph, before, room, before + room, room, 0)?;
+    add_crossing(graph, before, room)?;
     add_rectangle(graph, before + room, room, v_before, v_count, 0)?;
     Ok(())
 }
