@@ -1,12 +1,11 @@
 -- Lemmas on lists made of blocks: how long they are, what stands at a place, what all their elements are, and one block more.
-use Rattle.std.proofs.Common.{◌≡◌, ℕ, zero, suc, ◌+◌, ◌-◌, ◌*◌, ◌/◌, ◌<◌, ◌≤◌, ℤ, pos, refl, ap, sym, ◌∙◌, inl, inr, arith, add-one, List, [], ◌∷◌, ◌++◌, length, get_or, slice_index_or, All, length-append}
+use Rattle.std.proofs.Common.{◌≡◌, ℕ, zero, suc, ◌+◌, ◌*◌, ◌<◌, ℤ, refl, ap, sym, ◌∙◌, inl, inr, arith, add-one, List, [], ◌∷◌, ◌++◌, length, slice_index, slice_index_or, All, length-append}
 use Rattle.std.proofs.lemmas.Bool.{cases_eq}
-use Rattle.std.proofs.lemmas.List.{get_or_append_left, get_or-append-add, append_assoc, append-nil}
+use Rattle.std.proofs.lemmas.List.{get_or_append_left, get_or-append-add, append_assoc, append-nil, ext_get_or}
 use Rattle.std.proofs.lemmas.List.Elements.{All-append, All-cons, All-nil}
-use Rattle.graph_theory.specs.declared.edge.Edge.{Edge}
 use Rattle.graph_theory.specs.Sums.{sum_to}
 use Rattle.graph_theory.proofs.SumLemmas.{sum_to-same}
-use Rattle.gadget_base.specs.Blocks.{blocks, tabled, row, rectangle, clique}
+use Rattle.gadget_base.specs.Blocks.{blocks, tabled, row, rectangle}
 use Rattle.gadget_base.proofs.BlockSums.{sum_to-grows, sum_to-const}
 
 -- how long they are
@@ -57,6 +56,11 @@ blocks-at f (suc n) k j d h b =
           get_or_append_left (blocks f n) (f n) d (sum_to (λ k. length (f k)) k + j) (omega (arith, size, grows)) ∙ blocks-at f n k j d (omega arith) b
     ]
 
+-- a list whose elements are given by their places
+pub is-tabled : (xs : List ℕ) (f : ℕ → ℕ) (n : ℕ) → length xs ≡ n → ((k : ℕ) → k < n → slice_index xs k ≡ f k) → xs ≡ tabled f n
+is-tabled xs f n size each =
+    ext_get_or 0 xs (tabled f n) (size ∙ sym (tabled-length f n)) (λ k b. let below : k < n = omega (arith, size, b) in each k below ∙ sym (tabled-at f n k 0 below))
+
 -- one more
 
 pub tabled-more : {A : Type 0} (f : ℕ → A) (n : ℕ) → tabled f (n + 1) ≡ tabled f n ++ f n ∷ []
@@ -94,6 +98,15 @@ tabled-rows f m n =
     ∙ tabled-blocks f (λ _. n) m
     ∙ blocks-same (λ a. tabled (λ j. f (sum_to (λ _. n) a + j)) n) (λ a. tabled (λ j. f (a * n + j)) n) m
     (λ a _. ap (λ p. tabled (λ j. f (p + j)) n) (sum_to-const n a))
+
+-- in pairs
+pub tabled-pairs : {A : Type 0} (f : ℕ → A) (m : ℕ) → tabled f (2 * m) ≡ blocks (λ k. f (2 * k) ∷ f (2 * k + 1) ∷ []) m
+tabled-pairs f zero = refl
+tabled-pairs f (suc m) =
+    ap (tabled f) (let e : 2 * suc m ≡ suc (suc (2 * m)) = omega arith in e)
+    ∙ append_assoc (tabled f (2 * m)) (f (2 * m) ∷ []) (f (suc (2 * m)) ∷ [])
+    ∙ ap (λ xs. xs ++ (f (2 * m) ∷ f (suc (2 * m)) ∷ [])) (tabled-pairs f m)
+    ∙ ap (λ x. blocks (λ k. f (2 * k) ∷ f (2 * k + 1) ∷ []) m ++ (f (2 * m) ∷ f x ∷ [])) (let e : suc (2 * m) ≡ 2 * m + 1 = omega arith in e)
 
 -- what all elements are
 

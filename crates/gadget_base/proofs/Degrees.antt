@@ -1,14 +1,14 @@
 -- The degree at a vertex of counts on a row, a rectangle or a clique, as sums over the counts.
 use Rattle.std.proofs.Common.{◌≡◌, ◌≢◌, ℕ, zero, suc, ◌+◌, ◌-◌, ◌*◌, ◌<◌, ◌≤◌, ℤ, pos, ◌*ℤ◌, Bool, true, false, cond, eqb, ltb, refl, ap, sym, ◌∙◌, inl, inr, arith, List, length, slice_index, slice_index_or, All}
 use Rattle.std.proofs.lemmas.Int.{ints}
-use Rattle.std.proofs.lemmas.Bool.{cases_eq, cases_lt, eq-eqb, ne_eqb, lt-ltb, le-ltb}
+use Rattle.std.proofs.lemmas.Bool.{cases_lt, ne_eqb, lt-ltb, le-ltb}
 use Rattle.std.proofs.lemmas.Bool.Decides.{nat_tests}
 use Rattle.graph_theory.specs.declared.edge.Edge.{Edge}
 use Rattle.graph_theory.specs.Sums.{sum_to, int_sum_to}
-use Rattle.graph_theory.specs.Graph.{ends_at, no_edge}
+use Rattle.graph_theory.specs.Graph.{no_edge}
 use Rattle.graph_theory.proofs.SumLemmas.{sum_to-same, sum_to-add, int_sum_to-same, sum_to-times}
 use Rattle.gadget_base.specs.Blocks.{blocks, tabled, row, rectangle, clique}
-use Rattle.gadget_base.proofs.BlockSums.{sum_to-none, int_sum_to-none, sum_to-longer, sum_to-cond, sum_to-hit}
+use Rattle.gadget_base.proofs.BlockSums.{sum_to-none, int_sum_to-none, sum_to-cond, sum_to-hit}
 use Rattle.gadget_base.proofs.Blocks.{tabled-length, row-length, All-tabled, All-blocks}
 use Rattle.gadget_base.proofs.Over.{over, int_over, at_vertex, weighing, table, over-blocks, over-tabled, over-rectangle, int_over-rectangle}
 
@@ -18,11 +18,12 @@ eqb-past b a c = grind (arith, nat_tests)
 past_test : (b a c d : ℕ) → a < c → eqb (b + a + 1 + d + 1) (b + c + 1) ≡ eqb d (c - 1 - a)
 past_test b a c d less = grind (arith, nat_tests)
 
-once : (t : Bool) (c : ℕ) → c * (cond t 1 0 + 0) ≡ cond t c 0
+-- an end that is the vertex, beside one that is not
+pub once : (t : Bool) (c : ℕ) → c * (cond t 1 0 + 0) ≡ cond t c 0
 once true c = omega arith
 once false c = omega arith
 
-once-second : (t : Bool) (c : ℕ) → c * (0 + cond t 1 0) ≡ cond t c 0
+pub once-second : (t : Bool) (c : ℕ) → c * (0 + cond t 1 0) ≡ cond t c 0
 once-second true c = omega arith
 once-second false c = omega arith
 

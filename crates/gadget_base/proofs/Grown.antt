@@ -1,13 +1,12 @@
 -- Lemmas on graphs whose list of edges grows by a row, a rectangle or a clique.
-use Rattle.std.proofs.Common.{◌≡◌, ℕ, zero, suc, ◌+◌, ◌-◌, ◌*◌, ◌/◌, ◌<◌, ◌≤◌, ◌^◌, ℤ, pos, refl, ap, sym, ◌∙◌, arith, List, [], ◌∷◌, ◌++◌, length, length-append}
+use Rattle.std.proofs.Common.{◌≡◌, ℕ, zero, suc, ◌+◌, ◌-◌, ◌*◌, ◌/◌, ◌≤◌, pos, refl, ap, sym, ◌∙◌, arith, List, [], ◌∷◌, ◌++◌, length, length-append}
 use Rattle.std.proofs.lemmas.List.{append_assoc, append-nil}
 use Rattle.graph_theory.specs.declared.edge.Edge.{Edge}
 use Rattle.graph_theory.specs.Sums.{sum_to}
 use Rattle.graph_theory.specs.Graph.{Multigraph}
 use Rattle.graph_theory.proofs.SumLemmas.{sum_to-same}
-use Rattle.gadget_base.specs.Blocks.{blocks, tabled, row, rectangle, clique}
-use Rattle.gadget_base.proofs.BlockSums.{sum_to-longer}
-use Rattle.gadget_base.proofs.Blocks.{tabled-length, blocks-length, tabled-more, blocks-more, row-length, rectangle-length}
+use Rattle.gadget_base.specs.Blocks.{blocks, tabled, row, clique}
+use Rattle.gadget_base.proofs.Blocks.{blocks-length, tabled-more, blocks-more, row-length}
 
 -- nothing more
 pub grown-none : (g : Multigraph) → g ≡ record g { edges = g.edges ++ [] }

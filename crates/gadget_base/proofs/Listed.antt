@@ -1,5 +1,5 @@
 -- A perfect matching as a list of numbers of edges, and as counts.
-use Rattle.std.proofs.Common.{◌≡◌, ℕ, zero, suc, ◌+◌, ◌-◌, ◌*◌, ◌<◌, ◌≤◌, ℤ, pos, ◌+ℤ◌, ◌*ℤ◌, Bool, true, false, cond, eqb, refl, ap, sym, ◌∙◌, subst, inl, inr, arith, List, [], ◌∷◌, length, take, slice_index, All, count_by}
+use Rattle.std.proofs.Common.{◌≡◌, ℕ, ◌+◌, ◌-◌, ◌*◌, ◌<◌, ◌≤◌, ℤ, pos, ◌+ℤ◌, ◌*ℤ◌, Bool, true, false, cond, eqb, refl, ap, sym, ◌∙◌, subst, inl, inr, arith, List, [], ◌∷◌, length, take, slice_index, All, count_by}
 use Rattle.std.proofs.lemmas.Int.{ints}
 use Rattle.std.proofs.lemmas.Bool.{eq-eqb, ne_eqb, cases_eq}
 use Rattle.std.proofs.lemmas.List.{get_or_default}
@@ -8,16 +8,15 @@ use Rattle.std.proofs.lemmas.Grind.{common_steps}
 use Rattle.std.proofs.lemmas.List.Elements.{All-tail, All-head}
 use Rattle.graph_theory.specs.Sums.{sum_to, int_sum_to}
 use Rattle.graph_theory.specs.declared.edge.Edge.{Edge}
-use Rattle.graph_theory.specs.Graph.{Multigraph, IsEdgeWithin, IsEdgeNumber, edge_at, edge_of, touches, ends_at, no_edge, degree, weight, IsPerfect}
+use Rattle.graph_theory.specs.Graph.{Multigraph, IsEdgeWithin, IsEdgeNumber, edge_at, edge_of, touches, no_edge, degree, weight, IsPerfect}
 use Rattle.graph_theory.specs.Walk.{walk_weight}
 use Rattle.graph_theory.proofs.SumLemmas.{sum_to-same, sum_to-add, sum_to-has, int_sum_to-same, int_sum_to-add, int_sum_to-zero, int_sum_to-one, int_sum_to-pos, plus-times, int_sum_to-at_one}
 use Rattle.graph_theory.proofs.Edges.{degree-touches, touches-u, edge_of-place}
 use Rattle.graph_theory.proofs.Handshake.{handshake-perfect}
-use Rattle.gadget_base.specs.Blocks.{tabled}
 use Rattle.gadget_base.specs.Certified.{IsPerfectList}
 use Rattle.gadget_base.specs.Listed.{times, times_each}
 use Rattle.gadget_base.proofs.BlockSums.{sum_to-none, sum_to-hit}
-use Rattle.gadget_base.proofs.Blocks.{tabled-length, tabled-at, All-tabled}
+use Rattle.gadget_base.proofs.Blocks.{tabled-length, tabled-at}
 
 pub times-cons : (e : ℕ) (es : List ℕ) (k : ℕ) → times (e ∷ es) k ≡ cond (eqb e k) 1 0 + times es k
 times-cons e es k = sum_by-cons (λ x. cond (eqb x k) 1 0) e es

@@ -1,10 +1,10 @@
 -- Sums over a list of edges, each with its count: in parts, over blocks, rows and rectangles. Degree and weight are such sums.
-use Rattle.std.proofs.Common.{◌≡◌, ℕ, zero, suc, ◌+◌, ◌*◌, ◌<◌, ℤ, pos, ◌+ℤ◌, ◌*ℤ◌, refl, ap, sym, ◌∙◌, arith, List, [], ◌∷◌, ◌++◌, length, get_or, slice_index, slice_index_or, length-append}
+use Rattle.std.proofs.Common.{◌≡◌, ℕ, zero, suc, ◌+◌, ◌*◌, ◌<◌, ℤ, pos, ◌+ℤ◌, ◌*ℤ◌, refl, ap, sym, ◌∙◌, arith, List, ◌++◌, length, slice_index, slice_index_or, length-append}
 use Rattle.std.proofs.lemmas.Int.{ints}
 use Rattle.std.proofs.lemmas.List.{get_or_append_left, get_or-append-add}
 use Rattle.graph_theory.specs.declared.edge.Edge.{Edge}
 use Rattle.graph_theory.specs.Sums.{sum_to, int_sum_to}
-use Rattle.graph_theory.specs.Graph.{Multigraph, no_edge, edge_at, ends_at, degree, weight}
+use Rattle.graph_theory.specs.Graph.{Multigraph, no_edge, ends_at, degree, weight}
 use Rattle.graph_theory.proofs.SumLemmas.{sum_to-same, int_sum_to-same, sum_to-append, int_sum_to-append}
 use Rattle.gadget_base.specs.Blocks.{blocks, tabled, row, rectangle}
 use Rattle.gadget_base.proofs.Blocks.{tabled-length, tabled-at, row-length, blocks-length}

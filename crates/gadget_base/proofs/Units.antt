@@ -1,5 +1,5 @@
 -- Units of an edge: each takes the next copy of one end and the next copy of the other.
-use Rattle.std.proofs.Common.{◌≡◌, ℕ, ◌+◌, ◌*◌, ◌<◌, ◌≤◌, Bool, true, false, cond, eqb, refl, ap, sym, ◌∙◌, arith}
+use Rattle.std.proofs.Common.{◌≡◌, ℕ, ◌+◌, ◌<◌, ◌≤◌, Bool, cond, eqb, ap, sym, ◌∙◌, arith}
 use Rattle.std.proofs.lemmas.Bool.Decides.{nat_tests}
 use Rattle.graph_theory.specs.Sums.{sum_to}
 use Rattle.graph_theory.proofs.SumLemmas.{sum_to-same, sum_to-swap}

@@ -1,5 +1,5 @@
 -- How often the first edges of an instance use a vertex: so many of its copies are taken before the next edge.
-use Rattle.std.proofs.Common.{◌≡◌, ℕ, ◌+◌, ◌*◌, ◌<◌, ◌≤◌, ℤ, pos, ◌*ℤ◌, refl, ap, sym, ◌∙◌, arith, List, length, slice_index}
+use Rattle.std.proofs.Common.{◌≡◌, ℕ, ◌+◌, ◌*◌, ◌<◌, ◌≤◌, pos, ◌*ℤ◌, ap, ◌∙◌, arith, List, length, slice_index}
 use Rattle.std.proofs.lemmas.List.{length-map}
 use Rattle.graph_theory.specs.declared.edge.Edge.{Edge}
 use Rattle.graph_theory.specs.Sums.{sum_to, int_sum_to}

@@ -1,14 +1,12 @@
 -- Edges of rows, rectangles, cliques and of the graphs for matchings and b-matchings lie within their graph, with weights in range.
-use Rattle.std.proofs.Common.{◌≡◌, ◌≢◌, ℕ, zero, suc, ◌+◌, ◌-◌, ◌*◌, ◌<◌, ◌≤◌, ◌⊎◌, ◌^◌, ℤ, pos, neg_ℤ, ◌≤ℤ◌, refl, ap, sym, ◌∙◌, inl, inr, arith, List, [], ◌∷◌, ◌++◌, length, slice_index, All, length-append}
+use Rattle.std.proofs.Common.{◌≡◌, ◌≢◌, ℕ, ◌+◌, ◌-◌, ◌*◌, ◌<◌, ◌≤◌, ◌⊎◌, ℤ, pos, neg_ℤ, refl, ◌∙◌, inl, inr, arith, [], ◌∷◌, length, slice_index, All, length-append}
 use Rattle.std.proofs.lemmas.Int.{ints}
 use Rattle.std.proofs.lemmas.Bool.{cases_lt}
 use Rattle.std.proofs.lemmas.List.Elements.{All-append, All-cons, All-nil}
 use Rattle.graph_theory.specs.declared.edge.Edge.{Edge}
-use Rattle.graph_theory.specs.Sums.{sum_to}
 use Rattle.graph_theory.specs.Graph.{Multigraph, IsGraph, IsEdgeWithin, IsWeight}
 use Rattle.graph_theory.proofs.SumLemmas.{sum_to-same}
 use Rattle.mb_problem.specs.declared.kind.Kind.TheVariants.{Match, BMatch}
-use Rattle.mb_problem.specs.declared.instance.InstanceEdge.{InstanceEdge}
 use Rattle.mb_problem.specs.Network.{Network, IsNetwork, IsInstanceEdge, vertices, plain, instance_edge_at, no_instance_edge, value_of}
 use Rattle.mb_problem.specs.Size.{Size, size_of, value_total, value_u, value_v}
 use Rattle.gadget_base.specs.Blocks.{blocks, tabled, row, rectangle, clique}

@@ -1,11 +1,11 @@
 -- The graphs that certificates speak of: each feasible answer of an instance is a perfect matching
 -- there (Schrijver, Combinatorial Optimization, volume A, chapter 26 for matchings, 29 for joins, 31
 -- for b-matchings, 32 for capacities, 33 for factors).
-use Rattle.std.specs.Prelude.{ℕ, ◌+◌, ◌-◌, ◌*◌, ℤ, pos, neg_ℤ, List, [], ◌∷◌, ◌++◌, length, slice_index}
+use Rattle.std.specs.Prelude.{ℕ, ◌+◌, ◌-◌, ◌*◌, pos, neg_ℤ, List, [], ◌∷◌, ◌++◌, length, slice_index}
 use Rattle.graph_theory.specs.declared.edge.Edge.{Edge}
 use Rattle.graph_theory.specs.Sums.{sum_to}
 use Rattle.graph_theory.specs.Graph.{Multigraph, ends_at}
-use Rattle.mb_problem.specs.Network.{Network, vertices, plain, instance_edge_at, value_of}
+use Rattle.mb_problem.specs.Network.{Network, vertices, plain, instance_edge_at}
 use Rattle.mb_problem.specs.Size.{value_total, value_u, value_v, port_count}
 use Rattle.gadget_base.specs.Blocks.{blocks, tabled, rectangle, clique}
 

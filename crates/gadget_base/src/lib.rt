@@ -1,5 +1,5 @@
 //! What the reductions to perfect matching share: the graphs that certificates speak of, for all kinds,
-//! and rows, rectangles and cliques of edges.
+//! rows, rectangles and cliques of edges, and where blocks of given sizes start.
 //! It stands on `mb_base`, `graph_theory`, `weighted_graph` and `mb_problem`. It promises that each
 //! call adds exactly the edges that it names.
 #![tactic(auto)]
@@ -9,3 +9,6 @@ mod rows;
 
 pub use offsets::starts;
 pub use rows::{add_clique, add_rectangle, add_row};
+
+#[cfg(test)]
+mod tests;

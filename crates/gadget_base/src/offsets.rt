@@ -5,8 +5,8 @@ ghost use Rattle.gadget_base.specs.Starts.{AreStarts};
 use mb_base::OutOfMemory;
 use std::alloc::Global;
 
-/// Where each block starts, where blocks of these sizes follow one another, and at last the size of
-/// all.
+/// Where each block starts, where blocks of these sizes follow one another from 0 on, and at last the
+/// size of all. It takes time linear in the sizes. `OutOfMemory` is its one error.
 pub fn starts(alloc: Global, sizes: &[u32]) -> Result<Vec<u32>, OutOfMemory>
     requires { sum_to (λ k. slice_index sizes.now k) (length sizes.now) < 2 ^ 32 }
     ensures { IfOk result (λ starts. AreStarts sizes.now starts.items) }

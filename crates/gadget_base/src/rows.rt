@@ -5,7 +5,8 @@ ghost use Rattle.gadget_base.specs.Blocks.{row, rectangle, clique};
 use mb_base::{OutOfMemory, VertexId};
 use weighted_graph::Graph;
 
-/// Adds an edge of weight `w` from vertex `u` to each of the `count` vertices after `before`.
+/// Adds an edge of weight `w` from vertex `u` to each of the `count` vertices after `before`, which are
+/// the numbers from `before + 1` on. After `OutOfMemory` the first of them may have been added.
 pub fn add_row(
     graph: &mut Graph,
     u: u32,
@@ -30,7 +31,7 @@ pub fn add_row(
 }
 
 /// Adds an edge of weight `w` from each of the `m` vertices after `first` to each of the `n` vertices
-/// after `second`, row by row.
+/// after `second`, row by row. After `OutOfMemory` the first of them may have been added.
 pub fn add_rectangle(
     graph: &mut Graph,
     first: u32,
@@ -55,7 +56,7 @@ pub fn add_rectangle(
 }
 
 /// Adds an edge of weight 0 between any two of the `n` vertices after `before`, the lesser end first
-/// and slowest.
+/// and slowest. After `OutOfMemory` the first of them may have been added.
 pub fn add_clique(graph: &mut Graph, before: u32, n: u32) -> Result<(), OutOfMemory>
     requires inside { before + n ≤ graph.old.vertices }
     requires room { length graph.old.edges + n * (n - 1) / 2 < 2 ^ 32 }

@@ -1,27 +1,23 @@
 -- Degrees and weights of counts on the graph of copies, the perfect matching there that each b-matching has, and the other way round.
-use Rattle.std.proofs.Common.{◌≡◌, ◌≢◌, ℕ, zero, suc, ◌+◌, ◌-◌, ◌*◌, ◌<◌, ◌≤◌, ℤ, pos, ◌+ℤ◌, ◌*ℤ◌, ◌≤ℤ◌, Bool, true, false, cond, eqb, refl, ap, sym, ◌∙◌, subst, inl, inr, arith, List, length, slice_index}
+use Rattle.std.proofs.Common.{◌≡◌, ◌≢◌, ℕ, ◌+◌, ◌-◌, ◌*◌, ◌<◌, ◌≤◌, pos, ◌*ℤ◌, true, false, cond, eqb, refl, ap, sym, ◌∙◌, subst, inl, inr, arith, List, length, slice_index}
 use Rattle.std.proofs.lemmas.Int.{ints}
 use Rattle.std.proofs.lemmas.Bool.{cases_eq, eq-eqb, ne_eqb}
-use Rattle.graph_theory.specs.declared.edge.Edge.{Edge}
 use Rattle.graph_theory.specs.Sums.{sum_to, int_sum_to}
-use Rattle.graph_theory.specs.Graph.{Multigraph, IsEdgeWithin, ends_at, degree, weight, IsPerfect}
-use Rattle.graph_theory.proofs.SumLemmas.{sum_to-same, sum_to-add, sum_to-swap, int_sum_to-same, int_sum_to-add}
-use Rattle.graph_theory.proofs.Edges.{ends_at-u, ends_at-v, ends_at-other}
+use Rattle.graph_theory.specs.Graph.{IsEdgeWithin, degree, weight, IsPerfect}
+use Rattle.graph_theory.proofs.SumLemmas.{sum_to-same, int_sum_to-same}
+use Rattle.graph_theory.proofs.Edges.{ends_at-other}
 use Rattle.mb_problem.specs.declared.kind.Kind.TheVariants.{BMatch}
 use Rattle.mb_problem.specs.declared.answer.Answer.TheVariants.{Counts, Walk, Nothing}
-use Rattle.mb_problem.specs.declared.answer.Answer.{Answer}
-use Rattle.mb_problem.specs.declared.instance.InstanceEdge.{InstanceEdge}
 use Rattle.mb_problem.specs.Network.{Network, IsNetwork, vertices, plain, graph_of, instance_edge_at, value_of}
 use Rattle.mb_problem.specs.Size.{value_total, value_u, value_v}
-use Rattle.mb_problem.specs.Feasible.{IsFeasible, IsBMatching, weight_of}
-use Rattle.gadget_base.specs.Blocks.{blocks, rectangle}
+use Rattle.mb_problem.specs.Feasible.{IsBMatching}
+use Rattle.gadget_base.specs.Blocks.{blocks}
 use Rattle.gadget_base.specs.Gadgets.{copies_graph, pairs_of_copies, values_below}
-use Rattle.gadget_base.specs.Certified.{IsReached, ReachesAll}
-use Rattle.gadget_base.proofs.BlockSums.{sum_to-ones, sum_to-cond, sum_to-grows, find_block}
-use Rattle.gadget_base.proofs.Blocks.{tabled-length, blocks-length}
+use Rattle.gadget_base.specs.Certified.{ReachesAll}
+use Rattle.gadget_base.proofs.BlockSums.{find_block}
 use Rattle.gadget_base.proofs.Over.{over, int_over, at_vertex, weighing, over-blocks, int_over-blocks, table, rectangle-lengths, blocks-lengths}
 use Rattle.gadget_base.proofs.Degrees.{rectangle-first, rectangle-second, rectangle-none, rectangle-weight}
-use Rattle.gadget_base.proofs.Within.{edge-ends, copies-apart, copies-inside, copies-within, copies-size}
+use Rattle.gadget_base.proofs.Within.{edge-ends, copies-apart, copies-within}
 use Rattle.gadget_base.proofs.Units.{taken, units, taken-each, units-row, units-column, units-total}
 use Rattle.gadget_base.proofs.Used.{use_at, used, degree-used, weight-used, use_at-u, use_at-v, used-within_u, used-within_v}
 use Rattle.gadget_base.proofs.Listed.{perfect_from_degrees}

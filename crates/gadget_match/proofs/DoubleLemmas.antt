@@ -1,26 +1,26 @@
 -- Degrees and weights of counts on the doubled graph, and the perfect matching there that each matching has.
-use Rattle.std.proofs.Common.{◌≡◌, ◌≢◌, ℕ, zero, suc, ◌+◌, ◌-◌, ◌*◌, ◌<◌, ◌≤◌, ℤ, pos, neg_ℤ, ◌+ℤ◌, ◌*ℤ◌, ◌≤ℤ◌, Bool, true, false, cond, eqb, refl, ap, sym, ◌∙◌, subst, inl, inr, arith, List, [], ◌∷◌, ◌++◌, length, slice_index, length-append, All}
+use Rattle.std.proofs.Common.{◌≡◌, ℕ, ◌+◌, ◌-◌, ◌*◌, ◌≤◌, ℤ, pos, neg_ℤ, ◌+ℤ◌, ◌*ℤ◌, false, cond, eqb, refl, ap, sym, ◌∙◌, inl, inr, arith, List, [], ◌∷◌, ◌++◌, length, slice_index, length-append}
 use Rattle.std.proofs.lemmas.Int.{ints}
-use Rattle.std.proofs.lemmas.Bool.{cases_eq, cases_lt, eq-eqb, ne_eqb}
+use Rattle.std.proofs.lemmas.Bool.{cases_lt, ne_eqb}
 use Rattle.std.proofs.lemmas.Bool.Decides.{nat_tests}
 use Rattle.std.proofs.lemmas.List.Elements.{All-append}
 use Rattle.graph_theory.specs.declared.edge.Edge.{Edge}
 use Rattle.graph_theory.specs.Sums.{sum_to, int_sum_to}
-use Rattle.graph_theory.specs.Graph.{Multigraph, IsEdgeWithin, ends_at, degree, weight, IsPerfect}
-use Rattle.graph_theory.proofs.SumLemmas.{sum_to-same, int_sum_to-same, int_sum_to-add, times-neg, times-int_sum_to}
+use Rattle.graph_theory.specs.Graph.{IsEdgeWithin, ends_at, degree, weight, IsPerfect}
+use Rattle.graph_theory.proofs.SumLemmas.{sum_to-same, int_sum_to-add, times-neg}
 use Rattle.mb_problem.specs.declared.kind.Kind.TheVariants.{Match}
 use Rattle.mb_problem.specs.declared.answer.Answer.TheVariants.{Counts, Walk, Nothing}
-use Rattle.mb_problem.specs.declared.answer.Answer.{Answer}
 use Rattle.mb_problem.specs.Network.{Network, IsNetwork, vertices, plain, graph_of, instance_edge_at}
-use Rattle.mb_problem.specs.Feasible.{IsFeasible, IsMatching, weight_of}
+use Rattle.mb_problem.specs.Feasible.{IsMatching}
 use Rattle.gadget_base.specs.Blocks.{blocks, tabled}
 use Rattle.gadget_base.specs.Gadgets.{doubled_graph, two_copies, to_copy}
-use Rattle.gadget_base.specs.Certified.{IsReached, ReachesAll}
+use Rattle.gadget_base.specs.Certified.{ReachesAll}
 use Rattle.gadget_base.proofs.BlockSums.{int_sum_to-none, sum_to-const, sum_to-hit}
 use Rattle.gadget_base.proofs.Blocks.{tabled-length, blocks-length, All-tabled, All-blocks}
 use Rattle.gadget_base.proofs.Over.{over, int_over, at_vertex, weighing, over-append, int_over-append, over-blocks, int_over-blocks, over-tabled, int_over-tabled}
+use Rattle.gadget_base.proofs.Degrees.{once, once-second}
 use Rattle.gadget_base.proofs.Within.{edge-ends, doubled-size, All-two, pairs-length}
-use Rattle.gadget_base.proofs.Used.{use_at, used, degree-used, weight-used}
+use Rattle.gadget_base.proofs.Used.{used, degree-used, weight-used}
 
 -- counts on the doubled graph: x on the first copies of edges, y on the second, z between vertices and copies
 abbrev pub on_copies : (x y z : ℕ → ℕ) → ℕ → ℕ → List ℕ
@@ -32,13 +32,13 @@ over-two F e f a b = omega arith
 int_over-two : (F : Edge → ℕ → ℤ) (e f : Edge) (a b : ℕ) → int_over F (e ∷ f ∷ []) (a ∷ b ∷ []) ≡ F e a +ℤ F f b
 int_over-two F e f a b = omega (arith, ints)
 
-copies-length : (x y : ℕ → ℕ) (m : ℕ) → length (blocks (λ k. x k ∷ y k ∷ []) m) ≡ 2 * m
-copies-length x y m = blocks-length (λ k. x k ∷ y k ∷ []) m ∙ sum_to-const 2 m ∙ (let e : m * 2 ≡ 2 * m = omega arith in e)
+two_counts-length : (x y : ℕ → ℕ) (m : ℕ) → length (blocks (λ k. x k ∷ y k ∷ []) m) ≡ 2 * m
+two_counts-length x y m = blocks-length (λ k. x k ∷ y k ∷ []) m ∙ sum_to-const 2 m ∙ (let e : m * 2 ≡ 2 * m = omega arith in e)
 
-pub on_copies-length : (x y z : ℕ → ℕ) (m n : ℕ) → length (on_copies x y z m n) ≡ 2 * m + n
-on_copies-length x y z m n =
+pub on_two_counts-length : (x y z : ℕ → ℕ) (m n : ℕ) → length (on_copies x y z m n) ≡ 2 * m + n
+on_two_counts-length x y z m n =
     let both = length-append (blocks (λ k. x k ∷ y k ∷ []) m) (tabled z n) in
-    let front = copies-length x y m in
+    let front = two_counts-length x y m in
     let back = tabled-length z n in
     omega (arith, both, front, back)
 
@@ -47,7 +47,7 @@ over-doubled : (F : Edge → ℕ → ℕ) (i : Network) (x y z : ℕ → ℕ) �
 over-doubled F i x y z =
     let m = length i.edges in
     let n = vertices i in
-    let split = over-append F (blocks (two_copies i) m) (tabled (to_copy i) n) (blocks (λ k. x k ∷ y k ∷ []) m) (tabled z n) (pairs-length i m ∙ sym (copies-length x y m)) in
+    let split = over-append F (blocks (two_copies i) m) (tabled (to_copy i) n) (blocks (λ k. x k ∷ y k ∷ []) m) (tabled z n) (pairs-length i m ∙ sym (two_counts-length x y m)) in
     let front = over-blocks F (two_copies i) (λ k. x k ∷ y k ∷ []) m (λ k _. refl) in
     let back = over-tabled F (to_copy i) z n in
     omega (arith, split, front, back)
@@ -57,14 +57,6 @@ eqb_shift a b n = grind (arith, nat_tests)
 
 eqb_next : (a b : ℕ) → 1 ≤ b → eqb (a + 1) b ≡ eqb a (b - 1)
 eqb_next a b low = grind (arith, nat_tests)
-
-once : (t : Bool) (c : ℕ) → c * (cond t 1 0 + 0) ≡ cond t c 0
-once true c = omega arith
-once false c = omega arith
-
-once-second : (t : Bool) (c : ℕ) → c * (0 + cond t 1 0) ≡ cond t c 0
-once-second true c = omega arith
-once-second false c = omega arith
 
 no-more : (a b c : ℕ) → b ≡ 0 → a + c * b ≡ a
 no-more a b c is = rw is (omega arith)
@@ -135,7 +127,7 @@ doubled-weight i x y z =
     let a : ℕ → ℤ = λ k. pos (x k) *ℤ (instance_edge_at i k).w in
     let b : ℕ → ℤ = λ k. pos (y k) *ℤ (instance_edge_at i k).w in
     let F : ℕ → ℤ = λ k. int_over weighing (two_copies i k) (x k ∷ y k ∷ []) in
-    let split = int_over-append weighing (blocks (two_copies i) m) (tabled (to_copy i) n) (blocks (λ k. x k ∷ y k ∷ []) m) (tabled z n) (pairs-length i m ∙ sym (copies-length x y m)) in
+    let split = int_over-append weighing (blocks (two_copies i) m) (tabled (to_copy i) n) (blocks (λ k. x k ∷ y k ∷ []) m) (tabled z n) (pairs-length i m ∙ sym (two_counts-length x y m)) in
     let front = int_over-blocks weighing (two_copies i) (λ k. x k ∷ y k ∷ []) m (λ k _. refl) in
     let back = int_over-tabled weighing (to_copy i) z n in
     let nothing = int_sum_to-none (λ k. pos (z k) *ℤ pos 0) n (λ k _. omega (arith, ints)) in
@@ -183,7 +175,7 @@ twice-perfect i counts network matching =
     let many : length counts ≡ m = matching.one_each in
     let size = doubled-size i in
     record {
-      one_each = on_copies-length x x z m n ∙ sym size.edges;
+      one_each = on_two_counts-length x x z m n ∙ sym size.edges;
       at_most_one =
           All-append (λ c. c ≤ 1) (blocks (λ k. x k ∷ x k ∷ []) m) (tabled z n)
           (All-blocks (λ c. c ≤ 1) (λ k. x k ∷ x k ∷ []) m (λ k b. let small : x k ≤ 1 = matching.at_most_once k 0 (omega (arith, many)) in All-two (λ c. c ≤ 1) (x k) (x k) small small))

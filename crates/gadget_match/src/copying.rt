@@ -36,9 +36,10 @@ fn add_pairs(
     add_rectangle(graph, first, m, second, n, edge.w)
 }
 
-/// The graph in which a b-matching is a perfect matching of the same weight: each vertex as often as
-/// its value says, and each edge between any two copies of its ends (Schrijver, Combinatorial
-/// Optimization, volume A, chapter 31).
+/// The graph in which a b-matching, which has the value of each vertex as its degree, is a perfect
+/// matching of the same weight: each vertex as often as its value says, and each edge between any two
+/// copies of its ends (Schrijver, Combinatorial Optimization, volume A, chapter 31). `gadget_size` says
+/// whether it is within the limits. It takes time linear in the graph. `OutOfMemory` is its one error.
 pub fn copies(alloc: Global, instance: &Instance) -> Result<Graph, OutOfMemory>
     requires limits { IsWithinLimits (size_of BMatch instance.now) }
     ensures graph { IfOk result (λ h. h ≡ copies_graph instance.now) }

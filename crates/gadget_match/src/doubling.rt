@@ -58,8 +58,9 @@ fn join_copies(graph: &mut Graph, n: u32) -> Result<(), OutOfMemory>
 }
 
 /// The graph in which a matching of greatest weight is a perfect matching of least weight: the graph
-/// twice with the weights turned round, and each vertex joined to its copy at weight 0 (Schrijver,
-/// Combinatorial Optimization, volume A, chapter 26).
+/// of the instance twice with the weights turned round, and each vertex joined to its copy at weight 0
+/// (Schrijver, Combinatorial Optimization, volume A, chapter 26). `gadget_size` says whether it is
+/// within the limits. It takes time linear in the instance. `OutOfMemory` is its one error.
 pub fn double(alloc: Global, instance: &Instance) -> Result<Graph, OutOfMemory>
     requires limits { IsWithinLimits (size_of Match instance.now) }
     ensures graph { IfOk result (λ h. h ≡ doubled_graph instance.now) }

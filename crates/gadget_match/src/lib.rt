@@ -6,6 +6,13 @@
 
 mod copying;
 mod doubling;
+mod gathering;
+mod halving;
 
 pub use copying::copies;
 pub use doubling::double;
+pub use gathering::extract_copies;
+pub use halving::extract_double;
+
+#[cfg(test)]
+mod tests;

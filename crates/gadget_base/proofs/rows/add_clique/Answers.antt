@@ -1,7 +1,6 @@
-use Rattle.std.proofs.Common.{◌≡◌, ℕ, ◌+◌, ◌-◌, ◌*◌, ◌/◌, ◌≤◌, List, pos, length, arith, ◌∙◌}
+use Rattle.std.proofs.Common.{ℕ, ◌+◌, ◌-◌, List, pos, arith}
 use Rattle.graph_theory.specs.declared.edge.Edge.{Edge}
-use Rattle.graph_theory.specs.Sums.{sum_to}
-use Rattle.gadget_base.specs.Blocks.{blocks, row, clique}
+use Rattle.gadget_base.specs.Blocks.{blocks, row}
 use Rattle.gadget_base.proofs.BlockSums.{sum_to-grows}
 use Rattle.gadget_base.proofs.Grown.{grown-length, clique-rows, clique-length}
 use Rattle.gadget_base.proofs.rows.add_clique.Goals as goal

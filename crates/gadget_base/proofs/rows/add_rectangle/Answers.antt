@@ -1,4 +1,4 @@
-use Rattle.std.proofs.Common.{◌≡◌, ◌+◌, ◌*◌, ◌≤◌, length, arith, to_z, of_z, w64}
+use Rattle.std.proofs.Common.{◌≡◌, ◌+◌, ◌*◌, ◌≤◌, arith, to_z, of_z, w64}
 use Rattle.std.proofs.Math.Nat.{mul-le-mul_right}
 use Rattle.gadget_base.specs.Blocks.{rectangle}
 use Rattle.gadget_base.proofs.Blocks.{rectangle-length}

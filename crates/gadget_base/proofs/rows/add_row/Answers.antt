@@ -1,4 +1,4 @@
-use Rattle.std.proofs.Common.{◌≡◌, ◌+◌, length, arith, to_z, of_z, w64}
+use Rattle.std.proofs.Common.{arith, to_z, of_z, w64}
 use Rattle.gadget_base.specs.Blocks.{row}
 use Rattle.gadget_base.proofs.Blocks.{row-length}
 use Rattle.gadget_base.proofs.Grown.{grown-length}

@@ -1,4 +1,4 @@
-use Rattle.std.proofs.Common.{◌≡◌, ℕ, ◌+◌, ◌-◌, ◌<◌, ◌≤◌, List, length, arith, ap, ◌∙◌, slice_index, inl, inr}
+use Rattle.std.proofs.Common.{◌≡◌, ℕ, ◌-◌, ◌≤◌, List, arith, ap, ◌∙◌, slice_index, inl, inr}
 use Rattle.graph_theory.specs.Graph.{IsEdgeWithin}
 use Rattle.mb_problem.specs.Network.{Network, vertices, plain, value_of}
 use Rattle.mb_problem.specs.Size.{value_total}

@@ -1,5 +1,4 @@
-use Rattle.std.proofs.Common.{◌≡◌, ℕ, ◌+◌, ◌<◌, ◌≤◌, [], List, length, arith, ap, sym, ◌∙◌, slice_index}
-use Rattle.graph_theory.specs.Graph.{Multigraph}
+use Rattle.std.proofs.Common.{◌≡◌, ℕ, ◌<◌, [], length, arith, ap, ◌∙◌}
 use Rattle.mb_problem.specs.Size.{value_total}
 use Rattle.gadget_base.proofs.Within.{copies-size}
 use Rattle.gadget_match.proofs.BuildLemmas.{edge_here, room-pairs, start-total}

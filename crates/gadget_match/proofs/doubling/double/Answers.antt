@@ -1,4 +1,3 @@
-use Rattle.std.proofs.Common.{◌≡◌}
 use Rattle.gadget_base.proofs.Within.{doubled-size}
 use Rattle.gadget_match.proofs.BuildLemmas.{room-join}
 use Rattle.gadget_match.proofs.DoubleLemmas.{double-reaches}

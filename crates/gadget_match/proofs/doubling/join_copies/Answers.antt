@@ -1,4 +1,4 @@
-use Rattle.std.proofs.Common.{◌≡◌, ℕ, ◌+◌, ◌*◌, length, arith, pos}
+use Rattle.std.proofs.Common.{◌≡◌, ℕ, ◌+◌, arith, pos}
 use Rattle.graph_theory.specs.declared.edge.Edge.{Edge}
 use Rattle.gadget_base.specs.Blocks.{tabled}
 use Rattle.gadget_base.proofs.Blocks.{tabled-length}

@@ -1,0 +1,27 @@
+use Rattle.std.proofs.Common.{◌≡◌, ℕ, List, ap, sym, subst, ◌∙◌}
+use Rattle.graph_theory.specs.Graph.{weight}
+use Rattle.mb_problem.specs.Network.{graph_of}
+use Rattle.mb_problem.specs.Feasible.{IsBMatching}
+use Rattle.gadget_match.specs.Extracted.{gathered}
+use Rattle.gadget_match.proofs.CopyBack.{gathered-feasible, gathered-weighs, copies-few, pair-numbers}
+use Rattle.gadget_match.proofs.gathering.extract_copies.Goals as goal
+
+pub count_pairs-requires-clause-numbers : goal.count_pairs-requires-clause-numbers
+count_pairs-requires-clause-numbers c = pair-numbers c.args.instance.now c.args.edges.now c.requires.perfect
+
+pub count_pairs-requires-clause-few : goal.count_pairs-requires-clause-few
+count_pairs-requires-clause-few c = copies-few c.args.instance.now c.args.edges.now c.edges-edges.ensures.network c.requires.perfect
+
+pub returns-clause-feasible : goal.returns-clause-feasible
+returns-clause-feasible c =
+    let i = c.args.instance.now in
+    let edges = c.args.edges.now in
+    let is : c.from_vec.result ≡ gathered i edges = c.from_vec.ensures ∙ c.in_ok-counts.ensures.counts in
+    subst (λ (xs : List ℕ). IsBMatching i xs) (sym is) (gathered-feasible i edges c.edges-edges.ensures.network c.requires.perfect)
+
+pub returns-clause-weighs : goal.returns-clause-weighs
+returns-clause-weighs c =
+    let i = c.args.instance.now in
+    let edges = c.args.edges.now in
+    let is : c.from_vec.result ≡ gathered i edges = c.from_vec.ensures ∙ c.in_ok-counts.ensures.counts in
+    ap (weight (graph_of i)) is ∙ gathered-weighs i edges c.requires.perfect

@@ -1,0 +1,112 @@
+ghost use Rattle.std.specs.Prelude.{◌≡◌, ℕ, ◌+◌, ◌-◌, ◌*◌, ◌<◌, ◌≤◌, ◌^◌, ◌==◌, if◌then◌else◌, length, slice_index, All, IfOk};
+ghost use Rattle.graph_theory.specs.Walk.{walk_weight};
+ghost use Rattle.mb_problem.specs.declared.kind.Kind.TheVariants.{BMatch};
+ghost use Rattle.mb_problem.specs.declared.answer.Answer.TheVariants.{Counts};
+ghost use Rattle.mb_problem.specs.Feasible.{IsFeasible, weight_of};
+ghost use Rattle.gadget_base.specs.Gadgets.{copies_graph};
+ghost use Rattle.gadget_base.specs.Certified.{IsPerfectList};
+ghost use Rattle.gadget_match.specs.Extracted.{pairs_before, ArePairStarts, gathered};
+
+use mb_base::{EdgeId, OutOfMemory, Sequence};
+use mb_problem::{Answer, Instance};
+use std::alloc::Global;
+
+/// How many edges of the graph stand before those of each edge of the instance, and at last all.
+fn pair_starts(alloc: Global, instance: &Instance) -> Result<Vec<u64>, OutOfMemory>
+    ensures { IfOk result (λ starts. ArePairStarts instance.now starts.items) }
+{
+    let mut starts = Vec::with_capacity(alloc, instance.edges() as usize + 1)?;
+    let mut total = 0;
+    starts.push(total)?;
+    for edge in instance.edge_list() {
+        total += u64::from(instance.value(edge.u)) * u64::from(instance.value(edge.v));
+        starts.push(total)?;
+    }
+    Ok(starts)
+}
+
+/// The block that holds a place, where block number k + 1 goes from `starts[k]` up to `starts[k + 1]`.
+fn block_of(starts: &[u64], place: u64) -> usize
+    requires two { 2 ≤ length starts.now }
+    requires from { slice_index starts.now 0 ≤ place }
+    requires to { place < slice_index starts.now (length starts.now - 1) }
+    ensures inside { result + 1 < length starts.now }
+    ensures begun { slice_index starts.now result ≤ place }
+    ensures not_ended { place < slice_index starts.now (result + 1) }
+{
+    let mut low = 0;
+    let mut high = starts.len() - 1;
+    while low + 1 < high {
+        let middle = low + (high - low) / 2;
+        if starts[middle] <= place {
+            low = middle;
+        } else {
+            high = middle;
+        }
+    }
+    low
+}
+
+/// Adds 1 to the count at a place.
+fn add_one(counts: &mut [u32], place: usize)
+    requires inside { place < length counts.old }
+    requires small { slice_index counts.old place < 2 ^ 31 }
+    ensures size { length counts.new ≡ length counts.old }
+    ensures each { (k : ℕ) → k < length counts.old → slice_index counts.new k ≡ slice_index counts.old k + (if place == k then 1 else 0) }
+{
+    counts[place] += 1;
+}
+
+/// Counts how often edges of the graph that stand for each edge of the instance are listed. At the
+/// start all counts are 0.
+fn add_pairs(counts: &mut [u32], instance: &Instance, starts: &[u64], edges: &[EdgeId])
+    requires starts { ArePairStarts instance.now starts.now }
+    requires numbers { All (λ e. (1 ≤ e) × (e ≤ pairs_before instance.now (length instance.now.edges))) edges.now }
+    requires few { length edges.now < 2 ^ 31 }
+    requires size { length counts.old ≡ length instance.now.edges }
+    requires start { (k : ℕ) → k < length counts.old → slice_index counts.old k ≡ 0 }
+    ensures { counts.new ≡ gathered instance.now edges.now }
+{
+    for edge in edges {
+        let place = block_of(starts, u64::from(edge.number()) - 1);
+        add_one(counts, place);
+    }
+}
+
+/// How often edges of the graph that stand for each edge of the instance are listed.
+fn count_pairs(
+    alloc: Global,
+    instance: &Instance,
+    starts: &[u64],
+    edges: &[EdgeId],
+) -> Result<Vec<u32>, OutOfMemory>
+    requires starts { ArePairStarts instance.now starts.now }
+    requires numbers { All (λ e. (1 ≤ e) × (e ≤ pairs_before instance.now (length instance.now.edges))) edges.now }
+    requires few { length edges.now < 2 ^ 31 }
+    ensures counts { IfOk result (λ counts. counts.items ≡ gathered instance.now edges.now) }
+{
+    let mut counts = vec![in alloc; 0u32; instance.edges() as usize]?;
+    add_pairs(&mut counts, instance, starts, edges);
+    Ok(counts)
+}
+
+/// The b-matching that a perfect matching of the graph of `copies` stands for, given as the numbers of
+/// its edges: each edge of the instance is used as often as copies of its ends are joined (Schrijver,
+/// Combinatorial Optimization, volume A, chapter 31). It takes time linear in the instance, and for
+/// each edge of the matching the logarithm of the number of the instance's edges. `OutOfMemory` is its
+/// one error.
+pub fn extract_copies(
+    alloc: Global,
+    instance: &Instance,
+    edges: &[EdgeId],
+) -> Result<Answer, OutOfMemory>
+    requires perfect { IsPerfectList (copies_graph instance.now) edges.now }
+    ensures feasible { IfOk result (IsFeasible BMatch instance.now) }
+    ensures weighs { IfOk result (λ a. weight_of instance.now a ≡ walk_weight (copies_graph instance.now) edges.now) }
+    ensures answer { IfOk result (λ a. a ≡ Counts (gathered instance.now edges.now)) }
+{
+    let _edges = instance.edges();
+    let starts = pair_starts(alloc, instance)?;
+    let counts = count_pairs(alloc, instance, &starts, edges)?;
+    Ok(Answer::Counts(Sequence::from_vec(counts)))
+}

@@ -1,0 +1,96 @@
+ghost use Rattle.std.specs.Prelude.{◌≡◌, ℕ, ◌+◌, ◌-◌, ◌*◌, ◌<◌, ◌≤◌, ◌^◌, ◌==◌, if◌then◌else◌, length, slice_index, All, IfOk, pos, neg_ℤ, ◌*ℤ◌, ◌≤ℤ◌, int_lt};
+ghost use Rattle.graph_theory.specs.Walk.{walk_weight};
+ghost use Rattle.mb_problem.specs.declared.kind.Kind.TheVariants.{Match};
+ghost use Rattle.mb_problem.specs.declared.answer.Answer.TheVariants.{Counts};
+ghost use Rattle.mb_problem.specs.Feasible.{IsFeasible, weight_of};
+ghost use Rattle.mb_problem.specs.Measured.{HasPlaces};
+ghost use Rattle.gadget_base.specs.Blocks.{tabled};
+ghost use Rattle.gadget_base.specs.Gadgets.{doubled_graph};
+ghost use Rattle.gadget_base.specs.Certified.{IsPerfectList};
+ghost use Rattle.gadget_base.specs.Listed.{times};
+ghost use Rattle.gadget_match.specs.Extracted.{copy_counts, heavier_copy};
+
+use mb_base::{EdgeId, OutOfMemory, Sequence};
+use mb_problem::{Answer, Instance, weight};
+use std::alloc::Global;
+
+/// Counts an edge of the graph, where it is copy number `copy`, 1 or 2, of an edge.
+fn add_copy(counts: &mut [u32], edge: EdgeId, copy: u32)
+    requires first { 1 ≤ copy }
+    requires last { copy ≤ 2 }
+    requires number { 1 ≤ edge }
+    requires small { (k : ℕ) → k < length counts.old → slice_index counts.old k < 2 ^ 31 }
+    ensures size { length counts.new ≡ length counts.old }
+    ensures each { (k : ℕ) → k < length counts.old → slice_index counts.new k ≡ slice_index counts.old k + (if edge == 2 * k + copy then 1 else 0) }
+{
+    let place = edge.number() - 1;
+    let k = (place / 2) as usize;
+    if place % 2 + 1 == copy && k < counts.len() {
+        counts[k] += 1;
+    }
+}
+
+/// Counts how often copy number `copy`, 1 or 2, of each edge is listed. At the start all counts are 0.
+fn add_copies(counts: &mut [u32], edges: &[EdgeId], copy: u32)
+    requires first { 1 ≤ copy }
+    requires last { copy ≤ 2 }
+    requires numbers { All (λ e. 1 ≤ e) edges.now }
+    requires few { length edges.now < 2 ^ 31 }
+    requires start { (k : ℕ) → k < length counts.old → slice_index counts.old k ≡ 0 }
+    ensures { counts.new ≡ tabled (λ k. times edges.now (2 * k + copy)) (length counts.old) }
+{
+    for edge in edges {
+        add_copy(counts, *edge, copy);
+    }
+}
+
+/// How often copy number `copy`, 1 or 2, of each of `m` edges is listed.
+fn count_copies(
+    alloc: Global,
+    m: usize,
+    edges: &[EdgeId],
+    copy: u32,
+) -> Result<Vec<u32>, OutOfMemory>
+    requires first { 1 ≤ copy }
+    requires last { copy ≤ 2 }
+    requires numbers { All (λ e. 1 ≤ e) edges.now }
+    requires few { length edges.now < 2 ^ 31 }
+    ensures { IfOk result (λ counts. counts.items ≡ tabled (λ k. times edges.now (2 * k + copy)) m) }
+{
+    let mut counts = vec![in alloc; 0u32; m]?;
+    add_copies(&mut counts, edges, copy);
+    Ok(counts)
+}
+
+/// Whether the one answer weighs less than the other.
+fn weighs_less(instance: &Instance, one: &Answer, other: &Answer) -> bool
+    requires one { HasPlaces instance.now one.now }
+    requires other { HasPlaces instance.now other.now }
+    ensures { result ≡ int_lt (weight_of instance.now one.now) (weight_of instance.now other.now) }
+{
+    weight(instance, one) < weight(instance, other)
+}
+
+/// The matching that a perfect matching of the graph of `double` stands for, given as the numbers of
+/// its edges: what it is on the copy of the graph where it weighs more, and on the first where both
+/// weigh the same (Schrijver, Combinatorial Optimization, volume A, chapter 26). It takes time linear
+/// in the instance. `OutOfMemory` is its one error.
+pub fn extract_double(
+    alloc: Global,
+    instance: &Instance,
+    edges: &[EdgeId],
+) -> Result<Answer, OutOfMemory>
+    requires perfect { IsPerfectList (doubled_graph instance.now) edges.now }
+    ensures feasible { IfOk result (IsFeasible Match instance.now) }
+    ensures heavier { IfOk result (λ a. neg_ℤ (walk_weight (doubled_graph instance.now) edges.now) ≤ℤ (pos 2 *ℤ weight_of instance.now a)) }
+    ensures answer { IfOk result (λ a. a ≡ Counts (heavier_copy instance.now edges.now)) }
+{
+    let m = instance.edges() as usize;
+    let first = Answer::Counts(Sequence::from_vec(count_copies(alloc, m, edges, 1)?));
+    let second = Answer::Counts(Sequence::from_vec(count_copies(alloc, m, edges, 2)?));
+    if weighs_less(instance, &first, &second) {
+        Ok(second)
+    } else {
+        Ok(first)
+    }
+}
