@@ -56,11 +56,11 @@ fn add_gates(
 
 /// The graph whose perfect matchings are the matchings of an instance with a degree for each vertex
 /// and a limit on each edge: the capacities, or, where `unit` is set, 1 for each edge (Schrijver,
-/// Combinatorial Optimization A, chapters 32 and 33). Each vertex stands as often as its value says.
-/// Each edge has two gates of as many vertices as it can be used, the first joined to all copies of one
-/// end at the edge's weight, the second to all copies of the other at weight 0, and the gates to one
-/// another at weight 0. It takes time linear in the instance and the graph. `OutOfMemory` is its one
-/// error.
+/// Combinatorial Optimization A, chapters 32 and 33). Each vertex has as many copies as its value says.
+/// Each edge has two gates, with a vertex for each time that it can be used: the copies of its first
+/// end are joined to the first gate at the edge's weight, the first gate to the second at weight 0, and
+/// the second to the copies of the other end at weight 0. It takes time linear in the instance and the
+/// graph. `OutOfMemory` is its one error.
 #[tactic(auto, using(crate::proofs::Sizes::has_size, crate::proofs::Reached::reached))]
 pub fn capped(alloc: Global, instance: &Instance, unit: bool) -> Result<Graph, OutOfMemory>
     requires limits { IsWithinLimits (size_of (capped_kind unit) instance.now) }
