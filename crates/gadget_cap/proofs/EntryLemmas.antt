@@ -110,8 +110,8 @@ begun-last xs t p some first point inside =
     leb-false (slice_index xs (p - 1 + 1)) t off
 
 -- a place before the next start is one of the block
-pub within-block : (i : Network) (room : ℕ → ℕ) (starts : List ℕ) (k place : ℕ) → AreGateStarts i room starts → k < length i.edges → (k + 1 < length starts → place < slice_index starts (k + 1)) → place < gates_before i room (length i.edges) → place < gates_before i room k + gate_size i room k
-within-block i room starts k place are b last below =
+pub within-block : (i : Network) (room : ℕ → ℕ) (starts : List ℕ) (k : ℕ) {place : ℕ} → AreGateStarts i room starts → k < length i.edges → (k + 1 < length starts → place < slice_index starts (k + 1)) → place < gates_before i room (length i.edges) → place < gates_before i room k + gate_size i room k
+within-block i room starts k are b last below =
     let size : length starts ≡ length i.edges = are.size in
     let more = sum_to-more (gate_size i room) k in
     elim (cases_lt (k + 1) (length i.edges)) [

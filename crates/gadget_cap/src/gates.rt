@@ -1,7 +1,8 @@
-ghost use Rattle.std.specs.Prelude.{◌≡◌, ℕ, ◌+◌, ◌*◌, ◌<◌, ◌≤◌, ◌^◌, ◌++◌, length, OnOk, IfOk};
+ghost use Rattle.std.specs.Prelude.{◌≡◌, ℕ, ◌+◌, ◌*◌, ◌<◌, ◌≤◌, ◌^◌, ◌++◌, length, OnOk, IfOk, pos};
 ghost use Rattle.graph_theory.specs.Graph.{IsGraph};
 ghost use Rattle.mb_problem.specs.Network.{vertices, IsInstanceEdge};
 ghost use Rattle.mb_problem.specs.Size.{size_of, value_total};
+ghost use Rattle.gadget_base.specs.Blocks.{rectangle};
 ghost use Rattle.gadget_base.specs.Certified.{gadget_graph, ReachesAll, IsWithinLimits, HasSize};
 ghost use Rattle.gadget_base.specs.Starts.{AreStarts};
 ghost use Rattle.gadget_cap.specs.Capped.{capped_kind};
@@ -14,6 +15,17 @@ use mb_base::OutOfMemory;
 use mb_problem::{Instance, InstanceEdge, gadget_size};
 use std::alloc::Global;
 use weighted_graph::Graph;
+
+/// Joins each of the `room` vertices after `before` to each of the `room` vertices after these.
+fn add_crossing(graph: &mut Graph, before: u32, room: u32) -> Result<(), OutOfMemory>
+    requires vertices { before + 2 * room ≤ graph.old.vertices }
+    requires room { length graph.old.edges + room * room < 2 ^ 32 }
+    ensures added { OnOk result (graph.new ≡ record graph.old { edges = graph.old.edges ++ rectangle before room (before + room) room (pos 0) }) }
+    ensures graph { IsGraph graph.new }
+{
+    let _vertices = graph.vertices();
+    add_rectangle(graph, before, room, before + room, room, 0)
+}
 
 /// Adds the edges that stand for an edge whose gates have `room` vertices and come after `before`
 /// others; `starts` are the sums of the first values.
@@ -37,18 +49,18 @@ fn add_gates(
     let (u_before, u_count) = copies_of(instance, starts, edge.u);
     let (v_before, v_count) = copies_of(instance, starts, edge.v);
     add_rectangle(graph, u_before, u_count, before, room, edge.w)?;
-    add_rectangle(graph, before, room, before + room, room, 0)?;
+    add_crossing(graph, before, room)?;
     add_rectangle(graph, before + room, room, v_before, v_count, 0)?;
     Ok(())
 }
 
 /// The graph whose perfect matchings are the matchings of an instance with a degree for each vertex
 /// and a limit on each edge: the capacities, or, where `unit` is set, 1 for each edge (Schrijver,
-/// Combinatorial Optimization A, chapters 32 and 33). Each vertex stands as often as its value says.
-/// Each edge has two gates of as many vertices as it can be used, the first joined to all copies of one
-/// end at the edge's weight, the second to all copies of the other at weight 0, and the gates to one
-/// another at weight 0. It takes time linear in the instance and the graph. `OutOfMemory` is its one
-/// error.
+/// Combinatorial Optimization A, chapters 32 and 33). Each vertex has as many copies as its value says.
+/// Each edge has two gates, with a vertex for each time that it can be used: the copies of its first
+/// end are joined to the first gate at the edge's weight, the first gate to the second at weight 0, and
+/// the second to the copies of the other end at weight 0. It takes time linear in the instance and the
+/// graph. `OutOfMemory` is its one error.
 #[tactic(auto, using(crate::proofs::Sizes::has_size, crate::proofs::Reached::reached))]
 pub fn capped(alloc: Global, instance: &Instance, unit: bool) -> Result<Graph, OutOfMemory>
     requires limits { IsWithinLimits (size_of (capped_kind unit) instance.now) }

@@ -1,4 +1,4 @@
-use Rattle.std.proofs.Common.{◌≡◌, ℕ, ◌-◌, ◌*◌, ◌<◌, ◌≤◌, arith, ap, ◌∙◌, List, length, slice_index, slice_index_or}
+use Rattle.std.proofs.Common.{◌≡◌, ℕ, ◌*◌, ◌<◌, ◌≤◌, arith, ap, ◌∙◌, List, length, slice_index, slice_index_or}
 use Rattle.std.proofs.lemmas.List.{get_or_read}
 use Rattle.mb_problem.specs.declared.instance.InstanceEdge.{InstanceEdge}
 use Rattle.mb_problem.specs.Network.{no_instance_edge, instance_edge_at, value_of}
@@ -32,5 +32,5 @@ returns-else-place-starts c = λ o _.
     let here : e ≡ instance_edge_at i k = get_or_read c.edge_list.result.now k e there read no_instance_edge ∙ ap (λ (es : List InstanceEdge). slice_index_or es k no_instance_edge) list in
     let entries : c.gate_sizes-entries.result.0 ≡ value_u i k * room k = c.gate_sizes-entries.ensures.entries ∙ ap (λ (t : InstanceEdge). value_of i t.u * room_at c.args.unit i t) here ∙ ap (λ (r : ℕ). value_u i k * r) (room-is c.args.unit i k) in
     let past = c.if-place-starts.false in
-    let to = within-block i room c.args.starts.now k (c.from-place.result - 1) c.requires.starts (omega arith) c.block_of-k.ensures.last (omega (arith, high, number, wide, low)) in
+    let to = within-block i room c.args.starts.now k c.requires.starts (omega arith) c.block_of-k.ensures.last (omega (arith, high, number, wide, low)) in
     enters-none i room k o c.args.edge (omega (arith, start, begun, number, wide, low)) (omega (arith, to, number, wide, low)) (omega (arith, past, start, entries, number, wide, low))
