@@ -1,0 +1,4 @@
+pub mod State
+pub mod Trees
+pub mod Events
+pub mod Searches

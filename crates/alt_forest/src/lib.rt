@@ -1,0 +1,9 @@
+//! The state of a search for a perfect matching: alternating trees over the outermost nodes of an arena.
+//! It stands on `mb_base`, `graph_theory`, `weighted_graph` and `blossom_arena`.
+#![tactic(auto)]
+
+mod label;
+mod search;
+
+pub use label::{Label, Weights};
+pub use search::Search;
