@@ -1,8 +1,8 @@
 -- A search as the calls see it.
-use Rattle.std.specs.Prelude.{◌≡◌, ℕ, ◌+◌, ◌≤◌, ◌<◌, ℤ, pos, ◌≤ℤ◌, Bool, true, false, ◌==◌, if◌then◌else◌, List, length, slice_index_or, Option, Some, None, vec_len}
+use Rattle.std.specs.Prelude.{◌≡◌, ℕ, ◌+◌, ◌≤◌, ℤ, pos, ◌≤ℤ◌, Bool, true, false, ◌==◌, if◌then◌else◌, List, length, slice_index_or, Option, None, vec_len}
 use Rattle.std.specs.Vec.{vec_capacity}
 use Rattle.graph_theory.specs.Graph.{Multigraph, IsGraph, IsWeight, edge_of, IsEdgeNumber}
-use Rattle.blossom_arena.specs.Family.{dual_at}
+use Rattle.blossom_arena.specs.Family.{dual_at, IsFamily}
 use Rattle.alt_forest.specs.declared.label.Label.{Label}
 use Rattle.alt_forest.specs.declared.label.Label.TheVariants.{Out}
 use Rattle.alt_forest.specs.declared.label.Weights.{Weights}
@@ -42,10 +42,11 @@ pub record IsSearchGraph (g : Multigraph) : Type 0 where
   pub vertices : g.vertices ≤ 4096
   pub edges : length g.edges ≤ 1048576
 
--- the copy is a graph within the limits, the arena is one for its vertices, each list has a place for each node and one,
--- unused, before them, and the circuit has room for all vertices
+-- the copy is a graph within the limits, the arena is a family on its vertices, each list has a place for each node and
+-- one, unused, before them, and the circuit has room for all vertices
 pub record HasShape (s : Search) : Type 0 where
   pub graph : IsSearchGraph s.graph
+  pub family : IsFamily s.arena
   pub arena : s.arena.vertex_count ≡ s.graph.vertices
   pub labels : vec_len s.labels ≡ node_limit s.graph.vertices + 1
   pub parents : vec_len s.parents ≡ node_limit s.graph.vertices + 1

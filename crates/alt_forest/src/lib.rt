@@ -4,6 +4,9 @@
 
 mod label;
 mod search;
+mod starts;
+mod tables;
 
 pub use label::{Label, Weights};
 pub use search::Search;
+pub use tables::{set_edge, set_label};
