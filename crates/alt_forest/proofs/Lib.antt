@@ -1,3 +1,5 @@
 pub mod Places
 pub mod Relabelled
 pub mod Fresh
+pub mod Walk
+pub mod Paths

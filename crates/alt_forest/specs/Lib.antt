@@ -2,3 +2,4 @@ pub mod State
 pub mod Trees
 pub mod Events
 pub mod Searches
+pub mod Routes

@@ -3,10 +3,12 @@
 #![tactic(auto)]
 
 mod label;
+mod path;
 mod search;
 mod starts;
 mod tables;
 
 pub use label::{Label, Weights};
+pub use path::RootPath;
 pub use search::Search;
 pub use tables::{set_edge, set_label};
