@@ -3,3 +3,4 @@ pub mod Relabelled
 pub mod Fresh
 pub mod Walk
 pub mod Paths
+pub mod Routes

@@ -3,6 +3,7 @@
 #![tactic(auto)]
 
 mod label;
+mod meet;
 mod path;
 mod search;
 mod starts;

@@ -1,5 +1,5 @@
-use Rattle.std.proofs.Common.{◌<◌, arith}
-use Rattle.alt_forest.proofs.Places.{label_place, mate_place, parent_place}
+use Rattle.std.proofs.Common.{arith}
+use Rattle.alt_forest.proofs.Places.{label_place}
 use Rattle.alt_forest.proofs.path.up_edge.Goals as goal
 
 pub label_of-requires : goal.label_of-requires
