@@ -4,3 +4,4 @@ pub mod Fresh
 pub mod Walk
 pub mod Paths
 pub mod Routes
+pub mod Forks

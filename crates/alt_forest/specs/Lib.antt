@@ -3,3 +3,4 @@ pub mod Trees
 pub mod Events
 pub mod Searches
 pub mod Routes
+pub mod Chains

@@ -6,6 +6,7 @@ mod label;
 mod meet;
 mod path;
 mod search;
+mod slack;
 mod starts;
 mod tables;
 
