@@ -1,17 +1,17 @@
 -- The chains of two vertices: the nodes that hold the one alone, and then those that hold both.
-use Rattle.std.proofs.Common.{◌≡◌, ◌≢◌, ◌⊎◌, ℕ, zero, suc, ◌+◌, ◌-◌, ◌*◌, ◌<◌, ◌≤◌, ℤ, pos, ◌+ℤ◌, Bool, true, false, ◌||◌, ◌&&◌, not, eqb, leb, cond, List, [], ◌∷◌, ◌++◌, length, drop, take, refl, sym, ap, ap₂, ◌∙◌, subst, arith, ⊎_elim, inl, inr, length-append}
+use Rattle.std.proofs.Common.{◌≡◌, ◌≢◌, ◌⊎◌, ℕ, zero, suc, ◌+◌, ◌-◌, ◌<◌, ◌≤◌, ℤ, pos, ◌+ℤ◌, Bool, true, false, ◌&&◌, not, eqb, cond, List, [], ◌∷◌, ◌++◌, length, drop, take, refl, sym, ap, ap₂, ◌∙◌, subst, arith, ⊎_elim, inl, inr, length-append}
 use Rattle.std.specs.List.{AllByRecursion}
 use Rattle.std.proofs.lemmas.Int.{ints}
-use Rattle.std.proofs.lemmas.Bool.{leb-true, leb-false, or_cases, or_from, or_left, or_right, or_parts, both_ways, eqb-true, eqb-false, eq-eqb, ne_eqb, false_from_ne_true}
+use Rattle.std.proofs.lemmas.Bool.{or_cases, or_left, or_right, both_ways, eqb-true, eq-eqb, ne_eqb}
 use Rattle.graph_theory.specs.declared.edge.Edge.{Edge}
 use Rattle.graph_theory.specs.Graph.{IsEdgeWithin}
-use Rattle.graph_theory.specs.Parts.{holds, crosses}
+use Rattle.graph_theory.specs.Parts.{holds}
 use Rattle.graph_theory.proofs.Members.{holds-append}
-use Rattle.blossom_arena.specs.Family.{Blossom, IsNested, IsNext, is_node, is_vertex, in_ring, names_of, outermost, chain_of}
+use Rattle.blossom_arena.specs.Family.{Blossom, IsNested, is_node, is_vertex, in_ring, outermost, chain_of}
 use Rattle.blossom_arena.specs.Slack.{pull}
 use Rattle.blossom_arena.proofs.Lists.{by_test}
-use Rattle.blossom_arena.proofs.Nested.{node_grows, new_is_node, range_vertex, vertex_is_node, blossoms_few}
-use Rattle.blossom_arena.proofs.Sets.{member_by_ring, outermost_node}
+use Rattle.blossom_arena.proofs.Nested.{node_grows, new_is_node, range_vertex, blossoms_few}
+use Rattle.blossom_arena.proofs.Sets.{member_by_ring}
 use Rattle.alt_forest.specs.Chains.{apart, holders, total_of}
 
 -- the nodes that hold both

@@ -5,3 +5,7 @@ pub mod Walk
 pub mod Paths
 pub mod Routes
 pub mod Forks
+pub mod Totals
+pub mod Certified
+pub mod Parity
+pub mod Roots

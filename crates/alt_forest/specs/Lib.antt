@@ -4,3 +4,4 @@ pub mod Events
 pub mod Searches
 pub mod Routes
 pub mod Chains
+pub mod Laws

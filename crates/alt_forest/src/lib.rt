@@ -3,6 +3,7 @@
 #![tactic(auto)]
 
 mod label;
+mod law;
 mod meet;
 mod path;
 mod search;
@@ -11,6 +12,7 @@ mod starts;
 mod tables;
 
 pub use label::{Label, Weights};
+pub use law::laws;
 pub use path::RootPath;
 pub use search::Search;
 pub use tables::{set_edge, set_label};

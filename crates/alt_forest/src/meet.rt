@@ -33,7 +33,7 @@ fn shortened(path: RootPath<'_>, nodes: u32) -> RootPath<'_>
 }
 
 /// Whether this node was found.
-fn is_found(found: Option<NodeId>, node: NodeId) -> bool
+pub(crate) fn is_found(found: Option<NodeId>, node: NodeId) -> bool
     ensures { (result ≡ true) ↔ (found ≡ Some node) }
 {
     match found {

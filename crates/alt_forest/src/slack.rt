@@ -1,4 +1,4 @@
-ghost use Rattle.std.specs.Prelude.{◌≡◌, ◌↔◌, ◌<◌, ◌≤◌, ◌+◌, ◌^◌, ℕ, ℤ, pos, negsuc, Some, ◌+ℤ◌, ◌*ℤ◌, ◌≤ℤ◌, true, if◌then◌else◌, drop, take, length};
+ghost use Rattle.std.specs.Prelude.{◌≡◌, ◌<◌, ◌≤◌, ◌+◌, ◌^◌, ℕ, ℤ, pos, negsuc, ◌+ℤ◌, ◌-ℤ◌, ◌*ℤ◌, ◌≤ℤ◌, true, if◌then◌else◌, drop, take, length};
 ghost use Rattle.std.specs.List.{AllByRecursion};
 ghost use Rattle.std.specs.Option.{ForSome};
 ghost use Rattle.graph_theory.specs.Graph.{IsEdgeNumber, IsEdgeWithin, IsWeight, edge_of};
@@ -10,6 +10,7 @@ ghost use Rattle.alt_forest.specs.Searches.{IsSound, state_of, is_given};
 ghost use Rattle.alt_forest.specs.Chains.{apart, dual_of, holders, total_of, weighed};
 
 use crate::label::Weights;
+use crate::meet::is_found;
 use crate::search::Search;
 use blossom_arena::{Arena, Chain, NodeId};
 use graph_theory::Edge;
@@ -38,16 +39,6 @@ fn shortened(chain: Chain<'_>, nodes: u32) -> Chain<'_>
         rest.next();
     }
     rest
-}
-
-/// Whether this node was found.
-fn is_found(found: Option<NodeId>, node: NodeId) -> bool
-    ensures { (result ≡ true) ↔ (found ≡ Some node) }
-{
-    match found {
-        Some(other) => other.number() == node.number(),
-        None => false,
-    }
 }
 
 /// How many places come before the first one where two chains of one length have the same node.
@@ -136,6 +127,15 @@ fn doubled(weights: Weights, w: i64) -> i64
     }
 }
 
+/// The slack of an edge that is given whole.
+pub(crate) fn slack_by(search: &Search, edge: &Edge) -> i64
+    requires ends { IsEdgeWithin search.now.arena.vertex_count edge.now }
+    requires weight { IsWeight edge.now.w }
+    ensures { result ≡ (if is_given search.now.weights then pos 2 *ℤ edge.now.w else pos 0) -ℤ pull (dual_at search.now.arena.duals) search.now.arena.blossoms edge.now }
+{
+    doubled(search.weights, edge.w) - pull(&search.arena, edge)
+}
+
 impl Search {
     /// The slack of an edge (chapter 26): twice its weight, or 0 in the pass without weights, less the
     /// duals of the nodes that hold exactly one of its ends. It looks at the edge once, in time linear
@@ -149,6 +149,6 @@ impl Search {
         ensures step { steps.new ≡ steps.old + 1 }
     {
         let (u, v, w) = graph.look(e, steps);
-        doubled(self.weights, w) - pull(&self.arena, &Edge { u, v, w })
+        slack_by(self, &Edge { u, v, w })
     }
 }

@@ -1,4 +1,4 @@
-use Rattle.std.proofs.Common.{◌≡◌, ℕ, ◌+◌, ◌≤◌, length, ap, arith}
+use Rattle.std.proofs.Common.{length, ap, arith}
 use Rattle.alt_forest.proofs.Forks.{ends_of, ends_turned, chain_few, surplus, cut_chains, cut_level, counts}
 use Rattle.alt_forest.proofs.slack.holder_counts.Goals as goal
 

@@ -1,4 +1,4 @@
-use Rattle.std.proofs.Common.{◌≡◌, ◌-◌, ℤ, pos, negsuc, ◌+ℤ◌, ◌*ℤ◌, ◌≤ℤ◌, take, true}
+use Rattle.std.proofs.Common.{◌≡◌, ◌-◌, pos, negsuc, ◌+ℤ◌, ◌*ℤ◌, ◌≤ℤ◌, take, true}
 use Rattle.std.specs.List.{AllByRecursion}
 use Rattle.blossom_arena.specs.Family.{is_node, dual_at}
 use Rattle.alt_forest.specs.Chains.{total_of}
