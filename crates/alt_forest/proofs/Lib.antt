@@ -9,3 +9,4 @@ pub mod Totals
 pub mod Certified
 pub mod Parity
 pub mod Roots
+pub mod Checked

@@ -5,3 +5,4 @@ pub mod Searches
 pub mod Routes
 pub mod Chains
 pub mod Laws
+pub mod Checks

@@ -5,7 +5,7 @@ ghost use Rattle.graph_theory.specs.Graph.{IsEdgeNumber};
 ghost use Rattle.alt_forest.specs.declared.label.Label.TheVariants.{Out};
 ghost use Rattle.alt_forest.specs.State.{IsOutermost, node_u};
 ghost use Rattle.alt_forest.specs.Trees.{other_node, far_end, up_edge, up_of, path_within, path_of};
-ghost use Rattle.alt_forest.specs.Searches.{HasShape, IsSound, state_of, label_at};
+ghost use Rattle.alt_forest.specs.Searches.{HasShape, IsSound, state_of, label_at, edge_in};
 
 use crate::label::Label;
 use crate::search::Search;
@@ -14,11 +14,39 @@ use blossom_arena::NodeId;
 use mb_base::EdgeId;
 use std::marker::Model;
 
+/// The label of an outermost node.
+pub(crate) fn label_at(search: &Search, node: u32) -> Label
+    requires shape { HasShape search.now }
+    requires outer { IsOutermost (state_of search.now) node }
+    ensures { result ≡ label_at search.now.labels.items node }
+{
+    label_of(&search.labels, node)
+}
+
+/// The edge to the parent of an outermost node.
+pub(crate) fn parent_of(search: &Search, node: u32) -> Option<EdgeId>
+    requires shape { HasShape search.now }
+    requires outer { IsOutermost (state_of search.now) node }
+    ensures { result ≡ edge_in search.now.parents.items node }
+{
+    edge_for(&search.parents, node)
+}
+
+/// The edge to the mate of an outermost node.
+pub(crate) fn mate_of(search: &Search, node: u32) -> Option<EdgeId>
+    requires shape { HasShape search.now }
+    requires outer { IsOutermost (state_of search.now) node }
+    ensures { result ≡ edge_in search.now.mates.items node }
+{
+    edge_for(&search.mates, node)
+}
+
 /// The outermost node at the other end of an edge from this one. It counts no step.
 pub(crate) fn other_node(search: &Search, e: EdgeId, node: u32) -> u32
     requires shape { HasShape search.now }
     requires edge { IsEdgeNumber search.now.graph e }
-    ensures { result ≡ other_node search.now.graph search.now.arena.blossoms e node }
+    ensures node { result ≡ other_node search.now.graph search.now.arena.blossoms e node }
+    ensures outer { IsOutermost (state_of search.now) result }
 {
     let (u, v, _) = search.graph.edge(e);
     let near = search.arena.outermost(u).number();
@@ -47,17 +75,18 @@ fn up_edge(search: &Search, node: u32) -> Option<EdgeId>
     requires outer { IsOutermost (state_of search.now) node }
     ensures { result ≡ up_edge (state_of search.now) node }
 {
-    match label_of(&search.labels, node) {
-        Label::Outer => edge_for(&search.mates, node),
-        Label::Inner => edge_for(&search.parents, node),
+    match label_at(search, node) {
+        Label::Outer => mate_of(search, node),
+        Label::Inner => parent_of(search, node),
         Label::Out => None,
     }
 }
 
 /// The next node towards the root, or 0.
-fn up(search: &Search, node: u32) -> u32
-    requires sound { IsSound search.now }
+pub(crate) fn up(search: &Search, node: u32) -> u32
+    requires shape { HasShape search.now }
     requires outer { IsOutermost (state_of search.now) node }
+    requires edge { ForSome (up_edge (state_of search.now) node) (IsEdgeNumber search.now.graph) }
     ensures { result ≡ up_of (state_of search.now) node }
 {
     far_end(search, up_edge(search, node), node)
