@@ -8,7 +8,7 @@ ghost use Rattle.blossom_arena.specs.Family.{is_node, is_outermost, names_of, me
 ghost use Rattle.alt_forest.specs.declared.label.Label.TheVariants.{Outer, Inner, Out};
 ghost use Rattle.alt_forest.specs.State.{IsOutermost, Joins, IsMate, slack_of};
 ghost use Rattle.alt_forest.specs.Trees.{other_node, up_edge, up_of, path_of, node_limit};
-ghost use Rattle.alt_forest.specs.Searches.{HasShape, IsSound, state_of, label_at, edge_in};
+ghost use Rattle.alt_forest.specs.Searches.{IsSearchGraph, HasShape, IsSound, state_of, label_at, edge_in};
 ghost use Rattle.alt_forest.specs.Checks.{ArePair, node_or, RingHolds, MateHolds, MateHas, Hangs, IsHung, FitsHere};
 
 use crate::label::Label;
@@ -21,7 +21,7 @@ use mb_base::{EdgeId, VertexId};
 use weighted_graph::Graph;
 
 /// Whether this is the number of an edge.
-fn is_edge(graph: &Graph, e: EdgeId) -> bool
+pub(crate) fn is_edge(graph: &Graph, e: EdgeId) -> bool
     ensures { (result ≡ true) ↔ IsEdgeNumber graph.now e }
 {
     if e.number() < 1 {
@@ -71,7 +71,7 @@ fn slack_at(search: &Search, e: EdgeId) -> i64
 }
 
 /// Whether this is the number of an outermost node.
-fn is_outer(search: &Search, number: u32) -> bool
+pub(crate) fn is_outer(search: &Search, number: u32) -> bool
     requires shape { HasShape search.now }
     ensures { (result ≡ true) ↔ IsOutermost (state_of search.now) number }
 {
@@ -389,12 +389,47 @@ fn ways_end(search: &Search) -> bool
     true
 }
 
-/// Whether a search is in the state of a search: it recomputes each part from the lists. It is for
-/// tests; the lists must have their lengths, and the arena be one for the graph. It takes no memory.
+/// Whether the copy of the graph is within the limits.
+fn is_small(graph: &Graph) -> bool
+    ensures { (result ≡ true) ↔ IsSearchGraph graph.now }
+{
+    if graph.vertices() > 4096 {
+        return false;
+    }
+    graph.edges() <= 1_048_576
+}
+
+/// Whether the lists of a search have their lengths, and its arena is one for its graph.
+fn has_shape(search: &Search) -> bool
+    ensures { (result ≡ true) ↔ HasShape search.now }
+{
+    if !is_small(&search.graph) {
+        return false;
+    }
+    if search.arena.vertex_count() != search.graph.vertices() {
+        return false;
+    }
+    let places = search.arena.node_limit() as usize + 1;
+    if search.labels.len() != places {
+        return false;
+    }
+    if search.parents.len() != places {
+        return false;
+    }
+    if search.mates.len() != places {
+        return false;
+    }
+    search.circuit.capacity() >= search.graph.vertices() as usize
+}
+
+/// Whether a search is in the state of a search: it recomputes each part from the lists, slowly. It
+/// is for tests of searches whose fields were written by hand. It takes no memory.
 pub fn check_search(search: &Search) -> bool
-    requires shape { HasShape search.now }
     ensures sound { result ≡ true → IsSound search.now }
 {
+    if !has_shape(search) {
+        return false;
+    }
     if !rings_hold(search) {
         return false;
     }
