@@ -10,3 +10,4 @@ pub mod Certified
 pub mod Parity
 pub mod Roots
 pub mod Checked
+pub mod Triangles

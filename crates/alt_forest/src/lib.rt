@@ -11,6 +11,8 @@ mod search;
 mod slack;
 mod starts;
 mod tables;
+#[cfg(test)]
+mod tests;
 
 pub use label::{Label, Weights};
 pub use law::laws;

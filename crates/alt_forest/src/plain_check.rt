@@ -390,7 +390,7 @@ fn ways_end(search: &Search) -> bool
 }
 
 /// Whether the copy of the graph is within the limits.
-fn is_small(graph: &Graph) -> bool
+pub(crate) fn is_small(graph: &Graph) -> bool
     ensures { (result ≡ true) ↔ IsSearchGraph graph.now }
 {
     if graph.vertices() > 4096 {

@@ -62,7 +62,7 @@ impl Search {
 
     /// Begins a pass over the graph anew: no blossom, no mate, no tree, and each vertex has the dual
     /// `start`, which is 0 where weights count as 0 and else at most the weight of each edge (chapter
-    /// 26). It takes no memory.
+    /// 26). The graph is the one that the search was made for. It takes no memory.
     pub fn reset(&mut self, graph: &Graph, weights: Weights, start: i64)
         requires shape { HasShape self.old }
         requires graph { graph.now ≡ self.old.graph }
@@ -75,6 +75,7 @@ impl Search {
         ensures weights { self.new.weights ≡ weights }
         ensures start { self.new.start ≡ start }
         ensures graph { self.new.graph ≡ self.old.graph }
+        ensures circuit { self.new.circuit ≡ self.old.circuit }
         ensures sound { IsSound self.new }
     {
         let _ = graph;
