@@ -19,7 +19,7 @@ sum_first f (suc n) = omega (arith, ints, sum_first f n)
 crossed_cons : (s : OddSet) (sets : List OddSet) (e : Edge) → crossed_by (s ∷ sets) (length (s ∷ sets)) e ≡ cond (crosses s.members e) s.dual (pos 0) +ℤ crossed_by sets (length sets) e
 crossed_cons s sets e = sum_first (λ j. cond (crosses (set_at (s ∷ sets) j).members e) (set_at (s ∷ sets) j).dual (pos 0)) (length sets)
 
-pull_sets : (ys : List ℤ) (bs : List Blossom) (e : Edge) → pull ys bs e ≡ (dual_at ys e.u +ℤ dual_at ys e.v) +ℤ crossed_by (sets_of ys bs) (length (sets_of ys bs)) e
+pull_sets : (ys : List ℤ) (bs : List Blossom) (e : Edge) → pull (dual_at ys) bs e ≡ (dual_at ys e.u +ℤ dual_at ys e.v) +ℤ crossed_by (sets_of ys bs) (length (sets_of ys bs)) e
 pull_sets ys [] e = omega (arith, ints)
 pull_sets ys (b ∷ older) e =
     let first : OddSet = record { dual = dual_at ys b.node; members = b.members } in
@@ -32,7 +32,7 @@ vertex_dual n ys v low high =
     get_or-take n (drop 1 ys) (v - 1) (pos 0) (omega arith) ∙ get_or-drop 1 ys (v - 1) (pos 0) ∙ ap (λ i. get_or ys i (pos 0)) one
 
 -- twice the weight, without the duals that the edge feels
-pub slack_pull : (n : ℕ) (ys : List ℤ) (bs : List Blossom) (e : Edge) → IsEdgeWithin n e → slack (vertex_duals n ys) (sets_of ys bs) e ≡ (pos 2 *ℤ e.w) -ℤ pull ys bs e
+pub slack_pull : (n : ℕ) (ys : List ℤ) (bs : List Blossom) (e : Edge) → IsEdgeWithin n e → slack (vertex_duals n ys) (sets_of ys bs) e ≡ (pos 2 *ℤ e.w) -ℤ pull (dual_at ys) bs e
 slack_pull n ys bs e within =
     let u = vertex_dual n ys e.u within.u_low within.u_high in
     let v = vertex_dual n ys e.v within.v_low within.v_high in

@@ -6,9 +6,9 @@ use Rattle.graph_theory.specs.Parts.{holds, crosses}
 use Rattle.blossom_arena.specs.Family.{Blossom, dual_at}
 
 -- the duals of the nodes that hold exactly one end of an edge, added up
-abbrev pub pull : List ℤ → List Blossom → Edge → ℤ
-pull ys [] e = dual_at ys e.u +ℤ dual_at ys e.v
-pull ys (b ∷ older) e = (if crosses b.members e then dual_at ys b.node else pos 0) +ℤ pull ys older e
+abbrev pub pull : (ℕ → ℤ) → List Blossom → Edge → ℤ
+pull y [] e = y e.u +ℤ y e.v
+pull y (b ∷ older) e = (if crosses b.members e then y b.node else pos 0) +ℤ pull y older e
 
 -- the duals of the vertices 1 to n
 abbrev pub vertex_duals : ℕ → List ℤ → List ℤ

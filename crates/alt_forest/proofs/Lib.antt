@@ -1,0 +1,13 @@
+pub mod Places
+pub mod Relabelled
+pub mod Fresh
+pub mod Walk
+pub mod Paths
+pub mod Routes
+pub mod Forks
+pub mod Totals
+pub mod Certified
+pub mod Parity
+pub mod Roots
+pub mod Checked
+pub mod Triangles

@@ -1,0 +1,142 @@
+-- A state with other labels: a new root is planted, or all trees are cleared away.
+use Rattle.std.proofs.Common.{◌≡◌, ◌≢◌, ◌⊎◌, ◌↔◌, ℕ, eqb, cond, List, [], ◌∷◌, Option, Some, None, refl, sym, ap, ◌∙◌, subst, ⊎_elim, inl, inr}
+use Rattle.std.specs.List.{AllByRecursion}
+use Rattle.std.proofs.lemmas.Bool.{eqb-true, eqb-false, eq-eqb, ne_eqb}
+use Rattle.blossom_arena.specs.declared.links.Link.{Link}
+use Rattle.blossom_arena.specs.Family.{Blossom}
+use Rattle.blossom_arena.proofs.Lists.{by_test}
+use Rattle.alt_forest.specs.declared.label.Label.{Label}
+use Rattle.alt_forest.specs.declared.label.Label.TheVariants.{Outer, Inner, Out}
+use Rattle.alt_forest.specs.State.{State, IsOutermost, IsTight, IsMate, IsInner, FitsLabel, IsSearchState}
+use Rattle.alt_forest.specs.Trees.{IsRoot}
+use Rattle.alt_forest.specs.Searches.{put}
+
+abbrev pub with_labels : State → (ℕ → Label) → State
+with_labels s label = record s { label = label }
+
+-- labels that differ
+abbrev IsOuter : Label → Type 0
+IsOuter Outer = Unit {0}
+IsOuter Inner = ⊥
+IsOuter Out = ⊥
+
+abbrev IsInnerLabel : Label → Type 0
+IsInnerLabel Outer = ⊥
+IsInnerLabel Inner = Unit {0}
+IsInnerLabel Out = ⊥
+
+pub outer_not_inner : {A : Type 0} → Outer ≡ Inner → A
+outer_not_inner e = absurd (subst IsOuter e tt)
+
+pub outer_not_out : {A : Type 0} → Outer ≡ Out → A
+outer_not_out e = absurd (subst IsOuter e tt)
+
+pub inner_not_out : {A : Type 0} → Inner ≡ Out → A
+inner_not_out e = absurd (subst IsInnerLabel e tt)
+
+pub some_not_none : {A : Type 0} (e : ℕ) → Some e ≡ None → A
+some_not_none e p = absurd (subst is_there p tt)
+  where
+    is_there : Option ℕ → Type 0
+    is_there None = ⊥
+    is_there (Some x) = Unit {0}
+
+pub put_here : {A : Type 0} (f : ℕ → A) (a : ℕ) (x : A) → put f a x a ≡ x
+put_here f a x = ap (λ t. cond t x (f a)) (eq-eqb a a refl)
+
+pub put_other : {A : Type 0} (f : ℕ → A) (a : ℕ) (x : A) (c : ℕ) → c ≢ a → put f a x c ≡ f c
+put_other f a x c ne = ap (λ t. cond t x (f c)) (ne_eqb c a ne)
+
+-- mates don't speak of labels
+pub mate_with : (s : State) (label : ℕ → Label) (a e b : ℕ) → IsMate s a e b → IsMate (with_labels s label) a e b
+mate_with s label a e b m = record { edge = m.edge; joins = m.joins; different = m.different; tight = m.tight; outer = m.outer; back = m.back }
+
+pub mate_without : (s : State) (label : ℕ → Label) (a e b : ℕ) → IsMate (with_labels s label) a e b → IsMate s a e b
+mate_without s label a e b m = record { edge = m.edge; joins = m.joins; different = m.different; tight = m.tight; outer = m.outer; back = m.back }
+
+pub inner_with : (s : State) (label : ℕ → Label) (depth : ℕ → ℕ) (a : ℕ) → (i : IsInner s depth a) → label i.up ≡ Outer → label i.child ≡ Outer → IsInner (with_labels s label) depth a
+inner_with s label depth a i up child = record {
+  edge = i.edge;
+  up = i.up;
+  parent = i.parent;
+  is_edge = i.is_edge;
+  joins = i.joins;
+  tight = i.tight;
+  up_is = i.up_is;
+  up_outer = up;
+  falls = i.falls;
+  child_edge = i.child_edge;
+  child = i.child;
+  mate = i.mate;
+  is_mate = mate_with s label a i.child_edge i.child i.is_mate;
+  child_outer = child;
+  rises = i.rises;
+}
+
+-- edges that are tight stay so
+tight_ring : (s : State) (label : ℕ → Label) (ring : List Link) → AllByRecursion (λ (l : Link). IsTight s l.edge) ring → AllByRecursion (λ (l : Link). IsTight (with_labels s label) l.edge) ring
+tight_ring s label [] t = tt
+tight_ring s label (l ∷ ring) t = (record { edge = t.0.edge; tight = t.0.tight }, tight_ring s label ring t.1)
+
+tight_rings : (s : State) (label : ℕ → Label) (bs : List Blossom) → AllByRecursion (λ (b : Blossom). AllByRecursion (λ (l : Link). IsTight s l.edge) b.ring) bs
+    → AllByRecursion (λ (b : Blossom). AllByRecursion (λ (l : Link). IsTight (with_labels s label) l.edge) b.ring) bs
+tight_rings s label [] t = tt
+tight_rings s label (b ∷ bs) t = (tight_ring s label b.ring t.0, tight_rings s label bs t.1)
+
+-- labels matter to the trees alone
+pub relabelled : (s : State) (label : ℕ → Label) (depth : ℕ → ℕ) → IsSearchState s depth → ((a : ℕ) → IsOutermost s a → FitsLabel (with_labels s label) depth a) → IsSearchState (with_labels s label) depth
+relabelled s label depth st fits = record {
+  rings = st.rings;
+  tight_rings = tight_rings s label s.blossoms st.tight_rings;
+  slacks = st.slacks;
+  duals = st.duals;
+  mates = λ a e is has. let m = st.mates a e is has in (m.0, mate_with s label a e m.0 m.1);
+  labels = fits;
+}
+
+-- where no node is in a tree
+pub cleared : (s : State) (label : ℕ → Label) (depth : ℕ → ℕ) → IsSearchState s depth → ((a : ℕ) → label a ≡ Out) → IsSearchState (with_labels s label) depth
+cleared s label depth st out = relabelled s label depth st (λ a is. record {
+  outer = λ l. outer_not_out (sym l ∙ out a);
+  inner = λ l. inner_not_out (sym l ∙ out a);
+  out = λ l e b has m. out b;
+})
+
+-- a root more
+module _ (s : State) (depth : ℕ → ℕ) (v : ℕ) (exposed : s.mate v ≡ None) (was_out : s.label v ≡ Out) where
+  -- what has a mate is not the new root
+  mated : (a e : ℕ) → s.mate a ≡ Some e → a ≢ v
+  mated a e has same = some_not_none e (sym has ∙ ap s.mate same ∙ exposed)
+
+  stays_outer : (a : ℕ) → s.label a ≡ Outer → put s.label v Outer a ≡ Outer
+  stays_outer a l = by_test (eqb a v) (λ t. ap (λ q. cond q Outer (s.label a)) t) (λ t. ap (λ q. cond q Outer (s.label a)) t ∙ l)
+
+  -- another label than that of a root is an old one
+  was : (a : ℕ) → a ≢ v → put s.label v Outer a ≡ s.label a
+  was a ne = put_other s.label v Outer a ne
+
+  pub planted : IsSearchState s depth → IsSearchState (with_labels s (put s.label v Outer)) depth
+  planted st = relabelled s (put s.label v Outer) depth st (λ a is. record {
+    outer = λ l e b has m.
+        let ne : a ≢ v = mated a e has in
+        let old = (st.labels a is).outer (sym (was a ne) ∙ l) e b has (mate_without s (put s.label v Outer) a e b m) in
+        (was b (mated b e m.back) ∙ old.0, old.1);
+    inner = λ l.
+        let ne : a ≢ v = λ same. outer_not_inner (sym (put_here s.label v Outer) ∙ ap (put s.label v Outer) (sym same) ∙ l) in
+        let i = (st.labels a is).inner (sym (was a ne) ∙ l) in
+        inner_with s (put s.label v Outer) depth a i (stays_outer i.up i.up_outer) (stays_outer i.child i.child_outer);
+    out = λ l e b has m.
+        let ne : a ≢ v = mated a e has in
+        was b (mated b e m.back) ∙ (st.labels a is).out (sym (was a ne) ∙ l) e b has (mate_without s (put s.label v Outer) a e b m);
+  })
+
+  pub planted_roots : IsOutermost s v → (a : ℕ) → IsRoot (with_labels s (put s.label v Outer)) a ↔ (IsRoot s a ⊎ (a ≡ v))
+  planted_roots v_is a = (
+    λ r. by_test (eqb a v)
+        (λ t. inr (eqb-true a v t))
+        (λ t. inl (record { outermost = r.outermost; outer = sym (was a (eqb-false a v t)) ∙ r.outer; exposed = r.exposed })),
+    λ o. ⊎_elim
+        (λ r. record { outermost = r.outermost; outer = stays_outer a r.outer; exposed = r.exposed })
+        (λ same. record { outermost = subst (IsOutermost s) (sym same) v_is; outer = ap (put s.label v Outer) same ∙ put_here s.label v Outer; exposed = ap s.mate same ∙ exposed })
+        o,
+  )

@@ -1,0 +1,146 @@
+-- Each way up ends at a root, and the vertices on it have the parity of the root's.
+use Rattle.std.proofs.Common.{◌≡◌, ◌≢◌, ◌⊎◌, ℕ, zero, suc, ◌+◌, ◌<◌, pos, true, false, eqb, [], ◌∷◌, refl, sym, ap, ◌∙◌, subst, arith, ⊎_elim, inl, inr, Option, Some, None}
+use Rattle.std.proofs.lemmas.Bool.{both_ways, eqb-true, or_cases}
+use Rattle.graph_theory.specs.Graph.{IsGraph, IsEdgeNumber}
+use Rattle.graph_theory.specs.Parts.{holds}
+use Rattle.blossom_arena.specs.Family.{IsNested, outermost}
+use Rattle.blossom_arena.proofs.Nested.{outermost_parts, node_range}
+use Rattle.blossom_arena.proofs.Sets.{outermost_has, outermost_by_member}
+use Rattle.alt_forest.specs.declared.label.Label.{Label}
+use Rattle.alt_forest.specs.declared.label.Label.TheVariants.{Outer, Inner, Out}
+use Rattle.alt_forest.specs.State.{State, IsOutermost, Joins, slack_of, IsSearchState}
+use Rattle.alt_forest.specs.Trees.{node_limit, far_end, up_edge_by, up_of, path_of, last_of, root_of, IsRoot, cover}
+use Rattle.alt_forest.specs.Laws.{LeadsToRoot, WaysLeadToRoots, TreesHaveParity}
+use Rattle.alt_forest.proofs.Relabelled.{outer_not_out, inner_not_out}
+use Rattle.alt_forest.proofs.Walk.{other_node_joins, path_none}
+use Rattle.alt_forest.proofs.Paths.{path_of-step}
+use Rattle.alt_forest.proofs.Parity.{NodesAgree, parity_sym, parity_trans, node_parity, edge_parity, agree_trans, vertex_of}
+
+module _ (s : State) (depth : ℕ → ℕ) (nested : IsNested s.graph.vertices s.blossoms) (st : IsSearchState s depth) where
+  pub some_node : (a : ℕ) → IsOutermost s a → a ≢ 0
+  some_node a is e = absurd (omega (arith, e, (node_range s.graph.vertices s.blossoms a nested (outermost_parts s.graph.vertices s.blossoms a is).0).0))
+
+  -- the step up from a node in a tree, if it is no root
+  pub record IsUp (a b : ℕ) : Type 0 where
+    pub edge : ℕ
+    pub is_edge : IsEdgeNumber s.graph edge
+    pub joins : Joins s.graph s.blossoms edge a b
+    pub tight : slack_of s edge ≡ pos 0
+    pub up : up_of s a ≡ b
+    pub outer : IsOutermost s b
+    pub in_tree : s.label b ≢ Out
+    pub falls : depth b < depth a
+
+  pub up_or_root : (a : ℕ) → IsOutermost s a → s.label a ≢ Out → IsRoot s a ⊎ ((b : ℕ) × IsUp a b)
+  up_or_root a is in_it = by_label (s.label a) refl
+    where
+      apart : (b : ℕ) → depth b < depth a → a ≢ b
+      apart b low e = let same : depth a ≡ depth b = ap depth e in absurd (omega (arith, low))
+
+      by_mate : s.label a ≡ Outer → (o : Option ℕ) → s.mate a ≡ o → IsRoot s a ⊎ ((b : ℕ) × IsUp a b)
+      by_mate lab None none = inl (record { outermost = is; outer = lab; exposed = none })
+      by_mate lab (Some e) has =
+          let m = st.mates a e is has in
+          let says = (st.labels a is).outer lab e m.0 has m.1 in
+          inr (
+            m.0,
+            record {
+              edge = e;
+              is_edge = m.1.edge;
+              joins = m.1.joins;
+              tight = m.1.tight;
+              up = ap (λ l. far_end s (up_edge_by s l a) a) lab ∙ ap (λ o. far_end s o a) has ∙ other_node_joins s.graph s.blossoms e a m.0 m.1.joins m.1.different;
+              outer = m.1.outer;
+              in_tree = λ out. inner_not_out (sym says.0 ∙ out);
+              falls = says.1;
+            },
+          )
+
+      by_label : (l : Label) → s.label a ≡ l → IsRoot s a ⊎ ((b : ℕ) × IsUp a b)
+      by_label Outer lab = by_mate lab (s.mate a) refl
+      by_label Inner lab =
+          let i = (st.labels a is).inner lab in
+          inr (
+            i.up,
+            record {
+              edge = i.edge;
+              is_edge = i.is_edge;
+              joins = i.joins;
+              tight = i.tight;
+              up = ap (λ l. far_end s (up_edge_by s l a) a) lab ∙ ap (λ o. far_end s o a) i.parent ∙ other_node_joins s.graph s.blossoms i.edge a i.up i.joins (apart i.up i.falls);
+              outer = i.up_is;
+              in_tree = λ out. outer_not_out (sym i.up_outer ∙ out);
+              falls = i.falls;
+            },
+          )
+      by_label Out lab = absurd (in_it lab)
+
+  -- a root is its own, and a step up leads to the same root
+  pub path_root : (a : ℕ) → IsRoot s a → path_of s a ≡ a ∷ []
+  path_root a r =
+      let none : up_of s a ≡ 0 = ap (λ l. far_end s (up_edge_by s l a) a) r.outer ∙ ap (λ o. far_end s o a) r.exposed in
+      path_of-step s depth a nested st r.outermost (some_node a r.outermost) ∙ ap (λ x. a ∷ path_of s x) none ∙ ap (λ xs. a ∷ xs) (path_none (node_limit s.graph.vertices + 1) s)
+
+  pub root_self : (a : ℕ) → IsRoot s a → root_of s a ≡ a
+  root_self a r = ap (last_of 0) (path_root a r)
+
+  pub path_up : (a b : ℕ) → IsOutermost s a → up_of s a ≡ b → path_of s a ≡ a ∷ path_of s b
+  path_up a b is up = path_of-step s depth a nested st is (some_node a is) ∙ ap (λ x. a ∷ path_of s x) up
+
+  pub root_up : (a b : ℕ) → IsOutermost s a → IsOutermost s b → up_of s a ≡ b → root_of s a ≡ root_of s b
+  root_up a b is b_is up =
+      let step : path_of s b ≡ b ∷ path_of s (up_of s b) = path_of-step s depth b nested st b_is (some_node b b_is) in
+      ap (last_of 0) (path_up a b is up) ∙ ap (last_of a) step ∙ sym (ap (last_of 0) step)
+
+  pub leads : (k a : ℕ) → depth a < k → IsOutermost s a → s.label a ≢ Out → LeadsToRoot s a
+  leads zero a low is in_it = absurd (omega (arith, low))
+  leads (suc k) a low is in_it = ⊎_elim
+      (λ r. record {
+        root = subst (IsRoot s) (sym (root_self a r)) r;
+        outer = λ x e. alone r x e (IsOutermost s) is;
+        in_tree = λ x e. alone r x e (λ y. s.label y ≢ Out) in_it;
+      })
+      (λ p.
+      let b : ℕ = p.0 in
+      let u = p.1 in
+      let rest = leads k b (omega (arith, u.falls, low)) u.outer u.in_tree in
+      record {
+        root = subst (IsRoot s) (sym (root_up a b is u.outer u.up)) rest.root;
+        outer = λ x e. along u.up x e (IsOutermost s) is (rest.outer x);
+        in_tree = λ x e. along u.up x e (λ y. s.label y ≢ Out) in_it (rest.in_tree x);
+      })
+      (up_or_root a is in_it)
+    where
+      alone : IsRoot s a → (x : ℕ) → holds (path_of s a) x ≡ true → (P : ℕ → Type 0) → P a → P x
+      alone r x e P pa = ⊎_elim (λ here. subst P (eqb-true a x here) pa) (λ none. absurd (both_ways false refl none)) (or_cases (eqb a x) false (sym (ap (λ xs. holds xs x) (path_root a r)) ∙ e))
+
+      along : {b : ℕ} → up_of s a ≡ b → (x : ℕ) → holds (path_of s a) x ≡ true → (P : ℕ → Type 0) → P a → (holds (path_of s b) x ≡ true → P x) → P x
+      along {b} up x e P pa rest = ⊎_elim (λ here. subst P (eqb-true a x here) pa) rest (or_cases (eqb a x) (holds (path_of s b) x) (sym (ap (λ xs. holds xs x) (path_up a b is up)) ∙ e))
+
+  -- the vertices of a node have the parity of its root's
+  pub root_parity : IsGraph s.graph → (k a : ℕ) → depth a < k → IsOutermost s a → s.label a ≢ Out → NodesAgree s a (root_of s a)
+  root_parity graph zero a low is in_it = absurd (omega (arith, low))
+  root_parity graph (suc k) a low is in_it = ⊎_elim
+      (λ r. subst (NodesAgree s a) (sym (root_self a r)) (λ u v iu iv eu ev. node_parity s depth nested graph st u v iu iv (eu ∙ sym ev)))
+      (λ p.
+      let b : ℕ = p.0 in
+      let u = p.1 in
+      let w = vertex_of s.graph.vertices s.blossoms b nested (outermost_parts s.graph.vertices s.blossoms b u.outer).0 (λ v e. outermost_by_member s.graph.vertices s.blossoms b v nested u.outer e) in
+      subst (NodesAgree s a) (sym (root_up a b is u.outer u.up))
+      (agree_trans s a b (root_of s b) w.0 w.1 w.2 (edge_parity s depth nested graph st u.edge a b u.is_edge u.joins u.tight) (root_parity graph k b (omega (arith, u.falls, low)) u.outer u.in_tree)))
+      (up_or_root a is in_it)
+
+pub ways_lead : WaysLeadToRoots
+ways_lead s depth a nested st is in_it = leads s depth nested st (depth a + 1) a (omega arith) is in_it
+
+pub trees_have_parity : TreesHaveParity
+trees_have_parity s depth v w graph nested st iv iw v_in w_in same =
+    let a : ℕ = outermost s.blossoms v in
+    let b : ℕ = outermost s.blossoms w in
+    let a_is : IsOutermost s a = (outermost_has s.graph.vertices s.blossoms v nested iv).0 in
+    let b_is : IsOutermost s b = (outermost_has s.graph.vertices s.blossoms w nested iw).0 in
+    let r = (ways_lead s depth a nested st a_is v_in).root in
+    let x = vertex_of s.graph.vertices s.blossoms (root_of s a) nested (outermost_parts s.graph.vertices s.blossoms (root_of s a) r.outermost).0 (λ u e. outermost_by_member s.graph.vertices s.blossoms (root_of s a) u nested r.outermost e) in
+    let left = root_parity s depth nested st graph (depth a + 1) a (omega arith) a_is v_in v x.0 iv x.1 refl x.2 in
+    let right = root_parity s depth nested st graph (depth b + 1) b (omega arith) b_is w_in w x.0 iw x.1 refl (x.2 ∙ same) in
+    parity_trans (cover s v) (cover s x.0) (cover s w) left (parity_sym (cover s w) (cover s x.0) right)

@@ -1,0 +1,173 @@
+-- Two ways to roots: once they have come together they stay together, so two that are as long come together at one place.
+use Rattle.std.proofs.Common.{◌≡◌, ◌≢◌, ◌↔◌, ℕ, zero, suc, ◌+◌, ◌-◌, ◌<◌, ◌≤◌, true, false, ◌||◌, eqb, leb, cond, List, [], ◌∷◌, length, drop, Option, Some, None, refl, sym, ap, ap₂, ◌∙◌, subst, arith, ⊎_elim}
+use Rattle.std.specs.Prelude.{MatchOption}
+use Rattle.std.proofs.lemmas.List.{drop-drop}
+use Rattle.std.proofs.lemmas.Bool.{leb-true, leb-false, or_cases, or_from, or_left, or_right, both_ways, eqb-true, eqb-false, eq-eqb, ne_eqb, false_from_ne_true}
+use Rattle.graph_theory.specs.Parts.{holds}
+use Rattle.blossom_arena.proofs.Lists.{by_test, first_in}
+use Rattle.blossom_arena.specs.Family.{IsNested}
+use Rattle.alt_forest.specs.State.{State, IsOutermost, IsSearchState}
+use Rattle.alt_forest.specs.Trees.{first_common, last_of, path_of, up_of, node_limit}
+use Rattle.alt_forest.specs.Routes.{IsRoute, AreLevel}
+use Rattle.alt_forest.proofs.Relabelled.{some_not_none}
+use Rattle.alt_forest.proofs.Walk.{some_same, path_none, up_falls}
+use Rattle.alt_forest.proofs.Paths.{path_of-step}
+
+module _ (route : ℕ → List ℕ) where
+  -- the route of a number on the list is a rest of the list
+  pub route_short : (xs : List ℕ) (x : ℕ) → IsRoute route xs → holds xs x ≡ true → length (route x) ≤ length xs
+  route_short [] x r e = absurd (both_ways false refl e)
+  route_short (y ∷ ys) x r e = ⊎_elim
+      (λ here. let same : y ∷ ys ≡ route x = r.0 ∙ ap route (eqb-true y x here) in omega (arith, ap length same))
+      (λ more. omega (arith, route_short ys x r.1 more))
+      (or_cases (eqb y x) (holds ys x) e)
+
+  pub route_last : (d : ℕ) (xs : List ℕ) (x : ℕ) → IsRoute route xs → holds xs x ≡ true → last_of d xs ≡ last_of 0 (route x)
+  route_last d [] x r e = absurd (both_ways false refl e)
+  route_last d (y ∷ ys) x r e = ⊎_elim
+      (λ here. ap (last_of 0) (r.0 ∙ ap route (eqb-true y x here)))
+      (λ more. route_last y ys x r.1 more)
+      (or_cases (eqb y x) (holds ys x) e)
+
+  -- the head of a longer route is not on the other one
+  head_apart : (x : ℕ) (xs ys : List ℕ) → IsRoute route (x ∷ xs) → IsRoute route ys → length ys < length (x ∷ xs) → holds ys x ≡ false
+  head_apart x xs ys rx ry longer = false_from_ne_true (holds ys x) (λ e. absurd (omega (arith, longer, route_short ys x ry e, ap length rx.0)))
+
+  pub level_routes : (xs ys : List ℕ) → IsRoute route xs → IsRoute route ys → length xs ≡ length ys → AreLevel xs ys
+  level_routes [] [] rx ry e = tt
+  level_routes [] (y ∷ ys) rx ry e = absurd (omega (arith, e))
+  level_routes (x ∷ xs) [] rx ry e = absurd (omega (arith, e))
+  level_routes (x ∷ xs) (y ∷ ys) rx ry e = (
+    λ ne. (head_apart x xs ys rx ry.1 (omega (arith, e)), head_apart y ys xs ry rx.1 (omega (arith, e))),
+    level_routes xs ys rx.1 ry.1 (omega (arith, e)),
+  )
+
+-- what is not on the first list may be left out of the second
+pub common_skip : (xs ys : List ℕ) (y : ℕ) → holds xs y ≡ false → first_common xs (y ∷ ys) ≡ first_common xs ys
+common_skip [] ys y e = refl
+common_skip (x ∷ xs) ys y e =
+    let here : eqb y x ≡ false = false_from_ne_true (eqb y x) (λ t. both_ways (holds (x ∷ xs) y) e (or_left (eqb x y) (holds xs y) (eq-eqb x y (sym (eqb-true y x t))))) in
+    let more : holds xs y ≡ false = false_from_ne_true (holds xs y) (λ t. both_ways (holds (x ∷ xs) y) e (or_right (eqb x y) (holds xs y) t)) in
+    ap (λ t. cond (t || holds ys x) (Some x) (first_common xs (y ∷ ys))) here ∙ ap (cond (holds ys x) (Some x)) (common_skip xs ys y more)
+
+-- where level lists differ, the common one comes later
+pub level_step : (x : ℕ) (xs : List ℕ) (y : ℕ) (ys : List ℕ) → AreLevel (x ∷ xs) (y ∷ ys) → x ≢ y → first_common (x ∷ xs) (y ∷ ys) ≡ first_common xs ys
+level_step x xs y ys level ne =
+    let p = level.0 ne in
+    ap (λ t. cond t (Some x) (first_common xs (y ∷ ys))) (or_from (eqb y x) (holds ys x) (ne_eqb y x (λ e. ne (sym e))) p.0) ∙ common_skip xs ys y p.1
+
+pub level_meet : (x : ℕ) (xs : List ℕ) (ys : List ℕ) → first_common (x ∷ xs) (x ∷ ys) ≡ Some x
+level_meet x xs ys = ap (λ t. cond t (Some x) (first_common xs (x ∷ ys))) (first_in x ys)
+
+-- the longer of two routes cut to the length of the other
+record IsCut (route : ℕ → List ℕ) (whole cut ys : List ℕ) : Type 0 where
+  routes : IsRoute route cut
+  size : length cut ≡ length ys
+
+module _ (route : ℕ → List ℕ) where
+  cut_left : (k : ℕ) (xs ys : List ℕ) → IsRoute route xs → IsRoute route ys → length xs ≡ k + length ys → IsCut route xs (drop k xs) ys × (first_common (drop k xs) ys ≡ first_common xs ys)
+  cut_left zero xs ys rx ry e = (record { routes = rx; size = omega (arith, e) }, refl)
+  cut_left (suc k) [] ys rx ry e = absurd (omega (arith, e))
+  cut_left (suc k) (x ∷ xs) ys rx ry e =
+      let rest = cut_left k xs ys rx.1 ry (omega (arith, e)) in
+      (record { routes = rest.0.routes; size = rest.0.size }, rest.1 ∙ sym (ap (λ t. cond t (Some x) (first_common xs ys)) (head_apart route x xs ys rx ry (omega (arith, e)))))
+
+  cut_right : (k : ℕ) (xs ys : List ℕ) → IsRoute route xs → IsRoute route ys → length ys ≡ k + length xs → IsCut route ys (drop k ys) xs × (first_common xs (drop k ys) ≡ first_common xs ys)
+  cut_right zero xs ys rx ry e = (record { routes = ry; size = omega (arith, e) }, refl)
+  cut_right (suc k) xs [] rx ry e = absurd (omega (arith, e))
+  cut_right (suc k) xs (y ∷ ys) rx ry e =
+      let rest = cut_right k xs ys rx ry.1 (omega (arith, e)) in
+      (record { routes = rest.0.routes; size = rest.0.size }, rest.1 ∙ sym (common_skip xs ys y (head_apart route y ys xs ry rx (omega (arith, e)))))
+
+  pub levelled : (xs ys : List ℕ) → IsRoute route xs → IsRoute route ys
+      → AreLevel (drop (length xs - length ys) xs) (drop (length ys - length xs) ys) × (first_common (drop (length xs - length ys) xs) (drop (length ys - length xs) ys) ≡ first_common xs ys)
+  levelled xs ys rx ry = by_test (leb (length xs) (length ys))
+      (λ t.
+      let low : length xs ≤ length ys = leb-true (length xs) (length ys) t in
+      let none : length xs - length ys ≡ 0 = omega (arith, low) in
+      let r = cut_right (length ys - length xs) xs ys rx ry (omega (arith, low)) in
+      subst (λ k. AreLevel (drop k xs) (drop (length ys - length xs) ys) × (first_common (drop k xs) (drop (length ys - length xs) ys) ≡ first_common xs ys)) (sym none)
+      (level_routes route xs (drop (length ys - length xs) ys) rx r.0.routes (sym r.0.size), r.1))
+      (λ t.
+      let high : length ys < length xs = leb-false (length xs) (length ys) t in
+      let none : length ys - length xs ≡ 0 = omega (arith, high) in
+      let r = cut_left (length xs - length ys) xs ys rx ry (omega (arith, high)) in
+      subst (λ k. AreLevel (drop (length xs - length ys) xs) (drop k ys) × (first_common (drop (length xs - length ys) xs) (drop k ys) ≡ first_common xs ys)) (sym none)
+      (level_routes route (drop (length xs - length ys) xs) ys r.0.routes ry r.0.size, r.1))
+
+-- the first common number is on both lists, and where there is none, none is on both
+pub common_has : (xs ys : List ℕ) (x : ℕ) → first_common xs ys ≡ Some x → (holds xs x ≡ true) × (holds ys x ≡ true)
+common_has [] ys x e = some_not_none x (sym e)
+common_has (z ∷ zs) ys x e = by_test (holds ys z)
+    (λ t.
+    let same : z ≡ x = some_same z x (sym (ap (λ q. cond q (Some z) (first_common zs ys)) t) ∙ e) in
+    (or_left (eqb z x) (holds zs x) (eq-eqb z x same), sym (ap (holds ys) same) ∙ t))
+    (λ t.
+    let r = common_has zs ys x (sym (ap (λ q. cond q (Some z) (first_common zs ys)) t) ∙ e) in
+    (or_right (eqb z x) (holds zs x) r.0, r.1))
+
+pub common_none : (xs ys : List ℕ) (x : ℕ) → first_common xs ys ≡ None → holds xs x ≡ true → holds ys x ≡ false
+common_none [] ys x e h = absurd (both_ways false refl h)
+common_none (z ∷ zs) ys x e h = by_test (holds ys z)
+    (λ t. some_not_none z (sym (ap (λ q. cond q (Some z) (first_common zs ys)) t) ∙ e))
+    (λ t. ⊎_elim
+    (λ here. sym (ap (holds ys) (eqb-true z x here)) ∙ t)
+    (λ more. common_none zs ys x (sym (ap (λ q. cond q (Some z) (first_common zs ys)) t) ∙ e) more)
+    (or_cases (eqb z x) (holds zs x) h))
+
+-- the last of a list is on it
+pub last_in : (x : ℕ) (xs : List ℕ) → holds (x ∷ xs) (last_of x xs) ≡ true
+last_in x [] = first_in x []
+last_in x (y ∷ ys) = or_right (eqb x (last_of y ys)) (holds (y ∷ ys) (last_of y ys)) (last_in y ys)
+
+-- two routes have nothing in common exactly if they end apart
+pub common_ends : (route : ℕ → List ℕ) (x : ℕ) (xs : List ℕ) (y : ℕ) (ys : List ℕ) → IsRoute route (x ∷ xs) → IsRoute route (y ∷ ys) → (first_common (x ∷ xs) (y ∷ ys) ≡ None) ↔ (last_of 0 (x ∷ xs) ≢ last_of 0 (y ∷ ys))
+common_ends route x xs y ys rx ry = (
+  λ none same. both_ways (holds (y ∷ ys) (last_of x xs)) (common_none (x ∷ xs) (y ∷ ys) (last_of x xs) none (last_in x xs)) (ap (holds (y ∷ ys)) same ∙ last_in y ys),
+  λ apart. by_found (first_common (x ∷ xs) (y ∷ ys)) refl apart,
+)
+  where
+    by_found : (o : Option ℕ) → first_common (x ∷ xs) (y ∷ ys) ≡ o → last_of 0 (x ∷ xs) ≢ last_of 0 (y ∷ ys) → o ≡ None
+    by_found None e apart = refl
+    by_found (Some z) e apart = let p = common_has (x ∷ xs) (y ∷ ys) z e in absurd (apart (route_last route 0 (x ∷ xs) z rx p.0 ∙ sym (route_last route 0 (y ∷ ys) z ry p.1)))
+
+-- what one call of an iterator leaves
+pub left_after : (o : Option ℕ) (xs ys : List ℕ) → MatchOption o ((xs ≡ []) × (ys ≡ [])) (λ x. xs ≡ x ∷ ys) → ys ≡ drop 1 xs
+left_after None xs ys e = e.1 ∙ sym (ap (drop 1) e.0)
+left_after (Some x) xs ys e = sym (ap (drop 1) e)
+
+pub drop_more : (o : Option ℕ) (zs xs ys : List ℕ) (k : ℕ) → MatchOption o ((xs ≡ []) × (ys ≡ [])) (λ x. xs ≡ x ∷ ys) → xs ≡ drop k zs → ys ≡ drop (k + 1) zs
+drop_more o zs xs ys k e at = left_after o xs ys e ∙ ap (drop 1) at ∙ drop-drop 1 k zs
+
+-- a round of the search for the first common number
+pub record IsSearched (xs ys : List ℕ) (found : Option ℕ) : Type 0 where
+  pub level : AreLevel xs ys
+  pub same : first_common xs ys ≡ found
+
+pub shared_step : (o : Option ℕ) (x : ℕ) (xs ys zs rest : List ℕ) (found : Option ℕ) → xs ≡ x ∷ rest → MatchOption o ((ys ≡ []) × (zs ≡ [])) (λ y. ys ≡ y ∷ zs) → o ≢ Some x → IsSearched xs ys found → IsSearched rest zs found
+shared_step None x xs ys zs rest found e f ne s = absurd (subst (λ k. AreLevel k []) e (subst (AreLevel xs) f.0 s.level))
+shared_step (Some y) x xs ys zs rest found e f ne s =
+    let level : AreLevel (x ∷ rest) (y ∷ zs) = subst (λ k. AreLevel k (y ∷ zs)) e (subst (AreLevel xs) f s.level) in
+    record { level = level.1; same = sym (level_step x rest y zs level (λ t. ne (ap Some (sym t)))) ∙ sym (ap₂ first_common e f) ∙ s.same }
+
+pub shared_end : (o : Option ℕ) (x : ℕ) (xs ys zs rest : List ℕ) (found : Option ℕ) → xs ≡ x ∷ rest → MatchOption o ((ys ≡ []) × (zs ≡ [])) (λ y. ys ≡ y ∷ zs) → o ≡ Some x → IsSearched xs ys found → Some x ≡ found
+shared_end None x xs ys zs rest found e f same s = some_not_none x (sym same)
+shared_end (Some y) x xs ys zs rest found e f same s =
+    let at : y ≡ x = some_same y x same in
+    sym (ap₂ first_common e (f ∙ ap (λ k. k ∷ zs) at) ∙ level_meet x rest zs) ∙ s.same
+
+-- the route of each number on it is the rest of the list
+pub path_route : (s : State) (depth : ℕ → ℕ) → IsNested s.graph.vertices s.blossoms → IsSearchState s depth → (k a : ℕ) → depth a < k → (a ≢ 0 → IsOutermost s a) → IsRoute (path_of s) (path_of s a)
+path_route s depth nested h zero a low is = absurd (omega (arith, low))
+path_route s depth nested h (suc k) a low is = by_test (eqb a 0)
+    (λ none. subst (IsRoute (path_of s)) (sym (ap (path_of s) (eqb-true a 0 none) ∙ path_none (node_limit s.graph.vertices + 1) s)) tt)
+    (λ some.
+    let ne : a ≢ 0 = eqb-false a 0 some in
+    let step : path_of s a ≡ a ∷ path_of s (up_of s a) = path_of-step s depth a nested h (is ne) ne in
+    subst (IsRoute (path_of s)) (sym step) (
+      sym step,
+      ⊎_elim
+          (λ none. subst (IsRoute (path_of s)) (sym (ap (path_of s) none ∙ path_none (node_limit s.graph.vertices + 1) s)) tt)
+          (λ p. path_route s depth nested h k (up_of s a) (omega (arith, p.1, low)) (λ ne. p.0))
+          (up_falls s depth a h (is ne)),
+    ))

@@ -1,0 +1,70 @@
+-- Steps towards the roots lead through outermost nodes.
+use Rattle.std.proofs.Common.{◌≡◌, ◌≢◌, ◌⊎◌, ℕ, zero, suc, ◌-◌, ◌<◌, cond, List, [], ◌∷◌, Option, Some, None, refl, sym, ap, ◌∙◌, subst, arith, ⊎_elim, inl, inr}
+use Rattle.std.proofs.lemmas.Bool.{eq-eqb, ne_eqb}
+use Rattle.graph_theory.specs.Graph.{Multigraph, IsEdgeNumber}
+use Rattle.blossom_arena.specs.Family.{Blossom}
+use Rattle.alt_forest.specs.declared.label.Label.{Label}
+use Rattle.alt_forest.specs.declared.label.Label.TheVariants.{Outer, Inner, Out}
+use Rattle.alt_forest.specs.State.{State, IsOutermost, Joins, node_u, node_v, IsSearchState}
+use Rattle.alt_forest.proofs.Relabelled.{some_not_none}
+use Rattle.alt_forest.specs.Trees.{other_node, far_end, up_edge_by, up_edge, up_of, path_within}
+
+-- the other end of an edge that joins two nodes
+pub other_node_joins : (g : Multigraph) (bs : List Blossom) (e a b : ℕ) → Joins g bs e a b → a ≢ b → other_node g bs e a ≡ b
+other_node_joins g bs e a b j ne =
+    ⊎_elim
+    (λ p. ap (λ t. cond t (node_v g bs e) (node_u g bs e)) (eq-eqb (node_u g bs e) a p.0) ∙ p.1)
+    (λ p. ap (λ t. cond t (node_v g bs e) (node_u g bs e)) (ne_eqb (node_u g bs e) a (λ q. ne (sym q ∙ p.0))) ∙ p.0)
+    j
+
+-- entries that are there are one
+pub some_same : (a b : ℕ) → Some a ≡ Some b → a ≡ b
+some_same a b e = ap (λ o. got o) e
+  where
+    got : Option ℕ → ℕ
+    got None = 0
+    got (Some x) = x
+
+-- the edge upwards leads to an outermost node of less depth
+pub record IsStep (s : State) (depth : ℕ → ℕ) (a e b : ℕ) : Type 0 where
+  pub edge : IsEdgeNumber s.graph e
+  pub up : up_of s a ≡ b
+  pub outer : IsOutermost s b
+  pub falls : depth b < depth a
+
+pub up_step : (s : State) (depth : ℕ → ℕ) (a e : ℕ) → IsSearchState s depth → IsOutermost s a → up_edge s a ≡ Some e → (b : ℕ) × IsStep s depth a e b
+up_step s depth a e h is has = by_label (s.label a) refl has
+  where
+    leads : (b : ℕ) → Joins s.graph s.blossoms e a b → depth b < depth a → up_of s a ≡ b
+    leads b j falls = ap (λ o. far_end s o a) has ∙ other_node_joins s.graph s.blossoms e a b j (λ p. let same : depth a ≡ depth b = ap depth p in absurd (omega (arith, falls)))
+
+    by_label : (l : Label) → s.label a ≡ l → up_edge_by s l a ≡ Some e → (b : ℕ) × IsStep s depth a e b
+    by_label Outer lab there =
+        let m = h.mates a e is there in
+        let low = ((h.labels a is).outer lab e m.0 there m.1).1 in
+        (m.0, record { edge = m.1.edge; up = leads m.0 m.1.joins low; outer = m.1.outer; falls = low })
+    by_label Inner lab there =
+        let i = (h.labels a is).inner lab in
+        let same : i.edge ≡ e = some_same i.edge e (sym i.parent ∙ there) in
+        (i.up, record { edge = subst (IsEdgeNumber s.graph) same i.is_edge; up = leads i.up (subst (λ x. Joins s.graph s.blossoms x a i.up) same i.joins) i.falls; outer = i.up_is; falls = i.falls })
+    by_label Out lab there = some_not_none e (sym there)
+
+-- the next node towards the root, if there is one, is outermost and of less depth
+pub up_falls : (s : State) (depth : ℕ → ℕ) (a : ℕ) → IsSearchState s depth → IsOutermost s a → (up_of s a ≡ 0) ⊎ (IsOutermost s (up_of s a) × (depth (up_of s a) < depth a))
+up_falls s depth a h is = by_edge (up_edge s a) refl
+  where
+    by_edge : (o : Option ℕ) → up_edge s a ≡ o → (up_of s a ≡ 0) ⊎ (IsOutermost s (up_of s a) × (depth (up_of s a) < depth a))
+    by_edge None none = inl (ap (λ o. far_end s o a) none)
+    by_edge (Some e) has =
+        let w = up_step s depth a e h is has in
+        inr (subst (λ x. IsOutermost s x × (depth x < depth a)) (sym w.1.up) (w.1.outer, w.1.falls))
+
+-- a path goes on from the next node
+pub path_step : (k : ℕ) (s : State) (a : ℕ) → k ≢ 0 → a ≢ 0 → path_within k s a ≡ a ∷ path_within (k - 1) s (up_of s a)
+path_step zero s a some ne = absurd (some refl)
+path_step (suc k) s a some ne = ap (λ t. cond t [] (a ∷ path_within k s (up_of s a))) (ne_eqb a 0 ne) ∙ ap (λ j. a ∷ path_within j s (up_of s a)) (let e : k ≡ suc k - 1 = omega arith in e)
+
+-- the path of no node is empty
+pub path_none : (k : ℕ) (s : State) → path_within k s 0 ≡ []
+path_none zero s = refl
+path_none (suc k) s = refl

@@ -1,0 +1,6 @@
+use Rattle.std.proofs.Common.{arith}
+use Rattle.alt_forest.proofs.Places.{label_place}
+use Rattle.alt_forest.proofs.path.label_at.Goals as goal
+
+pub label_of-requires : goal.label_of-requires
+label_of-requires c = omega (arith, label_place c.args.search.now c.args.node c.requires.shape c.requires.outer, c.deref.ensures.len)

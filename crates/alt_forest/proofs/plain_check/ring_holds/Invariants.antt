@@ -1,0 +1,14 @@
+use Rattle.std.proofs.Common.{◌≡◌, drop}
+use Rattle.std.specs.List.{AllByRecursion}
+use Rattle.blossom_arena.specs.declared.links.Link.{Link}
+use Rattle.blossom_arena.specs.Family.{older_than}
+use Rattle.alt_forest.specs.State.{IsChainTo, IsTight}
+use Rattle.alt_forest.specs.Searches.{state_of}
+use Rattle.alt_forest.specs.Checks.{RingHolds}
+use Rattle.alt_forest.proofs.plain_check.ring_holds.Given as goal
+
+abbrev pub invariant-loop-link : goal.invariant-loop-link
+invariant-loop-link l = record {
+  following : l.following ≡ drop 1 l.link-iterator;
+  rest : IsChainTo l.search.graph (older_than l.search.arena.blossoms l.fn.b) l.link-iterator l.first → AllByRecursion (λ (k : Link). IsTight (state_of l.search) k.edge) l.link-iterator → RingHolds (state_of l.search) l.fn.b;
+}

@@ -1,0 +1,28 @@
+use Rattle.std.proofs.Common.{◌≡◌, ◌∙◌, sym, subst, ℕ, ◌⊎◌, ◌↔◌}
+use Rattle.alt_forest.specs.declared.label.Label.{Label}
+use Rattle.alt_forest.specs.State.{IsSearchState}
+use Rattle.alt_forest.specs.Trees.{IsRoot}
+use Rattle.alt_forest.specs.Searches.{state_of}
+use Rattle.alt_forest.proofs.Places.{label_place}
+use Rattle.alt_forest.proofs.Relabelled.{with_labels, planted, planted_roots}
+use Rattle.alt_forest.proofs.search.Search.plant.Goals as goal
+
+pub set_label-requires : goal.set_label-requires
+set_label-requires c = record { place = label_place c.args.self.now c.args.v c.requires.sound.shape c.requires.exposed.0 }
+
+pub returns-clause-roots : goal.returns-clause-roots
+returns-clause-roots c a =
+    let s = state_of c.args.self.now in
+    let v : ℕ = c.args.v in
+    subst (λ (l : ℕ → Label). IsRoot (with_labels s l) a ↔ (IsRoot s a ⊎ (a ≡ v))) (sym c.set_label.ensures.labels)
+    (planted_roots s c.requires.sound.depth v c.requires.exposed.1 c.requires.out c.requires.exposed.0 a)
+
+pub returns-clause-sound : goal.returns-clause-sound
+returns-clause-sound c =
+    let h = c.requires.sound in
+    let s = state_of c.args.self.now in
+    record {
+      shape = record { graph = h.shape.graph; family = h.shape.family; arena = h.shape.arena; labels = c.set_label.ensures.len ∙ h.shape.labels; parents = h.shape.parents; mates = h.shape.mates; circuit = h.shape.circuit };
+      depth = h.depth;
+      state = subst (λ (l : ℕ → Label). IsSearchState (with_labels s l) h.depth) (sym c.set_label.ensures.labels) (planted s h.depth c.args.v c.requires.exposed.1 c.requires.out h.state);
+    }

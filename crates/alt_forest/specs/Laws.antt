@@ -1,0 +1,27 @@
+-- What holds in each tree of a search (chapters 24 and 26).
+use Rattle.std.specs.Prelude.{◌≡◌, ◌≢◌, ℕ, ◌+◌, true}
+use Rattle.graph_theory.specs.Graph.{IsGraph}
+use Rattle.graph_theory.specs.Parts.{holds}
+use Rattle.blossom_arena.specs.Family.{IsNested, is_vertex, outermost}
+use Rattle.alt_forest.specs.declared.label.Label.TheVariants.{Outer, Inner, Out}
+use Rattle.alt_forest.specs.State.{State, IsOutermost, IsSearchState}
+use Rattle.alt_forest.specs.Trees.{path_of, root_of, IsRoot, cover, SameParity, labelled}
+
+-- the way from a node in a tree leads through outermost nodes in trees to a root
+pub record LeadsToRoot (s : State) (a : ℕ) : Type 0 where
+  pub root : IsRoot s (root_of s a)
+  pub outer : (x : ℕ) → holds (path_of s a) x ≡ true → IsOutermost s x
+  pub in_tree : (x : ℕ) → holds (path_of s a) x ≡ true → s.label x ≢ Out
+
+abbrev pub WaysLeadToRoots : Type 0
+WaysLeadToRoots = (s : State) (depth : ℕ → ℕ) (a : ℕ) → IsNested s.graph.vertices s.blossoms → IsSearchState s depth → IsOutermost s a → s.label a ≢ Out → LeadsToRoot s a
+
+-- the duals of the nodes that hold a vertex, added up, have one parity in one tree
+abbrev pub TreesHaveParity : Type 0
+TreesHaveParity = (s : State) (depth : ℕ → ℕ) (v w : ℕ) → IsGraph s.graph → IsNested s.graph.vertices s.blossoms → IsSearchState s depth
+    → is_vertex s.graph.vertices v ≡ true → is_vertex s.graph.vertices w ≡ true → s.label (outermost s.blossoms v) ≢ Out → s.label (outermost s.blossoms w) ≢ Out
+    → root_of s (outermost s.blossoms v) ≡ root_of s (outermost s.blossoms w) → SameParity (cover s v) (cover s w)
+
+-- a tree has one outer node more than inner ones
+abbrev pub TreesBalance : Type 0
+TreesBalance = (s : State) (depth : ℕ → ℕ) (root : ℕ) → IsNested s.graph.vertices s.blossoms → IsSearchState s depth → IsRoot s root → labelled s root Outer ≡ labelled s root Inner + 1

@@ -1,0 +1,65 @@
+-- A search as the calls see it.
+use Rattle.std.specs.Prelude.{◌≡◌, ℕ, ◌+◌, ◌≤◌, ℤ, pos, ◌≤ℤ◌, Bool, true, false, ◌==◌, if◌then◌else◌, List, length, slice_index_or, Option, None, vec_len}
+use Rattle.std.specs.Vec.{vec_capacity}
+use Rattle.graph_theory.specs.Graph.{Multigraph, IsGraph, IsWeight, edge_of, IsEdgeNumber}
+use Rattle.blossom_arena.specs.Family.{dual_at, IsFamily}
+use Rattle.alt_forest.specs.declared.label.Label.{Label}
+use Rattle.alt_forest.specs.declared.label.Label.TheVariants.{Out}
+use Rattle.alt_forest.specs.declared.label.Weights.{Weights}
+use Rattle.alt_forest.specs.declared.label.Weights.TheVariants.{Zero, Given}
+use Rattle.alt_forest.specs.declared.search.Search.{Search}
+use Rattle.alt_forest.specs.State.{State, IsSearchState}
+use Rattle.alt_forest.specs.Trees.{node_limit}
+
+abbrev pub is_given : Weights → Bool
+is_given Zero = false
+is_given Given = true
+
+abbrev pub label_at : List Label → ℕ → Label
+label_at labels a = slice_index_or labels a Out
+
+abbrev pub edge_in : List (Option ℕ) → ℕ → Option ℕ
+edge_in edges a = slice_index_or edges a None
+
+-- the table with another entry at one place
+abbrev pub put : {A : Type 0} → (ℕ → A) → ℕ → A → ℕ → A
+put table a entry x = if x == a then entry else table x
+
+abbrev pub state_of : Search → State
+state_of s = record {
+  graph = s.graph;
+  weighted = is_given s.weights;
+  blossoms = s.arena.blossoms;
+  dual = dual_at s.arena.duals;
+  label = label_at s.labels.items;
+  parent = edge_in s.parents.items;
+  mate = edge_in s.mates.items;
+}
+
+-- at most 4,096 vertices and 1,048,576 edges
+pub record IsSearchGraph (g : Multigraph) : Type 0 where
+  pub graph : IsGraph g
+  pub vertices : g.vertices ≤ 4096
+  pub edges : length g.edges ≤ 1048576
+
+-- the copy is a graph within the limits, the arena is a family on its vertices, each list has a place for each node and
+-- one, unused, before them, and the circuit has room for all vertices
+pub record HasShape (s : Search) : Type 0 where
+  pub graph : IsSearchGraph s.graph
+  pub family : IsFamily s.arena
+  pub arena : s.arena.vertex_count ≡ s.graph.vertices
+  pub labels : vec_len s.labels ≡ node_limit s.graph.vertices + 1
+  pub parents : vec_len s.parents ≡ node_limit s.graph.vertices + 1
+  pub mates : vec_len s.mates ≡ node_limit s.graph.vertices + 1
+  pub circuit : s.graph.vertices ≤ vec_capacity s.circuit
+
+-- the search has its shape and is in the state of a search
+pub record IsSound (s : Search) : Type 0 where
+  pub shape : HasShape s
+  pub depth : ℕ → ℕ
+  pub state : IsSearchState (state_of s) depth
+
+-- no weight of the pass is below the start, which is 0 where weights aren't used
+abbrev pub IsStart : Multigraph → Weights → ℤ → Type 0
+IsStart g Zero start = start ≡ pos 0
+IsStart g Given start = IsWeight start × ((e : ℕ) → IsEdgeNumber g e → start ≤ℤ (edge_of g e).w)

@@ -1,0 +1,86 @@
+-- The way from a node to the root of its tree, and what holds within one tree (chapter 24).
+use Rattle.std.specs.Prelude.{◌≡◌, ℕ, zero, suc, ◌+◌, ℤ, pos, ◌+ℤ◌, Bool, true, false, ◌==◌, ◌&&◌, if◌then◌else◌, List, [], ◌∷◌, length, Option, Some, None}
+use Rattle.std.specs.List.{filter, range_with_len}
+use Rattle.graph_theory.specs.Graph.{Multigraph}
+use Rattle.graph_theory.specs.Parts.{holds}
+use Rattle.blossom_arena.specs.Family.{Blossom, is_outermost, room_of}
+use Rattle.alt_forest.specs.declared.label.Label.{Label}
+use Rattle.alt_forest.specs.declared.label.Label.TheVariants.{Outer, Inner, Out}
+use Rattle.alt_forest.specs.State.{State, IsOutermost, node_u, node_v}
+
+-- the greatest number that a node of a graph with n vertices can have
+abbrev pub node_limit : ℕ → ℕ
+node_limit n = n + room_of n
+
+-- the outermost node at the other end of an edge from this one
+abbrev pub other_node : Multigraph → List Blossom → ℕ → ℕ → ℕ
+other_node g bs e a = if node_u g bs e == a then node_v g bs e else node_u g bs e
+
+-- the edge towards the root: an outer node's mate, an inner node's parent
+abbrev pub up_edge_by : State → Label → ℕ → Option ℕ
+up_edge_by s Outer a = s.mate a
+up_edge_by s Inner a = s.parent a
+up_edge_by s Out a = None
+
+abbrev pub up_edge : State → ℕ → Option ℕ
+up_edge s a = up_edge_by s (s.label a) a
+
+abbrev pub far_end : State → Option ℕ → ℕ → ℕ
+far_end s None a = 0
+far_end s (Some e) a = other_node s.graph s.blossoms e a
+
+-- the next node towards the root, or 0
+abbrev pub up_of : State → ℕ → ℕ
+up_of s a = far_end s (up_edge s a) a
+
+-- a node and those above it, so many at most
+abbrev pub path_within : ℕ → State → ℕ → List ℕ
+path_within zero s a = []
+path_within (suc k) s a = if a == 0 then [] else a ∷ path_within k s (up_of s a)
+
+-- the nodes from a node to the root of its tree, both included
+abbrev pub path_of : State → ℕ → List ℕ
+path_of s a = path_within (node_limit s.graph.vertices + 1) s a
+
+-- the last of these numbers, or this
+abbrev pub last_of : ℕ → List ℕ → ℕ
+last_of default [] = default
+last_of default (x ∷ xs) = last_of x xs
+
+-- the root of a node's tree
+abbrev pub root_of : State → ℕ → ℕ
+root_of s a = last_of 0 (path_of s a)
+
+-- a root: outer and exposed
+pub record IsRoot (s : State) (a : ℕ) : Type 0 where
+  pub outermost : IsOutermost s a
+  pub outer : s.label a ≡ Outer
+  pub exposed : s.mate a ≡ None
+
+-- the first node of the one list that the other list has
+abbrev pub first_common : List ℕ → List ℕ → Option ℕ
+first_common [] ys = None
+first_common (x ∷ xs) ys = if holds ys x then Some x else first_common xs ys
+
+-- the duals of the blossoms that hold v, added up
+abbrev pub held_by : (ℕ → ℤ) → List Blossom → ℕ → ℤ
+held_by y [] v = pos 0
+held_by y (b ∷ older) v = (if holds b.members v then y b.node else pos 0) +ℤ held_by y older v
+
+-- the duals of all nodes that hold v, added up
+abbrev pub cover : State → ℕ → ℤ
+cover s v = s.dual v +ℤ held_by s.dual s.blossoms v
+
+-- two numbers that differ by an even one
+abbrev pub SameParity : ℤ → ℤ → Type 0
+SameParity x y = (half : ℤ) × (x ≡ y +ℤ (half +ℤ half))
+
+abbrev pub is_label : Label → Label → Bool
+is_label Outer Outer = true
+is_label Inner Inner = true
+is_label Out Out = true
+is_label one other = false
+
+-- how many nodes of the tree of this root have a label
+abbrev pub labelled : State → ℕ → Label → ℕ
+labelled s root label = length (filter (λ a. is_outermost s.graph.vertices s.blossoms a && (is_label (s.label a) label && (root_of s a == root))) (range_with_len 1 (node_limit s.graph.vertices)))

@@ -1,0 +1,19 @@
+/// How an outermost node stands in the trees.
+#[derive(Clone, Copy, PartialEq, Eq, Debug)]
+pub enum Label {
+    /// An even number of edges from its root.
+    Outer,
+    /// An odd number of edges from its root.
+    Inner,
+    /// In no tree.
+    Out,
+}
+
+/// The weights that slacks use.
+#[derive(Clone, Copy, PartialEq, Eq, Debug)]
+pub enum Weights {
+    /// 0 for each edge.
+    Zero,
+    /// Those of the graph.
+    Given,
+}

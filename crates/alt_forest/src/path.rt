@@ -1,0 +1,154 @@
+ghost use Rattle.std.specs.Prelude.{◌≡◌, ◌≢◌, ◌<◌, ℕ, zero, suc, length, Some};
+ghost use Rattle.std.specs.Option.{ForSome};
+ghost use Rattle.std.specs.Iterator.{YieldsFirst, item_count};
+ghost use Rattle.graph_theory.specs.Graph.{IsEdgeNumber};
+ghost use Rattle.alt_forest.specs.declared.label.Label.TheVariants.{Out};
+ghost use Rattle.alt_forest.specs.State.{IsOutermost, node_u};
+ghost use Rattle.alt_forest.specs.Trees.{other_node, far_end, up_edge, up_of, path_within, path_of};
+ghost use Rattle.alt_forest.specs.Searches.{HasShape, IsSound, state_of, label_at, edge_in};
+
+use crate::label::Label;
+use crate::search::Search;
+use crate::tables::{edge_for, label_of};
+use blossom_arena::NodeId;
+use mb_base::EdgeId;
+use std::marker::Model;
+
+/// The label of an outermost node.
+pub(crate) fn label_at(search: &Search, node: u32) -> Label
+    requires shape { HasShape search.now }
+    requires outer { IsOutermost (state_of search.now) node }
+    ensures { result ≡ label_at search.now.labels.items node }
+{
+    label_of(&search.labels, node)
+}
+
+/// The edge to the parent of an outermost node.
+pub(crate) fn parent_of(search: &Search, node: u32) -> Option<EdgeId>
+    requires shape { HasShape search.now }
+    requires outer { IsOutermost (state_of search.now) node }
+    ensures { result ≡ edge_in search.now.parents.items node }
+{
+    edge_for(&search.parents, node)
+}
+
+/// The edge to the mate of an outermost node.
+pub(crate) fn mate_of(search: &Search, node: u32) -> Option<EdgeId>
+    requires shape { HasShape search.now }
+    requires outer { IsOutermost (state_of search.now) node }
+    ensures { result ≡ edge_in search.now.mates.items node }
+{
+    edge_for(&search.mates, node)
+}
+
+/// The outermost node at the other end of an edge from this one. It counts no step.
+pub(crate) fn other_node(search: &Search, e: EdgeId, node: u32) -> u32
+    requires shape { HasShape search.now }
+    requires edge { IsEdgeNumber search.now.graph e }
+    ensures node { result ≡ other_node search.now.graph search.now.arena.blossoms e node }
+    ensures outer { IsOutermost (state_of search.now) result }
+{
+    let (u, v, _) = search.graph.edge(e);
+    let near = search.arena.outermost(u).number();
+    let far = search.arena.outermost(v).number();
+    if near == node {
+        return far;
+    }
+    near
+}
+
+/// The outermost node at the other end of an edge, or 0 where there is no edge.
+fn far_end(search: &Search, edge: Option<EdgeId>, node: u32) -> u32
+    requires shape { HasShape search.now }
+    requires edge { ForSome edge (IsEdgeNumber search.now.graph) }
+    ensures { result ≡ far_end (state_of search.now) edge node }
+{
+    match edge {
+        Some(e) => other_node(search, e, node),
+        None => 0,
+    }
+}
+
+/// The edge from an outermost node towards its root.
+fn up_edge(search: &Search, node: u32) -> Option<EdgeId>
+    requires shape { HasShape search.now }
+    requires outer { IsOutermost (state_of search.now) node }
+    ensures { result ≡ up_edge (state_of search.now) node }
+{
+    match label_at(search, node) {
+        Label::Outer => mate_of(search, node),
+        Label::Inner => parent_of(search, node),
+        Label::Out => None,
+    }
+}
+
+/// The next node towards the root, or 0.
+pub(crate) fn up(search: &Search, node: u32) -> u32
+    requires shape { HasShape search.now }
+    requires outer { IsOutermost (state_of search.now) node }
+    requires edge { ForSome (up_edge (state_of search.now) node) (IsEdgeNumber search.now.graph) }
+    ensures { result ≡ up_of (state_of search.now) node }
+{
+    far_end(search, up_edge(search, node), node)
+}
+
+/// The nodes from one to the root of its tree, both included. Contracts see the list of those to come.
+#[derive(Drop)]
+pub struct RootPath<'a> {
+    search: &'a Search,
+    // The next node, or 0.
+    at: u32,
+    // No more nodes than this are left.
+    left: u32,
+}
+
+impl<'a> Model for RootPath<'a> {
+    ghost use Rattle.std.specs.Prelude.{List, ℕ};
+    ghost use Rattle.alt_forest.specs.Trees.{path_within};
+    ghost use Rattle.alt_forest.specs.Searches.{state_of};
+    ghost use Rattle.alt_forest.specs.Routes.{CanWalk};
+
+    ghost Value = { List ℕ };
+
+    ghost view = { λ p. path_within p.left (state_of p.search.now) p.at };
+
+    ghost invariant = { λ p. CanWalk p.search.now p.at };
+}
+
+impl<'a> Iterator for RootPath<'a> {
+    type Item = NodeId;
+
+    ghost next_gives = { YieldsFirst (λ s. s) };
+
+    ghost remaining = { item_count (λ s. s) };
+
+    fn next(&mut self) -> Option<NodeId> {
+        if self.left == 0 {
+            return None;
+        }
+        if self.at == 0 {
+            return None;
+        }
+        let node = self.at;
+        self.at = up(self.search, node);
+        self.left -= 1;
+        Some(NodeId::new(node))
+    }
+}
+
+impl Search {
+    /// The nodes from one in a tree to the root of that tree, both included (chapter 24). It takes no
+    /// memory.
+    pub fn path_to_root(&self, node: NodeId) -> RootPath<'_>
+        requires sound { IsSound self.now }
+        requires outer { IsOutermost (state_of self.now) node }
+        requires in_tree { label_at self.now.labels.items node ≢ Out }
+        ensures path { result ≡ path_of (state_of self.now) node }
+    {
+        RootPath {
+            search: self,
+            at: node.number(),
+            left: self.labels.len() as u32,
+        }
+    }
+}

@@ -1,0 +1,122 @@
+ghost use Rattle.std.specs.Prelude.{◌≡◌, ◌≢◌, ◌⊎◌, ◌↔◌, ℕ, ℤ, pos, true, None, [], IfOk};
+ghost use Rattle.blossom_arena.specs.Family.{is_vertex, dual_at, empty_family};
+ghost use Rattle.alt_forest.specs.declared.label.Label.TheVariants.{Outer, Out};
+ghost use Rattle.alt_forest.specs.declared.label.Weights.TheVariants.{Zero};
+ghost use Rattle.alt_forest.specs.Searches.{IsSearchGraph, HasShape, IsSound, IsStart, state_of, label_at, edge_in, put};
+ghost use Rattle.alt_forest.specs.State.{IsOutermost, IsExposed};
+ghost use Rattle.alt_forest.specs.Trees.{IsRoot};
+
+use crate::label::{Label, Weights};
+use crate::starts::{copied, give_duals, no_edges, room_for};
+use crate::tables::{label_of, set_label, wipe_edges, wipe_labels};
+use blossom_arena::{Arena, Link, NodeId};
+use mb_base::{EdgeId, OutOfMemory};
+use std::alloc::Global;
+use weighted_graph::Graph;
+
+/// A search over one graph: blossoms with their duals, a matching of the outermost nodes, and trees.
+/// `labels`, `parents` and `mates` stand by node number, with place 0 unused; a parent or a mate is
+/// given by the edge to it. `circuit` has room for n links. `graph` is a copy of the graph that the
+/// search was made for, which no call changes.
+#[derive(Drop)]
+pub struct Search {
+    pub arena: Arena,
+    pub labels: Vec<Label>,
+    pub parents: Vec<Option<EdgeId>>,
+    pub mates: Vec<Option<EdgeId>>,
+    pub circuit: Vec<Link>,
+    pub graph: Graph,
+    pub weights: Weights,
+    pub start: i64,
+}
+
+impl Search {
+    /// A search over a graph, with no blossom, no mate and no tree, all duals 0 and weights that count
+    /// as 0. All memory that its calls want is taken here.
+    pub fn new(alloc: Global, graph: &Graph) -> Result<Search, OutOfMemory>
+        requires graph { IsSearchGraph graph.now }
+        ensures shape { IfOk result HasShape }
+        ensures graph { IfOk result (λ s. s.graph ≡ graph.now) }
+        ensures arena { IfOk result (λ s. s.arena ≡ empty_family graph.now.vertices) }
+        ensures labels { IfOk result (λ s. (a : ℕ) → label_at s.labels.items a ≡ Out) }
+        ensures parents { IfOk result (λ s. (a : ℕ) → edge_in s.parents.items a ≡ None) }
+        ensures mates { IfOk result (λ s. (a : ℕ) → edge_in s.mates.items a ≡ None) }
+        ensures weights { IfOk result (λ s. s.weights ≡ Zero) }
+        ensures start { IfOk result (λ s. s.start ≡ pos 0) }
+        ensures sound { IfOk result IsSound }
+    {
+        let copy = copied(alloc, graph)?;
+        let arena = Arena::new(alloc, graph.vertices())?;
+        let places = arena.node_limit() as usize + 1;
+        Ok(Search {
+            arena,
+            labels: vec![in alloc; Label::Out; places]?,
+            parents: no_edges(alloc, places)?,
+            mates: no_edges(alloc, places)?,
+            circuit: room_for(alloc, graph.vertices() as usize)?,
+            graph: copy,
+            weights: Weights::Zero,
+            start: 0,
+        })
+    }
+
+    /// Begins a pass over the graph anew: no blossom, no mate, no tree, and each vertex has the dual
+    /// `start`, which is 0 where weights count as 0 and else at most the weight of each edge (chapter
+    /// 26). The graph is the one that the search was made for. It takes no memory.
+    pub fn reset(&mut self, graph: &Graph, weights: Weights, start: i64)
+        requires shape { HasShape self.old }
+        requires graph { graph.now ≡ self.old.graph }
+        requires start { IsStart graph.now weights start }
+        ensures blossoms { self.new.arena.blossoms ≡ [] }
+        ensures duals { (v : ℕ) → is_vertex graph.now.vertices v ≡ true → dual_at self.new.arena.duals v ≡ start }
+        ensures labels { (a : ℕ) → label_at self.new.labels.items a ≡ Out }
+        ensures parents { (a : ℕ) → edge_in self.new.parents.items a ≡ None }
+        ensures mates { (a : ℕ) → edge_in self.new.mates.items a ≡ None }
+        ensures weights { self.new.weights ≡ weights }
+        ensures start { self.new.start ≡ start }
+        ensures graph { self.new.graph ≡ self.old.graph }
+        ensures circuit { self.new.circuit ≡ self.old.circuit }
+        ensures sound { IsSound self.new }
+    {
+        let _ = graph;
+        self.arena.clear();
+        give_duals(&mut self.arena, start);
+        wipe_labels(&mut self.labels);
+        wipe_edges(&mut self.parents);
+        wipe_edges(&mut self.mates);
+        self.weights = weights;
+        self.start = start;
+    }
+
+    /// Makes an exposed node the root of a tree of its own.
+    pub fn plant(&mut self, v: NodeId)
+        requires sound { IsSound self.old }
+        requires exposed { IsExposed (state_of self.old) v }
+        requires out { label_at self.old.labels.items v ≡ Out }
+        ensures labels { label_at self.new.labels.items ≡ put (label_at self.old.labels.items) v Outer }
+        ensures rest { self.new ≡ record self.old { labels = self.new.labels } }
+        ensures roots { (a : ℕ) → IsRoot (state_of self.new) a ↔ (IsRoot (state_of self.old) a ⊎ (a ≡ v)) }
+        ensures sound { IsSound self.new }
+    {
+        set_label(&mut self.labels, v, Label::Outer);
+    }
+
+    /// How an outermost node stands in the trees.
+    pub fn label(&self, node: NodeId) -> Label
+        requires sound { IsSound self.now }
+        requires outer { IsOutermost (state_of self.now) node }
+        ensures label { result ≡ label_at self.now.labels.items node }
+    {
+        label_of(&self.labels, node.number())
+    }
+
+    /// Labels all nodes `Out`: no tree is left. Blossoms, duals and mates stay.
+    pub fn clear(&mut self)
+        requires sound { IsSound self.old }
+        ensures labels { (a : ℕ) → label_at self.new.labels.items a ≡ Out }
+        ensures rest { self.new ≡ record self.old { labels = self.new.labels } }
+        ensures sound { IsSound self.new }
+    {
+        wipe_labels(&mut self.labels);
+    }
+}

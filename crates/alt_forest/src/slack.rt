@@ -1,0 +1,154 @@
+ghost use Rattle.std.specs.Prelude.{◌≡◌, ◌<◌, ◌≤◌, ◌+◌, ◌^◌, ℕ, ℤ, pos, negsuc, ◌+ℤ◌, ◌-ℤ◌, ◌*ℤ◌, ◌≤ℤ◌, true, if◌then◌else◌, drop, take, length};
+ghost use Rattle.std.specs.List.{AllByRecursion};
+ghost use Rattle.std.specs.Option.{ForSome};
+ghost use Rattle.graph_theory.specs.Graph.{IsEdgeNumber, IsEdgeWithin, IsWeight, edge_of};
+ghost use Rattle.graph_theory.specs.Duals.{slack};
+ghost use Rattle.blossom_arena.specs.Family.{is_node, dual_at, IsDual};
+ghost use Rattle.blossom_arena.specs.Slack.{pull, vertex_duals, sets_of};
+ghost use Rattle.alt_forest.specs.State.{slack_of};
+ghost use Rattle.alt_forest.specs.Searches.{IsSound, state_of, is_given};
+ghost use Rattle.alt_forest.specs.Chains.{apart, dual_of, holders, total_of, weighed};
+
+use crate::label::Weights;
+use crate::meet::is_found;
+use crate::search::Search;
+use blossom_arena::{Arena, Chain, NodeId};
+use graph_theory::Edge;
+use mb_base::{EdgeId, Steps};
+use std::sync::ledger::Ledger;
+use weighted_graph::Graph;
+
+/// How many nodes a chain has.
+fn count(chain: Chain<'_>) -> u32
+    requires { length chain < 2 ^ 32 }
+    ensures { result ≡ length chain.entry }
+{
+    let mut nodes = 0;
+    for _ in chain {
+        nodes += 1;
+    }
+    nodes
+}
+
+/// A chain without its first nodes.
+fn shortened(chain: Chain<'_>, nodes: u32) -> Chain<'_>
+    ensures { result ≡ drop nodes chain.entry }
+{
+    let mut rest = chain;
+    for _ in 0..nodes {
+        rest.next();
+    }
+    rest
+}
+
+/// How many places come before the first one where two chains of one length have the same node.
+fn apart(left: Chain<'_>, right: Chain<'_>) -> u32
+    requires few { length left < 2 ^ 32 }
+    requires level { length left ≡ length right }
+    ensures { result ≡ apart left.entry right.entry }
+{
+    let mut other = right;
+    let mut nodes = 0;
+    for node in left {
+        if is_found(other.next(), node) {
+            return nodes;
+        }
+        nodes += 1;
+    }
+    nodes
+}
+
+/// The dual of a node, or 0 where there is none.
+fn dual_or_zero(arena: &Arena, node: Option<NodeId>) -> i64
+    requires { ForSome node (λ a. is_node arena.now.vertex_count arena.now.blossoms a ≡ true) }
+    ensures dual { result ≡ dual_of (dual_at arena.now.duals) node }
+    ensures in_range { IsDual result }
+{
+    match node {
+        Some(node) => arena.dual(node),
+        None => 0,
+    }
+}
+
+/// The duals of the first nodes of a chain, added up.
+fn total(arena: &Arena, chain: Chain<'_>, nodes: u32) -> i64
+    requires nodes { AllByRecursion (λ a. is_node arena.now.vertex_count arena.now.blossoms a ≡ true) chain }
+    requires few { nodes ≤ 4096 }
+    ensures total { result ≡ total_of (dual_at arena.now.duals) (take nodes chain.entry) }
+    ensures low { (negsuc 999999999999999 *ℤ pos nodes) ≤ℤ result }
+    ensures high { result ≤ℤ (pos 1000000000000000 *ℤ pos nodes) }
+{
+    let mut rest = chain;
+    let mut sum = 0;
+    for _ in 0..nodes {
+        sum += dual_or_zero(arena, rest.next());
+    }
+    sum
+}
+
+/// How many nodes hold the one end of an edge alone, and how many the other end alone. A node that
+/// holds both comes in the two chains at one place from their ends, and so do all nodes after it.
+fn holder_counts(arena: &Arena, edge: &Edge) -> (u32, u32)
+    requires { IsEdgeWithin arena.now.vertex_count edge.now }
+    ensures u { result.0 ≡ length (holders arena.now.blossoms edge.now.u edge.now.v) }
+    ensures v { result.1 ≡ length (holders arena.now.blossoms edge.now.v edge.now.u) }
+    ensures few { result.0 + result.1 ≤ 4096 }
+{
+    let left = count(arena.chain(edge.u));
+    let right = count(arena.chain(edge.v));
+    let more = left.saturating_sub(right);
+    let less = right.saturating_sub(left);
+    let both = apart(
+        shortened(arena.chain(edge.u), more),
+        shortened(arena.chain(edge.v), less),
+    );
+    (more + both, less + both)
+}
+
+/// The duals of the nodes that hold exactly one end of an edge, added up.
+fn pull(arena: &Arena, edge: &Edge) -> i64
+    requires { IsEdgeWithin arena.now.vertex_count edge.now }
+    ensures pull { result ≡ pull (dual_at arena.now.duals) arena.now.blossoms edge.now }
+    ensures low { negsuc 4999999999999999999 ≤ℤ result }
+    ensures high { result ≤ℤ pos 5000000000000000000 }
+{
+    let (u, v) = holder_counts(arena, edge);
+    total(arena, arena.chain(edge.u), u) + total(arena, arena.chain(edge.v), v)
+}
+
+/// Twice a weight, or 0 in the pass without weights.
+fn doubled(weights: Weights, w: i64) -> i64
+    requires { IsWeight w }
+    ensures { result ≡ if is_given weights then pos 2 *ℤ w else pos 0 }
+{
+    match weights {
+        Weights::Zero => 0,
+        Weights::Given => 2 * w,
+    }
+}
+
+/// The slack of an edge that is given whole.
+pub(crate) fn slack_by(search: &Search, edge: &Edge) -> i64
+    requires ends { IsEdgeWithin search.now.arena.vertex_count edge.now }
+    requires weight { IsWeight edge.now.w }
+    ensures { result ≡ (if is_given search.now.weights then pos 2 *ℤ edge.now.w else pos 0) -ℤ pull (dual_at search.now.arena.duals) search.now.arena.blossoms edge.now }
+{
+    doubled(search.weights, edge.w) - pull(&search.arena, edge)
+}
+
+impl Search {
+    /// The slack of an edge (chapter 26): twice its weight, or 0 in the pass without weights, less the
+    /// duals of the nodes that hold exactly one of its ends. It looks at the edge once, in time linear
+    /// in the nodes that hold the two ends, and takes no memory.
+    pub fn slack<L: Ledger>(&self, graph: &Graph, e: EdgeId, steps: &mut Steps<L>) -> i64
+        requires sound { IsSound self.now }
+        requires graph { graph.now ≡ self.now.graph }
+        requires edge { IsEdgeNumber graph.now e }
+        ensures slack { result ≡ slack_of (state_of self.now) e }
+        ensures certificate { result ≡ slack (vertex_duals graph.now.vertices self.now.arena.duals) (sets_of self.now.arena.duals self.now.arena.blossoms) (weighed self.now.weights (edge_of graph.now e)) }
+        ensures step { steps.new ≡ steps.old + 1 }
+    {
+        let (u, v, w) = graph.look(e, steps);
+        slack_by(self, &Edge { u, v, w })
+    }
+}
