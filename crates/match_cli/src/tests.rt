@@ -73,10 +73,23 @@ fn large_input(alloc: Global, instance: &[u8]) -> Result<Vec<u8>, Fail> {
 fn the_largest_copies_and_one_more(rt: HostRuntime) -> Result<(), Fail> {
     let alloc = rt.alloc();
     let line = &["check", "bmatch"];
-    let input = large_input(alloc, b"p edge 2 1\nn 1 1024\nn 2 1024\ne 1 2 1\ns OPTIMAL bmatch 1024\nx 1 1024\n")?;
+    let input = large_input(
+        alloc,
+        b"p edge 2 1\nn 1 1024\nn 2 1024\ne 1 2 1\ns OPTIMAL bmatch 1024\nx 1 1024\n",
+    )?;
     let wanted = (b"s ACCEPTED\n".as_slice(), Status::Done);
-    expect(&rt, alloc, "1,048,576 pairs of copies", line, &input, wanted)?;
-    let input = large_input(alloc, b"p edge 2 1\nn 1 1024\nn 2 1025\ne 1 2 1\ns OPTIMAL bmatch 1024\nx 1 1024\n")?;
+    expect(
+        &rt,
+        alloc,
+        "1,048,576 pairs of copies",
+        line,
+        &input,
+        wanted,
+    )?;
+    let input = large_input(
+        alloc,
+        b"p edge 2 1\nn 1 1024\nn 2 1025\ne 1 2 1\ns OPTIMAL bmatch 1024\nx 1 1024\n",
+    )?;
     let wanted = (b"s TOOLARGE 2049 1049600\n".as_slice(), Status::TooLarge);
     expect(&rt, alloc, "one copy more", line, &input, wanted)
 }
