@@ -1,4 +1,4 @@
-ghost use Rattle.std.specs.Prelude.{◌≡◌, ◌≢◌, ℕ, ◌+◌, ◌-◌, ◌*◌, ◌/◌, ◌<◌, ◌≤◌, ◌⊎◌, ◌^◌, ◌++◌, length, OnOk, pos};
+ghost use Rattle.std.specs.Prelude.{◌≡◌, ℕ, ◌+◌, ◌-◌, ◌*◌, ◌/◌, ◌<◌, ◌≤◌, ◌⊎◌, ◌^◌, ◌++◌, length, OnOk, pos};
 ghost use Rattle.graph_theory.specs.Graph.{IsGraph, IsWeight};
 ghost use Rattle.gadget_base.specs.Blocks.{row, rectangle, clique};
 

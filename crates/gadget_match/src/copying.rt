@@ -1,11 +1,10 @@
-ghost use Rattle.std.specs.Prelude.{◌≡◌, ◌≢◌, ℕ, ◌+◌, ◌-◌, ◌*◌, ◌<◌, ◌≤◌, ◌^◌, ◌++◌, ◌∷◌, [], length, OnOk, IfOk, pos, neg_ℤ};
-ghost use Rattle.graph_theory.specs.Sums.{sum_to};
-ghost use Rattle.graph_theory.specs.Graph.{IsGraph, IsEdgeWithin, IsWeight};
+ghost use Rattle.std.specs.Prelude.{◌≡◌, ℕ, ◌+◌, ◌-◌, ◌*◌, ◌<◌, ◌≤◌, ◌^◌, ◌++◌, length, OnOk, IfOk};
+ghost use Rattle.graph_theory.specs.Graph.{IsGraph};
 ghost use Rattle.mb_problem.specs.declared.kind.Kind.TheVariants.{BMatch};
-ghost use Rattle.mb_problem.specs.Network.{Network, IsNetwork, IsInstanceEdge, vertices, plain, value_of};
+ghost use Rattle.mb_problem.specs.Network.{IsInstanceEdge, vertices, value_of};
 ghost use Rattle.mb_problem.specs.Size.{size_of, value_total};
-ghost use Rattle.gadget_base.specs.Blocks.{blocks, rectangle};
-ghost use Rattle.gadget_base.specs.Gadgets.{copies_graph, values_below, pairs_of_copies};
+ghost use Rattle.gadget_base.specs.Blocks.{rectangle};
+ghost use Rattle.gadget_base.specs.Gadgets.{copies_graph, values_below};
 ghost use Rattle.gadget_base.specs.Certified.{HasSize, IsWithinLimits, ReachesAll};
 ghost use Rattle.gadget_base.specs.Starts.{AreStarts};
 

@@ -1,10 +1,10 @@
-ghost use Rattle.std.specs.Prelude.{◌≡◌, ◌≢◌, ℕ, ◌+◌, ◌-◌, ◌*◌, ◌<◌, ◌≤◌, ◌^◌, ◌++◌, ◌∷◌, [], length, OnOk, IfOk, pos, neg_ℤ};
-ghost use Rattle.graph_theory.specs.Graph.{IsGraph, IsEdgeWithin, IsWeight};
+ghost use Rattle.std.specs.Prelude.{◌≡◌, ℕ, ◌+◌, ◌-◌, ◌*◌, ◌<◌, ◌≤◌, ◌^◌, ◌++◌, ◌∷◌, [], length, OnOk, IfOk, pos, neg_ℤ};
+ghost use Rattle.graph_theory.specs.Graph.{IsGraph};
 ghost use Rattle.mb_problem.specs.declared.kind.Kind.TheVariants.{Match};
-ghost use Rattle.mb_problem.specs.Network.{Network, IsNetwork, IsInstanceEdge, vertices};
+ghost use Rattle.mb_problem.specs.Network.{IsInstanceEdge, vertices};
 ghost use Rattle.mb_problem.specs.Size.{size_of};
 ghost use Rattle.gadget_base.specs.Blocks.{blocks, tabled};
-ghost use Rattle.gadget_base.specs.Gadgets.{doubled_graph, two_copies, to_copy};
+ghost use Rattle.gadget_base.specs.Gadgets.{doubled_graph, two_copies};
 ghost use Rattle.gadget_base.specs.Certified.{HasSize, IsWithinLimits, ReachesAll};
 
 use mb_base::{OutOfMemory, VertexId};

@@ -8,7 +8,7 @@ ghost use Rattle.gadget_base.specs.Blocks.{tabled};
 ghost use Rattle.gadget_base.specs.Gadgets.{doubled_graph};
 ghost use Rattle.gadget_base.specs.Certified.{IsPerfectList};
 ghost use Rattle.gadget_base.specs.Listed.{times};
-ghost use Rattle.gadget_match.specs.Extracted.{copy_counts, heavier_copy};
+ghost use Rattle.gadget_match.specs.Extracted.{heavier_copy};
 
 use mb_base::{EdgeId, OutOfMemory, Sequence};
 use mb_problem::{Answer, Instance, weight};
