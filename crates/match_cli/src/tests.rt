@@ -66,14 +66,15 @@ fn faulty<L: Ledger>(
 /// The kind to check, an input, what is written, and the status.
 type Row = (&'static str, &'static [u8], &'static [u8], Status);
 
-/// Runs the rows, and fails at the first whose answer is another.
-fn answers_are(rt: &HostRuntime, rows: &[Row]) -> Result<(), Fail> {
-    for (kind, input, wanted, ends) in rows {
+/// Runs the rows, and gives the place of the first whose answer is another.
+fn first_wrong(rt: &HostRuntime, rows: &[Row]) -> Result<Option<usize>, Fail> {
+    for (place, (kind, input, wanted, ends)) in rows.iter().enumerate() {
         let (status, kept) = outcome::<Brand>(Blank::new(1), rt, &["check", *kind], *input, 7)?;
-        assert_eq!(rt; kept.as_slice(), *wanted);
-        assert_eq!(rt; status, *ends);
+        if status != *ends || kept.as_slice() != *wanted {
+            return Ok(Some(place));
+        }
     }
-    Ok(())
+    Ok(None)
 }
 
 #[test]
@@ -122,7 +123,8 @@ fn perfect_matchings(rt: HostRuntime) -> Result<(), Fail> {
             Status::Rejected,
         ),
     ];
-    answers_are(&rt, &rows)
+    assert_eq!(rt; first_wrong(&rt, &rows)?, None);
+    Ok(())
 }
 
 #[test]
@@ -159,7 +161,8 @@ fn matchings_speak_of_the_graph_twice(rt: HostRuntime) -> Result<(), Fail> {
             Status::TooLarge,
         ),
     ];
-    answers_are(&rt, &rows)
+    assert_eq!(rt; first_wrong(&rt, &rows)?, None);
+    Ok(())
 }
 
 #[test]
@@ -202,7 +205,8 @@ fn copies_stand_for_values(rt: HostRuntime) -> Result<(), Fail> {
             Status::Rejected,
         ),
     ];
-    answers_are(&rt, &rows)
+    assert_eq!(rt; first_wrong(&rt, &rows)?, None);
+    Ok(())
 }
 
 #[test]
@@ -263,7 +267,8 @@ fn joins_and_tours_speak_of_ports(rt: HostRuntime) -> Result<(), Fail> {
             Status::Malformed,
         ),
     ];
-    answers_are(&rt, &rows)
+    assert_eq!(rt; first_wrong(&rt, &rows)?, None);
+    Ok(())
 }
 
 #[test]
@@ -300,7 +305,8 @@ fn paths_and_negative_circuits(rt: HostRuntime) -> Result<(), Fail> {
             Status::Malformed,
         ),
     ];
-    answers_are(&rt, &rows)
+    assert_eq!(rt; first_wrong(&rt, &rows)?, None);
+    Ok(())
 }
 
 #[test]

@@ -1,4 +1,4 @@
-use Rattle.match_cli.proofs.tests.answers_are.Given as goal
+use Rattle.match_cli.proofs.tests.first_wrong.Given as goal
 
 abbrev pub ghosts-outcome : goal.ghosts-outcome
 ghosts-outcome g a = record { name = a.blank.name; parts = a.blank.parts }
