@@ -1,5 +1,6 @@
-ghost use Rattle.std.specs.Prelude.{◌≡◌, ◌↔◌, IsTrue, IfOk};
-ghost use Rattle.cert_check.specs.Within.{AreWithin};
+ghost use Rattle.std.specs.Prelude.{◌≡◌, ◌↔◌, length, IsTrue, IfOk, IfSome};
+ghost use Rattle.mb_problem.specs.Network.{Network, vertices};
+ghost use Rattle.cert_check.specs.Within.{IsWalkWithin, AreWithin};
 ghost use Rattle.cert_check.specs.Verdicts.{IsVerdict, KeepsBefore};
 ghost use Rattle.cert_check.specs.Certificates.{HasNegativeCircuit};
 ghost use Rattle.cert_check.specs.Proved.{StatesTruth};
@@ -15,13 +16,11 @@ use std::alloc::Global;
 fn has_negative_circuit(
     alloc: Global,
     instance: &Instance,
-    kind: Kind,
     document: &Document,
 ) -> Result<bool, OutOfMemory>
-    requires { AreWithin kind instance.now document.now }
+    requires { IfSome document.now.walk (IsWalkWithin (vertices instance.now) (length instance.now.edges)) }
     ensures { IfOk result (λ b. IsTrue b ↔ HasNegativeCircuit instance.now document.now) }
 {
-    let _ = kind;
     let walk = walk_of(alloc, instance, &document.walk)?;
     let Answer::Walk { start, edges } = &walk else {
         return Ok(false);
@@ -45,7 +44,7 @@ pub fn judge_conservative(
     ensures verdict { IfOk result (IsVerdict kind instance.now document.now) }
     ensures sound { IfOk result (λ v. v ≡ Verdict.Accepted → StatesTruth kind instance.now document.now) }
 {
-    if !has_negative_circuit(alloc, instance, kind, document)? {
+    if !has_negative_circuit(alloc, instance, document)? {
         let rule = DocRule::NotCircuit;
         let line = document.line;
         return Ok(Verdict::Rejected { rule, line });

@@ -1,9 +1,9 @@
-ghost use Rattle.std.specs.Prelude.{◌≡◌, ◌≤◌, ◌%◌, ◌==◌, ◌↔◌, length, All, IsTrue, IfOk, count_by};
+ghost use Rattle.std.specs.Prelude.{◌≡◌, ◌≤◌, ◌%◌, ◌==◌, ◌↔◌, length, All, IsTrue, IfOk, IfSome, count_by};
 ghost use Rattle.graph_theory.specs.Parts.{IsVertexSet, IsOddPart, IsSplitPart};
 ghost use Rattle.mb_problem.specs.Network.{Network, IsNetwork, vertices, graph_of, value_of};
 ghost use Rattle.mb_problem.specs.Marks.{AreMarks};
 ghost use Rattle.cert_check.specs.Marked.{mark_of, AgreeAtEnds, HasEdgeMarked};
-ghost use Rattle.cert_check.specs.Within.{AreWithin};
+ghost use Rattle.cert_check.specs.Within.{IsUpTo, AreWithin};
 ghost use Rattle.cert_check.specs.Certificates.{HasOddPart, HasSplitPart, HasWantedPart};
 
 use crate::claims::members_of;
@@ -114,13 +114,11 @@ fn is_split_part(
 fn has_odd_part(
     alloc: Global,
     instance: &Instance,
-    kind: Kind,
     document: &Document,
 ) -> Result<bool, OutOfMemory>
-    requires { AreWithin kind instance.now document.now }
+    requires { IfSome document.now.odd (λ t. All (IsUpTo (vertices instance.now)) t.members) }
     ensures { IfOk result (λ b. IsTrue b ↔ HasOddPart instance.now document.now) }
 {
-    let _ = kind;
     let _ = instance.vertices();
     let Some(t) = &document.odd else {
         return Ok(false);
@@ -133,13 +131,11 @@ fn has_odd_part(
 fn has_split_part(
     alloc: Global,
     instance: &Instance,
-    kind: Kind,
     document: &Document,
 ) -> Result<bool, OutOfMemory>
-    requires { AreWithin kind instance.now document.now }
+    requires { IfSome document.now.split (λ q. All (IsUpTo (vertices instance.now)) q.members) }
     ensures { IfOk result (λ b. IsTrue b ↔ HasSplitPart instance.now document.now) }
 {
-    let _ = kind;
     let _ = instance.vertices();
     let Some(q) = &document.split else {
         return Ok(false);
@@ -161,8 +157,8 @@ pub fn has_wanted_part(
 {
     let _ = instance.vertices();
     match kind {
-        Kind::TJoin | Kind::Path => has_odd_part(alloc, instance, kind, document),
-        Kind::Postman => has_split_part(alloc, instance, kind, document),
+        Kind::TJoin | Kind::Path => has_odd_part(alloc, instance, document),
+        Kind::Postman => has_split_part(alloc, instance, document),
         _ => Ok(true),
     }
 }

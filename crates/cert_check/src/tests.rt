@@ -13,6 +13,7 @@ fn verdict_on(
 ) -> Result<Option<Verdict>, OutOfMemory> {
     match read(alloc, text, 3) {
         Ok(document) => {
+            let _ = instance.vertices();
             let verdict = judge(alloc, instance, Kind::Perfect, &document)?;
             Ok(Some(verdict))
         }

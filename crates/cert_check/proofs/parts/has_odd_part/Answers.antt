@@ -12,7 +12,7 @@ pub members_of-requires : goal.members_of-requires
 members_of-requires c =
     let n = vertices c.args.instance.now in
     let line : MemberLine = c.in-Some.t in
-    let within : All (IsUpTo n) line.members = rw c.in-Some.is at c.requires.odd in
+    let within : All (IsUpTo n) line.members = rw c.in-Some.is at c.requires in
     let few : n ≤ 4096 = c.vertices.ensures.network.few_vertices in
     subst (λ (zs : List ℤ). All (IsUpTo 4096) zs) (sym c.as_slice.ensures) (up_to-more n 4096 line.members few within)
 
@@ -20,7 +20,7 @@ pub is_odd_part-requires : goal.is_odd_part-requires
 is_odd_part-requires c =
     let n = vertices c.args.instance.now in
     let line : MemberLine = c.in-Some.t in
-    let within : All (IsUpTo n) line.members = rw c.in-Some.is at c.requires.odd in
+    let within : All (IsUpTo n) line.members = rw c.in-Some.is at c.requires in
     let ascending : ascends line.members ≡ true = rw c.in-Some.is at c.args.document.now.form.odd_ascends in
     let set : IsVertexSet n (numbers line.members) = vertex_set n line.members ascending within in
     let members : c.deref.result.now ≡ numbers line.members = c.deref.ensures.value ∙ c.in_ok-members.ensures ∙ ap numbers c.as_slice.ensures in
