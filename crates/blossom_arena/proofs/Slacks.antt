@@ -63,7 +63,7 @@ crossed_listed ys (b ∷ older) sets e listed =
     ∙ sym (crossed_cons first (sets_of ys older) e))
     listed
 
-pub slack_listed : (n : ℕ) (ys : List ℤ) (bs : List Blossom) (sets : List OddSet) (e : Edge) → IsEdgeWithin n e → AreListed ys bs sets → slack (vertex_duals n ys) sets e ≡ (pos 2 *ℤ e.w) -ℤ pull ys bs e
+pub slack_listed : (n : ℕ) (ys : List ℤ) (bs : List Blossom) (sets : List OddSet) (e : Edge) → IsEdgeWithin n e → AreListed ys bs sets → slack (vertex_duals n ys) sets e ≡ (pos 2 *ℤ e.w) -ℤ pull (dual_at ys) bs e
 slack_listed n ys bs sets e within listed =
     let crossed = crossed_listed ys bs sets e listed in
     let all = slack_pull n ys bs e within in

@@ -1,4 +1,4 @@
--- A nested family of odd sets with duals (24, 26), as contracts see an arena.
+-- A nested family of odd sets with duals (chapters 24 and 26), as contracts see an arena.
 use Rattle.std.specs.Prelude.{◌≡◌, ℕ, zero, suc, ◌+◌, ◌-◌, ◌/◌, ◌%◌, ◌<◌, ◌≤◌, ℤ, pos, ◌≤ℤ◌, ◌+ℤ◌, ◌⊎◌, Bool, true, false, ◌==◌, nat_eq, ◌&&◌, ◌||◌, not, nat_le, if◌then◌else◌, List, [], ◌∷◌, ◌++◌, length, map, All, replicate, slice_index_or, slice_set, negsuc}
 use Rattle.std.specs.List.{list_any, flat_map, IsDistinct, AllByRecursion}
 use Rattle.graph_theory.specs.Parts.{holds}

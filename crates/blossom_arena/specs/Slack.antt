@@ -1,4 +1,4 @@
--- The duals of a family that an edge feels, and the family's sets as certificates list them (25, 26).
+-- The duals of a family that an edge feels, and the family's sets as certificates list them (chapters 25 and 26).
 use Rattle.std.specs.Prelude.{◌≡◌, ◌⊎◌, ℕ, ℤ, pos, ◌+ℤ◌, List, [], ◌∷◌, map, take, drop, if◌then◌else◌}
 use Rattle.graph_theory.specs.declared.edge.Edge.{Edge}
 use Rattle.graph_theory.specs.declared.odd_set.OddSet.{OddSet}
