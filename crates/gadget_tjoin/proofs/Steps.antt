@@ -105,12 +105,12 @@ link-ends i odd k ok b limits =
     (let high = ends.u_high in omega (arith, high, few), let high = ends.v_high in omega (arith, high, few))
 
 -- the edge that is added
-pub added-link : (i : Network) (odd : ℕ → ℕ) (k : ℕ) (e : InstanceEdge) (u v : ℕ) (w : ℤ) → e ≡ instance_edge_at i k → u ≡ (between_ports i odd k).u → v ≡ (between_ports i odd k).v → w ≡ e.w → record { u = u; v = v; w = w } ≡ between_ports i odd k
-added-link i odd k e u v w is at_u at_v weighs =
+pub added-link : (i : Network) (odd : ℕ → ℕ) (next : List ℕ) (k : ℕ) (e : InstanceEdge) → e ≡ instance_edge_at i k → (slice_index next (e.u - 1) + 1 ≡ (between_ports i odd k).u) × (slice_index next (e.v - 1) + 1 ≡ (between_ports i odd k).v) → record { u = slice_index next (e.u - 1) + 1; v = slice_index next (e.v - 1) + 1; w = e.w } ≡ between_ports i odd k
+added-link i odd next k e is at =
     let make : ℕ → ℕ → ℤ → Edge = λ u v w. record { u = u; v = v; w = w } in
-    ap (λ (x : ℕ). make x v w) at_u
-    ∙ ap (λ (x : ℕ). make (between_ports i odd k).u x w) at_v
-    ∙ ap (make (between_ports i odd k).u (between_ports i odd k).v) (weighs ∙ ap (λ (x : InstanceEdge). x.w) is)
+    ap (λ (x : ℕ). make x (slice_index next (e.v - 1) + 1) e.w) at.0
+    ∙ ap (λ (x : ℕ). make (between_ports i odd k).u x e.w) at.1
+    ∙ ap (make (between_ports i odd k).u (between_ports i odd k).v) (ap (λ (x : InstanceEdge). x.w) is)
 
 pub grown-link : (f : ℕ → Edge) (h new : Multigraph) (n k : ℕ) (e : Edge) → h ≡ record { vertices = n; edges = tabled f k } → new ≡ record { vertices = h.vertices; edges = h.edges ++ e ∷ [] } → e ≡ f k → new ≡ record { vertices = n; edges = tabled f (k + 1) }
 grown-link f h new n k e old is here =

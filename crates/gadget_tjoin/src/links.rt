@@ -1,5 +1,5 @@
-ghost use Rattle.std.specs.Prelude.{◌≡◌, ◌≢◌, ℕ, ◌+◌, ◌-◌, ◌<◌, ◌≤◌, ◌^◌, ◌==◌, if◌then◌else◌, [], length, slice_index, OnOk};
-ghost use Rattle.graph_theory.specs.Graph.{ends_at};
+ghost use Rattle.std.specs.Prelude.{◌≡◌, ◌≢◌, ℕ, ◌+◌, ◌-◌, ◌<◌, ◌≤◌, ◌^◌, ◌==◌, if◌then◌else◌, [], ◌∷◌, ◌++◌, length, slice_index, OnOk};
+ghost use Rattle.graph_theory.specs.Graph.{IsEdgeWithin, IsWeight, ends_at};
 ghost use Rattle.mb_problem.specs.Network.{vertices, plain};
 ghost use Rattle.mb_problem.specs.Size.{ports_size};
 ghost use Rattle.mb_problem.specs.Rooms.{odd_at};
@@ -44,6 +44,27 @@ pub fn take_ports(next: &mut [u32], edge: &InstanceEdge) -> (VertexId, VertexId)
     (u, v)
 }
 
+/// Adds an edge between the next ports of its ends, which are taken.
+fn add_link(graph: &mut Graph, edge: &InstanceEdge, next: &mut [u32]) -> Result<(), OutOfMemory>
+    requires u_low { 1 ≤ edge.now.u }
+    requires u_high { edge.now.u ≤ length next.old }
+    requires v_low { 1 ≤ edge.now.v }
+    requires v_high { edge.now.v ≤ length next.old }
+    requires differ { edge.now.u ≢ edge.now.v }
+    requires small_u { slice_index next.old (edge.now.u - 1) < 2 ^ 31 }
+    requires small_v { slice_index next.old (edge.now.v - 1) < 2 ^ 31 }
+    requires room { length graph.old.edges < 2 ^ 32 - 1 }
+    requires ends { IsEdgeWithin graph.old.vertices (record { u = slice_index next.old (edge.now.u - 1) + 1; v = slice_index next.old (edge.now.v - 1) + 1; w = edge.now.w }) }
+    requires weight { IsWeight edge.now.w }
+    ensures added { OnOk result (graph.new ≡ record graph.old { edges = graph.old.edges ++ record { u = slice_index next.old (edge.now.u - 1) + 1; v = slice_index next.old (edge.now.v - 1) + 1; w = edge.now.w } ∷ [] }) }
+    ensures size { length next.new ≡ length next.old }
+    ensures each { (k : ℕ) → k < length next.old → slice_index next.new k ≡ slice_index next.old k + ends_at (plain edge.now) (k + 1) }
+{
+    let (u, v) = take_ports(next, edge);
+    graph.add(u, v, edge.w)?;
+    Ok(())
+}
+
 /// Adds each edge between its ports. `next` has for each vertex how many vertices stand before its
 /// ports at the start.
 pub fn add_links(
@@ -60,8 +81,7 @@ pub fn add_links(
 {
     let _ = parity;
     for edge in instance.edge_list() {
-        let (u, v) = take_ports(next, edge);
-        graph.add(u, v, edge.w)?;
+        add_link(graph, edge, next)?;
     }
     Ok(())
 }

@@ -3,7 +3,7 @@ ghost use Rattle.std.specs.List.Sorted.{IsStrictlyIncreasing};
 ghost use Rattle.graph_theory.specs.Graph.{IsEdgeNumber};
 ghost use Rattle.graph_theory.specs.Parts.{holds};
 ghost use Rattle.graph_theory.specs.Walk.{walk_weight};
-ghost use Rattle.mb_problem.specs.Network.{Network, graph_of};
+ghost use Rattle.mb_problem.specs.Network.{Network, IsNetwork, graph_of};
 ghost use Rattle.mb_problem.specs.Rooms.{odd_at};
 ghost use Rattle.gadget_base.specs.Gadgets.{ports_graph};
 ghost use Rattle.gadget_base.specs.Certified.{IsPerfectList};
@@ -13,12 +13,14 @@ use mb_base::{EdgeId, OutOfMemory, Sequence};
 use mb_problem::{Instance, Join, Parity};
 use std::alloc::Global;
 
-/// Which of the first edges are listed.
-fn marks_of(alloc: Global, count: usize, edges: &[EdgeId]) -> Result<Vec<bool>, OutOfMemory>
+/// Which of the instance's edges are listed.
+fn marks_of(alloc: Global, instance: &Instance, edges: &[EdgeId]) -> Result<Vec<bool>, OutOfMemory>
     requires numbers { All (λ e. 1 ≤ e) edges.now }
-    ensures size { IfOk result (λ marks. length marks.items ≡ count) }
-    ensures each { IfOk result (λ marks. (k : ℕ) → k < count → slice_index_or marks.items k false ≡ holds edges.now (k + 1)) }
+    ensures size { IfOk result (λ marks. length marks.items ≡ length instance.now.edges) }
+    ensures each { IfOk result (λ marks. (k : ℕ) → k < length instance.now.edges → slice_index_or marks.items k false ≡ holds edges.now (k + 1)) }
+    ensures network { IsNetwork instance.now }
 {
+    let count = instance.edges() as usize;
     let mut marks = vec![in alloc; false; count]?;
     for edge in edges {
         let place = edge.number() as usize - 1;
@@ -69,7 +71,7 @@ pub fn extract(
     ensures weighs { IfOk result (λ join. walk_weight (graph_of instance.now) join.edges ≡ walk_weight (ports_graph instance.now (odd_at parity.now instance.now)) edges.now) }
 {
     let _ = parity;
-    let marks = marks_of(alloc, instance.edges() as usize, edges)?;
+    let marks = marks_of(alloc, instance, edges)?;
     let edges = Sequence::from_vec(marked(alloc, &marks)?);
     Ok(Join { edges })
 }

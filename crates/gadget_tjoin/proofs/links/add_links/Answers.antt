@@ -1,4 +1,4 @@
-use Rattle.std.proofs.Common.{rules, ◌≡◌, ℕ, ◌+◌, ◌<◌, ap, sym, ◌∙◌, subst, arith, List, length, slice_index, slice_index_or, to_z, of_z, w64}
+use Rattle.std.proofs.Common.{◌≡◌, ℕ, ◌+◌, ◌-◌, ◌<◌, ap, sym, ◌∙◌, subst, arith, List, length, slice_index, slice_index_or}
 use Rattle.std.proofs.lemmas.List.{get_or_read}
 use Rattle.graph_theory.specs.Graph.{Multigraph, IsEdgeWithin}
 use Rattle.mb_problem.specs.declared.instance.InstanceEdge.{InstanceEdge}
@@ -16,8 +16,8 @@ item i es k e list b is = get_or_read es k e b is no_instance_edge ∙ ap (λ (x
 place : (i : Network) (es : List InstanceEdge) (k : ℕ) → es ≡ i.edges → k < length es → k < length i.edges
 place i es k list b = subst (λ (es : List InstanceEdge). k < length es) list b
 
-pub take_ports-u-requires-clause-small_u : goal.take_ports-u-requires-clause-small_u
-take_ports-u-requires-clause-small_u c =
+pub add_link-requires-clause-small_u : goal.add_link-requires-clause-small_u
+add_link-requires-clause-small_u c =
     let i = c.args.instance.now in
     let odd = odd_at c.args.parity i in
     let k = c.loop-edge.edge-index in
@@ -27,8 +27,8 @@ take_ports-u-requires-clause-small_u c =
     let ports = next-ports i odd c.loop-edge.next k c.edge-item.result items.ensures.network b is c.loop-edge.invariant.each in
     omega (arith, ports.0, (link-ends i odd k items.ensures.network b c.requires.limits).0)
 
-pub take_ports-u-requires-clause-small_v : goal.take_ports-u-requires-clause-small_v
-take_ports-u-requires-clause-small_v c =
+pub add_link-requires-clause-small_v : goal.add_link-requires-clause-small_v
+add_link-requires-clause-small_v c =
     let i = c.args.instance.now in
     let odd = odd_at c.args.parity i in
     let k = c.loop-edge.edge-index in
@@ -38,8 +38,8 @@ take_ports-u-requires-clause-small_v c =
     let ports = next-ports i odd c.loop-edge.next k c.edge-item.result items.ensures.network b is c.loop-edge.invariant.each in
     omega (arith, ports.1, (link-ends i odd k items.ensures.network b c.requires.limits).1)
 
-pub add-requires-clause-room : goal.add-requires-clause-room
-add-requires-clause-room c =
+pub add_link-requires-clause-room : goal.add_link-requires-clause-room
+add_link-requires-clause-room c =
     let i = c.args.instance.now in
     let items = c.edge_list-edge-items in
     let b = place i items.result.now c.loop-edge.edge-index items.ensures.list c.loop-edge-test.true in
@@ -47,19 +47,18 @@ add-requires-clause-room c =
     let size = links-fit i (odd_at c.args.parity i) c.loop-edge.graph c.args.graph.now.vertices c.loop-edge.edge-index c.loop-edge.invariant.graph in
     omega (arith, b, few, size)
 
-pub add-requires-clause-ends : goal.add-requires-clause-ends
-add-requires-clause-ends c =
+pub add_link-requires-clause-ends : goal.add_link-requires-clause-ends
+add_link-requires-clause-ends c =
     let i = c.args.instance.now in
     let odd = odd_at c.args.parity i in
     let k = c.loop-edge.edge-index in
+    let e = c.edge-item.result in
     let items = c.edge_list-edge-items in
     let b = place i items.result.now k items.ensures.list c.loop-edge-test.true in
-    let is = item i items.result.now k c.edge-item.result items.ensures.list c.loop-edge-test.true c.edge-item.is in
-    let ports = next-ports i odd c.loop-edge.next k c.edge-item.result items.ensures.network b is c.loop-edge.invariant.each in
-    let weighs : to_z w64 (of_z w64 c.edge-item.result.w) ≡ c.edge-item.result.w = search rules in
-    let edge = added-link i odd k c.edge-item.result c.take_ports-u.result.0 c.take_ports-u.result.1 (to_z w64 (of_z w64 c.edge-item.result.w)) is (c.take_ports-u.ensures.u ∙ ports.0) (c.take_ports-u.ensures.v ∙ ports.1) weighs in
+    let is = item i items.result.now k e items.ensures.list c.loop-edge-test.true c.edge-item.is in
+    let edge = added-link i odd c.loop-edge.next k e is (next-ports i odd c.loop-edge.next k e items.ensures.network b is c.loop-edge.invariant.each) in
     let size : c.loop-edge.graph.vertices ≡ ports_below i odd (vertices i + 1) = ap (λ (g : Multigraph). g.vertices) c.loop-edge.invariant.graph ∙ ap (λ (g : Multigraph). g.vertices) c.requires.start in
-    subst (λ (n : ℕ). IsEdgeWithin n (record { u = c.take_ports-u.result.0; v = c.take_ports-u.result.1; w = to_z w64 (of_z w64 c.edge-item.result.w) })) (sym size)
+    subst (λ (n : ℕ). IsEdgeWithin n (record { u = slice_index c.loop-edge.next (e.u - 1) + 1; v = slice_index c.loop-edge.next (e.v - 1) + 1; w = e.w })) (sym size)
     (subst (IsEdgeWithin (ports_below i odd (vertices i + 1))) (sym edge) (link-within i odd k items.ensures.network b))
 
 pub loop-edge-preserved : goal.loop-edge-preserved
@@ -67,17 +66,16 @@ loop-edge-preserved c =
     let i = c.args.instance.now in
     let odd = odd_at c.args.parity i in
     let k = c.loop-edge.edge-index in
+    let e = c.edge-item.result in
     let items = c.edge_list-edge-items in
     let b = place i items.result.now k items.ensures.list c.loop-edge-test.true in
-    let is = item i items.result.now k c.edge-item.result items.ensures.list c.loop-edge-test.true c.edge-item.is in
-    let ports = next-ports i odd c.loop-edge.next k c.edge-item.result items.ensures.network b is c.loop-edge.invariant.each in
-    let weighs : to_z w64 (of_z w64 c.edge-item.result.w) ≡ c.edge-item.result.w = search rules in
-    let edge = added-link i odd k c.edge-item.result c.take_ports-u.result.0 c.take_ports-u.result.1 (to_z w64 (of_z w64 c.edge-item.result.w)) is (c.take_ports-u.ensures.u ∙ ports.0) (c.take_ports-u.ensures.v ∙ ports.1) weighs in
+    let is = item i items.result.now k e items.ensures.list c.loop-edge-test.true c.edge-item.is in
+    let edge = added-link i odd c.loop-edge.next k e is (next-ports i odd c.loop-edge.next k e items.ensures.network b is c.loop-edge.invariant.each) in
     record {
-      graph = grown-link (between_ports i odd) c.loop-edge.graph c.add.new.self c.args.graph.now.vertices k (record { u = c.take_ports-u.result.0; v = c.take_ports-u.result.1; w = to_z w64 (of_z w64 c.edge-item.result.w) }) c.loop-edge.invariant.graph c.in_ok-add.ensures.added edge;
-      size = c.take_ports-u.ensures.size ∙ c.loop-edge.invariant.size;
+      graph = grown-link (between_ports i odd) c.loop-edge.graph c.add_link.new.graph c.args.graph.now.vertices k (record { u = slice_index c.loop-edge.next (e.u - 1) + 1; v = slice_index c.loop-edge.next (e.v - 1) + 1; w = e.w }) c.loop-edge.invariant.graph c.in_ok-add_link.ensures.added edge;
+      size = c.in_ok-add_link.ensures.size ∙ c.loop-edge.invariant.size;
       each = λ t below.
           let long = c.requires.size in
           let same = c.loop-edge.invariant.size in
-          next-step i odd k t (slice_index c.loop-edge.next t) (slice_index c.take_ports-u.new.next t) c.edge-item.result is (c.loop-edge.invariant.each t below) (c.take_ports-u.ensures.each t (omega (arith, below, long, same)));
+          next-step i odd k t (slice_index c.loop-edge.next t) (slice_index c.add_link.new.next t) e is (c.loop-edge.invariant.each t below) (c.in_ok-add_link.ensures.each t (omega (arith, below, long, same)));
     }

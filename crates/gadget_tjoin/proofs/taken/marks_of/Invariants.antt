@@ -4,6 +4,6 @@ use Rattle.gadget_tjoin.proofs.taken.marks_of.Given as goal
 
 abbrev pub invariant-loop-edge : goal.invariant-loop-edge
 invariant-loop-edge l = record {
-  size : length l.marks.items ≡ l.count;
-  each : (k : ℕ) → k < l.count → slice_index_or l.marks.items k false ≡ holds (take l.edge-index l.edges) (k + 1);
+  size : length l.marks.items ≡ length l.instance.edges;
+  each : (k : ℕ) → k < length l.instance.edges → slice_index_or l.marks.items k false ≡ holds (take l.edge-index l.edges) (k + 1);
 }
