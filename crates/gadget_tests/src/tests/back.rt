@@ -1,0 +1,118 @@
+ghost use Rattle.std.specs.Prelude.{◌≡◌, true, All, count_by};
+ghost use Rattle.graph_theory.specs.Graph.{IsEdgeNumber, edge_of, touches};
+ghost use Rattle.gadget_base.specs.Certified.{IsPerfectList};
+
+use super::there::graph_of;
+use gadget_match::{extract_copies, extract_double};
+use mb_base::{EdgeId, OutOfMemory, Sequence, VertexId};
+use mb_problem::{Answer, Instance, Join, Kind, Parity};
+use std::alloc::Global;
+use weighted_graph::Graph;
+
+/// Whether `v` is an end of an edge.
+fn meets(graph: &Graph, e: EdgeId, v: VertexId) -> bool
+    requires { IsEdgeNumber graph.now e }
+    ensures { result ≡ touches (edge_of graph.now e) v }
+{
+    let (from, to, _) = graph.edge(e);
+    from == v || to == v
+}
+
+/// How many of the listed edges have `v` as an end.
+fn count_at(graph: &Graph, edges: &[EdgeId], v: VertexId) -> usize
+    requires { All (IsEdgeNumber graph.now) edges.now }
+    ensures { result ≡ count_by (λ e. touches (edge_of graph.now e) v) edges.now }
+{
+    let mut count = 0;
+    for e in edges {
+        if meets(graph, *e, v) {
+            count += 1;
+        }
+    }
+    count
+}
+
+/// Whether all are numbers of edges.
+fn are_numbers(graph: &Graph, edges: &[EdgeId]) -> bool
+    ensures { result ≡ true → All (IsEdgeNumber graph.now) edges.now }
+{
+    let most = graph.edges();
+    for e in edges {
+        if e.number() == 0 {
+            return false;
+        }
+        if e.number() > most {
+            return false;
+        }
+    }
+    true
+}
+
+/// Whether each vertex is an end of exactly one of the listed edges.
+fn is_perfect(graph: &Graph, edges: &[EdgeId]) -> bool
+    ensures { result ≡ true → IsPerfectList graph.now edges.now }
+{
+    if !are_numbers(graph, edges) {
+        return false;
+    }
+    let vertices = graph.vertices();
+    for k in 0..vertices {
+        if count_at(graph, edges, VertexId::new(k + 1)) != 1 {
+            return false;
+        }
+    }
+    true
+}
+
+/// The edges of these numbers.
+fn numbered(alloc: Global, numbers: &[u32]) -> Result<Vec<EdgeId>, OutOfMemory> {
+    let mut edges = Vec::new(alloc);
+    for number in numbers {
+        edges.push(EdgeId::new(*number))?;
+    }
+    Ok(edges)
+}
+
+/// The counts that edges stand for, where they are a perfect matching of the graph of the kind.
+pub fn counts_of(
+    alloc: Global,
+    instance: &Instance,
+    kind: Kind,
+    numbers: &[u32],
+) -> Result<Option<Sequence<u32>>, OutOfMemory> {
+    let Some(graph) = graph_of(alloc, instance, kind)? else {
+        return Ok(None);
+    };
+    let edges = numbered(alloc, numbers)?;
+    if !is_perfect(&graph, &edges) {
+        return Ok(None);
+    }
+    let answer = match kind {
+        Kind::Match => extract_double(alloc, instance, &edges)?,
+        Kind::BMatch => extract_copies(alloc, instance, &edges)?,
+        Kind::CapMatch => gadget_cap::extract(alloc, instance, false, &edges)?,
+        Kind::FFactor => gadget_cap::extract(alloc, instance, true, &edges)?,
+        Kind::Perfect | Kind::TJoin | Kind::Postman | Kind::Path => Answer::Nothing,
+    };
+    match answer {
+        Answer::Counts(counts) => Ok(Some(counts)),
+        _ => Ok(None),
+    }
+}
+
+/// The join that edges stand for, where they are a perfect matching of the graph of the joins.
+pub fn join_of(
+    alloc: Global,
+    instance: &Instance,
+    numbers: &[u32],
+) -> Result<Option<Join>, OutOfMemory> {
+    let Some(graph) = graph_of(alloc, instance, Kind::TJoin)? else {
+        return Ok(None);
+    };
+    let edges = numbered(alloc, numbers)?;
+    if !is_perfect(&graph, &edges) {
+        return Ok(None);
+    }
+    let join = gadget_tjoin::extract(alloc, instance, &Parity::Values, &edges)?;
+    Ok(Some(join))
+}

@@ -1,0 +1,55 @@
+ghost use Rattle.std.specs.Prelude.{◌≡◌, IfOk, IfSome};
+ghost use Rattle.gadget_base.specs.Certified.{gadget_graph};
+
+use gadget_cap::capped;
+use gadget_match::{copies, double};
+use gadget_tjoin::ports;
+use mb_base::OutOfMemory;
+use mb_problem::{Instance, Kind, Parity, gadget_size};
+use std::alloc::Global;
+use weighted_graph::Graph;
+
+/// The graph of an instance's certificates, where it is within the limits. A path's graph isn't built
+/// here: it is that of its joins.
+pub fn graph_of(
+    alloc: Global,
+    instance: &Instance,
+    kind: Kind,
+) -> Result<Option<Graph>, OutOfMemory>
+    ensures { IfOk result (λ found. IfSome found (λ h. h ≡ gadget_graph kind instance.now)) }
+{
+    let (vertices, edges) = gadget_size(instance, kind);
+    if vertices > 4096 {
+        return Ok(None);
+    }
+    if edges > 1_048_576 {
+        return Ok(None);
+    }
+    let graph = match kind {
+        Kind::Match => double(alloc, instance)?,
+        Kind::BMatch => copies(alloc, instance)?,
+        Kind::CapMatch => capped(alloc, instance, false)?,
+        Kind::FFactor => capped(alloc, instance, true)?,
+        Kind::Postman => ports(alloc, instance, &Parity::OddDegrees)?,
+        Kind::TJoin => ports(alloc, instance, &Parity::Values)?,
+        Kind::Perfect => instance.graph()?,
+        Kind::Path => return Ok(None),
+    };
+    Ok(Some(graph))
+}
+
+/// Whether a graph has so many vertices and exactly these edges.
+pub fn is_graph(graph: &Graph, vertices: u32, edges: &[(u32, u32, i64)]) -> bool {
+    if graph.vertices() != vertices {
+        return false;
+    }
+    if graph.edge_list().len() != edges.len() {
+        return false;
+    }
+    for (k, edge) in graph.edge_list().iter().enumerate() {
+        if (edge.u.number(), edge.v.number(), edge.w) != edges[k] {
+            return false;
+        }
+    }
+    true
+}
