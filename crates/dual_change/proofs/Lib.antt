@@ -1,0 +1,4 @@
+pub mod Pulls
+pub mod Inside
+pub mod Applied
+pub mod Raised
