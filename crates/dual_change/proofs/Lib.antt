@@ -2,3 +2,5 @@ pub mod Pulls
 pub mod Inside
 pub mod Applied
 pub mod Raised
+pub mod UnderWay
+pub mod Least

@@ -3,6 +3,7 @@
 #![tactic(auto)]
 
 mod event;
+mod look;
 mod raise;
 
 pub use event::{Event, Next};
