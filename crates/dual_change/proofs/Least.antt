@@ -93,6 +93,30 @@ module _ (s : State) (depth : ℕ → ℕ) (graph : IsGraph s.graph) (nested : I
       (λ p. (subst (IsOutermost s) p.1 v, subst (IsOutermost s) p.0 u))
       j
 
+  -- the events that an edge or a blossom lets come
+  none_left : (x : ℤ) → x -ℤ x ≡ pos 0
+  none_left x = omega (arith, ints)
+
+  pub leads_expand : (b : ℕ) → holds (names_of s.blossoms) b ≡ true → IsOutermost s b → s.label b ≡ Inner → pos 0 ≤ℤ s.dual b → Leads s (s.dual b) (Expand b)
+  leads_expand b name is lab low = record { low = low; possible = record { blossom = name; outermost = is; inner = lab; empty = left_inner (s.dual b) b is lab ∙ none_left (s.dual b) } }
+
+  module _ (st : IsSearchState s depth) where
+    pub leads_grow : (e a b f : ℕ) → IsEdgeNumber s.graph e → Joins s.graph s.blossoms e a b → s.label a ≡ Outer → s.label b ≡ Out → s.mate b ≡ Some f → Leads s (slack_of s e) (Grow e)
+    leads_grow e a b f is j la lb has =
+        let both = joined_outer e a b is j in
+        record {
+          low = st.slacks e is;
+          possible = record { near = a; far = b; tight = record { edge = is; tight = left_to_out (slack_of s e) e a b is j la lb ∙ none_left (slack_of s e) }; joins = j; near_is = both.0; far_is = both.1; near_outer = la; far_out = lb; mate_edge = f; has_mate = has };
+        }
+
+    pub leads_augment : (e a b : ℕ) → IsEdgeNumber s.graph e → Joins s.graph s.blossoms e a b → s.label a ≡ Outer → s.label b ≡ Out → s.mate b ≡ None → Leads s (slack_of s e) (Augment e)
+    leads_augment e a b is j la lb none =
+        let both = joined_outer e a b is j in
+        record {
+          low = st.slacks e is;
+          possible = record { near = a; far = b; tight = record { edge = is; tight = left_to_out (slack_of s e) e a b is j la lb ∙ none_left (slack_of s e) }; joins = j; near_is = both.0; far_is = both.1; near_outer = la; far_out = lb; exposed = none };
+        }
+
   module _ (st : IsSearchState s depth) (one : HasOneTree s) where
     -- an edge between two outer nodes: they are in one tree, and its slack is even
     one_root : (a b : ℕ) → IsOutermost s a → IsOutermost s b → s.label a ≡ Outer → s.label b ≡ Outer → root_of s a ≡ root_of s b
@@ -119,26 +143,6 @@ module _ (s : State) (depth : ℕ → ℕ) (graph : IsGraph s.graph) (nested : I
         plain : (x k : ℤ) → x ≡ pos 0 +ℤ (k +ℤ k) → x ≡ k +ℤ k
         plain x k e = omega (arith, ints)
 
-    -- the events that an edge or a blossom lets come
-    none_left : (x : ℤ) → x -ℤ x ≡ pos 0
-    none_left x = omega (arith, ints)
-
-    pub leads_grow : (e a b f : ℕ) → IsEdgeNumber s.graph e → Joins s.graph s.blossoms e a b → s.label a ≡ Outer → s.label b ≡ Out → s.mate b ≡ Some f → Leads s (slack_of s e) (Grow e)
-    leads_grow e a b f is j la lb has =
-        let both = joined_outer e a b is j in
-        record {
-          low = st.slacks e is;
-          possible = record { near = a; far = b; tight = record { edge = is; tight = left_to_out (slack_of s e) e a b is j la lb ∙ none_left (slack_of s e) }; joins = j; near_is = both.0; far_is = both.1; near_outer = la; far_out = lb; mate_edge = f; has_mate = has };
-        }
-
-    pub leads_augment : (e a b : ℕ) → IsEdgeNumber s.graph e → Joins s.graph s.blossoms e a b → s.label a ≡ Outer → s.label b ≡ Out → s.mate b ≡ None → Leads s (slack_of s e) (Augment e)
-    leads_augment e a b is j la lb none =
-        let both = joined_outer e a b is j in
-        record {
-          low = st.slacks e is;
-          possible = record { near = a; far = b; tight = record { edge = is; tight = left_to_out (slack_of s e) e a b is j la lb ∙ none_left (slack_of s e) }; joins = j; near_is = both.0; far_is = both.1; near_outer = la; far_out = lb; exposed = none };
-        }
-
     pub leads_shrink : (e a b : ℕ) (half : ℤ) → IsEdgeNumber s.graph e → Joins s.graph s.blossoms e a b → a ≢ b → s.label a ≡ Outer → s.label b ≡ Outer → slack_of s e ≡ half +ℤ half → Leads s half (Shrink e)
     leads_shrink e a b half is j ne la lb twice =
         let both = joined_outer e a b is j in
@@ -158,9 +162,6 @@ module _ (s : State) (depth : ℕ → ℕ) (graph : IsGraph s.graph) (nested : I
             one_tree = root_applied s half a ∙ one_root a b both.0 both.1 la lb ∙ sym (root_applied s half b);
           };
         }
-
-    pub leads_expand : (b : ℕ) → holds (names_of s.blossoms) b ≡ true → IsOutermost s b → s.label b ≡ Inner → pos 0 ≤ℤ s.dual b → Leads s (s.dual b) (Expand b)
-    leads_expand b name is lab low = record { low = low; possible = record { blossom = name; outermost = is; inner = lab; empty = left_inner (s.dual b) b is lab ∙ none_left (s.dual b) } }
 
     -- what comes no later than all edges and all blossoms let it is next
     pub record MindsAll (next : Next) : Type 0 where

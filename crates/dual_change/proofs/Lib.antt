@@ -4,3 +4,5 @@ pub mod Applied
 pub mod Raised
 pub mod UnderWay
 pub mod Least
+pub mod Found
+pub mod Ends

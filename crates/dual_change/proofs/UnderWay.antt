@@ -1,10 +1,8 @@
 -- A search while a change of its duals is under way: the nodes up to a number have their share.
-use Rattle.std.proofs.Common.{◌≡◌, ℕ, ◌+◌, ◌<◌, ◌≤◌, ℤ, pos, ◌+ℤ◌, ◌≤ℤ◌, true, List, [], ◌∷◌, refl, sym, ap, ◌∙◌, subst, arith, ⊎_elim}
-use Rattle.std.specs.List.{AllByRecursion}
+use Rattle.std.proofs.Common.{◌≡◌, ℕ, ◌+◌, ◌<◌, ◌≤◌, ℤ, pos, ◌+ℤ◌, ◌≤ℤ◌, true, List, refl, sym, ap, ◌∙◌, subst, arith, ⊎_elim}
 use Rattle.std.proofs.lemmas.Bool.{or_cases}
 use Rattle.graph_theory.specs.Parts.{holds}
-use Rattle.blossom_arena.specs.Family.{Blossom, IsDual, dual_at, is_vertex, is_node, names_of}
-use Rattle.blossom_arena.proofs.Lists.{each_at}
+use Rattle.blossom_arena.specs.Family.{IsDual, dual_at, is_vertex, is_node, names_of}
 use Rattle.blossom_arena.proofs.Nested.{outermost_parts, vertex_range}
 use Rattle.alt_forest.specs.declared.search.Search.{Search}
 use Rattle.alt_forest.specs.State.{State, IsOutermost, IsSearchState}
@@ -12,7 +10,7 @@ use Rattle.alt_forest.specs.Trees.{node_limit}
 use Rattle.alt_forest.specs.Searches.{HasShape, IsSound, state_of, put}
 use Rattle.alt_forest.proofs.Places.{nested_of}
 use Rattle.dual_change.specs.Changes.{change, applied, IsWithin, StaysInRange}
-use Rattle.dual_change.proofs.Applied.{dual_stays, applied_state}
+use Rattle.dual_change.proofs.Applied.{dual_stays, applied_state, low_at}
 use Rattle.dual_change.proofs.Raised.{partly, partly_none, partly_all, partly_next, partly_step}
 
 -- the search with other duals
@@ -51,14 +49,7 @@ module _ (s : Search) (d : ℤ) (k : ℕ) (t : Search) (u : UnderWay s d k t) wh
       (λ m. m)
       (or_cases (is_vertex s.graph.vertices (k + 1)) (holds (names_of s.arena.blossoms) (k + 1)) node) in
       subst (λ x. pos 0 ≤ℤ x) (sym next_dual)
-      (dual_stays (state_of s) d sound.shape.graph.graph nested within (k + 1) name (low_at s.arena.blossoms (k + 1) sound.state.duals name))
-    where
-      low_at : (bs : List Blossom) (x : ℕ) → AllByRecursion (λ (b : Blossom). pos 0 ≤ℤ dual_at s.arena.duals b.node) bs → holds (names_of bs) x ≡ true → pos 0 ≤ℤ dual_at s.arena.duals x
-      low_at bs x all e = each_at (λ y. pos 0 ≤ℤ dual_at s.arena.duals y) (names_of bs) x (by_names bs all) e
-        where
-          by_names : (bs : List Blossom) → AllByRecursion (λ (b : Blossom). pos 0 ≤ℤ dual_at s.arena.duals b.node) bs → AllByRecursion (λ y. pos 0 ≤ℤ dual_at s.arena.duals y) (names_of bs)
-          by_names [] all = tt
-          by_names (b ∷ bs) all = (all.0, by_names bs all.1)
+      (dual_stays (state_of s) d sound.shape.graph.graph nested within (k + 1) name (low_at (dual_at s.arena.duals) s.arena.blossoms (k + 1) sound.state.duals name))
 
   pub under_next : (r : Search) → HasShape r → dual_at r.arena.duals ≡ put (dual_at t.arena.duals) (k + 1) ((applied (state_of t) d).dual (k + 1)) → r ≡ with_duals t r.arena.duals → UnderWay s d (k + 1) r
   under_next r shape duals rest = record {

@@ -7,4 +7,5 @@ mod look;
 mod raise;
 
 pub use event::{Event, Next};
+pub use look::find;
 pub use raise::apply;
