@@ -20,7 +20,7 @@ use Rattle.dual_change.specs.declared.event.Next.{Next}
 use Rattle.dual_change.specs.declared.event.Next.TheVariants.{Grow as NextGrow, Shrink as NextShrink, Augment as NextAugment, Expand as NextExpand, Stuck}
 use Rattle.dual_change.specs.Changes.{share, change, applied, IsWithin, HasOneTree, IsPossible, IsLeast, IsStuck, IsNext, IsNextWithin}
 use Rattle.dual_change.specs.Candidates.{change_of, IsAtMost, ComesBy, Leads, IsCandidate, MindsEdge, MindsBlossom}
-use Rattle.dual_change.proofs.Applied.{change_outer, slack_labels, u_outer, v_outer}
+use Rattle.dual_change.proofs.Applied.{change_outer, slack_labels, u_outer, v_outer, low_at}
 
 -- a change moves no tree
 path_applied : (s : State) (d : ℤ) (k a : ℕ) → path_within k (applied s d) a ≡ path_within k s a
@@ -117,8 +117,28 @@ module _ (s : State) (depth : ℕ → ℕ) (graph : IsGraph s.graph) (nested : I
           possible = record { near = a; far = b; tight = record { edge = is; tight = left_to_out (slack_of s e) e a b is j la lb ∙ none_left (slack_of s e) }; joins = j; near_is = both.0; far_is = both.1; near_outer = la; far_out = lb; exposed = none };
         }
 
+    -- an edge between two outer nodes of one tree has even slack
+    pub even_by_root : (e a b : ℕ) → IsEdgeNumber s.graph e → Joins s.graph s.blossoms e a b → s.label a ≡ Outer → s.label b ≡ Outer → root_of s a ≡ root_of s b → (half : ℤ) × (slack_of s e ≡ half +ℤ half)
+    even_by_root e a b is j la lb root =
+        let w = edge_of_within s.graph e graph.ends is in
+        let u : ℕ = (edge_of s.graph e).u in
+        let v : ℕ = (edge_of s.graph e).v in
+        let labels : (s.label (outermost s.blossoms u) ≡ Outer) × (s.label (outermost s.blossoms v) ≡ Outer) = ⊎_elim
+        (λ p. (ap s.label p.0 ∙ la, ap s.label p.1 ∙ lb))
+        (λ p. (ap s.label p.0 ∙ lb, ap s.label p.1 ∙ la)) j in
+        let roots : root_of s (outermost s.blossoms u) ≡ root_of s (outermost s.blossoms v) = ⊎_elim
+        (λ p. ap (root_of s) p.0 ∙ root ∙ sym (ap (root_of s) p.1))
+        (λ p. ap (root_of s) p.0 ∙ sym root ∙ sym (ap (root_of s) p.1)) j in
+        let same : SameParity (cover s u) (cover s v) = trees_have_parity s depth u v graph nested st (range_vertex s.graph.vertices u w.u_low w.u_high) (range_vertex s.graph.vertices v w.v_low w.v_high)
+        (λ q. outer_not_out (sym labels.0 ∙ q)) (λ q. outer_not_out (sym labels.1 ∙ q)) roots in
+        let half = even_slack s e same in
+        (half.0, plain (slack_of s e) half.0 half.1)
+      where
+        plain : (x k : ℤ) → x ≡ pos 0 +ℤ (k +ℤ k) → x ≡ k +ℤ k
+        plain x k e = omega (arith, ints)
+
   module _ (st : IsSearchState s depth) (one : HasOneTree s) where
-    -- an edge between two outer nodes: they are in one tree, and its slack is even
+    -- two outer nodes are in one tree
     one_root : (a b : ℕ) → IsOutermost s a → IsOutermost s b → s.label a ≡ Outer → s.label b ≡ Outer → root_of s a ≡ root_of s b
     one_root a b a_is b_is la lb =
         one (root_of s a) (root_of s b)
@@ -126,22 +146,7 @@ module _ (s : State) (depth : ℕ → ℕ) (graph : IsGraph s.graph) (nested : I
         (ways_lead s depth b nested st b_is (λ q. outer_not_out (sym lb ∙ q))).root
 
     pub slack_even : (e a b : ℕ) → IsEdgeNumber s.graph e → Joins s.graph s.blossoms e a b → s.label a ≡ Outer → s.label b ≡ Outer → (half : ℤ) × (slack_of s e ≡ half +ℤ half)
-    slack_even e a b is j la lb =
-        let both = joined_outer e a b is j in
-        let w = edge_of_within s.graph e graph.ends is in
-        let u : ℕ = (edge_of s.graph e).u in
-        let v : ℕ = (edge_of s.graph e).v in
-        let labels : (s.label (outermost s.blossoms u) ≡ Outer) × (s.label (outermost s.blossoms v) ≡ Outer) = ⊎_elim
-        (λ p. (ap s.label p.0 ∙ la, ap s.label p.1 ∙ lb))
-        (λ p. (ap s.label p.0 ∙ lb, ap s.label p.1 ∙ la)) j in
-        let same : SameParity (cover s u) (cover s v) = trees_have_parity s depth u v graph nested st (range_vertex s.graph.vertices u w.u_low w.u_high) (range_vertex s.graph.vertices v w.v_low w.v_high)
-        (λ q. outer_not_out (sym labels.0 ∙ q)) (λ q. outer_not_out (sym labels.1 ∙ q))
-        (one_root (outermost s.blossoms u) (outermost s.blossoms v) (u_outer s (pos 0) graph nested e is) (v_outer s (pos 0) graph nested e is) labels.0 labels.1) in
-        let half = even_slack s e same in
-        (half.0, plain (slack_of s e) half.0 half.1)
-      where
-        plain : (x k : ℤ) → x ≡ pos 0 +ℤ (k +ℤ k) → x ≡ k +ℤ k
-        plain x k e = omega (arith, ints)
+    slack_even e a b is j la lb = let both = joined_outer e a b is j in even_by_root st e a b is j la lb (one_root a b both.0 both.1 la lb)
 
     pub leads_shrink : (e a b : ℕ) (half : ℤ) → IsEdgeNumber s.graph e → Joins s.graph s.blossoms e a b → a ≢ b → s.label a ≡ Outer → s.label b ≡ Outer → slack_of s e ≡ half +ℤ half → Leads s half (Shrink e)
     leads_shrink e a b half is j ne la lb twice =
@@ -162,6 +167,23 @@ module _ (s : State) (depth : ℕ → ℕ) (graph : IsGraph s.graph) (nested : I
             one_tree = root_applied s half a ∙ one_root a b both.0 both.1 la lb ∙ sym (root_applied s half b);
           };
         }
+
+    -- where nothing can come there is no bound
+    pub stuck_none : IsStuck s → HasNoBound
+    stuck_none stuck = record {
+      to_out = λ e a b is j la lb. by_mate e a b is j la lb (s.mate b) refl;
+      between = λ e a b is j ne la lb.
+          let half = slack_even e a b is j la lb in
+          let l = leads_shrink e a b half.0 is j ne la lb half.1 in
+          stuck half.0 (Shrink e) l.low l.possible;
+      inner = λ b name is lab.
+          let l = leads_expand b name is lab (low_at s.dual s.blossoms b st.duals name) in
+          stuck (s.dual b) (Expand b) l.low l.possible;
+    }
+      where
+        by_mate : (e a b : ℕ) → IsEdgeNumber s.graph e → Joins s.graph s.blossoms e a b → s.label a ≡ Outer → s.label b ≡ Out → (o : Option ℕ) → s.mate b ≡ o → ⊥
+        by_mate e a b is j la lb None none = let l = leads_augment st e a b is j la lb none in stuck (slack_of s e) (Augment e) l.low l.possible
+        by_mate e a b is j la lb (Some f) has = let l = leads_grow st e a b f is j la lb has in stuck (slack_of s e) (Grow e) l.low l.possible
 
     -- what comes no later than all edges and all blossoms let it is next
     pub record MindsAll (next : Next) : Type 0 where

@@ -6,3 +6,7 @@ pub mod UnderWay
 pub mod Least
 pub mod Found
 pub mod Ends
+pub mod Reps
+pub mod Ascending
+pub mod Heads
+pub mod Barrier

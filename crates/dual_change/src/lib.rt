@@ -3,9 +3,11 @@
 #![tactic(auto)]
 
 mod event;
+mod law;
 mod look;
 mod raise;
 
 pub use event::{Event, Next};
+pub use law::laws;
 pub use look::find;
 pub use raise::apply;
