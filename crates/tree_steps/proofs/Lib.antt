@@ -1,0 +1,4 @@
+pub mod Joints
+pub mod Gap
+pub mod Grown
+pub mod Shrunk

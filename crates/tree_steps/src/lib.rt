@@ -1,0 +1,3 @@
+//! The steps of a search that change its trees: a tree grows, a blossom is shrunk or expanded.
+//! It stands on `mb_base`, `graph_theory`, `weighted_graph`, `blossom_arena` and `alt_forest`.
+#![tactic(auto)]
