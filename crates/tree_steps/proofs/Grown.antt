@@ -61,3 +61,10 @@ grow_keeps s depth e mate st g pair =
     let hung = gap_hung (record s { label = label }) after (λ a. eqb a far || false) taken.1.fit far e g.near parent (put_here s.parent far (Some e)) (put_other s.parent far (Some e))
     g.tight.edge (joins_turned s.graph s.blossoms e g.near far g.joins) g.tight.tight g.near_is (others g.near near_not_far near_not_mate ∙ g.near_outer) (omega (arith, near_same, taken.1.inner)) in
     (after, rehung_state s label parent depth after st (λ a is. fits_all (grown s e far mate) after (λ b. not (eqb b far) && (eqb b far || false)) a (closed a far) (hung a is)))
+
+-- the state by its writes
+pub grown_is : (s : State) (l1 l2 : ℕ → Label) (p : ℕ → Option ℕ) (far mate f m e : ℕ) → l1 ≡ put s.label far Inner → l2 ≡ put l1 mate Outer → p ≡ put s.parent far (Some e) → far ≡ f → mate ≡ m → rehung s l2 p ≡ grown s e f m
+grown_is s l1 l2 p far mate f m e first second third far_is mate_is =
+    let labels : l2 ≡ put (put s.label f Inner) m Outer = second ∙ ap (λ (l : ℕ → Label). put l mate Outer) (first ∙ ap (λ a. put s.label a Inner) far_is) ∙ ap (λ a. put (put s.label f Inner) a Outer) mate_is in
+    let parents : p ≡ put s.parent f (Some e) = third ∙ ap (λ a. put s.parent a (Some e)) far_is in
+    ap (λ l. rehung s l p) labels ∙ ap (rehung s (put (put s.label f Inner) m Outer)) parents
