@@ -2,3 +2,5 @@ pub mod Joints
 pub mod Gap
 pub mod Grown
 pub mod Shrunk
+pub mod Mirror
+pub mod Ways
