@@ -4,3 +4,4 @@ pub mod Grown
 pub mod Shrunk
 pub mod Mirror
 pub mod Ways
+pub mod Meeting
