@@ -5,3 +5,5 @@ pub mod Shrunk
 pub mod Mirror
 pub mod Ways
 pub mod Meeting
+pub mod ReadHops
+pub mod Pushed

@@ -11,7 +11,9 @@ use Rattle.alt_forest.proofs.Relabelled.{outer_not_inner, some_not_none}
 use Rattle.alt_forest.proofs.Walk.{some_same, other_node_joins}
 use Rattle.tree_steps.specs.Circuits.{before, circuit_of}
 use Rattle.tree_steps.proofs.Joints.{partner_unique}
-use Rattle.tree_steps.proofs.Ways.{Hop, IsHop, IsWay, links_up, IsShrinkable, circuit_shrinks}
+use Rattle.tree_steps.specs.declared.hops.Hop.{Hop}
+use Rattle.tree_steps.specs.Ways.{IsHop, IsWay, links_up}
+use Rattle.tree_steps.proofs.Ways.{IsShrinkable, circuit_shrinks}
 
 -- nodes one above the other
 abbrev pub IsTrace : State → ℕ → List ℕ → Type 0
@@ -67,7 +69,7 @@ hopped s depth x f st is outer has =
     let i = (st.labels q w.1.outer).inner says.0 in
     let apart : q ≢ i.up = λ r. let same : depth q ≡ depth i.up = ap depth r in absurd (omega (arith, i.falls)) in
     (record { pair = f; inner = q; by = i.edge; up = i.up }, record {
-      is_hop = record { is = is; mate = has; is_mate = w.1; lower = says.1; edge = i.is_edge; joins = i.joins; tight = i.tight; lowest = i.falls };
+      is_hop = record { is = is; mate = has; is_mate = w.1; parent = i.parent; lower = says.1; edge = i.is_edge; joins = i.joins; tight = i.tight; lowest = i.falls };
       inner = says.0;
       first = ap (λ l. far_end s (up_edge_by s l x) x) outer ∙ ap (λ o. far_end s o x) has ∙ other_node_joins s.graph s.blossoms f x q w.1.joins w.1.different;
       second = ap (λ l. far_end s (up_edge_by s l q) q) says.0 ∙ ap (λ o. far_end s o q) i.parent ∙ other_node_joins s.graph s.blossoms i.edge q i.up i.joins apart;

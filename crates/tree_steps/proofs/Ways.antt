@@ -10,35 +10,11 @@ use Rattle.blossom_arena.specs.Family.{is_outermost, in_ring, nodes_of, IsCircui
 use Rattle.blossom_arena.proofs.Lists.{AllNew, distinct_from_new}
 use Rattle.alt_forest.specs.declared.label.Label.TheVariants.{Outer}
 use Rattle.alt_forest.specs.State.{State, IsOutermost, Joins, slack_of, IsTight, next_node, IsChainTo, IsRing, IsMate, IsSearchState}
+use Rattle.tree_steps.specs.declared.hops.Hop.{Hop}
+use Rattle.tree_steps.specs.Ways.{IsHop, IsWay, links_up}
 use Rattle.tree_steps.specs.Circuits.{mirror, last_edge, circuit_of}
 use Rattle.tree_steps.proofs.Joints.{joins_turned, mate_turned, mate_unique}
 use Rattle.tree_steps.proofs.Mirror.{mirror_chain, mirror_nodes, mirror_edges, mirror_length, mirror_has, mirror_new}
-
--- from an outer node by its mate to an inner node, and by that one's parent to an outer node
-pub record Hop : Type 0 where
-  pub pair : ℕ
-  pub inner : ℕ
-  pub by : ℕ
-  pub up : ℕ
-
-pub record IsHop (s : State) (depth : ℕ → ℕ) (x : ℕ) (h : Hop) : Type 0 where
-  pub is : IsOutermost s x
-  pub mate : s.mate x ≡ Some h.pair
-  pub is_mate : IsMate s x h.pair h.inner
-  pub lower : depth h.inner < depth x
-  pub edge : IsEdgeNumber s.graph h.by
-  pub joins : Joins s.graph s.blossoms h.by h.inner h.up
-  pub tight : slack_of s h.by ≡ pos 0
-  pub lowest : depth h.up < depth h.inner
-
-abbrev pub IsWay : State → (ℕ → ℕ) → ℕ → List Hop → ℕ → Type 0
-IsWay s depth x [] top = x ≡ top
-IsWay s depth x (h ∷ hs) top = IsHop s depth x h × IsWay s depth h.up hs top
-
--- the links of a way, its last node left out
-abbrev pub links_up : ℕ → List Hop → List Link
-links_up x [] = []
-links_up x (h ∷ hs) = record { node = x; edge = h.pair } ∷ (record { node = h.inner; edge = h.by } ∷ links_up h.up hs)
 
 pub record WayLinks (s : State) (depth : ℕ → ℕ) (x : ℕ) (ls : List Link) (top k : ℕ) : Type 0 where
   pub chain : IsChainTo s.graph s.blossoms ls top

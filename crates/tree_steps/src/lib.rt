@@ -4,5 +4,6 @@
 #![tactic(auto)]
 
 mod growth;
+mod hops;
 
 pub use growth::grow;
