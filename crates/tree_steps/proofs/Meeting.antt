@@ -69,7 +69,7 @@ hopped s depth x f st is outer has =
     let i = (st.labels q w.1.outer).inner says.0 in
     let apart : q ≢ i.up = λ r. let same : depth q ≡ depth i.up = ap depth r in absurd (omega (arith, i.falls)) in
     (record { pair = f; inner = q; by = i.edge; up = i.up }, record {
-      is_hop = record { is = is; mate = has; is_mate = w.1; parent = i.parent; lower = says.1; edge = i.is_edge; joins = i.joins; tight = i.tight; lowest = i.falls };
+      is_hop = record { is = is; outer = outer; mate = has; is_mate = w.1; inner_label = says.0; parent = i.parent; lower = says.1; edge = i.is_edge; joins = i.joins; tight = i.tight; lowest = i.falls };
       inner = says.0;
       first = ap (λ l. far_end s (up_edge_by s l x) x) outer ∙ ap (λ o. far_end s o x) has ∙ other_node_joins s.graph s.blossoms f x q w.1.joins w.1.different;
       second = ap (λ l. far_end s (up_edge_by s l q) q) says.0 ∙ ap (λ o. far_end s o q) i.parent ∙ other_node_joins s.graph s.blossoms i.edge q i.up i.joins apart;

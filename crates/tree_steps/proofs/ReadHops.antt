@@ -1,8 +1,10 @@
 -- A hop is read off the lists.
-use Rattle.std.proofs.Common.{◌≡◌, ◌≢◌, ℕ, ◌<◌, List, [], ◌∷◌, Option, Some, refl, sym, ap, ap₂, ◌∙◌, subst, arith}
-use Rattle.alt_forest.specs.State.{State, IsOutermost}
-use Rattle.alt_forest.specs.Trees.{other_node}
+use Rattle.std.proofs.Common.{◌≡◌, ◌≢◌, ℕ, ◌<◌, List, [], ◌∷◌, length, Option, Some, refl, sym, ap, ap₂, ◌∙◌, subst, arith}
+use Rattle.alt_forest.specs.State.{State, IsOutermost, IsSearchState}
+use Rattle.blossom_arena.specs.Family.{IsNested}
+use Rattle.alt_forest.specs.Trees.{other_node, far_end, up_edge_by, up_of, path_of}
 use Rattle.alt_forest.proofs.Walk.{other_node_joins}
+use Rattle.alt_forest.proofs.Roots.{path_up}
 use Rattle.tree_steps.specs.declared.hops.Hop.{Hop}
 use Rattle.tree_steps.specs.Ways.{IsHop, IsWay}
 
@@ -29,3 +31,13 @@ up_read s depth x h inner by up is inner_is by_is read =
 
 pub same_hop : (a b : Hop) → a.pair ≡ b.pair → a.inner ≡ b.inner → a.by ≡ b.by → a.up ≡ b.up → a ≡ b
 same_hop a b p q r t = λ i. record { pair = p i; inner = q i; by = r i; up = t i }
+
+-- a hop leaves two nodes of the path behind
+pub hop_shorter : (s : State) (depth : ℕ → ℕ) (x : ℕ) (h : Hop) → IsNested s.graph.vertices s.blossoms → IsSearchState s depth → (rank : ℕ → ℕ) → IsHop s rank x h → length (path_of s h.up) < length (path_of s x)
+hop_shorter s depth x h nested st rank is =
+    let first : up_of s x ≡ h.inner = ap (λ l. far_end s (up_edge_by s l x) x) is.outer ∙ ap (λ o. far_end s o x) is.mate ∙ other_node_joins s.graph s.blossoms h.pair x h.inner is.is_mate.joins is.is_mate.different in
+    let apart : h.inner ≢ h.up = λ e. let same : rank h.inner ≡ rank h.up = ap rank e in absurd (omega (arith, is.lowest)) in
+    let second : up_of s h.inner ≡ h.up = ap (λ l. far_end s (up_edge_by s l h.inner) h.inner) is.inner_label ∙ ap (λ o. far_end s o h.inner) is.parent ∙ other_node_joins s.graph s.blossoms h.by h.inner h.up is.joins apart in
+    let a = path_up s depth nested st x h.inner is.is first in
+    let b = path_up s depth nested st h.inner h.up is.is_mate.outer second in
+    omega (arith, ap length a, ap length b)

@@ -2,14 +2,17 @@
 use Rattle.std.specs.Prelude.{◌≡◌, ℕ, ◌<◌, pos, List, [], ◌∷◌, Some}
 use Rattle.graph_theory.specs.Graph.{IsEdgeNumber}
 use Rattle.blossom_arena.specs.declared.links.Link.{Link}
+use Rattle.alt_forest.specs.declared.label.Label.TheVariants.{Outer, Inner}
 use Rattle.alt_forest.specs.State.{State, IsOutermost, Joins, slack_of, IsMate}
 use Rattle.tree_steps.specs.declared.hops.Hop.{Hop}
 
 -- from an outer node by its mate to an inner node, and by that one's parent to an outer node
 pub record IsHop (s : State) (depth : ℕ → ℕ) (x : ℕ) (h : Hop) : Type 0 where
   pub is : IsOutermost s x
+  pub outer : s.label x ≡ Outer
   pub mate : s.mate x ≡ Some h.pair
   pub is_mate : IsMate s x h.pair h.inner
+  pub inner_label : s.label h.inner ≡ Inner
   pub parent : s.parent h.inner ≡ Some h.by
   pub lower : depth h.inner < depth x
   pub edge : IsEdgeNumber s.graph h.by
