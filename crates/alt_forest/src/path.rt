@@ -137,6 +137,34 @@ impl<'a> Iterator for RootPath<'a> {
 }
 
 impl Search {
+    /// The edge to the mate of an outermost node, if it has one.
+    pub fn mate(&self, node: NodeId) -> Option<EdgeId>
+        requires shape { HasShape self.now }
+        requires outer { IsOutermost (state_of self.now) node }
+        ensures mate { result ≡ edge_in self.now.mates.items node }
+    {
+        mate_of(self, node.number())
+    }
+
+    /// The edge to the parent of an outermost node, which means something for inner nodes alone.
+    pub fn parent(&self, node: NodeId) -> Option<EdgeId>
+        requires shape { HasShape self.now }
+        requires outer { IsOutermost (state_of self.now) node }
+        ensures parent { result ≡ edge_in self.now.parents.items node }
+    {
+        parent_of(self, node.number())
+    }
+
+    /// The outermost node at the other end of an edge from this one. It counts no step.
+    pub fn other_node(&self, e: EdgeId, node: NodeId) -> NodeId
+        requires shape { HasShape self.now }
+        requires edge { IsEdgeNumber self.now.graph e }
+        ensures node { result ≡ other_node self.now.graph self.now.arena.blossoms e node }
+        ensures outer { IsOutermost (state_of self.now) result }
+    {
+        NodeId::new(other_node(self, e, node.number()))
+    }
+
     /// The nodes from one in a tree to the root of that tree, both included (chapter 24). It takes no
     /// memory.
     pub fn path_to_root(&self, node: NodeId) -> RootPath<'_>
