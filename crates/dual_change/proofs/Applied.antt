@@ -29,7 +29,7 @@ change_outer s d a is = ap (λ q. cond q (share d (s.label a)) (pos 0)) is
 pub change_none : (s : State) (d : ℤ) (a : ℕ) → is_outermost s.graph.vertices s.blossoms a ≡ false → change s d a ≡ pos 0
 change_none s d a is = ap (λ q. cond q (share d (s.label a)) (pos 0)) is
 
-change_child : (s : State) (d : ℤ) (a : ℕ) → is_child s.blossoms a ≡ true → change s d a ≡ pos 0
+pub change_child : (s : State) (d : ℤ) (a : ℕ) → is_child s.blossoms a ≡ true → change s d a ≡ pos 0
 change_child s d a c = change_none s d a (none (is_node s.graph.vertices s.blossoms a) (is_child s.blossoms a) c)
   where
     none : (p q : Bool) → q ≡ true → (p && not q) ≡ false

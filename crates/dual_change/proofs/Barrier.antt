@@ -23,26 +23,12 @@ use Rattle.alt_forest.proofs.Parity.{one_class}
 use Rattle.alt_forest.proofs.Relabelled.{some_not_none}
 use Rattle.alt_forest.proofs.Walk.{some_same, other_node_joins}
 use Rattle.dual_change.specs.Laws.{inner_vertices}
+use Rattle.dual_change.proofs.Pairs.{is_inner, is_outer, nodes_labelled, in_labelled, of_labelled, new_labelled, inner_fewer}
 use Rattle.dual_change.proofs.Inside.{LiesWithin, rings_within}
 use Rattle.dual_change.proofs.Least.{HasNoBound}
 use Rattle.dual_change.proofs.Reps.{rep_edge, rep_related}
 use Rattle.dual_change.proofs.Ascending.{holds-picked, picked_ascends, new_from_ascending, holds-map, new-map}
 use Rattle.dual_change.proofs.Heads.{head_of, head_together, same_head, class_of, InClass, in_class, of_class, odd_heads, HeadsOdd, of_heads, counted}
-
--- the label of a test that passes
-is_inner : (l : Label) → is_label l Inner ≡ true → l ≡ Inner
-is_inner Outer e = absurd (both_ways false refl e)
-is_inner Inner e = refl
-is_inner Out e = absurd (both_ways false refl e)
-
-is_outer : (l : Label) → is_label l Outer ≡ true → l ≡ Outer
-is_outer Outer e = refl
-is_outer Inner e = absurd (both_ways false refl e)
-is_outer Out e = absurd (both_ways false refl e)
-
--- the outermost nodes of a label
-abbrev pub nodes_labelled : State → Label → List ℕ
-nodes_labelled s l = filter (λ a. is_label (s.label a) l) (outer_nodes s.graph.vertices s.blossoms)
 
 module _ (s : State) (depth : ℕ → ℕ) (graph : IsGraph s.graph) (nested : IsNested s.graph.vertices s.blossoms) where
   abbrev label_of : ℕ → Label
@@ -50,20 +36,6 @@ module _ (s : State) (depth : ℕ → ℕ) (graph : IsGraph s.graph) (nested : I
 
   abbrev removed : List ℕ
   removed = inner_vertices s
-
-  -- whether an outermost node has a label
-  in_labelled : (l : Label) (a : ℕ) → holds (nodes_labelled s l) a ≡ true → IsOutermost s a × (is_label (s.label a) l ≡ true)
-  in_labelled l a h =
-      let p = and_parts (holds (outer_nodes s.graph.vertices s.blossoms) a) (is_label (s.label a) l) (sym (holds-filter (λ x. is_label (s.label x) l) (outer_nodes s.graph.vertices s.blossoms) a) ∙ h) in
-      (sym (holds-outer_nodes s.graph.vertices s.blossoms a nested) ∙ p.0, p.1)
-
-  of_labelled : (l : Label) (a : ℕ) → IsOutermost s a → is_label (s.label a) l ≡ true → holds (nodes_labelled s l) a ≡ true
-  of_labelled l a is lab =
-      holds-filter (λ x. is_label (s.label x) l) (outer_nodes s.graph.vertices s.blossoms) a
-      ∙ and_from (holds (outer_nodes s.graph.vertices s.blossoms) a) (is_label (s.label a) l) (holds-outer_nodes s.graph.vertices s.blossoms a nested ∙ is) lab
-
-  new_labelled : (l : Label) → AllNew (nodes_labelled s l)
-  new_labelled l = new-filter (λ x. is_label (s.label x) l) (outer_nodes s.graph.vertices s.blossoms) (new-outer_nodes s.graph.vertices s.blossoms nested)
 
   -- the vertices that are removed
   removed_is : (v : ℕ) → is_vertex s.graph.vertices v ≡ true → holds removed v ≡ is_label (label_of v) Inner
@@ -214,60 +186,17 @@ module _ (s : State) (depth : ℕ → ℕ) (graph : IsGraph s.graph) (nested : I
       outer_few =
           let outs : List ℕ = nodes_labelled s Outer in
           let few : length (map node_head outs) ≤ length (odd_heads s.graph removed graph) = length-within (map node_head outs) (odd_heads s.graph removed graph)
-          (new-map node_head outs (new_labelled Outer) (λ a b ha hb same.
-          let pa = in_labelled Outer a ha in
-          let pb = in_labelled Outer b hb in
+          (new-map node_head outs (new_labelled s nested Outer) (λ a b ha hb same.
+          let pa = in_labelled s nested Outer a ha in
+          let pb = in_labelled s nested Outer b hb in
           let fa = first_vertex a pa.0 in
           let fb = first_vertex b pb.0 in
           sym fa.1 ∙ same_node (first_of a) (first_of b) (ap s.label fa.1 ∙ is_outer (s.label a) pa.1) same ∙ fb.1))
           (λ h m.
           let p = holds-map node_head outs h m in
-          let q = in_labelled Outer p.0 p.1 in
+          let q = in_labelled s nested Outer p.0 p.1 in
           subst (λ x. holds (odd_heads s.graph removed graph) x ≡ true) p.2 (of_heads s.graph removed graph (node_head p.0) (node_heads p.0 q.0 (is_outer (s.label p.0) q.1)))) in
           omega (arith, few, length-map outs node_head)
-
-      -- each inner node has its own outer mate, and the root is one more
-      abbrev child_of : ℕ → ℕ
-      child_of a = far_end s (s.mate a) a
-
-      pub record HasChild (a : ℕ) : Type 0 where
-        pub edge : ℕ
-        pub mate : IsMate s a edge (child_of a)
-        pub outer : s.label (child_of a) ≡ Outer
-
-      child_is : (a : ℕ) → holds (nodes_labelled s Inner) a ≡ true → HasChild a
-      child_is a h =
-          let p = in_labelled Inner a h in
-          let i = (st.labels a p.0).inner (is_inner (s.label a) p.1) in
-          let at : child_of a ≡ i.child = ap (λ o. far_end s o a) i.mate ∙ other_node_joins s.graph s.blossoms i.child_edge a i.child i.is_mate.joins i.is_mate.different in
-          record { edge = i.child_edge; mate = subst (IsMate s a i.child_edge) (sym at) i.is_mate; outer = ap s.label at ∙ i.child_outer }
-
-      children_differ : (a b : ℕ) → HasChild a → HasChild b → child_of a ≡ child_of b → a ≡ b
-      children_differ a b x y same =
-          let edges : x.edge ≡ y.edge = some_same x.edge y.edge (sym x.mate.back ∙ ap s.mate same ∙ y.mate.back) in
-          let back : Joins s.graph s.blossoms x.edge (child_of a) a = ⊎_elim (λ p. inr p) (λ p. inl p) x.mate.joins in
-          let home : Joins s.graph s.blossoms y.edge (child_of b) b = ⊎_elim (λ p. inr p) (λ p. inl p) y.mate.joins in
-          let here : Joins s.graph s.blossoms x.edge (child_of a) b = subst (λ e. Joins s.graph s.blossoms e (child_of a) b) (sym edges) (subst (λ c. Joins s.graph s.blossoms y.edge c b) (sym same) home) in
-          sym (other_node_joins s.graph s.blossoms x.edge (child_of a) a back (λ q. x.mate.different (sym q)))
-          ∙ other_node_joins s.graph s.blossoms x.edge (child_of a) b here (λ q. y.mate.different (sym (sym same ∙ q)))
-
-      inner_fewer : (root : ℕ) → IsRoot s root → length (nodes_labelled s Inner) < length (nodes_labelled s Outer)
-      inner_fewer root r =
-          let inns : List ℕ = nodes_labelled s Inner in
-          let few : length (root ∷ map child_of inns) ≤ length (nodes_labelled s Outer) = length-within (root ∷ map child_of inns) (nodes_labelled s Outer)
-          (false_from_ne_true (holds (map child_of inns) root) (λ m.
-          let p = holds-map child_of inns root m in
-          let c = child_is p.0 p.1 in
-          some_not_none c.edge (sym (sym r.exposed ∙ ap s.mate (sym p.2) ∙ c.mate.back))),
-          new-map child_of inns (new_labelled Inner) (λ a b ha hb same. children_differ a b (child_is a ha) (child_is b hb) same))
-          (λ x m. ⊎_elim
-          (λ here. subst (λ y. holds (nodes_labelled s Outer) y ≡ true) (eqb-true root x here) (of_labelled Outer root r.outermost (ap (λ l. is_label l Outer) r.outer)))
-          (λ more.
-          let p = holds-map child_of inns x more in
-          let c = child_is p.0 p.1 in
-          subst (λ y. holds (nodes_labelled s Outer) y ≡ true) p.2 (of_labelled Outer (child_of p.0) c.mate.outer (ap (λ l. is_label l Outer) c.outer)))
-          (or_cases (eqb root x) (holds (map child_of inns) x) m)) in
-          omega (arith, few, length-map inns child_of)
 
       -- as many inner nodes at least as removed vertices
       removed_few : length removed ≤ length (nodes_labelled s Inner)
@@ -280,7 +209,7 @@ module _ (s : State) (depth : ℕ → ℕ) (graph : IsGraph s.graph) (nested : I
           let lab : s.label a ≡ Inner = is_inner (s.label a) p.1 in
           let alone : members_of s.blossoms a ≡ a ∷ [] = members_of_vertex s.graph.vertices s.blossoms a nested (inner_vertex a has.0 lab) in
           let same : a ≡ v = ⊎_elim (λ t. eqb-true a v t) (λ f. absurd (both_ways false refl f)) (or_cases (eqb a v) false (sym (ap (λ ms. holds ms v) alone) ∙ has.1)) in
-          subst (λ x. holds (nodes_labelled s Inner) x ≡ true) same (of_labelled Inner a has.0 p.1))
+          subst (λ x. holds (nodes_labelled s Inner) x ≡ true) same (of_labelled s nested Inner a has.0 p.1))
 
       pub barrier : (root : ℕ) → IsRoot s root → IsBarrier s.graph removed
-      barrier root r = (length (odd_heads s.graph removed graph), counted s.graph removed graph, omega (arith, removed_few, inner_fewer root r, outer_few))
+      barrier root r = (length (odd_heads s.graph removed graph), counted s.graph removed graph, omega (arith, removed_few, inner_fewer s nested depth st root r, outer_few))

@@ -1,5 +1,5 @@
 -- Steps of the pass over edges and blossoms.
-use Rattle.std.proofs.Common.{◌≡◌, ◌≢◌, ◌⊎◌, ℕ, ◌+◌, ◌≤◌, ℤ, ◌+ℤ◌, ◌≤ℤ◌, true, false, eqb, List, [], ◌∷◌, Option, Some, None, refl, sym, ap, ◌∙◌, subst, arith, ⊎_elim, inl, inr}
+use Rattle.std.proofs.Common.{◌≡◌, ◌≢◌, ◌⊎◌, ℕ, ◌+◌, ◌≤◌, ℤ, ◌+ℤ◌, ◌≤ℤ◌, true, false, eqb, List, [], ◌∷◌, refl, sym, ap, ◌∙◌, subst, arith, ⊎_elim, inl, inr}
 use Rattle.std.specs.Prelude.{MatchOption}
 use Rattle.std.proofs.lemmas.Int.{ints}
 use Rattle.std.proofs.lemmas.Bool.{eqb-true, eqb-false, or_cases}
@@ -11,11 +11,6 @@ use Rattle.alt_forest.proofs.Relabelled.{outer_not_out}
 use Rattle.dual_change.specs.declared.event.Next.{Next}
 use Rattle.dual_change.specs.declared.event.Next.TheVariants.{Shrink as NextShrink}
 use Rattle.dual_change.specs.Candidates.{ComesBy, IsCandidate, MindsEdge, MindsBlossom}
-
--- a node without no mate has one
-pub mated : (o : Option ℕ) → (o ≡ None → ⊥) → (f : ℕ) × (o ≡ Some f)
-mated None h = absurd (h refl)
-mated (Some f) h = (f, refl)
 
 -- one of two candidates is one
 pub either_candidate : (s : State) (p q r : Next) → (r ≡ p) ⊎ (r ≡ q) → IsCandidate s p → IsCandidate s q → IsCandidate s r

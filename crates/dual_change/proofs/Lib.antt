@@ -9,4 +9,6 @@ pub mod Ends
 pub mod Reps
 pub mod Ascending
 pub mod Heads
+pub mod Pairs
 pub mod Barrier
+pub mod Total

@@ -23,14 +23,6 @@ fn half(twice: i64) -> i64
     twice / 2
 }
 
-/// Whether nothing is kept for a node.
-fn has_none(edges: &[Option<EdgeId>], node: u32) -> bool
-    requires { node < length edges.now }
-    ensures { (result ≡ true) ↔ (edge_in edges.now node ≡ None) }
-{
-    edges[node as usize].is_none()
-}
-
 /// The change that leads to what comes, if something does.
 fn change_of(next: &Next) -> Option<i64>
     ensures { result ≡ change_of next.now }
@@ -85,10 +77,10 @@ fn to_out<L: Ledger>(
     ensures step { steps.new ≡ steps.old + 1 }
 {
     let d = search.slack(graph, e, steps);
-    if has_none(&search.mates, far.number()) {
-        return Next::Augment(e, d);
+    match search.mate(far) {
+        Some(_) => Next::Grow(e, d),
+        None => Next::Augment(e, d),
     }
-    Next::Grow(e, d)
 }
 
 /// What an edge lets come, and when.
