@@ -61,9 +61,11 @@ module _ (s : State) (depth : ℕ → ℕ) (graph : IsGraph s.graph) (nested : I
     link_ring : (ring : List Link) → AllByRecursion (LiesWithin s.graph s.blossoms) ring → AllByRecursion (λ (l : Link). Linked (edge_of s.graph l.edge).u (edge_of s.graph l.edge).v) ring
     link_ring [] w = tt
     link_ring (l ∷ ring) w = (
-      (w.0.one_node,
-      λ lab. rep_edge s.graph (holds removed) l.edge w.0.edge (outer_free (edge_of s.graph l.edge).u (u_vertex l.edge w.0.edge) lab)
-          (outer_free (edge_of s.graph l.edge).v (v_vertex l.edge w.0.edge) (ap s.label (sym w.0.one_node) ∙ lab))),
+      (
+        w.0.one_node,
+        λ lab. rep_edge s.graph (holds removed) l.edge w.0.edge (outer_free (edge_of s.graph l.edge).u (u_vertex l.edge w.0.edge) lab)
+            (outer_free (edge_of s.graph l.edge).v (v_vertex l.edge w.0.edge) (ap s.label (sym w.0.one_node) ∙ lab)),
+      ),
       link_ring ring w.1,
     )
 

@@ -39,8 +39,7 @@ module _ (g : Multigraph) (graph : IsGraph g) where
         let here : in_ring b.ring l.node ≡ true = all l.node (first_in l.node (nodes_of rest)) in
         let next : in_ring b.ring (next_node rest z) ≡ true = next_in z rest zin (λ a r. all a (later_in l.node (nodes_of rest) a r)) in
         let u_is = u_vertex l.edge chain.0 in
-        let v_is = v_vertex l.edge chain.0 in
-        (
+        let v_is = v_vertex l.edge chain.0 in (
           record {
             edge = chain.0;
             one_node = ⊎_elim

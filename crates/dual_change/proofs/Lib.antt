@@ -12,3 +12,4 @@ pub mod Heads
 pub mod Pairs
 pub mod Barrier
 pub mod Total
+pub mod Tested

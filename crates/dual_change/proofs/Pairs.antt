@@ -76,12 +76,13 @@ module _ (s : State) (nested : IsNested s.graph.vertices s.blossoms) (depth : �
   pub inner_fewer : (root : ℕ) → IsRoot s root → length (nodes_labelled s Inner) < length (nodes_labelled s Outer)
   inner_fewer root r =
       let inns : List ℕ = nodes_labelled s Inner in
-      let few : length (root ∷ map (mate_node s) inns) ≤ length (nodes_labelled s Outer) = length-within (root ∷ map (mate_node s) inns) (nodes_labelled s Outer)
-      (false_from_ne_true (holds (map (mate_node s) inns) root) (λ m.
-      let p = holds-map (mate_node s) inns root m in
-      let c = child_is p.0 p.1 in
-      some_not_none c.edge (sym (sym r.exposed ∙ ap s.mate (sym p.2) ∙ c.mate.back))),
-      new-map (mate_node s) inns (new_labelled s nested Inner) (λ a b ha hb same. mates_differ s a b (child_is a ha).edge (child_is b hb).edge (child_is a ha).mate (child_is b hb).mate same))
+      let few : length (root ∷ map (mate_node s) inns) ≤ length (nodes_labelled s Outer) = length-within (root ∷ map (mate_node s) inns) (nodes_labelled s Outer) (
+        false_from_ne_true (holds (map (mate_node s) inns) root) (λ m.
+            let p = holds-map (mate_node s) inns root m in
+            let c = child_is p.0 p.1 in
+            some_not_none c.edge (sym (sym r.exposed ∙ ap s.mate (sym p.2) ∙ c.mate.back))),
+        new-map (mate_node s) inns (new_labelled s nested Inner) (λ a b ha hb same. mates_differ s a b (child_is a ha).edge (child_is b hb).edge (child_is a ha).mate (child_is b hb).mate same),
+      )
       (λ x m. ⊎_elim
       (λ here. subst (λ y. holds (nodes_labelled s Outer) y ≡ true) (eqb-true root x here) (of_labelled s nested Outer root r.outermost (ap (λ l. is_label l Outer) r.outer)))
       (λ more.
@@ -90,4 +91,3 @@ module _ (s : State) (nested : IsNested s.graph.vertices s.blossoms) (depth : �
       subst (λ y. holds (nodes_labelled s Outer) y ≡ true) p.2 (of_labelled s nested Outer (mate_node s p.0) c.mate.outer (ap (λ l. is_label l Outer) c.outer)))
       (or_cases (eqb root x) (holds (map (mate_node s) inns) x) m)) in
       omega (arith, few, length-map inns (mate_node s))
-

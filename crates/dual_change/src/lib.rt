@@ -6,6 +6,8 @@ mod event;
 mod law;
 mod look;
 mod raise;
+#[cfg(test)]
+mod tests;
 
 pub use event::{Event, Next};
 pub use law::laws;

@@ -24,7 +24,7 @@ fn half(twice: i64) -> i64
 }
 
 /// The change that leads to what comes, if something does.
-fn change_of(next: &Next) -> Option<i64>
+pub(crate) fn change_of(next: &Next) -> Option<i64>
     ensures { result ≡ change_of next.now }
 {
     match next {
@@ -44,13 +44,7 @@ fn sooner(one: Next, other: Next) -> Next
 {
     match change_of(&one) {
         Some(d) => match change_of(&other) {
-            Some(c) => {
-                if c < d {
-                    other
-                } else {
-                    one
-                }
-            }
+            Some(c) => { if c < d { other } else { one } }
             None => one,
         },
         None => other,
