@@ -1,12 +1,12 @@
 ghost use Rattle.std.specs.Prelude.{◌≡◌, ◌<◌, ◌≤◌, ◌+◌, ℕ, ℤ, pos, ◌+ℤ◌, ◌≤ℤ◌, true, length};
-ghost use Rattle.blossom_arena.specs.Family.{IsDual, dual_at};
+ghost use Rattle.blossom_arena.specs.Family.{IsDual, dual_at, is_outermost};
 ghost use Rattle.alt_forest.specs.Searches.{HasShape, IsSound, state_of, label_at, put};
 ghost use Rattle.alt_forest.specs.State.{IsOutermost};
 ghost use Rattle.alt_forest.specs.Trees.{node_limit};
 ghost use Rattle.dual_change.specs.Changes.{share, applied, change, IsWithin, StaysInRange, HasOneTree};
 
 use alt_forest::{Label, Search};
-use blossom_arena::NodeId;
+use blossom_arena::{Arena, NodeId};
 use mb_base::Steps;
 use std::sync::ledger::Ledger;
 
@@ -20,6 +20,16 @@ fn share(d: i64, label: Label) -> i64
         Label::Inner => -d,
         Label::Out => 0,
     }
+}
+
+/// Whether this is an outermost node.
+fn is_outer_node(arena: &Arena, node: NodeId) -> bool
+    ensures { result ≡ is_outermost arena.now.vertex_count arena.now.blossoms node }
+{
+    if !arena.is_node(node) {
+        return false;
+    }
+    arena.is_outermost(node)
 }
 
 fn label_in(labels: &[Label], node: u32) -> Label
@@ -40,10 +50,7 @@ fn raise(search: &mut Search, number: u32, d: i64)
     ensures shape { HasShape search.new }
 {
     let node = NodeId::new(number);
-    if !search.arena.is_node(node) {
-        return;
-    }
-    if !search.arena.is_outermost(node) {
+    if !is_outer_node(&search.arena, node) {
         return;
     }
     let more = share(d, label_in(&search.labels, number));

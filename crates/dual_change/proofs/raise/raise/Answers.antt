@@ -11,13 +11,13 @@ use Rattle.dual_change.proofs.raise.raise.Goals as goal
 
 pub label_in-requires : goal.label_in-requires
 label_in-requires c =
-    let is : IsOutermost (state_of c.args.search.now) c.args.number = outer_by c.args.search.now c.args.number c.new-node.result c.requires.shape (sym c.is_outermost.ensures.outer ∙ c.if-not-is_outermost.false) c.new-node.ensures in
+    let is : IsOutermost (state_of c.args.search.now) c.args.number = outer_by c.args.search.now c.args.number c.new-node.result c.requires.shape (sym c.is_outer_node.ensures ∙ c.if-not-is_outer_node.false) c.new-node.ensures in
     omega (arith, label_place c.args.search.now c.args.number c.requires.shape is, c.deref.ensures.len)
 
 pub returns-clause-duals : goal.returns-clause-duals
 returns-clause-duals c =
     let s = c.args.search.now in
-    let is : IsOutermost (state_of s) c.args.number = outer_by s c.args.number c.new-node.result c.requires.shape (sym c.is_outermost.ensures.outer ∙ c.if-not-is_outermost.false) c.new-node.ensures in
+    let is : IsOutermost (state_of s) c.args.number = outer_by s c.args.number c.new-node.result c.requires.shape (sym c.is_outer_node.ensures ∙ c.if-not-is_outer_node.false) c.new-node.ensures in
     let d : to_z w64 (of_z w64 c.args.d) ≡ c.args.d = search rules in
     let back : to_z w64 (of_z w64 c.share-more.result) ≡ c.share-more.result = search rules in
     let label : c.label_in.result ≡ label_at s.labels.items c.args.number = c.label_in.ensures ∙ ap (λ ls. label_at ls c.args.number) c.deref.ensures.value in
