@@ -1,22 +1,21 @@
 -- A change of the duals within the bounds keeps the state of a search.
-use Rattle.std.proofs.Common.{◌≡◌, ◌≢◌, ℕ, ◌<◌, ◌≤◌, ℤ, pos, ◌+ℤ◌, ◌-ℤ◌, ◌≤ℤ◌, Bool, true, false, not, ◌&&◌, eqb, cond, List, [], ◌∷◌, Option, Some, None, refl, sym, ap, ap₂, ◌∙◌, subst, arith, ⊎_elim, inl, inr}
+use Rattle.std.proofs.Common.{◌≡◌, ◌≢◌, ℕ, ℤ, pos, ◌+ℤ◌, ◌-ℤ◌, ◌≤ℤ◌, Bool, true, false, not, ◌&&◌, eqb, cond, List, [], ◌∷◌, Some, refl, sym, ap, ap₂, ◌∙◌, subst, arith, ⊎_elim, inl, inr}
 use Rattle.std.specs.List.{AllByRecursion}
 use Rattle.std.proofs.lemmas.Int.{ints}
 use Rattle.std.proofs.lemmas.Bool.{cases_eq, both_ways, eqb-true, or_cases}
-use Rattle.graph_theory.specs.declared.edge.Edge.{Edge}
 use Rattle.graph_theory.specs.Graph.{IsGraph, IsEdgeNumber, edge_of}
 use Rattle.graph_theory.specs.Parts.{holds}
 use Rattle.graph_theory.proofs.Edges.{edge_of_within}
 use Rattle.blossom_arena.specs.declared.links.Link.{Link}
-use Rattle.blossom_arena.specs.Family.{Blossom, IsNested, is_node, is_child, is_vertex, is_outermost, names_of, outermost}
+use Rattle.blossom_arena.specs.Family.{Blossom, IsNested, is_node, is_child, is_outermost, names_of}
 use Rattle.blossom_arena.specs.Slack.{pull}
 use Rattle.blossom_arena.proofs.Lists.{by_test, first_in, later_in}
-use Rattle.blossom_arena.proofs.Nested.{outermost_parts, range_vertex}
+use Rattle.blossom_arena.proofs.Nested.{range_vertex}
 use Rattle.blossom_arena.proofs.Sets.{outermost_has}
 use Rattle.alt_forest.specs.declared.label.Label.{Label}
 use Rattle.alt_forest.specs.declared.label.Label.TheVariants.{Outer, Inner, Out}
 use Rattle.alt_forest.specs.State.{State, IsOutermost, node_u, node_v, Joins, slack_of, IsTight, IsMate, IsInner, IsSearchState}
-use Rattle.alt_forest.proofs.Relabelled.{outer_not_inner, outer_not_out}
+use Rattle.alt_forest.proofs.Relabelled.{outer_not_inner}
 use Rattle.alt_forest.proofs.Walk.{some_same, other_node_joins}
 use Rattle.dual_change.specs.Changes.{share, change, applied, IsWithin}
 use Rattle.dual_change.proofs.Pulls.{pull-sum, FeelsOuter, feels_outer}

@@ -1,8 +1,8 @@
 -- Where a search is stuck at a tree, each outer node is a component of what is left without the inner vertices, and
 -- there are more of them than inner vertices.
-use Rattle.std.proofs.Common.{◌≡◌, ◌≢◌, ◌⊎◌, ℕ, ◌+◌, ◌<◌, ◌≤◌, ◌%◌, Bool, true, false, ◌&&◌, not, eqb, cond, List, [], ◌∷◌, length, map, slice_index, Option, Some, None, refl, sym, ap, ap₂, ◌∙◌, subst, arith, ⊎_elim, inl, inr}
-use Rattle.std.specs.List.{AllByRecursion, filter, range_with_len}
-use Rattle.std.proofs.lemmas.Bool.{both_ways, cases_eq, eqb-true, eq-eqb, and_parts, and_from, or_cases, false_from_ne_true}
+use Rattle.std.proofs.Common.{◌≡◌, ◌≢◌, ◌⊎◌, ℕ, ◌≤◌, ◌%◌, true, false, ◌&&◌, not, eqb, List, [], ◌∷◌, length, map, slice_index, refl, sym, ap, ◌∙◌, subst, arith, ⊎_elim, inl, inr}
+use Rattle.std.specs.List.{AllByRecursion}
+use Rattle.std.proofs.lemmas.Bool.{both_ways, cases_eq, eqb-true, eq-eqb, and_parts, or_cases}
 use Rattle.std.proofs.lemmas.List.{length-map}
 use Rattle.graph_theory.specs.Graph.{IsGraph, IsEdgeNumber, edge_of}
 use Rattle.graph_theory.specs.Parts.{holds}
@@ -11,24 +11,22 @@ use Rattle.graph_theory.proofs.Edges.{edge_of_within}
 use Rattle.graph_theory.proofs.Members.{holds_first}
 use Rattle.graph_theory.proofs.Components.{together-sym, together-free, together-within}
 use Rattle.blossom_arena.specs.declared.links.Link.{Link}
-use Rattle.blossom_arena.specs.Family.{Blossom, IsNested, is_vertex, is_node, is_outermost, names_of, outermost, members_of}
-use Rattle.blossom_arena.proofs.Lists.{AllNew, holds-filter, new-filter, length-within}
-use Rattle.blossom_arena.proofs.Nested.{outer_nodes, holds-outer_nodes, new-outer_nodes, outermost_parts, vertex_range, range_vertex}
+use Rattle.blossom_arena.specs.Family.{Blossom, IsNested, is_vertex, names_of, outermost, members_of}
+use Rattle.blossom_arena.proofs.Lists.{length-within}
+use Rattle.blossom_arena.proofs.Nested.{outermost_parts, vertex_range, range_vertex}
 use Rattle.blossom_arena.proofs.Sets.{outermost_has, outer_member, outermost_by_member, member_vertex, members_new, members_odd, members_some, members_of_vertex}
 use Rattle.alt_forest.specs.declared.label.Label.{Label}
 use Rattle.alt_forest.specs.declared.label.Label.TheVariants.{Outer, Inner, Out}
-use Rattle.alt_forest.specs.State.{State, IsOutermost, Joins, IsMate, IsSearchState}
-use Rattle.alt_forest.specs.Trees.{IsRoot, far_end, is_label}
+use Rattle.alt_forest.specs.State.{State, IsOutermost, IsSearchState}
+use Rattle.alt_forest.specs.Trees.{IsRoot, is_label}
 use Rattle.alt_forest.proofs.Parity.{one_class}
-use Rattle.alt_forest.proofs.Relabelled.{some_not_none}
-use Rattle.alt_forest.proofs.Walk.{some_same, other_node_joins}
 use Rattle.dual_change.specs.Laws.{inner_vertices}
 use Rattle.dual_change.proofs.Pairs.{is_inner, is_outer, nodes_labelled, in_labelled, of_labelled, new_labelled, inner_fewer}
 use Rattle.dual_change.proofs.Inside.{LiesWithin, rings_within}
 use Rattle.dual_change.proofs.Least.{HasNoBound}
 use Rattle.dual_change.proofs.Reps.{rep_edge, rep_related}
 use Rattle.dual_change.proofs.Ascending.{holds-picked, picked_ascends, new_from_ascending, holds-map, new-map}
-use Rattle.dual_change.proofs.Heads.{head_of, head_together, same_head, class_of, InClass, in_class, of_class, odd_heads, HeadsOdd, of_heads, counted}
+use Rattle.dual_change.proofs.Heads.{head_of, head_together, same_head, class_of, in_class, of_class, odd_heads, HeadsOdd, of_heads, counted}
 
 module _ (s : State) (depth : ℕ → ℕ) (graph : IsGraph s.graph) (nested : IsNested s.graph.vertices s.blossoms) where
   abbrev label_of : ℕ → Label

@@ -1,12 +1,12 @@
 -- The components that a removed set leaves can be counted: each has a least vertex.
-use Rattle.std.proofs.Common.{◌≡◌, ◌≢◌, ℕ, ◌+◌, ◌<◌, ◌≤◌, ◌%◌, Bool, true, false, ◌&&◌, not, eqb, cond, List, [], ◌∷◌, length, slice_index, get_or, All, refl, sym, ap, ◌∙◌, subst, arith, ⊎_elim, inl, inr}
+use Rattle.std.proofs.Common.{◌≡◌, ℕ, ◌≤◌, ◌%◌, Bool, true, false, ◌&&◌, not, eqb, cond, List, length, slice_index, refl, sym, ap, ◌∙◌, subst, arith, ⊎_elim}
 use Rattle.std.specs.List.{filter, range_with_len}
-use Rattle.std.proofs.lemmas.Bool.{both_ways, or_cases, eqb-true, eq-eqb, and_parts, and_from, not-true, not_from_false}
-use Rattle.graph_theory.specs.Graph.{Multigraph, IsGraph, IsEdgeNumber, IsEdgeWithin, edge_of, touches, other_end}
-use Rattle.graph_theory.specs.Parts.{holds, IsVertexSet}
-use Rattle.graph_theory.specs.Barrier.{AreTogether, IsComponent, IsOddHead, IsOddCount}
+use Rattle.std.proofs.lemmas.Bool.{or_cases, eqb-true, eq-eqb, and_parts, and_from, not-true, not_from_false}
+use Rattle.graph_theory.specs.Graph.{Multigraph, IsGraph, IsEdgeNumber, edge_of, touches, other_end}
+use Rattle.graph_theory.specs.Parts.{holds}
+use Rattle.graph_theory.specs.Barrier.{AreTogether, IsOddHead, IsOddCount}
 use Rattle.graph_theory.proofs.Members.{holds_place, holds_first, least_first, same_length}
-use Rattle.graph_theory.proofs.Edges.{edge_of_within, touches-u, other_end-u}
+use Rattle.graph_theory.proofs.Edges.{touches-u, other_end-u}
 use Rattle.graph_theory.proofs.Components.{together-refl, together-trans, together-sym, together-edge, together-free, together-free_start, together-within, closed_has, component_from, component-outside, component-within}
 use Rattle.blossom_arena.specs.Family.{is_vertex}
 use Rattle.blossom_arena.proofs.Lists.{by_test}

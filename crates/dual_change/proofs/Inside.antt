@@ -1,16 +1,14 @@
 -- The edges of a blossom's circuit lie within one outermost node.
-use Rattle.std.proofs.Common.{◌≡◌, ◌≢◌, ℕ, ◌≤◌, Bool, true, false, eqb, cond, List, [], ◌∷◌, length, refl, sym, ap, ◌∙◌, subst, arith, ⊎_elim}
+use Rattle.std.proofs.Common.{◌≡◌, ℕ, true, cond, List, [], ◌∷◌, length, refl, sym, ap, ◌∙◌, arith, ⊎_elim}
 use Rattle.std.specs.List.{AllByRecursion}
-use Rattle.std.proofs.lemmas.Bool.{or_left, eq-eqb}
 use Rattle.graph_theory.specs.Graph.{Multigraph, IsGraph, IsEdgeNumber, edge_of}
-use Rattle.graph_theory.specs.Parts.{holds}
 use Rattle.graph_theory.proofs.Edges.{edge_of_within}
 use Rattle.blossom_arena.specs.declared.links.Link.{Link}
 use Rattle.blossom_arena.specs.Family.{Blossom, IsNested, is_vertex, in_ring, nodes_of, outermost}
 use Rattle.blossom_arena.proofs.Lists.{first_in, later_in}
 use Rattle.blossom_arena.proofs.Nested.{range_vertex}
 use Rattle.blossom_arena.proofs.Sets.{member_by_ring}
-use Rattle.alt_forest.specs.State.{Joins, node_u, node_v, next_node, IsChainTo, IsRing, HasRings}
+use Rattle.alt_forest.specs.State.{node_u, node_v, next_node, IsChainTo, IsRing, HasRings}
 
 -- an edge of a link, both of whose ends lie in one node
 pub record LiesWithin (g : Multigraph) (bs : List Blossom) (l : Link) : Type 0 where

@@ -1,16 +1,15 @@
 -- A change within the bounds is at most each change that makes an event possible; and what it is to be stuck.
-use Rattle.std.proofs.Common.{◌≡◌, ◌≢◌, ◌⊎◌, ℕ, zero, suc, ◌+◌, ◌<◌, ℤ, pos, ◌+ℤ◌, ◌-ℤ◌, ◌≤ℤ◌, true, eqb, cond, List, [], ◌∷◌, Option, Some, None, refl, sym, ap, ap₂, ◌∙◌, subst, arith, ⊎_elim, inl, inr}
+use Rattle.std.proofs.Common.{◌≡◌, ◌≢◌, ℕ, zero, suc, ◌+◌, ℤ, pos, ◌+ℤ◌, ◌-ℤ◌, ◌≤ℤ◌, true, eqb, cond, [], ◌∷◌, Option, Some, None, refl, sym, ap, ◌∙◌, subst, arith, ⊎_elim}
 use Rattle.std.proofs.lemmas.Int.{ints}
 use Rattle.graph_theory.specs.Graph.{IsGraph, IsEdgeNumber, edge_of}
 use Rattle.graph_theory.specs.Parts.{holds}
 use Rattle.graph_theory.proofs.Edges.{edge_of_within}
-use Rattle.blossom_arena.specs.Family.{IsNested, names_of, is_vertex, outermost}
+use Rattle.blossom_arena.specs.Family.{IsNested, names_of, outermost}
 use Rattle.blossom_arena.proofs.Nested.{range_vertex}
 use Rattle.alt_forest.specs.declared.label.Label.{Label}
 use Rattle.alt_forest.specs.declared.label.Label.TheVariants.{Outer, Inner, Out}
 use Rattle.alt_forest.specs.State.{State, IsOutermost, Joins, slack_of, IsSearchState}
-use Rattle.alt_forest.specs.Events.{CanGrow, CanAugment, CanShrink, CanExpand}
-use Rattle.alt_forest.specs.Trees.{far_end, up_edge_by, up_of, node_limit, path_within, path_of, last_of, root_of, cover, SameParity}
+use Rattle.alt_forest.specs.Trees.{far_end, up_edge_by, up_of, node_limit, path_within, last_of, root_of, cover, SameParity}
 use Rattle.alt_forest.proofs.Relabelled.{outer_not_out}
 use Rattle.alt_forest.proofs.Parity.{even_slack}
 use Rattle.alt_forest.proofs.Roots.{ways_lead, trees_have_parity}
@@ -18,8 +17,8 @@ use Rattle.dual_change.specs.declared.event.Event.{Event}
 use Rattle.dual_change.specs.declared.event.Event.TheVariants.{Grow, Shrink, Augment, Expand}
 use Rattle.dual_change.specs.declared.event.Next.{Next}
 use Rattle.dual_change.specs.declared.event.Next.TheVariants.{Grow as NextGrow, Shrink as NextShrink, Augment as NextAugment, Expand as NextExpand, Stuck}
-use Rattle.dual_change.specs.Changes.{share, change, applied, IsWithin, HasOneTree, IsPossible, IsLeast, IsStuck, IsNext, IsNextWithin}
-use Rattle.dual_change.specs.Candidates.{change_of, IsAtMost, ComesBy, Leads, IsCandidate, MindsEdge, MindsBlossom}
+use Rattle.dual_change.specs.Changes.{share, applied, IsWithin, HasOneTree, IsPossible, IsLeast, IsStuck, IsNext, IsNextWithin}
+use Rattle.dual_change.specs.Candidates.{change_of, IsAtMost, Leads, IsCandidate, MindsEdge, MindsBlossom}
 use Rattle.dual_change.proofs.Applied.{change_outer, slack_labels, u_outer, v_outer, low_at}
 
 -- a change moves no tree

@@ -1,21 +1,18 @@
 -- The duals while a change is under way: the nodes up to a number have it.
-use Rattle.std.proofs.Common.{◌≡◌, ◌≢◌, ℕ, suc, ◌+◌, ◌<◌, ◌≤◌, ℤ, pos, ◌+ℤ◌, ◌≤ℤ◌, Bool, true, false, ◌&&◌, not, eqb, leb, cond, List, [], ◌∷◌, length, refl, sym, ap, ◌∙◌, subst, arith, ⊎_elim}
+use Rattle.std.proofs.Common.{◌≡◌, ℕ, ◌+◌, ◌<◌, ℤ, pos, ◌+ℤ◌, true, eqb, leb, cond, List, length, sym, ap, ◌∙◌, subst, arith}
 use Rattle.std.specs.Prelude.{slice_set}
-use Rattle.std.specs.List.{AllByRecursion}
 use Rattle.std.proofs.lemmas.Int.{ints}
-use Rattle.std.proofs.lemmas.Bool.{both_ways, eqb-true, eqb-false, eq-eqb, ne_eqb, leb-true, leb-false, le-leb, false_from_ne_true, or_cases}
+use Rattle.std.proofs.lemmas.Bool.{eqb-true, eqb-false, leb-true, leb-false, le-leb, false_from_ne_true}
 use Rattle.std.proofs.lemmas.List.{get_or-set_other, get_or-set_same}
-use Rattle.graph_theory.specs.Graph.{Multigraph}
-use Rattle.graph_theory.specs.Parts.{holds}
-use Rattle.blossom_arena.specs.Family.{Blossom, IsNested, is_node, is_vertex, is_outermost, names_of, dual_at, room_of}
+use Rattle.blossom_arena.specs.Family.{IsNested, is_outermost, dual_at}
 use Rattle.blossom_arena.proofs.Lists.{by_test}
-use Rattle.blossom_arena.proofs.Nested.{outermost_parts, node_range, vertex_range}
+use Rattle.blossom_arena.proofs.Nested.{outermost_parts, node_range}
 use Rattle.alt_forest.specs.declared.search.Search.{Search}
 use Rattle.alt_forest.proofs.Places.{outer_range}
 use Rattle.alt_forest.specs.State.{State, IsOutermost}
 use Rattle.alt_forest.specs.Trees.{node_limit}
 use Rattle.alt_forest.specs.Searches.{HasShape, state_of, label_at, put}
-use Rattle.dual_change.specs.Changes.{share, change, applied}
+use Rattle.dual_change.specs.Changes.{share, applied}
 use Rattle.dual_change.proofs.Applied.{change_none, change_outer}
 
 -- the nodes of numbers up to k have their share of a change

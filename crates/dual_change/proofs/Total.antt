@@ -1,27 +1,27 @@
 -- A change of d raises the sum of all duals by d for each tree.
-use Rattle.std.proofs.Common.{◌≡◌, ◌≢◌, ℕ, zero, suc, ◌+◌, ◌≤◌, ◌<◌, ℤ, pos, ◌+ℤ◌, ◌-ℤ◌, ◌*ℤ◌, Bool, true, false, not, ◌||◌, ◌&&◌, eqb, cond, List, [], ◌∷◌, length, map, Option, Some, None, refl, sym, ap, ◌∙◌, subst, arith, ⊎_elim, inl, inr}
+use Rattle.std.proofs.Common.{◌≡◌, ℕ, zero, suc, ◌+◌, ◌≤◌, ℤ, pos, ◌+ℤ◌, ◌-ℤ◌, ◌*ℤ◌, Bool, true, false, not, ◌&&◌, cond, List, [], ◌∷◌, length, map, Option, Some, None, refl, sym, ap, ◌∙◌, subst, arith}
 use Rattle.std.specs.Prelude.{is_some}
-use Rattle.std.specs.List.{filter, range_with_len}
+use Rattle.std.specs.List.{filter}
 use Rattle.std.proofs.lemmas.Int.{ints}
-use Rattle.std.proofs.lemmas.Bool.{both_ways, eqb-true, eq-eqb, and_parts, and_from, not-true, not_from_false, or_cases, or_left, or_right}
+use Rattle.std.proofs.lemmas.Bool.{both_ways, and_parts, and_from, or_left, or_right}
 use Rattle.std.proofs.lemmas.List.{length-map}
 use Rattle.std.proofs.lemmas.List.Filters.{length-filter_both}
 use Rattle.graph_theory.specs.Sums.{int_sum_to}
 use Rattle.graph_theory.proofs.SumLemmas.{times-suc, plus-times}
 use Rattle.graph_theory.specs.Parts.{holds}
-use Rattle.blossom_arena.specs.Family.{Blossom, IsNested, is_vertex, is_node, is_child, is_outermost, in_ring, names_of}
-use Rattle.blossom_arena.proofs.Lists.{AllNew, by_test, vertices, holds-vertices, new-vertices, holds-filter, new-filter, length-within, first_in, later_in}
-use Rattle.blossom_arena.proofs.Nested.{outer_nodes, holds-outer_nodes, new-outer_nodes, outermost_parts, node_range, range_vertex}
+use Rattle.blossom_arena.specs.Family.{Blossom, IsNested, is_vertex, is_child, is_outermost, in_ring, names_of}
+use Rattle.blossom_arena.proofs.Lists.{by_test, vertices, holds-filter, new-filter, length-within, first_in, later_in}
+use Rattle.blossom_arena.proofs.Nested.{outer_nodes, holds-outer_nodes, outermost_parts, node_range, range_vertex}
 use Rattle.alt_forest.specs.declared.label.Label.{Label}
 use Rattle.alt_forest.specs.declared.label.Label.TheVariants.{Outer, Inner, Out}
-use Rattle.alt_forest.specs.State.{State, IsOutermost, Joins, IsMate, IsSearchState}
+use Rattle.alt_forest.specs.State.{State, IsOutermost, IsMate, IsSearchState}
 use Rattle.alt_forest.specs.Trees.{far_end, is_label, node_limit}
-use Rattle.alt_forest.proofs.Walk.{some_same, other_node_joins}
+use Rattle.alt_forest.proofs.Walk.{other_node_joins}
 use Rattle.dual_change.specs.Changes.{share, change, applied}
 use Rattle.dual_change.specs.Laws.{dual_sum, dual_total, roots, ChangeRaisesTotal}
 use Rattle.dual_change.proofs.Applied.{change_outer, change_child}
-use Rattle.dual_change.proofs.Ascending.{holds-range, range_ascends, picked_ascends, holds-picked, new_from_ascending, holds-map, new-map}
-use Rattle.dual_change.proofs.Pairs.{is_outer, is_inner, nodes_labelled, in_labelled, of_labelled, new_labelled, mate_node, mates_differ, child_is}
+use Rattle.dual_change.proofs.Ascending.{picked_ascends, holds-picked, new_from_ascending, holds-map, new-map}
+use Rattle.dual_change.proofs.Pairs.{is_outer, nodes_labelled, in_labelled, of_labelled, new_labelled, mate_node, mates_differ, child_is}
 
 -- sums
 sum_add : (y z : ℕ → ℤ) (xs : List ℕ) → dual_sum (λ a. y a +ℤ z a) xs ≡ dual_sum y xs +ℤ dual_sum z xs

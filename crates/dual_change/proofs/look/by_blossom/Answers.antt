@@ -1,4 +1,4 @@
-use Rattle.std.proofs.Common.{◌≡◌, ◌∙◌, ℤ, refl, sym, subst, rules, to_z, of_z}
+use Rattle.std.proofs.Common.{◌≡◌, ◌∙◌, refl, sym, subst, rules, to_z, of_z}
 use mir.Syntax.{w64}
 use Rattle.alt_forest.specs.declared.label.Label.TheVariants.{Inner}
 use Rattle.alt_forest.specs.State.{IsOutermost}

@@ -1,9 +1,7 @@
-use Rattle.std.proofs.Common.{◌≡◌, ◌≢◌, ◌∙◌, ℕ, ℤ, ◌+ℤ◌, sym, ap, subst, rules, to_z, of_z}
+use Rattle.std.proofs.Common.{◌≡◌, ◌≢◌, ◌∙◌, ℕ, sym, subst, rules, to_z, of_z}
 use mir.Syntax.{w64}
-use Rattle.graph_theory.specs.Graph.{Multigraph}
 use Rattle.alt_forest.specs.declared.search.Search.{Search}
 use Rattle.alt_forest.specs.declared.label.Label.TheVariants.{Outer}
-use Rattle.alt_forest.specs.State.{slack_of}
 use Rattle.alt_forest.specs.Searches.{state_of, label_at}
 use Rattle.alt_forest.proofs.Places.{nested_of}
 use Rattle.dual_change.specs.declared.event.Event.TheVariants.{Shrink}

@@ -1,4 +1,4 @@
-use Rattle.std.proofs.Common.{◌≡◌, ℕ, sym, subst}
+use Rattle.std.proofs.Common.{sym, subst}
 use Rattle.graph_theory.specs.Graph.{IsEdgeNumber}
 use Rattle.alt_forest.specs.Searches.{state_of}
 use Rattle.alt_forest.proofs.Places.{nested_of}

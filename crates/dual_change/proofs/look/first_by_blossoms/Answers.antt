@@ -1,4 +1,4 @@
-use Rattle.std.proofs.Common.{◌≡◌, ◌∙◌, ℕ, true, sym, ap}
+use Rattle.std.proofs.Common.{◌∙◌, ap}
 use Rattle.graph_theory.specs.Parts.{holds}
 use Rattle.blossom_arena.specs.Family.{names_of}
 use Rattle.blossom_arena.proofs.Lists.{later_in}

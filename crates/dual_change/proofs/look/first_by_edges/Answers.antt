@@ -1,4 +1,4 @@
-use Rattle.std.proofs.Common.{◌≡◌, ◌∙◌, ℕ, ◌+◌, ap, subst, arith}
+use Rattle.std.proofs.Common.{subst, arith}
 use Rattle.alt_forest.specs.Searches.{state_of}
 use Rattle.dual_change.specs.Candidates.{MindsEdge}
 use Rattle.dual_change.proofs.Found.{either_candidate, minds_next}

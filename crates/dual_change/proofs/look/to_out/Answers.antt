@@ -1,4 +1,4 @@
-use Rattle.std.proofs.Common.{◌≡◌, ◌∙◌, ℕ, ℤ, sym, subst, rules, to_z, of_z}
+use Rattle.std.proofs.Common.{◌≡◌, ◌∙◌, ℕ, sym, subst, rules, to_z, of_z}
 use mir.Syntax.{w64}
 use Rattle.graph_theory.specs.Graph.{IsEdgeNumber}
 use Rattle.alt_forest.specs.Searches.{state_of}

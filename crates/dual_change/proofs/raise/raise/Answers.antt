@@ -1,4 +1,4 @@
-use Rattle.std.proofs.Common.{◌≡◌, ◌∙◌, ℕ, ℤ, ◌+ℤ◌, sym, ap, arith, rules, to_z, of_z}
+use Rattle.std.proofs.Common.{◌≡◌, ◌∙◌, ◌+ℤ◌, sym, ap, arith, rules, to_z, of_z}
 use Rattle.std.specs.Prelude.{slice_set}
 use mir.Syntax.{w64}
 use Rattle.blossom_arena.specs.Family.{Family, dual_at}

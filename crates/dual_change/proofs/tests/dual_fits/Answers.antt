@@ -1,4 +1,4 @@
-use Rattle.std.proofs.Common.{◌≡◌, ◌∙◌, ℤ, pos, negsuc, ◌≤ℤ◌, ap, subst, rules, to_z, of_z}
+use Rattle.std.proofs.Common.{◌≡◌, ◌∙◌, pos, negsuc, ◌≤ℤ◌, ap, subst, rules, to_z, of_z}
 use mir.Syntax.{w64}
 use Rattle.blossom_arena.specs.Family.{dual_at}
 use Rattle.alt_forest.specs.Searches.{state_of}

@@ -1,4 +1,4 @@
-use Rattle.std.proofs.Common.{◌≡◌, ◌∙◌, ℤ, ◌≤◌, sym, subst, arith, rules, to_z, of_z}
+use Rattle.std.proofs.Common.{◌≡◌, ◌≤◌, subst, arith, rules, to_z, of_z}
 use mir.Syntax.{w64}
 use Rattle.blossom_arena.specs.Family.{IsDual}
 use Rattle.alt_forest.specs.State.{IsOutermost}
