@@ -1,0 +1,214 @@
+-- A change of the duals within the bounds keeps the state of a search.
+use Rattle.std.proofs.Common.{◌≡◌, ◌≢◌, ℕ, ℤ, pos, ◌+ℤ◌, ◌-ℤ◌, ◌≤ℤ◌, Bool, true, false, not, ◌&&◌, eqb, cond, List, [], ◌∷◌, Some, refl, sym, ap, ap₂, ◌∙◌, subst, arith, ⊎_elim, inl, inr}
+use Rattle.std.specs.List.{AllByRecursion}
+use Rattle.std.proofs.lemmas.Int.{ints}
+use Rattle.std.proofs.lemmas.Bool.{cases_eq, both_ways, eqb-true, or_cases}
+use Rattle.graph_theory.specs.Graph.{IsGraph, IsEdgeNumber, edge_of}
+use Rattle.graph_theory.specs.Parts.{holds}
+use Rattle.graph_theory.proofs.Edges.{edge_of_within}
+use Rattle.blossom_arena.specs.declared.links.Link.{Link}
+use Rattle.blossom_arena.specs.Family.{Blossom, IsNested, is_node, is_child, is_outermost, names_of}
+use Rattle.blossom_arena.specs.Slack.{pull}
+use Rattle.blossom_arena.proofs.Lists.{by_test, first_in, later_in}
+use Rattle.blossom_arena.proofs.Nested.{range_vertex}
+use Rattle.blossom_arena.proofs.Sets.{outermost_has}
+use Rattle.alt_forest.specs.declared.label.Label.{Label}
+use Rattle.alt_forest.specs.declared.label.Label.TheVariants.{Outer, Inner, Out}
+use Rattle.alt_forest.specs.State.{State, IsOutermost, node_u, node_v, Joins, slack_of, IsTight, IsMate, IsInner, IsSearchState}
+use Rattle.alt_forest.proofs.Relabelled.{outer_not_inner}
+use Rattle.alt_forest.proofs.Walk.{some_same, other_node_joins}
+use Rattle.dual_change.specs.Changes.{share, change, applied, IsWithin}
+use Rattle.dual_change.proofs.Pulls.{pull-sum, FeelsOuter, feels_outer}
+use Rattle.dual_change.proofs.Inside.{LiesWithin, rings_within}
+
+-- what a change adds at a node
+pub change_outer : (s : State) (d : ℤ) (a : ℕ) → IsOutermost s a → change s d a ≡ share d (s.label a)
+change_outer s d a is = ap (λ q. cond q (share d (s.label a)) (pos 0)) is
+
+pub change_none : (s : State) (d : ℤ) (a : ℕ) → is_outermost s.graph.vertices s.blossoms a ≡ false → change s d a ≡ pos 0
+change_none s d a is = ap (λ q. cond q (share d (s.label a)) (pos 0)) is
+
+pub change_child : (s : State) (d : ℤ) (a : ℕ) → is_child s.blossoms a ≡ true → change s d a ≡ pos 0
+change_child s d a c = change_none s d a (none (is_node s.graph.vertices s.blossoms a) (is_child s.blossoms a) c)
+  where
+    none : (p q : Bool) → q ≡ true → (p && not q) ≡ false
+    none true true e = refl
+    none false true e = refl
+    none p false e = absurd (both_ways false refl e)
+
+plain_sum : (x : ℤ) → x +ℤ pos 0 ≡ x
+plain_sum x = omega (arith, ints)
+
+module _ (s : State) (d : ℤ) (graph : IsGraph s.graph) (nested : IsNested s.graph.vertices s.blossoms) where
+  felt : (e : ℕ) → IsEdgeNumber s.graph e → FeelsOuter (change s d) s.blossoms (edge_of s.graph e)
+  felt e is = feels_outer s.graph.vertices (change s d) s.blossoms (edge_of s.graph e) (edge_of_within s.graph e graph.ends is) nested (change_child s d)
+
+  -- the nodes that hold the ends of an edge are outermost
+  pub u_outer : (e : ℕ) → IsEdgeNumber s.graph e → IsOutermost s (node_u s.graph s.blossoms e)
+  u_outer e is = let w = edge_of_within s.graph e graph.ends is in (outermost_has s.graph.vertices s.blossoms (edge_of s.graph e).u nested (range_vertex s.graph.vertices (edge_of s.graph e).u w.u_low w.u_high)).0
+
+  pub v_outer : (e : ℕ) → IsEdgeNumber s.graph e → IsOutermost s (node_v s.graph s.blossoms e)
+  v_outer e is = let w = edge_of_within s.graph e graph.ends is in (outermost_has s.graph.vertices s.blossoms (edge_of s.graph e).v nested (range_vertex s.graph.vertices (edge_of s.graph e).v w.v_low w.v_high)).0
+
+  -- what an edge feels more, it loses
+  loses : (e : ℕ) (z : ℤ) → pull (change s d) s.blossoms (edge_of s.graph e) ≡ z → slack_of (applied s d) e ≡ slack_of s e -ℤ z
+  loses e z f =
+      let sum = pull-sum s.dual (change s d) s.blossoms (edge_of s.graph e) in
+      omega (arith, ints, sum, f)
+
+  -- an edge within a node keeps its slack
+  pub slack_within : (e : ℕ) → IsEdgeNumber s.graph e → node_u s.graph s.blossoms e ≡ node_v s.graph s.blossoms e → slack_of (applied s d) e ≡ slack_of s e
+  slack_within e is same = loses e (pos 0) ((felt e is).within same) ∙ nothing (slack_of s e)
+    where
+      nothing : (x : ℤ) → x -ℤ pos 0 ≡ x
+      nothing x = omega (arith, ints)
+
+  -- an edge between two nodes loses the shares of both
+  pub slack_between : (e a b : ℕ) → IsEdgeNumber s.graph e → Joins s.graph s.blossoms e a b → a ≢ b → slack_of (applied s d) e ≡ slack_of s e -ℤ (share d (s.label a) +ℤ share d (s.label b))
+  slack_between e a b is j ne =
+      loses e (share d (s.label a) +ℤ share d (s.label b)) (⊎_elim
+      (λ p. (felt e is).apart (λ q. ne (sym p.0 ∙ q ∙ p.1)) ∙ ap₂ (λ x y. change s d x +ℤ change s d y) p.0 p.1
+      ∙ ap₂ (λ x y. x +ℤ y) (change_outer s d a (subst (IsOutermost s) p.0 (u_outer e is))) (change_outer s d b (subst (IsOutermost s) p.1 (v_outer e is))))
+      (λ p. (felt e is).apart (λ q. ne (sym p.1 ∙ sym q ∙ p.0)) ∙ ap₂ (λ x y. change s d x +ℤ change s d y) p.0 p.1
+      ∙ ap₂ (λ x y. x +ℤ y) (change_outer s d b (subst (IsOutermost s) p.0 (u_outer e is))) (change_outer s d a (subst (IsOutermost s) p.1 (v_outer e is)))
+      ∙ swap (share d (s.label b)) (share d (s.label a)))
+      j)
+    where
+      swap : (x y : ℤ) → x +ℤ y ≡ y +ℤ x
+      swap x y = omega (arith, ints)
+
+  -- by the labels of its two nodes
+  pub slack_labels : (e a b : ℕ) (k l : Label) → IsEdgeNumber s.graph e → Joins s.graph s.blossoms e a b → a ≢ b → s.label a ≡ k → s.label b ≡ l → slack_of (applied s d) e ≡ slack_of s e -ℤ (share d k +ℤ share d l)
+  slack_labels e a b k l is j ne la lb = slack_between e a b is j ne ∙ ap₂ (λ x y. slack_of s e -ℤ (share d x +ℤ share d y)) la lb
+
+  -- tight edges of trees stay tight
+  stays_outer_inner : (e a b : ℕ) → IsEdgeNumber s.graph e → Joins s.graph s.blossoms e a b → a ≢ b → s.label a ≡ Outer → s.label b ≡ Inner → slack_of (applied s d) e ≡ slack_of s e
+  stays_outer_inner e a b is j ne la lb = slack_labels e a b Outer Inner is j ne la lb ∙ plain (slack_of s e) d
+    where
+      plain : (x y : ℤ) → x -ℤ (y +ℤ (pos 0 -ℤ y)) ≡ x
+      plain x y = omega (arith, ints)
+
+  stays_inner_outer : (e a b : ℕ) → IsEdgeNumber s.graph e → Joins s.graph s.blossoms e a b → a ≢ b → s.label a ≡ Inner → s.label b ≡ Outer → slack_of (applied s d) e ≡ slack_of s e
+  stays_inner_outer e a b is j ne la lb = slack_labels e a b Inner Outer is j ne la lb ∙ plain (slack_of s e) d
+    where
+      plain : (x y : ℤ) → x -ℤ ((pos 0 -ℤ y) +ℤ y) ≡ x
+      plain x y = omega (arith, ints)
+
+  stays_out_out : (e a b : ℕ) → IsEdgeNumber s.graph e → Joins s.graph s.blossoms e a b → a ≢ b → s.label a ≡ Out → s.label b ≡ Out → slack_of (applied s d) e ≡ slack_of s e
+  stays_out_out e a b is j ne la lb = slack_labels e a b Out Out is j ne la lb ∙ plain (slack_of s e)
+    where
+      plain : (x : ℤ) → x -ℤ (pos 0 +ℤ pos 0) ≡ x
+      plain x = omega (arith, ints)
+
+  -- no slack falls below 0
+  module _ (within : IsWithin s d) (low : (e : ℕ) → IsEdgeNumber s.graph e → pos 0 ≤ℤ slack_of s e) where
+    enough : (e a b : ℕ) (k l : Label) → IsEdgeNumber s.graph e → Joins s.graph s.blossoms e a b → a ≢ b → s.label a ≡ k → s.label b ≡ l → (share d k +ℤ share d l) ≤ℤ slack_of s e
+    enough e a b Outer Outer is j ne la lb = within.between e a b is j ne la lb
+    enough e a b Outer Out is j ne la lb = omega (arith, ints, within.to_out e a b is j la lb)
+    enough e a b Out Outer is j ne la lb = let turned : Joins s.graph s.blossoms e b a = ⊎_elim (λ p. inr p) (λ p. inl p) j in omega (arith, ints, within.to_out e b a is turned lb la)
+    enough e a b Outer Inner is j ne la lb = omega (arith, ints, low e is)
+    enough e a b Inner Outer is j ne la lb = omega (arith, ints, low e is)
+    enough e a b Inner Inner is j ne la lb = omega (arith, ints, low e is, within.low)
+    enough e a b Inner Out is j ne la lb = omega (arith, ints, low e is, within.low)
+    enough e a b Out Inner is j ne la lb = omega (arith, ints, low e is, within.low)
+    enough e a b Out Out is j ne la lb = low e is
+
+    slacks_stay : (e : ℕ) → IsEdgeNumber s.graph e → pos 0 ≤ℤ slack_of (applied s d) e
+    slacks_stay e is =
+        let u : ℕ = node_u s.graph s.blossoms e in
+        let v : ℕ = node_v s.graph s.blossoms e in
+        ⊎_elim
+        (λ same. subst (λ x. pos 0 ≤ℤ x) (sym (slack_within e is same)) (low e is))
+        (λ ne. let it = slack_between e u v is (inl (refl, refl)) ne in let room = enough e u v (s.label u) (s.label v) is (inl (refl, refl)) ne refl refl in omega (arith, ints, it, room))
+        (cases_eq u v)
+
+  -- no blossom's dual falls below 0
+  pub dual_stays : IsWithin s d → (b : ℕ) → holds (names_of s.blossoms) b ≡ true → pos 0 ≤ℤ s.dual b → pos 0 ≤ℤ (applied s d).dual b
+  dual_stays within b name low = by_test (is_outermost s.graph.vertices s.blossoms b)
+      (λ is. subst (λ x. pos 0 ≤ℤ (s.dual b +ℤ x)) (sym (change_outer s d b is)) (by_label is (s.label b) refl))
+      (λ not. subst (λ x. pos 0 ≤ℤ (s.dual b +ℤ x)) (sym (change_none s d b not)) (omega (arith, ints, low)))
+    where
+      by_label : IsOutermost s b → (l : Label) → s.label b ≡ l → pos 0 ≤ℤ (s.dual b +ℤ share d l)
+      by_label is Outer lab = omega (arith, ints, low, within.low)
+      by_label is Inner lab = omega (arith, ints, within.inner b name is lab)
+      by_label is Out lab = omega (arith, ints, low)
+
+  duals_stay : IsWithin s d → AllByRecursion (λ (b : Blossom). pos 0 ≤ℤ s.dual b.node) s.blossoms → AllByRecursion (λ (b : Blossom). pos 0 ≤ℤ (applied s d).dual b.node) s.blossoms
+  duals_stay within low = each s.blossoms (λ b name. name) low
+    where
+      each : (bs : List Blossom) → ((b : ℕ) → holds (names_of bs) b ≡ true → holds (names_of s.blossoms) b ≡ true) → AllByRecursion (λ (b : Blossom). pos 0 ≤ℤ s.dual b.node) bs → AllByRecursion (λ (b : Blossom). pos 0 ≤ℤ (applied s d).dual b.node) bs
+      each [] all low = tt
+      each (b ∷ bs) all low = (
+        dual_stays within b.node (all b.node (first_in b.node (names_of bs))) low.0,
+        each bs (λ x e. all x (later_in b.node (names_of bs) x e)) low.1,
+      )
+
+  -- circuits stay tight
+  ring_stays : (ring : List Link) → AllByRecursion (LiesWithin s.graph s.blossoms) ring → AllByRecursion (λ (l : Link). IsTight s l.edge) ring → AllByRecursion (λ (l : Link). IsTight (applied s d) l.edge) ring
+  ring_stays [] w t = tt
+  ring_stays (l ∷ ring) w t = (record { edge = w.0.edge; tight = slack_within l.edge w.0.edge w.0.one_node ∙ t.0.tight }, ring_stays ring w.1 t.1)
+
+  rings_stay : (bs : List Blossom) → AllByRecursion (λ (b : Blossom). AllByRecursion (LiesWithin s.graph s.blossoms) b.ring) bs
+      → AllByRecursion (λ (b : Blossom). AllByRecursion (λ (l : Link). IsTight s l.edge) b.ring) bs → AllByRecursion (λ (b : Blossom). AllByRecursion (λ (l : Link). IsTight (applied s d) l.edge) b.ring) bs
+  rings_stay [] w t = tt
+  rings_stay (b ∷ bs) w t = (ring_stays b.ring w.0 t.0, rings_stay bs w.1 t.1)
+
+  -- the mate of a node, before and after
+  module _ (depth : ℕ → ℕ) (st : IsSearchState s depth) where
+    one_mate : (a e b c : ℕ) → Joins s.graph s.blossoms e a b → a ≢ b → Joins s.graph s.blossoms e a c → a ≢ c → b ≡ c
+    one_mate a e b c j ne k nc = sym (other_node_joins s.graph s.blossoms e a b j ne) ∙ other_node_joins s.graph s.blossoms e a c k nc
+
+    mate_before : (a e b : ℕ) → IsOutermost s a → s.mate a ≡ Some e → IsMate (applied s d) a e b → IsMate s a e b
+    mate_before a e b is has m =
+        let old = st.mates a e is has in
+        subst (IsMate s a e) (one_mate a e old.0 b old.1.joins old.1.different m.joins m.different) old.1
+
+    mate_after : (a e b : ℕ) → IsOutermost s a → s.mate a ≡ Some e → IsMate s a e b → IsMate (applied s d) a e b
+    mate_after a e b is has m = record { edge = m.edge; joins = m.joins; different = m.different; tight = by_label (s.label a) refl ∙ m.tight; outer = m.outer; back = m.back }
+      where
+        by_label : (l : Label) → s.label a ≡ l → slack_of (applied s d) e ≡ slack_of s e
+        by_label Outer lab = stays_outer_inner e a b m.edge m.joins m.different lab ((st.labels a is).outer lab e b has m).0
+        by_label Inner lab =
+            let i = (st.labels a is).inner lab in
+            let edge : i.child_edge ≡ e = some_same i.child_edge e (sym i.mate ∙ has) in
+            let child : i.child ≡ b = one_mate a e i.child b (subst (λ x. Joins s.graph s.blossoms x a i.child) edge i.is_mate.joins) i.is_mate.different m.joins m.different in
+            stays_inner_outer e a b m.edge m.joins m.different lab (ap s.label (sym child) ∙ i.child_outer)
+        by_label Out lab = stays_out_out e a b m.edge m.joins m.different lab ((st.labels a is).out lab e b has m)
+
+    inner_after : (a : ℕ) → IsOutermost s a → s.label a ≡ Inner → IsInner s depth a → IsInner (applied s d) depth a
+    inner_after a is lab i = record {
+      edge = i.edge;
+      up = i.up;
+      parent = i.parent;
+      is_edge = i.is_edge;
+      joins = i.joins;
+      tight = stays_inner_outer i.edge a i.up i.is_edge i.joins (λ q. outer_not_inner (sym i.up_outer ∙ ap s.label (sym q) ∙ lab)) lab i.up_outer ∙ i.tight;
+      up_is = i.up_is;
+      up_outer = i.up_outer;
+      falls = i.falls;
+      child_edge = i.child_edge;
+      child = i.child;
+      mate = i.mate;
+      is_mate = mate_after a i.child_edge i.child is i.mate i.is_mate;
+      child_outer = i.child_outer;
+      rises = i.rises;
+    }
+
+    pub applied_state : IsWithin s d → IsSearchState (applied s d) depth
+    applied_state within = record {
+      rings = st.rings;
+      tight_rings = rings_stay s.blossoms (rings_within s.graph graph s.blossoms nested st.rings) st.tight_rings;
+      slacks = slacks_stay within st.slacks;
+      duals = duals_stay within st.duals;
+      mates = λ a e is has. let m = st.mates a e is has in (m.0, mate_after a e m.0 is has m.1);
+      labels = λ a is. record {
+        outer = λ lab e b has m. (st.labels a is).outer lab e b has (mate_before a e b is has m);
+        inner = λ lab. inner_after a is lab ((st.labels a is).inner lab);
+        out = λ lab e b has m. (st.labels a is).out lab e b has (mate_before a e b is has m);
+      };
+    }
+
+-- the dual of one blossom
+pub low_at : (y : ℕ → ℤ) (bs : List Blossom) (x : ℕ) → AllByRecursion (λ (b : Blossom). pos 0 ≤ℤ y b.node) bs → holds (names_of bs) x ≡ true → pos 0 ≤ℤ y x
+low_at y [] x all e = absurd (both_ways false refl e)
+low_at y (b ∷ bs) x all e = ⊎_elim (λ here. subst (λ a. pos 0 ≤ℤ y a) (eqb-true b.node x here) all.0) (λ more. low_at y bs x all.1 more) (or_cases (eqb b.node x) (holds (names_of bs) x) e)

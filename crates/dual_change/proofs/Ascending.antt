@@ -1,0 +1,74 @@
+-- Ascending lists of vertices, and lists that a function maps.
+use Rattle.std.proofs.Common.{◌≡◌, ℕ, ◌+◌, ◌-◌, ◌<◌, ◌≤◌, Bool, true, false, ◌&&◌, eqb, List, [], ◌∷◌, length, map, get_or, AllPairs, refl, sym, ap, ◌∙◌, subst, arith, ⊎_elim}
+use Rattle.std.specs.List.{filter, range_with_len}
+use Rattle.std.specs.List.Sorted.{IsStrictlyIncreasing}
+use Rattle.std.specs.Cmp.{both_ways as same_tests}
+use Rattle.std.proofs.lemmas.Bool.{both_ways, eqb-true, or_cases, and_parts, false_from_ne_true}
+use Rattle.std.proofs.lemmas.List.FromFn.{length-range_with_len, get_or-range_with_len}
+use Rattle.std.proofs.lemmas.List.Kept.{AllPairs-from_increasing, IsStrictlyIncreasing-filter}
+use Rattle.graph_theory.specs.Parts.{holds, IsVertexSet}
+use Rattle.graph_theory.proofs.Members.{holds_place, holds_at, all_holds, first_less, pairs_tail}
+use Rattle.blossom_arena.specs.Family.{is_vertex}
+use Rattle.blossom_arena.proofs.Lists.{AllNew, holds-filter, first_in, later_in}
+use Rattle.blossom_arena.proofs.Nested.{vertex_range, range_vertex}
+
+pub range_ascends : (n : ℕ) → IsStrictlyIncreasing (range_with_len 1 n)
+range_ascends n = λ k within.
+    let size : length (range_with_len 1 n) ≡ n = length-range_with_len 1 n in
+    let here : get_or (range_with_len 1 n) k 0 ≡ 1 + k = get_or-range_with_len 1 n k 0 (omega (arith, within, size)) in
+    let next : get_or (range_with_len 1 n) (k + 1) 0 ≡ 1 + (k + 1) = get_or-range_with_len 1 n (k + 1) 0 (omega (arith, within, size)) in
+    omega (arith, here, next)
+
+pub holds-range : (n v : ℕ) → holds (range_with_len 1 n) v ≡ is_vertex n v
+holds-range n v = same_tests (holds (range_with_len 1 n) v) (is_vertex n v)
+    (λ h.
+    let size : length (range_with_len 1 n) ≡ n = length-range_with_len 1 n in
+    let p = holds_place (range_with_len 1 n) v h in
+    let low : p.0 < n = omega (arith, p.1, size) in
+    let at : get_or (range_with_len 1 n) p.0 0 ≡ 1 + p.0 = get_or-range_with_len 1 n p.0 0 low in
+    range_vertex n v (omega (arith, at, p.2)) (omega (arith, at, p.2, low)))
+    (λ iv.
+    let size : length (range_with_len 1 n) ≡ n = length-range_with_len 1 n in
+    let range = vertex_range n v iv in
+    let at : get_or (range_with_len 1 n) (v - 1) 0 ≡ 1 + (v - 1) = get_or-range_with_len 1 n (v - 1) 0 (omega (arith, range.0, range.1)) in
+    let same : get_or (range_with_len 1 n) (v - 1) 0 ≡ v = omega (arith, at, range.0) in
+    subst (λ x. holds (range_with_len 1 n) x ≡ true) same (holds_at (range_with_len 1 n) (v - 1) 0 (omega (arith, size, range.0, range.1))))
+
+-- the vertices that pass a test
+pub picked_ascends : (n : ℕ) (p : ℕ → Bool) → IsStrictlyIncreasing (filter p (range_with_len 1 n))
+picked_ascends n p = IsStrictlyIncreasing-filter p (range_with_len 1 n) (range_ascends n)
+
+pub holds-picked : (n : ℕ) (p : ℕ → Bool) (v : ℕ) → holds (filter p (range_with_len 1 n)) v ≡ (is_vertex n v && p v)
+holds-picked n p v = holds-filter p (range_with_len 1 n) v ∙ ap (λ t. t && p v) (holds-range n v)
+
+pub picked_set : (n : ℕ) (p : ℕ → Bool) → IsVertexSet n (filter p (range_with_len 1 n))
+picked_set n p = record {
+  ascending = picked_ascends n p;
+  in_range = all_holds (λ v. (1 ≤ v) × (v ≤ n)) (filter p (range_with_len 1 n)) (λ v h. vertex_range n v (and_parts (is_vertex n v) (p v) (sym (holds-picked n p v) ∙ h)).0);
+}
+
+-- none stands twice in an ascending list
+new_from_pairs : (xs : List ℕ) → AllPairs (λ x y. x < y) xs → AllNew xs
+new_from_pairs [] up = tt
+new_from_pairs (x ∷ xs) up = (false_from_ne_true (holds xs x) (λ h. let less : x < x = first_less x xs x up h in absurd (omega (arith, less))), new_from_pairs xs (pairs_tail x xs up))
+
+pub new_from_ascending : (xs : List ℕ) → IsStrictlyIncreasing xs → AllNew xs
+new_from_ascending xs up = new_from_pairs xs (AllPairs-from_increasing xs up)
+
+-- what a function makes of the numbers of a list
+pub holds-map : (f : ℕ → ℕ) (xs : List ℕ) (y : ℕ) → holds (map f xs) y ≡ true → (x : ℕ) × (holds xs x ≡ true) × (f x ≡ y)
+holds-map f [] y h = absurd (both_ways false refl h)
+holds-map f (x ∷ xs) y h = ⊎_elim
+    (λ here. (x, first_in x xs, eqb-true (f x) y here))
+    (λ more. let p = holds-map f xs y more in (p.0, later_in x xs p.0 p.1, p.2))
+    (or_cases (eqb (f x) y) (holds (map f xs) y) h)
+
+-- numbers that it parts stay different
+pub new-map : (f : ℕ → ℕ) (xs : List ℕ) → AllNew xs → ((x y : ℕ) → holds xs x ≡ true → holds xs y ≡ true → f x ≡ f y → x ≡ y) → AllNew (map f xs)
+new-map f [] new parts = tt
+new-map f (x ∷ xs) new parts = (
+  false_from_ne_true (holds (map f xs) (f x)) (λ h.
+      let p = holds-map f xs (f x) h in
+      both_ways (holds xs x) new.0 (ap (holds xs) (parts x p.0 (first_in x xs) (later_in x xs p.0 p.1) (sym p.2)) ∙ p.1)),
+  new-map f xs new.1 (λ y z hy hz. parts y z (later_in x xs y hy) (later_in x xs z hz)),
+)

@@ -1,0 +1,15 @@
+pub mod Pulls
+pub mod Inside
+pub mod Applied
+pub mod Raised
+pub mod UnderWay
+pub mod Least
+pub mod Found
+pub mod Ends
+pub mod Reps
+pub mod Ascending
+pub mod Heads
+pub mod Pairs
+pub mod Barrier
+pub mod Total
+pub mod Tested

@@ -1,0 +1,93 @@
+-- Outer and inner nodes, and the pairs that mates make of them.
+use Rattle.std.proofs.Common.{◌≡◌, ℕ, ◌<◌, ◌≤◌, true, false, eqb, List, ◌∷◌, length, map, refl, sym, ap, ◌∙◌, subst, arith, ⊎_elim, inl, inr}
+use Rattle.std.specs.List.{filter}
+use Rattle.std.proofs.lemmas.Bool.{both_ways, eqb-true, and_parts, and_from, or_cases, false_from_ne_true}
+use Rattle.std.proofs.lemmas.List.{length-map}
+use Rattle.graph_theory.specs.Parts.{holds}
+use Rattle.blossom_arena.specs.Family.{IsNested}
+use Rattle.blossom_arena.proofs.Lists.{AllNew, holds-filter, new-filter, length-within}
+use Rattle.blossom_arena.proofs.Nested.{outer_nodes, holds-outer_nodes, new-outer_nodes}
+use Rattle.alt_forest.specs.declared.label.Label.{Label}
+use Rattle.alt_forest.specs.declared.label.Label.TheVariants.{Outer, Inner, Out}
+use Rattle.alt_forest.specs.State.{State, IsOutermost, Joins, IsMate, IsSearchState}
+use Rattle.alt_forest.specs.Trees.{IsRoot, far_end, is_label}
+use Rattle.alt_forest.proofs.Relabelled.{some_not_none}
+use Rattle.alt_forest.proofs.Walk.{some_same, other_node_joins}
+use Rattle.dual_change.proofs.Ascending.{holds-map, new-map}
+
+-- the label of a test that passes
+pub is_inner : (l : Label) → is_label l Inner ≡ true → l ≡ Inner
+is_inner Outer e = absurd (both_ways false refl e)
+is_inner Inner e = refl
+is_inner Out e = absurd (both_ways false refl e)
+
+pub is_outer : (l : Label) → is_label l Outer ≡ true → l ≡ Outer
+is_outer Outer e = refl
+is_outer Inner e = absurd (both_ways false refl e)
+is_outer Out e = absurd (both_ways false refl e)
+
+-- the outermost nodes of a label
+abbrev pub nodes_labelled : State → Label → List ℕ
+nodes_labelled s l = filter (λ a. is_label (s.label a) l) (outer_nodes s.graph.vertices s.blossoms)
+
+module _ (s : State) (nested : IsNested s.graph.vertices s.blossoms) where
+  -- whether an outermost node has a label
+  pub in_labelled : (l : Label) (a : ℕ) → holds (nodes_labelled s l) a ≡ true → IsOutermost s a × (is_label (s.label a) l ≡ true)
+  in_labelled l a h =
+      let p = and_parts (holds (outer_nodes s.graph.vertices s.blossoms) a) (is_label (s.label a) l) (sym (holds-filter (λ x. is_label (s.label x) l) (outer_nodes s.graph.vertices s.blossoms) a) ∙ h) in
+      (sym (holds-outer_nodes s.graph.vertices s.blossoms a nested) ∙ p.0, p.1)
+
+  pub of_labelled : (l : Label) (a : ℕ) → IsOutermost s a → is_label (s.label a) l ≡ true → holds (nodes_labelled s l) a ≡ true
+  of_labelled l a is lab =
+      holds-filter (λ x. is_label (s.label x) l) (outer_nodes s.graph.vertices s.blossoms) a
+      ∙ and_from (holds (outer_nodes s.graph.vertices s.blossoms) a) (is_label (s.label a) l) (holds-outer_nodes s.graph.vertices s.blossoms a nested ∙ is) lab
+
+  pub new_labelled : (l : Label) → AllNew (nodes_labelled s l)
+  new_labelled l = new-filter (λ x. is_label (s.label x) l) (outer_nodes s.graph.vertices s.blossoms) (new-outer_nodes s.graph.vertices s.blossoms nested)
+
+-- the node at the other end of a node's mate
+module _ (s : State) where
+  abbrev pub mate_node : ℕ → ℕ
+  mate_node a = far_end s (s.mate a) a
+
+  pub mates_differ : (a b e f : ℕ) → IsMate s a e (mate_node a) → IsMate s b f (mate_node b) → mate_node a ≡ mate_node b → a ≡ b
+  mates_differ a b e f x y same =
+      let edges : e ≡ f = some_same e f (sym x.back ∙ ap s.mate same ∙ y.back) in
+      let back : Joins s.graph s.blossoms e (mate_node a) a = ⊎_elim (λ p. inr p) (λ p. inl p) x.joins in
+      let home : Joins s.graph s.blossoms f (mate_node b) b = ⊎_elim (λ p. inr p) (λ p. inl p) y.joins in
+      let here : Joins s.graph s.blossoms e (mate_node a) b = subst (λ k. Joins s.graph s.blossoms k (mate_node a) b) (sym edges) (subst (λ c. Joins s.graph s.blossoms f c b) (sym same) home) in
+      sym (other_node_joins s.graph s.blossoms e (mate_node a) a back (λ q. x.different (sym q)))
+      ∙ other_node_joins s.graph s.blossoms e (mate_node a) b here (λ q. y.different (sym (sym same ∙ q)))
+
+-- each inner node has its own outer mate, and the root is one more
+module _ (s : State) (nested : IsNested s.graph.vertices s.blossoms) (depth : ℕ → ℕ) (st : IsSearchState s depth) where
+  pub record HasChild (a : ℕ) : Type 0 where
+    pub edge : ℕ
+    pub mate : IsMate s a edge (mate_node s a)
+    pub outer : s.label (mate_node s a) ≡ Outer
+
+  pub child_is : (a : ℕ) → holds (nodes_labelled s Inner) a ≡ true → HasChild a
+  child_is a h =
+      let p = in_labelled s nested Inner a h in
+      let i = (st.labels a p.0).inner (is_inner (s.label a) p.1) in
+      let at : mate_node s a ≡ i.child = ap (λ o. far_end s o a) i.mate ∙ other_node_joins s.graph s.blossoms i.child_edge a i.child i.is_mate.joins i.is_mate.different in
+      record { edge = i.child_edge; mate = subst (IsMate s a i.child_edge) (sym at) i.is_mate; outer = ap s.label at ∙ i.child_outer }
+
+  pub inner_fewer : (root : ℕ) → IsRoot s root → length (nodes_labelled s Inner) < length (nodes_labelled s Outer)
+  inner_fewer root r =
+      let inns : List ℕ = nodes_labelled s Inner in
+      let few : length (root ∷ map (mate_node s) inns) ≤ length (nodes_labelled s Outer) = length-within (root ∷ map (mate_node s) inns) (nodes_labelled s Outer) (
+        false_from_ne_true (holds (map (mate_node s) inns) root) (λ m.
+            let p = holds-map (mate_node s) inns root m in
+            let c = child_is p.0 p.1 in
+            some_not_none c.edge (sym (sym r.exposed ∙ ap s.mate (sym p.2) ∙ c.mate.back))),
+        new-map (mate_node s) inns (new_labelled s nested Inner) (λ a b ha hb same. mates_differ s a b (child_is a ha).edge (child_is b hb).edge (child_is a ha).mate (child_is b hb).mate same),
+      )
+      (λ x m. ⊎_elim
+      (λ here. subst (λ y. holds (nodes_labelled s Outer) y ≡ true) (eqb-true root x here) (of_labelled s nested Outer root r.outermost (ap (λ l. is_label l Outer) r.outer)))
+      (λ more.
+      let p = holds-map (mate_node s) inns x more in
+      let c = child_is p.0 p.1 in
+      subst (λ y. holds (nodes_labelled s Outer) y ≡ true) p.2 (of_labelled s nested Outer (mate_node s p.0) c.mate.outer (ap (λ l. is_label l Outer) c.outer)))
+      (or_cases (eqb root x) (holds (map (mate_node s) inns) x) m)) in
+      omega (arith, few, length-map inns (mate_node s))

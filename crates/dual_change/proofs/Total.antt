@@ -1,0 +1,181 @@
+-- A change of d raises the sum of all duals by d for each tree.
+use Rattle.std.proofs.Common.{◌≡◌, ℕ, zero, suc, ◌+◌, ◌≤◌, ℤ, pos, ◌+ℤ◌, ◌-ℤ◌, ◌*ℤ◌, Bool, true, false, not, ◌&&◌, cond, List, [], ◌∷◌, length, map, Option, Some, None, refl, sym, ap, ◌∙◌, subst, arith}
+use Rattle.std.specs.Prelude.{is_some}
+use Rattle.std.specs.List.{filter}
+use Rattle.std.proofs.lemmas.Int.{ints}
+use Rattle.std.proofs.lemmas.Bool.{both_ways, and_parts, and_from, or_left, or_right}
+use Rattle.std.proofs.lemmas.List.{length-map}
+use Rattle.std.proofs.lemmas.List.Filters.{length-filter_both}
+use Rattle.graph_theory.specs.Sums.{int_sum_to}
+use Rattle.graph_theory.proofs.SumLemmas.{times-suc, plus-times}
+use Rattle.graph_theory.specs.Parts.{holds}
+use Rattle.blossom_arena.specs.Family.{Blossom, IsNested, is_vertex, is_child, is_outermost, in_ring, names_of}
+use Rattle.blossom_arena.proofs.Lists.{by_test, vertices, holds-filter, new-filter, length-within, first_in, later_in}
+use Rattle.blossom_arena.proofs.Nested.{outer_nodes, holds-outer_nodes, outermost_parts, node_range, range_vertex}
+use Rattle.alt_forest.specs.declared.label.Label.{Label}
+use Rattle.alt_forest.specs.declared.label.Label.TheVariants.{Outer, Inner, Out}
+use Rattle.alt_forest.specs.State.{State, IsOutermost, IsMate, IsSearchState}
+use Rattle.alt_forest.specs.Trees.{far_end, is_label, node_limit}
+use Rattle.alt_forest.proofs.Walk.{other_node_joins}
+use Rattle.dual_change.specs.Changes.{share, change, applied}
+use Rattle.dual_change.specs.Laws.{dual_sum, dual_total, roots, ChangeRaisesTotal}
+use Rattle.dual_change.proofs.Applied.{change_outer, change_child}
+use Rattle.dual_change.proofs.Ascending.{picked_ascends, holds-picked, new_from_ascending, holds-map, new-map}
+use Rattle.dual_change.proofs.Pairs.{is_outer, nodes_labelled, in_labelled, of_labelled, new_labelled, mate_node, mates_differ, child_is}
+
+-- sums
+sum_add : (y z : ℕ → ℤ) (xs : List ℕ) → dual_sum (λ a. y a +ℤ z a) xs ≡ dual_sum y xs +ℤ dual_sum z xs
+sum_add y z [] = omega (arith, ints)
+sum_add y z (x ∷ xs) = let r : dual_sum (λ a. y a +ℤ z a) xs ≡ dual_sum y xs +ℤ dual_sum z xs = sum_add y z xs in omega (arith, ints)
+
+-- where nothing stands outside the test
+sum_filter : (z : ℕ → ℤ) (p : ℕ → Bool) (xs : List ℕ) → ((a : ℕ) → p a ≡ false → z a ≡ pos 0) → dual_sum z (filter p xs) ≡ dual_sum z xs
+sum_filter z p [] h = refl
+sum_filter z p (x ∷ xs) h =
+    let r : dual_sum z (filter p xs) ≡ dual_sum z xs = sum_filter z p xs h in
+    by_test (p x)
+    (λ t. ap (λ q. dual_sum z (cond q (x ∷ filter p xs) (filter p xs))) t ∙ ap (λ s. z x +ℤ s) r)
+    (λ t. ap (λ q. dual_sum z (cond q (x ∷ filter p xs) (filter p xs))) t ∙ (let none : z x ≡ pos 0 = h x t in omega (arith, ints, r, none)))
+
+sum_same : (f g : ℕ → ℤ) (xs : List ℕ) → ((a : ℕ) → holds xs a ≡ true → f a ≡ g a) → dual_sum f xs ≡ dual_sum g xs
+sum_same f g [] h = refl
+sum_same f g (x ∷ xs) h = ap (λ t. t +ℤ dual_sum f xs) (h x (first_in x xs)) ∙ ap (λ t. g x +ℤ t) (sum_same f g xs (λ a e. h a (later_in x xs a e)))
+
+sum_vertices : (z : ℕ → ℤ) (n : ℕ) → int_sum_to (λ i. z (i + 1)) n ≡ dual_sum z (vertices n)
+sum_vertices z zero = refl
+sum_vertices z (suc n) =
+    let r : int_sum_to (λ i. z (i + 1)) n ≡ dual_sum z (vertices n) = sum_vertices z n in
+    let one : n + 1 ≡ suc n = omega arith in
+    let last : z (n + 1) ≡ z (suc n) = ap z one in
+    omega (arith, ints, r, last)
+
+-- numbers that stand at outermost nodes alone
+sum_outer : (n : ℕ) (z : ℕ → ℤ) (bs : List Blossom) → ((a : ℕ) → is_child bs a ≡ true → z a ≡ pos 0) → dual_sum z (vertices n) +ℤ dual_sum z (names_of bs) ≡ dual_sum z (outer_nodes n bs)
+sum_outer n z [] none = omega (arith, ints)
+sum_outer n z (b ∷ older) none =
+    let r = sum_outer n z older (λ a c. none a (or_right (in_ring b.ring a) (is_child older a) c)) in
+    let f : dual_sum z (filter (λ a. not (in_ring b.ring a)) (outer_nodes n older)) ≡ dual_sum z (outer_nodes n older) =
+    sum_filter z (λ a. not (in_ring b.ring a)) (outer_nodes n older) (λ a c. none a (or_left (in_ring b.ring a) (is_child older a) (turned (in_ring b.ring a) c))) in
+    omega (arith, ints, r, f)
+  where
+    turned : (q : Bool) → not q ≡ false → q ≡ true
+    turned true e = refl
+    turned false e = sym e
+
+-- d for each outer node, less d for each inner node
+shares : (d : ℤ) (label : ℕ → Label) (xs : List ℕ) → dual_sum (λ a. share d (label a)) xs ≡ (pos (length (filter (λ a. is_label (label a) Outer) xs)) *ℤ d) -ℤ (pos (length (filter (λ a. is_label (label a) Inner) xs)) *ℤ d)
+shares d label [] = omega (arith, ints)
+shares d label (x ∷ xs) =
+    let outs : List ℕ = filter (λ a. is_label (label a) Outer) xs in
+    let inns : List ℕ = filter (λ a. is_label (label a) Inner) xs in
+    let r : dual_sum (λ a. share d (label a)) xs ≡ (pos (length outs) *ℤ d) -ℤ (pos (length inns) *ℤ d) = shares d label xs in
+    elim (label x) as (λ l. share d l +ℤ dual_sum (λ a. share d (label a)) xs
+    ≡ (pos (length (cond (is_label l Outer) (x ∷ outs) outs)) *ℤ d) -ℤ (pos (length (cond (is_label l Inner) (x ∷ inns) inns)) *ℤ d)) [
+      | Outer ↦ omega (arith, ints, r, times-suc (length outs) d)
+      | Inner ↦ omega (arith, ints, r, times-suc (length inns) d)
+      | Out ↦ omega (arith, ints, r)
+    ]
+
+module _ (s : State) (depth : ℕ → ℕ) (nested : IsNested s.graph.vertices s.blossoms) (st : IsSearchState s depth) where
+  abbrev has_mate : ℕ → Bool
+  has_mate a = is_some (s.mate a)
+
+  abbrev free : ℕ → Bool
+  free a = not (is_some (s.mate a))
+
+  mated : (o : Option ℕ) → is_some o ≡ true → (e : ℕ) × (o ≡ Some e)
+  mated None e = absurd (both_ways false refl e)
+  mated (Some x) e = (x, refl)
+
+  -- an outer node that has a mate has an inner one
+  mate_inner : (a : ℕ) → IsOutermost s a → s.label a ≡ Outer → is_some (s.mate a) ≡ true → (e : ℕ) × IsMate s a e (mate_node s a) × (s.label (mate_node s a) ≡ Inner)
+  mate_inner a is lab some =
+      let e = mated (s.mate a) some in
+      let m = st.mates a e.0 is e.1 in
+      let at : mate_node s a ≡ m.0 = ap (λ o. far_end s o a) e.1 ∙ other_node_joins s.graph s.blossoms e.0 a m.0 m.1.joins m.1.different in
+      (e.0, subst (IsMate s a e.0) (sym at) m.1, ap s.label at ∙ ((st.labels a is).outer lab e.0 m.0 e.1 m.1).0)
+
+  pairs : length (filter has_mate (nodes_labelled s Outer)) ≡ length (nodes_labelled s Inner)
+  pairs =
+      let outs : List ℕ = filter has_mate (nodes_labelled s Outer) in
+      let inns : List ℕ = nodes_labelled s Inner in
+      let most : length (map (mate_node s) outs) ≤ length inns = length-within (map (mate_node s) outs) inns
+      (new-map (mate_node s) outs (new-filter has_mate (nodes_labelled s Outer) (new_labelled s nested Outer)) (λ a b ha hb same.
+      let pa = mated_outer a ha in
+      let pb = mated_outer b hb in
+      mates_differ s a b pa.0 pb.0 pa.1 pb.1 same))
+      (λ x m.
+      let p = holds-map (mate_node s) outs x m in
+      let q = mated_outer p.0 p.1 in
+      subst (λ y. holds inns y ≡ true) p.2 (of_labelled s nested Inner (mate_node s p.0) q.1.outer (ap (λ l. is_label l Inner) q.2))) in
+      let fewest : length (map (mate_node s) inns) ≤ length outs = length-within (map (mate_node s) inns) outs
+      (new-map (mate_node s) inns (new_labelled s nested Inner) (λ a b ha hb same.
+      let pa = child_is s nested depth st a ha in
+      let pb = child_is s nested depth st b hb in
+      mates_differ s a b pa.edge pb.edge pa.mate pb.mate same))
+      (λ x m.
+      let p = holds-map (mate_node s) inns x m in
+      let c = child_is s nested depth st p.0 p.1 in
+      subst (λ y. holds outs y ≡ true) p.2
+      (holds-filter has_mate (nodes_labelled s Outer) (mate_node s p.0)
+      ∙ and_from (holds (nodes_labelled s Outer) (mate_node s p.0)) (has_mate (mate_node s p.0))
+      (of_labelled s nested Outer (mate_node s p.0) c.mate.outer (ap (λ l. is_label l Outer) c.outer)) (ap (λ o. is_some o) c.mate.back))) in
+      omega (arith, most, fewest, length-map outs (mate_node s), length-map inns (mate_node s))
+    where
+      mated_outer : (a : ℕ) → holds (filter has_mate (nodes_labelled s Outer)) a ≡ true → (e : ℕ) × IsMate s a e (mate_node s a) × (s.label (mate_node s a) ≡ Inner)
+      mated_outer a h =
+          let p = and_parts (holds (nodes_labelled s Outer) a) (has_mate a) (sym (holds-filter has_mate (nodes_labelled s Outer) a) ∙ h) in
+          let q = in_labelled s nested Outer a p.0 in
+          mate_inner a q.0 (is_outer (s.label a) q.1) p.1
+
+  abbrev is_root : ℕ → Bool
+  is_root a = is_outermost s.graph.vertices s.blossoms a && (is_label (s.label a) Outer && free a)
+
+  roots_free : length (roots s) ≡ length (filter free (nodes_labelled s Outer))
+  roots_free =
+      let frees : List ℕ = filter free (nodes_labelled s Outer) in
+      let limit : ℕ = node_limit s.graph.vertices in
+      let most : length (roots s) ≤ length frees = length-within (roots s) frees (new_from_ascending (roots s) (picked_ascends limit is_root))
+      (λ a h.
+      let p = and_parts (is_vertex limit a) (is_root a) (sym (holds-picked limit is_root a) ∙ h) in
+      let q = and_parts (is_outermost s.graph.vertices s.blossoms a) (is_label (s.label a) Outer && free a) p.1 in
+      let r = and_parts (is_label (s.label a) Outer) (free a) q.1 in
+      holds-filter free (nodes_labelled s Outer) a ∙ and_from (holds (nodes_labelled s Outer) a) (free a) (of_labelled s nested Outer a q.0 r.0) r.1) in
+      let fewest : length frees ≤ length (roots s) = length-within frees (roots s) (new-filter free (nodes_labelled s Outer) (new_labelled s nested Outer))
+      (λ a h.
+      let p = and_parts (holds (nodes_labelled s Outer) a) (free a) (sym (holds-filter free (nodes_labelled s Outer) a) ∙ h) in
+      let q = in_labelled s nested Outer a p.0 in
+      let range = node_range s.graph.vertices s.blossoms a nested (outermost_parts s.graph.vertices s.blossoms a q.0).0 in
+      holds-picked limit is_root a
+      ∙ and_from (is_vertex limit a) (is_root a) (range_vertex limit a range.0 range.1)
+      (and_from (is_outermost s.graph.vertices s.blossoms a) (is_label (s.label a) Outer && free a) q.0 (and_from (is_label (s.label a) Outer) (free a) q.1 p.1))) in
+      omega (arith, most, fewest)
+
+  -- as many outer nodes as inner ones and roots
+  balance : length (nodes_labelled s Outer) ≡ length (nodes_labelled s Inner) + length (roots s)
+  balance =
+      let both : length (filter has_mate (nodes_labelled s Outer)) + length (filter free (nodes_labelled s Outer)) ≡ length (nodes_labelled s Outer) = length-filter_both has_mate free (λ a. refl) (nodes_labelled s Outer) in
+      omega (arith, both, pairs, roots_free)
+
+  raised : (d : ℤ) → dual_total (applied s d) ≡ dual_total s +ℤ (pos (length (roots s)) *ℤ d)
+  raised d =
+      let n : ℕ = s.graph.vertices in
+      let names : List ℕ = names_of s.blossoms in
+      let outer : List ℕ = outer_nodes n s.blossoms in
+      let new : int_sum_to (λ i. s.dual (i + 1) +ℤ change s d (i + 1)) n ≡ dual_sum (λ a. s.dual a +ℤ change s d a) (vertices n) = sum_vertices (λ a. s.dual a +ℤ change s d a) n in
+      let old : int_sum_to (λ i. s.dual (i + 1)) n ≡ dual_sum s.dual (vertices n) = sum_vertices s.dual n in
+      let one : dual_sum (λ a. s.dual a +ℤ change s d a) (vertices n) ≡ dual_sum s.dual (vertices n) +ℤ dual_sum (change s d) (vertices n) = sum_add s.dual (change s d) (vertices n) in
+      let two : dual_sum (λ a. s.dual a +ℤ change s d a) names ≡ dual_sum s.dual names +ℤ dual_sum (change s d) names = sum_add s.dual (change s d) names in
+      let all : dual_sum (change s d) (vertices n) +ℤ dual_sum (change s d) names ≡ dual_sum (change s d) outer = sum_outer n (change s d) s.blossoms (change_child s d) in
+      let given : dual_sum (change s d) outer ≡ dual_sum (λ a. share d (s.label a)) outer = sum_same (change s d) (λ a. share d (s.label a)) outer
+      (λ a h. change_outer s d a (sym (holds-outer_nodes n s.blossoms a nested) ∙ h)) in
+      let split : dual_sum (λ a. share d (s.label a)) outer ≡ (pos (length (nodes_labelled s Outer)) *ℤ d) -ℤ (pos (length (nodes_labelled s Inner)) *ℤ d) = shares d s.label outer in
+      let more : pos (length (nodes_labelled s Outer)) *ℤ d ≡ (pos (length (nodes_labelled s Inner)) *ℤ d) +ℤ (pos (length (roots s)) *ℤ d) =
+      ap (λ k. pos k *ℤ d) balance ∙ plus-times (length (nodes_labelled s Inner)) (length (roots s)) d in
+      plain _ _ _ _ _ _ _ _ _ _ _ _ _ new old one two all given split more
+    where
+      plain : (nv ov dn dv cv dnn dnames cn co sh x y z : ℤ) → nv ≡ dn → ov ≡ dv → dn ≡ dv +ℤ cv → dnn ≡ dnames +ℤ cn → cv +ℤ cn ≡ co → co ≡ sh → sh ≡ x -ℤ y → x ≡ y +ℤ z → nv +ℤ dnn ≡ (ov +ℤ dnames) +ℤ z
+      plain nv ov dn dv cv dnn dnames cn co sh x y z a b c d e f g h = omega (arith, ints)
+
+pub change_raises : ChangeRaisesTotal
+change_raises s depth d nested st = raised s depth nested st d

@@ -1,0 +1,47 @@
+-- What holds of changes of duals in all states of a search (chapters 24 and 26).
+use Rattle.std.specs.Prelude.{◌≡◌, ℕ, ◌+◌, ℤ, pos, ◌+ℤ◌, ◌*ℤ◌, true, ◌&&◌, not, List, [], ◌∷◌, length, is_some}
+use Rattle.std.specs.List.{filter, range_with_len}
+use Rattle.graph_theory.specs.Sums.{int_sum_to}
+use Rattle.graph_theory.specs.Graph.{IsGraph, IsEdgeNumber}
+use Rattle.graph_theory.specs.Barrier.{IsBarrier}
+use Rattle.blossom_arena.specs.Family.{IsNested, is_vertex, is_outermost, names_of, outermost}
+use Rattle.alt_forest.specs.declared.label.Label.TheVariants.{Outer, Inner}
+use Rattle.alt_forest.specs.State.{State, IsOutermost, Joins, slack_of, IsSearchState}
+use Rattle.alt_forest.specs.Trees.{IsRoot, root_of, is_label, node_limit}
+use Rattle.dual_change.specs.Changes.{HasOneTree, IsStuck, applied}
+
+-- the vertices of inner nodes, ascending
+abbrev pub inner_vertices : State → List ℕ
+inner_vertices s = filter (λ v. is_label (s.label (outermost s.blossoms v)) Inner) (range_with_len 1 s.graph.vertices)
+
+-- where the search is stuck, no blossom is inner
+abbrev pub StuckInnerAreVertices : Type 0
+StuckInnerAreVertices = (s : State) (depth : ℕ → ℕ) (a : ℕ) → IsGraph s.graph → IsNested s.graph.vertices s.blossoms → IsSearchState s depth → HasOneTree s → IsStuck s
+    → IsOutermost s a → s.label a ≡ Inner → is_vertex s.graph.vertices a ≡ true
+
+-- where the search is stuck at a tree, its inner vertices are a barrier: each outer node is an odd component of what
+-- is left without them, and there is one outer node more than inner ones
+abbrev pub StuckHasBarrier : Type 0
+StuckHasBarrier = (s : State) (depth : ℕ → ℕ) (root : ℕ) → IsGraph s.graph → IsNested s.graph.vertices s.blossoms → IsSearchState s depth → HasOneTree s → IsRoot s root → IsStuck s → IsBarrier s.graph (inner_vertices s)
+
+-- the slack between two outer nodes of one tree is even, so the change that lets them be shrunk is a whole number
+abbrev pub ShrinkSlackIsEven : Type 0
+ShrinkSlackIsEven = (s : State) (depth : ℕ → ℕ) (e a b : ℕ) → IsGraph s.graph → IsNested s.graph.vertices s.blossoms → IsSearchState s depth → IsEdgeNumber s.graph e → Joins s.graph s.blossoms e a b
+    → s.label a ≡ Outer → s.label b ≡ Outer → root_of s a ≡ root_of s b → (half : ℤ) × (slack_of s e ≡ half +ℤ half)
+
+-- the duals of some nodes, added up
+abbrev pub dual_sum : (ℕ → ℤ) → List ℕ → ℤ
+dual_sum y [] = pos 0
+dual_sum y (a ∷ rest) = y a +ℤ dual_sum y rest
+
+-- the duals of all vertices and blossoms, added up
+abbrev pub dual_total : State → ℤ
+dual_total s = int_sum_to (λ i. s.dual (i + 1)) s.graph.vertices +ℤ dual_sum s.dual (names_of s.blossoms)
+
+-- the roots
+abbrev pub roots : State → List ℕ
+roots s = filter (λ a. is_outermost s.graph.vertices s.blossoms a && (is_label (s.label a) Outer && not (is_some (s.mate a)))) (range_with_len 1 (node_limit s.graph.vertices))
+
+-- a change raises the sum of all duals once for each tree
+abbrev pub ChangeRaisesTotal : Type 0
+ChangeRaisesTotal = (s : State) (depth : ℕ → ℕ) (d : ℤ) → IsNested s.graph.vertices s.blossoms → IsSearchState s depth → dual_total (applied s d) ≡ dual_total s +ℤ (pos (length (roots s)) *ℤ d)

@@ -1,0 +1,23 @@
+use blossom_arena::NodeId;
+use mb_base::EdgeId;
+
+/// What can happen to a search: a tree grows by an edge, a blossom is shrunk by an edge, the matching
+/// is augmented by an edge, or a blossom is expanded.
+#[derive(Clone, Copy, PartialEq, Eq, Debug)]
+pub enum Event {
+    Grow(EdgeId),
+    Shrink(EdgeId),
+    Augment(EdgeId),
+    Expand(NodeId),
+}
+
+/// What comes next, with the least change of duals that makes it possible; or that no change makes
+/// anything possible.
+#[derive(Clone, Copy, PartialEq, Eq, Debug)]
+pub enum Next {
+    Grow(EdgeId, i64),
+    Shrink(EdgeId, i64),
+    Augment(EdgeId, i64),
+    Expand(NodeId, i64),
+    Stuck,
+}

@@ -1,0 +1,4 @@
+pub mod Grown
+pub mod Shrunk
+pub mod Circuits
+pub mod Ways
