@@ -1,7 +1,7 @@
 #!/usr/bin/env python3
 """Building the graphs that certificates speak of, at their greatest numbers of edges, against plain loops that make
 the same edges; and `check bmatch` on the largest of them, against reading that graph as text. Both programs build
-the graph 20 times in one run, and what a run without building takes is left out."""
+the graph 60 times in one run, and what a run without building takes is left out."""
 import os
 import sys
 
@@ -9,7 +9,7 @@ from instances import copies_as_graph, largest_gadgets, with_large_copies
 from timing import HERE, PROGRAM, compiled, seconds
 
 BUILDER = os.path.join(HERE, "..", "crates", "gadget_edges", "out", "gadget_edges")
-TIMES = 20
+TIMES = 60
 
 
 def building(program, kind, given):

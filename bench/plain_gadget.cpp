@@ -48,6 +48,7 @@ static void rectangle(std::vector<Edge> &edges, uint32_t first, uint32_t m, uint
 
 static std::vector<Edge> doubled() {
     std::vector<Edge> edges;
+    edges.reserve(2 * lines.size() + n);
     uint32_t by = static_cast<uint32_t>(n);
     for (const Line &e : lines) {
         edges.push_back({e.u, e.v, -e.w});
@@ -61,16 +62,25 @@ static std::vector<Edge> copied(bool gates, bool unit) {
     std::vector<uint32_t> before(n + 1, 0);
     for (size_t t = 0; t < n; t++) before[t + 1] = before[t] + values[t];
     uint32_t next = before[n];
+    auto room_of = [&](const Line &e) {
+        uint32_t room = std::min(values[e.u - 1], values[e.v - 1]);
+        if (unit) return std::min(room, 1u);
+        return e.capacity >= 0 ? std::min(room, static_cast<uint32_t>(e.capacity)) : room;
+    };
+    size_t count = 0;
+    for (const Line &e : lines) {
+        size_t m = values[e.u - 1], k = values[e.v - 1], room = room_of(e);
+        count += gates ? room * (m + room + k) : m * k;
+    }
     std::vector<Edge> edges;
+    edges.reserve(count);
     for (const Line &e : lines) {
         uint32_t m = values[e.u - 1], k = values[e.v - 1];
         if (!gates) {
             rectangle(edges, before[e.u - 1], m, before[e.v - 1], k, e.w);
             continue;
         }
-        uint32_t room = std::min(m, k);
-        if (unit) room = std::min(room, 1u);
-        else if (e.capacity >= 0) room = std::min(room, static_cast<uint32_t>(e.capacity));
+        uint32_t room = room_of(e);
         rectangle(edges, before[e.u - 1], m, next, room, e.w);
         rectangle(edges, next, room, next + room, room, 0);
         rectangle(edges, next + room, room, before[e.v - 1], k, 0);
@@ -90,7 +100,10 @@ static std::vector<Edge> ports(bool postman) {
         next[t] = before[t] = total;
         total += size[t];
     }
+    size_t count = lines.size();
+    for (size_t k : size) count += k * (k - 1) / 2;
     std::vector<Edge> edges;
+    edges.reserve(count);
     for (const Line &e : lines) {
         uint32_t u = ++next[e.u - 1], v = ++next[e.v - 1];
         edges.push_back({u, v, e.w});
