@@ -1,0 +1,5 @@
+pub mod Joined
+pub mod Flipped
+pub mod Exposure
+pub mod Turning
+pub mod Turned
