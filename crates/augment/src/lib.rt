@@ -4,5 +4,7 @@
 #![tactic(auto)]
 
 mod flips;
+mod opening;
 
 pub use flips::flip;
+pub use opening::unpack;
