@@ -32,7 +32,7 @@ fn edge_for(edges: &[Option<EdgeId>], node: NodeId) -> Option<EdgeId>
 }
 
 /// The edge to the mate of an outermost node.
-fn mate_of(search: &Search, node: NodeId) -> Option<EdgeId>
+pub(crate) fn mate_of(search: &Search, node: NodeId) -> Option<EdgeId>
     requires shape { HasShape search.now }
     requires outer { IsOutermost (state_of search.now) node }
     ensures { result ≡ edge_in search.now.mates.items node }

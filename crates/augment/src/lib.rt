@@ -5,6 +5,8 @@
 
 mod flips;
 mod opening;
+#[cfg(test)]
+mod tests;
 
 pub use flips::flip;
 pub use opening::unpack;
