@@ -104,7 +104,8 @@ fn turn(search: &mut Search, e: EdgeId, near: NodeId, far: NodeId)
         node = rung.outer;
         edge = rung.edge;
     }
-    set_edge(&mut search.mates, node, Some(edge));
+    let root = node;
+    set_edge(&mut search.mates, root, Some(edge));
 }
 
 /// The outer node of an edge that joins a tree to an exposed node, and that exposed node.

@@ -4,9 +4,9 @@ ghost use Rattle.graph_theory.specs.Graph.{IsEdgeNumber};
 ghost use Rattle.blossom_arena.specs.declared.links.Link.{Link};
 ghost use Rattle.blossom_arena.specs.Family.{IsCircuit, is_outermost, nodes_of};
 ghost use Rattle.alt_forest.specs.declared.label.Label.TheVariants.{Outer, Out};
-ghost use Rattle.alt_forest.specs.State.{IsOutermost};
+ghost use Rattle.alt_forest.specs.State.{IsOutermost, IsExposed};
 ghost use Rattle.alt_forest.specs.Events.{CanAugment};
-ghost use Rattle.alt_forest.specs.Searches.{IsSearchGraph, IsSound, state_of, label_at, edge_in};
+ghost use Rattle.alt_forest.specs.Searches.{IsSearchGraph, HasShape, IsSound, state_of, label_at, edge_in};
 ghost use Rattle.augment.specs.Exposed.{IsMatched};
 
 use super::*;
@@ -189,6 +189,17 @@ fn write(search: &mut Search, node: u32, label: Label, parent: u32, mate: u32) -
     true
 }
 
+/// Whether a node of a search is outermost.
+fn is_outer(search: &Search, node: NodeId) -> bool
+    requires shape { HasShape search.now }
+    ensures { (result ≡ true) ↔ IsOutermost (state_of search.now) node }
+{
+    if !search.arena.is_node(node) {
+        return false;
+    }
+    search.arena.is_outermost(node)
+}
+
 /// Whether an edge leads from an outer node to an exposed node that is labelled out.
 fn is_way(search: &Search, near: NodeId, far: NodeId) -> bool
     requires sound { IsSound search.now }
@@ -239,7 +250,12 @@ fn can_augment<L: Ledger>(search: &Search, e: EdgeId, steps: &mut Steps<L>) -> b
 
 /// Flips the path by an edge where the matching can be augmented by it, and answers whether the search
 /// passes the check then.
-fn flip_by<L: Ledger>(alloc: Global, search: &mut Search, e: u32, blank: Blank) -> Result<bool, OutOfMemory>
+fn flip_by<L: Ledger>(
+    alloc: Global,
+    search: &mut Search,
+    e: u32,
+    blank: Blank,
+) -> Result<bool, OutOfMemory>
     requires name { blank.name ≡ L.name }
     requires parts { blank.parts ≡ L.parts }
     requires some { 0 < blank.parts }
@@ -257,17 +273,25 @@ fn flip_by<L: Ledger>(alloc: Global, search: &mut Search, e: u32, blank: Blank) 
     Ok(check_search(search))
 }
 
+/// Whether a node is outermost and has no mate.
+fn is_exposed(search: &Search, node: NodeId) -> bool
+    requires sound { IsSound search.now }
+    ensures { (result ≡ true) ↔ IsExposed (state_of search.now) node }
+{
+    if !is_outer(search, node) {
+        return false;
+    }
+    mate_of(search, node).is_none()
+}
+
 /// Whether each outermost node has a mate.
 fn is_matched(search: &Search) -> bool
-    requires { IsSound search.now }
+    requires sound { IsSound search.now }
     ensures { result ≡ true → IsMatched (state_of search.now) }
 {
     for number in 0..search.arena.node_limit() {
-        let node = NodeId::new(number + 1);
-        if is_free(&search.arena, node) {
-            if mate_of(search, node).is_none() {
-                return false;
-            }
+        if is_exposed(search, NodeId::new(number + 1)) {
+            return false;
         }
     }
     true
@@ -307,15 +331,24 @@ fn paths_are_flipped(rt: HostRuntime) -> Result<(), Fail> {
     };
     write(&mut search, 2, Label::Outer, 0, 0);
     assert!(rt; flip_by::<Brand>(rt.alloc(), &mut search, 2, Blank::new(1))?);
-    assert_eq!(rt; mates(rt.alloc(), &search, 4)?.as_slice(), [0, 2, 2, 0].as_slice());
+    assert_eq!(rt;
+        mates(rt.alloc(), &search, 4)?.as_slice(),
+        [0, 2, 2, 0].as_slice()
+    );
     write(&mut search, 1, Label::Outer, 0, 0);
     write(&mut search, 2, Label::Inner, 1, 2);
     write(&mut search, 3, Label::Outer, 0, 2);
     assert!(rt; !unpacks(&mut search));
     assert!(rt; flip_by::<Brand>(rt.alloc(), &mut search, 3, Blank::new(1))?);
-    assert_eq!(rt; mates(rt.alloc(), &search, 4)?.as_slice(), [1, 1, 3, 3].as_slice());
+    assert_eq!(rt;
+        mates(rt.alloc(), &search, 4)?.as_slice(),
+        [1, 1, 3, 3].as_slice()
+    );
     assert!(rt; unpacks(&mut search));
-    assert_eq!(rt; mates(rt.alloc(), &search, 4)?.as_slice(), [1, 1, 3, 3].as_slice());
+    assert_eq!(rt;
+        mates(rt.alloc(), &search, 4)?.as_slice(),
+        [1, 1, 3, 3].as_slice()
+    );
     Ok(())
 }
 
