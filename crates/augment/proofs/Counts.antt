@@ -1,0 +1,170 @@
+-- Where all blossoms are opened the mates are a perfect matching, and each blossom is left once.
+use Rattle.std.proofs.Common.{◌≡◌, ◌≢◌, ℕ, ◌+◌, ◌*◌, ◌<◌, ◌≤◌, Bool, true, false, ◌&&◌, eqb, cond, List, [], length, refl, sym, ap, ◌∙◌, subst, arith, ⊎_elim, Option, Some, None}
+use Rattle.std.specs.Prelude.{All, slice_index}
+use Rattle.std.proofs.lemmas.Bool.{eqb-true, eqb-false, eq-eqb, or_cases, or_left, or_right, and_parts, and_from, both_ways, false_from_ne_true}
+use Rattle.std.proofs.lemmas.List.FromFn.{get_or-map-range_with_len, length-map-range_with_len}
+use Rattle.graph_theory.specs.declared.edge.Edge.{Edge}
+use Rattle.graph_theory.specs.Graph.{Multigraph, IsEdgeWithin, IsEdgeNumber, edge_of, edge_at, touches, other_end, IsPerfect}
+use Rattle.graph_theory.specs.Parts.{holds, crosses}
+use Rattle.graph_theory.proofs.SumLemmas.{sum_to-same, sum_to-at_one}
+use Rattle.graph_theory.proofs.Edges.{edge_of_within, edge_of-place, number_of-place, degree-touches, other_end-u, other_end-v}
+use Rattle.blossom_arena.specs.Family.{is_vertex, is_outermost}
+use Rattle.blossom_arena.proofs.Lists.{by_test}
+use Rattle.blossom_arena.proofs.Nested.{range_vertex}
+use Rattle.alt_forest.proofs.Walk.{some_same}
+use Rattle.augment.specs.Matching.{is_edge, mate_counts, IsVertexMate, leaving}
+use Rattle.augment.specs.Opening.{IsPair, AreMated}
+use Rattle.augment.proofs.Left.{IsLeftOnce, leaves}
+
+pub vertex_outer : (n v : ℕ) → is_vertex n v ≡ true → is_outermost n [] v ≡ true
+vertex_outer n v iv = rw iv refl
+
+one_at_most : (t : Bool) → cond t 1 0 ≤ 1
+one_at_most true = omega arith
+one_at_most false = omega arith
+
+is_edge-true : (o : Option ℕ) (e : ℕ) → is_edge o e ≡ true → o ≡ Some e
+is_edge-true None e h = absurd (both_ways false refl h)
+is_edge-true (Some f) e h = ap (λ x. Some x) (eqb-true f e h)
+
+is_edge-some : (o : Option ℕ) (e : ℕ) → o ≡ Some e → is_edge o e ≡ true
+is_edge-some o e h = ap (λ x. is_edge x e) h ∙ eq-eqb e e refl
+
+module _ (g : Multigraph) (m : ℕ → Option ℕ) (ends : All (IsEdgeWithin g.vertices) g.edges) (mated : AreMated g [] m) where
+  abbrev n : ℕ
+  n = g.vertices
+
+  -- the mate of a vertex, from its end
+  record IsEnd (v e : ℕ) : Type 0 where
+    number : IsEdgeNumber g e
+    touches_v : touches (edge_of g e) v ≡ true
+    back : m (other_end (edge_of g e) v) ≡ Some e
+
+  end_of : (v e w : ℕ) → IsPair g [] m v e w → IsEnd v e
+  end_of v e w p =
+      let x = edge_of g e in
+      ⊎_elim
+      (λ j. record {
+        number = p.edge;
+        touches_v = or_left (eqb x.u v) (eqb x.v v) (eq-eqb x.u v j.0);
+        back = ap m (ap (other_end x) (sym j.0) ∙ other_end-u x ∙ j.1) ∙ p.back;
+      })
+      (λ j. record {
+        number = p.edge;
+        touches_v = or_right (eqb x.u v) (eqb x.v v) (eq-eqb x.v v j.1);
+        back = ap m (ap (other_end x) (sym j.1) ∙ other_end-v n x (edge_of_within g e ends p.edge) ∙ j.0) ∙ p.back;
+      })
+      p.joins
+
+  pub vertex_mate : (v : ℕ) → is_vertex n v ≡ true → IsVertexMate g m v
+  vertex_mate v iv =
+      let r = mated v (vertex_outer n v iv) in
+      let x = end_of v r.0 r.1 r.3 in
+      record { edge = r.0; is_edge = x.number; has = r.2; at_v = x.touches_v; back = x.back }
+
+  end_vertex : (e : ℕ) → IsEdgeNumber g e → (is_vertex n (edge_of g e).u ≡ true) × (is_vertex n (edge_of g e).v ≡ true)
+  end_vertex e is = let w = edge_of_within g e ends is in (range_vertex n (edge_of g e).u w.u_low w.u_high, range_vertex n (edge_of g e).v w.v_low w.v_high)
+
+  -- an edge is the mate of both of its ends, or of none
+  to_v : (e : ℕ) → IsEdgeNumber g e → m (edge_of g e).u ≡ Some e → m (edge_of g e).v ≡ Some e
+  to_v e is has =
+      let x = edge_of g e in
+      let r = mated x.u (vertex_outer n x.u (end_vertex e is).0) in
+      let same : r.0 ≡ e = some_same r.0 e (sym r.2 ∙ has) in
+      let p = end_of x.u e r.1 (subst (λ k. IsPair g [] m x.u k r.1) same r.3) in
+      ap m (sym (other_end-u x)) ∙ p.back
+
+  to_u : (e : ℕ) → IsEdgeNumber g e → m (edge_of g e).v ≡ Some e → m (edge_of g e).u ≡ Some e
+  to_u e is has =
+      let x = edge_of g e in
+      let r = mated x.v (vertex_outer n x.v (end_vertex e is).1) in
+      let same : r.0 ≡ e = some_same r.0 e (sym r.2 ∙ has) in
+      let p = end_of x.v e r.1 (subst (λ k. IsPair g [] m x.v k r.1) same r.3) in
+      ap m (sym (other_end-v n x (edge_of_within g e ends is))) ∙ p.back
+
+  abbrev counts : List ℕ
+  counts = mate_counts g m
+
+  count_at : (k : ℕ) → k < length g.edges → slice_index counts k ≡ cond (is_edge (m (edge_at g k).u) (k + 1)) 1 0
+  count_at k low = get_or-map-range_with_len (λ e. cond (is_edge (m (edge_of g e).u) e) 1 0) 1 (length g.edges) k (k + 1) 0 low (omega arith)
+      ∙ ap (λ (x : Edge). cond (is_edge (m x.u) (k + 1)) 1 0) (edge_of-place g k)
+
+  -- at a vertex its mate alone is counted
+  at_vertex : (v : ℕ) (x : IsVertexMate g m v) (k : ℕ) → k < length g.edges → cond (touches (edge_at g k) v) (slice_index counts k) 0 ≡ cond (eqb x.edge (k + 1)) 1 0
+  at_vertex v x k low =
+      let place : edge_of g (k + 1) ≡ edge_at g k = edge_of-place g k in
+      let number : IsEdgeNumber g (k + 1) = number_of-place g k low in
+      by_test (eqb x.edge (k + 1))
+      (λ s. let same : x.edge ≡ k + 1 = eqb-true x.edge (k + 1) s in
+      let here : touches (edge_at g k) v ≡ true = ap (λ (y : Edge). touches y v) (sym place ∙ ap (edge_of g) (sym same)) ∙ x.at_v in
+      let has : m v ≡ Some (k + 1) = x.has ∙ ap (λ z. Some z) same in
+      let taken : is_edge (m (edge_at g k).u) (k + 1) ≡ true = ap (λ (y : Edge). is_edge (m y.u) (k + 1)) (sym place) ∙ is_edge-some (m (edge_of g (k + 1)).u) (k + 1) (⊎_elim
+      (λ q. ap m (eqb-true (edge_of g (k + 1)).u v q) ∙ has)
+      (λ q. to_u (k + 1) number (ap m (eqb-true (edge_of g (k + 1)).v v q) ∙ has))
+      (or_cases (eqb (edge_of g (k + 1)).u v) (eqb (edge_of g (k + 1)).v v) (ap (λ (y : Edge). touches y v) place ∙ here))) in
+      ap (λ t. cond t (slice_index counts k) 0) here ∙ count_at k low ∙ ap (λ t. cond t 1 0) taken ∙ sym (ap (λ t. cond t 1 0) s))
+      (λ s. let ne : x.edge ≢ k + 1 = eqb-false x.edge (k + 1) s in
+      by_test (touches (edge_at g k) v)
+      (λ here. let free : is_edge (m (edge_at g k).u) (k + 1) ≡ false = false_from_ne_true (is_edge (m (edge_at g k).u) (k + 1)) (λ taken.
+      let at_u : m (edge_of g (k + 1)).u ≡ Some (k + 1) = ap (λ (y : Edge). m y.u) place ∙ is_edge-true (m (edge_at g k).u) (k + 1) taken in
+      ne (⊎_elim
+      (λ q. some_same x.edge (k + 1) (sym x.has ∙ ap m (sym (eqb-true (edge_of g (k + 1)).u v q)) ∙ at_u))
+      (λ q. some_same x.edge (k + 1) (sym x.has ∙ ap m (sym (eqb-true (edge_of g (k + 1)).v v q)) ∙ to_v (k + 1) number at_u))
+      (or_cases (eqb (edge_of g (k + 1)).u v) (eqb (edge_of g (k + 1)).v v) (ap (λ (y : Edge). touches y v) place ∙ here)))) in
+      ap (λ t. cond t (slice_index counts k) 0) here ∙ count_at k low ∙ ap (λ t. cond t 1 0) free ∙ sym (ap (λ t. cond t 1 0) s))
+      (λ off. ap (λ t. cond t (slice_index counts k) 0) off ∙ sym (ap (λ t. cond t 1 0) s)))
+
+  pub perfect : IsPerfect g counts
+  perfect = record {
+    one_each = length-map-range_with_len (λ e. cond (is_edge (m (edge_of g e).u) e) 1 0) 1 (length g.edges);
+    at_most_one = λ k d low.
+        let size : length counts ≡ length g.edges = length-map-range_with_len (λ e. cond (is_edge (m (edge_of g e).u) e) 1 0) 1 (length g.edges) in
+        subst (λ c. c ≤ 1) (sym (get_or-map-range_with_len (λ e. cond (is_edge (m (edge_of g e).u) e) 1 0) 1 (length g.edges) k (k + 1) d (omega (arith, size, low)) (omega arith)))
+        (one_at_most (is_edge (m (edge_of g (k + 1)).u) (k + 1)));
+    degrees = λ v low high.
+        let x = vertex_mate v (range_vertex n v low high) in
+        degree-touches g counts v ends
+        ∙ sum_to-same (λ k. cond (touches (edge_at g k) v) (slice_index counts k) 0) (λ k. cond (eqb x.edge (k + 1)) 1 0) (length g.edges) (at_vertex v x)
+        ∙ sum_to-at_one (λ _. 1) x.edge (length g.edges) x.is_edge.0 x.is_edge.1;
+  }
+
+  -- a vertex at each edge that is a mate
+  taken_at : (x : ℕ → Bool) (l : IsLeftOnce g [] m x) (e : ℕ) → IsEdgeNumber g e → is_edge (m (edge_of g e).u) e ≡ true → leaves x (edge_of g e) ≡ true → e ≡ l.edge
+  taken_at x l e is taken out = l.only (edge_of g e).u e (vertex_outer n (edge_of g e).u (end_vertex e is).0) (is_edge-true (m (edge_of g e).u) e taken) out
+
+  left_number : (x : ℕ → Bool) (l : IsLeftOnce g [] m x) → IsEdgeNumber g l.edge × (is_edge (m (edge_of g l.edge).u) l.edge ≡ true)
+  left_number x l =
+      let r = mated l.node l.node_is in
+      let same : r.0 ≡ l.edge = some_same r.0 l.edge (sym r.2 ∙ l.taken) in
+      let p = subst (λ k. IsPair g [] m l.node k r.1) same r.3 in
+      (p.edge, is_edge-some (m (edge_of g l.edge).u) l.edge (⊎_elim (λ j. ap m j.0 ∙ l.taken) (λ j. ap m j.0 ∙ p.back) p.joins))
+
+  pub left_once : (set : List ℕ) → IsLeftOnce g [] m (λ v. holds set v) → leaving g counts set ≡ 1
+  left_once set l =
+      let is = left_number (λ v. holds set v) l in
+      sum_to-same (λ k. slice_index counts k * cond (crosses set (edge_at g k)) 1 0) (λ k. cond (eqb l.edge (k + 1)) 1 0) (length g.edges) at
+      ∙ sum_to-at_one (λ _. 1) l.edge (length g.edges) is.0.0 is.0.1
+    where
+      product : (p q r : Bool) → (p && q) ≡ r → cond p 1 0 * cond q 1 0 ≡ cond r 1 0
+      product true true r e = ap (λ t. cond t 1 0) e
+      product true false r e = ap (λ t. cond t 1 0) e
+      product false true r e = ap (λ t. cond t 1 0) e
+      product false false r e = ap (λ t. cond t 1 0) e
+
+      at : (k : ℕ) → k < length g.edges → slice_index counts k * cond (crosses set (edge_at g k)) 1 0 ≡ cond (eqb l.edge (k + 1)) 1 0
+      at k low =
+          let place : edge_of g (k + 1) ≡ edge_at g k = edge_of-place g k in
+          let number : IsEdgeNumber g (k + 1) = number_of-place g k low in
+          let is = left_number (λ v. holds set v) l in
+          let both : (is_edge (m (edge_at g k).u) (k + 1) && crosses set (edge_at g k)) ≡ eqb l.edge (k + 1) = by_test (eqb l.edge (k + 1))
+          (λ s. let same : l.edge ≡ k + 1 = eqb-true l.edge (k + 1) s in
+          let edge : edge_of g l.edge ≡ edge_at g k = ap (edge_of g) same ∙ place in
+          and_from (is_edge (m (edge_at g k).u) (k + 1)) (crosses set (edge_at g k))
+          (ap (λ (y : Edge). is_edge (m y.u) (k + 1)) (sym edge) ∙ ap (is_edge (m (edge_of g l.edge).u)) (sym same) ∙ is.1)
+          (ap (λ (y : Edge). crosses set y) (sym edge) ∙ l.leaves_it)
+          ∙ sym s)
+          (λ s. false_from_ne_true (is_edge (m (edge_at g k).u) (k + 1) && crosses set (edge_at g k)) (λ t.
+          let p = and_parts (is_edge (m (edge_at g k).u) (k + 1)) (crosses set (edge_at g k)) t in
+          eqb-false l.edge (k + 1) s (sym (taken_at (λ v. holds set v) l (k + 1) number (ap (λ (y : Edge). is_edge (m y.u) (k + 1)) place ∙ p.0) (ap (λ (y : Edge). crosses set y) place ∙ p.1))))
+          ∙ sym s) in
+          ap (λ c. c * cond (crosses set (edge_at g k)) 1 0) (count_at k low) ∙ product (is_edge (m (edge_at g k).u) (k + 1)) (crosses set (edge_at g k)) (eqb l.edge (k + 1)) both

@@ -1,0 +1,103 @@
+-- What an unpacked search is.
+use Rattle.std.proofs.Common.{◌≡◌, ℕ, true, List, [], ◌∷◌, sym, ◌∙◌, subst, Option, Some, vec_len}
+use Rattle.std.specs.List.{AllByRecursion}
+use Rattle.graph_theory.specs.Graph.{IsPerfect}
+use Rattle.graph_theory.specs.Parts.{holds}
+use Rattle.blossom_arena.specs.Family.{Blossom, is_vertex}
+use Rattle.alt_forest.specs.declared.search.Search.{Search}
+use Rattle.alt_forest.specs.State.{State, IsOutermost, IsTight, IsMate, IsSearchState}
+use Rattle.alt_forest.specs.Searches.{IsSound, state_of, edge_in}
+use Rattle.alt_forest.proofs.Places.{nested_of}
+use Rattle.augment.specs.Exposed.{IsMatched}
+use Rattle.augment.specs.Matching.{IsVertexMate, mate_counts, leaving}
+use Rattle.augment.specs.Opening.{Unpacks, CanUnpack}
+use Rattle.augment.proofs.Flipped.{with_mates}
+use Rattle.augment.proofs.Turned.{tight_rings}
+use Rattle.augment.proofs.Unpacked.{AreOpened, none_opened}
+use Rattle.augment.proofs.Left.{IsLeftOnce}
+use Rattle.augment.proofs.Counts.{vertex_outer, vertex_mate, perfect, left_once}
+use Rattle.augment.proofs.Ready.{all_opened}
+
+-- mates of nodes that aren't outermost mean nothing
+module _ (s : State) (depth : ℕ → ℕ) (m : ℕ → Option ℕ) (same : (a : ℕ) → IsOutermost s a → m a ≡ s.mate a) (st : IsSearchState s depth) where
+  forth : (a e b : ℕ) → IsMate s a e b → IsMate (with_mates s m) a e b
+  forth a e b w = record { edge = w.edge; joins = w.joins; different = w.different; tight = w.tight; outer = w.outer; back = same b w.outer ∙ w.back }
+
+  back : (a e b : ℕ) → IsMate (with_mates s m) a e b → IsMate s a e b
+  back a e b w = record { edge = w.edge; joins = w.joins; different = w.different; tight = w.tight; outer = w.outer; back = sym (same b w.outer) ∙ w.back }
+
+  pub still_tight : (e : ℕ) → IsTight s e → IsTight (with_mates s m) e
+  still_tight e t = record { edge = t.edge; tight = t.tight }
+
+  pub still_state : IsSearchState (with_mates s m) depth
+  still_state = record {
+    rings = st.rings;
+    tight_rings = tight_rings s (with_mates s m) still_tight s.blossoms st.tight_rings;
+    slacks = st.slacks;
+    duals = st.duals;
+    mates = λ a e is has. let r = st.mates a e is (sym (same a is) ∙ has) in (r.0, forth a e r.0 r.1);
+    labels = λ a is. record {
+      outer = λ l e b has w. (st.labels a is).outer l e b (sym (same a is) ∙ has) (back a e b w);
+      inner = λ l.
+          let i = (st.labels a is).inner l in
+          record {
+            edge = i.edge;
+            up = i.up;
+            parent = i.parent;
+            is_edge = i.is_edge;
+            joins = i.joins;
+            tight = i.tight;
+            up_is = i.up_is;
+            up_outer = i.up_outer;
+            falls = i.falls;
+            child_edge = i.child_edge;
+            child = i.child;
+            mate = same a is ∙ i.mate;
+            is_mate = forth a i.child_edge i.child i.is_mate;
+            child_outer = i.child_outer;
+            rises = i.rises;
+          };
+      out = λ l e b has w. (st.labels a is).out l e b (sym (same a is) ∙ has) (back a e b w);
+    };
+  }
+
+pub can_unpack : (s : Search) → IsSound s → IsMatched (state_of s) → CanUnpack s.graph s.arena (edge_in s.mates.items)
+can_unpack s h matched = record {
+  family = h.shape.family;
+  vertices = h.shape.arena;
+  ends = h.shape.graph.graph.ends;
+  rings = h.state.rings;
+  mated = (none_opened (state_of s) h.depth h.state matched).mated;
+}
+
+module _ (s : Search) (h : IsSound s) (matched : IsMatched (state_of s)) (final : ℕ → Option ℕ) (u : Unpacks s.graph s.arena.blossoms (edge_in s.mates.items) final) where
+  pub v : AreOpened (state_of s) s.arena.blossoms [] final
+  v = all_opened (state_of s) h.depth (nested_of s h.shape) h.shape.graph.graph.ends h.state [] s.arena.blossoms (edge_in s.mates.items) final (none_opened (state_of s) h.depth h.state matched) u
+
+  pub outer_kept : (a : ℕ) → IsOutermost (state_of s) a → final a ≡ edge_in s.mates.items a
+  outer_kept = v.kept
+
+  pub each_vertex : (x : ℕ) → is_vertex s.graph.vertices x ≡ true → IsVertexMate s.graph final x
+  each_vertex = vertex_mate s.graph final h.shape.graph.graph.ends v.mated
+
+  pub is_perfect : IsPerfect s.graph (mate_counts s.graph final)
+  is_perfect = perfect s.graph final h.shape.graph.graph.ends v.mated
+
+  pub each_tight : (x e : ℕ) → is_vertex s.graph.vertices x ≡ true → final x ≡ Some e → IsTight (with_mates (state_of s) final) e
+  each_tight x e is has = still_tight (state_of s) h.depth final v.kept h.state e (v.tight x e (vertex_outer s.graph.vertices x is) has)
+
+  pub each_left : AllByRecursion (λ (b : Blossom). leaving s.graph (mate_counts s.graph final) b.members ≡ 1) s.arena.blossoms
+  each_left = all s.arena.blossoms v.once
+    where
+      all : (bs : List Blossom) → AllByRecursion (λ (b : Blossom). IsLeftOnce s.graph [] final (λ x. holds b.members x)) bs → AllByRecursion (λ (b : Blossom). leaving s.graph (mate_counts s.graph final) b.members ≡ 1) bs
+      all [] each = tt
+      all (b ∷ bs) each = (left_once s.graph final h.shape.graph.graph.ends v.mated b.members each.0, all bs each.1)
+
+  pub still_sound : (t : Search) → t ≡ record s { mates = t.mates } → vec_len t.mates ≡ vec_len s.mates → edge_in t.mates.items ≡ final → IsSound t
+  still_sound t is len now =
+      let sh = h.shape in
+      subst IsSound (sym is) (record {
+        shape = record { graph = sh.graph; family = sh.family; arena = sh.arena; labels = sh.labels; parents = sh.parents; mates = len ∙ sh.mates; circuit = sh.circuit };
+        depth = h.depth;
+        state = subst (λ (m : ℕ → Option ℕ). IsSearchState (with_mates (state_of s) m) h.depth) (sym now) (still_state (state_of s) h.depth final v.kept h.state);
+      })

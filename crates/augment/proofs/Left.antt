@@ -1,0 +1,169 @@
+-- Sets of vertices that one edge of the matching leaves.
+use Rattle.std.proofs.Common.{◌≡◌, ◌≢◌, ◌≤◌, ℕ, Bool, true, false, not, eqb, cond, List, [], ◌∷◌, length, refl, sym, ap, ◌∙◌, arith, ⊎_elim, Option, Some}
+use Rattle.std.specs.Prelude.{All, if◌then◌else◌}
+use Rattle.std.specs.List.{AllByRecursion}
+use Rattle.std.proofs.lemmas.Bool.{eqb-true, eqb-false, or_left, or_right, eq-eqb, both_ways, false_from_ne_true}
+use Rattle.graph_theory.specs.Graph.{Multigraph, IsEdgeWithin, IsEdgeNumber, edge_of}
+use Rattle.graph_theory.specs.declared.edge.Edge.{Edge}
+use Rattle.graph_theory.specs.Parts.{holds}
+use Rattle.blossom_arena.specs.declared.links.Link.{Link}
+use Rattle.blossom_arena.specs.Family.{Blossom, in_ring, is_vertex, is_node, is_outermost, outermost, IsNested}
+use Rattle.blossom_arena.proofs.Lists.{by_test}
+use Rattle.blossom_arena.proofs.Sets.{member_by_ring, outermost_node}
+use Rattle.alt_forest.specs.State.{next_node, IsChainTo, IsRing}
+use Rattle.alt_forest.proofs.Walk.{some_same}
+use Rattle.augment.specs.Opening.{IsPair, AreMated, Opens}
+use Rattle.augment.proofs.Pairs.{first_outer, u_vertex, v_vertex, used_stays, used_still}
+
+-- an edge has exactly one end in a set of vertices
+abbrev pub leaves : (ℕ → Bool) → Edge → Bool
+leaves x e = if x e.u then not (x e.v) else x e.v
+
+-- exactly one mate leaves the set, which is made of whole outermost nodes
+pub record IsLeftOnce (g : Multigraph) (bs : List Blossom) (m : ℕ → Option ℕ) (x : ℕ → Bool) : Type 0 where
+  pub whole : (u v : ℕ) → is_vertex g.vertices u ≡ true → is_vertex g.vertices v ≡ true → outermost bs u ≡ outermost bs v → x u ≡ x v
+  pub edge : ℕ
+  pub node : ℕ
+  pub node_is : is_outermost g.vertices bs node ≡ true
+  pub taken : m node ≡ Some edge
+  pub leaves_it : leaves x (edge_of g edge) ≡ true
+  pub only : (c f : ℕ) → is_outermost g.vertices bs c ≡ true → m c ≡ Some f → leaves x (edge_of g f) ≡ true → f ≡ edge
+
+same_twice : (p q : Bool) → p ≡ q → (if p then not q else q) ≡ true → ⊥
+same_twice true true e h = both_ways false refl h
+same_twice true false e h = both_ways false refl (sym e)
+same_twice false true e h = both_ways false refl e
+same_twice false false e h = both_ways false refl h
+
+one_true : (p q : Bool) → p ≡ true → q ≡ false → (if p then not q else q) ≡ true
+one_true p q e h = rw (e, h) refl
+
+one_false : (p q : Bool) → p ≡ false → q ≡ true → (if p then not q else q) ≡ true
+one_false p q e h = rw (e, h) refl
+
+each_inside : (ring ls : List Link) → ((c : ℕ) → in_ring ls c ≡ true → in_ring ring c ≡ true) → AllByRecursion (λ (l : Link). in_ring ring l.node ≡ true) ls
+each_inside ring [] h = tt
+each_inside ring (l ∷ ls) h = (h l.node (or_left (eqb l.node l.node) (in_ring ls l.node) (eq-eqb l.node l.node refl)), each_inside ring ls (λ c e. h c (or_right (eqb l.node c) (in_ring ls c) e)))
+
+module _ (g : Multigraph) (b : Blossom) (older : List Blossom) (m m' : ℕ → Option ℕ) (nested : IsNested g.vertices (b ∷ older)) (ends : All (IsEdgeWithin g.vertices) g.edges) (ring : IsRing g older b.ring)
+    (mated : AreMated g (b ∷ older) m) (h : Opens g older b.node b.ring b.members m m') where
+  abbrev n : ℕ
+  n = g.vertices
+
+  abbrev bs : List Blossom
+  bs = b ∷ older
+
+  iu : (e : ℕ) → IsEdgeNumber g e → is_vertex n (edge_of g e).u ≡ true
+  iu = u_vertex g b older m m' nested ends ring mated h
+
+  iv : (e : ℕ) → IsEdgeNumber g e → is_vertex n (edge_of g e).v ≡ true
+  iv = v_vertex g b older m m' nested ends ring mated h
+
+  came_in : (v : ℕ) → is_vertex n v ≡ true → in_ring b.ring (outermost older v) ≡ true → outermost bs v ≡ b.node
+  came_in v is r = ap (λ q. cond q b.node (outermost older v)) (member_by_ring n older b v nested is ∙ r)
+
+  same_before : (u v : ℕ) → is_vertex n u ≡ true → is_vertex n v ≡ true → outermost older u ≡ outermost older v → outermost bs u ≡ outermost bs v
+  same_before u v is_u is_v e =
+      let p : holds b.members u ≡ holds b.members v = member_by_ring n older b u nested is_u ∙ ap (in_ring b.ring) e ∙ sym (member_by_ring n older b v nested is_v) in
+      ap (λ q. cond q b.node (outermost older u)) p ∙ ap (λ o. cond (holds b.members v) b.node o) e
+
+  -- an edge of the ring has both ends in the blossom
+  record IsWithin (e : ℕ) : Type 0 where
+    number : IsEdgeNumber g e
+    u_in : outermost bs (edge_of g e).u ≡ b.node
+    v_in : outermost bs (edge_of g e).v ≡ b.node
+
+  ring_ends : (ls : List Link) (z : ℕ) → in_ring b.ring z ≡ true → AllByRecursion (λ (l : Link). in_ring b.ring l.node ≡ true) ls → IsChainTo g older ls z → AllByRecursion (λ (l : Link). IsWithin l.edge) ls
+  ring_ends [] z rz inside chain = tt
+  ring_ends (l ∷ ls) z rz inside chain =
+      let next : in_ring b.ring (next_node ls z) ≡ true = next_in ls inside.1 in
+      let e = edge_of g l.edge in (
+        ⊎_elim
+            (λ p. record { number = chain.0; u_in = came_in e.u (iu l.edge chain.0) (ap (in_ring b.ring) p.0 ∙ inside.0); v_in = came_in e.v (iv l.edge chain.0) (ap (in_ring b.ring) p.1 ∙ next) })
+            (λ p. record { number = chain.0; u_in = came_in e.u (iu l.edge chain.0) (ap (in_ring b.ring) p.0 ∙ next); v_in = came_in e.v (iv l.edge chain.0) (ap (in_ring b.ring) p.1 ∙ inside.0) })
+            chain.1,
+        ring_ends ls z rz inside.1 chain.2,
+      )
+    where
+      next_in : (js : List Link) → AllByRecursion (λ (l : Link). in_ring b.ring l.node ≡ true) js → in_ring b.ring (next_node js z) ≡ true
+      next_in [] each = rz
+      next_in (j ∷ js) each = each.0
+
+  all_within : AllByRecursion (λ (l : Link). IsWithin l.edge) b.ring
+  all_within = by_ring b.ring (each_inside b.ring b.ring (λ c r. r)) nested.0.circuit.at_least_three ring
+    where
+      by_ring : (ls : List Link) → AllByRecursion (λ (l : Link). in_ring b.ring l.node ≡ true) ls → 3 ≤ length ls → IsChainTo g older ls (next_node ls 0) → AllByRecursion (λ (l : Link). IsWithin l.edge) ls
+      by_ring [] inside len chain = absurd (omega (arith, len))
+      by_ring (l ∷ ls) inside len chain = ring_ends (l ∷ ls) l.node inside.0 inside chain
+
+  stays_in : (x : ℕ → Bool) → ((u v : ℕ) → is_vertex n u ≡ true → is_vertex n v ≡ true → outermost bs u ≡ outermost bs v → x u ≡ x v) → (e0 : ℕ)
+      → (ls : List Link) → AllByRecursion (λ (l : Link). IsWithin l.edge) ls → AllByRecursion (λ (l : Link). leaves x (edge_of g l.edge) ≡ true → l.edge ≡ e0) ls
+  stays_in x whole e0 [] each = tt
+  stays_in x whole e0 (l ∷ ls) each =
+      let e = edge_of g l.edge in
+      (λ out. absurd (same_twice (x e.u) (x e.v) (whole e.u e.v (iu l.edge each.0.number) (iv l.edge each.0.number) (each.0.u_in ∙ sym each.0.v_in)) out), stays_in x whole e0 ls each.1)
+
+  -- a set that is left once stays so
+  pub left_stays : (x : ℕ → Bool) → IsLeftOnce g bs m x → IsLeftOnce g older m' x
+  left_stays x l =
+      let still = used_still g b older m m' nested ends ring mated h l.node l.edge l.node_is l.taken in
+      record {
+        whole = λ u v is_u is_v e. l.whole u v is_u is_v (same_before u v is_u is_v e);
+        edge = l.edge;
+        node = still.0;
+        node_is = still.1;
+        taken = still.2;
+        leaves_it = l.leaves_it;
+        only = used_stays g b older m m' nested ends ring mated h (λ f. leaves x (edge_of g f) ≡ true → f ≡ l.edge) (stays_in x l.whole l.edge b.ring all_within) l.only;
+      }
+
+  abbrev inside : ℕ → Bool
+  inside v = holds b.members v
+
+  by_outer : (v : ℕ) → outermost bs v ≢ b.node → inside v ≡ false
+  by_outer v ne = false_from_ne_true (inside v) (λ r. ne (ap (λ q. cond q b.node (outermost older v)) r))
+
+  by_node : (v : ℕ) → is_vertex n v ≡ true → outermost bs v ≡ b.node → inside v ≡ true
+  by_node v is e = by_test (inside v) (λ r. r)
+      (λ out. absurd (both_ways (is_node n older b.node) nested.0.fresh (ap (is_node n older) (sym e ∙ ap (λ q. cond q b.node (outermost older v)) out) ∙ outermost_node n older v is)))
+
+  whole_first : (u v : ℕ) → is_vertex n u ≡ true → is_vertex n v ≡ true → outermost bs u ≡ outermost bs v → inside u ≡ inside v
+  whole_first u v is_u is_v e = by_test (eqb (outermost bs u) b.node)
+      (λ s. let same : outermost bs u ≡ b.node = eqb-true (outermost bs u) b.node s in by_node u is_u same ∙ sym (by_node v is_v (sym e ∙ same)))
+      (λ s. let other : outermost bs u ≢ b.node = eqb-false (outermost bs u) b.node s in by_outer u other ∙ sym (by_outer v (λ q. other (e ∙ q))))
+
+  -- a mate of two nodes that aren't the blossom doesn't leave it
+  not_left : (c f d : ℕ) → IsPair g bs m c f d → c ≢ b.node → d ≢ b.node → leaves inside (edge_of g f) ≡ true → ⊥
+  not_left c f d w nc nd out =
+      let e = edge_of g f in
+      ⊎_elim
+      (λ j. same_twice (inside e.u) (inside e.v) (by_outer e.u (λ q. nc (sym j.0 ∙ q)) ∙ sym (by_outer e.v (λ q. nd (sym j.1 ∙ q)))) out)
+      (λ j. same_twice (inside e.u) (inside e.v) (by_outer e.u (λ q. nd (sym j.0 ∙ q)) ∙ sym (by_outer e.v (λ q. nc (sym j.1 ∙ q)))) out)
+      w.joins
+
+  -- the blossom itself is left by its own mate alone
+  pub first_left : IsLeftOnce g bs m inside
+  first_left =
+      let outer = first_outer g b older m m' nested ends ring mated h in
+      let p = mated b.node outer in
+      let e = edge_of g p.0 in
+      record {
+        whole = whole_first;
+        edge = p.0;
+        node = b.node;
+        node_is = outer;
+        taken = p.2;
+        leaves_it = ⊎_elim
+            (λ j. one_true (inside e.u) (inside e.v) (by_node e.u (iu p.0 p.3.edge) j.0) (by_outer e.v (λ q. p.3.different (sym q ∙ j.1))))
+            (λ j. one_false (inside e.u) (inside e.v) (by_outer e.u (λ q. p.3.different (sym q ∙ j.0))) (by_node e.v (iv p.0 p.3.edge) j.1))
+            p.3.joins;
+        only = λ c f is has out.
+            let r = mated c is in
+            let same : r.0 ≡ f = some_same r.0 f (sym r.2 ∙ has) in
+            let out' : leaves inside (edge_of g r.0) ≡ true = ap (λ k. leaves inside (edge_of g k)) same ∙ out in
+            by_test (eqb c b.node)
+            (λ s. some_same f p.0 (sym has ∙ ap m (eqb-true c b.node s) ∙ p.2))
+            (λ c_not. by_test (eqb r.1 b.node)
+            (λ s. sym same ∙ some_same r.0 p.0 (sym r.3.back ∙ ap m (eqb-true r.1 b.node s) ∙ p.2))
+            (λ d_not. absurd (not_left c r.0 r.1 r.3 (eqb-false c b.node c_not) (eqb-false r.1 b.node d_not) out')));
+      }

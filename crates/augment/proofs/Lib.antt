@@ -1,0 +1,14 @@
+pub mod Joined
+pub mod Flipped
+pub mod Exposure
+pub mod Turning
+pub mod Turned
+pub mod Round
+pub mod Pairs
+pub mod Left
+pub mod Unpacked
+pub mod Counts
+pub mod Weaving
+pub mod Bases
+pub mod Ready
+pub mod Finished

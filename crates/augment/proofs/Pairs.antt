@@ -1,0 +1,201 @@
+-- The newest blossom is opened: then each node that is outermost without it has a mate.
+use Rattle.std.proofs.Common.{◌≡◌, ◌≢◌, ℕ, true, false, not, eqb, cond, List, [], ◌∷◌, ◌++◌, refl, sym, ap, ◌∙◌, subst, ⊎_elim, ◌⊎◌, inl, inr, Option, Some}
+use Rattle.std.specs.Prelude.{All}
+use Rattle.std.specs.List.{AllByRecursion}
+use Rattle.std.proofs.lemmas.Bool.{eq-eqb, eqb-true, eqb-false, ne_eqb, or_parts, or_left, or_right, or_from, or_cases, and_from, both_ways}
+use Rattle.graph_theory.specs.Graph.{Multigraph, IsEdgeWithin, IsEdgeNumber, edge_of}
+use Rattle.graph_theory.specs.Parts.{holds}
+use Rattle.graph_theory.proofs.Edges.{edge_of_within}
+use Rattle.blossom_arena.specs.declared.links.Link.{Link}
+use Rattle.blossom_arena.specs.Family.{Blossom, nodes_of, in_ring, is_vertex, is_node, is_child, is_outermost, outermost, IsNested}
+use Rattle.blossom_arena.proofs.Lists.{by_test, AllNew, new_from_distinct}
+use Rattle.blossom_arena.proofs.Nested.{circuit_outer, outermost_parts, outermost_before, new_is_node, new_no_child, node_grows, range_vertex}
+use Rattle.alt_forest.specs.State.{Joins, IsChainTo, IsRing}
+use Rattle.alt_forest.proofs.Walk.{some_same}
+use Rattle.augment.specs.Opening.{IsPair, AreMated, ArePaired, Opens}
+use Rattle.augment.proofs.Joined.{joins_turned}
+use Rattle.augment.proofs.Round.{AreRound, are_round, round_chain, each_split, each_join}
+
+paired_some : (P : ℕ → Type 0) (m : ℕ → Option ℕ) (ls : List Link) (c : ℕ) → ArePaired m ls → AllByRecursion (λ (l : Link). P l.edge) ls → in_ring ls c ≡ true → (f : ℕ) × (m c ≡ Some f) × P f
+paired_some P m [] c h p r = absurd (both_ways false refl r)
+paired_some P m (l ∷ []) c h p r = absurd h
+paired_some P m (l ∷ (k ∷ ls)) c h p r =
+    ⊎_elim (λ here. (l.edge, ap m (sym (eqb-true l.node c here)) ∙ h.0, p.0))
+    (λ more. ⊎_elim (λ here. (l.edge, ap m (sym (eqb-true k.node c here)) ∙ h.1, p.0)) (λ later. paired_some P m ls c h.2 p.1.1 later) (or_cases (eqb k.node c) (in_ring ls c) more))
+    (or_cases (eqb l.node c) (in_ring (k ∷ ls) c) r)
+
+each_unit : (ls : List Link) → AllByRecursion (λ (l : Link). Unit {0}) ls
+each_unit [] = tt
+each_unit (l ∷ ls) = (tt, each_unit ls)
+
+module _ (g : Multigraph) (b : Blossom) (older : List Blossom) (m m' : ℕ → Option ℕ) (nested : IsNested g.vertices (b ∷ older)) (ends : All (IsEdgeWithin g.vertices) g.edges) (ring : IsRing g older b.ring)
+    (mated : AreMated g (b ∷ older) m) (h : Opens g older b.node b.ring b.members m m') where
+  abbrev n : ℕ
+  n = g.vertices
+
+  abbrev bs : List Blossom
+  bs = b ∷ older
+
+  abbrev round : List Link
+  round = h.behind ++ h.before
+
+  t : AreRound b.ring h.base.node round
+  t = are_round b.ring h.before h.base h.behind h.split (new_from_distinct (nodes_of b.ring) nested.0.circuit.different)
+
+  pub first_outer : is_outermost n bs b.node ≡ true
+  first_outer = and_from (is_node n bs b.node) (not (is_child bs b.node)) (new_is_node n b older) (ap not (new_no_child n b older nested))
+
+  old_pair : (c f : ℕ) → is_outermost n bs c ≡ true → m c ≡ Some f → (d : ℕ) × IsPair g bs m c f d
+  old_pair c f is has = let r = mated c is in (r.1, subst (λ k. IsPair g bs m c k r.1) (some_same r.0 f (sym r.2 ∙ has)) r.3)
+
+  pub u_vertex : (e : ℕ) → IsEdgeNumber g e → is_vertex n (edge_of g e).u ≡ true
+  u_vertex e is = let w = edge_of_within g e ends is in range_vertex n (edge_of g e).u w.u_low w.u_high
+
+  pub v_vertex : (e : ℕ) → IsEdgeNumber g e → is_vertex n (edge_of g e).v ≡ true
+  v_vertex e is = let w = edge_of_within g e ends is in range_vertex n (edge_of g e).v w.v_low w.v_high
+
+  differs : (c : ℕ) → is_outermost n older c ≡ true → c ≢ b.node
+  differs c is q = both_ways (is_node n older b.node) nested.0.fresh (ap (is_node n older) (sym q) ∙ (outermost_parts n older c is).0)
+
+  -- a vertex outside of the blossom keeps its outermost node
+  below : (v x : ℕ) → outermost bs v ≡ x → x ≢ b.node → outermost older v ≡ x
+  below v x e ne = by_test (holds b.members v)
+      (λ in_it. absurd (ne (sym e ∙ ap (λ q. cond q b.node (outermost older v)) in_it)))
+      (λ out. sym (ap (λ q. cond q b.node (outermost older v)) out) ∙ e)
+
+  joins_below : (e c d : ℕ) → Joins g bs e c d → c ≢ b.node → d ≢ b.node → Joins g older e c d
+  joins_below e c d j nc nd = ⊎_elim
+      (λ p. inl (below (edge_of g e).u c p.0 nc, below (edge_of g e).v d p.1 nd))
+      (λ p. inr (below (edge_of g e).u d p.0 nd, below (edge_of g e).v c p.1 nc))
+      j
+
+  end_above : outermost bs h.end ≡ b.node
+  end_above = ap (λ q. cond q b.node (outermost older h.end)) h.end_in
+
+  -- the edge that joined a node to the blossom joins it to the child
+  base_joins : (c : ℕ) → Joins g bs h.edge c b.node → c ≢ b.node → Joins g older h.edge c h.base.node
+  base_joins c j ne = ⊎_elim
+      (λ p. ⊎_elim
+      (λ q. absurd (ne (sym p.0 ∙ ap (outermost bs) (sym q) ∙ end_above)))
+      (λ q. inl (below (edge_of g h.edge).u c p.0 ne, ap (outermost older) (sym q) ∙ h.base_holds))
+      h.end_of_edge)
+      (λ p. ⊎_elim
+      (λ q. inr (ap (outermost older) (sym q) ∙ h.base_holds, below (edge_of g h.edge).v c p.1 ne))
+      (λ q. absurd (ne (sym p.1 ∙ ap (outermost bs) (sym q) ∙ end_above)))
+      h.end_of_edge)
+      j
+
+  -- an outermost node after it was so before, or lay in the ring
+  pub cases_outer : (c : ℕ) → is_outermost n older c ≡ true → ((is_outermost n bs c ≡ true) × (in_ring b.ring c ≡ false)) ⊎ ((c ≡ h.base.node) ⊎ (in_ring round c ≡ true))
+  cases_outer c is =
+      let p = outermost_parts n older c is in
+      by_test (in_ring b.ring c)
+      (λ r. inr (t.all c r))
+      (λ r. inl (and_from (is_node n bs c) (not (is_child bs c)) (node_grows n b older c p.0) (ap not (or_from (in_ring b.ring c) (is_child older c) r p.1)), r))
+
+  ring_outer : (c : ℕ) → in_ring b.ring c ≡ true → is_outermost n older c ≡ true
+  ring_outer c r = circuit_outer n older b.ring c nested.0.circuit r
+
+  -- nodes that are paired are mates
+  in_pairs : (ls : List Link) (z : ℕ) → IsChainTo g older ls z → ((c : ℕ) → in_ring ls c ≡ true → in_ring b.ring c ≡ true) → AllNew (nodes_of ls) → ArePaired m' ls
+      → (c f : ℕ) → in_ring ls c ≡ true → m' c ≡ Some f → (d : ℕ) × IsPair g older m' c f d
+  in_pairs [] z chain inside new pairs c f r has = absurd (both_ways false refl r)
+  in_pairs (l ∷ []) z chain inside new pairs c f r has = absurd pairs
+  in_pairs (l ∷ (k ∷ ls)) z chain inside new pairs c f r has =
+      let l_in : in_ring b.ring l.node ≡ true = inside l.node (or_left (eqb l.node l.node) (in_ring (k ∷ ls) l.node) (eq-eqb l.node l.node refl)) in
+      let k_in : in_ring b.ring k.node ≡ true = inside k.node (or_right (eqb l.node k.node) (in_ring (k ∷ ls) k.node) (or_left (eqb k.node k.node) (in_ring ls k.node) (eq-eqb k.node k.node refl))) in
+      let k_not_l : k.node ≢ l.node = eqb-false k.node l.node (or_parts (eqb k.node l.node) (in_ring ls l.node) new.0).0 in
+      let left : IsPair g older m' l.node l.edge k.node = record { edge = chain.0; joins = chain.1; different = λ q. k_not_l (sym q); outer = ring_outer k.node k_in; back = pairs.1 } in
+      let right : IsPair g older m' k.node l.edge l.node = record { edge = chain.0; joins = joins_turned g older l.edge l.node k.node chain.1; different = k_not_l; outer = ring_outer l.node l_in; back = pairs.0 } in
+      ⊎_elim
+      (λ here. let same : l.node ≡ c = eqb-true l.node c here in
+      let edge : l.edge ≡ f = some_same l.edge f (sym pairs.0 ∙ ap m' same ∙ has) in
+      (k.node, subst (λ x. IsPair g older m' c x k.node) edge (subst (λ x. IsPair g older m' x l.edge k.node) same left)))
+      (λ more. ⊎_elim
+      (λ here. let same : k.node ≡ c = eqb-true k.node c here in
+      let edge : l.edge ≡ f = some_same l.edge f (sym pairs.1 ∙ ap m' same ∙ has) in
+      (l.node, subst (λ x. IsPair g older m' c x l.node) edge (subst (λ x. IsPair g older m' x l.edge l.node) same right)))
+      (λ later. in_pairs ls z chain.2.2 (λ x e. inside x (or_right (eqb l.node x) (in_ring (k ∷ ls) x) (or_right (eqb k.node x) (in_ring ls x) e))) new.1.1 pairs.2 c f later has)
+      (or_cases (eqb k.node c) (in_ring ls c) more))
+      (or_cases (eqb l.node c) (in_ring (k ∷ ls) c) r)
+
+  -- a node outside of the ring
+  outside : (c : ℕ) → is_outermost n older c ≡ true → is_outermost n bs c ≡ true → in_ring b.ring c ≡ false → (e : ℕ) × (d : ℕ) × (m' c ≡ Some e) × IsPair g older m' c e d
+  outside c is was out =
+      let r = mated c was in
+      let w = r.3 in
+      let ne : c ≢ b.node = differs c is in
+      let has : m' c ≡ Some r.0 = h.others c out ∙ r.2 in
+      by_test (eqb b.node r.1)
+      (λ s.
+      let same : r.1 ≡ b.node = sym (eqb-true b.node r.1 s) in
+      let edge : r.0 ≡ h.edge = some_same r.0 h.edge (sym w.back ∙ ap m same ∙ h.mate) in
+      let old : Joins g bs h.edge c b.node = subst (λ x. Joins g bs x c b.node) edge (subst (λ x. Joins g bs r.0 c x) same w.joins) in (
+        r.0,
+        h.base.node,
+        has,
+        record {
+          edge = w.edge;
+          joins = subst (λ x. Joins g older x c h.base.node) (sym edge) (base_joins c old ne);
+          different = λ q. both_ways (in_ring b.ring c) out (ap (in_ring b.ring) q ∙ t.base_in);
+          outer = ring_outer h.base.node t.base_in;
+          back = h.new_base ∙ ap (λ x. Some x) (sym edge);
+        },
+      ))
+      (λ s.
+      let other : r.1 ≢ b.node = λ q. eqb-false b.node r.1 s (sym q) in
+      let p = outermost_before n b older r.1 s w.outer in
+      (r.0, r.1, has, record { edge = w.edge; joins = joins_below r.0 c r.1 w.joins ne other; different = w.different; outer = p.0; back = h.others r.1 p.1 ∙ w.back }))
+
+  -- the child that took the blossom's mate
+  at_base : (e : ℕ) × (d : ℕ) × (m' h.base.node ≡ Some e) × IsPair g older m' h.base.node e d
+  at_base =
+      let r = old_pair b.node h.edge first_outer h.mate in
+      let w = r.1 in
+      let other : r.0 ≢ b.node = λ q. w.different (sym q) in
+      let p = outermost_before n b older r.0 (ne_eqb b.node r.0 w.different) w.outer in (
+        h.edge,
+        r.0,
+        h.new_base,
+        record {
+          edge = w.edge;
+          joins = joins_turned g older h.edge r.0 h.base.node (base_joins r.0 (joins_turned g bs h.edge b.node r.0 w.joins) other);
+          different = λ q. both_ways (in_ring b.ring r.0) p.1 (ap (in_ring b.ring) (sym q) ∙ t.base_in);
+          outer = p.0;
+          back = h.others r.0 p.1 ∙ w.back;
+        },
+      )
+
+  pub all_mated : AreMated g older m'
+  all_mated c is = ⊎_elim
+      (λ was. outside c is was.0 was.1)
+      (λ in_it. ⊎_elim
+      (λ same. subst (λ x. (e : ℕ) × (d : ℕ) × (m' x ≡ Some e) × IsPair g older m' x e d) (sym same) at_base)
+      (λ r. let some = paired_some (λ _. Unit {0}) m' round c h.new_pairs (each_unit round) r in
+      let p = in_pairs round h.base.node (round_chain g older b.ring h.before h.base h.behind h.split ring) t.inside t.different h.new_pairs c some.0 r some.1 in
+      (some.0, p.0, some.1, p.1))
+      in_it)
+      (cases_outer c is)
+
+  -- what holds of each edge of the ring, and of each mate, holds of each mate after
+  pub used_stays : (P : ℕ → Type 0) → AllByRecursion (λ (l : Link). P l.edge) b.ring → ((c f : ℕ) → is_outermost n bs c ≡ true → m c ≡ Some f → P f) → (c f : ℕ) → is_outermost n older c ≡ true → m' c ≡ Some f → P f
+  used_stays P each old c f is has = ⊎_elim
+      (λ was. old c f was.0 (sym (h.others c was.1) ∙ has))
+      (λ in_it. ⊎_elim
+      (λ same. subst P (some_same h.edge f (sym h.new_base ∙ ap m' (sym same) ∙ has)) (old b.node h.edge first_outer h.mate))
+      (λ r. let p = paired_some P m' round c h.new_pairs each_round r in subst P (some_same p.0 f (sym p.1 ∙ has)) p.2)
+      in_it)
+      (cases_outer c is)
+    where
+      parts : AllByRecursion (λ (l : Link). P l.edge) h.before × AllByRecursion (λ (l : Link). P l.edge) (h.base ∷ h.behind)
+      parts = each_split (λ (l : Link). P l.edge) h.before (h.base ∷ h.behind) (subst (λ (x : List Link). AllByRecursion (λ (l : Link). P l.edge) x) h.split each)
+
+      each_round : AllByRecursion (λ (l : Link). P l.edge) round
+      each_round = each_join (λ (l : Link). P l.edge) h.behind h.before parts.1.1 parts.0
+
+  -- an edge that was a mate is one after
+  pub used_still : (c f : ℕ) → is_outermost n bs c ≡ true → m c ≡ Some f → (d : ℕ) × (is_outermost n older d ≡ true) × (m' d ≡ Some f)
+  used_still c f is has = by_test (eqb b.node c)
+      (λ s. let same : b.node ≡ c = eqb-true b.node c s in
+      (h.base.node, ring_outer h.base.node t.base_in, h.new_base ∙ sym h.mate ∙ ap m same ∙ has))
+      (λ s. let p = outermost_before n b older c s is in (c, p.0, h.others c p.1 ∙ has))

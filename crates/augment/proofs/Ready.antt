@@ -1,0 +1,142 @@
+-- The next blossom to be opened, and what is left where all are.
+use Rattle.std.proofs.Common.{◌≡◌, ℕ, ◌+◌, ◌<◌, true, not, cond, List, [], ◌∷◌, ◌++◌, refl, sym, ap, ◌∙◌, subst, arith, ⊎_elim, inl, inr, Option, Some}
+use Rattle.std.specs.Prelude.{All, is_some}
+use Rattle.std.proofs.lemmas.Bool.{both_ways, and_from}
+use Rattle.std.proofs.lemmas.List.{append_assoc, append-nil}
+use Rattle.graph_theory.specs.Graph.{Multigraph, IsEdgeWithin, edge_of}
+use Rattle.graph_theory.specs.Parts.{holds}
+use Rattle.graph_theory.proofs.Edges.{edge_of_within}
+use Rattle.blossom_arena.specs.declared.links.Link.{Link}
+use Rattle.blossom_arena.specs.Family.{Blossom, Family, names_of, is_vertex, is_node, is_child, is_outermost, outermost, members_of, ring_of, older_than, room_of, IsNested}
+use Rattle.blossom_arena.proofs.Lists.{by_test}
+use Rattle.blossom_arena.proofs.Nested.{names_new, name_range, new_is_node, new_no_child, range_vertex}
+use Rattle.blossom_arena.proofs.Sets.{outermost_node}
+use Rattle.alt_forest.specs.State.{State, HasRings, IsSearchState}
+use Rattle.alt_forest.proofs.Walk.{some_same}
+use Rattle.augment.specs.Opening.{IsPair, AreMated, Opens, Unpacks, CanOpen, CanUnpack}
+use Rattle.augment.proofs.Pairs.{all_mated}
+use Rattle.augment.proofs.Unpacked.{IsAt, found_at, nested_tail, rings_tail, AreOpened, one_opened}
+
+-- a list of names that begins with this one
+pub record BeginsWith (left : List Blossom) (b : ℕ) (rest : List ℕ) : Type 0 where
+  pub first : Blossom
+  pub older : List Blossom
+  pub left_is : left ≡ first ∷ older
+  pub node : first.node ≡ b
+  pub rest_is : rest ≡ names_of older
+
+pub begins_with : (left : List Blossom) (b : ℕ) (rest : List ℕ) → b ∷ rest ≡ names_of left → BeginsWith left b rest
+begins_with [] b rest e = absurd (subst some e tt)
+  where
+    some : List ℕ → Type 0
+    some [] = ⊥
+    some (x ∷ xs) = Unit {0}
+begins_with (x ∷ xs) b rest e = record { first = x; older = xs; left_is = refl; node = sym (ap (λ t. head t) e); rest_is = ap (λ t. tail t) e }
+  where
+    head : List ℕ → ℕ
+    head [] = 0
+    head (y ∷ ys) = y
+
+    tail : List ℕ → List ℕ
+    tail [] = []
+    tail (y ∷ ys) = ys
+
+pub none_left : (left : List Blossom) → [] ≡ names_of left → left ≡ []
+none_left [] e = refl
+none_left (x ∷ xs) e = absurd (subst none e tt)
+  where
+    none : List ℕ → Type 0
+    none [] = Unit {0}
+    none (y ∷ ys) = ⊥
+
+-- what a step of the loop comes to
+pub record IsNextStep (g : Multigraph) (f : Family) (m0 : ℕ → Option ℕ) (rest : List ℕ) (n : ℕ → Option ℕ) : Type 0 where
+  pub opened : List Blossom
+  pub left : List Blossom
+  pub split : f.blossoms ≡ opened ++ left
+  pub names : rest ≡ names_of left
+  pub mated : AreMated g left n
+  pub unpacks : (final : ℕ → Option ℕ) → Unpacks g left n final → Unpacks g f.blossoms m0 final
+
+module _ (g : Multigraph) (f : Family) (m0 m : ℕ → Option ℕ) (can : CanUnpack g f m0) (opened left : List Blossom) (split : f.blossoms ≡ opened ++ left) (mated : AreMated g left m) (b : ℕ) (rest : List ℕ) (names : b ∷ rest ≡ names_of left) where
+  w : BeginsWith left b rest
+  w = begins_with left b rest names
+
+  abbrev here : List Blossom
+  here = w.first ∷ w.older
+
+  split_here : f.blossoms ≡ opened ++ here
+  split_here = split ∙ ap (λ x. opened ++ x) w.left_is
+
+  nested_all : IsNested g.vertices f.blossoms
+  nested_all = subst (λ n. IsNested n f.blossoms) can.vertices can.family.nested
+
+  nested : IsNested g.vertices here
+  nested = nested_tail g.vertices opened here (subst (IsNested g.vertices) split_here nested_all)
+
+  rings : HasRings g here
+  rings = rings_tail g opened here (subst (HasRings g) split_here can.rings)
+
+  at : IsAt f.blossoms w.first w.older
+  at = subst (λ (bs : List Blossom). IsAt bs w.first w.older) (sym split_here) (found_at opened w.first w.older (names_new g.vertices (opened ++ here) (subst (IsNested g.vertices) split_here nested_all)))
+
+  mated_here : AreMated g here m
+  mated_here = subst (λ (bs : List Blossom). AreMated g bs m) w.left_is mated
+
+  outer : is_outermost g.vertices here w.first.node ≡ true
+  outer = and_from (is_node g.vertices here w.first.node) (not (is_child here w.first.node)) (new_is_node g.vertices w.first w.older) (ap not (new_no_child g.vertices w.first w.older nested))
+
+  pub named : holds (names_of f.blossoms) b ≡ true
+  named = ap (holds (names_of f.blossoms)) (sym w.node) ∙ at.named
+
+  pub place : (k : ℕ) → f.vertex_count + room_of f.vertex_count < k → b < k
+  place k low = omega (arith, low, (name_range f.vertex_count f.blossoms b can.family.nested named).1)
+
+  pub some : is_some (m b) ≡ true
+  some = ap (λ x. is_some (m x)) (sym w.node) ∙ ap (λ (o : Option ℕ). is_some o) (mated_here w.first.node outer).2
+
+  -- a vertex whose outermost node is the first is in it
+  by_node : (v : ℕ) → is_vertex g.vertices v ≡ true → outermost here v ≡ w.first.node → holds (members_of f.blossoms b) v ≡ true
+  by_node v iv e = ap (λ x. holds (members_of f.blossoms x) v) (sym w.node) ∙ ap (λ ms. holds ms v) at.members ∙ by_test (holds w.first.members v) (λ t. t)
+      (λ out. absurd (both_ways (is_node g.vertices w.older w.first.node) nested.0.fresh (ap (is_node g.vertices w.older) (sym e ∙ ap (λ q. cond q w.first.node (outermost w.older v)) out) ∙ outermost_node g.vertices w.older v iv)))
+
+  pub can_open : (e : ℕ) → Some e ≡ m b → CanOpen g f b e
+  can_open e has =
+      let r = mated_here w.first.node outer in
+      let same : r.0 ≡ e = some_same r.0 e (sym r.2 ∙ ap m w.node ∙ sym has) in
+      let p : IsPair g here m w.first.node e r.1 = subst (λ k. IsPair g here m w.first.node k r.1) same r.3 in
+      let x = edge_of_within g e can.ends p.edge in
+      record {
+        family = can.family;
+        vertices = can.vertices;
+        ends = can.ends;
+        blossom = named;
+        edge = p.edge;
+        inside = ⊎_elim
+            (λ j. inl (by_node (edge_of g e).u (range_vertex g.vertices (edge_of g e).u x.u_low x.u_high) j.0))
+            (λ j. inr (by_node (edge_of g e).v (range_vertex g.vertices (edge_of g e).v x.v_low x.v_high) j.1))
+            p.joins;
+      }
+
+  pub next_step : (n : ℕ → Option ℕ) → Opens g (older_than f.blossoms b) b (ring_of f.blossoms b) (members_of f.blossoms b) m n → ((final : ℕ → Option ℕ) → Unpacks g left m final → Unpacks g f.blossoms m0 final) → IsNextStep g f m0 rest n
+  next_step n o unpacks =
+      let o1 = subst (λ x. Opens g (older_than f.blossoms x) x (ring_of f.blossoms x) (members_of f.blossoms x) m n) (sym w.node) o in
+      let o2 = subst (λ (bs : List Blossom). Opens g bs w.first.node (ring_of f.blossoms w.first.node) (members_of f.blossoms w.first.node) m n) at.older o1 in
+      let o3 = subst (λ (r : List Link). Opens g w.older w.first.node r (members_of f.blossoms w.first.node) m n) at.ring o2 in
+      let o4 = subst (λ ms. Opens g w.older w.first.node w.first.ring ms m n) at.members o3 in
+      record {
+        opened = opened ++ (w.first ∷ []);
+        left = w.older;
+        split = split_here ∙ sym (append_assoc opened (w.first ∷ []) w.older);
+        names = w.rest_is;
+        mated = all_mated g w.first w.older m n nested can.ends rings.0 mated_here o4;
+        unpacks = λ final u. unpacks final (subst (λ (bs : List Blossom). Unpacks g bs m final) (sym w.left_is) (n, o4, u));
+      }
+
+-- where all are opened
+pub all_opened : (s : State) (depth : ℕ → ℕ) → IsNested s.graph.vertices s.blossoms → All (IsEdgeWithin s.graph.vertices) s.graph.edges → IsSearchState s depth → (opened left : List Blossom) (m final : ℕ → Option ℕ)
+    → AreOpened s opened left m → Unpacks s.graph left m final → AreOpened s s.blossoms [] final
+all_opened s depth nest ends st opened [] m final v u =
+    subst (λ (x : ℕ → Option ℕ). AreOpened s s.blossoms [] x) (sym u) (subst (λ (bs : List Blossom). AreOpened s bs [] m) (sym (v.split ∙ append-nil opened)) v)
+all_opened s depth nest ends st opened (b ∷ older) m final v u =
+    all_opened s depth nest ends st (opened ++ (b ∷ [])) older u.0 final (one_opened s depth opened b older m u.0 nest ends st v u.1) u.2

@@ -1,0 +1,101 @@
+-- Blossoms are opened one after the other, the newest first.
+use Rattle.std.proofs.Common.{◌≡◌, ℕ, true, false, eqb, cond, List, [], ◌∷◌, ◌++◌, refl, sym, ap, ◌∙◌, subst, Option, Some, None}
+use Rattle.std.specs.Prelude.{All}
+use Rattle.std.specs.List.{AllByRecursion}
+use Rattle.std.proofs.lemmas.Bool.{eq-eqb, ne_eqb, or_parts, both_ways}
+use Rattle.std.proofs.lemmas.List.{append_assoc}
+use Rattle.graph_theory.specs.Graph.{Multigraph, IsEdgeWithin}
+use Rattle.graph_theory.specs.Parts.{holds}
+use Rattle.blossom_arena.specs.declared.links.Link.{Link}
+use Rattle.blossom_arena.specs.Family.{Blossom, in_ring, names_of, members_of, ring_of, older_than, is_child, is_outermost, IsNested}
+use Rattle.blossom_arena.proofs.Lists.{AllNew, first_in, later_in}
+use Rattle.blossom_arena.proofs.Nested.{outermost_parts}
+use Rattle.alt_forest.specs.State.{State, IsOutermost, IsTight, HasRings, IsSearchState}
+use Rattle.augment.specs.Exposed.{IsMatched}
+use Rattle.augment.specs.Opening.{IsPair, AreMated, Opens}
+use Rattle.augment.proofs.Pairs.{all_mated, used_stays}
+use Rattle.augment.proofs.Left.{IsLeftOnce, left_stays, first_left}
+use Rattle.augment.proofs.Round.{each_split, each_join}
+
+pub nested_tail : (n : ℕ) (xs ys : List Blossom) → IsNested n (xs ++ ys) → IsNested n ys
+nested_tail n [] ys h = h
+nested_tail n (x ∷ xs) ys h = nested_tail n xs ys h.1
+
+pub rings_tail : (g : Multigraph) (xs ys : List Blossom) → HasRings g (xs ++ ys) → HasRings g ys
+rings_tail g [] ys h = h
+rings_tail g (x ∷ xs) ys h = rings_tail g xs ys h.1
+
+child_tail : (xs : List Blossom) (b : Blossom) (ys : List Blossom) (a : ℕ) → is_child (xs ++ (b ∷ ys)) a ≡ false → in_ring b.ring a ≡ false
+child_tail [] b ys a e = (or_parts (in_ring b.ring a) (is_child ys a) e).0
+child_tail (x ∷ xs) b ys a e = child_tail xs b ys a (or_parts (in_ring x.ring a) (is_child (xs ++ (b ∷ ys)) a) e).1
+
+-- what a family says of one of its blossoms
+pub record IsAt (bs : List Blossom) (b : Blossom) (rest : List Blossom) : Type 0 where
+  pub named : holds (names_of bs) b.node ≡ true
+  pub ring : ring_of bs b.node ≡ b.ring
+  pub members : members_of bs b.node ≡ b.members
+  pub older : older_than bs b.node ≡ rest
+
+pub found_at : (xs : List Blossom) (b : Blossom) (ys : List Blossom) → AllNew (names_of (xs ++ (b ∷ ys))) → IsAt (xs ++ (b ∷ ys)) b ys
+found_at [] b ys new =
+    let e : eqb b.node b.node ≡ true = eq-eqb b.node b.node refl in
+    record {
+      named = first_in b.node (names_of ys);
+      ring = ap (λ q. cond q b.ring (ring_of ys b.node)) e;
+      members = ap (λ q. cond q b.members (members_of ys b.node)) e;
+      older = ap (λ q. cond q ys (older_than ys b.node)) e;
+    }
+found_at (x ∷ xs) b ys new =
+    let r = found_at xs b ys new.1 in
+    let e : eqb x.node b.node ≡ false = ne_eqb x.node b.node (λ s. both_ways (holds (names_of (xs ++ (b ∷ ys))) x.node) new.0 (ap (holds (names_of (xs ++ (b ∷ ys)))) s ∙ r.named)) in
+    record {
+      named = later_in x.node (names_of (xs ++ (b ∷ ys))) b.node r.named;
+      ring = ap (λ q. cond q x.ring (ring_of (xs ++ (b ∷ ys)) b.node)) e ∙ r.ring;
+      members = ap (λ q. cond q x.members (members_of (xs ++ (b ∷ ys)) b.node)) e ∙ r.members;
+      older = ap (λ q. cond q (xs ++ (b ∷ ys)) (older_than (xs ++ (b ∷ ys)) b.node)) e ∙ r.older;
+    }
+
+-- some blossoms are opened, the others not yet
+pub record AreOpened (s : State) (opened left : List Blossom) (m : ℕ → Option ℕ) : Type 0 where
+  pub split : s.blossoms ≡ opened ++ left
+  pub mated : AreMated s.graph left m
+  pub tight : (c f : ℕ) → is_outermost s.graph.vertices left c ≡ true → m c ≡ Some f → IsTight s f
+  pub once : AllByRecursion (λ (b : Blossom). IsLeftOnce s.graph left m (λ v. holds b.members v)) opened
+  pub kept : (a : ℕ) → IsOutermost s a → m a ≡ s.mate a
+
+-- before any is
+pub none_opened : (s : State) (depth : ℕ → ℕ) → IsSearchState s depth → IsMatched s → AreOpened s [] s.blossoms s.mate
+none_opened s depth st matched = record {
+  split = refl;
+  mated = λ a is. by_mate a is (s.mate a) refl;
+  tight = λ c f is has. let w = (st.mates c f is has).1 in record { edge = w.edge; tight = w.tight };
+  once = tt;
+  kept = λ a is. refl;
+}
+  where
+    by_mate : (a : ℕ) → IsOutermost s a → (o : Option ℕ) → s.mate a ≡ o → (e : ℕ) × (b : ℕ) × (s.mate a ≡ Some e) × IsPair s.graph s.blossoms s.mate a e b
+    by_mate a is None none = absurd (matched a (is, none))
+    by_mate a is (Some e) has =
+        let r = st.mates a e is has in
+        (e, r.0, has, record { edge = r.1.edge; joins = r.1.joins; different = r.1.different; outer = r.1.outer; back = r.1.back })
+
+-- one more
+pub one_opened : (s : State) (depth : ℕ → ℕ) (opened : List Blossom) (b : Blossom) (older : List Blossom) (m m' : ℕ → Option ℕ) → IsNested s.graph.vertices s.blossoms → All (IsEdgeWithin s.graph.vertices) s.graph.edges → IsSearchState s depth
+    → AreOpened s opened (b ∷ older) m → Opens s.graph older b.node b.ring b.members m m' → AreOpened s (opened ++ (b ∷ [])) older m'
+one_opened s depth opened b older m m' nested ends st v h =
+    let g : Multigraph = s.graph in
+    let nest : IsNested g.vertices (b ∷ older) = nested_tail g.vertices opened (b ∷ older) (subst (IsNested g.vertices) v.split nested) in
+    let rings : HasRings g (b ∷ older) = rings_tail g opened (b ∷ older) (subst (HasRings g) v.split st.rings) in
+    let tight = (each_split (λ (x : Blossom). AllByRecursion (λ (l : Link). IsTight s l.edge) x.ring) opened (b ∷ older) (subst (AllByRecursion (λ (x : Blossom). AllByRecursion (λ (l : Link). IsTight s l.edge) x.ring)) v.split st.tight_rings)).1 in
+    record {
+      split = v.split ∙ sym (append_assoc opened (b ∷ []) older);
+      mated = all_mated g b older m m' nest ends rings.0 v.mated h;
+      tight = used_stays g b older m m' nest ends rings.0 v.mated h (IsTight s) tight.0 v.tight;
+      once = each_join (λ (x : Blossom). IsLeftOnce g older m' (λ u. holds x.members u)) opened (b ∷ []) (stay nest rings opened v.once)
+          (left_stays g b older m m' nest ends rings.0 v.mated h (λ u. holds b.members u) (first_left g b older m m' nest ends rings.0 v.mated h), tt);
+      kept = λ a is. h.others a (child_tail opened b older a (ap (λ bs. is_child bs a) (sym v.split) ∙ (outermost_parts g.vertices s.blossoms a is).1)) ∙ v.kept a is;
+    }
+  where
+    stay : IsNested s.graph.vertices (b ∷ older) → HasRings s.graph (b ∷ older) → (xs : List Blossom) → AllByRecursion (λ (x : Blossom). IsLeftOnce s.graph (b ∷ older) m (λ u. holds x.members u)) xs → AllByRecursion (λ (x : Blossom). IsLeftOnce s.graph older m' (λ u. holds x.members u)) xs
+    stay nest rings [] each = tt
+    stay nest rings (x ∷ xs) each = (left_stays s.graph b older m m' nest ends rings.0 v.mated h (λ u. holds x.members u) each.0, stay nest rings xs each.1)

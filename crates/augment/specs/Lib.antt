@@ -1,0 +1,4 @@
+pub mod Exposed
+pub mod Turns
+pub mod Matching
+pub mod Opening
