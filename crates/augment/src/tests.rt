@@ -1,10 +1,10 @@
-ghost use Rattle.std.specs.Prelude.{◌≡◌, ◌↔◌, ◌<◌, ◌==◌, ℕ, true, None, nat_eq, All, IfOk};
+ghost use Rattle.std.specs.Prelude.{◌≡◌, ◌↔◌, ◌<◌, ◌==◌, ℕ, pos, true, None, nat_eq, All, IfOk};
 ghost use Rattle.std.specs.List.{IsDistinct, list_any};
 ghost use Rattle.graph_theory.specs.Graph.{IsEdgeNumber};
 ghost use Rattle.blossom_arena.specs.declared.links.Link.{Link};
 ghost use Rattle.blossom_arena.specs.Family.{IsCircuit, is_outermost, nodes_of};
 ghost use Rattle.alt_forest.specs.declared.label.Label.TheVariants.{Outer, Out};
-ghost use Rattle.alt_forest.specs.State.{IsOutermost, IsExposed};
+ghost use Rattle.alt_forest.specs.State.{IsOutermost, IsExposed, slack_of};
 ghost use Rattle.alt_forest.specs.Events.{CanAugment};
 ghost use Rattle.alt_forest.specs.Searches.{IsSearchGraph, HasShape, IsSound, state_of, label_at, edge_in};
 ghost use Rattle.augment.specs.Exposed.{IsMatched};
@@ -228,6 +228,15 @@ fn is_edge(graph: &Graph, e: EdgeId) -> bool
     e.number() <= graph.edges()
 }
 
+/// Whether the slack of an edge is 0.
+fn is_tight<L: Ledger>(search: &Search, e: EdgeId, steps: &mut Steps<L>) -> bool
+    requires sound { IsSound search.now }
+    requires edge { IsEdgeNumber search.now.graph e }
+    ensures { result ≡ true → slack_of (state_of search.now) e ≡ pos 0 }
+{
+    search.slack(&search.graph, e, steps) == 0
+}
+
 /// Whether the matching can be augmented by an edge.
 fn can_augment<L: Ledger>(search: &Search, e: EdgeId, steps: &mut Steps<L>) -> bool
     requires sound { IsSound search.now }
@@ -236,7 +245,7 @@ fn can_augment<L: Ledger>(search: &Search, e: EdgeId, steps: &mut Steps<L>) -> b
     if !is_edge(&search.graph, e) {
         return false;
     }
-    if search.slack(&search.graph, e, steps) != 0 {
+    if !is_tight(search, e, steps) {
         return false;
     }
     let (u, v, _) = search.graph.edge(e);
