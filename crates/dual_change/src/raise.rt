@@ -2,8 +2,7 @@ ghost use Rattle.std.specs.Prelude.{◌≡◌, ◌<◌, ◌≤◌, ◌+◌, ℕ,
 ghost use Rattle.blossom_arena.specs.Family.{IsDual, dual_at, is_outermost};
 ghost use Rattle.alt_forest.specs.Searches.{HasShape, IsSound, state_of, label_at, put};
 ghost use Rattle.alt_forest.specs.State.{IsOutermost};
-ghost use Rattle.alt_forest.specs.Trees.{node_limit};
-ghost use Rattle.dual_change.specs.Changes.{share, applied, change, IsWithin, StaysInRange, HasOneTree};
+ghost use Rattle.dual_change.specs.Changes.{share, applied, IsWithin, StaysInRange};
 
 use alt_forest::{Label, Search};
 use blossom_arena::{Arena, NodeId};
@@ -58,10 +57,10 @@ fn raise(search: &mut Search, number: u32, d: i64)
 }
 
 /// Changes the duals along the trees by d (chapter 26): the duals of outer nodes rise by d, those of
-/// inner nodes fall by d, and all others stay. It is one step, and takes time linear in the vertices.
+/// inner nodes fall by d, and all others stay. It counts one step, takes time linear in the vertices and
+/// no memory. There may be more trees than one.
 pub fn apply<L: Ledger>(search: &mut Search, d: i64, steps: &mut Steps<L>)
     requires sound { IsSound search.old }
-    requires one_tree { HasOneTree (state_of search.old) }
     requires low { pos 0 ≤ℤ d }
     requires within { IsWithin (state_of search.old) d }
     requires in_range { StaysInRange (state_of search.old) d }
