@@ -1,4 +1,0 @@
-pub mod Grown
-pub mod Shrunk
-pub mod Circuits
-pub mod Ways
