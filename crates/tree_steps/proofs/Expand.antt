@@ -1,0 +1,401 @@
+-- An expand keeps the state of a search.
+use Rattle.std.proofs.Common.{◌≡◌, ◌≢◌, ◌⊎◌, ℕ, ◌+◌, ◌*◌, ◌<◌, ◌≤◌, ℤ, pos, ◌-ℤ◌, ◌≤ℤ◌, Bool, true, false, ◌||◌, eqb, cond, List, [], ◌∷◌, ◌++◌, length, Option, Some, refl, sym, ap, ◌∙◌, subst, arith, ⊎_elim}
+use Rattle.std.specs.List.{AllByRecursion}
+use Rattle.std.proofs.lemmas.List.{length-append}
+use Rattle.std.proofs.lemmas.Bool.{eq-eqb, ne_eqb, eqb-true, eqb-false, or_parts, or_left, or_right, or_cases, both_ways, false_from_ne_true}
+use Rattle.graph_theory.specs.Graph.{IsGraph, IsEdgeNumber, edge_of}
+use Rattle.graph_theory.specs.Parts.{holds}
+use Rattle.blossom_arena.specs.declared.links.Link.{Link}
+use Rattle.blossom_arena.specs.Family.{Blossom, IsNested, is_node, is_child, is_outermost, in_ring, names_of, nodes_of, without, ring_of, older_than}
+use Rattle.blossom_arena.proofs.Lists.{AllNew, by_test}
+use Rattle.blossom_arena.proofs.Nested.{outermost_parts, name_range}
+use Rattle.blossom_arena.proofs.Taken.{outermost_stays}
+use Rattle.alt_forest.specs.declared.label.Label.{Label}
+use Rattle.alt_forest.specs.declared.label.Label.TheVariants.{Outer, Inner, Out}
+use Rattle.alt_forest.specs.State.{State, IsOutermost, Joins, doubled, slack_of, IsTight, IsMate, IsInner, IsSearchState, next_node, IsChainTo}
+use Rattle.alt_forest.specs.Searches.{put}
+use Rattle.alt_forest.proofs.Relabelled.{put_here, put_other, outer_not_inner, outer_not_out, inner_not_out}
+use Rattle.alt_forest.proofs.Walk.{some_same}
+use Rattle.tree_steps.specs.Expanded.{opened, mated, labelled_out, labels_up, labels_down, parents_up, parents_down, end_of}
+use Rattle.tree_steps.proofs.Gap.{FitsBut, FitBut, fits_all}
+use Rattle.tree_steps.proofs.Grown.{rehung}
+use Rattle.tree_steps.proofs.Joints.{joins_unique, joins_turned, mate_turned, mate_unique, partner_unique}
+use Rattle.tree_steps.proofs.Opened.{pull_without, joins_opened, joins_elsewhere, ring_is_child, outer_opened, ring_outer, gone, all_without, rings_without}
+use Rattle.tree_steps.proofs.Climbed.{IsOpenAt, Keeps, fit_scaled, room_between}
+use Rattle.tree_steps.proofs.Ladders.{IsRung, IsLadder, IsHung, climb_up, climb_down}
+use Rattle.tree_steps.proofs.Rungs.{ArePairs, ArePaired, mated_other, mated_paired, paired_else, out_other, out_there, out_all, rung_at, ladder_parts, next_append}
+
+-- an inner blossom of dual 0, and its circuit from its base on
+pub record Opens (s : State) (depth : ℕ → ℕ) (a base edge : ℕ) (rest : List Link) (e w : ℕ) : Type 0 where
+  pub graph : IsGraph s.graph
+  pub nested : IsNested s.graph.vertices s.blossoms
+  pub state : IsSearchState s depth
+  pub blossom : holds (names_of s.blossoms) a ≡ true
+  pub outer : IsOutermost s a
+  pub inner : s.label a ≡ Inner
+  pub empty : s.dual a ≡ pos 0
+  pub mate : s.mate a ≡ Some e
+  pub is_mate : IsMate s a e w
+  pub base_in : in_ring (ring_of s.blossoms a) base ≡ true
+  pub base_joins : Joins s.graph (without s.blossoms a) e base w
+  pub base_edge : IsTight s edge
+  pub base_next : Joins s.graph (older_than s.blossoms a) edge base (next_node rest base)
+  pub chain : IsChainTo s.graph (older_than s.blossoms a) rest base
+  pub tight : AllByRecursion (λ (l : Link). IsTight s l.edge) rest
+  pub inside : AllByRecursion (λ (l : Link). in_ring (ring_of s.blossoms a) l.node ≡ true) rest
+  pub all : (c : ℕ) → in_ring (ring_of s.blossoms a) c ≡ true → (c ≡ base) ⊎ (in_ring rest c ≡ true)
+  pub base_apart : in_ring rest base ≡ false
+  pub different : AllNew (nodes_of rest)
+  pub pairs : ArePairs rest
+
+module _ (s : State) (depth : ℕ → ℕ) (a base edge : ℕ) (rest : List Link) (e w : ℕ) (h : Opens s depth a base edge rest e w) where
+  abbrev bs : List Blossom
+  bs = s.blossoms
+
+  abbrev t : State
+  t = opened s a base rest e
+
+  above : s.graph.vertices < a
+  above = (name_range s.graph.vertices bs a h.nested h.blossom).0
+
+  free : is_child bs a ≡ false
+  free = (outermost_parts s.graph.vertices bs a h.outer).1
+
+  slack_now : (f : ℕ) → slack_of t f ≡ slack_of s f
+  slack_now f = ap (λ z. doubled s.graph s.weighted f -ℤ z) (pull_without s.dual bs a (edge_of s.graph f) h.empty)
+
+  -- the circuit and the outermost nodes
+  ring_no_outer : (c : ℕ) → IsOutermost s c → in_ring (ring_of bs a) c ≡ false
+  ring_no_outer c is = false_from_ne_true (in_ring (ring_of bs a) c) (λ r. both_ways (is_child bs c) (outermost_parts s.graph.vertices bs c is).1 (ring_is_child bs a c r))
+
+  rest_in : (c : ℕ) → in_ring rest c ≡ true → in_ring (ring_of bs a) c ≡ true
+  rest_in c r = go rest h.inside r
+    where
+      go : (ls : List Link) → AllByRecursion (λ (l : Link). in_ring (ring_of bs a) l.node ≡ true) ls → in_ring ls c ≡ true → in_ring (ring_of bs a) c ≡ true
+      go [] each r = absurd (both_ways false refl r)
+      go (l ∷ ls) each r = ⊎_elim (λ here. subst (λ x. in_ring (ring_of bs a) x ≡ true) (eqb-true l.node c here) each.0) (λ more. go ls each.1 more) (or_cases (eqb l.node c) (in_ring ls c) r)
+
+  rest_no_outer : (c : ℕ) → IsOutermost s c → in_ring rest c ≡ false
+  rest_no_outer c is = false_from_ne_true (in_ring rest c) (λ r. both_ways (in_ring (ring_of bs a) c) (ring_no_outer c is) (rest_in c r))
+
+  not_base : (c : ℕ) → IsOutermost s c → c ≢ base
+  not_base c is q = both_ways (in_ring (ring_of bs a) c) (ring_no_outer c is) (ap (in_ring (ring_of bs a)) q ∙ h.base_in)
+
+  base_is : IsOutermost t base
+  base_is = ring_outer s.graph.vertices bs a base h.nested free h.base_in
+
+  stays_outer : (c : ℕ) → IsOutermost s c → c ≢ a → IsOutermost t c
+  stays_outer c is ne = outermost_stays s.graph.vertices bs a c (ne_eqb a c (λ q. ne (sym q))) is
+
+  not_gone : (c : ℕ) → IsOutermost t c → c ≢ a
+  not_gone c is q = both_ways (is_node s.graph.vertices (without bs a) a) (gone s.graph.vertices bs a h.nested above) (ap (is_node s.graph.vertices (without bs a)) (sym q) ∙ (outermost_parts s.graph.vertices (without bs a) c is).0)
+
+  -- the mates and labels of the others stay
+  mate_old : (c : ℕ) → IsOutermost s c → t.mate c ≡ s.mate c
+  mate_old c is = put_other (mated s.mate rest) base (Some e) c (not_base c is) ∙ mated_other s.mate rest c (rest_no_outer c is)
+
+  label_old : (c : ℕ) → IsOutermost s c → t.label c ≡ s.label c
+  label_old c is = put_other (labelled_out s.label rest) base Inner c (not_base c is) ∙ out_other s.label rest c (rest_no_outer c is)
+
+  base_mate_is : t.mate base ≡ Some e
+  base_mate_is = put_here (mated s.mate rest) base (Some e)
+
+  base_inner : t.label base ≡ Inner
+  base_inner = put_here (labelled_out s.label rest) base Inner
+
+  apart_base : (c : ℕ) → in_ring rest c ≡ true → c ≢ base
+  apart_base c r q = both_ways (in_ring rest base) h.base_apart (ap (in_ring rest) (sym q) ∙ r)
+
+  rest_out : (c : ℕ) → in_ring rest c ≡ true → t.label c ≡ Out
+  rest_out c r = put_other (labelled_out s.label rest) base Inner c (apart_base c r) ∙ out_there s.label rest c r
+
+  -- the rest of the circuit is a ladder
+  next_inside : (ls : List Link) → AllByRecursion (λ (l : Link). in_ring (ring_of bs a) l.node ≡ true) ls → in_ring (ring_of bs a) (next_node ls base) ≡ true
+  next_inside [] each = h.base_in
+  next_inside (l ∷ ls) each = each.0
+
+  joins_now : (f x y : ℕ) → IsEdgeNumber s.graph f → in_ring (ring_of bs a) x ≡ true → in_ring (ring_of bs a) y ≡ true → Joins s.graph (older_than bs a) f x y → Joins s.graph (without bs a) f x y
+  joins_now f x y is rx ry j = joins_opened s.graph bs a f x y h.graph h.nested above free is rx ry j
+
+  tight_now : (f : ℕ) → IsTight s f → IsTight t f
+  tight_now f q = record { edge = q.edge; tight = slack_now f ∙ q.tight }
+
+  ladder_from : (ls : List Link) → IsChainTo s.graph (older_than bs a) ls base → AllByRecursion (λ (l : Link). IsTight s l.edge) ls → AllByRecursion (λ (l : Link). in_ring (ring_of bs a) l.node ≡ true) ls
+      → AllNew (nodes_of ls) → ArePaired t.mate ls → IsLadder t ls base
+  ladder_from [] chain tight inside new paired = tt
+  ladder_from (x ∷ []) chain tight inside new paired = absurd paired
+  ladder_from (x ∷ (y ∷ ls)) chain tight inside new paired =
+      let joins = joins_now x.edge x.node y.node chain.0 inside.0 inside.1.0 chain.1 in
+      let differ : x.node ≢ y.node = λ q. eqb-false y.node x.node (or_parts (eqb y.node x.node) (in_ring ls x.node) new.0).0 (sym q) in
+      let x_is : IsOutermost t x.node = ring_outer s.graph.vertices bs a x.node h.nested free inside.0 in
+      let y_is : IsOutermost t y.node = ring_outer s.graph.vertices bs a y.node h.nested free inside.1.0 in
+      let flat = slack_now x.edge ∙ tight.0.tight in (
+        record { is = x_is; mate = paired.0; is_mate = record { edge = chain.0; joins = joins; different = differ; tight = flat; outer = y_is; back = paired.1 } },
+        record { is = y_is; mate = paired.1; is_mate = record { edge = chain.0; joins = joins_turned s.graph (without bs a) x.edge x.node y.node joins; different = λ q. differ (sym q); tight = flat; outer = x_is; back = paired.0 } },
+        tight_now y.edge tight.1.0,
+        joins_now y.edge y.node (next_node ls base) chain.2.0 inside.1.0 (next_inside ls inside.1.1) chain.2.1,
+        ladder_from ls chain.2.2 tight.1.1 inside.1.1 new.1.1 paired.2,
+      )
+
+  pub ladder : IsLadder t rest base
+  ladder = ladder_from rest h.chain h.tight h.inside h.different (paired_else (mated s.mate rest) base (Some e) rest h.base_apart (mated_paired s.mate rest h.pairs h.different))
+
+  -- where a node comes: the blossom gives way to its base
+  abbrev lift : ℕ → ℕ
+  lift c = cond (eqb c a) base c
+
+  lift_here : (c : ℕ) → c ≡ a → lift c ≡ base
+  lift_here c q = ap (λ z. cond z base c) (eq-eqb c a q)
+
+  lift_other : (c : ℕ) → c ≢ a → lift c ≡ c
+  lift_other c ne = ap (λ z. cond z base c) (ne_eqb c a ne)
+
+  abbrev ranks : ℕ → ℕ
+  ranks = put depth base (depth a)
+
+  lift_rank : (c : ℕ) → IsOutermost s c → ranks (lift c) ≡ depth c
+  lift_rank c is = by_test (eqb c a)
+      (λ q. ap ranks (lift_here c (eqb-true c a q)) ∙ put_here depth base (depth a) ∙ ap depth (sym (eqb-true c a q)))
+      (λ q. ap ranks (lift_other c (eqb-false c a q)) ∙ put_other depth base (depth a) c (not_base c is))
+
+  rank_old : (c : ℕ) → IsOutermost s c → ranks c ≡ depth c
+  rank_old c is = put_other depth base (depth a) c (not_base c is)
+
+  lift_label : (c : ℕ) → IsOutermost s c → t.label (lift c) ≡ s.label c
+  lift_label c is = by_test (eqb c a)
+      (λ q. ap t.label (lift_here c (eqb-true c a q)) ∙ base_inner ∙ sym (ap s.label (eqb-true c a q) ∙ h.inner))
+      (λ q. ap t.label (lift_other c (eqb-false c a q)) ∙ label_old c is)
+
+  w_apart : w ≢ a
+  w_apart q = h.is_mate.different (sym q)
+
+  base_mate : IsMate t base e w
+  base_mate = record {
+    edge = h.is_mate.edge;
+    joins = h.base_joins;
+    different = λ q. not_base w h.is_mate.outer (sym q);
+    tight = slack_now e ∙ h.is_mate.tight;
+    outer = stays_outer w h.is_mate.outer w_apart;
+    back = mate_old w h.is_mate.outer ∙ h.is_mate.back;
+  }
+
+  mate_after : (c f d : ℕ) → IsOutermost s c → c ≢ a → s.mate c ≡ Some f → IsMate s c f d → IsMate t c f (lift d)
+  mate_after c f d is nc has v =
+      by_test (eqb d a)
+      (λ q.
+      let same : d ≡ a = eqb-true d a q in
+      let here : IsMate s c f a = subst (IsMate s c f) same v in
+      let it : e ≡ f = some_same e f (sym h.mate ∙ here.back) in
+      let from : w ≡ c = partner_unique s w e c f a (mate_turned s a e w h.outer h.mate h.is_mate) here in
+      subst (IsMate t c f) (sym (lift_here d same))
+      (subst (λ g. IsMate t c g base) it (subst (λ x. IsMate t x e base) from (mate_turned t base e w base_is base_mate_is base_mate))))
+      (λ q.
+      let other : d ≢ a = eqb-false d a q in
+      subst (IsMate t c f) (sym (lift_other d other))
+      (record {
+        edge = v.edge;
+        joins = joins_elsewhere s.graph bs a f c d nc other v.joins;
+        different = v.different;
+        tight = slack_now f ∙ v.tight;
+        outer = stays_outer d v.outer other;
+        back = mate_old d v.outer ∙ v.back;
+      }))
+
+  -- what is outermost now was so before, or is the base, or lies on the rest of the circuit
+  sorted : {P : Type 0} (c : ℕ) → IsOutermost t c → (IsOutermost s c → c ≢ a → P) → (c ≡ base → P) → (in_ring rest c ≡ true → P) → P
+  sorted c is old at_base later = ⊎_elim (λ was. old was (not_gone c is)) (λ r. ⊎_elim at_base later (h.all c r)) (outer_opened s.graph.vertices bs a c is (not_gone c is))
+
+  mates_now : (c f : ℕ) → IsOutermost t c → t.mate c ≡ Some f → (d : ℕ) × IsMate t c f d
+  mates_now c f is has = sorted c is
+      (λ was nc. let has_s : s.mate c ≡ Some f = sym (mate_old c was) ∙ has in let m = h.state.mates c f was has_s in (lift m.0, mate_after c f m.0 was nc has_s m.1))
+      (λ q. let it : e ≡ f = some_same e f (sym base_mate_is ∙ ap t.mate (sym q) ∙ has) in
+      (w, subst (λ g. IsMate t c g w) it (subst (λ x. IsMate t x e w) (sym q) base_mate)))
+      (λ r. let g = rung_at t rest base c ladder r in
+      (g.other, subst (λ k. IsMate t c k g.other) (some_same g.edge f (sym g.mate ∙ has)) g.is_mate))
+
+  -- the blossom hung and has a child
+  pub says : IsInner s depth a
+  says = (h.state.labels a h.outer).inner h.inner
+
+  child_is : says.child ≡ w
+  child_is = mate_unique s a says.child_edge says.child e w says.mate h.mate says.is_mate h.is_mate
+
+  abbrev gap : ℕ → Bool
+  gap c = eqb c base
+
+  base_fits : FitsBut t ranks gap base
+  base_fits = record {
+    outer = λ lab. outer_not_inner (sym lab ∙ base_inner);
+    child = λ lab. record {
+      edge = e;
+      child = w;
+      mate = base_mate_is;
+      is_mate = base_mate;
+      outer = label_old w h.is_mate.outer ∙ ap s.label (sym child_is) ∙ says.child_outer;
+      rises =
+          let same : depth says.child ≡ depth w = ap depth child_is in
+          omega (arith, put_here depth base (depth a), rank_old w h.is_mate.outer, says.rises, same);
+    };
+    up = λ lab closed. absurd (both_ways (eqb base base) closed (eq-eqb base base refl));
+    out = λ lab. inner_not_out (sym base_inner ∙ lab);
+  }
+
+  rest_fits : (c : ℕ) → in_ring rest c ≡ true → FitsBut t ranks gap c
+  rest_fits c r = record {
+    outer = λ lab. outer_not_out (sym lab ∙ rest_out c r);
+    child = λ lab. inner_not_out (sym lab ∙ rest_out c r);
+    up = λ lab. inner_not_out (sym lab ∙ rest_out c r);
+    out = λ lab f b has v.
+        let g = rung_at t rest base c ladder r in
+        let it : g.other ≡ b = mate_unique t c g.edge g.other f b g.mate has g.is_mate v in
+        ap t.label (sym it) ∙ rest_out g.other g.inside;
+  }
+
+  old_fits : (c : ℕ) → IsOutermost s c → c ≢ a → FitsBut t ranks gap c
+  old_fits c is nc =
+      let old = h.state.labels c is in
+      record {
+        outer = λ lab f b has v.
+            let has_s : s.mate c ≡ Some f = sym (mate_old c is) ∙ has in
+            let m = h.state.mates c f is has_s in
+            let said = old.outer (sym (label_old c is) ∙ lab) f m.0 has_s m.1 in
+            let now = mate_after c f m.0 is nc has_s m.1 in
+            let it : lift m.0 ≡ b = joins_unique s.graph (without bs a) f c (lift m.0) b now.joins v.joins now.different in
+            subst (λ x. (t.label x ≡ Inner) × (ranks x < ranks c)) it (lift_label m.0 m.1.outer ∙ said.0, omega (arith, lift_rank m.0 m.1.outer, rank_old c is, said.1));
+        child = λ lab.
+            let i = old.inner (sym (label_old c is) ∙ lab) in
+            record {
+              edge = i.child_edge;
+              child = lift i.child;
+              mate = mate_old c is ∙ i.mate;
+              is_mate = mate_after c i.child_edge i.child is nc i.mate i.is_mate;
+              outer = lift_label i.child i.is_mate.outer ∙ i.child_outer;
+              rises = omega (arith, lift_rank i.child i.is_mate.outer, rank_old c is, i.rises);
+            };
+        up = λ lab closed.
+            let i = old.inner (sym (label_old c is) ∙ lab) in
+            let other : i.up ≢ a = λ q. outer_not_inner (sym i.up_outer ∙ ap s.label q ∙ h.inner) in
+            record {
+              edge = i.edge;
+              up = i.up;
+              parent = i.parent;
+              is_edge = i.is_edge;
+              joins = joins_elsewhere s.graph bs a i.edge c i.up nc other i.joins;
+              tight = slack_now i.edge ∙ i.tight;
+              up_is = stays_outer i.up i.up_is other;
+              outer = label_old i.up i.up_is ∙ i.up_outer;
+              falls = omega (arith, rank_old i.up i.up_is, rank_old c is, i.falls);
+            };
+        out = λ lab f b has v.
+            let has_s : s.mate c ≡ Some f = sym (mate_old c is) ∙ has in
+            let m = h.state.mates c f is has_s in
+            let said = old.out (sym (label_old c is) ∙ lab) f m.0 has_s m.1 in
+            let now = mate_after c f m.0 is nc has_s m.1 in
+            let it : lift m.0 ≡ b = joins_unique s.graph (without bs a) f c (lift m.0) b now.joins v.joins now.different in
+            ap t.label (sym it) ∙ lift_label m.0 m.1.outer ∙ said;
+      }
+
+  -- once the blossom is open, all inner nodes but the base hang
+  opened_fits : FitBut t ranks gap
+  opened_fits c is = sorted c is (old_fits c) (λ q. subst (FitsBut t ranks gap) (sym q) base_fits) (rest_fits c)
+
+  abbrev times : ℕ
+  times = length rest + 1
+
+  abbrev scaled : ℕ → ℕ
+  scaled c = ranks c * times
+
+  opened_at : IsOpenAt t scaled base
+  opened_at = record { fits = fit_scaled t ranks gap times (omega arith) opened_fits; inner = base_inner; is_outer = base_is }
+
+  up_apart : says.up ≢ a
+  up_apart q = outer_not_inner (sym says.up_outer ∙ ap s.label q ∙ h.inner)
+
+  up_outer : t.label says.up ≡ Outer
+  up_outer = label_old says.up says.up_is ∙ says.up_outer
+
+  low : scaled says.up + length rest < scaled base
+  low =
+      let room : depth says.up * times + times ≤ depth a * times = room_between (depth says.up) (depth a) times says.falls in
+      let at_up : scaled says.up ≡ depth says.up * times = ap (λ z. z * times) (rank_old says.up says.up_is) in
+      let at_base : scaled base ≡ depth a * times = ap (λ z. z * times) (put_here depth base (depth a)) in
+      omega (arith, room, at_up, at_base)
+
+  pub parent_now : IsTight t says.edge
+  parent_now = record { edge = says.is_edge; tight = slack_now says.edge ∙ says.tight }
+
+  -- the whole of it, where all inner nodes hang
+  tight_ring : (l : ℕ → Label) (p : ℕ → Option ℕ) (ring : List Link) → AllByRecursion (λ (k : Link). IsTight s k.edge) ring → AllByRecursion (λ (k : Link). IsTight (rehung t l p) k.edge) ring
+  tight_ring l p [] q = tt
+  tight_ring l p (k ∷ ring) q = (record { edge = q.0.edge; tight = slack_now k.edge ∙ q.0.tight }, tight_ring l p ring q.1)
+
+  tight_rings : (l : ℕ → Label) (p : ℕ → Option ℕ) (cs : List Blossom) → AllByRecursion (λ (b : Blossom). AllByRecursion (λ (k : Link). IsTight s k.edge) b.ring) cs
+      → AllByRecursion (λ (b : Blossom). AllByRecursion (λ (k : Link). IsTight (rehung t l p) k.edge) b.ring) cs
+  tight_rings l p [] q = tt
+  tight_rings l p (b ∷ cs) q = (tight_ring l p b.ring q.0, tight_rings l p cs q.1)
+
+  whole : (l : ℕ → Label) (p : ℕ → Option ℕ) (after : ℕ → ℕ) → FitBut (rehung t l p) after (λ c. false) → IsSearchState (rehung t l p) after
+  whole l p after fits = record {
+    rings = rings_without s.graph bs a (omega (arith, above)) free h.state.rings;
+    tight_rings = tight_rings l p (without bs a) (all_without _ bs a h.state.tight_rings);
+    slacks = λ f is. subst (λ z. pos 0 ≤ℤ z) (sym (slack_now f)) (h.state.slacks f is);
+    duals = all_without _ bs a h.state.duals;
+    mates = λ c f is has. let m = mates_now c f is has in
+        (m.0, record { edge = m.1.edge; joins = m.1.joins; different = m.1.different; tight = m.1.tight; outer = m.1.outer; back = m.1.back });
+    labels = λ c is. fits_all (rehung t l p) after (λ x. false) c refl (fits c is);
+  }
+
+  -- what was outer stays so
+  pub record IsExpanded (u : State) : Type 0 where
+    pub after : ℕ → ℕ
+    pub state : IsSearchState u after
+    pub stays : (c : ℕ) → IsOutermost s c → s.label c ≡ Outer → u.label c ≡ Outer
+
+  outer_stays : (u : State) (d f : ℕ → ℕ) → Keeps t u d f → (c : ℕ) → IsOutermost s c → s.label c ≡ Outer → u.label c ≡ Outer
+  outer_stays u d f k c is lab = let now : t.label c ≡ Outer = label_old c is ∙ lab in k.labels c (λ q. outer_not_out (sym now ∙ q)) ∙ now
+
+  new_parts : (xs ys : List Link) → AllNew (nodes_of (xs ++ ys)) → AllNew (nodes_of xs) × AllNew (nodes_of ys)
+  new_parts [] ys n = (tt, n)
+  new_parts (x ∷ xs) ys n = let r = new_parts xs ys n.1 in ((front xs n.0, r.0), r.1)
+    where
+      front : (zs : List Link) → in_ring (zs ++ ys) x.node ≡ false → in_ring zs x.node ≡ false
+      front [] q = refl
+      front (z ∷ zs) q = let p = or_parts (eqb z.node x.node) (in_ring (zs ++ ys) x.node) q in ap (λ t. t || in_ring zs x.node) p.0 ∙ front zs p.1
+
+  in_front : (xs ys : List Link) (c : ℕ) → in_ring xs c ≡ true → in_ring (xs ++ ys) c ≡ true
+  in_front [] ys c r = absurd (both_ways false refl r)
+  in_front (x ∷ xs) ys c r = ⊎_elim (λ here. or_left (eqb x.node c) (in_ring (xs ++ ys) c) here) (λ more. or_right (eqb x.node c) (in_ring (xs ++ ys) c) (in_front xs ys c more)) (or_cases (eqb x.node c) (in_ring xs c) r)
+
+  in_back : (xs ys : List Link) (c : ℕ) → in_ring ys c ≡ true → in_ring (xs ++ ys) c ≡ true
+  in_back [] ys c r = r
+  in_back (x ∷ xs) ys c r = or_right (eqb x.node c) (in_ring (xs ++ ys) c) (in_back xs ys c r)
+
+  -- up from the base by the first links of the circuit
+  pub expanded_up : (xs ys : List Link) → rest ≡ xs ++ ys → ArePairs xs → Joins s.graph (without bs a) says.edge (end_of base xs) says.up
+      → IsExpanded (rehung t (labels_up t.label xs) (parents_up t.parent base edge says.edge xs))
+  expanded_up xs ys split even joins =
+      let parts = ladder_parts t xs ys base even (subst (λ ls. IsLadder t ls base) split ladder) in
+      let first : Joins s.graph (without bs a) edge base (next_node xs (next_node ys base)) = subst (Joins s.graph (without bs a) edge base) (ap (λ ls. next_node ls base) split ∙ next_append xs ys base)
+      (joins_now edge base (next_node rest base) h.base_edge.edge h.base_in (next_inside rest h.inside) h.base_next) in
+      let r = climb_up t (next_node ys base) xs t.label t.parent scaled base edge says.edge says.up opened_at parts.0 (tight_now edge h.base_edge) first
+      (out_all t.label xs (λ c q. rest_out c (subst (λ ls. in_ring ls c ≡ true) (sym split) (in_front xs ys c q)))) (new_parts xs ys (subst (λ ls. AllNew (nodes_of ls)) split h.different)).0
+      parent_now joins (stays_outer says.up says.up_is up_apart) up_outer (omega (arith, low, ap (λ (ls : List Link). length ls) split, length-append xs ys)) in
+      record {
+        after = r.0;
+        state = whole (labels_up t.label xs) (parents_up t.parent base edge says.edge xs) r.0 r.1.fits;
+        stays = outer_stays (rehung t (labels_up t.label xs) (parents_up t.parent base edge says.edge xs)) scaled r.0 r.1.keeps;
+      }
+
+  -- down to the base by the last links of the circuit
+  pub expanded_down : (xs ys : List Link) → rest ≡ xs ++ ys → ArePairs xs → Joins s.graph (without bs a) says.edge (next_node ys base) says.up
+      → IsExpanded (rehung t (labels_down t.label ys) (parents_down t.parent says.edge base ys))
+  expanded_down xs ys split even joins =
+      let parts = ladder_parts t xs ys base even (subst (λ ls. IsLadder t ls base) split ladder) in
+      let r = climb_down t base ys t.label t.parent scaled says.edge says.up opened_at parts.1 parent_now joins
+      (out_all t.label ys (λ c q. rest_out c (subst (λ ls. in_ring ls c ≡ true) (sym split) (in_back xs ys c q)))) (new_parts xs ys (subst (λ ls. AllNew (nodes_of ls)) split h.different)).1
+      (stays_outer says.up says.up_is up_apart) up_outer (omega (arith, low, ap (λ (ls : List Link). length ls) split, length-append xs ys)) in
+      record {
+        after = r.0;
+        state = whole (labels_down t.label ys) (parents_down t.parent says.edge base ys) r.0 r.1.fits;
+        stays = outer_stays (rehung t (labels_down t.label ys) (parents_down t.parent says.edge base ys)) scaled r.0 r.1.keeps;
+      }

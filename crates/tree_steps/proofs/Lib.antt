@@ -1,0 +1,17 @@
+pub mod Joints
+pub mod Gap
+pub mod Grown
+pub mod Shrunk
+pub mod Mirror
+pub mod Ways
+pub mod Meeting
+pub mod ReadHops
+pub mod Pushed
+pub mod Filled
+pub mod Closed
+pub mod Ends
+pub mod Opened
+pub mod Climbed
+pub mod Ladders
+pub mod Rungs
+pub mod Expand

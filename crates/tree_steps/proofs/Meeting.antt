@@ -1,0 +1,203 @@
+-- The paths of two outer nodes, up to the first node that they share, are ways; so where they meet gives a circuit.
+use Rattle.std.proofs.Common.{◌≡◌, ◌≢◌, ◌⊎◌, ℕ, zero, suc, true, false, ◌||◌, eqb, cond, List, [], ◌∷◌, Option, Some, None, refl, sym, ap, ◌∙◌, subst, arith, ⊎_elim, inl, inr}
+use Rattle.std.proofs.lemmas.Bool.{cases_eq, eq-eqb, ne_eqb, eqb-true, eqb-false, or_cases, or_left, or_right, both_ways, false_from_ne_true}
+use Rattle.graph_theory.specs.Parts.{holds}
+use Rattle.blossom_arena.specs.Family.{in_ring}
+use Rattle.blossom_arena.proofs.Lists.{by_test}
+use Rattle.alt_forest.specs.declared.label.Label.TheVariants.{Outer, Inner}
+use Rattle.alt_forest.specs.State.{State, IsOutermost, IsTight, Joins, node_u, node_v, IsMate, IsSearchState}
+use Rattle.alt_forest.specs.Trees.{far_end, up_edge_by, up_of, path_within, path_of, first_common}
+use Rattle.alt_forest.proofs.Relabelled.{outer_not_inner, some_not_none}
+use Rattle.alt_forest.proofs.Walk.{some_same, other_node_joins}
+use Rattle.tree_steps.specs.Circuits.{before, circuit_of}
+use Rattle.tree_steps.proofs.Joints.{partner_unique}
+use Rattle.tree_steps.specs.declared.hops.Hop.{Hop}
+use Rattle.tree_steps.specs.Ways.{IsHop, IsWay, links_up}
+use Rattle.tree_steps.specs.Shrinkable.{IsShrinkable}
+use Rattle.alt_forest.specs.Events.{CanShrink}
+use Rattle.tree_steps.proofs.Ends.{ends_of}
+use Rattle.tree_steps.proofs.Ways.{circuit_shrinks}
+
+-- nodes one above the other
+abbrev pub IsTrace : State → ℕ → List ℕ → Type 0
+IsTrace s x [] = Unit {0}
+IsTrace s x (y ∷ ys) = (y ≡ x) × (x ≢ 0) × IsTrace s (up_of s x) ys
+
+pub path_trace : (k : ℕ) (s : State) (x : ℕ) → IsTrace s x (path_within k s x)
+path_trace zero s x = tt
+path_trace (suc k) s x = by_test (eqb x 0)
+    (λ none. subst (IsTrace s x) (sym (ap (λ t. cond t [] (x ∷ path_within k s (up_of s x))) none)) tt)
+    (λ some. subst (IsTrace s x) (sym (ap (λ t. cond t [] (x ∷ path_within k s (up_of s x))) some)) (refl, eqb-false x 0 some, path_trace k s (up_of s x)))
+
+before_sub : (xs : List ℕ) (top c : ℕ) → holds (before xs top) c ≡ true → holds xs c ≡ true
+before_sub [] top c e = e
+before_sub (x ∷ xs) top c e = by_test (eqb x top)
+    (λ t. absurd (both_ways false refl (sym (ap (λ q. holds (cond q [] (x ∷ before xs top)) c) t) ∙ e)))
+    (λ t. ⊎_elim (λ here. or_left (eqb x c) (holds xs c) here) (λ more. or_right (eqb x c) (holds xs c) (before_sub xs top c more))
+    (or_cases (eqb x c) (holds (before xs top) c) (sym (ap (λ q. holds (cond q [] (x ∷ before xs top)) c) t) ∙ e)))
+
+before_goes : (x top c : ℕ) (xs : List ℕ) → x ≢ top → holds (x ∷ before xs top) c ≡ true → holds (before (x ∷ xs) top) c ≡ true
+before_goes x top c xs ne r = ap (λ q. holds (cond q [] (x ∷ before xs top)) c) (ne_eqb x top ne) ∙ r
+
+-- a node of the way that is outer: a way leads to it
+pub record FoundOuter (s : State) (depth : ℕ → ℕ) (x : ℕ) (xs : List ℕ) (top : ℕ) : Type 0 where
+  pub hops : List Hop
+  pub way : IsWay s depth x hops top
+  pub outer : s.label top ≡ Outer
+  pub is : IsOutermost s top
+  pub passed : (c : ℕ) → in_ring (links_up x hops) c ≡ true → holds (before xs top) c ≡ true
+
+-- a node of the way that is inner: its mate comes before it
+pub record FoundInner (s : State) (xs : List ℕ) (top : ℕ) : Type 0 where
+  pub under : ℕ
+  pub edge : ℕ
+  pub is_mate : IsMate s under edge top
+  pub inner : s.label top ≡ Inner
+  pub passed : holds (before xs top) under ≡ true
+
+-- one hop
+record IsHopped (s : State) (depth : ℕ → ℕ) (x : ℕ) (hop : Hop) : Type 0 where
+  is_hop : IsHop s depth x hop
+  inner : s.label hop.inner ≡ Inner
+  first : up_of s x ≡ hop.inner
+  second : up_of s hop.inner ≡ hop.up
+  up_is : IsOutermost s hop.up
+  up_outer : s.label hop.up ≡ Outer
+
+hopped : (s : State) (depth : ℕ → ℕ) (x f : ℕ) → IsSearchState s depth → IsOutermost s x → s.label x ≡ Outer → s.mate x ≡ Some f → (hop : Hop) × IsHopped s depth x hop
+hopped s depth x f st is outer has =
+    let w = st.mates x f is has in
+    let q : ℕ = w.0 in
+    let says = (st.labels x is).outer outer f q has w.1 in
+    let i = (st.labels q w.1.outer).inner says.0 in
+    let apart : q ≢ i.up = λ r. let same : depth q ≡ depth i.up = ap depth r in absurd (omega (arith, i.falls)) in (
+      record { pair = f; inner = q; by = i.edge; up = i.up },
+      record {
+        is_hop = record { is = is; outer = outer; mate = has; is_mate = w.1; inner_label = says.0; parent = i.parent; lower = says.1; edge = i.is_edge; joins = i.joins; tight = i.tight; lowest = i.falls };
+        inner = says.0;
+        first = ap (λ l. far_end s (up_edge_by s l x) x) outer ∙ ap (λ o. far_end s o x) has ∙ other_node_joins s.graph s.blossoms f x q w.1.joins w.1.different;
+        second = ap (λ l. far_end s (up_edge_by s l q) q) says.0 ∙ ap (λ o. far_end s o q) i.parent ∙ other_node_joins s.graph s.blossoms i.edge q i.up i.joins apart;
+        up_is = i.up_is;
+        up_outer = i.up_outer;
+      },
+    )
+
+at_start : (s : State) (depth : ℕ → ℕ) (x : ℕ) (xs : List ℕ) (top : ℕ) → IsOutermost s x → s.label x ≡ Outer → top ≡ x → FoundOuter s depth x xs top
+at_start s depth x xs top is outer here = record { hops = []; way = sym here; outer = ap s.label here ∙ outer; is = subst (IsOutermost s) (sym here) is; passed = λ c r. absurd (both_ways false refl r) }
+
+pub found : (s : State) (depth : ℕ → ℕ) (x : ℕ) (xs : List ℕ) (top : ℕ) → IsSearchState s depth → IsTrace s x xs → IsOutermost s x → s.label x ≡ Outer → holds xs top ≡ true
+    → FoundOuter s depth x xs top ⊎ FoundInner s xs top
+found s depth x [] top st trace is outer there = absurd (both_ways false refl there)
+found s depth x (y ∷ []) top st trace is outer there =
+    inl (at_start s depth x (y ∷ []) top is outer (⊎_elim (λ q. sym (eqb-true y top q) ∙ trace.0) (λ q. absurd (both_ways false refl q)) (or_cases (eqb y top) false there)))
+found s depth x (y ∷ (z ∷ zs)) top st trace is outer there =
+    ⊎_elim
+    (λ here. inl (at_start s depth x (y ∷ (z ∷ zs)) top is outer here))
+    (λ ne. on ne (λ p p_trace p_is p_outer p_there. found s depth p zs top st p_trace p_is p_outer p_there) (s.mate x) refl)
+    (cases_eq top x)
+  where
+    on : top ≢ x → ((p : ℕ) → IsTrace s p zs → IsOutermost s p → s.label p ≡ Outer → holds zs top ≡ true → FoundOuter s depth p zs top ⊎ FoundInner s zs top)
+        → (o : Option ℕ) → s.mate x ≡ o → FoundOuter s depth x (y ∷ (z ∷ zs)) top ⊎ FoundInner s (y ∷ (z ∷ zs)) top
+    on ne again None e = absurd (trace.2.1 (ap (λ l. far_end s (up_edge_by s l x) x) outer ∙ ap (λ o. far_end s o x) e))
+    on ne again (Some f) e =
+        let found_hop = hopped s depth x f st is outer e in
+        let hop : Hop = found_hop.0 in
+        let h = found_hop.1 in
+        let z_is : z ≡ hop.inner = trace.2.0 ∙ h.first in
+        let y_not : y ≢ top = λ r. ne (sym r ∙ trace.0) in
+        let later : holds (z ∷ zs) top ≡ true = ⊎_elim (λ r. absurd (y_not (eqb-true y top r))) (λ r. r) (or_cases (eqb y top) (holds (z ∷ zs) top) there) in
+        ⊎_elim
+        (λ at. inr (record {
+          under = x;
+          edge = hop.pair;
+          is_mate = subst (IsMate s x hop.pair) (sym at) h.is_hop.is_mate;
+          inner = ap s.label at ∙ h.inner;
+          passed = before_goes y top x (z ∷ zs) y_not (or_left (eqb y x) (holds (before (z ∷ zs) top) x) (eq-eqb y x trace.0));
+        }))
+        (λ not_it.
+        let z_not : z ≢ top = λ r. not_it (sym r ∙ z_is) in
+        let rest_there : holds zs top ≡ true = ⊎_elim (λ r. absurd (z_not (eqb-true z top r))) (λ r. r) (or_cases (eqb z top) (holds zs top) later) in
+        let p_is : up_of s (up_of s x) ≡ hop.up = ap (up_of s) h.first ∙ h.second in
+        let goes : (c : ℕ) → holds (before zs top) c ≡ true → holds (before (y ∷ (z ∷ zs)) top) c ≡ true =
+        λ c r. before_goes y top c (z ∷ zs) y_not (or_right (eqb y c) (holds (before (z ∷ zs) top) c) (before_goes z top c zs z_not (or_right (eqb z c) (holds (before zs top) c) r))) in
+        ⊎_elim
+        (λ (r : FoundOuter s depth hop.up zs top). inl (record {
+          hops = hop ∷ r.hops;
+          way = (h.is_hop, r.way);
+          outer = r.outer;
+          is = r.is;
+          passed = λ c in_it. ⊎_elim
+              (λ here. before_goes y top c (z ∷ zs) y_not (or_left (eqb y c) (holds (before (z ∷ zs) top) c) (eq-eqb y c (trace.0 ∙ eqb-true x c here))))
+              (λ more. ⊎_elim
+              (λ here. before_goes y top c (z ∷ zs) y_not (or_right (eqb y c) (holds (before (z ∷ zs) top) c) (before_goes z top c zs z_not (or_left (eqb z c) (holds (before zs top) c) (eq-eqb z c (z_is ∙ eqb-true hop.inner c here))))))
+              (λ farther. goes c (r.passed c farther))
+              (or_cases (eqb hop.inner c) (in_ring (links_up hop.up r.hops) c) more))
+              (or_cases (eqb x c) (eqb hop.inner c || in_ring (links_up hop.up r.hops) c) in_it);
+        }))
+        (λ (r : FoundInner s zs top). inr (record { under = r.under; edge = r.edge; is_mate = r.is_mate; inner = r.inner; passed = goes r.under r.passed }))
+        (again hop.up (subst (λ u. IsTrace s u zs) p_is trace.2.2) h.up_is h.up_outer rest_there))
+        (cases_eq top hop.inner)
+
+-- what the first common number is
+pub record IsFirst (xs ys : List ℕ) (top : ℕ) : Type 0 where
+  pub on_first : holds xs top ≡ true
+  pub on_second : holds ys top ≡ true
+  pub first : (c : ℕ) → holds (before xs top) c ≡ true → holds ys c ≡ false
+
+pub common_first : (xs ys : List ℕ) (top : ℕ) → first_common xs ys ≡ Some top → IsFirst xs ys top
+common_first [] ys top e = some_not_none top (sym e)
+common_first (x ∷ xs) ys top e = by_test (holds ys x)
+    (λ here.
+    let same : x ≡ top = some_same x top (sym (ap (λ q. cond q (Some x) (first_common xs ys)) here) ∙ e) in
+    record {
+      on_first = or_left (eqb x top) (holds xs top) (eq-eqb x top same);
+      on_second = ap (holds ys) (sym same) ∙ here;
+      first = λ c r. absurd (both_ways false refl (sym (ap (λ q. holds (cond q [] (x ∷ before xs top)) c) (eq-eqb x top same)) ∙ r));
+    })
+    (λ out.
+    let rest = common_first xs ys top (sym (ap (λ q. cond q (Some x) (first_common xs ys)) out) ∙ e) in
+    let ne : x ≢ top = λ q. both_ways (holds ys top) (ap (holds ys) (sym q) ∙ out) rest.on_second in
+    record {
+      on_first = or_right (eqb x top) (holds xs top) rest.on_first;
+      on_second = rest.on_second;
+      first = λ c r. ⊎_elim (λ at. ap (holds ys) (sym (eqb-true x c at)) ∙ out) (λ more. rest.first c more)
+          (or_cases (eqb x c) (holds (before xs top) c) (sym (ap (λ q. holds (cond q [] (x ∷ before xs top)) c) (ne_eqb x top ne)) ∙ r));
+    })
+
+-- the two ways to the node where two paths meet
+pub record AreMeeting (s : State) (depth : ℕ → ℕ) (a b e top : ℕ) : Type 0 where
+  pub left : List Hop
+  pub right : List Hop
+  pub left_way : IsWay s depth a left top
+  pub right_way : IsWay s depth b right top
+  pub shrinks : IsShrinkable s depth (circuit_of top e (links_up a left) (links_up b right)) top
+
+-- a tight edge between two outer nodes whose paths meet closes a circuit that can be shrunk
+pub meeting : (s : State) (depth : ℕ → ℕ) (a b e top : ℕ) → IsSearchState s depth → IsOutermost s a → IsOutermost s b → s.label a ≡ Outer → s.label b ≡ Outer
+    → IsTight s e → Joins s.graph s.blossoms e a b → a ≢ b → first_common (path_of s a) (path_of s b) ≡ Some top → AreMeeting s depth a b e top
+meeting s depth a b e top st a_is b_is a_outer b_outer tight joins ne meets =
+    let f = common_first (path_of s a) (path_of s b) top meets in
+    let ta : IsTrace s a (path_of s a) = path_trace _ s a in
+    let tb : IsTrace s b (path_of s b) = path_trace _ s b in
+    ⊎_elim
+    (λ (p : FoundOuter s depth a (path_of s a) top). ⊎_elim
+    (λ (q : FoundOuter s depth b (path_of s b) top). record {
+      left = p.hops;
+      right = q.hops;
+      left_way = p.way;
+      right_way = q.way;
+      shrinks = circuit_shrinks s depth a b e top p.hops q.hops st p.way q.way tight joins ne p.is p.outer
+          (λ c r. false_from_ne_true (in_ring (links_up b q.hops) c) (λ t. both_ways (holds (path_of s b) c) (f.first c (p.passed c r)) (before_sub (path_of s b) top c (q.passed c t))));
+    })
+    (λ (q : FoundInner s (path_of s b) top). outer_not_inner (sym p.outer ∙ q.inner))
+    (found s depth b (path_of s b) top st tb b_is b_outer f.on_second))
+    (λ (p : FoundInner s (path_of s a) top). ⊎_elim
+    (λ (q : FoundOuter s depth b (path_of s b) top). outer_not_inner (sym q.outer ∙ p.inner))
+    (λ (q : FoundInner s (path_of s b) top). absurd (both_ways (holds (path_of s b) p.under) (f.first p.under p.passed)
+    (ap (holds (path_of s b)) (partner_unique s p.under p.edge q.under q.edge top p.is_mate q.is_mate) ∙ before_sub (path_of s b) top q.under q.passed)))
+    (found s depth b (path_of s b) top st tb b_is b_outer f.on_second))
+    (found s depth a (path_of s a) top st ta a_is a_outer f.on_first)
+
+-- from the edge of a shrink, and where the paths of its two nodes meet
+pub meets_from : (s : State) (depth : ℕ → ℕ) (e a b top : ℕ) → IsSearchState s depth → (c : CanShrink s e) → a ≡ node_u s.graph s.blossoms e → b ≡ node_v s.graph s.blossoms e → first_common (path_of s a) (path_of s b) ≡ Some top → AreMeeting s depth a b e top
+meets_from s depth e a b top st c u v meets = let p = ends_of s e a b c u v in meeting s depth a b e top st p.0.a_is p.0.b_is p.0.a_outer p.0.b_outer c.tight p.1 p.0.different meets

@@ -1,0 +1,228 @@
+-- A family where an outermost blossom is taken away: which nodes are outermost, and what edges join.
+use Rattle.std.proofs.Common.{◌≡◌, ◌≢◌, ◌⊎◌, ℕ, ◌<◌, ℤ, pos, ◌+ℤ◌, true, false, not, ◌||◌, eqb, cond, List, [], ◌∷◌, refl, sym, ap, ◌∙◌, subst, arith, ⊎_elim, inl, inr}
+use Rattle.std.specs.List.{AllByRecursion}
+use Rattle.std.proofs.lemmas.Bool.{or_right, or_left, or_parts, or_cases, and_from, both_ways, false_from_ne_true, eqb-true, eqb-false, ne_eqb}
+use Rattle.graph_theory.specs.declared.edge.Edge.{Edge}
+use Rattle.graph_theory.specs.Graph.{Multigraph, IsGraph, IsEdgeNumber, edge_of}
+use Rattle.graph_theory.specs.Parts.{holds, crosses}
+use Rattle.graph_theory.proofs.Edges.{edge_of_within}
+use Rattle.blossom_arena.specs.declared.links.Link.{Link}
+use Rattle.blossom_arena.specs.Family.{Blossom, IsNested, is_node, is_child, is_outermost, is_vertex, in_ring, names_of, outermost, without, ring_of, older_than}
+use Rattle.blossom_arena.specs.Slack.{pull}
+use Rattle.blossom_arena.proofs.Lists.{by_test}
+use Rattle.blossom_arena.proofs.Nested.{circuit_outer, outermost_parts, node_grows, vertex_range, range_vertex, name_range, name_is_node}
+use Rattle.blossom_arena.proofs.Sets.{member_by_ring, outermost_node}
+use Rattle.blossom_arena.proofs.Taken.{node_without, child_without}
+use Rattle.alt_forest.specs.State.{Joins, next_node, IsChainTo, HasRings}
+use Rattle.tree_steps.proofs.Shrunk.{pull_zero}
+
+-- the list without a blossom, by where that one stands
+taken_here : {A : Type 0} (f : List Blossom → A) (b : Blossom) (older : List Blossom) (a : ℕ) → eqb b.node a ≡ true → f (without (b ∷ older) a) ≡ f older
+taken_here f b older a e = ap (λ q. f (cond q older (b ∷ without older a))) e
+
+taken_later : {A : Type 0} (f : List Blossom → A) (b : Blossom) (older : List Blossom) (a : ℕ) → eqb b.node a ≡ false → f (without (b ∷ older) a) ≡ f (b ∷ without older a)
+taken_later f b older a e = ap (λ q. f (cond q older (b ∷ without older a))) e
+
+ring_here : (b : Blossom) (older : List Blossom) (a : ℕ) → eqb b.node a ≡ true → ring_of (b ∷ older) a ≡ b.ring
+ring_here b older a e = ap (λ q. cond q b.ring (ring_of older a)) e
+
+ring_later : (b : Blossom) (older : List Blossom) (a : ℕ) → eqb b.node a ≡ false → ring_of (b ∷ older) a ≡ ring_of older a
+ring_later b older a e = ap (λ q. cond q b.ring (ring_of older a)) e
+
+older_here : (b : Blossom) (older : List Blossom) (a : ℕ) → eqb b.node a ≡ true → older_than (b ∷ older) a ≡ older
+older_here b older a e = ap (λ q. cond q older (older_than older a)) e
+
+older_later : (b : Blossom) (older : List Blossom) (a : ℕ) → eqb b.node a ≡ false → older_than (b ∷ older) a ≡ older_than older a
+older_later b older a e = ap (λ q. cond q older (older_than older a)) e
+
+-- a blossom of dual 0 adds nothing to what an edge feels
+pub pull_without : (y : ℕ → ℤ) (bs : List Blossom) (a : ℕ) (e : Edge) → y a ≡ pos 0 → pull y (without bs a) e ≡ pull y bs e
+pull_without y [] a e none = refl
+pull_without y (b ∷ older) a e none =
+    by_test (eqb b.node a)
+    (λ s. taken_here (λ bs. pull y bs e) b older a s ∙ sym (pull_zero y b older e (ap y (eqb-true b.node a s) ∙ none)))
+    (λ s. taken_later (λ bs. pull y bs e) b older a s ∙ ap (λ t. cond (crosses b.members e) (y b.node) (pos 0) +ℤ t) (pull_without y older a e none))
+
+-- a vertex in another node stays there
+pub outermost_elsewhere : (bs : List Blossom) (a v : ℕ) → outermost bs v ≢ a → outermost (without bs a) v ≡ outermost bs v
+outermost_elsewhere [] a v ne = refl
+outermost_elsewhere (b ∷ older) a v ne =
+    by_test (eqb b.node a)
+    (λ s. taken_here (λ bs. outermost bs v) b older a s ∙ by_test (holds b.members v)
+    (λ m. absurd (ne (ap (λ q. cond q b.node (outermost older v)) m ∙ eqb-true b.node a s)))
+    (λ m. sym (ap (λ q. cond q b.node (outermost older v)) m)))
+    (λ s. taken_later (λ bs. outermost bs v) b older a s ∙ by_test (holds b.members v)
+    (λ m. ap (λ q. cond q b.node (outermost (without older a) v)) m ∙ sym (ap (λ q. cond q b.node (outermost older v)) m))
+    (λ m. ap (λ q. cond q b.node (outermost (without older a) v)) m ∙ outermost_elsewhere older a v (λ e. ne (ap (λ q. cond q b.node (outermost older v)) m ∙ e))
+    ∙ sym (ap (λ q. cond q b.node (outermost older v)) m)))
+
+-- a vertex of the blossom comes into the child that holds it
+pub outermost_opened : (bs : List Blossom) (a v : ℕ) → outermost bs v ≡ a → v ≢ a → outermost (without bs a) v ≡ outermost (older_than bs a) v
+outermost_opened [] a v e ne = absurd (ne e)
+outermost_opened (b ∷ older) a v e ne =
+    by_test (eqb b.node a)
+    (λ s. taken_here (λ bs. outermost bs v) b older a s ∙ ap (λ bs. outermost bs v) (sym (older_here b older a s)))
+    (λ s. taken_later (λ bs. outermost bs v) b older a s ∙ by_test (holds b.members v)
+    (λ m. absurd (eqb-false b.node a s (sym (ap (λ q. cond q b.node (outermost older v)) m) ∙ e)))
+    (λ m. ap (λ q. cond q b.node (outermost (without older a) v)) m ∙ outermost_opened older a v (sym (ap (λ q. cond q b.node (outermost older v)) m) ∙ e) ne)
+    ∙ ap (λ bs. outermost bs v) (sym (older_later b older a s)))
+
+-- a vertex whose node before lay on its circuit is in the blossom
+pub outermost_by_ring : (n : ℕ) (bs : List Blossom) (a v : ℕ) → IsNested n bs → is_vertex n v ≡ true → is_child bs a ≡ false → in_ring (ring_of bs a) (outermost (older_than bs a) v) ≡ true → outermost bs v ≡ a
+outermost_by_ring n [] a v h iv out r = absurd (both_ways false refl r)
+outermost_by_ring n (b ∷ older) a v h iv out r =
+    let parts = or_parts (in_ring b.ring a) (is_child older a) out in
+    by_test (eqb b.node a)
+    (λ s. let there : in_ring b.ring (outermost older v) ≡ true = sym (ap (λ bs. in_ring b.ring (outermost bs v)) (older_here b older a s)) ∙ sym (ap (λ ls. in_ring ls (outermost (older_than (b ∷ older) a) v)) (ring_here b older a s)) ∙ r in
+    ap (λ q. cond q b.node (outermost older v)) (member_by_ring n older b v h iv ∙ there) ∙ eqb-true b.node a s)
+    (λ s. let there : in_ring (ring_of older a) (outermost (older_than older a) v) ≡ true = sym (ap (λ bs. in_ring (ring_of older a) (outermost bs v)) (older_later b older a s)) ∙ sym (ap (λ ls. in_ring ls (outermost (older_than (b ∷ older) a) v)) (ring_later b older a s)) ∙ r in
+    let rest : outermost older v ≡ a = outermost_by_ring n older a v h.1 iv parts.1 there in
+    ap (λ q. cond q b.node (outermost older v)) (member_by_ring n older b v h iv ∙ ap (in_ring b.ring) rest ∙ parts.0) ∙ rest)
+
+-- an end that came into a child of the blossom's circuit is in that child
+end_opened : (n : ℕ) (bs : List Blossom) (a v x : ℕ) → IsNested n bs → n < a → is_child bs a ≡ false → is_vertex n v ≡ true → in_ring (ring_of bs a) x ≡ true → outermost (older_than bs a) v ≡ x → outermost (without bs a) v ≡ x
+end_opened n bs a v x h above out iv r e =
+    let range = vertex_range n v iv in
+    outermost_opened bs a v (outermost_by_ring n bs a v h iv out (ap (in_ring (ring_of bs a)) e ∙ r)) (λ q. absurd (omega (arith, q, range.1, above))) ∙ e
+
+-- an edge between two children joins them once the blossom is open
+pub joins_opened : (g : Multigraph) (bs : List Blossom) (a e x y : ℕ) → IsGraph g → IsNested g.vertices bs → g.vertices < a → is_child bs a ≡ false → IsEdgeNumber g e
+    → in_ring (ring_of bs a) x ≡ true → in_ring (ring_of bs a) y ≡ true → Joins g (older_than bs a) e x y → Joins g (without bs a) e x y
+joins_opened g bs a e x y graph h above out is rx ry j =
+    let w = edge_of_within g e graph.ends is in
+    let u_is = range_vertex g.vertices (edge_of g e).u w.u_low w.u_high in
+    let v_is = range_vertex g.vertices (edge_of g e).v w.v_low w.v_high in
+    ⊎_elim
+    (λ p. inl (end_opened g.vertices bs a (edge_of g e).u x h above out u_is rx p.0, end_opened g.vertices bs a (edge_of g e).v y h above out v_is ry p.1))
+    (λ p. inr (end_opened g.vertices bs a (edge_of g e).u y h above out u_is ry p.0, end_opened g.vertices bs a (edge_of g e).v x h above out v_is rx p.1))
+    j
+
+-- and an edge between two other nodes stays
+pub joins_elsewhere : (g : Multigraph) (bs : List Blossom) (a e x y : ℕ) → x ≢ a → y ≢ a → Joins g bs e x y → Joins g (without bs a) e x y
+joins_elsewhere g bs a e x y nx ny j =
+    ⊎_elim
+    (λ p. inl (outermost_elsewhere bs a (edge_of g e).u (λ q. nx (sym p.0 ∙ q)) ∙ p.0, outermost_elsewhere bs a (edge_of g e).v (λ q. ny (sym p.1 ∙ q)) ∙ p.1))
+    (λ p. inr (outermost_elsewhere bs a (edge_of g e).u (λ q. ny (sym p.0 ∙ q)) ∙ p.0, outermost_elsewhere bs a (edge_of g e).v (λ q. nx (sym p.1 ∙ q)) ∙ p.1))
+    j
+
+-- an edge from the blossom to another node joins that one and the child that holds its end
+pub joins_child : (g : Multigraph) (bs : List Blossom) (a e w : ℕ) → IsGraph g → g.vertices < a → IsEdgeNumber g e → a ≢ w → Joins g bs e a w
+    → Joins g (without bs a) e (outermost (older_than bs a) (cond (eqb (outermost bs (edge_of g e).u) a) (edge_of g e).u (edge_of g e).v)) w
+joins_child g bs a e w graph above is ne j =
+    let within = edge_of_within g e graph.ends is in
+    let u : ℕ = (edge_of g e).u in
+    let v : ℕ = (edge_of g e).v in
+    let u_not : u ≢ a = λ q. absurd (omega (arith, q, within.u_high, above)) in
+    let v_not : v ≢ a = λ q. absurd (omega (arith, q, within.v_high, above)) in
+    by_test (eqb (outermost bs u) a)
+    (λ t. ⊎_elim
+    (λ p. subst (λ x. Joins g (without bs a) e (outermost (older_than bs a) x) w) (sym (ap (λ q. cond q u v) t))
+    (inl (outermost_opened bs a u p.0 u_not, outermost_elsewhere bs a v (λ q. ne (sym q ∙ p.1)) ∙ p.1)))
+    (λ p. absurd (ne (sym (eqb-true (outermost bs u) a t) ∙ p.0)))
+    j)
+    (λ t. ⊎_elim
+    (λ p. absurd (eqb-false (outermost bs u) a t p.0))
+    (λ p. subst (λ x. Joins g (without bs a) e (outermost (older_than bs a) x) w) (sym (ap (λ q. cond q u v) t))
+    (inr (outermost_elsewhere bs a u (λ q. ne (sym q ∙ p.0)) ∙ p.0, outermost_opened bs a v p.1 v_not)))
+    j)
+
+-- a child of the rest, or of the blossom
+child_opened : (bs : List Blossom) (a c : ℕ) → is_child bs c ≡ true → (is_child (without bs a) c ≡ true) ⊎ (in_ring (ring_of bs a) c ≡ true)
+child_opened [] a c e = absurd (both_ways false refl e)
+child_opened (b ∷ older) a c e =
+    by_test (eqb b.node a)
+    (λ s. ⊎_elim (λ r. inr (ap (λ ls. in_ring ls c) (ring_here b older a s) ∙ r)) (λ r. inl (taken_here (λ bs. is_child bs c) b older a s ∙ r)) (or_cases (in_ring b.ring c) (is_child older c) e))
+    (λ s. ⊎_elim
+    (λ r. inl (taken_later (λ bs. is_child bs c) b older a s ∙ or_left (in_ring b.ring c) (is_child (without older a) c) r))
+    (λ r. ⊎_elim
+    (λ k. inl (taken_later (λ bs. is_child bs c) b older a s ∙ or_right (in_ring b.ring c) (is_child (without older a) c) k))
+    (λ k. inr (ap (λ ls. in_ring ls c) (ring_later b older a s) ∙ k))
+    (child_opened older a c r))
+    (or_cases (in_ring b.ring c) (is_child older c) e))
+
+pub ring_is_child : (bs : List Blossom) (a c : ℕ) → in_ring (ring_of bs a) c ≡ true → is_child bs c ≡ true
+ring_is_child [] a c e = absurd (both_ways false refl e)
+ring_is_child (b ∷ older) a c e =
+    by_test (eqb b.node a)
+    (λ s. or_left (in_ring b.ring c) (is_child older c) (sym (ap (λ ls. in_ring ls c) (ring_here b older a s)) ∙ e))
+    (λ s. or_right (in_ring b.ring c) (is_child older c) (ring_is_child older a c (sym (ap (λ ls. in_ring ls c) (ring_later b older a s)) ∙ e)))
+
+-- what is outermost once the blossom is open was so before, or lay on its circuit
+pub outer_opened : (n : ℕ) (bs : List Blossom) (a c : ℕ) → is_outermost n (without bs a) c ≡ true → c ≢ a → (is_outermost n bs c ≡ true) ⊎ (in_ring (ring_of bs a) c ≡ true)
+outer_opened n bs a c is ne =
+    let parts = outermost_parts n (without bs a) c is in
+    let node : is_node n bs c ≡ true = sym (node_without n bs a c (ne_eqb a c (λ q. ne (sym q)))) ∙ parts.0 in
+    by_test (is_child bs c)
+    (λ e. ⊎_elim (λ k. absurd (both_ways (is_child (without bs a) c) parts.1 k)) (λ k. inr k) (child_opened bs a c e))
+    (λ e. inl (and_from (is_node n bs c) (not (is_child bs c)) node (ap not e)))
+
+-- the nodes of the circuit are outermost then
+pub ring_outer : (n : ℕ) (bs : List Blossom) (a c : ℕ) → IsNested n bs → is_child bs a ≡ false → in_ring (ring_of bs a) c ≡ true → is_outermost n (without bs a) c ≡ true
+ring_outer n [] a c h out r = absurd (both_ways false refl r)
+ring_outer n (b ∷ older) a c h out r =
+    let parts = or_parts (in_ring b.ring a) (is_child older a) out in
+    by_test (eqb b.node a)
+    (λ s. taken_here (λ bs. is_outermost n bs c) b older a s ∙ circuit_outer n older b.ring c h.0.circuit (sym (ap (λ ls. in_ring ls c) (ring_here b older a s)) ∙ r))
+    (λ s.
+    let later : in_ring (ring_of older a) c ≡ true = sym (ap (λ ls. in_ring ls c) (ring_later b older a s)) ∙ r in
+    let ps = outermost_parts n (without older a) c (ring_outer n older a c h.1 parts.1 later) in
+    let here : in_ring b.ring c ≡ false = false_from_ne_true (in_ring b.ring c) (λ k. both_ways (is_child older c) (outermost_parts n older c (circuit_outer n older b.ring c h.0.circuit k)).1 (ring_is_child older a c later)) in
+    taken_later (λ bs. is_outermost n bs c) b older a s
+    ∙ and_from (is_node n (b ∷ without older a) c) (not (is_child (b ∷ without older a) c)) (node_grows n b (without older a) c ps.0) (ap not (ap (λ t. t || is_child (without older a) c) here ∙ ps.1)))
+
+-- the blossom is no node any more
+pub gone : (n : ℕ) (bs : List Blossom) (a : ℕ) → IsNested n bs → n < a → is_node n (without bs a) a ≡ false
+gone n bs a h above = ap (λ t. t || holds (names_of (without bs a)) a) low ∙ no_name bs h
+  where
+    low : is_vertex n a ≡ false
+    low = false_from_ne_true (is_vertex n a) (λ e. let r = vertex_range n a e in absurd (omega (arith, r.1, above)))
+
+    no_name : (bs : List Blossom) → IsNested n bs → holds (names_of (without bs a)) a ≡ false
+    no_name [] h = refl
+    no_name (b ∷ older) h =
+        by_test (eqb b.node a)
+        (λ s. taken_here (λ bs. holds (names_of bs) a) b older a s ∙ ap (holds (names_of older)) (sym (eqb-true b.node a s)) ∙ (or_parts (is_vertex n b.node) (holds (names_of older) b.node) h.0.fresh).1)
+        (λ s. taken_later (λ bs. holds (names_of bs) a) b older a s ∙ ap (λ t. t || holds (names_of (without older a)) a) s ∙ no_name older h.1)
+
+-- what holds of each blossom holds of each that is left
+pub all_without : (P : Blossom → Type 0) (bs : List Blossom) (a : ℕ) → AllByRecursion P bs → AllByRecursion P (without bs a)
+all_without P [] a each = tt
+all_without P (b ∷ older) a each =
+    elim (eqb b.node a) as (λ q. AllByRecursion P (cond q older (b ∷ without older a))) [ true ↦ each.1 | false ↦ (each.0, all_without P older a each.1) ]
+
+-- the circuits of the other blossoms are rings as before
+chain_elsewhere : (g : Multigraph) (bs : List Blossom) (a : ℕ) (ls : List Link) (z : ℕ) → in_ring ls a ≡ false → z ≢ a → IsChainTo g bs ls z → IsChainTo g (without bs a) ls z
+chain_elsewhere g bs a [] z out nz chain = tt
+chain_elsewhere g bs a (l ∷ ls) z out nz chain =
+    let parts = or_parts (eqb l.node a) (in_ring ls a) out in (
+      chain.0,
+      joins_elsewhere g bs a l.edge l.node (next_node ls z) (eqb-false l.node a parts.0) (next_differs ls parts.1) chain.1,
+      chain_elsewhere g bs a ls z parts.1 nz chain.2,
+    )
+  where
+    next_differs : (ks : List Link) → in_ring ks a ≡ false → next_node ks z ≢ a
+    next_differs [] o = nz
+    next_differs (k ∷ ks) o = eqb-false k.node a (or_parts (eqb k.node a) (in_ring ks a) o).0
+
+pub rings_without : (g : Multigraph) (bs : List Blossom) (a : ℕ) → 0 < a → is_child bs a ≡ false → HasRings g bs → HasRings g (without bs a)
+rings_without g [] a low out rings = tt
+rings_without g (b ∷ older) a low out rings =
+    let parts = or_parts (in_ring b.ring a) (is_child older a) out in
+    elim (eqb b.node a) as (λ q. HasRings g (cond q older (b ∷ without older a))) [
+      | true ↦ rings.1
+      | false ↦ (chain_elsewhere g older a b.ring (next_node b.ring 0) parts.0 (first_differs b.ring parts.0) rings.0, rings_without g older a low parts.1 rings.1)
+    ]
+  where
+    first_differs : (ks : List Link) → in_ring ks a ≡ false → next_node ks 0 ≢ a
+    first_differs [] o = λ q. absurd (omega (arith, q, low))
+    first_differs (k ∷ ks) o = eqb-false k.node a (or_parts (eqb k.node a) (in_ring ks a) o).0
+
+-- what is known of the circuit of a blossom of the family
+pub ring_chain : (g : Multigraph) (bs : List Blossom) (a : ℕ) → HasRings g bs → IsChainTo g (older_than bs a) (ring_of bs a) (next_node (ring_of bs a) 0)
+ring_chain g [] a h = tt
+ring_chain g (b ∷ older) a h =
+    elim (eqb b.node a) as (λ q. IsChainTo g (cond q older (older_than older a)) (cond q b.ring (ring_of older a)) (next_node (cond q b.ring (ring_of older a)) 0)) [ true ↦ h.0 | false ↦ ring_chain g older a h.1 ]
+
+pub ring_each_link : (P : Link → Type 0) (bs : List Blossom) (a : ℕ) → AllByRecursion (λ (b : Blossom). AllByRecursion P b.ring) bs → AllByRecursion P (ring_of bs a)
+ring_each_link P [] a h = tt
+ring_each_link P (b ∷ older) a h = elim (eqb b.node a) as (λ q. AllByRecursion P (cond q b.ring (ring_of older a))) [ true ↦ h.0 | false ↦ ring_each_link P older a h.1 ]

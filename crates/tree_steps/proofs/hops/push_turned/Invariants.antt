@@ -1,0 +1,18 @@
+use Rattle.std.proofs.Common.{◌≡◌, ℕ, List, length}
+use Rattle.std.specs.Vec.{vec_capacity}
+use Rattle.alt_forest.specs.Trees.{path_of}
+use Rattle.alt_forest.specs.Searches.{state_of}
+use Rattle.tree_steps.specs.declared.hops.Hop.{Hop}
+use Rattle.tree_steps.specs.Ways.{IsWay}
+use Rattle.tree_steps.proofs.Pushed.{IsTurnedSoFar}
+use Rattle.tree_steps.proofs.hops.push_turned.Given as goal
+
+abbrev pub invariant-loop-top : goal.invariant-loop-top
+invariant-loop-top l = record {
+  rest : l.search ≡ record l.fn.search { circuit = l.search.circuit };
+  capacity : vec_capacity l.search.circuit ≡ vec_capacity l.fn.search.circuit;
+  pushed : (depth : ℕ → ℕ) (hops : List Hop) → IsWay (state_of l.fn.search) depth l.fn.from hops l.top → IsTurnedSoFar (state_of l.fn.search) depth l.node l.top l.edge l.search.circuit.items l.fn.search.circuit.items l.fn.from l.fn.first hops;
+}
+
+abbrev pub decreases-loop-top : goal.decreases-loop-top
+decreases-loop-top l = length (path_of (state_of l.fn.search) l.node)

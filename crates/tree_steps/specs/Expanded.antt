@@ -1,0 +1,57 @@
+-- What an expand changes (chapter 24): the circuit of the blossom is opened at its base, the node that holds the end of
+-- the blossom's mate. The others are mates two by two, and the even way between the base and the node that holds the
+-- end of the blossom's parent comes into the tree.
+use Rattle.std.specs.Prelude.{ℕ, List, [], ◌∷◌, Option, Some}
+use Rattle.blossom_arena.specs.declared.links.Link.{Link}
+use Rattle.blossom_arena.specs.Family.{without}
+use Rattle.alt_forest.specs.declared.label.Label.{Label}
+use Rattle.alt_forest.specs.declared.label.Label.TheVariants.{Outer, Inner, Out}
+use Rattle.alt_forest.specs.State.{State}
+use Rattle.alt_forest.specs.Searches.{put}
+
+-- neighbours become mates two by two
+abbrev pub mated : (ℕ → Option ℕ) → List Link → ℕ → Option ℕ
+mated m [] = m
+mated m (a ∷ []) = m
+mated m (a ∷ (b ∷ rest)) = mated (put (put m a.node (Some a.edge)) b.node (Some a.edge)) rest
+
+-- all are labelled out
+abbrev pub labelled_out : (ℕ → Label) → List Link → ℕ → Label
+labelled_out l [] = l
+labelled_out l (a ∷ rest) = labelled_out (put l a.node Out) rest
+
+-- the blossom of this node is open: its base has its mate and is inner, the rest of the circuit is labelled out
+abbrev pub opened : State → ℕ → ℕ → List Link → ℕ → State
+opened s node base rest edge = record s { blossoms = without s.blossoms node; label = put (labelled_out s.label rest) base Inner; mate = put (mated s.mate rest) base (Some edge) }
+
+-- the way up from an inner node, by pairs: the first of each is outer, the second one inner
+abbrev pub labels_up : (ℕ → Label) → List Link → ℕ → Label
+labels_up l [] = l
+labels_up l (a ∷ []) = l
+labels_up l (a ∷ (b ∷ rest)) = labels_up (put (put l a.node Outer) b.node Inner) rest
+
+-- the inner node x hangs by an edge under the first pair, the second one of each pair by its own under the next one, and
+-- the last by the edge `top`
+abbrev pub parents_up : (ℕ → Option ℕ) → ℕ → ℕ → ℕ → List Link → ℕ → Option ℕ
+parents_up p x edge top [] = put p x (Some top)
+parents_up p x edge top (a ∷ []) = p
+parents_up p x edge top (a ∷ (b ∷ rest)) = parents_up (put p x (Some edge)) b.node b.edge top rest
+
+-- where the way up ends
+abbrev pub end_of : ℕ → List Link → ℕ
+end_of x [] = x
+end_of x (a ∷ []) = x
+end_of x (a ∷ (b ∷ rest)) = end_of b.node rest
+
+-- the way down to an inner node, by pairs: the first of each is inner, the second one outer
+abbrev pub labels_down : (ℕ → Label) → List Link → ℕ → Label
+labels_down l [] = l
+labels_down l (a ∷ []) = l
+labels_down l (a ∷ (b ∷ rest)) = labels_down (put (put l b.node Outer) a.node Inner) rest
+
+-- the first one of the first pair hangs by this edge, that of each later one by the edge before it, and so does the
+-- inner node at the end
+abbrev pub parents_down : (ℕ → Option ℕ) → ℕ → ℕ → List Link → ℕ → Option ℕ
+parents_down p edge last [] = put p last (Some edge)
+parents_down p edge last (a ∷ []) = p
+parents_down p edge last (a ∷ (b ∷ rest)) = parents_down (put p a.node (Some edge)) b.edge last rest

@@ -1,0 +1,70 @@
+ghost use Rattle.std.specs.Prelude.{◌≡◌, ◌≢◌, ◌+◌, ℕ, true, Some};
+ghost use Rattle.graph_theory.specs.Graph.{IsEdgeNumber, edge_of};
+ghost use Rattle.blossom_arena.specs.Family.{outermost, made_of};
+ghost use Rattle.alt_forest.specs.declared.label.Label.TheVariants.{Outer, Out};
+ghost use Rattle.alt_forest.specs.State.{IsOutermost};
+ghost use Rattle.alt_forest.specs.Trees.{path_of, root_of, first_common};
+ghost use Rattle.alt_forest.specs.Events.{CanShrink};
+ghost use Rattle.alt_forest.specs.Searches.{IsSound, state_of, label_at};
+ghost use Rattle.tree_steps.specs.Shrunk.{shrunk_state};
+ghost use Rattle.tree_steps.specs.Shrinkable.{AreEnds, CanClose, IsShrunk};
+
+use crate::circuit::fill_circuit;
+use alt_forest::{Label, Search, set_edge, set_label};
+use blossom_arena::NodeId;
+use mb_base::{EdgeId, Steps};
+use std::sync::ledger::Ledger;
+use weighted_graph::Graph;
+
+/// Makes one outer node of the circuit, which has the mate of its top.
+fn close(search: &mut Search, top: NodeId) -> NodeId
+    requires sound { IsSound search.old }
+    requires can { CanClose (state_of search.old) search.old.circuit.items top }
+    ensures state { state_of search.new ≡ shrunk_state (state_of search.old) (made_of search.old.arena.blossoms search.old.circuit.items result) top }
+    ensures rest { search.new ≡ record search.old { arena = search.new.arena; labels = search.new.labels; mates = search.new.mates } }
+    ensures sound { IsSound search.new }
+{
+    let mate = search.mate(top);
+    let node = search.arena.shrink(&search.circuit);
+    set_label(&mut search.labels, node, Label::Outer);
+    set_edge(&mut search.mates, node, mate);
+    node
+}
+
+/// The first node that the ways of two nodes of one tree share.
+fn meeting_node(search: &Search, a: NodeId, b: NodeId) -> NodeId
+    requires sound { IsSound search.now }
+    requires ends { AreEnds (state_of search.now) a b }
+    ensures { first_common (path_of (state_of search.now) a) (path_of (state_of search.now) b) ≡ Some result }
+{
+    match search.meet(a, b) {
+        Some(node) => node,
+        None => a,
+    }
+}
+
+/// Makes one node of the circuit that a tight edge between two different outer nodes of one tree closes:
+/// the two ways up to where they meet (chapter 24). It answers the new node, looks at the edge once and
+/// counts one step for the event. It takes no memory.
+pub fn shrink<L: Ledger>(
+    search: &mut Search,
+    graph: &Graph,
+    e: EdgeId,
+    steps: &mut Steps<L>,
+) -> NodeId
+    requires sound { IsSound search.old }
+    requires same { graph.now ≡ search.old.graph }
+    requires can { CanShrink (state_of search.old) e }
+    ensures shrunk { IsShrunk (state_of search.old) (state_of search.new) result }
+    ensures rest { search.new ≡ record search.old { arena = search.new.arena; labels = search.new.labels; mates = search.new.mates; circuit = search.new.circuit } }
+    ensures sound { IsSound search.new }
+    ensures step { steps.new ≡ steps.old + 2 }
+{
+    steps.tick();
+    let (u, v, _) = graph.look(e, steps);
+    let a = search.arena.outermost(u);
+    let b = search.arena.outermost(v);
+    let top = meeting_node(search, a, b);
+    fill_circuit(search, a, b, top, e);
+    close(search, top)
+}
