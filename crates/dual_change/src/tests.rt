@@ -281,6 +281,7 @@ fn dual(search: &Search, number: u32) -> i64 {
 fn the_least_change_is_found(rt: HostRuntime) -> Result<(), Fail> {
     let graph = path_and_triangle(rt.alloc())?;
     let found = fresh(rt.alloc(), &graph)?;
+    assert!(rt; found.is_some());
     let Some(mut search) = found else {
         return Ok(());
     };
@@ -296,6 +297,7 @@ fn the_least_change_is_found(rt: HostRuntime) -> Result<(), Fail> {
 fn an_inner_blossom_comes_to_0(rt: HostRuntime) -> Result<(), Fail> {
     let graph = path_and_triangle(rt.alloc())?;
     let found = fresh(rt.alloc(), &graph)?;
+    assert!(rt; found.is_some());
     let Some(mut search) = found else {
         return Ok(());
     };
@@ -315,6 +317,7 @@ fn an_inner_blossom_comes_to_0(rt: HostRuntime) -> Result<(), Fail> {
 fn a_tree_takes_in_a_triangle(rt: HostRuntime) -> Result<(), Fail> {
     let graph = two_triangles(rt.alloc())?;
     let found = fresh(rt.alloc(), &graph)?;
+    assert!(rt; found.is_some());
     let Some(mut search) = found else {
         return Ok(());
     };
@@ -340,6 +343,7 @@ fn a_tree_that_can_do_nothing_is_stuck(rt: HostRuntime) -> Result<(), Fail> {
     graph.add(v(2), v(3), 1)?;
     graph.add(v(3), v(1), 2)?;
     let found = fresh(rt.alloc(), &graph)?;
+    assert!(rt; found.is_some());
     let Some(mut search) = found else {
         return Ok(());
     };
