@@ -2,7 +2,7 @@
 use Rattle.std.proofs.Common.{◌≡◌, ◌≢◌, ℕ, suc, ◌+◌, ◌-◌, ◌<◌, ◌≤◌, pos, true, false, eqb, cond, List, [], ◌∷◌, length, refl, sym, ap, ◌∙◌, subst, arith, ⊎_elim, inl, inr, Option, Some, None}
 use Rattle.std.specs.Prelude.{◌≤ℤ◌}
 use Rattle.std.specs.List.{AllByRecursion}
-use Rattle.std.proofs.lemmas.Bool.{both_ways, eqb-true, eqb-false, eq-eqb, ne_eqb}
+use Rattle.std.proofs.lemmas.Bool.{both_ways, or_cases, eqb-true, eqb-false, eq-eqb, ne_eqb}
 use Rattle.graph_theory.specs.Graph.{IsEdgeNumber}
 use Rattle.graph_theory.specs.Parts.{holds}
 use Rattle.blossom_arena.specs.declared.links.Link.{Link}
@@ -16,13 +16,13 @@ use Rattle.alt_forest.specs.Trees.{other_node, node_limit, far_end, up_edge_by, 
 use Rattle.alt_forest.specs.Checks.{RingHolds, MateHolds, FitsHere}
 use Rattle.alt_forest.proofs.Relabelled.{some_not_none}
 use Rattle.alt_forest.proofs.Walk.{some_same, other_node_joins, path_step, path_none}
-use Rattle.alt_forest.proofs.Paths.{path_enough}
+use Rattle.alt_forest.proofs.Paths.{path_enough, path_short}
 
 -- all rings
-older_here : (b : Blossom) (older : List Blossom) (x : ℕ) → eqb b.node x ≡ true → (older_than (b ∷ older) x ≡ older) × (ring_of (b ∷ older) x ≡ b.ring)
+pub older_here : (b : Blossom) (older : List Blossom) (x : ℕ) → eqb b.node x ≡ true → (older_than (b ∷ older) x ≡ older) × (ring_of (b ∷ older) x ≡ b.ring)
 older_here b older x e = (ap (λ q. cond q older (older_than older x)) e, ap (λ q. cond q b.ring (ring_of older x)) e)
 
-older_past : (b : Blossom) (older : List Blossom) (x : ℕ) → eqb b.node x ≡ false → (older_than (b ∷ older) x ≡ older_than older x) × (ring_of (b ∷ older) x ≡ ring_of older x)
+pub older_past : (b : Blossom) (older : List Blossom) (x : ℕ) → eqb b.node x ≡ false → (older_than (b ∷ older) x ≡ older_than older x) × (ring_of (b ∷ older) x ≡ ring_of older x)
 older_past b older x e = (ap (λ q. cond q older (older_than older x)) e, ap (λ q. cond q b.ring (ring_of older x)) e)
 
 -- the rings of these, each over those older than it
@@ -105,11 +105,11 @@ fits_label s h a is = record {
         edge = i.hangs.edge;
         up = up;
         parent = i.hangs.parent;
-        is_edge = i.hangs.is_edge;
-        joins = i.hangs.joins;
-        tight = i.hangs.tight;
-        up_is = h.far i.hangs.edge a i.hangs.is_edge;
-        up_outer = i.hangs.up_outer;
+        is_edge = i.hangs.leads.is_edge;
+        joins = i.hangs.leads.joins;
+        tight = i.hangs.leads.tight;
+        up_is = h.far i.hangs.edge a i.hangs.leads.is_edge;
+        up_outer = i.hangs.leads.up_outer;
         falls = way_falls s a up (h.some a is) (ap (λ l. far_end s (up_edge_by s l a) a) l ∙ ap (λ o. far_end s o a) i.hangs.parent) (h.ends a is);
         child_edge = f;
         child = c;
@@ -140,29 +140,39 @@ up_edge_is s a e mate fits has = by_label (s.label a) refl has
   where
     by_label : (l : Label) → s.label a ≡ l → up_edge_by s l a ≡ Some e → IsEdgeNumber s.graph e
     by_label Outer l has = (mate e has).edge
-    by_label Inner l has = let i = (fits.inner l).hangs in subst (IsEdgeNumber s.graph) (some_same i.edge e (sym i.parent ∙ has)) i.is_edge
+    by_label Inner l has = let i = (fits.inner l).hangs in subst (IsEdgeNumber s.graph) (some_same i.edge e (sym i.parent ∙ has)) i.leads.is_edge
     by_label Out l has = some_not_none e (sym has)
 
+-- where the climb stands: after c steps it has come to this node
+abbrev pub HasClimbed : State → ℕ → ℕ → ℕ → Type 0
+HasClimbed s a c node = (k : ℕ) → length (path_within (c + k) s a) ≡ c + length (path_within k s node)
+
 -- a step of the climb
-pub climb_step : (s : State) (a node next c : ℕ) → node ≢ 0 → next ≡ up_of s node → ((k : ℕ) → length (path_within (c + k) s a) ≤ c + length (path_within k s node))
-    → (k : ℕ) → length (path_within (c + 1 + k) s a) ≤ c + 1 + length (path_within k s next)
+pub climb_step : (s : State) (a node next c : ℕ) → node ≢ 0 → next ≡ up_of s node → HasClimbed s a c node → HasClimbed s a (c + 1) next
 climb_step s a node next c ne up far k =
     let more : c + (k + 1) ≡ c + 1 + k = omega arith in
     let one : (k + 1) - 1 ≡ k = omega arith in
     let step : path_within (k + 1) s node ≡ node ∷ path_within k s (up_of s node) = path_step (k + 1) s node (λ e. absurd (omega (arith, e))) ne ∙ ap (λ j. node ∷ path_within j s (up_of s node)) one in
     let size : length (path_within (k + 1) s node) ≡ suc (length (path_within k s next)) = ap length step ∙ ap (λ x. suc (length (path_within k s x))) (sym up) in
-    let low : length (path_within (c + (k + 1)) s a) ≤ c + length (path_within (k + 1) s node) = far (k + 1) in
+    let whole : length (path_within (c + (k + 1)) s a) ≡ c + length (path_within (k + 1) s node) = far (k + 1) in
     let same : length (path_within (c + (k + 1)) s a) ≡ length (path_within (c + 1 + k) s a) = ap (λ j. length (path_within j s a)) more in
-    omega arith
+    omega (arith, size, whole, same)
 
--- the end of the climb
-pub climb_end : (s : State) (a node c n : ℕ) → node ≡ 0 → c ≤ n → ((k : ℕ) → length (path_within (c + k) s a) ≤ c + length (path_within k s node)) → length (path_within (n + 1) s a) ≤ n
+-- the climb ends above a root
+pub climb_end : (s : State) (a node c n : ℕ) → node ≡ 0 → c ≤ n → HasClimbed s a c node → length (path_within (n + 1) s a) ≤ n
 climb_end s a node c n none low far =
     let more : c + (n + 1 - c) ≡ n + 1 = omega arith in
-    let there : length (path_within (c + (n + 1 - c)) s a) ≤ c + length (path_within (n + 1 - c) s node) = far (n + 1 - c) in
+    let there : length (path_within (c + (n + 1 - c)) s a) ≡ c + length (path_within (n + 1 - c) s node) = far (n + 1 - c) in
     let empty : length (path_within (n + 1 - c) s node) ≡ 0 = ap (λ x. length (path_within (n + 1 - c) s x)) none ∙ ap length (path_none (n + 1 - c) s) in
     let same : length (path_within (c + (n + 1 - c)) s a) ≡ length (path_within (n + 1) s a) = ap (λ j. length (path_within j s a)) more in
-    omega arith
+    omega (arith, there, empty, same, low)
+
+-- or it has come to more nodes than there are
+pub climb_on : (s : State) (a node n : ℕ) → node ≢ 0 → HasClimbed s a n node → n < length (path_within (n + 1) s a)
+climb_on s a node n ne far =
+    let there : length (path_within (n + 1) s a) ≡ n + length (path_within 1 s node) = far 1 in
+    let one : length (path_within 1 s node) ≡ 1 = ap length (path_step 1 s node (λ e. absurd (omega (arith, e))) ne) in
+    omega (arith, there, one)
 
 -- a search over all nodes up to the limit, one further
 pub one_further : (P : ℕ → Type 0) (k : ℕ) → P k → ((a : ℕ) → a < k → P a) → (a : ℕ) → a < k + 1 → P a
@@ -175,3 +185,53 @@ up_outer s a next far mate fits up ne = by_edge (up_edge s a) refl
     by_edge : (o : Option ℕ) → up_edge s a ≡ o → IsOutermost s next
     by_edge None none = absurd (ne (up ∙ ap (λ o. far_end s o a) none))
     by_edge (Some e) has = subst (IsOutermost s) (sym (up ∙ ap (λ o. far_end s o a) has)) (far e a (up_edge_is s a e mate fits has))
+
+-- the other way round: the check passes the state of a search
+rings_at : (s : State) (bs : List Blossom) (x : ℕ) → holds (names_of bs) x ≡ true → AllRings s bs → AreRings s bs x
+rings_at s [] x name r = absurd (both_ways false refl name)
+rings_at s (b ∷ older) x name r = by_test (eqb b.node x)
+    (λ e. let at = older_here b older x e in
+    record {
+      ring = subst (λ (k : List Link). IsRing s.graph (older_than (b ∷ older) x) k) (sym at.1) (subst (λ (bs : List Blossom). IsRing s.graph bs b.ring) (sym at.0) r.rings.0);
+      tight = subst (AllByRecursion (λ (l : Link). IsTight s l.edge)) (sym at.1) r.tight.0;
+    })
+    (λ e. let past = older_past b older x e in
+    let more : holds (names_of older) x ≡ true = ⊎_elim (λ here. absurd (both_ways (eqb b.node x) e here)) (λ later. later) (or_cases (eqb b.node x) (holds (names_of older) x) name) in
+    let rest = rings_at s older x more (record { rings = r.rings.1; tight = r.tight.1 }) in
+    record {
+      ring = subst (λ (k : List Link). IsRing s.graph (older_than (b ∷ older) x) k) (sym past.1) (subst (λ (bs : List Blossom). IsRing s.graph bs (ring_of older x)) (sym past.0) rest.ring);
+      tight = subst (AllByRecursion (λ (l : Link). IsTight s l.edge)) (sym past.1) rest.tight;
+    })
+
+module _ (s : State) (depth : ℕ → ℕ) (st : IsSearchState s depth) where
+  pub rings_pass : (x : ℕ) → holds (names_of s.blossoms) x ≡ true → RingHolds s x
+  rings_pass x name = let r = rings_at s s.blossoms x name (record { rings = st.rings; tight = st.tight_rings }) in record { ring = r.ring; tight = r.tight }
+
+  pub mates_pass : (a : ℕ) → IsOutermost s a → MateHolds s a
+  mates_pass a is e has = let m = st.mates a e is has in subst (IsMate s a e) (sym (far_unique s a e m.0 m.1)) m.1
+
+  pub labels_pass : (a : ℕ) → IsOutermost s a → FitsHere s a
+  labels_pass a is =
+      let fits = st.labels a is in
+      record {
+        outer = λ l e has. let m = st.mates a e is has in ap s.label (far_unique s a e m.0 m.1) ∙ (fits.outer l e m.0 has m.1).0;
+        inner = λ l.
+            let i = fits.inner l in
+            let apart : a ≢ i.up = λ same. (let one : depth a ≡ depth i.up = ap depth same in absurd (omega (arith, one, i.falls))) in
+            let far : other_node s.graph s.blossoms i.edge a ≡ i.up = other_node_joins s.graph s.blossoms i.edge a i.up i.joins apart in
+            record {
+              hangs = record {
+                edge = i.edge;
+                parent = i.parent;
+                leads = record { is_edge = i.is_edge; joins = subst (Joins s.graph s.blossoms i.edge a) (sym far) i.joins; tight = i.tight; up_outer = ap s.label far ∙ i.up_outer };
+              };
+              mated = (i.child_edge, i.mate);
+              child_outer = λ e has.
+                  let same : e ≡ i.child_edge = some_same e i.child_edge (sym has ∙ i.mate) in
+                  ap (λ f. s.label (other_node s.graph s.blossoms f a)) same ∙ ap s.label (far_unique s a i.child_edge i.child i.is_mate) ∙ i.child_outer;
+            };
+        out = λ l e has. let m = st.mates a e is has in ap s.label (far_unique s a e m.0 m.1) ∙ fits.out l e m.0 has m.1;
+      }
+
+  pub ways_pass : IsNested s.graph.vertices s.blossoms → (a : ℕ) → IsOutermost s a → way_length s a ≤ node_limit s.graph.vertices
+  ways_pass nested a is = path_short (node_limit s.graph.vertices + 1) s depth a nested st is

@@ -10,4 +10,9 @@ pub mod Certified
 pub mod Parity
 pub mod Roots
 pub mod Checked
+pub mod Rings
 pub mod Triangles
+pub mod Ascending
+pub mod Pairs
+pub mod Balance
+pub mod Counted

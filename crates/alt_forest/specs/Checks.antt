@@ -1,9 +1,10 @@
 -- What `check_search` looks at, node by node and blossom by blossom. Only clauses of private calls cite this module.
-use Rattle.std.specs.Prelude.{◌≡◌, ◌⊎◌, ℕ, pos, Option, Some, None}
+use Rattle.std.specs.Prelude.{◌≡◌, ◌⊎◌, ℕ, pos, true, Option, Some, None}
 use Rattle.std.specs.List.{AllByRecursion}
-use Rattle.graph_theory.specs.Graph.{IsEdgeNumber}
+use Rattle.graph_theory.specs.Graph.{IsEdgeNumber, edge_of}
+use Rattle.graph_theory.specs.Parts.{holds}
 use Rattle.blossom_arena.specs.declared.links.Link.{Link}
-use Rattle.blossom_arena.specs.Family.{ring_of, older_than}
+use Rattle.blossom_arena.specs.Family.{members_of, ring_of, older_than}
 use Rattle.alt_forest.specs.declared.label.Label.{Label}
 use Rattle.alt_forest.specs.declared.label.Label.TheVariants.{Outer, Inner, Out}
 use Rattle.alt_forest.specs.State.{State, Joins, slack_of, IsTight, IsRing, IsMate}
@@ -18,6 +19,14 @@ abbrev pub node_or : Option Link → ℕ → ℕ
 node_or None after = after
 node_or (Some l) after = l.node
 
+-- the edge of a link has its ends within a blossom, leads from its node to the next one, and is tight
+pub record LinkHolds (s : State) (b : ℕ) (l : Link) (next : ℕ) : Type 0 where
+  pub edge : IsEdgeNumber s.graph l.edge
+  pub u_within : holds (members_of s.blossoms b) (edge_of s.graph l.edge).u ≡ true
+  pub v_within : holds (members_of s.blossoms b) (edge_of s.graph l.edge).v ≡ true
+  pub joins : Joins s.graph (older_than s.blossoms b) l.edge l.node next
+  pub tight : slack_of s l.edge ≡ pos 0
+
 -- the circuit of a blossom is a ring of tight edges
 pub record RingHolds (s : State) (b : ℕ) : Type 0 where
   pub ring : IsRing s.graph (older_than s.blossoms b) (ring_of s.blossoms b)
@@ -31,14 +40,18 @@ MateHolds s a = (e : ℕ) → s.mate a ≡ Some e → IsMate s a e (other_node s
 abbrev pub MateHas : State → ℕ → Label → Type 0
 MateHas s a label = (e : ℕ) → s.mate a ≡ Some e → s.label (other_node s.graph s.blossoms e a) ≡ label
 
+-- a tight edge leads from a node to an outer one
+pub record LeadsToOuter (s : State) (a e : ℕ) : Type 0 where
+  pub is_edge : IsEdgeNumber s.graph e
+  pub joins : Joins s.graph s.blossoms e a (other_node s.graph s.blossoms e a)
+  pub tight : slack_of s e ≡ pos 0
+  pub up_outer : s.label (other_node s.graph s.blossoms e a) ≡ Outer
+
 -- a node hangs by a tight edge, its parent, under an outer one
 pub record Hangs (s : State) (a : ℕ) : Type 0 where
   pub edge : ℕ
   pub parent : s.parent a ≡ Some edge
-  pub is_edge : IsEdgeNumber s.graph edge
-  pub joins : Joins s.graph s.blossoms edge a (other_node s.graph s.blossoms edge a)
-  pub tight : slack_of s edge ≡ pos 0
-  pub up_outer : s.label (other_node s.graph s.blossoms edge a) ≡ Outer
+  pub leads : LeadsToOuter s a edge
 
 -- and its mate is outer
 pub record IsHung (s : State) (a : ℕ) : Type 0 where

@@ -5,6 +5,7 @@ use Rattle.graph_theory.specs.Parts.{holds}
 use Rattle.blossom_arena.specs.Family.{IsNested, is_vertex, outermost}
 use Rattle.alt_forest.specs.declared.label.Label.TheVariants.{Outer, Inner, Out}
 use Rattle.alt_forest.specs.State.{State, IsOutermost, IsSearchState}
+use Rattle.alt_forest.specs.Counts.{exposed_count, IsMatched, tree_count, HasOneTree}
 use Rattle.alt_forest.specs.Trees.{path_of, root_of, IsRoot, cover, SameParity, labelled}
 
 -- the way from a node in a tree leads through outermost nodes in trees to a root
@@ -25,3 +26,11 @@ TreesHaveParity = (s : State) (depth : ℕ → ℕ) (v w : ℕ) → IsGraph s.gr
 -- a tree has one outer node more than inner ones
 abbrev pub TreesBalance : Type 0
 TreesBalance = (s : State) (depth : ℕ → ℕ) (root : ℕ) → IsNested s.graph.vertices s.blossoms → IsSearchState s depth → IsRoot s root → labelled s root Outer ≡ labelled s root Inner + 1
+
+-- one root by count is the one root there is
+abbrev pub RootsCounted : Type 0
+RootsCounted = (s : State) → IsNested s.graph.vertices s.blossoms → tree_count s ≡ 1 → HasOneTree s × ((root : ℕ) × IsRoot s root)
+
+-- no exposed node by count means that each outermost node has a mate
+abbrev pub ExposedCounted : Type 0
+ExposedCounted = (s : State) → IsNested s.graph.vertices s.blossoms → exposed_count s ≡ 0 → IsMatched s

@@ -1,6 +1,7 @@
 pub mod State
 pub mod Trees
 pub mod Events
+pub mod Counts
 pub mod Searches
 pub mod Routes
 pub mod Chains

@@ -9,7 +9,7 @@ ghost use Rattle.alt_forest.specs.declared.label.Label.TheVariants.{Outer, Inner
 ghost use Rattle.alt_forest.specs.State.{IsOutermost, Joins, IsMate, slack_of};
 ghost use Rattle.alt_forest.specs.Trees.{other_node, up_edge, up_of, path_of, node_limit};
 ghost use Rattle.alt_forest.specs.Searches.{IsSearchGraph, HasShape, IsSound, state_of, label_at, edge_in};
-ghost use Rattle.alt_forest.specs.Checks.{ArePair, node_or, RingHolds, MateHolds, MateHas, Hangs, IsHung, FitsHere};
+ghost use Rattle.alt_forest.specs.Checks.{ArePair, node_or, LinkHolds, RingHolds, MateHolds, MateHas, LeadsToOuter, Hangs, IsHung, FitsHere};
 
 use crate::label::Label;
 use crate::path::{label_at, mate_of, other_node, parent_of, up};
@@ -85,7 +85,7 @@ pub(crate) fn is_outer(search: &Search, number: u32) -> bool
 /// Whether a node has a vertex.
 fn has_member(arena: &Arena, node: NodeId, v: VertexId) -> bool
     requires { is_node arena.now.vertex_count arena.now.blossoms node ≡ true }
-    ensures { result ≡ true → holds (members_of arena.now.blossoms node) v ≡ true }
+    ensures { (result ≡ true) ↔ (holds (members_of arena.now.blossoms node) v ≡ true) }
 {
     for member in arena.members(node) {
         if member.number() == v.number() {
@@ -99,9 +99,7 @@ fn has_member(arena: &Arena, node: NodeId, v: VertexId) -> bool
 fn link_holds(search: &Search, b: NodeId, link: Link, next: u32) -> bool
     requires shape { HasShape search.now }
     requires blossom { holds (names_of search.now.arena.blossoms) b ≡ true }
-    ensures edge { result ≡ true → IsEdgeNumber search.now.graph link.edge }
-    ensures joins { result ≡ true → Joins search.now.graph (older_than search.now.arena.blossoms b) link.edge link.node next }
-    ensures tight { result ≡ true → slack_of (state_of search.now) link.edge ≡ pos 0 }
+    ensures { (result ≡ true) ↔ LinkHolds (state_of search.now) b link next }
 {
     if !is_edge(&search.graph, link.edge) {
         return false;
@@ -135,7 +133,7 @@ fn node_or(link: Option<Link>, after: u32) -> u32
 fn ring_holds(search: &Search, b: NodeId) -> bool
     requires shape { HasShape search.now }
     requires blossom { holds (names_of search.now.arena.blossoms) b ≡ true }
-    ensures { result ≡ true → RingHolds (state_of search.now) b }
+    ensures { (result ≡ true) ↔ RingHolds (state_of search.now) b }
 {
     let mut following = search.arena.ring(b);
     let first = node_or(following.next(), 0);
@@ -150,7 +148,7 @@ fn ring_holds(search: &Search, b: NodeId) -> bool
 /// Whether the circuit of each blossom is a ring of tight edges.
 fn rings_hold(search: &Search) -> bool
     requires shape { HasShape search.now }
-    ensures { result ≡ true → (b : ℕ) → holds (names_of search.now.arena.blossoms) b ≡ true → RingHolds (state_of search.now) b }
+    ensures { (result ≡ true) ↔ ((b : ℕ) → holds (names_of search.now.arena.blossoms) b ≡ true → RingHolds (state_of search.now) b) }
 {
     for b in search.arena.blossoms() {
         if !ring_holds(search, b) {
@@ -163,7 +161,7 @@ fn rings_hold(search: &Search) -> bool
 /// Whether no slack is below 0.
 fn slacks_hold(search: &Search) -> bool
     requires shape { HasShape search.now }
-    ensures { result ≡ true → (e : ℕ) → IsEdgeNumber search.now.graph e → pos 0 ≤ℤ slack_of (state_of search.now) e }
+    ensures { (result ≡ true) ↔ ((e : ℕ) → IsEdgeNumber search.now.graph e → pos 0 ≤ℤ slack_of (state_of search.now) e) }
 {
     for place in 0..search.graph.edges() {
         if slack_at(search, EdgeId::new(place + 1)) < 0 {
@@ -186,7 +184,7 @@ fn is_same_edge(edge: Option<EdgeId>, e: EdgeId) -> bool
 /// Whether an edge is the mate of an outermost node and of the node at its other end.
 fn is_mate(search: &Search, a: u32, e: EdgeId) -> bool
     requires shape { HasShape search.now }
-    ensures { result ≡ true → IsMate (state_of search.now) a e (other_node search.now.graph search.now.arena.blossoms e a) }
+    ensures { (result ≡ true) ↔ IsMate (state_of search.now) a e (other_node search.now.graph search.now.arena.blossoms e a) }
 {
     if !is_edge(&search.graph, e) {
         return false;
@@ -207,7 +205,7 @@ fn is_mate(search: &Search, a: u32, e: EdgeId) -> bool
 /// Whether the mate of a node that is outermost, if it has one, is that of both.
 fn mate_holds(search: &Search, a: u32) -> bool
     requires shape { HasShape search.now }
-    ensures { result ≡ true → IsOutermost (state_of search.now) a → MateHolds (state_of search.now) a }
+    ensures { (result ≡ true) ↔ (IsOutermost (state_of search.now) a → MateHolds (state_of search.now) a) }
 {
     if !is_outer(search, a) {
         return true;
@@ -221,7 +219,7 @@ fn mate_holds(search: &Search, a: u32) -> bool
 /// Whether the mates of all outermost nodes are mutual.
 fn mates_hold(search: &Search) -> bool
     requires shape { HasShape search.now }
-    ensures { result ≡ true → (a : ℕ) → IsOutermost (state_of search.now) a → MateHolds (state_of search.now) a }
+    ensures { (result ≡ true) ↔ ((a : ℕ) → IsOutermost (state_of search.now) a → MateHolds (state_of search.now) a) }
 {
     for number in 1..search.arena.node_limit() + 1 {
         if !mate_holds(search, number) {
@@ -236,7 +234,7 @@ fn mate_has(search: &Search, a: u32, label: Label) -> bool
     requires shape { HasShape search.now }
     requires outer { IsOutermost (state_of search.now) a }
     requires mate { MateHolds (state_of search.now) a }
-    ensures { result ≡ true → MateHas (state_of search.now) a label }
+    ensures { (result ≡ true) ↔ MateHas (state_of search.now) a label }
 {
     match mate_of(search, a) {
         Some(e) => label_at(search, other_node(search, e, a)) == label,
@@ -247,10 +245,7 @@ fn mate_has(search: &Search, a: u32, label: Label) -> bool
 /// Whether an edge is tight and leads from a node to an outer one.
 fn leads_to_outer(search: &Search, a: u32, e: EdgeId) -> bool
     requires shape { HasShape search.now }
-    ensures edge { result ≡ true → IsEdgeNumber search.now.graph e }
-    ensures joins { result ≡ true → Joins search.now.graph search.now.arena.blossoms e a (other_node search.now.graph search.now.arena.blossoms e a) }
-    ensures tight { result ≡ true → slack_of (state_of search.now) e ≡ pos 0 }
-    ensures outer { result ≡ true → label_at search.now.labels.items (other_node search.now.graph search.now.arena.blossoms e a) ≡ Outer }
+    ensures { (result ≡ true) ↔ LeadsToOuter (state_of search.now) a e }
 {
     if !is_edge(&search.graph, e) {
         return false;
@@ -269,7 +264,7 @@ fn leads_to_outer(search: &Search, a: u32, e: EdgeId) -> bool
 fn hangs(search: &Search, a: u32) -> bool
     requires shape { HasShape search.now }
     requires outer { IsOutermost (state_of search.now) a }
-    ensures { result ≡ true → Hangs (state_of search.now) a }
+    ensures { (result ≡ true) ↔ Hangs (state_of search.now) a }
 {
     match parent_of(search, a) {
         Some(e) => leads_to_outer(search, a, e),
@@ -281,7 +276,7 @@ fn hangs(search: &Search, a: u32) -> bool
 fn is_mated(search: &Search, a: u32) -> bool
     requires shape { HasShape search.now }
     requires outer { IsOutermost (state_of search.now) a }
-    ensures { result ≡ true → (e : ℕ) × (edge_in search.now.mates.items a ≡ Some e) }
+    ensures { (result ≡ true) ↔ ((e : ℕ) × (edge_in search.now.mates.items a ≡ Some e)) }
 {
     mate_of(search, a).is_some()
 }
@@ -291,7 +286,7 @@ fn fits_inner(search: &Search, a: u32) -> bool
     requires shape { HasShape search.now }
     requires outer { IsOutermost (state_of search.now) a }
     requires mate { MateHolds (state_of search.now) a }
-    ensures { result ≡ true → IsHung (state_of search.now) a }
+    ensures { (result ≡ true) ↔ IsHung (state_of search.now) a }
 {
     if !hangs(search, a) {
         return false;
@@ -307,7 +302,7 @@ fn fits_here(search: &Search, a: u32) -> bool
     requires shape { HasShape search.now }
     requires outer { IsOutermost (state_of search.now) a }
     requires mate { MateHolds (state_of search.now) a }
-    ensures { result ≡ true → FitsHere (state_of search.now) a }
+    ensures { (result ≡ true) ↔ FitsHere (state_of search.now) a }
 {
     match label_at(search, a) {
         Label::Outer => mate_has(search, a, Label::Inner),
@@ -320,7 +315,7 @@ fn fits_here(search: &Search, a: u32) -> bool
 fn label_fits(search: &Search, a: u32) -> bool
     requires shape { HasShape search.now }
     requires mates { (a : ℕ) → IsOutermost (state_of search.now) a → MateHolds (state_of search.now) a }
-    ensures { result ≡ true → IsOutermost (state_of search.now) a → FitsHere (state_of search.now) a }
+    ensures { (result ≡ true) ↔ (IsOutermost (state_of search.now) a → FitsHere (state_of search.now) a) }
 {
     if !is_outer(search, a) {
         return true;
@@ -332,7 +327,7 @@ fn label_fits(search: &Search, a: u32) -> bool
 fn labels_fit(search: &Search) -> bool
     requires shape { HasShape search.now }
     requires mates { (a : ℕ) → IsOutermost (state_of search.now) a → MateHolds (state_of search.now) a }
-    ensures { result ≡ true → (a : ℕ) → IsOutermost (state_of search.now) a → FitsHere (state_of search.now) a }
+    ensures { (result ≡ true) ↔ ((a : ℕ) → IsOutermost (state_of search.now) a → FitsHere (state_of search.now) a) }
 {
     for number in 1..search.arena.node_limit() + 1 {
         if !label_fits(search, number) {
@@ -349,7 +344,7 @@ fn comes_to_end(search: &Search, a: u32) -> bool
     requires outer { IsOutermost (state_of search.now) a }
     requires mates { (a : ℕ) → IsOutermost (state_of search.now) a → MateHolds (state_of search.now) a }
     requires labels { (a : ℕ) → IsOutermost (state_of search.now) a → FitsHere (state_of search.now) a }
-    ensures { result ≡ true → length (path_of (state_of search.now) a) ≤ node_limit search.now.graph.vertices }
+    ensures { (result ≡ true) ↔ (length (path_of (state_of search.now) a) ≤ node_limit search.now.graph.vertices) }
 {
     let mut node = a;
     for _ in 0..search.arena.node_limit() {
@@ -366,7 +361,7 @@ fn way_ends(search: &Search, a: u32) -> bool
     requires shape { HasShape search.now }
     requires mates { (a : ℕ) → IsOutermost (state_of search.now) a → MateHolds (state_of search.now) a }
     requires labels { (a : ℕ) → IsOutermost (state_of search.now) a → FitsHere (state_of search.now) a }
-    ensures { result ≡ true → IsOutermost (state_of search.now) a → length (path_of (state_of search.now) a) ≤ node_limit search.now.graph.vertices }
+    ensures { (result ≡ true) ↔ (IsOutermost (state_of search.now) a → length (path_of (state_of search.now) a) ≤ node_limit search.now.graph.vertices) }
 {
     if !is_outer(search, a) {
         return true;
@@ -379,7 +374,7 @@ fn ways_end(search: &Search) -> bool
     requires shape { HasShape search.now }
     requires mates { (a : ℕ) → IsOutermost (state_of search.now) a → MateHolds (state_of search.now) a }
     requires labels { (a : ℕ) → IsOutermost (state_of search.now) a → FitsHere (state_of search.now) a }
-    ensures { result ≡ true → (a : ℕ) → IsOutermost (state_of search.now) a → length (path_of (state_of search.now) a) ≤ node_limit search.now.graph.vertices }
+    ensures { (result ≡ true) ↔ ((a : ℕ) → IsOutermost (state_of search.now) a → length (path_of (state_of search.now) a) ≤ node_limit search.now.graph.vertices) }
 {
     for number in 1..search.arena.node_limit() + 1 {
         if !way_ends(search, number) {
@@ -422,10 +417,11 @@ fn has_shape(search: &Search) -> bool
     search.circuit.capacity() >= search.graph.vertices() as usize
 }
 
-/// Whether a search is in the state of a search: it recomputes each part from the lists, slowly. It
-/// is for tests of searches whose fields were written by hand. It takes no memory.
+/// Whether a search is in the state of a search (chapters 24 and 26), exactly: it recomputes each part
+/// from the lists. It is for tests of searches whose fields were written by hand, and slow: for n
+/// vertices and m edges its time is at most linear in n (n + m). It counts no step and takes no memory.
 pub fn check_search(search: &Search) -> bool
-    ensures sound { result ≡ true → IsSound search.now }
+    ensures exact { (result ≡ true) ↔ IsSound search.now }
 {
     if !has_shape(search) {
         return false;

@@ -1,10 +1,11 @@
-ghost use Rattle.std.specs.Prelude.{◌≡◌, ◌≢◌, ◌⊎◌, ◌↔◌, ℕ, ℤ, pos, true, None, [], IfOk};
+ghost use Rattle.std.specs.Prelude.{◌≡◌, ◌≢◌, ◌⊎◌, ◌↔◌, ◌+◌, ℕ, ℤ, pos, true, None, [], IfOk};
 ghost use Rattle.blossom_arena.specs.Family.{is_vertex, dual_at, empty_family};
 ghost use Rattle.alt_forest.specs.declared.label.Label.TheVariants.{Outer, Out};
 ghost use Rattle.alt_forest.specs.declared.label.Weights.TheVariants.{Zero};
 ghost use Rattle.alt_forest.specs.Searches.{IsSearchGraph, HasShape, IsSound, IsStart, state_of, label_at, edge_in, put};
 ghost use Rattle.alt_forest.specs.State.{IsOutermost, IsExposed};
 ghost use Rattle.alt_forest.specs.Trees.{IsRoot};
+ghost use Rattle.alt_forest.specs.Counts.{exposed_count, tree_count};
 
 use crate::label::{Label, Weights};
 use crate::starts::{copied, give_duals, no_edges, room_for};
@@ -76,6 +77,8 @@ impl Search {
         ensures start { self.new.start ≡ start }
         ensures graph { self.new.graph ≡ self.old.graph }
         ensures circuit { self.new.circuit ≡ self.old.circuit }
+        ensures trees { tree_count (state_of self.new) ≡ 0 }
+        ensures exposed { exposed_count (state_of self.new) ≡ self.new.graph.vertices }
         ensures sound { IsSound self.new }
     {
         let _ = graph;
@@ -96,6 +99,8 @@ impl Search {
         ensures labels { label_at self.new.labels.items ≡ put (label_at self.old.labels.items) v Outer }
         ensures rest { self.new ≡ record self.old { labels = self.new.labels } }
         ensures roots { (a : ℕ) → IsRoot (state_of self.new) a ↔ (IsRoot (state_of self.old) a ⊎ (a ≡ v)) }
+        ensures trees { tree_count (state_of self.new) ≡ tree_count (state_of self.old) + 1 }
+        ensures exposed { exposed_count (state_of self.new) ≡ exposed_count (state_of self.old) }
         ensures sound { IsSound self.new }
     {
         set_label(&mut self.labels, v, Label::Outer);
@@ -115,6 +120,8 @@ impl Search {
         requires sound { IsSound self.old }
         ensures labels { (a : ℕ) → label_at self.new.labels.items a ≡ Out }
         ensures rest { self.new ≡ record self.old { labels = self.new.labels } }
+        ensures trees { tree_count (state_of self.new) ≡ 0 }
+        ensures exposed { exposed_count (state_of self.new) ≡ exposed_count (state_of self.old) }
         ensures sound { IsSound self.new }
     {
         wipe_labels(&mut self.labels);

@@ -67,8 +67,8 @@ fn is_free(arena: &Arena, node: NodeId) -> bool
     arena.is_outermost(node)
 }
 
-/// Makes a blossom of three outermost nodes, where they are three.
-fn shrink(arena: &mut Arena, x: Link, y: Link, z: Link) -> bool {
+/// Makes a blossom of three outermost nodes with this dual, where they are three.
+fn shrink(arena: &mut Arena, x: Link, y: Link, z: Link, dual: u8) -> bool {
     if x.node.number() == y.node.number() {
         return false;
     }
@@ -88,7 +88,27 @@ fn shrink(arena: &mut Arena, x: Link, y: Link, z: Link) -> bool {
         return false;
     }
     let circuit = [x, y, z];
-    let _node = arena.shrink(circuit.as_slice());
+    let node = arena.shrink(circuit.as_slice());
+    if !arena.is_node(node) {
+        return false;
+    }
+    if arena.dual(node) != 0 {
+        return false;
+    }
+    arena.add_dual(node, dual as i64);
+    true
+}
+
+/// Lowers the dual of a node from 1 to 0, where it is 1.
+fn lower(arena: &mut Arena, number: u32) -> bool {
+    let node = NodeId::new(number);
+    if !arena.is_node(node) {
+        return false;
+    }
+    if arena.dual(node) != 1 {
+        return false;
+    }
+    arena.add_dual(node, -1);
     true
 }
 
@@ -137,7 +157,13 @@ fn edge(number: u32) -> Option<EdgeId> {
 fn tree(alloc: Global, second: u32) -> Result<Option<Search>, OutOfMemory> {
     let mut made = fresh(alloc)?;
     if let Some(search) = &mut made {
-        shrink(&mut search.arena, link(1, 1), link(2, second), link(3, 3));
+        shrink(
+            &mut search.arena,
+            link(1, 1),
+            link(2, second),
+            link(3, 3),
+            0,
+        );
         write(search, 8, Label::Outer, 0, 0);
         write(search, 4, Label::Inner, 4, 5);
         write(search, 5, Label::Outer, 0, 5);
@@ -202,11 +228,40 @@ fn each_part_is_checked(rt: HostRuntime) -> Result<(), Fail> {
         ),
         ("an out node with an inner mate", 2, 5, Label::Out, 0, 5),
         ("an inner node without a mate", 2, 8, Label::Inner, 4, 0),
+        ("an inner node with an inner mate", 2, 5, Label::Inner, 5, 5),
+        ("a parent that is no edge", 2, 4, Label::Inner, 12, 5),
+        ("a mate that is no edge", 2, 8, Label::Outer, 0, 12),
     ];
     for (name, second, node, label, parent, mate) in cases {
         let passes = passes_with(rt.alloc(), second, node, label, parent, mate)?;
         assert!(rt; !passes, "{name}");
     }
+    Ok(())
+}
+
+#[test]
+fn lists_and_slacks_are_checked(rt: HostRuntime) -> Result<(), Fail> {
+    let found = tree(rt.alloc(), 2)?;
+    assert!(rt; found.is_some());
+    let Some(mut search) = found else {
+        return Ok(());
+    };
+    // each edge has slack 0 at least with the weights, and some less without
+    search.weights = Weights::Zero;
+    assert!(rt; !check_search(&search), "a slack below 0");
+    search.weights = Weights::Given;
+    assert!(rt; check_search(&search));
+    // a mate at each end of an edge of slack 2
+    write(&mut search, 4, Label::Out, 0, 0);
+    write(&mut search, 6, Label::Out, 0, 0);
+    write(&mut search, 5, Label::Out, 0, 8);
+    write(&mut search, 7, Label::Out, 0, 8);
+    assert!(rt; !check_search(&search), "a mate that is not tight");
+    write(&mut search, 5, Label::Out, 0, 0);
+    write(&mut search, 7, Label::Out, 0, 0);
+    assert!(rt; check_search(&search));
+    search.mates.pop();
+    assert!(rt; !check_search(&search), "a list that is too short");
     Ok(())
 }
 
@@ -290,6 +345,7 @@ fn slack<L: Ledger>(search: &Search, e: u32, blank: Blank) -> i64
 #[test]
 fn paths_meet(rt: HostRuntime) -> Result<(), Fail> {
     let found = tree(rt.alloc(), 2)?;
+    assert!(rt; found.is_some());
     let Some(search) = found else {
         return Ok(());
     };
@@ -314,6 +370,7 @@ fn paths_meet(rt: HostRuntime) -> Result<(), Fail> {
 #[test]
 fn trees_are_planted_and_cleared(rt: HostRuntime) -> Result<(), Fail> {
     let found = fresh(rt.alloc())?;
+    assert!(rt; found.is_some());
     let Some(mut search) = found else {
         return Ok(());
     };
@@ -322,17 +379,27 @@ fn trees_are_planted_and_cleared(rt: HostRuntime) -> Result<(), Fail> {
     assert!(rt; plant(&mut search, 5));
     assert_eq!(rt; meet(&search, 1, 5), 0);
     assert_eq!(rt; slack::<Brand>(&search, 8, Blank::new(1)), 2);
-    search.weights = Weights::Zero;
-    assert!(rt; !check_search(&search));
-    search.weights = Weights::Given;
-    write(&mut search, 5, Label::Out, 0, 8);
-    write(&mut search, 7, Label::Out, 0, 8);
-    assert!(rt; !check_search(&search));
-    write(&mut search, 5, Label::Out, 0, 5);
-    write(&mut search, 7, Label::Out, 0, 0);
-    write(&mut search, 4, Label::Out, 0, 5);
     assert!(rt; check_search(&search));
     search.clear();
+    assert!(rt; check_search(&search));
     assert_eq!(rt; meet(&search, 1, 5), 99);
+    Ok(())
+}
+
+#[test]
+fn a_blossom_takes_its_dual_from_the_edges_that_leave_it(rt: HostRuntime) -> Result<(), Fail> {
+    let found = fresh(rt.alloc())?;
+    assert!(rt; found.is_some());
+    let Some(mut search) = found else {
+        return Ok(());
+    };
+    assert!(rt; shrink(&mut search.arena, link(1, 1), link(2, 2), link(3, 3), 1));
+    assert!(rt; lower(&mut search.arena, 4));
+    assert!(rt; lower(&mut search.arena, 6));
+    // an edge within the blossom, two that leave it, and one beside it
+    assert_eq!(rt; slack::<Brand>(&search, 1, Blank::new(1)), 0);
+    assert_eq!(rt; slack::<Brand>(&search, 4, Blank::new(1)), 0);
+    assert_eq!(rt; slack::<Brand>(&search, 9, Blank::new(1)), 2);
+    assert_eq!(rt; slack::<Brand>(&search, 5, Blank::new(1)), 1);
     Ok(())
 }

@@ -21,11 +21,11 @@ use Rattle.alt_forest.specs.State.{State, IsOutermost, IsSearchState}
 use Rattle.alt_forest.specs.Trees.{IsRoot, is_label}
 use Rattle.alt_forest.proofs.Parity.{one_class}
 use Rattle.dual_change.specs.Laws.{inner_vertices}
-use Rattle.dual_change.proofs.Pairs.{is_inner, is_outer, nodes_labelled, in_labelled, of_labelled, new_labelled, inner_fewer}
+use Rattle.alt_forest.proofs.Pairs.{is_inner, is_outer, nodes_labelled, in_labelled, of_labelled, new_labelled, inner_fewer}
 use Rattle.dual_change.proofs.Inside.{LiesWithin, rings_within}
 use Rattle.dual_change.proofs.Least.{HasNoBound}
 use Rattle.dual_change.proofs.Reps.{rep_edge, rep_related}
-use Rattle.dual_change.proofs.Ascending.{holds-picked, picked_ascends, new_from_ascending, holds-map, new-map}
+use Rattle.alt_forest.proofs.Ascending.{holds-picked, picked_ascends, new_from_ascending, holds-map, new-map}
 use Rattle.dual_change.proofs.Heads.{head_of, head_together, same_head, class_of, in_class, of_class, odd_heads, HeadsOdd, of_heads, counted}
 
 module _ (s : State) (depth : ℕ → ℕ) (graph : IsGraph s.graph) (nested : IsNested s.graph.vertices s.blossoms) where

@@ -12,7 +12,7 @@ use Rattle.blossom_arena.specs.Family.{is_vertex}
 use Rattle.blossom_arena.proofs.Lists.{by_test}
 use Rattle.blossom_arena.proofs.Nested.{vertex_range, range_vertex}
 use Rattle.dual_change.proofs.Reps.{rep, rep_low, rep_edge, rep_related}
-use Rattle.dual_change.proofs.Ascending.{picked_ascends, holds-picked, picked_set}
+use Rattle.alt_forest.proofs.Ascending.{picked_ascends, holds-picked, picked_set}
 
 module _ (g : Multigraph) (removed : List ℕ) (graph : IsGraph g) where
   -- the least vertex of a vertex' component

@@ -17,7 +17,8 @@ use Rattle.dual_change.specs.declared.event.Event.{Event}
 use Rattle.dual_change.specs.declared.event.Event.TheVariants.{Grow, Shrink, Augment, Expand}
 use Rattle.dual_change.specs.declared.event.Next.{Next}
 use Rattle.dual_change.specs.declared.event.Next.TheVariants.{Grow as NextGrow, Shrink as NextShrink, Augment as NextAugment, Expand as NextExpand, Stuck}
-use Rattle.dual_change.specs.Changes.{share, applied, IsWithin, HasOneTree, IsPossible, IsLeast, IsStuck, IsNext, IsNextWithin}
+use Rattle.alt_forest.specs.Counts.{HasOneTree}
+use Rattle.dual_change.specs.Changes.{share, applied, IsWithin, IsPossible, IsLeast, IsStuck, IsNext, IsNextWithin}
 use Rattle.dual_change.specs.Candidates.{change_of, IsAtMost, Leads, IsCandidate, MindsEdge, MindsBlossom}
 use Rattle.dual_change.proofs.Applied.{change_outer, slack_labels, u_outer, v_outer, low_at}
 

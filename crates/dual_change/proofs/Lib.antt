@@ -7,9 +7,7 @@ pub mod Least
 pub mod Found
 pub mod Ends
 pub mod Reps
-pub mod Ascending
 pub mod Heads
-pub mod Pairs
 pub mod Barrier
 pub mod Total
 pub mod Tested

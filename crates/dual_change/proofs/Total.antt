@@ -6,22 +6,22 @@ use Rattle.std.proofs.lemmas.Int.{ints}
 use Rattle.std.proofs.lemmas.Bool.{both_ways, and_parts, and_from, or_left, or_right}
 use Rattle.std.proofs.lemmas.List.{length-map}
 use Rattle.std.proofs.lemmas.List.Filters.{length-filter_both}
-use Rattle.graph_theory.specs.Sums.{int_sum_to}
+use Rattle.graph_theory.specs.Sums.{sum_to, int_sum_to}
 use Rattle.graph_theory.proofs.SumLemmas.{times-suc, plus-times}
 use Rattle.graph_theory.specs.Parts.{holds}
 use Rattle.blossom_arena.specs.Family.{Blossom, IsNested, is_vertex, is_child, is_outermost, in_ring, names_of}
-use Rattle.blossom_arena.proofs.Lists.{by_test, vertices, holds-filter, new-filter, length-within, first_in, later_in}
+use Rattle.blossom_arena.proofs.Lists.{by_test, vertices, holds-vertices, new-vertices, holds-filter, new-filter, length-within, first_in, later_in}
 use Rattle.blossom_arena.proofs.Nested.{outer_nodes, holds-outer_nodes, outermost_parts, node_range, range_vertex}
 use Rattle.alt_forest.specs.declared.label.Label.{Label}
 use Rattle.alt_forest.specs.declared.label.Label.TheVariants.{Outer, Inner, Out}
-use Rattle.alt_forest.specs.State.{State, IsOutermost, IsMate, IsSearchState}
-use Rattle.alt_forest.specs.Trees.{far_end, is_label, node_limit}
-use Rattle.alt_forest.proofs.Walk.{other_node_joins}
+use Rattle.alt_forest.specs.State.{State, IsMate, IsSearchState}
+use Rattle.alt_forest.specs.Trees.{is_label, node_limit}
+use Rattle.alt_forest.specs.Counts.{is_root, tree_count}
 use Rattle.dual_change.specs.Changes.{share, change, applied}
-use Rattle.dual_change.specs.Laws.{dual_sum, dual_total, roots, ChangeRaisesTotal}
+use Rattle.dual_change.specs.Laws.{dual_sum, dual_total, ChangeRaisesTotal}
 use Rattle.dual_change.proofs.Applied.{change_outer, change_child}
-use Rattle.dual_change.proofs.Ascending.{picked_ascends, holds-picked, new_from_ascending, holds-map, new-map}
-use Rattle.dual_change.proofs.Pairs.{is_outer, nodes_labelled, in_labelled, of_labelled, new_labelled, mate_node, mates_differ, child_is}
+use Rattle.alt_forest.proofs.Ascending.{holds-map, new-map}
+use Rattle.alt_forest.proofs.Pairs.{is_outer, nodes_labelled, in_labelled, of_labelled, new_labelled, mate_node, mates_differ, child_is, mate_inner}
 
 -- sums
 sum_add : (y z : ℕ → ℤ) (xs : List ℕ) → dual_sum (λ a. y a +ℤ z a) xs ≡ dual_sum y xs +ℤ dual_sum z xs
@@ -48,6 +48,29 @@ sum_vertices z (suc n) =
     let one : n + 1 ≡ suc n = omega arith in
     let last : z (n + 1) ≡ z (suc n) = ap z one in
     omega (arith, ints, r, last)
+
+abbrev one_if : Bool → ℕ
+one_if t = cond t 1 0
+
+-- as many numbers of 1 to n pass a test as the sum over them counts
+length-picked : (p : ℕ → Bool) (n : ℕ) → length (filter p (vertices n)) ≡ sum_to (λ i. one_if (p (i + 1))) n
+length-picked p zero = refl
+length-picked p (suc n) =
+    let r : length (filter p (vertices n)) ≡ sum_to (λ i. one_if (p (i + 1))) n = length-picked p n in
+    let one : suc n ≡ n + 1 = omega arith in
+    let last : one_if (p (suc n)) ≡ one_if (p (n + 1)) = ap (λ k. one_if (p k)) one in
+    by_test (p (suc n))
+    (λ t.
+    let long : length (filter p (vertices (suc n))) ≡ suc (length (filter p (vertices n))) = ap (λ q. length (cond q (suc n ∷ filter p (vertices n)) (filter p (vertices n)))) t in
+    let here : one_if (p (suc n)) ≡ 1 = ap one_if t in
+    omega (arith, r, last, long, here))
+    (λ t.
+    let same : length (filter p (vertices (suc n))) ≡ length (filter p (vertices n)) = ap (λ q. length (cond q (suc n ∷ filter p (vertices n)) (filter p (vertices n)))) t in
+    let none : one_if (p (suc n)) ≡ 0 = ap one_if t in
+    omega (arith, r, last, same, none))
+
+holds-roots : (n : ℕ) (p : ℕ → Bool) (v : ℕ) → holds (filter p (vertices n)) v ≡ (is_vertex n v && p v)
+holds-roots n p v = holds-filter p (vertices n) v ∙ ap (λ t. t && p v) (holds-vertices n v)
 
 -- numbers that stand at outermost nodes alone
 sum_outer : (n : ℕ) (z : ℕ → ℤ) (bs : List Blossom) → ((a : ℕ) → is_child bs a ≡ true → z a ≡ pos 0) → dual_sum z (vertices n) +ℤ dual_sum z (names_of bs) ≡ dual_sum z (outer_nodes n bs)
@@ -87,14 +110,6 @@ module _ (s : State) (depth : ℕ → ℕ) (nested : IsNested s.graph.vertices s
   mated None e = absurd (both_ways false refl e)
   mated (Some x) e = (x, refl)
 
-  -- an outer node that has a mate has an inner one
-  mate_inner : (a : ℕ) → IsOutermost s a → s.label a ≡ Outer → is_some (s.mate a) ≡ true → (e : ℕ) × IsMate s a e (mate_node s a) × (s.label (mate_node s a) ≡ Inner)
-  mate_inner a is lab some =
-      let e = mated (s.mate a) some in
-      let m = st.mates a e.0 is e.1 in
-      let at : mate_node s a ≡ m.0 = ap (λ o. far_end s o a) e.1 ∙ other_node_joins s.graph s.blossoms e.0 a m.0 m.1.joins m.1.different in
-      (e.0, subst (IsMate s a e.0) (sym at) m.1, ap s.label at ∙ ((st.labels a is).outer lab e.0 m.0 e.1 m.1).0)
-
   pairs : length (filter has_mate (nodes_labelled s Outer)) ≡ length (nodes_labelled s Inner)
   pairs =
       let outs : List ℕ = filter has_mate (nodes_labelled s Outer) in
@@ -126,38 +141,40 @@ module _ (s : State) (depth : ℕ → ℕ) (nested : IsNested s.graph.vertices s
       mated_outer a h =
           let p = and_parts (holds (nodes_labelled s Outer) a) (has_mate a) (sym (holds-filter has_mate (nodes_labelled s Outer) a) ∙ h) in
           let q = in_labelled s nested Outer a p.0 in
-          mate_inner a q.0 (is_outer (s.label a) q.1) p.1
+          let e = mated (s.mate a) p.1 in
+          let m = mate_inner s nested depth st a e.0 q.0 (is_outer (s.label a) q.1) e.1 in
+          (e.0, m.0, m.1)
 
-  abbrev is_root : ℕ → Bool
-  is_root a = is_outermost s.graph.vertices s.blossoms a && (is_label (s.label a) Outer && free a)
+  abbrev roots : List ℕ
+  roots = filter (is_root s) (vertices (node_limit s.graph.vertices))
 
-  roots_free : length (roots s) ≡ length (filter free (nodes_labelled s Outer))
+  roots_free : length roots ≡ length (filter free (nodes_labelled s Outer))
   roots_free =
       let frees : List ℕ = filter free (nodes_labelled s Outer) in
       let limit : ℕ = node_limit s.graph.vertices in
-      let most : length (roots s) ≤ length frees = length-within (roots s) frees (new_from_ascending (roots s) (picked_ascends limit is_root))
+      let most : length roots ≤ length frees = length-within roots frees (new-filter (is_root s) (vertices limit) (new-vertices limit))
       (λ a h.
-      let p = and_parts (is_vertex limit a) (is_root a) (sym (holds-picked limit is_root a) ∙ h) in
+      let p = and_parts (is_vertex limit a) (is_root s a) (sym (holds-roots limit (is_root s) a) ∙ h) in
       let q = and_parts (is_outermost s.graph.vertices s.blossoms a) (is_label (s.label a) Outer && free a) p.1 in
       let r = and_parts (is_label (s.label a) Outer) (free a) q.1 in
       holds-filter free (nodes_labelled s Outer) a ∙ and_from (holds (nodes_labelled s Outer) a) (free a) (of_labelled s nested Outer a q.0 r.0) r.1) in
-      let fewest : length frees ≤ length (roots s) = length-within frees (roots s) (new-filter free (nodes_labelled s Outer) (new_labelled s nested Outer))
+      let fewest : length frees ≤ length roots = length-within frees roots (new-filter free (nodes_labelled s Outer) (new_labelled s nested Outer))
       (λ a h.
       let p = and_parts (holds (nodes_labelled s Outer) a) (free a) (sym (holds-filter free (nodes_labelled s Outer) a) ∙ h) in
       let q = in_labelled s nested Outer a p.0 in
       let range = node_range s.graph.vertices s.blossoms a nested (outermost_parts s.graph.vertices s.blossoms a q.0).0 in
-      holds-picked limit is_root a
-      ∙ and_from (is_vertex limit a) (is_root a) (range_vertex limit a range.0 range.1)
+      holds-roots limit (is_root s) a
+      ∙ and_from (is_vertex limit a) (is_root s a) (range_vertex limit a range.0 range.1)
       (and_from (is_outermost s.graph.vertices s.blossoms a) (is_label (s.label a) Outer && free a) q.0 (and_from (is_label (s.label a) Outer) (free a) q.1 p.1))) in
       omega (arith, most, fewest)
 
   -- as many outer nodes as inner ones and roots
-  balance : length (nodes_labelled s Outer) ≡ length (nodes_labelled s Inner) + length (roots s)
+  balance : length (nodes_labelled s Outer) ≡ length (nodes_labelled s Inner) + tree_count s
   balance =
       let both : length (filter has_mate (nodes_labelled s Outer)) + length (filter free (nodes_labelled s Outer)) ≡ length (nodes_labelled s Outer) = length-filter_both has_mate free (λ a. refl) (nodes_labelled s Outer) in
-      omega (arith, both, pairs, roots_free)
+      omega (arith, both, pairs, roots_free, length-picked (is_root s) (node_limit s.graph.vertices))
 
-  raised : (d : ℤ) → dual_total (applied s d) ≡ dual_total s +ℤ (pos (length (roots s)) *ℤ d)
+  raised : (d : ℤ) → dual_total (applied s d) ≡ dual_total s +ℤ (pos (tree_count s) *ℤ d)
   raised d =
       let n : ℕ = s.graph.vertices in
       let names : List ℕ = names_of s.blossoms in
@@ -170,8 +187,8 @@ module _ (s : State) (depth : ℕ → ℕ) (nested : IsNested s.graph.vertices s
       let given : dual_sum (change s d) outer ≡ dual_sum (λ a. share d (s.label a)) outer = sum_same (change s d) (λ a. share d (s.label a)) outer
       (λ a h. change_outer s d a (sym (holds-outer_nodes n s.blossoms a nested) ∙ h)) in
       let split : dual_sum (λ a. share d (s.label a)) outer ≡ (pos (length (nodes_labelled s Outer)) *ℤ d) -ℤ (pos (length (nodes_labelled s Inner)) *ℤ d) = shares d s.label outer in
-      let more : pos (length (nodes_labelled s Outer)) *ℤ d ≡ (pos (length (nodes_labelled s Inner)) *ℤ d) +ℤ (pos (length (roots s)) *ℤ d) =
-      ap (λ k. pos k *ℤ d) balance ∙ plus-times (length (nodes_labelled s Inner)) (length (roots s)) d in
+      let more : pos (length (nodes_labelled s Outer)) *ℤ d ≡ (pos (length (nodes_labelled s Inner)) *ℤ d) +ℤ (pos (tree_count s) *ℤ d) =
+      ap (λ k. pos k *ℤ d) balance ∙ plus-times (length (nodes_labelled s Inner)) (tree_count s) d in
       plain _ _ _ _ _ _ _ _ _ _ _ _ _ new old one two all given split more
     where
       plain : (nv ov dn dv cv dnn dnames cn co sh x y z : ℤ) → nv ≡ dn → ov ≡ dv → dn ≡ dv +ℤ cv → dnn ≡ dnames +ℤ cn → cv +ℤ cn ≡ co → co ≡ sh → sh ≡ x -ℤ y → x ≡ y +ℤ z → nv +ℤ dnn ≡ (ov +ℤ dnames) +ℤ z

@@ -8,7 +8,6 @@ use Rattle.alt_forest.specs.declared.label.Label.{Label}
 use Rattle.alt_forest.specs.declared.label.Label.TheVariants.{Outer, Inner, Out}
 use Rattle.alt_forest.specs.State.{State, IsOutermost, Joins, slack_of}
 use Rattle.alt_forest.specs.Events.{CanGrow, CanAugment, CanShrink, CanExpand}
-use Rattle.alt_forest.specs.Trees.{IsRoot}
 use Rattle.dual_change.specs.declared.event.Event.{Event}
 use Rattle.dual_change.specs.declared.event.Event.TheVariants.{Grow, Shrink, Augment, Expand}
 use Rattle.dual_change.specs.declared.event.Next.{Next}
@@ -40,10 +39,6 @@ pub record IsWithin (s : State) (d : ℤ) : Type 0 where
 -- each dual that a change of d makes lies in range
 abbrev pub StaysInRange : State → ℤ → Type 0
 StaysInRange s d = (a : ℕ) → IsOutermost s a → IsDual ((applied s d).dual a)
-
--- at most one tree: any two roots are one node
-abbrev pub HasOneTree : State → Type 0
-HasOneTree s = (a b : ℕ) → IsRoot s a → IsRoot s b → a ≡ b
 
 -- an event can happen now
 abbrev pub IsPossible : State → Event → Type 0

@@ -1,14 +1,15 @@
 -- What holds of changes of duals in all states of a search (chapters 24 and 26).
-use Rattle.std.specs.Prelude.{◌≡◌, ℕ, ◌+◌, ℤ, pos, ◌+ℤ◌, ◌*ℤ◌, true, ◌&&◌, not, List, [], ◌∷◌, length, is_some}
+use Rattle.std.specs.Prelude.{◌≡◌, ℕ, ◌+◌, ℤ, pos, ◌+ℤ◌, ◌*ℤ◌, true, List, [], ◌∷◌}
 use Rattle.std.specs.List.{filter, range_with_len}
 use Rattle.graph_theory.specs.Sums.{int_sum_to}
 use Rattle.graph_theory.specs.Graph.{IsGraph, IsEdgeNumber}
 use Rattle.graph_theory.specs.Barrier.{IsBarrier}
-use Rattle.blossom_arena.specs.Family.{IsNested, is_vertex, is_outermost, names_of, outermost}
+use Rattle.blossom_arena.specs.Family.{IsNested, is_vertex, names_of, outermost}
 use Rattle.alt_forest.specs.declared.label.Label.TheVariants.{Outer, Inner}
 use Rattle.alt_forest.specs.State.{State, IsOutermost, Joins, slack_of, IsSearchState}
-use Rattle.alt_forest.specs.Trees.{IsRoot, root_of, is_label, node_limit}
-use Rattle.dual_change.specs.Changes.{HasOneTree, IsStuck, applied}
+use Rattle.alt_forest.specs.Trees.{IsRoot, root_of, is_label}
+use Rattle.alt_forest.specs.Counts.{HasOneTree, tree_count}
+use Rattle.dual_change.specs.Changes.{IsStuck, applied}
 
 -- the vertices of inner nodes, ascending
 abbrev pub inner_vertices : State → List ℕ
@@ -38,10 +39,6 @@ dual_sum y (a ∷ rest) = y a +ℤ dual_sum y rest
 abbrev pub dual_total : State → ℤ
 dual_total s = int_sum_to (λ i. s.dual (i + 1)) s.graph.vertices +ℤ dual_sum s.dual (names_of s.blossoms)
 
--- the roots
-abbrev pub roots : State → List ℕ
-roots s = filter (λ a. is_outermost s.graph.vertices s.blossoms a && (is_label (s.label a) Outer && not (is_some (s.mate a)))) (range_with_len 1 (node_limit s.graph.vertices))
-
 -- a change raises the sum of all duals once for each tree
 abbrev pub ChangeRaisesTotal : Type 0
-ChangeRaisesTotal = (s : State) (depth : ℕ → ℕ) (d : ℤ) → IsNested s.graph.vertices s.blossoms → IsSearchState s depth → dual_total (applied s d) ≡ dual_total s +ℤ (pos (length (roots s)) *ℤ d)
+ChangeRaisesTotal = (s : State) (depth : ℕ → ℕ) (d : ℤ) → IsNested s.graph.vertices s.blossoms → IsSearchState s depth → dual_total (applied s d) ≡ dual_total s +ℤ (pos (tree_count s) *ℤ d)

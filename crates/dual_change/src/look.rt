@@ -5,7 +5,8 @@ ghost use Rattle.blossom_arena.specs.Family.{names_of};
 ghost use Rattle.alt_forest.specs.declared.label.Label.TheVariants.{Outer, Out};
 ghost use Rattle.alt_forest.specs.Searches.{HasShape, IsSound, state_of, label_at, edge_in};
 ghost use Rattle.alt_forest.specs.State.{IsOutermost, Joins, slack_of};
-ghost use Rattle.dual_change.specs.Changes.{HasOneTree, IsNext, IsNextWithin};
+ghost use Rattle.alt_forest.specs.Counts.{HasOneTree};
+ghost use Rattle.dual_change.specs.Changes.{IsNext, IsNextWithin};
 ghost use Rattle.dual_change.specs.Candidates.{change_of, ComesBy, IsCandidate, MindsEdge, MindsBlossom};
 
 use crate::event::Next;

@@ -1,4 +1,4 @@
-use Rattle.std.proofs.Common.{◌≡◌, ◌≢◌, ◌∙◌, ℕ, sym, ap, subst, arith}
+use Rattle.std.proofs.Common.{◌∙◌, ℕ, sym, subst}
 use Rattle.blossom_arena.specs.Family.{IsCircuit}
 use Rattle.alt_forest.proofs.Triangles.{triangle}
 use Rattle.alt_forest.proofs.tests.shrink.Goals as goal

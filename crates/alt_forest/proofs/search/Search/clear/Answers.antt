@@ -1,6 +1,7 @@
 use Rattle.std.proofs.Common.{◌∙◌}
 use Rattle.alt_forest.specs.Searches.{state_of, label_at}
-use Rattle.alt_forest.proofs.Relabelled.{cleared}
+use Rattle.alt_forest.proofs.Relabelled.{with_labels, cleared}
+use Rattle.alt_forest.proofs.Counted.{no_roots}
 use Rattle.alt_forest.proofs.search.Search.clear.Goals as goal
 
 pub returns-clause-sound : goal.returns-clause-sound
@@ -11,3 +12,6 @@ returns-clause-sound c =
       depth = h.depth;
       state = cleared (state_of c.args.self.now) (label_at c.wipe_labels.new.labels.items) h.depth h.state c.wipe_labels.ensures.out;
     }
+
+pub returns-clause-trees : goal.returns-clause-trees
+returns-clause-trees c = no_roots (with_labels (state_of c.args.self.now) (label_at c.wipe_labels.new.labels.items)) c.wipe_labels.ensures.out

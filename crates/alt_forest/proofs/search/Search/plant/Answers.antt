@@ -1,10 +1,12 @@
-use Rattle.std.proofs.Common.{◌≡◌, ◌∙◌, sym, subst, ℕ, ◌⊎◌, ◌↔◌}
+use Rattle.std.proofs.Common.{◌≡◌, ◌∙◌, sym, subst, ℕ, ◌+◌, ◌⊎◌, ◌↔◌}
 use Rattle.alt_forest.specs.declared.label.Label.{Label}
 use Rattle.alt_forest.specs.State.{IsSearchState}
 use Rattle.alt_forest.specs.Trees.{IsRoot}
 use Rattle.alt_forest.specs.Searches.{state_of}
-use Rattle.alt_forest.proofs.Places.{label_place}
 use Rattle.alt_forest.proofs.Relabelled.{with_labels, planted, planted_roots}
+use Rattle.alt_forest.specs.Counts.{tree_count}
+use Rattle.alt_forest.proofs.Places.{label_place, nested_of}
+use Rattle.alt_forest.proofs.Counted.{one_more}
 use Rattle.alt_forest.proofs.search.Search.plant.Goals as goal
 
 pub set_label-requires : goal.set_label-requires
@@ -26,3 +28,9 @@ returns-clause-sound c =
       depth = h.depth;
       state = subst (λ (l : ℕ → Label). IsSearchState (with_labels s l) h.depth) (sym c.set_label.ensures.labels) (planted s h.depth c.args.v c.requires.exposed.1 c.requires.out h.state);
     }
+
+pub returns-clause-trees : goal.returns-clause-trees
+returns-clause-trees c =
+    let s = state_of c.args.self.now in
+    let h = c.requires.sound in
+    subst (λ (l : ℕ → Label). tree_count (with_labels s l) ≡ tree_count s + 1) (sym c.set_label.ensures.labels) (one_more s c.args.v (nested_of c.args.self.now h.shape) c.requires.exposed c.requires.out)

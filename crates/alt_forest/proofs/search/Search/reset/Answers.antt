@@ -2,8 +2,10 @@ use Rattle.std.proofs.Common.{◌≡◌, ◌∙◌, ℕ, ap, subst, rules, to_z,
 use mir.Syntax.{w64}
 use Rattle.graph_theory.specs.Graph.{Multigraph}
 use Rattle.blossom_arena.specs.Family.{dual_at, is_vertex}
-use Rattle.alt_forest.specs.Searches.{IsStart}
+use Rattle.alt_forest.specs.State.{State}
+use Rattle.alt_forest.specs.Searches.{IsStart, is_given, label_at, edge_in}
 use Rattle.alt_forest.proofs.Fresh.{fresh, fresh_slack}
+use Rattle.alt_forest.proofs.Counted.{no_roots, all_exposed}
 use Rattle.alt_forest.proofs.search.Search.reset.Goals as goal
 
 pub returns-clause-sound : goal.returns-clause-sound
@@ -28,3 +30,21 @@ returns-clause-sound c =
           (λ v iv. c.give_duals.ensures.duals v (ap (λ (n : ℕ). is_vertex n v) count ∙ iv) ∙ back)
           (subst (λ (k : Multigraph). IsStart k c.args.weights c.args.start) c.requires.graph c.requires.start));
     }
+
+-- the state that a reset leaves
+abbrev after : goal.After-self-1 → State
+after c = record {
+  graph = c.args.self.now.graph;
+  weighted = is_given c.args.weights;
+  blossoms = c.give_duals.new.arena.blossoms;
+  dual = dual_at c.give_duals.new.arena.duals;
+  label = label_at c.wipe_labels.new.labels.items;
+  parent = edge_in c.wipe_edges.new.edges.items;
+  mate = edge_in c.wipe_edges-2.new.edges.items;
+}
+
+pub returns-clause-trees : goal.returns-clause-trees
+returns-clause-trees c = no_roots (after c) c.wipe_labels.ensures.out
+
+pub returns-clause-exposed : goal.returns-clause-exposed
+returns-clause-exposed c = all_exposed (after c) c.give_duals.ensures.blossoms c.wipe_edges-2.ensures.none

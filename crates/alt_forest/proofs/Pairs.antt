@@ -1,5 +1,5 @@
 -- Outer and inner nodes, and the pairs that mates make of them.
-use Rattle.std.proofs.Common.{◌≡◌, ℕ, ◌<◌, ◌≤◌, true, false, eqb, List, ◌∷◌, length, map, refl, sym, ap, ◌∙◌, subst, arith, ⊎_elim, inl, inr}
+use Rattle.std.proofs.Common.{◌≡◌, ℕ, ◌<◌, ◌≤◌, true, false, eqb, List, ◌∷◌, length, map, Some, refl, sym, ap, ◌∙◌, subst, arith, ⊎_elim, inl, inr}
 use Rattle.std.specs.List.{filter}
 use Rattle.std.proofs.lemmas.Bool.{both_ways, eqb-true, and_parts, and_from, or_cases, false_from_ne_true}
 use Rattle.std.proofs.lemmas.List.{length-map}
@@ -9,11 +9,11 @@ use Rattle.blossom_arena.proofs.Lists.{AllNew, holds-filter, new-filter, length-
 use Rattle.blossom_arena.proofs.Nested.{outer_nodes, holds-outer_nodes, new-outer_nodes}
 use Rattle.alt_forest.specs.declared.label.Label.{Label}
 use Rattle.alt_forest.specs.declared.label.Label.TheVariants.{Outer, Inner, Out}
-use Rattle.alt_forest.specs.State.{State, IsOutermost, Joins, IsMate, IsSearchState}
+use Rattle.alt_forest.specs.State.{State, IsOutermost, IsMate, IsSearchState}
 use Rattle.alt_forest.specs.Trees.{IsRoot, far_end, is_label}
 use Rattle.alt_forest.proofs.Relabelled.{some_not_none}
-use Rattle.alt_forest.proofs.Walk.{some_same, other_node_joins}
-use Rattle.dual_change.proofs.Ascending.{holds-map, new-map}
+use Rattle.alt_forest.proofs.Walk.{other_node_joins}
+use Rattle.alt_forest.proofs.Ascending.{holds-map, new-map}
 
 -- the label of a test that passes
 pub is_inner : (l : Label) → is_label l Inner ≡ true → l ≡ Inner
@@ -50,14 +50,12 @@ module _ (s : State) where
   abbrev pub mate_node : ℕ → ℕ
   mate_node a = far_end s (s.mate a) a
 
+  -- the mate of a node's mate is the node
+  pub turned_mate : (a e b : ℕ) → IsMate s a e b → mate_node b ≡ a
+  turned_mate a e b m = ap (λ o. far_end s o b) m.back ∙ other_node_joins s.graph s.blossoms e b a (⊎_elim (λ p. inr p) (λ p. inl p) m.joins) (λ q. m.different (sym q))
+
   pub mates_differ : (a b e f : ℕ) → IsMate s a e (mate_node a) → IsMate s b f (mate_node b) → mate_node a ≡ mate_node b → a ≡ b
-  mates_differ a b e f x y same =
-      let edges : e ≡ f = some_same e f (sym x.back ∙ ap s.mate same ∙ y.back) in
-      let back : Joins s.graph s.blossoms e (mate_node a) a = ⊎_elim (λ p. inr p) (λ p. inl p) x.joins in
-      let home : Joins s.graph s.blossoms f (mate_node b) b = ⊎_elim (λ p. inr p) (λ p. inl p) y.joins in
-      let here : Joins s.graph s.blossoms e (mate_node a) b = subst (λ k. Joins s.graph s.blossoms k (mate_node a) b) (sym edges) (subst (λ c. Joins s.graph s.blossoms f c b) (sym same) home) in
-      sym (other_node_joins s.graph s.blossoms e (mate_node a) a back (λ q. x.different (sym q)))
-      ∙ other_node_joins s.graph s.blossoms e (mate_node a) b here (λ q. y.different (sym (sym same ∙ q)))
+  mates_differ a b e f x y same = sym (turned_mate a e (mate_node a) x) ∙ ap mate_node same ∙ turned_mate b f (mate_node b) y
 
 -- each inner node has its own outer mate, and the root is one more
 module _ (s : State) (nested : IsNested s.graph.vertices s.blossoms) (depth : ℕ → ℕ) (st : IsSearchState s depth) where
@@ -66,12 +64,21 @@ module _ (s : State) (nested : IsNested s.graph.vertices s.blossoms) (depth : �
     pub mate : IsMate s a edge (mate_node s a)
     pub outer : s.label (mate_node s a) ≡ Outer
 
-  pub child_is : (a : ℕ) → holds (nodes_labelled s Inner) a ≡ true → HasChild a
-  child_is a h =
-      let p = in_labelled s nested Inner a h in
-      let i = (st.labels a p.0).inner (is_inner (s.label a) p.1) in
+  pub child_of : (a : ℕ) → IsOutermost s a → s.label a ≡ Inner → HasChild a
+  child_of a is lab =
+      let i = (st.labels a is).inner lab in
       let at : mate_node s a ≡ i.child = ap (λ o. far_end s o a) i.mate ∙ other_node_joins s.graph s.blossoms i.child_edge a i.child i.is_mate.joins i.is_mate.different in
       record { edge = i.child_edge; mate = subst (IsMate s a i.child_edge) (sym at) i.is_mate; outer = ap s.label at ∙ i.child_outer }
+
+  pub child_is : (a : ℕ) → holds (nodes_labelled s Inner) a ≡ true → HasChild a
+  child_is a h = let p = in_labelled s nested Inner a h in child_of a p.0 (is_inner (s.label a) p.1)
+
+  -- an outer node that has a mate has an inner one
+  pub mate_inner : (a e : ℕ) → IsOutermost s a → s.label a ≡ Outer → s.mate a ≡ Some e → IsMate s a e (mate_node s a) × (s.label (mate_node s a) ≡ Inner)
+  mate_inner a e is lab has =
+      let m = st.mates a e is has in
+      let at : mate_node s a ≡ m.0 = ap (λ o. far_end s o a) has ∙ other_node_joins s.graph s.blossoms e a m.0 m.1.joins m.1.different in
+      (subst (IsMate s a e) (sym at) m.1, ap s.label at ∙ ((st.labels a is).outer lab e m.0 has m.1).0)
 
   pub inner_fewer : (root : ℕ) → IsRoot s root → length (nodes_labelled s Inner) < length (nodes_labelled s Outer)
   inner_fewer root r =

@@ -1,9 +1,9 @@
--- Ascending lists of vertices, and lists that a function maps.
+-- Ascending lists of numbers, and lists that a function maps.
 use Rattle.std.proofs.Common.{◌≡◌, ℕ, ◌+◌, ◌-◌, ◌<◌, ◌≤◌, Bool, true, false, ◌&&◌, eqb, List, [], ◌∷◌, length, map, get_or, AllPairs, refl, sym, ap, ◌∙◌, subst, arith, ⊎_elim}
 use Rattle.std.specs.List.{filter, range_with_len}
 use Rattle.std.specs.List.Sorted.{IsStrictlyIncreasing}
 use Rattle.std.specs.Cmp.{both_ways as same_tests}
-use Rattle.std.proofs.lemmas.Bool.{both_ways, eqb-true, or_cases, and_parts, false_from_ne_true}
+use Rattle.std.proofs.lemmas.Bool.{both_ways, eqb-true, eq-eqb, or_cases, or_left, or_right, and_parts, false_from_ne_true}
 use Rattle.std.proofs.lemmas.List.FromFn.{length-range_with_len, get_or-range_with_len}
 use Rattle.std.proofs.lemmas.List.Kept.{AllPairs-from_increasing, IsStrictlyIncreasing-filter}
 use Rattle.graph_theory.specs.Parts.{holds, IsVertexSet}
@@ -72,3 +72,10 @@ new-map f (x ∷ xs) new parts = (
       both_ways (holds xs x) new.0 (ap (holds xs) (parts x p.0 (first_in x xs) (later_in x xs p.0 p.1) (sym p.2)) ∙ p.1)),
   new-map f xs new.1 (λ y z hy hz. parts y z (later_in x xs y hy) (later_in x xs z hz)),
 )
+
+pub map-holds : (f : ℕ → ℕ) (xs : List ℕ) (x : ℕ) → holds xs x ≡ true → holds (map f xs) (f x) ≡ true
+map-holds f [] x h = absurd (both_ways false refl h)
+map-holds f (y ∷ xs) x h = ⊎_elim
+    (λ here. or_left (eqb (f y) (f x)) (holds (map f xs) (f x)) (eq-eqb (f y) (f x) (ap f (eqb-true y x here))))
+    (λ more. or_right (eqb (f y) (f x)) (holds (map f xs) (f x)) (map-holds f xs x more))
+    (or_cases (eqb y x) (holds xs x) h)
