@@ -1,16 +1,13 @@
 -- Pairs of a circuit come into a tree, one after another: each has a node that becomes inner and its mate, which
 -- becomes outer.
-use Rattle.std.proofs.Common.{◌≡◌, ◌≢◌, ℕ, ◌+◌, ◌-◌, ◌*◌, ◌<◌, ◌≤◌, suc, pos, Bool, true, false, ◌||◌, ◌&&◌, not, eqb, cond, List, [], ◌∷◌, length, Option, Some, refl, sym, ap, ◌∙◌, arith}
+use Rattle.std.proofs.Common.{◌≡◌, ◌≢◌, ℕ, ◌+◌, ◌*◌, ◌<◌, ◌≤◌, suc, Bool, true, false, ◌||◌, ◌&&◌, not, eqb, Some, refl, sym, ap, ◌∙◌, arith}
 use Rattle.std.proofs.Math.Nat.{mul-le-mul_right, suc-mul}
-use Rattle.std.proofs.lemmas.Bool.{eq-eqb, ne_eqb, eqb-true, eqb-false, or_from}
-use Rattle.graph_theory.specs.Graph.{IsEdgeNumber}
-use Rattle.blossom_arena.proofs.Lists.{by_test}
 use Rattle.alt_forest.specs.declared.label.Label.{Label}
 use Rattle.alt_forest.specs.declared.label.Label.TheVariants.{Outer, Inner, Out}
-use Rattle.alt_forest.specs.State.{State, IsOutermost, Joins, slack_of, IsTight, IsMate}
+use Rattle.alt_forest.specs.State.{State, IsOutermost, Joins, IsTight, IsMate}
 use Rattle.alt_forest.specs.Searches.{put}
 use Rattle.alt_forest.proofs.Relabelled.{put_here, put_other, outer_not_out, inner_not_out}
-use Rattle.tree_steps.proofs.Gap.{FitsBut, FitBut, pair_taken, gap_hung}
+use Rattle.tree_steps.proofs.Gap.{FitBut, pair_taken, gap_hung}
 
 -- ranks multiplied leave room between them
 pub room_between : (m n k : ℕ) → m < n → m * k + k ≤ n * k

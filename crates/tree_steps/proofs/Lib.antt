@@ -14,4 +14,14 @@ pub mod Opened
 pub mod Climbed
 pub mod Ladders
 pub mod Rungs
-pub mod Expand
+pub mod Expansion
+pub mod Neighbours
+pub mod Rounds
+pub mod Holders
+pub mod Elsewhere
+pub mod Opening
+pub mod Dissolving
+pub mod Counted
+pub mod CountedGrow
+pub mod CountedShrink
+pub mod CountedExpand

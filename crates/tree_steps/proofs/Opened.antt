@@ -10,9 +10,9 @@ use Rattle.blossom_arena.specs.declared.links.Link.{Link}
 use Rattle.blossom_arena.specs.Family.{Blossom, IsNested, is_node, is_child, is_outermost, is_vertex, in_ring, names_of, outermost, without, ring_of, older_than}
 use Rattle.blossom_arena.specs.Slack.{pull}
 use Rattle.blossom_arena.proofs.Lists.{by_test}
-use Rattle.blossom_arena.proofs.Nested.{circuit_outer, outermost_parts, node_grows, vertex_range, range_vertex, name_range, name_is_node}
-use Rattle.blossom_arena.proofs.Sets.{member_by_ring, outermost_node}
-use Rattle.blossom_arena.proofs.Taken.{node_without, child_without}
+use Rattle.blossom_arena.proofs.Nested.{circuit_outer, outermost_parts, node_grows, vertex_range, range_vertex}
+use Rattle.blossom_arena.proofs.Sets.{member_by_ring}
+use Rattle.blossom_arena.proofs.Taken.{node_without}
 use Rattle.alt_forest.specs.State.{Joins, next_node, IsChainTo, HasRings}
 use Rattle.tree_steps.proofs.Shrunk.{pull_zero}
 

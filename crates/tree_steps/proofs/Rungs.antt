@@ -1,8 +1,6 @@
 -- What the writes of an expand leave: the circuit's nodes are mates two by two, and labelled out.
-use Rattle.std.proofs.Common.{◌≡◌, ◌≢◌, ℕ, true, false, ◌||◌, eqb, List, [], ◌∷◌, ◌++◌, length, Option, Some, refl, sym, ap, ◌∙◌, subst, ⊎_elim}
-use Rattle.std.specs.List.{AllByRecursion}
-use Rattle.std.proofs.lemmas.Bool.{or_parts, or_left, or_right, or_cases, both_ways, eqb-true, eqb-false, eq-eqb}
-use Rattle.graph_theory.specs.Parts.{holds}
+use Rattle.std.proofs.Common.{◌≡◌, ◌≢◌, ℕ, true, false, eqb, List, [], ◌∷◌, ◌++◌, Option, Some, refl, sym, ap, ◌∙◌, subst, ⊎_elim}
+use Rattle.std.proofs.lemmas.Bool.{or_parts, or_cases, both_ways, eqb-true, eqb-false}
 use Rattle.blossom_arena.specs.declared.links.Link.{Link}
 use Rattle.blossom_arena.specs.Family.{in_ring, nodes_of}
 use Rattle.blossom_arena.proofs.Lists.{AllNew, by_test, first_in, later_in}

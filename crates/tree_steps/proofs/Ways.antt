@@ -24,6 +24,7 @@ pub record WayLinks (s : State) (depth : ℕ → ℕ) (x : ℕ) (ls : List Link)
   pub shallow : AllByRecursion (λ (l : Link). depth l.node ≤ depth x) ls
   pub low : depth top ≤ depth x
   pub different : AllNew (nodes_of ls)
+  pub has : (c : ℕ) → in_ring ls c ≡ true → (f : ℕ) × (s.mate c ≡ Some f)
   pub mated : (c f d : ℕ) → in_ring ls c ≡ true → s.mate c ≡ Some f → IsMate s c f d → in_ring ls d ≡ true
   pub even : length ls ≡ 2 * k
 
@@ -40,7 +41,7 @@ pair_mated : (s : State) (x f y c k d : ℕ) → IsOutermost s x → s.mate x �
 pair_mated s x f y c k d is mate w same has v = mate_unique s x f y k d mate (ap s.mate (sym same) ∙ has) w (subst (λ z. IsMate s z k d) same v)
 
 pub way_links : (s : State) (depth : ℕ → ℕ) (x : ℕ) (hs : List Hop) (top : ℕ) → IsWay s depth x hs top → WayLinks s depth x (links_up x hs) top (length hs)
-way_links s depth x [] top w = record { chain = tt; first = sym w; tight = tt; outer = tt; deep = tt; shallow = tt; low = subst (λ y. depth y ≤ depth x) w (omega arith); different = tt; mated = λ c f d r. absurd (both_ways false refl r); even = omega arith }
+way_links s depth x [] top w = record { chain = tt; first = sym w; tight = tt; outer = tt; deep = tt; shallow = tt; low = subst (λ y. depth y ≤ depth x) w (omega arith); different = tt; has = λ c r. absurd (both_ways false refl r); mated = λ c f d r. absurd (both_ways false refl r); even = omega arith }
 way_links s depth x (h ∷ hs) top w =
     let hop = w.0 in
     let rest = way_links s depth h.up hs top w.1 in
@@ -58,6 +59,13 @@ way_links s depth x (h ∷ hs) top w =
       shallow = (omega arith, (omega arith, weaker depth (depth h.up) (depth x) ls (omega arith) rest.shallow));
       low = omega arith;
       different = (or_from (eqb h.inner x) (in_ring ls x) x_inner (deeper_others depth x h.up ls (omega arith) rest.shallow), (deeper_others depth h.inner h.up ls l2 rest.shallow, rest.different));
+      has = λ c r. ⊎_elim
+          (λ here. (h.pair, ap s.mate (sym (eqb-true x c here)) ∙ hop.mate))
+          (λ more. ⊎_elim
+          (λ here. (h.pair, ap s.mate (sym (eqb-true h.inner c here)) ∙ hop.is_mate.back))
+          (λ later. rest.has c later)
+          (or_cases (eqb h.inner c) (in_ring ls c) more))
+          (or_cases (eqb x c) (eqb h.inner c || in_ring ls c) r);
       mated = λ c f d r has v. ⊎_elim
           (λ here.
           let it = pair_mated s x h.pair h.inner c f d hop.is hop.mate hop.is_mate (sym (eqb-true x c here)) has v in
@@ -114,6 +122,9 @@ circuit_shrinks s depth a b e top hs ks st wa wb tight joins ne top_is top_outer
           (λ here. subst (λ y. depth top ≤ depth y) (eqb-true top c here) (omega arith))
           (λ more. let low : depth top < depth c = least depth top c (mirror e ls js) deep more in omega arith)
           (or_cases (eqb top c) (in_ring (mirror e ls js) c) r);
+      mated = λ c r other.
+          let inside : (in_ring ls c || in_ring js c) ≡ true = ⊎_elim (λ here. absurd (other (sym (eqb-true top c here)))) (λ more. sym (mirror_has e ls js c) ∙ more) (or_cases (eqb top c) (in_ring (mirror e ls js) c) r) in
+          ⊎_elim (λ r1. la.has c r1) (λ r2. lb.has c r2) (or_cases (in_ring ls c) (in_ring js c) inside);
       mated_inside = λ c f d r other has v.
           let inside : (in_ring ls c || in_ring js c) ≡ true = ⊎_elim (λ here. absurd (other (sym (eqb-true top c here)))) (λ more. sym (mirror_has e ls js c) ∙ more) (or_cases (eqb top c) (in_ring (mirror e ls js) c) r) in
           or_right (eqb top d) (in_ring (mirror e ls js) d) (mirror_has e ls js d

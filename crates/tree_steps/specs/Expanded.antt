@@ -1,13 +1,18 @@
 -- What an expand changes (chapter 24): the circuit of the blossom is opened at its base, the node that holds the end of
 -- the blossom's mate. The others are mates two by two, and the even way between the base and the node that holds the
 -- end of the blossom's parent comes into the tree.
-use Rattle.std.specs.Prelude.{ℕ, List, [], ◌∷◌, Option, Some}
+use Rattle.std.specs.Prelude.{◌≡◌, ℕ, true, false, ◌==◌, if◌then◌else◌, List, [], ◌∷◌, ◌++◌, Option, Some}
+use Rattle.graph_theory.specs.Graph.{Multigraph, edge_of}
 use Rattle.blossom_arena.specs.declared.links.Link.{Link}
-use Rattle.blossom_arena.specs.Family.{without}
+use Rattle.blossom_arena.specs.Family.{Blossom, in_ring, ring_of, without, child_holding}
 use Rattle.alt_forest.specs.declared.label.Label.{Label}
 use Rattle.alt_forest.specs.declared.label.Label.TheVariants.{Outer, Inner, Out}
-use Rattle.alt_forest.specs.State.{State}
+use Rattle.alt_forest.specs.State.{State, IsOutermost, node_u}
 use Rattle.alt_forest.specs.Searches.{put}
+
+-- the node of a blossom's circuit that holds the end of an edge that leaves the blossom
+abbrev pub child_at : Multigraph → List Blossom → ℕ → ℕ → ℕ
+child_at g bs a e = child_holding bs a (if node_u g bs e == a then (edge_of g e).u else (edge_of g e).v)
 
 -- neighbours become mates two by two
 abbrev pub mated : (ℕ → Option ℕ) → List Link → ℕ → Option ℕ
@@ -19,6 +24,13 @@ mated m (a ∷ (b ∷ rest)) = mated (put (put m a.node (Some a.edge)) b.node (S
 abbrev pub labelled_out : (ℕ → Label) → List Link → ℕ → Label
 labelled_out l [] = l
 labelled_out l (a ∷ rest) = labelled_out (put l a.node Out) rest
+
+-- the links of a circuit from behind that of its base round to it, where the base has this edge
+pub record IsRound (ring : List Link) (base edge : ℕ) (round : List Link) : Type 0 where
+  pub front : List Link
+  pub behind : List Link
+  pub split : ring ≡ front ++ (record { node = base; edge = edge } ∷ behind)
+  pub is : round ≡ behind ++ front
 
 -- the blossom of this node is open: its base has its mate and is inner, the rest of the circuit is labelled out
 abbrev pub opened : State → ℕ → ℕ → List Link → ℕ → State
@@ -55,3 +67,24 @@ abbrev pub parents_down : (ℕ → Option ℕ) → ℕ → ℕ → List Link →
 parents_down p edge last [] = put p last (Some edge)
 parents_down p edge last (a ∷ []) = p
 parents_down p edge last (a ∷ (b ∷ rest)) = parents_down (put p a.node (Some edge)) b.edge last rest
+
+-- the way comes into the tree: up from the base, or down to it
+abbrev pub hung_up : State → ℕ → ℕ → ℕ → List Link → State
+hung_up s base edge top ls = record s { label = labels_up s.label ls; parent = parents_up s.parent base edge top ls }
+
+abbrev pub hung_down : State → ℕ → ℕ → List Link → State
+hung_down s base top ls = record s { label = labels_down s.label ls; parent = parents_down s.parent top base ls }
+
+-- The state after an expand: the blossom of this node is gone, its circuit lies open, and what is not on the circuit
+-- stays as it was.
+pub record IsExpanded (before after : State) (node : ℕ) : Type 0 where
+  pub graph : after.graph ≡ before.graph
+  pub weighted : after.weighted ≡ before.weighted
+  pub blossoms : after.blossoms ≡ without before.blossoms node
+  pub dual : after.dual ≡ before.dual
+  pub labels : (a : ℕ) → in_ring (ring_of before.blossoms node) a ≡ false → after.label a ≡ before.label a
+  pub parents : (a : ℕ) → in_ring (ring_of before.blossoms node) a ≡ false → after.parent a ≡ before.parent a
+  pub mates : (a : ℕ) → in_ring (ring_of before.blossoms node) a ≡ false → after.mate a ≡ before.mate a
+  -- each node of the circuit has a mate, and what was outer stays so
+  pub mated : (a : ℕ) → in_ring (ring_of before.blossoms node) a ≡ true → (e : ℕ) × (after.mate a ≡ Some e)
+  pub outer : (a : ℕ) → IsOutermost before a → before.label a ≡ Outer → after.label a ≡ Outer

@@ -16,6 +16,7 @@ pub record IsShrinkable (s : State) (depth : ℕ → ℕ) (links : List Link) (t
   pub top_in : in_ring links top ≡ true
   pub top_outer : s.label top ≡ Outer
   pub top_least : (c : ℕ) → in_ring links c ≡ true → depth top ≤ depth c
+  pub mated : (c : ℕ) → in_ring links c ≡ true → c ≢ top → (f : ℕ) × (s.mate c ≡ Some f)
   pub mated_inside : (c f d : ℕ) → in_ring links c ≡ true → c ≢ top → s.mate c ≡ Some f → IsMate s c f d → in_ring links d ≡ true
   pub top_mated_outside : (f d : ℕ) → s.mate top ≡ Some f → IsMate s top f d → in_ring links d ≡ false
 

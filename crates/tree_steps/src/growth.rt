@@ -1,8 +1,9 @@
-ghost use Rattle.std.specs.Prelude.{◌≡◌, ◌≢◌, ◌+◌, ℕ, true, Some};
+ghost use Rattle.std.specs.Prelude.{◌≡◌, ◌≢◌, ◌<◌, ◌≤◌, ◌+◌, ℕ, true, Some, length};
 ghost use Rattle.graph_theory.specs.Graph.{IsEdgeNumber, edge_of};
 ghost use Rattle.blossom_arena.specs.Family.{outermost};
 ghost use Rattle.alt_forest.specs.declared.label.Label.TheVariants.{Outer, Inner};
 ghost use Rattle.alt_forest.specs.State.{IsOutermost, IsMate};
+ghost use Rattle.alt_forest.specs.Counts.{tree_count, exposed_count, measure};
 ghost use Rattle.alt_forest.specs.Events.{CanGrow};
 ghost use Rattle.alt_forest.specs.Searches.{IsSound, state_of, label_at, edge_in, put};
 ghost use Rattle.tree_steps.specs.Grown.{grown};
@@ -50,7 +51,11 @@ pub fn grow<L: Ledger>(search: &mut Search, graph: &Graph, e: EdgeId, steps: &mu
     ensures grown { (g : CanGrow (state_of search.old) e) (mate : ℕ) → IsMate (state_of search.old) g.far g.mate_edge mate → state_of search.new ≡ grown (state_of search.old) e g.far mate }
     ensures rest { search.new ≡ record search.old { labels = search.new.labels; parents = search.new.parents } }
     ensures sound { IsSound search.new }
+    ensures trees { tree_count (state_of search.new) ≡ tree_count (state_of search.old) }
+    ensures exposed { exposed_count (state_of search.new) ≡ exposed_count (state_of search.old) }
+    ensures falls { measure (state_of search.new) < measure (state_of search.old) }
     ensures step { steps.new ≡ steps.old + 2 }
+    ensures most { steps.new ≤ steps.old + 1 + length graph.now.edges }
 {
     steps.tick();
     let (u, v, _) = graph.look(e, steps);

@@ -19,7 +19,7 @@ pub(crate) struct Hop {
     pub(crate) up: NodeId,
 }
 
-fn or_none(edge: Option<EdgeId>) -> EdgeId
+pub(crate) fn or_none(edge: Option<EdgeId>) -> EdgeId
     ensures { (e : ℕ) → edge ≡ Some e → result ≡ e }
 {
     match edge {

@@ -1,9 +1,10 @@
-ghost use Rattle.std.specs.Prelude.{◌≡◌, ◌≢◌, ◌+◌, ℕ, true, Some};
+ghost use Rattle.std.specs.Prelude.{◌≡◌, ◌≢◌, ◌<◌, ◌≤◌, ◌+◌, ℕ, true, Some, length};
 ghost use Rattle.graph_theory.specs.Graph.{IsEdgeNumber, edge_of};
 ghost use Rattle.blossom_arena.specs.Family.{outermost, made_of};
 ghost use Rattle.alt_forest.specs.declared.label.Label.TheVariants.{Outer, Out};
 ghost use Rattle.alt_forest.specs.State.{IsOutermost};
 ghost use Rattle.alt_forest.specs.Trees.{path_of, root_of, first_common};
+ghost use Rattle.alt_forest.specs.Counts.{tree_count, exposed_count, measure};
 ghost use Rattle.alt_forest.specs.Events.{CanShrink};
 ghost use Rattle.alt_forest.specs.Searches.{IsSound, state_of, label_at};
 ghost use Rattle.tree_steps.specs.Shrunk.{shrunk_state};
@@ -58,7 +59,11 @@ pub fn shrink<L: Ledger>(
     ensures shrunk { IsShrunk (state_of search.old) (state_of search.new) result }
     ensures rest { search.new ≡ record search.old { arena = search.new.arena; labels = search.new.labels; mates = search.new.mates; circuit = search.new.circuit } }
     ensures sound { IsSound search.new }
+    ensures trees { tree_count (state_of search.new) ≡ tree_count (state_of search.old) }
+    ensures exposed { exposed_count (state_of search.new) ≡ exposed_count (state_of search.old) }
+    ensures falls { measure (state_of search.new) < measure (state_of search.old) }
     ensures step { steps.new ≡ steps.old + 2 }
+    ensures most { steps.new ≤ steps.old + 1 + length graph.now.edges }
 {
     steps.tick();
     let (u, v, _) = graph.look(e, steps);

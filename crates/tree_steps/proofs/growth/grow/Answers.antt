@@ -1,8 +1,10 @@
-use Rattle.std.proofs.Common.{◌∙◌, sym, ap, subst, arith}
+use Rattle.std.proofs.Common.{◌∙◌, ◌<◌, sym, ap, subst, arith}
 use Rattle.alt_forest.specs.State.{State, IsOutermost, IsMate, IsSearchState}
+use Rattle.alt_forest.specs.Counts.{tree_count, measure}
 use Rattle.alt_forest.specs.Searches.{state_of, edge_in}
-use Rattle.alt_forest.proofs.Places.{label_place, parent_place}
+use Rattle.alt_forest.proofs.Places.{nested_of, label_place, parent_place}
 use Rattle.tree_steps.proofs.Grown.{grow_keeps, grown_is}
+use Rattle.tree_steps.proofs.CountedGrow.{grow_trees, grow_falls}
 use Rattle.tree_steps.proofs.growth.grow.Goals as goal
 
 pub mate_node-mate-requires-clause-outer : goal.mate_node-mate-requires-clause-outer
@@ -46,3 +48,24 @@ returns-clause-sound g c =
       depth = keeps.0;
       state = subst (λ (t : State). IsSearchState t keeps.0) (sym (grown_is s _ _ _ _ _ can.far pair.0 c.args.e c.set_label.ensures.labels c.set_label-2.ensures.labels c.set_edge.ensures.edges far mate)) keeps.1;
     }
+
+pub returns-clause-trees : goal.returns-clause-trees
+returns-clause-trees g c =
+    let s = state_of c.args.search.now in
+    let can = c.requires.can in
+    let far = c.far_node-far.ensures can in
+    let pair = c.requires.sound.state.mates can.far can.mate_edge can.far_is can.has_mate in
+    let mate = c.mate_node-mate.ensures can.mate_edge pair.0 (ap (edge_in c.args.search.now.mates.items) far ∙ can.has_mate) (subst (λ a. IsMate s a can.mate_edge pair.0) (sym far) pair.1) in
+    ap tree_count (grown_is s _ _ _ _ _ can.far pair.0 c.args.e c.set_label.ensures.labels c.set_label-2.ensures.labels c.set_edge.ensures.edges far mate)
+    ∙ grow_trees s c.args.e can.far pair.0 can.mate_edge can.mate_edge can.has_mate pair.1.back
+
+pub returns-clause-falls : goal.returns-clause-falls
+returns-clause-falls g c =
+    let h = c.requires.sound in
+    let s = state_of c.args.search.now in
+    let can = c.requires.can in
+    let far = c.far_node-far.ensures can in
+    let pair = h.state.mates can.far can.mate_edge can.far_is can.has_mate in
+    let mate = c.mate_node-mate.ensures can.mate_edge pair.0 (ap (edge_in c.args.search.now.mates.items) far ∙ can.has_mate) (subst (λ a. IsMate s a can.mate_edge pair.0) (sym far) pair.1) in
+    subst (λ (t : State). measure t < measure s) (sym (grown_is s _ _ _ _ _ can.far pair.0 c.args.e c.set_label.ensures.labels c.set_label-2.ensures.labels c.set_edge.ensures.edges far mate))
+    (grow_falls s h.depth c.args.e pair.0 (nested_of c.args.search.now h.shape) h.state can pair.1)

@@ -9,6 +9,7 @@ use Rattle.tree_steps.specs.Shrunk.{shrunk_state}
 use Rattle.tree_steps.specs.Shrinkable.{CanClose}
 use Rattle.tree_steps.proofs.Ends.{circuit_room}
 use Rattle.tree_steps.proofs.Meeting.{meets_from}
+use Rattle.tree_steps.proofs.CountedShrink.{shrunk_trees, shrunk_exposed, shrunk_falls}
 use Rattle.tree_steps.proofs.shrinking.shrink.Goals as goal
 
 pub fill_circuit-requires-clause-left : goal.fill_circuit-requires-clause-left
@@ -48,3 +49,12 @@ returns-clause-shrunk g c =
       can = subst (λ (ls : List Link). CanClose s ls c.meeting_node-top.result) (sym items) (record { depth = c.requires.sound.depth; state = c.requires.sound.state; shrinkable = m.shrinks });
       state = c.close.ensures.state ∙ ap (λ (f : Search). shrunk_state (state_of f) (made_of f.arena.blossoms c.fill_circuit.new.search.circuit.items c.close.result) c.meeting_node-top.result) c.fill_circuit.ensures.rest;
     }
+
+pub returns-clause-trees : goal.returns-clause-trees
+returns-clause-trees g c = shrunk_trees (state_of c.args.search.now) (state_of c.close.new.search) c.close.result (returns-clause-shrunk g c) (nested_of c.close.new.search c.close.ensures.sound.shape)
+
+pub returns-clause-exposed : goal.returns-clause-exposed
+returns-clause-exposed g c = shrunk_exposed (state_of c.args.search.now) (state_of c.close.new.search) c.close.result (returns-clause-shrunk g c) (nested_of c.close.new.search c.close.ensures.sound.shape)
+
+pub returns-clause-falls : goal.returns-clause-falls
+returns-clause-falls g c = shrunk_falls (state_of c.args.search.now) (state_of c.close.new.search) c.close.result (returns-clause-shrunk g c) (nested_of c.close.new.search c.close.ensures.sound.shape)

@@ -1,12 +1,12 @@
 -- An expand keeps the state of a search.
-use Rattle.std.proofs.Common.{◌≡◌, ◌≢◌, ◌⊎◌, ℕ, ◌+◌, ◌*◌, ◌<◌, ◌≤◌, ℤ, pos, ◌-ℤ◌, ◌≤ℤ◌, Bool, true, false, ◌||◌, eqb, cond, List, [], ◌∷◌, ◌++◌, length, Option, Some, refl, sym, ap, ◌∙◌, subst, arith, ⊎_elim}
+use Rattle.std.proofs.Common.{◌≡◌, ◌≢◌, ◌⊎◌, ℕ, ◌+◌, ◌*◌, ◌<◌, ◌≤◌, pos, ◌-ℤ◌, ◌≤ℤ◌, Bool, true, false, ◌||◌, eqb, cond, List, [], ◌∷◌, ◌++◌, length, Option, Some, refl, sym, ap, ◌∙◌, subst, arith, ⊎_elim}
 use Rattle.std.specs.List.{AllByRecursion}
 use Rattle.std.proofs.lemmas.List.{length-append}
 use Rattle.std.proofs.lemmas.Bool.{eq-eqb, ne_eqb, eqb-true, eqb-false, or_parts, or_left, or_right, or_cases, both_ways, false_from_ne_true}
 use Rattle.graph_theory.specs.Graph.{IsGraph, IsEdgeNumber, edge_of}
 use Rattle.graph_theory.specs.Parts.{holds}
 use Rattle.blossom_arena.specs.declared.links.Link.{Link}
-use Rattle.blossom_arena.specs.Family.{Blossom, IsNested, is_node, is_child, is_outermost, in_ring, names_of, nodes_of, without, ring_of, older_than}
+use Rattle.blossom_arena.specs.Family.{Blossom, IsNested, is_node, is_child, in_ring, names_of, nodes_of, without, ring_of, older_than}
 use Rattle.blossom_arena.proofs.Lists.{AllNew, by_test}
 use Rattle.blossom_arena.proofs.Nested.{outermost_parts, name_range}
 use Rattle.blossom_arena.proofs.Taken.{outermost_stays}
@@ -22,7 +22,7 @@ use Rattle.tree_steps.proofs.Grown.{rehung}
 use Rattle.tree_steps.proofs.Joints.{joins_unique, joins_turned, mate_turned, mate_unique, partner_unique}
 use Rattle.tree_steps.proofs.Opened.{pull_without, joins_opened, joins_elsewhere, ring_is_child, outer_opened, ring_outer, gone, all_without, rings_without}
 use Rattle.tree_steps.proofs.Climbed.{IsOpenAt, Keeps, fit_scaled, room_between}
-use Rattle.tree_steps.proofs.Ladders.{IsRung, IsLadder, IsHung, climb_up, climb_down}
+use Rattle.tree_steps.proofs.Ladders.{IsLadder, climb_up, climb_down}
 use Rattle.tree_steps.proofs.Rungs.{ArePairs, ArePaired, mated_other, mated_paired, paired_else, out_other, out_there, out_all, rung_at, ladder_parts, next_append}
 
 -- an inner blossom of dual 0, and its circuit from its base on
@@ -214,7 +214,7 @@ module _ (s : State) (depth : ℕ → ℕ) (a base edge : ℕ) (rest : List Link
       (g.other, subst (λ k. IsMate t c k g.other) (some_same g.edge f (sym g.mate ∙ has)) g.is_mate))
 
   -- the blossom hung and has a child
-  pub says : IsInner s depth a
+  abbrev pub says : IsInner s depth a
   says = (h.state.labels a h.outer).inner h.inner
 
   child_is : says.child ≡ w

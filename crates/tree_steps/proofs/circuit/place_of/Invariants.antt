@@ -1,0 +1,7 @@
+use Rattle.std.proofs.Common.{◌≡◌, ◌+◌, length, drop}
+use Rattle.blossom_arena.specs.Family.{nodes_of}
+use Rattle.tree_steps.specs.Circuits.{before}
+use Rattle.tree_steps.proofs.circuit.place_of.Given as goal
+
+abbrev pub invariant-loop-place : goal.invariant-loop-place
+invariant-loop-place l = length (before (nodes_of l.links) l.fn.node) ≡ l.place + length (before (nodes_of (drop l.place l.links)) l.fn.node)

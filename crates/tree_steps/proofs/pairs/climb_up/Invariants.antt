@@ -1,0 +1,21 @@
+use Rattle.std.proofs.Common.{◌≡◌, ◌<◌, ◌%◌, length, vec_len}
+use Rattle.std.specs.List.{AllByRecursion}
+use Rattle.blossom_arena.specs.declared.links.Link.{Link}
+use Rattle.alt_forest.specs.Searches.{label_at, edge_in}
+use Rattle.tree_steps.specs.Expanded.{labels_up, parents_up}
+use Rattle.tree_steps.proofs.pairs.climb_up.Given as goal
+
+abbrev pub invariant-loop-left : goal.invariant-loop-left
+invariant-loop-left l = record {
+  even : length l.left % 2 ≡ 0;
+  labels : labels_up (label_at l.labels.items) l.left ≡ labels_up (label_at l.fn.labels.items) l.links;
+  parents : parents_up (edge_in l.parents.items) l.node l.edge l.fn.top l.left ≡ parents_up (edge_in l.fn.parents.items) l.fn.base l.fn.first l.fn.top l.links;
+  label_places : AllByRecursion (λ (k : Link). k.node < vec_len l.labels) l.left;
+  parent_places : AllByRecursion (λ (k : Link). k.node < vec_len l.parents) l.left;
+  place : l.node < vec_len l.parents;
+  labels_len : vec_len l.labels ≡ vec_len l.fn.labels;
+  parents_len : vec_len l.parents ≡ vec_len l.fn.parents;
+}
+
+abbrev pub decreases-loop-left : goal.decreases-loop-left
+decreases-loop-left l = length l.left

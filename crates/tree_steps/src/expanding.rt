@@ -1,0 +1,116 @@
+ghost use Rattle.std.specs.Prelude.{◌≡◌, ◌<◌, ◌≤◌, ◌+◌, ◌%◌, ◌⊎◌, ℕ, true, length, take, drop};
+ghost use Rattle.std.specs.List.{AllByRecursion};
+ghost use Rattle.graph_theory.specs.Graph.{IsEdgeNumber};
+ghost use Rattle.graph_theory.specs.Parts.{holds};
+ghost use Rattle.blossom_arena.specs.declared.links.Link.{Link};
+ghost use Rattle.blossom_arena.specs.Family.{names_of, nodes_of, dissolved};
+ghost use Rattle.alt_forest.specs.State.{node_u, node_v};
+ghost use Rattle.alt_forest.specs.Trees.{node_limit};
+ghost use Rattle.alt_forest.specs.Counts.{tree_count, exposed_count, measure};
+ghost use Rattle.alt_forest.specs.Events.{CanExpand};
+ghost use Rattle.alt_forest.specs.Searches.{HasShape, IsSound, state_of};
+ghost use Rattle.tree_steps.specs.Circuits.{before};
+ghost use Rattle.tree_steps.specs.Expanded.{child_at, opened, hung_up, hung_down, IsExpanded};
+
+use crate::circuit::{fill_round, place_of};
+use crate::hops::or_none;
+use crate::pairs::{climb_down, climb_up, label_out, mate_pairs};
+use alt_forest::{Label, Search, set_edge, set_label};
+use blossom_arena::NodeId;
+use mb_base::{EdgeId, Steps};
+use std::sync::ledger::Ledger;
+use weighted_graph::Graph;
+
+/// The node of a blossom's circuit that holds the end of an edge that leaves the blossom.
+fn child_at(search: &Search, b: NodeId, e: EdgeId) -> NodeId
+    requires shape { HasShape search.now }
+    requires blossom { holds (names_of search.now.arena.blossoms) b ≡ true }
+    requires edge { IsEdgeNumber search.now.graph e }
+    requires leaves { (node_u search.now.graph search.now.arena.blossoms e ≡ b) ⊎ (node_v search.now.graph search.now.arena.blossoms e ≡ b) }
+    ensures { result ≡ child_at search.now.graph search.now.arena.blossoms b e }
+{
+    let (u, v, _) = search.graph.edge(e);
+    if search.arena.outermost(u).number() == b.number() {
+        return search.arena.child_holding(b, u);
+    }
+    search.arena.child_holding(b, v)
+}
+
+/// Takes a blossom away: its base has its mate and is inner, and the circuit's other nodes, which the
+/// search's circuit has, are mates two by two and labelled out.
+fn open_at(search: &mut Search, b: NodeId, base: NodeId, mate: EdgeId)
+    requires shape { HasShape search.old }
+    requires can { CanExpand (state_of search.old) b }
+    requires nodes { AllByRecursion (λ (l : Link). l.node ≤ node_limit search.old.graph.vertices) search.old.circuit.items }
+    requires base { base ≤ node_limit search.old.graph.vertices }
+    ensures state { state_of search.new ≡ opened (state_of search.old) b base search.old.circuit.items mate }
+    ensures rest { search.new ≡ record search.old { arena = dissolved search.old.arena b; labels = search.new.labels; mates = search.new.mates } }
+    ensures shape { HasShape search.new }
+{
+    search.arena.dissolve(b);
+    label_out(&mut search.labels, &search.circuit);
+    set_label(&mut search.labels, base, Label::Inner);
+    mate_pairs(&mut search.mates, &search.circuit);
+    set_edge(&mut search.mates, base, Some(mate));
+}
+
+/// Takes into the tree the way of even length along the circuit between its base and its top, which
+/// hangs by the edge `parent`. The circuit's first node is behind the base, by the edge `first`.
+fn take_even_way(search: &mut Search, base: NodeId, top: NodeId, first: EdgeId, parent: EdgeId)
+    requires shape { HasShape search.old }
+    requires even { length search.old.circuit.items % 2 ≡ 0 }
+    requires nodes { AllByRecursion (λ (l : Link). l.node ≤ node_limit search.old.graph.vertices) search.old.circuit.items }
+    requires base { base ≤ node_limit search.old.graph.vertices }
+    ensures down { (place : ℕ) → place ≡ length (before (nodes_of search.old.circuit.items) top) → place % 2 ≡ 0 → state_of search.new ≡ hung_down (state_of search.old) base parent (drop place search.old.circuit.items) }
+    ensures up { (place : ℕ) → place ≡ length (before (nodes_of search.old.circuit.items) top) → place % 2 ≡ 1 → state_of search.new ≡ hung_up (state_of search.old) base first parent (take (place + 1) search.old.circuit.items) }
+    ensures rest { search.new ≡ record search.old { labels = search.new.labels; parents = search.new.parents } }
+    ensures shape { HasShape search.new }
+{
+    let place = place_of(&search.circuit, top);
+    if place % 2 == 0 {
+        climb_down(
+            &mut search.labels,
+            &mut search.parents,
+            &search.circuit[place..],
+            base,
+            parent,
+        );
+        return;
+    }
+    climb_up(
+        &mut search.labels,
+        &mut search.parents,
+        &search.circuit[..place + 1],
+        base,
+        first,
+        parent,
+    );
+}
+
+/// Expands `b`, an inner blossom of dual 0, in a search over `graph` (chapters 24 and 26): the blossom is
+/// taken away and its circuit lies open. The way of even length along it between the node that holds the
+/// end of the blossom's mate and the node that holds the end of its parent comes into the tree, and the
+/// circuit's other nodes are mates two by two and labelled out. It counts one step, takes time linear in
+/// the blossom's vertices and no memory, and there is no error.
+pub fn expand<L: Ledger>(search: &mut Search, graph: &Graph, b: NodeId, steps: &mut Steps<L>)
+    requires sound { IsSound search.old }
+    requires same { graph.now ≡ search.old.graph }
+    requires can { CanExpand (state_of search.old) b }
+    ensures expanded { IsExpanded (state_of search.old) (state_of search.new) b }
+    ensures rest { search.new ≡ record search.old { arena = record search.old.arena { blossoms = search.new.arena.blossoms }; labels = search.new.labels; parents = search.new.parents; mates = search.new.mates; circuit = search.new.circuit } }
+    ensures sound { IsSound search.new }
+    ensures trees { tree_count (state_of search.new) ≡ tree_count (state_of search.old) }
+    ensures exposed { exposed_count (state_of search.new) ≡ exposed_count (state_of search.old) }
+    ensures falls { measure (state_of search.new) < measure (state_of search.old) }
+    ensures step { steps.new ≡ steps.old + 1 }
+{
+    let _ = graph;
+    steps.tick();
+    let mate = or_none(search.mate(b));
+    let parent = or_none(search.parent(b));
+    let base = child_at(search, b, mate);
+    let top = child_at(search, b, parent);
+    let first = fill_round(search, b, base);
+    open_at(search, b, base, mate);
+    take_even_way(search, base, top, first, parent);
+}
