@@ -8,7 +8,7 @@ use Rattle.blossom_arena.specs.Family.{is_outermost}
 use Rattle.blossom_arena.proofs.Lists.{by_test}
 use Rattle.alt_forest.specs.State.{State, IsOutermost}
 use Rattle.alt_forest.specs.Trees.{node_limit}
-use Rattle.augment.specs.Exposed.{is_exposed, exposed_count}
+use Rattle.alt_forest.specs.Counts.{is_exposed, exposed_count}
 use Rattle.augment.proofs.Flipped.{with_mates}
 
 -- which nodes have a mate more: these two, that had none

@@ -1,16 +1,18 @@
 -- What an unpacked search is.
-use Rattle.std.proofs.Common.{◌≡◌, ℕ, true, List, [], ◌∷◌, sym, ◌∙◌, subst, Option, Some, vec_len}
+use Rattle.std.proofs.Common.{◌≡◌, ℕ, true, false, List, [], ◌∷◌, sym, ◌∙◌, subst, Option, Some, None, vec_len}
 use Rattle.std.specs.List.{AllByRecursion}
 use Rattle.graph_theory.specs.Graph.{IsPerfect}
 use Rattle.graph_theory.specs.Parts.{holds}
-use Rattle.blossom_arena.specs.Family.{Blossom, is_vertex}
+use Rattle.blossom_arena.specs.Family.{Blossom, is_vertex, is_child}
+use Rattle.blossom_arena.proofs.Nested.{outermost_parts}
 use Rattle.alt_forest.specs.declared.search.Search.{Search}
 use Rattle.alt_forest.specs.State.{State, IsOutermost, IsTight, IsMate, IsSearchState}
 use Rattle.alt_forest.specs.Searches.{IsSound, state_of, edge_in}
 use Rattle.alt_forest.proofs.Places.{nested_of}
-use Rattle.augment.specs.Exposed.{IsMatched}
+use Rattle.alt_forest.proofs.Relabelled.{some_not_none}
+use Rattle.alt_forest.specs.Counts.{IsMatched}
 use Rattle.augment.specs.Matching.{IsVertexMate, mate_counts, leaving}
-use Rattle.augment.specs.Opening.{Unpacks, CanUnpack}
+use Rattle.augment.specs.Opening.{IsBare, IsSpread, Unpacks, CanMark, CanUnpack}
 use Rattle.augment.proofs.Flipped.{with_mates}
 use Rattle.augment.proofs.Turned.{tight_rings}
 use Rattle.augment.proofs.Unpacked.{AreOpened, none_opened}
@@ -61,18 +63,35 @@ module _ (s : State) (depth : ℕ → ℕ) (m : ℕ → Option ℕ) (same : (a :
     };
   }
 
-pub can_unpack : (s : Search) → IsSound s → IsMatched (state_of s) → CanUnpack s.graph s.arena (edge_in s.mates.items)
-can_unpack s h matched = record {
-  family = h.shape.family;
-  vertices = h.shape.arena;
-  ends = h.shape.graph.graph.ends;
-  rings = h.state.rings;
-  mated = (none_opened (state_of s) h.depth h.state matched).mated;
-}
+-- mates that are those of the outermost nodes, and of no other node yet
+module _ (s : Search) (h : IsSound s) (matched : IsMatched (state_of s)) (m : ℕ → Option ℕ) (same : (a : ℕ) → is_child s.arena.blossoms a ≡ false → m a ≡ edge_in s.mates.items a) where
+  pub same_outer : (a : ℕ) → IsOutermost (state_of s) a → m a ≡ edge_in s.mates.items a
+  same_outer a is = same a (outermost_parts s.graph.vertices s.arena.blossoms a is).1
 
-module _ (s : Search) (h : IsSound s) (matched : IsMatched (state_of s)) (final : ℕ → Option ℕ) (u : Unpacks s.graph s.arena.blossoms (edge_in s.mates.items) final) where
+  pub can_mark : ((a : ℕ) → is_child s.arena.blossoms a ≡ true → m a ≡ None) → CanMark s.graph s.arena m
+  can_mark none = record {
+    family = h.shape.family;
+    vertices = h.shape.arena;
+    ends = h.shape.graph.graph.ends;
+    mated = (none_opened (state_of s) h.depth m same_outer h.state matched).mated;
+    bare = λ c f child has. some_not_none f (sym has ∙ none c child);
+  }
+
+  pub can_unpack : IsBare s.graph s.arena.blossoms m → ((a : ℕ) → IsSpread s.graph s.arena.blossoms m a) → CanUnpack s.graph s.arena m
+  can_unpack bare all = record {
+    family = h.shape.family;
+    vertices = h.shape.arena;
+    ends = h.shape.graph.graph.ends;
+    rings = h.state.rings;
+    mated = (none_opened (state_of s) h.depth m same_outer h.state matched).mated;
+    bare = bare;
+    spread = all;
+  }
+
+module _ (s : Search) (h : IsSound s) (matched : IsMatched (state_of s)) (m final : ℕ → Option ℕ) (same : (a : ℕ) → is_child s.arena.blossoms a ≡ false → m a ≡ edge_in s.mates.items a)
+    (u : Unpacks s.graph s.arena.blossoms m final) where
   pub v : AreOpened (state_of s) s.arena.blossoms [] final
-  v = all_opened (state_of s) h.depth (nested_of s h.shape) h.shape.graph.graph.ends h.state [] s.arena.blossoms (edge_in s.mates.items) final (none_opened (state_of s) h.depth h.state matched) u
+  v = all_opened (state_of s) h.depth (nested_of s h.shape) h.shape.graph.graph.ends h.state [] s.arena.blossoms m final (none_opened (state_of s) h.depth m (same_outer s h matched m same) h.state matched) u
 
   pub outer_kept : (a : ℕ) → IsOutermost (state_of s) a → final a ≡ edge_in s.mates.items a
   outer_kept = v.kept

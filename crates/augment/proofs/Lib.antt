@@ -4,6 +4,10 @@ pub mod Exposure
 pub mod Turning
 pub mod Turned
 pub mod Round
+pub mod Chains
+pub mod Spreads
+pub mod Holders
+pub mod Marks
 pub mod Pairs
 pub mod Left
 pub mod Unpacked

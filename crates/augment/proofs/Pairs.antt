@@ -125,7 +125,7 @@ module _ (g : Multigraph) (b : Blossom) (older : List Blossom) (m m' : ℕ → O
       let r = mated c was in
       let w = r.3 in
       let ne : c ≢ b.node = differs c is in
-      let has : m' c ≡ Some r.0 = h.others c out ∙ r.2 in
+      let has : m' c ≡ Some r.0 = h.others c out (outermost_parts n older c is).1 ∙ r.2 in
       by_test (eqb b.node r.1)
       (λ s.
       let same : r.1 ≡ b.node = sym (eqb-true b.node r.1 s) in
@@ -145,7 +145,7 @@ module _ (g : Multigraph) (b : Blossom) (older : List Blossom) (m m' : ℕ → O
       (λ s.
       let other : r.1 ≢ b.node = λ q. eqb-false b.node r.1 s (sym q) in
       let p = outermost_before n b older r.1 s w.outer in
-      (r.0, r.1, has, record { edge = w.edge; joins = joins_below r.0 c r.1 w.joins ne other; different = w.different; outer = p.0; back = h.others r.1 p.1 ∙ w.back }))
+      (r.0, r.1, has, record { edge = w.edge; joins = joins_below r.0 c r.1 w.joins ne other; different = w.different; outer = p.0; back = h.others r.1 p.1 (outermost_parts n older r.1 p.0).1 ∙ w.back }))
 
   -- the child that took the blossom's mate
   at_base : (e : ℕ) × (d : ℕ) × (m' h.base.node ≡ Some e) × IsPair g older m' h.base.node e d
@@ -162,7 +162,7 @@ module _ (g : Multigraph) (b : Blossom) (older : List Blossom) (m m' : ℕ → O
           joins = joins_turned g older h.edge r.0 h.base.node (base_joins r.0 (joins_turned g bs h.edge b.node r.0 w.joins) other);
           different = λ q. both_ways (in_ring b.ring r.0) p.1 (ap (in_ring b.ring) (sym q) ∙ t.base_in);
           outer = p.0;
-          back = h.others r.0 p.1 ∙ w.back;
+          back = h.others r.0 p.1 (outermost_parts n older r.0 p.0).1 ∙ w.back;
         },
       )
 
@@ -180,7 +180,7 @@ module _ (g : Multigraph) (b : Blossom) (older : List Blossom) (m m' : ℕ → O
   -- what holds of each edge of the ring, and of each mate, holds of each mate after
   pub used_stays : (P : ℕ → Type 0) → AllByRecursion (λ (l : Link). P l.edge) b.ring → ((c f : ℕ) → is_outermost n bs c ≡ true → m c ≡ Some f → P f) → (c f : ℕ) → is_outermost n older c ≡ true → m' c ≡ Some f → P f
   used_stays P each old c f is has = ⊎_elim
-      (λ was. old c f was.0 (sym (h.others c was.1) ∙ has))
+      (λ was. old c f was.0 (sym (h.others c was.1 (outermost_parts n older c is).1) ∙ has))
       (λ in_it. ⊎_elim
       (λ same. subst P (some_same h.edge f (sym h.new_base ∙ ap m' (sym same) ∙ has)) (old b.node h.edge first_outer h.mate))
       (λ r. let p = paired_some P m' round c h.new_pairs each_round r in subst P (some_same p.0 f (sym p.1 ∙ has)) p.2)
@@ -198,4 +198,4 @@ module _ (g : Multigraph) (b : Blossom) (older : List Blossom) (m m' : ℕ → O
   used_still c f is has = by_test (eqb b.node c)
       (λ s. let same : b.node ≡ c = eqb-true b.node c s in
       (h.base.node, ring_outer h.base.node t.base_in, h.new_base ∙ sym h.mate ∙ ap m same ∙ has))
-      (λ s. let p = outermost_before n b older c s is in (c, p.0, h.others c p.1 ∙ has))
+      (λ s. let p = outermost_before n b older c s is in (c, p.0, h.others c p.1 (outermost_parts n older c p.0).1 ∙ has))

@@ -1,19 +1,21 @@
 -- The next blossom to be opened, and what is left where all are.
-use Rattle.std.proofs.Common.{◌≡◌, ℕ, ◌+◌, ◌<◌, true, not, cond, List, [], ◌∷◌, ◌++◌, refl, sym, ap, ◌∙◌, subst, arith, ⊎_elim, inl, inr, Option, Some}
-use Rattle.std.specs.Prelude.{All, is_some}
-use Rattle.std.proofs.lemmas.Bool.{both_ways, and_from}
+use Rattle.std.proofs.Common.{◌≡◌, ℕ, true, not, cond, List, [], ◌∷◌, ◌++◌, refl, sym, ap, ◌∙◌, subst, ⊎_elim, inl, inr, Option, Some, None}
+use Rattle.std.specs.Prelude.{All}
+use Rattle.std.proofs.lemmas.Bool.{both_ways, and_from, or_left}
 use Rattle.std.proofs.lemmas.List.{append_assoc, append-nil}
 use Rattle.graph_theory.specs.Graph.{Multigraph, IsEdgeWithin, edge_of}
 use Rattle.graph_theory.specs.Parts.{holds}
 use Rattle.graph_theory.proofs.Edges.{edge_of_within}
 use Rattle.blossom_arena.specs.declared.links.Link.{Link}
-use Rattle.blossom_arena.specs.Family.{Blossom, Family, names_of, is_vertex, is_node, is_child, is_outermost, outermost, members_of, ring_of, older_than, room_of, IsNested}
+use Rattle.blossom_arena.specs.Family.{Blossom, Family, names_of, in_ring, is_vertex, is_node, is_child, is_outermost, outermost, members_of, ring_of, older_than, IsNested}
 use Rattle.blossom_arena.proofs.Lists.{by_test}
-use Rattle.blossom_arena.proofs.Nested.{names_new, name_range, new_is_node, new_no_child, range_vertex}
+use Rattle.blossom_arena.proofs.Nested.{names_new, new_is_node, new_no_child, range_vertex}
 use Rattle.blossom_arena.proofs.Sets.{outermost_node}
-use Rattle.alt_forest.specs.State.{State, HasRings, IsSearchState}
+use Rattle.alt_forest.specs.State.{State, IsRing, HasRings, IsSearchState}
 use Rattle.alt_forest.proofs.Walk.{some_same}
-use Rattle.augment.specs.Opening.{IsPair, AreMated, Opens, Unpacks, CanOpen, CanUnpack}
+use Rattle.augment.specs.Opening.{IsPair, AreMated, IsEnd, IsSpread, IsBare, Opens, Unpacks, CanOpen, CanUnpack}
+use Rattle.augment.proofs.Chains.{chain_grows, chain_has_top, chain_ring}
+use Rattle.augment.proofs.Spreads.{older_bare, older_spread}
 use Rattle.augment.proofs.Pairs.{all_mated}
 use Rattle.augment.proofs.Unpacked.{IsAt, found_at, nested_tail, rings_tail, AreOpened, one_opened}
 
@@ -49,6 +51,19 @@ none_left (x ∷ xs) e = absurd (subst none e tt)
     none [] = Unit {0}
     none (y ∷ ys) = ⊥
 
+no_mate : (o : Option ℕ) → ((f : ℕ) → o ≡ Some f → ⊥) → o ≡ None
+no_mate None h = refl
+no_mate (Some f) h = absurd (h f refl)
+
+-- a mate of two nodes has one end in each
+one_end : (g : Multigraph) (bs : List Blossom) (m : ℕ → Option ℕ) (a e d v w : ℕ) → IsPair g bs m a e d → IsEnd g e v → IsEnd g e w → outermost bs v ≡ a → outermost bs w ≡ a → v ≡ w
+one_end g bs m a e d v w p ev ew av aw =
+    let not_both : outermost bs (edge_of g e).u ≡ a → outermost bs (edge_of g e).v ≡ a → ⊥ = λ x y. ⊎_elim (λ j. p.different (sym y ∙ j.1)) (λ j. p.different (sym x ∙ j.0)) p.joins in
+    ⊎_elim
+    (λ q. ⊎_elim (λ r. q ∙ sym r) (λ r. absurd (not_both (ap (outermost bs) (sym q) ∙ av) (ap (outermost bs) (sym r) ∙ aw))) ew.end)
+    (λ q. ⊎_elim (λ r. absurd (not_both (ap (outermost bs) (sym r) ∙ aw) (ap (outermost bs) (sym q) ∙ av))) (λ r. q ∙ sym r) ew.end)
+    ev.end
+
 -- what a step of the loop comes to
 pub record IsNextStep (g : Multigraph) (f : Family) (m0 : ℕ → Option ℕ) (rest : List ℕ) (n : ℕ → Option ℕ) : Type 0 where
   pub opened : List Blossom
@@ -56,9 +71,11 @@ pub record IsNextStep (g : Multigraph) (f : Family) (m0 : ℕ → Option ℕ) (r
   pub split : f.blossoms ≡ opened ++ left
   pub names : rest ≡ names_of left
   pub mated : AreMated g left n
+  pub bare : IsBare g left n
+  pub spread : (a : ℕ) → IsSpread g left n a
   pub unpacks : (final : ℕ → Option ℕ) → Unpacks g left n final → Unpacks g f.blossoms m0 final
 
-module _ (g : Multigraph) (f : Family) (m0 m : ℕ → Option ℕ) (can : CanUnpack g f m0) (opened left : List Blossom) (split : f.blossoms ≡ opened ++ left) (mated : AreMated g left m) (b : ℕ) (rest : List ℕ) (names : b ∷ rest ≡ names_of left) where
+module _ (g : Multigraph) (f : Family) (m0 m : ℕ → Option ℕ) (can : CanUnpack g f m0) (opened left : List Blossom) (split : f.blossoms ≡ opened ++ left) (mated : AreMated g left m) (bare : IsBare g left m) (all : (a : ℕ) → IsSpread g left m a) (b : ℕ) (rest : List ℕ) (names : b ∷ rest ≡ names_of left) where
   w : BeginsWith left b rest
   w = begins_with left b rest names
 
@@ -89,37 +106,67 @@ module _ (g : Multigraph) (f : Family) (m0 m : ℕ → Option ℕ) (can : CanUnp
   pub named : holds (names_of f.blossoms) b ≡ true
   named = ap (holds (names_of f.blossoms)) (sym w.node) ∙ at.named
 
-  pub place : (k : ℕ) → f.vertex_count + room_of f.vertex_count < k → b < k
-  place k low = omega (arith, low, (name_range f.vertex_count f.blossoms b can.family.nested named).1)
-
-  pub some : is_some (m b) ≡ true
-  some = ap (λ x. is_some (m x)) (sym w.node) ∙ ap (λ (o : Option ℕ). is_some o) (mated_here w.first.node outer).2
-
   -- a vertex whose outermost node is the first is in it
   by_node : (v : ℕ) → is_vertex g.vertices v ≡ true → outermost here v ≡ w.first.node → holds (members_of f.blossoms b) v ≡ true
   by_node v iv e = ap (λ x. holds (members_of f.blossoms x) v) (sym w.node) ∙ ap (λ ms. holds ms v) at.members ∙ by_test (holds w.first.members v) (λ t. t)
       (λ out. absurd (both_ways (is_node g.vertices w.older w.first.node) nested.0.fresh (ap (is_node g.vertices w.older) (sym e ∙ ap (λ q. cond q w.first.node (outermost w.older v)) out) ∙ outermost_node g.vertices w.older v iv)))
 
-  pub can_open : (e : ℕ) → Some e ≡ m b → CanOpen g f b e
-  can_open e has =
-      let r = mated_here w.first.node outer in
-      let same : r.0 ≡ e = some_same r.0 e (sym r.2 ∙ ap m w.node ∙ sym has) in
-      let p : IsPair g here m w.first.node e r.1 = subst (λ k. IsPair g here m w.first.node k r.1) same r.3 in
+  bare_here : IsBare g here m
+  bare_here = subst (λ (bs : List Blossom). IsBare g bs m) w.left_is bare
+
+  all_here : (a : ℕ) → IsSpread g here m a
+  all_here = subst (λ (bs : List Blossom). (a : ℕ) → IsSpread g bs m a) w.left_is all
+
+  older_is : older_than f.blossoms b ≡ w.older
+  older_is = ap (older_than f.blossoms) (sym w.node) ∙ at.older
+
+  ring_is : ring_of f.blossoms b ≡ w.first.ring
+  ring_is = ap (ring_of f.blossoms) (sym w.node) ∙ at.ring
+
+  -- the end of the mate that lies in the blossom
+  record IsInside (e : ℕ) : Type 0 where
+    vertex : ℕ
+    end : IsEnd g e vertex
+    top : outermost here vertex ≡ w.first.node
+
+  inside_end : (e d : ℕ) → IsPair g here m w.first.node e d → IsInside e
+  inside_end e d p =
       let x = edge_of_within g e can.ends p.edge in
+      ⊎_elim
+      (λ j. record { vertex = (edge_of g e).u; end = record { vertex = range_vertex g.vertices (edge_of g e).u x.u_low x.u_high; end = inl refl }; top = j.0 })
+      (λ j. record { vertex = (edge_of g e).v; end = record { vertex = range_vertex g.vertices (edge_of g e).v x.v_low x.v_high; end = inr refl }; top = j.1 })
+      p.joins
+
+  pub can_open : CanOpen g f m b
+  can_open =
+      let r = mated_here w.first.node outer in
+      let i = inside_end r.0 r.1 r.3 in
+      let v : ℕ = i.vertex in
+      let base : ℕ = outermost w.older v in
       record {
         family = can.family;
         vertices = can.vertices;
         ends = can.ends;
         blossom = named;
-        edge = p.edge;
-        inside = ⊎_elim
-            (λ j. inl (by_node (edge_of g e).u (range_vertex g.vertices (edge_of g e).u x.u_low x.u_high) j.0))
-            (λ j. inr (by_node (edge_of g e).v (range_vertex g.vertices (edge_of g e).v x.v_low x.v_high) j.1))
-            p.joins;
+        ring = subst (λ (bs : List Blossom). IsRing g bs (ring_of f.blossoms b)) (sym older_is) (subst (IsRing g w.older) (sym ring_is) rings.0);
+        edge = r.0;
+        mate = ap m (sym w.node) ∙ r.2;
+        base = base;
+        is_base = record { end = v; end_vertex = i.end.vertex; end_of_edge = i.end.end; end_in = by_node v i.end.vertex i.top; base_holds = ap (λ (bs : List Blossom). outermost bs v) older_is };
+        base_mate = all_here w.first.node r.0 v base r.2 i.end i.top (chain_grows w.first w.older v base (chain_has_top w.older v));
+        only = λ c in_it ne. no_mate (m c) (λ k has.
+            let ring : in_ring w.first.ring c ≡ true = ap (λ (x : List Link). in_ring x c) (sym ring_is) ∙ in_it in
+            let s = bare_here c k (or_left (in_ring w.first.ring c) (is_child w.older c) ring) has in
+            let above = chain_ring g.vertices w.first w.older s.vertex c nested s.end.vertex ring s.holder in
+            let same : k ≡ r.0 = some_same k r.0 (sym s.mate ∙ ap m above.0 ∙ r.2) in
+            ne (sym above.1 ∙ ap (outermost w.older) (one_end g here m w.first.node r.0 r.1 s.vertex v r.3 (subst (λ z. IsEnd g z s.vertex) same s.end) i.end above.0 i.top)));
+        bare = subst (λ (bs : List Blossom). IsBare g bs m) (sym older_is) (older_bare g w.first w.older nested m bare_here all_here);
+        spread = subst (λ (bs : List Blossom). (a : ℕ) → IsSpread g bs m a) (sym older_is) (older_spread g w.first w.older nested m bare_here all_here);
       }
 
-  pub next_step : (n : ℕ → Option ℕ) → Opens g (older_than f.blossoms b) b (ring_of f.blossoms b) (members_of f.blossoms b) m n → ((final : ℕ → Option ℕ) → Unpacks g left m final → Unpacks g f.blossoms m0 final) → IsNextStep g f m0 rest n
-  next_step n o unpacks =
+  pub next_step : (n : ℕ → Option ℕ) → Opens g (older_than f.blossoms b) b (ring_of f.blossoms b) (members_of f.blossoms b) m n → IsBare g (older_than f.blossoms b) n → ((a : ℕ) → IsSpread g (older_than f.blossoms b) n a)
+      → ((final : ℕ → Option ℕ) → Unpacks g left m final → Unpacks g f.blossoms m0 final) → IsNextStep g f m0 rest n
+  next_step n o bare_n all_n unpacks =
       let o1 = subst (λ x. Opens g (older_than f.blossoms x) x (ring_of f.blossoms x) (members_of f.blossoms x) m n) (sym w.node) o in
       let o2 = subst (λ (bs : List Blossom). Opens g bs w.first.node (ring_of f.blossoms w.first.node) (members_of f.blossoms w.first.node) m n) at.older o1 in
       let o3 = subst (λ (r : List Link). Opens g w.older w.first.node r (members_of f.blossoms w.first.node) m n) at.ring o2 in
@@ -130,6 +177,8 @@ module _ (g : Multigraph) (f : Family) (m0 m : ℕ → Option ℕ) (can : CanUnp
         split = split_here ∙ sym (append_assoc opened (w.first ∷ []) w.older);
         names = w.rest_is;
         mated = all_mated g w.first w.older m n nested can.ends rings.0 mated_here o4;
+        bare = subst (λ (bs : List Blossom). IsBare g bs n) older_is bare_n;
+        spread = subst (λ (bs : List Blossom). (a : ℕ) → IsSpread g bs n a) older_is all_n;
         unpacks = λ final u. unpacks final (subst (λ (bs : List Blossom). Unpacks g bs m final) (sym w.left_is) (n, o4, u));
       }
 

@@ -11,7 +11,7 @@ use Rattle.alt_forest.specs.State.{State, IsTight, IsSearchState}
 use Rattle.alt_forest.specs.Searches.{HasShape, IsSound, state_of, label_at, edge_in, put}
 use Rattle.alt_forest.proofs.Places.{outer_range}
 use Rattle.alt_forest.proofs.Relabelled.{outer_not_out, inner_not_out, put_here, put_other}
-use Rattle.augment.specs.Exposed.{exposed_count}
+use Rattle.alt_forest.specs.Counts.{exposed_count}
 use Rattle.augment.specs.Turns.{IsWay, HasMates}
 use Rattle.augment.proofs.Flipped.{with_mates, IsLoose, ends}
 use Rattle.augment.proofs.Exposure.{two_fewer}

@@ -11,7 +11,7 @@ use Rattle.blossom_arena.specs.Family.{Blossom, in_ring, names_of, members_of, r
 use Rattle.blossom_arena.proofs.Lists.{AllNew, first_in, later_in}
 use Rattle.blossom_arena.proofs.Nested.{outermost_parts}
 use Rattle.alt_forest.specs.State.{State, IsOutermost, IsTight, HasRings, IsSearchState}
-use Rattle.augment.specs.Exposed.{IsMatched}
+use Rattle.alt_forest.specs.Counts.{IsMatched}
 use Rattle.augment.specs.Opening.{IsPair, AreMated, Opens}
 use Rattle.augment.proofs.Pairs.{all_mated, used_stays}
 use Rattle.augment.proofs.Left.{IsLeftOnce, left_stays, first_left}
@@ -25,8 +25,8 @@ pub rings_tail : (g : Multigraph) (xs ys : List Blossom) → HasRings g (xs ++ y
 rings_tail g [] ys h = h
 rings_tail g (x ∷ xs) ys h = rings_tail g xs ys h.1
 
-child_tail : (xs : List Blossom) (b : Blossom) (ys : List Blossom) (a : ℕ) → is_child (xs ++ (b ∷ ys)) a ≡ false → in_ring b.ring a ≡ false
-child_tail [] b ys a e = (or_parts (in_ring b.ring a) (is_child ys a) e).0
+child_tail : (xs : List Blossom) (b : Blossom) (ys : List Blossom) (a : ℕ) → is_child (xs ++ (b ∷ ys)) a ≡ false → (in_ring b.ring a ≡ false) × (is_child ys a ≡ false)
+child_tail [] b ys a e = or_parts (in_ring b.ring a) (is_child ys a) e
 child_tail (x ∷ xs) b ys a e = child_tail xs b ys a (or_parts (in_ring x.ring a) (is_child (xs ++ (b ∷ ys)) a) e).1
 
 -- what a family says of one of its blossoms
@@ -64,20 +64,20 @@ pub record AreOpened (s : State) (opened left : List Blossom) (m : ℕ → Optio
   pub kept : (a : ℕ) → IsOutermost s a → m a ≡ s.mate a
 
 -- before any is
-pub none_opened : (s : State) (depth : ℕ → ℕ) → IsSearchState s depth → IsMatched s → AreOpened s [] s.blossoms s.mate
-none_opened s depth st matched = record {
+pub none_opened : (s : State) (depth : ℕ → ℕ) (m : ℕ → Option ℕ) → ((a : ℕ) → IsOutermost s a → m a ≡ s.mate a) → IsSearchState s depth → IsMatched s → AreOpened s [] s.blossoms m
+none_opened s depth m same st matched = record {
   split = refl;
   mated = λ a is. by_mate a is (s.mate a) refl;
-  tight = λ c f is has. let w = (st.mates c f is has).1 in record { edge = w.edge; tight = w.tight };
+  tight = λ c f is has. let w = (st.mates c f is (sym (same c is) ∙ has)).1 in record { edge = w.edge; tight = w.tight };
   once = tt;
-  kept = λ a is. refl;
+  kept = same;
 }
   where
-    by_mate : (a : ℕ) → IsOutermost s a → (o : Option ℕ) → s.mate a ≡ o → (e : ℕ) × (b : ℕ) × (s.mate a ≡ Some e) × IsPair s.graph s.blossoms s.mate a e b
+    by_mate : (a : ℕ) → IsOutermost s a → (o : Option ℕ) → s.mate a ≡ o → (e : ℕ) × (b : ℕ) × (m a ≡ Some e) × IsPair s.graph s.blossoms m a e b
     by_mate a is None none = absurd (matched a (is, none))
     by_mate a is (Some e) has =
         let r = st.mates a e is has in
-        (e, r.0, has, record { edge = r.1.edge; joins = r.1.joins; different = r.1.different; outer = r.1.outer; back = r.1.back })
+        (e, r.0, same a is ∙ has, record { edge = r.1.edge; joins = r.1.joins; different = r.1.different; outer = r.1.outer; back = same r.0 r.1.outer ∙ r.1.back })
 
 -- one more
 pub one_opened : (s : State) (depth : ℕ → ℕ) (opened : List Blossom) (b : Blossom) (older : List Blossom) (m m' : ℕ → Option ℕ) → IsNested s.graph.vertices s.blossoms → All (IsEdgeWithin s.graph.vertices) s.graph.edges → IsSearchState s depth
@@ -93,7 +93,7 @@ one_opened s depth opened b older m m' nested ends st v h =
       tight = used_stays g b older m m' nest ends rings.0 v.mated h (IsTight s) tight.0 v.tight;
       once = each_join (λ (x : Blossom). IsLeftOnce g older m' (λ u. holds x.members u)) opened (b ∷ []) (stay nest rings opened v.once)
           (left_stays g b older m m' nest ends rings.0 v.mated h (λ u. holds b.members u) (first_left g b older m m' nest ends rings.0 v.mated h), tt);
-      kept = λ a is. h.others a (child_tail opened b older a (ap (λ bs. is_child bs a) (sym v.split) ∙ (outermost_parts g.vertices s.blossoms a is).1)) ∙ v.kept a is;
+      kept = λ a is. let p = child_tail opened b older a (ap (λ bs. is_child bs a) (sym v.split) ∙ (outermost_parts g.vertices s.blossoms a is).1) in h.others a p.0 p.1 ∙ v.kept a is;
     }
   where
     stay : IsNested s.graph.vertices (b ∷ older) → HasRings s.graph (b ∷ older) → (xs : List Blossom) → AllByRecursion (λ (x : Blossom). IsLeftOnce s.graph (b ∷ older) m (λ u. holds x.members u)) xs → AllByRecursion (λ (x : Blossom). IsLeftOnce s.graph older m' (λ u. holds x.members u)) xs

@@ -1,33 +1,49 @@
 -- Links that are paired one by one.
-use Rattle.std.proofs.Common.{◌≡◌, ◌≢◌, ℕ, ◌%◌, true, false, ◌||◌, eqb, cond, List, [], ◌∷◌, ◌++◌, length, refl, sym, ap, ◌∙◌, subst, arith, Option, Some, None}
-use Rattle.std.proofs.lemmas.Bool.{eqb-true, eqb-false, or_parts, both_ways}
+use Rattle.std.proofs.Common.{◌≡◌, ◌≢◌, ℕ, true, false, ◌||◌, eqb, cond, List, [], ◌∷◌, ◌++◌, refl, sym, ap, ◌∙◌, subst, Option, Some, None}
+use Rattle.std.specs.Prelude.{is_some}
+use Rattle.std.specs.List.{AllByRecursion}
+use Rattle.std.proofs.lemmas.Bool.{eq-eqb, eqb-true, eqb-false, or_parts, or_left, or_right, both_ways}
 use Rattle.blossom_arena.specs.declared.links.Link.{Link}
-use Rattle.blossom_arena.specs.Family.{nodes_of, in_ring}
-use Rattle.blossom_arena.proofs.Lists.{by_test, AllNew}
-use Rattle.alt_forest.specs.Searches.{put}
-use Rattle.alt_forest.proofs.Relabelled.{put_here, put_other}
-use Rattle.augment.specs.Opening.{links_before, links_after, paired, waiting_after, ArePaired}
+use Rattle.blossom_arena.specs.Family.{in_ring}
+use Rattle.blossom_arena.proofs.Lists.{by_test}
+use Rattle.augment.specs.Opening.{links_before, links_after, paired, first_matched, waiting_after}
 
-pub paired_none : (m : ℕ → Option ℕ) (w : Option Link) → paired m w [] ≡ m
-paired_none m None = refl
-paired_none m (Some k) = refl
+pub paired_none : (step : (ℕ → Option ℕ) → ℕ → ℕ → Option ℕ) (m : ℕ → Option ℕ) (w : Option Link) → paired step m w [] ≡ m
+paired_none step m None = refl
+paired_none step m (Some k) = refl
 
 pub waiting_none : (w : Option Link) → waiting_after w [] ≡ w
 waiting_none None = refl
 waiting_none (Some k) = refl
 
-pub paired_step : (m : ℕ → Option ℕ) (w : Option Link) (l : Link) (ls : List Link) → paired m w (l ∷ ls) ≡ paired (paired m w (l ∷ [])) (waiting_after w (l ∷ [])) ls
-paired_step m None l ls = refl
-paired_step m (Some k) l ls = refl
+pub paired_step : (step : (ℕ → Option ℕ) → ℕ → ℕ → Option ℕ) (m : ℕ → Option ℕ) (w : Option Link) (l : Link) (ls : List Link) → paired step m w (l ∷ ls) ≡ paired step (paired step m w (l ∷ [])) (waiting_after w (l ∷ [])) ls
+paired_step step m None l ls = refl
+paired_step step m (Some k) l ls = refl
 
 pub waiting_step : (w : Option Link) (l : Link) (ls : List Link) → waiting_after w (l ∷ ls) ≡ waiting_after (waiting_after w (l ∷ [])) ls
 waiting_step None l ls = refl
 waiting_step (Some k) l ls = refl
 
-pub paired_append : (m : ℕ → Option ℕ) (w : Option Link) (xs ys : List Link) → paired m w (xs ++ ys) ≡ paired (paired m w xs) (waiting_after w xs) ys
-paired_append m w [] ys = sym (ap (λ n. paired n (waiting_after w []) ys) (paired_none m w) ∙ ap (λ v. paired m v ys) (waiting_none w))
-paired_append m None (l ∷ xs) ys = paired_append m (Some l) xs ys
-paired_append m (Some k) (l ∷ xs) ys = paired_append (put (put m k.node (Some k.edge)) l.node (Some k.edge)) None xs ys
+pub paired_append : (step : (ℕ → Option ℕ) → ℕ → ℕ → Option ℕ) (m : ℕ → Option ℕ) (w : Option Link) (xs ys : List Link) → paired step m w (xs ++ ys) ≡ paired step (paired step m w xs) (waiting_after w xs) ys
+paired_append step m w [] ys = sym (ap (λ n. paired step n (waiting_after w []) ys) (paired_none step m w) ∙ ap (λ v. paired step m v ys) (waiting_none w))
+paired_append step m None (l ∷ xs) ys = paired_append step m (Some l) xs ys
+paired_append step m (Some k) (l ∷ xs) ys = paired_append step (step m k.edge) None xs ys
+
+-- two steps that agree at the edges of the links come to the same mates
+pub paired_same : (step other : (ℕ → Option ℕ) → ℕ → ℕ → Option ℕ) (m : ℕ → Option ℕ) (ls : List Link) → AllByRecursion (λ (l : Link). (n : ℕ → Option ℕ) → step n l.edge ≡ other n l.edge) ls → paired step m None ls ≡ paired other m None ls
+paired_same step other m [] each = refl
+paired_same step other m (l ∷ []) each = refl
+paired_same step other m (l ∷ (k ∷ ls)) each = paired_same step other (step m l.edge) ls each.1.1 ∙ ap (λ n. paired other n None ls) (each.0 m)
+
+-- the one node of the links that has a mate is the first one
+pub first_is : (m : ℕ → Option ℕ) (ls : List Link) (base e : ℕ) → in_ring ls base ≡ true → m base ≡ Some e → ((c : ℕ) → in_ring ls c ≡ true → c ≢ base → m c ≡ None) → first_matched m ls ≡ base
+first_is m [] base e r has only = absurd (both_ways false refl r)
+first_is m (l ∷ ls) base e r has only = by_test (eqb l.node base)
+    (λ t. let same : l.node ≡ base = eqb-true l.node base t in
+    ap (λ o. cond (is_some o) l.node (first_matched m ls)) (ap m same ∙ has) ∙ same)
+    (λ f. let none : m l.node ≡ None = only l.node (or_left (eqb l.node l.node) (in_ring ls l.node) (eq-eqb l.node l.node refl)) (eqb-false l.node base f) in
+    ap (λ o. cond (is_some o) l.node (first_matched m ls)) none
+    ∙ first_is m ls base e (sym (ap (λ t. t || in_ring ls base) f) ∙ r) has (λ c i. only c (or_right (eqb l.node c) (in_ring ls c) i)))
 
 -- the links stop at the node
 pub before_here : (l : Link) (ls : List Link) (a : ℕ) → l.node ≡ a → links_before (l ∷ ls) a ≡ []
@@ -65,36 +81,12 @@ parted_at (l ∷ ls) a e = by_test (eqb l.node a)
       split = ap (λ x. l ∷ x) r.split ∙ sym (ap (λ x. x ++ (r.base ∷ links_after (l ∷ ls) a)) (before_past l ls a ne) ∙ ap (λ x. l ∷ (links_before ls a ++ (r.base ∷ x))) (after_past l ls a ne));
     })
 
--- what isn't among the links keeps its mate
-pub paired_other : (m : ℕ → Option ℕ) (ls : List Link) (c : ℕ) → in_ring ls c ≡ false → paired m None ls c ≡ m c
-paired_other m [] c e = refl
-paired_other m (l ∷ []) c e = refl
-paired_other m (l ∷ (k ∷ ls)) c e =
-    let p = or_parts (eqb l.node c) (in_ring (k ∷ ls) c) e in
-    let q = or_parts (eqb k.node c) (in_ring ls c) p.1 in
-    paired_other (put (put m l.node (Some l.edge)) k.node (Some l.edge)) ls c q.1
-    ∙ put_other (put m l.node (Some l.edge)) k.node (Some l.edge) c (λ s. eqb-false k.node c q.0 (sym s))
-    ∙ put_other m l.node (Some l.edge) c (λ s. eqb-false l.node c p.0 (sym s))
-
--- an even number of links with different nodes is paired
-pub are_paired : (m : ℕ → Option ℕ) (ls : List Link) → AllNew (nodes_of ls) → length ls % 2 ≡ 0 → ArePaired (paired m None ls) ls
-are_paired m [] new even = tt
-are_paired m (l ∷ []) new even = absurd (omega (arith, even))
-are_paired m (l ∷ (k ∷ ls)) new even =
-    let m' : ℕ → Option ℕ = put (put m l.node (Some l.edge)) k.node (Some l.edge) in
-    let p = or_parts (eqb k.node l.node) (in_ring ls l.node) new.0 in
-    let ne : l.node ≢ k.node = λ s. eqb-false k.node l.node p.0 (sym s) in (
-      paired_other m' ls l.node p.1 ∙ put_other (put m l.node (Some l.edge)) k.node (Some l.edge) l.node ne ∙ put_here m l.node (Some l.edge),
-      paired_other m' ls k.node new.1.0 ∙ put_here (put m l.node (Some l.edge)) k.node (Some l.edge),
-      are_paired m' ls new.1.1 (omega (arith, even)),
-    )
-
 -- one link more is paired
-pub weave : (m n : ℕ → Option ℕ) (w w' : Option Link) (l : Link) (it ls : List Link) (a : ℕ) (target : ℕ → Option ℕ) → it ≡ l ∷ ls → l.node ≢ a → n ≡ paired m w (l ∷ []) → w' ≡ waiting_after w (l ∷ [])
-    → paired m w (links_before it a) ≡ target → paired n w' (links_before ls a) ≡ target
-weave m n w w' l it ls a target step ne is then h =
-    ap (λ f. paired f w' (links_before ls a)) is ∙ ap (λ v. paired (paired m w (l ∷ [])) v (links_before ls a)) then
-    ∙ sym (ap (λ x. paired m w (links_before x a)) step ∙ ap (paired m w) (before_past l ls a ne) ∙ paired_step m w l (links_before ls a)) ∙ h
+pub weave : (pairs : (ℕ → Option ℕ) → ℕ → ℕ → Option ℕ) (m n : ℕ → Option ℕ) (w w' : Option Link) (l : Link) (it ls : List Link) (a : ℕ) (target : ℕ → Option ℕ) → it ≡ l ∷ ls → l.node ≢ a → n ≡ paired pairs m w (l ∷ []) → w' ≡ waiting_after w (l ∷ [])
+    → paired pairs m w (links_before it a) ≡ target → paired pairs n w' (links_before ls a) ≡ target
+weave pairs m n w w' l it ls a target step ne is then h =
+    ap (λ f. paired pairs f w' (links_before ls a)) is ∙ ap (λ v. paired pairs (paired pairs m w (l ∷ [])) v (links_before ls a)) then
+    ∙ sym (ap (λ x. paired pairs m w (links_before x a)) step ∙ ap (paired pairs m w) (before_past l ls a ne) ∙ paired_step pairs m w l (links_before ls a)) ∙ h
 
 pub wait : (w w' : Option Link) (l : Link) (it ls : List Link) (a : ℕ) (target : Option Link) → it ≡ l ∷ ls → l.node ≢ a → w' ≡ waiting_after w (l ∷ []) → waiting_after w (links_before it a) ≡ target → waiting_after w' (links_before ls a) ≡ target
 wait w w' l it ls a target step ne then h =
@@ -115,8 +107,8 @@ waits P (Some k) w' l x h then is = absurd (subst there (sym is ∙ then) tt)
     there (Some y) = Unit {0}
 
 -- where the links stop
-pub stop_here : (m : ℕ → Option ℕ) (w : Option Link) (l : Link) (it ls : List Link) (a : ℕ) (target : ℕ → Option ℕ) → it ≡ l ∷ ls → l.node ≡ a → paired m w (links_before it a) ≡ target → m ≡ target
-stop_here m w l it ls a target step here h = sym (ap (λ x. paired m w (links_before x a)) step ∙ ap (paired m w) (before_here l ls a here) ∙ paired_none m w) ∙ h
+pub stop_here : (pairs : (ℕ → Option ℕ) → ℕ → ℕ → Option ℕ) (m : ℕ → Option ℕ) (w : Option Link) (l : Link) (it ls : List Link) (a : ℕ) (target : ℕ → Option ℕ) → it ≡ l ∷ ls → l.node ≡ a → paired pairs m w (links_before it a) ≡ target → m ≡ target
+stop_here pairs m w l it ls a target step here h = sym (ap (λ x. paired pairs m w (links_before x a)) step ∙ ap (paired pairs m w) (before_here l ls a here) ∙ paired_none pairs m w) ∙ h
 
-pub stop_end : (m : ℕ → Option ℕ) (w : Option Link) (it : List Link) (a : ℕ) (target : ℕ → Option ℕ) → it ≡ [] → paired m w (links_before it a) ≡ target → m ≡ target
-stop_end m w it a target none h = sym (ap (λ x. paired m w (links_before x a)) none ∙ paired_none m w) ∙ h
+pub stop_end : (pairs : (ℕ → Option ℕ) → ℕ → ℕ → Option ℕ) (m : ℕ → Option ℕ) (w : Option Link) (it : List Link) (a : ℕ) (target : ℕ → Option ℕ) → it ≡ [] → paired pairs m w (links_before it a) ≡ target → m ≡ target
+stop_end pairs m w it a target none h = sym (ap (λ x. paired pairs m w (links_before x a)) none ∙ paired_none pairs m w) ∙ h

@@ -1,4 +1,3 @@
-pub mod Exposed
 pub mod Turns
 pub mod Matching
 pub mod Opening

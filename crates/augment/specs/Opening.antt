@@ -1,10 +1,10 @@
 -- A blossom that is opened: its circuit is matched. Only clauses of private calls cite this module.
-use Rattle.std.specs.Prelude.{◌≡◌, ◌⊎◌, ◌≢◌, ℕ, true, false, ◌==◌, if◌then◌else◌, List, [], ◌∷◌, ◌++◌, Option, Some, None, All}
+use Rattle.std.specs.Prelude.{◌≡◌, ◌⊎◌, ◌≢◌, ℕ, true, false, ◌==◌, if◌then◌else◌, List, [], ◌∷◌, ◌++◌, Option, Some, None, is_some, All}
 use Rattle.graph_theory.specs.Graph.{Multigraph, IsEdgeWithin, IsEdgeNumber, edge_of}
 use Rattle.graph_theory.specs.Parts.{holds}
 use Rattle.blossom_arena.specs.declared.links.Link.{Link}
-use Rattle.blossom_arena.specs.Family.{Blossom, Family, IsFamily, in_ring, names_of, members_of, child_holding, outermost, is_outermost}
-use Rattle.alt_forest.specs.State.{Joins, HasRings}
+use Rattle.blossom_arena.specs.Family.{Blossom, Family, IsFamily, in_ring, names_of, members_of, ring_of, older_than, child_holding, chain_of, outermost, is_vertex, is_child, is_outermost}
+use Rattle.alt_forest.specs.State.{Joins, IsRing, HasRings}
 use Rattle.alt_forest.specs.Searches.{put}
 
 -- the links before the one of this node, and those after it
@@ -16,12 +16,35 @@ abbrev pub links_after : List Link → ℕ → List Link
 links_after [] a = []
 links_after (l ∷ rest) a = if l.node == a then rest else links_after rest a
 
+-- the table with an edge at each of these nodes
+abbrev pub marked : (ℕ → Option ℕ) → List ℕ → ℕ → ℕ → Option ℕ
+marked m [] e = m
+marked m (c ∷ cs) e = marked (put m c (Some e)) cs e
+
+-- the nodes before one of them
+abbrev pub up_to : List ℕ → ℕ → List ℕ
+up_to [] b = []
+up_to (c ∷ cs) b = if c == b then [] else c ∷ up_to cs b
+
+-- the table with an edge at each node that holds an end of it
+abbrev pub spread : Multigraph → List Blossom → (ℕ → Option ℕ) → ℕ → ℕ → Option ℕ
+spread g bs m e = marked (marked m (chain_of bs (edge_of g e).u) e) (chain_of bs (edge_of g e).v) e
+
+-- and, of these nodes, at those within a blossom alone
+abbrev pub spread_in : Multigraph → List Blossom → ℕ → (ℕ → Option ℕ) → ℕ → ℕ → Option ℕ
+spread_in g bs b m e = marked (marked m (up_to (chain_of bs (edge_of g e).u) b) e) (up_to (chain_of bs (edge_of g e).v) b) e
+
 -- the mates once links are paired, two by two, where one may wait for its second
-abbrev pub paired : (ℕ → Option ℕ) → Option Link → List Link → ℕ → Option ℕ
-paired m None [] = m
-paired m (Some k) [] = m
-paired m None (l ∷ rest) = paired m (Some l) rest
-paired m (Some k) (l ∷ rest) = paired (put (put m k.node (Some k.edge)) l.node (Some k.edge)) None rest
+abbrev pub paired : ((ℕ → Option ℕ) → ℕ → ℕ → Option ℕ) → (ℕ → Option ℕ) → Option Link → List Link → ℕ → Option ℕ
+paired step m None [] = m
+paired step m (Some k) [] = m
+paired step m None (l ∷ rest) = paired step m (Some l) rest
+paired step m (Some k) (l ∷ rest) = paired step (step m k.edge) None rest
+
+-- the first node of these links that has a mate
+abbrev pub first_matched : (ℕ → Option ℕ) → List Link → ℕ
+first_matched m [] = 0
+first_matched m (l ∷ rest) = if is_some (m l.node) then l.node else first_matched m rest
 
 -- which link waits after these
 abbrev pub waiting_after : Option Link → List Link → Option Link
@@ -48,24 +71,53 @@ pub record IsPair (g : Multigraph) (bs : List Blossom) (m : ℕ → Option ℕ) 
 abbrev pub AreMated : Multigraph → List Blossom → (ℕ → Option ℕ) → Type 0
 AreMated g bs m = (a : ℕ) → is_outermost g.vertices bs a ≡ true → (e : ℕ) × (b : ℕ) × (m a ≡ Some e) × IsPair g bs m a e b
 
--- a blossom of the family on the graph's vertices, and an edge with an end in it
-pub record CanOpen (g : Multigraph) (f : Family) (b e : ℕ) : Type 0 where
-  pub family : IsFamily f
-  pub vertices : f.vertex_count ≡ g.vertices
-  pub ends : All (IsEdgeWithin g.vertices) g.edges
-  pub blossom : holds (names_of f.blossoms) b ≡ true
-  pub edge : IsEdgeNumber g e
-  pub inside : (holds (members_of f.blossoms b) (edge_of g e).u ≡ true) ⊎ (holds (members_of f.blossoms b) (edge_of g e).v ≡ true)
+-- a vertex at an end of an edge
+pub record IsEnd (g : Multigraph) (e v : ℕ) : Type 0 where
+  pub vertex : is_vertex g.vertices v ≡ true
+  pub end : (v ≡ (edge_of g e).u) ⊎ (v ≡ (edge_of g e).v)
+
+-- the mate of an outermost node is kept at each node that holds its end there
+abbrev pub IsSpread : Multigraph → List Blossom → (ℕ → Option ℕ) → ℕ → Type 0
+IsSpread g bs m a = (f v c : ℕ) → m a ≡ Some f → IsEnd g f v → outermost bs v ≡ a → holds (chain_of bs v) c ≡ true → m c ≡ Some f
+
+-- an edge is the mate of an outermost node, and has an end in this node
+pub record IsFromAbove (g : Multigraph) (bs : List Blossom) (m : ℕ → Option ℕ) (c f : ℕ) : Type 0 where
+  pub vertex : ℕ
+  pub end : IsEnd g f vertex
+  pub holder : holds (chain_of bs vertex) c ≡ true
+  pub mate : m (outermost bs vertex) ≡ Some f
+
+-- a node within another one has at most the edge that is spread to it
+abbrev pub IsBare : Multigraph → List Blossom → (ℕ → Option ℕ) → Type 0
+IsBare g bs m = (c f : ℕ) → is_child bs c ≡ true → m c ≡ Some f → IsFromAbove g bs m c f
 
 -- the child of the blossom that holds an end of the edge
 pub record IsBase (g : Multigraph) (bs : List Blossom) (b e base : ℕ) : Type 0 where
   pub end : ℕ
+  pub end_vertex : is_vertex g.vertices end ≡ true
   pub end_of_edge : (end ≡ (edge_of g e).u) ⊎ (end ≡ (edge_of g e).v)
   pub end_in : holds (members_of bs b) end ≡ true
   pub base_holds : child_holding bs b end ≡ base
 
+-- a blossom of the family on the graph's vertices that has a mate; of the nodes of its circuit one has a mate, the same,
+-- which ends there
+pub record CanOpen (g : Multigraph) (f : Family) (m : ℕ → Option ℕ) (b : ℕ) : Type 0 where
+  pub family : IsFamily f
+  pub vertices : f.vertex_count ≡ g.vertices
+  pub ends : All (IsEdgeWithin g.vertices) g.edges
+  pub blossom : holds (names_of f.blossoms) b ≡ true
+  pub ring : IsRing g (older_than f.blossoms b) (ring_of f.blossoms b)
+  pub edge : ℕ
+  pub mate : m b ≡ Some edge
+  pub base : ℕ
+  pub is_base : IsBase g f.blossoms b edge base
+  pub base_mate : m base ≡ Some edge
+  pub only : (c : ℕ) → in_ring (ring_of f.blossoms b) c ≡ true → c ≢ base → m c ≡ None
+  pub bare : IsBare g (older_than f.blossoms b) m
+  pub spread : (a : ℕ) → IsSpread g (older_than f.blossoms b) m a
+
 -- The circuit of a blossom is matched: the child that holds the end of the blossom's mate takes that edge, and the
--- others, from behind it round to it, are paired.
+-- others, from behind it round to it, are paired. Nodes within these may change their mates.
 pub record Opens (g : Multigraph) (older : List Blossom) (node : ℕ) (ring : List Link) (members : List ℕ) (m n : ℕ → Option ℕ) : Type 0 where
   pub before : List Link
   pub base : Link
@@ -79,17 +131,28 @@ pub record Opens (g : Multigraph) (older : List Blossom) (node : ℕ) (ring : Li
   pub base_holds : outermost older end ≡ base.node
   pub new_base : n base.node ≡ Some edge
   pub new_pairs : ArePaired n (behind ++ before)
-  pub others : (c : ℕ) → in_ring ring c ≡ false → n c ≡ m c
+  pub others : (c : ℕ) → in_ring ring c ≡ false → is_child older c ≡ false → n c ≡ m c
 
 -- the blossoms are opened one after the other, the newest first
 abbrev pub Unpacks : Multigraph → List Blossom → (ℕ → Option ℕ) → (ℕ → Option ℕ) → Type 0
 Unpacks g [] m final = final ≡ m
 Unpacks g (b ∷ older) m final = (n : ℕ → Option ℕ) × Opens g older b.node b.ring b.members m n × Unpacks g older n final
 
--- a family on the graph's vertices with its circuits, in which each outermost node has a mate
+-- a family on the graph's vertices in which each outermost node has a mate, and nodes within have at most that
+pub record CanMark (g : Multigraph) (f : Family) (m : ℕ → Option ℕ) : Type 0 where
+  pub family : IsFamily f
+  pub vertices : f.vertex_count ≡ g.vertices
+  pub ends : All (IsEdgeWithin g.vertices) g.edges
+  pub mated : AreMated g f.blossoms m
+  pub bare : IsBare g f.blossoms m
+
+-- a family on the graph's vertices with its circuits, in which each outermost node has a mate, which is kept at the
+-- nodes within as well
 pub record CanUnpack (g : Multigraph) (f : Family) (m : ℕ → Option ℕ) : Type 0 where
   pub family : IsFamily f
   pub vertices : f.vertex_count ≡ g.vertices
   pub ends : All (IsEdgeWithin g.vertices) g.edges
   pub rings : HasRings g f.blossoms
   pub mated : AreMated g f.blossoms m
+  pub bare : IsBare g f.blossoms m
+  pub spread : (a : ℕ) → IsSpread g f.blossoms m a

@@ -5,7 +5,7 @@ ghost use Rattle.alt_forest.specs.State.{IsOutermost};
 ghost use Rattle.alt_forest.specs.Trees.{other_node};
 ghost use Rattle.alt_forest.specs.Events.{CanAugment};
 ghost use Rattle.alt_forest.specs.Searches.{HasShape, IsSound, state_of, label_at, edge_in};
-ghost use Rattle.augment.specs.Exposed.{exposed_count};
+ghost use Rattle.alt_forest.specs.Counts.{exposed_count, tree_count};
 ghost use Rattle.augment.specs.Turns.{IsWay, HasParent, HasMates};
 
 use alt_forest::{Label, Search, set_edge};
@@ -144,6 +144,7 @@ pub fn flip<L: Ledger>(search: &mut Search, graph: &Graph, e: EdgeId, steps: &mu
     ensures labels { (a : ℕ) → label_at search.new.labels.items a ≡ Out }
     ensures rest { search.new ≡ record search.old { labels = search.new.labels; mates = search.new.mates } }
     ensures fewer { exposed_count (state_of search.new) + 2 ≡ exposed_count (state_of search.old) }
+    ensures trees { tree_count (state_of search.new) ≡ 0 }
     ensures steps_low { steps.old + 1 ≤ steps.new }
     ensures steps_high { steps.new ≤ steps.old + 1 + length graph.now.edges }
 {

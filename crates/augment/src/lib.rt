@@ -4,6 +4,7 @@
 #![tactic(auto)]
 
 mod flips;
+mod marking;
 mod opening;
 #[cfg(test)]
 mod tests;

@@ -1,44 +1,32 @@
-ghost use Rattle.std.specs.Prelude.{◌≡◌, ◌<◌, ◌+◌, ℕ, true, [], ◌∷◌, None, Some, is_some, vec_len, length};
+ghost use Rattle.std.specs.Prelude.{◌≡◌, ◌<◌, ◌+◌, ℕ, true, [], ◌∷◌, None, Some, vec_len, length};
 ghost use Rattle.std.specs.List.{AllByRecursion};
 ghost use Rattle.std.specs.Option.{ForSome};
-ghost use Rattle.graph_theory.specs.Graph.{IsEdgeNumber, IsPerfect, edge_of};
-ghost use Rattle.graph_theory.specs.Parts.{holds};
+ghost use Rattle.graph_theory.specs.Graph.{IsEdgeNumber, IsPerfect};
 ghost use Rattle.blossom_arena.specs.declared.links.Link.{Link};
-ghost use Rattle.blossom_arena.specs.Family.{Blossom, is_vertex, names_of, ring_of, members_of, older_than, chain_of, room_of};
+ghost use Rattle.blossom_arena.specs.Family.{Blossom, is_vertex, ring_of, members_of, older_than, room_of};
 ghost use Rattle.alt_forest.specs.State.{IsOutermost, IsTight};
 ghost use Rattle.alt_forest.specs.Searches.{IsSound, state_of, edge_in};
-ghost use Rattle.augment.specs.Exposed.{IsMatched};
+ghost use Rattle.alt_forest.specs.Counts.{IsMatched};
 ghost use Rattle.augment.specs.Matching.{IsVertexMate, mate_counts, leaving};
-ghost use Rattle.augment.specs.Opening.{IsBase, CanOpen, CanUnpack, Opens, Unpacks, links_before, links_after, paired, waiting_after};
+ghost use Rattle.augment.specs.Opening.{IsBare, IsSpread, CanOpen, CanUnpack, Opens, Unpacks, links_before, links_after, spread_in, paired, first_matched, waiting_after};
 
-use alt_forest::{Search, set_edge};
+use crate::marking::{clear_children, mark_ends, mark_mates};
+use alt_forest::Search;
 use blossom_arena::{Arena, Link, NodeId, Ring};
-use mb_base::{EdgeId, VertexId};
+use mb_base::EdgeId;
 use weighted_graph::Graph;
 
-/// Whether a node holds a vertex.
-fn is_inside(arena: &Arena, node: NodeId, v: VertexId) -> bool
-    requires { is_vertex arena.now.vertex_count v ≡ true }
-    ensures { result ≡ holds (chain_of arena.now.blossoms v) node }
+/// The first node of a circuit's links that has an edge kept for it, or 0 if none has.
+fn matched_node(mates: &[Option<EdgeId>], links: Ring<'_>) -> NodeId
+    requires { AllByRecursion (λ (l : Link). l.node < length mates.now) links }
+    ensures { result ≡ first_matched (edge_in mates.now) links.entry }
 {
-    for holder in arena.chain(v) {
-        if holder.number() == node.number() {
-            return true;
+    for link in links {
+        if mates[link.node.number() as usize].is_some() {
+            return link.node;
         }
     }
-    false
-}
-
-/// The child of a blossom that holds the end of an edge that has one end in it.
-fn base_of(arena: &Arena, graph: &Graph, b: NodeId, e: EdgeId) -> NodeId
-    requires can { CanOpen graph.now arena.now b e }
-    ensures { IsBase graph.now arena.now.blossoms b e result }
-{
-    let (u, v, _) = graph.edge(e);
-    if is_inside(arena, b, u) {
-        return arena.child_holding(b, u);
-    }
-    arena.child_holding(b, v)
+    NodeId::new(0)
 }
 
 /// The links of a circuit after that of a node.
@@ -54,36 +42,50 @@ fn links_behind(links: Ring<'_>, node: NodeId) -> Ring<'_>
     rest
 }
 
-/// Matches a link's node with that of the link that waits, or lets it wait if there is none.
-fn pair(mates: &mut Vec<Option<EdgeId>>, waiting: Option<Link>, link: Link) -> Option<Link>
-    requires first { ForSome waiting (λ (k : Link). k.node < vec_len mates.old) }
-    requires second { link.node < vec_len mates.old }
-    ensures mates { edge_in mates.new.items ≡ paired (edge_in mates.old.items) waiting (link ∷ []) }
+/// Matches a link's node with that of the link that waits, or lets it wait if there is none. The edge
+/// between them is kept for the nodes within them that hold its ends, too.
+fn pair(
+    arena: &Arena,
+    graph: &Graph,
+    mates: &mut Vec<Option<EdgeId>>,
+    b: NodeId,
+    waiting: Option<Link>,
+    link: Link,
+) -> Option<Link>
+    requires vertices { arena.now.vertex_count ≡ graph.now.vertices }
+    requires places { arena.now.vertex_count + room_of arena.now.vertex_count < vec_len mates.old }
+    requires first { ForSome waiting (λ (k : Link). IsEdgeNumber graph.now k.edge) }
+    ensures mates { edge_in mates.new.items ≡ paired (spread_in graph.now arena.now.blossoms b) (edge_in mates.old.items) waiting (link ∷ []) }
     ensures waiting { result ≡ waiting_after waiting (link ∷ []) }
     ensures len { vec_len mates.new ≡ vec_len mates.old }
 {
     match waiting {
         Some(first) => {
-            set_edge(mates, first.node, Some(first.edge));
-            set_edge(mates, link.node, Some(first.edge));
+            mark_ends(arena, graph, mates, b, first.edge);
             None
         }
         None => Some(link),
     }
 }
 
-/// Matches the nodes of links two by two, up to that of a node, and answers the one that still waits.
+/// Matches the nodes of a blossom's links two by two, up to that of a node, and answers the link that
+/// still waits.
 fn pair_until(
+    arena: &Arena,
+    graph: &Graph,
     mates: &mut Vec<Option<EdgeId>>,
+    b: NodeId,
     links: Ring<'_>,
     node: NodeId,
     waiting: Option<Link>,
 ) -> Option<Link>
-    requires first { ForSome waiting (λ (k : Link). k.node < vec_len mates.old) }
-    requires each { AllByRecursion (λ (l : Link). l.node < vec_len mates.old) links }
-    ensures mates { edge_in mates.new.items ≡ paired (edge_in mates.old.items) waiting (links_before links.entry node) }
+    requires vertices { arena.now.vertex_count ≡ graph.now.vertices }
+    requires places { arena.now.vertex_count + room_of arena.now.vertex_count < vec_len mates.old }
+    requires first { ForSome waiting (λ (k : Link). IsEdgeNumber graph.now k.edge) }
+    requires each { AllByRecursion (λ (l : Link). IsEdgeNumber graph.now l.edge) links }
+    ensures mates { edge_in mates.new.items ≡ paired (spread_in graph.now arena.now.blossoms b) (edge_in mates.old.items) waiting (links_before links.entry node) }
     ensures waiting { result ≡ waiting_after waiting (links_before links.entry node) }
-    ensures first { ForSome result (λ (k : Link). k.node < vec_len mates.new) }
+    ensures first { ForSome result (λ (k : Link). IsEdgeNumber graph.now k.edge) }
     ensures len { vec_len mates.new ≡ vec_len mates.old }
 {
     let mut first = waiting;
@@ -91,36 +93,25 @@ fn pair_until(
         if link.node.number() == node.number() {
             return first;
         }
-        first = pair(mates, first, link);
+        first = pair(arena, graph, mates, b, first, link);
     }
     first
 }
 
-/// Opens a blossom: the child that holds the end of the blossom's mate takes that edge, and the others
-/// are paired round the circuit.
-fn open(arena: &Arena, graph: &Graph, mates: &mut Vec<Option<EdgeId>>, b: NodeId, e: EdgeId)
-    requires can { CanOpen graph.now arena.now b e }
-    requires mate { edge_in mates.old.items b ≡ Some e }
+/// Opens a blossom: its child that holds the end of the blossom's mate, for which that edge is kept
+/// already, keeps it, and the others are paired round the circuit.
+fn open(arena: &Arena, graph: &Graph, mates: &mut Vec<Option<EdgeId>>, b: NodeId)
+    requires can { CanOpen graph.now arena.now (edge_in mates.old.items) b }
     requires places { arena.now.vertex_count + room_of arena.now.vertex_count < vec_len mates.old }
     ensures opens { Opens graph.now (older_than arena.now.blossoms b) b (ring_of arena.now.blossoms b) (members_of arena.now.blossoms b) (edge_in mates.old.items) (edge_in mates.new.items) }
+    ensures bare { IsBare graph.now (older_than arena.now.blossoms b) (edge_in mates.new.items) }
+    ensures spread { (a : ℕ) → IsSpread graph.now (older_than arena.now.blossoms b) (edge_in mates.new.items) a }
     ensures len { vec_len mates.new ≡ vec_len mates.old }
 {
-    let base = base_of(arena, graph, b, e);
-    set_edge(mates, base, Some(e));
-    let waiting = pair_until(mates, links_behind(arena.ring(b), base), base, None);
-    pair_until(mates, arena.ring(b), base, waiting);
-}
-
-/// The edge that is kept for a node that has one.
-fn kept_edge(edges: &[Option<EdgeId>], node: NodeId) -> EdgeId
-    requires place { node < length edges.now }
-    requires some { is_some (edge_in edges.now node) ≡ true }
-    ensures { Some result ≡ edge_in edges.now node }
-{
-    match edges[node.number() as usize] {
-        Some(e) => e,
-        None => unreachable!(),
-    }
+    let base = matched_node(mates, arena.ring(b));
+    let behind = links_behind(arena.ring(b), base);
+    let waiting = pair_until(arena, graph, mates, b, behind, base, None);
+    pair_until(arena, graph, mates, b, arena.ring(b), base, waiting);
 }
 
 /// Opens all blossoms, the newest first.
@@ -131,16 +122,15 @@ fn open_all(arena: &Arena, graph: &Graph, mates: &mut Vec<Option<EdgeId>>)
     ensures len { vec_len mates.new ≡ vec_len mates.old }
 {
     for b in arena.blossoms() {
-        let e = kept_edge(mates, b);
-        open(arena, graph, mates, b, e);
+        open(arena, graph, mates, b);
     }
 }
 
 /// Gives each vertex its edge of a perfect matching, where each outermost node has a mate: the blossoms
 /// are opened, the newest first, and the circuit of each is matched round the child that holds the end
 /// of the blossom's mate (chapters 24 and 26). The blossoms and all else stay. It takes time linear in
-/// the vertices and circuits and, for each blossom, in the nodes that hold the ends of its mate, and no
-/// memory.
+/// the vertices and the circuits, since an edge of the matching is kept for all nodes that hold its ends
+/// as soon as it is known, and the nodes on each way up are those of no other; and it takes no memory.
 pub fn unpack(search: &mut Search)
     requires sound { IsSound search.old }
     requires matched { IsMatched (state_of search.old) }
@@ -152,5 +142,7 @@ pub fn unpack(search: &mut Search)
     ensures outer { (a : ℕ) → IsOutermost (state_of search.old) a → edge_in search.new.mates.items a ≡ edge_in search.old.mates.items a }
     ensures rest { search.new ≡ record search.old { mates = search.new.mates } }
 {
+    clear_children(&search.arena, &mut search.mates);
+    mark_mates(&search.arena, &search.graph, &mut search.mates);
     open_all(&search.arena, &search.graph, &mut search.mates);
 }

@@ -1,13 +1,14 @@
-ghost use Rattle.std.specs.Prelude.{◌≡◌, ◌↔◌, ◌<◌, ◌==◌, ℕ, pos, true, None, nat_eq, All, IfOk};
+ghost use Rattle.std.specs.Prelude.{◌≡◌, ◌↔◌, ◌<◌, ◌≤◌, ◌≤ℤ◌, ◌==◌, ℕ, pos, true, None, nat_eq, All, IfOk};
 ghost use Rattle.std.specs.List.{IsDistinct, list_any};
-ghost use Rattle.graph_theory.specs.Graph.{IsEdgeNumber};
+ghost use Rattle.graph_theory.specs.Graph.{IsEdgeNumber, IsWeight};
 ghost use Rattle.blossom_arena.specs.declared.links.Link.{Link};
 ghost use Rattle.blossom_arena.specs.Family.{IsCircuit, is_outermost, nodes_of};
 ghost use Rattle.alt_forest.specs.declared.label.Label.TheVariants.{Outer, Out};
 ghost use Rattle.alt_forest.specs.State.{IsOutermost, IsExposed, slack_of};
 ghost use Rattle.alt_forest.specs.Events.{CanAugment};
-ghost use Rattle.alt_forest.specs.Searches.{IsSearchGraph, HasShape, IsSound, state_of, label_at, edge_in};
-ghost use Rattle.augment.specs.Exposed.{IsMatched};
+ghost use Rattle.alt_forest.specs.declared.label.Weights.TheVariants.{Given};
+ghost use Rattle.alt_forest.specs.Searches.{IsSearchGraph, HasShape, IsSound, IsStart, state_of, label_at, edge_in};
+ghost use Rattle.alt_forest.specs.Counts.{IsMatched};
 
 use super::*;
 use crate::flips::mate_of;
@@ -45,17 +46,25 @@ fn circuit_graph(alloc: Global) -> Result<Graph, OutOfMemory> {
     Ok(graph)
 }
 
-/// A triangle 1, 2, 3; a path 3, 4, 5, 1; and 6 beside 2.
-fn nested_graph(alloc: Global) -> Result<Graph, OutOfMemory> {
+/// A triangle 1, 2, 3; a path 3, 4, 5, 1 and a path 5, 6, 7, 2 that make greater odd circuits of it;
+/// the edge 10 from one of these to 8; and the edge 11 from 7 to 8, which isn't tight.
+fn nested_graph(alloc: Global, end: u32) -> Result<Graph, OutOfMemory>
+    requires low { 1 ≤ end }
+    requires high { end ≤ 7 }
+{
     let v = VertexId::new;
-    let mut graph = Graph::new(alloc, 6);
+    let mut graph = Graph::new(alloc, 8);
     graph.add(v(1), v(2), 1)?;
     graph.add(v(2), v(3), 1)?;
     graph.add(v(3), v(1), 1)?;
     graph.add(v(3), v(4), 1)?;
     graph.add(v(4), v(5), 1)?;
     graph.add(v(5), v(1), 1)?;
-    graph.add(v(2), v(6), 1)?;
+    graph.add(v(5), v(6), 1)?;
+    graph.add(v(6), v(7), 1)?;
+    graph.add(v(7), v(2), 1)?;
+    graph.add(v(end), v(8), 1)?;
+    graph.add(v(7), v(8), 3)?;
     Ok(graph)
 }
 
@@ -69,13 +78,30 @@ fn is_small(graph: &Graph) -> bool
     graph.edges() <= 1_048_576
 }
 
-/// A new search in which each edge weighs 0, if the graph is within the limits.
+/// Whether no weight is below a start.
+fn can_start(graph: &Graph, start: i64) -> bool
+    requires { IsWeight start }
+    ensures { result ≡ true → IsStart graph.now Given start }
+{
+    for place in 0..graph.edges() {
+        let (_, _, w) = graph.edge(EdgeId::new(place + 1));
+        if w < start {
+            return false;
+        }
+    }
+    true
+}
+
+/// A new search that starts at 1, so that edges of weight 1 are tight, if the graph is within the limits.
 fn fresh(alloc: Global, graph: &Graph) -> Result<Option<Search>, OutOfMemory> {
     if !is_small(graph) {
         return Ok(None);
     }
     let mut search = Search::new(alloc, graph)?;
-    search.reset(graph, Weights::Zero, 0);
+    if !can_start(graph, 1) {
+        return Ok(None);
+    }
+    search.reset(graph, Weights::Given, 1);
     Ok(Some(search))
 }
 
@@ -318,6 +344,78 @@ fn unpacks(search: &mut Search) -> bool {
     check_search(search)
 }
 
+/// Whether an edge is the mate of its first end.
+fn is_taken(search: &Search, e: EdgeId) -> bool
+    requires { IsEdgeNumber search.now.graph e }
+{
+    let (u, _, _) = search.graph.edge(e);
+    match search.mates.get(u.number() as usize) {
+        Some(&Some(f)) => f.number() == e.number(),
+        _ => false,
+    }
+}
+
+/// Whether an edge that is a mate ends at a vertex.
+fn is_covered(search: &Search, e: EdgeId, v: u32) -> bool
+    requires { IsEdgeNumber search.now.graph e }
+{
+    let (from, to, _) = search.graph.edge(e);
+    if !is_taken(search, e) {
+        return false;
+    }
+    if from.number() == v {
+        return true;
+    }
+    to.number() == v
+}
+
+/// Whether exactly one edge that is a mate ends at a vertex.
+fn is_covered_once(search: &Search, v: u32) -> bool {
+    let mut covered = false;
+    for place in 0..search.graph.edges() {
+        if is_covered(search, EdgeId::new(place + 1), v) {
+            if covered {
+                return false;
+            }
+            covered = true;
+        }
+    }
+    covered
+}
+
+/// Whether each edge that is a mate has slack 0.
+fn are_tight<L: Ledger>(search: &Search, steps: &mut Steps<L>) -> bool
+    requires sound { IsSound search.now }
+{
+    for place in 0..search.graph.edges() {
+        let e = EdgeId::new(place + 1);
+        if is_taken(search, e) {
+            if !is_tight(search, e, steps) {
+                return false;
+            }
+        }
+    }
+    true
+}
+
+/// Whether the edges that are mates are a perfect matching of the vertices, of slack 0.
+fn is_perfect<L: Ledger>(search: &Search, blank: Blank) -> bool
+    requires name { blank.name ≡ L.name }
+    requires parts { blank.parts ≡ L.parts }
+    requires some { 0 < blank.parts }
+{
+    let mut steps = Steps::<L>::new(blank);
+    if !check_search(search) {
+        return false;
+    }
+    for place in 0..search.graph.vertices() {
+        if !is_covered_once(search, place + 1) {
+            return false;
+        }
+    }
+    are_tight(search, &mut steps)
+}
+
 /// The edges to the mates of the first nodes, where 0 stands for none.
 fn mates(alloc: Global, search: &Search, nodes: usize) -> Result<Vec<u32>, OutOfMemory> {
     search
@@ -335,7 +433,9 @@ fn mates(alloc: Global, search: &Search, nodes: usize) -> Result<Vec<u32>, OutOf
 #[test]
 fn paths_are_flipped(rt: HostRuntime) -> Result<(), Fail> {
     let graph = path_graph(rt.alloc())?;
-    let Some(mut search) = fresh(rt.alloc(), &graph)? else {
+    let found = fresh(rt.alloc(), &graph)?;
+    assert!(rt; found.is_some());
+    let Some(mut search) = found else {
         return Ok(());
     };
     write(&mut search, 2, Label::Outer, 0, 0);
@@ -364,7 +464,9 @@ fn paths_are_flipped(rt: HostRuntime) -> Result<(), Fail> {
 #[test]
 fn a_blossom_lies_on_the_path(rt: HostRuntime) -> Result<(), Fail> {
     let graph = circuit_graph(rt.alloc())?;
-    let Some(mut search) = fresh(rt.alloc(), &graph)? else {
+    let found = fresh(rt.alloc(), &graph)?;
+    assert!(rt; found.is_some());
+    let Some(mut search) = found else {
         return Ok(());
     };
     let circuit = [link(1, 1), link(2, 2), link(3, 3), link(4, 4), link(5, 5)];
@@ -381,22 +483,51 @@ fn a_blossom_lies_on_the_path(rt: HostRuntime) -> Result<(), Fail> {
     Ok(())
 }
 
+/// The numbers of three blossoms, each but the first around the one before, on the nested graph.
+fn nest(arena: &mut Arena) -> [u32; 3] {
+    let triangle = [link(1, 1), link(2, 2), link(3, 3)];
+    let small = shrink(arena, triangle.as_slice());
+    let middle = [link(4, 5), link(5, 6), link(small, 4)];
+    let great = shrink(arena, middle.as_slice());
+    let last = [link(6, 8), link(7, 9), link(great, 7)];
+    let greatest = shrink(arena, last.as_slice());
+    [small, great, greatest]
+}
+
 #[test]
 fn a_blossom_lies_in_a_blossom(rt: HostRuntime) -> Result<(), Fail> {
-    let graph = nested_graph(rt.alloc())?;
-    let Some(mut search) = fresh(rt.alloc(), &graph)? else {
+    for place in 0..7u32 {
+        let graph = nested_graph(rt.alloc(), place + 1)?;
+        let found = fresh(rt.alloc(), &graph)?;
+        assert!(rt; found.is_some());
+        let Some(mut search) = found else {
+            return Ok(());
+        };
+        let nodes = nest(&mut search.arena);
+        write(&mut search, nodes[2], Label::Outer, 0, 0);
+        assert!(rt; !is_perfect::<Brand>(&search, Blank::new(1)));
+        assert!(rt; flip_by::<Brand>(rt.alloc(), &mut search, 10, Blank::new(1))?);
+        assert!(rt; unpacks(&mut search));
+        assert!(rt; is_perfect::<Brand>(&search, Blank::new(1)));
+    }
+    Ok(())
+}
+
+#[test]
+fn mates_in_nested_blossoms_are_the_only_ones(rt: HostRuntime) -> Result<(), Fail> {
+    let graph = nested_graph(rt.alloc(), 2)?;
+    let found = fresh(rt.alloc(), &graph)?;
+    assert!(rt; found.is_some());
+    let Some(mut search) = found else {
         return Ok(());
     };
-    let triangle = [link(1, 1), link(2, 2), link(3, 3)];
-    let small = shrink(&mut search.arena, triangle.as_slice());
-    let circuit = [link(4, 5), link(5, 6), link(small, 4)];
-    let great = shrink(&mut search.arena, circuit.as_slice());
-    write(&mut search, great, Label::Outer, 0, 0);
-    assert!(rt; flip_by::<Brand>(rt.alloc(), &mut search, 7, Blank::new(1))?);
+    let nodes = nest(&mut search.arena);
+    write(&mut search, nodes[2], Label::Outer, 0, 0);
+    assert!(rt; flip_by::<Brand>(rt.alloc(), &mut search, 10, Blank::new(1))?);
     assert!(rt; unpacks(&mut search));
     assert_eq!(rt;
-        mates(rt.alloc(), &search, 6)?.as_slice(),
-        [3, 7, 3, 5, 5, 7].as_slice()
+        mates(rt.alloc(), &search, 8)?.as_slice(),
+        [3, 10, 3, 5, 5, 8, 8, 10].as_slice()
     );
     Ok(())
 }

@@ -4,7 +4,7 @@ use Rattle.alt_forest.specs.Searches.{state_of, edge_in, put}
 use Rattle.alt_forest.specs.Trees.{path_of}
 use Rattle.alt_forest.proofs.Places.{mate_place}
 use Rattle.augment.specs.Turns.{HasMates}
-use Rattle.augment.specs.Exposed.{exposed_count}
+use Rattle.alt_forest.specs.Counts.{exposed_count}
 use Rattle.augment.proofs.Flipped.{IsLoose, begins}
 use Rattle.augment.proofs.Turning.{above, way_falls, edge_still, parent_still, rung_is, loose_on}
 use Rattle.augment.proofs.Turned.{done, state_with}

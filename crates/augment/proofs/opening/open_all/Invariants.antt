@@ -1,7 +1,7 @@
 use Rattle.std.proofs.Common.{◌≡◌, ℕ, List, ◌++◌, Option, vec_len}
 use Rattle.blossom_arena.specs.Family.{Blossom, names_of}
 use Rattle.alt_forest.specs.Searches.{edge_in}
-use Rattle.augment.specs.Opening.{AreMated, Unpacks}
+use Rattle.augment.specs.Opening.{AreMated, IsBare, IsSpread, Unpacks}
 use Rattle.augment.proofs.opening.open_all.Given as goal
 
 abbrev pub invariant-loop-b : goal.invariant-loop-b
@@ -11,6 +11,8 @@ invariant-loop-b l = record {
   split : l.arena.blossoms ≡ opened ++ left;
   names : l.b-iterator ≡ names_of left;
   mated : AreMated l.graph left (edge_in l.mates.items);
+  bare : IsBare l.graph left (edge_in l.mates.items);
+  spread : (a : ℕ) → IsSpread l.graph left (edge_in l.mates.items) a;
   unpacks : (final : ℕ → Option ℕ) → Unpacks l.graph left (edge_in l.mates.items) final → Unpacks l.graph l.arena.blossoms (edge_in l.fn.mates.items) final;
   len : vec_len l.mates ≡ vec_len l.fn.mates;
 }

@@ -1,16 +1,17 @@
-use Rattle.std.proofs.Common.{◌≡◌, ◌<◌, vec_len}
+use Rattle.std.proofs.Common.{◌≡◌, vec_len}
 use Rattle.std.specs.List.{AllByRecursion}
 use Rattle.std.specs.Option.{ForSome}
+use Rattle.graph_theory.specs.Graph.{IsEdgeNumber}
 use Rattle.blossom_arena.specs.declared.links.Link.{Link}
 use Rattle.alt_forest.specs.Searches.{edge_in}
-use Rattle.augment.specs.Opening.{links_before, paired, waiting_after}
+use Rattle.augment.specs.Opening.{links_before, spread_in, paired, waiting_after}
 use Rattle.augment.proofs.opening.pair_until.Given as goal
 
 abbrev pub invariant-loop-link : goal.invariant-loop-link
 invariant-loop-link l = record {
-  mates : paired (edge_in l.mates.items) l.first (links_before l.link-iterator l.node) ≡ paired (edge_in l.fn.mates.items) l.fn.waiting (links_before l.fn.links l.node);
+  mates : paired (spread_in l.graph l.arena.blossoms l.b) (edge_in l.mates.items) l.first (links_before l.link-iterator l.node) ≡ paired (spread_in l.graph l.arena.blossoms l.b) (edge_in l.fn.mates.items) l.fn.waiting (links_before l.fn.links l.node);
   waiting : waiting_after l.first (links_before l.link-iterator l.node) ≡ waiting_after l.fn.waiting (links_before l.fn.links l.node);
-  first : ForSome l.first (λ (k : Link). k.node < vec_len l.mates);
-  each : AllByRecursion (λ (k : Link). k.node < vec_len l.mates) l.link-iterator;
+  first : ForSome l.first (λ (k : Link). IsEdgeNumber l.graph k.edge);
+  each : AllByRecursion (λ (k : Link). IsEdgeNumber l.graph k.edge) l.link-iterator;
   len : vec_len l.mates ≡ vec_len l.fn.mates;
 }

@@ -1,4 +1,4 @@
-use Rattle.std.proofs.Common.{◌≡◌, ◌∙◌, sym, ap, inl, inr}
+use Rattle.std.proofs.Common.{◌∙◌, sym, ap, inl, inr}
 use Rattle.blossom_arena.specs.Family.{outermost}
 use Rattle.alt_forest.proofs.Places.{u_outer, v_outer}
 use Rattle.augment.proofs.tests.can_augment.Goals as goal

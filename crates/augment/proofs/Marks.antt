@@ -1,0 +1,65 @@
+-- The mate of an outermost node is marked at each node that holds an end of it.
+use Rattle.std.proofs.Common.{◌≡◌, ℕ, ◌+◌, ◌≤◌, true, false, eqb, sym, ap, ◌∙◌, subst, Option, Some}
+use Rattle.std.proofs.lemmas.Bool.{eqb-true, eqb-false, both_ways}
+use Rattle.graph_theory.specs.Graph.{Multigraph}
+use Rattle.blossom_arena.specs.Family.{Family, is_child, is_outermost, room_of, IsNested}
+use Rattle.blossom_arena.proofs.Lists.{by_test}
+use Rattle.blossom_arena.proofs.Nested.{outermost_parts, node_range}
+use Rattle.blossom_arena.proofs.Sets.{outermost_has}
+use Rattle.alt_forest.proofs.Walk.{some_same}
+use Rattle.augment.specs.Opening.{IsPair, IsSpread, IsBare, CanMark, spread}
+use Rattle.augment.proofs.Spreads.{x_has, y_has, others_keep, still_bare, x_spread, still_spread}
+
+-- what a mark leaves
+pub record IsMarked (g : Multigraph) (f : Family) (m n : ℕ → Option ℕ) (a : ℕ) : Type 0 where
+  pub bare : IsBare g f.blossoms n
+  pub spread : IsSpread g f.blossoms n a
+  pub keeps : (c : ℕ) → IsSpread g f.blossoms m c → IsSpread g f.blossoms n c
+  pub outer : (c : ℕ) → is_child f.blossoms c ≡ false → n c ≡ m c
+
+pub nested_of : (g : Multigraph) (f : Family) (m : ℕ → Option ℕ) → CanMark g f m → IsNested g.vertices f.blossoms
+nested_of g f m can = subst (λ n. IsNested n f.blossoms) can.vertices can.family.nested
+
+pub marked_mate : (g : Multigraph) (f : Family) (m : ℕ → Option ℕ) (a e : ℕ) → CanMark g f m → is_outermost f.vertex_count f.blossoms a ≡ true → Some e ≡ m a → IsMarked g f m (spread g f.blossoms m e) a
+marked_mate g f m a e can is has =
+    let nested = nested_of g f m can in
+    let r = can.mated a (subst (λ n. is_outermost n f.blossoms a ≡ true) can.vertices is) in
+    let d : ℕ = r.1 in
+    let p : IsPair g f.blossoms m a e d = subst (λ k. IsPair g f.blossoms m a k d) (some_same r.0 e (sym r.2 ∙ sym has)) r.3 in
+    let at_a : (k : ℕ) → m a ≡ Some k → k ≡ e = λ k h. some_same k e (sym h ∙ sym has) in
+    let at_d : (k : ℕ) → m d ≡ Some k → k ≡ e = λ k h. some_same k e (sym h ∙ p.back) in
+    record {
+      bare = still_bare g f.blossoms nested can.ends m e a d p.edge p.joins at_a at_d can.bare;
+      spread = x_spread g f.blossoms nested can.ends m e a d p.edge p.joins at_a at_d;
+      keeps = still_spread g f.blossoms nested can.ends m e a d p.edge p.joins at_a at_d;
+      outer = λ c free. by_test (eqb c a)
+          (λ s. let same = eqb-true c a s in ap (spread g f.blossoms m e) same ∙ x_has g f.blossoms nested can.ends m e a d p.edge p.joins at_a at_d ∙ has ∙ ap m (sym same))
+          (λ s. by_test (eqb c d)
+          (λ t. let same = eqb-true c d t in ap (spread g f.blossoms m e) same ∙ y_has g f.blossoms nested can.ends m e a d p.edge p.joins at_a at_d ∙ sym p.back ∙ ap m (sym same))
+          (λ t. others_keep g f.blossoms nested can.ends m e a d p.edge p.joins at_a at_d c free (eqb-false c a s) (eqb-false c d t)));
+    }
+
+-- and more can be marked
+pub still_can : (g : Multigraph) (f : Family) (m n : ℕ → Option ℕ) → CanMark g f m → IsBare g f.blossoms n → ((c : ℕ) → is_child f.blossoms c ≡ false → n c ≡ m c) → CanMark g f n
+still_can g f m n can bare outer =
+    let same : (c : ℕ) → is_outermost g.vertices f.blossoms c ≡ true → n c ≡ m c = λ c is. outer c (outermost_parts g.vertices f.blossoms c is).1 in
+    record {
+      family = can.family;
+      vertices = can.vertices;
+      ends = can.ends;
+      mated = λ a is.
+          let r = can.mated a is in
+          let p = r.3 in
+          (r.0, r.1, same a is ∙ r.2, record { edge = p.edge; joins = p.joins; different = p.different; outer = p.outer; back = same r.1 p.outer ∙ p.back });
+      bare = bare;
+    }
+
+-- a number that isn't an outermost node's has nothing to be spread
+pub none_spread : (g : Multigraph) (f : Family) (m n : ℕ → Option ℕ) (a : ℕ) → CanMark g f m → (is_outermost f.vertex_count f.blossoms a ≡ false) → IsSpread g f.blossoms n a
+none_spread g f m n a can none k v c has end o on =
+    absurd (both_ways (is_outermost f.vertex_count f.blossoms a) none (subst (λ x. is_outermost x f.blossoms a ≡ true) (sym can.vertices) (ap (is_outermost g.vertices f.blossoms) (sym o) ∙ (outermost_has g.vertices f.blossoms v (nested_of g f m can) end.vertex).0)))
+
+pub far_spread : (g : Multigraph) (f : Family) (m n : ℕ → Option ℕ) (a : ℕ) → CanMark g f m → ((1 ≤ a) → (a ≤ f.vertex_count + room_of f.vertex_count) → IsSpread g f.blossoms n a) → IsSpread g f.blossoms n a
+far_spread g f m n a can near = by_test (is_outermost f.vertex_count f.blossoms a)
+    (λ t. let r = node_range f.vertex_count f.blossoms a can.family.nested (outermost_parts f.vertex_count f.blossoms a t).0 in near r.0 r.1)
+    (λ t. none_spread g f m n a can t)
