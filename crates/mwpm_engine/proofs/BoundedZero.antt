@@ -1,0 +1,89 @@
+-- In the pass without weights no change moves a dual: each slack is 0, so an event that a change leads to is possible at
+-- once.
+use Rattle.std.proofs.Common.{◌≡◌, ℕ, ℤ, pos, ◌+ℤ◌, ◌≤ℤ◌, Bool, true, false, cond, List, [], ◌∷◌, refl, sym, ap, ◌∙◌, subst, arith}
+use Rattle.std.proofs.lemmas.Int.{ints}
+use Rattle.graph_theory.specs.declared.edge.Edge.{Edge}
+use Rattle.graph_theory.specs.Graph.{IsGraph, IsEdgeNumber, IsEdgeWithin, edge_of}
+use Rattle.graph_theory.specs.Parts.{holds, crosses}
+use Rattle.graph_theory.proofs.Edges.{edge_of_within}
+use Rattle.blossom_arena.specs.Family.{Blossom, is_node, is_outermost, names_of, IsDual}
+use Rattle.blossom_arena.specs.Slack.{pull}
+use Rattle.blossom_arena.proofs.Lists.{by_test, first_in, later_in}
+use Rattle.blossom_arena.proofs.Nested.{outermost_parts, range_vertex, vertex_is_node, name_is_node}
+use Rattle.alt_forest.specs.declared.label.Label.{Label}
+use Rattle.alt_forest.specs.declared.label.Label.TheVariants.{Outer, Inner, Out}
+use Rattle.alt_forest.specs.State.{State, doubled, slack_of}
+use Rattle.dual_change.specs.declared.event.Event.{Event}
+use Rattle.dual_change.specs.declared.event.Event.TheVariants.{Grow, Shrink, Augment, Expand}
+use Rattle.dual_change.specs.Changes.{share, change, applied, IsWithin, StaysInRange, IsPossible}
+use Rattle.mwpm_engine.specs.Bounds.{HasNoDuals}
+
+-- an edge feels nothing where all duals are 0
+pull_none : (y : ℕ → ℤ) (bs : List Blossom) (e : Edge) → y e.u ≡ pos 0 → y e.v ≡ pos 0 → ((a : ℕ) → holds (names_of bs) a ≡ true → y a ≡ pos 0) → pull y bs e ≡ pos 0
+pull_none y [] e at_u at_v names = omega (arith, ints, at_u, at_v)
+pull_none y (b ∷ older) e at_u at_v names =
+    let here : y b.node ≡ pos 0 = names b.node (first_in b.node (names_of older)) in
+    let rest : pull y older e ≡ pos 0 = pull_none y older e at_u at_v (λ a h. names a (later_in b.node (names_of older) a h)) in
+    either (crosses b.members e) (y b.node) (pull y older e) here rest
+  where
+    either : (t : Bool) (p q : ℤ) → p ≡ pos 0 → q ≡ pos 0 → cond t p (pos 0) +ℤ q ≡ pos 0
+    either true p q f g = omega (arith, ints, f, g)
+    either false p q f g = omega (arith, ints, g)
+
+module _ (s : State) (graph : IsGraph s.graph) (none : HasNoDuals s) where
+  -- each slack is 0
+  no_slack : (e : ℕ) → IsEdgeNumber s.graph e → slack_of s e ≡ pos 0
+  no_slack e is =
+      let n : ℕ = s.graph.vertices in
+      let w : IsEdgeWithin n (edge_of s.graph e) = edge_of_within s.graph e graph.ends is in
+      let at : (v : ℕ) → is_node n s.blossoms v ≡ true → s.dual v ≡ pos 0 = none.zero in
+      let felt : pull s.dual s.blossoms (edge_of s.graph e) ≡ pos 0 = pull_none s.dual s.blossoms (edge_of s.graph e)
+      (at (edge_of s.graph e).u (vertex_is_node n s.blossoms (edge_of s.graph e).u (range_vertex n (edge_of s.graph e).u w.u_low w.u_high)))
+      (at (edge_of s.graph e).v (vertex_is_node n s.blossoms (edge_of s.graph e).v (range_vertex n (edge_of s.graph e).v w.v_low w.v_high)))
+      (λ a h. at a (name_is_node n s.blossoms a h)) in
+      let free : doubled s.graph s.weighted e ≡ pos 0 = ap (λ t. doubled s.graph t e) none.unweighted in
+      omega (arith, ints, felt, free)
+
+  -- so a change that leads to an event is 0
+  no_change : (d : ℤ) (event : Event) → IsWithin s d → IsPossible (applied s d) event → d ≡ pos 0
+  no_change d (Grow e) within can =
+      let bound : d ≤ℤ slack_of s e = within.to_out e can.near can.far can.tight.edge can.joins can.near_outer can.far_out in
+      let slack : slack_of s e ≡ pos 0 = no_slack e can.tight.edge in
+      let low : pos 0 ≤ℤ d = within.low in
+      omega (arith, ints, bound, slack, low)
+  no_change d (Shrink e) within can =
+      let bound : (d +ℤ d) ≤ℤ slack_of s e = within.between e can.one can.other can.tight.edge can.joins can.different can.one_outer can.other_outer in
+      let slack : slack_of s e ≡ pos 0 = no_slack e can.tight.edge in
+      let low : pos 0 ≤ℤ d = within.low in
+      omega (arith, ints, bound, slack, low)
+  no_change d (Augment e) within can =
+      let bound : d ≤ℤ slack_of s e = within.to_out e can.near can.far can.tight.edge can.joins can.near_outer can.far_out in
+      let slack : slack_of s e ≡ pos 0 = no_slack e can.tight.edge in
+      let low : pos 0 ≤ℤ d = within.low in
+      omega (arith, ints, bound, slack, low)
+  no_change d (Expand b) within can =
+      let bound : d ≤ℤ s.dual b = within.inner b can.blossom can.outermost can.inner in
+      let empty : s.dual b ≡ pos 0 = none.zero b (name_is_node s.graph.vertices s.blossoms b can.blossom) in
+      let low : pos 0 ≤ℤ d = within.low in
+      omega (arith, ints, bound, empty, low)
+
+  same_dual : (d : ℤ) → d ≡ pos 0 → (a : ℕ) → (applied s d).dual a ≡ s.dual a
+  same_dual d is a =
+      let added : change s d a ≡ pos 0 = by_test (is_outermost s.graph.vertices s.blossoms a)
+      (λ t. ap (λ q. cond q (share d (s.label a)) (pos 0)) t ∙ ap (λ x. share x (s.label a)) is ∙ nothing (s.label a))
+      (λ t. ap (λ q. cond q (share d (s.label a)) (pos 0)) t) in
+      omega (arith, ints, added)
+    where
+      nothing : (l : Label) → share (pos 0) l ≡ pos 0
+      nothing Outer = refl
+      nothing Inner = refl
+      nothing Out = refl
+
+  -- a change in the pass without weights
+  pub no_duals_in_range : (d : ℤ) (event : Event) → IsWithin s d → IsPossible (applied s d) event → StaysInRange s d × HasNoDuals (applied s d)
+  no_duals_in_range d event within can =
+      let is : d ≡ pos 0 = no_change d event within can in
+      let still : (a : ℕ) → is_node s.graph.vertices s.blossoms a ≡ true → (applied s d).dual a ≡ pos 0 = λ a node. same_dual d is a ∙ none.zero a node in (
+        λ a outer. subst IsDual (sym (still a (outermost_parts s.graph.vertices s.blossoms a outer).0)) (omega (arith, ints), omega (arith, ints)),
+        record { unweighted = none.unweighted; zero = still },
+      )

@@ -1,0 +1,153 @@
+-- A finished search is a certificate: its matching is perfect, and its duals prove that none weighs less.
+use Rattle.std.proofs.Common.{◌≡◌, ℕ, ◌+◌, ◌<◌, ◌≤◌, ℤ, pos, ◌-ℤ◌, ◌*ℤ◌, ◌≤ℤ◌, Bool, true, false, cond, List, length, drop, refl, sym, ap, ◌∙◌, subst, arith, Option, Some, None, All, slice_index, get_or}
+use Rattle.std.specs.List.{AllByRecursion}
+use Rattle.std.proofs.lemmas.Int.{ints}
+use Rattle.std.proofs.lemmas.Bool.{eqb-true, both_ways}
+use Rattle.std.proofs.lemmas.List.{length-take-le, length-drop}
+use Rattle.std.proofs.lemmas.List.Elements.{All-from_recursion, All-from_get_or, All-take, All-drop, All-map}
+use Rattle.graph_theory.specs.declared.odd_set.OddSet.{OddSet}
+use Rattle.graph_theory.specs.declared.edge.Edge.{Edge}
+use Rattle.graph_theory.specs.Graph.{IsPerfect, IsEdgeNumber, no_edge, edge_at, edge_of, weight}
+use Rattle.graph_theory.specs.Duals.{AreDuals, IsSetWithin, HasForm, IsNumber, no_set, set_at, slack, dual_value}
+use Rattle.graph_theory.proofs.Edges.{edge_of_within, edge_of-place, number_of-place}
+use Rattle.graph_theory.proofs.Crossings.{crossings}
+use Rattle.blossom_arena.specs.Family.{Blossom, IsNested, HasDuals, IsDual, is_node, dual_at, members_of}
+use Rattle.blossom_arena.specs.Slack.{AreListed, pull, vertex_duals}
+use Rattle.blossom_arena.proofs.Nested.{name_range, name_is_node, range_vertex, vertex_is_node}
+use Rattle.blossom_arena.proofs.Forms.{members_form, sorted_form}
+use Rattle.blossom_arena.proofs.Slacks.{slack_listed}
+use Rattle.alt_forest.specs.declared.search.Search.{Search}
+use Rattle.alt_forest.specs.State.{slack_of}
+use Rattle.alt_forest.specs.Searches.{IsSound, state_of, edge_in}
+use Rattle.augment.specs.Matching.{is_edge, mate_counts}
+use Rattle.mwpm_engine.specs.declared.outcome.Outcome.{Outcome}
+use Rattle.mwpm_engine.specs.Solutions.{IsSolved, IsWithinBound}
+use Rattle.mwpm_engine.specs.Solving.{sets_at, solution_of, AreProvingSets, CountsWeights, HasBoundedDuals, IsUnpacked}
+use Rattle.mwpm_engine.proofs.BoundedDuals.{each_vertex_dual}
+use Rattle.mwpm_engine.proofs.CertificateMates.{length-mate_numbers, matching_same, count_at}
+use Rattle.mwpm_engine.proofs.CertificateSets.{IsKnown, all_known, IsProving, each_proving, set_of, few_sets, nested_sets, IsOf, each_of, sets_listed}
+use Rattle.mwpm_engine.proofs.CertificateValue.{left_once, crossings_same, value_met}
+
+-- the family stands on the graph's vertices
+nested_on_graph : (s : Search) → IsSound s → IsNested s.graph.vertices s.arena.blossoms
+nested_on_graph s sound = subst (λ n. IsNested n s.arena.blossoms) sound.shape.arena sound.shape.family.nested
+
+duals_on_graph : (s : Search) → IsSound s → HasDuals s.graph.vertices s.arena.duals s.arena.blossoms
+duals_on_graph s sound = subst (λ n. HasDuals n s.arena.duals s.arena.blossoms) sound.shape.arena sound.shape.family.duals
+
+known_blossoms : (s : Search) → IsSound s → AllByRecursion (IsKnown s.arena.duals s.arena.blossoms) s.arena.blossoms
+known_blossoms s sound = all_known s.graph.vertices s.arena.duals s.arena.blossoms (nested_on_graph s sound) (duals_on_graph s sound).blossoms
+
+-- a dual for each vertex
+length-vertex_duals : (n : ℕ) (ys : List ℤ) → n + 1 ≤ length ys → length (vertex_duals n ys) ≡ n
+length-vertex_duals n ys enough = length-take-le n (drop 1 ys) (omega (arith, enough, length-drop 1 ys))
+
+one_dual_each : (s : Search) → IsSound s → length (vertex_duals s.graph.vertices s.arena.duals) ≡ s.graph.vertices
+one_dual_each s sound = let size = (duals_on_graph s sound).one_each in length-vertex_duals s.graph.vertices s.arena.duals (omega (arith, size))
+
+-- duals in range are numbers of a document
+number_of_dual : (y : ℤ) → IsDual y → IsNumber y
+number_of_dual y h = (h.0, h.1)
+
+vertex_duals_in_range : (n : ℕ) (ys : List ℤ) → All IsDual ys → All IsNumber (vertex_duals n ys)
+vertex_duals_in_range n ys each = All-take IsNumber n (drop 1 ys) (All-drop IsNumber 1 ys (λ k d low. number_of_dual (get_or ys k d) (each k d low)))
+
+set_duals_in_range : (n : ℕ) (ys : List ℤ) (bs : List Blossom) (nodes : List ℕ) → IsNested n bs → HasDuals n ys bs → AllByRecursion (IsProving ys bs) nodes → All (λ (t : OddSet). IsNumber t.dual) (sets_at ys bs nodes)
+set_duals_in_range n ys bs nodes nested duals each =
+    All-map (λ (t : OddSet). IsNumber t.dual) (set_of ys bs) nodes (λ k d low.
+    let is = All-from_recursion (IsProving ys bs) nodes each k d low in
+    let range = name_range n bs (get_or nodes k d) nested is.named in
+    number_of_dual (dual_at ys (get_or nodes k d)) (duals.in_range (get_or nodes k d) (pos 0) (omega (arith, range.1, duals.one_each))))
+
+-- they are within their bound where each node's dual is
+set_duals_bounded : (n : ℕ) (ys : List ℤ) (bs : List Blossom) (nodes : List ℕ) → ((a : ℕ) → is_node n bs a ≡ true → IsWithinBound n (dual_at ys a)) → AllByRecursion (IsProving ys bs) nodes → All (λ (t : OddSet). IsWithinBound n t.dual) (sets_at ys bs nodes)
+set_duals_bounded n ys bs nodes bounded each =
+    All-map (λ (t : OddSet). IsWithinBound n t.dual) (set_of ys bs) nodes (λ k d low.
+    bounded (get_or nodes k d) (name_is_node n bs (get_or nodes k d) (All-from_recursion (IsProving ys bs) nodes each k d low).named))
+
+-- a slack of the certificate is one of the search
+slack_same : (s : Search) (sets : List OddSet) (e : ℕ) → IsSound s → CountsWeights s → AreListed s.arena.duals s.arena.blossoms sets → IsEdgeNumber s.graph e → slack (vertex_duals s.graph.vertices s.arena.duals) sets (edge_of s.graph e) ≡ slack_of (state_of s) e
+slack_same s sets e sound counts listed is =
+    slack_listed s.graph.vertices s.arena.duals s.arena.blossoms sets (edge_of s.graph e) (edge_of_within s.graph e sound.shape.graph.graph.ends is) listed
+    ∙ ap (λ d. d -ℤ pull (dual_at s.arena.duals) s.arena.blossoms (edge_of s.graph e)) (sym (counts e is))
+
+set_form : (n : ℕ) (ys : List ℤ) (bs : List Blossom) (t : OddSet) → IsNested n bs → IsOf ys bs t → HasForm t.members × IsSetWithin n t
+set_form n ys bs t nested is =
+    let form = sorted_form n (members_of bs is.node) t.members (members_form n bs is.node nested is.named) is.ascending is.members in
+    (form.0, record { positive = is.positive; in_range = form.1 })
+
+-- the certificate's duals are feasible
+feasible : (s : Search) (sets : List OddSet) → IsSound s → CountsWeights s → AreListed s.arena.duals s.arena.blossoms sets → AllByRecursion (IsOf s.arena.duals s.arena.blossoms) sets → AreDuals s.graph (vertex_duals s.graph.vertices s.arena.duals) sets
+feasible s sets sound counts listed each =
+    let n = s.graph.vertices in
+    let all = All-from_recursion (IsOf s.arena.duals s.arena.blossoms) sets each in
+    record {
+      one_each = one_dual_each s sound;
+      sets_within = λ k d low. (set_form n s.arena.duals s.arena.blossoms (get_or sets k d) (nested_on_graph s sound) (all k d low)).1;
+      forms = λ k d low. (set_form n s.arena.duals s.arena.blossoms (get_or sets k d) (nested_on_graph s sound) (all k d low)).0;
+      slacks = All-from_get_or (λ (e : Edge). pos 0 ≤ℤ slack (vertex_duals n s.arena.duals) sets e) s.graph.edges no_edge (λ k low.
+          subst (λ (e : Edge). pos 0 ≤ℤ slack (vertex_duals n s.arena.duals) sets e) (edge_of-place s.graph k)
+          (subst (λ x. pos 0 ≤ℤ x) (sym (slack_same s sets (k + 1) sound counts listed (number_of-place s.graph k low))) (sound.state.slacks (k + 1) (number_of-place s.graph k low))));
+    }
+
+-- an edge counts only where it is a mate, and has no slack there
+mate_is : (o : Option ℕ) (e : ℕ) → is_edge o e ≡ true → o ≡ Some e
+mate_is None e h = absurd (both_ways false refl h)
+mate_is (Some f) e h = ap (λ x. Some x) (eqb-true f e h)
+
+times_none : (t : Bool) (z : ℤ) → (t ≡ true → z ≡ pos 0) → pos (cond t 1 0) *ℤ z ≡ pos 0
+times_none true z tight = ap (λ x. pos 1 *ℤ x) (tight refl)
+times_none false z tight = omega (arith, ints)
+
+no_slack : (s : Search) (sets : List OddSet) (k : ℕ) → IsUnpacked s → CountsWeights s → AreListed s.arena.duals s.arena.blossoms sets → k < length s.graph.edges
+    → pos (slice_index (mate_counts s.graph (edge_in s.mates.items)) k) *ℤ slack (vertex_duals s.graph.vertices s.arena.duals) sets (edge_at s.graph k) ≡ pos 0
+no_slack s sets k done counts listed low =
+    let m = edge_in s.mates.items in
+    let is = number_of-place s.graph k low in
+    let within = edge_of_within s.graph (k + 1) done.sound.shape.graph.graph.ends is in
+    let u = (edge_of s.graph (k + 1)).u in
+    ap (λ (e : Edge). pos (slice_index (mate_counts s.graph m) k) *ℤ slack (vertex_duals s.graph.vertices s.arena.duals) sets e) (sym (edge_of-place s.graph k))
+    ∙ ap (λ c. pos c *ℤ slack (vertex_duals s.graph.vertices s.arena.duals) sets (edge_of s.graph (k + 1))) (count_at s.graph m k low)
+    ∙ times_none (is_edge (m u) (k + 1)) (slack (vertex_duals s.graph.vertices s.arena.duals) sets (edge_of s.graph (k + 1)))
+    (λ h. slack_same s sets (k + 1) done.sound counts listed is ∙ (done.tight u (k + 1) (range_vertex s.graph.vertices u within.u_low within.u_high) (mate_is (m u) (k + 1) h)).tight)
+
+-- the matching leaves each set once
+each_once : (s : Search) (sets : List OddSet) (j : ℕ) → IsUnpacked s → AllByRecursion (IsOf s.arena.duals s.arena.blossoms) sets → j < length sets → crossings s.graph (mate_counts s.graph (edge_in s.mates.items)) (set_at sets j).members ≡ 1
+each_once s sets j done each low =
+    let counts = mate_counts s.graph (edge_in s.mates.items) in
+    let is = All-from_recursion (IsOf s.arena.duals s.arena.blossoms) sets each j no_set low in
+    crossings_same s.graph counts (set_at sets j).members (members_of s.arena.blossoms is.node) is.members ∙ left_once s.graph counts s.arena.blossoms is.node done.leaves is.named
+
+-- so its value is twice the matching's weight
+value_is : (s : Search) (sets : List OddSet) → IsUnpacked s → CountsWeights s → AreListed s.arena.duals s.arena.blossoms sets → AllByRecursion (IsOf s.arena.duals s.arena.blossoms) sets
+    → dual_value (vertex_duals s.graph.vertices s.arena.duals) sets ≡ pos 2 *ℤ weight s.graph (mate_counts s.graph (edge_in s.mates.items))
+value_is s sets done counts listed each =
+    value_met s.graph (vertex_duals s.graph.vertices s.arena.duals) sets (mate_counts s.graph (edge_in s.mates.items)) done.sound.shape.graph.graph (one_dual_each s done.sound) done.perfect
+    (λ k low. no_slack s sets k done counts listed low)
+    (λ j low. each_once s sets j done each low)
+
+-- what an engine keeps of a search whose blossoms have been opened proves its matching least
+pub solved : (s : Search) (outcome : Option Outcome) (nodes : List ℕ) → IsUnpacked s → CountsWeights s → HasBoundedDuals s → AreProvingSets s nodes → IsSolved (solution_of s outcome nodes)
+solved s outcome nodes done counts bounded list =
+    let n = s.graph.vertices in
+    let ys = s.arena.duals in
+    let bs = s.arena.blossoms in
+    let nested = nested_on_graph s done.sound in
+    let duals = duals_on_graph s done.sound in
+    let known = known_blossoms s done.sound in
+    let proving = each_proving ys bs bs nodes known list in
+    let matching = matching_same s.graph (edge_in s.mates.items) done.sound.shape.graph.graph.ends in
+    record {
+      one_each = length-mate_numbers (edge_in s.mates.items) n;
+      perfect = subst (IsPerfect s.graph) (sym matching) done.perfect;
+      duals = λ sets same. feasible s sets done.sound counts (sets_listed ys bs bs nodes sets known list same) (each_of ys bs nodes sets proving same);
+      value = λ sets same.
+          value_is s sets done counts (sets_listed ys bs bs nodes sets known list same) (each_of ys bs nodes sets proving same)
+          ∙ ap (λ c. pos 2 *ℤ weight s.graph c) (sym matching);
+      nested = nested_sets n ys bs nodes nested known list;
+      few = few_sets n ys bs nodes nested list;
+      in_range = vertex_duals_in_range n ys duals.in_range;
+      sets_in_range = set_duals_in_range n ys bs nodes nested duals proving;
+      bounded = each_vertex_dual (IsWithinBound n) n ys (one_dual_each s done.sound) (λ v low high. bounded v (vertex_is_node n bs v (range_vertex n v low high)));
+      sets_bounded = set_duals_bounded n ys bs nodes bounded proving;
+    }

@@ -1,0 +1,183 @@
+-- The sets that an engine lists: blossoms of the family, each once.
+use Rattle.std.proofs.Common.{◌≡◌, ℕ, zero, suc, ◌<◌, ◌≤◌, ℤ, pos, ◌≤ℤ◌, true, false, eqb, List, [], ◌∷◌, length, refl, sym, ap, ◌∙◌, subst, arith, ⊎_elim, inl, inr, get_or}
+use Rattle.std.specs.List.{AllByRecursion}
+use Rattle.std.specs.List.Sorted.{IsStrictlyIncreasing}
+use Rattle.std.proofs.lemmas.Int.{ints}
+use Rattle.std.proofs.lemmas.Bool.{eq-eqb, ne_eqb, both_ways, false_from_ne_true, or_cases, eqb-true}
+use Rattle.std.proofs.lemmas.List.{get_or-map, length-map}
+use Rattle.std.proofs.lemmas.List.Elements.{All-from_recursion}
+use Rattle.graph_theory.specs.declared.odd_set.OddSet.{OddSet}
+use Rattle.graph_theory.specs.Parts.{holds}
+use Rattle.graph_theory.specs.Duals.{no_set, set_at}
+use Rattle.graph_theory.proofs.Members.{holds_at}
+use Rattle.blossom_arena.specs.Family.{Blossom, IsNested, is_node, names_of, members_of, dual_at, room_of, AreLaminar}
+use Rattle.blossom_arena.specs.Slack.{AreSame, AreListed}
+use Rattle.blossom_arena.proofs.Lists.{AllNew, first_in, later_in}
+use Rattle.blossom_arena.proofs.Nested.{names_new, name_is_node, room_for_circuit}
+use Rattle.blossom_arena.proofs.Sets.{members_here, members_past}
+use Rattle.blossom_arena.proofs.Forms.{members_laminar}
+use Rattle.blossom_arena.proofs.Theorems.{members_differ}
+use Rattle.mwpm_engine.specs.Solutions.{AreAscending, AreNested}
+use Rattle.mwpm_engine.specs.Solving.{sets_at, AreProving}
+
+-- a blossom of the family, and its dual
+pub record IsKnown (ys : List ℤ) (bs : List Blossom) (b : Blossom) : Type 0 where
+  pub named : holds (names_of bs) b.node ≡ true
+  pub members : members_of bs b.node ≡ b.members
+  pub low : pos 0 ≤ℤ dual_at ys b.node
+
+-- .. and so is one of the older ones
+later_known : (ys : List ℤ) (b : Blossom) (older xs : List Blossom) → AllNew (names_of (b ∷ older)) → AllByRecursion (IsKnown ys older) xs → AllByRecursion (IsKnown ys (b ∷ older)) xs
+later_known ys b older [] new each = tt
+later_known ys b older (x ∷ xs) new each =
+    let other : eqb b.node x.node ≡ false = ne_eqb b.node x.node (λ s. both_ways (holds (names_of older) b.node) new.0 (ap (holds (names_of older)) s ∙ each.0.named)) in (
+      record {
+        named = later_in b.node (names_of older) x.node each.0.named;
+        members = members_past b older x.node other ∙ each.0.members;
+        low = each.0.low;
+      },
+      later_known ys b older xs new each.1,
+    )
+
+known : (ys : List ℤ) (bs : List Blossom) → AllNew (names_of bs) → AllByRecursion (λ (b : Blossom). pos 0 ≤ℤ dual_at ys b.node) bs → AllByRecursion (IsKnown ys bs) bs
+known ys [] new low = tt
+known ys (b ∷ older) new low = (
+  record {
+    named = first_in b.node (names_of older);
+    members = members_here b older b.node (eq-eqb b.node b.node refl);
+    low = low.0;
+  },
+  later_known ys b older older new (known ys older new.1 low.1),
+)
+
+pub all_known : (n : ℕ) (ys : List ℤ) (bs : List Blossom) → IsNested n bs → AllByRecursion (λ (b : Blossom). pos 0 ≤ℤ dual_at ys b.node) bs → AllByRecursion (IsKnown ys bs) bs
+all_known n ys bs nested low = known ys bs (names_new n bs nested) low
+
+-- a node that is listed: a blossom of dual at least 1
+pub record IsProving (ys : List ℤ) (bs : List Blossom) (a : ℕ) : Type 0 where
+  pub named : holds (names_of bs) a ≡ true
+  pub positive : pos 1 ≤ℤ dual_at ys a
+
+pub each_proving : (ys : List ℤ) (bs left : List Blossom) (nodes : List ℕ) → AllByRecursion (IsKnown ys bs) left → AreProving ys (names_of left) nodes → AllByRecursion (IsProving ys bs) nodes
+each_proving ys bs [] nodes each list = subst (AllByRecursion (IsProving ys bs)) (sym list) tt
+each_proving ys bs (b ∷ older) nodes each list = ⊎_elim
+    (λ out. each_proving ys bs older nodes each.1 out.1)
+    (λ kept. subst (AllByRecursion (IsProving ys bs)) (sym kept.1) (record { named = each.0.named; positive = kept.2 }, each_proving ys bs older kept.0 each.1 kept.3))
+    list
+
+-- the nodes are among the blossoms' ..
+nodes_among : (ys : List ℤ) (left : List Blossom) (nodes : List ℕ) (a : ℕ) → AreProving ys (names_of left) nodes → holds nodes a ≡ true → holds (names_of left) a ≡ true
+nodes_among ys [] nodes a list h = ap (λ ns. holds ns a) (sym list) ∙ h
+nodes_among ys (b ∷ older) nodes a list h = ⊎_elim
+    (λ out. later_in b.node (names_of older) a (nodes_among ys older nodes a out.1 h))
+    (λ kept. ⊎_elim
+    (λ s. subst (λ x. holds (names_of (b ∷ older)) x ≡ true) (eqb-true b.node a s) (first_in b.node (names_of older)))
+    (λ r. later_in b.node (names_of older) a (nodes_among ys older kept.0 a kept.3 r))
+    (or_cases (eqb b.node a) (holds kept.0 a) (ap (λ ns. holds ns a) (sym kept.1) ∙ h)))
+    list
+
+-- .. so they are different ..
+nodes_new : (ys : List ℤ) (left : List Blossom) (nodes : List ℕ) → AllNew (names_of left) → AreProving ys (names_of left) nodes → AllNew nodes
+nodes_new ys [] nodes new list = subst AllNew (sym list) tt
+nodes_new ys (b ∷ older) nodes new list = ⊎_elim
+    (λ out. nodes_new ys older nodes new.1 out.1)
+    (λ kept. subst AllNew (sym kept.1) (
+      false_from_ne_true (holds kept.0 b.node) (λ h. both_ways (holds (names_of older) b.node) new.0 (nodes_among ys older kept.0 b.node kept.3 h)),
+      nodes_new ys older kept.0 new.1 kept.3,
+    ))
+    list
+
+-- .. and no more than these
+nodes_few : (ys : List ℤ) (left : List Blossom) (nodes : List ℕ) → AreProving ys (names_of left) nodes → length nodes ≤ length left
+nodes_few ys [] nodes list = omega (arith, ap length list)
+nodes_few ys (b ∷ older) nodes list = ⊎_elim
+    (λ out. omega (arith, nodes_few ys older nodes out.1))
+    (λ kept. omega (arith, nodes_few ys older kept.0 kept.3, ap length kept.1))
+    list
+
+room_for_all : (n : ℕ) (bs : List Blossom) → IsNested n bs → length bs ≤ room_of n
+room_for_all n [] nested = omega arith
+room_for_all n (b ∷ older) nested = omega (arith, (room_for_circuit n older b.ring nested.1 nested.0.circuit).0)
+
+-- a node as a set
+abbrev pub set_of : List ℤ → List Blossom → ℕ → OddSet
+set_of ys bs a = record { dual = dual_at ys a; members = members_of bs a }
+
+pub few_sets : (n : ℕ) (ys : List ℤ) (bs : List Blossom) (nodes : List ℕ) → IsNested n bs → AreProving ys (names_of bs) nodes → length (sets_at ys bs nodes) ≤ room_of n
+few_sets n ys bs nodes nested list = omega (arith, length-map nodes (set_of ys bs), nodes_few ys bs nodes list, room_for_all n bs nested)
+
+pub set_at_place : (ys : List ℤ) (bs : List Blossom) (nodes : List ℕ) (i : ℕ) → i < length nodes → set_at (sets_at ys bs nodes) i ≡ set_of ys bs (get_or nodes i 0)
+set_at_place ys bs nodes i low = get_or-map (set_of ys bs) nodes i 0 no_set low
+
+-- different numbers differ at different places
+new_at : (xs : List ℕ) (i j : ℕ) → AllNew xs → i < j → j < length xs → get_or xs i 0 ≡ get_or xs j 0 → ⊥
+new_at [] i j new less low same = absurd (omega arith)
+new_at (x ∷ xs) i zero new less low same = absurd (omega arith)
+new_at (x ∷ xs) zero (suc j) new less low same = both_ways (holds xs x) new.0 (ap (holds xs) same ∙ holds_at xs j 0 (omega arith))
+new_at (x ∷ xs) (suc i) (suc j) new less low same = new_at xs i j new.1 (omega arith) (omega arith) same
+
+proving_at : (ys : List ℤ) (bs : List Blossom) (nodes : List ℕ) (i : ℕ) → AllByRecursion (IsProving ys bs) nodes → i < length nodes → IsProving ys bs (get_or nodes i 0)
+proving_at ys bs nodes i each low = All-from_recursion (IsProving ys bs) nodes each i 0 low
+
+-- the sets are different, and of any two one holds the other or they have no vertex in common
+pub nested_sets : (n : ℕ) (ys : List ℤ) (bs : List Blossom) (nodes : List ℕ) → IsNested n bs → AllByRecursion (IsKnown ys bs) bs → AreProving ys (names_of bs) nodes → AreNested (sets_at ys bs nodes)
+nested_sets n ys bs nodes nested each list =
+    let proving = each_proving ys bs bs nodes each list in
+    let size = length-map nodes (set_of ys bs) in
+    let node : ℕ → ℕ = λ i. get_or nodes i 0 in
+    let is : (i : ℕ) → i < length nodes → is_node n bs (get_or nodes i 0) ≡ true = λ i low. name_is_node n bs (get_or nodes i 0) (proving_at ys bs nodes i proving low).named in
+    record {
+      different = λ i j less low same.
+          let high : j < length nodes = omega (arith, size, low) in
+          let before : i < length nodes = omega (arith, high, less) in
+          let one = ap (λ (t : OddSet). t.members) (set_at_place ys bs nodes i before) in
+          let other = ap (λ (t : OddSet). t.members) (set_at_place ys bs nodes j high) in
+          new_at nodes i j (nodes_new ys bs nodes (names_new n bs nested) list) less high
+          (members_differ n bs (get_or nodes i 0) (get_or nodes j 0) nested (is i before) (is j high)
+          (λ v. ap (λ ms. holds ms v) (sym one) ∙ same v ∙ ap (λ ms. holds ms v) other));
+      laminar = λ i j less low.
+          let high : j < length nodes = omega (arith, size, low) in
+          let before : i < length nodes = omega (arith, high, less) in
+          subst (λ (t : OddSet). AreLaminar t.members (set_at (sets_at ys bs nodes) j).members) (sym (set_at_place ys bs nodes i before))
+          (subst (λ (t : OddSet). AreLaminar (members_of bs (get_or nodes i 0)) t.members) (sym (set_at_place ys bs nodes j high))
+          (members_laminar n bs (get_or nodes i 0) (get_or nodes j 0) nested (is i before) (is j high)));
+    }
+
+-- a set of a certificate: a listed blossom's dual, and its vertices, ascending
+pub record IsOf (ys : List ℤ) (bs : List Blossom) (t : OddSet) : Type 0 where
+  pub node : ℕ
+  pub named : holds (names_of bs) node ≡ true
+  pub positive : pos 1 ≤ℤ t.dual
+  pub members : AreSame t.members (members_of bs node)
+  pub ascending : IsStrictlyIncreasing t.members
+
+pub each_of : (ys : List ℤ) (bs : List Blossom) (nodes : List ℕ) (sets : List OddSet) → AllByRecursion (IsProving ys bs) nodes → AreAscending (sets_at ys bs nodes) sets → AllByRecursion (IsOf ys bs) sets
+each_of ys bs [] sets each same = subst (AllByRecursion (IsOf ys bs)) (sym same) tt
+each_of ys bs (a ∷ nodes) sets each same = subst (AllByRecursion (IsOf ys bs)) (sym same.2) (
+  record {
+    node = a;
+    named = each.0.named;
+    positive = subst (λ z. pos 1 ≤ℤ z) (sym same.3) each.0.positive;
+    members = same.4;
+    ascending = same.5;
+  },
+  each_of ys bs nodes same.1 each.1 same.6,
+)
+
+-- the sets with their members in ascending order are those of the blossoms, without those of dual 0
+pub sets_listed : (ys : List ℤ) (bs left : List Blossom) (nodes : List ℕ) (sets : List OddSet) → AllByRecursion (IsKnown ys bs) left → AreProving ys (names_of left) nodes → AreAscending (sets_at ys bs nodes) sets → AreListed ys left sets
+sets_listed ys bs [] nodes sets each list same = subst (λ ns. AreAscending (sets_at ys bs ns) sets) list same
+sets_listed ys bs (b ∷ older) nodes sets each list same = ⊎_elim
+    (λ out.
+    let none : dual_at ys b.node ≡ pos 0 = omega (arith, ints, out.0, each.0.low) in
+    inl (none, sets_listed ys bs older nodes sets each.1 out.1 same))
+    (λ kept.
+    let here = subst (λ ns. AreAscending (sets_at ys bs ns) sets) kept.1 same in
+    inr (
+      here.0,
+      here.1,
+      here.2,
+      record { dual = here.3; members = λ v. here.4 v ∙ ap (λ ms. holds ms v) each.0.members },
+      sets_listed ys bs older kept.0 here.1 each.1 kept.3 here.6,
+    ))
+    list

@@ -1,0 +1,36 @@
+-- What a run leaves, from what its search has come to.
+use Rattle.std.proofs.Common.{◌≡◌, ◌∙◌, ℕ, Bool, List, Some, true, ◌&&◌, ap}
+use Rattle.graph_theory.specs.Parts.{holds}
+use Rattle.blossom_arena.specs.Family.{is_vertex, outermost}
+use Rattle.alt_forest.specs.declared.label.Label.TheVariants.{Inner}
+use Rattle.alt_forest.specs.declared.search.Search.{Search}
+use Rattle.alt_forest.specs.State.{State}
+use Rattle.alt_forest.specs.Searches.{state_of}
+use Rattle.alt_forest.specs.Trees.{is_label}
+use Rattle.alt_forest.proofs.Places.{nested_of}
+use Rattle.alt_forest.proofs.Ascending.{picked_set, holds-picked}
+use Rattle.dual_change.specs.Laws.{inner_vertices}
+use Rattle.dual_change.proofs.Least.{stuck_none}
+use Rattle.dual_change.proofs.Barrier.{barrier}
+use Rattle.mwpm_engine.specs.declared.outcome.Outcome.{Outcome}
+use Rattle.mwpm_engine.specs.declared.outcome.Outcome.TheVariants.{Matched, Barrier}
+use Rattle.mwpm_engine.specs.Solutions.{Ends}
+use Rattle.mwpm_engine.specs.Solving.{solution_of, AreProvingSets}
+use Rattle.mwpm_engine.specs.Passes.{Concludes}
+use Rattle.mwpm_engine.proofs.Certificate.{solved}
+
+pub ends : (s : Search) (outcome : Outcome) (nodes : List ℕ) → Concludes s outcome → AreProvingSets s nodes → Ends (solution_of s (Some outcome) nodes) outcome
+ends s Matched nodes h list = solved s (Some Matched) nodes h.0 h.1 h.2 list
+ends s Barrier nodes h list =
+    let t = state_of s in
+    let nested = nested_of s h.sound.shape in
+    let graph = h.sound.shape.graph.graph in (
+      picked_set s.graph.vertices (λ v. is_label (t.label (outermost t.blossoms v)) Inner),
+      barrier t h.sound.depth graph nested (stuck_none t h.sound.depth graph nested h.sound.state h.one_tree h.stuck) h.sound.state h.root h.is_root,
+    )
+
+-- a vertex is one of the inner ones if its outermost node is inner
+pub inner_test : (s : State) (v : ℕ) → is_vertex s.graph.vertices v ≡ true → holds (inner_vertices s) v ≡ is_label (s.label (outermost s.blossoms v)) Inner
+inner_test s v vertex =
+    let p : ℕ → Bool = λ w. is_label (s.label (outermost s.blossoms w)) Inner in
+    holds-picked s.graph.vertices p v ∙ ap (λ b. b && p v) vertex

@@ -1,0 +1,17 @@
+use Rattle.std.proofs.Common.{◌≡◌, ◌∙◌, true, sym, ap, subst}
+use Rattle.blossom_arena.specs.Family.{is_vertex}
+use Rattle.blossom_arena.proofs.Nested.{vertex_range}
+use Rattle.alt_forest.specs.Searches.{edge_in}
+use Rattle.mwpm_engine.specs.Solutions.{Solution, mate_at}
+use Rattle.mwpm_engine.specs.Solving.{number_or_none}
+use Rattle.mwpm_engine.proofs.CertificateMates.{mate_numbers_at}
+use Rattle.mwpm_engine.proofs.engine.Engine.mate.Goals as goal
+
+pub returns : goal.returns
+returns c =
+    let s = c.self.inside.search in
+    let v = c.args.v in
+    let vertex : is_vertex s.graph.vertices v ≡ true = subst (λ (t : Solution). is_vertex t.graph.vertices v ≡ true) (sym c.self.view_is) c.requires.vertex in
+    let range = vertex_range s.graph.vertices v vertex in
+    c.edge_or_none.ensures ∙ ap (λ xs. number_or_none (edge_in xs c.number.result)) c.deref.ensures.value ∙ ap (λ a. number_or_none (edge_in s.mates.items a)) c.number.ensures
+    ∙ sym (mate_numbers_at (edge_in s.mates.items) s.graph.vertices v range.0 range.1) ∙ ap (λ (t : Solution). mate_at t.mates v) c.self.view_is

@@ -1,0 +1,20 @@
+-- How an engine keeps its solution. No public clause cites this module.
+use Rattle.std.specs.Prelude.{◌≡◌, ◌≤◌, true, vec_len}
+use Rattle.std.specs.List.{AllByRecursion}
+use Rattle.std.specs.Vec.{vec_capacity}
+use Rattle.blossom_arena.specs.Family.{is_node, room_of}
+use Rattle.alt_forest.specs.Searches.{HasShape}
+use Rattle.mwpm_engine.specs.declared.engine.Engine.TheInside.{Inside}
+use Rattle.mwpm_engine.specs.Solutions.{Solution}
+use Rattle.mwpm_engine.specs.Solving.{solution_of}
+
+-- what contracts see of it
+abbrev pub seen : Inside → Solution
+seen a = solution_of a.search a.outcome a.sets.items
+
+-- the search has its shape, and the listed sets are nodes, no more than blossoms can be, for which there is room
+pub record IsKept (a : Inside) : Type 0 where
+  pub shape : HasShape a.search
+  pub nodes : AllByRecursion (λ b. is_node a.search.graph.vertices a.search.arena.blossoms b ≡ true) a.sets.items
+  pub few : vec_len a.sets ≤ room_of a.search.graph.vertices
+  pub room : room_of a.search.graph.vertices ≤ vec_capacity a.sets

@@ -1,0 +1,5 @@
+pub mod Solutions
+pub mod Bounds
+pub mod Solving
+pub mod Passes
+pub mod Kept

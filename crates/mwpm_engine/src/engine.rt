@@ -1,0 +1,170 @@
+ghost use Rattle.std.specs.Prelude.{◌≡◌, ◌<◌, ◌≤◌, ◌+◌, ℕ, true, [], Some, None, IfOk, length, slice_index_or, pos};
+ghost use Rattle.std.specs.Vec.{vec_capacity};
+ghost use Rattle.graph_theory.specs.Parts.{holds};
+ghost use Rattle.graph_theory.specs.Duals.{dual_of, set_at};
+ghost use Rattle.blossom_arena.specs.Family.{is_vertex, room_of};
+ghost use Rattle.alt_forest.specs.declared.label.Label.TheVariants.{Inner};
+ghost use Rattle.alt_forest.specs.Searches.{IsSearchGraph, edge_in, label_at};
+ghost use Rattle.alt_forest.specs.Trees.{is_label};
+ghost use Rattle.mwpm_engine.specs.Solutions.{Solution, Ends, mate_at, most_steps};
+ghost use Rattle.mwpm_engine.specs.Solving.{number_or_none};
+ghost use Rattle.mwpm_engine.specs.declared.outcome.Outcome.TheVariants.{Matched, Barrier};
+
+use crate::listing::list_sets;
+use crate::outcome::Outcome;
+use crate::solving::solve;
+use alt_forest::{Label, Search};
+use blossom_arena::{Members, NodeId};
+use mb_base::{EdgeId, OutOfMemory, Steps, VertexId};
+use std::alloc::{AllocError, Global};
+use std::marker::Model;
+use std::sync::ledger::Ledger;
+use weighted_graph::Graph;
+
+/// Edmonds' search for a perfect matching of one graph (chapters 24 and 26): it is made, run once, and
+/// then read. `sets` are the blossoms of dual at least 1. Contracts see what the run left.
+#[derive(Drop)]
+pub struct Engine {
+    search: Search,
+    outcome: Option<Outcome>,
+    sets: Vec<NodeId>,
+}
+
+impl Model for Engine {
+    ghost use Rattle.mwpm_engine.specs.Solutions.{Solution};
+    ghost use Rattle.mwpm_engine.specs.Kept.{seen, IsKept};
+
+    ghost Value = { Solution };
+
+    ghost view = { seen };
+
+    ghost invariant = { IsKept };
+}
+
+/// A list with room for so many nodes.
+fn room_for(alloc: Global, nodes: usize) -> Result<Vec<NodeId>, OutOfMemory>
+    ensures room { IfOk result (λ list. nodes ≤ vec_capacity list) }
+    ensures empty { IfOk result (λ list. list.items ≡ []) }
+{
+    let list = Vec::with_capacity(alloc, nodes)?;
+    if list.capacity() < nodes {
+        return Err(AllocError);
+    }
+    Ok(list)
+}
+
+/// The number of the edge that is kept for a node, or 0 where there is none.
+fn edge_or_none(edges: &[Option<EdgeId>], node: u32) -> EdgeId
+    requires { node < length edges.now }
+    ensures { result ≡ number_or_none (edge_in edges.now node) }
+{
+    match edges[node as usize] {
+        Some(e) => e,
+        None => EdgeId::new(0),
+    }
+}
+
+/// Whether a label is that of an inner node.
+fn is_inner(label: Label) -> bool
+    ensures { result ≡ is_label label Inner }
+{
+    match label {
+        Label::Inner => true,
+        _ => false,
+    }
+}
+
+/// The label of a node.
+fn label_of(labels: &[Label], node: NodeId) -> Label
+    requires { node < length labels.now }
+    ensures { result ≡ label_at labels.now node }
+{
+    labels[node.number() as usize]
+}
+
+impl Engine {
+    /// An engine for a graph, which it copies. All memory that a run wants is taken here, so an error is
+    /// want of memory. It takes time and memory linear in the vertices and edges.
+    pub fn new(alloc: Global, graph: &Graph) -> Result<Engine, OutOfMemory>
+        requires graph { IsSearchGraph graph.now }
+        ensures graph { IfOk result (λ s. s.graph ≡ graph.now) }
+        ensures fresh { IfOk result (λ s. s.outcome ≡ None) }
+    {
+        let search = Search::new(alloc, graph)?;
+        let room = graph.vertices().saturating_sub(1) as usize / 2;
+        Ok(Engine {
+            search,
+            outcome: None,
+            sets: room_for(alloc, room)?,
+        })
+    }
+
+    /// Runs the search (chapters 24 and 26): it ends with a perfect matching of least weight or with a
+    /// barrier. The graph is the one that the engine was made for. `steps` counts its looks at edges, its
+    /// changes of duals and its events: with n vertices and m edges at most (n + 1)(3n + 2)(m + 1). There
+    /// are two passes, of at most n / 2 phases that augment and one that is stuck; a phase has at most
+    /// 3n / 2 events, and before each of these all edges are looked at. It takes no memory.
+    pub fn run<L: Ledger>(&mut self, graph: &Graph, steps: &mut Steps<L>) -> Outcome
+        requires same { graph.now ≡ self.old.graph }
+        requires fresh { self.old.outcome ≡ None }
+        ensures outcome { self.new.outcome ≡ Some result }
+        ensures graph { self.new.graph ≡ self.old.graph }
+        ensures ends { Ends self.new result }
+        ensures steps { steps.new ≤ steps.old + most_steps self.old.graph }
+    {
+        let outcome = solve(&mut self.search, graph, steps);
+        list_sets(&self.search.arena, &mut self.sets);
+        self.outcome = Some(outcome);
+        outcome
+    }
+
+    /// The edge at a vertex in the perfect matching that was found, in constant time.
+    pub fn mate(&self, v: VertexId) -> EdgeId
+        requires matched { self.now.outcome ≡ Some Matched }
+        requires vertex { is_vertex self.now.graph.vertices v ≡ true }
+        ensures { result ≡ mate_at self.now.mates v }
+    {
+        edge_or_none(&self.search.mates, v.number())
+    }
+
+    /// The dual of a vertex, in doubled units, in constant time.
+    pub fn dual(&self, v: VertexId) -> i64
+        requires matched { self.now.outcome ≡ Some Matched }
+        requires vertex { is_vertex self.now.graph.vertices v ≡ true }
+        ensures { result ≡ dual_of self.now.duals v }
+    {
+        self.search.arena.dual(NodeId::new(v.number()))
+    }
+
+    /// How many odd sets have a dual of at least 1.
+    pub fn set_count(&self) -> u32
+        requires matched { self.now.outcome ≡ Some Matched }
+        ensures { result ≡ length self.now.sets }
+    {
+        self.sets.len() as u32
+    }
+
+    /// The dual of an odd set, in doubled units, and its vertices in any order; the sets count from 0.
+    pub fn set(&self, i: u32) -> (i64, Members<'_>)
+        requires matched { self.now.outcome ≡ Some Matched }
+        requires i { i < length self.now.sets }
+        ensures dual { result.0 ≡ (set_at self.now.sets i).dual }
+        ensures members { result.1 ≡ (set_at self.now.sets i).members }
+    {
+        let node = self.sets[i as usize];
+        (
+            self.search.arena.dual(node),
+            self.search.arena.members(node),
+        )
+    }
+
+    /// Whether a vertex is in the barrier that was found, in constant time.
+    pub fn in_barrier(&self, v: VertexId) -> bool
+        requires barrier { self.now.outcome ≡ Some Barrier }
+        requires vertex { is_vertex self.now.graph.vertices v ≡ true }
+        ensures { result ≡ holds self.now.barrier v }
+    {
+        let node = self.search.arena.outermost(v);
+        is_inner(label_of(&self.search.labels, node))
+    }
+}

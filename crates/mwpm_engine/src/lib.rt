@@ -1,0 +1,17 @@
+//! Edmonds' search for a perfect matching (Schrijver, Combinatorial Optimization, volume A, chapters 24 and 26).
+//! It stands on the crates of the search, from `blossom_arena` to `augment`. It promises that a run ends with a perfect matching
+//! and duals that prove it least, or with a barrier.
+#![tactic(auto)]
+
+mod engine;
+mod listing;
+mod outcome;
+mod pass;
+mod phase;
+mod solving;
+#[cfg(test)]
+mod tests;
+mod weights;
+
+pub use engine::Engine;
+pub use outcome::Outcome;

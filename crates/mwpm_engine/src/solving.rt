@@ -1,0 +1,65 @@
+ghost use Rattle.std.specs.Prelude.{◌≡◌, ◌≤◌, ◌+◌, ◌*◌, ℕ, true, MatchBool};
+ghost use Rattle.alt_forest.specs.declared.label.Weights.TheVariants.{Given};
+ghost use Rattle.alt_forest.specs.Searches.{HasShape, IsStart};
+ghost use Rattle.mwpm_engine.specs.Solutions.{HasPerfect, most_steps};
+ghost use Rattle.mwpm_engine.specs.Solving.{IsUnpacked, HasBoundedDuals};
+ghost use Rattle.mwpm_engine.specs.Passes.{HasStuckTree, Concludes, phase_steps, phases_doubled};
+
+use crate::outcome::Outcome;
+use crate::pass::pass;
+use crate::weights::{is_unweighted, least_weight};
+use alt_forest::{Search, Weights};
+use augment::unpack;
+use mb_base::Steps;
+use std::sync::ledger::Ledger;
+use weighted_graph::Graph;
+
+/// A pass from the beginning, whose matching is unpacked; false where a tree is stuck. A pass with
+/// weights is made only where there is a perfect matching: else its duals have no bound.
+fn pass_anew<L: Ledger>(
+    search: &mut Search,
+    graph: &Graph,
+    weights: Weights,
+    start: i64,
+    steps: &mut Steps<L>,
+) -> bool
+    requires shape { HasShape search.old }
+    requires same { graph.now ≡ search.old.graph }
+    requires start { IsStart graph.now weights start }
+    requires perfect { weights ≡ Given → HasPerfect graph.now }
+    ensures ends { MatchBool result (IsUnpacked search.new) (HasStuckTree search.new) }
+    ensures bounded { result ≡ true → HasBoundedDuals search.new }
+    ensures shape { HasShape search.new }
+    ensures graph { search.new.graph ≡ search.old.graph }
+    ensures weights { search.new.weights ≡ weights }
+    ensures steps { 2 * steps.new ≤ 2 * steps.old + phases_doubled graph.now.vertices result * phase_steps graph.now }
+{
+    search.reset(graph, weights, start);
+    if !pass(search, graph, steps) {
+        return false;
+    }
+    unpack(search);
+    true
+}
+
+/// Searches for a perfect matching, whatever the weights, and then, where some weight isn't 0, for one
+/// of least weight (chapters 24 and 26).
+pub(crate) fn solve<L: Ledger>(search: &mut Search, graph: &Graph, steps: &mut Steps<L>) -> Outcome
+    requires shape { HasShape search.old }
+    requires same { graph.now ≡ search.old.graph }
+    ensures concludes { Concludes search.new result }
+    ensures shape { HasShape search.new }
+    ensures graph { search.new.graph ≡ search.old.graph }
+    ensures steps { steps.new ≤ steps.old + most_steps graph.now }
+{
+    if !pass_anew(search, graph, Weights::Zero, 0, steps) {
+        return Outcome::Barrier;
+    }
+    if is_unweighted(graph) {
+        return Outcome::Matched;
+    }
+    if !pass_anew(search, graph, Weights::Given, least_weight(graph), steps) {
+        return Outcome::Barrier;
+    }
+    Outcome::Matched
+}
