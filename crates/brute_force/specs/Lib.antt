@@ -1,0 +1,3 @@
+pub mod Best
+pub mod BinaryDigits
+pub mod Tried
