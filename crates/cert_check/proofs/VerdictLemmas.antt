@@ -39,7 +39,7 @@ set_forms kind i d formed p Infeasible is = formed.forms_where_none (λ (other :
 set_forms kind i d formed p NonConservative is = formed.forms_where_none (λ (other : d.status ≡ Optimal). absurd (cc))
 
 -- what is proved keeps every rule
-proved-keeps : (kind : Kind) (i : Network) (d : Document) → IsFormed d → IsProved kind i d → (rule : DocRule) → Keeps kind i d rule
+pub proved-keeps : (kind : Kind) (i : Network) (d : Document) → IsFormed d → IsProved kind i d → (rule : DocRule) → Keeps kind i d rule
 proved-keeps kind i d formed p DocForm = tt
 proved-keeps kind i d formed p KindDiffers = p.same_kind
 proved-keeps kind i d formed p DocRange = p.in_range
