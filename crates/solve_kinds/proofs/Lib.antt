@@ -1,0 +1,12 @@
+pub mod Passing
+pub mod Ascents
+pub mod CountLines
+pub mod Weights
+pub mod DualLines
+pub mod SetLines
+pub mod InRange
+pub mod Presented
+pub mod Texts
+pub mod Short
+pub mod Excluding
+pub mod Forms

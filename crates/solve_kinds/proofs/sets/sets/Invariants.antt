@@ -1,0 +1,10 @@
+use Rattle.std.proofs.Common.{pos, ◌≤ℤ◌, take, map, All}
+use Rattle.cert_check.specs.Claims.{set_of}
+use Rattle.mwpm_engine.specs.Solutions.{AreAscending}
+use Rattle.solve_kinds.proofs.sets.sets.Given as goal
+
+abbrev pub invariant-loop-place : goal.invariant-loop-place
+invariant-loop-place l = record {
+  sets : AreAscending (take l.place l.engine.sets) (map set_of l.lines.items);
+  natural : All (λ z. All (λ m. pos 0 ≤ℤ m) z.members) l.lines.items;
+}
