@@ -1,7 +1,7 @@
 -- From the answer of a part of `check` to the answer of the whole.
-use Rattle.std.proofs.Common.{◌≡◌, ℕ, ◌+◌, pos, ◌≤ℤ◌, All, List, length, Result, Ok, Err, inl, inr, sym, ap, ap₂, subst, ◌∙◌, refl}
+use Rattle.std.proofs.Common.{◌≡◌, ℕ, ◌+◌, pos, ◌≤ℤ◌, All, List, Result, Ok, Err, inl, inr, sym, subst, refl}
 use Rattle.std.specs.Prelude.{IfOk}
-use Rattle.mb_base.specs.Rows.{Row, rows}
+use Rattle.mb_base.specs.Rows.{rows}
 use Rattle.mb_problem.specs.declared.kind.Kind.{Kind}
 use Rattle.mb_problem.specs.declared.kind.Kind.TheVariants.{Postman}
 use Rattle.mb_problem.specs.Network.{Network}
@@ -53,7 +53,7 @@ decides_from kind bytes i out ReadFault h a = absurd a.1
 decides_from kind bytes i out WriteFault h a = absurd a.1
 decides_from kind bytes i out OutOfMemory h a = absurd a.1
 
-if_ok-map : {A E : Type 0} (P Q : A → Type 0) (r : Result A E) → ((a : A) → P a → Q a) → IfOk r P → IfOk r Q
+pub if_ok-map : {A E : Type 0} (P Q : A → Type 0) (r : Result A E) → ((a : A) → P a → Q a) → IfOk r P → IfOk r Q
 if_ok-map P Q (Ok a) f h = f a h
 if_ok-map P Q (Err e) f h = tt
 

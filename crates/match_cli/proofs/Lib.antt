@@ -1,2 +1,12 @@
 pub mod Checks
 pub mod Prepares
+pub mod InputParts
+pub mod Renumbering
+pub mod KeptNumbers
+pub mod SameClaims
+pub mod SolveTruth
+pub mod CommandLines
+pub mod AcceptedAgain
+pub mod StepCounts
+pub mod SolveAnswers
+pub mod Completeness

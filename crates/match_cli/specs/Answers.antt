@@ -1,15 +1,17 @@
 -- What the program answers to its words and its input: what is written, and the status.
-use Rattle.std.specs.Prelude.{◌≡◌, ℕ, ◌+◌, ◌<◌, ◌≤◌, ◌⊎◌, List, length, codes, Option, None, Some}
+use Rattle.std.specs.Prelude.{◌≡◌, ℕ, ◌+◌, ◌<◌, ◌≤◌, ◌⊎◌, List, length, Bool, codes, Option, None, Some}
 use Rattle.mb_base.specs.Rows.{Row, rows}
 use Rattle.mb_problem.specs.declared.kind.Kind.{Kind}
 use Rattle.mb_problem.specs.Network.{Network}
 use Rattle.mb_problem.specs.Size.{size_of}
 use Rattle.dimacs_read.specs.declared.rule.Rule.{Rule}
-use Rattle.dimacs_read.specs.Rows.{instance_rows}
-use Rattle.dimacs_read.specs.Format.{IsFirstFault, HoldsInstance}
+use Rattle.dimacs_read.specs.declared.rule.Rule.TheVariants.{UnknownLine}
+use Rattle.dimacs_read.specs.Rows.{instance_rows, is_solution}
+use Rattle.dimacs_read.specs.Format.{IsFirstFault, HoldsInstance, first_place}
 use Rattle.dimacs_read.specs.Rest.{after_lines}
 use Rattle.doc_format.specs.declared.document.Document.{Document}
 use Rattle.doc_format.specs.Reading.{HoldsDocument}
+use Rattle.doc_format.specs.Spelling.{document_text}
 use Rattle.cert_check.specs.declared.rule.DocRule.{DocRule}
 use Rattle.cert_check.specs.declared.rule.Verdict.TheVariants as verdict
 use Rattle.cert_check.specs.Verdicts.{IsVerdict}
@@ -17,9 +19,11 @@ use Rattle.cert_check.specs.Proved.{StatesTruth}
 use Rattle.match_cli.specs.declared.status.Status.{Status}
 use Rattle.match_cli.specs.declared.status.Status.TheVariants.{Done, Rejected, Usage, Malformed, TooLarge, TooLong}
 use Rattle.match_cli.specs.declared.words.Command.{Command}
-use Rattle.match_cli.specs.Commands.{command_of, limit_of, kind_of}
+use Rattle.match_cli.specs.declared.words.Command.TheVariants.{Check, Solve}
+use Rattle.match_cli.specs.Commands.{command_of, limit_of}
 use Rattle.match_cli.specs.Lines.{malformed_line, rejected_line, too_large_line}
 use Rattle.match_cli.specs.Checking.{RefusesFirst, FitsLimits, PassesLimit}
+use Rattle.match_cli.specs.Solving.{Solves}
 
 -- ---- the two parts of an input
 
@@ -63,10 +67,39 @@ Decides kind bytes out Rejected = (i : Network) × InputHolds kind bytes i × Fi
 Decides kind bytes out Done = (i : Network) × (d : Document) × Accepts kind bytes i d × (out ≡ codes "s ACCEPTED\n")
 Decides kind bytes out _ = ⊥
 
+-- ---- solve
+
+-- the place, from 0, of the first line that begins with the field s, where there is one
+abbrev pub answer_place : List ℕ → Option ℕ
+answer_place bytes = first_place is_solution (rows bytes)
+
+-- the input holds this instance and nothing else
+pub record HoldsAlone (kind : Kind) (bytes : List ℕ) (i : Network) : Type 0 where
+  pub holds : InputHolds kind bytes i
+  pub alone : answer_place bytes ≡ None
+
+-- The first rule that an input for `solve` breaks, and its line: one of the instance, or an answer follows a whole instance.
+abbrev pub RefusesInput : Kind → List ℕ → Rule → ℕ → Type 0
+RefusesInput kind bytes rule line =
+    IsFirstFault kind (instance_part bytes) rule line
+    ⊎ (((i : Network) × InputHolds kind bytes i) × (rule ≡ UnknownLine) × ((k : ℕ) × (answer_place bytes ≡ Some k) × (line ≡ k + 1)))
+
+-- what `solve` writes, in full or in brief, and its status, for input within its limit of bytes
+abbrev pub DecidesSolve : Kind → Bool → List ℕ → List ℕ → Status → Type 0
+DecidesSolve kind brief bytes out Malformed = (rule : Rule) × (line : ℕ) × RefusesInput kind bytes rule line × (out ≡ malformed_line rule line)
+DecidesSolve kind brief bytes out TooLarge = (i : Network) × HoldsAlone kind bytes i × PassesLimit (size_of kind i) × (out ≡ too_large_line (size_of kind i))
+DecidesSolve kind brief bytes out Done = (i : Network) × (d : Document) × HoldsAlone kind bytes i × FitsLimits (size_of kind i) × Solves kind i d × (out ≡ document_text d brief)
+DecidesSolve kind brief bytes out _ = ⊥
+
 -- ---- the program
+
+-- what a command writes, and its status, for input within its limit of bytes
+abbrev pub Answers : Command → List ℕ → List ℕ → Status → Type 0
+Answers (Check kind) bytes out status = Decides kind bytes out status
+Answers (Solve kind brief) bytes out status = DecidesSolve kind brief bytes out status
 
 -- The answer to words and bytes: what is written, and the status.
 abbrev pub Out : List (List ℕ) → List ℕ → List ℕ → Status → Type 0
 Out words bytes out Usage = (command_of words ≡ None) × (out ≡ codes "s USAGE\n")
 Out words bytes out TooLong = (command : Command) × (command_of words ≡ Some command) × (limit_of command < length bytes) × (out ≡ codes "s TOOLONG\n")
-Out words bytes out status = (command : Command) × (command_of words ≡ Some command) × (length bytes ≤ limit_of command) × Decides (kind_of command) bytes out status
+Out words bytes out status = (command : Command) × (command_of words ≡ Some command) × (length bytes ≤ limit_of command) × Answers command bytes out status

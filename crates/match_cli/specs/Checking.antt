@@ -12,7 +12,7 @@ use Rattle.cert_check.specs.declared.rule.Verdict.TheVariants as verdict
 use Rattle.cert_check.specs.Verdicts.{IsVerdict}
 use Rattle.cert_check.specs.Proved.{StatesTruth}
 use Rattle.match_cli.specs.declared.status.Status.{Status}
-use Rattle.match_cli.specs.declared.status.Status.TheVariants.{Done, Rejected, Usage, Malformed, TooLarge, TooLong}
+use Rattle.match_cli.specs.declared.status.Status.TheVariants.{Done, Rejected, TooLarge}
 use Rattle.match_cli.specs.declared.answer.Answer.{Answer}
 use Rattle.match_cli.specs.Lines.{rejected_line, too_large_line}
 

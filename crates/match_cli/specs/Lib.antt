@@ -2,6 +2,8 @@ pub mod Codes
 pub mod Commands
 pub mod Lines
 pub mod Checking
+pub mod Solving
 pub mod Answers
+pub mod Counts
 pub mod Runs
 pub mod Prepared

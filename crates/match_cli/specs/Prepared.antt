@@ -1,13 +1,14 @@
 -- The answer that stands ready before anything is written.
-use Rattle.std.specs.Prelude.{◌≡◌, ℕ, ◌<◌, List, Option, Some, None, Result, Ok, Err}
+use Rattle.std.specs.Prelude.{◌≡◌, ℕ, ◌<◌, List, Option, Some, Result, Ok, Err}
 use Rattle.match_cli.specs.declared.status.Status.{Status}
-use Rattle.match_cli.specs.declared.status.Status.TheVariants.{Done, Rejected, Usage, Malformed, TooLarge, TooLong}
+use Rattle.match_cli.specs.declared.status.Status.TheVariants.{Done, Rejected, Usage, Malformed, TooLarge, TooLong, ReadFault, OutOfMemory}
 use Rattle.match_cli.specs.declared.answer.Answer.{Answer}
 use Rattle.match_cli.specs.declared.top.Stop.{Stop}
 use Rattle.match_cli.specs.declared.top.Stop.TheVariants as stop
 use Rattle.match_cli.specs.declared.words.Command.{Command}
 use Rattle.match_cli.specs.Commands.{command_of}
-use Rattle.match_cli.specs.Runs.{IsAnswer, IsUsage, TellsTruth}
+use Rattle.match_cli.specs.Counts.{CountsSteps}
+use Rattle.match_cli.specs.Runs.{IsAnswer, IsUsage}
 
 -- this text and status, or want of memory
 abbrev pub Readies : List ℕ → Status → Result Answer Stop → Type 0
@@ -39,3 +40,9 @@ abbrev pub CountsPrepared : ℕ → ℕ → Result Answer Stop → Type 0
 CountsPrepared before after (Ok a) = after ≡ before
 CountsPrepared before after (Err stop.ReadFault) = before < after
 CountsPrepared before after (Err stop.OutOfMemory) = after ≡ before
+
+-- the count of steps, by the answer
+abbrev pub CountsPreparedSteps : Option Command → ℕ → ℕ → Result Answer Stop → Type 0
+CountsPreparedSteps command before after (Ok a) = CountsSteps command before after a.status
+CountsPreparedSteps command before after (Err stop.ReadFault) = CountsSteps command before after ReadFault
+CountsPreparedSteps command before after (Err stop.OutOfMemory) = CountsSteps command before after OutOfMemory

@@ -1,29 +1,20 @@
 ghost use Rattle.std.specs.Prelude.{◌≡◌, ◌+◌, ◌<◌, ◌≤◌, ◌^◌, codes, length, IfOk};
 ghost use Rattle.mb_problem.specs.Size.{size_of};
 ghost use Rattle.dimacs_read.specs.Ready.{IsReady};
-ghost use Rattle.match_cli.specs.Lines.{malformed_line, rejected_line, too_large_line};
+ghost use Rattle.match_cli.specs.Lines.{rejected_line};
 ghost use Rattle.match_cli.specs.Answers.{Decides};
 ghost use Rattle.match_cli.specs.Checking.{FitsLimits, DecidesDocument, DecidesRest, DecidesInstance};
 
 use crate::answer::{Answer, line};
-use crate::names::{document_rule, instance_rule};
+use crate::names::document_rule;
+use crate::refusal::{malformed, too_large};
 use crate::status::Status;
 use cert_check::{DocRule, Verdict, judge};
-use dimacs_read::{InstanceError, Rest, Rule, read};
+use dimacs_read::{InstanceError, Rest, read};
 use doc_format::{DocError, Document};
-use itoa::Buffer;
 use mb_base::OutOfMemory;
 use mb_problem::{Instance, Kind, gadget_size};
 use std::alloc::{AllocError, Global};
-
-fn malformed(alloc: Global, rule: Rule, number: u64) -> Result<Answer, OutOfMemory>
-    ensures text { IfOk result (λ a. a.text.items ≡ malformed_line rule number) }
-    ensures status { IfOk result (λ a. a.status ≡ Status.Malformed) }
-{
-    let text = line(alloc, b"s MALFORMED ", instance_rule(rule), number)?;
-    let status = Status::Malformed;
-    Ok(Answer { text, status })
-}
 
 fn rejected(alloc: Global, rule: DocRule, number: u64) -> Result<Answer, OutOfMemory>
     ensures text { IfOk result (λ a. a.text.items ≡ rejected_line rule number) }
@@ -78,21 +69,6 @@ fn check_rest(
         Err(DocError::DocForm { line }) => rejected(alloc, DocRule::DocForm, line),
         Err(DocError::OutOfMemory) => Err(AllocError),
     }
-}
-
-fn too_large(alloc: Global, vertices: u64, edges: u64) -> Result<Answer, OutOfMemory>
-    ensures text { IfOk result (λ a. a.text.items ≡ too_large_line (record { vertices = vertices; edges = edges })) }
-    ensures status { IfOk result (λ a. a.status ≡ Status.TooLarge) }
-{
-    let mut buffer = Buffer::new();
-    let text = line(
-        alloc,
-        b"s TOOLARGE ",
-        buffer.format(vertices).as_bytes(),
-        edges,
-    )?;
-    let status = Status::TooLarge;
-    Ok(Answer { text, status })
 }
 
 /// The answer to an instance and what follows it: the size is tested first.

@@ -1,13 +1,16 @@
 //! The program as one call over any source and any sink: `run` reads the words of the command line,
 //! the input, and writes the answer.
-//! It stands on the readers of instances and documents and on the judge of certificates. It promises
-//! the whole way from bytes to bytes: which answer comes for which input, that an accepted document
-//! is true of its instance, and what each fault leaves.
+//! It stands on the readers of instances and documents, on the judge of certificates and on the
+//! solvers. It promises the whole way from bytes to bytes: which answer comes for which input, that a
+//! document that is accepted or written is true of its instance, that what is written in full is
+//! accepted, and what each fault leaves.
 #![tactic(auto)]
 
 mod answer;
 mod check;
 mod names;
+mod refusal;
+mod solve;
 mod status;
 mod top;
 mod words;

@@ -4,7 +4,7 @@ ghost use Rattle.match_cli.specs.Codes.{code_of};
 /// How a run ended.
 #[derive(Clone, Copy, Debug, PartialEq, Eq)]
 pub enum Status {
-    /// The document was accepted.
+    /// The document was accepted, or the instance was solved.
     Done,
     /// The document was refused, by a rule at a line.
     Rejected,

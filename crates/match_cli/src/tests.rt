@@ -3,23 +3,29 @@ mod documents;
 mod instances;
 mod kinds;
 mod runs;
+mod solutions;
 
 use crate::status::Status;
 use case::Case;
 use documents::DOCUMENTS;
 use instances::INSTANCES;
 use kinds::{B_MATCHINGS, CAPACITIES, FACTORS, JOINS, MATCHINGS, PATHS, TOURS};
-use runs::{expect, with_faults};
+use runs::{expect, expect_in_pieces, with_faults, written};
+use solutions::{BRIEF, REFUSALS, SOLUTIONS, TRIANGLES, TRIANGLES_BRIEF};
 use std::alloc::Global;
 use std::process::Abort;
 use std::test::Fail;
 
 const CHECK: &[&str] = &["check", "perfect"];
 
+const SOLVE: &[&str] = &["solve", "perfect"];
+
+const BRIEFLY: &[&str] = &["solve", "perfect", "--brief"];
+
 const ONE_EDGE: &[u8] = b"p edge 2 1\ne 1 2 5\ns OPTIMAL perfect 5\nx 1 1\ny 1 5\ny 2 5\n";
 
-/// Asserts each case of a table of a kind.
-fn expect_all(rt: &impl Abort, alloc: Global, kind: &str, cases: &[Case]) -> Result<(), Fail> {
+/// Asserts each case of a table of a command.
+fn expect_each(rt: &impl Abort, alloc: Global, line: &[&str], cases: &[Case]) -> Result<(), Fail> {
     for case in cases {
         let mut input = Vec::from_slice(alloc, case.instance)?;
         input.extend_from_slice(case.document)?;
@@ -27,12 +33,17 @@ fn expect_all(rt: &impl Abort, alloc: Global, kind: &str, cases: &[Case]) -> Res
             rt,
             alloc,
             case.shows,
-            &["check", kind],
+            line,
             &input,
             (case.output, case.ends),
         )?;
     }
     Ok(())
+}
+
+/// Asserts each case of a table of a kind.
+fn expect_all(rt: &impl Abort, alloc: Global, kind: &str, cases: &[Case]) -> Result<(), Fail> {
+    expect_each(rt, alloc, &["check", kind], cases)
 }
 
 #[test]
@@ -147,15 +158,18 @@ fn an_input_that_is_cut(rt: HostRuntime) -> Result<(), Fail> {
 
 #[test]
 fn words_that_are_no_command(rt: HostRuntime) -> Result<(), Fail> {
-    let lines: [&[&str]; 9] = [
+    let lines: [&[&str]; 12] = [
         &[],
         &["check"],
         &["check", "cover"],
         &["check", "--", "perfect"],
         &["solve"],
-        &["solve", "perfect"],
         &["solve", "cover"],
+        &["solve", "match"],
+        &["solve", "--brief"],
         &["solve", "--", "perfect"],
+        &["solve", "perfect", "--brief", "--brief"],
+        &["check", "perfect", "--brief"],
         &["trial", "perfect", "1", "1", "1"],
     ];
     let usage = (b"s USAGE\n".as_slice(), Status::Usage);
@@ -167,19 +181,113 @@ fn words_that_are_no_command(rt: HostRuntime) -> Result<(), Fail> {
 }
 
 #[test]
-fn faults(rt: HostRuntime) -> Result<(), Fail> {
-    for call in 1..59u64 {
-        let (status, kept) = with_faults(rt.alloc(), ONE_EDGE, call, 0)?;
-        assert_eq!(rt; status, Status::ReadFault);
-        assert_eq!(rt; kept.len(), 0);
+fn inputs_that_are_not_solved(rt: HostRuntime) -> Result<(), Fail> {
+    let alloc = rt.alloc();
+    expect_each(&rt, alloc, SOLVE, &REFUSALS)?;
+    expect_each(&rt, alloc, BRIEFLY, &REFUSALS)?;
+    expect_each(&rt, alloc, &["solve", "--brief", "perfect"], &REFUSALS)
+}
+
+#[test]
+fn solves(rt: HostRuntime) -> Result<(), Fail> {
+    let alloc = rt.alloc();
+    expect_each(&rt, alloc, SOLVE, &SOLUTIONS)?;
+    expect_each(&rt, alloc, BRIEFLY, &BRIEF)?;
+    expect_each(&rt, alloc, &["solve", "--brief", "perfect"], &BRIEF)
+}
+
+#[test]
+fn what_is_solved_is_accepted(rt: HostRuntime) -> Result<(), Fail> {
+    let alloc = rt.alloc();
+    let document = written(alloc, SOLVE, TRIANGLES)?;
+    let mut input = Vec::from_slice(alloc, TRIANGLES)?;
+    input.extend_from_slice(&document)?;
+    let wanted = (b"s ACCEPTED\n".as_slice(), Status::Done);
+    expect(&rt, alloc, "two triangles", CHECK, &input, wanted)
+}
+
+#[test]
+fn the_longest_input_of_solve_and_a_byte_more(rt: HostRuntime) -> Result<(), Fail> {
+    let alloc = rt.alloc();
+    let mut input = Vec::new(alloc);
+    for _ in 0..1_048_576u32 {
+        input.extend_from_slice(b"\n\n\n\n\n\n\n\n\n\n\n\n\n\n\n\n")?;
     }
-    for call in 1..12u64 {
-        let (status, kept) = with_faults(rt.alloc(), ONE_EDGE, 0, call)?;
-        assert_eq!(rt; status, Status::WriteFault);
-        assert_eq!(rt; kept.len() as u64, call - 1);
-    }
-    let (status, kept) = with_faults(rt.alloc(), ONE_EDGE, 59, 12)?;
-    assert_eq!(rt; status, Status::Done);
-    assert_eq!(rt; kept.as_slice(), b"s ACCEPTED\n".as_slice());
+    let piece = 100_000;
+    let wanted = (
+        b"s MALFORMED HeaderMissing 16777217\n".as_slice(),
+        Status::Malformed,
+    );
+    expect_in_pieces(&rt, alloc, "16 MiB", SOLVE, &input, wanted, piece)?;
+    input.push(b'\n')?;
+    let wanted = (b"s TOOLONG\n".as_slice(), Status::TooLong);
+    expect_in_pieces(&rt, alloc, "a byte more", SOLVE, &input, wanted, piece)
+}
+
+/// Asserts how a run in pieces of a byte ends whose read and write of these numbers fail, and what it writes.
+fn expect_fault(
+    rt: &impl Abort,
+    alloc: Global,
+    line: &[&str],
+    input: &[u8],
+    (read_fails, write_fails): (u64, u64),
+    (output, ends): (&[u8], Status),
+) -> Result<(), Fail> {
+    let (status, kept) = with_faults(alloc, line, input, read_fails, write_fails)?;
+    assert_eq!(rt; status, ends);
+    assert_eq!(rt; kept.as_slice(), output);
     Ok(())
+}
+
+#[test]
+fn faults_of_check(rt: HostRuntime) -> Result<(), Fail> {
+    let alloc = rt.alloc();
+    let accepted = b"s ACCEPTED\n".as_slice();
+    for call in 1..59u64 {
+        let wanted = (b"".as_slice(), Status::ReadFault);
+        expect_fault(&rt, alloc, CHECK, ONE_EDGE, (call, 0), wanted)?;
+    }
+    for call in 1..12usize {
+        let wanted = (
+            &accepted[..(call - 1).min(accepted.len())],
+            Status::WriteFault,
+        );
+        expect_fault(&rt, alloc, CHECK, ONE_EDGE, (0, call as u64), wanted)?;
+    }
+    expect_fault(
+        &rt,
+        alloc,
+        CHECK,
+        ONE_EDGE,
+        (59, 12),
+        (accepted, Status::Done),
+    )
+}
+
+#[test]
+fn read_faults_of_solve(rt: HostRuntime) -> Result<(), Fail> {
+    let alloc = rt.alloc();
+    let nothing = (b"".as_slice(), Status::ReadFault);
+    expect_fault(&rt, alloc, SOLVE, b"p edge 0 0\n", (1, 0), nothing)?;
+    for call in [1, 30, 69u64] {
+        expect_fault(&rt, alloc, BRIEFLY, TRIANGLES, (call, 0), nothing)?;
+    }
+    let whole = (TRIANGLES_BRIEF, Status::Done);
+    expect_fault(&rt, alloc, BRIEFLY, TRIANGLES, (70, 0), whole)
+}
+
+#[test]
+fn write_faults_of_solve(rt: HostRuntime) -> Result<(), Fail> {
+    let alloc = rt.alloc();
+    let nothing = (b"".as_slice(), Status::WriteFault);
+    expect_fault(&rt, alloc, SOLVE, b"p edge 0 0\n", (0, 1), nothing)?;
+    let refusal = (b"s MA".as_slice(), Status::WriteFault);
+    expect_fault(&rt, alloc, SOLVE, b"p edge 2 1\n", (0, 5), refusal)?;
+    for call in [1, 20, 39usize] {
+        let front = &TRIANGLES_BRIEF[..(call - 1).min(TRIANGLES_BRIEF.len())];
+        let wanted = (front, Status::WriteFault);
+        expect_fault(&rt, alloc, BRIEFLY, TRIANGLES, (0, call as u64), wanted)?;
+    }
+    let whole = (TRIANGLES_BRIEF, Status::Done);
+    expect_fault(&rt, alloc, BRIEFLY, TRIANGLES, (0, 40), whole)
 }

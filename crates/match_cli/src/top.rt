@@ -1,12 +1,16 @@
-ghost use Rattle.std.specs.Prelude.{◌≡◌, ◌<◌, ◌≤◌, ◌-◌, ◌^◌, map, string_bytes, IfOk, IfErr};
-ghost use Rattle.match_cli.specs.Runs.{Runs, CountsRun, IsUsage, TellsTruth};
-ghost use Rattle.match_cli.specs.Prepared.{Prepares, PreparesUsage, CountsPrepared, Readies};
+ghost use Rattle.std.specs.Prelude.{◌≡◌, ◌<◌, ◌≤◌, ◌-◌, ◌^◌, length, map, string_bytes, Some, IfOk, IfErr};
+ghost use Rattle.match_cli.specs.Commands.{command_of, IsCommand};
+ghost use Rattle.match_cli.specs.Answers.{Answers};
+ghost use Rattle.match_cli.specs.Runs.{Runs, CountsRun, IsUsage, TellsTruth, IsAcceptedAgain, Completes};
+ghost use Rattle.match_cli.specs.Counts.{CountsAnswer, CountsSteps, CountsInstance, CountsSource};
+ghost use Rattle.match_cli.specs.Prepared.{Prepares, PreparesUsage, CountsPrepared, Readies, CountsPreparedSteps};
 
 use crate::answer::Answer;
 use crate::check::check;
+use crate::solve::solve;
 use crate::status::Status;
-use crate::words::{kind, limit, read_command};
-use mb_base::{ReadAll, Sink, Source, Steps, read_all, write_all};
+use crate::words::{Command, limit, read_command};
+use mb_base::{OutOfMemory, ReadAll, Sink, Source, Steps, read_all, write_all};
 use std::alloc::Global;
 use std::sync::ledger::Ledger;
 
@@ -26,12 +30,38 @@ fn ready(alloc: Global, text: &[u8], status: Status) -> Result<Answer, Stop>
     }
 }
 
+/// What a command answers to bytes within its limit.
+fn decide<L: Ledger>(
+    alloc: Global,
+    command: Command,
+    bytes: &[u8],
+    steps: &mut Steps<L>,
+) -> Result<Answer, OutOfMemory>
+    requires kind { IsCommand command }
+    requires short { length bytes.now ≤ 2 ^ 32 }
+    ensures answer { IfOk result (λ a. Answers command bytes.now a.text.items a.status) }
+    ensures steps { CountsAnswer command steps.old steps.new result }
+    ensures counted { CountsInstance (Some command) bytes.now steps.old steps.new }
+{
+    match command {
+        Command::Check(kind) => check(alloc, kind, bytes),
+        Command::Solve { kind, brief } => solve(alloc, kind, brief, bytes, steps),
+    }
+}
+
 /// The whole answer, before anything is written.
-fn prepare<I: Source>(alloc: Global, words: &Vec<String>, source: &mut I) -> Result<Answer, Stop>
+fn prepare<I: Source, L: Ledger>(
+    alloc: Global,
+    words: &Vec<String>,
+    source: &mut I,
+    steps: &mut Steps<L>,
+) -> Result<Answer, Stop>
     requires { I.faults source.old < 2 ^ 64 - 1 }
     ensures answer { Prepares (map string_bytes words.now.items) (I.left source.old) (I.left source.new) result }
     ensures usage { PreparesUsage (map string_bytes words.now.items) result }
     ensures count { CountsPrepared (I.faults source.old) (I.faults source.new) result }
+    ensures steps { CountsPreparedSteps (command_of (map string_bytes words.now.items)) steps.old steps.new result }
+    ensures counted { CountsSource (map string_bytes words.now.items) (I.left source.old) steps.old steps.new }
 {
     let Some(command) = read_command(words) else {
         return ready(alloc, b"s USAGE\n", Status::Usage);
@@ -40,7 +70,7 @@ fn prepare<I: Source>(alloc: Global, words: &Vec<String>, source: &mut I) -> Res
         Err(ReadAll::ReadFault) => Err(Stop::ReadFault),
         Err(ReadAll::OutOfMemory) => Err(Stop::OutOfMemory),
         Err(ReadAll::TooLong) => ready(alloc, b"s TOOLONG\n", Status::TooLong),
-        Ok(bytes) => match check(alloc, kind(command), &bytes) {
+        Ok(bytes) => match decide(alloc, command, &bytes, steps) {
             Ok(answer) => Ok(answer),
             Err(_) => Err(Stop::OutOfMemory),
         },
@@ -48,10 +78,15 @@ fn prepare<I: Source>(alloc: Global, words: &Vec<String>, source: &mut I) -> Res
 }
 
 /// Does what the words of the command line say: reads the source to its end, and writes the answer
-/// to the sink. The words are the program's name and then those of a command; today that is `check`
-/// and the name of a kind, which judges the document that follows an instance.
+/// to the sink. The words are the program's name and then those of a command: `check` and the name of
+/// a kind, which judges the document that follows an instance, or `solve perfect`, which solves an
+/// instance (Schrijver, Combinatorial Optimization, volume A, chapters 24 to 26). With `--brief`
+/// before or after the kind, `solve` writes the answer without what proves it.
 ///
 /// The whole answer stands ready before the first write, so want of memory leaves the sink untouched.
+///
+/// On a graph with n vertices and m edges a search counts at most (n + 1)(3n + 2)(m + 1) steps on
+/// `steps`, and nothing else counts. The memory holds the input, the answer and what a search keeps.
 pub fn run<I: Source, O: Sink, L: Ledger>(
     alloc: Global,
     words: &Vec<String>,
@@ -69,12 +104,20 @@ pub fn run<I: Source, O: Sink, L: Ledger>(
     // Faults are told exactly where a count rose.
     ensures count { CountsRun (I.faults source.old) (I.faults source.new) (O.faults sink.old) (O.faults sink.new) result }
 
-    // What an accepted document states is true of its instance.
+    // What a document that was accepted or written states is true of its instance.
     ensures truth { TellsTruth (map string_bytes words.now.items) (I.left source.old) result }
-    ensures steps { steps.new ≡ steps.old }
+
+    // What `solve` wrote in full is accepted behind its input.
+    ensures again { IsAcceptedAgain (map string_bytes words.now.items) (I.left source.old) (O.taken sink.old) (O.taken sink.new) result }
+
+    // Every input within the limits is answered, but for a fault or want of memory.
+    ensures complete { Completes (map string_bytes words.now.items) (I.left source.old) result }
+
+    // Only a search counts steps, and no more than its graph allows.
+    ensures steps { CountsSteps (command_of (map string_bytes words.now.items)) steps.old steps.new result }
+    ensures counted { CountsSource (map string_bytes words.now.items) (I.left source.old) steps.old steps.new }
 {
-    let _ = steps;
-    match prepare(alloc, words, source) {
+    match prepare(alloc, words, source, steps) {
         Err(Stop::ReadFault) => Status::ReadFault,
         Err(Stop::OutOfMemory) => Status::OutOfMemory,
         Ok(answer) => match write_all(sink, &answer.text) {

@@ -1,5 +1,5 @@
-ghost use Rattle.std.specs.Prelude.{◌≡◌, ◌≤◌, ◌^◌, map, string_bytes};
-ghost use Rattle.match_cli.specs.Commands.{command_of, limit_of, kind_of};
+ghost use Rattle.std.specs.Prelude.{◌≡◌, ◌≤◌, ◌^◌, [], ◌∷◌, map, string_bytes};
+ghost use Rattle.match_cli.specs.Commands.{command_of, limit_of, solve_named, solve_briefly, after_name};
 
 use doc_format::kind_of_name;
 use mb_problem::Kind;
@@ -9,15 +9,67 @@ use mb_problem::Kind;
 pub enum Command {
     /// Judge a document for its instance.
     Check(Kind),
+    /// Solve an instance. In brief the answer comes without what proves it.
+    Solve { kind: Kind, brief: bool },
+}
+
+fn read_solve(name: &[u8], brief: bool) -> Option<Command>
+    ensures { result ≡ solve_named brief name.now }
+{
+    if name == b"perfect".as_slice() {
+        let kind = Kind::Perfect;
+        return Some(Command::Solve { kind, brief });
+    }
+    None
+}
+
+fn read_brief(first: &[u8], second: &[u8]) -> Option<Command>
+    ensures { result ≡ solve_briefly first.now second.now }
+{
+    if first == b"--brief".as_slice() {
+        return read_solve(second, true);
+    }
+    if second == b"--brief".as_slice() {
+        return read_solve(first, true);
+    }
+    None
+}
+
+fn read_two(first: &[u8], second: &[u8]) -> Option<Command>
+    ensures { result ≡ after_name (first.now ∷ second.now ∷ []) }
+{
+    if first == b"check".as_slice() {
+        let kind = kind_of_name(second)?;
+        return Some(Command::Check(kind));
+    }
+    if first == b"solve".as_slice() {
+        return read_solve(second, false);
+    }
+    None
+}
+
+fn read_three(first: &[u8], second: &[u8], third: &[u8]) -> Option<Command>
+    ensures { result ≡ after_name (first.now ∷ second.now ∷ third.now ∷ []) }
+{
+    if first == b"solve".as_slice() {
+        return read_brief(second, third);
+    }
+    None
 }
 
 /// The command that the words are, the program's name first.
 pub fn read_command(words: &Vec<String>) -> Option<Command>
     ensures { result ≡ command_of (map string_bytes words.now.items) }
 {
-    if words.len() == 3 && words[1].as_str() == "check" {
-        let kind = kind_of_name(words[2].as_bytes())?;
-        return Some(Command::Check(kind));
+    if words.len() == 3 {
+        return read_two(words[1].as_bytes(), words[2].as_bytes());
+    }
+    if words.len() == 4 {
+        return read_three(
+            words[1].as_bytes(),
+            words[2].as_bytes(),
+            words[3].as_bytes(),
+        );
     }
     None
 }
@@ -29,14 +81,6 @@ pub fn limit(command: Command) -> u64
 {
     match command {
         Command::Check(_) => 67_108_864,
-    }
-}
-
-/// The kind of problem that a command is for.
-pub fn kind(command: Command) -> Kind
-    ensures { result ≡ kind_of command }
-{
-    match command {
-        Command::Check(kind) => kind,
+        Command::Solve { .. } => 16_777_216,
     }
 }

@@ -1,6 +1,6 @@
 use crate::status::Status;
 
-/// An input of `check perfect`, and how the run ends. All but the name goes through the program.
+/// An input of a command, and how the run ends. All but the name goes through the program.
 #[derive(Clone, Copy)]
 pub struct Case {
     pub shows: &'static str,

@@ -44,7 +44,7 @@ fn sure_run<L: Ledger>(
 {
     let mut steps = Steps::<L>::new(blank);
     let mut source = SureSource::new(Vec::from_slice(alloc, input)?, piece);
-    let mut sink = SureSink::new(alloc, 100, piece)?;
+    let mut sink = SureSink::new(alloc, 1_000, piece)?;
     let line = words(alloc, line)?;
     let status = run(alloc, &line, &mut source, &mut sink, &mut steps);
     let kept = Vec::from_slice(alloc, sink.kept())?;
@@ -83,18 +83,45 @@ fn faulty_run<L: Ledger>(
     Ok((status, kept))
 }
 
-/// A run of `check perfect` in pieces of a byte whose read and write of these numbers fail.
+/// A run in pieces of a byte whose read and write of these numbers fail: its status, and what the sink kept.
 pub fn with_faults(
     alloc: Global,
+    line: &[&str],
     input: &[u8],
     read_fails: u64,
     write_fails: u64,
 ) -> Result<(Status, Vec<u8>), Fail> {
-    let line = ["check", "perfect"].as_slice();
     faulty_run::<Brand>(Blank::new(1), alloc, line, input, read_fails, write_fails)
 }
 
-/// Asserts how a run ends, what it writes and what it leaves, in small pieces and in great ones.
+/// What a run over memory that never fails writes.
+pub fn written(alloc: Global, line: &[&str], input: &[u8]) -> Result<Vec<u8>, Fail> {
+    let seen = sure_run::<Brand>(Blank::new(1), alloc, line, input, 100)?;
+    Ok(seen.kept)
+}
+
+/// Asserts how a run ends, what it writes and what it leaves, in pieces of this size.
+pub fn expect_in_pieces(
+    rt: &impl Abort,
+    alloc: Global,
+    shows: &str,
+    line: &[&str],
+    input: &[u8],
+    wanted: (&[u8], Status),
+    piece: usize,
+) -> Result<(), Fail>
+    requires { 0 < piece }
+{
+    let (output, ends) = wanted;
+    let left = unread(input, ends);
+    let seen = sure_run::<Brand>(Blank::new(1), alloc, line, input, piece)?;
+    assert_eq!(rt; seen.kept.as_slice(), output, "{shows}");
+    assert_eq!(rt; seen.status, ends, "{shows}");
+    assert_eq!(rt; seen.left.as_slice(), left, "{shows}");
+    Ok(())
+}
+
+/// Asserts the same in small pieces and in great ones.
 pub fn expect(
     rt: &impl Abort,
     alloc: Global,
@@ -103,13 +130,7 @@ pub fn expect(
     input: &[u8],
     wanted: (&[u8], Status),
 ) -> Result<(), Fail> {
-    let (output, ends) = wanted;
-    let left = unread(input, ends);
-    for piece in [1usize, 7, 100_000] {
-        let seen = sure_run::<Brand>(Blank::new(1), alloc, line, input, piece)?;
-        assert_eq!(rt; seen.kept.as_slice(), output, "{shows}");
-        assert_eq!(rt; seen.status, ends, "{shows}");
-        assert_eq!(rt; seen.left.as_slice(), left, "{shows}");
-    }
-    Ok(())
+    expect_in_pieces(rt, alloc, shows, line, input, wanted, 1)?;
+    expect_in_pieces(rt, alloc, shows, line, input, wanted, 7)?;
+    expect_in_pieces(rt, alloc, shows, line, input, wanted, 100_000)
 }

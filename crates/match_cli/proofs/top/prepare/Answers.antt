@@ -1,17 +1,43 @@
-use Rattle.std.proofs.Common.{◌≡◌, ◌≤◌, ◌∙◌, Some, map, sym, subst, length, ap}
+use Rattle.std.proofs.Common.{◌≡◌, ◌≤◌, ◌∙◌, Some, map, sym, subst, length}
 use Rattle.std.specs.Prelude.{string_bytes}
-use Rattle.match_cli.specs.Commands.{command_of, limit_of, kind_of}
-use Rattle.match_cli.specs.Answers.{Decides}
-use Rattle.match_cli.proofs.Prepares.{is_answer, is_command}
+use Rattle.match_cli.specs.Commands.{command_of, limit_of}
+use Rattle.match_cli.specs.Answers.{Answers}
+use Rattle.match_cli.specs.Counts.{CountsInstance}
+use Rattle.match_cli.proofs.StepCounts.{source_counted}
+use Rattle.match_cli.proofs.Prepares.{is_answer}
+use Rattle.match_cli.proofs.CommandLines.{is_command_of}
 use Rattle.match_cli.proofs.top.prepare.Goals as goal
 
-pub returns-in-Ok-check-clause-answer : goal.returns-in-Ok-check-clause-answer
-returns-in-Ok-check-clause-answer g c =
+pub returns-in-Ok-decide-clause-answer : goal.returns-in-Ok-decide-clause-answer
+returns-in-Ok-decide-clause-answer g c =
     let words = map string_bytes c.args.words.now.items in
-    let out = c.in-Ok-check.answer.text.items in
-    let status = c.in-Ok-check.answer.status in
+    let out = c.in-Ok-decide.answer.text.items in
+    let status = c.in-Ok-decide.answer.status in
     let bytes = c.in-Ok.bytes.items in
     let taken : command_of words ≡ Some c.in-Some.command = sym c.read_command.ensures ∙ c.in-Some.is in
     let fits : length bytes ≤ limit_of c.in-Some.command = subst (λ n. length bytes ≤ n) c.limit.ensures.limit c.in-Ok.ensures.bytes.0 in
-    let decided : Decides (kind_of c.in-Some.command) bytes out status = subst (λ k. Decides k bytes out status) c.kind.ensures (subst (λ b. Decides c.kind.result b out status) c.deref.ensures.value c.in-Ok-check.ensures) in
+    let decided : Answers c.in-Some.command bytes out status = subst (λ b. Answers c.in-Some.command b out status) c.deref.ensures.value c.in-Ok-decide.ensures.answer in
     is_answer words c.in-Some.command out bytes taken fits (g.I.Source.left c.args.source.now) (g.I.Source.left c.read_all.new.source) status c.in-Ok.ensures.bytes.1 c.in-Ok.ensures.bytes.2 decided
+
+pub decide-requires-clause-kind : goal.decide-requires-clause-kind
+decide-requires-clause-kind g c = is_command_of (map string_bytes c.args.words.now.items) c.in-Some.command (sym c.read_command.ensures ∙ c.in-Some.is)
+
+pub returns-in-Ok-decide-clause-counted : goal.returns-in-Ok-decide-clause-counted
+returns-in-Ok-decide-clause-counted g c =
+    let words = map string_bytes c.args.words.now.items in
+    let before = c.args.steps.now in
+    let after = c.decide.new.steps in
+    let bytes = c.in-Ok.bytes.items in
+    let taken : command_of words ≡ Some c.in-Some.command = sym c.read_command.ensures ∙ c.in-Some.is in
+    let counted : CountsInstance (Some c.in-Some.command) bytes before after = subst (λ b. CountsInstance (Some c.in-Some.command) b before after) c.deref.ensures.value c.decide.ensures.counted in
+    source_counted words c.in-Some.command (g.I.Source.left c.args.source.now) (g.I.Source.left c.read_all.new.source) bytes before after taken c.in-Ok.ensures.bytes.1 c.in-Ok.ensures.bytes.2 counted
+
+pub returns-clause-counted : goal.returns-clause-counted
+returns-clause-counted g c =
+    let words = map string_bytes c.args.words.now.items in
+    let before = c.args.steps.now in
+    let after = c.decide.new.steps in
+    let bytes = c.in-Ok.bytes.items in
+    let taken : command_of words ≡ Some c.in-Some.command = sym c.read_command.ensures ∙ c.in-Some.is in
+    let counted : CountsInstance (Some c.in-Some.command) bytes before after = subst (λ b. CountsInstance (Some c.in-Some.command) b before after) c.deref.ensures.value c.decide.ensures.counted in
+    source_counted words c.in-Some.command (g.I.Source.left c.args.source.now) (g.I.Source.left c.read_all.new.source) bytes before after taken c.in-Ok.ensures.bytes.1 c.in-Ok.ensures.bytes.2 counted

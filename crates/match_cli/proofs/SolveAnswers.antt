@@ -1,0 +1,42 @@
+-- From the answer of a part of `solve` to the answer of the whole.
+use Rattle.std.proofs.Common.{◌≡◌, ℕ, ◌≤◌, Bool, false, List, length, Result, Ok, Err, inr, refl, sym, subst}
+use Rattle.std.specs.Prelude.{IfOk}
+use Rattle.mb_problem.specs.declared.kind.Kind.{Kind}
+use Rattle.mb_problem.specs.declared.kind.Kind.TheVariants.{Perfect}
+use Rattle.mb_problem.specs.Network.{Network, IsNetwork}
+use Rattle.dimacs_read.specs.declared.rest.Rest.{Rest}
+use Rattle.dimacs_read.specs.declared.rule.Rule.TheVariants.{UnknownLine}
+use Rattle.dimacs_read.specs.Rest.{IsRest}
+use Rattle.doc_format.specs.declared.document.Document.{Document}
+use Rattle.doc_format.specs.Spelling.{document_text}
+use Rattle.cert_check.specs.Proved.{IsProved}
+use Rattle.match_cli.specs.declared.answer.Answer.{Answer}
+use Rattle.match_cli.specs.declared.status.Status.{Status}
+use Rattle.match_cli.specs.declared.status.Status.TheVariants.{Done, Rejected, Usage, Malformed, TooLarge, TooLong, ReadFault, WriteFault, OutOfMemory}
+use Rattle.match_cli.specs.Solving.{Solves, SolvedAnswer, DecidesSolved, FollowedAnswer, DecidesFollowed}
+use Rattle.match_cli.specs.Answers.{InputHolds, DecidesSolve}
+use Rattle.match_cli.proofs.Checks.{if_ok-map}
+use Rattle.match_cli.proofs.InputParts.{rest_empty, rest_some}
+use Rattle.match_cli.proofs.SolveTruth.{solves_perfect}
+
+solves : (kind : Kind) (i : Network) (d : Document) → kind ≡ Perfect → IsNetwork i → IsProved kind i d → length (document_text d false) ≤ 50331648 → Solves kind i d
+solves kind i d same ok proved small = subst (λ (k : Kind). Solves k i d) (sym same) (solves_perfect i d ok (subst (λ (k : Kind). IsProved k i d) same proved) small)
+
+pub solved_answers : (kind : Kind) (brief : Bool) (i : Network) (d : Document) {E : Type 0} (r : Result Answer E) → kind ≡ Perfect → IsNetwork i → IsProved kind i d → length (document_text d false) ≤ 50331648 → IfOk r (λ a. a.text.items ≡ document_text d brief) → IfOk r (λ a. a.status ≡ Done) → IfOk r (DecidesSolved kind brief i)
+solved_answers kind brief i d (Ok a) same ok proved small text status =
+    subst (λ (s : Status). SolvedAnswer kind brief i a.text.items s) (sym status) (d, solves kind i d same ok proved small, text)
+solved_answers kind brief i d (Err e) same ok proved small text status = tt
+
+decides_from : (kind : Kind) (brief : Bool) (bytes : List ℕ) (i : Network) (rest : Rest) (out : List ℕ) (status : Status) → InputHolds kind bytes i → IsRest bytes rest → FollowedAnswer kind brief i rest out status → DecidesSolve kind brief bytes out status
+decides_from kind brief bytes i rest out Malformed h is a = (let found = rest_some bytes rest is a.0 in (UnknownLine, rest.line, inr ((i, h), refl, found), a.1))
+decides_from kind brief bytes i rest out TooLarge h is a = (i, record { holds = h; alone = rest_empty bytes rest is a.0 }, a.1.0, a.1.1)
+decides_from kind brief bytes i rest out Done h is a = (i, a.1.1.0, record { holds = h; alone = rest_empty bytes rest is a.0 }, a.1.0, a.1.1.1, a.1.1.2)
+decides_from kind brief bytes i rest out Rejected h is a = absurd a.1.1
+decides_from kind brief bytes i rest out Usage h is a = absurd a.1.1
+decides_from kind brief bytes i rest out TooLong h is a = absurd a.1.1
+decides_from kind brief bytes i rest out ReadFault h is a = absurd a.1.1
+decides_from kind brief bytes i rest out WriteFault h is a = absurd a.1.1
+decides_from kind brief bytes i rest out OutOfMemory h is a = absurd a.1.1
+
+pub solve_answers : (kind : Kind) (brief : Bool) (bytes : List ℕ) (i : Network) (rest : Rest) {E : Type 0} (r : Result Answer E) → InputHolds kind bytes i → IsRest bytes rest → IfOk r (DecidesFollowed kind brief i rest) → IfOk r (λ a. DecidesSolve kind brief bytes a.text.items a.status)
+solve_answers kind brief bytes i rest r h is = if_ok-map (DecidesFollowed kind brief i rest) (λ a. DecidesSolve kind brief bytes a.text.items a.status) r (λ a p. decides_from kind brief bytes i rest a.text.items a.status h is p)

@@ -1,0 +1,112 @@
+-- Where nothing was counted, what a failed write leaves of the count, and what a search counts at most.
+use Rattle.std.proofs.Common.{◌≡◌, ℕ, ◌+◌, ◌*◌, ◌≤◌, List, ◌++◌, length, map, Bool, Option, None, Some, Result, Ok, Err, ap, sym, subst, ◌∙◌, append-nil, arith}
+use Rattle.std.proofs.lemmas.List.{length-map}
+use Rattle.std.proofs.Math.Nat.{mul-le-mul}
+use Rattle.std.specs.Prelude.{IfOk}
+use Rattle.std.specs.Io.KnownBytes.{Consumes, IsAtEnd}
+use Rattle.mb_problem.specs.declared.kind.Kind.{Kind}
+use Rattle.mb_problem.specs.declared.kind.Kind.TheVariants.{Perfect}
+use Rattle.mb_problem.specs.Network.{Network, graph_of, vertices}
+use Rattle.mb_problem.specs.Size.{size_of}
+use Rattle.mwpm_engine.specs.Solutions.{most_steps}
+use Rattle.dimacs_read.proofs.ReadingLemmas.{one_instance}
+use Rattle.match_cli.specs.declared.status.Status.{Status}
+use Rattle.match_cli.specs.declared.status.Status.TheVariants.{Done, Rejected, Usage, Malformed, TooLarge, TooLong, ReadFault, WriteFault, OutOfMemory}
+use Rattle.match_cli.specs.declared.answer.Answer.{Answer}
+use Rattle.match_cli.specs.declared.words.Command.{Command}
+use Rattle.match_cli.specs.declared.words.Command.TheVariants.{Check, Solve}
+use Rattle.match_cli.specs.Commands.{command_of}
+use Rattle.match_cli.specs.Checking.{FitsLimits}
+use Rattle.match_cli.specs.Answers.{instance_part, InputHolds}
+use Rattle.match_cli.specs.Counts.{most_counted, most_within_limits, CountsSearch, CountsSteps, CountsAnswer, CountsInstance, CountsSource}
+use Rattle.match_cli.specs.Solving.{DecidesSolved, SolvedAnswer}
+
+none_searched : (command : Option Command) (before after : ℕ) → after ≡ before → CountsSearch command before after
+none_searched None before after same = same
+none_searched (Some (Check kind)) before after same = same
+none_searched (Some (Solve kind brief)) before after same = omega (arith, same)
+
+pub none_counted : (command : Option Command) (before after : ℕ) (status : Status) → after ≡ before → CountsSteps command before after status
+none_counted command before after Done same = none_searched command before after same
+none_counted command before after WriteFault same = none_searched command before after same
+none_counted command before after OutOfMemory same = none_searched command before after same
+none_counted command before after Rejected same = same
+none_counted command before after Usage same = same
+none_counted command before after Malformed same = same
+none_counted command before after TooLarge same = same
+none_counted command before after TooLong same = same
+none_counted command before after ReadFault same = same
+
+-- a failed write leaves the count that the answer had
+pub counted_before_write : (command : Option Command) (before after : ℕ) (status : Status) → CountsSteps command before after status → CountsSteps command before after WriteFault
+counted_before_write command before after Done counts = counts
+counted_before_write command before after WriteFault counts = counts
+counted_before_write command before after OutOfMemory counts = counts
+counted_before_write command before after Rejected same = none_searched command before after same
+counted_before_write command before after Usage same = none_searched command before after same
+counted_before_write command before after Malformed same = none_searched command before after same
+counted_before_write command before after TooLarge same = none_searched command before after same
+counted_before_write command before after TooLong same = none_searched command before after same
+counted_before_write command before after ReadFault same = none_searched command before after same
+
+-- ---- a search
+
+counted-more : (n m a b : ℕ) → n ≤ a → m ≤ b → most_counted n m ≤ most_counted a b
+counted-more n m a b h h' =
+    let vertices : n + 1 ≤ a + 1 = omega (arith, h) in
+    let phases : 3 * n + 2 ≤ 3 * a + 2 = omega (arith, h) in
+    let edges : m + 1 ≤ b + 1 = omega (arith, h') in
+    mul-le-mul (mul-le-mul vertices phases) edges
+
+steps_are : (i : Network) → most_steps (graph_of i) ≡ most_counted (vertices i) (length i.edges)
+steps_are i = ap (most_counted (vertices i)) (length-map i.edges _)
+
+-- within the limits a search counts no more than at the limits
+pub within_limits : (kind : Kind) (i : Network) (before after : ℕ) → kind ≡ Perfect → FitsLimits (size_of kind i) → after ≤ before + most_steps (graph_of i) → after ≤ before + most_within_limits
+within_limits kind i before after same fits counted =
+    let small : FitsLimits (size_of Perfect i) = subst (λ (k : Kind). FitsLimits (size_of k i)) same fits in
+    let less = counted-more (vertices i) (length i.edges) 4096 1048576 small.0 small.1 in
+    let is = steps_are i in
+    omega (arith, counted, less, is)
+
+searched : (kind : Kind) (brief : Bool) (i : Network) (out : List ℕ) (before after : ℕ) (status : Status) → SolvedAnswer kind brief i out status → after ≤ before + most_within_limits → CountsSteps (Some (Solve kind brief)) before after status
+searched kind brief i out before after Done answer counted = counted
+searched kind brief i out before after Rejected answer counted = absurd answer
+searched kind brief i out before after Usage answer counted = absurd answer
+searched kind brief i out before after Malformed answer counted = absurd answer
+searched kind brief i out before after TooLarge answer counted = absurd answer
+searched kind brief i out before after TooLong answer counted = absurd answer
+searched kind brief i out before after ReadFault answer counted = absurd answer
+searched kind brief i out before after WriteFault answer counted = counted
+searched kind brief i out before after OutOfMemory answer counted = counted
+
+pub search_counts : (kind : Kind) (brief : Bool) (i : Network) (before after : ℕ) {E : Type 0} (r : Result Answer E) → kind ≡ Perfect → FitsLimits (size_of kind i) → IfOk r (DecidesSolved kind brief i) → after ≤ before + most_steps (graph_of i) → CountsAnswer (Solve kind brief) before after r
+search_counts kind brief i before after (Ok a) same fits answer counted = searched kind brief i a.text.items before after a.status answer (within_limits kind i before after same fits counted)
+search_counts kind brief i before after (Err e) same fits answer counted = within_limits kind i before after same fits counted
+
+-- ---- the instance that the source gives
+
+pub none_counted_for : (command : Option Command) (bytes : List ℕ) (before after : ℕ) → after ≡ before → CountsInstance command bytes before after
+none_counted_for command bytes before after same kind brief i is holds = omega (arith, same)
+
+pub source_uncounted : (words : List (List ℕ)) (source : Option (List ℕ)) (before after : ℕ) → after ≡ before → CountsSource words source before after
+source_uncounted words None before after same = tt
+source_uncounted words (Some bytes) before after same = none_counted_for (command_of words) bytes before after same
+
+same_solve : (a b : Kind) (c d : Bool) → Some (Solve a c) ≡ Some (Solve b d) → a ≡ b
+same_solve a b c d e = cc
+
+-- an input holds one instance
+pub counted_for : (kind : Kind) (brief : Bool) (bytes : List ℕ) (j : Network) (before after : ℕ) → InputHolds kind bytes j → after ≤ before + most_steps (graph_of j) → CountsInstance (Some (Solve kind brief)) bytes before after
+counted_for kind brief bytes j before after held counted other other_brief i is holds =
+    let same : kind ≡ other = same_solve kind other brief other_brief is in
+    let here : InputHolds kind bytes i = subst (λ (k : Kind). InputHolds k bytes i) (sym same) holds in
+    subst (λ (n : Network). after ≤ before + most_steps (graph_of n)) (one_instance kind (instance_part bytes) j i held here) counted
+
+-- all bytes of the source were read
+pub source_counted : (words : List (List ℕ)) (command : Command) (source left : Option (List ℕ)) (bytes : List ℕ) (before after : ℕ) → command_of words ≡ Some command → Consumes source left bytes → IsAtEnd left → CountsInstance (Some command) bytes before after → CountsSource words source before after
+source_counted words command None left bytes before after taken consumed end counted = tt
+source_counted words command (Some xs) None bytes before after taken consumed end counted = absurd consumed
+source_counted words command (Some xs) (Some ys) bytes before after taken consumed end counted =
+    let all : bytes ≡ xs = sym (consumed ∙ ap (λ (l : List ℕ). bytes ++ l) end ∙ append-nil bytes) in
+    subst (λ (o : Option Command). CountsInstance o xs before after) (sym taken) (subst (λ (b : List ℕ). CountsInstance (Some command) b before after) all counted)

@@ -1,0 +1,115 @@
+ghost use Rattle.std.specs.Prelude.{Some, ◌≡◌, ◌≢◌, ◌+◌, ◌≤◌, ◌^◌, length, IfOk};
+ghost use Rattle.mb_problem.specs.Network.{IsNetwork, graph_of};
+ghost use Rattle.mb_problem.specs.Size.{size_of};
+ghost use Rattle.mwpm_engine.specs.Solutions.{most_steps};
+ghost use Rattle.doc_format.specs.Spelling.{document_text};
+ghost use Rattle.match_cli.specs.Answers.{DecidesSolve};
+ghost use Rattle.match_cli.specs.Checking.{FitsLimits};
+ghost use Rattle.match_cli.specs.Counts.{CountsAnswer, CountsInstance};
+ghost use Rattle.match_cli.specs.Solving.{DecidesSolved, DecidesSized, DecidesFollowed};
+
+use crate::answer::Answer;
+use crate::refusal::{malformed, too_large};
+use crate::status::Status;
+use crate::words::Command;
+use dimacs_read::{InstanceError, Rest, Rule, read};
+use doc_format::{Document, write};
+use mb_base::{OutOfMemory, Steps};
+use mb_problem::{Instance, Kind, gadget_size};
+use std::alloc::{AllocError, Global};
+use std::sync::ledger::Ledger;
+
+fn solved(alloc: Global, document: &Document, brief: bool) -> Result<Answer, OutOfMemory>
+    ensures text { IfOk result (λ a. a.text.items ≡ document_text document.now brief) }
+    ensures status { IfOk result (λ a. a.status ≡ Status.Done) }
+{
+    let text = write(alloc, document, brief)?;
+    let status = Status::Done;
+    Ok(Answer { text, status })
+}
+
+/// The answer to an instance within the limits.
+fn solve_within<L: Ledger>(
+    alloc: Global,
+    kind: Kind,
+    brief: bool,
+    instance: &Instance,
+    steps: &mut Steps<L>,
+) -> Result<Answer, OutOfMemory>
+    requires kind { kind ≡ Kind.Perfect }
+    requires limits { FitsLimits (size_of kind instance.now) }
+    requires network { IsNetwork instance.now }
+    ensures answer { IfOk result (DecidesSolved kind brief instance.now) }
+    ensures counted { steps.new ≤ steps.old + most_steps (graph_of instance.now) }
+{
+    match solve_kinds::solve(alloc, instance, kind, steps) {
+        Ok(document) => solved(alloc, &document, brief),
+        Err(_) => Err(AllocError),
+    }
+}
+
+/// The answer to an instance: its size is tested first.
+fn solve_instance<L: Ledger>(
+    alloc: Global,
+    kind: Kind,
+    brief: bool,
+    instance: &Instance,
+    steps: &mut Steps<L>,
+) -> Result<Answer, OutOfMemory>
+    requires kind { kind ≡ Kind.Perfect }
+    requires network { IsNetwork instance.now }
+    ensures answer { IfOk result (DecidesSized kind brief instance.now) }
+    ensures steps { CountsAnswer (Command.Solve kind brief) steps.old steps.new result }
+    ensures counted { steps.new ≤ steps.old + most_steps (graph_of instance.now) }
+{
+    let (vertices, edges) = gadget_size(instance, kind);
+    if vertices > 4096 {
+        return too_large(alloc, vertices, edges);
+    }
+    if edges > 1_048_576 {
+        return too_large(alloc, vertices, edges);
+    }
+    solve_within(alloc, kind, brief, instance, steps)
+}
+
+/// The answer to an instance and what follows it, which should be nothing.
+fn solve_followed<L: Ledger>(
+    alloc: Global,
+    kind: Kind,
+    brief: bool,
+    instance: &Instance,
+    rest: &Rest,
+    steps: &mut Steps<L>,
+) -> Result<Answer, OutOfMemory>
+    requires kind { kind ≡ Kind.Perfect }
+    requires network { IsNetwork instance.now }
+    ensures answer { IfOk result (DecidesFollowed kind brief instance.now rest.now) }
+    ensures steps { CountsAnswer (Command.Solve kind brief) steps.old steps.new result }
+    ensures counted { steps.new ≤ steps.old + most_steps (graph_of instance.now) }
+{
+    if !rest.bytes.as_slice().is_empty() {
+        return malformed(alloc, Rule::UnknownLine, rest.line);
+    }
+    solve_instance(alloc, kind, brief, instance, steps)
+}
+
+/// What `solve` answers to bytes within its limit.
+pub fn solve<L: Ledger>(
+    alloc: Global,
+    kind: Kind,
+    brief: bool,
+    bytes: &[u8],
+    steps: &mut Steps<L>,
+) -> Result<Answer, OutOfMemory>
+    requires kind { kind ≡ Kind.Perfect }
+    requires short { length bytes.now ≤ 2 ^ 32 }
+    ensures answer { IfOk result (λ a. DecidesSolve kind brief bytes.now a.text.items a.status) }
+    ensures steps { CountsAnswer (Command.Solve kind brief) steps.old steps.new result }
+    ensures counted { CountsInstance (Some (Command.Solve kind brief)) bytes.now steps.old steps.new }
+{
+    match read(alloc, bytes, kind) {
+        Ok((instance, rest)) => solve_followed(alloc, kind, brief, &instance, &rest, steps),
+        Err(InstanceError::Malformed { rule, line }) => malformed(alloc, rule, line),
+        Err(InstanceError::OutOfMemory) => Err(AllocError),
+    }
+}
