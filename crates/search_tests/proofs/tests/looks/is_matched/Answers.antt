@@ -1,0 +1,12 @@
+use Rattle.std.proofs.Common.{◌≡◌, ◌+◌, ◌-◌, subst, arith}
+use Rattle.alt_forest.specs.State.{IsExposed}
+use Rattle.alt_forest.specs.Searches.{state_of}
+use Rattle.alt_forest.proofs.Places.{outer_range}
+use Rattle.search_tests.proofs.tests.looks.is_matched.Goals as goal
+
+pub returns : goal.returns
+returns c = λ e a exposed.
+    let s = c.args.search.now in
+    let range = outer_range s a c.requires.sound.shape exposed.0 in
+    let back : a ≡ a - 1 + 1 = omega (arith, range.0) in
+    c.loop-place.invariant (a - 1) (omega (arith, range.0, range.1, c.loop-place-test.false, c.node_limit-place-end.ensures.limit, c.requires.sound.shape.arena)) (subst (IsExposed (state_of s)) back exposed)

@@ -1,0 +1,63 @@
+mod events;
+mod instances;
+mod looks;
+mod passes;
+mod range;
+mod results;
+mod rows;
+mod tally;
+
+use alt_forest::Search;
+use instances::instance_of;
+use passes::passed;
+use results::{has_mates, is_best};
+use rows::{ALL_EVENTS, DEEP_BLOSSOMS, Row, TWO_TRIANGLES};
+use std::alloc::Global;
+use std::marker::Brand;
+use std::process::Abort;
+use std::sync::ledger::Blank;
+use std::test::Fail;
+use tally::Tally;
+
+/// A graph's search after a pass, its matching asserted to be a best one.
+fn expect_best(
+    rt: &impl Abort,
+    alloc: Global,
+    row: &Row,
+    tally: &mut Tally,
+) -> Result<Search, Fail> {
+    let (name, vertices, start, edges) = *row;
+    let instance = instance_of(rt, alloc, vertices, edges)?;
+    let graph = instance.graph()?;
+    let search = passed::<Brand>(rt, alloc, &graph, start, tally, Blank::new(1))?;
+    assert!(rt; is_best(alloc, &instance, &search)?, "{name}");
+    Ok(search)
+}
+
+#[test]
+fn two_triangles_are_matched_by_the_edge_between(rt: HostRuntime) -> Result<(), Fail> {
+    let mut tally = Tally::new();
+    let search = expect_best(&rt, rt.alloc(), &TWO_TRIANGLES, &mut tally)?;
+    assert!(rt; has_mates(&search, [1, 1, 7, 7, 5, 5].as_slice()));
+    Ok(())
+}
+
+#[test]
+fn passes_with_each_event_end_with_a_best_matching(rt: HostRuntime) -> Result<(), Fail> {
+    for row in &ALL_EVENTS {
+        let mut tally = Tally::new();
+        let _ = expect_best(&rt, rt.alloc(), row, &mut tally)?;
+        assert!(rt; tally.has_all(), "{}", row.0);
+    }
+    Ok(())
+}
+
+#[test]
+fn blossoms_in_blossoms_are_expanded_one_by_one(rt: HostRuntime) -> Result<(), Fail> {
+    for row in &DEEP_BLOSSOMS {
+        let mut tally = Tally::new();
+        let _ = expect_best(&rt, rt.alloc(), row, &mut tally)?;
+        assert!(rt; tally.nests_expanded >= 3, "{}", row.0);
+    }
+    Ok(())
+}

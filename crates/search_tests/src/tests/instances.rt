@@ -1,0 +1,82 @@
+ghost use Rattle.std.specs.Prelude.{◌≡◌, ◌≤◌, length, true, None, IsTrue, IfOk};
+ghost use Rattle.graph_theory.specs.Graph.{IsWeight};
+ghost use Rattle.mb_problem.specs.Network.{IsInstanceEdge, vertices};
+ghost use Rattle.alt_forest.specs.declared.label.Weights.TheVariants.{Given};
+ghost use Rattle.alt_forest.specs.Searches.{IsSearchGraph, IsStart};
+
+use mb_base::{EdgeId, OutOfMemory, VertexId};
+use mb_problem::Instance;
+use std::alloc::Global;
+use std::process::Abort;
+use weighted_graph::Graph;
+
+/// Whether a row's edge can be one of the instance.
+fn is_edge(instance: &Instance, u: u32, v: u32, w: i64) -> bool
+    ensures { IsTrue result → IsInstanceEdge (vertices instance.now) (record { u = u; v = v; w = w; capacity = None }) }
+{
+    let n = instance.vertices();
+    if u < 1 || n < u {
+        return false;
+    }
+    if v < 1 || n < v {
+        return false;
+    }
+    if w < -1_000_000_000 || 1_000_000_000 < w {
+        return false;
+    }
+    u != v
+}
+
+/// The instance of so many vertices and these edges, of which there are at most 20.
+pub fn instance_of(
+    rt: &impl Abort,
+    alloc: Global,
+    vertices: u32,
+    edges: &[(u32, u32, i64)],
+) -> Result<Instance, OutOfMemory>
+    ensures { IfOk result (λ i. length i.edges ≤ 20) }
+{
+    assert!(rt; vertices <= 4096);
+    let mut instance = Instance::new(alloc, vertices, 1)?;
+    for (u, v, w) in edges {
+        assert!(rt; instance.edges() < 20);
+        assert!(rt; is_edge(&instance, *u, *v, *w));
+        instance.add_edge(VertexId::new(*u), VertexId::new(*v), *w, None)?;
+    }
+    assert!(rt; instance.edges() <= 20);
+    Ok(instance)
+}
+
+/// Whether a graph is within the limits of a search.
+pub fn is_small(graph: &Graph) -> bool
+    ensures { result ≡ true → IsSearchGraph graph.now }
+{
+    if graph.vertices() > 4096 {
+        return false;
+    }
+    graph.edges() <= 1_048_576
+}
+
+/// Whether this is a weight, and no weight of an edge is below it.
+pub fn can_start(graph: &Graph, start: i64) -> bool
+    ensures { result ≡ true → IsStart graph.now Given start }
+{
+    if start < -1_000_000_000 || 1_000_000_000 < start {
+        return false;
+    }
+    is_least(graph, start)
+}
+
+/// Whether no weight of an edge is below a start.
+fn is_least(graph: &Graph, start: i64) -> bool
+    requires { IsWeight start }
+    ensures { result ≡ true → IsStart graph.now Given start }
+{
+    for place in 0..graph.edges() {
+        let (_, _, w) = graph.edge(EdgeId::new(place + 1));
+        if w < start {
+            return false;
+        }
+    }
+    true
+}

@@ -1,0 +1,90 @@
+ghost use Rattle.std.specs.Prelude.{◌≡◌, ◌≤◌, length, IfOk, IfSome};
+ghost use Rattle.mb_problem.specs.Measured.{HasPlaces};
+
+use brute_force::best;
+use doc_format::{CountLine, DocStatus, Document};
+use mb_base::{OutOfMemory, Sequence};
+use mb_problem::{Answer, Instance, Kind, feasible, weight};
+use std::alloc::Global;
+
+/// Writes the count of a line at the place of its edge, if both are in range.
+fn write_count(counts: &mut Vec<u32>, line: &CountLine) -> bool
+    ensures { length counts.new.items ≡ length counts.old.items }
+{
+    let Ok(edge) = usize::try_from(line.edge) else {
+        return false;
+    };
+    let Ok(count) = u32::try_from(line.count) else {
+        return false;
+    };
+    if edge < 1 || counts.len() < edge {
+        return false;
+    }
+    counts[edge - 1] = count;
+    true
+}
+
+/// The counts of a document, one for each edge of the instance, if all are in range.
+fn stated_answer(
+    alloc: Global,
+    instance: &Instance,
+    document: &Document,
+) -> Result<Option<Answer>, OutOfMemory>
+    ensures { IfOk result (λ found. IfSome found (HasPlaces instance.now)) }
+{
+    let mut counts = vec![in alloc; 0u32; instance.edges() as usize]?;
+    for line in document.counts.as_slice() {
+        if !write_count(&mut counts, line) {
+            return Ok(None);
+        }
+    }
+    Ok(Some(Answer::Counts(Sequence::from_vec(counts))))
+}
+
+/// Whether the counts of a document are a perfect matching of this weight, and it states this weight.
+fn states_weight(
+    alloc: Global,
+    instance: &Instance,
+    document: &Document,
+    wanted: i128,
+) -> Result<bool, OutOfMemory> {
+    if i128::from(document.weight) != wanted {
+        return Ok(false);
+    }
+    let Some(answer) = stated_answer(alloc, instance, document)? else {
+        return Ok(false);
+    };
+    if weight(instance, &answer) != wanted {
+        return Ok(false);
+    }
+    feasible(alloc, instance, Kind::Perfect, &answer)
+}
+
+/// The weight of a best answer, found by trying all, if there is one.
+pub fn best_weight(alloc: Global, instance: &Instance) -> Result<Option<i128>, OutOfMemory>
+    requires { length instance.now.edges ≤ 20 }
+{
+    match best(alloc, instance, Kind::Perfect)? {
+        Some(answer) => Ok(Some(weight(instance, &answer))),
+        None => Ok(None),
+    }
+}
+
+/// Whether a document states a perfect matching of the least weight, or that there is none where there
+/// is no such weight.
+pub fn agrees(
+    alloc: Global,
+    instance: &Instance,
+    document: &Document,
+    least: Option<i128>,
+) -> Result<bool, OutOfMemory> {
+    match least {
+        Some(least) => {
+            if document.status != DocStatus::Optimal {
+                return Ok(false);
+            }
+            states_weight(alloc, instance, document, least)
+        }
+        None => Ok(document.status == DocStatus::Infeasible),
+    }
+}
