@@ -12,6 +12,7 @@ import sys
 
 import mutate
 import plain_checker
+import plain_solver
 
 HERE = os.path.dirname(os.path.abspath(__file__))
 USAGE = "s USAGE\n"
@@ -27,6 +28,13 @@ class Tests:
     def __init__(self):
         self.passed = 0
         self.failed = 0
+
+    def compare(self, name, given, wanted, got):
+        if got == wanted:
+            self.passed += 1
+            return
+        self.failed += 1
+        print("FAILED %s\n  input    %r\n  expected %r\n  got      %r" % (name, given[:300], wanted, got))
 
     def expect(self, name, words, given, output, status):
         got = run(words, given)
@@ -84,7 +92,9 @@ def hostile_input(tests):
 def words(tests):
     """Words that are no command are answered so, whatever the input is."""
     for line in ([], ["check"], ["check", "perfec"], ["perfect", "check"], ["check", "perfect", "--brief"],
-                 ["--help"], ["--version"], ["check", "--", "perfect"], ["solve", "perfect"], ["check", "matching"]):
+                 ["--help"], ["--version"], ["check", "--", "perfect"], ["check", "matching"], ["solve"], ["solve", "matching"],
+                 ["solve", "--", "perfect"], ["solve", "--brief"], ["solve", "perfect", "--brief", "--brief"],
+                 ["solve", "perfect", "brief"], ["solve", "--brief", "perfect", "--brief"]):
         tests.expect("words " + " ".join(line), line, b"p edge 0 0\n", USAGE, 2)
 
 
@@ -123,9 +133,56 @@ def changed_documents(tests):
             tests.expect("%s/%s, change %d" % (kind, name, turn), ["check", kind], text.encode(), answer, status)
 
 
+def long_input(tests):
+    """What `solve` takes at most."""
+    tests.expect("solve, the longest input", ["solve", "perfect"], b"\n" * 16_777_216, "s MALFORMED HeaderMissing 16777217\n", 3)
+    tests.expect("solve, one byte more", ["solve", "perfect"], b"\n" * 16_777_217, "s TOOLONG\n", 5)
+
+
+def made_graphs():
+    """Small graphs, some with weights: how many vertices, and the edges."""
+    chance = random.Random(2)
+    for turn in range(160):
+        n = chance.choice((2, 4, 6, 8, 8, 10, 10, 12)) - (turn % 16 == 0)
+        most = chance.choice((0, 0, 1, 9, 10**9))
+        edges = []
+        for _ in range(chance.randint(n // 2, 3 * n)):
+            u, v = sorted(chance.sample(range(1, n + 1), 2)) if n > 1 else (0, 0)
+            if u:
+                edges.append((u, v, chance.randint(-most, most)))
+        yield n, edges
+
+
+def solved(tests):
+    """What `solve` writes for a graph is what trying all matchings finds, and `check` accepts it."""
+    for turn, (n, edges) in enumerate(made_graphs()):
+        name = "made graph %d" % turn
+        text = plain_solver.instance(n, edges)
+        least = plain_solver.least_weight(n, edges)
+        wanted = "s INFEASIBLE perfect" if least is None else "s OPTIMAL perfect %d" % least
+        status, output, _ = run(["solve", "perfect"], text.encode())
+        tests.compare(name, text, (0, wanted), (status, output.split("\n")[0]))
+        tests.expect(name + ", checked", ["check", "perfect"], (text + output).encode(), "s ACCEPTED\n", 0)
+        brief = "".join(line + "\n" for line in output.splitlines() if line[0] in "sx")
+        tests.expect(name + ", briefly", ["solve", "perfect", "--brief"], text.encode(), brief, 0)
+
+
+def large_graphs(tests):
+    """Documents for larger graphs, with nested sets among them, are accepted."""
+    chance = random.Random(3)
+    for n, m, most in ((60, 200, 10), (100, 300, 10**9), (200, 400, 3), (300, 3000, 1000)):
+        order = chance.sample(range(1, n + 1), n)
+        pairs = list(zip(order[::2], order[1::2])) + [tuple(chance.sample(range(1, n + 1), 2)) for _ in range(m - n // 2)]
+        text = plain_solver.instance(n, [(u, v, chance.randint(-most, most)) for u, v in pairs])
+        status, output, _ = run(["solve", "perfect"], text.encode())
+        name = "a graph of %d vertices and %d edges" % (n, m)
+        tests.compare(name, text, (0, "s OPTIMAL perfect"), (status, " ".join(output.split()[:3])))
+        tests.expect(name + ", checked", ["check", "perfect"], (text + output).encode(), "s ACCEPTED\n", 0)
+
+
 PROGRAM = os.path.abspath(sys.argv[1])
 TESTS = Tests()
-for part in (cases, cut_files, hostile_input, words, examples, documents, changed_documents):
+for part in (cases, cut_files, hostile_input, words, examples, documents, changed_documents, long_input, solved, large_graphs):
     part(TESTS)
 print("%d passed, %d failed" % (TESTS.passed, TESTS.failed))
 sys.exit(0 if TESTS.failed == 0 and TESTS.passed > 0 else 1)
