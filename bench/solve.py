@@ -10,6 +10,7 @@ import sys
 from timing import PROGRAM, compiled, seconds
 
 SOLVE = ["solve", "perfect", "--brief"]
+RUNS = 2
 
 
 def text(n, edges):
@@ -104,12 +105,12 @@ def agree(ours, theirs):
 def measure(name, given, peer):
     """One row of the table; whether both answers are one."""
     n, m = given.split(b"\n")[0].split()[2:4]
-    own = seconds([PROGRAM] + SOLVE, given, runs=3)
+    own = seconds([PROGRAM] + SOLVE, given, runs=RUNS)
     row = "%-44s n %5d  m %6d  blossom %9.1f ms" % (name, int(n), int(m), own * 1000)
     if peer is None:
         print(row + "  (LEMON isn't installed)")
         return True
-    theirs = seconds([peer], given, runs=3)
+    theirs = seconds([peer], given, runs=RUNS)
     same = agree(first_line([PROGRAM] + SOLVE, given), first_line([peer], given))
     print("%s  LEMON %8.1f ms  ratio %8.1f  %s" % (row, theirs * 1000, own / theirs, "same answer" if same else "ANSWERS DIFFER"))
     return same
@@ -124,8 +125,11 @@ def instances(most):
 
 
 def weighted():
-    yield from instances(10**9)
     for n in (300, 1000):
+        yield "random, 3 edges a vertex", random_graph(n, 3 * n, 10**9)
+        yield "random, 16 edges a vertex", random_graph(n, 16 * n, 10**9)
+        yield "a chain of triangles", chain_of_triangles(n, 10**9)
+        yield "no perfect matching", without_matching(n, 4 * n, 10**9)
         yield "nearest neighbours in a plane", nearest_neighbours(n, 8)
         yield "nested odd sets", nested_sets(n, 10**6)
 
