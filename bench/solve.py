@@ -33,6 +33,25 @@ def random_graph(n, m, most, seed=1):
     return text(n, [(u, v, weigh(u, v)) for u, v in pairs])
 
 
+def path_and_more(n, m, most, state=7):
+    """A path through all vertices and edges between vertices that a linear congruential generator draws, with weights
+    to `most` either way."""
+
+    def draw(sides):
+        nonlocal state
+        state = (state * 6364136223846793005 + 1442695040888963407) % 2**64
+        return (state >> 33) % sides
+
+    edges = []
+    for i in range(1, m + 1):
+        u, v = i, i + 1
+        if i >= n:
+            u, v = 1 + draw(n), 1 + draw(n - 1)
+            v += v >= u
+        edges.append((u, v, draw(2 * most + 1) - most))
+    return text(n, edges)
+
+
 def chain_of_triangles(n, most, seed=1):
     """Triangles in a row, an even number of them, each joined to the next."""
     draw = random.Random(seed)
@@ -120,6 +139,8 @@ def instances(most):
     for n in (300, 1000, 4096):
         yield "random, 3 edges a vertex", random_graph(n, 3 * n, most)
         yield "random, 16 edges a vertex", random_graph(n, 16 * n, most)
+        if n <= 1000:
+            yield "a path and more edges", path_and_more(n, 10 * n, most)
         yield "a chain of triangles", chain_of_triangles(n, most)
         yield "no perfect matching", without_matching(n, 4 * n, most)
 
@@ -128,6 +149,8 @@ def weighted():
     for n in (300, 1000):
         yield "random, 3 edges a vertex", random_graph(n, 3 * n, 10**9)
         yield "random, 16 edges a vertex", random_graph(n, 16 * n, 10**9)
+        if n <= 300:
+            yield "a path and more edges", path_and_more(n, 10 * n, 1000)
         yield "a chain of triangles", chain_of_triangles(n, 10**9)
         yield "no perfect matching", without_matching(n, 4 * n, 10**9)
         yield "nearest neighbours in a plane", nearest_neighbours(n, 8)
