@@ -5,3 +5,4 @@ pub mod Parts
 pub mod Barrier
 pub mod Duals
 pub mod Laws
+pub mod Limits

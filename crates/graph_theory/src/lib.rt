@@ -5,8 +5,10 @@
 
 mod edge;
 mod law;
+mod limits;
 mod odd_set;
 
 pub use edge::Edge;
 pub use law::laws;
+pub use limits::{GRAPH_EDGE_LIMIT, GRAPH_VERTEX_LIMIT, NUMBER_LIMIT, WEIGHT_LIMIT};
 pub use odd_set::OddSet;
