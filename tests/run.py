@@ -10,9 +10,11 @@ import random
 import subprocess
 import sys
 
+import launcher
 import mutate
 import plain_checker
 import plain_solver
+import process_ends
 
 HERE = os.path.dirname(os.path.abspath(__file__))
 USAGE = "s USAGE\n"
@@ -184,5 +186,7 @@ PROGRAM = os.path.abspath(sys.argv[1])
 TESTS = Tests()
 for part in (cases, cut_files, hostile_input, words, examples, documents, changed_documents, long_input, solved, large_graphs):
     part(TESTS)
+process_ends.check(PROGRAM, TESTS)
+launcher.check(TESTS)
 print("%d passed, %d failed" % (TESTS.passed, TESTS.failed))
 sys.exit(0 if TESTS.failed == 0 and TESTS.passed > 0 else 1)

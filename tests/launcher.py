@@ -1,0 +1,67 @@
+"""What `./blossom` does about builds, with a stand-in for the command that proves and builds crates: it builds once, goes on
+where it was, and after a failed build never runs an older program."""
+import os
+import shutil
+import subprocess
+import tempfile
+
+TOP = os.path.join(os.path.dirname(os.path.abspath(__file__)), "..")
+# Notes that it was called in which folder, fails in a folder that has a file `broken`, and makes a program of a program's crate.
+STAND_IN = """#!/bin/sh
+name=$(basename "$PWD")
+echo "$1 $name" >>../../calls
+if [ -e broken ]; then echo "the proof of $name failed"; exit 3; fi
+if [ "$1" = run ]; then printf '#!/bin/sh\\necho made\\n' >out/$name; chmod +x out/$name; fi
+"""
+
+
+def repository(room):
+    """A small repository with the launcher: the program stands on `low`, and `other` on nothing that it needs."""
+    os.makedirs(os.path.join(room, "bin"))
+    for name in ("low", "blossom", "other"):
+        os.makedirs(os.path.join(room, "crates", name, "src"))
+        with open(os.path.join(room, "crates", name, "src", "lib.rt"), "w", encoding="utf-8") as file:
+            file.write("// " + name)
+    for path, text in (("crates.txt", "blossom: low\nlow:\nother: low\n"), ("HANDLES", "none"), ("bin/rt", STAND_IN)):
+        with open(os.path.join(room, path), "w", encoding="utf-8") as file:
+            file.write(text)
+    os.chmod(os.path.join(room, "bin", "rt"), 0o755)
+    os.makedirs(os.path.join(room, "scripts"))
+    for path in ("blossom", "scripts/build.py"):
+        shutil.copy(os.path.join(TOP, path), os.path.join(room, path))
+
+
+def call(room):
+    """One call of the launcher: its status, what it printed, what it said, and what was built in it."""
+    calls = os.path.join(room, "calls")
+    open(calls, "w", encoding="utf-8").close()
+    done = subprocess.run([os.path.join(room, "blossom")], capture_output=True, text=True, stdin=subprocess.DEVNULL,
+                          env=dict(os.environ, PATH=os.path.join(room, "bin") + ":" + os.environ["PATH"]))
+    with open(calls, encoding="utf-8") as file:
+        return done.returncode, done.stdout, done.stderr, file.read().splitlines()
+
+
+def change(room, name):
+    with open(os.path.join(room, "crates", name, "src", "lib.rt"), "a", encoding="utf-8") as file:
+        file.write("\n// more")
+
+
+def check(tests):
+    with tempfile.TemporaryDirectory() as room:
+        repository(room)
+        broken = os.path.join(room, "crates", "low", "broken")
+        status, output, said, built = call(room)
+        tests.compare("the first call builds what the program stands on", "", (0, "made\n", ["lib low", "run blossom"]), (status, output, built))
+        tests.compare("a line a crate is said", "", ["blossom: 1 of 2: low", "blossom: 2 of 2: blossom"],
+                      [line.rpartition(",")[0] for line in said.splitlines() if " of " in line])
+        tests.compare("a second call builds nothing", "", (0, "made\n", "", []), call(room))
+        change(room, "low")
+        open(broken, "w", encoding="utf-8").close()
+        status, output, said, built = call(room)
+        tests.compare("a failed build ends with its status and runs nothing", "", (3, "", ["lib low"]), (status, output, built))
+        tests.compare("the end of its log is shown", "", True, "the proof of low failed" in said)
+        status, output, _, built = call(room)
+        tests.compare("and so does the next call", "", (3, "", ["lib low"]), (status, output, built))
+        os.remove(broken)
+        status, output, _, built = call(room)
+        tests.compare("a mended build runs", "", (0, "made\n", ["lib low", "run blossom"]), (status, output, built))
