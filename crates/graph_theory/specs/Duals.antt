@@ -1,8 +1,9 @@
 -- Duals on vertices and on odd sets of vertices (chapters 25 and 26), in doubled units.
-use Rattle.std.specs.Prelude.{◌≡◌, ℕ, ◌%◌, ◌-◌, ◌^◌, neg_ℤ, ◌≤◌, ℤ, pos, ◌+ℤ◌, ◌-ℤ◌, ◌*ℤ◌, ◌≤ℤ◌, List, [], length, All, slice_index_or, if◌then◌else◌}
+use Rattle.std.specs.Prelude.{◌≡◌, ℕ, ◌%◌, ◌-◌, neg_ℤ, ◌≤◌, ℤ, pos, ◌+ℤ◌, ◌-ℤ◌, ◌*ℤ◌, ◌≤ℤ◌, List, [], length, All, slice_index_or, if◌then◌else◌}
 use Rattle.std.specs.List.Sorted.{IsStrictlyIncreasing}
 use Rattle.graph_theory.specs.Sums.{int_sum_to}
 use Rattle.graph_theory.specs.declared.edge.Edge.{Edge}
+use Rattle.graph_theory.specs.declared.limits.TheConstants.{NUMBER_LIMIT}
 use Rattle.graph_theory.specs.declared.odd_set.OddSet.{OddSet}
 use Rattle.graph_theory.specs.Graph.{Multigraph}
 use Rattle.graph_theory.specs.Parts.{crosses}
@@ -47,6 +48,6 @@ pub record AreDuals (g : Multigraph) (y : List ℤ) (sets : List OddSet) : Type 
   pub forms : All (λ s. HasForm s.members) sets
   pub slacks : All (λ e. pos 0 ≤ℤ slack y sets e) g.edges
 
--- a number of a document
+-- a number of a document: no farther from 0 than the limit
 abbrev pub IsNumber : ℤ → Type 0
-IsNumber a = (neg_ℤ (pos (10 ^ 15)) ≤ℤ a) × (a ≤ℤ pos (10 ^ 15))
+IsNumber a = (neg_ℤ NUMBER_LIMIT ≤ℤ a) × (a ≤ℤ NUMBER_LIMIT)

@@ -3,6 +3,7 @@
 use Rattle.std.specs.Prelude.{◌≡◌, ◌≢◌, ℕ, zero, suc, ◌+◌, ◌-◌, ◌*◌, ◌≤◌, ◌<◌, ◌^◌, ℤ, pos, neg_ℤ, ◌*ℤ◌, ◌≤ℤ◌, Bool, ◌||◌, ◌==◌, List, [], ◌∷◌, ◌++◌, length, All, slice_index, slice_index_or, if◌then◌else◌}
 use Rattle.graph_theory.specs.Sums.{sum_to, int_sum_to}
 use Rattle.graph_theory.specs.declared.edge.Edge.{Edge}
+use Rattle.graph_theory.specs.declared.limits.TheConstants.{WEIGHT_LIMIT}
 
 -- Vertices 1 to n, and edges. Parallel edges are edges of their own.
 pub record Multigraph : Type 0 where
@@ -17,9 +18,9 @@ pub record IsEdgeWithin (n : ℕ) (e : Edge) : Type 0 where
   pub v_high : e.v ≤ n
   pub differ : e.u ≢ e.v
 
--- a weight of an edge
+-- a weight of an edge: no farther from 0 than the limit
 abbrev pub IsWeight : ℤ → Type 0
-IsWeight w = (neg_ℤ (pos (10 ^ 9)) ≤ℤ w) × (w ≤ℤ pos (10 ^ 9))
+IsWeight w = (neg_ℤ WEIGHT_LIMIT ≤ℤ w) × (w ≤ℤ WEIGHT_LIMIT)
 
 -- numbers of vertices and of edges that fit 32 bits, ends that are vertices and differ, and weights in range
 pub record IsGraph (g : Multigraph) : Type 0 where

@@ -4,5 +4,6 @@ pub mod Walk
 pub mod Parts
 pub mod Barrier
 pub mod Duals
+pub mod Nested
 pub mod Laws
 pub mod Limits
