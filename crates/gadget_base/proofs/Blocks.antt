@@ -1,7 +1,8 @@
 -- Lemmas on lists made of blocks: how long they are, what stands at a place, what all their elements are, and one block more.
-use Rattle.std.proofs.Common.{◌≡◌, ℕ, zero, suc, ◌+◌, ◌*◌, ◌<◌, ℤ, refl, ap, sym, ◌∙◌, inl, inr, arith, add-one, List, [], ◌∷◌, ◌++◌, length, slice_index, slice_index_or, All, length-append}
+use Rattle.std.proofs.Common.{◌≡◌, ℕ, zero, suc, ◌+◌, ◌*◌, ◌<◌, ◌≤◌, ℤ, refl, ap, sym, ◌∙◌, inl, inr, arith, add-one, List, [], ◌∷◌, ◌++◌, length, slice_index, slice_index_or, take, All, length-append}
 use Rattle.std.proofs.lemmas.Bool.{cases_eq}
-use Rattle.std.proofs.lemmas.List.{get_or_append_left, get_or-append-add, append_assoc, append-nil, ext_get_or}
+use Rattle.std.proofs.lemmas.List.{get_or_append_left, get_or-append-add, append_assoc, append-nil, ext_get_or, take_all, take-append-le}
+use Rattle.std.proofs.Math.Seq.{take-append-add}
 use Rattle.std.proofs.lemmas.List.Elements.{All-append, All-cons, All-nil}
 use Rattle.graph_theory.specs.Sums.{sum_to}
 use Rattle.graph_theory.proofs.SumLemmas.{sum_to-same}
@@ -98,6 +99,31 @@ tabled-rows f m n =
     ∙ tabled-blocks f (λ _. n) m
     ∙ blocks-same (λ a. tabled (λ j. f (sum_to (λ _. n) a + j)) n) (λ a. tabled (λ j. f (a * n + j)) n) m
     (λ a _. ap (λ p. tabled (λ j. f (p + j)) n) (sum_to-const n a))
+
+-- the first of them
+
+pub take-tabled : {A : Type 0} (f : ℕ → A) (k n : ℕ) → k ≤ n → take k (tabled f n) ≡ tabled f k
+take-tabled f k zero h = let none : k ≡ 0 = omega arith in rw none refl
+take-tabled f k (suc n) h =
+    let size = tabled-length f n in
+    elim (cases_eq k (suc n)) [
+      | inl e ↦ take_all k (tabled f (suc n)) (omega (arith, e, tabled-length f (suc n))) ∙ ap (tabled f) (sym e)
+      | inr d ↦ take-append-le k (tabled f n) (f n ∷ []) (omega (arith, size)) ∙ take-tabled f k n (omega arith)
+    ]
+
+pub take-blocks : {A : Type 0} (f : ℕ → List A) (k n j : ℕ) → k < n → j ≤ length (f k) → take (length (blocks f k) + j) (blocks f n) ≡ blocks f k ++ take j (f k)
+take-blocks f k zero j h b = absurd (omega arith)
+take-blocks f k (suc n) j h b =
+    elim (cases_eq k n) [
+      | inl e ↦
+          ap (λ x. take (length (blocks f x) + j) (blocks f n ++ f n)) e
+          ∙ take-append-add (blocks f n) (f n) j
+          ∙ ap (λ x. blocks f x ++ take j (f x)) (sym e)
+      | inr d ↦
+          let grows = sum_to-grows (λ i. length (f i)) k n (omega arith) in
+          take-append-le (length (blocks f k) + j) (blocks f n) (f n) (omega (arith, grows, blocks-length f k, blocks-length f n))
+          ∙ take-blocks f k n j (omega arith) b
+    ]
 
 -- in pairs
 pub tabled-pairs : {A : Type 0} (f : ℕ → A) (m : ℕ) → tabled f (2 * m) ≡ blocks (λ k. f (2 * k) ∷ f (2 * k + 1) ∷ []) m

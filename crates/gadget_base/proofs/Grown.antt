@@ -1,12 +1,15 @@
 -- Lemmas on graphs whose list of edges grows by a row, a rectangle or a clique.
-use Rattle.std.proofs.Common.{◌≡◌, ℕ, zero, suc, ◌+◌, ◌-◌, ◌*◌, ◌/◌, ◌≤◌, pos, refl, ap, sym, ◌∙◌, arith, List, [], ◌∷◌, ◌++◌, length, length-append}
+use Rattle.std.proofs.Common.{◌≡◌, ℕ, zero, suc, ◌+◌, ◌-◌, ◌*◌, ◌/◌, ◌≤◌, ◌<◌, pos, refl, ap, sym, ◌∙◌, arith, List, [], ◌∷◌, ◌++◌, length, length-append, take}
 use Rattle.std.proofs.lemmas.List.{append_assoc, append-nil}
+use Rattle.std.specs.Prelude.{Result, Ok, Err, OnErr}
 use Rattle.graph_theory.specs.declared.edge.Edge.{Edge}
 use Rattle.graph_theory.specs.Sums.{sum_to}
 use Rattle.graph_theory.specs.Graph.{Multigraph}
 use Rattle.graph_theory.proofs.SumLemmas.{sum_to-same}
 use Rattle.gadget_base.specs.Blocks.{blocks, tabled, row, clique}
-use Rattle.gadget_base.proofs.Blocks.{blocks-length, tabled-more, blocks-more, row-length}
+use Rattle.gadget_base.specs.Added.{AddsFirst}
+use Rattle.gadget_base.proofs.Blocks.{blocks-length, tabled-length, tabled-more, blocks-more, row-length, take-tabled, take-blocks}
+use Rattle.gadget_base.proofs.BlockSums.{sum_to-grows}
 
 -- nothing more
 pub grown-none : (g : Multigraph) → g ≡ record g { edges = g.edges ++ [] }
@@ -24,6 +27,29 @@ grown-block old mid new f k one two = grown-twice old mid new (blocks f k) (f k)
 -- one edge more
 pub grown-one : (old mid new : Multigraph) (f : ℕ → Edge) (k : ℕ) → mid ≡ record old { edges = old.edges ++ tabled f k } → new ≡ record mid { edges = mid.edges ++ f k ∷ [] } → new ≡ record old { edges = old.edges ++ tabled f (k + 1) }
 grown-one old mid new f k one two = grown-twice old mid new (tabled f k) (f k ∷ []) one two ∙ ap (λ (xs : List Edge). record old { edges = old.edges ++ xs }) (sym (tabled-more f k))
+
+-- what holds in any case
+pub on_err : {T E : Type 0} {P : Type 0} (r : Result T E) → P → OnErr r P
+on_err (Ok x) p = tt
+on_err (Err x) p = p
+
+-- want of memory after the first k edges of n
+pub cut-row : (old new : Multigraph) (f : ℕ → Edge) (k n : ℕ) → k < n → new ≡ record old { edges = old.edges ++ tabled f k } → AddsFirst old new (tabled f n)
+cut-row old new f k n b now = record {
+  count = k;
+  fewer = omega (arith, tabled-length f n, b);
+  added = now ∙ ap (λ (xs : List Edge). record old { edges = old.edges ++ xs }) (sym (take-tabled f k n (omega arith)));
+}
+
+-- want of memory within block number k + 1 of n
+pub cut-block : (old mid new : Multigraph) (f : ℕ → List Edge) (k n : ℕ) → k < n → mid ≡ record old { edges = old.edges ++ blocks f k } → AddsFirst mid new (f k) → AddsFirst old new (blocks f n)
+cut-block old mid new f k n b whole part =
+    let fewer = part.fewer in
+    record {
+      count = length (blocks f k) + part.count;
+      fewer = omega (arith, fewer, blocks-length f k, blocks-length f n, sum_to-grows (λ j. length (f j)) k n b);
+      added = grown-twice old mid new (blocks f k) (take part.count (f k)) whole part.added ∙ ap (λ (xs : List Edge). record old { edges = old.edges ++ xs }) (sym (take-blocks f k n part.count b (omega arith)));
+    }
 
 -- how many edges there are
 pub grown-length : (old new : Multigraph) (es : List Edge) → new ≡ record old { edges = old.edges ++ es } → length new.edges ≡ length old.edges + length es

@@ -14,9 +14,9 @@ use Rattle.graph_theory.proofs.SumLemmas.{sum_to-same, sum_to-add, sum_to-has, i
 use Rattle.graph_theory.proofs.Edges.{degree-touches, touches-u, edge_of-place}
 use Rattle.graph_theory.proofs.Handshake.{handshake-perfect}
 use Rattle.gadget_base.specs.Certified.{IsPerfectList}
-use Rattle.gadget_base.specs.Listed.{times, times_each}
+use Rattle.gadget_base.specs.Listed.{times, times_each, ListsCounts}
 use Rattle.gadget_base.proofs.BlockSums.{sum_to-none, sum_to-hit}
-use Rattle.gadget_base.proofs.Blocks.{tabled-length, tabled-at}
+use Rattle.gadget_base.proofs.Blocks.{tabled-length, tabled-at, is-tabled}
 
 pub times-cons : (e : ℕ) (es : List ℕ) (k : ℕ) → times (e ∷ es) k ≡ cond (eqb e k) 1 0 + times es k
 times-cons e es k = sum_by-cons (λ x. cond (eqb x k) 1 0) e es
@@ -172,3 +172,20 @@ list-length g es ends list =
     let natural : pos (sum_to c m) ≡ pos (length es) = ap pos (each ∙ all) in
     let doubled : pos g.vertices ≡ pos (2 * length es) = omega (arith, ints, one, vertices, twice, both, sum, natural) in
     omega (arith, ints, doubled)
+
+-- from counts to a list that names each edge as often as it is counted
+
+pub counts-listed : (g : Multigraph) (counts es : List ℕ) → length counts ≡ length g.edges → ListsCounts g counts es → counts ≡ times_each g es
+counts-listed g counts es size lists = is-tabled counts (λ k. times es (k + 1)) (length g.edges) size (λ k b. sym (lists.each k b))
+
+pub list_from_perfect : (g : Multigraph) (counts es : List ℕ) → All (IsEdgeWithin g.vertices) g.edges → IsPerfect g counts → ListsCounts g counts es → IsPerfectList g es
+list_from_perfect g counts es ends perfect lists = record {
+  numbers = lists.numbers;
+  one_each = λ v low high.
+      sym (times_each-degree g es v ends lists.numbers)
+      ∙ ap (λ (cs : List ℕ). degree g cs v) (sym (counts-listed g counts es perfect.one_each lists))
+      ∙ perfect.degrees v low high;
+}
+
+pub list-weight : (g : Multigraph) (counts es : List ℕ) → length counts ≡ length g.edges → ListsCounts g counts es → walk_weight g es ≡ weight g counts
+list-weight g counts es size lists = sym (weight_of_list g es lists.numbers) ∙ ap (weight g) (sym (counts-listed g counts es size lists))

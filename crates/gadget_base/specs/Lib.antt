@@ -1,4 +1,5 @@
 pub mod Blocks
+pub mod Added
 pub mod Gadgets
 pub mod Starts
 pub mod Certified

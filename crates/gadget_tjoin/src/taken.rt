@@ -67,6 +67,7 @@ pub fn extract(
     requires perfect { IsPerfectList (ports_graph instance.now (odd_at parity.now instance.now)) edges.now }
     ensures ascending { IfOk result (λ join. IsStrictlyIncreasing join.edges) }
     ensures in_range { IfOk result (λ join. All (IsEdgeNumber (graph_of instance.now)) join.edges) }
+    ensures exact { IfOk result (λ join. (k : ℕ) → k < length instance.now.edges → holds join.edges (k + 1) ≡ holds edges.now (k + 1)) }
     ensures join { IfOk result (λ join. IsJoinOf parity.now instance.now (listed_counts join.edges (length instance.now.edges))) }
     ensures weighs { IfOk result (λ join. walk_weight (graph_of instance.now) join.edges ≡ walk_weight (ports_graph instance.now (odd_at parity.now instance.now)) edges.now) }
 {

@@ -2,7 +2,7 @@ use Rattle.std.proofs.Common.{ℕ, ◌+◌, ◌-◌, List, pos, arith}
 use Rattle.graph_theory.specs.declared.edge.Edge.{Edge}
 use Rattle.gadget_base.specs.Blocks.{blocks, row}
 use Rattle.gadget_base.proofs.BlockSums.{sum_to-grows}
-use Rattle.gadget_base.proofs.Grown.{grown-length, clique-rows, clique-length}
+use Rattle.gadget_base.proofs.Grown.{grown-length, cut-block, on_err, clique-rows, clique-length}
 use Rattle.gadget_base.proofs.rows.add_clique.Goals as goal
 
 pub add_row-requires-clause-room : goal.add_row-requires-clause-room
@@ -18,3 +18,10 @@ add_row-requires-clause-room c =
     let grows = sum_to-grows (λ j. n - 1 - j) a n (omega arith) in
     let room = c.requires.room in
     omega (arith, size, here, all, whole, grows, room)
+
+pub returns-in_err-add_row-clause-cut_short : goal.returns-in_err-add_row-clause-cut_short
+returns-in_err-add_row-clause-cut_short c =
+    let n = c.args.n in
+    let before = c.args.before in
+    on_err c.from_residual.result
+    (cut-block c.args.graph.now c.loop-a.graph c.add_row.new.graph (λ a. row (before + a + 1) (before + a + 1) (n - 1 - a) (pos 0)) c.loop-a.a n (omega arith) c.loop-a.invariant.added c.in_err-add_row.ensures.cut_short)

@@ -1,8 +1,9 @@
-use Rattle.std.proofs.Common.{◌≡◌, ◌+◌, ◌*◌, ◌≤◌, arith, to_z, of_z, w64}
+use Rattle.std.proofs.Common.{rules, ◌≡◌, ◌+◌, ◌*◌, ◌≤◌, ℤ, arith, to_z, of_z, w64, subst}
+use Rattle.gadget_base.specs.Added.{AddsFirst}
 use Rattle.std.proofs.Math.Nat.{mul-le-mul_right}
-use Rattle.gadget_base.specs.Blocks.{rectangle}
+use Rattle.gadget_base.specs.Blocks.{row, rectangle}
 use Rattle.gadget_base.proofs.Blocks.{rectangle-length}
-use Rattle.gadget_base.proofs.Grown.{grown-length}
+use Rattle.gadget_base.proofs.Grown.{grown-length, cut-block, on_err}
 use Rattle.gadget_base.proofs.rows.add_rectangle.Goals as goal
 
 pub add_row-requires-clause-room : goal.add_row-requires-clause-room
@@ -16,3 +17,12 @@ add_row-requires-clause-room c =
     let more : (a + 1) * n ≡ a * n + n = grind arith in
     let room = c.requires.room in
     omega (arith, size, rows, most, more, room)
+
+pub returns-in_err-add_row-clause-cut_short : goal.returns-in_err-add_row-clause-cut_short
+returns-in_err-add_row-clause-cut_short c =
+    let w = to_z w64 (of_z w64 c.args.w) in
+    let same : w ≡ c.args.w = search rules in
+    let old = c.args.graph.now in
+    let new = c.add_row.new.graph in
+    let P : ℤ → Type 0 = λ z. AddsFirst old new (rectangle c.args.first c.args.m c.args.second c.args.n z) in
+    on_err c.from_residual.result (subst P same (cut-block old c.loop-a.graph new (λ a. row (c.args.first + a + 1) c.args.second c.args.n w) c.loop-a.a c.args.m (omega arith) c.loop-a.invariant.added c.in_err-add_row.ensures.cut_short))

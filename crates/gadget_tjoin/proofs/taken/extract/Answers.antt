@@ -19,6 +19,12 @@ own m es matching marks read same size marked ascending in_range exact =
       exact = λ k b. exact k (omega (arith, long, b)) ∙ ap (λ (xs : List Bool). slice_index_or xs k false) same ∙ marked k b;
     }
 
+pub returns-clause-exact : goal.returns-clause-exact
+returns-clause-exact c =
+    let i = c.args.instance.now in
+    let is = own (length i.edges) c.in_ok-marked.field-0.items c.args.edges.now c.in_ok-marks.marks.items c.deref.result.now c.deref.ensures.value c.in_ok-marks.ensures.size c.in_ok-marks.ensures.each c.in_ok-marked.ensures.ascending c.in_ok-marked.ensures.in_range c.in_ok-marked.ensures.exact in
+    λ k b. ap (λ (es : List ℕ). holds es (k + 1)) c.from_vec-edges.ensures ∙ is.exact k b
+
 pub returns-clause-join : goal.returns-clause-join
 returns-clause-join c =
     let i = c.args.instance.now in
