@@ -1,3 +1,4 @@
 pub mod Streams
+pub mod MemoryStreams
 pub mod Text
 pub mod Rows

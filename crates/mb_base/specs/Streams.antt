@@ -1,5 +1,5 @@
 -- What a source and a sink of bytes do, and what reading all and writing all leave of them.
-use Rattle.std.specs.Prelude.{◌≡◌, ℕ, ◌+◌, ◌-◌, ◌<◌, ◌≤◌, List, [], ◌++◌, length, take, ⊤, Option, None, Some, Result, Ok, Err, MatchResult, IsSome}
+use Rattle.std.specs.Prelude.{◌≡◌, ℕ, ◌+◌, ◌<◌, ◌≤◌, List, [], ◌++◌, length, take, ⊤, Option, None, Some, Result, Ok, Err, MatchResult, IsSome}
 use Rattle.std.specs.Global.{Vec}
 use Rattle.std.specs.Io.KnownBytes.{Consumes, IsAtEnd}
 use Rattle.mb_base.specs.declared.whole.ReadAll.{ReadAll}
@@ -39,6 +39,19 @@ ReadsAll limit old new (Ok v) = (length v.items ≤ limit) × Consumes old new v
 ReadsAll limit old new (Err ReadFault) = (bytes : List ℕ) × (length bytes ≤ limit) × Consumes old new bytes
 ReadsAll limit old new (Err TooLong) = (bytes : List ℕ) × (length bytes ≡ limit + 1) × Consumes old new bytes
 ReadsAll limit old new (Err OutOfMemory) = (bytes : List ℕ) × (length bytes ≤ limit + 1) × Consumes old new bytes
+
+-- How many bytes were taken where all of so many were to be written.
+abbrev pub count_taken : ℕ → Result Unit WriteFault → ℕ
+count_taken count (Ok _) = count
+count_taken count (Err fault) = fault.done
+
+-- Where there was room for what was taken, the room has shrunk by that.
+abbrev pub UsesRoom : ℕ → ℕ → ℕ → Type 0
+UsesRoom room left taken = taken ≤ room → left + taken ≡ room
+
+-- Where there was room for what was taken, what was told is told.
+abbrev pub StaysTold : ℕ → Option (List ℕ) → Option (List ℕ) → ℕ → Type 0
+StaysTold room old new taken = taken ≤ room → IsSome old → IsSome new
 
 -- What writing all bytes leaves of the sink, by its answer.
 abbrev pub WritesAll : Option (List ℕ) → Option (List ℕ) → List ℕ → Result Unit WriteFault → Type 0

@@ -4,6 +4,7 @@
 //! is seen in a count, and that a text has one reading.
 #![tactic(auto)]
 
+mod fault_plan;
 mod fields;
 mod ids;
 mod lines;
@@ -29,6 +30,3 @@ pub use sequence::Sequence;
 pub use steps::Steps;
 pub use streams::{Failed, Sink, Source};
 pub use whole::{ReadAll, WriteFault, read_all, write_all};
-
-#[cfg(test)]
-mod tests;

@@ -1,8 +1,12 @@
-ghost use Rattle.std.specs.Prelude.{◌≡◌, ℕ, ◌+◌, ◌-◌, ◌<◌, ◌≤◌, [], ◌++◌, length, take, IsTrue, ◌↔◌, Some, None, vec_len, vec_capacity, IfOk, IfSome, if◌then◌else◌};
+ghost use Rattle.std.specs.Prelude.{◌≡◌, ℕ, ◌+◌, ◌-◌, ◌<◌, ◌≤◌, ◌^◌, [], ◌++◌, true, length, take, IsTrue, ◌↔◌, Some, None, vec_len, vec_capacity, IfOk, IsErr, MatchResult};
+ghost use Rattle.mb_base.specs.Streams.{CountsFaults, TakesPiece, KeepsRoom};
+ghost use Rattle.mb_base.specs.MemoryStreams.{MemoryOutput, room_left, told, taken_of, with_more, fails_next, after_call};
 
+use crate::fault_plan::FaultPlan;
 use crate::memory::OutOfMemory;
 use crate::streams::{Failed, Sink};
 use std::alloc::Global;
+use std::marker::Model;
 
 /// Keeps the front of `bytes` as far as there is room, and answers whether that is all of them.
 fn keep(kept: &mut Vec<u8>, room: usize, bytes: &[u8]) -> bool
@@ -27,18 +31,24 @@ pub struct SureSink {
     room: usize,
     piece: usize,
     is_whole: bool,
-    ghost enough: { room ≤ vec_capacity kept },
-    ghost within: { vec_len kept ≤ room },
-    ghost takes: { 0 < piece },
+}
+
+impl Model for SureSink {
+    ghost use Rattle.std.specs.Prelude.{◌≤◌, ◌<◌, vec_len, vec_capacity};
+    ghost use Rattle.mb_base.specs.MemoryStreams.{MemoryOutput};
+
+    ghost Value = { MemoryOutput };
+
+    ghost view = { λ s. record { kept = s.kept.items; room = s.room; piece = s.piece; is_whole = s.is_whole } };
+
+    ghost invariant = { λ s. (s.room ≤ vec_capacity s.kept) × (vec_len s.kept ≤ s.room) × (0 < s.piece) };
 }
 
 impl SureSink {
     /// A sink with memory for `room` bytes.
     pub fn new(alloc: Global, room: usize, piece: usize) -> Result<SureSink, OutOfMemory>
         requires { 0 < piece }
-        ensures empty { IfOk result (λ s. ⟦<SureSink as Sink>⟧.taken s ≡ Some []) }
-        ensures count { IfOk result (λ s. ⟦<SureSink as Sink>⟧.faults s ≡ 0) }
-        ensures room { IfOk result (λ s. ⟦<SureSink as Sink>⟧.room s ≡ room) }
+        ensures { IfOk result (λ s. s ≡ record { kept = []; room = room; piece = piece; is_whole = true }) }
     {
         let kept = Vec::with_capacity(alloc, room)?;
         Ok(SureSink {
@@ -51,20 +61,26 @@ impl SureSink {
 
     /// The bytes that were kept: all that were taken, while the sink tells them.
     pub fn kept(&self) -> &[u8]
-        ensures { IfSome (⟦<SureSink as Sink>⟧.taken self.now) (λ bytes. result.now ≡ bytes) }
+        ensures { result.now ≡ self.now.kept }
     {
         &self.kept
     }
 }
 
 impl Sink for SureSink {
-    ghost taken = { λ s. if s.is_whole then Some s.kept.items else None };
+    ghost taken = { told };
 
     ghost faults = { λ _. 0 };
 
-    ghost room = { λ s. s.room - vec_len s.kept };
+    ghost room = { room_left };
 
-    fn write(&mut self, piece: &[u8]) -> Result<usize, Failed> {
+    fn write(&mut self, piece: &[u8]) -> Result<usize, Failed>
+        ensures bytes { TakesPiece (told self.old) (told self.new) result piece.now }
+        ensures room { KeepsRoom (room_left self.old) (room_left self.new) (told self.old) (told self.new) result }
+        ensures cause { CountsFaults 0 0 result }
+        ensures count { IfOk result (λ k. k ≡ taken_of self.old (length piece.now)) }
+        ensures after { self.new ≡ with_more self.old (take (taken_of self.old (length piece.now)) piece.now) }
+    {
         let count = piece.len().min(self.piece);
         if !keep(&mut self.kept, self.room, &piece[..count]) {
             self.is_whole = false;
@@ -73,20 +89,20 @@ impl Sink for SureSink {
     }
 }
 
-/// Takes at most `piece` bytes at a time, and keeps the first `room` bytes as `SureSink` does. The
-/// calls whose number from 1 stands in `fails` fail and are counted.
+/// A `SureSink` that fails as planned: the calls whose number from 1 stands in `fails` take nothing,
+/// fail and are counted.
 #[derive(Debug, Drop)]
 pub struct MemSink {
-    kept: Vec<u8>,
-    room: usize,
-    piece: usize,
-    is_whole: bool,
-    fails: Vec<u64>,
-    calls: u64,
-    faults: u64,
-    ghost enough: { room ≤ vec_capacity kept },
-    ghost within: { vec_len kept ≤ room },
-    ghost takes: { 0 < piece },
+    sink: SureSink,
+    plan: FaultPlan,
+}
+
+impl Model for MemSink {
+    ghost use Rattle.mb_base.specs.MemoryStreams.{FailingOutput};
+
+    ghost Value = { FailingOutput };
+
+    ghost view = { λ s. record { output = s.sink; plan = s.plan } };
 }
 
 impl MemSink {
@@ -98,47 +114,44 @@ impl MemSink {
         fails: Vec<u64>,
     ) -> Result<MemSink, OutOfMemory>
         requires { 0 < piece }
-        ensures empty { IfOk result (λ s. ⟦<MemSink as Sink>⟧.taken s ≡ Some []) }
-        ensures count { IfOk result (λ s. ⟦<MemSink as Sink>⟧.faults s ≡ 0) }
-        ensures room { IfOk result (λ s. ⟦<MemSink as Sink>⟧.room s ≡ room) }
+        ensures output { IfOk result (λ s. s.output ≡ record { kept = []; room = room; piece = piece; is_whole = true }) }
+        ensures plan { IfOk result (λ s. s.plan ≡ record { fails = fails.items; calls = 0; faults = 0 }) }
     {
-        let kept = Vec::with_capacity(alloc, room)?;
+        let sink = SureSink::new(alloc, room, piece)?;
         Ok(MemSink {
-            kept,
-            room,
-            piece,
-            is_whole: true,
-            fails,
-            calls: 0,
-            faults: 0,
+            sink,
+            plan: FaultPlan::new(fails),
         })
     }
 
     /// The bytes that were kept: all that were taken, while the sink tells them.
     pub fn kept(&self) -> &[u8]
-        ensures { IfSome (⟦<MemSink as Sink>⟧.taken self.now) (λ bytes. result.now ≡ bytes) }
+        ensures { result.now ≡ self.now.output.kept }
     {
-        &self.kept
+        self.sink.kept()
     }
 }
 
 impl Sink for MemSink {
-    ghost taken = { λ s. if s.is_whole then Some s.kept.items else None };
+    ghost taken = { λ s. told s.output };
 
-    ghost faults = { λ s. s.faults };
+    ghost faults = { λ s. s.plan.faults };
 
-    ghost room = { λ s. s.room - vec_len s.kept };
+    ghost room = { λ s. room_left s.output };
 
-    fn write(&mut self, piece: &[u8]) -> Result<usize, Failed> {
-        self.calls = self.calls.saturating_add(1);
-        if self.fails.contains(&self.calls) {
-            self.faults += 1;
+    fn write(&mut self, piece: &[u8]) -> Result<usize, Failed>
+        requires { self.old.plan.faults < 2 ^ 64 - 1 }
+        ensures bytes { TakesPiece (told self.old.output) (told self.new.output) result piece.now }
+        ensures room { KeepsRoom (room_left self.old.output) (room_left self.new.output) (told self.old.output) (told self.new.output) result }
+        ensures cause { CountsFaults self.old.plan.faults self.new.plan.faults result }
+        ensures fails { IsErr result ↔ (fails_next self.old.plan ≡ true) }
+        ensures plan { self.new.plan ≡ after_call self.old.plan }
+        ensures count { IfOk result (λ k. k ≡ taken_of self.old.output (length piece.now)) }
+        ensures after { MatchResult result (λ k. self.new.output ≡ with_more self.old.output (take k piece.now)) (λ _. self.new.output ≡ self.old.output) }
+    {
+        if self.plan.fails_now() {
             return Err(Failed);
         }
-        let count = piece.len().min(self.piece);
-        if !keep(&mut self.kept, self.room, &piece[..count]) {
-            self.is_whole = false;
-        }
-        Ok(count)
+        self.sink.write(piece)
     }
 }

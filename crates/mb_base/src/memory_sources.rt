@@ -1,13 +1,18 @@
-ghost use Rattle.std.specs.Prelude.{◌≡◌, ℕ, ◌<◌, ◌≤◌, [], length, take, drop, Some, vec_len};
+ghost use Rattle.std.specs.Prelude.{◌≡◌, ℕ, ◌<◌, ◌≤◌, ◌-◌, ◌^◌, true, [], length, take, drop, min, Some, vec_len, IfOk, IsErr, ◌↔◌, MatchResult};
+ghost use Rattle.std.specs.Io.{ReadsAtMost};
+ghost use Rattle.std.specs.Io.KnownBytes.{ReadConsumes};
+ghost use Rattle.mb_base.specs.Streams.{CountsFaults};
+ghost use Rattle.mb_base.specs.MemoryStreams.{given, past, fails_next, after_call};
 
+use crate::fault_plan::FaultPlan;
 use crate::streams::{Failed, Source};
+use std::marker::Model;
 
 /// Copies the front of `bytes`, at most `piece` of them, and answers how many.
 fn give(bytes: &[u8], piece: usize, buf: &mut [u8]) -> usize
     requires { 0 < piece }
-    ensures within { (result ≤ length bytes.now) × (result ≤ length buf.new) }
+    ensures count { result ≡ min (min (length buf.old) piece) (length bytes.now) }
     ensures front { take result buf.new ≡ take result bytes.now }
-    ensures some { result ≡ 0 → 0 < length buf.new → bytes.now ≡ [] }
 {
     let count = buf.len().min(piece).min(bytes.len());
     buf[..count].copy_from_slice(&bytes[..count]);
@@ -20,16 +25,24 @@ pub struct SureSource {
     bytes: Vec<u8>,
     at: usize,
     piece: usize,
-    ghost within: { at ≤ vec_len bytes },
-    ghost gives: { 0 < piece },
+}
+
+impl Model for SureSource {
+    ghost use Rattle.std.specs.Prelude.{◌≤◌, ◌<◌, vec_len, drop};
+    ghost use Rattle.mb_base.specs.MemoryStreams.{MemoryInput};
+
+    ghost Value = { MemoryInput };
+
+    ghost view = { λ s. record { left = drop s.at s.bytes.items; piece = s.piece } };
+
+    ghost invariant = { λ s. (s.at ≤ vec_len s.bytes) × (0 < s.piece) };
 }
 
 impl SureSource {
     /// A source of these bytes.
     pub fn new(bytes: Vec<u8>, piece: usize) -> SureSource
         requires { 0 < piece }
-        ensures left { ⟦<SureSource as Source>⟧.left result ≡ Some bytes.items }
-        ensures count { ⟦<SureSource as Source>⟧.faults result ≡ 0 }
+        ensures { result ≡ record { left = bytes.items; piece = piece } }
     {
         SureSource {
             bytes,
@@ -40,62 +53,71 @@ impl SureSource {
 }
 
 impl Source for SureSource {
-    ghost left = { λ s. Some (drop s.at s.bytes.items) };
+    ghost left = { λ s. Some s.left };
 
     ghost faults = { λ _. 0 };
 
-    fn read(&mut self, buf: &mut [u8]) -> Result<usize, Failed> {
+    fn read(&mut self, buf: &mut [u8]) -> Result<usize, Failed>
+        ensures bound { ReadsAtMost result buf.new }
+        ensures bytes { ReadConsumes (Some self.old.left) (Some self.new.left) result buf.new }
+        ensures cause { CountsFaults 0 0 result }
+        ensures count { IfOk result (λ k. k ≡ given self.old (length buf.old)) }
+        ensures after { self.new ≡ past self.old (given self.old (length buf.old)) }
+    {
         let count = give(&self.bytes[self.at..], self.piece, buf);
         self.at += count;
         Ok(count)
     }
 }
 
-/// Bytes in memory, given at most `piece` at a time. The calls whose number from 1 stands in `fails`
+/// A `SureSource` that fails as planned: the calls whose number from 1 stands in `fails` give nothing,
 /// fail and are counted.
 #[derive(Debug, Drop)]
 pub struct MemSource {
-    bytes: Vec<u8>,
-    at: usize,
-    piece: usize,
-    fails: Vec<u64>,
-    calls: u64,
-    faults: u64,
-    ghost within: { at ≤ vec_len bytes },
-    ghost gives: { 0 < piece },
+    source: SureSource,
+    plan: FaultPlan,
+}
+
+impl Model for MemSource {
+    ghost use Rattle.mb_base.specs.MemoryStreams.{FailingInput};
+
+    ghost Value = { FailingInput };
+
+    ghost view = { λ s. record { input = s.source; plan = s.plan } };
 }
 
 impl MemSource {
     /// A source of these bytes that fails at these calls.
     pub fn new(bytes: Vec<u8>, piece: usize, fails: Vec<u64>) -> MemSource
         requires { 0 < piece }
-        ensures left { ⟦<MemSource as Source>⟧.left result ≡ Some bytes.items }
-        ensures count { ⟦<MemSource as Source>⟧.faults result ≡ 0 }
+        ensures input { result.input ≡ record { left = bytes.items; piece = piece } }
+        ensures plan { result.plan ≡ record { fails = fails.items; calls = 0; faults = 0 } }
     {
         MemSource {
-            bytes,
-            at: 0,
-            piece,
-            fails,
-            calls: 0,
-            faults: 0,
+            source: SureSource::new(bytes, piece),
+            plan: FaultPlan::new(fails),
         }
     }
 }
 
 impl Source for MemSource {
-    ghost left = { λ s. Some (drop s.at s.bytes.items) };
+    ghost left = { λ s. Some s.input.left };
 
-    ghost faults = { λ s. s.faults };
+    ghost faults = { λ s. s.plan.faults };
 
-    fn read(&mut self, buf: &mut [u8]) -> Result<usize, Failed> {
-        self.calls = self.calls.saturating_add(1);
-        if self.fails.contains(&self.calls) {
-            self.faults += 1;
+    fn read(&mut self, buf: &mut [u8]) -> Result<usize, Failed>
+        requires { self.old.plan.faults < 2 ^ 64 - 1 }
+        ensures bound { ReadsAtMost result buf.new }
+        ensures bytes { ReadConsumes (Some self.old.input.left) (Some self.new.input.left) result buf.new }
+        ensures cause { CountsFaults self.old.plan.faults self.new.plan.faults result }
+        ensures fails { IsErr result ↔ (fails_next self.old.plan ≡ true) }
+        ensures plan { self.new.plan ≡ after_call self.old.plan }
+        ensures count { IfOk result (λ k. k ≡ given self.old.input (length buf.old)) }
+        ensures after { MatchResult result (λ k. self.new.input ≡ past self.old.input k) (λ _. self.new.input ≡ self.old.input) }
+    {
+        if self.plan.fails_now() {
             return Err(Failed);
         }
-        let count = give(&self.bytes[self.at..], self.piece, buf);
-        self.at += count;
-        Ok(count)
+        self.source.read(buf)
     }
 }

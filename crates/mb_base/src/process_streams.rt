@@ -1,5 +1,6 @@
-ghost use Rattle.std.specs.Prelude.{None};
-ghost use Rattle.std.specs.Prelude.{◌≡◌, ◌<◌, ◌≤◌, length, IfSome};
+ghost use Rattle.std.specs.Prelude.{◌≡◌, ◌<◌, ◌≤◌, ◌-◌, ◌^◌, length, take, None, IfSome, IfOk};
+ghost use Rattle.std.specs.Io.KnownBytes.{Appends};
+ghost use Rattle.mb_base.specs.Streams.{TakesPiece, KeepsRoom, CountsFaults};
 
 use crate::streams::{Failed, Sink, Source};
 use std::io::{Read, Write};
@@ -56,7 +57,8 @@ impl<W: Write> RealOut<W> {
 
 /// One write and a flush: how many bytes were taken, or None where either failed.
 fn put<W: Write>(writer: &mut W, piece: &[u8]) -> Option<usize>
-    ensures { IfSome result (λ k. (k ≤ length piece.now) × (0 < length piece.now → 0 < k)) }
+    ensures some { IfSome result (λ k. (k ≤ length piece.now) × (0 < length piece.now → 0 < k)) }
+    ensures appended { IfSome result (λ k. Appends (W.contents writer.old) (W.contents writer.new) (take k piece.now)) }
 {
     let count = writer.write(piece).ok()?;
     writer.flush().ok()?;
@@ -73,7 +75,14 @@ impl<W: Write> Sink for RealOut<W> {
 
     ghost room = { λ _. 0 };
 
-    fn write(&mut self, piece: &[u8]) -> Result<usize, Failed> {
+    /// What the writer holds grows by exactly the bytes that are answered as taken.
+    fn write(&mut self, piece: &[u8]) -> Result<usize, Failed>
+        requires { self.old.faults < 2 ^ 64 - 1 }
+        ensures bytes { TakesPiece None None result piece.now }
+        ensures room { KeepsRoom 0 0 None None result }
+        ensures cause { CountsFaults self.old.faults self.new.faults result }
+        ensures appended { IfOk result (λ k. Appends (W.contents self.old.writer) (W.contents self.new.writer) (take k piece.now)) }
+    {
         match put(&mut self.writer, piece) {
             Some(count) => Ok(count),
             None => {

@@ -3,8 +3,11 @@ ghost use Rattle.std.specs.Io.{ReadsAtMost};
 ghost use Rattle.std.specs.Io.KnownBytes.{ReadConsumes};
 ghost use Rattle.mb_base.specs.Streams.{CountsFaults, TakesPiece, KeepsRoom};
 
+use thiserror::Error;
+
 /// A read or a write failed. The count of faults of the source or the sink rose.
-#[derive(Clone, Copy, Debug, PartialEq, Eq)]
+#[derive(Clone, Copy, Debug, PartialEq, Eq, Error)]
+#[error("a read or a write failed")]
 pub struct Failed;
 
 /// Where bytes come from.

@@ -1,22 +1,39 @@
 ghost use Rattle.std.specs.Prelude.{◌≡◌, ℕ, ◌<◌, ◌-◌, ◌^◌, ◌↔◌, length, IsErr, IsErrOf};
-ghost use Rattle.mb_base.specs.Streams.{ReadsAll, CountsReadFaults, WritesAll, CountsFaults};
+ghost use Rattle.mb_base.specs.Streams.{ReadsAll, CountsReadFaults, WritesAll, CountsFaults, UsesRoom, StaysTold, count_taken};
 
+use crate::memory::OutOfMemory;
 use crate::streams::{Sink, Source};
 use std::alloc::Global;
+use thiserror::Error;
 
 /// Why not all bytes were read.
-#[derive(Clone, Copy, Debug, PartialEq, Eq)]
+#[derive(Clone, Copy, Debug, PartialEq, Eq, Error)]
 pub enum ReadAll {
     /// A read failed: the source's count of faults rose.
+    #[error("a read failed")]
     ReadFault,
     /// More bytes came than the limit allows; one more than the limit was taken.
+    #[error("the input is too long")]
     TooLong,
     /// There isn't enough memory for the bytes.
+    #[error("out of memory")]
     OutOfMemory,
 }
 
+impl From<OutOfMemory> for ReadAll {
+    ghost use Rattle.std.specs.Prelude.{◌≡◌};
+    ghost use Rattle.mb_base.specs.declared.whole.ReadAll.TheVariants.{OutOfMemory};
+
+    ghost from_gives = { λ _ e. e ≡ OutOfMemory };
+
+    fn from(_: OutOfMemory) -> ReadAll {
+        ReadAll::OutOfMemory
+    }
+}
+
 /// A write failed: the sink's count of faults rose.
-#[derive(Clone, Copy, Debug, PartialEq, Eq)]
+#[derive(Clone, Copy, Debug, PartialEq, Eq, Error)]
+#[error("a write failed after {done} bytes")]
 pub struct WriteFault {
     /// How many bytes were taken before.
     pub done: usize,
@@ -39,20 +56,19 @@ pub fn read_all<S: Source>(alloc: Global, source: &mut S, limit: u64) -> Result<
         match source.read(&mut buf[..room]) {
             Err(_) => return Err(ReadAll::ReadFault),
             Ok(0) => return Ok(bytes),
-            Ok(count) => {
-                if bytes.extend_from_slice(&buf[..count]).is_err() {
-                    return Err(ReadAll::OutOfMemory);
-                }
-            }
+            Ok(count) => bytes.extend_from_slice(&buf[..count])?,
         }
     }
     Err(ReadAll::TooLong)
 }
 
-/// Has the sink take all the bytes, in as many writes as it wants.
+/// Has the sink take all the bytes, in as many writes as it wants. Where the sink told what it took and has room for
+/// all of them, it tells them afterwards.
 pub fn write_all<K: Sink>(sink: &mut K, bytes: &[u8]) -> Result<(), WriteFault>
     requires { K.faults sink.old < 2 ^ 64 - 1 }
     ensures bytes { WritesAll (K.taken sink.old) (K.taken sink.new) bytes.now result }
+    ensures room { UsesRoom (K.room sink.old) (K.room sink.new) (count_taken (length bytes.now) result) }
+    ensures told { StaysTold (K.room sink.old) (K.taken sink.old) (K.taken sink.new) (count_taken (length bytes.now) result) }
     ensures fault { IsErr result ↔ (K.faults sink.old < K.faults sink.new) }
     ensures count { CountsFaults (K.faults sink.old) (K.faults sink.new) result }
 {

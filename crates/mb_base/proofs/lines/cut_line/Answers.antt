@@ -1,4 +1,4 @@
-use Rattle.std.proofs.Common.{◌+◌, arith, ap, ◌∙◌, sym}
+use Rattle.std.proofs.Common.{◌+◌, arith, ◌∙◌, sym}
 use Rattle.std.proofs.lemmas.List.{take_rest}
 use Rattle.mb_base.proofs.LineLemmas.{raw_lines_first, raw_lines_last, after_first_some, after_first_none}
 use Rattle.mb_base.proofs.lines.cut_line.Goals as goal
