@@ -1,15 +1,15 @@
 -- How many outermost nodes are exposed, once two more have a mate.
-use Rattle.std.proofs.Common.{◌≡◌, ◌≢◌, ℕ, ◌+◌, ◌≤◌, Bool, true, false, not, ◌&&◌, eqb, cond, Option, refl, sym, ap, ◌∙◌, arith}
+use Rattle.std.proofs.Common.{◌≡◌, ◌≢◌, ◌↔◌, ℕ, ◌+◌, ◌≤◌, Bool, true, false, not, ◌&&◌, eqb, cond, Option, Some, None, refl, sym, ap, ◌∙◌, arith}
 use Rattle.std.specs.Prelude.{is_some}
-use Rattle.std.proofs.lemmas.Bool.{ne_eqb, eqb-true, eqb-false}
+use Rattle.std.proofs.lemmas.Bool.{both_ways, ne_eqb, eqb-true, eqb-false}
 use Rattle.graph_theory.specs.Sums.{sum_to}
 use Rattle.graph_theory.proofs.SumLemmas.{sum_to-same, sum_to-add, sum_to-at_one}
 use Rattle.blossom_arena.specs.Family.{is_outermost}
 use Rattle.blossom_arena.proofs.Lists.{by_test}
-use Rattle.alt_forest.specs.State.{State, IsOutermost}
+use Rattle.alt_forest.specs.State.{State, IsOutermost, IsExposed}
 use Rattle.alt_forest.specs.Trees.{node_limit}
 use Rattle.alt_forest.specs.Counts.{is_exposed, exposed_count}
-use Rattle.augment.proofs.Flipped.{with_mates}
+use Rattle.augment.specs.Turns.{with_mates}
 
 -- which nodes have a mate more: these two, that had none
 pub record HasTwoMore (s : State) (m : ℕ → Option ℕ) (x y : ℕ) : Type 0 where
@@ -68,3 +68,18 @@ two_fewer s m x y h =
     let at_x : sum_to (λ i. one_if (eqb x (i + 1))) n ≡ 1 = sum_to-at_one (λ _. 1) x n h.x_low h.x_high in
     let at_y : sum_to (λ i. one_if (eqb y (i + 1))) n ≡ 1 = sum_to-at_one (λ _. 1) y n h.y_low h.y_high in
     omega (arith, all, first, second, at_x, at_y)
+
+none_of : (o : Option ℕ) → is_some o ≡ false → o ≡ None
+none_of None e = refl
+none_of (Some x) e = absurd (both_ways true e refl)
+
+-- which nodes are exposed after it
+pub exposed_after : (s : State) (m : ℕ → Option ℕ) (x y : ℕ) → HasTwoMore s m x y → (a : ℕ) → IsExposed (with_mates s m) a ↔ (IsExposed s a × (a ≢ x) × (a ≢ y))
+exposed_after s m x y h a = (
+  λ now.
+      let none : is_some (m a) ≡ false = ap (λ (o : Option ℕ). is_some o) now.1 in
+      let not_x : a ≢ x = λ q. both_ways (is_some (m a)) none (ap (λ c. is_some (m c)) q ∙ h.x_has) in
+      let not_y : a ≢ y = λ q. both_ways (is_some (m a)) none (ap (λ c. is_some (m c)) q ∙ h.y_has) in
+      ((now.0, none_of (s.mate a) (sym (h.others a not_x not_y) ∙ none)), not_x, not_y),
+  λ was. (was.0.0, none_of (m a) (h.others a was.1 was.2 ∙ ap (λ (o : Option ℕ). is_some o) was.0.1)),
+)

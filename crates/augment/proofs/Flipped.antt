@@ -8,11 +8,8 @@ use Rattle.alt_forest.specs.State.{State, IsOutermost, Joins, slack_of, IsMate, 
 use Rattle.alt_forest.specs.Searches.{put}
 use Rattle.alt_forest.proofs.Relabelled.{outer_not_out, inner_not_out, some_not_none, put_here, put_other}
 use Rattle.alt_forest.proofs.Walk.{some_same}
-use Rattle.augment.specs.Turns.{IsWay, HasMates}
+use Rattle.augment.specs.Turns.{LeadsToExposed, HasMates, with_mates}
 use Rattle.augment.proofs.Joined.{joins_turned, joins_unique}
-
-abbrev pub with_mates : State → (ℕ → Option ℕ) → State
-with_mates s m = record s { mate = m }
 
 -- The node `low` has taken `high` as its mate, by the edge e, but `high` has its old mate still. All other mates are
 -- mutual; `high`, and what is no deeper, is as before; of `first`, which was exposed, and all others it's as before
@@ -38,7 +35,7 @@ moved s m n a f b w same = record { edge = w.edge; joins = w.joins; different = 
 
 module _ (s : State) (depth : ℕ → ℕ) (st : IsSearchState s depth) where
   -- the exposed node takes the outer one
-  pub begins : (e near far : ℕ) → IsWay s e near far → IsLoose s depth far (put s.mate far (Some e)) far e near
+  pub begins : (e near far : ℕ) → LeadsToExposed s e near far → IsLoose s depth far (put s.mate far (Some e)) far e near
   begins e near far h =
       let m : ℕ → Option ℕ = put s.mate far (Some e) in
       record {

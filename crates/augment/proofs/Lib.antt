@@ -2,6 +2,7 @@ pub mod Joined
 pub mod Flipped
 pub mod Exposure
 pub mod Turning
+pub mod Changed
 pub mod Turned
 pub mod Round
 pub mod Chains

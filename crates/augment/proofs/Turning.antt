@@ -1,14 +1,14 @@
 -- The lists of a search while a path is flipped.
 use Rattle.std.proofs.Common.{◌≡◌, ◌≢◌, ℕ, ◌<◌, ◌∷◌, length, Option, Some, sym, ap, ◌∙◌, subst, arith}
 use Rattle.graph_theory.specs.Graph.{IsEdgeNumber}
+use Rattle.blossom_arena.specs.Family.{IsNested}
 use Rattle.alt_forest.specs.declared.label.Label.TheVariants.{Outer, Inner}
 use Rattle.alt_forest.specs.declared.search.Search.{Search}
 use Rattle.alt_forest.specs.State.{State, IsOutermost, IsMate, IsInner, IsSearchState}
-use Rattle.alt_forest.specs.Trees.{other_node, far_end, up_edge_by, up_of, path_of}
-use Rattle.alt_forest.specs.Searches.{HasShape, state_of, edge_in, put}
-use Rattle.alt_forest.proofs.Places.{nested_of}
+use Rattle.alt_forest.specs.Trees.{other_node, far_end, up_edge_by, up_of, path_of, root_of}
+use Rattle.alt_forest.specs.Searches.{state_of, edge_in, put}
 use Rattle.alt_forest.proofs.Relabelled.{outer_not_out}
-use Rattle.alt_forest.proofs.Roots.{path_up}
+use Rattle.alt_forest.proofs.Roots.{path_up, root_up}
 use Rattle.alt_forest.proofs.Walk.{other_node_joins, some_same}
 use Rattle.augment.specs.Turns.{HasParent}
 use Rattle.augment.proofs.Flipped.{IsLoose, goes_on}
@@ -32,17 +32,24 @@ above s depth first m low e node mate st h has =
 apart : (depth : ℕ → ℕ) (a b : ℕ) → depth b < depth a → a ≢ b
 apart depth a b low e = let same : depth a ≡ depth b = ap depth e in absurd (omega (arith, low))
 
--- the way to the root is shorter from the node two edges up
-pub way_falls : (s : Search) (depth : ℕ → ℕ) (node mate : ℕ) → HasShape s → IsSearchState (state_of s) depth → IsOutermost (state_of s) node → (state_of s).label node ≡ Outer → (b : IsBelow (state_of s) depth node mate)
-    → length (path_of (state_of s) b.says.up) < length (path_of (state_of s) node)
-way_falls s depth node mate h st is outer b =
-    let t : State = state_of s in
+-- the path of an outer node with a mate goes on from the node two edges up
+pub record GoesOn (s : State) (node inner up : ℕ) : Type 0 where
+  pub path : path_of s node ≡ node ∷ (inner ∷ path_of s up)
+  pub root : root_of s node ≡ root_of s up
+
+pub path_goes_on : (s : State) (depth : ℕ → ℕ) (node mate : ℕ) → IsNested s.graph.vertices s.blossoms → IsSearchState s depth → IsOutermost s node → s.label node ≡ Outer → (b : IsBelow s depth node mate) → GoesOn s node b.inner b.says.up
+path_goes_on s depth node mate nested st is outer b =
     let i = b.says in
-    let up1 : up_of t node ≡ b.inner = ap (λ l. far_end t (up_edge_by t l node) node) outer ∙ ap (λ o. far_end t o node) b.has ∙ other_node_joins t.graph t.blossoms mate node b.inner b.is_mate.joins b.is_mate.different in
-    let up2 : up_of t b.inner ≡ i.up = ap (λ l. far_end t (up_edge_by t l b.inner) b.inner) b.label ∙ ap (λ o. far_end t o b.inner) i.parent ∙ other_node_joins t.graph t.blossoms i.edge b.inner i.up i.joins (apart depth b.inner i.up i.falls) in
-    let one : path_of t node ≡ node ∷ path_of t b.inner = path_up t depth (nested_of s h) st node b.inner is up1 in
-    let two : path_of t b.inner ≡ b.inner ∷ path_of t i.up = path_up t depth (nested_of s h) st b.inner i.up b.is_mate.outer up2 in
-    omega (arith, ap length one, ap length two)
+    let up1 : up_of s node ≡ b.inner = ap (λ l. far_end s (up_edge_by s l node) node) outer ∙ ap (λ o. far_end s o node) b.has ∙ other_node_joins s.graph s.blossoms mate node b.inner b.is_mate.joins b.is_mate.different in
+    let up2 : up_of s b.inner ≡ i.up = ap (λ l. far_end s (up_edge_by s l b.inner) b.inner) b.label ∙ ap (λ o. far_end s o b.inner) i.parent ∙ other_node_joins s.graph s.blossoms i.edge b.inner i.up i.joins (apart depth b.inner i.up i.falls) in
+    record {
+      path = path_up s depth nested st node b.inner is up1 ∙ ap (λ xs. node ∷ xs) (path_up s depth nested st b.inner i.up b.is_mate.outer up2);
+      root = root_up s depth nested st node b.inner is b.is_mate.outer up1 ∙ root_up s depth nested st b.inner i.up b.is_mate.outer i.up_is up2;
+    }
+
+-- so it is longer
+pub path_falls : (s : State) (depth : ℕ → ℕ) (node mate : ℕ) → IsNested s.graph.vertices s.blossoms → IsSearchState s depth → IsOutermost s node → s.label node ≡ Outer → (b : IsBelow s depth node mate) → length (path_of s b.says.up) < length (path_of s node)
+path_falls s depth node mate nested st is outer b = omega (arith, ap length (path_goes_on s depth node mate nested st is outer b).path)
 
 module _ (s t : Search) (rest : t ≡ record s { mates = t.mates }) where
   pub outer_still : (a : ℕ) → IsOutermost (state_of s) a → IsOutermost (state_of t) a
@@ -61,15 +68,15 @@ module _ (s t : Search) (rest : t ≡ record s { mates = t.mates }) where
     is_edge = edge_still b.says.edge b.says.is_edge;
   }
 
-  -- the three that were looked up
-  pub record IsRung (depth : ℕ → ℕ) (node mate : ℕ) (b : IsBelow (state_of s) depth node mate) (inner edge outer : ℕ) : Type 0 where
+  -- what was looked up above an outer node
+  pub record AreAbove (depth : ℕ → ℕ) (node mate : ℕ) (b : IsBelow (state_of s) depth node mate) (inner edge outer : ℕ) : Type 0 where
     pub inner_is : inner ≡ b.inner
     pub edge_is : edge ≡ b.says.edge
     pub outer_is : outer ≡ b.says.up
 
-  pub rung_is : (depth : ℕ → ℕ) (node mate : ℕ) → (b : IsBelow (state_of s) depth node mate) → (inner edge outer : ℕ) → inner ≡ other_node t.graph t.arena.blossoms mate node → Some edge ≡ edge_in t.parents.items inner
-      → outer ≡ other_node t.graph t.arena.blossoms edge inner → IsRung depth node mate b inner edge outer
-  rung_is depth node mate b inner edge outer at_inner at_edge at_outer =
+  pub above_are : (depth : ℕ → ℕ) (node mate : ℕ) → (b : IsBelow (state_of s) depth node mate) → (inner edge outer : ℕ) → inner ≡ other_node t.graph t.arena.blossoms mate node → Some edge ≡ edge_in t.parents.items inner
+      → outer ≡ other_node t.graph t.arena.blossoms edge inner → AreAbove depth node mate b inner edge outer
+  above_are depth node mate b inner edge outer at_inner at_edge at_outer =
       let i = b.says in
       let here : inner ≡ b.inner = at_inner ∙ inner_is depth node mate b in
       let by : edge ≡ i.edge = some_same edge i.edge (at_edge ∙ ap (edge_in t.parents.items) here ∙ ap (λ (u : Search). edge_in u.parents.items b.inner) rest ∙ i.parent) in
@@ -81,7 +88,7 @@ module _ (s t : Search) (rest : t ≡ record s { mates = t.mates }) where
       }
 
   pub loose_on : (depth : ℕ → ℕ) (first low e node mate : ℕ) → IsSearchState (state_of s) depth → IsLoose (state_of s) depth first (edge_in t.mates.items) low e node → (b : IsBelow (state_of s) depth node mate)
-      → (inner edge outer : ℕ) → IsRung depth node mate b inner edge outer → (m : ℕ → Option ℕ) → m ≡ put (put (edge_in t.mates.items) node (Some e)) inner (Some edge)
+      → (inner edge outer : ℕ) → AreAbove depth node mate b inner edge outer → (m : ℕ → Option ℕ) → m ≡ put (put (edge_in t.mates.items) node (Some e)) inner (Some edge)
       → IsLoose (state_of s) depth first m inner edge outer
   loose_on depth first low e node mate st h b inner edge outer r m is =
       let n : ℕ → Option ℕ = put (put (edge_in t.mates.items) node (Some e)) b.inner (Some b.says.edge) in

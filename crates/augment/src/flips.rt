@@ -1,44 +1,19 @@
-ghost use Rattle.std.specs.Prelude.{◌≡◌, ◌+◌, ◌≤◌, ◌<◌, ℕ, Some, vec_len, length};
+ghost use Rattle.std.specs.Prelude.{◌≡◌, ◌≢◌, ◌↔◌, ◌+◌, ◌≤◌, ℕ, false, Some, vec_len, length};
 ghost use Rattle.graph_theory.specs.Graph.{IsEdgeNumber, edge_of};
+ghost use Rattle.graph_theory.specs.Parts.{holds};
 ghost use Rattle.alt_forest.specs.declared.label.Label.TheVariants.{Out};
-ghost use Rattle.alt_forest.specs.State.{IsOutermost};
-ghost use Rattle.alt_forest.specs.Trees.{other_node};
+ghost use Rattle.alt_forest.specs.State.{IsOutermost, IsExposed};
+ghost use Rattle.alt_forest.specs.Trees.{path_of, root_of};
 ghost use Rattle.alt_forest.specs.Events.{CanAugment};
 ghost use Rattle.alt_forest.specs.Searches.{HasShape, IsSound, state_of, label_at, edge_in};
 ghost use Rattle.alt_forest.specs.Counts.{exposed_count, tree_count};
-ghost use Rattle.augment.specs.Turns.{IsWay, HasParent, HasMates};
+ghost use Rattle.augment.specs.Turns.{LeadsToExposed, HasParent, HasMates, IsFlipped};
 
 use alt_forest::{Label, Search, set_edge};
 use blossom_arena::NodeId;
 use mb_base::{EdgeId, Steps, VertexId};
 use std::sync::ledger::Ledger;
 use weighted_graph::Graph;
-
-/// What lies above an outer node that has a mate: the mate, which is inner, the edge to that one's
-/// parent, and the parent, which is outer.
-#[derive(Clone, Copy)]
-struct Rung {
-    inner: NodeId,
-    edge: EdgeId,
-    outer: NodeId,
-}
-
-/// The edge that is kept for a node.
-fn edge_for(edges: &[Option<EdgeId>], node: NodeId) -> Option<EdgeId>
-    requires { node < length edges.now }
-    ensures { result ≡ edge_in edges.now node }
-{
-    edges[node.number() as usize]
-}
-
-/// The edge to the mate of an outermost node.
-pub(crate) fn mate_of(search: &Search, node: NodeId) -> Option<EdgeId>
-    requires shape { HasShape search.now }
-    requires outer { IsOutermost (state_of search.now) node }
-    ensures { result ≡ edge_in search.now.mates.items node }
-{
-    edge_for(&search.mates, node)
-}
 
 /// The edge to the parent of an outermost node that has one.
 fn parent_of(search: &Search, node: NodeId) -> EdgeId
@@ -48,61 +23,33 @@ fn parent_of(search: &Search, node: NodeId) -> EdgeId
     ensures edge { Some result ≡ edge_in search.now.parents.items node }
     ensures is_edge { IsEdgeNumber search.now.graph result }
 {
-    match edge_for(&search.parents, node) {
+    match search.parent(node) {
         Some(e) => e,
         None => unreachable!(),
     }
 }
 
-/// The outermost node at the other end of an edge from this one. It counts no step.
-fn other_node(search: &Search, e: EdgeId, node: NodeId) -> NodeId
-    requires shape { HasShape search.now }
-    requires edge { IsEdgeNumber search.now.graph e }
-    ensures node { result ≡ other_node search.now.graph search.now.arena.blossoms e node }
-    ensures outer { IsOutermost (state_of search.now) result }
-{
-    let (u, v, _) = search.graph.edge(e);
-    let near = search.arena.outermost(u);
-    let far = search.arena.outermost(v);
-    if near.number() == node.number() {
-        return far;
-    }
-    near
-}
-
-/// The next two nodes on the way up from an outer node with this mate.
-fn rung_above(search: &Search, node: NodeId, mate: EdgeId) -> Rung
-    requires shape { HasShape search.now }
-    requires edge { IsEdgeNumber search.now.graph mate }
-    requires parent { HasParent (state_of search.now) (other_node search.now.graph search.now.arena.blossoms mate node) }
-    ensures inner { result.inner ≡ other_node search.now.graph search.now.arena.blossoms mate node }
-    ensures edge { Some result.edge ≡ edge_in search.now.parents.items result.inner }
-    ensures outer { result.outer ≡ other_node search.now.graph search.now.arena.blossoms result.edge result.inner }
-{
-    let inner = other_node(search, mate, node);
-    let edge = parent_of(search, inner);
-    let outer = other_node(search, edge, inner);
-    Rung { inner, edge, outer }
-}
-
 /// Matches `far` by the edge, and changes the mates from `near` to the root of its tree.
 fn turn(search: &mut Search, e: EdgeId, near: NodeId, far: NodeId)
     requires sound { IsSound search.old }
-    requires way { IsWay (state_of search.old) e near far }
+    requires ends { LeadsToExposed (state_of search.old) e near far }
     ensures rest { search.new ≡ record search.old { mates = search.new.mates } }
     ensures len { vec_len search.new.mates ≡ vec_len search.old.mates }
     ensures mates { HasMates (state_of search.new) }
     ensures fewer { exposed_count (state_of search.new) + 2 ≡ exposed_count (state_of search.old) }
+    ensures flipped { IsFlipped (state_of search.old) (edge_in search.new.mates.items) e near far }
 {
     set_edge(&mut search.mates, far, Some(e));
     let mut node = near;
     let mut edge = e;
-    while let Some(mate) = mate_of(search, node) {
-        let rung = rung_above(search, node, mate);
+    while let Some(mate) = search.mate(node) {
+        let inner = search.other_node(mate, node);
+        let by = parent_of(search, inner);
+        let up = search.other_node(by, inner);
         set_edge(&mut search.mates, node, Some(edge));
-        set_edge(&mut search.mates, rung.inner, Some(rung.edge));
-        node = rung.outer;
-        edge = rung.edge;
+        set_edge(&mut search.mates, inner, Some(by));
+        node = up;
+        edge = by;
     }
     let root = node;
     set_edge(&mut search.mates, root, Some(edge));
@@ -114,7 +61,7 @@ fn ends_of(search: &Search, u: VertexId, v: VertexId, e: EdgeId) -> (NodeId, Nod
     requires can { CanAugment (state_of search.now) e }
     requires u { u ≡ (edge_of search.now.graph e).u }
     requires v { v ≡ (edge_of search.now.graph e).v }
-    ensures { IsWay (state_of search.now) e result.0 result.1 }
+    ensures { LeadsToExposed (state_of search.now) e result.0 result.1 }
 {
     let near = search.arena.outermost(u);
     let far = search.arena.outermost(v);
@@ -133,9 +80,10 @@ fn wipe(labels: &mut Vec<Label>)
 }
 
 /// Flips the path from an exposed node along the tight edge `e` and up a tree to its root, so that
-/// both are matched, and takes all trees away: every label becomes `Out` (chapters 24 and 26). Blossoms
-/// and duals stay. It looks at one edge and counts one step for itself, takes time linear in the path
-/// but for one pass over the labels, and takes no memory.
+/// both are matched and no other node is exposed or matched anew, and takes all trees away: every label
+/// becomes `Out` (chapters 24 and 26). The two nodes that `e` joins are mates by it, and a node off the
+/// path keeps its mate. Blossoms and duals stay. It looks at one edge and counts one step for itself,
+/// takes time linear in the path but for one pass over the labels, and takes no memory.
 pub fn flip<L: Ledger>(search: &mut Search, graph: &Graph, e: EdgeId, steps: &mut Steps<L>)
     requires sound { IsSound search.old }
     requires same { graph.now ≡ search.old.graph }
@@ -143,10 +91,14 @@ pub fn flip<L: Ledger>(search: &mut Search, graph: &Graph, e: EdgeId, steps: &mu
     ensures sound { IsSound search.new }
     ensures labels { (a : ℕ) → label_at search.new.labels.items a ≡ Out }
     ensures rest { search.new ≡ record search.old { labels = search.new.labels; mates = search.new.mates } }
+    ensures near { (c : CanAugment (state_of search.old) e) → edge_in search.new.mates.items c.near ≡ Some e }
+    ensures far { (c : CanAugment (state_of search.old) e) → edge_in search.new.mates.items c.far ≡ Some e }
+    ensures keeps { (c : CanAugment (state_of search.old) e) (a : ℕ) → a ≢ c.far → holds (path_of (state_of search.old) c.near) a ≡ false → edge_in search.new.mates.items a ≡ edge_in search.old.mates.items a }
+    ensures exposed { (c : CanAugment (state_of search.old) e) (a : ℕ) → IsExposed (state_of search.new) a ↔ (IsExposed (state_of search.old) a × (a ≢ c.far) × (a ≢ root_of (state_of search.old) c.near)) }
     ensures fewer { exposed_count (state_of search.new) + 2 ≡ exposed_count (state_of search.old) }
     ensures trees { tree_count (state_of search.new) ≡ 0 }
-    ensures steps_low { steps.old + 1 ≤ steps.new }
-    ensures steps_high { steps.new ≤ steps.old + 1 + length graph.now.edges }
+    ensures step { steps.new ≡ steps.old + 2 }
+    ensures most { steps.new ≤ steps.old + 1 + length graph.now.edges }
 {
     steps.tick();
     let (u, v, _) = graph.look(e, steps);

@@ -6,8 +6,6 @@
 mod flips;
 mod marking;
 mod opening;
-#[cfg(test)]
-mod tests;
 
 pub use flips::flip;
 pub use opening::unpack;

@@ -8,8 +8,6 @@ mod event;
 mod law;
 mod look;
 mod raise;
-#[cfg(test)]
-mod tests;
 
 pub use event::{Event, Next};
 pub use law::laws;

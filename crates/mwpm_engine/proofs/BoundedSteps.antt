@@ -92,11 +92,11 @@ module _ (s : State) (b : Blossom) (top : ℕ) (start : ℤ) (fresh : is_node s.
 pub bounded_shrunk : (before after : State) (node : ℕ) (start : ℤ) → IsNested after.graph.vertices after.blossoms → IsShrunk before after node → IsBounded before start → IsBounded after start
 bounded_shrunk before after node start nested shrunk h =
     let b : Blossom = made_of before.blossoms shrunk.ring node in
-    let new : State = shrunk_state before b shrunk.top in
+    let new : State = shrunk_state before b shrunk.base in
     let nested_new : IsNested new.graph.vertices new.blossoms = subst (λ (t : State). IsNested t.graph.vertices t.blossoms) shrunk.state nested in
     let fresh = nested_new.0.fresh in
     subst (λ (t : State). IsBounded t start) (sym shrunk.state)
-    (⊎_elim (λ z. inl (shrunk_zero before b shrunk.top start fresh z)) (λ r. inr (shrunk_raised before b shrunk.top start fresh r)) h)
+    (⊎_elim (λ z. inl (shrunk_zero before b shrunk.base start fresh z)) (λ r. inr (shrunk_raised before b shrunk.base start fresh r)) h)
 
 -- one blossom less, of dual 0
 

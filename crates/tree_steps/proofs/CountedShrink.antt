@@ -1,4 +1,4 @@
--- A shrink leaves as many roots and exposed nodes, since the new node takes the place of its circuit's top, and takes
+-- A shrink leaves as many roots and exposed nodes, since the new node takes the place of its circuit's base, and takes
 -- an inner node's vertices into an outer node.
 use Rattle.std.proofs.Common.{◌≡◌, ◌≢◌, ◌⊎◌, ℕ, ◌≤◌, ◌<◌, Bool, true, false, not, ◌||◌, ◌&&◌, cond, List, [], ◌∷◌, length, refl, sym, ap, ◌∙◌, subst, arith, ⊎_elim, inl, inr}
 use Rattle.std.specs.Option.{is_some}
@@ -20,22 +20,22 @@ use Rattle.tree_steps.specs.Shrinkable.{IsShrinkable, IsShrunk}
 use Rattle.tree_steps.proofs.Counted.{counted, counted_moved, has_vertex, KeepsOuter, none_outside, vertices_less, among_le}
 
 -- a ring has another node
-pub record HasOther (s : State) (ring : List Link) (top : ℕ) : Type 0 where
+pub record HasOther (s : State) (ring : List Link) (base : ℕ) : Type 0 where
   pub node : ℕ
   pub within : in_ring ring node ≡ true
-  pub other : node ≢ top
+  pub other : node ≢ base
 
-other_node : (s : State) (ring : List Link) (top : ℕ) → AllNew (nodes_of ring) → 2 ≤ length ring → HasOther s ring top
-other_node s [] top new long = absurd (omega (arith, long))
-other_node s (a ∷ []) top new long = absurd (omega (arith, long))
-other_node s (a ∷ (b ∷ rest)) top new long = ⊎_elim
+other_node : (s : State) (ring : List Link) (base : ℕ) → AllNew (nodes_of ring) → 2 ≤ length ring → HasOther s ring base
+other_node s [] base new long = absurd (omega (arith, long))
+other_node s (a ∷ []) base new long = absurd (omega (arith, long))
+other_node s (a ∷ (b ∷ rest)) base new long = ⊎_elim
     (λ at. record {
       node = b.node;
       within = later_in a.node (nodes_of (b ∷ rest)) b.node (first_in b.node (nodes_of rest));
       other = λ e. both_ways (in_ring (b ∷ rest) a.node) new.0 (subst (λ x. in_ring (b ∷ rest) x ≡ true) (e ∙ sym at) (first_in b.node (nodes_of rest)));
     })
     (λ off. record { node = a.node; within = first_in a.node (nodes_of (b ∷ rest)); other = off })
-    (cases_eq a.node top)
+    (cases_eq a.node base)
 
 -- a node of the ring that is not outer
 pub record HasLow (s : State) (ring : List Link) : Type 0 where
@@ -43,7 +43,7 @@ pub record HasLow (s : State) (ring : List Link) : Type 0 where
   pub within : in_ring ring node ≡ true
   pub low : s.label node ≢ Outer
 
-module _ (s : State) (depth : ℕ → ℕ) (ring : List Link) (node top : ℕ) (h : IsNested s.graph.vertices (made_of s.blossoms ring node ∷ s.blossoms)) (can : IsShrinkable s depth ring top) where
+module _ (s : State) (depth : ℕ → ℕ) (ring : List Link) (node base : ℕ) (h : IsNested s.graph.vertices (made_of s.blossoms ring node ∷ s.blossoms)) (can : IsShrinkable s depth ring base) where
   abbrev n : ℕ
   n = s.graph.vertices
 
@@ -54,10 +54,10 @@ module _ (s : State) (depth : ℕ → ℕ) (ring : List Link) (node top : ℕ) (
   b = made_of s.blossoms ring node
 
   abbrev t : State
-  t = shrunk_state s b top
+  t = shrunk_state s b base
 
-  top_is : is_outermost n bs top ≡ true
-  top_is = circuit_outer n bs ring top can.circuit can.top_in
+  base_is : is_outermost n bs base ≡ true
+  base_is = circuit_outer n bs ring base can.circuit can.base_in
 
   node_is : is_outermost n (b ∷ bs) node ≡ true
   node_is = ap (λ q. q && not (is_child (b ∷ bs) node)) (new_is_node n b bs) ∙ ap not (new_no_child n b bs h)
@@ -71,32 +71,32 @@ module _ (s : State) (depth : ℕ → ℕ) (ring : List Link) (node top : ℕ) (
   child_now : (a : ℕ) → in_ring ring a ≡ true → is_outermost n (b ∷ bs) a ≡ false
   child_now a r = and_right (is_node n (b ∷ bs) a) (not (is_child (b ∷ bs) a)) (ap not (or_left (in_ring ring a) (is_child bs a) r))
 
-  -- the outermost nodes that pass a test: the new one takes the place of the top
-  counted_shrunk : (p q : ℕ → Bool) → q node ≡ p top → ((a : ℕ) → a ≢ node → q a ≡ p a) → ((a : ℕ) → in_ring ring a ≡ true → a ≢ top → p a ≡ false)
+  -- the outermost nodes that pass a test: the new one takes the place of the base
+  counted_shrunk : (p q : ℕ → Bool) → q node ≡ p base → ((a : ℕ) → a ≢ node → q a ≡ p a) → ((a : ℕ) → in_ring ring a ≡ true → a ≢ base → p a ≡ false)
       → counted (λ a. is_outermost n (b ∷ bs) a && q a) (node_limit n) ≡ counted (λ a. is_outermost n bs a && p a) (node_limit n)
   counted_shrunk p q same others inside =
-      let range = node_range n bs top h.1 (outermost_parts n bs top top_is).0 in
-      let top_differs : top ≢ node = λ e. both_ways (is_node n bs node) h.0.fresh (subst (λ x. is_node n bs x ≡ true) e (outermost_parts n bs top top_is).0) in
-      counted_moved (λ a. is_outermost n bs a && p a) (λ a. is_outermost n (b ∷ bs) a && q a) top node (node_limit n)
+      let range = node_range n bs base h.1 (outermost_parts n bs base base_is).0 in
+      let base_differs : base ≢ node = λ e. both_ways (is_node n bs node) h.0.fresh (subst (λ x. is_node n bs x ≡ true) e (outermost_parts n bs base base_is).0) in
+      counted_moved (λ a. is_outermost n bs a && p a) (λ a. is_outermost n (b ∷ bs) a && q a) base node (node_limit n)
       range.0 range.1 (omega (arith, h.0.after_vertices)) h.0.within_room
       (and_left (is_outermost n bs node) (p node) (and_left (is_node n bs node) (not (is_child bs node)) h.0.fresh))
-      (and_left (is_outermost n (b ∷ bs) top) (q top) (child_now top can.top_in))
-      (ap (λ u. u && q node) node_is ∙ same ∙ sym (ap (λ u. u && p top) top_is))
-      (λ a off_top off_node. by_test (in_ring ring a)
-      (λ r. and_left (is_outermost n (b ∷ bs) a) (q a) (child_now a r) ∙ sym (and_right (is_outermost n bs a) (p a) (inside a r off_top)))
+      (and_left (is_outermost n (b ∷ bs) base) (q base) (child_now base can.base_in))
+      (ap (λ u. u && q node) node_is ∙ same ∙ sym (ap (λ u. u && p base) base_is))
+      (λ a off_base off_node. by_test (in_ring ring a)
+      (λ r. and_left (is_outermost n (b ∷ bs) a) (q a) (child_now a r) ∙ sym (and_right (is_outermost n bs a) (p a) (inside a r off_base)))
       (λ r. ap (λ u. u && q a) (as_before a r off_node) ∙ ap (λ v. is_outermost n bs a && v) (others a off_node)))
 
   pub shrink_exposed : exposed_count t ≡ exposed_count s
   shrink_exposed = counted_shrunk (λ a. not (is_some (s.mate a))) (λ a. not (is_some (t.mate a)))
-      (ap (λ o. not (is_some o)) (put_here s.mate node (s.mate top)))
-      (λ a ne. ap (λ o. not (is_some o)) (put_other s.mate node (s.mate top) a ne))
+      (ap (λ o. not (is_some o)) (put_here s.mate node (s.mate base)))
+      (λ a ne. ap (λ o. not (is_some o)) (put_other s.mate node (s.mate base) a ne))
       (λ a r ne. ap (λ o. not (is_some o)) (can.mated a r ne).1)
 
   pub shrink_trees : tree_count t ≡ tree_count s
   shrink_trees = counted_shrunk (λ a. is_label (s.label a) Outer && not (is_some (s.mate a))) (λ a. is_label (t.label a) Outer && not (is_some (t.mate a)))
-      (ap (λ l. is_label l Outer && not (is_some (t.mate node))) (put_here s.label node Outer) ∙ ap (λ o. not (is_some o)) (put_here s.mate node (s.mate top))
-      ∙ sym (ap (λ l. is_label l Outer && not (is_some (s.mate top))) can.top_outer))
-      (λ a ne. ap (λ l. is_label l Outer && not (is_some (t.mate a))) (put_other s.label node Outer a ne) ∙ ap (λ o. is_label (s.label a) Outer && not (is_some o)) (put_other s.mate node (s.mate top) a ne))
+      (ap (λ l. is_label l Outer && not (is_some (t.mate node))) (put_here s.label node Outer) ∙ ap (λ o. not (is_some o)) (put_here s.mate node (s.mate base))
+      ∙ sym (ap (λ l. is_label l Outer && not (is_some (s.mate base))) can.base_outer))
+      (λ a ne. ap (λ l. is_label l Outer && not (is_some (t.mate a))) (put_other s.label node Outer a ne) ∙ ap (λ o. is_label (s.label a) Outer && not (is_some o)) (put_other s.mate node (s.mate base) a ne))
       (λ a r ne. and_right (is_label (s.label a) Outer) (not (is_some (s.mate a))) (ap (λ o. not (is_some o)) (can.mated a r ne).1))
 
   -- a vertex of the new node, and any other
@@ -115,7 +115,7 @@ module _ (s : State) (depth : ℕ → ℕ) (ring : List Link) (node top : ℕ) (
     -- of a node and its mate on the circuit one is not outer
     low_node : HasLow s ring
     low_node =
-        let x = other_node s ring top (new_from_distinct (nodes_of ring) can.circuit.different) (omega (arith, can.circuit.at_least_three)) in
+        let x = other_node s ring base (new_from_distinct (nodes_of ring) can.circuit.different) (omega (arith, can.circuit.at_least_three)) in
         let x_is : is_outermost n bs x.node ≡ true = circuit_outer n bs ring x.node can.circuit x.within in
         ⊎_elim
         (λ (outer : s.label x.node ≡ Outer).
@@ -145,11 +145,11 @@ abbrev IsNestedState : State → Type 0
 IsNestedState s = IsNested s.graph.vertices s.blossoms
 
 pub shrunk_trees : (before after : State) (node : ℕ) → IsShrunk before after node → IsNestedState after → tree_count after ≡ tree_count before
-shrunk_trees before after node x h = ap tree_count x.state ∙ shrink_trees before x.can.depth x.ring node x.top (subst IsNestedState x.state h) x.can.shrinkable
+shrunk_trees before after node x h = ap tree_count x.state ∙ shrink_trees before x.can.depth x.ring node x.base (subst IsNestedState x.state h) x.can.shrinkable
 
 pub shrunk_exposed : (before after : State) (node : ℕ) → IsShrunk before after node → IsNestedState after → exposed_count after ≡ exposed_count before
-shrunk_exposed before after node x h = ap exposed_count x.state ∙ shrink_exposed before x.can.depth x.ring node x.top (subst IsNestedState x.state h) x.can.shrinkable
+shrunk_exposed before after node x h = ap exposed_count x.state ∙ shrink_exposed before x.can.depth x.ring node x.base (subst IsNestedState x.state h) x.can.shrinkable
 
 pub shrunk_falls : (before after : State) (node : ℕ) → IsShrunk before after node → IsNestedState after → measure after < measure before
 shrunk_falls before after node x h =
-    subst (λ (s : State). measure s < measure before) (sym x.state) (shrink_falls before x.can.depth x.ring node x.top (subst IsNestedState x.state h) x.can.shrinkable x.can.state)
+    subst (λ (s : State). measure s < measure before) (sym x.state) (shrink_falls before x.can.depth x.ring node x.base (subst IsNestedState x.state h) x.can.shrinkable x.can.state)

@@ -56,15 +56,15 @@ module _ (f : Search) (h : IsSound f) (a : ℕ) (can : CanExpand (state_of f) a)
       round_pairs = round_even s h.depth a graph nested h.state can base edge round base_at r
 
       -- the state that is written
-      pub written : (q : Option ℕ) (parent top : ℕ) → q ≡ s.parent a → ((e : ℕ) → q ≡ Some e → parent ≡ e) → top ≡ child_at s.graph s.blossoms a parent
+      pub written : (q : Option ℕ) (parent entry : ℕ) → q ≡ s.parent a → ((e : ℕ) → q ≡ Some e → parent ≡ e) → entry ≡ child_at s.graph s.blossoms a parent
           → (t u : State) → t ≡ opened s a base round mate
-          → ((place : ℕ) → place ≡ length (before (nodes_of round) top) → place % 2 ≡ 0 → u ≡ hung_down t base parent (drop place round))
-          → ((place : ℕ) → place ≡ length (before (nodes_of round) top) → place % 2 ≡ 1 → u ≡ hung_up t base edge parent (take (place + 1) round))
+          → ((place : ℕ) → place ≡ length (before (nodes_of round) entry) → place % 2 ≡ 0 → u ≡ hung_down t base parent (drop place round))
+          → ((place : ℕ) → place ≡ length (before (nodes_of round) entry) → place % 2 ≡ 1 → u ≡ hung_up t base edge parent (take (place + 1) round))
           → Expands s u a
-      written q parent top q_read q_found top_is t u t_is down up =
+      written q parent entry q_read q_found entry_is t u t_is down up =
           let by : parent ≡ inner.edge = parent_is q parent q_read q_found in
-          let place : ℕ = length (before (nodes_of round) top) in
+          let place : ℕ = length (before (nodes_of round) entry) in
           let opens : t ≡ opened s a base round inner.child_edge = t_is ∙ ap (opened s a base round) mate_is in
-          goes_even_way s h.depth a graph nested h.state can base edge round base_at r top place (top_is ∙ ap (child_at s.graph s.blossoms a) by) refl u
+          goes_even_way s h.depth a graph nested h.state can base edge round base_at r entry place (entry_is ∙ ap (child_at s.graph s.blossoms a) by) refl u
           (λ even. down place refl even ∙ ap₂ (λ (v : State) (e : ℕ). hung_down v base e (drop place round)) opens by)
           (λ odd. up place refl odd ∙ ap₂ (λ (v : State) (e : ℕ). hung_up v base edge e (take (place + 1) round)) opens by)

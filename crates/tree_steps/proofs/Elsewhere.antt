@@ -28,12 +28,12 @@ labels_down_other l (a ∷ (b ∷ ls)) c out =
     let q = or_parts (eqb b.node c) (in_ring ls c) p.1 in
     labels_down_other (put (put l b.node Outer) a.node Inner) ls c q.1 ∙ put_other (put l b.node Outer) a.node Inner c (λ e. eqb-false a.node c p.0 (sym e)) ∙ put_other l b.node Outer c (λ e. eqb-false b.node c q.0 (sym e))
 
-pub parents_up_other : (p : ℕ → Option ℕ) (x edge top : ℕ) (ls : List Link) (c : ℕ) → c ≢ x → in_ring ls c ≡ false → parents_up p x edge top ls c ≡ p c
-parents_up_other p x edge top [] c ne out = put_other p x (Some top) c ne
-parents_up_other p x edge top (a ∷ []) c ne out = refl
-parents_up_other p x edge top (a ∷ (b ∷ ls)) c ne out =
+pub parents_up_other : (p : ℕ → Option ℕ) (x edge parent : ℕ) (ls : List Link) (c : ℕ) → c ≢ x → in_ring ls c ≡ false → parents_up p x edge parent ls c ≡ p c
+parents_up_other p x edge parent [] c ne out = put_other p x (Some parent) c ne
+parents_up_other p x edge parent (a ∷ []) c ne out = refl
+parents_up_other p x edge parent (a ∷ (b ∷ ls)) c ne out =
     let s = or_parts (eqb b.node c) (in_ring ls c) (or_parts (eqb a.node c) (in_ring (b ∷ ls) c) out).1 in
-    parents_up_other (put p x (Some edge)) b.node b.edge top ls c (λ e. eqb-false b.node c s.0 (sym e)) s.1 ∙ put_other p x (Some edge) c ne
+    parents_up_other (put p x (Some edge)) b.node b.edge parent ls c (λ e. eqb-false b.node c s.0 (sym e)) s.1 ∙ put_other p x (Some edge) c ne
 
 pub parents_down_other : (p : ℕ → Option ℕ) (edge last : ℕ) (ls : List Link) (c : ℕ) → c ≢ last → in_ring ls c ≡ false → parents_down p edge last ls c ≡ p c
 parents_down_other p edge last [] c ne out = put_other p last (Some edge) c ne

@@ -35,19 +35,19 @@ hop_unique s d r x h k p q =
     let joins : Joins s.graph s.blossoms h.by h.inner k.up = subst (λ f. Joins s.graph s.blossoms f h.inner k.up) (sym by) (subst (λ y. Joins s.graph s.blossoms k.by y k.up) (sym inner) q.joins) in
     same_hop h k pair inner by (joins_unique s.graph s.blossoms h.by h.inner h.up k.up p.joins joins apart)
 
-way_unique : (s : State) (d r : ℕ → ℕ) (x : ℕ) (hs ks : List Hop) (top : ℕ) → IsWay s d x hs top → IsWay s r x ks top → hs ≡ ks
-way_unique s d r x [] ks top p q = sym (way_none s r x ks top p q)
-way_unique s d r x (h ∷ hs) [] top p q = way_none s d x (h ∷ hs) top q p
-way_unique s d r x (h ∷ hs) (k ∷ ks) top p q =
+way_unique : (s : State) (d r : ℕ → ℕ) (x : ℕ) (hs ks : List Hop) (base : ℕ) → IsWay s d x hs base → IsWay s r x ks base → hs ≡ ks
+way_unique s d r x [] ks base p q = sym (way_none s r x ks base p q)
+way_unique s d r x (h ∷ hs) [] base p q = way_none s d x (h ∷ hs) base q p
+way_unique s d r x (h ∷ hs) (k ∷ ks) base p q =
     let one : h ≡ k = hop_unique s d r x h k p.0 q.0 in
-    let rest : hs ≡ ks = way_unique s d r h.up hs ks top p.1 (subst (λ (g : Hop). IsWay s r g.up ks top) (sym one) q.1) in
+    let rest : hs ≡ ks = way_unique s d r h.up hs ks base p.1 (subst (λ (g : Hop). IsWay s r g.up ks base) (sym one) q.1) in
     ap₂ (λ (g : Hop) (gs : List Hop). g ∷ gs) one rest
 
 -- the circuit has at most as many links as there are vertices
-pub circuit_room : (s : State) (depth : ℕ → ℕ) (a b e top : ℕ) (ls rs : List Hop) → IsNested s.graph.vertices s.blossoms → IsWay s depth a ls top → IsWay s depth b rs top → IsShrinkable s depth (circuit_of top e (links_up a ls) (links_up b rs)) top
-    → (d r : ℕ → ℕ) (hs ks : List Hop) → IsWay s d a hs top → IsWay s r b ks top → length (links_up a hs) + length (links_up b ks) + 1 ≤ s.graph.vertices
-circuit_room s depth a b e top ls rs nested left right h d r hs ks p q =
-    let fits = (room_for_circuit s.graph.vertices s.blossoms (circuit_of top e (links_up a ls) (links_up b rs)) nested h.circuit).1 in
-    let one : length (links_up a hs) ≡ length (links_up a ls) = ap (λ (gs : List Hop). length (links_up a gs)) (way_unique s d depth a hs ls top p left) in
-    let two : length (links_up b ks) ≡ length (links_up b rs) = ap (λ (gs : List Hop). length (links_up b gs)) (way_unique s r depth b ks rs top q right) in
+pub circuit_room : (s : State) (depth : ℕ → ℕ) (a b e base : ℕ) (ls rs : List Hop) → IsNested s.graph.vertices s.blossoms → IsWay s depth a ls base → IsWay s depth b rs base → IsShrinkable s depth (circuit_of base e (links_up a ls) (links_up b rs)) base
+    → (d r : ℕ → ℕ) (hs ks : List Hop) → IsWay s d a hs base → IsWay s r b ks base → length (links_up a hs) + length (links_up b ks) + 1 ≤ s.graph.vertices
+circuit_room s depth a b e base ls rs nested left right h d r hs ks p q =
+    let fits = (room_for_circuit s.graph.vertices s.blossoms (circuit_of base e (links_up a ls) (links_up b rs)) nested h.circuit).1 in
+    let one : length (links_up a hs) ≡ length (links_up a ls) = ap (λ (gs : List Hop). length (links_up a gs)) (way_unique s d depth a hs ls base p left) in
+    let two : length (links_up b ks) ≡ length (links_up b rs) = ap (λ (gs : List Hop). length (links_up b gs)) (way_unique s r depth b ks rs base q right) in
     omega (arith, fits, one, two, mirror_length e (links_up a ls) (links_up b rs))

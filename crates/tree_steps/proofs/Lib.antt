@@ -25,3 +25,4 @@ pub mod Counted
 pub mod CountedGrow
 pub mod CountedShrink
 pub mod CountedExpand
+pub mod ClosedBy

@@ -29,31 +29,31 @@ path_trace (suc k) s x = by_test (eqb x 0)
     (λ none. subst (IsTrace s x) (sym (ap (λ t. cond t [] (x ∷ path_within k s (up_of s x))) none)) tt)
     (λ some. subst (IsTrace s x) (sym (ap (λ t. cond t [] (x ∷ path_within k s (up_of s x))) some)) (refl, eqb-false x 0 some, path_trace k s (up_of s x)))
 
-before_sub : (xs : List ℕ) (top c : ℕ) → holds (before xs top) c ≡ true → holds xs c ≡ true
-before_sub [] top c e = e
-before_sub (x ∷ xs) top c e = by_test (eqb x top)
-    (λ t. absurd (both_ways false refl (sym (ap (λ q. holds (cond q [] (x ∷ before xs top)) c) t) ∙ e)))
-    (λ t. ⊎_elim (λ here. or_left (eqb x c) (holds xs c) here) (λ more. or_right (eqb x c) (holds xs c) (before_sub xs top c more))
-    (or_cases (eqb x c) (holds (before xs top) c) (sym (ap (λ q. holds (cond q [] (x ∷ before xs top)) c) t) ∙ e)))
+before_sub : (xs : List ℕ) (base c : ℕ) → holds (before xs base) c ≡ true → holds xs c ≡ true
+before_sub [] base c e = e
+before_sub (x ∷ xs) base c e = by_test (eqb x base)
+    (λ t. absurd (both_ways false refl (sym (ap (λ q. holds (cond q [] (x ∷ before xs base)) c) t) ∙ e)))
+    (λ t. ⊎_elim (λ here. or_left (eqb x c) (holds xs c) here) (λ more. or_right (eqb x c) (holds xs c) (before_sub xs base c more))
+    (or_cases (eqb x c) (holds (before xs base) c) (sym (ap (λ q. holds (cond q [] (x ∷ before xs base)) c) t) ∙ e)))
 
-before_goes : (x top c : ℕ) (xs : List ℕ) → x ≢ top → holds (x ∷ before xs top) c ≡ true → holds (before (x ∷ xs) top) c ≡ true
-before_goes x top c xs ne r = ap (λ q. holds (cond q [] (x ∷ before xs top)) c) (ne_eqb x top ne) ∙ r
+before_goes : (x base c : ℕ) (xs : List ℕ) → x ≢ base → holds (x ∷ before xs base) c ≡ true → holds (before (x ∷ xs) base) c ≡ true
+before_goes x base c xs ne r = ap (λ q. holds (cond q [] (x ∷ before xs base)) c) (ne_eqb x base ne) ∙ r
 
 -- a node of the way that is outer: a way leads to it
-pub record FoundOuter (s : State) (depth : ℕ → ℕ) (x : ℕ) (xs : List ℕ) (top : ℕ) : Type 0 where
+pub record FoundOuter (s : State) (depth : ℕ → ℕ) (x : ℕ) (xs : List ℕ) (base : ℕ) : Type 0 where
   pub hops : List Hop
-  pub way : IsWay s depth x hops top
-  pub outer : s.label top ≡ Outer
-  pub is : IsOutermost s top
-  pub passed : (c : ℕ) → in_ring (links_up x hops) c ≡ true → holds (before xs top) c ≡ true
+  pub way : IsWay s depth x hops base
+  pub outer : s.label base ≡ Outer
+  pub is : IsOutermost s base
+  pub passed : (c : ℕ) → in_ring (links_up x hops) c ≡ true → holds (before xs base) c ≡ true
 
 -- a node of the way that is inner: its mate comes before it
-pub record FoundInner (s : State) (xs : List ℕ) (top : ℕ) : Type 0 where
+pub record FoundInner (s : State) (xs : List ℕ) (base : ℕ) : Type 0 where
   pub under : ℕ
   pub edge : ℕ
-  pub is_mate : IsMate s under edge top
-  pub inner : s.label top ≡ Inner
-  pub passed : holds (before xs top) under ≡ true
+  pub is_mate : IsMate s under edge base
+  pub inner : s.label base ≡ Inner
+  pub passed : holds (before xs base) under ≡ true
 
 -- one hop
 record IsHopped (s : State) (depth : ℕ → ℕ) (x : ℕ) (hop : Hop) : Type 0 where
@@ -82,122 +82,122 @@ hopped s depth x f st is outer has =
       },
     )
 
-at_start : (s : State) (depth : ℕ → ℕ) (x : ℕ) (xs : List ℕ) (top : ℕ) → IsOutermost s x → s.label x ≡ Outer → top ≡ x → FoundOuter s depth x xs top
-at_start s depth x xs top is outer here = record { hops = []; way = sym here; outer = ap s.label here ∙ outer; is = subst (IsOutermost s) (sym here) is; passed = λ c r. absurd (both_ways false refl r) }
+at_start : (s : State) (depth : ℕ → ℕ) (x : ℕ) (xs : List ℕ) (base : ℕ) → IsOutermost s x → s.label x ≡ Outer → base ≡ x → FoundOuter s depth x xs base
+at_start s depth x xs base is outer here = record { hops = []; way = sym here; outer = ap s.label here ∙ outer; is = subst (IsOutermost s) (sym here) is; passed = λ c r. absurd (both_ways false refl r) }
 
-pub found : (s : State) (depth : ℕ → ℕ) (x : ℕ) (xs : List ℕ) (top : ℕ) → IsSearchState s depth → IsTrace s x xs → IsOutermost s x → s.label x ≡ Outer → holds xs top ≡ true
-    → FoundOuter s depth x xs top ⊎ FoundInner s xs top
-found s depth x [] top st trace is outer there = absurd (both_ways false refl there)
-found s depth x (y ∷ []) top st trace is outer there =
-    inl (at_start s depth x (y ∷ []) top is outer (⊎_elim (λ q. sym (eqb-true y top q) ∙ trace.0) (λ q. absurd (both_ways false refl q)) (or_cases (eqb y top) false there)))
-found s depth x (y ∷ (z ∷ zs)) top st trace is outer there =
+pub found : (s : State) (depth : ℕ → ℕ) (x : ℕ) (xs : List ℕ) (base : ℕ) → IsSearchState s depth → IsTrace s x xs → IsOutermost s x → s.label x ≡ Outer → holds xs base ≡ true
+    → FoundOuter s depth x xs base ⊎ FoundInner s xs base
+found s depth x [] base st trace is outer there = absurd (both_ways false refl there)
+found s depth x (y ∷ []) base st trace is outer there =
+    inl (at_start s depth x (y ∷ []) base is outer (⊎_elim (λ q. sym (eqb-true y base q) ∙ trace.0) (λ q. absurd (both_ways false refl q)) (or_cases (eqb y base) false there)))
+found s depth x (y ∷ (z ∷ zs)) base st trace is outer there =
     ⊎_elim
-    (λ here. inl (at_start s depth x (y ∷ (z ∷ zs)) top is outer here))
-    (λ ne. on ne (λ p p_trace p_is p_outer p_there. found s depth p zs top st p_trace p_is p_outer p_there) (s.mate x) refl)
-    (cases_eq top x)
+    (λ here. inl (at_start s depth x (y ∷ (z ∷ zs)) base is outer here))
+    (λ ne. on ne (λ p p_trace p_is p_outer p_there. found s depth p zs base st p_trace p_is p_outer p_there) (s.mate x) refl)
+    (cases_eq base x)
   where
-    on : top ≢ x → ((p : ℕ) → IsTrace s p zs → IsOutermost s p → s.label p ≡ Outer → holds zs top ≡ true → FoundOuter s depth p zs top ⊎ FoundInner s zs top)
-        → (o : Option ℕ) → s.mate x ≡ o → FoundOuter s depth x (y ∷ (z ∷ zs)) top ⊎ FoundInner s (y ∷ (z ∷ zs)) top
+    on : base ≢ x → ((p : ℕ) → IsTrace s p zs → IsOutermost s p → s.label p ≡ Outer → holds zs base ≡ true → FoundOuter s depth p zs base ⊎ FoundInner s zs base)
+        → (o : Option ℕ) → s.mate x ≡ o → FoundOuter s depth x (y ∷ (z ∷ zs)) base ⊎ FoundInner s (y ∷ (z ∷ zs)) base
     on ne again None e = absurd (trace.2.1 (ap (λ l. far_end s (up_edge_by s l x) x) outer ∙ ap (λ o. far_end s o x) e))
     on ne again (Some f) e =
         let found_hop = hopped s depth x f st is outer e in
         let hop : Hop = found_hop.0 in
         let h = found_hop.1 in
         let z_is : z ≡ hop.inner = trace.2.0 ∙ h.first in
-        let y_not : y ≢ top = λ r. ne (sym r ∙ trace.0) in
-        let later : holds (z ∷ zs) top ≡ true = ⊎_elim (λ r. absurd (y_not (eqb-true y top r))) (λ r. r) (or_cases (eqb y top) (holds (z ∷ zs) top) there) in
+        let y_not : y ≢ base = λ r. ne (sym r ∙ trace.0) in
+        let later : holds (z ∷ zs) base ≡ true = ⊎_elim (λ r. absurd (y_not (eqb-true y base r))) (λ r. r) (or_cases (eqb y base) (holds (z ∷ zs) base) there) in
         ⊎_elim
         (λ at. inr (record {
           under = x;
           edge = hop.pair;
           is_mate = subst (IsMate s x hop.pair) (sym at) h.is_hop.is_mate;
           inner = ap s.label at ∙ h.inner;
-          passed = before_goes y top x (z ∷ zs) y_not (or_left (eqb y x) (holds (before (z ∷ zs) top) x) (eq-eqb y x trace.0));
+          passed = before_goes y base x (z ∷ zs) y_not (or_left (eqb y x) (holds (before (z ∷ zs) base) x) (eq-eqb y x trace.0));
         }))
         (λ not_it.
-        let z_not : z ≢ top = λ r. not_it (sym r ∙ z_is) in
-        let rest_there : holds zs top ≡ true = ⊎_elim (λ r. absurd (z_not (eqb-true z top r))) (λ r. r) (or_cases (eqb z top) (holds zs top) later) in
+        let z_not : z ≢ base = λ r. not_it (sym r ∙ z_is) in
+        let rest_there : holds zs base ≡ true = ⊎_elim (λ r. absurd (z_not (eqb-true z base r))) (λ r. r) (or_cases (eqb z base) (holds zs base) later) in
         let p_is : up_of s (up_of s x) ≡ hop.up = ap (up_of s) h.first ∙ h.second in
-        let goes : (c : ℕ) → holds (before zs top) c ≡ true → holds (before (y ∷ (z ∷ zs)) top) c ≡ true =
-        λ c r. before_goes y top c (z ∷ zs) y_not (or_right (eqb y c) (holds (before (z ∷ zs) top) c) (before_goes z top c zs z_not (or_right (eqb z c) (holds (before zs top) c) r))) in
+        let goes : (c : ℕ) → holds (before zs base) c ≡ true → holds (before (y ∷ (z ∷ zs)) base) c ≡ true =
+        λ c r. before_goes y base c (z ∷ zs) y_not (or_right (eqb y c) (holds (before (z ∷ zs) base) c) (before_goes z base c zs z_not (or_right (eqb z c) (holds (before zs base) c) r))) in
         ⊎_elim
-        (λ (r : FoundOuter s depth hop.up zs top). inl (record {
+        (λ (r : FoundOuter s depth hop.up zs base). inl (record {
           hops = hop ∷ r.hops;
           way = (h.is_hop, r.way);
           outer = r.outer;
           is = r.is;
           passed = λ c in_it. ⊎_elim
-              (λ here. before_goes y top c (z ∷ zs) y_not (or_left (eqb y c) (holds (before (z ∷ zs) top) c) (eq-eqb y c (trace.0 ∙ eqb-true x c here))))
+              (λ here. before_goes y base c (z ∷ zs) y_not (or_left (eqb y c) (holds (before (z ∷ zs) base) c) (eq-eqb y c (trace.0 ∙ eqb-true x c here))))
               (λ more. ⊎_elim
-              (λ here. before_goes y top c (z ∷ zs) y_not (or_right (eqb y c) (holds (before (z ∷ zs) top) c) (before_goes z top c zs z_not (or_left (eqb z c) (holds (before zs top) c) (eq-eqb z c (z_is ∙ eqb-true hop.inner c here))))))
+              (λ here. before_goes y base c (z ∷ zs) y_not (or_right (eqb y c) (holds (before (z ∷ zs) base) c) (before_goes z base c zs z_not (or_left (eqb z c) (holds (before zs base) c) (eq-eqb z c (z_is ∙ eqb-true hop.inner c here))))))
               (λ farther. goes c (r.passed c farther))
               (or_cases (eqb hop.inner c) (in_ring (links_up hop.up r.hops) c) more))
               (or_cases (eqb x c) (eqb hop.inner c || in_ring (links_up hop.up r.hops) c) in_it);
         }))
-        (λ (r : FoundInner s zs top). inr (record { under = r.under; edge = r.edge; is_mate = r.is_mate; inner = r.inner; passed = goes r.under r.passed }))
+        (λ (r : FoundInner s zs base). inr (record { under = r.under; edge = r.edge; is_mate = r.is_mate; inner = r.inner; passed = goes r.under r.passed }))
         (again hop.up (subst (λ u. IsTrace s u zs) p_is trace.2.2) h.up_is h.up_outer rest_there))
-        (cases_eq top hop.inner)
+        (cases_eq base hop.inner)
 
 -- what the first common number is
-pub record IsFirst (xs ys : List ℕ) (top : ℕ) : Type 0 where
-  pub on_first : holds xs top ≡ true
-  pub on_second : holds ys top ≡ true
-  pub first : (c : ℕ) → holds (before xs top) c ≡ true → holds ys c ≡ false
+pub record IsFirst (xs ys : List ℕ) (base : ℕ) : Type 0 where
+  pub on_first : holds xs base ≡ true
+  pub on_second : holds ys base ≡ true
+  pub first : (c : ℕ) → holds (before xs base) c ≡ true → holds ys c ≡ false
 
-pub common_first : (xs ys : List ℕ) (top : ℕ) → first_common xs ys ≡ Some top → IsFirst xs ys top
-common_first [] ys top e = some_not_none top (sym e)
-common_first (x ∷ xs) ys top e = by_test (holds ys x)
+pub common_first : (xs ys : List ℕ) (base : ℕ) → first_common xs ys ≡ Some base → IsFirst xs ys base
+common_first [] ys base e = some_not_none base (sym e)
+common_first (x ∷ xs) ys base e = by_test (holds ys x)
     (λ here.
-    let same : x ≡ top = some_same x top (sym (ap (λ q. cond q (Some x) (first_common xs ys)) here) ∙ e) in
+    let same : x ≡ base = some_same x base (sym (ap (λ q. cond q (Some x) (first_common xs ys)) here) ∙ e) in
     record {
-      on_first = or_left (eqb x top) (holds xs top) (eq-eqb x top same);
+      on_first = or_left (eqb x base) (holds xs base) (eq-eqb x base same);
       on_second = ap (holds ys) (sym same) ∙ here;
-      first = λ c r. absurd (both_ways false refl (sym (ap (λ q. holds (cond q [] (x ∷ before xs top)) c) (eq-eqb x top same)) ∙ r));
+      first = λ c r. absurd (both_ways false refl (sym (ap (λ q. holds (cond q [] (x ∷ before xs base)) c) (eq-eqb x base same)) ∙ r));
     })
     (λ out.
-    let rest = common_first xs ys top (sym (ap (λ q. cond q (Some x) (first_common xs ys)) out) ∙ e) in
-    let ne : x ≢ top = λ q. both_ways (holds ys top) (ap (holds ys) (sym q) ∙ out) rest.on_second in
+    let rest = common_first xs ys base (sym (ap (λ q. cond q (Some x) (first_common xs ys)) out) ∙ e) in
+    let ne : x ≢ base = λ q. both_ways (holds ys base) (ap (holds ys) (sym q) ∙ out) rest.on_second in
     record {
-      on_first = or_right (eqb x top) (holds xs top) rest.on_first;
+      on_first = or_right (eqb x base) (holds xs base) rest.on_first;
       on_second = rest.on_second;
       first = λ c r. ⊎_elim (λ at. ap (holds ys) (sym (eqb-true x c at)) ∙ out) (λ more. rest.first c more)
-          (or_cases (eqb x c) (holds (before xs top) c) (sym (ap (λ q. holds (cond q [] (x ∷ before xs top)) c) (ne_eqb x top ne)) ∙ r));
+          (or_cases (eqb x c) (holds (before xs base) c) (sym (ap (λ q. holds (cond q [] (x ∷ before xs base)) c) (ne_eqb x base ne)) ∙ r));
     })
 
 -- the two ways to the node where two paths meet
-pub record AreMeeting (s : State) (depth : ℕ → ℕ) (a b e top : ℕ) : Type 0 where
+pub record AreMeeting (s : State) (depth : ℕ → ℕ) (a b e base : ℕ) : Type 0 where
   pub left : List Hop
   pub right : List Hop
-  pub left_way : IsWay s depth a left top
-  pub right_way : IsWay s depth b right top
-  pub shrinks : IsShrinkable s depth (circuit_of top e (links_up a left) (links_up b right)) top
+  pub left_way : IsWay s depth a left base
+  pub right_way : IsWay s depth b right base
+  pub shrinks : IsShrinkable s depth (circuit_of base e (links_up a left) (links_up b right)) base
 
 -- a tight edge between two outer nodes whose paths meet closes a circuit that can be shrunk
-pub meeting : (s : State) (depth : ℕ → ℕ) (a b e top : ℕ) → IsSearchState s depth → IsOutermost s a → IsOutermost s b → s.label a ≡ Outer → s.label b ≡ Outer
-    → IsTight s e → Joins s.graph s.blossoms e a b → a ≢ b → first_common (path_of s a) (path_of s b) ≡ Some top → AreMeeting s depth a b e top
-meeting s depth a b e top st a_is b_is a_outer b_outer tight joins ne meets =
-    let f = common_first (path_of s a) (path_of s b) top meets in
+pub meeting : (s : State) (depth : ℕ → ℕ) (a b e base : ℕ) → IsSearchState s depth → IsOutermost s a → IsOutermost s b → s.label a ≡ Outer → s.label b ≡ Outer
+    → IsTight s e → Joins s.graph s.blossoms e a b → a ≢ b → first_common (path_of s a) (path_of s b) ≡ Some base → AreMeeting s depth a b e base
+meeting s depth a b e base st a_is b_is a_outer b_outer tight joins ne meets =
+    let f = common_first (path_of s a) (path_of s b) base meets in
     let ta : IsTrace s a (path_of s a) = path_trace _ s a in
     let tb : IsTrace s b (path_of s b) = path_trace _ s b in
     ⊎_elim
-    (λ (p : FoundOuter s depth a (path_of s a) top). ⊎_elim
-    (λ (q : FoundOuter s depth b (path_of s b) top). record {
+    (λ (p : FoundOuter s depth a (path_of s a) base). ⊎_elim
+    (λ (q : FoundOuter s depth b (path_of s b) base). record {
       left = p.hops;
       right = q.hops;
       left_way = p.way;
       right_way = q.way;
-      shrinks = circuit_shrinks s depth a b e top p.hops q.hops st p.way q.way tight joins ne p.is p.outer
-          (λ c r. false_from_ne_true (in_ring (links_up b q.hops) c) (λ t. both_ways (holds (path_of s b) c) (f.first c (p.passed c r)) (before_sub (path_of s b) top c (q.passed c t))));
+      shrinks = circuit_shrinks s depth a b e base p.hops q.hops st p.way q.way tight joins ne p.is p.outer
+          (λ c r. false_from_ne_true (in_ring (links_up b q.hops) c) (λ t. both_ways (holds (path_of s b) c) (f.first c (p.passed c r)) (before_sub (path_of s b) base c (q.passed c t))));
     })
-    (λ (q : FoundInner s (path_of s b) top). outer_not_inner (sym p.outer ∙ q.inner))
-    (found s depth b (path_of s b) top st tb b_is b_outer f.on_second))
-    (λ (p : FoundInner s (path_of s a) top). ⊎_elim
-    (λ (q : FoundOuter s depth b (path_of s b) top). outer_not_inner (sym q.outer ∙ p.inner))
-    (λ (q : FoundInner s (path_of s b) top). absurd (both_ways (holds (path_of s b) p.under) (f.first p.under p.passed)
-    (ap (holds (path_of s b)) (partner_unique s p.under p.edge q.under q.edge top p.is_mate q.is_mate) ∙ before_sub (path_of s b) top q.under q.passed)))
-    (found s depth b (path_of s b) top st tb b_is b_outer f.on_second))
-    (found s depth a (path_of s a) top st ta a_is a_outer f.on_first)
+    (λ (q : FoundInner s (path_of s b) base). outer_not_inner (sym p.outer ∙ q.inner))
+    (found s depth b (path_of s b) base st tb b_is b_outer f.on_second))
+    (λ (p : FoundInner s (path_of s a) base). ⊎_elim
+    (λ (q : FoundOuter s depth b (path_of s b) base). outer_not_inner (sym q.outer ∙ p.inner))
+    (λ (q : FoundInner s (path_of s b) base). absurd (both_ways (holds (path_of s b) p.under) (f.first p.under p.passed)
+    (ap (holds (path_of s b)) (partner_unique s p.under p.edge q.under q.edge base p.is_mate q.is_mate) ∙ before_sub (path_of s b) base q.under q.passed)))
+    (found s depth b (path_of s b) base st tb b_is b_outer f.on_second))
+    (found s depth a (path_of s a) base st ta a_is a_outer f.on_first)
 
 -- from the edge of a shrink, and where the paths of its two nodes meet
-pub meets_from : (s : State) (depth : ℕ → ℕ) (e a b top : ℕ) → IsSearchState s depth → (c : CanShrink s e) → a ≡ node_u s.graph s.blossoms e → b ≡ node_v s.graph s.blossoms e → first_common (path_of s a) (path_of s b) ≡ Some top → AreMeeting s depth a b e top
-meets_from s depth e a b top st c u v meets = let p = ends_of s e a b c u v in meeting s depth a b e top st p.0.a_is p.0.b_is p.0.a_outer p.0.b_outer c.tight p.1 p.0.different meets
+pub meets_from : (s : State) (depth : ℕ → ℕ) (e a b base : ℕ) → IsSearchState s depth → (c : CanShrink s e) → a ≡ node_u s.graph s.blossoms e → b ≡ node_v s.graph s.blossoms e → first_common (path_of s a) (path_of s b) ≡ Some base → AreMeeting s depth a b e base
+meets_from s depth e a b base st c u v meets = let p = ends_of s e a b c u v in meeting s depth a b e base st p.0.a_is p.0.b_is p.0.a_outer p.0.b_outer c.tight p.1 p.0.different meets

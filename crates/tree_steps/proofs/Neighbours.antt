@@ -29,10 +29,10 @@ labels_down_end l (a ∷ []) h = refl
 labels_down_end l (a ∷ (b ∷ ls)) h = absurd (omega (arith, h))
 
 -- and at the end of an even number of them the last node hangs
-pub parents_up_end : (p : ℕ → Option ℕ) (x edge top : ℕ) (ls : List Link) → length ls < 2 → length ls % 2 ≡ 0 → parents_up p x edge top ls ≡ put p x (Some top)
-parents_up_end p x edge top [] h even = refl
-parents_up_end p x edge top (a ∷ []) h even = absurd (omega (arith, even))
-parents_up_end p x edge top (a ∷ (b ∷ ls)) h even = absurd (omega (arith, h))
+pub parents_up_end : (p : ℕ → Option ℕ) (x edge parent : ℕ) (ls : List Link) → length ls < 2 → length ls % 2 ≡ 0 → parents_up p x edge parent ls ≡ put p x (Some parent)
+parents_up_end p x edge parent [] h even = refl
+parents_up_end p x edge parent (a ∷ []) h even = absurd (omega (arith, even))
+parents_up_end p x edge parent (a ∷ (b ∷ ls)) h even = absurd (omega (arith, h))
 
 pub parents_down_end : (p : ℕ → Option ℕ) (edge last : ℕ) (ls : List Link) → length ls < 2 → length ls % 2 ≡ 0 → parents_down p edge last ls ≡ put p last (Some edge)
 parents_down_end p edge last [] h even = refl

@@ -17,6 +17,7 @@ use Rattle.alt_forest.specs.Events.{CanExpand}
 use Rattle.alt_forest.proofs.Relabelled.{put_here, put_other, outer_not_inner}
 use Rattle.tree_steps.specs.Circuits.{before}
 use Rattle.tree_steps.specs.Expanded.{child_at, mated, labelled_out, opened, labels_up, labels_down, parents_up, parents_down, end_of, hung_up, hung_down, IsRound, IsExpanded}
+use Rattle.tree_steps.proofs.Joints.{joins_unique}
 use Rattle.tree_steps.proofs.Grown.{rehung}
 use Rattle.tree_steps.proofs.Opened.{joins_child, ring_chain, ring_each_link}
 use Rattle.tree_steps.proofs.Rungs.{out_other, mated_other, rung_at}
@@ -60,11 +61,22 @@ module _ (s : State) (depth : ℕ → ℕ) (a : ℕ) (graph : IsGraph s.graph) (
   pub parent_leaves : (node_u s.graph bs hangs.edge ≡ a) ⊎ (node_v s.graph bs hangs.edge ≡ a)
   parent_leaves = leaves hangs.edge hangs.up hangs.joins
 
+  -- the two are different
+  edges_differ : hangs.child_edge ≢ hangs.edge
+  edges_differ q =
+      let same : hangs.child ≡ hangs.up = joins_unique s.graph bs hangs.edge a hangs.child hangs.up (subst (λ e. Joins s.graph bs e a hangs.child) q hangs.is_mate.joins) hangs.joins hangs.is_mate.different in
+      let level : depth hangs.child ≡ depth hangs.up = ap depth same in
+      absurd (omega (arith, hangs.falls, hangs.rises, level))
+
+  -- so the graph has two edges
+  pub two_edges : 2 ≤ length s.graph.edges
+  two_edges = omega (arith, edges_differ, hangs.is_mate.edge.0, hangs.is_mate.edge.1, hangs.is_edge.0, hangs.is_edge.1)
+
   pub base_in : in_ring ring (child_at s.graph bs a hangs.child_edge) ≡ true
   base_in = child_in s.graph bs a hangs.child_edge graph nested can.blossom hangs.is_mate.edge mate_leaves
 
-  pub top_in : in_ring ring (child_at s.graph bs a hangs.edge) ≡ true
-  top_in = child_in s.graph bs a hangs.edge graph nested can.blossom hangs.is_edge parent_leaves
+  pub entry_in : in_ring ring (child_at s.graph bs a hangs.edge) ≡ true
+  entry_in = child_in s.graph bs a hangs.edge graph nested can.blossom hangs.is_edge parent_leaves
 
   ring_new : AllNew (nodes_of ring)
   ring_new = new_from_distinct (nodes_of ring) here.circuit.different
@@ -155,19 +167,19 @@ module _ (s : State) (depth : ℕ → ℕ) (a : ℕ) (graph : IsGraph s.graph) (
     part_out : (xs ys : List Link) → round ≡ xs ++ ys → (c : ℕ) → in_ring ring c ≡ false → (in_ring xs c ≡ false) × (in_ring ys c ≡ false)
     part_out xs ys split c out = or_parts (in_ring xs c) (in_ring ys c) (sym (in_append xs ys c) ∙ ap (λ ls. in_ring ls c) (sym split) ∙ outside_round c out)
 
-    module _ (top place : ℕ) (top_is : top ≡ child_at s.graph bs a hangs.edge) (place_is : place ≡ length (before (nodes_of round) top)) where
-      top_here : in_ring ring top ≡ true
-      top_here = ap (in_ring ring) top_is ∙ top_in
+    module _ (entry place : ℕ) (entry_is : entry ≡ child_at s.graph bs a hangs.edge) (place_is : place ≡ length (before (nodes_of round) entry)) where
+      entry_here : in_ring ring entry ≡ true
+      entry_here = ap (in_ring ring) entry_is ∙ entry_in
 
-      top_joins : Joins s.graph (without bs a) hangs.edge top hangs.up
-      top_joins = subst (λ x. Joins s.graph (without bs a) hangs.edge x hangs.up) (sym top_is) (joins_child s.graph bs a hangs.edge hangs.up graph above hangs.is_edge up_apart hangs.joins)
+      entry_joins : Joins s.graph (without bs a) hangs.edge entry hangs.up
+      entry_joins = subst (λ x. Joins s.graph (without bs a) hangs.edge x hangs.up) (sym entry_is) (joins_child s.graph bs a hangs.edge hangs.up graph above hangs.is_edge up_apart hangs.joins)
 
-      -- behind all links where the top is the base
-      at_end : in_ring round top ≡ false → (place ≡ length round) × (top ≡ base)
-      at_end out = (place_is ∙ place_none round top out, ⊎_elim (λ q. q) (λ i. absurd (both_ways (in_ring round top) out i)) (goes.all top top_here))
+      -- behind all links where the entry is the base
+      at_end : in_ring round entry ≡ false → (place ≡ length round) × (entry ≡ base)
+      at_end out = (place_is ∙ place_none round entry out, ⊎_elim (λ q. q) (λ i. absurd (both_ways (in_ring round entry) out i)) (goes.all entry entry_here))
 
       place_low : place ≤ length round
-      place_low = by_test (in_ring round top) (λ i. omega (arith, place_within round top place i place_is)) (λ o. omega (arith, (at_end o).0))
+      place_low = by_test (in_ring round entry) (λ i. omega (arith, place_within round entry place i place_is)) (λ o. omega (arith, (at_end o).0))
 
       pub goes_down : place % 2 ≡ 0 → Expands s (hung_down t base hangs.edge (drop place round)) a
       unfolding opens
@@ -177,7 +189,7 @@ module _ (s : State) (depth : ℕ → ℕ) (a : ℕ) (graph : IsGraph s.graph) (
           let split : round ≡ xs ++ ys = sym (take-append-drop place round) in
           let size : length xs ≡ place = length-take-le place round place_low in
           let e = expanded_down s depth a base edge round hangs.child_edge hangs.child opens xs ys split (even_pairs xs (ap (λ n. n % 2) size ∙ even))
-          (subst (λ x. Joins s.graph (without bs a) hangs.edge x hangs.up) (sym first_is) top_joins) in
+          (subst (λ x. Joins s.graph (without bs a) hangs.edge x hangs.up) (sym first_is) entry_joins) in
           record {
             after = e.after;
             state = e.state;
@@ -187,9 +199,9 @@ module _ (s : State) (depth : ℕ → ℕ) (a : ℕ) (graph : IsGraph s.graph) (
                 e.stays;
           }
         where
-          first_is : next_node (drop place round) base ≡ top
-          first_is = by_test (in_ring round top)
-              (λ i. let p = parted_at round top place i place_is in
+          first_is : next_node (drop place round) base ≡ entry
+          first_is = by_test (in_ring round entry)
+              (λ i. let p = parted_at round entry place i place_is in
               ap (λ (ls : List Link). next_node (drop place ls) base) p.split ∙ ap (λ n. next_node (drop n (p.front ++ (p.link ∷ p.behind))) base) (sym p.place) ∙ next_dropped p.front p.link p.behind base ∙ p.node)
               (λ o. ap (λ (ls : List Link). next_node ls base) (drop_all place round (omega (arith, (at_end o).0))) ∙ sym (at_end o).1)
 
@@ -201,7 +213,7 @@ module _ (s : State) (depth : ℕ → ℕ) (a : ℕ) (graph : IsGraph s.graph) (
           let split : round ≡ xs ++ ys = sym (take-append-drop (place + 1) round) in
           let size : length xs ≡ place + 1 = length-take-le (place + 1) round (omega (arith, place_low, odd, round_even)) in
           let e = expanded_up s depth a base edge round hangs.child_edge hangs.child opens xs ys split (even_pairs xs (omega (arith, size, odd)))
-          (subst (λ x. Joins s.graph (without bs a) hangs.edge x hangs.up) (sym last_is) top_joins) in
+          (subst (λ x. Joins s.graph (without bs a) hangs.edge x hangs.up) (sym last_is) entry_joins) in
           record {
             after = e.after;
             state = e.state;
@@ -211,9 +223,9 @@ module _ (s : State) (depth : ℕ → ℕ) (a : ℕ) (graph : IsGraph s.graph) (
                 e.stays;
           }
         where
-          last_is : end_of base (take (place + 1) round) ≡ top
-          last_is = by_test (in_ring round top)
-              (λ i. let p = parted_at round top place i place_is in
+          last_is : end_of base (take (place + 1) round) ≡ entry
+          last_is = by_test (in_ring round entry)
+              (λ i. let p = parted_at round entry place i place_is in
               let one : List Link = p.link ∷ [] in
               let whole : round ≡ (p.front ++ one) ++ p.behind = p.split ∙ sym (append_assoc p.front one p.behind) in
               let count : length (p.front ++ one) ≡ place + 1 = length-append p.front one ∙ ap (λ m. m + 1) p.place in

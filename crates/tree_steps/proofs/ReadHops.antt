@@ -1,5 +1,5 @@
 -- A hop is read off the lists.
-use Rattle.std.proofs.Common.{◌≡◌, ◌≢◌, ℕ, ◌<◌, length, Option, Some, ap, ap₂, ◌∙◌, arith}
+use Rattle.std.proofs.Common.{◌≡◌, ◌≢◌, ℕ, ◌<◌, ◌∷◌, length, Option, Some, ap, ap₂, ◌∙◌, arith}
 use Rattle.alt_forest.specs.State.{State, IsSearchState}
 use Rattle.blossom_arena.specs.Family.{IsNested}
 use Rattle.alt_forest.specs.Trees.{other_node, far_end, up_edge_by, up_of, path_of}
@@ -33,11 +33,12 @@ pub same_hop : (a b : Hop) → a.pair ≡ b.pair → a.inner ≡ b.inner → a.b
 same_hop a b p q r t = λ i. record { pair = p i; inner = q i; by = r i; up = t i }
 
 -- a hop leaves two nodes of the path behind
-pub hop_shorter : (s : State) (depth : ℕ → ℕ) (x : ℕ) (h : Hop) → IsNested s.graph.vertices s.blossoms → IsSearchState s depth → (rank : ℕ → ℕ) → IsHop s rank x h → length (path_of s h.up) < length (path_of s x)
-hop_shorter s depth x h nested st rank is =
+pub hop_path : (s : State) (depth : ℕ → ℕ) (x : ℕ) (h : Hop) → IsNested s.graph.vertices s.blossoms → IsSearchState s depth → (rank : ℕ → ℕ) → IsHop s rank x h → path_of s x ≡ x ∷ (h.inner ∷ path_of s h.up)
+hop_path s depth x h nested st rank is =
     let first : up_of s x ≡ h.inner = ap (λ l. far_end s (up_edge_by s l x) x) is.outer ∙ ap (λ o. far_end s o x) is.mate ∙ other_node_joins s.graph s.blossoms h.pair x h.inner is.is_mate.joins is.is_mate.different in
     let apart : h.inner ≢ h.up = λ e. let same : rank h.inner ≡ rank h.up = ap rank e in absurd (omega (arith, is.lowest)) in
     let second : up_of s h.inner ≡ h.up = ap (λ l. far_end s (up_edge_by s l h.inner) h.inner) is.inner_label ∙ ap (λ o. far_end s o h.inner) is.parent ∙ other_node_joins s.graph s.blossoms h.by h.inner h.up is.joins apart in
-    let a = path_up s depth nested st x h.inner is.is first in
-    let b = path_up s depth nested st h.inner h.up is.is_mate.outer second in
-    omega (arith, ap length a, ap length b)
+    path_up s depth nested st x h.inner is.is first ∙ ap (λ xs. x ∷ xs) (path_up s depth nested st h.inner h.up is.is_mate.outer second)
+
+pub hop_shorter : (s : State) (depth : ℕ → ℕ) (x : ℕ) (h : Hop) → IsNested s.graph.vertices s.blossoms → IsSearchState s depth → (rank : ℕ → ℕ) → IsHop s rank x h → length (path_of s h.up) < length (path_of s x)
+hop_shorter s depth x h nested st rank is = omega (arith, ap length (hop_path s depth x h nested st rank is))

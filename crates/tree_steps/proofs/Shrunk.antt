@@ -28,7 +28,7 @@ pull_same y z (b ∷ older) e eu ev each =
     ap (λ t. cond (crosses b.members e) t (pos 0) +ℤ pull y older e) each.0
     ∙ ap (λ t. cond (crosses b.members e) (z b.node) (pos 0) +ℤ t) (pull_same y z older e eu ev each.1)
 
--- a blossom of dual 0 on top
+-- a blossom of dual 0 on base
 pub pull_zero : (y : ℕ → ℤ) (b : Blossom) (older : List Blossom) (e : Edge) → y b.node ≡ pos 0 → pull y (b ∷ older) e ≡ pull y older e
 pull_zero y b older e zero_there =
     elim (crosses b.members e) as (λ t. cond t (y b.node) (pos 0) +ℤ pull y older e ≡ pull y older e) [
@@ -47,22 +47,22 @@ low_at (b ∷ older) y x z new low =
     let p = or_parts (eqb b.node x) (holds (names_of older) x) new in
     (subst (λ t. pos 0 ≤ℤ t) (sym (put_other y x z b.node (eqb-false b.node x p.0))) low.0, low_at older y x z p.1 low.1)
 
--- what a shrink asks of its circuit: a ring of tight edges, whose top is outer and nearest to the root, and whose
+-- what a shrink asks of its circuit: a ring of tight edges, whose base is outer and nearest to the root, and whose
 -- other nodes are mated inside
-pub record Shrinks (s : State) (b : Blossom) (top : ℕ) (depth : ℕ → ℕ) : Type 0 where
+pub record Shrinks (s : State) (b : Blossom) (base : ℕ) (depth : ℕ → ℕ) : Type 0 where
   pub graph : IsGraph s.graph
   pub nested : IsNested s.graph.vertices (b ∷ s.blossoms)
   pub ring : IsRing s.graph s.blossoms b.ring
   pub tight : AllByRecursion (λ (l : Link). IsTight s l.edge) b.ring
-  pub top_in : in_ring b.ring top ≡ true
-  pub top_outer : s.label top ≡ Outer
-  pub top_least : (a : ℕ) → in_ring b.ring a ≡ true → depth top ≤ depth a
-  pub mated_inside : (a e c : ℕ) → in_ring b.ring a ≡ true → a ≢ top → s.mate a ≡ Some e → IsMate s a e c → in_ring b.ring c ≡ true
-  pub top_mated_outside : (e c : ℕ) → s.mate top ≡ Some e → IsMate s top e c → in_ring b.ring c ≡ false
+  pub base_in : in_ring b.ring base ≡ true
+  pub base_outer : s.label base ≡ Outer
+  pub base_least : (a : ℕ) → in_ring b.ring a ≡ true → depth base ≤ depth a
+  pub mated_inside : (a e c : ℕ) → in_ring b.ring a ≡ true → a ≢ base → s.mate a ≡ Some e → IsMate s a e c → in_ring b.ring c ≡ true
+  pub base_mated_outside : (e c : ℕ) → s.mate base ≡ Some e → IsMate s base e c → in_ring b.ring c ≡ false
 
-module _ (s : State) (b : Blossom) (top : ℕ) (depth : ℕ → ℕ) (h : Shrinks s b top depth) where
+module _ (s : State) (b : Blossom) (base : ℕ) (depth : ℕ → ℕ) (h : Shrinks s b base depth) where
   abbrev t : State
-  t = shrunk_state s b top
+  t = shrunk_state s b base
 
   -- where a node comes by the shrink
   abbrev lift : ℕ → ℕ
@@ -133,19 +133,19 @@ module _ (s : State) (b : Blossom) (top : ℕ) (depth : ℕ → ℕ) (h : Shrink
   outer_before : (a : ℕ) → IsOutermost t a → (a ≡ b.node) ⊎ (IsOutermost s a × (in_ring b.ring a ≡ false))
   outer_before a is = by_test (eqb b.node a) (λ e. inl (sym (eqb-true b.node a e))) (λ e. inr (outermost_before s.graph.vertices b s.blossoms a e is))
 
-  -- the mate in the ring of a node outside it is the top
-  only_top : (a e c : ℕ) → IsOutermost s a → in_ring b.ring a ≡ false → s.mate a ≡ Some e → IsMate s a e c → in_ring b.ring c ≡ true → c ≡ top
-  only_top a e c is out has w in_it =
-      ⊎_elim (λ same. same) (λ other. absurd (both_ways (in_ring b.ring a) out (h.mated_inside c e a in_it other w.back (mate_turned s a e c is has w)))) (cases_eq c top)
+  -- the mate in the ring of a node outside it is the base
+  only_base : (a e c : ℕ) → IsOutermost s a → in_ring b.ring a ≡ false → s.mate a ≡ Some e → IsMate s a e c → in_ring b.ring c ≡ true → c ≡ base
+  only_base a e c is out has w in_it =
+      ⊎_elim (λ same. same) (λ other. absurd (both_ways (in_ring b.ring a) out (h.mated_inside c e a in_it other w.back (mate_turned s a e c is has w)))) (cases_eq c base)
 
   lift_differs : (a c : ℕ) → IsOutermost s a → a ≢ c → a ≢ lift c
   lift_differs a c is ne = by_test (in_ring b.ring c) (λ e q. outer_differs a is (q ∙ lift_in c e)) (λ e q. ne (q ∙ lift_out c e))
 
-  mate_here : t.mate b.node ≡ s.mate top
-  mate_here = put_here s.mate b.node (s.mate top)
+  mate_here : t.mate b.node ≡ s.mate base
+  mate_here = put_here s.mate b.node (s.mate base)
 
   mate_else : (a : ℕ) → a ≢ b.node → t.mate a ≡ s.mate a
-  mate_else a ne = put_other s.mate b.node (s.mate top) a ne
+  mate_else a ne = put_other s.mate b.node (s.mate base) a ne
 
   label_else : (a : ℕ) → a ≢ b.node → t.label a ≡ s.label a
   label_else a ne = put_other s.label b.node Outer a ne
@@ -161,49 +161,49 @@ module _ (s : State) (b : Blossom) (top : ℕ) (depth : ℕ → ℕ) (h : Shrink
     tight = slack_after e w.edge ∙ w.tight;
     outer = outer_after c w.outer;
     back = by_test (in_ring b.ring c)
-        (λ r. ap t.mate (lift_in c r) ∙ mate_here ∙ ap s.mate (sym (only_top a e c is out has w r)) ∙ w.back)
+        (λ r. ap t.mate (lift_in c r) ∙ mate_here ∙ ap s.mate (sym (only_base a e c is out has w r)) ∙ w.back)
         (λ r. ap t.mate (lift_out c r) ∙ mate_else c (outer_differs c w.outer) ∙ w.back);
   }
 
-  -- the mate of the top becomes the new node's
-  top_mate_after : (e c : ℕ) → s.mate top ≡ Some e → IsMate s top e c → IsMate t b.node e c
-  top_mate_after e c has w =
-      let out : in_ring b.ring c ≡ false = h.top_mated_outside e c has w in
+  -- the mate of the base becomes the new node's
+  base_mate_after : (e c : ℕ) → s.mate base ≡ Some e → IsMate s base e c → IsMate t b.node e c
+  base_mate_after e c has w =
+      let out : in_ring b.ring c ≡ false = h.base_mated_outside e c has w in
       record {
         edge = w.edge;
-        joins = subst (λ x. Joins s.graph (b ∷ s.blossoms) e b.node x) (lift_out c out) (subst (λ x. Joins s.graph (b ∷ s.blossoms) e x (lift c)) (lift_in top h.top_in) (joins_lift e top c w.edge w.joins));
+        joins = subst (λ x. Joins s.graph (b ∷ s.blossoms) e b.node x) (lift_out c out) (subst (λ x. Joins s.graph (b ∷ s.blossoms) e x (lift c)) (lift_in base h.base_in) (joins_lift e base c w.edge w.joins));
         different = λ q. outer_differs c w.outer (sym q);
         tight = slack_after e w.edge ∙ w.tight;
         outer = still_outer c w.outer out;
         back = mate_else c (outer_differs c w.outer) ∙ w.back;
       }
 
-  -- the new node has the rank of the top
+  -- the new node has the rank of the base
   abbrev pub deeper : ℕ → ℕ
-  deeper = put depth b.node (depth top)
+  deeper = put depth b.node (depth base)
 
-  deeper_new : deeper b.node ≡ depth top
-  deeper_new = put_here depth b.node (depth top)
+  deeper_new : deeper b.node ≡ depth base
+  deeper_new = put_here depth b.node (depth base)
 
   deeper_old : (a : ℕ) → a ≢ b.node → deeper a ≡ depth a
-  deeper_old a ne = put_other depth b.node (depth top) a ne
+  deeper_old a ne = put_other depth b.node (depth base) a ne
 
   label_lift : (a : ℕ) → IsOutermost s a → s.label a ≡ Outer → t.label (lift a) ≡ Outer
   label_lift a is lab = by_test (in_ring b.ring a) (λ e. ap t.label (lift_in a e) ∙ label_here) (λ e. ap t.label (lift_out a e) ∙ label_else a (outer_differs a is) ∙ lab)
 
   falls_after : (a c : ℕ) → a ≢ b.node → IsOutermost s c → depth c < depth a → deeper (lift c) < deeper a
   falls_after a c ne is lower = by_test (in_ring b.ring c)
-      (λ r. let e : deeper (lift c) ≡ depth top = ap deeper (lift_in c r) ∙ deeper_new in omega (arith, e, h.top_least c r, deeper_old a ne, lower))
+      (λ r. let e : deeper (lift c) ≡ depth base = ap deeper (lift_in c r) ∙ deeper_new in omega (arith, e, h.base_least c r, deeper_old a ne, lower))
       (λ r. let e : deeper (lift c) ≡ depth c = ap deeper (lift_out c r) ∙ deeper_old c (outer_differs c is) in omega (arith, e, deeper_old a ne, lower))
 
   rises_after : (a e c : ℕ) → IsOutermost s a → in_ring b.ring a ≡ false → s.mate a ≡ Some e → IsMate s a e c → depth a < depth c → deeper a < deeper (lift c)
   rises_after a e c is out has w lower = by_test (in_ring b.ring c)
-      (λ r. let same : deeper (lift c) ≡ depth c = ap deeper (lift_in c r) ∙ deeper_new ∙ ap depth (sym (only_top a e c is out has w r)) in omega (arith, same, deeper_old a (outer_differs a is), lower))
+      (λ r. let same : deeper (lift c) ≡ depth c = ap deeper (lift_in c r) ∙ deeper_new ∙ ap depth (sym (only_base a e c is out has w r)) in omega (arith, same, deeper_old a (outer_differs a is), lower))
       (λ r. let same : deeper (lift c) ≡ depth c = ap deeper (lift_out c r) ∙ deeper_old c (outer_differs c w.outer) in omega (arith, same, deeper_old a (outer_differs a is), lower))
 
-  -- a mate of another label than outer is not the top
+  -- a mate of another label than outer is not the base
   outside : (a e c : ℕ) → IsOutermost s a → in_ring b.ring a ≡ false → s.mate a ≡ Some e → IsMate s a e c → s.label c ≢ Outer → in_ring b.ring c ≡ false
-  outside a e c is out has w other = false_from_ne_true (in_ring b.ring c) (λ r. other (ap s.label (only_top a e c is out has w r) ∙ h.top_outer))
+  outside a e c is out has w other = false_from_ne_true (in_ring b.ring c) (λ r. other (ap s.label (only_base a e c is out has w r) ∙ h.base_outer))
 
   module _ (st : IsSearchState s depth) where
     -- what the label says of a node that is left
@@ -251,14 +251,14 @@ module _ (s : State) (b : Blossom) (top : ℕ) (depth : ℕ → ℕ) (h : Shrink
               ap t.label (sym it ∙ lift_out was.0 away) ∙ label_else was.0 (outer_differs was.0 was.1.outer) ∙ says;
         }
 
-    new_label : IsOutermost s top → FitsLabel t deeper b.node
+    new_label : IsOutermost s base → FitsLabel t deeper b.node
     new_label is = record {
       outer = λ lab e c has_mate w.
-          let has : s.mate top ≡ Some e = sym mate_here ∙ has_mate in
-          let was = st.mates top e is has in
-          let now = top_mate_after e was.0 has was.1 in
+          let has : s.mate base ≡ Some e = sym mate_here ∙ has_mate in
+          let was = st.mates base e is has in
+          let now = base_mate_after e was.0 has was.1 in
           let same : was.0 ≡ c = joins_unique s.graph (b ∷ s.blossoms) e b.node was.0 c now.joins w.joins now.different in
-          let says = (st.labels top is).outer h.top_outer e was.0 has was.1 in
+          let says = (st.labels base is).outer h.base_outer e was.0 has was.1 in
           let other : was.0 ≢ b.node = outer_differs was.0 was.1.outer in
           subst (λ x. (t.label x ≡ Inner) × (deeper x < deeper b.node)) same (label_else was.0 other ∙ says.0, omega (arith, deeper_old was.0 other, deeper_new, says.1));
       inner = λ lab. outer_not_inner (sym label_here ∙ lab);
@@ -267,7 +267,7 @@ module _ (s : State) (b : Blossom) (top : ℕ) (depth : ℕ → ℕ) (h : Shrink
 
     pub shrink_keeps : IsSearchState t deeper
     shrink_keeps =
-        let top_is : IsOutermost s top = circuit_outer s.graph.vertices s.blossoms b.ring top h.nested.0.circuit h.top_in in
+        let base_is : IsOutermost s base = circuit_outer s.graph.vertices s.blossoms b.ring base h.nested.0.circuit h.base_in in
         record {
           rings = (h.ring, st.rings);
           tight_rings = (tight_ring b.ring h.tight, tight_rings s.blossoms st.tight_rings);
@@ -275,16 +275,16 @@ module _ (s : State) (b : Blossom) (top : ℕ) (depth : ℕ → ℕ) (h : Shrink
           duals = (subst (λ z. pos 0 ≤ℤ z) (sym (put_here s.dual b.node (pos 0))) (omega (arith, ints)), low_at s.blossoms s.dual b.node (pos 0) new_name st.duals);
           mates = λ a e is has_mate. ⊎_elim
               (λ new.
-              let has : s.mate top ≡ Some e = sym mate_here ∙ ap t.mate (sym new) ∙ has_mate in
-              let was = st.mates top e top_is has in
-              (was.0, subst (λ x. IsMate t x e was.0) (sym new) (top_mate_after e was.0 has was.1)))
+              let has : s.mate base ≡ Some e = sym mate_here ∙ ap t.mate (sym new) ∙ has_mate in
+              let was = st.mates base e base_is has in
+              (was.0, subst (λ x. IsMate t x e was.0) (sym new) (base_mate_after e was.0 has was.1)))
               (λ old.
               let has : s.mate a ≡ Some e = sym (mate_else a (outer_differs a old.0)) ∙ has_mate in
               let was = st.mates a e old.0 has in
               (lift was.0, mate_after a e was.0 old.0 old.1 has was.1))
               (outer_before a is);
           labels = λ a is. ⊎_elim
-              (λ new. subst (FitsLabel t deeper) (sym new) (new_label top_is))
+              (λ new. subst (FitsLabel t deeper) (sym new) (new_label base_is))
               (λ old. old_label a old.0 old.1)
               (outer_before a is);
         }

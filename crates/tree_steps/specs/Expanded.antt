@@ -43,11 +43,11 @@ labels_up l (a ∷ []) = l
 labels_up l (a ∷ (b ∷ rest)) = labels_up (put (put l a.node Outer) b.node Inner) rest
 
 -- the inner node x hangs by an edge under the first pair, the second one of each pair by its own under the next one, and
--- the last by the edge `top`
+-- the last by the edge `parent`
 abbrev pub parents_up : (ℕ → Option ℕ) → ℕ → ℕ → ℕ → List Link → ℕ → Option ℕ
-parents_up p x edge top [] = put p x (Some top)
-parents_up p x edge top (a ∷ []) = p
-parents_up p x edge top (a ∷ (b ∷ rest)) = parents_up (put p x (Some edge)) b.node b.edge top rest
+parents_up p x edge parent [] = put p x (Some parent)
+parents_up p x edge parent (a ∷ []) = p
+parents_up p x edge parent (a ∷ (b ∷ rest)) = parents_up (put p x (Some edge)) b.node b.edge parent rest
 
 -- where the way up ends
 abbrev pub end_of : ℕ → List Link → ℕ
@@ -70,10 +70,10 @@ parents_down p edge last (a ∷ (b ∷ rest)) = parents_down (put p a.node (Some
 
 -- the way comes into the tree: up from the base, or down to it
 abbrev pub hung_up : State → ℕ → ℕ → ℕ → List Link → State
-hung_up s base edge top ls = record s { label = labels_up s.label ls; parent = parents_up s.parent base edge top ls }
+hung_up s base edge parent ls = record s { label = labels_up s.label ls; parent = parents_up s.parent base edge parent ls }
 
 abbrev pub hung_down : State → ℕ → ℕ → List Link → State
-hung_down s base top ls = record s { label = labels_down s.label ls; parent = parents_down s.parent top base ls }
+hung_down s base parent ls = record s { label = labels_down s.label ls; parent = parents_down s.parent parent base ls }
 
 -- The state after an expand: the blossom of this node is gone, its circuit lies open, and what is not on the circuit
 -- stays as it was.

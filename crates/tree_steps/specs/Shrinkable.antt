@@ -8,30 +8,30 @@ use Rattle.alt_forest.specs.Trees.{root_of}
 use Rattle.alt_forest.specs.State.{State, IsOutermost, IsTight, IsRing, IsMate, IsSearchState}
 use Rattle.tree_steps.specs.Shrunk.{shrunk_state}
 
--- a circuit of tight edges: its top is outer and nearest to the root, and its other nodes are mated inside
-pub record IsShrinkable (s : State) (depth : ℕ → ℕ) (links : List Link) (top : ℕ) : Type 0 where
+-- a circuit of tight edges: its base is outer and nearest to the root, and its other nodes are mated inside
+pub record IsShrinkable (s : State) (depth : ℕ → ℕ) (links : List Link) (base : ℕ) : Type 0 where
   pub circuit : IsCircuit s.graph.vertices s.blossoms links
   pub ring : IsRing s.graph s.blossoms links
   pub tight : AllByRecursion (λ (l : Link). IsTight s l.edge) links
-  pub top_in : in_ring links top ≡ true
-  pub top_outer : s.label top ≡ Outer
-  pub top_least : (c : ℕ) → in_ring links c ≡ true → depth top ≤ depth c
-  pub mated : (c : ℕ) → in_ring links c ≡ true → c ≢ top → (f : ℕ) × (s.mate c ≡ Some f)
-  pub mated_inside : (c f d : ℕ) → in_ring links c ≡ true → c ≢ top → s.mate c ≡ Some f → IsMate s c f d → in_ring links d ≡ true
-  pub top_mated_outside : (f d : ℕ) → s.mate top ≡ Some f → IsMate s top f d → in_ring links d ≡ false
+  pub base_in : in_ring links base ≡ true
+  pub base_outer : s.label base ≡ Outer
+  pub base_least : (c : ℕ) → in_ring links c ≡ true → depth base ≤ depth c
+  pub mated : (c : ℕ) → in_ring links c ≡ true → c ≢ base → (f : ℕ) × (s.mate c ≡ Some f)
+  pub mated_inside : (c f d : ℕ) → in_ring links c ≡ true → c ≢ base → s.mate c ≡ Some f → IsMate s c f d → in_ring links d ≡ true
+  pub base_mated_outside : (f d : ℕ) → s.mate base ≡ Some f → IsMate s base f d → in_ring links d ≡ false
 
 -- a circuit that can be shrunk in a state of a search
-pub record CanClose (s : State) (links : List Link) (top : ℕ) : Type 0 where
+pub record CanClose (s : State) (links : List Link) (base : ℕ) : Type 0 where
   pub depth : ℕ → ℕ
   pub state : IsSearchState s depth
-  pub shrinkable : IsShrinkable s depth links top
+  pub shrinkable : IsShrinkable s depth links base
 
 -- the state after a shrink: a circuit has become one node
 pub record IsShrunk (before after : State) (node : ℕ) : Type 0 where
   pub ring : List Link
-  pub top : ℕ
-  pub can : CanClose before ring top
-  pub state : after ≡ shrunk_state before (made_of before.blossoms ring node) top
+  pub base : ℕ
+  pub can : CanClose before ring base
+  pub state : after ≡ shrunk_state before (made_of before.blossoms ring node) base
 
 -- two different outer nodes of one tree
 pub record AreEnds (s : State) (a b : ℕ) : Type 0 where

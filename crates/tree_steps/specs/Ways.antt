@@ -21,8 +21,8 @@ pub record IsHop (s : State) (depth : ℕ → ℕ) (x : ℕ) (h : Hop) : Type 0 
   pub lowest : depth h.up < depth h.inner
 
 abbrev pub IsWay : State → (ℕ → ℕ) → ℕ → List Hop → ℕ → Type 0
-IsWay s depth x [] top = x ≡ top
-IsWay s depth x (h ∷ hs) top = IsHop s depth x h × IsWay s depth h.up hs top
+IsWay s depth x [] base = x ≡ base
+IsWay s depth x (h ∷ hs) base = IsHop s depth x h × IsWay s depth h.up hs base
 
 -- the links of a way, its last node left out
 abbrev pub links_up : ℕ → List Hop → List Link
@@ -35,7 +35,7 @@ pub record HasHop (s : State) (x : ℕ) : Type 0 where
   pub hop : Hop
   pub is : IsHop s depth x hop
 
-pub record HasWay (s : State) (x top : ℕ) : Type 0 where
+pub record HasWay (s : State) (x base : ℕ) : Type 0 where
   pub depth : ℕ → ℕ
   pub hops : List Hop
-  pub way : IsWay s depth x hops top
+  pub way : IsWay s depth x hops base

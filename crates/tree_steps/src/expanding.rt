@@ -22,14 +22,22 @@ use std::sync::ledger::Ledger;
 use weighted_graph::Graph;
 
 /// The node of a blossom's circuit that holds the end of an edge that leaves the blossom.
-fn child_at(search: &Search, b: NodeId, e: EdgeId) -> NodeId
+fn child_at<L: Ledger>(
+    search: &Search,
+    graph: &Graph,
+    b: NodeId,
+    e: EdgeId,
+    steps: &mut Steps<L>,
+) -> NodeId
     requires shape { HasShape search.now }
+    requires same { graph.now ≡ search.now.graph }
     requires blossom { holds (names_of search.now.arena.blossoms) b ≡ true }
     requires edge { IsEdgeNumber search.now.graph e }
     requires leaves { (node_u search.now.graph search.now.arena.blossoms e ≡ b) ⊎ (node_v search.now.graph search.now.arena.blossoms e ≡ b) }
-    ensures { result ≡ child_at search.now.graph search.now.arena.blossoms b e }
+    ensures child { result ≡ child_at search.now.graph search.now.arena.blossoms b e }
+    ensures step { steps.new ≡ steps.old + 1 }
 {
-    let (u, v, _) = search.graph.edge(e);
+    let (u, v, _) = graph.look(e, steps);
     if search.arena.outermost(u).number() == b.number() {
         return search.arena.child_holding(b, u);
     }
@@ -54,19 +62,19 @@ fn open_at(search: &mut Search, b: NodeId, base: NodeId, mate: EdgeId)
     set_edge(&mut search.mates, base, Some(mate));
 }
 
-/// Takes into the tree the way of even length along the circuit between its base and its top, which
+/// Takes into the tree the way of even length along the circuit between its base and its entry, which
 /// hangs by the edge `parent`. The circuit's first node is behind the base, by the edge `first`.
-fn take_even_way(search: &mut Search, base: NodeId, top: NodeId, first: EdgeId, parent: EdgeId)
+fn take_even_way(search: &mut Search, base: NodeId, entry: NodeId, first: EdgeId, parent: EdgeId)
     requires shape { HasShape search.old }
     requires even { length search.old.circuit.items % 2 ≡ 0 }
     requires nodes { AllByRecursion (λ (l : Link). l.node ≤ node_limit search.old.graph.vertices) search.old.circuit.items }
     requires base { base ≤ node_limit search.old.graph.vertices }
-    ensures down { (place : ℕ) → place ≡ length (before (nodes_of search.old.circuit.items) top) → place % 2 ≡ 0 → state_of search.new ≡ hung_down (state_of search.old) base parent (drop place search.old.circuit.items) }
-    ensures up { (place : ℕ) → place ≡ length (before (nodes_of search.old.circuit.items) top) → place % 2 ≡ 1 → state_of search.new ≡ hung_up (state_of search.old) base first parent (take (place + 1) search.old.circuit.items) }
+    ensures down { (place : ℕ) → place ≡ length (before (nodes_of search.old.circuit.items) entry) → place % 2 ≡ 0 → state_of search.new ≡ hung_down (state_of search.old) base parent (drop place search.old.circuit.items) }
+    ensures up { (place : ℕ) → place ≡ length (before (nodes_of search.old.circuit.items) entry) → place % 2 ≡ 1 → state_of search.new ≡ hung_up (state_of search.old) base first parent (take (place + 1) search.old.circuit.items) }
     ensures rest { search.new ≡ record search.old { labels = search.new.labels; parents = search.new.parents } }
     ensures shape { HasShape search.new }
 {
-    let place = place_of(&search.circuit, top);
+    let place = place_of(&search.circuit, entry);
     if place % 2 == 0 {
         climb_down(
             &mut search.labels,
@@ -90,8 +98,9 @@ fn take_even_way(search: &mut Search, base: NodeId, top: NodeId, first: EdgeId, 
 /// Expands `b`, an inner blossom of dual 0, in a search over `graph` (chapters 24 and 26): the blossom is
 /// taken away and its circuit lies open. The way of even length along it between the node that holds the
 /// end of the blossom's mate and the node that holds the end of its parent comes into the tree, and the
-/// circuit's other nodes are mates two by two and labelled out. It counts one step, takes time linear in
-/// the blossom's vertices and no memory, and there is no error.
+/// circuit's other nodes are mates two by two and labelled out. It looks at the edges of its mate and of
+/// its parent, counts one step for the event, takes time linear in the blossom's vertices and no memory,
+/// and there is no error.
 pub fn expand<L: Ledger>(search: &mut Search, graph: &Graph, b: NodeId, steps: &mut Steps<L>)
     requires sound { IsSound search.old }
     requires same { graph.now ≡ search.old.graph }
@@ -102,15 +111,15 @@ pub fn expand<L: Ledger>(search: &mut Search, graph: &Graph, b: NodeId, steps: &
     ensures trees { tree_count (state_of search.new) ≡ tree_count (state_of search.old) }
     ensures exposed { exposed_count (state_of search.new) ≡ exposed_count (state_of search.old) }
     ensures falls { measure (state_of search.new) < measure (state_of search.old) }
-    ensures step { steps.new ≡ steps.old + 1 }
+    ensures step { steps.new ≡ steps.old + 3 }
+    ensures most { steps.new ≤ steps.old + 1 + length graph.now.edges }
 {
-    let _ = graph;
     steps.tick();
     let mate = or_none(search.mate(b));
     let parent = or_none(search.parent(b));
-    let base = child_at(search, b, mate);
-    let top = child_at(search, b, parent);
+    let base = child_at(search, graph, b, mate, steps);
+    let entry = child_at(search, graph, b, parent, steps);
     let first = fill_round(search, b, base);
     open_at(search, b, base, mate);
-    take_even_way(search, base, top, first, parent);
+    take_even_way(search, base, entry, first, parent);
 }

@@ -47,16 +47,16 @@ pub(crate) fn hop_from(search: &Search, node: NodeId) -> Hop
 }
 
 /// Puts the links of the way up from an outer node to another one behind the circuit.
-pub(crate) fn push_way(search: &mut Search, from: NodeId, top: NodeId)
+pub(crate) fn push_way(search: &mut Search, from: NodeId, base: NodeId)
     requires sound { IsSound search.old }
-    requires way { HasWay (state_of search.old) from top }
-    requires room { (depth : ℕ → ℕ) (hops : List Hop) → IsWay (state_of search.old) depth from hops top → vec_len search.old.circuit + length (links_up from hops) ≤ vec_capacity search.old.circuit }
-    ensures circuit { (depth : ℕ → ℕ) (hops : List Hop) → IsWay (state_of search.old) depth from hops top → search.new.circuit.items ≡ search.old.circuit.items ++ links_up from hops }
+    requires way { HasWay (state_of search.old) from base }
+    requires room { (depth : ℕ → ℕ) (hops : List Hop) → IsWay (state_of search.old) depth from hops base → vec_len search.old.circuit + length (links_up from hops) ≤ vec_capacity search.old.circuit }
+    ensures circuit { (depth : ℕ → ℕ) (hops : List Hop) → IsWay (state_of search.old) depth from hops base → search.new.circuit.items ≡ search.old.circuit.items ++ links_up from hops }
     ensures rest { search.new ≡ record search.old { circuit = search.new.circuit } }
     ensures capacity { vec_capacity search.new.circuit ≡ vec_capacity search.old.circuit }
 {
     let mut node = from;
-    while node.number() != top.number() {
+    while node.number() != base.number() {
         let hop = hop_from(search, node);
         search.circuit.push_reserved(Link {
             node,
@@ -72,18 +72,18 @@ pub(crate) fn push_way(search: &mut Search, from: NodeId, top: NodeId)
 
 /// Puts the nodes of the way up from an outer node to another one behind the circuit, each with the edge
 /// that led to it, the first one with the given edge. It answers the edge that leads to the other node.
-pub(crate) fn push_turned(search: &mut Search, from: NodeId, top: NodeId, first: EdgeId) -> EdgeId
+pub(crate) fn push_turned(search: &mut Search, from: NodeId, base: NodeId, first: EdgeId) -> EdgeId
     requires sound { IsSound search.old }
-    requires way { HasWay (state_of search.old) from top }
-    requires room { (depth : ℕ → ℕ) (hops : List Hop) → IsWay (state_of search.old) depth from hops top → vec_len search.old.circuit + length (links_up from hops) ≤ vec_capacity search.old.circuit }
-    ensures circuit { (depth : ℕ → ℕ) (hops : List Hop) → IsWay (state_of search.old) depth from hops top → search.new.circuit.items ≡ search.old.circuit.items ++ shifted first (links_up from hops) }
-    ensures last { (depth : ℕ → ℕ) (hops : List Hop) → IsWay (state_of search.old) depth from hops top → result ≡ last_edge first (links_up from hops) }
+    requires way { HasWay (state_of search.old) from base }
+    requires room { (depth : ℕ → ℕ) (hops : List Hop) → IsWay (state_of search.old) depth from hops base → vec_len search.old.circuit + length (links_up from hops) ≤ vec_capacity search.old.circuit }
+    ensures circuit { (depth : ℕ → ℕ) (hops : List Hop) → IsWay (state_of search.old) depth from hops base → search.new.circuit.items ≡ search.old.circuit.items ++ shifted first (links_up from hops) }
+    ensures last { (depth : ℕ → ℕ) (hops : List Hop) → IsWay (state_of search.old) depth from hops base → result ≡ last_edge first (links_up from hops) }
     ensures rest { search.new ≡ record search.old { circuit = search.new.circuit } }
     ensures capacity { vec_capacity search.new.circuit ≡ vec_capacity search.old.circuit }
 {
     let mut node = from;
     let mut edge = first;
-    while node.number() != top.number() {
+    while node.number() != base.number() {
         let hop = hop_from(search, node);
         search.circuit.push_reserved(Link { node, edge });
         search.circuit.push_reserved(Link {

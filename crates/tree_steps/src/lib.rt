@@ -10,8 +10,6 @@ mod growth;
 mod hops;
 mod pairs;
 mod shrinking;
-#[cfg(test)]
-mod tests;
 
 pub use expanding::expand;
 pub use growth::grow;

@@ -48,21 +48,21 @@ fn label_pair(labels: &mut Vec<Label>, outer: NodeId, inner: NodeId)
 }
 
 /// Takes pairs into a tree upwards from an inner node, which hangs by the edge `first` under the first
-/// pair. The last node hangs by the edge `top`.
+/// pair. The last node hangs by the edge `parent`.
 pub(crate) fn climb_up(
     labels: &mut Vec<Label>,
     parents: &mut Vec<Option<EdgeId>>,
     links: &[Link],
     base: NodeId,
     first: EdgeId,
-    top: EdgeId,
+    parent: EdgeId,
 )
     requires even { length links.now % 2 ≡ 0 }
     requires labels { AllByRecursion (λ (l : Link). l.node < vec_len labels.old) links.now }
     requires parents { AllByRecursion (λ (l : Link). l.node < vec_len parents.old) links.now }
     requires base { base < vec_len parents.old }
     ensures labels { label_at labels.new.items ≡ labels_up (label_at labels.old.items) links.now }
-    ensures parents { edge_in parents.new.items ≡ parents_up (edge_in parents.old.items) base first top links.now }
+    ensures parents { edge_in parents.new.items ≡ parents_up (edge_in parents.old.items) base first parent links.now }
     ensures labels_len { vec_len labels.new ≡ vec_len labels.old }
     ensures parents_len { vec_len parents.new ≡ vec_len parents.old }
 {
@@ -76,27 +76,27 @@ pub(crate) fn climb_up(
         edge = inner.edge;
         left = rest;
     }
-    set_edge(parents, node, Some(top));
+    set_edge(parents, node, Some(parent));
 }
 
-/// Takes pairs into a tree downwards to an inner node. The first one hangs by the edge `top`.
+/// Takes pairs into a tree downwards to an inner node. The first one hangs by the edge `parent`.
 pub(crate) fn climb_down(
     labels: &mut Vec<Label>,
     parents: &mut Vec<Option<EdgeId>>,
     links: &[Link],
     base: NodeId,
-    top: EdgeId,
+    parent: EdgeId,
 )
     requires even { length links.now % 2 ≡ 0 }
     requires labels { AllByRecursion (λ (l : Link). l.node < vec_len labels.old) links.now }
     requires parents { AllByRecursion (λ (l : Link). l.node < vec_len parents.old) links.now }
     requires base { base < vec_len parents.old }
     ensures labels { label_at labels.new.items ≡ labels_down (label_at labels.old.items) links.now }
-    ensures parents { edge_in parents.new.items ≡ parents_down (edge_in parents.old.items) top base links.now }
+    ensures parents { edge_in parents.new.items ≡ parents_down (edge_in parents.old.items) parent base links.now }
     ensures labels_len { vec_len labels.new ≡ vec_len labels.old }
     ensures parents_len { vec_len parents.new ≡ vec_len parents.old }
 {
-    let mut edge = top;
+    let mut edge = parent;
     let mut left = links;
     while let [inner, outer, rest @ ..] = left {
         label_pair(labels, outer.node, inner.node);

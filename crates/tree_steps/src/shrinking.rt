@@ -1,12 +1,13 @@
 ghost use Rattle.std.specs.Prelude.{◌≡◌, ◌≢◌, ◌<◌, ◌≤◌, ◌+◌, ℕ, true, Some, length};
 ghost use Rattle.graph_theory.specs.Graph.{IsEdgeNumber, edge_of};
-ghost use Rattle.blossom_arena.specs.Family.{outermost, made_of};
+ghost use Rattle.blossom_arena.specs.Family.{outermost, made_of, ring_of};
 ghost use Rattle.alt_forest.specs.declared.label.Label.TheVariants.{Outer, Out};
 ghost use Rattle.alt_forest.specs.State.{IsOutermost};
 ghost use Rattle.alt_forest.specs.Trees.{path_of, root_of, first_common};
 ghost use Rattle.alt_forest.specs.Counts.{tree_count, exposed_count, measure};
 ghost use Rattle.alt_forest.specs.Events.{CanShrink};
 ghost use Rattle.alt_forest.specs.Searches.{IsSound, state_of, label_at};
+ghost use Rattle.tree_steps.specs.Circuits.{closed_by};
 ghost use Rattle.tree_steps.specs.Shrunk.{shrunk_state};
 ghost use Rattle.tree_steps.specs.Shrinkable.{AreEnds, CanClose, IsShrunk};
 
@@ -17,15 +18,15 @@ use mb_base::{EdgeId, Steps};
 use std::sync::ledger::Ledger;
 use weighted_graph::Graph;
 
-/// Makes one outer node of the circuit, which has the mate of its top.
-fn close(search: &mut Search, top: NodeId) -> NodeId
+/// Makes one outer node of the circuit, which has the mate of its base.
+fn close(search: &mut Search, base: NodeId) -> NodeId
     requires sound { IsSound search.old }
-    requires can { CanClose (state_of search.old) search.old.circuit.items top }
-    ensures state { state_of search.new ≡ shrunk_state (state_of search.old) (made_of search.old.arena.blossoms search.old.circuit.items result) top }
+    requires can { CanClose (state_of search.old) search.old.circuit.items base }
+    ensures state { state_of search.new ≡ shrunk_state (state_of search.old) (made_of search.old.arena.blossoms search.old.circuit.items result) base }
     ensures rest { search.new ≡ record search.old { arena = search.new.arena; labels = search.new.labels; mates = search.new.mates } }
     ensures sound { IsSound search.new }
 {
-    let mate = search.mate(top);
+    let mate = search.mate(base);
     let node = search.arena.shrink(&search.circuit);
     set_label(&mut search.labels, node, Label::Outer);
     set_edge(&mut search.mates, node, mate);
@@ -57,6 +58,9 @@ pub fn shrink<L: Ledger>(
     requires same { graph.now ≡ search.old.graph }
     requires can { CanShrink (state_of search.old) e }
     ensures shrunk { IsShrunk (state_of search.old) (state_of search.new) result }
+    ensures circuit { ring_of search.new.arena.blossoms result ≡ closed_by (state_of search.old) e }
+    ensures holds_u { outermost search.new.arena.blossoms (edge_of graph.now e).u ≡ result }
+    ensures holds_v { outermost search.new.arena.blossoms (edge_of graph.now e).v ≡ result }
     ensures rest { search.new ≡ record search.old { arena = search.new.arena; labels = search.new.labels; mates = search.new.mates; circuit = search.new.circuit } }
     ensures sound { IsSound search.new }
     ensures trees { tree_count (state_of search.new) ≡ tree_count (state_of search.old) }
@@ -69,7 +73,7 @@ pub fn shrink<L: Ledger>(
     let (u, v, _) = graph.look(e, steps);
     let a = search.arena.outermost(u);
     let b = search.arena.outermost(v);
-    let top = meeting_node(search, a, b);
-    fill_circuit(search, a, b, top, e);
-    close(search, top)
+    let base = meeting_node(search, a, b);
+    fill_circuit(search, a, b, base, e);
+    close(search, base)
 }

@@ -3,6 +3,7 @@ use Rattle.alt_forest.specs.Searches.{HasShape, state_of, edge_in}
 use Rattle.alt_forest.specs.State.{IsSearchState}
 use Rattle.alt_forest.specs.Trees.{path_of}
 use Rattle.augment.proofs.Flipped.{IsLoose}
+use Rattle.augment.proofs.Changed.{IsChanged}
 use Rattle.augment.proofs.flips.turn.Given as goal
 
 abbrev pub invariant-loop-mate : goal.invariant-loop-mate
@@ -13,6 +14,7 @@ invariant-loop-mate l = record {
   state : IsSearchState (state_of l.fn.search) depth;
   low : ℕ;
   loose : IsLoose (state_of l.fn.search) depth l.fn.far (edge_in l.search.mates.items) low l.edge l.node;
+  changed : IsChanged (state_of l.fn.search) depth l.fn.e l.fn.near l.fn.far (edge_in l.search.mates.items) l.edge l.node;
 }
 
 abbrev pub decreases-loop-mate : goal.decreases-loop-mate

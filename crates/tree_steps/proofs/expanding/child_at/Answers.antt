@@ -9,21 +9,24 @@ use Rattle.tree_steps.proofs.Holders.{end_member, u_vertex, v_vertex, other_end_
 use Rattle.tree_steps.proofs.expanding.child_at.Goals as goal
 
 pub child_holding-requires-clause-inside : goal.child_holding-requires-clause-inside
-child_holding-requires-clause-inside c =
+child_holding-requires-clause-inside g c =
     let f = c.args.search.now in
     let shape = c.requires.shape in
+    let from = c.look-u.ensures.from ∙ ap (λ k. (edge_of k c.args.e).u) c.requires.same in
     let here : node_u f.graph f.arena.blossoms c.args.e ≡ c.args.b =
-    ap (outermost f.arena.blossoms) (sym c.edge-u.ensures.from) ∙ sym c.outermost.ensures.node ∙ sym c.number.ensures ∙ c.if-number.true ∙ c.number-2.ensures in
-    ap (holds (members_of f.arena.blossoms c.args.b)) c.edge-u.ensures.from
+    ap (outermost f.arena.blossoms) (sym from) ∙ sym c.outermost.ensures.node ∙ sym c.number.ensures ∙ c.if-number.true ∙ c.number-2.ensures in
+    ap (holds (members_of f.arena.blossoms c.args.b)) from
     ∙ end_member f.graph.vertices f.arena.blossoms c.args.b (edge_of f.graph c.args.e).u (nested_of f shape) (u_vertex f.graph c.args.e shape.graph.graph c.requires.edge) here
 
 pub child_holding-requires-2-clause-inside : goal.child_holding-requires-2-clause-inside
-child_holding-requires-2-clause-inside c =
+child_holding-requires-2-clause-inside g c =
     let f = c.args.search.now in
     let shape = c.requires.shape in
+    let from = c.look-u.ensures.from ∙ ap (λ k. (edge_of k c.args.e).u) c.requires.same in
+    let to = c.look-u.ensures.to ∙ ap (λ k. (edge_of k c.args.e).v) c.requires.same in
     let elsewhere : eqb (node_u f.graph f.arena.blossoms c.args.e) c.args.b ≡ false =
     ne_eqb (node_u f.graph f.arena.blossoms c.args.e) c.args.b
-    (λ q. c.if-number.false (c.number.ensures ∙ c.outermost.ensures.node ∙ ap (outermost f.arena.blossoms) c.edge-u.ensures.from ∙ q ∙ sym c.number-2.ensures)) in
+    (λ q. c.if-number.false (c.number.ensures ∙ c.outermost.ensures.node ∙ ap (outermost f.arena.blossoms) from ∙ q ∙ sym c.number-2.ensures)) in
     let here : node_v f.graph f.arena.blossoms c.args.e ≡ c.args.b = other_end_in f.graph f.arena.blossoms c.args.b c.args.e elsewhere c.requires.leaves in
-    ap (holds (members_of f.arena.blossoms c.args.b)) c.edge-u.ensures.to
+    ap (holds (members_of f.arena.blossoms c.args.b)) to
     ∙ end_member f.graph.vertices f.arena.blossoms c.args.b (edge_of f.graph c.args.e).v (nested_of f shape) (v_vertex f.graph c.args.e shape.graph.graph c.requires.edge) here

@@ -7,12 +7,12 @@ use Rattle.tree_steps.specs.Ways.{IsWay}
 use Rattle.tree_steps.proofs.Pushed.{IsTurnedSoFar}
 use Rattle.tree_steps.proofs.hops.push_turned.Given as goal
 
-abbrev pub invariant-loop-top : goal.invariant-loop-top
-invariant-loop-top l = record {
+abbrev pub invariant-loop-base : goal.invariant-loop-base
+invariant-loop-base l = record {
   rest : l.search ≡ record l.fn.search { circuit = l.search.circuit };
   capacity : vec_capacity l.search.circuit ≡ vec_capacity l.fn.search.circuit;
-  pushed : (depth : ℕ → ℕ) (hops : List Hop) → IsWay (state_of l.fn.search) depth l.fn.from hops l.top → IsTurnedSoFar (state_of l.fn.search) depth l.node l.top l.edge l.search.circuit.items l.fn.search.circuit.items l.fn.from l.fn.first hops;
+  pushed : (depth : ℕ → ℕ) (hops : List Hop) → IsWay (state_of l.fn.search) depth l.fn.from hops l.base → IsTurnedSoFar (state_of l.fn.search) depth l.node l.base l.edge l.search.circuit.items l.fn.search.circuit.items l.fn.from l.fn.first hops;
 }
 
-abbrev pub decreases-loop-top : goal.decreases-loop-top
-decreases-loop-top l = length (path_of (state_of l.fn.search) l.node)
+abbrev pub decreases-loop-base : goal.decreases-loop-base
+decreases-loop-base l = length (path_of (state_of l.fn.search) l.node)

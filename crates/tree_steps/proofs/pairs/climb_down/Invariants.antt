@@ -9,7 +9,7 @@ abbrev pub invariant-loop-left : goal.invariant-loop-left
 invariant-loop-left l = record {
   even : length l.left % 2 ≡ 0;
   labels : labels_down (label_at l.labels.items) l.left ≡ labels_down (label_at l.fn.labels.items) l.links;
-  parents : parents_down (edge_in l.parents.items) l.edge l.fn.base l.left ≡ parents_down (edge_in l.fn.parents.items) l.fn.top l.fn.base l.links;
+  parents : parents_down (edge_in l.parents.items) l.edge l.fn.base l.left ≡ parents_down (edge_in l.fn.parents.items) l.fn.parent l.fn.base l.links;
   label_places : AllByRecursion (λ (k : Link). k.node < vec_len l.labels) l.left;
   parent_places : AllByRecursion (λ (k : Link). k.node < vec_len l.parents) l.left;
   labels_len : vec_len l.labels ≡ vec_len l.fn.labels;

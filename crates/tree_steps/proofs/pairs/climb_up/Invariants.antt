@@ -9,7 +9,7 @@ abbrev pub invariant-loop-left : goal.invariant-loop-left
 invariant-loop-left l = record {
   even : length l.left % 2 ≡ 0;
   labels : labels_up (label_at l.labels.items) l.left ≡ labels_up (label_at l.fn.labels.items) l.links;
-  parents : parents_up (edge_in l.parents.items) l.node l.edge l.fn.top l.left ≡ parents_up (edge_in l.fn.parents.items) l.fn.base l.fn.first l.fn.top l.links;
+  parents : parents_up (edge_in l.parents.items) l.node l.edge l.fn.parent l.left ≡ parents_up (edge_in l.fn.parents.items) l.fn.base l.fn.first l.fn.parent l.links;
   label_places : AllByRecursion (λ (k : Link). k.node < vec_len l.labels) l.left;
   parent_places : AllByRecursion (λ (k : Link). k.node < vec_len l.parents) l.left;
   place : l.node < vec_len l.parents;

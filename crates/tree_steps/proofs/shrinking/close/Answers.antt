@@ -11,7 +11,7 @@ use Rattle.tree_steps.proofs.shrinking.close.Goals as goal
 pub mate-mate-requires-clause-outer : goal.mate-mate-requires-clause-outer
 mate-mate-requires-clause-outer c =
     let h = c.requires.can.shrinkable in
-    circuit_outer c.args.search.now.graph.vertices c.args.search.now.arena.blossoms c.args.search.now.circuit.items c.args.top h.circuit h.top_in
+    circuit_outer c.args.search.now.graph.vertices c.args.search.now.arena.blossoms c.args.search.now.circuit.items c.args.base h.circuit h.base_in
 
 pub returns-clause-state : goal.returns-clause-state
 returns-clause-state c =
@@ -21,7 +21,7 @@ returns-clause-state c =
     let node : ℕ = c.shrink-node.result in
     let family : c.shrink-node.new.self ≡ shrunk old node items = c.shrink-node.ensures.family ∙ ap (shrunk old node) c.deref.ensures.value in
     let below : node < length old.duals = omega (arith, c.shrink-node.ensures.within, c.requires.sound.shape.family.duals.one_each) in
-    closed_is s (made_of old.blossoms items node) c.args.top _ _ _ _
+    closed_is s (made_of old.blossoms items node) c.args.base _ _ _ _
     (ap (λ (f : Family). f.blossoms) family)
     (ap (λ (f : Family). dual_at f.duals) family ∙ put_dual old.duals node (pos 0) below)
     c.set_label.ensures.labels
@@ -38,7 +38,7 @@ returns-clause-sound c =
     let b : Blossom = made_of old.blossoms items node in
     let family : c.shrink-node.new.self ≡ shrunk old node items = c.shrink-node.ensures.family ∙ ap (shrunk old node) c.deref.ensures.value in
     let below : node < length old.duals = omega (arith, c.shrink-node.ensures.within, h.family.duals.one_each) in
-    let state = closed_is s b c.args.top _ _ _ _
+    let state = closed_is s b c.args.base _ _ _ _
     (ap (λ (f : Family). f.blossoms) family)
     (ap (λ (f : Family). dual_at f.duals) family ∙ put_dual old.duals node (pos 0) below)
     c.set_label.ensures.labels
@@ -54,7 +54,7 @@ returns-clause-sound c =
         mates = c.set_edge.ensures.len ∙ h.mates;
         circuit = h.circuit;
       };
-      depth = put can.depth node (can.depth c.args.top);
-      state = subst (λ (t : State). IsSearchState t (put can.depth node (can.depth c.args.top))) (sym state)
-          (shrink_keeps s b c.args.top can.depth (shrinks_from s can.depth items node c.args.top h.graph.graph nested can.shrinkable) can.state);
+      depth = put can.depth node (can.depth c.args.base);
+      state = subst (λ (t : State). IsSearchState t (put can.depth node (can.depth c.args.base))) (sym state)
+          (shrink_keeps s b c.args.base can.depth (shrinks_from s can.depth items node c.args.base h.graph.graph nested can.shrinkable) can.state);
     }

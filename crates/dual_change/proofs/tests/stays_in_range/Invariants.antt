@@ -1,9 +1,0 @@
-use Rattle.std.proofs.Common.{ℕ, ◌<◌, ◌≤◌}
-use Rattle.blossom_arena.specs.Family.{IsDual}
-use Rattle.alt_forest.specs.State.{IsOutermost}
-use Rattle.alt_forest.specs.Searches.{state_of}
-use Rattle.dual_change.specs.Changes.{applied}
-use Rattle.dual_change.proofs.tests.stays_in_range.Given as goal
-
-abbrev pub invariant-loop-number : goal.invariant-loop-number
-invariant-loop-number l = (a : ℕ) → 1 ≤ a → a < l.number → IsOutermost (state_of l.search) a → IsDual ((applied (state_of l.search) l.d).dual a)

@@ -1,0 +1,78 @@
+-- The circuit of two ways up is the one that their edge closes.
+use Rattle.std.proofs.Common.{◌≡◌, ◌≢◌, ℕ, Bool, true, false, ◌||◌, eqb, cond, List, [], ◌∷◌, Some, refl, sym, ap, ◌∙◌, subst, arith}
+use Rattle.std.proofs.lemmas.Bool.{both_ways, eq-eqb, ne_eqb, or_left, or_right}
+use Rattle.blossom_arena.specs.declared.links.Link.{Link}
+use Rattle.blossom_arena.specs.Family.{IsNested, in_ring}
+use Rattle.alt_forest.specs.State.{State, IsOutermost, IsSearchState, node_u, node_v}
+use Rattle.alt_forest.specs.Trees.{up_of, up_edge_by, path_of, first_common}
+use Rattle.alt_forest.proofs.Paths.{path_of-step}
+use Rattle.alt_forest.proofs.Roots.{some_node}
+use Rattle.tree_steps.specs.declared.hops.Hop.{Hop}
+use Rattle.tree_steps.specs.Ways.{IsWay, links_up}
+use Rattle.tree_steps.specs.Circuits.{before, circuit_of, or_zero, links_above, base_of, closed_by}
+use Rattle.tree_steps.proofs.ReadHops.{hop_path}
+use Rattle.tree_steps.proofs.Mirror.{mirror_has}
+use Rattle.tree_steps.proofs.Ways.{way_links}
+
+-- the links of a way are those of the path before its end
+pub links_are : (s : State) (depth : ℕ → ℕ) (x : ℕ) (hs : List Hop) (base : ℕ) → IsNested s.graph.vertices s.blossoms → IsSearchState s depth → IsOutermost s base → IsWay s depth x hs base → links_up x hs ≡ links_above s (before (path_of s x) base)
+links_are s depth x [] base nested st is way =
+    let here : IsOutermost s x = subst (IsOutermost s) (sym way) is in
+    sym
+    (ap (λ xs. links_above s (before xs base)) (path_of-step s depth x nested st here (some_node s depth nested st x here))
+    ∙ ap (λ t. links_above s (cond t [] (x ∷ before (path_of s (up_of s x)) base))) (eq-eqb x base way))
+links_are s depth x (h ∷ hs) base nested st is way =
+    let hop = way.0 in
+    let l = way_links s depth x (h ∷ hs) base way in
+    let rest : List ℕ = path_of s h.up in
+    let a : Link = record { node = x; edge = h.pair } in
+    let b : Link = record { node = h.inner; edge = h.by } in
+    let not_x : x ≢ base = λ q. let same : depth x ≡ depth base = ap depth q in absurd (omega (arith, l.deep.0, same)) in
+    let not_inner : h.inner ≢ base = λ q. let same : depth h.inner ≡ depth base = ap depth q in absurd (omega (arith, l.deep.1.0, same)) in
+    sym
+    (ap (λ xs. links_above s (before xs base)) (hop_path s depth x h nested st depth hop)
+    ∙ ap (λ t. links_above s (cond t [] (x ∷ before (h.inner ∷ rest) base))) (ne_eqb x base not_x)
+    ∙ ap (λ t. links_above s (x ∷ cond t [] (h.inner ∷ before rest base))) (ne_eqb h.inner base not_inner)
+    ∙ ap (λ o. record { node = x; edge = or_zero o } ∷ links_above s (h.inner ∷ before rest base)) (ap (λ k. up_edge_by s k x) hop.outer ∙ hop.mate)
+    ∙ ap (λ o. a ∷ (record { node = h.inner; edge = or_zero o } ∷ links_above s (before rest base))) (ap (λ k. up_edge_by s k h.inner) hop.inner_label ∙ hop.parent)
+    ∙ ap (λ ls. a ∷ (b ∷ ls)) (sym (links_are s depth h.up hs base nested st is way.1)))
+
+pub closed_is_circuit : (s : State) (depth : ℕ → ℕ) (e a b base : ℕ) (hs ks : List Hop) → IsNested s.graph.vertices s.blossoms → IsSearchState s depth → IsOutermost s base → IsWay s depth a hs base → IsWay s depth b ks base
+    → a ≡ node_u s.graph s.blossoms e → b ≡ node_v s.graph s.blossoms e → first_common (path_of s a) (path_of s b) ≡ Some base → circuit_of base e (links_up a hs) (links_up b ks) ≡ closed_by s e
+closed_is_circuit s depth e a b base hs ks nested st is left right u v meets =
+    let found : base ≡ base_of s e = sym (ap or_zero (sym (ap (λ x. first_common (path_of s x) (path_of s b)) u ∙ ap (λ x. first_common (path_of s (node_u s.graph s.blossoms e)) (path_of s x)) v) ∙ meets)) in
+    ap (λ ls. circuit_of base e ls (links_up b ks)) (links_are s depth a hs base nested st is left ∙ ap (λ x. links_above s (before (path_of s x) base)) u)
+    ∙ ap (circuit_of base e (links_above s (before (path_of s (node_u s.graph s.blossoms e)) base))) (links_are s depth b ks base nested st is right ∙ ap (λ x. links_above s (before (path_of s x) base)) v)
+    ∙ ap (λ x. circuit_of x e (links_above s (before (path_of s (node_u s.graph s.blossoms e)) x)) (links_above s (before (path_of s (node_v s.graph s.blossoms e)) x))) found
+
+-- the two first nodes are on the circuit
+first_on : (s : State) (depth : ℕ → ℕ) (x : ℕ) (hs : List Hop) (base : ℕ) → IsWay s depth x hs base → (eqb base x || in_ring (links_up x hs) x) ≡ true
+first_on s depth x [] base way = or_left (eqb base x) false (eq-eqb base x (sym way))
+first_on s depth x (h ∷ hs) base way = or_right (eqb base x) (eqb x x || (eqb h.inner x || in_ring (links_up h.up hs) x)) (or_left (eqb x x) (eqb h.inner x || in_ring (links_up h.up hs) x) (eq-eqb x x refl))
+
+pub record HasFirst (base e a b : ℕ) (ls ks : List Link) : Type 0 where
+  pub left : in_ring (circuit_of base e ls ks) a ≡ true
+  pub right : in_ring (circuit_of base e ls ks) b ≡ true
+
+pub firsts_on : (s : State) (depth : ℕ → ℕ) (e a b base : ℕ) (hs ks : List Hop) → IsWay s depth a hs base → IsWay s depth b ks base → HasFirst base e a b (links_up a hs) (links_up b ks)
+firsts_on s depth e a b base hs ks left right =
+    record {
+      left = ap (λ t. eqb base a || t) (mirror_has e ls rs a) ∙ or_in (eqb base a) (in_ring ls a) (in_ring rs a) (first_on s depth a hs base left);
+      right = ap (λ t. eqb base b || t) (mirror_has e ls rs b) ∙ or_last (eqb base b) (in_ring ls b) (in_ring rs b) (first_on s depth b ks base right);
+    }
+  where
+    ls : List Link
+    ls = links_up a hs
+
+    rs : List Link
+    rs = links_up b ks
+
+    or_in : (p q r : Bool) → (p || q) ≡ true → (p || (q || r)) ≡ true
+    or_in true q r h = refl
+    or_in false true r h = refl
+    or_in false false r h = absurd (both_ways false refl h)
+
+    or_last : (p q r : Bool) → (p || r) ≡ true → (p || (q || r)) ≡ true
+    or_last true q r h = refl
+    or_last false true r h = refl
+    or_last false false r h = h

@@ -1,7 +1,0 @@
-use Rattle.tree_steps.proofs.tests.a_blossom_has_the_mate_of_its_top.Given as goal
-
-abbrev pub ghosts-shrink_by : goal.ghosts-shrink_by
-ghosts-shrink_by g a = record { name = a.blank.name; parts = a.blank.parts }
-
-abbrev pub ghosts-grow_by : goal.ghosts-grow_by
-ghosts-grow_by g a = record { name = a.blank.name; parts = a.blank.parts }

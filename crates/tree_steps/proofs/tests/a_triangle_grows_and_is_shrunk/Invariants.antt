@@ -1,7 +1,0 @@
-use Rattle.tree_steps.proofs.tests.a_triangle_grows_and_is_shrunk.Given as goal
-
-abbrev pub ghosts-shrink_by : goal.ghosts-shrink_by
-ghosts-shrink_by g a = record { name = a.blank.name; parts = a.blank.parts }
-
-abbrev pub ghosts-grow_by : goal.ghosts-grow_by
-ghosts-grow_by g a = record { name = a.blank.name; parts = a.blank.parts }
