@@ -4,7 +4,8 @@ use Rattle.std.specs.Prelude.{is_some}
 use Rattle.std.proofs.lemmas.Bool.{both_ways, eqb-true, eqb-false, ne_eqb, and_parts, and_from}
 use Rattle.graph_theory.specs.Sums.{sum_to}
 use Rattle.graph_theory.proofs.SumLemmas.{sum_to-same, sum_to-le, sum_to-add, sum_to-zero, sum_to-one, sum_to-append, sum_to-at_one, sum_to-has}
-use Rattle.blossom_arena.specs.Family.{Blossom, IsNested, is_vertex, is_outermost, room_of}
+use Rattle.graph_theory.specs.Nested.{most_blossoms}
+use Rattle.blossom_arena.specs.Family.{Blossom, IsNested, is_vertex, is_outermost}
 use Rattle.blossom_arena.proofs.Lists.{by_test}
 use Rattle.blossom_arena.proofs.Nested.{outermost_parts, node_range, range_vertex, vertex_range}
 use Rattle.alt_forest.specs.declared.label.Label.TheVariants.{Outer, Out}
@@ -141,10 +142,10 @@ no_roots s out = none_pass (is_root s) (node_limit s.graph.vertices) (λ a. ap (
 pub all_exposed : (s : State) → s.blossoms ≡ [] → ((a : ℕ) → s.mate a ≡ None) → exposed_count s ≡ s.graph.vertices
 all_exposed s bare unmated =
     let n : ℕ = s.graph.vertices in
-    let split = sum_to-append (λ i. one_if (is_exposed s (i + 1))) n (room_of n) in
+    let split = sum_to-append (λ i. one_if (is_exposed s (i + 1))) n (most_blossoms n) in
     let first = sum_to-same (λ i. one_if (is_exposed s (i + 1))) (λ _. 1) n (λ i low. ap one_if (is_vertex_test (i + 1) ∙ range_vertex n (i + 1) (omega arith) (omega (arith, low)))) in
-    let rest = sum_to-same (λ i. one_if (is_exposed s (n + i + 1))) (λ _. 0) (room_of n) (λ i _. ap one_if (is_vertex_test (n + i + 1) ∙ above (n + i + 1) (omega arith))) in
-    omega (arith, split, first, rest, sum_to-one n, sum_to-zero (room_of n))
+    let rest = sum_to-same (λ i. one_if (is_exposed s (n + i + 1))) (λ _. 0) (most_blossoms n) (λ i _. ap one_if (is_vertex_test (n + i + 1) ∙ above (n + i + 1) (omega arith))) in
+    omega (arith, split, first, rest, sum_to-one n, sum_to-zero (most_blossoms n))
   where
     is_vertex_test : (a : ℕ) → is_exposed s a ≡ is_vertex s.graph.vertices a
     is_vertex_test a = ap₂ (λ (bs : List Blossom) (o : Option ℕ). is_outermost s.graph.vertices bs a && not (is_some o)) bare (unmated a) ∙ plain (is_vertex s.graph.vertices a)

@@ -4,11 +4,12 @@ use Rattle.std.specs.List.{AllByRecursion}
 use Rattle.std.proofs.lemmas.Int.{ints}
 use Rattle.std.proofs.lemmas.Bool.{or_cases, or_left, or_right, both_ways, eqb-true, eq-eqb, ne_eqb}
 use Rattle.graph_theory.specs.declared.edge.Edge.{Edge}
+use Rattle.graph_theory.specs.declared.limits.TheConstants.{GRAPH_VERTEX_LIMIT}
 use Rattle.graph_theory.specs.Graph.{IsEdgeWithin}
 use Rattle.graph_theory.specs.Parts.{holds}
 use Rattle.graph_theory.proofs.Members.{holds-append}
 use Rattle.blossom_arena.specs.Family.{Blossom, IsNested, is_node, is_vertex, in_ring, outermost, chain_of}
-use Rattle.blossom_arena.specs.Slack.{pull}
+use Rattle.blossom_arena.specs.Slack.{duals_across}
 use Rattle.blossom_arena.proofs.Lists.{by_test}
 use Rattle.blossom_arena.proofs.Nested.{node_grows, new_is_node, range_vertex, blossoms_few}
 use Rattle.blossom_arena.proofs.Sets.{member_by_ring}
@@ -73,9 +74,9 @@ chain_split n (b ∷ older) u v h iu iv = by_tests (chain_split n older u v h.1 
     by_tests ih false false eu ev ru rv = ih
 
 -- an edge feels those that hold one end alone
-pub pull_split : (y : ℕ → ℤ) (bs : List Blossom) (e : Edge) → pull y bs e ≡ total_of y (holders bs e.u e.v) +ℤ total_of y (holders bs e.v e.u)
-pull_split y [] e = omega (arith, ints)
-pull_split y (b ∷ older) e = by_tests (pull_split y older e) (holds b.members e.u) (holds b.members e.v)
+pub across_split : (y : ℕ → ℤ) (bs : List Blossom) (e : Edge) → duals_across y bs e ≡ total_of y (holders bs e.u e.v) +ℤ total_of y (holders bs e.v e.u)
+across_split y [] e = omega (arith, ints)
+across_split y (b ∷ older) e = by_tests (across_split y older e) (holds b.members e.u) (holds b.members e.v)
   where
     left : total_of y (holders older e.u e.v ++ b.node ∷ []) ≡ y b.node +ℤ total_of y (holders older e.u e.v)
     left = total-append y (holders older e.u e.v) b.node
@@ -83,7 +84,7 @@ pull_split y (b ∷ older) e = by_tests (pull_split y older e) (holds b.members 
     right : total_of y (holders older e.v e.u ++ b.node ∷ []) ≡ y b.node +ℤ total_of y (holders older e.v e.u)
     right = total-append y (holders older e.v e.u) b.node
 
-    by_tests : pull y older e ≡ total_of y (holders older e.u e.v) +ℤ total_of y (holders older e.v e.u) → (p q : Bool) → cond (cond p (not q) q) (y b.node) (pos 0) +ℤ pull y older e
+    by_tests : duals_across y older e ≡ total_of y (holders older e.u e.v) +ℤ total_of y (holders older e.v e.u) → (p q : Bool) → cond (cond p (not q) q) (y b.node) (pos 0) +ℤ duals_across y older e
         ≡ total_of y (cond (p && not q) (holders older e.u e.v ++ b.node ∷ []) (holders older e.u e.v)) +ℤ total_of y (cond (q && not p) (holders older e.v e.u ++ b.node ∷ []) (holders older e.v e.u))
     by_tests ih true true = omega (arith, ints, ih)
     by_tests ih true false = omega (arith, ints, ih, left)
@@ -204,12 +205,12 @@ take_before (x ∷ p) s = ap (λ xs. x ∷ xs) (take_before p s)
 -- the two chains of an edge's ends
 pub record IsEnds (n : ℕ) (bs : List Blossom) (u v : ℕ) : Type 0 where
   pub nested : IsNested n bs
-  pub few : n ≤ 4096
+  pub few : n ≤ GRAPH_VERTEX_LIMIT
   pub u_is : is_vertex n u ≡ true
   pub v_is : is_vertex n v ≡ true
   pub differ : u ≢ v
 
-pub ends_of : (n : ℕ) (bs : List Blossom) (e : Edge) → IsNested n bs → n ≤ 4096 → IsEdgeWithin n e → IsEnds n bs e.u e.v
+pub ends_of : (n : ℕ) (bs : List Blossom) (e : Edge) → IsNested n bs → n ≤ GRAPH_VERTEX_LIMIT → IsEdgeWithin n e → IsEnds n bs e.u e.v
 ends_of n bs e nested few within = record { nested = nested; few = few; u_is = range_vertex n e.u within.u_low within.u_high; v_is = range_vertex n e.v within.v_low within.v_high; differ = within.differ }
 
 pub ends_turned : (n : ℕ) (bs : List Blossom) (u v : ℕ) → IsEnds n bs u v → IsEnds n bs v u

@@ -9,9 +9,6 @@ pub mod Totals
 pub mod Certified
 pub mod Parity
 pub mod Roots
-pub mod Checked
-pub mod Rings
-pub mod Triangles
 pub mod Ascending
 pub mod Pairs
 pub mod Balance

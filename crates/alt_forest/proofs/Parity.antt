@@ -9,7 +9,7 @@ use Rattle.graph_theory.specs.Parts.{holds}
 use Rattle.graph_theory.proofs.Edges.{edge_of_within}
 use Rattle.blossom_arena.specs.declared.links.Link.{Link}
 use Rattle.blossom_arena.specs.Family.{Blossom, outermost, is_node, in_ring, IsNested, is_vertex, members_of}
-use Rattle.blossom_arena.specs.Slack.{pull}
+use Rattle.blossom_arena.specs.Slack.{duals_across}
 use Rattle.blossom_arena.proofs.Lists.{first_in}
 use Rattle.blossom_arena.proofs.Nested.{range_vertex}
 use Rattle.blossom_arena.proofs.Sets.{member_by_ring, outermost_node, members_some, member_vertex}
@@ -26,12 +26,12 @@ pub parity_trans : (x y z : ℤ) → SameParity x y → SameParity y z → SameP
 parity_trans x y z p q =
     let k : ℤ = p.0 in let l : ℤ = q.0 in let e : x ≡ y +ℤ (k +ℤ k) = p.1 in let f : y ≡ z +ℤ (l +ℤ l) = q.1 in (k +ℤ l, omega (arith, ints))
 
--- a set that holds both ends counts twice in the sums and not in the pull
-pull_parity : (y : ℕ → ℤ) (bs : List Blossom) (e : Edge) → SameParity (pull y bs e) ((y e.u +ℤ held_by y bs e.u) +ℤ (y e.v +ℤ held_by y bs e.v))
-pull_parity y [] e = (pos 0, omega (arith, ints))
-pull_parity y (b ∷ older) e =
-    let r = pull_parity y older e in
-    by_tests (y b.node) (pull y older e) (y e.u) (y e.v) (held_by y older e.u) (held_by y older e.v) r.0 r.1 (holds b.members e.u) (holds b.members e.v)
+-- a set that holds both ends counts twice in the sums and not in the duals across
+across_parity : (y : ℕ → ℤ) (bs : List Blossom) (e : Edge) → SameParity (duals_across y bs e) ((y e.u +ℤ held_by y bs e.u) +ℤ (y e.v +ℤ held_by y bs e.v))
+across_parity y [] e = (pos 0, omega (arith, ints))
+across_parity y (b ∷ older) e =
+    let r = across_parity y older e in
+    by_tests (y b.node) (duals_across y older e) (y e.u) (y e.v) (held_by y older e.u) (held_by y older e.v) r.0 r.1 (holds b.members e.u) (holds b.members e.v)
   where
     by_tests : (z p yu yv c d k : ℤ) → p ≡ ((yu +ℤ c) +ℤ (yv +ℤ d)) +ℤ (k +ℤ k) → (i j : Bool)
         → SameParity (cond (cond i (not j) j) z (pos 0) +ℤ p) ((yu +ℤ (cond i z (pos 0) +ℤ c)) +ℤ (yv +ℤ (cond j z (pos 0) +ℤ d)))
@@ -48,9 +48,9 @@ even false x = (pos 0, omega (arith, ints))
 -- slack has the parity of what covers its two ends
 pub slack_parity : (s : State) (e : ℕ) → SameParity (slack_of s e) (cover s (edge_of s.graph e).u +ℤ cover s (edge_of s.graph e).v)
 slack_parity s e =
-    let p = pull_parity s.dual s.blossoms (edge_of s.graph e) in
+    let p = across_parity s.dual s.blossoms (edge_of s.graph e) in
     let d = even s.weighted (edge_of s.graph e).w in
-    plain (cond s.weighted (pos 2 *ℤ (edge_of s.graph e).w) (pos 0)) (pull s.dual s.blossoms (edge_of s.graph e)) (cover s (edge_of s.graph e).u) (cover s (edge_of s.graph e).v) p.0 d.0 p.1 d.1
+    plain (cond s.weighted (pos 2 *ℤ (edge_of s.graph e).w) (pos 0)) (duals_across s.dual s.blossoms (edge_of s.graph e)) (cover s (edge_of s.graph e).u) (cover s (edge_of s.graph e).v) p.0 d.0 p.1 d.1
   where
     plain : (w p c d k l : ℤ) → p ≡ (c +ℤ d) +ℤ (k +ℤ k) → w ≡ pos 0 +ℤ (l +ℤ l) → SameParity (w -ℤ p) (c +ℤ d)
     plain w p c d k l e f = ((l -ℤ k) -ℤ (c +ℤ d), omega (arith, ints))

@@ -6,4 +6,4 @@ pub mod Searches
 pub mod Routes
 pub mod Chains
 pub mod Laws
-pub mod Checks
+pub mod Ways

@@ -1,6 +1,7 @@
 -- A search as the calls see it.
 use Rattle.std.specs.Prelude.{◌≡◌, ℕ, ◌+◌, ◌≤◌, ℤ, pos, ◌≤ℤ◌, Bool, true, false, ◌==◌, if◌then◌else◌, List, length, slice_index_or, Option, None, vec_len}
 use Rattle.std.specs.Vec.{vec_capacity}
+use Rattle.graph_theory.specs.Limits.{IsWithinLimits}
 use Rattle.graph_theory.specs.Graph.{Multigraph, IsGraph, IsWeight, edge_of, IsEdgeNumber}
 use Rattle.blossom_arena.specs.Family.{dual_at, IsFamily}
 use Rattle.alt_forest.specs.declared.label.Label.{Label}
@@ -36,11 +37,10 @@ state_of s = record {
   mate = edge_in s.mates.items;
 }
 
--- at most 4,096 vertices and 1,048,576 edges
+-- a graph within the limits
 pub record IsSearchGraph (g : Multigraph) : Type 0 where
   pub graph : IsGraph g
-  pub vertices : g.vertices ≤ 4096
-  pub edges : length g.edges ≤ 1048576
+  pub limits : IsWithinLimits (record { vertices = g.vertices; edges = length g.edges })
 
 -- the copy is a graph within the limits, the arena is a family on its vertices, each list has a place for each node and
 -- one, unused, before them, and the circuit has room for all vertices

@@ -5,10 +5,11 @@
 -- A node is a vertex or a blossom. Labels, parents and mates mean something for outermost nodes alone.
 use Rattle.std.specs.Prelude.{◌≡◌, ◌≢◌, ℕ, ◌<◌, ◌⊎◌, ℤ, pos, ◌≤ℤ◌, ◌-ℤ◌, ◌*ℤ◌, Bool, true, if◌then◌else◌, List, [], ◌∷◌, Option, Some, None}
 use Rattle.std.specs.List.{AllByRecursion}
+use Rattle.graph_theory.specs.declared.edge.Edge.{Edge}
 use Rattle.graph_theory.specs.Graph.{Multigraph, IsEdgeNumber, edge_of}
 use Rattle.blossom_arena.specs.declared.links.Link.{Link}
 use Rattle.blossom_arena.specs.Family.{Blossom, outermost, is_outermost}
-use Rattle.blossom_arena.specs.Slack.{pull}
+use Rattle.blossom_arena.specs.Slack.{duals_across}
 use Rattle.alt_forest.specs.declared.label.Label.{Label}
 use Rattle.alt_forest.specs.declared.label.Label.TheVariants.{Outer, Inner, Out}
 
@@ -46,7 +47,11 @@ doubled g weighted e = if weighted then pos 2 *ℤ (edge_of g e).w else pos 0
 
 -- the slack of an edge: its doubled weight without the duals of the nodes that hold exactly one of its ends
 abbrev pub slack_with : Multigraph → Bool → (ℕ → ℤ) → List Blossom → ℕ → ℤ
-slack_with g weighted y bs e = doubled g weighted e -ℤ pull y bs (edge_of g e)
+slack_with g weighted y bs e = doubled g weighted e -ℤ duals_across y bs (edge_of g e)
+
+-- the same of an edge that is given whole
+abbrev pub slack_by : Bool → (ℕ → ℤ) → List Blossom → Edge → ℤ
+slack_by weighted y bs e = (if weighted then pos 2 *ℤ e.w else pos 0) -ℤ duals_across y bs e
 
 abbrev pub slack_of : State → ℕ → ℤ
 slack_of s e = slack_with s.graph s.weighted s.dual s.blossoms e

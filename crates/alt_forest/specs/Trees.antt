@@ -3,14 +3,15 @@ use Rattle.std.specs.Prelude.{◌≡◌, ℕ, zero, suc, ◌+◌, ℤ, pos, ◌+
 use Rattle.std.specs.List.{filter, range_with_len}
 use Rattle.graph_theory.specs.Graph.{Multigraph}
 use Rattle.graph_theory.specs.Parts.{holds}
-use Rattle.blossom_arena.specs.Family.{Blossom, is_outermost, room_of}
+use Rattle.graph_theory.specs.Nested.{most_blossoms}
+use Rattle.blossom_arena.specs.Family.{Blossom, is_outermost}
 use Rattle.alt_forest.specs.declared.label.Label.{Label}
 use Rattle.alt_forest.specs.declared.label.Label.TheVariants.{Outer, Inner, Out}
 use Rattle.alt_forest.specs.State.{State, IsOutermost, node_u, node_v}
 
 -- the greatest number that a node of a graph with n vertices can have
 abbrev pub node_limit : ℕ → ℕ
-node_limit n = n + room_of n
+node_limit n = n + most_blossoms n
 
 -- the outermost node at the other end of an edge from this one
 abbrev pub other_node : Multigraph → List Blossom → ℕ → ℕ → ℕ

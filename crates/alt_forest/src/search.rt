@@ -16,6 +16,8 @@ use std::alloc::Global;
 use weighted_graph::Graph;
 
 /// A search over one graph: blossoms with their duals, a matching of the outermost nodes, and trees.
+/// A step of a search is a look at an edge of the graph that it was made for, or a change of the duals;
+/// the ends of its mates and parents are read from its own copy, which counts none.
 /// `labels`, `parents` and `mates` stand by node number, with place 0 unused; a parent or a mate is
 /// given by the edge to it. `circuit` has room for n links. `graph` is a copy of the graph that the
 /// search was made for, which no call changes.
@@ -108,7 +110,7 @@ impl Search {
 
     /// How an outermost node stands in the trees.
     pub fn label(&self, node: NodeId) -> Label
-        requires sound { IsSound self.now }
+        requires shape { HasShape self.now }
         requires outer { IsOutermost (state_of self.now) node }
         ensures label { result ≡ label_at self.now.labels.items node }
     {

@@ -1,19 +1,21 @@
-ghost use Rattle.std.specs.Prelude.{◌≡◌, ◌<◌, ◌≤◌, ◌+◌, ◌^◌, ℕ, ℤ, pos, negsuc, ◌+ℤ◌, ◌-ℤ◌, ◌*ℤ◌, ◌≤ℤ◌, true, if◌then◌else◌, drop, take, length};
+ghost use Rattle.std.specs.Prelude.{◌≡◌, ◌<◌, ◌≤◌, ◌+◌, ◌^◌, ℕ, ℤ, pos, neg_ℤ, ◌+ℤ◌, ◌-ℤ◌, ◌*ℤ◌, ◌≤ℤ◌, true, if◌then◌else◌, drop, take, length};
 ghost use Rattle.std.specs.List.{AllByRecursion};
 ghost use Rattle.std.specs.Option.{ForSome};
+ghost use Rattle.graph_theory.specs.declared.limits.TheConstants.{GRAPH_VERTEX_LIMIT, NUMBER_LIMIT};
 ghost use Rattle.graph_theory.specs.Graph.{IsEdgeNumber, IsEdgeWithin, IsWeight, edge_of};
 ghost use Rattle.graph_theory.specs.Duals.{slack};
-ghost use Rattle.blossom_arena.specs.Family.{is_node, dual_at, IsDual};
-ghost use Rattle.blossom_arena.specs.Slack.{pull, vertex_duals, sets_of};
-ghost use Rattle.alt_forest.specs.State.{slack_of};
-ghost use Rattle.alt_forest.specs.Searches.{IsSound, state_of, is_given};
+ghost use Rattle.graph_theory.specs.Duals.{IsNumber};
+ghost use Rattle.blossom_arena.specs.Family.{is_node, dual_at};
+ghost use Rattle.blossom_arena.specs.Slack.{duals_across, vertex_duals, sets_of};
+ghost use Rattle.alt_forest.specs.State.{slack_by, slack_of};
+ghost use Rattle.alt_forest.specs.Searches.{HasShape, IsSound, state_of, is_given};
 ghost use Rattle.alt_forest.specs.Chains.{apart, dual_of, holders, total_of, weighed};
 
 use crate::label::Weights;
 use crate::meet::is_found;
 use crate::search::Search;
 use blossom_arena::{Arena, Chain, NodeId};
-use graph_theory::Edge;
+use graph_theory::{Edge, GRAPH_VERTEX_LIMIT, NUMBER_LIMIT};
 use mb_base::{EdgeId, Steps};
 use std::sync::ledger::Ledger;
 use weighted_graph::Graph;
@@ -62,7 +64,7 @@ fn apart(left: Chain<'_>, right: Chain<'_>) -> u32
 fn dual_or_zero(arena: &Arena, node: Option<NodeId>) -> i64
     requires { ForSome node (λ a. is_node arena.now.vertex_count arena.now.blossoms a ≡ true) }
     ensures dual { result ≡ dual_of (dual_at arena.now.duals) node }
-    ensures in_range { IsDual result }
+    ensures in_range { IsNumber result }
 {
     match node {
         Some(node) => arena.dual(node),
@@ -73,10 +75,10 @@ fn dual_or_zero(arena: &Arena, node: Option<NodeId>) -> i64
 /// The duals of the first nodes of a chain, added up.
 fn total(arena: &Arena, chain: Chain<'_>, nodes: u32) -> i64
     requires nodes { AllByRecursion (λ a. is_node arena.now.vertex_count arena.now.blossoms a ≡ true) chain }
-    requires few { nodes ≤ 4096 }
+    requires few { nodes ≤ GRAPH_VERTEX_LIMIT }
     ensures total { result ≡ total_of (dual_at arena.now.duals) (take nodes chain.entry) }
-    ensures low { (negsuc 999999999999999 *ℤ pos nodes) ≤ℤ result }
-    ensures high { result ≤ℤ (pos 1000000000000000 *ℤ pos nodes) }
+    ensures low { neg_ℤ (NUMBER_LIMIT *ℤ pos nodes) ≤ℤ result }
+    ensures high { result ≤ℤ (NUMBER_LIMIT *ℤ pos nodes) }
 {
     let mut rest = chain;
     let mut sum = 0;
@@ -92,7 +94,7 @@ fn holder_counts(arena: &Arena, edge: &Edge) -> (u32, u32)
     requires { IsEdgeWithin arena.now.vertex_count edge.now }
     ensures u { result.0 ≡ length (holders arena.now.blossoms edge.now.u edge.now.v) }
     ensures v { result.1 ≡ length (holders arena.now.blossoms edge.now.v edge.now.u) }
-    ensures few { result.0 + result.1 ≤ 4096 }
+    ensures few { result.0 + result.1 ≤ GRAPH_VERTEX_LIMIT }
 {
     let left = count(arena.chain(edge.u));
     let right = count(arena.chain(edge.v));
@@ -106,11 +108,11 @@ fn holder_counts(arena: &Arena, edge: &Edge) -> (u32, u32)
 }
 
 /// The duals of the nodes that hold exactly one end of an edge, added up.
-fn pull(arena: &Arena, edge: &Edge) -> i64
+fn duals_across(arena: &Arena, edge: &Edge) -> i64
     requires { IsEdgeWithin arena.now.vertex_count edge.now }
-    ensures pull { result ≡ pull (dual_at arena.now.duals) arena.now.blossoms edge.now }
-    ensures low { negsuc 4999999999999999999 ≤ℤ result }
-    ensures high { result ≤ℤ pos 5000000000000000000 }
+    ensures duals_across { result ≡ duals_across (dual_at arena.now.duals) arena.now.blossoms edge.now }
+    ensures low { neg_ℤ (NUMBER_LIMIT *ℤ pos GRAPH_VERTEX_LIMIT) ≤ℤ result }
+    ensures high { result ≤ℤ (NUMBER_LIMIT *ℤ pos GRAPH_VERTEX_LIMIT) }
 {
     let (u, v) = holder_counts(arena, edge);
     total(arena, arena.chain(edge.u), u) + total(arena, arena.chain(edge.v), v)
@@ -127,19 +129,22 @@ fn doubled(weights: Weights, w: i64) -> i64
     }
 }
 
-/// The slack of an edge that is given whole.
-pub(crate) fn slack_by(search: &Search, edge: &Edge) -> i64
-    requires ends { IsEdgeWithin search.now.arena.vertex_count edge.now }
-    requires weight { IsWeight edge.now.w }
-    ensures { result ≡ (if is_given search.now.weights then pos 2 *ℤ edge.now.w else pos 0) -ℤ pull (dual_at search.now.arena.duals) search.now.arena.blossoms edge.now }
-{
-    doubled(search.weights, edge.w) - pull(&search.arena, edge)
-}
-
 impl Search {
-    /// The slack of an edge (chapter 26): twice its weight, or 0 in the pass without weights, less the
-    /// duals of the nodes that hold exactly one of its ends. It looks at the edge once, in time linear
-    /// in the nodes that hold the two ends, and takes no memory.
+    /// The slack of an edge whose ends and weight are at hand (chapter 26): twice its weight, or 0 in
+    /// the pass without weights, less the duals of the nodes that hold exactly one of its ends. It
+    /// looks at no edge, and takes time linear in the nodes that hold the two ends and no memory.
+    pub fn slack_by(&self, edge: &Edge) -> i64
+        requires shape { HasShape self.now }
+        requires ends { IsEdgeWithin self.now.graph.vertices edge.now }
+        requires weight { IsWeight edge.now.w }
+        ensures slack { result ≡ slack_by (is_given self.now.weights) (dual_at self.now.arena.duals) self.now.arena.blossoms edge.now }
+        ensures same { (e : ℕ) → edge_of self.now.graph e ≡ edge.now → result ≡ slack_of (state_of self.now) e }
+    {
+        doubled(self.weights, edge.w) - duals_across(&self.arena, edge)
+    }
+
+    /// The slack of an edge, by one look at it. It takes time linear in the nodes that hold the two ends
+    /// and no memory.
     pub fn slack<L: Ledger>(&self, graph: &Graph, e: EdgeId, steps: &mut Steps<L>) -> i64
         requires sound { IsSound self.now }
         requires graph { graph.now ≡ self.now.graph }
@@ -149,6 +154,6 @@ impl Search {
         ensures step { steps.new ≡ steps.old + 1 }
     {
         let (u, v, w) = graph.look(e, steps);
-        slack_by(self, &Edge { u, v, w })
+        self.slack_by(&Edge { u, v, w })
     }
 }

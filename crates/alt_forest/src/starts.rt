@@ -1,10 +1,12 @@
 ghost use Rattle.std.specs.Prelude.{◌≡◌, ◌≤◌, ℕ, ℤ, pos, true, None, [], IfOk, vec_len};
 ghost use Rattle.std.specs.Vec.{vec_capacity};
+ghost use Rattle.graph_theory.specs.declared.limits.TheConstants.{GRAPH_VERTEX_LIMIT};
 ghost use Rattle.graph_theory.specs.Graph.{IsGraph, IsWeight};
 ghost use Rattle.blossom_arena.specs.Family.{IsFamily, empty_family, is_vertex, dual_at};
 ghost use Rattle.alt_forest.specs.Searches.{IsSearchGraph, edge_in};
 
 use blossom_arena::{Arena, Link, NodeId};
+use graph_theory::GRAPH_VERTEX_LIMIT;
 use mb_base::{EdgeId, OutOfMemory};
 use std::alloc::{AllocError, Global};
 use weighted_graph::Graph;
@@ -42,7 +44,7 @@ pub(crate) fn no_edges(alloc: Global, places: usize) -> Result<Vec<Option<EdgeId
 
 /// Gives each vertex of an arena with no blossom and all duals 0 the same dual.
 pub(crate) fn give_duals(arena: &mut Arena, start: i64)
-    requires few { arena.old.vertex_count ≤ 4096 }
+    requires few { arena.old.vertex_count ≤ GRAPH_VERTEX_LIMIT }
     requires empty { arena.old ≡ empty_family arena.old.vertex_count }
     requires start { IsWeight start }
     ensures count { arena.new.vertex_count ≡ arena.old.vertex_count }

@@ -6,7 +6,8 @@ use Rattle.graph_theory.specs.Graph.{Multigraph, IsEdgeNumber, edge_of}
 use Rattle.graph_theory.specs.Parts.{holds}
 use Rattle.graph_theory.proofs.Edges.{edge_of_within}
 use Rattle.blossom_arena.specs.declared.links.Link.{Link}
-use Rattle.blossom_arena.specs.Family.{Blossom, Family, nodes_of, in_ring, names_of, is_vertex, is_node, is_child, outermost, members_of, ring_of, older_than, child_holding, chain_of, room_of, IsNested}
+use Rattle.graph_theory.specs.Nested.{most_blossoms}
+use Rattle.blossom_arena.specs.Family.{Blossom, Family, nodes_of, in_ring, names_of, is_vertex, is_node, is_child, outermost, members_of, ring_of, older_than, child_holding, chain_of, IsNested}
 use Rattle.blossom_arena.proofs.Lists.{by_test, AllNew, new_from_distinct}
 use Rattle.blossom_arena.proofs.Nested.{range_vertex, node_range, child_is_node, child_free}
 use Rattle.blossom_arena.proofs.Sets.{members_here, members_past, member_by_ring}
@@ -116,7 +117,7 @@ module _ (g : Multigraph) (f : Family) (m : ℕ → Option ℕ) (b : ℕ) (can :
   pub behind_edges : AllByRecursion (λ (l : Link). IsEdgeNumber g l.edge) (links_after ring base)
   behind_edges = (each_split (λ (l : Link). IsEdgeNumber g l.edge) (links_before ring base) (parted.base ∷ links_after ring base) (subst (λ (x : List Link). AllByRecursion (λ (l : Link). IsEdgeNumber g l.edge) x) parted.split each_edge)).1.1
 
-  pub ring_places : (k : ℕ) → g.vertices + room_of g.vertices < k → AllByRecursion (λ (l : Link). l.node < k) ring
+  pub ring_places : (k : ℕ) → g.vertices + most_blossoms g.vertices < k → AllByRecursion (λ (l : Link). l.node < k) ring
   ring_places k low = places_from k ring (λ c r. omega (arith, low, (node_range g.vertices bs c nested (child_is_node g.vertices bs c nested (ring_child bs b c r))).1))
     where
       places_from : (k : ℕ) (ls : List Link) → ((c : ℕ) → in_ring ls c ≡ true → c < k) → AllByRecursion (λ (l : Link). l.node < k) ls

@@ -5,7 +5,8 @@ use Rattle.std.specs.List.{AllByRecursion}
 use Rattle.std.proofs.lemmas.Bool.{eq-eqb, ne_eqb, eqb-true, eqb-false, both_ways}
 use Rattle.graph_theory.specs.Graph.{Multigraph, IsEdgeWithin, IsEdgeNumber, edge_of}
 use Rattle.graph_theory.proofs.Edges.{edge_of_within}
-use Rattle.blossom_arena.specs.Family.{Blossom, is_vertex, is_node, is_child, chain_of, room_of, IsNested}
+use Rattle.graph_theory.specs.Nested.{most_blossoms}
+use Rattle.blossom_arena.specs.Family.{Blossom, is_vertex, is_node, is_child, chain_of, IsNested}
 use Rattle.blossom_arena.proofs.Lists.{by_test, each_from}
 use Rattle.blossom_arena.proofs.Nested.{child_is_node, node_range, range_vertex}
 use Rattle.blossom_arena.proofs.Parents.{chain_node, chain_nonzero}
@@ -28,7 +29,7 @@ mark_here m c it cs stop e target step here h = sym (ap (λ x. marked m (up_to x
 pub mark_end : (m : ℕ → Option ℕ) (it : List ℕ) (stop e : ℕ) (target : ℕ → Option ℕ) → it ≡ [] → marked m (up_to it stop) e ≡ target → m ≡ target
 mark_end m it stop e target none h = sym (ap (λ x. marked m (up_to x stop) e) none) ∙ h
 
-pub chain_places : (n k : ℕ) (bs : List Blossom) (v : ℕ) → IsNested n bs → is_vertex n v ≡ true → n + room_of n < k → AllByRecursion (λ c. c < k) (chain_of bs v)
+pub chain_places : (n k : ℕ) (bs : List Blossom) (v : ℕ) → IsNested n bs → is_vertex n v ≡ true → n + most_blossoms n < k → AllByRecursion (λ c. c < k) (chain_of bs v)
 chain_places n k bs v h iv low = each_from (λ c. c < k) (chain_of bs v) (λ x e. omega (arith, low, (node_range n bs x h (chain_node n bs v x iv e)).1))
 
 up_to_none : (cs : List ℕ) (stop : ℕ) → AllByRecursion (λ c. c ≢ stop) cs → up_to cs stop ≡ cs

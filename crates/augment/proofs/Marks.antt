@@ -2,7 +2,8 @@
 use Rattle.std.proofs.Common.{◌≡◌, ℕ, ◌+◌, ◌≤◌, true, false, eqb, sym, ap, ◌∙◌, subst, Option, Some}
 use Rattle.std.proofs.lemmas.Bool.{eqb-true, eqb-false, both_ways}
 use Rattle.graph_theory.specs.Graph.{Multigraph}
-use Rattle.blossom_arena.specs.Family.{Family, is_child, is_outermost, room_of, IsNested}
+use Rattle.graph_theory.specs.Nested.{most_blossoms}
+use Rattle.blossom_arena.specs.Family.{Family, is_child, is_outermost, IsNested}
 use Rattle.blossom_arena.proofs.Lists.{by_test}
 use Rattle.blossom_arena.proofs.Nested.{outermost_parts, node_range}
 use Rattle.blossom_arena.proofs.Sets.{outermost_has}
@@ -59,7 +60,7 @@ pub none_spread : (g : Multigraph) (f : Family) (m n : ℕ → Option ℕ) (a : 
 none_spread g f m n a can none k v c has end o on =
     absurd (both_ways (is_outermost f.vertex_count f.blossoms a) none (subst (λ x. is_outermost x f.blossoms a ≡ true) (sym can.vertices) (ap (is_outermost g.vertices f.blossoms) (sym o) ∙ (outermost_has g.vertices f.blossoms v (nested_of g f m can) end.vertex).0)))
 
-pub far_spread : (g : Multigraph) (f : Family) (m n : ℕ → Option ℕ) (a : ℕ) → CanMark g f m → ((1 ≤ a) → (a ≤ f.vertex_count + room_of f.vertex_count) → IsSpread g f.blossoms n a) → IsSpread g f.blossoms n a
+pub far_spread : (g : Multigraph) (f : Family) (m n : ℕ → Option ℕ) (a : ℕ) → CanMark g f m → ((1 ≤ a) → (a ≤ f.vertex_count + most_blossoms f.vertex_count) → IsSpread g f.blossoms n a) → IsSpread g f.blossoms n a
 far_spread g f m n a can near = by_test (is_outermost f.vertex_count f.blossoms a)
     (λ t. let r = node_range f.vertex_count f.blossoms a can.family.nested (outermost_parts f.vertex_count f.blossoms a t).0 in near r.0 r.1)
     (λ t. none_spread g f m n a can t)

@@ -1,6 +1,7 @@
 ghost use Rattle.std.specs.Prelude.{◌≡◌, ◌+◌, ◌<◌, ℕ, true, false, None, is_some, vec_len, length, if◌then◌else◌};
 ghost use Rattle.graph_theory.specs.Graph.{IsEdgeNumber};
-ghost use Rattle.blossom_arena.specs.Family.{is_vertex, is_child, is_outermost, chain_of, room_of};
+ghost use Rattle.graph_theory.specs.Nested.{most_blossoms};
+ghost use Rattle.blossom_arena.specs.Family.{is_vertex, is_child, is_outermost, chain_of};
 ghost use Rattle.alt_forest.specs.Searches.{edge_in, put};
 ghost use Rattle.augment.specs.Opening.{IsSpread, IsBare, CanMark, marked, up_to, spread_in};
 
@@ -18,7 +19,7 @@ fn mark_holders(
     e: EdgeId,
 )
     requires vertex { is_vertex arena.now.vertex_count v ≡ true }
-    requires places { arena.now.vertex_count + room_of arena.now.vertex_count < vec_len mates.old }
+    requires places { arena.now.vertex_count + most_blossoms arena.now.vertex_count < vec_len mates.old }
     ensures mates { edge_in mates.new.items ≡ marked (edge_in mates.old.items) (up_to (chain_of arena.now.blossoms v) stop) e }
     ensures len { vec_len mates.new ≡ vec_len mates.old }
 {
@@ -41,7 +42,7 @@ pub(crate) fn mark_ends(
 )
     requires vertices { arena.now.vertex_count ≡ graph.now.vertices }
     requires edge { IsEdgeNumber graph.now e }
-    requires places { arena.now.vertex_count + room_of arena.now.vertex_count < vec_len mates.old }
+    requires places { arena.now.vertex_count + most_blossoms arena.now.vertex_count < vec_len mates.old }
     ensures mates { edge_in mates.new.items ≡ spread_in graph.now arena.now.blossoms stop (edge_in mates.old.items) e }
     ensures len { vec_len mates.new ≡ vec_len mates.old }
 {
@@ -73,7 +74,7 @@ fn clear_child(arena: &Arena, mates: &mut Vec<Option<EdgeId>>, node: NodeId)
 
 /// Keeps no edge for any node that lies within another one.
 pub(crate) fn clear_children(arena: &Arena, mates: &mut Vec<Option<EdgeId>>)
-    requires places { arena.now.vertex_count + room_of arena.now.vertex_count < vec_len mates.old }
+    requires places { arena.now.vertex_count + most_blossoms arena.now.vertex_count < vec_len mates.old }
     ensures within { (c : ℕ) → is_child arena.now.blossoms c ≡ true → edge_in mates.new.items c ≡ None }
     ensures outer { (c : ℕ) → is_child arena.now.blossoms c ≡ false → edge_in mates.new.items c ≡ edge_in mates.old.items c }
     ensures len { vec_len mates.new ≡ vec_len mates.old }
@@ -108,7 +109,7 @@ fn kept_edge(edges: &[Option<EdgeId>], node: NodeId) -> EdgeId
 /// Keeps the mate of a node, if it is outermost, for all nodes that hold an end of it.
 fn mark_mate(arena: &Arena, graph: &Graph, mates: &mut Vec<Option<EdgeId>>, node: NodeId)
     requires can { CanMark graph.now arena.now (edge_in mates.old.items) }
-    requires places { arena.now.vertex_count + room_of arena.now.vertex_count < vec_len mates.old }
+    requires places { arena.now.vertex_count + most_blossoms arena.now.vertex_count < vec_len mates.old }
     ensures bare { IsBare graph.now arena.now.blossoms (edge_in mates.new.items) }
     ensures spread { IsSpread graph.now arena.now.blossoms (edge_in mates.new.items) node }
     ensures keeps { (a : ℕ) → IsSpread graph.now arena.now.blossoms (edge_in mates.old.items) a → IsSpread graph.now arena.now.blossoms (edge_in mates.new.items) a }
@@ -125,7 +126,7 @@ fn mark_mate(arena: &Arena, graph: &Graph, mates: &mut Vec<Option<EdgeId>>, node
 /// Keeps the mate of each outermost node for all nodes that hold an end of it.
 pub(crate) fn mark_mates(arena: &Arena, graph: &Graph, mates: &mut Vec<Option<EdgeId>>)
     requires can { CanMark graph.now arena.now (edge_in mates.old.items) }
-    requires places { arena.now.vertex_count + room_of arena.now.vertex_count < vec_len mates.old }
+    requires places { arena.now.vertex_count + most_blossoms arena.now.vertex_count < vec_len mates.old }
     ensures bare { IsBare graph.now arena.now.blossoms (edge_in mates.new.items) }
     ensures spread { (a : ℕ) → IsSpread graph.now arena.now.blossoms (edge_in mates.new.items) a }
     ensures outer { (c : ℕ) → is_child arena.now.blossoms c ≡ false → edge_in mates.new.items c ≡ edge_in mates.old.items c }

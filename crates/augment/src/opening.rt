@@ -3,7 +3,8 @@ ghost use Rattle.std.specs.List.{AllByRecursion};
 ghost use Rattle.std.specs.Option.{ForSome};
 ghost use Rattle.graph_theory.specs.Graph.{IsEdgeNumber, IsPerfect};
 ghost use Rattle.blossom_arena.specs.declared.links.Link.{Link};
-ghost use Rattle.blossom_arena.specs.Family.{Blossom, is_vertex, ring_of, members_of, older_than, room_of};
+ghost use Rattle.graph_theory.specs.Nested.{most_blossoms};
+ghost use Rattle.blossom_arena.specs.Family.{Blossom, is_vertex, ring_of, members_of, older_than};
 ghost use Rattle.alt_forest.specs.State.{IsOutermost, IsTight};
 ghost use Rattle.alt_forest.specs.Searches.{IsSound, state_of, edge_in};
 ghost use Rattle.alt_forest.specs.Counts.{IsMatched};
@@ -53,7 +54,7 @@ fn pair(
     link: Link,
 ) -> Option<Link>
     requires vertices { arena.now.vertex_count ≡ graph.now.vertices }
-    requires places { arena.now.vertex_count + room_of arena.now.vertex_count < vec_len mates.old }
+    requires places { arena.now.vertex_count + most_blossoms arena.now.vertex_count < vec_len mates.old }
     requires first { ForSome waiting (λ (k : Link). IsEdgeNumber graph.now k.edge) }
     ensures mates { edge_in mates.new.items ≡ paired (spread_in graph.now arena.now.blossoms b) (edge_in mates.old.items) waiting (link ∷ []) }
     ensures waiting { result ≡ waiting_after waiting (link ∷ []) }
@@ -80,7 +81,7 @@ fn pair_until(
     waiting: Option<Link>,
 ) -> Option<Link>
     requires vertices { arena.now.vertex_count ≡ graph.now.vertices }
-    requires places { arena.now.vertex_count + room_of arena.now.vertex_count < vec_len mates.old }
+    requires places { arena.now.vertex_count + most_blossoms arena.now.vertex_count < vec_len mates.old }
     requires first { ForSome waiting (λ (k : Link). IsEdgeNumber graph.now k.edge) }
     requires each { AllByRecursion (λ (l : Link). IsEdgeNumber graph.now l.edge) links }
     ensures mates { edge_in mates.new.items ≡ paired (spread_in graph.now arena.now.blossoms b) (edge_in mates.old.items) waiting (links_before links.entry node) }
@@ -102,7 +103,7 @@ fn pair_until(
 /// already, keeps it, and the others are paired round the circuit.
 fn open(arena: &Arena, graph: &Graph, mates: &mut Vec<Option<EdgeId>>, b: NodeId)
     requires can { CanOpen graph.now arena.now (edge_in mates.old.items) b }
-    requires places { arena.now.vertex_count + room_of arena.now.vertex_count < vec_len mates.old }
+    requires places { arena.now.vertex_count + most_blossoms arena.now.vertex_count < vec_len mates.old }
     ensures opens { Opens graph.now (older_than arena.now.blossoms b) b (ring_of arena.now.blossoms b) (members_of arena.now.blossoms b) (edge_in mates.old.items) (edge_in mates.new.items) }
     ensures bare { IsBare graph.now (older_than arena.now.blossoms b) (edge_in mates.new.items) }
     ensures spread { (a : ℕ) → IsSpread graph.now (older_than arena.now.blossoms b) (edge_in mates.new.items) a }
@@ -117,7 +118,7 @@ fn open(arena: &Arena, graph: &Graph, mates: &mut Vec<Option<EdgeId>>, b: NodeId
 /// Opens all blossoms, the newest first.
 fn open_all(arena: &Arena, graph: &Graph, mates: &mut Vec<Option<EdgeId>>)
     requires can { CanUnpack graph.now arena.now (edge_in mates.old.items) }
-    requires places { arena.now.vertex_count + room_of arena.now.vertex_count < vec_len mates.old }
+    requires places { arena.now.vertex_count + most_blossoms arena.now.vertex_count < vec_len mates.old }
     ensures unpacks { Unpacks graph.now arena.now.blossoms (edge_in mates.old.items) (edge_in mates.new.items) }
     ensures len { vec_len mates.new ≡ vec_len mates.old }
 {

@@ -1,11 +1,11 @@
 -- The blossoms that an order and their rings give.
-use Rattle.std.proofs.Common.{◌≡◌, ℕ, ◌+◌, ◌≤◌, ◌<◌, ◌≢◌, Bool, true, false, ◌||◌, eqb, cond, List, [], ◌∷◌, length, refl, sym, ap, ap₂, ◌∙◌, subst, arith, ⊎_elim}
-use Rattle.std.proofs.lemmas.Bool.{eqb-true, eq-eqb, eqb-false, or_cases, or_parts, both_ways}
+use Rattle.std.proofs.Common.{◌≡◌, ℕ, true, false, eqb, cond, List, [], ◌∷◌, length, refl, sym, ap, ap₂, ◌∙◌, arith, ⊎_elim}
+use Rattle.std.proofs.lemmas.Bool.{eqb-true, or_cases, or_parts, both_ways}
 use Rattle.graph_theory.specs.Parts.{holds}
 use Rattle.blossom_arena.specs.declared.links.Link.{Link}
-use Rattle.blossom_arena.specs.Family.{Blossom, in_ring, names_of, is_child, is_node, union_of, ring_of, without, made_of, members_of, IsNested}
+use Rattle.blossom_arena.specs.Family.{Blossom, in_ring, names_of, is_child, ring_of, without, made_of}
 use Rattle.blossom_arena.specs.Fields.{build}
-use Rattle.blossom_arena.proofs.Lists.{by_test, AllNew, first_in, later_in}
+use Rattle.blossom_arena.proofs.Lists.{by_test, first_in, later_in}
 use Rattle.blossom_arena.proofs.Orders.{removed}
 use Rattle.blossom_arena.proofs.Taken.{union_without}
 

@@ -1,6 +1,6 @@
 -- What a dissolve leaves: the blossoms that stood, without one.
-use Rattle.std.proofs.Common.{◌≡◌, ℕ, zero, suc, ◌+◌, ◌-◌, ◌≤◌, ◌<◌, ◌≢◌, Bool, true, false, ◌||◌, eqb, leb, cond, List, [], ◌∷◌, length, refl, sym, ap, ◌∙◌, subst, arith, ⊎_elim, get_or, Option, Some, None}
-use Rattle.std.specs.Prelude.{slice_set, slice_index, IsSome, is_some, ℤ, pos, ◌≤ℤ◌}
+use Rattle.std.proofs.Common.{◌≡◌, ℕ, ◌+◌, ◌<◌, true, false, eqb, leb, cond, List, [], ◌∷◌, length, sym, ap, ◌∙◌, subst, arith, ⊎_elim, None}
+use Rattle.std.specs.Prelude.{slice_set, slice_index, IsSome, is_some, pos, ◌≤ℤ◌}
 use Rattle.std.specs.List.{AllByRecursion}
 use Rattle.std.specs.Global.{Vec}
 use Rattle.std.proofs.lemmas.Bool.{eqb-true, eqb-false, ne_eqb, or_cases, both_ways}
@@ -8,15 +8,13 @@ use Rattle.std.proofs.lemmas.Bool.Decides.{nat_tests}
 use Rattle.std.proofs.lemmas.List.{length-set}
 use Rattle.slab.specs.Slab.{Slab, get, Updates, slab_len}
 use Rattle.graph_theory.specs.Parts.{holds}
-use Rattle.blossom_arena.specs.declared.links.Link.{Link}
-use Rattle.blossom_arena.specs.declared.runs.Run.{Run}
 use Rattle.blossom_arena.specs.declared.runs.Kept.{Kept}
 use Rattle.blossom_arena.specs.declared.arena.Arena.TheInside.{Inside}
 use Rattle.blossom_arena.specs.Tables.{walk, links_of, filled}
-use Rattle.blossom_arena.specs.Family.{Blossom, nodes_of, in_ring, names_of, is_vertex, is_node, is_child, members_of, ring_of, without, room_of, dual_at, HasDuals, IsNested, outermost}
+use Rattle.blossom_arena.specs.Family.{Blossom, nodes_of, in_ring, names_of, is_child, members_of, ring_of, without, dual_at, HasDuals, IsNested, outermost}
 use Rattle.blossom_arena.specs.Fields.{IsSound, blossoms_of, order_of, key_of, kept_of, kept_or_none, run_of, vertices_of, IsRun, lowered, parent_of, build, IsOrder}
-use Rattle.blossom_arena.proofs.Lists.{by_test, AllNew, each_from, first_in, later_in}
-use Rattle.blossom_arena.proofs.Nested.{range_vertex, child_is_node, name_is_node}
+use Rattle.blossom_arena.proofs.Lists.{by_test, each_from}
+use Rattle.blossom_arena.proofs.Nested.{range_vertex, child_is_node}
 use Rattle.blossom_arena.proofs.Parents.{ring_child}
 use Rattle.blossom_arena.proofs.Taken.{members_without, nested_without, parent_without}
 use Rattle.blossom_arena.proofs.Opened.{outermost_lowered, ring_other}

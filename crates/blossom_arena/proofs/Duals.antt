@@ -1,5 +1,5 @@
 -- What a change of one dual keeps.
-use Rattle.std.proofs.Common.{◌≡◌, ℕ, ◌-◌, ◌≤◌, ◌<◌, ◌≢◌, true, false, eqb, List, [], ◌∷◌, length, refl, sym, ◌∙◌, subst, arith}
+use Rattle.std.proofs.Common.{◌≡◌, ℕ, ◌<◌, eqb, List, [], ◌∷◌, length, sym, ◌∙◌, subst}
 use Rattle.std.specs.Prelude.{ℤ, pos, ◌≤ℤ◌, slice_set}
 use Rattle.std.specs.List.{AllByRecursion}
 use Rattle.std.specs.Global.{Vec}
@@ -7,7 +7,8 @@ use Rattle.std.proofs.lemmas.Bool.{eqb-true, eqb-false}
 use Rattle.std.proofs.lemmas.List.{get_or-set_other, get_or-set_same, length-set}
 use Rattle.std.proofs.lemmas.List.Elements.{All-set}
 use Rattle.blossom_arena.specs.declared.arena.Arena.TheInside.{Inside}
-use Rattle.blossom_arena.specs.Family.{Blossom, IsNested, IsDual, HasDuals, dual_at}
+use Rattle.graph_theory.specs.Duals.{IsNumber}
+use Rattle.blossom_arena.specs.Family.{Blossom, IsNested, HasDuals, dual_at}
 use Rattle.blossom_arena.specs.Fields.{IsSound, blossoms_of}
 use Rattle.blossom_arena.proofs.Lists.{by_test}
 
@@ -22,10 +23,10 @@ each_dual n (b ∷ older) ys node y nested high fine each = (
   each_dual n older ys node y nested.1 high fine each.1,
 )
 
-pub duals_set : (n : ℕ) (bs : List Blossom) (ys : List ℤ) (node : ℕ) (y : ℤ) → IsNested n bs → node < length ys → IsDual y → (n < node → pos 0 ≤ℤ y) → HasDuals n ys bs → HasDuals n (slice_set ys node y) bs
+pub duals_set : (n : ℕ) (bs : List Blossom) (ys : List ℤ) (node : ℕ) (y : ℤ) → IsNested n bs → node < length ys → IsNumber y → (n < node → pos 0 ≤ℤ y) → HasDuals n ys bs → HasDuals n (slice_set ys node y) bs
 duals_set n bs ys node y nested high is fine h = record {
   one_each = length-set ys node y ∙ h.one_each;
-  in_range = All-set IsDual ys node y is h.in_range;
+  in_range = All-set IsNumber ys node y is h.in_range;
   blossoms = each_dual n bs ys node y nested high fine h.blossoms;
 }
 

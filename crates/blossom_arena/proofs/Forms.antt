@@ -1,15 +1,16 @@
 -- The sets of a nested family: they are odd, and of any two one holds the other or they have no vertex in common.
-use Rattle.std.proofs.Common.{◌≡◌, ℕ, ◌+◌, ◌%◌, ◌≤◌, ◌<◌, ◌⊎◌, Bool, true, false, ◌||◌, eqb, cond, List, [], ◌∷◌, length, refl, sym, ap, ◌∙◌, subst, arith, ⊎_elim, inl, inr, All, AllPairs}
+use Rattle.std.proofs.Common.{◌≡◌, ℕ, ◌%◌, ◌≤◌, ◌<◌, true, false, eqb, cond, List, [], ◌∷◌, length, refl, sym, ap, ◌∙◌, subst, arith, ⊎_elim, inl, inr, All, AllPairs}
 use Rattle.std.specs.List.Sorted.{IsStrictlyIncreasing}
 use Rattle.std.proofs.lemmas.Bool.{eqb-true, eq-eqb, false_from_ne_true, or_cases, both_ways}
 use Rattle.std.proofs.lemmas.List.Kept.{AllPairs-from_increasing}
 use Rattle.graph_theory.specs.Parts.{holds}
 use Rattle.graph_theory.specs.Duals.{HasForm}
 use Rattle.graph_theory.proofs.Members.{all_holds, holds_all, first_less, pairs_tail}
-use Rattle.blossom_arena.specs.Family.{Blossom, names_of, is_vertex, is_node, in_ring, outermost, members_of, IsOddSet, AreLaminar, IsNested}
+use Rattle.graph_theory.specs.Nested.{AreLaminar}
+use Rattle.blossom_arena.specs.Family.{Blossom, names_of, is_node, in_ring, outermost, members_of, IsOddSet, IsNested}
 use Rattle.blossom_arena.proofs.Lists.{by_test, AllNew, new_from_distinct, distinct_from_new, length-within, first_in}
 use Rattle.blossom_arena.proofs.Nested.{vertex_range, name_is_node, node_before}
-use Rattle.blossom_arena.proofs.Sets.{members_here, members_past, members_new, members_odd, members_three, member_vertex, member_by_ring, outermost_has}
+use Rattle.blossom_arena.proofs.Sets.{members_here, members_past, members_new, members_odd, members_three, member_vertex, member_by_ring}
 
 -- a blossom's vertices are an odd number of at least three different ones
 pub members_form : (n : ℕ) (bs : List Blossom) (x : ℕ) → IsNested n bs → holds (names_of bs) x ≡ true → IsOddSet n (members_of bs x)

@@ -1,29 +1,31 @@
 -- The fields of an arena without blossoms.
-use Rattle.std.proofs.Common.{◌≡◌, ◌∙◌, ℕ, zero, suc, ◌+◌, ◌≤◌, ◌<◌, true, false, List, [], length, refl, sym, ap, subst, arith, get_or, Option, None}
-use Rattle.std.specs.Prelude.{ℤ, pos, ◌≤ℤ◌, replicate, slice_index, count_by, is_some, All}
+use Rattle.std.proofs.Common.{◌≡◌, ◌∙◌, ℕ, ◌+◌, ◌≤◌, ◌<◌, false, List, [], length, refl, sym, ap, subst, arith, get_or, Option, None}
+use Rattle.std.specs.Prelude.{ℤ, pos, replicate, slice_index, count_by, is_some}
 use Rattle.std.specs.List.{AllByRecursion}
 use Rattle.std.proofs.lemmas.Bool.{both_ways}
 use Rattle.std.proofs.lemmas.Int.{ints}
 use Rattle.std.proofs.lemmas.List.{length-replicate, get_or-replicate}
-use Rattle.slab.specs.Slab.{slab_len, get}
+use Rattle.slab.specs.Slab.{get}
 use Rattle.graph_theory.specs.Parts.{holds}
 use Rattle.blossom_arena.specs.declared.runs.Kept.{Kept}
 use Rattle.blossom_arena.specs.declared.arena.Arena.TheInside.{Inside}
 use Rattle.blossom_arena.specs.Tables.{walk}
-use Rattle.blossom_arena.specs.Family.{Blossom, Family, IsFamily, IsNested, IsDual, HasDuals, empty_family, room_of, outermost}
-use Rattle.blossom_arena.specs.Fields.{IsSound, HasPlaces, blossoms_of, order_of, family_of, key_of, build, parent_of, IsOrder}
+use Rattle.graph_theory.specs.Nested.{most_blossoms}
+use Rattle.graph_theory.specs.Duals.{IsNumber}
+use Rattle.blossom_arena.specs.Family.{IsNested, HasDuals, empty_family, outermost}
+use Rattle.blossom_arena.specs.Fields.{IsSound, blossoms_of, order_of, family_of, key_of, build, parent_of, IsOrder}
 use Rattle.blossom_arena.proofs.Sound.{rings}
 
 pub record IsFresh (a : Inside) : Type 0 where
   pub few : a.vertex_count ≤ 4096
   pub slots : a.kept.slots ≡ []
-  pub room : a.kept.capacity ≡ room_of a.vertex_count
-  pub duals : a.duals.items ≡ replicate (a.vertex_count + room_of a.vertex_count + 1) (pos 0)
-  pub parents : a.parents.items ≡ replicate (a.vertex_count + room_of a.vertex_count + 1) 0
-  pub nexts : length a.nexts.items ≡ a.vertex_count + room_of a.vertex_count + 1
-  pub edges : length a.edges.items ≡ a.vertex_count + room_of a.vertex_count + 1
-  pub older : a.older.items ≡ replicate (a.vertex_count + room_of a.vertex_count + 1) 0
-  pub newer : a.newer.items ≡ replicate (a.vertex_count + room_of a.vertex_count + 1) 0
+  pub room : a.kept.capacity ≡ most_blossoms a.vertex_count
+  pub duals : a.duals.items ≡ replicate (a.vertex_count + most_blossoms a.vertex_count + 1) (pos 0)
+  pub parents : a.parents.items ≡ replicate (a.vertex_count + most_blossoms a.vertex_count + 1) 0
+  pub nexts : length a.nexts.items ≡ a.vertex_count + most_blossoms a.vertex_count + 1
+  pub edges : length a.edges.items ≡ a.vertex_count + most_blossoms a.vertex_count + 1
+  pub older : a.older.items ≡ replicate (a.vertex_count + most_blossoms a.vertex_count + 1) 0
+  pub newer : a.newer.items ≡ replicate (a.vertex_count + most_blossoms a.vertex_count + 1) 0
   pub outer_len : length a.outer.items ≡ a.vertex_count + 1
   pub outer : (v : ℕ) → v ≤ a.vertex_count → slice_index a.outer.items v ≡ v
   pub followers : length a.followers.items ≡ a.vertex_count + 1
@@ -33,7 +35,7 @@ module _ (a : Inside) (h : IsFresh a) where
   n = a.vertex_count
 
   abbrev places : ℕ
-  places = n + room_of n + 1
+  places = n + most_blossoms n + 1
 
   no_order : order_of a ≡ []
   no_order = ap (λ ss. walk (count_by is_some ss) a.older.items (slice_index a.older.items 0)) h.slots
@@ -47,7 +49,7 @@ module _ (a : Inside) (h : IsFresh a) where
   no_duals : HasDuals n (replicate places (pos 0)) []
   no_duals = record {
     one_each = length-replicate places (pos 0);
-    in_range = λ k d low. subst IsDual (sym (get_or-replicate places k (pos 0) d (omega (arith, low, length-replicate {A = ℤ} places (pos 0))))) (omega (arith, ints), omega (arith, ints));
+    in_range = λ k d low. subst IsNumber (sym (get_or-replicate places k (pos 0) d (omega (arith, low, length-replicate {A = ℤ} places (pos 0))))) (omega (arith, ints), omega (arith, ints));
     blossoms = tt;
   }
 

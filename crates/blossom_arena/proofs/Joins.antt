@@ -1,7 +1,7 @@
 -- Runs that are joined to one.
-use Rattle.std.proofs.Common.{◌≡◌, ℕ, zero, suc, ◌+◌, ◌≤◌, ◌<◌, ◌≢◌, Bool, true, false, ◌||◌, eqb, cond, List, [], ◌∷◌, ◌++◌, length, map, refl, sym, ap, ◌∙◌, subst, arith, ⊎_elim, get_or, set, append_assoc, length-append}
-use Rattle.std.specs.List.{AllByRecursion, flat_map}
-use Rattle.std.proofs.lemmas.Bool.{eqb-true, eq-eqb, eqb-false, or_cases, or_parts, or_left, or_right, both_ways}
+use Rattle.std.proofs.Common.{◌≡◌, ℕ, suc, ◌+◌, ◌≤◌, ◌<◌, ◌≢◌, true, false, eqb, List, [], ◌∷◌, ◌++◌, length, map, refl, sym, ap, ◌∙◌, subst, arith, ⊎_elim, get_or, set, append_assoc, length-append}
+use Rattle.std.specs.List.{AllByRecursion}
+use Rattle.std.proofs.lemmas.Bool.{eqb-true, eqb-false, or_cases, or_parts, or_left, or_right, both_ways}
 use Rattle.std.proofs.lemmas.List.{get_or-set_other, get_or-set_same, length-set, append-nil}
 use Rattle.std.proofs.lemmas.List.Concat.{flat_map-cons}
 use Rattle.graph_theory.specs.Parts.{holds}
@@ -10,8 +10,8 @@ use Rattle.blossom_arena.specs.declared.links.Link.{Link}
 use Rattle.blossom_arena.specs.declared.runs.Run.{Run}
 use Rattle.blossom_arena.specs.Tables.{walk}
 use Rattle.blossom_arena.specs.Family.{Blossom, nodes_of, in_ring, members_of, union_of}
-use Rattle.blossom_arena.specs.Fields.{IsRun, vertices_of, last_of, joined, joined_tail, joined_size}
-use Rattle.blossom_arena.proofs.Lists.{by_test, AllNew, first_in, later_in}
+use Rattle.blossom_arena.specs.Fields.{IsRun, last_of, joined, joined_tail, joined_size}
+use Rattle.blossom_arena.proofs.Lists.{AllNew, first_in, later_in}
 use Rattle.blossom_arena.proofs.Tails.{front, front_sub, last_in, last_append, last_not_front}
 use Rattle.blossom_arena.proofs.Writes.{length-walk, walk_front}
 

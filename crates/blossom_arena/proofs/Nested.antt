@@ -1,16 +1,16 @@
 -- A nested family: its nodes, how many of them are outermost, and that there is room for one more.
-use Rattle.std.proofs.Common.{◌≡◌, ℕ, ◌+◌, ◌*◌, ◌≤◌, ◌<◌, ◌≢◌, ◌⊎◌, Bool, true, false, ◌||◌, ◌&&◌, not, eqb, leb, cond, List, [], ◌∷◌, length, map, refl, sym, ap, ◌∙◌, subst, arith, ⊎_elim, inl, inr}
-use Rattle.std.specs.Prelude.{filter, nat_eq, sum_by, All}
-use Rattle.std.specs.List.{list_any, AllByRecursion}
+use Rattle.std.proofs.Common.{◌≡◌, ℕ, ◌+◌, ◌*◌, ◌≤◌, ◌<◌, Bool, true, false, ◌||◌, ◌&&◌, not, eqb, leb, List, [], ◌∷◌, length, refl, ap, ◌∙◌, subst, arith, ⊎_elim}
+use Rattle.std.specs.Prelude.{filter, sum_by, All}
+use Rattle.std.specs.List.{AllByRecursion}
 use Rattle.std.proofs.lemmas.List.Elements.{recursion_from_All}
-use Rattle.std.proofs.lemmas.Bool.Decides.{nat_tests}
-use Rattle.std.proofs.lemmas.Bool.{eqb-true, eq-eqb, eqb-false, ne_eqb, false_from_ne_true, or_cases, and_parts, and_from, not-true, both_ways, and_left, or_parts, or_from, or_left, or_right, leb-true, le-leb}
+use Rattle.std.proofs.lemmas.Bool.{eqb-true, eq-eqb, false_from_ne_true, or_cases, and_parts, and_from, not-true, both_ways, and_left, or_parts, or_from, or_left, or_right, leb-true, le-leb}
 use Rattle.std.proofs.lemmas.List.Sums.{sum_by-cons}
 use Rattle.std.proofs.lemmas.List.{length-map}
 use Rattle.graph_theory.specs.Parts.{holds}
 use Rattle.blossom_arena.specs.declared.links.Link.{Link}
-use Rattle.blossom_arena.specs.Family.{Blossom, nodes_of, in_ring, names_of, is_vertex, is_node, is_child, is_outermost, IsCircuit, IsNext, IsNested, room_of}
-use Rattle.blossom_arena.proofs.Lists.{by_test, AllNew, new_from_distinct, holds-filter, new-filter, length-without, length-within, vertices, holds-vertices, length-vertices, new-vertices, each_from, each_at}
+use Rattle.graph_theory.specs.Nested.{most_blossoms}
+use Rattle.blossom_arena.specs.Family.{Blossom, nodes_of, in_ring, names_of, is_vertex, is_node, is_child, is_outermost, IsCircuit, IsNext, IsNested}
+use Rattle.blossom_arena.proofs.Lists.{AllNew, new_from_distinct, holds-filter, new-filter, length-without, length-within, vertices, holds-vertices, length-vertices, new-vertices}
 
 -- what is true of each link's node is true of each node of the ring
 pub ring_each : (P : ℕ → Type 0) (ring : List Link) (a : ℕ) → All (λ (l : Link). P l.node) ring → in_ring ring a ≡ true → P a
@@ -59,15 +59,15 @@ pub range_vertex : (n v : ℕ) → 1 ≤ v → v ≤ n → is_vertex n v ≡ tru
 range_vertex n v low high = and_from (leb 1 v) (leb v n) (le-leb 1 v low) (le-leb v n high)
 
 -- a blossom's number lies after the vertices and within the room
-pub name_range : (n : ℕ) (bs : List Blossom) (a : ℕ) → IsNested n bs → holds (names_of bs) a ≡ true → (n < a) × (a ≤ n + room_of n)
+pub name_range : (n : ℕ) (bs : List Blossom) (a : ℕ) → IsNested n bs → holds (names_of bs) a ≡ true → (n < a) × (a ≤ n + most_blossoms n)
 name_range n [] a h e = absurd (both_ways false refl e)
 name_range n (b ∷ older) a h e = ⊎_elim
-    (λ s. let same : b.node ≡ a = eqb-true b.node a s in let low : n < b.node = h.0.after_vertices in let high : b.node ≤ n + room_of n = h.0.within_room in (subst (λ x. n < x) same low, subst (λ x. x ≤ n + room_of n) same high))
+    (λ s. let same : b.node ≡ a = eqb-true b.node a s in let low : n < b.node = h.0.after_vertices in let high : b.node ≤ n + most_blossoms n = h.0.within_room in (subst (λ x. n < x) same low, subst (λ x. x ≤ n + most_blossoms n) same high))
     (λ m. name_range n older a h.1 m)
     (or_cases (eqb b.node a) (holds (names_of older) a) e)
 
 -- a node's number lies in range
-pub node_range : (n : ℕ) (bs : List Blossom) (a : ℕ) → IsNested n bs → is_node n bs a ≡ true → (1 ≤ a) × (a ≤ n + room_of n)
+pub node_range : (n : ℕ) (bs : List Blossom) (a : ℕ) → IsNested n bs → is_node n bs a ≡ true → (1 ≤ a) × (a ≤ n + most_blossoms n)
 node_range n bs a h e = ⊎_elim
     (λ v. let r = vertex_range n a v in (r.0, omega (arith, r.1)))
     (λ m. let r = name_range n bs a h m in (omega (arith, r.0), r.1))
@@ -184,7 +184,7 @@ link_count-low n [] h = omega arith
 link_count-low n (b ∷ older) h = omega (arith, link_count-low n older h.1, h.0.circuit.at_least_three, sum_by-cons (λ (b : Blossom). length b.ring) b older)
 
 -- there is room for one blossom more
-pub room_for_circuit : (n : ℕ) (bs : List Blossom) (ring : List Link) → IsNested n bs → IsCircuit n bs ring → (length bs + 1 ≤ room_of n) × (length ring ≤ n)
+pub room_for_circuit : (n : ℕ) (bs : List Blossom) (ring : List Link) → IsNested n bs → IsCircuit n bs ring → (length bs + 1 ≤ most_blossoms n) × (length ring ≤ n)
 room_for_circuit n bs ring h c =
     let a : length (outer_nodes n bs) + link_count bs ≡ n + length bs = length-outer_nodes n bs h in
     let b : length ring ≤ length (outer_nodes n bs) = circuit_fits n bs ring h c in

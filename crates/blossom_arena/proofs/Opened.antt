@@ -1,13 +1,12 @@
 -- The nodes of a ring come out as outermost nodes where their blossom is taken away.
-use Rattle.std.proofs.Common.{◌≡◌, ℕ, ◌+◌, ◌<◌, ◌≤◌, ◌≢◌, Bool, true, false, not, ◌||◌, ◌&&◌, eqb, cond, List, [], ◌∷◌, ◌++◌, length, refl, sym, ap, ◌∙◌, subst, arith, ⊎_elim, get_or}
-use Rattle.std.specs.List.{flat_map}
-use Rattle.std.proofs.lemmas.Bool.{eqb-true, eqb-false, ne_eqb, false_from_ne_true, or_cases, or_parts, both_ways, and_from}
+use Rattle.std.proofs.Common.{◌≡◌, ℕ, ◌<◌, ◌≢◌, true, false, not, eqb, cond, List, [], ◌∷◌, ◌++◌, length, refl, sym, ap, ◌∙◌, subst, arith, ⊎_elim, get_or}
+use Rattle.std.proofs.lemmas.Bool.{eqb-false, ne_eqb, false_from_ne_true, or_cases, or_parts, both_ways, and_from}
 use Rattle.std.proofs.lemmas.List.Concat.{flat_map-cons}
 use Rattle.graph_theory.specs.Parts.{holds}
 use Rattle.blossom_arena.specs.declared.links.Link.{Link}
 use Rattle.blossom_arena.specs.Family.{Blossom, nodes_of, in_ring, names_of, is_vertex, is_node, is_child, is_outermost, outermost, members_of, union_of, ring_of, without, IsNested}
 use Rattle.blossom_arena.specs.Fields.{parent_of, lowered}
-use Rattle.blossom_arena.proofs.Lists.{by_test, first_in, later_in}
+use Rattle.blossom_arena.proofs.Lists.{by_test}
 use Rattle.blossom_arena.proofs.Nested.{new_free, child_is_node}
 use Rattle.blossom_arena.proofs.Sets.{members_here, members_past, in_union, of_union, outermost_has, outermost_by_member}
 use Rattle.blossom_arena.proofs.Parents.{ring_child}

@@ -1,16 +1,15 @@
 -- The way up by the parents.
-use Rattle.std.proofs.Common.{◌≡◌, ℕ, zero, suc, ◌+◌, ◌≤◌, ◌<◌, ◌≢◌, ◌⊎◌, Bool, true, false, ◌||◌, eqb, cond, List, [], ◌∷◌, ◌++◌, length, refl, sym, ap, ◌∙◌, subst, arith, ⊎_elim, inl, inr, length-append, append_assoc, get_or}
+use Rattle.std.proofs.Common.{◌≡◌, ℕ, zero, suc, ◌+◌, ◌≤◌, ◌<◌, ◌≢◌, ◌⊎◌, true, false, eqb, cond, List, [], ◌∷◌, ◌++◌, length, refl, sym, ap, ◌∙◌, subst, arith, ⊎_elim, inl, inr, length-append, append_assoc, get_or}
 use Rattle.std.specs.List.{AllByRecursion}
-use Rattle.std.proofs.lemmas.Bool.{eqb-true, eq-eqb, eqb-false, ne_eqb, false_from_ne_true, or_cases, or_parts, both_ways, or_from, or_left, or_right, cases_eq}
-use Rattle.std.proofs.lemmas.List.{append-nil}
+use Rattle.std.proofs.lemmas.Bool.{eqb-true, eq-eqb, ne_eqb, false_from_ne_true, or_cases, or_parts, both_ways, or_left, or_right, cases_eq}
 use Rattle.graph_theory.specs.Parts.{holds}
 use Rattle.graph_theory.proofs.Members.{holds-append}
-use Rattle.blossom_arena.specs.declared.links.Link.{Link}
-use Rattle.blossom_arena.specs.Family.{Blossom, in_ring, names_of, is_vertex, is_node, is_child, outermost, members_of, ring_of, older_than, chain_of, child_holding, room_of, IsNested}
+use Rattle.graph_theory.specs.Nested.{most_blossoms}
+use Rattle.blossom_arena.specs.Family.{Blossom, in_ring, names_of, is_vertex, is_node, is_child, outermost, members_of, ring_of, older_than, chain_of, child_holding, IsNested}
 use Rattle.blossom_arena.specs.Fields.{last_of, parent_of, climb, climb_to, CanClimb}
-use Rattle.blossom_arena.proofs.Lists.{by_test, first_in, later_in, each_from, each_at}
-use Rattle.blossom_arena.proofs.Nested.{child_free, new_no_child, new_free, node_grows, new_is_node, name_is_node, name_range, node_range, vertex_is_node, node_before, blossoms_few}
-use Rattle.blossom_arena.proofs.Sets.{member_by_ring, members_here, members_past, outermost_node, outermost_free}
+use Rattle.blossom_arena.proofs.Lists.{by_test, first_in, later_in, each_from}
+use Rattle.blossom_arena.proofs.Nested.{child_free, new_no_child, node_grows, new_is_node, node_range, blossoms_few}
+use Rattle.blossom_arena.proofs.Sets.{member_by_ring, members_here, members_past, outermost_free}
 use Rattle.blossom_arena.proofs.Tails.{last_append}
 
 pub free_parent : (bs : List Blossom) (x : ℕ) → is_child bs x ≡ false → parent_of bs x ≡ 0
@@ -144,10 +143,10 @@ chain_first (b ∷ older) v =
     (λ m. (r.0, ap (λ q. cond q (chain_of older v ++ b.node ∷ []) (chain_of older v)) m ∙ r.1))
 
 -- the table has the parents of these nodes
-pub at_nodes : (n : ℕ) (bs : List Blossom) (ps xs : List ℕ) → IsNested n bs → ((x : ℕ) → x ≤ n + room_of n → get_or ps x 0 ≡ parent_of bs x) → ((x : ℕ) → holds xs x ≡ true → is_node n bs x ≡ true) → AllByRecursion (λ y. get_or ps y 0 ≡ parent_of bs y) xs
+pub at_nodes : (n : ℕ) (bs : List Blossom) (ps xs : List ℕ) → IsNested n bs → ((x : ℕ) → x ≤ n + most_blossoms n → get_or ps x 0 ≡ parent_of bs x) → ((x : ℕ) → holds xs x ≡ true → is_node n bs x ≡ true) → AllByRecursion (λ y. get_or ps y 0 ≡ parent_of bs y) xs
 at_nodes n bs ps xs h table nodes = each_from (λ y. get_or ps y 0 ≡ parent_of bs y) xs (λ x e. let r = node_range n bs x h (nodes x e) in table x r.1)
 
-pub climb_chain : (n k : ℕ) (bs : List Blossom) (ps : List ℕ) (v : ℕ) → IsNested n bs → is_vertex n v ≡ true → ((x : ℕ) → x ≤ n + room_of n → get_or ps x 0 ≡ parent_of bs x) → length bs + 1 ≤ k → climb k ps v ≡ chain_of bs v
+pub climb_chain : (n k : ℕ) (bs : List Blossom) (ps : List ℕ) (v : ℕ) → IsNested n bs → is_vertex n v ≡ true → ((x : ℕ) → x ≤ n + most_blossoms n → get_or ps x 0 ≡ parent_of bs x) → length bs + 1 ≤ k → climb k ps v ≡ chain_of bs v
 climb_chain n k bs ps v h iv table short =
     let first = chain_first bs v in
     let is : chain_of bs v ≡ v ∷ first.0 = first.1 in
@@ -158,7 +157,7 @@ climb_chain n k bs ps v h iv table short =
     (omega (arith, chain_short bs v, ap length is))
     ∙ sym is
 
-pub can_climb : (n : ℕ) (bs : List Blossom) (ps : List ℕ) (v : ℕ) → IsNested n bs → is_vertex n v ≡ true → ((x : ℕ) → x ≤ n + room_of n → get_or ps x 0 ≡ parent_of bs x) → length ps ≡ n + room_of n + 1 → CanClimb ps v
+pub can_climb : (n : ℕ) (bs : List Blossom) (ps : List ℕ) (v : ℕ) → IsNested n bs → is_vertex n v ≡ true → ((x : ℕ) → x ≤ n + most_blossoms n → get_or ps x 0 ≡ parent_of bs x) → length ps ≡ n + most_blossoms n + 1 → CanClimb ps v
 can_climb n bs ps v h iv table len =
     let few : length bs + 1 ≤ length ps = omega (arith, blossoms_few n bs h, len) in
     let at_len = climb_chain n (length ps) bs ps v h iv table few in
@@ -212,7 +211,7 @@ chain_through (b ∷ older) a v k m =
     (λ held. (r.0, ap (λ q. cond q (chain_of older v ++ b.node ∷ []) (chain_of older v)) held ∙ r.1 ∙ ap (λ c. c ++ (a ∷ r.0)) (sym below))))
 
 pub climb_child : (n : ℕ) (bs : List Blossom) (ps : List ℕ) (a v : ℕ) → IsNested n bs → is_vertex n v ≡ true → holds (names_of bs) a ≡ true → holds (members_of bs a) v ≡ true
-    → ((x : ℕ) → x ≤ n + room_of n → get_or ps x 0 ≡ parent_of bs x) → length ps ≡ n + room_of n + 1 → climb_to (length ps) ps a v ≡ child_holding bs a v
+    → ((x : ℕ) → x ≤ n + most_blossoms n → get_or ps x 0 ≡ parent_of bs x) → length ps ≡ n + most_blossoms n + 1 → climb_to (length ps) ps a v ≡ child_holding bs a v
 climb_child n bs ps a v h iv k m table len =
     let older : List Blossom = older_than bs a in
     let through = chain_through bs a v k m in

@@ -1,12 +1,12 @@
 -- What a shrink leaves: one blossom more before those that stood.
-use Rattle.std.proofs.Common.{◌≡◌, ℕ, zero, suc, ◌+◌, ◌≤◌, ◌<◌, ◌≢◌, Bool, true, false, ◌||◌, ◌&&◌, not, eqb, leb, cond, List, [], ◌∷◌, ◌++◌, length, map, refl, sym, ap, ◌∙◌, subst, arith, ⊎_elim, get_or, Option, Some, None}
-use Rattle.std.specs.Prelude.{slice_set, vec_len, slice_index, IsSome, is_some, ℤ, pos, ◌≤ℤ◌}
+use Rattle.std.proofs.Common.{◌≡◌, ℕ, ◌+◌, ◌≤◌, ◌<◌, ◌≢◌, true, false, eqb, leb, cond, List, [], ◌∷◌, length, refl, sym, ap, ◌∙◌, subst, arith, ⊎_elim, Some, None}
+use Rattle.std.specs.Prelude.{slice_set, slice_index, IsSome, is_some, ℤ, pos, ◌≤ℤ◌}
 use Rattle.std.specs.List.{AllByRecursion}
 use Rattle.std.specs.Global.{Vec}
-use Rattle.std.proofs.lemmas.Bool.{eqb-true, eqb-false, eq-eqb, ne_eqb, or_cases, or_parts, or_from, or_left, both_ways, false_from_ne_true, lt-leb, and_right}
+use Rattle.std.proofs.lemmas.Bool.{eqb-true, eqb-false, eq-eqb, or_cases, or_parts, or_from, or_left, both_ways, false_from_ne_true, lt-leb, and_right}
 use Rattle.std.proofs.lemmas.Int.{ints}
 use Rattle.std.proofs.lemmas.List.{get_or-set_other, get_or-set_same, length-set}
-use Rattle.std.proofs.lemmas.List.Elements.{All-set, recursion_from_All}
+use Rattle.std.proofs.lemmas.List.Elements.{All-set}
 use Rattle.slab.specs.Slab.{Slab, get, Updates, slab_len}
 use Rattle.graph_theory.specs.Parts.{holds}
 use Rattle.blossom_arena.specs.declared.links.Link.{Link}
@@ -14,17 +14,19 @@ use Rattle.blossom_arena.specs.declared.runs.Run.{Run}
 use Rattle.blossom_arena.specs.declared.runs.Kept.{Kept}
 use Rattle.blossom_arena.specs.declared.arena.Arena.TheInside.{Inside}
 use Rattle.blossom_arena.specs.Tables.{walk, links_of, filled, next_node, threaded, noted}
-use Rattle.blossom_arena.specs.Family.{Blossom, nodes_of, in_ring, names_of, is_vertex, is_node, is_child, members_of, union_of, made_of, room_of, dual_at, IsDual, HasDuals, IsCircuit, IsNext, IsNested, outermost}
-use Rattle.blossom_arena.specs.Fields.{IsSound, blossoms_of, order_of, ring_at, key_of, kept_of, kept_or_none, run_of, runs_of, vertices_of, last_of, IsRun, joined, parent_of, build, IsOrder}
+use Rattle.graph_theory.specs.Nested.{most_blossoms}
+use Rattle.graph_theory.specs.Duals.{IsNumber}
+use Rattle.blossom_arena.specs.Family.{Blossom, nodes_of, in_ring, names_of, is_vertex, is_node, is_child, members_of, union_of, made_of, dual_at, HasDuals, IsCircuit, IsNext, IsNested, outermost}
+use Rattle.blossom_arena.specs.Fields.{IsSound, blossoms_of, order_of, key_of, kept_of, kept_or_none, runs_of, last_of, IsRun, joined, parent_of, build, IsOrder}
 use Rattle.blossom_arena.proofs.Lists.{by_test, AllNew, new_from_distinct, first_in, later_in, each_from}
-use Rattle.blossom_arena.proofs.Nested.{circuit_outer, circuit_node, outermost_parts, node_range, vertex_range, name_is_node, room_for_circuit}
-use Rattle.blossom_arena.proofs.Sets.{members_past, member_vertex, members_some}
+use Rattle.blossom_arena.proofs.Nested.{circuit_outer, circuit_node, outermost_parts, node_range, vertex_range, name_is_node}
+use Rattle.blossom_arena.proofs.Sets.{members_past, member_vertex}
 use Rattle.blossom_arena.proofs.Tails.{front, front_sub, tails_apart}
-use Rattle.blossom_arena.proofs.Writes.{length-filled, filled_at, length-threaded, threaded_out, threaded_walk, length-noted, noted_out, noted_links, walk_same, links_same, length-walk}
+use Rattle.blossom_arena.proofs.Writes.{length-filled, filled_at, length-threaded, threaded_out, threaded_walk, length-noted, noted_out, noted_links, walk_same, links_same}
 use Rattle.blossom_arena.proofs.Orders.{put_first_order, walk_order}
 use Rattle.blossom_arena.proofs.Builds.{build-same}
 use Rattle.blossom_arena.proofs.Joins.{length-joined, joined_out, run_keeps}
-use Rattle.blossom_arena.proofs.Sound.{rings, order_names, order_len, blossoms_len, order_new, order_range, order_no_zero, node_run, ring_walk_child, circuit_joins, joined_run}
+use Rattle.blossom_arena.proofs.Sound.{rings, order_names, order_len, order_new, order_range, order_no_zero, node_run, ring_walk_child, circuit_joins, joined_run}
 
 key_of_node : (n key : ℕ) → key_of n (n + 1 + key) ≡ key
 key_of_node n key = omega arith
@@ -51,7 +53,7 @@ pub record Shrinks (a b : Inside) (ring : List Link) (node key : ℕ) : Type 0 w
   pub newer : b.newer.items ≡ slice_set (slice_set a.newer.items (slice_index a.older.items 0) node) node 0
 
 -- the places of a circuit's nodes
-pub circuit_places : (n m : ℕ) (bs : List Blossom) (ring : List Link) → IsNested n bs → IsCircuit n bs ring → n + room_of n < m → AllByRecursion (λ (l : Link). l.node < m) ring
+pub circuit_places : (n m : ℕ) (bs : List Blossom) (ring : List Link) → IsNested n bs → IsCircuit n bs ring → n + most_blossoms n < m → AllByRecursion (λ (l : Link). l.node < m) ring
 circuit_places n m bs ring h c enough = go ring (λ x r. circuit_node n bs ring x c r)
   where
     go : (ls : List Link) → ((x : ℕ) → in_ring ls x ≡ true → is_node n bs x ≡ true) → AllByRecursion (λ (l : Link). l.node < m) ls
@@ -98,7 +100,7 @@ module _ (a : Inside) (duals : Vec ℤ) (parents nexts edges outer followers old
     above : n < node
     above = omega (arith, h.number)
 
-    within : node ≤ n + room_of n
+    within : node ≤ n + most_blossoms n
     within = omega (arith, h.number, h.in_range, h.capacity, s.room)
 
     node_key : key_of n node ≡ key
@@ -180,7 +182,7 @@ module _ (a : Inside) (duals : Vec ℤ) (parents nexts edges outer followers old
     duals_after : HasDuals n duals.items (made_of bs ring node ∷ bs)
     duals_after = subst (λ ys. HasDuals n ys (made_of bs ring node ∷ bs)) (sym h.duals) (record {
       one_each = length-set a.duals.items node (pos 0) ∙ s.family.duals.one_each;
-      in_range = All-set IsDual a.duals.items node (pos 0) (omega (arith, ints), omega (arith, ints)) s.family.duals.in_range;
+      in_range = All-set IsNumber a.duals.items node (pos 0) (omega (arith, ints), omega (arith, ints)) s.family.duals.in_range;
       blossoms = (
         rw (get_or-set_same a.duals.items node (pos 0) (pos 0) (omega (arith, within, s.family.duals.one_each))) (omega (arith, ints)),
         other_duals n bs a.duals.items node (or_parts (is_vertex n node) (holds (names_of bs) node) fresh).1 s.family.duals.blossoms,

@@ -1,7 +1,7 @@
 -- The slack of an edge by the family's duals is the slack that certificates know.
-use Rattle.std.proofs.Common.{◌≡◌, ℕ, zero, suc, ◌+◌, ◌-◌, ◌≤◌, ◌<◌, ℤ, pos, ◌+ℤ◌, ◌-ℤ◌, ◌*ℤ◌, ◌⊎◌, ⊎_elim, Bool, true, false, not, cond, List, [], ◌∷◌, length, map, refl, sym, ap, ap₂, ◌∙◌, subst, arith, get_or, take, drop}
+use Rattle.std.proofs.Common.{◌≡◌, ℕ, zero, suc, ◌+◌, ◌-◌, ◌≤◌, ℤ, pos, ◌+ℤ◌, ◌-ℤ◌, ◌*ℤ◌, ⊎_elim, Bool, true, false, not, cond, List, [], ◌∷◌, length, refl, sym, ap, ap₂, ◌∙◌, arith, get_or, drop}
 use Rattle.std.proofs.lemmas.Int.{ints}
-use Rattle.std.proofs.lemmas.List.{get_or-take, get_or-drop, length-map}
+use Rattle.std.proofs.lemmas.List.{get_or-take, get_or-drop}
 use Rattle.graph_theory.specs.Sums.{int_sum_to}
 use Rattle.graph_theory.specs.declared.edge.Edge.{Edge}
 use Rattle.graph_theory.specs.declared.odd_set.OddSet.{OddSet}
@@ -9,7 +9,8 @@ use Rattle.graph_theory.specs.Graph.{IsEdgeWithin}
 use Rattle.graph_theory.specs.Parts.{crosses}
 use Rattle.graph_theory.specs.Duals.{set_at, dual_of, crossed_by, slack}
 use Rattle.blossom_arena.specs.Family.{Blossom, dual_at}
-use Rattle.blossom_arena.specs.Slack.{pull, vertex_duals, sets_of, AreSame, AreListed}
+use Rattle.graph_theory.specs.Nested.{AreSame}
+use Rattle.blossom_arena.specs.Slack.{duals_across, vertex_duals, sets_of, AreListed}
 
 -- the first term of a sum apart
 sum_first : (f : ℕ → ℤ) (n : ℕ) → int_sum_to f (suc n) ≡ f 0 +ℤ int_sum_to (λ k. f (suc k)) n
@@ -19,12 +20,12 @@ sum_first f (suc n) = omega (arith, ints, sum_first f n)
 crossed_cons : (s : OddSet) (sets : List OddSet) (e : Edge) → crossed_by (s ∷ sets) (length (s ∷ sets)) e ≡ cond (crosses s.members e) s.dual (pos 0) +ℤ crossed_by sets (length sets) e
 crossed_cons s sets e = sum_first (λ j. cond (crosses (set_at (s ∷ sets) j).members e) (set_at (s ∷ sets) j).dual (pos 0)) (length sets)
 
-pull_sets : (ys : List ℤ) (bs : List Blossom) (e : Edge) → pull (dual_at ys) bs e ≡ (dual_at ys e.u +ℤ dual_at ys e.v) +ℤ crossed_by (sets_of ys bs) (length (sets_of ys bs)) e
-pull_sets ys [] e = omega (arith, ints)
-pull_sets ys (b ∷ older) e =
+across_sets : (ys : List ℤ) (bs : List Blossom) (e : Edge) → duals_across (dual_at ys) bs e ≡ (dual_at ys e.u +ℤ dual_at ys e.v) +ℤ crossed_by (sets_of ys bs) (length (sets_of ys bs)) e
+across_sets ys [] e = omega (arith, ints)
+across_sets ys (b ∷ older) e =
     let first : OddSet = record { dual = dual_at ys b.node; members = b.members } in
     let cons = crossed_cons first (sets_of ys older) e in
-    omega (arith, ints, pull_sets ys older e, cons)
+    omega (arith, ints, across_sets ys older e, cons)
 
 pub vertex_dual : (n : ℕ) (ys : List ℤ) (v : ℕ) → 1 ≤ v → v ≤ n → dual_of (vertex_duals n ys) v ≡ dual_at ys v
 vertex_dual n ys v low high =
@@ -32,11 +33,11 @@ vertex_dual n ys v low high =
     get_or-take n (drop 1 ys) (v - 1) (pos 0) (omega arith) ∙ get_or-drop 1 ys (v - 1) (pos 0) ∙ ap (λ i. get_or ys i (pos 0)) one
 
 -- twice the weight, without the duals that the edge feels
-pub slack_pull : (n : ℕ) (ys : List ℤ) (bs : List Blossom) (e : Edge) → IsEdgeWithin n e → slack (vertex_duals n ys) (sets_of ys bs) e ≡ (pos 2 *ℤ e.w) -ℤ pull (dual_at ys) bs e
-slack_pull n ys bs e within =
+pub slack_across : (n : ℕ) (ys : List ℤ) (bs : List Blossom) (e : Edge) → IsEdgeWithin n e → slack (vertex_duals n ys) (sets_of ys bs) e ≡ (pos 2 *ℤ e.w) -ℤ duals_across (dual_at ys) bs e
+slack_across n ys bs e within =
     let u = vertex_dual n ys e.u within.u_low within.u_high in
     let v = vertex_dual n ys e.v within.v_low within.v_high in
-    let all = pull_sets ys bs e in
+    let all = across_sets ys bs e in
     omega (arith, ints, u, v, all)
 
 -- a certificate may leave out the sets of dual 0, and list the vertices of the others in any order
@@ -63,8 +64,8 @@ crossed_listed ys (b ∷ older) sets e listed =
     ∙ sym (crossed_cons first (sets_of ys older) e))
     listed
 
-pub slack_listed : (n : ℕ) (ys : List ℤ) (bs : List Blossom) (sets : List OddSet) (e : Edge) → IsEdgeWithin n e → AreListed ys bs sets → slack (vertex_duals n ys) sets e ≡ (pos 2 *ℤ e.w) -ℤ pull (dual_at ys) bs e
+pub slack_listed : (n : ℕ) (ys : List ℤ) (bs : List Blossom) (sets : List OddSet) (e : Edge) → IsEdgeWithin n e → AreListed ys bs sets → slack (vertex_duals n ys) sets e ≡ (pos 2 *ℤ e.w) -ℤ duals_across (dual_at ys) bs e
 slack_listed n ys bs sets e within listed =
     let crossed = crossed_listed ys bs sets e listed in
-    let all = slack_pull n ys bs e within in
+    let all = slack_across n ys bs e within in
     omega (arith, ints, crossed, all)

@@ -1,19 +1,19 @@
 -- What the fields of an arena keep, read off.
-use Rattle.std.proofs.Common.{◌≡◌, ℕ, zero, suc, ◌+◌, ◌*◌, ◌≤◌, ◌<◌, ◌≢◌, Bool, true, false, ◌||◌, eqb, leb, cond, List, [], ◌∷◌, ◌++◌, length, refl, sym, ap, ◌∙◌, subst, arith, ⊎_elim, get_or}
-use Rattle.std.specs.Prelude.{vec_len, slice_index}
+use Rattle.std.proofs.Common.{◌≡◌, ℕ, ◌+◌, ◌≤◌, ◌<◌, true, false, eqb, leb, cond, List, [], ◌∷◌, length, refl, sym, ap, ◌∙◌, subst, arith, ⊎_elim}
+use Rattle.std.specs.Prelude.{slice_index}
 use Rattle.std.specs.List.{AllByRecursion}
-use Rattle.std.proofs.lemmas.Bool.{eqb-true, or_cases, both_ways, false_from_ne_true, le-leb, lt-leb}
-use Rattle.slab.specs.Slab.{Slab, get, slab_len}
+use Rattle.std.proofs.lemmas.Bool.{eqb-true, or_cases, false_from_ne_true, le-leb, lt-leb}
+use Rattle.slab.specs.Slab.{slab_len}
 use Rattle.graph_theory.specs.Parts.{holds}
 use Rattle.blossom_arena.specs.declared.links.Link.{Link}
 use Rattle.blossom_arena.specs.declared.runs.Run.{Run}
-use Rattle.blossom_arena.specs.declared.runs.Kept.{Kept}
 use Rattle.blossom_arena.specs.declared.arena.Arena.TheInside.{Inside}
-use Rattle.blossom_arena.specs.Tables.{walk, links_of}
-use Rattle.blossom_arena.specs.Family.{Blossom, nodes_of, in_ring, names_of, is_vertex, is_node, is_child, is_outermost, members_of, union_of, ring_of, room_of, IsCircuit, IsNested}
-use Rattle.blossom_arena.specs.Fields.{IsSound, HasPlaces, blossoms_of, order_of, ring_at, kept_of, run_of, runs_of, vertices_of, last_of, IsRun, joined, joined_tail, joined_size}
-use Rattle.blossom_arena.proofs.Lists.{by_test, AllNew, each_from, first_in, later_in, new_from_distinct, length-within, vertices, holds-vertices, length-vertices}
-use Rattle.blossom_arena.proofs.Nested.{names_new, name_range, node_range, vertex_range, child_is_node, circuit_outer, circuit_node, ring_each}
+use Rattle.blossom_arena.specs.Tables.{walk}
+use Rattle.graph_theory.specs.Nested.{most_blossoms}
+use Rattle.blossom_arena.specs.Family.{Blossom, nodes_of, in_ring, names_of, is_vertex, is_node, is_child, members_of, union_of, ring_of, IsCircuit, IsNested}
+use Rattle.blossom_arena.specs.Fields.{IsSound, blossoms_of, order_of, ring_at, kept_of, run_of, runs_of, vertices_of, last_of, IsRun, joined, joined_tail, joined_size}
+use Rattle.blossom_arena.proofs.Lists.{AllNew, each_from, first_in, later_in, new_from_distinct, length-within, vertices, holds-vertices, length-vertices}
+use Rattle.blossom_arena.proofs.Nested.{names_new, name_range, node_range, vertex_range, child_is_node, circuit_outer, circuit_node}
 use Rattle.blossom_arena.proofs.Sets.{members_of_vertex, member_vertex, members_some, members_new, of_union, union_new}
 use Rattle.blossom_arena.proofs.Tails.{last_in}
 use Rattle.blossom_arena.proofs.Parents.{ring_child}
@@ -37,7 +37,7 @@ blossoms_len a = length-build (rings a) (order_of a) ∙ order_len a
 pub order_new : (a : Inside) → IsSound a → AllNew (order_of a)
 order_new a s = subst AllNew (order_names a) (names_new a.vertex_count (blossoms_of a) s.family.nested)
 
-pub order_range : (a : Inside) → IsSound a → (x : ℕ) → holds (order_of a) x ≡ true → (a.vertex_count < x) × (x ≤ a.vertex_count + room_of a.vertex_count)
+pub order_range : (a : Inside) → IsSound a → (x : ℕ) → holds (order_of a) x ≡ true → (a.vertex_count < x) × (x ≤ a.vertex_count + most_blossoms a.vertex_count)
 order_range a s x e = name_range a.vertex_count (blossoms_of a) x s.family.nested (ap (λ xs. holds xs x) (order_names a) ∙ e)
 
 pub order_no_zero : (a : Inside) → IsSound a → holds (order_of a) 0 ≡ false

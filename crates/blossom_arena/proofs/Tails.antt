@@ -1,11 +1,11 @@
 -- The last vertex of an outermost node is no node's vertex but as its last: runs that are joined after it break no other.
-use Rattle.std.proofs.Common.{◌≡◌, ℕ, suc, ◌+◌, ◌≤◌, ◌<◌, ◌≢◌, Bool, true, false, ◌||◌, eqb, cond, List, [], ◌∷◌, ◌++◌, length, refl, sym, ap, ◌∙◌, subst, arith, ⊎_elim, length-append}
-use Rattle.std.proofs.lemmas.Bool.{eqb-true, eq-eqb, eqb-false, ne_eqb, false_from_ne_true, or_cases, both_ways, or_from}
+use Rattle.std.proofs.Common.{◌≡◌, ℕ, ◌≤◌, true, false, eqb, List, [], ◌∷◌, ◌++◌, length, refl, sym, ap, ◌∙◌, subst, arith, ⊎_elim, length-append}
+use Rattle.std.proofs.lemmas.Bool.{eqb-true, ne_eqb, false_from_ne_true, or_cases, both_ways, or_from}
 use Rattle.std.proofs.lemmas.List.{append-nil}
 use Rattle.std.proofs.lemmas.List.Concat.{flat_map-cons}
 use Rattle.graph_theory.specs.Parts.{holds}
 use Rattle.blossom_arena.specs.declared.links.Link.{Link}
-use Rattle.blossom_arena.specs.Family.{Blossom, nodes_of, in_ring, is_node, is_outermost, outermost, members_of, union_of, IsNested}
+use Rattle.blossom_arena.specs.Family.{Blossom, nodes_of, in_ring, is_node, is_outermost, members_of, union_of, IsNested}
 use Rattle.blossom_arena.specs.Fields.{last_of}
 use Rattle.blossom_arena.proofs.Lists.{by_test, AllNew, first_in, later_in}
 use Rattle.blossom_arena.proofs.Nested.{circuit_outer, circuit_node, outermost_parts, node_before, outermost_before}

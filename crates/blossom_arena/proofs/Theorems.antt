@@ -1,16 +1,16 @@
 -- The laws of a family, from the lemmas about its list of blossoms.
-use Rattle.std.proofs.Common.{◌≡◌, ℕ, ◌+◌, ◌≤◌, Bool, true, false, eqb, List, [], ◌∷◌, length, refl, sym, ap, ◌∙◌, arith, ⊎_elim, All}
+use Rattle.std.proofs.Common.{◌≡◌, ℕ, ◌≤◌, true, false, eqb, List, [], ◌∷◌, length, refl, sym, ap, ◌∙◌, arith, ⊎_elim}
 use Rattle.std.proofs.lemmas.Bool.{eqb-true, or_cases, both_ways}
 use Rattle.graph_theory.specs.Parts.{holds}
 use Rattle.blossom_arena.specs.declared.links.Link.{Link}
-use Rattle.blossom_arena.specs.Family.{Blossom, is_node, in_ring, nodes_of, outermost, members_of, IsNested}
-use Rattle.blossom_arena.specs.Slack.{AreSame}
-use Rattle.blossom_arena.specs.Laws.{SetsAreOdd, SetsHaveForm, SetsAreLaminar, SetsDiffer, SlackIsPull, ListedSlackIsPull}
+use Rattle.blossom_arena.specs.Family.{Blossom, is_node, in_ring, nodes_of, members_of, IsNested}
+use Rattle.graph_theory.specs.Nested.{AreSame}
+use Rattle.blossom_arena.specs.Laws.{SetsAreOdd, SetsHaveForm, SetsAreLaminar, SetsDiffer, SlackByNodes, ListedSlackByNodes}
 use Rattle.blossom_arena.proofs.Lists.{by_test, AllNew, new_from_distinct, first_in, later_in}
 use Rattle.blossom_arena.proofs.Nested.{circuit_outer, circuit_node, node_before}
 use Rattle.blossom_arena.proofs.Sets.{members_here, members_past, members_some, in_union, outermost_by_member}
 use Rattle.blossom_arena.proofs.Forms.{members_form, sorted_form, members_laminar, one_outermost}
-use Rattle.blossom_arena.proofs.Slacks.{slack_pull, slack_listed}
+use Rattle.blossom_arena.proofs.Slacks.{slack_across, slack_listed}
 
 some_member : (xs : List ℕ) → 1 ≤ length xs → (v : ℕ) × (holds xs v ≡ true)
 some_member [] some = absurd (omega arith)
@@ -71,8 +71,8 @@ sets_laminar f a b good ka kb = members_laminar f.vertex_count f.blossoms a b go
 pub sets_differ : SetsDiffer
 sets_differ f a b good ka kb same = members_differ f.vertex_count f.blossoms a b good.nested ka kb same
 
-pub slack_is_pull : SlackIsPull
-slack_is_pull f e within = slack_pull f.vertex_count f.duals f.blossoms e within
+pub slack_by_nodes : SlackByNodes
+slack_by_nodes f e within = slack_across f.vertex_count f.duals f.blossoms e within
 
-pub listed_is_pull : ListedSlackIsPull
-listed_is_pull f sets e within listed = slack_listed f.vertex_count f.duals f.blossoms sets e within listed
+pub listed_by_nodes : ListedSlackByNodes
+listed_by_nodes f sets e within listed = slack_listed f.vertex_count f.duals f.blossoms sets e within listed

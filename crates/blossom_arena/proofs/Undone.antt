@@ -1,5 +1,5 @@
 -- What the steps of a dissolve need.
-use Rattle.std.proofs.Common.{◌≡◌, ℕ, ◌+◌, ◌≤◌, ◌<◌, true, false, eqb, List, [], ◌∷◌, length, refl, sym, ap, ap₂, ◌∙◌, subst, arith, Some, None}
+use Rattle.std.proofs.Common.{◌≡◌, ℕ, ◌+◌, ◌<◌, true, false, List, [], ◌∷◌, length, sym, ap, ap₂, ◌∙◌, subst, arith, Some, None}
 use Rattle.std.specs.Prelude.{slice_index}
 use Rattle.std.specs.List.{AllByRecursion}
 use Rattle.slab.specs.Slab.{Slab, get, Updates}
@@ -9,7 +9,8 @@ use Rattle.blossom_arena.specs.declared.runs.Run.{Run}
 use Rattle.blossom_arena.specs.declared.runs.Kept.{Kept}
 use Rattle.blossom_arena.specs.declared.arena.Arena.TheInside.{Inside}
 use Rattle.blossom_arena.specs.Tables.{walk, links_of}
-use Rattle.blossom_arena.specs.Family.{nodes_of, in_ring, ring_of, is_child, is_node, room_of}
+use Rattle.graph_theory.specs.Nested.{most_blossoms}
+use Rattle.blossom_arena.specs.Family.{nodes_of, in_ring, ring_of, is_child, is_node}
 use Rattle.blossom_arena.specs.Fields.{IsSound, blossoms_of, order_of, key_of, kept_of, kept_or_none, run_of, vertices_of}
 use Rattle.blossom_arena.proofs.Lists.{first_in, later_in}
 use Rattle.blossom_arena.proofs.Nested.{node_range, child_is_node}
@@ -57,7 +58,7 @@ module _ (a : Inside) (node : ℕ) (s : IsSound a) (there : holds (order_of a) n
         ap₂ (λ (t u : List ℕ). links_of u (walk k.links t k.first)) nexts edges
         ∙ ap (λ (q : Kept). links_of a.edges.items (walk q.links a.nexts.items q.first)) (sym kept_is) ∙ sym (ring_is a node there)
 
-  pub children_within : (m : ℕ) → n + room_of n < m → AllByRecursion (λ (l : Link). l.node < m) (ring_of (blossoms_of a) node)
+  pub children_within : (m : ℕ) → n + most_blossoms n < m → AllByRecursion (λ (l : Link). l.node < m) (ring_of (blossoms_of a) node)
   children_within m enough = each_link (λ x. x < m) (ring_of (blossoms_of a) node) (λ x r. omega (arith, (node_range n (blossoms_of a) x s.family.nested (child_node x r)).1, enough))
 
   pub runs_within : (kept : Slab Kept) (fs : List ℕ) → is_child (blossoms_of a) node ≡ false → Updates a.kept kept (key_of n node) None → fs ≡ a.followers.items

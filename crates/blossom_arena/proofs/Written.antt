@@ -1,20 +1,20 @@
 -- What the steps of a shrink need, and what they have written.
-use Rattle.std.proofs.Common.{◌≡◌, ℕ, zero, suc, ◌+◌, ◌*◌, ◌≤◌, ◌<◌, ◌^◌, true, false, List, [], ◌∷◌, length, refl, sym, ap, ap₂, ◌∙◌, subst, arith, ⊎_elim}
-use Rattle.std.specs.Prelude.{slice_index, vec_len}
+use Rattle.std.proofs.Common.{◌≡◌, ℕ, ◌+◌, ◌≤◌, ◌<◌, true, List, [], ◌∷◌, length, refl, sym, ap, ap₂, ◌∙◌, subst, arith}
+use Rattle.std.specs.Prelude.{slice_index}
 use Rattle.std.specs.List.{AllByRecursion}
-use Rattle.std.proofs.lemmas.Bool.{eqb-true, or_cases}
 use Rattle.slab.specs.Slab.{slab_len}
 use Rattle.graph_theory.specs.Parts.{holds}
 use Rattle.blossom_arena.specs.declared.links.Link.{Link}
 use Rattle.blossom_arena.specs.declared.runs.Run.{Run}
 use Rattle.blossom_arena.specs.declared.arena.Arena.TheInside.{Inside}
 use Rattle.blossom_arena.specs.Tables.{walk, links_of, next_node, threaded, noted}
-use Rattle.blossom_arena.specs.Family.{Blossom, nodes_of, union_of, room_of, IsCircuit}
+use Rattle.graph_theory.specs.Nested.{most_blossoms}
+use Rattle.blossom_arena.specs.Family.{Blossom, nodes_of, union_of, IsCircuit}
 use Rattle.blossom_arena.specs.Fields.{IsSound, blossoms_of, order_of, runs_of, vertices_of, IsOrder, joined, joined_tail, joined_size}
 use Rattle.blossom_arena.proofs.Lists.{AllNew, new_from_distinct, each_from, first_in}
 use Rattle.blossom_arena.proofs.Nested.{vertex_range, node_range, circuit_node, room_for_circuit}
 use Rattle.blossom_arena.proofs.Writes.{threaded_walk, length-threaded, length-noted}
-use Rattle.blossom_arena.proofs.Sound.{order_len, order_range, blossoms_len, union_vertex, union_few, joined_run, circuit_joins}
+use Rattle.blossom_arena.proofs.Sound.{order_range, blossoms_len, union_vertex, union_few, joined_run, circuit_joins}
 use Rattle.blossom_arena.proofs.Shrunk.{circuit_places, ring_written}
 
 same_run : (r : Run) (h t z : ℕ) → r.head ≡ h → r.tail ≡ t → r.size ≡ z → r ≡ record { head = h; tail = t; size = z }
@@ -45,7 +45,7 @@ module _ (a : Inside) (ring : List Link) (s : IsSound a) (c : IsCircuit a.vertex
   pub sizes_few : joined_size (runs_of n a.kept ring) ≤ 4096
   sizes_few = omega (arith, (circuit_joins a ring s c).1, union_few n bs ring s.family.nested c, s.family.few)
 
-  pub nodes_within : (m : ℕ) → n + room_of n < m → AllByRecursion (λ (l : Link). l.node < m) ring
+  pub nodes_within : (m : ℕ) → n + most_blossoms n < m → AllByRecursion (λ (l : Link). l.node < m) ring
   nodes_within m enough = circuit_places n m bs ring s.family.nested c enough
 
   pub union_within : (m : ℕ) → n < m → AllByRecursion (λ v. v < m) (union_of bs ring)
@@ -54,7 +54,7 @@ module _ (a : Inside) (ring : List Link) (s : IsSound a) (c : IsCircuit a.vertex
   pub newest_within : slice_index a.older.items 0 < length a.newer.items
   newest_within = go (order_of a) s.order (λ x e. (order_range a s x e).1)
     where
-      go : (xs : List ℕ) → IsOrder a.older.items a.newer.items 0 xs → ((x : ℕ) → holds xs x ≡ true → x ≤ n + room_of n) → slice_index a.older.items 0 < length a.newer.items
+      go : (xs : List ℕ) → IsOrder a.older.items a.newer.items 0 xs → ((x : ℕ) → holds xs x ≡ true → x ≤ n + most_blossoms n) → slice_index a.older.items 0 < length a.newer.items
       go [] h each = omega (arith, h.0, s.places.newer)
       go (x ∷ xs) h each = omega (arith, h.0, each x (first_in x xs), s.places.newer)
 

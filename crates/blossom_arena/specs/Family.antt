@@ -1,7 +1,10 @@
 -- A nested family of odd sets with duals (chapters 24 and 26), as contracts see an arena.
-use Rattle.std.specs.Prelude.{◌≡◌, ℕ, zero, suc, ◌+◌, ◌-◌, ◌/◌, ◌%◌, ◌<◌, ◌≤◌, ℤ, pos, ◌≤ℤ◌, ◌+ℤ◌, ◌⊎◌, Bool, true, false, ◌==◌, nat_eq, ◌&&◌, ◌||◌, not, nat_le, if◌then◌else◌, List, [], ◌∷◌, ◌++◌, length, map, All, replicate, slice_index_or, slice_set, negsuc}
+use Rattle.std.specs.Prelude.{◌≡◌, ℕ, ◌+◌, ◌%◌, ◌<◌, ◌≤◌, ℤ, pos, ◌≤ℤ◌, ◌+ℤ◌, Bool, true, false, ◌==◌, nat_eq, ◌&&◌, ◌||◌, not, nat_le, if◌then◌else◌, List, [], ◌∷◌, ◌++◌, length, map, All, replicate, slice_index_or, slice_set}
 use Rattle.std.specs.List.{list_any, flat_map, IsDistinct, AllByRecursion}
+use Rattle.graph_theory.specs.declared.limits.TheConstants.{GRAPH_VERTEX_LIMIT}
 use Rattle.graph_theory.specs.Parts.{holds}
+use Rattle.graph_theory.specs.Nested.{most_blossoms}
+use Rattle.graph_theory.specs.Duals.{IsNumber}
 use Rattle.blossom_arena.specs.declared.links.Link.{Link}
 
 -- an odd set that is one node: the circuit that it was shrunk from, and its vertices in the order of the circuit
@@ -15,10 +18,6 @@ pub record Family : Type 0 where
   pub vertex_count : ℕ
   pub duals : List ℤ
   pub blossoms : List Blossom
-
--- the most blossoms that n vertices can have
-abbrev pub room_of : ℕ → ℕ
-room_of n = (n - 1) / 2
 
 abbrev pub nodes_of : List Link → List ℕ
 nodes_of ring = map (λ (l : Link). l.node) ring
@@ -69,7 +68,7 @@ pub record IsCircuit (n : ℕ) (bs : List Blossom) (ring : List Link) : Type 0 w
 -- what a blossom is, over those that are older
 pub record IsNext (n : ℕ) (older : List Blossom) (b : Blossom) : Type 0 where
   pub after_vertices : n < b.node
-  pub within_room : b.node ≤ n + room_of n
+  pub within_room : b.node ≤ n + most_blossoms n
   pub fresh : is_node n older b.node ≡ false
   pub circuit : IsCircuit n older b.ring
   pub union : b.members ≡ union_of older b.ring
@@ -80,18 +79,14 @@ abbrev pub IsNested : ℕ → List Blossom → Type 0
 IsNested n [] = Unit {0}
 IsNested n (b ∷ older) = IsNext n older b × IsNested n older
 
--- what a dual may be
-abbrev pub IsDual : ℤ → Type 0
-IsDual y = (negsuc 999999999999999 ≤ℤ y) × (y ≤ℤ pos 1000000000000000)
-
 -- the dual of a node
 abbrev pub dual_at : List ℤ → ℕ → ℤ
 dual_at ys a = slice_index_or ys a (pos 0)
 
 -- each dual lies in range, and no blossom's is below 0
 pub record HasDuals (n : ℕ) (ys : List ℤ) (bs : List Blossom) : Type 0 where
-  pub one_each : length ys ≡ n + room_of n + 1
-  pub in_range : All IsDual ys
+  pub one_each : length ys ≡ n + most_blossoms n + 1
+  pub in_range : All IsNumber ys
   pub blossoms : AllByRecursion (λ (b : Blossom). pos 0 ≤ℤ dual_at ys b.node) bs
 
 -- an odd number of at least three different vertices
@@ -101,21 +96,15 @@ pub record IsOddSet (n : ℕ) (set : List ℕ) : Type 0 where
   pub different : IsDistinct nat_eq set
   pub in_range : All (λ v. (1 ≤ v) × (v ≤ n)) set
 
--- one of two sets holds the other, or they have no vertex in common
-abbrev pub AreLaminar : List ℕ → List ℕ → Type 0
-AreLaminar xs ys =
-    ((v : ℕ) → holds ys v ≡ true → holds xs v ≡ true)
-    ⊎ (((v : ℕ) → holds xs v ≡ true → holds ys v ≡ true) ⊎ ((v : ℕ) → holds xs v ≡ true → holds ys v ≡ false))
-
 -- what an arena keeps
 pub record IsFamily (f : Family) : Type 0 where
-  pub few : f.vertex_count ≤ 4096
+  pub few : f.vertex_count ≤ GRAPH_VERTEX_LIMIT
   pub nested : IsNested f.vertex_count f.blossoms
   pub duals : HasDuals f.vertex_count f.duals f.blossoms
 
 -- all duals 0, and no blossom
 abbrev pub empty_family : ℕ → Family
-empty_family n = record { vertex_count = n; duals = replicate (n + room_of n + 1) (pos 0); blossoms = [] }
+empty_family n = record { vertex_count = n; duals = replicate (n + most_blossoms n + 1) (pos 0); blossoms = [] }
 
 -- a blossom on top of these
 abbrev pub made_of : List Blossom → List Link → ℕ → Blossom

@@ -8,7 +8,8 @@ use Rattle.blossom_arena.specs.declared.runs.Run.{Run}
 use Rattle.blossom_arena.specs.declared.runs.Kept.{Kept}
 use Rattle.blossom_arena.specs.declared.arena.Arena.TheInside.{Inside}
 use Rattle.blossom_arena.specs.Tables.{walk, links_of, filled}
-use Rattle.blossom_arena.specs.Family.{Blossom, Family, IsFamily, outermost, made_of, room_of, in_ring, names_of, members_of}
+use Rattle.graph_theory.specs.Nested.{most_blossoms}
+use Rattle.blossom_arena.specs.Family.{Blossom, Family, IsFamily, outermost, made_of, in_ring, members_of}
 
 -- the key of a blossom's node
 abbrev pub key_of : ℕ → ℕ → ℕ
@@ -106,11 +107,11 @@ family_of a = record { vertex_count = a.vertex_count; duals = a.duals.items; blo
 
 -- each table has a place for each of the numbers
 pub record HasPlaces (a : Inside) : Type 0 where
-  pub parents : length a.parents.items ≡ a.vertex_count + room_of a.vertex_count + 1
-  pub nexts : length a.nexts.items ≡ a.vertex_count + room_of a.vertex_count + 1
-  pub edges : length a.edges.items ≡ a.vertex_count + room_of a.vertex_count + 1
-  pub older : length a.older.items ≡ a.vertex_count + room_of a.vertex_count + 1
-  pub newer : length a.newer.items ≡ a.vertex_count + room_of a.vertex_count + 1
+  pub parents : length a.parents.items ≡ a.vertex_count + most_blossoms a.vertex_count + 1
+  pub nexts : length a.nexts.items ≡ a.vertex_count + most_blossoms a.vertex_count + 1
+  pub edges : length a.edges.items ≡ a.vertex_count + most_blossoms a.vertex_count + 1
+  pub older : length a.older.items ≡ a.vertex_count + most_blossoms a.vertex_count + 1
+  pub newer : length a.newer.items ≡ a.vertex_count + most_blossoms a.vertex_count + 1
   pub outer : length a.outer.items ≡ a.vertex_count + 1
   pub followers : length a.followers.items ≡ a.vertex_count + 1
 
@@ -118,9 +119,9 @@ pub record IsSound (a : Inside) : Type 0 where
   pub family : IsFamily (family_of a)
   pub places : HasPlaces a
   pub outer : (v : ℕ) → 1 ≤ v → v ≤ a.vertex_count → slice_index a.outer.items v ≡ outermost (blossoms_of a) v
-  pub parents : (x : ℕ) → x ≤ a.vertex_count + room_of a.vertex_count → slice_index a.parents.items x ≡ parent_of (blossoms_of a) x
+  pub parents : (x : ℕ) → x ≤ a.vertex_count + most_blossoms a.vertex_count → slice_index a.parents.items x ≡ parent_of (blossoms_of a) x
   pub order : IsOrder a.older.items a.newer.items 0 (order_of a)
   pub runs : (x : ℕ) → holds (order_of a) x ≡ true → IsRun a.followers.items (kept_of a.vertex_count a.kept x).run (members_of (blossoms_of a) x)
   pub kept : AllByRecursion (λ x. IsSome (get a.kept (key_of a.vertex_count x))) (order_of a)
   pub only : (x : ℕ) → a.vertex_count < x → IsSome (get a.kept (key_of a.vertex_count x)) → holds (order_of a) x ≡ true
-  pub room : a.kept.capacity ≡ room_of a.vertex_count
+  pub room : a.kept.capacity ≡ most_blossoms a.vertex_count

@@ -1,13 +1,14 @@
 -- What holds of the sets and duals of every family (chapters 24, 25 and 26).
-use Rattle.std.specs.Prelude.{◌≡◌, ℕ, ◌≤◌, pos, ◌-ℤ◌, ◌*ℤ◌, true, List, All}
+use Rattle.std.specs.Prelude.{◌≡◌, ℕ, pos, ◌-ℤ◌, ◌*ℤ◌, true, List}
 use Rattle.std.specs.List.Sorted.{IsStrictlyIncreasing}
 use Rattle.graph_theory.specs.declared.edge.Edge.{Edge}
 use Rattle.graph_theory.specs.declared.odd_set.OddSet.{OddSet}
 use Rattle.graph_theory.specs.Graph.{IsEdgeWithin}
 use Rattle.graph_theory.specs.Parts.{holds, IsVertexSet}
 use Rattle.graph_theory.specs.Duals.{HasForm, slack}
-use Rattle.blossom_arena.specs.Family.{Family, IsFamily, IsOddSet, AreLaminar, names_of, is_node, members_of, dual_at}
-use Rattle.blossom_arena.specs.Slack.{AreSame, AreListed, pull, vertex_duals, sets_of}
+use Rattle.graph_theory.specs.Nested.{AreLaminar, AreSame}
+use Rattle.blossom_arena.specs.Family.{Family, IsFamily, IsOddSet, names_of, is_node, members_of, dual_at}
+use Rattle.blossom_arena.specs.Slack.{AreListed, duals_across, vertex_duals, sets_of}
 
 -- the vertices of a blossom are an odd number of at least three different ones
 abbrev pub SetsAreOdd : Type 0
@@ -27,9 +28,9 @@ SetsDiffer = (f : Family) (a b : ℕ) → IsFamily f → is_node f.vertex_count 
 
 -- the slack of an edge by the duals of all vertices and all sets is twice its weight, without the duals of the nodes
 -- that hold exactly one end
-abbrev pub SlackIsPull : Type 0
-SlackIsPull = (f : Family) (e : Edge) → IsEdgeWithin f.vertex_count e → slack (vertex_duals f.vertex_count f.duals) (sets_of f.duals f.blossoms) e ≡ (pos 2 *ℤ e.w) -ℤ pull (dual_at f.duals) f.blossoms e
+abbrev pub SlackByNodes : Type 0
+SlackByNodes = (f : Family) (e : Edge) → IsEdgeWithin f.vertex_count e → slack (vertex_duals f.vertex_count f.duals) (sets_of f.duals f.blossoms) e ≡ (pos 2 *ℤ e.w) -ℤ duals_across (dual_at f.duals) f.blossoms e
 
 -- and so it is where a certificate lists the sets with a dual other than 0 alone
-abbrev pub ListedSlackIsPull : Type 0
-ListedSlackIsPull = (f : Family) (sets : List OddSet) (e : Edge) → IsEdgeWithin f.vertex_count e → AreListed f.duals f.blossoms sets → slack (vertex_duals f.vertex_count f.duals) sets e ≡ (pos 2 *ℤ e.w) -ℤ pull (dual_at f.duals) f.blossoms e
+abbrev pub ListedSlackByNodes : Type 0
+ListedSlackByNodes = (f : Family) (sets : List OddSet) (e : Edge) → IsEdgeWithin f.vertex_count e → AreListed f.duals f.blossoms sets → slack (vertex_duals f.vertex_count f.duals) sets e ≡ (pos 2 *ℤ e.w) -ℤ duals_across (dual_at f.duals) f.blossoms e

@@ -2,13 +2,14 @@
 use Rattle.std.specs.Prelude.{◌≡◌, ◌⊎◌, ℕ, ℤ, pos, ◌+ℤ◌, List, [], ◌∷◌, map, take, drop, if◌then◌else◌}
 use Rattle.graph_theory.specs.declared.edge.Edge.{Edge}
 use Rattle.graph_theory.specs.declared.odd_set.OddSet.{OddSet}
-use Rattle.graph_theory.specs.Parts.{holds, crosses}
+use Rattle.graph_theory.specs.Parts.{crosses}
+use Rattle.graph_theory.specs.Nested.{AreSame}
 use Rattle.blossom_arena.specs.Family.{Blossom, dual_at}
 
 -- the duals of the nodes that hold exactly one end of an edge, added up
-abbrev pub pull : (ℕ → ℤ) → List Blossom → Edge → ℤ
-pull y [] e = y e.u +ℤ y e.v
-pull y (b ∷ older) e = (if crosses b.members e then y b.node else pos 0) +ℤ pull y older e
+abbrev pub duals_across : (ℕ → ℤ) → List Blossom → Edge → ℤ
+duals_across y [] e = y e.u +ℤ y e.v
+duals_across y (b ∷ older) e = (if crosses b.members e then y b.node else pos 0) +ℤ duals_across y older e
 
 -- the duals of the vertices 1 to n
 abbrev pub vertex_duals : ℕ → List ℤ → List ℤ
@@ -17,10 +18,6 @@ vertex_duals n ys = take n (drop 1 ys)
 -- the sets with their duals, newest first
 abbrev pub sets_of : List ℤ → List Blossom → List OddSet
 sets_of ys bs = map (λ (b : Blossom). record { dual = dual_at ys b.node; members = b.members }) bs
-
--- the same vertices, in any order
-abbrev pub AreSame : List ℕ → List ℕ → Type 0
-AreSame xs ys = (v : ℕ) → holds xs v ≡ holds ys v
 
 -- a set as a certificate lists it: a blossom's dual, and its vertices in any order
 pub record IsListed (ys : List ℤ) (b : Blossom) (s : OddSet) : Type 0 where

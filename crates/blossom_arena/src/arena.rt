@@ -1,6 +1,9 @@
 ghost use Rattle.std.specs.Prelude.{◌≡◌, ℕ, ◌+◌, ◌<◌, ◌≤◌, pos, ◌≤ℤ◌, ◌+ℤ◌, true, false, IfOk};
+ghost use Rattle.graph_theory.specs.declared.limits.TheConstants.{GRAPH_VERTEX_LIMIT};
 ghost use Rattle.graph_theory.specs.Parts.{holds};
-ghost use Rattle.blossom_arena.specs.Family.{Family, IsFamily, IsCircuit, IsDual, empty_family, is_vertex, is_node, is_outermost, shrunk, dissolved, raised, dual_at, outermost, child_holding, ring_of, members_of, chain_of, names_of, room_of};
+ghost use Rattle.graph_theory.specs.Nested.{most_blossoms};
+ghost use Rattle.graph_theory.specs.Duals.{IsNumber};
+ghost use Rattle.blossom_arena.specs.Family.{Family, IsFamily, IsCircuit, empty_family, is_vertex, is_node, is_outermost, shrunk, dissolved, raised, dual_at, outermost, child_holding, ring_of, members_of, chain_of, names_of};
 
 use crate::blossoms::Blossoms;
 use crate::chain::{Chain, child_below};
@@ -12,6 +15,7 @@ use crate::order::{put_first, take_out};
 use crate::ring::Ring;
 use crate::runs::{Kept, find_kept, find_run, has_kept, join, lower};
 use crate::tables::{fill, hang, note, numbered, renumber, thread, wipe};
+use graph_theory::GRAPH_VERTEX_LIMIT;
 use mb_base::{EdgeId, OutOfMemory, VertexId};
 use slab::Slab;
 use std::alloc::{AllocError, Global};
@@ -55,7 +59,7 @@ impl Arena {
     /// No blossom, all duals 0, and room for all blossoms that n vertices can have: (n - 1) / 2. No later
     /// call takes memory. An error is want of memory.
     pub fn new(alloc: Global, n: u32) -> Result<Arena, OutOfMemory>
-        requires { n ≤ 4096 }
+        requires { n ≤ GRAPH_VERTEX_LIMIT }
         ensures family { IfOk result (λ f. f ≡ empty_family n) }
         ensures good { IfOk result IsFamily }
     {
@@ -90,7 +94,7 @@ impl Arena {
 
     /// The greatest number that a node can have.
     pub fn node_limit(&self) -> u32
-        ensures limit { result ≡ self.now.vertex_count + room_of self.now.vertex_count }
+        ensures limit { result ≡ self.now.vertex_count + most_blossoms self.now.vertex_count }
         ensures good { IsFamily self.now }
     {
         self.vertex_count + self.vertex_count.saturating_sub(1) / 2
@@ -151,7 +155,7 @@ impl Arena {
     /// a blossom.
     pub fn add_dual(&mut self, node: NodeId, d: i64)
         requires node { is_node self.old.vertex_count self.old.blossoms node ≡ true }
-        requires in_range { IsDual (dual_at self.old.duals node +ℤ d) }
+        requires in_range { IsNumber (dual_at self.old.duals node +ℤ d) }
         requires not_below { self.old.vertex_count < node → pos 0 ≤ℤ (dual_at self.old.duals node +ℤ d) }
         ensures family { self.new ≡ raised self.old node d }
         ensures good { IsFamily self.new }
@@ -216,7 +220,7 @@ impl Arena {
         requires { IsCircuit self.old.vertex_count self.old.blossoms circuit.now }
         ensures fresh { is_node self.old.vertex_count self.old.blossoms result ≡ false }
         ensures above { self.old.vertex_count < result }
-        ensures within { result ≤ self.old.vertex_count + room_of self.old.vertex_count }
+        ensures within { result ≤ self.old.vertex_count + most_blossoms self.old.vertex_count }
         ensures family { self.new ≡ shrunk self.old result circuit.now }
         ensures good { IsFamily self.new }
     {

@@ -1,5 +1,6 @@
 ghost use Rattle.std.specs.Prelude.{◌≡◌, ◌<◌, ◌+ℤ◌, pos, length, replicate, slice_set, vec_len};
-ghost use Rattle.blossom_arena.specs.Family.{IsDual, dual_at};
+ghost use Rattle.graph_theory.specs.Duals.{IsNumber};
+ghost use Rattle.blossom_arena.specs.Family.{dual_at};
 
 /// The dual at a node.
 pub(crate) fn dual_in(duals: &[i64], node: u32) -> i64
@@ -27,7 +28,7 @@ pub(crate) fn wipe_duals(duals: &mut Vec<i64>)
 /// Adds to the dual at a node.
 pub(crate) fn raise_dual(duals: &mut Vec<i64>, node: u32, d: i64)
     requires place { node < vec_len duals.old }
-    requires in_range { IsDual (dual_at duals.old.items node +ℤ d) }
+    requires in_range { IsNumber (dual_at duals.old.items node +ℤ d) }
     ensures { duals.new.items ≡ slice_set duals.old.items node (dual_at duals.old.items node +ℤ d) }
 {
     let sum = duals[node as usize] + d;

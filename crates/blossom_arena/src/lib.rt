@@ -15,8 +15,6 @@ mod order;
 mod ring;
 mod runs;
 mod tables;
-#[cfg(test)]
-mod tests;
 
 pub use arena::Arena;
 pub use blossoms::Blossoms;

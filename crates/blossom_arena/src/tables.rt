@@ -1,5 +1,6 @@
 ghost use Rattle.std.specs.Prelude.{◌≡◌, ◌<◌, ◌≤◌, ◌+◌, ◌^◌, ℕ, IfOk, replicate, slice_index, map, drop, length, vec_len};
 ghost use Rattle.std.specs.List.{AllByRecursion};
+ghost use Rattle.graph_theory.specs.declared.limits.TheConstants.{GRAPH_VERTEX_LIMIT};
 ghost use Rattle.blossom_arena.specs.Tables.{filled, threaded, noted};
 ghost use Rattle.blossom_arena.specs.Family.{nodes_of};
 ghost use Rattle.blossom_arena.specs.declared.links.Link.{Link};
@@ -7,12 +8,13 @@ ghost use Rattle.blossom_arena.specs.declared.links.Link.{Link};
 use crate::links::{Link, node_at};
 use crate::members::Members;
 use crate::ring::Ring;
+use graph_theory::GRAPH_VERTEX_LIMIT;
 use mb_base::{EdgeId, OutOfMemory};
 use std::alloc::Global;
 
 /// The numbers 0 to n.
 pub(crate) fn numbered(alloc: Global, n: u32) -> Result<Vec<u32>, OutOfMemory>
-    requires { n ≤ 4096 }
+    requires { n ≤ GRAPH_VERTEX_LIMIT }
     ensures len { IfOk result (λ v. vec_len v ≡ n + 1) }
     ensures each { IfOk result (λ v. (i : ℕ) → i ≤ n → slice_index v.items i ≡ i) }
 {

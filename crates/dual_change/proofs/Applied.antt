@@ -8,7 +8,7 @@ use Rattle.graph_theory.specs.Parts.{holds}
 use Rattle.graph_theory.proofs.Edges.{edge_of_within}
 use Rattle.blossom_arena.specs.declared.links.Link.{Link}
 use Rattle.blossom_arena.specs.Family.{Blossom, IsNested, is_node, is_child, is_outermost, names_of}
-use Rattle.blossom_arena.specs.Slack.{pull}
+use Rattle.blossom_arena.specs.Slack.{duals_across}
 use Rattle.blossom_arena.proofs.Lists.{by_test, first_in, later_in}
 use Rattle.blossom_arena.proofs.Nested.{range_vertex}
 use Rattle.blossom_arena.proofs.Sets.{outermost_has}
@@ -18,7 +18,7 @@ use Rattle.alt_forest.specs.State.{State, IsOutermost, node_u, node_v, Joins, sl
 use Rattle.alt_forest.proofs.Relabelled.{outer_not_inner}
 use Rattle.alt_forest.proofs.Walk.{some_same, other_node_joins}
 use Rattle.dual_change.specs.Changes.{share, change, applied, IsWithin}
-use Rattle.dual_change.proofs.Pulls.{pull-sum, FeelsOuter, feels_outer}
+use Rattle.dual_change.proofs.Across.{across-sum, FeelsOuter, feels_outer}
 use Rattle.dual_change.proofs.Inside.{LiesWithin, rings_within}
 
 -- what a change adds at a node
@@ -51,9 +51,9 @@ module _ (s : State) (d : ℤ) (graph : IsGraph s.graph) (nested : IsNested s.gr
   v_outer e is = let w = edge_of_within s.graph e graph.ends is in (outermost_has s.graph.vertices s.blossoms (edge_of s.graph e).v nested (range_vertex s.graph.vertices (edge_of s.graph e).v w.v_low w.v_high)).0
 
   -- what an edge feels more, it loses
-  loses : (e : ℕ) (z : ℤ) → pull (change s d) s.blossoms (edge_of s.graph e) ≡ z → slack_of (applied s d) e ≡ slack_of s e -ℤ z
+  loses : (e : ℕ) (z : ℤ) → duals_across (change s d) s.blossoms (edge_of s.graph e) ≡ z → slack_of (applied s d) e ≡ slack_of s e -ℤ z
   loses e z f =
-      let sum = pull-sum s.dual (change s d) s.blossoms (edge_of s.graph e) in
+      let sum = across-sum s.dual (change s d) s.blossoms (edge_of s.graph e) in
       omega (arith, ints, sum, f)
 
   -- an edge within a node keeps its slack

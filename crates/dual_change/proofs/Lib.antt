@@ -1,4 +1,4 @@
-pub mod Pulls
+pub mod Across
 pub mod Inside
 pub mod Applied
 pub mod Raised

@@ -2,7 +2,8 @@
 use Rattle.std.proofs.Common.{◌≡◌, ℕ, ◌+◌, ◌<◌, ℤ, pos, ◌+ℤ◌, ◌≤ℤ◌, true, List, refl, sym, ap, ◌∙◌, subst, arith, ⊎_elim}
 use Rattle.std.proofs.lemmas.Bool.{or_cases}
 use Rattle.graph_theory.specs.Parts.{holds}
-use Rattle.blossom_arena.specs.Family.{IsDual, dual_at, is_vertex, is_node, names_of}
+use Rattle.graph_theory.specs.Duals.{IsNumber}
+use Rattle.blossom_arena.specs.Family.{dual_at, is_vertex, is_node, names_of}
 use Rattle.blossom_arena.proofs.Nested.{outermost_parts, vertex_range}
 use Rattle.alt_forest.specs.declared.search.Search.{Search}
 use Rattle.alt_forest.specs.State.{State, IsOutermost, IsSearchState}
@@ -36,8 +37,8 @@ module _ (s : Search) (d : ℤ) (k : ℕ) (t : Search) (u : UnderWay s d k t) wh
   outer_before : (a : ℕ) → IsOutermost (state_of t) a → IsOutermost (state_of s) a
   outer_before a is = subst (λ x. IsOutermost (state_of x) a) u.rest is
 
-  pub next_in_range : StaysInRange (state_of s) d → IsOutermost (state_of t) (k + 1) → IsDual ((applied (state_of t) d).dual (k + 1))
-  next_in_range all is = subst IsDual (sym next_dual) (all (k + 1) (outer_before (k + 1) is))
+  pub next_in_range : StaysInRange (state_of s) d → IsOutermost (state_of t) (k + 1) → IsNumber ((applied (state_of t) d).dual (k + 1))
+  next_in_range all is = subst IsNumber (sym next_dual) (all (k + 1) (outer_before (k + 1) is))
 
   pub next_not_below : IsSound s → IsWithin (state_of s) d → IsOutermost (state_of t) (k + 1) → t.graph.vertices < k + 1 → pos 0 ≤ℤ (applied (state_of t) d).dual (k + 1)
   next_not_below sound within is above =

@@ -3,7 +3,8 @@
 use Rattle.std.specs.Prelude.{◌≡◌, ◌≢◌, ℕ, ℤ, pos, ◌+ℤ◌, ◌-ℤ◌, ◌≤ℤ◌, true, if◌then◌else◌}
 use Rattle.graph_theory.specs.Graph.{IsEdgeNumber}
 use Rattle.graph_theory.specs.Parts.{holds}
-use Rattle.blossom_arena.specs.Family.{names_of, is_outermost, IsDual}
+use Rattle.graph_theory.specs.Duals.{IsNumber}
+use Rattle.blossom_arena.specs.Family.{names_of, is_outermost}
 use Rattle.alt_forest.specs.declared.label.Label.{Label}
 use Rattle.alt_forest.specs.declared.label.Label.TheVariants.{Outer, Inner, Out}
 use Rattle.alt_forest.specs.State.{State, IsOutermost, Joins, slack_of}
@@ -38,7 +39,7 @@ pub record IsWithin (s : State) (d : ℤ) : Type 0 where
 
 -- each dual that a change of d makes lies in range
 abbrev pub StaysInRange : State → ℤ → Type 0
-StaysInRange s d = (a : ℕ) → IsOutermost s a → IsDual ((applied s d).dual a)
+StaysInRange s d = (a : ℕ) → IsOutermost s a → IsNumber ((applied s d).dual a)
 
 -- an event can happen now
 abbrev pub IsPossible : State → Event → Type 0

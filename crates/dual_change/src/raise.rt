@@ -1,5 +1,6 @@
 ghost use Rattle.std.specs.Prelude.{◌≡◌, ◌<◌, ◌≤◌, ◌+◌, ℕ, ℤ, pos, ◌+ℤ◌, ◌≤ℤ◌, true, length};
-ghost use Rattle.blossom_arena.specs.Family.{IsDual, dual_at, is_outermost};
+ghost use Rattle.graph_theory.specs.Duals.{IsNumber};
+ghost use Rattle.blossom_arena.specs.Family.{dual_at, is_outermost};
 ghost use Rattle.alt_forest.specs.Searches.{HasShape, IsSound, state_of, label_at, put};
 ghost use Rattle.alt_forest.specs.State.{IsOutermost};
 ghost use Rattle.dual_change.specs.Changes.{share, applied, IsWithin, StaysInRange};
@@ -42,7 +43,7 @@ fn label_in(labels: &[Label], node: u32) -> Label
 fn raise(search: &mut Search, number: u32, d: i64)
     requires shape { HasShape search.old }
     requires low { pos 0 ≤ℤ d }
-    requires in_range { IsOutermost (state_of search.old) number → IsDual ((applied (state_of search.old) d).dual number) }
+    requires in_range { IsOutermost (state_of search.old) number → IsNumber ((applied (state_of search.old) d).dual number) }
     requires not_below { IsOutermost (state_of search.old) number → search.old.graph.vertices < number → pos 0 ≤ℤ (applied (state_of search.old) d).dual number }
     ensures duals { dual_at search.new.arena.duals ≡ put (dual_at search.old.arena.duals) number ((applied (state_of search.old) d).dual number) }
     ensures rest { search.new ≡ record search.old { arena = record search.old.arena { duals = search.new.arena.duals } } }

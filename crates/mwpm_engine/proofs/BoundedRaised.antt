@@ -6,7 +6,8 @@ use Rattle.std.proofs.lemmas.Bool.{eqb-true, eqb-false, and_parts, both_ways, fa
 use Rattle.graph_theory.specs.Graph.{IsGraph}
 use Rattle.graph_theory.specs.Parts.{holds}
 use Rattle.graph_theory.proofs.SumLemmas.{sum_to-same, sum_to-at_one, times-le, times-neg}
-use Rattle.blossom_arena.specs.Family.{IsNested, is_node, is_vertex, is_outermost, names_of, IsDual}
+use Rattle.graph_theory.specs.Duals.{IsNumber}
+use Rattle.blossom_arena.specs.Family.{IsNested, is_node, is_vertex, is_outermost, names_of}
 use Rattle.blossom_arena.proofs.Lists.{by_test}
 use Rattle.blossom_arena.proofs.Nested.{outermost_parts, node_range}
 use Rattle.alt_forest.specs.declared.label.Label.{Label}
@@ -121,7 +122,7 @@ one_tree_counted s root nested one r =
     ∙ sum_to-at_one (λ _. 1) root limit range.0 range.1
 
 -- with at most 4,096 vertices that lies well within the range of duals
-in_room : (n : ℕ) (y : ℤ) → n ≤ 4096 → (neg_ℤ (pos ((2 * n + 1) * 10 ^ 9)) ≤ℤ y) × (y ≤ℤ pos ((2 * n + 1) * 10 ^ 9)) → IsDual y
+in_room : (n : ℕ) (y : ℤ) → n ≤ 4096 → (neg_ℤ (pos ((2 * n + 1) * 10 ^ 9)) ≤ℤ y) × (y ≤ℤ pos ((2 * n + 1) * 10 ^ 9)) → IsNumber y
 in_room n y few b = (omega (arith, ints, few, b.0), omega (arith, ints, few, b.1))
 
 -- a change in the pass with weights

@@ -14,7 +14,7 @@ use Rattle.graph_theory.proofs.Handshake.{handshake-perfect}
 use Rattle.graph_theory.proofs.Members.{holds_all}
 use Rattle.graph_theory.proofs.Crossings.{crossings, crosses_odd}
 use Rattle.blossom_arena.specs.Family.{Blossom, IsNested, IsOddSet, is_vertex, names_of}
-use Rattle.blossom_arena.specs.Slack.{pull}
+use Rattle.blossom_arena.specs.Slack.{duals_across}
 use Rattle.blossom_arena.proofs.Lists.{by_test, first_in}
 use Rattle.blossom_arena.proofs.Nested.{range_vertex}
 use Rattle.blossom_arena.proofs.Sets.{members_here}
@@ -41,16 +41,16 @@ module _ (g : Multigraph) (counts : List ℕ) (graph : IsGraph g) (perfect : IsP
       ∙ sym (sum_to-times (λ k. cond (crosses set (edge_at g k)) (count k) 0) z (length g.edges))
 
   -- what the edges of the matching feel: each vertex once, and each blossom as often as they cross it
-  pulls : (y : ℕ → ℤ) (bs : List Blossom) → int_sum_to (λ k. pos (count k) *ℤ pull y bs (edge_at g k)) (length g.edges) ≡ int_sum_to (λ i. y (i + 1)) g.vertices +ℤ crossed_sum g counts y bs
-  pulls y [] = let each = handshake-perfect g counts y graph.ends perfect in omega (arith, ints, each)
-  pulls y (b ∷ older) =
+  sums : (y : ℕ → ℤ) (bs : List Blossom) → int_sum_to (λ k. pos (count k) *ℤ duals_across y bs (edge_at g k)) (length g.edges) ≡ int_sum_to (λ i. y (i + 1)) g.vertices +ℤ crossed_sum g counts y bs
+  sums y [] = let each = handshake-perfect g counts y graph.ends perfect in omega (arith, ints, each)
+  sums y (b ∷ older) =
       let m : ℕ = length g.edges in
       let here : ℕ → ℤ = λ k. cond (crosses b.members (edge_at g k)) (y b.node) (pos 0) in
-      let rest : ℕ → ℤ = λ k. pull y older (edge_at g k) in
+      let rest : ℕ → ℤ = λ k. duals_across y older (edge_at g k) in
       let both : int_sum_to (λ k. pos (count k) *ℤ (here k +ℤ rest k)) m ≡ int_sum_to (λ k. pos (count k) *ℤ here k +ℤ pos (count k) *ℤ rest k) m =
       int_sum_to-same (λ k. pos (count k) *ℤ (here k +ℤ rest k)) (λ k. pos (count k) *ℤ here k +ℤ pos (count k) *ℤ rest k) m (λ k low. times-add (count k) (here k) (rest k)) in
       let split = int_sum_to-add (λ k. pos (count k) *ℤ here k) (λ k. pos (count k) *ℤ rest k) m in
-      plain _ _ _ _ _ _ _ both split (crossed_times b.members (y b.node)) (pulls y older)
+      plain _ _ _ _ _ _ _ both split (crossed_times b.members (y b.node)) (sums y older)
     where
       plain : (t u p q x v c : ℤ) → t ≡ u → u ≡ p +ℤ q → p ≡ x → q ≡ v +ℤ c → t ≡ v +ℤ (x +ℤ c)
       plain t u p q x v c e f h i = omega (arith, ints, e, f, h, i)
@@ -86,15 +86,15 @@ module _ (g : Multigraph) (counts : List ℕ) (graph : IsGraph g) (perfect : IsP
       → (int_sum_to (λ i. y (i + 1)) g.vertices +ℤ dual_sum y (names_of bs)) ≤ℤ (pos 2 *ℤ weight g counts)
   total_bound y bs nested low slacks =
       let m : ℕ = length g.edges in
-      let felt : int_sum_to (λ k. pos (count k) *ℤ pull y bs (edge_at g k)) m ≤ℤ int_sum_to (λ k. pos 2 *ℤ (pos (count k) *ℤ (edge_at g k).w)) m =
-      int_sum_to-le (λ k. pos (count k) *ℤ pull y bs (edge_at g k)) (λ k. pos 2 *ℤ (pos (count k) *ℤ (edge_at g k).w)) m
+      let felt : int_sum_to (λ k. pos (count k) *ℤ duals_across y bs (edge_at g k)) m ≤ℤ int_sum_to (λ k. pos 2 *ℤ (pos (count k) *ℤ (edge_at g k).w)) m =
+      int_sum_to-le (λ k. pos (count k) *ℤ duals_across y bs (edge_at g k)) (λ k. pos 2 *ℤ (pos (count k) *ℤ (edge_at g k).w)) m
       (λ k b.
       let free : pos 0 ≤ℤ slack_with g true y bs (k + 1) = slacks (k + 1) (number_of-place g k b) in
-      let here : (pos 2 *ℤ (edge_at g k).w) -ℤ pull y bs (edge_at g k) ≡ slack_with g true y bs (k + 1) = ap (λ (e : Edge). (pos 2 *ℤ e.w) -ℤ pull y bs e) (sym (edge_of-place g k)) in
-      let scaled = times-le (count k) (pull y bs (edge_at g k)) (pos 2 *ℤ (edge_at g k).w) (omega (arith, ints, free, here)) in
+      let here : (pos 2 *ℤ (edge_at g k).w) -ℤ duals_across y bs (edge_at g k) ≡ slack_with g true y bs (k + 1) = ap (λ (e : Edge). (pos 2 *ℤ e.w) -ℤ duals_across y bs e) (sym (edge_of-place g k)) in
+      let scaled = times-le (count k) (duals_across y bs (edge_at g k)) (pos 2 *ℤ (edge_at g k).w) (omega (arith, ints, free, here)) in
       omega (arith, ints, scaled, times-two (count k) (edge_at g k).w)) in
       let doubled = times-int_sum_to 2 (λ k. pos (count k) *ℤ (edge_at g k).w) m in
-      plain _ _ _ _ _ _ felt doubled (pulls y bs) (crossed_least y bs nested low)
+      plain _ _ _ _ _ _ felt doubled (sums y bs) (crossed_least y bs nested low)
     where
       plain : (p q w v c z : ℤ) → p ≤ℤ q → w ≡ q → p ≡ v +ℤ c → z ≤ℤ c → (v +ℤ z) ≤ℤ w
       plain p q w v c z e f h i = omega (arith, ints, e, f, h, i)

@@ -6,8 +6,9 @@ use Rattle.graph_theory.specs.declared.edge.Edge.{Edge}
 use Rattle.graph_theory.specs.Graph.{IsGraph, IsEdgeNumber, IsEdgeWithin, edge_of}
 use Rattle.graph_theory.specs.Parts.{holds, crosses}
 use Rattle.graph_theory.proofs.Edges.{edge_of_within}
-use Rattle.blossom_arena.specs.Family.{Blossom, is_node, is_outermost, names_of, IsDual}
-use Rattle.blossom_arena.specs.Slack.{pull}
+use Rattle.graph_theory.specs.Duals.{IsNumber}
+use Rattle.blossom_arena.specs.Family.{Blossom, is_node, is_outermost, names_of}
+use Rattle.blossom_arena.specs.Slack.{duals_across}
 use Rattle.blossom_arena.proofs.Lists.{by_test, first_in, later_in}
 use Rattle.blossom_arena.proofs.Nested.{outermost_parts, range_vertex, vertex_is_node, name_is_node}
 use Rattle.alt_forest.specs.declared.label.Label.{Label}
@@ -19,12 +20,12 @@ use Rattle.dual_change.specs.Changes.{share, change, applied, IsWithin, StaysInR
 use Rattle.mwpm_engine.specs.Bounds.{HasNoDuals}
 
 -- an edge feels nothing where all duals are 0
-pull_none : (y : ℕ → ℤ) (bs : List Blossom) (e : Edge) → y e.u ≡ pos 0 → y e.v ≡ pos 0 → ((a : ℕ) → holds (names_of bs) a ≡ true → y a ≡ pos 0) → pull y bs e ≡ pos 0
-pull_none y [] e at_u at_v names = omega (arith, ints, at_u, at_v)
-pull_none y (b ∷ older) e at_u at_v names =
+across_none : (y : ℕ → ℤ) (bs : List Blossom) (e : Edge) → y e.u ≡ pos 0 → y e.v ≡ pos 0 → ((a : ℕ) → holds (names_of bs) a ≡ true → y a ≡ pos 0) → duals_across y bs e ≡ pos 0
+across_none y [] e at_u at_v names = omega (arith, ints, at_u, at_v)
+across_none y (b ∷ older) e at_u at_v names =
     let here : y b.node ≡ pos 0 = names b.node (first_in b.node (names_of older)) in
-    let rest : pull y older e ≡ pos 0 = pull_none y older e at_u at_v (λ a h. names a (later_in b.node (names_of older) a h)) in
-    either (crosses b.members e) (y b.node) (pull y older e) here rest
+    let rest : duals_across y older e ≡ pos 0 = across_none y older e at_u at_v (λ a h. names a (later_in b.node (names_of older) a h)) in
+    either (crosses b.members e) (y b.node) (duals_across y older e) here rest
   where
     either : (t : Bool) (p q : ℤ) → p ≡ pos 0 → q ≡ pos 0 → cond t p (pos 0) +ℤ q ≡ pos 0
     either true p q f g = omega (arith, ints, f, g)
@@ -37,7 +38,7 @@ module _ (s : State) (graph : IsGraph s.graph) (none : HasNoDuals s) where
       let n : ℕ = s.graph.vertices in
       let w : IsEdgeWithin n (edge_of s.graph e) = edge_of_within s.graph e graph.ends is in
       let at : (v : ℕ) → is_node n s.blossoms v ≡ true → s.dual v ≡ pos 0 = none.zero in
-      let felt : pull s.dual s.blossoms (edge_of s.graph e) ≡ pos 0 = pull_none s.dual s.blossoms (edge_of s.graph e)
+      let felt : duals_across s.dual s.blossoms (edge_of s.graph e) ≡ pos 0 = across_none s.dual s.blossoms (edge_of s.graph e)
       (at (edge_of s.graph e).u (vertex_is_node n s.blossoms (edge_of s.graph e).u (range_vertex n (edge_of s.graph e).u w.u_low w.u_high)))
       (at (edge_of s.graph e).v (vertex_is_node n s.blossoms (edge_of s.graph e).v (range_vertex n (edge_of s.graph e).v w.v_low w.v_high)))
       (λ a h. at a (name_is_node n s.blossoms a h)) in
@@ -84,6 +85,6 @@ module _ (s : State) (graph : IsGraph s.graph) (none : HasNoDuals s) where
   no_duals_in_range d event within can =
       let is : d ≡ pos 0 = no_change d event within can in
       let still : (a : ℕ) → is_node s.graph.vertices s.blossoms a ≡ true → (applied s d).dual a ≡ pos 0 = λ a node. same_dual d is a ∙ none.zero a node in (
-        λ a outer. subst IsDual (sym (still a (outermost_parts s.graph.vertices s.blossoms a outer).0)) (omega (arith, ints), omega (arith, ints)),
+        λ a outer. subst IsNumber (sym (still a (outermost_parts s.graph.vertices s.blossoms a outer).0)) (omega (arith, ints), omega (arith, ints)),
         record { unweighted = none.unweighted; zero = still },
       )

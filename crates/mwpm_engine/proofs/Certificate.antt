@@ -11,8 +11,9 @@ use Rattle.graph_theory.specs.Graph.{IsPerfect, IsEdgeNumber, no_edge, edge_at, 
 use Rattle.graph_theory.specs.Duals.{AreDuals, IsSetWithin, HasForm, IsNumber, no_set, set_at, slack, dual_value}
 use Rattle.graph_theory.proofs.Edges.{edge_of_within, edge_of-place, number_of-place}
 use Rattle.graph_theory.proofs.Crossings.{crossings}
-use Rattle.blossom_arena.specs.Family.{Blossom, IsNested, HasDuals, IsDual, is_node, dual_at, members_of}
-use Rattle.blossom_arena.specs.Slack.{AreListed, pull, vertex_duals}
+use Rattle.graph_theory.specs.Duals.{IsNumber}
+use Rattle.blossom_arena.specs.Family.{Blossom, IsNested, HasDuals, is_node, dual_at, members_of}
+use Rattle.blossom_arena.specs.Slack.{AreListed, duals_across, vertex_duals}
 use Rattle.blossom_arena.proofs.Nested.{name_range, name_is_node, range_vertex, vertex_is_node}
 use Rattle.blossom_arena.proofs.Forms.{members_form, sorted_form}
 use Rattle.blossom_arena.proofs.Slacks.{slack_listed}
@@ -46,10 +47,10 @@ one_dual_each : (s : Search) → IsSound s → length (vertex_duals s.graph.vert
 one_dual_each s sound = let size = (duals_on_graph s sound).one_each in length-vertex_duals s.graph.vertices s.arena.duals (omega (arith, size))
 
 -- duals in range are numbers of a document
-number_of_dual : (y : ℤ) → IsDual y → IsNumber y
+number_of_dual : (y : ℤ) → IsNumber y → IsNumber y
 number_of_dual y h = (h.0, h.1)
 
-vertex_duals_in_range : (n : ℕ) (ys : List ℤ) → All IsDual ys → All IsNumber (vertex_duals n ys)
+vertex_duals_in_range : (n : ℕ) (ys : List ℤ) → All IsNumber ys → All IsNumber (vertex_duals n ys)
 vertex_duals_in_range n ys each = All-take IsNumber n (drop 1 ys) (All-drop IsNumber 1 ys (λ k d low. number_of_dual (get_or ys k d) (each k d low)))
 
 set_duals_in_range : (n : ℕ) (ys : List ℤ) (bs : List Blossom) (nodes : List ℕ) → IsNested n bs → HasDuals n ys bs → AllByRecursion (IsProving ys bs) nodes → All (λ (t : OddSet). IsNumber t.dual) (sets_at ys bs nodes)
@@ -69,7 +70,7 @@ set_duals_bounded n ys bs nodes bounded each =
 slack_same : (s : Search) (sets : List OddSet) (e : ℕ) → IsSound s → CountsWeights s → AreListed s.arena.duals s.arena.blossoms sets → IsEdgeNumber s.graph e → slack (vertex_duals s.graph.vertices s.arena.duals) sets (edge_of s.graph e) ≡ slack_of (state_of s) e
 slack_same s sets e sound counts listed is =
     slack_listed s.graph.vertices s.arena.duals s.arena.blossoms sets (edge_of s.graph e) (edge_of_within s.graph e sound.shape.graph.graph.ends is) listed
-    ∙ ap (λ d. d -ℤ pull (dual_at s.arena.duals) s.arena.blossoms (edge_of s.graph e)) (sym (counts e is))
+    ∙ ap (λ d. d -ℤ duals_across (dual_at s.arena.duals) s.arena.blossoms (edge_of s.graph e)) (sym (counts e is))
 
 set_form : (n : ℕ) (ys : List ℤ) (bs : List Blossom) (t : OddSet) → IsNested n bs → IsOf ys bs t → HasForm t.members × IsSetWithin n t
 set_form n ys bs t nested is =

@@ -12,7 +12,7 @@ use Rattle.graph_theory.proofs.SumLemmas.{sum_to-same, int_sum_to-same, int_sum_
 use Rattle.graph_theory.proofs.Crossings.{crossings}
 use Rattle.graph_theory.proofs.Duality.{weight_by_slacks}
 use Rattle.blossom_arena.specs.Family.{Blossom, names_of, members_of}
-use Rattle.blossom_arena.specs.Slack.{AreSame}
+use Rattle.graph_theory.specs.Nested.{AreSame}
 use Rattle.blossom_arena.proofs.Lists.{by_test}
 use Rattle.blossom_arena.proofs.Sets.{members_here, members_past}
 use Rattle.augment.specs.Matching.{leaving}

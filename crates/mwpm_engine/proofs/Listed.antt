@@ -3,7 +3,8 @@ use Rattle.std.proofs.Common.{◌≡◌, ◌≤◌, ℕ, ℤ, true, List, [], �
 use Rattle.std.proofs.lemmas.List.{length-map}
 use Rattle.std.specs.List.{AllByRecursion}
 use Rattle.graph_theory.specs.Parts.{holds}
-use Rattle.blossom_arena.specs.Family.{Blossom, IsNested, names_of, room_of}
+use Rattle.graph_theory.specs.Nested.{most_blossoms}
+use Rattle.blossom_arena.specs.Family.{Blossom, IsNested, names_of}
 use Rattle.blossom_arena.proofs.Lists.{first_in, later_in}
 use Rattle.blossom_arena.proofs.Nested.{room_for_circuit}
 use Rattle.mwpm_engine.specs.Solving.{AreProving}
@@ -19,6 +20,6 @@ each_listed ys (a ∷ others) nodes P each list =
     list
 
 -- there are no more blossoms than there is room for
-pub names_few : (n : ℕ) (bs : List Blossom) → IsNested n bs → length (names_of bs) ≤ room_of n
+pub names_few : (n : ℕ) (bs : List Blossom) → IsNested n bs → length (names_of bs) ≤ most_blossoms n
 names_few n [] nested = omega arith
 names_few n (b ∷ older) nested = omega (arith, length-map older (λ (x : Blossom). x.node), (room_for_circuit n older b.ring nested.1 nested.0.circuit).0)

@@ -36,7 +36,7 @@ pub stays : (s : Search) (d : ℤ) (event : Event) → IsGrowing s → IsWithin 
 stays s d event h within can =
     let r = one_root s h in
     let graph = h.sound.shape.graph in
-    in_range (state_of s) s.start h.sound.depth graph.graph graph.vertices (nested_of s h.sound.shape) h.sound.state h.bounded r.0 r.1.0 r.1.1 d event within can
+    in_range (state_of s) s.start h.sound.depth graph.graph graph.limits.vertices (nested_of s h.sound.shape) h.sound.state h.bounded r.0 r.1.0 r.1.1 d event within can
 
 -- a search whose state is that after the change grows on
 pub grows_on : (s t : Search) (d : ℤ) (event : Event) → IsGrowing s → IsSound t → state_of t ≡ applied (state_of s) d → t.start ≡ s.start → IsBounded (applied (state_of s) d) s.start → IsGrowing t

@@ -4,7 +4,8 @@ use Rattle.std.specs.List.{list_any}
 use Rattle.std.proofs.lemmas.Nat.{mul-le}
 use Rattle.graph_theory.specs.Graph.{Multigraph}
 use Rattle.graph_theory.proofs.SumLemmas.{sum_to-most}
-use Rattle.blossom_arena.specs.Family.{Blossom, IsNested, room_of}
+use Rattle.graph_theory.specs.Nested.{most_blossoms}
+use Rattle.blossom_arena.specs.Family.{Blossom, IsNested}
 use Rattle.blossom_arena.proofs.Nested.{room_for_circuit}
 use Rattle.alt_forest.specs.State.{State}
 use Rattle.alt_forest.specs.Counts.{is_outside, outside_vertices, outside_among, measure}
@@ -26,11 +27,11 @@ among_most : (s : State) (bs : List Blossom) → outside_among s bs ≤ length b
 among_most s [] = omega arith
 among_most s (b ∷ older) = omega (arith, among_most s older, one_most (list_any (is_outside s) b.members))
 
-blossoms_most : (n : ℕ) (bs : List Blossom) → IsNested n bs → length bs ≤ room_of n
+blossoms_most : (n : ℕ) (bs : List Blossom) → IsNested n bs → length bs ≤ most_blossoms n
 blossoms_most n [] nested = omega arith
 blossoms_most n (b ∷ older) nested = omega (arith, (room_for_circuit n older b.ring nested.1 nested.0.circuit).0)
 
-pub left_most : (s : State) → IsNested s.graph.vertices s.blossoms → measure s ≤ s.graph.vertices + room_of s.graph.vertices
+pub left_most : (s : State) → IsNested s.graph.vertices s.blossoms → measure s ≤ s.graph.vertices + most_blossoms s.graph.vertices
 left_most s nested = omega (arith, outside_most s, among_most s s.blossoms, blossoms_most s.graph.vertices s.blossoms nested)
 
 -- products
@@ -54,13 +55,13 @@ round_paid m start all before after old between new paid less first second =
     let here : (after + 1) * (2 * m) ≤ before * (2 * m) = times_le (after + 1) before (2 * m) (omega (arith, less)) in
     omega (arith, paid, here, more_times after 1 (2 * m), first, second)
 
-pub phase_paid : (g : Multigraph) (left start old new : ℕ) → old + left * (2 * (length g.edges + 1)) ≤ start + (g.vertices + room_of g.vertices) * (2 * (length g.edges + 1)) → new ≤ old + 2 * (length g.edges + 1) → new ≤ start + phase_steps g
+pub phase_paid : (g : Multigraph) (left start old new : ℕ) → old + left * (2 * (length g.edges + 1)) ≤ start + (g.vertices + most_blossoms g.vertices) * (2 * (length g.edges + 1)) → new ≤ old + 2 * (length g.edges + 1) → new ≤ start + phase_steps g
 phase_paid g left start old new paid last =
     let n : ℕ = g.vertices in
     let m : ℕ = length g.edges + 1 in
-    let few : (n + room_of n + 1) * 2 ≤ 3 * n + 2 = omega arith in
-    let all : (n + room_of n + 1) * 2 * m ≤ (3 * n + 2) * m = times_le ((n + room_of n + 1) * 2) (3 * n + 2) m few in
-    omega (arith, paid, last, all, times_more (n + room_of n + 1) 2 m, more_times (n + room_of n) 1 (2 * m))
+    let few : (n + most_blossoms n + 1) * 2 ≤ 3 * n + 2 = omega arith in
+    let all : (n + most_blossoms n + 1) * 2 * m ≤ (3 * n + 2) * m = times_le ((n + most_blossoms n + 1) * 2) (3 * n + 2) m few in
+    omega (arith, paid, last, all, times_more (n + most_blossoms n + 1) 2 m, more_times (n + most_blossoms n) 1 (2 * m))
 
 -- a phase that augments leaves two exposed nodes fewer, which pay for it twice
 pub augment_paid : (k start all before after old new : ℕ) → 2 * old + before * k ≤ 2 * start + all * k → after + 2 ≡ before → new ≤ old + k → 2 * new + after * k ≤ 2 * start + all * k

@@ -2,7 +2,8 @@
 use Rattle.std.specs.Prelude.{◌≡◌, ◌≤◌, true, vec_len}
 use Rattle.std.specs.List.{AllByRecursion}
 use Rattle.std.specs.Vec.{vec_capacity}
-use Rattle.blossom_arena.specs.Family.{is_node, room_of}
+use Rattle.graph_theory.specs.Nested.{most_blossoms}
+use Rattle.blossom_arena.specs.Family.{is_node}
 use Rattle.alt_forest.specs.Searches.{HasShape}
 use Rattle.mwpm_engine.specs.declared.engine.Engine.TheInside.{Inside}
 use Rattle.mwpm_engine.specs.Solutions.{Solution}
@@ -16,5 +17,5 @@ seen a = solution_of a.search a.outcome a.sets.items
 pub record IsKept (a : Inside) : Type 0 where
   pub shape : HasShape a.search
   pub nodes : AllByRecursion (λ b. is_node a.search.graph.vertices a.search.arena.blossoms b ≡ true) a.sets.items
-  pub few : vec_len a.sets ≤ room_of a.search.graph.vertices
-  pub room : room_of a.search.graph.vertices ≤ vec_capacity a.sets
+  pub few : vec_len a.sets ≤ most_blossoms a.search.graph.vertices
+  pub room : most_blossoms a.search.graph.vertices ≤ vec_capacity a.sets

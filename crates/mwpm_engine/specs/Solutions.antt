@@ -8,8 +8,7 @@ use Rattle.graph_theory.specs.Barrier.{IsBarrier}
 use Rattle.graph_theory.specs.Parts.{IsVertexSet}
 use Rattle.graph_theory.specs.Duals.{AreDuals, dual_value, set_at, IsNumber}
 use Rattle.graph_theory.specs.declared.odd_set.OddSet.{OddSet}
-use Rattle.blossom_arena.specs.Family.{AreLaminar, room_of}
-use Rattle.blossom_arena.specs.Slack.{AreSame}
+use Rattle.graph_theory.specs.Nested.{AreLaminar, most_blossoms, AreSame}
 use Rattle.mwpm_engine.specs.declared.outcome.Outcome.{Outcome}
 use Rattle.mwpm_engine.specs.declared.outcome.Outcome.TheVariants.{Matched, Barrier}
 
@@ -53,7 +52,7 @@ pub record IsSolved (s : Solution) : Type 0 where
   pub duals : (sets : List OddSet) → AreAscending s.sets sets → AreDuals s.graph s.duals sets
   pub value : (sets : List OddSet) → AreAscending s.sets sets → dual_value s.duals sets ≡ pos 2 *ℤ weight s.graph (matching_of s.graph s.mates)
   pub nested : AreNested s.sets
-  pub few : length s.sets ≤ room_of s.graph.vertices
+  pub few : length s.sets ≤ most_blossoms s.graph.vertices
   pub in_range : All IsNumber s.duals
   pub sets_in_range : All (λ (t : OddSet). IsNumber t.dual) s.sets
   pub bounded : All (IsWithinBound s.graph.vertices) s.duals

@@ -2,7 +2,8 @@ ghost use Rattle.std.specs.Prelude.{◌≡◌, ◌<◌, ◌≤◌, ◌+◌, ℕ,
 ghost use Rattle.std.specs.Vec.{vec_capacity};
 ghost use Rattle.graph_theory.specs.Parts.{holds};
 ghost use Rattle.graph_theory.specs.Duals.{dual_of, set_at};
-ghost use Rattle.blossom_arena.specs.Family.{is_vertex, room_of};
+ghost use Rattle.graph_theory.specs.Nested.{most_blossoms};
+ghost use Rattle.blossom_arena.specs.Family.{is_vertex};
 ghost use Rattle.alt_forest.specs.declared.label.Label.TheVariants.{Inner};
 ghost use Rattle.alt_forest.specs.Searches.{IsSearchGraph, edge_in, label_at};
 ghost use Rattle.alt_forest.specs.Trees.{is_label};

@@ -11,7 +11,7 @@ use Rattle.graph_theory.specs.declared.odd_set.OddSet.{OddSet}
 use Rattle.graph_theory.specs.Graph.{Multigraph}
 use Rattle.graph_theory.specs.Duals.{IsNumber, IsSetWithin, HasForm}
 use Rattle.graph_theory.specs.Parts.{holds, IsVertexSet}
-use Rattle.blossom_arena.specs.Family.{room_of}
+use Rattle.graph_theory.specs.Nested.{most_blossoms}
 use Rattle.mb_problem.specs.declared.kind.Kind.TheVariants.{Perfect}
 use Rattle.doc_format.specs.declared.document.Document.{Document}
 use Rattle.doc_format.specs.declared.status.DocStatus.TheVariants.{Optimal}
@@ -124,7 +124,7 @@ few_duals g s d p = sym (length-map d.duals (λ (y : DualLine). y.dual)) ∙ (ar
 few_sets : (g : Multigraph) (s : Solution) (d : Document) → g.vertices ≤ 4096 → Presents g s d → length d.sets ≤ 2047
 few_sets g s d few p =
     let as_many : length (sets_of d) ≡ length s.sets = listed-length s.sets (sets_of d) p.sets in
-    let room : length s.sets ≤ (g.vertices - 1) / 2 = subst (λ (h : Multigraph). length s.sets ≤ room_of h.vertices) p.graph p.solved.few in
+    let room : length s.sets ≤ (g.vertices - 1) / 2 = subst (λ (h : Multigraph). length s.sets ≤ most_blossoms h.vertices) p.graph p.solved.few in
     omega (arith, length-map d.sets set_of)
 
 pub document-size : (d : Document) → length (document_text d false) ≡ length (row_text (head_row d.status d.kind d.weight)) + length (parts_text (parts_of (body_of d)))

@@ -20,7 +20,7 @@ use Rattle.tree_steps.specs.Expanded.{opened, mated, labelled_out, labels_up, la
 use Rattle.tree_steps.proofs.Gap.{FitsBut, FitBut, fits_all}
 use Rattle.tree_steps.proofs.Grown.{rehung}
 use Rattle.tree_steps.proofs.Joints.{joins_unique, joins_turned, mate_turned, mate_unique, partner_unique}
-use Rattle.tree_steps.proofs.Opened.{pull_without, joins_opened, joins_elsewhere, ring_is_child, outer_opened, ring_outer, gone, all_without, rings_without}
+use Rattle.tree_steps.proofs.Opened.{across_without, joins_opened, joins_elsewhere, ring_is_child, outer_opened, ring_outer, gone, all_without, rings_without}
 use Rattle.tree_steps.proofs.Climbed.{IsOpenAt, Keeps, fit_scaled, room_between}
 use Rattle.tree_steps.proofs.Ladders.{IsLadder, climb_up, climb_down}
 use Rattle.tree_steps.proofs.Rungs.{ArePairs, ArePaired, mated_other, mated_paired, paired_else, out_other, out_there, out_all, rung_at, ladder_parts, next_append}
@@ -62,7 +62,7 @@ module _ (s : State) (depth : ℕ → ℕ) (a base edge : ℕ) (rest : List Link
   free = (outermost_parts s.graph.vertices bs a h.outer).1
 
   slack_now : (f : ℕ) → slack_of t f ≡ slack_of s f
-  slack_now f = ap (λ z. doubled s.graph s.weighted f -ℤ z) (pull_without s.dual bs a (edge_of s.graph f) h.empty)
+  slack_now f = ap (λ z. doubled s.graph s.weighted f -ℤ z) (across_without s.dual bs a (edge_of s.graph f) h.empty)
 
   -- the circuit and the outermost nodes
   ring_no_outer : (c : ℕ) → IsOutermost s c → in_ring (ring_of bs a) c ≡ false

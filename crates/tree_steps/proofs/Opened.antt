@@ -8,13 +8,13 @@ use Rattle.graph_theory.specs.Parts.{holds, crosses}
 use Rattle.graph_theory.proofs.Edges.{edge_of_within}
 use Rattle.blossom_arena.specs.declared.links.Link.{Link}
 use Rattle.blossom_arena.specs.Family.{Blossom, IsNested, is_node, is_child, is_outermost, is_vertex, in_ring, names_of, outermost, without, ring_of, older_than}
-use Rattle.blossom_arena.specs.Slack.{pull}
+use Rattle.blossom_arena.specs.Slack.{duals_across}
 use Rattle.blossom_arena.proofs.Lists.{by_test}
 use Rattle.blossom_arena.proofs.Nested.{circuit_outer, outermost_parts, node_grows, vertex_range, range_vertex}
 use Rattle.blossom_arena.proofs.Sets.{member_by_ring}
 use Rattle.blossom_arena.proofs.Taken.{node_without}
 use Rattle.alt_forest.specs.State.{Joins, next_node, IsChainTo, HasRings}
-use Rattle.tree_steps.proofs.Shrunk.{pull_zero}
+use Rattle.tree_steps.proofs.Shrunk.{across_zero}
 
 -- the list without a blossom, by where that one stands
 taken_here : {A : Type 0} (f : List Blossom → A) (b : Blossom) (older : List Blossom) (a : ℕ) → eqb b.node a ≡ true → f (without (b ∷ older) a) ≡ f older
@@ -36,12 +36,12 @@ older_later : (b : Blossom) (older : List Blossom) (a : ℕ) → eqb b.node a �
 older_later b older a e = ap (λ q. cond q older (older_than older a)) e
 
 -- a blossom of dual 0 adds nothing to what an edge feels
-pub pull_without : (y : ℕ → ℤ) (bs : List Blossom) (a : ℕ) (e : Edge) → y a ≡ pos 0 → pull y (without bs a) e ≡ pull y bs e
-pull_without y [] a e none = refl
-pull_without y (b ∷ older) a e none =
+pub across_without : (y : ℕ → ℤ) (bs : List Blossom) (a : ℕ) (e : Edge) → y a ≡ pos 0 → duals_across y (without bs a) e ≡ duals_across y bs e
+across_without y [] a e none = refl
+across_without y (b ∷ older) a e none =
     by_test (eqb b.node a)
-    (λ s. taken_here (λ bs. pull y bs e) b older a s ∙ sym (pull_zero y b older e (ap y (eqb-true b.node a s) ∙ none)))
-    (λ s. taken_later (λ bs. pull y bs e) b older a s ∙ ap (λ t. cond (crosses b.members e) (y b.node) (pos 0) +ℤ t) (pull_without y older a e none))
+    (λ s. taken_here (λ bs. duals_across y bs e) b older a s ∙ sym (across_zero y b older e (ap y (eqb-true b.node a s) ∙ none)))
+    (λ s. taken_later (λ bs. duals_across y bs e) b older a s ∙ ap (λ t. cond (crosses b.members e) (y b.node) (pos 0) +ℤ t) (across_without y older a e none))
 
 -- a vertex in another node stays there
 pub outermost_elsewhere : (bs : List Blossom) (a v : ℕ) → outermost bs v ≢ a → outermost (without bs a) v ≡ outermost bs v

@@ -10,7 +10,7 @@ use Rattle.graph_theory.specs.Parts.{holds, crosses}
 use Rattle.graph_theory.proofs.Edges.{edge_of_within}
 use Rattle.blossom_arena.specs.declared.links.Link.{Link}
 use Rattle.blossom_arena.specs.Family.{Blossom, IsNested, is_node, is_child, is_vertex, in_ring, names_of, outermost}
-use Rattle.blossom_arena.specs.Slack.{pull}
+use Rattle.blossom_arena.specs.Slack.{duals_across}
 use Rattle.blossom_arena.proofs.Lists.{by_test}
 use Rattle.blossom_arena.proofs.Nested.{outermost_parts, outermost_before, node_grows, new_is_node, new_no_child, vertex_is_node, range_vertex, circuit_outer}
 use Rattle.blossom_arena.proofs.Sets.{member_by_ring}
@@ -22,18 +22,18 @@ use Rattle.tree_steps.specs.Shrunk.{shrunk_state}
 use Rattle.tree_steps.proofs.Joints.{joins_unique, mate_turned}
 
 -- duals that agree at the nodes that an edge can feel
-pub pull_same : (y z : ℕ → ℤ) (bs : List Blossom) (e : Edge) → y e.u ≡ z e.u → y e.v ≡ z e.v → AllByRecursion (λ (b : Blossom). y b.node ≡ z b.node) bs → pull y bs e ≡ pull z bs e
-pull_same y z [] e eu ev each = ap (λ t. t +ℤ y e.v) eu ∙ ap (λ t. z e.u +ℤ t) ev
-pull_same y z (b ∷ older) e eu ev each =
-    ap (λ t. cond (crosses b.members e) t (pos 0) +ℤ pull y older e) each.0
-    ∙ ap (λ t. cond (crosses b.members e) (z b.node) (pos 0) +ℤ t) (pull_same y z older e eu ev each.1)
+pub across_same : (y z : ℕ → ℤ) (bs : List Blossom) (e : Edge) → y e.u ≡ z e.u → y e.v ≡ z e.v → AllByRecursion (λ (b : Blossom). y b.node ≡ z b.node) bs → duals_across y bs e ≡ duals_across z bs e
+across_same y z [] e eu ev each = ap (λ t. t +ℤ y e.v) eu ∙ ap (λ t. z e.u +ℤ t) ev
+across_same y z (b ∷ older) e eu ev each =
+    ap (λ t. cond (crosses b.members e) t (pos 0) +ℤ duals_across y older e) each.0
+    ∙ ap (λ t. cond (crosses b.members e) (z b.node) (pos 0) +ℤ t) (across_same y z older e eu ev each.1)
 
--- a blossom of dual 0 on base
-pub pull_zero : (y : ℕ → ℤ) (b : Blossom) (older : List Blossom) (e : Edge) → y b.node ≡ pos 0 → pull y (b ∷ older) e ≡ pull y older e
-pull_zero y b older e zero_there =
-    elim (crosses b.members e) as (λ t. cond t (y b.node) (pos 0) +ℤ pull y older e ≡ pull y older e) [
-      | true ↦ ap (λ t. t +ℤ pull y older e) zero_there ∙ +ℤ_idl (pull y older e)
-      | false ↦ +ℤ_idl (pull y older e)
+-- a blossom of dual 0 on top
+pub across_zero : (y : ℕ → ℤ) (b : Blossom) (older : List Blossom) (e : Edge) → y b.node ≡ pos 0 → duals_across y (b ∷ older) e ≡ duals_across y older e
+across_zero y b older e zero_there =
+    elim (crosses b.members e) as (λ t. cond t (y b.node) (pos 0) +ℤ duals_across y older e ≡ duals_across y older e) [
+      | true ↦ ap (λ t. t +ℤ duals_across y older e) zero_there ∙ +ℤ_idl (duals_across y older e)
+      | false ↦ +ℤ_idl (duals_across y older e)
     ]
 
 -- a write at another node
@@ -101,8 +101,8 @@ module _ (s : State) (b : Blossom) (base : ℕ) (depth : ℕ → ℕ) (h : Shrin
       let y : ℕ → ℤ = put s.dual b.node (pos 0) in
       let far : (v : ℕ) → is_vertex s.graph.vertices v ≡ true → y v ≡ s.dual v = λ v iv. put_other s.dual b.node (pos 0) v (node_differs v (vertex_is_node s.graph.vertices s.blossoms v iv)) in
       ap (λ z. doubled s.graph s.weighted e -ℤ z)
-      (pull_zero y b s.blossoms (edge_of s.graph e) (put_here s.dual b.node (pos 0))
-      ∙ pull_same y s.dual s.blossoms (edge_of s.graph e)
+      (across_zero y b s.blossoms (edge_of s.graph e) (put_here s.dual b.node (pos 0))
+      ∙ across_same y s.dual s.blossoms (edge_of s.graph e)
       (far (edge_of s.graph e).u (range_vertex s.graph.vertices (edge_of s.graph e).u w.u_low w.u_high))
       (far (edge_of s.graph e).v (range_vertex s.graph.vertices (edge_of s.graph e).v w.v_low w.v_high))
       (agrees_at s.blossoms s.dual b.node (pos 0) new_name))

@@ -1,5 +1,5 @@
 ghost use Rattle.std.specs.Prelude.{◌≡◌, ◌≤ℤ◌, ℤ, pos, negsuc, true};
-ghost use Rattle.blossom_arena.specs.Family.{IsDual};
+ghost use Rattle.graph_theory.specs.Duals.{IsNumber};
 ghost use Rattle.alt_forest.specs.Searches.{IsSound, state_of};
 ghost use Rattle.alt_forest.specs.State.{IsOutermost};
 ghost use Rattle.dual_change.specs.Changes.{applied, StaysInRange};
@@ -26,7 +26,7 @@ fn dual_fits(search: &Search, number: u32, d: i64) -> bool
     requires sound { IsSound search.now }
     requires low { pos 0 ≤ℤ d }
     requires high { d ≤ℤ pos 1000000 }
-    ensures { result ≡ true → IsOutermost (state_of search.now) number → IsDual ((applied (state_of search.now) d).dual number) }
+    ensures { result ≡ true → IsOutermost (state_of search.now) number → IsNumber ((applied (state_of search.now) d).dual number) }
 {
     let node = NodeId::new(number);
     if !search.arena.is_node(node) {

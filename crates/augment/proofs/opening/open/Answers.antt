@@ -2,7 +2,8 @@ use Rattle.std.proofs.Common.{◌<◌, ◌+◌, ◌∙◌, sym, ap, subst, arith
 use Rattle.std.specs.List.{AllByRecursion}
 use Rattle.graph_theory.specs.Graph.{IsEdgeNumber}
 use Rattle.blossom_arena.specs.declared.links.Link.{Link}
-use Rattle.blossom_arena.specs.Family.{ring_of, room_of}
+use Rattle.graph_theory.specs.Nested.{most_blossoms}
+use Rattle.blossom_arena.specs.Family.{ring_of}
 use Rattle.alt_forest.specs.Searches.{edge_in}
 use Rattle.augment.specs.Opening.{links_before, links_after, spread_in, paired, first_matched, waiting_after}
 use Rattle.augment.proofs.Bases.{found, ring_places, each_edge, behind_edges, opened_at}
@@ -10,7 +11,7 @@ use Rattle.augment.proofs.opening.open.Goals as goal
 
 pub matched_node-base-requires : goal.matched_node-base-requires
 matched_node-base-requires c =
-    let low = subst (λ n. n + room_of n < vec_len c.args.mates.now) c.requires.can.vertices c.requires.places in
+    let low = subst (λ n. n + most_blossoms n < vec_len c.args.mates.now) c.requires.can.vertices c.requires.places in
     subst (AllByRecursion (λ (l : Link). l.node < length c.deref.result.now)) (sym c.ring.ensures.ring)
     (ring_places c.args.graph.now c.args.arena.now (edge_in c.args.mates.now.items) c.args.b c.requires.can (length c.deref.result.now) (omega (arith, low, c.deref.ensures.len)))
 

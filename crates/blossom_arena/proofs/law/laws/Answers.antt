@@ -1,4 +1,4 @@
-use Rattle.blossom_arena.proofs.Theorems.{sets_odd, sets_form, sets_laminar, sets_differ, slack_is_pull, listed_is_pull}
+use Rattle.blossom_arena.proofs.Theorems.{sets_odd, sets_form, sets_laminar, sets_differ, slack_by_nodes, listed_by_nodes}
 use Rattle.blossom_arena.proofs.law.laws.Goals as goal
 
 pub returns-clause-odd : goal.returns-clause-odd
@@ -14,7 +14,7 @@ pub returns-clause-different : goal.returns-clause-different
 returns-clause-different c = sets_differ
 
 pub returns-clause-slack : goal.returns-clause-slack
-returns-clause-slack c = slack_is_pull
+returns-clause-slack c = slack_by_nodes
 
 pub returns-clause-listed : goal.returns-clause-listed
-returns-clause-listed c = listed_is_pull
+returns-clause-listed c = listed_by_nodes

@@ -1,6 +1,6 @@
 use Rattle.std.proofs.Common.{◌≡◌, ◌∙◌, ◌+◌, ◌*◌, ◌<◌, ◌≤◌, length, sym, ap, subst, arith}
 use Rattle.graph_theory.specs.Graph.{Multigraph}
-use Rattle.blossom_arena.specs.Family.{room_of}
+use Rattle.graph_theory.specs.Nested.{most_blossoms}
 use Rattle.alt_forest.specs.declared.search.Search.{Search}
 use Rattle.alt_forest.specs.Searches.{state_of}
 use Rattle.alt_forest.specs.Counts.{measure}
@@ -27,8 +27,8 @@ loop-event-init g c =
       exposed = c.plant.ensures.exposed;
       steps =
           let graph : c.plant.new.self.graph ≡ c.args.graph.now = same.graph ∙ sym c.requires.same in
-          let left = subst (λ (x : Multigraph). measure (state_of c.plant.new.self) ≤ x.vertices + room_of x.vertices) graph (left_most (state_of c.plant.new.self) (nested_of c.plant.new.self c.plant.ensures.sound.shape)) in
-          phase_begins (measure (state_of c.plant.new.self)) (c.args.graph.now.vertices + room_of c.args.graph.now.vertices) (2 * (length c.args.graph.now.edges + 1)) c.args.steps.now left;
+          let left = subst (λ (x : Multigraph). measure (state_of c.plant.new.self) ≤ x.vertices + most_blossoms x.vertices) graph (left_most (state_of c.plant.new.self) (nested_of c.plant.new.self c.plant.ensures.sound.shape)) in
+          phase_begins (measure (state_of c.plant.new.self)) (c.args.graph.now.vertices + most_blossoms c.args.graph.now.vertices) (2 * (length c.args.graph.now.edges + 1)) c.args.steps.now left;
     }
 
 pub loop-event-preserved : goal.loop-event-preserved
@@ -42,7 +42,7 @@ loop-event-preserved g c =
       growing = ends.0;
       same = same_through c.args.search.now c.reach.new.search c.happen-augmented.new.search (same_through c.args.search.now c.loop-event.search c.reach.new.search i.same c.reach.ensures.pass) c.happen-augmented.ensures.pass;
       exposed = ends.1 ∙ c.reach.ensures.counts.exposed ∙ i.exposed;
-      steps = round_paid (length graph.edges + 1) c.args.steps.now (graph.vertices + room_of graph.vertices) (measure (state_of c.loop-event.search)) (measure (state_of c.happen-augmented.new.search)) c.loop-event.steps c.reach.new.steps c.happen-augmented.new.steps
+      steps = round_paid (length graph.edges + 1) c.args.steps.now (graph.vertices + most_blossoms graph.vertices) (measure (state_of c.loop-event.search)) (measure (state_of c.happen-augmented.new.search)) c.loop-event.steps c.reach.new.steps c.happen-augmented.new.steps
           i.steps less c.reach.ensures.steps c.happen-augmented.ensures.steps;
     }
 

@@ -1,5 +1,5 @@
 use Rattle.std.proofs.Common.{◌≡◌, ◌≤◌, ◌+◌, ◌*◌, length}
-use Rattle.blossom_arena.specs.Family.{room_of}
+use Rattle.graph_theory.specs.Nested.{most_blossoms}
 use Rattle.alt_forest.specs.Searches.{state_of}
 use Rattle.alt_forest.specs.Counts.{exposed_count, measure}
 use Rattle.mwpm_engine.specs.Passes.{IsSamePass, IsGrowing}
@@ -10,7 +10,7 @@ invariant-loop-event g l = record {
   growing : IsGrowing l.search;
   same : IsSamePass l.fn.search l.search;
   exposed : exposed_count (state_of l.search) ≡ exposed_count (state_of l.fn.search);
-  steps : l.steps + measure (state_of l.search) * (2 * (length l.graph.edges + 1)) ≤ l.fn.steps + (l.graph.vertices + room_of l.graph.vertices) * (2 * (length l.graph.edges + 1));
+  steps : l.steps + measure (state_of l.search) * (2 * (length l.graph.edges + 1)) ≤ l.fn.steps + (l.graph.vertices + most_blossoms l.graph.vertices) * (2 * (length l.graph.edges + 1));
 }
 
 abbrev pub decreases-loop-event : goal.decreases-loop-event

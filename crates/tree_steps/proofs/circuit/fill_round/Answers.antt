@@ -18,7 +18,7 @@ overflow_add-place c =
     let f = c.args.search.now in
     let room = ring_room f.graph.vertices f.arena.blossoms c.args.b (nested_of f c.requires.shape) c.requires.blossom in
     let items : c.push_links.new.circuit.items ≡ ring_of f.arena.blossoms c.args.b = c.push_links.ensures.items ∙ ap (λ (ls : List Link). ls ++ c.ring.result) c.clear.ensures.items ∙ c.ring.ensures.ring in
-    omega (arith, room, c.place_of-place.ensures.within, ap length c.deref.ensures.value, ap length items, c.requires.shape.graph.vertices)
+    omega (arith, room, c.place_of-place.ensures.within, ap length c.deref.ensures.value, ap length items, c.requires.shape.graph.limits.vertices)
 
 pub rotate_left-requires : goal.rotate_left-requires
 rotate_left-requires c =

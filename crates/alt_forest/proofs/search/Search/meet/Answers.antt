@@ -10,7 +10,7 @@ use Rattle.alt_forest.proofs.Routes.{path_route, levelled, common_ends}
 use Rattle.alt_forest.proofs.search.Search.meet.Goals as goal
 
 few : (s : Search) (a : ℕ) → IsSound s → IsOutermost (state_of s) a → length (path_of (state_of s) a) < 4294967296
-few s a h is = omega (arith, path_short (node_limit s.graph.vertices + 1) (state_of s) h.depth a (nested_of s h.shape) h.state is, h.shape.graph.vertices)
+few s a h is = omega (arith, path_short (node_limit s.graph.vertices + 1) (state_of s) h.depth a (nested_of s h.shape) h.state is, h.shape.graph.limits.vertices)
 
 route : (s : Search) (a : ℕ) → IsSound s → IsOutermost (state_of s) a → IsRoute (path_of (state_of s)) (path_of (state_of s) a)
 route s a h is = path_route (state_of s) h.depth (nested_of s h.shape) h.state (h.depth a + 1) a (omega arith) (λ ne. is)

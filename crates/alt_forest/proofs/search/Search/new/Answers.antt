@@ -1,6 +1,7 @@
 use Rattle.std.proofs.Common.{◌≡◌, ◌∙◌, ℕ, ◌+◌, pos, List, refl, ap, subst, sym, arith}
 use Rattle.graph_theory.specs.Graph.{Multigraph}
-use Rattle.blossom_arena.specs.Family.{Family, dual_at, empty_family, room_of}
+use Rattle.graph_theory.specs.Nested.{most_blossoms}
+use Rattle.blossom_arena.specs.Family.{Family, dual_at, empty_family}
 use Rattle.alt_forest.specs.declared.label.Label.{Label}
 use Rattle.alt_forest.specs.declared.label.Label.TheVariants.{Out}
 use Rattle.alt_forest.specs.declared.label.Weights.TheVariants.{Zero}
@@ -20,7 +21,7 @@ returns-clause-sound c =
     let count : c.in_ok-arena.arena.vertex_count ≡ g.vertices = ap (λ (f : Family). f.vertex_count) empty ∙ c.vertices.ensures.count in
     let graph : IsSearchGraph c.in_ok-copy.copy = subst IsSearchGraph (sym same) c.requires.graph in
     let few : c.in_ok-arena.arena.vertex_count ≡ c.in_ok-copy.copy.vertices = count ∙ sym (ap (λ (k : Multigraph). k.vertices) same) in
-    let limit : c.node_limit.result ≡ node_limit c.in_ok-copy.copy.vertices = c.node_limit.ensures.limit ∙ ap (λ (n : ℕ). n + room_of n) few in
+    let limit : c.node_limit.result ≡ node_limit c.in_ok-copy.copy.vertices = c.node_limit.ensures.limit ∙ ap (λ (n : ℕ). n + most_blossoms n) few in
     let out : (a : ℕ) → label_at c.in_ok-vec.field-0.items a ≡ Out = λ a. ap (λ (ls : List Label). label_at ls a) (c.in_ok-vec.ensures.items_if_clones_equal (λ y e. e)) ∙ same_entry _ a Out in
     record {
       shape = record {

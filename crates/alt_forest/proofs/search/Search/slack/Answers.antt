@@ -4,7 +4,7 @@ use Rattle.graph_theory.specs.declared.edge.Edge.{Edge}
 use Rattle.graph_theory.specs.Graph.{edge_of}
 use Rattle.graph_theory.proofs.Edges.{edge_of_within}
 use Rattle.blossom_arena.specs.Family.{dual_at}
-use Rattle.blossom_arena.specs.Slack.{pull}
+use Rattle.blossom_arena.specs.Slack.{duals_across}
 use Rattle.alt_forest.specs.Searches.{is_given}
 use Rattle.alt_forest.proofs.Certified.{certified, same_edge}
 use Rattle.alt_forest.proofs.search.Search.slack.Goals as goal
@@ -17,5 +17,5 @@ returns-clause-certificate g c =
     let e : Edge = edge_of c.args.graph.now c.args.e in
     let found : Edge = record { u = c.look-u.result.0; v = c.look-u.result.1; w = to_z w64 (of_z w64 c.look-u.result.2) } in
     let same : found ≡ e = same_edge found e c.look-u.ensures.from c.look-u.ensures.to (kept ∙ c.look-u.ensures.weight) in
-    let felt : Edge → ℤ = λ x. cond (is_given s.weights) (pos 2 *ℤ x.w) (pos 0) -ℤ pull (dual_at s.arena.duals) s.arena.blossoms x in
-    back ∙ c.slack_by.ensures ∙ ap felt same ∙ certified c.args.graph.now.vertices s.arena.duals s.arena.blossoms s.weights e (edge_of_within c.args.graph.now c.args.e c.look-u.ensures.graph.ends c.requires.edge)
+    let felt : Edge → ℤ = λ x. cond (is_given s.weights) (pos 2 *ℤ x.w) (pos 0) -ℤ duals_across (dual_at s.arena.duals) s.arena.blossoms x in
+    back ∙ c.slack_by.ensures.slack ∙ ap felt same ∙ certified c.args.graph.now.vertices s.arena.duals s.arena.blossoms s.weights e (edge_of_within c.args.graph.now c.args.e c.look-u.ensures.graph.ends c.requires.edge)

@@ -1,7 +1,8 @@
-use Rattle.std.proofs.Common.{◌≡◌, ◌∙◌, ℕ, ◌<◌, ◌≤◌, List, true, sym, ap, ap₂, subst, length, arith, rules}
+use Rattle.std.proofs.Common.{◌≡◌, ℕ, ◌<◌, List, true, sym, subst, arith, rules}
 use Rattle.std.specs.Prelude.{ℤ, pos, ◌≤ℤ◌, ◌+ℤ◌, slice_set}
-use Rattle.blossom_arena.specs.Family.{is_node, IsDual, HasDuals, dual_at}
-use Rattle.blossom_arena.specs.Fields.{blossoms_of, IsSound}
+use Rattle.graph_theory.specs.Duals.{IsNumber}
+use Rattle.blossom_arena.specs.Family.{is_node, HasDuals, dual_at}
+use Rattle.blossom_arena.specs.Fields.{blossoms_of}
 use Rattle.blossom_arena.proofs.Nested.{node_range}
 use Rattle.blossom_arena.proofs.Duals.{duals_set, sound_with_duals}
 use Rattle.blossom_arena.proofs.arena.Arena.add_dual.Goals as goal
@@ -20,7 +21,7 @@ duals c =
     let node : ℕ = c.args.node in
     let is = subst (λ f. is_node f.vertex_count f.blossoms c.args.node ≡ true) (sym c.self.view_is) c.requires.node in
     let range = node_range n (blossoms_of c.self.inside) node s.family.nested is in
-    let in_range = subst (λ f. IsDual (dual_at f.duals c.args.node +ℤ c.args.d)) (sym c.self.view_is) c.requires.in_range in
+    let in_range = subst (λ f. IsNumber (dual_at f.duals c.args.node +ℤ c.args.d)) (sym c.self.view_is) c.requires.in_range in
     let not_below = subst (λ f. f.vertex_count < c.args.node → pos 0 ≤ℤ (dual_at f.duals c.args.node +ℤ c.args.d)) (sym c.self.view_is) c.requires.not_below in
     let written : c.raise_dual.new.duals.items ≡ slice_set ys node (dual_at ys node +ℤ c.args.d) = search rules in
     subst (λ (zs : List ℤ). HasDuals n zs (blossoms_of c.self.inside)) (sym written)

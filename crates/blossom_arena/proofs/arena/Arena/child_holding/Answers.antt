@@ -1,7 +1,7 @@
-use Rattle.std.proofs.Common.{◌≡◌, ◌∙◌, ℕ, ◌<◌, ◌≤◌, ◌+◌, List, true, sym, ap, ap₂, subst, length, arith, ⊎_elim}
+use Rattle.std.proofs.Common.{◌≡◌, ◌∙◌, ℕ, List, true, sym, ap, ap₂, subst, length, arith, ⊎_elim}
 use Rattle.std.specs.Prelude.{slice_index}
 use Rattle.graph_theory.specs.Parts.{holds}
-use Rattle.blossom_arena.specs.Family.{Blossom, is_vertex, names_of, members_of, child_holding, room_of}
+use Rattle.blossom_arena.specs.Family.{Blossom, names_of, members_of, child_holding}
 use Rattle.blossom_arena.specs.Fields.{blossoms_of, climb_to, parent_of}
 use Rattle.blossom_arena.proofs.Nested.{vertex_range, name_is_node, name_range}
 use Rattle.blossom_arena.proofs.Sets.{member_vertex}

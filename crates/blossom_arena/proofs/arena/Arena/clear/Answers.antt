@@ -1,7 +1,8 @@
-use Rattle.std.proofs.Common.{◌≡◌, ◌∙◌, ℕ, ℤ, pos, ◌≤◌, ◌<◌, ◌+◌, List, sym, ap, length, arith, replicate}
+use Rattle.std.proofs.Common.{◌≡◌, ◌∙◌, ℕ, pos, ◌+◌, ap, arith, replicate}
 use Rattle.std.specs.Prelude.{vec_len}
 use Rattle.blossom_arena.specs.declared.arena.Arena.TheInside.{Inside}
-use Rattle.blossom_arena.specs.Family.{Family, empty_family, room_of}
+use Rattle.graph_theory.specs.Nested.{most_blossoms}
+use Rattle.blossom_arena.specs.Family.{Family, empty_family}
 use Rattle.blossom_arena.proofs.Fresh.{IsFresh, fresh_sound, fresh_family}
 use Rattle.blossom_arena.proofs.arena.Arena.clear.Goals as goal
 
@@ -22,7 +23,7 @@ after c = record {
 is_fresh : (c : goal.After-renumber) → IsFresh (after c)
 is_fresh c =
     let a : Inside = c.self.inside in
-    let places : ℕ = a.vertex_count + room_of a.vertex_count + 1 in
+    let places : ℕ = a.vertex_count + most_blossoms a.vertex_count + 1 in
     let duals_len : vec_len a.duals ≡ places = omega (arith, c.self.invariant.family.duals.one_each) in
     let parents_len : vec_len a.parents ≡ places = omega (arith, c.self.invariant.places.parents) in
     let older_len : vec_len a.older ≡ places = omega (arith, c.self.invariant.places.older) in

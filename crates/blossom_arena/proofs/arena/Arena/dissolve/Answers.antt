@@ -1,15 +1,13 @@
-use Rattle.std.proofs.Common.{◌≡◌, ◌∙◌, ℕ, ◌<◌, ◌≤◌, ◌+◌, ◌-◌, List, true, false, sym, ap, ap₂, subst, length, arith, Some, None}
-use Rattle.std.specs.Prelude.{slice_index, vec_len, IsSome}
+use Rattle.std.proofs.Common.{◌≡◌, ◌∙◌, ℕ, ◌<◌, ◌+◌, List, true, false, sym, ap, ap₂, subst, length, arith}
+use Rattle.std.specs.Prelude.{vec_len}
 use Rattle.std.specs.List.{AllByRecursion}
-use Rattle.slab.specs.Slab.{Slab, Updates, get}
 use Rattle.graph_theory.specs.Parts.{holds}
 use Rattle.blossom_arena.specs.declared.links.Link.{Link}
-use Rattle.blossom_arena.specs.declared.runs.Kept.{Kept}
-use Rattle.blossom_arena.specs.declared.arena.Arena.{Arena}
 use Rattle.blossom_arena.specs.declared.arena.Arena.TheInside.{Inside}
-use Rattle.blossom_arena.specs.Tables.{walk, links_of, filled}
-use Rattle.blossom_arena.specs.Family.{Blossom, Family, names_of, nodes_of, ring_of, is_child, is_outermost, room_of, dissolved, without}
-use Rattle.blossom_arena.specs.Fields.{blossoms_of, family_of, order_of, key_of, vertices_of, run_of, lowered}
+use Rattle.blossom_arena.specs.Tables.{filled}
+use Rattle.graph_theory.specs.Nested.{most_blossoms}
+use Rattle.blossom_arena.specs.Family.{Blossom, Family, names_of, nodes_of, ring_of, is_child, is_outermost, dissolved}
+use Rattle.blossom_arena.specs.Fields.{blossoms_of, family_of, order_of, vertices_of, run_of, lowered}
 use Rattle.blossom_arena.proofs.Nested.{outermost_parts}
 use Rattle.blossom_arena.proofs.Sound.{order_names, order_range}
 use Rattle.blossom_arena.proofs.Shrunk.{each_some}
@@ -64,7 +62,7 @@ hang-requires c =
     let there = in_order c.self.inside _ c.args.b c.number-node.result c.self.view_is c.requires.blossom c.number-node.ensures in
     let ring : c.of.result ≡ ring_of (blossoms_of c.self.inside) c.number-node.result =
     c.of.ensures ∙ ring_kept c.self.inside c.number-node.result c.self.invariant there c.remove-kept.result c.remove-kept.ensures.value c.deref.result.now c.deref-2.result.now c.deref.ensures.value c.deref-2.ensures.value in
-    let enough : c.self.inside.vertex_count + room_of c.self.inside.vertex_count < vec_len c.self.inside.parents = omega (arith, c.self.invariant.places.parents) in
+    let enough : c.self.inside.vertex_count + most_blossoms c.self.inside.vertex_count < vec_len c.self.inside.parents = omega (arith, c.self.invariant.places.parents) in
     subst (λ (ls : List Link). AllByRecursion (λ (l : Link). l.node < vec_len c.self.inside.parents) ls) (sym ring)
     (children_within c.self.inside c.number-node.result c.self.invariant there (vec_len c.self.inside.parents) enough)
 

@@ -1,12 +1,11 @@
-use Rattle.std.proofs.Common.{◌≡◌, ◌∙◌, ℕ, ◌<◌, ◌+◌, List, true, sym, ap, subst, length, arith, rules}
-use Rattle.std.specs.Prelude.{replicate, pos, ℤ}
-use Rattle.blossom_arena.specs.Family.{room_of}
+use Rattle.std.proofs.Common.{ℕ, ◌+◌, arith, rules}
+use Rattle.graph_theory.specs.Nested.{most_blossoms}
 use Rattle.blossom_arena.proofs.Fresh.{fresh_sound}
 use Rattle.blossom_arena.proofs.arena.Arena.new.Goals as goal
 
 pub invariant_of-result : goal.invariant_of-result
 invariant_of-result c =
-    let places : ℕ = c.args.n + room_of c.args.n + 1 in
+    let places : ℕ = c.args.n + most_blossoms c.args.n + 1 in
     fresh_sound _ (record {
       few = c.requires;
       slots = c.in_ok-kept.ensures.empty;

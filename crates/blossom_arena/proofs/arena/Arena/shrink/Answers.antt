@@ -1,13 +1,14 @@
-use Rattle.std.proofs.Common.{◌≡◌, ◌∙◌, ℕ, ◌<◌, ◌≤◌, ◌+◌, List, ◌∷◌, true, sym, ap, ap₂, subst, length, arith, Some}
-use Rattle.std.specs.Prelude.{slice_set, pos, ℤ, vec_len}
+use Rattle.std.proofs.Common.{◌≡◌, ◌∙◌, ℕ, ◌<◌, ◌+◌, List, ◌∷◌, sym, ap, ap₂, subst, length, arith, Some}
+use Rattle.std.specs.Prelude.{ℤ, vec_len}
 use Rattle.std.specs.List.{AllByRecursion}
 use Rattle.blossom_arena.specs.declared.links.Link.{Link}
 use Rattle.slab.specs.Slab.{Updates}
 use Rattle.blossom_arena.specs.declared.runs.Run.{Run}
 use Rattle.blossom_arena.specs.declared.runs.Kept.{Kept}
 use Rattle.blossom_arena.specs.declared.arena.Arena.TheInside.{Inside}
-use Rattle.blossom_arena.specs.Tables.{walk, links_of, filled, threaded, next_node}
-use Rattle.blossom_arena.specs.Family.{Blossom, Family, IsCircuit, is_node, shrunk, nodes_of, union_of, made_of, room_of}
+use Rattle.blossom_arena.specs.Tables.{filled, threaded, next_node}
+use Rattle.graph_theory.specs.Nested.{most_blossoms}
+use Rattle.blossom_arena.specs.Family.{Blossom, Family, IsCircuit, is_node, shrunk, nodes_of, union_of, made_of}
 use Rattle.blossom_arena.specs.Fields.{blossoms_of, vertices_of, runs_of}
 use Rattle.blossom_arena.proofs.Sound.{tails_within, joined_run}
 use Rattle.blossom_arena.proofs.Shrunk.{Shrinks, sound_after, blossoms_after, fresh}
@@ -60,7 +61,7 @@ ring_is c =
 pub hang-requires : goal.hang-requires
 hang-requires c =
     let circuit = subst (λ f. IsCircuit f.vertex_count f.blossoms c.args.circuit.now) (sym c.self.view_is) c.requires in
-    let enough : c.self.inside.vertex_count + room_of c.self.inside.vertex_count < vec_len c.self.inside.parents = omega (arith, c.self.invariant.places.parents) in
+    let enough : c.self.inside.vertex_count + most_blossoms c.self.inside.vertex_count < vec_len c.self.inside.parents = omega (arith, c.self.invariant.places.parents) in
     subst (λ (ls : List Link). AllByRecursion (λ (l : Link). l.node < vec_len c.self.inside.parents) ls) (sym (ring_is c))
     (nodes_within c.self.inside c.args.circuit.now c.self.invariant circuit (vec_len c.self.inside.parents) enough)
 

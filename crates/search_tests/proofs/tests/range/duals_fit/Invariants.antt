@@ -1,9 +1,9 @@
 use Rattle.std.proofs.Common.{ℕ, ◌<◌, ◌≤◌}
-use Rattle.blossom_arena.specs.Family.{IsDual}
+use Rattle.graph_theory.specs.Duals.{IsNumber}
 use Rattle.alt_forest.specs.State.{IsOutermost}
 use Rattle.alt_forest.specs.Searches.{state_of}
 use Rattle.dual_change.specs.Changes.{applied}
 use Rattle.search_tests.proofs.tests.range.duals_fit.Given as goal
 
 abbrev pub invariant-loop-number : goal.invariant-loop-number
-invariant-loop-number l = (a : ℕ) → 1 ≤ a → a < l.number → IsOutermost (state_of l.search) a → IsDual ((applied (state_of l.search) l.d).dual a)
+invariant-loop-number l = (a : ℕ) → 1 ≤ a → a < l.number → IsOutermost (state_of l.search) a → IsNumber ((applied (state_of l.search) l.d).dual a)

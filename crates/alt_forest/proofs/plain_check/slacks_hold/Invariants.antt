@@ -1,7 +1,0 @@
-use Rattle.std.proofs.Common.{ℕ, ◌≤◌, pos, ◌≤ℤ◌}
-use Rattle.alt_forest.specs.State.{slack_of}
-use Rattle.alt_forest.specs.Searches.{state_of}
-use Rattle.alt_forest.proofs.plain_check.slacks_hold.Given as goal
-
-abbrev pub invariant-loop-place : goal.invariant-loop-place
-invariant-loop-place l = (e : ℕ) → 1 ≤ e → e ≤ l.place → pos 0 ≤ℤ slack_of (state_of l.search) e

@@ -1,9 +1,0 @@
-use Rattle.std.proofs.Common.{refl, arith}
-use Rattle.alt_forest.proofs.Places.{outer_range}
-use Rattle.alt_forest.proofs.plain_check.ways_end.Goals as goal
-
-pub returns : goal.returns
-returns c = (
-  λ e a is. let range = outer_range c.args.search.now a c.requires.shape is in c.loop-number.invariant a range.0 (omega (arith, range.1, c.node_limit-number-end.ensures.limit, c.requires.shape.arena)) is,
-  λ _. refl,
-)

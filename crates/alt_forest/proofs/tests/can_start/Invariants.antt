@@ -1,6 +1,0 @@
-use Rattle.std.proofs.Common.{ℕ, ◌≤◌, ◌≤ℤ◌}
-use Rattle.graph_theory.specs.Graph.{edge_of}
-use Rattle.alt_forest.proofs.tests.can_start.Given as goal
-
-abbrev pub invariant-loop-place : goal.invariant-loop-place
-invariant-loop-place l = (e : ℕ) → 1 ≤ e → e ≤ l.place → l.start ≤ℤ (edge_of l.graph e).w

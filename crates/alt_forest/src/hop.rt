@@ -1,0 +1,53 @@
+ghost use Rattle.std.specs.Prelude.{◌≡◌, Some, IsSome};
+ghost use Rattle.graph_theory.specs.Graph.{IsEdgeNumber};
+ghost use Rattle.alt_forest.specs.State.{IsOutermost};
+ghost use Rattle.alt_forest.specs.Searches.{HasShape, state_of, edge_in};
+ghost use Rattle.alt_forest.specs.Ways.{HasHop, IsRead};
+
+use crate::path::{mate_of, other_node, parent_of};
+use crate::search::Search;
+use blossom_arena::NodeId;
+use mb_base::EdgeId;
+
+/// The way up from an outer node that is no root to the next outer one: by its mate to an inner node,
+/// and from that one by its parent.
+#[derive(Clone, Copy)]
+pub struct Hop {
+    pub mate: EdgeId,
+    pub inner: NodeId,
+    pub parent: EdgeId,
+    pub outer: NodeId,
+}
+
+/// The edge that is kept, where there is one.
+fn kept(edge: Option<EdgeId>) -> EdgeId
+    requires { IsSome edge }
+    ensures { edge ≡ Some result }
+{
+    match edge {
+        Some(e) => e,
+        None => unreachable!(),
+    }
+}
+
+impl Search {
+    /// The way up by a node's mate and by the parent of that mate (chapter 24). The lists may be those
+    /// of a search whose mates are being changed. It counts no step and takes no memory.
+    pub fn hop(&self, node: NodeId) -> Hop
+        requires shape { HasShape self.now }
+        requires outer { IsOutermost (state_of self.now) node }
+        requires hop { HasHop (state_of self.now) node }
+        ensures hop { IsRead (state_of self.now) node result }
+    {
+        let mate = kept(mate_of(self, node.number()));
+        let inner = other_node(self, mate, node.number());
+        let parent = kept(parent_of(self, inner));
+        let outer = other_node(self, parent, inner);
+        Hop {
+            mate,
+            inner: NodeId::new(inner),
+            parent,
+            outer: NodeId::new(outer),
+        }
+    }
+}

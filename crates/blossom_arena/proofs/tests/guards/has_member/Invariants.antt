@@ -1,7 +1,0 @@
-use Rattle.std.proofs.Common.{◌≡◌, true}
-use Rattle.graph_theory.specs.Parts.{holds}
-use Rattle.blossom_arena.specs.Family.{members_of}
-use Rattle.blossom_arena.proofs.tests.guards.has_member.Given as goal
-
-abbrev pub invariant-loop-member : goal.invariant-loop-member
-invariant-loop-member l = holds l.member-iterator l.v ≡ true → holds (members_of l.arena.blossoms l.fn.node) l.v ≡ true

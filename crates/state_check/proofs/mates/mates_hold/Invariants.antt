@@ -1,0 +1,8 @@
+use Rattle.std.proofs.Common.{ℕ, ◌<◌, ◌≤◌}
+use Rattle.alt_forest.specs.State.{IsOutermost}
+use Rattle.alt_forest.specs.Searches.{state_of}
+use Rattle.state_check.specs.Checks.{MateHolds}
+use Rattle.state_check.proofs.mates.mates_hold.Given as goal
+
+abbrev pub invariant-loop-number : goal.invariant-loop-number
+invariant-loop-number l = (a : ℕ) → 1 ≤ a → a < l.number → IsOutermost (state_of l.search) a → MateHolds (state_of l.search) a

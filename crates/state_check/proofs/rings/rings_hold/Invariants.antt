@@ -1,0 +1,12 @@
+use Rattle.std.proofs.Common.{◌≡◌, ◌⊎◌, ℕ, true}
+use Rattle.graph_theory.specs.Parts.{holds}
+use Rattle.blossom_arena.specs.Family.{names_of}
+use Rattle.alt_forest.specs.Searches.{state_of}
+use Rattle.state_check.specs.Checks.{RingHolds}
+use Rattle.state_check.proofs.rings.rings_hold.Given as goal
+
+abbrev pub invariant-loop-b : goal.invariant-loop-b
+invariant-loop-b l = record {
+  left : (x : ℕ) → holds l.b-iterator x ≡ true → holds (names_of l.search.arena.blossoms) x ≡ true;
+  done : (x : ℕ) → holds (names_of l.search.arena.blossoms) x ≡ true → (holds l.b-iterator x ≡ true) ⊎ RingHolds (state_of l.search) x;
+}

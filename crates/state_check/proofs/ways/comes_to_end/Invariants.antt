@@ -1,0 +1,11 @@
+use Rattle.std.proofs.Common.{◌≢◌}
+use Rattle.alt_forest.specs.State.{IsOutermost}
+use Rattle.alt_forest.specs.Searches.{state_of}
+use Rattle.state_check.proofs.Checked.{HasClimbed}
+use Rattle.state_check.proofs.ways.comes_to_end.Given as goal
+
+abbrev pub invariant-loop : goal.invariant-loop
+invariant-loop l = record {
+  outer : l.node ≢ 0 → IsOutermost (state_of l.search) l.node;
+  climbed : HasClimbed (state_of l.search) l.fn.a l.counter l.node;
+}

@@ -1,0 +1,68 @@
+ghost use Rattle.std.specs.Prelude.{◌≡◌, ◌↔◌, true};
+ghost use Rattle.alt_forest.specs.Searches.{IsSearchGraph, HasShape, IsSound};
+
+use crate::labels::labels_fit;
+use crate::mates::mates_hold;
+use crate::rings::rings_hold;
+use crate::slacks::slacks_hold;
+use crate::ways::ways_end;
+use alt_forest::Search;
+use graph_theory::{GRAPH_EDGE_LIMIT, GRAPH_VERTEX_LIMIT};
+use weighted_graph::Graph;
+
+/// Whether the copy of the graph is within the limits.
+fn is_small(graph: &Graph) -> bool
+    ensures { (result ≡ true) ↔ IsSearchGraph graph.now }
+{
+    if graph.vertices() > GRAPH_VERTEX_LIMIT {
+        return false;
+    }
+    graph.edges() <= GRAPH_EDGE_LIMIT
+}
+
+/// Whether the lists of a search have their lengths, and its arena is one for its graph.
+fn has_shape(search: &Search) -> bool
+    ensures { (result ≡ true) ↔ HasShape search.now }
+{
+    if !is_small(&search.graph) {
+        return false;
+    }
+    if search.arena.vertex_count() != search.graph.vertices() {
+        return false;
+    }
+    let places = search.arena.node_limit() as usize + 1;
+    if search.labels.len() != places {
+        return false;
+    }
+    if search.parents.len() != places {
+        return false;
+    }
+    if search.mates.len() != places {
+        return false;
+    }
+    search.circuit.capacity() >= search.graph.vertices() as usize
+}
+
+/// Whether a search is in the state of a search (chapters 24 and 26), exactly: it recomputes each part
+/// from the lists. It is for tests of searches whose fields were written by hand, and slow: for n
+/// vertices and m edges its time is at most linear in n (n + m). It counts no step and takes no memory.
+pub fn check_search(search: &Search) -> bool
+    ensures exact { (result ≡ true) ↔ IsSound search.now }
+{
+    if !has_shape(search) {
+        return false;
+    }
+    if !rings_hold(search) {
+        return false;
+    }
+    if !slacks_hold(search) {
+        return false;
+    }
+    if !mates_hold(search) {
+        return false;
+    }
+    if !labels_fit(search) {
+        return false;
+    }
+    ways_end(search)
+}

@@ -1,0 +1,14 @@
+//! A plain check of every part of the state of a search from its lists, for tests.
+//! It stands on `mb_base`, `graph_theory`, `weighted_graph`, `blossom_arena` and `alt_forest`, and promises that
+//! it passes exactly the searches that are in such a state.
+#![tactic(auto)]
+
+mod check;
+mod edges;
+mod labels;
+mod mates;
+mod rings;
+mod slacks;
+mod ways;
+
+pub use check::check_search;
