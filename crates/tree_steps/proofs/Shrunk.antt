@@ -28,7 +28,7 @@ across_same y z (b ∷ older) e eu ev each =
     ap (λ t. cond (crosses b.members e) t (pos 0) +ℤ duals_across y older e) each.0
     ∙ ap (λ t. cond (crosses b.members e) (z b.node) (pos 0) +ℤ t) (across_same y z older e eu ev each.1)
 
--- a blossom of dual 0 on top
+-- a blossom of dual 0 on base
 pub across_zero : (y : ℕ → ℤ) (b : Blossom) (older : List Blossom) (e : Edge) → y b.node ≡ pos 0 → duals_across y (b ∷ older) e ≡ duals_across y older e
 across_zero y b older e zero_there =
     elim (crosses b.members e) as (λ t. cond t (y b.node) (pos 0) +ℤ duals_across y older e ≡ duals_across y older e) [
