@@ -11,11 +11,12 @@ use Rattle.mb_problem.specs.declared.kind.Kind.{Kind}
 use Rattle.mb_problem.specs.declared.kind.Kind.TheVariants.{Perfect, Match, BMatch, CapMatch, FFactor, TJoin, Postman, Path}
 use Rattle.mb_problem.specs.declared.instance.InstanceEdge.{InstanceEdge}
 use Rattle.mb_problem.specs.Network.{IsNetwork, IsInstanceEdge}
+use Rattle.mb_problem.specs.declared.limits.TheConstants.{VALUE_LIMIT}
 use Rattle.dimacs_read.specs.declared.line.Header.{Header}
 use Rattle.dimacs_read.specs.declared.rule.Rule.TheVariants.{HeaderMissing, EdgeCount, Negative, PathEnds}
 use Rattle.dimacs_read.specs.declared.rule.Fault.{Fault}
 use Rattle.dimacs_read.specs.Format.{Sizes, header_of, value_in, edges_of, values_of, value_or, default_of, first_place, is_negative, is_odd, kind_fault, end_fault, HoldsInstance}
-use Rattle.dimacs_read.specs.Line.{sizes, sizes_of_header, FitsHeader, IsWithinLimits, HasValues, HasFewVertices}
+use Rattle.dimacs_read.specs.Line.{sizes, sizes_of_header, FitsHeader, IsSmall, HasValues, HasFewVertices}
 use Rattle.dimacs_read.specs.Reading.{IsRead, kind_fault_from, end_fault_from}
 
 -- ---- the place of the first row that passes is within the rows
@@ -81,7 +82,7 @@ end_whole kind (Some g) vs count neg lines e = (g, refl, eqb-true count g.edges 
 
 -- ---- all lines
 
-default_small : (kind : Kind) → default_of kind ≤ 4096
+default_small : (kind : Kind) → default_of kind ≤ VALUE_LIMIT
 default_small Perfect = omega arith
 default_small Match = omega arith
 default_small BMatch = omega arith
@@ -91,7 +92,7 @@ default_small TJoin = omega arith
 default_small Postman = omega arith
 default_small Path = omega arith
 
-small_value : (kind : Kind) (o : Option ℕ) → IsWithinLimits o → value_or (default_of kind) o ≤ 4096
+small_value : (kind : Kind) (o : Option ℕ) → IsSmall o → value_or (default_of kind) o ≤ VALUE_LIMIT
 small_value kind None h = default_small kind
 small_value kind (Some b) h = h
 
@@ -155,7 +156,7 @@ module _ (rs : List Row) (h : Option Header) (vs : List (Option ℕ)) (es : List
         few_vertices = omega (arith, few.0, len);
         few_edges = omega (arith, few.1, count);
         edges = λ j d lt. subst (λ (n : ℕ). IsInstanceEdge n (get_or es j d)) (sym len) (subst (λ (x : Option Header). FitsHeader x (get_or es j d)) e (so_far.fit j d lt));
-        values = All-map (λ b. b ≤ 4096) (value_or (default_of kind)) vs (λ j d lt. small_value kind (get_or vs j d) (so_far.small j d lt));
+        values = All-map (λ b. b ≤ VALUE_LIMIT) (value_or (default_of kind)) vs (λ j d lt. small_value kind (get_or vs j d) (so_far.small j d lt));
       }
 
   pub holds : (kind : Kind) (g : Header) → h ≡ Some g → end_fault_from kind (sizes h) vs (length es) neg (length rs) ≡ None → HoldsInstance kind rs (record { edges = es; values = map (value_or (default_of kind)) vs })

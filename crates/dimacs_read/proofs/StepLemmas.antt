@@ -21,7 +21,7 @@ use Rattle.mb_base.specs.Text.{lines, fields}
 use Rattle.dimacs_read.specs.declared.line.Header.{Header}
 use Rattle.dimacs_read.specs.declared.keep.Line.{Line}
 use Rattle.dimacs_read.specs.declared.keep.Line.TheVariants as line
-use Rattle.dimacs_read.specs.Line.{sizes, sizes_of_header, HasValues, is_valued, FitsHeader, IsWithinLimits}
+use Rattle.dimacs_read.specs.Line.{sizes, sizes_of_header, HasValues, is_valued, FitsHeader, IsSmall}
 use Rattle.dimacs_read.specs.Reading.{IsLine, GivesLine, HasPlace, values_after, header_after, edges_after, negative_after, IsRead}
 use Rattle.dimacs_read.specs.Rest.{after_lines}
 use Rattle.std.specs.List.{after_first}
@@ -282,9 +282,9 @@ module _ (rs : List Row) (k : ℕ) (row : Row) (more : List Row) (at : drop k rs
         edges_are = so_far.edges_are ∙ sym (edges_stay rs k row more at kind.0);
         negative_is = after_header neg found k ∙ negative_stays neg so_far.negative_is kind.0;
         room = length-replicate found.vertices None;
-        few = (given.1.3, given.1.4);
+        few = given.1.3;
         fit = λ j d lt. absurd (subst (λ (x : Option Header). FitsHeader x (get_or es j d)) no_one (so_far.fit j d lt));
-        small = All-replicate IsWithinLimits found.vertices None tt;
+        small = All-replicate IsSmall found.vertices None tt;
       }
   goes_on h vs es neg (line.Edge e) so_far given =
       let is_one : is_edge row ≡ true = sym (is_edge-six row) ∙ given.1.2 in
@@ -320,7 +320,7 @@ module _ (rs : List Row) (k : ℕ) (row : Row) (more : List Row) (at : drop k rs
         room = room_set h (length vs) (length (slice_set vs (node.vertex - 1) (Some node.value))) so_far.room (length-set vs (node.vertex - 1) (Some node.value));
         few = so_far.few;
         fit = so_far.fit;
-        small = All-set IsWithinLimits vs (node.vertex - 1) (Some node.value) given.1.6 so_far.small;
+        small = All-set IsSmall vs (node.vertex - 1) (Some node.value) given.1.6 so_far.small;
       }
 
   pub stops : (h : Option Header) (vs : List (Option ℕ)) (es : List InstanceEdge) (neg : Option ℕ) (rule : Rule) → IsRead rs k h vs es neg → GivesLine h (is_valued vs) (length vs) (take 6 row) (Err rule) → IsFirstFaulty rs rule k

@@ -4,13 +4,15 @@ use Rattle.std.specs.Prelude.{neg_ℤ, nat_abs, unwrap_or, int_le, ◌&&◌, ◌
 use Rattle.std.specs.Str.{bytes_eq}
 use Rattle.mb_base.specs.Text.{numeral}
 use Rattle.mb_problem.specs.declared.instance.InstanceEdge.{InstanceEdge}
+use Rattle.graph_theory.specs.declared.limits.TheConstants.{WEIGHT_LIMIT}
+use Rattle.mb_problem.specs.declared.limits.TheConstants.{VERTEX_LIMIT, EDGE_LIMIT, VALUE_LIMIT}
 use Rattle.dimacs_read.specs.declared.line.Node.{Node}
 use Rattle.std.proofs.Common.{◌≤◌, negsuc}
 use Rattle.std.proofs.lemmas.Bool.{leb-true}
 use Rattle.dimacs_read.specs.declared.rule.Rule.{Rule}
 use Rattle.dimacs_read.specs.declared.rule.Rule.TheVariants.{HeaderForm, FieldCount, Loop, NodeTwice, Range}
 use Rattle.mb_base.specs.Rows.{Row, field_at}
-use Rattle.dimacs_read.specs.Format.{◌>>=◌, Sizes, ranged, number_in, natural_in, number_at, natural_at, sizes_at, header_at, weight_at, capacity_at, edge_at, node_at, edge_of, sizes_of, billion}
+use Rattle.dimacs_read.specs.Format.{◌>>=◌, Sizes, ranged, number_in, natural_in, number_at, natural_at, sizes_at, header_at, weight_at, capacity_at, edge_at, node_at, edge_of, sizes_of}
 
 bind_ok : {A B : Type 0} (r : Result A Rule) (f : A → Result B Rule) (y : B) → (r >>= f) ≡ Ok y → (x : A) × (r ≡ Ok x) × (f x ≡ Ok y)
 bind_ok (Ok x) f y e = (x, refl, e)
@@ -45,11 +47,11 @@ natural_is low high row k n e =
 
 sizes_is : (row : Row) (s : Sizes) → sizes_at row ≡ Ok s → sizes_of row ≡ s
 sizes_is row s e =
-    let a = bind_ok (natural_in 0 4096 (field_at row 2)) (λ n. natural_in 0 65536 (field_at row 3) >>= λ m. Ok (record { vertices = n; edges = m })) s e in
-    let b = bind_ok (natural_in 0 65536 (field_at row 3)) (λ m. Ok (record { vertices = a.0; edges = m })) s a.2 in
+    let a = bind_ok (natural_in 0 VERTEX_LIMIT (field_at row 2)) (λ n. natural_in 0 EDGE_LIMIT (field_at row 3) >>= λ m. Ok (record { vertices = n; edges = m })) s e in
+    let b = bind_ok (natural_in 0 EDGE_LIMIT (field_at row 3)) (λ m. Ok (record { vertices = a.0; edges = m })) s a.2 in
     let made : Sizes = record { vertices = a.0; edges = b.0 } in
-    let first = natural_is 0 4096 row 2 a.0 a.1 in
-    let second = natural_is 0 65536 row 3 b.0 b.1 in
+    let first = natural_is 0 VERTEX_LIMIT row 2 a.0 a.1 in
+    let second = natural_is 0 EDGE_LIMIT row 3 b.0 b.1 in
     let e1 : sizes_of row ≡ made = cc in
     e1 ∙ ok_is made s b.2
 
@@ -61,15 +63,15 @@ header_is None row s e =
     let b = guard_ok (not (bytes_eq (field_at row 1) (codes "edge") || bytes_eq (field_at row 1) (codes "col"))) HeaderForm (sizes_at row) s a in
     (refl, sizes_is row s b)
 
-weight_is : (b : Bool) (row : Row) (w : ℤ) → cond b (Ok (pos 1)) (number_in (neg_ℤ (pos billion)) (pos billion) (field_at row 3)) ≡ Ok w → cond b (pos 1) (number_at row 3) ≡ w
+weight_is : (b : Bool) (row : Row) (w : ℤ) → cond b (Ok (pos 1)) (number_in (neg_ℤ WEIGHT_LIMIT) WEIGHT_LIMIT (field_at row 3)) ≡ Ok w → cond b (pos 1) (number_at row 3) ≡ w
 weight_is true row w e = ok_is (pos 1) w e
-weight_is false row w e = ranged_is (neg_ℤ (pos billion)) (pos billion) (numeral (field_at row 3)) w e
+weight_is false row w e = ranged_is (neg_ℤ WEIGHT_LIMIT) WEIGHT_LIMIT (numeral (field_at row 3)) w e
 
-capacity_is : (b : Bool) (row : Row) (c : Option ℕ) → cond b (Ok None) (natural_in 0 4096 (field_at row 4) >>= λ n. Ok (Some n)) ≡ Ok c → cond b None (Some (natural_at row 4)) ≡ c
+capacity_is : (b : Bool) (row : Row) (c : Option ℕ) → cond b (Ok None) (natural_in 0 VALUE_LIMIT (field_at row 4) >>= λ n. Ok (Some n)) ≡ Ok c → cond b None (Some (natural_at row 4)) ≡ c
 capacity_is true row c e = ok_is None c e
 capacity_is false row c e =
-    let b = bind_ok (natural_in 0 4096 (field_at row 4)) (λ n. Ok (Some n)) c e in
-    ap (λ (n : ℕ). Some n) (natural_is 0 4096 row 4 b.0 b.1) ∙ ok_is (Some b.0) c b.2
+    let b = bind_ok (natural_in 0 VALUE_LIMIT (field_at row 4)) (λ n. Ok (Some n)) c e in
+    ap (λ (n : ℕ). Some n) (natural_is 0 VALUE_LIMIT row 4 b.0 b.1) ∙ ok_is (Some b.0) c b.2
 
 pub edge_is : (h : Option Sizes) (row : Row) (e : InstanceEdge) → edge_at h row ≡ Ok e → edge_of row ≡ e
 unfolding edge_at
@@ -95,11 +97,11 @@ node_is None named row node h = absurd cc
 node_is (Some s) named row node h =
     let r0 = guard_ok (not (eqb (length row) 3)) FieldCount _ node h in
     let v = bind_ok (natural_in 1 s.vertices (field_at row 1)) _ node r0 in
-    let b = bind_ok (natural_in 0 4096 (field_at row 2)) _ node v.2 in
+    let b = bind_ok (natural_in 0 VALUE_LIMIT (field_at row 2)) _ node v.2 in
     let last = guard_ok (named v.0) NodeTwice _ node b.2 in
     let made : Node = record { vertex = v.0; value = b.0 } in
     let e = ok_is made node last in
-    (natural_is 1 s.vertices row 1 v.0 v.1 ∙ ap (λ (n : Node). n.vertex) e, natural_is 0 4096 row 2 b.0 b.1 ∙ ap (λ (n : Node). n.value) e)
+    (natural_is 1 s.vertices row 1 v.0 v.1 ∙ ap (λ (n : Node). n.vertex) e, natural_is 0 VALUE_LIMIT row 2 b.0 b.1 ∙ ap (λ (n : Node). n.value) e)
 
 -- ---- a test of earlier lines matters at the vertices alone
 
@@ -120,7 +122,7 @@ natural_range low high row k n e =
     rw (← ok_is (nat_abs b.0) n b.2) r
 
 abbrev node_from : (ℕ → Bool) → Row → ℕ → Result Node Rule
-node_from named row v = natural_in 0 4096 (field_at row 2) >>= λ b. cond (named v) (Err NodeTwice) (Ok (record { vertex = v; value = b }))
+node_from named row v = natural_in 0 VALUE_LIMIT (field_at row 2) >>= λ b. cond (named v) (Err NodeTwice) (Ok (record { vertex = v; value = b }))
 
 same_from : (f g : ℕ → Bool) (row : Row) (r : Result ℕ Rule) → ((v : ℕ) → r ≡ Ok v → f v ≡ g v) → (r >>= node_from f row) ≡ (r >>= node_from g row)
 same_from f g row (Ok v) h = let e = h v refl in rw e refl
@@ -138,7 +140,7 @@ node_unnamed None named row node h = absurd cc
 node_unnamed (Some s) named row node h =
     let r0 = guard_ok (not (eqb (length row) 3)) FieldCount _ node h in
     let v = bind_ok (natural_in 1 s.vertices (field_at row 1)) _ node r0 in
-    let b = bind_ok (natural_in 0 4096 (field_at row 2)) _ node v.2 in
+    let b = bind_ok (natural_in 0 VALUE_LIMIT (field_at row 2)) _ node v.2 in
     let fresh = guard_false (named v.0) NodeTwice _ node b.2 in
     let last = guard_ok (named v.0) NodeTwice _ node b.2 in
     let made : Node = record { vertex = v.0; value = b.0 } in

@@ -8,6 +8,8 @@ use Rattle.mb_base.specs.Rows.{Row, field_at, is_skipped}
 use Rattle.mb_problem.specs.declared.kind.Kind.{Kind}
 use Rattle.mb_problem.specs.declared.kind.Kind.TheVariants.{BMatch, CapMatch, FFactor, Postman, Path}
 use Rattle.mb_problem.specs.declared.instance.InstanceEdge.{InstanceEdge}
+use Rattle.graph_theory.specs.declared.limits.TheConstants.{WEIGHT_LIMIT}
+use Rattle.mb_problem.specs.declared.limits.TheConstants.{VERTEX_LIMIT, EDGE_LIMIT, VALUE_LIMIT}
 use Rattle.mb_problem.specs.Network.{Network}
 use Rattle.dimacs_read.specs.declared.rule.Rule.{Rule}
 use Rattle.dimacs_read.specs.declared.rule.Rule.TheVariants.{UnknownLine, HeaderMissing, HeaderTwice, HeaderForm, FieldCount, Number, Range, Loop, NodeTwice, EdgeCount, Negative, PathEnds}
@@ -41,11 +43,8 @@ pub record Sizes : Type 0 where
   pub vertices : ℕ
   pub edges : ℕ
 
-abbrev pub billion : ℕ
-billion = 1000000000
-
 abbrev pub sizes_at : Row → Result Sizes Rule
-sizes_at row = natural_in 0 4096 (field_at row 2) >>= λ n. natural_in 0 65536 (field_at row 3) >>= λ m. Ok (record { vertices = n; edges = m })
+sizes_at row = natural_in 0 VERTEX_LIMIT (field_at row 2) >>= λ n. natural_in 0 EDGE_LIMIT (field_at row 3) >>= λ m. Ok (record { vertices = n; edges = m })
 
 -- a header line, after a header or none
 abbrev pub header_at : Option Sizes → Row → Result Sizes Rule
@@ -57,10 +56,10 @@ header_at None row =
 
 -- the weight of an edge line that has one, and else 1
 abbrev pub weight_at : Row → Result ℤ Rule
-weight_at row = if nat_lt (length row) 4 then Ok (pos 1) else number_in (neg_ℤ (pos billion)) (pos billion) (field_at row 3)
+weight_at row = if nat_lt (length row) 4 then Ok (pos 1) else number_in (neg_ℤ WEIGHT_LIMIT) WEIGHT_LIMIT (field_at row 3)
 
 abbrev pub capacity_at : Row → Result (Option ℕ) Rule
-capacity_at row = if nat_lt (length row) 5 then Ok None else (natural_in 0 4096 (field_at row 4) >>= λ c. Ok (Some c))
+capacity_at row = if nat_lt (length row) 5 then Ok None else (natural_in 0 VALUE_LIMIT (field_at row 4) >>= λ c. Ok (Some c))
 
 -- an edge line, after a header or none
 unfoldable pub edge_at : Option Sizes → Row → Result InstanceEdge Rule
@@ -79,7 +78,7 @@ node_at None named row = Err HeaderMissing
 node_at (Some s) named row =
     if not (length row == 3) then Err FieldCount else
     (natural_in 1 s.vertices (field_at row 1) >>= λ v.
-    natural_in 0 4096 (field_at row 2) >>= λ b.
+    natural_in 0 VALUE_LIMIT (field_at row 2) >>= λ b.
     (if named v then Err NodeTwice else Ok (record { vertex = v; value = b })))
 
 -- ---- lines

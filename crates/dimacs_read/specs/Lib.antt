@@ -1,4 +1,5 @@
 pub mod Rows
+pub mod Rule
 pub mod Format
 pub mod Rest
 pub mod Line

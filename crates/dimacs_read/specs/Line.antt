@@ -3,6 +3,7 @@ use Rattle.std.specs.Prelude.{◌≡◌, ◌-◌, Bool, is_some, slice_index_or,
 use denote.Ref.{Bor}
 use Rattle.mb_base.specs.Rows.{Row}
 use Rattle.mb_problem.specs.declared.instance.InstanceEdge.{InstanceEdge}
+use Rattle.mb_problem.specs.declared.limits.TheConstants.{VERTEX_LIMIT, EDGE_LIMIT, VALUE_LIMIT}
 use Rattle.mb_problem.specs.Network.{IsInstanceEdge}
 use Rattle.dimacs_read.specs.declared.line.Header.{Header}
 use Rattle.dimacs_read.specs.declared.rule.Rule.{Rule}
@@ -22,9 +23,13 @@ abbrev pub seen : Result Header Rule → Result Sizes Rule
 seen (Ok h) = Ok (sizes_of_header h)
 seen (Err rule) = Err rule
 
+-- a header announces no more than an instance may have
+abbrev pub IsAnnounced : Header → Type 0
+IsAnnounced h = (h.vertices ≤ VERTEX_LIMIT) × (h.edges ≤ EDGE_LIMIT)
+
 abbrev pub HasFewVertices : Option Header → Type 0
 HasFewVertices None = Unit {0}
-HasFewVertices (Some h) = (h.vertices ≤ 4096) × (h.edges ≤ 65536)
+HasFewVertices (Some h) = IsAnnounced h
 
 -- so many vertices have a place for a value
 abbrev pub HasValues : Option Header → ℕ → Type 0
@@ -35,8 +40,9 @@ HasValues (Some h) count = count ≡ h.vertices
 abbrev pub is_valued : List (Option ℕ) → ℕ → Bool
 is_valued values v = is_some (slice_index_or values (v - 1) None)
 
-abbrev pub IsWithinLimits : Option ℕ → Type 0
-IsWithinLimits o = IfSome o (λ c. c ≤ 4096)
+-- a value or a capacity, where there is one, is within the limit
+abbrev pub IsSmall : Option ℕ → Type 0
+IsSmall o = IfSome o (λ c. c ≤ VALUE_LIMIT)
 
 -- an edge of the graph that a header announces
 abbrev pub FitsHeader : Option Header → InstanceEdge → Type 0
@@ -47,4 +53,4 @@ abbrev pub AllFit : Option Header → List InstanceEdge → Type 0
 AllFit h es = All (FitsHeader h) es
 
 abbrev pub AreSmall : List (Option ℕ) → Type 0
-AreSmall values = All IsWithinLimits values
+AreSmall values = All IsSmall values

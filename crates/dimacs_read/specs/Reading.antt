@@ -3,6 +3,7 @@ use Rattle.std.specs.Prelude.{Bool, ◌≡◌, ◌≤◌, ◌==◌, ℕ, ◌+◌
 use Rattle.mb_base.specs.Rows.{Row, rows, is_skipped}
 use Rattle.mb_problem.specs.declared.kind.Kind.{Kind}
 use Rattle.mb_problem.specs.declared.instance.InstanceEdge.{InstanceEdge}
+use Rattle.mb_problem.specs.declared.limits.TheConstants.{VALUE_LIMIT}
 use Rattle.mb_problem.specs.Network.{Network}
 use Rattle.dimacs_read.specs.declared.line.Header.{Header}
 use Rattle.dimacs_read.specs.declared.rest.Rest.{Rest}
@@ -14,19 +15,19 @@ use Rattle.std.specs.Option.{option_map}
 use Rattle.mb_problem.specs.declared.kind.Kind.TheVariants.{Postman, Path}
 use Rattle.dimacs_read.specs.declared.keep.Line.{Line}
 use Rattle.dimacs_read.specs.declared.keep.Line.TheVariants as line
-use Rattle.dimacs_read.specs.declared.reader.InstanceError.{InstanceError}
-use Rattle.dimacs_read.specs.declared.reader.InstanceError.TheVariants.{Malformed, OutOfMemory}
+use Rattle.dimacs_read.specs.declared.error.InstanceError.{InstanceError}
+use Rattle.dimacs_read.specs.declared.error.InstanceError.TheVariants.{Malformed, OutOfMemory}
 use Rattle.dimacs_read.specs.Rows.{is_header, is_edge, is_node, instance_rows}
 use Rattle.dimacs_read.specs.Format.{Sizes, header_at, edge_at, node_at, line_fault, header_of, value_in, edges_of, first_place, is_negative, is_odd, value_or, NoFaultBelow, IsFirstFaulty, IsFirstFault, HoldsInstance}
-use Rattle.dimacs_read.specs.Line.{sizes, sizes_of_header, FitsHeader, HasValues, HasFewVertices, AllFit, AreSmall}
+use Rattle.dimacs_read.specs.Line.{sizes, sizes_of_header, FitsHeader, HasValues, HasFewVertices, IsAnnounced, AllFit, AreSmall}
 use Rattle.dimacs_read.specs.Rest.{IsRest, after_lines}
 
 -- a line without a fault is one of the kinds
 abbrev pub IsLine : Option Header → (ℕ → Bool) → ℕ → Row → Line → Type 0
 IsLine header named count row line.Skipped = is_skipped row ≡ true
-IsLine header named count row (line.Header h) = (is_skipped row ≡ false) × (is_header row ≡ true) × (header_at (sizes header) row ≡ Ok (sizes_of_header h)) × (h.vertices ≤ 4096) × (h.edges ≤ 65536)
+IsLine header named count row (line.Header h) = (is_skipped row ≡ false) × (is_header row ≡ true) × (header_at (sizes header) row ≡ Ok (sizes_of_header h)) × IsAnnounced h
 IsLine header named count row (line.Edge e) = (is_skipped row ≡ false) × (is_header row ≡ false) × (is_edge row ≡ true) × (edge_at (sizes header) row ≡ Ok e) × FitsHeader header e
-IsLine header named count row (line.Node node) = (is_header row ≡ false) × (is_edge row ≡ false) × (is_node row ≡ true) × (node_at (sizes header) named row ≡ Ok node) × (1 ≤ node.vertex) × (node.vertex ≤ count) × (node.value ≤ 4096)
+IsLine header named count row (line.Node node) = (is_header row ≡ false) × (is_edge row ≡ false) × (is_node row ≡ true) × (node_at (sizes header) named row ≡ Ok node) × (1 ≤ node.vertex) × (node.vertex ≤ count) × (node.value ≤ VALUE_LIMIT)
 
 abbrev pub GivesLine : Option Header → (ℕ → Bool) → ℕ → Row → Result Line Rule → Type 0
 GivesLine header named count row (Ok l) = (line_fault (sizes header) named row ≡ None) × IsLine header named count row l

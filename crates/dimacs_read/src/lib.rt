@@ -4,6 +4,7 @@
 //! It promises that `read` answers exactly as the format says, and that each text has one reading.
 #![tactic(auto)]
 
+mod error;
 mod keep;
 mod law;
 mod line;
@@ -11,10 +12,8 @@ mod reader;
 mod rest;
 mod rule;
 
+pub use error::InstanceError;
 pub use law::one_reading;
-pub use reader::{InstanceError, read};
+pub use reader::read;
 pub use rest::Rest;
 pub use rule::Rule;
-
-#[cfg(test)]
-mod tests;

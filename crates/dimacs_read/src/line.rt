@@ -1,11 +1,13 @@
 ghost use Rattle.std.specs.Prelude.{◌≡◌, ℕ, ◌<◌, ◌≤◌, ◌^◌, map, length, pos, neg_ℤ, ◌≤ℤ◌, Result, IfOk, Some, None, Option};
+ghost use Rattle.graph_theory.specs.Graph.{IsWeight};
 ghost use Rattle.mb_problem.specs.Network.{IsInstanceEdge};
 ghost use Rattle.dimacs_read.specs.Format.{number_in, natural_in, weight_at, capacity_at, edge_at, header_at, node_at, sizes_at, Sizes};
-ghost use Rattle.dimacs_read.specs.Line.{sizes, seen, field_list, HasFewVertices, HasValues, is_valued, FitsHeader, IsWithinLimits};
+ghost use Rattle.dimacs_read.specs.Line.{sizes, seen, field_list, HasFewVertices, HasValues, is_valued, FitsHeader, IsAnnounced, IsSmall};
 
 use crate::rule::Rule;
+use graph_theory::WEIGHT_LIMIT;
 use mb_base::{VertexId, number};
-use mb_problem::InstanceEdge;
+use mb_problem::{EDGE_LIMIT, InstanceEdge, VALUE_LIMIT, VERTEX_LIMIT};
 
 /// What a header line says.
 #[derive(Clone, Copy, Debug, PartialEq, Eq)]
@@ -22,12 +24,12 @@ pub struct Node {
 }
 
 fn number_between(field: &[u8], low: i64, high: i64) -> Result<i64, Rule>
-    requires low { neg_ℤ (pos (10 ^ 9)) ≤ℤ low }
-    requires high { high ≤ℤ pos (10 ^ 9) }
+    requires low { neg_ℤ WEIGHT_LIMIT ≤ℤ low }
+    requires high { high ≤ℤ WEIGHT_LIMIT }
     ensures value { result ≡ number_in low high field.now }
     ensures range { IfOk result (λ z. (low ≤ℤ z) × (z ≤ℤ high)) }
 {
-    match number(field, 1_000_000_000) {
+    match number(field, WEIGHT_LIMIT) {
         None => Err(Rule::Number),
         Some(value) => {
             if low <= value && value <= high {
@@ -40,7 +42,7 @@ fn number_between(field: &[u8], low: i64, high: i64) -> Result<i64, Rule>
 }
 
 fn natural_between(field: &[u8], low: u32, high: u32) -> Result<u32, Rule>
-    requires { high ≤ 10 ^ 9 }
+    requires { pos high ≤ℤ WEIGHT_LIMIT }
     ensures value { result ≡ natural_in low high field.now }
     ensures range { IfOk result (λ n. (low ≤ n) × (n ≤ high)) }
 {
@@ -50,39 +52,39 @@ fn natural_between(field: &[u8], low: u32, high: u32) -> Result<u32, Rule>
 
 fn weight(row: &[&[u8]]) -> Result<i64, Rule>
     ensures value { result ≡ weight_at (field_list row.now) }
-    ensures range { IfOk result (λ z. (neg_ℤ (pos (10 ^ 9)) ≤ℤ z) × (z ≤ℤ pos (10 ^ 9))) }
+    ensures range { IfOk result IsWeight }
 {
     if row.len() < 4 {
         return Ok(1);
     }
-    number_between(row[3], -1_000_000_000, 1_000_000_000)
+    number_between(row[3], -WEIGHT_LIMIT, WEIGHT_LIMIT)
 }
 
 fn capacity(row: &[&[u8]]) -> Result<Option<u32>, Rule>
     ensures value { result ≡ capacity_at (field_list row.now) }
-    ensures range { IfOk result IsWithinLimits }
+    ensures range { IfOk result IsSmall }
 {
     if row.len() < 5 {
         return Ok(None);
     }
-    let value = natural_between(row[4], 0, 4096)?;
+    let value = natural_between(row[4], 0, VALUE_LIMIT)?;
     Ok(Some(value))
 }
 
 fn header_sizes(row: &[&[u8]]) -> Result<Header, Rule>
     requires { length row.now ≡ 4 }
     ensures value { seen result ≡ sizes_at (field_list row.now) }
-    ensures range { IfOk result (λ h. (h.vertices ≤ 4096) × (h.edges ≤ 65536)) }
+    ensures range { IfOk result IsAnnounced }
 {
-    let vertices = natural_between(row[2], 0, 4096)?;
-    let edges = natural_between(row[3], 0, 65536)?;
+    let vertices = natural_between(row[2], 0, VERTEX_LIMIT)?;
+    let edges = natural_between(row[3], 0, EDGE_LIMIT)?;
     Ok(Header { vertices, edges })
 }
 
 /// What a header line says, or the first test of such lines that it fails.
 pub fn read_header(earlier: Option<Header>, row: &[&[u8]]) -> Result<Header, Rule>
     ensures value { seen result ≡ header_at (sizes earlier) (field_list row.now) }
-    ensures range { IfOk result (λ h. (h.vertices ≤ 4096) × (h.edges ≤ 65536)) }
+    ensures range { IfOk result IsAnnounced }
 {
     if let Some(_) = earlier {
         return Err(Rule::HeaderTwice);
@@ -135,7 +137,7 @@ pub fn read_node(
     requires room { HasValues earlier (length values.now) }
     ensures value { result ≡ node_at (sizes earlier) (is_valued values.now) (field_list row.now) }
     ensures range { IfOk result (λ node. (1 ≤ node.vertex) × (node.vertex ≤ length values.now)) }
-    ensures small { IfOk result (λ node. node.value ≤ 4096) }
+    ensures small { IfOk result (λ node. node.value ≤ VALUE_LIMIT) }
 {
     let Some(header) = earlier else {
         return Err(Rule::HeaderMissing);
@@ -144,7 +146,7 @@ pub fn read_node(
         return Err(Rule::FieldCount);
     }
     let vertex = natural_between(row[1], 1, header.vertices)?;
-    let value = natural_between(row[2], 0, 4096)?;
+    let value = natural_between(row[2], 0, VALUE_LIMIT)?;
     if values[vertex as usize - 1].is_some() {
         return Err(Rule::NodeTwice);
     }

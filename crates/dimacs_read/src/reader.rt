@@ -9,6 +9,7 @@ ghost use Rattle.dimacs_read.specs.Line.{sizes, field_list, HasFewVertices, HasV
 ghost use Rattle.dimacs_read.specs.Ready.{IsReady};
 ghost use Rattle.dimacs_read.specs.Reading.{GivesLine, Reads, ReadsLines, IsDraft, negative_after, kind_fault_from, end_fault_from};
 
+use crate::error::InstanceError;
 use crate::keep::{Line, keep_line, with_default};
 use crate::line::{Header, read_edge, read_header, read_node};
 use crate::rest::Rest;
@@ -17,15 +18,6 @@ use arrayvec::ArrayVec;
 use mb_base::{Fields, OutOfMemory, Sequence, next_line};
 use mb_problem::{Instance, InstanceEdge, Kind};
 use std::alloc::Global;
-
-/// Why there is no instance.
-#[derive(Clone, Copy, Debug, PartialEq, Eq)]
-pub enum InstanceError {
-    /// The text breaks this rule at this line.
-    Malformed { rule: Rule, line: u64 },
-    /// There isn't enough memory.
-    OutOfMemory,
-}
 
 /// The fields of a line, but at most six: one more than the longest line may have.
 fn some_fields(line: &[u8]) -> ArrayVec<&[u8], 6>
@@ -125,9 +117,7 @@ fn read_lines<'a>(alloc: Global, bytes: &'a [u8]) -> Result<Draft<'a>, InstanceE
             }
             Ok(found) => {
                 negative = first_negative(negative, &found, line);
-                if let Err(_) = keep_line(alloc, &mut header, &mut values, &mut edges, found) {
-                    return Err(InstanceError::OutOfMemory);
-                }
+                keep_line(alloc, &mut header, &mut values, &mut edges, found)?;
             }
         }
         line += 1;
@@ -246,10 +236,7 @@ pub fn read(alloc: Global, bytes: &[u8], kind: Kind) -> Result<(Instance, Rest),
     ensures ready { IfOk result (λ r. IsReady kind r.0) }
     ensures short { IfOk result (λ r. r.1.line ≤ length bytes.now + 1) }
 {
-    let draft = match read_lines(alloc, bytes) {
-        Ok(draft) => draft,
-        Err(error) => return Err(error),
-    };
+    let draft = read_lines(alloc, bytes)?;
     let Draft {
         header,
         values,
@@ -264,11 +251,7 @@ pub fn read(alloc: Global, bytes: &[u8], kind: Kind) -> Result<(Instance, Rest),
             line: fault.place + 1,
         });
     }
-    let Ok(instance) = build(alloc, kind, &values, edges) else {
-        return Err(InstanceError::OutOfMemory);
-    };
-    let Ok(rest) = copy_rest(alloc, rest, lines + 1) else {
-        return Err(InstanceError::OutOfMemory);
-    };
+    let instance = build(alloc, kind, &values, edges)?;
+    let rest = copy_rest(alloc, rest, lines + 1)?;
     Ok((instance, rest))
 }

@@ -1,3 +1,7 @@
+ghost use Rattle.std.specs.Prelude.{◌≡◌};
+
+use std::fmt;
+
 /// What can be wrong with the text of an instance.
 #[derive(Clone, Copy, Debug, PartialEq, Eq)]
 pub enum Rule {
@@ -25,6 +29,36 @@ pub enum Rule {
     Negative,
     /// For a path other than two vertices have odd values.
     PathEnds,
+}
+
+impl Rule {
+    ghost use Rattle.dimacs_read.specs.Rule.{rule_name};
+
+    /// The name of the rule, as answers spell it.
+    pub fn name(self) -> &'static str
+        ensures { result.now ≡ rule_name self }
+    {
+        match self {
+            Rule::UnknownLine => "UnknownLine",
+            Rule::HeaderMissing => "HeaderMissing",
+            Rule::HeaderTwice => "HeaderTwice",
+            Rule::HeaderForm => "HeaderForm",
+            Rule::FieldCount => "FieldCount",
+            Rule::Number => "Number",
+            Rule::Range => "Range",
+            Rule::Loop => "Loop",
+            Rule::NodeTwice => "NodeTwice",
+            Rule::EdgeCount => "EdgeCount",
+            Rule::Negative => "Negative",
+            Rule::PathEnds => "PathEnds",
+        }
+    }
+}
+
+impl fmt::Display for Rule {
+    fn fmt<W: fmt::Write>(&self, f: &mut fmt::Formatter<W>) -> fmt::Result {
+        f.write_str(self.name())
+    }
 }
 
 /// A rule that is broken, and the place of the line that breaks it, from 0.

@@ -12,8 +12,8 @@ use Rattle.dimacs_read.proofs.reader.read.Goals as goal
 pub overflow_add-result : goal.overflow_add-result
 overflow_add-result c =
     let rs = instance_rows (rows c.args.bytes.now) in
-    let d = c.in-Ok.draft in
-    let draft = c.in-Ok.ensures in
+    let d = c.in_ok-draft.draft in
+    let draft = c.in_ok-draft.ensures in
     let so_far : IsRead rs (length rs) d.header d.values.items d.edges.items d.negative = subst (λ (n : ℕ). IsRead rs n d.header d.values.items d.edges.items d.negative) draft.lines draft.so_far in
     let within : (k : ℕ) → d.negative ≡ Some k → k ≤ d.lines = λ k e. let le = negative_within rs d.header d.values.items d.edges.items d.negative so_far k e in omega (arith, le, draft.lines) in
     let place = end_place c.args.kind (sizes d.header) c.deref.result.now (length c.deref-2.result.now) d.negative d.lines c.in-Some.fault within (sym c.in-Some.ensures) in
@@ -22,8 +22,8 @@ overflow_add-result c =
 pub returns-in-Some-clause-reading : goal.returns-in-Some-clause-reading
 returns-in-Some-clause-reading c =
     let rs = instance_rows (rows c.args.bytes.now) in
-    let d = c.in-Ok.draft in
-    let draft = c.in-Ok.ensures in
+    let d = c.in_ok-draft.draft in
+    let draft = c.in_ok-draft.ensures in
     let so_far : IsRead rs (length rs) d.header d.values.items d.edges.items d.negative = subst (λ (n : ℕ). IsRead rs n d.header d.values.items d.edges.items d.negative) draft.lines draft.so_far in
     let from : Some c.in-Some.fault ≡ end_fault_from c.args.kind (sizes d.header) d.values.items (length d.edges.items) d.negative (length rs) =
     rw (← c.deref.ensures.value, ← c.deref-2.ensures.value, ← draft.lines) c.in-Some.ensures in
@@ -32,8 +32,8 @@ returns-in-Some-clause-reading c =
 pub build-requires : goal.build-requires
 build-requires c =
     let rs = instance_rows (rows c.args.bytes.now) in
-    let d = c.in-Ok.draft in
-    let draft = c.in-Ok.ensures in
+    let d = c.in_ok-draft.draft in
+    let draft = c.in_ok-draft.ensures in
     let so_far : IsRead rs (length rs) d.header d.values.items d.edges.items d.negative = subst (λ (n : ℕ). IsRead rs n d.header d.values.items d.edges.items d.negative) draft.lines draft.so_far in
     let whole = end_whole c.args.kind d.header c.deref.result.now (length c.deref-2.result.now) d.negative d.lines (sym c.in_default.ensures) in
     rw c.deref-3.ensures.value (network rs d.header d.values.items d.edges.items d.negative so_far c.args.kind whole.0 whole.1 (ap length (sym c.deref-2.ensures.value) ∙ whole.2))
@@ -41,24 +41,24 @@ build-requires c =
 pub returns-clause-reading : goal.returns-clause-reading
 returns-clause-reading c =
     let rs = instance_rows (rows c.args.bytes.now) in
-    let d = c.in-Ok.draft in
-    let draft = c.in-Ok.ensures in
+    let d = c.in_ok-draft.draft in
+    let draft = c.in_ok-draft.ensures in
     let so_far : IsRead rs (length rs) d.header d.values.items d.edges.items d.negative = subst (λ (n : ℕ). IsRead rs n d.header d.values.items d.edges.items d.negative) draft.lines draft.so_far in
     let whole = end_whole c.args.kind d.header c.deref.result.now (length c.deref-2.result.now) d.negative d.lines (sym c.in_default.ensures) in
     let none : end_fault_from c.args.kind (sizes d.header) d.values.items (length d.edges.items) d.negative (length rs) ≡ None =
     rw (← c.deref.ensures.value, ← c.deref-2.ensures.value, ← draft.lines) (sym c.in_default.ensures) in
     let held = holds rs d.header d.values.items d.edges.items d.negative so_far c.args.kind whole.0 whole.1 none in
-    let is : c.in-Ok-build.instance ≡ record { edges = d.edges.items; values = map (value_or (default_of c.args.kind)) d.values.items } =
-    c.in-Ok-build.ensures ∙ ap (λ (vs : List (Option ℕ)). record { edges = d.edges.items; values = map (value_or (default_of c.args.kind)) vs }) c.deref-3.ensures.value in (
+    let is : c.in_ok-instance.instance ≡ record { edges = d.edges.items; values = map (value_or (default_of c.args.kind)) d.values.items } =
+    c.in_ok-instance.ensures ∙ ap (λ (vs : List (Option ℕ)). record { edges = d.edges.items; values = map (value_or (default_of c.args.kind)) vs }) c.deref-3.ensures.value in (
       subst (HoldsInstance c.args.kind rs) (sym is) held,
       record {
-        bytes_are = c.in-Ok-copy_rest.ensures.bytes ∙ draft.rest ∙ ap (λ (n : ℕ). after_lines n c.args.bytes.now) draft.lines;
-        line_is = c.in-Ok-copy_rest.ensures.line ∙ ap (λ (n : ℕ). n + 1) draft.lines;
+        bytes_are = c.in_ok-rest.ensures.bytes ∙ draft.rest ∙ ap (λ (n : ℕ). after_lines n c.args.bytes.now) draft.lines;
+        line_is = c.in_ok-rest.ensures.line ∙ ap (λ (n : ℕ). n + 1) draft.lines;
       },
     )
 
 pub returns-clause-short : goal.returns-clause-short
-returns-clause-short c = omega (arith, c.in-Ok.ensures.short, c.in-Ok-copy_rest.ensures.line)
+returns-clause-short c = omega (arith, c.in_ok-draft.ensures.short, c.in_ok-rest.ensures.line)
 
 pub returns-clause-ready : goal.returns-clause-ready
-returns-clause-ready c = is_ready c.args.kind (instance_rows (rows c.args.bytes.now)) c.in-Ok-build.instance (returns-clause-reading c).0
+returns-clause-ready c = is_ready c.args.kind (instance_rows (rows c.args.bytes.now)) c.in_ok-instance.instance (returns-clause-reading c).0

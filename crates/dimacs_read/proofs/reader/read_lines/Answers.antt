@@ -33,7 +33,7 @@ lines-preserved c =
     record {
       left = left_more rs c.lines.line (fields text) more at;
       after = c.in-Some.ensures.after ∙ ap (after_first is_line_feed) c.lines.invariant.after ∙ sym (after_lines-one c.lines.line c.args.bytes.now);
-      so_far = rw (c.in_default-keep_line.ensures.header, c.in_default-keep_line.ensures.values, c.in_default-keep_line.ensures.edges, c.first_negative-negative.ensures) (goes_on rs c.lines.line (fields text) more at c.lines.header c.lines.values.items c.lines.edges.items c.lines.negative c.in-Ok.found c.lines.invariant.so_far given);
+      so_far = rw (c.in_ok-keep_line-in-Ok.ensures.header, c.in_ok-keep_line-in-Ok.ensures.values, c.in_ok-keep_line-in-Ok.ensures.edges, c.first_negative-negative.ensures) (goes_on rs c.lines.line (fields text) more at c.lines.header c.lines.values.items c.lines.edges.items c.lines.negative c.in-Ok.found c.lines.invariant.so_far given);
       within = within_more rs c.lines.line (fields text) more at;
       small = omega (arith, c.in-Some.ensures.rest);
     }
