@@ -1,6 +1,6 @@
 -- Lemmas on sums over blocks of places and over rows, and on sums of terms that pass a test.
-use Rattle.std.proofs.Common.{◌≡◌, ℕ, zero, suc, ◌+◌, ◌*◌, ◌-◌, ◌<◌, ◌≤◌, Bool, true, false, cond, eqb, ℤ, pos, refl, ap, sym, ◌∙◌, inl, inr, arith}
-use Rattle.std.proofs.lemmas.Bool.{cases_eq, cases_lt, eq-eqb, ne_eqb}
+use Rattle.std.proofs.Common.{◌≡◌, ◌≢◌, ℕ, zero, suc, ◌+◌, ◌*◌, ◌-◌, ◌<◌, ◌≤◌, Bool, true, false, cond, eqb, ℤ, pos, refl, ap, sym, ◌∙◌, inl, inr, arith}
+use Rattle.std.proofs.lemmas.Bool.{cases_eq, cases_lt, cases_order, eq-eqb, ne_eqb}
 use Rattle.std.proofs.lemmas.Int.{ints}
 use Rattle.graph_theory.specs.Sums.{sum_to, int_sum_to}
 use Rattle.graph_theory.proofs.SumLemmas.{sum_to-same, int_sum_to-same, sum_to-zero, int_sum_to-zero, sum_to-append, int_sum_to-append}
@@ -78,6 +78,50 @@ find_block size (suc n) k h =
           record { block = found.block; place = found.place; block_low = omega arith; place_low = found.place_low; is = found.is }
       | inr past ↦ record { block = n; place = k - sum_to size n; block_low = omega arith; place_low = omega arith; is = omega arith }
     ]
+
+-- .. and in no other
+pub block-once : (size : ℕ → ℕ) (s t a b : ℕ) → a < size s → b < size t → sum_to size s + a ≡ sum_to size t + b → s ≡ t
+block-once size s t a b in_s in_t e =
+    elim (cases_order s t) [
+      | inl h ↦ h
+      | inr (inl h) ↦ let grows = sum_to-grows size s t h in absurd (omega (arith, grows, in_s, e))
+      | inr (inr h) ↦ let grows = sum_to-grows size t s h in absurd (omega (arith, grows, in_t, e))
+    ]
+
+-- all terms but one are 0
+
+pub sum_to-only : (f : ℕ → ℕ) (i n : ℕ) → i < n → ((k : ℕ) → k < n → k ≢ i → f k ≡ 0) → sum_to f n ≡ f i
+sum_to-only f i zero b h = absurd (omega arith)
+sum_to-only f i (suc n) b h =
+    elim (cases_eq n i) [
+      | inl e ↦
+          let front = sum_to-none f n (λ k l. h k (omega arith) (λ x. omega arith)) in
+          let here : f n ≡ f i = ap f e in
+          omega (arith, front, here)
+      | inr d ↦
+          let front = sum_to-only f i n (omega arith) (λ k l o. h k (omega arith) o) in
+          let last : f n ≡ 0 = h n (omega arith) d in
+          omega (arith, front, last)
+    ]
+
+pub int_sum_to-only : (f : ℕ → ℤ) (i n : ℕ) → i < n → ((k : ℕ) → k < n → k ≢ i → f k ≡ pos 0) → int_sum_to f n ≡ f i
+int_sum_to-only f i zero b h = absurd (omega arith)
+int_sum_to-only f i (suc n) b h =
+    elim (cases_eq n i) [
+      | inl e ↦
+          let front = int_sum_to-none f n (λ k l. h k (omega arith) (λ x. omega arith)) in
+          let here : f n ≡ f i = ap f e in
+          omega (arith, ints, front, here)
+      | inr d ↦
+          let front = int_sum_to-only f i n (omega arith) (λ k l o. h k (omega arith) o) in
+          let last : f n ≡ pos 0 = h n (omega arith) d in
+          omega (arith, ints, front, last)
+    ]
+
+-- a test counts at most 1
+pub test-small : (t : Bool) → cond {A = ℕ} t 1 0 ≤ 1
+test-small true = omega arith
+test-small false = omega arith
 
 -- a test that does not depend on the place
 pub sum_to-cond : (t : Bool) (f : ℕ → ℕ) (n : ℕ) → sum_to (λ k. cond t (f k) 0) n ≡ cond t (sum_to f n) 0

@@ -1,6 +1,7 @@
 pub mod Grown
 pub mod BlockSums
 pub mod Blocks
+pub mod StartLemmas
 pub mod Over
 pub mod Listed
 pub mod Degrees

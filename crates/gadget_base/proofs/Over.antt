@@ -104,6 +104,10 @@ int_over-blocks F es cs (suc n) h =
 abbrev pub table : (ℕ → ℕ → ℕ) → ℕ → ℕ → List ℕ
 table N m n = blocks (λ a. tabled (N a) n) m
 
+pub table-length : (f : ℕ → ℕ → ℕ) (m n : ℕ) → length (table f m n) ≡ m * n
+table-length f zero n = omega arith
+table-length f (suc m) n = omega (arith, length-append (table f m n) (tabled (f m) n), table-length f m n, tabled-length (f m) n)
+
 pub rectangle-table : (N : ℕ → ℕ → ℕ) (first m second n : ℕ) (w : ℤ) (a : ℕ) → length (row (first + a + 1) second n w) ≡ length (tabled (N a) n)
 rectangle-table N first m second n w a = row-length (first + a + 1) second n w ∙ sym (tabled-length (N a) n)
 

@@ -4,11 +4,10 @@
 //! call adds exactly the edges that it names.
 #![tactic(auto)]
 
+mod copies;
 mod offsets;
 mod rows;
 
-pub use offsets::starts;
+pub use copies::copies_of;
+pub use offsets::{find_block, starts, wide_starts};
 pub use rows::{add_clique, add_rectangle, add_row};
-
-#[cfg(test)]
-mod tests;

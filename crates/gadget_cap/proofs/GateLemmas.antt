@@ -11,14 +11,13 @@ use Rattle.mb_problem.specs.Network.{Network, IsNetwork, vertices, instance_edge
 use Rattle.mb_problem.specs.Size.{value_total, value_u, value_v}
 use Rattle.gadget_base.specs.Blocks.{blocks, rectangle}
 use Rattle.gadget_base.specs.Gadgets.{values_below, before_gates, gated, capped_graph}
-use Rattle.gadget_base.proofs.BlockSums.{sum_to-grows}
+use Rattle.gadget_base.proofs.BlockSums.{sum_to-grows, sum_to-only}
 use Rattle.gadget_base.proofs.Blocks.{rectangle-length}
-use Rattle.gadget_base.proofs.Over.{over, int_over, at_vertex, weighing, over-append, int_over-append, over-blocks, int_over-blocks, blocks-lengths, table}
+use Rattle.gadget_base.proofs.Over.{over, int_over, at_vertex, weighing, over-append, int_over-append, over-blocks, int_over-blocks, blocks-lengths, table, table-length}
 use Rattle.gadget_base.proofs.Degrees.{rectangle-weight}
 use Rattle.gadget_base.proofs.Within.{edge-ends}
 use Rattle.gadget_cap.specs.Places.{gates_of, gate_size}
-use Rattle.gadget_cap.proofs.Tables.{table-length}
-use Rattle.gadget_cap.proofs.Picks.{pick, pick-none, pick-here, pick-block, sum_to-single, rectangle-picks}
+use Rattle.gadget_cap.proofs.Picks.{pick, pick-none, pick-here, pick-block, rectangle-picks}
 
 -- counts on the edges that stand for edge number k + 1: into the first gate, from gate to gate, and out of the second
 pub record Passage : Type 0 where
@@ -170,7 +169,7 @@ degree-first i room p k j net l b =
     let before = before_gates i room k in
     let q = before + j in
     let whole = degree-by_edges i room p q in
-    let single = sum_to-single (gate_terms i room p q) k (length i.edges) l (λ o l' d. other_gates i room p k j o net (omega arith) l' d) in
+    let single = sum_to-only (gate_terms i room p q) k (length i.edges) l (λ o l' d. other_gates i room p k j o net (omega arith) l' d) in
     let first = pick-none (values_below i (instance_edge_at i k).u) (value_u i k) (λ a. sum_to (p.enter k a) r) q (λ a h. u-apart i room k k a j net l h) in
     let second = pick-here before r (λ j. sum_to (λ a. p.enter k a j) (value_u i k)) j b in
     let third = pick-here before r (λ j. sum_to (p.cross k j) r) j b in
@@ -187,7 +186,7 @@ degree-second i room p k y net l b =
     let q = before + r + y in
     let whole = degree-by_edges i room p q in
     let at : q ≡ before + (r + y) = omega arith in
-    let single = sum_to-single (gate_terms i room p q) k (length i.edges) l
+    let single = sum_to-only (gate_terms i room p q) k (length i.edges) l
     (λ o l' d. let P : ℕ → Type 0 = λ s. gate_terms i room p s o ≡ 0 in subst P (sym at) (other_gates i room p k (r + y) o net (omega arith) l' d)) in
     let first = pick-none (values_below i (instance_edge_at i k).u) (value_u i k) (λ a. sum_to (p.enter k a) r) q (λ a h z. u-apart i room k k a (r + y) net l h (z ∙ at)) in
     let second = pick-none before r (λ j. sum_to (λ a. p.enter k a j) (value_u i k)) q (λ j h z. omega arith) in

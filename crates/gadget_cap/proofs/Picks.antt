@@ -1,12 +1,12 @@
 -- Sums of tests: the one term that passes, and the terms of one of several rows that follow one another.
 use Rattle.std.proofs.Common.{◌≡◌, ◌≢◌, ℕ, zero, suc, ◌+◌, ◌*◌, ◌<◌, ℤ, Bool, true, false, cond, eqb, refl, ap, sym, ◌∙◌, subst, inl, inr, arith}
-use Rattle.std.proofs.lemmas.Bool.{cases_eq, cases_lt, eq-eqb, ne_eqb}
+use Rattle.std.proofs.lemmas.Bool.{cases_eq, eq-eqb, ne_eqb}
 use Rattle.std.proofs.lemmas.Bool.Decides.{nat_tests}
 use Rattle.graph_theory.specs.Sums.{sum_to}
 use Rattle.graph_theory.specs.Graph.{ends_at}
 use Rattle.graph_theory.proofs.SumLemmas.{sum_to-same, sum_to-add, sum_to-swap}
 use Rattle.gadget_base.specs.Blocks.{rectangle}
-use Rattle.gadget_base.proofs.BlockSums.{sum_to-none, sum_to-cond, sum_to-grows}
+use Rattle.gadget_base.proofs.BlockSums.{sum_to-none, sum_to-cond, block-once}
 use Rattle.gadget_base.proofs.Over.{over, at_vertex, table, over-rectangle}
 
 -- what f counts at place q where it stands at the m places from `first` on
@@ -33,13 +33,6 @@ pick-here first (suc m) f c b =
           rw off (omega (arith, front))
     ]
 
-pub blocks-differ : (size : ℕ → ℕ) (p t x y : ℕ) → p ≢ t → x < size p → y < size t → sum_to size p + x ≢ sum_to size t + y
-blocks-differ size p t x y differ b b' =
-    elim (cases_lt p t) [
-      | inl l ↦ λ e. let grows = sum_to-grows size p t l in omega arith
-      | inr m ↦ λ e. let grows = sum_to-grows size t p (omega arith) in omega arith
-    ]
-
 -- where the places of p come after those of all before it
 pub pick-block : (size : ℕ → ℕ) (f : ℕ → ℕ) (p t c : ℕ) → c < size t → pick (sum_to size p) (size p) f (sum_to size t + c) ≡ cond (eqb p t) (f c) 0
 pick-block size f p t c b =
@@ -50,22 +43,7 @@ pick-block size f p t c b =
           rw on (subst P (sym e) (pick-here (sum_to size t) (size t) f c b))
       | inr d ↦
           let off : eqb p t ≡ false = ne_eqb p t d in
-          rw off (pick-none (sum_to size p) (size p) f (sum_to size t + c) (λ a l. blocks-differ size p t a c d l b))
-    ]
-
--- one term alone
-pub sum_to-single : (f : ℕ → ℕ) (p n : ℕ) → p < n → ((k : ℕ) → k < n → k ≢ p → f k ≡ 0) → sum_to f n ≡ f p
-sum_to-single f p zero b others = absurd (omega arith)
-sum_to-single f p (suc n) b others =
-    elim (cases_eq n p) [
-      | inl e ↦
-          let front = sum_to-none f n (λ k l. others k (omega arith) (λ h. omega arith)) in
-          let same : f n ≡ f p = ap f e in
-          omega (arith, front, same)
-      | inr d ↦
-          let front = sum_to-single f p n (omega arith) (λ k l h. others k (omega arith) h) in
-          let last : f n ≡ 0 = others n (omega arith) d in
-          omega (arith, front, last)
+          rw off (pick-none (sum_to size p) (size p) f (sum_to size t + c) (λ a l e. d (block-once size p t a c l b e)))
     ]
 
 eqb_past : (b a q : ℕ) → eqb (b + a + 1) (q + 1) ≡ eqb (b + a) q

@@ -25,11 +25,6 @@ gate_size i room k = value_u i k * room k + (room k * room k + room k * value_v 
 abbrev pub gates_before : Network → (ℕ → ℕ) → ℕ → ℕ
 gates_before i room k = sum_to (gate_size i room) k
 
--- at place k how many edges stand for the edges before edge number k + 1
-pub record AreGateStarts (i : Network) (room : ℕ → ℕ) (starts : List ℕ) : Type 0 where
-  pub size : length starts ≡ length i.edges
-  pub each : (k : ℕ) → k < length i.edges → slice_index starts k ≡ gates_before i room k
-
 -- edge number e of the graph leads from a copy of the first end of edge number k + 1 to its first gate
 abbrev pub enters : Network → (ℕ → ℕ) → ℕ → ℕ → Bool
 enters i room k e = nat_lt (gates_before i room k) e && nat_le e (gates_before i room k + value_u i k * room k)

@@ -1,4 +1,4 @@
-ghost use Rattle.std.specs.Prelude.{◌≡◌, ℕ, ◌+◌, ◌*◌, ◌<◌, ◌≤◌, ◌^◌, ◌++◌, length, OnOk, IfOk, pos};
+ghost use Rattle.std.specs.Prelude.{◌≡◌, ℕ, ◌+◌, ◌*◌, ◌<◌, ◌≤◌, ◌^◌, ◌++◌, length, slice_index, OnOk, IfOk, pos};
 ghost use Rattle.graph_theory.specs.Graph.{IsGraph};
 ghost use Rattle.mb_problem.specs.Network.{vertices, IsInstanceEdge};
 ghost use Rattle.mb_problem.specs.Size.{size_of, value_total};
@@ -8,9 +8,8 @@ ghost use Rattle.gadget_base.specs.Starts.{AreStarts};
 ghost use Rattle.gadget_cap.specs.Capped.{capped_kind};
 ghost use Rattle.gadget_cap.specs.Places.{gates_of};
 
-use crate::copies::copies_of;
 use crate::rooms::{kind_of, room_at};
-use gadget_base::{add_rectangle, starts};
+use gadget_base::{add_rectangle, copies_of, starts};
 use mb_base::OutOfMemory;
 use mb_problem::{Instance, InstanceEdge, gadget_size};
 use std::alloc::Global;
@@ -37,7 +36,7 @@ fn add_gates(
     before: u32,
     room: u32,
 ) -> Result<(), OutOfMemory>
-    requires starts { AreStarts instance.now.values starts.now }
+    requires starts { AreStarts (λ k. slice_index instance.now.values k) (vertices instance.now) starts.now }
     requires edge { IsInstanceEdge (vertices instance.now) edge.now }
     requires copies { value_total instance.now ≤ before }
     requires vertices { before + 2 * room ≤ graph.old.vertices }

@@ -6,13 +6,9 @@
 //! the same weight.
 #![tactic(auto)]
 
-mod copies;
 mod entries;
 mod gates;
 mod rooms;
 
 pub use entries::extract;
 pub use gates::capped;
-
-#[cfg(test)]
-mod tests;

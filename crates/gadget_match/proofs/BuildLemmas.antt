@@ -6,7 +6,7 @@ use Rattle.graph_theory.specs.Graph.{Multigraph}
 use Rattle.graph_theory.proofs.SumLemmas.{sum_to-same}
 use Rattle.mb_problem.specs.declared.instance.InstanceEdge.{InstanceEdge}
 use Rattle.mb_problem.specs.declared.kind.Kind.TheVariants.{Match, BMatch}
-use Rattle.mb_problem.specs.Network.{Network, vertices, instance_edge_at, no_instance_edge, value_of}
+use Rattle.mb_problem.specs.Network.{Network, vertices, instance_edge_at, value_of}
 use Rattle.mb_problem.specs.Size.{size_of, value_total, value_u, value_v}
 use Rattle.gadget_base.specs.Blocks.{blocks}
 use Rattle.gadget_base.specs.Gadgets.{two_copies, pairs_of_copies}
@@ -15,10 +15,6 @@ use Rattle.gadget_base.specs.Certified.{IsWithinLimits}
 use Rattle.gadget_base.proofs.BlockSums.{sum_to-grows}
 use Rattle.gadget_base.proofs.Blocks.{blocks-length}
 use Rattle.gadget_base.proofs.Within.{pairs-length, pairs_of_copies-length}
-
--- an edge that was read is the edge at its place
-pub edge_here : (i : Network) (es : List InstanceEdge) (k : ℕ) (e : InstanceEdge) → es ≡ i.edges → k < length es → e ≡ slice_index_or es k e → e ≡ instance_edge_at i k
-edge_here i es k e same b is = get_or_read es k e b is no_instance_edge ∙ ap (λ (xs : List InstanceEdge). slice_index_or xs k no_instance_edge) same
 
 -- there is room for two copies of one edge more
 pub room-twice : (i : Network) (g : Multigraph) (k : ℕ) → IsWithinLimits (size_of Match i) → g ≡ record { vertices = 2 * vertices i; edges = blocks (two_copies i) k } → k < length i.edges → (length g.edges + 2) < 2 ^ 32
@@ -47,7 +43,7 @@ room-pairs i g k e limits is b here =
     omega (arith, size, at, grows, few)
 
 -- the copies of all vertices end where those after the last would start
-pub start-total : (i : Network) (values starts : List ℕ) (n x : ℕ) → values ≡ i.values → AreStarts values starts → n ≡ vertices i → x ≡ slice_index_or starts n x → x ≡ value_total i
+pub start-total : (i : Network) (values starts : List ℕ) (n x : ℕ) → values ≡ i.values → AreStarts (λ k. slice_index values k) (length values) starts → n ≡ vertices i → x ≡ slice_index_or starts n x → x ≡ value_total i
 start-total i values starts n x same are count is =
     let size : length values ≡ vertices i = ap length same in
     let more : length starts ≡ length values + 1 = are.one_more in

@@ -1,5 +1,5 @@
 -- The answer that a perfect matching of the graph stands for, given as the numbers of its edges.
-use Rattle.std.specs.Prelude.{◌≡◌, ℕ, ◌+◌, ◌*◌, ◌≤◌, List, length, slice_index, int_lt, if◌then◌else◌}
+use Rattle.std.specs.Prelude.{ℕ, ◌+◌, ◌*◌, List, length, int_lt, if◌then◌else◌}
 use Rattle.graph_theory.specs.Sums.{sum_to}
 use Rattle.graph_theory.specs.Graph.{weight}
 use Rattle.mb_problem.specs.Network.{Network, graph_of}
@@ -16,18 +16,17 @@ abbrev pub heavier_copy : Network → List ℕ → List ℕ
 heavier_copy i edges =
     if int_lt (weight (graph_of i) (copy_counts i edges 1)) (weight (graph_of i) (copy_counts i edges 2)) then copy_counts i edges 2 else copy_counts i edges 1
 
--- how many edges stand before the pairs of copies of the ends of edge number k + 1
-abbrev pub pairs_before : Network → ℕ → ℕ
-pairs_before i k = sum_to (λ j. value_u i j * value_v i j) k
+-- how many edges there are between copies of the ends of edge number k + 1
+abbrev pub pair_count : Network → ℕ → ℕ
+pair_count i k = value_u i k * value_v i k
 
--- where the pairs of copies for each edge start, and at last how many there are
-pub record ArePairStarts (i : Network) (starts : List ℕ) : Type 0 where
-  pub one_more : length starts ≡ length i.edges + 1
-  pub each : (k : ℕ) → k ≤ length i.edges → slice_index starts k ≡ pairs_before i k
+-- how many edges stand before these
+abbrev pub pairs_before : Network → ℕ → ℕ
+pairs_before i k = sum_to (pair_count i) k
 
 -- how often edges between copies of the ends of edge number k + 1 are listed
 abbrev pub listed_pairs : Network → List ℕ → ℕ → ℕ
-listed_pairs i edges k = sum_to (λ r. times edges (pairs_before i k + r + 1)) (value_u i k * value_v i k)
+listed_pairs i edges k = sum_to (λ r. times edges (pairs_before i k + r + 1)) (pair_count i k)
 
 -- the same for each edge
 abbrev pub gathered : Network → List ℕ → List ℕ

@@ -1,4 +1,4 @@
-ghost use Rattle.std.specs.Prelude.{◌≡◌, ℕ, ◌+◌, ◌-◌, ◌*◌, ◌<◌, ◌≤◌, ◌^◌, ◌++◌, length, OnOk, IfOk};
+ghost use Rattle.std.specs.Prelude.{◌≡◌, ℕ, ◌+◌, ◌-◌, ◌*◌, ◌<◌, ◌≤◌, ◌^◌, ◌++◌, length, slice_index, OnOk, IfOk};
 ghost use Rattle.graph_theory.specs.Graph.{IsGraph};
 ghost use Rattle.mb_problem.specs.declared.kind.Kind.TheVariants.{BMatch};
 ghost use Rattle.mb_problem.specs.Network.{IsInstanceEdge, vertices, value_of};
@@ -8,7 +8,7 @@ ghost use Rattle.gadget_base.specs.Gadgets.{copies_graph, values_below};
 ghost use Rattle.gadget_base.specs.Certified.{HasSize, IsWithinLimits, ReachesAll};
 ghost use Rattle.gadget_base.specs.Starts.{AreStarts};
 
-use gadget_base::{add_rectangle, starts};
+use gadget_base::{add_rectangle, copies_of, starts};
 use mb_base::OutOfMemory;
 use mb_problem::{Instance, InstanceEdge};
 use std::alloc::Global;
@@ -21,17 +21,15 @@ fn add_pairs(
     starts: &[u32],
     edge: &InstanceEdge,
 ) -> Result<(), OutOfMemory>
-    requires starts { AreStarts instance.now.values starts.now }
+    requires starts { AreStarts (λ k. slice_index instance.now.values k) (vertices instance.now) starts.now }
     requires vertices { graph.old.vertices ≡ value_total instance.now }
     requires edge { IsInstanceEdge (vertices instance.now) edge.now }
     requires room { length graph.old.edges + value_of instance.now edge.now.u * value_of instance.now edge.now.v < 2 ^ 32 }
     ensures added { OnOk result (graph.new ≡ record graph.old { edges = graph.old.edges ++ rectangle (values_below instance.now edge.now.u) (value_of instance.now edge.now.u) (values_below instance.now edge.now.v) (value_of instance.now edge.now.v) edge.now.w }) }
     ensures graph { IsGraph graph.new }
 {
-    let first = starts[edge.u.number() as usize - 1];
-    let second = starts[edge.v.number() as usize - 1];
-    let m = instance.value(edge.u);
-    let n = instance.value(edge.v);
+    let (first, m) = copies_of(instance, starts, edge.u);
+    let (second, n) = copies_of(instance, starts, edge.v);
     add_rectangle(graph, first, m, second, n, edge.w)
 }
 

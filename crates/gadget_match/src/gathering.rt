@@ -5,46 +5,34 @@ ghost use Rattle.mb_problem.specs.declared.answer.Answer.TheVariants.{Counts};
 ghost use Rattle.mb_problem.specs.Feasible.{IsFeasible, weight_of};
 ghost use Rattle.gadget_base.specs.Gadgets.{copies_graph};
 ghost use Rattle.gadget_base.specs.Certified.{IsPerfectList};
-ghost use Rattle.gadget_match.specs.Extracted.{pairs_before, ArePairStarts, gathered};
+ghost use Rattle.gadget_base.specs.Starts.{AreStarts};
+ghost use Rattle.gadget_match.specs.Extracted.{pair_count, pairs_before, gathered};
 
+use gadget_base::{find_block, wide_starts};
 use mb_base::{EdgeId, OutOfMemory, Sequence};
 use mb_problem::{Answer, Instance};
 use std::alloc::Global;
 
-/// How many edges of the graph stand before those of each edge of the instance, and at last all.
-fn pair_starts(alloc: Global, instance: &Instance) -> Result<Vec<u64>, OutOfMemory>
-    ensures { IfOk result (λ starts. ArePairStarts instance.now starts.items) }
+/// How many edges of the graph stand for each edge of the instance.
+fn pair_counts(alloc: Global, instance: &Instance) -> Result<Vec<u32>, OutOfMemory>
+    ensures size { IfOk result (λ counts. length counts.items ≡ length instance.now.edges) }
+    ensures each { IfOk result (λ counts. (k : ℕ) → k < length instance.now.edges → slice_index counts.items k ≡ pair_count instance.now k) }
+    ensures few { length instance.now.edges ≤ 65536 }
 {
-    let mut starts = Vec::with_capacity(alloc, instance.edges() as usize + 1)?;
-    let mut total = 0;
-    starts.push(total)?;
+    let mut counts = Vec::with_capacity(alloc, instance.edges() as usize)?;
     for edge in instance.edge_list() {
-        total += u64::from(instance.value(edge.u)) * u64::from(instance.value(edge.v));
-        starts.push(total)?;
+        counts.push(instance.value(edge.u) * instance.value(edge.v))?;
     }
-    Ok(starts)
+    Ok(counts)
 }
 
-/// The block that holds a place, where block number k + 1 goes from `starts[k]` up to `starts[k + 1]`.
-fn block_of(starts: &[u64], place: u64) -> usize
-    requires two { 2 ≤ length starts.now }
-    requires from { slice_index starts.now 0 ≤ place }
-    requires to { place < slice_index starts.now (length starts.now - 1) }
-    ensures inside { result + 1 < length starts.now }
-    ensures begun { slice_index starts.now result ≤ place }
-    ensures not_ended { place < slice_index starts.now (result + 1) }
+/// How many edges of the graph stand before those of each edge of the instance, and at last all.
+fn pair_starts(alloc: Global, instance: &Instance) -> Result<Vec<u64>, OutOfMemory>
+    ensures { IfOk result (λ starts. AreStarts (pair_count instance.now) (length instance.now.edges) starts.items) }
 {
-    let mut low = 0;
-    let mut high = starts.len() - 1;
-    while low + 1 < high {
-        let middle = low + (high - low) / 2;
-        if starts[middle] <= place {
-            low = middle;
-        } else {
-            high = middle;
-        }
-    }
-    low
+    let counts = pair_counts(alloc, instance)?;
+    let starts = wide_starts(alloc, &counts)?;
+    Ok(starts)
 }
 
 /// Adds 1 to the count at a place.
@@ -60,7 +48,7 @@ fn add_one(counts: &mut [u32], place: usize)
 /// Counts how often edges of the graph that stand for each edge of the instance are listed. At the
 /// start all counts are 0.
 fn add_pairs(counts: &mut [u32], instance: &Instance, starts: &[u64], edges: &[EdgeId])
-    requires starts { ArePairStarts instance.now starts.now }
+    requires starts { AreStarts (pair_count instance.now) (length instance.now.edges) starts.now }
     requires numbers { All (λ e. (1 ≤ e) × (e ≤ pairs_before instance.now (length instance.now.edges))) edges.now }
     requires few { length edges.now < 2 ^ 31 }
     requires size { length counts.old ≡ length instance.now.edges }
@@ -68,7 +56,7 @@ fn add_pairs(counts: &mut [u32], instance: &Instance, starts: &[u64], edges: &[E
     ensures { counts.new ≡ gathered instance.now edges.now }
 {
     for edge in edges {
-        let place = block_of(starts, u64::from(edge.number()) - 1);
+        let place = find_block(starts, u64::from(edge.number()) - 1);
         add_one(counts, place);
     }
 }
@@ -80,7 +68,7 @@ fn count_pairs(
     starts: &[u64],
     edges: &[EdgeId],
 ) -> Result<Vec<u32>, OutOfMemory>
-    requires starts { ArePairStarts instance.now starts.now }
+    requires starts { AreStarts (pair_count instance.now) (length instance.now.edges) starts.now }
     requires numbers { All (λ e. (1 ≤ e) × (e ≤ pairs_before instance.now (length instance.now.edges))) edges.now }
     requires few { length edges.now < 2 ^ 31 }
     ensures counts { IfOk result (λ counts. counts.items ≡ gathered instance.now edges.now) }

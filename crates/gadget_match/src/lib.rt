@@ -13,6 +13,3 @@ pub use copying::copies;
 pub use doubling::double;
 pub use gathering::extract_copies;
 pub use halving::extract_double;
-
-#[cfg(test)]
-mod tests;

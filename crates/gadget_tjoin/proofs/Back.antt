@@ -14,12 +14,12 @@ use Rattle.gadget_base.specs.Blocks.{clique}
 use Rattle.gadget_base.specs.Gadgets.{ports_below, ports_graph}
 use Rattle.gadget_base.specs.Certified.{IsPerfectList}
 use Rattle.gadget_base.specs.Listed.{times, times_each}
-use Rattle.gadget_base.proofs.BlockSums.{sum_to-ones}
+use Rattle.gadget_base.proofs.BlockSums.{sum_to-ones, test-small}
 use Rattle.gadget_base.proofs.Blocks.{tabled-length, tabled-at, All-tabled, All-blocks}
 use Rattle.gadget_base.proofs.Listed.{times_each-at, times-small, perfect_from_list, weight_of_list}
 use Rattle.gadget_tjoin.specs.Joins.{listed_counts}
 use Rattle.gadget_tjoin.proofs.Times.{times-holds, ascending-once}
-use Rattle.gadget_tjoin.proofs.OneTerm.{one_if-small, sum_to-even}
+use Rattle.gadget_tjoin.proofs.OneTerm.{sum_to-even}
 use Rattle.gadget_tjoin.proofs.Cliques.{pair, meets_group, all_clique, pair-meets_own, pair-meets_other}
 use Rattle.gadget_tjoin.proofs.Places.{here, degree-here, group_size, groups-apart, groups-before_or_after, link-meets}
 use Rattle.gadget_tjoin.proofs.Reached.{cliques, edges-size, link-here, clique-here, IsOddAt, ports-weight}
@@ -115,7 +115,7 @@ own-join i odd join matching ok bit own perfect =
     let g = ports_graph i odd in
     back-join i odd (listed_counts join m) (times_each g matching) ok bit (perfect_from_list g matching (ports-within i odd ok) perfect)
     (tabled-length (λ k. cond (holds join (k + 1)) 1 0) m)
-    (All-tabled (λ c. c ≤ 1) (λ k. cond (holds join (k + 1)) 1 0) m (λ k b. one_if-small (holds join (k + 1))))
+    (All-tabled (λ c. c ≤ 1) (λ k. cond (holds join (k + 1)) 1 0) m (λ k b. test-small (holds join (k + 1))))
     (λ k b.
     times_each-at g matching k (omega (arith, edges-size i odd))
     ∙ own-times i odd join matching k ok own perfect b

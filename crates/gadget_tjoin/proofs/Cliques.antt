@@ -6,11 +6,11 @@ use Rattle.graph_theory.specs.declared.edge.Edge.{Edge}
 use Rattle.graph_theory.specs.Graph.{ends_at}
 use Rattle.graph_theory.proofs.SumLemmas.{sum_to-same, sum_to-add, sum_to-append}
 use Rattle.gadget_base.specs.Blocks.{blocks, tabled, row, clique}
-use Rattle.gadget_base.proofs.BlockSums.{sum_to-none}
+use Rattle.gadget_base.proofs.BlockSums.{sum_to-none, sum_to-only}
 use Rattle.gadget_base.proofs.Blocks.{tabled-same, blocks-same, All-tabled, All-blocks}
 use Rattle.gadget_base.proofs.Over.{over, at_vertex}
 use Rattle.gadget_base.proofs.Degrees.{eqb-past, clique_table, clique-at}
-use Rattle.gadget_tjoin.proofs.OneTerm.{one_if, one_if-same, one_if-other, sum_to-only}
+use Rattle.gadget_tjoin.proofs.OneTerm.{one_if, one_if-same, one_if-other}
 use Rattle.gadget_tjoin.proofs.Ranks.{to_others}
 
 -- a row without its own place: what comes before it and what comes after

@@ -12,8 +12,8 @@ use Rattle.mb_problem.specs.Network.{Network, IsNetwork, vertices, graph_of, pla
 use Rattle.mb_problem.specs.Size.{edge_count_at, port_count}
 use Rattle.mb_problem.proofs.EdgeLemmas.{edge_at-graph_of}
 use Rattle.gadget_base.specs.Gadgets.{ports_below, met_below, port_of, between_ports}
-use Rattle.gadget_base.proofs.BlockSums.{sum_to-none, sum_to-longer, find_block}
-use Rattle.gadget_tjoin.proofs.OneTerm.{one_if, one_if-same, one_if-other, sum_to-only, group-before, group-once}
+use Rattle.gadget_base.proofs.BlockSums.{sum_to-none, sum_to-longer, find_block, sum_to-only, block-once, sum_to-grows}
+use Rattle.gadget_tjoin.proofs.OneTerm.{one_if, one_if-same, one_if-other}
 use Rattle.gadget_tjoin.proofs.Ranks.{none_if_zero}
 use Rattle.gadget_tjoin.proofs.Cliques.{meets_group}
 
@@ -62,7 +62,7 @@ before-is i odd t = ap (sum_to (group_size i odd)) (let e : t + 1 - 1 ≡ t = om
 
 -- the groups stand one after another
 pub groups-apart : (i : Network) (odd : ℕ → ℕ) (s t : ℕ) → s < t → ports_below i odd (s + 1) + group_size i odd s ≤ ports_below i odd (t + 1)
-groups-apart i odd s t b = omega (arith, group-before (group_size i odd) s t b, before-is i odd s, before-is i odd t)
+groups-apart i odd s t b = omega (arith, sum_to-grows (group_size i odd) s t b, before-is i odd s, before-is i odd t)
 
 pub groups-before_or_after : (i : Network) (odd : ℕ → ℕ) (s t : ℕ) → (s ≡ t → ⊥) → (ports_below i odd (t + 1) + group_size i odd t ≤ ports_below i odd (s + 1)) ⊎ (ports_below i odd (s + 1) + group_size i odd s ≤ ports_below i odd (t + 1))
 groups-before_or_after i odd s t d =
@@ -100,7 +100,7 @@ port-is i odd k w t x low room in_group =
           let base : ports_below i odd w ≡ sum_to (group_size i odd) (w - 1) = refl in
           let there = before-is i odd t in
           rw off (one_if-other (port_of i odd k w) (B + x + 1)
-          (λ e. d (let same : w - 1 ≡ t = group-once (group_size i odd) (w - 1) t (met_below i w k) x own in_group (omega (arith, e, base, there)) in omega (arith, same, low))))
+          (λ e. d (let same : w - 1 ≡ t = block-once (group_size i odd) (w - 1) t (met_below i w k) x own in_group (omega (arith, e, base, there)) in omega (arith, same, low))))
     ]
 
 either : (p q : Bool) (a : ℕ) → cond p a 0 + cond q a 0 ≡ (cond p 1 0 + cond q 1 0) * a

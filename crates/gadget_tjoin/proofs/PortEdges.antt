@@ -10,7 +10,7 @@ use Rattle.gadget_base.specs.Gadgets.{ports_below, met_below, between_ports, por
 use Rattle.gadget_base.specs.Certified.{HasSize}
 use Rattle.gadget_base.proofs.Grown.{clique-length}
 use Rattle.gadget_base.proofs.Blocks.{blocks-length, All-tabled, All-blocks}
-use Rattle.gadget_tjoin.proofs.OneTerm.{group-before, group-once}
+use Rattle.gadget_base.proofs.BlockSums.{block-once, sum_to-grows}
 use Rattle.gadget_tjoin.proofs.Cliques.{all_clique}
 use Rattle.gadget_tjoin.proofs.Places.{here, within, met-room_u, met-room_v, group_size, before-is, groups-apart}
 use Rattle.gadget_tjoin.proofs.Reached.{links, cliques, edges-size}
@@ -20,7 +20,7 @@ pub place-high : (i : Network) (odd : ℕ → ℕ) (w n a : ℕ) → 1 ≤ w →
 place-high i odd w n a low high in_group =
     let back : w - 1 + 1 ≡ w = omega arith in
     let size : port_count i odd (w - 1 + 1) ≡ port_count i odd w = ap (port_count i odd) back in
-    let next = group-before (group_size i odd) (w - 1) n (omega arith) in
+    let next = sum_to-grows (group_size i odd) (w - 1) n (omega arith) in
     omega (arith, next, size, in_group, before-is i odd n)
 
 pub link-within : (i : Network) (odd : ℕ → ℕ) (k : ℕ) → IsNetwork i → k < length i.edges → IsEdgeWithin (ports_below i odd (vertices i + 1)) (between_ports i odd k)
@@ -41,7 +41,7 @@ link-within i odd k ok b =
       v_low = omega arith;
       v_high = place-high i odd e.v n (met_below i e.v k) ends.v_low ends.v_high at_v;
       differ = λ h. ends.differ
-          (let same = group-once size (e.u - 1) (e.v - 1) (met_below i e.u k) (met_below i e.v k) own_u own_v (omega (arith, h)) in
+          (let same = block-once size (e.u - 1) (e.v - 1) (met_below i e.u k) (met_below i e.v k) own_u own_v (omega (arith, h)) in
           let lu = ends.u_low in let lv = ends.v_low in omega (arith, same, lu, lv));
     }
 

@@ -5,8 +5,8 @@ use Rattle.std.proofs.lemmas.Bool.{cases_eq, cases_order, cases_Bool, eq-eqb, ne
 use Rattle.std.proofs.lemmas.Bool.Decides.{nat_tests}
 use Rattle.graph_theory.specs.Sums.{sum_to}
 use Rattle.graph_theory.proofs.SumLemmas.{sum_to-same, sum_to-add}
-use Rattle.gadget_base.proofs.BlockSums.{sum_to-none, sum_to-longer}
-use Rattle.gadget_tjoin.proofs.OneTerm.{one_if, one_if-same, sum_to-only}
+use Rattle.gadget_base.proofs.BlockSums.{sum_to-none, sum_to-longer, sum_to-only}
+use Rattle.gadget_tjoin.proofs.OneTerm.{one_if, one_if-same}
 
 -- one term of at most 1: it is 0 or 1
 pub zero_or_one : (a : ℕ) → a ≤ 1 → (a ≡ 0) ⊎ (a ≡ 1)

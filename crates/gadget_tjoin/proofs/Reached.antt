@@ -14,11 +14,11 @@ use Rattle.mb_problem.specs.Size.{port_count}
 use Rattle.mb_problem.proofs.EdgeLemmas.{edge_at-graph_of}
 use Rattle.gadget_base.specs.Blocks.{blocks, tabled, row, clique}
 use Rattle.gadget_base.specs.Gadgets.{ports_below, between_ports, ports_graph}
-use Rattle.gadget_base.proofs.BlockSums.{int_sum_to-none}
+use Rattle.gadget_base.proofs.BlockSums.{int_sum_to-none, test-small, sum_to-only}
 use Rattle.gadget_base.proofs.Blocks.{tabled-length, tabled-at, All-tabled, All-blocks}
 use Rattle.gadget_base.proofs.Over.{over, at_vertex, over-append, over-blocks, blocks-lengths}
 use Rattle.gadget_base.proofs.Degrees.{clique_table, clique-table, clique-none}
-use Rattle.gadget_tjoin.proofs.OneTerm.{one_if, one_if-small, sum_to-only}
+use Rattle.gadget_tjoin.proofs.OneTerm.{one_if}
 use Rattle.gadget_tjoin.proofs.Ranks.{zero_or_one, once_of_rank, partners, partners-swap, partners-small, partners-each}
 use Rattle.gadget_tjoin.proofs.Cliques.{clique-others, all_clique}
 use Rattle.gadget_tjoin.proofs.Places.{here, within, degree-here, group_size, groups-before_or_after, group-of, link-at, link-meets}
@@ -72,7 +72,7 @@ ends-small i k v ok b =
     let e = here i k in
     let ends = within i k ok b in
     let two = ends_at-touches (vertices i) e v ends in
-    omega (arith, two, one_if-small (touches e v))
+    omega (arith, two, test-small (touches e v))
 
 used-small : (i : Network) (odd : ℕ → ℕ) (counts : List ℕ) (t x : ℕ) → IsNetwork i → length counts ≡ length i.edges → All (λ c. c ≤ 1) counts → x < group_size i odd t → used i odd counts t x ≤ 1
 used-small i odd counts t x ok size small in_group =
@@ -81,7 +81,7 @@ used-small i odd counts t x ok size small in_group =
     let below = sum_to-le (λ k. slice_index counts k * ends_at (between_ports i odd k) (ports_below i odd (t + 1) + x + 1)) (λ k. a k * one_if (eqb (sum_to a k) x)) m
     (λ k b. let is = link-at i odd k t x ok b in_group in rw is (times_small (slice_index counts k) (a k) (one_if (eqb (sum_to a k) x)) (small k 0 (omega (arith, size))))) in
     let once = once_of_rank a x m (λ k b. ends-small i k (t + 1) ok b) in
-    omega (arith, below, once, one_if-small (ltb x (sum_to a m)))
+    omega (arith, below, once, test-small (ltb x (sum_to a m)))
 
 -- the places of a group together
 pub used-total : (i : Network) (odd : ℕ → ℕ) (counts : List ℕ) (t : ℕ) → IsNetwork i → sum_to (used i odd counts t) (group_size i odd t) ≡ degree (graph_of i) counts (t + 1)

@@ -29,7 +29,7 @@ sizes-fit i odd sizes limits one_each are =
     omega (arith, most, whole, sizes-sum i odd sizes (vertices i) are (omega arith))
 
 -- sizes and where they start are the groups
-pub groups-are : (i : Network) (odd : ℕ → ℕ) (before sizes : List ℕ) → length sizes ≡ vertices i → ((k : ℕ) → k < vertices i → slice_index sizes k ≡ port_count i odd (k + 1)) → AreStarts sizes before → AreGroups i odd before sizes
+pub groups-are : (i : Network) (odd : ℕ → ℕ) (before sizes : List ℕ) → length sizes ≡ vertices i → ((k : ℕ) → k < vertices i → slice_index sizes k ≡ port_count i odd (k + 1)) → AreStarts (λ k. slice_index sizes k) (length sizes) before → AreGroups i odd before sizes
 groups-are i odd before sizes one_each are starts = record {
   one_size_each = one_each;
   one_more = let more = starts.one_more in omega (arith, more, one_each);

@@ -10,6 +10,3 @@ mod taken;
 
 pub use build::ports;
 pub use taken::extract;
-
-#[cfg(test)]
-mod tests;

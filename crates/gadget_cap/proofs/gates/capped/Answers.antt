@@ -1,16 +1,24 @@
-use Rattle.std.proofs.Common.{◌≡◌, ◌<◌, ap, ◌∙◌, subst, arith, List, length, slice_index_or}
-use Rattle.std.proofs.lemmas.List.{get_or_read}
+use Rattle.std.proofs.Common.{◌≡◌, ◌<◌, refl, ap, sym, ◌∙◌, subst, arith, List, length, slice_index}
 use Rattle.graph_theory.specs.declared.edge.Edge.{Edge}
 use Rattle.mb_problem.specs.declared.instance.InstanceEdge.{InstanceEdge}
-use Rattle.mb_problem.specs.Network.{no_instance_edge, instance_edge_at}
+use Rattle.mb_problem.specs.Network.{vertices, instance_edge_at}
 use Rattle.mb_problem.specs.Size.{capped_size}
 use Rattle.gadget_base.specs.Blocks.{blocks}
 use Rattle.gadget_base.specs.Gadgets.{before_gates, gated}
 use Rattle.gadget_base.specs.Certified.{IsWithinLimits}
+use Rattle.gadget_base.specs.Starts.{AreStarts}
+use Rattle.gadget_base.proofs.StartLemmas.{starts_of}
+use Rattle.gadget_base.proofs.Within.{edge_here, place_here}
 use Rattle.gadget_cap.specs.Capped.{capped_room, room_at}
 use Rattle.gadget_cap.specs.Places.{gates_of}
 use Rattle.gadget_cap.proofs.Sizes.{size-is, room-is, gates-within, room-within}
 use Rattle.gadget_cap.proofs.gates.capped.Goals as goal
+
+pub add_gates-requires-clause-starts : goal.add_gates-requires-clause-starts
+add_gates-requires-clause-starts c =
+    let i = c.args.instance.now in
+    subst (AreStarts (λ k. slice_index i.values k) (vertices i)) (sym c.deref.ensures.value)
+    (starts_of (λ k. slice_index i.values k) (vertices i) i.values c.value_list.result.now c.in_ok-starts.starts.items c.value_list.ensures.list refl (λ k _. refl) c.in_ok-starts.ensures)
 
 pub add_gates-requires-clause-vertices : goal.add_gates-requires-clause-vertices
 add_gates-requires-clause-vertices c =
@@ -18,10 +26,9 @@ add_gates-requires-clause-vertices c =
     let unit = c.args.unit in
     let k = c.loop-edge.edge-index in
     let e : InstanceEdge = c.edge-item.result in
-    let here : e ≡ instance_edge_at i k = get_or_read _ k e c.loop-edge-test.true c.edge-item.is no_instance_edge ∙ ap (λ (es : List InstanceEdge). slice_index_or es k no_instance_edge) c.edge_list-edge-items.ensures.list in
+    let here : e ≡ instance_edge_at i k = edge_here i c.edge_list-edge-items.result.now k e c.edge_list-edge-items.ensures.list c.loop-edge-test.true c.edge-item.is in
     let room : c.room_at-room.result ≡ capped_room unit i k = c.room_at-room.ensures.room ∙ ap (room_at unit i) here ∙ room-is unit i k in
-    let list : c.edge_list-edge-items.result.now ≡ i.edges = c.edge_list-edge-items.ensures.list in
-    let below : k < length i.edges = subst (λ (es : List InstanceEdge). k < length es) list c.loop-edge-test.true in
+    let below : k < length i.edges = place_here i c.edge_list-edge-items.result.now k c.edge_list-edge-items.ensures.list c.loop-edge-test.true in
     let before = c.loop-edge.invariant.before in
     let vertices = c.loop-edge.invariant.vertices in
     let most = room-within i (capped_room unit i) k below in
@@ -33,10 +40,9 @@ add_gates-requires-clause-room c =
     let unit = c.args.unit in
     let k = c.loop-edge.edge-index in
     let e : InstanceEdge = c.edge-item.result in
-    let here : e ≡ instance_edge_at i k = get_or_read _ k e c.loop-edge-test.true c.edge-item.is no_instance_edge ∙ ap (λ (es : List InstanceEdge). slice_index_or es k no_instance_edge) c.edge_list-edge-items.ensures.list in
+    let here : e ≡ instance_edge_at i k = edge_here i c.edge_list-edge-items.result.now k e c.edge_list-edge-items.ensures.list c.loop-edge-test.true c.edge-item.is in
     let room : c.room_at-room.result ≡ capped_room unit i k = c.room_at-room.ensures.room ∙ ap (room_at unit i) here ∙ room-is unit i k in
-    let list : c.edge_list-edge-items.result.now ≡ i.edges = c.edge_list-edge-items.ensures.list in
-    let below : k < length i.edges = subst (λ (es : List InstanceEdge). k < length es) list c.loop-edge-test.true in
+    let below : k < length i.edges = place_here i c.edge_list-edge-items.result.now k c.edge_list-edge-items.ensures.list c.loop-edge-test.true in
     let before : c.loop-edge.before ≡ before_gates i (capped_room unit i) k = c.loop-edge.invariant.before in
     let same : gates_of i e c.loop-edge.before c.room_at-room.result ≡ gated i (capped_room unit i) k = ap (λ (x : InstanceEdge). gates_of i x c.loop-edge.before c.room_at-room.result) here ∙ ap (λ x. gates_of i (instance_edge_at i k) x c.room_at-room.result) before ∙ ap (gates_of i (instance_edge_at i k) (before_gates i (capped_room unit i) k)) room in
     let size : length (gates_of i e c.loop-edge.before c.room_at-room.result) ≡ length (gated i (capped_room unit i) k) = ap (λ (es : List Edge). length es) same in
@@ -52,10 +58,9 @@ overflow_add-before c =
     let unit = c.args.unit in
     let k = c.loop-edge.edge-index in
     let e : InstanceEdge = c.edge-item.result in
-    let here : e ≡ instance_edge_at i k = get_or_read _ k e c.loop-edge-test.true c.edge-item.is no_instance_edge ∙ ap (λ (es : List InstanceEdge). slice_index_or es k no_instance_edge) c.edge_list-edge-items.ensures.list in
+    let here : e ≡ instance_edge_at i k = edge_here i c.edge_list-edge-items.result.now k e c.edge_list-edge-items.ensures.list c.loop-edge-test.true c.edge-item.is in
     let room : c.room_at-room.result ≡ capped_room unit i k = c.room_at-room.ensures.room ∙ ap (room_at unit i) here ∙ room-is unit i k in
-    let list : c.edge_list-edge-items.result.now ≡ i.edges = c.edge_list-edge-items.ensures.list in
-    let below : k < length i.edges = subst (λ (es : List InstanceEdge). k < length es) list c.loop-edge-test.true in
+    let below : k < length i.edges = place_here i c.edge_list-edge-items.result.now k c.edge_list-edge-items.ensures.list c.loop-edge-test.true in
     let before : c.loop-edge.before ≡ before_gates i (capped_room unit i) k = c.loop-edge.invariant.before in
     let limits : IsWithinLimits (capped_size i (capped_room unit i)) = subst IsWithinLimits (size-is unit i) c.requires.limits in
     let few = limits.vertices in

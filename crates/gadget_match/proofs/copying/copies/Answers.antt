@@ -1,7 +1,7 @@
 use Rattle.std.proofs.Common.{◌≡◌, ℕ, ◌<◌, [], length, arith, ap, ◌∙◌}
 use Rattle.mb_problem.specs.Size.{value_total}
-use Rattle.gadget_base.proofs.Within.{copies-size}
-use Rattle.gadget_match.proofs.BuildLemmas.{edge_here, room-pairs, start-total}
+use Rattle.gadget_base.proofs.Within.{edge_here, copies-size}
+use Rattle.gadget_match.proofs.BuildLemmas.{room-pairs, start-total}
 use Rattle.gadget_match.proofs.CopyLemmas.{copies-reach}
 use Rattle.gadget_match.proofs.copying.copies.Goals as goal
 

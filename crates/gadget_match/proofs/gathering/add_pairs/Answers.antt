@@ -1,13 +1,10 @@
-use Rattle.std.proofs.Common.{◌≡◌, ℕ, ◌+◌, ◌<◌, ◌≤◌, List, Bool, true, false, cond, eqb, length, take, slice_index, ap, sym, arith, ◌∙◌}
+use Rattle.std.proofs.Common.{◌≡◌, ℕ, ◌+◌, ◌<◌, ◌≤◌, List, cond, eqb, length, take, slice_index, ap, sym, arith, ◌∙◌}
 use Rattle.std.proofs.lemmas.List.{take_all, get_or_read}
+use Rattle.gadget_base.proofs.BlockSums.{test-small}
 use Rattle.gadget_base.proofs.Blocks.{is-tabled}
 use Rattle.gadget_match.specs.Extracted.{listed_pairs}
 use Rattle.gadget_match.proofs.CountLemmas.{listed-more, listed-none}
 use Rattle.gadget_match.proofs.gathering.add_pairs.Goals as goal
-
-at_most_one : (t : Bool) → cond {A = ℕ} t 1 0 ≤ 1
-at_most_one true = omega arith
-at_most_one false = omega arith
 
 pub loop-edge-init : goal.loop-edge-init
 loop-edge-init c = record {
@@ -19,9 +16,9 @@ loop-edge-init c = record {
 pub add_one-requires-clause-small : goal.add_one-requires-clause-small
 add_one-requires-clause-small c =
     let i = c.args.instance.now in
-    let p = c.block_of-place.result in
+    let p = c.find_block-place.result in
     let more : length c.args.starts.now ≡ length i.edges + 1 = c.requires.starts.one_more in
-    let inside = c.block_of-place.ensures.inside in
+    let inside = c.find_block-place.ensures.inside in
     let small = c.loop-edge.invariant.small p (omega (arith, more, inside)) in
     let few = c.requires.few in
     omega (arith, small, few)
@@ -32,21 +29,21 @@ loop-edge-preserved c =
     let edges = c.args.edges.now in
     let starts = c.args.starts.now in
     let n = c.loop-edge.edge-index in
-    let p = c.block_of-place.result in
+    let p = c.find_block-place.result in
     let old = c.loop-edge.counts in
     let size : length old ≡ length i.edges = c.loop-edge.invariant.size in
     let more : length starts ≡ length i.edges + 1 = c.requires.starts.one_more in
-    let inside = c.block_of-place.ensures.inside in
+    let inside = c.find_block-place.ensures.inside in
     let here : c.edge-item.result ≡ slice_index edges n = get_or_read edges n c.edge-item.result c.loop-edge-test.true c.edge-item.is 0 in
     let low : 1 ≤ slice_index edges n = (c.requires.numbers n 0 c.loop-edge-test.true).0 in
     let place : c.from.result ≡ slice_index edges n = c.from.ensures ∙ c.number.ensures ∙ here in
-    let begun = c.block_of-place.ensures.begun in
-    let ends = c.block_of-place.ensures.not_ended in
+    let begun = c.find_block-place.ensures.begun in
+    let ends = c.find_block-place.ensures.not_ended in
     let below : p < length i.edges = omega (arith, more, inside) in
     let grown : (k : ℕ) → k < length i.edges → slice_index c.add_one.new.counts k ≡ slice_index old k + cond (eqb p k) 1 0 = λ k b. c.add_one.ensures.each k (omega (arith, size, b)) in
     record {
       size = let same : length c.add_one.new.counts ≡ length old = c.add_one.ensures.size in same ∙ size;
-      small = λ k b. let one = grown k b in let before = c.loop-edge.invariant.small k b in let most = at_most_one (eqb p k) in omega (arith, one, before, most);
+      small = λ k b. let one = grown k b in let before = c.loop-edge.invariant.small k b in let most = test-small (eqb p k) in omega (arith, one, before, most);
       each = λ k b.
           let one = grown k b in
           let before : slice_index old k ≡ listed_pairs i (take n edges) k = c.loop-edge.invariant.each k b in

@@ -19,6 +19,6 @@ fill-requires-clause-groups c =
     let odd = odd_at c.args.parity i in
     let sizes = c.in_ok-sizes.sizes.items in
     let before = c.in_ok-before.before.items in
-    let starts = subst (λ (xs : List ℕ). AreStarts xs before) c.deref.ensures.value c.in_ok-before.ensures in
+    let starts = subst (λ (xs : List ℕ). AreStarts (λ k. slice_index xs k) (length xs) before) c.deref.ensures.value c.in_ok-before.ensures in
     let groups = groups-are i odd before sizes c.in_ok-sizes.ensures.size c.in_ok-sizes.ensures.each starts in
     subst (λ (xs : List ℕ). AreGroups i odd xs c.deref-4.result.now) (sym c.deref-3.ensures.value) (subst (AreGroups i odd before) (sym c.deref-4.ensures.value) groups)

@@ -1,20 +1,12 @@
-use Rattle.std.proofs.Common.{◌≡◌, ℕ, ◌+◌, ◌-◌, ◌<◌, ap, sym, ◌∙◌, subst, arith, List, length, slice_index, slice_index_or}
-use Rattle.std.proofs.lemmas.List.{get_or_read}
+use Rattle.std.proofs.Common.{◌≡◌, ℕ, ◌+◌, ◌-◌, ap, sym, ◌∙◌, subst, arith, slice_index}
 use Rattle.graph_theory.specs.Graph.{Multigraph, IsEdgeWithin}
-use Rattle.mb_problem.specs.declared.instance.InstanceEdge.{InstanceEdge}
-use Rattle.mb_problem.specs.Network.{Network, vertices, instance_edge_at, no_instance_edge}
+use Rattle.mb_problem.specs.Network.{vertices}
 use Rattle.mb_problem.specs.Rooms.{odd_at}
 use Rattle.gadget_base.specs.Gadgets.{ports_below, between_ports}
+use Rattle.gadget_base.proofs.Within.{edge_here, place_here}
 use Rattle.gadget_tjoin.proofs.PortEdges.{link-within}
 use Rattle.gadget_tjoin.proofs.Steps.{next-ports, link-ends, links-fit, added-link, grown-link, next-step}
 use Rattle.gadget_tjoin.proofs.links.add_links.Goals as goal
-
--- an edge that was read is the instance's at its place
-item : (i : Network) (es : List InstanceEdge) (k : ℕ) (e : InstanceEdge) → es ≡ i.edges → k < length es → e ≡ slice_index_or es k e → e ≡ instance_edge_at i k
-item i es k e list b is = get_or_read es k e b is no_instance_edge ∙ ap (λ (xs : List InstanceEdge). slice_index_or xs k no_instance_edge) list
-
-place : (i : Network) (es : List InstanceEdge) (k : ℕ) → es ≡ i.edges → k < length es → k < length i.edges
-place i es k list b = subst (λ (es : List InstanceEdge). k < length es) list b
 
 pub add_link-requires-clause-small_u : goal.add_link-requires-clause-small_u
 add_link-requires-clause-small_u c =
@@ -22,8 +14,8 @@ add_link-requires-clause-small_u c =
     let odd = odd_at c.args.parity i in
     let k = c.loop-edge.edge-index in
     let items = c.edge_list-edge-items in
-    let b = place i items.result.now k items.ensures.list c.loop-edge-test.true in
-    let is = item i items.result.now k c.edge-item.result items.ensures.list c.loop-edge-test.true c.edge-item.is in
+    let b = place_here i items.result.now k items.ensures.list c.loop-edge-test.true in
+    let is = edge_here i items.result.now k c.edge-item.result items.ensures.list c.loop-edge-test.true c.edge-item.is in
     let ports = next-ports i odd c.loop-edge.next k c.edge-item.result items.ensures.network b is c.loop-edge.invariant.each in
     omega (arith, ports.0, (link-ends i odd k items.ensures.network b c.requires.limits).0)
 
@@ -33,8 +25,8 @@ add_link-requires-clause-small_v c =
     let odd = odd_at c.args.parity i in
     let k = c.loop-edge.edge-index in
     let items = c.edge_list-edge-items in
-    let b = place i items.result.now k items.ensures.list c.loop-edge-test.true in
-    let is = item i items.result.now k c.edge-item.result items.ensures.list c.loop-edge-test.true c.edge-item.is in
+    let b = place_here i items.result.now k items.ensures.list c.loop-edge-test.true in
+    let is = edge_here i items.result.now k c.edge-item.result items.ensures.list c.loop-edge-test.true c.edge-item.is in
     let ports = next-ports i odd c.loop-edge.next k c.edge-item.result items.ensures.network b is c.loop-edge.invariant.each in
     omega (arith, ports.1, (link-ends i odd k items.ensures.network b c.requires.limits).1)
 
@@ -42,7 +34,7 @@ pub add_link-requires-clause-room : goal.add_link-requires-clause-room
 add_link-requires-clause-room c =
     let i = c.args.instance.now in
     let items = c.edge_list-edge-items in
-    let b = place i items.result.now c.loop-edge.edge-index items.ensures.list c.loop-edge-test.true in
+    let b = place_here i items.result.now c.loop-edge.edge-index items.ensures.list c.loop-edge-test.true in
     let few = items.ensures.network.few_edges in
     let size = links-fit i (odd_at c.args.parity i) c.loop-edge.graph c.args.graph.now.vertices c.loop-edge.edge-index c.loop-edge.invariant.graph in
     omega (arith, b, few, size)
@@ -54,8 +46,8 @@ add_link-requires-clause-ends c =
     let k = c.loop-edge.edge-index in
     let e = c.edge-item.result in
     let items = c.edge_list-edge-items in
-    let b = place i items.result.now k items.ensures.list c.loop-edge-test.true in
-    let is = item i items.result.now k e items.ensures.list c.loop-edge-test.true c.edge-item.is in
+    let b = place_here i items.result.now k items.ensures.list c.loop-edge-test.true in
+    let is = edge_here i items.result.now k e items.ensures.list c.loop-edge-test.true c.edge-item.is in
     let edge = added-link i odd c.loop-edge.next k e is (next-ports i odd c.loop-edge.next k e items.ensures.network b is c.loop-edge.invariant.each) in
     let size : c.loop-edge.graph.vertices ≡ ports_below i odd (vertices i + 1) = ap (λ (g : Multigraph). g.vertices) c.loop-edge.invariant.graph ∙ ap (λ (g : Multigraph). g.vertices) c.requires.start in
     subst (λ (n : ℕ). IsEdgeWithin n (record { u = slice_index c.loop-edge.next (e.u - 1) + 1; v = slice_index c.loop-edge.next (e.v - 1) + 1; w = e.w })) (sym size)
@@ -68,8 +60,8 @@ loop-edge-preserved c =
     let k = c.loop-edge.edge-index in
     let e = c.edge-item.result in
     let items = c.edge_list-edge-items in
-    let b = place i items.result.now k items.ensures.list c.loop-edge-test.true in
-    let is = item i items.result.now k e items.ensures.list c.loop-edge-test.true c.edge-item.is in
+    let b = place_here i items.result.now k items.ensures.list c.loop-edge-test.true in
+    let is = edge_here i items.result.now k e items.ensures.list c.loop-edge-test.true c.edge-item.is in
     let edge = added-link i odd c.loop-edge.next k e is (next-ports i odd c.loop-edge.next k e items.ensures.network b is c.loop-edge.invariant.each) in
     record {
       graph = grown-link (between_ports i odd) c.loop-edge.graph c.add_link.new.graph c.args.graph.now.vertices k (record { u = slice_index c.loop-edge.next (e.u - 1) + 1; v = slice_index c.loop-edge.next (e.v - 1) + 1; w = e.w }) c.loop-edge.invariant.graph c.in_ok-add_link.ensures.added edge;

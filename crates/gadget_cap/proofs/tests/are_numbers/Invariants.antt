@@ -1,6 +1,0 @@
-use Rattle.std.proofs.Common.{ℕ, ◌<◌, slice_index_or}
-use Rattle.graph_theory.specs.Graph.{IsEdgeNumber}
-use Rattle.gadget_cap.proofs.tests.are_numbers.Given as goal
-
-abbrev pub invariant-loop-e : goal.invariant-loop-e
-invariant-loop-e l = (k d : ℕ) → k < l.e-index → IsEdgeNumber l.graph (slice_index_or l.edges k d)

@@ -1,6 +1,0 @@
-use Rattle.std.proofs.Common.{◌≡◌, take, count_by}
-use Rattle.graph_theory.specs.Graph.{edge_of, touches}
-use Rattle.gadget_cap.proofs.tests.count_at.Given as goal
-
-abbrev pub invariant-loop-e : goal.invariant-loop-e
-invariant-loop-e l = l.count ≡ count_by (λ e. touches (edge_of l.graph e) l.v) (take l.e-index l.edges)
