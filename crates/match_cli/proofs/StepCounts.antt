@@ -8,7 +8,7 @@ use Rattle.mb_problem.specs.declared.kind.Kind.{Kind}
 use Rattle.mb_problem.specs.declared.kind.Kind.TheVariants.{Perfect}
 use Rattle.mb_problem.specs.Network.{Network, graph_of, vertices}
 use Rattle.mb_problem.specs.Size.{size_of}
-use Rattle.mwpm_engine.specs.Solutions.{most_steps}
+use Rattle.mwpm_engine.specs.Solutions.{size_of_graph, most_steps}
 use Rattle.dimacs_read.proofs.ReadingLemmas.{one_instance}
 use Rattle.match_cli.specs.declared.status.Status.{Status}
 use Rattle.match_cli.specs.declared.status.Status.TheVariants.{Done, Rejected, Usage, Malformed, TooLarge, TooLong, ReadFault, WriteFault, OutOfMemory}
@@ -58,11 +58,11 @@ counted-more n m a b h h' =
     let edges : m + 1 ≤ b + 1 = omega (arith, h') in
     mul-le-mul (mul-le-mul vertices phases) edges
 
-steps_are : (i : Network) → most_steps (graph_of i) ≡ most_counted (vertices i) (length i.edges)
+steps_are : (i : Network) → most_steps (size_of_graph (graph_of i)) ≡ most_counted (vertices i) (length i.edges)
 steps_are i = ap (most_counted (vertices i)) (length-map i.edges _)
 
 -- within the limits a search counts no more than at the limits
-pub within_limits : (kind : Kind) (i : Network) (before after : ℕ) → kind ≡ Perfect → FitsLimits (size_of kind i) → after ≤ before + most_steps (graph_of i) → after ≤ before + most_within_limits
+pub within_limits : (kind : Kind) (i : Network) (before after : ℕ) → kind ≡ Perfect → FitsLimits (size_of kind i) → after ≤ before + most_steps (size_of_graph (graph_of i)) → after ≤ before + most_within_limits
 within_limits kind i before after same fits counted =
     let small : FitsLimits (size_of Perfect i) = subst (λ (k : Kind). FitsLimits (size_of k i)) same fits in
     let less = counted-more (vertices i) (length i.edges) 4096 1048576 small.0 small.1 in
@@ -80,7 +80,7 @@ searched kind brief i out before after ReadFault answer counted = absurd answer
 searched kind brief i out before after WriteFault answer counted = counted
 searched kind brief i out before after OutOfMemory answer counted = counted
 
-pub search_counts : (kind : Kind) (brief : Bool) (i : Network) (before after : ℕ) {E : Type 0} (r : Result Answer E) → kind ≡ Perfect → FitsLimits (size_of kind i) → IfOk r (DecidesSolved kind brief i) → after ≤ before + most_steps (graph_of i) → CountsAnswer (Solve kind brief) before after r
+pub search_counts : (kind : Kind) (brief : Bool) (i : Network) (before after : ℕ) {E : Type 0} (r : Result Answer E) → kind ≡ Perfect → FitsLimits (size_of kind i) → IfOk r (DecidesSolved kind brief i) → after ≤ before + most_steps (size_of_graph (graph_of i)) → CountsAnswer (Solve kind brief) before after r
 search_counts kind brief i before after (Ok a) same fits answer counted = searched kind brief i a.text.items before after a.status answer (within_limits kind i before after same fits counted)
 search_counts kind brief i before after (Err e) same fits answer counted = within_limits kind i before after same fits counted
 
@@ -97,11 +97,11 @@ same_solve : (a b : Kind) (c d : Bool) → Some (Solve a c) ≡ Some (Solve b d)
 same_solve a b c d e = cc
 
 -- an input holds one instance
-pub counted_for : (kind : Kind) (brief : Bool) (bytes : List ℕ) (j : Network) (before after : ℕ) → InputHolds kind bytes j → after ≤ before + most_steps (graph_of j) → CountsInstance (Some (Solve kind brief)) bytes before after
+pub counted_for : (kind : Kind) (brief : Bool) (bytes : List ℕ) (j : Network) (before after : ℕ) → InputHolds kind bytes j → after ≤ before + most_steps (size_of_graph (graph_of j)) → CountsInstance (Some (Solve kind brief)) bytes before after
 counted_for kind brief bytes j before after held counted other other_brief i is holds =
     let same : kind ≡ other = same_solve kind other brief other_brief is in
     let here : InputHolds kind bytes i = subst (λ (k : Kind). InputHolds k bytes i) (sym same) holds in
-    subst (λ (n : Network). after ≤ before + most_steps (graph_of n)) (one_instance kind (instance_part bytes) j i held here) counted
+    subst (λ (n : Network). after ≤ before + most_steps (size_of_graph (graph_of n))) (one_instance kind (instance_part bytes) j i held here) counted
 
 -- all bytes of the source were read
 pub source_counted : (words : List (List ℕ)) (command : Command) (source left : Option (List ℕ)) (bytes : List ℕ) (before after : ℕ) → command_of words ≡ Some command → Consumes source left bytes → IsAtEnd left → CountsInstance (Some command) bytes before after → CountsSource words source before after

@@ -2,7 +2,7 @@
 use Rattle.std.specs.Prelude.{◌≡◌, ℕ, ◌+◌, ◌*◌, ◌≤◌, List, Bool, Option, None, Some, IfSome, Result, Ok, Err}
 use Rattle.mb_problem.specs.declared.kind.Kind.{Kind}
 use Rattle.mb_problem.specs.Network.{Network, graph_of}
-use Rattle.mwpm_engine.specs.Solutions.{most_steps}
+use Rattle.mwpm_engine.specs.Solutions.{size_of_graph, most_steps}
 use Rattle.match_cli.specs.declared.status.Status.{Status}
 use Rattle.match_cli.specs.declared.status.Status.TheVariants.{Done, WriteFault, OutOfMemory}
 use Rattle.match_cli.specs.declared.answer.Answer.{Answer}
@@ -38,7 +38,7 @@ CountsAnswer command before after (Err e) = CountsSteps (Some command) before af
 
 -- where `solve` is given an instance: no more steps than a search on its graph takes
 abbrev pub CountsInstance : Option Command → List ℕ → ℕ → ℕ → Type 0
-CountsInstance command bytes before after = (kind : Kind) (brief : Bool) (i : Network) → command ≡ Some (Solve kind brief) → InputHolds kind bytes i → after ≤ before + most_steps (graph_of i)
+CountsInstance command bytes before after = (kind : Kind) (brief : Bool) (i : Network) → command ≡ Some (Solve kind brief) → InputHolds kind bytes i → after ≤ before + most_steps (size_of_graph (graph_of i))
 
 abbrev pub CountsSource : List (List ℕ) → Option (List ℕ) → ℕ → ℕ → Type 0
 CountsSource words source before after = IfSome source (λ bytes. CountsInstance (command_of words) bytes before after)

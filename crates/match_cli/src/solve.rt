@@ -1,7 +1,7 @@
 ghost use Rattle.std.specs.Prelude.{Some, ◌≡◌, ◌≢◌, ◌+◌, ◌≤◌, ◌^◌, length, IfOk};
 ghost use Rattle.mb_problem.specs.Network.{IsNetwork, graph_of};
 ghost use Rattle.mb_problem.specs.Size.{size_of};
-ghost use Rattle.mwpm_engine.specs.Solutions.{most_steps};
+ghost use Rattle.mwpm_engine.specs.Solutions.{size_of_graph, most_steps};
 ghost use Rattle.doc_format.specs.Spelling.{document_text};
 ghost use Rattle.match_cli.specs.Answers.{DecidesSolve};
 ghost use Rattle.match_cli.specs.Checking.{FitsLimits};
@@ -40,7 +40,7 @@ fn solve_within<L: Ledger>(
     requires limits { FitsLimits (size_of kind instance.now) }
     requires network { IsNetwork instance.now }
     ensures answer { IfOk result (DecidesSolved kind brief instance.now) }
-    ensures counted { steps.new ≤ steps.old + most_steps (graph_of instance.now) }
+    ensures counted { steps.new ≤ steps.old + most_steps (size_of_graph (graph_of instance.now)) }
 {
     match solve_kinds::solve(alloc, instance, kind, steps) {
         Ok(document) => solved(alloc, &document, brief),
@@ -60,7 +60,7 @@ fn solve_instance<L: Ledger>(
     requires network { IsNetwork instance.now }
     ensures answer { IfOk result (DecidesSized kind brief instance.now) }
     ensures steps { CountsAnswer (Command.Solve kind brief) steps.old steps.new result }
-    ensures counted { steps.new ≤ steps.old + most_steps (graph_of instance.now) }
+    ensures counted { steps.new ≤ steps.old + most_steps (size_of_graph (graph_of instance.now)) }
 {
     let (vertices, edges) = gadget_size(instance, kind);
     if vertices > 4096 {
@@ -85,7 +85,7 @@ fn solve_followed<L: Ledger>(
     requires network { IsNetwork instance.now }
     ensures answer { IfOk result (DecidesFollowed kind brief instance.now rest.now) }
     ensures steps { CountsAnswer (Command.Solve kind brief) steps.old steps.new result }
-    ensures counted { steps.new ≤ steps.old + most_steps (graph_of instance.now) }
+    ensures counted { steps.new ≤ steps.old + most_steps (size_of_graph (graph_of instance.now)) }
 {
     if !rest.bytes.as_slice().is_empty() {
         return malformed(alloc, Rule::UnknownLine, rest.line);

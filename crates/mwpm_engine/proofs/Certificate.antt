@@ -25,7 +25,7 @@ use Rattle.mwpm_engine.specs.declared.outcome.Outcome.{Outcome}
 use Rattle.mwpm_engine.specs.Solutions.{IsSolved, IsWithinBound}
 use Rattle.mwpm_engine.specs.Solving.{sets_at, solution_of, AreProvingSets, CountsWeights, HasBoundedDuals, IsUnpacked}
 use Rattle.mwpm_engine.proofs.BoundedDuals.{each_vertex_dual}
-use Rattle.mwpm_engine.proofs.CertificateMates.{length-mate_numbers, matching_same, count_at}
+use Rattle.mwpm_engine.proofs.CertificateMates.{length-mate_numbers, mate_kept, matching_same, count_at}
 use Rattle.mwpm_engine.proofs.CertificateSets.{IsKnown, all_known, IsProving, each_proving, set_of, few_sets, nested_sets, IsOf, each_of, sets_listed}
 use Rattle.mwpm_engine.proofs.CertificateValue.{left_once, crossings_same, value_met}
 
@@ -140,6 +140,7 @@ solved s outcome nodes done counts bounded list =
     let matching = matching_same s.graph (edge_in s.mates.items) done.sound.shape.graph.graph.ends in
     record {
       one_each = length-mate_numbers (edge_in s.mates.items) n;
+      each_mate = λ v low high. mate_kept s.graph (edge_in s.mates.items) v done.sound.shape.graph.graph.ends low high (done.mates v (range_vertex n v low high));
       perfect = subst (IsPerfect s.graph) (sym matching) done.perfect;
       duals = λ sets same. feasible s sets done.sound counts (sets_listed ys bs bs nodes sets known list same) (each_of ys bs nodes sets proving same);
       value = λ sets same.

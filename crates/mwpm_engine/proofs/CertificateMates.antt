@@ -1,13 +1,13 @@
 -- The edges at the vertices, one after the other, say the same matching as the mates.
-use Rattle.std.proofs.Common.{◌≡◌, ℕ, ◌+◌, ◌-◌, ◌<◌, ◌≤◌, eqb, cond, length, refl, sym, ap, ◌∙◌, arith, Option, Some, None, All}
+use Rattle.std.proofs.Common.{◌≡◌, ℕ, ◌+◌, ◌-◌, ◌<◌, ◌≤◌, eqb, cond, length, true, refl, sym, ap, subst, ◌∙◌, arith, Option, Some, None, All}
 use Rattle.std.specs.Prelude.{slice_index}
 use Rattle.std.proofs.lemmas.Bool.{ne_eqb}
 use Rattle.std.proofs.lemmas.List.{ext_get_or}
 use Rattle.std.proofs.lemmas.List.FromFn.{get_or-map-range_with_len, length-map-range_with_len}
-use Rattle.graph_theory.specs.Graph.{Multigraph, IsEdgeWithin, IsEdgeNumber, edge_of}
-use Rattle.graph_theory.proofs.Edges.{edge_of_within, number_of-place}
-use Rattle.augment.specs.Matching.{is_edge, mate_counts}
-use Rattle.mwpm_engine.specs.Solutions.{mate_at, matching_of}
+use Rattle.graph_theory.specs.Graph.{Multigraph, IsEdgeWithin, IsEdgeNumber, edge_of, touches, other_end}
+use Rattle.graph_theory.proofs.Edges.{edge_of_within, other_end-within, number_of-place}
+use Rattle.augment.specs.Matching.{is_edge, mate_counts, IsVertexMate}
+use Rattle.mwpm_engine.specs.Solutions.{IsMate, mate_at, matching_of}
 use Rattle.mwpm_engine.specs.Solving.{number_or_none, mate_numbers}
 
 pub length-mate_numbers : (m : ℕ → Option ℕ) (n : ℕ) → length (mate_numbers m n) ≡ n
@@ -21,6 +21,20 @@ mate_numbers_at m n v low high = get_or-map-range_with_len (λ w. number_or_none
 same_edge : (o : Option ℕ) (e : ℕ) → 1 ≤ e → eqb (number_or_none o) e ≡ is_edge o e
 same_edge None e low = ne_eqb 0 e (λ s. absurd (omega arith))
 same_edge (Some f) e low = refl
+
+-- the mates of the vertices are mates still
+pub mate_kept : (g : Multigraph) (m : ℕ → Option ℕ) (v : ℕ) → All (IsEdgeWithin g.vertices) g.edges → 1 ≤ v → v ≤ g.vertices → IsVertexMate g m v → IsMate g (mate_numbers m g.vertices) v
+mate_kept g m v ends low high h =
+    let n = g.vertices in
+    let other = other_end (edge_of g h.edge) v in
+    let range = other_end-within n (edge_of g h.edge) v (edge_of_within g h.edge ends h.is_edge) in
+    let here : mate_at (mate_numbers m n) v ≡ h.edge = mate_numbers_at m n v low high ∙ ap number_or_none h.has in
+    let there : mate_at (mate_numbers m n) other ≡ h.edge = mate_numbers_at m n other range.0 range.1 ∙ ap number_or_none h.back in
+    record {
+      is_edge = subst (IsEdgeNumber g) (sym here) h.is_edge;
+      at_vertex = subst (λ (e : ℕ). touches (edge_of g e) v ≡ true) (sym here) h.at_v;
+      at_other_end = subst (λ (e : ℕ). mate_at (mate_numbers m n) (other_end (edge_of g e) v) ≡ e) (sym here) there;
+    }
 
 -- how often edge e is counted, by what stands for its first end and by the mate of that end
 abbrev by_number : Multigraph → (ℕ → Option ℕ) → ℕ → ℕ

@@ -4,7 +4,7 @@ pub mod BoundedZero
 pub mod CertificateMates
 pub mod CertificateSets
 pub mod Reached
-pub mod Happened
+pub mod EventBounds
 pub mod BoundedTotal
 pub mod BoundedRaised
 pub mod Bounded

@@ -9,7 +9,7 @@ use Rattle.blossom_arena.specs.Family.{Blossom, IsNested}
 use Rattle.blossom_arena.proofs.Nested.{room_for_circuit}
 use Rattle.alt_forest.specs.State.{State}
 use Rattle.alt_forest.specs.Counts.{is_outside, outside_vertices, outside_among, measure}
-use Rattle.mwpm_engine.specs.Solutions.{most_steps}
+use Rattle.mwpm_engine.specs.Solutions.{size_of_graph, most_steps}
 use Rattle.mwpm_engine.specs.Passes.{phase_steps, phases_doubled}
 
 -- what is left for a tree to take in: at most each vertex, and each blossom
@@ -80,14 +80,21 @@ matched_paid k start all before old paid = omega (arith, paid)
 pub pass_paid : (g : Multigraph) (ends : Bool) (exposed old new : ℕ) → exposed ≡ g.vertices → 2 * new ≤ 2 * old + phases_doubled exposed ends * phase_steps g → 2 * new ≤ 2 * old + phases_doubled g.vertices ends * phase_steps g
 pass_paid g ends exposed old new all paid = subst (λ n. 2 * new ≤ 2 * old + phases_doubled n ends * phase_steps g) all paid
 
--- one pass, or two of which the first is not stuck
-all_steps : (g : Multigraph) → most_steps g ≡ g.vertices * phase_steps g + phase_steps g
+-- one pass; or two of which neither is stuck, with two looks at each edge between them
+all_steps : (g : Multigraph) → most_steps (size_of_graph g) ≡ g.vertices * phase_steps g + phase_steps g
 all_steps g = omega (arith, times_more (g.vertices + 1) (3 * g.vertices + 2) (length g.edges + 1), more_times g.vertices 1 (phase_steps g))
 
-pub one_pass_paid : (g : Multigraph) (ends : Bool) (old new : ℕ) → 2 * new ≤ 2 * old + phases_doubled g.vertices ends * phase_steps g → new ≤ old + most_steps g
+pub one_pass_paid : (g : Multigraph) (ends : Bool) (old new : ℕ) → 2 * new ≤ 2 * old + phases_doubled g.vertices ends * phase_steps g → new ≤ old + most_steps (size_of_graph g)
 one_pass_paid g true old new paid = omega (arith, paid, all_steps g)
 one_pass_paid g false old new paid = omega (arith, paid, all_steps g, more_times g.vertices 2 (phase_steps g))
 
-pub two_passes_paid : (g : Multigraph) (ends : Bool) (old between new : ℕ) → 2 * between ≤ 2 * old + phases_doubled g.vertices true * phase_steps g → 2 * new ≤ 2 * between + phases_doubled g.vertices ends * phase_steps g → new ≤ old + most_steps g
-two_passes_paid g true old between new first second = omega (arith, first, second, all_steps g)
-two_passes_paid g false old between new first second = omega (arith, first, second, all_steps g, more_times g.vertices 2 (phase_steps g))
+-- a phase counts two looks at each edge at least
+looks_paid : (g : Multigraph) → 2 * length g.edges ≤ phase_steps g
+looks_paid g = omega (arith, times_le 2 (3 * g.vertices + 2) (length g.edges + 1) (omega arith))
+
+pub looked_through : (g : Multigraph) (old between new : ℕ) → 2 * between ≤ 2 * old + phases_doubled g.vertices true * phase_steps g → new ≤ between + length g.edges → new ≤ old + most_steps (size_of_graph g)
+looked_through g old between new first looks = omega (arith, first, looks, looks_paid g, all_steps g)
+
+pub two_passes_paid : (g : Multigraph) (old first looked found new : ℕ) → 2 * first ≤ 2 * old + phases_doubled g.vertices true * phase_steps g → looked ≤ first + length g.edges → found ≤ looked + length g.edges
+    → 2 * new ≤ 2 * found + phases_doubled g.vertices true * phase_steps g → new ≤ old + most_steps (size_of_graph g)
+two_passes_paid g old first looked found new one looks more other = omega (arith, one, looks, more, other, looks_paid g, all_steps g)

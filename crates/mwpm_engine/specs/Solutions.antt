@@ -1,14 +1,16 @@
 -- What an engine keeps after a run: a perfect matching with the duals that prove it least, or a barrier (Schrijver,
 -- Combinatorial Optimization, volume A, chapters 24 to 26).
-use Rattle.std.specs.Prelude.{◌≡◌, ℕ, ◌+◌, ◌-◌, ◌*◌, ◌^◌, ◌<◌, ◌≤◌, ℤ, pos, neg_ℤ, ◌*ℤ◌, ◌≤ℤ◌, ◌==◌, List, [], ◌∷◌, length, map, All, slice_index_or, if◌then◌else◌, Option}
+use Rattle.std.specs.Prelude.{◌≡◌, ℕ, ◌+◌, ◌-◌, ◌*◌, ◌≤◌, ℤ, pos, neg_ℤ, ◌*ℤ◌, ◌≤ℤ◌, ◌==◌, true, List, length, map, All, slice_index_or, if◌then◌else◌, Option}
 use Rattle.std.specs.List.{range_with_len}
-use Rattle.std.specs.List.Sorted.{IsStrictlyIncreasing}
-use Rattle.graph_theory.specs.Graph.{Multigraph, edge_of, IsPerfect, weight}
+use Rattle.graph_theory.specs.Graph.{Multigraph, IsEdgeNumber, edge_of, touches, other_end, IsPerfect, weight}
+use Rattle.graph_theory.specs.Limits.{Size}
 use Rattle.graph_theory.specs.Barrier.{IsBarrier}
 use Rattle.graph_theory.specs.Parts.{IsVertexSet}
-use Rattle.graph_theory.specs.Duals.{AreDuals, dual_value, set_at, IsNumber}
+use Rattle.graph_theory.specs.Duals.{AreDuals, dual_value, IsNumber}
+pub use Rattle.graph_theory.specs.Nested.{AreNested, AreAscending}
+use Rattle.graph_theory.specs.Nested.{most_blossoms}
+use Rattle.graph_theory.specs.declared.limits.TheConstants.{WEIGHT_LIMIT}
 use Rattle.graph_theory.specs.declared.odd_set.OddSet.{OddSet}
-use Rattle.graph_theory.specs.Nested.{AreLaminar, most_blossoms, AreSame}
 use Rattle.mwpm_engine.specs.declared.outcome.Outcome.{Outcome}
 use Rattle.mwpm_engine.specs.declared.outcome.Outcome.TheVariants.{Matched, Barrier}
 
@@ -31,23 +33,20 @@ mate_at mates v = slice_index_or mates (v - 1) 0
 abbrev pub matching_of : Multigraph → List ℕ → List ℕ
 matching_of g mates = map (λ e. if mate_at mates (edge_of g e).u == e then 1 else 0) (range_with_len 1 (length g.edges))
 
--- the same sets with the same duals, in the same order, the members of each ascending
-abbrev pub AreAscending : List OddSet → List OddSet → Type 0
-AreAscending [] sets = sets ≡ []
-AreAscending (s ∷ rest) sets = (t : OddSet) × (others : List OddSet) × (sets ≡ t ∷ others) × (t.dual ≡ s.dual) × AreSame t.members s.members × IsStrictlyIncreasing t.members × AreAscending rest others
+-- the edge that stands for a vertex: an edge of the graph, at this vertex, which stands for its other end too
+pub record IsMate (g : Multigraph) (mates : List ℕ) (v : ℕ) : Type 0 where
+  pub is_edge : IsEdgeNumber g (mate_at mates v)
+  pub at_vertex : touches (edge_of g (mate_at mates v)) v ≡ true
+  pub at_other_end : mate_at mates (other_end (edge_of g (mate_at mates v)) v) ≡ mate_at mates v
 
--- the sets are all different, and of any two one lies in the other or they have no member in common
-pub record AreNested (sets : List OddSet) : Type 0 where
-  pub different : (i j : ℕ) → i < j → j < length sets → AreSame (set_at sets i).members (set_at sets j).members → ⊥
-  pub laminar : (i j : ℕ) → i < j → j < length sets → AreLaminar (set_at sets i).members (set_at sets j).members
-
--- with n vertices: no farther from 0 than (2n + 1) * 10^9
+-- with n vertices: no farther from 0 than 2n + 1 times the greatest weight
 abbrev pub IsWithinBound : ℕ → ℤ → Type 0
-IsWithinBound n y = (neg_ℤ (pos ((2 * n + 1) * 10 ^ 9)) ≤ℤ y) × (y ≤ℤ pos ((2 * n + 1) * 10 ^ 9))
+IsWithinBound n y = (neg_ℤ (pos (2 * n + 1) *ℤ WEIGHT_LIMIT) ≤ℤ y) × (y ≤ℤ (pos (2 * n + 1) *ℤ WEIGHT_LIMIT))
 
 -- A perfect matching, and duals that prove it least: they are feasible, and their value is twice its weight.
 pub record IsSolved (s : Solution) : Type 0 where
   pub one_each : length s.mates ≡ s.graph.vertices
+  pub each_mate : (v : ℕ) → 1 ≤ v → v ≤ s.graph.vertices → IsMate s.graph s.mates v
   pub perfect : IsPerfect s.graph (matching_of s.graph s.mates)
   pub duals : (sets : List OddSet) → AreAscending s.sets sets → AreDuals s.graph s.duals sets
   pub value : (sets : List OddSet) → AreAscending s.sets sets → dual_value s.duals sets ≡ pos 2 *ℤ weight s.graph (matching_of s.graph s.mates)
@@ -67,6 +66,10 @@ abbrev pub Ends : Solution → Outcome → Type 0
 Ends s Matched = IsSolved s
 Ends s Barrier = IsVertexSet s.graph.vertices s.barrier × IsBarrier s.graph s.barrier
 
--- how many steps a run on a graph with n vertices and m edges counts at most: in n + 1 phases
-abbrev pub most_steps : Multigraph → ℕ
-most_steps g = (g.vertices + 1) * (3 * g.vertices + 2) * (length g.edges + 1)
+-- how many vertices and edges a graph has
+abbrev pub size_of_graph : Multigraph → Size
+size_of_graph g = record { vertices = g.vertices; edges = length g.edges }
+
+-- how many steps a run on a graph of this size counts at most: in n + 1 phases, where it has n vertices
+abbrev pub most_steps : Size → ℕ
+most_steps size = (size.vertices + 1) * (3 * size.vertices + 2) * (size.edges + 1)

@@ -2,12 +2,11 @@ ghost use Rattle.std.specs.Prelude.{◌≡◌, ◌<◌, ◌≤◌, ◌+◌, ℕ,
 ghost use Rattle.std.specs.Vec.{vec_capacity};
 ghost use Rattle.graph_theory.specs.Parts.{holds};
 ghost use Rattle.graph_theory.specs.Duals.{dual_of, set_at};
-ghost use Rattle.graph_theory.specs.Nested.{most_blossoms};
-ghost use Rattle.blossom_arena.specs.Family.{is_vertex};
+ghost use Rattle.graph_theory.specs.Limits.{IsWithinLimits};
 ghost use Rattle.alt_forest.specs.declared.label.Label.TheVariants.{Inner};
-ghost use Rattle.alt_forest.specs.Searches.{IsSearchGraph, edge_in, label_at};
+ghost use Rattle.alt_forest.specs.Searches.{edge_in, label_at};
 ghost use Rattle.alt_forest.specs.Trees.{is_label};
-ghost use Rattle.mwpm_engine.specs.Solutions.{Solution, Ends, mate_at, most_steps};
+ghost use Rattle.mwpm_engine.specs.Solutions.{Solution, Ends, mate_at, size_of_graph, most_steps};
 ghost use Rattle.mwpm_engine.specs.Solving.{number_or_none};
 ghost use Rattle.mwpm_engine.specs.declared.outcome.Outcome.TheVariants.{Matched, Barrier};
 
@@ -84,15 +83,15 @@ fn label_of(labels: &[Label], node: NodeId) -> Label
 }
 
 impl Engine {
-    /// An engine for a graph, which it copies. All memory that a run wants is taken here, so an error is
+    /// An engine for a graph within the limits, which it copies. All memory that a run wants is taken here, so an error is
     /// want of memory. It takes time and memory linear in the vertices and edges.
     pub fn new(alloc: Global, graph: &Graph) -> Result<Engine, OutOfMemory>
-        requires graph { IsSearchGraph graph.now }
+        requires limits { IsWithinLimits (size_of_graph graph.now) }
         ensures graph { IfOk result (λ s. s.graph ≡ graph.now) }
         ensures fresh { IfOk result (λ s. s.outcome ≡ None) }
     {
-        let search = Search::new(alloc, graph)?;
         let room = graph.vertices().saturating_sub(1) as usize / 2;
+        let search = Search::new(alloc, graph)?;
         Ok(Engine {
             search,
             outcome: None,
@@ -103,15 +102,16 @@ impl Engine {
     /// Runs the search (chapters 24 and 26): it ends with a perfect matching of least weight or with a
     /// barrier. The graph is the one that the engine was made for. `steps` counts its looks at edges, its
     /// changes of duals and its events: with n vertices and m edges at most (n + 1)(3n + 2)(m + 1). There
-    /// are two passes, of at most n / 2 phases that augment and one that is stuck; a phase has at most
-    /// 3n / 2 events, and before each of these all edges are looked at. It takes no memory.
+    /// are two passes, of at most n / 2 phases that augment, or one that ends with a phase that is stuck; a
+    /// phase has at most 3n / 2 events, and before each of these all edges are looked at. Between the
+    /// passes each edge is looked at twice, for its weight. It takes no memory.
     pub fn run<L: Ledger>(&mut self, graph: &Graph, steps: &mut Steps<L>) -> Outcome
         requires same { graph.now ≡ self.old.graph }
         requires fresh { self.old.outcome ≡ None }
         ensures outcome { self.new.outcome ≡ Some result }
         ensures graph { self.new.graph ≡ self.old.graph }
         ensures ends { Ends self.new result }
-        ensures steps { steps.new ≤ steps.old + most_steps self.old.graph }
+        ensures steps { steps.new ≤ steps.old + most_steps (size_of_graph self.old.graph) }
     {
         let outcome = solve(&mut self.search, graph, steps);
         list_sets(&self.search.arena, &mut self.sets);
@@ -122,7 +122,8 @@ impl Engine {
     /// The edge at a vertex in the perfect matching that was found, in constant time.
     pub fn mate(&self, v: VertexId) -> EdgeId
         requires matched { self.now.outcome ≡ Some Matched }
-        requires vertex { is_vertex self.now.graph.vertices v ≡ true }
+        requires low { 1 ≤ v }
+        requires high { v ≤ self.now.graph.vertices }
         ensures { result ≡ mate_at self.now.mates v }
     {
         edge_or_none(&self.search.mates, v.number())
@@ -131,7 +132,8 @@ impl Engine {
     /// The dual of a vertex, in doubled units, in constant time.
     pub fn dual(&self, v: VertexId) -> i64
         requires matched { self.now.outcome ≡ Some Matched }
-        requires vertex { is_vertex self.now.graph.vertices v ≡ true }
+        requires low { 1 ≤ v }
+        requires high { v ≤ self.now.graph.vertices }
         ensures { result ≡ dual_of self.now.duals v }
     {
         self.search.arena.dual(NodeId::new(v.number()))
@@ -162,7 +164,8 @@ impl Engine {
     /// Whether a vertex is in the barrier that was found, in constant time.
     pub fn in_barrier(&self, v: VertexId) -> bool
         requires barrier { self.now.outcome ≡ Some Barrier }
-        requires vertex { is_vertex self.now.graph.vertices v ≡ true }
+        requires low { 1 ≤ v }
+        requires high { v ≤ self.now.graph.vertices }
         ensures { result ≡ holds self.now.barrier v }
     {
         let node = self.search.arena.outermost(v);

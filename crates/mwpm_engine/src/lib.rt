@@ -9,9 +9,8 @@ mod outcome;
 mod pass;
 mod phase;
 mod solving;
-#[cfg(test)]
-mod tests;
 mod weights;
 
+pub use blossom_arena::Members;
 pub use engine::Engine;
 pub use outcome::Outcome;

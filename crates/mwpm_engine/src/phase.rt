@@ -43,8 +43,13 @@ fn reach<L: Ledger>(search: &mut Search, graph: &Graph, steps: &mut Steps<L>) ->
     Some(event)
 }
 
-/// Makes an event happen. It answers whether that ended the phase: the matching has been augmented.
-fn happen<L: Ledger>(search: &mut Search, graph: &Graph, event: Event, steps: &mut Steps<L>) -> bool
+/// Makes an event perform. It answers whether that ended the phase: the matching has been augmented.
+fn perform<L: Ledger>(
+    search: &mut Search,
+    graph: &Graph,
+    event: Event,
+    steps: &mut Steps<L>,
+) -> bool
     requires growing { IsGrowing search.old }
     requires same { graph.now ≡ search.old.graph }
     requires possible { IsPossible (state_of search.old) event }
@@ -83,7 +88,7 @@ pub(crate) fn phase<L: Ledger>(
 {
     search.plant(root);
     while let Some(event) = reach(search, graph, steps) {
-        let augmented = happen(search, graph, event, steps);
+        let augmented = perform(search, graph, event, steps);
         if augmented {
             return true;
         }

@@ -1,7 +1,7 @@
 ghost use Rattle.std.specs.Prelude.{◌≡◌, ◌≤◌, ◌+◌, ◌*◌, ℕ, true, MatchBool};
 ghost use Rattle.alt_forest.specs.declared.label.Weights.TheVariants.{Given};
 ghost use Rattle.alt_forest.specs.Searches.{HasShape, IsStart};
-ghost use Rattle.mwpm_engine.specs.Solutions.{HasPerfect, most_steps};
+ghost use Rattle.mwpm_engine.specs.Solutions.{HasPerfect, size_of_graph, most_steps};
 ghost use Rattle.mwpm_engine.specs.Solving.{IsUnpacked, HasBoundedDuals};
 ghost use Rattle.mwpm_engine.specs.Passes.{HasStuckTree, Concludes, phase_steps, phases_doubled};
 
@@ -15,7 +15,7 @@ use std::sync::ledger::Ledger;
 use weighted_graph::Graph;
 
 /// A pass from the beginning, whose matching is unpacked; false where a tree is stuck. A pass with
-/// weights is made only where there is a perfect matching: else its duals have no bound.
+/// weights is made only where there is a perfect matching, so it never is: else its duals have no bound.
 fn pass_anew<L: Ledger>(
     search: &mut Search,
     graph: &Graph,
@@ -28,6 +28,7 @@ fn pass_anew<L: Ledger>(
     requires start { IsStart graph.now weights start }
     requires perfect { weights ≡ Given → HasPerfect graph.now }
     ensures ends { MatchBool result (IsUnpacked search.new) (HasStuckTree search.new) }
+    ensures sure { weights ≡ Given → result ≡ true }
     ensures bounded { result ≡ true → HasBoundedDuals search.new }
     ensures shape { HasShape search.new }
     ensures graph { search.new.graph ≡ search.old.graph }
@@ -50,16 +51,15 @@ pub(crate) fn solve<L: Ledger>(search: &mut Search, graph: &Graph, steps: &mut S
     ensures concludes { Concludes search.new result }
     ensures shape { HasShape search.new }
     ensures graph { search.new.graph ≡ search.old.graph }
-    ensures steps { steps.new ≤ steps.old + most_steps graph.now }
+    ensures steps { steps.new ≤ steps.old + most_steps (size_of_graph graph.now) }
 {
     if !pass_anew(search, graph, Weights::Zero, 0, steps) {
         return Outcome::Barrier;
     }
-    if is_unweighted(graph) {
+    if is_unweighted(graph, steps) {
         return Outcome::Matched;
     }
-    if !pass_anew(search, graph, Weights::Given, least_weight(graph), steps) {
-        return Outcome::Barrier;
-    }
+    let start = least_weight(graph, steps);
+    pass_anew(search, graph, Weights::Given, start, steps);
     Outcome::Matched
 }

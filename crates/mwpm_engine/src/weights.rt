@@ -1,19 +1,21 @@
-ghost use Rattle.std.specs.Prelude.{◌≡◌, ◌≤ℤ◌, ℕ, pos, MatchBool};
+ghost use Rattle.std.specs.Prelude.{◌≡◌, ◌≤◌, ◌+◌, ◌≤ℤ◌, ℕ, pos, length, MatchBool};
 ghost use Rattle.graph_theory.specs.Graph.{IsEdgeNumber, IsWeight, edge_of};
 ghost use Rattle.alt_forest.specs.declared.label.Weights.TheVariants.{Given};
-ghost use Rattle.alt_forest.specs.Searches.{IsSearchGraph, IsStart};
+ghost use Rattle.alt_forest.specs.Searches.{IsStart};
 ghost use Rattle.mwpm_engine.specs.Solving.{HasNoWeights, HasWeights};
 
-use mb_base::EdgeId;
+use mb_base::{EdgeId, Steps};
+use std::sync::ledger::Ledger;
 use weighted_graph::Graph;
 
-/// The weight of an edge. It counts no step.
-fn weight_of(graph: &Graph, e: EdgeId) -> i64
+/// The weight of an edge, at one counted look.
+fn weight_of<L: Ledger>(graph: &Graph, e: EdgeId, steps: &mut Steps<L>) -> i64
     requires { IsEdgeNumber graph.now e }
     ensures is { result ≡ (edge_of graph.now e).w }
     ensures weight { IsWeight result }
+    ensures step { steps.new ≡ steps.old + 1 }
 {
-    let (_, _, w) = graph.edge(e);
+    let (_, _, w) = graph.look(e, steps);
     w
 }
 
@@ -31,26 +33,40 @@ fn lesser(one: i64, other: i64) -> i64
     other
 }
 
-/// The least weight of an edge, or 0 where there is no edge.
-pub(crate) fn least_weight(graph: &Graph) -> i64
-    ensures { IsStart graph.now Given result }
+/// The lesser of a weight and of that of an edge, at one counted look.
+fn lesser_of<L: Ledger>(least: i64, graph: &Graph, e: EdgeId, steps: &mut Steps<L>) -> i64
+    requires least { IsWeight least }
+    requires edge { IsEdgeNumber graph.now e }
+    ensures weight { IsWeight result }
+    ensures least { result ≤ℤ least }
+    ensures edge { result ≤ℤ (edge_of graph.now e).w }
+    ensures step { steps.new ≡ steps.old + 1 }
+{
+    lesser(least, weight_of(graph, e, steps))
+}
+
+/// The least weight of an edge, or 0 where there is no edge, at one look for each edge.
+pub(crate) fn least_weight<L: Ledger>(graph: &Graph, steps: &mut Steps<L>) -> i64
+    ensures start { IsStart graph.now Given result }
+    ensures steps { steps.new ≤ steps.old + length graph.now.edges }
 {
     if graph.edges() == 0 {
         return 0;
     }
-    let mut least = weight_of(graph, EdgeId::new(1));
+    let mut least = weight_of(graph, EdgeId::new(1), steps);
     for place in 1..graph.edges() {
-        least = lesser(least, weight_of(graph, EdgeId::new(place + 1)));
+        least = lesser_of(least, graph, EdgeId::new(place + 1), steps);
     }
     least
 }
 
-/// Whether each edge has the weight 0.
-pub(crate) fn is_unweighted(graph: &Graph) -> bool
-    ensures { MatchBool result (HasNoWeights graph.now) (HasWeights graph.now) }
+/// Whether each edge has the weight 0, at one look at most for each edge.
+pub(crate) fn is_unweighted<L: Ledger>(graph: &Graph, steps: &mut Steps<L>) -> bool
+    ensures exact { MatchBool result (HasNoWeights graph.now) (HasWeights graph.now) }
+    ensures steps { steps.new ≤ steps.old + length graph.now.edges }
 {
     for place in 0..graph.edges() {
-        if weight_of(graph, EdgeId::new(place + 1)) != 0 {
+        if weight_of(graph, EdgeId::new(place + 1), steps) != 0 {
             return false;
         }
     }

@@ -10,8 +10,6 @@ use Rattle.std.proofs.lemmas.List.FromFn.{get_or-map-range_with_len}
 use Rattle.graph_theory.specs.declared.edge.Edge.{Edge}
 use Rattle.graph_theory.specs.Graph.{Multigraph, IsGraph, IsEdgeWithin, IsWeight, IsEdgeNumber, edge_of, no_edge}
 use Rattle.graph_theory.specs.Parts.{holds}
-use Rattle.blossom_arena.specs.Family.{is_vertex}
-use Rattle.blossom_arena.proofs.Nested.{range_vertex}
 use Rattle.doc_format.specs.declared.part.CountLine.{CountLine}
 use Rattle.doc_format.specs.Form.{ascends, AscendsBy}
 use Rattle.cert_check.specs.Claims.{count_of, counts_of}
@@ -24,12 +22,6 @@ use Rattle.solve_kinds.proofs.Ascents.{ascends-pos, map-map, map-range-same}
 -- the edge is the one at its first end
 abbrev pub is_in : Multigraph → List ℕ → ℕ → Bool
 is_in g mates e = eqb (mate_at mates (edge_of g e).u) e
-
--- the first end of an edge is a vertex
-pub first_end : (g : Multigraph) (e : ℕ) → IsGraph g → IsEdgeNumber g e → is_vertex g.vertices (edge_of g e).u ≡ true
-first_end g e graph number =
-    let ends : IsEdgeWithin g.vertices (edge_of g e) = All-get_or (IsEdgeWithin g.vertices) g.edges (e - 1) no_edge (omega arith) graph.ends in
-    range_vertex g.vertices (edge_of g e).u ends.u_low ends.u_high
 
 pub weight_within : (g : Multigraph) (e : ℕ) → IsGraph g → IsEdgeNumber g e → IsWeight (edge_of g e).w
 weight_within g e graph number = All-get_or (λ (e : Edge). IsWeight e.w) g.edges (e - 1) no_edge (omega arith) graph.weights

@@ -1,6 +1,5 @@
-ghost use Rattle.std.specs.Prelude.{◌≡◌, ◌≤◌, [], ◌∷◌, ◌++◌, pos, map, if◌then◌else◌, Some, IfOk, OnOk, true};
+ghost use Rattle.std.specs.Prelude.{◌≡◌, ◌≤◌, [], ◌∷◌, ◌++◌, pos, map, if◌then◌else◌, Some, IfOk, OnOk};
 ghost use Rattle.graph_theory.specs.Parts.{holds, IsVertexSet};
-ghost use Rattle.blossom_arena.specs.Family.{is_vertex};
 ghost use Rattle.mwpm_engine.specs.declared.outcome.Outcome.TheVariants.{Barrier};
 
 use crate::members::listed;
@@ -12,7 +11,8 @@ use weighted_graph::Graph;
 /// Puts a vertex at the end where the barrier has it.
 fn push_vertex(vertices: &mut Vec<u32>, engine: &Engine, vertex: u32) -> Result<(), OutOfMemory>
     requires barrier { engine.now.outcome ≡ Some Barrier }
-    requires vertex { is_vertex engine.now.graph.vertices vertex ≡ true }
+    requires low { 1 ≤ vertex }
+    requires high { vertex ≤ engine.now.graph.vertices }
     ensures { OnOk result (vertices.new.items ≡ (if holds engine.now.barrier vertex then vertices.old.items ++ vertex ∷ [] else vertices.old.items)) }
 {
     if !engine.in_barrier(VertexId::new(vertex)) {

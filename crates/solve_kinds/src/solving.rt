@@ -7,7 +7,7 @@ ghost use Rattle.gadget_base.specs.Certified.{IsWithinLimits};
 ghost use Rattle.doc_format.specs.declared.status.DocStatus.TheVariants.{Optimal, Infeasible};
 ghost use Rattle.doc_format.specs.Spelling.{document_text};
 ghost use Rattle.cert_check.specs.Proved.{IsProved};
-ghost use Rattle.mwpm_engine.specs.Solutions.{IsSolved, most_steps};
+ghost use Rattle.mwpm_engine.specs.Solutions.{IsSolved, size_of_graph, most_steps};
 ghost use Rattle.mwpm_engine.specs.declared.outcome.Outcome.TheVariants.{Matched, Barrier};
 ghost use Rattle.solve_kinds.specs.Solved.{ProvesFor, HasTrueStatus, IsShort};
 
@@ -98,7 +98,7 @@ pub fn solve<L: Ledger>(
     ensures proved { IfOk result (IsProved kind instance.now) }
     ensures small { IfOk result (λ d. length (document_text d false) ≤ 50331648) }
     ensures exact { IfOk result (λ d. HasTrueStatus (graph_of instance.now) d.status) }
-    ensures steps { steps.new ≤ steps.old + most_steps (graph_of instance.now) }
+    ensures steps { steps.new ≤ steps.old + most_steps (size_of_graph (graph_of instance.now)) }
 {
     let _ = kind;
     // an instance has at most 65,536 edges, which bounds the weight and the text

@@ -2,7 +2,7 @@ use Rattle.std.proofs.Common.{subst}
 use Rattle.alt_forest.specs.Searches.{state_of}
 use Rattle.alt_forest.specs.Counts.{exposed_count}
 use Rattle.mwpm_engine.specs.Passes.{EndsPhase, phase_steps}
-use Rattle.mwpm_engine.proofs.Happened.{same_through}
+use Rattle.mwpm_engine.proofs.EventBounds.{same_through}
 use Rattle.mwpm_engine.proofs.StepCounts.{augment_paid, stuck_paid, matched_paid}
 use Rattle.mwpm_engine.proofs.pass.pass.Goals as goal
 

@@ -8,7 +8,7 @@ use Rattle.alt_forest.proofs.Places.{nested_of}
 use Rattle.alt_forest.proofs.Counted.{no_roots}
 use Rattle.mwpm_engine.specs.Passes.{IsSamePass, IsReached}
 use Rattle.mwpm_engine.proofs.Reached.{stuck_tree}
-use Rattle.mwpm_engine.proofs.Happened.{still_bounded, same_through}
+use Rattle.mwpm_engine.proofs.EventBounds.{still_bounded, same_through}
 use Rattle.mwpm_engine.proofs.StepCounts.{left_most, phase_begins, round_paid, phase_paid}
 use Rattle.mwpm_engine.proofs.phase.phase.Goals as goal
 
@@ -37,19 +37,19 @@ loop-event-preserved g c =
     let i = c.loop-event.invariant in
     let ends = c.if-augmented.ensures.ends in
     let left = c.reach.ensures.counts.left in
-    let less : measure (state_of c.happen-augmented.new.search) < measure (state_of c.loop-event.search) = omega (arith, ends.2, left) in
+    let less : measure (state_of c.perform-augmented.new.search) < measure (state_of c.loop-event.search) = omega (arith, ends.2, left) in
     record {
       growing = ends.0;
-      same = same_through c.args.search.now c.reach.new.search c.happen-augmented.new.search (same_through c.args.search.now c.loop-event.search c.reach.new.search i.same c.reach.ensures.pass) c.happen-augmented.ensures.pass;
+      same = same_through c.args.search.now c.reach.new.search c.perform-augmented.new.search (same_through c.args.search.now c.loop-event.search c.reach.new.search i.same c.reach.ensures.pass) c.perform-augmented.ensures.pass;
       exposed = ends.1 ∙ c.reach.ensures.counts.exposed ∙ i.exposed;
-      steps = round_paid (length graph.edges + 1) c.args.steps.now (graph.vertices + most_blossoms graph.vertices) (measure (state_of c.loop-event.search)) (measure (state_of c.happen-augmented.new.search)) c.loop-event.steps c.reach.new.steps c.happen-augmented.new.steps
-          i.steps less c.reach.ensures.steps c.happen-augmented.ensures.steps;
+      steps = round_paid (length graph.edges + 1) c.args.steps.now (graph.vertices + most_blossoms graph.vertices) (measure (state_of c.loop-event.search)) (measure (state_of c.perform-augmented.new.search)) c.loop-event.steps c.reach.new.steps c.perform-augmented.new.steps
+          i.steps less c.reach.ensures.steps c.perform-augmented.ensures.steps;
     }
 
 pub returns-then-augmented-clause-steps : goal.returns-then-augmented-clause-steps
 returns-then-augmented-clause-steps g c =
-    let both : c.happen-augmented.new.steps ≤ c.loop-event.steps + 2 * (length c.args.graph.now.edges + 1) = omega (arith, c.reach.ensures.steps, c.happen-augmented.ensures.steps) in
-    phase_paid c.args.graph.now (measure (state_of c.loop-event.search)) c.args.steps.now c.loop-event.steps c.happen-augmented.new.steps c.loop-event.invariant.steps both
+    let both : c.perform-augmented.new.steps ≤ c.loop-event.steps + 2 * (length c.args.graph.now.edges + 1) = omega (arith, c.reach.ensures.steps, c.perform-augmented.ensures.steps) in
+    phase_paid c.args.graph.now (measure (state_of c.loop-event.search)) c.args.steps.now c.loop-event.steps c.perform-augmented.new.steps c.loop-event.invariant.steps both
 
 pub returns-clause-steps : goal.returns-clause-steps
 returns-clause-steps g c =

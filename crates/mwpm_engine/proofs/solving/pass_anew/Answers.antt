@@ -7,6 +7,7 @@ use Rattle.alt_forest.specs.Searches.{IsStart, state_of}
 use Rattle.mwpm_engine.proofs.Anew.{bounded_anew}
 use Rattle.mwpm_engine.proofs.BoundedDuals.{unpacked_within}
 use Rattle.mwpm_engine.proofs.StepCounts.{pass_paid}
+use Rattle.mwpm_engine.proofs.Concluded.{stuck_excludes}
 use Rattle.mwpm_engine.proofs.CertificateRuns.{unpacked}
 use Rattle.mwpm_engine.proofs.solving.pass_anew.Goals as goal
 
@@ -38,3 +39,7 @@ returns-then-not-pass-clause-steps g c = pass_paid c.args.graph.now false (expos
 
 pub returns-clause-steps : goal.returns-clause-steps
 returns-clause-steps g c = pass_paid c.args.graph.now true (exposed_count (state_of c.reset.new.self)) c.args.steps.now c.pass.new.steps (all_exposed c.reset.new.self c.args.graph.now c.reset.ensures.exposed (c.reset.ensures.graph ∙ sym c.requires.same)) c.if-not-pass.ensures.steps
+
+pub returns-then-not-pass-clause-sure : goal.returns-then-not-pass-clause-sure
+returns-then-not-pass-clause-sure g c given =
+    absurd (stuck_excludes c.pass.new.search c.args.graph.now (c.if-not-pass.ensures.pass.graph ∙ c.reset.ensures.graph ∙ sym c.requires.same) c.if-not-pass.ensures.ends (c.requires.perfect given))

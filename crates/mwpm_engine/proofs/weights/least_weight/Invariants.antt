@@ -1,10 +1,11 @@
-use Rattle.std.proofs.Common.{◌≤◌, ℕ, ◌≤ℤ◌}
+use Rattle.std.proofs.Common.{◌≤◌, ◌+◌, ℕ, ◌≤ℤ◌}
 use Rattle.graph_theory.specs.Graph.{IsWeight, edge_of}
 use Rattle.mwpm_engine.proofs.weights.least_weight.Given as goal
 
 abbrev pub invariant-loop-place : goal.invariant-loop-place
-invariant-loop-place l = record {
+invariant-loop-place g l = record {
   started : 1 ≤ l.place;
   weight : IsWeight l.least;
   below : (e : ℕ) → 1 ≤ e → e ≤ l.place → l.least ≤ℤ (edge_of l.graph e).w;
+  steps : l.steps ≤ l.fn.steps + l.place;
 }

@@ -1,6 +1,4 @@
-use Rattle.std.proofs.Common.{◌≡◌, ◌∙◌, true, sym, ap, subst}
-use Rattle.blossom_arena.specs.Family.{is_vertex}
-use Rattle.blossom_arena.proofs.Nested.{vertex_range}
+use Rattle.std.proofs.Common.{◌≡◌, ◌∙◌, ◌≤◌, sym, ap, subst}
 use Rattle.alt_forest.specs.Searches.{edge_in}
 use Rattle.mwpm_engine.specs.Solutions.{Solution, mate_at}
 use Rattle.mwpm_engine.specs.Solving.{number_or_none}
@@ -11,7 +9,6 @@ pub returns : goal.returns
 returns c =
     let s = c.self.inside.search in
     let v = c.args.v in
-    let vertex : is_vertex s.graph.vertices v ≡ true = subst (λ (t : Solution). is_vertex t.graph.vertices v ≡ true) (sym c.self.view_is) c.requires.vertex in
-    let range = vertex_range s.graph.vertices v vertex in
+    let high : v ≤ s.graph.vertices = subst (λ (t : Solution). v ≤ t.graph.vertices) (sym c.self.view_is) c.requires.high in
     c.edge_or_none.ensures ∙ ap (λ xs. number_or_none (edge_in xs c.number.result)) c.deref.ensures.value ∙ ap (λ a. number_or_none (edge_in s.mates.items a)) c.number.ensures
-    ∙ sym (mate_numbers_at (edge_in s.mates.items) s.graph.vertices v range.0 range.1) ∙ ap (λ (t : Solution). mate_at t.mates v) c.self.view_is
+    ∙ sym (mate_numbers_at (edge_in s.mates.items) s.graph.vertices v c.requires.low high) ∙ ap (λ (t : Solution). mate_at t.mates v) c.self.view_is

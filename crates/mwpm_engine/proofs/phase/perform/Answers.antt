@@ -2,8 +2,8 @@ use Rattle.std.proofs.Common.{◌∙◌, ap, subst}
 use Rattle.alt_forest.specs.declared.search.Search.{Search}
 use Rattle.alt_forest.specs.Searches.{state_of}
 use Rattle.dual_change.specs.Changes.{IsPossible}
-use Rattle.mwpm_engine.proofs.Happened.{still_bounded, shrunk_bounded, expanded_bounded}
-use Rattle.mwpm_engine.proofs.phase.happen.Goals as goal
+use Rattle.mwpm_engine.proofs.EventBounds.{still_bounded, shrunk_bounded, expanded_bounded}
+use Rattle.mwpm_engine.proofs.phase.perform.Goals as goal
 
 pub returns-in-Augment-clause-ends : goal.returns-in-Augment-clause-ends
 returns-in-Augment-clause-ends g c =

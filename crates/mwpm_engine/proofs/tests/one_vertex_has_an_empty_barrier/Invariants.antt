@@ -1,4 +1,0 @@
-use Rattle.mwpm_engine.proofs.tests.one_vertex_has_an_empty_barrier.Given as goal
-
-abbrev pub ghosts-is_barred_by : goal.ghosts-is_barred_by
-ghosts-is_barred_by g a = record { name = a.blank.name; parts = a.blank.parts }
