@@ -7,14 +7,14 @@ use Rattle.std.proofs.lemmas.List.Kept.{AllPairs-from_increasing}
 use Rattle.std.proofs.lemmas.List.Elements.{All-nil, All-cons}
 use Rattle.graph_theory.specs.Sums.{int_sum_to}
 use Rattle.graph_theory.specs.declared.edge.Edge.{Edge}
-use Rattle.graph_theory.specs.Graph.{Multigraph, IsGraph, IsEdgeWithin, no_edge, edge_at, IsEdgeNumber, touches, other_end, IsPerfect}
+use Rattle.graph_theory.specs.Graph.{Multigraph, IsGraph, IsEdgeWithin, no_edge, edge_at, touches, other_end, IsPerfect}
 use Rattle.graph_theory.specs.Parts.{holds, crosses}
 use Rattle.graph_theory.specs.Barrier.{IsComponent, IsOddHead, IsOddCount, IsBarrier}
 use Rattle.graph_theory.proofs.SumLemmas.{int_sum_to-same, int_sum_to-le, int_sum_to-add, int_sum_to-zero, int_sum_to-one, int_sum_to-cond, times-le}
 use Rattle.graph_theory.proofs.Handshake.{handshake-perfect}
 use Rattle.graph_theory.proofs.Members.{holds_at, holds_first, members_at_most, same_length}
 use Rattle.graph_theory.proofs.Crossings.{crossings, crosses_odd, crossing_sums}
-use Rattle.graph_theory.proofs.Edges.{edge_of-place, touches-u, touches-v, other_end-u, other_end-v}
+use Rattle.graph_theory.proofs.Edges.{edge_of-place, number_of-place, touches-u, touches-v, other_end-u, other_end-v}
 use Rattle.graph_theory.proofs.Components.{AreApart, component-border, component-within, heads-apart}
 
 -- components of odd size
@@ -51,9 +51,6 @@ cond-le : (t : Bool) (a : ℤ) → a ≤ℤ pos 1 → cond t a (pos 0) ≤ℤ co
 cond-le true a h = h
 cond-le false a h = omega (arith, ints)
 
-place_number : (g : Multigraph) (k : ℕ) → k < length g.edges → IsEdgeNumber g (k + 1)
-place_number g k b = (omega arith, omega arith)
-
 -- the same for the edge at a place, from either end
 border_u : (g : Multigraph) (removed c : List ℕ) (k : ℕ) → IsComponent g removed c → k < length g.edges → holds c (edge_at g k).u ≡ true → holds c (edge_at g k).v ≡ false → holds removed (edge_at g k).v ≡ true
 border_u g removed c k is b inside outside =
@@ -61,7 +58,7 @@ border_u g removed c k is b inside outside =
     let P : Edge → Type 0 = λ x. touches x e.u ≡ true in
     let Q : Edge → Type 0 = λ x. other_end x e.u ≡ e.v in
     let here = sym (edge_of-place g k) in
-    component-border g removed c (k + 1) e.u e.v is (place_number g k b) (subst P here (touches-u e)) (subst Q here (other_end-u e)) inside outside
+    component-border g removed c (k + 1) e.u e.v is (number_of-place g k b) (subst P here (touches-u e)) (subst Q here (other_end-u e)) inside outside
 
 border_v : (g : Multigraph) (removed c : List ℕ) (k : ℕ) → All (IsEdgeWithin g.vertices) g.edges → IsComponent g removed c → k < length g.edges → holds c (edge_at g k).v ≡ true → holds c (edge_at g k).u ≡ false → holds removed (edge_at g k).u ≡ true
 border_v g removed c k ends is b inside outside =
@@ -69,7 +66,7 @@ border_v g removed c k ends is b inside outside =
     let P : Edge → Type 0 = λ x. touches x e.v ≡ true in
     let Q : Edge → Type 0 = λ x. other_end x e.v ≡ e.u in
     let here = sym (edge_of-place g k) in
-    component-border g removed c (k + 1) e.v e.u is (place_number g k b) (subst P here (touches-v e)) (subst Q here (other_end-v g.vertices e (ends k no_edge b))) inside outside
+    component-border g removed c (k + 1) e.v e.u is (number_of-place g k b) (subst P here (touches-v e)) (subst Q here (other_end-v g.vertices e (ends k no_edge b))) inside outside
 
 -- an edge crosses no more components than it has ends in the removed set
 crossed-le : (g : Multigraph) (removed : List ℕ) (cs : List (List ℕ)) (k : ℕ) → All (IsEdgeWithin g.vertices) g.edges → All (IsOddComponent g removed) cs → AllPairs AreApart cs → k < length g.edges → int_sum_to (λ i. cond (crosses (component_at cs i) (edge_at g k)) (pos 1) (pos 0)) (length cs) ≤ℤ (one_if removed (edge_at g k).u +ℤ one_if removed (edge_at g k).v)

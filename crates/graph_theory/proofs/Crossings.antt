@@ -1,13 +1,19 @@
 -- Lemmas on the edges that cross a set of vertices: their number has the parity of the sum of the degrees in the set.
-use Rattle.std.proofs.Common.{◌≡◌, ℕ, ◌+◌, ◌*◌, ◌%◌, ◌≤◌, ℤ, pos, ◌+ℤ◌, ◌*ℤ◌, Bool, true, false, cond, not, refl, sym, ◌∙◌, arith, List, length, slice_index, All}
+use Rattle.std.proofs.Common.{◌≡◌, ℕ, ◌+◌, ◌*◌, ◌%◌, ◌≤◌, ℤ, pos, ◌+ℤ◌, ◌*ℤ◌, Bool, true, false, cond, not, refl, sym, ap₂, ◌∙◌, arith, List, length, slice_index, All}
 use Rattle.std.specs.List.Sorted.{IsStrictlyIncreasing}
 use Rattle.std.proofs.lemmas.Int.{ints}
 use Rattle.graph_theory.specs.Sums.{sum_to, int_sum_to}
 use Rattle.graph_theory.specs.Graph.{Multigraph, IsEdgeWithin, edge_at, degree, IsPerfect}
+use Rattle.graph_theory.specs.declared.edge.Edge.{Edge}
 use Rattle.graph_theory.specs.Parts.{holds, crosses}
+use Rattle.graph_theory.specs.Nested.{AreSame}
 use Rattle.graph_theory.proofs.SumLemmas.{sum_to-same, int_sum_to-same, int_sum_to-add, int_sum_to-swap, int_sum_to-pos, times-int_sum_to, times-cond, cond-times, sum_to-times}
 use Rattle.graph_theory.proofs.Handshake.{handshake}
 use Rattle.graph_theory.proofs.Members.{members_counted}
+
+-- the same vertices in another order are crossed by the same edges
+pub crosses-same : (xs ys : List ℕ) (e : Edge) → AreSame xs ys → crosses xs e ≡ crosses ys e
+crosses-same xs ys e same = ap₂ (λ (p q : Bool). cond p (not q) q) (same e.u) (same e.v)
 
 -- how often the counted edges cross a set
 abbrev pub crossings : Multigraph → List ℕ → List ℕ → ℕ
@@ -28,9 +34,9 @@ cross_or_within true false c = omega (arith, ints)
 cross_or_within false true c = omega (arith, ints)
 cross_or_within false false c = omega (arith, ints)
 
-times-one_if : (t : Bool) (d : ℕ) → pos d *ℤ cond t (pos 1) (pos 0) ≡ pos (cond t d 0)
-times-one_if true d = omega (arith, ints)
-times-one_if false d = omega (arith, ints)
+one_if-times : (t : Bool) (d : ℕ) → pos d *ℤ cond t (pos 1) (pos 0) ≡ pos (cond t d 0)
+one_if-times true d = omega (arith, ints)
+one_if-times false d = omega (arith, ints)
 
 pos-cond : (t : Bool) → pos (cond t 1 0) ≡ cond t (pos 1) (pos 0)
 pos-cond true = refl
@@ -45,7 +51,7 @@ degrees_in_set g counts s ends =
     let across : ℕ → ℕ = λ k. cond (crosses s (edge_at g k)) (slice_index counts k) 0 in
     let held : ℕ → ℕ = λ i. cond (holds s (i + 1)) (degree g counts (i + 1)) 0 in
     let by_vertex = handshake g counts one ends in
-    let at_vertices = int_sum_to-same (λ i. pos (degree g counts (i + 1)) *ℤ one (i + 1)) (λ i. pos (held i)) g.vertices (λ i b. times-one_if (holds s (i + 1)) (degree g counts (i + 1))) in
+    let at_vertices = int_sum_to-same (λ i. pos (degree g counts (i + 1)) *ℤ one (i + 1)) (λ i. pos (held i)) g.vertices (λ i b. one_if-times (holds s (i + 1)) (degree g counts (i + 1))) in
     let parts = int_sum_to-same (λ k. pos (slice_index counts k) *ℤ (one (edge_at g k).u +ℤ one (edge_at g k).v)) (λ k. pos (across k) +ℤ (pos (inside k) +ℤ pos (inside k))) m
     (λ k b. cross_or_within (holds s (edge_at g k).u) (holds s (edge_at g k).v) (slice_index counts k)) in
     let split = int_sum_to-add (λ k. pos (across k)) (λ k. pos (inside k) +ℤ pos (inside k)) m in

@@ -1,18 +1,14 @@
 -- The handshake lemma: what is summed over both ends of each edge is summed over the vertices, each as often as its degree says.
-use Rattle.std.proofs.Common.{◌≡◌, ℕ, ◌+◌, ◌*◌, ℤ, pos, ◌+ℤ◌, ◌*ℤ◌, Bool, true, false, cond, eqb, sym, ◌∙◌, arith, List, length, slice_index, All}
+use Rattle.std.proofs.Common.{◌≡◌, ℕ, ◌+◌, ◌*◌, ℤ, pos, ◌+ℤ◌, ◌*ℤ◌, cond, eqb, sym, ◌∙◌, arith, List, length, slice_index, All}
 use Rattle.std.proofs.lemmas.Int.{ints}
 use Rattle.graph_theory.specs.Sums.{int_sum_to}
 use Rattle.graph_theory.specs.declared.edge.Edge.{Edge}
 use Rattle.graph_theory.specs.Graph.{Multigraph, IsEdgeWithin, no_edge, edge_at, ends_at, degree, IsPerfect}
-use Rattle.graph_theory.proofs.SumLemmas.{int_sum_to-same, int_sum_to-add, int_sum_to-swap, int_sum_to-at_one, times-add, times-times, plus-times, sum_to-times}
+use Rattle.graph_theory.proofs.SumLemmas.{int_sum_to-same, int_sum_to-add, int_sum_to-swap, int_sum_to-at_one, times-add, times-times, plus-times, sum_to-times, times-one_if}
 
 -- an end that is v, or not
-one_end : (t : Bool) (a : ℤ) → pos (cond t 1 0) *ℤ a ≡ cond t a (pos 0)
-one_end true a = omega (arith, ints)
-one_end false a = omega (arith, ints)
-
 two_ends : (e : Edge) (v : ℕ) (a : ℤ) → pos (ends_at e v) *ℤ a ≡ cond (eqb e.u v) a (pos 0) +ℤ cond (eqb e.v v) a (pos 0)
-two_ends e v a = omega (arith, ints, plus-times (cond (eqb e.u v) 1 0) (cond (eqb e.v v) 1 0) a, one_end (eqb e.u v) a, one_end (eqb e.v v) a)
+two_ends e v a = omega (arith, ints, plus-times (cond (eqb e.u v) 1 0) (cond (eqb e.v v) 1 0) a, times-one_if (eqb e.u v) a, times-one_if (eqb e.v v) a)
 
 -- of the vertices 1 to n, the two ends of an edge are counted
 pub over_ends : (f : ℕ → ℤ) (n : ℕ) (e : Edge) → IsEdgeWithin n e → int_sum_to (λ i. pos (ends_at e (i + 1)) *ℤ f (i + 1)) n ≡ f e.u +ℤ f e.v

@@ -1,8 +1,12 @@
 -- Lemmas on the members of lists that stand for sets.
 use Rattle.std.proofs.Common.{◌≡◌, ℕ, zero, suc, ◌+◌, ◌<◌, ◌≤◌, ℤ, pos, ◌+ℤ◌, ◌≤ℤ◌, Bool, true, false, cond, ◌||◌, eqb, refl, ap, sym, ◌∙◌, subst, inl, inr, arith, List, [], ◌∷◌, ◌++◌, length, get_or, slice_index, take, sum_by, All, AllPairs, add-one}
+use Rattle.std.specs.List.{range_with_len}
 use Rattle.std.specs.List.Sorted.{IsStrictlyIncreasing}
+use Rattle.std.proofs.lemmas.List.FromFn.{length-range_with_len, get_or-range_with_len}
 use Rattle.std.proofs.lemmas.Int.{ints}
 use Rattle.std.proofs.lemmas.Bool.{eq-eqb, ne_eqb, eqb-true, or_cases, or_right, cases_eq, false≢true}
+use Rattle.std.proofs.lemmas.Bool.Decides.{nat_tests}
+use Rattle.std.proofs.Math.Bool.{or-false, or_assoc}
 use Rattle.std.proofs.lemmas.Grind.{common_steps}
 use Rattle.std.proofs.lemmas.List.Sums.{sum_by-cons}
 use Rattle.std.proofs.lemmas.List.Kept.{AllPairs-from_increasing}
@@ -40,27 +44,23 @@ pub holds_first : (ms : List ℕ) → 0 < length ms → holds ms (slice_index ms
 holds_first [] h = absurd (omega arith)
 holds_first (m ∷ ms) h = rw (eq-eqb m m refl) refl
 
+-- a number is tested against another from either side
+pub eqb-turned : (a b : ℕ) → eqb a b ≡ eqb b a
+eqb-turned a b = grind (arith, nat_tests)
+
 -- one member more
-
-or_false : (b : Bool) → (b || false) ≡ b
-or_false true = refl
-or_false false = refl
-
-or-assoc : (a b c : Bool) → ((a || b) || c) ≡ (a || (b || c))
-or-assoc true b c = refl
-or-assoc false b c = refl
 
 pub holds-append : (xs ys : List ℕ) (w : ℕ) → holds (xs ++ ys) w ≡ (holds xs w || holds ys w)
 holds-append [] ys w = refl
-holds-append (x ∷ xs) ys w = ap (λ b. eqb x w || b) (holds-append xs ys w) ∙ sym (or-assoc (eqb x w) (holds xs w) (holds ys w))
+holds-append (x ∷ xs) ys w = ap (λ b. eqb x w || b) (holds-append xs ys w) ∙ sym (or_assoc (eqb x w) (holds xs w) (holds ys w))
 
 pub holds-push : (xs : List ℕ) (x w : ℕ) → holds (xs ++ x ∷ []) w ≡ (holds xs w || eqb x w)
-holds-push xs x w = holds-append xs (x ∷ []) w ∙ ap (λ b. holds xs w || b) (or_false (eqb x w))
+holds-push xs x w = holds-append xs (x ∷ []) w ∙ ap (λ b. holds xs w || b) (or-false (eqb x w))
 
 take-suc : (xs : List ℕ) (i w : ℕ) → i < length xs → holds (take (suc i) xs) w ≡ (holds (take i xs) w || eqb (get_or xs i 0) w)
 take-suc [] i w b = absurd (omega arith)
-take-suc (x ∷ xs) zero w b = or_false (eqb x w)
-take-suc (x ∷ xs) (suc i) w b = ap (λ t. eqb x w || t) (take-suc xs i w (omega arith)) ∙ sym (or-assoc (eqb x w) (holds (take i xs) w) (eqb (get_or xs i 0) w))
+take-suc (x ∷ xs) zero w b = or-false (eqb x w)
+take-suc (x ∷ xs) (suc i) w b = ap (λ t. eqb x w || t) (take-suc xs i w (omega arith)) ∙ sym (or_assoc (eqb x w) (holds (take i xs) w) (eqb (get_or xs i 0) w))
 
 pub holds-take : (xs : List ℕ) (i w : ℕ) → i < length xs → holds (take (i + 1) xs) w ≡ (holds (take i xs) w || eqb (get_or xs i 0) w)
 holds-take xs i w b = rw add-one (take-suc xs i w b)
@@ -178,7 +178,7 @@ members_at_most n (m ∷ ms) =
     let both = int_sum_to-add (λ i. cond (eqb m (i + 1)) (pos 1) (pos 0)) (λ i. cond (holds ms (i + 1)) (pos 1) (pos 0)) n in
     omega (arith, ints, parts, both, one_at_most m n, members_at_most n ms)
 
-same_tests : (a b : Bool) → (a ≡ true → b ≡ true) → (b ≡ true → a ≡ true) → a ≡ b
+pub same_tests : (a b : Bool) → (a ≡ true → b ≡ true) → (b ≡ true → a ≡ true) → a ≡ b
 same_tests a b f h = grind arith
 
 -- ascending lists of vertices with the same members have the same length
@@ -222,3 +222,11 @@ same_by_pairs (x ∷ xs) (y ∷ ys) up_x up_y to from =
 
 pub same_list : (xs ys : List ℕ) → IsStrictlyIncreasing xs → IsStrictlyIncreasing ys → ((v : ℕ) → holds xs v ≡ true → holds ys v ≡ true) → ((v : ℕ) → holds ys v ≡ true → holds xs v ≡ true) → xs ≡ ys
 same_list xs ys up_x up_y to from = same_by_pairs xs ys (AllPairs-from_increasing xs up_x) (AllPairs-from_increasing ys up_y) to from
+
+-- the vertices 1 to n
+pub range-ascending : (n : ℕ) → IsStrictlyIncreasing (range_with_len 1 n)
+range-ascending n k h =
+    let long : length (range_with_len 1 n) ≡ n = length-range_with_len 1 n in
+    let here : get_or (range_with_len 1 n) k 0 ≡ 1 + k = get_or-range_with_len 1 n k 0 (omega arith) in
+    let next : get_or (range_with_len 1 n) (k + 1) 0 ≡ 1 + (k + 1) = get_or-range_with_len 1 n (k + 1) 0 (omega arith) in
+    omega arith

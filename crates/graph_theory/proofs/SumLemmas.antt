@@ -150,6 +150,14 @@ pub cond-times : (t : Bool) (c : ℕ) (b : ℤ) → pos (cond t c 0) *ℤ b ≡ 
 cond-times true c b = refl
 cond-times false c b = omega (arith, ints)
 
+pub times-one_if : (t : Bool) (b : ℤ) → pos (cond t 1 0) *ℤ b ≡ cond t b (pos 0)
+times-one_if true b = omega (arith, ints)
+times-one_if false b = omega (arith, ints)
+
+pub one_if-most : (t : Bool) → cond t 1 0 ≤ 1
+one_if-most true = omega arith
+one_if-most false = omega arith
+
 pub times-cond : (t : Bool) (c : ℕ) (b : ℤ) → pos c *ℤ cond t b (pos 0) ≡ cond t (pos c *ℤ b) (pos 0)
 times-cond true c b = refl
 times-cond false c b = omega (arith, ints)

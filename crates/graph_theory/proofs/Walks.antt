@@ -136,7 +136,7 @@ weight-reverse g (e ∷ es) =
 
 -- a set that no edge leaves
 
-same_side : (p q : Bool) → cond p (not q) q ≡ false → p ≡ q
+pub same_side : (p q : Bool) → cond p (not q) q ≡ false → p ≡ q
 same_side true true h = refl
 same_side true false h = h
 same_side false true h = sym h
