@@ -1,12 +1,14 @@
 -- Lemmas on a pass over the edges at a vertex, which adds a dual at those that lead out of the marks.
 use Rattle.std.proofs.Common.{◌≡◌, ◌≢◌, ◌∙◌, sym, ap, subst, refl, inl, inr, arith, ℕ, ◌+◌, ◌<◌, ◌≤◌, ℤ, pos, ◌+ℤ◌, Bool, true, false, not, cond, eqb, ◌||◌, ◌&&◌, List, length, get_or, set, take, get_or-set_same, get_or-set_other, length-set}
+use Rattle.std.proofs.Math.Bool.{and-false}
 use Rattle.std.proofs.lemmas.Int.{ints}
 use Rattle.std.proofs.lemmas.Bool.{cases_eq, eq-eqb, ne_eqb}
 use Rattle.std.proofs.lemmas.List.{get_or_read}
 use Rattle.graph_theory.specs.Graph.{Multigraph, IsEdgeNumber, edge_of, edges_around, touches, other_end}
 use Rattle.graph_theory.specs.Parts.{holds}
 use Rattle.dual_check.specs.Crossed.{is_marked, leads_out, total_of}
-use Rattle.dual_check.proofs.EdgeLists.{below-is, below-has, below-ascending, fresh, holds_at, holds-take}
+use Rattle.graph_theory.proofs.Members.{holds-take, not_before}
+use Rattle.graph_theory.proofs.Around.{around-at, around-has, around-ascending}
 
 -- p is the edge at place i of the list of the edges at v, and none before it is the same
 pub record IsNext (g : Multigraph) (v : ℕ) (xs : List ℕ) (i p : ℕ) : Type 0 where
@@ -19,8 +21,8 @@ pub record IsNext (g : Multigraph) (v : ℕ) (xs : List ℕ) (i p : ℕ) : Type 
 at_place : (g : Multigraph) (v i : ℕ) → i < length (edges_around g v) → IsNext g v (edges_around g v) i (get_or (edges_around g v) i 0)
 at_place g v i b =
     let ys = edges_around g v in
-    let r = below-is g v (length g.edges) (get_or ys i 0) (holds_at ys i 0 b) in
-    record { low = r.low; high = r.high; meets = r.meets; new = fresh ys i (below-ascending g v (length g.edges)) b; here = refl }
+    let r = around-at g v i 0 b in
+    record { low = r.0.0; high = r.0.1; meets = r.1; new = not_before ys i (around-ascending g v) b; here = refl }
 
 pub next_edge : (g : Multigraph) (v : ℕ) (xs : List ℕ) (i p : ℕ) → xs ≡ edges_around g v → i < length xs → p ≡ get_or xs i p → IsNext g v xs i p
 next_edge g v xs i p is b at =
@@ -93,14 +95,10 @@ passed_next g marks v xs i p dual old now new next b marked is so =
     (λ e differ. ap (λ (ts : List ℤ). total_of ts e) is)
     so
 
-and_false : (b : Bool) → (b && false) ≡ false
-and_false true = refl
-and_false false = refl
-
 -- of the edges that lead out from v none is missing at the end of the list
 pub all_edges : (g : Multigraph) (marks : List Bool) (v : ℕ) (xs : List ℕ) (e : ℕ) → xs ≡ edges_around g v → IsEdgeNumber g e → (holds xs e && leads_out marks v (edge_of g e)) ≡ leads_out marks v (edge_of g e)
 all_edges g marks v xs e is b = go (touches (edge_of g e) v) refl
   where
     go : (t : Bool) → touches (edge_of g e) v ≡ t → (holds xs e && leads_out marks v (edge_of g e)) ≡ leads_out marks v (edge_of g e)
-    go true t = let has = subst (λ (zs : List ℕ). holds zs e ≡ true) (sym is) (below-has g v (length g.edges) e (record { low = b.0; high = b.1; meets = t })) in ap (λ h. h && leads_out marks v (edge_of g e)) has
-    go false t = let out : leads_out marks v (edge_of g e) ≡ false = ap (λ h. h && not (is_marked marks (other_end (edge_of g e) v))) t in ap (λ o. holds xs e && o) out ∙ and_false (holds xs e) ∙ sym out
+    go true t = let has = subst (λ (zs : List ℕ). holds zs e ≡ true) (sym is) (around-has g v e b t) in ap (λ h. h && leads_out marks v (edge_of g e)) has
+    go false t = let out : leads_out marks v (edge_of g e) ≡ false = ap (λ h. h && not (is_marked marks (other_end (edge_of g e) v))) t in ap (λ o. holds xs e && o) out ∙ and-false (holds xs e) ∙ sym out

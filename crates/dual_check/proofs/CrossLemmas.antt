@@ -1,7 +1,7 @@
 -- Lemmas on what crosses sets.
-use Rattle.std.proofs.Common.{◌≡◌, ◌∙◌, sym, ap, ap₂, subst, refl, inl, inr, arith, ℕ, zero, suc, ◌+◌, ◌-◌, ◌*◌, ◌^◌, ◌<◌, ◌≤◌, ℤ, pos, neg_ℤ, ◌+ℤ◌, ◌-ℤ◌, ◌*ℤ◌, ◌≤ℤ◌, Bool, true, false, not, cond, eqb, ◌||◌, ◌&&◌, List, length, get_or, take, All, slice_index_or}
+use Rattle.std.proofs.Common.{◌≡◌, ◌∙◌, sym, ap, ap₂, subst, refl, arith, ℕ, zero, suc, ◌+◌, ◌-◌, ◌<◌, ◌≤◌, ℤ, pos, neg_ℤ, ◌+ℤ◌, ◌-ℤ◌, ◌*ℤ◌, ◌≤ℤ◌, Bool, true, false, not, cond, eqb, ◌||◌, ◌&&◌, List, length, get_or, take, All}
 use Rattle.std.proofs.lemmas.Int.{ints}
-use Rattle.std.proofs.lemmas.Bool.{false≢true, eqb-true, cases_eq, eq-eqb, ne_eqb}
+use Rattle.std.proofs.lemmas.Bool.{false≢true, eqb-true}
 use Rattle.std.specs.List.Sorted.{IsStrictlyIncreasing}
 use Rattle.graph_theory.specs.declared.edge.Edge.{Edge}
 use Rattle.graph_theory.specs.declared.odd_set.OddSet.{OddSet}
@@ -9,16 +9,15 @@ use Rattle.graph_theory.specs.Graph.{Multigraph, edge_at, edge_of, other_end}
 use Rattle.graph_theory.specs.Parts.{crosses, holds}
 use Rattle.graph_theory.specs.Duals.{crossed_by, set_at, no_set, IsNumber, dual_of, slack}
 use Rattle.dual_check.specs.Crossed.{is_marked, leads_out}
-use Rattle.std.proofs.lemmas.List.{get_or_read}
-use Rattle.dual_check.proofs.SumSteps.{int_sum_to-more}
-use Rattle.dual_check.proofs.EdgeLists.{fresh, holds_at, holds-take, holds-of_take}
+use Rattle.graph_theory.specs.declared.limits.TheConstants.{NUMBER_LIMIT}
+use Rattle.graph_theory.proofs.Members.{eqb-turned, holds_at, holds-take, holds-of_take, not_before}
 
-either : (t : Bool) (a : ℤ) → IsNumber a → (neg_ℤ (pos (10 ^ 15)) ≤ℤ cond t a (pos 0)) × (cond t a (pos 0) ≤ℤ pos (10 ^ 15))
+either : (t : Bool) (a : ℤ) → IsNumber a → (neg_ℤ NUMBER_LIMIT ≤ℤ cond t a (pos 0)) × (cond t a (pos 0) ≤ℤ NUMBER_LIMIT)
 either true a h = h
 either false a h = (omega (arith, ints), omega (arith, ints))
 
 -- the first n sets give an edge at most n times what one may
-pub crossed-within : (sets : List OddSet) (n : ℕ) (e : Edge) → n ≤ length sets → All (λ s. IsNumber s.dual) sets → (neg_ℤ (pos (10 ^ 15 * n)) ≤ℤ crossed_by sets n e) × (crossed_by sets n e ≤ℤ pos (10 ^ 15 * n))
+pub crossed-within : (sets : List OddSet) (n : ℕ) (e : Edge) → n ≤ length sets → All (λ s. IsNumber s.dual) sets → ((neg_ℤ NUMBER_LIMIT *ℤ pos n) ≤ℤ crossed_by sets n e) × (crossed_by sets n e ≤ℤ (NUMBER_LIMIT *ℤ pos n))
 crossed-within sets zero e b small = (omega (arith, ints), omega (arith, ints))
 crossed-within sets (suc n) e b small =
     let r = crossed-within sets n e (omega arith) small in
@@ -56,13 +55,7 @@ is_member : (s : List ℕ) (i v : ℕ) → i < length s → eqb v (get_or s i 0)
 is_member s i v b same = subst (λ (w : ℕ). holds s w ≡ true) (sym (eqb-true v (get_or s i 0) same)) (holds_at s i 0 b)
 
 is_fresh : (s : List ℕ) (i v : ℕ) → IsStrictlyIncreasing s → i < length s → eqb v (get_or s i 0) ≡ true → holds (take i s) v ≡ false
-is_fresh s i v up b same = subst (λ (w : ℕ). holds (take i s) w ≡ false) (sym (eqb-true v (get_or s i 0) same)) (fresh s i up b)
-
-turned : (a b : ℕ) → eqb a b ≡ eqb b a
-turned a b = elim (cases_eq a b) [
-  | inl e ↦ eq-eqb a b e ∙ sym (eq-eqb b a (sym e))
-  | inr d ↦ ne_eqb a b d ∙ sym (ne_eqb b a (λ same. d (sym same)))
-]
+is_fresh s i v up b same = subst (λ (w : ℕ). holds (take i s) w ≡ false) (sym (eqb-true v (get_or s i 0) same)) (not_before s i up b)
 
 end_held : (s : List ℕ) (t : Bool) (v u : ℕ) → holds s (cond t v u) ≡ cond t (holds s v) (holds s u)
 end_held s true v u = refl
@@ -75,7 +68,7 @@ next_member s marks i e dual up b marked =
     let x = get_or s i 0 in
     let u = e.u in
     let v = e.v in
-    let more : (w : ℕ) → holds (take (i + 1) s) w ≡ (holds (take i s) w || eqb w x) = λ w. holds-take s i w b ∙ ap (λ t. holds (take i s) w || t) (turned x w) in
+    let more : (w : ℕ) → holds (take (i + 1) s) w ≡ (holds (take i s) w || eqb w x) = λ w. holds-take s i w b ∙ ap (λ t. holds (take i s) w || t) (eqb-turned x w) in
     let front : given_by s (i + 1) e dual ≡ cond (crosses s e && ((holds (take i s) u || eqb u x) || (holds (take i s) v || eqb v x))) dual (pos 0) = ap₂ (λ p q. cond (crosses s e && (p || q)) dual (pos 0)) (more u) (more v) in
     let other : is_marked marks (other_end e x) ≡ cond (eqb u x) (holds s v) (holds s u) = marked (other_end e x) ∙ end_held s (eqb u x) v u in
     let back : cond ((eqb u x || eqb v x) && not (cond (eqb u x) (holds s v) (holds s u))) dual (pos 0) ≡ cond (leads_out marks x e) dual (pos 0) = ap (λ t. cond ((eqb u x || eqb v x) && not t) dual (pos 0)) (sym other) in
@@ -96,12 +89,6 @@ crossed_some false false = refl
 
 pub all_members : (s : List ℕ) (e : Edge) → (crosses s e && (holds s e.u || holds s e.v)) ≡ crosses s e
 all_members s e = crossed_some (holds s e.u) (holds s e.v)
-
--- one more set
-pub crossed_by-more : (sets : List OddSet) (i : ℕ) (s : OddSet) (e : Edge) → i < length sets → s ≡ slice_index_or sets i s → crossed_by sets (i + 1) e ≡ crossed_by sets i e +ℤ cond (crosses s.members e) s.dual (pos 0)
-crossed_by-more sets i s e b is =
-    int_sum_to-more (λ j. cond (crosses (set_at sets j).members e) (set_at sets j).dual (pos 0)) i
-    ∙ ap (λ (t : OddSet). crossed_by sets i e +ℤ cond (crosses t.members e) t.dual (pos 0)) (sym (get_or_read sets i s b is no_set))
 
 -- the slack of the edge at place k, from what is added up at its number
 pub slack_is : (g : Multigraph) (y : List ℤ) (sets : List OddSet) (k : ℕ) (e : Edge) (total result : ℤ) → edge_at g k ≡ e → total ≡ crossed_by sets (length sets) (edge_of g (k + 1))

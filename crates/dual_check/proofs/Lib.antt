@@ -1,4 +1,2 @@
-pub mod SumSteps
-pub mod EdgeLists
 pub mod CrossLemmas
 pub mod AddLemmas

@@ -1,4 +1,4 @@
-ghost use Rattle.std.specs.Prelude.{◌≡◌, ℕ, ◌*◌, ◌^◌, List, length, ℤ, pos, neg_ℤ, ◌*ℤ◌, ◌≤ℤ◌, All, IfOk, IfErr, OnOk, slice_index_or};
+ghost use Rattle.std.specs.Prelude.{◌≡◌, ℕ, List, length, ℤ, pos, neg_ℤ, ◌*ℤ◌, ◌≤ℤ◌, All, IfOk, IfErr, OnOk, slice_index_or};
 ghost use Rattle.graph_theory.specs.Sums.{int_sum_to};
 ghost use Rattle.graph_theory.specs.Graph.{IsPerfect, weight};
 ghost use Rattle.graph_theory.specs.Duals.{AreDuals, IsNumber, IsSetWithin, dual_value};
@@ -8,7 +8,7 @@ use crate::crossings::crossed_all;
 use crate::fault::DualFault;
 use crate::sets::{first_set_fault, set_total};
 use crate::slacks::first_slack_fault;
-use graph_theory::OddSet;
+use graph_theory::{NUMBER_LIMIT, OddSet};
 use std::alloc::Global;
 use weighted_graph::Graph;
 
@@ -16,8 +16,8 @@ use weighted_graph::Graph;
 fn vertex_total(y: &[i64]) -> i128
     requires { All IsNumber y.now }
     ensures value { result ≡ int_sum_to (λ k. slice_index_or y.now k (pos 0)) (length y.now) }
-    ensures low { neg_ℤ (pos (10 ^ 15 * length y.now)) ≤ℤ result }
-    ensures high { result ≤ℤ pos (10 ^ 15 * length y.now) }
+    ensures low { (neg_ℤ NUMBER_LIMIT *ℤ pos (length y.now)) ≤ℤ result }
+    ensures high { result ≤ℤ (NUMBER_LIMIT *ℤ pos (length y.now)) }
 {
     let mut total = 0;
     for a in y {
@@ -47,9 +47,7 @@ pub fn bound(alloc: Global, graph: &Graph, y: &[i64], sets: &[OddSet]) -> Result
     if let Some(number) = first_set_fault(sets) {
         return Err(DualFault::SetForm(number));
     }
-    let Ok(totals) = crossed_all(alloc, graph, sets) else {
-        return Err(DualFault::OutOfMemory);
-    };
+    let totals = crossed_all(alloc, graph, sets)?;
     if let Some(e) = first_slack_fault(graph, y, sets, &totals) {
         return Err(DualFault::Slack(e));
     }

@@ -10,8 +10,6 @@ mod fault;
 mod marks;
 mod sets;
 mod slacks;
-#[cfg(test)]
-mod tests;
 
 pub use barrier::is_barrier;
 pub use duals::bound;

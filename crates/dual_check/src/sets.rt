@@ -1,10 +1,10 @@
-ghost use Rattle.std.specs.Prelude.{◌≡◌, ◌*◌, ◌^◌, ◌↔◌, length, pos, neg_ℤ, ◌≤ℤ◌, All, IsTrue, MatchOption};
+ghost use Rattle.std.specs.Prelude.{◌≡◌, ◌*ℤ◌, ◌↔◌, length, pos, neg_ℤ, ◌≤ℤ◌, All, IsTrue, MatchOption};
 ghost use Rattle.std.specs.List.Sorted.{IsStrictlyIncreasing};
 ghost use Rattle.graph_theory.specs.Sums.{int_sum_to};
 ghost use Rattle.graph_theory.specs.Duals.{HasForm, IsNumber, set_at};
 ghost use Rattle.dual_check.specs.Fault.{IsFirstSetFault};
 
-use graph_theory::OddSet;
+use graph_theory::{NUMBER_LIMIT, OddSet};
 use mb_base::VertexId;
 
 fn is_ascending(members: &[VertexId]) -> bool
@@ -40,8 +40,8 @@ pub(crate) fn first_set_fault(sets: &[OddSet]) -> Option<u64>
 pub(crate) fn set_total(sets: &[OddSet]) -> i128
     requires { All (λ s. IsNumber s.dual) sets.now }
     ensures value { result ≡ int_sum_to (λ j. (set_at sets.now j).dual) (length sets.now) }
-    ensures low { neg_ℤ (pos (10 ^ 15 * length sets.now)) ≤ℤ result }
-    ensures high { result ≤ℤ pos (10 ^ 15 * length sets.now) }
+    ensures low { (neg_ℤ NUMBER_LIMIT *ℤ pos (length sets.now)) ≤ℤ result }
+    ensures high { result ≤ℤ (NUMBER_LIMIT *ℤ pos (length sets.now)) }
 {
     let mut total = 0;
     for set in sets {

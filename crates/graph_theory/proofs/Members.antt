@@ -8,6 +8,7 @@ use Rattle.std.proofs.lemmas.Bool.{eq-eqb, ne_eqb, eqb-true, or_cases, or_right,
 use Rattle.std.proofs.lemmas.Bool.Decides.{nat_tests}
 use Rattle.std.proofs.Math.Bool.{or-false, or_assoc}
 use Rattle.std.proofs.lemmas.Grind.{common_steps}
+use Rattle.std.proofs.lemmas.List.{get_or-take}
 use Rattle.std.proofs.lemmas.List.Sums.{sum_by-cons}
 use Rattle.std.proofs.lemmas.List.Kept.{AllPairs-from_increasing}
 use Rattle.std.proofs.lemmas.List.Elements.{All-tail, All-head}
@@ -64,6 +65,14 @@ take-suc (x ∷ xs) (suc i) w b = ap (λ t. eqb x w || t) (take-suc xs i w (omeg
 
 pub holds-take : (xs : List ℕ) (i w : ℕ) → i < length xs → holds (take (i + 1) xs) w ≡ (holds (take i xs) w || eqb (get_or xs i 0) w)
 holds-take xs i w b = rw add-one (take-suc xs i w b)
+
+-- a member that is taken is one
+pub holds-of_take : (xs : List ℕ) (i w : ℕ) → holds (take i xs) w ≡ true → holds xs w ≡ true
+holds-of_take xs i w h =
+    let p = holds_place (take i xs) w h in
+    let short : (p.0 < i) × (p.0 < length xs) = grind (arith, p.1, common_steps) in
+    let here : get_or (take i xs) p.0 0 ≡ get_or xs p.0 0 = get_or-take i xs p.0 0 short.0 in
+    subst (λ (v : ℕ). holds xs v ≡ true) (sym here ∙ p.2) (holds_at xs p.0 0 short.1)
 
 -- ascending lists
 

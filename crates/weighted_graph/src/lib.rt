@@ -6,8 +6,6 @@
 
 mod graph;
 mod incidence;
-#[cfg(test)]
-mod tests;
 
 pub use graph::Graph;
 pub use incidence::Incidence;

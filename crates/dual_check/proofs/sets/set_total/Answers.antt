@@ -3,7 +3,7 @@ use Rattle.std.proofs.lemmas.Int.{ints}
 use Rattle.std.proofs.lemmas.List.{get_or_read}
 use Rattle.graph_theory.specs.declared.odd_set.OddSet.{OddSet}
 use Rattle.graph_theory.specs.Duals.{IsNumber, set_at, no_set}
-use Rattle.dual_check.proofs.SumSteps.{int_sum_to-more}
+use Rattle.graph_theory.proofs.SumLemmas.{int_sum_to-more}
 use Rattle.dual_check.proofs.sets.set_total.Goals as goal
 
 pub loop-set-preserved : goal.loop-set-preserved
