@@ -10,6 +10,7 @@ use Rattle.graph_theory.specs.Parts.{holds, IsVertexSet}
 use Rattle.graph_theory.proofs.Members.{holds_place, holds_at, all_holds, first_less, pairs_tail}
 use Rattle.blossom_arena.specs.Family.{is_vertex}
 use Rattle.blossom_arena.proofs.Lists.{AllNew, holds-filter, first_in, later_in}
+use Rattle.blossom_arena.proofs.Forms.{new_by_pairs}
 use Rattle.blossom_arena.proofs.Nested.{vertex_range, range_vertex}
 
 pub range_ascends : (n : ℕ) → IsStrictlyIncreasing (range_with_len 1 n)
@@ -48,12 +49,8 @@ picked_set n p = record {
 }
 
 -- none stands twice in an ascending list
-new_from_pairs : (xs : List ℕ) → AllPairs (λ x y. x < y) xs → AllNew xs
-new_from_pairs [] up = tt
-new_from_pairs (x ∷ xs) up = (false_from_ne_true (holds xs x) (λ h. let less : x < x = first_less x xs x up h in absurd (omega (arith, less))), new_from_pairs xs (pairs_tail x xs up))
-
 pub new_from_ascending : (xs : List ℕ) → IsStrictlyIncreasing xs → AllNew xs
-new_from_ascending xs up = new_from_pairs xs (AllPairs-from_increasing xs up)
+new_from_ascending xs up = new_by_pairs xs (AllPairs-from_increasing xs up)
 
 -- what a function makes of the numbers of a list
 pub holds-map : (f : ℕ → ℕ) (xs : List ℕ) (y : ℕ) → holds (map f xs) y ≡ true → (x : ℕ) × (holds xs x ≡ true) × (f x ≡ y)

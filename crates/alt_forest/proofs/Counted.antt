@@ -2,6 +2,7 @@
 use Rattle.std.proofs.Common.{◌≡◌, ◌≢◌, ℕ, zero, suc, ◌+◌, ◌-◌, ◌<◌, ◌≤◌, Bool, true, false, not, ◌&&◌, ◌||◌, eqb, cond, List, [], Option, Some, None, refl, sym, ap, ap₂, ◌∙◌, arith}
 use Rattle.std.specs.Prelude.{is_some}
 use Rattle.std.proofs.lemmas.Bool.{both_ways, eqb-true, eqb-false, ne_eqb, and_parts, and_from}
+use Rattle.std.proofs.Math.Bool.{and-false}
 use Rattle.graph_theory.specs.Sums.{sum_to}
 use Rattle.graph_theory.proofs.SumLemmas.{sum_to-same, sum_to-le, sum_to-add, sum_to-zero, sum_to-one, sum_to-append, sum_to-at_one, sum_to-has}
 use Rattle.graph_theory.specs.Nested.{most_blossoms}
@@ -69,21 +70,17 @@ two_pass p n a b a_low a_high b_low b_high ne pa pb =
 none_pass : (p : ℕ → Bool) (n : ℕ) → ((a : ℕ) → p a ≡ false) → count_to p n ≡ 0
 none_pass p n h = sum_to-same (λ i. one_if (p (i + 1))) (λ _. 0) n (λ i _. ap one_if (h (i + 1))) ∙ sum_to-zero n
 
-and_none : (q : Bool) → (q && false) ≡ false
-and_none true = refl
-and_none false = refl
-
-free : (o : Option ℕ) → not (is_some o) ≡ true → o ≡ None
+pub free : (o : Option ℕ) → not (is_some o) ≡ true → o ≡ None
 free None e = refl
 free (Some x) e = absurd (both_ways false refl e)
 
 -- a root passes its test, and what passes is a root
-root_passes : (s : State) (a : ℕ) → IsRoot s a → is_root s a ≡ true
+pub root_passes : (s : State) (a : ℕ) → IsRoot s a → is_root s a ≡ true
 root_passes s a r =
     and_from (is_outermost s.graph.vertices s.blossoms a) (is_label (s.label a) Outer && not (is_some (s.mate a))) r.outermost
     (and_from (is_label (s.label a) Outer) (not (is_some (s.mate a))) (ap (λ l. is_label l Outer) r.outer) (ap (λ o. not (is_some o)) r.exposed))
 
-passing_root : (s : State) (a : ℕ) → is_root s a ≡ true → IsRoot s a
+pub passing_root : (s : State) (a : ℕ) → is_root s a ≡ true → IsRoot s a
 passing_root s a e =
     let p = and_parts (is_outermost s.graph.vertices s.blossoms a) (is_label (s.label a) Outer && not (is_some (s.mate a))) e in
     let q = and_parts (is_label (s.label a) Outer) (not (is_some (s.mate a))) p.1 in
@@ -126,7 +123,7 @@ one_more s v nested x was_out =
         (λ e. let same : v ≡ a = eqb-true v a e in
         let now : one_if (is_root (with_labels s (put s.label v Outer)) a) ≡ 1 = ap (λ k. one_if (is_root (with_labels s (put s.label v Outer)) k)) (sym same)
         ∙ ap one_if (root_passes (with_labels s (put s.label v Outer)) v (record { outermost = x.0; outer = put_here s.label v Outer; exposed = x.1 })) in
-        let before : one_if (is_root s a) ≡ 0 = ap (λ k. one_if (is_root s k)) (sym same) ∙ ap (λ l. one_if (is_outermost s.graph.vertices s.blossoms v && (is_label l Outer && not (is_some (s.mate v))))) was_out ∙ ap one_if (and_none (is_outermost s.graph.vertices s.blossoms v)) in
+        let before : one_if (is_root s a) ≡ 0 = ap (λ k. one_if (is_root s k)) (sym same) ∙ ap (λ l. one_if (is_outermost s.graph.vertices s.blossoms v && (is_label l Outer && not (is_some (s.mate v))))) was_out ∙ ap one_if (and-false (is_outermost s.graph.vertices s.blossoms v)) in
         let one : one_if (eqb v a) ≡ 1 = ap one_if e in
         omega (arith, now, before, one))
         (λ e. let zero_v : one_if (eqb v a) ≡ 0 = ap one_if e in
@@ -136,7 +133,7 @@ one_more s v nested x was_out =
 
 -- no root where no node is in a tree
 pub no_roots : (s : State) → ((a : ℕ) → s.label a ≡ Out) → tree_count s ≡ 0
-no_roots s out = none_pass (is_root s) (node_limit s.graph.vertices) (λ a. ap (λ l. is_outermost s.graph.vertices s.blossoms a && (is_label l Outer && not (is_some (s.mate a)))) (out a) ∙ and_none (is_outermost s.graph.vertices s.blossoms a))
+no_roots s out = none_pass (is_root s) (node_limit s.graph.vertices) (λ a. ap (λ l. is_outermost s.graph.vertices s.blossoms a && (is_label l Outer && not (is_some (s.mate a)))) (out a) ∙ and-false (is_outermost s.graph.vertices s.blossoms a))
 
 -- where there is no blossom and no mate, each vertex is exposed
 pub all_exposed : (s : State) → s.blossoms ≡ [] → ((a : ℕ) → s.mate a ≡ None) → exposed_count s ≡ s.graph.vertices

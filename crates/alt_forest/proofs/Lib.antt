@@ -1,7 +1,9 @@
 pub mod Places
+pub mod Tight
 pub mod Relabelled
 pub mod Fresh
 pub mod Walk
+pub mod Mates
 pub mod Paths
 pub mod Routes
 pub mod Forks
@@ -9,7 +11,10 @@ pub mod Totals
 pub mod Certified
 pub mod Parity
 pub mod Roots
+pub mod Hops
+pub mod Rounds
 pub mod Ascending
 pub mod Pairs
 pub mod Balance
 pub mod Counted
+pub mod Puts

@@ -1,15 +1,13 @@
 -- A state with other labels: a new root is planted, or all trees are cleared away.
 use Rattle.std.proofs.Common.{◌≡◌, ◌≢◌, ◌⊎◌, ◌↔◌, ℕ, eqb, cond, List, [], ◌∷◌, Option, Some, None, refl, sym, ap, ◌∙◌, subst, ⊎_elim, inl, inr}
-use Rattle.std.specs.List.{AllByRecursion}
 use Rattle.std.proofs.lemmas.Bool.{eqb-true, eqb-false, eq-eqb, ne_eqb}
-use Rattle.blossom_arena.specs.declared.links.Link.{Link}
-use Rattle.blossom_arena.specs.Family.{Blossom}
 use Rattle.blossom_arena.proofs.Lists.{by_test}
 use Rattle.alt_forest.specs.declared.label.Label.{Label}
 use Rattle.alt_forest.specs.declared.label.Label.TheVariants.{Outer, Inner, Out}
-use Rattle.alt_forest.specs.State.{State, IsOutermost, IsTight, IsMate, IsInner, FitsLabel, IsSearchState}
+use Rattle.alt_forest.specs.State.{State, IsOutermost, IsMate, IsInner, FitsLabel, IsSearchState}
 use Rattle.alt_forest.specs.Trees.{IsRoot}
 use Rattle.alt_forest.specs.Searches.{put}
+use Rattle.alt_forest.proofs.Tight.{tight_rings}
 
 abbrev pub with_labels : State → (ℕ → Label) → State
 with_labels s label = record s { label = label }
@@ -74,20 +72,11 @@ inner_with s label depth a i up child = record {
 }
 
 -- edges that are tight stay so
-tight_ring : (s : State) (label : ℕ → Label) (ring : List Link) → AllByRecursion (λ (l : Link). IsTight s l.edge) ring → AllByRecursion (λ (l : Link). IsTight (with_labels s label) l.edge) ring
-tight_ring s label [] t = tt
-tight_ring s label (l ∷ ring) t = (record { edge = t.0.edge; tight = t.0.tight }, tight_ring s label ring t.1)
-
-tight_rings : (s : State) (label : ℕ → Label) (bs : List Blossom) → AllByRecursion (λ (b : Blossom). AllByRecursion (λ (l : Link). IsTight s l.edge) b.ring) bs
-    → AllByRecursion (λ (b : Blossom). AllByRecursion (λ (l : Link). IsTight (with_labels s label) l.edge) b.ring) bs
-tight_rings s label [] t = tt
-tight_rings s label (b ∷ bs) t = (tight_ring s label b.ring t.0, tight_rings s label bs t.1)
-
 -- labels matter to the trees alone
 pub relabelled : (s : State) (label : ℕ → Label) (depth : ℕ → ℕ) → IsSearchState s depth → ((a : ℕ) → IsOutermost s a → FitsLabel (with_labels s label) depth a) → IsSearchState (with_labels s label) depth
 relabelled s label depth st fits = record {
   rings = st.rings;
-  tight_rings = tight_rings s label s.blossoms st.tight_rings;
+  tight_rings = tight_rings s (with_labels s label) (λ e t. record { edge = t.edge; tight = t.tight }) s.blossoms st.tight_rings;
   slacks = st.slacks;
   duals = st.duals;
   mates = λ a e is has. let m = st.mates a e is has in (m.0, mate_with s label a e m.0 m.1);

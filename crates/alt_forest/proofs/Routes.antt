@@ -6,6 +6,7 @@ use Rattle.std.proofs.lemmas.Bool.{leb-true, leb-false, or_cases, or_from, or_le
 use Rattle.graph_theory.specs.Parts.{holds}
 use Rattle.blossom_arena.proofs.Lists.{by_test, first_in}
 use Rattle.blossom_arena.specs.Family.{IsNested}
+use Rattle.blossom_arena.proofs.Tails.{last_cons_in}
 use Rattle.alt_forest.specs.State.{State, IsOutermost, IsSearchState}
 use Rattle.alt_forest.specs.Trees.{first_common, last_of, path_of, up_of, node_limit}
 use Rattle.alt_forest.specs.Routes.{IsRoute, AreLevel}
@@ -115,15 +116,11 @@ common_none (z ∷ zs) ys x e h = by_test (holds ys z)
     (λ more. common_none zs ys x (sym (ap (λ q. cond q (Some z) (first_common zs ys)) t) ∙ e) more)
     (or_cases (eqb z x) (holds zs x) h))
 
--- the last of a list is on it
-pub last_in : (x : ℕ) (xs : List ℕ) → holds (x ∷ xs) (last_of x xs) ≡ true
-last_in x [] = first_in x []
-last_in x (y ∷ ys) = or_right (eqb x (last_of y ys)) (holds (y ∷ ys) (last_of y ys)) (last_in y ys)
 
 -- two routes have nothing in common exactly if they end apart
 pub common_ends : (route : ℕ → List ℕ) (x : ℕ) (xs : List ℕ) (y : ℕ) (ys : List ℕ) → IsRoute route (x ∷ xs) → IsRoute route (y ∷ ys) → (first_common (x ∷ xs) (y ∷ ys) ≡ None) ↔ (last_of 0 (x ∷ xs) ≢ last_of 0 (y ∷ ys))
 common_ends route x xs y ys rx ry = (
-  λ none same. both_ways (holds (y ∷ ys) (last_of x xs)) (common_none (x ∷ xs) (y ∷ ys) (last_of x xs) none (last_in x xs)) (ap (holds (y ∷ ys)) same ∙ last_in y ys),
+  λ none same. both_ways (holds (y ∷ ys) (last_of x xs)) (common_none (x ∷ xs) (y ∷ ys) (last_of x xs) none (last_cons_in x xs)) (ap (holds (y ∷ ys)) same ∙ last_cons_in y ys),
   λ apart. by_found (first_common (x ∷ xs) (y ∷ ys)) refl apart,
 )
   where

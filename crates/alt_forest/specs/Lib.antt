@@ -7,3 +7,4 @@ pub mod Routes
 pub mod Chains
 pub mod Laws
 pub mod Ways
+pub mod Circuits

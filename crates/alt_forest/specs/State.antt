@@ -10,6 +10,7 @@ use Rattle.graph_theory.specs.Graph.{Multigraph, IsEdgeNumber, edge_of}
 use Rattle.blossom_arena.specs.declared.links.Link.{Link}
 use Rattle.blossom_arena.specs.Family.{Blossom, outermost, is_outermost}
 use Rattle.blossom_arena.specs.Slack.{duals_across}
+pub use Rattle.blossom_arena.specs.Tables.{next_node}
 use Rattle.alt_forest.specs.declared.label.Label.{Label}
 use Rattle.alt_forest.specs.declared.label.Label.TheVariants.{Outer, Inner, Out}
 
@@ -60,11 +61,6 @@ slack_of s e = slack_with s.graph s.weighted s.dual s.blossoms e
 pub record IsTight (s : State) (e : ℕ) : Type 0 where
   pub edge : IsEdgeNumber s.graph e
   pub tight : slack_of s e ≡ pos 0
-
--- the first node of a chain of links, or what follows it
-abbrev pub next_node : List Link → ℕ → ℕ
-next_node [] after = after
-next_node (l ∷ rest) after = l.node
 
 -- each link's edge leads to the next node, that of the last one to `after`
 abbrev pub IsChainTo : Multigraph → List Blossom → List Link → ℕ → Type 0

@@ -4,6 +4,7 @@ use Rattle.std.specs.List.{filter, range_with_len}
 use Rattle.graph_theory.specs.Graph.{Multigraph}
 use Rattle.graph_theory.specs.Parts.{holds}
 use Rattle.graph_theory.specs.Nested.{most_blossoms}
+pub use Rattle.blossom_arena.specs.Tables.{last_of}
 use Rattle.blossom_arena.specs.Family.{Blossom, is_outermost}
 use Rattle.alt_forest.specs.declared.label.Label.{Label}
 use Rattle.alt_forest.specs.declared.label.Label.TheVariants.{Outer, Inner, Out}
@@ -42,11 +43,6 @@ path_within (suc k) s a = if a == 0 then [] else a ∷ path_within k s (up_of s 
 -- the nodes from a node to the root of its tree, both included
 abbrev pub path_of : State → ℕ → List ℕ
 path_of s a = path_within (node_limit s.graph.vertices + 1) s a
-
--- the last of these numbers, or this
-abbrev pub last_of : ℕ → List ℕ → ℕ
-last_of default [] = default
-last_of default (x ∷ xs) = last_of x xs
 
 -- the root of a node's tree
 abbrev pub root_of : State → ℕ → ℕ

@@ -34,7 +34,7 @@ pub record Dissolves (a b : Inside) (node : ℕ) : Type 0 where
   pub parents : b.parents.items ≡ filled a.parents.items (nodes_of (ring_of (blossoms_of a) node)) 0
   pub outer : b.outer.items ≡ lowered a.outer.items (λ x. vertices_of a.followers.items (run_of a.vertex_count b.kept x)) (nodes_of (ring_of (blossoms_of a) node))
 
-each_without : (P : Blossom → Type 0) (bs : List Blossom) (a : ℕ) → AllByRecursion P bs → AllByRecursion P (without bs a)
+pub each_without : (P : Blossom → Type 0) (bs : List Blossom) (a : ℕ) → AllByRecursion P bs → AllByRecursion P (without bs a)
 each_without P [] a each = tt
 each_without P (b ∷ older) a each = elim (eqb b.node a) as (λ q. AllByRecursion P (cond q older (b ∷ without older a))) [ true ↦ each.1 | false ↦ (each.0, each_without P older a each.1) ]
 

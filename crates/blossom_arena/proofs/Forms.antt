@@ -8,7 +8,7 @@ use Rattle.graph_theory.specs.Duals.{HasForm}
 use Rattle.graph_theory.proofs.Members.{all_holds, holds_all, first_less, pairs_tail}
 use Rattle.graph_theory.specs.Nested.{AreLaminar}
 use Rattle.blossom_arena.specs.Family.{Blossom, names_of, is_node, in_ring, outermost, members_of, IsOddSet, IsNested}
-use Rattle.blossom_arena.proofs.Lists.{by_test, AllNew, new_from_distinct, distinct_from_new, length-within, first_in}
+use Rattle.blossom_arena.proofs.Lists.{only_one, by_test, AllNew, new_from_distinct, distinct_from_new, length-within, first_in}
 use Rattle.blossom_arena.proofs.Nested.{vertex_range, name_is_node, node_before}
 use Rattle.blossom_arena.proofs.Sets.{members_here, members_past, members_new, members_odd, members_three, member_vertex, member_by_ring}
 
@@ -23,7 +23,7 @@ members_form n bs x h k =
       in_range = all_holds (λ v. (1 ≤ v) × (v ≤ n)) (members_of bs x) (λ v m. vertex_range n v (member_vertex n bs x v h node m));
     }
 
-new_by_pairs : (xs : List ℕ) → AllPairs (λ x y. x < y) xs → AllNew xs
+pub new_by_pairs : (xs : List ℕ) → AllPairs (λ x y. x < y) xs → AllNew xs
 new_by_pairs [] up = tt
 new_by_pairs (x ∷ xs) up = (false_from_ne_true (holds xs x) (λ m. absurd (omega (arith, first_less x xs x up m))), new_by_pairs xs (pairs_tail x xs up))
 
@@ -43,10 +43,7 @@ sorted_form n xs ys odd up same =
 
 -- the vertices of a node have one outermost node
 pub one_outermost : (n : ℕ) (bs : List Blossom) (x v w : ℕ) → IsNested n bs → is_node n bs x ≡ true → holds (members_of bs x) v ≡ true → holds (members_of bs x) w ≡ true → outermost bs v ≡ outermost bs w
-one_outermost n [] x v w h k mv mw = at v mv ∙ sym (at w mw)
-  where
-    at : (z : ℕ) → holds (x ∷ []) z ≡ true → z ≡ x
-    at z m = ⊎_elim (λ s. sym (eqb-true x z s)) (λ f. absurd (both_ways false refl f)) (or_cases (eqb x z) false m)
+one_outermost n [] x v w h k mv mw = sym (only_one x v mv) ∙ only_one x w mw
 one_outermost n (b ∷ older) x v w h k mv mw =
     by_test (eqb b.node x)
     (λ e.
@@ -90,11 +87,8 @@ members_laminar n [] x y h kx ky =
     (λ e. inl (λ v m. subst (λ z. holds (z ∷ []) v ≡ true) (sym (eqb-true x y e)) m))
     (λ e. inr (inr (λ v m. false_from_ne_true (holds (y ∷ []) v) (λ q. both_ways (eqb x y) e (same v m q)))))
   where
-    at : (a z : ℕ) → holds (a ∷ []) z ≡ true → a ≡ z
-    at a z m = ⊎_elim (λ s. eqb-true a z s) (λ f. absurd (both_ways false refl f)) (or_cases (eqb a z) false m)
-
     same : (v : ℕ) → holds (x ∷ []) v ≡ true → holds (y ∷ []) v ≡ true → eqb x y ≡ true
-    same v m q = eq-eqb x y (at x v m ∙ sym (at y v q))
+    same v m q = eq-eqb x y (only_one x v m ∙ sym (only_one y v q))
 members_laminar n (b ∷ older) x y h kx ky =
     by_test (eqb b.node x)
     (λ ex. by_test (eqb b.node y)

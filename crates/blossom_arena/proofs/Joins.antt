@@ -10,8 +10,9 @@ use Rattle.blossom_arena.specs.declared.links.Link.{Link}
 use Rattle.blossom_arena.specs.declared.runs.Run.{Run}
 use Rattle.blossom_arena.specs.Tables.{walk}
 use Rattle.blossom_arena.specs.Family.{Blossom, nodes_of, in_ring, members_of, union_of}
-use Rattle.blossom_arena.specs.Fields.{IsRun, last_of, joined, joined_tail, joined_size}
-use Rattle.blossom_arena.proofs.Lists.{AllNew, first_in, later_in}
+use Rattle.blossom_arena.specs.Tables.{last_of}
+use Rattle.blossom_arena.specs.Fields.{IsRun, joined, joined_tail, joined_size}
+use Rattle.blossom_arena.proofs.Lists.{tails, AllNew, first_in, later_in}
 use Rattle.blossom_arena.proofs.Tails.{front, front_sub, last_in, last_append, last_not_front}
 use Rattle.blossom_arena.proofs.Writes.{length-walk, walk_front}
 
@@ -36,9 +37,6 @@ run_keeps f f' r xs h same = record {
 
 heads : (x y : ℕ) (xs ys : List ℕ) → x ∷ xs ≡ y ∷ ys → x ≡ y
 heads x y xs ys e = cc
-
-pub tails : (x y : ℕ) (xs ys : List ℕ) → x ∷ xs ≡ y ∷ ys → xs ≡ ys
-tails x y xs ys e = cc
 
 -- a walk that goes on at its end along another
 walk_join : (f : List ℕ) (t h s : ℕ) (p : ℕ) (ps ms : List ℕ) → walk (length (p ∷ ps)) f p ≡ p ∷ ps → last_of p ps ≡ t → holds (front (p ∷ ps)) t ≡ false → t < length f → walk s f h ≡ ms → holds ms t ≡ false

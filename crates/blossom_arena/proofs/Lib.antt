@@ -1,6 +1,9 @@
 pub mod Lists
+pub mod LinkLists
 pub mod Nested
 pub mod Sets
+pub mod Older
+pub mod Ends
 pub mod Tails
 pub mod Parents
 pub mod Taken

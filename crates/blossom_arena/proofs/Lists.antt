@@ -133,6 +133,14 @@ first_in x xs = or_left (eqb x x) (holds xs x) (eq-eqb x x refl)
 pub later_in : (x : ℕ) (xs : List ℕ) (v : ℕ) → holds xs v ≡ true → holds (x ∷ xs) v ≡ true
 later_in x xs v e = or_right (eqb x v) (holds xs v) e
 
+-- what follows the first number
+pub tails : (x y : ℕ) (xs ys : List ℕ) → x ∷ xs ≡ y ∷ ys → xs ≡ ys
+tails x y xs ys e = cc
+
+-- a list of one number has that one
+pub only_one : (a z : ℕ) → holds (a ∷ []) z ≡ true → a ≡ z
+only_one a z m = ⊎_elim (λ s. eqb-true a z s) (λ f. absurd (both_ways false refl f)) (or_cases (eqb a z) false m)
+
 -- what a search for a node finds
 pub ring_any : (ring : List Link) (a : ℕ) → list_any (λ (l : Link). eqb l.node a) ring ≡ in_ring ring a
 ring_any [] a = refl

@@ -192,6 +192,11 @@ room_for_circuit n bs ring h c =
     let e : 3 ≤ length ring = c.at_least_three in
     (omega arith, omega arith)
 
+-- and so many blossoms at most
+pub blossoms_most : (n : ℕ) (bs : List Blossom) → IsNested n bs → length bs ≤ most_blossoms n
+blossoms_most n [] h = omega arith
+blossoms_most n (b ∷ older) h = omega (arith, (room_for_circuit n older b.ring h.1 h.0.circuit).0)
+
 pub blossoms_few : (n : ℕ) (bs : List Blossom) → IsNested n bs → 2 * length bs ≤ n
 blossoms_few n bs h =
     let a : length (outer_nodes n bs) + link_count bs ≡ n + length bs = length-outer_nodes n bs h in

@@ -6,8 +6,9 @@ use Rattle.graph_theory.specs.Parts.{holds}
 use Rattle.graph_theory.proofs.Members.{holds-append}
 use Rattle.graph_theory.specs.Nested.{most_blossoms}
 use Rattle.blossom_arena.specs.Family.{Blossom, in_ring, names_of, is_vertex, is_node, is_child, outermost, members_of, ring_of, older_than, chain_of, child_holding, IsNested}
-use Rattle.blossom_arena.specs.Fields.{last_of, parent_of, climb, climb_to, CanClimb}
-use Rattle.blossom_arena.proofs.Lists.{by_test, first_in, later_in, each_from}
+use Rattle.blossom_arena.specs.Tables.{last_of}
+use Rattle.blossom_arena.specs.Fields.{parent_of, climb, climb_to, CanClimb}
+use Rattle.blossom_arena.proofs.Lists.{tails, by_test, first_in, later_in, each_from}
 use Rattle.blossom_arena.proofs.Nested.{child_free, new_no_child, node_grows, new_is_node, node_range, blossoms_few}
 use Rattle.blossom_arena.proofs.Sets.{member_by_ring, members_here, members_past, outermost_free}
 use Rattle.blossom_arena.proofs.Tails.{last_append}
@@ -228,9 +229,6 @@ climb_child n bs ps a v h iv k m table len =
 pub climb_to_step : (k j : ℕ) (ps : List ℕ) (stop x : ℕ) → k ≡ suc j → get_or ps x 0 ≢ stop → climb_to j ps stop (get_or ps x 0) ≡ climb_to k ps stop x
 climb_to_step k j ps stop x e ne = sym (ap (λ i. climb_to i ps stop x) e ∙ ap (λ q. cond q x (climb_to j ps stop (get_or ps x 0))) (ne_eqb (get_or ps x 0) stop ne))
 
-cut_head : (x y : ℕ) (xs ys : List ℕ) → x ∷ xs ≡ y ∷ ys → xs ≡ ys
-cut_head x y xs ys e = cc
-
 climb_past : (k : ℕ) (ps : List ℕ) (x : ℕ) → x ≢ 0 → climb (suc k) ps x ≡ x ∷ climb k ps (get_or ps x 0)
 climb_past k ps x ne = ap (λ q. cond q [] (x ∷ climb k ps (get_or ps x 0))) (ne_eqb x 0 ne)
 
@@ -246,7 +244,7 @@ climb_settled zero ps x e = ⊎_elim
 climb_settled (suc k) ps x e = ⊎_elim
     (λ z. ap (climb (suc (suc k)) ps) z ∙ sym (ap (climb (suc (suc (suc k))) ps) z))
     (λ ne. climb_past (suc k) ps x ne
-    ∙ ap (λ t. x ∷ t) (climb_settled k ps (get_or ps x 0) (cut_head x x (climb k ps (get_or ps x 0)) (climb (suc k) ps (get_or ps x 0)) (sym (climb_past k ps x ne) ∙ e ∙ climb_past (suc k) ps x ne)))
+    ∙ ap (λ t. x ∷ t) (climb_settled k ps (get_or ps x 0) (tails x x (climb k ps (get_or ps x 0)) (climb (suc k) ps (get_or ps x 0)) (sym (climb_past k ps x ne) ∙ e ∙ climb_past (suc k) ps x ne)))
     ∙ sym (climb_past (suc (suc k)) ps x ne))
     (cases_eq x 0)
 
@@ -268,4 +266,4 @@ climb_step ps x h ne =
   where
     settled : (len : ℕ) → x < len → climb len ps x ≡ x ∷ climb len ps (get_or ps x 0) → climb len ps (get_or ps x 0) ≡ climb (suc len) ps (get_or ps x 0)
     settled zero low e = absurd (omega arith)
-    settled (suc k) low e = climb_settled k ps (get_or ps x 0) (cut_head x x (climb k ps (get_or ps x 0)) (climb (suc k) ps (get_or ps x 0)) (sym (climb_past k ps x ne) ∙ e))
+    settled (suc k) low e = climb_settled k ps (get_or ps x 0) (tails x x (climb k ps (get_or ps x 0)) (climb (suc k) ps (get_or ps x 0)) (sym (climb_past k ps x ne) ∙ e))

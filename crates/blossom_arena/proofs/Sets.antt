@@ -2,6 +2,7 @@
 use Rattle.std.proofs.Common.{◌≡◌, ℕ, ◌+◌, ◌%◌, ◌≤◌, Bool, true, false, ◌||◌, ◌&&◌, not, eqb, cond, List, [], ◌∷◌, length, refl, sym, ap, ◌∙◌, subst, arith, ⊎_elim, length-append}
 use Rattle.std.specs.Cmp.{both_ways as same_tests}
 use Rattle.std.proofs.lemmas.Bool.{eqb-true, eq-eqb, eqb-false, ne_eqb, false_from_ne_true, or_cases, both_ways, or_left, or_right, or_from}
+use Rattle.std.proofs.Math.Bool.{or-false}
 use Rattle.std.proofs.lemmas.List.Concat.{flat_map-cons}
 use Rattle.graph_theory.specs.Parts.{holds}
 use Rattle.graph_theory.proofs.Members.{holds-append}
@@ -76,13 +77,10 @@ by_ring n older b v h next tells =
     subst (λ x. in_ring b.ring x ≡ true) same r.within)
     (λ e. in_union older b.ring (outermost older v) v e (tells (outermost older v) (circuit_outer n older b.ring (outermost older v) next.circuit e) ∙ eq-eqb (outermost older v) (outermost older v) refl))
 
-or_none : (t : Bool) → (t || false) ≡ t
-or_none true = refl
-or_none false = refl
 
 -- an outermost node has the vertices whose outermost node it is
 pub outer_member : (n : ℕ) (bs : List Blossom) (v : ℕ) → IsNested n bs → is_vertex n v ≡ true → TellsOuter n bs v
-outer_member n [] v h iv x o = or_none (eqb x v)
+outer_member n [] v h iv x o = or-false (eqb x v)
 outer_member n (b ∷ older) v h iv x o =
     let ring = by_ring n older b v h.1 h.0 (outer_member n older v h.1 iv) in
     by_test (eqb b.node x)

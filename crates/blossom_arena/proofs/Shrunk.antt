@@ -17,7 +17,8 @@ use Rattle.blossom_arena.specs.Tables.{walk, links_of, filled, next_node, thread
 use Rattle.graph_theory.specs.Nested.{most_blossoms}
 use Rattle.graph_theory.specs.Duals.{IsNumber}
 use Rattle.blossom_arena.specs.Family.{Blossom, nodes_of, in_ring, names_of, is_vertex, is_node, is_child, members_of, union_of, made_of, dual_at, HasDuals, IsCircuit, IsNext, IsNested, outermost}
-use Rattle.blossom_arena.specs.Fields.{IsSound, blossoms_of, order_of, key_of, kept_of, kept_or_none, runs_of, last_of, IsRun, joined, parent_of, build, IsOrder}
+use Rattle.blossom_arena.specs.Tables.{last_of}
+use Rattle.blossom_arena.specs.Fields.{IsSound, blossoms_of, order_of, key_of, kept_of, kept_or_none, runs_of, IsRun, joined, parent_of, build, IsOrder}
 use Rattle.blossom_arena.proofs.Lists.{by_test, AllNew, new_from_distinct, first_in, later_in, each_from}
 use Rattle.blossom_arena.proofs.Nested.{circuit_outer, circuit_node, outermost_parts, node_range, vertex_range, name_is_node}
 use Rattle.blossom_arena.proofs.Sets.{members_past, member_vertex}

@@ -41,7 +41,7 @@ slack_across n ys bs e within =
     omega (arith, ints, u, v, all)
 
 -- a certificate may leave out the sets of dual 0, and list the vertices of the others in any order
-crosses_same : (xs ys : List ℕ) (e : Edge) → AreSame xs ys → crosses xs e ≡ crosses ys e
+pub crosses_same : (xs ys : List ℕ) (e : Edge) → AreSame xs ys → crosses xs e ≡ crosses ys e
 crosses_same xs ys e same = ap₂ (λ (p q : Bool). cond p (not q) q) (same e.u) (same e.v)
 
 none_either_way : (q : Bool) (y : ℤ) → y ≡ pos 0 → cond q y (pos 0) ≡ pos 0

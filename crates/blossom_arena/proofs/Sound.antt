@@ -11,15 +11,16 @@ use Rattle.blossom_arena.specs.declared.arena.Arena.TheInside.{Inside}
 use Rattle.blossom_arena.specs.Tables.{walk}
 use Rattle.graph_theory.specs.Nested.{most_blossoms}
 use Rattle.blossom_arena.specs.Family.{Blossom, nodes_of, in_ring, names_of, is_vertex, is_node, is_child, members_of, union_of, ring_of, IsCircuit, IsNested}
-use Rattle.blossom_arena.specs.Fields.{IsSound, blossoms_of, order_of, ring_at, kept_of, run_of, runs_of, vertices_of, last_of, IsRun, joined, joined_tail, joined_size}
-use Rattle.blossom_arena.proofs.Lists.{AllNew, each_from, first_in, later_in, new_from_distinct, length-within, vertices, holds-vertices, length-vertices}
+use Rattle.blossom_arena.specs.Tables.{last_of}
+use Rattle.blossom_arena.specs.Fields.{IsSound, blossoms_of, order_of, ring_at, kept_of, run_of, runs_of, vertices_of, IsRun, joined, joined_tail, joined_size}
+use Rattle.blossom_arena.proofs.Lists.{tails, AllNew, each_from, first_in, later_in, new_from_distinct, length-within, vertices, holds-vertices, length-vertices}
 use Rattle.blossom_arena.proofs.Nested.{names_new, name_range, node_range, vertex_range, child_is_node, circuit_outer, circuit_node}
 use Rattle.blossom_arena.proofs.Sets.{members_of_vertex, member_vertex, members_some, members_new, of_union, union_new}
 use Rattle.blossom_arena.proofs.Tails.{last_in}
 use Rattle.blossom_arena.proofs.Parents.{ring_child}
 use Rattle.blossom_arena.proofs.Writes.{length-walk, nodes-links}
 use Rattle.blossom_arena.proofs.Builds.{names-build, ring-build, length-build}
-use Rattle.blossom_arena.proofs.Joins.{IsJoined, join_is, tails}
+use Rattle.blossom_arena.proofs.Joins.{IsJoined, join_is}
 
 -- the rings by the fields
 abbrev pub rings : Inside → ℕ → List Link

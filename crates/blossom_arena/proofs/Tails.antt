@@ -6,7 +6,7 @@ use Rattle.std.proofs.lemmas.List.Concat.{flat_map-cons}
 use Rattle.graph_theory.specs.Parts.{holds}
 use Rattle.blossom_arena.specs.declared.links.Link.{Link}
 use Rattle.blossom_arena.specs.Family.{Blossom, nodes_of, in_ring, is_node, is_outermost, members_of, union_of, IsNested}
-use Rattle.blossom_arena.specs.Fields.{last_of}
+use Rattle.blossom_arena.specs.Tables.{last_of}
 use Rattle.blossom_arena.proofs.Lists.{by_test, AllNew, first_in, later_in}
 use Rattle.blossom_arena.proofs.Nested.{circuit_outer, circuit_node, outermost_parts, node_before, outermost_before}
 use Rattle.blossom_arena.proofs.Sets.{members_here, members_past, members_new, members_some, member_vertex, member_by_ring, outermost_by_member}
@@ -17,7 +17,7 @@ front [] = []
 front (x ∷ []) = []
 front (x ∷ y ∷ rest) = x ∷ front (y ∷ rest)
 
-last_cons_in : (x : ℕ) (xs : List ℕ) → holds (x ∷ xs) (last_of x xs) ≡ true
+pub last_cons_in : (x : ℕ) (xs : List ℕ) → holds (x ∷ xs) (last_of x xs) ≡ true
 last_cons_in x [] = first_in x []
 last_cons_in x (y ∷ ys) = later_in x (y ∷ ys) (last_of y ys) (last_cons_in y ys)
 

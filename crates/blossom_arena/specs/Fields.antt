@@ -7,7 +7,7 @@ use Rattle.blossom_arena.specs.declared.links.Link.{Link}
 use Rattle.blossom_arena.specs.declared.runs.Run.{Run}
 use Rattle.blossom_arena.specs.declared.runs.Kept.{Kept}
 use Rattle.blossom_arena.specs.declared.arena.Arena.TheInside.{Inside}
-use Rattle.blossom_arena.specs.Tables.{walk, links_of, filled}
+use Rattle.blossom_arena.specs.Tables.{last_of, walk, links_of, filled}
 use Rattle.graph_theory.specs.Nested.{most_blossoms}
 use Rattle.blossom_arena.specs.Family.{Blossom, Family, IsFamily, outermost, made_of, in_ring, members_of}
 
@@ -29,11 +29,6 @@ run_of n kept node = if nat_le node n then record { head = node; tail = node; si
 -- the vertices of a run
 abbrev pub vertices_of : List ℕ → Run → List ℕ
 vertices_of followers r = walk r.size followers r.head
-
--- the last of a list of numbers, or this
-abbrev pub last_of : ℕ → List ℕ → ℕ
-last_of d [] = d
-last_of d (x ∷ xs) = last_of x xs
 
 -- a run gives these vertices
 pub record IsRun (followers : List ℕ) (r : Run) (xs : List ℕ) : Type 0 where

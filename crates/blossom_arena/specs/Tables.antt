@@ -2,6 +2,11 @@
 use Rattle.std.specs.Prelude.{ℕ, zero, suc, List, [], ◌∷◌, map, slice_index, slice_set}
 use Rattle.blossom_arena.specs.declared.links.Link.{Link}
 
+-- the last of a list of numbers, or this
+abbrev pub last_of : ℕ → List ℕ → ℕ
+last_of d [] = d
+last_of d (x ∷ xs) = last_of x xs
+
 -- so many numbers from x on, each the entry of the one before it
 abbrev pub walk : ℕ → List ℕ → ℕ → List ℕ
 walk zero next x = []
