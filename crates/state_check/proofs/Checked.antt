@@ -9,6 +9,7 @@ use Rattle.blossom_arena.specs.declared.links.Link.{Link}
 use Rattle.blossom_arena.specs.Family.{Blossom, IsNested, names_of, ring_of, older_than}
 use Rattle.blossom_arena.proofs.Lists.{AllNew, by_test, first_in, later_in}
 use Rattle.blossom_arena.proofs.Nested.{names_new}
+use Rattle.blossom_arena.proofs.Older.{here, past, older_name}
 use Rattle.alt_forest.specs.declared.label.Label.{Label}
 use Rattle.alt_forest.specs.declared.label.Label.TheVariants.{Outer, Inner, Out}
 use Rattle.alt_forest.specs.State.{State, IsOutermost, IsTight, Joins, slack_of, HasRings, IsRing, IsMate, FitsLabel, IsSearchState}
@@ -19,12 +20,6 @@ use Rattle.alt_forest.proofs.Walk.{some_same, other_node_joins, path_step, path_
 use Rattle.alt_forest.proofs.Paths.{path_enough, path_short}
 
 -- all rings
-pub older_here : (b : Blossom) (older : List Blossom) (x : ℕ) → eqb b.node x ≡ true → (older_than (b ∷ older) x ≡ older) × (ring_of (b ∷ older) x ≡ b.ring)
-older_here b older x e = (ap (λ q. cond q older (older_than older x)) e, ap (λ q. cond q b.ring (ring_of older x)) e)
-
-pub older_past : (b : Blossom) (older : List Blossom) (x : ℕ) → eqb b.node x ≡ false → (older_than (b ∷ older) x ≡ older_than older x) × (ring_of (b ∷ older) x ≡ ring_of older x)
-older_past b older x e = (ap (λ q. cond q older (older_than older x)) e, ap (λ q. cond q b.ring (ring_of older x)) e)
-
 -- the rings of these, each over those older than it
 record AreRings (s : State) (bs : List Blossom) (x : ℕ) : Type 0 where
   ring : IsRing s.graph (older_than bs x) (ring_of bs x)
@@ -37,18 +32,18 @@ pub record AllRings (s : State) (bs : List Blossom) : Type 0 where
 all_rings : (s : State) (bs : List Blossom) → AllNew (names_of bs) → ((x : ℕ) → holds (names_of bs) x ≡ true → AreRings s bs x) → AllRings s bs
 all_rings s [] new each = record { rings = tt; tight = tt }
 all_rings s (b ∷ older) new each =
-    let here = each b.node (first_in b.node (names_of older)) in
-    let at = older_here b older b.node (eq-eqb b.node b.node refl) in
+    let newest = each b.node (first_in b.node (names_of older)) in
+    let at = here b older b.node (eq-eqb b.node b.node refl) in
     let rest = all_rings s older new.1 (λ x e.
     let r = each x (later_in b.node (names_of older) x e) in
-    let past = older_past b older x (ne_eqb b.node x (λ same. both_ways (holds (names_of older) b.node) new.0 (ap (holds (names_of older)) same ∙ e))) in
+    let later = past b older x (ne_eqb b.node x (λ same. both_ways (holds (names_of older) b.node) new.0 (ap (holds (names_of older)) same ∙ e))) in
     record {
-      ring = subst (λ (k : List Link). IsRing s.graph (older_than older x) k) past.1 (subst (λ (bs : List Blossom). IsRing s.graph bs (ring_of (b ∷ older) x)) past.0 r.ring);
-      tight = subst (AllByRecursion (λ (l : Link). IsTight s l.edge)) past.1 r.tight;
+      ring = subst (λ (k : List Link). IsRing s.graph (older_than older x) k) later.ring_is (subst (λ (bs : List Blossom). IsRing s.graph bs (ring_of (b ∷ older) x)) later.older_is r.ring);
+      tight = subst (AllByRecursion (λ (l : Link). IsTight s l.edge)) later.ring_is r.tight;
     }) in
     record {
-      rings = (subst (λ (k : List Link). IsRing s.graph older k) at.1 (subst (λ (bs : List Blossom). IsRing s.graph bs (ring_of (b ∷ older) b.node)) at.0 here.ring), rest.rings);
-      tight = (subst (AllByRecursion (λ (l : Link). IsTight s l.edge)) at.1 here.tight, rest.tight);
+      rings = (subst (λ (k : List Link). IsRing s.graph older k) at.ring_is (subst (λ (bs : List Blossom). IsRing s.graph bs (ring_of (b ∷ older) b.node)) at.older_is newest.ring), rest.rings);
+      tight = (subst (AllByRecursion (λ (l : Link). IsTight s l.edge)) at.ring_is newest.tight, rest.tight);
     }
 
 pub rings_from : (s : State) → IsNested s.graph.vertices s.blossoms → ((x : ℕ) → holds (names_of s.blossoms) x ≡ true → RingHolds s x) → AllRings s s.blossoms
@@ -190,17 +185,17 @@ up_outer s a next far mate fits up ne = by_edge (up_edge s a) refl
 rings_at : (s : State) (bs : List Blossom) (x : ℕ) → holds (names_of bs) x ≡ true → AllRings s bs → AreRings s bs x
 rings_at s [] x name r = absurd (both_ways false refl name)
 rings_at s (b ∷ older) x name r = by_test (eqb b.node x)
-    (λ e. let at = older_here b older x e in
+    (λ e. let at = here b older x e in
     record {
-      ring = subst (λ (k : List Link). IsRing s.graph (older_than (b ∷ older) x) k) (sym at.1) (subst (λ (bs : List Blossom). IsRing s.graph bs b.ring) (sym at.0) r.rings.0);
-      tight = subst (AllByRecursion (λ (l : Link). IsTight s l.edge)) (sym at.1) r.tight.0;
+      ring = subst (λ (k : List Link). IsRing s.graph (older_than (b ∷ older) x) k) (sym at.ring_is) (subst (λ (bs : List Blossom). IsRing s.graph bs b.ring) (sym at.older_is) r.rings.0);
+      tight = subst (AllByRecursion (λ (l : Link). IsTight s l.edge)) (sym at.ring_is) r.tight.0;
     })
-    (λ e. let past = older_past b older x e in
-    let more : holds (names_of older) x ≡ true = ⊎_elim (λ here. absurd (both_ways (eqb b.node x) e here)) (λ later. later) (or_cases (eqb b.node x) (holds (names_of older) x) name) in
+    (λ e. let later = past b older x e in
+    let more : holds (names_of older) x ≡ true = older_name b older x e name in
     let rest = rings_at s older x more (record { rings = r.rings.1; tight = r.tight.1 }) in
     record {
-      ring = subst (λ (k : List Link). IsRing s.graph (older_than (b ∷ older) x) k) (sym past.1) (subst (λ (bs : List Blossom). IsRing s.graph bs (ring_of older x)) (sym past.0) rest.ring);
-      tight = subst (AllByRecursion (λ (l : Link). IsTight s l.edge)) (sym past.1) rest.tight;
+      ring = subst (λ (k : List Link). IsRing s.graph (older_than (b ∷ older) x) k) (sym later.ring_is) (subst (λ (bs : List Blossom). IsRing s.graph bs (ring_of older x)) (sym later.older_is) rest.ring);
+      tight = subst (AllByRecursion (λ (l : Link). IsTight s l.edge)) (sym later.ring_is) rest.tight;
     })
 
 module _ (s : State) (depth : ℕ → ℕ) (st : IsSearchState s depth) where

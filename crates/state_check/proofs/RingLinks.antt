@@ -11,37 +11,13 @@ use Rattle.blossom_arena.specs.Family.{Blossom, IsNested, is_vertex, in_ring, na
 use Rattle.blossom_arena.proofs.Lists.{by_test, first_in, later_in}
 use Rattle.blossom_arena.proofs.Nested.{range_vertex}
 use Rattle.blossom_arena.proofs.Sets.{members_here, members_past, member_by_ring}
+use Rattle.blossom_arena.proofs.LinkLists.{all_inside}
+use Rattle.blossom_arena.proofs.Older.{has_ring, ring_long}
+use Rattle.blossom_arena.proofs.Ends.{u_vertex, v_vertex}
 use Rattle.alt_forest.specs.State.{State, Joins, IsTight, next_node, IsChainTo}
 use Rattle.state_check.specs.Checks.{node_or, LinkHolds, RingHolds}
-use Rattle.state_check.proofs.Checked.{older_here, older_past}
 
-name_past : (x : Blossom) (older : List Blossom) (b : ℕ) → eqb x.node b ≡ false → holds (names_of (x ∷ older)) b ≡ true → holds (names_of older) b ≡ true
-name_past x older b ne name = ⊎_elim (λ here. absurd (both_ways (eqb x.node b) ne here)) (λ more. more) (or_cases (eqb x.node b) (holds (names_of older) b) name)
-
--- a vertex is in a blossom exactly if the blossom's circuit goes through its node there
-member_in_ring : (n : ℕ) (bs : List Blossom) (b v : ℕ) → IsNested n bs → holds (names_of bs) b ≡ true → is_vertex n v ≡ true → holds (members_of bs b) v ≡ in_ring (ring_of bs b) (outermost (older_than bs b) v)
-member_in_ring n [] b v nested name iv = absurd (both_ways false refl name)
-member_in_ring n (x ∷ older) b v nested name iv = by_test (eqb x.node b)
-    (λ e. let at = older_here x older b e in
-    ap (λ ms. holds ms v) (members_here x older b e) ∙ member_by_ring n older x v nested iv ∙ sym (ap₂ (λ (ring : List Link) (bs : List Blossom). in_ring ring (outermost bs v)) at.1 at.0))
-    (λ e. let past = older_past x older b e in
-    ap (λ ms. holds ms v) (members_past x older b e) ∙ member_in_ring n older b v nested.1 (name_past x older b e name) iv
-    ∙ sym (ap₂ (λ (ring : List Link) (bs : List Blossom). in_ring ring (outermost bs v)) past.1 past.0))
-
-ring_long : (n : ℕ) (bs : List Blossom) (b : ℕ) → IsNested n bs → holds (names_of bs) b ≡ true → 3 ≤ length (ring_of bs b)
-ring_long n [] b nested name = absurd (both_ways false refl name)
-ring_long n (x ∷ older) b nested name = by_test (eqb x.node b)
-    (λ e. subst (λ (ring : List Link). 3 ≤ length ring) (sym (older_here x older b e).1) nested.0.circuit.at_least_three)
-    (λ e. subst (λ (ring : List Link). 3 ≤ length ring) (sym (older_past x older b e).1) (ring_long n older b nested.1 (name_past x older b e name)))
-
--- the circuit goes through each of its nodes, and through the first
-pub all_inside : (ring : List Link) → AllByRecursion (λ (l : Link). in_ring ring l.node ≡ true) ring
-all_inside ring = each ring (λ x e. e)
-  where
-    each : (links : List Link) → ((x : ℕ) → in_ring links x ≡ true → in_ring ring x ≡ true) → AllByRecursion (λ (l : Link). in_ring ring l.node ≡ true) links
-    each [] within = tt
-    each (l ∷ links) within = (within l.node (first_in l.node _), each links (λ x e. within x (later_in l.node _ x e)))
-
+-- a circuit goes through its first node
 first_inside : (ring : List Link) → 3 ≤ length ring → in_ring ring (next_node ring 0) ≡ true
 first_inside [] long = absurd (omega (arith, long))
 first_inside (l ∷ ring) long = first_in l.node _
@@ -59,14 +35,13 @@ left_after (Some l) links left e = sym (ap (drop 1) e)
 pub link_in_ring : (s : State) (b next : ℕ) (l : Link) → IsGraph s.graph → IsNested s.graph.vertices s.blossoms → holds (names_of s.blossoms) b ≡ true
     → in_ring (ring_of s.blossoms b) l.node ≡ true → in_ring (ring_of s.blossoms b) next ≡ true → Joins s.graph (older_than s.blossoms b) l.edge l.node next → IsTight s l.edge → LinkHolds s b l next
 link_in_ring s b next l graph nested name here there joins t =
-    let w = edge_of_within s.graph l.edge graph.ends t.edge in
     let ring : List Link = ring_of s.blossoms b in
     let older : List Blossom = older_than s.blossoms b in
     record {
       edge = t.edge;
-      u_within = member_in_ring s.graph.vertices s.blossoms b (edge_of s.graph l.edge).u nested name (range_vertex s.graph.vertices (edge_of s.graph l.edge).u w.u_low w.u_high)
+      u_within = (has_ring s.graph.vertices s.blossoms b nested name).member (edge_of s.graph l.edge).u (u_vertex s.graph l.edge graph t.edge)
           ∙ ⊎_elim (λ p. ap (in_ring ring) p.0 ∙ here) (λ p. ap (in_ring ring) p.0 ∙ there) joins;
-      v_within = member_in_ring s.graph.vertices s.blossoms b (edge_of s.graph l.edge).v nested name (range_vertex s.graph.vertices (edge_of s.graph l.edge).v w.v_low w.v_high)
+      v_within = (has_ring s.graph.vertices s.blossoms b nested name).member (edge_of s.graph l.edge).v (v_vertex s.graph l.edge graph t.edge)
           ∙ ⊎_elim (λ p. ap (in_ring ring) p.1 ∙ there) (λ p. ap (in_ring ring) p.1 ∙ here) joins;
       joins = joins;
       tight = t.tight;
