@@ -7,8 +7,6 @@ mod components;
 mod marks;
 mod odd;
 mod search;
-#[cfg(test)]
-mod tests;
 
 pub use components::component;
 pub use odd::odd_components;
