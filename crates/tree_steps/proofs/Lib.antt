@@ -3,10 +3,11 @@ pub mod Gap
 pub mod Grown
 pub mod Shrunk
 pub mod Mirror
+pub mod Hops
 pub mod Ways
 pub mod Meeting
-pub mod ReadHops
 pub mod Pushed
+pub mod Shifted
 pub mod Filled
 pub mod Closed
 pub mod Ends

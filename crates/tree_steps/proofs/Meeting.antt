@@ -11,8 +11,7 @@ use Rattle.alt_forest.proofs.Relabelled.{outer_not_inner, some_not_none}
 use Rattle.alt_forest.proofs.Walk.{some_same, other_node_joins}
 use Rattle.tree_steps.specs.Circuits.{before, circuit_of}
 use Rattle.tree_steps.proofs.Joints.{partner_unique}
-use Rattle.tree_steps.specs.declared.hops.Hop.{Hop}
-use Rattle.tree_steps.specs.Ways.{IsHop, IsWay, links_up}
+use Rattle.tree_steps.proofs.Hops.{Hop, IsHop, IsWay, links_up}
 use Rattle.tree_steps.specs.Shrinkable.{IsShrinkable}
 use Rattle.alt_forest.specs.Events.{CanShrink}
 use Rattle.tree_steps.proofs.Ends.{ends_of}

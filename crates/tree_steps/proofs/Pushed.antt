@@ -1,123 +1,102 @@
--- How far the links of a way are pushed.
-use Rattle.std.proofs.Common.{◌≡◌, ◌≢◌, ℕ, ◌+◌, ◌≤◌, List, [], ◌∷◌, ◌++◌, length, length-append, append_assoc, refl, sym, ap, ◌∙◌, subst, arith}
+-- How far the links of a way up are pushed.
+use Rattle.std.proofs.Common.{◌≡◌, ◌≢◌, ℕ, ◌+◌, ◌<◌, ◌≤◌, true, eqb, cond, List, [], ◌∷◌, ◌++◌, length, length-append, append_assoc, Option, Some, None, refl, sym, ap, ◌∙◌, subst, arith, ⊎_elim}
+use Rattle.std.specs.Vec.{vec_capacity}
+use Rattle.std.proofs.lemmas.Bool.{both_ways, eqb-true, eq-eqb, ne_eqb, or_cases}
+use Rattle.graph_theory.specs.Graph.{IsEdgeNumber}
+use Rattle.graph_theory.specs.Parts.{holds}
 use Rattle.blossom_arena.specs.declared.links.Link.{Link}
-use Rattle.alt_forest.specs.State.{State}
-use Rattle.tree_steps.specs.declared.hops.Hop.{Hop}
-use Rattle.tree_steps.specs.Circuits.{shifted, last_edge}
-use Rattle.tree_steps.specs.Ways.{IsHop, IsWay, links_up}
+use Rattle.blossom_arena.specs.Family.{IsNested}
+use Rattle.alt_forest.specs.declared.search.Search.{Search}
+use Rattle.alt_forest.specs.State.{State, IsOutermost, IsSearchState}
+use Rattle.alt_forest.specs.Trees.{node_limit, far_end, up_edge, up_of, path_of}
+use Rattle.alt_forest.specs.Searches.{IsSound}
+use Rattle.alt_forest.proofs.Walk.{up_step, path_none}
+use Rattle.alt_forest.proofs.Paths.{path_of-step}
+use Rattle.alt_forest.proofs.Roots.{some_node}
+use Rattle.tree_steps.specs.Circuits.{before, or_zero, links_above}
 
--- from this node on the way goes on, and its links are still to come
-pub record IsPushed (s : State) (depth : ℕ → ℕ) (node base : ℕ) (now start : List Link) (from : ℕ) (hops : List Hop) : Type 0 where
-  pub left : List Hop
-  pub way : IsWay s depth node left base
-  pub links : now ++ links_up node left ≡ start ++ links_up from hops
+-- the way up from this node leads to the base, and its links are still to come
+pub record IsPushed (s : State) (node base : ℕ) (now start : List Link) (from : ℕ) : Type 0 where
+  pub outer : IsOutermost s node
+  pub there : holds (path_of s node) base ≡ true
+  pub links : now ++ links_above s (before (path_of s node) base) ≡ start ++ links_above s (before (path_of s from) base)
 
--- a way to its own start is empty
-pub way_low : (s : State) (depth : ℕ → ℕ) (x : ℕ) (hs : List Hop) (base : ℕ) → IsWay s depth x hs base → depth base ≤ depth x
-way_low s depth x [] base w = subst (λ y. depth y ≤ depth x) w (omega arith)
-way_low s depth x (h ∷ hs) base w = let hop = w.0 in omega (arith, way_low s depth h.up hs base w.1, hop.lower, hop.lowest)
+pub links_length : (s : State) (xs : List ℕ) → length (links_above s xs) ≡ length xs
+links_length s [] = refl
+links_length s (x ∷ xs) = omega (arith, links_length s xs)
 
-pub way_none : (s : State) (depth : ℕ → ℕ) (x : ℕ) (hs : List Hop) (base : ℕ) → x ≡ base → IsWay s depth x hs base → hs ≡ []
-way_none s depth x [] base same w = refl
-way_none s depth x (h ∷ hs) base same w =
-    let hop = w.0 in
-    let equal : depth x ≡ depth base = ap depth same in
-    absurd (omega (arith, way_low s depth h.up hs base w.1, hop.lower, hop.lowest, equal))
+append_none : (xs : List Link) → xs ++ [] ≡ xs
+append_none [] = refl
+append_none (x ∷ xs) = ap (λ ys. x ∷ ys) (append_none xs)
 
--- the next hop of a way that goes on
-pub record GoesOn (s : State) (depth : ℕ → ℕ) (node base : ℕ) (left : List Hop) : Type 0 where
-  pub hop : Hop
-  pub rest : List Hop
-  pub is : IsHop s depth node hop
-  pub way : IsWay s depth hop.up rest base
-  pub whole : left ≡ hop ∷ rest
+module _ (s : State) (depth : ℕ → ℕ) (nested : IsNested s.graph.vertices s.blossoms) (st : IsSearchState s depth) (node base : ℕ) (now start : List Link) (from : ℕ) (p : IsPushed s node base now start from) where
+  path : path_of s node ≡ node ∷ path_of s (up_of s node)
+  path = path_of-step s depth node nested st p.outer (some_node s depth nested st node p.outer)
 
-pub goes_on : (s : State) (depth : ℕ → ℕ) (node : ℕ) (left : List Hop) (base : ℕ) → node ≢ base → IsWay s depth node left base → GoesOn s depth node base left
-goes_on s depth node [] base ne w = absurd (ne w)
-goes_on s depth node (h ∷ hs) base ne w = record { hop = h; rest = hs; is = w.0; way = w.1; whole = refl }
+  -- the base comes later
+  later : node ≢ base → holds (path_of s (up_of s node)) base ≡ true
+  later ne = ⊎_elim (λ here. absurd (ne (eqb-true node base here))) (λ more. more) (or_cases (eqb node base) (holds (path_of s (up_of s node)) base) (sym (ap (λ xs. holds xs base) path) ∙ p.there))
 
--- two links more are pushed
-pub pushed_hop : (s : State) (depth : ℕ → ℕ) (node base : ℕ) (now one two start : List Link) (from : ℕ) (hops : List Hop) (h : Hop) → node ≢ base → IsPushed s depth node base now start from hops
-    → ((g : Hop) → IsHop s depth node g → h ≡ g) → one ≡ now ++ record { node = node; edge = h.pair } ∷ [] → two ≡ one ++ record { node = h.inner; edge = h.by } ∷ [] → IsPushed s depth h.up base two start from hops
-pushed_hop s depth node base now one two start from hops h ne p read first second =
-    let on = goes_on s depth node p.left base ne p.way in
-    let same : h ≡ on.hop = read on.hop on.is in
-    let a : Link = record { node = node; edge = h.pair } in
-    let b : Link = record { node = h.inner; edge = h.by } in
-    record {
-      left = on.rest;
-      way = subst (λ (g : Hop). IsWay s depth g.up on.rest base) (sym same) on.way;
-      links = ap (λ (xs : List Link). xs ++ links_up h.up on.rest) (second ∙ ap (λ (xs : List Link). xs ++ b ∷ []) first)
-          ∙ append_assoc (now ++ a ∷ []) (b ∷ []) (links_up h.up on.rest)
-          ∙ append_assoc now (a ∷ []) (b ∷ links_up h.up on.rest)
-          ∙ ap (λ (g : Hop). now ++ links_up node (g ∷ on.rest)) same
-          ∙ ap (λ (hs : List Hop). now ++ links_up node hs) (sym on.whole)
-          ∙ p.links;
-    }
+  -- so the node has an edge towards the root
+  pub record GoesOn : Type 0 where
+    pub edge : ℕ
+    pub has : up_edge s node ≡ Some edge
+    pub is_edge : IsEdgeNumber s.graph edge
+    pub up_is : IsOutermost s (up_of s node)
 
--- the end
-pub pushed_all : (s : State) (depth : ℕ → ℕ) (node base : ℕ) (now start : List Link) (from : ℕ) (hops : List Hop) → node ≡ base → IsPushed s depth node base now start from hops → now ≡ start ++ links_up from hops
-pushed_all s depth node base now start from hops same p =
-    sym (append_none now) ∙ ap (λ (hs : List Hop). now ++ links_up node hs) (sym (way_none s depth node p.left base same p.way)) ∙ p.links
-  where
-    append_none : (xs : List Link) → xs ++ [] ≡ xs
-    append_none [] = refl
-    append_none (x ∷ xs) = ap (λ ys. x ∷ ys) (append_none xs)
+  pub goes_on : node ≢ base → GoesOn
+  goes_on ne = by_edge (up_edge s node) refl
+    where
+      by_edge : (o : Option ℕ) → up_edge s node ≡ o → GoesOn
+      by_edge None none =
+          let end : up_of s node ≡ 0 = ap (λ o. far_end s o node) none in
+          absurd (both_ways (holds (path_of s (up_of s node)) base) (ap (λ x. holds (path_of s x) base) end ∙ ap (λ xs. holds xs base) (path_none (node_limit s.graph.vertices + 1) s)) (later ne))
+      by_edge (Some e) has =
+          let w = up_step s depth node e st p.outer has in
+          record { edge = e; has = has; is_edge = w.1.edge; up_is = subst (IsOutermost s) (sym w.1.up) w.1.outer }
 
--- there is room for two links
-pub pushed_room : (s : State) (depth : ℕ → ℕ) (node base : ℕ) (now start : List Link) (from : ℕ) (hops : List Hop) (room : ℕ) → node ≢ base → IsPushed s depth node base now start from hops → length start + length (links_up from hops) ≤ room → length now + 2 ≤ room
-pushed_room s depth node base now start from hops room ne p fits =
-    let on = goes_on s depth node p.left base ne p.way in
-    let whole : length now + length (links_up node p.left) ≡ length start + length (links_up from hops) = sym (length-append now (links_up node p.left)) ∙ ap length p.links ∙ length-append start (links_up from hops) in
-    let two : length (links_up node p.left) ≡ length (links_up node (on.hop ∷ on.rest)) = ap (λ (hs : List Hop). length (links_up node hs)) on.whole in
-    omega (arith, whole, two, fits)
+  links_now : (ne : node ≢ base) → (e : ℕ) → up_edge s node ≡ Some e → links_above s (before (path_of s node) base) ≡ record { node = node; edge = e } ∷ links_above s (before (path_of s (up_of s node)) base)
+  links_now ne e has =
+      ap (λ xs. links_above s (before xs base)) path
+      ∙ ap (λ t. links_above s (cond t [] (node ∷ before (path_of s (up_of s node)) base))) (ne_eqb node base ne)
+      ∙ ap (λ o. record { node = node; edge = or_zero o } ∷ links_above s (before (path_of s (up_of s node)) base)) has
 
--- the same, each node with the edge that led to it
-pub record IsTurnedSoFar (s : State) (depth : ℕ → ℕ) (node base edge : ℕ) (now start : List Link) (from first : ℕ) (hops : List Hop) : Type 0 where
-  pub left : List Hop
-  pub way : IsWay s depth node left base
-  pub links : now ++ shifted edge (links_up node left) ≡ start ++ shifted first (links_up from hops)
-  pub last : last_edge edge (links_up node left) ≡ last_edge first (links_up from hops)
+  -- one link more is pushed
+  pub pushed_on : node ≢ base → (e up : ℕ) (more : List Link) → up_edge s node ≡ Some e → up ≡ up_of s node → more ≡ now ++ record { node = node; edge = e } ∷ [] → IsPushed s up base more start from
+  pushed_on ne e up more has up_is pushed =
+      let a : Link = record { node = node; edge = e } in
+      subst (λ x. IsPushed s x base more start from) (sym up_is) (record {
+        outer = (goes_on ne).up_is;
+        there = later ne;
+        links = ap (λ (xs : List Link). xs ++ links_above s (before (path_of s (up_of s node)) base)) pushed
+            ∙ append_assoc now (a ∷ []) (links_above s (before (path_of s (up_of s node)) base))
+            ∙ ap (λ (xs : List Link). now ++ xs) (sym (links_now ne e has))
+            ∙ p.links;
+      })
 
-pub turned_hop : (s : State) (depth : ℕ → ℕ) (node base edge : ℕ) (now one two start : List Link) (from first : ℕ) (hops : List Hop) (h : Hop) → node ≢ base → IsTurnedSoFar s depth node base edge now start from first hops
-    → ((g : Hop) → IsHop s depth node g → h ≡ g) → one ≡ now ++ record { node = node; edge = edge } ∷ [] → two ≡ one ++ record { node = h.inner; edge = h.pair } ∷ [] → IsTurnedSoFar s depth h.up base h.by two start from first hops
-turned_hop s depth node base edge now one two start from first hops h ne p read pushed_one pushed_two =
-    let on = goes_on s depth node p.left base ne p.way in
-    let same : h ≡ on.hop = read on.hop on.is in
-    let a : Link = record { node = node; edge = edge } in
-    let b : Link = record { node = h.inner; edge = h.pair } in
-    record {
-      left = on.rest;
-      way = subst (λ (g : Hop). IsWay s depth g.up on.rest base) (sym same) on.way;
-      links = ap (λ (xs : List Link). xs ++ shifted h.by (links_up h.up on.rest)) (pushed_two ∙ ap (λ (xs : List Link). xs ++ b ∷ []) pushed_one)
-          ∙ append_assoc (now ++ a ∷ []) (b ∷ []) (shifted h.by (links_up h.up on.rest))
-          ∙ append_assoc now (a ∷ []) (b ∷ shifted h.by (links_up h.up on.rest))
-          ∙ ap (λ (g : Hop). now ++ shifted edge (links_up node (g ∷ on.rest))) same
-          ∙ ap (λ (hs : List Hop). now ++ shifted edge (links_up node hs)) (sym on.whole)
-          ∙ p.links;
-      last = ap (λ (g : Hop). last_edge edge (links_up node (g ∷ on.rest))) same ∙ ap (λ (hs : List Hop). last_edge edge (links_up node hs)) (sym on.whole) ∙ p.last;
-    }
+  pub way_shorter : node ≢ base → (up : ℕ) → up ≡ up_of s node → length (path_of s up) < length (path_of s node)
+  way_shorter ne up is = omega (arith, ap length path, ap (λ x. length (path_of s x)) is)
 
-pub turned_all : (s : State) (depth : ℕ → ℕ) (node base edge : ℕ) (now start : List Link) (from first : ℕ) (hops : List Hop) → node ≡ base → IsTurnedSoFar s depth node base edge now start from first hops
-    → (now ≡ start ++ shifted first (links_up from hops)) × (edge ≡ last_edge first (links_up from hops))
-turned_all s depth node base edge now start from first hops same p =
-    let none : p.left ≡ [] = way_none s depth node p.left base same p.way in (
-      sym (append_none now) ∙ ap (λ (hs : List Hop). now ++ shifted edge (links_up node hs)) (sym none) ∙ p.links,
-      ap (λ (hs : List Hop). last_edge edge (links_up node hs)) (sym none) ∙ p.last,
-    )
-  where
-    append_none : (xs : List Link) → xs ++ [] ≡ xs
-    append_none [] = refl
-    append_none (x ∷ xs) = ap (λ ys. x ∷ ys) (append_none xs)
+  -- there is room for it
+  pub pushed_room : node ≢ base → (room : ℕ) → length start + length (before (path_of s from) base) ≤ room → length now + 1 ≤ room
+  pushed_room ne room fits =
+      let on = goes_on ne in
+      let whole : length now + length (links_above s (before (path_of s node) base)) ≡ length start + length (links_above s (before (path_of s from) base)) =
+      sym (length-append now (links_above s (before (path_of s node) base))) ∙ ap length p.links ∙ length-append start (links_above s (before (path_of s from) base)) in
+      omega (arith, whole, ap length (links_now ne on.edge on.has), links_length s (before (path_of s from) base), fits)
 
-pub shifted_length : (e : ℕ) (ls : List Link) → length (shifted e ls) ≡ length ls
-shifted_length e [] = refl
-shifted_length e (l ∷ ls) = omega (arith, shifted_length l.edge ls)
+  -- the end
+  pub pushed_all : node ≡ base → now ≡ start ++ links_above s (before (path_of s from) base)
+  pushed_all same =
+      let none : links_above s (before (path_of s node) base) ≡ [] = ap (λ xs. links_above s (before xs base)) path ∙ ap (λ t. links_above s (cond t [] (node ∷ before (path_of s (up_of s node)) base))) (eq-eqb node base same) in
+      sym (append_none now) ∙ ap (λ (xs : List Link). now ++ xs) (sym none) ∙ p.links
 
-pub turned_room : (s : State) (depth : ℕ → ℕ) (node base edge : ℕ) (now start : List Link) (from first : ℕ) (hops : List Hop) (room : ℕ) → node ≢ base → IsTurnedSoFar s depth node base edge now start from first hops
-    → length start + length (links_up from hops) ≤ room → length now + 2 ≤ room
-turned_room s depth node base edge now start from first hops room ne p fits =
-    let on = goes_on s depth node p.left base ne p.way in
-    let whole : length now + length (shifted edge (links_up node p.left)) ≡ length start + length (shifted first (links_up from hops)) = sym (length-append now (shifted edge (links_up node p.left))) ∙ ap length p.links ∙ length-append start (shifted first (links_up from hops)) in
-    let two : length (links_up node p.left) ≡ length (links_up node (on.hop ∷ on.rest)) = ap (λ (hs : List Hop). length (links_up node hs)) on.whole in
-    omega (arith, whole, two, fits, shifted_length edge (links_up node p.left), shifted_length first (links_up from hops))
+-- a search with another circuit of the same room is sound
+pub sound_with : (s t : Search) → IsSound s → t ≡ record s { circuit = t.circuit } → vec_capacity t.circuit ≡ vec_capacity s.circuit → IsSound t
+sound_with s t h rest room =
+    let sh = h.shape in
+    subst IsSound (sym rest) (record {
+      shape = record { graph = sh.graph; family = sh.family; arena = sh.arena; labels = sh.labels; parents = sh.parents; mates = sh.mates; circuit = subst (λ n. s.graph.vertices ≤ n) (sym room) sh.circuit };
+      depth = h.depth;
+      state = h.state;
+    })

@@ -8,8 +8,7 @@ use Rattle.blossom_arena.specs.Family.{is_outermost, in_ring, nodes_of}
 use Rattle.blossom_arena.proofs.Lists.{AllNew, distinct_from_new}
 use Rattle.alt_forest.specs.declared.label.Label.TheVariants.{Outer}
 use Rattle.alt_forest.specs.State.{State, IsOutermost, Joins, IsTight, next_node, IsChainTo, IsMate, IsSearchState}
-use Rattle.tree_steps.specs.declared.hops.Hop.{Hop}
-use Rattle.tree_steps.specs.Ways.{IsWay, links_up}
+use Rattle.tree_steps.proofs.Hops.{Hop, IsWay, links_up}
 use Rattle.tree_steps.specs.Shrinkable.{IsShrinkable}
 use Rattle.tree_steps.specs.Circuits.{mirror, circuit_of}
 use Rattle.tree_steps.proofs.Joints.{joins_turned, mate_turned, mate_unique}

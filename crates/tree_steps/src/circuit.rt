@@ -1,34 +1,54 @@
-ghost use Rattle.std.specs.Prelude.{◌≡◌, ◌+◌, ◌≤◌, ◌++◌, ℕ, true, List, length, vec_len};
+ghost use Rattle.std.specs.Prelude.{◌≡◌, ◌+◌, ◌≤◌, ◌++◌, ℕ, true, length, vec_len};
 ghost use Rattle.std.specs.Vec.{vec_capacity};
 ghost use Rattle.graph_theory.specs.Parts.{holds};
 ghost use Rattle.blossom_arena.specs.Family.{names_of, nodes_of, in_ring, ring_of};
-ghost use Rattle.tree_steps.specs.declared.hops.Hop.{Hop};
+ghost use Rattle.alt_forest.specs.State.{IsOutermost};
+ghost use Rattle.alt_forest.specs.Trees.{path_of};
 ghost use Rattle.alt_forest.specs.Searches.{HasShape, IsSound, state_of};
-ghost use Rattle.tree_steps.specs.Circuits.{before, circuit_of};
+ghost use Rattle.tree_steps.specs.Circuits.{before, links_above, circuit_of, shifted, last_edge};
 ghost use Rattle.tree_steps.specs.Expanded.{IsRound};
-ghost use Rattle.tree_steps.specs.Ways.{IsWay, HasWay, links_up};
 
-use crate::hops::{push_turned, push_way};
+use crate::way_up::push_way;
 use alt_forest::Search;
 use blossom_arena::{Link, NodeId, Ring};
 use mb_base::EdgeId;
 
-/// Fills the circuit with two ways up to one node, closed by an edge between their first nodes.
+/// Gives each node the edge that led to it, the first one the given edge, and answers the edge that leads
+/// on from the last one.
+fn shift_edges(links: &mut Vec<Link>, first: EdgeId) -> EdgeId
+    ensures links { links.new.items ≡ shifted first links.old.items }
+    ensures last { result ≡ last_edge first links.old.items }
+    ensures capacity { vec_capacity links.new ≡ vec_capacity links.old }
+{
+    let mut edge = first;
+    for place in 0..links.len() {
+        let link = links[place];
+        links[place] = Link {
+            node: link.node,
+            edge,
+        };
+        edge = link.edge;
+    }
+    edge
+}
+
+/// Fills the circuit with the ways up from two nodes to the first one that they share, its base, closed by
+/// an edge between the two.
 pub(crate) fn fill_circuit(search: &mut Search, a: NodeId, b: NodeId, base: NodeId, e: EdgeId)
     requires sound { IsSound search.old }
-    requires left { HasWay (state_of search.old) a base }
-    requires right { HasWay (state_of search.old) b base }
-    requires room { (depth : ℕ → ℕ) (rank : ℕ → ℕ) (hs ks : List Hop) → IsWay (state_of search.old) depth a hs base → IsWay (state_of search.old) rank b ks base → length (links_up a hs) + length (links_up b ks) + 1 ≤ vec_capacity search.old.circuit }
-    ensures circuit { (depth : ℕ → ℕ) (rank : ℕ → ℕ) (hs ks : List Hop) → IsWay (state_of search.old) depth a hs base → IsWay (state_of search.old) rank b ks base → search.new.circuit.items ≡ circuit_of base e (links_up a hs) (links_up b ks) }
+    requires a_outer { IsOutermost (state_of search.old) a }
+    requires b_outer { IsOutermost (state_of search.old) b }
+    requires a_there { holds (path_of (state_of search.old) a) base ≡ true }
+    requires b_there { holds (path_of (state_of search.old) b) base ≡ true }
+    requires room { length (before (path_of (state_of search.old) a) base) + length (before (path_of (state_of search.old) b) base) + 1 ≤ vec_capacity search.old.circuit }
+    ensures circuit { search.new.circuit.items ≡ circuit_of base e (links_above (state_of search.old) (before (path_of (state_of search.old) a) base)) (links_above (state_of search.old) (before (path_of (state_of search.old) b) base)) }
     ensures rest { search.new ≡ record search.old { circuit = search.new.circuit } }
-    ensures capacity { vec_capacity search.new.circuit ≡ vec_capacity search.old.circuit }
+    ensures sound { IsSound search.new }
 {
     search.circuit.clear();
-    let last = push_turned(search, a, base, e);
-    search.circuit.push_reserved(Link {
-        node: base,
-        edge: last,
-    });
+    push_way(search, a, base);
+    let edge = shift_edges(&mut search.circuit, e);
+    search.circuit.push_reserved(Link { node: base, edge });
     search.circuit.reverse();
     push_way(search, b, base);
 }

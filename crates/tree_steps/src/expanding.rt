@@ -13,8 +13,8 @@ ghost use Rattle.tree_steps.specs.Circuits.{before};
 ghost use Rattle.tree_steps.specs.Expanded.{child_at, opened, hung_up, hung_down, IsExpanded};
 
 use crate::circuit::{fill_round, place_of};
-use crate::hops::or_none;
 use crate::pairs::{climb_down, climb_up, label_out, mate_pairs};
+use crate::way_up::or_none;
 use alt_forest::{Label, Search, set_edge, set_label};
 use blossom_arena::NodeId;
 use mb_base::{EdgeId, Steps};

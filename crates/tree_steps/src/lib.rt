@@ -7,9 +7,9 @@
 mod circuit;
 mod expanding;
 mod growth;
-mod hops;
 mod pairs;
 mod shrinking;
+mod way_up;
 
 pub use expanding::expand;
 pub use growth::grow;
