@@ -1,6 +1,9 @@
 -- The nodes that the code finds at the ends of an edge.
 use Rattle.std.proofs.Common.{◌≡◌, ℕ, ap, ◌∙◌, sym, inl, subst}
-use Rattle.graph_theory.specs.Graph.{Multigraph, IsEdgeNumber, edge_of}
+use Rattle.graph_theory.specs.Graph.{Multigraph, IsEdgeNumber, IsEdgeWithin, IsWeight, edge_of}
+use Rattle.graph_theory.specs.declared.edge.Edge.{Edge}
+use Rattle.graph_theory.proofs.Edges.{edge_of_within, edge_of-weight}
+use Rattle.alt_forest.proofs.Certified.{same_edge}
 use Rattle.blossom_arena.specs.Family.{outermost}
 use Rattle.alt_forest.specs.declared.search.Search.{Search}
 use Rattle.alt_forest.specs.State.{IsOutermost, Joins, node_u, node_v}
@@ -34,3 +37,13 @@ module _ (s : Search) (g : Multigraph) (e u v one other : ℕ) (h : HasShape s) 
 
   pub they_join : Joins s.graph s.arena.blossoms e one other
   they_join = inl (sym at_u, sym at_v)
+
+-- the edge that is found by its ends and its weight
+pub edge_found : (s : Search) (g : Multigraph) (e : ℕ) (x : Edge) → g ≡ s.graph → x.u ≡ (edge_of g e).u → x.v ≡ (edge_of g e).v → x.w ≡ (edge_of g e).w → edge_of s.graph e ≡ x
+edge_found s g e x graph u v w = ap (λ k. edge_of k e) (sym graph) ∙ sym (same_edge x (edge_of g e) u v w)
+
+pub edge_within : (s : Search) (e : ℕ) (x : Edge) → HasShape s → IsEdgeNumber s.graph e → edge_of s.graph e ≡ x → IsEdgeWithin s.graph.vertices x
+edge_within s e x h is same = subst (λ (k : Edge). IsEdgeWithin s.graph.vertices k) same (edge_of_within s.graph e h.graph.graph.ends is)
+
+pub edge_weighs : (s : Search) (e : ℕ) (x : Edge) → HasShape s → IsEdgeNumber s.graph e → edge_of s.graph e ≡ x → IsWeight x.w
+edge_weighs s e x h is same = subst (λ (k : Edge). IsWeight k.w) same (edge_of-weight s.graph e h.graph.graph is)

@@ -10,4 +10,3 @@ pub mod Reps
 pub mod Heads
 pub mod Barrier
 pub mod Total
-pub mod Tested

@@ -1,5 +1,5 @@
 ghost use Rattle.std.specs.Prelude.{◌≡◌, ◌≢◌, ◌⊎◌, ◌↔◌, ◌<◌, ◌≤◌, ◌+◌, ℕ, ℤ, pos, ◌+ℤ◌, ◌≤ℤ◌, true, None, Some, length};
-ghost use Rattle.graph_theory.specs.Graph.{IsEdgeNumber};
+ghost use Rattle.graph_theory.specs.Graph.{IsEdgeNumber, edge_of};
 ghost use Rattle.graph_theory.specs.Parts.{holds};
 ghost use Rattle.blossom_arena.specs.Family.{names_of};
 ghost use Rattle.alt_forest.specs.declared.label.Label.TheVariants.{Outer, Out};
@@ -12,6 +12,7 @@ ghost use Rattle.dual_change.specs.Candidates.{change_of, ComesBy, IsCandidate, 
 use crate::event::Next;
 use alt_forest::{Label, Search};
 use blossom_arena::NodeId;
+use graph_theory::Edge;
 use mb_base::{EdgeId, Steps};
 use std::sync::ledger::Ledger;
 use weighted_graph::Graph;
@@ -54,31 +55,24 @@ fn sooner(one: Next, other: Next) -> Next
 
 /// What an edge lets come that leads from an outer node to one labelled out: the tree grows where that
 /// has a mate, and else the matching is augmented.
-fn to_out<L: Ledger>(
-    search: &Search,
-    graph: &Graph,
-    e: EdgeId,
-    far: NodeId,
-    steps: &mut Steps<L>,
-) -> Next
+fn to_out(search: &Search, e: EdgeId, edge: &Edge, far: NodeId) -> Next
     requires sound { IsSound search.now }
-    requires graph { graph.now ≡ search.now.graph }
-    requires edge { IsEdgeNumber graph.now e }
+    requires number { IsEdgeNumber search.now.graph e }
+    requires edge { edge_of search.now.graph e ≡ edge.now }
     requires outer { IsOutermost (state_of search.now) far }
     requires out { label_at search.now.labels.items far ≡ Out }
     requires near { (a : ℕ) × Joins search.now.graph search.now.arena.blossoms e a far × (label_at search.now.labels.items a ≡ Outer) }
     ensures change { change_of result ≡ Some (slack_of (state_of search.now) e) }
     ensures candidate { IsCandidate (state_of search.now) result }
-    ensures step { steps.new ≡ steps.old + 1 }
 {
-    let d = search.slack(graph, e, steps);
+    let d = search.slack_by(edge);
     match search.mate(far) {
         Some(_) => Next::Grow(e, d),
         None => Next::Augment(e, d),
     }
 }
 
-/// What an edge lets come, and when.
+/// What an edge lets come, and when, by one look at it.
 fn by_edge<L: Ledger>(search: &Search, graph: &Graph, e: EdgeId, steps: &mut Steps<L>) -> Next
     requires sound { IsSound search.now }
     requires graph { graph.now ≡ search.now.graph }
@@ -86,18 +80,19 @@ fn by_edge<L: Ledger>(search: &Search, graph: &Graph, e: EdgeId, steps: &mut Ste
     requires edge { IsEdgeNumber graph.now e }
     ensures candidate { IsCandidate (state_of search.now) result }
     ensures minds { MindsEdge (state_of search.now) result e }
-    ensures steps { steps.new ≤ steps.old + 1 }
+    ensures step { steps.new ≡ steps.old + 1 }
 {
-    let (u, v, _) = graph.edge(e);
+    let (u, v, w) = graph.look(e, steps);
+    let edge = Edge { u, v, w };
     let one = search.arena.outermost(u);
     let other = search.arena.outermost(v);
     if one.number() == other.number() {
         return Next::Stuck;
     }
     match (search.label(one), search.label(other)) {
-        (Label::Outer, Label::Outer) => Next::Shrink(e, half(search.slack(graph, e, steps))),
-        (Label::Outer, Label::Out) => to_out(search, graph, e, other, steps),
-        (Label::Out, Label::Outer) => to_out(search, graph, e, one, steps),
+        (Label::Outer, Label::Outer) => Next::Shrink(e, half(search.slack_by(&edge))),
+        (Label::Outer, Label::Out) => to_out(search, e, &edge, other),
+        (Label::Out, Label::Outer) => to_out(search, e, &edge, one),
         _ => Next::Stuck,
     }
 }
@@ -109,7 +104,7 @@ fn first_by_edges<L: Ledger>(search: &Search, graph: &Graph, steps: &mut Steps<L
     requires one_tree { HasOneTree (state_of search.now) }
     ensures candidate { IsCandidate (state_of search.now) result }
     ensures minds { (e : ℕ) → IsEdgeNumber graph.now e → MindsEdge (state_of search.now) result e }
-    ensures steps { steps.new ≤ steps.old + length graph.now.edges }
+    ensures steps { steps.new ≡ steps.old + length graph.now.edges }
 {
     let mut first = Next::Stuck;
     for place in 0..graph.edges() {
@@ -154,14 +149,15 @@ fn first_by_blossoms(search: &Search, by_edges: Next) -> Next
 /// is exposed, the matching is augmented; an edge between two outer nodes may, so that a blossom is
 /// shrunk; or the dual of an inner blossom comes to 0, so that it is expanded. It answers `Stuck` where
 /// no change makes any of these possible. The graph is the one that the search was made for. It looks
-/// at no edge twice, takes time linear in the edges and in the nodes around their ends, and no memory.
+/// at each edge once, which is all that it counts, takes time linear in the edges and in the nodes around
+/// their ends, and no memory.
 pub fn find<L: Ledger>(search: &Search, graph: &Graph, steps: &mut Steps<L>) -> Next
     requires sound { IsSound search.now }
     requires same { graph.now ≡ search.now.graph }
     requires one_tree { HasOneTree (state_of search.now) }
     ensures found { IsNext (state_of search.now) result }
     ensures within { IsNextWithin (state_of search.now) result }
-    ensures steps { steps.new ≤ steps.old + length graph.now.edges }
+    ensures steps { steps.new ≡ steps.old + length graph.now.edges }
 {
     let by_edges = first_by_edges(search, graph, steps);
     first_by_blossoms(search, by_edges)

@@ -11,5 +11,5 @@ loop-place-preserved g c =
     record {
       candidate = either_candidate s c.loop-place.first c.by_edge.result c.sooner-first.result c.sooner-first.ensures.either i.candidate c.by_edge.ensures.candidate;
       minds = minds_next s c.loop-place.place c.loop-place.first c.by_edge.result c.sooner-first.result i.minds (subst (MindsEdge s c.by_edge.result) c.new.ensures c.by_edge.ensures.minds) c.sooner-first.ensures.one c.sooner-first.ensures.other;
-      steps = omega (arith, i.steps, c.by_edge.ensures.steps);
+      steps = omega (arith, i.steps, c.by_edge.ensures.step);
     }
