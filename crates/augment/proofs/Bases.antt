@@ -15,7 +15,7 @@ use Rattle.blossom_arena.proofs.Parents.{ring_child, chain_node, chain_through, 
 use Rattle.alt_forest.specs.State.{Joins, next_node, IsChainTo}
 use Rattle.augment.specs.Opening.{CanOpen, Opens, IsBare, IsSpread, links_before, links_after, marked, up_to, spread, spread_in, paired, first_matched, waiting_after}
 use Rattle.augment.proofs.Round.{AreRound, are_round, round_chain, each_split, in_ring-append}
-use Rattle.augment.proofs.Weaving.{ArePartedAt, parted_at, before_none, paired_append, paired_same, first_is}
+use Rattle.augment.proofs.LinkPairs.{ArePartedAt, parted_at, before_none, paired_append, paired_same, first_is}
 use Rattle.augment.proofs.Spreads.{pairs_up}
 
 -- a name that isn't the newest is an older one

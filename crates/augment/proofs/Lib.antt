@@ -13,7 +13,7 @@ pub mod Pairs
 pub mod Left
 pub mod Unpacked
 pub mod Counts
-pub mod Weaving
+pub mod LinkPairs
 pub mod Bases
 pub mod Ready
 pub mod Finished

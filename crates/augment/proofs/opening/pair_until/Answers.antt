@@ -4,7 +4,7 @@ use Rattle.graph_theory.specs.Graph.{IsEdgeNumber}
 use Rattle.blossom_arena.specs.declared.links.Link.{Link}
 use Rattle.alt_forest.specs.Searches.{edge_in}
 use Rattle.augment.specs.Opening.{spread_in}
-use Rattle.augment.proofs.Weaving.{weave, wait, waits, stop_here, stop_end}
+use Rattle.augment.proofs.LinkPairs.{pair_next, wait, waits, stop_here, stop_end}
 use Rattle.augment.proofs.opening.pair_until.Goals as goal
 
 pub returns-then-number-clause-mates : goal.returns-then-number-clause-mates
@@ -19,7 +19,7 @@ loop-link-preserved c =
     let step = c.in-Some.ensures.steps in
     let each = subst (AllByRecursion (λ (k : Link). IsEdgeNumber c.args.graph.now k.edge)) step v.each in
     record {
-      mates = weave (spread_in c.args.graph.now c.args.arena.now.blossoms c.args.b) (edge_in c.loop-link.mates.items) (edge_in c.pair-first.new.mates.items) c.loop-link.first c.pair-first.result c.in-Some.link c.loop-link.link-iterator c.next.new.self c.args.node _ step
+      mates = pair_next (spread_in c.args.graph.now c.args.arena.now.blossoms c.args.b) (edge_in c.loop-link.mates.items) (edge_in c.pair-first.new.mates.items) c.loop-link.first c.pair-first.result c.in-Some.link c.loop-link.link-iterator c.next.new.self c.args.node _ step
           (λ q. c.if-number.false (c.number.ensures ∙ q ∙ sym c.number-in-loop-link.ensures)) e.mates e.waiting v.mates;
       waiting = wait c.loop-link.first c.pair-first.result c.in-Some.link c.loop-link.link-iterator c.next.new.self c.args.node _ step
           (λ q. c.if-number.false (c.number.ensures ∙ q ∙ sym c.number-in-loop-link.ensures)) e.waiting v.waiting;

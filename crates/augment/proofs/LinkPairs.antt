@@ -82,9 +82,9 @@ parted_at (l ∷ ls) a e = by_test (eqb l.node a)
     })
 
 -- one link more is paired
-pub weave : (pairs : (ℕ → Option ℕ) → ℕ → ℕ → Option ℕ) (m n : ℕ → Option ℕ) (w w' : Option Link) (l : Link) (it ls : List Link) (a : ℕ) (target : ℕ → Option ℕ) → it ≡ l ∷ ls → l.node ≢ a → n ≡ paired pairs m w (l ∷ []) → w' ≡ waiting_after w (l ∷ [])
+pub pair_next : (pairs : (ℕ → Option ℕ) → ℕ → ℕ → Option ℕ) (m n : ℕ → Option ℕ) (w w' : Option Link) (l : Link) (it ls : List Link) (a : ℕ) (target : ℕ → Option ℕ) → it ≡ l ∷ ls → l.node ≢ a → n ≡ paired pairs m w (l ∷ []) → w' ≡ waiting_after w (l ∷ [])
     → paired pairs m w (links_before it a) ≡ target → paired pairs n w' (links_before ls a) ≡ target
-weave pairs m n w w' l it ls a target step ne is then h =
+pair_next pairs m n w w' l it ls a target step ne is then h =
     ap (λ f. paired pairs f w' (links_before ls a)) is ∙ ap (λ v. paired pairs (paired pairs m w (l ∷ [])) v (links_before ls a)) then
     ∙ sym (ap (λ x. paired pairs m w (links_before x a)) step ∙ ap (paired pairs m w) (before_past l ls a ne) ∙ paired_step pairs m w l (links_before ls a)) ∙ h
 
