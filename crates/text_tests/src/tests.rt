@@ -1,0 +1,4 @@
+mod bytes;
+mod documents;
+mod instances;
+mod streams;

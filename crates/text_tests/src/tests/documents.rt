@@ -1,0 +1,81 @@
+use doc_format::{CountLine, DocError, DocStatus, DualLine, read, write};
+use mb_problem::Kind;
+use std::test::Fail;
+
+#[test]
+fn first_wrong_line_is_named(rt: HostRuntime) -> Result<(), Fail> {
+    let rows: [(&[u8], u64); 4] = [
+        (b"", 3),
+        (b"\nc x\n", 5),
+        (b"x 1 1\ns OPTIMAL perfect 5", 3),
+        (b"s OPTIMAL perfect 5\ny 1 5\nx 1 1\n", 5),
+    ];
+    for (text, wanted) in rows {
+        match read(rt.alloc(), text, 3) {
+            Err(DocError::DocForm { line }) => assert_eq!(rt; line, wanted),
+            _ => assert!(rt; false),
+        }
+    }
+    Ok(())
+}
+
+#[test]
+fn every_letter_is_read_and_written(rt: HostRuntime) -> Result<(), Fail> {
+    let alloc = rt.alloc();
+    // What is written in brief, and what follows in full.
+    let rows: [(&[u8], &[u8]); 8] = [
+        (
+            b"s OPTIMAL perfect 12\nx 1 1\nx 5 1\nx 7 1\n",
+            b"y 1 1\ny 2 1\ny 3 1\ny 4 1\ny 5 1\ny 6 1\nz 9 3 1 2 3\nz 9 3 4 5 6\n",
+        ),
+        (
+            b"s OPTIMAL perfect -5\nx 1 1\nx 7 1\n",
+            b"y 1 -2\ny 2 0\nz 4 3 3 1 2\nz 1 0\n",
+        ),
+        (b"s OPTIMAL path 2\nw 1 2 1 2\n", b"y 5 -2\nz 6 3 1 2 3\n"),
+        (b"s INFEASIBLE bmatch\n", b"u 2 5 6\n"),
+        (b"s INFEASIBLE tjoin\n", b"t 1 2\n"),
+        (b"s INFEASIBLE postman\n", b"q 2 1 2\n"),
+        (b"s NONCONSERVATIVE path\n", b"w 1 3 1 2 3\n"),
+        (b"s OPTIMAL match 0\n", b""),
+    ];
+    for (brief, certificate) in rows {
+        let mut text = Vec::from_slice(alloc, brief)?;
+        text.extend_from_slice(certificate)?;
+        match read(alloc, &text, 1) {
+            Ok(document) => {
+                assert_eq!(rt; write(alloc, &document, false)?.as_slice(), text.as_slice());
+                assert_eq!(rt; write(alloc, &document, true)?.as_slice(), brief);
+            }
+            Err(_) => assert!(rt; false),
+        }
+    }
+    Ok(())
+}
+
+// Numbers beyond the bound are kept as the first beyond it.
+#[test]
+fn parts_keep_their_lines_and_values(rt: HostRuntime) -> Result<(), Fail> {
+    let text = b"\n s\tOPTIMAL ffactor -9999999999999999\r\nc\nx 007 -0\n\ny 1 -9999999999999999\n";
+    match read(rt.alloc(), text, 10) {
+        Ok(document) => {
+            let least = -1_000_000_000_000_001;
+            let (line, edge, count) = (13, 7, 0);
+            let counts = [CountLine { line, edge, count }];
+            let (line, vertex, dual) = (15, 1, least);
+            let duals = [DualLine { line, vertex, dual }];
+            assert_eq!(rt; document.status, DocStatus::Optimal);
+            assert_eq!(rt; document.kind, Kind::FFactor);
+            assert_eq!(rt; (document.line, document.weight), (11, least));
+            assert_eq!(rt; document.counts.as_slice(), counts.as_slice());
+            assert_eq!(rt; document.duals.as_slice(), duals.as_slice());
+            assert!(rt; document.walk.is_none());
+            assert!(rt; document.sets.is_empty());
+            assert!(rt; document.barrier.is_none());
+            assert!(rt; document.odd.is_none());
+            assert!(rt; document.split.is_none());
+        }
+        Err(_) => assert!(rt; false),
+    }
+    Ok(())
+}
