@@ -12,7 +12,8 @@ use Rattle.mb_problem.specs.Feasible.{IsFeasible}
 use Rattle.mb_problem.specs.Measured.{HasPlaces}
 use Rattle.mb_problem.proofs.EdgeLemmas.{edges-count}
 use Rattle.gadget_base.specs.Gadgets.{ports_graph}
-use Rattle.gadget_base.specs.Certified.{gadget_graph, IsWithinLimits}
+use Rattle.graph_theory.specs.Limits.{IsWithinLimits}
+use Rattle.gadget_base.specs.Certified.{gadget_graph}
 
 ports-vertices : (i : Network) (odd : ℕ → ℕ) → (ports_graph i odd).vertices ≡ (ports_size i odd).vertices
 ports-vertices i odd = let last : vertices i + 1 - 1 ≡ vertices i = omega arith in ap (λ (n : ℕ). sum_to (λ k. port_count i odd (k + 1)) n) last

@@ -11,7 +11,8 @@ use Rattle.mb_problem.specs.declared.answer.Answer.{Answer}
 use Rattle.mb_problem.specs.declared.answer.Answer.TheVariants.{Counts, Walk, Nothing}
 use Rattle.mb_problem.specs.Network.{Network, IsNetwork, graph_of}
 use Rattle.mb_problem.specs.Feasible.{IsFeasible, IsAsGood, weight_of}
-use Rattle.gadget_base.specs.Certified.{gadget_graph, total_weight, value_for, ReachesAll, IsReached}
+use Rattle.mb_problem.specs.Values.{total_weight, value_for}
+use Rattle.gadget_base.specs.Certified.{gadget_graph, ReachesAll, IsReached}
 use Rattle.doc_format.specs.declared.document.Document.{Document}
 use Rattle.doc_format.specs.declared.part.MemberLine.{MemberLine}
 use Rattle.doc_format.specs.declared.part.WalkLine.{WalkLine}

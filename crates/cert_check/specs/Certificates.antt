@@ -8,7 +8,8 @@ use Rattle.mb_problem.specs.declared.kind.Kind.{Kind}
 use Rattle.mb_problem.specs.declared.kind.Kind.TheVariants.{TJoin, Postman, Path}
 use Rattle.mb_problem.specs.Network.{Network, graph_of, value_of}
 use Rattle.mb_problem.specs.Feasible.{IsFeasible, weight_of}
-use Rattle.gadget_base.specs.Certified.{gadget_graph, value_for}
+use Rattle.mb_problem.specs.Values.{value_for}
+use Rattle.gadget_base.specs.Certified.{gadget_graph}
 use Rattle.doc_format.specs.declared.document.Document.{Document}
 use Rattle.cert_check.specs.Claims.{answer_of, duals_of, HasDual, sets_of, numbers}
 

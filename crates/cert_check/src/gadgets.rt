@@ -1,6 +1,7 @@
 ghost use Rattle.std.specs.Prelude.{◌≡◌, ◌≤◌, pos, ◌≤ℤ◌, All, IfOk};
 ghost use Rattle.mb_problem.specs.Size.{size_of};
-ghost use Rattle.gadget_base.specs.Certified.{gadget_graph, IsWithinLimits, ReachesAll};
+ghost use Rattle.graph_theory.specs.Limits.{IsWithinLimits};
+ghost use Rattle.gadget_base.specs.Certified.{gadget_graph, ReachesAll};
 
 use gadget_cap::capped;
 use gadget_match::{copies, double};

@@ -1,6 +1,6 @@
 ghost use Rattle.std.specs.Prelude.{◌≡◌, ◌↔◌, pos, ◌≤ℤ◌, All, IsTrue, IfOk};
 ghost use Rattle.mb_problem.specs.Size.{size_of};
-ghost use Rattle.gadget_base.specs.Certified.{IsWithinLimits};
+ghost use Rattle.graph_theory.specs.Limits.{IsWithinLimits};
 ghost use Rattle.cert_check.specs.Within.{AreWithin};
 ghost use Rattle.cert_check.specs.Verdicts.{IsVerdict, KeepsBefore};
 ghost use Rattle.cert_check.specs.Certificates.{HasBarrier, HasWantedBarrier};

@@ -2,7 +2,8 @@ ghost use Rattle.std.specs.Prelude.{◌≡◌, ◌≢◌, ℕ, pos, ◌*ℤ◌, 
 ghost use Rattle.graph_theory.specs.Graph.{IsPerfect, weight};
 ghost use Rattle.graph_theory.specs.Duals.{dual_value};
 ghost use Rattle.mb_problem.specs.Size.{size_of};
-ghost use Rattle.gadget_base.specs.Certified.{gadget_graph, IsWithinLimits, ReachesAll};
+ghost use Rattle.graph_theory.specs.Limits.{IsWithinLimits};
+ghost use Rattle.gadget_base.specs.Certified.{gadget_graph, ReachesAll};
 ghost use Rattle.dual_check.specs.Fault.{IsFirstSetFault};
 ghost use Rattle.cert_check.specs.Claims.{duals_of, sets_of};
 ghost use Rattle.cert_check.specs.Within.{AreWithin};

@@ -1,7 +1,7 @@
 ghost use Rattle.std.specs.Prelude.{◌≡◌, map, length, MatchOption, ⊤, [], ◌∷◌};
 ghost use Rattle.mb_problem.specs.Network.{Network, IsNetwork, vertices};
 ghost use Rattle.mb_problem.specs.Size.{size_of};
-ghost use Rattle.gadget_base.specs.Certified.{IsWithinLimits};
+ghost use Rattle.graph_theory.specs.Limits.{IsWithinLimits};
 ghost use Rattle.cert_check.specs.Within.{AreWithin};
 ghost use Rattle.cert_check.specs.Ranges.{is_dual, first_fault, first_out_of_range, checked_count, checked_walk, checked_dual, checked_set, checked_members, listed};
 

@@ -1,6 +1,6 @@
 ghost use Rattle.std.specs.Prelude.{◌≡◌, ◌≤◌, ◌^◌, pos, neg_ℤ, ◌≤ℤ◌};
 ghost use Rattle.graph_theory.specs.Duals.{IsNumber};
-ghost use Rattle.gadget_base.specs.Certified.{total_weight, value_for};
+ghost use Rattle.mb_problem.specs.Values.{total_weight, value_for};
 
 use mb_problem::{Instance, Kind};
 

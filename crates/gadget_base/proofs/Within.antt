@@ -11,10 +11,11 @@ use Rattle.graph_theory.proofs.SumLemmas.{sum_to-same}
 use Rattle.mb_problem.specs.declared.instance.InstanceEdge.{InstanceEdge}
 use Rattle.mb_problem.specs.declared.kind.Kind.TheVariants.{Match, BMatch}
 use Rattle.mb_problem.specs.Network.{Network, IsNetwork, IsInstanceEdge, vertices, plain, instance_edge_at, no_instance_edge, value_of}
-use Rattle.mb_problem.specs.Size.{Size, size_of, value_total, value_u, value_v}
+use Rattle.graph_theory.specs.Limits.{Size}
+use Rattle.mb_problem.specs.Size.{size_of, value_total, value_u, value_v}
 use Rattle.gadget_base.specs.Blocks.{blocks, tabled, row, rectangle, clique}
 use Rattle.gadget_base.specs.Gadgets.{doubled_graph, two_copies, to_copy, copies_graph, pairs_of_copies, values_below}
-use Rattle.gadget_base.specs.Certified.{HasSize, IsWithinLimits}
+use Rattle.graph_theory.specs.Limits.{HasSize, IsWithinLimits}
 use Rattle.gadget_base.proofs.BlockSums.{sum_to-grows, sum_to-const}
 use Rattle.gadget_base.proofs.Blocks.{tabled-length, blocks-length, rectangle-length, All-tabled, All-blocks}
 

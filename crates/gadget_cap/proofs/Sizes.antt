@@ -5,7 +5,8 @@ use Rattle.mb_problem.specs.Network.{Network, instance_edge_at}
 use Rattle.mb_problem.specs.Size.{size_of, capped_size, value_u, value_v}
 use Rattle.gadget_base.specs.Blocks.{blocks}
 use Rattle.gadget_base.specs.Gadgets.{before_gates, gated, capped_graph}
-use Rattle.gadget_base.specs.Certified.{gadget_graph, HasSize}
+use Rattle.graph_theory.specs.Limits.{HasSize}
+use Rattle.gadget_base.specs.Certified.{gadget_graph}
 use Rattle.gadget_base.proofs.BlockSums.{sum_to-grows}
 use Rattle.gadget_base.proofs.Blocks.{blocks-length}
 use Rattle.gadget_cap.specs.Capped.{capped_kind, capped_room, room_at}

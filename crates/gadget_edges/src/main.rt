@@ -6,7 +6,7 @@
 
 ghost use Rattle.std.specs.Prelude.{◌≡◌, ◌≢◌};
 ghost use Rattle.mb_problem.specs.Size.{size_of};
-ghost use Rattle.gadget_base.specs.Certified.{IsWithinLimits};
+ghost use Rattle.graph_theory.specs.Limits.{IsWithinLimits};
 
 use dimacs_read::read;
 use gadget_cap::capped;

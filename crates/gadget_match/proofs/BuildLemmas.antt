@@ -11,7 +11,7 @@ use Rattle.mb_problem.specs.Size.{size_of, value_total, value_u, value_v}
 use Rattle.gadget_base.specs.Blocks.{blocks}
 use Rattle.gadget_base.specs.Gadgets.{two_copies, pairs_of_copies}
 use Rattle.gadget_base.specs.Starts.{AreStarts}
-use Rattle.gadget_base.specs.Certified.{IsWithinLimits}
+use Rattle.graph_theory.specs.Limits.{IsWithinLimits}
 use Rattle.gadget_base.proofs.BlockSums.{sum_to-grows}
 use Rattle.gadget_base.proofs.Blocks.{blocks-length}
 use Rattle.gadget_base.proofs.Within.{pairs-length, pairs_of_copies-length}

@@ -5,7 +5,8 @@ ghost use Rattle.mb_problem.specs.Network.{IsInstanceEdge, vertices, value_of};
 ghost use Rattle.mb_problem.specs.Size.{size_of, value_total};
 ghost use Rattle.gadget_base.specs.Blocks.{rectangle};
 ghost use Rattle.gadget_base.specs.Gadgets.{copies_graph, values_below};
-ghost use Rattle.gadget_base.specs.Certified.{HasSize, IsWithinLimits, ReachesAll};
+ghost use Rattle.graph_theory.specs.Limits.{HasSize, IsWithinLimits};
+ghost use Rattle.gadget_base.specs.Certified.{ReachesAll};
 ghost use Rattle.gadget_base.specs.Starts.{AreStarts};
 
 use gadget_base::{add_rectangle, copies_of, starts};

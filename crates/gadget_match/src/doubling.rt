@@ -5,7 +5,8 @@ ghost use Rattle.mb_problem.specs.Network.{IsInstanceEdge, vertices};
 ghost use Rattle.mb_problem.specs.Size.{size_of};
 ghost use Rattle.gadget_base.specs.Blocks.{blocks, tabled};
 ghost use Rattle.gadget_base.specs.Gadgets.{doubled_graph, two_copies};
-ghost use Rattle.gadget_base.specs.Certified.{HasSize, IsWithinLimits, ReachesAll};
+ghost use Rattle.graph_theory.specs.Limits.{HasSize, IsWithinLimits};
+ghost use Rattle.gadget_base.specs.Certified.{ReachesAll};
 
 use mb_base::{OutOfMemory, VertexId};
 use mb_problem::{Instance, InstanceEdge};

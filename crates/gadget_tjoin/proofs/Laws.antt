@@ -8,7 +8,7 @@ use Rattle.mb_problem.specs.declared.answer.Parity.{Parity}
 use Rattle.mb_problem.specs.declared.answer.Parity.TheVariants.{Empty, Values, OddDegrees}
 use Rattle.mb_problem.specs.Network.{Network, IsNetwork, graph_of}
 use Rattle.mb_problem.specs.Feasible.{IsJoin}
-use Rattle.mb_problem.specs.Rooms.{odd_at}
+use Rattle.mb_problem.specs.Size.{odd_at}
 use Rattle.gadget_base.specs.Gadgets.{ports_graph}
 use Rattle.gadget_base.specs.Certified.{ReachesAll, IsPerfectList}
 use Rattle.gadget_tjoin.specs.Joins.{IsJoinOf, ReachesJoins, listed_counts}

@@ -12,7 +12,7 @@ use Rattle.mb_problem.specs.declared.answer.Parity.{Parity}
 use Rattle.mb_problem.specs.declared.answer.Parity.TheVariants.{Values}
 use Rattle.mb_problem.specs.Network.{Network, IsNetwork, vertices, graph_of, plain, value_of}
 use Rattle.mb_problem.specs.Feasible.{IsPath, AreEnds}
-use Rattle.mb_problem.specs.Rooms.{odd_at}
+use Rattle.mb_problem.specs.Size.{odd_at}
 use Rattle.gadget_base.specs.Gadgets.{ports_graph}
 use Rattle.gadget_base.specs.Certified.{ReachesAll}
 use Rattle.gadget_base.specs.Listed.{times, times_each}

@@ -7,7 +7,7 @@ use Rattle.mb_problem.specs.Network.{Network, IsNetwork, vertices}
 use Rattle.mb_problem.specs.Size.{port_count, ports_size}
 use Rattle.gadget_base.specs.Blocks.{clique}
 use Rattle.gadget_base.specs.Gadgets.{ports_below, met_below, between_ports, ports_graph}
-use Rattle.gadget_base.specs.Certified.{HasSize}
+use Rattle.graph_theory.specs.Limits.{HasSize}
 use Rattle.gadget_base.proofs.Grown.{clique-length}
 use Rattle.gadget_base.proofs.Blocks.{blocks-length, All-tabled, All-blocks}
 use Rattle.gadget_base.proofs.BlockSums.{block-once, sum_to-grows}

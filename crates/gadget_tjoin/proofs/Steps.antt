@@ -9,7 +9,7 @@ use Rattle.mb_problem.specs.Network.{Network, IsNetwork, vertices, plain, instan
 use Rattle.mb_problem.specs.Size.{port_count, ports_size}
 use Rattle.gadget_base.specs.Blocks.{blocks, tabled, clique}
 use Rattle.gadget_base.specs.Gadgets.{ports_below, met_below, between_ports, ports_graph}
-use Rattle.gadget_base.specs.Certified.{IsWithinLimits}
+use Rattle.graph_theory.specs.Limits.{IsWithinLimits}
 use Rattle.gadget_base.specs.Starts.{AreStarts}
 use Rattle.gadget_base.proofs.BlockSums.{sum_to-grows}
 use Rattle.gadget_base.proofs.Blocks.{tabled-length, tabled-more, blocks-length, blocks-same}

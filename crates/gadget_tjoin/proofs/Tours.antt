@@ -15,11 +15,12 @@ use Rattle.mb_problem.specs.declared.answer.Answer.TheVariants.{Counts, Walk, No
 use Rattle.mb_problem.specs.declared.answer.Parity.{Parity}
 use Rattle.mb_problem.specs.declared.answer.Parity.TheVariants.{OddDegrees}
 use Rattle.mb_problem.specs.Network.{Network, IsNetwork, graph_of, plain, instance_edge_at, no_instance_edge}
-use Rattle.mb_problem.specs.Rooms.{odd_at}
+use Rattle.mb_problem.specs.Size.{odd_at}
 use Rattle.mb_problem.proofs.EdgeLemmas.{edge_at-graph_of}
 use Rattle.gadget_base.specs.Blocks.{tabled}
 use Rattle.gadget_base.specs.Gadgets.{ports_graph}
-use Rattle.gadget_base.specs.Certified.{ReachesAll, total_weight}
+use Rattle.mb_problem.specs.Values.{total_weight}
+use Rattle.gadget_base.specs.Certified.{ReachesAll}
 use Rattle.gadget_base.specs.Listed.{times, times_each}
 use Rattle.gadget_base.proofs.Blocks.{tabled-length, tabled-at, All-tabled}
 use Rattle.gadget_base.proofs.Listed.{times_each-at, times-weight}

@@ -7,7 +7,7 @@ use Rattle.mb_problem.specs.declared.answer.Parity.{Parity}
 use Rattle.mb_problem.specs.declared.instance.InstanceEdge.{InstanceEdge}
 use Rattle.mb_problem.specs.Network.{Network, graph_of}
 use Rattle.mb_problem.specs.Feasible.{HasCounts, AtMostOnce, DegreesMeet}
-use Rattle.mb_problem.specs.Rooms.{odd_at}
+use Rattle.mb_problem.specs.Size.{odd_at}
 use Rattle.gadget_base.specs.Blocks.{tabled}
 use Rattle.gadget_base.specs.Gadgets.{ports_graph}
 

@@ -1,9 +1,10 @@
 ghost use Rattle.std.specs.Prelude.{◌≡◌, IfOk};
 ghost use Rattle.mb_problem.specs.Network.{Network, IsNetwork};
 ghost use Rattle.mb_problem.specs.Size.{ports_size};
-ghost use Rattle.mb_problem.specs.Rooms.{odd_at};
+ghost use Rattle.mb_problem.specs.Size.{odd_at};
 ghost use Rattle.gadget_base.specs.Gadgets.{ports_graph};
-ghost use Rattle.gadget_base.specs.Certified.{IsWithinLimits, HasSize, ReachesAll};
+ghost use Rattle.graph_theory.specs.Limits.{IsWithinLimits, HasSize};
+ghost use Rattle.gadget_base.specs.Certified.{ReachesAll};
 ghost use Rattle.mb_problem.specs.declared.kind.Kind.TheVariants.{TJoin, Postman, Path};
 ghost use Rattle.mb_problem.specs.declared.answer.Parity.TheVariants.{Values, OddDegrees};
 ghost use Rattle.gadget_tjoin.specs.Joins.{ReachesJoins, NoneBelowZero};

@@ -2,7 +2,7 @@ ghost use Rattle.std.specs.Prelude.{◌≡◌, ℕ, ◌+◌, ◌-◌, ◌*◌, �
 ghost use Rattle.graph_theory.specs.Sums.{sum_to};
 ghost use Rattle.mb_problem.specs.Network.{vertices};
 ghost use Rattle.mb_problem.specs.Size.{edge_count_at, port_count};
-ghost use Rattle.mb_problem.specs.Rooms.{odd_by, odd_at};
+ghost use Rattle.mb_problem.specs.Size.{odd_by, odd_at};
 ghost use Rattle.gadget_base.specs.Blocks.{blocks, clique};
 
 use crate::links::take_ports;

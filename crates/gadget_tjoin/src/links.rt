@@ -2,10 +2,10 @@ ghost use Rattle.std.specs.Prelude.{◌≡◌, ◌≢◌, ℕ, ◌+◌, ◌-◌,
 ghost use Rattle.graph_theory.specs.Graph.{IsEdgeWithin, IsWeight, ends_at};
 ghost use Rattle.mb_problem.specs.Network.{vertices, plain};
 ghost use Rattle.mb_problem.specs.Size.{ports_size};
-ghost use Rattle.mb_problem.specs.Rooms.{odd_at};
+ghost use Rattle.mb_problem.specs.Size.{odd_at};
 ghost use Rattle.gadget_base.specs.Blocks.{tabled};
 ghost use Rattle.gadget_base.specs.Gadgets.{ports_below, between_ports, ports_graph};
-ghost use Rattle.gadget_base.specs.Certified.{IsWithinLimits};
+ghost use Rattle.graph_theory.specs.Limits.{IsWithinLimits};
 
 use mb_base::{OutOfMemory, VertexId};
 use mb_problem::{Instance, InstanceEdge, Parity};

@@ -4,7 +4,7 @@ ghost use Rattle.graph_theory.specs.Graph.{IsEdgeNumber};
 ghost use Rattle.graph_theory.specs.Parts.{holds};
 ghost use Rattle.graph_theory.specs.Walk.{walk_weight};
 ghost use Rattle.mb_problem.specs.Network.{Network, IsNetwork, graph_of};
-ghost use Rattle.mb_problem.specs.Rooms.{odd_at};
+ghost use Rattle.mb_problem.specs.Size.{odd_at};
 ghost use Rattle.gadget_base.specs.Gadgets.{ports_graph};
 ghost use Rattle.gadget_base.specs.Certified.{IsPerfectList};
 ghost use Rattle.gadget_tjoin.specs.Joins.{IsJoinOf, listed_counts};

@@ -6,7 +6,7 @@ use Rattle.mb_problem.specs.declared.kind.Kind.{Kind}
 use Rattle.mb_problem.specs.declared.kind.Kind.TheVariants.{Postman}
 use Rattle.mb_problem.specs.Network.{Network}
 use Rattle.mb_problem.specs.Size.{size_of}
-use Rattle.gadget_base.specs.Certified.{IsWithinLimits}
+use Rattle.graph_theory.specs.Limits.{IsWithinLimits}
 use Rattle.dimacs_read.specs.Ready.{IsReady}
 use Rattle.dimacs_read.specs.declared.rest.Rest.{Rest}
 use Rattle.dimacs_read.specs.Rest.{IsRest}

@@ -2,7 +2,8 @@
 use Rattle.std.proofs.Common.{◌≡◌, ℕ, ◌<◌, ◌≤◌, List, [], length, Bool, Option, None, Some, inl, inr, refl, sym, subst, ◌∙◌, arith}
 use Rattle.mb_problem.specs.declared.kind.Kind.{Kind}
 use Rattle.mb_problem.specs.Network.{Network}
-use Rattle.mb_problem.specs.Size.{Size, size_of}
+use Rattle.graph_theory.specs.Limits.{Size}
+use Rattle.mb_problem.specs.Size.{size_of}
 use Rattle.dimacs_read.specs.declared.rule.Rule.{Rule}
 use Rattle.dimacs_read.proofs.ReadingLemmas.{one_instance, no_instance_and_fault}
 use Rattle.match_cli.specs.declared.status.Status.{Status}

@@ -3,7 +3,8 @@ use Rattle.std.specs.Prelude.{◌≡◌, ℕ, ◌+◌, ◌<◌, ◌≤◌, ◌�
 use Rattle.mb_base.specs.Rows.{Row, rows}
 use Rattle.mb_problem.specs.declared.kind.Kind.{Kind}
 use Rattle.mb_problem.specs.Network.{Network}
-use Rattle.mb_problem.specs.Size.{Size, size_of}
+use Rattle.graph_theory.specs.Limits.{Size}
+use Rattle.mb_problem.specs.Size.{size_of}
 use Rattle.doc_format.specs.declared.document.Document.{Document}
 use Rattle.doc_format.specs.Reading.{IsFirstRefused, HoldsDocument}
 use Rattle.cert_check.specs.declared.rule.DocRule.{DocRule}

@@ -1,6 +1,6 @@
 -- The lines that the program writes.
 use Rattle.std.specs.Prelude.{ℕ, List, ◌++◌, codes, decimal}
-use Rattle.mb_problem.specs.Size.{Size}
+use Rattle.graph_theory.specs.Limits.{Size}
 use Rattle.dimacs_read.specs.declared.rule.Rule.{Rule}
 use Rattle.dimacs_read.specs.declared.rule.Rule.TheVariants as instance
 use Rattle.cert_check.specs.declared.rule.DocRule.{DocRule}

@@ -7,9 +7,12 @@ use Rattle.graph_theory.specs.Parts.{holds}
 use Rattle.graph_theory.specs.Walk.{IsWalk, walk_end, walk_vertices, walk_weight, IsClosedWalk, AllDiffer}
 use Rattle.mb_problem.specs.declared.kind.Kind.{Kind}
 use Rattle.mb_problem.specs.declared.kind.Kind.TheVariants.{Perfect, Match, BMatch, CapMatch, FFactor, TJoin, Postman, Path}
+use Rattle.mb_problem.specs.declared.kind.Sense.{Sense}
+use Rattle.mb_problem.specs.declared.kind.Sense.TheVariants.{Least, Greatest}
 use Rattle.mb_problem.specs.declared.answer.Answer.{Answer}
 use Rattle.mb_problem.specs.declared.answer.Answer.TheVariants.{Counts, Walk, Nothing}
 use Rattle.mb_problem.specs.Network.{Network, vertices, graph_of, value_of, instance_edge_at}
+use Rattle.mb_problem.specs.Kinds.{sense_of}
 
 -- one count for each edge
 abbrev pub HasCounts : Network → List ℕ → Type 0
@@ -63,18 +66,28 @@ pub record IsPath (i : Network) (start : ℕ) (edges : List ℕ) : Type 0 where
   pub some : 1 ≤ length edges
   pub no_vertex_twice : AllDiffer (walk_vertices (graph_of i) start edges)
 
+-- the answer is counts, and this holds of them
+abbrev pub AreCounts : (List ℕ → Type 0) → Answer → Type 0
+AreCounts P (Counts counts) = P counts
+AreCounts P (Walk start edges) = ⊥
+AreCounts P Nothing = ⊥
+
+-- the answer is a walk, and the one holds of its start and its edges; or the empty walk, and the other holds
+abbrev pub IsWalkWith : (ℕ → List ℕ → Type 0) → Type 0 → Answer → Type 0
+IsWalkWith P E (Counts counts) = ⊥
+IsWalkWith P E (Walk start edges) = P start edges
+IsWalkWith P E Nothing = E
+
 -- the answer is feasible for the kind
 abbrev pub IsFeasible : Kind → Network → Answer → Type 0
-IsFeasible Perfect i (Counts counts) = IsPerfect (graph_of i) counts
-IsFeasible Match i (Counts counts) = IsMatching i counts
-IsFeasible BMatch i (Counts counts) = IsBMatching i counts
-IsFeasible CapMatch i (Counts counts) = IsBMatching i counts × WithinCapacities i counts
-IsFeasible FFactor i (Counts counts) = IsBMatching i counts × AtMostOnce counts
-IsFeasible TJoin i (Counts counts) = IsJoin i counts
-IsFeasible Postman i (Walk start edges) = IsTour i start edges
-IsFeasible Postman i Nothing = length i.edges ≡ 0
-IsFeasible Path i (Walk start edges) = IsPath i start edges
-IsFeasible kind i answer = ⊥
+IsFeasible Perfect i answer = AreCounts (IsPerfect (graph_of i)) answer
+IsFeasible Match i answer = AreCounts (IsMatching i) answer
+IsFeasible BMatch i answer = AreCounts (IsBMatching i) answer
+IsFeasible CapMatch i answer = AreCounts (λ counts. IsBMatching i counts × WithinCapacities i counts) answer
+IsFeasible FFactor i answer = AreCounts (λ counts. IsBMatching i counts × AtMostOnce counts) answer
+IsFeasible TJoin i answer = AreCounts (IsJoin i) answer
+IsFeasible Postman i answer = IsWalkWith (IsTour i) (length i.edges ≡ 0) answer
+IsFeasible Path i answer = IsWalkWith (IsPath i) ⊥ answer
 
 -- the weights of the edges, each as often as the answer uses it, added up
 abbrev pub weight_of : Network → Answer → ℤ
@@ -82,10 +95,13 @@ weight_of i (Counts counts) = weight (graph_of i) counts
 weight_of i (Walk start edges) = walk_weight (graph_of i) edges
 weight_of i Nothing = pos 0
 
--- the first answer is at least as good as the second: for matchings it weighs no less, else no more
+-- the one weight is at least as good as the other
+abbrev pub IsAsGoodBy : Sense → ℤ → ℤ → Type 0
+IsAsGoodBy Least one other = one ≤ℤ other
+IsAsGoodBy Greatest one other = other ≤ℤ one
+
 abbrev pub IsAsGood : Kind → ℤ → ℤ → Type 0
-IsAsGood Match one other = other ≤ℤ one
-IsAsGood kind one other = one ≤ℤ other
+IsAsGood kind one other = IsAsGoodBy (sense_of kind) one other
 
 -- a best answer: feasible, and as good as every feasible one
 pub record IsBest (kind : Kind) (i : Network) (answer : Answer) : Type 0 where

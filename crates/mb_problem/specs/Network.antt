@@ -3,6 +3,7 @@ use Rattle.std.specs.Prelude.{ℕ, ◌-◌, ◌≤◌, pos, List, length, map, A
 use Rattle.graph_theory.specs.declared.edge.Edge.{Edge}
 use Rattle.graph_theory.specs.Graph.{Multigraph, IsEdgeWithin, IsWeight}
 use Rattle.mb_problem.specs.declared.instance.InstanceEdge.{InstanceEdge}
+use Rattle.mb_problem.specs.declared.limits.TheConstants.{VERTEX_LIMIT, EDGE_LIMIT, VALUE_LIMIT}
 
 -- edges, and the values of the vertices 1 to n
 pub record Network : Type 0 where
@@ -35,15 +36,15 @@ instance_edge_of i e = instance_edge_at i (e - 1)
 abbrev pub value_of : Network → ℕ → ℕ
 value_of i v = slice_index i.values (v - 1)
 
--- different ends among the vertices, a weight in range, and a capacity of at most 4,096 where there is one
+-- different ends among the vertices, a weight in range, and a capacity within the limit where there is one
 pub record IsInstanceEdge (n : ℕ) (e : InstanceEdge) : Type 0 where
   pub ends : IsEdgeWithin n (plain e)
   pub weight : IsWeight e.w
-  pub capacity : IfSome e.capacity (λ c. c ≤ 4096)
+  pub capacity : IfSome e.capacity (λ c. c ≤ VALUE_LIMIT)
 
 -- the ranges that every instance keeps
 pub record IsNetwork (i : Network) : Type 0 where
-  pub few_vertices : vertices i ≤ 4096
-  pub few_edges : length i.edges ≤ 65536
+  pub few_vertices : vertices i ≤ VERTEX_LIMIT
+  pub few_edges : length i.edges ≤ EDGE_LIMIT
   pub edges : All (IsInstanceEdge (vertices i)) i.edges
-  pub values : All (λ b. b ≤ 4096) i.values
+  pub values : All (λ b. b ≤ VALUE_LIMIT) i.values

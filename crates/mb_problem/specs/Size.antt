@@ -1,15 +1,18 @@
--- The size of the graph that certificates speak of, its vertices and edges, for each kind.
+-- The size of the graph that certificates speak of, its vertices and edges.
 use Rattle.std.specs.Prelude.{ℕ, ◌+◌, ◌-◌, ◌*◌, ◌/◌, ◌%◌, min, max, length, Option, None, Some, slice_index, replicate}
 use Rattle.graph_theory.specs.Sums.{sum_to}
 use Rattle.graph_theory.specs.Graph.{degree}
+use Rattle.graph_theory.specs.Limits.{Size}
 use Rattle.mb_problem.specs.declared.kind.Kind.{Kind}
-use Rattle.mb_problem.specs.declared.kind.Kind.TheVariants.{Perfect, Match, BMatch, CapMatch, FFactor, TJoin, Postman, Path}
+use Rattle.mb_problem.specs.declared.answer.Parity.{Parity}
+use Rattle.mb_problem.specs.declared.answer.Parity.TheVariants.{Empty, Values, OddDegrees}
+use Rattle.mb_problem.specs.declared.gadget.Capacities.{Capacities}
+use Rattle.mb_problem.specs.declared.gadget.Capacities.TheVariants.{Own, Unit as Once}
+use Rattle.mb_problem.specs.declared.gadget.GadgetForm.{GadgetForm}
+use Rattle.mb_problem.specs.declared.gadget.GadgetForm.TheVariants.{Itself, Doubled, Copies, Capped, Ports, PathPorts}
+use Rattle.mb_problem.specs.declared.instance.InstanceEdge.{InstanceEdge}
 use Rattle.mb_problem.specs.Network.{Network, vertices, graph_of, instance_edge_at, value_of}
-
--- so many vertices and edges
-pub record Size : Type 0 where
-  pub vertices : ℕ
-  pub edges : ℕ
+use Rattle.mb_problem.specs.Kinds.{gadget_of}
 
 abbrev pub value_total : Network → ℕ
 value_total i = sum_to (λ k. slice_index i.values k) (vertices i)
@@ -26,11 +29,20 @@ abbrev pub bounded : Option ℕ → ℕ → ℕ
 bounded None most = most
 bounded (Some c) most = min c most
 
+-- how often an edge can be used, whatever the values at its ends
+abbrev pub limit_by : Capacities → InstanceEdge → Option ℕ
+limit_by Own e = e.capacity
+limit_by Once e = Some 1
+
+-- how often the edge at a place can be used
+abbrev pub room_by : Capacities → Network → ℕ → ℕ
+room_by capacities i k = bounded (limit_by capacities (instance_edge_at i k)) (min (value_u i k) (value_v i k))
+
 abbrev pub room_of : Network → ℕ → ℕ
-room_of i k = bounded (instance_edge_at i k).capacity (min (value_u i k) (value_v i k))
+room_of i = room_by Own i
 
 abbrev pub unit_room_of : Network → ℕ → ℕ
-unit_room_of i k = min 1 (min (value_u i k) (value_v i k))
+unit_room_of i = room_by Once i
 
 -- copies of the vertices, and for each edge its room twice; the edges from the copies and between
 abbrev pub capped_size : Network → (ℕ → ℕ) → Size
@@ -57,12 +69,24 @@ ports_size i odd = record {
 abbrev pub greater : Size → Size → Size
 greater a b = record { vertices = max a.vertices b.vertices; edges = max a.edges b.edges }
 
+-- the parity that a join has at a vertex of this many edges and this value
+abbrev pub odd_by : Parity → ℕ → ℕ → ℕ
+odd_by Empty degree value = 0
+odd_by Values degree value = value % 2
+odd_by OddDegrees degree value = degree % 2
+
+-- the parity that a join has at vertex v
+abbrev pub odd_at : Parity → Network → ℕ → ℕ
+odd_at parity i v = odd_by parity (edge_count_at i v) (value_of i v)
+
+-- the size of the graph that is built so
+abbrev pub size_by : GadgetForm → Network → Size
+size_by Itself i = record { vertices = vertices i; edges = length i.edges }
+size_by Doubled i = record { vertices = 2 * vertices i; edges = 2 * length i.edges + vertices i }
+size_by Copies i = record { vertices = value_total i; edges = sum_to (λ k. value_u i k * value_v i k) (length i.edges) }
+size_by (Capped capacities) i = capped_size i (room_by capacities i)
+size_by (Ports parity) i = ports_size i (odd_at parity i)
+size_by PathPorts i = greater (ports_size i (odd_at Values i)) (ports_size i (odd_at Empty i))
+
 abbrev pub size_of : Kind → Network → Size
-size_of Perfect i = record { vertices = vertices i; edges = length i.edges }
-size_of Match i = record { vertices = 2 * vertices i; edges = 2 * length i.edges + vertices i }
-size_of BMatch i = record { vertices = value_total i; edges = sum_to (λ k. value_u i k * value_v i k) (length i.edges) }
-size_of CapMatch i = capped_size i (room_of i)
-size_of FFactor i = capped_size i (unit_room_of i)
-size_of TJoin i = ports_size i (λ v. value_of i v % 2)
-size_of Postman i = ports_size i (λ v. edge_count_at i v % 2)
-size_of Path i = greater (ports_size i (λ v. value_of i v % 2)) (ports_size i (λ v. 0))
+size_of kind i = size_by (gadget_of kind) i

@@ -5,6 +5,7 @@ ghost use Rattle.mb_problem.specs.Size.{edge_count_at};
 ghost use Rattle.mb_problem.specs.Degrees.{AreDegrees};
 
 use crate::instance::{Instance, InstanceEdge};
+use crate::limits::EDGE_LIMIT;
 use mb_base::{OutOfMemory, VertexId};
 use std::alloc::Global;
 
@@ -62,7 +63,7 @@ pub fn count_edges(degrees: &mut [u64], instance: &Instance)
     requires start { (k : ℕ) → k < length degrees.old → slice_index degrees.old k ≡ 0 }
     ensures size { length degrees.new ≡ length degrees.old }
     ensures counts { (k : ℕ) → k < vertices instance.now → slice_index degrees.new k ≡ edge_count_at instance.now (k + 1) }
-    ensures small { (k : ℕ) → k < vertices instance.now → slice_index degrees.new k ≤ 131072 }
+    ensures small { (k : ℕ) → k < vertices instance.now → slice_index degrees.new k ≤ 2 * EDGE_LIMIT }
 {
     for edge in instance.edge_list() {
         add_edge(degrees, edge, 1);

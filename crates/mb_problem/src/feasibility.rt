@@ -196,7 +196,8 @@ fn is_feasible_walk(
     match kind {
         Kind::Postman => is_tour(alloc, instance, start, edges),
         Kind::Path => is_path(alloc, instance, start, edges),
-        _ => Ok(false),
+        Kind::Perfect | Kind::Match | Kind::BMatch | Kind::CapMatch | Kind::FFactor | Kind::TJoin =>
+            Ok(false),
     }
 }
 
@@ -206,7 +207,13 @@ fn is_nothing_feasible(instance: &Instance, kind: Kind) -> bool
 {
     match kind {
         Kind::Postman => instance.edges() == 0,
-        _ => false,
+        Kind::Perfect
+        | Kind::Match
+        | Kind::BMatch
+        | Kind::CapMatch
+        | Kind::FFactor
+        | Kind::TJoin
+        | Kind::Path => false,
     }
 }
 

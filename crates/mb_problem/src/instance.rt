@@ -1,5 +1,6 @@
 ghost use Rattle.std.specs.Prelude.{◌≡◌, ℕ, ◌+◌, ◌-◌, ◌<◌, ◌≤◌, ◌^◌, length, [], ◌∷◌, ◌++◌, replicate};
 
+use crate::limits::{EDGE_LIMIT, VALUE_LIMIT, VERTEX_LIMIT};
 use mb_base::{EdgeId, OutOfMemory, VertexId};
 use std::alloc::Global;
 use std::marker::Model;
@@ -14,8 +15,9 @@ pub struct InstanceEdge {
     pub capacity: Option<u32>,
 }
 
-/// An instance: vertices 1 to n with a value each, and edges numbered from 1. It has at most 4,096
-/// vertices and 65,536 edges; weights are within 10^9 and values and capacities at most 4,096.
+/// An instance: vertices 1 to n with a value each, and edges numbered from 1. It has at most
+/// `VERTEX_LIMIT` vertices and `EDGE_LIMIT` edges; weights are within `WEIGHT_LIMIT` of `graph_theory`, and
+/// values and capacities at most `VALUE_LIMIT`.
 #[derive(Drop, Debug)]
 pub struct Instance {
     alloc: Global,
@@ -41,8 +43,8 @@ impl Instance {
 
     /// An instance of n vertices, each of this value, and no edges.
     pub fn new(alloc: Global, n: u32, value: u32) -> Result<Instance, OutOfMemory>
-        requires vertices { n ≤ 4096 }
-        requires small { value ≤ 4096 }
+        requires vertices { n ≤ VERTEX_LIMIT }
+        requires small { value ≤ VALUE_LIMIT }
         ensures { IfOk result (λ i. i ≡ record { edges = []; values = replicate n value }) }
     {
         let values = vec![in alloc; value; n as usize]?;
@@ -67,7 +69,7 @@ impl Instance {
 
     /// Puts an edge at the end of the list.
     fn push(&mut self, edge: InstanceEdge) -> Result<EdgeId, OutOfMemory>
-        requires room { length self.old.edges < 65536 }
+        requires room { length self.old.edges < EDGE_LIMIT }
         requires edge { IsInstanceEdge (vertices self.old) edge }
         ensures added { OnOk result (self.new ≡ record self.old { edges = self.old.edges ++ edge ∷ [] }) }
         ensures number { IfOk result (λ e. e ≡ length self.old.edges + 1) }
@@ -86,7 +88,7 @@ impl Instance {
         w: i64,
         capacity: Option<u32>,
     ) -> Result<EdgeId, OutOfMemory>
-        requires room { length self.old.edges < 65536 }
+        requires room { length self.old.edges < EDGE_LIMIT }
         requires edge { IsInstanceEdge (vertices self.old) (record { u = u; v = v; w = w; capacity = capacity }) }
         ensures added { OnOk result (self.new ≡ record self.old { edges = self.old.edges ++ record { u = u; v = v; w = w; capacity = capacity } ∷ [] }) }
         ensures number { IfOk result (λ e. e ≡ length self.old.edges + 1) }
@@ -100,7 +102,7 @@ impl Instance {
     pub fn set_value(&mut self, v: VertexId, value: u32)
         requires low { 1 ≤ v }
         requires high { v ≤ vertices self.old }
-        requires small { value ≤ 4096 }
+        requires small { value ≤ VALUE_LIMIT }
         ensures set { self.new ≡ record self.old { values = slice_set self.old.values (v - 1) value } }
         ensures network { IsNetwork self.new }
     {

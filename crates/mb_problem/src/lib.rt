@@ -1,12 +1,14 @@
 //! Instances of the eight problems, their answers, and which answers are feasible.
 //! It stands on `mb_base`, `graph_theory` and `weighted_graph`. It promises the definitions of a
 //! feasible and of a best answer for each kind, that `feasible`, `degree` and `weight` are these
-//! definitions, and that `gadget_size` is the size of the graph that certificates speak of.
+//! definitions, and that `gadget_size` is the size of the graph that certificates speak of. All that
+//! tells one kind from another stands beside `Kind`, as its methods.
 #![tactic(auto)]
 
 mod answer;
 mod degrees;
 mod feasibility;
+mod gadget;
 mod instance;
 mod kind;
 mod limits;
@@ -17,12 +19,10 @@ mod walks;
 
 pub use answer::{Answer, Join, Parity};
 pub use feasibility::feasible;
+pub use gadget::{Capacities, GadgetForm};
 pub use instance::{Instance, InstanceEdge};
-pub use kind::Kind;
+pub use kind::{AnswerForm, Exclusion, Kind, Sense};
 pub use limits::{EDGE_LIMIT, VALUE_LIMIT, VERTEX_LIMIT};
 pub use measure::{degree, weight};
-pub use size::gadget_size;
+pub use size::{gadget_size, size_by};
 pub use walks::is_circuit;
-
-#[cfg(test)]
-mod tests;

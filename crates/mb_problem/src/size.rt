@@ -2,18 +2,19 @@ ghost use Rattle.std.specs.Prelude.{◌≡◌, ℕ, ◌+◌, ◌-◌, ◌*◌, �
 ghost use Rattle.graph_theory.specs.Graph.{IsEdgeWithin};
 ghost use Rattle.graph_theory.specs.Sums.{sum_to};
 ghost use Rattle.mb_problem.specs.Network.{Network, IsNetwork, vertices, plain, value_of};
-ghost use Rattle.mb_problem.specs.Size.{size_of, capped_size, ports_size, bounded, value_total, value_u, value_v, edge_count_at, port_count};
-ghost use Rattle.mb_problem.specs.Rooms.{limit_of, room_for, odd_by, odd_at};
+ghost use Rattle.mb_problem.specs.Size.{size_by, size_of, capped_size, ports_size, bounded, limit_by, room_by, odd_by, odd_at, value_total, value_u, value_v, edge_count_at, port_count};
 
 use crate::answer::Parity;
 use crate::degrees::count_edges;
+use crate::gadget::{Capacities, GadgetForm};
 use crate::instance::{Instance, InstanceEdge};
 use crate::kind::Kind;
+use crate::limits::{EDGE_LIMIT, VALUE_LIMIT, VERTEX_LIMIT};
 
 /// The values of all vertices, added up.
 fn value_total(instance: &Instance) -> u64
     ensures total { result ≡ value_total instance.now }
-    ensures small { result ≤ 4096 * 4096 }
+    ensures small { result ≤ VALUE_LIMIT * VERTEX_LIMIT }
 {
     let mut total = 0;
     for value in instance.value_list() {
@@ -27,8 +28,8 @@ fn end_values(instance: &Instance, edge: &InstanceEdge) -> (u64, u64)
     requires { IsEdgeWithin (vertices instance.now) (plain edge.now) }
     ensures u { result.0 ≡ value_of instance.now edge.now.u }
     ensures v { result.1 ≡ value_of instance.now edge.now.v }
-    ensures small_u { result.0 ≤ 4096 }
-    ensures small_v { result.1 ≤ 4096 }
+    ensures small_u { result.0 ≤ VALUE_LIMIT }
+    ensures small_v { result.1 ≤ VALUE_LIMIT }
 {
     (
         u64::from(instance.value(edge.u)),
@@ -48,13 +49,13 @@ fn copied_edges(instance: &Instance) -> u64
     total
 }
 
-/// How often a kind lets an edge be used, whatever the values at its ends.
-fn limit_of(kind: Kind, edge: &InstanceEdge) -> Option<u32>
-    ensures { result ≡ limit_of kind edge.now }
+/// How often an edge can be used, whatever the values at its ends.
+fn limit_by(capacities: Capacities, edge: &InstanceEdge) -> Option<u32>
+    ensures { result ≡ limit_by capacities edge.now }
 {
-    match kind {
-        Kind::FFactor => Some(1),
-        _ => edge.capacity,
+    match capacities {
+        Capacities::Own => edge.capacity,
+        Capacities::Unit => Some(1),
     }
 }
 
@@ -71,27 +72,27 @@ fn room(limit: Option<u32>, a: u64, b: u64) -> u64
 }
 
 /// How often an edge can be used, and the edges of its gadget.
-fn edge_gadget(instance: &Instance, kind: Kind, edge: &InstanceEdge) -> (u64, u64)
+fn edge_gadget(instance: &Instance, capacities: Capacities, edge: &InstanceEdge) -> (u64, u64)
     requires { IsEdgeWithin (vertices instance.now) (plain edge.now) }
-    ensures room { result.0 ≡ bounded (limit_of kind edge.now) (min (value_of instance.now edge.now.u) (value_of instance.now edge.now.v)) }
+    ensures room { result.0 ≡ bounded (limit_by capacities edge.now) (min (value_of instance.now edge.now.u) (value_of instance.now edge.now.v)) }
     ensures edges { result.1 ≡ result.0 * (value_of instance.now edge.now.u + result.0 + value_of instance.now edge.now.v) }
-    ensures few_rooms { result.0 ≤ 4096 }
-    ensures few_edges { result.1 ≤ 4096 * 12288 }
+    ensures few_rooms { result.0 ≤ VALUE_LIMIT }
+    ensures few_edges { result.1 ≤ VALUE_LIMIT * (3 * VALUE_LIMIT) }
 {
     let (a, b) = end_values(instance, edge);
-    let room = room(limit_of(kind, edge), a, b);
+    let room = room(limit_by(capacities, edge), a, b);
     (room, room * (a + room + b))
 }
 
 /// The vertices and edges of the graph for edges with limits.
-fn capped_size(instance: &Instance, kind: Kind) -> (u64, u64)
-    ensures vertices { result.0 ≡ (capped_size instance.now (room_for kind instance.now)).vertices }
-    ensures edges { result.1 ≡ (capped_size instance.now (room_for kind instance.now)).edges }
+fn capped_size(instance: &Instance, capacities: Capacities) -> (u64, u64)
+    ensures vertices { result.0 ≡ (capped_size instance.now (room_by capacities instance.now)).vertices }
+    ensures edges { result.1 ≡ (capped_size instance.now (room_by capacities instance.now)).edges }
 {
     let mut rooms = 0;
     let mut edges = 0;
     for edge in instance.edge_list() {
-        let (room, links) = edge_gadget(instance, kind, edge);
+        let (room, links) = edge_gadget(instance, capacities, edge);
         rooms += room;
         edges += links;
     }
@@ -112,18 +113,18 @@ fn odd_by(parity: Parity, degree: u64, value: u32) -> u64
 
 /// A port for each edge at a vertex, and one more where their number hasn't the join's parity.
 fn ports_by(parity: Parity, degree: u64, value: u32) -> u64
-    requires { degree ≤ 131072 }
+    requires { degree ≤ 2 * EDGE_LIMIT }
     ensures ports { result ≡ degree + (degree + odd_by parity degree value) % 2 }
-    ensures small { result ≤ 131073 }
+    ensures small { result ≤ 2 * EDGE_LIMIT + 1 }
 {
     degree + (degree + odd_by(parity, degree, value)) % 2
 }
 
 /// How many pairs there are of so many.
 fn pairs_of(count: u64) -> u64
-    requires { count ≤ 131073 }
+    requires { count ≤ 2 * EDGE_LIMIT + 1 }
     ensures pairs { result ≡ count * (count - 1) / 2 }
-    ensures small { result ≤ 131073 * 131073 }
+    ensures small { result ≤ (2 * EDGE_LIMIT + 1) * (2 * EDGE_LIMIT + 1) }
 {
     count * count.saturating_sub(1) / 2
 }
@@ -133,11 +134,11 @@ fn pairs_of(count: u64) -> u64
 fn all_ports(instance: &Instance, parity: Parity, degrees: &[u64]) -> (u64, u64)
     requires room { vertices instance.now ≤ length degrees.now }
     requires counts { (k : ℕ) → k < vertices instance.now → slice_index degrees.now k ≡ edge_count_at instance.now (k + 1) }
-    requires small { (k : ℕ) → k < vertices instance.now → slice_index degrees.now k ≤ 131072 }
+    requires small { (k : ℕ) → k < vertices instance.now → slice_index degrees.now k ≤ 2 * EDGE_LIMIT }
     ensures ports { result.0 ≡ sum_to (λ k. port_count instance.now (odd_at parity instance.now) (k + 1)) (vertices instance.now) }
     ensures pairs { result.1 ≡ sum_to (λ k. port_count instance.now (odd_at parity instance.now) (k + 1) * (port_count instance.now (odd_at parity instance.now) (k + 1) - 1) / 2) (vertices instance.now) }
-    ensures few_ports { result.0 ≤ 131073 * 4096 }
-    ensures few_pairs { result.1 ≤ 131073 * 131073 * 4096 }
+    ensures few_ports { result.0 ≤ (2 * EDGE_LIMIT + 1) * VERTEX_LIMIT }
+    ensures few_pairs { result.1 ≤ (2 * EDGE_LIMIT + 1) * (2 * EDGE_LIMIT + 1) * VERTEX_LIMIT }
 {
     let mut ports = 0;
     let mut pairs = 0;
@@ -155,7 +156,7 @@ fn ports_size(instance: &Instance, parity: Parity) -> (u64, u64)
     ensures edges { result.1 ≡ (ports_size instance.now (odd_at parity instance.now)).edges }
 {
     let links = u64::from(instance.edges());
-    let mut degrees = [0u64; 4096];
+    let mut degrees = [0u64; VERTEX_LIMIT as usize];
     count_edges(&mut degrees, instance);
     let (ports, pairs) = all_ports(instance, parity, &degrees);
     (ports, links + pairs)
@@ -169,26 +170,33 @@ fn greater(one: (u64, u64), other: (u64, u64)) -> (u64, u64)
     (one.0.max(other.0), one.1.max(other.1))
 }
 
-/// How many vertices and edges the graph has that certificates for an instance of this kind speak
-/// of; for a path the greater numbers of two graphs. It takes no memory, and time linear in vertices
-/// and edges.
-pub fn gadget_size(instance: &Instance, kind: Kind) -> (u64, u64)
-    ensures vertices { result.0 ≡ (size_of kind instance.now).vertices }
-    ensures edges { result.1 ≡ (size_of kind instance.now).edges }
+/// How many vertices and edges the graph has that is built so from an instance; for the ports of a
+/// path the greater numbers of two graphs. It takes no memory, and time linear in vertices and edges.
+pub fn size_by(instance: &Instance, gadget: GadgetForm) -> (u64, u64)
+    ensures vertices { result.0 ≡ (size_by gadget instance.now).vertices }
+    ensures edges { result.1 ≡ (size_by gadget instance.now).edges }
 {
     let vertices = u64::from(instance.vertices());
     let edges = u64::from(instance.edges());
-    match kind {
-        Kind::Perfect => (vertices, edges),
-        Kind::Match => (2 * vertices, 2 * edges + vertices),
-        Kind::BMatch => (value_total(instance), copied_edges(instance)),
-        Kind::CapMatch => capped_size(instance, Kind::CapMatch),
-        Kind::FFactor => capped_size(instance, Kind::FFactor),
-        Kind::TJoin => ports_size(instance, Parity::Values),
-        Kind::Postman => ports_size(instance, Parity::OddDegrees),
-        Kind::Path => greater(
+    match gadget {
+        GadgetForm::Itself => (vertices, edges),
+        GadgetForm::Doubled => (2 * vertices, 2 * edges + vertices),
+        GadgetForm::Copies => (value_total(instance), copied_edges(instance)),
+        GadgetForm::Capped(capacities) => capped_size(instance, capacities),
+        GadgetForm::Ports(parity) => ports_size(instance, parity),
+        GadgetForm::PathPorts => greater(
             ports_size(instance, Parity::Values),
             ports_size(instance, Parity::Empty),
         ),
     }
+}
+
+/// How many vertices and edges the graph has that certificates for an instance of this kind speak
+/// of, and searches for it; for a path the greater numbers of two graphs. It takes no memory, and time
+/// linear in vertices and edges.
+pub fn gadget_size(instance: &Instance, kind: Kind) -> (u64, u64)
+    ensures vertices { result.0 ≡ (size_of kind instance.now).vertices }
+    ensures edges { result.1 ≡ (size_of kind instance.now).edges }
+{
+    size_by(instance, kind.gadget())
 }

@@ -3,7 +3,7 @@ ghost use Rattle.graph_theory.specs.Barrier.{IsBarrier};
 ghost use Rattle.graph_theory.specs.Parts.{IsVertexSet};
 ghost use Rattle.mb_problem.specs.Network.{graph_of};
 ghost use Rattle.mb_problem.specs.Size.{size_of};
-ghost use Rattle.gadget_base.specs.Certified.{IsWithinLimits};
+ghost use Rattle.graph_theory.specs.Limits.{IsWithinLimits};
 ghost use Rattle.doc_format.specs.declared.status.DocStatus.TheVariants.{Optimal, Infeasible};
 ghost use Rattle.doc_format.specs.Spelling.{document_text};
 ghost use Rattle.cert_check.specs.Proved.{IsProved};

@@ -1,5 +1,5 @@
 use Rattle.std.proofs.Common.{◌≡◌, ℤ, rules, refl, sym, ap, ◌∙◌, subst, arith, to_z, of_z, w64}
-use Rattle.gadget_base.specs.Certified.{value_for}
+use Rattle.mb_problem.specs.Values.{value_for}
 use Rattle.graph_theory.specs.Duals.{dual_value}
 use Rattle.doc_format.specs.declared.status.DocStatus.{DocStatus}
 use Rattle.doc_format.specs.declared.status.DocStatus.TheVariants.{Optimal, Infeasible, NonConservative}

@@ -5,7 +5,7 @@ use Rattle.mb_problem.specs.Network.{vertices, instance_edge_at}
 use Rattle.mb_problem.specs.Size.{capped_size}
 use Rattle.gadget_base.specs.Blocks.{blocks}
 use Rattle.gadget_base.specs.Gadgets.{before_gates, gated}
-use Rattle.gadget_base.specs.Certified.{IsWithinLimits}
+use Rattle.graph_theory.specs.Limits.{IsWithinLimits}
 use Rattle.gadget_base.specs.Starts.{AreStarts}
 use Rattle.gadget_base.proofs.StartLemmas.{starts_of}
 use Rattle.gadget_base.proofs.Within.{edge_here, place_here}

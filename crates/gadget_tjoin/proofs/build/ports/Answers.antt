@@ -1,4 +1,4 @@
-use Rattle.mb_problem.specs.Rooms.{odd_at}
+use Rattle.mb_problem.specs.Size.{odd_at}
 use Rattle.gadget_tjoin.proofs.PortEdges.{ports-size}
 use Rattle.gadget_tjoin.proofs.Laws.{reaches-joins, reaches-tjoins}
 use Rattle.gadget_tjoin.proofs.Tours.{reaches-tours}

@@ -1,7 +1,7 @@
 use Rattle.std.proofs.Common.{◌≡◌, ℕ, ◌+◌, ◌-◌, ap, sym, ◌∙◌, subst, arith, slice_index}
 use Rattle.graph_theory.specs.Graph.{Multigraph, IsEdgeWithin}
 use Rattle.mb_problem.specs.Network.{vertices}
-use Rattle.mb_problem.specs.Rooms.{odd_at}
+use Rattle.mb_problem.specs.Size.{odd_at}
 use Rattle.gadget_base.specs.Gadgets.{ports_below, between_ports}
 use Rattle.gadget_base.proofs.Within.{edge_here, place_here}
 use Rattle.gadget_tjoin.proofs.PortEdges.{link-within}

@@ -1,7 +1,6 @@
 use Rattle.std.proofs.Common.{◌≡◌, ◌+◌, ◌-◌, ◌*◌, ◌/◌, ◌≤◌}
 use Rattle.graph_theory.specs.Sums.{sum_to}
-use Rattle.mb_problem.specs.Size.{port_count}
-use Rattle.mb_problem.specs.Rooms.{odd_at}
+use Rattle.mb_problem.specs.Size.{port_count, odd_at}
 use Rattle.mb_problem.proofs.size.all_ports.Given as goal
 
 abbrev pub invariant-loop-k : goal.invariant-loop-k
