@@ -7,8 +7,8 @@ use Rattle.std.proofs.lemmas.List.{take_more, get_or-map, get_or-take, length-ta
 use Rattle.std.proofs.lemmas.List.FromFn.{get_or-map-range_with_len, length-map-range_with_len}
 use Rattle.doc_format.specs.declared.part.CountLine.{CountLine}
 use Rattle.doc_format.specs.Form.{AscendsBy}
-use Rattle.cert_check.specs.Claims.{count_of, counts_of}
-use Rattle.cert_check.proofs.AscentLemmas.{ascends-below}
+use Rattle.certificates.specs.Claims.{count_of, counts_of}
+use Rattle.certificates.proofs.AscentLemmas.{ascends-below}
 
 int_eq-refl : (z : ℤ) → int_eq z z ≡ true
 int_eq-refl z = (Decides-int_eq z z).1 refl

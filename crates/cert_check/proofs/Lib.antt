@@ -1,12 +1,5 @@
-pub mod RangeLemmas
-pub mod WithinLemmas
-pub mod AscentLemmas
 pub mod CountLemmas
 pub mod RuleLemmas
-pub mod DualLemmas
-pub mod BarrierLemmas
+pub mod FaultLemmas
 pub mod VerdictLemmas
 pub mod PartLemmas
-pub mod PartTruths
-pub mod GadgetLemmas
-pub mod TruthLemmas

@@ -7,8 +7,8 @@ use Rattle.doc_format.specs.declared.document.Document.{Document}
 use Rattle.doc_format.specs.declared.status.DocStatus.TheVariants.{Optimal, Infeasible, NonConservative}
 use Rattle.cert_check.specs.declared.rule.DocRule.{DocRule}
 use Rattle.cert_check.specs.declared.rule.DocRule.TheVariants.{DocForm, KindDiffers, DocRange, NotFeasible, WeightDiffers, DualMissing, SetForm, Slack, ValueDiffers, NotBarrier, NotClosed, NotCircuit}
-use Rattle.cert_check.specs.Ranges.{first_out_of_range}
-use Rattle.cert_check.specs.Certificates.{HaveForm, HasValue}
+use Rattle.certificates.specs.Ranges.{first_out_of_range}
+use Rattle.certificates.specs.Certificates.{HaveForm, HasValue}
 use Rattle.cert_check.specs.Verdicts.{Keeps, KeepsBefore, rank}
 
 rule_at : ℕ → DocRule

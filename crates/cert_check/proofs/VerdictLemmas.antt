@@ -16,13 +16,13 @@ use Rattle.cert_check.specs.declared.rule.DocRule.{DocRule}
 use Rattle.cert_check.specs.declared.rule.DocRule.TheVariants.{DocForm, KindDiffers, DocRange, NotFeasible, WeightDiffers, DualMissing, SetForm, Slack, ValueDiffers, NotBarrier, NotClosed, NotCircuit}
 use Rattle.cert_check.specs.declared.rule.Verdict.{Verdict}
 use Rattle.cert_check.specs.declared.rule.Verdict.TheVariants.{Accepted, Rejected}
-use Rattle.cert_check.specs.Claims.{numbers, duals_of, sets_of}
-use Rattle.cert_check.specs.Ranges.{first_out_of_range}
-use Rattle.cert_check.specs.Certificates.{HaveForm}
+use Rattle.certificates.specs.Claims.{numbers, duals_of, sets_of}
+use Rattle.certificates.specs.Ranges.{first_out_of_range}
+use Rattle.certificates.specs.Certificates.{HaveForm}
 use Rattle.cert_check.specs.Verdicts.{Keeps, Breaks, IsVerdict}
-use Rattle.cert_check.specs.Proved.{IsProved, ProvesOptimal, ProvesByStatus}
-use Rattle.cert_check.proofs.WithinLemmas.{are-within}
-use Rattle.cert_check.proofs.DualLemmas.{has_duals, duals_size, sets-within, forms-of_lines, lines-forms}
+use Rattle.certificates.specs.Proved.{IsProved, ProvesOptimal, ProvesByStatus}
+use Rattle.certificates.proofs.WithinLemmas.{are-within}
+use Rattle.certificates.proofs.DualLemmas.{has_duals, duals_size, sets-within, forms-of_lines, lines-forms}
 
 -- what the type of a document keeps, as far as it counts here
 pub record IsFormed (d : Document) : Type 0 where

@@ -1,8 +1,3 @@
-pub mod Claims
-pub mod Ranges
-pub mod Within
-pub mod Certificates
+pub mod Rules
 pub mod Verdicts
-pub mod Proved
-pub mod Excluded
 pub mod Marked

@@ -10,9 +10,9 @@ use Rattle.cert_check.specs.declared.rule.DocRule.{DocRule}
 use Rattle.cert_check.specs.declared.rule.DocRule.TheVariants.{DocForm, KindDiffers, DocRange, NotFeasible, WeightDiffers, DualMissing, SetForm, Slack, ValueDiffers, NotBarrier, NotClosed, NotCircuit}
 use Rattle.cert_check.specs.declared.rule.Verdict.{Verdict}
 use Rattle.cert_check.specs.declared.rule.Verdict.TheVariants.{Accepted, Rejected}
-use Rattle.cert_check.specs.Claims.{numbers}
-use Rattle.cert_check.specs.Ranges.{first_out_of_range}
-use Rattle.cert_check.specs.Certificates.{HasFeasibleAnswer, HasStatedWeight, HasDuals, HaveForm, HaveSlack, HasValue, HasWantedBarrier, HasWantedPart, HasNegativeCircuit}
+use Rattle.certificates.specs.Claims.{numbers}
+use Rattle.certificates.specs.Ranges.{first_out_of_range}
+use Rattle.certificates.specs.Certificates.{HasFeasibleAnswer, HasStatedWeight, HasDuals, HaveForm, HaveSlack, HasValue, HasWantedBarrier, HasWantedPart, HasNegativeCircuit}
 
 -- The document keeps the rule. Its form is the reader's matter, since what isn't one is no document.
 abbrev pub Keeps : Kind → Network → Document → DocRule → Type 0

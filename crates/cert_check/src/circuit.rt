@@ -1,9 +1,9 @@
 ghost use Rattle.std.specs.Prelude.{◌≡◌, ◌↔◌, length, IsTrue, IfOk, IfSome};
 ghost use Rattle.mb_problem.specs.Network.{Network, vertices};
-ghost use Rattle.cert_check.specs.Within.{IsWalkWithin, AreWithin};
+ghost use Rattle.certificates.specs.Within.{IsWalkWithin, AreWithin};
 ghost use Rattle.cert_check.specs.Verdicts.{IsVerdict, KeepsBefore};
-ghost use Rattle.cert_check.specs.Certificates.{HasNegativeCircuit};
-ghost use Rattle.cert_check.specs.Proved.{StatesTruth};
+ghost use Rattle.certificates.specs.Certificates.{HasNegativeCircuit};
+ghost use Rattle.certificates.specs.Proved.{StatesTruth};
 
 use crate::claims::walk_of;
 use crate::rule::{DocRule, Verdict};

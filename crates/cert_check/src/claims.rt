@@ -1,13 +1,13 @@
 ghost use Rattle.std.specs.Prelude.{◌≡◌, ℕ, ◌<◌, ◌≤◌, ◌^◌, ℤ, pos, ◌≤ℤ◌, ◌<ℤ◌, nat_abs, map, length, All, IfOk, IfSome};
 ghost use Rattle.mb_problem.specs.Network.{Network, vertices};
 ghost use Rattle.doc_format.specs.Form.{AscendsBy};
-ghost use Rattle.cert_check.specs.Claims.{numbers, counts_of, walk_of, answer_of, set_of};
-ghost use Rattle.cert_check.specs.Within.{IsUpTo, IsCountWithin, IsWalkWithin, IsSetLineWithin, AreWithin};
+ghost use Rattle.certificates.specs.Claims.{numbers, counts_of, walk_of, answer_of, set_of};
+ghost use Rattle.certificates.specs.Within.{IsUpTo, IsCountWithin, IsWalkWithin, IsSetLineWithin, AreWithin};
 
 use doc_format::{CountLine, Document, DualLine, SetLine, WalkLine};
-use graph_theory::OddSet;
+use graph_theory::{GRAPH_VERTEX_LIMIT, OddSet};
 use mb_base::{EdgeId, OutOfMemory, Sequence, VertexId};
-use mb_problem::{Answer, Instance, Kind};
+use mb_problem::{Answer, AnswerForm, EDGE_LIMIT, Instance, Kind};
 use std::alloc::Global;
 
 /// A number of a document as the number of a vertex or an edge, or a count.
@@ -19,9 +19,9 @@ fn natural(number: i64) -> u32
     number as u32
 }
 
-/// The numbers of a line as vertices, of a graph with at most 4,096 of them.
+/// The numbers of a line as vertices, of a graph within the limits.
 pub fn members_of(alloc: Global, members: &[i64]) -> Result<Vec<VertexId>, OutOfMemory>
-    requires { All (IsUpTo 4096) members.now }
+    requires { All (IsUpTo GRAPH_VERTEX_LIMIT) members.now }
     ensures { IfOk result (λ v. v.items ≡ numbers members.now) }
 {
     let mut vertices = Vec::new(alloc);
@@ -46,7 +46,7 @@ pub fn counts_of(alloc: Global, lines: &[CountLine], m: u32) -> Result<Vec<u32>,
 
 /// The numbers of a line as edges, of an instance.
 fn edges_of(alloc: Global, line: &[i64]) -> Result<Vec<EdgeId>, OutOfMemory>
-    requires { All (IsUpTo 65536) line.now }
+    requires { All (IsUpTo EDGE_LIMIT) line.now }
     ensures { IfOk result (λ v. v.items ≡ numbers line.now) }
 {
     let mut edges = Vec::new(alloc);
@@ -84,12 +84,12 @@ pub fn answer_of(
     requires { AreWithin kind instance.now document.now }
     ensures { IfOk result (λ a. a ≡ answer_of kind instance.now document.now) }
 {
-    match kind {
-        Kind::Postman | Kind::Path => walk_of(alloc, instance, &document.walk),
-        _ => {
+    match kind.form() {
+        AnswerForm::Counts => {
             let counts = counts_of(alloc, document.counts.as_slice(), instance.edges())?;
             Ok(Answer::Counts(Sequence::from_vec(counts)))
         }
+        AnswerForm::Walk => walk_of(alloc, instance, &document.walk),
     }
 }
 
@@ -106,7 +106,7 @@ pub fn duals_of(alloc: Global, lines: &[DualLine]) -> Result<Vec<i64>, OutOfMemo
 
 /// The odd sets with their duals.
 pub fn sets_of(alloc: Global, lines: &[SetLine]) -> Result<Vec<OddSet>, OutOfMemory>
-    requires { All (IsSetLineWithin 4096) lines.now }
+    requires { All (IsSetLineWithin GRAPH_VERTEX_LIMIT) lines.now }
     ensures { IfOk result (λ v. v.items ≡ map set_of lines.now) }
 {
     let mut sets = Vec::new(alloc);

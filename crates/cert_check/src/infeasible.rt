@@ -1,20 +1,20 @@
 ghost use Rattle.std.specs.Prelude.{◌≡◌, ◌↔◌, pos, ◌≤ℤ◌, All, IsTrue, IfOk};
 ghost use Rattle.mb_problem.specs.Size.{size_of};
 ghost use Rattle.graph_theory.specs.Limits.{IsWithinLimits};
-ghost use Rattle.cert_check.specs.Within.{AreWithin};
+ghost use Rattle.certificates.specs.Within.{AreWithin};
 ghost use Rattle.cert_check.specs.Verdicts.{IsVerdict, KeepsBefore};
-ghost use Rattle.cert_check.specs.Certificates.{HasBarrier, HasWantedBarrier};
-ghost use Rattle.cert_check.specs.Excluded.{HasNoAnswer, IsExcludedByBarrier};
-ghost use Rattle.cert_check.specs.Proved.{StatesTruth};
+ghost use Rattle.certificates.specs.Certificates.{HasBarrier, HasWantedBarrier};
+ghost use Rattle.certificates.specs.Excluded.{HasNoAnswer, IsExcludedByBarrier};
+ghost use Rattle.certificates.specs.Proved.{StatesTruth};
 
 use crate::claims::members_of;
-use crate::gadgets::certified;
 use crate::parts::has_wanted_part;
 use crate::rule::{DocRule, Verdict};
+use certificates::certified;
 use doc_format::{DocStatus, Document};
 use dual_check::is_barrier;
 use mb_base::OutOfMemory;
-use mb_problem::{Instance, Kind};
+use mb_problem::{Exclusion, Instance, Kind};
 use std::alloc::Global;
 
 /// Whether a document names a barrier.
@@ -51,9 +51,10 @@ fn has_wanted_barrier(
     ensures exact { IfOk result (λ b. IsTrue b ↔ HasWantedBarrier kind instance.now document.now) }
     ensures none { IfOk result (λ b. IsTrue b → IsExcludedByBarrier kind instance.now) }
 {
-    match kind {
-        Kind::TJoin | Kind::Postman | Kind::Path => Ok(true),
-        _ => has_barrier(alloc, instance, kind, document),
+    match kind.exclusion() {
+        Exclusion::Barrier => has_barrier(alloc, instance, kind, document),
+        Exclusion::OddPart | Exclusion::SplitPart => Ok(true),
+        Exclusion::Never => Ok(false),
     }
 }
 

@@ -1,10 +1,10 @@
 ghost use Rattle.std.specs.Prelude.{◌≡◌, ◌↔◌, pos, ◌≤ℤ◌, All, None, IfOk};
 ghost use Rattle.mb_problem.specs.Size.{size_of};
 ghost use Rattle.graph_theory.specs.Limits.{IsWithinLimits};
-ghost use Rattle.cert_check.specs.Ranges.{first_out_of_range};
-ghost use Rattle.cert_check.specs.Within.{AreWithin};
+ghost use Rattle.certificates.specs.Ranges.{first_out_of_range};
+ghost use Rattle.certificates.specs.Within.{AreWithin};
 ghost use Rattle.cert_check.specs.Verdicts.{IsVerdict};
-ghost use Rattle.cert_check.specs.Proved.{IsProved, StatesTruth};
+ghost use Rattle.certificates.specs.Proved.{IsProved, StatesTruth};
 
 use crate::circuit::judge_conservative;
 use crate::infeasible::judge_infeasible;

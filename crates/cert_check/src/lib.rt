@@ -1,11 +1,10 @@
 //! The judge of documents: whether one proves what it states of an instance.
-//! It stands on `mb_problem`, the gadget crates, `doc_format` and `dual_check`. It promises that the verdict names
+//! It stands on `certificates`, which says what proves what, and on `dual_check`. It promises that the verdict names
 //! the first rule that a document breaks, that an accepted one proves what it states, and that this is true.
 #![tactic(auto)]
 
 mod circuit;
 mod claims;
-mod gadgets;
 mod infeasible;
 mod judging;
 mod numbers;
@@ -13,10 +12,6 @@ mod optimal;
 mod parts;
 mod ranges;
 mod rule;
-mod value;
 
 pub use judging::judge;
 pub use rule::{DocRule, Verdict};
-
-#[cfg(test)]
-mod tests;

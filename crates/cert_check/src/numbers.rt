@@ -1,6 +1,8 @@
-ghost use Rattle.std.specs.Prelude.{◌≡◌, pos};
+ghost use Rattle.std.specs.Prelude.{◌≡◌};
 ghost use Rattle.std.specs.List.{list_all};
-ghost use Rattle.cert_check.specs.Ranges.{is_between, is_up_to, is_dual};
+ghost use Rattle.certificates.specs.Ranges.{is_between, is_up_to, is_dual, is_set_dual};
+
+use graph_theory::NUMBER_LIMIT;
 
 /// Whether a number is one of those from `low` to `high`.
 fn is_between(low: i64, high: i64, number: i64) -> bool
@@ -23,16 +25,16 @@ pub fn are_up_to(high: u32, numbers: &[i64]) -> bool
     numbers.iter().all(|&number| is_up_to(high, number))
 }
 
-/// Whether a number has at most 15 digits, or is 10^15 with either sign.
+/// Whether a number is the dual of a vertex, or a weight.
 pub fn is_dual(number: i64) -> bool
     ensures { result ≡ is_dual number }
 {
-    is_between(-1_000_000_000_000_000, 1_000_000_000_000_000, number)
+    is_between(-NUMBER_LIMIT, NUMBER_LIMIT, number)
 }
 
 /// Whether a number is the dual of a set.
 pub fn is_set_dual(number: i64) -> bool
-    ensures { result ≡ is_between (pos 1) (pos 1000000000000000) number }
+    ensures { result ≡ is_set_dual number }
 {
-    is_between(1, 1_000_000_000_000_000, number)
+    is_between(1, NUMBER_LIMIT, number)
 }

@@ -3,13 +3,13 @@ ghost use Rattle.graph_theory.specs.Parts.{IsVertexSet, IsOddPart, IsSplitPart};
 ghost use Rattle.mb_problem.specs.Network.{Network, IsNetwork, vertices, graph_of, value_of};
 ghost use Rattle.mb_problem.specs.Marks.{AreMarks};
 ghost use Rattle.cert_check.specs.Marked.{mark_of, AgreeAtEnds, HasEdgeMarked};
-ghost use Rattle.cert_check.specs.Within.{IsUpTo, AreWithin};
-ghost use Rattle.cert_check.specs.Certificates.{HasOddPart, HasSplitPart, HasWantedPart};
+ghost use Rattle.certificates.specs.Within.{IsUpTo, AreWithin};
+ghost use Rattle.certificates.specs.Certificates.{HasOddPart, HasSplitPart, HasWantedPart};
 
 use crate::claims::members_of;
 use doc_format::Document;
 use mb_base::{OutOfMemory, VertexId};
-use mb_problem::{Instance, Kind};
+use mb_problem::{Exclusion, Instance, Kind};
 use std::alloc::Global;
 
 /// Marks for the vertices from 1 to `n`: those that are listed.
@@ -156,9 +156,9 @@ pub fn has_wanted_part(
     ensures network { IsNetwork instance.now }
 {
     let _ = instance.vertices();
-    match kind {
-        Kind::TJoin | Kind::Path => has_odd_part(alloc, instance, document),
-        Kind::Postman => has_split_part(alloc, instance, document),
-        _ => Ok(true),
+    match kind.exclusion() {
+        Exclusion::OddPart => has_odd_part(alloc, instance, document),
+        Exclusion::SplitPart => has_split_part(alloc, instance, document),
+        Exclusion::Barrier | Exclusion::Never => Ok(true),
     }
 }

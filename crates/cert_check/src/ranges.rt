@@ -2,13 +2,13 @@ ghost use Rattle.std.specs.Prelude.{◌≡◌, map, length, MatchOption, ⊤, []
 ghost use Rattle.mb_problem.specs.Network.{Network, IsNetwork, vertices};
 ghost use Rattle.mb_problem.specs.Size.{size_of};
 ghost use Rattle.graph_theory.specs.Limits.{IsWithinLimits};
-ghost use Rattle.cert_check.specs.Within.{AreWithin};
-ghost use Rattle.cert_check.specs.Ranges.{is_dual, first_fault, first_out_of_range, checked_count, checked_walk, checked_dual, checked_set, checked_members, listed};
+ghost use Rattle.certificates.specs.Within.{AreWithin};
+ghost use Rattle.certificates.specs.Ranges.{is_dual, first_fault, first_out_of_range, checked_count, checked_walk, checked_dual, checked_set, checked_members, listed};
 
-use crate::gadgets::certified_vertices;
 use crate::numbers::{are_up_to, is_dual, is_set_dual, is_up_to};
+use certificates::certified_vertices;
 use doc_format::{CountLine, Document, DualLine, MemberLine, SetLine, WalkLine};
-use mb_problem::{Instance, Kind};
+use mb_problem::{Instance, Kind, VALUE_LIMIT};
 
 /// The line of a document's weight, where that isn't in range.
 fn first_head(document: &Document) -> Option<u64>
@@ -26,7 +26,7 @@ fn first_count(counts: &[CountLine], m: u32) -> Option<u64>
     ensures { result ≡ first_fault (map (checked_count m) counts.now) }
 {
     for x in counts {
-        if !(is_up_to(m, x.edge) && is_up_to(4096, x.count)) {
+        if !(is_up_to(m, x.edge) && is_up_to(VALUE_LIMIT, x.count)) {
             return Some(x.line);
         }
     }

@@ -1,3 +1,5 @@
+use std::fmt;
+
 /// The rules that a document can break, in the order in which they are tried.
 #[derive(Clone, Copy, Debug, PartialEq, Eq)]
 pub enum DocRule {
@@ -25,6 +27,42 @@ pub enum DocRule {
     NotClosed,
     /// The walk is missing or is no circuit of weight below 0.
     NotCircuit,
+}
+
+impl DocRule {
+    ghost use Rattle.std.specs.Prelude.{◌≡◌};
+    ghost use Rattle.cert_check.specs.Rules.{rule_text};
+
+    /// The name of the rule, as the program prints it.
+    pub fn name(self) -> &'static str
+        ensures { result.now ≡ rule_text self }
+    {
+        match self {
+            DocRule::DocForm => "DocForm",
+            DocRule::KindDiffers => "KindDiffers",
+            DocRule::DocRange => "DocRange",
+            DocRule::NotFeasible => "NotFeasible",
+            DocRule::WeightDiffers => "WeightDiffers",
+            DocRule::DualMissing => "DualMissing",
+            DocRule::SetForm => "SetForm",
+            DocRule::Slack => "Slack",
+            DocRule::ValueDiffers => "ValueDiffers",
+            DocRule::NotBarrier => "NotBarrier",
+            DocRule::NotClosed => "NotClosed",
+            DocRule::NotCircuit => "NotCircuit",
+        }
+    }
+}
+
+impl fmt::Display for DocRule {
+    ghost use Rattle.std.specs.Prelude.{Some};
+    ghost use Rattle.cert_check.specs.Rules.{rule_text};
+
+    ghost output = { λ rule. Some (rule_text rule) };
+
+    fn fmt<W: fmt::Write>(&self, f: &mut fmt::Formatter<W>) -> fmt::Result {
+        f.write_str(self.name())
+    }
 }
 
 /// What the judge says of a document.

@@ -13,8 +13,8 @@ use Rattle.doc_format.specs.declared.document.Document.{Document}
 use Rattle.doc_format.specs.Reading.{HoldsDocument}
 use Rattle.doc_format.specs.Spelling.{document_text}
 use Rattle.doc_format.specs.Law.{HasKeptNumbers}
-use Rattle.cert_check.proofs.WithinLemmas.{are-within}
-use Rattle.cert_check.proofs.BarrierLemmas.{forms-where_none}
+use Rattle.certificates.proofs.WithinLemmas.{are-within}
+use Rattle.certificates.proofs.BarrierLemmas.{forms-where_none}
 use Rattle.cert_check.proofs.VerdictLemmas.{IsFormed, proved-keeps}
 use Rattle.match_cli.specs.declared.status.Status.{Status}
 use Rattle.match_cli.specs.declared.status.Status.TheVariants.{Done, Rejected, Usage, Malformed, TooLarge, TooLong, ReadFault, WriteFault, OutOfMemory}

@@ -23,7 +23,7 @@ use Rattle.doc_format.specs.Reading.{body_of}
 use Rattle.doc_format.specs.Spelling.{after_space, row_text, letter, numbers_of, part_row, head_row, parts_text, document_text}
 use Rattle.doc_format.specs.Law.{IsKept, HasKeptNumbers}
 use Rattle.doc_format.proofs.PartsBack.{HasKept}
-use Rattle.cert_check.specs.Within.{IsUpTo, IsCountWithin, IsDualWithin, IsSetLineWithin, IsWalkWithin, AreWithin}
+use Rattle.certificates.specs.Within.{IsUpTo, IsCountWithin, IsDualWithin, IsSetLineWithin, IsWalkWithin, AreWithin}
 
 abbrev most : ℕ
 most = 1000000000000000

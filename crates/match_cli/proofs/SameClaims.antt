@@ -21,10 +21,10 @@ use Rattle.doc_format.specs.declared.part.DualLine.{DualLine}
 use Rattle.doc_format.specs.declared.part.SetLine.{SetLine}
 use Rattle.doc_format.specs.declared.part.MemberLine.{MemberLine}
 use Rattle.doc_format.specs.declared.document.Document.{Document}
-use Rattle.cert_check.specs.Claims.{numbers, count_of, answer_of, duals_of, set_of, sets_of}
-use Rattle.cert_check.specs.Ranges.{is_dual, Checked, checked_count, checked_walk, checked_dual, checked_set, checked_members, listed, checked_lines, first_fault, first_out_of_range}
-use Rattle.cert_check.specs.Certificates.{HasNegativeCircuit}
-use Rattle.cert_check.specs.Proved.{ProvesOptimal, ProvesByStatus, IsProved, StatesTruthBy, StatesTruth}
+use Rattle.certificates.specs.Claims.{numbers, count_of, answer_of, duals_of, set_of, sets_of}
+use Rattle.certificates.specs.Ranges.{is_dual, Checked, checked_count, checked_walk, checked_dual, checked_set, checked_members, listed, checked_lines, first_fault, first_out_of_range}
+use Rattle.certificates.specs.Certificates.{HasNegativeCircuit}
+use Rattle.certificates.specs.Proved.{ProvesOptimal, ProvesByStatus, IsProved, StatesTruthBy, StatesTruth}
 use Rattle.match_cli.proofs.Renumbering.{count_lines, dual_lines, set_lines, walk_line, member_line, lines_of, renumbered}
 
 -- ---- the same numbers are in range

@@ -9,7 +9,7 @@ use Rattle.dimacs_read.specs.declared.rule.Rule.TheVariants.{UnknownLine}
 use Rattle.dimacs_read.specs.Rest.{IsRest}
 use Rattle.doc_format.specs.declared.document.Document.{Document}
 use Rattle.doc_format.specs.Spelling.{document_text}
-use Rattle.cert_check.specs.Proved.{IsProved}
+use Rattle.certificates.specs.Proved.{IsProved}
 use Rattle.match_cli.specs.declared.answer.Answer.{Answer}
 use Rattle.match_cli.specs.declared.status.Status.{Status}
 use Rattle.match_cli.specs.declared.status.Status.TheVariants.{Done, Rejected, Usage, Malformed, TooLarge, TooLong, ReadFault, WriteFault, OutOfMemory}

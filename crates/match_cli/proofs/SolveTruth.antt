@@ -18,10 +18,10 @@ use Rattle.doc_format.specs.declared.part.MemberLine.{MemberLine}
 use Rattle.doc_format.specs.declared.document.Document.{Document}
 use Rattle.doc_format.specs.Form.{is_head}
 use Rattle.doc_format.specs.Spelling.{document_text}
-use Rattle.cert_check.specs.Claims.{answer_of, duals_of, sets_of, numbers}
-use Rattle.cert_check.specs.Excluded.{HasNoAnswer}
-use Rattle.cert_check.specs.Proved.{ProvesOptimal, ProvesByStatus, IsProved, StatesTruthBy}
-use Rattle.cert_check.proofs.TruthLemmas.{best-by_value, no_answer}
+use Rattle.certificates.specs.Claims.{answer_of, duals_of, sets_of, numbers}
+use Rattle.certificates.specs.Excluded.{HasNoAnswer}
+use Rattle.certificates.specs.Proved.{ProvesOptimal, ProvesByStatus, IsProved, StatesTruthBy}
+use Rattle.certificates.proofs.TruthLemmas.{best-by_value, no_answer}
 use Rattle.match_cli.specs.Solving.{HasAnswer, Solves}
 
 -- a feasible answer is a perfect matching of the graph that certificates speak of

@@ -10,7 +10,7 @@ use Rattle.dimacs_read.specs.declared.rule.Rule.TheVariants.{UnknownLine}
 use Rattle.doc_format.specs.declared.document.Document.{Document}
 use Rattle.doc_format.specs.declared.status.DocStatus.TheVariants.{Optimal, NonConservative}
 use Rattle.doc_format.specs.Spelling.{document_text}
-use Rattle.cert_check.specs.Proved.{IsProved, StatesTruth}
+use Rattle.certificates.specs.Proved.{IsProved, StatesTruth}
 use Rattle.match_cli.specs.declared.status.Status.{Status}
 use Rattle.match_cli.specs.declared.status.Status.TheVariants.{Done, Malformed, TooLarge}
 use Rattle.match_cli.specs.declared.answer.Answer as written

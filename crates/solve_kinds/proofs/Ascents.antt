@@ -7,7 +7,7 @@ use Rattle.std.proofs.lemmas.Int.{ints}
 use Rattle.std.proofs.lemmas.List.Elements.{All-nil, All-cons}
 use Rattle.std.proofs.lemmas.List.FromFn.{length-range_with_len, get_or-range_with_len}
 use Rattle.doc_format.specs.Form.{ascends}
-use Rattle.cert_check.specs.Claims.{numbers}
+use Rattle.certificates.specs.Claims.{numbers}
 
 int_lt-pos : (a b : ℕ) → a < b → int_lt (pos a) (pos b) ≡ true
 int_lt-pos a b h = grind (arith, ints)

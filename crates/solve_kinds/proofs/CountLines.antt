@@ -12,8 +12,8 @@ use Rattle.graph_theory.specs.Graph.{Multigraph, IsGraph, IsEdgeWithin, IsWeight
 use Rattle.graph_theory.specs.Parts.{holds}
 use Rattle.doc_format.specs.declared.part.CountLine.{CountLine}
 use Rattle.doc_format.specs.Form.{ascends, AscendsBy}
-use Rattle.cert_check.specs.Claims.{count_of, counts_of}
-use Rattle.cert_check.specs.Within.{IsCountWithin}
+use Rattle.certificates.specs.Claims.{count_of, counts_of}
+use Rattle.certificates.specs.Within.{IsCountWithin}
 use Rattle.mwpm_engine.specs.Solutions.{mate_at, matching_of}
 use Rattle.solve_kinds.specs.Parts.{count_line}
 use Rattle.solve_kinds.proofs.Passing.{passing, passing-range, passing-ascends, passing-few, passing-holds}

@@ -8,7 +8,7 @@ use Rattle.std.proofs.lemmas.List.FromFn.{length-range_with_len, get_or-range_wi
 use Rattle.graph_theory.specs.Duals.{dual_of, IsNumber}
 use Rattle.doc_format.specs.declared.part.DualLine.{DualLine}
 use Rattle.doc_format.specs.Form.{ascends, AscendsBy}
-use Rattle.cert_check.specs.Within.{IsDualWithin}
+use Rattle.certificates.specs.Within.{IsDualWithin}
 use Rattle.solve_kinds.specs.Parts.{dual_line}
 use Rattle.solve_kinds.proofs.Ascents.{ascends-pos, range-ascends, map-map}
 

@@ -19,10 +19,10 @@ use Rattle.doc_format.specs.declared.part.Part.TheVariants.{Barrier}
 use Rattle.doc_format.specs.Form.{parts_of}
 use Rattle.doc_format.specs.Reading.{body_of}
 use Rattle.doc_format.specs.Spelling.{row_text, spaced, with_count, numbers_of, head_row, part_row, parts_text}
-use Rattle.cert_check.specs.Claims.{numbers}
-use Rattle.cert_check.specs.Certificates.{HasWantedBarrier}
-use Rattle.cert_check.specs.Proved.{IsProved, ProvesByStatus}
-use Rattle.cert_check.specs.Within.{IsUpTo, IsCountWithin, IsWalkWithin, IsDualWithin, IsSetLineWithin, AreWithin}
+use Rattle.certificates.specs.Claims.{numbers}
+use Rattle.certificates.specs.Certificates.{HasWantedBarrier}
+use Rattle.certificates.specs.Proved.{IsProved, ProvesByStatus}
+use Rattle.certificates.specs.Within.{IsUpTo, IsCountWithin, IsWalkWithin, IsDualWithin, IsSetLineWithin, AreWithin}
 use Rattle.solve_kinds.specs.Solved.{ProvesFor, IsShort}
 use Rattle.solve_kinds.proofs.Ascents.{numbers-pos}
 use Rattle.solve_kinds.proofs.InRange.{in-range}

@@ -15,9 +15,9 @@ use Rattle.doc_format.specs.declared.part.WalkLine.{WalkLine}
 use Rattle.doc_format.specs.declared.part.DualLine.{DualLine}
 use Rattle.doc_format.specs.declared.part.SetLine.{SetLine}
 use Rattle.doc_format.specs.declared.part.MemberLine.{MemberLine}
-use Rattle.cert_check.specs.Ranges.{Checked, first_fault, first_out_of_range, is_between, is_up_to, is_dual, checked_count, checked_walk, checked_dual, checked_set, checked_members, listed}
-use Rattle.cert_check.specs.Within.{IsUpTo, IsCountWithin, IsWalkWithin, IsDualWithin, IsSetLineWithin, AreWithin}
-use Rattle.cert_check.proofs.RangeLemmas.{first_fault-append}
+use Rattle.certificates.specs.Ranges.{Checked, first_fault, first_out_of_range, is_between, is_up_to, is_dual, checked_count, checked_walk, checked_dual, checked_set, checked_members, listed}
+use Rattle.certificates.specs.Within.{IsUpTo, IsCountWithin, IsWalkWithin, IsDualWithin, IsSetLineWithin, AreWithin}
+use Rattle.certificates.proofs.RangeLemmas.{first_fault-append}
 
 both_true : (a b : Bool) → a ≡ true → b ≡ true → (a && b) ≡ true
 both_true a b f h = rw (f, h) refl

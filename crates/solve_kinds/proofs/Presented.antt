@@ -11,9 +11,9 @@ use Rattle.mb_problem.specs.Network.{Network, graph_of, plain}
 use Rattle.doc_format.specs.declared.document.Document.{Document}
 use Rattle.doc_format.specs.declared.status.DocStatus.{DocStatus}
 use Rattle.doc_format.specs.declared.status.DocStatus.TheVariants.{Optimal}
-use Rattle.cert_check.specs.Claims.{numbers, counts_of, duals_of, sets_of, set_of}
-use Rattle.cert_check.specs.Proved.{IsProved, ProvesByStatus}
-use Rattle.cert_check.specs.Within.{IsUpTo, IsCountWithin, IsWalkWithin, IsDualWithin, IsSetLineWithin, AreWithin}
+use Rattle.certificates.specs.Claims.{numbers, counts_of, duals_of, sets_of, set_of}
+use Rattle.certificates.specs.Proved.{IsProved, ProvesByStatus}
+use Rattle.certificates.specs.Within.{IsUpTo, IsCountWithin, IsWalkWithin, IsDualWithin, IsSetLineWithin, AreWithin}
 use Rattle.mwpm_engine.specs.Solutions.{Solution, matching_of, AreAscending, IsSolved}
 use Rattle.solve_kinds.specs.Solved.{ProvesFor}
 use Rattle.solve_kinds.proofs.InRange.{in-range}

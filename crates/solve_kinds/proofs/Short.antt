@@ -24,8 +24,8 @@ use Rattle.doc_format.specs.Form.{parts_of}
 use Rattle.doc_format.specs.Reading.{body_of}
 use Rattle.doc_format.specs.Names.{kind_text, status_text}
 use Rattle.doc_format.specs.Spelling.{after_space, row_text, spaced, with_count, numbers_of, head_row, part_row, parts_text, document_text}
-use Rattle.cert_check.specs.Claims.{numbers, set_of, sets_of}
-use Rattle.cert_check.specs.Within.{IsUpTo, IsCountWithin, IsDualWithin, IsSetLineWithin}
+use Rattle.certificates.specs.Claims.{numbers, set_of, sets_of}
+use Rattle.certificates.specs.Within.{IsUpTo, IsCountWithin, IsDualWithin, IsSetLineWithin}
 use Rattle.mwpm_engine.specs.Solutions.{Solution}
 use Rattle.solve_kinds.specs.Solved.{IsShort}
 use Rattle.solve_kinds.proofs.Passing.{passing-few, members-passing}

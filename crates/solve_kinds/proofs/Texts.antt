@@ -11,7 +11,7 @@ use Rattle.graph_theory.specs.Duals.{IsNumber}
 use Rattle.mb_base.specs.Rows.{Row}
 use Rattle.doc_format.specs.declared.part.Part.{Part}
 use Rattle.doc_format.specs.Spelling.{after_space, row_text, spaced, part_row, parts_text}
-use Rattle.cert_check.specs.Within.{IsUpTo}
+use Rattle.certificates.specs.Within.{IsUpTo}
 
 -- numbers
 

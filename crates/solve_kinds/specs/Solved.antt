@@ -7,7 +7,7 @@ use Rattle.doc_format.specs.declared.document.Document.{Document}
 use Rattle.doc_format.specs.declared.status.DocStatus.{DocStatus}
 use Rattle.doc_format.specs.declared.status.DocStatus.TheVariants.{Optimal, Infeasible, NonConservative}
 use Rattle.doc_format.specs.Spelling.{document_text}
-use Rattle.cert_check.specs.Proved.{IsProved}
+use Rattle.certificates.specs.Proved.{IsProved}
 use Rattle.mwpm_engine.specs.Solutions.{HasPerfect}
 
 -- the document proves what it states of every instance with this graph

@@ -1,8 +1,8 @@
 ghost use Rattle.std.specs.Prelude.{◌≡◌, ◌≤◌, ◌-◌, ◌==◌, if◌then◌else◌, [], ◌∷◌, ◌++◌, pos, length, All, Some, IfOk, OnOk};
 ghost use Rattle.graph_theory.specs.Graph.{IsEdgeNumber, edge_of};
 ghost use Rattle.doc_format.specs.Form.{AscendsBy};
-ghost use Rattle.cert_check.specs.Claims.{counts_of};
-ghost use Rattle.cert_check.specs.Within.{IsCountWithin};
+ghost use Rattle.certificates.specs.Claims.{counts_of};
+ghost use Rattle.certificates.specs.Within.{IsCountWithin};
 ghost use Rattle.mwpm_engine.specs.Solutions.{mate_at, matching_of};
 ghost use Rattle.mwpm_engine.specs.declared.outcome.Outcome.TheVariants.{Matched};
 ghost use Rattle.solve_kinds.specs.Parts.{count_line};

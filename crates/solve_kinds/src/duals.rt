@@ -1,7 +1,7 @@
 ghost use Rattle.std.specs.Prelude.{◌≡◌, map, length, All, Some, IfOk};
 ghost use Rattle.graph_theory.specs.Duals.{IsNumber};
 ghost use Rattle.doc_format.specs.Form.{AscendsBy};
-ghost use Rattle.cert_check.specs.Within.{IsDualWithin};
+ghost use Rattle.certificates.specs.Within.{IsDualWithin};
 ghost use Rattle.mwpm_engine.specs.declared.outcome.Outcome.TheVariants.{Matched};
 
 use doc_format::DualLine;

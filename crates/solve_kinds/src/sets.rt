@@ -2,7 +2,7 @@ ghost use Rattle.std.specs.Prelude.{◌≡◌, ◌<◌, pos, ◌≤ℤ◌, map, 
 ghost use Rattle.std.specs.List.Sorted.{IsStrictlyIncreasing};
 ghost use Rattle.graph_theory.specs.Duals.{set_at};
 ghost use Rattle.graph_theory.specs.Nested.{AreSame};
-ghost use Rattle.cert_check.specs.Claims.{numbers, set_of};
+ghost use Rattle.certificates.specs.Claims.{numbers, set_of};
 ghost use Rattle.mwpm_engine.specs.Solutions.{AreAscending};
 ghost use Rattle.mwpm_engine.specs.declared.outcome.Outcome.TheVariants.{Matched};
 

@@ -6,7 +6,7 @@ ghost use Rattle.mb_problem.specs.Size.{size_of};
 ghost use Rattle.graph_theory.specs.Limits.{IsWithinLimits};
 ghost use Rattle.doc_format.specs.declared.status.DocStatus.TheVariants.{Optimal, Infeasible};
 ghost use Rattle.doc_format.specs.Spelling.{document_text};
-ghost use Rattle.cert_check.specs.Proved.{IsProved};
+ghost use Rattle.certificates.specs.Proved.{IsProved};
 ghost use Rattle.mwpm_engine.specs.Solutions.{IsSolved, size_of_graph, most_steps};
 ghost use Rattle.mwpm_engine.specs.declared.outcome.Outcome.TheVariants.{Matched, Barrier};
 ghost use Rattle.solve_kinds.specs.Solved.{ProvesFor, HasTrueStatus, IsShort};

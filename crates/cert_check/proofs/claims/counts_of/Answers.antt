@@ -3,8 +3,8 @@ use Rattle.std.proofs.lemmas.Int.{ints}
 use Rattle.std.proofs.lemmas.List.{length-set, take_all}
 use Rattle.std.proofs.lemmas.List.Elements.{All-get_or}
 use Rattle.doc_format.specs.declared.part.CountLine.{CountLine}
-use Rattle.cert_check.specs.Within.{IsCountWithin}
-use Rattle.cert_check.specs.Claims.{count_of}
+use Rattle.certificates.specs.Within.{IsCountWithin}
+use Rattle.certificates.specs.Claims.{count_of}
 use Rattle.cert_check.proofs.CountLemmas.{count-step, all-counts, from_one}
 use Rattle.cert_check.proofs.claims.counts_of.Goals as goal
 

@@ -1,5 +1,5 @@
 use Rattle.std.proofs.Common.{◌≡◌, take}
-use Rattle.cert_check.specs.Claims.{numbers}
+use Rattle.certificates.specs.Claims.{numbers}
 use Rattle.cert_check.proofs.claims.edges_of.Given as goal
 
 abbrev pub invariant-loop-number : goal.invariant-loop-number

@@ -1,20 +1,21 @@
 use Rattle.std.proofs.Common.{◌≡◌, ◌≤◌, ℕ, ◌≤ℤ◌, Bool, true, IsTrue, Result, Ok, Err, IfOk, List, ℤ, pos, All, sym, ap, ◌∙◌, subst, arith}
 use Rattle.std.proofs.lemmas.Int.{ints}
 use Rattle.std.proofs.lemmas.List.Elements.{All-weaker}
+use Rattle.graph_theory.specs.declared.limits.TheConstants.{GRAPH_VERTEX_LIMIT}
 use Rattle.graph_theory.specs.Parts.{IsVertexSet}
 use Rattle.graph_theory.specs.Graph.{Multigraph, IsPerfect}
 use Rattle.mb_problem.specs.declared.kind.Kind.{Kind}
 use Rattle.mb_problem.specs.Network.{Network}
 use Rattle.gadget_base.specs.Certified.{gadget_graph, ReachesAll}
-use Rattle.cert_check.specs.Excluded.{HasNoAnswer}
-use Rattle.cert_check.proofs.TruthLemmas.{no_answer}
+use Rattle.certificates.specs.Excluded.{HasNoAnswer}
+use Rattle.certificates.proofs.TruthLemmas.{no_answer}
 use Rattle.std.specs.declared.alloc.AllocError.{AllocError}
 use Rattle.doc_format.specs.declared.part.MemberLine.{MemberLine}
 use Rattle.doc_format.specs.Form.{ascends}
-use Rattle.cert_check.specs.Claims.{numbers}
-use Rattle.cert_check.specs.Within.{IsUpTo}
-use Rattle.cert_check.proofs.BarrierLemmas.{vertex_set, up_to-more}
-use Rattle.cert_check.proofs.GadgetLemmas.{few_vertices}
+use Rattle.certificates.specs.Claims.{numbers}
+use Rattle.certificates.specs.Within.{IsUpTo}
+use Rattle.certificates.proofs.BarrierLemmas.{vertex_set, up_to-more}
+use Rattle.certificates.proofs.GadgetLemmas.{few_vertices}
 use Rattle.cert_check.proofs.infeasible.has_barrier.Goals as goal
 
 none_of : (kind : Kind) (i : Network) (r : Result Bool AllocError) → ReachesAll kind i → IfOk r (λ b. IsTrue b → (counts : List ℕ) → IsPerfect (gadget_graph kind i) counts → ⊥) → IfOk r (λ b. IsTrue b → HasNoAnswer kind i)
@@ -26,8 +27,8 @@ members_of-requires c =
     let g = gadget_graph c.args.kind c.args.instance.now in
     let u : MemberLine = c.in-Some.u in
     let within : All (IsUpTo g.vertices) u.members = rw c.in-Some.is at c.requires.within.barrier in
-    let few : g.vertices ≤ 4096 = few_vertices c.args.kind c.args.instance.now c.requires.limits in
-    subst (λ (zs : List ℤ). All (IsUpTo 4096) zs) (sym c.as_slice.ensures) (up_to-more g.vertices 4096 u.members few within)
+    let few : g.vertices ≤ GRAPH_VERTEX_LIMIT = few_vertices c.args.kind c.args.instance.now c.requires.limits in
+    subst (λ (zs : List ℤ). All (IsUpTo GRAPH_VERTEX_LIMIT) zs) (sym c.as_slice.ensures) (up_to-more g.vertices GRAPH_VERTEX_LIMIT u.members few within)
 
 pub is_barrier-requires : goal.is_barrier-requires
 is_barrier-requires c =

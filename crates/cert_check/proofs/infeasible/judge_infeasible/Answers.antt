@@ -1,9 +1,9 @@
 use Rattle.std.proofs.Common.{◌≡◌, sym, subst}
 use Rattle.doc_format.specs.declared.status.DocStatus.{DocStatus}
-use Rattle.cert_check.specs.Certificates.{HasWantedPart}
-use Rattle.cert_check.specs.Excluded.{IsExcludedByBarrier}
-use Rattle.cert_check.specs.Proved.{StatesTruthBy}
-use Rattle.cert_check.proofs.TruthLemmas.{excluded}
+use Rattle.certificates.specs.Certificates.{HasWantedPart}
+use Rattle.certificates.specs.Excluded.{IsExcludedByBarrier}
+use Rattle.certificates.specs.Proved.{StatesTruthBy}
+use Rattle.certificates.proofs.KindLemmas.{excluded}
 use Rattle.cert_check.proofs.infeasible.judge_infeasible.Goals as goal
 
 pub returns-clause-sound : goal.returns-clause-sound

@@ -2,8 +2,8 @@ use Rattle.std.proofs.Common.{◌≡◌, ◌↔◌}
 use Rattle.cert_check.specs.declared.rule.Verdict.{Verdict}
 use Rattle.cert_check.specs.declared.rule.Verdict.TheVariants.{Accepted}
 use Rattle.cert_check.specs.Verdicts.{IsVerdict}
-use Rattle.cert_check.specs.Proved.{IsProved}
-use Rattle.cert_check.proofs.BarrierLemmas.{forms-where_none}
+use Rattle.certificates.specs.Proved.{IsProved}
+use Rattle.certificates.proofs.BarrierLemmas.{forms-where_none}
 use Rattle.cert_check.proofs.VerdictLemmas.{IsFormed, accepted-proved, if_ok}
 use Rattle.cert_check.proofs.judging.judge.Goals as goal
 

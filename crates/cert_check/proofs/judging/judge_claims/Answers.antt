@@ -1,8 +1,8 @@
 use Rattle.std.proofs.Common.{◌≡◌}
 use Rattle.doc_format.specs.declared.status.DocStatus.TheVariants.{Optimal, Infeasible, NonConservative}
-use Rattle.cert_check.specs.Certificates.{HaveForm}
+use Rattle.certificates.specs.Certificates.{HaveForm}
 use Rattle.cert_check.proofs.RuleLemmas.{infeasible-before, circuit-before}
-use Rattle.cert_check.proofs.BarrierLemmas.{forms-where_none}
+use Rattle.certificates.proofs.BarrierLemmas.{forms-where_none}
 use Rattle.cert_check.proofs.judging.judge_claims.Goals as goal
 
 pub judge_infeasible-requires-clause-before : goal.judge_infeasible-requires-clause-before

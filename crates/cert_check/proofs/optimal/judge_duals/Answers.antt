@@ -8,12 +8,13 @@ use Rattle.doc_format.specs.declared.part.SetLine.{SetLine}
 use Rattle.doc_format.specs.Form.{AscendsBy}
 use Rattle.dual_check.specs.Fault.{IsFirstSetFault, IsFirstSlackFault}
 use Rattle.cert_check.specs.declared.rule.DocRule.TheVariants.{DualMissing, SetForm, Slack, ValueDiffers}
-use Rattle.cert_check.specs.Claims.{duals_of, sets_of, set_of}
-use Rattle.cert_check.specs.Certificates.{HasDuals, HaveForm, HaveSlack}
+use Rattle.certificates.specs.Claims.{duals_of, sets_of, set_of}
+use Rattle.certificates.specs.Certificates.{HasDuals, HaveForm, HaveSlack}
 use Rattle.cert_check.specs.Verdicts.{KeepsBefore}
-use Rattle.cert_check.specs.Within.{AreWithin}
+use Rattle.certificates.specs.Within.{AreWithin}
 use Rattle.cert_check.proofs.RuleLemmas.{keeps-next}
-use Rattle.cert_check.proofs.DualLemmas.{has_duals, duals_size, duals-numbers, sets-numbers, sets-within, forms-of_lines, no_slack}
+use Rattle.certificates.proofs.DualLemmas.{has_duals, duals_size, duals-numbers, sets-numbers, sets-within, forms-of_lines}
+use Rattle.cert_check.proofs.FaultLemmas.{no_slack}
 use Rattle.cert_check.proofs.optimal.judge_duals.Goals as goal
 
 pub returns-then-len-certified_vertices-clause-verdict : goal.returns-then-len-certified_vertices-clause-verdict

@@ -4,12 +4,12 @@ use Rattle.graph_theory.specs.Duals.{dual_value}
 use Rattle.doc_format.specs.declared.status.DocStatus.{DocStatus}
 use Rattle.doc_format.specs.declared.status.DocStatus.TheVariants.{Optimal, Infeasible, NonConservative}
 use Rattle.cert_check.specs.declared.rule.DocRule.TheVariants.{NotFeasible, WeightDiffers, ValueDiffers, NotBarrier, NotClosed, NotCircuit}
-use Rattle.cert_check.specs.Claims.{duals_of, sets_of}
-use Rattle.cert_check.specs.Certificates.{HasFeasibleAnswer, HasStatedWeight, HasValue}
+use Rattle.certificates.specs.Claims.{duals_of, sets_of}
+use Rattle.certificates.specs.Certificates.{HasFeasibleAnswer, HasStatedWeight, HasValue}
 use Rattle.cert_check.specs.Verdicts.{KeepsBefore}
-use Rattle.cert_check.specs.Proved.{StatesTruthBy}
+use Rattle.certificates.specs.Proved.{StatesTruthBy}
 use Rattle.cert_check.proofs.RuleLemmas.{optimal-all}
-use Rattle.cert_check.proofs.TruthLemmas.{best-by_value}
+use Rattle.certificates.proofs.TruthLemmas.{best-by_value}
 use Rattle.cert_check.proofs.optimal.judge_value.Goals as goal
 
 abbrev Value : goal.Else-value-value_for → Type 0

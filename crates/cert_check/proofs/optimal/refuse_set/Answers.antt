@@ -1,7 +1,7 @@
 use Rattle.std.proofs.Common.{◌≡◌, ◌-◌, List, get_or, ap, ◌∙◌, subst}
 use Rattle.doc_format.specs.declared.part.SetLine.{SetLine}
 use Rattle.cert_check.specs.Verdicts.{IsFirstFormless}
-use Rattle.cert_check.proofs.DualLemmas.{first_formless}
+use Rattle.cert_check.proofs.FaultLemmas.{first_formless}
 use Rattle.cert_check.proofs.optimal.refuse_set.Goals as goal
 
 pub returns-clause-verdict : goal.returns-clause-verdict

@@ -1,11 +1,12 @@
 use Rattle.std.proofs.Common.{◌≡◌, ◌≤◌, true, List, ℤ, All, sym, ap, ◌∙◌, subst}
+use Rattle.graph_theory.specs.declared.limits.TheConstants.{GRAPH_VERTEX_LIMIT}
 use Rattle.graph_theory.specs.Parts.{IsVertexSet}
 use Rattle.mb_problem.specs.Network.{vertices}
 use Rattle.doc_format.specs.declared.part.MemberLine.{MemberLine}
 use Rattle.doc_format.specs.Form.{ascends}
-use Rattle.cert_check.specs.Claims.{numbers}
-use Rattle.cert_check.specs.Within.{IsUpTo}
-use Rattle.cert_check.proofs.BarrierLemmas.{vertex_set, up_to-more}
+use Rattle.certificates.specs.Claims.{numbers}
+use Rattle.certificates.specs.Within.{IsUpTo}
+use Rattle.certificates.proofs.BarrierLemmas.{vertex_set, up_to-more}
 use Rattle.cert_check.proofs.parts.has_split_part.Goals as goal
 
 pub members_of-requires : goal.members_of-requires
@@ -13,8 +14,8 @@ members_of-requires c =
     let n = vertices c.args.instance.now in
     let line : MemberLine = c.in-Some.q in
     let within : All (IsUpTo n) line.members = rw c.in-Some.is at c.requires in
-    let few : n ≤ 4096 = c.vertices.ensures.network.few_vertices in
-    subst (λ (zs : List ℤ). All (IsUpTo 4096) zs) (sym c.as_slice.ensures) (up_to-more n 4096 line.members few within)
+    let few : n ≤ GRAPH_VERTEX_LIMIT = c.vertices.ensures.network.few_vertices in
+    subst (λ (zs : List ℤ). All (IsUpTo GRAPH_VERTEX_LIMIT) zs) (sym c.as_slice.ensures) (up_to-more n GRAPH_VERTEX_LIMIT line.members few within)
 
 pub is_split_part-requires : goal.is_split_part-requires
 is_split_part-requires c =

@@ -1,8 +1,7 @@
-use Rattle.std.proofs.Common.{◌≡◌, inl, inr}
 use Rattle.cert_check.proofs.parts.has_wanted_part.Goals as goal
 
-pub returns-in-TJoin-clause-exact : goal.returns-in-TJoin-clause-exact
-returns-in-TJoin-clause-exact c = elim c.in-TJoin.is [ inl e ↦ rw e c.has_odd_part.ensures | inr e ↦ rw e c.has_odd_part.ensures ]
+pub returns-in-OddPart-clause-exact : goal.returns-in-OddPart-clause-exact
+returns-in-OddPart-clause-exact c = rw (← c.exclusion.ensures, c.in-OddPart.is) c.has_odd_part.ensures
 
-pub returns-in-Postman-clause-exact : goal.returns-in-Postman-clause-exact
-returns-in-Postman-clause-exact c = rw c.in-Postman.is c.has_split_part.ensures
+pub returns-in-SplitPart-clause-exact : goal.returns-in-SplitPart-clause-exact
+returns-in-SplitPart-clause-exact c = rw (← c.exclusion.ensures, c.in-SplitPart.is) c.has_split_part.ensures

@@ -1,5 +1,5 @@
 use Rattle.std.proofs.Common.{◌≡◌, map, drop}
-use Rattle.cert_check.specs.Ranges.{first_fault, checked_count}
+use Rattle.certificates.specs.Ranges.{first_fault, checked_count}
 use Rattle.cert_check.proofs.ranges.first_count.Given as goal
 
 abbrev pub invariant-loop-x : goal.invariant-loop-x

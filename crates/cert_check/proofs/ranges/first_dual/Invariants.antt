@@ -1,5 +1,5 @@
 use Rattle.std.proofs.Common.{◌≡◌, map, drop}
-use Rattle.cert_check.specs.Ranges.{first_fault, checked_dual}
+use Rattle.certificates.specs.Ranges.{first_fault, checked_dual}
 use Rattle.cert_check.proofs.ranges.first_dual.Given as goal
 
 abbrev pub invariant-loop-y : goal.invariant-loop-y

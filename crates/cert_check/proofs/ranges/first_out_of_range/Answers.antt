@@ -4,9 +4,9 @@ use Rattle.gadget_base.specs.Certified.{gadget_graph}
 use Rattle.doc_format.specs.declared.part.CountLine.{CountLine}
 use Rattle.doc_format.specs.declared.part.DualLine.{DualLine}
 use Rattle.doc_format.specs.declared.part.SetLine.{SetLine}
-use Rattle.cert_check.specs.Ranges.{first_fault, is_dual, checked_count, checked_walk, checked_dual, checked_set, checked_members, listed}
-use Rattle.cert_check.proofs.RangeLemmas.{first_fault-eight}
-use Rattle.cert_check.proofs.WithinLemmas.{within-where_none}
+use Rattle.certificates.specs.Ranges.{first_fault, is_dual, checked_count, checked_walk, checked_dual, checked_set, checked_members, listed}
+use Rattle.certificates.proofs.RangeLemmas.{first_fault-eight}
+use Rattle.certificates.proofs.WithinLemmas.{within-where_none}
 use Rattle.cert_check.proofs.ranges.first_out_of_range.Goals as goal
 
 pub returns-clause-fault : goal.returns-clause-fault

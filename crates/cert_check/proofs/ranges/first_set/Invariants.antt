@@ -1,5 +1,5 @@
 use Rattle.std.proofs.Common.{◌≡◌, map, drop}
-use Rattle.cert_check.specs.Ranges.{first_fault, checked_set}
+use Rattle.certificates.specs.Ranges.{first_fault, checked_set}
 use Rattle.cert_check.proofs.ranges.first_set.Given as goal
 
 abbrev pub invariant-loop-z : goal.invariant-loop-z

@@ -1,8 +1,8 @@
 use Rattle.std.proofs.Common.{◌≡◌, ℕ, ◌≤◌, List, length, map, All, sym, ap, ◌∙◌, subst, arith}
 use Rattle.doc_format.specs.declared.part.CountLine.{CountLine}
 use Rattle.doc_format.specs.Form.{AscendsBy}
-use Rattle.cert_check.specs.Claims.{counts_of}
-use Rattle.cert_check.specs.Within.{IsCountWithin}
+use Rattle.certificates.specs.Claims.{counts_of}
+use Rattle.certificates.specs.Within.{IsCountWithin}
 use Rattle.solve_kinds.specs.Parts.{count_line}
 use Rattle.solve_kinds.proofs.Passing.{passing}
 use Rattle.solve_kinds.proofs.CountLines.{is_in, counts-lines, lines-ascend, lines-within, lines-few}

@@ -3,7 +3,7 @@ use Rattle.std.proofs.lemmas.Int.{ints}
 use Rattle.graph_theory.specs.Duals.{dual_of}
 use Rattle.doc_format.specs.declared.part.DualLine.{DualLine}
 use Rattle.doc_format.specs.Form.{AscendsBy}
-use Rattle.cert_check.specs.Within.{IsDualWithin}
+use Rattle.certificates.specs.Within.{IsDualWithin}
 use Rattle.solve_kinds.proofs.DualLines.{lines_to, lines-push, lines-duals, lines-ascend, lines-within}
 use Rattle.solve_kinds.proofs.duals.duals.Goals as goal
 

@@ -1,5 +1,5 @@
 use Rattle.std.proofs.Common.{pos, ◌≤ℤ◌, take, map, All}
-use Rattle.cert_check.specs.Claims.{set_of}
+use Rattle.certificates.specs.Claims.{set_of}
 use Rattle.mwpm_engine.specs.Solutions.{AreAscending}
 use Rattle.solve_kinds.proofs.sets.sets.Given as goal
 

@@ -5,8 +5,8 @@ use Rattle.doc_format.specs.declared.part.CountLine.{CountLine}
 use Rattle.doc_format.specs.declared.part.DualLine.{DualLine}
 use Rattle.doc_format.specs.declared.part.SetLine.{SetLine}
 use Rattle.doc_format.specs.Form.{AscendsBy}
-use Rattle.cert_check.specs.Claims.{counts_of, set_of}
-use Rattle.cert_check.specs.Within.{IsCountWithin, IsDualWithin}
+use Rattle.certificates.specs.Claims.{counts_of, set_of}
+use Rattle.certificates.specs.Within.{IsCountWithin, IsDualWithin}
 use Rattle.mwpm_engine.specs.Solutions.{AreAscending}
 use Rattle.solve_kinds.proofs.Forms.{form-optimal}
 use Rattle.solve_kinds.proofs.Presented.{proves-for}

@@ -1,0 +1,28 @@
+-- The graphs of certificates within their limits.
+use Rattle.std.proofs.Common.{◌≡◌, ℕ, ◌+◌, ◌-◌, ◌≤◌, ap, arith}
+use Rattle.graph_theory.specs.declared.limits.TheConstants.{GRAPH_VERTEX_LIMIT}
+use Rattle.graph_theory.specs.Limits.{IsWithinLimits}
+use Rattle.graph_theory.specs.Sums.{sum_to}
+use Rattle.mb_problem.specs.declared.kind.Kind.{Kind}
+use Rattle.mb_problem.specs.declared.answer.Parity.TheVariants.{Values}
+use Rattle.mb_problem.specs.declared.gadget.GadgetForm.{GadgetForm}
+use Rattle.mb_problem.specs.declared.gadget.GadgetForm.TheVariants.{Itself, Doubled, Copies, Capped, Ports, PathPorts}
+use Rattle.mb_problem.specs.Kinds.{gadget_of}
+use Rattle.mb_problem.specs.Network.{Network, vertices}
+use Rattle.mb_problem.specs.Size.{size_by, size_of, ports_size, port_count, odd_at}
+use Rattle.gadget_base.specs.Gadgets.{ports_graph}
+use Rattle.gadget_base.specs.Certified.{graph_by, gadget_graph}
+
+ports-vertices : (i : Network) (odd : ℕ → ℕ) → (ports_graph i odd).vertices ≡ (ports_size i odd).vertices
+ports-vertices i odd = let last : vertices i + 1 - 1 ≡ vertices i = omega arith in ap (λ (n : ℕ). sum_to (λ k. port_count i odd (k + 1)) n) last
+
+few_by : (gadget : GadgetForm) (i : Network) → IsWithinLimits (size_by gadget i) → (graph_by gadget i).vertices ≤ GRAPH_VERTEX_LIMIT
+few_by Itself i limits = limits.vertices
+few_by Doubled i limits = limits.vertices
+few_by Copies i limits = limits.vertices
+few_by (Capped capacities) i limits = limits.vertices
+few_by (Ports parity) i limits = omega (arith, ports-vertices i (odd_at parity i), limits.vertices)
+few_by PathPorts i limits = omega (arith, ports-vertices i (odd_at Values i), limits.vertices)
+
+pub few_vertices : (kind : Kind) (i : Network) → IsWithinLimits (size_of kind i) → (gadget_graph kind i).vertices ≤ GRAPH_VERTEX_LIMIT
+few_vertices kind i limits = few_by (gadget_of kind) i limits

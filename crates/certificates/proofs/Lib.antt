@@ -1,0 +1,10 @@
+pub mod AscentLemmas
+pub mod RangeLemmas
+pub mod WithinLemmas
+pub mod DualLemmas
+pub mod BarrierLemmas
+pub mod PartTruths
+pub mod GadgetLemmas
+pub mod KindLemmas
+pub mod TruthLemmas
+pub mod ProvedTruth

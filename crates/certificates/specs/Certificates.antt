@@ -1,0 +1,76 @@
+-- What the parts of a document have to be for it to prove its answer, one fact a rule.
+use Rattle.std.specs.Prelude.{◌≡◌, ℕ, ◌≤◌, ◌%◌, pos, ◌≤ℤ◌, ◌<ℤ◌, ◌==◌, All, ⊤, MatchOption, nat_abs}
+use Rattle.graph_theory.specs.Barrier.{IsBarrier}
+use Rattle.graph_theory.specs.Duals.{HasForm, slack, dual_value}
+use Rattle.graph_theory.specs.Parts.{IsOddPart, IsSplitPart}
+use Rattle.graph_theory.specs.Walk.{IsCircuit, walk_weight}
+use Rattle.mb_problem.specs.declared.kind.Kind.{Kind}
+use Rattle.mb_problem.specs.declared.kind.Exclusion.{Exclusion}
+use Rattle.mb_problem.specs.declared.kind.Exclusion.TheVariants.{Barrier, OddPart, SplitPart, Never}
+use Rattle.mb_problem.specs.Kinds.{exclusion_of}
+use Rattle.mb_problem.specs.Network.{Network, graph_of, value_of}
+use Rattle.mb_problem.specs.Feasible.{IsFeasible, weight_of}
+use Rattle.mb_problem.specs.Values.{value_for}
+use Rattle.gadget_base.specs.Certified.{gadget_graph}
+use Rattle.doc_format.specs.declared.document.Document.{Document}
+use Rattle.certificates.specs.Claims.{answer_of, duals_of, HasDual, sets_of, numbers}
+
+abbrev pub HasFeasibleAnswer : Kind → Network → Document → Type 0
+HasFeasibleAnswer kind i d = IsFeasible kind i (answer_of kind i d)
+
+abbrev pub HasStatedWeight : Kind → Network → Document → Type 0
+HasStatedWeight kind i d = weight_of i (answer_of kind i d) ≡ d.weight
+
+-- every vertex of the graph of certificates has a y line
+abbrev pub HasDuals : Kind → Network → Document → Type 0
+HasDuals kind i d = (v : ℕ) → 1 ≤ v → v ≤ (gadget_graph kind i).vertices → HasDual d v
+
+-- every z line has at least three members, an odd number of them, ascending
+abbrev pub HaveForm : Document → Type 0
+HaveForm d = All (λ z. HasForm (numbers z.members)) d.sets
+
+-- no edge of the graph of certificates has a slack below 0
+abbrev pub HaveSlack : Kind → Network → Document → Type 0
+HaveSlack kind i d = All (λ e. pos 0 ≤ℤ slack (duals_of d) (sets_of d) e) (gadget_graph kind i).edges
+
+-- the value of the duals is the one that the stated weight asks for
+abbrev pub HasValue : Kind → Network → Document → Type 0
+HasValue kind i d = dual_value (duals_of d) (sets_of d) ≡ value_for kind i d.weight
+
+-- there is a u line, and its set is a barrier of the graph of certificates
+abbrev pub HasBarrier : Kind → Network → Document → Type 0
+HasBarrier kind i d = MatchOption d.barrier ⊥ (λ u. IsBarrier (gadget_graph kind i) (numbers u.members))
+
+-- there is a t line, and its set is an odd part
+abbrev pub HasOddPart : Network → Document → Type 0
+HasOddPart i d = MatchOption d.odd ⊥ (λ t. IsOddPart (graph_of i) (λ v. value_of i v % 2 == 1) (numbers t.members))
+
+-- there is a q line, and its set is a split part
+abbrev pub HasSplitPart : Network → Document → Type 0
+HasSplitPart i d = MatchOption d.split ⊥ (λ q. IsSplitPart (graph_of i) (numbers q.members))
+
+-- there is a w line, and its walk is a circuit that weighs less than 0
+abbrev pub HasNegativeCircuit : Network → Document → Type 0
+HasNegativeCircuit i d = MatchOption d.walk ⊥ (λ w. IsCircuit (graph_of i) (nat_abs w.start) (numbers w.edges) × (walk_weight (graph_of i) (numbers w.edges) <ℤ pos 0))
+
+-- the barrier, where that is what excludes all answers; a kind that always has an answer has no infeasible document
+abbrev pub HasBarrierFor : Exclusion → Kind → Network → Document → Type 0
+HasBarrierFor Barrier kind i d = HasBarrier kind i d
+HasBarrierFor OddPart kind i d = ⊤
+HasBarrierFor SplitPart kind i d = ⊤
+HasBarrierFor Never kind i d = ⊥
+
+-- the part that no edge leaves, where that is what excludes all answers
+abbrev pub HasPartFor : Exclusion → Network → Document → Type 0
+HasPartFor Barrier i d = ⊤
+HasPartFor OddPart i d = HasOddPart i d
+HasPartFor SplitPart i d = HasSplitPart i d
+HasPartFor Never i d = ⊤
+
+-- the barrier that an infeasible document of a kind with u lines needs
+abbrev pub HasWantedBarrier : Kind → Network → Document → Type 0
+HasWantedBarrier kind i d = HasBarrierFor (exclusion_of kind) kind i d
+
+-- the closed part that an infeasible document of a kind with t or q lines needs
+abbrev pub HasWantedPart : Kind → Network → Document → Type 0
+HasWantedPart kind i d = HasPartFor (exclusion_of kind) i d

@@ -1,0 +1,57 @@
+-- What a document claims: an answer, duals on vertices and on odd sets, or a set of vertices.
+use Rattle.std.specs.Prelude.{◌≡◌, ℕ, ◌<◌, ℤ, pos, nat_abs, List, [], ◌∷◌, length, map, slice_index_or, if◌then◌else◌, Option, None, Some}
+use Rattle.std.specs.Ordering.{int_eq}
+use Rattle.std.specs.List.{range_with_len}
+use Rattle.graph_theory.specs.declared.odd_set.OddSet.{OddSet}
+use Rattle.mb_problem.specs.declared.kind.Kind.{Kind}
+use Rattle.mb_problem.specs.declared.kind.AnswerForm.{AnswerForm}
+use Rattle.mb_problem.specs.declared.kind.AnswerForm.TheVariants as form
+use Rattle.mb_problem.specs.Kinds.{form_of}
+use Rattle.mb_problem.specs.declared.answer.Answer.{Answer}
+use Rattle.mb_problem.specs.declared.answer.Answer.TheVariants.{Counts, Walk, Nothing}
+use Rattle.mb_problem.specs.Network.{Network}
+use Rattle.doc_format.specs.declared.document.Document.{Document}
+use Rattle.doc_format.specs.declared.part.CountLine.{CountLine}
+use Rattle.doc_format.specs.declared.part.SetLine.{SetLine}
+use Rattle.doc_format.specs.declared.part.WalkLine.{WalkLine}
+
+-- the numbers of a line as numbers of vertices or edges
+abbrev pub numbers : List ℤ → List ℕ
+numbers zs = map nat_abs zs
+
+-- the count of the x line of edge e, and 0 where there is none
+abbrev pub count_of : List CountLine → ℕ → ℕ
+count_of [] e = 0
+count_of (x ∷ xs) e = if int_eq x.edge (pos e) then nat_abs x.count else count_of xs e
+
+-- a count for each of m edges
+abbrev pub counts_of : List CountLine → ℕ → List ℕ
+counts_of xs m = map (count_of xs) (range_with_len 1 m)
+
+abbrev pub walk_of : Option WalkLine → Answer
+walk_of None = Nothing
+walk_of (Some w) = Walk (nat_abs w.start) (numbers w.edges)
+
+-- counts from the x lines, or the walk of the w line
+abbrev pub answer_by : AnswerForm → Network → Document → Answer
+answer_by form.Counts i d = Counts (counts_of d.counts (length i.edges))
+answer_by form.Walk i d = walk_of d.walk
+
+-- the answer that a document of a kind states
+abbrev pub answer_of : Kind → Network → Document → Answer
+answer_of kind i d = answer_by (form_of kind) i d
+
+-- the duals of the vertices, in the order of the y lines
+abbrev pub duals_of : Document → List ℤ
+duals_of d = map (λ y. y.dual) d.duals
+
+-- vertex v has a y line
+abbrev pub HasDual : Document → ℕ → Type 0
+HasDual d v = (k : ℕ) × (k < length d.duals) × (slice_index_or (map (λ y. y.vertex) d.duals) k (pos 0) ≡ pos v)
+
+-- the odd sets with their duals, in the order of the z lines
+abbrev pub set_of : SetLine → OddSet
+set_of z = record { dual = z.dual; members = numbers z.members }
+
+abbrev pub sets_of : Document → List OddSet
+sets_of d = map set_of d.sets

@@ -1,0 +1,43 @@
+-- What an accepted document proves, and what it says of the instance, by the problem alone.
+use Rattle.std.specs.Prelude.{◌≡◌, None}
+use Rattle.graph_theory.specs.Duals.{AreDuals}
+use Rattle.graph_theory.specs.Walk.{IsConservative}
+use Rattle.mb_problem.specs.declared.kind.Kind.{Kind}
+use Rattle.mb_problem.specs.declared.answer.Answer.{Answer}
+use Rattle.mb_problem.specs.Network.{Network, graph_of}
+use Rattle.mb_problem.specs.Feasible.{IsFeasible, IsBest, weight_of}
+use Rattle.gadget_base.specs.Certified.{gadget_graph}
+use Rattle.doc_format.specs.declared.document.Document.{Document}
+use Rattle.doc_format.specs.declared.status.DocStatus.{DocStatus}
+use Rattle.doc_format.specs.declared.status.DocStatus.TheVariants.{Optimal, Infeasible, NonConservative}
+use Rattle.certificates.specs.Claims.{answer_of, duals_of, sets_of}
+use Rattle.certificates.specs.Ranges.{first_out_of_range}
+use Rattle.certificates.specs.Certificates.{HasFeasibleAnswer, HasStatedWeight, HasValue, HasWantedBarrier, HasWantedPart, HasNegativeCircuit}
+
+-- a feasible answer of the stated weight, and feasible duals of the value that this weight asks for
+pub record ProvesOptimal (kind : Kind) (i : Network) (d : Document) : Type 0 where
+  pub feasible : HasFeasibleAnswer kind i d
+  pub weighs : HasStatedWeight kind i d
+  pub duals : AreDuals (gadget_graph kind i) (duals_of d) (sets_of d)
+  pub value : HasValue kind i d
+
+abbrev pub ProvesByStatus : DocStatus → Kind → Network → Document → Type 0
+ProvesByStatus Optimal kind i d = ProvesOptimal kind i d
+ProvesByStatus Infeasible kind i d = HasWantedBarrier kind i d × HasWantedPart kind i d
+ProvesByStatus NonConservative kind i d = HasNegativeCircuit i d
+
+-- the document is of this kind, its numbers are in range, and it proves what it states
+pub record IsProved (kind : Kind) (i : Network) (d : Document) : Type 0 where
+  pub same_kind : d.kind ≡ kind
+  pub in_range : first_out_of_range kind i d ≡ None
+  pub proves : ProvesByStatus d.status kind i d
+
+-- the answer is best and weighs what is stated, or no answer is feasible, or some circuit weighs less than 0
+abbrev pub StatesTruthBy : DocStatus → Kind → Network → Document → Type 0
+StatesTruthBy Optimal kind i d = IsBest kind i (answer_of kind i d) × (weight_of i (answer_of kind i d) ≡ d.weight)
+StatesTruthBy Infeasible kind i d = (answer : Answer) → IsFeasible kind i answer → ⊥
+StatesTruthBy NonConservative kind i d = IsConservative (graph_of i) → ⊥
+
+-- what the document states is true of the instance
+abbrev pub StatesTruth : Kind → Network → Document → Type 0
+StatesTruth kind i d = StatesTruthBy d.status kind i d

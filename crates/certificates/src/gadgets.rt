@@ -1,0 +1,66 @@
+ghost use Rattle.std.specs.Prelude.{◌≡◌, ◌≤◌, pos, ◌≤ℤ◌, All, IfOk};
+ghost use Rattle.graph_theory.specs.Graph.{IsGraph};
+ghost use Rattle.graph_theory.specs.Limits.{IsWithinLimits};
+ghost use Rattle.mb_problem.specs.Network.{IsNetwork};
+ghost use Rattle.mb_problem.specs.Size.{size_of};
+ghost use Rattle.gadget_base.specs.Certified.{gadget_graph, ReachesAll};
+
+use gadget_cap::capped;
+use gadget_match::{copies, double};
+use gadget_tjoin::ports;
+use graph_theory::GRAPH_VERTEX_LIMIT;
+use mb_base::OutOfMemory;
+use mb_problem::{GadgetForm, Instance, Kind, Parity, size_by};
+use std::alloc::Global;
+use weighted_graph::Graph;
+
+/// How many vertices the graph has that the certificates of a kind speak of.
+pub fn certified_vertices(instance: &Instance, kind: Kind) -> u32
+    requires { IsWithinLimits (size_of kind instance.now) }
+    ensures count { result ≡ (gadget_graph kind instance.now).vertices }
+    ensures few { result ≤ GRAPH_VERTEX_LIMIT }
+{
+    let (vertices, _) = match kind.gadget() {
+        GadgetForm::PathPorts => size_by(instance, GadgetForm::Ports(Parity::Values)),
+        gadget => size_by(instance, gadget),
+    };
+    vertices as u32
+}
+
+/// That graph, by the builder that knows the kind's answers.
+fn build(alloc: Global, instance: &Instance, kind: Kind) -> Result<Graph, OutOfMemory>
+    requires limits { IsWithinLimits (size_of kind instance.now) }
+    requires weights { kind ≡ Kind.Postman → All (λ e. pos 0 ≤ℤ e.w) instance.now.edges }
+    ensures graph { IfOk result (λ h. h ≡ gadget_graph kind instance.now) }
+    ensures reached { IfOk result (λ h. ReachesAll kind instance.now) }
+{
+    match kind {
+        Kind::Perfect => instance.graph(),
+        Kind::Match => double(alloc, instance),
+        Kind::BMatch => copies(alloc, instance),
+        Kind::CapMatch => capped(alloc, instance, false),
+        Kind::FFactor => capped(alloc, instance, true),
+        Kind::TJoin => ports(alloc, instance, &Parity::Values),
+        Kind::Postman => ports(alloc, instance, &Parity::OddDegrees),
+        Kind::Path => ports(alloc, instance, &Parity::Values),
+    }
+}
+
+/// The graph that the certificates of a kind speak of: each feasible answer has its perfect matching there. It
+/// takes time linear in the instance and the graph. An error is want of memory.
+pub fn certified(alloc: Global, instance: &Instance, kind: Kind) -> Result<Graph, OutOfMemory>
+    requires limits { IsWithinLimits (size_of kind instance.now) }
+    requires weights { kind ≡ Kind.Postman → All (λ e. pos 0 ≤ℤ e.w) instance.now.edges }
+    ensures graph { IfOk result (λ h. h ≡ gadget_graph kind instance.now) }
+    ensures reached { IfOk result (λ h. ReachesAll kind instance.now) }
+
+    // Both are what `laws` asks of an instance and its graph.
+    ensures good { IfOk result (λ h. IsGraph (gadget_graph kind instance.now)) }
+    ensures network { IsNetwork instance.now }
+{
+    let _ = instance.vertices();
+    let graph = build(alloc, instance, kind)?;
+    // The prover learns here that the graph is one.
+    let _ = graph.vertices();
+    Ok(graph)
+}

@@ -1,0 +1,12 @@
+//! What a document of an answer claims, when it proves its claim, and that this is true then.
+//! It stands on `mb_problem`, the gadget crates and `doc_format`, and below both the solver and the judge. It promises
+//! that what is proved is true, and the graph that the certificates of a kind speak of with the value they have.
+#![tactic(auto)]
+
+mod gadgets;
+mod law;
+mod value;
+
+pub use gadgets::{certified, certified_vertices};
+pub use law::laws;
+pub use value::{total_weight, value_for};
