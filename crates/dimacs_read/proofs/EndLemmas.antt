@@ -15,7 +15,8 @@ use Rattle.mb_problem.specs.declared.limits.TheConstants.{VALUE_LIMIT}
 use Rattle.dimacs_read.specs.declared.line.Header.{Header}
 use Rattle.dimacs_read.specs.declared.rule.Rule.TheVariants.{HeaderMissing, EdgeCount, Negative, PathEnds}
 use Rattle.dimacs_read.specs.declared.rule.Fault.{Fault}
-use Rattle.dimacs_read.specs.Format.{Sizes, header_of, value_in, edges_of, values_of, value_or, default_of, first_place, is_negative, is_odd, kind_fault, end_fault, HoldsInstance}
+use Rattle.mb_problem.specs.Kinds.{default_value_of}
+use Rattle.dimacs_read.specs.Format.{Sizes, header_of, value_in, edges_of, values_of, value_or, first_place, is_negative, is_odd, kind_fault, end_fault, HoldsInstance}
 use Rattle.dimacs_read.specs.Line.{sizes, sizes_of_header, FitsHeader, IsSmall, HasValues, HasFewVertices}
 use Rattle.dimacs_read.specs.Reading.{IsRead, kind_fault_from, end_fault_from}
 
@@ -82,7 +83,7 @@ end_whole kind (Some g) vs count neg lines e = (g, refl, eqb-true count g.edges 
 
 -- ---- all lines
 
-default_small : (kind : Kind) → default_of kind ≤ VALUE_LIMIT
+default_small : (kind : Kind) → default_value_of kind ≤ VALUE_LIMIT
 default_small Perfect = omega arith
 default_small Match = omega arith
 default_small BMatch = omega arith
@@ -92,7 +93,7 @@ default_small TJoin = omega arith
 default_small Postman = omega arith
 default_small Path = omega arith
 
-small_value : (kind : Kind) (o : Option ℕ) → IsSmall o → value_or (default_of kind) o ≤ VALUE_LIMIT
+small_value : (kind : Kind) (o : Option ℕ) → IsSmall o → value_or (default_value_of kind) o ≤ VALUE_LIMIT
 small_value kind None h = default_small kind
 small_value kind (Some b) h = h
 
@@ -148,18 +149,18 @@ module _ (rs : List Row) (h : Option Header) (vs : List (Option ℕ)) (es : List
       by_header (Some g) e =
           rw e (ap₂ (λ (m : ℕ) (o : Option Fault). cond (eqb m g.edges) o (some_fault (record { rule = EdgeCount; place = length rs }))) (ap length all_edges) (kind_same kind g.vertices (header_count g e)))
 
-  pub network : (kind : Kind) (g : Header) → h ≡ Some g → length es ≡ g.edges → IsNetwork (record { edges = es; values = map (value_or (default_of kind)) vs })
+  pub network : (kind : Kind) (g : Header) → h ≡ Some g → length es ≡ g.edges → IsNetwork (record { edges = es; values = map (value_or (default_value_of kind)) vs })
   network kind g e count =
       let few = subst HasFewVertices e so_far.few in
-      let len : length (map (value_or (default_of kind)) vs) ≡ g.vertices = length-map vs (value_or (default_of kind)) ∙ header_count g e in
+      let len : length (map (value_or (default_value_of kind)) vs) ≡ g.vertices = length-map vs (value_or (default_value_of kind)) ∙ header_count g e in
       record {
         few_vertices = omega (arith, few.0, len);
         few_edges = omega (arith, few.1, count);
         edges = λ j d lt. subst (λ (n : ℕ). IsInstanceEdge n (get_or es j d)) (sym len) (subst (λ (x : Option Header). FitsHeader x (get_or es j d)) e (so_far.fit j d lt));
-        values = All-map (λ b. b ≤ VALUE_LIMIT) (value_or (default_of kind)) vs (λ j d lt. small_value kind (get_or vs j d) (so_far.small j d lt));
+        values = All-map (λ b. b ≤ VALUE_LIMIT) (value_or (default_value_of kind)) vs (λ j d lt. small_value kind (get_or vs j d) (so_far.small j d lt));
       }
 
-  pub holds : (kind : Kind) (g : Header) → h ≡ Some g → end_fault_from kind (sizes h) vs (length es) neg (length rs) ≡ None → HoldsInstance kind rs (record { edges = es; values = map (value_or (default_of kind)) vs })
+  pub holds : (kind : Kind) (g : Header) → h ≡ Some g → end_fault_from kind (sizes h) vs (length es) neg (length rs) ≡ None → HoldsInstance kind rs (record { edges = es; values = map (value_or (default_value_of kind)) vs })
   holds kind g e none =
       let header : header_of rs ≡ Some (sizes_of_header g) = sym all_header ∙ ap sizes e in
       record {
@@ -168,5 +169,5 @@ module _ (rs : List Row) (h : Option Header) (vs : List (Option ℕ)) (es : List
         header_is = header;
         whole = ap (λ (s : Option Sizes). end_fault kind s rs) (sym header) ∙ sym (end_same kind) ∙ none;
         edges_are = all_edges;
-        values_are = all_values (default_of kind) g.vertices (header_count g e);
+        values_are = all_values (default_value_of kind) g.vertices (header_count g e);
       }

@@ -8,7 +8,8 @@ use Rattle.mb_problem.specs.Network.{Network}
 use Rattle.dimacs_read.specs.declared.rule.Rule.{Rule}
 use Rattle.dimacs_read.specs.declared.rule.Rule.TheVariants.{HeaderMissing}
 use Rattle.dimacs_read.specs.declared.rule.Fault.{Fault}
-use Rattle.dimacs_read.specs.Format.{Sizes, fault_at, header_of, edges_of, values_of, default_of, end_fault, NoFaultBelow, IsFirstFaulty, FailsAtEnd, IsFirstFault, HoldsInstance}
+use Rattle.mb_problem.specs.Kinds.{default_value_of}
+use Rattle.dimacs_read.specs.Format.{Sizes, fault_at, header_of, edges_of, values_of, end_fault, NoFaultBelow, IsFirstFaulty, FailsAtEnd, IsFirstFault, HoldsInstance}
 use Rattle.dimacs_read.specs.declared.rest.Rest.{Rest}
 use Rattle.dimacs_read.specs.Law.{EachIsRead, OneFault, OneInstance, NoInstanceAndFault, OneRest}
 use Rattle.dimacs_read.proofs.EndLemmas.{fault_is}
@@ -59,7 +60,7 @@ same_network i j e f = ap₂ (λ (es : List InstanceEdge) (vs : List ℕ). recor
 pub one_instance : OneInstance
 one_instance kind rs i j a b =
     let same : a.header ≡ b.header = some_sizes_is a.header b.header (sym a.header_is ∙ b.header_is) in
-    same_network i j (a.edges_are ∙ sym b.edges_are) (a.values_are ∙ ap (λ (s : Sizes). values_of (default_of kind) s.vertices rs) same ∙ sym b.values_are)
+    same_network i j (a.edges_are ∙ sym b.edges_are) (a.values_are ∙ ap (λ (s : Sizes). values_of (default_value_of kind) s.vertices rs) same ∙ sym b.values_are)
 
 -- ---- the first n lines have no fault, or one of them is the first that has
 
@@ -79,7 +80,7 @@ search_first rs (suc n) =
     ]
 
 at_end : (kind : Kind) (rs : List Row) (s : Sizes) (o : Option Fault) → NoFaultBelow rs (length rs) → header_of rs ≡ Some s → end_fault kind (Some s) rs ≡ o → ((i : Network) × HoldsInstance kind rs i) ⊎ ((rule : Rule) × (line : ℕ) × IsFirstFault kind rs rule line)
-at_end kind rs s None below e end = inl (record { edges = edges_of rs; values = values_of (default_of kind) s.vertices rs }, record { faultless = below; header = s; header_is = e; whole = end; edges_are = refl; values_are = refl })
+at_end kind rs s None below e end = inl (record { edges = edges_of rs; values = values_of (default_value_of kind) s.vertices rs }, record { faultless = below; header = s; header_is = e; whole = end; edges_are = refl; values_are = refl })
 at_end kind rs s (Some f) below e end = inr (f.rule, f.place + 1, (f.place, refl, inr (record { faultless = below; fault = ap (λ (h : Option Sizes). end_fault kind h rs) e ∙ end })))
 
 by_header : (kind : Kind) (rs : List Row) (h : Option Sizes) → NoFaultBelow rs (length rs) → header_of rs ≡ h → ((i : Network) × HoldsInstance kind rs i) ⊎ ((rule : Rule) × (line : ℕ) × IsFirstFault kind rs rule line)

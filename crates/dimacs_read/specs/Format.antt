@@ -6,10 +6,11 @@ use Rattle.std.specs.Str.{bytes_eq}
 use Rattle.mb_base.specs.Text.{numeral}
 use Rattle.mb_base.specs.Rows.{Row, field_at, is_skipped}
 use Rattle.mb_problem.specs.declared.kind.Kind.{Kind}
-use Rattle.mb_problem.specs.declared.kind.Kind.TheVariants.{BMatch, CapMatch, FFactor, Postman, Path}
+use Rattle.mb_problem.specs.declared.kind.Kind.TheVariants.{Postman, Path}
 use Rattle.mb_problem.specs.declared.instance.InstanceEdge.{InstanceEdge}
 use Rattle.graph_theory.specs.declared.limits.TheConstants.{WEIGHT_LIMIT}
 use Rattle.mb_problem.specs.declared.limits.TheConstants.{VERTEX_LIMIT, EDGE_LIMIT, VALUE_LIMIT}
+use Rattle.mb_problem.specs.Kinds.{default_value_of}
 use Rattle.mb_problem.specs.Network.{Network}
 use Rattle.dimacs_read.specs.declared.rule.Rule.{Rule}
 use Rattle.dimacs_read.specs.declared.rule.Rule.TheVariants.{UnknownLine, HeaderMissing, HeaderTwice, HeaderForm, FieldCount, Number, Range, Loop, NodeTwice, EdgeCount, Negative, PathEnds}
@@ -148,13 +149,6 @@ value_or default o = unwrap_or o default
 abbrev pub values_of : ℕ → ℕ → List Row → List ℕ
 values_of default n rs = map (λ v. value_or default (value_in rs v)) (range_with_len 1 n)
 
--- the value of a vertex without a value line
-abbrev pub default_of : Kind → ℕ
-default_of BMatch = 1
-default_of CapMatch = 1
-default_of FFactor = 1
-default_of kind = 0
-
 -- ---- what only the end shows
 
 abbrev pub is_odd : ℕ → Bool
@@ -205,4 +199,4 @@ pub record HoldsInstance (kind : Kind) (rs : List Row) (i : Network) : Type 0 wh
   pub header_is : header_of rs ≡ Some header
   pub whole : end_fault kind (Some header) rs ≡ None
   pub edges_are : i.edges ≡ edges_of rs
-  pub values_are : i.values ≡ values_of (default_of kind) header.vertices rs
+  pub values_are : i.values ≡ values_of (default_value_of kind) header.vertices rs

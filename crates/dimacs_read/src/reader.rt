@@ -2,9 +2,10 @@ ghost use Rattle.std.specs.Prelude.{◌≡◌, ℕ, ◌+◌, ◌<◌, ◌≤◌,
 ghost use Rattle.std.specs.List.{position};
 ghost use Rattle.mb_base.specs.Text.{fields};
 ghost use Rattle.mb_base.specs.Rows.{Row, rows, is_skipped};
+ghost use Rattle.mb_problem.specs.Kinds.{default_value_of};
 ghost use Rattle.mb_problem.specs.Network.{IsNetwork};
 ghost use Rattle.dimacs_read.specs.Rows.{instance_rows, is_header, is_edge, is_solution};
-ghost use Rattle.dimacs_read.specs.Format.{line_fault, default_of, value_or, is_odd};
+ghost use Rattle.dimacs_read.specs.Format.{line_fault, value_or, is_odd};
 ghost use Rattle.dimacs_read.specs.Line.{sizes, field_list, HasFewVertices, HasValues, is_valued};
 ghost use Rattle.dimacs_read.specs.Ready.{IsReady};
 ghost use Rattle.dimacs_read.specs.Reading.{GivesLine, Reads, ReadsLines, IsDraft, negative_after, kind_fault_from, end_fault_from};
@@ -191,16 +192,6 @@ fn end_fault(
     kind_fault(kind, values, negative, lines)
 }
 
-/// The value of a vertex that no line gives one.
-fn default_value(kind: Kind) -> u32
-    ensures { result ≡ default_of kind }
-{
-    match kind {
-        Kind::BMatch | Kind::CapMatch | Kind::FFactor => 1,
-        _ => 0,
-    }
-}
-
 /// A copy of what follows the instance.
 fn copy_rest(alloc: Global, rest: &[u8], line: u64) -> Result<Rest, OutOfMemory>
     ensures bytes { IfOk result (λ r. r.bytes ≡ rest.now) }
@@ -220,10 +211,10 @@ fn build(
     values: &[Option<u32>],
     edges: Vec<InstanceEdge>,
 ) -> Result<Instance, OutOfMemory>
-    requires { IsNetwork (record { edges = edges.items; values = map (value_or (default_of kind)) values.now }) }
-    ensures { IfOk result (λ i. i ≡ record { edges = edges.items; values = map (value_or (default_of kind)) values.now }) }
+    requires { IsNetwork (record { edges = edges.items; values = map (value_or (default_value_of kind)) values.now }) }
+    ensures { IfOk result (λ i. i ≡ record { edges = edges.items; values = map (value_or (default_value_of kind)) values.now }) }
 {
-    let all = with_default(alloc, values, default_value(kind))?;
+    let all = with_default(alloc, values, kind.default_value())?;
     Ok(Instance::from_parts(alloc, edges, all))
 }
 

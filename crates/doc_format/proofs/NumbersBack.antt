@@ -1,5 +1,5 @@
 -- Numbers that are written are the numbers that are kept.
-use Rattle.std.proofs.Common.{◌≡◌, ℕ, suc, ◌+◌, ◌-◌, ◌*◌, ◌%◌, ◌<◌, ◌≤◌, ◌^◌, Bool, true, false, ◌&&◌, eqb, min, List, [], ◌∷◌, ◌++◌, length, map, Some, ℤ, pos, negsuc, neg_ℤ, refl, ap, ◌∙◌, arith}
+use Rattle.std.proofs.Common.{nat_abs, ◌≡◌, ℕ, suc, ◌+◌, ◌-◌, ◌*◌, ◌%◌, ◌<◌, ◌≤◌, ◌^◌, Bool, true, false, ◌&&◌, eqb, min, List, [], ◌∷◌, ◌++◌, length, map, Some, ℤ, pos, negsuc, neg_ℤ, refl, ap, ◌∙◌, arith}
 use Rattle.std.specs.Option.{option_map}
 use Rattle.std.specs.Ordering.{int_eq}
 use Rattle.std.specs.List.{list_all, AllByRecursion}
@@ -9,6 +9,7 @@ use Rattle.std.proofs.lemmas.Fmt.{decimal_by_steps}
 use Rattle.std.proofs.lemmas.List.{length_push}
 use Rattle.mb_base.specs.Text.{is_digit, value_from, natural, numeral, clamped}
 use Rattle.doc_format.specs.Plain.{is_plain, IsField, HasFields}
+use Rattle.graph_theory.specs.declared.limits.TheConstants.{NUMBER_LIMIT}
 use Rattle.doc_format.specs.Law.{IsKept}
 use Rattle.doc_format.specs.Rows.{kept, numbers, counted}
 use Rattle.doc_format.specs.Spelling.{with_count}
@@ -61,12 +62,12 @@ numeral_back (negsuc n) h = ap (option_map (λ (k : ℕ). neg_ℤ (pos k))) (nat
 min_is : (n m : ℕ) → n ≤ m → min n m ≡ n
 min_is n m h = omega arith
 
-clamped_is : (z : ℤ) → IsKept z → clamped 1000000000000000 z ≡ z
+clamped_is : (z : ℤ) → IsKept z → clamped (nat_abs NUMBER_LIMIT) z ≡ z
 clamped_is (pos n) h = ap (λ (k : ℕ). pos k) (min_is n 1000000000000001 (omega arith))
-clamped_is (negsuc n) h = ap (λ (k : ℕ). negsuc k) (min_is n 1000000000000000 (omega arith))
+clamped_is (negsuc n) h = ap (λ (k : ℕ). negsuc k) (min_is n (nat_abs NUMBER_LIMIT) (omega arith))
 
 pub kept_back : (z : ℤ) → IsKept z → kept (signed_decimal z) ≡ Some z
-kept_back z h = ap (option_map (clamped 1000000000000000)) (numeral_back z h) ∙ ap (λ (y : ℤ). Some y) (clamped_is z h)
+kept_back z h = ap (option_map (clamped (nat_abs NUMBER_LIMIT))) (numeral_back z h) ∙ ap (λ (y : ℤ). Some y) (clamped_is z h)
 
 pub numbers_back : (zs : List ℤ) → AllByRecursion IsKept zs → numbers (map signed_decimal zs) ≡ Some zs
 numbers_back [] h = refl

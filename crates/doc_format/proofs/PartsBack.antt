@@ -8,7 +8,8 @@ use Rattle.doc_format.specs.declared.status.DocStatus.{DocStatus}
 use Rattle.doc_format.specs.declared.status.DocStatus.TheVariants.{Optimal, Infeasible, NonConservative}
 use Rattle.doc_format.specs.declared.part.Part.{Part}
 use Rattle.doc_format.specs.declared.part.Part.TheVariants.{Count, Walk, Dual, Set, Barrier, Odd, Split}
-use Rattle.doc_format.specs.Names.{kind_text, status_text, kind_named, status_named}
+use Rattle.mb_problem.specs.Kinds.{kind_text, kind_named}
+use Rattle.doc_format.specs.Status.{status_text, status_named}
 use Rattle.doc_format.specs.Form.{is_formed, is_head, is_best}
 use Rattle.doc_format.specs.Rows.{head_at, part_at, weight_in}
 use Rattle.doc_format.specs.Reading.{parts_from}

@@ -2,7 +2,12 @@
 use Rattle.std.specs.Prelude.{◌≡◌, ℕ, ℤ, pos, int_lt, nat_lt, ◌==◌, List, [], ◌∷◌, ◌++◌, map, Bool, true, false, not, ◌&&◌, ◌||◌, Option, None, Some}
 use Rattle.std.specs.List.{list_all}
 use Rattle.mb_problem.specs.declared.kind.Kind.{Kind}
-use Rattle.mb_problem.specs.declared.kind.Kind.TheVariants.{Perfect, Match, BMatch, CapMatch, FFactor, TJoin, Postman, Path}
+use Rattle.mb_problem.specs.declared.kind.Kind.TheVariants.{Path}
+use Rattle.mb_problem.specs.declared.kind.AnswerForm.{AnswerForm}
+use Rattle.mb_problem.specs.declared.kind.AnswerForm.TheVariants as form
+use Rattle.mb_problem.specs.declared.kind.Exclusion.{Exclusion}
+use Rattle.mb_problem.specs.declared.kind.Exclusion.TheVariants as exclusion
+use Rattle.mb_problem.specs.Kinds.{form_of, exclusion_of}
 use Rattle.doc_format.specs.declared.status.DocStatus.{DocStatus}
 use Rattle.doc_format.specs.declared.status.DocStatus.TheVariants.{Optimal, Infeasible, NonConservative}
 use Rattle.doc_format.specs.declared.part.CountLine.{CountLine}
@@ -15,32 +20,35 @@ use Rattle.doc_format.specs.declared.part.Part.TheVariants.{Count, Walk, Dual, S
 
 -- ---- which statuses a kind has, and which letters they take
 
-abbrev pub is_walked : Kind → Bool
-is_walked Postman = true
-is_walked Path = true
-is_walked kind = false
+abbrev pub is_counts : AnswerForm → Bool
+is_counts form.Counts = true
+is_counts form.Walk = false
 
-abbrev pub has_barrier : Kind → Bool
-has_barrier Perfect = true
-has_barrier BMatch = true
-has_barrier CapMatch = true
-has_barrier FFactor = true
-has_barrier kind = false
+abbrev pub is_walk : AnswerForm → Bool
+is_walk form.Counts = false
+is_walk form.Walk = true
 
-abbrev pub has_odd : Kind → Bool
-has_odd TJoin = true
-has_odd Path = true
-has_odd kind = false
+abbrev pub is_barrier : Exclusion → Bool
+is_barrier exclusion.Barrier = true
+is_barrier other = false
 
-abbrev pub has_split : Kind → Bool
-has_split Postman = true
-has_split kind = false
+abbrev pub is_odd_part : Exclusion → Bool
+is_odd_part exclusion.OddPart = true
+is_odd_part other = false
 
--- every kind can be optimal, all but matchings infeasible, and paths alone have weights that aren't conservative
+abbrev pub is_split_part : Exclusion → Bool
+is_split_part exclusion.SplitPart = true
+is_split_part other = false
+
+abbrev pub is_never : Exclusion → Bool
+is_never exclusion.Never = true
+is_never other = false
+
+-- Every kind can be optimal, and one that something excludes infeasible; paths alone have weights that aren't
+-- conservative.
 abbrev pub is_head : DocStatus → Kind → Bool
 is_head Optimal kind = true
-is_head Infeasible Match = false
-is_head Infeasible kind = true
+is_head Infeasible kind = not (is_never (exclusion_of kind))
 is_head NonConservative Path = true
 is_head NonConservative kind = false
 
@@ -50,13 +58,13 @@ is_best status = false
 
 -- the letter may stand in a document of this status and kind
 abbrev pub admits : DocStatus → Kind → Part → Bool
-admits Optimal kind (Count x) = not (is_walked kind)
-admits Optimal kind (Walk w) = is_walked kind
+admits Optimal kind (Count x) = is_counts (form_of kind)
+admits Optimal kind (Walk w) = is_walk (form_of kind)
 admits Optimal kind (Dual y) = true
 admits Optimal kind (Set z) = true
-admits Infeasible kind (Barrier u) = has_barrier kind
-admits Infeasible kind (Odd t) = has_odd kind
-admits Infeasible kind (Split q) = has_split kind
+admits Infeasible kind (Barrier u) = is_barrier (exclusion_of kind)
+admits Infeasible kind (Odd t) = is_odd_part (exclusion_of kind)
+admits Infeasible kind (Split q) = is_split_part (exclusion_of kind)
 admits NonConservative kind (Walk w) = true
 admits status kind part = false
 

@@ -1,5 +1,6 @@
 -- What is written reads back.
 use Rattle.std.specs.Prelude.{◌≡◌, ℕ, ◌≤◌, ℤ, nat_abs, map, All, false, Result, Ok, Err}
+use Rattle.graph_theory.specs.declared.limits.TheConstants.{NUMBER_LIMIT}
 use Rattle.doc_format.specs.declared.part.Part.{Part}
 use Rattle.doc_format.specs.declared.part.Part.TheVariants.{Count, Walk, Dual, Set, Barrier, Odd, Split}
 use Rattle.doc_format.specs.declared.document.Document.{Document}
@@ -10,9 +11,9 @@ use Rattle.doc_format.specs.Reading.{body_of, Reads}
 use Rattle.doc_format.specs.Spelling.{numbers_of, document_text}
 
 abbrev pub IsKept : ℤ → Type 0
-IsKept z = nat_abs z ≤ 1000000000000000
+IsKept z = nat_abs z ≤ nat_abs NUMBER_LIMIT
 
--- the numbers of a document, and the counts of its members, lie within 10^15
+-- the numbers of a document, and the counts of its members, lie within the limit
 pub record HasKeptNumbers (d : Document) : Type 0 where
   pub weight : IsKept d.weight
   pub parts : All (λ part. All IsKept (numbers_of part)) (parts_of (body_of d))

@@ -1,4 +1,4 @@
-pub mod Names
+pub mod Status
 pub mod Form
 pub mod Rows
 pub mod Reading

@@ -1,6 +1,8 @@
 -- What one line of a document says by itself.
 use Rattle.std.specs.Prelude.{◌≡◌, ℕ, ℤ, pos, List, [], ◌∷◌, length, codes, bytes_eq, Bool, true, false, if◌then◌else◌, Option, None, Some}
 use Rattle.std.specs.Ordering.{int_eq}
+use Rattle.graph_theory.specs.declared.limits.TheConstants.{NUMBER_LIMIT}
+use Rattle.mb_problem.specs.Kinds.{kind_named}
 use Rattle.mb_base.specs.Text.{number_of}
 use Rattle.mb_base.specs.Rows.{Row}
 use Rattle.doc_format.specs.declared.status.DocStatus.{DocStatus}
@@ -9,7 +11,7 @@ use Rattle.doc_format.specs.declared.part.MemberLine.{MemberLine}
 use Rattle.doc_format.specs.declared.part.Part.{Part}
 use Rattle.doc_format.specs.declared.part.Part.TheVariants.{Count, Walk, Dual, Set, Barrier, Odd, Split}
 use Rattle.doc_format.specs.declared.head.Head.{Head}
-use Rattle.doc_format.specs.Names.{kind_named, status_named}
+use Rattle.doc_format.specs.Status.{status_named}
 use Rattle.doc_format.specs.Form.{is_head, is_best, ascends, has_any}
 
 infixl 10 ◌>>=◌
@@ -23,12 +25,9 @@ only_if b x = if b then Some x else None
 
 -- ---- numbers
 
--- numbers beyond 10^15 are kept as that and one more, with their sign
-abbrev pub bound : ℤ
-bound = pos 1000000000000000
-
+-- numbers beyond the limit are kept as that and one more, with their sign
 abbrev pub kept : List ℕ → Option ℤ
-kept field = number_of bound field
+kept field = number_of NUMBER_LIMIT field
 
 -- two numbers and nothing else
 abbrev pub two_numbers : Row → Option (ℤ × ℤ)

@@ -8,7 +8,8 @@ use Rattle.doc_format.specs.declared.part.Part.{Part}
 use Rattle.doc_format.specs.declared.part.Part.TheVariants.{Count, Walk, Dual, Set, Barrier, Odd, Split}
 use Rattle.mb_problem.specs.declared.kind.Kind.{Kind}
 use Rattle.doc_format.specs.declared.document.Document.{Document}
-use Rattle.doc_format.specs.Names.{kind_text, status_text}
+use Rattle.mb_problem.specs.Kinds.{kind_text}
+use Rattle.doc_format.specs.Status.{status_text}
 use Rattle.doc_format.specs.Form.{Body, at_most_one, parts_of}
 use Rattle.doc_format.specs.Reading.{body_of}
 

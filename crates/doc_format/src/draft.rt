@@ -63,9 +63,7 @@ impl Draft {
             return Err(DocError::DocForm { line });
         }
         let place = place_of(&part);
-        if let Err(_) = self.document.add(part) {
-            return Err(DocError::OutOfMemory);
-        }
+        self.document.add(part)?;
         self.last = Some(place);
         Ok(())
     }
@@ -79,10 +77,7 @@ impl Draft {
         let Some((letter, others)) = letter(text) else {
             return Ok(());
         };
-        let Ok(part) = read_part(alloc, line, letter, others) else {
-            return Err(DocError::OutOfMemory);
-        };
-        let Some(part) = part else {
+        let Some(part) = read_part(alloc, line, letter, others)? else {
             return Err(DocError::DocForm { line });
         };
         self.push(line, part)

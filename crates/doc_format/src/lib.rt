@@ -11,7 +11,6 @@ mod error;
 mod head;
 mod law;
 mod letter;
-mod names;
 mod numbers;
 mod opening;
 mod order;
@@ -25,11 +24,7 @@ mod writing;
 pub use document::Document;
 pub use error::DocError;
 pub use law::reads_back;
-pub use names::{kind_name, kind_of_name};
 pub use part::{CountLine, DualLine, MemberLine, SetLine, WalkLine};
 pub use reading::read;
 pub use status::DocStatus;
 pub use writing::write;
-
-#[cfg(test)]
-mod tests;

@@ -1,16 +1,15 @@
 ghost use Rattle.std.specs.Prelude.{◌≡◌, IfOk};
 ghost use Rattle.doc_format.specs.Rows.{kept, two_numbers, numbers, counted};
 
+use graph_theory::NUMBER_LIMIT;
 use mb_base::{Fields, OutOfMemory, Sequence, number};
 use std::alloc::Global;
 
-const BOUND: i64 = 1_000_000_000_000_000;
-
-/// The number of a field, within the bound and one more.
+/// The number of a field, within the limit and one more.
 pub fn kept_number(field: &[u8]) -> Option<i64>
     ensures { result ≡ kept field.now }
 {
-    number(field, BOUND)
+    number(field, NUMBER_LIMIT)
 }
 
 /// Two numbers, where the fields are that.

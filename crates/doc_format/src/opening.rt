@@ -3,10 +3,10 @@ ghost use Rattle.doc_format.specs.Form.{is_best};
 ghost use Rattle.doc_format.specs.Rows.{weight_in, headed, head_at, IsTabled};
 
 use crate::head::{Head, fits};
-use crate::names::{kind_of_name, status_of_name};
 use crate::numbers::kept_number;
 use crate::status::DocStatus;
 use mb_base::Fields;
+use mb_problem::Kind;
 
 /// The weight after the status and the kind: a number for a best answer, else nothing.
 fn weight(status: DocStatus, fields: Fields<'_>) -> Option<i64>
@@ -36,8 +36,8 @@ fn read_claim(line: u64, fields: Fields<'_>) -> Option<Head>
     let mut fields = fields;
     let status = fields.next()?;
     let kind = fields.next()?;
-    let status = status_of_name(status)?;
-    let kind = kind_of_name(kind)?;
+    let status = DocStatus::named(status)?;
+    let kind = Kind::named(kind)?;
     let weight = weight(status, fields)?;
     if !fits(status, kind) {
         return None;

@@ -1,10 +1,10 @@
 ghost use Rattle.std.specs.Prelude.{◌≡◌};
-ghost use Rattle.doc_format.specs.Form.{rank, key, is_walked, has_barrier, has_odd, admits};
+ghost use Rattle.doc_format.specs.Form.{rank, key, admits};
 ghost use Rattle.doc_format.specs.Order.{follows};
 
 use crate::part::Part;
 use crate::status::DocStatus;
-use mb_problem::Kind;
+use mb_problem::{AnswerForm, Exclusion, Kind};
 
 /// Where a part stands in the order of a document's lines.
 #[derive(Clone, Copy, Debug, PartialEq, Eq)]
@@ -68,48 +68,21 @@ pub fn may_follow(last: Option<Place>, part: &Part) -> bool
     last.key < key(part)
 }
 
-fn is_walked(kind: Kind) -> bool
-    ensures { result ≡ is_walked kind }
-{
-    match kind {
-        Kind::Postman | Kind::Path => true,
-        _ => false,
-    }
-}
-
-fn has_barrier(kind: Kind) -> bool
-    ensures { result ≡ has_barrier kind }
-{
-    match kind {
-        Kind::Perfect | Kind::BMatch | Kind::CapMatch | Kind::FFactor => true,
-        _ => false,
-    }
-}
-
-fn has_odd(kind: Kind) -> bool
-    ensures { result ≡ has_odd kind }
-{
-    match kind {
-        Kind::TJoin | Kind::Path => true,
-        _ => false,
-    }
-}
-
 /// Whether a document of this status and kind may have the part's letter.
 pub fn may_have(status: DocStatus, kind: Kind, part: &Part) -> bool
     ensures { result ≡ admits status kind part.now }
 {
     match status {
         DocStatus::Optimal => match part {
-            Part::Count(_) => !is_walked(kind),
-            Part::Walk(_) => is_walked(kind),
+            Part::Count(_) => kind.form() == AnswerForm::Counts,
+            Part::Walk(_) => kind.form() == AnswerForm::Walk,
             Part::Dual(_) | Part::Set(_) => true,
             _ => false,
         },
         DocStatus::Infeasible => match part {
-            Part::Barrier(_) => has_barrier(kind),
-            Part::Odd(_) => has_odd(kind),
-            Part::Split(_) => kind == Kind::Postman,
+            Part::Barrier(_) => kind.exclusion() == Exclusion::Barrier,
+            Part::Odd(_) => kind.exclusion() == Exclusion::OddPart,
+            Part::Split(_) => kind.exclusion() == Exclusion::SplitPart,
             _ => false,
         },
         DocStatus::NonConservative => match part {

@@ -38,7 +38,8 @@ fn open(bytes: &[u8], line: u64) -> Result<(Head, &[u8]), u64>
 
 /// The document of a text whose first line has the number `line`, or the number of the first line
 /// that makes the text none: the line after the last one where the text has no line but blank ones
-/// and comments. Numbers beyond 10^15 are kept as 10^15 + 1 with their sign.
+/// and comments. Numbers beyond `NUMBER_LIMIT` are kept as that
+/// and one more, with their sign.
 pub fn read(alloc: Global, bytes: &[u8], line: u64) -> Result<Document, DocError>
     requires low { 1 ≤ line }
     requires high { line ≤ 2 ^ 62 }

@@ -2,7 +2,6 @@ ghost use Rattle.std.specs.Prelude.{◌≡◌, ◌++◌, ◌∷◌, [], map, OnO
 ghost use Rattle.std.specs.Fmt.{signed_decimal};
 ghost use Rattle.doc_format.specs.Spelling.{row_text, spaced, with_count, head_row};
 
-use crate::names::{kind_name, status_name};
 use crate::status::DocStatus;
 use itoa::Buffer;
 use mb_base::OutOfMemory;
@@ -78,9 +77,9 @@ pub fn put_head(
     ensures { OnOk result (out.new.items ≡ out.old.items ++ row_text (head_row status kind weight)) }
 {
     out.extend_from_slice(b"s ")?;
-    out.extend_from_slice(status_name(status))?;
+    out.extend_from_slice(status.name())?;
     out.push(b' ')?;
-    out.extend_from_slice(kind_name(kind))?;
+    out.extend_from_slice(kind.name())?;
     if status == DocStatus::Optimal {
         put_number(out, weight)?;
     }

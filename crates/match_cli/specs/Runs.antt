@@ -5,7 +5,7 @@ use Rattle.mb_problem.specs.declared.kind.Kind.{Kind}
 use Rattle.mb_problem.specs.Network.{Network}
 use Rattle.mb_problem.specs.Size.{size_of}
 use Rattle.doc_format.specs.declared.document.Document.{Document}
-use Rattle.doc_format.specs.Names.{kind_text}
+use Rattle.mb_problem.specs.Kinds.{kind_text}
 use Rattle.match_cli.specs.declared.status.Status.{Status}
 use Rattle.match_cli.specs.declared.status.Status.TheVariants.{Done, Rejected, Usage, TooLong, ReadFault, WriteFault, OutOfMemory}
 use Rattle.match_cli.specs.declared.words.Command.{Command}

@@ -1,7 +1,6 @@
 ghost use Rattle.std.specs.Prelude.{◌≡◌, ◌≤◌, ◌^◌, [], ◌∷◌, map, string_bytes};
 ghost use Rattle.match_cli.specs.Commands.{command_of, limit_of, solve_named, solve_briefly, after_name};
 
-use doc_format::kind_of_name;
 use mb_problem::Kind;
 
 /// What the program is to do.
@@ -39,7 +38,7 @@ fn read_two(first: &[u8], second: &[u8]) -> Option<Command>
     ensures { result ≡ after_name (first.now ∷ second.now ∷ []) }
 {
     if first == b"check".as_slice() {
-        let kind = kind_of_name(second)?;
+        let kind = Kind::named(second)?;
         return Some(Command::Check(kind));
     }
     if first == b"solve".as_slice() {

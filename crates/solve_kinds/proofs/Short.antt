@@ -22,7 +22,8 @@ use Rattle.doc_format.specs.declared.part.Part.{Part}
 use Rattle.doc_format.specs.declared.part.Part.TheVariants.{Count, Dual, Set}
 use Rattle.doc_format.specs.Form.{parts_of}
 use Rattle.doc_format.specs.Reading.{body_of}
-use Rattle.doc_format.specs.Names.{kind_text, status_text}
+use Rattle.mb_problem.specs.Kinds.{kind_text}
+use Rattle.doc_format.specs.Status.{status_text}
 use Rattle.doc_format.specs.Spelling.{after_space, row_text, spaced, with_count, numbers_of, head_row, part_row, parts_text, document_text}
 use Rattle.certificates.specs.Claims.{numbers, set_of, sets_of}
 use Rattle.certificates.specs.Within.{IsUpTo, IsCountWithin, IsDualWithin, IsSetLineWithin}

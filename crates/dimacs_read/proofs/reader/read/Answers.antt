@@ -1,7 +1,8 @@
 use Rattle.std.proofs.Common.{◌≡◌, ℕ, ◌+◌, ◌≤◌, List, length, map, Option, Some, None, arith, sym, ap, subst, ◌∙◌, refl, inr}
 use Rattle.mb_base.specs.Rows.{rows}
 use Rattle.dimacs_read.specs.Rows.{instance_rows}
-use Rattle.dimacs_read.specs.Format.{value_or, default_of, HoldsInstance}
+use Rattle.mb_problem.specs.Kinds.{default_value_of}
+use Rattle.dimacs_read.specs.Format.{value_or, HoldsInstance}
 use Rattle.dimacs_read.specs.Line.{sizes}
 use Rattle.dimacs_read.specs.Rest.{after_lines}
 use Rattle.dimacs_read.specs.Reading.{IsRead, end_fault_from}
@@ -48,8 +49,8 @@ returns-clause-reading c =
     let none : end_fault_from c.args.kind (sizes d.header) d.values.items (length d.edges.items) d.negative (length rs) ≡ None =
     rw (← c.deref.ensures.value, ← c.deref-2.ensures.value, ← draft.lines) (sym c.in_default.ensures) in
     let held = holds rs d.header d.values.items d.edges.items d.negative so_far c.args.kind whole.0 whole.1 none in
-    let is : c.in_ok-instance.instance ≡ record { edges = d.edges.items; values = map (value_or (default_of c.args.kind)) d.values.items } =
-    c.in_ok-instance.ensures ∙ ap (λ (vs : List (Option ℕ)). record { edges = d.edges.items; values = map (value_or (default_of c.args.kind)) vs }) c.deref-3.ensures.value in (
+    let is : c.in_ok-instance.instance ≡ record { edges = d.edges.items; values = map (value_or (default_value_of c.args.kind)) d.values.items } =
+    c.in_ok-instance.ensures ∙ ap (λ (vs : List (Option ℕ)). record { edges = d.edges.items; values = map (value_or (default_value_of c.args.kind)) vs }) c.deref-3.ensures.value in (
       subst (HoldsInstance c.args.kind rs) (sym is) held,
       record {
         bytes_are = c.in_ok-rest.ensures.bytes ∙ draft.rest ∙ ap (λ (n : ℕ). after_lines n c.args.bytes.now) draft.lines;
