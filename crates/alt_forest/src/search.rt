@@ -35,7 +35,8 @@ pub struct Search {
 
 impl Search {
     /// A search over a graph, with no blossom, no mate and no tree, all duals 0 and weights that count
-    /// as 0. All memory that its calls want is taken here.
+    /// as 0. All memory that its calls want is taken here. Its one pass over the edges, which copies the
+    /// graph, counts no step.
     pub fn new(alloc: Global, graph: &Graph) -> Result<Search, OutOfMemory>
         requires graph { IsSearchGraph graph.now }
         ensures shape { IfOk result HasShape }
