@@ -14,7 +14,8 @@ use Rattle.blossom_arena.proofs.Sets.{members_here, members_past, member_by_ring
 use Rattle.blossom_arena.proofs.Parents.{ring_child, chain_node, chain_through, nested_older, older_fresh}
 use Rattle.alt_forest.specs.State.{Joins, next_node, IsChainTo}
 use Rattle.augment.specs.Opening.{CanOpen, Opens, IsBare, IsSpread, links_before, links_after, marked, up_to, spread, spread_in, paired, first_matched, waiting_after}
-use Rattle.augment.proofs.Round.{AreRound, are_round, round_chain, each_split, in_ring-append}
+use Rattle.blossom_arena.proofs.LinkLists.{each_parts, in_ring-append}
+use Rattle.alt_forest.proofs.Rounds.{GoesRound, goes_round, leads_round}
 use Rattle.augment.proofs.LinkPairs.{ArePartedAt, parted_at, before_none, paired_append, paired_same, first_is}
 use Rattle.augment.proofs.Spreads.{pairs_up}
 
@@ -108,14 +109,14 @@ module _ (g : Multigraph) (f : Family) (m : ℕ → Option ℕ) (b : ℕ) (can :
   parted : ArePartedAt ring base
   parted = parted_at ring base base_in
 
-  round : AreRound ring base (links_after ring base ++ links_before ring base)
-  round = subst (λ x. AreRound ring x (links_after ring base ++ links_before ring base)) parted.base_is (are_round ring (links_before ring base) parted.base (links_after ring base) parted.split known.different)
+  round : GoesRound ring base (links_after ring base ++ links_before ring base)
+  round = subst (λ x. GoesRound ring x (links_after ring base ++ links_before ring base)) parted.base_is (goes_round ring (links_before ring base) parted.base (links_after ring base) parted.split known.different)
 
   pub each_edge : AllByRecursion (λ (l : Link). IsEdgeNumber g l.edge) ring
   each_edge = chain_edges g older ring (next_node ring 0) can.ring
 
   pub behind_edges : AllByRecursion (λ (l : Link). IsEdgeNumber g l.edge) (links_after ring base)
-  behind_edges = (each_split (λ (l : Link). IsEdgeNumber g l.edge) (links_before ring base) (parted.base ∷ links_after ring base) (subst (λ (x : List Link). AllByRecursion (λ (l : Link). IsEdgeNumber g l.edge) x) parted.split each_edge)).1.1
+  behind_edges = (each_parts (λ (l : Link). IsEdgeNumber g l.edge) (links_before ring base) (parted.base ∷ links_after ring base) (subst (λ (x : List Link). AllByRecursion (λ (l : Link). IsEdgeNumber g l.edge) x) parted.split each_edge)).1.1
 
   pub ring_places : (k : ℕ) → g.vertices + most_blossoms g.vertices < k → AllByRecursion (λ (l : Link). l.node < k) ring
   ring_places k low = places_from k ring (λ c r. omega (arith, low, (node_range g.vertices bs c nested (child_is_node g.vertices bs c nested (ring_child bs b c r))).1))
@@ -125,7 +126,7 @@ module _ (g : Multigraph) (f : Family) (m : ℕ → Option ℕ) (b : ℕ) (can :
       places_from k (l ∷ ls) h = (h l.node (or_left (eqb l.node l.node) (in_ring ls l.node) (eq-eqb l.node l.node refl)), places_from k ls (λ c e. h c (or_right (eqb l.node c) (in_ring ls c) e)))
 
   chained : IsChainTo g older (links_after ring base ++ links_before ring base) parted.base.node
-  chained = round_chain g older ring (links_before ring base) parted.base (links_after ring base) parted.split can.ring
+  chained = (leads_round ring (links_before ring base) parted.base (links_after ring base) parted.split g older can.ring).chain
 
   -- an edge that joins nodes of the ring is spread within the blossom alone
   same_spread : (l : Link) → IsEdgeNumber g l.edge → (c d : ℕ) → Joins g older l.edge c d → in_ring ring c ≡ true → in_ring ring d ≡ true → (n : ℕ → Option ℕ) → spread_in g bs b n l.edge ≡ spread g older n l.edge

@@ -14,7 +14,7 @@ use Rattle.alt_forest.specs.Counts.{IsMatched}
 use Rattle.augment.specs.Matching.{IsVertexMate, mate_counts, leaving}
 use Rattle.augment.specs.Opening.{IsBare, IsSpread, Unpacks, CanMark, CanUnpack}
 use Rattle.augment.specs.Turns.{with_mates}
-use Rattle.augment.proofs.Turned.{tight_rings}
+use Rattle.alt_forest.proofs.Tight.{tight_rings}
 use Rattle.augment.proofs.Unpacked.{AreOpened, none_opened}
 use Rattle.augment.proofs.Left.{IsLeftOnce}
 use Rattle.augment.proofs.Counts.{vertex_outer, vertex_mate, perfect, left_once}

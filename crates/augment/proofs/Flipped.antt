@@ -9,7 +9,7 @@ use Rattle.alt_forest.specs.Searches.{put}
 use Rattle.alt_forest.proofs.Relabelled.{outer_not_out, inner_not_out, some_not_none, put_here, put_other}
 use Rattle.alt_forest.proofs.Walk.{some_same}
 use Rattle.augment.specs.Turns.{LeadsToExposed, HasMates, with_mates}
-use Rattle.augment.proofs.Joined.{joins_turned, joins_unique}
+use Rattle.alt_forest.proofs.Mates.{joins_turned, joins_unique}
 
 -- The node `low` has taken `high` as its mate, by the edge e, but `high` has its old mate still. All other mates are
 -- mutual; `high`, and what is no deeper, is as before; of `first`, which was exposed, and all others it's as before

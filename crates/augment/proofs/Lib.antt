@@ -1,10 +1,8 @@
-pub mod Joined
 pub mod Flipped
 pub mod Exposure
 pub mod Turning
 pub mod Changed
 pub mod Turned
-pub mod Round
 pub mod Chains
 pub mod Spreads
 pub mod Holders

@@ -12,9 +12,11 @@ use Rattle.blossom_arena.proofs.Lists.{by_test, AllNew, new_from_distinct}
 use Rattle.blossom_arena.proofs.Nested.{circuit_outer, outermost_parts, outermost_before, new_is_node, new_no_child, node_grows, range_vertex}
 use Rattle.alt_forest.specs.State.{Joins, IsChainTo, IsRing}
 use Rattle.alt_forest.proofs.Walk.{some_same}
-use Rattle.augment.specs.Opening.{IsPair, AreMated, ArePaired, Opens}
-use Rattle.augment.proofs.Joined.{joins_turned}
-use Rattle.augment.proofs.Round.{AreRound, are_round, round_chain, each_split, each_join}
+use Rattle.alt_forest.specs.Circuits.{ArePaired}
+use Rattle.augment.specs.Opening.{IsPair, AreMated, Opens}
+use Rattle.alt_forest.proofs.Mates.{joins_turned}
+use Rattle.blossom_arena.proofs.LinkLists.{each_parts, each_whole}
+use Rattle.alt_forest.proofs.Rounds.{GoesRound, goes_round, leads_round}
 
 paired_some : (P : ℕ → Type 0) (m : ℕ → Option ℕ) (ls : List Link) (c : ℕ) → ArePaired m ls → AllByRecursion (λ (l : Link). P l.edge) ls → in_ring ls c ≡ true → (f : ℕ) × (m c ≡ Some f) × P f
 paired_some P m [] c h p r = absurd (both_ways false refl r)
@@ -39,8 +41,8 @@ module _ (g : Multigraph) (b : Blossom) (older : List Blossom) (m m' : ℕ → O
   abbrev round : List Link
   round = h.behind ++ h.before
 
-  t : AreRound b.ring h.base.node round
-  t = are_round b.ring h.before h.base h.behind h.split (new_from_distinct (nodes_of b.ring) nested.0.circuit.different)
+  t : GoesRound b.ring h.base.node round
+  t = goes_round b.ring h.before h.base h.behind h.split (new_from_distinct (nodes_of b.ring) nested.0.circuit.different)
 
   pub first_outer : is_outermost n bs b.node ≡ true
   first_outer = and_from (is_node n bs b.node) (not (is_child bs b.node)) (new_is_node n b older) (ap not (new_no_child n b older nested))
@@ -172,7 +174,7 @@ module _ (g : Multigraph) (b : Blossom) (older : List Blossom) (m m' : ℕ → O
       (λ in_it. ⊎_elim
       (λ same. subst (λ x. (e : ℕ) × (d : ℕ) × (m' x ≡ Some e) × IsPair g older m' x e d) (sym same) at_base)
       (λ r. let some = paired_some (λ _. Unit {0}) m' round c h.new_pairs (each_unit round) r in
-      let p = in_pairs round h.base.node (round_chain g older b.ring h.before h.base h.behind h.split ring) t.inside t.different h.new_pairs c some.0 r some.1 in
+      let p = in_pairs round h.base.node ((leads_round b.ring h.before h.base h.behind h.split g older ring).chain) t.inside t.different h.new_pairs c some.0 r some.1 in
       (some.0, p.0, some.1, p.1))
       in_it)
       (cases_outer c is)
@@ -188,10 +190,10 @@ module _ (g : Multigraph) (b : Blossom) (older : List Blossom) (m m' : ℕ → O
       (cases_outer c is)
     where
       parts : AllByRecursion (λ (l : Link). P l.edge) h.before × AllByRecursion (λ (l : Link). P l.edge) (h.base ∷ h.behind)
-      parts = each_split (λ (l : Link). P l.edge) h.before (h.base ∷ h.behind) (subst (λ (x : List Link). AllByRecursion (λ (l : Link). P l.edge) x) h.split each)
+      parts = each_parts (λ (l : Link). P l.edge) h.before (h.base ∷ h.behind) (subst (λ (x : List Link). AllByRecursion (λ (l : Link). P l.edge) x) h.split each)
 
       each_round : AllByRecursion (λ (l : Link). P l.edge) round
-      each_round = each_join (λ (l : Link). P l.edge) h.behind h.before parts.1.1 parts.0
+      each_round = each_whole (λ (l : Link). P l.edge) h.behind h.before parts.1.1 parts.0
 
   -- an edge that was a mate is one after
   pub used_still : (c f : ℕ) → is_outermost n bs c ≡ true → m c ≡ Some f → (d : ℕ) × (is_outermost n older d ≡ true) × (m' d ≡ Some f)

@@ -14,7 +14,8 @@ use Rattle.alt_forest.specs.State.{Joins, IsChainTo}
 use Rattle.alt_forest.specs.Searches.{put}
 use Rattle.alt_forest.proofs.Relabelled.{put_here, put_other, some_not_none}
 use Rattle.alt_forest.proofs.Walk.{some_same}
-use Rattle.augment.specs.Opening.{marked, spread, paired, ArePaired, IsEnd, IsSpread, IsBare}
+use Rattle.alt_forest.specs.Circuits.{ArePaired}
+use Rattle.augment.specs.Opening.{marked, spread, paired, IsEnd, IsSpread, IsBare}
 use Rattle.augment.proofs.Chains.{chain_grows, chain_before, chain_has_top, chain_top, same_top, chain_ring}
 
 marked_in : (m : ℕ → Option ℕ) (cs : List ℕ) (e c : ℕ) → (m c ≡ Some e) ⊎ (holds cs c ≡ true) → marked m cs e c ≡ Some e

@@ -16,20 +16,11 @@ use Rattle.alt_forest.specs.Counts.{exposed_count}
 use Rattle.alt_forest.specs.Trees.{IsRoot}
 use Rattle.alt_forest.specs.State.{IsExposed}
 use Rattle.alt_forest.proofs.Places.{nested_of}
+use Rattle.alt_forest.proofs.Tight.{tight_rings}
 use Rattle.augment.specs.Turns.{LeadsToExposed, HasMates, with_mates, IsFlipped}
 use Rattle.augment.proofs.Flipped.{IsLoose, ends}
 use Rattle.augment.proofs.Changed.{IsChanged, changed_all}
 use Rattle.augment.proofs.Exposure.{HasTwoMore, two_fewer, exposed_after}
-
--- tight edges of rings where slacks are the same
-tight_ring : (s t : State) → ((e : ℕ) → IsTight s e → IsTight t e) → (ring : List Link) → AllByRecursion (λ (l : Link). IsTight s l.edge) ring → AllByRecursion (λ (l : Link). IsTight t l.edge) ring
-tight_ring s t move [] h = tt
-tight_ring s t move (l ∷ ring) h = (move l.edge h.0, tight_ring s t move ring h.1)
-
-pub tight_rings : (s t : State) → ((e : ℕ) → IsTight s e → IsTight t e) → (bs : List Blossom) → AllByRecursion (λ (b : Blossom). AllByRecursion (λ (l : Link). IsTight s l.edge) b.ring) bs
-    → AllByRecursion (λ (b : Blossom). AllByRecursion (λ (l : Link). IsTight t l.edge) b.ring) bs
-tight_rings s t move [] h = tt
-tight_rings s t move (b ∷ bs) h = (tight_ring s t move b.ring h.0, tight_rings s t move bs h.1)
 
 -- with all labels out any mutual mates do
 pub all_out : (s : State) (depth : ℕ → ℕ) (m : ℕ → Option ℕ) (label : ℕ → Label) → IsSearchState s depth → HasMates (with_mates s m) → ((a : ℕ) → label a ≡ Out) → IsSearchState (record s { mate = m; label = label }) depth

@@ -15,7 +15,7 @@ use Rattle.alt_forest.specs.Counts.{IsMatched}
 use Rattle.augment.specs.Opening.{IsPair, AreMated, Opens}
 use Rattle.augment.proofs.Pairs.{all_mated, used_stays}
 use Rattle.augment.proofs.Left.{IsLeftOnce, left_stays, first_left}
-use Rattle.augment.proofs.Round.{each_split, each_join}
+use Rattle.blossom_arena.proofs.LinkLists.{each_parts, each_whole}
 
 pub nested_tail : (n : ℕ) (xs ys : List Blossom) → IsNested n (xs ++ ys) → IsNested n ys
 nested_tail n [] ys h = h
@@ -86,12 +86,12 @@ one_opened s depth opened b older m m' nested ends st v h =
     let g : Multigraph = s.graph in
     let nest : IsNested g.vertices (b ∷ older) = nested_tail g.vertices opened (b ∷ older) (subst (IsNested g.vertices) v.split nested) in
     let rings : HasRings g (b ∷ older) = rings_tail g opened (b ∷ older) (subst (HasRings g) v.split st.rings) in
-    let tight = (each_split (λ (x : Blossom). AllByRecursion (λ (l : Link). IsTight s l.edge) x.ring) opened (b ∷ older) (subst (AllByRecursion (λ (x : Blossom). AllByRecursion (λ (l : Link). IsTight s l.edge) x.ring)) v.split st.tight_rings)).1 in
+    let tight = (each_parts (λ (x : Blossom). AllByRecursion (λ (l : Link). IsTight s l.edge) x.ring) opened (b ∷ older) (subst (AllByRecursion (λ (x : Blossom). AllByRecursion (λ (l : Link). IsTight s l.edge) x.ring)) v.split st.tight_rings)).1 in
     record {
       split = v.split ∙ sym (append_assoc opened (b ∷ []) older);
       mated = all_mated g b older m m' nest ends rings.0 v.mated h;
       tight = used_stays g b older m m' nest ends rings.0 v.mated h (IsTight s) tight.0 v.tight;
-      once = each_join (λ (x : Blossom). IsLeftOnce g older m' (λ u. holds x.members u)) opened (b ∷ []) (stay nest rings opened v.once)
+      once = each_whole (λ (x : Blossom). IsLeftOnce g older m' (λ u. holds x.members u)) opened (b ∷ []) (stay nest rings opened v.once)
           (left_stays g b older m m' nest ends rings.0 v.mated h (λ u. holds b.members u) (first_left g b older m m' nest ends rings.0 v.mated h), tt);
       kept = λ a is. let p = child_tail opened b older a (ap (λ bs. is_child bs a) (sym v.split) ∙ (outermost_parts g.vertices s.blossoms a is).1) in h.others a p.0 p.1 ∙ v.kept a is;
     }

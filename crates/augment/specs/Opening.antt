@@ -4,6 +4,7 @@ use Rattle.graph_theory.specs.Graph.{Multigraph, IsEdgeWithin, IsEdgeNumber, edg
 use Rattle.graph_theory.specs.Parts.{holds}
 use Rattle.blossom_arena.specs.declared.links.Link.{Link}
 use Rattle.blossom_arena.specs.Family.{Blossom, Family, IsFamily, in_ring, names_of, members_of, ring_of, older_than, child_holding, chain_of, outermost, is_vertex, is_child, is_outermost}
+use Rattle.alt_forest.specs.Circuits.{ArePaired}
 use Rattle.alt_forest.specs.State.{Joins, IsRing, HasRings}
 use Rattle.alt_forest.specs.Searches.{put}
 
@@ -52,12 +53,6 @@ waiting_after None [] = None
 waiting_after (Some k) [] = Some k
 waiting_after None (l ∷ rest) = waiting_after (Some l) rest
 waiting_after (Some k) (l ∷ rest) = waiting_after None rest
-
--- neighbours, two by two, are mates
-abbrev pub ArePaired : (ℕ → Option ℕ) → List Link → Type 0
-ArePaired m [] = Unit {0}
-ArePaired m (l ∷ []) = ⊥
-ArePaired m (l ∷ (k ∷ rest)) = (m l.node ≡ Some l.edge) × (m k.node ≡ Some l.edge) × ArePaired m rest
 
 -- two outermost nodes are each other's mates
 pub record IsPair (g : Multigraph) (bs : List Blossom) (m : ℕ → Option ℕ) (a e b : ℕ) : Type 0 where

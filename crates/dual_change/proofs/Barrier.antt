@@ -15,6 +15,7 @@ use Rattle.blossom_arena.specs.Family.{Blossom, IsNested, is_vertex, names_of, o
 use Rattle.blossom_arena.proofs.Lists.{length-within}
 use Rattle.blossom_arena.proofs.Nested.{outermost_parts, vertex_range, range_vertex}
 use Rattle.blossom_arena.proofs.Sets.{outermost_has, outer_member, outermost_by_member, member_vertex, members_new, members_odd, members_some, members_of_vertex}
+use Rattle.blossom_arena.proofs.Ends.{u_vertex, v_vertex}
 use Rattle.alt_forest.specs.declared.label.Label.{Label}
 use Rattle.alt_forest.specs.declared.label.Label.TheVariants.{Outer, Inner, Out}
 use Rattle.alt_forest.specs.State.{State, IsOutermost, IsSearchState}
@@ -45,12 +46,6 @@ module _ (s : State) (depth : ℕ → ℕ) (graph : IsGraph s.graph) (nested : I
   free_not_inner : (v : ℕ) → is_vertex s.graph.vertices v ≡ true → holds removed v ≡ false → label_of v ≢ Inner
   free_not_inner v iv free lab = both_ways (holds removed v) free (removed_is v iv ∙ ap (λ l. is_label l Inner) lab)
 
-  u_vertex : (e : ℕ) → IsEdgeNumber s.graph e → is_vertex s.graph.vertices (edge_of s.graph e).u ≡ true
-  u_vertex e is = let w = edge_of_within s.graph e graph.ends is in range_vertex s.graph.vertices (edge_of s.graph e).u w.u_low w.u_high
-
-  v_vertex : (e : ℕ) → IsEdgeNumber s.graph e → is_vertex s.graph.vertices (edge_of s.graph e).v ≡ true
-  v_vertex e is = let w = edge_of_within s.graph e graph.ends is in range_vertex s.graph.vertices (edge_of s.graph e).v w.v_low w.v_high
-
   module _ (st : IsSearchState s depth) where
     -- the vertices of an outer node hang together
     abbrev Linked : ℕ → ℕ → Type 0
@@ -61,8 +56,8 @@ module _ (s : State) (depth : ℕ → ℕ) (graph : IsGraph s.graph) (nested : I
     link_ring (l ∷ ring) w = (
       (
         w.0.one_node,
-        λ lab. rep_edge s.graph (holds removed) l.edge w.0.edge (outer_free (edge_of s.graph l.edge).u (u_vertex l.edge w.0.edge) lab)
-            (outer_free (edge_of s.graph l.edge).v (v_vertex l.edge w.0.edge) (ap s.label (sym w.0.one_node) ∙ lab)),
+        λ lab. rep_edge s.graph (holds removed) l.edge w.0.edge (outer_free (edge_of s.graph l.edge).u (u_vertex s.graph l.edge graph w.0.edge) lab)
+            (outer_free (edge_of s.graph l.edge).v (v_vertex s.graph l.edge graph w.0.edge) (ap s.label (sym w.0.one_node) ∙ lab)),
       ),
       link_ring ring w.1,
     )
@@ -103,12 +98,12 @@ module _ (s : State) (depth : ℕ → ℕ) (graph : IsGraph s.graph) (nested : I
         by_v : outermost s.blossoms (edge_of s.graph e).u ≢ outermost s.blossoms (edge_of s.graph e).v → label_of (edge_of s.graph e).u ≡ Outer → (l : Label) → label_of (edge_of s.graph e).v ≡ l → outermost s.blossoms (edge_of s.graph e).u ≡ outermost s.blossoms (edge_of s.graph e).v
         by_v ne lu Outer lv = absurd (bound.between e (outermost s.blossoms (edge_of s.graph e).u) (outermost s.blossoms (edge_of s.graph e).v) is (inl (refl, refl)) ne lu lv)
         by_v ne lu Out lv = absurd (bound.to_out e (outermost s.blossoms (edge_of s.graph e).u) (outermost s.blossoms (edge_of s.graph e).v) is (inl (refl, refl)) lu lv)
-        by_v ne lu Inner lv = absurd (free_not_inner (edge_of s.graph e).v (v_vertex e is) fv lv)
+        by_v ne lu Inner lv = absurd (free_not_inner (edge_of s.graph e).v (v_vertex s.graph e graph is) fv lv)
 
         by_u : outermost s.blossoms (edge_of s.graph e).u ≢ outermost s.blossoms (edge_of s.graph e).v → label_of (edge_of s.graph e).v ≡ Outer → (l : Label) → label_of (edge_of s.graph e).u ≡ l → outermost s.blossoms (edge_of s.graph e).u ≡ outermost s.blossoms (edge_of s.graph e).v
         by_u ne lv Outer lu = absurd (bound.between e (outermost s.blossoms (edge_of s.graph e).u) (outermost s.blossoms (edge_of s.graph e).v) is (inl (refl, refl)) ne lu lv)
         by_u ne lv Out lu = absurd (bound.to_out e (outermost s.blossoms (edge_of s.graph e).v) (outermost s.blossoms (edge_of s.graph e).u) is (inr (refl, refl)) lv lu)
-        by_u ne lv Inner lu = absurd (free_not_inner (edge_of s.graph e).u (u_vertex e is) fu lu)
+        by_u ne lv Inner lu = absurd (free_not_inner (edge_of s.graph e).u (u_vertex s.graph e graph is) fu lu)
 
     alike : (v : ℕ) → Alike (head_of s.graph removed graph v) v
     alike = rep_related s.graph (holds removed) Alike

@@ -8,6 +8,7 @@ use Rattle.blossom_arena.specs.Family.{Blossom, IsNested, is_vertex, in_ring, no
 use Rattle.blossom_arena.proofs.Lists.{first_in, later_in}
 use Rattle.blossom_arena.proofs.Nested.{range_vertex}
 use Rattle.blossom_arena.proofs.Sets.{member_by_ring}
+use Rattle.blossom_arena.proofs.Ends.{u_vertex, v_vertex}
 use Rattle.alt_forest.specs.State.{node_u, node_v, next_node, IsChainTo, IsRing, HasRings}
 
 -- an edge of a link, both of whose ends lie in one node
@@ -16,12 +17,6 @@ pub record LiesWithin (g : Multigraph) (bs : List Blossom) (l : Link) : Type 0 w
   pub one_node : node_u g bs l.edge ≡ node_v g bs l.edge
 
 module _ (g : Multigraph) (graph : IsGraph g) where
-  u_vertex : (e : ℕ) → IsEdgeNumber g e → is_vertex g.vertices (edge_of g e).u ≡ true
-  u_vertex e is = let w = edge_of_within g e graph.ends is in range_vertex g.vertices (edge_of g e).u w.u_low w.u_high
-
-  v_vertex : (e : ℕ) → IsEdgeNumber g e → is_vertex g.vertices (edge_of g e).v ≡ true
-  v_vertex e is = let w = edge_of_within g e graph.ends is in range_vertex g.vertices (edge_of g e).v w.v_low w.v_high
-
   -- the newest blossom's own circuit
   module _ (b : Blossom) (older : List Blossom) (h : IsNested g.vertices (b ∷ older)) where
     in_newest : (v x : ℕ) → is_vertex g.vertices v ≡ true → outermost older v ≡ x → in_ring b.ring x ≡ true → outermost (b ∷ older) v ≡ b.node
@@ -36,8 +31,8 @@ module _ (g : Multigraph) (graph : IsGraph g) where
     chain_within z (l ∷ rest) zin all chain =
         let here : in_ring b.ring l.node ≡ true = all l.node (first_in l.node (nodes_of rest)) in
         let next : in_ring b.ring (next_node rest z) ≡ true = next_in z rest zin (λ a r. all a (later_in l.node (nodes_of rest) a r)) in
-        let u_is = u_vertex l.edge chain.0 in
-        let v_is = v_vertex l.edge chain.0 in (
+        let u_is = u_vertex g l.edge graph chain.0 in
+        let v_is = v_vertex g l.edge graph chain.0 in (
           record {
             edge = chain.0;
             one_node = ⊎_elim
@@ -59,9 +54,9 @@ module _ (g : Multigraph) (graph : IsGraph g) where
     still_within : (l : Link) → LiesWithin g older l → LiesWithin g (b ∷ older) l
     still_within l w = record {
       edge = w.edge;
-      one_node = over (edge_of g l.edge).u (u_vertex l.edge w.edge)
+      one_node = over (edge_of g l.edge).u (u_vertex g l.edge graph w.edge)
           ∙ ap (λ x. cond (in_ring b.ring x) b.node x) w.one_node
-          ∙ sym (over (edge_of g l.edge).v (v_vertex l.edge w.edge));
+          ∙ sym (over (edge_of g l.edge).v (v_vertex g l.edge graph w.edge));
     }
       where
         over : (v : ℕ) → is_vertex g.vertices v ≡ true → outermost (b ∷ older) v ≡ cond (in_ring b.ring (outermost older v)) b.node (outermost older v)

@@ -12,6 +12,7 @@ use Rattle.alt_forest.proofs.Places.{outer_range}
 use Rattle.alt_forest.specs.State.{State, IsOutermost}
 use Rattle.alt_forest.specs.Trees.{node_limit}
 use Rattle.alt_forest.specs.Searches.{HasShape, state_of, label_at, put}
+use Rattle.alt_forest.proofs.Puts.{put_dual}
 use Rattle.dual_change.specs.Changes.{share, applied}
 use Rattle.dual_change.proofs.Applied.{change_none, change_outer}
 
@@ -62,15 +63,6 @@ partly_step s d k = λ i a. here a i
         (λ l. ap (λ q. cond q ((applied s d).dual a) (s.dual a)) (l ∙ sym (le-leb a (k + 1) (omega (arith, leb-true a k l)))))
         (λ l. ap (λ q. cond q ((applied s d).dual a) (s.dual a)) (l ∙ sym (false_from_ne_true (leb a (k + 1)) (λ m. absurd (eqb-false a (k + 1) t (omega (arith, leb-true a (k + 1) m, leb-false a k l))))))))
 
--- a write of a dual
-pub dual_put : (ys : List ℤ) (a : ℕ) (y : ℤ) → a < length ys → dual_at (slice_set ys a y) ≡ put (dual_at ys) a y
-dual_put ys a y low = λ i x. here x i
-  where
-    here : (x : ℕ) → dual_at (slice_set ys a y) x ≡ put (dual_at ys) a y x
-    here x = by_test (eqb x a)
-        (λ t. let same : x ≡ a = eqb-true x a t in ap (dual_at (slice_set ys a y)) same ∙ get_or-set_same ys a y (pos 0) low ∙ sym (ap (λ q. cond q y (dual_at ys x)) t))
-        (λ t. get_or-set_other ys a x y (pos 0) (eqb-false x a t) ∙ sym (ap (λ q. cond q y (dual_at ys x)) t))
-
 -- where nothing is added, nothing is written
 pub put_same : (s : State) (d : ℤ) (a : ℕ) → (IsOutermost s a → ⊥) → s.dual ≡ put s.dual a ((applied s d).dual a)
 put_same s d a none = λ i x. here x i
@@ -87,7 +79,7 @@ raise_put s d a more h is m =
     let range = outer_range s a h is in
     let place : a < length s.arena.duals = omega (arith, range.1, h.family.duals.one_each, h.arena) in
     let sum : dual_at s.arena.duals a +ℤ more ≡ (applied (state_of s) d).dual a = ap (λ x. dual_at s.arena.duals a +ℤ x) (m ∙ sym (change_outer (state_of s) d a is)) in
-    dual_put s.arena.duals a (dual_at s.arena.duals a +ℤ more) place ∙ ap (put (dual_at s.arena.duals) a) sum
+    put_dual s.arena.duals a (dual_at s.arena.duals a +ℤ more) place ∙ ap (put (dual_at s.arena.duals) a) sum
 
 -- the test of the code
 pub outer_by : (s : Search) (a b : ℕ) → HasShape s → is_outermost s.arena.vertex_count s.arena.blossoms b ≡ true → b ≡ a → IsOutermost (state_of s) a

@@ -15,14 +15,6 @@ use Rattle.tree_steps.specs.Shrunk.{shrunk_state}
 use Rattle.tree_steps.specs.Shrinkable.{IsShrinkable}
 use Rattle.tree_steps.proofs.Shrunk.{Shrinks}
 
-pub put_dual : (ys : List ℤ) (a : ℕ) (y : ℤ) → a < length ys → dual_at (slice_set ys a y) ≡ put (dual_at ys) a y
-put_dual ys a y below = λ i c. value c i
-  where
-    value : (c : ℕ) → dual_at (slice_set ys a y) c ≡ put (dual_at ys) a y c
-    value c = by_test (eqb c a)
-        (λ t. ap (dual_at (slice_set ys a y)) (eqb-true c a t) ∙ get_or-set_same ys a y (pos 0) below ∙ sym (ap (λ q. cond q y (dual_at ys c)) t))
-        (λ t. get_or-set_other ys a c y (pos 0) (eqb-false c a t) ∙ sym (ap (λ q. cond q y (dual_at ys c)) t))
-
 -- the state by its writes
 pub closed_is : (s : State) (b : Blossom) (base : ℕ) (bs : List Blossom) (y : ℕ → ℤ) (l : ℕ → Label) (m : ℕ → Option ℕ) → bs ≡ b ∷ s.blossoms → y ≡ put s.dual b.node (pos 0) → l ≡ put s.label b.node Outer → m ≡ put s.mate b.node (s.mate base)
     → record s { blossoms = bs; dual = y; label = l; mate = m } ≡ shrunk_state s b base

@@ -19,11 +19,13 @@ use Rattle.alt_forest.proofs.Walk.{some_same}
 use Rattle.tree_steps.specs.Expanded.{opened, mated, labelled_out, labels_up, labels_down, parents_up, parents_down, end_of}
 use Rattle.tree_steps.proofs.Gap.{FitsBut, FitBut, fits_all}
 use Rattle.tree_steps.proofs.Grown.{rehung}
-use Rattle.tree_steps.proofs.Joints.{joins_unique, joins_turned, mate_turned, mate_unique, partner_unique}
+use Rattle.alt_forest.proofs.Mates.{joins_unique, joins_turned, mate_turned, mate_unique, partner_unique}
 use Rattle.tree_steps.proofs.Opened.{across_without, joins_opened, joins_elsewhere, ring_is_child, outer_opened, ring_outer, gone, all_without, rings_without}
 use Rattle.tree_steps.proofs.Climbed.{IsOpenAt, Keeps, fit_scaled, room_between}
 use Rattle.tree_steps.proofs.Ladders.{IsLadder, climb_up, climb_down}
-use Rattle.tree_steps.proofs.Rungs.{ArePairs, ArePaired, mated_other, mated_paired, paired_else, out_other, out_there, out_all, rung_at, ladder_parts, next_append}
+use Rattle.alt_forest.specs.Circuits.{ArePaired}
+use Rattle.alt_forest.proofs.Rounds.{next_node-append}
+use Rattle.tree_steps.proofs.Rungs.{ArePairs, mated_other, mated_paired, paired_else, out_other, out_there, out_all, rung_at, ladder_parts}
 
 -- an inner blossom of dual 0, and its circuit from its base on
 pub record Opens (s : State) (depth : ℕ → ℕ) (a base edge : ℕ) (rest : List Link) (e w : ℕ) : Type 0 where
@@ -375,7 +377,7 @@ module _ (s : State) (depth : ℕ → ℕ) (a base edge : ℕ) (rest : List Link
       → IsExpanded (rehung t (labels_up t.label xs) (parents_up t.parent base edge says.edge xs))
   expanded_up xs ys split even joins =
       let parts = ladder_parts t xs ys base even (subst (λ ls. IsLadder t ls base) split ladder) in
-      let first : Joins s.graph (without bs a) edge base (next_node xs (next_node ys base)) = subst (Joins s.graph (without bs a) edge base) (ap (λ ls. next_node ls base) split ∙ next_append xs ys base)
+      let first : Joins s.graph (without bs a) edge base (next_node xs (next_node ys base)) = subst (Joins s.graph (without bs a) edge base) (ap (λ ls. next_node ls base) split ∙ next_node-append xs ys base)
       (joins_now edge base (next_node rest base) h.base_edge.edge h.base_in (next_inside rest h.inside) h.base_next) in
       let r = climb_up t (next_node ys base) xs t.label t.parent scaled base edge says.edge says.up opened_at parts.0 (tight_now edge h.base_edge) first
       (out_all t.label xs (λ c q. rest_out c (subst (λ ls. in_ring ls c ≡ true) (sym split) (in_front xs ys c q)))) (new_parts xs ys (subst (λ ls. AllNew (nodes_of ls)) split h.different)).0

@@ -6,7 +6,7 @@ use Rattle.alt_forest.specs.declared.label.Label.{Label}
 use Rattle.alt_forest.specs.declared.label.Label.TheVariants.{Outer, Inner, Out}
 use Rattle.alt_forest.specs.State.{State, IsOutermost, Joins, slack_of, IsMate, FitsLabel}
 use Rattle.alt_forest.proofs.Relabelled.{outer_not_inner, outer_not_out, inner_not_out}
-use Rattle.tree_steps.proofs.Joints.{mate_turned, mate_unique, partner_unique}
+use Rattle.alt_forest.proofs.Mates.{mate_turned, mate_unique, partner_unique}
 
 -- an inner node's child is its mate
 pub record HasChild (s : State) (depth : ℕ → ℕ) (a : ℕ) : Type 0 where

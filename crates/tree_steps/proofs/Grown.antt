@@ -10,7 +10,7 @@ use Rattle.alt_forest.specs.Events.{CanGrow}
 use Rattle.alt_forest.specs.Searches.{put}
 use Rattle.alt_forest.proofs.Relabelled.{put_here, put_other, outer_not_out}
 use Rattle.tree_steps.specs.Grown.{grown}
-use Rattle.tree_steps.proofs.Joints.{joins_turned}
+use Rattle.alt_forest.proofs.Mates.{joins_turned}
 use Rattle.tree_steps.proofs.Gap.{fits_but, fits_all, pair_taken, gap_hung}
 
 -- other labels and parents leave rings, slacks and mates as they are

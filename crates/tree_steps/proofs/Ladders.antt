@@ -15,7 +15,7 @@ use Rattle.alt_forest.proofs.Relabelled.{put_other, outer_not_out, inner_not_out
 use Rattle.tree_steps.specs.Expanded.{labels_up, labels_down, parents_up, parents_down, end_of}
 use Rattle.tree_steps.proofs.Gap.{FitBut}
 use Rattle.tree_steps.proofs.Grown.{rehung}
-use Rattle.tree_steps.proofs.Joints.{joins_turned}
+use Rattle.alt_forest.proofs.Mates.{joins_turned}
 use Rattle.tree_steps.proofs.Climbed.{IsPair, IsOpenAt, Keeps, keeps_all, step_up, step_down, closes}
 
 -- an outermost node and its mate

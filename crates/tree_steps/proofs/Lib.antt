@@ -1,4 +1,3 @@
-pub mod Joints
 pub mod Gap
 pub mod Grown
 pub mod Shrunk

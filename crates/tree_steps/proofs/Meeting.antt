@@ -10,7 +10,7 @@ use Rattle.alt_forest.specs.Trees.{far_end, up_edge_by, up_of, path_within, path
 use Rattle.alt_forest.proofs.Relabelled.{outer_not_inner, some_not_none}
 use Rattle.alt_forest.proofs.Walk.{some_same, other_node_joins}
 use Rattle.tree_steps.specs.Circuits.{before, circuit_of}
-use Rattle.tree_steps.proofs.Joints.{partner_unique}
+use Rattle.alt_forest.proofs.Mates.{partner_unique}
 use Rattle.tree_steps.proofs.Hops.{Hop, IsHop, IsWay, links_up}
 use Rattle.tree_steps.specs.Shrinkable.{IsShrinkable}
 use Rattle.alt_forest.specs.Events.{CanShrink}

@@ -9,7 +9,7 @@ use Rattle.blossom_arena.specs.Family.{Blossom, in_ring, nodes_of}
 use Rattle.blossom_arena.proofs.Lists.{AllNew}
 use Rattle.alt_forest.specs.State.{Joins, next_node, IsChainTo}
 use Rattle.tree_steps.specs.Circuits.{mirror, last_edge}
-use Rattle.tree_steps.proofs.Joints.{joins_turned}
+use Rattle.alt_forest.proofs.Mates.{joins_turned}
 
 -- a chain that is turned is a chain
 pub record IsTurned (g : Multigraph) (bs : List Blossom) (edge : ℕ) (ls rest : List Link) (z : ℕ) : Type 0 where

@@ -17,13 +17,16 @@ use Rattle.alt_forest.specs.Events.{CanExpand}
 use Rattle.alt_forest.proofs.Relabelled.{put_here, put_other, outer_not_inner}
 use Rattle.tree_steps.specs.Circuits.{before}
 use Rattle.tree_steps.specs.Expanded.{child_at, mated, labelled_out, opened, labels_up, labels_down, parents_up, parents_down, end_of, hung_up, hung_down, IsRound, IsExpanded}
-use Rattle.tree_steps.proofs.Joints.{joins_unique}
+use Rattle.alt_forest.proofs.Mates.{joins_unique}
 use Rattle.tree_steps.proofs.Grown.{rehung}
 use Rattle.tree_steps.proofs.Opened.{joins_child, ring_chain, ring_each_link}
 use Rattle.tree_steps.proofs.Rungs.{out_other, mated_other, rung_at}
 use Rattle.tree_steps.proofs.Expansion.{Opens, ladder, expanded_up, expanded_down}
-use Rattle.tree_steps.proofs.Rounds.{parted_at, place_within, place_none, in_append, even_pairs, GoesRound, goes_round, leads_round, each_round}
-use Rattle.tree_steps.proofs.Holders.{HasCircuit, has_circuit, child_in}
+use Rattle.tree_steps.proofs.Rounds.{parted_at, place_within, place_none, even_pairs, goes_round, leads_round, each_round}
+use Rattle.blossom_arena.proofs.LinkLists.{in_ring-append}
+use Rattle.blossom_arena.proofs.Older.{HasRing, has_ring}
+use Rattle.alt_forest.proofs.Rounds.{GoesRound}
+use Rattle.tree_steps.proofs.Holders.{child_in}
 use Rattle.tree_steps.proofs.Elsewhere.{labels_up_other, labels_down_other, parents_up_other, parents_down_other, end_of_last, next_dropped}
 
 -- The state after an expand is the state of a search.
@@ -42,8 +45,8 @@ module _ (s : State) (depth : ℕ → ℕ) (a : ℕ) (graph : IsGraph s.graph) (
   abbrev pub hangs : IsInner s depth a
   hangs = (st.labels a can.outermost).inner can.inner
 
-  here : HasCircuit s.graph.vertices bs a
-  here = has_circuit s.graph.vertices bs a nested can.blossom
+  here : HasRing s.graph.vertices bs a
+  here = has_ring s.graph.vertices bs a nested can.blossom
 
   above : s.graph.vertices < a
   above = (name_range s.graph.vertices bs a nested can.blossom).0
@@ -165,7 +168,7 @@ module _ (s : State) (depth : ℕ → ℕ) (a : ℕ) (graph : IsGraph s.graph) (
     }
 
     part_out : (xs ys : List Link) → round ≡ xs ++ ys → (c : ℕ) → in_ring ring c ≡ false → (in_ring xs c ≡ false) × (in_ring ys c ≡ false)
-    part_out xs ys split c out = or_parts (in_ring xs c) (in_ring ys c) (sym (in_append xs ys c) ∙ ap (λ ls. in_ring ls c) (sym split) ∙ outside_round c out)
+    part_out xs ys split c out = or_parts (in_ring xs c) (in_ring ys c) (sym (in_ring-append xs ys c) ∙ ap (λ ls. in_ring ls c) (sym split) ∙ outside_round c out)
 
     module _ (entry place : ℕ) (entry_is : entry ≡ child_at s.graph bs a hangs.edge) (place_is : place ≡ length (before (nodes_of round) entry)) where
       entry_here : in_ring ring entry ≡ true

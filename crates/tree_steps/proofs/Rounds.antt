@@ -10,9 +10,10 @@ use Rattle.blossom_arena.specs.declared.links.Link.{Link}
 use Rattle.blossom_arena.specs.Family.{Blossom, nodes_of, in_ring}
 use Rattle.blossom_arena.proofs.Lists.{AllNew, by_test, first_in, later_in, new-append}
 use Rattle.alt_forest.specs.State.{Joins, next_node, IsChainTo, IsRing}
+use Rattle.alt_forest.proofs.Rounds.{GoesRound, LeadsRound, goes_round as ring_goes, leads_round as ring_leads, each_round as ring_each}
 use Rattle.tree_steps.specs.Circuits.{before}
 use Rattle.tree_steps.specs.Expanded.{IsRound}
-use Rattle.tree_steps.proofs.Rungs.{ArePairs, next_append}
+use Rattle.tree_steps.proofs.Rungs.{ArePairs}
 
 -- the link of a node parts the links, at the place that is the number of those before it
 pub record ArePartedAt (ls : List Link) (a k : ℕ) : Type 0 where
@@ -69,113 +70,23 @@ turned_round ring was turned final base k link r same place turn ends =
       is = sym (take_at final (link ∷ []) n size) ∙ ap (take n) (sym ends ∙ is) ∙ take_at (p.behind ++ p.front) one n refl;
     }
 
--- what is known of links in two parts
-nodes_append : (xs ys : List Link) → nodes_of (xs ++ ys) ≡ nodes_of xs ++ nodes_of ys
-nodes_append [] ys = refl
-nodes_append (x ∷ xs) ys = ap (λ t. x.node ∷ t) (nodes_append xs ys)
-
-pub in_append : (xs ys : List Link) (c : ℕ) → in_ring (xs ++ ys) c ≡ (in_ring xs c || in_ring ys c)
-in_append xs ys c = ap (λ t. holds t c) (nodes_append xs ys) ∙ holds-append (nodes_of xs) (nodes_of ys) c
-
-chain_parts : (g : Multigraph) (bs : List Blossom) (xs ys : List Link) (z : ℕ) → IsChainTo g bs (xs ++ ys) z → IsChainTo g bs xs (next_node ys z) × IsChainTo g bs ys z
-chain_parts g bs [] ys z h = (tt, h)
-chain_parts g bs (x ∷ xs) ys z h =
-    let r = chain_parts g bs xs ys z h.2 in
-    ((h.0, subst (Joins g bs x.edge x.node) (next_append xs ys z) h.1, r.0), r.1)
-
-chain_whole : (g : Multigraph) (bs : List Blossom) (xs ys : List Link) (z : ℕ) → IsChainTo g bs xs (next_node ys z) → IsChainTo g bs ys z → IsChainTo g bs (xs ++ ys) z
-chain_whole g bs [] ys z h k = k
-chain_whole g bs (x ∷ xs) ys z h k = (h.0, subst (Joins g bs x.edge x.node) (sym (next_append xs ys z)) h.1, chain_whole g bs xs ys z h.2 k)
-
-each_parts : (P : Link → Type 0) (xs ys : List Link) → AllByRecursion P (xs ++ ys) → AllByRecursion P xs × AllByRecursion P ys
-each_parts P [] ys h = (tt, h)
-each_parts P (x ∷ xs) ys h = let r = each_parts P xs ys h.1 in ((h.0, r.0), r.1)
-
-each_whole : (P : Link → Type 0) (xs ys : List Link) → AllByRecursion P xs → AllByRecursion P ys → AllByRecursion P (xs ++ ys)
-each_whole P [] ys h k = k
-each_whole P (x ∷ xs) ys h k = (h.0, each_whole P xs ys h.1 k)
-
--- different nodes, in two parts
-record AreApart (xs ys : List ℕ) : Type 0 where
-  left : AllNew xs
-  right : AllNew ys
-  apart : (v : ℕ) → holds ys v ≡ true → holds xs v ≡ false
-
-new_parts : (xs ys : List ℕ) → AllNew (xs ++ ys) → AreApart xs ys
-new_parts [] ys h = record { left = tt; right = h; apart = λ v e. refl }
-new_parts (x ∷ xs) ys h =
-    let p = or_parts (holds xs x) (holds ys x) (sym (holds-append xs ys x) ∙ h.0) in
-    let r = new_parts xs ys h.1 in
-    record {
-      left = (p.0, r.left);
-      right = r.right;
-      apart = λ v e. or_from (eqb x v) (holds xs v) (false_from_ne_true (eqb x v) (λ s. both_ways (holds ys x) p.1 (ap (holds ys) (eqb-true x v s) ∙ e))) (r.apart v e);
-    }
-
 -- an even number of links are pairs
 pub even_pairs : (ls : List Link) → length ls % 2 ≡ 0 → ArePairs ls
 even_pairs [] e = tt
 even_pairs (a ∷ []) e = absurd (omega (arith, e))
 even_pairs (a ∷ (b ∷ ls)) e = even_pairs ls (omega (arith, e))
 
--- the links round from the base, with what a circuit of different nodes says of them
-pub record GoesRound (ring : List Link) (base : ℕ) (round : List Link) : Type 0 where
-  pub different : AllNew (nodes_of round)
-  pub base_apart : in_ring round base ≡ false
-  pub inside : (c : ℕ) → in_ring round c ≡ true → in_ring ring c ≡ true
-  pub all : (c : ℕ) → in_ring ring c ≡ true → (c ≡ base) ⊎ (in_ring round c ≡ true)
-  pub size : length ring ≡ length round + 1
-
+-- the circuit round from the base
 module _ (ring : List Link) (base edge : ℕ) (round : List Link) (h : IsRound ring base edge round) where
   abbrev link : Link
   link = record { node = base; edge = edge }
 
-  round_in : (c : ℕ) → in_ring round c ≡ (in_ring h.behind c || in_ring h.front c)
-  round_in c = ap (λ ls. in_ring ls c) h.is ∙ in_append h.behind h.front c
-
-  ring_in : (c : ℕ) → in_ring ring c ≡ (in_ring h.front c || in_ring (link ∷ h.behind) c)
-  ring_in c = ap (λ ls. in_ring ls c) h.split ∙ in_append h.front (link ∷ h.behind) c
-
   pub goes_round : AllNew (nodes_of ring) → GoesRound ring base round
-  goes_round new =
-      let parts = new_parts (nodes_of h.front) (nodes_of (link ∷ h.behind)) (subst AllNew (ap nodes_of h.split ∙ nodes_append h.front (link ∷ h.behind)) new) in
-      let front_not : in_ring h.front base ≡ false = parts.apart base (first_in base (nodes_of h.behind)) in
-      record {
-        different = subst AllNew (sym (ap nodes_of h.is ∙ nodes_append h.behind h.front))
-            (new-append (nodes_of h.behind) (nodes_of h.front) parts.right.1 parts.left (λ v e. parts.apart v (later_in base (nodes_of h.behind) v e)));
-        base_apart = round_in base ∙ or_from (in_ring h.behind base) (in_ring h.front base) parts.right.0 front_not;
-        inside = λ c e. ring_in c ∙ ⊎_elim
-            (λ r. or_right (in_ring h.front c) (in_ring (link ∷ h.behind) c) (later_in base (nodes_of h.behind) c r))
-            (λ r. or_left (in_ring h.front c) (in_ring (link ∷ h.behind) c) r)
-            (or_cases (in_ring h.behind c) (in_ring h.front c) (sym (round_in c) ∙ e));
-        all = λ c e. ⊎_elim
-            (λ r. inr (round_in c ∙ or_right (in_ring h.behind c) (in_ring h.front c) r))
-            (λ r. ⊎_elim (λ q. inl (sym (eqb-true base c q))) (λ q. inr (round_in c ∙ or_left (in_ring h.behind c) (in_ring h.front c) q)) (or_cases (eqb base c) (in_ring h.behind c) r))
-            (or_cases (in_ring h.front c) (in_ring (link ∷ h.behind) c) (sym (ring_in c) ∙ e));
-        size =
-            let whole : length ring ≡ length h.front + length (link ∷ h.behind) = ap length h.split ∙ length-append h.front (link ∷ h.behind) in
-            let some : length round ≡ length h.behind + length h.front = ap length h.is ∙ length-append h.behind h.front in
-            omega (arith, whole, some);
-      }
+  goes_round new = subst (GoesRound ring base) (sym h.is) (ring_goes ring h.front link h.behind h.split new)
 
-  -- they are a chain to the base, whose own edge leads to the first of them
-  pub record LeadsRound (g : Multigraph) (bs : List Blossom) : Type 0 where
-    pub chain : IsChainTo g bs round base
-    pub next : Joins g bs edge base (next_node round base)
-
-  pub leads_round : (g : Multigraph) (bs : List Blossom) → IsRing g bs ring → LeadsRound g bs
-  leads_round g bs is =
-      let whole : List Link = h.front ++ (link ∷ h.behind) in
-      let first : next_node whole 0 ≡ next_node h.front base = next_append h.front (link ∷ h.behind) 0 in
-      let r = chain_parts g bs h.front (link ∷ h.behind) (next_node whole 0) (subst (IsRing g bs) h.split is) in
-      let after : next_node h.behind (next_node whole 0) ≡ next_node round base = ap (next_node h.behind) first ∙ sym (ap (λ ls. next_node ls base) h.is ∙ next_append h.behind h.front base) in
-      record {
-        chain = subst (λ ls. IsChainTo g bs ls base) (sym h.is) (chain_whole g bs h.behind h.front base (subst (IsChainTo g bs h.behind) first r.1.2) r.0);
-        next = subst (Joins g bs edge base) after r.1.1;
-      }
+  pub leads_round : (g : Multigraph) (bs : List Blossom) → IsRing g bs ring → LeadsRound g bs link round
+  leads_round g bs is = subst (LeadsRound g bs link) (sym h.is) (ring_leads ring h.front link h.behind h.split g bs is)
 
   -- what holds of each link of the circuit
   pub each_round : (P : Link → Type 0) → AllByRecursion P ring → P link × AllByRecursion P round
-  each_round P each =
-      let r = each_parts P h.front (link ∷ h.behind) (subst (AllByRecursion P) h.split each) in
-      (r.1.0, subst (AllByRecursion P) (sym h.is) (each_whole P h.behind h.front r.1.1 r.0))
+  each_round P each = let r = ring_each ring h.front link h.behind h.split P each in (r.0, subst (AllByRecursion P) (sym h.is) r.1)

@@ -9,6 +9,8 @@ use Rattle.alt_forest.specs.declared.label.Label.TheVariants.{Out}
 use Rattle.alt_forest.specs.State.{State, Joins, IsMate, next_node}
 use Rattle.alt_forest.specs.Searches.{put}
 use Rattle.alt_forest.proofs.Relabelled.{put_here, put_other}
+use Rattle.alt_forest.specs.Circuits.{ArePaired}
+use Rattle.alt_forest.proofs.Rounds.{next_node-append}
 use Rattle.tree_steps.specs.Expanded.{mated, labelled_out}
 use Rattle.tree_steps.proofs.Ladders.{IsLadder, AllOut}
 
@@ -17,12 +19,6 @@ abbrev pub ArePairs : List Link → Type 0
 ArePairs [] = Unit {0}
 ArePairs (a ∷ []) = ⊥
 ArePairs (a ∷ (b ∷ rest)) = ArePairs rest
-
--- neighbours are mates two by two
-abbrev pub ArePaired : (ℕ → Option ℕ) → List Link → Type 0
-ArePaired m [] = Unit {0}
-ArePaired m (a ∷ []) = ⊥
-ArePaired m (a ∷ (b ∷ rest)) = (m a.node ≡ Some a.edge) × (m b.node ≡ Some a.edge) × ArePaired m rest
 
 apart_first : (a : Link) (ls : List Link) (c : ℕ) → in_ring (a ∷ ls) c ≡ false → (c ≢ a.node) × (in_ring ls c ≡ false)
 apart_first a ls c out = let p = or_parts (eqb a.node c) (in_ring ls c) out in (λ q. eqb-false a.node c p.0 (sym q), p.1)
@@ -94,13 +90,9 @@ rung_at s (a ∷ (b ∷ rest)) z c h r =
     (or_cases (eqb a.node c) (in_ring (b ∷ rest) c) r)
 
 -- a ladder in two parts
-pub next_append : (xs ys : List Link) (z : ℕ) → next_node (xs ++ ys) z ≡ next_node xs (next_node ys z)
-next_append [] ys z = refl
-next_append (x ∷ xs) ys z = refl
-
 pub ladder_parts : (s : State) (xs ys : List Link) (z : ℕ) → ArePairs xs → IsLadder s (xs ++ ys) z → IsLadder s xs (next_node ys z) × IsLadder s ys z
 ladder_parts s [] ys z even h = (tt, h)
 ladder_parts s (a ∷ []) ys z even h = absurd even
 ladder_parts s (a ∷ (b ∷ xs)) ys z even h =
     let r = ladder_parts s xs ys z even h.4 in
-    ((h.0, h.1, h.2, subst (Joins s.graph s.blossoms b.edge b.node) (next_append xs ys z) h.3, r.0), r.1)
+    ((h.0, h.1, h.2, subst (Joins s.graph s.blossoms b.edge b.node) (next_node-append xs ys z) h.3, r.0), r.1)

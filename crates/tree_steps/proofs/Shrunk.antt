@@ -19,7 +19,7 @@ use Rattle.alt_forest.specs.State.{State, IsOutermost, Joins, node_u, node_v, do
 use Rattle.alt_forest.specs.Searches.{put}
 use Rattle.alt_forest.proofs.Relabelled.{put_here, put_other, outer_not_inner, outer_not_out}
 use Rattle.tree_steps.specs.Shrunk.{shrunk_state}
-use Rattle.tree_steps.proofs.Joints.{joins_unique, mate_turned}
+use Rattle.alt_forest.proofs.Mates.{joins_unique, mate_turned}
 
 -- duals that agree at the nodes that an edge can feel
 pub across_same : (y z : ℕ → ℤ) (bs : List Blossom) (e : Edge) → y e.u ≡ z e.u → y e.v ≡ z e.v → AllByRecursion (λ (b : Blossom). y b.node ≡ z b.node) bs → duals_across y bs e ≡ duals_across z bs e

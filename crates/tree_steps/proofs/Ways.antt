@@ -11,7 +11,7 @@ use Rattle.alt_forest.specs.State.{State, IsOutermost, Joins, IsTight, next_node
 use Rattle.tree_steps.proofs.Hops.{Hop, IsWay, links_up}
 use Rattle.tree_steps.specs.Shrinkable.{IsShrinkable}
 use Rattle.tree_steps.specs.Circuits.{mirror, circuit_of}
-use Rattle.tree_steps.proofs.Joints.{joins_turned, mate_turned, mate_unique}
+use Rattle.alt_forest.proofs.Mates.{joins_turned, mate_turned, mate_unique}
 use Rattle.tree_steps.proofs.Mirror.{mirror_chain, mirror_nodes, mirror_edges, mirror_length, mirror_has, mirror_new}
 
 pub record WayLinks (s : State) (depth : ℕ → ℕ) (x : ℕ) (ls : List Link) (base k : ℕ) : Type 0 where

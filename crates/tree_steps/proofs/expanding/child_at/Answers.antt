@@ -5,7 +5,9 @@ use Rattle.graph_theory.specs.Parts.{holds}
 use Rattle.blossom_arena.specs.Family.{members_of, outermost}
 use Rattle.alt_forest.specs.State.{node_u, node_v}
 use Rattle.alt_forest.proofs.Places.{nested_of}
-use Rattle.tree_steps.proofs.Holders.{end_member, u_vertex, v_vertex, other_end_in}
+use Rattle.blossom_arena.proofs.Older.{end_member}
+use Rattle.blossom_arena.proofs.Ends.{u_vertex, v_vertex}
+use Rattle.tree_steps.proofs.Holders.{other_end_in}
 use Rattle.tree_steps.proofs.expanding.child_at.Goals as goal
 
 pub child_holding-requires-clause-inside : goal.child_holding-requires-clause-inside

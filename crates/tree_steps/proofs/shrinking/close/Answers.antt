@@ -4,8 +4,9 @@ use Rattle.blossom_arena.specs.Family.{Blossom, Family, made_of, shrunk, dual_at
 use Rattle.blossom_arena.proofs.Nested.{circuit_outer}
 use Rattle.alt_forest.specs.State.{State, IsSearchState}
 use Rattle.alt_forest.specs.Searches.{state_of, put}
+use Rattle.alt_forest.proofs.Puts.{put_dual}
 use Rattle.tree_steps.proofs.Shrunk.{shrink_keeps}
-use Rattle.tree_steps.proofs.Closed.{put_dual, closed_is, nested_after, shrinks_from}
+use Rattle.tree_steps.proofs.Closed.{closed_is, nested_after, shrinks_from}
 use Rattle.tree_steps.proofs.shrinking.close.Goals as goal
 
 pub mate-mate-requires-clause-outer : goal.mate-mate-requires-clause-outer
