@@ -1,13 +1,10 @@
 -- What a flip comes to: mates are mutual, two nodes fewer are exposed, and with all labels out the search is sound.
-use Rattle.std.proofs.Common.{◌≡◌, ◌≢◌, ◌↔◌, ℕ, ◌+◌, List, [], ◌∷◌, Option, Some, None, sym, ap, ◌∙◌, subst, arith, ⊎_elim, vec_len}
+use Rattle.std.proofs.Common.{◌≡◌, ◌≢◌, ◌↔◌, ℕ, ◌+◌, Option, Some, None, sym, ap, ◌∙◌, subst, arith, ⊎_elim, vec_len}
 use Rattle.std.specs.Prelude.{is_some}
-use Rattle.std.specs.List.{AllByRecursion}
-use Rattle.blossom_arena.specs.declared.links.Link.{Link}
-use Rattle.blossom_arena.specs.Family.{Blossom}
 use Rattle.alt_forest.specs.declared.label.Label.{Label}
 use Rattle.alt_forest.specs.declared.label.Label.TheVariants.{Out}
 use Rattle.alt_forest.specs.declared.search.Search.{Search}
-use Rattle.alt_forest.specs.State.{State, IsTight, IsSearchState}
+use Rattle.alt_forest.specs.State.{State, IsSearchState}
 use Rattle.alt_forest.specs.Events.{CanAugment}
 use Rattle.alt_forest.specs.Searches.{HasShape, IsSound, state_of, label_at, edge_in, put}
 use Rattle.alt_forest.proofs.Places.{outer_range}

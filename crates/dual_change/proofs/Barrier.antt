@@ -7,7 +7,6 @@ use Rattle.std.proofs.lemmas.List.{length-map}
 use Rattle.graph_theory.specs.Graph.{IsGraph, IsEdgeNumber, edge_of}
 use Rattle.graph_theory.specs.Parts.{holds}
 use Rattle.graph_theory.specs.Barrier.{AreTogether, IsBarrier}
-use Rattle.graph_theory.proofs.Edges.{edge_of_within}
 use Rattle.graph_theory.proofs.Members.{holds_first}
 use Rattle.graph_theory.proofs.Components.{together-sym, together-free, together-within}
 use Rattle.blossom_arena.specs.declared.links.Link.{Link}

@@ -2,11 +2,9 @@
 use Rattle.std.proofs.Common.{◌≡◌, ℕ, true, cond, List, [], ◌∷◌, length, refl, sym, ap, ◌∙◌, arith, ⊎_elim}
 use Rattle.std.specs.List.{AllByRecursion}
 use Rattle.graph_theory.specs.Graph.{Multigraph, IsGraph, IsEdgeNumber, edge_of}
-use Rattle.graph_theory.proofs.Edges.{edge_of_within}
 use Rattle.blossom_arena.specs.declared.links.Link.{Link}
 use Rattle.blossom_arena.specs.Family.{Blossom, IsNested, is_vertex, in_ring, nodes_of, outermost}
 use Rattle.blossom_arena.proofs.Lists.{first_in, later_in}
-use Rattle.blossom_arena.proofs.Nested.{range_vertex}
 use Rattle.blossom_arena.proofs.Sets.{member_by_ring}
 use Rattle.blossom_arena.proofs.Ends.{u_vertex, v_vertex}
 use Rattle.alt_forest.specs.State.{node_u, node_v, next_node, IsChainTo, IsRing, HasRings}

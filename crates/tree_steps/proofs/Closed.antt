@@ -1,12 +1,8 @@
 -- The lists after a shrink.
-use Rattle.std.proofs.Common.{◌≡◌, ℕ, ◌<◌, ℤ, pos, eqb, cond, List, ◌∷◌, length, Option, sym, ap, ◌∙◌, subst}
-use Rattle.std.specs.Prelude.{slice_set}
-use Rattle.std.proofs.lemmas.Bool.{eqb-true, eqb-false}
-use Rattle.std.proofs.lemmas.List.{get_or-set_other, get_or-set_same}
+use Rattle.std.proofs.Common.{◌≡◌, ℕ, ℤ, pos, List, ◌∷◌, Option, subst}
 use Rattle.graph_theory.specs.Graph.{IsGraph}
 use Rattle.blossom_arena.specs.declared.links.Link.{Link}
-use Rattle.blossom_arena.specs.Family.{Blossom, Family, IsNested, IsFamily, dual_at, shrunk, made_of}
-use Rattle.blossom_arena.proofs.Lists.{by_test}
+use Rattle.blossom_arena.specs.Family.{Blossom, Family, IsNested, IsFamily, shrunk, made_of}
 use Rattle.alt_forest.specs.declared.label.Label.{Label}
 use Rattle.alt_forest.specs.declared.label.Label.TheVariants.{Outer}
 use Rattle.alt_forest.specs.State.{State}

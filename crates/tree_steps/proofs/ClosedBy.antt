@@ -9,7 +9,9 @@ use Rattle.alt_forest.specs.State.{State, IsOutermost, IsSearchState, node_u, no
 use Rattle.alt_forest.specs.Trees.{up_of, up_edge_by, path_of, first_common}
 use Rattle.alt_forest.proofs.Paths.{path_of-step}
 use Rattle.alt_forest.proofs.Roots.{some_node}
-use Rattle.tree_steps.proofs.Hops.{Hop, IsWay, links_up, hop_path}
+use Rattle.alt_forest.specs.declared.hop.Hop.{Hop}
+use Rattle.alt_forest.specs.Ways.{AreHops, links_up}
+use Rattle.tree_steps.proofs.Hops.{hop_path}
 use Rattle.tree_steps.specs.Circuits.{before, circuit_of, or_zero, links_above, base_of, closed_by}
 use Rattle.alt_forest.specs.Events.{CanShrink}
 use Rattle.tree_steps.specs.Shrinkable.{IsShrinkable}
@@ -20,7 +22,7 @@ use Rattle.tree_steps.proofs.Ends.{ends_of}
 use Rattle.tree_steps.proofs.Meeting.{common_first, meets_from}
 
 -- the links of a way are those of the path before its end
-pub links_are : (s : State) (depth : ℕ → ℕ) (x : ℕ) (hs : List Hop) (base : ℕ) → IsNested s.graph.vertices s.blossoms → IsSearchState s depth → IsOutermost s base → IsWay s depth x hs base → links_up x hs ≡ links_above s (before (path_of s x) base)
+pub links_are : (s : State) (depth : ℕ → ℕ) (x : ℕ) (hs : List Hop) (base : ℕ) → IsNested s.graph.vertices s.blossoms → IsSearchState s depth → IsOutermost s base → AreHops s depth x hs base → links_up x hs ≡ links_above s (before (path_of s x) base)
 links_are s depth x [] base nested st is way =
     let here : IsOutermost s x = subst (IsOutermost s) (sym way) is in
     sym
@@ -29,29 +31,29 @@ links_are s depth x [] base nested st is way =
 links_are s depth x (h ∷ hs) base nested st is way =
     let hop = way.0 in
     let l = way_links s depth x (h ∷ hs) base way in
-    let rest : List ℕ = path_of s h.up in
-    let a : Link = record { node = x; edge = h.pair } in
-    let b : Link = record { node = h.inner; edge = h.by } in
+    let rest : List ℕ = path_of s h.outer in
+    let a : Link = record { node = x; edge = h.mate } in
+    let b : Link = record { node = h.inner; edge = h.parent } in
     let not_x : x ≢ base = λ q. let same : depth x ≡ depth base = ap depth q in absurd (omega (arith, l.deep.0, same)) in
     let not_inner : h.inner ≢ base = λ q. let same : depth h.inner ≡ depth base = ap depth q in absurd (omega (arith, l.deep.1.0, same)) in
     sym
     (ap (λ xs. links_above s (before xs base)) (hop_path s depth x h nested st hop)
     ∙ ap (λ t. links_above s (cond t [] (x ∷ before (h.inner ∷ rest) base))) (ne_eqb x base not_x)
     ∙ ap (λ t. links_above s (x ∷ cond t [] (h.inner ∷ before rest base))) (ne_eqb h.inner base not_inner)
-    ∙ ap (λ o. record { node = x; edge = or_zero o } ∷ links_above s (h.inner ∷ before rest base)) (ap (λ k. up_edge_by s k x) hop.outer ∙ hop.mate)
+    ∙ ap (λ o. record { node = x; edge = or_zero o } ∷ links_above s (h.inner ∷ before rest base)) (ap (λ k. up_edge_by s k x) hop.label ∙ hop.mate)
     ∙ ap (λ o. a ∷ (record { node = h.inner; edge = or_zero o } ∷ links_above s (before rest base))) (ap (λ k. up_edge_by s k h.inner) hop.inner_label ∙ hop.parent)
-    ∙ ap (λ ls. a ∷ (b ∷ ls)) (sym (links_are s depth h.up hs base nested st is way.1)))
+    ∙ ap (λ ls. a ∷ (b ∷ ls)) (sym (links_are s depth h.outer hs base nested st is way.1)))
 
 -- the two first nodes are on the circuit
-first_on : (s : State) (depth : ℕ → ℕ) (x : ℕ) (hs : List Hop) (base : ℕ) → IsWay s depth x hs base → (eqb base x || in_ring (links_up x hs) x) ≡ true
+first_on : (s : State) (depth : ℕ → ℕ) (x : ℕ) (hs : List Hop) (base : ℕ) → AreHops s depth x hs base → (eqb base x || in_ring (links_up x hs) x) ≡ true
 first_on s depth x [] base way = or_left (eqb base x) false (eq-eqb base x (sym way))
-first_on s depth x (h ∷ hs) base way = or_right (eqb base x) (eqb x x || (eqb h.inner x || in_ring (links_up h.up hs) x)) (or_left (eqb x x) (eqb h.inner x || in_ring (links_up h.up hs) x) (eq-eqb x x refl))
+first_on s depth x (h ∷ hs) base way = or_right (eqb base x) (eqb x x || (eqb h.inner x || in_ring (links_up h.outer hs) x)) (or_left (eqb x x) (eqb h.inner x || in_ring (links_up h.outer hs) x) (eq-eqb x x refl))
 
 record HasFirst (base e a b : ℕ) (ls ks : List Link) : Type 0 where
   pub left : in_ring (circuit_of base e ls ks) a ≡ true
   pub right : in_ring (circuit_of base e ls ks) b ≡ true
 
-firsts_on : (s : State) (depth : ℕ → ℕ) (e a b base : ℕ) (hs ks : List Hop) → IsWay s depth a hs base → IsWay s depth b ks base → HasFirst base e a b (links_up a hs) (links_up b ks)
+firsts_on : (s : State) (depth : ℕ → ℕ) (e a b base : ℕ) (hs ks : List Hop) → AreHops s depth a hs base → AreHops s depth b ks base → HasFirst base e a b (links_up a hs) (links_up b ks)
 firsts_on s depth e a b base hs ks left right =
     record {
       left = ap (λ t. eqb base a || t) (mirror_has e ls rs a) ∙ or_in (eqb base a) (in_ring ls a) (in_ring rs a) (first_on s depth a hs base left);

@@ -11,7 +11,8 @@ use Rattle.alt_forest.proofs.Relabelled.{outer_not_inner, some_not_none}
 use Rattle.alt_forest.proofs.Walk.{some_same, other_node_joins}
 use Rattle.tree_steps.specs.Circuits.{before, circuit_of}
 use Rattle.alt_forest.proofs.Mates.{partner_unique}
-use Rattle.tree_steps.proofs.Hops.{Hop, IsHop, IsWay, links_up}
+use Rattle.alt_forest.specs.declared.hop.Hop.{Hop}
+use Rattle.alt_forest.specs.Ways.{IsHop, AreHops, links_up}
 use Rattle.tree_steps.specs.Shrinkable.{IsShrinkable}
 use Rattle.alt_forest.specs.Events.{CanShrink}
 use Rattle.tree_steps.proofs.Ends.{ends_of}
@@ -41,7 +42,7 @@ before_goes x base c xs ne r = ap (λ q. holds (cond q [] (x ∷ before xs base)
 -- a node of the way that is outer: a way leads to it
 pub record FoundOuter (s : State) (depth : ℕ → ℕ) (x : ℕ) (xs : List ℕ) (base : ℕ) : Type 0 where
   pub hops : List Hop
-  pub way : IsWay s depth x hops base
+  pub way : AreHops s depth x hops base
   pub outer : s.label base ≡ Outer
   pub is : IsOutermost s base
   pub passed : (c : ℕ) → in_ring (links_up x hops) c ≡ true → holds (before xs base) c ≡ true
@@ -59,9 +60,9 @@ record IsHopped (s : State) (depth : ℕ → ℕ) (x : ℕ) (hop : Hop) : Type 0
   is_hop : IsHop s depth x hop
   inner : s.label hop.inner ≡ Inner
   first : up_of s x ≡ hop.inner
-  second : up_of s hop.inner ≡ hop.up
-  up_is : IsOutermost s hop.up
-  up_outer : s.label hop.up ≡ Outer
+  second : up_of s hop.inner ≡ hop.outer
+  up_is : IsOutermost s hop.outer
+  up_outer : s.label hop.outer ≡ Outer
 
 hopped : (s : State) (depth : ℕ → ℕ) (x f : ℕ) → IsSearchState s depth → IsOutermost s x → s.label x ≡ Outer → s.mate x ≡ Some f → (hop : Hop) × IsHopped s depth x hop
 hopped s depth x f st is outer has =
@@ -70,9 +71,9 @@ hopped s depth x f st is outer has =
     let says = (st.labels x is).outer outer f q has w.1 in
     let i = (st.labels q w.1.outer).inner says.0 in
     let apart : q ≢ i.up = λ r. let same : depth q ≡ depth i.up = ap depth r in absurd (omega (arith, i.falls)) in (
-      record { pair = f; inner = q; by = i.edge; up = i.up },
+      record { mate = f; inner = q; parent = i.edge; outer = i.up },
       record {
-        is_hop = record { is = is; outer = outer; mate = has; is_mate = w.1; inner_label = says.0; parent = i.parent; lower = says.1; edge = i.is_edge; joins = i.joins; tight = i.tight; lowest = i.falls };
+        is_hop = record { is = is; label = outer; mate = has; is_mate = w.1; inner_label = says.0; parent = i.parent; lower = says.1; edge = i.is_edge; joins = i.joins; tight = i.tight; lowest = i.falls };
         inner = says.0;
         first = ap (λ l. far_end s (up_edge_by s l x) x) outer ∙ ap (λ o. far_end s o x) has ∙ other_node_joins s.graph s.blossoms f x q w.1.joins w.1.different;
         second = ap (λ l. far_end s (up_edge_by s l q) q) says.0 ∙ ap (λ o. far_end s o q) i.parent ∙ other_node_joins s.graph s.blossoms i.edge q i.up i.joins apart;
@@ -108,19 +109,19 @@ found s depth x (y ∷ (z ∷ zs)) base st trace is outer there =
         ⊎_elim
         (λ at. inr (record {
           under = x;
-          edge = hop.pair;
-          is_mate = subst (IsMate s x hop.pair) (sym at) h.is_hop.is_mate;
+          edge = hop.mate;
+          is_mate = subst (IsMate s x hop.mate) (sym at) h.is_hop.is_mate;
           inner = ap s.label at ∙ h.inner;
           passed = before_goes y base x (z ∷ zs) y_not (or_left (eqb y x) (holds (before (z ∷ zs) base) x) (eq-eqb y x trace.0));
         }))
         (λ not_it.
         let z_not : z ≢ base = λ r. not_it (sym r ∙ z_is) in
         let rest_there : holds zs base ≡ true = ⊎_elim (λ r. absurd (z_not (eqb-true z base r))) (λ r. r) (or_cases (eqb z base) (holds zs base) later) in
-        let p_is : up_of s (up_of s x) ≡ hop.up = ap (up_of s) h.first ∙ h.second in
+        let p_is : up_of s (up_of s x) ≡ hop.outer = ap (up_of s) h.first ∙ h.second in
         let goes : (c : ℕ) → holds (before zs base) c ≡ true → holds (before (y ∷ (z ∷ zs)) base) c ≡ true =
         λ c r. before_goes y base c (z ∷ zs) y_not (or_right (eqb y c) (holds (before (z ∷ zs) base) c) (before_goes z base c zs z_not (or_right (eqb z c) (holds (before zs base) c) r))) in
         ⊎_elim
-        (λ (r : FoundOuter s depth hop.up zs base). inl (record {
+        (λ (r : FoundOuter s depth hop.outer zs base). inl (record {
           hops = hop ∷ r.hops;
           way = (h.is_hop, r.way);
           outer = r.outer;
@@ -130,11 +131,11 @@ found s depth x (y ∷ (z ∷ zs)) base st trace is outer there =
               (λ more. ⊎_elim
               (λ here. before_goes y base c (z ∷ zs) y_not (or_right (eqb y c) (holds (before (z ∷ zs) base) c) (before_goes z base c zs z_not (or_left (eqb z c) (holds (before zs base) c) (eq-eqb z c (z_is ∙ eqb-true hop.inner c here))))))
               (λ farther. goes c (r.passed c farther))
-              (or_cases (eqb hop.inner c) (in_ring (links_up hop.up r.hops) c) more))
-              (or_cases (eqb x c) (eqb hop.inner c || in_ring (links_up hop.up r.hops) c) in_it);
+              (or_cases (eqb hop.inner c) (in_ring (links_up hop.outer r.hops) c) more))
+              (or_cases (eqb x c) (eqb hop.inner c || in_ring (links_up hop.outer r.hops) c) in_it);
         }))
         (λ (r : FoundInner s zs base). inr (record { under = r.under; edge = r.edge; is_mate = r.is_mate; inner = r.inner; passed = goes r.under r.passed }))
-        (again hop.up (subst (λ u. IsTrace s u zs) p_is trace.2.2) h.up_is h.up_outer rest_there))
+        (again hop.outer (subst (λ u. IsTrace s u zs) p_is trace.2.2) h.up_is h.up_outer rest_there))
         (cases_eq base hop.inner)
 
 -- what the first common number is
@@ -167,8 +168,8 @@ common_first (x ∷ xs) ys base e = by_test (holds ys x)
 pub record AreMeeting (s : State) (depth : ℕ → ℕ) (a b e base : ℕ) : Type 0 where
   pub left : List Hop
   pub right : List Hop
-  pub left_way : IsWay s depth a left base
-  pub right_way : IsWay s depth b right base
+  pub left_way : AreHops s depth a left base
+  pub right_way : AreHops s depth b right base
   pub shrinks : IsShrinkable s depth (circuit_of base e (links_up a left) (links_up b right)) base
 
 -- a tight edge between two outer nodes whose paths meet closes a circuit that can be shrunk

@@ -1,15 +1,13 @@
 -- The circuit of a blossom from behind one of its nodes, the base, round to it.
-use Rattle.std.proofs.Common.{◌≡◌, ◌⊎◌, ℕ, suc, ◌+◌, ◌≤◌, ◌%◌, true, false, ◌||◌, eqb, cond, List, [], ◌∷◌, ◌++◌, length, get_or, take, drop, refl, sym, ap, ◌∙◌, subst, arith, append_assoc, length-append, ⊎_elim, inl, inr}
+use Rattle.std.proofs.Common.{◌≡◌, ℕ, suc, ◌+◌, ◌≤◌, ◌%◌, true, false, ◌||◌, eqb, cond, List, [], ◌∷◌, ◌++◌, length, get_or, take, drop, refl, sym, ap, ◌∙◌, subst, arith, append_assoc, length-append}
 use Rattle.std.specs.List.{AllByRecursion}
 use Rattle.std.proofs.lemmas.List.{take_at, drop_at, get_or_push}
-use Rattle.std.proofs.lemmas.Bool.{eqb-true, or_parts, or_left, or_right, or_from, or_cases, both_ways, false_from_ne_true}
+use Rattle.std.proofs.lemmas.Bool.{eqb-true, or_parts, both_ways}
 use Rattle.graph_theory.specs.Graph.{Multigraph}
-use Rattle.graph_theory.specs.Parts.{holds}
-use Rattle.graph_theory.proofs.Members.{holds-append}
 use Rattle.blossom_arena.specs.declared.links.Link.{Link}
 use Rattle.blossom_arena.specs.Family.{Blossom, nodes_of, in_ring}
-use Rattle.blossom_arena.proofs.Lists.{AllNew, by_test, first_in, later_in, new-append}
-use Rattle.alt_forest.specs.State.{Joins, next_node, IsChainTo, IsRing}
+use Rattle.blossom_arena.proofs.Lists.{AllNew, by_test}
+use Rattle.alt_forest.specs.State.{IsRing}
 use Rattle.alt_forest.proofs.Rounds.{GoesRound, LeadsRound, goes_round as ring_goes, leads_round as ring_leads, each_round as ring_each}
 use Rattle.tree_steps.specs.Circuits.{before}
 use Rattle.tree_steps.specs.Expanded.{IsRound}

@@ -8,7 +8,8 @@ use Rattle.blossom_arena.specs.Family.{is_outermost, in_ring, nodes_of}
 use Rattle.blossom_arena.proofs.Lists.{AllNew, distinct_from_new}
 use Rattle.alt_forest.specs.declared.label.Label.TheVariants.{Outer}
 use Rattle.alt_forest.specs.State.{State, IsOutermost, Joins, IsTight, next_node, IsChainTo, IsMate, IsSearchState}
-use Rattle.tree_steps.proofs.Hops.{Hop, IsWay, links_up}
+use Rattle.alt_forest.specs.declared.hop.Hop.{Hop}
+use Rattle.alt_forest.specs.Ways.{AreHops, links_up}
 use Rattle.tree_steps.specs.Shrinkable.{IsShrinkable}
 use Rattle.tree_steps.specs.Circuits.{mirror, circuit_of}
 use Rattle.alt_forest.proofs.Mates.{joins_turned, mate_turned, mate_unique}
@@ -39,39 +40,39 @@ weaker depth m n (l ∷ ls) h each = (omega (arith, each.0, h), weaker depth m n
 pair_mated : (s : State) (x f y c k d : ℕ) → IsOutermost s x → s.mate x ≡ Some f → IsMate s x f y → c ≡ x → s.mate c ≡ Some k → IsMate s c k d → y ≡ d
 pair_mated s x f y c k d is mate w same has v = mate_unique s x f y k d mate (ap s.mate (sym same) ∙ has) w (subst (λ z. IsMate s z k d) same v)
 
-pub way_links : (s : State) (depth : ℕ → ℕ) (x : ℕ) (hs : List Hop) (base : ℕ) → IsWay s depth x hs base → WayLinks s depth x (links_up x hs) base (length hs)
+pub way_links : (s : State) (depth : ℕ → ℕ) (x : ℕ) (hs : List Hop) (base : ℕ) → AreHops s depth x hs base → WayLinks s depth x (links_up x hs) base (length hs)
 way_links s depth x [] base w = record { chain = tt; first = sym w; tight = tt; outer = tt; deep = tt; shallow = tt; low = subst (λ y. depth y ≤ depth x) w (omega arith); different = tt; has = λ c r. absurd (both_ways false refl r); mated = λ c f d r. absurd (both_ways false refl r); even = omega arith }
 way_links s depth x (h ∷ hs) base w =
     let hop = w.0 in
-    let rest = way_links s depth h.up hs base w.1 in
-    let ls : List Link = links_up h.up hs in
+    let rest = way_links s depth h.outer hs base w.1 in
+    let ls : List Link = links_up h.outer hs in
     let l1 : depth h.inner < depth x = hop.lower in
-    let l2 : depth h.up < depth h.inner = hop.lowest in
-    let l3 : depth base ≤ depth h.up = rest.low in
+    let l2 : depth h.outer < depth h.inner = hop.lowest in
+    let l3 : depth base ≤ depth h.outer = rest.low in
     let x_inner : eqb h.inner x ≡ false = ne_eqb h.inner x (λ e. hop.is_mate.different (sym e)) in
     record {
-      chain = (hop.is_mate.edge, hop.is_mate.joins, (hop.edge, subst (λ y. Joins s.graph s.blossoms h.by h.inner y) (sym rest.first) hop.joins, rest.chain));
+      chain = (hop.is_mate.edge, hop.is_mate.joins, (hop.edge, subst (λ y. Joins s.graph s.blossoms h.parent h.inner y) (sym rest.first) hop.joins, rest.chain));
       first = refl;
       tight = (record { edge = hop.is_mate.edge; tight = hop.is_mate.tight }, (record { edge = hop.edge; tight = hop.tight }, rest.tight));
       outer = (hop.is, (hop.is_mate.outer, rest.outer));
       deep = (omega arith, (omega arith, rest.deep));
-      shallow = (omega arith, (omega arith, weaker depth (depth h.up) (depth x) ls (omega arith) rest.shallow));
+      shallow = (omega arith, (omega arith, weaker depth (depth h.outer) (depth x) ls (omega arith) rest.shallow));
       low = omega arith;
-      different = (or_from (eqb h.inner x) (in_ring ls x) x_inner (deeper_others depth x h.up ls (omega arith) rest.shallow), (deeper_others depth h.inner h.up ls l2 rest.shallow, rest.different));
+      different = (or_from (eqb h.inner x) (in_ring ls x) x_inner (deeper_others depth x h.outer ls (omega arith) rest.shallow), (deeper_others depth h.inner h.outer ls l2 rest.shallow, rest.different));
       has = λ c r. ⊎_elim
-          (λ here. (h.pair, ap s.mate (sym (eqb-true x c here)) ∙ hop.mate))
+          (λ here. (h.mate, ap s.mate (sym (eqb-true x c here)) ∙ hop.mate))
           (λ more. ⊎_elim
-          (λ here. (h.pair, ap s.mate (sym (eqb-true h.inner c here)) ∙ hop.is_mate.back))
+          (λ here. (h.mate, ap s.mate (sym (eqb-true h.inner c here)) ∙ hop.is_mate.back))
           (λ later. rest.has c later)
           (or_cases (eqb h.inner c) (in_ring ls c) more))
           (or_cases (eqb x c) (eqb h.inner c || in_ring ls c) r);
       mated = λ c f d r has v. ⊎_elim
           (λ here.
-          let it = pair_mated s x h.pair h.inner c f d hop.is hop.mate hop.is_mate (sym (eqb-true x c here)) has v in
+          let it = pair_mated s x h.mate h.inner c f d hop.is hop.mate hop.is_mate (sym (eqb-true x c here)) has v in
           or_right (eqb x d) (eqb h.inner d || in_ring ls d) (or_left (eqb h.inner d) (in_ring ls d) (eq-eqb h.inner d it)))
           (λ more. ⊎_elim
           (λ here.
-          let it = pair_mated s h.inner h.pair x c f d hop.is_mate.outer hop.is_mate.back (mate_turned s x h.pair h.inner hop.is hop.mate hop.is_mate) (sym (eqb-true h.inner c here)) has v in
+          let it = pair_mated s h.inner h.mate x c f d hop.is_mate.outer hop.is_mate.back (mate_turned s x h.mate h.inner hop.is hop.mate hop.is_mate) (sym (eqb-true h.inner c here)) has v in
           or_left (eqb x d) (eqb h.inner d || in_ring ls d) (eq-eqb x d it))
           (λ later. or_right (eqb x d) (eqb h.inner d || in_ring ls d) (or_right (eqb h.inner d) (in_ring ls d) (rest.mated c f d later has v)))
           (or_cases (eqb h.inner c) (in_ring ls c) more))
@@ -87,12 +88,12 @@ least : (depth : ℕ → ℕ) (base c : ℕ) (ls : List Link) → AllByRecursion
 least depth base c [] each r = absurd (both_ways false refl r)
 least depth base c (l ∷ ls) each r = ⊎_elim (λ here. subst (λ y. depth base < depth y) (eqb-true l.node c here) each.0) (λ more. least depth base c ls each.1 more) (or_cases (eqb l.node c) (in_ring ls c) r)
 
-some_hop : (s : State) (depth : ℕ → ℕ) (a b base : ℕ) (hs ks : List Hop) → a ≢ b → IsWay s depth a hs base → IsWay s depth b ks base → 1 ≤ length hs + length ks
+some_hop : (s : State) (depth : ℕ → ℕ) (a b base : ℕ) (hs ks : List Hop) → a ≢ b → AreHops s depth a hs base → AreHops s depth b ks base → 1 ≤ length hs + length ks
 some_hop s depth a b base [] [] ne wa wb = absurd (ne (wa ∙ sym wb))
 some_hop s depth a b base [] (k ∷ ks) ne wa wb = omega arith
 some_hop s depth a b base (h ∷ hs) ks ne wa wb = omega arith
 
-pub circuit_shrinks : (s : State) (depth : ℕ → ℕ) (a b e base : ℕ) (hs ks : List Hop) → IsSearchState s depth → IsWay s depth a hs base → IsWay s depth b ks base
+pub circuit_shrinks : (s : State) (depth : ℕ → ℕ) (a b e base : ℕ) (hs ks : List Hop) → IsSearchState s depth → AreHops s depth a hs base → AreHops s depth b ks base
     → IsTight s e → Joins s.graph s.blossoms e a b → a ≢ b → IsOutermost s base → s.label base ≡ Outer
     → ((c : ℕ) → in_ring (links_up a hs) c ≡ true → in_ring (links_up b ks) c ≡ false)
     → IsShrinkable s depth (circuit_of base e (links_up a hs) (links_up b ks)) base
