@@ -6,7 +6,8 @@ use Rattle.std.proofs.lemmas.Bool.{cases_eq, eq-eqb, ne_eqb}
 use Rattle.std.proofs.lemmas.List.{get_or_read}
 use Rattle.graph_theory.specs.Graph.{Multigraph, IsEdgeNumber, edge_of, edges_around, touches, other_end}
 use Rattle.graph_theory.specs.Parts.{holds}
-use Rattle.dual_check.specs.Crossed.{is_marked, leads_out, total_of}
+use Rattle.graph_parts.specs.Marks.{is_marked}
+use Rattle.dual_check.specs.Crossed.{leads_out, total_of}
 use Rattle.graph_theory.proofs.Members.{holds-take, not_before}
 use Rattle.graph_theory.proofs.Around.{around-at, around-has, around-ascending}
 

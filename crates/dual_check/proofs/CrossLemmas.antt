@@ -8,7 +8,8 @@ use Rattle.graph_theory.specs.declared.odd_set.OddSet.{OddSet}
 use Rattle.graph_theory.specs.Graph.{Multigraph, edge_at, edge_of, other_end}
 use Rattle.graph_theory.specs.Parts.{crosses, holds}
 use Rattle.graph_theory.specs.Duals.{crossed_by, set_at, no_set, IsNumber, dual_of, slack}
-use Rattle.dual_check.specs.Crossed.{is_marked, leads_out}
+use Rattle.graph_parts.specs.Marks.{is_marked}
+use Rattle.dual_check.specs.Crossed.{leads_out}
 use Rattle.graph_theory.specs.declared.limits.TheConstants.{NUMBER_LIMIT}
 use Rattle.graph_theory.proofs.Members.{eqb-turned, holds_at, holds-take, holds-of_take, not_before}
 

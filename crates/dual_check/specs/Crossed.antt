@@ -1,13 +1,11 @@
 -- What is added up at each edge, by its number, in a pass over the sets.
-use Rattle.std.specs.Prelude.{◌≡◌, ℕ, ◌+◌, ◌^◌, ℤ, pos, neg_ℤ, ◌+ℤ◌, ◌≤ℤ◌, Bool, false, not, ◌&&◌, List, length, slice_index_or, if◌then◌else◌}
+use Rattle.std.specs.Prelude.{◌≡◌, ℕ, ◌+◌, ◌^◌, ℤ, pos, neg_ℤ, ◌+ℤ◌, ◌≤ℤ◌, Bool, not, ◌&&◌, List, length, slice_index_or, if◌then◌else◌}
 use Rattle.graph_theory.specs.declared.edge.Edge.{Edge}
 use Rattle.graph_theory.specs.declared.odd_set.OddSet.{OddSet}
 use Rattle.graph_theory.specs.Graph.{Multigraph, IsEdgeNumber, edge_of, touches, other_end}
 use Rattle.graph_theory.specs.Parts.{crosses}
 use Rattle.graph_theory.specs.Duals.{crossed_by}
-
-abbrev pub is_marked : List Bool → ℕ → Bool
-is_marked marks v = slice_index_or marks v false
+use Rattle.graph_parts.specs.Marks.{is_marked}
 
 -- the total at the edge of a number
 abbrev pub total_of : List ℤ → ℕ → ℤ

@@ -1,25 +1,17 @@
 ghost use Rattle.std.specs.Prelude.{◌≡◌, ℕ, ◌+◌, ◌≤◌, false, length, All, IfOk};
 ghost use Rattle.std.specs.List.Sorted.{IsStrictlyIncreasing};
-ghost use Rattle.graph_theory.specs.Graph.{IsEdgeNumber, edge_of, edges_around, other_end};
+ghost use Rattle.graph_theory.specs.Graph.{IsEdgeNumber, edge_of, edges_around};
 ghost use Rattle.graph_theory.specs.Duals.{HasForm, IsNumber, IsSetWithin};
 ghost use Rattle.weighted_graph.specs.Index.{IsIndex};
-ghost use Rattle.dual_check.specs.Crossed.{is_marked, total_of, AddsFrom, AddsSet, AreCrossed, IsWithin};
+ghost use Rattle.graph_parts.specs.Marks.{is_marked};
+ghost use Rattle.dual_check.specs.Crossed.{total_of, AddsFrom, AddsSet, AreCrossed, IsWithin};
 
-use crate::marks::{mark, unmark};
+use crate::marks::unmark;
+use graph_parts::mark_all;
 use graph_theory::OddSet;
 use mb_base::{EdgeId, OutOfMemory, VertexId};
 use std::alloc::Global;
 use weighted_graph::{Graph, Incidence};
-
-/// The end of an edge that is not `vertex`, where `vertex` is an end.
-fn other_end(graph: &Graph, number: EdgeId, vertex: VertexId) -> VertexId
-    requires { IsEdgeNumber graph.now number }
-    ensures end { result ≡ other_end (edge_of graph.now number) vertex }
-    ensures high { result ≤ graph.now.vertices }
-{
-    let (u, v, _) = graph.edge(number);
-    if u == vertex { v } else { u }
-}
 
 /// Adds the dual at each edge of the vertex that leads to a vertex with no mark.
 fn add_from(
@@ -38,7 +30,7 @@ fn add_from(
     ensures { AddsFrom graph.now marks.now vertex dual totals.old totals.new }
 {
     for number in numbers {
-        if !marks[other_end(graph, *number, vertex).number() as usize] {
+        if !marks[graph.other_end(*number, vertex).number() as usize] {
             totals[number.number() as usize] += i128::from(dual);
         }
     }
@@ -64,7 +56,7 @@ fn add_set(
     ensures adds { AddsSet graph.now set.now totals.old totals.new }
 {
     let members = set.members.as_slice();
-    mark(marks, members);
+    mark_all(marks, members);
     for vertex in members {
         add_from(
             graph,

@@ -1,18 +1,8 @@
-ghost use Rattle.std.specs.Prelude.{◌≡◌, ℕ, ◌<◌, ◌||◌, ◌&&◌, not, length, All};
+ghost use Rattle.std.specs.Prelude.{◌≡◌, ℕ, ◌<◌, ◌&&◌, not, length, All};
 ghost use Rattle.graph_theory.specs.Parts.{holds};
-ghost use Rattle.dual_check.specs.Crossed.{is_marked};
+ghost use Rattle.graph_parts.specs.Marks.{is_marked};
 
 use mb_base::VertexId;
-
-/// Marks all members.
-pub(crate) fn mark(marks: &mut [bool], members: &[VertexId])
-    requires { All (λ v. v < length marks.old) members.now }
-    ensures { (w : ℕ) → is_marked marks.new w ≡ (is_marked marks.old w || holds members.now w) }
-{
-    for vertex in members {
-        marks[vertex.number() as usize] = true;
-    }
-}
 
 /// Takes the marks off all members.
 pub(crate) fn unmark(marks: &mut [bool], members: &[VertexId])

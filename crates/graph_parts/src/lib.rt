@@ -9,4 +9,5 @@ mod odd;
 mod search;
 
 pub use components::component;
+pub use marks::mark_all;
 pub use odd::odd_components;

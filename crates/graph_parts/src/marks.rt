@@ -6,7 +6,7 @@ use mb_base::{OutOfMemory, VertexId};
 use std::alloc::Global;
 
 /// Marks all members.
-pub(crate) fn mark_all(marks: &mut [bool], members: &[VertexId])
+pub fn mark_all(marks: &mut [bool], members: &[VertexId])
     requires { All (λ v. v < length marks.old) members.now }
     ensures { (w : ℕ) → is_marked marks.new w ≡ (is_marked marks.old w || holds members.now w) }
 {

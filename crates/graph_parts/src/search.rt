@@ -1,22 +1,11 @@
 ghost use Rattle.std.specs.Prelude.{◌≡◌, ℕ, ◌+◌, ◌<◌, ◌≤◌, false, length, OnOk};
-ghost use Rattle.graph_theory.specs.Graph.{IsGraph, IsEdgeNumber, edge_of, edges_around, other_end};
+ghost use Rattle.graph_theory.specs.Graph.{edges_around};
 ghost use Rattle.weighted_graph.specs.Index.{IsIndex};
 ghost use Rattle.graph_parts.specs.Marks.{is_marked};
 ghost use Rattle.graph_parts.specs.Search.{ReachesOne, ReachesFrom, Finds};
 
 use mb_base::{EdgeId, OutOfMemory, VertexId};
 use weighted_graph::{Graph, Incidence};
-
-/// The end of an edge that is not `vertex`, where `vertex` is an end.
-fn other_end(graph: &Graph, number: EdgeId, vertex: VertexId) -> VertexId
-    requires { IsEdgeNumber graph.now number }
-    ensures end { result ≡ other_end (edge_of graph.now number) vertex }
-    ensures high { result ≤ graph.now.vertices }
-    ensures graph { IsGraph graph.now }
-{
-    let (u, v, _) = graph.edge(number);
-    if u == vertex { v } else { u }
-}
 
 /// Marks and reaches a vertex, unless it is removed or marked.
 fn reach(
@@ -56,7 +45,7 @@ fn reach_from(
     ensures { OnOk result (ReachesFrom graph.now removed.now vertex marks.old reached.old.items marks.new reached.new.items) }
 {
     for number in numbers {
-        reach(removed, other_end(graph, *number, vertex), marks, reached)?;
+        reach(removed, graph.other_end(*number, vertex), marks, reached)?;
     }
     Ok(())
 }

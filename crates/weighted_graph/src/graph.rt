@@ -29,7 +29,7 @@ impl Model for Graph {
 
 impl Graph {
     ghost use Rattle.std.specs.Prelude.{◌≡◌, ◌≢◌, ℕ, ◌+◌, ◌<◌, ◌≤◌, ◌^◌, length, [], ◌∷◌, ◌++◌, OnOk, OnErr, IfOk, ℤ, pos, ◌-◌};
-    ghost use Rattle.graph_theory.specs.Graph.{Multigraph, IsGraph, IsEdgeWithin, IsWeight, IsEdgeNumber, edge_of};
+    ghost use Rattle.graph_theory.specs.Graph.{Multigraph, IsGraph, IsEdgeWithin, IsWeight, IsEdgeNumber, edge_of, other_end};
     ghost use Rattle.weighted_graph.specs.Index.{IsIndex};
 
     /// A graph with n vertices and no edges. It takes no memory.
@@ -93,6 +93,17 @@ impl Graph {
     {
         let edge = self.edges[e.number() as usize - 1];
         (edge.u, edge.v, edge.w)
+    }
+
+    /// The end of an edge that is not `v`, where `v` is an end. It counts no step.
+    pub fn other_end(&self, e: EdgeId, v: VertexId) -> VertexId
+        requires { IsEdgeNumber self.now e }
+        ensures end { result ≡ other_end (edge_of self.now e) v }
+        ensures high { result ≤ self.now.vertices }
+        ensures graph { IsGraph self.now }
+    {
+        let (from, to, _) = self.edge(e);
+        if from == v { to } else { from }
     }
 
     /// How many vertices there are.

@@ -2,7 +2,8 @@ use Rattle.std.proofs.Common.{arith, rules, to_z, of_z, w64, ℤ, sym, ap, ◌�
 use Rattle.std.proofs.lemmas.List.{take_all}
 use Rattle.graph_theory.specs.Graph.{edge_of}
 use Rattle.graph_theory.specs.Parts.{holds}
-use Rattle.dual_check.specs.Crossed.{total_of, is_marked, leads_out}
+use Rattle.graph_parts.specs.Marks.{is_marked}
+use Rattle.dual_check.specs.Crossed.{total_of, leads_out}
 use Rattle.std.proofs.lemmas.Int.{ints}
 use Rattle.dual_check.proofs.AddLemmas.{next_edge, all_edges, written_next, passed_next}
 use Rattle.dual_check.proofs.crossings.add_from.Goals as goal

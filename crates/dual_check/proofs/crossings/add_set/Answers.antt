@@ -3,7 +3,8 @@ use Rattle.std.proofs.lemmas.Int.{ints}
 use Rattle.std.proofs.lemmas.List.{get_or_read}
 use Rattle.graph_theory.specs.Graph.{edge_of}
 use Rattle.graph_theory.specs.Parts.{holds}
-use Rattle.dual_check.specs.Crossed.{is_marked, leads_out, total_of}
+use Rattle.graph_parts.specs.Marks.{is_marked}
+use Rattle.dual_check.specs.Crossed.{leads_out, total_of}
 use Rattle.dual_check.proofs.CrossLemmas.{next_given}
 use Rattle.dual_check.proofs.crossings.add_set.Goals as goal
 
@@ -16,13 +17,13 @@ loop-vertex-preserved c =
     let list = c.as_slice-members.ensures in
     let within : i < length s = subst (λ (xs : List ℕ). i < length xs) list c.loop-vertex-test.true in
     let here : x ≡ get_or s i 0 = get_or_read c.as_slice-members.result.now i x c.loop-vertex-test.true c.vertex-item.is 0 ∙ ap (λ (xs : List ℕ). get_or xs i 0) list in
-    let marked : (w : ℕ) → is_marked c.mark.new.marks w ≡ holds s w = λ w.
-    c.mark.ensures w ∙ ap (λ t. t || holds c.as_slice-members.result.now w) (c.requires.none w) ∙ ap (λ (xs : List ℕ). holds xs w) list in
+    let marked : (w : ℕ) → is_marked c.mark_all.new.marks w ≡ holds s w = λ w.
+    c.mark_all.ensures w ∙ ap (λ t. t || holds c.as_slice-members.result.now w) (c.requires.none w) ∙ ap (λ (xs : List ℕ). holds xs w) list in
     let same : to_z w64 (of_z w64 c.args.set.now.dual) ≡ c.args.set.now.dual = omega (arith, ints, c.requires.dual.0, c.requires.dual.1) in
     record {
       size = c.add_from.ensures.size ∙ c.loop-vertex.invariant.size;
       exact = λ e b.
-          let step = next_given s c.mark.new.marks i x (edge_of g e) c.args.set.now.dual c.requires.ascending within here marked in
-          let added = c.add_from.ensures.exact e b ∙ ap (λ (z : ℤ). total_of c.loop-vertex.totals e +ℤ cond (leads_out c.mark.new.marks x (edge_of g e)) z (pos 0)) same in
+          let step = next_given s c.mark_all.new.marks i x (edge_of g e) c.args.set.now.dual c.requires.ascending within here marked in
+          let added = c.add_from.ensures.exact e b ∙ ap (λ (z : ℤ). total_of c.loop-vertex.totals e +ℤ cond (leads_out c.mark_all.new.marks x (edge_of g e)) z (pos 0)) same in
           omega (arith, ints, added, c.loop-vertex.invariant.exact e b, step);
     }

@@ -4,7 +4,8 @@ use Rattle.std.proofs.lemmas.List.{with_items_is}
 use Rattle.std.specs.Vec.{with_items}
 use Rattle.graph_theory.specs.Graph.{edge_of}
 use Rattle.graph_theory.specs.Parts.{crosses}
-use Rattle.dual_check.specs.Crossed.{total_of, is_marked}
+use Rattle.graph_parts.specs.Marks.{is_marked}
+use Rattle.dual_check.specs.Crossed.{total_of}
 use Rattle.graph_theory.proofs.Duality.{crossed_by-more}
 use Rattle.dual_check.proofs.CrossLemmas.{crossed-within}
 use Rattle.dual_check.proofs.crossings.crossed_all.Goals as goal

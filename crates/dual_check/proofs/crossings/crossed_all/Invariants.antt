@@ -1,7 +1,8 @@
 use Rattle.std.proofs.Common.{◌≡◌, ℕ, ◌+◌, false, length}
 use Rattle.graph_theory.specs.Duals.{crossed_by}
 use Rattle.graph_theory.specs.Graph.{IsEdgeNumber, edge_of}
-use Rattle.dual_check.specs.Crossed.{total_of, is_marked}
+use Rattle.graph_parts.specs.Marks.{is_marked}
+use Rattle.dual_check.specs.Crossed.{total_of}
 use Rattle.dual_check.proofs.crossings.crossed_all.Given as goal
 
 abbrev pub invariant-loop-set : goal.invariant-loop-set

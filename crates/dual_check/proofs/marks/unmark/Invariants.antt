@@ -1,6 +1,6 @@
 use Rattle.std.proofs.Common.{◌≡◌, ℕ, ◌&&◌, not, take}
 use Rattle.graph_theory.specs.Parts.{holds}
-use Rattle.dual_check.specs.Crossed.{is_marked}
+use Rattle.graph_parts.specs.Marks.{is_marked}
 use Rattle.dual_check.proofs.marks.unmark.Given as goal
 
 abbrev pub invariant-loop-vertex : goal.invariant-loop-vertex
