@@ -1,5 +1,6 @@
 use dimacs_read::{InstanceError, Rule, read};
-use mb_problem::Kind;
+use mb_base::VertexId;
+use mb_problem::{InstanceEdge, Kind};
 use std::alloc::Global;
 use std::test::Fail;
 
@@ -34,49 +35,75 @@ fn refusals_by_kind(rt: HostRuntime) -> Result<(), Fail> {
     Ok(())
 }
 
-/// What an instance of one edge holds: the edge's ends, weight and capacity, the values of vertices,
-/// and the number of the line after it.
-type Held<'a> = (u32, u32, i64, Option<u32>, &'a [u32], u64);
+/// An instance of one edge, the bytes behind it and the number of their first line.
+#[derive(Clone, Copy)]
+struct Held {
+    edge: InstanceEdge,
+    values: &'static [u32],
+    follows: &'static [u8],
+    line: u64,
+}
+
+fn edge(u: u32, v: u32, w: i64, capacity: Option<u32>) -> InstanceEdge {
+    InstanceEdge {
+        u: VertexId::new(u),
+        v: VertexId::new(v),
+        w,
+        capacity,
+    }
+}
+
+/// Whether a text, with what follows it, is read as that.
+fn reads_as(alloc: Global, text: &[u8], kind: Kind, held: &Held) -> Result<bool, Fail> {
+    let mut input = Vec::from_slice(alloc, text)?;
+    input.extend_from_slice(held.follows)?;
+    let Ok((instance, rest)) = read(alloc, &input, kind) else {
+        return Ok(false);
+    };
+    Ok(
+        instance.edge_list() == [held.edge].as_slice()
+            && instance.value_list() == held.values
+            && rest.bytes.as_slice() == held.follows
+            && rest.line == held.line,
+    )
+}
 
 #[test]
 fn an_edge_and_what_follows(rt: HostRuntime) -> Result<(), Fail> {
-    let document = b"s OPTIMAL perfect 5\nx 1 1\ny 1 5\ny 2 5\n".as_slice();
-    let rows: [(&[u8], &[u8], Kind, Held); 3] = [
+    let rows: [(&[u8], Kind, Held); 3] = [
         (
             b"p edge 2 1\ne 1 2 5\n",
-            document,
             Kind::Perfect,
-            (1, 2, 5, None, &[0, 0], 3),
+            Held {
+                edge: edge(1, 2, 5, None),
+                values: &[0, 0],
+                follows: b"s OPTIMAL perfect 5\nx 1 1\ny 1 5\ny 2 5\n",
+                line: 3,
+            },
         ),
         (
             b"c x\r\np col 02 1\r\n\r\n  e\t2 1 -0\n",
-            b"s OPTIMAL\nx",
             Kind::BMatch,
-            (2, 1, 0, None, &[1, 1], 5),
+            Held {
+                edge: edge(2, 1, 0, None),
+                values: &[1, 1],
+                follows: b"s OPTIMAL\nx",
+                line: 5,
+            },
         ),
         (
             b"p edge 3 1\nn 2 7\ne 1 3 -4 6\nn 1 0",
-            b"",
             Kind::CapMatch,
-            (1, 3, -4, Some(6), &[0, 7, 1], 5),
+            Held {
+                edge: edge(1, 3, -4, Some(6)),
+                values: &[0, 7, 1],
+                follows: b"",
+                line: 5,
+            },
         ),
     ];
-    for (text, follows, kind, (u, v, w, capacity, values, line)) in rows {
-        let mut input = Vec::from_slice(rt.alloc(), text)?;
-        input.extend_from_slice(follows)?;
-        match read(rt.alloc(), &input, kind) {
-            Ok((instance, rest)) => {
-                for edge in instance.edge_list() {
-                    assert_eq!(rt; (edge.u.number(), edge.v.number()), (u, v));
-                    assert_eq!(rt; (edge.w, edge.capacity), (w, capacity));
-                }
-                assert_eq!(rt; instance.edges(), 1);
-                assert_eq!(rt; instance.value_list(), values);
-                assert_eq!(rt; rest.bytes.as_slice(), follows);
-                assert_eq!(rt; rest.line, line);
-            }
-            Err(_) => assert!(rt; false),
-        }
+    for (text, kind, held) in &rows {
+        assert!(rt; reads_as(rt.alloc(), *text, *kind, held)?);
     }
     Ok(())
 }

@@ -2,60 +2,72 @@ use mb_base::{
     EdgeId, MemSink, MemSource, ReadAll, Sequence, SureSink, SureSource, VertexId, WriteFault,
     read_all, write_all,
 };
+use std::alloc::Global;
 use std::test::Fail;
+
+/// What comes through a source and into a sink, in pieces of this size.
+fn copied(alloc: Global, text: &[u8], piece: usize) -> Result<Vec<u8>, Fail> {
+    let piece = piece.max(1);
+    let mut source = SureSource::new(Vec::from_slice(alloc, text)?, piece);
+    let mut sink = SureSink::new(alloc, 100, piece)?;
+    if let Ok(read) = read_all(alloc, &mut source, 100)
+        && let Err(_) = write_all(&mut sink, &read)
+    {
+        return Ok(Vec::new(alloc));
+    }
+    Ok(Vec::from_slice(alloc, sink.kept())?)
+}
 
 // With ample memory no call answers want of it.
 #[test]
 fn all_bytes_come_and_go(rt: HostRuntime) -> Result<(), Fail> {
-    let alloc = rt.alloc();
+    let text = b"seven b".as_slice();
     for piece in [1usize, 3, 100] {
-        let mut source = SureSource::new(Vec::from_slice(alloc, b"seven b")?, piece);
-        match read_all(alloc, &mut source, 7) {
-            Ok(read) => {
-                let mut sink = SureSink::new(alloc, 7, piece)?;
-                assert_eq!(rt; write_all(&mut sink, &read), Ok(()));
-                assert_eq!(rt; sink.kept(), b"seven b".as_slice());
-            }
-            Err(_) => assert!(rt; false),
-        }
+        let copy = copied(rt.alloc(), text, piece)?;
+        assert_eq!(rt; copy.as_slice(), text);
     }
     Ok(())
 }
 
+/// How reading three bytes fails, one at a time, where the call of this number does.
+fn fault_of_read(alloc: Global, call: u64, limit: u64) -> Result<Option<ReadAll>, Fail> {
+    let bytes = Vec::from_slice(alloc, b"abc")?;
+    let mut source = MemSource::new(bytes, 1, vec![in alloc; call]?);
+    Ok(read_all(alloc, &mut source, limit.min(100)).err())
+}
+
 #[test]
 fn reads_fail_at_their_calls(rt: HostRuntime) -> Result<(), Fail> {
-    let alloc = rt.alloc();
-    let rows: [(u64, u64, Option<ReadAll>); 6] = [
-        (1, 3, Some(ReadAll::ReadFault)),
-        (2, 3, Some(ReadAll::ReadFault)),
-        (4, 3, Some(ReadAll::ReadFault)),
+    let fault = Some(ReadAll::ReadFault);
+    let rows = [
+        (1, 3, fault),
+        (2, 3, fault),
+        (4, 3, fault),
         (5, 3, None),
         (0, 3, None),
         (0, 2, Some(ReadAll::TooLong)),
     ];
     for (call, limit, wanted) in rows {
-        let bytes = Vec::from_slice(alloc, b"abc")?;
-        let mut source = MemSource::new(bytes, 1, vec![in alloc; call]?);
-        let fault = read_all(alloc, &mut source, limit).err();
-        assert_eq!(rt; fault, wanted, "call {call}");
+        assert_eq!(rt; fault_of_read(rt.alloc(), call, limit)?, wanted);
     }
     Ok(())
 }
 
+/// How writing four bytes ends, one at a time, where the call of this number fails, and how many are kept.
+fn end_of_write(alloc: Global, call: u64) -> Result<(Result<(), WriteFault>, usize), Fail> {
+    let mut sink = MemSink::new(alloc, 4, 1, vec![in alloc; call]?)?;
+    let end = write_all(&mut sink, b"abcd");
+    Ok((end, sink.kept().len()))
+}
+
 #[test]
 fn writes_fail_at_their_calls(rt: HostRuntime) -> Result<(), Fail> {
-    let alloc = rt.alloc();
-    let rows: [(u64, Result<(), WriteFault>, &[u8]); 4] = [
-        (1, Err(WriteFault { done: 0 }), b""),
-        (2, Err(WriteFault { done: 1 }), b"a"),
-        (4, Err(WriteFault { done: 3 }), b"abc"),
-        (5, Ok(()), b"abcd"),
-    ];
-    for (call, wanted, kept) in rows {
-        let mut sink = MemSink::new(alloc, 4, 1, vec![in alloc; call]?)?;
-        assert_eq!(rt; write_all(&mut sink, b"abcd"), wanted, "call {call}");
-        assert_eq!(rt; sink.kept(), kept, "call {call}");
+    for call in 1..5u64 {
+        let done = call as usize - 1;
+        let wanted = (Err(WriteFault { done }), done);
+        assert_eq!(rt; end_of_write(rt.alloc(), call)?, wanted);
     }
+    assert_eq!(rt; end_of_write(rt.alloc(), 5)?, (Ok(()), 4));
     Ok(())
 }
 
