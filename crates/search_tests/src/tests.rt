@@ -1,3 +1,4 @@
+mod engine;
 mod events;
 mod instances;
 mod looks;
@@ -5,13 +6,16 @@ mod passes;
 mod range;
 mod results;
 mod rows;
+mod runs;
 mod tally;
 
 use alt_forest::Search;
+use engine::ends_with;
 use instances::instance_of;
 use passes::passed;
 use results::{has_mates, is_best};
 use rows::{ALL_EVENTS, DEEP_BLOSSOMS, Row, TWO_TRIANGLES};
+use runs::RUNS;
 use std::alloc::Global;
 use std::marker::Brand;
 use std::process::Abort;
@@ -32,6 +36,31 @@ fn expect_best(
     let search = passed::<Brand>(rt, alloc, &graph, start, tally, Blank::new(1))?;
     assert!(rt; is_best(alloc, &instance, &search)?, "{name}");
     Ok(search)
+}
+
+/// Whether a run of the engine over a row's graph ends with what the row says.
+fn runs_as(
+    rt: &impl Abort,
+    alloc: Global,
+    vertices: u32,
+    edges: &[(u32, u32, i64)],
+    matched: bool,
+    marks: &[u32],
+) -> Result<bool, Fail> {
+    let instance = instance_of(rt, alloc, vertices, edges)?;
+    let graph = instance.graph()?;
+    Ok(ends_with::<Brand>(rt, alloc, &graph, matched, marks, Blank::new(1))?)
+}
+
+#[test]
+fn runs_end_with_a_matching_or_a_barrier(rt: HostRuntime) -> Result<(), Fail> {
+    for (name, vertices, edges, matched, marks) in &RUNS {
+        assert!(rt;
+            runs_as(&rt, rt.alloc(), *vertices, edges, *matched, marks)?,
+            "{name}"
+        );
+    }
+    Ok(())
 }
 
 #[test]

@@ -4,8 +4,9 @@ ghost use Rattle.mb_problem.specs.Network.{IsInstanceEdge, vertices};
 ghost use Rattle.alt_forest.specs.declared.label.Weights.TheVariants.{Given};
 ghost use Rattle.alt_forest.specs.Searches.{IsSearchGraph, IsStart};
 
+use graph_theory::{GRAPH_EDGE_LIMIT, GRAPH_VERTEX_LIMIT, WEIGHT_LIMIT};
 use mb_base::{EdgeId, OutOfMemory, VertexId};
-use mb_problem::Instance;
+use mb_problem::{Instance, VERTEX_LIMIT};
 use std::alloc::Global;
 use std::process::Abort;
 use weighted_graph::Graph;
@@ -21,7 +22,7 @@ fn is_edge(instance: &Instance, u: u32, v: u32, w: i64) -> bool
     if v < 1 || n < v {
         return false;
     }
-    if w < -1_000_000_000 || 1_000_000_000 < w {
+    if w < -WEIGHT_LIMIT || WEIGHT_LIMIT < w {
         return false;
     }
     u != v
@@ -36,7 +37,7 @@ pub fn instance_of(
 ) -> Result<Instance, OutOfMemory>
     ensures { IfOk result (λ i. length i.edges ≤ 20) }
 {
-    assert!(rt; vertices <= 4096);
+    assert!(rt; vertices <= VERTEX_LIMIT);
     let mut instance = Instance::new(alloc, vertices, 1)?;
     for (u, v, w) in edges {
         assert!(rt; instance.edges() < 20);
@@ -51,17 +52,17 @@ pub fn instance_of(
 pub fn is_small(graph: &Graph) -> bool
     ensures { result ≡ true → IsSearchGraph graph.now }
 {
-    if graph.vertices() > 4096 {
+    if graph.vertices() > GRAPH_VERTEX_LIMIT {
         return false;
     }
-    graph.edges() <= 1_048_576
+    graph.edges() <= GRAPH_EDGE_LIMIT
 }
 
 /// Whether this is a weight, and no weight of an edge is below it.
 pub fn can_start(graph: &Graph, start: i64) -> bool
     ensures { result ≡ true → IsStart graph.now Given start }
 {
-    if start < -1_000_000_000 || 1_000_000_000 < start {
+    if start < -WEIGHT_LIMIT || WEIGHT_LIMIT < start {
         return false;
     }
     is_least(graph, start)
