@@ -1,12 +1,14 @@
 mod back;
 mod cases;
+mod feasible_answers;
+mod looked_up;
 mod there;
 
 use back::{counts_of, join_of};
-use cases::{ANSWERS, Case, GRAPHS, JOIN};
+use cases::{ANSWERS, Case, GRAPHS, JOINS, SIZES};
 use dimacs_read::read;
 use mb_base::EdgeId;
-use mb_problem::{Instance, Kind};
+use mb_problem::{Instance, Kind, gadget_size};
 use std::alloc::Global;
 use std::test::Fail;
 use there::{graph_of, is_graph};
@@ -17,6 +19,15 @@ fn instance(alloc: Global, text: &[u8], kind: Kind) -> Option<Instance> {
         Ok((instance, _)) => Some(instance),
         Err(_) => None,
     }
+}
+
+#[test]
+fn sizes_of_graphs(rt: HostRuntime) -> Result<(), Fail> {
+    for (kind, text, size) in &SIZES {
+        let instance = instance(rt.alloc(), *text, *kind);
+        assert!(rt; instance.is_some_and(|instance| gadget_size(&instance, *kind) == *size));
+    }
+    Ok(())
 }
 
 /// Whether the graph of a case is the one that is wanted.
@@ -66,14 +77,15 @@ fn are_numbers(edges: &[EdgeId], numbers: &[u32]) -> bool {
 }
 
 #[test]
-fn join_of_a_perfect_matching(rt: HostRuntime) -> Result<(), Fail> {
+fn joins_of_perfect_matchings(rt: HostRuntime) -> Result<(), Fail> {
     let alloc = rt.alloc();
-    let (text, matching, wanted) = JOIN;
-    let Some(instance) = instance(alloc, text, Kind::TJoin) else {
-        assert!(rt; false);
-        return Ok(());
-    };
-    let join = join_of(alloc, &instance, matching)?;
-    assert!(rt; join.is_some_and(|join| are_numbers(join.edges.as_slice(), wanted)));
+    for (kind, text, matching, wanted) in &JOINS {
+        let Some(instance) = instance(alloc, *text, *kind) else {
+            assert!(rt; false);
+            return Ok(());
+        };
+        let join = join_of(alloc, &instance, *kind, *matching)?;
+        assert!(rt; join.is_some_and(|join| are_numbers(join.edges.as_slice(), *wanted)));
+    }
     Ok(())
 }

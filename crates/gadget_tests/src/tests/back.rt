@@ -65,7 +65,7 @@ fn is_perfect(graph: &Graph, edges: &[EdgeId]) -> bool
 }
 
 /// The edges of these numbers.
-fn numbered(alloc: Global, numbers: &[u32]) -> Result<Vec<EdgeId>, OutOfMemory> {
+pub fn numbered(alloc: Global, numbers: &[u32]) -> Result<Vec<EdgeId>, OutOfMemory> {
     let mut edges = Vec::new(alloc);
     for number in numbers {
         edges.push(EdgeId::new(*number))?;
@@ -104,15 +104,20 @@ pub fn counts_of(
 pub fn join_of(
     alloc: Global,
     instance: &Instance,
+    kind: Kind,
     numbers: &[u32],
 ) -> Result<Option<Join>, OutOfMemory> {
-    let Some(graph) = graph_of(alloc, instance, Kind::TJoin)? else {
+    let Some(graph) = graph_of(alloc, instance, kind)? else {
         return Ok(None);
     };
     let edges = numbered(alloc, numbers)?;
     if !is_perfect(&graph, &edges) {
         return Ok(None);
     }
-    let join = gadget_tjoin::extract(alloc, instance, &Parity::Values, &edges)?;
+    let join = match kind {
+        Kind::TJoin => gadget_tjoin::extract(alloc, instance, &Parity::Values, &edges)?,
+        Kind::Postman => gadget_tjoin::extract(alloc, instance, &Parity::OddDegrees, &edges)?,
+        _ => return Ok(None),
+    };
     Ok(Some(join))
 }

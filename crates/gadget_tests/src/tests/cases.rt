@@ -1,5 +1,33 @@
 use mb_problem::Kind;
 
+/// An instance, and how many vertices and edges its graph has.
+type Sized = (Kind, &'static [u8], (u64, u64));
+
+pub const SIZES: [Sized; 6] = [
+    (Kind::Match, b"p edge 4096 0\n", (8192, 4096)),
+    (
+        Kind::BMatch,
+        b"p edge 2 1\nn 1 2049\nn 2 2049\ne 1 2 1\n",
+        (4098, 4_198_401),
+    ),
+    (
+        Kind::BMatch,
+        b"p edge 2 1\nn 1 1024\nn 2 1024\ne 1 2 1\n",
+        (2048, 1_048_576),
+    ),
+    (
+        Kind::CapMatch,
+        b"p edge 2 1\nn 1 2\nn 2 2\ne 1 2 4 1\n",
+        (6, 5),
+    ),
+    (Kind::Postman, b"p edge 3 2\ne 1 2 4\ne 2 3 6\n", (4, 3)),
+    (
+        Kind::Path,
+        b"p edge 3 3\nn 1 1\nn 3 1\ne 1 2 3\ne 2 3 -1\ne 1 3 4\n",
+        (8, 10),
+    ),
+];
+
 /// An instance, and the graph that its certificates speak of.
 pub struct Case {
     pub kind: Kind,
@@ -8,9 +36,22 @@ pub struct Case {
     pub edges: &'static [(u32, u32, i64)],
 }
 
+const PARALLEL: &[u8] = b"p edge 2 2\ne 1 2 5\ne 1 2 7\n";
+
+/// One edge with capacity 1, one without a capacity, and one with capacity 0.
+const CAPACITIES: &[u8] = b"p edge 2 3\nn 1 2\nn 2 2\ne 1 2 4 1\ne 1 2 7\ne 2 1 -1 0\n";
+
+const FACTORS: &[u8] = b"p edge 2 3\nn 1 2\nn 2 2\ne 1 2 4\ne 1 2 7\ne 2 1 -1\n";
+
+/// The middle vertex has value 2.
+const PATH: &[u8] = b"p edge 3 2\nn 2 2\ne 1 2 4\ne 3 2 -1\n";
+
+/// Two edges between odd vertices, and a third vertex without an edge.
+const ODD_ENDS: &[u8] = b"p edge 3 2\nn 1 1\nn 2 3\ne 1 2 5\ne 2 1 -3\n";
+
 const TRIANGLE: &[u8] = b"p edge 3 3\ne 1 2 -1\ne 2 3 -1\ne 1 3 1\n";
 
-pub const GRAPHS: [Case; 7] = [
+pub const GRAPHS: [Case; 12] = [
     Case {
         kind: Kind::Match,
         text: b"p edge 2 1\ne 1 2 -5\n",
@@ -72,12 +113,93 @@ pub const GRAPHS: [Case; 7] = [
             (7, 8, 0),
         ],
     },
+    Case {
+        kind: Kind::Match,
+        text: PARALLEL,
+        vertices: 4,
+        edges: &[
+            (1, 2, -5),
+            (3, 4, -5),
+            (1, 2, -7),
+            (3, 4, -7),
+            (1, 3, 0),
+            (2, 4, 0),
+        ],
+    },
+    Case {
+        kind: Kind::BMatch,
+        text: PATH,
+        vertices: 4,
+        edges: &[(1, 2, 4), (1, 3, 4), (4, 2, -1), (4, 3, -1)],
+    },
+    Case {
+        kind: Kind::CapMatch,
+        text: CAPACITIES,
+        vertices: 10,
+        edges: &[
+            (1, 5, 4),
+            (2, 5, 4),
+            (5, 6, 0),
+            (6, 3, 0),
+            (6, 4, 0),
+            (1, 7, 7),
+            (1, 8, 7),
+            (2, 7, 7),
+            (2, 8, 7),
+            (7, 9, 0),
+            (7, 10, 0),
+            (8, 9, 0),
+            (8, 10, 0),
+            (9, 3, 0),
+            (9, 4, 0),
+            (10, 3, 0),
+            (10, 4, 0),
+        ],
+    },
+    Case {
+        kind: Kind::FFactor,
+        text: FACTORS,
+        vertices: 10,
+        edges: &[
+            (1, 5, 4),
+            (2, 5, 4),
+            (5, 6, 0),
+            (6, 3, 0),
+            (6, 4, 0),
+            (1, 7, 7),
+            (2, 7, 7),
+            (7, 8, 0),
+            (8, 3, 0),
+            (8, 4, 0),
+            (3, 9, -1),
+            (4, 9, -1),
+            (9, 10, 0),
+            (10, 1, 0),
+            (10, 2, 0),
+        ],
+    },
+    // A spare stands at each end.
+    Case {
+        kind: Kind::TJoin,
+        text: ODD_ENDS,
+        vertices: 6,
+        edges: &[
+            (1, 4, 5),
+            (5, 2, -3),
+            (1, 2, 0),
+            (1, 3, 0),
+            (2, 3, 0),
+            (4, 5, 0),
+            (4, 6, 0),
+            (5, 6, 0),
+        ],
+    },
 ];
 
 /// An instance, the edges of a perfect matching of its graph, and the counts that these stand for.
 type Back = (Kind, &'static [u8], &'static [u32], &'static [u32]);
 
-pub const ANSWERS: [Back; 4] = [
+pub const ANSWERS: [Back; 10] = [
     (
         Kind::Match,
         b"p edge 4 3\ne 1 2 2\ne 2 3 3\ne 3 4 2\n",
@@ -97,7 +219,24 @@ pub const ANSWERS: [Back; 4] = [
         &[1, 4, 7, 9, 12, 14, 17, 20, 23, 28],
         &[1, 1, 1, 1, 0, 0],
     ),
+    // The second copy weighs more.
+    (Kind::Match, PARALLEL, &[1, 4], &[0, 1]),
+    // Both copies weigh the same.
+    (Kind::Match, PARALLEL, &[2, 1], &[1, 0]),
+    (Kind::BMatch, PATH, &[2, 3], &[1, 1]),
+    (Kind::CapMatch, CAPACITIES, &[1, 4, 8, 15, 13], &[1, 1, 0]),
+    (Kind::CapMatch, CAPACITIES, &[17, 14, 9, 6, 3], &[0, 2, 0]),
+    (Kind::FFactor, FACTORS, &[1, 4, 8, 12, 15], &[1, 0, 1]),
 ];
 
-/// A triangle without odd vertices, the edges of a perfect matching of its graph, and the join that they stand for.
-pub const JOIN: (&[u8], &[u32], &[u32]) = (TRIANGLE, &[3, 1, 2], &[1, 2, 3]);
+/// The same where the answer is a join.
+pub const JOINS: [Back; 3] = [
+    (Kind::TJoin, TRIANGLE, &[3, 1, 2], &[1, 2, 3]),
+    (Kind::TJoin, ODD_ENDS, &[4, 2, 7], &[2]),
+    (
+        Kind::Postman,
+        b"p edge 3 2\ne 1 2 4\ne 2 3 6\n",
+        &[1, 2],
+        &[1, 2],
+    ),
+];

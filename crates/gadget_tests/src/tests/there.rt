@@ -4,6 +4,7 @@ ghost use Rattle.gadget_base.specs.Certified.{gadget_graph};
 use gadget_cap::capped;
 use gadget_match::{copies, double};
 use gadget_tjoin::ports;
+use graph_theory::{GRAPH_EDGE_LIMIT, GRAPH_VERTEX_LIMIT};
 use mb_base::OutOfMemory;
 use mb_problem::{Instance, Kind, Parity, gadget_size};
 use std::alloc::Global;
@@ -19,10 +20,10 @@ pub fn graph_of(
     ensures { IfOk result (λ found. IfSome found (λ h. h ≡ gadget_graph kind instance.now)) }
 {
     let (vertices, edges) = gadget_size(instance, kind);
-    if vertices > 4096 {
+    if vertices > u64::from(GRAPH_VERTEX_LIMIT) {
         return Ok(None);
     }
-    if edges > 1_048_576 {
+    if edges > u64::from(GRAPH_EDGE_LIMIT) {
         return Ok(None);
     }
     let graph = match kind {
