@@ -2,7 +2,6 @@
 use Rattle.std.proofs.Common.{◌≡◌, ◌≢◌, ℕ, ◌+◌, ◌-◌, ◌*◌, ◌<◌, ◌≤◌, ◌⊎◌, ℤ, pos, neg_ℤ, refl, ap, subst, ◌∙◌, inl, inr, arith, List, [], ◌∷◌, length, slice_index, slice_index_or, All, length-append}
 use Rattle.std.proofs.lemmas.Int.{ints}
 use Rattle.std.proofs.lemmas.Bool.{cases_lt}
-use Rattle.std.proofs.Math.Nat.{mul-le-mul}
 use Rattle.std.proofs.lemmas.List.{get_or_read}
 use Rattle.std.proofs.lemmas.List.Elements.{All-append, All-cons, All-nil}
 use Rattle.graph_theory.specs.declared.edge.Edge.{Edge}
@@ -27,23 +26,15 @@ All-two P x y one two = All-cons P x (y ∷ []) one (All-cons P y [] two (All-ni
 pub edge-ends : (i : Network) (k : ℕ) → IsNetwork i → k < length i.edges → IsEdgeWithin (vertices i) (plain (instance_edge_at i k))
 edge-ends i k network b = let e : IsInstanceEdge (vertices i) (instance_edge_at i k) = network.edges k no_instance_edge b in e.ends
 
+pub edge-weight : (i : Network) (k : ℕ) → IsNetwork i → k < length i.edges → IsWeight (instance_edge_at i k).w
+edge-weight i k network b = let e : IsInstanceEdge (vertices i) (instance_edge_at i k) = network.edges k no_instance_edge b in e.weight
+
 -- an edge that was read is the one at its place
 pub edge_here : (i : Network) (es : List InstanceEdge) (k : ℕ) (e : InstanceEdge) → es ≡ i.edges → k < length es → e ≡ slice_index_or es k e → e ≡ instance_edge_at i k
 edge_here i es k e same b is = get_or_read es k e b is no_instance_edge ∙ ap (λ (xs : List InstanceEdge). slice_index_or xs k no_instance_edge) same
 
 pub place_here : (i : Network) (es : List InstanceEdge) (k : ℕ) → es ≡ i.edges → k < length es → k < length i.edges
 place_here i es k same b = subst (λ (xs : List InstanceEdge). k < length xs) same b
-
--- values are small
-
-pub value-small : (i : Network) (t : ℕ) → IsNetwork i → 1 ≤ t → t ≤ vertices i → value_of i t ≤ 4096
-value-small i t network low high = network.values (t - 1) 0 (omega arith)
-
-pub product-small : (a b : ℕ) → a ≤ 4096 → b ≤ 4096 → a * b ≤ 16777216
-product-small a b h h' = mul-le-mul h h'
-
-pub edge-weight : (i : Network) (k : ℕ) → IsNetwork i → k < length i.edges → IsWeight (instance_edge_at i k).w
-edge-weight i k network b = let e : IsInstanceEdge (vertices i) (instance_edge_at i k) = network.edges k no_instance_edge b in e.weight
 
 -- copies of vertices
 

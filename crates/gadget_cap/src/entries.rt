@@ -1,6 +1,7 @@
 ghost use Rattle.std.specs.Prelude.{◌≡◌, ℕ, ◌+◌, ◌*◌, ◌<◌, ◌≤◌, length, slice_index, IfOk};
 ghost use Rattle.graph_theory.specs.Graph.{IsEdgeWithin};
 ghost use Rattle.graph_theory.specs.Walk.{walk_weight};
+ghost use Rattle.mb_problem.specs.declared.limits.TheConstants.{EDGE_LIMIT};
 ghost use Rattle.mb_problem.specs.Network.{vertices, plain, value_of};
 ghost use Rattle.mb_problem.specs.Feasible.{IsFeasible, weight_of};
 ghost use Rattle.gadget_base.specs.Certified.{gadget_graph, IsPerfectList};
@@ -30,7 +31,7 @@ fn gate_sizes(instance: &Instance, unit: bool, edge: &InstanceEdge) -> (u32, u32
 fn all_gate_sizes(alloc: Global, instance: &Instance, unit: bool) -> Result<Vec<u32>, OutOfMemory>
     ensures size { IfOk result (λ sizes. length sizes.items ≡ length instance.now.edges) }
     ensures each { IfOk result (λ sizes. (k : ℕ) → k < length instance.now.edges → slice_index sizes.items k ≡ gate_size instance.now (capped_room unit instance.now) k) }
-    ensures few { length instance.now.edges ≤ 65536 }
+    ensures few { length instance.now.edges ≤ EDGE_LIMIT }
 {
     let mut sizes = Vec::with_capacity(alloc, instance.edges() as usize)?;
     for edge in instance.edge_list() {

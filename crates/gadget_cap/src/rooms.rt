@@ -1,5 +1,6 @@
 ghost use Rattle.std.specs.Prelude.{◌≡◌, ℕ, ◌≤◌, min};
 ghost use Rattle.graph_theory.specs.Graph.{IsEdgeWithin};
+ghost use Rattle.mb_problem.specs.declared.limits.TheConstants.{VALUE_LIMIT};
 ghost use Rattle.mb_problem.specs.Network.{vertices, plain, value_of};
 ghost use Rattle.mb_problem.specs.Size.{bounded};
 ghost use Rattle.gadget_cap.specs.Capped.{capped_kind, limit_of, room_at};
@@ -35,7 +36,7 @@ fn bounded(limit: Option<u32>, most: u32) -> u32
 pub fn room_at(instance: &Instance, unit: bool, edge: &InstanceEdge) -> u32
     requires { IsEdgeWithin (vertices instance.now) (plain edge.now) }
     ensures room { result ≡ room_at unit instance.now edge.now }
-    ensures small { result ≤ 4096 }
+    ensures small { result ≤ VALUE_LIMIT }
 {
     let most = instance.value(edge.u).min(instance.value(edge.v));
     bounded(limit_of(unit, edge), most)

@@ -12,6 +12,7 @@ use dimacs_read::read;
 use gadget_cap::capped;
 use gadget_match::{copies, double};
 use gadget_tjoin::ports;
+use graph_theory::{GRAPH_EDGE_LIMIT, GRAPH_VERTEX_LIMIT};
 use mb_base::{OutOfMemory, RealIn, RealOut, number, read_all, write_all};
 use mb_problem::{Instance, Kind, Parity, gadget_size};
 use std::alloc::Global;
@@ -67,7 +68,7 @@ fn main(rt: HostRuntime) -> ExitCode {
         return ExitCode::from(3u8);
     };
     let (vertices, edges) = gadget_size(&instance, kind);
-    if vertices > 4096 || edges > 1_048_576 {
+    if vertices > u64::from(GRAPH_VERTEX_LIMIT) || edges > u64::from(GRAPH_EDGE_LIMIT) {
         return ExitCode::from(4u8);
     }
     let mut built = 0;

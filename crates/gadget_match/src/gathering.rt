@@ -1,5 +1,6 @@
 ghost use Rattle.std.specs.Prelude.{◌≡◌, ℕ, ◌+◌, ◌-◌, ◌*◌, ◌<◌, ◌≤◌, ◌^◌, ◌==◌, if◌then◌else◌, length, slice_index, All, IfOk};
 ghost use Rattle.graph_theory.specs.Walk.{walk_weight};
+ghost use Rattle.mb_problem.specs.declared.limits.TheConstants.{EDGE_LIMIT};
 ghost use Rattle.mb_problem.specs.declared.kind.Kind.TheVariants.{BMatch};
 ghost use Rattle.mb_problem.specs.declared.answer.Answer.TheVariants.{Counts};
 ghost use Rattle.mb_problem.specs.Feasible.{IsFeasible, weight_of};
@@ -17,7 +18,7 @@ use std::alloc::Global;
 fn pair_counts(alloc: Global, instance: &Instance) -> Result<Vec<u32>, OutOfMemory>
     ensures size { IfOk result (λ counts. length counts.items ≡ length instance.now.edges) }
     ensures each { IfOk result (λ counts. (k : ℕ) → k < length instance.now.edges → slice_index counts.items k ≡ pair_count instance.now k) }
-    ensures few { length instance.now.edges ≤ 65536 }
+    ensures few { length instance.now.edges ≤ EDGE_LIMIT }
 {
     let mut counts = Vec::with_capacity(alloc, instance.edges() as usize)?;
     for edge in instance.edge_list() {

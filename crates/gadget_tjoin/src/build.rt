@@ -53,10 +53,11 @@ fn build(alloc: Global, instance: &Instance, parity: Parity) -> Result<Graph, Ou
     Ok(graph)
 }
 
-/// The graph in which the joins of this parity are perfect matchings (chapter 29): each vertex as one
-/// port for each edge at it, and a spare where its edges and the parity that it asks for differ; each
-/// edge between its two ports, with its weight and number; and the ports of a vertex all joined, at
-/// weight 0. In time linear in the instance and the graph.
+/// The graph in which the joins of this parity are perfect matchings: each vertex as one port for each
+/// edge at it, and a spare where the number of these and the parity that it asks for differ; each edge
+/// between its two ports, with its weight and number; and the ports of a vertex all joined, at weight 0
+/// (Schrijver, Combinatorial Optimization, volume A, chapter 29). It takes time linear in the instance
+/// and the graph. `OutOfMemory` is its one error.
 pub fn ports(alloc: Global, instance: &Instance, parity: &Parity) -> Result<Graph, OutOfMemory>
     requires limits { IsWithinLimits (ports_size instance.now (odd_at parity.now instance.now)) }
     ensures graph { IfOk result (λ h. h ≡ ports_graph instance.now (odd_at parity.now instance.now)) }

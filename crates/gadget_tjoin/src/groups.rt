@@ -1,5 +1,6 @@
 ghost use Rattle.std.specs.Prelude.{◌≡◌, ℕ, ◌+◌, ◌-◌, ◌*◌, ◌/◌, ◌%◌, ◌<◌, ◌≤◌, ◌^◌, ◌++◌, ◌==◌, if◌then◌else◌, length, slice_index, IfOk, OnOk};
 ghost use Rattle.graph_theory.specs.Sums.{sum_to};
+ghost use Rattle.mb_problem.specs.declared.limits.TheConstants.{EDGE_LIMIT};
 ghost use Rattle.mb_problem.specs.Network.{vertices};
 ghost use Rattle.mb_problem.specs.Size.{edge_count_at, port_count};
 ghost use Rattle.mb_problem.specs.Size.{odd_by, odd_at};
@@ -18,7 +19,7 @@ fn count_edges(counts: &mut [u32], instance: &Instance)
     requires start { (k : ℕ) → k < length counts.old → slice_index counts.old k ≡ 0 }
     ensures size { length counts.new ≡ length counts.old }
     ensures each { (k : ℕ) → k < vertices instance.now → slice_index counts.new k ≡ edge_count_at instance.now (k + 1) }
-    ensures small { (k : ℕ) → k < vertices instance.now → slice_index counts.new k ≤ 131072 }
+    ensures small { (k : ℕ) → k < vertices instance.now → slice_index counts.new k ≤ 2 * EDGE_LIMIT }
 {
     for edge in instance.edge_list() {
         take_ports(counts, edge);
@@ -29,7 +30,7 @@ fn count_edges(counts: &mut [u32], instance: &Instance)
 fn edge_counts(alloc: Global, instance: &Instance) -> Result<Vec<u32>, OutOfMemory>
     ensures size { IfOk result (λ counts. length counts.items ≡ vertices instance.now) }
     ensures each { IfOk result (λ counts. (k : ℕ) → k < vertices instance.now → slice_index counts.items k ≡ edge_count_at instance.now (k + 1)) }
-    ensures small { IfOk result (λ counts. (k : ℕ) → k < vertices instance.now → slice_index counts.items k ≤ 131072) }
+    ensures small { IfOk result (λ counts. (k : ℕ) → k < vertices instance.now → slice_index counts.items k ≤ 2 * EDGE_LIMIT) }
 {
     let mut counts = vec![in alloc; 0u32; instance.vertices() as usize]?;
     count_edges(&mut counts, instance);
@@ -38,7 +39,7 @@ fn edge_counts(alloc: Global, instance: &Instance) -> Result<Vec<u32>, OutOfMemo
 
 /// How many ports and spares a vertex has.
 fn group_size(parity: Parity, met: u32, value: u32) -> u32
-    requires { met ≤ 131072 }
+    requires { met ≤ 2 * EDGE_LIMIT }
     ensures { result ≡ met + (met + odd_by parity met value) % 2 }
 {
     let odd = match parity {

@@ -3,6 +3,7 @@ ghost use Rattle.std.specs.List.Sorted.{IsStrictlyIncreasing};
 ghost use Rattle.graph_theory.specs.Graph.{IsEdgeNumber};
 ghost use Rattle.graph_theory.specs.Parts.{holds};
 ghost use Rattle.graph_theory.specs.Walk.{walk_weight};
+ghost use Rattle.mb_problem.specs.declared.limits.TheConstants.{EDGE_LIMIT};
 ghost use Rattle.mb_problem.specs.Network.{Network, IsNetwork, graph_of};
 ghost use Rattle.mb_problem.specs.Size.{odd_at};
 ghost use Rattle.gadget_base.specs.Gadgets.{ports_graph};
@@ -33,7 +34,7 @@ fn marks_of(alloc: Global, instance: &Instance, edges: &[EdgeId]) -> Result<Vec<
 
 /// Puts the number after a place at the end where the place is marked.
 fn note(edges: &mut Vec<EdgeId>, place: usize, marked: bool) -> Result<(), OutOfMemory>
-    requires { place < 65536 }
+    requires { place < EDGE_LIMIT }
     ensures { OnOk result (edges.new.items ≡ (if marked then edges.old.items ++ (place + 1) ∷ [] else edges.old.items)) }
 {
     if marked {
@@ -44,7 +45,7 @@ fn note(edges: &mut Vec<EdgeId>, place: usize, marked: bool) -> Result<(), OutOf
 
 /// The numbers of the marked edges, ascending.
 fn marked(alloc: Global, marks: &[bool]) -> Result<Vec<EdgeId>, OutOfMemory>
-    requires few { length marks.now ≤ 65536 }
+    requires few { length marks.now ≤ EDGE_LIMIT }
     ensures ascending { IfOk result (λ edges. IsStrictlyIncreasing edges.items) }
     ensures in_range { IfOk result (λ edges. All (λ e. (1 ≤ e) × (e ≤ length marks.now)) edges.items) }
     ensures exact { IfOk result (λ edges. (k : ℕ) → k < length marks.now → holds edges.items (k + 1) ≡ slice_index_or marks.now k false) }
@@ -56,8 +57,10 @@ fn marked(alloc: Global, marks: &[bool]) -> Result<Vec<EdgeId>, OutOfMemory>
     Ok(edges)
 }
 
-/// The join of a perfect matching of the graph of ports: those of its edges that are the instance's
-/// own, which have the same numbers there. In time linear in the instance and the matching.
+/// The join that a perfect matching of the graph of `ports` stands for, given as the numbers of its
+/// edges: exactly those of them that are the instance's own, which have the same numbers there,
+/// ascending (Schrijver, Combinatorial Optimization, volume A, chapter 29). It takes time linear in the
+/// instance and the matching. `OutOfMemory` is its one error.
 pub fn extract(
     alloc: Global,
     instance: &Instance,
