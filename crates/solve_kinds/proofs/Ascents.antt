@@ -1,11 +1,12 @@
 -- Natural numbers as the numbers of lines.
-use Rattle.std.proofs.Common.{◌≡◌, ℕ, zero, suc, ◌+◌, ◌<◌, ◌≤◌, pos, ◌≤ℤ◌, Bool, true, ◌&&◌, List, [], ◌∷◌, length, map, All, get_or, refl, ap, ◌∙◌, subst, arith}
+use Rattle.std.proofs.Common.{◌≡◌, ℕ, zero, suc, ◌+◌, ◌-◌, ◌<◌, ◌≤◌, pos, ◌≤ℤ◌, Bool, true, ◌&&◌, List, [], ◌∷◌, length, map, All, get_or, refl, ap, ◌∙◌, subst, arith}
 use Rattle.std.specs.Prelude.{int_lt}
 use Rattle.std.specs.List.{range_with_len}
 use Rattle.std.specs.List.Sorted.{IsStrictlyIncreasing}
 use Rattle.std.proofs.lemmas.Int.{ints}
-use Rattle.std.proofs.lemmas.List.Elements.{All-nil, All-cons}
-use Rattle.std.proofs.lemmas.List.FromFn.{length-range_with_len, get_or-range_with_len}
+use Rattle.std.proofs.lemmas.List.Elements.{All-nil, All-cons, All-head, All-tail}
+use Rattle.std.proofs.lemmas.List.{ext_get_or}
+use Rattle.std.proofs.lemmas.List.FromFn.{length-range_with_len, get_or-range_with_len, length-map-range_with_len, get_or-map-range_with_len}
 use Rattle.doc_format.specs.Form.{ascends}
 use Rattle.certificates.specs.Claims.{numbers}
 
@@ -49,3 +50,22 @@ map-range-same f h a (suc n) same =
     let first : f a ≡ h a = same a (omega arith) (omega arith) in
     let rest : map f (range_with_len (a + 1) n) ≡ map h (range_with_len (a + 1) n) = map-range-same f h (a + 1) n (λ e low high. same e (omega arith) (omega arith)) in
     ap (λ x. x ∷ map f (range_with_len (a + 1) n)) first ∙ ap (λ xs. h a ∷ xs) rest
+
+-- the items of a list, one for each number of a place
+pub each-place : {A : Type 0} (d : A) (xs : List A) → map (λ e. get_or xs (e - 1) d) (range_with_len 1 (length xs)) ≡ xs
+each-place {A} d xs =
+    let n = length xs in
+    let f : ℕ → A = λ e. get_or xs (e - 1) d in
+    let long : length (map f (range_with_len 1 n)) ≡ n = length-map-range_with_len f 1 n in
+    ext_get_or d (map f (range_with_len 1 n)) xs long
+    (λ k h. (let at : get_or (map f (range_with_len 1 n)) k d ≡ f (k + 1) = get_or-map-range_with_len f 1 n k (k + 1) d (omega arith) (omega arith) in
+    at ∙ ap (λ (p : ℕ). get_or xs p d) (let e : k + 1 - 1 ≡ k = omega arith in e)))
+
+-- facts on each element
+
+pub unmap : {A B : Type 0} (P : B → Type 0) (f : A → B) (xs : List A) → All P (map f xs) → All (λ x. P (f x)) xs
+unmap P f [] h = All-nil (λ x. P (f x))
+unmap P f (x ∷ xs) h = All-cons (λ x. P (f x)) x xs (All-head P (f x) (map f xs) h) (unmap P f xs (All-tail P (f x) (map f xs) h))
+
+pub both_all : {A : Type 0} (P Q R : A → Type 0) (xs : List A) → ((x : A) → P x → Q x → R x) → All P xs → All Q xs → All R xs
+both_all P Q R xs join p q = λ k d b. join _ (p k d b) (q k d b)

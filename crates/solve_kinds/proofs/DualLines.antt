@@ -2,15 +2,14 @@
 use Rattle.std.proofs.Common.{◌≡◌, ℕ, ◌+◌, ◌-◌, ℤ, pos, List, [], ◌∷◌, ◌++◌, length, map, All, get_or, ap, sym, ◌∙◌, subst, arith}
 use Rattle.std.specs.List.{range_with_len}
 use Rattle.std.proofs.lemmas.Int.{ints}
-use Rattle.std.proofs.lemmas.List.{ext_get_or}
 use Rattle.std.proofs.lemmas.List.Elements.{All-map, All-from_get_or, All-get_or}
-use Rattle.std.proofs.lemmas.List.FromFn.{length-range_with_len, get_or-range_with_len, length-map-range_with_len, get_or-map-range_with_len, map-range_with_len_more}
+use Rattle.std.proofs.lemmas.List.FromFn.{length-range_with_len, get_or-range_with_len, map-range_with_len_more}
 use Rattle.graph_theory.specs.Duals.{dual_of, IsNumber}
 use Rattle.doc_format.specs.declared.part.DualLine.{DualLine}
 use Rattle.doc_format.specs.Form.{ascends, AscendsBy}
 use Rattle.certificates.specs.Within.{IsDualWithin}
 use Rattle.solve_kinds.specs.Parts.{dual_line}
-use Rattle.solve_kinds.proofs.Ascents.{ascends-pos, range-ascends, map-map}
+use Rattle.solve_kinds.proofs.Ascents.{ascends-pos, range-ascends, map-map, each-place}
 
 -- the line of a vertex
 abbrev pub line_at : List ℤ → ℕ → DualLine
@@ -24,10 +23,7 @@ pub lines-duals : (ys : List ℤ) → map (λ y. y.dual) (lines_to ys (length ys
 lines-duals ys =
     let n = length ys in
     let plain : map (λ (y : DualLine). y.dual) (lines_to ys n) ≡ map (dual_of ys) (range_with_len 1 n) = map-map (λ (y : DualLine). y.dual) (line_at ys) (range_with_len 1 n) in
-    plain ∙ ext_get_or (pos 0) (map (dual_of ys) (range_with_len 1 n)) ys (length-map-range_with_len (dual_of ys) 1 n)
-    (λ k h. (let long : length (map (dual_of ys) (range_with_len 1 n)) ≡ n = length-map-range_with_len (dual_of ys) 1 n in
-    let at : get_or (map (dual_of ys) (range_with_len 1 n)) k (pos 0) ≡ dual_of ys (k + 1) = get_or-map-range_with_len (dual_of ys) 1 n k (k + 1) (pos 0) (omega arith) (omega arith) in
-    at ∙ ap (λ (p : ℕ). get_or ys p (pos 0)) (let e : k + 1 - 1 ≡ k = omega arith in e)))
+    plain ∙ each-place (pos 0) ys
 
 pub lines-ascend : (ys : List ℤ) (n : ℕ) → AscendsBy (λ y. y.vertex) (lines_to ys n)
 lines-ascend ys n = ap ascends (map-map (λ (y : DualLine). y.vertex) (line_at ys) (range_with_len 1 n)) ∙ ascends-pos (range_with_len 1 n) (range-ascends n)

@@ -1,2 +1,4 @@
-pub mod Parts
 pub mod Solved
+pub mod Parts
+pub mod Presented
+pub mod Excluding

@@ -1,12 +1,36 @@
 -- The lines of computed documents. They were read from no text: each has the line number 1.
-use Rattle.std.specs.Prelude.{ℕ, ℤ, pos}
+use Rattle.std.specs.Prelude.{◌≡◌, ℕ, ◌-◌, ◌≤◌, ◌==◌, ℤ, pos, Bool, not, List, length, slice_index, All, ⊤}
+use Rattle.mb_problem.specs.declared.answer.Answer.{Answer}
+use Rattle.mb_problem.specs.declared.answer.Answer.TheVariants.{Counts, Walk, Nothing}
+use Rattle.mb_problem.specs.declared.limits.TheConstants.{VALUE_LIMIT}
 use Rattle.doc_format.specs.declared.part.CountLine.{CountLine}
 use Rattle.doc_format.specs.declared.part.DualLine.{DualLine}
+use Rattle.certificates.specs.Claims.{counts_of}
 
--- an edge that is used once
-abbrev pub count_line : ℕ → CountLine
-count_line e = record { line = 1; edge = pos e; count = pos 1 }
+-- an edge that is used so often
+abbrev pub count_line : ℕ → ℕ → CountLine
+count_line e count = record { line = 1; edge = pos e; count = pos count }
+
+-- the edge of a number is used
+abbrev pub is_used : List ℕ → ℕ → Bool
+is_used counts e = not (slice_index counts (e - 1) == 0)
+
+-- the line of the edge of a number
+abbrev pub line_at : List ℕ → ℕ → CountLine
+line_at counts e = count_line e (slice_index counts (e - 1))
 
 -- a vertex with its dual
 abbrev pub dual_line : ℕ → ℤ → DualLine
 dual_line v dual = record { line = 1; vertex = pos v; dual = dual }
+
+-- no edge is used more often than a count of a document can say
+abbrev pub HasSmallCounts : Answer → Type 0
+HasSmallCounts (Counts counts) = All (λ c. c ≤ VALUE_LIMIT) counts
+HasSmallCounts (Walk start edges) = ⊤
+HasSmallCounts Nothing = ⊤
+
+-- the lines have the counts of the answer; a walk has none
+abbrev pub ListsAnswer : Answer → List CountLine → Type 0
+ListsAnswer (Counts counts) lines = counts_of lines (length counts) ≡ counts
+ListsAnswer (Walk start edges) lines = ⊤
+ListsAnswer Nothing lines = ⊤

@@ -1,25 +1,31 @@
--- What computed documents are.
-use Rattle.std.specs.Prelude.{◌≡◌, ◌≤◌, length, false}
-use Rattle.graph_theory.specs.Graph.{Multigraph}
-use Rattle.mb_problem.specs.declared.kind.Kind.TheVariants.{Perfect}
-use Rattle.mb_problem.specs.Network.{Network, graph_of}
-use Rattle.doc_format.specs.declared.document.Document.{Document}
+-- Which kinds are solved, and which status a document has.
+use Rattle.std.specs.Prelude.{Bool, true, false}
+use Rattle.mb_problem.specs.declared.kind.Kind.{Kind}
+use Rattle.mb_problem.specs.declared.kind.Kind.TheVariants.{Perfect, Match, BMatch, CapMatch, FFactor, TJoin, Postman, Path}
+use Rattle.mb_problem.specs.declared.answer.Answer.{Answer}
+use Rattle.mb_problem.specs.Network.{Network}
+use Rattle.mb_problem.specs.Feasible.{IsFeasible}
 use Rattle.doc_format.specs.declared.status.DocStatus.{DocStatus}
 use Rattle.doc_format.specs.declared.status.DocStatus.TheVariants.{Optimal, Infeasible, NonConservative}
-use Rattle.doc_format.specs.Spelling.{document_text}
-use Rattle.certificates.specs.Proved.{IsProved}
-use Rattle.mwpm_engine.specs.Solutions.{HasPerfect}
+use Rattle.certificates.specs.Excluded.{HasNoAnswer}
 
--- the document proves what it states of every instance with this graph
-abbrev pub ProvesFor : Multigraph → Document → Type 0
-ProvesFor g d = (i : Network) → graph_of i ≡ g → IsProved Perfect i d
+-- an answer of the kind is a perfect matching of one graph
+abbrev pub is_solved : Kind → Bool
+is_solved Perfect = true
+is_solved Match = true
+is_solved BMatch = true
+is_solved CapMatch = true
+is_solved FFactor = true
+is_solved TJoin = false
+is_solved Postman = false
+is_solved Path = false
 
--- the full text has at most 48 MiB
-pub record IsShort (d : Document) : Type 0 where
-  pub at_most : length (document_text d false) ≤ 50331648
+-- some answer is feasible
+abbrev pub HasAnswer : Kind → Network → Type 0
+HasAnswer kind i = (answer : Answer) × IsFeasible kind i answer
 
--- optimal where there is a perfect matching, infeasible where there is none
-abbrev pub HasTrueStatus : Multigraph → DocStatus → Type 0
-HasTrueStatus g Optimal = HasPerfect g
-HasTrueStatus g Infeasible = HasPerfect g → ⊥
-HasTrueStatus g NonConservative = ⊥
+-- optimal where some answer is feasible, infeasible where none is
+abbrev pub HasTrueStatus : Kind → Network → DocStatus → Type 0
+HasTrueStatus kind i Optimal = HasAnswer kind i
+HasTrueStatus kind i Infeasible = HasNoAnswer kind i
+HasTrueStatus kind i NonConservative = ⊥

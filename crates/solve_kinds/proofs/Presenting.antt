@@ -1,0 +1,135 @@
+-- A document that presents a solution proves its answer best.
+use Rattle.std.proofs.Common.{◌≡◌, ℕ, suc, ◌≤◌, ℤ, pos, ◌≤ℤ◌, ◌*ℤ◌, true, List, [], ◌∷◌, length, map, All, Option, None, IfSome, nat_abs, refl, sym, ap, ◌∙◌, subst, arith}
+use Rattle.std.proofs.lemmas.Int.{ints}
+use Rattle.std.proofs.lemmas.List.Elements.{All-nil, All-cons, All-head, All-tail}
+use Rattle.graph_theory.specs.declared.odd_set.OddSet.{OddSet}
+use Rattle.graph_theory.specs.Graph.{Multigraph, IsGraph, weight, IsPerfect}
+use Rattle.graph_theory.specs.Duals.{IsNumber, IsSetWithin, AreDuals, dual_value}
+use Rattle.graph_theory.specs.Limits.{Size, HasSize, IsWithinLimits}
+use Rattle.graph_theory.proofs.Duality.{weak_duality}
+use Rattle.mb_problem.specs.declared.kind.Kind.{Kind}
+use Rattle.mb_problem.specs.declared.answer.Answer.{Answer}
+use Rattle.mb_problem.specs.Network.{Network, vertices}
+use Rattle.mb_problem.specs.Feasible.{IsFeasible, weight_of}
+use Rattle.mb_problem.specs.Values.{value_for}
+use Rattle.gadget_base.specs.Certified.{gadget_graph, IsReached, ReachesAll}
+use Rattle.doc_format.specs.declared.document.Document.{Document}
+use Rattle.doc_format.specs.declared.status.DocStatus.{DocStatus}
+use Rattle.doc_format.specs.declared.status.DocStatus.TheVariants.{Optimal}
+use Rattle.certificates.specs.Claims.{answer_of, numbers, duals_of, sets_of, set_of}
+use Rattle.certificates.specs.Proved.{IsProved, ProvesOptimal, ProvesByStatus, StatesTruthBy, StatesTruth}
+use Rattle.certificates.specs.Within.{IsUpTo, IsWalkWithin, IsDualWithin, IsSetLineWithin, AreWithin}
+use Rattle.certificates.proofs.TruthLemmas.{best-by_value}
+use Rattle.mwpm_engine.specs.Solutions.{Solution, size_of_graph, matching_of, AreAscending, IsSolved}
+use Rattle.solve_kinds.specs.Solved.{is_solved, HasTrueStatus}
+use Rattle.solve_kinds.specs.Presented.{Presents}
+use Rattle.solve_kinds.proofs.Ascents.{unmap, both_all}
+use Rattle.solve_kinds.proofs.InRange.{in-range}
+use Rattle.solve_kinds.proofs.EachKind.{stated}
+
+-- a graph has the vertices and edges of its size
+pub same-size : (size : Size) (g : Multigraph) → HasSize size g → size_of_graph g ≡ size
+same-size size g h = rw (h.vertices, h.edges) refl
+
+pub few-by_size : (size : Size) (g : Multigraph) → HasSize size g → IsWithinLimits size → g.vertices ≤ 4096
+few-by_size size g h limits =
+    let few : size.vertices ≤ 4096 = limits.vertices in
+    omega (arith, h.vertices)
+
+-- a solution of the kind's graph
+pub record Solves (kind : Kind) (i : Network) (s : Solution) : Type 0 where
+  pub is_solved : is_solved kind ≡ true
+  pub graph : s.graph ≡ gadget_graph kind i
+  pub is_graph : IsGraph (gadget_graph kind i)
+  pub reached : ReachesAll kind i
+  pub solved : IsSolved s
+
+-- numbers not below 0 whose sizes go from 1 to n
+members-up : (n : ℕ) (zs : List ℤ) → All (λ m. pos 0 ≤ℤ m) zs → All (λ m. (1 ≤ m) × (m ≤ n)) (numbers zs) → All (IsUpTo n) zs
+members-up n zs natural within =
+    both_all (λ m. pos 0 ≤ℤ m) (λ m. (1 ≤ nat_abs m) × (nat_abs m ≤ n)) (IsUpTo n) zs
+    (λ m h w. (let low : 1 ≤ nat_abs m = w.0 in let high : nat_abs m ≤ n = w.1 in record { low = omega (arith, ints); high = omega (arith, ints) }))
+    natural (unmap (λ m. (1 ≤ m) × (m ≤ n)) nat_abs zs within)
+
+-- the sets of a listing have the same duals
+listed-numbers : (sets lines : List OddSet) → AreAscending sets lines → All (λ (t : OddSet). IsNumber t.dual) sets → All (λ (t : OddSet). IsNumber t.dual) lines
+listed-numbers [] lines is h = subst (λ (zs : List OddSet). All (λ (t : OddSet). IsNumber t.dual) zs) (sym is) (All-nil (λ (t : OddSet). IsNumber t.dual))
+listed-numbers (s ∷ sets) lines is h =
+    let first : IsNumber is.0.dual = subst IsNumber (sym is.3) (All-head (λ (t : OddSet). IsNumber t.dual) s sets h) in
+    let rest = listed-numbers sets is.1 is.6 (All-tail (λ (t : OddSet). IsNumber t.dual) s sets h) in
+    subst (λ (zs : List OddSet). All (λ (t : OddSet). IsNumber t.dual) zs) (sym is.2) (All-cons (λ (t : OddSet). IsNumber t.dual) is.0 is.1 first rest)
+
+-- .. and are as many
+pub listed-length : (sets lines : List OddSet) → AreAscending sets lines → length lines ≡ length sets
+listed-length [] lines is = ap length is
+listed-length (s ∷ sets) lines is = ap length is.2 ∙ ap suc (listed-length sets is.1 is.6)
+
+pub are-duals : (kind : Kind) (i : Network) (s : Solution) (d : Document) → IsSolved s → Presents kind i s d → AreDuals s.graph (duals_of d) (sets_of d)
+are-duals kind i s d solved p = subst (λ (ys : List ℤ). AreDuals s.graph ys (sets_of d)) (sym p.duals) (solved.duals (sets_of d) p.sets)
+
+pub sets-within : (kind : Kind) (i : Network) (s : Solution) (d : Document) → IsSolved s → Presents kind i s d → All (IsSetLineWithin s.graph.vertices) d.sets
+sets-within kind i s d solved p =
+    let n = s.graph.vertices in
+    let within : All (λ z. IsSetWithin n (set_of z)) d.sets = unmap (IsSetWithin n) set_of d.sets (are-duals kind i s d solved p).sets_within in
+    let number : All (λ z. IsNumber (set_of z).dual) d.sets = unmap (λ (t : OddSet). IsNumber t.dual) set_of d.sets (listed-numbers s.sets (sets_of d) p.sets solved.sets_in_range) in
+    both_all (λ z. IsSetWithin n (set_of z) × IsNumber z.dual) (λ z. All (λ m. pos 0 ≤ℤ m) z.members) (IsSetLineWithin n) d.sets
+    (λ z w natural. (let low : pos 1 ≤ℤ z.dual = w.0.positive in let high : z.dual ≤ℤ pos 1000000000000000 = w.1.1 in (record { low = low; high = high }, members-up n z.members natural w.0.in_range)))
+    (both_all (λ z. IsSetWithin n (set_of z)) (λ z. IsNumber z.dual) (λ z. IsSetWithin n (set_of z) × IsNumber z.dual) d.sets (λ z a b. (a, b)) within number) p.natural
+
+pub none_if : {A : Type 0} (P : A → Type 0) (x : Option A) → x ≡ None → IfSome x P
+none_if P x h = rw h tt
+
+are-within : (kind : Kind) (i : Network) (s : Solution) (d : Document) → Solves kind i s → Presents kind i s d → AreWithin kind i d
+are-within kind i s d of p =
+    let n = (gadget_graph kind i).vertices in
+    let same : s.graph.vertices ≡ n = ap (λ (g : Multigraph). g.vertices) of.graph in
+    record {
+      weight = p.number;
+      counts = p.counts_within;
+      walk = none_if (IsWalkWithin (vertices i) (length i.edges)) d.walk p.walk;
+      duals = subst (λ (k : ℕ). All (IsDualWithin k) d.duals) same p.duals_within;
+      sets = subst (λ (k : ℕ). All (IsSetLineWithin k) d.sets) same (sets-within kind i s d of.solved p);
+      barrier = none_if (λ u. All (IsUpTo n) u.members) d.barrier p.barrier;
+      odd = none_if (λ u. All (IsUpTo (vertices i)) u.members) d.odd p.odd;
+      split = none_if (λ u. All (IsUpTo (vertices i)) u.members) d.split p.split;
+    }
+
+-- The value lies between those of two perfect matchings, and no perfect matching weighs less than the solution's: so it
+-- is the value of the duals.
+value-met : (kind : Kind) (i : Network) (g : Multigraph) (s : Solution) (d : Document) → g ≡ gadget_graph kind i → s.graph ≡ g → IsGraph g → IsSolved s → ReachesAll kind i → (p : Presents kind i s d) → dual_value (duals_of d) (sets_of d) ≡ value_for kind i (weight_of i p.answer)
+value-met kind i g s d is graph is_graph solved reached p =
+    let r : IsReached kind i p.answer = reached p.answer p.feasible in
+    let there : Multigraph → Type 0 = λ h. (counts : List ℕ) × IsPerfect h counts × ((pos 2 *ℤ weight h counts) ≤ℤ value_for kind i (weight_of i p.answer)) in
+    let other : there g = subst there (sym is) (r.counts, r.perfect, r.weighs) in
+    let duals : AreDuals g (duals_of d) (sets_of d) = subst (λ (h : Multigraph). AreDuals h (duals_of d) (sets_of d)) graph (are-duals kind i s d solved p) in
+    let below : dual_value (duals_of d) (sets_of d) ≤ℤ (pos 2 *ℤ weight g other.0) = weak_duality g (duals_of d) (sets_of d) other.0 is_graph duals other.1 in
+    let most : (pos 2 *ℤ weight g other.0) ≤ℤ value_for kind i (weight_of i p.answer) = other.2 in
+    let pays : value_for kind i (weight_of i p.answer) ≤ℤ (pos 2 *ℤ weight s.graph (matching_of s.graph s.mates)) = p.pays in
+    let same : dual_value (duals_of d) (sets_of d) ≡ pos 2 *ℤ weight s.graph (matching_of s.graph s.mates) = ap (λ (ys : List ℤ). dual_value ys (sets_of d)) p.duals ∙ solved.value (sets_of d) p.sets in
+    omega (arith, ints)
+
+proves-optimal : (kind : Kind) (i : Network) (s : Solution) (d : Document) → Solves kind i s → Presents kind i s d → ProvesOptimal kind i d
+proves-optimal kind i s d of p =
+    let is : answer_of kind i d ≡ p.answer = stated kind i d p.answer of.is_solved p.feasible p.lists in
+    record {
+      feasible = subst (IsFeasible kind i) (sym is) p.feasible;
+      weighs = ap (weight_of i) is ∙ sym p.weight;
+      duals = subst (λ (h : Multigraph). AreDuals h (duals_of d) (sets_of d)) of.graph (are-duals kind i s d of.solved p);
+      value = value-met kind i (gadget_graph kind i) s d refl of.graph of.is_graph of.solved of.reached p ∙ ap (value_for kind i) (sym p.weight);
+    }
+
+pub proved-optimal : (kind : Kind) (i : Network) (s : Solution) (d : Document) → Solves kind i s → Presents kind i s d → IsProved kind i d
+proved-optimal kind i s d of p = record {
+  same_kind = p.kind_is;
+  in_range = in-range kind i d (are-within kind i s d of p);
+  proves = subst (λ (t : DocStatus). ProvesByStatus t kind i d) (sym p.status) (proves-optimal kind i s d of p);
+}
+
+pub true-optimal : (kind : Kind) (i : Network) (s : Solution) (d : Document) → Solves kind i s → Presents kind i s d → StatesTruth kind i d
+true-optimal kind i s d of p =
+    let q = proves-optimal kind i s d of p in
+    subst (λ (t : DocStatus). StatesTruthBy t kind i d) (sym p.status)
+    (best-by_value kind i d (dual_value (duals_of d) (sets_of d)) q.feasible q.weighs q.value (λ counts perfect. weak_duality (gadget_graph kind i) (duals_of d) (sets_of d) counts of.is_graph q.duals perfect) of.reached)
+
+pub exact-optimal : (kind : Kind) (i : Network) (s : Solution) (d : Document) → Presents kind i s d → HasTrueStatus kind i d.status
+exact-optimal kind i s d p = subst (HasTrueStatus kind i) (sym p.status) (p.answer, p.feasible)

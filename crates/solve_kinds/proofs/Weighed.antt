@@ -1,0 +1,89 @@
+-- The weights of perfect matchings and of the answers that they stand for are numbers of documents.
+use Rattle.std.proofs.Common.{◌≡◌, ℕ, zero, suc, ◌*◌, ◌<◌, ◌≤◌, ℤ, pos, neg_ℤ, ◌+ℤ◌, ◌*ℤ◌, ◌≤ℤ◌, true, List, length, slice_index, sym, ◌∙◌, subst, arith}
+use Rattle.std.proofs.lemmas.Int.{ints}
+use Rattle.graph_theory.specs.Sums.{int_sum_to}
+use Rattle.graph_theory.specs.Graph.{Multigraph, IsGraph, IsWeight, IsPerfect, edge_at, no_edge, weight}
+use Rattle.graph_theory.specs.Walk.{walk_weight}
+use Rattle.graph_theory.specs.Duals.{IsNumber}
+use Rattle.graph_theory.proofs.SumLemmas.{int_sum_to-le, times-suc, times-int_sum_to, times-le, times-two}
+use Rattle.graph_theory.proofs.Handshake.{handshake-perfect}
+use Rattle.mb_problem.specs.declared.kind.Kind.{Kind}
+use Rattle.mb_problem.specs.declared.kind.Kind.TheVariants.{Perfect, Match, BMatch, CapMatch, FFactor, TJoin, Postman, Path}
+use Rattle.mb_problem.specs.declared.answer.Answer.{Answer}
+use Rattle.mb_problem.specs.Network.{Network}
+use Rattle.mb_problem.specs.Feasible.{IsFeasible, weight_of}
+use Rattle.mb_problem.specs.Values.{value_for}
+use Rattle.gadget_base.specs.Certified.{gadget_graph, IsReached, ReachesAll}
+use Rattle.gadget_base.specs.Listed.{ListsCounts}
+use Rattle.gadget_base.proofs.Listed.{list-weight}
+use Rattle.solve_kinds.specs.Solved.{is_solved}
+
+-- with n vertices: no farther from 0 than n times the greatest weight of an edge
+abbrev IsSmall : ℕ → ℤ → Type 0
+IsSmall n z = (neg_ℤ (pos (n * 1000000000)) ≤ℤ z) × (z ≤ℤ pos (n * 1000000000))
+
+constant : (b : ℤ) (n : ℕ) → int_sum_to (λ _. b) n ≡ pos n *ℤ b
+constant b zero = omega (arith, ints)
+constant b (suc n) = omega (arith, ints, constant b n, times-suc n b)
+
+share-most : (c : ℕ) (w : ℤ) → IsWeight w → (pos 2 *ℤ (pos c *ℤ w)) ≤ℤ (pos c *ℤ (pos 1000000000 +ℤ pos 1000000000))
+share-most c w h =
+    let high : w ≤ℤ pos 1000000000 = h.1 in
+    let doubled : (pos 2 *ℤ w) ≤ℤ (pos 1000000000 +ℤ pos 1000000000) = omega (arith, ints) in
+    omega (arith, ints, times-two c w, times-le c (pos 2 *ℤ w) (pos 1000000000 +ℤ pos 1000000000) doubled)
+
+share-least : (c : ℕ) (w : ℤ) → IsWeight w → (pos c *ℤ (neg_ℤ (pos 1000000000) +ℤ neg_ℤ (pos 1000000000))) ≤ℤ (pos 2 *ℤ (pos c *ℤ w))
+share-least c w h =
+    let low : neg_ℤ (pos 1000000000) ≤ℤ w = h.0 in
+    let doubled : (neg_ℤ (pos 1000000000) +ℤ neg_ℤ (pos 1000000000)) ≤ℤ (pos 2 *ℤ w) = omega (arith, ints) in
+    omega (arith, ints, times-two c w, times-le c (neg_ℤ (pos 1000000000) +ℤ neg_ℤ (pos 1000000000)) (pos 2 *ℤ w) doubled)
+
+-- both ends of each counted edge give the same, and each vertex once
+shared : (g : Multigraph) (counts : List ℕ) (b : ℤ) → IsGraph g → IsPerfect g counts → int_sum_to (λ k. pos (slice_index counts k) *ℤ (b +ℤ b)) (length g.edges) ≡ pos g.vertices *ℤ b
+shared g counts b graph perfect =
+    let each : int_sum_to (λ _. b) g.vertices ≡ pos g.vertices *ℤ b = constant b g.vertices in
+    handshake-perfect g counts (λ _. b) graph.ends perfect ∙ each
+
+pub perfect-small : (g : Multigraph) (counts : List ℕ) → IsGraph g → IsPerfect g counts → IsSmall g.vertices (pos 2 *ℤ weight g counts)
+perfect-small g counts graph perfect =
+    let m = length g.edges in
+    let c : ℕ → ℤ = λ k. pos (slice_index counts k) in
+    let high : ℤ = pos 1000000000 in
+    let low : ℤ = neg_ℤ (pos 1000000000) in
+    let twice : pos 2 *ℤ weight g counts ≡ int_sum_to (λ k. pos 2 *ℤ (c k *ℤ (edge_at g k).w)) m = times-int_sum_to 2 (λ k. c k *ℤ (edge_at g k).w) m in
+    let weights : (k : ℕ) → k < m → IsWeight (edge_at g k).w = λ k b. graph.weights k no_edge b in
+    let most = int_sum_to-le (λ k. pos 2 *ℤ (c k *ℤ (edge_at g k).w)) (λ k. c k *ℤ (high +ℤ high)) m (λ k b. share-most (slice_index counts k) (edge_at g k).w (weights k b)) in
+    let least = int_sum_to-le (λ k. c k *ℤ (low +ℤ low)) (λ k. pos 2 *ℤ (c k *ℤ (edge_at g k).w)) m (λ k b. share-least (slice_index counts k) (edge_at g k).w (weights k b)) in
+    let above = shared g counts high graph perfect in
+    let below = shared g counts low graph perfect in
+    (omega (arith, ints, twice, least, below), omega (arith, ints, twice, most, above))
+
+-- an answer's weight, where it asks for a value of at most that size
+number-by_value : (kind : Kind) (i : Network) (w : ℤ) → is_solved kind ≡ true → neg_ℤ (pos 4096000000000) ≤ℤ value_for kind i w → value_for kind i w ≤ℤ pos 4096000000000 → IsNumber w
+number-by_value Perfect i w solved low high = (omega (arith, ints), omega (arith, ints))
+number-by_value Match i w solved low high = (omega (arith, ints), omega (arith, ints))
+number-by_value BMatch i w solved low high = (omega (arith, ints), omega (arith, ints))
+number-by_value CapMatch i w solved low high = (omega (arith, ints), omega (arith, ints))
+number-by_value FFactor i w solved low high = (omega (arith, ints), omega (arith, ints))
+number-by_value TJoin i w solved low high = absurd (cc)
+number-by_value Postman i w solved low high = absurd (cc)
+number-by_value Path i w solved low high = absurd (cc)
+
+-- the answer lies between two perfect matchings
+pub number-of_answer : (kind : Kind) (i : Network) (g : Multigraph) (answer : Answer) (counts : List ℕ) → is_solved kind ≡ true → g ≡ gadget_graph kind i → IsGraph g → g.vertices ≤ 4096 → ReachesAll kind i → IsFeasible kind i answer → IsPerfect g counts → value_for kind i (weight_of i answer) ≤ℤ (pos 2 *ℤ weight g counts) → IsNumber (weight_of i answer)
+number-of_answer kind i g answer counts solved is graph few reached feasible perfect pays =
+    let r : IsReached kind i answer = reached answer feasible in
+    let there : Multigraph → Type 0 = λ h. (counts : List ℕ) × IsPerfect h counts × ((pos 2 *ℤ weight h counts) ≤ℤ value_for kind i (weight_of i answer)) in
+    let other : there g = subst there (sym is) (r.counts, r.perfect, r.weighs) in
+    let below : IsSmall g.vertices (pos 2 *ℤ weight g other.0) = perfect-small g other.0 graph other.1 in
+    let above : IsSmall g.vertices (pos 2 *ℤ weight g counts) = perfect-small g counts graph perfect in
+    let low : neg_ℤ (pos (g.vertices * 1000000000)) ≤ℤ (pos 2 *ℤ weight g other.0) = below.0 in
+    let high : (pos 2 *ℤ weight g counts) ≤ℤ pos (g.vertices * 1000000000) = above.1 in
+    let weighs : (pos 2 *ℤ weight g other.0) ≤ℤ value_for kind i (weight_of i answer) = other.2 in
+    number-by_value kind i (weight_of i answer) solved (omega (arith, ints, low, weighs, few)) (omega (arith, ints, high, pays, few))
+
+-- what an answer pays for the listed edges it pays for the matching that they are
+pub pays-for_matching : (kind : Kind) (i : Network) (g : Multigraph) (counts edges : List ℕ) (w : ℤ) → g ≡ gadget_graph kind i → IsPerfect g counts → ListsCounts g counts edges → value_for kind i w ≤ℤ (pos 2 *ℤ walk_weight (gadget_graph kind i) edges) → value_for kind i w ≤ℤ (pos 2 *ℤ weight g counts)
+pays-for_matching kind i g counts edges w is perfect lists pays =
+    let here : value_for kind i w ≤ℤ (pos 2 *ℤ walk_weight g edges) = subst (λ (h : Multigraph). value_for kind i w ≤ℤ (pos 2 *ℤ walk_weight h edges)) (sym is) pays in
+    subst (λ (z : ℤ). value_for kind i w ≤ℤ (pos 2 *ℤ z)) (list-weight g counts edges perfect.one_each lists) here

@@ -1,0 +1,36 @@
+-- What the document of a perfect matching is made of.
+use Rattle.std.specs.Prelude.{◌≡◌, ◌≤◌, pos, ◌*ℤ◌, ◌≤ℤ◌, length, map, All, None}
+use Rattle.graph_theory.specs.Graph.{weight}
+use Rattle.graph_theory.specs.Duals.{IsNumber}
+use Rattle.mb_problem.specs.declared.kind.Kind.{Kind}
+use Rattle.mb_problem.specs.declared.answer.Answer.{Answer}
+use Rattle.mb_problem.specs.Network.{Network}
+use Rattle.mb_problem.specs.Feasible.{IsFeasible, weight_of}
+use Rattle.mb_problem.specs.Values.{value_for}
+use Rattle.doc_format.specs.declared.document.Document.{Document}
+use Rattle.doc_format.specs.declared.status.DocStatus.TheVariants.{Optimal}
+use Rattle.certificates.specs.Claims.{duals_of, sets_of}
+use Rattle.certificates.specs.Within.{IsCountWithin, IsDualWithin}
+use Rattle.mwpm_engine.specs.Solutions.{Solution, matching_of, AreAscending}
+use Rattle.solve_kinds.specs.Parts.{ListsAnswer}
+
+-- an answer that pays for the matching, and the duals and sets of the solution, the members of each set ascending
+pub record Presents (kind : Kind) (i : Network) (s : Solution) (d : Document) : Type 0 where
+  pub status : d.status ≡ Optimal
+  pub kind_is : d.kind ≡ kind
+  pub answer : Answer
+  pub feasible : IsFeasible kind i answer
+  pub lists : ListsAnswer answer d.counts
+  pub pays : value_for kind i (weight_of i answer) ≤ℤ (pos 2 *ℤ weight s.graph (matching_of s.graph s.mates))
+  pub weight : d.weight ≡ weight_of i answer
+  pub number : IsNumber d.weight
+  pub counts_within : All (IsCountWithin (length i.edges)) d.counts
+  pub few_counts : length d.counts ≤ length i.edges
+  pub duals : duals_of d ≡ s.duals
+  pub duals_within : All (IsDualWithin s.graph.vertices) d.duals
+  pub sets : AreAscending s.sets (sets_of d)
+  pub natural : All (λ z. All (λ m. pos 0 ≤ℤ m) z.members) d.sets
+  pub walk : d.walk ≡ None
+  pub barrier : d.barrier ≡ None
+  pub odd : d.odd ≡ None
+  pub split : d.split ≡ None

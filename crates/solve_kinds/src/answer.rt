@@ -1,0 +1,36 @@
+ghost use Rattle.std.specs.Prelude.{◌≡◌, pos, ◌*ℤ◌, ◌≤ℤ◌, true, IfOk};
+ghost use Rattle.graph_theory.specs.Walk.{walk_weight};
+ghost use Rattle.mb_problem.specs.Feasible.{IsFeasible, weight_of};
+ghost use Rattle.mb_problem.specs.Values.{value_for};
+ghost use Rattle.gadget_base.specs.Certified.{gadget_graph, IsPerfectList};
+ghost use Rattle.solve_kinds.specs.Solved.{is_solved};
+
+use crate::plain::extract_plain;
+use gadget_cap::extract;
+use gadget_match::{extract_copies, extract_double};
+use mb_base::{EdgeId, OutOfMemory};
+use mb_problem::{Answer, Instance, Kind};
+use std::alloc::Global;
+
+/// The answer that a perfect matching of the kind's graph stands for, given as the numbers of its edges.
+/// The duals beside this answer would have no greater value than those beside the matching.
+pub fn answer(
+    alloc: Global,
+    instance: &Instance,
+    kind: Kind,
+    edges: &[EdgeId],
+) -> Result<Answer, OutOfMemory>
+    requires kind { is_solved kind ≡ true }
+    requires perfect { IsPerfectList (gadget_graph kind instance.now) edges.now }
+    ensures feasible { IfOk result (IsFeasible kind instance.now) }
+    ensures pays { IfOk result (λ a. value_for kind instance.now (weight_of instance.now a) ≤ℤ (pos 2 *ℤ walk_weight (gadget_graph kind instance.now) edges.now)) }
+{
+    match kind {
+        Kind::Perfect => extract_plain(alloc, instance, edges),
+        Kind::Match => extract_double(alloc, instance, edges),
+        Kind::BMatch => extract_copies(alloc, instance, edges),
+        Kind::CapMatch => extract(alloc, instance, false, edges),
+        Kind::FFactor => extract(alloc, instance, true, edges),
+        Kind::TJoin | Kind::Postman | Kind::Path => Ok(Answer::Nothing),
+    }
+}

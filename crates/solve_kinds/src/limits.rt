@@ -1,0 +1,2 @@
+/// The most bytes of the text of a computed document.
+pub const DOCUMENT_BYTE_LIMIT: usize = 50_331_648;

@@ -1,0 +1,69 @@
+ghost use Rattle.std.specs.Prelude.{◌≡◌, ◌+◌, ◌-◌, ◌<◌, ◌≤◌, ◌^◌, ◌==◌, ℕ, if◌then◌else◌, length, slice_index, All, IfOk};
+ghost use Rattle.graph_theory.specs.Graph.{IsEdgeNumber};
+ghost use Rattle.graph_theory.specs.Walk.{walk_weight};
+ghost use Rattle.mb_problem.specs.declared.kind.Kind.TheVariants.{Perfect};
+ghost use Rattle.mb_problem.specs.declared.answer.Answer.TheVariants.{Counts};
+ghost use Rattle.mb_problem.specs.Network.{graph_of};
+ghost use Rattle.mb_problem.specs.Feasible.{IsFeasible, weight_of};
+ghost use Rattle.gadget_base.specs.Certified.{IsPerfectList};
+ghost use Rattle.gadget_base.specs.Blocks.{tabled};
+ghost use Rattle.gadget_base.specs.Listed.{times, times_each};
+
+use mb_base::{EdgeId, OutOfMemory, Sequence};
+use mb_problem::{Answer, Instance};
+use std::alloc::Global;
+
+/// Counts an edge once more.
+fn add_one(counts: &mut [u32], e: EdgeId)
+    requires low { 1 ≤ e }
+    requires high { e ≤ length counts.old }
+    requires small { slice_index counts.old (e - 1) < 2 ^ 31 }
+    ensures size { length counts.new ≡ length counts.old }
+    ensures each { (k : ℕ) → k < length counts.old → slice_index counts.new k ≡ slice_index counts.old k + (if e == k + 1 then 1 else 0) }
+{
+    counts[e.number() as usize - 1] += 1;
+}
+
+/// Counts how often each edge is listed. At the start all counts are 0.
+fn add_listed(counts: &mut [u32], edges: &[EdgeId])
+    requires numbers { All (λ e. (1 ≤ e) × (e ≤ length counts.old)) edges.now }
+    requires few { length edges.now < 2 ^ 31 }
+    requires start { (k : ℕ) → k < length counts.old → slice_index counts.old k ≡ 0 }
+    ensures { counts.new ≡ tabled (λ k. times edges.now (k + 1)) (length counts.old) }
+{
+    for edge in edges {
+        add_one(counts, *edge);
+    }
+}
+
+/// How often each edge is listed.
+fn count_listed(
+    alloc: Global,
+    instance: &Instance,
+    edges: &[EdgeId],
+) -> Result<Vec<u32>, OutOfMemory>
+    requires numbers { All (IsEdgeNumber (graph_of instance.now)) edges.now }
+    requires few { length edges.now < 2 ^ 31 }
+    ensures { IfOk result (λ counts. counts.items ≡ times_each (graph_of instance.now) edges.now) }
+{
+    let mut counts = vec![in alloc; 0u32; instance.edges() as usize]?;
+    add_listed(&mut counts, edges);
+    Ok(counts)
+}
+
+/// A perfect matching of the instance's own graph, given as the numbers of its edges, as an answer. It
+/// takes time linear in the edges. `OutOfMemory` is its one error.
+pub fn extract_plain(
+    alloc: Global,
+    instance: &Instance,
+    edges: &[EdgeId],
+) -> Result<Answer, OutOfMemory>
+    requires perfect { IsPerfectList (graph_of instance.now) edges.now }
+    ensures feasible { IfOk result (IsFeasible Perfect instance.now) }
+    ensures weighs { IfOk result (λ a. weight_of instance.now a ≡ walk_weight (graph_of instance.now) edges.now) }
+{
+    // The prover learns here that the instance is valid.
+    let _edges = instance.edges();
+    let counts = count_listed(alloc, instance, edges)?;
+    Ok(Answer::Counts(Sequence::from_vec(counts)))
+}
