@@ -47,6 +47,14 @@ def little_memory(program, tests):
     tests.compare("12 MiB of memory for 16 MB of input", given, (8, b"", b""), (done.returncode, done.stdout, done.stderr))
 
 
+def names_of_bytes(program, tests):
+    """The program's name needn't be text; another word that isn't is no command."""
+    for words, status, output in (([b"\xff", b"check", b"perfect"], 0, b"s ACCEPTED\n"), ([b"\xff"], 2, b"s USAGE\n"),
+                                  ([b"blossom", b"check", b"\xff"], 2, b"s USAGE\n")):
+        done = subprocess.run(words, executable=program, input=ACCEPTED, capture_output=True)
+        tests.compare("words that aren't text: %r" % words, ACCEPTED, (status, output, b""), (done.returncode, done.stdout, done.stderr))
+
+
 def check(program, tests):
-    for part in (full_device, closed_output, unreadable_input, little_memory):
+    for part in (full_device, closed_output, unreadable_input, little_memory, names_of_bytes):
         part(program, tests)

@@ -7,15 +7,41 @@ ghost use Rattle.std.specs.Prelude.{◌≡◌, ◌<◌};
 
 use match_cli::{Status, run};
 use mb_base::{OutOfMemory, RealIn, RealOut, Steps};
+use std::env::{self, Env, FillError};
+use std::io;
 use std::marker::Brand;
 use std::process::ExitCode;
 use std::sync::ledger::{Blank, Ledger};
-use std::{env, io};
 
-/// The words of the command line. Where they can't be had as text there are none, which is no command.
+/// The process's words and environment, but for the first word, which is answered as empty: it stands for
+/// the program's name, and needn't be text.
+#[derive(Drop)]
+struct Nameless<'a> {
+    rt: &'a HostRuntime,
+}
+
+impl Env for Nameless<'_> {
+    fn arg(&self, place: usize, buf: &mut [u8]) -> Result<usize, FillError> {
+        if place == 0 {
+            return Ok(0);
+        }
+        self.rt.arg(place, buf)
+    }
+
+    fn var(&self, name: &str, buf: &mut [u8]) -> Result<usize, FillError> {
+        self.rt.var(name, buf)
+    }
+
+    fn var_at(&self, place: usize, buf: &mut [u8]) -> Result<usize, FillError> {
+        self.rt.var_at(place, buf)
+    }
+}
+
+/// The words of the command line. Where one after the program's name isn't text there are none, which is no
+/// command.
 fn words(rt: &HostRuntime) -> Result<Vec<String>, OutOfMemory> {
     let mut words = Vec::new(rt.alloc());
-    match env::args(rt) {
+    match env::args(&(Nameless { rt }, rt.alloc())) {
         Ok(args) => {
             for word in args {
                 words.push(word)?;

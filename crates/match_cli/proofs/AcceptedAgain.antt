@@ -2,10 +2,11 @@
 use Rattle.std.proofs.Common.{◌≡◌, ℕ, ◌≤◌, false, List, [], ◌∷◌, ◌++◌, length, Option, None, Some, refl, sym, ap, subst, ◌∙◌, arith}
 use Rattle.std.proofs.lemmas.List.{length-append, append_cancel_left}
 use Rattle.mb_base.specs.Rows.{Row, rows}
+use Rattle.graph_theory.specs.Limits.{IsWithinLimits}
 use Rattle.mb_base.specs.Streams.{Extends}
 use Rattle.mb_problem.specs.declared.kind.Kind.{Kind}
-use Rattle.mb_problem.specs.declared.kind.Kind.TheVariants.{Perfect}
 use Rattle.mb_problem.specs.Network.{Network}
+use Rattle.mb_problem.specs.Size.{size_of}
 use Rattle.dimacs_read.specs.Rows.{instance_rows}
 use Rattle.dimacs_read.specs.Format.{HoldsInstance}
 use Rattle.dimacs_read.specs.Rest.{after_lines}
@@ -13,36 +14,38 @@ use Rattle.doc_format.specs.declared.document.Document.{Document}
 use Rattle.doc_format.specs.Reading.{HoldsDocument}
 use Rattle.doc_format.specs.Spelling.{document_text}
 use Rattle.doc_format.specs.Law.{HasKeptNumbers}
+use Rattle.certificates.proofs.GadgetLemmas.{few_vertices}
 use Rattle.certificates.proofs.WithinLemmas.{are-within}
 use Rattle.certificates.proofs.BarrierLemmas.{forms-where_none}
 use Rattle.cert_check.proofs.VerdictLemmas.{IsFormed, proved-keeps}
 use Rattle.match_cli.specs.declared.status.Status.{Status}
 use Rattle.match_cli.specs.declared.status.Status.TheVariants.{Done, Rejected, Usage, Malformed, TooLarge, TooLong, ReadFault, WriteFault, OutOfMemory}
+use Rattle.match_cli.specs.declared.limits.TheConstants.{SOLVE_BYTE_LIMIT}
 use Rattle.match_cli.specs.declared.words.Command.{Command}
 use Rattle.match_cli.specs.declared.words.Command.TheVariants.{Check, Solve}
-use Rattle.match_cli.specs.Commands.{limit_of, IsCommand}
-use Rattle.match_cli.specs.Checking.{FitsLimits}
+use Rattle.match_cli.specs.Commands.{limit_of}
 use Rattle.match_cli.specs.Solving.{Solves}
 use Rattle.match_cli.specs.Answers.{instance_part, document_part, document_line, InputHolds, InputStates, Accepts, HoldsAlone, Answers, DecidesSolve}
 use Rattle.match_cli.specs.Runs.{IsAnswer, EndsLine, IsAccepted, IsAcceptedAgain}
-use Rattle.match_cli.proofs.CommandLines.{is_command_of}
+use Rattle.match_cli.proofs.CommandLines.{check_named}
 use Rattle.match_cli.proofs.InputParts.{rows-both, after-both, instance-alone, instance-before}
 use Rattle.match_cli.proofs.Renumbering.{renumbered, text_rows, text_holds}
 use Rattle.match_cli.proofs.KeptNumbers.{kept_numbers}
 use Rattle.match_cli.proofs.SameClaims.{proved-lines, truth-lines}
 
--- what is read of a document for perfect matchings that is within the limits
-kept : (i : Network) (d : Document) → (length i.values ≤ 4096) × (length i.edges ≤ 1048576) → Solves Perfect i d → HasKeptNumbers d
-kept i d fits solves =
-    let few = fits.0 in
-    let short = fits.1 in
+-- what is read of a document that is within the limits
+kept : (kind : Kind) (i : Network) (d : Document) → IsWithinLimits (size_of kind i) → Solves kind i d → HasKeptNumbers d
+kept kind i d fits solves =
+    let few = solves.network.few_vertices in
+    let short = solves.network.few_edges in
+    let certified = few_vertices kind i fits in
     let small = solves.small in
-    kept_numbers Perfect i d (are-within Perfect i d solves.proved.in_range) (omega arith) (omega arith) (omega arith) (omega arith)
+    kept_numbers kind i d (are-within kind i d solves.proved.in_range) (omega arith) (omega arith) (omega arith) (omega arith)
 
 formed : (d : Document) → IsFormed d
 formed d = record { vertices_ascend = d.form.vertices_ascend; forms_where_none = λ other. forms-where_none d.status d.kind _ d.form.letters other }
 
-module _ (front : List ℕ) (i : Network) (d : Document) (alone : HoldsAlone Perfect (front ++ 10 ∷ []) i) (read : HasKeptNumbers d) where
+module _ (kind : Kind) (front : List ℕ) (i : Network) (d : Document) (alone : HoldsAlone kind (front ++ 10 ∷ []) i) (read : HasKeptNumbers d) where
   abbrev input : List ℕ
   input = front ++ 10 ∷ []
 
@@ -55,8 +58,8 @@ module _ (front : List ℕ) (i : Network) (d : Document) (alone : HoldsAlone Per
       ∙ instance-before (rows input) _ _ alone.alone refl
       ∙ sym (instance-alone (rows input) alone.alone)
 
-  holds_both : InputHolds Perfect whole i
-  holds_both = subst (λ (rs : List Row). HoldsInstance Perfect rs i) (sym same_part) alone.holds
+  holds_both : InputHolds kind whole i
+  holds_both = subst (λ (rs : List Row). HoldsInstance kind rs i) (sym same_part) alone.holds
 
   rest_is : document_part whole ≡ document_text d false
   rest_is = ap (λ (rs : List Row). after_lines (length rs) whole) (same_part ∙ instance-alone (rows input) alone.alone) ∙ after-both front (document_text d false)
@@ -64,44 +67,38 @@ module _ (front : List ℕ) (i : Network) (d : Document) (alone : HoldsAlone Per
   pub states_both : InputStates whole (renumbered (document_line whole) d)
   states_both = subst (λ (bytes : List ℕ). HoldsDocument (document_line whole) (rows bytes) (renumbered (document_line whole) d)) (sym rest_is) (text_holds d (document_line whole) read)
 
-  pub accepts_both : FitsLimits (record { vertices = length i.values; edges = length i.edges }) → Solves Perfect i d → Accepts Perfect whole i (renumbered (document_line whole) d)
+  pub accepts_both : IsWithinLimits (size_of kind i) → Solves kind i d → Accepts kind whole i (renumbered (document_line whole) d)
   accepts_both fits solves =
       let e = renumbered (document_line whole) d in
       record {
         holds = holds_both;
         fits = fits;
         states = states_both;
-        accepted = λ rule. proved-keeps Perfect i e (formed e) (proved-lines i (document_line whole) d solves.proved) rule;
-        truth = truth-lines i (document_line whole) d solves.truth;
+        accepted = λ rule. proved-keeps kind i e (formed e) (proved-lines kind i (document_line whole) d solves.proved) rule;
+        truth = truth-lines kind i (document_line whole) d solves.truth;
       }
 
 -- the answer of `check` to an input that ends its last line, and a full document of its instance behind it
-accepts_text : (front : List ℕ) (i : Network) (d : Document) → length (front ++ 10 ∷ []) ≤ 16777216 → HoldsAlone Perfect (front ++ 10 ∷ []) i → FitsLimits (record { vertices = length i.values; edges = length i.edges }) → Solves Perfect i d → IsAccepted Perfect (front ++ 10 ∷ []) (document_text d false)
-accepts_text front i d short alone fits solves name =
+accepts_text : (kind : Kind) (front : List ℕ) (i : Network) (d : Document) → length (front ++ 10 ∷ []) ≤ SOLVE_BYTE_LIMIT → HoldsAlone kind (front ++ 10 ∷ []) i → IsWithinLimits (size_of kind i) → Solves kind i d → IsAccepted kind (front ++ 10 ∷ []) (document_text d false)
+accepts_text kind front i d short alone fits solves name =
     let input = front ++ 10 ∷ [] in
     let sum = length-append input (document_text d false) in
     let small = solves.small in
-    let accepts = accepts_both front i d alone (kept i d fits solves) fits solves in
-    (Check Perfect, refl, omega arith, (i, renumbered (document_line (input ++ document_text d false)) d, accepts, refl))
+    let accepts = accepts_both kind front i d alone (kept kind i d fits solves) fits solves in
+    (Check kind, check_named kind name, omega arith, (i, renumbered (document_line (input ++ document_text d false)) d, accepts, refl))
 
-pub solved_is_accepted : (bytes out : List ℕ) → length bytes ≤ 16777216 → EndsLine bytes → DecidesSolve Perfect false bytes out Done → IsAccepted Perfect bytes out
-solved_is_accepted bytes out short ends h =
+solved_is_accepted : (kind : Kind) (bytes out : List ℕ) → length bytes ≤ SOLVE_BYTE_LIMIT → EndsLine bytes → DecidesSolve kind false bytes out Done → IsAccepted kind bytes out
+solved_is_accepted kind bytes out short ends h =
     let front = ends.0 in
     let i = h.0 in
     let d = h.1 in
     let input : front ++ 10 ∷ [] ≡ bytes = sym ends.1 in
-    let alone : HoldsAlone Perfect (front ++ 10 ∷ []) i = subst (λ (b : List ℕ). HoldsAlone Perfect b i) ends.1 h.2 in
-    let within : length (front ++ 10 ∷ []) ≤ 16777216 = subst (λ (b : List ℕ). length b ≤ 16777216) ends.1 short in
-    let accepted : IsAccepted Perfect (front ++ 10 ∷ []) (document_text d false) = accepts_text front i d within alone h.3 h.4 in
-    subst (λ (b : List ℕ). IsAccepted Perfect b out) input (subst (λ (o : List ℕ). IsAccepted Perfect (front ++ 10 ∷ []) o) (sym h.5) accepted)
+    let alone : HoldsAlone kind (front ++ 10 ∷ []) i = subst (λ (b : List ℕ). HoldsAlone kind b i) ends.1 h.2 in
+    let within : length (front ++ 10 ∷ []) ≤ SOLVE_BYTE_LIMIT = subst (λ (b : List ℕ). length b ≤ SOLVE_BYTE_LIMIT) ends.1 short in
+    let accepted : IsAccepted kind (front ++ 10 ∷ []) (document_text d false) = accepts_text kind front i d within alone h.3 h.4 in
+    subst (λ (b : List ℕ). IsAccepted kind b out) input (subst (λ (o : List ℕ). IsAccepted kind (front ++ 10 ∷ []) o) (sym h.5) accepted)
 
 -- ---- of a run
-
-answers_perfect : (kind : Kind) (command : Command) (bytes out : List ℕ) → command ≡ Solve kind false → IsCommand command → Answers command bytes out Done → (kind ≡ Perfect) × DecidesSolve Perfect false bytes out Done
-answers_perfect kind command bytes out is taken h =
-    let same : kind ≡ Perfect = subst IsCommand is taken in
-    let answers : Answers (Solve kind false) bytes out Done = subst (λ (c : Command). Answers c bytes out Done) is h in
-    (same, subst (λ (k : Kind). DecidesSolve k false bytes out Done) same answers)
 
 one_command : (a b : Command) → Some a ≡ Some b → a ≡ b
 one_command a b e = cc
@@ -111,13 +108,11 @@ again_of words None after taken_before taken_after out h extends = tt
 again_of words (Some bytes) after None taken_after out h extends = tt
 again_of words (Some bytes) after (Some xs) None out h extends = tt
 again_of words (Some bytes) after (Some xs) (Some ys) out h extends = λ kind written solves ends is.
-    (let command = h.0.0 in
-    let named : command ≡ Solve kind false = one_command command (Solve kind false) (sym h.0.1 ∙ solves) in
-    let answers = answers_perfect kind command bytes out named (is_command_of words command h.0.1) h.0.3 in
-    let short : length bytes ≤ 16777216 = subst (λ (c : Command). length bytes ≤ limit_of c) named h.0.2 in
+    (let named : h.0.0 ≡ Solve kind false = one_command h.0.0 (Solve kind false) (sym h.0.1 ∙ solves) in
+    let answers : Answers (Solve kind false) bytes out Done = subst (λ (c : Command). Answers c bytes out Done) named h.0.3 in
+    let short : length bytes ≤ SOLVE_BYTE_LIMIT = subst (λ (c : Command). length bytes ≤ limit_of c) named h.0.2 in
     let same : out ≡ written = append_cancel_left xs out written (sym extends ∙ is) in
-    let accepted : IsAccepted Perfect bytes out = solved_is_accepted bytes out short ends answers.1 in
-    subst (λ (k : Kind). IsAccepted k bytes written) (sym answers.0) (subst (λ (o : List ℕ). IsAccepted Perfect bytes o) same accepted))
+    subst (λ (o : List ℕ). IsAccepted kind bytes o) same (solved_is_accepted kind bytes out short ends answers))
 
 pub accepted_again : (words : List (List ℕ)) (before after taken_before taken_after : Option (List ℕ)) (out : List ℕ) (status : Status) → IsAnswer words before after out status → Extends taken_before taken_after out → IsAcceptedAgain words before taken_before taken_after status
 accepted_again words before after taken_before taken_after out Done h extends = again_of words before after taken_before taken_after out h extends

@@ -17,7 +17,7 @@ use Rattle.match_cli.specs.Lines.{rejected_line}
 use Rattle.match_cli.specs.declared.status.Status.{Status}
 use Rattle.match_cli.specs.declared.status.Status.TheVariants.{Done, Rejected, Usage, Malformed, TooLarge, TooLong, ReadFault, WriteFault, OutOfMemory}
 use Rattle.match_cli.specs.declared.answer.Answer.{Answer}
-use Rattle.match_cli.specs.Checking.{DocumentAnswer, DecidesDocument, RestAnswer, DecidesRest, InstanceAnswer, DecidesInstance, FitsLimits}
+use Rattle.match_cli.specs.Checking.{DocumentAnswer, DecidesDocument, RestAnswer, DecidesRest, InstanceAnswer, DecidesInstance}
 use Rattle.match_cli.specs.Answers.{InputHolds, Decides, document_part, document_line}
 
 rest_of_document : (kind : Kind) (i : Network) (n : ℕ) (bytes : List ℕ) (d : Document) (out : List ℕ) (status : Status) → HoldsDocument n (rows bytes) d → DocumentAnswer kind i d out status → RestAnswer kind i n bytes out status
@@ -31,7 +31,7 @@ rest_of_document kind i n bytes d out ReadFault h a = absurd a
 rest_of_document kind i n bytes d out WriteFault h a = absurd a
 rest_of_document kind i n bytes d out OutOfMemory h a = absurd a
 
-instance_of_rest : (kind : Kind) (i : Network) (n : ℕ) (bytes : List ℕ) (out : List ℕ) (status : Status) → FitsLimits (size_of kind i) → RestAnswer kind i n bytes out status → InstanceAnswer kind i n bytes out status
+instance_of_rest : (kind : Kind) (i : Network) (n : ℕ) (bytes : List ℕ) (out : List ℕ) (status : Status) → IsWithinLimits (size_of kind i) → RestAnswer kind i n bytes out status → InstanceAnswer kind i n bytes out status
 instance_of_rest kind i n bytes out Done f a = (f, a)
 instance_of_rest kind i n bytes out Rejected f a = (f, a)
 instance_of_rest kind i n bytes out Usage f a = absurd a
@@ -60,7 +60,7 @@ if_ok-map P Q (Err e) f h = tt
 pub rest_answers : (kind : Kind) (i : Network) (n : ℕ) (bytes : List ℕ) (d : Document) {E : Type 0} (r : Result Answer E) → HoldsDocument n (rows bytes) d → IfOk r (DecidesDocument kind i d) → IfOk r (DecidesRest kind i n bytes)
 rest_answers kind i n bytes d r h = if_ok-map (DecidesDocument kind i d) (DecidesRest kind i n bytes) r (λ a. rest_of_document kind i n bytes d a.text.items a.status h)
 
-pub instance_answers : (kind : Kind) (i : Network) (n : ℕ) (bytes : List ℕ) {E : Type 0} (r : Result Answer E) → FitsLimits (size_of kind i) → IfOk r (DecidesRest kind i n bytes) → IfOk r (DecidesInstance kind i n bytes)
+pub instance_answers : (kind : Kind) (i : Network) (n : ℕ) (bytes : List ℕ) {E : Type 0} (r : Result Answer E) → IsWithinLimits (size_of kind i) → IfOk r (DecidesRest kind i n bytes) → IfOk r (DecidesInstance kind i n bytes)
 instance_answers kind i n bytes r f = if_ok-map (DecidesRest kind i n bytes) (DecidesInstance kind i n bytes) r (λ a. instance_of_rest kind i n bytes a.text.items a.status f)
 
 pub check_answers : (kind : Kind) (bytes : List ℕ) (i : Network) (rest : Rest) {E : Type 0} (r : Result Answer E) → InputHolds kind bytes i → IsRest bytes rest → IfOk r (DecidesInstance kind i rest.line rest.bytes) → IfOk r (λ a. Decides kind bytes a.text.items a.status)
@@ -71,9 +71,6 @@ check_answers kind bytes i rest r h is =
 pub form_answers : (kind : Kind) (i : Network) (n k line : ℕ) (bytes : List ℕ) {E : Type 0} (r : Result Answer E) → line ≡ n + k → IsFirstRefused n (rows bytes) k → IfOk r (λ a. a.text.items ≡ rejected_line DocForm line) → IfOk r (λ a. a.status ≡ Rejected) → IfOk r (DecidesRest kind i n bytes)
 form_answers kind i n k line bytes (Ok a) e refused text status = subst (λ (s : Status). RestAnswer kind i n bytes a.text.items s) (sym status) (DocForm, line, inl (refl, (k, e, refused)), text)
 form_answers kind i n k line bytes (Err x) e refused text status = tt
-
-pub within_limits : (kind : Kind) (i : Network) → FitsLimits (size_of kind i) → IsWithinLimits (size_of kind i)
-within_limits kind i fits = record { vertices = fits.0; edges = fits.1 }
 
 pub none_below : (kind : Kind) (i : Network) → IsReady kind i → kind ≡ Postman → All (λ e. pos 0 ≤ℤ e.w) i.edges
 none_below kind i ready is = subst (λ (k : Kind). IsReady k i) is ready

@@ -1,21 +1,26 @@
 -- What the words of a command line can ask for.
 use Rattle.std.proofs.Common.{◌≡◌, ℕ, Bool, true, false, cond, List, [], ◌∷◌, length, map, get_or, Option, None, Some, refl, ap, ap₂, subst, ◌∙◌, arith}
 use Rattle.std.specs.Prelude.{codes}
-use Rattle.std.specs.Option.{option_map}
+use Rattle.std.specs.Option.{option_map, option_and_then}
 use Rattle.std.specs.Str.{bytes_eq}
 use Rattle.mb_problem.specs.declared.kind.Kind.{Kind}
-use Rattle.mb_problem.specs.declared.kind.Kind.TheVariants.{Perfect}
+use Rattle.mb_problem.specs.declared.kind.Kind.TheVariants.{Perfect, Match, BMatch, CapMatch, FFactor, TJoin, Postman, Path}
 use Rattle.mb_problem.specs.Kinds.{kind_text, kind_named}
+use Rattle.solve_kinds.specs.Solved.{is_solved}
 use Rattle.match_cli.specs.declared.words.Command.{Command}
 use Rattle.match_cli.specs.declared.words.Command.TheVariants.{Check, Solve}
 use Rattle.match_cli.specs.Commands.{solve_named, solve_briefly, after_name, command_of, IsCommand}
 
-named_by : (named brief : Bool) (command : Command) → cond named (Some (Solve Perfect brief)) None ≡ Some command → IsCommand command
-named_by true brief command e = (let is : Solve Perfect brief ≡ command = cc in subst IsCommand is refl)
-named_by false brief command e = absurd cc
+taken_by : (taken brief : Bool) (kind : Kind) (command : Command) → is_solved kind ≡ taken → cond taken (Some (Solve kind brief)) None ≡ Some command → IsCommand command
+taken_by true brief kind command is e = (let same : Solve kind brief ≡ command = cc in subst IsCommand same is)
+taken_by false brief kind command is e = absurd cc
+
+solved_by : (brief : Bool) (kind : Option Kind) (command : Command) → option_and_then (λ (k : Kind). cond (is_solved k) (Some (Solve k brief)) None) kind ≡ Some command → IsCommand command
+solved_by brief None command e = absurd cc
+solved_by brief (Some kind) command e = taken_by (is_solved kind) brief kind command refl e
 
 solve_taken : (brief : Bool) (name : List ℕ) (command : Command) → solve_named brief name ≡ Some command → IsCommand command
-solve_taken brief name command e = named_by (bytes_eq name (kind_text Perfect)) brief command e
+solve_taken brief name command e = solved_by brief (kind_named name) command e
 
 checked_by : (kind : Option Kind) (command : Command) → option_map (λ (k : Kind). Check k) kind ≡ Some command → IsCommand command
 checked_by None command e = absurd cc
@@ -35,7 +40,7 @@ three_words : (solves : Bool) (a b : List ℕ) (command : Command) → cond solv
 three_words true a b command e = briefly (bytes_eq a (codes "--brief")) (bytes_eq b (codes "--brief")) a b command e
 three_words false a b command e = absurd cc
 
--- `solve` is for perfect matchings alone
+-- `solve` is for kinds that it takes
 pub is_command_of : (words : List (List ℕ)) (command : Command) → command_of words ≡ Some command → IsCommand command
 is_command_of [] command e = absurd cc
 is_command_of (name ∷ []) command e = absurd cc
@@ -43,6 +48,17 @@ is_command_of (name ∷ a ∷ []) command e = absurd cc
 is_command_of (name ∷ a ∷ b ∷ []) command e = two_words (bytes_eq a (codes "check")) (bytes_eq a (codes "solve")) (kind_named b) b command e
 is_command_of (name ∷ a ∷ b ∷ c ∷ []) command e = three_words (bytes_eq a (codes "solve")) b c command e
 is_command_of (name ∷ a ∷ b ∷ c ∷ d ∷ more) command e = absurd cc
+
+-- `check` and the name of a kind are its command
+pub check_named : (kind : Kind) (name : List ℕ) → command_of (name ∷ codes "check" ∷ kind_text kind ∷ []) ≡ Some (Check kind)
+check_named Perfect name = refl
+check_named Match name = refl
+check_named BMatch name = refl
+check_named CapMatch name = refl
+check_named FFactor name = refl
+check_named TJoin name = refl
+check_named Postman name = refl
+check_named Path name = refl
 
 -- ---- the words after the name, as they are read
 

@@ -2,8 +2,8 @@
 use Rattle.std.proofs.Common.{◌≡◌, ℕ, ◌<◌, ◌≤◌, List, [], length, Bool, Option, None, Some, inl, inr, refl, sym, subst, ◌∙◌, arith}
 use Rattle.mb_problem.specs.declared.kind.Kind.{Kind}
 use Rattle.mb_problem.specs.Network.{Network}
-use Rattle.graph_theory.specs.Limits.{Size}
 use Rattle.mb_problem.specs.Size.{size_of}
+use Rattle.graph_theory.specs.Limits.{IsWithinLimits}
 use Rattle.dimacs_read.specs.declared.rule.Rule.{Rule}
 use Rattle.dimacs_read.proofs.ReadingLemmas.{one_instance, no_instance_and_fault}
 use Rattle.match_cli.specs.declared.status.Status.{Status}
@@ -11,7 +11,6 @@ use Rattle.match_cli.specs.declared.status.Status.TheVariants.{Done, Rejected, U
 use Rattle.match_cli.specs.declared.words.Command.{Command}
 use Rattle.match_cli.specs.declared.words.Command.TheVariants.{Check, Solve}
 use Rattle.match_cli.specs.Commands.{command_of, limit_of}
-use Rattle.match_cli.specs.Checking.{FitsLimits, PassesLimit}
 use Rattle.match_cli.specs.Answers.{instance_part, document_part, answer_place, InputHolds, RefusesInput, Answers, Out}
 use Rattle.match_cli.specs.Runs.{IsAnswer, IsInput, MayReject, IsAnswered, Completes}
 use Rattle.match_cli.proofs.InputParts.{place_none}
@@ -22,14 +21,9 @@ same_command a b e = cc
 no_command : (words : List (List ℕ)) (command : Command) → command_of words ≡ None → command_of words ≡ Some command → ⊥
 no_command words command none some = (let e : None ≡ Some command = sym none ∙ some in absurd cc)
 
--- no size is within the limits and past one of them
-not_both : (size : Size) → FitsLimits size → PassesLimit size → ⊥
-not_both size fits (inl past) = (let few = fits.0 in omega (arith, few, past))
-not_both size fits (inr past) = (let few = fits.1 in omega (arith, few, past))
-
-not_too_large : (kind : Kind) (bytes : List ℕ) (i j : Network) → InputHolds kind bytes i → FitsLimits (size_of kind i) → InputHolds kind bytes j → PassesLimit (size_of kind j) → ⊥
+not_too_large : (kind : Kind) (bytes : List ℕ) (i j : Network) → InputHolds kind bytes i → IsWithinLimits (size_of kind i) → InputHolds kind bytes j → ¬ IsWithinLimits (size_of kind j) → ⊥
 not_too_large kind bytes i j holds fits other past =
-    not_both (size_of kind j) (subst (λ (n : Network). FitsLimits (size_of kind n)) (one_instance kind (instance_part bytes) i j holds other) fits) past
+    past (subst (λ (n : Network). IsWithinLimits (size_of kind n)) (one_instance kind (instance_part bytes) i j holds other) fits)
 
 no_place : (o : Option ℕ) (k : ℕ) → o ≡ None → o ≡ Some k → ⊥
 no_place o k none some = (let e : None ≡ Some k = sym none ∙ some in absurd cc)

@@ -4,9 +4,9 @@ pub mod InputParts
 pub mod Renumbering
 pub mod KeptNumbers
 pub mod SameClaims
-pub mod SolveTruth
 pub mod CommandLines
 pub mod AcceptedAgain
 pub mod StepCounts
 pub mod SolveAnswers
 pub mod Completeness
+pub mod RunEnds

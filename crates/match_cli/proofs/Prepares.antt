@@ -7,8 +7,7 @@ use Rattle.match_cli.specs.declared.words.Command.{Command}
 use Rattle.match_cli.specs.declared.words.Command.TheVariants.{Check, Solve}
 use Rattle.match_cli.specs.Commands.{command_of, limit_of}
 use Rattle.match_cli.specs.Answers.{Answers}
-use Rattle.match_cli.specs.Runs.{IsAnswer, IsUsage, Spends, IsTrueBy, TellsTruth}
-use Rattle.match_cli.specs.Prepared.{IsWritten}
+use Rattle.match_cli.specs.Runs.{IsAnswer, IsUsage, IsWritten, Spends, IsTrueBy, TellsTruth}
 
 -- all bytes were read
 all_read : (xs ys bytes : List ℕ) → xs ≡ bytes ++ ys → ys ≡ [] → bytes ≡ xs
@@ -83,8 +82,8 @@ is_command words command bytes out Malformed e h = (command, e)
 is_command words command bytes out TooLarge e h = (command, e)
 is_command words command bytes out TooLong e h = (command, e)
 is_command words command bytes out ReadFault e h = (command, e)
-is_command words command bytes out WriteFault e h = tt
-is_command words command bytes out OutOfMemory e h = tt
+is_command words command bytes out WriteFault e h = (command, e)
+is_command words command bytes out OutOfMemory e h = (command, e)
 
 -- ---- what was accepted or written is true
 

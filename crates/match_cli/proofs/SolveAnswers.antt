@@ -1,15 +1,13 @@
 -- From the answer of a part of `solve` to the answer of the whole.
-use Rattle.std.proofs.Common.{◌≡◌, ℕ, ◌≤◌, Bool, false, List, length, Result, Ok, Err, inr, refl, sym, subst}
+use Rattle.std.proofs.Common.{◌≡◌, ℕ, Bool, List, Result, Ok, Err, inr, refl, sym, subst}
 use Rattle.std.specs.Prelude.{IfOk}
 use Rattle.mb_problem.specs.declared.kind.Kind.{Kind}
-use Rattle.mb_problem.specs.declared.kind.Kind.TheVariants.{Perfect}
-use Rattle.mb_problem.specs.Network.{Network, IsNetwork}
+use Rattle.mb_problem.specs.Network.{Network}
 use Rattle.dimacs_read.specs.declared.rest.Rest.{Rest}
 use Rattle.dimacs_read.specs.declared.rule.Rule.TheVariants.{UnknownLine}
 use Rattle.dimacs_read.specs.Rest.{IsRest}
 use Rattle.doc_format.specs.declared.document.Document.{Document}
 use Rattle.doc_format.specs.Spelling.{document_text}
-use Rattle.certificates.specs.Proved.{IsProved}
 use Rattle.match_cli.specs.declared.answer.Answer.{Answer}
 use Rattle.match_cli.specs.declared.status.Status.{Status}
 use Rattle.match_cli.specs.declared.status.Status.TheVariants.{Done, Rejected, Usage, Malformed, TooLarge, TooLong, ReadFault, WriteFault, OutOfMemory}
@@ -17,15 +15,10 @@ use Rattle.match_cli.specs.Solving.{Solves, SolvedAnswer, DecidesSolved, Followe
 use Rattle.match_cli.specs.Answers.{InputHolds, DecidesSolve}
 use Rattle.match_cli.proofs.Checks.{if_ok-map}
 use Rattle.match_cli.proofs.InputParts.{rest_empty, rest_some}
-use Rattle.match_cli.proofs.SolveTruth.{solves_perfect}
 
-solves : (kind : Kind) (i : Network) (d : Document) → kind ≡ Perfect → IsNetwork i → IsProved kind i d → length (document_text d false) ≤ 50331648 → Solves kind i d
-solves kind i d same ok proved small = subst (λ (k : Kind). Solves k i d) (sym same) (solves_perfect i d ok (subst (λ (k : Kind). IsProved k i d) same proved) small)
-
-pub solved_answers : (kind : Kind) (brief : Bool) (i : Network) (d : Document) {E : Type 0} (r : Result Answer E) → kind ≡ Perfect → IsNetwork i → IsProved kind i d → length (document_text d false) ≤ 50331648 → IfOk r (λ a. a.text.items ≡ document_text d brief) → IfOk r (λ a. a.status ≡ Done) → IfOk r (DecidesSolved kind brief i)
-solved_answers kind brief i d (Ok a) same ok proved small text status =
-    subst (λ (s : Status). SolvedAnswer kind brief i a.text.items s) (sym status) (d, solves kind i d same ok proved small, text)
-solved_answers kind brief i d (Err e) same ok proved small text status = tt
+pub solved_answers : (kind : Kind) (brief : Bool) (i : Network) (d : Document) {E : Type 0} (r : Result Answer E) → Solves kind i d → IfOk r (λ a. a.text.items ≡ document_text d brief) → IfOk r (λ a. a.status ≡ Done) → IfOk r (DecidesSolved kind brief i)
+solved_answers kind brief i d (Ok a) solves text status = subst (λ (s : Status). SolvedAnswer kind brief i a.text.items s) (sym status) (d, solves, text)
+solved_answers kind brief i d (Err e) solves text status = tt
 
 decides_from : (kind : Kind) (brief : Bool) (bytes : List ℕ) (i : Network) (rest : Rest) (out : List ℕ) (status : Status) → InputHolds kind bytes i → IsRest bytes rest → FollowedAnswer kind brief i rest out status → DecidesSolve kind brief bytes out status
 decides_from kind brief bytes i rest out Malformed h is a = (let found = rest_some bytes rest is a.0 in (UnknownLine, rest.line, inr ((i, h), refl, found), a.1))

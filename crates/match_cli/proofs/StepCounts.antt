@@ -1,14 +1,13 @@
--- Where nothing was counted, what a failed write leaves of the count, and what a search counts at most.
+-- Where nothing was counted, and what a search counts at most.
 use Rattle.std.proofs.Common.{◌≡◌, ℕ, ◌+◌, ◌*◌, ◌≤◌, List, ◌++◌, length, map, Bool, Option, None, Some, Result, Ok, Err, ap, sym, subst, ◌∙◌, append-nil, arith}
-use Rattle.std.proofs.lemmas.List.{length-map}
 use Rattle.std.proofs.Math.Nat.{mul-le-mul}
 use Rattle.std.specs.Prelude.{IfOk}
 use Rattle.std.specs.Io.KnownBytes.{Consumes, IsAtEnd}
 use Rattle.mb_problem.specs.declared.kind.Kind.{Kind}
-use Rattle.mb_problem.specs.declared.kind.Kind.TheVariants.{Perfect}
-use Rattle.mb_problem.specs.Network.{Network, graph_of, vertices}
+use Rattle.mb_problem.specs.Network.{Network}
 use Rattle.mb_problem.specs.Size.{size_of}
-use Rattle.mwpm_engine.specs.Solutions.{size_of_graph, most_steps}
+use Rattle.graph_theory.specs.Limits.{Size, IsWithinLimits}
+use Rattle.mwpm_engine.specs.Solutions.{most_steps}
 use Rattle.dimacs_read.proofs.ReadingLemmas.{one_instance}
 use Rattle.match_cli.specs.declared.status.Status.{Status}
 use Rattle.match_cli.specs.declared.status.Status.TheVariants.{Done, Rejected, Usage, Malformed, TooLarge, TooLong, ReadFault, WriteFault, OutOfMemory}
@@ -16,9 +15,8 @@ use Rattle.match_cli.specs.declared.answer.Answer.{Answer}
 use Rattle.match_cli.specs.declared.words.Command.{Command}
 use Rattle.match_cli.specs.declared.words.Command.TheVariants.{Check, Solve}
 use Rattle.match_cli.specs.Commands.{command_of}
-use Rattle.match_cli.specs.Checking.{FitsLimits}
 use Rattle.match_cli.specs.Answers.{instance_part, InputHolds}
-use Rattle.match_cli.specs.Counts.{most_counted, most_within_limits, CountsSearch, CountsSteps, CountsAnswer, CountsInstance, CountsSource}
+use Rattle.match_cli.specs.Counts.{largest, CountsSearch, CountsSteps, CountsAnswer, CountsInstance, CountsSource}
 use Rattle.match_cli.specs.Solving.{DecidesSolved, SolvedAnswer}
 
 none_searched : (command : Option Command) (before after : ℕ) → after ≡ before → CountsSearch command before after
@@ -28,48 +26,27 @@ none_searched (Some (Solve kind brief)) before after same = omega (arith, same)
 
 pub none_counted : (command : Option Command) (before after : ℕ) (status : Status) → after ≡ before → CountsSteps command before after status
 none_counted command before after Done same = none_searched command before after same
-none_counted command before after WriteFault same = none_searched command before after same
-none_counted command before after OutOfMemory same = none_searched command before after same
 none_counted command before after Rejected same = same
 none_counted command before after Usage same = same
 none_counted command before after Malformed same = same
 none_counted command before after TooLarge same = same
 none_counted command before after TooLong same = same
 none_counted command before after ReadFault same = same
-
--- a failed write leaves the count that the answer had
-pub counted_before_write : (command : Option Command) (before after : ℕ) (status : Status) → CountsSteps command before after status → CountsSteps command before after WriteFault
-counted_before_write command before after Done counts = counts
-counted_before_write command before after WriteFault counts = counts
-counted_before_write command before after OutOfMemory counts = counts
-counted_before_write command before after Rejected same = none_searched command before after same
-counted_before_write command before after Usage same = none_searched command before after same
-counted_before_write command before after Malformed same = none_searched command before after same
-counted_before_write command before after TooLarge same = none_searched command before after same
-counted_before_write command before after TooLong same = none_searched command before after same
-counted_before_write command before after ReadFault same = none_searched command before after same
+none_counted command before after WriteFault same = same
+none_counted command before after OutOfMemory same = same
 
 -- ---- a search
 
-counted-more : (n m a b : ℕ) → n ≤ a → m ≤ b → most_counted n m ≤ most_counted a b
-counted-more n m a b h h' =
-    let vertices : n + 1 ≤ a + 1 = omega (arith, h) in
-    let phases : 3 * n + 2 ≤ 3 * a + 2 = omega (arith, h) in
-    let edges : m + 1 ≤ b + 1 = omega (arith, h') in
-    mul-le-mul (mul-le-mul vertices phases) edges
-
-steps_are : (i : Network) → most_steps (size_of_graph (graph_of i)) ≡ most_counted (vertices i) (length i.edges)
-steps_are i = ap (most_counted (vertices i)) (length-map i.edges _)
-
 -- within the limits a search counts no more than at the limits
-pub within_limits : (kind : Kind) (i : Network) (before after : ℕ) → kind ≡ Perfect → FitsLimits (size_of kind i) → after ≤ before + most_steps (size_of_graph (graph_of i)) → after ≤ before + most_within_limits
-within_limits kind i before after same fits counted =
-    let small : FitsLimits (size_of Perfect i) = subst (λ (k : Kind). FitsLimits (size_of k i)) same fits in
-    let less = counted-more (vertices i) (length i.edges) 4096 1048576 small.0 small.1 in
-    let is = steps_are i in
-    omega (arith, counted, less, is)
+pub within_limits : (size : Size) (before after : ℕ) → IsWithinLimits size → after ≤ before + most_steps size → after ≤ before + most_steps largest
+within_limits size before after fits counted =
+    let vertices : size.vertices + 1 ≤ largest.vertices + 1 = omega (arith, fits.vertices) in
+    let phases : 3 * size.vertices + 2 ≤ 3 * largest.vertices + 2 = omega (arith, fits.vertices) in
+    let edges : size.edges + 1 ≤ largest.edges + 1 = omega (arith, fits.edges) in
+    let less : most_steps size ≤ most_steps largest = mul-le-mul (mul-le-mul vertices phases) edges in
+    omega (arith, counted, less)
 
-searched : (kind : Kind) (brief : Bool) (i : Network) (out : List ℕ) (before after : ℕ) (status : Status) → SolvedAnswer kind brief i out status → after ≤ before + most_within_limits → CountsSteps (Some (Solve kind brief)) before after status
+searched : (kind : Kind) (brief : Bool) (i : Network) (out : List ℕ) (before after : ℕ) (status : Status) → SolvedAnswer kind brief i out status → after ≤ before + most_steps largest → CountsSteps (Some (Solve kind brief)) before after status
 searched kind brief i out before after Done answer counted = counted
 searched kind brief i out before after Rejected answer counted = absurd answer
 searched kind brief i out before after Usage answer counted = absurd answer
@@ -77,12 +54,12 @@ searched kind brief i out before after Malformed answer counted = absurd answer
 searched kind brief i out before after TooLarge answer counted = absurd answer
 searched kind brief i out before after TooLong answer counted = absurd answer
 searched kind brief i out before after ReadFault answer counted = absurd answer
-searched kind brief i out before after WriteFault answer counted = counted
-searched kind brief i out before after OutOfMemory answer counted = counted
+searched kind brief i out before after WriteFault answer counted = absurd answer
+searched kind brief i out before after OutOfMemory answer counted = absurd answer
 
-pub search_counts : (kind : Kind) (brief : Bool) (i : Network) (before after : ℕ) {E : Type 0} (r : Result Answer E) → kind ≡ Perfect → FitsLimits (size_of kind i) → IfOk r (DecidesSolved kind brief i) → after ≤ before + most_steps (size_of_graph (graph_of i)) → CountsAnswer (Solve kind brief) before after r
-search_counts kind brief i before after (Ok a) same fits answer counted = searched kind brief i a.text.items before after a.status answer (within_limits kind i before after same fits counted)
-search_counts kind brief i before after (Err e) same fits answer counted = within_limits kind i before after same fits counted
+pub search_counts : (kind : Kind) (brief : Bool) (i : Network) (before after : ℕ) {E : Type 0} (r : Result Answer E) → IsWithinLimits (size_of kind i) → IfOk r (DecidesSolved kind brief i) → after ≤ before + most_steps (size_of kind i) → CountsAnswer (Solve kind brief) before after r
+search_counts kind brief i before after (Ok a) fits answer counted = searched kind brief i a.text.items before after a.status answer (within_limits (size_of kind i) before after fits counted)
+search_counts kind brief i before after (Err e) fits answer counted = within_limits (size_of kind i) before after fits counted
 
 -- ---- the instance that the source gives
 
@@ -97,11 +74,11 @@ same_solve : (a b : Kind) (c d : Bool) → Some (Solve a c) ≡ Some (Solve b d)
 same_solve a b c d e = cc
 
 -- an input holds one instance
-pub counted_for : (kind : Kind) (brief : Bool) (bytes : List ℕ) (j : Network) (before after : ℕ) → InputHolds kind bytes j → after ≤ before + most_steps (size_of_graph (graph_of j)) → CountsInstance (Some (Solve kind brief)) bytes before after
+pub counted_for : (kind : Kind) (brief : Bool) (bytes : List ℕ) (j : Network) (before after : ℕ) → InputHolds kind bytes j → after ≤ before + most_steps (size_of kind j) → CountsInstance (Some (Solve kind brief)) bytes before after
 counted_for kind brief bytes j before after held counted other other_brief i is holds =
     let same : kind ≡ other = same_solve kind other brief other_brief is in
     let here : InputHolds kind bytes i = subst (λ (k : Kind). InputHolds k bytes i) (sym same) holds in
-    subst (λ (n : Network). after ≤ before + most_steps (size_of_graph (graph_of n))) (one_instance kind (instance_part bytes) j i held here) counted
+    subst (λ (k : Kind). after ≤ before + most_steps (size_of k i)) same (subst (λ (n : Network). after ≤ before + most_steps (size_of kind n)) (one_instance kind (instance_part bytes) j i held here) counted)
 
 -- all bytes of the source were read
 pub source_counted : (words : List (List ℕ)) (command : Command) (source left : Option (List ℕ)) (bytes : List ℕ) (before after : ℕ) → command_of words ≡ Some command → Consumes source left bytes → IsAtEnd left → CountsInstance (Some command) bytes before after → CountsSource words source before after

@@ -1,6 +1,7 @@
 -- What the program answers to its words and its input: what is written, and the status.
 use Rattle.std.specs.Prelude.{◌≡◌, ℕ, ◌+◌, ◌<◌, ◌≤◌, ◌⊎◌, List, length, Bool, codes, Option, None, Some}
 use Rattle.mb_base.specs.Rows.{Row, rows}
+use Rattle.graph_theory.specs.Limits.{IsWithinLimits}
 use Rattle.mb_problem.specs.declared.kind.Kind.{Kind}
 use Rattle.mb_problem.specs.Network.{Network}
 use Rattle.mb_problem.specs.Size.{size_of}
@@ -22,7 +23,7 @@ use Rattle.match_cli.specs.declared.words.Command.{Command}
 use Rattle.match_cli.specs.declared.words.Command.TheVariants.{Check, Solve}
 use Rattle.match_cli.specs.Commands.{command_of, limit_of}
 use Rattle.match_cli.specs.Lines.{malformed_line, rejected_line, too_large_line}
-use Rattle.match_cli.specs.Checking.{RefusesFirst, FitsLimits, PassesLimit}
+use Rattle.match_cli.specs.Checking.{RefusesFirst}
 use Rattle.match_cli.specs.Solving.{Solves}
 
 -- ---- the two parts of an input
@@ -54,7 +55,7 @@ BreaksFirst kind bytes i rule line = RefusesFirst kind i (document_line bytes) (
 -- the input holds this instance and states this document, which is accepted and true of the instance
 pub record Accepts (kind : Kind) (bytes : List ℕ) (i : Network) (d : Document) : Type 0 where
   pub holds : InputHolds kind bytes i
-  pub fits : FitsLimits (size_of kind i)
+  pub fits : IsWithinLimits (size_of kind i)
   pub states : InputStates bytes d
   pub accepted : IsVerdict kind i d verdict.Accepted
   pub truth : StatesTruth kind i d
@@ -62,8 +63,8 @@ pub record Accepts (kind : Kind) (bytes : List ℕ) (i : Network) (d : Document)
 -- what `check` writes, and its status, for input within its limit of bytes
 abbrev pub Decides : Kind → List ℕ → List ℕ → Status → Type 0
 Decides kind bytes out Malformed = (rule : Rule) × (line : ℕ) × IsFirstFault kind (instance_part bytes) rule line × (out ≡ malformed_line rule line)
-Decides kind bytes out TooLarge = (i : Network) × InputHolds kind bytes i × PassesLimit (size_of kind i) × (out ≡ too_large_line (size_of kind i))
-Decides kind bytes out Rejected = (i : Network) × InputHolds kind bytes i × FitsLimits (size_of kind i) × (rule : DocRule) × (line : ℕ) × BreaksFirst kind bytes i rule line × (out ≡ rejected_line rule line)
+Decides kind bytes out TooLarge = (i : Network) × InputHolds kind bytes i × ¬ IsWithinLimits (size_of kind i) × (out ≡ too_large_line (size_of kind i))
+Decides kind bytes out Rejected = (i : Network) × InputHolds kind bytes i × IsWithinLimits (size_of kind i) × (rule : DocRule) × (line : ℕ) × BreaksFirst kind bytes i rule line × (out ≡ rejected_line rule line)
 Decides kind bytes out Done = (i : Network) × (d : Document) × Accepts kind bytes i d × (out ≡ codes "s ACCEPTED\n")
 Decides kind bytes out _ = ⊥
 
@@ -87,8 +88,8 @@ RefusesInput kind bytes rule line =
 -- what `solve` writes, in full or in brief, and its status, for input within its limit of bytes
 abbrev pub DecidesSolve : Kind → Bool → List ℕ → List ℕ → Status → Type 0
 DecidesSolve kind brief bytes out Malformed = (rule : Rule) × (line : ℕ) × RefusesInput kind bytes rule line × (out ≡ malformed_line rule line)
-DecidesSolve kind brief bytes out TooLarge = (i : Network) × HoldsAlone kind bytes i × PassesLimit (size_of kind i) × (out ≡ too_large_line (size_of kind i))
-DecidesSolve kind brief bytes out Done = (i : Network) × (d : Document) × HoldsAlone kind bytes i × FitsLimits (size_of kind i) × Solves kind i d × (out ≡ document_text d brief)
+DecidesSolve kind brief bytes out TooLarge = (i : Network) × HoldsAlone kind bytes i × ¬ IsWithinLimits (size_of kind i) × (out ≡ too_large_line (size_of kind i))
+DecidesSolve kind brief bytes out Done = (i : Network) × (d : Document) × HoldsAlone kind bytes i × IsWithinLimits (size_of kind i) × Solves kind i d × (out ≡ document_text d brief)
 DecidesSolve kind brief bytes out _ = ⊥
 
 -- ---- the program

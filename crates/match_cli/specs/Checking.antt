@@ -1,9 +1,9 @@
 -- What the parts of `check` answer, each for what stands before it.
-use Rattle.std.specs.Prelude.{◌≡◌, ℕ, ◌+◌, ◌<◌, ◌≤◌, ◌⊎◌, List, codes}
+use Rattle.std.specs.Prelude.{◌≡◌, ℕ, ◌+◌, ◌⊎◌, List, codes}
 use Rattle.mb_base.specs.Rows.{Row, rows}
+use Rattle.graph_theory.specs.Limits.{IsWithinLimits}
 use Rattle.mb_problem.specs.declared.kind.Kind.{Kind}
 use Rattle.mb_problem.specs.Network.{Network}
-use Rattle.graph_theory.specs.Limits.{Size}
 use Rattle.mb_problem.specs.Size.{size_of}
 use Rattle.doc_format.specs.declared.document.Document.{Document}
 use Rattle.doc_format.specs.Reading.{IsFirstRefused, HoldsDocument}
@@ -42,17 +42,11 @@ RestAnswer kind i n bytes out status = ⊥
 abbrev pub DecidesRest : Kind → Network → ℕ → List ℕ → Answer → Type 0
 DecidesRest kind i n bytes a = RestAnswer kind i n bytes a.text.items a.status
 
--- ---- an instance and what follows it: at most 4,096 vertices and 1,048,576 edges of the graph that certificates speak of
-
-abbrev pub FitsLimits : Size → Type 0
-FitsLimits size = (size.vertices ≤ 4096) × (size.edges ≤ 1048576)
-
-abbrev pub PassesLimit : Size → Type 0
-PassesLimit size = (4096 < size.vertices) ⊎ (1048576 < size.edges)
+-- ---- an instance and what follows it: the graph that certificates speak of is within the limits, or the size is refused
 
 abbrev pub InstanceAnswer : Kind → Network → ℕ → List ℕ → List ℕ → Status → Type 0
-InstanceAnswer kind i n bytes out TooLarge = PassesLimit (size_of kind i) × (out ≡ too_large_line (size_of kind i))
-InstanceAnswer kind i n bytes out status = FitsLimits (size_of kind i) × RestAnswer kind i n bytes out status
+InstanceAnswer kind i n bytes out TooLarge = ¬ IsWithinLimits (size_of kind i) × (out ≡ too_large_line (size_of kind i))
+InstanceAnswer kind i n bytes out status = IsWithinLimits (size_of kind i) × RestAnswer kind i n bytes out status
 
 abbrev pub DecidesInstance : Kind → Network → ℕ → List ℕ → Answer → Type 0
 DecidesInstance kind i n bytes a = InstanceAnswer kind i n bytes a.text.items a.status

@@ -1,15 +1,16 @@
 -- The command that the words of a command line are.
 use Rattle.std.specs.Prelude.{◌≡◌, ℕ, List, [], ◌∷◌, codes, Bool, true, false, if◌then◌else◌, Option, None, Some}
-use Rattle.std.specs.Option.{option_map}
+use Rattle.std.specs.Option.{option_map, option_and_then}
 use Rattle.std.specs.Str.{bytes_eq}
-use Rattle.mb_problem.specs.declared.kind.Kind.TheVariants.{Perfect}
-use Rattle.mb_problem.specs.Kinds.{kind_text, kind_named}
+use Rattle.mb_problem.specs.Kinds.{kind_named}
+use Rattle.solve_kinds.specs.Solved.{is_solved}
+use Rattle.match_cli.specs.declared.limits.TheConstants.{SOLVE_BYTE_LIMIT, CHECK_BYTE_LIMIT}
 use Rattle.match_cli.specs.declared.words.Command.{Command}
 use Rattle.match_cli.specs.declared.words.Command.TheVariants.{Check, Solve}
 
--- the command that solves the kind of this name, where there is one
+-- the command that solves the kind of this name, where it is one that `solve` takes
 abbrev pub solve_named : Bool → List ℕ → Option Command
-solve_named brief name = if bytes_eq name (kind_text Perfect) then Some (Solve Perfect brief) else None
+solve_named brief name = option_and_then (λ kind. if is_solved kind then Some (Solve kind brief) else None) (kind_named name)
 
 -- the flag of brief answers stands before the kind or after it
 abbrev pub solve_briefly : List ℕ → List ℕ → Option Command
@@ -30,10 +31,10 @@ command_of (name ∷ words) = after_name words
 
 -- how many bytes of input a command takes
 abbrev pub limit_of : Command → ℕ
-limit_of (Check kind) = 67108864
-limit_of (Solve kind brief) = 16777216
+limit_of (Check kind) = CHECK_BYTE_LIMIT
+limit_of (Solve kind brief) = SOLVE_BYTE_LIMIT
 
--- `solve` takes this kind
+-- a command that the words can be: `solve` for a kind that it takes
 abbrev pub IsCommand : Command → Type 0
 IsCommand (Check kind) = Unit {0}
-IsCommand (Solve kind brief) = kind ≡ Perfect
+IsCommand (Solve kind brief) = is_solved kind ≡ true

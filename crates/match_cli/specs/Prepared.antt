@@ -1,30 +1,19 @@
 -- The answer that stands ready before anything is written.
 use Rattle.std.specs.Prelude.{◌≡◌, ℕ, ◌<◌, List, Option, Some, Result, Ok, Err}
 use Rattle.match_cli.specs.declared.status.Status.{Status}
-use Rattle.match_cli.specs.declared.status.Status.TheVariants.{Done, Rejected, Usage, Malformed, TooLarge, TooLong, ReadFault, OutOfMemory}
 use Rattle.match_cli.specs.declared.answer.Answer.{Answer}
 use Rattle.match_cli.specs.declared.top.Stop.{Stop}
 use Rattle.match_cli.specs.declared.top.Stop.TheVariants as stop
 use Rattle.match_cli.specs.declared.words.Command.{Command}
 use Rattle.match_cli.specs.Commands.{command_of}
-use Rattle.match_cli.specs.Counts.{CountsSteps}
-use Rattle.match_cli.specs.Runs.{IsAnswer, IsUsage}
+use Rattle.match_cli.specs.Counts.{CountsSearch, CountsSteps}
+use Rattle.match_cli.specs.Runs.{IsAnswer, IsUsage, IsWritten}
 
 -- this text and status, or want of memory
 abbrev pub Readies : List ℕ → Status → Result Answer Stop → Type 0
 Readies text status (Ok a) = (a.text.items ≡ text) × (a.status ≡ status)
 Readies text status (Err stop.ReadFault) = ⊥
 Readies text status (Err stop.OutOfMemory) = Unit {0}
-
--- a status with something to write
-abbrev pub IsWritten : Status → Type 0
-IsWritten Done = Unit {0}
-IsWritten Rejected = Unit {0}
-IsWritten Usage = Unit {0}
-IsWritten Malformed = Unit {0}
-IsWritten TooLarge = Unit {0}
-IsWritten TooLong = Unit {0}
-IsWritten _ = ⊥
 
 abbrev pub Prepares : List (List ℕ) → Option (List ℕ) → Option (List ℕ) → Result Answer Stop → Type 0
 Prepares words before after (Ok a) = IsWritten a.status × IsAnswer words before after a.text.items a.status
@@ -44,5 +33,5 @@ CountsPrepared before after (Err stop.OutOfMemory) = after ≡ before
 -- the count of steps, by the answer
 abbrev pub CountsPreparedSteps : Option Command → ℕ → ℕ → Result Answer Stop → Type 0
 CountsPreparedSteps command before after (Ok a) = CountsSteps command before after a.status
-CountsPreparedSteps command before after (Err stop.ReadFault) = CountsSteps command before after ReadFault
-CountsPreparedSteps command before after (Err stop.OutOfMemory) = CountsSteps command before after OutOfMemory
+CountsPreparedSteps command before after (Err stop.ReadFault) = after ≡ before
+CountsPreparedSteps command before after (Err stop.OutOfMemory) = CountsSearch command before after

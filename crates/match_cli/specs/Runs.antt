@@ -1,18 +1,19 @@
 -- What a run leaves of its source and its sink, by its status.
 use Rattle.std.specs.Prelude.{◌≡◌, ℕ, ◌+◌, ◌<◌, ◌≤◌, List, [], ◌∷◌, ◌++◌, length, take, drop, codes, false, Option, Some, None, IfSome}
-use Rattle.mb_base.specs.Streams.{Extends}
+use Rattle.mb_base.specs.Streams.{Extends, UsesRoom, StaysTold}
+use Rattle.graph_theory.specs.Limits.{IsWithinLimits}
 use Rattle.mb_problem.specs.declared.kind.Kind.{Kind}
 use Rattle.mb_problem.specs.Network.{Network}
 use Rattle.mb_problem.specs.Size.{size_of}
 use Rattle.doc_format.specs.declared.document.Document.{Document}
 use Rattle.mb_problem.specs.Kinds.{kind_text}
 use Rattle.match_cli.specs.declared.status.Status.{Status}
-use Rattle.match_cli.specs.declared.status.Status.TheVariants.{Done, Rejected, Usage, TooLong, ReadFault, WriteFault, OutOfMemory}
+use Rattle.match_cli.specs.declared.status.Status.TheVariants.{Done, Rejected, Usage, Malformed, TooLarge, TooLong, ReadFault, WriteFault, OutOfMemory}
 use Rattle.match_cli.specs.declared.words.Command.{Command}
 use Rattle.match_cli.specs.declared.words.Command.TheVariants.{Check, Solve}
 use Rattle.match_cli.specs.Commands.{command_of, limit_of}
-use Rattle.match_cli.specs.Checking.{FitsLimits}
 use Rattle.match_cli.specs.Solving.{Solves}
+use Rattle.match_cli.specs.Counts.{CountsSearch, CountsSteps}
 use Rattle.match_cli.specs.Answers.{document_part, InputHolds, Out, Accepts, HoldsAlone}
 
 -- What is left of the source's bytes after an answer: all of them where the words are no command, what
@@ -26,29 +27,59 @@ Spends words bytes left status = left ≡ Some []
 abbrev pub IsAnswer : List (List ℕ) → Option (List ℕ) → Option (List ℕ) → List ℕ → Status → Type 0
 IsAnswer words before after out status = IfSome before (λ bytes. Out words bytes out status × Spends words bytes after status)
 
--- an answer was written whole
-abbrev pub Writes : List (List ℕ) → Option (List ℕ) → Option (List ℕ) → Option (List ℕ) → Option (List ℕ) → Status → Type 0
-Writes words before after taken_before taken_after status = (out : List ℕ) × IsAnswer words before after out status × Extends taken_before taken_after out
+-- a status with something to write
+abbrev pub IsWritten : Status → Type 0
+IsWritten Done = Unit {0}
+IsWritten Rejected = Unit {0}
+IsWritten Usage = Unit {0}
+IsWritten Malformed = Unit {0}
+IsWritten TooLarge = Unit {0}
+IsWritten TooLong = Unit {0}
+IsWritten _ = ⊥
 
--- What a run leaves.
-abbrev pub Runs : List (List ℕ) → Option (List ℕ) → Option (List ℕ) → Option (List ℕ) → Option (List ℕ) → Status → Type 0
-Runs words before after taken_before taken_after ReadFault = ((command : Command) × (command_of words ≡ Some command)) × (taken_after ≡ taken_before)
-Runs words before after taken_before taken_after WriteFault = (status : Status) × (out : List ℕ) × IsAnswer words before after out status × (n : ℕ) × (n < length out) × Extends taken_before taken_after (take n out)
-Runs words before after taken_before taken_after OutOfMemory = taken_after ≡ taken_before
-Runs words before after taken_before taken_after status = Writes words before after taken_before taken_after status
+-- Usage says that the words are no command, whatever the source tells, and no other answer does.
+abbrev pub IsUsage : List (List ℕ) → Status → Type 0
+IsUsage words Usage = command_of words ≡ None
+IsUsage words status = (command : Command) × (command_of words ≡ Some command)
+
+-- What a run sees around it: the bytes that are left, where the source tells them; those that were taken, where the sink
+-- tells them, and how many more it is sure to tell; the steps counted so far.
+pub record Around : Type 0 where
+  pub left : Option (List ℕ)
+  pub taken : Option (List ℕ)
+  pub room : ℕ
+  pub steps : ℕ
+
+-- this text and status were decided on, and so many steps came to them
+pub record IsDecided (words : List (List ℕ)) (before after : Around) (out : List ℕ) (status : Status) : Type 0 where
+  pub written : IsWritten status
+  pub answer : IsAnswer words before.left after.left out status
+  pub usage : IsUsage words status
+  pub steps : CountsSteps (command_of words) before.steps after.steps status
+
+-- the sink took these bytes; where there was room for them, it has so much less, and tells what it took if it told before
+pub record Takes (before after : Around) (bytes : List ℕ) : Type 0 where
+  pub taken : Extends before.taken after.taken bytes
+  pub room : UsesRoom before.room after.room (length bytes)
+  pub told : StaysTold before.room before.taken after.taken (length bytes)
+
+-- the sink took nothing
+pub record TakesNothing (before after : Around) : Type 0 where
+  pub taken : after.taken ≡ before.taken
+  pub room : after.room ≡ before.room
+
+-- What a run leaves. Where a write fails, its front was taken, and the steps are those of the answer that was to be written.
+abbrev pub Runs : List (List ℕ) → Around → Around → Status → Type 0
+Runs words before after ReadFault = TakesNothing before after × (after.steps ≡ before.steps) × ((command : Command) × (command_of words ≡ Some command))
+Runs words before after OutOfMemory = TakesNothing before after × CountsSearch (command_of words) before.steps after.steps
+Runs words before after WriteFault = (status : Status) × (out : List ℕ) × IsDecided words before after out status × (n : ℕ) × (n < length out) × Takes before after (take n out)
+Runs words before after status = (out : List ℕ) × IsDecided words before after out status × Takes before after out
 
 -- Which count of faults rose: the source's exactly where the status is ReadFault, the sink's exactly where it is WriteFault.
 abbrev pub CountsRun : ℕ → ℕ → ℕ → ℕ → Status → Type 0
 CountsRun source_before source_after sink_before sink_after ReadFault = (source_before < source_after) × (sink_after ≡ sink_before)
 CountsRun source_before source_after sink_before sink_after WriteFault = (source_after ≡ source_before) × (sink_before < sink_after)
 CountsRun source_before source_after sink_before sink_after status = (source_after ≡ source_before) × (sink_after ≡ sink_before)
-
--- Usage says that the words are no command, whatever the source tells, and no other status does but want of memory and a failed write.
-abbrev pub IsUsage : List (List ℕ) → Status → Type 0
-IsUsage words Usage = command_of words ≡ None
-IsUsage words WriteFault = Unit {0}
-IsUsage words OutOfMemory = Unit {0}
-IsUsage words status = (command : Command) × (command_of words ≡ Some command)
 
 -- what a document states that was accepted or written is true of the instance of the input
 abbrev pub IsTrueBy : Command → List ℕ → Type 0
@@ -89,7 +120,7 @@ EndsInput (Solve kind brief) bytes = document_part bytes ≡ []
 pub record IsInput (command : Command) (bytes : List ℕ) (i : Network) : Type 0 where
   pub short : length bytes ≤ limit_of command
   pub holds : InputHolds (kind_of command) bytes i
-  pub fits : FitsLimits (size_of (kind_of command) i)
+  pub fits : IsWithinLimits (size_of (kind_of command) i)
   pub ends : EndsInput command bytes
 
 -- `check` may refuse a document

@@ -1,13 +1,13 @@
 ghost use Rattle.std.specs.Prelude.{◌≡◌, ◌+◌, ◌<◌, ◌≤◌, ◌^◌, codes, length, IfOk};
+ghost use Rattle.graph_theory.specs.Limits.{IsWithinLimits};
 ghost use Rattle.mb_problem.specs.Size.{size_of};
 ghost use Rattle.dimacs_read.specs.Ready.{IsReady};
 ghost use Rattle.match_cli.specs.Lines.{rejected_line};
 ghost use Rattle.match_cli.specs.Answers.{Decides};
-ghost use Rattle.match_cli.specs.Checking.{FitsLimits, DecidesDocument, DecidesRest, DecidesInstance};
+ghost use Rattle.match_cli.specs.Checking.{DecidesDocument, DecidesRest, DecidesInstance};
 
 use crate::answer::{Answer, line};
-use crate::names::document_rule;
-use crate::refusal::{malformed, too_large};
+use crate::refusal::{is_within_limits, malformed, too_large};
 use crate::status::Status;
 use cert_check::{DocRule, Verdict, judge};
 use dimacs_read::{InstanceError, Rest, read};
@@ -20,7 +20,7 @@ fn rejected(alloc: Global, rule: DocRule, number: u64) -> Result<Answer, OutOfMe
     ensures text { IfOk result (λ a. a.text.items ≡ rejected_line rule number) }
     ensures status { IfOk result (λ a. a.status ≡ Status.Rejected) }
 {
-    let text = line(alloc, b"s REJECTED ", document_rule(rule), number)?;
+    let text = line(alloc, b"s REJECTED ", rule.name().as_bytes(), number)?;
     let status = Status::Rejected;
     Ok(Answer { text, status })
 }
@@ -41,7 +41,7 @@ fn check_document(
     instance: &Instance,
     document: &Document,
 ) -> Result<Answer, OutOfMemory>
-    requires limits { FitsLimits (size_of kind instance.now) }
+    requires limits { IsWithinLimits (size_of kind instance.now) }
     requires ready { IsReady kind instance.now }
     ensures { IfOk result (DecidesDocument kind instance.now document.now) }
 {
@@ -58,7 +58,7 @@ fn check_rest(
     instance: &Instance,
     rest: &Rest,
 ) -> Result<Answer, OutOfMemory>
-    requires limits { FitsLimits (size_of kind instance.now) }
+    requires limits { IsWithinLimits (size_of kind instance.now) }
     requires ready { IsReady kind instance.now }
     requires low { 1 ≤ rest.now.line }
     requires high { rest.now.line ≤ 2 ^ 62 }
@@ -84,10 +84,7 @@ fn check_instance(
     ensures { IfOk result (DecidesInstance kind instance.now rest.now.line rest.now.bytes) }
 {
     let (vertices, edges) = gadget_size(instance, kind);
-    if vertices > 4096 {
-        return too_large(alloc, vertices, edges);
-    }
-    if edges > 1_048_576 {
+    if !is_within_limits(vertices, edges) {
         return too_large(alloc, vertices, edges);
     }
     check_rest(alloc, kind, instance, rest)

@@ -8,15 +8,13 @@
 
 mod answer;
 mod check;
-mod names;
+mod limits;
 mod refusal;
 mod solve;
 mod status;
 mod top;
 mod words;
 
+pub use limits::{CHECK_BYTE_LIMIT, SOLVE_BYTE_LIMIT};
 pub use status::Status;
 pub use top::run;
-
-#[cfg(test)]
-mod tests;

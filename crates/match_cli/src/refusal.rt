@@ -1,10 +1,11 @@
-ghost use Rattle.std.specs.Prelude.{◌≡◌, IfOk};
+ghost use Rattle.std.specs.Prelude.{◌≡◌, ◌↔◌, IsTrue, IfOk};
+ghost use Rattle.graph_theory.specs.Limits.{IsWithinLimits};
 ghost use Rattle.match_cli.specs.Lines.{malformed_line, too_large_line};
 
 use crate::answer::{Answer, line};
-use crate::names::instance_rule;
 use crate::status::Status;
 use dimacs_read::Rule;
+use graph_theory::{GRAPH_EDGE_LIMIT, GRAPH_VERTEX_LIMIT};
 use itoa::Buffer;
 use mb_base::OutOfMemory;
 use std::alloc::Global;
@@ -14,9 +15,19 @@ pub fn malformed(alloc: Global, rule: Rule, number: u64) -> Result<Answer, OutOf
     ensures text { IfOk result (λ a. a.text.items ≡ malformed_line rule number) }
     ensures status { IfOk result (λ a. a.status ≡ Status.Malformed) }
 {
-    let text = line(alloc, b"s MALFORMED ", instance_rule(rule), number)?;
+    let text = line(alloc, b"s MALFORMED ", rule.name().as_bytes(), number)?;
     let status = Status::Malformed;
     Ok(Answer { text, status })
+}
+
+/// Whether a graph of this size may be searched and certified.
+pub fn is_within_limits(vertices: u64, edges: u64) -> bool
+    ensures { IsTrue result ↔ IsWithinLimits (record { vertices = vertices; edges = edges }) }
+{
+    if vertices > u64::from(GRAPH_VERTEX_LIMIT) {
+        return false;
+    }
+    edges <= u64::from(GRAPH_EDGE_LIMIT)
 }
 
 /// The answer to an instance whose certificates speak of a graph past a limit.

@@ -1,15 +1,16 @@
-ghost use Rattle.std.specs.Prelude.{Some, ◌≡◌, ◌≢◌, ◌+◌, ◌≤◌, ◌^◌, length, IfOk};
-ghost use Rattle.mb_problem.specs.Network.{IsNetwork, graph_of};
+ghost use Rattle.std.specs.Prelude.{Some, true, ◌≡◌, ◌≢◌, ◌+◌, ◌≤◌, ◌^◌, length, IfOk};
+ghost use Rattle.graph_theory.specs.Limits.{IsWithinLimits};
+ghost use Rattle.mb_problem.specs.Network.{IsNetwork};
 ghost use Rattle.mb_problem.specs.Size.{size_of};
-ghost use Rattle.mwpm_engine.specs.Solutions.{size_of_graph, most_steps};
+ghost use Rattle.mwpm_engine.specs.Solutions.{most_steps};
 ghost use Rattle.doc_format.specs.Spelling.{document_text};
 ghost use Rattle.match_cli.specs.Answers.{DecidesSolve};
-ghost use Rattle.match_cli.specs.Checking.{FitsLimits};
+ghost use Rattle.solve_kinds.specs.Solved.{is_solved};
 ghost use Rattle.match_cli.specs.Counts.{CountsAnswer, CountsInstance};
 ghost use Rattle.match_cli.specs.Solving.{DecidesSolved, DecidesSized, DecidesFollowed};
 
 use crate::answer::Answer;
-use crate::refusal::{malformed, too_large};
+use crate::refusal::{is_within_limits, malformed, too_large};
 use crate::status::Status;
 use crate::words::Command;
 use dimacs_read::{InstanceError, Rest, Rule, read};
@@ -36,11 +37,11 @@ fn solve_within<L: Ledger>(
     instance: &Instance,
     steps: &mut Steps<L>,
 ) -> Result<Answer, OutOfMemory>
-    requires kind { kind ≡ Kind.Perfect }
-    requires limits { FitsLimits (size_of kind instance.now) }
+    requires kind { is_solved kind ≡ true }
+    requires limits { IsWithinLimits (size_of kind instance.now) }
     requires network { IsNetwork instance.now }
     ensures answer { IfOk result (DecidesSolved kind brief instance.now) }
-    ensures counted { steps.new ≤ steps.old + most_steps (size_of_graph (graph_of instance.now)) }
+    ensures counted { steps.new ≤ steps.old + most_steps (size_of kind instance.now) }
 {
     match solve_kinds::solve(alloc, instance, kind, steps) {
         Ok(document) => solved(alloc, &document, brief),
@@ -56,17 +57,14 @@ fn solve_instance<L: Ledger>(
     instance: &Instance,
     steps: &mut Steps<L>,
 ) -> Result<Answer, OutOfMemory>
-    requires kind { kind ≡ Kind.Perfect }
+    requires kind { is_solved kind ≡ true }
     requires network { IsNetwork instance.now }
     ensures answer { IfOk result (DecidesSized kind brief instance.now) }
     ensures steps { CountsAnswer (Command.Solve kind brief) steps.old steps.new result }
-    ensures counted { steps.new ≤ steps.old + most_steps (size_of_graph (graph_of instance.now)) }
+    ensures counted { steps.new ≤ steps.old + most_steps (size_of kind instance.now) }
 {
     let (vertices, edges) = gadget_size(instance, kind);
-    if vertices > 4096 {
-        return too_large(alloc, vertices, edges);
-    }
-    if edges > 1_048_576 {
+    if !is_within_limits(vertices, edges) {
         return too_large(alloc, vertices, edges);
     }
     solve_within(alloc, kind, brief, instance, steps)
@@ -81,11 +79,11 @@ fn solve_followed<L: Ledger>(
     rest: &Rest,
     steps: &mut Steps<L>,
 ) -> Result<Answer, OutOfMemory>
-    requires kind { kind ≡ Kind.Perfect }
+    requires kind { is_solved kind ≡ true }
     requires network { IsNetwork instance.now }
     ensures answer { IfOk result (DecidesFollowed kind brief instance.now rest.now) }
     ensures steps { CountsAnswer (Command.Solve kind brief) steps.old steps.new result }
-    ensures counted { steps.new ≤ steps.old + most_steps (size_of_graph (graph_of instance.now)) }
+    ensures counted { steps.new ≤ steps.old + most_steps (size_of kind instance.now) }
 {
     if !rest.bytes.as_slice().is_empty() {
         return malformed(alloc, Rule::UnknownLine, rest.line);
@@ -101,7 +99,7 @@ pub fn solve<L: Ledger>(
     bytes: &[u8],
     steps: &mut Steps<L>,
 ) -> Result<Answer, OutOfMemory>
-    requires kind { kind ≡ Kind.Perfect }
+    requires kind { is_solved kind ≡ true }
     requires short { length bytes.now ≤ 2 ^ 32 }
     ensures answer { IfOk result (λ a. DecidesSolve kind brief bytes.now a.text.items a.status) }
     ensures steps { CountsAnswer (Command.Solve kind brief) steps.old steps.new result }

@@ -1,8 +1,8 @@
 ghost use Rattle.std.specs.Prelude.{◌≡◌, ◌<◌, ◌≤◌, ◌-◌, ◌^◌, length, map, string_bytes, Some, IfOk, IfErr};
 ghost use Rattle.match_cli.specs.Commands.{command_of, IsCommand};
 ghost use Rattle.match_cli.specs.Answers.{Answers};
-ghost use Rattle.match_cli.specs.Runs.{Runs, CountsRun, IsUsage, TellsTruth, IsAcceptedAgain, Completes};
-ghost use Rattle.match_cli.specs.Counts.{CountsAnswer, CountsSteps, CountsInstance, CountsSource};
+ghost use Rattle.match_cli.specs.Runs.{Runs, CountsRun, TellsTruth, IsAcceptedAgain, Completes};
+ghost use Rattle.match_cli.specs.Counts.{CountsAnswer, CountsInstance, CountsSource};
 ghost use Rattle.match_cli.specs.Prepared.{Prepares, PreparesUsage, CountsPrepared, Readies, CountsPreparedSteps};
 
 use crate::answer::Answer;
@@ -79,14 +79,15 @@ fn prepare<I: Source, L: Ledger>(
 
 /// Does what the words of the command line say: reads the source to its end, and writes the answer
 /// to the sink. The words are the program's name and then those of a command: `check` and the name of
-/// a kind, which judges the document that follows an instance, or `solve perfect`, which solves an
-/// instance (Schrijver, Combinatorial Optimization, volume A, chapters 24 to 26). With `--brief`
-/// before or after the kind, `solve` writes the answer without what proves it.
+/// a kind, which judges the document that follows an instance, or `solve` and the name of a kind that it
+/// takes, which solves an instance (Schrijver, Combinatorial Optimization, volume A, chapters 24 to 26).
+/// With `--brief` before or after the kind, `solve` writes the answer without what proves it.
 ///
 /// The whole answer stands ready before the first write, so want of memory leaves the sink untouched.
 ///
-/// On a graph with n vertices and m edges a search counts at most (n + 1)(3n + 2)(m + 1) steps on
-/// `steps`, and nothing else counts. The memory holds the input, the answer and what a search keeps.
+/// Only `solve` counts steps, and none where it refuses its input: on an instance whose certificates speak
+/// of a graph with n vertices and m edges at most (n + 1)(3n + 2)(m + 1). The memory holds the input, the
+/// answer and what a search keeps.
 pub fn run<I: Source, O: Sink, L: Ledger>(
     alloc: Global,
     words: &Vec<String>,
@@ -97,9 +98,13 @@ pub fn run<I: Source, O: Sink, L: Ledger>(
     requires source_count { I.faults source.old < 2 ^ 64 - 1 }
     requires sink_count { O.faults sink.old < 2 ^ 64 - 1 }
 
-    // Which answer comes, and what is left of the source and the sink.
-    ensures answer { Runs (map string_bytes words.now.items) (I.left source.old) (I.left source.new) (O.taken sink.old) (O.taken sink.new) result }
-    ensures usage { IsUsage (map string_bytes words.now.items) result }
+    // Which answer comes, what is left of the source and the sink, and how many steps came to it.
+    ensures answer {
+        Runs (map string_bytes words.now.items)
+            (record { left = I.left source.old; taken = O.taken sink.old; room = O.room sink.old; steps = steps.old })
+            (record { left = I.left source.new; taken = O.taken sink.new; room = O.room sink.new; steps = steps.new })
+            result
+    }
 
     // Faults are told exactly where a count rose.
     ensures count { CountsRun (I.faults source.old) (I.faults source.new) (O.faults sink.old) (O.faults sink.new) result }
@@ -113,9 +118,8 @@ pub fn run<I: Source, O: Sink, L: Ledger>(
     // Every input within the limits is answered, but for a fault or want of memory.
     ensures complete { Completes (map string_bytes words.now.items) (I.left source.old) result }
 
-    // Only a search counts steps, and no more than its graph allows.
-    ensures steps { CountsSteps (command_of (map string_bytes words.now.items)) steps.old steps.new result }
-    ensures counted { CountsSource (map string_bytes words.now.items) (I.left source.old) steps.old steps.new }
+    // A search counts no more steps than the graph of its certificates allows.
+    ensures steps { CountsSource (map string_bytes words.now.items) (I.left source.old) steps.old steps.new }
 {
     match prepare(alloc, words, source, steps) {
         Err(Stop::ReadFault) => Status::ReadFault,

@@ -1,7 +1,9 @@
 ghost use Rattle.std.specs.Prelude.{◌≡◌, ◌≤◌, ◌^◌, [], ◌∷◌, map, string_bytes};
 ghost use Rattle.match_cli.specs.Commands.{command_of, limit_of, solve_named, solve_briefly, after_name};
 
+use crate::limits::{CHECK_BYTE_LIMIT, SOLVE_BYTE_LIMIT};
 use mb_problem::Kind;
+use solve_kinds::is_solved;
 
 /// What the program is to do.
 #[derive(Clone, Copy, Debug, PartialEq, Eq)]
@@ -12,11 +14,12 @@ pub enum Command {
     Solve { kind: Kind, brief: bool },
 }
 
+/// The command that solves the kind of this name.
 fn read_solve(name: &[u8], brief: bool) -> Option<Command>
     ensures { result ≡ solve_named brief name.now }
 {
-    if name == b"perfect".as_slice() {
-        let kind = Kind::Perfect;
+    let kind = Kind::named(name)?;
+    if is_solved(kind) {
         return Some(Command::Solve { kind, brief });
     }
     None
@@ -79,7 +82,7 @@ pub fn limit(command: Command) -> u64
     ensures small { result ≤ 2 ^ 31 }
 {
     match command {
-        Command::Check(_) => 67_108_864,
-        Command::Solve { .. } => 16_777_216,
+        Command::Check(_) => CHECK_BYTE_LIMIT,
+        Command::Solve { .. } => SOLVE_BYTE_LIMIT,
     }
 }

@@ -1,10 +1,10 @@
 use Rattle.std.proofs.Common.{rules}
 use Rattle.mb_problem.specs.Size.{size_of}
-use Rattle.match_cli.specs.Checking.{FitsLimits}
+use Rattle.graph_theory.specs.Limits.{IsWithinLimits}
 use Rattle.match_cli.proofs.StepCounts.{search_counts}
 use Rattle.match_cli.proofs.solve.solve_instance.Goals as goal
 
 pub returns-clause-steps : goal.returns-clause-steps
 returns-clause-steps g c =
-    let fits : FitsLimits (size_of c.args.kind c.args.instance.now) = search rules in
-    search_counts c.args.kind c.args.brief c.args.instance.now c.args.steps.now c.solve_within.new.steps c.solve_within.result c.requires.kind fits c.solve_within.ensures.answer c.solve_within.ensures.counted
+    let fits : IsWithinLimits (size_of c.args.kind c.args.instance.now) = search rules in
+    search_counts c.args.kind c.args.brief c.args.instance.now c.args.steps.now c.solve_within.new.steps c.solve_within.result fits c.solve_within.ensures.answer c.solve_within.ensures.counted
