@@ -7,7 +7,7 @@ use Rattle.std.proofs.lemmas.Bool.{both_ways, eqb-true, eq-eqb, or_cases, or_lef
 use Rattle.std.proofs.lemmas.List.FromFn.{length-range_with_len, get_or-range_with_len}
 use Rattle.std.proofs.lemmas.List.Kept.{AllPairs-from_increasing, IsStrictlyIncreasing-filter}
 use Rattle.graph_theory.specs.Parts.{holds, IsVertexSet}
-use Rattle.graph_theory.proofs.Members.{holds_place, holds_at, all_holds, first_less, pairs_tail}
+use Rattle.graph_theory.proofs.Members.{holds_place, holds_at, all_holds}
 use Rattle.blossom_arena.specs.Family.{is_vertex}
 use Rattle.blossom_arena.proofs.Lists.{AllNew, holds-filter, first_in, later_in}
 use Rattle.blossom_arena.proofs.Forms.{new_by_pairs}

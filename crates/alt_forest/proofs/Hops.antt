@@ -1,6 +1,5 @@
 -- A hop is read where it is one, and what is read is that hop.
-use Rattle.std.proofs.Common.{◌≡◌, ◌≢◌, ℕ, ◌<◌, length, refl, sym, ap, ◌∙◌, subst, arith}
-use Rattle.graph_theory.specs.Graph.{IsEdgeNumber}
+use Rattle.std.proofs.Common.{◌≡◌, ◌≢◌, ℕ, ◌<◌, length, sym, ap, ◌∙◌, arith}
 use Rattle.alt_forest.specs.declared.hop.Hop.{Hop}
 use Rattle.blossom_arena.specs.Family.{IsNested}
 use Rattle.alt_forest.specs.State.{State, IsSearchState}

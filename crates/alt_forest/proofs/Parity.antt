@@ -6,13 +6,11 @@ use Rattle.std.proofs.lemmas.Bool.{both_ways, eqb-true, eq-eqb, or_cases, or_lef
 use Rattle.graph_theory.specs.declared.edge.Edge.{Edge}
 use Rattle.graph_theory.specs.Graph.{Multigraph, IsGraph, IsEdgeNumber, edge_of}
 use Rattle.graph_theory.specs.Parts.{holds}
-use Rattle.graph_theory.proofs.Edges.{edge_of_within}
 use Rattle.blossom_arena.specs.declared.links.Link.{Link}
 use Rattle.blossom_arena.specs.Family.{Blossom, outermost, is_node, in_ring, IsNested, is_vertex, members_of}
 use Rattle.blossom_arena.specs.Slack.{duals_across}
 use Rattle.blossom_arena.proofs.Lists.{first_in}
 use Rattle.blossom_arena.proofs.Ends.{u_vertex, v_vertex}
-use Rattle.blossom_arena.proofs.Nested.{range_vertex}
 use Rattle.blossom_arena.proofs.Sets.{member_by_ring, outermost_node, members_some, member_vertex}
 use Rattle.alt_forest.specs.State.{State, Joins, IsTight, slack_of, next_node, IsChainTo, IsRing, HasRings, IsSearchState}
 use Rattle.alt_forest.specs.Trees.{SameParity, cover, held_by}

@@ -116,7 +116,6 @@ common_none (z ∷ zs) ys x e h = by_test (holds ys z)
     (λ more. common_none zs ys x (sym (ap (λ q. cond q (Some z) (first_common zs ys)) t) ∙ e) more)
     (or_cases (eqb z x) (holds zs x) h))
 
-
 -- two routes have nothing in common exactly if they end apart
 pub common_ends : (route : ℕ → List ℕ) (x : ℕ) (xs : List ℕ) (y : ℕ) (ys : List ℕ) → IsRoute route (x ∷ xs) → IsRoute route (y ∷ ys) → (first_common (x ∷ xs) (y ∷ ys) ≡ None) ↔ (last_of 0 (x ∷ xs) ≢ last_of 0 (y ∷ ys))
 common_ends route x xs y ys rx ry = (

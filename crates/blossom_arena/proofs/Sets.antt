@@ -77,7 +77,6 @@ by_ring n older b v h next tells =
     subst (λ x. in_ring b.ring x ≡ true) same r.within)
     (λ e. in_union older b.ring (outermost older v) v e (tells (outermost older v) (circuit_outer n older b.ring (outermost older v) next.circuit e) ∙ eq-eqb (outermost older v) (outermost older v) refl))
 
-
 -- an outermost node has the vertices whose outermost node it is
 pub outer_member : (n : ℕ) (bs : List Blossom) (v : ℕ) → IsNested n bs → is_vertex n v ≡ true → TellsOuter n bs v
 outer_member n [] v h iv x o = or-false (eqb x v)

@@ -1,16 +1,12 @@
 -- The circuit of a blossom, link by link.
-use Rattle.std.proofs.Common.{◌≡◌, ◌↔◌, ℕ, ◌≤◌, true, false, eqb, List, [], ◌∷◌, length, drop, Option, Some, None, refl, sym, ap, ap₂, ◌∙◌, subst, arith, ⊎_elim}
+use Rattle.std.proofs.Common.{◌≡◌, ◌↔◌, ℕ, ◌≤◌, true, List, [], ◌∷◌, length, drop, Option, Some, None, sym, ap, ◌∙◌, subst, arith, ⊎_elim}
 use Rattle.std.specs.Prelude.{MatchOption}
 use Rattle.std.specs.List.{AllByRecursion}
-use Rattle.std.proofs.lemmas.Bool.{both_ways, or_cases}
 use Rattle.graph_theory.specs.Graph.{IsGraph, edge_of}
 use Rattle.graph_theory.specs.Parts.{holds}
-use Rattle.graph_theory.proofs.Edges.{edge_of_within}
 use Rattle.blossom_arena.specs.declared.links.Link.{Link}
-use Rattle.blossom_arena.specs.Family.{Blossom, IsNested, is_vertex, in_ring, names_of, members_of, ring_of, older_than, outermost}
-use Rattle.blossom_arena.proofs.Lists.{by_test, first_in, later_in}
-use Rattle.blossom_arena.proofs.Nested.{range_vertex}
-use Rattle.blossom_arena.proofs.Sets.{members_here, members_past, member_by_ring}
+use Rattle.blossom_arena.specs.Family.{Blossom, IsNested, in_ring, names_of, ring_of, older_than}
+use Rattle.blossom_arena.proofs.Lists.{first_in}
 use Rattle.blossom_arena.proofs.LinkLists.{all_inside}
 use Rattle.blossom_arena.proofs.Older.{has_ring, ring_long}
 use Rattle.blossom_arena.proofs.Ends.{u_vertex, v_vertex}
