@@ -11,7 +11,8 @@ use Rattle.mb_problem.specs.Network.{Network, vertices}
 use Rattle.gadget_base.specs.Certified.{gadget_graph, ReachesAll}
 use Rattle.doc_format.specs.declared.document.Document.{Document}
 use Rattle.doc_format.specs.declared.status.DocStatus.{DocStatus}
-use Rattle.doc_format.specs.Form.{has_barrier}
+use Rattle.mb_problem.specs.Kinds.{exclusion_of}
+use Rattle.doc_format.specs.Form.{is_barrier}
 use Rattle.certificates.specs.Claims.{numbers}
 use Rattle.certificates.specs.Certificates.{HasBarrier}
 use Rattle.certificates.specs.Excluded.{HasNoAnswer}
@@ -46,7 +47,7 @@ are-within kind i set d is p =
       split = none_if (λ u. All (IsUpTo (vertices i)) u.members) d.split p.split;
     }
 
-pub proved-infeasible : (kind : Kind) (i : Network) (set : List ℕ) (d : Document) → has_barrier kind ≡ true → IsVertexSet (gadget_graph kind i).vertices set → IsBarrier (gadget_graph kind i) set → StatesBarrier kind set d → IsProved kind i d
+pub proved-infeasible : (kind : Kind) (i : Network) (set : List ℕ) (d : Document) → is_barrier (exclusion_of kind) ≡ true → IsVertexSet (gadget_graph kind i).vertices set → IsBarrier (gadget_graph kind i) set → StatesBarrier kind set d → IsProved kind i d
 proved-infeasible kind i set d has is barrier p =
     let line : IsBarrier (gadget_graph kind i) (numbers (map pos set)) = subst (IsBarrier (gadget_graph kind i)) (sym (numbers-pos set)) barrier in
     let there : HasBarrier kind i d = rw p.barrier line in

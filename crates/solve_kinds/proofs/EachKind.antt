@@ -16,8 +16,8 @@ use Rattle.mb_problem.proofs.EdgeLemmas.{edges-count, network-graph}
 use Rattle.gadget_base.proofs.BlockSums.{sum_to-none}
 use Rattle.doc_format.specs.declared.document.Document.{Document}
 use Rattle.doc_format.specs.declared.status.DocStatus.TheVariants.{Infeasible}
-use Rattle.doc_format.specs.Form.{is_walked, is_head, has_barrier}
-use Rattle.doc_format.specs.Names.{kind_text}
+use Rattle.doc_format.specs.Form.{is_counts, is_head, is_barrier}
+use Rattle.mb_problem.specs.Kinds.{kind_text, form_of, exclusion_of}
 use Rattle.certificates.specs.Claims.{counts_of, answer_of}
 use Rattle.certificates.specs.Certificates.{HasBarrier, HasWantedBarrier, HasWantedPart}
 use Rattle.certificates.proofs.KindLemmas.{feasible-places}
@@ -87,25 +87,25 @@ small kind i Nothing network solved f = tt
 
 -- forms
 
-pub not_walked : (kind : Kind) → is_solved kind ≡ true → is_walked kind ≡ false
-not_walked Perfect solved = refl
-not_walked Match solved = refl
-not_walked BMatch solved = refl
-not_walked CapMatch solved = refl
-not_walked FFactor solved = refl
-not_walked TJoin solved = refl
-not_walked Postman solved = absurd (cc)
-not_walked Path solved = absurd (cc)
+pub counted : (kind : Kind) → is_solved kind ≡ true → is_counts (form_of kind) ≡ true
+counted Perfect solved = refl
+counted Match solved = refl
+counted BMatch solved = refl
+counted CapMatch solved = refl
+counted FFactor solved = refl
+counted TJoin solved = refl
+counted Postman solved = absurd (cc)
+counted Path solved = absurd (cc)
 
-pub headed : (kind : Kind) → has_barrier kind ≡ true → is_head Infeasible kind ≡ true
+pub headed : (kind : Kind) → is_barrier (exclusion_of kind) ≡ true → is_head Infeasible kind ≡ true
 headed Perfect has = refl
 headed Match has = absurd (cc)
 headed BMatch has = refl
 headed CapMatch has = refl
 headed FFactor has = refl
-headed TJoin has = refl
-headed Postman has = refl
-headed Path has = refl
+headed TJoin has = absurd (cc)
+headed Postman has = absurd (cc)
+headed Path has = absurd (cc)
 
 pub kind-size : (kind : Kind) → length (kind_text kind) ≤ 8
 kind-size Perfect = omega arith
@@ -118,7 +118,7 @@ kind-size Postman = omega arith
 kind-size Path = omega arith
 
 -- a barrier is all that the document of an infeasible instance wants
-pub wanted : (kind : Kind) (i : Network) (d : Document) → has_barrier kind ≡ true → HasBarrier kind i d → HasWantedBarrier kind i d × HasWantedPart kind i d
+pub wanted : (kind : Kind) (i : Network) (d : Document) → is_barrier (exclusion_of kind) ≡ true → HasBarrier kind i d → HasWantedBarrier kind i d × HasWantedPart kind i d
 wanted Perfect i d has barrier = (barrier, tt)
 wanted Match i d has barrier = absurd (cc)
 wanted BMatch i d has barrier = (barrier, tt)
@@ -148,7 +148,7 @@ empty-matching i = record {
 }
 
 -- so where no answer is feasible a document can have the barrier
-pub excludable : (kind : Kind) (i : Network) → is_solved kind ≡ true → ((answer : Answer) → IsFeasible kind i answer → ⊥) → has_barrier kind ≡ true
+pub excludable : (kind : Kind) (i : Network) → is_solved kind ≡ true → ((answer : Answer) → IsFeasible kind i answer → ⊥) → is_barrier (exclusion_of kind) ≡ true
 excludable Perfect i solved none = refl
 excludable Match i solved none = absurd (none (Counts (replicate {A = ℕ} (length i.edges) 0)) (empty-matching i))
 excludable BMatch i solved none = refl

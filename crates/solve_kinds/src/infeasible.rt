@@ -1,6 +1,7 @@
 ghost use Rattle.std.specs.Prelude.{◌≡◌, true, Some, IfOk};
 ghost use Rattle.graph_theory.specs.Parts.{IsVertexSet};
-ghost use Rattle.doc_format.specs.Form.{has_barrier};
+ghost use Rattle.mb_problem.specs.Kinds.{exclusion_of};
+ghost use Rattle.doc_format.specs.Form.{is_barrier};
 ghost use Rattle.mwpm_engine.specs.declared.outcome.Outcome.TheVariants.{Barrier};
 ghost use Rattle.solve_kinds.specs.Excluding.{StatesBarrier};
 
@@ -19,7 +20,7 @@ pub fn infeasible(
     engine: &Engine,
     graph: &Graph,
 ) -> Result<Document, OutOfMemory>
-    requires kind { has_barrier kind ≡ true }
+    requires kind { is_barrier (exclusion_of kind) ≡ true }
     requires excluded { engine.now.outcome ≡ Some Barrier }
     requires same { engine.now.graph ≡ graph.now }
     requires set { IsVertexSet graph.now.vertices engine.now.barrier }

@@ -18,7 +18,7 @@ use Rattle.certificates.proofs.KindLemmas.{feasible-places}
 use Rattle.mwpm_engine.specs.Solutions.{matching_of, AreAscending}
 use Rattle.solve_kinds.specs.Parts.{ListsAnswer}
 use Rattle.solve_kinds.proofs.Forms.{form-optimal}
-use Rattle.solve_kinds.proofs.EachKind.{small, not_walked}
+use Rattle.solve_kinds.proofs.EachKind.{small, counted}
 use Rattle.solve_kinds.proofs.Weighed.{number-of_answer, pays-for_matching}
 use Rattle.solve_kinds.proofs.optimal.optimal.Goals as goal
 
@@ -53,7 +53,7 @@ counts-requires-clause-small c = small c.args.kind c.args.instance.now c.in_ok-a
 
 pub invariant_of-result : goal.invariant_of-result
 invariant_of-result c = record {
-  form = form-optimal c.args.kind _ c.from_vec-counts.result c.from_vec-duals.result c.from_vec-sets.result (not_walked c.args.kind c.requires.kind)
+  form = form-optimal c.args.kind _ c.from_vec-counts.result c.from_vec-duals.result c.from_vec-sets.result (counted c.args.kind c.requires.kind)
       (subst (λ (xs : List CountLine). AscendsBy (λ x. x.edge) xs) (sym c.from_vec-counts.ensures) c.in_ok-counts.ensures.ascending)
       (subst (λ (ys : List DualLine). AscendsBy (λ y. y.vertex) ys) (sym c.from_vec-duals.ensures) c.in_ok-duals.ensures.ascending);
 }

@@ -5,7 +5,6 @@ use Rattle.graph_theory.specs.Limits.{Size}
 use Rattle.graph_theory.specs.Parts.{IsVertexSet}
 use Rattle.mb_problem.specs.Size.{size_of}
 use Rattle.gadget_base.specs.Certified.{gadget_graph}
-use Rattle.doc_format.specs.Form.{has_barrier}
 use Rattle.certificates.specs.Excluded.{HasNoAnswer}
 use Rattle.mwpm_engine.specs.Solutions.{most_steps, size_of_graph}
 use Rattle.solve_kinds.proofs.EachKind.{excludable}
