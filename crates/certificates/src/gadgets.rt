@@ -1,6 +1,6 @@
-ghost use Rattle.std.specs.Prelude.{◌≡◌, ◌≤◌, pos, ◌≤ℤ◌, All, IfOk};
+ghost use Rattle.std.specs.Prelude.{◌≡◌, ◌≢◌, ◌≤◌, pos, ◌≤ℤ◌, All, IfOk};
 ghost use Rattle.graph_theory.specs.Graph.{IsGraph};
-ghost use Rattle.graph_theory.specs.Limits.{IsWithinLimits};
+ghost use Rattle.graph_theory.specs.Limits.{IsWithinLimits, HasSize};
 ghost use Rattle.mb_problem.specs.Network.{IsNetwork};
 ghost use Rattle.mb_problem.specs.Size.{size_of};
 ghost use Rattle.gadget_base.specs.Certified.{gadget_graph, ReachesAll};
@@ -32,6 +32,7 @@ fn build(alloc: Global, instance: &Instance, kind: Kind) -> Result<Graph, OutOfM
     requires limits { IsWithinLimits (size_of kind instance.now) }
     requires weights { kind ≡ Kind.Postman → All (λ e. pos 0 ≤ℤ e.w) instance.now.edges }
     ensures graph { IfOk result (λ h. h ≡ gadget_graph kind instance.now) }
+    ensures size { IfOk result (λ h. kind ≢ Kind.Path → HasSize (size_of kind instance.now) h) }
     ensures reached { IfOk result (λ h. ReachesAll kind instance.now) }
 {
     match kind {
@@ -52,6 +53,9 @@ pub fn certified(alloc: Global, instance: &Instance, kind: Kind) -> Result<Graph
     requires limits { IsWithinLimits (size_of kind instance.now) }
     requires weights { kind ≡ Kind.Postman → All (λ e. pos 0 ≤ℤ e.w) instance.now.edges }
     ensures graph { IfOk result (λ h. h ≡ gadget_graph kind instance.now) }
+
+    // A path's size is the greater of two graphs'.
+    ensures size { IfOk result (λ h. kind ≢ Kind.Path → HasSize (size_of kind instance.now) h) }
     ensures reached { IfOk result (λ h. ReachesAll kind instance.now) }
 
     // Both are what `laws` asks of an instance and its graph.

@@ -6,5 +6,4 @@ ghost use Rattle.certificates.specs.Laws.{ProvedIsTrue};
 #[tactic(auto, using(crate::proofs::ProvedTruth::proved_true))]
 pub fn laws()
     ensures proved { ProvedIsTrue }
-{
-}
+{}

@@ -1,5 +1,5 @@
 -- What holds of each kind that is solved, one row a kind.
-use Rattle.std.proofs.Common.{◌≡◌, ℕ, ◌-◌, ◌*◌, ◌<◌, ◌≤◌, Bool, true, false, cond, List, length, slice_index, All, refl, sym, ap, ◌∙◌, subst, arith}
+use Rattle.std.proofs.Common.{◌≡◌, ◌≢◌, ℕ, ◌-◌, ◌*◌, ◌<◌, ◌≤◌, Bool, true, false, cond, List, length, slice_index, All, refl, sym, ap, ◌∙◌, subst, arith}
 use Rattle.std.specs.Prelude.{replicate}
 use Rattle.std.proofs.lemmas.List.{get_or_default, get_or-replicate, length-replicate}
 use Rattle.std.proofs.lemmas.List.Elements.{All-weaker, All-replicate}
@@ -157,3 +157,7 @@ excludable FFactor i solved none = refl
 excludable TJoin i solved none = absurd (cc)
 excludable Postman i solved none = absurd (cc)
 excludable Path i solved none = absurd (cc)
+
+-- a path is none of them
+pub not_path : (kind : Kind) → is_solved kind ≡ true → kind ≢ Path
+not_path kind solved = λ same. (let of_path : is_solved Path ≡ true = subst (λ (k : Kind). is_solved k ≡ true) same solved in absurd (cc))

@@ -8,7 +8,6 @@ mod answer;
 mod barrier;
 mod counts;
 mod duals;
-mod gadget;
 mod infeasible;
 mod limits;
 mod matching;

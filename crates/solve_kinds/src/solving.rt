@@ -6,10 +6,10 @@ ghost use Rattle.certificates.specs.Proved.{IsProved, StatesTruth};
 ghost use Rattle.mwpm_engine.specs.Solutions.{most_steps};
 ghost use Rattle.solve_kinds.specs.Solved.{is_solved, HasTrueStatus};
 
-use crate::gadget::certified;
 use crate::infeasible::infeasible;
 use crate::limits::DOCUMENT_BYTE_LIMIT;
 use crate::optimal::optimal;
+use certificates::certified;
 use doc_format::Document;
 use mb_base::{OutOfMemory, Steps};
 use mb_problem::{Instance, Kind};

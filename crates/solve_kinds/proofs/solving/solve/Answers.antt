@@ -7,7 +7,7 @@ use Rattle.mb_problem.specs.Size.{size_of}
 use Rattle.gadget_base.specs.Certified.{gadget_graph}
 use Rattle.certificates.specs.Excluded.{HasNoAnswer}
 use Rattle.mwpm_engine.specs.Solutions.{most_steps, size_of_graph}
-use Rattle.solve_kinds.proofs.EachKind.{excludable}
+use Rattle.solve_kinds.proofs.EachKind.{excludable, not_path}
 use Rattle.solve_kinds.proofs.Presenting.{Solves, same-size, few-by_size, proved-optimal, true-optimal, exact-optimal}
 use Rattle.solve_kinds.proofs.Barriers.{excluded-by_barrier, proved-infeasible, true-infeasible, exact-infeasible}
 use Rattle.solve_kinds.proofs.Short.{short-optimal, short-infeasible}
@@ -37,7 +37,7 @@ returns-in-Matched-clause-small g c =
     let i = c.args.instance.now in
     let s = c.run.new.self in
     let graph : s.graph ≡ c.in_ok-graph.graph = c.in-Matched.ensures.graph ∙ c.in_ok-engine.ensures.graph in
-    let few : s.graph.vertices ≤ 4096 = subst (λ (h : Multigraph). h.vertices ≤ 4096) (sym graph) (few-by_size _ _ c.in_ok-graph.ensures.size c.requires.limits) in
+    let few : s.graph.vertices ≤ 4096 = subst (λ (h : Multigraph). h.vertices ≤ 4096) (sym graph) (few-by_size _ _ (c.in_ok-graph.ensures.size (not_path kind c.requires.kind)) c.requires.limits) in
     short-optimal kind i s _ c.edges-edges.ensures.network.few_edges few c.in-Matched.ensures.ends c.in_ok-optimal-in-Matched.ensures
 
 pub infeasible-requires-clause-kind : goal.infeasible-requires-clause-kind
@@ -85,5 +85,5 @@ returns-clause-small g c =
     let kind = c.args.kind in
     let s = c.run.new.self in
     let graph : s.graph ≡ c.in_ok-graph.graph = c.in-Barrier.ensures.graph ∙ c.in_ok-engine.ensures.graph in
-    let few : s.graph.vertices ≤ 4096 = subst (λ (h : Multigraph). h.vertices ≤ 4096) (sym graph) (few-by_size _ _ c.in_ok-graph.ensures.size c.requires.limits) in
+    let few : s.graph.vertices ≤ 4096 = subst (λ (h : Multigraph). h.vertices ≤ 4096) (sym graph) (few-by_size _ _ (c.in_ok-graph.ensures.size (not_path kind c.requires.kind)) c.requires.limits) in
     short-infeasible kind s.graph.vertices s.barrier _ few c.in-Barrier.ensures.ends.0 c.in_ok-infeasible-in-Barrier.ensures
