@@ -14,7 +14,7 @@ use Rattle.graph_theory.specs.Nested.{most_blossoms, AreLaminar, AreSame}
 use Rattle.blossom_arena.specs.Family.{Blossom, IsNested, is_node, names_of, members_of, dual_at}
 use Rattle.blossom_arena.specs.Slack.{AreListed}
 use Rattle.blossom_arena.proofs.Lists.{AllNew, first_in, later_in}
-use Rattle.blossom_arena.proofs.Nested.{names_new, name_is_node, room_for_circuit}
+use Rattle.blossom_arena.proofs.Nested.{names_new, name_is_node, blossoms_most}
 use Rattle.blossom_arena.proofs.Sets.{members_here, members_past}
 use Rattle.blossom_arena.proofs.Forms.{members_laminar}
 use Rattle.blossom_arena.proofs.Theorems.{members_differ}
@@ -96,16 +96,12 @@ nodes_few ys (b ∷ older) nodes list = ⊎_elim
     (λ kept. omega (arith, nodes_few ys older kept.0 kept.3, ap length kept.1))
     list
 
-room_for_all : (n : ℕ) (bs : List Blossom) → IsNested n bs → length bs ≤ most_blossoms n
-room_for_all n [] nested = omega arith
-room_for_all n (b ∷ older) nested = omega (arith, (room_for_circuit n older b.ring nested.1 nested.0.circuit).0)
-
 -- a node as a set
 abbrev pub set_of : List ℤ → List Blossom → ℕ → OddSet
 set_of ys bs a = record { dual = dual_at ys a; members = members_of bs a }
 
 pub few_sets : (n : ℕ) (ys : List ℤ) (bs : List Blossom) (nodes : List ℕ) → IsNested n bs → AreProving ys (names_of bs) nodes → length (sets_at ys bs nodes) ≤ most_blossoms n
-few_sets n ys bs nodes nested list = omega (arith, length-map nodes (set_of ys bs), nodes_few ys bs nodes list, room_for_all n bs nested)
+few_sets n ys bs nodes nested list = omega (arith, length-map nodes (set_of ys bs), nodes_few ys bs nodes list, blossoms_most n bs nested)
 
 pub set_at_place : (ys : List ℤ) (bs : List Blossom) (nodes : List ℕ) (i : ℕ) → i < length nodes → set_at (sets_at ys bs nodes) i ≡ set_of ys bs (get_or nodes i 0)
 set_at_place ys bs nodes i low = get_or-map (set_of ys bs) nodes i 0 no_set low

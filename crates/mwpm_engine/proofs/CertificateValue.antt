@@ -1,9 +1,8 @@
 -- A perfect matching of tight edges, one of which leaves each set, meets the duals: their value is twice its weight.
-use Rattle.std.proofs.Common.{◌≡◌, ℕ, ◌*◌, ◌<◌, ℤ, pos, ◌*ℤ◌, Bool, true, false, not, eqb, cond, List, [], ◌∷◌, length, refl, ap, ap₂, ◌∙◌, arith, ⊎_elim, slice_index}
+use Rattle.std.proofs.Common.{◌≡◌, ℕ, ◌*◌, ◌<◌, ℤ, pos, ◌*ℤ◌, Bool, true, false, eqb, cond, List, [], ◌∷◌, length, refl, ap, ◌∙◌, arith, ⊎_elim, slice_index}
 use Rattle.std.specs.List.{AllByRecursion}
 use Rattle.std.proofs.lemmas.Int.{ints}
 use Rattle.std.proofs.lemmas.Bool.{both_ways, or_cases}
-use Rattle.graph_theory.specs.declared.edge.Edge.{Edge}
 use Rattle.graph_theory.specs.declared.odd_set.OddSet.{OddSet}
 use Rattle.graph_theory.specs.Graph.{Multigraph, IsGraph, IsPerfect, edge_at, weight}
 use Rattle.graph_theory.specs.Parts.{holds, crosses}
@@ -15,6 +14,7 @@ use Rattle.blossom_arena.specs.Family.{Blossom, names_of, members_of}
 use Rattle.graph_theory.specs.Nested.{AreSame}
 use Rattle.blossom_arena.proofs.Lists.{by_test}
 use Rattle.blossom_arena.proofs.Sets.{members_here, members_past}
+use Rattle.blossom_arena.proofs.Slacks.{crosses_same}
 use Rattle.augment.specs.Matching.{leaving}
 
 -- the edges that leave a blossom, by its node
@@ -23,9 +23,6 @@ left_once g counts [] a each h = absurd (both_ways false refl h)
 left_once g counts (b ∷ older) a each h = by_test (eqb b.node a)
     (λ s. ap (leaving g counts) (members_here b older a s) ∙ each.0)
     (λ s. ap (leaving g counts) (members_past b older a s) ∙ left_once g counts older a each.1 (⊎_elim (λ t. absurd (both_ways (eqb b.node a) s t)) (λ t. t) (or_cases (eqb b.node a) (holds (names_of older) a) h)))
-
-crosses_same : (xs ys : List ℕ) (e : Edge) → AreSame xs ys → crosses xs e ≡ crosses ys e
-crosses_same xs ys e same = ap₂ (λ (p q : Bool). cond p (not q) q) (same e.u) (same e.v)
 
 once_or_not : (t : Bool) (c : ℕ) → cond t c 0 ≡ c * cond t 1 0
 once_or_not true c = omega arith

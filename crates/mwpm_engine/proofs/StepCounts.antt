@@ -6,7 +6,7 @@ use Rattle.graph_theory.specs.Graph.{Multigraph}
 use Rattle.graph_theory.proofs.SumLemmas.{sum_to-most}
 use Rattle.graph_theory.specs.Nested.{most_blossoms}
 use Rattle.blossom_arena.specs.Family.{Blossom, IsNested}
-use Rattle.blossom_arena.proofs.Nested.{room_for_circuit}
+use Rattle.blossom_arena.proofs.Nested.{blossoms_most}
 use Rattle.alt_forest.specs.State.{State}
 use Rattle.alt_forest.specs.Counts.{is_outside, outside_vertices, outside_among, measure}
 use Rattle.mwpm_engine.specs.Solutions.{size_of_graph, most_steps}
@@ -26,10 +26,6 @@ outside_most s =
 among_most : (s : State) (bs : List Blossom) → outside_among s bs ≤ length bs
 among_most s [] = omega arith
 among_most s (b ∷ older) = omega (arith, among_most s older, one_most (list_any (is_outside s) b.members))
-
-blossoms_most : (n : ℕ) (bs : List Blossom) → IsNested n bs → length bs ≤ most_blossoms n
-blossoms_most n [] nested = omega arith
-blossoms_most n (b ∷ older) nested = omega (arith, (room_for_circuit n older b.ring nested.1 nested.0.circuit).0)
 
 pub left_most : (s : State) → IsNested s.graph.vertices s.blossoms → measure s ≤ s.graph.vertices + most_blossoms s.graph.vertices
 left_most s nested = omega (arith, outside_most s, among_most s s.blossoms, blossoms_most s.graph.vertices s.blossoms nested)
