@@ -1,5 +1,5 @@
 -- Where nothing was counted, and what a search counts at most.
-use Rattle.std.proofs.Common.{◌≡◌, ℕ, ◌+◌, ◌*◌, ◌≤◌, List, ◌++◌, length, map, Bool, Option, None, Some, Result, Ok, Err, ap, sym, subst, ◌∙◌, append-nil, arith}
+use Rattle.std.proofs.Common.{◌≡◌, ℕ, ◌+◌, ◌*◌, ◌≤◌, List, ◌++◌, Bool, Option, None, Some, Result, Ok, Err, ap, sym, subst, ◌∙◌, append-nil, arith}
 use Rattle.std.proofs.Math.Nat.{mul-le-mul}
 use Rattle.std.specs.Prelude.{IfOk}
 use Rattle.std.specs.Io.KnownBytes.{Consumes, IsAtEnd}

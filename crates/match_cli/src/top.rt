@@ -99,12 +99,10 @@ pub fn run<I: Source, O: Sink, L: Ledger>(
     requires sink_count { O.faults sink.old < 2 ^ 64 - 1 }
 
     // Which answer comes, what is left of the source and the sink, and how many steps came to it.
-    ensures answer {
-        Runs (map string_bytes words.now.items)
-            (record { left = I.left source.old; taken = O.taken sink.old; room = O.room sink.old; steps = steps.old })
-            (record { left = I.left source.new; taken = O.taken sink.new; room = O.room sink.new; steps = steps.new })
-            result
-    }
+    ensures answer { Runs (map string_bytes words.now.items)
+        (record { left = I.left source.old; taken = O.taken sink.old; room = O.room sink.old; steps = steps.old })
+        (record { left = I.left source.new; taken = O.taken sink.new; room = O.room sink.new; steps = steps.new })
+        result }
 
     // Faults are told exactly where a count rose.
     ensures count { CountsRun (I.faults source.old) (I.faults source.new) (O.faults sink.old) (O.faults sink.new) result }
