@@ -101,10 +101,19 @@ def words(tests):
 
 
 def examples(tests):
-    """The documents in examples/ are accepted."""
+    """The documents in examples/ are accepted; an instance that stands beside one is solved to the same weight, and its document accepted."""
     for path in sorted(glob.glob(os.path.join(HERE, "..", "examples", "*.checked"))):
+        name, kind = os.path.basename(path), os.path.basename(path).split("-")[0]
         with open(path, "rb") as file:
-            tests.expect(os.path.basename(path), ["check", os.path.basename(path).split("-")[0]], file.read(), "s ACCEPTED\n", 0)
+            whole = file.read()
+        tests.expect(name, ["check", kind], whole, "s ACCEPTED\n", 0)
+        if os.path.exists(path.replace(".checked", ".dimacs")):
+            with open(path.replace(".checked", ".dimacs"), "rb") as file:
+                instance = file.read()
+            status, output, _ = run(["solve", kind], instance)
+            stated = next(line for line in whole.decode().splitlines() if line.startswith("s "))
+            tests.compare(name + ", solved", instance, (0, stated), (status, output.split("\n")[0]))
+            tests.expect(name + ", solved and checked", ["check", kind], instance + output.encode(), "s ACCEPTED\n", 0)
 
 
 def stored_documents():
