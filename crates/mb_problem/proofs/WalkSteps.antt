@@ -1,5 +1,5 @@
 -- One step more of a walk along the edges of an instance.
-use Rattle.std.proofs.Common.{◌≡◌, ℕ, ◌+◌, ◌<◌, ◌≤◌, List, [], ◌∷◌, length, get_or, refl, sym, ap, ◌∙◌, arith, subst}
+use Rattle.std.proofs.Common.{◌≡◌, ℕ, ◌+◌, ◌<◌, ◌≤◌, List, [], ◌∷◌, length, get_or, sym, ap, ◌∙◌, arith, subst}
 use Rattle.graph_theory.specs.Graph.{Multigraph, edge_of, IsEdgeNumber, other_end}
 use Rattle.graph_theory.specs.Walk.{walk_vertices, IsWalk}
 use Rattle.graph_theory.proofs.Edges.{other_end-within}

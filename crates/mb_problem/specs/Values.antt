@@ -1,5 +1,5 @@
 -- The value that duals have beside a best answer: twice the weight of the perfect matching that stands for it.
-use Rattle.std.specs.Prelude.{ℕ, ℤ, pos, neg_ℤ, ◌*ℤ◌, ◌-ℤ◌, length, replicate}
+use Rattle.std.specs.Prelude.{ℤ, pos, neg_ℤ, ◌*ℤ◌, ◌-ℤ◌, length, replicate}
 use Rattle.graph_theory.specs.Graph.{weight}
 use Rattle.mb_problem.specs.declared.kind.Kind.{Kind}
 use Rattle.mb_problem.specs.declared.answer.Parity.TheVariants.{Empty, Values, OddDegrees}

@@ -1,7 +1,6 @@
-use Rattle.std.proofs.Common.{◌≡◌, ℕ, ◌+◌, ◌-◌, ◌<◌, ◌≤◌, Bool, true, false, List, length, get_or, take, set, refl, sym, ap, ◌∙◌, arith, subst}
+use Rattle.std.proofs.Common.{◌≡◌, ◌+◌, ◌-◌, ◌≤◌, Bool, true, false, List, length, get_or, take, refl, sym, ap, ◌∙◌, arith, subst}
 use Rattle.std.proofs.lemmas.List.{with_items_is, get_or_read, length-set}
 use Rattle.std.proofs.lemmas.Bool.{false≢true}
-use Rattle.graph_theory.specs.Parts.{holds}
 use Rattle.mb_problem.specs.Marks.{AreMarks}
 use Rattle.mb_problem.proofs.MarkLemmas.{marks-more, differ-more, differ-not, marked-here, not_false}
 use Rattle.mb_problem.proofs.marks.edges_differ.Goals as goal

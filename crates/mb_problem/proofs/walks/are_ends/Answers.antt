@@ -1,8 +1,8 @@
-use Rattle.std.proofs.Common.{◌≡◌, ℕ, ◌+◌, ◌<◌, ◌≤◌, ◌%◌, ◌⊎◌, ◌↔◌, Bool, true, eqb, get_or, List, length, ap, sym, ◌∙◌, arith, subst}
+use Rattle.std.proofs.Common.{◌≡◌, ℕ, ◌+◌, ◌<◌, ◌≤◌, ◌%◌, ◌⊎◌, ◌↔◌, get_or, List, length, ap, sym, arith, subst}
 use Rattle.std.proofs.lemmas.Bool.{eq-eqb, eqb-true}
 use Rattle.mb_problem.specs.Network.{vertices}
 use Rattle.mb_problem.specs.Feasible.{AreEnds}
-use Rattle.mb_problem.proofs.EndLemmas.{ends-low, ends-high, ends-there, ends-below, same_flags}
+use Rattle.mb_problem.proofs.EndLemmas.{ends-low, ends-high, ends-there, same_flags}
 use Rattle.mb_problem.proofs.walks.are_ends.Goals as goal
 
 pub returns-then-number-eq0 : goal.returns-then-number-eq0

@@ -1,8 +1,7 @@
-use Rattle.std.proofs.Common.{◌≡◌, ℕ, ◌+◌, ◌-◌, ◌<◌, ◌≤◌, Bool, true, false, List, length, get_or, take, set, replicate, None, Some, refl, sym, ap, ◌∙◌, arith, subst}
+use Rattle.std.proofs.Common.{◌≡◌, ℕ, ◌+◌, ◌-◌, ◌<◌, ◌≤◌, Bool, true, false, List, length, get_or, take, replicate, refl, sym, ap, ◌∙◌, arith, subst}
 use Rattle.std.proofs.lemmas.List.{with_items_is, get_or_read, length-set}
 use Rattle.std.proofs.lemmas.Bool.{false≢true}
-use Rattle.graph_theory.specs.Graph.{edge_of, IsEdgeNumber, touches, other_end}
-use Rattle.graph_theory.specs.Parts.{holds}
+use Rattle.graph_theory.specs.Graph.{edge_of, IsEdgeNumber, touches}
 use Rattle.graph_theory.specs.Walk.{walk_vertices}
 use Rattle.graph_theory.proofs.Walks.{vertices-length}
 use Rattle.mb_problem.specs.Network.{graph_of, vertices}
