@@ -150,50 +150,71 @@ def long_input(tests):
     tests.expect("solve, one byte more", ["solve", "perfect"], b"\n" * 16_777_217, "s TOOLONG\n", 5)
 
 
-def made_graphs():
-    """Small graphs, some with weights: how many vertices, and the edges."""
+def made_edges(chance, n, count, most, greatest):
+    """So many edges on n vertices, parallel ones among them, of which some have a capacity."""
+    if n < 2:
+        return []
+    pairs = [chance.sample(range(1, n + 1), 2) for _ in range(count)]
+    return [(u, v, chance.randint(-most, most), chance.choice((None, None, chance.randint(0, greatest)))) for u, v in pairs]
+
+
+def made_instances():
+    """Small instances: a kind, edges, and the value of each vertex."""
     chance = random.Random(2)
     for turn in range(160):
         n = chance.choice((2, 4, 6, 8, 8, 10, 10, 12)) - (turn % 16 == 0)
-        most = chance.choice((0, 0, 1, 9, 10**9))
-        edges = []
-        for _ in range(chance.randint(n // 2, 3 * n)):
-            u, v = sorted(chance.sample(range(1, n + 1), 2)) if n > 1 else (0, 0)
-            if u:
-                edges.append((u, v, chance.randint(-most, most)))
-        yield n, edges
+        yield "perfect", made_edges(chance, n, chance.randint(n // 2, 3 * n), chance.choice((0, 0, 1, 9, 10**9)), 1), [0] * n
+    for kind in plain_solver.KINDS[1:]:
+        for turn in range(80):
+            n = chance.choice((0, 1, 2, 3, 4, 5, 6, 7))
+            greatest = chance.choice((1, 2, 3))
+            edges = made_edges(chance, n, chance.randint(n // 2, 2 * n), chance.choice((0, 1, 9, 10**9)), greatest)
+            values = [chance.randint(0, greatest) for _ in range(n)]
+            if turn % 2:  # the degrees of some counts, so that more of the instances have an answer
+                values = [0] * n
+                for u, v, _, _ in chance.sample(edges, len(edges) // 2):
+                    values[u - 1] += 1
+                    values[v - 1] += 1
+            yield kind, edges, values
 
 
 def solved(tests):
-    """What `solve` writes for a graph is what trying all matchings finds, and `check` accepts it."""
-    for turn, (n, edges) in enumerate(made_graphs()):
-        name = "made graph %d" % turn
-        text = plain_solver.instance(n, edges)
-        least = plain_solver.least_weight(n, edges)
-        wanted = "s INFEASIBLE perfect" if least is None else "s OPTIMAL perfect %d" % least
-        status, output, _ = run(["solve", "perfect"], text.encode())
+    """What `solve` writes for an instance is as good as what trying all counts finds, and `check` accepts it."""
+    for turn, (kind, edges, values) in enumerate(made_instances()):
+        name = "made instance %d, %s" % (turn, kind)
+        text = plain_solver.instance(edges, values)
+        best = plain_solver.best_weight(kind, edges, values)
+        wanted = "s INFEASIBLE " + kind if best is None else "s OPTIMAL %s %d" % (kind, best)
+        status, output, _ = run(["solve", kind], text.encode())
         tests.compare(name, text, (0, wanted), (status, output.split("\n")[0]))
-        tests.expect(name + ", checked", ["check", "perfect"], (text + output).encode(), "s ACCEPTED\n", 0)
+        tests.expect(name + ", checked", ["check", kind], (text + output).encode(), "s ACCEPTED\n", 0)
         brief = "".join(line + "\n" for line in output.splitlines() if line[0] in "sx")
-        tests.expect(name + ", briefly", ["solve", "perfect", "--brief"], text.encode(), brief, 0)
+        tests.expect(name + ", briefly", ["solve", kind, "--brief"], text.encode(), brief, 0)
 
 
-def large_graphs(tests):
-    """Documents for larger graphs, with nested sets among them, are accepted."""
+def large_instances(tests):
+    """Documents for larger instances, with nested sets among them, are accepted."""
     chance = random.Random(3)
-    for n, m, most in ((60, 200, 10), (100, 300, 10**9), (200, 400, 3), (300, 3000, 1000)):
+    for kind, n, m, most in (("perfect", 60, 200, 10), ("perfect", 100, 300, 10**9), ("perfect", 200, 400, 3),
+                             ("perfect", 300, 3000, 1000), ("match", 101, 400, 10**9), ("bmatch", 40, 120, 100),
+                             ("capmatch", 20, 60, 100), ("ffactor", 40, 120, 100)):
         order = chance.sample(range(1, n + 1), n)
         pairs = list(zip(order[::2], order[1::2])) + [tuple(chance.sample(range(1, n + 1), 2)) for _ in range(m - n // 2)]
-        text = plain_solver.instance(n, [(u, v, chance.randint(-most, most)) for u, v in pairs])
-        status, output, _ = run(["solve", "perfect"], text.encode())
-        name = "a graph of %d vertices and %d edges" % (n, m)
-        tests.compare(name, text, (0, "s OPTIMAL perfect"), (status, " ".join(output.split()[:3])))
-        tests.expect(name + ", checked", ["check", "perfect"], (text + output).encode(), "s ACCEPTED\n", 0)
+        edges = [(u, v, chance.randint(-most, most), 3) for u, v in pairs]
+        values = [0] * n
+        for u, v in pairs[::2]:
+            values[u - 1] += 1
+            values[v - 1] += 1
+        text = plain_solver.instance(edges, values)
+        status, output, _ = run(["solve", kind], text.encode())
+        name = "%s of %d vertices and %d edges" % (kind, n, m)
+        tests.compare(name, text, (0, "s OPTIMAL " + kind), (status, " ".join(output.split()[:3])))
+        tests.expect(name + ", checked", ["check", kind], (text + output).encode(), "s ACCEPTED\n", 0)
 
 
 PROGRAM = os.path.abspath(sys.argv[1])
 TESTS = Tests()
-for part in (cases, cut_files, hostile_input, words, examples, documents, changed_documents, long_input, solved, large_graphs):
+for part in (cases, cut_files, hostile_input, words, examples, documents, changed_documents, long_input, solved, large_instances):
     part(TESTS)
 process_ends.check(PROGRAM, TESTS)
 launcher.check(TESTS)

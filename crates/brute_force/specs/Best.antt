@@ -1,18 +1,28 @@
--- What a best answer is where there may be none, and the kinds whose answers use no edge twice.
-use Rattle.std.specs.Prelude.{Option, None, Some}
+-- What a best answer is where there may be none, the kinds whose answers are counts, and how high these go.
+use Rattle.std.specs.Prelude.{ℕ, min, Bool, true, false, List, map, Option, None, Some}
 use Rattle.mb_problem.specs.declared.kind.Kind.{Kind}
-use Rattle.mb_problem.specs.declared.kind.Kind.TheVariants.{Perfect, Match, FFactor, TJoin}
+use Rattle.mb_problem.specs.declared.kind.Kind.TheVariants.{BMatch, CapMatch, Postman, Path}
 use Rattle.mb_problem.specs.declared.answer.Answer.{Answer}
-use Rattle.mb_problem.specs.Network.{Network}
+use Rattle.mb_problem.specs.declared.instance.InstanceEdge.{InstanceEdge}
+use Rattle.mb_problem.specs.Network.{Network, value_of}
+use Rattle.mb_problem.specs.Size.{bounded}
 use Rattle.mb_problem.specs.Feasible.{IsFeasible, IsBest}
 
--- the answers are counts of 0 and 1
-abbrev pub CountsToOne : Kind → Type 0
-CountsToOne Perfect = Unit {0}
-CountsToOne Match = Unit {0}
-CountsToOne FFactor = Unit {0}
-CountsToOne TJoin = Unit {0}
-CountsToOne kind = ⊥
+-- the answers of the kind are counts on edges
+abbrev pub is_counted : Kind → Bool
+is_counted Postman = false
+is_counted Path = false
+is_counted kind = true
+
+-- how often an edge can be used at most: once, or as the values at its ends and its capacity let it
+abbrev pub most_of : Kind → Network → InstanceEdge → ℕ
+most_of BMatch i e = min (value_of i e.u) (value_of i e.v)
+most_of CapMatch i e = bounded e.capacity (min (value_of i e.u) (value_of i e.v))
+most_of kind i e = 1
+
+-- the same for each edge
+abbrev pub mosts : Kind → Network → List ℕ
+mosts kind i = map (most_of kind i) i.edges
 
 -- a best answer, or nothing where no answer is feasible
 abbrev pub IsBestOrNone : Kind → Network → Option Answer → Type 0

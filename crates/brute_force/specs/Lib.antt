@@ -1,3 +1,3 @@
 pub mod Best
-pub mod BinaryDigits
+pub mod Digits
 pub mod Tried

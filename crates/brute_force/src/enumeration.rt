@@ -1,10 +1,14 @@
-ghost use Rattle.std.specs.Prelude.{◌+◌, ◌≤◌, length, IfOk, IfSome, MatchBool, MatchOption};
+ghost use Rattle.std.specs.Prelude.{◌≡◌, ◌+◌, ◌≤◌, true, All, IsTrue, ◌↔◌, IfOk, IfSome, MatchBool, MatchOption};
 ghost use Rattle.mb_problem.specs.Feasible.{IsAsGood, weight_of};
 ghost use Rattle.mb_problem.specs.Measured.{HasPlaces};
-ghost use Rattle.brute_force.specs.Best.{CountsToOne, IsBestOrNone};
+ghost use Rattle.mb_problem.specs.declared.limits.TheConstants.{VALUE_LIMIT};
+ghost use Rattle.brute_force.specs.Best.{is_counted, mosts, IsBestOrNone};
+ghost use Rattle.brute_force.specs.Digits.{digit_lists};
 ghost use Rattle.brute_force.specs.Tried.{IsBestBelow};
+ghost use Rattle.brute_force.specs.declared.limits.TheConstants.{TRIAL_LIMIT};
 
-use crate::digits::{codes, digits_of};
+use crate::digits::{digits_of, lists};
+use crate::mosts::mosts;
 use mb_base::OutOfMemory;
 use mb_problem::{Answer, Instance, Kind, feasible, weight};
 use std::alloc::Global;
@@ -38,14 +42,16 @@ fn try_code(
     alloc: Global,
     instance: &Instance,
     kind: Kind,
-    code: u32,
+    mosts: &[u32],
+    code: u64,
     found: Option<Answer>,
 ) -> Result<Option<Answer>, OutOfMemory>
-    requires kind { CountsToOne kind }
-    requires best { IsBestBelow kind instance.now code found }
-    ensures best { IfOk result (λ kept. IsBestBelow kind instance.now (code + 1) kept) }
+    requires kind { is_counted kind ≡ true }
+    requires small { All (λ most. most ≤ VALUE_LIMIT) mosts.now }
+    requires best { IsBestBelow kind instance.now mosts.now code found }
+    ensures best { IfOk result (λ kept. IsBestBelow kind instance.now mosts.now (code + 1) kept) }
 {
-    let answer = Answer::Counts(digits_of(alloc, instance.edges(), code)?);
+    let answer = Answer::Counts(digits_of(alloc, mosts, code)?);
     if !feasible(alloc, instance, kind, &answer)? {
         return Ok(found);
     }
@@ -55,20 +61,43 @@ fn try_code(
     Ok(found)
 }
 
-/// A best answer to an instance of at most 20 edges, by trying every set of edges; nothing where no
-/// answer is feasible. It serves tests, as a plain second opinion on a solver. The kind is one whose
-/// answers use each edge at most once: a perfect matching of least weight or a matching of greatest
-/// weight (chapters 24 and 26), a factor of least weight (33) or a T-join of least weight (29). The
-/// only error is want of memory. It takes time 2^m * (n + m) and memory linear in n + m, for n
-/// vertices and m edges.
-pub fn best(alloc: Global, instance: &Instance, kind: Kind) -> Result<Option<Answer>, OutOfMemory>
-    requires kind { CountsToOne kind }
-    requires few { length instance.now.edges ≤ 20 }
-    ensures best { IfOk result (λ found. IsBestOrNone kind instance.now found) }
+/// How many lists of counts up to these there are, where they are few.
+fn list_count(mosts: &[u32]) -> u64
+    requires small { All (λ most. most ≤ VALUE_LIMIT) mosts.now }
+    requires few { digit_lists mosts.now ≤ TRIAL_LIMIT }
+    ensures { result ≡ digit_lists mosts.now }
 {
+    lists(mosts).unwrap_or(0)
+}
+
+/// Whether there are few enough counts for `best` to try: each goes from 0 to 1 or, for b-matchings and
+/// those with capacities, to the least of the values at the edge's ends and its capacity. An error is
+/// want of memory.
+pub fn is_small(alloc: Global, instance: &Instance, kind: Kind) -> Result<bool, OutOfMemory>
+    ensures { IfOk result (λ b. IsTrue b ↔ (digit_lists (mosts kind instance.now) ≤ TRIAL_LIMIT)) }
+{
+    let mosts = mosts(alloc, instance, kind)?;
+    Ok(lists(&mosts).is_some())
+}
+
+/// A best answer to a small instance, by trying all counts; nothing where no answer is feasible. It
+/// serves tests, as a plain second opinion on a solver. The kind is one whose answers are counts: a
+/// perfect matching of least weight or a matching of greatest weight (Schrijver, Combinatorial
+/// Optimization, volume A, chapters 24 and 26), a b-matching (31), with capacities (32), a factor (33)
+/// or a T-join (29) of least weight. The only error is want of memory. Each of the counts that are tried
+/// takes time and memory linear in the vertices and edges.
+pub fn best(alloc: Global, instance: &Instance, kind: Kind) -> Result<Option<Answer>, OutOfMemory>
+    requires kind { is_counted kind ≡ true }
+    requires few { digit_lists (mosts kind instance.now) ≤ TRIAL_LIMIT }
+    ensures { IfOk result (IsBestOrNone kind instance.now) }
+{
+    // The prover learns here that the instance is valid.
+    let _edges = instance.edges();
+    let mosts = mosts(alloc, instance, kind)?;
+    let count = list_count(&mosts);
     let mut found = None;
-    for code in 0..codes(instance.edges()) {
-        found = try_code(alloc, instance, kind, code, found)?;
+    for code in 0..count {
+        found = try_code(alloc, instance, kind, &mosts, code, found)?;
     }
     Ok(found)
 }

@@ -1,8 +1,8 @@
-ghost use Rattle.std.specs.Prelude.{◌≡◌, ◌≤◌, length, IfOk};
+ghost use Rattle.std.specs.Prelude.{◌≡◌, length, IfOk};
 ghost use Rattle.mb_problem.specs.Measured.{HasPlaces};
 
 use alt_forest::Search;
-use brute_force::best;
+use brute_force::{best, is_small};
 use mb_base::{EdgeId, OutOfMemory, Sequence, VertexId};
 use mb_problem::{Answer, Instance, Kind, feasible, weight};
 use std::alloc::Global;
@@ -51,9 +51,10 @@ fn answer_of(alloc: Global, instance: &Instance, search: &Search) -> Result<Answ
 }
 
 /// Whether the matching of a search that has been unpacked is perfect and no perfect one weighs less.
-pub fn is_best(alloc: Global, instance: &Instance, search: &Search) -> Result<bool, OutOfMemory>
-    requires { length instance.now.edges ≤ 20 }
-{
+pub fn is_best(alloc: Global, instance: &Instance, search: &Search) -> Result<bool, OutOfMemory> {
+    if !is_small(alloc, instance, Kind::Perfect)? {
+        return Ok(false);
+    }
     let answer = answer_of(alloc, instance, search)?;
     if !feasible(alloc, instance, Kind::Perfect, &answer)? {
         return Ok(false);

@@ -1,7 +1,6 @@
-ghost use Rattle.std.specs.Prelude.{◌≡◌, ◌≤◌, length, IfOk, IfSome};
+ghost use Rattle.std.specs.Prelude.{◌≡◌, length, IfOk, IfSome};
 ghost use Rattle.mb_problem.specs.Measured.{HasPlaces};
 
-use brute_force::best;
 use doc_format::{CountLine, DocStatus, Document};
 use mb_base::{OutOfMemory, Sequence};
 use mb_problem::{Answer, Instance, Kind, feasible, weight};
@@ -41,10 +40,11 @@ fn stated_answer(
     Ok(Some(Answer::Counts(Sequence::from_vec(counts))))
 }
 
-/// Whether the counts of a document are a perfect matching of this weight, and it states this weight.
+/// Whether the counts of a document are a feasible answer of this weight, and it states this weight.
 fn states_weight(
     alloc: Global,
     instance: &Instance,
+    kind: Kind,
     document: &Document,
     wanted: i128,
 ) -> Result<bool, OutOfMemory> {
@@ -57,34 +57,25 @@ fn states_weight(
     if weight(instance, &answer) != wanted {
         return Ok(false);
     }
-    feasible(alloc, instance, Kind::Perfect, &answer)
+    feasible(alloc, instance, kind, &answer)
 }
 
-/// The weight of a best answer, found by trying all, if there is one.
-pub fn best_weight(alloc: Global, instance: &Instance) -> Result<Option<i128>, OutOfMemory>
-    requires { length instance.now.edges ≤ 20 }
-{
-    match best(alloc, instance, Kind::Perfect)? {
-        Some(answer) => Ok(Some(weight(instance, &answer))),
-        None => Ok(None),
-    }
-}
-
-/// Whether a document states a perfect matching of the least weight, or that there is none where there
-/// is no such weight.
+/// Whether a document states a feasible answer of the best weight, or that there is none where there is
+/// no such weight.
 pub fn agrees(
     alloc: Global,
     instance: &Instance,
+    kind: Kind,
     document: &Document,
-    least: Option<i128>,
+    best: Option<i128>,
 ) -> Result<bool, OutOfMemory> {
-    match least {
-        Some(least) => {
+    match best {
+        Some(best) => {
             if document.status != DocStatus::Optimal {
                 return Ok(false);
             }
-            states_weight(alloc, instance, document, least)
+            states_weight(alloc, instance, kind, document, best)
         }
-        None => Ok(document.status == DocStatus::Infeasible),
+        None => Ok(document.status == DocStatus::Infeasible && document.barrier.is_some()),
     }
 }

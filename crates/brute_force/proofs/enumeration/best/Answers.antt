@@ -1,9 +1,16 @@
-use Rattle.std.proofs.Common.{◌≡◌, ℕ, ◌^◌, length, arith, ap, ◌∙◌}
+use Rattle.std.proofs.Common.{◌≡◌, ℕ, List, arith, ap, ◌∙◌, subst}
+use Rattle.brute_force.specs.Best.{mosts}
+use Rattle.brute_force.specs.Digits.{digit_lists}
+use Rattle.brute_force.specs.Tried.{IsBestBelow}
 use Rattle.brute_force.proofs.EachAnswer.{best_or_none}
 use Rattle.brute_force.proofs.enumeration.best.Goals as goal
 
 pub returns : goal.returns
 returns c =
+    let kind = c.args.kind in
     let i = c.args.instance.now in
-    let all : c.loop-code.code ≡ 2 ^ length i.edges = (let e : c.loop-code.code ≡ c.codes-code-end.result = omega arith in e) ∙ c.codes-code-end.ensures ∙ ap (λ (n : ℕ). 2 ^ n) c.edges.ensures.count in
-    record { best = best_or_none c.args.kind i c.loop-code.code c.loop-code.found c.requires.kind all c.loop-code.invariant }
+    let same : c.in_ok-mosts.mosts.items ≡ mosts kind i = c.in_ok-mosts.ensures.mosts in
+    let last : c.loop-code.code ≡ c.list_count-count.result = omega arith in
+    let all : c.loop-code.code ≡ digit_lists (mosts kind i) = last ∙ (c.list_count-count.ensures ∙ ap digit_lists (c.deref.ensures.value ∙ same)) in
+    let best : IsBestBelow kind i (mosts kind i) c.loop-code.code c.loop-code.found = subst (λ (ms : List ℕ). IsBestBelow kind i ms c.loop-code.code c.loop-code.found) same c.loop-code.invariant in
+    best_or_none kind i c.loop-code.code c.loop-code.found c.edges-edges.ensures.network c.requires.kind all best
