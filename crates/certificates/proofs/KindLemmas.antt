@@ -1,6 +1,6 @@
 -- What has to be shown of each kind: which values belong to better answers, what excludes its answers, and that its
 -- answers can be measured.
-use Rattle.std.proofs.Common.{◌≡◌, ℕ, ℤ, ◌≤ℤ◌, Option, None, Some, MatchOption, ◌∙◌, arith}
+use Rattle.std.proofs.Common.{ℤ, ◌≤ℤ◌, Option, None, Some, MatchOption, ◌∙◌, arith}
 use Rattle.std.proofs.lemmas.Int.{ints}
 use Rattle.graph_theory.specs.Parts.{IsOddPart, IsSplitPart}
 use Rattle.graph_theory.proofs.Walks.{walk-numbers}

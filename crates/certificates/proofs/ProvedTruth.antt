@@ -1,5 +1,5 @@
 -- What a document proves is true.
-use Rattle.std.proofs.Common.{◌≡◌, ℕ, List, Option, None, Some, MatchOption}
+use Rattle.std.proofs.Common.{ℕ, List, Option, None, Some, MatchOption}
 use Rattle.graph_theory.specs.Barrier.{IsBarrier}
 use Rattle.graph_theory.specs.Duals.{dual_value}
 use Rattle.graph_theory.specs.Graph.{Multigraph, IsGraph, IsPerfect}
@@ -17,7 +17,7 @@ use Rattle.doc_format.specs.declared.status.DocStatus.{DocStatus}
 use Rattle.doc_format.specs.declared.status.DocStatus.TheVariants.{Optimal, Infeasible, NonConservative}
 use Rattle.certificates.specs.Claims.{numbers, duals_of, sets_of}
 use Rattle.certificates.specs.Certificates.{HasBarrierFor}
-use Rattle.certificates.specs.Excluded.{HasNoAnswer, IsExcludedFor}
+use Rattle.certificates.specs.Excluded.{IsExcludedFor}
 use Rattle.certificates.specs.Proved.{ProvesByStatus, StatesTruthBy}
 use Rattle.certificates.specs.Laws.{ProvedIsTrue}
 use Rattle.certificates.proofs.KindLemmas.{excluded}

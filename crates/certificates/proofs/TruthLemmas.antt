@@ -1,23 +1,19 @@
 -- What accepted documents state is true.
-use Rattle.std.proofs.Common.{◌≡◌, ℕ, ℤ, pos, neg_ℤ, ◌*ℤ◌, ◌-ℤ◌, ◌≤ℤ◌, ◌<ℤ◌, ◌↔◌, Bool, IsTrue, Result, Ok, Err, IfOk, List, length, map, Option, None, Some, MatchOption, nat_abs, refl, sym, ap, ◌∙◌, subst, arith}
-use Rattle.std.specs.declared.alloc.AllocError.{AllocError}
+use Rattle.std.proofs.Common.{◌≡◌, ℕ, ℤ, pos, ◌*ℤ◌, ◌≤ℤ◌, ◌<ℤ◌, List, Option, None, Some, MatchOption, nat_abs, sym, subst, arith}
 use Rattle.std.proofs.lemmas.Int.{ints}
 use Rattle.graph_theory.specs.Graph.{IsPerfect, weight}
-use Rattle.graph_theory.specs.Parts.{IsOddPart, IsSplitPart}
 use Rattle.graph_theory.specs.Walk.{IsCircuit, IsConservative, walk_weight}
 use Rattle.mb_problem.specs.declared.kind.Kind.{Kind}
-use Rattle.mb_problem.specs.declared.answer.Answer.{Answer}
-use Rattle.mb_problem.specs.Network.{Network, IsNetwork, graph_of}
-use Rattle.mb_problem.specs.Feasible.{IsFeasible, IsAsGood, weight_of}
-use Rattle.mb_problem.specs.Values.{total_weight, value_for}
+use Rattle.mb_problem.specs.Network.{Network, graph_of}
+use Rattle.mb_problem.specs.Feasible.{IsAsGood, weight_of}
+use Rattle.mb_problem.specs.Values.{value_for}
 use Rattle.gadget_base.specs.Certified.{gadget_graph, ReachesAll, IsReached}
 use Rattle.doc_format.specs.declared.document.Document.{Document}
-use Rattle.doc_format.specs.declared.part.MemberLine.{MemberLine}
 use Rattle.doc_format.specs.declared.part.WalkLine.{WalkLine}
-use Rattle.doc_format.specs.declared.status.DocStatus.TheVariants.{Optimal, Infeasible, NonConservative}
-use Rattle.certificates.specs.Claims.{answer_of, numbers}
-use Rattle.certificates.specs.Certificates.{HasFeasibleAnswer, HasStatedWeight, HasWantedPart, HasNegativeCircuit}
-use Rattle.certificates.specs.Excluded.{HasNoAnswer, IsExcludedByBarrier}
+use Rattle.doc_format.specs.declared.status.DocStatus.TheVariants.{Optimal}
+use Rattle.certificates.specs.Claims.{numbers}
+use Rattle.certificates.specs.Certificates.{HasFeasibleAnswer, HasStatedWeight, HasNegativeCircuit}
+use Rattle.certificates.specs.Excluded.{HasNoAnswer}
 use Rattle.certificates.specs.Proved.{StatesTruthBy}
 use Rattle.certificates.proofs.KindLemmas.{value-order}
 

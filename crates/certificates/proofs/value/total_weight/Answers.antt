@@ -1,4 +1,4 @@
-use Rattle.std.proofs.Common.{◌≡◌, ℕ, ℤ, pos, ◌*ℤ◌, ◌≤◌, ◌<◌, length, replicate, arith, rules, ap, ◌∙◌, sym, List, slice_index, slice_index_or, to_z, of_z, w64}
+use Rattle.std.proofs.Common.{◌≡◌, ℕ, pos, ◌*ℤ◌, ◌≤◌, length, replicate, arith, rules, ap, ◌∙◌, sym, List, slice_index, slice_index_or, to_z, of_z, w64}
 use Rattle.std.proofs.lemmas.Int.{ints}
 use Rattle.std.proofs.lemmas.List.{get_or_read, get_or-replicate}
 use Rattle.graph_theory.specs.declared.edge.Edge.{Edge}
