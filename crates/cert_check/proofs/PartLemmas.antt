@@ -1,10 +1,10 @@
 -- Marks of vertices against sets that no edge leaves.
-use Rattle.std.proofs.Common.{◌≡◌, ℕ, ◌+◌, ◌-◌, ◌<◌, ◌≤◌, ◌%◌, ◌↔◌, IsTrue, count_by, Bool, true, false, not, cond, List, length, get_or, map, All, refl, sym, ap, ◌∙◌, arith, subst}
+use Rattle.std.proofs.Common.{◌≡◌, ℕ, ◌+◌, ◌-◌, ◌<◌, ◌≤◌, ◌%◌, ◌↔◌, IsTrue, count_by, Bool, true, false, not, cond, List, length, refl, sym, ap, ◌∙◌, arith, subst}
 use Rattle.std.specs.Prelude.{◌==◌}
 use Rattle.std.proofs.lemmas.Bool.{false≢true}
 use Rattle.std.proofs.lemmas.List.Elements.{All-get_or, All-from_get_or}
 use Rattle.graph_theory.specs.declared.edge.Edge.{Edge}
-use Rattle.graph_theory.specs.Graph.{Multigraph, no_edge, edge_at, IsEdgeWithin}
+use Rattle.graph_theory.specs.Graph.{no_edge, edge_at, IsEdgeWithin}
 use Rattle.graph_theory.specs.Parts.{holds, crosses, LeavesNone, IsVertexSet, IsOddPart, IsSplitPart}
 use Rattle.mb_problem.specs.Network.{Network, IsNetwork, vertices, value_of, graph_of, plain, instance_edge_at, no_instance_edge}
 use Rattle.mb_problem.specs.Marks.{AreMarks}

@@ -1,7 +1,6 @@
-use Rattle.std.proofs.Common.{◌≡◌, sym, subst}
+use Rattle.std.proofs.Common.{sym, subst}
 use Rattle.graph_theory.specs.Walk.{IsCircuit}
 use Rattle.graph_theory.proofs.Walks.{walk-numbers}
-use Rattle.mb_problem.specs.declared.answer.Answer.{Answer}
 use Rattle.mb_problem.specs.Network.{graph_of}
 use Rattle.mb_problem.specs.Measured.{HasPlaces}
 use Rattle.cert_check.proofs.circuit.has_negative_circuit.Goals as goal

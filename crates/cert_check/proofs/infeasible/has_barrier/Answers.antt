@@ -1,6 +1,4 @@
-use Rattle.std.proofs.Common.{◌≡◌, ◌≤◌, ℕ, ◌≤ℤ◌, Bool, true, IsTrue, Result, Ok, Err, IfOk, List, ℤ, pos, All, sym, ap, ◌∙◌, subst, arith}
-use Rattle.std.proofs.lemmas.Int.{ints}
-use Rattle.std.proofs.lemmas.List.Elements.{All-weaker}
+use Rattle.std.proofs.Common.{◌≡◌, ◌≤◌, ℕ, Bool, true, IsTrue, Result, Ok, Err, IfOk, List, ℤ, All, sym, ap, ◌∙◌, subst}
 use Rattle.graph_theory.specs.declared.limits.TheConstants.{GRAPH_VERTEX_LIMIT}
 use Rattle.graph_theory.specs.Parts.{IsVertexSet}
 use Rattle.graph_theory.specs.Graph.{Multigraph, IsPerfect}

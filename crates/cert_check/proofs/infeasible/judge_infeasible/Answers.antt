@@ -1,4 +1,4 @@
-use Rattle.std.proofs.Common.{◌≡◌, sym, subst}
+use Rattle.std.proofs.Common.{sym, subst}
 use Rattle.doc_format.specs.declared.status.DocStatus.{DocStatus}
 use Rattle.certificates.specs.Certificates.{HasWantedPart}
 use Rattle.certificates.specs.Excluded.{IsExcludedByBarrier}

@@ -1,12 +1,8 @@
-use Rattle.std.proofs.Common.{◌≡◌, ℤ, rules, refl, sym, ap, ◌∙◌, subst, arith, to_z, of_z, w64}
+use Rattle.std.proofs.Common.{◌≡◌, ℤ, rules, sym, ap, ◌∙◌, subst, arith, to_z, of_z, w64}
 use Rattle.mb_problem.specs.Values.{value_for}
-use Rattle.graph_theory.specs.Duals.{dual_value}
 use Rattle.doc_format.specs.declared.status.DocStatus.{DocStatus}
-use Rattle.doc_format.specs.declared.status.DocStatus.TheVariants.{Optimal, Infeasible, NonConservative}
-use Rattle.cert_check.specs.declared.rule.DocRule.TheVariants.{NotFeasible, WeightDiffers, ValueDiffers, NotBarrier, NotClosed, NotCircuit}
-use Rattle.certificates.specs.Claims.{duals_of, sets_of}
-use Rattle.certificates.specs.Certificates.{HasFeasibleAnswer, HasStatedWeight, HasValue}
-use Rattle.cert_check.specs.Verdicts.{KeepsBefore}
+use Rattle.cert_check.specs.declared.rule.DocRule.TheVariants.{NotFeasible, WeightDiffers}
+use Rattle.certificates.specs.Certificates.{HasFeasibleAnswer, HasStatedWeight}
 use Rattle.certificates.specs.Proved.{StatesTruthBy}
 use Rattle.cert_check.proofs.RuleLemmas.{optimal-all}
 use Rattle.certificates.proofs.TruthLemmas.{best-by_value}

@@ -1,4 +1,4 @@
-use Rattle.std.proofs.Common.{◌≡◌, ◌≤◌, ℕ, Bool, true, List, All, sym, ap, ◌∙◌, subst}
+use Rattle.std.proofs.Common.{◌≤◌, ℕ, Bool, List, All, sym, subst}
 use Rattle.mb_problem.specs.Network.{vertices}
 use Rattle.mb_problem.specs.Marks.{AreMarks}
 use Rattle.cert_check.proofs.PartLemmas.{odd-by_marks}
