@@ -1,4 +1,5 @@
 mod bytes;
 mod documents;
 mod instances;
+mod runs;
 mod streams;

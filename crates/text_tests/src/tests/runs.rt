@@ -1,0 +1,165 @@
+ghost use Rattle.std.specs.Prelude.{◌≡◌, ◌<◌};
+
+use match_cli::{Status, run};
+use mb_base::{MemSink, MemSource, Steps};
+use std::alloc::Global;
+use std::marker::Brand;
+use std::sync::ledger::{Blank, Ledger};
+use std::test::Fail;
+
+/// The words after the program's name, and the input.
+type Given<'a> = (&'a [&'a str], &'a [u8]);
+
+/// How much a source gives and a sink takes at a time, and the calls of each that fail, from 1.
+#[derive(Clone, Copy)]
+struct Streams {
+    piece: usize,
+    read_fails: u64,
+    write_fails: u64,
+}
+
+/// What there is to see after a run: its status and what the sink kept.
+#[derive(Drop)]
+struct Seen {
+    status: Status,
+    kept: Vec<u8>,
+}
+
+/// The words of a command line of `blossom`.
+fn words(alloc: Global, line: &[&str]) -> Result<Vec<String>, Fail> {
+    let mut words = vec![in alloc; String::from_str(alloc, "blossom")?]?;
+    for word in line {
+        words.push(String::from_str(alloc, word)?)?;
+    }
+    Ok(words)
+}
+
+/// A run over sources and sinks in memory.
+fn run_over<L: Ledger>(
+    blank: Blank,
+    alloc: Global,
+    given: Given,
+    streams: Streams,
+) -> Result<Seen, Fail>
+    requires name { blank.name ≡ L.name }
+    requires parts { blank.parts ≡ L.parts }
+    requires some { 0 < blank.parts }
+{
+    let (line, input) = given;
+    let piece = streams.piece.max(1);
+    let input = Vec::from_slice(alloc, input)?;
+    let mut source = MemSource::new(input, piece, vec![in alloc; streams.read_fails]?);
+    let mut sink = MemSink::new(alloc, 1_000, piece, vec![in alloc; streams.write_fails]?)?;
+    let mut steps = Steps::<L>::new(blank);
+    let line = words(alloc, line)?;
+    let status = run(alloc, &line, &mut source, &mut sink, &mut steps);
+    let kept = Vec::from_slice(alloc, sink.kept())?;
+    Ok(Seen { status, kept })
+}
+
+/// Whether a run ends so and writes that.
+fn ends_so(
+    alloc: Global,
+    given: Given,
+    streams: Streams,
+    wanted: (Status, &[u8]),
+) -> Result<bool, Fail> {
+    let (status, kept) = wanted;
+    let seen = run_over::<Brand>(Blank::new(1), alloc, given, streams)?;
+    Ok(seen.status == status && seen.kept.as_slice() == kept)
+}
+
+const CHECK: Given = (
+    &["check", "perfect"],
+    b"p edge 2 1\ne 1 2 5\ns OPTIMAL perfect 5\nx 1 1\ny 1 5\ny 2 5\n",
+);
+
+/// Two triangles and an edge of weight 10 between them: each perfect matching has that edge.
+const SOLVE: Given = (
+    &["solve", "perfect", "--brief"],
+    b"p edge 6 7\ne 1 2 1\ne 2 3 1\ne 1 3 1\ne 4 5 1\ne 5 6 1\ne 4 6 1\ne 3 4 10\n",
+);
+
+const ACCEPTED: &[u8] = b"s ACCEPTED\n";
+
+const SOLVED: &[u8] = b"s OPTIMAL perfect 12\nx 1 1\nx 5 1\nx 7 1\n";
+
+#[test]
+fn runs_in_pieces(rt: HostRuntime) -> Result<(), Fail> {
+    let rows: [(Given, Status, &[u8]); 6] = [
+        (CHECK, Status::Done, ACCEPTED),
+        (SOLVE, Status::Done, SOLVED),
+        (
+            (&["solve", "perfect"], CHECK.1),
+            Status::Malformed,
+            b"s MALFORMED UnknownLine 3\n",
+        ),
+        ((&["solve", "cover"], SOLVE.1), Status::Usage, b"s USAGE\n"),
+        ((&[], CHECK.1), Status::Usage, b"s USAGE\n"),
+        (
+            (&["check", "match"], b"p edge 4096 0\n"),
+            Status::TooLarge,
+            b"s TOOLARGE 8192 4096\n",
+        ),
+    ];
+    for (given, status, kept) in rows {
+        for piece in [1, 7, 100_000] {
+            let streams = Streams {
+                piece,
+                read_fails: 0,
+                write_fails: 0,
+            };
+            assert!(rt; ends_so(rt.alloc(), given, streams, (status, kept))?);
+        }
+    }
+    Ok(())
+}
+
+// One call more than there are bytes tells the end of the input. After it no call is made.
+#[test]
+fn each_read_may_fail(rt: HostRuntime) -> Result<(), Fail> {
+    for (given, answer) in [(CHECK, ACCEPTED), (SOLVE, SOLVED)] {
+        let bytes = given.1.len();
+        for read_fails in 1..bytes as u64 + 3 {
+            let done = read_fails as usize - 1;
+            let streams = Streams {
+                piece: 1,
+                read_fails,
+                write_fails: 0,
+            };
+            let wanted = if done <= bytes {
+                (Status::ReadFault, b"".as_slice())
+            } else {
+                (Status::Done, answer)
+            };
+            assert!(rt; ends_so(rt.alloc(), given, streams, wanted)?);
+        }
+    }
+    Ok(())
+}
+
+#[test]
+fn each_write_may_fail(rt: HostRuntime) -> Result<(), Fail> {
+    let refused = (["solve", "perfect"].as_slice(), b"p edge 2 1\n".as_slice());
+    let refusal = b"s MALFORMED EdgeCount 2\n".as_slice();
+    let rows = [
+        (CHECK, Status::Done, ACCEPTED),
+        (SOLVE, Status::Done, SOLVED),
+        (refused, Status::Malformed, refusal),
+    ];
+    for (given, status, answer) in rows {
+        for write_fails in 1..answer.len() as u64 + 2 {
+            let streams = Streams {
+                piece: 1,
+                read_fails: 0,
+                write_fails,
+            };
+            let wanted = match answer.get(..write_fails as usize - 1) {
+                Some(front) if front.len() < answer.len() => (Status::WriteFault, front),
+                _ => (status, answer),
+            };
+            assert!(rt; ends_so(rt.alloc(), given, streams, wanted)?);
+        }
+    }
+    Ok(())
+}
