@@ -2,26 +2,99 @@ mod agreement;
 mod rows;
 mod solvers;
 
+ghost use Rattle.std.specs.Prelude.{◌≡◌, true};
+ghost use Rattle.brute_force.specs.Best.{is_counted};
+ghost use Rattle.solve_kinds.specs.Solved.{is_solved};
+
 use agreement::agrees;
 use dimacs_read::read;
-use rows::ROWS;
-use solve_kinds::is_solved;
+use mb_problem::{Instance, Kind};
+use rows::{BMATCH, CAPMATCH, FFACTOR, MATCH, PERFECT};
 use solvers::{best_weight, document_of};
+use std::alloc::Global;
 use std::marker::Brand;
 use std::process::Abort;
 use std::sync::ledger::Blank;
 use std::test::Fail;
 
+/// Asserts that the solver's document for an instance agrees with a best answer that was found by trying all.
+fn expect_agreement(
+    rt: &impl Abort,
+    alloc: Global,
+    kind: Kind,
+    name: &str,
+    instance: &Instance,
+) -> Result<(), Fail>
+    requires solved { is_solved kind ≡ true }
+    requires counted { is_counted kind ≡ true }
+{
+    let best = best_weight(rt, alloc, instance, kind)?;
+    let document = document_of::<Brand>(rt, alloc, instance, kind, Blank::new(1))?;
+    assert!(rt; agrees(alloc, instance, kind, &document, best)?, "{name}");
+    Ok(())
+}
+
+/// The instance of a text, where it is one.
+fn read_instance(alloc: Global, kind: Kind, text: &str) -> Option<Instance> {
+    match read(alloc, text.as_bytes(), kind) {
+        Ok((instance, _rest)) => Some(instance),
+        Err(_) => None,
+    }
+}
+
+/// The same for the text of a row.
+fn expect_row(
+    rt: &impl Abort,
+    alloc: Global,
+    kind: Kind,
+    name: &str,
+    text: &str,
+) -> Result<(), Fail>
+    requires solved { is_solved kind ≡ true }
+    requires counted { is_counted kind ≡ true }
+{
+    match read_instance(alloc, kind, text) {
+        Some(instance) => expect_agreement(rt, alloc, kind, name, &instance),
+        None => panic!(rt; "{name}"),
+    }
+}
+
 #[test]
-fn answers_are_as_good_as_the_best_of_all(rt: HostRuntime) -> Result<(), Fail> {
-    let alloc = rt.alloc();
-    for (name, kind, text) in ROWS {
-        assert!(rt; is_solved(kind));
-        let found = read(alloc, text.as_bytes(), kind);
-        let Ok((instance, _)) = found else { rt.abort() };
-        let best = best_weight(&rt, alloc, &instance, kind)?;
-        let document = document_of::<Brand>(&rt, alloc, &instance, kind, Blank::new(1))?;
-        assert!(rt; agrees(alloc, &instance, kind, &document, best)?, "{name}");
+fn perfect_matchings(rt: HostRuntime) -> Result<(), Fail> {
+    for (name, text) in &PERFECT {
+        expect_row(&rt, rt.alloc(), Kind::Perfect, name, text)?;
+    }
+    Ok(())
+}
+
+#[test]
+fn matchings(rt: HostRuntime) -> Result<(), Fail> {
+    for (name, text) in &MATCH {
+        expect_row(&rt, rt.alloc(), Kind::Match, name, text)?;
+    }
+    Ok(())
+}
+
+#[test]
+fn b_matchings(rt: HostRuntime) -> Result<(), Fail> {
+    for (name, text) in &BMATCH {
+        expect_row(&rt, rt.alloc(), Kind::BMatch, name, text)?;
+    }
+    Ok(())
+}
+
+#[test]
+fn b_matchings_with_capacities(rt: HostRuntime) -> Result<(), Fail> {
+    for (name, text) in &CAPMATCH {
+        expect_row(&rt, rt.alloc(), Kind::CapMatch, name, text)?;
+    }
+    Ok(())
+}
+
+#[test]
+fn factors(rt: HostRuntime) -> Result<(), Fail> {
+    for (name, text) in &FFACTOR {
+        expect_row(&rt, rt.alloc(), Kind::FFactor, name, text)?;
     }
     Ok(())
 }

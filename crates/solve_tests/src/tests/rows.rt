@@ -1,247 +1,198 @@
-use mb_problem::Kind;
+/// What an instance shows, and its text. There are few enough counts to try them all.
+type Row = (&'static str, &'static str);
 
-/// What an instance shows, its kind, and its text.
-pub type Row = (&'static str, Kind, &'static str);
-
-/// Small instances: few enough counts to try them all.
-pub const ROWS: [Row; 62] = [
-    // perfect matchings
-    ("no vertex", Kind::Perfect, "p edge 0 0"),
-    ("one vertex", Kind::Perfect, "p edge 1 0"),
-    ("two vertices and no edge", Kind::Perfect, "p edge 2 0"),
-    ("an edge", Kind::Perfect, "p edge 2 1\ne 1 2 7"),
-    (
-        "parallel edges",
-        Kind::Perfect,
-        "p edge 2 3\ne 1 2 5\ne 2 1 3\ne 1 2 4",
-    ),
+/// Perfect matchings of least weight.
+pub const PERFECT: [Row; 13] = [
+    ("no vertex", "p edge 0 0"),
+    ("one vertex", "p edge 1 0"),
+    ("two vertices and no edge", "p edge 2 0"),
+    ("an edge", "p edge 2 1\ne 1 2 7"),
+    ("parallel edges", "p edge 2 3\ne 1 2 5\ne 2 1 3\ne 1 2 4"),
     (
         "a value and a capacity don't count",
-        Kind::Perfect,
         "p edge 2 1\ne 1 2 7 0\nn 1 3",
     ),
     (
         "the greatest and the least weight",
-        Kind::Perfect,
         "p edge 4 4\ne 1 2 1000000000\ne 3 4 -1000000000\ne 1 3 -1000000000\ne 2 4 1000000000",
     ),
-    ("a star", Kind::Perfect, "p edge 4 3\ne 1 2\ne 1 3\ne 1 4"),
+    ("a star", "p edge 4 3\ne 1 2\ne 1 3\ne 1 4"),
     (
         "two triangles and a heavy edge",
-        Kind::Perfect,
         "p edge 6 7\ne 1 2 1\ne 2 3 1\ne 1 3 1\ne 4 5 1\ne 5 6 1\ne 4 6 1\ne 3 4 10",
     ),
     (
         "three triangles at a vertex",
-        Kind::Perfect,
         "p edge 10 12\ne 1 2\ne 2 3\ne 1 3\ne 4 5\ne 5 6\ne 4 6\ne 7 8\ne 8 9\ne 7 9\ne 3 10\ne 6 10\ne 9 10",
     ),
     (
         "a triangle within a circuit of five, with a leaf",
-        Kind::Perfect,
         "p edge 6 8\ne 1 2 1\ne 2 3 1\ne 1 3 1\ne 3 4 2\ne 4 5 1\ne 5 1 2\ne 5 6 9\ne 2 6 8",
     ),
     (
         "an inner edge that is light",
-        Kind::Perfect,
         "p edge 4 3\ne 1 2 1000000000\ne 2 3 -1000000000\ne 3 4 1000000000",
     ),
     (
         "a prism",
-        Kind::Perfect,
         "p edge 6 9\ne 1 2 2\ne 2 3 2\ne 1 3 2\ne 4 5 2\ne 5 6 2\ne 4 6 2\ne 1 4 9\ne 2 5 8\ne 3 6 7",
     ),
-    // matchings of greatest weight
-    ("no vertex", Kind::Match, "p edge 0 0"),
-    ("one vertex", Kind::Match, "p edge 1 0"),
-    ("no edge", Kind::Match, "p edge 3 0"),
+];
+
+/// Matchings of greatest weight.
+pub const MATCH: [Row; 11] = [
+    ("no vertex", "p edge 0 0"),
+    ("one vertex", "p edge 1 0"),
+    ("no edge", "p edge 3 0"),
     (
         "weights below 0 alone",
-        Kind::Match,
         "p edge 3 3\ne 1 2 -1\ne 2 3 -1000000000\ne 1 3 -5",
     ),
-    ("weights of 0", Kind::Match, "p edge 3 2\ne 1 2 0\ne 2 3 0"),
-    (
-        "parallel edges",
-        Kind::Match,
-        "p edge 2 3\ne 1 2 5\ne 2 1 9\ne 1 2 -4",
-    ),
-    (
-        "a path of four",
-        Kind::Match,
-        "p edge 4 3\ne 1 2 3\ne 2 3 7\ne 3 4 3",
-    ),
+    ("weights of 0", "p edge 3 2\ne 1 2 0\ne 2 3 0"),
+    ("parallel edges", "p edge 2 3\ne 1 2 5\ne 2 1 9\ne 1 2 -4"),
+    ("a path of four", "p edge 4 3\ne 1 2 3\ne 2 3 7\ne 3 4 3"),
     (
         "the greatest weights",
-        Kind::Match,
         "p edge 4 4\ne 1 2 1000000000\ne 3 4 1000000000\ne 2 3 -1000000000\ne 1 4 1",
     ),
     (
         "a triangle with a leaf at each corner",
-        Kind::Match,
         "p edge 6 6\ne 1 2 6\ne 2 3 6\ne 1 3 6\ne 1 4 4\ne 2 5 3\ne 3 6 2",
     ),
     (
         "a circuit of five",
-        Kind::Match,
         "p edge 5 5\ne 1 2 3\ne 2 3 1\ne 3 4 4\ne 4 5 1\ne 5 1 5",
     ),
     (
         "a value and a capacity don't count",
-        Kind::Match,
         "p edge 2 1\ne 1 2 7 0\nn 1 0\nn 2 3",
     ),
-    // b-matchings
-    ("no vertex", Kind::BMatch, "p edge 0 0"),
-    ("a value of 0 alone", Kind::BMatch, "p edge 1 0\nn 1 0"),
-    ("a value of 1 and no edge", Kind::BMatch, "p edge 1 0"),
+];
+
+/// b-matchings of least weight.
+pub const BMATCH: [Row; 12] = [
+    ("no vertex", "p edge 0 0"),
+    ("a value of 0 alone", "p edge 1 0\nn 1 0"),
+    ("a value of 1 and no edge", "p edge 1 0"),
     (
         "an edge used three times",
-        Kind::BMatch,
         "p edge 2 1\ne 1 2 -7\nn 1 3\nn 2 3",
     ),
     (
         "different values at an edge",
-        Kind::BMatch,
         "p edge 2 1\ne 1 2 5\nn 1 3\nn 2 2",
     ),
     (
         "parallel edges",
-        Kind::BMatch,
         "p edge 2 2\ne 1 2 5\ne 2 1 4\nn 1 2\nn 2 2",
     ),
     (
         "a triangle, each vertex twice",
-        Kind::BMatch,
         "p edge 3 3\ne 1 2 1\ne 2 3 2\ne 1 3 3\nn 1 2\nn 2 2\nn 3 2",
     ),
     (
         "a triangle, each vertex once",
-        Kind::BMatch,
         "p edge 3 3\ne 1 2 1\ne 2 3 2\ne 1 3 3",
     ),
     (
         "a vertex of value 0 among others",
-        Kind::BMatch,
         "p edge 3 3\ne 1 2 -9\ne 2 3 4\ne 1 3 -9\nn 1 0\nn 2 2\nn 3 2",
     ),
     (
         "the greatest and the least weight",
-        Kind::BMatch,
         "p edge 3 3\ne 1 2 1000000000\ne 2 3 -1000000000\ne 1 3 1000000000\nn 1 1\nn 2 2\nn 3 3",
     ),
     (
         "capacities don't count",
-        Kind::BMatch,
         "p edge 2 1\ne 1 2 3 0\nn 1 2\nn 2 2",
     ),
     (
         "a star with a heavy middle",
-        Kind::BMatch,
         "p edge 4 3\ne 1 2 3\ne 1 3 -2\ne 1 4 1\nn 1 3\nn 2 1\nn 3 1\nn 4 1",
     ),
-    // with capacities
-    ("no vertex", Kind::CapMatch, "p edge 0 0"),
-    ("a value of 0 alone", Kind::CapMatch, "p edge 1 0\nn 1 0"),
-    ("a capacity of 0", Kind::CapMatch, "p edge 2 1\ne 1 2 3 0"),
+];
+
+/// The same with capacities.
+pub const CAPMATCH: [Row; 12] = [
+    ("no vertex", "p edge 0 0"),
+    ("a value of 0 alone", "p edge 1 0\nn 1 0"),
+    ("a capacity of 0", "p edge 2 1\ne 1 2 3 0"),
     (
         "a capacity of 0 and values of 0",
-        Kind::CapMatch,
         "p edge 2 1\ne 1 2 3 0\nn 1 0\nn 2 0",
     ),
     (
         "a capacity below the values",
-        Kind::CapMatch,
         "p edge 2 1\ne 1 2 3 1\nn 1 2\nn 2 2",
     ),
     (
         "a capacity above the values",
-        Kind::CapMatch,
         "p edge 2 1\ne 1 2 3 4096\nn 1 2\nn 2 2",
     ),
-    (
-        "no capacity",
-        Kind::CapMatch,
-        "p edge 2 1\ne 1 2 -3\nn 1 2\nn 2 2",
-    ),
+    ("no capacity", "p edge 2 1\ne 1 2 -3\nn 1 2\nn 2 2"),
     (
         "parallel edges",
-        Kind::CapMatch,
         "p edge 2 3\ne 1 2 1 1\ne 2 1 4 1\ne 1 2 9\nn 1 3\nn 2 3",
     ),
     (
         "a capacity that turns it",
-        Kind::CapMatch,
         "p edge 4 4\ne 1 2 1 1\ne 2 3 5 2\ne 3 4 1 2\ne 4 1 5 1\nn 1 2\nn 2 2\nn 3 2\nn 4 2",
     ),
     (
         "a triangle, each vertex twice",
-        Kind::CapMatch,
         "p edge 3 3\ne 1 2 -5 1\ne 2 3 2 1\ne 1 3 3 1\nn 1 2\nn 2 2\nn 3 2",
     ),
     (
         "a triangle with too little",
-        Kind::CapMatch,
         "p edge 3 3\ne 1 2 -5 1\ne 2 3 2 0\ne 1 3 3 1\nn 1 2\nn 2 2\nn 3 2",
     ),
     (
         "the greatest and the least weight",
-        Kind::CapMatch,
         "p edge 3 3\ne 1 2 1000000000 1\ne 2 3 -1000000000\ne 1 3 1000000000 2\nn 1 1\nn 2 2\nn 3 3",
     ),
-    // factors
-    ("no vertex", Kind::FFactor, "p edge 0 0"),
-    ("a value of 0 alone", Kind::FFactor, "p edge 1 0\nn 1 0"),
-    ("a value of 1 alone", Kind::FFactor, "p edge 1 0"),
-    ("an edge", Kind::FFactor, "p edge 2 1\ne 1 2 -7"),
+];
+
+/// Factors of least weight.
+pub const FFACTOR: [Row; 14] = [
+    ("no vertex", "p edge 0 0"),
+    ("a value of 0 alone", "p edge 1 0\nn 1 0"),
+    ("a value of 1 alone", "p edge 1 0"),
+    ("an edge", "p edge 2 1\ne 1 2 -7"),
     (
         "an edge that would be used twice",
-        Kind::FFactor,
         "p edge 2 1\ne 1 2 -7\nn 1 2\nn 2 2",
     ),
     (
         "parallel edges",
-        Kind::FFactor,
         "p edge 2 3\ne 1 2 5\ne 2 1 9\ne 1 2 -4\nn 1 2\nn 2 2",
     ),
     (
         "a circuit of four",
-        Kind::FFactor,
         "p edge 4 5\ne 1 2 1\ne 2 3 1\ne 3 4 1\ne 4 1 1\ne 1 3 -9\nn 1 2\nn 2 2\nn 3 2\nn 4 2",
     ),
     (
         "two triangles",
-        Kind::FFactor,
         "p edge 6 7\ne 1 2 1\ne 2 3 1\ne 1 3 1\ne 4 5 1\ne 5 6 1\ne 4 6 1\ne 3 4 -10\nn 1 2\nn 2 2\nn 3 2\nn 4 2\nn 5 2\nn 6 2",
     ),
     (
         "odd values alone",
-        Kind::FFactor,
         "p edge 3 3\ne 1 2 1\ne 2 3 2\ne 1 3 3\nn 1 1\nn 2 1\nn 3 1",
     ),
     (
         "all four vertices thrice",
-        Kind::FFactor,
         "p edge 4 6\ne 1 2 1\ne 1 3 2\ne 1 4 3\ne 2 3 4\ne 2 4 5\ne 3 4 6\nn 1 3\nn 2 3\nn 3 3\nn 4 3",
     ),
     (
         "a choice of weights",
-        Kind::FFactor,
         "p edge 4 6\ne 1 2 1\ne 1 3 2\ne 1 4 3\ne 2 3 4\ne 2 4 5\ne 3 4 -6\nn 1 2\nn 2 1\nn 3 2\nn 4 1",
     ),
     (
         "a vertex of value 0 among others",
-        Kind::FFactor,
         "p edge 3 3\ne 1 2 -9\ne 2 3 4\ne 1 3 -9\nn 1 0",
     ),
     (
         "the greatest and the least weight",
-        Kind::FFactor,
         "p edge 4 4\ne 1 2 1000000000\ne 3 4 -1000000000\ne 1 3 -1000000000\ne 2 4 1000000000",
     ),
-    (
-        "capacities don't count",
-        Kind::FFactor,
-        "p edge 2 1\ne 1 2 3 0",
-    ),
+    ("capacities don't count", "p edge 2 1\ne 1 2 3 0"),
 ];
