@@ -2,6 +2,7 @@
 use Rattle.std.proofs.Common.{◌≡◌, ℕ, ◌+◌, ◌<◌, ◌≤◌, ℤ, pos, ◌<ℤ◌, ◌≤ℤ◌, Bool, true, false, List, [], ◌∷◌, ◌++◌, length, map, All, get_or, nat_abs, refl, sym, ◌∙◌, arith}
 use Rattle.std.specs.List.{list_all}
 use Rattle.std.specs.List.Sorted.{IsStrictlyIncreasing}
+use Rattle.std.proofs.lemmas.Bool.{and_parts}
 use Rattle.std.proofs.lemmas.Int.{ints}
 use Rattle.std.proofs.lemmas.List.{get_or-map, length-map}
 use Rattle.std.proofs.lemmas.List.Elements.{All-nil, All-get_or, All-weaker}
@@ -17,7 +18,7 @@ use Rattle.doc_format.specs.declared.part.Part.TheVariants.{Count, Walk, Dual, S
 use Rattle.doc_format.specs.Form.{ascends, admits, parts_of, at_most_one, Body}
 use Rattle.certificates.specs.Claims.{numbers}
 use Rattle.certificates.specs.Within.{IsUpTo}
-use Rattle.certificates.proofs.AscentLemmas.{both, ascends-below}
+use Rattle.certificates.proofs.AscentLemmas.{ascends-below}
 use Rattle.certificates.proofs.DualLemmas.{members-within}
 
 numbers-ascend : (n : ℕ) (zs : List ℤ) → ascends zs ≡ true → All (IsUpTo n) zs → IsStrictlyIncreasing (numbers zs)
@@ -43,12 +44,12 @@ no_set NonConservative kind z h = refl
 no_sets : (p : Part → Bool) → ((z : SetLine) → p (Set z) ≡ false) → (zs : List SetLine) → list_all p (map Set zs) ≡ true → All (λ z. HasForm (numbers z.members)) zs
 no_sets p none [] h = All-nil (λ z. HasForm (numbers z.members))
 no_sets p none (z ∷ zs) h =
-    let here : p (Set z) ≡ true = (both (p (Set z)) (list_all p (map Set zs)) h).0 in
+    let here : p (Set z) ≡ true = (and_parts (p (Set z)) (list_all p (map Set zs)) h).0 in
     let not_here : p (Set z) ≡ false = none z in
     absurd (cc)
 
 rest : (p : Part → Bool) (xs ys : List Part) → list_all p (xs ++ ys) ≡ true → (list_all p xs ≡ true) × (list_all p ys ≡ true)
-rest p xs ys h = both (list_all p xs) (list_all p ys) (sym (list_all-append p xs ys) ∙ h)
+rest p xs ys h = and_parts (list_all p xs) (list_all p ys) (sym (list_all-append p xs ys) ∙ h)
 
 -- a document that states no answer has no set without form, as it has none
 pub forms-where_none : (status : DocStatus) (kind : Kind) (b : Body) → list_all (admits status kind) (parts_of b) ≡ true → (status ≡ Optimal → ⊥) → All (λ z. HasForm (numbers z.members)) b.sets

@@ -3,6 +3,7 @@ use Rattle.std.proofs.Common.{◌≡◌, ℕ, ℤ, pos, neg_ℤ, nat_abs, ◌≤
 use Rattle.std.specs.Prelude.{int_le, ⊤}
 use Rattle.std.specs.Option.{option_map, option_or}
 use Rattle.std.specs.List.{list_all, find}
+use Rattle.std.proofs.lemmas.Bool.{and_parts}
 use Rattle.std.proofs.lemmas.Int.{ints}
 use Rattle.std.proofs.lemmas.List.Elements.{All-nil, All-cons, All-weaker}
 use Rattle.graph_theory.specs.declared.limits.TheConstants.{NUMBER_LIMIT}
@@ -20,7 +21,6 @@ use Rattle.doc_format.specs.declared.part.MemberLine.{MemberLine}
 use Rattle.certificates.specs.Ranges.{Checked, first_fault, first_out_of_range, is_between, is_up_to, is_dual, is_set_dual, checked_count, checked_walk, checked_dual, checked_set, checked_members, listed}
 use Rattle.certificates.specs.Within.{IsUpTo, IsSetDual, IsCountWithin, IsWalkWithin, IsDualWithin, IsSetLineWithin, AreWithin}
 use Rattle.certificates.proofs.RangeLemmas.{first_fault-append}
-use Rattle.certificates.proofs.AscentLemmas.{both}
 
 neither : (a b : Option ℕ) → option_or a b ≡ None → (a ≡ None) × (b ≡ None)
 neither None b h = (refl, h)
@@ -41,13 +41,13 @@ all_in_range f (x ∷ xs) h =
 
 all-list_all : {A : Type 0} (p : A → Bool) (xs : List A) → list_all p xs ≡ true → All (λ x. p x ≡ true) xs
 all-list_all p [] h = All-nil (λ x. p x ≡ true)
-all-list_all p (x ∷ xs) h = (let parts = both (p x) (list_all p xs) h in All-cons (λ x. p x ≡ true) x xs parts.0 (all-list_all p xs parts.1))
+all-list_all p (x ∷ xs) h = (let parts = and_parts (p x) (list_all p xs) h in All-cons (λ x. p x ≡ true) x xs parts.0 (all-list_all p xs parts.1))
 
 int_le-true : (a b : ℤ) → int_le a b ≡ true → a ≤ℤ b
 int_le-true a b h = grind (arith, ints)
 
 between : (low high z : ℤ) → is_between low high z ≡ true → (low ≤ℤ z) × (z ≤ℤ high)
-between low high z h = (let parts = both (int_le low z) (int_le z high) h in (int_le-true low z parts.0, int_le-true z high parts.1))
+between low high z h = (let parts = and_parts (int_le low z) (int_le z high) h in (int_le-true low z parts.0, int_le-true z high parts.1))
 
 up_to : (n : ℕ) (z : ℤ) → is_up_to n z ≡ true → IsUpTo n z
 up_to n z h = (let parts = between (pos 1) (pos n) z h in record { low = parts.0; high = parts.1 })
@@ -62,13 +62,13 @@ all_up_to : (n : ℕ) (zs : List ℤ) → list_all (is_up_to n) zs ≡ true → 
 all_up_to n zs h = All-weaker (λ z. is_up_to n z ≡ true) (IsUpTo n) (up_to n) zs (all-list_all (is_up_to n) zs h)
 
 count_within : (m : ℕ) (x : CountLine) → (checked_count m x).in_range ≡ true → IsCountWithin m x
-count_within m x h = (let parts = both (is_up_to m x.edge) (is_up_to VALUE_LIMIT x.count) h in (up_to m x.edge parts.0, up_to VALUE_LIMIT x.count parts.1))
+count_within m x h = (let parts = and_parts (is_up_to m x.edge) (is_up_to VALUE_LIMIT x.count) h in (up_to m x.edge parts.0, up_to VALUE_LIMIT x.count parts.1))
 
 dual_within : (n : ℕ) (y : DualLine) → (checked_dual n y).in_range ≡ true → IsDualWithin n y
-dual_within n y h = (let parts = both (is_up_to n y.vertex) (is_dual y.dual) h in (up_to n y.vertex parts.0, number y.dual parts.1))
+dual_within n y h = (let parts = and_parts (is_up_to n y.vertex) (is_dual y.dual) h in (up_to n y.vertex parts.0, number y.dual parts.1))
 
 set_within : (n : ℕ) (z : SetLine) → (checked_set n z).in_range ≡ true → IsSetLineWithin n z
-set_within n z h = (let parts = both (is_set_dual z.dual) (list_all (is_up_to n) z.members) h in (set_dual z.dual parts.0, all_up_to n z.members parts.1))
+set_within n z h = (let parts = and_parts (is_set_dual z.dual) (list_all (is_up_to n) z.members) h in (set_dual z.dual parts.0, all_up_to n z.members parts.1))
 
 member_line_within : (n : ℕ) (line : Option MemberLine) → first_fault (map (checked_members n) (listed line)) ≡ None → IfSome line (λ u. All (IsUpTo n) u.members)
 member_line_within n None h = tt
@@ -78,7 +78,7 @@ walk_line_within : (n m : ℕ) (line : Option WalkLine) → first_fault (map (ch
 walk_line_within n m None h = tt
 walk_line_within n m (Some w) h =
     let in_range = (one_in_range (is_up_to n w.start && list_all (is_up_to m) w.edges) (checked_walk n m w) None h).0 in
-    let parts = both (is_up_to n w.start) (list_all (is_up_to m) w.edges) in_range in
+    let parts = and_parts (is_up_to n w.start) (list_all (is_up_to m) w.edges) in_range in
     (up_to n w.start parts.0, all_up_to m w.edges parts.1)
 
 pub are-within : (kind : Kind) (i : Network) (d : Document) → first_out_of_range kind i d ≡ None → AreWithin kind i d

@@ -1,5 +1,6 @@
 -- Marks of numbers, and lists whose numbers are all different.
 use Rattle.std.proofs.Common.{◌≡◌, ◌≢◌, ℕ, ◌+◌, ◌-◌, ◌<◌, ◌≤◌, Bool, true, false, ◌||◌, List, length, get_or, take, replicate, set, refl, sym, ap, ◌∙◌, arith, eqb, subst}
+use Rattle.std.proofs.Math.Bool.{or-true, or-false}
 use Rattle.std.proofs.Math.Decide.{ℕ_discrete, dec_lt}
 use Rattle.std.proofs.lemmas.Bool.{false≢true, eq-eqb, ne_eqb}
 use Rattle.std.proofs.lemmas.List.{get_or-set_same, get_or-set_other, get_or-take, length-set, length-take-le, length-replicate, get_or-replicate}
@@ -10,14 +11,6 @@ use Rattle.mb_problem.specs.Marks.{AreMarks}
 
 pub marks-none : (n : ℕ) (xs : List ℕ) → AreMarks n (replicate n false) (take 0 xs)
 marks-none n xs = record { one_each = length-replicate n false; each = λ k b. get_or-replicate n k false false b }
-
-or_true : (b : Bool) → (b || true) ≡ true
-or_true true = refl
-or_true false = refl
-
-or_false : (b : Bool) → (b || false) ≡ b
-or_false true = refl
-or_false false = refl
 
 -- one number more
 pub marks-more : (n : ℕ) (marks : List Bool) (xs : List ℕ) (k x : ℕ) → AreMarks n marks (take k xs) → k < length xs → x ≡ get_or xs k 0 → 1 ≤ x → x ≤ n → AreMarks n (set marks (x - 1) true) (take (k + 1) xs)
@@ -30,11 +23,11 @@ marks-more n marks xs k x are below is low high =
         | yes same ↦
             let number : get_or xs k 0 ≡ j + 1 = omega arith in
             let here : eqb (get_or xs k 0) (j + 1) ≡ true = eq-eqb (get_or xs k 0) (j + 1) number in
-            ap (λ (p : ℕ). get_or (set marks (x - 1) true) p false) same ∙ get_or-set_same marks (x - 1) true false place ∙ sym (holds-take xs k (j + 1) below ∙ ap (λ (t : Bool). holds (take k xs) (j + 1) || t) here ∙ or_true (holds (take k xs) (j + 1)))
+            ap (λ (p : ℕ). get_or (set marks (x - 1) true) p false) same ∙ get_or-set_same marks (x - 1) true false place ∙ sym (holds-take xs k (j + 1) below ∙ ap (λ (t : Bool). holds (take k xs) (j + 1) || t) here ∙ or-true (holds (take k xs) (j + 1)))
         | no other ↦
             let number : get_or xs k 0 ≢ j + 1 = (λ (e : get_or xs k 0 ≡ j + 1). other (omega arith)) in
             let here : eqb (get_or xs k 0) (j + 1) ≡ false = ne_eqb (get_or xs k 0) (j + 1) number in
-            get_or-set_other marks (x - 1) j true false other ∙ are.each j b ∙ sym (holds-take xs k (j + 1) below ∙ ap (λ (t : Bool). holds (take k xs) (j + 1) || t) here ∙ or_false (holds (take k xs) (j + 1)))
+            get_or-set_other marks (x - 1) j true false other ∙ are.each j b ∙ sym (holds-take xs k (j + 1) below ∙ ap (λ (t : Bool). holds (take k xs) (j + 1) || t) here ∙ or-false (holds (take k xs) (j + 1)))
       ];
     }
 
