@@ -1,7 +1,12 @@
 #!/usr/bin/env python3
 """`solve perfect` on made graphs: wall time, and the ratio to LEMON's matching on the same input where LEMON is
 installed (Debian's liblemon-dev). Both answers are compared. There is no bound on the ratio: the figures say where
-the solver stands."""
+the solver stands.
+
+Then a row for each other kind that is solved: the time of `solve`, and how much of it `check` takes of the instance with the
+answer. `check` builds the same graph, reads the document and adds up its duals, so it takes no less than building the
+graph, reading the answer off the matching and writing the document: these are at most a tenth of the whole where the search
+has to search. It fails past that."""
 import os
 import random
 import subprocess
@@ -157,7 +162,39 @@ def weighted():
         yield "nested odd sets", nested_sets(n, 10**6)
 
 
+def valued(n, pairs, most_count, most_weight, capacities, seed=1):
+    """An instance whose values are the degrees of counts that were drawn, so that it has a feasible answer."""
+    draw = random.Random(seed)
+    values, lines = [0] * (n + 1), []
+    for _ in range(pairs):
+        u, v = draw.sample(range(1, n + 1), 2)
+        count = draw.randint(0, most_count)
+        values[u] += count
+        values[v] += count
+        lines.append("e %d %d %d" % (u, v, draw.randint(0, most_weight)) + (" %d" % draw.randint(count, most_count) if capacities else ""))
+    head = ["p edge %d %d" % (n, pairs)] + ["n %d %d" % (v, values[v]) for v in range(1, n + 1)]
+    return ("\n".join(head + lines) + "\n").encode()
+
+
+def kinds():
+    yield "match", random_graph(400, 4000, 10**6)
+    yield "bmatch", valued(30, 90, 6, 10**6, False)
+    yield "capmatch", valued(40, 120, 4, 10**6, True)
+    yield "ffactor", valued(100, 300, 1, 10**6, False)
+
+
+def measure_kind(kind, given):
+    """One row; whether what isn't search takes at most a tenth."""
+    answer = subprocess.run([PROGRAM, "solve", kind], input=given, capture_output=True).stdout
+    whole = seconds([PROGRAM, "solve", kind], given, runs=RUNS)
+    rest = seconds([PROGRAM, "check", kind], given + answer, runs=RUNS)
+    print("%-10s %-44s %9.1f ms  check of the answer %7.1f ms, a part of %.3f" % (kind, answer.split(b"\n")[0].decode(), whole * 1000, rest * 1000, rest / whole))
+    return rest <= 0.1 * whole
+
+
 def main():
+    if sys.argv[1:] == ["kinds"]:
+        return 0 if all([measure_kind(kind, given) for kind, given in kinds()]) else 1
     peer = lemon()
     good = []
     print("weights 0")
@@ -166,6 +203,8 @@ def main():
     print("weights")
     for name, given in weighted():
         good.append(measure(name, given, peer))
+    print("other kinds")
+    good += [measure_kind(kind, given) for kind, given in kinds()]
     return 0 if all(good) else 1
 
 
