@@ -55,8 +55,8 @@ pub fn reach<L: Ledger>(search: &mut Search, graph: &Graph, steps: &mut Steps<L>
     }
 }
 
-/// Makes an event happen, and answers whether it has ended the phase: the matching has been augmented.
-pub fn happen<L: Ledger>(
+/// Performs an event, and answers whether it has ended the phase: the matching has been augmented.
+pub fn perform<L: Ledger>(
     search: &mut Search,
     graph: &Graph,
     event: Event,

@@ -4,7 +4,7 @@ ghost use Rattle.alt_forest.specs.Searches.{IsSound, state_of, label_at};
 ghost use Rattle.alt_forest.specs.State.{IsExposed};
 ghost use Rattle.alt_forest.specs.Counts.{tree_count};
 
-use super::events::{happen, reach};
+use super::events::{perform, reach};
 use super::instances::{can_start, is_small};
 use super::looks::{free_node, is_matched};
 use super::tally::Tally;
@@ -41,7 +41,7 @@ fn advance<L: Ledger>(
     };
     assert!(rt; check_search(search));
     tally.count(search, &event);
-    let ended = happen(search, graph, event, steps);
+    let ended = perform(search, graph, event, steps);
     assert!(rt; check_search(search));
     ended
 }
