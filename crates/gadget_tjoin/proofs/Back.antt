@@ -1,8 +1,11 @@
 -- The edges of the instance in a perfect matching of the graph of ports are a join.
-use Rattle.std.proofs.Common.{◌≡◌, ℕ, ◌+◌, ◌-◌, ◌*◌, ◌/◌, ◌%◌, ◌<◌, ◌≤◌, Bool, cond, ap, sym, ◌∙◌, subst, inl, inr, arith, List, length, slice_index, All}
+use Rattle.std.proofs.Common.{◌≡◌, ℕ, ◌+◌, ◌-◌, ◌*◌, ◌/◌, ◌%◌, ◌<◌, ◌≤◌, Bool, cond, ap, sym, ◌∙◌, subst, inl, inr, arith, List, length, get_or, slice_index, All}
+use Rattle.std.specs.List.{range_with_len}
 use Rattle.std.specs.List.Sorted.{IsStrictlyIncreasing}
 use Rattle.std.proofs.lemmas.Bool.{cases_eq}
 use Rattle.std.proofs.lemmas.List.{length-map}
+use Rattle.std.proofs.lemmas.List.Elements.{All-map}
+use Rattle.std.proofs.lemmas.List.FromFn.{get_or-map-range_with_len, length-map-range_with_len}
 use Rattle.graph_theory.specs.Sums.{sum_to}
 use Rattle.graph_theory.specs.declared.edge.Edge.{Edge}
 use Rattle.graph_theory.specs.Graph.{no_edge, edge_at, ends_at, degree, IsPerfect, IsEdgeNumber}
@@ -15,9 +18,9 @@ use Rattle.gadget_base.specs.Gadgets.{ports_below, ports_graph}
 use Rattle.gadget_base.specs.Certified.{IsPerfectList}
 use Rattle.gadget_base.specs.Listed.{times, times_each}
 use Rattle.gadget_base.proofs.BlockSums.{sum_to-ones, test-small}
-use Rattle.gadget_base.proofs.Blocks.{tabled-length, tabled-at, All-tabled, All-blocks}
+use Rattle.gadget_base.proofs.Blocks.{All-blocks}
 use Rattle.gadget_base.proofs.Listed.{times_each-at, times-small, perfect_from_list, weight_of_list}
-use Rattle.gadget_tjoin.specs.Joins.{listed_counts}
+use Rattle.mb_problem.specs.Joins.{listed_counts}
 use Rattle.gadget_tjoin.proofs.Times.{times-holds, ascending-once}
 use Rattle.gadget_tjoin.proofs.OneTerm.{sum_to-even}
 use Rattle.gadget_tjoin.proofs.Cliques.{pair, meets_group, all_clique, pair-meets_own, pair-meets_other}
@@ -107,15 +110,15 @@ own-times i odd join matching k ok own perfect b =
     ∙ sym (times-holds join (k + 1) (ascending-once join (k + 1) own.ascending))
 
 listed-at : (join : List ℕ) (m k : ℕ) → k < m → slice_index (listed_counts join m) k ≡ cond (holds join (k + 1)) 1 0
-listed-at join m k b = tabled-at (λ k. cond (holds join (k + 1)) 1 0) m k 0 b
+listed-at join m k b = get_or-map-range_with_len (λ e. cond (holds join e) 1 0) 1 m k (k + 1) 0 b (omega arith)
 
 pub own-join : (i : Network) (odd : ℕ → ℕ) (join matching : List ℕ) → IsNetwork i → ((v : ℕ) → odd v ≤ 1) → AreOwn (length i.edges) join matching → IsPerfectList (ports_graph i odd) matching → IsOddAt i odd (listed_counts join (length i.edges))
 own-join i odd join matching ok bit own perfect =
     let m = length i.edges in
     let g = ports_graph i odd in
     back-join i odd (listed_counts join m) (times_each g matching) ok bit (perfect_from_list g matching (ports-within i odd ok) perfect)
-    (tabled-length (λ k. cond (holds join (k + 1)) 1 0) m)
-    (All-tabled (λ c. c ≤ 1) (λ k. cond (holds join (k + 1)) 1 0) m (λ k b. test-small (holds join (k + 1))))
+    (length-map-range_with_len (λ e. cond (holds join e) 1 0) 1 m)
+    (All-map (λ c. c ≤ 1) (λ e. cond (holds join e) 1 0) (range_with_len 1 m) (λ k d b. test-small (holds join (get_or (range_with_len 1 m) k d))))
     (λ k b.
     times_each-at g matching k (omega (arith, edges-size i odd))
     ∙ own-times i odd join matching k ok own perfect b

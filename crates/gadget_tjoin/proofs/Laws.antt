@@ -11,7 +11,8 @@ use Rattle.mb_problem.specs.Feasible.{IsJoin}
 use Rattle.mb_problem.specs.Size.{odd_at}
 use Rattle.gadget_base.specs.Gadgets.{ports_graph}
 use Rattle.gadget_base.specs.Certified.{ReachesAll, IsPerfectList}
-use Rattle.gadget_tjoin.specs.Joins.{IsJoinOf, ReachesJoins, listed_counts}
+use Rattle.mb_problem.specs.Joins.{IsJoinOf, listed_counts}
+use Rattle.gadget_tjoin.specs.Joins.{ReachesJoins}
 use Rattle.gadget_tjoin.proofs.Reached.{IsOddAt, paired, paired-perfect, paired-weight}
 use Rattle.gadget_tjoin.proofs.Back.{AreOwn, own-join}
 

@@ -18,7 +18,7 @@ use Rattle.gadget_base.specs.Certified.{ReachesAll}
 use Rattle.gadget_base.specs.Listed.{times, times_each}
 use Rattle.gadget_base.proofs.Blocks.{All-tabled}
 use Rattle.gadget_base.proofs.Listed.{times_each-length, weight_of_list}
-use Rattle.gadget_tjoin.specs.Joins.{IsJoinOf}
+use Rattle.mb_problem.specs.Joins.{IsJoinOf}
 use Rattle.gadget_tjoin.proofs.OneTerm.{one_if, one_if-same, one_if-other}
 use Rattle.gadget_tjoin.proofs.WalkParity.{walk-parity, used_once}
 use Rattle.gadget_tjoin.proofs.Places.{graph-within}

@@ -24,7 +24,8 @@ use Rattle.gadget_base.specs.Certified.{ReachesAll}
 use Rattle.gadget_base.specs.Listed.{times, times_each}
 use Rattle.gadget_base.proofs.Blocks.{tabled-length, tabled-at, All-tabled}
 use Rattle.gadget_base.proofs.Listed.{times_each-at, times-weight}
-use Rattle.gadget_tjoin.specs.Joins.{IsJoinOf, NoneBelowZero}
+use Rattle.mb_problem.specs.Joins.{IsJoinOf}
+use Rattle.gadget_tjoin.specs.Joins.{NoneBelowZero}
 use Rattle.gadget_tjoin.proofs.OneTerm.{one_if}
 use Rattle.gadget_tjoin.proofs.Times.{held}
 use Rattle.gadget_tjoin.proofs.WalkParity.{walk-parity}

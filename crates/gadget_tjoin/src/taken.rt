@@ -8,7 +8,7 @@ ghost use Rattle.mb_problem.specs.Network.{Network, IsNetwork, graph_of};
 ghost use Rattle.mb_problem.specs.Size.{odd_at};
 ghost use Rattle.gadget_base.specs.Gadgets.{ports_graph};
 ghost use Rattle.gadget_base.specs.Certified.{IsPerfectList};
-ghost use Rattle.gadget_tjoin.specs.Joins.{IsJoinOf, listed_counts};
+ghost use Rattle.mb_problem.specs.Joins.{IsJoinOf, listed_counts};
 
 use mb_base::{EdgeId, OutOfMemory, Sequence};
 use mb_problem::{Instance, Join, Parity};

@@ -4,5 +4,6 @@ pub mod Feasible
 pub mod Size
 pub mod Values
 pub mod Measured
+pub mod Joins
 pub mod Degrees
 pub mod Marks

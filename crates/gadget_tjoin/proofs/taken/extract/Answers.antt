@@ -4,7 +4,7 @@ use Rattle.graph_theory.specs.Parts.{holds}
 use Rattle.graph_theory.specs.Walk.{walk_weight}
 use Rattle.mb_problem.specs.Network.{graph_of}
 use Rattle.mb_problem.specs.Size.{odd_at}
-use Rattle.gadget_tjoin.specs.Joins.{IsJoinOf, listed_counts}
+use Rattle.mb_problem.specs.Joins.{IsJoinOf, listed_counts}
 use Rattle.gadget_tjoin.proofs.Back.{AreOwn, own-weight}
 use Rattle.gadget_tjoin.proofs.Laws.{own-join_of}
 use Rattle.gadget_tjoin.proofs.taken.extract.Goals as goal
