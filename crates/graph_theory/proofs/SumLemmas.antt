@@ -90,6 +90,11 @@ pub times-add : (a : ℕ) (b c : ℤ) → pos a *ℤ (b +ℤ c) ≡ pos a *ℤ b
 times-add zero b c = omega (arith, ints)
 times-add (suc a) b c = omega (arith, ints, times-add a b c, times-suc a b, times-suc a c, times-suc a (b +ℤ c))
 
+-- one term, each time
+pub int_sum_to-constant : (c : ℤ) (n : ℕ) → int_sum_to (λ _. c) n ≡ pos n *ℤ c
+int_sum_to-constant c zero = omega (arith, ints)
+int_sum_to-constant c (suc n) = omega (arith, ints, int_sum_to-constant c n, times-suc n c)
+
 pub plus-times : (a b : ℕ) (c : ℤ) → pos (a + b) *ℤ c ≡ pos a *ℤ c +ℤ pos b *ℤ c
 plus-times a b c = omega (arith, ints)
 
@@ -179,6 +184,10 @@ sum_to-more f n = rw add-one refl
 
 pub int_sum_to-more : (f : ℕ → ℤ) (n : ℕ) → int_sum_to f (n + 1) ≡ int_sum_to f n +ℤ f n
 int_sum_to-more f n = rw add-one refl
+
+-- a running sum and the next term are the longer sum
+pub sum_to-step : (f : ℕ → ℕ) (n s x : ℕ) → s ≡ sum_to f n → x ≡ f n → s + x ≡ sum_to f (n + 1)
+sum_to-step f n s x so_far next = rw (so_far, next, sum_to-more f n) refl
 
 -- a first part and the rest
 
