@@ -24,20 +24,21 @@ found_component g removed reached start ok low high free exact =
       λ a. let within = together-within g removed start w ok.ends (low, high) a in to-has reached g.vertices w within.0 within.1 ((exact w).1 a),
     ))
 
--- .. of what is marked, where nothing was and no vertex is removed
-marked_exact : (g : Multigraph) (out : List Bool) (start : ℕ) (old new : List Bool) (reached : List ℕ) → ((w : ℕ) → is_marked out w ≡ false) → ((w : ℕ) → is_marked old w ≡ false) → Finds g out start old new reached → (w : ℕ) → (is_marked new w ≡ true) ↔ AreTogether g [] start w
+-- what is marked, where nothing was and no vertex is removed
+pub marked_exact : (g : Multigraph) (out : List Bool) (start : ℕ) (old new : List Bool) (reached : List ℕ) → ((w : ℕ) → is_marked out w ≡ false) → ((w : ℕ) → is_marked old w ≡ false) → Finds g out start old new reached → (w : ℕ) → (is_marked new w ≡ true) ↔ AreTogether g [] start w
 marked_exact g out start old new reached none_out none_old found w =
     let exact = found.exact [] none_out (λ x h a. false≢true (sym (none_old x) ∙ h)) w in
     let now : is_marked new w ≡ holds reached w = found.marked w ∙ ap (λ t. t || holds reached w) (none_old w) in
     (λ h. exact.0 (sym now ∙ h), λ a. now ∙ exact.1 a)
 
-pub marks_component : (g : Multigraph) (out : List Bool) (start : ℕ) (old new : List Bool) (reached component : List ℕ) → IsGraph g → 1 ≤ start → start ≤ g.vertices → ((w : ℕ) → is_marked out w ≡ false) → ((w : ℕ) → is_marked old w ≡ false) → Finds g out start old new reached → ListsMarked new component → IsComponent g [] component × (holds component start ≡ true)
-marks_component g out start old new reached component ok low high none_out none_old found lists =
+-- .. is a component, as an ascending list
+pub marks_component : (g : Multigraph) (start : ℕ) (marks : List Bool) (component : List ℕ) → IsGraph g → 1 ≤ start → start ≤ g.vertices → ((w : ℕ) → (is_marked marks w ≡ true) ↔ AreTogether g [] start w) → ListsMarked marks component → IsComponent g [] component × (holds component start ≡ true)
+marks_component g start marks component ok low high marked lists =
     let exact : (w : ℕ) → (holds component w ≡ true) ↔ AreTogether g [] start w = λ w. (
-      λ h. (marked_exact g out start old new reached none_out none_old found w).0 ((lists.exact w).0 h).1,
+      λ h. (marked w).0 ((lists.exact w).0 h).1,
       λ a.
           let within = together-within g [] start w ok.ends (low, high) a in
-          (lists.exact w).1 (within.0, (marked_exact g out start old new reached none_out none_old found w).1 a),
+          (lists.exact w).1 (within.0, (marked w).1 a),
     ) in
     let set : IsVertexSet g.vertices component = record {
       ascending = lists.ascending;

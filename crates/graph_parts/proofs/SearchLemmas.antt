@@ -98,6 +98,9 @@ reached-more g out start first old before new reached e v ok here number meets b
 
 -- the start is reached
 
+pub reaches-start : (out : List Bool) (start : ℕ) (old : List Bool) → start < length old → is_marked out start ≡ false → is_marked old start ≡ false → ReachesOne out start old [] (set old start true) (start ∷ [])
+reaches-start out start old b free off = record { settled = λ h. get_or-set_same old start true false b; step = inr (free, off, refl, refl) }
+
 pub reached-start : (g : Multigraph) (out : List Bool) (start : ℕ) (old new : List Bool) (reached : List ℕ) → 1 ≤ start → start ≤ g.vertices → start < length old → is_marked out start ≡ false → is_marked old start ≡ false → ReachesOne out start old [] new reached → IsReached g out start old new reached × (reached ≡ start ∷ [])
 reached-start g out start old new reached low high b free off one =
     elim one.step [

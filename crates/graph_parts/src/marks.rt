@@ -1,8 +1,9 @@
 ghost use Rattle.std.specs.Prelude.{◌≡◌, ℕ, ◌<◌, ◌≤◌, ◌^◌, ◌||◌, length, All, IfOk};
 ghost use Rattle.graph_theory.specs.Parts.{holds};
 ghost use Rattle.graph_parts.specs.Marks.{is_marked, ListsMarked};
+ghost use Rattle.graph_parts.specs.Flags.{IsFirstMarked};
 
-use mb_base::{OutOfMemory, VertexId};
+use mb_base::{EdgeId, OutOfMemory, VertexId};
 use std::alloc::Global;
 
 /// Marks all members.
@@ -27,4 +28,31 @@ pub(crate) fn list_marked(alloc: Global, marks: &[bool]) -> Result<Vec<VertexId>
         }
     }
     Ok(vertices)
+}
+
+/// The numbers of the edges that are taken, ascending.
+pub(crate) fn list_taken(alloc: Global, taken: &[bool]) -> Result<Vec<EdgeId>, OutOfMemory>
+    requires { length taken.now ≤ 2 ^ 32 }
+    ensures { IfOk result (λ edges. ListsMarked taken.now edges.items) }
+{
+    let mut edges = Vec::new(alloc);
+    for (number, is_taken) in taken.iter().enumerate() {
+        if *is_taken && number > 0 {
+            edges.push(EdgeId::new(number as u32))?;
+        }
+    }
+    Ok(edges)
+}
+
+/// The first marked vertex.
+pub(crate) fn first_marked(marks: &[bool]) -> Option<VertexId>
+    requires { length marks.now ≤ 2 ^ 32 }
+    ensures { IsFirstMarked marks.now result }
+{
+    for (number, marked) in marks.iter().enumerate() {
+        if *marked {
+            return Some(VertexId::new(number as u32));
+        }
+    }
+    None
 }

@@ -5,7 +5,9 @@ ghost use Rattle.graph_theory.specs.Barrier.{IsOddHead, IsOddCount};
 ghost use Rattle.weighted_graph.specs.Index.{IsIndex};
 ghost use Rattle.graph_parts.specs.Marks.{MarksSet};
 ghost use Rattle.graph_parts.specs.Heads.{SeenBelow};
+ghost use Rattle.graph_parts.specs.Forests.{IsForest};
 
+use crate::links::Link;
 use crate::marks::mark_all;
 use crate::search::search;
 use mb_base::{OutOfMemory, VertexId};
@@ -19,14 +21,15 @@ fn is_odd(members: &[VertexId]) -> bool
 }
 
 /// Whether the vertex is the least of a component of odd size, where all components of lesser
-/// vertices are marked. Its own is marked then.
-fn visit(
+/// vertices are marked. Its own is marked then, and the links of a tree that spans it are added.
+pub(crate) fn visit(
     graph: &Graph,
     index: &Incidence,
     removed: &[bool],
     vertex: VertexId,
     seen: &mut [bool],
     reached: &mut Vec<VertexId>,
+    links: &mut Vec<Link>,
 ) -> Result<bool, OutOfMemory>
     requires graph { IsGraph graph.now }
     requires index { IsIndex graph.now index.now }
@@ -38,6 +41,8 @@ fn visit(
         → SeenBelow graph.now set (vertex + 1) seen.new) }
     ensures head { IfOk result (λ odd. (set : List ℕ) → MarksSet removed.now set → SeenBelow graph.now set vertex seen.old
         → IsTrue odd ↔ IsOddHead graph.now set vertex) }
+    ensures forest { IfOk result (λ _. (set : List ℕ) → MarksSet removed.now set → SeenBelow graph.now set vertex seen.old
+        → IsForest graph.now set seen.old links.old.items → IsForest graph.now set seen.new links.new.items) }
 {
     let place = vertex.number() as usize;
     if seen[place] {
@@ -46,7 +51,7 @@ fn visit(
     if removed[place] {
         return Ok(false);
     }
-    search(graph, index, removed, vertex, seen, reached)?;
+    search(graph, index, removed, vertex, seen, reached, links)?;
     Ok(is_odd(reached))
 }
 
@@ -67,10 +72,19 @@ pub fn odd_components(
     mark_all(&mut out, removed);
     let mut seen = vec![in alloc; false; places]?;
     let mut reached = Vec::new(alloc);
+    let mut links = Vec::new(alloc);
     let mut count = 0u64;
     for number in 0..graph.vertices() {
         let vertex = VertexId::new(number + 1);
-        if visit(graph, &index, &out, vertex, &mut seen, &mut reached)? {
+        if visit(
+            graph,
+            &index,
+            &out,
+            vertex,
+            &mut seen,
+            &mut reached,
+            &mut links,
+        )? {
             count += 1;
         }
     }

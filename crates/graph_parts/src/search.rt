@@ -3,22 +3,26 @@ ghost use Rattle.graph_theory.specs.Graph.{edges_around};
 ghost use Rattle.weighted_graph.specs.Index.{IsIndex};
 ghost use Rattle.graph_parts.specs.Marks.{is_marked};
 ghost use Rattle.graph_parts.specs.Search.{ReachesOne, ReachesFrom, Finds};
+ghost use Rattle.graph_parts.specs.Links.{AddsLink, LinksFrom, LinksAll};
 
+use crate::links::Link;
 use mb_base::{EdgeId, OutOfMemory, VertexId};
 use weighted_graph::{Graph, Incidence};
 
-/// Marks and reaches a vertex, unless it is removed or marked.
+/// Marks and reaches the vertex that the link leads to, unless it is removed or marked.
 fn reach(
     removed: &[bool],
-    vertex: VertexId,
+    link: Link,
     marks: &mut [bool],
     reached: &mut Vec<VertexId>,
+    links: &mut Vec<Link>,
 ) -> Result<(), OutOfMemory>
-    requires removed { vertex < length removed.now }
-    requires marks { vertex < length marks.old }
-    ensures { OnOk result (ReachesOne removed.now vertex marks.old reached.old.items marks.new reached.new.items) }
+    requires removed { link.to < length removed.now }
+    requires marks { link.to < length marks.old }
+    ensures reached { OnOk result (ReachesOne removed.now link.to marks.old reached.old.items marks.new reached.new.items) }
+    ensures links { OnOk result (AddsLink link reached.old.items links.old.items reached.new.items links.new.items) }
 {
-    let place = vertex.number() as usize;
+    let place = link.to.number() as usize;
     if removed[place] {
         return Ok(());
     }
@@ -26,7 +30,8 @@ fn reach(
         return Ok(());
     }
     marks[place] = true;
-    reached.push(vertex)?;
+    reached.push(link.to)?;
+    links.push(link)?;
     Ok(())
 }
 
@@ -38,20 +43,25 @@ fn reach_from(
     vertex: VertexId,
     marks: &mut [bool],
     reached: &mut Vec<VertexId>,
+    links: &mut Vec<Link>,
 ) -> Result<(), OutOfMemory>
     requires numbers { numbers.now ≡ edges_around graph.now vertex }
     requires removed { length removed.now ≡ graph.now.vertices + 1 }
     requires marks { length marks.old ≡ graph.now.vertices + 1 }
-    ensures { OnOk result (ReachesFrom graph.now removed.now vertex marks.old reached.old.items marks.new reached.new.items) }
+    ensures reached { OnOk result (ReachesFrom graph.now removed.now vertex marks.old reached.old.items marks.new reached.new.items) }
+    ensures links { OnOk result (LinksFrom graph.now vertex reached.old.items links.old.items reached.new.items links.new.items) }
 {
     for number in numbers {
-        reach(removed, graph.other_end(*number, vertex), marks, reached)?;
+        let to = graph.other_end(*number, vertex);
+        let link = Link { edge: *number, to };
+        reach(removed, link, marks, reached, links)?;
     }
     Ok(())
 }
 
 /// Reaches and marks the component of the start, breadth first, in time linear in its vertices and
-/// their edges. What was reached before is forgotten.
+/// their edges. What was reached before is forgotten. To each vertex but the start a link is added, in
+/// the order in which they are found: a tree that spans the component.
 pub(crate) fn search(
     graph: &Graph,
     index: &Incidence,
@@ -59,6 +69,7 @@ pub(crate) fn search(
     start: VertexId,
     marks: &mut [bool],
     reached: &mut Vec<VertexId>,
+    links: &mut Vec<Link>,
 ) -> Result<(), OutOfMemory>
     requires index { IsIndex graph.now index.now }
     requires removed { length removed.now ≡ graph.now.vertices + 1 }
@@ -67,14 +78,24 @@ pub(crate) fn search(
     requires high { start ≤ graph.now.vertices }
     requires free { is_marked removed.now start ≡ false }
     requires new { is_marked marks.old start ≡ false }
-    ensures { OnOk result (Finds graph.now removed.now start marks.old marks.new reached.new.items) }
+    ensures finds { OnOk result (Finds graph.now removed.now start marks.old marks.new reached.new.items) }
+    ensures links { OnOk result (LinksAll graph.now start links.old.items reached.new.items links.new.items) }
 {
     reached.clear();
-    reach(removed, start, marks, reached)?;
+    marks[start.number() as usize] = true;
+    reached.push(start)?;
     let mut done = 0;
     while done < reached.len() {
         let vertex = reached[done];
-        reach_from(graph, index.at(vertex), removed, vertex, marks, reached)?;
+        reach_from(
+            graph,
+            index.at(vertex),
+            removed,
+            vertex,
+            marks,
+            reached,
+            links,
+        )?;
         done += 1;
     }
     Ok(())

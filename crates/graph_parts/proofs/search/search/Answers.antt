@@ -1,15 +1,27 @@
-use Rattle.std.proofs.Common.{◌≡◌, ℕ, ◌<◌, List, arith, length, subst}
-use Rattle.graph_parts.specs.Search.{ReachesOne}
+use Rattle.std.proofs.Common.{◌≡◌, ℕ, ◌<◌, Bool, List, [], ◌∷◌, ◌++◌, true, arith, length, set, ap, ◌∙◌, subst, sym}
+use Rattle.graph_theory.specs.Parts.{holds}
+use Rattle.graph_theory.proofs.Members.{holds_at}
+use Rattle.graph_parts.specs.Links.{LinksAll}
 use Rattle.graph_parts.proofs.Once.{once-short}
-use Rattle.graph_parts.proofs.SearchLemmas.{IsDone, done-none, done-next, done-most, done-all}
+use Rattle.graph_parts.proofs.SearchLemmas.{reaches-start, IsDone, done-none, done-next, done-most, done-all}
+use Rattle.graph_parts.proofs.LinkLemmas.{all-none, all-next}
 use Rattle.graph_parts.proofs.search.search.Goals as goal
 
 pub loop-done-init : goal.loop-done-init
 loop-done-init c =
-    let R : List ℕ → Type 0 = λ xs. ReachesOne c.args.removed.now c.args.start c.args.marks.now xs c.reach.new.marks c.reach.new.reached.items in
+    let g = c.args.graph.now in
+    let start = c.args.start in
+    let old = c.args.marks.now in
+    let first = reaches-start c.args.removed.now start old (omega arith) c.requires.free c.requires.new in
+    let D : List Bool → List ℕ → Type 0 = λ m xs. IsDone g c.args.removed.now start old m xs 0 in
+    let L : List ℕ → Type 0 = λ xs. LinksAll g start c.args.links.now.items xs c.args.links.now.items in
+    let is : D (set old start true) (start ∷ []) = done-none g c.args.removed.now start old (set old start true) (start ∷ []) (omega arith) c.requires.low c.requires.high c.requires.free c.requires.new first in
+    let list : c.push.new.self.items ≡ start ∷ [] = c.in_ok-push.ensures.items ∙ ap (λ (xs : List ℕ). xs ++ start ∷ []) c.clear.ensures.items in
+    let marks : set old c.number.result true ≡ set old start true = ap (λ (x : ℕ). set old x true) c.number.ensures in
     record {
       most = omega arith;
-      is = done-none c.args.graph.now c.args.removed.now c.args.start c.args.marks.now c.reach.new.marks c.reach.new.reached.items (omega arith) c.requires.low c.requires.high c.requires.free c.requires.new (subst R c.clear.ensures.items c.in_ok-reach.ensures);
+      is = subst (λ (m : List Bool). D m c.push.new.self.items) (sym marks) (subst (D (set old start true)) (sym list) is);
+      links = subst L (sym list) (all-none g start c.args.links.now.items);
     }
 
 pub loop-done-smaller : goal.loop-done-smaller
@@ -19,11 +31,13 @@ pub loop-done-preserved : goal.loop-done-preserved
 loop-done-preserved c =
     let some = c.loop-done.reached.items in
     let b : c.loop-done.done < length some = omega arith in
-    let next = done-next c.args.graph.now c.args.removed.now c.args.start c.index-vertex.result.now c.loop-done.done c.args.marks.now c.loop-done.marks some c.reach_from.new.marks c.reach_from.new.reached.items b c.index-vertex.ensures c.loop-done.invariant.is c.in_ok-reach_from.ensures in
-    record { most = done-most c.args.graph.now c.args.removed.now c.index-vertex.result.now c.loop-done.done c.loop-done.marks some c.reach_from.new.marks c.reach_from.new.reached.items b c.in_ok-reach_from.ensures; is = next }
+    let next = done-next c.args.graph.now c.args.removed.now c.args.start c.index-vertex.result.now c.loop-done.done c.args.marks.now c.loop-done.marks some c.reach_from.new.marks c.reach_from.new.reached.items b c.index-vertex.ensures c.loop-done.invariant.is c.in_ok-reach_from.ensures.reached in
+    let H : ℕ → Type 0 = λ x. holds some x ≡ true in
+    let held = subst H (sym c.index-vertex.ensures) (holds_at some c.loop-done.done c.index-vertex.result.now b) in
+    record { most = done-most c.args.graph.now c.args.removed.now c.index-vertex.result.now c.loop-done.done c.loop-done.marks some c.reach_from.new.marks c.reach_from.new.reached.items b c.in_ok-reach_from.ensures.reached; is = next; links = all-next c.args.graph.now c.args.start c.index-vertex.result.now c.args.links.now.items some c.loop-done.links.items c.reach_from.new.reached.items c.reach_from.new.links.items held c.loop-done.invariant.links c.in_ok-reach_from.ensures.links }
 
-pub returns : goal.returns
-returns c =
+pub returns-clause-finds : goal.returns-clause-finds
+returns-clause-finds c =
     let all : c.loop-done.done ≡ length c.loop-done.reached.items = omega arith in
     let P : ℕ → Type 0 = λ n. IsDone c.args.graph.now c.args.removed.now c.args.start c.args.marks.now c.loop-done.marks c.loop-done.reached.items n in
     done-all c.args.graph.now c.args.removed.now c.args.start c.args.marks.now c.loop-done.marks c.loop-done.reached.items (subst P all c.loop-done.invariant.is)

@@ -1,0 +1,108 @@
+-- Lemmas on the two outcomes: the edges that are taken as a join, and an odd part that excludes joins.
+use Rattle.std.proofs.Common.{◌≡◌, ℕ, ◌+◌, ◌*◌, ◌%◌, ◌<◌, ◌≤◌, Bool, true, false, cond, eqb, refl, ap, sym, ◌∙◌, subst, inl, inr, arith, List, [], ◌∷◌, length, length-append, slice_index, get_or, replicate, zero, suc}
+use Rattle.std.proofs.lemmas.Bool.{cases_Bool, eqb-true, eq-eqb}
+use Rattle.std.proofs.lemmas.List.{get_or-replicate}
+use Rattle.std.proofs.lemmas.List.FromFn.{length-map-range_with_len, get_or-map-range_with_len}
+use Rattle.graph_theory.specs.Sums.{sum_to}
+use Rattle.graph_theory.specs.Graph.{Multigraph, IsEdgeNumber, edge_at, edges_around, edges_below, touches, ends_at, degree}
+use Rattle.graph_theory.specs.Parts.{holds, IsOddPart}
+use Rattle.graph_theory.proofs.SumLemmas.{sum_to-same}
+use Rattle.graph_theory.proofs.Edges.{degree-touches}
+use Rattle.graph_theory.proofs.Members.{all_holds, same_tests}
+use Rattle.graph_theory.proofs.OddParts.{odd_part_excludes}
+use Rattle.mb_problem.specs.declared.answer.Parity.{Parity}
+use Rattle.mb_problem.specs.declared.answer.Parity.TheVariants.{Empty, Values, OddDegrees}
+use Rattle.mb_problem.specs.Network.{Network, IsNetwork, graph_of, value_of}
+use Rattle.mb_problem.specs.Size.{edge_count_at, odd_at}
+use Rattle.mb_problem.specs.Joins.{IsJoinOf, listed_counts, ListsJoin}
+use Rattle.mb_problem.proofs.EdgeLemmas.{edges-count, network-graph}
+use Rattle.graph_parts.specs.Marks.{is_marked, ListsMarked}
+use Rattle.graph_parts.specs.Flags.{taken_counts, IsBalanced}
+use Rattle.graph_parts.specs.OddParts.{is_terminal}
+use Rattle.graph_parts.proofs.FlagLemmas.{one_if, bit-test, flag-within, taken-at}
+
+-- the parity that is asked for
+
+bit : (n : ℕ) → n % 2 ≤ 1
+bit n = omega arith
+
+pub odd_at-bit : (parity : Parity) (i : Network) (v : ℕ) → odd_at parity i v ≤ 1
+odd_at-bit Empty i v = omega arith
+odd_at-bit Values i v = bit (value_of i v)
+odd_at-bit OddDegrees i v = bit (edge_count_at i v)
+
+-- flags at the vertices of this parity
+pub balanced-flags : (g : Multigraph) (odd : ℕ → ℕ) (taken first flags : List Bool) → ((v : ℕ) → odd v ≤ 1) → ((v : ℕ) → 1 ≤ v → v ≤ g.vertices → is_marked first v ≡ eqb (odd v) 1) → IsBalanced g (λ v. one_if (is_marked first v)) taken flags → IsBalanced g odd taken flags
+balanced-flags g odd taken first flags small are even = λ v low high. even v low high ∙ ap one_if (are v low high) ∙ bit-test (odd v) (small v)
+
+-- as many edges are listed at a vertex as it has
+below-count : (g : Multigraph) (v k : ℕ) → length (edges_below g v k) ≡ sum_to (λ j. cond (touches (edge_at g j) v) 1 0) k
+below-count g v zero = refl
+below-count g v (suc k) =
+    let front = below-count g v k in
+    elim (cases_Bool (touches (edge_at g k) v)) [
+      | inl h ↦ rw h (length-append (edges_below g v k) (suc k ∷ []) ∙ ap (λ n. n + 1) front)
+      | inr h ↦ rw h (front ∙ (let e : sum_to (λ j. cond (touches (edge_at g j) v) 1 0) k ≡ sum_to (λ j. cond (touches (edge_at g j) v) 1 0) k + 0 = omega arith in e))
+    ]
+
+pub around-count : (i : Network) (v : ℕ) → IsNetwork i → length (edges_around (graph_of i) v) ≡ edge_count_at i v
+around-count i v ok =
+    let g = graph_of i in
+    let m = length g.edges in
+    let count : m ≡ length i.edges = edges-count i in
+    let ones : List ℕ = replicate (length i.edges) 1 in
+    below-count g v m
+    ∙ sum_to-same (λ k. cond (touches (edge_at g k) v) 1 0) (λ k. cond (touches (edge_at g k) v) (slice_index ones k) 0) m
+    (λ k b. ap (λ (x : ℕ). cond (touches (edge_at g k) v) x 0) (sym (get_or-replicate (length i.edges) k 1 0 (omega (arith, count, b)))))
+    ∙ sym (degree-touches g ones v (network-graph i ok).ends)
+
+-- the taken edges are a join where no flag is left
+
+one_if-most : (t : Bool) → one_if t ≤ 1
+one_if-most true = omega arith
+one_if-most false = omega arith
+
+listed-at : (edges : List ℕ) (m k d : ℕ) → k < m → get_or (listed_counts edges m) k d ≡ one_if (holds edges (k + 1))
+listed-at edges m k d b = get_or-map-range_with_len (λ e. cond (holds edges e) 1 0) 1 m k (k + 1) d b (omega arith)
+
+listed-degree : (g : Multigraph) (edges : List ℕ) (taken : List Bool) (m v : ℕ) → length g.edges ≡ m → ListsMarked taken edges → degree g (listed_counts edges m) v ≡ degree g (taken_counts taken (length g.edges)) v
+listed-degree g edges taken m v count lists =
+    sum_to-same (λ k. slice_index (listed_counts edges m) k * ends_at (edge_at g k) v) (λ k. slice_index (taken_counts taken (length g.edges)) k * ends_at (edge_at g k) v) (length g.edges)
+    (λ k b.
+    let exact = lists.exact (k + 1) in
+    let same : holds edges (k + 1) ≡ is_marked taken (k + 1) = same_tests (holds edges (k + 1)) (is_marked taken (k + 1)) (λ h. (exact.0 h).1) (λ h. exact.1 (omega arith, h)) in
+    ap (λ (x : ℕ). x * ends_at (edge_at g k) v) (listed-at edges m k 0 (omega (arith, count, b)) ∙ ap one_if same ∙ sym (taken-at taken (length g.edges) k b)))
+
+pub taken-join : (i : Network) (odd : ℕ → ℕ) (taken flags : List Bool) (edges : List ℕ) → length taken ≡ length (graph_of i).edges + 1 → ListsMarked taken edges → IsBalanced (graph_of i) odd taken flags → ((v : ℕ) → is_marked flags v ≡ false) → ListsJoin i odd edges
+taken-join i odd taken flags edges size lists even off =
+    let g = graph_of i in
+    let m = length i.edges in
+    let count : length g.edges ≡ m = edges-count i in
+    record {
+      ascending = lists.ascending;
+      in_range = all_holds (IsEdgeNumber g) edges (λ e h.
+          let r = (lists.exact e).0 h in
+          let within = flag-within taken e r.1 in
+          (r.0, omega (arith, size, within)));
+      join = record {
+        one_each = length-map-range_with_len (λ e. one_if (holds edges e)) 1 m;
+        at_most_once = λ k d b.
+            let long = length-map-range_with_len (λ e. one_if (holds edges e)) 1 m in
+            subst (λ (c : ℕ). c ≤ 1) (sym (listed-at edges m k d (omega (arith, long, b)))) (one_if-most (holds edges (k + 1)));
+        degrees = λ v low high.
+            let balanced = even v low high in
+            let none : one_if (is_marked flags v) ≡ 0 = ap one_if (off v) in
+            let same = listed-degree g edges taken m v count lists in
+            omega (arith, balanced, none, same);
+      };
+    }
+
+-- an odd part excludes joins
+pub part-excludes : (parity : Parity) (i : Network) (part counts : List ℕ) → IsNetwork i → IsOddPart (graph_of i) (is_terminal parity i) part → IsJoinOf parity i counts → ⊥
+part-excludes parity i part counts ok odd join =
+    odd_part_excludes (graph_of i) (is_terminal parity i) part counts (network-graph i ok) odd
+    (λ v low high.
+    let d = join.degrees v low high in (
+      λ one. eq-eqb (odd_at parity i v) 1 (sym d ∙ one),
+      λ t. d ∙ eqb-true (odd_at parity i v) 1 t,
+    ))

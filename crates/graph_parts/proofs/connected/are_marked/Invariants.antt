@@ -1,0 +1,7 @@
+use Rattle.std.proofs.Common.{◌≡◌, ℕ, ◌<◌, true}
+use Rattle.graph_theory.specs.Graph.{edge_at}
+use Rattle.graph_parts.specs.Marks.{is_marked}
+use Rattle.graph_parts.proofs.connected.are_marked.Given as goal
+
+abbrev pub invariant-loop-edge : goal.invariant-loop-edge
+invariant-loop-edge l = (k : ℕ) → k < l.edge-index → is_marked l.marks (edge_at l.graph k).u ≡ true
