@@ -1,0 +1,27 @@
+use Rattle.std.proofs.Common.{rules, ap, refl, true, false, Bool, map, string_bytes, ◌≡◌, ◌∙◌}
+use Rattle.clap.specs.Words.{App, is_simple, subcommand_of, takes}
+use Rattle.command_words.specs.Program.{program, is_taken, found_in}
+use Rattle.command_words.proofs.parse.parse.Goals as goal
+
+not_true : (b : Bool) → (b ≡ true → ⊥) → b ≡ false
+not_true true h = absurd (h refl)
+not_true false h = refl
+
+simple : is_simple program ≡ true
+unfolding program
+simple = refl
+
+pub returns-in-Ok : goal.returns-in-Ok
+unfolding found_in
+returns-in-Ok c =
+    let app = c.in_ok-program.ensures.app in
+    (c.in-Ok.ensures.matches (ap is_simple app ∙ simple)).1 ∙ ap (λ (a : App). subcommand_of a (map string_bytes c.args.words.now)) app
+
+pub returns : goal.returns
+unfolding is_taken
+returns c =
+    let app = c.in_ok-program.ensures.app in
+    not_true _ (λ t.
+    let memory = c.in-Err.ensures.passes (ap (λ (a : App). takes a (map string_bytes c.args.words.now)) app ∙ t) in
+    let kind_is = c.kind.ensures ∙ memory in
+    search rules)

@@ -1,0 +1,63 @@
+-- The command that the words of a command line are.
+use Rattle.std.specs.Prelude.{ℕ, ◌-◌, ◌^◌, List, [], ◌∷◌, codes, Bool, true, false, not, ◌&&◌, ◌||◌, ◌==◌, nat_le, if◌then◌else◌, Option, None, Some}
+use Rattle.std.specs.Option.{option_map, option_and_then}
+use Rattle.std.specs.Str.{bytes_eq}
+use Rattle.mb_base.specs.Text.{natural}
+use Rattle.mb_problem.specs.declared.kind.Kind.{Kind}
+use Rattle.mb_problem.specs.declared.kind.Kind.TheVariants.{Perfect, Match, BMatch, CapMatch, FFactor, TJoin, Postman, Path}
+use Rattle.mb_problem.specs.declared.limits.TheConstants.{VERTEX_LIMIT, EDGE_LIMIT}
+use Rattle.mb_problem.specs.Kinds.{kind_named}
+use Rattle.command_words.specs.declared.command.Command.{Command}
+use Rattle.command_words.specs.declared.command.Command.TheVariants.{Solve, Check, Trial}
+
+-- the command that solves the kind of this name
+abbrev pub solve_named : Bool → List ℕ → Option Command
+solve_named brief name = option_map (λ kind. Solve kind brief) (kind_named name)
+
+-- the flag of brief answers stands after the kind or before it
+abbrev pub solve_briefly : List ℕ → List ℕ → Option Command
+solve_briefly a b = if bytes_eq b (codes "--brief") then solve_named true a else (if bytes_eq a (codes "--brief") then solve_named true b else None)
+
+abbrev pub check_named : List ℕ → Option Command
+check_named name = option_map (λ kind. Check kind) (kind_named name)
+
+-- the number that digits spell, where it is at most the limit
+abbrev pub natural_within : ℕ → List ℕ → Option ℕ
+natural_within limit word = option_and_then (λ n. if nat_le n limit then Some n else None) (natural word)
+
+abbrev pub is_path : Kind → Bool
+is_path Perfect = false
+is_path Match = false
+is_path BMatch = false
+is_path CapMatch = false
+is_path FFactor = false
+is_path TJoin = false
+is_path Postman = false
+is_path Path = true
+
+-- an edge has two ends, and so has a path
+abbrev pub has_ends : Kind → ℕ → ℕ → Bool
+has_ends kind n m = nat_le 2 n || ((m == 0) && not (is_path kind))
+
+abbrev pub trial : Kind → ℕ → ℕ → ℕ → Option Command
+trial kind start n m = if has_ends kind n m then Some (Trial kind start n m) else None
+
+-- the command that tries a made instance: the name of a kind, a start below 2^64, and numbers of vertices and edges within the limits
+abbrev pub trial_by : List ℕ → List ℕ → List ℕ → List ℕ → Option Command
+trial_by name start n m =
+    option_and_then (λ kind. option_and_then (λ s. option_and_then (λ vertices. option_and_then (λ edges. trial kind s vertices edges)
+    (natural_within EDGE_LIMIT m)) (natural_within VERTEX_LIMIT n)) (natural_within (2 ^ 64 - 1) start)) (kind_named name)
+
+-- the command that the words after the program's name are
+abbrev pub after_name : List (List ℕ) → Option Command
+after_name (a ∷ b ∷ []) =
+    if bytes_eq a (codes "solve") then solve_named false b else
+    (if bytes_eq a (codes "check") then check_named b else None)
+after_name (a ∷ b ∷ c ∷ []) = if bytes_eq a (codes "solve") then solve_briefly b c else None
+after_name (a ∷ b ∷ c ∷ d ∷ e ∷ []) = if bytes_eq a (codes "trial") then trial_by b c d e else None
+after_name _ = None
+
+-- the first word, whatever it is, stands for the program's name
+abbrev pub command_of : List (List ℕ) → Option Command
+command_of [] = None
+command_of (name ∷ words) = after_name words

@@ -1,0 +1,98 @@
+//! Reads the words with `clap`.
+ghost use Rattle.std.specs.Prelude.{◌≡◌, ℕ, List, map, false, IfOk, Some, MatchOption, string_bytes, codes};
+ghost use Rattle.clap.specs.Words.{Row, app_of, new_app, rule_of, found_of, rows_of, subcommand_rows_of};
+ghost use Rattle.command_words.specs.Program.{wanted, brief, program, subcommand_wanted, text_in, command_in, is_taken, found_in};
+
+use crate::command::{Command, read_check, read_solve, read_trial};
+use clap::error::ErrorKind;
+use clap::{Arg, ArgAction, ArgMatches};
+use mb_base::OutOfMemory;
+use std::alloc::{AllocError, Global};
+
+fn wanted<'a>(alloc: Global, id: &'a str) -> Arg<'a>
+    ensures rule { rule_of result ≡ wanted id.entry.now }
+    ensures own { result.global ≡ false }
+{
+    Arg::new(alloc, id).required(true)
+}
+
+fn brief<'a>(alloc: Global) -> Arg<'a>
+    ensures rule { rule_of result ≡ brief }
+    ensures own { result.global ≡ false }
+{
+    Arg::new(alloc, "brief")
+        .long("brief")
+        .action(ArgAction::SetTrue)
+}
+
+fn top<'a>(alloc: Global) -> clap::Command<'a>
+    ensures { app_of result ≡ subcommand_wanted (new_app (codes "blossom")) }
+{
+    clap::Command::new(alloc, "blossom").subcommand_required(true)
+}
+
+/// The command line as `clap` reads it.
+fn program<'a>(alloc: Global) -> Result<clap::Command<'a>, OutOfMemory>
+    ensures app { IfOk result (λ c. app_of c ≡ program) }
+{
+    let solve = clap::Command::new(alloc, "solve")
+        .arg(wanted(alloc, "kind"))?
+        .arg(brief(alloc))?;
+    let check = clap::Command::new(alloc, "check").arg(wanted(alloc, "kind"))?;
+    let trial = clap::Command::new(alloc, "trial")
+        .arg(wanted(alloc, "kind"))?
+        .arg(wanted(alloc, "start"))?
+        .arg(wanted(alloc, "vertices"))?
+        .arg(wanted(alloc, "edges"))?;
+    top(alloc)
+        .subcommand(solve)?
+        .subcommand(check)?
+        .subcommand(trial)
+}
+
+/// What `clap` finds in the words; nothing where it refuses them.
+pub fn parse<'a>(alloc: Global, words: &'a [String]) -> Result<Option<ArgMatches<'a>>, OutOfMemory>
+    ensures { IfOk result (λ r. MatchOption r
+        (is_taken (map string_bytes words.now) ≡ false)
+        (λ m. subcommand_rows_of m ≡ found_in (map string_bytes words.now))) }
+{
+    match program(alloc)?.try_get_matches_from(words) {
+        Ok(matches) => Ok(Some(matches)),
+        Err(error) if error.kind() == ErrorKind::OutOfMemory => Err(AllocError),
+        Err(_) => Ok(None),
+    }
+}
+
+/// The text of an argument.
+fn text_in<'a>(matches: &ArgMatches<'a>, id: &str) -> &'a str
+    ensures { result.now ≡ text_in id.now (rows_of (found_of matches.now)) }
+{
+    matches.get_str(id).unwrap_or("")
+}
+
+/// The command that a subcommand and its matches are.
+fn command_in(name: &str, found: &ArgMatches<'_>) -> Option<Command>
+    ensures { result ≡ command_in name.now (rows_of (found_of found.now)) }
+{
+    match name {
+        "solve" => read_solve(text_in(found, "kind"), text_in(found, "brief") == "true"),
+        "check" => read_check(text_in(found, "kind")),
+        "trial" => read_trial(
+            text_in(found, "kind"),
+            text_in(found, "start"),
+            text_in(found, "vertices"),
+            text_in(found, "edges"),
+        ),
+        _ => None,
+    }
+}
+
+/// The command that was found.
+pub fn command_found(matches: &ArgMatches<'_>) -> Option<Command>
+    ensures { (name : List ℕ) (rows : List Row) → subcommand_rows_of matches.now ≡ Some (name, rows) → result ≡ command_in name rows }
+{
+    match matches.subcommand() {
+        Some((name, found)) => command_in(name, found),
+        None => None,
+    }
+}

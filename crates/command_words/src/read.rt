@@ -1,0 +1,30 @@
+ghost use Rattle.std.specs.Prelude.{◌≡◌, map, string_bytes, IfOk};
+ghost use Rattle.command_words.specs.Commands.{command_of};
+
+use crate::command::Command;
+use crate::form::has_form;
+use crate::parse::{command_found, parse};
+use mb_base::OutOfMemory;
+use std::alloc::Global;
+
+fn read_words(alloc: Global, words: &[String]) -> Result<Option<Command>, OutOfMemory>
+    ensures { IfOk result (λ c. c ≡ command_of (map string_bytes words.now)) }
+{
+    let Some(matches) = parse(alloc, words)? else {
+        return Ok(None);
+    };
+    // The parser takes some lists that aren't commands here, as one with the word `--`.
+    if !has_form(words) {
+        return Ok(None);
+    }
+    Ok(command_found(&matches))
+}
+
+/// The command that the words of a command line are, the program's name first; None where they are none.
+/// Taken are `solve KIND`, the same with `--brief` before or after the kind, `check KIND`, and
+/// `trial KIND START N M`, where the numbers are digits alone. An error is want of memory.
+pub fn read_command(alloc: Global, words: &Vec<String>) -> Result<Option<Command>, OutOfMemory>
+    ensures exact { IfOk result (λ c. c ≡ command_of (map string_bytes words.now.items)) }
+{
+    read_words(alloc, words.as_slice())
+}
