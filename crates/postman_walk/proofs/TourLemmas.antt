@@ -1,0 +1,31 @@
+-- The finished walk as an answer of the postman.
+use Rattle.std.proofs.Common.{◌≡◌, ℕ, ◌+◌, ◌-◌, ◌<◌, ◌≤◌, ap, true, arith, List, [], ◌∷◌, length}
+use Rattle.std.proofs.lemmas.Bool.{false≢true}
+use Rattle.graph_theory.specs.Parts.{holds}
+use Rattle.graph_theory.specs.Walk.{IsClosedWalk}
+use Rattle.mb_problem.specs.Network.{Network, graph_of}
+use Rattle.mb_problem.specs.Feasible.{IsTour}
+use Rattle.mb_problem.proofs.EdgeLemmas.{edges-count}
+use Rattle.gadget_base.specs.Listed.{times}
+use Rattle.postman_walk.specs.Tours.{IsLeastMet, UsesOnceAndJoinTwice}
+use Rattle.postman_walk.proofs.WalkLemmas.{listed_holds}
+
+some_held : (es : List ℕ) (e : ℕ) → holds es e ≡ true → 1 ≤ length es
+some_held [] e h = absurd (false≢true h)
+some_held (x ∷ es) e h = omega arith
+
+-- a closed walk that uses each edge is a tour, where an edge meets its start
+pub tour-uses : (i : Network) (start : ℕ) (join walk : List ℕ) → IsClosedWalk (graph_of i) start walk → UsesOnceAndJoinTwice i join walk → IsLeastMet (graph_of i) start → IsTour i start walk
+tour-uses i start join walk closed uses met =
+    let held : (e : ℕ) → 1 ≤ e → e ≤ length i.edges → holds walk e ≡ true = λ e low high.
+    let back : e - 1 + 1 ≡ e = omega arith in
+    let u = uses (e - 1) (omega arith) in
+    let same : times walk (e - 1 + 1) ≡ times walk e = ap (times walk) back in
+    listed_holds walk e (omega (arith, u, same)) in
+    let size = edges-count i in
+    let first : met.met.0 < length i.edges = let b = met.met.1 in omega (arith, size, b) in
+    record {
+      closed = closed;
+      some = some_held walk 1 (held 1 (omega arith) (omega arith));
+      all = held;
+    }

@@ -1,0 +1,16 @@
+use Rattle.std.proofs.Common.{◌≡◌, ◌+◌, ◌*◌, ◌≤◌, length, slice_index}
+use Rattle.graph_theory.specs.Sums.{sum_to}
+use Rattle.postman_walk.specs.Uses.{ArePassed}
+use Rattle.postman_walk.specs.Tracing.{IsTracing}
+use Rattle.postman_walk.proofs.trace.trace.Given as goal
+
+abbrev pub invariant-walk : goal.invariant-walk
+invariant-walk l = record {
+  size : length l.left.items ≡ length l.graph.edges;
+  here : l.here ≤ l.graph.vertices;
+  passed : ArePassed l.graph l.left.items l.cursors.items;
+  tracing : IsTracing l.graph l.fn.uses.items l.left.items l.fn.start l.here l.opened.items l.finished.items;
+}
+
+abbrev pub decreases-walk : goal.decreases-walk
+decreases-walk l = 2 * sum_to (slice_index l.left.items) (length l.graph.edges) + length l.opened.items

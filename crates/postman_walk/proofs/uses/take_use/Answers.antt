@@ -1,0 +1,53 @@
+use Rattle.std.proofs.Common.{◌≡◌, ℕ, ◌-◌, ◌<◌, ◌≤◌, List, length, slice_index, slice_set, All, sym, subst, refl, ◌∙◌, arith}
+use Rattle.std.proofs.lemmas.List.{get_or_default}
+use Rattle.graph_theory.proofs.Around.{around-at}
+use Rattle.graph_parts.proofs.SearchLemmas.{number_at}
+use Rattle.postman_walk.specs.Uses.{NoneLeft, TakesUse}
+use Rattle.postman_walk.proofs.UseLemmas.{takes-use, settled-all}
+use Rattle.postman_walk.proofs.uses.take_use.Goals as goal
+
+pub next_left-place-requires-clause-numbers : goal.next_left-place-requires-clause-numbers
+next_left-place-requires-clause-numbers c =
+    let g = c.args.graph.now in
+    let v = c.args.vertex in
+    let around = c.at-numbers.ensures ∙ c.requires.index.exact v c.requires.vertex in
+    let P : List ℕ → Type 0 = λ xs. All (λ e. (1 ≤ e) × (e ≤ length c.args.left.now)) xs in
+    subst P (sym around) (λ k d b. let r = around-at g v k d b in let low = r.0.0 in let high = r.0.1 in (low, omega (arith, high, c.requires.size)))
+
+pub returns-then-place-numbers-clause-taken : goal.returns-then-place-numbers-clause-taken
+returns-then-place-numbers-clause-taken c =
+    let g = c.args.graph.now in
+    let v = c.args.vertex in
+    let left = c.args.left.now in
+    let numbers = c.at-numbers.result.now in
+    let around = c.at-numbers.ensures ∙ c.requires.index.exact v c.requires.vertex in
+    let all : c.next_left-place.result ≡ length numbers = omega arith in
+    let P : List ℕ → Type 0 = λ xs. NoneLeft left xs (length xs) in
+    (refl, settled-all g left v (subst P around (subst (NoneLeft left numbers) all c.next_left-place.ensures.passed)))
+
+pub overflow_sub-left : goal.overflow_sub-left
+overflow_sub-left c =
+    let g = c.args.graph.now in
+    let v = c.args.vertex in
+    let numbers = c.at-numbers.result.now in
+    let around = c.at-numbers.ensures ∙ c.requires.index.exact v c.requires.vertex in
+    let place : c.next_left-place.result < length numbers = let high = c.next_left-place.ensures.high in omega arith in
+    let e = number_at g v numbers c.next_left-place.result c.index-numbers-place.result around place c.index-numbers-place.is in
+    let low : 1 ≤ c.index-numbers-place.result = e.0.0 in
+    omega (arith, low, c.number.ensures)
+
+pub returns-clause-taken : goal.returns-clause-taken
+returns-clause-taken c =
+    let g = c.args.graph.now in
+    let v = c.args.vertex in
+    let left = c.args.left.now in
+    let numbers = c.at-numbers.result.now in
+    let at = c.next_left-place.result in
+    let e = c.index-numbers-place.result in
+    let around = c.at-numbers.ensures ∙ c.requires.index.exact v c.requires.vertex in
+    let place : at < length numbers = let high = c.next_left-place.ensures.high in omega arith in
+    let edge = number_at g v numbers at e around place c.index-numbers-place.is in
+    let same : slice_index numbers at ≡ e = get_or_default numbers at 0 e place ∙ sym c.index-numbers-place.is in
+    let some : 0 < slice_index left (e - 1) = subst (λ (x : ℕ). 0 < slice_index left (x - 1)) same (c.next_left-place.ensures.left place) in
+    let P : ℕ → Type 0 = λ n. TakesUse g left (slice_set left (n - 1) (slice_index left (n - 1) - 1)) v e in
+    subst P (sym c.number.ensures) (takes-use g left v e (slice_index left (e - 1)) edge.0 edge.1 c.requires.size refl some)
