@@ -1,5 +1,5 @@
 -- Ascending lists of numbers, and lists that a function maps.
-use Rattle.std.proofs.Common.{◌≡◌, ℕ, ◌+◌, ◌-◌, ◌<◌, ◌≤◌, Bool, true, false, ◌&&◌, eqb, List, [], ◌∷◌, length, map, get_or, AllPairs, refl, sym, ap, ◌∙◌, subst, arith, ⊎_elim}
+use Rattle.std.proofs.Common.{◌≡◌, ℕ, ◌+◌, ◌-◌, ◌<◌, ◌≤◌, Bool, true, false, ◌&&◌, eqb, List, [], ◌∷◌, length, map, get_or, refl, sym, ap, ◌∙◌, subst, arith, ⊎_elim}
 use Rattle.std.specs.List.{filter, range_with_len}
 use Rattle.std.specs.List.Sorted.{IsStrictlyIncreasing}
 use Rattle.std.specs.Cmp.{both_ways as same_tests}
@@ -7,18 +7,11 @@ use Rattle.std.proofs.lemmas.Bool.{both_ways, eqb-true, eq-eqb, or_cases, or_lef
 use Rattle.std.proofs.lemmas.List.FromFn.{length-range_with_len, get_or-range_with_len}
 use Rattle.std.proofs.lemmas.List.Kept.{AllPairs-from_increasing, IsStrictlyIncreasing-filter}
 use Rattle.graph_theory.specs.Parts.{holds, IsVertexSet}
-use Rattle.graph_theory.proofs.Members.{holds_place, holds_at, all_holds}
+use Rattle.graph_theory.proofs.Members.{holds_place, holds_at, all_holds, range-ascending}
 use Rattle.blossom_arena.specs.Family.{is_vertex}
 use Rattle.blossom_arena.proofs.Lists.{AllNew, holds-filter, first_in, later_in}
 use Rattle.blossom_arena.proofs.Forms.{new_by_pairs}
 use Rattle.blossom_arena.proofs.Nested.{vertex_range, range_vertex}
-
-pub range_ascends : (n : ℕ) → IsStrictlyIncreasing (range_with_len 1 n)
-range_ascends n = λ k within.
-    let size : length (range_with_len 1 n) ≡ n = length-range_with_len 1 n in
-    let here : get_or (range_with_len 1 n) k 0 ≡ 1 + k = get_or-range_with_len 1 n k 0 (omega (arith, within, size)) in
-    let next : get_or (range_with_len 1 n) (k + 1) 0 ≡ 1 + (k + 1) = get_or-range_with_len 1 n (k + 1) 0 (omega (arith, within, size)) in
-    omega (arith, here, next)
 
 pub holds-range : (n v : ℕ) → holds (range_with_len 1 n) v ≡ is_vertex n v
 holds-range n v = same_tests (holds (range_with_len 1 n) v) (is_vertex n v)
@@ -37,7 +30,7 @@ holds-range n v = same_tests (holds (range_with_len 1 n) v) (is_vertex n v)
 
 -- the vertices that pass a test
 pub picked_ascends : (n : ℕ) (p : ℕ → Bool) → IsStrictlyIncreasing (filter p (range_with_len 1 n))
-picked_ascends n p = IsStrictlyIncreasing-filter p (range_with_len 1 n) (range_ascends n)
+picked_ascends n p = IsStrictlyIncreasing-filter p (range_with_len 1 n) (range-ascending n)
 
 pub holds-picked : (n : ℕ) (p : ℕ → Bool) (v : ℕ) → holds (filter p (range_with_len 1 n)) v ≡ (is_vertex n v && p v)
 holds-picked n p v = holds-filter p (range_with_len 1 n) v ∙ ap (λ t. t && p v) (holds-range n v)

@@ -18,38 +18,38 @@ use Rattle.alt_forest.specs.Laws.{RootsCounted, ExposedCounted}
 use Rattle.alt_forest.proofs.Relabelled.{with_labels, put_here, put_other}
 use Rattle.alt_forest.proofs.Pairs.{is_outer}
 
-abbrev one_if : Bool → ℕ
+abbrev pub one_if : Bool → ℕ
 one_if t = cond t 1 0
 
--- how many of 1 to n pass a test
-abbrev count_to : (ℕ → Bool) → ℕ → ℕ
-count_to p n = sum_to (λ i. one_if (p (i + 1))) n
+-- how many of the numbers 1 to n pass a test
+abbrev pub counted : (ℕ → Bool) → ℕ → ℕ
+counted p n = sum_to (λ i. one_if (p (i + 1))) n
 
 one_least : (t : Bool) → 1 ≤ one_if t → t ≡ true
 one_least t low = by_test t (λ e. e) (λ e. let none : one_if t ≡ 0 = ap one_if e in absurd (omega (arith, low, none)))
 
 -- some number passes where the count is not 0
-some_passes : (p : ℕ → Bool) (n : ℕ) → 1 ≤ count_to p n → (a : ℕ) × (p a ≡ true)
+some_passes : (p : ℕ → Bool) (n : ℕ) → 1 ≤ counted p n → (a : ℕ) × (p a ≡ true)
 some_passes p zero low = absurd (omega (arith, low))
 some_passes p (suc n) low = by_test (p (n + 1))
     (λ t. (n + 1, t))
     (λ t. let none : one_if (p (n + 1)) ≡ 0 = ap one_if t in some_passes p n (omega (arith, low, none)))
 
 -- a number that passes is counted
-one_passes : (p : ℕ → Bool) (n a : ℕ) → 1 ≤ a → a ≤ n → p a ≡ true → 1 ≤ count_to p n
+one_passes : (p : ℕ → Bool) (n a : ℕ) → 1 ≤ a → a ≤ n → p a ≡ true → 1 ≤ counted p n
 one_passes p n a low high t =
     let same : (a - 1) + 1 ≡ a = omega (arith, low) in
     let here : one_if (p ((a - 1) + 1)) ≡ 1 = ap (λ k. one_if (p k)) same ∙ ap one_if t in
-    let has : one_if (p ((a - 1) + 1)) ≤ count_to p n = sum_to-has (λ i. one_if (p (i + 1))) n (a - 1) (omega (arith, low, high)) in
+    let has : one_if (p ((a - 1) + 1)) ≤ counted p n = sum_to-has (λ i. one_if (p (i + 1))) n (a - 1) (omega (arith, low, high)) in
     omega (arith, has, here)
 
 -- and two are counted twice
-two_pass : (p : ℕ → Bool) (n a b : ℕ) → 1 ≤ a → a ≤ n → 1 ≤ b → b ≤ n → a ≢ b → p a ≡ true → p b ≡ true → 2 ≤ count_to p n
+two_pass : (p : ℕ → Bool) (n a b : ℕ) → 1 ≤ a → a ≤ n → 1 ≤ b → b ≤ n → a ≢ b → p a ≡ true → p b ≡ true → 2 ≤ counted p n
 two_pass p n a b a_low a_high b_low b_high ne pa pb =
     let both = sum_to-add (λ i. one_if (eqb a (i + 1))) (λ i. one_if (eqb b (i + 1))) n in
-    let at_a : count_to (eqb a) n ≡ 1 = sum_to-at_one (λ _. 1) a n a_low a_high in
-    let at_b : count_to (eqb b) n ≡ 1 = sum_to-at_one (λ _. 1) b n b_low b_high in
-    let most : sum_to (λ i. one_if (eqb a (i + 1)) + one_if (eqb b (i + 1))) n ≤ count_to p n =
+    let at_a : counted (eqb a) n ≡ 1 = sum_to-at_one (λ _. 1) a n a_low a_high in
+    let at_b : counted (eqb b) n ≡ 1 = sum_to-at_one (λ _. 1) b n b_low b_high in
+    let most : sum_to (λ i. one_if (eqb a (i + 1)) + one_if (eqb b (i + 1))) n ≤ counted p n =
     sum_to-le (λ i. one_if (eqb a (i + 1)) + one_if (eqb b (i + 1))) (λ i. one_if (p (i + 1))) n (λ i _. each (i + 1)) in
     omega (arith, both, at_a, at_b, most)
   where
@@ -67,12 +67,12 @@ two_pass p n a b a_low a_high b_low b_high ne pa pb =
         omega (arith, none, one, here))
         (λ t. let zero_b : one_if (eqb b c) ≡ 0 = ap one_if t in omega (arith, none, zero_b)))
 
-none_pass : (p : ℕ → Bool) (n : ℕ) → ((a : ℕ) → p a ≡ false) → count_to p n ≡ 0
+none_pass : (p : ℕ → Bool) (n : ℕ) → ((a : ℕ) → p a ≡ false) → counted p n ≡ 0
 none_pass p n h = sum_to-same (λ i. one_if (p (i + 1))) (λ _. 0) n (λ i _. ap one_if (h (i + 1))) ∙ sum_to-zero n
 
-pub free : (o : Option ℕ) → not (is_some o) ≡ true → o ≡ None
-free None e = refl
-free (Some x) e = absurd (both_ways false refl e)
+pub no_entry : (o : Option ℕ) → not (is_some o) ≡ true → o ≡ None
+no_entry None e = refl
+no_entry (Some x) e = absurd (both_ways false refl e)
 
 -- a root passes its test, and what passes is a root
 pub root_passes : (s : State) (a : ℕ) → IsRoot s a → is_root s a ≡ true
@@ -84,7 +84,7 @@ pub passing_root : (s : State) (a : ℕ) → is_root s a ≡ true → IsRoot s a
 passing_root s a e =
     let p = and_parts (is_outermost s.graph.vertices s.blossoms a) (is_label (s.label a) Outer && not (is_some (s.mate a))) e in
     let q = and_parts (is_label (s.label a) Outer) (not (is_some (s.mate a))) p.1 in
-    record { outermost = p.0; outer = is_outer (s.label a) q.0; exposed = free (s.mate a) q.1 }
+    record { outermost = p.0; outer = is_outer (s.label a) q.0; exposed = no_entry (s.mate a) q.1 }
 
 outer_range : (s : State) (a : ℕ) → IsNested s.graph.vertices s.blossoms → IsOutermost s a → (1 ≤ a) × (a ≤ node_limit s.graph.vertices)
 outer_range s a nested is = node_range s.graph.vertices s.blossoms a nested (outermost_parts s.graph.vertices s.blossoms a is).0
@@ -115,7 +115,7 @@ one_more s v nested x was_out =
     let all : tree_count t ≡ sum_to (λ i. one_if (is_root s (i + 1)) + one_if (eqb v (i + 1))) n =
     sum_to-same (λ i. one_if (is_root t (i + 1))) (λ i. one_if (is_root s (i + 1)) + one_if (eqb v (i + 1))) n (λ i _. step (i + 1)) in
     let both = sum_to-add (λ i. one_if (is_root s (i + 1))) (λ i. one_if (eqb v (i + 1))) n in
-    let here : count_to (eqb v) n ≡ 1 = sum_to-at_one (λ _. 1) v n range.0 range.1 in
+    let here : counted (eqb v) n ≡ 1 = sum_to-at_one (λ _. 1) v n range.0 range.1 in
     omega (arith, all, both, here)
   where
     step : (a : ℕ) → one_if (is_root (with_labels s (put s.label v Outer)) a) ≡ one_if (is_root s a) + one_if (eqb v a)

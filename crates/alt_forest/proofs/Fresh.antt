@@ -7,17 +7,16 @@ use Rattle.std.proofs.lemmas.List.{get_or-replicate, length-replicate}
 use Rattle.std.proofs.Math.ListN.{get_or-eq_default}
 use Rattle.std.specs.List.{AllByRecursion}
 use Rattle.graph_theory.specs.Graph.{Multigraph, IsGraph, IsEdgeNumber, edge_of}
-use Rattle.graph_theory.proofs.Edges.{edge_of_within}
 use Rattle.blossom_arena.specs.declared.links.Link.{Link}
 use Rattle.blossom_arena.specs.Family.{Blossom, is_vertex}
 use Rattle.blossom_arena.proofs.Lists.{by_test}
-use Rattle.blossom_arena.proofs.Nested.{range_vertex}
 use Rattle.alt_forest.specs.declared.label.Label.TheVariants.{Out}
 use Rattle.alt_forest.specs.declared.label.Weights.{Weights}
 use Rattle.alt_forest.specs.declared.label.Weights.TheVariants.{Zero, Given}
 use Rattle.alt_forest.specs.State.{State, IsTight, slack_of, slack_with, HasRings, IsSearchState}
 use Rattle.alt_forest.specs.Searches.{IsStart, is_given}
 use Rattle.alt_forest.proofs.Relabelled.{outer_not_out, inner_not_out, some_not_none}
+use Rattle.blossom_arena.proofs.Ends.{u_vertex, v_vertex}
 
 -- an edge feels twice the start
 slack_from : (g : Multigraph) (w : Weights) (y : ℕ → ℤ) (start : ℤ) (e : ℕ) → y (edge_of g e).u ≡ start → y (edge_of g e).v ≡ start → IsStart g w start → IsEdgeNumber g e → pos 0 ≤ℤ slack_with g (is_given w) y [] e
@@ -34,9 +33,8 @@ slack_from g Given y start e u v is number =
 pub fresh_slack : (g : Multigraph) (w : Weights) (y : ℕ → ℤ) (start : ℤ) (bs : List Blossom) → IsGraph g → bs ≡ [] → ((v : ℕ) → is_vertex g.vertices v ≡ true → y v ≡ start) → IsStart g w start
     → (e : ℕ) → IsEdgeNumber g e → pos 0 ≤ℤ slack_with g (is_given w) y bs e
 fresh_slack g w y start bs graph none duals is e number =
-    let within = edge_of_within g e graph.ends number in
     subst (λ (xs : List Blossom). pos 0 ≤ℤ slack_with g (is_given w) y xs e) (sym none)
-    (slack_from g w y start e (duals _ (range_vertex g.vertices _ within.u_low within.u_high)) (duals _ (range_vertex g.vertices _ within.v_low within.v_high)) is number)
+    (slack_from g w y start e (duals _ (u_vertex g e graph.ends number)) (duals _ (v_vertex g e graph.ends number)) is number)
 
 -- no blossom, no mate, no tree
 pub fresh : (s : State) → s.blossoms ≡ [] → ((a : ℕ) → s.label a ≡ Out) → ((a : ℕ) → s.mate a ≡ None) → ((e : ℕ) → IsEdgeNumber s.graph e → pos 0 ≤ℤ slack_of s e) → IsSearchState s (λ a. 0)

@@ -1,39 +1,71 @@
--- A hop is read where it is one, and what is read is that hop.
-use Rattle.std.proofs.Common.{◌≡◌, ◌≢◌, ℕ, ◌<◌, length, sym, ap, ◌∙◌, arith}
+-- A hop: from an outer node by its mate, and by that one's parent, to the next outer node above. Each outer node with a
+-- mate has one, and what is read there is that hop.
+use Rattle.std.proofs.Common.{◌≡◌, ℕ, ◌<◌, ◌∷◌, length, Some, sym, ap, ◌∙◌, arith}
+use Rattle.std.proofs.lemmas.Option.{same_Some}
 use Rattle.alt_forest.specs.declared.hop.Hop.{Hop}
 use Rattle.blossom_arena.specs.Family.{IsNested}
-use Rattle.alt_forest.specs.State.{State, IsSearchState}
-use Rattle.alt_forest.specs.Trees.{other_node, far_end, up_edge_by, up_of, path_of}
+use Rattle.alt_forest.specs.declared.label.Label.TheVariants.{Outer}
+use Rattle.alt_forest.specs.State.{State, IsOutermost, IsSearchState}
+use Rattle.alt_forest.specs.Trees.{other_node, far_end, up_edge_by, up_of, path_of, root_of}
 use Rattle.alt_forest.specs.Ways.{HasHop, IsRead, IsHop}
-use Rattle.alt_forest.proofs.Roots.{path_up}
-use Rattle.alt_forest.proofs.Walk.{other_node_joins, some_same}
+use Rattle.alt_forest.proofs.Roots.{path_up, root_up}
+use Rattle.alt_forest.proofs.Walk.{deeper_differs, other_node_joins}
 
-differ : (depth : ℕ → ℕ) (a b : ℕ) → depth b < depth a → a ≢ b
-differ depth a b low e = let same : depth a ≡ depth b = ap depth e in absurd (omega (arith, low))
+pub hop_above : (s : State) (depth : ℕ → ℕ) (a e : ℕ) → IsSearchState s depth → IsOutermost s a → s.label a ≡ Outer → s.mate a ≡ Some e → (h : Hop) × IsHop s depth a h
+hop_above s depth a e st is outer has =
+    let w = st.mates a e is has in
+    let says = (st.labels a is).outer outer e w.0 has w.1 in
+    let i = (st.labels w.0 w.1.outer).inner says.0 in (
+      record { mate = e; inner = w.0; parent = i.edge; outer = i.up },
+      record {
+        is = is;
+        label = outer;
+        mate = has;
+        is_mate = w.1;
+        inner_label = says.0;
+        parent = i.parent;
+        lower = says.1;
+        edge = i.is_edge;
+        joins = i.joins;
+        tight = i.tight;
+        up_is = i.up_is;
+        up_outer = i.up_outer;
+        lowest = i.falls;
+      },
+    )
 
 module _ (s : State) (depth : ℕ → ℕ) (a : ℕ) (h : Hop) (is : IsHop s depth a h) where
   inner_is : other_node s.graph s.blossoms h.mate a ≡ h.inner
   inner_is = other_node_joins s.graph s.blossoms h.mate a h.inner is.is_mate.joins is.is_mate.different
 
   outer_is : other_node s.graph s.blossoms h.parent h.inner ≡ h.outer
-  outer_is = other_node_joins s.graph s.blossoms h.parent h.inner h.outer is.joins (differ depth h.inner h.outer is.lowest)
+  outer_is = other_node_joins s.graph s.blossoms h.parent h.inner h.outer is.joins (deeper_differs depth h.inner h.outer is.lowest)
 
   pub has_hop : HasHop s a
   has_hop = record { mate = h.mate; mate_is = is.is_mate.edge; mate_kept = is.mate; parent = h.parent; parent_is = is.edge; parent_kept = ap s.parent inner_is ∙ is.parent }
 
   pub read_is : (k : Hop) → IsRead s a k → k ≡ h
   read_is k r =
-      let mate : k.mate ≡ h.mate = some_same k.mate h.mate (sym r.mate ∙ is.mate) in
+      let mate : k.mate ≡ h.mate = same_Some k.mate h.mate (sym r.mate ∙ is.mate) in
       let inner : k.inner ≡ h.inner = r.inner ∙ ap (λ e. other_node s.graph s.blossoms e a) mate ∙ inner_is in
-      let parent : k.parent ≡ h.parent = some_same k.parent h.parent (sym r.parent ∙ ap s.parent inner ∙ is.parent) in
+      let parent : k.parent ≡ h.parent = same_Some k.parent h.parent (sym r.parent ∙ ap s.parent inner ∙ is.parent) in
       let outer : k.outer ≡ h.outer = r.outer ∙ ap (λ e. other_node s.graph s.blossoms e k.inner) parent ∙ ap (other_node s.graph s.blossoms h.parent) inner ∙ outer_is in
       λ i. record { mate = mate i; inner = inner i; parent = parent i; outer = outer i }
 
-  -- it leaves two nodes of the path behind
-  pub hop_shorter : (rank : ℕ → ℕ) → IsNested s.graph.vertices s.blossoms → IsSearchState s rank → length (path_of s h.outer) < length (path_of s a)
-  hop_shorter rank nested st =
-      let first : up_of s a ≡ h.inner = ap (λ l. far_end s (up_edge_by s l a) a) is.label ∙ ap (λ o. far_end s o a) is.mate ∙ inner_is in
-      let second : up_of s h.inner ≡ h.outer = ap (λ l. far_end s (up_edge_by s l h.inner) h.inner) is.inner_label ∙ ap (λ o. far_end s o h.inner) is.parent ∙ outer_is in
-      let one = path_up s rank nested st a h.inner is.is first in
-      let two = path_up s rank nested st h.inner h.outer is.is_mate.outer second in
-      omega (arith, ap length one, ap length two)
+  -- its two steps up
+  pub up_to_inner : up_of s a ≡ h.inner
+  up_to_inner = ap (λ l. far_end s (up_edge_by s l a) a) is.label ∙ ap (λ o. far_end s o a) is.mate ∙ inner_is
+
+  pub up_to_outer : up_of s h.inner ≡ h.outer
+  up_to_outer = ap (λ l. far_end s (up_edge_by s l h.inner) h.inner) is.inner_label ∙ ap (λ o. far_end s o h.inner) is.parent ∙ outer_is
+
+  module _ (rank : ℕ → ℕ) (nested : IsNested s.graph.vertices s.blossoms) (st : IsSearchState s rank) where
+    -- it leaves two nodes of the path behind
+    pub hop_path : path_of s a ≡ a ∷ (h.inner ∷ path_of s h.outer)
+    hop_path = path_up s rank nested st a h.inner is.is up_to_inner ∙ ap (λ xs. a ∷ xs) (path_up s rank nested st h.inner h.outer is.is_mate.outer up_to_outer)
+
+    pub hop_shorter : length (path_of s h.outer) < length (path_of s a)
+    hop_shorter = omega (arith, ap length hop_path)
+
+    pub hop_root : root_of s a ≡ root_of s h.outer
+    hop_root = root_up s rank nested st a h.inner is.is is.is_mate.outer up_to_inner ∙ root_up s rank nested st h.inner h.outer is.is_mate.outer is.up_is up_to_outer

@@ -3,7 +3,7 @@ use Rattle.std.proofs.Common.{◌≡◌, ◌≢◌, ℕ, List, Some, sym, ◌∙
 use Rattle.graph_theory.specs.Graph.{Multigraph}
 use Rattle.blossom_arena.specs.Family.{Blossom}
 use Rattle.alt_forest.specs.State.{State, IsOutermost, Joins, IsMate}
-use Rattle.alt_forest.proofs.Walk.{some_same}
+use Rattle.std.proofs.lemmas.Option.{same_Some}
 
 -- the other end of an edge is one node
 pub joins_unique : (g : Multigraph) (bs : List Blossom) (e a c d : ℕ) → Joins g bs e a c → Joins g bs e a d → a ≢ c → c ≡ d
@@ -23,12 +23,12 @@ mate_turned s a e c is has w = record { edge = w.edge; joins = joins_turned s.gr
 -- a node has one mate
 pub mate_unique : (s : State) (a f b h c : ℕ) → s.mate a ≡ Some f → s.mate a ≡ Some h → IsMate s a f b → IsMate s a h c → b ≡ c
 mate_unique s a f b h c has other v w =
-    let same : h ≡ f = some_same h f (sym other ∙ has) in
+    let same : h ≡ f = same_Some h f (sym other ∙ has) in
     joins_unique s.graph s.blossoms f a b c v.joins (subst (λ x. Joins s.graph s.blossoms x a c) same w.joins) v.different
 
 -- a node is the mate of one node alone
 pub partner_unique : (s : State) (a f b h c : ℕ) → IsMate s a f c → IsMate s b h c → a ≡ b
 partner_unique s a f b h c v w =
-    let same : h ≡ f = some_same h f (sym w.back ∙ v.back) in
+    let same : h ≡ f = same_Some h f (sym w.back ∙ v.back) in
     joins_unique s.graph s.blossoms f c a b (joins_turned s.graph s.blossoms f a c v.joins)
     (subst (λ x. Joins s.graph s.blossoms x c b) same (joins_turned s.graph s.blossoms h b c w.joins)) (λ q. v.different (sym q))

@@ -81,8 +81,8 @@ module _ (g : Multigraph) (R : ℕ → ℕ → Type 0) (same : (u : ℕ) → R u
       → (u v : ℕ) → is_vertex g.vertices u ≡ true → is_vertex g.vertices v ≡ true → outermost bs u ≡ a → outermost bs v ≡ b → R u v
   hop bs e a b one is j r u v iu iv eu ev =
       ⊎_elim
-      (λ p. join u _ v (one u (edge_of g e).u iu (u_vertex g e graph is) (eu ∙ sym p.0)) (join _ _ v r (one (edge_of g e).v v (v_vertex g e graph is) iv (p.1 ∙ sym ev))))
-      (λ p. join u _ v (one u (edge_of g e).v iu (v_vertex g e graph is) (eu ∙ sym p.1)) (join _ _ v (turn _ _ r) (one (edge_of g e).u v (u_vertex g e graph is) iv (p.0 ∙ sym ev))))
+      (λ p. join u _ v (one u (edge_of g e).u iu (u_vertex g e graph.ends is) (eu ∙ sym p.0)) (join _ _ v r (one (edge_of g e).v v (v_vertex g e graph.ends is) iv (p.1 ∙ sym ev))))
+      (λ p. join u _ v (one u (edge_of g e).v iu (v_vertex g e graph.ends is) (eu ∙ sym p.1)) (join _ _ v (turn _ _ r) (one (edge_of g e).u v (u_vertex g e graph.ends is) iv (p.0 ∙ sym ev))))
       j
 
   at_next : (bs : List Blossom) (z x : ℕ) → IsOneClass bs → is_vertex g.vertices x ≡ true → outermost bs x ≡ z → (ks : List Link)
@@ -99,8 +99,8 @@ module _ (g : Multigraph) (R : ℕ → ℕ → Type 0) (same : (u : ℕ) → R u
       (λ here.
       let at : outermost bs v ≡ l.node = sym (eqb-true l.node (outermost bs v) here) in
       ⊎_elim
-      (λ p. join v _ x (one v (edge_of g l.edge).u iv (u_vertex g l.edge graph chain.0) (at ∙ sym p.0)) (join _ _ x keeps.0 (at_next bs z x one ix ex rest later (edge_of g l.edge).v (v_vertex g l.edge graph chain.0) p.1)))
-      (λ p. join v _ x (one v (edge_of g l.edge).v iv (v_vertex g l.edge graph chain.0) (at ∙ sym p.1)) (join _ _ x (turn _ _ keeps.0) (at_next bs z x one ix ex rest later (edge_of g l.edge).u (u_vertex g l.edge graph chain.0) p.0)))
+      (λ p. join v _ x (one v (edge_of g l.edge).u iv (u_vertex g l.edge graph.ends chain.0) (at ∙ sym p.0)) (join _ _ x keeps.0 (at_next bs z x one ix ex rest later (edge_of g l.edge).v (v_vertex g l.edge graph.ends chain.0) p.1)))
+      (λ p. join v _ x (one v (edge_of g l.edge).v iv (v_vertex g l.edge graph.ends chain.0) (at ∙ sym p.1)) (join _ _ x (turn _ _ keeps.0) (at_next bs z x one ix ex rest later (edge_of g l.edge).u (u_vertex g l.edge graph.ends chain.0) p.0)))
       chain.1)
       (λ more. later v iv more)
       (or_cases (eqb l.node (outermost bs v)) (in_ring rest (outermost bs v)) r)
@@ -110,8 +110,8 @@ module _ (g : Multigraph) (R : ℕ → ℕ → Type 0) (same : (u : ℕ) → R u
   round bs one [] chain keeps u v iu iv ru rv = absurd (both_ways false refl ru)
   round bs one (l ∷ rest) chain keeps u v iu iv ru rv =
       ⊎_elim
-      (λ p. by_start (edge_of g l.edge).u (u_vertex g l.edge graph chain.0) p.0)
-      (λ p. by_start (edge_of g l.edge).v (v_vertex g l.edge graph chain.0) p.1)
+      (λ p. by_start (edge_of g l.edge).u (u_vertex g l.edge graph.ends chain.0) p.0)
+      (λ p. by_start (edge_of g l.edge).v (v_vertex g l.edge graph.ends chain.0) p.1)
       chain.1
     where
       by_start : (x : ℕ) → is_vertex g.vertices x ≡ true → outermost bs x ≡ l.node → R u v

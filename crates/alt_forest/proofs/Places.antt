@@ -2,14 +2,14 @@
 use Rattle.std.proofs.Common.{◌≡◌, ℕ, ◌≤◌, ◌<◌, eqb, cond, sym, ap, subst, arith, vec_len}
 use Rattle.blossom_arena.specs.Family.{IsNested}
 use Rattle.graph_theory.specs.Graph.{IsEdgeNumber, edge_of}
-use Rattle.graph_theory.proofs.Edges.{edge_of_within}
 use Rattle.blossom_arena.proofs.Lists.{by_test}
-use Rattle.blossom_arena.proofs.Nested.{outermost_parts, node_range, range_vertex}
+use Rattle.blossom_arena.proofs.Nested.{outermost_parts, node_range}
 use Rattle.blossom_arena.proofs.Sets.{outermost_has}
 use Rattle.alt_forest.specs.declared.search.Search.{Search}
 use Rattle.alt_forest.specs.State.{IsOutermost, node_u, node_v}
 use Rattle.alt_forest.specs.Trees.{node_limit, other_node}
 use Rattle.alt_forest.specs.Searches.{HasShape, state_of}
+use Rattle.blossom_arena.proofs.Ends.{u_vertex, v_vertex}
 
 -- the blossoms are nested over the graph's vertices
 pub nested_of : (s : Search) → HasShape s → IsNested s.graph.vertices s.arena.blossoms
@@ -31,13 +31,11 @@ mate_place s a h is = omega (arith, (outer_range s a h is).1, h.mates)
 -- the two outermost nodes at an edge
 pub u_outer : (s : Search) (e a : ℕ) → HasShape s → IsEdgeNumber s.graph e → a ≡ node_u s.graph s.arena.blossoms e → IsOutermost (state_of s) a
 u_outer s e a h is same =
-    let w = edge_of_within s.graph e h.graph.graph.ends is in
-    subst (IsOutermost (state_of s)) (sym same) (outermost_has s.graph.vertices s.arena.blossoms (edge_of s.graph e).u (nested_of s h) (range_vertex s.graph.vertices (edge_of s.graph e).u w.u_low w.u_high)).0
+    subst (IsOutermost (state_of s)) (sym same) (outermost_has s.graph.vertices s.arena.blossoms (edge_of s.graph e).u (nested_of s h) (u_vertex s.graph e h.graph.graph.ends is)).0
 
 pub v_outer : (s : Search) (e a : ℕ) → HasShape s → IsEdgeNumber s.graph e → a ≡ node_v s.graph s.arena.blossoms e → IsOutermost (state_of s) a
 v_outer s e a h is same =
-    let w = edge_of_within s.graph e h.graph.graph.ends is in
-    subst (IsOutermost (state_of s)) (sym same) (outermost_has s.graph.vertices s.arena.blossoms (edge_of s.graph e).v (nested_of s h) (range_vertex s.graph.vertices (edge_of s.graph e).v w.v_low w.v_high)).0
+    subst (IsOutermost (state_of s)) (sym same) (outermost_has s.graph.vertices s.arena.blossoms (edge_of s.graph e).v (nested_of s h) (v_vertex s.graph e h.graph.graph.ends is)).0
 
 pub other_outer : (s : Search) (e a : ℕ) → HasShape s → IsEdgeNumber s.graph e → IsOutermost (state_of s) (other_node s.graph s.arena.blossoms e a)
 other_outer s e a h is = by_test (eqb (node_u s.graph s.arena.blossoms e) a)

@@ -12,7 +12,7 @@ use Rattle.alt_forest.specs.State.{State, IsOutermost, Joins, slack_of, IsSearch
 use Rattle.alt_forest.specs.Trees.{node_limit, far_end, up_edge_by, up_of, path_of, last_of, root_of, IsRoot, cover}
 use Rattle.alt_forest.specs.Laws.{LeadsToRoot, WaysLeadToRoots, TreesHaveParity}
 use Rattle.alt_forest.proofs.Relabelled.{outer_not_out, inner_not_out}
-use Rattle.alt_forest.proofs.Walk.{other_node_joins, path_none}
+use Rattle.alt_forest.proofs.Walk.{other_node_joins, path_none, deeper_differs}
 use Rattle.alt_forest.proofs.Paths.{path_of-step}
 use Rattle.alt_forest.proofs.Parity.{NodesAgree, parity_sym, parity_trans, node_parity, edge_parity, agree_trans, vertex_of}
 
@@ -34,9 +34,6 @@ module _ (s : State) (depth : ℕ → ℕ) (nested : IsNested s.graph.vertices s
   pub up_or_root : (a : ℕ) → IsOutermost s a → s.label a ≢ Out → IsRoot s a ⊎ ((b : ℕ) × IsUp a b)
   up_or_root a is in_it = by_label (s.label a) refl
     where
-      apart : (b : ℕ) → depth b < depth a → a ≢ b
-      apart b low e = let same : depth a ≡ depth b = ap depth e in absurd (omega (arith, low))
-
       by_mate : s.label a ≡ Outer → (o : Option ℕ) → s.mate a ≡ o → IsRoot s a ⊎ ((b : ℕ) × IsUp a b)
       by_mate lab None none = inl (record { outermost = is; outer = lab; exposed = none })
       by_mate lab (Some e) has =
@@ -67,7 +64,7 @@ module _ (s : State) (depth : ℕ → ℕ) (nested : IsNested s.graph.vertices s
               is_edge = i.is_edge;
               joins = i.joins;
               tight = i.tight;
-              up = ap (λ l. far_end s (up_edge_by s l a) a) lab ∙ ap (λ o. far_end s o a) i.parent ∙ other_node_joins s.graph s.blossoms i.edge a i.up i.joins (apart i.up i.falls);
+              up = ap (λ l. far_end s (up_edge_by s l a) a) lab ∙ ap (λ o. far_end s o a) i.parent ∙ other_node_joins s.graph s.blossoms i.edge a i.up i.joins (deeper_differs depth a i.up i.falls);
               outer = i.up_is;
               in_tree = λ out. outer_not_out (sym i.up_outer ∙ out);
               falls = i.falls;

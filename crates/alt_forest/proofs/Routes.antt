@@ -11,8 +11,9 @@ use Rattle.alt_forest.specs.State.{State, IsOutermost, IsSearchState}
 use Rattle.alt_forest.specs.Trees.{first_common, last_of, path_of, up_of, node_limit}
 use Rattle.alt_forest.specs.Routes.{IsRoute, AreLevel}
 use Rattle.alt_forest.proofs.Relabelled.{some_not_none}
-use Rattle.alt_forest.proofs.Walk.{some_same, path_none, up_falls}
+use Rattle.alt_forest.proofs.Walk.{path_none, up_falls}
 use Rattle.alt_forest.proofs.Paths.{path_of-step}
+use Rattle.std.proofs.lemmas.Option.{same_Some}
 
 module _ (route : ℕ → List ℕ) where
   -- the route of a number on the list is a rest of the list
@@ -101,7 +102,7 @@ pub common_has : (xs ys : List ℕ) (x : ℕ) → first_common xs ys ≡ Some x 
 common_has [] ys x e = some_not_none x (sym e)
 common_has (z ∷ zs) ys x e = by_test (holds ys z)
     (λ t.
-    let same : z ≡ x = some_same z x (sym (ap (λ q. cond q (Some z) (first_common zs ys)) t) ∙ e) in
+    let same : z ≡ x = same_Some z x (sym (ap (λ q. cond q (Some z) (first_common zs ys)) t) ∙ e) in
     (or_left (eqb z x) (holds zs x) (eq-eqb z x same), sym (ap (holds ys) same) ∙ t))
     (λ t.
     let r = common_has zs ys x (sym (ap (λ q. cond q (Some z) (first_common zs ys)) t) ∙ e) in
@@ -149,7 +150,7 @@ shared_step (Some y) x xs ys zs rest found e f ne s =
 pub shared_end : (o : Option ℕ) (x : ℕ) (xs ys zs rest : List ℕ) (found : Option ℕ) → xs ≡ x ∷ rest → MatchOption o ((ys ≡ []) × (zs ≡ [])) (λ y. ys ≡ y ∷ zs) → o ≡ Some x → IsSearched xs ys found → Some x ≡ found
 shared_end None x xs ys zs rest found e f same s = some_not_none x (sym same)
 shared_end (Some y) x xs ys zs rest found e f same s =
-    let at : y ≡ x = some_same y x same in
+    let at : y ≡ x = same_Some y x same in
     sym (ap₂ first_common e (f ∙ ap (λ k. k ∷ zs) at) ∙ level_meet x rest zs) ∙ s.same
 
 -- the route of each number on it is the rest of the list

@@ -8,6 +8,11 @@ use Rattle.alt_forest.specs.declared.label.Label.TheVariants.{Outer, Inner, Out}
 use Rattle.alt_forest.specs.State.{State, IsOutermost, Joins, node_u, node_v, IsSearchState}
 use Rattle.alt_forest.proofs.Relabelled.{some_not_none}
 use Rattle.alt_forest.specs.Trees.{other_node, far_end, up_edge_by, up_edge, up_of, path_within}
+use Rattle.std.proofs.lemmas.Option.{same_Some}
+
+-- nodes of different depth differ
+pub deeper_differs : (depth : ℕ → ℕ) (a b : ℕ) → depth b < depth a → a ≢ b
+deeper_differs depth a b low e = let same : depth a ≡ depth b = ap depth e in absurd (omega (arith, low, same))
 
 -- the other end of an edge that joins two nodes
 pub other_node_joins : (g : Multigraph) (bs : List Blossom) (e a b : ℕ) → Joins g bs e a b → a ≢ b → other_node g bs e a ≡ b
@@ -16,14 +21,6 @@ other_node_joins g bs e a b j ne =
     (λ p. ap (λ t. cond t (node_v g bs e) (node_u g bs e)) (eq-eqb (node_u g bs e) a p.0) ∙ p.1)
     (λ p. ap (λ t. cond t (node_v g bs e) (node_u g bs e)) (ne_eqb (node_u g bs e) a (λ q. ne (sym q ∙ p.0))) ∙ p.0)
     j
-
--- entries that are there are one
-pub some_same : (a b : ℕ) → Some a ≡ Some b → a ≡ b
-some_same a b e = ap (λ o. got o) e
-  where
-    got : Option ℕ → ℕ
-    got None = 0
-    got (Some x) = x
 
 -- the edge upwards leads to an outermost node of less depth
 pub record IsStep (s : State) (depth : ℕ → ℕ) (a e b : ℕ) : Type 0 where
@@ -36,7 +33,7 @@ pub up_step : (s : State) (depth : ℕ → ℕ) (a e : ℕ) → IsSearchState s 
 up_step s depth a e h is has = by_label (s.label a) refl has
   where
     leads : (b : ℕ) → Joins s.graph s.blossoms e a b → depth b < depth a → up_of s a ≡ b
-    leads b j falls = ap (λ o. far_end s o a) has ∙ other_node_joins s.graph s.blossoms e a b j (λ p. let same : depth a ≡ depth b = ap depth p in absurd (omega (arith, falls)))
+    leads b j falls = ap (λ o. far_end s o a) has ∙ other_node_joins s.graph s.blossoms e a b j (deeper_differs depth a b falls)
 
     by_label : (l : Label) → s.label a ≡ l → up_edge_by s l a ≡ Some e → (b : ℕ) × IsStep s depth a e b
     by_label Outer lab there =
@@ -45,7 +42,7 @@ up_step s depth a e h is has = by_label (s.label a) refl has
         (m.0, record { edge = m.1.edge; up = leads m.0 m.1.joins low; outer = m.1.outer; falls = low })
     by_label Inner lab there =
         let i = (h.labels a is).inner lab in
-        let same : i.edge ≡ e = some_same i.edge e (sym i.parent ∙ there) in
+        let same : i.edge ≡ e = same_Some i.edge e (sym i.parent ∙ there) in
         (i.up, record { edge = subst (IsEdgeNumber s.graph) same i.is_edge; up = leads i.up (subst (λ x. Joins s.graph s.blossoms x a i.up) same i.joins) i.falls; outer = i.up_is; falls = i.falls })
     by_label Out lab there = some_not_none e (sym there)
 

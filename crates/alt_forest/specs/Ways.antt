@@ -36,6 +36,8 @@ pub record IsHop (s : State) (depth : ℕ → ℕ) (a : ℕ) (h : Hop) : Type 0 
   pub edge : IsEdgeNumber s.graph h.parent
   pub joins : Joins s.graph s.blossoms h.parent h.inner h.outer
   pub tight : slack_of s h.parent ≡ pos 0
+  pub up_is : IsOutermost s h.outer
+  pub up_outer : s.label h.outer ≡ Outer
   pub lowest : depth h.outer < depth h.inner
 
 -- hops from one outer node up to another

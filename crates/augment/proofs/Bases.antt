@@ -1,60 +1,23 @@
 -- The circuit of a blossom in a family, and the child that holds a vertex.
 use Rattle.std.proofs.Common.{◌≡◌, ◌≢◌, ℕ, ◌+◌, ◌%◌, ◌<◌, true, false, eqb, cond, List, [], ◌∷◌, ◌++◌, length, refl, sym, ap, ◌∙◌, subst, arith, length-append, ⊎_elim, Option, None}
 use Rattle.std.specs.List.{AllByRecursion}
-use Rattle.std.proofs.lemmas.Bool.{eq-eqb, or_left, or_right, or_parts, or_cases, both_ways, false_from_ne_true}
+use Rattle.std.proofs.lemmas.Bool.{eq-eqb, or_left, or_right, or_parts, both_ways, false_from_ne_true}
 use Rattle.graph_theory.specs.Graph.{Multigraph, IsEdgeNumber, edge_of}
 use Rattle.graph_theory.specs.Parts.{holds}
-use Rattle.graph_theory.proofs.Edges.{edge_of_within}
 use Rattle.blossom_arena.specs.declared.links.Link.{Link}
 use Rattle.graph_theory.specs.Nested.{most_blossoms}
-use Rattle.blossom_arena.specs.Family.{Blossom, Family, nodes_of, in_ring, names_of, is_vertex, is_node, is_child, outermost, members_of, ring_of, older_than, child_holding, chain_of, IsNested}
-use Rattle.blossom_arena.proofs.Lists.{by_test, AllNew, new_from_distinct}
-use Rattle.blossom_arena.proofs.Nested.{range_vertex, node_range, child_is_node, child_free}
-use Rattle.blossom_arena.proofs.Sets.{members_here, members_past, member_by_ring}
+use Rattle.blossom_arena.specs.Family.{Blossom, Family, nodes_of, in_ring, names_of, is_vertex, is_node, is_child, outermost, members_of, ring_of, older_than, chain_of, IsNested}
+use Rattle.blossom_arena.proofs.Lists.{AllNew}
+use Rattle.blossom_arena.proofs.Nested.{node_range, child_is_node}
 use Rattle.blossom_arena.proofs.Parents.{ring_child, chain_node, chain_through, nested_older, older_fresh}
 use Rattle.alt_forest.specs.State.{Joins, next_node, IsChainTo}
 use Rattle.augment.specs.Opening.{CanOpen, Opens, IsBare, IsSpread, links_before, links_after, marked, up_to, spread, spread_in, paired, first_matched, waiting_after}
-use Rattle.blossom_arena.proofs.LinkLists.{each_parts, in_ring-append}
+use Rattle.blossom_arena.proofs.LinkLists.{each_parts, in_ring-append, each_link}
 use Rattle.alt_forest.proofs.Rounds.{GoesRound, goes_round, leads_round}
 use Rattle.augment.proofs.LinkPairs.{ArePartedAt, parted_at, before_none, paired_append, paired_same, first_is}
 use Rattle.augment.proofs.Spreads.{pairs_up}
-
--- a name that isn't the newest is an older one
-older_name : (b : Blossom) (older : List Blossom) (a : ℕ) → eqb b.node a ≡ false → holds (names_of (b ∷ older)) a ≡ true → holds (names_of older) a ≡ true
-older_name b older a ne k = ⊎_elim (λ s. absurd (both_ways (eqb b.node a) ne s)) (λ m. m) (or_cases (eqb b.node a) (holds (names_of older) a) k)
-
--- what is known of the ring of a blossom
-pub record HasRing (n : ℕ) (bs : List Blossom) (a : ℕ) : Type 0 where
-  pub different : AllNew (nodes_of (ring_of bs a))
-  pub odd : length (ring_of bs a) % 2 ≡ 1
-  pub holder : (v : ℕ) → is_vertex n v ≡ true → holds (members_of bs a) v ≡ true → in_ring (ring_of bs a) (child_holding bs a v) ≡ true
-  pub held : (v : ℕ) → is_vertex n v ≡ true → in_ring (ring_of bs a) (child_holding bs a v) ≡ true → holds (members_of bs a) v ≡ true
-  pub free : (c : ℕ) → in_ring (ring_of bs a) c ≡ true → is_child (older_than bs a) c ≡ false
-
-pub has_ring : (n : ℕ) (bs : List Blossom) (a : ℕ) → IsNested n bs → holds (names_of bs) a ≡ true → HasRing n bs a
-has_ring n [] a h k = absurd (both_ways false refl k)
-has_ring n (b ∷ older) a h k =
-    by_test (eqb b.node a)
-    (λ s. let ring : ring_of (b ∷ older) a ≡ b.ring = ap (λ q. cond q b.ring (ring_of older a)) s in
-    record {
-      different = subst (λ (r : List Link). AllNew (nodes_of r)) (sym ring) (new_from_distinct (nodes_of b.ring) h.0.circuit.different);
-      odd = ap (λ (r : List Link). length r % 2) ring ∙ h.0.circuit.odd;
-      holder = λ v iv m. ap (λ (r : List Link). in_ring r (child_holding (b ∷ older) a v)) ring ∙ ap (λ q. in_ring b.ring (outermost (cond q older (older_than older a)) v)) s
-          ∙ sym (member_by_ring n older b v h iv) ∙ sym (ap (λ ms. holds ms v) (members_here b older a s)) ∙ m;
-      held = λ v iv r. ap (λ ms. holds ms v) (members_here b older a s) ∙ member_by_ring n older b v h iv
-          ∙ sym (ap (λ (r : List Link). in_ring r (child_holding (b ∷ older) a v)) ring ∙ ap (λ q. in_ring b.ring (outermost (cond q older (older_than older a)) v)) s) ∙ r;
-      free = λ c r. ap (λ q. is_child (cond q older (older_than older a)) c) s ∙ child_free n older b c h.0 (sym (ap (λ (x : List Link). in_ring x c) ring) ∙ r);
-    })
-    (λ s. let ring : ring_of (b ∷ older) a ≡ ring_of older a = ap (λ q. cond q b.ring (ring_of older a)) s in
-    let r = has_ring n older a h.1 (older_name b older a s k) in
-    record {
-      different = subst (λ (r : List Link). AllNew (nodes_of r)) (sym ring) r.different;
-      odd = ap (λ (r : List Link). length r % 2) ring ∙ r.odd;
-      holder = λ v iv m. ap (λ (r : List Link). in_ring r (child_holding (b ∷ older) a v)) ring ∙ ap (λ q. in_ring (ring_of older a) (outermost (cond q older (older_than older a)) v)) s
-          ∙ r.holder v iv (sym (ap (λ ms. holds ms v) (members_past b older a s)) ∙ m);
-      held = λ v iv i. ap (λ ms. holds ms v) (members_past b older a s) ∙ r.held v iv (sym (ap (λ (r : List Link). in_ring r (child_holding (b ∷ older) a v)) ring ∙ ap (λ q. in_ring (ring_of older a) (outermost (cond q older (older_than older a)) v)) s) ∙ i);
-      free = λ c i. ap (λ q. is_child (cond q older (older_than older a)) c) s ∙ r.free c (sym (ap (λ (x : List Link). in_ring x c) ring) ∙ i);
-    })
+use Rattle.blossom_arena.proofs.Older.{ring_new, ring_odd, holder, held, has_ring}
+use Rattle.blossom_arena.proofs.Ends.{u_vertex, v_vertex}
 
 -- what holds of the edges of a ring, in parts of it
 pub chain_edges : (g : Multigraph) (bs : List Blossom) (ls : List Link) (z : ℕ) → IsChainTo g bs ls z → AllByRecursion (λ (l : Link). IsEdgeNumber g l.edge) ls
@@ -90,17 +53,11 @@ module _ (g : Multigraph) (f : Family) (m : ℕ → Option ℕ) (b : ℕ) (can :
   nested : IsNested g.vertices bs
   nested = subst (λ n. IsNested n bs) can.vertices can.family.nested
 
-  known : HasRing g.vertices bs b
-  known = has_ring g.vertices bs b nested can.blossom
-
-  vertex_u : (e : ℕ) → IsEdgeNumber g e → is_vertex g.vertices (edge_of g e).u ≡ true
-  vertex_u e is = let w = edge_of_within g e can.ends is in range_vertex g.vertices (edge_of g e).u w.u_low w.u_high
-
-  vertex_v : (e : ℕ) → IsEdgeNumber g e → is_vertex g.vertices (edge_of g e).v ≡ true
-  vertex_v e is = let w = edge_of_within g e can.ends is in range_vertex g.vertices (edge_of g e).v w.v_low w.v_high
+  different : AllNew (nodes_of ring)
+  different = ring_new g.vertices bs b nested can.blossom
 
   pub base_in : in_ring ring base ≡ true
-  base_in = ap (in_ring ring) (sym can.is_base.base_holds) ∙ known.holder can.is_base.end can.is_base.end_vertex can.is_base.end_in
+  base_in = ap (in_ring ring) (sym can.is_base.base_holds) ∙ holder g.vertices bs b nested can.blossom can.is_base.end can.is_base.end_vertex can.is_base.end_in
 
   -- the code's base
   pub found : first_matched m ring ≡ base
@@ -110,7 +67,7 @@ module _ (g : Multigraph) (f : Family) (m : ℕ → Option ℕ) (b : ℕ) (can :
   parted = parted_at ring base base_in
 
   round : GoesRound ring base (links_after ring base ++ links_before ring base)
-  round = subst (λ x. GoesRound ring x (links_after ring base ++ links_before ring base)) parted.base_is (goes_round ring (links_before ring base) parted.base (links_after ring base) parted.split known.different)
+  round = subst (λ x. GoesRound ring x (links_after ring base ++ links_before ring base)) parted.base_is (goes_round ring (links_before ring base) parted.base (links_after ring base) parted.split different)
 
   pub each_edge : AllByRecursion (λ (l : Link). IsEdgeNumber g l.edge) ring
   each_edge = chain_edges g older ring (next_node ring 0) can.ring
@@ -119,11 +76,7 @@ module _ (g : Multigraph) (f : Family) (m : ℕ → Option ℕ) (b : ℕ) (can :
   behind_edges = (each_parts (λ (l : Link). IsEdgeNumber g l.edge) (links_before ring base) (parted.base ∷ links_after ring base) (subst (λ (x : List Link). AllByRecursion (λ (l : Link). IsEdgeNumber g l.edge) x) parted.split each_edge)).1.1
 
   pub ring_places : (k : ℕ) → g.vertices + most_blossoms g.vertices < k → AllByRecursion (λ (l : Link). l.node < k) ring
-  ring_places k low = places_from k ring (λ c r. omega (arith, low, (node_range g.vertices bs c nested (child_is_node g.vertices bs c nested (ring_child bs b c r))).1))
-    where
-      places_from : (k : ℕ) (ls : List Link) → ((c : ℕ) → in_ring ls c ≡ true → c < k) → AllByRecursion (λ (l : Link). l.node < k) ls
-      places_from k [] h = tt
-      places_from k (l ∷ ls) h = (h l.node (or_left (eqb l.node l.node) (in_ring ls l.node) (eq-eqb l.node l.node refl)), places_from k ls (λ c e. h c (or_right (eqb l.node c) (in_ring ls c) e)))
+  ring_places k low = each_link (λ c. c < k) ring (λ c r. omega (arith, low, (node_range g.vertices bs c nested (child_is_node g.vertices bs c nested (ring_child bs b c r))).1))
 
   chained : IsChainTo g older (links_after ring base ++ links_before ring base) parted.base.node
   chained = (leads_round ring (links_before ring base) parted.base (links_after ring base) parted.split g older can.ring).chain
@@ -133,12 +86,12 @@ module _ (g : Multigraph) (f : Family) (m : ℕ → Option ℕ) (b : ℕ) (can :
   same_spread l is c d j rc rd n =
       let u : ℕ = (edge_of g l.edge).u in
       let v : ℕ = (edge_of g l.edge).v in
-      let iu = vertex_u l.edge is in
-      let iv = vertex_v l.edge is in
+      let iu = u_vertex g l.edge can.ends is in
+      let iv = v_vertex g l.edge can.ends is in
       let at_u : in_ring ring (outermost older u) ≡ true = ⊎_elim (λ p. ap (in_ring ring) p.0 ∙ rc) (λ p. ap (in_ring ring) p.0 ∙ rd) j in
       let at_v : in_ring ring (outermost older v) ≡ true = ⊎_elim (λ p. ap (in_ring ring) p.1 ∙ rd) (λ p. ap (in_ring ring) p.1 ∙ rc) j in
-      let wu = within g.vertices bs b u nested iu can.blossom (known.held u iu at_u) in
-      let wv = within g.vertices bs b v nested iv can.blossom (known.held v iv at_v) in
+      let wu = within g.vertices bs b u nested iu can.blossom (held g.vertices bs b nested can.blossom u iu at_u) in
+      let wv = within g.vertices bs b v nested iv can.blossom (held g.vertices bs b nested can.blossom v iv at_v) in
       ap (λ cs. marked (marked n cs l.edge) (up_to (chain_of bs v) b) l.edge) wu ∙ ap (λ cs. marked (marked n (chain_of older u) l.edge) cs l.edge) wv
 
   all_same : (ls : List Link) (z : ℕ) → IsChainTo g older ls z → ((c : ℕ) → in_ring ls c ≡ true → in_ring ring c ≡ true) → in_ring ring z ≡ true → AllByRecursion (λ (l : Link). (n : ℕ → Option ℕ) → spread_in g bs b n l.edge ≡ spread g older n l.edge) ls
@@ -166,8 +119,8 @@ module _ (g : Multigraph) (f : Family) (m : ℕ → Option ℕ) (b : ℕ) (can :
       let apart = or_parts (in_ring behind base) (in_ring before base) (sym (in_ring-append behind before base) ∙ round.base_apart) in
       let whole : links_before behind base ≡ behind = before_none behind base apart.0 in
       let sizes : length ring ≡ length (behind ++ before) + 1 = sized in
-      let even : length (behind ++ before) % 2 ≡ 0 = omega (arith, sizes, known.odd) in
-      let free : (c : ℕ) → in_ring ring c ≡ true → is_child older c ≡ false = known.free in
+      let even : length (behind ++ before) % 2 ≡ 0 = omega (arith, sizes, ring_odd g.vertices bs b nested can.blossom) in
+      let free : (c : ℕ) → in_ring ring c ≡ true → is_child older c ≡ false = (has_ring g.vertices bs b nested can.blossom).free in
       let not_base : (c : ℕ) → in_ring (behind ++ before) c ≡ true → c ≢ base = λ c r q. both_ways (in_ring (behind ++ before) base) round.base_apart (ap (in_ring (behind ++ before)) (sym q) ∙ r) in
       let is : third ≡ paired (spread g older) m None (behind ++ before) =
       is3 ∙ ap (λ (x : ℕ → Option ℕ). paired (spread_in g bs b) x w before) (is2 ∙ ap (paired (spread_in g bs b) m None) whole)

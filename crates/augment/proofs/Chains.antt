@@ -4,7 +4,7 @@ use Rattle.std.proofs.lemmas.Bool.{eq-eqb, eqb-true, eqb-false, or_left, or_righ
 use Rattle.graph_theory.specs.Parts.{holds}
 use Rattle.graph_theory.proofs.Members.{holds-append}
 use Rattle.blossom_arena.specs.Family.{Blossom, in_ring, is_vertex, is_node, is_child, outermost, chain_of, IsNested}
-use Rattle.blossom_arena.proofs.Lists.{by_test}
+use Rattle.blossom_arena.proofs.Lists.{by_test, only_one}
 use Rattle.blossom_arena.proofs.Nested.{child_free, new_free}
 use Rattle.blossom_arena.proofs.Sets.{member_by_ring}
 use Rattle.blossom_arena.proofs.Parents.{chain_node}
@@ -58,10 +58,7 @@ chain_top n (b ∷ older) v c h iv e free = by_test (holds b.members v)
 
 -- two ways up that share a node end at one
 pub same_top : (n : ℕ) (bs : List Blossom) (u v c : ℕ) → IsNested n bs → is_vertex n u ≡ true → is_vertex n v ≡ true → holds (chain_of bs u) c ≡ true → holds (chain_of bs v) c ≡ true → outermost bs u ≡ outermost bs v
-same_top n [] u v c h iu iv eu ev = below_none u c eu ∙ sym (below_none v c ev)
-  where
-    below_none : (w d : ℕ) → holds (w ∷ []) d ≡ true → w ≡ d
-    below_none w d e = ⊎_elim (λ q. eqb-true w d q) (λ q. absurd (both_ways false refl q)) (or_cases (eqb w d) false e)
+same_top n [] u v c h iu iv eu ev = only_one u c eu ∙ sym (only_one v c ev)
 same_top n (b ∷ older) u v c h iu iv eu ev = by_test (holds b.members u)
     (λ mu. by_test (holds b.members v)
     (λ mv. outer_in b older u mu ∙ sym (outer_in b older v mv))

@@ -9,7 +9,10 @@ use Rattle.alt_forest.specs.Trees.{path_of, root_of, IsRoot}
 use Rattle.alt_forest.specs.Searches.{put}
 use Rattle.alt_forest.proofs.Relabelled.{outer_not_out, inner_not_out, put_here, put_other}
 use Rattle.alt_forest.proofs.Roots.{path_root, root_self}
-use Rattle.augment.proofs.Turning.{IsBelow, GoesOn, path_goes_on}
+use Rattle.alt_forest.specs.declared.hop.Hop.{Hop}
+use Rattle.alt_forest.specs.Ways.{IsHop}
+use Rattle.alt_forest.proofs.Hops.{hop_path, hop_root}
+use Rattle.alt_forest.proofs.Walk.{deeper_differs}
 
 -- The edge e leads from near to far. The flip has come to `node`, which takes the edge `by`: far has e, and so has near
 -- once the flip has left it, and what is off the path is as before.
@@ -29,39 +32,35 @@ changed_first s depth e near far = record {
   one_root = refl;
 }
 
-deeper : (depth : ℕ → ℕ) (a b : ℕ) → depth b < depth a → a ≢ b
-deeper depth a b low q = let same : depth a ≡ depth b = ap depth q in absurd (omega (arith, low, same))
-
 module _ (s : State) (depth : ℕ → ℕ) (nested : IsNested s.graph.vertices s.blossoms) (st : IsSearchState s depth) (e near far : ℕ) (m : ℕ → Option ℕ) (by node : ℕ) (h : IsChanged s depth e near far m by node) (far_out : s.label far ≡ Out)
     (is : IsOutermost s node) (outer : s.label node ≡ Outer) where
   not_far : far ≢ node
   not_far q = outer_not_out (sym outer ∙ ap s.label (sym q) ∙ far_out)
 
-  -- it goes on two edges up
-  pub changed_on : (mate : ℕ) → (b : IsBelow s depth node mate) → (n : ℕ → Option ℕ) → n ≡ put (put m node (Some by)) b.inner (Some b.says.edge) → IsChanged s depth e near far n b.says.edge b.says.up
-  changed_on mate b n now =
-      let up : ℕ = b.says.up in
-      let on : GoesOn s node b.inner up = path_goes_on s depth node mate nested st is outer b in
-      let there : (a : ℕ) → holds (node ∷ (b.inner ∷ path_of s up)) a ≡ true → holds (path_of s near) a ≡ true = λ a r. h.on_path a (ap (λ xs. holds xs a) on.path ∙ r) in
-      let node_there : holds (path_of s near) node ≡ true = there node (or_left (eqb node node) (holds (b.inner ∷ path_of s up) node) (eq-eqb node node refl)) in
-      let inner_there : holds (path_of s near) b.inner ≡ true = there b.inner (or_right (eqb node b.inner) (holds (b.inner ∷ path_of s up) b.inner) (or_left (eqb b.inner b.inner) (holds (path_of s up) b.inner) (eq-eqb b.inner b.inner refl))) in
-      let same : (a : ℕ) → a ≢ node → a ≢ b.inner → n a ≡ m a = λ a p q. ap (λ f. f a) now ∙ put_other (put m node (Some by)) b.inner (Some b.says.edge) a q ∙ put_other m node (Some by) a p in
+  -- it goes on from the outer node of the hop
+  pub changed_on : (k : Hop) → IsHop s depth node k → (n : ℕ → Option ℕ) → n ≡ put (put m node (Some by)) k.inner (Some k.parent) → IsChanged s depth e near far n k.parent k.outer
+  changed_on k hop n now =
+      let up : ℕ = k.outer in
+      let there : (a : ℕ) → holds (node ∷ (k.inner ∷ path_of s up)) a ≡ true → holds (path_of s near) a ≡ true = λ a r. h.on_path a (ap (λ xs. holds xs a) (hop_path s depth node k hop depth nested st) ∙ r) in
+      let node_there : holds (path_of s near) node ≡ true = there node (or_left (eqb node node) (holds (k.inner ∷ path_of s up) node) (eq-eqb node node refl)) in
+      let inner_there : holds (path_of s near) k.inner ≡ true = there k.inner (or_right (eqb node k.inner) (holds (k.inner ∷ path_of s up) k.inner) (or_left (eqb k.inner k.inner) (holds (path_of s up) k.inner) (eq-eqb k.inner k.inner refl))) in
+      let same : (a : ℕ) → a ≢ node → a ≢ k.inner → n a ≡ m a = λ a p q. ap (λ f. f a) now ∙ put_other (put m node (Some by)) k.inner (Some k.parent) a q ∙ put_other m node (Some by) a p in
       record {
-        far_has = same far not_far (λ q. inner_not_out (sym b.label ∙ ap s.label (sym q) ∙ far_out)) ∙ h.far_has;
+        far_has = same far not_far (λ q. inner_not_out (sym hop.inner_label ∙ ap s.label (sym q) ∙ far_out)) ∙ h.far_has;
         near_has = inr
             (⊎_elim
             (λ p.
             let same_depth : depth near ≡ depth node = ap depth p.0 in (
-              ap n p.0 ∙ ap (λ f. f node) now ∙ put_other (put m node (Some by)) b.inner (Some b.says.edge) node b.is_mate.different ∙ put_here m node (Some by) ∙ ap (λ x. Some x) (sym p.1),
-              omega (arith, b.lower, b.says.falls, same_depth),
+              ap n p.0 ∙ ap (λ f. f node) now ∙ put_other (put m node (Some by)) k.inner (Some k.parent) node hop.is_mate.different ∙ put_here m node (Some by) ∙ ap (λ x. Some x) (sym p.1),
+              omega (arith, hop.lower, hop.lowest, same_depth),
             ))
-            (λ p. (same near (deeper depth near node p.1) (deeper depth near b.inner (omega (arith, p.1, b.lower))) ∙ p.0, omega (arith, b.lower, b.says.falls, p.1)))
+            (λ p. (same near (deeper_differs depth near node p.1) (deeper_differs depth near k.inner (omega (arith, p.1, hop.lower))) ∙ p.0, omega (arith, hop.lower, hop.lowest, p.1)))
             h.near_has);
         keeps = λ a ne off.
             same a (λ q. both_ways (holds (path_of s near) a) off (ap (holds (path_of s near)) q ∙ node_there)) (λ q. both_ways (holds (path_of s near) a) off (ap (holds (path_of s near)) q ∙ inner_there))
             ∙ h.keeps a ne off;
-        on_path = λ a r. there a (or_right (eqb node a) (holds (b.inner ∷ path_of s up) a) (or_right (eqb b.inner a) (holds (path_of s up) a) r));
-        one_root = h.one_root ∙ on.root;
+        on_path = λ a r. there a (or_right (eqb node a) (holds (k.inner ∷ path_of s up) a) (or_right (eqb k.inner a) (holds (path_of s up) a) r));
+        one_root = h.one_root ∙ hop_root s depth node k hop depth nested st;
       }
 
   -- the root takes the last edge
@@ -77,7 +76,7 @@ module _ (s : State) (depth : ℕ → ℕ) (nested : IsNested s.graph.vertices s
       record {
         near_has = ⊎_elim
             (λ p. ap (put m node (Some by)) p.0 ∙ put_here m node (Some by) ∙ ap (λ x. Some x) (sym p.1))
-            (λ p. put_other m node (Some by) near (deeper depth near node p.1) ∙ p.0)
+            (λ p. put_other m node (Some by) near (deeper_differs depth near node p.1) ∙ p.0)
             h.near_has;
         far_has = put_other m node (Some by) far not_far ∙ h.far_has;
         keeps = λ a ne off. put_other m node (Some by) a (λ q. both_ways (holds (path_of s near) a) off (ap (holds (path_of s near)) q ∙ node_there)) ∙ h.keeps a ne off;

@@ -6,24 +6,21 @@ use Rattle.std.proofs.lemmas.List.FromFn.{get_or-map-range_with_len, length-map-
 use Rattle.graph_theory.specs.declared.edge.Edge.{Edge}
 use Rattle.graph_theory.specs.Graph.{Multigraph, IsEdgeWithin, IsEdgeNumber, edge_of, edge_at, touches, other_end, IsPerfect}
 use Rattle.graph_theory.specs.Parts.{holds, crosses}
-use Rattle.graph_theory.proofs.SumLemmas.{sum_to-same, sum_to-at_one}
+use Rattle.graph_theory.proofs.SumLemmas.{sum_to-same, sum_to-at_one, one_if-most}
 use Rattle.graph_theory.proofs.Edges.{edge_of_within, edge_of-place, number_of-place, degree-touches, other_end-u, other_end-v}
 use Rattle.blossom_arena.specs.Family.{is_vertex, is_outermost}
 use Rattle.blossom_arena.proofs.Lists.{by_test}
 use Rattle.blossom_arena.proofs.Nested.{range_vertex}
-use Rattle.alt_forest.proofs.Walk.{some_same}
 use Rattle.augment.specs.Matching.{is_edge, mate_counts, IsVertexMate, leaving}
 use Rattle.augment.specs.Opening.{IsPair, AreMated}
 use Rattle.augment.proofs.Left.{IsLeftOnce, leaves}
+use Rattle.std.proofs.lemmas.Option.{same_Some}
+use Rattle.blossom_arena.proofs.Ends.{u_vertex, v_vertex}
 
 pub vertex_outer : (n v : ℕ) → is_vertex n v ≡ true → is_outermost n [] v ≡ true
 vertex_outer n v iv = rw iv refl
 
-one_at_most : (t : Bool) → cond t 1 0 ≤ 1
-one_at_most true = omega arith
-one_at_most false = omega arith
-
-is_edge-true : (o : Option ℕ) (e : ℕ) → is_edge o e ≡ true → o ≡ Some e
+pub is_edge-true : (o : Option ℕ) (e : ℕ) → is_edge o e ≡ true → o ≡ Some e
 is_edge-true None e h = absurd (both_ways false refl h)
 is_edge-true (Some f) e h = ap (λ x. Some x) (eqb-true f e h)
 
@@ -62,23 +59,20 @@ module _ (g : Multigraph) (m : ℕ → Option ℕ) (ends : All (IsEdgeWithin g.v
       let x = end_of v r.0 r.1 r.3 in
       record { edge = r.0; is_edge = x.number; has = r.2; at_v = x.touches_v; back = x.back }
 
-  end_vertex : (e : ℕ) → IsEdgeNumber g e → (is_vertex n (edge_of g e).u ≡ true) × (is_vertex n (edge_of g e).v ≡ true)
-  end_vertex e is = let w = edge_of_within g e ends is in (range_vertex n (edge_of g e).u w.u_low w.u_high, range_vertex n (edge_of g e).v w.v_low w.v_high)
-
   -- an edge is the mate of both of its ends, or of none
   to_v : (e : ℕ) → IsEdgeNumber g e → m (edge_of g e).u ≡ Some e → m (edge_of g e).v ≡ Some e
   to_v e is has =
       let x = edge_of g e in
-      let r = mated x.u (vertex_outer n x.u (end_vertex e is).0) in
-      let same : r.0 ≡ e = some_same r.0 e (sym r.2 ∙ has) in
+      let r = mated x.u (vertex_outer n x.u (u_vertex g e ends is)) in
+      let same : r.0 ≡ e = same_Some r.0 e (sym r.2 ∙ has) in
       let p = end_of x.u e r.1 (subst (λ k. IsPair g [] m x.u k r.1) same r.3) in
       ap m (sym (other_end-u x)) ∙ p.back
 
   to_u : (e : ℕ) → IsEdgeNumber g e → m (edge_of g e).v ≡ Some e → m (edge_of g e).u ≡ Some e
   to_u e is has =
       let x = edge_of g e in
-      let r = mated x.v (vertex_outer n x.v (end_vertex e is).1) in
-      let same : r.0 ≡ e = some_same r.0 e (sym r.2 ∙ has) in
+      let r = mated x.v (vertex_outer n x.v (v_vertex g e ends is)) in
+      let same : r.0 ≡ e = same_Some r.0 e (sym r.2 ∙ has) in
       let p = end_of x.v e r.1 (subst (λ k. IsPair g [] m x.v k r.1) same r.3) in
       ap m (sym (other_end-v n x (edge_of_within g e ends is))) ∙ p.back
 
@@ -108,8 +102,8 @@ module _ (g : Multigraph) (m : ℕ → Option ℕ) (ends : All (IsEdgeWithin g.v
       (λ here. let free : is_edge (m (edge_at g k).u) (k + 1) ≡ false = false_from_ne_true (is_edge (m (edge_at g k).u) (k + 1)) (λ taken.
       let at_u : m (edge_of g (k + 1)).u ≡ Some (k + 1) = ap (λ (y : Edge). m y.u) place ∙ is_edge-true (m (edge_at g k).u) (k + 1) taken in
       ne (⊎_elim
-      (λ q. some_same x.edge (k + 1) (sym x.has ∙ ap m (sym (eqb-true (edge_of g (k + 1)).u v q)) ∙ at_u))
-      (λ q. some_same x.edge (k + 1) (sym x.has ∙ ap m (sym (eqb-true (edge_of g (k + 1)).v v q)) ∙ to_v (k + 1) number at_u))
+      (λ q. same_Some x.edge (k + 1) (sym x.has ∙ ap m (sym (eqb-true (edge_of g (k + 1)).u v q)) ∙ at_u))
+      (λ q. same_Some x.edge (k + 1) (sym x.has ∙ ap m (sym (eqb-true (edge_of g (k + 1)).v v q)) ∙ to_v (k + 1) number at_u))
       (or_cases (eqb (edge_of g (k + 1)).u v) (eqb (edge_of g (k + 1)).v v) (ap (λ (y : Edge). touches y v) place ∙ here)))) in
       ap (λ t. cond t (slice_index counts k) 0) here ∙ count_at k low ∙ ap (λ t. cond t 1 0) free ∙ sym (ap (λ t. cond t 1 0) s))
       (λ off. ap (λ t. cond t (slice_index counts k) 0) off ∙ sym (ap (λ t. cond t 1 0) s)))
@@ -120,7 +114,7 @@ module _ (g : Multigraph) (m : ℕ → Option ℕ) (ends : All (IsEdgeWithin g.v
     at_most_one = λ k d low.
         let size : length counts ≡ length g.edges = length-map-range_with_len (λ e. cond (is_edge (m (edge_of g e).u) e) 1 0) 1 (length g.edges) in
         subst (λ c. c ≤ 1) (sym (get_or-map-range_with_len (λ e. cond (is_edge (m (edge_of g e).u) e) 1 0) 1 (length g.edges) k (k + 1) d (omega (arith, size, low)) (omega arith)))
-        (one_at_most (is_edge (m (edge_of g (k + 1)).u) (k + 1)));
+        (one_if-most (is_edge (m (edge_of g (k + 1)).u) (k + 1)));
     degrees = λ v low high.
         let x = vertex_mate v (range_vertex n v low high) in
         degree-touches g counts v ends
@@ -130,12 +124,12 @@ module _ (g : Multigraph) (m : ℕ → Option ℕ) (ends : All (IsEdgeWithin g.v
 
   -- a vertex at each edge that is a mate
   taken_at : (x : ℕ → Bool) (l : IsLeftOnce g [] m x) (e : ℕ) → IsEdgeNumber g e → is_edge (m (edge_of g e).u) e ≡ true → leaves x (edge_of g e) ≡ true → e ≡ l.edge
-  taken_at x l e is taken out = l.only (edge_of g e).u e (vertex_outer n (edge_of g e).u (end_vertex e is).0) (is_edge-true (m (edge_of g e).u) e taken) out
+  taken_at x l e is taken out = l.only (edge_of g e).u e (vertex_outer n (edge_of g e).u (u_vertex g e ends is)) (is_edge-true (m (edge_of g e).u) e taken) out
 
   left_number : (x : ℕ → Bool) (l : IsLeftOnce g [] m x) → IsEdgeNumber g l.edge × (is_edge (m (edge_of g l.edge).u) l.edge ≡ true)
   left_number x l =
       let r = mated l.node l.node_is in
-      let same : r.0 ≡ l.edge = some_same r.0 l.edge (sym r.2 ∙ l.taken) in
+      let same : r.0 ≡ l.edge = same_Some r.0 l.edge (sym r.2 ∙ l.taken) in
       let p = subst (λ k. IsPair g [] m l.node k r.1) same r.3 in
       (p.edge, is_edge-some (m (edge_of g l.edge).u) l.edge (⊎_elim (λ j. ap m j.0 ∙ l.taken) (λ j. ap m j.0 ∙ p.back) p.joins))
 

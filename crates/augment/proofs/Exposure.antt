@@ -1,5 +1,5 @@
 -- How many outermost nodes are exposed, once two more have a mate.
-use Rattle.std.proofs.Common.{◌≡◌, ◌≢◌, ◌↔◌, ℕ, ◌+◌, ◌≤◌, Bool, true, false, not, ◌&&◌, eqb, cond, Option, Some, None, refl, sym, ap, ◌∙◌, arith}
+use Rattle.std.proofs.Common.{◌≡◌, ◌≢◌, ◌↔◌, ℕ, ◌+◌, ◌≤◌, true, false, not, ◌&&◌, eqb, Option, refl, sym, ap, ◌∙◌, arith}
 use Rattle.std.specs.Prelude.{is_some}
 use Rattle.std.proofs.lemmas.Bool.{both_ways, ne_eqb, eqb-true, eqb-false}
 use Rattle.graph_theory.specs.Sums.{sum_to}
@@ -10,6 +10,8 @@ use Rattle.alt_forest.specs.State.{State, IsOutermost, IsExposed}
 use Rattle.alt_forest.specs.Trees.{node_limit}
 use Rattle.alt_forest.specs.Counts.{is_exposed, exposed_count}
 use Rattle.augment.specs.Turns.{with_mates}
+use Rattle.alt_forest.proofs.Counted.{one_if, no_entry}
+use Rattle.std.proofs.Math.Bool.{and-false}
 
 -- which nodes have a mate more: these two, that had none
 pub record HasTwoMore (s : State) (m : ℕ → Option ℕ) (x y : ℕ) : Type 0 where
@@ -25,9 +27,6 @@ pub record HasTwoMore (s : State) (m : ℕ → Option ℕ) (x y : ℕ) : Type 0 
   pub x_has : is_some (m x) ≡ true
   pub y_has : is_some (m y) ≡ true
   pub others : (c : ℕ) → c ≢ x → c ≢ y → is_some (m c) ≡ is_some (s.mate c)
-
-abbrev one_if : Bool → ℕ
-one_if t = cond t 1 0
 
 step : (s : State) (m : ℕ → Option ℕ) (x y : ℕ) → HasTwoMore s m x y → (a : ℕ) → one_if (is_exposed s a) ≡ one_if (is_exposed (with_mates s m) a) + (one_if (eqb x a) + one_if (eqb y a))
 step s m x y h a =
@@ -52,11 +51,7 @@ step s m x y h a =
     was z is had = rw (is, had) refl
 
     now : (z : ℕ) → is_some (m z) ≡ true → is_exposed (with_mates s m) z ≡ false
-    now z has = rw has (none (is_outermost s.graph.vertices s.blossoms z))
-      where
-        none : (t : Bool) → (t && false) ≡ false
-        none true = refl
-        none false = refl
+    now z has = rw has (and-false (is_outermost s.graph.vertices s.blossoms z))
 
 pub two_fewer : (s : State) (m : ℕ → Option ℕ) (x y : ℕ) → HasTwoMore s m x y → exposed_count (with_mates s m) + 2 ≡ exposed_count s
 two_fewer s m x y h =
@@ -69,10 +64,6 @@ two_fewer s m x y h =
     let at_y : sum_to (λ i. one_if (eqb y (i + 1))) n ≡ 1 = sum_to-at_one (λ _. 1) y n h.y_low h.y_high in
     omega (arith, all, first, second, at_x, at_y)
 
-none_of : (o : Option ℕ) → is_some o ≡ false → o ≡ None
-none_of None e = refl
-none_of (Some x) e = absurd (both_ways true e refl)
-
 -- which nodes are exposed after it
 pub exposed_after : (s : State) (m : ℕ → Option ℕ) (x y : ℕ) → HasTwoMore s m x y → (a : ℕ) → IsExposed (with_mates s m) a ↔ (IsExposed s a × (a ≢ x) × (a ≢ y))
 exposed_after s m x y h a = (
@@ -80,6 +71,6 @@ exposed_after s m x y h a = (
       let none : is_some (m a) ≡ false = ap (λ (o : Option ℕ). is_some o) now.1 in
       let not_x : a ≢ x = λ q. both_ways (is_some (m a)) none (ap (λ c. is_some (m c)) q ∙ h.x_has) in
       let not_y : a ≢ y = λ q. both_ways (is_some (m a)) none (ap (λ c. is_some (m c)) q ∙ h.y_has) in
-      ((now.0, none_of (s.mate a) (sym (h.others a not_x not_y) ∙ none)), not_x, not_y),
-  λ was. (was.0.0, none_of (m a) (h.others a was.1 was.2 ∙ ap (λ (o : Option ℕ). is_some o) was.0.1)),
+      ((now.0, no_entry (s.mate a) (ap not (sym (h.others a not_x not_y) ∙ none))), not_x, not_y),
+  λ was. (was.0.0, no_entry (m a) (ap not (h.others a was.1 was.2 ∙ ap (λ (o : Option ℕ). is_some o) was.0.1))),
 )

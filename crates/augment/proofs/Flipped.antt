@@ -3,13 +3,15 @@ use Rattle.std.proofs.Common.{◌≡◌, ◌≢◌, ◌⊎◌, ℕ, ◌<◌, ◌
 use Rattle.std.specs.Prelude.{pos, is_some}
 use Rattle.std.proofs.lemmas.Bool.{cases_eq}
 use Rattle.graph_theory.specs.Graph.{IsEdgeNumber}
-use Rattle.alt_forest.specs.declared.label.Label.TheVariants.{Outer, Inner, Out}
-use Rattle.alt_forest.specs.State.{State, IsOutermost, Joins, slack_of, IsMate, IsInner, IsSearchState}
+use Rattle.alt_forest.specs.declared.label.Label.TheVariants.{Outer, Out}
+use Rattle.alt_forest.specs.State.{State, IsOutermost, Joins, slack_of, IsMate, IsSearchState}
 use Rattle.alt_forest.specs.Searches.{put}
 use Rattle.alt_forest.proofs.Relabelled.{outer_not_out, inner_not_out, some_not_none, put_here, put_other}
-use Rattle.alt_forest.proofs.Walk.{some_same}
 use Rattle.augment.specs.Turns.{LeadsToExposed, HasMates, with_mates}
 use Rattle.alt_forest.proofs.Mates.{joins_turned, joins_unique}
+use Rattle.std.proofs.lemmas.Option.{same_Some}
+use Rattle.alt_forest.specs.declared.hop.Hop.{Hop}
+use Rattle.alt_forest.specs.Ways.{IsHop}
 
 -- The node `low` has taken `high` as its mate, by the edge e, but `high` has its old mate still. All other mates are
 -- mutual; `high`, and what is no deeper, is as before; of `first`, which was exposed, and all others it's as before
@@ -67,18 +69,18 @@ module _ (s : State) (depth : ℕ → ℕ) (st : IsSearchState s depth) where
       }
 
   module _ (first : ℕ) (m : ℕ → Option ℕ) (low e high : ℕ) (h : IsLoose s depth first m low e high) where
-    as_before : m high ≡ s.mate high
+    pub as_before : m high ≡ s.mate high
     as_before = h.untouched high (λ q. outer_not_out (sym h.high_outer ∙ q)) (omega arith)
 
     -- two nodes that have each other
     low_mate : (n : ℕ → Option ℕ) → n high ≡ Some e → (f : ℕ) → n low ≡ Some f → n low ≡ Some e → IsMate (with_mates s n) low f high
     low_mate n high_has f has low_has =
-        subst (λ k. IsMate (with_mates s n) low k high) (some_same e f (sym low_has ∙ has))
+        subst (λ k. IsMate (with_mates s n) low k high) (same_Some e f (sym low_has ∙ has))
         (record { edge = h.edge; joins = h.joins; different = h.different; tight = h.tight; outer = h.high_is; back = high_has })
 
     high_mate : (n : ℕ → Option ℕ) → n low ≡ Some e → (f : ℕ) → n high ≡ Some f → n high ≡ Some e → IsMate (with_mates s n) high f low
     high_mate n low_has f has high_has =
-        subst (λ k. IsMate (with_mates s n) high k low) (some_same e f (sym high_has ∙ has))
+        subst (λ k. IsMate (with_mates s n) high k low) (same_Some e f (sym high_has ∙ has))
         (record { edge = h.edge; joins = joins_turned s.graph s.blossoms e low high h.joins; different = λ q. h.different (sym q); tight = h.tight; outer = h.low_is; back = low_has })
 
     -- mates where the two have each other and the rest is as it was
@@ -100,38 +102,41 @@ module _ (s : State) (depth : ℕ → ℕ) (st : IsSearchState s depth) where
         let other : was.0 ≢ high = λ q. some_not_none f (sym was.1.back ∙ ap m q ∙ as_before ∙ root) in
         (was.0, moved s m n a f was.0 was.1 (put_other m high (Some e) was.0 other)))
 
-    -- from an outer node with a mate it goes on from the node above that mate
-    pub goes_on : (f q : ℕ) → s.mate high ≡ Some f → IsMate s high f q → s.label q ≡ Inner → depth q < depth high → (i : IsInner s depth q)
-        → IsLoose s depth first (put (put m high (Some e)) q (Some i.edge)) q i.edge i.up
-    goes_on f q has_f w q_inner q_low i =
-        let n : ℕ → Option ℕ = put (put m high (Some e)) q (Some i.edge) in
-        let up_low : depth i.up < depth q = i.falls in
-        let q_labelled : s.label q ≢ Out = λ p. inner_not_out (sym q_inner ∙ p) in
+    -- from an outer node with a mate it goes on from the outer node of its hop
+    pub goes_on : (k : Hop) → IsHop s depth high k → IsLoose s depth first (put (put m high (Some e)) k.inner (Some k.parent)) k.inner k.parent k.outer
+    goes_on k hop =
+        let f : ℕ = k.mate in
+        let q : ℕ = k.inner in
+        let w = hop.is_mate in
+        let n : ℕ → Option ℕ = put (put m high (Some e)) q (Some k.parent) in
+        let q_low : depth q < depth high = hop.lower in
+        let up_low : depth k.outer < depth q = hop.lowest in
+        let q_labelled : s.label q ≢ Out = λ p. inner_not_out (sym hop.inner_label ∙ p) in
         let low_not_q : low ≢ q = λ p. ⊎_elim (λ o. q_labelled (ap s.label (sym p) ∙ o)) (λ d. let same : depth low ≡ depth q = ap depth p in absurd (omega arith)) h.below in
-        let n_high : n high ≡ Some e = put_other (put m high (Some e)) q (Some i.edge) high w.different ∙ put_here m high (Some e) in
-        let n_low : n low ≡ Some e = put_other (put m high (Some e)) q (Some i.edge) low low_not_q ∙ put_other m high (Some e) low h.different ∙ h.taken in
-        let m_high : m high ≡ Some f = as_before ∙ has_f in
+        let n_high : n high ≡ Some e = put_other (put m high (Some e)) q (Some k.parent) high w.different ∙ put_here m high (Some e) in
+        let n_low : n low ≡ Some e = put_other (put m high (Some e)) q (Some k.parent) low low_not_q ∙ put_other m high (Some e) low h.different ∙ h.taken in
+        let m_high : m high ≡ Some f = as_before ∙ hop.mate in
         let m_q : m q ≡ Some f = h.untouched q q_labelled (omega arith) ∙ w.back in
-        let others : (c : ℕ) → c ≢ q → c ≢ high → n c ≡ m c = λ c not_q not_high. put_other (put m high (Some e)) q (Some i.edge) c not_q ∙ put_other m high (Some e) c not_high in
+        let others : (c : ℕ) → c ≢ q → c ≢ high → n c ≡ m c = λ c not_q not_high. put_other (put m high (Some e)) q (Some k.parent) c not_q ∙ put_other m high (Some e) c not_high in
         record {
-          edge = i.is_edge;
-          joins = i.joins;
-          different = λ p. let same : depth q ≡ depth i.up = ap depth p in absurd (omega arith);
-          tight = i.tight;
+          edge = hop.edge;
+          joins = hop.joins;
+          different = λ p. let same : depth q ≡ depth k.outer = ap depth p in absurd (omega arith);
+          tight = hop.tight;
           low_is = w.outer;
-          high_is = i.up_is;
-          high_outer = i.up_outer;
-          taken = put_here (put m high (Some e)) q (Some i.edge);
+          high_is = hop.up_is;
+          high_outer = hop.up_outer;
+          taken = put_here (put m high (Some e)) q (Some k.parent);
           untouched = λ c lab under.
               others c (λ p. let same : depth c ≡ depth q = ap depth p in absurd (omega arith)) (λ p. let same : depth c ≡ depth high = ap depth p in absurd (omega arith))
               ∙ h.untouched c lab (omega arith);
           below = inr up_low;
-          mates = λ a k is not_q has. tied n n_low n_high a k has
+          mates = λ a j is not_q has. tied n n_low n_high a j has
               (λ not_low not_high.
-              let was = h.mates a k is not_low (sym (others a not_q not_high) ∙ has) in
-              let b_not_high : was.0 ≢ high = λ p. not_q (partner_by a k high q (subst (IsMate (with_mates s m) a k) p was.1) f (ap m (sym p) ∙ was.1.back) m_high (joins_turned s.graph s.blossoms f high q w.joins) (λ r. w.different (sym r))) in
-              let b_not_q : was.0 ≢ q = λ p. not_high (partner_by a k q high (subst (IsMate (with_mates s m) a k) p was.1) f (ap m (sym p) ∙ was.1.back) m_q w.joins w.different) in
-              (was.0, moved s m n a k was.0 was.1 (others was.0 b_not_q b_not_high)));
+              let was = h.mates a j is not_low (sym (others a not_q not_high) ∙ has) in
+              let b_not_high : was.0 ≢ high = λ p. not_q (partner_by a j high q (subst (IsMate (with_mates s m) a j) p was.1) f (ap m (sym p) ∙ was.1.back) m_high (joins_turned s.graph s.blossoms f high q w.joins) (λ r. w.different (sym r))) in
+              let b_not_q : was.0 ≢ q = λ p. not_high (partner_by a j q high (subst (IsMate (with_mates s m) a j) p was.1) f (ap m (sym p) ∙ was.1.back) m_q w.joins w.different) in
+              (was.0, moved s m n a j was.0 was.1 (others was.0 b_not_q b_not_high)));
           first_has = stays first h.first_has;
           others = λ c ne. keeps c (h.others c ne);
         }
@@ -139,21 +144,21 @@ module _ (s : State) (depth : ℕ → ℕ) (st : IsSearchState s depth) where
         -- who has b as its mate, by the edge f that is b's, is the one that f joins to b
         partner_by : (a k b c : ℕ) → IsMate (with_mates s m) a k b → (f : ℕ) → m b ≡ Some k → m b ≡ Some f → Joins s.graph s.blossoms f c b → c ≢ b → a ≡ c
         partner_by a k b c v f hk hf j ne =
-            let same : f ≡ k = some_same f k (sym hf ∙ hk) in
+            let same : f ≡ k = same_Some f k (sym hf ∙ hk) in
             joins_unique s.graph s.blossoms k b a c (joins_turned s.graph s.blossoms k a b v.joins) (joins_turned s.graph s.blossoms k c b (subst (λ t. Joins s.graph s.blossoms t c b) same j)) (λ r. v.different (sym r))
 
-        stays : (c : ℕ) → is_some (m c) ≡ true → is_some (put (put m high (Some e)) q (Some i.edge) c) ≡ true
-        stays c has = elim (eqb c q) as (λ t. is_some (cond t (Some i.edge) (put m high (Some e) c)) ≡ true) [
+        stays : (c : ℕ) → is_some (m c) ≡ true → is_some (put (put m high (Some e)) k.inner (Some k.parent) c) ≡ true
+        stays c has = elim (eqb c k.inner) as (λ t. is_some (cond t (Some k.parent) (put m high (Some e) c)) ≡ true) [
           | true ↦ refl
           | false ↦ elim (eqb c high) as (λ t. is_some (cond t (Some e) (m c)) ≡ true) [ true ↦ refl | false ↦ has ]
         ]
 
         -- both nodes had mates
-        keeps : (c : ℕ) → is_some (m c) ≡ is_some (s.mate c) → is_some (put (put m high (Some e)) q (Some i.edge) c) ≡ is_some (s.mate c)
+        keeps : (c : ℕ) → is_some (m c) ≡ is_some (s.mate c) → is_some (put (put m high (Some e)) k.inner (Some k.parent) c) ≡ is_some (s.mate c)
         keeps c same =
-            ⊎_elim (λ p. ap (λ (o : Option ℕ). is_some o) (ap (put (put m high (Some e)) q (Some i.edge)) p ∙ put_here (put m high (Some e)) q (Some i.edge)) ∙ sym (ap (λ (o : Option ℕ). is_some o) (ap s.mate p ∙ w.back)))
-            (λ not_q. ⊎_elim
-            (λ p. ap (λ (o : Option ℕ). is_some o) (put_other (put m high (Some e)) q (Some i.edge) c not_q ∙ ap (put m high (Some e)) p ∙ put_here m high (Some e)) ∙ sym (ap (λ (o : Option ℕ). is_some o) (ap s.mate p ∙ has_f)))
-            (λ not_high. ap (λ (o : Option ℕ). is_some o) (put_other (put m high (Some e)) q (Some i.edge) c not_q ∙ put_other m high (Some e) c not_high) ∙ same)
+            ⊎_elim (λ p. ap (λ (o : Option ℕ). is_some o) (ap (put (put m high (Some e)) k.inner (Some k.parent)) p ∙ put_here (put m high (Some e)) k.inner (Some k.parent)) ∙ sym (ap (λ (o : Option ℕ). is_some o) (ap s.mate p ∙ hop.is_mate.back)))
+            (λ not_inner. ⊎_elim
+            (λ p. ap (λ (o : Option ℕ). is_some o) (put_other (put m high (Some e)) k.inner (Some k.parent) c not_inner ∙ ap (put m high (Some e)) p ∙ put_here m high (Some e)) ∙ sym (ap (λ (o : Option ℕ). is_some o) (ap s.mate p ∙ hop.mate)))
+            (λ not_high. ap (λ (o : Option ℕ). is_some o) (put_other (put m high (Some e)) k.inner (Some k.parent) c not_inner ∙ put_other m high (Some e) c not_high) ∙ same)
             (cases_eq c high))
-            (cases_eq c q)
+            (cases_eq c k.inner)

@@ -4,15 +4,15 @@ use Rattle.std.specs.Prelude.{All}
 use Rattle.std.specs.List.{AllByRecursion}
 use Rattle.std.proofs.lemmas.Bool.{eq-eqb, ne_eqb, eqb-true, eqb-false, both_ways}
 use Rattle.graph_theory.specs.Graph.{Multigraph, IsEdgeWithin, IsEdgeNumber, edge_of}
-use Rattle.graph_theory.proofs.Edges.{edge_of_within}
 use Rattle.graph_theory.specs.Nested.{most_blossoms}
 use Rattle.blossom_arena.specs.Family.{Blossom, is_vertex, is_node, is_child, chain_of, IsNested}
 use Rattle.blossom_arena.proofs.Lists.{by_test, each_from}
-use Rattle.blossom_arena.proofs.Nested.{child_is_node, node_range, range_vertex}
+use Rattle.blossom_arena.proofs.Nested.{child_is_node, node_range}
 use Rattle.blossom_arena.proofs.Parents.{chain_node, chain_nonzero}
 use Rattle.alt_forest.specs.Searches.{put}
 use Rattle.alt_forest.proofs.Relabelled.{put_here, put_other}
 use Rattle.augment.specs.Opening.{marked, up_to, spread, spread_in}
+use Rattle.blossom_arena.proofs.Ends.{u_vertex, v_vertex}
 
 up_to_here : (c : ℕ) (cs : List ℕ) (stop : ℕ) → c ≡ stop → up_to (c ∷ cs) stop ≡ []
 up_to_here c cs stop e = ap (λ q. cond q [] (c ∷ up_to cs stop)) (eq-eqb c stop e)
@@ -39,12 +39,11 @@ up_to_none (c ∷ cs) stop h = up_to_past c cs stop h.0 ∙ ap (λ t. c ∷ t) (
 -- 0 is no node
 pub spread_whole : (g : Multigraph) (bs : List Blossom) (m : ℕ → Option ℕ) (stop e : ℕ) → IsNested g.vertices bs → All (IsEdgeWithin g.vertices) g.edges → IsEdgeNumber g e → stop ≡ 0 → spread_in g bs stop m e ≡ spread g bs m e
 spread_whole g bs m stop e nested ends is none =
-    let w = edge_of_within g e ends is in
     let u : ℕ = (edge_of g e).u in
     let v : ℕ = (edge_of g e).v in
     ap (λ s. spread_in g bs s m e) none
-    ∙ ap (λ cs. marked (marked m cs e) (up_to (chain_of bs v) 0) e) (up_to_none (chain_of bs u) 0 (chain_nonzero g.vertices bs u nested (range_vertex g.vertices u w.u_low w.u_high)))
-    ∙ ap (λ cs. marked (marked m (chain_of bs u) e) cs e) (up_to_none (chain_of bs v) 0 (chain_nonzero g.vertices bs v nested (range_vertex g.vertices v w.v_low w.v_high)))
+    ∙ ap (λ cs. marked (marked m cs e) (up_to (chain_of bs v) 0) e) (up_to_none (chain_of bs u) 0 (chain_nonzero g.vertices bs u nested (u_vertex g e ends is)))
+    ∙ ap (λ cs. marked (marked m (chain_of bs u) e) cs e) (up_to_none (chain_of bs v) 0 (chain_nonzero g.vertices bs v nested (v_vertex g e ends is)))
 
 pub no_child : (n : ℕ) (bs : List Blossom) (a : ℕ) → IsNested n bs → is_node n bs a ≡ false → is_child bs a ≡ false
 no_child n bs a h none = by_test (is_child bs a) (λ t. absurd (both_ways (is_node n bs a) none (child_is_node n bs a h t))) (λ t. t)

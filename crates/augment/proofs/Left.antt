@@ -2,7 +2,7 @@
 use Rattle.std.proofs.Common.{◌≡◌, ◌≢◌, ◌≤◌, ℕ, Bool, true, false, not, eqb, cond, List, [], ◌∷◌, length, refl, sym, ap, ◌∙◌, arith, ⊎_elim, Option, Some}
 use Rattle.std.specs.Prelude.{All, if◌then◌else◌}
 use Rattle.std.specs.List.{AllByRecursion}
-use Rattle.std.proofs.lemmas.Bool.{eqb-true, eqb-false, or_left, or_right, eq-eqb, both_ways, false_from_ne_true}
+use Rattle.std.proofs.lemmas.Bool.{eqb-true, eqb-false, both_ways, false_from_ne_true}
 use Rattle.graph_theory.specs.Graph.{Multigraph, IsEdgeWithin, IsEdgeNumber, edge_of}
 use Rattle.graph_theory.specs.declared.edge.Edge.{Edge}
 use Rattle.graph_theory.specs.Parts.{holds}
@@ -11,9 +11,11 @@ use Rattle.blossom_arena.specs.Family.{Blossom, in_ring, is_vertex, is_node, is_
 use Rattle.blossom_arena.proofs.Lists.{by_test}
 use Rattle.blossom_arena.proofs.Sets.{member_by_ring, outermost_node}
 use Rattle.alt_forest.specs.State.{next_node, IsChainTo, IsRing}
-use Rattle.alt_forest.proofs.Walk.{some_same}
 use Rattle.augment.specs.Opening.{IsPair, AreMated, Opens}
-use Rattle.augment.proofs.Pairs.{first_outer, u_vertex, v_vertex, used_stays, used_still}
+use Rattle.augment.proofs.Pairs.{first_outer, used_stays, used_still}
+use Rattle.std.proofs.lemmas.Option.{same_Some}
+use Rattle.blossom_arena.proofs.LinkLists.{all_inside}
+use Rattle.blossom_arena.proofs.Ends.{u_vertex, v_vertex}
 
 -- an edge has exactly one end in a set of vertices
 abbrev pub leaves : (ℕ → Bool) → Edge → Bool
@@ -41,10 +43,6 @@ one_true p q e h = rw (e, h) refl
 one_false : (p q : Bool) → p ≡ false → q ≡ true → (if p then not q else q) ≡ true
 one_false p q e h = rw (e, h) refl
 
-each_inside : (ring ls : List Link) → ((c : ℕ) → in_ring ls c ≡ true → in_ring ring c ≡ true) → AllByRecursion (λ (l : Link). in_ring ring l.node ≡ true) ls
-each_inside ring [] h = tt
-each_inside ring (l ∷ ls) h = (h l.node (or_left (eqb l.node l.node) (in_ring ls l.node) (eq-eqb l.node l.node refl)), each_inside ring ls (λ c e. h c (or_right (eqb l.node c) (in_ring ls c) e)))
-
 module _ (g : Multigraph) (b : Blossom) (older : List Blossom) (m m' : ℕ → Option ℕ) (nested : IsNested g.vertices (b ∷ older)) (ends : All (IsEdgeWithin g.vertices) g.edges) (ring : IsRing g older b.ring)
     (mated : AreMated g (b ∷ older) m) (h : Opens g older b.node b.ring b.members m m') where
   abbrev n : ℕ
@@ -54,10 +52,10 @@ module _ (g : Multigraph) (b : Blossom) (older : List Blossom) (m m' : ℕ → O
   bs = b ∷ older
 
   iu : (e : ℕ) → IsEdgeNumber g e → is_vertex n (edge_of g e).u ≡ true
-  iu = u_vertex g b older m m' nested ends ring mated h
+  iu e is = u_vertex g e ends is
 
   iv : (e : ℕ) → IsEdgeNumber g e → is_vertex n (edge_of g e).v ≡ true
-  iv = v_vertex g b older m m' nested ends ring mated h
+  iv e is = v_vertex g e ends is
 
   came_in : (v : ℕ) → is_vertex n v ≡ true → in_ring b.ring (outermost older v) ≡ true → outermost bs v ≡ b.node
   came_in v is r = ap (λ q. cond q b.node (outermost older v)) (member_by_ring n older b v nested is ∙ r)
@@ -90,7 +88,7 @@ module _ (g : Multigraph) (b : Blossom) (older : List Blossom) (m m' : ℕ → O
       next_in (j ∷ js) each = each.0
 
   all_within : AllByRecursion (λ (l : Link). IsWithin l.edge) b.ring
-  all_within = by_ring b.ring (each_inside b.ring b.ring (λ c r. r)) nested.0.circuit.at_least_three ring
+  all_within = by_ring b.ring (all_inside b.ring) nested.0.circuit.at_least_three ring
     where
       by_ring : (ls : List Link) → AllByRecursion (λ (l : Link). in_ring b.ring l.node ≡ true) ls → 3 ≤ length ls → IsChainTo g older ls (next_node ls 0) → AllByRecursion (λ (l : Link). IsWithin l.edge) ls
       by_ring [] inside len chain = absurd (omega (arith, len))
@@ -159,11 +157,11 @@ module _ (g : Multigraph) (b : Blossom) (older : List Blossom) (m m' : ℕ → O
             p.3.joins;
         only = λ c f is has out.
             let r = mated c is in
-            let same : r.0 ≡ f = some_same r.0 f (sym r.2 ∙ has) in
+            let same : r.0 ≡ f = same_Some r.0 f (sym r.2 ∙ has) in
             let out' : leaves inside (edge_of g r.0) ≡ true = ap (λ k. leaves inside (edge_of g k)) same ∙ out in
             by_test (eqb c b.node)
-            (λ s. some_same f p.0 (sym has ∙ ap m (eqb-true c b.node s) ∙ p.2))
+            (λ s. same_Some f p.0 (sym has ∙ ap m (eqb-true c b.node s) ∙ p.2))
             (λ c_not. by_test (eqb r.1 b.node)
-            (λ s. sym same ∙ some_same r.0 p.0 (sym r.3.back ∙ ap m (eqb-true r.1 b.node s) ∙ p.2))
+            (λ s. sym same ∙ same_Some r.0 p.0 (sym r.3.back ∙ ap m (eqb-true r.1 b.node s) ∙ p.2))
             (λ d_not. absurd (not_left c r.0 r.1 r.3 (eqb-false c b.node c_not) (eqb-false r.1 b.node d_not) out')));
       }

@@ -7,9 +7,9 @@ use Rattle.blossom_arena.specs.Family.{Family, is_child, is_outermost, IsNested}
 use Rattle.blossom_arena.proofs.Lists.{by_test}
 use Rattle.blossom_arena.proofs.Nested.{outermost_parts, node_range}
 use Rattle.blossom_arena.proofs.Sets.{outermost_has}
-use Rattle.alt_forest.proofs.Walk.{some_same}
 use Rattle.augment.specs.Opening.{IsPair, IsSpread, IsBare, CanMark, spread}
 use Rattle.augment.proofs.Spreads.{x_has, y_has, others_keep, still_bare, x_spread, still_spread}
+use Rattle.std.proofs.lemmas.Option.{same_Some}
 
 -- what a mark leaves
 pub record IsMarked (g : Multigraph) (f : Family) (m n : ℕ → Option ℕ) (a : ℕ) : Type 0 where
@@ -26,9 +26,9 @@ marked_mate g f m a e can is has =
     let nested = nested_of g f m can in
     let r = can.mated a (subst (λ n. is_outermost n f.blossoms a ≡ true) can.vertices is) in
     let d : ℕ = r.1 in
-    let p : IsPair g f.blossoms m a e d = subst (λ k. IsPair g f.blossoms m a k d) (some_same r.0 e (sym r.2 ∙ sym has)) r.3 in
-    let at_a : (k : ℕ) → m a ≡ Some k → k ≡ e = λ k h. some_same k e (sym h ∙ sym has) in
-    let at_d : (k : ℕ) → m d ≡ Some k → k ≡ e = λ k h. some_same k e (sym h ∙ p.back) in
+    let p : IsPair g f.blossoms m a e d = subst (λ k. IsPair g f.blossoms m a k d) (same_Some r.0 e (sym r.2 ∙ sym has)) r.3 in
+    let at_a : (k : ℕ) → m a ≡ Some k → k ≡ e = λ k h. same_Some k e (sym h ∙ sym has) in
+    let at_d : (k : ℕ) → m d ≡ Some k → k ≡ e = λ k h. same_Some k e (sym h ∙ p.back) in
     record {
       bare = still_bare g f.blossoms nested can.ends m e a d p.edge p.joins at_a at_d can.bare;
       spread = x_spread g f.blossoms nested can.ends m e a d p.edge p.joins at_a at_d;

@@ -3,20 +3,19 @@ use Rattle.std.proofs.Common.{◌≡◌, ◌≢◌, ℕ, true, false, not, eqb, 
 use Rattle.std.specs.Prelude.{All}
 use Rattle.std.specs.List.{AllByRecursion}
 use Rattle.std.proofs.lemmas.Bool.{eq-eqb, eqb-true, eqb-false, ne_eqb, or_parts, or_left, or_right, or_from, or_cases, and_from, both_ways}
-use Rattle.graph_theory.specs.Graph.{Multigraph, IsEdgeWithin, IsEdgeNumber, edge_of}
+use Rattle.graph_theory.specs.Graph.{Multigraph, IsEdgeWithin, edge_of}
 use Rattle.graph_theory.specs.Parts.{holds}
-use Rattle.graph_theory.proofs.Edges.{edge_of_within}
 use Rattle.blossom_arena.specs.declared.links.Link.{Link}
-use Rattle.blossom_arena.specs.Family.{Blossom, nodes_of, in_ring, is_vertex, is_node, is_child, is_outermost, outermost, IsNested}
+use Rattle.blossom_arena.specs.Family.{Blossom, nodes_of, in_ring, is_node, is_child, is_outermost, outermost, IsNested}
 use Rattle.blossom_arena.proofs.Lists.{by_test, AllNew, new_from_distinct}
-use Rattle.blossom_arena.proofs.Nested.{circuit_outer, outermost_parts, outermost_before, new_is_node, new_no_child, node_grows, range_vertex}
+use Rattle.blossom_arena.proofs.Nested.{circuit_outer, outermost_parts, outermost_before, new_is_node, new_no_child, node_grows}
 use Rattle.alt_forest.specs.State.{Joins, IsChainTo, IsRing}
-use Rattle.alt_forest.proofs.Walk.{some_same}
 use Rattle.alt_forest.specs.Circuits.{ArePaired}
 use Rattle.augment.specs.Opening.{IsPair, AreMated, Opens}
 use Rattle.alt_forest.proofs.Mates.{joins_turned}
 use Rattle.blossom_arena.proofs.LinkLists.{each_parts, each_whole}
 use Rattle.alt_forest.proofs.Rounds.{GoesRound, goes_round, leads_round}
+use Rattle.std.proofs.lemmas.Option.{same_Some}
 
 paired_some : (P : ℕ → Type 0) (m : ℕ → Option ℕ) (ls : List Link) (c : ℕ) → ArePaired m ls → AllByRecursion (λ (l : Link). P l.edge) ls → in_ring ls c ≡ true → (f : ℕ) × (m c ≡ Some f) × P f
 paired_some P m [] c h p r = absurd (both_ways false refl r)
@@ -48,13 +47,7 @@ module _ (g : Multigraph) (b : Blossom) (older : List Blossom) (m m' : ℕ → O
   first_outer = and_from (is_node n bs b.node) (not (is_child bs b.node)) (new_is_node n b older) (ap not (new_no_child n b older nested))
 
   old_pair : (c f : ℕ) → is_outermost n bs c ≡ true → m c ≡ Some f → (d : ℕ) × IsPair g bs m c f d
-  old_pair c f is has = let r = mated c is in (r.1, subst (λ k. IsPair g bs m c k r.1) (some_same r.0 f (sym r.2 ∙ has)) r.3)
-
-  pub u_vertex : (e : ℕ) → IsEdgeNumber g e → is_vertex n (edge_of g e).u ≡ true
-  u_vertex e is = let w = edge_of_within g e ends is in range_vertex n (edge_of g e).u w.u_low w.u_high
-
-  pub v_vertex : (e : ℕ) → IsEdgeNumber g e → is_vertex n (edge_of g e).v ≡ true
-  v_vertex e is = let w = edge_of_within g e ends is in range_vertex n (edge_of g e).v w.v_low w.v_high
+  old_pair c f is has = let r = mated c is in (r.1, subst (λ k. IsPair g bs m c k r.1) (same_Some r.0 f (sym r.2 ∙ has)) r.3)
 
   differs : (c : ℕ) → is_outermost n older c ≡ true → c ≢ b.node
   differs c is q = both_ways (is_node n older b.node) nested.0.fresh (ap (is_node n older) (sym q) ∙ (outermost_parts n older c is).0)
@@ -111,11 +104,11 @@ module _ (g : Multigraph) (b : Blossom) (older : List Blossom) (m m' : ℕ → O
       let right : IsPair g older m' k.node l.edge l.node = record { edge = chain.0; joins = joins_turned g older l.edge l.node k.node chain.1; different = k_not_l; outer = ring_outer l.node l_in; back = pairs.0 } in
       ⊎_elim
       (λ here. let same : l.node ≡ c = eqb-true l.node c here in
-      let edge : l.edge ≡ f = some_same l.edge f (sym pairs.0 ∙ ap m' same ∙ has) in
+      let edge : l.edge ≡ f = same_Some l.edge f (sym pairs.0 ∙ ap m' same ∙ has) in
       (k.node, subst (λ x. IsPair g older m' c x k.node) edge (subst (λ x. IsPair g older m' x l.edge k.node) same left)))
       (λ more. ⊎_elim
       (λ here. let same : k.node ≡ c = eqb-true k.node c here in
-      let edge : l.edge ≡ f = some_same l.edge f (sym pairs.1 ∙ ap m' same ∙ has) in
+      let edge : l.edge ≡ f = same_Some l.edge f (sym pairs.1 ∙ ap m' same ∙ has) in
       (l.node, subst (λ x. IsPair g older m' c x l.node) edge (subst (λ x. IsPair g older m' x l.edge l.node) same right)))
       (λ later. in_pairs ls z chain.2.2 (λ x e. inside x (or_right (eqb l.node x) (in_ring (k ∷ ls) x) (or_right (eqb k.node x) (in_ring ls x) e))) new.1.1 pairs.2 c f later has)
       (or_cases (eqb k.node c) (in_ring ls c) more))
@@ -131,7 +124,7 @@ module _ (g : Multigraph) (b : Blossom) (older : List Blossom) (m m' : ℕ → O
       by_test (eqb b.node r.1)
       (λ s.
       let same : r.1 ≡ b.node = sym (eqb-true b.node r.1 s) in
-      let edge : r.0 ≡ h.edge = some_same r.0 h.edge (sym w.back ∙ ap m same ∙ h.mate) in
+      let edge : r.0 ≡ h.edge = same_Some r.0 h.edge (sym w.back ∙ ap m same ∙ h.mate) in
       let old : Joins g bs h.edge c b.node = subst (λ x. Joins g bs x c b.node) edge (subst (λ x. Joins g bs r.0 c x) same w.joins) in (
         r.0,
         h.base.node,
@@ -184,8 +177,8 @@ module _ (g : Multigraph) (b : Blossom) (older : List Blossom) (m m' : ℕ → O
   used_stays P each old c f is has = ⊎_elim
       (λ was. old c f was.0 (sym (h.others c was.1 (outermost_parts n older c is).1) ∙ has))
       (λ in_it. ⊎_elim
-      (λ same. subst P (some_same h.edge f (sym h.new_base ∙ ap m' (sym same) ∙ has)) (old b.node h.edge first_outer h.mate))
-      (λ r. let p = paired_some P m' round c h.new_pairs each_round r in subst P (some_same p.0 f (sym p.1 ∙ has)) p.2)
+      (λ same. subst P (same_Some h.edge f (sym h.new_base ∙ ap m' (sym same) ∙ has)) (old b.node h.edge first_outer h.mate))
+      (λ r. let p = paired_some P m' round c h.new_pairs each_round r in subst P (same_Some p.0 f (sym p.1 ∙ has)) p.2)
       in_it)
       (cases_outer c is)
     where

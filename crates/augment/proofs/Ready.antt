@@ -5,19 +5,19 @@ use Rattle.std.proofs.lemmas.Bool.{both_ways, and_from, or_left}
 use Rattle.std.proofs.lemmas.List.{append_assoc, append-nil}
 use Rattle.graph_theory.specs.Graph.{Multigraph, IsEdgeWithin, edge_of}
 use Rattle.graph_theory.specs.Parts.{holds}
-use Rattle.graph_theory.proofs.Edges.{edge_of_within}
 use Rattle.blossom_arena.specs.declared.links.Link.{Link}
 use Rattle.blossom_arena.specs.Family.{Blossom, Family, names_of, in_ring, is_vertex, is_node, is_child, is_outermost, outermost, members_of, ring_of, older_than, IsNested}
 use Rattle.blossom_arena.proofs.Lists.{by_test}
-use Rattle.blossom_arena.proofs.Nested.{names_new, new_is_node, new_no_child, range_vertex}
+use Rattle.blossom_arena.proofs.Nested.{names_new, new_is_node, new_no_child}
 use Rattle.blossom_arena.proofs.Sets.{outermost_node}
 use Rattle.alt_forest.specs.State.{State, IsRing, HasRings, IsSearchState}
-use Rattle.alt_forest.proofs.Walk.{some_same}
 use Rattle.augment.specs.Opening.{IsPair, AreMated, IsEnd, IsSpread, IsBare, Opens, Unpacks, CanOpen, CanUnpack}
 use Rattle.augment.proofs.Chains.{chain_grows, chain_has_top, chain_ring}
 use Rattle.augment.proofs.Spreads.{older_bare, older_spread}
 use Rattle.augment.proofs.Pairs.{all_mated}
 use Rattle.augment.proofs.Unpacked.{IsAt, found_at, nested_tail, rings_tail, AreOpened, one_opened}
+use Rattle.std.proofs.lemmas.Option.{same_Some}
+use Rattle.blossom_arena.proofs.Ends.{u_vertex, v_vertex}
 
 -- a list of names that begins with this one
 pub record BeginsWith (left : List Blossom) (b : ℕ) (rest : List ℕ) : Type 0 where
@@ -131,10 +131,9 @@ module _ (g : Multigraph) (f : Family) (m0 m : ℕ → Option ℕ) (can : CanUnp
 
   inside_end : (e d : ℕ) → IsPair g here m w.first.node e d → IsInside e
   inside_end e d p =
-      let x = edge_of_within g e can.ends p.edge in
       ⊎_elim
-      (λ j. record { vertex = (edge_of g e).u; end = record { vertex = range_vertex g.vertices (edge_of g e).u x.u_low x.u_high; end = inl refl }; top = j.0 })
-      (λ j. record { vertex = (edge_of g e).v; end = record { vertex = range_vertex g.vertices (edge_of g e).v x.v_low x.v_high; end = inr refl }; top = j.1 })
+      (λ j. record { vertex = (edge_of g e).u; end = record { vertex = u_vertex g e can.ends p.edge; end = inl refl }; top = j.0 })
+      (λ j. record { vertex = (edge_of g e).v; end = record { vertex = v_vertex g e can.ends p.edge; end = inr refl }; top = j.1 })
       p.joins
 
   pub can_open : CanOpen g f m b
@@ -158,7 +157,7 @@ module _ (g : Multigraph) (f : Family) (m0 m : ℕ → Option ℕ) (can : CanUnp
             let ring : in_ring w.first.ring c ≡ true = ap (λ (x : List Link). in_ring x c) (sym ring_is) ∙ in_it in
             let s = bare_here c k (or_left (in_ring w.first.ring c) (is_child w.older c) ring) has in
             let above = chain_ring g.vertices w.first w.older s.vertex c nested s.end.vertex ring s.holder in
-            let same : k ≡ r.0 = some_same k r.0 (sym s.mate ∙ ap m above.0 ∙ r.2) in
+            let same : k ≡ r.0 = same_Some k r.0 (sym s.mate ∙ ap m above.0 ∙ r.2) in
             ne (sym above.1 ∙ ap (outermost w.older) (one_end g here m w.first.node r.0 r.1 s.vertex v r.3 (subst (λ z. IsEnd g z s.vertex) same s.end) i.end above.0 i.top)));
         bare = subst (λ (bs : List Blossom). IsBare g bs m) (sym older_is) (older_bare g w.first w.older nested m bare_here all_here);
         spread = subst (λ (bs : List Blossom). (a : ℕ) → IsSpread g bs m a) (sym older_is) (older_spread g w.first w.older nested m bare_here all_here);

@@ -4,19 +4,19 @@ use Rattle.std.specs.Prelude.{All}
 use Rattle.std.proofs.lemmas.Bool.{eq-eqb, eqb-true, eqb-false, or_left, or_right, or_parts, or_cases, both_ways}
 use Rattle.graph_theory.specs.Graph.{Multigraph, IsEdgeWithin, IsEdgeNumber, edge_of}
 use Rattle.graph_theory.specs.Parts.{holds}
-use Rattle.graph_theory.proofs.Edges.{edge_of_within}
 use Rattle.blossom_arena.specs.declared.links.Link.{Link}
 use Rattle.blossom_arena.specs.Family.{Blossom, nodes_of, in_ring, is_child, outermost, chain_of, IsNested}
 use Rattle.blossom_arena.proofs.Lists.{by_test, AllNew}
-use Rattle.blossom_arena.proofs.Nested.{range_vertex, new_free}
+use Rattle.blossom_arena.proofs.Nested.{new_free}
 use Rattle.blossom_arena.proofs.Sets.{outermost_free, member_by_ring}
 use Rattle.alt_forest.specs.State.{Joins, IsChainTo}
 use Rattle.alt_forest.specs.Searches.{put}
 use Rattle.alt_forest.proofs.Relabelled.{put_here, put_other, some_not_none}
-use Rattle.alt_forest.proofs.Walk.{some_same}
 use Rattle.alt_forest.specs.Circuits.{ArePaired}
 use Rattle.augment.specs.Opening.{marked, spread, paired, IsEnd, IsSpread, IsBare}
 use Rattle.augment.proofs.Chains.{chain_grows, chain_before, chain_has_top, chain_top, same_top, chain_ring}
+use Rattle.std.proofs.lemmas.Option.{same_Some}
+use Rattle.blossom_arena.proofs.Ends.{u_vertex, v_vertex}
 
 marked_in : (m : ℕ → Option ℕ) (cs : List ℕ) (e c : ℕ) → (m c ≡ Some e) ⊎ (holds cs c ≡ true) → marked m cs e c ≡ Some e
 marked_in m [] e c h = ⊎_elim (λ p. p) (λ p. absurd (both_ways false refl p)) h
@@ -43,13 +43,12 @@ spread_has g bs m e v c end on = ⊎_elim
 pub spread_cases : (g : Multigraph) (bs : List Blossom) (m : ℕ → Option ℕ) (e c : ℕ) → All (IsEdgeWithin g.vertices) g.edges → IsEdgeNumber g e
     → ((v : ℕ) × IsEnd g e v × (holds (chain_of bs v) c ≡ true)) ⊎ (spread g bs m e c ≡ m c)
 spread_cases g bs m e c ends is =
-    let w = edge_of_within g e ends is in
     let u : ℕ = (edge_of g e).u in
     let v : ℕ = (edge_of g e).v in
     by_test (holds (chain_of bs u) c)
-    (λ t. inl (u, record { vertex = range_vertex g.vertices u w.u_low w.u_high; end = inl refl }, t))
+    (λ t. inl (u, record { vertex = u_vertex g e ends is; end = inl refl }, t))
     (λ t. by_test (holds (chain_of bs v) c)
-    (λ s. inl (v, record { vertex = range_vertex g.vertices v w.v_low w.v_high; end = inr refl }, s))
+    (λ s. inl (v, record { vertex = v_vertex g e ends is; end = inr refl }, s))
     (λ s. inr (marked_out (marked m (chain_of bs u) e) (chain_of bs v) e c s ∙ marked_out m (chain_of bs u) e c t)))
 
 -- an edge between two outermost nodes that have no other mate
@@ -59,10 +58,10 @@ module _ (g : Multigraph) (bs : List Blossom) (nested : IsNested g.vertices bs) 
   m' = spread g bs m e
 
   iu : IsEnd g e (edge_of g e).u
-  iu = let w = edge_of_within g e ends is in record { vertex = range_vertex g.vertices (edge_of g e).u w.u_low w.u_high; end = inl refl }
+  iu = record { vertex = u_vertex g e ends is; end = inl refl }
 
   iv : IsEnd g e (edge_of g e).v
-  iv = let w = edge_of_within g e ends is in record { vertex = range_vertex g.vertices (edge_of g e).v w.v_low w.v_high; end = inr refl }
+  iv = record { vertex = v_vertex g e ends is; end = inr refl }
 
   top_of : (v : ℕ) → IsEnd g e v → (outermost bs v ≡ x) ⊎ (outermost bs v ≡ y)
   top_of v end = ⊎_elim
@@ -95,7 +94,7 @@ module _ (g : Multigraph) (bs : List Blossom) (nested : IsNested g.vertices bs) 
 
   pub still_bare : IsBare g bs m → IsBare g bs m'
   still_bare bare c f child has = ⊎_elim
-      (λ r. let same : e ≡ f = some_same e f (sym (spread_has g bs m e r.0 c r.1 r.2) ∙ has) in
+      (λ r. let same : e ≡ f = same_Some e f (sym (spread_has g bs m e r.0 c r.1 r.2) ∙ has) in
       record { vertex = r.0; end = subst (λ k. IsEnd g k r.0) same r.1; holder = r.2; mate = top_has r.0 (outermost bs r.0) r.1 refl ∙ ap (λ z. Some z) same })
       (λ r. let s = bare c f child (sym r ∙ has) in
       record { vertex = s.vertex; end = s.end; holder = s.holder; mate = mates_keep (outermost bs s.vertex) f (outermost_free g.vertices bs s.vertex nested s.end.vertex) s.mate })
@@ -103,7 +102,7 @@ module _ (g : Multigraph) (bs : List Blossom) (nested : IsNested g.vertices bs) 
 
   joined_spread : (a : ℕ) → m' a ≡ Some e → IsSpread g bs m' a
   joined_spread a has f v c there end o on =
-      let same : e ≡ f = some_same e f (sym has ∙ there) in
+      let same : e ≡ f = same_Some e f (sym has ∙ there) in
       spread_has g bs m e v c (subst (λ k. IsEnd g k v) (sym same) end) on ∙ ap (λ z. Some z) same
 
   pub x_spread : IsSpread g bs m' x

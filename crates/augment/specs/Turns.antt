@@ -1,6 +1,5 @@
 -- A path that is flipped. Only clauses of private calls cite this module.
 use Rattle.std.specs.Prelude.{◌≡◌, ◌≢◌, ◌↔◌, ℕ, false, Option, Some, None}
-use Rattle.graph_theory.specs.Graph.{IsEdgeNumber}
 use Rattle.graph_theory.specs.Parts.{holds}
 use Rattle.alt_forest.specs.declared.label.Label.TheVariants.{Outer, Out}
 use Rattle.alt_forest.specs.State.{State, IsOutermost, IsExposed, IsTight, Joins, IsMate}
@@ -15,12 +14,6 @@ pub record LeadsToExposed (s : State) (e near far : ℕ) : Type 0 where
   pub near_outer : s.label near ≡ Outer
   pub far_out : s.label far ≡ Out
   pub exposed : s.mate far ≡ None
-
--- a node has a parent
-pub record HasParent (s : State) (a : ℕ) : Type 0 where
-  pub edge : ℕ
-  pub parent : s.parent a ≡ Some edge
-  pub is_edge : IsEdgeNumber s.graph edge
 
 -- mates pair outermost nodes
 abbrev pub HasMates : State → Type 0

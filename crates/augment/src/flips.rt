@@ -1,33 +1,19 @@
 ghost use Rattle.std.specs.Prelude.{◌≡◌, ◌≢◌, ◌↔◌, ◌+◌, ◌≤◌, ℕ, false, Some, vec_len, length};
-ghost use Rattle.graph_theory.specs.Graph.{IsEdgeNumber, edge_of};
+ghost use Rattle.graph_theory.specs.Graph.{edge_of};
 ghost use Rattle.graph_theory.specs.Parts.{holds};
 ghost use Rattle.alt_forest.specs.declared.label.Label.TheVariants.{Out};
 ghost use Rattle.alt_forest.specs.State.{IsOutermost, IsExposed};
 ghost use Rattle.alt_forest.specs.Trees.{path_of, root_of};
 ghost use Rattle.alt_forest.specs.Events.{CanAugment};
-ghost use Rattle.alt_forest.specs.Searches.{HasShape, IsSound, state_of, label_at, edge_in};
+ghost use Rattle.alt_forest.specs.Searches.{IsSound, state_of, label_at, edge_in};
 ghost use Rattle.alt_forest.specs.Counts.{exposed_count, tree_count};
-ghost use Rattle.augment.specs.Turns.{LeadsToExposed, HasParent, HasMates, IsFlipped};
+ghost use Rattle.augment.specs.Turns.{LeadsToExposed, HasMates, IsFlipped};
 
 use alt_forest::{Label, Search, set_edge};
 use blossom_arena::NodeId;
 use mb_base::{EdgeId, Steps, VertexId};
 use std::sync::ledger::Ledger;
 use weighted_graph::Graph;
-
-/// The edge to the parent of an outermost node that has one.
-fn parent_of(search: &Search, node: NodeId) -> EdgeId
-    requires shape { HasShape search.now }
-    requires outer { IsOutermost (state_of search.now) node }
-    requires parent { HasParent (state_of search.now) node }
-    ensures edge { Some result ≡ edge_in search.now.parents.items node }
-    ensures is_edge { IsEdgeNumber search.now.graph result }
-{
-    match search.parent(node) {
-        Some(e) => e,
-        None => unreachable!(),
-    }
-}
 
 /// Matches `far` by the edge, and changes the mates from `near` to the root of its tree.
 fn turn(search: &mut Search, e: EdgeId, near: NodeId, far: NodeId)
@@ -42,14 +28,12 @@ fn turn(search: &mut Search, e: EdgeId, near: NodeId, far: NodeId)
     set_edge(&mut search.mates, far, Some(e));
     let mut node = near;
     let mut edge = e;
-    while let Some(mate) = search.mate(node) {
-        let inner = search.other_node(mate, node);
-        let by = parent_of(search, inner);
-        let up = search.other_node(by, inner);
+    'path: while search.mate(node).is_some() {
+        let hop = search.hop(node);
         set_edge(&mut search.mates, node, Some(edge));
-        set_edge(&mut search.mates, inner, Some(by));
-        node = up;
-        edge = by;
+        set_edge(&mut search.mates, hop.inner, Some(hop.parent));
+        node = hop.outer;
+        edge = hop.parent;
     }
     let root = node;
     set_edge(&mut search.mates, root, Some(edge));

@@ -1,5 +1,5 @@
 -- What a dissolve leaves: the blossoms that stood, without one.
-use Rattle.std.proofs.Common.{◌≡◌, ℕ, ◌+◌, ◌<◌, true, false, eqb, leb, cond, List, [], ◌∷◌, length, sym, ap, ◌∙◌, subst, arith, ⊎_elim, None}
+use Rattle.std.proofs.Common.{◌≡◌, ℕ, ◌+◌, ◌<◌, true, false, eqb, leb, cond, List, length, sym, ap, ◌∙◌, subst, arith, ⊎_elim, None}
 use Rattle.std.specs.Prelude.{slice_set, slice_index, IsSome, is_some, pos, ◌≤ℤ◌}
 use Rattle.std.specs.List.{AllByRecursion}
 use Rattle.std.specs.Global.{Vec}
@@ -16,7 +16,7 @@ use Rattle.blossom_arena.specs.Fields.{IsSound, blossoms_of, order_of, key_of, k
 use Rattle.blossom_arena.proofs.Lists.{by_test, each_from}
 use Rattle.blossom_arena.proofs.Nested.{range_vertex, child_is_node}
 use Rattle.blossom_arena.proofs.Parents.{ring_child}
-use Rattle.blossom_arena.proofs.Taken.{members_without, nested_without, parent_without}
+use Rattle.blossom_arena.proofs.Taken.{members_without, nested_without, parent_without, each_without}
 use Rattle.blossom_arena.proofs.Opened.{outermost_lowered, ring_other}
 use Rattle.blossom_arena.proofs.Writes.{length-filled, filled_at, length-lowered}
 use Rattle.blossom_arena.proofs.Orders.{removed, length-removed, removed_sub, removed_has, removed_not, take_out_order, walk_order}
@@ -33,10 +33,6 @@ pub record Dissolves (a b : Inside) (node : ℕ) : Type 0 where
   pub newer : b.newer.items ≡ slice_set a.newer.items (slice_index a.older.items node) (slice_index a.newer.items node)
   pub parents : b.parents.items ≡ filled a.parents.items (nodes_of (ring_of (blossoms_of a) node)) 0
   pub outer : b.outer.items ≡ lowered a.outer.items (λ x. vertices_of a.followers.items (run_of a.vertex_count b.kept x)) (nodes_of (ring_of (blossoms_of a) node))
-
-pub each_without : (P : Blossom → Type 0) (bs : List Blossom) (a : ℕ) → AllByRecursion P bs → AllByRecursion P (without bs a)
-each_without P [] a each = tt
-each_without P (b ∷ older) a each = elim (eqb b.node a) as (λ q. AllByRecursion P (cond q older (b ∷ without older a))) [ true ↦ each.1 | false ↦ (each.0, each_without P older a each.1) ]
 
 -- the kept of another node
 pub other_kept : (n : ℕ) (kept kept' : Slab Kept) (node x : ℕ) → Updates kept kept' (key_of n node) None → n < node → n < x → eqb node x ≡ false → get kept' (key_of n x) ≡ get kept (key_of n x)

@@ -41,10 +41,10 @@ new_parts (x ∷ xs) ys h =
       apart = λ v e. or_from (eqb x v) (holds xs v) (false_from_ne_true (eqb x v) (λ s. both_ways (holds ys x) p.1 (ap (holds ys) (eqb-true x v s) ∙ e))) (r.apart v e);
     }
 
--- a ring goes through the nodes of all its links
-each_inside : (ring links : List Link) → ((x : ℕ) → in_ring links x ≡ true → in_ring ring x ≡ true) → AllByRecursion (λ (l : Link). in_ring ring l.node ≡ true) links
-each_inside ring [] within = tt
-each_inside ring (l ∷ links) within = (within l.node (first_in l.node (nodes_of links)), each_inside ring links (λ x e. within x (later_in l.node (nodes_of links) x e)))
+-- what is true of each node that links go through is true of each link's node
+pub each_link : (P : ℕ → Type 0) (links : List Link) → ((x : ℕ) → in_ring links x ≡ true → P x) → AllByRecursion (λ (l : Link). P l.node) links
+each_link P [] h = tt
+each_link P (l ∷ links) h = (h l.node (first_in l.node (nodes_of links)), each_link P links (λ x e. h x (later_in l.node (nodes_of links) x e)))
 
 pub all_inside : (ring : List Link) → AllByRecursion (λ (l : Link). in_ring ring l.node ≡ true) ring
-all_inside ring = each_inside ring ring (λ x e. e)
+all_inside ring = each_link (λ x. in_ring ring x ≡ true) ring (λ x e. e)

@@ -8,9 +8,9 @@ use Rattle.std.proofs.lemmas.List.Filters.{length-filter_both}
 use Rattle.std.proofs.lemmas.Map.Made.{length-from_same_keys, length-le_from_is_member}
 use Rattle.std.proofs.lemmas.Map.Keys.{IsDistinct-tail, IsDistinct-head}
 use Rattle.std.proofs.lemmas.Bool.Decides.{nat_tests}
-use Rattle.std.proofs.lemmas.Bool.{eqb-true, eq-eqb, ne_eqb, eqb-false, or_parts, or_from, or_cases, or_left, or_right, both_ways}
+use Rattle.std.proofs.lemmas.Bool.{eqb-true, eq-eqb, or_parts, or_from, or_cases, or_left, or_right, both_ways}
 use Rattle.graph_theory.specs.Parts.{holds}
-use Rattle.graph_theory.proofs.Members.{holds-append}
+use Rattle.graph_theory.proofs.Members.{holds-append, eqb-turned}
 use Rattle.blossom_arena.specs.declared.links.Link.{Link}
 use Rattle.blossom_arena.specs.Family.{nodes_of, in_ring}
 
@@ -19,12 +19,6 @@ pub by_test : {P : Type 0} (t : Bool) → (t ≡ true → P) → (t ≡ false �
 by_test true f g = f refl
 by_test false f g = g refl
 
-pub eqb-sym : (a b : ℕ) → eqb a b ≡ eqb b a
-eqb-sym a b =
-    by_test (eqb b a)
-    (λ e. eq-eqb a b (sym (eqb-true b a e)) ∙ sym e)
-    (λ e. ne_eqb a b (λ s. eqb-false b a e (sym s)) ∙ sym e)
-
 -- no number stands there twice
 abbrev pub AllNew : List ℕ → Type 0
 AllNew [] = Unit {0}
@@ -32,15 +26,15 @@ AllNew (x ∷ xs) = (holds xs x ≡ false) × AllNew xs
 
 holds_is : (xs : List ℕ) (v : ℕ) → holds xs v ≡ is_member nat_eq xs v
 holds_is [] v = refl
-holds_is (x ∷ xs) v = ap₂ (λ (a b : Bool). a || b) (eqb-sym x v) (holds_is xs v)
+holds_is (x ∷ xs) v = ap₂ (λ (a b : Bool). a || b) (eqb-turned x v) (holds_is xs v)
 
 absent_all : (x : ℕ) (xs : List ℕ) → holds xs x ≡ false → AllByRecursion (λ y. nat_eq x y ≡ false) xs
 absent_all x [] h = tt
-absent_all x (y ∷ ys) h = let p = or_parts (eqb y x) (holds ys x) h in (eqb-sym x y ∙ p.0, absent_all x ys p.1)
+absent_all x (y ∷ ys) h = let p = or_parts (eqb y x) (holds ys x) h in (eqb-turned x y ∙ p.0, absent_all x ys p.1)
 
 all_absent : (x : ℕ) (xs : List ℕ) → AllByRecursion (λ y. nat_eq x y ≡ false) xs → holds xs x ≡ false
 all_absent x [] h = refl
-all_absent x (y ∷ ys) h = or_from (eqb y x) (holds ys x) (eqb-sym y x ∙ h.0) (all_absent x ys h.1)
+all_absent x (y ∷ ys) h = or_from (eqb y x) (holds ys x) (eqb-turned y x ∙ h.0) (all_absent x ys h.1)
 
 pub new_from_distinct : (xs : List ℕ) → IsDistinct nat_eq xs → AllNew xs
 new_from_distinct [] h = tt

@@ -1,5 +1,5 @@
 -- A nested family: its nodes, how many of them are outermost, and that there is room for one more.
-use Rattle.std.proofs.Common.{◌≡◌, ℕ, ◌+◌, ◌*◌, ◌≤◌, ◌<◌, Bool, true, false, ◌||◌, ◌&&◌, not, eqb, leb, List, [], ◌∷◌, length, refl, ap, ◌∙◌, subst, arith, ⊎_elim}
+use Rattle.std.proofs.Common.{◌≡◌, ◌≢◌, ℕ, ◌+◌, ◌*◌, ◌≤◌, ◌<◌, Bool, true, false, ◌||◌, ◌&&◌, not, eqb, leb, List, [], ◌∷◌, length, refl, sym, ap, ◌∙◌, subst, arith, ⊎_elim}
 use Rattle.std.specs.Prelude.{filter, sum_by, All}
 use Rattle.std.specs.List.{AllByRecursion}
 use Rattle.std.proofs.lemmas.List.Elements.{recursion_from_All}
@@ -40,11 +40,19 @@ node_grows n b older a e = ⊎_elim
 pub new_is_node : (n : ℕ) (b : Blossom) (older : List Blossom) → is_node n (b ∷ older) b.node ≡ true
 new_is_node n b older = or_right (is_vertex n b.node) (holds (names_of (b ∷ older)) b.node) (or_left (eqb b.node b.node) (holds (names_of older) b.node) (eq-eqb b.node b.node refl))
 
+-- a name that isn't the newest is an older one
+pub older_name : (b : Blossom) (older : List Blossom) (a : ℕ) → eqb b.node a ≡ false → holds (names_of (b ∷ older)) a ≡ true → holds (names_of older) a ≡ true
+older_name b older a ne k = ⊎_elim (λ s. absurd (both_ways (eqb b.node a) ne s)) (λ m. m) (or_cases (eqb b.node a) (holds (names_of older) a) k)
+
 pub node_before : (n : ℕ) (b : Blossom) (older : List Blossom) (a : ℕ) → eqb b.node a ≡ false → is_node n (b ∷ older) a ≡ true → is_node n older a ≡ true
 node_before n b older a s e = ⊎_elim
     (λ v. or_left (is_vertex n a) (holds (names_of older) a) v)
-    (λ m. ⊎_elim (λ t. absurd (both_ways (eqb b.node a) s t)) (λ t. or_right (is_vertex n a) (holds (names_of older) a) t) (or_cases (eqb b.node a) (holds (names_of older) a) m))
+    (λ m. or_right (is_vertex n a) (holds (names_of older) a) (older_name b older a s m))
     (or_cases (is_vertex n a) (holds (names_of (b ∷ older)) a) e)
+
+-- a node is not one that comes anew
+pub not_new : (n : ℕ) (bs : List Blossom) (x a : ℕ) → is_node n bs x ≡ false → is_node n bs a ≡ true → a ≢ x
+not_new n bs x a fresh is e = both_ways (is_node n bs x) fresh (ap (is_node n bs) (sym e) ∙ is)
 
 pub vertex_is_node : (n : ℕ) (bs : List Blossom) (v : ℕ) → is_vertex n v ≡ true → is_node n bs v ≡ true
 vertex_is_node n bs v e = or_left (is_vertex n v) (holds (names_of bs) v) e

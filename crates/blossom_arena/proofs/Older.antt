@@ -1,11 +1,11 @@
 -- A blossom of a family over those that are older: its circuit, and which node of the circuit holds a vertex.
-use Rattle.std.proofs.Common.{◌≡◌, ℕ, ◌%◌, ◌≤◌, true, false, eqb, cond, List, [], ◌∷◌, length, refl, sym, ap, ◌∙◌, subst, ⊎_elim}
-use Rattle.std.proofs.lemmas.Bool.{or_cases, both_ways}
+use Rattle.std.proofs.Common.{◌≡◌, ℕ, ◌%◌, ◌≤◌, true, false, eqb, cond, List, [], ◌∷◌, length, refl, sym, ap, ◌∙◌, subst}
+use Rattle.std.proofs.lemmas.Bool.{both_ways}
 use Rattle.graph_theory.specs.Parts.{holds}
 use Rattle.blossom_arena.specs.declared.links.Link.{Link}
 use Rattle.blossom_arena.specs.Family.{Blossom, IsNested, IsCircuit, is_vertex, is_child, nodes_of, names_of, in_ring, ring_of, members_of, older_than, child_holding, outermost}
 use Rattle.blossom_arena.proofs.Lists.{AllNew, by_test, new_from_distinct}
-use Rattle.blossom_arena.proofs.Nested.{child_free, room_for_circuit}
+use Rattle.blossom_arena.proofs.Nested.{child_free, room_for_circuit, older_name}
 use Rattle.blossom_arena.proofs.Sets.{members_here, members_past, member_by_ring, outermost_has}
 
 -- what is looked up for the newest blossom, and for any other node
@@ -18,10 +18,6 @@ here b older x e = record { older_is = ap (λ q. cond q older (older_than older 
 
 pub past : (b : Blossom) (older : List Blossom) (x : ℕ) → eqb b.node x ≡ false → AreLookedUp (b ∷ older) (older_than older x) (ring_of older x) x
 past b older x e = record { older_is = ap (λ q. cond q older (older_than older x)) e; ring_is = ap (λ q. cond q b.ring (ring_of older x)) e }
-
--- a name that isn't the newest is an older one
-pub older_name : (b : Blossom) (older : List Blossom) (a : ℕ) → eqb b.node a ≡ false → holds (names_of (b ∷ older)) a ≡ true → holds (names_of older) a ≡ true
-older_name b older a ne k = ⊎_elim (λ s. absurd (both_ways (eqb b.node a) ne s)) (λ m. m) (or_cases (eqb b.node a) (holds (names_of older) a) k)
 
 -- the circuit of a blossom, among those older than it
 pub record HasRing (n : ℕ) (bs : List Blossom) (a : ℕ) : Type 0 where

@@ -7,7 +7,7 @@ use Rattle.blossom_arena.specs.declared.links.Link.{Link}
 use Rattle.blossom_arena.specs.Family.{Blossom, nodes_of, in_ring, names_of, is_vertex, is_node, is_child, is_outermost, outermost, members_of, union_of, ring_of, without, IsNested}
 use Rattle.blossom_arena.specs.Fields.{parent_of, lowered}
 use Rattle.blossom_arena.proofs.Lists.{by_test}
-use Rattle.blossom_arena.proofs.Nested.{new_free, child_is_node}
+use Rattle.blossom_arena.proofs.Nested.{new_free, child_is_node, older_name}
 use Rattle.blossom_arena.proofs.Sets.{members_here, members_past, in_union, of_union, outermost_has, outermost_by_member}
 use Rattle.blossom_arena.proofs.Parents.{ring_child}
 use Rattle.blossom_arena.proofs.Taken.{node_without, members_without, nested_without, outermost_stays, parent_without}
@@ -30,7 +30,7 @@ ring_members n (b ∷ older) a h k =
     by_test (eqb b.node a)
     (λ e. members_here b older a e ∙ h.0.union ∙ sym (union_past b older b.ring free.0) ∙ ap (λ q. union_of (b ∷ older) (cond q b.ring (ring_of older a))) (sym e))
     (λ e.
-    let there : holds (names_of older) a ≡ true = ⊎_elim (λ s. absurd (both_ways (eqb b.node a) e s)) (λ m. m) (or_cases (eqb b.node a) (holds (names_of older) a) k) in
+    let there : holds (names_of older) a ≡ true = older_name b older a e k in
     let out : in_ring (ring_of older a) b.node ≡ false = false_from_ne_true (in_ring (ring_of older a) b.node) (λ r. both_ways (is_child older b.node) free.1 (ring_child older a b.node r)) in
     members_past b older a e ∙ ring_members n older a h.1 there ∙ sym (union_past b older (ring_of older a) out) ∙ ap (λ q. union_of (b ∷ older) (cond q b.ring (ring_of older a))) (sym e))
 

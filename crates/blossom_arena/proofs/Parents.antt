@@ -9,7 +9,7 @@ use Rattle.blossom_arena.specs.Family.{Blossom, in_ring, names_of, is_vertex, is
 use Rattle.blossom_arena.specs.Tables.{last_of}
 use Rattle.blossom_arena.specs.Fields.{parent_of, climb, climb_to, CanClimb}
 use Rattle.blossom_arena.proofs.Lists.{tails, by_test, first_in, later_in, each_from}
-use Rattle.blossom_arena.proofs.Nested.{child_free, new_no_child, node_grows, new_is_node, node_range, blossoms_few}
+use Rattle.blossom_arena.proofs.Nested.{child_free, new_no_child, node_grows, new_is_node, node_range, blossoms_few, older_name}
 use Rattle.blossom_arena.proofs.Sets.{member_by_ring, members_here, members_past, outermost_free}
 use Rattle.blossom_arena.proofs.Tails.{last_append}
 
@@ -179,7 +179,7 @@ older_fresh n (b ∷ older) a h k =
     by_test (eqb b.node a)
     (λ e. ap (λ q. is_node n (cond q older (older_than older a)) a) e ∙ ap (is_node n older) (sym (eqb-true b.node a e)) ∙ h.0.fresh)
     (λ e. ap (λ q. is_node n (cond q older (older_than older a)) a) e
-    ∙ older_fresh n older a h.1 (⊎_elim (λ s. absurd (both_ways (eqb b.node a) e s)) (λ m. m) (or_cases (eqb b.node a) (holds (names_of older) a) k)))
+    ∙ older_fresh n older a h.1 (older_name b older a e k))
 
 pub older_short : (bs : List Blossom) (a : ℕ) → length (older_than bs a) ≤ length bs
 older_short [] a = omega arith
@@ -201,7 +201,7 @@ chain_through (b ∷ older) a v k m =
     let below : chain_of (older_than (b ∷ older) a) v ≡ chain_of older v = ap (λ q. chain_of (cond q older (older_than older a)) v) e in
     ([], ap (λ q. cond q (chain_of older v ++ b.node ∷ []) (chain_of older v)) held ∙ ap (λ c. chain_of older v ++ c ∷ []) (eqb-true b.node a e) ∙ ap (λ c. c ++ a ∷ []) (sym below)))
     (λ e.
-    let r = chain_through older a v (⊎_elim (λ s. absurd (both_ways (eqb b.node a) e s)) (λ m. m) (or_cases (eqb b.node a) (holds (names_of older) a) k)) (sym (ap (λ ms. holds ms v) (members_past b older a e)) ∙ m) in
+    let r = chain_through older a v (older_name b older a e k) (sym (ap (λ ms. holds ms v) (members_past b older a e)) ∙ m) in
     let below : chain_of (older_than (b ∷ older) a) v ≡ chain_of (older_than older a) v = ap (λ q. chain_of (cond q older (older_than older a)) v) e in
     by_test (holds b.members v)
     (λ held. (

@@ -9,7 +9,7 @@ use Rattle.graph_theory.proofs.Members.{holds-append}
 use Rattle.blossom_arena.specs.declared.links.Link.{Link}
 use Rattle.blossom_arena.specs.Family.{Blossom, nodes_of, in_ring, names_of, is_vertex, is_node, is_child, is_outermost, outermost, members_of, union_of, IsNext, IsNested}
 use Rattle.blossom_arena.proofs.Lists.{by_test, AllNew, new_from_distinct, new-append, first_in, later_in}
-use Rattle.blossom_arena.proofs.Nested.{circuit_outer, circuit_node, outermost_parts, node_before, new_is_node, node_grows, outermost_before, new_no_child, name_no_vertex}
+use Rattle.blossom_arena.proofs.Nested.{circuit_outer, circuit_node, outermost_parts, node_before, new_is_node, node_grows, outermost_before, new_no_child, name_no_vertex, older_name}
 
 -- the newest blossom's vertices, and those of any other node
 pub members_here : (b : Blossom) (older : List Blossom) (x : ℕ) → eqb b.node x ≡ true → members_of (b ∷ older) x ≡ b.members
@@ -174,7 +174,7 @@ members_three n (b ∷ older) x h k =
     (λ e. let sizes = (union_odd older b.ring (λ a r. members_odd n older a h.1 (circuit_node n older b.ring a h.0.circuit r))).1 in
     omega (arith, sizes, h.0.circuit.at_least_three, ap length (members_here b older x e ∙ h.0.union)))
     (λ e. subst (λ ms. 3 ≤ length ms) (sym (members_past b older x e))
-    (members_three n older x h.1 (⊎_elim (λ s. absurd (both_ways (eqb b.node x) e s)) (λ m. m) (or_cases (eqb b.node x) (holds (names_of older) x) k))))
+    (members_three n older x h.1 (older_name b older x e k)))
 
 -- a vertex has itself alone
 pub members_of_vertex : (n : ℕ) (bs : List Blossom) (v : ℕ) → IsNested n bs → is_vertex n v ≡ true → members_of bs v ≡ v ∷ []

@@ -1,5 +1,5 @@
 -- The slack of an edge by the family's duals is the slack that certificates know.
-use Rattle.std.proofs.Common.{◌≡◌, ℕ, zero, suc, ◌+◌, ◌-◌, ◌≤◌, ℤ, pos, ◌+ℤ◌, ◌-ℤ◌, ◌*ℤ◌, ⊎_elim, Bool, true, false, not, cond, List, [], ◌∷◌, length, refl, sym, ap, ap₂, ◌∙◌, arith, get_or, drop}
+use Rattle.std.proofs.Common.{◌≡◌, ℕ, zero, suc, ◌+◌, ◌-◌, ◌≤◌, ℤ, pos, ◌+ℤ◌, ◌-ℤ◌, ◌*ℤ◌, ⊎_elim, Bool, true, false, cond, List, [], ◌∷◌, length, refl, sym, ap, ap₂, ◌∙◌, arith, get_or, drop}
 use Rattle.std.proofs.lemmas.Int.{ints}
 use Rattle.std.proofs.lemmas.List.{get_or-take, get_or-drop}
 use Rattle.graph_theory.specs.Sums.{int_sum_to}
@@ -9,8 +9,8 @@ use Rattle.graph_theory.specs.Graph.{IsEdgeWithin}
 use Rattle.graph_theory.specs.Parts.{crosses}
 use Rattle.graph_theory.specs.Duals.{set_at, dual_of, crossed_by, slack}
 use Rattle.blossom_arena.specs.Family.{Blossom, dual_at}
-use Rattle.graph_theory.specs.Nested.{AreSame}
 use Rattle.blossom_arena.specs.Slack.{duals_across, vertex_duals, sets_of, AreListed}
+use Rattle.graph_theory.proofs.Crossings.{crosses-same}
 
 -- the first term of a sum apart
 sum_first : (f : ℕ → ℤ) (n : ℕ) → int_sum_to f (suc n) ≡ f 0 +ℤ int_sum_to (λ k. f (suc k)) n
@@ -41,9 +41,6 @@ slack_across n ys bs e within =
     omega (arith, ints, u, v, all)
 
 -- a certificate may leave out the sets of dual 0, and list the vertices of the others in any order
-pub crosses_same : (xs ys : List ℕ) (e : Edge) → AreSame xs ys → crosses xs e ≡ crosses ys e
-crosses_same xs ys e same = ap₂ (λ (p q : Bool). cond p (not q) q) (same e.u) (same e.v)
-
 none_either_way : (q : Bool) (y : ℤ) → y ≡ pos 0 → cond q y (pos 0) ≡ pos 0
 none_either_way true y h = h
 none_either_way false y h = refl
@@ -60,7 +57,7 @@ crossed_listed ys (b ∷ older) sets e listed =
     omega (arith, ints, below, cons, none))
     (λ kept. ap (λ ss. crossed_by ss (length ss) e) kept.2
     ∙ crossed_cons kept.0 kept.1 e
-    ∙ ap₂ (λ (z w : ℤ). z +ℤ w) (ap₂ (λ (q : Bool) (y : ℤ). cond q y (pos 0)) (crosses_same kept.0.members b.members e kept.3.members) kept.3.dual) (crossed_listed ys older kept.1 e kept.4)
+    ∙ ap₂ (λ (z w : ℤ). z +ℤ w) (ap₂ (λ (q : Bool) (y : ℤ). cond q y (pos 0)) (crosses-same kept.0.members b.members e kept.3.members) kept.3.dual) (crossed_listed ys older kept.1 e kept.4)
     ∙ sym (crossed_cons first (sets_of ys older) e))
     listed
 

@@ -1,5 +1,6 @@
 -- A nested family where an outermost blossom is taken away.
 use Rattle.std.proofs.Common.{◌≡◌, ℕ, zero, suc, get_or, ◌<◌, true, false, not, ◌||◌, eqb, cond, List, [], ◌∷◌, ◌++◌, length, refl, sym, ap, ◌∙◌, subst, arith, ⊎_elim}
+use Rattle.std.specs.List.{AllByRecursion}
 use Rattle.std.proofs.lemmas.Bool.{eqb-true, eqb-false, ne_eqb, false_from_ne_true, or_cases, or_parts, both_ways, or_left, or_right, and_from}
 use Rattle.std.proofs.lemmas.List.Concat.{flat_map-cons}
 use Rattle.graph_theory.specs.Parts.{holds}
@@ -9,6 +10,11 @@ use Rattle.blossom_arena.specs.Fields.{parent_of}
 use Rattle.blossom_arena.proofs.Lists.{by_test, first_in, later_in}
 use Rattle.blossom_arena.proofs.Nested.{outermost_parts, child_free}
 use Rattle.blossom_arena.proofs.Parents.{free_parent, ring_child}
+
+-- what holds of each blossom holds of each that is left
+pub each_without : (P : Blossom → Type 0) (bs : List Blossom) (a : ℕ) → AllByRecursion P bs → AllByRecursion P (without bs a)
+each_without P [] a each = tt
+each_without P (b ∷ older) a each = elim (eqb b.node a) as (λ q. AllByRecursion P (cond q older (b ∷ without older a))) [ true ↦ each.1 | false ↦ (each.0, each_without P older a each.1) ]
 
 -- other names stay
 pub names_without : (bs : List Blossom) (a c : ℕ) → eqb a c ≡ false → holds (names_of (without bs a)) c ≡ holds (names_of bs) c

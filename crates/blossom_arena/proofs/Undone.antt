@@ -1,5 +1,5 @@
 -- What the steps of a dissolve need.
-use Rattle.std.proofs.Common.{◌≡◌, ℕ, ◌+◌, ◌<◌, true, false, List, [], ◌∷◌, length, sym, ap, ap₂, ◌∙◌, subst, arith, Some, None}
+use Rattle.std.proofs.Common.{◌≡◌, ℕ, ◌+◌, ◌<◌, true, false, List, length, sym, ap, ap₂, ◌∙◌, subst, arith, Some, None}
 use Rattle.std.specs.Prelude.{slice_index}
 use Rattle.std.specs.List.{AllByRecursion}
 use Rattle.slab.specs.Slab.{Slab, get, Updates}
@@ -10,19 +10,15 @@ use Rattle.blossom_arena.specs.declared.runs.Kept.{Kept}
 use Rattle.blossom_arena.specs.declared.arena.Arena.TheInside.{Inside}
 use Rattle.blossom_arena.specs.Tables.{walk, links_of}
 use Rattle.graph_theory.specs.Nested.{most_blossoms}
-use Rattle.blossom_arena.specs.Family.{nodes_of, in_ring, ring_of, is_child, is_node}
+use Rattle.blossom_arena.specs.Family.{in_ring, ring_of, is_child, is_node}
 use Rattle.blossom_arena.specs.Fields.{IsSound, blossoms_of, order_of, key_of, kept_of, kept_or_none, run_of, vertices_of}
-use Rattle.blossom_arena.proofs.Lists.{first_in, later_in}
 use Rattle.blossom_arena.proofs.Nested.{node_range, child_is_node}
 use Rattle.blossom_arena.proofs.Parents.{ring_child}
 use Rattle.blossom_arena.proofs.Opened.{ring_other}
 use Rattle.blossom_arena.proofs.Orders.{neighbours_within}
 use Rattle.blossom_arena.proofs.Sound.{order_range, ring_within, ring_is, members_within}
 use Rattle.blossom_arena.proofs.Dissolved.{other_run}
-
-each_link : (P : ℕ → Type 0) (ring : List Link) → ((x : ℕ) → in_ring ring x ≡ true → P x) → AllByRecursion (λ (l : Link). P l.node) ring
-each_link P [] each = tt
-each_link P (l ∷ ring) each = (each l.node (first_in l.node (nodes_of ring)), each_link P ring (λ x e. each x (later_in l.node (nodes_of ring) x e)))
+use Rattle.blossom_arena.proofs.LinkLists.{each_link}
 
 module _ (a : Inside) (node : ℕ) (s : IsSound a) (there : holds (order_of a) node ≡ true) where
   abbrev n : ℕ

@@ -10,16 +10,17 @@ use Rattle.blossom_arena.specs.declared.links.Link.{Link}
 use Rattle.blossom_arena.specs.Family.{Blossom, IsNested, is_node, is_child, is_outermost, names_of}
 use Rattle.blossom_arena.specs.Slack.{duals_across}
 use Rattle.blossom_arena.proofs.Lists.{by_test, first_in, later_in}
-use Rattle.blossom_arena.proofs.Nested.{range_vertex}
 use Rattle.blossom_arena.proofs.Sets.{outermost_has}
 use Rattle.alt_forest.specs.declared.label.Label.{Label}
 use Rattle.alt_forest.specs.declared.label.Label.TheVariants.{Outer, Inner, Out}
 use Rattle.alt_forest.specs.State.{State, IsOutermost, node_u, node_v, Joins, slack_of, IsTight, IsMate, IsInner, IsSearchState}
 use Rattle.alt_forest.proofs.Relabelled.{outer_not_inner}
-use Rattle.alt_forest.proofs.Walk.{some_same, other_node_joins}
+use Rattle.alt_forest.proofs.Walk.{other_node_joins}
 use Rattle.dual_change.specs.Changes.{share, change, applied, IsWithin}
 use Rattle.dual_change.proofs.Across.{across-sum, FeelsOuter, feels_outer}
 use Rattle.dual_change.proofs.Inside.{LiesWithin, rings_within}
+use Rattle.std.proofs.lemmas.Option.{same_Some}
+use Rattle.blossom_arena.proofs.Ends.{u_vertex, v_vertex}
 
 -- what a change adds at a node
 pub change_outer : (s : State) (d : ℤ) (a : ℕ) → IsOutermost s a → change s d a ≡ share d (s.label a)
@@ -36,7 +37,7 @@ change_child s d a c = change_none s d a (none (is_node s.graph.vertices s.bloss
     none false true e = refl
     none p false e = absurd (both_ways false refl e)
 
-plain_sum : (x : ℤ) → x +ℤ pos 0 ≡ x
+pub plain_sum : (x : ℤ) → x +ℤ pos 0 ≡ x
 plain_sum x = omega (arith, ints)
 
 module _ (s : State) (d : ℤ) (graph : IsGraph s.graph) (nested : IsNested s.graph.vertices s.blossoms) where
@@ -45,10 +46,10 @@ module _ (s : State) (d : ℤ) (graph : IsGraph s.graph) (nested : IsNested s.gr
 
   -- the nodes that hold the ends of an edge are outermost
   pub u_outer : (e : ℕ) → IsEdgeNumber s.graph e → IsOutermost s (node_u s.graph s.blossoms e)
-  u_outer e is = let w = edge_of_within s.graph e graph.ends is in (outermost_has s.graph.vertices s.blossoms (edge_of s.graph e).u nested (range_vertex s.graph.vertices (edge_of s.graph e).u w.u_low w.u_high)).0
+  u_outer e is = (outermost_has s.graph.vertices s.blossoms (edge_of s.graph e).u nested (u_vertex s.graph e graph.ends is)).0
 
   pub v_outer : (e : ℕ) → IsEdgeNumber s.graph e → IsOutermost s (node_v s.graph s.blossoms e)
-  v_outer e is = let w = edge_of_within s.graph e graph.ends is in (outermost_has s.graph.vertices s.blossoms (edge_of s.graph e).v nested (range_vertex s.graph.vertices (edge_of s.graph e).v w.v_low w.v_high)).0
+  v_outer e is = (outermost_has s.graph.vertices s.blossoms (edge_of s.graph e).v nested (v_vertex s.graph e graph.ends is)).0
 
   -- what an edge feels more, it loses
   loses : (e : ℕ) (z : ℤ) → duals_across (change s d) s.blossoms (edge_of s.graph e) ≡ z → slack_of (applied s d) e ≡ slack_of s e -ℤ z
@@ -170,7 +171,7 @@ module _ (s : State) (d : ℤ) (graph : IsGraph s.graph) (nested : IsNested s.gr
         by_label Outer lab = stays_outer_inner e a b m.edge m.joins m.different lab ((st.labels a is).outer lab e b has m).0
         by_label Inner lab =
             let i = (st.labels a is).inner lab in
-            let edge : i.child_edge ≡ e = some_same i.child_edge e (sym i.mate ∙ has) in
+            let edge : i.child_edge ≡ e = same_Some i.child_edge e (sym i.mate ∙ has) in
             let child : i.child ≡ b = one_mate a e i.child b (subst (λ x. Joins s.graph s.blossoms x a i.child) edge i.is_mate.joins) i.is_mate.different m.joins m.different in
             stays_inner_outer e a b m.edge m.joins m.different lab (ap s.label (sym child) ∙ i.child_outer)
         by_label Out lab = stays_out_out e a b m.edge m.joins m.different lab ((st.labels a is).out lab e b has m)

@@ -55,8 +55,8 @@ module _ (s : State) (depth : ℕ → ℕ) (graph : IsGraph s.graph) (nested : I
     link_ring (l ∷ ring) w = (
       (
         w.0.one_node,
-        λ lab. rep_edge s.graph (holds removed) l.edge w.0.edge (outer_free (edge_of s.graph l.edge).u (u_vertex s.graph l.edge graph w.0.edge) lab)
-            (outer_free (edge_of s.graph l.edge).v (v_vertex s.graph l.edge graph w.0.edge) (ap s.label (sym w.0.one_node) ∙ lab)),
+        λ lab. rep_edge s.graph (holds removed) l.edge w.0.edge (outer_free (edge_of s.graph l.edge).u (u_vertex s.graph l.edge graph.ends w.0.edge) lab)
+            (outer_free (edge_of s.graph l.edge).v (v_vertex s.graph l.edge graph.ends w.0.edge) (ap s.label (sym w.0.one_node) ∙ lab)),
       ),
       link_ring ring w.1,
     )
@@ -97,12 +97,12 @@ module _ (s : State) (depth : ℕ → ℕ) (graph : IsGraph s.graph) (nested : I
         by_v : outermost s.blossoms (edge_of s.graph e).u ≢ outermost s.blossoms (edge_of s.graph e).v → label_of (edge_of s.graph e).u ≡ Outer → (l : Label) → label_of (edge_of s.graph e).v ≡ l → outermost s.blossoms (edge_of s.graph e).u ≡ outermost s.blossoms (edge_of s.graph e).v
         by_v ne lu Outer lv = absurd (bound.between e (outermost s.blossoms (edge_of s.graph e).u) (outermost s.blossoms (edge_of s.graph e).v) is (inl (refl, refl)) ne lu lv)
         by_v ne lu Out lv = absurd (bound.to_out e (outermost s.blossoms (edge_of s.graph e).u) (outermost s.blossoms (edge_of s.graph e).v) is (inl (refl, refl)) lu lv)
-        by_v ne lu Inner lv = absurd (free_not_inner (edge_of s.graph e).v (v_vertex s.graph e graph is) fv lv)
+        by_v ne lu Inner lv = absurd (free_not_inner (edge_of s.graph e).v (v_vertex s.graph e graph.ends is) fv lv)
 
         by_u : outermost s.blossoms (edge_of s.graph e).u ≢ outermost s.blossoms (edge_of s.graph e).v → label_of (edge_of s.graph e).v ≡ Outer → (l : Label) → label_of (edge_of s.graph e).u ≡ l → outermost s.blossoms (edge_of s.graph e).u ≡ outermost s.blossoms (edge_of s.graph e).v
         by_u ne lv Outer lu = absurd (bound.between e (outermost s.blossoms (edge_of s.graph e).u) (outermost s.blossoms (edge_of s.graph e).v) is (inl (refl, refl)) ne lu lv)
         by_u ne lv Out lu = absurd (bound.to_out e (outermost s.blossoms (edge_of s.graph e).v) (outermost s.blossoms (edge_of s.graph e).u) is (inr (refl, refl)) lv lu)
-        by_u ne lv Inner lu = absurd (free_not_inner (edge_of s.graph e).u (u_vertex s.graph e graph is) fu lu)
+        by_u ne lv Inner lu = absurd (free_not_inner (edge_of s.graph e).u (u_vertex s.graph e graph.ends is) fu lu)
 
     alike : (v : ℕ) → Alike (head_of s.graph removed graph v) v
     alike = rep_related s.graph (holds removed) Alike

@@ -29,8 +29,8 @@ module _ (g : Multigraph) (graph : IsGraph g) where
     chain_within z (l ∷ rest) zin all chain =
         let here : in_ring b.ring l.node ≡ true = all l.node (first_in l.node (nodes_of rest)) in
         let next : in_ring b.ring (next_node rest z) ≡ true = next_in z rest zin (λ a r. all a (later_in l.node (nodes_of rest) a r)) in
-        let u_is = u_vertex g l.edge graph chain.0 in
-        let v_is = v_vertex g l.edge graph chain.0 in (
+        let u_is = u_vertex g l.edge graph.ends chain.0 in
+        let v_is = v_vertex g l.edge graph.ends chain.0 in (
           record {
             edge = chain.0;
             one_node = ⊎_elim
@@ -52,9 +52,9 @@ module _ (g : Multigraph) (graph : IsGraph g) where
     still_within : (l : Link) → LiesWithin g older l → LiesWithin g (b ∷ older) l
     still_within l w = record {
       edge = w.edge;
-      one_node = over (edge_of g l.edge).u (u_vertex g l.edge graph w.edge)
+      one_node = over (edge_of g l.edge).u (u_vertex g l.edge graph.ends w.edge)
           ∙ ap (λ x. cond (in_ring b.ring x) b.node x) w.one_node
-          ∙ sym (over (edge_of g l.edge).v (v_vertex g l.edge graph w.edge));
+          ∙ sym (over (edge_of g l.edge).v (v_vertex g l.edge graph.ends w.edge));
     }
       where
         over : (v : ℕ) → is_vertex g.vertices v ≡ true → outermost (b ∷ older) v ≡ cond (in_ring b.ring (outermost older v)) b.node (outermost older v)

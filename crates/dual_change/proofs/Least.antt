@@ -3,9 +3,7 @@ use Rattle.std.proofs.Common.{◌≡◌, ◌≢◌, ℕ, zero, suc, ◌+◌, ℤ
 use Rattle.std.proofs.lemmas.Int.{ints}
 use Rattle.graph_theory.specs.Graph.{IsGraph, IsEdgeNumber, edge_of}
 use Rattle.graph_theory.specs.Parts.{holds}
-use Rattle.graph_theory.proofs.Edges.{edge_of_within}
 use Rattle.blossom_arena.specs.Family.{IsNested, names_of, outermost}
-use Rattle.blossom_arena.proofs.Nested.{range_vertex}
 use Rattle.alt_forest.specs.declared.label.Label.{Label}
 use Rattle.alt_forest.specs.declared.label.Label.TheVariants.{Outer, Inner, Out}
 use Rattle.alt_forest.specs.State.{State, IsOutermost, Joins, slack_of, IsSearchState}
@@ -21,6 +19,7 @@ use Rattle.alt_forest.specs.Counts.{HasOneTree}
 use Rattle.dual_change.specs.Changes.{share, applied, IsWithin, IsPossible, IsLeast, IsStuck, IsNext, IsNextWithin}
 use Rattle.dual_change.specs.Candidates.{change_of, IsAtMost, Leads, IsCandidate, MindsEdge, MindsBlossom}
 use Rattle.dual_change.proofs.Applied.{change_outer, slack_labels, u_outer, v_outer, low_at}
+use Rattle.blossom_arena.proofs.Ends.{u_vertex, v_vertex}
 
 -- a change moves no tree
 path_applied : (s : State) (d : ℤ) (k a : ℕ) → path_within k (applied s d) a ≡ path_within k s a
@@ -120,7 +119,6 @@ module _ (s : State) (depth : ℕ → ℕ) (graph : IsGraph s.graph) (nested : I
     -- an edge between two outer nodes of one tree has even slack
     pub even_by_root : (e a b : ℕ) → IsEdgeNumber s.graph e → Joins s.graph s.blossoms e a b → s.label a ≡ Outer → s.label b ≡ Outer → root_of s a ≡ root_of s b → (half : ℤ) × (slack_of s e ≡ half +ℤ half)
     even_by_root e a b is j la lb root =
-        let w = edge_of_within s.graph e graph.ends is in
         let u : ℕ = (edge_of s.graph e).u in
         let v : ℕ = (edge_of s.graph e).v in
         let labels : (s.label (outermost s.blossoms u) ≡ Outer) × (s.label (outermost s.blossoms v) ≡ Outer) = ⊎_elim
@@ -129,7 +127,7 @@ module _ (s : State) (depth : ℕ → ℕ) (graph : IsGraph s.graph) (nested : I
         let roots : root_of s (outermost s.blossoms u) ≡ root_of s (outermost s.blossoms v) = ⊎_elim
         (λ p. ap (root_of s) p.0 ∙ root ∙ sym (ap (root_of s) p.1))
         (λ p. ap (root_of s) p.0 ∙ sym root ∙ sym (ap (root_of s) p.1)) j in
-        let same : SameParity (cover s u) (cover s v) = trees_have_parity s depth u v graph nested st (range_vertex s.graph.vertices u w.u_low w.u_high) (range_vertex s.graph.vertices v w.v_low w.v_high)
+        let same : SameParity (cover s u) (cover s v) = trees_have_parity s depth u v graph nested st (u_vertex s.graph e graph.ends is) (v_vertex s.graph e graph.ends is)
         (λ q. outer_not_out (sym labels.0 ∙ q)) (λ q. outer_not_out (sym labels.1 ∙ q)) roots in
         let half = even_slack s e same in
         (half.0, plain (slack_of s e) half.0 half.1)

@@ -1,7 +1,6 @@
 -- The duals while a change is under way: the nodes up to a number have it.
-use Rattle.std.proofs.Common.{◌≡◌, ℕ, ◌+◌, ◌<◌, ℤ, pos, ◌+ℤ◌, true, eqb, leb, cond, length, sym, ap, ◌∙◌, subst, arith}
+use Rattle.std.proofs.Common.{◌≡◌, ℕ, ◌+◌, ◌<◌, ℤ, ◌+ℤ◌, true, eqb, leb, cond, length, sym, ap, ◌∙◌, subst, arith}
 use Rattle.std.specs.Prelude.{slice_set}
-use Rattle.std.proofs.lemmas.Int.{ints}
 use Rattle.std.proofs.lemmas.Bool.{eqb-true, eqb-false, leb-true, leb-false, le-leb, false_from_ne_true}
 use Rattle.blossom_arena.specs.Family.{IsNested, is_outermost, dual_at}
 use Rattle.blossom_arena.proofs.Lists.{by_test}
@@ -13,7 +12,7 @@ use Rattle.alt_forest.specs.Trees.{node_limit}
 use Rattle.alt_forest.specs.Searches.{HasShape, state_of, label_at, put}
 use Rattle.alt_forest.proofs.Puts.{put_dual}
 use Rattle.dual_change.specs.Changes.{share, applied}
-use Rattle.dual_change.proofs.Applied.{change_none, change_outer}
+use Rattle.dual_change.proofs.Applied.{change_none, change_outer, plain_sum}
 
 -- the nodes of numbers up to k have their share of a change
 abbrev pub partly : State → ℤ → ℕ → ℕ → ℤ
@@ -21,10 +20,7 @@ partly s d k a = cond (leb a k) ((applied s d).dual a) (s.dual a)
 
 -- numbers that are no outermost nodes get nothing
 no_share : (s : State) (d : ℤ) (a : ℕ) → (IsOutermost s a → ⊥) → (applied s d).dual a ≡ s.dual a
-no_share s d a none = ap (λ x. s.dual a +ℤ x) (change_none s d a (false_from_ne_true (is_outermost s.graph.vertices s.blossoms a) (λ t. absurd (none t)))) ∙ plain (s.dual a)
-  where
-    plain : (x : ℤ) → x +ℤ pos 0 ≡ x
-    plain x = omega (arith, ints)
+no_share s d a none = ap (λ x. s.dual a +ℤ x) (change_none s d a (false_from_ne_true (is_outermost s.graph.vertices s.blossoms a) (λ t. absurd (none t)))) ∙ plain_sum (s.dual a)
 
 pub partly_none : (s : State) (d : ℤ) → IsNested s.graph.vertices s.blossoms → s.dual ≡ partly s d 0
 partly_none s d nested = λ i a. here a i

@@ -22,6 +22,7 @@ use Rattle.dual_change.specs.Laws.{dual_sum, dual_total, ChangeRaisesTotal}
 use Rattle.dual_change.proofs.Applied.{change_outer, change_child}
 use Rattle.alt_forest.proofs.Ascending.{holds-map, new-map}
 use Rattle.alt_forest.proofs.Pairs.{is_outer, nodes_labelled, in_labelled, of_labelled, new_labelled, mate_node, mates_differ, child_is, mate_inner}
+use Rattle.alt_forest.proofs.Counted.{one_if}
 
 -- sums
 sum_add : (y z : ℕ → ℤ) (xs : List ℕ) → dual_sum (λ a. y a +ℤ z a) xs ≡ dual_sum y xs +ℤ dual_sum z xs
@@ -48,9 +49,6 @@ sum_vertices z (suc n) =
     let one : n + 1 ≡ suc n = omega arith in
     let last : z (n + 1) ≡ z (suc n) = ap z one in
     omega (arith, ints, r, last)
-
-abbrev one_if : Bool → ℕ
-one_if t = cond t 1 0
 
 -- as many numbers of 1 to n pass a test as the sum over them counts
 length-picked : (p : ℕ → Bool) (n : ℕ) → length (filter p (vertices n)) ≡ sum_to (λ i. one_if (p (i + 1))) n

@@ -1,8 +1,8 @@
 -- In the pass with weights a change raises the sum of all duals by as much as it moves any of them, and that sum is
 -- bounded, so no dual moves far.
-use Rattle.std.proofs.Common.{◌≡◌, ℕ, ◌+◌, ◌*◌, ◌^◌, ◌≤◌, ℤ, pos, neg_ℤ, ◌+ℤ◌, ◌-ℤ◌, ◌*ℤ◌, ◌≤ℤ◌, Bool, true, false, not, ◌&&◌, ◌||◌, eqb, cond, refl, sym, ap, ◌∙◌, subst, arith, Option, Some, None, is_some}
+use Rattle.std.proofs.Common.{◌≡◌, ℕ, ◌+◌, ◌*◌, ◌^◌, ◌≤◌, ℤ, pos, neg_ℤ, ◌+ℤ◌, ◌-ℤ◌, ◌*ℤ◌, ◌≤ℤ◌, Bool, true, false, ◌||◌, eqb, cond, refl, sym, ap, ◌∙◌, subst, arith}
 use Rattle.std.proofs.lemmas.Int.{ints}
-use Rattle.std.proofs.lemmas.Bool.{eqb-true, eqb-false, and_parts, both_ways, false_from_ne_true}
+use Rattle.std.proofs.lemmas.Bool.{eqb-true, eqb-false, both_ways, false_from_ne_true}
 use Rattle.graph_theory.specs.Graph.{IsGraph}
 use Rattle.graph_theory.specs.Parts.{holds}
 use Rattle.graph_theory.proofs.SumLemmas.{sum_to-same, sum_to-at_one, times-le, times-neg}
@@ -13,7 +13,7 @@ use Rattle.blossom_arena.proofs.Nested.{outermost_parts, node_range}
 use Rattle.alt_forest.specs.declared.label.Label.{Label}
 use Rattle.alt_forest.specs.declared.label.Label.TheVariants.{Outer, Inner, Out}
 use Rattle.alt_forest.specs.State.{State, IsSearchState, slack_with}
-use Rattle.alt_forest.specs.Trees.{IsRoot, is_label, node_limit}
+use Rattle.alt_forest.specs.Trees.{IsRoot, node_limit}
 use Rattle.alt_forest.specs.Counts.{is_root, tree_count, HasOneTree}
 use Rattle.dual_change.specs.Changes.{share, change, applied, IsWithin, StaysInRange}
 use Rattle.dual_change.specs.Laws.{dual_total}
@@ -21,6 +21,7 @@ use Rattle.dual_change.proofs.Applied.{applied_state, low_at}
 use Rattle.dual_change.proofs.Total.{change_raises}
 use Rattle.mwpm_engine.specs.Bounds.{IsRaised}
 use Rattle.mwpm_engine.proofs.BoundedTotal.{total_bound, weight_bound}
+use Rattle.alt_forest.proofs.Counted.{root_passes, passing_root}
 
 -- no change moves a dual farther than by itself
 between : (s : State) (d : ℤ) (a : ℕ) → pos 0 ≤ℤ d → ((pos 0 -ℤ d) ≤ℤ change s d a) × (change s d a ≤ℤ d)
@@ -93,32 +94,13 @@ duals_bounded s start depth graph nested st h a is =
     blossom n r y a b c = (omega (arith, ints, a, b, c), omega (arith, ints, a, b, c))
 
 -- where there is one tree, the count of trees is 1
-
-root_parts : (s : State) (a : ℕ) → is_root s a ≡ true → IsRoot s a
-root_parts s a e =
-    let p = and_parts (is_outermost s.graph.vertices s.blossoms a) (is_label (s.label a) Outer && not (is_some (s.mate a))) e in
-    let q = and_parts (is_label (s.label a) Outer) (not (is_some (s.mate a))) p.1 in
-    record { outermost = p.0; outer = outer (s.label a) q.0; exposed = free (s.mate a) q.1 }
-  where
-    outer : (l : Label) → is_label l Outer ≡ true → l ≡ Outer
-    outer Outer e = refl
-    outer Inner e = absurd (both_ways false refl e)
-    outer Out e = absurd (both_ways false refl e)
-
-    free : (o : Option ℕ) → not (is_some o) ≡ true → o ≡ None
-    free None e = refl
-    free (Some x) e = absurd (both_ways false refl e)
-
-root_test : (s : State) (a : ℕ) → IsRoot s a → is_root s a ≡ true
-root_test s a r = ap (λ q. q && (is_label (s.label a) Outer && not (is_some (s.mate a)))) r.outermost ∙ ap (λ l. is_label l Outer && not (is_some (s.mate a))) r.outer ∙ ap (λ o. not (is_some o)) r.exposed
-
 pub one_tree_counted : (s : State) (root : ℕ) → IsNested s.graph.vertices s.blossoms → HasOneTree s → IsRoot s root → tree_count s ≡ 1
 one_tree_counted s root nested one r =
     let limit : ℕ = node_limit s.graph.vertices in
     let range = node_range s.graph.vertices s.blossoms root nested (outermost_parts s.graph.vertices s.blossoms root r.outermost).0 in
     sum_to-same (λ i. cond (is_root s (i + 1)) 1 0) (λ i. cond (eqb root (i + 1)) 1 0) limit (λ i low. ap (λ t. cond t 1 0) (by_test (eqb root (i + 1))
-    (λ e. ap (is_root s) (sym (eqb-true root (i + 1) e)) ∙ root_test s root r ∙ sym e)
-    (λ e. false_from_ne_true (is_root s (i + 1)) (λ t. eqb-false root (i + 1) e (one root (i + 1) r (root_parts s (i + 1) t))) ∙ sym e)))
+    (λ e. ap (is_root s) (sym (eqb-true root (i + 1) e)) ∙ root_passes s root r ∙ sym e)
+    (λ e. false_from_ne_true (is_root s (i + 1)) (λ t. eqb-false root (i + 1) e (one root (i + 1) r (passing_root s (i + 1) t))) ∙ sym e)))
     ∙ sum_to-at_one (λ _. 1) root limit range.0 range.1
 
 -- with at most 4,096 vertices that lies well within the range of duals

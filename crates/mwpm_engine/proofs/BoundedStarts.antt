@@ -1,10 +1,10 @@
 -- A pass begins within its bounds.
-use Rattle.std.proofs.Common.{◌≡◌, ℕ, zero, suc, ◌+◌, ℤ, pos, ◌*ℤ◌, true, false, List, [], refl, ap, subst, arith, ⊎_elim, inl, inr}
+use Rattle.std.proofs.Common.{◌≡◌, ℕ, ◌+◌, ℤ, pos, true, false, List, [], refl, ap, subst, arith, ⊎_elim, inl, inr}
 use Rattle.std.proofs.lemmas.Int.{ints}
 use Rattle.std.proofs.lemmas.Bool.{both_ways, or_cases}
 use Rattle.graph_theory.specs.Sums.{int_sum_to}
 use Rattle.graph_theory.specs.Parts.{holds}
-use Rattle.graph_theory.proofs.SumLemmas.{int_sum_to-same, times-suc}
+use Rattle.graph_theory.proofs.SumLemmas.{int_sum_to-same, int_sum_to-constant}
 use Rattle.blossom_arena.specs.Family.{Blossom, is_node, is_vertex, names_of}
 use Rattle.blossom_arena.proofs.Nested.{range_vertex}
 use Rattle.alt_forest.specs.declared.label.Weights.TheVariants.{Given}
@@ -24,11 +24,6 @@ vertex_alone n bs a none is =
 pub bounded_start_zero : (s : State) (start : ℤ) → s.weighted ≡ false → s.blossoms ≡ [] → ((v : ℕ) → is_vertex s.graph.vertices v ≡ true → s.dual v ≡ pos 0) → IsBounded s start
 bounded_start_zero s start unweighted none same = inl (record { unweighted = unweighted; zero = λ a is. same a (vertex_alone s.graph.vertices s.blossoms a none is) })
 
--- a sum of equal terms
-pub sum_alike : (c : ℤ) (n : ℕ) → int_sum_to (λ _. c) n ≡ pos n *ℤ c
-sum_alike c zero = omega (arith, ints)
-sum_alike c (suc n) = omega (arith, ints, sum_alike c n, times-suc n c)
-
 -- a pass with weights, with no blossom and one dual for all vertices, on a graph with a perfect matching
 pub bounded_start_given : (s : State) (start : ℤ) → s.weighted ≡ true → s.blossoms ≡ [] → ((v : ℕ) → is_vertex s.graph.vertices v ≡ true → s.dual v ≡ start) → IsStart s.graph Given start → HasPerfect s.graph → IsBounded s start
 bounded_start_given s start weighted none same begins perfect = inr (record {
@@ -40,7 +35,7 @@ bounded_start_given s start weighted none same begins perfect = inr (record {
   total =
       let sums : int_sum_to (λ i. s.dual (i + 1)) s.graph.vertices ≡ int_sum_to (λ _. start) s.graph.vertices = int_sum_to-same (λ i. s.dual (i + 1)) (λ _. start) s.graph.vertices (λ i b. same (i + 1) (range_vertex s.graph.vertices (i + 1) (omega arith) (omega arith))) in
       let more : dual_sum s.dual (names_of s.blossoms) ≡ pos 0 = ap (λ (bs : List Blossom). dual_sum s.dual (names_of bs)) none in
-      omega (arith, ints, sums, more, sum_alike start s.graph.vertices);
+      omega (arith, ints, sums, more, int_sum_to-constant start s.graph.vertices);
   vertices = λ v is. let here : s.dual v ≡ start = same v is in (omega (arith, ints, here), omega (arith, ints, here));
   blossoms = λ b name. absurd (both_ways false refl (subst (λ (bs : List Blossom). holds (names_of bs) b ≡ true) none name));
 })

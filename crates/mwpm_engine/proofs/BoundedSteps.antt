@@ -1,13 +1,13 @@
 -- Steps that change no dual stay within the bounds of a pass.
-use Rattle.std.proofs.Common.{◌≡◌, ◌≢◌, ℕ, ◌+◌, ℤ, pos, ◌+ℤ◌, ◌-ℤ◌, ◌≤ℤ◌, true, false, eqb, cond, List, [], ◌∷◌, refl, sym, ap, ◌∙◌, subst, arith, ⊎_elim, inl, inr}
+use Rattle.std.proofs.Common.{◌≡◌, ℕ, ◌+◌, ℤ, pos, ◌+ℤ◌, ◌-ℤ◌, ◌≤ℤ◌, true, false, eqb, cond, List, [], ◌∷◌, refl, sym, ap, ◌∙◌, subst, arith, ⊎_elim, inl, inr}
 use Rattle.std.proofs.lemmas.Int.{ints}
-use Rattle.std.proofs.lemmas.Bool.{eqb-true, eqb-false, or_cases, or_parts, or_left, or_right, both_ways}
+use Rattle.std.proofs.lemmas.Bool.{eqb-true, eqb-false, or_cases, or_parts, or_left, or_right}
 use Rattle.graph_theory.specs.Sums.{int_sum_to}
 use Rattle.graph_theory.specs.Parts.{holds}
 use Rattle.graph_theory.proofs.SumLemmas.{int_sum_to-same}
 use Rattle.blossom_arena.specs.Family.{Blossom, IsNested, is_node, is_vertex, names_of, made_of, without}
 use Rattle.blossom_arena.proofs.Lists.{by_test, later_in}
-use Rattle.blossom_arena.proofs.Nested.{node_before, range_vertex, vertex_is_node, name_is_node}
+use Rattle.blossom_arena.proofs.Nested.{node_before, range_vertex, vertex_is_node, name_is_node, not_new}
 use Rattle.alt_forest.specs.Events.{CanExpand}
 use Rattle.alt_forest.specs.Searches.{put}
 use Rattle.alt_forest.specs.State.{State}
@@ -45,11 +45,8 @@ module _ (s : State) (b : Blossom) (top : ℕ) (start : ℤ) (fresh : is_node s.
   abbrev made : State
   made = shrunk_state s b top
 
-  not_new : (a : ℕ) → is_node s.graph.vertices s.blossoms a ≡ true → a ≢ b.node
-  not_new a is same = both_ways (is_node s.graph.vertices s.blossoms b.node) fresh (ap (is_node s.graph.vertices s.blossoms) (sym same) ∙ is)
-
   old_dual : (a : ℕ) → is_node s.graph.vertices s.blossoms a ≡ true → made.dual a ≡ s.dual a
-  old_dual a is = put_other s.dual b.node (pos 0) a (not_new a is)
+  old_dual a is = put_other s.dual b.node (pos 0) a (not_new s.graph.vertices s.blossoms b.node a fresh is)
 
   new_dual : (a : ℕ) → eqb b.node a ≡ true → made.dual a ≡ pos 0
   new_dual a e = ap made.dual (sym (eqb-true b.node a e)) ∙ put_here s.dual b.node (pos 0)

@@ -1,6 +1,6 @@
 -- The sum of all duals of a search is at most twice the weight of a perfect matching (weak duality, chapters 25 and 26),
 -- and that weight is bounded by the number of vertices.
-use Rattle.std.proofs.Common.{◌≡◌, ℕ, ◌+◌, ◌^◌, ◌≤◌, ℤ, pos, ◌+ℤ◌, ◌-ℤ◌, ◌*ℤ◌, ◌≤ℤ◌, Bool, true, false, not, ◌&&◌, cond, List, [], ◌∷◌, length, slice_index, refl, sym, ap, ap₂, ◌∙◌, subst, arith}
+use Rattle.std.proofs.Common.{◌≡◌, ℕ, ◌+◌, ◌^◌, ◌≤◌, ℤ, pos, ◌+ℤ◌, ◌-ℤ◌, ◌*ℤ◌, ◌≤ℤ◌, true, not, ◌&&◌, cond, List, [], ◌∷◌, length, slice_index, refl, sym, ap, ap₂, ◌∙◌, subst, arith}
 use Rattle.std.specs.List.{AllByRecursion, filter, range_with_len}
 use Rattle.std.proofs.lemmas.Int.{ints}
 use Rattle.std.proofs.lemmas.Bool.{eq-eqb}
@@ -8,7 +8,7 @@ use Rattle.graph_theory.specs.Sums.{int_sum_to}
 use Rattle.graph_theory.specs.declared.edge.Edge.{Edge}
 use Rattle.graph_theory.specs.Graph.{Multigraph, IsGraph, IsEdgeNumber, edge_at, weight, IsPerfect}
 use Rattle.graph_theory.specs.Parts.{holds, crosses}
-use Rattle.graph_theory.proofs.SumLemmas.{sum_to-same, int_sum_to-same, int_sum_to-le, int_sum_to-add, times-add, times-le, times-two, times-int_sum_to, at_least_once, sum_to-times, cond-times, times-cond}
+use Rattle.graph_theory.proofs.SumLemmas.{sum_to-same, int_sum_to-same, int_sum_to-le, int_sum_to-add, times-add, times-le, times-two, times-int_sum_to, at_least_once, sum_to-times, cond-times, times-cond, int_sum_to-constant}
 use Rattle.graph_theory.proofs.Edges.{edge_of-place, edge_at-weight, number_of-place}
 use Rattle.graph_theory.proofs.Handshake.{handshake-perfect}
 use Rattle.graph_theory.proofs.Members.{holds_all}
@@ -22,7 +22,7 @@ use Rattle.blossom_arena.proofs.Forms.{members_form, sorted_form}
 use Rattle.alt_forest.specs.State.{slack_with}
 use Rattle.alt_forest.proofs.Ascending.{picked_ascends, holds-picked}
 use Rattle.dual_change.specs.Laws.{dual_sum}
-use Rattle.mwpm_engine.proofs.BoundedStarts.{sum_alike}
+use Rattle.std.proofs.Math.Bool.{and-false}
 
 -- the dual of each blossom as often as the counted edges cross it
 abbrev crossed_sum : Multigraph → List ℕ → (ℕ → ℤ) → List Blossom → ℤ
@@ -63,16 +63,12 @@ module _ (g : Multigraph) (counts : List ℕ) (graph : IsGraph g) (perfect : IsP
       let odd : IsOddSet n b.members = subst (IsOddSet n) (members_here b older b.node (eq-eqb b.node b.node refl)) (members_form n (b ∷ older) b.node nested (first_in b.node (names_of older))) in
       let same : (v : ℕ) → holds set v ≡ holds b.members v = λ v. holds-picked n (holds b.members) v ∙ by_test (holds b.members v)
       (λ t. let range = holds_all (λ w. (1 ≤ w) × (w ≤ n)) b.members v odd.in_range t in ap (λ q. q && holds b.members v) (range_vertex n v range.0 range.1))
-      (λ t. ap (λ q. is_vertex n v && q) t ∙ none (is_vertex n v) ∙ sym t) in
+      (λ t. ap (λ q. is_vertex n v && q) t ∙ and-false (is_vertex n v) ∙ sym t) in
       let form = sorted_form n b.members set odd (picked_ascends n (holds b.members)) same in
       let alike : crossings g counts set ≡ crossings g counts b.members = sum_to-same (λ k. cond (crosses set (edge_at g k)) (count k) 0) (λ k. cond (crosses b.members (edge_at g k)) (count k) 0) (length g.edges)
       (λ k low. ap₂ (λ p q. cond (cond p (not q) q) (count k) 0) (same (edge_at g k).u) (same (edge_at g k).v)) in
       let once : 1 ≤ crossings g counts set = crosses_odd g counts set graph.ends perfect form.0.odd form.0.ascending form.1 in
       omega (arith, alike, once)
-    where
-      none : (q : Bool) → (q && false) ≡ false
-      none true = refl
-      none false = refl
 
   crossed_least : (y : ℕ → ℤ) (bs : List Blossom) → IsNested g.vertices bs → AllByRecursion (λ (b : Blossom). pos 0 ≤ℤ y b.node) bs → dual_sum y (names_of bs) ≤ℤ crossed_sum g counts y bs
   crossed_least y [] nested low = omega (arith, ints)
@@ -112,7 +108,7 @@ module _ (g : Multigraph) (counts : List ℕ) (graph : IsGraph g) (perfect : IsP
       omega (arith, ints, scaled, times-add (count k) most most)) in
       let doubled = times-int_sum_to 2 (λ k. pos (count k) *ℤ (edge_at g k).w) m in
       let ends = handshake-perfect g counts (λ _. most) graph.ends perfect in
-      let alike = sum_alike most g.vertices in
+      let alike = int_sum_to-constant most g.vertices in
       plain _ _ _ _ _ each doubled ends alike
     where
       plain : (p q w v c : ℤ) → p ≤ℤ q → w ≡ p → q ≡ v → v ≡ c → w ≤ℤ c

@@ -3,14 +3,13 @@
 use Rattle.std.proofs.Common.{◌≡◌, ℕ, ℤ, pos, ◌+ℤ◌, ◌≤ℤ◌, Bool, true, false, cond, List, [], ◌∷◌, refl, sym, ap, ◌∙◌, subst, arith}
 use Rattle.std.proofs.lemmas.Int.{ints}
 use Rattle.graph_theory.specs.declared.edge.Edge.{Edge}
-use Rattle.graph_theory.specs.Graph.{IsGraph, IsEdgeNumber, IsEdgeWithin, edge_of}
+use Rattle.graph_theory.specs.Graph.{IsGraph, IsEdgeNumber, edge_of}
 use Rattle.graph_theory.specs.Parts.{holds, crosses}
-use Rattle.graph_theory.proofs.Edges.{edge_of_within}
 use Rattle.graph_theory.specs.Duals.{IsNumber}
 use Rattle.blossom_arena.specs.Family.{Blossom, is_node, is_outermost, names_of}
 use Rattle.blossom_arena.specs.Slack.{duals_across}
 use Rattle.blossom_arena.proofs.Lists.{by_test, first_in, later_in}
-use Rattle.blossom_arena.proofs.Nested.{outermost_parts, range_vertex, vertex_is_node, name_is_node}
+use Rattle.blossom_arena.proofs.Nested.{outermost_parts, vertex_is_node, name_is_node}
 use Rattle.alt_forest.specs.declared.label.Label.{Label}
 use Rattle.alt_forest.specs.declared.label.Label.TheVariants.{Outer, Inner, Out}
 use Rattle.alt_forest.specs.State.{State, doubled, slack_of}
@@ -18,6 +17,7 @@ use Rattle.dual_change.specs.declared.event.Event.{Event}
 use Rattle.dual_change.specs.declared.event.Event.TheVariants.{Grow, Shrink, Augment, Expand}
 use Rattle.dual_change.specs.Changes.{share, change, applied, IsWithin, StaysInRange, IsPossible}
 use Rattle.mwpm_engine.specs.Bounds.{HasNoDuals}
+use Rattle.blossom_arena.proofs.Ends.{u_vertex, v_vertex}
 
 -- an edge feels nothing where all duals are 0
 across_none : (y : ℕ → ℤ) (bs : List Blossom) (e : Edge) → y e.u ≡ pos 0 → y e.v ≡ pos 0 → ((a : ℕ) → holds (names_of bs) a ≡ true → y a ≡ pos 0) → duals_across y bs e ≡ pos 0
@@ -36,11 +36,10 @@ module _ (s : State) (graph : IsGraph s.graph) (none : HasNoDuals s) where
   no_slack : (e : ℕ) → IsEdgeNumber s.graph e → slack_of s e ≡ pos 0
   no_slack e is =
       let n : ℕ = s.graph.vertices in
-      let w : IsEdgeWithin n (edge_of s.graph e) = edge_of_within s.graph e graph.ends is in
       let at : (v : ℕ) → is_node n s.blossoms v ≡ true → s.dual v ≡ pos 0 = none.zero in
       let felt : duals_across s.dual s.blossoms (edge_of s.graph e) ≡ pos 0 = across_none s.dual s.blossoms (edge_of s.graph e)
-      (at (edge_of s.graph e).u (vertex_is_node n s.blossoms (edge_of s.graph e).u (range_vertex n (edge_of s.graph e).u w.u_low w.u_high)))
-      (at (edge_of s.graph e).v (vertex_is_node n s.blossoms (edge_of s.graph e).v (range_vertex n (edge_of s.graph e).v w.v_low w.v_high)))
+      (at (edge_of s.graph e).u (vertex_is_node n s.blossoms (edge_of s.graph e).u (u_vertex s.graph e graph.ends is)))
+      (at (edge_of s.graph e).v (vertex_is_node n s.blossoms (edge_of s.graph e).v (v_vertex s.graph e graph.ends is)))
       (λ a h. at a (name_is_node n s.blossoms a h)) in
       let free : doubled s.graph s.weighted e ≡ pos 0 = ap (λ t. doubled s.graph t e) none.unweighted in
       omega (arith, ints, felt, free)

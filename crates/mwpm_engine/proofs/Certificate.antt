@@ -1,8 +1,7 @@
 -- A finished search is a certificate: its matching is perfect, and its duals prove that none weighs less.
-use Rattle.std.proofs.Common.{◌≡◌, ℕ, ◌+◌, ◌<◌, ◌≤◌, ℤ, pos, ◌-ℤ◌, ◌*ℤ◌, ◌≤ℤ◌, Bool, true, false, cond, List, length, drop, refl, sym, ap, ◌∙◌, subst, arith, Option, Some, None, All, slice_index, get_or}
+use Rattle.std.proofs.Common.{◌≡◌, ℕ, ◌+◌, ◌<◌, ◌≤◌, ℤ, pos, ◌-ℤ◌, ◌*ℤ◌, ◌≤ℤ◌, Bool, true, false, cond, List, length, drop, refl, sym, ap, ◌∙◌, subst, arith, Option, All, slice_index, get_or}
 use Rattle.std.specs.List.{AllByRecursion}
 use Rattle.std.proofs.lemmas.Int.{ints}
-use Rattle.std.proofs.lemmas.Bool.{eqb-true, both_ways}
 use Rattle.std.proofs.lemmas.List.{length-take-le, length-drop}
 use Rattle.std.proofs.lemmas.List.Elements.{All-from_recursion, All-from_get_or, All-take, All-drop, All-map}
 use Rattle.graph_theory.specs.declared.odd_set.OddSet.{OddSet}
@@ -11,7 +10,6 @@ use Rattle.graph_theory.specs.Graph.{IsPerfect, IsEdgeNumber, no_edge, edge_at, 
 use Rattle.graph_theory.specs.Duals.{AreDuals, IsSetWithin, HasForm, IsNumber, no_set, set_at, slack, dual_value}
 use Rattle.graph_theory.proofs.Edges.{edge_of_within, edge_of-place, number_of-place}
 use Rattle.graph_theory.proofs.Crossings.{crossings}
-use Rattle.graph_theory.specs.Duals.{IsNumber}
 use Rattle.blossom_arena.specs.Family.{Blossom, IsNested, HasDuals, is_node, dual_at, members_of}
 use Rattle.blossom_arena.specs.Slack.{AreListed, duals_across, vertex_duals}
 use Rattle.blossom_arena.proofs.Nested.{name_range, name_is_node, range_vertex, vertex_is_node}
@@ -28,6 +26,7 @@ use Rattle.mwpm_engine.proofs.BoundedDuals.{each_vertex_dual}
 use Rattle.mwpm_engine.proofs.CertificateMates.{length-mate_numbers, mate_kept, matching_same, count_at}
 use Rattle.mwpm_engine.proofs.CertificateSets.{IsKnown, all_known, IsProving, each_proving, set_of, few_sets, nested_sets, IsOf, each_of, sets_listed}
 use Rattle.mwpm_engine.proofs.CertificateValue.{left_once, crossings_same, value_met}
+use Rattle.augment.proofs.Counts.{is_edge-true}
 
 -- the family stands on the graph's vertices
 nested_on_graph : (s : Search) → IsSound s → IsNested s.graph.vertices s.arena.blossoms
@@ -92,10 +91,6 @@ feasible s sets sound counts listed each =
     }
 
 -- an edge counts only where it is a mate, and has no slack there
-mate_is : (o : Option ℕ) (e : ℕ) → is_edge o e ≡ true → o ≡ Some e
-mate_is None e h = absurd (both_ways false refl h)
-mate_is (Some f) e h = ap (λ x. Some x) (eqb-true f e h)
-
 times_none : (t : Bool) (z : ℤ) → (t ≡ true → z ≡ pos 0) → pos (cond t 1 0) *ℤ z ≡ pos 0
 times_none true z tight = ap (λ x. pos 1 *ℤ x) (tight refl)
 times_none false z tight = omega (arith, ints)
@@ -110,7 +105,7 @@ no_slack s sets k done counts listed low =
     ap (λ (e : Edge). pos (slice_index (mate_counts s.graph m) k) *ℤ slack (vertex_duals s.graph.vertices s.arena.duals) sets e) (sym (edge_of-place s.graph k))
     ∙ ap (λ c. pos c *ℤ slack (vertex_duals s.graph.vertices s.arena.duals) sets (edge_of s.graph (k + 1))) (count_at s.graph m k low)
     ∙ times_none (is_edge (m u) (k + 1)) (slack (vertex_duals s.graph.vertices s.arena.duals) sets (edge_of s.graph (k + 1)))
-    (λ h. slack_same s sets (k + 1) done.sound counts listed is ∙ (done.tight u (k + 1) (range_vertex s.graph.vertices u within.u_low within.u_high) (mate_is (m u) (k + 1) h)).tight)
+    (λ h. slack_same s sets (k + 1) done.sound counts listed is ∙ (done.tight u (k + 1) (range_vertex s.graph.vertices u within.u_low within.u_high) (is_edge-true (m u) (k + 1) h)).tight)
 
 -- the matching leaves each set once
 each_once : (s : Search) (sets : List OddSet) (j : ℕ) → IsUnpacked s → AllByRecursion (IsOf s.arena.duals s.arena.blossoms) sets → j < length sets → crossings s.graph (mate_counts s.graph (edge_in s.mates.items)) (set_at sets j).members ≡ 1

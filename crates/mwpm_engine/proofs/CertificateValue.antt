@@ -1,28 +1,28 @@
 -- A perfect matching of tight edges, one of which leaves each set, meets the duals: their value is twice its weight.
-use Rattle.std.proofs.Common.{◌≡◌, ℕ, ◌*◌, ◌<◌, ℤ, pos, ◌*ℤ◌, Bool, true, false, eqb, cond, List, [], ◌∷◌, length, refl, ap, ◌∙◌, arith, ⊎_elim, slice_index}
+use Rattle.std.proofs.Common.{◌≡◌, ℕ, ◌*◌, ◌<◌, ℤ, pos, ◌*ℤ◌, Bool, true, false, eqb, cond, List, [], ◌∷◌, length, refl, ap, ◌∙◌, arith, slice_index}
 use Rattle.std.specs.List.{AllByRecursion}
 use Rattle.std.proofs.lemmas.Int.{ints}
-use Rattle.std.proofs.lemmas.Bool.{both_ways, or_cases}
+use Rattle.std.proofs.lemmas.Bool.{both_ways}
 use Rattle.graph_theory.specs.declared.odd_set.OddSet.{OddSet}
 use Rattle.graph_theory.specs.Graph.{Multigraph, IsGraph, IsPerfect, edge_at, weight}
 use Rattle.graph_theory.specs.Parts.{holds, crosses}
 use Rattle.graph_theory.specs.Duals.{set_at, slack, dual_value}
 use Rattle.graph_theory.proofs.SumLemmas.{sum_to-same, int_sum_to-same, int_sum_to-zero}
-use Rattle.graph_theory.proofs.Crossings.{crossings}
+use Rattle.graph_theory.proofs.Crossings.{crossings, crosses-same}
 use Rattle.graph_theory.proofs.Duality.{weight_by_slacks}
 use Rattle.blossom_arena.specs.Family.{Blossom, names_of, members_of}
 use Rattle.graph_theory.specs.Nested.{AreSame}
 use Rattle.blossom_arena.proofs.Lists.{by_test}
 use Rattle.blossom_arena.proofs.Sets.{members_here, members_past}
-use Rattle.blossom_arena.proofs.Slacks.{crosses_same}
 use Rattle.augment.specs.Matching.{leaving}
+use Rattle.blossom_arena.proofs.Nested.{older_name}
 
 -- the edges that leave a blossom, by its node
 pub left_once : (g : Multigraph) (counts : List ℕ) (bs : List Blossom) (a : ℕ) → AllByRecursion (λ (b : Blossom). leaving g counts b.members ≡ 1) bs → holds (names_of bs) a ≡ true → leaving g counts (members_of bs a) ≡ 1
 left_once g counts [] a each h = absurd (both_ways false refl h)
 left_once g counts (b ∷ older) a each h = by_test (eqb b.node a)
     (λ s. ap (leaving g counts) (members_here b older a s) ∙ each.0)
-    (λ s. ap (leaving g counts) (members_past b older a s) ∙ left_once g counts older a each.1 (⊎_elim (λ t. absurd (both_ways (eqb b.node a) s t)) (λ t. t) (or_cases (eqb b.node a) (holds (names_of older) a) h)))
+    (λ s. ap (leaving g counts) (members_past b older a s) ∙ left_once g counts older a each.1 (older_name b older a s h))
 
 once_or_not : (t : Bool) (c : ℕ) → cond t c 0 ≡ c * cond t 1 0
 once_or_not true c = omega arith
@@ -32,7 +32,7 @@ once_or_not false c = omega arith
 pub crossings_same : (g : Multigraph) (counts xs ys : List ℕ) → AreSame xs ys → crossings g counts xs ≡ leaving g counts ys
 crossings_same g counts xs ys same =
     sum_to-same (λ k. cond (crosses xs (edge_at g k)) (slice_index counts k) 0) (λ k. slice_index counts k * cond (crosses ys (edge_at g k)) 1 0) (length g.edges)
-    (λ k b. ap (λ t. cond t (slice_index counts k) 0) (crosses_same xs ys (edge_at g k) same) ∙ once_or_not (crosses ys (edge_at g k)) (slice_index counts k))
+    (λ k b. ap (λ t. cond t (slice_index counts k) 0) (crosses-same xs ys (edge_at g k) same) ∙ once_or_not (crosses ys (edge_at g k)) (slice_index counts k))
 
 -- no counted edge has a slack, and each set is left once
 pub value_met : (g : Multigraph) (y : List ℤ) (sets : List OddSet) (counts : List ℕ) → IsGraph g → length y ≡ g.vertices → IsPerfect g counts

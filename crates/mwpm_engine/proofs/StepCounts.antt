@@ -3,7 +3,7 @@ use Rattle.std.proofs.Common.{◌≡◌, ℕ, ◌+◌, ◌*◌, ◌<◌, ◌≤�
 use Rattle.std.specs.List.{list_any}
 use Rattle.std.proofs.lemmas.Nat.{mul-le}
 use Rattle.graph_theory.specs.Graph.{Multigraph}
-use Rattle.graph_theory.proofs.SumLemmas.{sum_to-most}
+use Rattle.graph_theory.proofs.SumLemmas.{sum_to-most, one_if-most}
 use Rattle.graph_theory.specs.Nested.{most_blossoms}
 use Rattle.blossom_arena.specs.Family.{Blossom, IsNested}
 use Rattle.blossom_arena.proofs.Nested.{blossoms_most}
@@ -14,18 +14,14 @@ use Rattle.mwpm_engine.specs.Passes.{phase_steps, phases_doubled}
 
 -- what is left for a tree to take in: at most each vertex, and each blossom
 
-one_most : (t : Bool) → cond t 1 0 ≤ 1
-one_most true = omega arith
-one_most false = omega arith
-
 outside_most : (s : State) → outside_vertices s ≤ s.graph.vertices
 outside_most s =
-    let most = sum_to-most (λ i. cond (is_outside s (i + 1)) 1 0) 1 s.graph.vertices (λ i low. one_most (is_outside s (i + 1))) in
+    let most = sum_to-most (λ i. cond (is_outside s (i + 1)) 1 0) 1 s.graph.vertices (λ i low. one_if-most (is_outside s (i + 1))) in
     omega (arith, most)
 
 among_most : (s : State) (bs : List Blossom) → outside_among s bs ≤ length bs
 among_most s [] = omega arith
-among_most s (b ∷ older) = omega (arith, among_most s older, one_most (list_any (is_outside s) b.members))
+among_most s (b ∷ older) = omega (arith, among_most s older, one_if-most (list_any (is_outside s) b.members))
 
 pub left_most : (s : State) → IsNested s.graph.vertices s.blossoms → measure s ≤ s.graph.vertices + most_blossoms s.graph.vertices
 left_most s nested = omega (arith, outside_most s, among_most s s.blossoms, blossoms_most s.graph.vertices s.blossoms nested)

@@ -8,16 +8,17 @@ use Rattle.graph_theory.specs.Parts.{holds}
 use Rattle.blossom_arena.specs.declared.links.Link.{Link}
 use Rattle.blossom_arena.specs.Family.{Blossom, IsNested, names_of, ring_of, older_than}
 use Rattle.blossom_arena.proofs.Lists.{AllNew, by_test, first_in, later_in}
-use Rattle.blossom_arena.proofs.Nested.{names_new}
-use Rattle.blossom_arena.proofs.Older.{here, past, older_name}
+use Rattle.blossom_arena.proofs.Nested.{names_new, older_name}
+use Rattle.blossom_arena.proofs.Older.{here, past}
 use Rattle.alt_forest.specs.declared.label.Label.{Label}
 use Rattle.alt_forest.specs.declared.label.Label.TheVariants.{Outer, Inner, Out}
 use Rattle.alt_forest.specs.State.{State, IsOutermost, IsTight, Joins, slack_of, HasRings, IsRing, IsMate, FitsLabel, IsSearchState}
 use Rattle.alt_forest.specs.Trees.{other_node, node_limit, far_end, up_edge_by, up_edge, up_of, path_within, path_of}
 use Rattle.state_check.specs.Checks.{RingHolds, MateHolds, FitsHere}
 use Rattle.alt_forest.proofs.Relabelled.{some_not_none}
-use Rattle.alt_forest.proofs.Walk.{some_same, other_node_joins, path_step, path_none}
+use Rattle.alt_forest.proofs.Walk.{other_node_joins, path_step, path_none}
 use Rattle.alt_forest.proofs.Paths.{path_enough, path_short}
+use Rattle.std.proofs.lemmas.Option.{same_Some}
 
 -- all rings
 -- the rings of these, each over those older than it
@@ -135,7 +136,7 @@ up_edge_is s a e mate fits has = by_label (s.label a) refl has
   where
     by_label : (l : Label) → s.label a ≡ l → up_edge_by s l a ≡ Some e → IsEdgeNumber s.graph e
     by_label Outer l has = (mate e has).edge
-    by_label Inner l has = let i = (fits.inner l).hangs in subst (IsEdgeNumber s.graph) (some_same i.edge e (sym i.parent ∙ has)) i.leads.is_edge
+    by_label Inner l has = let i = (fits.inner l).hangs in subst (IsEdgeNumber s.graph) (same_Some i.edge e (sym i.parent ∙ has)) i.leads.is_edge
     by_label Out l has = some_not_none e (sym has)
 
 -- where the climb stands: after c steps it has come to this node
@@ -222,7 +223,7 @@ module _ (s : State) (depth : ℕ → ℕ) (st : IsSearchState s depth) where
               };
               mated = (i.child_edge, i.mate);
               child_outer = λ e has.
-                  let same : e ≡ i.child_edge = some_same e i.child_edge (sym has ∙ i.mate) in
+                  let same : e ≡ i.child_edge = same_Some e i.child_edge (sym has ∙ i.mate) in
                   ap (λ f. s.label (other_node s.graph s.blossoms f a)) same ∙ ap s.label (far_unique s a i.child_edge i.child i.is_mate) ∙ i.child_outer;
             };
         out = λ l e has. let m = st.mates a e is has in ap s.label (far_unique s a e m.0 m.1) ∙ fits.out l e m.0 has m.1;

@@ -35,9 +35,9 @@ link_in_ring s b next l graph nested name here there joins t =
     let older : List Blossom = older_than s.blossoms b in
     record {
       edge = t.edge;
-      u_within = (has_ring s.graph.vertices s.blossoms b nested name).member (edge_of s.graph l.edge).u (u_vertex s.graph l.edge graph t.edge)
+      u_within = (has_ring s.graph.vertices s.blossoms b nested name).member (edge_of s.graph l.edge).u (u_vertex s.graph l.edge graph.ends t.edge)
           ∙ ⊎_elim (λ p. ap (in_ring ring) p.0 ∙ here) (λ p. ap (in_ring ring) p.0 ∙ there) joins;
-      v_within = (has_ring s.graph.vertices s.blossoms b nested name).member (edge_of s.graph l.edge).v (v_vertex s.graph l.edge graph t.edge)
+      v_within = (has_ring s.graph.vertices s.blossoms b nested name).member (edge_of s.graph l.edge).v (v_vertex s.graph l.edge graph.ends t.edge)
           ∙ ⊎_elim (λ p. ap (in_ring ring) p.1 ∙ there) (λ p. ap (in_ring ring) p.1 ∙ here) joins;
       joins = joins;
       tight = t.tight;

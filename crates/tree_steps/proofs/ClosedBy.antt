@@ -11,7 +11,7 @@ use Rattle.alt_forest.proofs.Paths.{path_of-step}
 use Rattle.alt_forest.proofs.Roots.{some_node}
 use Rattle.alt_forest.specs.declared.hop.Hop.{Hop}
 use Rattle.alt_forest.specs.Ways.{AreHops, links_up}
-use Rattle.tree_steps.proofs.Hops.{hop_path}
+use Rattle.alt_forest.proofs.Hops.{hop_path}
 use Rattle.tree_steps.specs.Circuits.{before, circuit_of, or_zero, links_above, base_of, closed_by}
 use Rattle.alt_forest.specs.Events.{CanShrink}
 use Rattle.tree_steps.specs.Shrinkable.{IsShrinkable}
@@ -37,7 +37,7 @@ links_are s depth x (h ∷ hs) base nested st is way =
     let not_x : x ≢ base = λ q. let same : depth x ≡ depth base = ap depth q in absurd (omega (arith, l.deep.0, same)) in
     let not_inner : h.inner ≢ base = λ q. let same : depth h.inner ≡ depth base = ap depth q in absurd (omega (arith, l.deep.1.0, same)) in
     sym
-    (ap (λ xs. links_above s (before xs base)) (hop_path s depth x h nested st hop)
+    (ap (λ xs. links_above s (before xs base)) (hop_path s depth x h hop depth nested st)
     ∙ ap (λ t. links_above s (cond t [] (x ∷ before (h.inner ∷ rest) base))) (ne_eqb x base not_x)
     ∙ ap (λ t. links_above s (x ∷ cond t [] (h.inner ∷ before rest base))) (ne_eqb h.inner base not_inner)
     ∙ ap (λ o. record { node = x; edge = or_zero o } ∷ links_above s (h.inner ∷ before rest base)) (ap (λ k. up_edge_by s k x) hop.label ∙ hop.mate)

@@ -3,24 +3,17 @@ use Rattle.std.proofs.Common.{◌≡◌, ◌≢◌, ℕ, zero, suc, ◌+◌, ◌
 use Rattle.std.specs.List.{list_any}
 use Rattle.std.proofs.lemmas.Bool.{cases_eq, eq-eqb, eqb-true, ne_eqb, or_cases, or_from, or_left, or_right, both_ways}
 use Rattle.graph_theory.specs.Parts.{holds}
-use Rattle.graph_theory.specs.Sums.{sum_to}
 use Rattle.graph_theory.proofs.SumLemmas.{sum_to-same, sum_to-le}
 use Rattle.blossom_arena.specs.Family.{Blossom, IsNested, is_vertex, is_outermost, names_of, members_of, outermost, without}
 use Rattle.blossom_arena.proofs.Lists.{by_test, first_in, later_in}
-use Rattle.blossom_arena.proofs.Nested.{outermost_parts, new_is_node, range_vertex, vertex_range}
+use Rattle.blossom_arena.proofs.Nested.{outermost_parts, new_is_node, range_vertex, vertex_range, older_name}
 use Rattle.blossom_arena.proofs.Sets.{members_here, members_past, member_vertex, members_some, outermost_by_member}
 use Rattle.alt_forest.specs.declared.label.Label.{Label}
 use Rattle.alt_forest.specs.declared.label.Label.TheVariants.{Outer, Inner, Out}
 use Rattle.alt_forest.specs.State.{State}
 use Rattle.alt_forest.specs.Trees.{is_label}
 use Rattle.alt_forest.specs.Counts.{is_outside, outside_among}
-
-abbrev pub one_if : Bool → ℕ
-one_if t = cond t 1 0
-
--- how many of the numbers 1 to n pass a test
-abbrev pub counted : (ℕ → Bool) → ℕ → ℕ
-counted p n = sum_to (λ i. one_if (p (i + 1))) n
+use Rattle.alt_forest.proofs.Counted.{one_if, counted}
 
 one_same : (t u : Bool) → t ≡ u → one_if t ≡ one_if u
 one_same t u e = ap one_if e
@@ -184,6 +177,6 @@ among_without n s t (b ∷ older) a h keeps there some =
     omega (arith, same, rest, one))
     (λ e.
     let same : outside_among t (without (b ∷ older) a) ≡ one_if (list_any (is_outside t) b.members) + outside_among t (without older a) = ap (λ q. outside_among t (cond q older (b ∷ without older a))) e in
-    let later : holds (names_of older) a ≡ true = ⊎_elim (λ k. absurd (both_ways (eqb b.node a) e k)) (λ k. k) (or_cases (eqb b.node a) (holds (names_of older) a) there) in
+    let later : holds (names_of older) a ≡ true = older_name b older a e there in
     let rest : outside_among t (without older a) < outside_among s older = among_without n s t older a h.1 keeps later (sym (ap (list_any (is_outside s)) (members_past b older a e)) ∙ some) in
     omega (arith, same, rest, newest_le n s t b older h keeps))

@@ -17,8 +17,10 @@ use Rattle.alt_forest.specs.Counts.{is_outside, outside_among, exposed_count, tr
 use Rattle.alt_forest.specs.Events.{CanExpand}
 use Rattle.alt_forest.proofs.Relabelled.{outer_not_inner}
 use Rattle.tree_steps.specs.Expanded.{IsExpanded}
-use Rattle.tree_steps.proofs.Opened.{outermost_elsewhere, outer_opened, ring_is_child, gone}
-use Rattle.tree_steps.proofs.Counted.{counted, counted_same, has_vertex, any_here, outside_yes, KeepsOuter, vertices_le, among_without}
+use Rattle.tree_steps.proofs.Opened.{outermost_elsewhere, outer_opened, gone}
+use Rattle.tree_steps.proofs.Counted.{counted_same, has_vertex, any_here, outside_yes, KeepsOuter, vertices_le, among_without}
+use Rattle.blossom_arena.proofs.Parents.{ring_child}
+use Rattle.alt_forest.proofs.Counted.{counted}
 
 module _ (s t : State) (depth : ℕ → ℕ) (node : ℕ) (h : IsNested s.graph.vertices s.blossoms) (st : IsSearchState s depth) (can : CanExpand s node) (x : IsExpanded s t node) where
   abbrev n : ℕ
@@ -37,7 +39,7 @@ module _ (s t : State) (depth : ℕ → ℕ) (node : ℕ) (h : IsNested s.graph.
       (λ e. outermost_stays n bs node a (ne_eqb node a (λ q. ne (sym q))) e)
 
   child_before : (a : ℕ) → in_ring (ring_of bs node) a ≡ true → is_outermost n bs a ≡ false
-  child_before a r = and_right (is_node n bs a) (not (is_child bs a)) (ap not (ring_is_child bs node a r))
+  child_before a r = and_right (is_node n bs a) (not (is_child bs a)) (ap not (ring_child bs node a r))
 
   -- no outermost node passes a test that did not, if the blossom did not and no node of its circuit does
   opened_test : (p q : ℕ → Bool) → p node ≡ false → ((a : ℕ) → in_ring (ring_of bs node) a ≡ true → q a ≡ false) → ((a : ℕ) → in_ring (ring_of bs node) a ≡ false → q a ≡ p a)
@@ -73,7 +75,7 @@ module _ (s t : State) (depth : ℕ → ℕ) (node : ℕ) (h : IsNested s.graph.
   keeps : KeepsOuter n s t
   keeps v is lab =
       let o : ℕ = outermost bs v in
-      let off : in_ring (ring_of bs node) o ≡ false = false_from_ne_true (in_ring (ring_of bs node) o) (λ r. both_ways (is_child bs o) (outermost_free n bs v h is) (ring_is_child bs node o r)) in
+      let off : in_ring (ring_of bs node) o ≡ false = false_from_ne_true (in_ring (ring_of bs node) o) (λ r. both_ways (is_child bs o) (outermost_free n bs v h is) (ring_child bs node o r)) in
       let ne : o ≢ node = λ e. outer_not_inner (sym lab ∙ ap s.label e ∙ can.inner) in
       ap (λ (cs : List Blossom). t.label (outermost cs v)) x.blossoms ∙ ap t.label (outermost_elsewhere bs node v ne) ∙ x.labels o off ∙ lab
 

@@ -17,7 +17,8 @@ use Rattle.alt_forest.specs.Counts.{outside_among, tree_count, exposed_count, me
 use Rattle.alt_forest.proofs.Relabelled.{put_here, put_other, outer_not_inner, outer_not_out}
 use Rattle.tree_steps.specs.Shrunk.{shrunk_state}
 use Rattle.tree_steps.specs.Shrinkable.{IsShrinkable, IsShrunk}
-use Rattle.tree_steps.proofs.Counted.{counted, counted_moved, has_vertex, KeepsOuter, none_outside, vertices_less, among_le}
+use Rattle.tree_steps.proofs.Counted.{counted_moved, has_vertex, KeepsOuter, none_outside, vertices_less, among_le}
+use Rattle.alt_forest.proofs.Counted.{counted}
 
 -- a ring has another node
 pub record HasOther (s : State) (ring : List Link) (base : ℕ) : Type 0 where

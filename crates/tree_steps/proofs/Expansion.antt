@@ -9,23 +9,26 @@ use Rattle.blossom_arena.specs.declared.links.Link.{Link}
 use Rattle.blossom_arena.specs.Family.{Blossom, IsNested, is_node, is_child, in_ring, names_of, nodes_of, without, ring_of, older_than}
 use Rattle.blossom_arena.proofs.Lists.{AllNew, by_test}
 use Rattle.blossom_arena.proofs.Nested.{outermost_parts, name_range}
-use Rattle.blossom_arena.proofs.Taken.{outermost_stays}
+use Rattle.blossom_arena.proofs.Taken.{outermost_stays, each_without}
 use Rattle.alt_forest.specs.declared.label.Label.{Label}
 use Rattle.alt_forest.specs.declared.label.Label.TheVariants.{Outer, Inner, Out}
 use Rattle.alt_forest.specs.State.{State, IsOutermost, Joins, doubled, slack_of, IsTight, IsMate, IsInner, IsSearchState, next_node, IsChainTo}
 use Rattle.alt_forest.specs.Searches.{put}
 use Rattle.alt_forest.proofs.Relabelled.{put_here, put_other, outer_not_inner, outer_not_out, inner_not_out}
-use Rattle.alt_forest.proofs.Walk.{some_same}
 use Rattle.tree_steps.specs.Expanded.{opened, mated, labelled_out, labels_up, labels_down, parents_up, parents_down, end_of}
 use Rattle.tree_steps.proofs.Gap.{FitsBut, FitBut, fits_all}
 use Rattle.tree_steps.proofs.Grown.{rehung}
 use Rattle.alt_forest.proofs.Mates.{joins_unique, joins_turned, mate_turned, mate_unique, partner_unique}
-use Rattle.tree_steps.proofs.Opened.{across_without, joins_opened, joins_elsewhere, ring_is_child, outer_opened, ring_outer, gone, all_without, rings_without}
+use Rattle.tree_steps.proofs.Opened.{across_without, joins_opened, joins_elsewhere, outer_opened, gone, rings_without}
 use Rattle.tree_steps.proofs.Climbed.{IsOpenAt, Keeps, fit_scaled, room_between}
 use Rattle.tree_steps.proofs.Ladders.{IsLadder, climb_up, climb_down}
 use Rattle.alt_forest.specs.Circuits.{ArePaired}
 use Rattle.alt_forest.proofs.Rounds.{next_node-append}
 use Rattle.tree_steps.proofs.Rungs.{ArePairs, mated_other, mated_paired, paired_else, out_other, out_there, out_all, rung_at, ladder_parts}
+use Rattle.std.proofs.lemmas.Option.{same_Some}
+use Rattle.blossom_arena.proofs.Parents.{ring_child}
+use Rattle.blossom_arena.proofs.Opened.{child_outer}
+use Rattle.alt_forest.proofs.Tight.{tight_rings}
 
 -- an inner blossom of dual 0, and its circuit from its base on
 pub record Opens (s : State) (depth : ℕ → ℕ) (a base edge : ℕ) (rest : List Link) (e w : ℕ) : Type 0 where
@@ -68,7 +71,7 @@ module _ (s : State) (depth : ℕ → ℕ) (a base edge : ℕ) (rest : List Link
 
   -- the circuit and the outermost nodes
   ring_no_outer : (c : ℕ) → IsOutermost s c → in_ring (ring_of bs a) c ≡ false
-  ring_no_outer c is = false_from_ne_true (in_ring (ring_of bs a) c) (λ r. both_ways (is_child bs c) (outermost_parts s.graph.vertices bs c is).1 (ring_is_child bs a c r))
+  ring_no_outer c is = false_from_ne_true (in_ring (ring_of bs a) c) (λ r. both_ways (is_child bs c) (outermost_parts s.graph.vertices bs c is).1 (ring_child bs a c r))
 
   rest_in : (c : ℕ) → in_ring rest c ≡ true → in_ring (ring_of bs a) c ≡ true
   rest_in c r = go rest h.inside r
@@ -84,7 +87,7 @@ module _ (s : State) (depth : ℕ → ℕ) (a base edge : ℕ) (rest : List Link
   not_base c is q = both_ways (in_ring (ring_of bs a) c) (ring_no_outer c is) (ap (in_ring (ring_of bs a)) q ∙ h.base_in)
 
   base_is : IsOutermost t base
-  base_is = ring_outer s.graph.vertices bs a base h.nested free h.base_in
+  base_is = child_outer s.graph.vertices bs a base h.nested free h.base_in
 
   stays_outer : (c : ℕ) → IsOutermost s c → c ≢ a → IsOutermost t c
   stays_outer c is ne = outermost_stays s.graph.vertices bs a c (ne_eqb a c (λ q. ne (sym q))) is
@@ -129,8 +132,8 @@ module _ (s : State) (depth : ℕ → ℕ) (a base edge : ℕ) (rest : List Link
   ladder_from (x ∷ (y ∷ ls)) chain tight inside new paired =
       let joins = joins_now x.edge x.node y.node chain.0 inside.0 inside.1.0 chain.1 in
       let differ : x.node ≢ y.node = λ q. eqb-false y.node x.node (or_parts (eqb y.node x.node) (in_ring ls x.node) new.0).0 (sym q) in
-      let x_is : IsOutermost t x.node = ring_outer s.graph.vertices bs a x.node h.nested free inside.0 in
-      let y_is : IsOutermost t y.node = ring_outer s.graph.vertices bs a y.node h.nested free inside.1.0 in
+      let x_is : IsOutermost t x.node = child_outer s.graph.vertices bs a x.node h.nested free inside.0 in
+      let y_is : IsOutermost t y.node = child_outer s.graph.vertices bs a y.node h.nested free inside.1.0 in
       let flat = slack_now x.edge ∙ tight.0.tight in (
         record { is = x_is; mate = paired.0; is_mate = record { edge = chain.0; joins = joins; different = differ; tight = flat; outer = y_is; back = paired.1 } },
         record { is = y_is; mate = paired.1; is_mate = record { edge = chain.0; joins = joins_turned s.graph (without bs a) x.edge x.node y.node joins; different = λ q. differ (sym q); tight = flat; outer = x_is; back = paired.0 } },
@@ -187,7 +190,7 @@ module _ (s : State) (depth : ℕ → ℕ) (a base edge : ℕ) (rest : List Link
       (λ q.
       let same : d ≡ a = eqb-true d a q in
       let here : IsMate s c f a = subst (IsMate s c f) same v in
-      let it : e ≡ f = some_same e f (sym h.mate ∙ here.back) in
+      let it : e ≡ f = same_Some e f (sym h.mate ∙ here.back) in
       let from : w ≡ c = partner_unique s w e c f a (mate_turned s a e w h.outer h.mate h.is_mate) here in
       subst (IsMate t c f) (sym (lift_here d same))
       (subst (λ g. IsMate t c g base) it (subst (λ x. IsMate t x e base) from (mate_turned t base e w base_is base_mate_is base_mate))))
@@ -210,10 +213,10 @@ module _ (s : State) (depth : ℕ → ℕ) (a base edge : ℕ) (rest : List Link
   mates_now : (c f : ℕ) → IsOutermost t c → t.mate c ≡ Some f → (d : ℕ) × IsMate t c f d
   mates_now c f is has = sorted c is
       (λ was nc. let has_s : s.mate c ≡ Some f = sym (mate_old c was) ∙ has in let m = h.state.mates c f was has_s in (lift m.0, mate_after c f m.0 was nc has_s m.1))
-      (λ q. let it : e ≡ f = some_same e f (sym base_mate_is ∙ ap t.mate (sym q) ∙ has) in
+      (λ q. let it : e ≡ f = same_Some e f (sym base_mate_is ∙ ap t.mate (sym q) ∙ has) in
       (w, subst (λ g. IsMate t c g w) it (subst (λ x. IsMate t x e w) (sym q) base_mate)))
       (λ r. let g = rung_at t rest base c ladder r in
-      (g.other, subst (λ k. IsMate t c k g.other) (some_same g.edge f (sym g.mate ∙ has)) g.is_mate))
+      (g.other, subst (λ k. IsMate t c k g.other) (same_Some g.edge f (sym g.mate ∙ has)) g.is_mate))
 
   -- the blossom hung and has a child
   abbrev pub says : IsInner s depth a
@@ -327,21 +330,12 @@ module _ (s : State) (depth : ℕ → ℕ) (a base edge : ℕ) (rest : List Link
   parent_now = record { edge = says.is_edge; tight = slack_now says.edge ∙ says.tight }
 
   -- the whole of it, where all inner nodes hang
-  tight_ring : (l : ℕ → Label) (p : ℕ → Option ℕ) (ring : List Link) → AllByRecursion (λ (k : Link). IsTight s k.edge) ring → AllByRecursion (λ (k : Link). IsTight (rehung t l p) k.edge) ring
-  tight_ring l p [] q = tt
-  tight_ring l p (k ∷ ring) q = (record { edge = q.0.edge; tight = slack_now k.edge ∙ q.0.tight }, tight_ring l p ring q.1)
-
-  tight_rings : (l : ℕ → Label) (p : ℕ → Option ℕ) (cs : List Blossom) → AllByRecursion (λ (b : Blossom). AllByRecursion (λ (k : Link). IsTight s k.edge) b.ring) cs
-      → AllByRecursion (λ (b : Blossom). AllByRecursion (λ (k : Link). IsTight (rehung t l p) k.edge) b.ring) cs
-  tight_rings l p [] q = tt
-  tight_rings l p (b ∷ cs) q = (tight_ring l p b.ring q.0, tight_rings l p cs q.1)
-
   whole : (l : ℕ → Label) (p : ℕ → Option ℕ) (after : ℕ → ℕ) → FitBut (rehung t l p) after (λ c. false) → IsSearchState (rehung t l p) after
   whole l p after fits = record {
     rings = rings_without s.graph bs a (omega (arith, above)) free h.state.rings;
-    tight_rings = tight_rings l p (without bs a) (all_without _ bs a h.state.tight_rings);
+    tight_rings = tight_rings s (rehung t l p) (λ e k. record { edge = k.edge; tight = slack_now e ∙ k.tight }) (without bs a) (each_without _ bs a h.state.tight_rings);
     slacks = λ f is. subst (λ z. pos 0 ≤ℤ z) (sym (slack_now f)) (h.state.slacks f is);
-    duals = all_without _ bs a h.state.duals;
+    duals = each_without _ bs a h.state.duals;
     mates = λ c f is has. let m = mates_now c f is has in
         (m.0, record { edge = m.1.edge; joins = m.1.joins; different = m.1.different; tight = m.1.tight; outer = m.1.outer; back = m.1.back });
     labels = λ c is. fits_all (rehung t l p) after (λ x. false) c refl (fits c is);

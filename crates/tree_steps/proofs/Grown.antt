@@ -1,35 +1,24 @@
 -- A grow keeps the state of a search.
-use Rattle.std.proofs.Common.{◌≡◌, ◌≢◌, ℕ, ◌+◌, Bool, true, false, ◌||◌, ◌&&◌, not, eqb, List, [], ◌∷◌, Option, Some, refl, sym, ap, ◌∙◌, arith}
-use Rattle.std.specs.List.{AllByRecursion}
-use Rattle.blossom_arena.specs.declared.links.Link.{Link}
-use Rattle.blossom_arena.specs.Family.{Blossom}
+use Rattle.std.proofs.Common.{◌≡◌, ◌≢◌, ℕ, ◌+◌, Bool, true, false, ◌||◌, ◌&&◌, not, eqb, Option, Some, refl, sym, ap, ◌∙◌, arith}
 use Rattle.alt_forest.specs.declared.label.Label.{Label}
 use Rattle.alt_forest.specs.declared.label.Label.TheVariants.{Outer, Inner, Out}
-use Rattle.alt_forest.specs.State.{State, IsOutermost, IsTight, IsMate, FitsLabel, IsSearchState}
+use Rattle.alt_forest.specs.State.{State, IsOutermost, IsMate, FitsLabel, IsSearchState}
 use Rattle.alt_forest.specs.Events.{CanGrow}
 use Rattle.alt_forest.specs.Searches.{put}
 use Rattle.alt_forest.proofs.Relabelled.{put_here, put_other, outer_not_out}
 use Rattle.tree_steps.specs.Grown.{grown}
 use Rattle.alt_forest.proofs.Mates.{joins_turned}
 use Rattle.tree_steps.proofs.Gap.{fits_but, fits_all, pair_taken, gap_hung}
+use Rattle.alt_forest.proofs.Tight.{tight_rings}
 
 -- other labels and parents leave rings, slacks and mates as they are
 abbrev pub rehung : State → (ℕ → Label) → (ℕ → Option ℕ) → State
 rehung s l p = record s { label = l; parent = p }
 
-tight_ring : (s : State) (l : ℕ → Label) (p : ℕ → Option ℕ) (ring : List Link) → AllByRecursion (λ (k : Link). IsTight s k.edge) ring → AllByRecursion (λ (k : Link). IsTight (rehung s l p) k.edge) ring
-tight_ring s l p [] t = tt
-tight_ring s l p (k ∷ ring) t = (record { edge = t.0.edge; tight = t.0.tight }, tight_ring s l p ring t.1)
-
-tight_rings : (s : State) (l : ℕ → Label) (p : ℕ → Option ℕ) (bs : List Blossom) → AllByRecursion (λ (b : Blossom). AllByRecursion (λ (k : Link). IsTight s k.edge) b.ring) bs
-    → AllByRecursion (λ (b : Blossom). AllByRecursion (λ (k : Link). IsTight (rehung s l p) k.edge) b.ring) bs
-tight_rings s l p [] t = tt
-tight_rings s l p (b ∷ bs) t = (tight_ring s l p b.ring t.0, tight_rings s l p bs t.1)
-
 pub rehung_state : (s : State) (l : ℕ → Label) (p : ℕ → Option ℕ) (depth after : ℕ → ℕ) → IsSearchState s depth → ((a : ℕ) → IsOutermost s a → FitsLabel (rehung s l p) after a) → IsSearchState (rehung s l p) after
 rehung_state s l p depth after st fits = record {
   rings = st.rings;
-  tight_rings = tight_rings s l p s.blossoms st.tight_rings;
+  tight_rings = tight_rings s (rehung s l p) (λ e t. record { edge = t.edge; tight = t.tight }) s.blossoms st.tight_rings;
   slacks = st.slacks;
   duals = st.duals;
   mates = λ a e is has. let m = st.mates a e is has in (m.0, record { edge = m.1.edge; joins = m.1.joins; different = m.1.different; tight = m.1.tight; outer = m.1.outer; back = m.1.back });

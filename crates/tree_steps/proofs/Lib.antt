@@ -2,7 +2,6 @@ pub mod Gap
 pub mod Grown
 pub mod Shrunk
 pub mod Mirror
-pub mod Hops
 pub mod Ways
 pub mod Meeting
 pub mod Pushed

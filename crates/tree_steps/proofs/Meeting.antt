@@ -1,5 +1,5 @@
 -- The paths of two outer nodes, up to the first node that they share, are ways; so where they meet gives a circuit.
-use Rattle.std.proofs.Common.{◌≡◌, ◌≢◌, ◌⊎◌, ℕ, zero, suc, true, false, ◌||◌, eqb, cond, List, [], ◌∷◌, Option, Some, None, refl, sym, ap, ◌∙◌, subst, arith, ⊎_elim, inl, inr}
+use Rattle.std.proofs.Common.{◌≡◌, ◌≢◌, ◌⊎◌, ℕ, zero, suc, true, false, ◌||◌, eqb, cond, List, [], ◌∷◌, Option, Some, None, refl, sym, ap, ◌∙◌, subst, ⊎_elim, inl, inr}
 use Rattle.std.proofs.lemmas.Bool.{cases_eq, eq-eqb, ne_eqb, eqb-true, eqb-false, or_cases, or_left, or_right, both_ways, false_from_ne_true}
 use Rattle.graph_theory.specs.Parts.{holds}
 use Rattle.blossom_arena.specs.Family.{in_ring}
@@ -8,15 +8,16 @@ use Rattle.alt_forest.specs.declared.label.Label.TheVariants.{Outer, Inner}
 use Rattle.alt_forest.specs.State.{State, IsOutermost, IsTight, Joins, node_u, node_v, IsMate, IsSearchState}
 use Rattle.alt_forest.specs.Trees.{far_end, up_edge_by, up_of, path_within, path_of, first_common}
 use Rattle.alt_forest.proofs.Relabelled.{outer_not_inner, some_not_none}
-use Rattle.alt_forest.proofs.Walk.{some_same, other_node_joins}
 use Rattle.tree_steps.specs.Circuits.{before, circuit_of}
 use Rattle.alt_forest.proofs.Mates.{partner_unique}
 use Rattle.alt_forest.specs.declared.hop.Hop.{Hop}
-use Rattle.alt_forest.specs.Ways.{IsHop, AreHops, links_up}
+use Rattle.alt_forest.specs.Ways.{AreHops, links_up}
 use Rattle.tree_steps.specs.Shrinkable.{IsShrinkable}
 use Rattle.alt_forest.specs.Events.{CanShrink}
 use Rattle.tree_steps.proofs.Ends.{ends_of}
 use Rattle.tree_steps.proofs.Ways.{circuit_shrinks}
+use Rattle.std.proofs.lemmas.Option.{same_Some}
+use Rattle.alt_forest.proofs.Hops.{hop_above, up_to_inner, up_to_outer}
 
 -- nodes one above the other
 abbrev pub IsTrace : State → ℕ → List ℕ → Type 0
@@ -55,33 +56,6 @@ pub record FoundInner (s : State) (xs : List ℕ) (base : ℕ) : Type 0 where
   pub inner : s.label base ≡ Inner
   pub passed : holds (before xs base) under ≡ true
 
--- one hop
-record IsHopped (s : State) (depth : ℕ → ℕ) (x : ℕ) (hop : Hop) : Type 0 where
-  is_hop : IsHop s depth x hop
-  inner : s.label hop.inner ≡ Inner
-  first : up_of s x ≡ hop.inner
-  second : up_of s hop.inner ≡ hop.outer
-  up_is : IsOutermost s hop.outer
-  up_outer : s.label hop.outer ≡ Outer
-
-hopped : (s : State) (depth : ℕ → ℕ) (x f : ℕ) → IsSearchState s depth → IsOutermost s x → s.label x ≡ Outer → s.mate x ≡ Some f → (hop : Hop) × IsHopped s depth x hop
-hopped s depth x f st is outer has =
-    let w = st.mates x f is has in
-    let q : ℕ = w.0 in
-    let says = (st.labels x is).outer outer f q has w.1 in
-    let i = (st.labels q w.1.outer).inner says.0 in
-    let apart : q ≢ i.up = λ r. let same : depth q ≡ depth i.up = ap depth r in absurd (omega (arith, i.falls)) in (
-      record { mate = f; inner = q; parent = i.edge; outer = i.up },
-      record {
-        is_hop = record { is = is; label = outer; mate = has; is_mate = w.1; inner_label = says.0; parent = i.parent; lower = says.1; edge = i.is_edge; joins = i.joins; tight = i.tight; lowest = i.falls };
-        inner = says.0;
-        first = ap (λ l. far_end s (up_edge_by s l x) x) outer ∙ ap (λ o. far_end s o x) has ∙ other_node_joins s.graph s.blossoms f x q w.1.joins w.1.different;
-        second = ap (λ l. far_end s (up_edge_by s l q) q) says.0 ∙ ap (λ o. far_end s o q) i.parent ∙ other_node_joins s.graph s.blossoms i.edge q i.up i.joins apart;
-        up_is = i.up_is;
-        up_outer = i.up_outer;
-      },
-    )
-
 at_start : (s : State) (depth : ℕ → ℕ) (x : ℕ) (xs : List ℕ) (base : ℕ) → IsOutermost s x → s.label x ≡ Outer → base ≡ x → FoundOuter s depth x xs base
 at_start s depth x xs base is outer here = record { hops = []; way = sym here; outer = ap s.label here ∙ outer; is = subst (IsOutermost s) (sym here) is; passed = λ c r. absurd (both_ways false refl r) }
 
@@ -100,30 +74,30 @@ found s depth x (y ∷ (z ∷ zs)) base st trace is outer there =
         → (o : Option ℕ) → s.mate x ≡ o → FoundOuter s depth x (y ∷ (z ∷ zs)) base ⊎ FoundInner s (y ∷ (z ∷ zs)) base
     on ne again None e = absurd (trace.2.1 (ap (λ l. far_end s (up_edge_by s l x) x) outer ∙ ap (λ o. far_end s o x) e))
     on ne again (Some f) e =
-        let found_hop = hopped s depth x f st is outer e in
-        let hop : Hop = found_hop.0 in
-        let h = found_hop.1 in
-        let z_is : z ≡ hop.inner = trace.2.0 ∙ h.first in
+        let above = hop_above s depth x f st is outer e in
+        let hop : Hop = above.0 in
+        let h = above.1 in
+        let z_is : z ≡ hop.inner = trace.2.0 ∙ up_to_inner s depth x hop h in
         let y_not : y ≢ base = λ r. ne (sym r ∙ trace.0) in
         let later : holds (z ∷ zs) base ≡ true = ⊎_elim (λ r. absurd (y_not (eqb-true y base r))) (λ r. r) (or_cases (eqb y base) (holds (z ∷ zs) base) there) in
         ⊎_elim
         (λ at. inr (record {
           under = x;
           edge = hop.mate;
-          is_mate = subst (IsMate s x hop.mate) (sym at) h.is_hop.is_mate;
-          inner = ap s.label at ∙ h.inner;
+          is_mate = subst (IsMate s x hop.mate) (sym at) h.is_mate;
+          inner = ap s.label at ∙ h.inner_label;
           passed = before_goes y base x (z ∷ zs) y_not (or_left (eqb y x) (holds (before (z ∷ zs) base) x) (eq-eqb y x trace.0));
         }))
         (λ not_it.
         let z_not : z ≢ base = λ r. not_it (sym r ∙ z_is) in
         let rest_there : holds zs base ≡ true = ⊎_elim (λ r. absurd (z_not (eqb-true z base r))) (λ r. r) (or_cases (eqb z base) (holds zs base) later) in
-        let p_is : up_of s (up_of s x) ≡ hop.outer = ap (up_of s) h.first ∙ h.second in
+        let p_is : up_of s (up_of s x) ≡ hop.outer = ap (up_of s) (up_to_inner s depth x hop h) ∙ up_to_outer s depth x hop h in
         let goes : (c : ℕ) → holds (before zs base) c ≡ true → holds (before (y ∷ (z ∷ zs)) base) c ≡ true =
         λ c r. before_goes y base c (z ∷ zs) y_not (or_right (eqb y c) (holds (before (z ∷ zs) base) c) (before_goes z base c zs z_not (or_right (eqb z c) (holds (before zs base) c) r))) in
         ⊎_elim
         (λ (r : FoundOuter s depth hop.outer zs base). inl (record {
           hops = hop ∷ r.hops;
-          way = (h.is_hop, r.way);
+          way = (h, r.way);
           outer = r.outer;
           is = r.is;
           passed = λ c in_it. ⊎_elim
@@ -148,7 +122,7 @@ pub common_first : (xs ys : List ℕ) (base : ℕ) → first_common xs ys ≡ So
 common_first [] ys base e = some_not_none base (sym e)
 common_first (x ∷ xs) ys base e = by_test (holds ys x)
     (λ here.
-    let same : x ≡ base = some_same x base (sym (ap (λ q. cond q (Some x) (first_common xs ys)) here) ∙ e) in
+    let same : x ≡ base = same_Some x base (sym (ap (λ q. cond q (Some x) (first_common xs ys)) here) ∙ e) in
     record {
       on_first = or_left (eqb x base) (holds xs base) (eq-eqb x base same);
       on_second = ap (holds ys) (sym same) ∙ here;

@@ -10,11 +10,12 @@ use Rattle.blossom_arena.specs.declared.links.Link.{Link}
 use Rattle.blossom_arena.specs.Family.{Blossom, IsNested, is_node, is_child, is_outermost, is_vertex, in_ring, names_of, outermost, without, ring_of, older_than}
 use Rattle.blossom_arena.specs.Slack.{duals_across}
 use Rattle.blossom_arena.proofs.Lists.{by_test}
-use Rattle.blossom_arena.proofs.Nested.{circuit_outer, outermost_parts, node_grows, vertex_range, range_vertex}
+use Rattle.blossom_arena.proofs.Nested.{outermost_parts, vertex_range}
 use Rattle.blossom_arena.proofs.Sets.{member_by_ring}
 use Rattle.blossom_arena.proofs.Taken.{node_without}
 use Rattle.alt_forest.specs.State.{Joins, next_node, IsChainTo, HasRings}
 use Rattle.tree_steps.proofs.Shrunk.{across_zero}
+use Rattle.blossom_arena.proofs.Ends.{u_vertex, v_vertex}
 
 -- the list without a blossom, by where that one stands
 taken_here : {A : Type 0} (f : List Blossom → A) (b : Blossom) (older : List Blossom) (a : ℕ) → eqb b.node a ≡ true → f (without (b ∷ older) a) ≡ f older
@@ -89,9 +90,8 @@ end_opened n bs a v x h above out iv r e =
 pub joins_opened : (g : Multigraph) (bs : List Blossom) (a e x y : ℕ) → IsGraph g → IsNested g.vertices bs → g.vertices < a → is_child bs a ≡ false → IsEdgeNumber g e
     → in_ring (ring_of bs a) x ≡ true → in_ring (ring_of bs a) y ≡ true → Joins g (older_than bs a) e x y → Joins g (without bs a) e x y
 joins_opened g bs a e x y graph h above out is rx ry j =
-    let w = edge_of_within g e graph.ends is in
-    let u_is = range_vertex g.vertices (edge_of g e).u w.u_low w.u_high in
-    let v_is = range_vertex g.vertices (edge_of g e).v w.v_low w.v_high in
+    let u_is = u_vertex g e graph.ends is in
+    let v_is = v_vertex g e graph.ends is in
     ⊎_elim
     (λ p. inl (end_opened g.vertices bs a (edge_of g e).u x h above out u_is rx p.0, end_opened g.vertices bs a (edge_of g e).v y h above out v_is ry p.1))
     (λ p. inr (end_opened g.vertices bs a (edge_of g e).u y h above out u_is ry p.0, end_opened g.vertices bs a (edge_of g e).v x h above out v_is rx p.1))
@@ -140,13 +140,6 @@ child_opened (b ∷ older) a c e =
     (child_opened older a c r))
     (or_cases (in_ring b.ring c) (is_child older c) e))
 
-pub ring_is_child : (bs : List Blossom) (a c : ℕ) → in_ring (ring_of bs a) c ≡ true → is_child bs c ≡ true
-ring_is_child [] a c e = absurd (both_ways false refl e)
-ring_is_child (b ∷ older) a c e =
-    by_test (eqb b.node a)
-    (λ s. or_left (in_ring b.ring c) (is_child older c) (sym (ap (λ ls. in_ring ls c) (ring_here b older a s)) ∙ e))
-    (λ s. or_right (in_ring b.ring c) (is_child older c) (ring_is_child older a c (sym (ap (λ ls. in_ring ls c) (ring_later b older a s)) ∙ e)))
-
 -- what is outermost once the blossom is open was so before, or lay on its circuit
 pub outer_opened : (n : ℕ) (bs : List Blossom) (a c : ℕ) → is_outermost n (without bs a) c ≡ true → c ≢ a → (is_outermost n bs c ≡ true) ⊎ (in_ring (ring_of bs a) c ≡ true)
 outer_opened n bs a c is ne =
@@ -155,20 +148,6 @@ outer_opened n bs a c is ne =
     by_test (is_child bs c)
     (λ e. ⊎_elim (λ k. absurd (both_ways (is_child (without bs a) c) parts.1 k)) (λ k. inr k) (child_opened bs a c e))
     (λ e. inl (and_from (is_node n bs c) (not (is_child bs c)) node (ap not e)))
-
--- the nodes of the circuit are outermost then
-pub ring_outer : (n : ℕ) (bs : List Blossom) (a c : ℕ) → IsNested n bs → is_child bs a ≡ false → in_ring (ring_of bs a) c ≡ true → is_outermost n (without bs a) c ≡ true
-ring_outer n [] a c h out r = absurd (both_ways false refl r)
-ring_outer n (b ∷ older) a c h out r =
-    let parts = or_parts (in_ring b.ring a) (is_child older a) out in
-    by_test (eqb b.node a)
-    (λ s. taken_here (λ bs. is_outermost n bs c) b older a s ∙ circuit_outer n older b.ring c h.0.circuit (sym (ap (λ ls. in_ring ls c) (ring_here b older a s)) ∙ r))
-    (λ s.
-    let later : in_ring (ring_of older a) c ≡ true = sym (ap (λ ls. in_ring ls c) (ring_later b older a s)) ∙ r in
-    let ps = outermost_parts n (without older a) c (ring_outer n older a c h.1 parts.1 later) in
-    let here : in_ring b.ring c ≡ false = false_from_ne_true (in_ring b.ring c) (λ k. both_ways (is_child older c) (outermost_parts n older c (circuit_outer n older b.ring c h.0.circuit k)).1 (ring_is_child older a c later)) in
-    taken_later (λ bs. is_outermost n bs c) b older a s
-    ∙ and_from (is_node n (b ∷ without older a) c) (not (is_child (b ∷ without older a) c)) (node_grows n b (without older a) c ps.0) (ap not (ap (λ t. t || is_child (without older a) c) here ∙ ps.1)))
 
 -- the blossom is no node any more
 pub gone : (n : ℕ) (bs : List Blossom) (a : ℕ) → IsNested n bs → n < a → is_node n (without bs a) a ≡ false
@@ -183,12 +162,6 @@ gone n bs a h above = ap (λ t. t || holds (names_of (without bs a)) a) low ∙ 
         by_test (eqb b.node a)
         (λ s. taken_here (λ bs. holds (names_of bs) a) b older a s ∙ ap (holds (names_of older)) (sym (eqb-true b.node a s)) ∙ (or_parts (is_vertex n b.node) (holds (names_of older) b.node) h.0.fresh).1)
         (λ s. taken_later (λ bs. holds (names_of bs) a) b older a s ∙ ap (λ t. t || holds (names_of (without older a)) a) s ∙ no_name older h.1)
-
--- what holds of each blossom holds of each that is left
-pub all_without : (P : Blossom → Type 0) (bs : List Blossom) (a : ℕ) → AllByRecursion P bs → AllByRecursion P (without bs a)
-all_without P [] a each = tt
-all_without P (b ∷ older) a each =
-    elim (eqb b.node a) as (λ q. AllByRecursion P (cond q older (b ∷ without older a))) [ true ↦ each.1 | false ↦ (each.0, all_without P older a each.1) ]
 
 -- the circuits of the other blossoms are rings as before
 chain_elsewhere : (g : Multigraph) (bs : List Blossom) (a : ℕ) (ls : List Link) (z : ℕ) → in_ring ls a ≡ false → z ≢ a → IsChainTo g bs ls z → IsChainTo g (without bs a) ls z

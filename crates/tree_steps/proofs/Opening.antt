@@ -6,7 +6,7 @@ use Rattle.std.proofs.lemmas.Bool.{or_parts, both_ways, eqb-true, eqb-false, fal
 use Rattle.graph_theory.specs.Graph.{IsGraph}
 use Rattle.blossom_arena.specs.declared.links.Link.{Link}
 use Rattle.blossom_arena.specs.Family.{Blossom, IsNested, nodes_of, in_ring, ring_of, older_than, without}
-use Rattle.blossom_arena.proofs.Lists.{AllNew, by_test, first_in, later_in, new_from_distinct}
+use Rattle.blossom_arena.proofs.Lists.{AllNew, by_test, new_from_distinct}
 use Rattle.blossom_arena.proofs.Nested.{name_range, node_range, child_is_node}
 use Rattle.blossom_arena.proofs.Parents.{ring_child}
 use Rattle.alt_forest.specs.declared.label.Label.{Label}
@@ -23,7 +23,7 @@ use Rattle.tree_steps.proofs.Opened.{joins_child, ring_chain, ring_each_link}
 use Rattle.tree_steps.proofs.Rungs.{out_other, mated_other, rung_at}
 use Rattle.tree_steps.proofs.Expansion.{Opens, ladder, expanded_up, expanded_down}
 use Rattle.tree_steps.proofs.Rounds.{parted_at, place_within, place_none, even_pairs, goes_round, leads_round, each_round}
-use Rattle.blossom_arena.proofs.LinkLists.{in_ring-append}
+use Rattle.blossom_arena.proofs.LinkLists.{in_ring-append, each_link}
 use Rattle.blossom_arena.proofs.Older.{HasRing, has_ring}
 use Rattle.alt_forest.proofs.Rounds.{GoesRound}
 use Rattle.tree_steps.proofs.Holders.{child_in}
@@ -88,20 +88,12 @@ module _ (s : State) (depth : ℕ → ℕ) (a : ℕ) (graph : IsGraph s.graph) (
   pub ring_limit : (c : ℕ) → in_ring ring c ≡ true → c ≤ node_limit s.graph.vertices
   ring_limit c r = (node_range s.graph.vertices bs c nested (child_is_node s.graph.vertices bs c nested (ring_child bs a c r))).1
 
-  each_limit : (ls : List Link) → ((c : ℕ) → in_ring ls c ≡ true → c ≤ node_limit s.graph.vertices) → AllByRecursion (λ (l : Link). l.node ≤ node_limit s.graph.vertices) ls
-  each_limit [] h = tt
-  each_limit (l ∷ ls) h = (h l.node (first_in l.node (nodes_of ls)), each_limit ls (λ c r. h c (later_in l.node (nodes_of ls) c r)))
-
-  each_inside : (ls : List Link) → ((c : ℕ) → in_ring ls c ≡ true → in_ring ring c ≡ true) → AllByRecursion (λ (l : Link). in_ring ring l.node ≡ true) ls
-  each_inside [] h = tt
-  each_inside (l ∷ ls) h = (h l.node (first_in l.node (nodes_of ls)), each_inside ls (λ c r. h c (later_in l.node (nodes_of ls) c r)))
-
   module _ (base edge : ℕ) (round : List Link) (base_is : base ≡ child_at s.graph bs a hangs.child_edge) (r : IsRound ring base edge round) where
     goes : GoesRound ring base round
     goes = goes_round ring base edge round r ring_new
 
     pub round_limit : AllByRecursion (λ (l : Link). l.node ≤ node_limit s.graph.vertices) round
-    round_limit = each_limit round (λ c i. ring_limit c (goes.inside c i))
+    round_limit = each_link (λ c. c ≤ node_limit s.graph.vertices) round (λ c i. ring_limit c (goes.inside c i))
 
     pub round_even : length round % 2 ≡ 0
     round_even = omega (arith, goes.size, here.circuit.odd)
@@ -130,7 +122,7 @@ module _ (s : State) (depth : ℕ → ℕ) (a : ℕ) (graph : IsGraph s.graph) (
           base_next = leads.next;
           chain = leads.chain;
           tight = tight.1;
-          inside = each_inside round goes.inside;
+          inside = each_link (λ c. in_ring ring c ≡ true) round goes.inside;
           all = goes.all;
           base_apart = goes.base_apart;
           different = goes.different;

@@ -1,5 +1,5 @@
 -- How far the links of a way up are pushed.
-use Rattle.std.proofs.Common.{◌≡◌, ◌≢◌, ℕ, ◌+◌, ◌<◌, ◌≤◌, true, eqb, cond, List, [], ◌∷◌, ◌++◌, length, length-append, append_assoc, Option, Some, None, refl, sym, ap, ◌∙◌, subst, arith, ⊎_elim}
+use Rattle.std.proofs.Common.{◌≡◌, ◌≢◌, ℕ, ◌+◌, ◌<◌, ◌≤◌, true, eqb, cond, List, [], ◌∷◌, ◌++◌, length, length-append, append_assoc, Option, Some, None, refl, sym, ap, ◌∙◌, subst, arith, ⊎_elim, append-nil}
 use Rattle.std.specs.Vec.{vec_capacity}
 use Rattle.std.proofs.lemmas.Bool.{both_ways, eqb-true, eq-eqb, ne_eqb, or_cases}
 use Rattle.graph_theory.specs.Graph.{IsEdgeNumber}
@@ -8,12 +8,13 @@ use Rattle.blossom_arena.specs.declared.links.Link.{Link}
 use Rattle.blossom_arena.specs.Family.{IsNested}
 use Rattle.alt_forest.specs.declared.search.Search.{Search}
 use Rattle.alt_forest.specs.State.{State, IsOutermost, IsSearchState}
-use Rattle.alt_forest.specs.Trees.{node_limit, far_end, up_edge, up_of, path_of}
-use Rattle.alt_forest.specs.Searches.{IsSound}
+use Rattle.alt_forest.specs.Trees.{node_limit, far_end, up_edge, up_of, path_of, other_node}
+use Rattle.alt_forest.specs.Searches.{IsSound, state_of}
 use Rattle.alt_forest.proofs.Walk.{up_step, path_none}
 use Rattle.alt_forest.proofs.Paths.{path_of-step}
 use Rattle.alt_forest.proofs.Roots.{some_node}
 use Rattle.tree_steps.specs.Circuits.{before, or_zero, links_above}
+use Rattle.alt_forest.proofs.Places.{nested_of}
 
 -- the way up from this node leads to the base, and its links are still to come
 pub record IsPushed (s : State) (node base : ℕ) (now start : List Link) (from : ℕ) : Type 0 where
@@ -24,10 +25,6 @@ pub record IsPushed (s : State) (node base : ℕ) (now start : List Link) (from 
 pub links_length : (s : State) (xs : List ℕ) → length (links_above s xs) ≡ length xs
 links_length s [] = refl
 links_length s (x ∷ xs) = omega (arith, links_length s xs)
-
-append_none : (xs : List Link) → xs ++ [] ≡ xs
-append_none [] = refl
-append_none (x ∷ xs) = ap (λ ys. x ∷ ys) (append_none xs)
 
 module _ (s : State) (depth : ℕ → ℕ) (nested : IsNested s.graph.vertices s.blossoms) (st : IsSearchState s depth) (node base : ℕ) (now start : List Link) (from : ℕ) (p : IsPushed s node base now start from) where
   path : path_of s node ≡ node ∷ path_of s (up_of s node)
@@ -89,7 +86,30 @@ module _ (s : State) (depth : ℕ → ℕ) (nested : IsNested s.graph.vertices s
   pub pushed_all : node ≡ base → now ≡ start ++ links_above s (before (path_of s from) base)
   pushed_all same =
       let none : links_above s (before (path_of s node) base) ≡ [] = ap (λ xs. links_above s (before xs base)) path ∙ ap (λ t. links_above s (cond t [] (node ∷ before (path_of s (up_of s node)) base))) (eq-eqb node base same) in
-      sym (append_none now) ∙ ap (λ (xs : List Link). now ++ xs) (sym none) ∙ p.links
+      sym (append-nil now) ∙ ap (λ (xs : List Link). now ++ xs) (sym none) ∙ p.links
+
+-- what is read above a node of the way that isn't the base, once some links are pushed
+module _ (s t : Search) (rest : t ≡ record s { circuit = t.circuit }) (h : IsSound s) (node base : ℕ) (now start : List Link) (from : ℕ) (p : IsPushed (state_of s) node base now start from) (ne : node ≢ base) (e : ℕ) (read : (k : ℕ) → up_edge (state_of t) node ≡ Some k → e ≡ k) where
+  on : GoesOn (state_of s) h.depth (nested_of s h.shape) h.state node base now start from p
+  on = goes_on (state_of s) h.depth (nested_of s h.shape) h.state node base now start from p ne
+
+  read_is : e ≡ on.edge
+  read_is = read on.edge (subst (λ (f : Search). up_edge (state_of f) node ≡ Some on.edge) (sym rest) on.has)
+
+  has : up_edge (state_of s) node ≡ Some e
+  has = on.has ∙ ap (λ k. Some k) (sym read_is)
+
+  pub record LeadsOn : Type 0 where
+    pub number : IsEdgeNumber t.graph e
+    pub has : up_edge (state_of s) node ≡ Some e
+    pub up : (x : ℕ) → x ≡ other_node t.graph t.arena.blossoms e node → x ≡ up_of (state_of s) node
+
+  pub leads_on : LeadsOn
+  leads_on = record {
+    number = subst (λ (f : Search). IsEdgeNumber f.graph e) (sym rest) (subst (IsEdgeNumber s.graph) (sym read_is) on.is_edge);
+    has = has;
+    up = λ x is. is ∙ ap (λ (f : Search). other_node f.graph f.arena.blossoms e node) rest ∙ ap (λ o. far_end (state_of s) o node) (sym has);
+  }
 
 -- a search with another circuit of the same room is sound
 pub sound_with : (s t : Search) → IsSound s → t ≡ record s { circuit = t.circuit } → vec_capacity t.circuit ≡ vec_capacity s.circuit → IsSound t

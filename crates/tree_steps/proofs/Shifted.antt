@@ -1,5 +1,5 @@
 -- Edges that are shifted along links, one by one.
-use Rattle.std.proofs.Common.{◌≡◌, ℕ, ◌+◌, ◌<◌, List, [], ◌∷◌, ◌++◌, length, refl, sym, ap, ◌∙◌, arith, length-append, append_assoc}
+use Rattle.std.proofs.Common.{◌≡◌, ℕ, ◌+◌, ◌<◌, List, [], ◌∷◌, ◌++◌, length, refl, sym, ap, ◌∙◌, arith, length-append, append_assoc, append-nil}
 use Rattle.std.specs.Prelude.{slice_index_or, slice_set}
 use Rattle.std.proofs.lemmas.List.{set_at}
 use Rattle.std.proofs.Math.Seq.{get_or-append_seam}
@@ -27,10 +27,6 @@ last-push : (e : ℕ) (ls : List Link) (l : Link) → last_edge e (ls ++ l ∷ [
 last-push e [] l = refl
 last-push e (k ∷ ls) l = last-push k.edge ls l
 
-append-none : (xs : List Link) → xs ++ [] ≡ xs
-append-none [] = refl
-append-none (x ∷ xs) = ap (λ ys. x ∷ ys) (append-none xs)
-
 -- the link at the place
 pub record HasNext (first : ℕ) (old now : List Link) (place edge : ℕ) : Type 0 where
   pub front : List Link
@@ -45,7 +41,7 @@ pub has_next : (first : ℕ) (old now : List Link) (place edge : ℕ) → IsShif
 has_next first old now place edge h low = by_left h.left h.whole h.is
   where
     by_left : (left : List Link) → old ≡ h.front ++ left → now ≡ shifted first h.front ++ left → HasNext first old now place edge
-    by_left [] whole is = absurd (omega (arith, low, ap length (is ∙ append-none (shifted first h.front)), shifted-length first h.front, h.count))
+    by_left [] whole is = absurd (omega (arith, low, ap length (is ∙ append-nil (shifted first h.front)), shifted-length first h.front, h.count))
     by_left (l ∷ ls) whole is = record { front = h.front; link = l; left = ls; whole = whole; is = is; count = h.count; carried = h.carried }
 
 -- one link more has its new edge

@@ -7,12 +7,11 @@ use Rattle.std.proofs.lemmas.Bool.{or_parts, or_from, and_from, both_ways, false
 use Rattle.graph_theory.specs.declared.edge.Edge.{Edge}
 use Rattle.graph_theory.specs.Graph.{IsGraph, IsEdgeNumber, edge_of}
 use Rattle.graph_theory.specs.Parts.{holds, crosses}
-use Rattle.graph_theory.proofs.Edges.{edge_of_within}
 use Rattle.blossom_arena.specs.declared.links.Link.{Link}
 use Rattle.blossom_arena.specs.Family.{Blossom, IsNested, is_node, is_child, is_vertex, in_ring, names_of, outermost}
 use Rattle.blossom_arena.specs.Slack.{duals_across}
 use Rattle.blossom_arena.proofs.Lists.{by_test}
-use Rattle.blossom_arena.proofs.Nested.{outermost_parts, outermost_before, node_grows, new_is_node, new_no_child, vertex_is_node, range_vertex, circuit_outer}
+use Rattle.blossom_arena.proofs.Nested.{outermost_parts, outermost_before, node_grows, new_is_node, new_no_child, vertex_is_node, circuit_outer, not_new}
 use Rattle.blossom_arena.proofs.Sets.{member_by_ring}
 use Rattle.alt_forest.specs.declared.label.Label.TheVariants.{Outer, Inner}
 use Rattle.alt_forest.specs.State.{State, IsOutermost, Joins, node_u, node_v, doubled, slack_of, IsTight, IsRing, IsMate, FitsLabel, IsSearchState}
@@ -20,6 +19,8 @@ use Rattle.alt_forest.specs.Searches.{put}
 use Rattle.alt_forest.proofs.Relabelled.{put_here, put_other, outer_not_inner, outer_not_out}
 use Rattle.tree_steps.specs.Shrunk.{shrunk_state}
 use Rattle.alt_forest.proofs.Mates.{joins_unique, mate_turned}
+use Rattle.alt_forest.proofs.Tight.{tight_ring, tight_rings}
+use Rattle.blossom_arena.proofs.Ends.{u_vertex, v_vertex}
 
 -- duals that agree at the nodes that an edge can feel
 pub across_same : (y z : ℕ → ℤ) (bs : List Blossom) (e : Edge) → y e.u ≡ z e.u → y e.v ≡ z e.v → AllByRecursion (λ (b : Blossom). y b.node ≡ z b.node) bs → duals_across y bs e ≡ duals_across z bs e
@@ -75,7 +76,7 @@ module _ (s : State) (b : Blossom) (base : ℕ) (depth : ℕ → ℕ) (h : Shrin
   lift_out a e = ap (λ q. cond q b.node a) e
 
   node_differs : (a : ℕ) → is_node s.graph.vertices s.blossoms a ≡ true → a ≢ b.node
-  node_differs a is e = both_ways (is_node s.graph.vertices s.blossoms b.node) h.nested.0.fresh (ap (is_node s.graph.vertices s.blossoms) (sym e) ∙ is)
+  node_differs a is = not_new s.graph.vertices s.blossoms b.node a h.nested.0.fresh is
 
   outer_differs : (a : ℕ) → IsOutermost s a → a ≢ b.node
   outer_differs a is = node_differs a (outermost_parts s.graph.vertices s.blossoms a is).0
@@ -86,9 +87,8 @@ module _ (s : State) (b : Blossom) (base : ℕ) (depth : ℕ → ℕ) (h : Shrin
   -- an edge joins the nodes that its nodes came into
   joins_lift : (e x y : ℕ) → IsEdgeNumber s.graph e → Joins s.graph s.blossoms e x y → Joins s.graph (b ∷ s.blossoms) e (lift x) (lift y)
   joins_lift e x y is j =
-      let w = edge_of_within s.graph e h.graph.ends is in
-      let u : node_u s.graph (b ∷ s.blossoms) e ≡ lift (node_u s.graph s.blossoms e) = outermost_lift (edge_of s.graph e).u (range_vertex s.graph.vertices (edge_of s.graph e).u w.u_low w.u_high) in
-      let v : node_v s.graph (b ∷ s.blossoms) e ≡ lift (node_v s.graph s.blossoms e) = outermost_lift (edge_of s.graph e).v (range_vertex s.graph.vertices (edge_of s.graph e).v w.v_low w.v_high) in
+      let u : node_u s.graph (b ∷ s.blossoms) e ≡ lift (node_u s.graph s.blossoms e) = outermost_lift (edge_of s.graph e).u (u_vertex s.graph e h.graph.ends is) in
+      let v : node_v s.graph (b ∷ s.blossoms) e ≡ lift (node_v s.graph s.blossoms e) = outermost_lift (edge_of s.graph e).v (v_vertex s.graph e h.graph.ends is) in
       ⊎_elim (λ p. inl (u ∙ ap lift p.0, v ∙ ap lift p.1)) (λ p. inr (u ∙ ap lift p.0, v ∙ ap lift p.1)) j
 
   new_name : holds (names_of s.blossoms) b.node ≡ false
@@ -97,23 +97,17 @@ module _ (s : State) (b : Blossom) (base : ℕ) (depth : ℕ → ℕ) (h : Shrin
   -- no slack changes
   pub slack_after : (e : ℕ) → IsEdgeNumber s.graph e → slack_of t e ≡ slack_of s e
   slack_after e is =
-      let w = edge_of_within s.graph e h.graph.ends is in
       let y : ℕ → ℤ = put s.dual b.node (pos 0) in
       let far : (v : ℕ) → is_vertex s.graph.vertices v ≡ true → y v ≡ s.dual v = λ v iv. put_other s.dual b.node (pos 0) v (node_differs v (vertex_is_node s.graph.vertices s.blossoms v iv)) in
       ap (λ z. doubled s.graph s.weighted e -ℤ z)
       (across_zero y b s.blossoms (edge_of s.graph e) (put_here s.dual b.node (pos 0))
       ∙ across_same y s.dual s.blossoms (edge_of s.graph e)
-      (far (edge_of s.graph e).u (range_vertex s.graph.vertices (edge_of s.graph e).u w.u_low w.u_high))
-      (far (edge_of s.graph e).v (range_vertex s.graph.vertices (edge_of s.graph e).v w.v_low w.v_high))
+      (far (edge_of s.graph e).u (u_vertex s.graph e h.graph.ends is))
+      (far (edge_of s.graph e).v (v_vertex s.graph e h.graph.ends is))
       (agrees_at s.blossoms s.dual b.node (pos 0) new_name))
 
-  tight_ring : (ring : List Link) → AllByRecursion (λ (l : Link). IsTight s l.edge) ring → AllByRecursion (λ (l : Link). IsTight t l.edge) ring
-  tight_ring [] each = tt
-  tight_ring (l ∷ ring) each = (record { edge = each.0.edge; tight = slack_after l.edge each.0.edge ∙ each.0.tight }, tight_ring ring each.1)
-
-  tight_rings : (bs : List Blossom) → AllByRecursion (λ (c : Blossom). AllByRecursion (λ (l : Link). IsTight s l.edge) c.ring) bs → AllByRecursion (λ (c : Blossom). AllByRecursion (λ (l : Link). IsTight t l.edge) c.ring) bs
-  tight_rings [] each = tt
-  tight_rings (c ∷ bs) each = (tight_ring c.ring each.0, tight_rings bs each.1)
+  still_tight : (e : ℕ) → IsTight s e → IsTight t e
+  still_tight e x = record { edge = x.edge; tight = slack_after e x.edge ∙ x.tight }
 
   -- the new node is outermost, and so stays what is in no ring
   pub new_outer : IsOutermost t b.node
@@ -270,7 +264,7 @@ module _ (s : State) (b : Blossom) (base : ℕ) (depth : ℕ → ℕ) (h : Shrin
         let base_is : IsOutermost s base = circuit_outer s.graph.vertices s.blossoms b.ring base h.nested.0.circuit h.base_in in
         record {
           rings = (h.ring, st.rings);
-          tight_rings = (tight_ring b.ring h.tight, tight_rings s.blossoms st.tight_rings);
+          tight_rings = (tight_ring s t still_tight b.ring h.tight, tight_rings s t still_tight s.blossoms st.tight_rings);
           slacks = λ e is. subst (λ z. pos 0 ≤ℤ z) (sym (slack_after e is)) (st.slacks e is);
           duals = (subst (λ z. pos 0 ≤ℤ z) (sym (put_here s.dual b.node (pos 0))) (omega (arith, ints)), low_at s.blossoms s.dual b.node (pos 0) new_name st.duals);
           mates = λ a e is has_mate. ⊎_elim

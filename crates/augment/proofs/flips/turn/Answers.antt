@@ -1,21 +1,24 @@
-use Rattle.std.proofs.Common.{◌≡◌, ◌+◌, ◌<◌, ◌∙◌, ℕ, refl, sym, ap, subst, length, Some}
+use Rattle.std.proofs.Common.{◌≡◌, ◌+◌, ◌∙◌, ℕ, refl, sym, ap, subst, Some, Option, not}
 use Rattle.alt_forest.specs.declared.search.Search.{Search}
 use Rattle.alt_forest.specs.Searches.{state_of, edge_in, put}
-use Rattle.alt_forest.specs.Trees.{path_of}
 use Rattle.alt_forest.proofs.Places.{mate_place, nested_of}
-use Rattle.augment.specs.Turns.{HasMates, HasParent}
+use Rattle.augment.specs.Turns.{HasMates}
 use Rattle.alt_forest.specs.Counts.{exposed_count}
-use Rattle.augment.proofs.Flipped.{IsLoose, begins}
-use Rattle.augment.proofs.Turning.{above, path_falls, edge_still, parent_still, above_are, loose_on}
+use Rattle.augment.proofs.Flipped.{IsLoose, begins, goes_on}
+use Rattle.augment.proofs.Turning.{can_hop, is_hop}
 use Rattle.augment.proofs.Changed.{IsChanged, changed_first, changed_on}
 use Rattle.augment.proofs.Turned.{done, state_with}
 use Rattle.augment.proofs.flips.turn.Goals as goal
+use Rattle.std.specs.Prelude.{is_some}
+use Rattle.alt_forest.specs.declared.hop.Hop.{Hop}
+use Rattle.alt_forest.proofs.Hops.{hop_shorter}
+use Rattle.alt_forest.proofs.Counted.{no_entry}
 
 pub set_edge-requires : goal.set_edge-requires
 set_edge-requires c = record { place = mate_place c.args.search.now c.args.far c.requires.sound.shape c.requires.ends.far_is }
 
-pub loop-mate-init : goal.loop-mate-init
-loop-mate-init c =
+pub path-init : goal.path-init
+path-init c =
     let s : Search = c.args.search.now in
     let depth : ℕ → ℕ = c.requires.sound.depth in
     let sh = c.requires.sound.shape in
@@ -29,75 +32,59 @@ loop-mate-init c =
       changed = subst (λ m. IsChanged (state_of s) depth c.args.e c.args.near c.args.far m c.args.e c.args.near) (sym c.set_edge.ensures.edges) (changed_first (state_of s) depth c.args.e c.args.near c.args.far);
     }
 
-pub other_node-inner-requires-clause-edge : goal.other_node-inner-requires-clause-edge
-other_node-inner-requires-clause-edge c =
-    let s : Search = c.args.search.now in
-    let t : Search = c.loop-mate.search in
-    let v = c.loop-mate.invariant in
-    let b = above (state_of s) v.depth c.args.far (edge_in t.mates.items) v.low c.loop-mate.edge c.loop-mate.node c.in-Some.mate v.state v.loose (sym c.mate.ensures.mate ∙ c.in-Some.is) in
-    edge_still s t v.rest c.in-Some.mate b.is_mate.edge
+pub hop-hop-requires-clause-hop : goal.hop-hop-requires-clause-hop
+hop-hop-requires-clause-hop c =
+    let v = c.path.invariant in
+    let has = sym (ap (λ o. is_some o) c.mate.ensures.mate) ∙ sym c.is_some.ensures ∙ c.path-test.true in
+    can_hop c.args.search.now c.path.search v.rest v.depth c.args.far v.low c.path.edge c.path.node v.state v.loose has
 
-pub parent_of-by-requires-clause-parent : goal.parent_of-by-requires-clause-parent
-parent_of-by-requires-clause-parent c =
+pub path-smaller : goal.path-smaller
+path-smaller c =
     let s : Search = c.args.search.now in
-    let t : Search = c.loop-mate.search in
-    let v = c.loop-mate.invariant in
-    let b = above (state_of s) v.depth c.args.far (edge_in t.mates.items) v.low c.loop-mate.edge c.loop-mate.node c.in-Some.mate v.state v.loose (sym c.mate.ensures.mate ∙ c.in-Some.is) in
-    subst (HasParent (state_of t)) (sym c.other_node-inner.ensures.node) (parent_still s t v.rest v.depth c.loop-mate.node c.in-Some.mate b)
+    let v = c.path.invariant in
+    let has = sym (ap (λ o. is_some o) c.mate.ensures.mate) ∙ sym c.is_some.ensures ∙ c.path-test.true in
+    let above = is_hop s c.path.search v.rest v.depth c.args.far v.low c.path.edge c.path.node v.state v.loose has c.hop-hop.result c.hop-hop.ensures.hop in
+    hop_shorter (state_of s) v.depth c.path.node c.hop-hop.result above v.depth (nested_of s c.requires.sound.shape) v.state
 
-pub loop-mate-smaller : goal.loop-mate-smaller
-loop-mate-smaller c =
+pub path-preserved : goal.path-preserved
+path-preserved c =
     let s : Search = c.args.search.now in
-    let t : Search = c.loop-mate.search in
-    let v = c.loop-mate.invariant in
-    let b = above (state_of s) v.depth c.args.far (edge_in t.mates.items) v.low c.loop-mate.edge c.loop-mate.node c.in-Some.mate v.state v.loose (sym c.mate.ensures.mate ∙ c.in-Some.is) in
-    let r = above_are s t v.rest v.depth c.loop-mate.node c.in-Some.mate b c.other_node-inner.result c.parent_of-by.result c.other_node-up.result c.other_node-inner.ensures.node c.parent_of-by.ensures.edge c.other_node-up.ensures.node in
-    subst (λ x. length (path_of (state_of s) x) < length (path_of (state_of s) c.loop-mate.node)) (sym r.outer_is) (path_falls (state_of s) v.depth c.loop-mate.node c.in-Some.mate (nested_of s c.requires.sound.shape) v.state v.loose.high_is v.loose.high_outer b)
-
-pub loop-mate-preserved : goal.loop-mate-preserved
-loop-mate-preserved c =
-    let s : Search = c.args.search.now in
-    let t : Search = c.loop-mate.search in
-    let v = c.loop-mate.invariant in
-    let b = above (state_of s) v.depth c.args.far (edge_in t.mates.items) v.low c.loop-mate.edge c.loop-mate.node c.in-Some.mate v.state v.loose (sym c.mate.ensures.mate ∙ c.in-Some.is) in
-    let inner : ℕ = c.other_node-inner.result in
-    let by : ℕ = c.parent_of-by.result in
-    let up : ℕ = c.other_node-up.result in
-    let r = above_are s t v.rest v.depth c.loop-mate.node c.in-Some.mate b inner by up c.other_node-inner.ensures.node c.parent_of-by.ensures.edge c.other_node-up.ensures.node in
-    let now : edge_in c.set_edge-in-Some-2.new.edges.items ≡ put (put (edge_in t.mates.items) c.loop-mate.node (Some c.loop-mate.edge)) inner (Some by) = c.set_edge-in-Some-2.ensures.edges ∙ ap (λ m. put m inner (Some by)) c.set_edge-in-Some.ensures.edges in
+    let t : Search = c.path.search in
+    let v = c.path.invariant in
+    let k : Hop = c.hop-hop.result in
+    let has = sym (ap (λ o. is_some o) c.mate.ensures.mate) ∙ sym c.is_some.ensures ∙ c.path-test.true in
+    let above = is_hop s t v.rest v.depth c.args.far v.low c.path.edge c.path.node v.state v.loose has k c.hop-hop.ensures.hop in
+    let m : ℕ → Option ℕ = edge_in c.set_edge-in-path-2.new.edges.items in
+    let now : m ≡ put (put (edge_in t.mates.items) c.path.node (Some c.path.edge)) k.inner (Some k.parent) = c.set_edge-in-path-2.ensures.edges ∙ ap (λ n. put n k.inner (Some k.parent)) c.set_edge-in-path.ensures.edges in
     record {
-      rest = ap (λ (u : Search). record u { mates = c.set_edge-in-Some-2.new.edges }) v.rest;
-      shape = record { graph = v.shape.graph; family = v.shape.family; arena = v.shape.arena; labels = v.shape.labels; parents = v.shape.parents; mates = c.set_edge-in-Some-2.ensures.len ∙ c.set_edge-in-Some.ensures.len ∙ v.shape.mates; circuit = v.shape.circuit };
+      rest = ap (λ (u : Search). record u { mates = c.set_edge-in-path-2.new.edges }) v.rest;
+      shape = record { graph = v.shape.graph; family = v.shape.family; arena = v.shape.arena; labels = v.shape.labels; parents = v.shape.parents; mates = c.set_edge-in-path-2.ensures.len ∙ c.set_edge-in-path.ensures.len ∙ v.shape.mates; circuit = v.shape.circuit };
       depth = v.depth;
       state = v.state;
-      low = inner;
-      loose = loose_on s t v.rest v.depth c.args.far v.low c.loop-mate.edge c.loop-mate.node c.in-Some.mate v.state v.loose b inner by up r (edge_in c.set_edge-in-Some-2.new.edges.items) now;
-      changed = subst (λ x. IsChanged (state_of s) v.depth c.args.e c.args.near c.args.far (edge_in c.set_edge-in-Some-2.new.edges.items) x up) (sym r.edge_is)
-          (subst (λ x. IsChanged (state_of s) v.depth c.args.e c.args.near c.args.far (edge_in c.set_edge-in-Some-2.new.edges.items) b.says.edge x) (sym r.outer_is)
-          (changed_on (state_of s) v.depth (nested_of s c.requires.sound.shape) v.state c.args.e c.args.near c.args.far (edge_in t.mates.items) c.loop-mate.edge c.loop-mate.node v.changed c.requires.ends.far_out v.loose.high_is v.loose.high_outer c.in-Some.mate b
-          (edge_in c.set_edge-in-Some-2.new.edges.items)
-          (now ∙ ap (λ x. put (put (edge_in t.mates.items) c.loop-mate.node (Some c.loop-mate.edge)) x (Some by)) r.inner_is ∙ ap (λ x. put (put (edge_in t.mates.items) c.loop-mate.node (Some c.loop-mate.edge)) b.inner (Some x)) r.edge_is)));
+      low = k.inner;
+      loose = subst (λ n. IsLoose (state_of s) v.depth c.args.far n k.inner k.parent k.outer) (sym now) (goes_on (state_of s) v.depth v.state c.args.far (edge_in t.mates.items) v.low c.path.edge c.path.node v.loose k above);
+      changed = changed_on (state_of s) v.depth (nested_of s c.requires.sound.shape) v.state c.args.e c.args.near c.args.far (edge_in t.mates.items) c.path.edge c.path.node v.changed c.requires.ends.far_out v.loose.high_is v.loose.high_outer k above m now;
     }
 
 pub returns-clause-mates : goal.returns-clause-mates
 returns-clause-mates c =
     let s : Search = c.args.search.now in
-    let t : Search = c.loop-mate.search in
-    let v = c.loop-mate.invariant in
-    let d = done s v.depth c.args.far v.low c.loop-mate.edge c.loop-mate.node c.args.near (edge_in t.mates.items) (edge_in c.set_edge-2.new.edges.items) c.args.e c.requires.sound.shape v.state c.requires.ends v.loose v.changed (sym c.mate.ensures.mate ∙ c.in_default.is) c.set_edge-2.ensures.edges in
+    let t : Search = c.path.search in
+    let v = c.path.invariant in
+    let d = done s v.depth c.args.far v.low c.path.edge c.path.node c.args.near (edge_in t.mates.items) (edge_in c.set_edge-2.new.edges.items) c.args.e c.requires.sound.shape v.state c.requires.ends v.loose v.changed (no_entry _ (ap not (sym (ap (λ o. is_some o) c.mate.ensures.mate) ∙ sym c.is_some.ensures ∙ c.path-test.false))) c.set_edge-2.ensures.edges in
     subst HasMates (sym (state_with s t (record t { mates = c.set_edge-2.new.edges }) v.rest refl)) d.mates
 
 pub returns-clause-fewer : goal.returns-clause-fewer
 returns-clause-fewer c =
     let s : Search = c.args.search.now in
-    let t : Search = c.loop-mate.search in
-    let v = c.loop-mate.invariant in
-    let d = done s v.depth c.args.far v.low c.loop-mate.edge c.loop-mate.node c.args.near (edge_in t.mates.items) (edge_in c.set_edge-2.new.edges.items) c.args.e c.requires.sound.shape v.state c.requires.ends v.loose v.changed (sym c.mate.ensures.mate ∙ c.in_default.is) c.set_edge-2.ensures.edges in
+    let t : Search = c.path.search in
+    let v = c.path.invariant in
+    let d = done s v.depth c.args.far v.low c.path.edge c.path.node c.args.near (edge_in t.mates.items) (edge_in c.set_edge-2.new.edges.items) c.args.e c.requires.sound.shape v.state c.requires.ends v.loose v.changed (no_entry _ (ap not (sym (ap (λ o. is_some o) c.mate.ensures.mate) ∙ sym c.is_some.ensures ∙ c.path-test.false))) c.set_edge-2.ensures.edges in
     ap (λ x. exposed_count x + 2) (state_with s t (record t { mates = c.set_edge-2.new.edges }) v.rest refl) ∙ d.fewer
 
 pub returns-clause-flipped : goal.returns-clause-flipped
 returns-clause-flipped c =
     let s : Search = c.args.search.now in
-    let t : Search = c.loop-mate.search in
-    let v = c.loop-mate.invariant in
-    (done s v.depth c.args.far v.low c.loop-mate.edge c.loop-mate.node c.args.near (edge_in t.mates.items) (edge_in c.set_edge-2.new.edges.items) c.args.e c.requires.sound.shape v.state c.requires.ends v.loose v.changed (sym c.mate.ensures.mate ∙ c.in_default.is) c.set_edge-2.ensures.edges).flipped
+    let t : Search = c.path.search in
+    let v = c.path.invariant in
+    (done s v.depth c.args.far v.low c.path.edge c.path.node c.args.near (edge_in t.mates.items) (edge_in c.set_edge-2.new.edges.items) c.args.e c.requires.sound.shape v.state c.requires.ends v.loose v.changed (no_entry _ (ap not (sym (ap (λ o. is_some o) c.mate.ensures.mate) ∙ sym c.is_some.ensures ∙ c.path-test.false))) c.set_edge-2.ensures.edges).flipped

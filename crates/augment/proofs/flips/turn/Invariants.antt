@@ -6,8 +6,8 @@ use Rattle.augment.proofs.Flipped.{IsLoose}
 use Rattle.augment.proofs.Changed.{IsChanged}
 use Rattle.augment.proofs.flips.turn.Given as goal
 
-abbrev pub invariant-loop-mate : goal.invariant-loop-mate
-invariant-loop-mate l = record {
+abbrev pub invariant-path : goal.invariant-path
+invariant-path l = record {
   rest : l.search ≡ record l.fn.search { mates = l.search.mates };
   shape : HasShape l.search;
   depth : ℕ → ℕ;
@@ -17,5 +17,5 @@ invariant-loop-mate l = record {
   changed : IsChanged (state_of l.fn.search) depth l.fn.e l.fn.near l.fn.far (edge_in l.search.mates.items) l.edge l.node;
 }
 
-abbrev pub decreases-loop-mate : goal.decreases-loop-mate
-decreases-loop-mate l = length (path_of (state_of l.fn.search) l.node)
+abbrev pub decreases-path : goal.decreases-path
+decreases-path l = length (path_of (state_of l.fn.search) l.node)

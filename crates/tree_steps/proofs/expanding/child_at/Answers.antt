@@ -18,7 +18,7 @@ child_holding-requires-clause-inside g c =
     let here : node_u f.graph f.arena.blossoms c.args.e ≡ c.args.b =
     ap (outermost f.arena.blossoms) (sym from) ∙ sym c.outermost.ensures.node ∙ sym c.number.ensures ∙ c.if-number.true ∙ c.number-2.ensures in
     ap (holds (members_of f.arena.blossoms c.args.b)) from
-    ∙ end_member f.graph.vertices f.arena.blossoms c.args.b (edge_of f.graph c.args.e).u (nested_of f shape) (u_vertex f.graph c.args.e shape.graph.graph c.requires.edge) here
+    ∙ end_member f.graph.vertices f.arena.blossoms c.args.b (edge_of f.graph c.args.e).u (nested_of f shape) (u_vertex f.graph c.args.e shape.graph.graph.ends c.requires.edge) here
 
 pub child_holding-requires-2-clause-inside : goal.child_holding-requires-2-clause-inside
 child_holding-requires-2-clause-inside g c =
@@ -31,4 +31,4 @@ child_holding-requires-2-clause-inside g c =
     (λ q. c.if-number.false (c.number.ensures ∙ c.outermost.ensures.node ∙ ap (outermost f.arena.blossoms) from ∙ q ∙ sym c.number-2.ensures)) in
     let here : node_v f.graph f.arena.blossoms c.args.e ≡ c.args.b = other_end_in f.graph f.arena.blossoms c.args.b c.args.e elsewhere c.requires.leaves in
     ap (holds (members_of f.arena.blossoms c.args.b)) to
-    ∙ end_member f.graph.vertices f.arena.blossoms c.args.b (edge_of f.graph c.args.e).v (nested_of f shape) (v_vertex f.graph c.args.e shape.graph.graph c.requires.edge) here
+    ∙ end_member f.graph.vertices f.arena.blossoms c.args.b (edge_of f.graph c.args.e).v (nested_of f shape) (v_vertex f.graph c.args.e shape.graph.graph.ends c.requires.edge) here

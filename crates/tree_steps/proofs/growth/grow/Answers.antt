@@ -39,24 +39,20 @@ returns-clause-sound g c =
     let h = c.requires.sound in
     let s = state_of c.args.search.now in
     let can = c.requires.can in
-    let far = c.far_node-far.ensures can in
     let pair = h.state.mates can.far can.mate_edge can.far_is can.has_mate in
-    let mate = c.mate_node-mate.ensures can.mate_edge pair.0 (ap (edge_in c.args.search.now.mates.items) far ∙ can.has_mate) (subst (λ a. IsMate s a can.mate_edge pair.0) (sym far) pair.1) in
     let keeps = grow_keeps s h.depth c.args.e pair.0 h.state can pair.1 in
     record {
       shape = record { graph = h.shape.graph; family = h.shape.family; arena = h.shape.arena; labels = c.set_label-2.ensures.len ∙ c.set_label.ensures.len ∙ h.shape.labels; parents = c.set_edge.ensures.len ∙ h.shape.parents; mates = h.shape.mates; circuit = h.shape.circuit };
       depth = keeps.0;
-      state = subst (λ (t : State). IsSearchState t keeps.0) (sym (grown_is s _ _ _ _ _ can.far pair.0 c.args.e c.set_label.ensures.labels c.set_label-2.ensures.labels c.set_edge.ensures.edges far mate)) keeps.1;
+      state = subst (λ (t : State). IsSearchState t keeps.0) (sym (returns-clause-grown g c can pair.0 pair.1)) keeps.1;
     }
 
 pub returns-clause-trees : goal.returns-clause-trees
 returns-clause-trees g c =
     let s = state_of c.args.search.now in
     let can = c.requires.can in
-    let far = c.far_node-far.ensures can in
     let pair = c.requires.sound.state.mates can.far can.mate_edge can.far_is can.has_mate in
-    let mate = c.mate_node-mate.ensures can.mate_edge pair.0 (ap (edge_in c.args.search.now.mates.items) far ∙ can.has_mate) (subst (λ a. IsMate s a can.mate_edge pair.0) (sym far) pair.1) in
-    ap tree_count (grown_is s _ _ _ _ _ can.far pair.0 c.args.e c.set_label.ensures.labels c.set_label-2.ensures.labels c.set_edge.ensures.edges far mate)
+    ap tree_count (returns-clause-grown g c can pair.0 pair.1)
     ∙ grow_trees s c.args.e can.far pair.0 can.mate_edge can.mate_edge can.has_mate pair.1.back
 
 pub returns-clause-falls : goal.returns-clause-falls
@@ -64,8 +60,6 @@ returns-clause-falls g c =
     let h = c.requires.sound in
     let s = state_of c.args.search.now in
     let can = c.requires.can in
-    let far = c.far_node-far.ensures can in
     let pair = h.state.mates can.far can.mate_edge can.far_is can.has_mate in
-    let mate = c.mate_node-mate.ensures can.mate_edge pair.0 (ap (edge_in c.args.search.now.mates.items) far ∙ can.has_mate) (subst (λ a. IsMate s a can.mate_edge pair.0) (sym far) pair.1) in
-    subst (λ (t : State). measure t < measure s) (sym (grown_is s _ _ _ _ _ can.far pair.0 c.args.e c.set_label.ensures.labels c.set_label-2.ensures.labels c.set_edge.ensures.edges far mate))
+    subst (λ (t : State). measure t < measure s) (sym (returns-clause-grown g c can pair.0 pair.1))
     (grow_falls s h.depth c.args.e pair.0 (nested_of c.args.search.now h.shape) h.state can pair.1)

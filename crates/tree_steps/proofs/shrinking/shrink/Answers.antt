@@ -1,97 +1,55 @@
-use Rattle.std.proofs.Common.{◌≡◌, ◌∙◌, ℕ, true, cond, List, ◌∷◌, refl, sym, ap, subst, arith}
+use Rattle.std.proofs.Common.{◌≡◌, ◌∙◌, ℕ, true, cond, List, ◌∷◌, Some, refl, sym, ap, subst, arith}
 use Rattle.std.proofs.lemmas.Bool.{eq-eqb}
 use Rattle.graph_theory.specs.Parts.{holds}
-use Rattle.graph_theory.proofs.Edges.{edge_of_within}
 use Rattle.blossom_arena.specs.declared.links.Link.{Link}
 use Rattle.blossom_arena.specs.Family.{Blossom, IsNested, is_vertex, in_ring, ring_of, outermost, made_of}
-use Rattle.blossom_arena.proofs.Nested.{range_vertex}
+use Rattle.blossom_arena.proofs.Ends.{u_vertex, v_vertex}
 use Rattle.blossom_arena.proofs.Sets.{member_by_ring}
 use Rattle.alt_forest.specs.State.{State}
 use Rattle.alt_forest.specs.declared.search.Search.{Search}
-use Rattle.graph_theory.specs.Graph.{edge_of}
-use Rattle.alt_forest.specs.Searches.{state_of}
+use Rattle.graph_theory.specs.Graph.{Multigraph, edge_of}
+use Rattle.alt_forest.specs.Trees.{path_of, first_common}
+use Rattle.alt_forest.specs.Events.{CanShrink}
+use Rattle.alt_forest.specs.Searches.{IsSound, state_of}
 use Rattle.alt_forest.proofs.Places.{nested_of}
 use Rattle.tree_steps.specs.Shrunk.{shrunk_state}
 use Rattle.tree_steps.specs.Shrinkable.{CanClose, IsShrunk}
 use Rattle.tree_steps.proofs.CountedShrink.{shrunk_trees, shrunk_exposed, shrunk_falls}
-use Rattle.tree_steps.proofs.ClosedBy.{closes}
+use Rattle.tree_steps.proofs.ClosedBy.{Closes, closes}
 use Rattle.tree_steps.proofs.shrinking.shrink.Goals as goal
 
-pub fill_circuit-requires-clause-a_outer : goal.fill_circuit-requires-clause-a_outer
-fill_circuit-requires-clause-a_outer g c =
-    let f = c.args.search.now in
-    let s = state_of f in
-    let h = c.requires.sound in
-    let u = c.outermost-a.ensures.node ∙ ap (outermost s.blossoms) (c.look-u.ensures.from ∙ ap (λ k. (edge_of k c.args.e).u) c.requires.same) in
-    let v = c.outermost-b.ensures.node ∙ ap (outermost s.blossoms) (c.look-u.ensures.to ∙ ap (λ k. (edge_of k c.args.e).v) c.requires.same) in
-    let m = closes s h.depth c.args.e c.outermost-a.result c.outermost-b.result c.meeting_node-base.result (nested_of f h.shape) h.state c.requires.can u v c.meeting_node-base.ensures in
-    m.a_is
+-- the circuit, from what is looked up
+looked_up : (f : Search) (h : IsSound f) (g : Multigraph) (e u v a b base : ℕ) → g ≡ f.graph → CanShrink (state_of f) e → u ≡ (edge_of g e).u → v ≡ (edge_of g e).v → a ≡ outermost f.arena.blossoms u → b ≡ outermost f.arena.blossoms v
+    → first_common (path_of (state_of f) a) (path_of (state_of f) b) ≡ Some base → Closes (state_of f) h.depth e a b base
+looked_up f h g e u v a b base same can from to a_is b_is meets =
+    closes (state_of f) h.depth e a b base (nested_of f h.shape) h.state can
+    (a_is ∙ ap (outermost f.arena.blossoms) (from ∙ ap (λ k. (edge_of k e).u) same))
+    (b_is ∙ ap (outermost f.arena.blossoms) (to ∙ ap (λ k. (edge_of k e).v) same))
+    meets
 
-pub fill_circuit-requires-clause-b_outer : goal.fill_circuit-requires-clause-b_outer
-fill_circuit-requires-clause-b_outer g c =
-    let f = c.args.search.now in
-    let s = state_of f in
-    let h = c.requires.sound in
-    let u = c.outermost-a.ensures.node ∙ ap (outermost s.blossoms) (c.look-u.ensures.from ∙ ap (λ k. (edge_of k c.args.e).u) c.requires.same) in
-    let v = c.outermost-b.ensures.node ∙ ap (outermost s.blossoms) (c.look-u.ensures.to ∙ ap (λ k. (edge_of k c.args.e).v) c.requires.same) in
-    let m = closes s h.depth c.args.e c.outermost-a.result c.outermost-b.result c.meeting_node-base.result (nested_of f h.shape) h.state c.requires.can u v c.meeting_node-base.ensures in
-    m.b_is
-
-pub fill_circuit-requires-clause-a_there : goal.fill_circuit-requires-clause-a_there
-fill_circuit-requires-clause-a_there g c =
-    let f = c.args.search.now in
-    let s = state_of f in
-    let h = c.requires.sound in
-    let u = c.outermost-a.ensures.node ∙ ap (outermost s.blossoms) (c.look-u.ensures.from ∙ ap (λ k. (edge_of k c.args.e).u) c.requires.same) in
-    let v = c.outermost-b.ensures.node ∙ ap (outermost s.blossoms) (c.look-u.ensures.to ∙ ap (λ k. (edge_of k c.args.e).v) c.requires.same) in
-    let m = closes s h.depth c.args.e c.outermost-a.result c.outermost-b.result c.meeting_node-base.result (nested_of f h.shape) h.state c.requires.can u v c.meeting_node-base.ensures in
-    m.a_there
-
-pub fill_circuit-requires-clause-b_there : goal.fill_circuit-requires-clause-b_there
-fill_circuit-requires-clause-b_there g c =
-    let f = c.args.search.now in
-    let s = state_of f in
-    let h = c.requires.sound in
-    let u = c.outermost-a.ensures.node ∙ ap (outermost s.blossoms) (c.look-u.ensures.from ∙ ap (λ k. (edge_of k c.args.e).u) c.requires.same) in
-    let v = c.outermost-b.ensures.node ∙ ap (outermost s.blossoms) (c.look-u.ensures.to ∙ ap (λ k. (edge_of k c.args.e).v) c.requires.same) in
-    let m = closes s h.depth c.args.e c.outermost-a.result c.outermost-b.result c.meeting_node-base.result (nested_of f h.shape) h.state c.requires.can u v c.meeting_node-base.ensures in
-    m.b_there
-
-pub fill_circuit-requires-clause-room : goal.fill_circuit-requires-clause-room
-fill_circuit-requires-clause-room g c =
-    let f = c.args.search.now in
-    let s = state_of f in
-    let h = c.requires.sound in
-    let u = c.outermost-a.ensures.node ∙ ap (outermost s.blossoms) (c.look-u.ensures.from ∙ ap (λ k. (edge_of k c.args.e).u) c.requires.same) in
-    let v = c.outermost-b.ensures.node ∙ ap (outermost s.blossoms) (c.look-u.ensures.to ∙ ap (λ k. (edge_of k c.args.e).v) c.requires.same) in
-    let m = closes s h.depth c.args.e c.outermost-a.result c.outermost-b.result c.meeting_node-base.result (nested_of f h.shape) h.state c.requires.can u v c.meeting_node-base.ensures in
-    omega (arith, m.room, h.shape.circuit)
+pub fill_circuit-requires : goal.fill_circuit-requires
+fill_circuit-requires g c =
+    let r = c.requires in
+    let m = looked_up c.args.search.now r.sound c.args.graph.now c.args.e _ _ _ _ c.meeting_node-base.result r.same r.can c.look-u.ensures.from c.look-u.ensures.to c.outermost-a.ensures.node c.outermost-b.ensures.node c.meeting_node-base.ensures in
+    record { sound = r.sound; a_outer = m.a_is; b_outer = m.b_is; a_there = m.a_there; b_there = m.b_there; room = omega (arith, m.room, r.sound.shape.circuit) }
 
 pub close-requires-clause-can : goal.close-requires-clause-can
 close-requires-clause-can g c =
-    let f = c.args.search.now in
-    let s = state_of f in
-    let h = c.requires.sound in
-    let u = c.outermost-a.ensures.node ∙ ap (outermost s.blossoms) (c.look-u.ensures.from ∙ ap (λ k. (edge_of k c.args.e).u) c.requires.same) in
-    let v = c.outermost-b.ensures.node ∙ ap (outermost s.blossoms) (c.look-u.ensures.to ∙ ap (λ k. (edge_of k c.args.e).v) c.requires.same) in
-    let m = closes s h.depth c.args.e c.outermost-a.result c.outermost-b.result c.meeting_node-base.result (nested_of f h.shape) h.state c.requires.can u v c.meeting_node-base.ensures in
+    let r = c.requires in
+    let m = looked_up c.args.search.now r.sound c.args.graph.now c.args.e _ _ _ _ c.meeting_node-base.result r.same r.can c.look-u.ensures.from c.look-u.ensures.to c.outermost-a.ensures.node c.outermost-b.ensures.node c.meeting_node-base.ensures in
     let items = c.fill_circuit.ensures.circuit in
     subst (λ (f : Search). CanClose (state_of f) c.fill_circuit.new.search.circuit.items c.meeting_node-base.result) (sym c.fill_circuit.ensures.rest)
-    (subst (λ (ls : List Link). CanClose s ls c.meeting_node-base.result) (sym items) (record { depth = h.depth; state = h.state; shrinkable = m.shrinkable }))
+    (subst (λ (ls : List Link). CanClose (state_of c.args.search.now) ls c.meeting_node-base.result) (sym items) (record { depth = r.sound.depth; state = r.sound.state; shrinkable = m.shrinkable }))
 
 pub returns-clause-shrunk : goal.returns-clause-shrunk
 returns-clause-shrunk g c =
-    let f = c.args.search.now in
-    let s = state_of f in
-    let h = c.requires.sound in
-    let u = c.outermost-a.ensures.node ∙ ap (outermost s.blossoms) (c.look-u.ensures.from ∙ ap (λ k. (edge_of k c.args.e).u) c.requires.same) in
-    let v = c.outermost-b.ensures.node ∙ ap (outermost s.blossoms) (c.look-u.ensures.to ∙ ap (λ k. (edge_of k c.args.e).v) c.requires.same) in
-    let m = closes s h.depth c.args.e c.outermost-a.result c.outermost-b.result c.meeting_node-base.result (nested_of f h.shape) h.state c.requires.can u v c.meeting_node-base.ensures in
+    let r = c.requires in
+    let m = looked_up c.args.search.now r.sound c.args.graph.now c.args.e _ _ _ _ c.meeting_node-base.result r.same r.can c.look-u.ensures.from c.look-u.ensures.to c.outermost-a.ensures.node c.outermost-b.ensures.node c.meeting_node-base.ensures in
     let items = c.fill_circuit.ensures.circuit in
     record {
       ring = c.fill_circuit.new.search.circuit.items;
       base = c.meeting_node-base.result;
-      can = subst (λ (ls : List Link). CanClose s ls c.meeting_node-base.result) (sym items) (record { depth = h.depth; state = h.state; shrinkable = m.shrinkable });
+      can = subst (λ (ls : List Link). CanClose (state_of c.args.search.now) ls c.meeting_node-base.result) (sym items) (record { depth = r.sound.depth; state = r.sound.state; shrinkable = m.shrinkable });
       state = c.close.ensures.state ∙ ap (λ (f : Search). shrunk_state (state_of f) (made_of f.arena.blossoms c.fill_circuit.new.search.circuit.items c.close.result) c.meeting_node-base.result) c.fill_circuit.ensures.rest;
     }
 
@@ -107,15 +65,11 @@ returns-clause-falls g c = shrunk_falls (state_of c.args.search.now) (state_of c
 pub returns-clause-circuit : goal.returns-clause-circuit
 unfolding returns-clause-shrunk
 returns-clause-circuit g c =
-    let f = c.args.search.now in
-    let s = state_of f in
-    let h = c.requires.sound in
-    let u = c.outermost-a.ensures.node ∙ ap (outermost s.blossoms) (c.look-u.ensures.from ∙ ap (λ k. (edge_of k c.args.e).u) c.requires.same) in
-    let v = c.outermost-b.ensures.node ∙ ap (outermost s.blossoms) (c.look-u.ensures.to ∙ ap (λ k. (edge_of k c.args.e).v) c.requires.same) in
-    let m = closes s h.depth c.args.e c.outermost-a.result c.outermost-b.result c.meeting_node-base.result (nested_of f h.shape) h.state c.requires.can u v c.meeting_node-base.ensures in
+    let r = c.requires in
+    let m = looked_up c.args.search.now r.sound c.args.graph.now c.args.e _ _ _ _ c.meeting_node-base.result r.same r.can c.look-u.ensures.from c.look-u.ensures.to c.outermost-a.ensures.node c.outermost-b.ensures.node c.meeting_node-base.ensures in
     let x = returns-clause-shrunk g c in
     ap (λ (t : State). ring_of t.blossoms c.close.result) x.state
-    ∙ ap (λ t. cond t x.ring (ring_of s.blossoms c.close.result)) (eq-eqb c.close.result c.close.result refl)
+    ∙ ap (λ t. cond t x.ring (ring_of c.args.search.now.arena.blossoms c.close.result)) (eq-eqb c.close.result c.close.result refl)
     ∙ c.fill_circuit.ensures.circuit
     ∙ m.is
 
@@ -130,29 +84,19 @@ held s t node v a x nested vertex at on =
 pub returns-clause-holds_u : goal.returns-clause-holds_u
 unfolding returns-clause-shrunk
 returns-clause-holds_u g c =
-    let f = c.args.search.now in
-    let s = state_of f in
-    let h = c.requires.sound in
-    let u = c.outermost-a.ensures.node ∙ ap (outermost s.blossoms) (c.look-u.ensures.from ∙ ap (λ k. (edge_of k c.args.e).u) c.requires.same) in
-    let v = c.outermost-b.ensures.node ∙ ap (outermost s.blossoms) (c.look-u.ensures.to ∙ ap (λ k. (edge_of k c.args.e).v) c.requires.same) in
-    let m = closes s h.depth c.args.e c.outermost-a.result c.outermost-b.result c.meeting_node-base.result (nested_of f h.shape) h.state c.requires.can u v c.meeting_node-base.ensures in
-    let within = edge_of_within s.graph c.args.e h.shape.graph.graph.ends c.requires.can.tight.edge in
-    ap (λ k. outermost c.close.new.search.arena.blossoms (edge_of k c.args.e).u) c.requires.same
-    ∙ held s (state_of c.close.new.search) c.close.result (edge_of s.graph c.args.e).u c.outermost-a.result (returns-clause-shrunk g c) (nested_of c.close.new.search c.close.ensures.sound.shape)
-    (range_vertex s.graph.vertices (edge_of s.graph c.args.e).u within.u_low within.u_high) (sym u)
+    let r = c.requires in
+    let m = looked_up c.args.search.now r.sound c.args.graph.now c.args.e _ _ _ _ c.meeting_node-base.result r.same r.can c.look-u.ensures.from c.look-u.ensures.to c.outermost-a.ensures.node c.outermost-b.ensures.node c.meeting_node-base.ensures in
+    held (state_of c.args.search.now) (state_of c.close.new.search) c.close.result (edge_of c.args.graph.now c.args.e).u c.outermost-a.result (returns-clause-shrunk g c) (nested_of c.close.new.search c.close.ensures.sound.shape)
+    (subst (λ k. is_vertex c.args.search.now.graph.vertices (edge_of k c.args.e).u ≡ true) (sym r.same) (u_vertex c.args.search.now.graph c.args.e r.sound.shape.graph.graph.ends r.can.tight.edge))
+    (sym (c.outermost-a.ensures.node ∙ ap (outermost c.args.search.now.arena.blossoms) c.look-u.ensures.from))
     (ap (λ (ls : List Link). in_ring ls c.outermost-a.result) c.fill_circuit.ensures.circuit ∙ m.a_on)
 
 pub returns-clause-holds_v : goal.returns-clause-holds_v
 unfolding returns-clause-shrunk
 returns-clause-holds_v g c =
-    let f = c.args.search.now in
-    let s = state_of f in
-    let h = c.requires.sound in
-    let u = c.outermost-a.ensures.node ∙ ap (outermost s.blossoms) (c.look-u.ensures.from ∙ ap (λ k. (edge_of k c.args.e).u) c.requires.same) in
-    let v = c.outermost-b.ensures.node ∙ ap (outermost s.blossoms) (c.look-u.ensures.to ∙ ap (λ k. (edge_of k c.args.e).v) c.requires.same) in
-    let m = closes s h.depth c.args.e c.outermost-a.result c.outermost-b.result c.meeting_node-base.result (nested_of f h.shape) h.state c.requires.can u v c.meeting_node-base.ensures in
-    let within = edge_of_within s.graph c.args.e h.shape.graph.graph.ends c.requires.can.tight.edge in
-    ap (λ k. outermost c.close.new.search.arena.blossoms (edge_of k c.args.e).v) c.requires.same
-    ∙ held s (state_of c.close.new.search) c.close.result (edge_of s.graph c.args.e).v c.outermost-b.result (returns-clause-shrunk g c) (nested_of c.close.new.search c.close.ensures.sound.shape)
-    (range_vertex s.graph.vertices (edge_of s.graph c.args.e).v within.v_low within.v_high) (sym v)
+    let r = c.requires in
+    let m = looked_up c.args.search.now r.sound c.args.graph.now c.args.e _ _ _ _ c.meeting_node-base.result r.same r.can c.look-u.ensures.from c.look-u.ensures.to c.outermost-a.ensures.node c.outermost-b.ensures.node c.meeting_node-base.ensures in
+    held (state_of c.args.search.now) (state_of c.close.new.search) c.close.result (edge_of c.args.graph.now c.args.e).v c.outermost-b.result (returns-clause-shrunk g c) (nested_of c.close.new.search c.close.ensures.sound.shape)
+    (subst (λ k. is_vertex c.args.search.now.graph.vertices (edge_of k c.args.e).v ≡ true) (sym r.same) (v_vertex c.args.search.now.graph c.args.e r.sound.shape.graph.graph.ends r.can.tight.edge))
+    (sym (c.outermost-b.ensures.node ∙ ap (outermost c.args.search.now.arena.blossoms) c.look-u.ensures.to))
     (ap (λ (ls : List Link). in_ring ls c.outermost-b.result) c.fill_circuit.ensures.circuit ∙ m.b_on)

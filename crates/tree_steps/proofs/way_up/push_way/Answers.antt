@@ -1,12 +1,10 @@
-use Rattle.std.proofs.Common.{◌≡◌, ◌≢◌, ◌∙◌, Some, refl, sym, ap, subst, arith}
+use Rattle.std.proofs.Common.{◌≡◌, ◌≢◌, ◌∙◌, refl, sym, ap, subst, arith}
 use Rattle.std.specs.Vec.{vec_capacity}
-use Rattle.graph_theory.specs.Graph.{IsEdgeNumber}
 use Rattle.alt_forest.specs.declared.search.Search.{Search}
 use Rattle.alt_forest.specs.State.{IsOutermost}
-use Rattle.alt_forest.specs.Trees.{other_node, far_end, up_edge}
 use Rattle.alt_forest.specs.Searches.{state_of}
 use Rattle.alt_forest.proofs.Places.{nested_of}
-use Rattle.tree_steps.proofs.Pushed.{goes_on, pushed_on, way_shorter, pushed_room, pushed_all, sound_with}
+use Rattle.tree_steps.proofs.Pushed.{leads_on, pushed_on, way_shorter, pushed_room, pushed_all, sound_with}
 use Rattle.tree_steps.proofs.way_up.push_way.Goals as goal
 
 pub loop-base-init : goal.loop-base-init
@@ -33,9 +31,7 @@ other_node-node-requires-clause-edge c =
     let h = c.requires.sound in
     let i = c.loop-base.invariant in
     let ne : c.loop-base.node ≢ c.args.base = λ e. c.loop-base-test.true (c.number.ensures ∙ e ∙ sym c.number-in-loop-base.ensures) in
-    let on = goes_on (state_of s) h.depth (nested_of s h.shape) h.state c.loop-base.node c.args.base c.loop-base.search.circuit.items s.circuit.items c.args.from i.pushed ne in
-    let read : c.edge_above-edge.result ≡ on.edge = c.edge_above-edge.ensures on.edge (subst (λ (f : Search). up_edge (state_of f) c.loop-base.node ≡ Some on.edge) (sym i.rest) on.has) in
-    subst (λ (f : Search). IsEdgeNumber f.graph c.edge_above-edge.result) (sym i.rest) (subst (IsEdgeNumber s.graph) (sym read) on.is_edge)
+    (leads_on s c.loop-base.search i.rest h c.loop-base.node c.args.base c.loop-base.search.circuit.items s.circuit.items c.args.from i.pushed ne c.edge_above-edge.result c.edge_above-edge.ensures).number
 
 pub loop-base-smaller : goal.loop-base-smaller
 loop-base-smaller c =
@@ -43,10 +39,9 @@ loop-base-smaller c =
     let h = c.requires.sound in
     let i = c.loop-base.invariant in
     let ne : c.loop-base.node ≢ c.args.base = λ e. c.loop-base-test.true (c.number.ensures ∙ e ∙ sym c.number-in-loop-base.ensures) in
-    let on = goes_on (state_of s) h.depth (nested_of s h.shape) h.state c.loop-base.node c.args.base c.loop-base.search.circuit.items s.circuit.items c.args.from i.pushed ne in
-    let read : c.edge_above-edge.result ≡ on.edge = c.edge_above-edge.ensures on.edge (subst (λ (f : Search). up_edge (state_of f) c.loop-base.node ≡ Some on.edge) (sym i.rest) on.has) in
+    let on = leads_on s c.loop-base.search i.rest h c.loop-base.node c.args.base c.loop-base.search.circuit.items s.circuit.items c.args.from i.pushed ne c.edge_above-edge.result c.edge_above-edge.ensures in
     way_shorter (state_of s) h.depth (nested_of s h.shape) h.state c.loop-base.node c.args.base c.loop-base.search.circuit.items s.circuit.items c.args.from i.pushed ne c.other_node-node.result
-    (c.other_node-node.ensures.node ∙ ap (λ (f : Search). other_node f.graph f.arena.blossoms c.edge_above-edge.result c.loop-base.node) i.rest ∙ ap (λ e. far_end (state_of s) (Some e) c.loop-base.node) read ∙ ap (λ o. far_end (state_of s) o c.loop-base.node) (sym on.has))
+    (on.up c.other_node-node.result c.other_node-node.ensures.node)
 
 pub loop-base-preserved : goal.loop-base-preserved
 loop-base-preserved c =
@@ -54,14 +49,11 @@ loop-base-preserved c =
     let h = c.requires.sound in
     let i = c.loop-base.invariant in
     let ne : c.loop-base.node ≢ c.args.base = λ e. c.loop-base-test.true (c.number.ensures ∙ e ∙ sym c.number-in-loop-base.ensures) in
-    let on = goes_on (state_of s) h.depth (nested_of s h.shape) h.state c.loop-base.node c.args.base c.loop-base.search.circuit.items s.circuit.items c.args.from i.pushed ne in
-    let read : c.edge_above-edge.result ≡ on.edge = c.edge_above-edge.ensures on.edge (subst (λ (f : Search). up_edge (state_of f) c.loop-base.node ≡ Some on.edge) (sym i.rest) on.has) in
+    let on = leads_on s c.loop-base.search i.rest h c.loop-base.node c.args.base c.loop-base.search.circuit.items s.circuit.items c.args.from i.pushed ne c.edge_above-edge.result c.edge_above-edge.ensures in
     record {
       rest = ap {A = Search} (λ f. record f { circuit = c.push_reserved.new.self }) i.rest;
       capacity = c.push_reserved.ensures.capacity ∙ i.capacity;
-      pushed = pushed_on (state_of s) h.depth (nested_of s h.shape) h.state c.loop-base.node c.args.base c.loop-base.search.circuit.items s.circuit.items c.args.from i.pushed ne c.edge_above-edge.result c.other_node-node.result c.push_reserved.new.self.items (on.has ∙ ap (λ e. Some e) (sym read))
-          (c.other_node-node.ensures.node ∙ ap (λ (f : Search). other_node f.graph f.arena.blossoms c.edge_above-edge.result c.loop-base.node) i.rest ∙ ap (λ e. far_end (state_of s) (Some e) c.loop-base.node) read ∙ ap (λ o. far_end (state_of s) o c.loop-base.node) (sym on.has))
-          c.push_reserved.ensures.items;
+      pushed = pushed_on (state_of s) h.depth (nested_of s h.shape) h.state c.loop-base.node c.args.base c.loop-base.search.circuit.items s.circuit.items c.args.from i.pushed ne c.edge_above-edge.result c.other_node-node.result c.push_reserved.new.self.items on.has (on.up c.other_node-node.result c.other_node-node.ensures.node) c.push_reserved.ensures.items;
     }
 
 pub returns-clause-circuit : goal.returns-clause-circuit
