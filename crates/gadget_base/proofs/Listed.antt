@@ -10,7 +10,7 @@ use Rattle.graph_theory.specs.Sums.{sum_to, int_sum_to}
 use Rattle.graph_theory.specs.declared.edge.Edge.{Edge}
 use Rattle.graph_theory.specs.Graph.{Multigraph, IsEdgeWithin, IsEdgeNumber, edge_at, edge_of, touches, no_edge, degree, weight, IsPerfect}
 use Rattle.graph_theory.specs.Walk.{walk_weight}
-use Rattle.graph_theory.proofs.SumLemmas.{sum_to-same, sum_to-add, sum_to-has, int_sum_to-same, int_sum_to-add, int_sum_to-zero, int_sum_to-one, int_sum_to-pos, plus-times, int_sum_to-at_one}
+use Rattle.graph_theory.proofs.SumLemmas.{sum_to-same, sum_to-add, sum_to-has, int_sum_to-same, int_sum_to-add, int_sum_to-zero, int_sum_to-one, int_sum_to-pos, plus-times, times-one_if, int_sum_to-at_one}
 use Rattle.graph_theory.proofs.Edges.{degree-touches, touches-u, edge_of-place}
 use Rattle.graph_theory.proofs.Handshake.{handshake-perfect}
 use Rattle.gadget_base.specs.Certified.{IsPerfectList}
@@ -107,10 +107,6 @@ times-small g es k ends list b =
     let is = times_each-at g es k b in
     omega (arith, one, is)
 
-one_times : (t : Bool) (b : ℤ) → pos (cond t 1 0) *ℤ b ≡ cond t b (pos 0)
-one_times true b = omega (arith, ints)
-one_times false b = omega (arith, ints)
-
 -- weights by places, with each weight as often as its edge is listed
 pub times-weight : (g : Multigraph) (es : List ℕ) → All (IsEdgeNumber g) es → int_sum_to (λ k. pos (times es (k + 1)) *ℤ (edge_at g k).w) (length g.edges) ≡ walk_weight g es
 times-weight g [] h =
@@ -126,7 +122,7 @@ times-weight g (e ∷ es) h =
     (λ k _.
     ap (λ x. pos x *ℤ (edge_at g k).w) (times-cons e es (k + 1))
     ∙ plus-times (cond (eqb e (k + 1)) 1 0) (times es (k + 1)) (edge_at g k).w
-    ∙ ap (λ (x : ℤ). x +ℤ there k) (one_times (eqb e (k + 1)) (edge_at g k).w ∙ ap (λ (f : Edge). cond (eqb e (k + 1)) f.w (pos 0)) (sym (edge_of-place g k)))) in
+    ∙ ap (λ (x : ℤ). x +ℤ there k) (times-one_if (eqb e (k + 1)) (edge_at g k).w ∙ ap (λ (f : Edge). cond (eqb e (k + 1)) f.w (pos 0)) (sym (edge_of-place g k)))) in
     let both = int_sum_to-add here there m in
     let one = int_sum_to-at_one (λ k. (edge_of g k).w) e m first.0 first.1 in
     omega (arith, ints, rest, parts, both, one)

@@ -1,8 +1,8 @@
 -- Units of an edge: each takes the next copy of one end and the next copy of the other.
 use Rattle.std.proofs.Common.{◌≡◌, ℕ, ◌+◌, ◌<◌, ◌≤◌, Bool, cond, eqb, ap, sym, ◌∙◌, arith}
-use Rattle.std.proofs.lemmas.Bool.Decides.{nat_tests}
 use Rattle.graph_theory.specs.Sums.{sum_to}
 use Rattle.graph_theory.proofs.SumLemmas.{sum_to-same, sum_to-swap}
+use Rattle.graph_theory.proofs.Members.{eqb-turned}
 use Rattle.gadget_base.proofs.BlockSums.{sum_to-ones, sum_to-blocks, sum_to-cond, sum_to-hit}
 
 -- how many of x units from copy s on take copy a
@@ -13,13 +13,10 @@ taken s x a = sum_to (λ y. cond (eqb (s + y) a) 1 0) x
 abbrev pub units : ℕ → ℕ → ℕ → ℕ → ℕ → ℕ
 units s t x a j = sum_to (λ y. cond (eqb (s + y) a) (cond (eqb (t + y) j) 1 0) 0) x
 
-eqb_turned : (a b : ℕ) → eqb a b ≡ eqb b a
-eqb_turned a b = grind (arith, nat_tests)
-
 -- the term of one place, tested from the other side
 pub sum_to-hit_from : (f : ℕ → ℕ) (p n : ℕ) → p < n → sum_to (λ j. cond (eqb p j) (f j) 0) n ≡ f p
 sum_to-hit_from f p n h =
-    sum_to-same (λ j. cond (eqb p j) (f j) 0) (λ j. cond (eqb j p) (f j) 0) n (λ j _. ap (λ (b : Bool). cond b (f j) 0) (eqb_turned p j))
+    sum_to-same (λ j. cond (eqb p j) (f j) 0) (λ j. cond (eqb j p) (f j) 0) n (λ j _. ap (λ (b : Bool). cond b (f j) 0) (eqb-turned p j))
     ∙ sum_to-hit f p n h
 
 -- units that follow one another take each copy below their number once

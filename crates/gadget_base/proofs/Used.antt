@@ -1,6 +1,5 @@
 -- How often the first edges of an instance use a vertex: so many of its copies are taken before the next edge.
 use Rattle.std.proofs.Common.{◌≡◌, ℕ, ◌+◌, ◌*◌, ◌<◌, ◌≤◌, pos, ◌*ℤ◌, ap, ◌∙◌, arith, List, length, slice_index}
-use Rattle.std.proofs.lemmas.List.{length-map}
 use Rattle.graph_theory.specs.declared.edge.Edge.{Edge}
 use Rattle.graph_theory.specs.Sums.{sum_to, int_sum_to}
 use Rattle.graph_theory.specs.Graph.{IsEdgeWithin, edge_at, ends_at, degree, weight}
@@ -8,9 +7,8 @@ use Rattle.graph_theory.proofs.SumLemmas.{sum_to-same, int_sum_to-same}
 use Rattle.graph_theory.proofs.Edges.{ends_at-u, ends_at-v}
 use Rattle.mb_problem.specs.Network.{Network, IsNetwork, vertices, plain, graph_of, instance_edge_at, value_of}
 use Rattle.mb_problem.specs.Feasible.{IsBMatching}
-use Rattle.mb_problem.proofs.EdgeLemmas.{edge_at-graph_of}
+use Rattle.mb_problem.proofs.EdgeLemmas.{edge_at-graph_of, edges-count, edge-ends}
 use Rattle.gadget_base.proofs.BlockSums.{sum_to-grows}
-use Rattle.gadget_base.proofs.Within.{edge-ends}
 
 -- how often edge number k + 1 is used at vertex t
 abbrev pub use_at : Network → List ℕ → ℕ → ℕ → ℕ
@@ -20,20 +18,17 @@ use_at i counts t k = slice_index counts k * ends_at (plain (instance_edge_at i 
 abbrev pub used : Network → List ℕ → ℕ → ℕ → ℕ
 used i counts t k = sum_to (use_at i counts t) k
 
-pub graph_of-edges : (i : Network) → length (graph_of i).edges ≡ length i.edges
-graph_of-edges i = length-map i.edges plain
-
 -- the degree is how often all edges are used there
 pub degree-used : (i : Network) (counts : List ℕ) (t : ℕ) → degree (graph_of i) counts t ≡ used i counts t (length i.edges)
 degree-used i counts t =
-    ap (sum_to (λ k. slice_index counts k * ends_at (edge_at (graph_of i) k) t)) (graph_of-edges i)
+    ap (sum_to (λ k. slice_index counts k * ends_at (edge_at (graph_of i) k) t)) (edges-count i)
     ∙ sum_to-same (λ k. slice_index counts k * ends_at (edge_at (graph_of i) k) t) (use_at i counts t) (length i.edges)
     (λ k _. ap (λ (e : Edge). slice_index counts k * ends_at e t) (edge_at-graph_of i k))
 
 -- the weight by the edges of the instance
 pub weight-used : (i : Network) (counts : List ℕ) → weight (graph_of i) counts ≡ int_sum_to (λ k. pos (slice_index counts k) *ℤ (instance_edge_at i k).w) (length i.edges)
 weight-used i counts =
-    ap (int_sum_to (λ k. pos (slice_index counts k) *ℤ (edge_at (graph_of i) k).w)) (graph_of-edges i)
+    ap (int_sum_to (λ k. pos (slice_index counts k) *ℤ (edge_at (graph_of i) k).w)) (edges-count i)
     ∙ int_sum_to-same (λ k. pos (slice_index counts k) *ℤ (edge_at (graph_of i) k).w) (λ k. pos (slice_index counts k) *ℤ (instance_edge_at i k).w) (length i.edges)
     (λ k _. ap (λ (e : Edge). pos (slice_index counts k) *ℤ e.w) (edge_at-graph_of i k))
 

@@ -9,9 +9,10 @@ use Rattle.graph_theory.specs.Graph.{Multigraph, IsGraph, IsEdgeWithin, IsWeight
 use Rattle.graph_theory.proofs.SumLemmas.{sum_to-same}
 use Rattle.mb_problem.specs.declared.instance.InstanceEdge.{InstanceEdge}
 use Rattle.mb_problem.specs.declared.kind.Kind.TheVariants.{Match, BMatch}
-use Rattle.mb_problem.specs.Network.{Network, IsNetwork, IsInstanceEdge, vertices, plain, instance_edge_at, no_instance_edge, value_of}
+use Rattle.mb_problem.specs.Network.{Network, IsNetwork, vertices, plain, instance_edge_at, no_instance_edge, value_of}
 use Rattle.graph_theory.specs.Limits.{Size}
 use Rattle.mb_problem.specs.Size.{size_of, value_total, value_u, value_v}
+use Rattle.mb_problem.proofs.EdgeLemmas.{edge-ends, edge-weight}
 use Rattle.gadget_base.specs.Blocks.{blocks, tabled, row, rectangle, clique}
 use Rattle.gadget_base.specs.Gadgets.{doubled_graph, two_copies, to_copy, copies_graph, pairs_of_copies, values_below}
 use Rattle.graph_theory.specs.Limits.{HasSize, IsWithinLimits}
@@ -20,14 +21,6 @@ use Rattle.gadget_base.proofs.Blocks.{tabled-length, blocks-length, rectangle-le
 
 pub All-two : {A : Type 0} (P : A → Type 0) (x y : A) → P x → P y → All P (x ∷ y ∷ [])
 All-two P x y one two = All-cons P x (y ∷ []) one (All-cons P y [] two (All-nil P))
-
--- the edges of an instance
-
-pub edge-ends : (i : Network) (k : ℕ) → IsNetwork i → k < length i.edges → IsEdgeWithin (vertices i) (plain (instance_edge_at i k))
-edge-ends i k network b = let e : IsInstanceEdge (vertices i) (instance_edge_at i k) = network.edges k no_instance_edge b in e.ends
-
-pub edge-weight : (i : Network) (k : ℕ) → IsNetwork i → k < length i.edges → IsWeight (instance_edge_at i k).w
-edge-weight i k network b = let e : IsInstanceEdge (vertices i) (instance_edge_at i k) = network.edges k no_instance_edge b in e.weight
 
 -- an edge that was read is the one at its place
 pub edge_here : (i : Network) (es : List InstanceEdge) (k : ℕ) (e : InstanceEdge) → es ≡ i.edges → k < length es → e ≡ slice_index_or es k e → e ≡ instance_edge_at i k

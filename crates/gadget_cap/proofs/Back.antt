@@ -7,6 +7,7 @@ use Rattle.graph_theory.proofs.SumLemmas.{sum_to-same, int_sum_to-same, sum_to-a
 use Rattle.mb_problem.specs.Network.{Network, IsNetwork, vertices, graph_of, instance_edge_at}
 use Rattle.mb_problem.specs.Size.{value_u, value_v}
 use Rattle.mb_problem.specs.Feasible.{IsBMatching}
+use Rattle.mb_problem.proofs.EdgeLemmas.{edge-ends}
 use Rattle.gadget_base.specs.Blocks.{tabled}
 use Rattle.gadget_base.specs.Gadgets.{before_gates, gated, capped_graph}
 use Rattle.gadget_base.proofs.BlockSums.{sum_to-ones, sum_to-cond, sum_to-grows}
@@ -16,7 +17,6 @@ use Rattle.gadget_cap.specs.Places.{gate_size, gates_before}
 use Rattle.gadget_cap.proofs.Tables.{tabled-three}
 use Rattle.gadget_cap.proofs.GateLemmas.{Passage, gate_counts, all_counts, gated-length, value, below, copies-below, entered, degree-copy, degree-first, degree-second, weight-by_entered}
 use Rattle.gadget_base.proofs.Used.{use_at, degree-used, weight-used}
-use Rattle.gadget_base.proofs.Within.{edge-ends}
 use Rattle.gadget_cap.proofs.Uses.{use-at}
 use Rattle.gadget_cap.proofs.Through.{IsWithinRooms}
 

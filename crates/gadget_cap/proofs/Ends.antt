@@ -5,12 +5,13 @@ use Rattle.graph_theory.specs.Graph.{IsEdgeWithin, IsWeight, IsGraph}
 use Rattle.mb_problem.specs.declared.kind.Kind.TheVariants.{CapMatch, FFactor}
 use Rattle.mb_problem.specs.Network.{Network, IsNetwork, instance_edge_at}
 use Rattle.mb_problem.specs.Size.{value_u, value_v, size_of, room_of, unit_room_of}
+use Rattle.mb_problem.proofs.EdgeLemmas.{edge-ends, edge-weight}
 use Rattle.gadget_base.specs.Blocks.{rectangle}
 use Rattle.gadget_base.specs.Gadgets.{values_below, before_gates, gated, capped_graph}
 use Rattle.graph_theory.specs.Limits.{IsWithinLimits}
 use Rattle.gadget_base.specs.Certified.{gadget_graph}
 use Rattle.gadget_base.proofs.Blocks.{All-blocks}
-use Rattle.gadget_base.proofs.Within.{edge-ends, edge-weight, copies-inside, rectangle-within, rectangle-weights, no_weight, graph_within_limits}
+use Rattle.gadget_base.proofs.Within.{copies-inside, rectangle-within, rectangle-weights, no_weight, graph_within_limits}
 use Rattle.gadget_cap.specs.Capped.{capped_kind}
 use Rattle.gadget_cap.proofs.Sizes.{has_size, room-within}
 

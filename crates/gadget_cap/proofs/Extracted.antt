@@ -8,12 +8,12 @@ use Rattle.mb_problem.specs.declared.answer.Answer.TheVariants.{Counts}
 use Rattle.mb_problem.specs.Network.{Network, IsNetwork, vertices, graph_of, instance_edge_at}
 use Rattle.mb_problem.specs.Size.{bounded, value_u, value_v}
 use Rattle.mb_problem.specs.Feasible.{IsFeasible}
+use Rattle.mb_problem.proofs.EdgeLemmas.{edge-ends}
 use Rattle.gadget_base.specs.Gadgets.{capped_graph}
 use Rattle.gadget_base.specs.Certified.{IsPerfectList}
 use Rattle.gadget_base.specs.Listed.{times, times_each}
 use Rattle.gadget_base.proofs.Blocks.{tabled-length}
 use Rattle.gadget_base.proofs.Listed.{perfect_from_list, weight_of_list}
-use Rattle.gadget_base.proofs.Within.{edge-ends}
 use Rattle.gadget_cap.specs.Capped.{capped_kind, capped_room}
 use Rattle.gadget_cap.specs.Places.{gates_before, enters}
 use Rattle.gadget_cap.proofs.GateLemmas.{Passage, all_counts, entered}

@@ -9,13 +9,13 @@ use Rattle.graph_theory.proofs.SumLemmas.{sum_to-same, int_sum_to-same}
 use Rattle.mb_problem.specs.declared.instance.InstanceEdge.{InstanceEdge}
 use Rattle.mb_problem.specs.Network.{Network, IsNetwork, vertices, instance_edge_at, value_of}
 use Rattle.mb_problem.specs.Size.{value_total, value_u, value_v}
+use Rattle.mb_problem.proofs.EdgeLemmas.{edge-ends}
 use Rattle.gadget_base.specs.Blocks.{blocks, rectangle}
 use Rattle.gadget_base.specs.Gadgets.{values_below, before_gates, gated, capped_graph}
 use Rattle.gadget_base.proofs.BlockSums.{sum_to-grows, sum_to-only}
 use Rattle.gadget_base.proofs.Blocks.{rectangle-length}
 use Rattle.gadget_base.proofs.Over.{over, int_over, at_vertex, weighing, over-append, int_over-append, over-blocks, int_over-blocks, blocks-lengths, table, table-length}
 use Rattle.gadget_base.proofs.Degrees.{rectangle-weight}
-use Rattle.gadget_base.proofs.Within.{edge-ends}
 use Rattle.gadget_cap.specs.Places.{gates_of, gate_size}
 use Rattle.gadget_cap.proofs.Picks.{pick, pick-none, pick-here, pick-block, rectangle-picks}
 

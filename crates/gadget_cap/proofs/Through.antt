@@ -8,6 +8,7 @@ use Rattle.graph_theory.proofs.SumLemmas.{sum_to-same, int_sum_to-same, times-su
 use Rattle.mb_problem.specs.Network.{Network, IsNetwork, vertices, graph_of, instance_edge_at}
 use Rattle.mb_problem.specs.Size.{value_total, value_u, value_v}
 use Rattle.mb_problem.specs.Feasible.{IsBMatching}
+use Rattle.mb_problem.proofs.EdgeLemmas.{edge-ends}
 use Rattle.gadget_base.specs.Blocks.{tabled}
 use Rattle.gadget_base.specs.Gadgets.{before_gates, capped_graph}
 use Rattle.gadget_base.proofs.BlockSums.{IsIn, find_block}
@@ -15,7 +16,6 @@ use Rattle.gadget_base.proofs.Blocks.{All-tabled, All-blocks}
 use Rattle.gadget_base.proofs.Over.{table}
 use Rattle.gadget_base.proofs.Units.{taken, units, taken-each, units-row, units-column, units-total}
 use Rattle.gadget_base.proofs.Used.{use_at, used, degree-used, weight-used, used-within_u, used-within_v}
-use Rattle.gadget_base.proofs.Within.{edge-ends}
 use Rattle.gadget_cap.proofs.UnitLemmas.{units-most, taken-two}
 use Rattle.gadget_cap.proofs.GateLemmas.{Passage, gate_counts, all_counts, all-one_each, value, below, entered, degree-copy, degree-first, degree-second, weight-by_entered}
 use Rattle.gadget_cap.proofs.Uses.{use-at}

@@ -3,8 +3,8 @@ use Rattle.std.proofs.Common.{◌≡◌, ℕ, ◌+◌, ◌*◌, ◌-◌, ◌≤�
 use Rattle.std.proofs.lemmas.Bool.{eqb-true}
 use Rattle.std.proofs.lemmas.Bool.Decides.{nat_tests}
 use Rattle.mb_problem.specs.Network.{Network, IsNetwork, instance_edge_at}
+use Rattle.mb_problem.proofs.EdgeLemmas.{edge-ends}
 use Rattle.gadget_base.proofs.Used.{use_at}
-use Rattle.gadget_base.proofs.Within.{edge-ends}
 
 eqb_before : (u t : ℕ) → 1 ≤ u → eqb u (t + 1) ≡ eqb (u - 1) t
 eqb_before u t low = grind (arith, nat_tests)

@@ -9,6 +9,7 @@ use Rattle.graph_theory.proofs.Edges.{ends_at-u, ends_at-v, ends_at-other}
 use Rattle.mb_problem.specs.Network.{Network, IsNetwork, vertices, plain, graph_of, instance_edge_at, value_of}
 use Rattle.mb_problem.specs.Size.{value_total, value_u, value_v}
 use Rattle.mb_problem.specs.Feasible.{IsBMatching}
+use Rattle.mb_problem.proofs.EdgeLemmas.{edge-ends}
 use Rattle.gadget_base.specs.Blocks.{tabled}
 use Rattle.gadget_base.specs.Gadgets.{copies_graph, values_below}
 use Rattle.gadget_base.specs.Certified.{IsPerfectList}
@@ -16,7 +17,7 @@ use Rattle.gadget_base.specs.Listed.{times, times_each}
 use Rattle.gadget_base.proofs.BlockSums.{sum_to-ones, sum_to-cond, sum_to-rows}
 use Rattle.gadget_base.proofs.Blocks.{tabled-length, tabled-at, tabled-blocks, tabled-rows, blocks-same}
 use Rattle.gadget_base.proofs.Over.{table}
-use Rattle.gadget_base.proofs.Within.{edge-ends, copies-inside, copies-size, copies-within}
+use Rattle.gadget_base.proofs.Within.{copies-inside, copies-size, copies-within}
 use Rattle.gadget_base.proofs.Used.{use_at, degree-used, weight-used}
 use Rattle.gadget_base.proofs.Listed.{perfect_from_list, weight_of_list, list-length}
 use Rattle.gadget_match.specs.Extracted.{pairs_before, listed_pairs, gathered}

@@ -11,13 +11,14 @@ use Rattle.mb_problem.specs.declared.answer.Answer.TheVariants.{Counts, Walk, No
 use Rattle.mb_problem.specs.Network.{Network, IsNetwork, vertices, plain, graph_of, instance_edge_at, value_of}
 use Rattle.mb_problem.specs.Size.{value_total, value_u, value_v}
 use Rattle.mb_problem.specs.Feasible.{IsBMatching}
+use Rattle.mb_problem.proofs.EdgeLemmas.{edge-ends}
 use Rattle.gadget_base.specs.Blocks.{blocks}
 use Rattle.gadget_base.specs.Gadgets.{copies_graph, pairs_of_copies, values_below}
 use Rattle.gadget_base.specs.Certified.{ReachesAll}
 use Rattle.gadget_base.proofs.BlockSums.{find_block}
 use Rattle.gadget_base.proofs.Over.{over, int_over, at_vertex, weighing, over-blocks, int_over-blocks, table, rectangle-lengths, blocks-lengths}
 use Rattle.gadget_base.proofs.Degrees.{rectangle-first, rectangle-second, rectangle-none, rectangle-weight}
-use Rattle.gadget_base.proofs.Within.{edge-ends, copies-apart, copies-within}
+use Rattle.gadget_base.proofs.Within.{copies-apart, copies-within}
 use Rattle.gadget_base.proofs.Units.{taken, units, taken-each, units-row, units-column, units-total}
 use Rattle.gadget_base.proofs.Used.{use_at, used, degree-used, weight-used, use_at-u, use_at-v, used-within_u, used-within_v}
 use Rattle.gadget_base.proofs.Listed.{perfect_from_degrees}

@@ -12,6 +12,7 @@ use Rattle.mb_problem.specs.declared.kind.Kind.TheVariants.{Match}
 use Rattle.mb_problem.specs.declared.answer.Answer.TheVariants.{Counts, Walk, Nothing}
 use Rattle.mb_problem.specs.Network.{Network, IsNetwork, vertices, plain, graph_of, instance_edge_at}
 use Rattle.mb_problem.specs.Feasible.{IsMatching}
+use Rattle.mb_problem.proofs.EdgeLemmas.{edge-ends}
 use Rattle.gadget_base.specs.Blocks.{blocks, tabled}
 use Rattle.gadget_base.specs.Gadgets.{doubled_graph, two_copies, to_copy}
 use Rattle.gadget_base.specs.Certified.{ReachesAll}
@@ -19,7 +20,7 @@ use Rattle.gadget_base.proofs.BlockSums.{int_sum_to-none, sum_to-const, sum_to-h
 use Rattle.gadget_base.proofs.Blocks.{tabled-length, blocks-length, All-tabled, All-blocks}
 use Rattle.gadget_base.proofs.Over.{over, int_over, at_vertex, weighing, over-append, int_over-append, over-blocks, int_over-blocks, over-tabled, int_over-tabled}
 use Rattle.gadget_base.proofs.Degrees.{once, once-second}
-use Rattle.gadget_base.proofs.Within.{edge-ends, doubled-size, All-two, pairs-length}
+use Rattle.gadget_base.proofs.Within.{doubled-size, All-two, pairs-length}
 use Rattle.gadget_base.proofs.Used.{used, degree-used, weight-used}
 
 -- counts on the doubled graph: x on the first copies of edges, y on the second, z between vertices and copies

@@ -2,9 +2,9 @@
 -- with the fourth, and so on. A place is free where a function is 1, and 0 elsewhere.
 use Rattle.std.proofs.Common.{◌≡◌, ◌⊎◌, ℕ, zero, suc, ◌+◌, ◌*◌, ◌/◌, ◌%◌, ◌<◌, ◌≤◌, Bool, true, false, cond, ltb, eqb, refl, ap, sym, ◌∙◌, inl, inr, arith}
 use Rattle.std.proofs.lemmas.Bool.{cases_eq, cases_order, cases_Bool, eq-eqb, ne_eqb, lt-ltb, le-ltb}
-use Rattle.std.proofs.lemmas.Bool.Decides.{nat_tests}
 use Rattle.graph_theory.specs.Sums.{sum_to}
 use Rattle.graph_theory.proofs.SumLemmas.{sum_to-same, sum_to-add}
+use Rattle.graph_theory.proofs.Members.{eqb-turned}
 use Rattle.gadget_base.proofs.BlockSums.{sum_to-none, sum_to-longer, sum_to-only}
 use Rattle.gadget_tjoin.proofs.OneTerm.{one_if, one_if-same}
 
@@ -71,12 +71,9 @@ two_of_half f h n small even many =
 abbrev pub partners : (ℕ → ℕ) → ℕ → ℕ → ℕ
 partners f a b = f a * (f b * one_if (eqb (sum_to f a / 2) (sum_to f b / 2)))
 
-eqb_swap : (a b : ℕ) → eqb a b ≡ eqb b a
-eqb_swap a b = grind (arith, nat_tests)
-
 pub partners-swap : (f : ℕ → ℕ) (a b : ℕ) → partners f a b ≡ partners f b a
 partners-swap f a b =
-    let s = eqb_swap (sum_to f a / 2) (sum_to f b / 2) in
+    let s = eqb-turned (sum_to f a / 2) (sum_to f b / 2) in
     let turn : (p q r : ℕ) → p * (q * r) ≡ q * (p * r) = λ p q r. grind arith in
     rw s (turn (f a) (f b) (one_if (eqb (sum_to f b / 2) (sum_to f a / 2))))
 
@@ -104,7 +101,7 @@ one_partner f x n small even b held =
     let longer : sum_to f x + f x ≤ sum_to f n = sum_to-longer f (suc x) n (omega arith) in
     let two = two_of_half f h n small even (omega (arith, longer, held)) in
     let same = sum_to-same (partners f x) (λ k. f k * one_if (eqb (sum_to f k / 2) h)) n
-    (λ k l. let s = eqb_swap h (sum_to f k / 2) in rw s (same_if_one (f x) (f k * one_if (eqb (sum_to f k / 2) h)) held)) in
+    (λ k l. let s = eqb-turned h (sum_to f k / 2) in rw s (same_if_one (f x) (f k * one_if (eqb (sum_to f k / 2) h)) held)) in
     let split = sum_to-same (partners f x) (λ k. cond (eqb k x) 0 (partners f x k) + cond (eqb k x) (partners f x k) 0) n (λ k l. but_one (eqb k x) (partners f x k)) in
     let both = sum_to-add (λ k. cond (eqb k x) 0 (partners f x k)) (λ k. cond (eqb k x) (partners f x k) 0) n in
     let own = sum_to-only (λ k. cond (eqb k x) (partners f x k) 0) x n b (λ k l d. let off = ne_eqb k x d in rw off refl) in

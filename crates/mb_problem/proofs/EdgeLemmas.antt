@@ -16,6 +16,14 @@ edges-count i = length-map i.edges plain
 here : (i : Network) (k : ℕ) (d : Edge) → k < length i.edges → get_or (graph_of i).edges k d ≡ plain (instance_edge_at i k)
 here i k d below = read-map plain i.edges k no_instance_edge d below
 
+-- an edge keeps the ranges of an instance
+
+pub edge-ends : (i : Network) (k : ℕ) → IsNetwork i → k < length i.edges → IsEdgeWithin (vertices i) (plain (instance_edge_at i k))
+edge-ends i k network b = (network.edges k no_instance_edge b).ends
+
+pub edge-weight : (i : Network) (k : ℕ) → IsNetwork i → k < length i.edges → IsWeight (instance_edge_at i k).w
+edge-weight i k network b = (network.edges k no_instance_edge b).weight
+
 -- what holds of each edge of an instance without its capacity holds of each edge of its graph
 all_plain : (P : Edge → Type 0) (i : Network) → ((k : ℕ) → k < length i.edges → P (plain (instance_edge_at i k))) → All P (graph_of i).edges
 all_plain P i each = λ k d b. (let size : length (map plain i.edges) ≡ length i.edges = length-map i.edges plain in let below : k < length i.edges = omega arith in
@@ -30,8 +38,8 @@ network-graph i ok =
     record {
       few_vertices = omega arith;
       few_edges = omega arith;
-      ends = all_plain (λ e. IsEdgeWithin (vertices i) e) i (λ k b. (ok.edges k no_instance_edge b).ends);
-      weights = all_plain (λ e. IsWeight e.w) i (λ k b. (ok.edges k no_instance_edge b).weight);
+      ends = all_plain (λ e. IsEdgeWithin (vertices i) e) i (λ k b. edge-ends i k ok b);
+      weights = all_plain (λ e. IsWeight e.w) i (λ k b. edge-weight i k ok b);
     }
 
 pub edge-within : (i : Network) (e : ℕ) → IsNetwork i → IsEdgeNumber (graph_of i) e → IsEdgeWithin (vertices i) (edge_of (graph_of i) e)

@@ -1,4 +1,3 @@
-pub mod SumLemmas
 pub mod EdgeLemmas
 pub mod DegreeLemmas
 pub mod MarkLemmas

@@ -1,5 +1,5 @@
 -- Marks of numbers, and lists whose numbers are all different.
-use Rattle.std.proofs.Common.{◌≡◌, ◌≢◌, ℕ, ◌+◌, ◌-◌, ◌<◌, ◌≤◌, Bool, true, false, ◌||◌, List, length, get_or, take, replicate, set, refl, sym, ap, ◌∙◌, arith, eqb, subst}
+use Rattle.std.proofs.Common.{◌≡◌, ◌≢◌, ℕ, ◌+◌, ◌-◌, ◌<◌, ◌≤◌, Bool, true, false, ◌||◌, List, length, get_or, take, replicate, set, sym, ap, ◌∙◌, arith, eqb, subst}
 use Rattle.std.proofs.Math.Bool.{or-true, or-false}
 use Rattle.std.proofs.Math.Decide.{ℕ_discrete, dec_lt}
 use Rattle.std.proofs.lemmas.Bool.{false≢true, eq-eqb, ne_eqb}
@@ -64,7 +64,3 @@ pub marked-here : (n : ℕ) (marks : List Bool) (xs : List ℕ) (k x : ℕ) → 
 marked-here n marks xs k x are is low high =
     let back : x - 1 + 1 ≡ get_or xs k 0 = omega arith in
     are.each (x - 1) (omega arith) ∙ ap (λ (w : ℕ). holds (take k xs) w) back
-
-pub not_false : (b : Bool) → (b ≡ false → ⊥) → b ≡ true
-not_false true h = refl
-not_false false h = absurd (h refl)

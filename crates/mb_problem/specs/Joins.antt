@@ -1,5 +1,5 @@
 -- Joins (chapter 29): sets of edges by the parity of their degrees.
-use Rattle.std.specs.Prelude.{◌≡◌, ℕ, ◌%◌, ◌==◌, ℤ, pos, ◌≤ℤ◌, List, length, All, map, if◌then◌else◌}
+use Rattle.std.specs.Prelude.{◌≡◌, ℕ, ◌%◌, ◌==◌, pos, ◌≤ℤ◌, List, length, All, map, if◌then◌else◌}
 use Rattle.std.specs.List.{range_with_len}
 use Rattle.std.specs.List.Sorted.{IsStrictlyIncreasing}
 use Rattle.graph_theory.specs.Graph.{IsEdgeNumber, weight}

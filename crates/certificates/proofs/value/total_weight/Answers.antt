@@ -5,7 +5,7 @@ use Rattle.graph_theory.specs.declared.edge.Edge.{Edge}
 use Rattle.graph_theory.specs.Graph.{edge_at}
 use Rattle.mb_problem.specs.declared.instance.InstanceEdge.{InstanceEdge}
 use Rattle.mb_problem.specs.Network.{graph_of, plain, instance_edge_at, no_instance_edge}
-use Rattle.mb_problem.proofs.SumLemmas.{int_sum_to-more}
+use Rattle.graph_theory.proofs.SumLemmas.{int_sum_to-more}
 use Rattle.mb_problem.proofs.EdgeLemmas.{edge_at-graph_of}
 use Rattle.certificates.proofs.value.total_weight.Goals as goal
 

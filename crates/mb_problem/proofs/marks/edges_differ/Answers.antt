@@ -1,8 +1,8 @@
 use Rattle.std.proofs.Common.{◌≡◌, ◌+◌, ◌-◌, ◌≤◌, Bool, true, false, List, length, get_or, take, refl, sym, ap, ◌∙◌, arith, subst}
 use Rattle.std.proofs.lemmas.List.{with_items_is, get_or_read, length-set}
-use Rattle.std.proofs.lemmas.Bool.{false≢true}
+use Rattle.std.proofs.lemmas.Bool.{false≢true, true_from_ne_false}
 use Rattle.mb_problem.specs.Marks.{AreMarks}
-use Rattle.mb_problem.proofs.MarkLemmas.{marks-more, differ-more, differ-not, marked-here, not_false}
+use Rattle.mb_problem.proofs.MarkLemmas.{marks-more, differ-more, differ-not, marked-here}
 use Rattle.mb_problem.proofs.marks.edges_differ.Goals as goal
 
 pub returns-then-not-mark : goal.returns-then-not-mark
@@ -17,7 +17,7 @@ returns-then-not-mark c =
     let high : get_or es k 0 ≤ c.args.m = range.1 in
     let marks : AreMarks c.args.m c.deref_mut.result.now (take k es) = subst (λ (ms : List Bool). AreMarks c.args.m ms (take k es)) (sym c.deref_mut.ensures.value) c.loop-e.invariant.marks in
     let here = marked-here c.args.m c.deref_mut.result.now es k x marks number (omega arith) (omega arith) in
-    let had : get_or c.deref_mut.result.now (x - 1) false ≡ true = not_false _ (λ new. false≢true (c.if-not-mark.ensures.new.1 new)) in (
+    let had : get_or c.deref_mut.result.now (x - 1) false ≡ true = true_from_ne_false _ (λ new. false≢true (c.if-not-mark.ensures.new.1 new)) in (
       (λ t. absurd (cc)),
       (λ differ. absurd (differ-not es k c.loop-e-test.true (sym here ∙ had) differ)),
     )

@@ -1,12 +1,12 @@
 use Rattle.std.proofs.Common.{◌≡◌, ℕ, ◌+◌, ◌-◌, ◌<◌, ◌≤◌, Bool, true, false, List, length, get_or, take, replicate, refl, sym, ap, ◌∙◌, arith, subst}
 use Rattle.std.proofs.lemmas.List.{with_items_is, get_or_read, length-set}
-use Rattle.std.proofs.lemmas.Bool.{false≢true}
+use Rattle.std.proofs.lemmas.Bool.{false≢true, true_from_ne_false}
 use Rattle.graph_theory.specs.Graph.{edge_of, IsEdgeNumber, touches}
 use Rattle.graph_theory.specs.Walk.{walk_vertices}
 use Rattle.graph_theory.proofs.Walks.{vertices-length}
 use Rattle.mb_problem.specs.Network.{graph_of, vertices}
 use Rattle.mb_problem.specs.Marks.{AreMarks}
-use Rattle.mb_problem.proofs.MarkLemmas.{marks-none, marks-more, differ-more, differ-not, marked-here, not_false}
+use Rattle.mb_problem.proofs.MarkLemmas.{marks-none, marks-more, differ-more, differ-not, marked-here}
 use Rattle.mb_problem.proofs.WalkPlaces.{first_vertex, edge_there}
 use Rattle.mb_problem.proofs.WalkSteps.{step-facts}
 use Rattle.mb_problem.proofs.walks.vertices_differ.Goals as goal
@@ -91,7 +91,7 @@ returns-then-not-mark c =
     let before = c.deref_mut-in-loop-e.result.now in
     let marks : AreMarks n before (take (k + 1) vs) = subst (λ (ms : List Bool). AreMarks n ms (take (k + 1) vs)) (sym value) c.loop-e.invariant.marks in
     let here = marked-here n before vs (k + 1) x marks number low high in
-    let had : get_or before (x - 1) false ≡ true = not_false _ (λ new. false≢true (c.if-not-mark.ensures.new.1 new)) in (
+    let had : get_or before (x - 1) false ≡ true = true_from_ne_false _ (λ new. false≢true (c.if-not-mark.ensures.new.1 new)) in (
       (λ t. absurd (cc)),
       (λ differ. absurd (differ-not vs (k + 1) below (sym here ∙ had) differ)),
     )
