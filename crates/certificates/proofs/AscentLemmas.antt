@@ -5,6 +5,7 @@ use Rattle.std.proofs.Math.Decide.{dec_lt}
 use Rattle.std.proofs.lemmas.Bool.{and_parts}
 use Rattle.std.proofs.lemmas.Int.{ints}
 use Rattle.doc_format.specs.Form.{ascends}
+use Rattle.doc_format.proofs.InOrder.{ascends_tail}
 
 int_lt-true : (a b : ℤ) → int_lt a b ≡ true → a <ℤ b
 int_lt-true a b h = grind (arith, ints)
@@ -18,16 +19,12 @@ head_below z (y ∷ zs) h (suc k) below =
     let rest : y <ℤ get_or zs k (pos 0) = head_below y zs parts.1 k (omega arith) in
     omega (arith, ints)
 
-tail_ascends : (z : ℤ) (zs : List ℤ) → ascends (z ∷ zs) ≡ true → ascends zs ≡ true
-tail_ascends z [] h = refl
-tail_ascends z (y ∷ zs) h = (and_parts (int_lt z y) (ascends (y ∷ zs)) h).1
-
 -- an earlier number is below a later one
 pub ascends-below : (zs : List ℤ) → ascends zs ≡ true → (j k : ℕ) → j < k → k < length zs → get_or zs j (pos 0) <ℤ get_or zs k (pos 0)
 ascends-below [] h j k earlier below = absurd (omega arith)
 ascends-below (z ∷ zs) h j zero earlier below = absurd (omega arith)
 ascends-below (z ∷ zs) h zero (suc k) earlier below = head_below z zs h k (omega arith)
-ascends-below (z ∷ zs) h (suc j) (suc k) earlier below = ascends-below zs (tail_ascends z zs h) j k (omega arith) (omega arith)
+ascends-below (z ∷ zs) h (suc j) (suc k) earlier below = ascends-below zs (ascends_tail z zs h) j k (omega arith) (omega arith)
 
 -- an ascending list of numbers from 1 on: its number at a place is above the place
 at_least : (zs : List ℤ) → ascends zs ≡ true → ((k : ℕ) → k < length zs → pos 1 ≤ℤ get_or zs k (pos 0)) → (k : ℕ) → k < length zs → pos (k + 1) ≤ℤ get_or zs k (pos 0)

@@ -29,7 +29,7 @@ neither (Some x) b h = (h, absurd (cc))
 none-append : (xs ys : List Checked) → first_fault (xs ++ ys) ≡ None → (first_fault xs ≡ None) × (first_fault ys ≡ None)
 none-append xs ys h = neither (first_fault xs) (first_fault ys) (sym (first_fault-append xs ys) ∙ h)
 
-one_in_range : (b : Bool) (c : Checked) (rest : Option Checked) → option_map (λ (l : Checked). l.line) (cond (not b) (Some c) rest) ≡ None → (b ≡ true) × (option_map (λ (l : Checked). l.line) rest ≡ None)
+pub one_in_range : (b : Bool) (c : Checked) (rest : Option Checked) → option_map (λ (l : Checked). l.line) (cond (not b) (Some c) rest) ≡ None → (b ≡ true) × (option_map (λ (l : Checked). l.line) rest ≡ None)
 one_in_range true c rest h = (refl, h)
 one_in_range false c rest h = (absurd (cc), absurd (cc))
 

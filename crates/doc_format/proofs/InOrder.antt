@@ -1,7 +1,8 @@
 -- The parts of a document stand in order.
-use Rattle.std.proofs.Common.{◌≡◌, ℕ, zero, suc, ◌+◌, ◌<◌, Bool, true, false, ◌&&◌, List, [], ◌∷◌, ◌++◌, length, map, take, get_or, Option, None, Some, ℤ, refl, ◌∙◌, arith}
+use Rattle.std.proofs.Common.{◌≡◌, ℕ, zero, suc, ◌+◌, ◌<◌, Bool, true, ◌&&◌, List, [], ◌∷◌, ◌++◌, length, map, take, get_or, Option, None, Some, ℤ, refl, ◌∙◌, arith}
 use Rattle.std.specs.Prelude.{int_lt, nat_lt, nat_eq}
 use Rattle.std.specs.List.{list_all}
+use Rattle.std.proofs.lemmas.Bool.{and_parts, and_from}
 use Rattle.std.proofs.lemmas.Bool.Decides.{nat_tests}
 use Rattle.std.proofs.lemmas.List.Folds.{list_all-append}
 use Rattle.mb_problem.specs.declared.kind.Kind.{Kind}
@@ -18,36 +19,28 @@ use Rattle.doc_format.specs.Form.{ascends, rank, key, is_set, may_follow, admits
 use Rattle.doc_format.proofs.Following.{int_lt-trans}
 use Rattle.doc_format.proofs.PartsBack.{on_line, on_lines}
 
-both : (x y : Bool) → (x && y) ≡ true → (x ≡ true) × (y ≡ true)
-both true y h = (refl, h)
-both false y h = absurd cc
-
-joined : (x y : Bool) → x ≡ true → y ≡ true → (x && y) ≡ true
-joined true y a b = b
-joined false y a b = absurd cc
-
-all_joined : {A : Type 0} (p : A → Bool) (xs ys : List A) → list_all p xs ≡ true → list_all p ys ≡ true → list_all p (xs ++ ys) ≡ true
-all_joined p xs ys h k = list_all-append p xs ys ∙ joined (list_all p xs) (list_all p ys) h k
+pub all_joined : {A : Type 0} (p : A → Bool) (xs ys : List A) → list_all p xs ≡ true → list_all p ys ≡ true → list_all p (xs ++ ys) ≡ true
+all_joined p xs ys h k = list_all-append p xs ys ∙ and_from (list_all p xs) (list_all p ys) h k
 
 -- a test that each element passes because it passes another
 all_weaker : {A : Type 0} (p q : A → Bool) (xs : List A) → ((x : A) → p x ≡ true → q x ≡ true) → list_all p xs ≡ true → list_all q xs ≡ true
 all_weaker p q [] f h = refl
-all_weaker p q (x ∷ xs) f h = let b = both (p x) (list_all p xs) h in joined (q x) (list_all q xs) (f x b.0) (all_weaker p q xs f b.1)
+all_weaker p q (x ∷ xs) f h = let b = and_parts (p x) (list_all p xs) h in and_from (q x) (list_all q xs) (f x b.0) (all_weaker p q xs f b.1)
 
-all_mapped : {A B : Type 0} (p : B → Bool) (f : A → B) (xs : List A) → ((x : A) → p (f x) ≡ true) → list_all p (map f xs) ≡ true
+pub all_mapped : {A B : Type 0} (p : B → Bool) (f : A → B) (xs : List A) → ((x : A) → p (f x) ≡ true) → list_all p (map f xs) ≡ true
 all_mapped p f [] h = refl
-all_mapped p f (x ∷ xs) h = joined (p (f x)) (list_all p (map f xs)) (h x) (all_mapped p f xs h)
+all_mapped p f (x ∷ xs) h = and_from (p (f x)) (list_all p (map f xs)) (h x) (all_mapped p f xs h)
 
 pub passes : {A : Type 0} (p : A → Bool) (xs : List A) (k : ℕ) (d : A) → list_all p xs ≡ true → k < length xs → p (get_or xs k d) ≡ true
 passes p [] k d h lt = absurd (omega arith)
-passes p (x ∷ xs) zero d h lt = (both (p x) (list_all p xs) h).0
-passes p (x ∷ xs) (suc k) d h lt = passes p xs k d (both (p x) (list_all p xs) h).1 (omega arith)
+passes p (x ∷ xs) zero d h lt = (and_parts (p x) (list_all p xs) h).0
+passes p (x ∷ xs) (suc k) d h lt = passes p xs k d (and_parts (p x) (list_all p xs) h).1 (omega arith)
 
 pub all_taken : {A : Type 0} (p : A → Bool) (xs : List A) (k : ℕ) → list_all p xs ≡ true → list_all p (take k xs) ≡ true
 all_taken p [] zero h = refl
 all_taken p [] (suc k) h = refl
 all_taken p (x ∷ xs) zero h = refl
-all_taken p (x ∷ xs) (suc k) h = let b = both (p x) (list_all p xs) h in joined (p x) (list_all p (take k xs)) b.0 (all_taken p xs k b.1)
+all_taken p (x ∷ xs) (suc k) h = let b = and_parts (p x) (list_all p xs) h in and_from (p x) (list_all p (take k xs)) b.0 (all_taken p xs k b.1)
 
 -- each part may be followed by all after it
 abbrev pub in_order : List Part → Bool
@@ -56,27 +49,27 @@ in_order (part ∷ parts) = list_all (may_follow part) parts && in_order parts
 
 -- ---- ascending keys
 
-ascends_tail : (z : ℤ) (zs : List ℤ) → ascends (z ∷ zs) ≡ true → ascends zs ≡ true
+pub ascends_tail : (z : ℤ) (zs : List ℤ) → ascends (z ∷ zs) ≡ true → ascends zs ≡ true
 ascends_tail z [] h = refl
-ascends_tail z (y ∷ zs) h = (both (int_lt z y) (ascends (y ∷ zs)) h).1
+ascends_tail z (y ∷ zs) h = (and_parts (int_lt z y) (ascends (y ∷ zs)) h).1
 
 ascends_all : (z : ℤ) (zs : List ℤ) → ascends (z ∷ zs) ≡ true → list_all (int_lt z) zs ≡ true
 ascends_all z [] h = refl
 ascends_all z (y ∷ zs) h =
-    let b = both (int_lt z y) (ascends (y ∷ zs)) h in
-    joined (int_lt z y) (list_all (int_lt z) zs) b.0 (all_weaker (int_lt y) (int_lt z) zs (λ x k. int_lt-trans z y x b.0 k) (ascends_all y zs b.1))
+    let b = and_parts (int_lt z y) (ascends (y ∷ zs)) h in
+    and_from (int_lt z y) (list_all (int_lt z) zs) b.0 (all_weaker (int_lt y) (int_lt z) zs (λ x k. int_lt-trans z y x b.0 k) (ascends_all y zs b.1))
 
 keyed_all : {A : Type 0} (made : A → Part) (by : A → ℤ) (x : A) (xs : List A) → ((y : A) → int_lt (by x) (by y) ≡ true → may_follow (made x) (made y) ≡ true) → list_all (int_lt (by x)) (map by xs) ≡ true → list_all (may_follow (made x)) (map made xs) ≡ true
 keyed_all made by x [] f h = refl
-keyed_all made by x (y ∷ ys) f h = let b = both (int_lt (by x) (by y)) (list_all (int_lt (by x)) (map by ys)) h in joined (may_follow (made x) (made y)) (list_all (may_follow (made x)) (map made ys)) (f y b.0) (keyed_all made by x ys f b.1)
+keyed_all made by x (y ∷ ys) f h = let b = and_parts (int_lt (by x) (by y)) (list_all (int_lt (by x)) (map by ys)) h in and_from (may_follow (made x) (made y)) (list_all (may_follow (made x)) (map made ys)) (f y b.0) (keyed_all made by x ys f b.1)
 
 keyed : {A : Type 0} (made : A → Part) (by : A → ℤ) (xs : List A) → ((x y : A) → int_lt (by x) (by y) ≡ true → may_follow (made x) (made y) ≡ true) → ascends (map by xs) ≡ true → in_order (map made xs) ≡ true
 keyed made by [] f h = refl
-keyed made by (x ∷ xs) f h = joined (list_all (may_follow (made x)) (map made xs)) (in_order (map made xs)) (keyed_all made by x xs (f x) (ascends_all (by x) (map by xs) h)) (keyed made by xs f (ascends_tail (by x) (map by xs) h))
+keyed made by (x ∷ xs) f h = and_from (list_all (may_follow (made x)) (map made xs)) (in_order (map made xs)) (keyed_all made by x xs (f x) (ascends_all (by x) (map by xs) h)) (keyed made by xs f (ascends_tail (by x) (map by xs) h))
 
 sets_in_order : (sets : List SetLine) → in_order (map Set sets) ≡ true
 sets_in_order [] = refl
-sets_in_order (z ∷ zs) = joined (list_all (may_follow (Set z)) (map Set zs)) (in_order (map Set zs)) (all_mapped (may_follow (Set z)) Set zs (λ y. refl)) (sets_in_order zs)
+sets_in_order (z ∷ zs) = and_from (list_all (may_follow (Set z)) (map Set zs)) (in_order (map Set zs)) (all_mapped (may_follow (Set z)) Set zs (λ y. refl)) (sets_in_order zs)
 
 one_in_order : {A : Type 0} (made : A → Part) (o : Option A) → in_order (at_most_one made o) ≡ true
 one_in_order made None = refl
@@ -108,9 +101,9 @@ crossing r p ys h k = all_weaker (λ q. nat_lt r (rank q)) (may_follow p) ys (λ
 in_order-append : (r : ℕ) (xs ys : List Part) → ranked r xs ≡ true → in_order xs ≡ true → above r ys ≡ true → in_order ys ≡ true → in_order (xs ++ ys) ≡ true
 in_order-append r [] ys h o a k = k
 in_order-append r (x ∷ xs) ys h o a k =
-    let b = both (nat_eq (rank x) r) (ranked r xs) h in
-    let c = both (list_all (may_follow x) xs) (in_order xs) o in
-    joined (list_all (may_follow x) (xs ++ ys)) (in_order (xs ++ ys)) (all_joined (may_follow x) xs ys c.0 (crossing r x ys b.0 a)) (in_order-append r xs ys b.1 c.1 a k)
+    let b = and_parts (nat_eq (rank x) r) (ranked r xs) h in
+    let c = and_parts (list_all (may_follow x) xs) (in_order xs) o in
+    and_from (list_all (may_follow x) (xs ++ ys)) (in_order (xs ++ ys)) (all_joined (may_follow x) xs ys c.0 (crossing r x ys b.0 a)) (in_order-append r xs ys b.1 c.1 a k)
 
 rank_up : (r a : ℕ) → nat_eq a (r + 1) ≡ true → nat_lt r a ≡ true
 rank_up r a h = grind (arith, nat_tests)
@@ -132,7 +125,7 @@ many_ranked r made xs h = all_mapped (λ p. nat_eq (rank p) r) made xs h
 
 one_ranked : {A : Type 0} (r : ℕ) (made : A → Part) (o : Option A) → ((x : A) → nat_eq (rank (made x)) r ≡ true) → ranked r (at_most_one made o) ≡ true
 one_ranked r made None h = refl
-one_ranked r made (Some x) h = joined (nat_eq (rank (made x)) r) true (h x) refl
+one_ranked r made (Some x) h = and_from (nat_eq (rank (made x)) r) true (h x) refl
 
 pub parts_in_order : (status : DocStatus) (kind : Kind) (weight : ℤ) (b : Body) → IsDocument status kind weight b → in_order (parts_of b) ≡ true
 parts_in_order status kind weight b form =
@@ -149,18 +142,18 @@ pub in_order_at : (parts : List Part) (k : ℕ) (none : Part) → in_order parts
 in_order_at [] k none h lt = absurd (omega arith)
 in_order_at (p ∷ ps) zero none h lt = refl
 in_order_at (p ∷ ps) (suc k) none h lt =
-    let b = both (list_all (may_follow p) ps) (in_order ps) h in
-    joined (may_follow p (get_or ps k none)) (list_all (λ earlier. may_follow earlier (get_or ps k none)) (take k ps)) (passes (may_follow p) ps k none b.0 (omega arith)) (in_order_at ps k none b.1 (omega arith))
+    let b = and_parts (list_all (may_follow p) ps) (in_order ps) h in
+    and_from (may_follow p (get_or ps k none)) (list_all (λ earlier. may_follow earlier (get_or ps k none)) (take k ps)) (passes (may_follow p) ps k none b.0 (omega arith)) (in_order_at ps k none b.1 (omega arith))
 
 -- ---- form, part by part
 
 walk_formed : (o : Option WalkLine) → has_edges o ≡ true → list_all is_formed (at_most_one Walk o) ≡ true
 walk_formed None h = refl
-walk_formed (Some w) h = joined (is_formed (Walk w)) true h refl
+walk_formed (Some w) h = and_from (is_formed (Walk w)) true h refl
 
 members_formed : (made : MemberLine → Part) (o : Option MemberLine) → ((u : MemberLine) → is_formed (made u) ≡ ascends u.members) → have_order o ≡ true → list_all is_formed (at_most_one made o) ≡ true
 members_formed made None f h = refl
-members_formed made (Some u) f h = joined (is_formed (made u)) true (f u ∙ h) refl
+members_formed made (Some u) f h = and_from (is_formed (made u)) true (f u ∙ h) refl
 
 pub parts_formed : (status : DocStatus) (kind : Kind) (weight : ℤ) (b : Body) → IsDocument status kind weight b → list_all is_formed (parts_of b) ≡ true
 parts_formed status kind weight b form =

@@ -1,14 +1,16 @@
 -- One line of a text more.
-use Rattle.std.proofs.Common.{◌≡◌, ℕ, zero, suc, ◌+◌, ◌<◌, ◌≤◌, ◌&&◌, not, Bool, true, false, cond, List, [], ◌∷◌, ◌++◌, length, take, drop, get_or, map, Option, None, Some, refl, sym, ap, subst, ◌∙◌, arith, inl, inr}
+use Rattle.std.proofs.Common.{◌≡◌, ℕ, zero, suc, ◌+◌, ◌<◌, ◌≤◌, not, Bool, true, false, cond, List, [], ◌∷◌, ◌++◌, length, take, get_or, map, Option, None, Some, refl, sym, ap, subst, ◌∙◌, arith, inl, inr}
 use Rattle.std.specs.Prelude.{codes, bytes_eq, Err}
 use Rattle.std.specs.List.{list_all}
-use Rattle.std.proofs.lemmas.Bool.{cases_lt, eqb-true}
-use Rattle.std.proofs.lemmas.List.{append-nil, drop_more, drop_all, take_more, take_all, length-take, length-drop}
+use Rattle.std.proofs.lemmas.Bool.{and_parts, eqb-true}
+use Rattle.std.proofs.lemmas.List.{append-nil, take_more, take_all, length-take-le, length-drop}
 use Rattle.std.proofs.lemmas.List.Folds.{list_all-append}
+use Rattle.std.proofs.lemmas.Option.{same_Some}
 use Rattle.std.proofs.lemmas.Slice.Eq.{bytes_eq-Decides}
 use borrow.Author.Count.{below_more}
 use Rattle.mb_base.specs.Text.{lines, fields}
 use Rattle.mb_base.specs.Rows.{Row, rows, is_skipped}
+use Rattle.mb_base.proofs.RowLemmas.{next_row}
 use Rattle.doc_format.specs.declared.part.Part.{Part}
 use Rattle.doc_format.specs.declared.head.Head.{Head}
 use Rattle.doc_format.specs.declared.document.Document.{Document}
@@ -21,19 +23,8 @@ use Rattle.doc_format.specs.Steps.{with_part, taken, Takes, Skips, IsOpening, Is
 
 -- ---- a row more
 
-next_row : (rs : List Row) (k : ℕ) (row : Row) (more : List Row) → drop k rs ≡ row ∷ more → (k < length rs) × (get_or rs k [] ≡ row) × (drop (k + 1) rs ≡ more)
-next_row rs k row more e =
-    elim (cases_lt k (length rs)) [
-      | inl lt ↦ let f = drop_more rs k [] lt in (lt, cc, cc)
-      | inr le ↦ let f = drop_all k rs le in absurd cc
-    ]
-
 pub rows_more : (rest text after : List ℕ) → lines rest ≡ text ∷ lines after → rows rest ≡ fields text ∷ rows after
 rows_more rest text after e = ap (λ (ls : List (List ℕ)). map fields ls) e
-
-both : (x y : Bool) → (x && y) ≡ true → (x ≡ true) × (y ≡ true)
-both true y h = (refl, h)
-both false y h = absurd cc
 
 -- a line that is skipped has no letter
 skipped_no_part : (n : ℕ) (row : Row) → is_skipped row ≡ true → part_at n row ≡ None
@@ -63,13 +54,13 @@ head_from-push n (r ∷ rs) row head h = head_kept (is_skipped r) (head_from (n 
 head_from-here : (n m : ℕ) (rs : List Row) (row : Row) → list_all is_skipped rs ≡ true → is_skipped row ≡ false → m ≡ n + length rs → head_from n (rs ++ row ∷ []) ≡ head_at m row
 head_from-here n m [] row h k e = let f : m ≡ n = omega arith in rw (k, f) refl
 head_from-here n m (r ∷ rs) row h k e =
-    let b = both (is_skipped r) (list_all is_skipped rs) h in
+    let b = and_parts (is_skipped r) (list_all is_skipped rs) h in
     let f : m ≡ n + 1 + length rs = omega arith in
     rw b.0 (head_from-here (n + 1) m rs row b.1 k f)
 
 head_from-skipped : (n : ℕ) (rs : List Row) → list_all is_skipped rs ≡ true → head_from n rs ≡ None
 head_from-skipped n [] h = refl
-head_from-skipped n (r ∷ rs) h = let b = both (is_skipped r) (list_all is_skipped rs) h in rw b.0 (head_from-skipped (n + 1) rs b.1)
+head_from-skipped n (r ∷ rs) h = let b = and_parts (is_skipped r) (list_all is_skipped rs) h in rw b.0 (head_from-skipped (n + 1) rs b.1)
 
 onto-append : (o : Option Part) (xs ys : List Part) → onto o (xs ++ ys) ≡ onto o xs ++ ys
 onto-append None xs ys = refl
@@ -83,7 +74,7 @@ parts_from-push n m (r ∷ rs) row e =
 
 parts_from-skipped : (n : ℕ) (rs : List Row) → list_all is_skipped rs ≡ true → parts_from n rs ≡ []
 parts_from-skipped n [] h = refl
-parts_from-skipped n (r ∷ rs) h = let b = both (is_skipped r) (list_all is_skipped rs) h in rw (skipped_no_part n r b.0) (parts_from-skipped (n + 1) rs b.1)
+parts_from-skipped n (r ∷ rs) h = let b = and_parts (is_skipped r) (list_all is_skipped rs) h in rw (skipped_no_part n r b.0) (parts_from-skipped (n + 1) rs b.1)
 
 -- ---- skipped lines
 
@@ -105,8 +96,8 @@ skips_more n rs number row left s h =
 skipped_at : (rs : List Row) (k j : ℕ) → list_all is_skipped (take k rs) ≡ true → j < k → k ≤ length rs → is_skipped (get_or rs j []) ≡ true
 skipped_at [] k j h lt le = refl
 skipped_at (r ∷ rs) zero j h lt le = absurd (omega arith)
-skipped_at (r ∷ rs) (suc k) zero h lt le = (both (is_skipped r) (list_all is_skipped (take k rs)) h).0
-skipped_at (r ∷ rs) (suc k) (suc j) h lt le = skipped_at rs k j (both (is_skipped r) (list_all is_skipped (take k rs)) h).1 (omega arith) (omega arith)
+skipped_at (r ∷ rs) (suc k) zero h lt le = (and_parts (is_skipped r) (list_all is_skipped (take k rs)) h).0
+skipped_at (r ∷ rs) (suc k) (suc j) h lt le = skipped_at rs k j (and_parts (is_skipped r) (list_all is_skipped (take k rs)) h).1 (omega arith) (omega arith)
 
 skipped_below : (n : ℕ) (rs : List Row) (k : ℕ) → list_all is_skipped (take k rs) ≡ true → k ≤ length rs → NoneRefusedBelow n rs k
 skipped_below n rs k h le = λ j lt. rw (skipped_at rs k j h lt le) refl
@@ -119,13 +110,10 @@ no_line n rs number s =
     let all : take s.count rs ≡ rs = take_all s.count rs (omega arith) in
     (s.count, s.number_is, record { least = skipped_below n rs s.count s.skipped s.within; fault = inr (e, sym (ap (list_all is_skipped) all) ∙ s.skipped) })
 
-taken_length : (rs : List Row) (k : ℕ) → k ≤ length rs → length (take k rs) ≡ k
-taken_length rs k h = omega (arith, length-take k rs)
-
 -- whether line k is refused, by what its look-backs give
 pub refusal : (n : ℕ) (rs : List Row) (k number : ℕ) (row : Row) (head : Option Head) (parts : List Part) → k ≤ length rs → number ≡ n + k → get_or rs k [] ≡ row → head_from n (take k rs) ≡ head → parts_from n (take k rs) ≡ parts → is_refused_at n rs k ≡ cond (is_skipped row) false (refuses head parts number row)
 refusal n rs k number row head parts le e r h p =
-    let f : n + length (take k rs) ≡ number = omega (arith, taken_length rs k le) in
+    let f : n + length (take k rs) ≡ number = omega (arith, length-take-le k rs le) in
     rw (r, h, p, f) refl
 
 pub no_head : (n : ℕ) (rs : List Row) (number : ℕ) (row : Row) (left : List Row) → Skips n rs number (row ∷ left) → is_skipped row ≡ false → head_at number row ≡ None → IsFault n rs number
@@ -139,7 +127,7 @@ opened n rs left head d o hd ps =
     let s = o.skips in
     let m = next_row rs s.count o.row left s.left_is in
     let t : take (s.count + 1) rs ≡ take s.count rs ++ o.row ∷ [] = take_more rs s.count [] m.0 ∙ ap (λ (r : Row). take s.count rs ++ r ∷ []) m.1 in
-    let len : head.line ≡ n + length (take s.count rs) = omega (arith, taken_length rs s.count s.within, s.number_is) in
+    let len : head.line ≡ n + length (take s.count rs) = omega (arith, length-take-le s.count rs s.within, s.number_is) in
     let r = refusal n rs s.count head.line o.row None [] s.within s.number_is m.1 (head_from-skipped n (take s.count rs) s.skipped) (parts_from-skipped n (take s.count rs) s.skipped) in
     record {
       count = s.count + 1;
@@ -152,9 +140,6 @@ opened n rs left head d o hd ps =
     }
 
 -- ---- the other lines
-
-same : (xs ys : List Part) → Some xs ≡ Some ys → xs ≡ ys
-same xs ys h = cc
 
 stands-taken : (head : Head) (parts : List Part) (o : Option Part) (after : List Part) → with_part head parts o ≡ Some after → (stands head parts o ≡ true) × (after ≡ parts ++ onto o [])
 stands-taken head parts None after h = absurd cc
@@ -176,7 +161,7 @@ taken-is : (head : Head) (parts : List Part) (number : ℕ) (row : Row) (after :
 taken-is head parts number row after h = tested (is_skipped row) refl h
   where
     tested : (b : Bool) → is_skipped row ≡ b → cond b (Some parts) (with_part head parts (part_at number row)) ≡ Some after → (cond b false (not (stands head parts (part_at number row))) ≡ false) × (after ≡ parts ++ onto (part_at number row) [])
-    tested true e h = let n = skipped_no_part number row e in (refl, rw n (sym (same parts after h) ∙ sym (append-nil parts)))
+    tested true e h = let n = skipped_no_part number row e in (refl, rw n (sym (same_Some parts after h) ∙ sym (append-nil parts)))
     tested false e h = let s = stands-taken head parts (part_at number row) after h in (ap not s.0, s.1)
 
 taken-none : (head : Head) (parts : List Part) (number : ℕ) (row : Row) → taken head parts number row ≡ None → cond (is_skipped row) false (refuses (Some head) parts number row) ≡ true
@@ -190,7 +175,7 @@ pub read_more : (n : ℕ) (rs : List Row) (number : ℕ) (row : Row) (left : Lis
 read_more n rs number row left d e s hd h =
     let m = next_row rs s.count row left s.left_is in
     let t : take (s.count + 1) rs ≡ take s.count rs ++ row ∷ [] = take_more rs s.count [] m.0 ∙ ap (λ (r : Row). take s.count rs ++ r ∷ []) m.1 in
-    let len : number ≡ n + length (take s.count rs) = omega (arith, taken_length rs s.count s.within, s.number_is) in
+    let len : number ≡ n + length (take s.count rs) = omega (arith, length-take-le s.count rs s.within, s.number_is) in
     let r = refusal n rs s.count number row (Some (head_of d)) (parts_of (body_of d)) s.within s.number_is m.1 s.head (sym s.parts) in
     let k = taken-is (head_of d) (parts_of (body_of d)) number row (parts_of (body_of e)) h in
     record {

@@ -4,6 +4,7 @@ use Rattle.std.specs.Option.{option_map}
 use Rattle.std.specs.Ordering.{int_eq}
 use Rattle.std.specs.List.{list_all, AllByRecursion}
 use Rattle.std.specs.Fmt.{decimal, signed_decimal}
+use Rattle.std.proofs.lemmas.Bool.{and_parts}
 use Rattle.std.proofs.lemmas.Bool.Decides.{nat_tests, Decides-int_eq}
 use Rattle.std.proofs.lemmas.Fmt.{decimal_by_steps}
 use Rattle.std.proofs.lemmas.List.{length_push}
@@ -16,10 +17,6 @@ use Rattle.doc_format.specs.Spelling.{with_count}
 
 abbrev IsDecimal : ℕ → List ℕ → Type 0
 IsDecimal n ds = (0 < length ds) × (list_all is_digit ds ≡ true) × (value_from 0 ds ≡ n)
-
-both : (x y : Bool) → (x && y) ≡ true → (x ≡ true) × (y ≡ true)
-both true y h = (refl, h)
-both false y h = absurd cc
 
 push_digit : (x y z : Bool) → (x && y) ≡ true → (y ≡ true → z ≡ true) → (x && z) ≡ true
 push_digit true y z h f = f h
@@ -51,7 +48,7 @@ digit_no_minus d h = grind (arith, nat_tests)
 numeral-digits : (n : ℕ) (ds : List ℕ) → IsDecimal n ds → numeral ds ≡ Some (pos n)
 numeral-digits n [] h = absurd (omega (arith, h.0))
 numeral-digits n (d ∷ ds) h =
-    let minus = digit_no_minus d (both (is_digit d) (list_all is_digit ds) h.1).0 in
+    let minus = digit_no_minus d (and_parts (is_digit d) (list_all is_digit ds) h.1).0 in
     let value = natural-digits n (d ∷ ds) h in
     rw (minus, value) refl
 
@@ -85,7 +82,7 @@ digit_plain d h = grind (arith, nat_tests)
 
 digits_plain : (ds : List ℕ) → list_all is_digit ds ≡ true → list_all is_plain ds ≡ true
 digits_plain [] h = refl
-digits_plain (d ∷ ds) h = let p = both (is_digit d) (list_all is_digit ds) h in rw (digit_plain d p.0) (digits_plain ds p.1)
+digits_plain (d ∷ ds) h = let p = and_parts (is_digit d) (list_all is_digit ds) h in rw (digit_plain d p.0) (digits_plain ds p.1)
 
 pub number_is_field : (z : ℤ) → IsKept z → IsField (signed_decimal z)
 number_is_field (pos n) h = let d = decimal_is n (omega arith) in (d.0, digits_plain (decimal n) d.1)

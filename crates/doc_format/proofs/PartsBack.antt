@@ -1,6 +1,7 @@
 -- A document's lines, written and read.
-use Rattle.std.proofs.Common.{◌≡◌, ℕ, ◌+◌, Bool, true, false, ◌&&◌, List, [], ◌∷◌, map, Some, ℤ, pos, refl, sym, ap, arith}
+use Rattle.std.proofs.Common.{◌≡◌, ℕ, ◌+◌, true, false, List, [], ◌∷◌, map, Some, ℤ, pos, refl, sym, ap, arith}
 use Rattle.std.specs.List.{list_all, AllByRecursion}
+use Rattle.std.proofs.lemmas.Bool.{and_parts}
 use Rattle.mb_base.specs.Rows.{is_skipped}
 use Rattle.mb_problem.specs.declared.kind.Kind.{Kind}
 use Rattle.mb_problem.specs.declared.kind.Kind.TheVariants.{Perfect, Match, BMatch, CapMatch, FFactor, TJoin, Postman, Path}
@@ -131,11 +132,7 @@ head_has_fields status kind weight h = ((omega arith, refl), (status_is_field st
 
 pub parts_back : (n : ℕ) (parts : List Part) → AllByRecursion HasKept parts → list_all is_formed parts ≡ true → parts_from n (map part_row parts) ≡ on_lines n parts
 parts_back n [] h f = refl
-parts_back n (part ∷ parts) h f = let g = both (is_formed part) (list_all is_formed parts) f in rw (part_back n part h.0 g.0) (ap (λ (l : List Part). on_line n part ∷ l) (parts_back (n + 1) parts h.1 g.1))
-  where
-    both : (x y : Bool) → (x && y) ≡ true → (x ≡ true) × (y ≡ true)
-    both true y h = (refl, h)
-    both false y h = absurd cc
+parts_back n (part ∷ parts) h f = let g = and_parts (is_formed part) (list_all is_formed parts) f in rw (part_back n part h.0 g.0) (ap (λ (l : List Part). on_line n part ∷ l) (parts_back (n + 1) parts h.1 g.1))
 
 pub parts_have_fields : (parts : List Part) → AllByRecursion HasKept parts → AllByRecursion HasFields (map part_row parts)
 parts_have_fields [] h = tt

@@ -3,6 +3,7 @@ use Rattle.std.proofs.Common.{◌≡◌, ℕ, ◌-◌, ◌<◌, Bool, true, fals
 use Rattle.std.specs.Prelude.{flat_map}
 use Rattle.std.specs.List.{list_all, AllByRecursion}
 use Rattle.std.specs.Str.Lines.{strip_carriage_return}
+use Rattle.std.proofs.lemmas.Bool.{and_parts}
 use Rattle.std.proofs.lemmas.List.Splits.{slice_split_at, slice_split_none}
 use Rattle.std.proofs.lemmas.List.Elements.{All-from_recursion}
 use Rattle.std.proofs.lemmas.List.{append-nil}
@@ -26,10 +27,6 @@ row_text-is (field ∷ others) rest =
 
 -- ---- plain bytes
 
-both : (x y : Bool) → (x && y) ≡ true → (x ≡ true) × (y ≡ true)
-both true y h = (refl, h)
-both false y h = absurd cc
-
 plain_parts : (x y z : Bool) → (not x && (not y && not z)) ≡ true → (x ≡ false) × (y ≡ false) × (z ≡ false)
 plain_parts false false false h = (refl, refl, refl)
 plain_parts false false true h = absurd cc
@@ -41,7 +38,7 @@ plain_is b h = plain_parts (is_blank b) (eqb b 10) (eqb b 13) h
 
 no_blank : (field : List ℕ) → list_all is_plain field ≡ true → AllByRecursion (λ b. is_blank b ≡ false) field
 no_blank [] h = tt
-no_blank (b ∷ bs) h = let p = both (is_plain b) (list_all is_plain bs) h in ((plain_is b p.0).0, no_blank bs p.1)
+no_blank (b ∷ bs) h = let p = and_parts (is_plain b) (list_all is_plain bs) h in ((plain_is b p.0).0, no_blank bs p.1)
 
 -- ---- fields
 
@@ -75,7 +72,7 @@ all-append P (x ∷ xs) ys h k = (h.0, all-append P xs ys h.1 k)
 
 field_ends_nothing : (field : List ℕ) → list_all is_plain field ≡ true → AllByRecursion ends_nothing field
 field_ends_nothing [] h = tt
-field_ends_nothing (b ∷ bs) h = let p = both (is_plain b) (list_all is_plain bs) h in let q = plain_is b p.0 in ((q.1, q.2), field_ends_nothing bs p.1)
+field_ends_nothing (b ∷ bs) h = let p = and_parts (is_plain b) (list_all is_plain bs) h in let q = plain_is b p.0 in ((q.1, q.2), field_ends_nothing bs p.1)
 
 others_end_nothing : (others : Row) → HasFields others → AllByRecursion ends_nothing (flat_map after_space others)
 others_end_nothing [] h = tt

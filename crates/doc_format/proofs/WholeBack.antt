@@ -1,9 +1,11 @@
 -- The text of a document reads back as it.
-use Rattle.std.proofs.Common.{◌≡◌, ℕ, zero, suc, ◌+◌, ◌<◌, Bool, true, false, cond, not, ◌&&◌, List, [], ◌∷◌, length, map, take, get_or, Some, pos, refl, sym, ap, subst, ◌∙◌, arith, inl, inr}
+use Rattle.std.proofs.Common.{◌≡◌, ℕ, zero, suc, ◌+◌, ◌<◌, Bool, true, false, cond, not, List, [], ◌∷◌, length, map, take, get_or, Some, pos, refl, sym, ap, subst, ◌∙◌, arith, inl, inr}
 use Rattle.std.specs.Prelude.{Result, Ok, Err, All}
 use Rattle.std.specs.List.{list_all, AllByRecursion}
+use Rattle.std.proofs.lemmas.Bool.{and_from}
+use Rattle.std.proofs.lemmas.Option.{same_Some}
 use Rattle.std.proofs.lemmas.List.{take-map, get_or-map, length-map}
-use Rattle.std.proofs.lemmas.List.Elements.{recursion_from_All}
+use Rattle.std.proofs.lemmas.List.Elements.{All-weaker, recursion_from_All}
 use Rattle.mb_base.specs.Rows.{Row, rows}
 use Rattle.doc_format.specs.declared.part.Part.{Part}
 use Rattle.doc_format.specs.declared.part.Part.TheVariants.{Count}
@@ -21,12 +23,8 @@ use Rattle.doc_format.proofs.PartsBack.{on_line, on_lines, HasKept, part_back, p
 use Rattle.doc_format.proofs.InOrder.{passes, all_taken, parts_in_order, in_order_at, parts_formed, admits-line, follow-lines}
 use Rattle.doc_format.proofs.Lines.{refusal}
 
-every : (P Q : Part → Type 0) → ((part : Part) → P part → Q part) → (parts : List Part) → AllByRecursion P parts → AllByRecursion Q parts
-every P Q f [] h = tt
-every P Q f (p ∷ ps) h = (f p h.0, every P Q f ps h.1)
-
-kept_parts : (parts : List Part) → All (λ part. All IsKept (numbers_of part)) parts → AllByRecursion HasKept parts
-kept_parts parts h = every (λ part. All IsKept (numbers_of part)) HasKept (λ part k. recursion_from_All IsKept (numbers_of part) k) parts (recursion_from_All (λ part. All IsKept (numbers_of part)) parts h)
+pub kept_parts : (parts : List Part) → All (λ part. All IsKept (numbers_of part)) parts → AllByRecursion HasKept parts
+kept_parts parts h = recursion_from_All HasKept parts (All-weaker (λ part. All IsKept (numbers_of part)) HasKept (λ part k. recursion_from_All IsKept (numbers_of part) k) parts h)
 
 kept_taken : (parts : List Part) (k : ℕ) → AllByRecursion HasKept parts → AllByRecursion HasKept (take k parts)
 kept_taken [] zero h = tt
@@ -41,10 +39,6 @@ kept_at (p ∷ ps) (suc k) d h lt = kept_at ps k d h.1 (omega arith)
 
 abbrev no_part : Part
 no_part = Count (record { line = 0; edge = pos 0; count = pos 0 })
-
-joined : (x y : Bool) → x ≡ true → y ≡ true → (x && y) ≡ true
-joined true y a b = b
-joined false y a b = absurd cc
 
 abbrev head_on : Document → ℕ → Head
 head_on d n = record { line = n; status = d.status; kind = d.kind; weight = d.weight }
@@ -67,7 +61,7 @@ part_stands d n m k kept lt =
     let letter : admits d.status d.kind (on_line m part) ≡ true = admits-line d.status d.kind m part ∙ passes (admits d.status d.kind) parts k no_part d.form.letters lt in
     let order : list_all (λ earlier. may_follow earlier (on_line m part)) (on_lines (n + 1) (take k parts)) ≡ true = follow-lines (n + 1) m (take k parts) part ∙ in_order_at parts k no_part (parts_in_order d.status d.kind d.weight (body_of d) d.form) lt in
     ap (stands (head_on d n) (on_lines (n + 1) (take k parts))) back
-    ∙ joined (admits d.status d.kind (on_line m part)) (list_all (λ earlier. may_follow earlier (on_line m part)) (on_lines (n + 1) (take k parts))) letter order
+    ∙ and_from (admits d.status d.kind (on_line m part)) (list_all (λ earlier. may_follow earlier (on_line m part)) (on_lines (n + 1) (take k parts))) letter order
 
 none_refused : (d : Document) (n : ℕ) → HasKeptNumbers d → (k : ℕ) → k < length (document_rows d false) → is_refused_at n (document_rows d false) k ≡ false
 none_refused d n kept zero lt = rw (head_read d (n + 0) kept) refl
@@ -84,15 +78,12 @@ none_refused d n kept (suc k) lt =
     ∙ ap (λ (b : Bool). cond b false (refuses (Some (head_on d n)) (on_lines (n + 1) (take k parts)) m (part_row part))) (part_there part)
     ∙ ap not (part_stands d n m k kept lt')
 
-text_back : (d : Document) → HasKeptNumbers d → rows (document_text d false) ≡ document_rows d false
+pub text_back : (d : Document) → HasKeptNumbers d → rows (document_text d false) ≡ document_rows d false
 text_back d kept = rows_back (document_rows d false) (head_has_fields d.status d.kind d.weight kept.weight, parts_have_fields (parts_of (body_of d)) (kept_parts (parts_of (body_of d)) kept.parts))
-
-same_head : (a b : Head) → Some a ≡ Some b → a ≡ b
-same_head a b h = cc
 
 gives_again : (d : Document) (n : ℕ) (answer : Result Document DocError) → HasKeptNumbers d → ReadsRows n (document_rows d false) answer → GivesAgain d answer
 gives_again d n (Ok e) kept holds =
-    let head : head_on d n ≡ head_of e = same_head (head_on d n) (head_of e) (sym (head_read d n kept) ∙ holds.head) in
+    let head : head_on d n ≡ head_of e = same_Some (head_on d n) (head_of e) (sym (head_read d n kept) ∙ holds.head) in
     let parts = parts_of (body_of d) in
     let back : parts_of (body_of e) ≡ on_lines (n + 1) parts = holds.parts ∙ parts_back (n + 1) parts (kept_parts parts kept.parts) (parts_formed d.status d.kind d.weight (body_of d) d.form) in
     record {

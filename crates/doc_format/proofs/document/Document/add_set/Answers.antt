@@ -1,16 +1,18 @@
-use Rattle.std.proofs.Common.{List, ◌∙◌, ap}
+use Rattle.std.proofs.Common.{List, refl, ◌∙◌, ap}
 use Rattle.doc_format.specs.declared.part.SetLine.{SetLine}
-use Rattle.doc_format.specs.Form.{parts_of}
+use Rattle.doc_format.specs.declared.part.Part.TheVariants.{Set}
+use Rattle.doc_format.specs.Form.{parts_of, IsDocument}
 use Rattle.doc_format.specs.Reading.{body_of, head_of}
-use Rattle.doc_format.proofs.OnePartMore.{set-after, set-parts}
+use Rattle.doc_format.proofs.OnePartMore.{parts_more, form_kept, after_push}
 use Rattle.doc_format.proofs.document.Document.add_set.Goals as goal
 
 pub invariant_of-self : goal.invariant_of-self
 invariant_of-self c =
     let d = c.args.self.now in
-    record { form = set-after c.push.result (head_of d) (body_of d) c.args.z c.push.new.self c.push.ensures.ok c.push.ensures.err d.form c.requires }
+    let kept = form_kept (head_of d) (body_of d) (Set c.args.z) c.requires refl d.form in
+    record { form = after_push (λ (l : List SetLine). IsDocument d.status d.kind d.weight (record (body_of d) { sets = l })) c.push.result d.sets c.args.z c.push.new.self c.push.ensures.ok c.push.ensures.err d.form kept }
 
 pub returns-clause-parts : goal.returns-clause-parts
 returns-clause-parts c =
     let d = c.args.self.now in
-    ap (λ (l : List SetLine). parts_of (record (body_of d) { sets = l })) c.in_ok-push.ensures.ok ∙ set-parts (head_of d) (body_of d) c.args.z c.requires
+    ap (λ (l : List SetLine). parts_of (record (body_of d) { sets = l })) c.in_ok-push.ensures.ok ∙ parts_more (head_of d) (body_of d) (Set c.args.z) c.requires

@@ -1,13 +1,14 @@
+use Rattle.doc_format.specs.declared.part.Part.TheVariants.{Split}
 use Rattle.doc_format.specs.Reading.{body_of, head_of}
-use Rattle.doc_format.proofs.OnePartMore.{split-keeps, split-parts}
+use Rattle.doc_format.proofs.OnePartMore.{parts_more, form_kept}
 use Rattle.doc_format.proofs.document.Document.add_split.Goals as goal
 
 pub invariant_of-self : goal.invariant_of-self
 invariant_of-self c =
     let d = c.args.self.now in
-    record { form = split-keeps (head_of d) (body_of d) c.args.q d.form c.requires.order c.requires.form }
+    record { form = form_kept (head_of d) (body_of d) (Split c.args.q) c.requires.order c.requires.form d.form }
 
 pub returns-clause-parts : goal.returns-clause-parts
 returns-clause-parts c =
     let d = c.args.self.now in
-    split-parts (head_of d) (body_of d) c.args.q c.requires.order
+    parts_more (head_of d) (body_of d) (Split c.args.q) c.requires.order
