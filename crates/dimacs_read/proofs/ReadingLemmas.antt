@@ -1,6 +1,7 @@
 -- Each text has exactly one reading: one first fault, or one instance.
 use Rattle.std.proofs.Common.{◌≡◌, ℕ, zero, suc, ◌+◌, ◌<◌, ◌⊎◌, List, length, Option, Some, None, sym, ap, ap₂, ◌∙◌, arith, inl, inr, refl}
 use Rattle.std.proofs.lemmas.Bool.{cases_lt, cases_eq}
+use Rattle.std.proofs.lemmas.Option.{same_Some}
 use Rattle.mb_base.specs.Rows.{Row}
 use Rattle.mb_problem.specs.declared.kind.Kind.{Kind}
 use Rattle.mb_problem.specs.declared.instance.InstanceEdge.{InstanceEdge}
@@ -14,19 +15,13 @@ use Rattle.dimacs_read.specs.declared.rest.Rest.{Rest}
 use Rattle.dimacs_read.specs.Law.{EachIsRead, OneFault, OneInstance, NoInstanceAndFault, OneRest}
 use Rattle.dimacs_read.proofs.EndLemmas.{fault_is}
 
-abbrev some_rule : Rule → Option Rule
-some_rule p = Some p
-
-some_is : (p q : Rule) → some_rule p ≡ some_rule q → p ≡ q
-some_is p q e = cc
-
 not_faultless : {A : Type 0} (o : Option A) (p : A) → o ≡ Some p → o ≡ None → ⊥
 not_faultless o p e f = cc
 
 two_lines : (rs : List Row) (p q : Rule) (j k : ℕ) → IsFirstFaulty rs p j → IsFirstFaulty rs q k → (p ≡ q) × (j ≡ k)
 two_lines rs p q j k a b =
     elim (cases_eq j k) [
-      | inl same ↦ (some_is p q (sym a.fault ∙ ap (fault_at rs) same ∙ b.fault), same)
+      | inl same ↦ (same_Some p q (sym a.fault ∙ ap (fault_at rs) same ∙ b.fault), same)
       | inr other ↦ elim (cases_lt j k) [
         | inl lt ↦ absurd (not_faultless (fault_at rs j) p a.fault (b.least j lt))
         | inr le ↦ let lt : k < j = omega (arith, other) in absurd (not_faultless (fault_at rs k) q b.fault (a.least k lt))
@@ -44,12 +39,6 @@ one_fault kind rs p q m n (j, e, inl a) (k, f, inr b) = absurd (not_faultless (f
 one_fault kind rs p q m n (j, e, inr a) (k, f, inl b) = absurd (not_faultless (fault_at rs k) q b.fault (a.faultless k b.there))
 one_fault kind rs p q m n (j, e, inr a) (k, f, inr b) = let t = two_ends kind rs p q j k a b in (t.0, omega (arith, t.1, e, f))
 
-abbrev some_sizes : Sizes → Option Sizes
-some_sizes s = Some s
-
-some_sizes_is : (s t : Sizes) → some_sizes s ≡ some_sizes t → s ≡ t
-some_sizes_is s t e = cc
-
 pub no_instance_and_fault : NoInstanceAndFault
 no_instance_and_fault kind rs i rule line h (k, e, inl a) = not_faultless (fault_at rs k) rule a.fault (h.faultless k a.there)
 no_instance_and_fault kind rs i rule line h (k, e, inr a) = not_faultless (end_fault kind (header_of rs) rs) (record { rule = rule; place = k }) a.fault (ap (λ (s : Option Sizes). end_fault kind s rs) h.header_is ∙ h.whole)
@@ -59,7 +48,7 @@ same_network i j e f = ap₂ (λ (es : List InstanceEdge) (vs : List ℕ). recor
 
 pub one_instance : OneInstance
 one_instance kind rs i j a b =
-    let same : a.header ≡ b.header = some_sizes_is a.header b.header (sym a.header_is ∙ b.header_is) in
+    let same : a.header ≡ b.header = same_Some a.header b.header (sym a.header_is ∙ b.header_is) in
     same_network i j (a.edges_are ∙ sym b.edges_are) (a.values_are ∙ ap (λ (s : Sizes). values_of (default_value_of kind) s.vertices rs) same ∙ sym b.values_are)
 
 -- ---- the first n lines have no fault, or one of them is the first that has

@@ -1,9 +1,9 @@
 -- One line more.
-use Rattle.std.proofs.Common.{◌-◌, ◌&&◌, zero, suc, eqb, replicate, ◌≡◌, ℕ, ◌+◌, ◌<◌, ◌≤◌, Bool, true, false, List, [], ◌∷◌, ◌++◌, length, take, drop, get_or, map, filter, Option, Some, None, refl, sym, ap, subst, ◌∙◌, arith}
+use Rattle.std.proofs.Common.{◌-◌, zero, suc, eqb, replicate, ◌≡◌, ℕ, ◌+◌, ◌≤◌, Bool, true, false, List, [], ◌∷◌, ◌++◌, length, take, drop, get_or, map, filter, Option, Some, None, refl, sym, ap, subst, ◌∙◌, arith}
 use Rattle.std.proofs.Common.{inl, inr, cond}
 use Rattle.std.specs.List.{find}
-use Rattle.std.proofs.lemmas.Bool.{cases_lt, cases_eq, eqb-true, eq-eqb, ne_eqb}
-use Rattle.std.proofs.lemmas.List.{drop_more, drop_all, take_more, map_push}
+use Rattle.std.proofs.lemmas.Bool.{and_right, cases_eq, eqb-true, eq-eqb, ne_eqb}
+use Rattle.std.proofs.lemmas.List.{take_more, map_push}
 use Rattle.std.proofs.lemmas.Slice.Eq.{bytes_eq-Decides}
 use Rattle.std.specs.Prelude.{codes}
 use borrow.Author.Count.{below_more}
@@ -13,6 +13,7 @@ use Rattle.dimacs_read.specs.declared.line.Node.{Node}
 use Rattle.std.specs.Option.{option_map, is_some}
 use Rattle.mb_problem.specs.declared.instance.InstanceEdge.{InstanceEdge}
 use Rattle.mb_base.specs.Rows.{Row, rows, is_skipped}
+use Rattle.mb_base.proofs.RowLemmas.{next_row}
 use Rattle.dimacs_read.specs.Rows.{is_header, is_edge, is_node, is_solution, instance_rows}
 use Rattle.dimacs_read.specs.Format.{value_in, names, natural_at, fault_of, header_at, edge_at, node_at, Sizes, header_of, sizes_in, edges_of, edge_of, fault_at, line_fault, NoFaultBelow, IsFirstFaulty, first_place, is_negative}
 use Rattle.std.specs.Prelude.{Result, Ok, Err}
@@ -33,20 +34,9 @@ use Rattle.std.proofs.lemmas.List.Elements.{All-push, All-replicate, All-set}
 use Rattle.dimacs_read.proofs.FieldsLemmas.{is_skipped-six, is_header-six, is_edge-six, is_solution-six, is_node-six, node_at-six, header_at-six, edge_at-six}
 use Rattle.dimacs_read.proofs.ValueLemmas.{header_is, edge_is, node_is, node_at-same, node_unnamed}
 
-next_row : (rs : List Row) (k : ℕ) (row : Row) (more : List Row) → drop k rs ≡ row ∷ more → (k < length rs) × (get_or rs k [] ≡ row) × (drop (k + 1) rs ≡ more)
-next_row rs k row more e =
-    elim (cases_lt k (length rs)) [
-      | inl lt ↦ let f = drop_more rs k [] lt in (lt, cc, cc)
-      | inr le ↦ let f = drop_all k rs le in absurd cc
-    ]
-
 find_push-no : (p : Row → Bool) (xs : List Row) (x : Row) → p x ≡ false → find p (xs ++ x ∷ []) ≡ find p xs
 find_push-no p [] x h = rw h refl
 find_push-no p (y ∷ ys) x h = ap (cond (p y) (Some y)) (find_push-no p ys x h)
-
-and_false : (x y : Bool) → y ≡ false → (x && y) ≡ false
-and_false true y h = h
-and_false false y h = refl
 
 no_value : (o : Option Row) → option_map (λ (r : Row). natural_at r 2) o ≡ None → o ≡ None
 no_value None e = refl
@@ -92,15 +82,6 @@ edge_kind (f ∷ fs) h = rw ((bytes_eq-Decides f (codes "e")).0 h) refl
 no_sizes : (o : Option Row) → sizes_in o ≡ None → o ≡ None
 no_sizes None e = refl
 no_sizes (Some row) e = absurd cc
-
-abbrev some_sizes : Sizes → Option Sizes
-some_sizes s = Some s
-
-sizes_vertices : (s t : Sizes) → some_sizes s ≡ some_sizes t → s.vertices ≡ t.vertices
-sizes_vertices s t e = ap (λ (z : Sizes). z.vertices) (some_is s t e)
-  where
-    some_is : (s t : Sizes) → some_sizes s ≡ some_sizes t → s ≡ t
-    some_is s t e = cc
 
 no_header : (h : Option Header) → sizes h ≡ None → h ≡ None
 no_header None e = refl
@@ -157,7 +138,7 @@ module _ (rs : List Row) (k : ℕ) (row : Row) (more : List Row) (at : drop k rs
   values_stay h v = ap (λ (r : List Row). value_in r v) took ∙ ap (option_map (λ (r : Row). natural_at r 2)) (find_push-no (names v) (take k rs) row (rw h refl))
 
   values_other : (v : ℕ) → (natural_at row 1 ≡ v → ⊥) → value_in (take (k + 1) rs) v ≡ value_in (take k rs) v
-  values_other v ne = ap (λ (r : List Row). value_in r v) took ∙ ap (option_map (λ (r : Row). natural_at r 2)) (find_push-no (names v) (take k rs) row (and_false (is_node row) (eqb (natural_at row 1) v) (ne_eqb (natural_at row 1) v ne)))
+  values_other v ne = ap (λ (r : List Row). value_in r v) took ∙ ap (option_map (λ (r : Row). natural_at r 2)) (find_push-no (names v) (take k rs) row (and_right (is_node row) (eqb (natural_at row 1) v) (ne_eqb (natural_at row 1) v ne)))
 
   values_here : is_node row ≡ true → value_in (take k rs) (natural_at row 1) ≡ None → value_in (take (k + 1) rs) (natural_at row 1) ≡ Some (natural_at row 2)
   values_here h none =
@@ -184,10 +165,6 @@ six_fault h named row =
     let i = is_node-six row in
     let j = node_at-six h named row in
     rw (a, b, d, e, f, i, j) refl
-
--- a vertex whose line is taken has had no value
-unnamed : (s : Option Sizes) (named : ℕ → Bool) (row : Row) (node : Node) → node_at s named row ≡ Ok node → named node.vertex ≡ false
-unnamed s named row node e = node_unnamed s named row node e
 
 not_some : (o : Option ℕ) → is_some o ≡ false → o ≡ None
 not_some None e = refl
@@ -305,7 +282,7 @@ module _ (rs : List Row) (k : ℕ) (row : Row) (more : List Row) (at : drop k rs
       let no_edge : is_edge row ≡ false = sym (is_edge-six row) ∙ given.1.1 in
       let at_row : node_at (sizes h) (is_valued vs) row ≡ Ok node = sym (node_at-six (sizes h) (is_valued vs) row) ∙ given.1.3 in
       let value = node_is (sizes h) (is_valued vs) row node at_row in
-      let unmarked : get_or vs (node.vertex - 1) None ≡ None = not_some _ (unnamed (sizes h) (is_valued vs) row node at_row) in
+      let unmarked : get_or vs (node.vertex - 1) None ≡ None = not_some _ (node_unnamed (sizes h) (is_valued vs) row node at_row) in
       let before : value_in (take k rs) (natural_at row 1) ≡ None = ap (value_in (take k rs)) value.0 ∙ sym (so_far.values_are node.vertex given.1.4) ∙ unmarked in
       let after : value_in (take (k + 1) rs) node.vertex ≡ Some node.value = ap (value_in (take (k + 1) rs)) (sym value.0) ∙ values_here rs k row more at is_one before ∙ ap (λ (n : ℕ). Some n) value.1 in
       record {

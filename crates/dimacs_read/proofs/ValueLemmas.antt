@@ -134,6 +134,7 @@ node_at-same s f g row h =
     ap (λ (r : Result Node Rule). cond (not (eqb (length row) 3)) (Err FieldCount) r)
     (same_from f g row (natural_in 1 s.vertices (field_at row 1)) (λ v e. let r = natural_range 1 s.vertices row 1 v e in h v r.0 r.1))
 
+-- a vertex whose line is taken has had no value
 pub node_unnamed : (h : Option Sizes) (named : ℕ → Bool) (row : Row) (node : Node) → node_at h named row ≡ Ok node → named node.vertex ≡ false
 unfolding node_at
 node_unnamed None named row node h = absurd cc

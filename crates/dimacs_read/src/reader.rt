@@ -166,7 +166,8 @@ fn kind_fault(
             let rule = Rule::PathEnds;
             Some(Fault { rule, place: lines })
         }
-        _ => None,
+        Kind::Perfect | Kind::Match | Kind::BMatch | Kind::CapMatch | Kind::FFactor | Kind::TJoin =>
+            None,
     }
 }
 
