@@ -1,0 +1,136 @@
+-- What the searches find: a path where nothing is left at its end, and a circuit where the path comes back.
+use Rattle.std.proofs.Common.{◌≡◌, ◌≢◌, ℕ, ◌+◌, ◌-◌, ◌%◌, ◌<◌, ◌≤◌, pos, ◌+ℤ◌, ◌<ℤ◌, cond, eqb, refl, ap, sym, ◌∙◌, subst, inl, inr, arith, List, [], length, slice_index, take, drop, length-drop, take-append-drop, All}
+use Rattle.std.proofs.lemmas.Int.{ints}
+use Rattle.std.proofs.lemmas.Bool.{cases_Bool}
+use Rattle.graph_theory.specs.Graph.{Multigraph, IsEdgeWithin, degree, weight}
+use Rattle.graph_theory.specs.Parts.{holds}
+use Rattle.graph_theory.specs.Walk.{walk_left, walk_weight, AllDiffer}
+use Rattle.graph_theory.proofs.Members.{holds_place}
+use Rattle.graph_theory.proofs.Walks.{walk-numbers}
+use Rattle.mb_problem.specs.declared.answer.Parity.TheVariants.{Empty}
+use Rattle.mb_problem.specs.Network.{Network, IsNetwork, graph_of}
+use Rattle.mb_problem.specs.Size.{odd_at}
+use Rattle.mb_problem.specs.Joins.{ListsJoin, listed_counts, odd_between}
+use Rattle.mb_problem.proofs.EdgeLemmas.{edges-count, network-graph}
+use Rattle.gadget_base.specs.Listed.{times}
+use Rattle.conservative_paths.specs.declared.trail.Trail.{Trail}
+use Rattle.conservative_paths.specs.Within.{IsPathWithin, IsNegativeCircuitWithin}
+use Rattle.conservative_paths.specs.Trails.{IsSettled, IsWayOver, IsOpen, IsClosed, IsNegativeEven, IsDrained, IsNegativeOver}
+use Rattle.conservative_paths.proofs.Numbers.{listed-at, listed-small, listed-weight, within-listed}
+use Rattle.conservative_paths.proofs.Ways.{way-circuit, way-within, stuck_at_target, apart-some, home-none}
+use Rattle.conservative_paths.proofs.Weights.{weight-none}
+use Rattle.conservative_paths.proofs.EvenSets.{between}
+use Rattle.conservative_paths.proofs.Steps.{places-differ, closed-below, closed-home, closed-parts}
+
+-- a walk of no edges over a set
+
+pub way-start : (g : Multigraph) (total : List ℕ) (base target : ℕ) → ((v : ℕ) → 1 ≤ v → v ≤ g.vertices → (degree g total v + cond (eqb target v) 1 0 + cond (eqb base v) 1 0) % 2 ≡ 0) → IsWayOver g total total base target base []
+way-start g total base target even = record {
+  walk = tt;
+  ends = refl;
+  shared = λ k b. let none : times [] (k + 1) ≡ 0 = refl in omega (arith, none);
+  parity = even;
+}
+
+pub join-start : (i : Network) (s t : ℕ) (join : List ℕ) → s ≢ t → ListsJoin i (odd_between s t) join → IsWayOver (graph_of i) (listed_counts join (length i.edges)) (listed_counts join (length i.edges)) s t s []
+join-start i s t join apart lists = way-start (graph_of i) (listed_counts join (length i.edges)) s t
+    (λ v low high. let odd = lists.join.degrees v low high in let is = between s t v apart in omega (arith, odd, is))
+
+pub even-start : (g : Multigraph) (counts : List ℕ) (base : ℕ) → IsNegativeEven g counts → IsWayOver g counts counts base base base []
+even-start g counts base is = way-start g counts base base (λ v low high. let even = is.even v low high in omega (arith, even))
+
+pub join-even : (i : Network) (join : List ℕ) → ListsJoin i (odd_at Empty i) join → walk_weight (graph_of i) join <ℤ pos 0 → IsNegativeEven (graph_of i) (listed_counts join (length i.edges))
+join-even i join lists negative =
+    let g = graph_of i in
+    let size = edges-count i in
+    let whole : weight g (listed_counts join (length i.edges)) ≡ walk_weight g join = ap (λ (n : ℕ). weight g (listed_counts join n)) (sym size) ∙ listed-weight g join lists.ascending lists.in_range in
+    record {
+      small = λ k b. listed-small join (length i.edges) k (omega (arith, size, b));
+      even = λ v low high. lists.join.degrees v low high;
+      negative = omega (arith, ints, negative, whole);
+    }
+
+-- at its end a path between the two odd vertices has come to the other one
+
+pub path-found : (i : Network) (s t : ℕ) (join left : List ℕ) (trail : Trail) → IsNetwork i → s ≢ t → IsOpen (graph_of i) (listed_counts join (length i.edges)) left s t trail → IsSettled (graph_of i) left trail.here → IsPathWithin (graph_of i) join s t s trail.edges.items
+path-found i s t join left trail ok apart r settled =
+    let g = graph_of i in
+    let total = listed_counts join (length i.edges) in
+    let way = r.trail.way in
+    let home = stuck_at_target g total left s t trail.here trail.edges.items (network-graph i ok).ends way r.trail.within settled in
+    let arrives = way.ends ∙ home in
+    record {
+      starts = refl;
+      walk = way.walk;
+      arrives = arrives;
+      some = apart-some g s t trail.edges.items apart arrives;
+      no_vertex_twice = subst AllDiffer r.vertices (places-differ trail.place.items trail.vertices.items r.trail.places);
+      within = within-listed g join trail.edges.items (length i.edges) (sym (edges-count i)) (walk-numbers g s trail.edges.items way.walk) (λ k b. let s = way.shared k b in omega (arith, s));
+    }
+
+-- a circuit
+
+pub circuit-found : (g : Multigraph) (total left : List ℕ) (base target place : ℕ) (t : Trail) → All (IsEdgeWithin g.vertices) g.edges → ((k : ℕ) → k < length g.edges → slice_index total k ≤ 1) → IsClosed g total left base target place t → walk_weight g (drop place t.edges.items) <ℤ pos 0 → IsNegativeOver g total t.here (drop place t.edges.items)
+circuit-found g total left base target place t ends small r negative =
+    let front = take place t.edges.items in
+    let rest = drop place t.edges.items in
+    let parts = closed-parts g total left base target place t r in
+    let home = closed-home g total left base target place t r in
+    let below = closed-below g total left base target place t r in
+    let D : List ℕ → Type 0 = λ es. AllDiffer (walk_left g base es) in
+    let differ : AllDiffer (walk_left g base t.edges.items) = subst AllDiffer r.vertices (places-differ t.place.items t.vertices.items r.trail.places) in
+    record {
+      circuit = way-circuit g total left base target t.here front rest ends small parts (subst D (sym (take-append-drop place t.edges.items)) differ) home (omega (arith, below, length-drop place t.edges.items));
+      within = way-within g total left base target t.here front rest parts;
+      negative = negative;
+    }
+
+pub circuit-within : (i : Network) (join counts : List ℕ) (start : ℕ) (edges : List ℕ) → ((k : ℕ) → k < length (graph_of i).edges → slice_index counts k ≤ slice_index (listed_counts join (length i.edges)) k) → IsNegativeOver (graph_of i) counts start edges → IsNegativeCircuitWithin (graph_of i) join start edges
+circuit-within i join counts start edges fewer is =
+    let g = graph_of i in
+    record {
+      circuit = is.circuit;
+      within = within-listed g join edges (length i.edges) (sym (edges-count i)) (walk-numbers g start edges is.circuit.walk) (λ k b. let w = is.within k b in let f = fewer k b in omega (arith, w, f));
+      negative = is.negative;
+    }
+
+-- a path that is stuck at its start is empty, and what is left is even and weighs less than 0
+
+pub drained : (g : Multigraph) (total left : List ℕ) (base : ℕ) (t : Trail) → All (IsEdgeWithin g.vertices) g.edges → IsNegativeEven g total → IsOpen g total left base base t → (weight g left +ℤ walk_weight g t.edges.items) <ℤ pos 0 → IsSettled g left t.here → IsDrained g base total left
+drained g total left base t ends even r less settled =
+    let way = r.trail.way in
+    let home = stuck_at_target g total left base base t.here t.edges.items ends way r.trail.within settled in
+    let differ = subst AllDiffer r.vertices (places-differ t.place.items t.vertices.items r.trail.places) in
+    let none : t.edges.items ≡ [] = home-none g base t.edges.items differ (way.ends ∙ home) in
+    let L : List ℕ → Type 0 = λ xs. (weight g left +ℤ walk_weight g xs) <ℤ pos 0 in
+    let less' = subst L none less in
+    let S : ℕ → Type 0 = IsSettled g left in
+    record {
+      even = record {
+        small = λ k b. let s = way.shared k b in let m = even.small k b in omega (arith, s, m);
+        even = λ v low high.
+            let p = way.parity v low high in
+            let same : cond {A = ℕ} (eqb t.here v) 1 0 ≡ cond {A = ℕ} (eqb base v) 1 0 = ap (λ (x : ℕ). cond {A = ℕ} (eqb x v) 1 0) home in
+            omega (arith, p, same);
+        negative = omega (arith, ints, less');
+      };
+      settled = subst S home settled;
+      fewer = λ k b. let s = way.shared k b in omega (arith, s);
+    }
+
+-- where none of the edges of a set is left nothing is
+
+pub all-gone : (i : Network) (join left : List ℕ) → ((k : ℕ) → k < length (graph_of i).edges → slice_index left k ≤ slice_index (listed_counts join (length i.edges)) k) → ((j : ℕ) → j < length join → slice_index left (slice_index join j - 1) ≡ 0) → weight (graph_of i) left ≡ pos 0
+all-gone i join left fewer none =
+    let size = edges-count i in
+    weight-none (graph_of i) left (λ k b. elim (cases_Bool (holds join (k + 1))) [
+      | inl on ↦
+          let place = holds_place join (k + 1) on in
+          let at : slice_index left (slice_index join place.0 - 1) ≡ slice_index left k = ap (slice_index left) (let is = place.2 in let z : slice_index join place.0 - 1 ≡ k = omega (arith, is) in z) in
+          sym at ∙ none place.0 place.1
+      | inr off ↦
+          let f = fewer k b in
+          let is = listed-at join (length i.edges) k (omega (arith, size, b)) in
+          let zero : cond {A = ℕ} (holds join (k + 1)) 1 0 ≡ 0 = ap (λ t. cond {A = ℕ} t 1 0) off in
+          omega (arith, f, is, zero)
+    ])

@@ -1,0 +1,7 @@
+mod Looked
+mod Numbers
+mod Ways
+mod Weights
+mod EvenSets
+mod Steps
+mod Found

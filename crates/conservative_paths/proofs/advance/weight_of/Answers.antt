@@ -1,0 +1,16 @@
+use Rattle.std.proofs.Common.{◌≡◌, ℕ, ◌+◌, ◌+ℤ◌, drop, get_or, ap, arith, ◌∙◌}
+use Rattle.std.proofs.lemmas.Int.{ints}
+use Rattle.std.proofs.lemmas.List.{at_drop_more, get_or_read}
+use Rattle.graph_theory.specs.Graph.{edge_of}
+use Rattle.graph_theory.specs.Walk.{walk_weight}
+use Rattle.conservative_paths.proofs.advance.weight_of.Goals as goal
+
+pub loop-edge-preserved : goal.loop-edge-preserved
+loop-edge-preserved c =
+    let g = c.args.graph.now in
+    let es = c.args.edges.now in
+    let k = c.loop-edge.edge-index in
+    let rest : walk_weight g (drop k es) ≡ (edge_of g (get_or es k 0)).w +ℤ walk_weight g (drop (k + 1) es) = at_drop_more (walk_weight g) es k 0 c.loop-edge-test.true in
+    let here : c.edge-item.result ≡ get_or es k 0 = get_or_read es k c.edge-item.result c.loop-edge-test.true c.edge-item.is 0 in
+    let weight : c.edge.result.2 ≡ (edge_of g (get_or es k 0)).w = c.edge.ensures.weight ∙ ap (λ (e : ℕ). (edge_of g e).w) here in
+    record { sum = omega (arith, ints); low = omega (arith, ints); high = omega (arith, ints) }

@@ -1,0 +1,16 @@
+use Rattle.std.proofs.Common.{pos, ◌+ℤ◌, ◌<ℤ◌, length, slice_index}
+use Rattle.graph_theory.specs.Sums.{sum_to}
+use Rattle.graph_theory.specs.Graph.{weight}
+use Rattle.graph_theory.specs.Walk.{walk_weight}
+use Rattle.conservative_paths.specs.Trails.{IsLeft, IsOpen}
+use Rattle.conservative_paths.proofs.circuit.close_from.Given as goal
+
+abbrev pub invariant-loop-step : goal.invariant-loop-step
+invariant-loop-step l = record {
+  left : IsLeft l.graph l.left;
+  path : IsOpen l.graph l.fn.left.counts.items l.left.counts.items l.fn.base l.fn.base l.trail;
+  less : (weight l.graph l.left.counts.items +ℤ walk_weight l.graph l.trail.edges.items) <ℤ pos 0;
+}
+
+abbrev pub decreases-loop-step : goal.decreases-loop-step
+decreases-loop-step l = sum_to (slice_index l.left.counts.items) (length l.graph.edges)

@@ -1,0 +1,42 @@
+use Rattle.std.proofs.Common.{◌≡◌, ℕ, ◌+◌, List, length, slice_index, drop, Option, MatchOption, subst, sym, ap, ◌∙◌, arith}
+use Rattle.std.proofs.lemmas.Int.{ints}
+use Rattle.graph_theory.specs.Graph.{Multigraph}
+use Rattle.mb_problem.specs.Network.{graph_of}
+use Rattle.mb_problem.specs.Joins.{listed_counts}
+use Rattle.conservative_paths.specs.Trails.{IsNegativeEven, IsDrained, IsNegativeOver}
+use Rattle.conservative_paths.specs.Within.{IsNegativeCircuitWithin}
+use Rattle.conservative_paths.proofs.Found.{join-even, circuit-within, all-gone}
+use Rattle.conservative_paths.proofs.circuit.negative_circuit.Goals as goal
+
+pub loop-edge-init : goal.loop-edge-init
+loop-edge-init c =
+    let i = c.args.instance.now in
+    let counts : c.in_ok-left.left.counts.items ≡ listed_counts c.args.join.now.edges (length i.edges) = c.in_ok-left.ensures.counts ∙ ap (λ (es : List ℕ). listed_counts es (length i.edges)) c.as_slice.ensures in
+    record {
+      left = c.in_ok-left.ensures.left;
+      room = c.in_ok-trail.ensures ∙ ap (λ (n : ℕ). n + 1) c.vertices.ensures.count;
+      even = subst (IsNegativeEven (graph_of i)) (sym counts) (join-even i c.args.join.now.edges c.requires.even c.requires.negative);
+      fewer = λ k b. let same = ap (λ (xs : List ℕ). slice_index xs k) counts in omega (arith, same);
+      none = λ j b. absurd (omega (arith, b));
+    }
+
+pub returns-in-Some : goal.returns-in-Some
+returns-in-Some c =
+    let i = c.args.instance.now in
+    let old = c.loop-edge.left.counts.items in
+    let new = c.close_from.new.trail in
+    let M : Option ℕ → Type 0 = λ found. MatchOption found (IsDrained c.in_ok-graph.graph c.edge-base.result.0 old c.close_from.new.left.counts.items) (λ place. IsNegativeOver c.in_ok-graph.graph old new.here (drop place new.edges.items)) in
+    let found : IsNegativeOver c.in_ok-graph.graph old new.here (drop c.in-Some.place new.edges.items) = subst M c.in-Some.is c.in_ok-place.ensures.found in
+    let G : Multigraph → Type 0 = λ g. IsNegativeOver g old new.here (drop c.in-Some.place new.edges.items) in
+    let is = circuit-within i c.args.join.now.edges old new.here (drop c.in-Some.place new.edges.items) c.loop-edge.invariant.fewer (subst G c.in_ok-graph.ensures found) in
+    let E : List ℕ → Type 0 = IsNegativeCircuitWithin (graph_of i) c.args.join.now.edges new.here in
+    record { circuit = subst E (sym (c.from_vec-edges.ensures ∙ c.in_ok-split_off.ensures.tail)) is }
+
+pub returns : goal.returns
+returns c =
+    let i = c.args.instance.now in
+    let size : length c.as_slice-edge-items.result.now ≡ length c.args.join.now.edges = ap length c.as_slice-edge-items.ensures in
+    let past = c.loop-edge-test.false in
+    let zero = all-gone i c.args.join.now.edges c.loop-edge.left.counts.items c.loop-edge.invariant.fewer (λ j b. c.loop-edge.invariant.none j (omega (arith, b, size, past))) in
+    let less = c.loop-edge.invariant.even.negative in
+    record { circuit = absurd (omega (arith, ints, zero, less)) }

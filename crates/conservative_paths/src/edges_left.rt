@@ -1,0 +1,100 @@
+ghost use Rattle.std.specs.Prelude.{◌≡◌, ℕ, ◌+◌, ◌-◌, ◌<◌, ◌≤◌, length, slice_index, All, IfOk, MatchOption};
+ghost use Rattle.graph_theory.specs.Graph.{IsEdgeNumber};
+ghost use Rattle.weighted_graph.specs.Index.{IsIndex};
+ghost use Rattle.mb_problem.specs.Network.{graph_of};
+ghost use Rattle.mb_problem.specs.Joins.{listed_counts};
+ghost use Rattle.conservative_paths.specs.Trails.{IsLeft, IsSettled, Takes};
+
+use mb_base::{EdgeId, OutOfMemory, VertexId};
+use mb_problem::Instance;
+use std::alloc::Global;
+use weighted_graph::{Graph, Incidence};
+
+/// Counts 1 for each edge that is listed, and 0 for each other one.
+fn counts_of(alloc: Global, m: u32, edges: &[EdgeId]) -> Result<Vec<u32>, OutOfMemory>
+    requires { All (λ e. (1 ≤ e) × (e ≤ m)) edges.now }
+    ensures { IfOk result (λ counts. counts.items ≡ listed_counts edges.now m) }
+{
+    let mut counts = vec![in alloc; 0u32; m as usize]?;
+    for edge in edges {
+        counts[edge.number() as usize - 1] = 1;
+    }
+    Ok(counts)
+}
+
+/// The first place from this one on whose edge is left, or the end of the list.
+fn next_left(around: &[EdgeId], counts: &[u32], start: usize) -> usize
+    requires numbers { All (λ e. (1 ≤ e) × (e ≤ length counts.now)) around.now }
+    requires start { start ≤ length around.now }
+    ensures start { start ≤ result }
+    ensures end { result ≤ length around.now }
+    ensures before { (k : ℕ) → start ≤ k → k < result → slice_index counts.now (slice_index around.now k - 1) ≡ 0 }
+    ensures here { result < length around.now → 0 < slice_index counts.now (slice_index around.now result - 1) }
+{
+    for place in start..around.len() {
+        if counts[around[place].number() as usize - 1] > 0 {
+            return place;
+        }
+    }
+    around.len()
+}
+
+/// An edge, and the end of it that is come to.
+#[derive(Clone, Copy)]
+pub(crate) struct Step {
+    pub(crate) edge: EdgeId,
+    pub(crate) there: VertexId,
+}
+
+/// What is left of a set of edges: how often each edge is, and for each vertex how many of its edges
+/// were looked at, none of which is left.
+#[derive(Drop)]
+pub(crate) struct EdgesLeft {
+    pub(crate) counts: Vec<u32>,
+    pub(crate) looked: Vec<usize>,
+}
+
+impl EdgesLeft {
+    /// All of these edges.
+    pub(crate) fn of(
+        alloc: Global,
+        instance: &Instance,
+        edges: &[EdgeId],
+    ) -> Result<Self, OutOfMemory>
+        requires { All (IsEdgeNumber (graph_of instance.now)) edges.now }
+        ensures counts { IfOk result (λ left. left.counts.items ≡ listed_counts edges.now (length instance.now.edges)) }
+        ensures left { IfOk result (IsLeft (graph_of instance.now)) }
+    {
+        let counts = counts_of(alloc, instance.edges(), edges)?;
+        let looked = vec![in alloc; 0usize; instance.vertices() as usize + 1]?;
+        Ok(EdgesLeft { counts, looked })
+    }
+
+    /// Takes an edge that is left at the vertex, if there is one, and answers where it leads to.
+    pub(crate) fn take(
+        &mut self,
+        graph: &Graph,
+        index: &Incidence,
+        vertex: VertexId,
+    ) -> Option<Step>
+        requires index { IsIndex graph.now index.now }
+        requires vertex { vertex ≤ graph.now.vertices }
+        requires left { IsLeft graph.now self.old }
+        ensures left { IsLeft graph.now self.new }
+        ensures step { MatchOption result
+            ((self.new.counts.items ≡ self.old.counts.items) × IsSettled graph.now self.new.counts.items vertex)
+            (λ step. Takes graph.now vertex step.edge step.there self.old.counts.items self.new.counts.items) }
+    {
+        let around = index.at(vertex);
+        let at = vertex.number() as usize;
+        let place = next_left(around, &self.counts, self.looked[at]);
+        self.looked[at] = place;
+        if place == around.len() {
+            return None;
+        }
+        let edge = around[place];
+        self.counts[edge.number() as usize - 1] -= 1;
+        let there = graph.other_end(edge, vertex);
+        Some(Step { edge, there })
+    }
+}
