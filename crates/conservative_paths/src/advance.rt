@@ -1,4 +1,4 @@
-ghost use Rattle.std.specs.Prelude.{◌≡◌, ℕ, ◌+◌, ◌<◌, ◌≤◌, length, All, IfOk, OnOk};
+ghost use Rattle.std.specs.Prelude.{◌≡◌, ℕ, ◌+◌, ◌<◌, ◌≤◌, ◌↔◌, pos, ◌<ℤ◌, length, All, IsTrue, IfOk, OnOk};
 ghost use Rattle.graph_theory.specs.Graph.{IsGraph, IsEdgeNumber};
 ghost use Rattle.graph_theory.specs.Walk.{walk_weight};
 ghost use Rattle.conservative_paths.specs.Trails.{KeepsOpen, Advances};
@@ -17,6 +17,14 @@ fn weight_of(graph: &Graph, edges: &[EdgeId]) -> i128
         total += i128::from(graph.edge(*edge).2);
     }
     total
+}
+
+/// Whether the edges weigh less than 0 together.
+fn is_negative(graph: &Graph, edges: &[EdgeId]) -> bool
+    requires { All (IsEdgeNumber graph.now) edges.now }
+    ensures { IsTrue result ↔ (walk_weight graph.now edges.now <ℤ pos 0) }
+{
+    weight_of(graph, edges) < 0
 }
 
 /// Goes on over an edge, and cuts the path back where it comes to a vertex again.
@@ -55,7 +63,7 @@ pub(crate) fn go_on_or_close(
     let Some(place) = trail.follow(edge, there)? else {
         return Ok(None);
     };
-    if weight_of(graph, trail.since(place)) < 0 {
+    if is_negative(graph, trail.since(place)) {
         return Ok(Some(place));
     }
     trail.cut(place);

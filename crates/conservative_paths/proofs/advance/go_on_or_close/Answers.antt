@@ -1,5 +1,6 @@
-use Rattle.std.proofs.Common.{◌≡◌, ℕ, ◌∷◌, ◌++◌, [], pos, ◌≤ℤ◌, List, All, length, length-append, drop, Option, subst, sym, ap, ◌∙◌, arith}
-use Rattle.std.proofs.lemmas.Int.{ints}
+use Rattle.std.proofs.Common.{◌≡◌, refl, ℕ, ◌∷◌, ◌++◌, [], pos, ◌≤ℤ◌, ◌<ℤ◌, List, All, length, length-append, drop, Option, subst, sym, ap, ◌∙◌, arith}
+use Rattle.std.proofs.lemmas.Int.{ints, by_lt_z}
+use Rattle.std.proofs.lemmas.Bool.{false≢true}
 use Rattle.graph_theory.specs.Graph.{IsEdgeNumber}
 use Rattle.graph_theory.specs.Walk.{walk_weight}
 use Rattle.conservative_paths.specs.Trails.{Follows, GoesOn, ComesBack}
@@ -25,8 +26,8 @@ since-requires c =
     let size : length mid.edges.items ≡ length (old.edges.items ++ c.args.edge ∷ []) = ap length comes.edges in
     omega (arith, below, listed, size, length-append old.edges.items (c.args.edge ∷ []))
 
-pub weight_of-requires : goal.weight_of-requires
-weight_of-requires c =
+pub is_negative-requires : goal.is_negative-requires
+is_negative-requires c =
     let old = c.args.trail.now in
     let mid = c.follow.new.self in
     let p = c.in-Some.place in
@@ -36,8 +37,8 @@ weight_of-requires c =
     let N : List ℕ → Type 0 = All (IsEdgeNumber c.args.graph.now) in
     subst N (sym is) (numbers-since (IsEdgeNumber c.args.graph.now) old.edges.items c.args.edge p c.requires.numbers c.requires.number)
 
-pub returns-then-weight_of-lt0 : goal.returns-then-weight_of-lt0
-returns-then-weight_of-lt0 c =
+pub returns-then-is_negative : goal.returns-then-is_negative
+returns-then-is_negative c =
     let old = c.args.trail.now in
     let mid = c.follow.new.self in
     let p = c.in-Some.place in
@@ -45,11 +46,10 @@ returns-then-weight_of-lt0 c =
     let F : Option ℕ → Type 0 = Follows c.args.edge c.args.there old mid in
     let comes : ComesBack c.args.edge c.args.there p old mid = subst F c.in-Some.is c.in_ok-place.ensures in
     let same : walk_weight g c.since.result.now ≡ walk_weight g (drop p mid.edges.items) = ap (walk_weight g) c.since.ensures in
-    let weight = c.weight_of.ensures in
-    let less = c.if-weight_of-lt0.true in
+    let less : walk_weight g c.since.result.now <ℤ pos 0 = c.if-is_negative.ensures.0 refl in
     record {
       closed = closed-comes g c.args.edge c.args.there p old mid c.requires.graph.ends comes;
-      negative = omega (arith, ints, same, weight, less);
+      negative = omega (arith, ints, same, less);
     }
 
 pub returns : goal.returns
@@ -61,7 +61,7 @@ returns c =
     let F : Option ℕ → Type 0 = Follows c.args.edge c.args.there old mid in
     let comes : ComesBack c.args.edge c.args.there p old mid = subst F c.in-Some.is c.in_ok-place.ensures in
     let same : walk_weight g c.since.result.now ≡ walk_weight g (drop p mid.edges.items) = ap (walk_weight g) c.since.ensures in
-    let weight = c.weight_of.ensures in
-    let not_less = c.if-weight_of-lt0.false in
-    let low : pos 0 ≤ℤ walk_weight g (drop p mid.edges.items) = omega (arith, ints, same, weight, not_less) in
+    let low : pos 0 ≤ℤ walk_weight g (drop p mid.edges.items) = by_lt_z (walk_weight g (drop p mid.edges.items)) (pos 0)
+    (λ less. absurd (false≢true (c.if-is_negative.ensures.1 (omega (arith, ints, same, less)))))
+    (λ more. more) in
     keeps-back g c.args.edge c.args.there p old mid c.cut.new.self c.requires.graph.ends comes c.cut.ensures low
