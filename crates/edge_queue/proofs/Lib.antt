@@ -1,0 +1,7 @@
+pub mod Orders
+pub mod Exchanges
+pub mod Sifts
+pub mod Entries
+pub mod Items
+pub mod Changes
+pub mod Moves

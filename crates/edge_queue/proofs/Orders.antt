@@ -1,0 +1,83 @@
+-- Keys in heap order, and what one exchange on the way of a slot keeps.
+use Rattle.std.proofs.Common.{◌≡◌, ℕ, zero, suc, ◌+◌, ◌-◌, ◌*◌, ◌/◌, ◌<◌, ◌≤◌, ◌≢◌, sym, refl, ap, ◌∙◌, subst, ⊎_elim, arith}
+use Rattle.std.specs.Prelude.{ℤ, ◌≤ℤ◌}
+use Rattle.std.proofs.lemmas.Bool.{cases_eq}
+use Rattle.std.proofs.lemmas.Int.{ints}
+use Rattle.edge_queue.specs.Heaps.{IsHeap, IsRising, IsSinking, IsLesser}
+
+pub le_chain : (x y z : ℤ) → x ≤ℤ y → y ≤ℤ z → x ≤ℤ z
+le_chain x y z a b = omega (arith, ints)
+
+pub le_by : (x x' y y' : ℤ) → x ≡ x' → y ≡ y' → x' ≤ℤ y' → x ≤ℤ y
+le_by x x' y y' a b h = omega (arith, ints)
+
+-- two keys have changed places
+pub record IsSwapped (f g : ℕ → ℤ) (a b : ℕ) : Type 0 where
+  pub first : g a ≡ f b
+  pub second : g b ≡ f a
+  pub others : (i : ℕ) → i ≢ a → i ≢ b → g i ≡ f i
+
+-- up
+pub rise_steps : (f g : ℕ → ℤ) (j p n : ℕ) → 0 < j → p ≡ (j - 1) / 2 → j < n → f j ≤ℤ f p → IsSwapped f g j p → IsRising f j n → IsRising g p n
+rise_steps f g j p n low is within later s r = record {
+  others = λ q k a b c ne.
+      ⊎_elim
+      (λ (kj : k ≡ j). let qp : q ≡ p = omega arith in le_by (g q) (f j) (g k) (f p) (ap g qp ∙ s.second) (ap g kj ∙ s.first) later)
+      (λ (kj : k ≢ j). ⊎_elim
+      (λ (qp : q ≡ p). le_by (g q) (f j) (g k) (f k) (ap g qp ∙ s.second) (s.others k kj ne)
+      (le_chain (f j) (f p) (f k) later (r.others p k (omega arith) (omega arith) c kj)))
+      (λ (qp : q ≢ p). ⊎_elim
+      (λ (qj : q ≡ j). le_by (g q) (f p) (g k) (f k) (ap g qj ∙ s.first) (s.others k kj ne)
+      (subst (λ m. f m ≤ℤ f k) (sym is) (r.around k low (omega arith) (omega arith) c)))
+      (λ (qj : q ≢ j). le_by (g q) (f q) (g k) (f k) (s.others q qj qp) (s.others k kj ne) (r.others q k a b c kj))
+      (cases_eq q j))
+      (cases_eq q p))
+      (cases_eq k j);
+  around = λ k high a b c.
+      let up : ℕ = (p - 1) / 2 in
+      let first : g up ≡ f up = s.others up (λ e. absurd (omega arith)) (λ e. absurd (omega arith)) in
+      let step : f up ≤ℤ f p = r.others up p (omega arith) (omega arith) (omega arith) (λ e. absurd (omega arith)) in
+      ⊎_elim
+      (λ (kj : k ≡ j). le_by (g up) (f up) (g k) (f p) first (ap g kj ∙ s.first) step)
+      (λ (kj : k ≢ j). le_by (g up) (f up) (g k) (f k) first (s.others k kj (λ e. absurd (omega arith)))
+      (le_chain (f up) (f p) (f k) step (r.others p k a b c kj)))
+      (cases_eq k j);
+}
+
+-- down
+pub sink_steps : (f g : ℕ → ℤ) (j c n : ℕ) → IsLesser f n (j * 2 + 1) c → f c ≤ℤ f j → IsSwapped f g j c → IsSinking f j n → IsSinking g c n
+sink_steps f g j c n child earlier s r =
+    let low : j * 2 + 1 ≤ c = child.low in
+    let high : c ≤ j * 2 + 1 + 1 = child.high in
+    record {
+      others = λ q k a b kn ne.
+          ⊎_elim
+          (λ (qj : q ≡ j). ⊎_elim
+          (λ (kc : k ≡ c). le_by (g q) (f c) (g k) (f j) (ap g qj ∙ s.first) (ap g kc ∙ s.second) earlier)
+          (λ (kc : k ≢ c). le_by (g q) (f c) (g k) (f k) (ap g qj ∙ s.first) (s.others k (λ e. absurd (omega arith)) kc)
+          (child.least k (omega arith) (omega arith) kn))
+          (cases_eq k c))
+          (λ (qj : q ≢ j). ⊎_elim
+          (λ (kj : k ≡ j). let qp : q ≡ (j - 1) / 2 = omega arith in le_by (g q) (f ((j - 1) / 2)) (g k) (f c) (s.others q qj ne ∙ ap f qp) (ap g kj ∙ s.first)
+          (r.around c (omega arith) low (omega arith) child.within))
+          (λ (kj : k ≢ j). le_by (g q) (f q) (g k) (f k) (s.others q qj ne) (s.others k kj (λ e. absurd (omega arith))) (r.others q k a b kn qj))
+          (cases_eq k j))
+          (cases_eq q j);
+      around = λ k z a b kn.
+          let up : (c - 1) / 2 ≡ j = omega arith in
+          le_by (g ((c - 1) / 2)) (f c) (g k) (f k) (ap g up ∙ s.first) (s.others k (λ e. absurd (omega arith)) (λ e. absurd (omega arith)))
+          (r.others c k a b kn (λ e. absurd (omega arith)));
+    }
+
+-- the root has the least key
+root_within : (f : ℕ → ℤ) (n : ℕ) → IsHeap f n → (fuel k : ℕ) → k ≤ fuel → k < n → f 0 ≤ℤ f k
+root_within f n h zero k a b = let is : k ≡ 0 = omega arith in le_by (f 0) (f k) (f k) (f k) (ap f (sym is)) refl (omega (arith, ints))
+root_within f n h (suc fuel) k a b =
+    ⊎_elim
+    (λ (is : k ≡ 0). le_by (f 0) (f k) (f k) (f k) (ap f (sym is)) refl (omega (arith, ints)))
+    (λ (no : k ≢ 0). le_chain (f 0) (f ((k - 1) / 2)) (f k) (root_within f n h fuel ((k - 1) / 2) (omega arith) (omega arith))
+    (h.order ((k - 1) / 2) k (omega arith) (omega arith) b))
+    (cases_eq k 0)
+
+pub root_least : (f : ℕ → ℤ) (n k : ℕ) → IsHeap f n → k < n → f 0 ≤ℤ f k
+root_least f n k h b = root_within f n h k k (omega arith) b

@@ -1,0 +1,13 @@
+use Rattle.std.proofs.Common.{set}
+use Rattle.edge_queue.specs.Heaps.{key, IsRising}
+use Rattle.edge_queue.proofs.Sifts.{IsSifting}
+use Rattle.edge_queue.proofs.sift.rise.Given as goal
+
+abbrev pub invariant-loop-parent : goal.invariant-loop-parent
+invariant-loop-parent l = record {
+  sifting : IsSifting l.moments l.ages l.fn.places.items l.heap.items l.places.items l.count l.place l.slot;
+  order : IsRising (key l.moments (set l.heap.items l.place l.slot)) l.place l.count;
+}
+
+abbrev pub decreases-loop-parent : goal.decreases-loop-parent
+decreases-loop-parent l = l.place

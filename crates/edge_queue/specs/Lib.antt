@@ -1,0 +1,4 @@
+pub mod Moments
+pub mod Slots
+pub mod Heaps
+pub mod Fields

@@ -1,0 +1,127 @@
+ghost use Rattle.std.specs.Prelude.{◌≡◌, ◌<◌, ◌^◌, IfOk, Some, None, length, replicate, slice_index_or, slice_set};
+ghost use Rattle.edge_queue.specs.Slots.{IsLeastSlot};
+
+use crate::sift::settle;
+use crate::tables::{enter, exchange, numbers};
+use mb_base::OutOfMemory;
+use std::alloc::Global;
+use std::marker::Model;
+
+/// An indexed binary heap of slots by their moments; of equal moments the one that was set first stands
+/// first. Contracts see the list of the moments by slot.
+#[derive(Drop)]
+pub(crate) struct IndexedHeap {
+    // By slot: its moment, and how many were set before it.
+    moments: Vec<i64>,
+    ages: Vec<u64>,
+    next_age: u64,
+    // The slots, those that have a moment first, in heap order, and by slot its place among them.
+    heap: Vec<u32>,
+    places: Vec<u32>,
+    count: usize,
+}
+
+impl Model for IndexedHeap {
+    ghost use Rattle.std.specs.Prelude.{ℤ, List, Option};
+    ghost use Rattle.edge_queue.specs.Fields.{entries_of, IsSound};
+
+    ghost Value = { List (Option ℤ) };
+
+    ghost view = { entries_of };
+
+    ghost invariant = { IsSound };
+}
+
+impl IndexedHeap {
+    /// So many slots, none of which has a moment.
+    pub(crate) fn new(alloc: Global, size: u32) -> Result<IndexedHeap, OutOfMemory>
+        ensures { IfOk result (λ h. h ≡ replicate size None) }
+    {
+        let moments = vec![in alloc; 0i64; size as usize]?;
+        let ages = vec![in alloc; 0u64; size as usize]?;
+        let heap = numbers(alloc, size)?;
+        let places = numbers(alloc, size)?;
+        Ok(IndexedHeap {
+            moments,
+            ages,
+            next_age: 0,
+            heap,
+            places,
+            count: 0,
+        })
+    }
+
+    /// The moment of a slot.
+    pub(crate) fn moment(&self, slot: u32) -> Option<i64>
+        requires { slot < length self.now }
+        ensures { result ≡ slice_index_or self.now slot None }
+    {
+        let place = self.places[slot as usize] as usize;
+        if place < self.count {
+            return Some(self.moments[slot as usize]);
+        }
+        None
+    }
+
+    /// A slot whose moment is least, and its moment.
+    pub(crate) fn least(&self) -> Option<(u32, i64)>
+        ensures { IsLeastSlot self.now result }
+    {
+        if self.count == 0 {
+            return None;
+        }
+        let slot = self.heap[0];
+        Some((slot, self.moments[slot as usize]))
+    }
+
+    /// Gives a slot this moment.
+    pub(crate) fn set(&mut self, slot: u32, moment: i64)
+        requires { slot < length self.old }
+        ensures { self.new ≡ slice_set self.old slot (Some moment) }
+    {
+        self.moments[slot as usize] = moment;
+        self.ages[slot as usize] = self.next_age;
+        self.next_age = self.next_age.wrapping_add(1);
+        self.count = enter(&mut self.heap, &mut self.places, self.count, slot);
+        let place = self.places[slot as usize] as usize;
+        settle(
+            &self.moments,
+            &self.ages,
+            &mut self.heap,
+            &mut self.places,
+            self.count,
+            place,
+        );
+    }
+
+    /// Takes the moment of a slot away.
+    pub(crate) fn remove(&mut self, slot: u32)
+        requires { slot < length self.old }
+        ensures { self.new ≡ slice_set self.old slot None }
+    {
+        let place = self.places[slot as usize] as usize;
+        if place >= self.count {
+            return;
+        }
+        self.count -= 1;
+        exchange(&mut self.heap, &mut self.places, place, self.count);
+        if place == self.count {
+            return;
+        }
+        settle(
+            &self.moments,
+            &self.ages,
+            &mut self.heap,
+            &mut self.places,
+            self.count,
+            place,
+        );
+    }
+
+    /// Takes all moments away.
+    pub(crate) fn clear(&mut self)
+        ensures { self.new ≡ replicate (length self.old) None }
+    {
+        self.count = 0;
+    }
+}

@@ -1,0 +1,9 @@
+use blossom_arena::NodeId;
+use mb_base::EdgeId;
+
+/// What can have a moment: an edge or the node of a blossom.
+#[derive(Clone, Copy, PartialEq, Eq, Debug)]
+pub enum Item {
+    Edge(EdgeId),
+    Blossom(NodeId),
+}

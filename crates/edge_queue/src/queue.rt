@@ -1,0 +1,88 @@
+ghost use Rattle.std.specs.Prelude.{◌≡◌, ℕ, IfOk, Some, None, length};
+ghost use Rattle.edge_queue.specs.Moments.{Moments, no_moments, moment_of, with_moment, IsItem, IsLeast};
+
+use crate::heap::IndexedHeap;
+use crate::item::Item;
+use crate::slots::{is_numbered, item_of, slot_of};
+use mb_base::OutOfMemory;
+use std::alloc::{AllocError, Global};
+use std::marker::Model;
+
+/// The moments at which edges and blossoms have their next event: an indexed binary heap (chapter 26 asks
+/// for the least of all slacks and duals at each step). Contracts see the moment of each item that has one.
+#[derive(Drop)]
+pub struct EdgeQueue {
+    edges: u32,
+    nodes: u32,
+    heap: IndexedHeap,
+}
+
+impl Model for EdgeQueue {
+    ghost use Rattle.std.specs.Prelude.{◌≡◌, ◌+◌, ◌<◌, ◌^◌, length};
+    ghost use Rattle.edge_queue.specs.Moments.{Moments};
+    ghost use Rattle.edge_queue.specs.Slots.{by_item};
+
+    ghost Value = { Moments };
+
+    ghost view = { λ q. by_item q.edges q.heap };
+
+    ghost invariant = { λ q. (length q.heap ≡ q.edges + q.nodes) × (q.edges + q.nodes < 2 ^ 32) };
+}
+
+impl EdgeQueue {
+    /// A queue for the edges 1 to `edges` and the nodes 1 to `nodes`, none of which has a moment. No later
+    /// call takes memory. An error is want of memory, and there never is enough for 2^32 items.
+    pub fn new(alloc: Global, edges: u32, nodes: u32) -> Result<EdgeQueue, OutOfMemory>
+        ensures { IfOk result (λ q. q ≡ no_moments edges nodes) }
+    {
+        let Some(size) = edges.checked_add(nodes) else {
+            return Err(AllocError);
+        };
+        let heap = IndexedHeap::new(alloc, size)?;
+        Ok(EdgeQueue { edges, nodes, heap })
+    }
+
+    /// The moment of an item. Any number may be asked for, in constant time.
+    pub fn moment(&self, item: Item) -> Option<i64>
+        ensures { result ≡ moment_of self.now item }
+    {
+        if !is_numbered(self.edges, self.nodes, &item) {
+            return None;
+        }
+        self.heap.moment(slot_of(self.edges, &item))
+    }
+
+    /// An item whose moment is least, and its moment, in constant time. Of equal moments any may be given;
+    /// it is the one that was set first.
+    pub fn least(&self) -> Option<(Item, i64)>
+        ensures { IsLeast self.now result }
+    {
+        let (slot, moment) = self.heap.least()?;
+        Some((item_of(self.edges, slot), moment))
+    }
+
+    /// Gives an item this moment, whether it had one or not.
+    pub fn set(&mut self, item: Item, moment: i64)
+        requires { IsItem self.old item }
+        ensures { self.new ≡ with_moment self.old item (Some moment) }
+    {
+        let slot = slot_of(self.edges, &item);
+        self.heap.set(slot, moment);
+    }
+
+    /// Takes the moment of an item away. Where it had none, nothing happens.
+    pub fn remove(&mut self, item: Item)
+        requires { IsItem self.old item }
+        ensures { self.new ≡ with_moment self.old item None }
+    {
+        let slot = slot_of(self.edges, &item);
+        self.heap.remove(slot);
+    }
+
+    /// Takes all moments away, in constant time.
+    pub fn clear(&mut self)
+        ensures { self.new ≡ no_moments (length self.old.edges) (length self.old.blossoms) }
+    {
+        self.heap.clear();
+    }
+}
