@@ -8,6 +8,9 @@ use mb_base::{RealIn, RealOut, read_all, write_all};
 use std::process::ExitCode;
 use std::{env, io};
 
+/// More than any input that a bench makes.
+const INPUT_LIMIT: u64 = 1_073_741_824;
+
 /// Whether the document is to be read alone.
 fn reads_only(rt: &HostRuntime) -> bool {
     match env::args(rt) {
@@ -18,7 +21,7 @@ fn reads_only(rt: &HostRuntime) -> bool {
 
 fn main(rt: HostRuntime) -> ExitCode {
     let mut source = RealIn::new(rt.reader());
-    let Ok(bytes) = read_all(rt.alloc(), &mut source, 67_108_864) else {
+    let Ok(bytes) = read_all(rt.alloc(), &mut source, INPUT_LIMIT) else {
         return ExitCode::from(1u8);
     };
     let Ok(document) = read(rt.alloc(), &bytes, 1) else {
