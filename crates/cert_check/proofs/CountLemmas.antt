@@ -1,7 +1,8 @@
 -- The counts that the lines give to edges.
-use Rattle.std.proofs.Common.{◌≡◌, ℕ, suc, ◌+◌, ◌-◌, ◌<◌, ℤ, pos, ◌≤ℤ◌, Bool, true, false, cond, List, [], ◌∷◌, ◌++◌, length, get_or, map, take, slice_index, slice_set, refl, sym, ap, ◌∙◌, arith, int_eq, nat_abs}
+use Rattle.std.proofs.Common.{◌≡◌, ℕ, suc, ◌+◌, ◌-◌, ◌<◌, ℤ, pos, ◌≤ℤ◌, true, false, cond, List, [], ◌∷◌, ◌++◌, length, get_or, map, take, slice_index, slice_set, refl, sym, ap, ◌∙◌, arith, int_eq, nat_abs}
 use Rattle.std.proofs.Math.Decide.{ℕ_discrete}
 use Rattle.std.proofs.lemmas.Int.{ints}
+use Rattle.std.proofs.lemmas.Bool.{false_from_ne_true}
 use Rattle.std.proofs.lemmas.Bool.Decides.{Decides-int_eq}
 use Rattle.std.proofs.lemmas.List.{take_more, get_or-map, get_or-take, length-take-le, get_or-set_same, get_or-set_other, length-map, ext_get_or}
 use Rattle.std.proofs.lemmas.List.FromFn.{get_or-map-range_with_len, length-map-range_with_len}
@@ -13,12 +14,8 @@ use Rattle.certificates.proofs.AscentLemmas.{ascends-below}
 int_eq-refl : (z : ℤ) → int_eq z z ≡ true
 int_eq-refl z = (Decides-int_eq z z).1 refl
 
-false_where : (b : Bool) → (b ≡ true → ⊥) → b ≡ false
-false_where true h = absurd (h refl)
-false_where false h = refl
-
 int_eq-false : (y z : ℤ) → (y ≡ z → ⊥) → int_eq y z ≡ false
-int_eq-false y z h = false_where (int_eq y z) (λ t. h ((Decides-int_eq y z).0 t))
+int_eq-false y z h = false_from_ne_true (int_eq y z) (λ t. h ((Decides-int_eq y z).0 t))
 
 count_of-other : (xs : List CountLine) (x : CountLine) (e : ℕ) → int_eq x.edge (pos e) ≡ false → count_of (xs ++ x ∷ []) e ≡ count_of xs e
 count_of-other [] x e other = rw other refl

@@ -4,11 +4,12 @@ use Rattle.std.specs.Prelude.{◌==◌}
 use Rattle.std.proofs.lemmas.Bool.{false≢true}
 use Rattle.std.proofs.lemmas.List.Elements.{All-get_or, All-from_get_or}
 use Rattle.graph_theory.specs.declared.edge.Edge.{Edge}
-use Rattle.graph_theory.specs.Graph.{no_edge, edge_at, IsEdgeWithin}
+use Rattle.graph_theory.specs.Graph.{no_edge, edge_at}
 use Rattle.graph_theory.specs.Parts.{holds, crosses, LeavesNone, IsVertexSet, IsOddPart, IsSplitPart}
-use Rattle.mb_problem.specs.Network.{Network, IsNetwork, vertices, value_of, graph_of, plain, instance_edge_at, no_instance_edge}
+use Rattle.graph_theory.proofs.Walks.{same_side}
+use Rattle.mb_problem.specs.Network.{Network, IsNetwork, vertices, value_of, graph_of, plain, instance_edge_at}
 use Rattle.mb_problem.specs.Marks.{AreMarks}
-use Rattle.mb_problem.proofs.EdgeLemmas.{edge_at-graph_of, edges-count}
+use Rattle.mb_problem.proofs.EdgeLemmas.{edge_at-graph_of, edges-count, edge-ends}
 use Rattle.cert_check.specs.Marked.{mark_of, AgreeAtEnds, HasEdgeMarked}
 
 mark-holds : (n : ℕ) (marks : List Bool) (set : List ℕ) (v : ℕ) → AreMarks n marks set → 1 ≤ v → v ≤ n → mark_of marks v ≡ holds set v
@@ -16,20 +17,11 @@ mark-holds n marks set v are low high =
     let back : v - 1 + 1 ≡ v = omega arith in
     are.each (v - 1) (omega arith) ∙ ap (holds set) back
 
-ends_at_place : (i : Network) (k : ℕ) → IsNetwork i → k < length i.edges → IsEdgeWithin (vertices i) (plain (instance_edge_at i k))
-ends_at_place i k ok below = (ok.edges k no_instance_edge below).ends
-
 stays : (p q : Bool) → p ≡ q → cond p (not q) q ≡ false
 stays true true h = refl
 stays true false h = absurd (false≢true (sym h))
 stays false true h = absurd (false≢true h)
 stays false false h = refl
-
-agree : (p q : Bool) → cond p (not q) q ≡ false → p ≡ q
-agree true true h = refl
-agree true false h = absurd (false≢true (sym h))
-agree false true h = absurd (false≢true (sym h))
-agree false false h = refl
 
 -- no edge has exactly one marked end exactly where no edge leaves the set
 pub agree-leaves : (i : Network) (marks : List Bool) (set : List ℕ) → IsNetwork i → AreMarks (vertices i) marks set → AgreeAtEnds i marks ↔ LeavesNone (graph_of i) set
@@ -37,15 +29,15 @@ agree-leaves i marks set ok are =
     let size : length (graph_of i).edges ≡ length i.edges = edges-count i in (
       (λ at_ends. All-from_get_or (λ (e : Edge). crosses set e ≡ false) (graph_of i).edges no_edge (λ k b.
           (let below : k < length i.edges = omega arith in
-          let ends = ends_at_place i k ok below in
+          let ends = edge-ends i k ok below in
           let same : holds set (instance_edge_at i k).u ≡ holds set (instance_edge_at i k).v =
           sym (mark-holds (vertices i) marks set (instance_edge_at i k).u are ends.u_low ends.u_high) ∙ at_ends k below ∙ mark-holds (vertices i) marks set (instance_edge_at i k).v are ends.v_low ends.v_high in
           subst (λ (e : Edge). crosses set e ≡ false) (sym (edge_at-graph_of i k)) (stays (holds set (instance_edge_at i k).u) (holds set (instance_edge_at i k).v) same)))),
       (λ closed k below.
           (let b : k < length (graph_of i).edges = omega arith in
-          let ends = ends_at_place i k ok below in
+          let ends = edge-ends i k ok below in
           let here : crosses set (plain (instance_edge_at i k)) ≡ false = subst (λ (e : Edge). crosses set e ≡ false) (edge_at-graph_of i k) (All-get_or (λ (e : Edge). crosses set e ≡ false) (graph_of i).edges k no_edge b closed) in
-          mark-holds (vertices i) marks set (instance_edge_at i k).u are ends.u_low ends.u_high ∙ agree (holds set (instance_edge_at i k).u) (holds set (instance_edge_at i k).v) here ∙ sym (mark-holds (vertices i) marks set (instance_edge_at i k).v are ends.v_low ends.v_high))),
+          mark-holds (vertices i) marks set (instance_edge_at i k).u are ends.u_low ends.u_high ∙ same_side (holds set (instance_edge_at i k).u) (holds set (instance_edge_at i k).v) here ∙ sym (mark-holds (vertices i) marks set (instance_edge_at i k).v are ends.v_low ends.v_high))),
     )
 
 -- an edge whose first end is marked as wanted
@@ -53,11 +45,11 @@ pub marked-edge : (i : Network) (marks : List Bool) (set : List ℕ) (wanted : B
 marked-edge i marks set wanted ok are =
     let size : length (graph_of i).edges ≡ length i.edges = edges-count i in (
       (λ h. (let below : h.0 < length i.edges = h.1 in
-          let ends = ends_at_place i h.0 ok below in
+          let ends = edge-ends i h.0 ok below in
           (h.0, omega arith, ap (λ (e : Edge). holds set e.u) (edge_at-graph_of i h.0) ∙ sym (mark-holds (vertices i) marks set (instance_edge_at i h.0).u are ends.u_low ends.u_high) ∙ h.2))),
       (λ h. (let b : h.0 < length (graph_of i).edges = h.1 in
           let below : h.0 < length i.edges = omega arith in
-          let ends = ends_at_place i h.0 ok below in
+          let ends = edge-ends i h.0 ok below in
           (h.0, below, mark-holds (vertices i) marks set (instance_edge_at i h.0).u are ends.u_low ends.u_high ∙ ap (λ (e : Edge). holds set e.u) (sym (edge_at-graph_of i h.0)) ∙ h.2))),
     )
 

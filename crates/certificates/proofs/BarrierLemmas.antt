@@ -1,5 +1,5 @@
 -- Barriers of documents, and what stands in documents that state no answer.
-use Rattle.std.proofs.Common.{◌≡◌, ℕ, ◌+◌, ◌<◌, ◌≤◌, ℤ, pos, ◌<ℤ◌, ◌≤ℤ◌, Bool, true, false, List, [], ◌∷◌, ◌++◌, length, map, All, get_or, nat_abs, refl, sym, subst, arith}
+use Rattle.std.proofs.Common.{◌≡◌, ℕ, ◌+◌, ◌<◌, ◌≤◌, ℤ, pos, ◌<ℤ◌, ◌≤ℤ◌, true, false, List, [], length, map, All, get_or, nat_abs, refl, sym, subst, arith}
 use Rattle.std.specs.List.{list_all}
 use Rattle.std.specs.List.Sorted.{IsStrictlyIncreasing}
 use Rattle.std.proofs.lemmas.Int.{ints}
@@ -11,9 +11,8 @@ use Rattle.mb_problem.specs.declared.kind.Kind.{Kind}
 use Rattle.doc_format.specs.declared.status.DocStatus.{DocStatus}
 use Rattle.doc_format.specs.declared.status.DocStatus.TheVariants.{Optimal, Infeasible, NonConservative}
 use Rattle.doc_format.specs.declared.part.SetLine.{SetLine}
-use Rattle.doc_format.specs.declared.part.Part.{Part}
-use Rattle.doc_format.specs.declared.part.Part.TheVariants.{Count, Walk, Dual, Set}
-use Rattle.doc_format.specs.Form.{ascends, admits, parts_of, at_most_one, Body}
+use Rattle.doc_format.specs.declared.part.Part.TheVariants.{Set}
+use Rattle.doc_format.specs.Form.{ascends, admits, parts_of, Body}
 use Rattle.doc_format.proofs.OnePartMore.{no_items, part_by_part}
 use Rattle.certificates.specs.Claims.{numbers}
 use Rattle.certificates.specs.Within.{IsUpTo}

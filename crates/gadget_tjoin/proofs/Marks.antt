@@ -1,5 +1,6 @@
 -- The numbers of marked places, ascending.
-use Rattle.std.proofs.Common.{◌≡◌, ℕ, ◌+◌, ◌<◌, ◌≤◌, Bool, true, false, cond, eqb, ◌||◌, refl, ap, sym, ◌∙◌, subst, inl, inr, arith, List, [], ◌∷◌, ◌++◌, slice_index_or, All}
+use Rattle.std.proofs.Common.{◌≡◌, ℕ, ◌+◌, ◌<◌, ◌≤◌, Bool, true, false, cond, eqb, ◌||◌, ap, sym, ◌∙◌, subst, inl, inr, arith, List, [], ◌∷◌, ◌++◌, slice_index_or, All}
+use Rattle.std.proofs.Math.Bool.{or-false}
 use Rattle.std.specs.List.Sorted.{IsStrictlyIncreasing}
 use Rattle.std.proofs.lemmas.Bool.{cases_eq, cases_Bool, eq-eqb, ne_eqb, or_right, false_from_ne_true}
 use Rattle.std.proofs.lemmas.List.Elements.{All-nil, All-cons, All-append}
@@ -11,10 +12,6 @@ pub record AreMarked (marks : List Bool) (n : ℕ) (es : List ℕ) : Type 0 wher
   pub ascending : IsStrictlyIncreasing es
   pub in_range : All (λ e. (1 ≤ e) × (e ≤ n)) es
   pub exact : (k : ℕ) → k < n → holds es (k + 1) ≡ slice_index_or marks k false
-
-or_false : (b : Bool) → (b || false) ≡ b
-or_false true = refl
-or_false false = refl
 
 wider : (n : ℕ) (es : List ℕ) → All (λ e. (1 ≤ e) × (e ≤ n)) es → All (λ e. (1 ≤ e) × (e ≤ n + 1)) es
 wider n es all = λ k d b. let e = all k d b in (e.0, let high = e.1 in omega (arith, high))
@@ -28,7 +25,7 @@ marked-on marks n es are on = record {
       holds-push es (n + 1) (k + 1)
       ∙ elim (cases_eq k n) [
         | inl e ↦ or_right (holds es (k + 1)) (eqb (n + 1) (k + 1)) (eq-eqb (n + 1) (k + 1) (omega (arith, e))) ∙ sym on ∙ ap (λ (j : ℕ). slice_index_or marks j false) (sym e)
-        | inr d ↦ ap (λ (t : Bool). holds es (k + 1) || t) (ne_eqb (n + 1) (k + 1) (λ e. d (omega (arith, e)))) ∙ or_false (holds es (k + 1)) ∙ are.exact k (omega (arith, b, d))
+        | inr d ↦ ap (λ (t : Bool). holds es (k + 1) || t) (ne_eqb (n + 1) (k + 1) (λ e. d (omega (arith, e)))) ∙ or-false (holds es (k + 1)) ∙ are.exact k (omega (arith, b, d))
       ];
 }
 
