@@ -20,6 +20,9 @@ use std::process::ExitCode;
 use std::{env, io};
 use weighted_graph::Graph;
 
+/// More than any input that a bench makes.
+const INPUT_LIMIT: u64 = 1_073_741_824;
+
 fn kind_of(word: &str) -> Option<Kind> {
     match word {
         "match" => Some(Kind::Match),
@@ -61,7 +64,7 @@ fn main(rt: HostRuntime) -> ExitCode {
     let Some((kind, times)) = words(&rt) else {
         return ExitCode::from(1u8);
     };
-    let Ok(bytes) = read_all(alloc, &mut RealIn::new(rt.reader()), 67_108_864) else {
+    let Ok(bytes) = read_all(alloc, &mut RealIn::new(rt.reader()), INPUT_LIMIT) else {
         return ExitCode::from(2u8);
     };
     let Ok((instance, _)) = read(alloc, &bytes, kind) else {
