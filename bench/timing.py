@@ -20,6 +20,7 @@ def compiled(name):
 def seconds(words, given, wanted=None, runs=7):
     """The least wall time of several runs, input from a file. Where `wanted` is given, the output is compared."""
     path = os.path.join(HERE, "out", "input")
+    os.makedirs(os.path.dirname(path), exist_ok=True)
     with open(path, "wb") as file:
         file.write(given)
     best = None
