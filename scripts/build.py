@@ -1,5 +1,5 @@
 #!/usr/bin/env python3
-"""Builds a program of this repository: the crates that it stands on first, as many side by side as there are processors.
+"""Builds a program of this repository: the crates that it stands on first, side by side, on all processors.
 
 Usage: build.py PROGRAM [--jobs N]. A crate is built once all that it stands on are; each is proved first. A line a crate goes
 to standard error, with its number and the time so far. Where it is interrupted, a later call goes on with what is left, since
@@ -56,13 +56,19 @@ def log_of(name):
     return os.path.join(TOP, "crates", name, "out", "build.log")
 
 
-def build(name, is_program):
-    """Builds one crate. Answers the status of the build."""
+def build(name, is_program, jobs):
+    """Builds one crate with this many jobs of the prover. Answers the status of the build."""
     folder = os.path.join(TOP, "crates", name)
     os.makedirs(os.path.join(folder, "out"), exist_ok=True)
-    words = ["rt", "run", "--jobs", "1", "--"] + TRIAL[0] if is_program else ["rt", "lib", "--jobs", "1"]
+    words = ["rt", "run", "--jobs", str(jobs), "--"] + TRIAL[0] if is_program else ["rt", "lib", "--jobs", str(jobs)]
     with open(log_of(name), "wb") as log:
         return subprocess.run(words, cwd=folder, input=TRIAL[1] if is_program else b"", stdout=log, stderr=log).returncode
+
+
+def shares(names, free):
+    """How many processors each of these crates gets, where so many are free: those that come first get what is left over."""
+    taken = names[:free]
+    return [(name, free // len(taken) + (place < free % len(taken))) for place, name in enumerate(taken)]
 
 
 def minutes(seconds):
@@ -85,11 +91,12 @@ def main():
     left = longest_first(below)
     with ThreadPoolExecutor(args.jobs) as pool:
         while left or running:
-            for name in [it for it in left if built.issuperset(below[it])][: args.jobs - len(running)]:
+            ready = [name for name in left if built.issuperset(below[name])]
+            for name, jobs in shares(ready, args.jobs - sum(jobs for _, jobs in running.values())):
                 left.remove(name)
-                running[pool.submit(build, name, name == args.program)] = name
+                running[pool.submit(build, name, name == args.program, jobs)] = name, jobs
             for future in wait(running, return_when=FIRST_COMPLETED).done:
-                name, status = running.pop(future), future.result()
+                (name, _), status = running.pop(future), future.result()
                 if status:
                     pool.shutdown(wait=False, cancel_futures=True)
                     report(args.program, name, status)
