@@ -8,11 +8,12 @@ use Rattle.augment.proofs.Flipped.{IsLoose, begins, goes_on}
 use Rattle.augment.proofs.Turning.{can_hop, is_hop}
 use Rattle.augment.proofs.Changed.{IsChanged, changed_first, changed_on}
 use Rattle.augment.proofs.Turned.{done, state_with}
-use Rattle.augment.proofs.flips.turn.Goals as goal
 use Rattle.std.specs.Prelude.{is_some}
 use Rattle.alt_forest.specs.declared.hop.Hop.{Hop}
 use Rattle.alt_forest.proofs.Hops.{hop_shorter}
 use Rattle.alt_forest.proofs.Counted.{no_entry}
+use Rattle.alt_forest.specs.Trees.{node_limit}
+use Rattle.augment.proofs.flips.turn.Goals as goal
 
 pub set_edge-requires : goal.set_edge-requires
 set_edge-requires c = record { place = mate_place c.args.search.now c.args.far c.requires.sound.shape c.requires.ends.far_is }
@@ -66,25 +67,19 @@ path-preserved c =
       changed = changed_on (state_of s) v.depth (nested_of s c.requires.sound.shape) v.state c.args.e c.args.near c.args.far (edge_in t.mates.items) c.path.edge c.path.node v.changed c.requires.ends.far_out v.loose.high_is v.loose.high_outer k above m now;
     }
 
-pub returns-clause-mates : goal.returns-clause-mates
-returns-clause-mates c =
+pub returns : goal.returns
+returns c =
     let s : Search = c.args.search.now in
     let t : Search = c.path.search in
     let v = c.path.invariant in
-    let d = done s v.depth c.args.far v.low c.path.edge c.path.node c.args.near (edge_in t.mates.items) (edge_in c.set_edge-2.new.edges.items) c.args.e c.requires.sound.shape v.state c.requires.ends v.loose v.changed (no_entry _ (ap not (sym (ap (λ o. is_some o) c.mate.ensures.mate) ∙ sym c.is_some.ensures ∙ c.path-test.false))) c.set_edge-2.ensures.edges in
-    subst HasMates (sym (state_with s t (record t { mates = c.set_edge-2.new.edges }) v.rest refl)) d.mates
-
-pub returns-clause-fewer : goal.returns-clause-fewer
-returns-clause-fewer c =
-    let s : Search = c.args.search.now in
-    let t : Search = c.path.search in
-    let v = c.path.invariant in
-    let d = done s v.depth c.args.far v.low c.path.edge c.path.node c.args.near (edge_in t.mates.items) (edge_in c.set_edge-2.new.edges.items) c.args.e c.requires.sound.shape v.state c.requires.ends v.loose v.changed (no_entry _ (ap not (sym (ap (λ o. is_some o) c.mate.ensures.mate) ∙ sym c.is_some.ensures ∙ c.path-test.false))) c.set_edge-2.ensures.edges in
-    ap (λ x. exposed_count x + 2) (state_with s t (record t { mates = c.set_edge-2.new.edges }) v.rest refl) ∙ d.fewer
-
-pub returns-clause-flipped : goal.returns-clause-flipped
-returns-clause-flipped c =
-    let s : Search = c.args.search.now in
-    let t : Search = c.path.search in
-    let v = c.path.invariant in
-    (done s v.depth c.args.far v.low c.path.edge c.path.node c.args.near (edge_in t.mates.items) (edge_in c.set_edge-2.new.edges.items) c.args.e c.requires.sound.shape v.state c.requires.ends v.loose v.changed (no_entry _ (ap not (sym (ap (λ o. is_some o) c.mate.ensures.mate) ∙ sym c.is_some.ensures ∙ c.path-test.false))) c.set_edge-2.ensures.edges).flipped
+    let m = edge_in c.set_edge-2.new.edges.items in
+    let none = no_entry _ (ap not (sym (ap (λ o. is_some o) c.mate.ensures.mate) ∙ sym c.is_some.ensures ∙ c.path-test.false)) in
+    let d = done s v.depth c.args.far v.low c.path.edge c.path.node c.args.near (edge_in t.mates.items) m c.args.e c.requires.sound.shape v.state c.requires.ends v.loose v.changed none c.set_edge-2.ensures.edges in
+    let state = state_with s t (record t { mates = c.set_edge-2.new.edges }) v.rest refl in
+    record {
+      rest = ap (λ (u : Search). record u { mates = c.set_edge-2.new.edges }) v.rest;
+      len = c.set_edge-2.ensures.len ∙ v.shape.mates ∙ ap (λ (u : Search). node_limit u.graph.vertices + 1) v.rest ∙ sym c.requires.sound.shape.mates;
+      mates = subst HasMates (sym state) d.mates;
+      fewer = ap (λ x. exposed_count x + 2) state ∙ d.fewer;
+      flipped = d.flipped;
+    }

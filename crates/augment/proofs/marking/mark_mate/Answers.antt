@@ -4,8 +4,8 @@ use Rattle.blossom_arena.specs.Family.{is_outermost}
 use Rattle.alt_forest.specs.Searches.{edge_in}
 use Rattle.augment.proofs.Holders.{spread_whole}
 use Rattle.augment.proofs.Marks.{IsMarked, nested_of, marked_mate, none_spread}
-use Rattle.augment.proofs.marking.mark_mate.Goals as goal
 use Rattle.std.proofs.lemmas.Option.{same_Some}
+use Rattle.augment.proofs.marking.mark_mate.Goals as goal
 
 pub returns-then-not-is_free-clause-spread : goal.returns-then-not-is_free-clause-spread
 returns-then-not-is_free-clause-spread c = none_spread c.args.graph.now c.args.arena.now (edge_in c.args.mates.now.items) (edge_in c.args.mates.now.items) c.args.node c.requires.can (sym c.is_free.ensures ∙ c.if-not-is_free.true)
