@@ -117,7 +117,8 @@ pub fn join_of(
     let join = match kind {
         Kind::TJoin => gadget_tjoin::extract(alloc, instance, &Parity::Values, &edges)?,
         Kind::Postman => gadget_tjoin::extract(alloc, instance, &Parity::OddDegrees, &edges)?,
-        _ => return Ok(None),
+        Kind::Perfect | Kind::Match | Kind::BMatch | Kind::CapMatch | Kind::FFactor | Kind::Path =>
+            return Ok(None),
     };
     Ok(Some(join))
 }
