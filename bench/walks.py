@@ -1,14 +1,15 @@
 #!/usr/bin/env python3
-"""Walking along all of 65,536 edges, of a graph of even degrees and of one where a join is walked twice, beside reading the same
-instance: both by `closed_walks`, in one run. What reading takes is left out of the walk's time."""
+"""Walking along all of 65,536 edges, of a graph of even degrees and of one where a join is walked twice, beside a plain program in C++ that
+reads the same instance. `walk_edges` walks 60 times in one run, and what a run without walks takes is left out."""
 import os
 import random
 import sys
 
-from timing import HERE, seconds
+from timing import HERE, compiled, seconds
 
-WALKER = os.path.join(HERE, "..", "crates", "closed_walks", "out", "closed_walks")
+WALKER = os.path.join(HERE, "..", "crates", "walk_edges", "out", "walk_edges")
 VERTICES, EDGES = 4096, 65536
+TIMES = 60
 MOST = 3
 
 
@@ -42,8 +43,8 @@ def any_degrees(draw):
 draw, good = random.Random(1), True
 for name, edges in (("even degrees", even_degrees(draw)), ("any degrees", any_degrees(draw))):
     given = text(edges, draw)
-    reading = seconds([WALKER, "read"], given, b"read\n")
-    walking = seconds([WALKER, "walk"], given, b"walked\n") - reading
+    reading = seconds([compiled("plain_reader")], given)
+    walking = (seconds([WALKER, str(TIMES)], given) - seconds([WALKER, "0"], given)) / TIMES
     good = good and walking <= MOST * reading
     print("closed walk, %-12s %d edges: %.1f ms, reading the instance %.1f ms, ratio %.2f (at most %d)"
           % (name, len(edges), walking * 1000, reading * 1000, walking / reading, MOST))
