@@ -5,3 +5,4 @@ pub mod Entries
 pub mod Items
 pub mod Changes
 pub mod Moves
+pub mod Maps

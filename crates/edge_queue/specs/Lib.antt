@@ -2,3 +2,4 @@ pub mod Moments
 pub mod Slots
 pub mod Heaps
 pub mod Fields
+pub mod Laws

@@ -5,6 +5,7 @@
 
 mod heap;
 mod item;
+mod law;
 mod order;
 mod queue;
 mod sift;
@@ -12,4 +13,5 @@ mod slots;
 mod tables;
 
 pub use item::Item;
+pub use law::laws;
 pub use queue::EdgeQueue;

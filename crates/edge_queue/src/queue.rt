@@ -61,7 +61,7 @@ impl EdgeQueue {
         Some((item_of(self.edges, slot), moment))
     }
 
-    /// Gives an item this moment, whether it had one or not.
+    /// Gives an item this moment, whether it had one or not, in time logarithmic in the number of moments.
     pub fn set(&mut self, item: Item, moment: i64)
         requires { IsItem self.old item }
         ensures { self.new ≡ with_moment self.old item (Some moment) }
@@ -70,7 +70,8 @@ impl EdgeQueue {
         self.heap.set(slot, moment);
     }
 
-    /// Takes the moment of an item away. Where it had none, nothing happens.
+    /// Takes the moment of an item away, in time logarithmic in the number of moments. Where it had none,
+    /// nothing happens.
     pub fn remove(&mut self, item: Item)
         requires { IsItem self.old item }
         ensures { self.new ≡ with_moment self.old item None }

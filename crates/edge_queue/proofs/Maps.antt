@@ -1,0 +1,57 @@
+-- The moments are a finite map.
+use Rattle.std.proofs.Common.{◌≡◌, ℕ, zero, suc, ◌-◌, ◌<◌, ◌≤◌, ◌≢◌, List, length, get_or, set, replicate, refl, sym, ap, ◌∙◌, ⊎_elim, arith, Option, Some, None}
+use Rattle.std.specs.Prelude.{ℤ}
+use Rattle.std.proofs.lemmas.Bool.{cases_lt}
+use Rattle.std.proofs.lemmas.List.{get_or-set_same, get_or-set_other, get_or-replicate, get_or_past, length-set, length-replicate}
+use Rattle.edge_queue.specs.declared.item.Item.{Item}
+use Rattle.edge_queue.specs.declared.item.Item.TheVariants.{Edge, Blossom}
+use Rattle.edge_queue.specs.Moments.{entry}
+use Rattle.edge_queue.specs.Laws.{NewHasNone, HasWhatIsSet, OthersStay, PlacesStay, OnlyItemsHave}
+
+entry_none : (n k : ℕ) → entry (replicate n None) k ≡ None
+entry_none n zero = refl
+entry_none n (suc k) =
+    ⊎_elim
+    (λ (low : k < n). get_or-replicate n k None None low)
+    (λ (high : n ≤ k). get_or_past (replicate n None) k None (omega (arith, high, length-replicate n (let none : Option ℤ = None in none))))
+    (cases_lt k n)
+
+entry_set : (xs : List (Option ℤ)) (k : ℕ) (m : Option ℤ) → 1 ≤ k → k ≤ length xs → entry (set xs (k - 1) m) k ≡ m
+entry_set xs zero m low high = absurd (omega (arith, low))
+entry_set xs (suc k) m low high =
+    let is : suc k - 1 ≡ k = omega arith in
+    ap (λ i. get_or (set xs i m) k None) is ∙ get_or-set_same xs k m None (omega (arith, high))
+
+entry_other : (xs : List (Option ℤ)) (k j : ℕ) (m : Option ℤ) → 1 ≤ k → j ≢ k → entry (set xs (k - 1) m) j ≡ entry xs j
+entry_other xs k zero m low ne = refl
+entry_other xs k (suc j) m low ne = get_or-set_other xs (k - 1) j m None (λ e. ne (let same : suc j ≡ k = omega arith in same))
+
+entry_within : (xs : List (Option ℤ)) (k : ℕ) (m : ℤ) → entry xs k ≡ Some m → (1 ≤ k) × (k ≤ length xs)
+entry_within xs zero m is = absurd (cc)
+entry_within xs (suc k) m is =
+    ⊎_elim
+    (λ (low : k < length xs). (omega arith, omega arith))
+    (λ (high : length xs ≤ k). let no : None ≡ Some m = sym (get_or_past xs k None high) ∙ is in absurd (cc))
+    (cases_lt k (length xs))
+
+pub new_has_none : NewHasNone
+new_has_none edges nodes (Edge e) = entry_none edges e
+new_has_none edges nodes (Blossom b) = entry_none nodes b
+
+pub has_what_is_set : HasWhatIsSet
+has_what_is_set q (Edge e) m h = entry_set q.edges e m h.0 h.1
+has_what_is_set q (Blossom b) m h = entry_set q.blossoms b m h.0 h.1
+
+pub others_stay : OthersStay
+others_stay q (Edge e) (Edge k) m h ne = entry_other q.edges e k m h.0 (λ s. ne (ap (λ i. let other : Item = Edge i in other) s))
+others_stay q (Edge e) (Blossom k) m h ne = refl
+others_stay q (Blossom b) (Edge k) m h ne = refl
+others_stay q (Blossom b) (Blossom k) m h ne = entry_other q.blossoms b k m h.0 (λ s. ne (ap (λ i. let other : Item = Blossom i in other) s))
+
+pub places_stay : PlacesStay
+places_stay q (Edge e) m = (length-set q.edges (e - 1) m, refl)
+places_stay q (Blossom b) m = (refl, length-set q.blossoms (b - 1) m)
+
+pub only_items_have : OnlyItemsHave
+only_items_have q (Edge e) m is = entry_within q.edges e m is
+only_items_have q (Blossom b) m is = entry_within q.blossoms b m is
