@@ -1,6 +1,7 @@
 -- The finished walk as an answer of the postman.
-use Rattle.std.proofs.Common.{◌≡◌, ℕ, ◌+◌, ◌-◌, ◌<◌, ◌≤◌, ap, true, arith, List, [], ◌∷◌, length}
+use Rattle.std.proofs.Common.{◌≡◌, ℕ, ◌+◌, ◌-◌, ◌<◌, ◌≤◌, ap, true, arith, List, [], ◌∷◌, length, cond, slice_index, subst, ◌∙◌}
 use Rattle.std.proofs.lemmas.Bool.{false≢true}
+use Rattle.graph_theory.specs.Graph.{Multigraph}
 use Rattle.graph_theory.specs.Parts.{holds}
 use Rattle.graph_theory.specs.Walk.{IsClosedWalk}
 use Rattle.mb_problem.specs.Network.{Network, graph_of}
@@ -29,3 +30,13 @@ tour-uses i start join walk closed uses met =
       some = some_held walk 1 (held 1 (omega arith) (omega arith));
       all = held;
     }
+
+-- the uses of each edge, where they were counted for as many edges and the same join
+pub uses-each : (uses join listed : List ℕ) (count m : ℕ) → count ≡ m → listed ≡ join → ((k : ℕ) → k < count → slice_index uses k ≡ 1 + cond (holds listed (k + 1)) 1 0) → (k : ℕ) → k < m → slice_index uses k ≡ 1 + cond (holds join (k + 1)) 1 0
+uses-each uses join listed count m size same each k b = subst (λ (xs : List ℕ). slice_index uses k ≡ 1 + cond (holds xs (k + 1)) 1 0) same (each k (omega (arith, size, b)))
+
+-- a walk that uses each edge so often uses each once and those of the join twice
+pub uses-walked : (i : Network) (g : Multigraph) (uses join walk : List ℕ) → g ≡ graph_of i → ((k : ℕ) → k < length i.edges → slice_index uses k ≡ 1 + cond (holds join (k + 1)) 1 0) → ((k : ℕ) → k < length g.edges → times walk (k + 1) ≡ slice_index uses k) → UsesOnceAndJoinTwice i join walk
+uses-walked i g uses join walk is each walked k b =
+    let size : length g.edges ≡ length i.edges = ap (λ (h : Multigraph). length h.edges) is ∙ edges-count i in
+    walked k (omega (arith, size, b)) ∙ each k b
