@@ -1,8 +1,10 @@
 -- What `solve` wrote in full is accepted by `check` where it follows the input.
 use Rattle.std.proofs.Common.{◌≡◌, ℕ, ◌≤◌, false, List, [], ◌∷◌, ◌++◌, length, Option, None, Some, refl, sym, ap, subst, ◌∙◌, arith}
 use Rattle.std.proofs.lemmas.List.{length-append, append_cancel_left}
+use Rattle.std.proofs.lemmas.Option.{same_Some}
 use Rattle.mb_base.specs.Rows.{Row, rows}
 use Rattle.graph_theory.specs.Limits.{IsWithinLimits}
+use Rattle.doc_format.proofs.WholeBack.{text_back}
 use Rattle.mb_base.specs.Streams.{Extends}
 use Rattle.mb_problem.specs.declared.kind.Kind.{Kind}
 use Rattle.mb_problem.specs.Network.{Network}
@@ -29,7 +31,7 @@ use Rattle.match_cli.specs.Answers.{instance_part, document_part, document_line,
 use Rattle.match_cli.specs.Runs.{IsAnswer, EndsLine, IsAccepted, IsAcceptedAgain}
 use Rattle.match_cli.proofs.CommandLines.{check_named}
 use Rattle.match_cli.proofs.InputParts.{rows-both, after-both, instance-alone, instance-before}
-use Rattle.match_cli.proofs.Renumbering.{renumbered, text_rows, text_holds}
+use Rattle.match_cli.proofs.Renumbering.{renumbered, text_holds}
 use Rattle.match_cli.proofs.KeptNumbers.{kept_numbers}
 use Rattle.match_cli.proofs.SameClaims.{proved-lines, truth-lines}
 
@@ -54,7 +56,7 @@ module _ (kind : Kind) (front : List ℕ) (i : Network) (d : Document) (alone : 
 
   same_part : instance_part whole ≡ instance_part input
   same_part =
-      ap instance_rows (rows-both front (document_text d false) ∙ ap (λ (l : List Row). rows input ++ l) (text_rows d read))
+      ap instance_rows (rows-both front (document_text d false) ∙ ap (λ (l : List Row). rows input ++ l) (text_back d read))
       ∙ instance-before (rows input) _ _ alone.alone refl
       ∙ sym (instance-alone (rows input) alone.alone)
 
@@ -100,15 +102,12 @@ solved_is_accepted kind bytes out short ends h =
 
 -- ---- of a run
 
-one_command : (a b : Command) → Some a ≡ Some b → a ≡ b
-one_command a b e = cc
-
 again_of : (words : List (List ℕ)) (before after taken_before taken_after : Option (List ℕ)) (out : List ℕ) → IsAnswer words before after out Done → Extends taken_before taken_after out → IsAcceptedAgain words before taken_before taken_after Done
 again_of words None after taken_before taken_after out h extends = tt
 again_of words (Some bytes) after None taken_after out h extends = tt
 again_of words (Some bytes) after (Some xs) None out h extends = tt
 again_of words (Some bytes) after (Some xs) (Some ys) out h extends = λ kind written solves ends is.
-    (let named : h.0.0 ≡ Solve kind false = one_command h.0.0 (Solve kind false) (sym h.0.1 ∙ solves) in
+    (let named : h.0.0 ≡ Solve kind false = same_Some h.0.0 (Solve kind false) (sym h.0.1 ∙ solves) in
     let answers : Answers (Solve kind false) bytes out Done = subst (λ (c : Command). Answers c bytes out Done) named h.0.3 in
     let short : length bytes ≤ SOLVE_BYTE_LIMIT = subst (λ (c : Command). length bytes ≤ limit_of c) named h.0.2 in
     let same : out ≡ written = append_cancel_left xs out written (sym extends ∙ is) in

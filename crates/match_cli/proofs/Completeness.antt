@@ -1,5 +1,6 @@
 -- Every input within the limits is answered: no refusal is for it.
 use Rattle.std.proofs.Common.{◌≡◌, ℕ, ◌<◌, ◌≤◌, List, [], length, Option, None, Some, inl, inr, sym, subst, ◌∙◌, arith}
+use Rattle.std.proofs.lemmas.Option.{same_Some}
 use Rattle.mb_problem.specs.declared.kind.Kind.{Kind}
 use Rattle.mb_problem.specs.Network.{Network}
 use Rattle.mb_problem.specs.Size.{size_of}
@@ -14,9 +15,6 @@ use Rattle.match_cli.specs.Commands.{command_of, limit_of}
 use Rattle.match_cli.specs.Answers.{instance_part, document_part, answer_place, InputHolds, RefusesInput, Answers, Out}
 use Rattle.match_cli.specs.Runs.{IsAnswer, IsInput, MayReject, IsAnswered, Completes}
 use Rattle.match_cli.proofs.InputParts.{place_none}
-
-same_command : (a b : Command) → Some a ≡ Some b → a ≡ b
-same_command a b e = cc
 
 no_command : (words : List (List ℕ)) (command : Command) → command_of words ≡ None → command_of words ≡ Some command → ⊥
 no_command words command none some = (let e : None ≡ Some command = sym none ∙ some in absurd cc)
@@ -49,7 +47,7 @@ not_long command other bytes same short long = (let past : limit_of command < le
 
 module _ (words : List (List ℕ)) (command : Command) (bytes out : List ℕ) (i : Network) (taken : command_of words ≡ Some command) (input : IsInput command bytes i) where
   same_as : (other : Command) → command_of words ≡ Some other → other ≡ command
-  same_as other e = same_command other command (sym e ∙ taken)
+  same_as other e = same_Some other command (sym e ∙ taken)
 
   answered : (status : Status) → Out words bytes out status → IsAnswered command status
   answered Done h = tt

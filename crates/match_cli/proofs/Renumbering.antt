@@ -1,10 +1,9 @@
 -- A document as it is read back from its text: the same, on lines that follow one another from line n on.
 use Rattle.std.proofs.Common.{◌≡◌, ℕ, zero, suc, ◌+◌, ◌<◌, ◌≤◌, ℤ, Bool, true, false, List, [], ◌∷◌, ◌++◌, length, map, Option, None, Some, refl, sym, ap, ◌∙◌, ◌⊎◌, inl, inr, arith}
-use Rattle.std.specs.Prelude.{Err, All}
-use Rattle.std.specs.List.{list_all, AllByRecursion}
+use Rattle.std.specs.Prelude.{Err}
+use Rattle.std.specs.List.{list_all}
 use Rattle.std.proofs.lemmas.Bool.{cases_Bool}
 use Rattle.std.proofs.lemmas.List.{length-map}
-use Rattle.std.proofs.lemmas.List.Elements.{recursion_from_All}
 use Rattle.mb_base.specs.Rows.{rows}
 use Rattle.mb_problem.specs.declared.kind.Kind.{Kind}
 use Rattle.doc_format.specs.declared.status.DocStatus.{DocStatus}
@@ -19,12 +18,11 @@ use Rattle.doc_format.specs.declared.document.Document.{Document}
 use Rattle.doc_format.specs.declared.error.DocError.TheVariants.{DocForm}
 use Rattle.doc_format.specs.Form.{Body, parts_of, at_most_one, admits, has_edges, have_order, IsDocument}
 use Rattle.doc_format.specs.Reading.{body_of, head_from, parts_from, is_refused_at, NoneRefusedBelow, HoldsDocument}
-use Rattle.doc_format.specs.Spelling.{numbers_of, part_row, document_rows, document_text}
-use Rattle.doc_format.specs.Law.{IsKept, HasKeptNumbers}
-use Rattle.doc_format.proofs.RowsBack.{rows_back}
-use Rattle.doc_format.proofs.PartsBack.{on_line, on_lines, HasKept, parts_back, parts_have_fields, head_back, head_has_fields}
+use Rattle.doc_format.specs.Spelling.{part_row, document_text}
+use Rattle.doc_format.specs.Law.{HasKeptNumbers}
+use Rattle.doc_format.proofs.PartsBack.{on_line, on_lines, parts_back, head_back}
 use Rattle.doc_format.proofs.InOrder.{parts_formed, admits-line}
-use Rattle.doc_format.proofs.WholeBack.{reads_back}
+use Rattle.doc_format.proofs.WholeBack.{reads_back, kept_parts, text_back}
 
 -- ---- the parts on their lines
 
@@ -185,18 +183,6 @@ renumbered n d =
 
 -- ---- its text holds it
 
-every : (P Q : Part → Type 0) → ((part : Part) → P part → Q part) → (parts : List Part) → AllByRecursion P parts → AllByRecursion Q parts
-every P Q f [] h = tt
-every P Q f (p ∷ ps) h = (f p h.0, every P Q f ps h.1)
-
-kept_parts : (d : Document) → HasKeptNumbers d → AllByRecursion HasKept (parts_of (body_of d))
-kept_parts d kept =
-    let parts = parts_of (body_of d) in
-    every (λ part. All IsKept (numbers_of part)) HasKept (λ part k. recursion_from_All IsKept (numbers_of part) k) parts (recursion_from_All (λ part. All IsKept (numbers_of part)) parts kept.parts)
-
-pub text_rows : (d : Document) → HasKeptNumbers d → rows (document_text d false) ≡ document_rows d false
-text_rows d kept = rows_back (document_rows d false) (head_has_fields d.status d.kind d.weight kept.weight, parts_have_fields (parts_of (body_of d)) (kept_parts d kept))
-
 below_or_at : (j n : ℕ) → j < suc n → (j < n) ⊎ (j ≡ n)
 below_or_at zero zero lt = inr refl
 below_or_at zero (suc n) lt = inl (omega arith)
@@ -226,8 +212,8 @@ pub text_holds : (d : Document) (n : ℕ) → HasKeptNumbers d → HoldsDocument
 text_holds d n kept =
     let parts = parts_of (body_of d) in
     let rs = rows (document_text d false) in
-    let are = text_rows d kept in
-    let back : parts_from (n + 1) (map part_row parts) ≡ on_lines (n + 1) parts = parts_back (n + 1) parts (kept_parts d kept) (parts_formed d.status d.kind d.weight (body_of d) d.form) in
+    let are = text_back d kept in
+    let back : parts_from (n + 1) (map part_row parts) ≡ on_lines (n + 1) parts = parts_back (n + 1) parts (kept_parts parts kept.parts) (parts_formed d.status d.kind d.weight (body_of d) d.form) in
     record {
       none_refused = none_refused d n kept;
       head = ap (head_from n) are ∙ head_back n d.status d.kind d.weight kept.weight d.form.headed d.form.no_weight;

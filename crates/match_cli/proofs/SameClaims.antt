@@ -1,13 +1,13 @@
 -- A document on other lines claims the same, and proves it as well.
-use Rattle.std.proofs.Common.{◌≡◌, ℕ, ◌+◌, ℤ, ◌%◌, pos, Bool, true, false, cond, eqb, not, List, [], ◌∷◌, ◌++◌, length, map, Option, None, Some, nat_abs, refl, sym, ap, subst, ◌∙◌, MatchOption}
+use Rattle.std.proofs.Common.{◌≡◌, ℕ, ◌+◌, ℤ, ◌%◌, pos, Bool, cond, eqb, not, List, [], ◌∷◌, ◌++◌, length, map, Option, None, Some, nat_abs, refl, sym, ap, subst, ◌∙◌, MatchOption}
 use Rattle.std.specs.Ordering.{int_eq}
 use Rattle.std.specs.List.{range_with_len, find}
-use Rattle.std.specs.Option.{option_map}
 use Rattle.std.proofs.lemmas.List.{map-append}
 use Rattle.graph_theory.specs.Barrier.{IsBarrier}
 use Rattle.graph_theory.specs.Parts.{IsOddPart, IsSplitPart}
 use Rattle.graph_theory.specs.Duals.{AreDuals, dual_value}
 use Rattle.graph_theory.specs.declared.odd_set.OddSet.{OddSet}
+use Rattle.certificates.proofs.WithinLemmas.{one_in_range}
 use Rattle.mb_problem.specs.declared.kind.Kind.{Kind}
 use Rattle.mb_problem.specs.declared.kind.AnswerForm.{AnswerForm}
 use Rattle.mb_problem.specs.declared.kind.AnswerForm.TheVariants as form
@@ -80,15 +80,11 @@ lines_fit kind i n d =
     (fits-append _ _ _ _ (member_fits certified barrier_at d.barrier)
     (fits-append _ _ _ _ (member_fits k odd_at d.odd) (member_fits k split_at d.split)))))))
 
-first_fits : (b : Bool) (c : Checked) (rest : Option Checked) → option_map (λ (l : Checked). l.line) (cond (not b) (Some c) rest) ≡ None → (b ≡ true) × (option_map (λ (l : Checked). l.line) rest ≡ None)
-first_fits true c rest h = (refl, h)
-first_fits false c rest h = absurd cc
-
 no_fault : (xs ys : List Checked) → fits xs ≡ fits ys → first_fault ys ≡ None → first_fault xs ≡ None
 no_fault [] ys e h = refl
 no_fault (x ∷ xs) [] e h = absurd cc
 no_fault (x ∷ xs) (y ∷ ys) e h =
-    let first = first_fits y.in_range y (find (λ (l : Checked). not l.in_range) ys) h in
+    let first = one_in_range y.in_range y (find (λ (l : Checked). not l.in_range) ys) h in
     let same : x.in_range ≡ y.in_range = cc in
     let more : fits xs ≡ fits ys = cc in
     rw (same, first.0) (no_fault xs ys more first.1)
