@@ -1,8 +1,8 @@
 -- What the searches find: a path where nothing is left at its end, and a circuit where the path comes back.
-use Rattle.std.proofs.Common.{◌≡◌, ◌≢◌, ℕ, ◌+◌, ◌-◌, ◌%◌, ◌<◌, ◌≤◌, pos, ◌+ℤ◌, ◌<ℤ◌, cond, eqb, refl, ap, sym, ◌∙◌, subst, inl, inr, arith, List, [], length, slice_index, take, drop, length-drop, take-append-drop, All}
+use Rattle.std.proofs.Common.{◌≡◌, ◌≢◌, ℕ, ◌+◌, ◌-◌, ◌<◌, ◌≤◌, pos, ◌+ℤ◌, ◌<ℤ◌, cond, eqb, refl, ap, sym, ◌∙◌, subst, inl, inr, arith, List, [], length, slice_index, take, drop, length-drop, take-append-drop, All}
 use Rattle.std.proofs.lemmas.Int.{ints}
 use Rattle.std.proofs.lemmas.Bool.{cases_Bool}
-use Rattle.graph_theory.specs.Graph.{Multigraph, IsEdgeWithin, degree, weight}
+use Rattle.graph_theory.specs.Graph.{Multigraph, IsEdgeWithin, weight}
 use Rattle.graph_theory.specs.Parts.{holds}
 use Rattle.graph_theory.specs.Walk.{walk_left, walk_weight, AllDiffer}
 use Rattle.graph_theory.proofs.Members.{holds_place}
@@ -10,34 +10,17 @@ use Rattle.graph_theory.proofs.Walks.{walk-numbers}
 use Rattle.mb_problem.specs.declared.answer.Parity.TheVariants.{Empty}
 use Rattle.mb_problem.specs.Network.{Network, IsNetwork, graph_of}
 use Rattle.mb_problem.specs.Size.{odd_at}
-use Rattle.mb_problem.specs.Joins.{ListsJoin, listed_counts, odd_between}
+use Rattle.mb_problem.specs.Joins.{ListsJoin, listed_counts}
 use Rattle.mb_problem.proofs.EdgeLemmas.{edges-count, network-graph}
-use Rattle.gadget_base.specs.Listed.{times}
 use Rattle.conservative_paths.specs.declared.trail.Trail.{Trail}
 use Rattle.conservative_paths.specs.Within.{IsPathWithin, IsNegativeCircuitWithin}
-use Rattle.conservative_paths.specs.Trails.{IsSettled, IsWayOver, IsOpen, IsClosed, IsNegativeEven, IsDrained, IsNegativeOver}
+use Rattle.conservative_paths.specs.Trails.{IsSettled, IsOpen, IsClosed, IsNegativeEven, IsDrained, IsNegativeOver}
 use Rattle.conservative_paths.proofs.Numbers.{listed-at, listed-small, listed-weight, within-listed}
 use Rattle.conservative_paths.proofs.Ways.{way-circuit, way-within, stuck_at_target, apart-some, home-none}
 use Rattle.conservative_paths.proofs.Weights.{weight-none}
-use Rattle.conservative_paths.proofs.EvenSets.{between}
 use Rattle.conservative_paths.proofs.Steps.{places-differ, closed-below, closed-home, closed-parts}
 
 -- a walk of no edges over a set
-
-pub way-start : (g : Multigraph) (total : List ℕ) (base target : ℕ) → ((v : ℕ) → 1 ≤ v → v ≤ g.vertices → (degree g total v + cond (eqb target v) 1 0 + cond (eqb base v) 1 0) % 2 ≡ 0) → IsWayOver g total total base target base []
-way-start g total base target even = record {
-  walk = tt;
-  ends = refl;
-  shared = λ k b. let none : times [] (k + 1) ≡ 0 = refl in omega (arith, none);
-  parity = even;
-}
-
-pub join-start : (i : Network) (s t : ℕ) (join : List ℕ) → s ≢ t → ListsJoin i (odd_between s t) join → IsWayOver (graph_of i) (listed_counts join (length i.edges)) (listed_counts join (length i.edges)) s t s []
-join-start i s t join apart lists = way-start (graph_of i) (listed_counts join (length i.edges)) s t
-    (λ v low high. let odd = lists.join.degrees v low high in let is = between s t v apart in omega (arith, odd, is))
-
-pub even-start : (g : Multigraph) (counts : List ℕ) (base : ℕ) → IsNegativeEven g counts → IsWayOver g counts counts base base base []
-even-start g counts base is = way-start g counts base base (λ v low high. let even = is.even v low high in omega (arith, even))
 
 pub join-even : (i : Network) (join : List ℕ) → ListsJoin i (odd_at Empty i) join → walk_weight (graph_of i) join <ℤ pos 0 → IsNegativeEven (graph_of i) (listed_counts join (length i.edges))
 join-even i join lists negative =

@@ -1,5 +1,5 @@
 mod Looked
-mod Numbers
+pub mod Numbers
 mod Ways
 mod Weights
 mod EvenSets

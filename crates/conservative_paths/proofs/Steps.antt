@@ -1,5 +1,5 @@
 -- The steps of a path that grows and is cut back.
-use Rattle.std.proofs.Common.{◌≡◌, ◌≢◌, ℕ, zero, suc, ◌+◌, ◌<◌, ◌≤◌, pos, ◌≤ℤ◌, ap, sym, ◌∙◌, subst, inl, inr, arith, List, [], ◌∷◌, ◌++◌, length, slice_index, take, drop, set, take-append-drop, All}
+use Rattle.std.proofs.Common.{◌≡◌, ◌≢◌, ℕ, ◌+◌, ◌<◌, ◌≤◌, pos, ◌≤ℤ◌, ap, sym, ◌∙◌, subst, inl, inr, arith, List, [], ◌∷◌, ◌++◌, length, slice_index, take, drop, set, take-append-drop, All}
 use Rattle.std.proofs.lemmas.Int.{ints}
 use Rattle.std.proofs.lemmas.Bool.{cases_eq}
 use Rattle.std.proofs.lemmas.Grind.{common_steps}
@@ -10,7 +10,7 @@ use Rattle.graph_theory.specs.Walk.{walk_end, walk_left, walk_vertices, walk_wei
 use Rattle.graph_theory.proofs.Edges.{edge_of_within, other_end-within}
 use Rattle.graph_theory.proofs.Walks.{vertices-left, left-length}
 use Rattle.conservative_paths.specs.declared.trail.Trail.{Trail}
-use Rattle.conservative_paths.specs.Trails.{Takes, IsWayOver, IsTrail, IsOpen, IsClosed, Begins, GoesOn, ComesBack, IsCut, KeepsOpen, KeepsWeight}
+use Rattle.conservative_paths.specs.Trails.{Takes, IsWayOver, IsTrail, IsOpen, IsClosed, GoesOn, ComesBack, IsCut, KeepsOpen, KeepsWeight}
 use Rattle.conservative_paths.proofs.Ways.{way-push, way-front, left-at, left-push, left-take}
 use Rattle.conservative_paths.proofs.Weights.{weight-push, weight-front}
 
@@ -26,10 +26,6 @@ places-differ place vertices each i j a b same =
     let other = each j b in
     let equal : slice_index place (slice_index vertices i) ≡ slice_index place (slice_index vertices j) = ap (slice_index place) same in
     omega (arith, a, one, other, equal)
-
-pub places-one : (place : List ℕ) (v : ℕ) → v < length place → KnowPlaces (set place v 0) (v ∷ [])
-places-one place v b zero low = get_or-set_same place v 0 0 b
-places-one place v b (suc i) low = absurd (omega (arith, low))
 
 pub places-push : (place vertices : List ℕ) (v : ℕ) → v < length place → KnowPlaces place vertices → (slice_index place v < length vertices → slice_index vertices (slice_index place v) ≢ v) → KnowPlaces (set place v (length vertices)) (vertices ++ v ∷ [])
 places-push place vertices v b each fresh i low =
@@ -57,22 +53,6 @@ both_new place place' vertices vertices' p v each =
     subst P (sym p) (subst (KnowPlaces place) (sym v) each)
 
 -- a path begins
-
-pub open-start : (g : Multigraph) (total : List ℕ) (base target : ℕ) (old new : Trail) → IsWayOver g total total base target base [] → (1 ≤ base) × (base ≤ g.vertices) → length old.place.items ≡ g.vertices + 1 → Begins base old new → IsOpen g total total base target new
-open-start g total base target old new way within size begins =
-    let W : ℕ → List ℕ → Type 0 = IsWayOver g total total base target in
-    let H : ℕ → Type 0 = λ h. IsWayOver g total total base target h new.edges.items in
-    let R : ℕ → Type 0 = λ h. (1 ≤ h) × (h ≤ g.vertices) in
-    let high = within.1 in
-    record {
-      trail = record {
-        way = subst H (sym begins.here) (subst (W base) (sym begins.edges) way);
-        within = subst R (sym begins.here) within;
-        one_each = ap length begins.table ∙ length-set old.place.items base 0 ∙ size;
-        places = both_new (set old.place.items base 0) new.place.items (base ∷ []) new.vertices.items begins.table begins.vertices (places-one old.place.items base (omega (arith, size, high)));
-      };
-      vertices = begins.vertices ∙ ap (walk_vertices g base) (sym begins.edges);
-    }
 
 -- an edge more
 

@@ -178,6 +178,3 @@ taken-sum g left after e is one =
     let both = sum_to-add (slice_index after) (λ k. cond (eqb e (k + 1)) 1 0) m in
     let hit : sum_to (λ k. cond (eqb e (k + 1)) 1 0) m ≡ 1 = sum_to-at_one (λ _. 1) e m is.0 is.1 in
     omega (arith, parts, both, hit)
-
-pub taken-fewer : (e k : ℕ) (left after : List ℕ) → IsTaken e left after → slice_index after k ≤ slice_index left k
-taken-fewer e k left after one = let o = one k in omega (arith, o)

@@ -8,7 +8,7 @@ use Rattle.conservative_paths.proofs.path.path_in.Given as goal
 abbrev pub invariant-loop-step : goal.invariant-loop-step
 invariant-loop-step l = record {
   left : IsLeft (graph_of l.instance) l.left;
-  path : IsOpen (graph_of l.instance) (listed_counts l.join.edges (length l.instance.edges)) l.left.counts.items l.s l.fn.t l.trail;
+  path : IsOpen (graph_of l.instance) (listed_counts l.join.edges (length l.instance.edges)) l.left.counts.items l.fn.s l.fn.t l.trail;
 }
 
 abbrev pub decreases-loop-step : goal.decreases-loop-step
