@@ -1,12 +1,13 @@
 -- Natural numbers as the numbers of lines.
-use Rattle.std.proofs.Common.{◌≡◌, ℕ, zero, suc, ◌+◌, ◌-◌, ◌<◌, ◌≤◌, pos, ◌≤ℤ◌, Bool, true, ◌&&◌, List, [], ◌∷◌, length, map, All, get_or, refl, ap, ◌∙◌, subst, arith}
+use Rattle.std.proofs.Common.{◌≡◌, ℕ, zero, suc, ◌+◌, ◌-◌, ◌<◌, ◌≤◌, pos, ◌≤ℤ◌, true, List, [], ◌∷◌, length, map, All, get_or, refl, ap, ◌∙◌, subst, arith}
 use Rattle.std.specs.Prelude.{int_lt}
 use Rattle.std.specs.List.{range_with_len}
 use Rattle.std.specs.List.Sorted.{IsStrictlyIncreasing}
 use Rattle.std.proofs.lemmas.Int.{ints}
 use Rattle.std.proofs.lemmas.List.Elements.{All-nil, All-cons, All-head, All-tail}
 use Rattle.std.proofs.lemmas.List.{ext_get_or}
-use Rattle.std.proofs.lemmas.List.FromFn.{length-range_with_len, get_or-range_with_len, length-map-range_with_len, get_or-map-range_with_len}
+use Rattle.std.proofs.lemmas.List.FromFn.{length-map-range_with_len, get_or-map-range_with_len}
+use Rattle.std.proofs.lemmas.Bool.{and_from}
 use Rattle.doc_format.specs.Form.{ascends}
 use Rattle.certificates.specs.Claims.{numbers}
 
@@ -16,13 +17,10 @@ int_lt-pos a b h = grind (arith, ints)
 tail_increasing : (x : ℕ) (xs : List ℕ) → IsStrictlyIncreasing (x ∷ xs) → IsStrictlyIncreasing xs
 tail_increasing x xs up = λ k h. (let e : suc k + 1 ≡ suc (k + 1) = omega arith in subst (λ (j : ℕ). get_or (x ∷ xs) (suc k) 0 < get_or (x ∷ xs) j 0) e (up (suc k) (omega arith)))
 
-both_true : (a b : Bool) → a ≡ true → b ≡ true → (a && b) ≡ true
-both_true a b f h = rw (f, h) refl
-
 pub ascends-pos : (xs : List ℕ) → IsStrictlyIncreasing xs → ascends (map pos xs) ≡ true
 ascends-pos [] up = refl
 ascends-pos (x ∷ []) up = refl
-ascends-pos (x ∷ y ∷ ys) up = both_true (int_lt (pos x) (pos y)) (ascends (map pos (y ∷ ys))) (int_lt-pos x y (up 0 (omega arith))) (ascends-pos (y ∷ ys) (tail_increasing x (y ∷ ys) up))
+ascends-pos (x ∷ y ∷ ys) up = and_from (int_lt (pos x) (pos y)) (ascends (map pos (y ∷ ys))) (int_lt-pos x y (up 0 (omega arith))) (ascends-pos (y ∷ ys) (tail_increasing x (y ∷ ys) up))
 
 pub numbers-pos : (xs : List ℕ) → numbers (map pos xs) ≡ xs
 numbers-pos [] = refl
@@ -31,13 +29,6 @@ numbers-pos (x ∷ xs) = ap (λ ys. x ∷ ys) (numbers-pos xs)
 pub natural-pos : (xs : List ℕ) → All (λ z. pos 0 ≤ℤ z) (map pos xs)
 natural-pos [] = All-nil (λ z. pos 0 ≤ℤ z)
 natural-pos (x ∷ xs) = All-cons (λ z. pos 0 ≤ℤ z) (pos x) (map pos xs) (omega (arith, ints)) (natural-pos xs)
-
-pub range-ascends : (n : ℕ) → IsStrictlyIncreasing (range_with_len 1 n)
-range-ascends n k h =
-    let long : length (range_with_len 1 n) ≡ n = length-range_with_len 1 n in
-    let here : get_or (range_with_len 1 n) k 0 ≡ 1 + k = get_or-range_with_len 1 n k 0 (omega arith) in
-    let next : get_or (range_with_len 1 n) (k + 1) 0 ≡ 1 + (k + 1) = get_or-range_with_len 1 n (k + 1) 0 (omega arith) in
-    omega arith
 
 pub map-map : {A B C : Type 0} (f : B → C) (h : A → B) (xs : List A) → map f (map h xs) ≡ map (λ x. f (h x)) xs
 map-map f h [] = refl

@@ -1,13 +1,12 @@
 -- The x lines of counts: one for each edge that is used.
 use Rattle.std.proofs.Common.{◌≡◌, ℕ, zero, suc, ◌-◌, ◌≤◌, pos, Bool, true, false, not, cond, ◌||◌, eqb, List, [], ◌∷◌, length, map, All, slice_index, refl, ap, ◌∙◌, arith, int_eq}
-use Rattle.std.specs.List.{range_with_len}
 use Rattle.std.proofs.lemmas.Int.{ints}
 use Rattle.std.proofs.lemmas.Bool.{eq-eqb, ne_eqb, eqb-true}
 use Rattle.std.proofs.lemmas.Bool.Decides.{Decides-int_eq}
 use Rattle.std.proofs.lemmas.List.{length-map}
 use Rattle.std.proofs.lemmas.List.Elements.{All-map}
 use Rattle.graph_theory.specs.Parts.{holds}
-use Rattle.graph_theory.proofs.Members.{all_holds}
+use Rattle.graph_theory.proofs.Members.{all_holds, same_tests}
 use Rattle.doc_format.specs.declared.part.CountLine.{CountLine}
 use Rattle.doc_format.specs.Form.{ascends, AscendsBy}
 use Rattle.certificates.specs.Claims.{count_of, counts_of}
@@ -23,9 +22,6 @@ lines_to cs k = map (line_at cs) (passing (is_used cs) k)
 pick : (t h : Bool) (a b : ℕ) → cond t a (cond h a b) ≡ cond (t || h) a b
 pick true h a b = refl
 pick false h a b = refl
-
-same_tests : (a b : Bool) → (a ≡ true → b ≡ true) → (b ≡ true → a ≡ true) → a ≡ b
-same_tests a b f h = grind arith
 
 pos-same : (x e : ℕ) → pos x ≡ pos e → x ≡ e
 pos-same x e h = cc

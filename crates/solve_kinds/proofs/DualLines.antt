@@ -5,11 +5,12 @@ use Rattle.std.proofs.lemmas.Int.{ints}
 use Rattle.std.proofs.lemmas.List.Elements.{All-map, All-from_get_or, All-get_or}
 use Rattle.std.proofs.lemmas.List.FromFn.{length-range_with_len, get_or-range_with_len, map-range_with_len_more}
 use Rattle.graph_theory.specs.Duals.{dual_of, IsNumber}
+use Rattle.graph_theory.proofs.Members.{range-ascending}
 use Rattle.doc_format.specs.declared.part.DualLine.{DualLine}
 use Rattle.doc_format.specs.Form.{ascends, AscendsBy}
 use Rattle.certificates.specs.Within.{IsDualWithin}
 use Rattle.solve_kinds.specs.Parts.{dual_line}
-use Rattle.solve_kinds.proofs.Ascents.{ascends-pos, range-ascends, map-map, each-place}
+use Rattle.solve_kinds.proofs.Ascents.{ascends-pos, map-map, each-place}
 
 -- the line of a vertex
 abbrev pub line_at : List ℤ → ℕ → DualLine
@@ -26,7 +27,7 @@ lines-duals ys =
     plain ∙ each-place (pos 0) ys
 
 pub lines-ascend : (ys : List ℤ) (n : ℕ) → AscendsBy (λ y. y.vertex) (lines_to ys n)
-lines-ascend ys n = ap ascends (map-map (λ (y : DualLine). y.vertex) (line_at ys) (range_with_len 1 n)) ∙ ascends-pos (range_with_len 1 n) (range-ascends n)
+lines-ascend ys n = ap ascends (map-map (λ (y : DualLine). y.vertex) (line_at ys) (range_with_len 1 n)) ∙ ascends-pos (range_with_len 1 n) (range-ascending n)
 
 pub lines-within : (ys : List ℤ) (n : ℕ) → length ys ≡ n → All IsNumber ys → All (IsDualWithin n) (lines_to ys n)
 lines-within ys n size number =

@@ -1,10 +1,11 @@
 -- Where every number is in its range no line is at fault.
-use Rattle.std.proofs.Common.{◌≡◌, ℕ, ℤ, pos, neg_ℤ, ◌≤ℤ◌, Bool, true, false, not, cond, ◌&&◌, List, [], ◌∷◌, ◌++◌, length, map, All, Option, None, Some, IfSome, refl, ◌∙◌, arith}
+use Rattle.std.proofs.Common.{◌≡◌, ℕ, ℤ, pos, neg_ℤ, ◌≤ℤ◌, Bool, true, false, not, cond, List, [], ◌∷◌, ◌++◌, length, map, All, Option, None, Some, IfSome, refl, ◌∙◌, arith}
 use Rattle.std.specs.Prelude.{int_le}
 use Rattle.std.specs.Option.{option_map, option_or}
 use Rattle.std.specs.List.{list_all, find}
 use Rattle.std.proofs.lemmas.Int.{ints}
 use Rattle.std.proofs.lemmas.List.Elements.{All-head, All-tail, All-weaker}
+use Rattle.std.proofs.lemmas.Bool.{and_from}
 use Rattle.graph_theory.specs.Duals.{IsNumber}
 use Rattle.mb_problem.specs.declared.kind.Kind.{Kind}
 use Rattle.mb_problem.specs.Network.{Network, vertices}
@@ -19,14 +20,11 @@ use Rattle.certificates.specs.Ranges.{Checked, first_fault, first_out_of_range, 
 use Rattle.certificates.specs.Within.{IsUpTo, IsCountWithin, IsWalkWithin, IsDualWithin, IsSetLineWithin, AreWithin}
 use Rattle.certificates.proofs.RangeLemmas.{first_fault-append}
 
-both_true : (a b : Bool) → a ≡ true → b ≡ true → (a && b) ≡ true
-both_true a b f h = rw (f, h) refl
-
 int_le-yes : (a b : ℤ) → a ≤ℤ b → int_le a b ≡ true
 int_le-yes a b h = grind (arith, ints)
 
 between : (low high z : ℤ) → low ≤ℤ z → z ≤ℤ high → is_between low high z ≡ true
-between low high z f h = both_true (int_le low z) (int_le z high) (int_le-yes low z f) (int_le-yes z high h)
+between low high z f h = and_from (int_le low z) (int_le z high) (int_le-yes low z f) (int_le-yes z high h)
 
 up_to : (n : ℕ) (z : ℤ) → IsUpTo n z → is_up_to n z ≡ true
 up_to n z h = between (pos 1) (pos n) z h.low h.high
@@ -36,7 +34,7 @@ number z h = between (neg_ℤ (pos 1000000000000000)) (pos 1000000000000000) z h
 
 pub every : {A : Type 0} (p : A → Bool) (xs : List A) → All (λ x. p x ≡ true) xs → list_all p xs ≡ true
 every p [] h = refl
-every p (x ∷ xs) h = both_true (p x) (list_all p xs) (All-head (λ x. p x ≡ true) x xs h) (every p xs (All-tail (λ x. p x ≡ true) x xs h))
+every p (x ∷ xs) h = and_from (p x) (list_all p xs) (All-head (λ x. p x ≡ true) x xs h) (every p xs (All-tail (λ x. p x ≡ true) x xs h))
 
 all_up_to : (n : ℕ) (zs : List ℤ) → All (IsUpTo n) zs → list_all (is_up_to n) zs ≡ true
 all_up_to n zs h = every (is_up_to n) zs (All-weaker (IsUpTo n) (λ z. is_up_to n z ≡ true) (up_to n) zs h)
@@ -60,17 +58,17 @@ one : (c : Checked) → c.in_range ≡ true → first_fault (c ∷ []) ≡ None
 one c h = passes c.in_range c None h refl
 
 none_counts : (m : ℕ) (xs : List CountLine) → All (IsCountWithin m) xs → first_fault (map (checked_count m) xs) ≡ None
-none_counts m xs h = none_in (checked_count m) xs (All-weaker (IsCountWithin m) (λ x. (checked_count m x).in_range ≡ true) (λ x w. both_true (is_up_to m x.edge) (is_up_to 4096 x.count) (up_to m x.edge w.0) (up_to 4096 x.count w.1)) xs h)
+none_counts m xs h = none_in (checked_count m) xs (All-weaker (IsCountWithin m) (λ x. (checked_count m x).in_range ≡ true) (λ x w. and_from (is_up_to m x.edge) (is_up_to 4096 x.count) (up_to m x.edge w.0) (up_to 4096 x.count w.1)) xs h)
 
 none_duals : (n : ℕ) (ys : List DualLine) → All (IsDualWithin n) ys → first_fault (map (checked_dual n) ys) ≡ None
-none_duals n ys h = none_in (checked_dual n) ys (All-weaker (IsDualWithin n) (λ y. (checked_dual n y).in_range ≡ true) (λ y w. both_true (is_up_to n y.vertex) (is_dual y.dual) (up_to n y.vertex w.0) (number y.dual w.1)) ys h)
+none_duals n ys h = none_in (checked_dual n) ys (All-weaker (IsDualWithin n) (λ y. (checked_dual n y).in_range ≡ true) (λ y w. and_from (is_up_to n y.vertex) (is_dual y.dual) (up_to n y.vertex w.0) (number y.dual w.1)) ys h)
 
 none_sets : (n : ℕ) (zs : List SetLine) → All (IsSetLineWithin n) zs → first_fault (map (checked_set n) zs) ≡ None
-none_sets n zs h = none_in (checked_set n) zs (All-weaker (IsSetLineWithin n) (λ z. (checked_set n z).in_range ≡ true) (λ z w. both_true (is_up_to 1000000000000000 z.dual) (list_all (is_up_to n) z.members) (up_to 1000000000000000 z.dual w.0) (all_up_to n z.members w.1)) zs h)
+none_sets n zs h = none_in (checked_set n) zs (All-weaker (IsSetLineWithin n) (λ z. (checked_set n z).in_range ≡ true) (λ z w. and_from (is_up_to 1000000000000000 z.dual) (list_all (is_up_to n) z.members) (up_to 1000000000000000 z.dual w.0) (all_up_to n z.members w.1)) zs h)
 
 none_walk : (n m : ℕ) (line : Option WalkLine) → IfSome line (IsWalkWithin n m) → first_fault (map (checked_walk n m) (listed line)) ≡ None
 none_walk n m None h = refl
-none_walk n m (Some w) h = one (checked_walk n m w) (both_true (is_up_to n w.start) (list_all (is_up_to m) w.edges) (up_to n w.start h.0) (all_up_to m w.edges h.1))
+none_walk n m (Some w) h = one (checked_walk n m w) (and_from (is_up_to n w.start) (list_all (is_up_to m) w.edges) (up_to n w.start h.0) (all_up_to m w.edges h.1))
 
 none_members : (n : ℕ) (line : Option MemberLine) → IfSome line (λ u. All (IsUpTo n) u.members) → first_fault (map (checked_members n) (listed line)) ≡ None
 none_members n None h = refl
