@@ -1,0 +1,2 @@
+mod instances;
+mod parts;

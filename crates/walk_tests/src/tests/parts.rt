@@ -1,0 +1,89 @@
+use super::instances::{are_edges, are_vertices, instance};
+use graph_parts::{JoinOrOdd, edge_connected, join_or_odd};
+use mb_problem::{Kind, Parity};
+use std::alloc::Global;
+use std::test::Fail;
+
+/// A text, and whether all its edges lie in one component.
+const CONNECTED: [(&[u8], bool); 8] = [
+    (b"p edge 0 0\n", true),
+    (b"p edge 1 0\n", true),
+    (b"p edge 2 0\n", true),
+    (b"p edge 3 1\ne 3 2 0\n", true),
+    (b"p edge 2 2\ne 1 2 0\ne 2 1 0\n", true),
+    (b"p edge 4 2\ne 1 2 0\ne 3 4 0\n", false),
+    (b"p edge 4 3\ne 3 4 0\ne 1 2 0\ne 3 2 0\n", true),
+    (b"p edge 5 4\ne 1 2 0\ne 2 3 0\ne 3 1 0\ne 4 5 0\n", false),
+];
+
+#[test]
+fn edges_in_one_component(rt: HostRuntime) -> Result<(), Fail> {
+    let alloc = rt.alloc();
+    for (text, wanted) in &CONNECTED {
+        let Some(instance) = instance(alloc, *text, Kind::TJoin) else {
+            assert!(rt; false);
+            return Ok(());
+        };
+        let graph = instance.graph()?;
+        assert!(rt; edge_connected(alloc, &graph)? == *wanted);
+    }
+    Ok(())
+}
+
+/// What is wanted: the edges of a join, or the vertices of an odd part.
+enum Wanted {
+    Edges(&'static [u32]),
+    Part(&'static [u32]),
+}
+
+use Wanted::{Edges, Part};
+
+const TWO_PAIRS: &[u8] = b"p edge 4 2\nn 1 1\nn 2 1\nn 3 1\nn 4 1\ne 4 3 5\ne 1 2 -5\n";
+
+const STAR: &[u8] = b"p edge 4 3\nn 2 1\ne 1 2 0\ne 1 3 0\ne 4 1 0\n";
+
+const PATH: &[u8] = b"p edge 4 3\nn 1 1\nn 3 3\nn 4 2\ne 1 2 0\ne 2 3 0\ne 3 4 0\n";
+
+/// Of the three edges between 1 and 2 the first is found.
+const PARALLEL: &[u8] = b"p edge 2 3\nn 1 1\nn 2 1\ne 2 1 4\ne 1 2 1\ne 2 1 0\n";
+
+/// The components are 1 and 4, 2 and 3 and 6, and 5.
+const PARTS: &[u8] = b"p edge 6 3\nn 3 1\nn 5 1\ne 6 2 0\ne 4 1 0\ne 3 6 0\n";
+
+const JOINS: [(&[u8], Parity, Wanted); 15] = [
+    (b"p edge 0 0\n", Parity::Values, Edges(&[])),
+    (b"p edge 0 0\n", Parity::OddDegrees, Edges(&[])),
+    (b"p edge 1 0\n", Parity::Values, Edges(&[])),
+    (b"p edge 1 0\nn 1 1\n", Parity::Values, Part(&[1])),
+    (b"p edge 1 0\nn 1 1\n", Parity::Empty, Edges(&[])),
+    (b"p edge 3 0\nn 2 1\nn 3 1\n", Parity::Values, Part(&[2])),
+    (TWO_PAIRS, Parity::Values, Edges(&[1, 2])),
+    (TWO_PAIRS, Parity::Empty, Edges(&[])),
+    (STAR, Parity::OddDegrees, Edges(&[1, 2, 3])),
+    (STAR, Parity::Values, Part(&[1, 2, 3, 4])),
+    (PATH, Parity::Values, Edges(&[1, 2])),
+    (PATH, Parity::OddDegrees, Edges(&[1, 2, 3])),
+    (PARALLEL, Parity::Values, Edges(&[1])),
+    (PARALLEL, Parity::OddDegrees, Edges(&[1])),
+    (PARTS, Parity::Values, Part(&[2, 3, 6])),
+];
+
+/// Whether the outcome for a text and a parity is the one that is wanted.
+fn decides(alloc: Global, text: &[u8], parity: &Parity, wanted: &Wanted) -> Result<bool, Fail> {
+    let Some(instance) = instance(alloc, text, Kind::TJoin) else {
+        return Ok(false);
+    };
+    match (join_or_odd(alloc, &instance, parity)?, wanted) {
+        (JoinOrOdd::Join(join), Edges(numbers)) => Ok(are_edges(join.edges.as_slice(), *numbers)),
+        (JoinOrOdd::OddSet(part), Part(numbers)) => Ok(are_vertices(part.as_slice(), *numbers)),
+        _ => Ok(false),
+    }
+}
+
+#[test]
+fn joins_or_odd_parts(rt: HostRuntime) -> Result<(), Fail> {
+    for (text, parity, wanted) in &JOINS {
+        assert!(rt; decides(rt.alloc(), *text, parity, wanted)?);
+    }
+    Ok(())
+}
