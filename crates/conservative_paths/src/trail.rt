@@ -29,12 +29,12 @@ impl Trail {
     pub(crate) fn new(alloc: Global, n: u32) -> Result<Self, OutOfMemory>
         ensures { IfOk result (λ trail. length trail.place.items ≡ n + 1) }
     {
-        let place = vec![in alloc; 0usize; n as usize + 1]?;
+        let room = n as usize + 1;
         Ok(Trail {
             here: VertexId::new(0),
-            edges: Vec::new(alloc),
-            vertices: Vec::new(alloc),
-            place,
+            edges: Vec::with_capacity(alloc, room)?,
+            vertices: Vec::with_capacity(alloc, room)?,
+            place: vec![in alloc; 0usize; room]?,
         })
     }
 
