@@ -1,2 +1,3 @@
 mod instances;
 mod parts;
+mod tours;
