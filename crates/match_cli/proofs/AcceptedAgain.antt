@@ -23,8 +23,8 @@ use Rattle.cert_check.proofs.VerdictLemmas.{IsFormed, proved-keeps}
 use Rattle.match_cli.specs.declared.status.Status.{Status}
 use Rattle.match_cli.specs.declared.status.Status.TheVariants.{Done, Rejected, Usage, Malformed, TooLarge, TooLong, ReadFault, WriteFault, OutOfMemory}
 use Rattle.match_cli.specs.declared.limits.TheConstants.{SOLVE_BYTE_LIMIT}
-use Rattle.match_cli.specs.declared.words.Command.{Command}
-use Rattle.match_cli.specs.declared.words.Command.TheVariants.{Check, Solve}
+use Rattle.command_words.specs.declared.command.Command.{Command}
+use Rattle.command_words.specs.declared.command.Command.TheVariants.{Check, Solve}
 use Rattle.match_cli.specs.Commands.{limit_of}
 use Rattle.match_cli.specs.Solving.{Solves}
 use Rattle.match_cli.specs.Answers.{instance_part, document_part, document_line, InputHolds, InputStates, Accepts, HoldsAlone, Answers, DecidesSolve}

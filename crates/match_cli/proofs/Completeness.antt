@@ -9,8 +9,8 @@ use Rattle.dimacs_read.specs.declared.rule.Rule.{Rule}
 use Rattle.dimacs_read.proofs.ReadingLemmas.{one_instance, no_instance_and_fault}
 use Rattle.match_cli.specs.declared.status.Status.{Status}
 use Rattle.match_cli.specs.declared.status.Status.TheVariants.{Done, Rejected, Usage, Malformed, TooLarge, TooLong, ReadFault, WriteFault, OutOfMemory}
-use Rattle.match_cli.specs.declared.words.Command.{Command}
-use Rattle.match_cli.specs.declared.words.Command.TheVariants.{Check, Solve}
+use Rattle.command_words.specs.declared.command.Command.{Command}
+use Rattle.command_words.specs.declared.command.Command.TheVariants.{Check, Solve, Trial}
 use Rattle.match_cli.specs.Commands.{command_of, limit_of}
 use Rattle.match_cli.specs.Answers.{instance_part, document_part, answer_place, InputHolds, RefusesInput, Answers, Out}
 use Rattle.match_cli.specs.Runs.{IsAnswer, IsInput, MayReject, IsAnswered, Completes}
@@ -33,14 +33,17 @@ not_refused kind bytes i rule line holds ends (inr rest) = no_place (answer_plac
 not_malformed : (command : Command) (bytes out : List ℕ) (i : Network) → IsInput command bytes i → Answers command bytes out Malformed → ⊥
 not_malformed (Check kind) bytes out i input h = no_instance_and_fault kind (instance_part bytes) i h.0 h.1 input.holds h.2
 not_malformed (Solve kind brief) bytes out i input h = not_refused kind bytes i h.0 h.1 input.holds input.ends h.2
+not_malformed (Trial kind start n m) bytes out i input h = h
 
 not_large : (command : Command) (bytes out : List ℕ) (i : Network) → IsInput command bytes i → Answers command bytes out TooLarge → ⊥
 not_large (Check kind) bytes out i input h = not_too_large kind bytes i h.0 input.holds input.fits h.1 h.2
 not_large (Solve kind brief) bytes out i input h = not_too_large kind bytes i h.0 input.holds input.fits h.1.holds h.2
+not_large (Trial kind start n m) bytes out i input h = h
 
 may_reject : (command : Command) (bytes out : List ℕ) → Answers command bytes out Rejected → MayReject command
 may_reject (Check kind) bytes out h = tt
 may_reject (Solve kind brief) bytes out h = h
+may_reject (Trial kind start n m) bytes out h = h
 
 not_long : (command other : Command) (bytes : List ℕ) → other ≡ command → length bytes ≤ limit_of command → limit_of other < length bytes → ⊥
 not_long command other bytes same short long = (let past : limit_of command < length bytes = subst (λ (c : Command). limit_of c < length bytes) same long in omega (arith, short, past))

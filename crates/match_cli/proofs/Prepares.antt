@@ -1,10 +1,20 @@
 -- What the bytes that were read decide is the answer to the source's bytes.
-use Rattle.std.proofs.Common.{◌≡◌, ℕ, ◌≤◌, List, [], ◌++◌, length, Option, Some, None, sym, ap, subst, ◌∙◌, append-nil}
+use Rattle.std.proofs.Common.{◌≡◌, ℕ, ◌+◌, ◌<◌, ◌≤◌, List, [], ◌++◌, length, Option, Some, None, sym, ap, subst, ◌∙◌, append-nil, arith}
 use Rattle.std.specs.Io.KnownBytes.{Consumes, IsAtEnd}
+use Rattle.std.specs.Global.{Vec}
+use Rattle.std.specs.Prelude.{Result, Ok, Err, codes, drop}
+use Rattle.std.proofs.lemmas.List.{length-append, drop_at}
+use Rattle.mb_base.specs.Streams.{ReadsAll}
+use Rattle.mb_base.specs.declared.whole.ReadAll.{ReadAll}
+use Rattle.mb_base.specs.declared.whole.ReadAll.TheVariants as ending
+use Rattle.match_cli.specs.declared.answer.Answer.{Answer}
+use Rattle.match_cli.specs.declared.top.Stop.{Stop}
+use Rattle.match_cli.specs.declared.top.Stop.TheVariants as stop
+use Rattle.match_cli.specs.Prepared.{Prepares, Readies}
 use Rattle.match_cli.specs.declared.status.Status.{Status}
 use Rattle.match_cli.specs.declared.status.Status.TheVariants.{Done, Rejected, Usage, Malformed, TooLarge, TooLong, ReadFault, WriteFault, OutOfMemory}
-use Rattle.match_cli.specs.declared.words.Command.{Command}
-use Rattle.match_cli.specs.declared.words.Command.TheVariants.{Check, Solve}
+use Rattle.command_words.specs.declared.command.Command.{Command}
+use Rattle.command_words.specs.declared.command.Command.TheVariants.{Check, Solve, Trial}
 use Rattle.match_cli.specs.Commands.{command_of, limit_of}
 use Rattle.match_cli.specs.Answers.{Answers}
 use Rattle.match_cli.specs.Runs.{IsAnswer, IsUsage, IsWritten, Spends, IsTrueBy, TellsTruth}
@@ -36,6 +46,11 @@ decided (Solve kind brief) bytes out TooLong h = h
 decided (Solve kind brief) bytes out ReadFault h = h
 decided (Solve kind brief) bytes out WriteFault h = h
 decided (Solve kind brief) bytes out OutOfMemory h = h
+decided (Trial kind start n m) bytes out Usage h = h
+decided (Trial kind start n m) bytes out TooLong h = h
+decided (Trial kind start n m) bytes out ReadFault h = h
+decided (Trial kind start n m) bytes out WriteFault h = h
+decided (Trial kind start n m) bytes out OutOfMemory h = h
 
 module _ (words : List (List ℕ)) (command : Command) (out bytes : List ℕ) (taken : command_of words ≡ Some command) (fits : length bytes ≤ limit_of command) where
   answers_Done : (before after : Option (List ℕ)) → Consumes before after bytes → IsAtEnd after → Answers command bytes out Done → IsAnswer words before after out Done
@@ -85,11 +100,36 @@ is_command words command bytes out ReadFault e h = (command, e)
 is_command words command bytes out WriteFault e h = (command, e)
 is_command words command bytes out OutOfMemory e h = (command, e)
 
+-- ---- input past the limit
+
+long_input : (limit : ℕ) (xs ys bytes : List ℕ) → xs ≡ bytes ++ ys → length bytes ≡ limit + 1 → (limit < length xs) × (ys ≡ drop (limit + 1) xs)
+long_input limit xs ys bytes e size =
+    let sum = length-append bytes ys in
+    let whole = ap length e in
+    (omega (arith, sum, whole, size), sym (ap (drop (limit + 1)) e ∙ drop_at bytes ys (limit + 1) size))
+
+long_answer : (words : List (List ℕ)) (command : Command) (before after : Option (List ℕ)) (out : List ℕ) → command_of words ≡ Some command → out ≡ codes "s TOOLONG\n" → ReadsAll (limit_of command) before after (Err ending.TooLong) → IsAnswer words before after out TooLong
+long_answer words command None after out taken is h = tt
+long_answer words command (Some xs) None out taken is h = absurd h.2
+long_answer words command (Some xs) (Some ys) out taken is h =
+    let long = long_input (limit_of command) xs ys h.0 h.2 h.1 in
+    ((command, taken, long.0, is), (command, taken, ap (λ l. Some l) long.1))
+
+long_ready : (words : List (List ℕ)) (command : Command) (before after : Option (List ℕ)) → command_of words ≡ Some command → ReadsAll (limit_of command) before after (Err ending.TooLong) → (r : Result Answer Stop) → Readies (codes "s TOOLONG\n") TooLong r → Prepares words before after r
+long_ready words command before after taken h (Ok a) is = (subst IsWritten (sym is.1) tt, subst (λ (s : Status). IsAnswer words before after a.text.items s) (sym is.1) (long_answer words command before after a.text.items taken is.0 h))
+long_ready words command before after taken h (Err stop.ReadFault) is = absurd is
+long_ready words command before after taken h (Err stop.OutOfMemory) is = tt
+
+pub too_long : (words : List (List ℕ)) (command : Command) (before after : Option (List ℕ)) → command_of words ≡ Some command → (read : Result (Vec ℕ) ReadAll) (e : ReadAll) → read ≡ Err e → e ≡ ending.TooLong → ReadsAll (limit_of command) before after read → (r : Result Answer Stop) → Readies (codes "s TOOLONG\n") TooLong r → Prepares words before after r
+too_long words command before after taken read e fails is h r readied =
+    long_ready words command before after taken (subst (λ (x : Result (Vec ℕ) ReadAll). ReadsAll (limit_of command) before after x) (fails ∙ ap (λ x. Err x) is) h) r readied
+
 -- ---- what was accepted or written is true
 
 truth_by : (command : Command) (bytes out : List ℕ) → Answers command bytes out Done → IsTrueBy command bytes
 truth_by (Check kind) bytes out h = (h.0, h.1, h.2)
 truth_by (Solve kind brief) bytes out h = (h.0, h.1, h.2, h.4)
+truth_by (Trial kind start n m) bytes out h = h
 
 truth_of : (words : List (List ℕ)) (before after : Option (List ℕ)) (out : List ℕ) → IsAnswer words before after out Done → TellsTruth words before Done
 truth_of words None after out h = tt

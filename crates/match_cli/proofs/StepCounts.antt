@@ -12,8 +12,8 @@ use Rattle.dimacs_read.proofs.ReadingLemmas.{one_instance}
 use Rattle.match_cli.specs.declared.status.Status.{Status}
 use Rattle.match_cli.specs.declared.status.Status.TheVariants.{Done, Rejected, Usage, Malformed, TooLarge, TooLong, ReadFault, WriteFault, OutOfMemory}
 use Rattle.match_cli.specs.declared.answer.Answer.{Answer}
-use Rattle.match_cli.specs.declared.words.Command.{Command}
-use Rattle.match_cli.specs.declared.words.Command.TheVariants.{Check, Solve}
+use Rattle.command_words.specs.declared.command.Command.{Command}
+use Rattle.command_words.specs.declared.command.Command.TheVariants.{Check, Solve, Trial}
 use Rattle.match_cli.specs.Commands.{command_of}
 use Rattle.match_cli.specs.Answers.{instance_part, InputHolds}
 use Rattle.match_cli.specs.Counts.{largest, CountsSearch, CountsSteps, CountsAnswer, CountsInstance, CountsSource}
@@ -23,6 +23,7 @@ none_searched : (command : Option Command) (before after : ℕ) → after ≡ be
 none_searched None before after same = same
 none_searched (Some (Check kind)) before after same = same
 none_searched (Some (Solve kind brief)) before after same = omega (arith, same)
+none_searched (Some (Trial kind start n m)) before after same = same
 
 pub none_counted : (command : Option Command) (before after : ℕ) (status : Status) → after ≡ before → CountsSteps command before after status
 none_counted command before after Done same = none_searched command before after same

@@ -19,8 +19,8 @@ use Rattle.cert_check.specs.Verdicts.{IsVerdict}
 use Rattle.certificates.specs.Proved.{StatesTruth}
 use Rattle.match_cli.specs.declared.status.Status.{Status}
 use Rattle.match_cli.specs.declared.status.Status.TheVariants.{Done, Rejected, Usage, Malformed, TooLarge, TooLong}
-use Rattle.match_cli.specs.declared.words.Command.{Command}
-use Rattle.match_cli.specs.declared.words.Command.TheVariants.{Check, Solve}
+use Rattle.command_words.specs.declared.command.Command.{Command}
+use Rattle.command_words.specs.declared.command.Command.TheVariants.{Check, Solve, Trial}
 use Rattle.match_cli.specs.Commands.{command_of, limit_of}
 use Rattle.match_cli.specs.Lines.{malformed_line, rejected_line, too_large_line}
 use Rattle.match_cli.specs.Checking.{RefusesFirst}
@@ -98,6 +98,7 @@ DecidesSolve kind brief bytes out _ = ⊥
 abbrev pub Answers : Command → List ℕ → List ℕ → Status → Type 0
 Answers (Check kind) bytes out status = Decides kind bytes out status
 Answers (Solve kind brief) bytes out status = DecidesSolve kind brief bytes out status
+Answers (Trial kind start n m) bytes out status = ⊥
 
 -- The answer to words and bytes: what is written, and the status.
 abbrev pub Out : List (List ℕ) → List ℕ → List ℕ → Status → Type 0

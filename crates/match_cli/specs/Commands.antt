@@ -1,40 +1,27 @@
--- The command that the words of a command line are.
-use Rattle.std.specs.Prelude.{◌≡◌, ℕ, List, [], ◌∷◌, codes, Bool, true, false, if◌then◌else◌, Option, None, Some}
-use Rattle.std.specs.Option.{option_map, option_and_then}
-use Rattle.std.specs.Str.{bytes_eq}
-use Rattle.mb_problem.specs.Kinds.{kind_named}
+-- The command that the words of a command line are, where the program takes it.
+use Rattle.std.specs.Prelude.{ℕ, List, Bool, true, false, if◌then◌else◌, Option, None, Some}
+use Rattle.std.specs.Option.{option_and_then}
 use Rattle.solve_kinds.specs.Solved.{is_solved}
+use Rattle.command_words.specs.Commands as spelled
+use Rattle.command_words.specs.declared.command.Command.{Command}
+use Rattle.command_words.specs.declared.command.Command.TheVariants.{Check, Solve, Trial}
 use Rattle.match_cli.specs.declared.limits.TheConstants.{SOLVE_BYTE_LIMIT, CHECK_BYTE_LIMIT}
-use Rattle.match_cli.specs.declared.words.Command.{Command}
-use Rattle.match_cli.specs.declared.words.Command.TheVariants.{Check, Solve}
 
--- the command that solves the kind of this name, where it is one that `solve` takes
-abbrev pub solve_named : Bool → List ℕ → Option Command
-solve_named brief name = option_and_then (λ kind. if is_solved kind then Some (Solve kind brief) else None) (kind_named name)
+-- a command that the program takes: `solve` for a kind that is solved
+abbrev pub is_taken : Command → Bool
+is_taken (Check kind) = true
+is_taken (Solve kind brief) = is_solved kind
+is_taken (Trial kind start n m) = false
 
--- the flag of brief answers stands before the kind or after it
-abbrev pub solve_briefly : List ℕ → List ℕ → Option Command
-solve_briefly a b = if bytes_eq a (codes "--brief") then solve_named true b else (if bytes_eq b (codes "--brief") then solve_named true a else None)
+abbrev pub taken : Command → Option Command
+taken command = if is_taken command then Some command else None
 
--- the command that the words after the program's name are
-abbrev pub after_name : List (List ℕ) → Option Command
-after_name (a ∷ b ∷ []) =
-    if bytes_eq a (codes "check") then option_map (λ kind. Check kind) (kind_named b) else
-    (if bytes_eq a (codes "solve") then solve_named false b else None)
-after_name (a ∷ b ∷ c ∷ []) = if bytes_eq a (codes "solve") then solve_briefly b c else None
-after_name _ = None
-
--- the first word, whatever it is, stands for the program's name
+-- the command that the words are, the program's name first
 abbrev pub command_of : List (List ℕ) → Option Command
-command_of [] = None
-command_of (name ∷ words) = after_name words
+command_of words = option_and_then taken (spelled.command_of words)
 
 -- how many bytes of input a command takes
 abbrev pub limit_of : Command → ℕ
 limit_of (Check kind) = CHECK_BYTE_LIMIT
 limit_of (Solve kind brief) = SOLVE_BYTE_LIMIT
-
--- a command that the words can be: `solve` for a kind that it takes
-abbrev pub IsCommand : Command → Type 0
-IsCommand (Check kind) = Unit {0}
-IsCommand (Solve kind brief) = is_solved kind ≡ true
+limit_of (Trial kind start n m) = 0

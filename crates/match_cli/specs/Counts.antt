@@ -9,8 +9,8 @@ use Rattle.mwpm_engine.specs.Solutions.{most_steps}
 use Rattle.match_cli.specs.declared.status.Status.{Status}
 use Rattle.match_cli.specs.declared.status.Status.TheVariants.{Done}
 use Rattle.match_cli.specs.declared.answer.Answer.{Answer}
-use Rattle.match_cli.specs.declared.words.Command.{Command}
-use Rattle.match_cli.specs.declared.words.Command.TheVariants.{Check, Solve}
+use Rattle.command_words.specs.declared.command.Command.{Command}
+use Rattle.command_words.specs.declared.command.Command.TheVariants.{Check, Solve, Trial}
 use Rattle.match_cli.specs.Commands.{command_of}
 use Rattle.match_cli.specs.Answers.{InputHolds}
 
@@ -23,6 +23,7 @@ abbrev pub CountsSearch : Option Command → ℕ → ℕ → Type 0
 CountsSearch None before after = after ≡ before
 CountsSearch (Some (Check kind)) before after = after ≡ before
 CountsSearch (Some (Solve kind brief)) before after = after ≤ before + most_steps largest
+CountsSearch (Some (Trial kind start n m)) before after = after ≡ before
 
 -- nothing is counted where words or input are refused
 abbrev pub CountsSteps : Option Command → ℕ → ℕ → Status → Type 0

@@ -4,7 +4,7 @@ use Rattle.match_cli.specs.declared.status.Status.{Status}
 use Rattle.match_cli.specs.declared.answer.Answer.{Answer}
 use Rattle.match_cli.specs.declared.top.Stop.{Stop}
 use Rattle.match_cli.specs.declared.top.Stop.TheVariants as stop
-use Rattle.match_cli.specs.declared.words.Command.{Command}
+use Rattle.command_words.specs.declared.command.Command.{Command}
 use Rattle.match_cli.specs.Commands.{command_of}
 use Rattle.match_cli.specs.Counts.{CountsSearch, CountsSteps}
 use Rattle.match_cli.specs.Runs.{IsAnswer, IsUsage, IsWritten}

@@ -9,8 +9,8 @@ use Rattle.doc_format.specs.declared.document.Document.{Document}
 use Rattle.mb_problem.specs.Kinds.{kind_text}
 use Rattle.match_cli.specs.declared.status.Status.{Status}
 use Rattle.match_cli.specs.declared.status.Status.TheVariants.{Done, Rejected, Usage, Malformed, TooLarge, TooLong, ReadFault, WriteFault, OutOfMemory}
-use Rattle.match_cli.specs.declared.words.Command.{Command}
-use Rattle.match_cli.specs.declared.words.Command.TheVariants.{Check, Solve}
+use Rattle.command_words.specs.declared.command.Command.{Command}
+use Rattle.command_words.specs.declared.command.Command.TheVariants.{Check, Solve, Trial}
 use Rattle.match_cli.specs.Commands.{command_of, limit_of}
 use Rattle.match_cli.specs.Solving.{Solves}
 use Rattle.match_cli.specs.Counts.{CountsSearch, CountsSteps}
@@ -85,6 +85,7 @@ CountsRun source_before source_after sink_before sink_after status = (source_aft
 abbrev pub IsTrueBy : Command → List ℕ → Type 0
 IsTrueBy (Check kind) bytes = (i : Network) × (d : Document) × Accepts kind bytes i d
 IsTrueBy (Solve kind brief) bytes = (i : Network) × (d : Document) × HoldsAlone kind bytes i × Solves kind i d
+IsTrueBy (Trial kind start n m) bytes = ⊥
 
 abbrev pub TellsTruth : List (List ℕ) → Option (List ℕ) → Status → Type 0
 TellsTruth words before Done = IfSome before (λ bytes. (command : Command) × (command_of words ≡ Some command) × IsTrueBy command bytes)
@@ -110,11 +111,13 @@ IsAcceptedAgain words before taken_before taken_after status = Unit {0}
 abbrev pub kind_of : Command → Kind
 kind_of (Check kind) = kind
 kind_of (Solve kind brief) = kind
+kind_of (Trial kind start n m) = kind
 
 -- nothing follows the instance, unless a document may
 abbrev pub EndsInput : Command → List ℕ → Type 0
 EndsInput (Check kind) bytes = Unit {0}
 EndsInput (Solve kind brief) bytes = document_part bytes ≡ []
+EndsInput (Trial kind start n m) bytes = Unit {0}
 
 -- the bytes are within the limit of the command, and hold this instance, which is within the limits too
 pub record IsInput (command : Command) (bytes : List ℕ) (i : Network) : Type 0 where
@@ -127,6 +130,7 @@ pub record IsInput (command : Command) (bytes : List ℕ) (i : Network) : Type 0
 abbrev pub MayReject : Command → Type 0
 MayReject (Check kind) = Unit {0}
 MayReject (Solve kind brief) = ⊥
+MayReject (Trial kind start n m) = ⊥
 
 -- the answer of a command to an input, or a fault
 abbrev pub IsAnswered : Command → Status → Type 0

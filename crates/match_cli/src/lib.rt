@@ -8,12 +8,12 @@
 
 mod answer;
 mod check;
+mod commands;
 mod limits;
 mod refusal;
 mod solve;
 mod status;
 mod top;
-mod words;
 
 pub use limits::{CHECK_BYTE_LIMIT, SOLVE_BYTE_LIMIT};
 pub use status::Status;

@@ -12,7 +12,7 @@ ghost use Rattle.match_cli.specs.Solving.{DecidesSolved, DecidesSized, DecidesFo
 use crate::answer::Answer;
 use crate::refusal::{is_within_limits, malformed, too_large};
 use crate::status::Status;
-use crate::words::Command;
+use command_words::Command;
 use dimacs_read::{InstanceError, Rest, Rule, read};
 use doc_format::{Document, write};
 use mb_base::{OutOfMemory, Steps};

@@ -1,5 +1,5 @@
-ghost use Rattle.std.specs.Prelude.{◌≡◌, ◌<◌, ◌≤◌, ◌-◌, ◌^◌, length, map, string_bytes, Some, IfOk, IfErr};
-ghost use Rattle.match_cli.specs.Commands.{command_of, IsCommand};
+ghost use Rattle.std.specs.Prelude.{◌≡◌, ◌<◌, ◌≤◌, ◌-◌, ◌^◌, length, map, string_bytes, true, Some, IfOk, IfErr};
+ghost use Rattle.match_cli.specs.Commands.{command_of, is_taken};
 ghost use Rattle.match_cli.specs.Answers.{Answers};
 ghost use Rattle.match_cli.specs.Runs.{Runs, CountsRun, TellsTruth, IsAcceptedAgain, Completes};
 ghost use Rattle.match_cli.specs.Counts.{CountsAnswer, CountsInstance, CountsSource};
@@ -7,11 +7,12 @@ ghost use Rattle.match_cli.specs.Prepared.{Prepares, PreparesUsage, CountsPrepar
 
 use crate::answer::Answer;
 use crate::check::check;
+use crate::commands::{limit, take_command};
 use crate::solve::solve;
 use crate::status::Status;
-use crate::words::{Command, limit, read_command};
+use command_words::Command;
 use mb_base::{OutOfMemory, ReadAll, Sink, Source, Steps, read_all, write_all};
-use std::alloc::Global;
+use std::alloc::{AllocError, Global};
 use std::sync::ledger::Ledger;
 
 /// Why there is no answer.
@@ -37,15 +38,16 @@ fn decide<L: Ledger>(
     bytes: &[u8],
     steps: &mut Steps<L>,
 ) -> Result<Answer, OutOfMemory>
-    requires kind { IsCommand command }
+    requires kind { is_taken command ≡ true }
     requires short { length bytes.now ≤ 2 ^ 32 }
     ensures answer { IfOk result (λ a. Answers command bytes.now a.text.items a.status) }
     ensures steps { CountsAnswer command steps.old steps.new result }
     ensures counted { CountsInstance (Some command) bytes.now steps.old steps.new }
 {
     match command {
-        Command::Check(kind) => check(alloc, kind, bytes),
+        Command::Check { kind } => check(alloc, kind, bytes),
         Command::Solve { kind, brief } => solve(alloc, kind, brief, bytes, steps),
+        Command::Trial { .. } => Err(AllocError),
     }
 }
 
@@ -63,7 +65,10 @@ fn prepare<I: Source, L: Ledger>(
     ensures steps { CountsPreparedSteps (command_of (map string_bytes words.now.items)) steps.old steps.new result }
     ensures counted { CountsSource (map string_bytes words.now.items) (I.left source.old) steps.old steps.new }
 {
-    let Some(command) = read_command(words) else {
+    let Ok(taken) = take_command(alloc, words) else {
+        return Err(Stop::OutOfMemory);
+    };
+    let Some(command) = taken else {
         return ready(alloc, b"s USAGE\n", Status::Usage);
     };
     match read_all(alloc, source, limit(command)) {

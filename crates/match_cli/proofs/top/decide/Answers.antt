@@ -1,5 +1,5 @@
 use Rattle.std.proofs.Common.{Some, sym, subst}
-use Rattle.match_cli.specs.declared.words.Command.{Command}
+use Rattle.command_words.specs.declared.command.Command.{Command}
 use Rattle.match_cli.specs.Counts.{CountsInstance}
 use Rattle.match_cli.proofs.top.decide.Goals as goal
 
