@@ -1,3 +1,5 @@
 mod instances;
+mod odd_joins;
 mod parts;
 mod tours;
+mod within;

@@ -1,0 +1,9 @@
+use Rattle.std.proofs.Common.{◌≡◌, ℕ, ◌+◌, ◌<◌, cond, length, slice_index, take}
+use Rattle.graph_theory.specs.Parts.{holds}
+use Rattle.walk_tests.proofs.tests.odd_joins.counts_of.Given as goal
+
+abbrev pub invariant-loop-edge : goal.invariant-loop-edge
+invariant-loop-edge l = record {
+  size : length l.counts.items ≡ l.m;
+  each : (j : ℕ) → j < l.m → slice_index l.counts.items j ≡ cond (holds (take l.edge-index l.edges) (j + 1)) 1 0;
+}
