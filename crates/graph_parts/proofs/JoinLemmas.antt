@@ -1,12 +1,12 @@
 -- Lemmas on the two outcomes: the edges that are taken as a join, and an odd part that excludes joins.
-use Rattle.std.proofs.Common.{◌≡◌, ℕ, ◌+◌, ◌*◌, ◌%◌, ◌<◌, ◌≤◌, Bool, true, false, cond, eqb, refl, ap, sym, ◌∙◌, subst, inl, inr, arith, List, [], ◌∷◌, length, length-append, slice_index, get_or, replicate, zero, suc}
+use Rattle.std.proofs.Common.{◌≡◌, ℕ, ◌+◌, ◌*◌, ◌%◌, ◌<◌, ◌≤◌, Bool, false, cond, eqb, refl, ap, sym, ◌∙◌, subst, inl, inr, arith, List, [], ◌∷◌, length, length-append, slice_index, get_or, replicate, zero, suc}
 use Rattle.std.proofs.lemmas.Bool.{cases_Bool, eqb-true, eq-eqb}
 use Rattle.std.proofs.lemmas.List.{get_or-replicate}
 use Rattle.std.proofs.lemmas.List.FromFn.{length-map-range_with_len, get_or-map-range_with_len}
 use Rattle.graph_theory.specs.Sums.{sum_to}
 use Rattle.graph_theory.specs.Graph.{Multigraph, IsEdgeNumber, edge_at, edges_around, edges_below, touches, ends_at, degree}
 use Rattle.graph_theory.specs.Parts.{holds, IsOddPart}
-use Rattle.graph_theory.proofs.SumLemmas.{sum_to-same}
+use Rattle.graph_theory.proofs.SumLemmas.{sum_to-same, one_if-most}
 use Rattle.graph_theory.proofs.Edges.{degree-touches}
 use Rattle.graph_theory.proofs.Members.{all_holds, same_tests}
 use Rattle.graph_theory.proofs.OddParts.{odd_part_excludes}
@@ -57,10 +57,6 @@ around-count i v ok =
     ∙ sym (degree-touches g ones v (network-graph i ok).ends)
 
 -- the taken edges are a join where no flag is left
-
-one_if-most : (t : Bool) → one_if t ≤ 1
-one_if-most true = omega arith
-one_if-most false = omega arith
 
 listed-at : (edges : List ℕ) (m k d : ℕ) → k < m → get_or (listed_counts edges m) k d ≡ one_if (holds edges (k + 1))
 listed-at edges m k d b = get_or-map-range_with_len (λ e. cond (holds edges e) 1 0) 1 m k (k + 1) d b (omega arith)
