@@ -1,14 +1,14 @@
 -- The numbers from 1 to k that pass a test, ascending.
 use Rattle.std.proofs.Common.{◌≡◌, ℕ, zero, suc, ◌+◌, ◌<◌, ◌≤◌, Bool, true, false, cond, ◌||◌, eqb, refl, ap, sym, ◌∙◌, inl, inr, arith, List, [], ◌∷◌, ◌++◌, length, map, All, add-one}
 use Rattle.std.specs.List.Sorted.{IsStrictlyIncreasing}
-use Rattle.std.proofs.lemmas.Bool.{eq-eqb, ne_eqb, eqb-true, or_cases, or_right, cases_eq, false≢true}
+use Rattle.std.proofs.lemmas.Bool.{eq-eqb, ne_eqb, eqb-true, or_cases, or_right, cases_eq, false≢true, or_left}
 use Rattle.std.proofs.lemmas.List.{length_push, map-append}
 use Rattle.std.proofs.lemmas.List.Elements.{All-nil, All-push, All-weaker}
 use Rattle.std.proofs.lemmas.List.Sums.{sum_by-append}
 use Rattle.graph_theory.specs.Parts.{holds, IsVertexSet}
 use Rattle.gadget_base.specs.Listed.{times}
 use Rattle.gadget_base.proofs.Listed.{times-cons}
-use Rattle.graph_theory.proofs.Members.{holds-push, holds_all, increasing-push, same_list}
+use Rattle.graph_theory.proofs.Members.{holds-push, holds_all, increasing-push, same_list, same_tests}
 
 abbrev pub passing : (ℕ → Bool) → ℕ → List ℕ
 passing p zero = []
@@ -70,10 +70,6 @@ passing-only p (suc k) v there =
     (λ t h. passing-only p k v h)
     there
 
-either_left : (a b : Bool) → a ≡ true → (a || b) ≡ true
-either_left true b h = refl
-either_left false b h = absurd (cc)
-
 -- and each that passes is there
 pub passing-all : (p : ℕ → Bool) (k v : ℕ) → 1 ≤ v → v ≤ k → p v ≡ true → holds (passing p k) v ≡ true
 passing-all p zero v low high t = absurd (omega arith)
@@ -86,12 +82,9 @@ passing-all p (suc k) v low high t =
       | inr d ↦
           let there : holds (passing p k) v ≡ true = passing-all p k v low (omega arith) t in
           by_test (λ xs. holds xs v ≡ true) (p (suc k)) (passing p k ++ suc k ∷ []) (passing p k)
-          (λ s. holds-push (passing p k) (suc k) v ∙ either_left (holds (passing p k) v) (eqb (suc k) v) there)
+          (λ s. holds-push (passing p k) (suc k) v ∙ or_left (holds (passing p k) v) (eqb (suc k) v) there)
           (λ s. there)
     ]
-
-same_tests : (a b : Bool) → (a ≡ true → b ≡ true) → (b ≡ true → a ≡ true) → a ≡ b
-same_tests a b f h = grind arith
 
 pub passing-holds : (p : ℕ → Bool) (k v : ℕ) → 1 ≤ v → v ≤ k → holds (passing p k) v ≡ p v
 passing-holds p k v low high = same_tests (holds (passing p k) v) (p v) (passing-only p k v) (passing-all p k v low high)
