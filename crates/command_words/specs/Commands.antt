@@ -1,5 +1,5 @@
 -- The command that the words of a command line are.
-use Rattle.std.specs.Prelude.{ℕ, ◌-◌, ◌^◌, List, [], ◌∷◌, codes, Bool, true, false, not, ◌&&◌, ◌||◌, ◌==◌, nat_le, if◌then◌else◌, Option, None, Some}
+use Rattle.std.specs.Prelude.{◌≡◌, ℕ, ◌<◌, ◌≤◌, ◌-◌, ◌^◌, List, [], ◌∷◌, codes, Bool, true, false, not, ◌&&◌, ◌||◌, ◌==◌, nat_le, if◌then◌else◌, Option, None, Some}
 use Rattle.std.specs.Option.{option_map, option_and_then}
 use Rattle.std.specs.Str.{bytes_eq}
 use Rattle.mb_base.specs.Text.{natural}
@@ -61,3 +61,15 @@ after_name _ = None
 abbrev pub command_of : List (List ℕ) → Option Command
 command_of [] = None
 command_of (name ∷ words) = after_name words
+
+-- the numbers of a trial: within the limits of instances, with the ends of an edge and of a path
+pub record IsTrialSize (kind : Kind) (n m : ℕ) : Type 0 where
+  pub vertices : n ≤ VERTEX_LIMIT
+  pub edges : m ≤ EDGE_LIMIT
+  pub ends : 0 < m → 2 ≤ n
+  pub path : kind ≡ Path → 2 ≤ n
+
+abbrev pub HasRanges : Command → Type 0
+HasRanges (Solve kind brief) = Unit {0}
+HasRanges (Check kind) = Unit {0}
+HasRanges (Trial kind start n m) = IsTrialSize kind n m

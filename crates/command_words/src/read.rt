@@ -1,5 +1,5 @@
-ghost use Rattle.std.specs.Prelude.{◌≡◌, map, string_bytes, IfOk};
-ghost use Rattle.command_words.specs.Commands.{command_of};
+ghost use Rattle.std.specs.Prelude.{◌≡◌, map, string_bytes, IfOk, IfSome};
+ghost use Rattle.command_words.specs.Commands.{command_of, HasRanges};
 
 use crate::command::Command;
 use crate::form::has_form;
@@ -25,6 +25,9 @@ fn read_words(alloc: Global, words: &[String]) -> Result<Option<Command>, OutOfM
 /// `trial KIND START N M`, where the numbers are digits alone. An error is want of memory.
 pub fn read_command(alloc: Global, words: &Vec<String>) -> Result<Option<Command>, OutOfMemory>
     ensures exact { IfOk result (λ c. c ≡ command_of (map string_bytes words.now.items)) }
+
+    // The numbers of a trial are within their limits.
+    ensures ranges { IfOk result (λ c. IfSome c HasRanges) }
 {
     read_words(alloc, words.as_slice())
 }

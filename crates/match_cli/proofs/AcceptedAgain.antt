@@ -16,8 +16,6 @@ use Rattle.doc_format.specs.declared.document.Document.{Document}
 use Rattle.doc_format.specs.Reading.{HoldsDocument}
 use Rattle.doc_format.specs.Spelling.{document_text}
 use Rattle.doc_format.specs.Law.{HasKeptNumbers}
-use Rattle.certificates.proofs.GadgetLemmas.{few_vertices}
-use Rattle.certificates.proofs.WithinLemmas.{are-within}
 use Rattle.certificates.proofs.BarrierLemmas.{forms-where_none}
 use Rattle.cert_check.proofs.VerdictLemmas.{IsFormed, proved-keeps}
 use Rattle.match_cli.specs.declared.status.Status.{Status}
@@ -31,18 +29,9 @@ use Rattle.match_cli.specs.Answers.{instance_part, document_part, document_line,
 use Rattle.match_cli.specs.Runs.{IsAnswer, EndsLine, IsAccepted, IsAcceptedAgain}
 use Rattle.match_cli.proofs.CommandLines.{check_named}
 use Rattle.match_cli.proofs.InputParts.{rows-both, after-both, instance-alone, instance-before}
-use Rattle.match_cli.proofs.Renumbering.{renumbered, text_holds}
-use Rattle.match_cli.proofs.KeptNumbers.{kept_numbers}
-use Rattle.match_cli.proofs.SameClaims.{proved-lines, truth-lines}
-
--- what is read of a document that is within the limits
-kept : (kind : Kind) (i : Network) (d : Document) → IsWithinLimits (size_of kind i) → Solves kind i d → HasKeptNumbers d
-kept kind i d fits solves =
-    let few = solves.network.few_vertices in
-    let short = solves.network.few_edges in
-    let certified = few_vertices kind i fits in
-    let small = solves.small in
-    kept_numbers kind i d (are-within kind i d solves.proved.in_range) (omega arith) (omega arith) (omega arith) (omega arith)
+use Rattle.trial_run.proofs.Renumbering.{renumbered, text_holds}
+use Rattle.trial_run.proofs.ProvedAgain.{kept}
+use Rattle.trial_run.proofs.SameClaims.{proved-lines, truth-lines}
 
 formed : (d : Document) → IsFormed d
 formed d = record { vertices_ascend = d.form.vertices_ascend; forms_where_none = λ other. forms-where_none d.status d.kind _ d.form.letters other }
@@ -86,7 +75,7 @@ accepts_text kind front i d short alone fits solves name =
     let input = front ++ 10 ∷ [] in
     let sum = length-append input (document_text d false) in
     let small = solves.small in
-    let accepts = accepts_both kind front i d alone (kept kind i d fits solves) fits solves in
+    let accepts = accepts_both kind front i d alone (kept kind i d solves.network fits solves.proved solves.small) fits solves in
     (Check kind, check_named kind name, omega arith, (i, renumbered (document_line (input ++ document_text d false)) d, accepts, refl))
 
 solved_is_accepted : (kind : Kind) (bytes out : List ℕ) → length bytes ≤ SOLVE_BYTE_LIMIT → EndsLine bytes → DecidesSolve kind false bytes out Done → IsAccepted kind bytes out

@@ -1,9 +1,6 @@
 pub mod Checks
 pub mod Prepares
 pub mod InputParts
-pub mod Renumbering
-pub mod KeptNumbers
-pub mod SameClaims
 pub mod CommandLines
 pub mod AcceptedAgain
 pub mod StepCounts

@@ -1,0 +1,8 @@
+use Rattle.std.proofs.Common.{map}
+use Rattle.std.specs.Prelude.{string_bytes}
+use Rattle.std.proofs.lemmas.Result.{IfOk-weaker}
+use Rattle.command_words.proofs.Ranges.{found_ranges}
+use Rattle.command_words.proofs.read.read_command.Goals as goal
+
+pub returns-clause-ranges : goal.returns-clause-ranges
+returns-clause-ranges c = IfOk-weaker c.read_words.result _ _ (λ o is. found_ranges (map string_bytes c.as_slice.result.now) o is) c.read_words.ensures

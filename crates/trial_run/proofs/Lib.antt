@@ -1,0 +1,5 @@
+pub mod Renumbering
+pub mod KeptNumbers
+pub mod SameClaims
+pub mod OneDocument
+pub mod ProvedAgain

@@ -1,0 +1,6 @@
+use Rattle.trial_run.proofs.ProvedAgain.{kept}
+use Rattle.trial_run.proofs.trial.try_instance.Goals as goal
+
+pub judge_text-requires-clause-kept : goal.judge_text-requires-clause-kept
+judge_text-requires-clause-kept g c =
+    kept c.args.kind c.args.instance.now c.in_ok-document.document c.edges-edges.ensures.network c.requires.limits c.in_ok-document.ensures.proved c.in_ok-document.ensures.small

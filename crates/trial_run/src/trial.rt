@@ -1,0 +1,78 @@
+ghost use Rattle.std.specs.Prelude.{◌≡◌, ◌+◌, ◌≤◌, true, false, length, IfOk};
+ghost use Rattle.graph_theory.specs.Limits.{IsWithinLimits};
+ghost use Rattle.mb_problem.specs.Network.{IsNetwork};
+ghost use Rattle.mb_problem.specs.Size.{size_of};
+ghost use Rattle.dimacs_read.specs.Ready.{IsReady};
+ghost use Rattle.doc_format.specs.Law.{HasKeptNumbers};
+ghost use Rattle.doc_format.specs.Spelling.{document_text};
+ghost use Rattle.certificates.specs.Proved.{IsProved, StatesTruth};
+ghost use Rattle.mwpm_engine.specs.Solutions.{most_steps};
+ghost use Rattle.solve_kinds.specs.Solved.{is_solved, HasTrueStatus};
+
+use cert_check::{DocRule, Verdict, judge};
+use doc_format::{DocError, Document, read, write};
+use mb_base::{OutOfMemory, Steps};
+use mb_problem::{Instance, Kind};
+use solve_kinds::{DOCUMENT_BYTE_LIMIT, solve};
+use std::alloc::{AllocError, Global};
+use std::sync::ledger::Ledger;
+
+/// A computed document, and the verdict on it as it reads back from its text.
+#[derive(Drop)]
+pub struct Trial {
+    pub document: Document,
+    pub verdict: Verdict,
+}
+
+/// The verdict on a document as it reads back from its text.
+fn judge_text(
+    alloc: Global,
+    instance: &Instance,
+    kind: Kind,
+    document: &Document,
+) -> Result<Verdict, OutOfMemory>
+    requires limits { IsWithinLimits (size_of kind instance.now) }
+    requires ready { IsReady kind instance.now }
+    requires proved { IsProved kind instance.now document.now }
+    requires kept { HasKeptNumbers document.now }
+    ensures { IfOk result (λ v. v ≡ Verdict.Accepted) }
+{
+    let text = write(alloc, document, false)?;
+    match read(alloc, text.as_slice(), 1) {
+        Ok(again) => judge(alloc, instance, kind, &again),
+        Err(DocError::DocForm { line }) => {
+            let rule = DocRule::DocForm;
+            Ok(Verdict::Rejected { rule, line })
+        }
+        Err(DocError::OutOfMemory) => Err(AllocError),
+    }
+}
+
+/// Solves an instance, writes the document in full, reads it back and judges it (Schrijver, Combinatorial
+/// Optimization, volume A, chapters 24 to 26): the verdict is yes, whatever the instance is. The steps of
+/// the search are counted on `steps`. An error is want of memory.
+pub fn try_instance<L: Ledger>(
+    alloc: Global,
+    instance: &Instance,
+    kind: Kind,
+    steps: &mut Steps<L>,
+) -> Result<Trial, OutOfMemory>
+    requires kind { is_solved kind ≡ true }
+    requires limits { IsWithinLimits (size_of kind instance.now) }
+    requires ready { IsReady kind instance.now }
+    ensures proved { IfOk result (λ t. IsProved kind instance.now t.document) }
+    ensures truth { IfOk result (λ t. StatesTruth kind instance.now t.document) }
+    ensures exact { IfOk result (λ t. HasTrueStatus kind instance.now t.document.status) }
+    ensures small { IfOk result (λ t. length (document_text t.document false) ≤ DOCUMENT_BYTE_LIMIT) }
+    ensures network { IsNetwork instance.now }
+
+    // The document is accepted as it reads back.
+    ensures accepted { IfOk result (λ t. t.verdict ≡ Verdict.Accepted) }
+    ensures steps { steps.new ≤ steps.old + most_steps (size_of kind instance.now) }
+{
+    // The prover learns here that the instance is valid.
+    let _edges = instance.edges();
+    let document = solve(alloc, instance, kind, steps)?;
+    let verdict = judge_text(alloc, instance, kind, &document)?;
+    Ok(Trial { document, verdict })
+}
