@@ -176,11 +176,36 @@ def valued(n, pairs, most_count, most_weight, capacities, seed=1):
     return ("\n".join(head + lines) + "\n").encode()
 
 
+def grid(rows, columns, most, seed=1):
+    """Crossings and streets: each crossing joined to the next in its row and in its column, no weight below 0."""
+    draw = random.Random(seed)
+    at = lambda row, column: row * columns + column + 1
+    pairs = [(at(row, column), at(row, column + 1)) for row in range(rows) for column in range(columns - 1)]
+    pairs += [(at(row, column), at(row + 1, column)) for row in range(rows - 1) for column in range(columns)]
+    return text(rows * columns, [(u, v, draw.randint(0, most)) for u, v in pairs])
+
+
+def wheel(spokes, most, seed=1):
+    """A circuit, each vertex of it joined to one more, no weight below 0."""
+    draw = random.Random(seed)
+    pairs = [(v, v % spokes + 1) for v in range(1, spokes + 1)] + [(v, spokes + 1) for v in range(1, spokes + 1)]
+    return text(spokes + 1, [(u, v, draw.randint(0, most)) for u, v in pairs])
+
+
+def ends(given, n):
+    """The instance with odd values at its first and its last vertex."""
+    return given + b"n 1 1\nn %d 1\n" % n
+
+
 def kinds():
     yield "match", random_graph(400, 4000, 10**6)
     yield "bmatch", valued(30, 90, 6, 10**6, False)
     yield "capmatch", valued(40, 120, 4, 10**6, True)
     yield "ffactor", valued(100, 300, 1, 10**6, False)
+    yield "tjoin", ends(grid(20, 26, 10**6), 520)
+    yield "postman", grid(20, 26, 10**6)
+    yield "postman", wheel(500, 10**6)
+    yield "path", ends(grid(20, 26, 10**6), 520)
 
 
 def measure_kind(kind, given):

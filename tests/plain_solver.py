@@ -1,4 +1,5 @@
-"""A plain second solver for small instances: the weight of a best answer, by trying all counts edge by edge.
+"""A plain second solver for small instances: the weight of a best answer, by trying all counts edge by edge, all sets of
+edges for joins, all paths and circuits for paths; a tour is all edges and a least join of the odd vertices once more.
 
 It shares nothing with the program: the end-to-end tests compare the two."""
 from functools import lru_cache
@@ -36,6 +37,84 @@ def best_weight(kind, edges, values):
         return choose(answers, default=None)
 
     return best(0, tuple(values) if kind in VALUED else (1,) * len(values))
+
+
+def least_join(edges, odd):
+    """The least weight of a set of edges with an odd degree at exactly these vertices, or None: all sets of edges, those of
+    the same odd vertices together."""
+    found = {frozenset(): 0}
+    for u, v, w, _ in edges:
+        for vertices, weight in list(found.items()):
+            turned = vertices ^ {u, v}
+            found[turned] = min(found.get(turned, weight + w), weight + w)
+    return found.get(frozenset(odd))
+
+
+def component(edges, start):
+    """The vertices that walks join with one."""
+    reached = {start}
+    while True:
+        more = {t for u, v, _, _ in edges if u in reached or v in reached for t in (u, v)} - reached
+        if not more:
+            return reached
+        reached |= more
+
+
+def walks(edges, start, ends):
+    """The weights of all walks from a vertex to another, or back, that come to no vertex and use no edge twice."""
+
+    def onward(here, weight, vertices, used):
+        for place, (u, v, w, _) in enumerate(edges):
+            if here in (u, v) and place not in used:
+                there = v if here == u else u
+                if there in ends:
+                    yield weight + w
+                elif there not in vertices:
+                    yield from onward(there, weight + w, vertices | {there}, used | {place})
+
+    return onward(start, 0, {start}, frozenset())
+
+
+def odd_vertices(values):
+    return [v for v, value in enumerate(values, 1) if value % 2]
+
+
+def excluding_part(kind, edges, values):
+    """The vertices that no edge leaves and that exclude all joins, tours or paths, or None."""
+    if kind == "postman":
+        first = component(edges, min(min(edge[:2]) for edge in edges)) if edges else set()
+        return first if any(edge[0] not in first for edge in edges) else None
+    for v in range(1, len(values) + 1):
+        part = component(edges, v)
+        if len(part & set(odd_vertices(values))) % 2:
+            return part
+    return None
+
+
+def join_lines(kind, edges, values):
+    """The first line of an answer for a join, a tour or a path, and the second where there is no answer."""
+    if kind == "path" and any(weight < 0 for v in range(1, len(values) + 1) for weight in walks(edges, v, {v})):
+        return ["s NONCONSERVATIVE path"]
+    part = excluding_part(kind, edges, values)
+    if part is not None:
+        return ["s INFEASIBLE " + kind, " ".join(map(str, ["q" if kind == "postman" else "t", len(part)] + sorted(part)))]
+    if kind == "tjoin":
+        weight = least_join(edges, odd_vertices(values))
+    elif kind == "postman":
+        odd = [v for v in range(1, len(values) + 1) if sum(v in edge[:2] for edge in edges) % 2]
+        weight = sum(edge[2] for edge in edges) + least_join(edges, odd)
+    else:
+        s, t = odd_vertices(values)
+        weight = min(walks(edges, s, {t}))
+    return ["s OPTIMAL %s %d" % (kind, weight)]
+
+
+def first_lines(kind, edges, values):
+    """The lines of a full answer that are wanted."""
+    if kind not in KINDS:
+        return join_lines(kind, edges, values)
+    best = best_weight(kind, edges, values)
+    return ["s INFEASIBLE " + kind if best is None else "s OPTIMAL %s %d" % (kind, best)]
 
 
 def instance(edges, values):

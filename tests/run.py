@@ -4,6 +4,7 @@
 Usage: run.py PROGRAM. Prints each failure; the last line is 'N passed, M failed'; the status is 1 if a
 test failed or none ran."""
 import glob
+import itertools
 import json
 import os
 import random
@@ -178,17 +179,34 @@ def made_instances():
             yield kind, edges, values
 
 
+def made_joins():
+    """Small instances for joins, tours and paths: for tours no weight is below 0, for paths two values are odd."""
+    chance = random.Random(4)
+    for kind in ("tjoin", "postman", "path"):
+        for turn in range(120):
+            n = chance.choice((0, 1, 2, 3, 4, 5, 6, 7)) if kind != "path" else chance.choice((2, 3, 4, 5, 6, 7))
+            edges = made_edges(chance, n, chance.randint(n // 2, 2 * n), chance.choice((0, 1, 9, 10**9)), 1)
+            if kind == "postman" or turn % 3 == 0:
+                edges = [(u, v, abs(w), capacity) for u, v, w, capacity in edges]
+            if turn % 4 == 1:  # two heaps of vertices, so that more of the instances have no answer
+                edges = [edge for edge in edges if (edge[0] + edge[1]) % 2 == 0]
+            values = [2 * chance.randint(0, 1) for _ in range(n)]
+            for v in chance.sample(range(n), 2 if kind == "path" else chance.randint(0, n)):
+                values[v] += 1
+            yield kind, edges, values
+
+
 def solved(tests):
     """What `solve` writes for an instance is as good as what trying all counts finds, and `check` accepts it."""
-    for turn, (kind, edges, values) in enumerate(made_instances()):
+    for turn, (kind, edges, values) in enumerate(itertools.chain(made_instances(), made_joins())):
         name = "made instance %d, %s" % (turn, kind)
         text = plain_solver.instance(edges, values)
-        best = plain_solver.best_weight(kind, edges, values)
-        wanted = "s INFEASIBLE " + kind if best is None else "s OPTIMAL %s %d" % (kind, best)
+        wanted = plain_solver.first_lines(kind, edges, values)
         status, output, _ = run(["solve", kind], text.encode())
-        tests.compare(name, text, (0, wanted), (status, output.split("\n")[0]))
+        tests.compare(name, text, (0, wanted), (status, output.split("\n")[:len(wanted)]))
         tests.expect(name + ", checked", ["check", kind], (text + output).encode(), "s ACCEPTED\n", 0)
-        brief = "".join(line + "\n" for line in output.splitlines() if line[0] in "sx")
+        kept = "s" if wanted[0].startswith("s NONCONSERVATIVE") else "swx"
+        brief = "".join(line + "\n" for line in output.splitlines() if line[0] in kept)
         tests.expect(name + ", briefly", ["solve", kind, "--brief"], text.encode(), brief, 0)
 
 
@@ -197,7 +215,7 @@ def large_instances(tests):
     chance = random.Random(3)
     for kind, n, m, most in (("perfect", 60, 200, 10), ("perfect", 100, 300, 10**9), ("perfect", 200, 400, 3),
                              ("perfect", 300, 3000, 1000), ("match", 101, 400, 10**9), ("bmatch", 40, 120, 100),
-                             ("capmatch", 20, 60, 100), ("ffactor", 40, 120, 100)):
+                             ("capmatch", 20, 60, 100), ("ffactor", 40, 120, 100), ("tjoin", 100, 250, 100)):
         order = chance.sample(range(1, n + 1), n)
         pairs = list(zip(order[::2], order[1::2])) + [tuple(chance.sample(range(1, n + 1), 2)) for _ in range(m - n // 2)]
         edges = [(u, v, chance.randint(-most, most), 3) for u, v in pairs]

@@ -1,5 +1,5 @@
 -- Each feasible answer is the answer of a code, so what is best among all codes is best.
-use Rattle.std.proofs.Common.{◌≡◌, ℕ, ◌<◌, ◌≤◌, ◌-◌, min, true, cond, Bool, List, length, slice_index, map, Option, Some, None, IfSome, ap, refl, sym, ◌∙◌, subst, arith}
+use Rattle.std.proofs.Common.{◌≡◌, ℕ, ◌<◌, ◌≤◌, min, true, cond, Bool, List, length, slice_index, Option, Some, None, IfSome, ap, refl, sym, ◌∙◌, subst, arith}
 use Rattle.std.proofs.Math.Nat.{le-min}
 use Rattle.std.proofs.lemmas.List.{length-map, get_or-map as read-map}
 use Rattle.graph_theory.specs.declared.edge.Edge.{Edge}
@@ -10,12 +10,11 @@ use Rattle.mb_problem.specs.declared.kind.Kind.{Kind}
 use Rattle.mb_problem.specs.declared.kind.Kind.TheVariants.{Perfect, Match, BMatch, CapMatch, FFactor, TJoin, Postman, Path}
 use Rattle.mb_problem.specs.declared.answer.Answer.{Answer}
 use Rattle.mb_problem.specs.declared.answer.Answer.TheVariants.{Counts, Walk, Nothing}
-use Rattle.mb_problem.specs.declared.instance.InstanceEdge.{InstanceEdge}
-use Rattle.mb_problem.specs.Network.{Network, IsNetwork, plain, graph_of, vertices, value_of, instance_edge_at, no_instance_edge}
+use Rattle.mb_problem.specs.Network.{Network, IsNetwork, graph_of, vertices, value_of, instance_edge_at, no_instance_edge}
 use Rattle.mb_problem.specs.Size.{bounded}
 use Rattle.mb_problem.specs.Feasible.{IsFeasible, IsAsGood, IsBMatching, AtMostOnce, weight_of}
 use Rattle.mb_problem.proofs.EdgeLemmas.{edges-count, network-graph, edge_at-graph_of}
-use Rattle.brute_force.specs.Digits.{digits, digit_lists}
+use Rattle.brute_force.specs.Digits.{digit_lists}
 use Rattle.brute_force.specs.Best.{is_counted, most_of, mosts, IsBestOrNone}
 use Rattle.brute_force.specs.Tried.{answer_of, IsBestBelow}
 use Rattle.brute_force.proofs.Codes.{AreUpTo, up_to, code_of, code_of-below, digits-code_of}

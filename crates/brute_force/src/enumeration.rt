@@ -10,16 +10,16 @@ ghost use Rattle.brute_force.specs.declared.limits.TheConstants.{TRIAL_LIMIT};
 use crate::digits::{digits_of, lists};
 use crate::mosts::mosts;
 use mb_base::OutOfMemory;
-use mb_problem::{Answer, Instance, Kind, feasible, weight};
+use mb_problem::{Answer, Instance, Kind, Sense, feasible, weight};
 use std::alloc::Global;
 
 /// Whether an answer of one weight is better than an answer of the other.
 fn is_better(kind: Kind, one: i128, other: i128) -> bool
     ensures { MatchBool result (IsAsGood kind one other) (IsAsGood kind other one) }
 {
-    match kind {
-        Kind::Match => one > other,
-        _ => one < other,
+    match kind.sense() {
+        Sense::Greatest => one > other,
+        Sense::Least => one < other,
     }
 }
 

@@ -38,7 +38,7 @@ fn most_of(instance: &Instance, kind: Kind, edge: &InstanceEdge) -> u32
     match kind {
         Kind::BMatch => valued(instance, edge),
         Kind::CapMatch => capped(edge.capacity, valued(instance, edge)),
-        _ => 1,
+        Kind::Perfect | Kind::Match | Kind::FFactor | Kind::TJoin | Kind::Postman | Kind::Path => 1,
     }
 }
 

@@ -3,11 +3,12 @@ use Rattle.std.proofs.Common.{◌≡◌, ℕ, ◌+◌, pos, ◌≤ℤ◌, All, L
 use Rattle.std.specs.Prelude.{IfOk}
 use Rattle.mb_base.specs.Rows.{rows}
 use Rattle.mb_problem.specs.declared.kind.Kind.{Kind}
-use Rattle.mb_problem.specs.declared.kind.Kind.TheVariants.{Postman}
+use Rattle.mb_problem.specs.declared.kind.Kind.TheVariants.{Postman, Path}
 use Rattle.mb_problem.specs.Network.{Network}
 use Rattle.mb_problem.specs.Size.{size_of}
 use Rattle.graph_theory.specs.Limits.{IsWithinLimits}
 use Rattle.dimacs_read.specs.Ready.{IsReady}
+use Rattle.solve_kinds.specs.Solved.{HasEnds}
 use Rattle.dimacs_read.specs.declared.rest.Rest.{Rest}
 use Rattle.dimacs_read.specs.Rest.{IsRest}
 use Rattle.doc_format.specs.declared.document.Document.{Document}
@@ -74,3 +75,6 @@ form_answers kind i n k line bytes (Err x) e refused text status = tt
 
 pub none_below : (kind : Kind) (i : Network) → IsReady kind i → kind ≡ Postman → All (λ e. pos 0 ≤ℤ e.w) i.edges
 none_below kind i ready is = subst (λ (k : Kind). IsReady k i) is ready
+
+pub two_ends : (kind : Kind) (i : Network) → IsReady kind i → kind ≡ Path → HasEnds i
+two_ends kind i ready is = let path : IsReady Path i = subst (λ (k : Kind). IsReady k i) is ready in (path.s, path.t, path.ends)

@@ -8,6 +8,7 @@ use Rattle.mb_problem.specs.Network.{Network}
 use Rattle.mb_problem.specs.Size.{size_of}
 use Rattle.graph_theory.specs.Limits.{Size, IsWithinLimits}
 use Rattle.mwpm_engine.specs.Solutions.{most_steps}
+use Rattle.solve_kinds.specs.Solved.{searches_of}
 use Rattle.dimacs_read.proofs.ReadingLemmas.{one_instance}
 use Rattle.match_cli.specs.declared.status.Status.{Status}
 use Rattle.match_cli.specs.declared.status.Status.TheVariants.{Done, Rejected, Usage, Malformed, TooLarge, TooLong, ReadFault, WriteFault, OutOfMemory}
@@ -39,15 +40,16 @@ none_counted command before after OutOfMemory same = same
 -- ---- a search
 
 -- within the limits a search counts no more than at the limits
-pub within_limits : (size : Size) (before after : ℕ) → IsWithinLimits size → after ≤ before + most_steps size → after ≤ before + most_steps largest
-within_limits size before after fits counted =
+pub within_limits : (size : Size) (searches before after : ℕ) → IsWithinLimits size → after ≤ before + searches * most_steps size → after ≤ before + searches * most_steps largest
+within_limits size searches before after fits counted =
     let vertices : size.vertices + 1 ≤ largest.vertices + 1 = omega (arith, fits.vertices) in
     let phases : 3 * size.vertices + 2 ≤ 3 * largest.vertices + 2 = omega (arith, fits.vertices) in
     let edges : size.edges + 1 ≤ largest.edges + 1 = omega (arith, fits.edges) in
     let less : most_steps size ≤ most_steps largest = mul-le-mul (mul-le-mul vertices phases) edges in
-    omega (arith, counted, less)
+    let all : searches * most_steps size ≤ searches * most_steps largest = mul-le-mul (let same : searches ≤ searches = omega arith in same) less in
+    omega (arith, counted, all)
 
-searched : (kind : Kind) (brief : Bool) (i : Network) (out : List ℕ) (before after : ℕ) (status : Status) → SolvedAnswer kind brief i out status → after ≤ before + most_steps largest → CountsSteps (Some (Solve kind brief)) before after status
+searched : (kind : Kind) (brief : Bool) (i : Network) (out : List ℕ) (before after : ℕ) (status : Status) → SolvedAnswer kind brief i out status → after ≤ before + searches_of kind * most_steps largest → CountsSteps (Some (Solve kind brief)) before after status
 searched kind brief i out before after Done answer counted = counted
 searched kind brief i out before after Rejected answer counted = absurd answer
 searched kind brief i out before after Usage answer counted = absurd answer
@@ -58,9 +60,9 @@ searched kind brief i out before after ReadFault answer counted = absurd answer
 searched kind brief i out before after WriteFault answer counted = absurd answer
 searched kind brief i out before after OutOfMemory answer counted = absurd answer
 
-pub search_counts : (kind : Kind) (brief : Bool) (i : Network) (before after : ℕ) {E : Type 0} (r : Result Answer E) → IsWithinLimits (size_of kind i) → IfOk r (DecidesSolved kind brief i) → after ≤ before + most_steps (size_of kind i) → CountsAnswer (Solve kind brief) before after r
-search_counts kind brief i before after (Ok a) fits answer counted = searched kind brief i a.text.items before after a.status answer (within_limits (size_of kind i) before after fits counted)
-search_counts kind brief i before after (Err e) fits answer counted = within_limits (size_of kind i) before after fits counted
+pub search_counts : (kind : Kind) (brief : Bool) (i : Network) (before after : ℕ) {E : Type 0} (r : Result Answer E) → IsWithinLimits (size_of kind i) → IfOk r (DecidesSolved kind brief i) → after ≤ before + searches_of kind * most_steps (size_of kind i) → CountsAnswer (Solve kind brief) before after r
+search_counts kind brief i before after (Ok a) fits answer counted = searched kind brief i a.text.items before after a.status answer (within_limits (size_of kind i) (searches_of kind) before after fits counted)
+search_counts kind brief i before after (Err e) fits answer counted = within_limits (size_of kind i) (searches_of kind) before after fits counted
 
 -- ---- the instance that the source gives
 
@@ -75,11 +77,11 @@ same_solve : (a b : Kind) (c d : Bool) → Some (Solve a c) ≡ Some (Solve b d)
 same_solve a b c d e = cc
 
 -- an input holds one instance
-pub counted_for : (kind : Kind) (brief : Bool) (bytes : List ℕ) (j : Network) (before after : ℕ) → InputHolds kind bytes j → after ≤ before + most_steps (size_of kind j) → CountsInstance (Some (Solve kind brief)) bytes before after
+pub counted_for : (kind : Kind) (brief : Bool) (bytes : List ℕ) (j : Network) (before after : ℕ) → InputHolds kind bytes j → after ≤ before + searches_of kind * most_steps (size_of kind j) → CountsInstance (Some (Solve kind brief)) bytes before after
 counted_for kind brief bytes j before after held counted other other_brief i is holds =
     let same : kind ≡ other = same_solve kind other brief other_brief is in
     let here : InputHolds kind bytes i = subst (λ (k : Kind). InputHolds k bytes i) (sym same) holds in
-    subst (λ (k : Kind). after ≤ before + most_steps (size_of k i)) same (subst (λ (n : Network). after ≤ before + most_steps (size_of kind n)) (one_instance kind (instance_part bytes) j i held here) counted)
+    subst (λ (k : Kind). after ≤ before + searches_of k * most_steps (size_of k i)) same (subst (λ (n : Network). after ≤ before + searches_of kind * most_steps (size_of kind n)) (one_instance kind (instance_part bytes) j i held here) counted)
 
 -- all bytes of the source were read
 pub source_counted : (words : List (List ℕ)) (command : Command) (source left : Option (List ℕ)) (bytes : List ℕ) (before after : ℕ) → command_of words ≡ Some command → Consumes source left bytes → IsAtEnd left → CountsInstance (Some command) bytes before after → CountsSource words source before after

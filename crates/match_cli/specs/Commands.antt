@@ -1,16 +1,15 @@
 -- The command that the words of a command line are, where the program takes it.
 use Rattle.std.specs.Prelude.{ℕ, List, Bool, true, false, if◌then◌else◌, Option, None, Some}
 use Rattle.std.specs.Option.{option_and_then}
-use Rattle.solve_kinds.specs.Solved.{is_solved}
 use Rattle.command_words.specs.Commands as spelled
 use Rattle.command_words.specs.declared.command.Command.{Command}
 use Rattle.command_words.specs.declared.command.Command.TheVariants.{Check, Solve, Trial}
 use Rattle.match_cli.specs.declared.limits.TheConstants.{SOLVE_BYTE_LIMIT, CHECK_BYTE_LIMIT}
 
--- a command that the program takes: `solve` for a kind that is solved
+-- a command that the program takes
 abbrev pub is_taken : Command → Bool
 is_taken (Check kind) = true
-is_taken (Solve kind brief) = is_solved kind
+is_taken (Solve kind brief) = true
 is_taken (Trial kind start n m) = false
 
 abbrev pub taken : Command → Option Command

@@ -10,6 +10,7 @@ use Rattle.doc_format.specs.declared.document.Document.{Document}
 use Rattle.doc_format.specs.Spelling.{document_text}
 use Rattle.certificates.specs.Proved.{IsProved, StatesTruth}
 use Rattle.solve_kinds.specs.declared.limits.TheConstants.{DOCUMENT_BYTE_LIMIT}
+use Rattle.solve_kinds.specs.Chosen.{IsChosen}
 use Rattle.solve_kinds.specs.Solved.{HasTrueStatus}
 use Rattle.match_cli.specs.declared.status.Status.{Status}
 use Rattle.match_cli.specs.declared.status.Status.TheVariants.{Done, Malformed, TooLarge}
@@ -18,12 +19,14 @@ use Rattle.match_cli.specs.Lines.{malformed_line, too_large_line}
 
 -- ---- an instance within the limits
 
--- the document proves what it states of the instance: that an answer is best, exactly where one is feasible, or that there is none
+-- the document proves what it states of the instance: that an answer is best, exactly where one is feasible, that there is
+-- none, or, for a path, that some circuit weighs less than 0; what is a choice is chosen as `solve` says
 pub record Solves (kind : Kind) (i : Network) (d : Document) : Type 0 where
   pub network : IsNetwork i
   pub proved : IsProved kind i d
   pub truth : StatesTruth kind i d
   pub exact : HasTrueStatus kind i d.status
+  pub chosen : IsChosen kind i d
   pub small : length (document_text d false) ≤ DOCUMENT_BYTE_LIMIT
 
 abbrev pub SolvedAnswer : Kind → Bool → Network → List ℕ → Status → Type 0

@@ -4,7 +4,6 @@ ghost use Rattle.match_cli.specs.Commands.{command_of, is_taken, limit_of};
 use crate::limits::{CHECK_BYTE_LIMIT, SOLVE_BYTE_LIMIT};
 use command_words::{Command, read_command};
 use mb_base::OutOfMemory;
-use solve_kinds::is_solved;
 use std::alloc::Global;
 
 /// Whether the program takes the command.
@@ -12,8 +11,7 @@ fn is_taken(command: Command) -> bool
     ensures { result ≡ is_taken command }
 {
     match command {
-        Command::Check { .. } => true,
-        Command::Solve { kind, .. } => is_solved(kind),
+        Command::Check { .. } | Command::Solve { .. } => true,
         Command::Trial { .. } => false,
     }
 }

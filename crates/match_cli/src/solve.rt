@@ -1,11 +1,12 @@
-ghost use Rattle.std.specs.Prelude.{Some, true, ◌≡◌, ◌≢◌, ◌+◌, ◌≤◌, ◌^◌, length, IfOk};
+ghost use Rattle.std.specs.Prelude.{Some, ◌≡◌, ◌≢◌, ◌+◌, ◌*◌, ◌≤◌, ◌^◌, length, IfOk};
 ghost use Rattle.graph_theory.specs.Limits.{IsWithinLimits};
 ghost use Rattle.mb_problem.specs.Network.{IsNetwork};
 ghost use Rattle.mb_problem.specs.Size.{size_of};
+ghost use Rattle.dimacs_read.specs.Ready.{IsReady};
 ghost use Rattle.mwpm_engine.specs.Solutions.{most_steps};
 ghost use Rattle.doc_format.specs.Spelling.{document_text};
 ghost use Rattle.match_cli.specs.Answers.{DecidesSolve};
-ghost use Rattle.solve_kinds.specs.Solved.{is_solved};
+ghost use Rattle.solve_kinds.specs.Solved.{searches_of};
 ghost use Rattle.match_cli.specs.Counts.{CountsAnswer, CountsInstance};
 ghost use Rattle.match_cli.specs.Solving.{DecidesSolved, DecidesSized, DecidesFollowed};
 
@@ -37,11 +38,11 @@ fn solve_within<L: Ledger>(
     instance: &Instance,
     steps: &mut Steps<L>,
 ) -> Result<Answer, OutOfMemory>
-    requires kind { is_solved kind ≡ true }
+    requires ready { IsReady kind instance.now }
     requires limits { IsWithinLimits (size_of kind instance.now) }
     requires network { IsNetwork instance.now }
     ensures answer { IfOk result (DecidesSolved kind brief instance.now) }
-    ensures counted { steps.new ≤ steps.old + most_steps (size_of kind instance.now) }
+    ensures counted { steps.new ≤ steps.old + searches_of kind * most_steps (size_of kind instance.now) }
 {
     match solve_kinds::solve(alloc, instance, kind, steps) {
         Ok(document) => solved(alloc, &document, brief),
@@ -57,11 +58,11 @@ fn solve_instance<L: Ledger>(
     instance: &Instance,
     steps: &mut Steps<L>,
 ) -> Result<Answer, OutOfMemory>
-    requires kind { is_solved kind ≡ true }
+    requires ready { IsReady kind instance.now }
     requires network { IsNetwork instance.now }
     ensures answer { IfOk result (DecidesSized kind brief instance.now) }
     ensures steps { CountsAnswer (Command.Solve kind brief) steps.old steps.new result }
-    ensures counted { steps.new ≤ steps.old + most_steps (size_of kind instance.now) }
+    ensures counted { steps.new ≤ steps.old + searches_of kind * most_steps (size_of kind instance.now) }
 {
     let (vertices, edges) = gadget_size(instance, kind);
     if !is_within_limits(vertices, edges) {
@@ -79,11 +80,11 @@ fn solve_followed<L: Ledger>(
     rest: &Rest,
     steps: &mut Steps<L>,
 ) -> Result<Answer, OutOfMemory>
-    requires kind { is_solved kind ≡ true }
+    requires ready { IsReady kind instance.now }
     requires network { IsNetwork instance.now }
     ensures answer { IfOk result (DecidesFollowed kind brief instance.now rest.now) }
     ensures steps { CountsAnswer (Command.Solve kind brief) steps.old steps.new result }
-    ensures counted { steps.new ≤ steps.old + most_steps (size_of kind instance.now) }
+    ensures counted { steps.new ≤ steps.old + searches_of kind * most_steps (size_of kind instance.now) }
 {
     if !rest.bytes.as_slice().is_empty() {
         return malformed(alloc, Rule::UnknownLine, rest.line);
@@ -99,7 +100,6 @@ pub fn solve<L: Ledger>(
     bytes: &[u8],
     steps: &mut Steps<L>,
 ) -> Result<Answer, OutOfMemory>
-    requires kind { is_solved kind ≡ true }
     requires short { length bytes.now ≤ 2 ^ 32 }
     ensures answer { IfOk result (λ a. DecidesSolve kind brief bytes.now a.text.items a.status) }
     ensures steps { CountsAnswer (Command.Solve kind brief) steps.old steps.new result }

@@ -84,15 +84,15 @@ fn prepare<I: Source, L: Ledger>(
 
 /// Does what the words of the command line say: reads the source to its end, and writes the answer
 /// to the sink. The words are the program's name and then those of a command: `check` and the name of
-/// a kind, which judges the document that follows an instance, or `solve` and the name of a kind that it
-/// takes, which solves an instance (Schrijver, Combinatorial Optimization, volume A, chapters 24 to 26).
+/// a kind, which judges the document that follows an instance, or `solve` and the name of a kind,
+/// which solves an instance (Schrijver, Combinatorial Optimization, volume A, chapters 24 to 33).
 /// With `--brief` before or after the kind, `solve` writes the answer without what proves it.
 ///
 /// The whole answer stands ready before the first write, so want of memory leaves the sink untouched.
 ///
 /// Only `solve` counts steps, and none where it refuses its input: on an instance whose certificates speak
-/// of a graph with n vertices and m edges at most (n + 1)(3n + 2)(m + 1). The memory holds the input, the
-/// answer and what a search keeps.
+/// of a graph with n vertices and m edges at most (n + 1)(3n + 2)(m + 1), twice as many for a path. The
+/// memory holds the input, the answer and what a search keeps.
 pub fn run<I: Source, O: Sink, L: Ledger>(
     alloc: Global,
     words: &Vec<String>,

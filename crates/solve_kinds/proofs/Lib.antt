@@ -1,14 +1,27 @@
-pub mod Passing
-pub mod Ascents
-pub mod CountLines
-pub mod MatchedEdges
-pub mod DualLines
-pub mod SetLines
-pub mod EachKind
-pub mod Forms
-pub mod Weighed
-pub mod InRange
-pub mod Presenting
-pub mod Barriers
-pub mod Texts
-pub mod Short
+mod Ascents
+mod AnswerForms
+mod CountLines
+mod DualLines
+mod SetLines
+mod WalkLines
+mod JoinCounts
+mod TwoEnds
+mod PathJoins
+mod JoinAnswers
+mod EachKind
+mod Forms
+mod SetForms
+mod Weighed
+mod InRange
+mod Presenting
+mod Excluding
+mod Texts
+mod LineSizes
+mod Short
+mod ShortDocuments
+mod Settling
+mod Circuits
+mod SplitParts
+mod PartDocuments
+mod Searches
+mod SearchedGraphs

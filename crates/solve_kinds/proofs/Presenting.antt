@@ -1,44 +1,40 @@
 -- A document that presents a solution proves its answer best.
-use Rattle.std.proofs.Common.{◌≡◌, ℕ, suc, ◌≤◌, ℤ, pos, ◌≤ℤ◌, ◌*ℤ◌, true, List, [], ◌∷◌, length, map, All, Option, None, IfSome, nat_abs, refl, sym, ap, ◌∙◌, subst, arith}
+use Rattle.std.proofs.Common.{◌≡◌, ℕ, suc, ◌≤◌, ℤ, pos, ◌≤ℤ◌, ◌*ℤ◌, List, [], ◌∷◌, length, All, Option, None, IfSome, nat_abs, refl, sym, ap, ◌∙◌, subst, arith}
 use Rattle.std.proofs.lemmas.Int.{ints}
 use Rattle.std.proofs.lemmas.List.Elements.{All-nil, All-cons, All-head, All-tail}
 use Rattle.graph_theory.specs.declared.odd_set.OddSet.{OddSet}
 use Rattle.graph_theory.specs.Graph.{Multigraph, IsGraph, weight, IsPerfect}
 use Rattle.graph_theory.specs.Duals.{IsNumber, IsSetWithin, AreDuals, dual_value}
-use Rattle.graph_theory.specs.Limits.{Size, HasSize, IsWithinLimits}
 use Rattle.graph_theory.proofs.Duality.{weak_duality}
 use Rattle.mb_problem.specs.declared.kind.Kind.{Kind}
 use Rattle.mb_problem.specs.declared.answer.Answer.{Answer}
-use Rattle.mb_problem.specs.Network.{Network, vertices}
+use Rattle.mb_problem.specs.declared.answer.Answer.TheVariants.{Counts, Walk, Nothing}
+use Rattle.mb_problem.specs.declared.answer.Parity.TheVariants.{Values}
+use Rattle.mb_problem.specs.Kinds.{form_of}
+use Rattle.mb_problem.specs.Network.{Network, IsNetwork, vertices, graph_of}
 use Rattle.mb_problem.specs.Feasible.{IsFeasible, weight_of}
 use Rattle.mb_problem.specs.Values.{value_for}
 use Rattle.gadget_base.specs.Certified.{gadget_graph, IsReached, ReachesAll}
 use Rattle.doc_format.specs.declared.document.Document.{Document}
+use Rattle.doc_format.specs.declared.part.WalkLine.{WalkLine}
 use Rattle.doc_format.specs.declared.status.DocStatus.{DocStatus}
-use Rattle.doc_format.specs.declared.status.DocStatus.TheVariants.{Optimal}
 use Rattle.certificates.specs.Claims.{answer_of, numbers, duals_of, sets_of, set_of}
-use Rattle.certificates.specs.Proved.{IsProved, ProvesOptimal, ProvesByStatus, StatesTruthBy, StatesTruth}
+use Rattle.certificates.specs.Proved.{IsProved, ProvesOptimal, ProvesByStatus}
 use Rattle.certificates.specs.Within.{IsUpTo, IsWalkWithin, IsDualWithin, IsSetLineWithin, AreWithin}
-use Rattle.certificates.proofs.TruthLemmas.{best-by_value}
-use Rattle.mwpm_engine.specs.Solutions.{Solution, size_of_graph, matching_of, AreAscending, IsSolved}
-use Rattle.solve_kinds.specs.Solved.{is_solved, HasTrueStatus}
+use Rattle.certificates.proofs.KindLemmas.{feasible-places}
+use Rattle.mwpm_engine.specs.Solutions.{Solution, matching_of, AreAscending, IsSolved}
+use Rattle.graph_parts.specs.OddParts.{IsFirstOddPart, is_terminal}
+use Rattle.solve_kinds.specs.Chosen.{StartsFirst, IsChosenAnswer, IsFirstMetPart, IsChosen}
+use Rattle.solve_kinds.specs.Parts.{line_of}
 use Rattle.solve_kinds.specs.Presented.{Presents}
+use Rattle.solve_kinds.proofs.AnswerForms.{feasible-form, stated-by}
 use Rattle.solve_kinds.proofs.Ascents.{unmap, both_all}
 use Rattle.solve_kinds.proofs.InRange.{in-range}
-use Rattle.solve_kinds.proofs.EachKind.{stated}
-
--- a graph has the vertices and edges of its size
-pub same-size : (size : Size) (g : Multigraph) → HasSize size g → size_of_graph g ≡ size
-same-size size g h = rw (h.vertices, h.edges) refl
-
-pub few-by_size : (size : Size) (g : Multigraph) → HasSize size g → IsWithinLimits size → g.vertices ≤ 4096
-few-by_size size g h limits =
-    let few : size.vertices ≤ 4096 = limits.vertices in
-    omega (arith, h.vertices)
+use Rattle.solve_kinds.proofs.WalkLines.{line-within}
 
 -- a solution of the kind's graph
 pub record Solves (kind : Kind) (i : Network) (s : Solution) : Type 0 where
-  pub is_solved : is_solved kind ≡ true
+  pub network : IsNetwork i
   pub graph : s.graph ≡ gadget_graph kind i
   pub is_graph : IsGraph (gadget_graph kind i)
   pub reached : ReachesAll kind i
@@ -86,7 +82,7 @@ are-within kind i s d of p =
     record {
       weight = p.number;
       counts = p.counts_within;
-      walk = none_if (IsWalkWithin (vertices i) (length i.edges)) d.walk p.walk;
+      walk = subst (λ (line : Option WalkLine). IfSome line (IsWalkWithin (vertices i) (length i.edges))) (sym p.walk) (line-within kind i p.answer of.network p.feasible);
       duals = subst (λ (k : ℕ). All (IsDualWithin k) d.duals) same p.duals_within;
       sets = subst (λ (k : ℕ). All (IsSetLineWithin k) d.sets) same (sets-within kind i s d of.solved p);
       barrier = none_if (λ u. All (IsUpTo n) u.members) d.barrier p.barrier;
@@ -110,7 +106,7 @@ value-met kind i g s d is graph is_graph solved reached p =
 
 proves-optimal : (kind : Kind) (i : Network) (s : Solution) (d : Document) → Solves kind i s → Presents kind i s d → ProvesOptimal kind i d
 proves-optimal kind i s d of p =
-    let is : answer_of kind i d ≡ p.answer = stated kind i d p.answer of.is_solved p.feasible p.lists in
+    let is : answer_of kind i d ≡ p.answer = stated-by (form_of kind) i d p.answer (feasible-form kind i p.answer p.feasible) (feasible-places kind i p.answer p.feasible) p.lists p.walk in
     record {
       feasible = subst (IsFeasible kind i) (sym is) p.feasible;
       weighs = ap (weight_of i) is ∙ sym p.weight;
@@ -125,11 +121,14 @@ proved-optimal kind i s d of p = record {
   proves = subst (λ (t : DocStatus). ProvesByStatus t kind i d) (sym p.status) (proves-optimal kind i s d of p);
 }
 
-pub true-optimal : (kind : Kind) (i : Network) (s : Solution) (d : Document) → Solves kind i s → Presents kind i s d → StatesTruth kind i d
-true-optimal kind i s d of p =
-    let q = proves-optimal kind i s d of p in
-    subst (λ (t : DocStatus). StatesTruthBy t kind i d) (sym p.status)
-    (best-by_value kind i d (dual_value (duals_of d) (sets_of d)) q.feasible q.weighs q.value (λ counts perfect. weak_duality (gadget_graph kind i) (duals_of d) (sets_of d) counts of.is_graph q.duals perfect) of.reached)
+started : (kind : Kind) (i : Network) (answer : Answer) → IsChosenAnswer kind i answer → IfSome (line_of answer) (λ w. StartsFirst kind i (nat_abs w.start))
+started kind i (Counts counts) c = tt
+started kind i (Walk start edges) c = c
+started kind i Nothing c = tt
 
-pub exact-optimal : (kind : Kind) (i : Network) (s : Solution) (d : Document) → Presents kind i s d → HasTrueStatus kind i d.status
-exact-optimal kind i s d p = subst (HasTrueStatus kind i) (sym p.status) (p.answer, p.feasible)
+pub chosen-optimal : (kind : Kind) (i : Network) (s : Solution) (d : Document) → Presents kind i s d → IsChosen kind i d
+chosen-optimal kind i s d p = record {
+  walk = λ best. subst (λ (line : Option WalkLine). IfSome line (λ w. StartsFirst kind i (nat_abs w.start))) (sym p.walk) (started kind i p.answer p.chosen);
+  odd = none_if (λ t. IsFirstOddPart (graph_of i) (is_terminal Values i) (numbers t.members)) d.odd p.odd;
+  split = none_if (λ q. IsFirstMetPart (graph_of i) (numbers q.members)) d.split p.split;
+}

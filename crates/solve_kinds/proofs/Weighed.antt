@@ -1,22 +1,25 @@
 -- The weights of perfect matchings and of the answers that they stand for are numbers of documents.
-use Rattle.std.proofs.Common.{◌≡◌, ℕ, zero, suc, ◌*◌, ◌<◌, ◌≤◌, ℤ, pos, neg_ℤ, ◌+ℤ◌, ◌*ℤ◌, ◌≤ℤ◌, true, List, length, slice_index, sym, ◌∙◌, subst, arith}
+use Rattle.std.proofs.Common.{◌≡◌, ℕ, zero, suc, ◌*◌, ◌<◌, ◌≤◌, ℤ, pos, neg_ℤ, ◌+ℤ◌, ◌*ℤ◌, ◌≤ℤ◌, List, length, slice_index, sym, ◌∙◌, subst, arith}
+use Rattle.std.specs.Prelude.{replicate}
 use Rattle.std.proofs.lemmas.Int.{ints}
+use Rattle.std.proofs.lemmas.List.{get_or-replicate}
 use Rattle.graph_theory.specs.Sums.{int_sum_to}
 use Rattle.graph_theory.specs.Graph.{Multigraph, IsGraph, IsWeight, IsPerfect, edge_at, no_edge, weight}
 use Rattle.graph_theory.specs.Walk.{walk_weight}
 use Rattle.graph_theory.specs.Duals.{IsNumber}
-use Rattle.graph_theory.proofs.SumLemmas.{int_sum_to-le, times-suc, times-int_sum_to, times-le, times-two}
+use Rattle.graph_theory.proofs.SumLemmas.{int_sum_to-le, times-suc, times-int_sum_to, times-le, times-two, int_sum_to-within}
+use Rattle.graph_theory.proofs.Edges.{edge_at-weight}
 use Rattle.graph_theory.proofs.Handshake.{handshake-perfect}
 use Rattle.mb_problem.specs.declared.kind.Kind.{Kind}
 use Rattle.mb_problem.specs.declared.kind.Kind.TheVariants.{Perfect, Match, BMatch, CapMatch, FFactor, TJoin, Postman, Path}
 use Rattle.mb_problem.specs.declared.answer.Answer.{Answer}
-use Rattle.mb_problem.specs.Network.{Network}
+use Rattle.mb_problem.specs.Network.{Network, IsNetwork, graph_of}
 use Rattle.mb_problem.specs.Feasible.{IsFeasible, weight_of}
-use Rattle.mb_problem.specs.Values.{value_for}
+use Rattle.mb_problem.specs.Values.{total_weight, value_for}
+use Rattle.mb_problem.proofs.EdgeLemmas.{edges-count, network-graph}
 use Rattle.gadget_base.specs.Certified.{gadget_graph, IsReached, ReachesAll}
 use Rattle.gadget_base.specs.Listed.{ListsCounts}
 use Rattle.gadget_base.proofs.Listed.{list-weight}
-use Rattle.solve_kinds.specs.Solved.{is_solved}
 
 -- with n vertices: no farther from 0 than n times the greatest weight of an edge
 abbrev IsSmall : ℕ → ℤ → Type 0
@@ -58,20 +61,42 @@ perfect-small g counts graph perfect =
     let below = shared g counts low graph perfect in
     (omega (arith, ints, twice, least, below), omega (arith, ints, twice, most, above))
 
+-- all weights added up
+total-small : (i : Network) → IsNetwork i → (neg_ℤ (pos 65536000000000) ≤ℤ total_weight i) × (total_weight i ≤ℤ pos 65536000000000)
+total-small i network =
+    let g = graph_of i in
+    let graph : IsGraph g = network-graph i network in
+    let m = length i.edges in
+    let size : length g.edges ≡ m = edges-count i in
+    let few : m ≤ 65536 = network.few_edges in
+    let within = int_sum_to-within (λ k. pos (slice_index (replicate {A = ℕ} m 1) k) *ℤ (edge_at g k).w) 1000000000 (length g.edges)
+    (λ k b. (let one : slice_index (replicate {A = ℕ} m 1) k ≡ 1 = get_or-replicate {A = ℕ} m k 1 0 (omega (arith, size, b)) in
+    let w = edge_at-weight g k graph b in
+    let low : neg_ℤ (pos 1000000000) ≤ℤ (edge_at g k).w = w.0 in
+    let high : (edge_at g k).w ≤ℤ pos 1000000000 = w.1 in
+    rw one (omega (arith, ints, low), omega (arith, ints, high)))) in
+    let low : neg_ℤ (pos (length g.edges * 1000000000)) ≤ℤ total_weight i = within.0 in
+    let high : total_weight i ≤ℤ pos (length g.edges * 1000000000) = within.1 in
+    (omega (arith, ints, low, size, few), omega (arith, ints, high, size, few))
+
 -- an answer's weight, where it asks for a value of at most that size
-number-by_value : (kind : Kind) (i : Network) (w : ℤ) → is_solved kind ≡ true → neg_ℤ (pos 4096000000000) ≤ℤ value_for kind i w → value_for kind i w ≤ℤ pos 4096000000000 → IsNumber w
-number-by_value Perfect i w solved low high = (omega (arith, ints), omega (arith, ints))
-number-by_value Match i w solved low high = (omega (arith, ints), omega (arith, ints))
-number-by_value BMatch i w solved low high = (omega (arith, ints), omega (arith, ints))
-number-by_value CapMatch i w solved low high = (omega (arith, ints), omega (arith, ints))
-number-by_value FFactor i w solved low high = (omega (arith, ints), omega (arith, ints))
-number-by_value TJoin i w solved low high = absurd (cc)
-number-by_value Postman i w solved low high = absurd (cc)
-number-by_value Path i w solved low high = absurd (cc)
+number-by_value : (kind : Kind) (i : Network) (w : ℤ) → IsNetwork i → neg_ℤ (pos 4096000000000) ≤ℤ value_for kind i w → value_for kind i w ≤ℤ pos 4096000000000 → IsNumber w
+number-by_value Perfect i w network low high = (omega (arith, ints), omega (arith, ints))
+number-by_value Match i w network low high = (omega (arith, ints), omega (arith, ints))
+number-by_value BMatch i w network low high = (omega (arith, ints), omega (arith, ints))
+number-by_value CapMatch i w network low high = (omega (arith, ints), omega (arith, ints))
+number-by_value FFactor i w network low high = (omega (arith, ints), omega (arith, ints))
+number-by_value TJoin i w network low high = (omega (arith, ints), omega (arith, ints))
+number-by_value Postman i w network low high =
+    let total = total-small i network in
+    let least : neg_ℤ (pos 65536000000000) ≤ℤ total_weight i = total.0 in
+    let most : total_weight i ≤ℤ pos 65536000000000 = total.1 in
+    (omega (arith, ints, low, high, least, most), omega (arith, ints, low, high, least, most))
+number-by_value Path i w network low high = (omega (arith, ints), omega (arith, ints))
 
 -- the answer lies between two perfect matchings
-pub number-of_answer : (kind : Kind) (i : Network) (g : Multigraph) (answer : Answer) (counts : List ℕ) → is_solved kind ≡ true → g ≡ gadget_graph kind i → IsGraph g → g.vertices ≤ 4096 → ReachesAll kind i → IsFeasible kind i answer → IsPerfect g counts → value_for kind i (weight_of i answer) ≤ℤ (pos 2 *ℤ weight g counts) → IsNumber (weight_of i answer)
-number-of_answer kind i g answer counts solved is graph few reached feasible perfect pays =
+pub number-of_answer : (kind : Kind) (i : Network) (g : Multigraph) (answer : Answer) (counts : List ℕ) → IsNetwork i → g ≡ gadget_graph kind i → IsGraph g → g.vertices ≤ 4096 → ReachesAll kind i → IsFeasible kind i answer → IsPerfect g counts → value_for kind i (weight_of i answer) ≤ℤ (pos 2 *ℤ weight g counts) → IsNumber (weight_of i answer)
+number-of_answer kind i g answer counts network is graph few reached feasible perfect pays =
     let r : IsReached kind i answer = reached answer feasible in
     let there : Multigraph → Type 0 = λ h. (counts : List ℕ) × IsPerfect h counts × ((pos 2 *ℤ weight h counts) ≤ℤ value_for kind i (weight_of i answer)) in
     let other : there g = subst there (sym is) (r.counts, r.perfect, r.weighs) in
@@ -80,7 +105,7 @@ number-of_answer kind i g answer counts solved is graph few reached feasible per
     let low : neg_ℤ (pos (g.vertices * 1000000000)) ≤ℤ (pos 2 *ℤ weight g other.0) = below.0 in
     let high : (pos 2 *ℤ weight g counts) ≤ℤ pos (g.vertices * 1000000000) = above.1 in
     let weighs : (pos 2 *ℤ weight g other.0) ≤ℤ value_for kind i (weight_of i answer) = other.2 in
-    number-by_value kind i (weight_of i answer) solved (omega (arith, ints, low, weighs, few)) (omega (arith, ints, high, pays, few))
+    number-by_value kind i (weight_of i answer) network (omega (arith, ints, low, weighs, few)) (omega (arith, ints, high, pays, few))
 
 -- what an answer pays for the listed edges it pays for the matching that they are
 pub pays-for_matching : (kind : Kind) (i : Network) (g : Multigraph) (counts edges : List ℕ) (w : ℤ) → g ≡ gadget_graph kind i → IsPerfect g counts → ListsCounts g counts edges → value_for kind i w ≤ℤ (pos 2 *ℤ walk_weight (gadget_graph kind i) edges) → value_for kind i w ≤ℤ (pos 2 *ℤ weight g counts)

@@ -1,4 +1,7 @@
 pub mod Solved
+pub mod Open
+pub mod Chosen
+pub mod Settled
 pub mod Parts
 pub mod Presented
 pub mod Excluding

@@ -1,10 +1,12 @@
 -- The lines of computed documents. They were read from no text: each has the line number 1.
-use Rattle.std.specs.Prelude.{◌≡◌, ℕ, ◌-◌, ◌≤◌, ◌==◌, ℤ, pos, Bool, not, List, length, slice_index, All, ⊤}
+use Rattle.std.specs.Prelude.{◌≡◌, ℕ, ◌-◌, ◌*◌, ◌≤◌, ◌==◌, ℤ, pos, Bool, not, List, [], length, map, slice_index, All, Option, None, Some, ⊤}
 use Rattle.mb_problem.specs.declared.answer.Answer.{Answer}
 use Rattle.mb_problem.specs.declared.answer.Answer.TheVariants.{Counts, Walk, Nothing}
+use Rattle.mb_problem.specs.Network.{Network}
 use Rattle.mb_problem.specs.declared.limits.TheConstants.{VALUE_LIMIT}
 use Rattle.doc_format.specs.declared.part.CountLine.{CountLine}
 use Rattle.doc_format.specs.declared.part.DualLine.{DualLine}
+use Rattle.doc_format.specs.declared.part.WalkLine.{WalkLine}
 use Rattle.certificates.specs.Claims.{counts_of}
 
 -- an edge that is used so often
@@ -29,8 +31,24 @@ HasSmallCounts (Counts counts) = All (λ c. c ≤ VALUE_LIMIT) counts
 HasSmallCounts (Walk start edges) = ⊤
 HasSmallCounts Nothing = ⊤
 
+-- no more steps than twice the edges
+abbrev pub HasFewSteps : Network → Answer → Type 0
+HasFewSteps i (Counts counts) = ⊤
+HasFewSteps i (Walk start edges) = length edges ≤ 2 * length i.edges
+HasFewSteps i Nothing = ⊤
+
 -- the lines have the counts of the answer; a walk has none
 abbrev pub ListsAnswer : Answer → List CountLine → Type 0
 ListsAnswer (Counts counts) lines = counts_of lines (length counts) ≡ counts
-ListsAnswer (Walk start edges) lines = ⊤
-ListsAnswer Nothing lines = ⊤
+ListsAnswer (Walk start edges) lines = lines ≡ []
+ListsAnswer Nothing lines = lines ≡ []
+
+-- a walk from a vertex
+abbrev pub walk_line : ℕ → List ℕ → WalkLine
+walk_line start edges = record { line = 1; start = pos start; edges = map pos edges }
+
+-- the line of the walk; counts have none, nor has the empty walk
+abbrev pub line_of : Answer → Option WalkLine
+line_of (Counts counts) = None
+line_of (Walk start edges) = Some (walk_line start edges)
+line_of Nothing = None

@@ -1,5 +1,5 @@
 -- What the document of a perfect matching is made of.
-use Rattle.std.specs.Prelude.{◌≡◌, ◌≤◌, pos, ◌*ℤ◌, ◌≤ℤ◌, length, map, All, None}
+use Rattle.std.specs.Prelude.{◌≡◌, ◌≤◌, pos, ◌*ℤ◌, ◌≤ℤ◌, length, All, None}
 use Rattle.graph_theory.specs.Graph.{weight}
 use Rattle.graph_theory.specs.Duals.{IsNumber}
 use Rattle.mb_problem.specs.declared.kind.Kind.{Kind}
@@ -12,7 +12,8 @@ use Rattle.doc_format.specs.declared.status.DocStatus.TheVariants.{Optimal}
 use Rattle.certificates.specs.Claims.{duals_of, sets_of}
 use Rattle.certificates.specs.Within.{IsCountWithin, IsDualWithin}
 use Rattle.mwpm_engine.specs.Solutions.{Solution, matching_of, AreAscending}
-use Rattle.solve_kinds.specs.Parts.{ListsAnswer}
+use Rattle.solve_kinds.specs.Chosen.{IsChosenAnswer}
+use Rattle.solve_kinds.specs.Parts.{ListsAnswer, HasFewSteps, line_of}
 
 -- an answer that pays for the matching, and the duals and sets of the solution, the members of each set ascending
 pub record Presents (kind : Kind) (i : Network) (s : Solution) (d : Document) : Type 0 where
@@ -20,7 +21,10 @@ pub record Presents (kind : Kind) (i : Network) (s : Solution) (d : Document) : 
   pub kind_is : d.kind ≡ kind
   pub answer : Answer
   pub feasible : IsFeasible kind i answer
+  pub few_steps : HasFewSteps i answer
+  pub chosen : IsChosenAnswer kind i answer
   pub lists : ListsAnswer answer d.counts
+  pub walk : d.walk ≡ line_of answer
   pub pays : value_for kind i (weight_of i answer) ≤ℤ (pos 2 *ℤ weight s.graph (matching_of s.graph s.mates))
   pub weight : d.weight ≡ weight_of i answer
   pub number : IsNumber d.weight
@@ -30,7 +34,6 @@ pub record Presents (kind : Kind) (i : Network) (s : Solution) (d : Document) : 
   pub duals_within : All (IsDualWithin s.graph.vertices) d.duals
   pub sets : AreAscending s.sets (sets_of d)
   pub natural : All (λ z. All (λ m. pos 0 ≤ℤ m) z.members) d.sets
-  pub walk : d.walk ≡ None
   pub barrier : d.barrier ≡ None
   pub odd : d.odd ≡ None
   pub split : d.split ≡ None

@@ -1,10 +1,13 @@
-ghost use Rattle.std.specs.Prelude.{◌≡◌, pos, ◌*ℤ◌, ◌≤ℤ◌, true, IfOk};
+ghost use Rattle.std.specs.Prelude.{pos, ◌*ℤ◌, ◌≤ℤ◌, IfOk};
 ghost use Rattle.graph_theory.specs.Walk.{walk_weight};
 ghost use Rattle.mb_problem.specs.Feasible.{IsFeasible, weight_of};
 ghost use Rattle.mb_problem.specs.Values.{value_for};
 ghost use Rattle.gadget_base.specs.Certified.{gadget_graph, IsPerfectList};
-ghost use Rattle.solve_kinds.specs.Solved.{is_solved};
+ghost use Rattle.solve_kinds.specs.Chosen.{IsChosenAnswer};
+ghost use Rattle.solve_kinds.specs.Open.{IsOpen};
+ghost use Rattle.solve_kinds.specs.Parts.{HasFewSteps};
 
+use crate::joins::{extract_join, extract_path, extract_tour};
 use crate::plain::extract_plain;
 use gadget_cap::extract;
 use gadget_match::{extract_copies, extract_double};
@@ -20,9 +23,11 @@ pub fn answer(
     kind: Kind,
     edges: &[EdgeId],
 ) -> Result<Answer, OutOfMemory>
-    requires kind { is_solved kind ≡ true }
+    requires ready { IsOpen kind instance.now }
     requires perfect { IsPerfectList (gadget_graph kind instance.now) edges.now }
     ensures feasible { IfOk result (IsFeasible kind instance.now) }
+    ensures few_steps { IfOk result (HasFewSteps instance.now) }
+    ensures chosen { IfOk result (IsChosenAnswer kind instance.now) }
     ensures pays { IfOk result (λ a. value_for kind instance.now (weight_of instance.now a) ≤ℤ (pos 2 *ℤ walk_weight (gadget_graph kind instance.now) edges.now)) }
 {
     match kind {
@@ -31,6 +36,8 @@ pub fn answer(
         Kind::BMatch => extract_copies(alloc, instance, edges),
         Kind::CapMatch => extract(alloc, instance, false, edges),
         Kind::FFactor => extract(alloc, instance, true, edges),
-        Kind::TJoin | Kind::Postman | Kind::Path => Ok(Answer::Nothing),
+        Kind::TJoin => extract_join(alloc, instance, edges),
+        Kind::Postman => extract_tour(alloc, instance, edges),
+        Kind::Path => extract_path(alloc, instance, edges),
     }
 }

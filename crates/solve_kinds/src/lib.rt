@@ -1,21 +1,27 @@
 //! Documents for instances: a best answer with the certificate that proves it best, or what excludes every answer.
 //! It stands on `mwpm_engine` for the search, on the gadget crates for the graphs that are searched and the answers that
-//! their matchings stand for, and on `certificates` for what a document has to prove. It promises that every document
-//! proves what it states, and that there always is one.
+//! their matchings stand for, on `graph_parts`, `postman_walk`, `least_joins` and `conservative_paths` for joins, tours
+//! and paths, and on `certificates` for what a document has to prove. It promises that every document proves what it
+//! states, and that there always is one.
 #![tactic(auto)]
 
 mod answer;
 mod barrier;
+mod conservative;
 mod counts;
 mod duals;
+mod ends;
 mod infeasible;
+mod joins;
 mod limits;
-mod matching;
 mod members;
 mod optimal;
+mod parts;
 mod plain;
+mod searching;
 mod sets;
 mod solving;
+mod walk;
 
 pub use limits::DOCUMENT_BYTE_LIMIT;
-pub use solving::{is_solved, solve};
+pub use solving::solve;

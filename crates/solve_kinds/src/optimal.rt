@@ -1,4 +1,4 @@
-ghost use Rattle.std.specs.Prelude.{◌≡◌, ◌≤◌, true, Some, IfOk};
+ghost use Rattle.std.specs.Prelude.{◌≡◌, ◌≤◌, Some, IfOk};
 ghost use Rattle.graph_theory.specs.Duals.{IsNumber};
 ghost use Rattle.graph_theory.specs.declared.limits.TheConstants.{GRAPH_VERTEX_LIMIT};
 ghost use Rattle.mb_problem.specs.Feasible.{weight_of};
@@ -6,15 +6,16 @@ ghost use Rattle.mb_problem.specs.Measured.{HasPlaces};
 ghost use Rattle.gadget_base.specs.Certified.{gadget_graph, ReachesAll};
 ghost use Rattle.mwpm_engine.specs.Solutions.{IsSolved};
 ghost use Rattle.mwpm_engine.specs.declared.outcome.Outcome.TheVariants.{Matched};
-ghost use Rattle.solve_kinds.specs.Solved.{is_solved};
+ghost use Rattle.solve_kinds.specs.Open.{IsOpen};
 ghost use Rattle.solve_kinds.specs.Presented.{Presents};
 
 use crate::answer::answer;
 use crate::counts::counts;
 use crate::duals::duals;
-use crate::matching::matching;
 use crate::sets::sets;
+use crate::walk::walk;
 use doc_format::{DocStatus, Document};
+use matched_edges::matching;
 use mb_base::{OutOfMemory, Sequence};
 use mb_problem::{Answer, Instance, Kind, weight};
 use mwpm_engine::Engine;
@@ -39,7 +40,7 @@ pub fn optimal(
     engine: &Engine,
     graph: &Graph,
 ) -> Result<Document, OutOfMemory>
-    requires kind { is_solved kind ≡ true }
+    requires ready { IsOpen kind instance.now }
     requires matched { engine.now.outcome ≡ Some Matched }
     requires same { engine.now.graph ≡ graph.now }
     requires solved { IsSolved engine.now }
@@ -55,6 +56,7 @@ pub fn optimal(
     let answer = answer(alloc, instance, kind, &edges)?;
     let weight = stated_weight(instance, &answer);
     let counts = Sequence::from_vec(counts(alloc, instance, &answer)?);
+    let walk = walk(alloc, &answer)?;
     let sets = Sequence::from_vec(sets(alloc, engine)?);
     let duals = Sequence::from_vec(duals(alloc, engine, graph)?);
     Ok(Document {
@@ -63,7 +65,7 @@ pub fn optimal(
         weight,
         line: 1,
         counts,
-        walk: None,
+        walk,
         duals,
         sets,
         barrier: None,

@@ -37,7 +37,7 @@ fn add_listed(counts: &mut [u32], edges: &[EdgeId])
 }
 
 /// How often each edge is listed.
-fn count_listed(
+pub fn count_listed(
     alloc: Global,
     instance: &Instance,
     edges: &[EdgeId],

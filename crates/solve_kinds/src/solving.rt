@@ -1,39 +1,33 @@
-ghost use Rattle.std.specs.Prelude.{◌≡◌, ◌≤◌, ◌+◌, length, true, false, IfOk};
+ghost use Rattle.std.specs.Prelude.{◌≡◌, ◌≤◌, ◌+◌, ◌*◌, pos, ◌≤ℤ◌, length, All, true, false, IfOk};
 ghost use Rattle.mb_problem.specs.Size.{size_of};
 ghost use Rattle.graph_theory.specs.Limits.{IsWithinLimits};
 ghost use Rattle.doc_format.specs.Spelling.{document_text};
+ghost use Rattle.doc_format.specs.declared.status.DocStatus.TheVariants.{Infeasible};
 ghost use Rattle.certificates.specs.Proved.{IsProved, StatesTruth};
 ghost use Rattle.mwpm_engine.specs.Solutions.{most_steps};
-ghost use Rattle.solve_kinds.specs.Solved.{is_solved, HasTrueStatus};
+ghost use Rattle.solve_kinds.specs.Chosen.{IsChosen};
+ghost use Rattle.solve_kinds.specs.Solved.{HasEnds, HasTrueStatus, searches_of, is_tested_first};
 
-use crate::infeasible::infeasible;
+use crate::conservative::unfit;
 use crate::limits::DOCUMENT_BYTE_LIMIT;
-use crate::optimal::optimal;
-use certificates::certified;
+use crate::parts::excluded;
+use crate::searching::searched;
 use doc_format::Document;
 use mb_base::{OutOfMemory, Steps};
 use mb_problem::{Instance, Kind};
-use mwpm_engine::{Engine, Outcome};
 use std::alloc::Global;
 use std::sync::ledger::Ledger;
-
-/// Whether the kind is one that `solve` takes.
-pub fn is_solved(kind: Kind) -> bool
-    ensures { result ≡ is_solved kind }
-{
-    match kind {
-        Kind::Perfect | Kind::Match | Kind::BMatch | Kind::CapMatch | Kind::FFactor => true,
-        Kind::TJoin | Kind::Postman | Kind::Path => false,
-    }
-}
 
 /// Solves an instance: the document of a best answer, or of what excludes all answers. It proves what it
 /// states, whole: an accepting judge is sure. A perfect matching of least weight is sought in the graph
 /// that the certificates of the kind speak of (Schrijver, Combinatorial Optimization, volume A, chapter
-/// 26 for matchings, 31 to 33 for b-matchings, capacities and factors).
+/// 26 for matchings, 29 for joins, tours and paths, 31 to 33 for b-matchings, capacities and factors).
+/// For a path an even set of edges of least weight is sought first, to tell whether weights are
+/// conservative. For a tour no edge weighs less than 0, and for a path two vertices have odd values: its
+/// ends.
 ///
-/// The steps of the search are counted on `steps`: looks at edges and events. What it takes besides the
-/// search is linear in that graph and the members of the sets, which are sorted. An error is want of
+/// The steps of the searches are counted on `steps`: looks at edges and events. What it takes besides
+/// them is linear in that graph and the members of the sets, which are sorted. An error is want of
 /// memory.
 pub fn solve<L: Ledger>(
     alloc: Global,
@@ -41,21 +35,24 @@ pub fn solve<L: Ledger>(
     kind: Kind,
     steps: &mut Steps<L>,
 ) -> Result<Document, OutOfMemory>
-    requires kind { is_solved kind ≡ true }
     requires limits { IsWithinLimits (size_of kind instance.now) }
+    requires weights { kind ≡ Kind.Postman → All (λ e. pos 0 ≤ℤ e.w) instance.now.edges }
+    requires ends { kind ≡ Kind.Path → HasEnds instance.now }
     ensures proved { IfOk result (IsProved kind instance.now) }
     ensures truth { IfOk result (StatesTruth kind instance.now) }
     ensures exact { IfOk result (λ d. HasTrueStatus kind instance.now d.status) }
+    ensures chosen { IfOk result (IsChosen kind instance.now) }
     ensures small { IfOk result (λ d. length (document_text d false) ≤ DOCUMENT_BYTE_LIMIT) }
-    ensures steps { steps.new ≤ steps.old + most_steps (size_of kind instance.now) }
+    ensures steps { steps.new ≤ steps.old + searches_of kind * most_steps (size_of kind instance.now) }
+
+    // Where no join or tour is feasible that is seen without a search.
+    ensures unsearched { IfOk result (λ d. is_tested_first kind ≡ true → d.status ≡ Infeasible → steps.new ≡ steps.old) }
 {
-    let graph = certified(alloc, instance, kind)?;
-    // The prover learns here that the instance and the graph are valid.
-    let _edges = instance.edges();
-    let _vertices = graph.vertices();
-    let mut engine = Engine::new(alloc, &graph)?;
-    match engine.run(&graph, steps) {
-        Outcome::Matched => Ok(optimal(alloc, instance, kind, &engine, &graph)?),
-        Outcome::Barrier => Ok(infeasible(alloc, kind, &engine, &graph)?),
+    if let Some(document) = unfit(alloc, instance, kind, steps)? {
+        return Ok(document);
     }
+    if let Some(document) = excluded(alloc, instance, kind)? {
+        return Ok(document);
+    }
+    Ok(searched(alloc, instance, kind, steps)?)
 }

@@ -2,14 +2,14 @@ mod agreement;
 mod rows;
 mod solvers;
 
-ghost use Rattle.std.specs.Prelude.{◌≡◌, true};
+ghost use Rattle.std.specs.Prelude.{◌≡◌, ◌≢◌, true};
 ghost use Rattle.brute_force.specs.Best.{is_counted};
-ghost use Rattle.solve_kinds.specs.Solved.{is_solved};
+ghost use Rattle.mb_problem.specs.declared.kind.Kind.TheVariants.{Postman, Path};
 
 use agreement::agrees;
 use dimacs_read::read;
 use mb_problem::{Instance, Kind};
-use rows::{BMATCH, CAPMATCH, FFACTOR, MATCH, PERFECT};
+use rows::{BMATCH, CAPMATCH, FFACTOR, MATCH, PERFECT, TJOIN};
 use solvers::{best_weight, document_of};
 use std::alloc::Global;
 use std::marker::Brand;
@@ -25,7 +25,8 @@ fn expect_agreement(
     name: &str,
     instance: &Instance,
 ) -> Result<(), Fail>
-    requires solved { is_solved kind ≡ true }
+    requires no_tour { kind ≢ Postman }
+    requires no_path { kind ≢ Path }
     requires counted { is_counted kind ≡ true }
 {
     let best = best_weight(rt, alloc, instance, kind)?;
@@ -50,7 +51,8 @@ fn expect_row(
     name: &str,
     text: &str,
 ) -> Result<(), Fail>
-    requires solved { is_solved kind ≡ true }
+    requires no_tour { kind ≢ Postman }
+    requires no_path { kind ≢ Path }
     requires counted { is_counted kind ≡ true }
 {
     match read_instance(alloc, kind, text) {
@@ -95,6 +97,14 @@ fn b_matchings_with_capacities(rt: HostRuntime) -> Result<(), Fail> {
 fn factors(rt: HostRuntime) -> Result<(), Fail> {
     for (name, text) in &FFACTOR {
         expect_row(&rt, rt.alloc(), Kind::FFactor, name, text)?;
+    }
+    Ok(())
+}
+
+#[test]
+fn joins(rt: HostRuntime) -> Result<(), Fail> {
+    for (name, text) in &TJOIN {
+        expect_row(&rt, rt.alloc(), Kind::TJoin, name, text)?;
     }
     Ok(())
 }

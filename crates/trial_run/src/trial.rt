@@ -1,4 +1,4 @@
-ghost use Rattle.std.specs.Prelude.{◌≡◌, ◌+◌, ◌≤◌, true, false, length, IfOk};
+ghost use Rattle.std.specs.Prelude.{◌≡◌, ◌+◌, ◌*◌, ◌≤◌, false, length, IfOk};
 ghost use Rattle.graph_theory.specs.Limits.{IsWithinLimits};
 ghost use Rattle.mb_problem.specs.Network.{IsNetwork};
 ghost use Rattle.mb_problem.specs.Size.{size_of};
@@ -7,7 +7,7 @@ ghost use Rattle.doc_format.specs.Law.{HasKeptNumbers};
 ghost use Rattle.doc_format.specs.Spelling.{document_text};
 ghost use Rattle.certificates.specs.Proved.{IsProved, StatesTruth};
 ghost use Rattle.mwpm_engine.specs.Solutions.{most_steps};
-ghost use Rattle.solve_kinds.specs.Solved.{is_solved, HasTrueStatus};
+ghost use Rattle.solve_kinds.specs.Solved.{searches_of, HasTrueStatus};
 
 use cert_check::{DocRule, Verdict, judge};
 use doc_format::{DocError, Document, read, write};
@@ -49,15 +49,14 @@ fn judge_text(
 }
 
 /// Solves an instance, writes the document in full, reads it back and judges it (Schrijver, Combinatorial
-/// Optimization, volume A, chapters 24 to 26): the verdict is yes, whatever the instance is. The steps of
-/// the search are counted on `steps`. An error is want of memory.
+/// Optimization, volume A, chapters 24 to 33): the verdict is yes, whatever the instance is. The steps of
+/// the searches are counted on `steps`. An error is want of memory.
 pub fn try_instance<L: Ledger>(
     alloc: Global,
     instance: &Instance,
     kind: Kind,
     steps: &mut Steps<L>,
 ) -> Result<Trial, OutOfMemory>
-    requires kind { is_solved kind ≡ true }
     requires limits { IsWithinLimits (size_of kind instance.now) }
     requires ready { IsReady kind instance.now }
     ensures proved { IfOk result (λ t. IsProved kind instance.now t.document) }
@@ -68,7 +67,7 @@ pub fn try_instance<L: Ledger>(
 
     // The document is accepted as it reads back.
     ensures accepted { IfOk result (λ t. t.verdict ≡ Verdict.Accepted) }
-    ensures steps { steps.new ≤ steps.old + most_steps (size_of kind instance.now) }
+    ensures steps { steps.new ≤ steps.old + searches_of kind * most_steps (size_of kind instance.now) }
 {
     // The prover learns here that the instance is valid.
     let _edges = instance.edges();

@@ -3,7 +3,7 @@ ghost use Rattle.mb_problem.specs.Measured.{HasPlaces};
 
 use doc_format::{CountLine, DocStatus, Document};
 use mb_base::{OutOfMemory, Sequence};
-use mb_problem::{Answer, Instance, Kind, feasible, weight};
+use mb_problem::{Answer, Exclusion, Instance, Kind, feasible, weight};
 use std::alloc::Global;
 
 /// Writes the count of a line at the place of its edge, if both are in range.
@@ -60,6 +60,16 @@ fn states_weight(
     feasible(alloc, instance, kind, &answer)
 }
 
+/// Whether a document has the line that excludes answers of the kind.
+fn excludes(kind: Kind, document: &Document) -> bool {
+    match kind.exclusion() {
+        Exclusion::Barrier => document.barrier.is_some(),
+        Exclusion::OddPart => document.odd.is_some(),
+        Exclusion::SplitPart => document.split.is_some(),
+        Exclusion::Never => false,
+    }
+}
+
 /// Whether a document states a feasible answer of the best weight, or that there is none where there is
 /// no such weight.
 pub fn agrees(
@@ -76,6 +86,6 @@ pub fn agrees(
             }
             states_weight(alloc, instance, kind, document, best)
         }
-        None => Ok(document.status == DocStatus::Infeasible && document.barrier.is_some()),
+        None => Ok(document.status == DocStatus::Infeasible && excludes(kind, document)),
     }
 }

@@ -196,3 +196,40 @@ pub const FFACTOR: [Row; 14] = [
     ),
     ("capacities don't count", "p edge 2 1\ne 1 2 3 0"),
 ];
+
+/// Joins of least weight.
+pub const TJOIN: [Row; 12] = [
+    ("no vertex", "p edge 0 0"),
+    ("no vertex of T", "p edge 3 2\ne 1 2 4\ne 2 3 5"),
+    ("an edge below 0 and no vertex of T", "p edge 2 1\ne 1 2 -3"),
+    (
+        "a circuit below 0 and no vertex of T",
+        "p edge 3 3\ne 1 2 -3\ne 2 3 1\ne 1 3 1",
+    ),
+    ("one vertex of T alone", "p edge 1 0\nn 1 1"),
+    (
+        "two vertices of T apart",
+        "p edge 4 2\ne 1 2 1\ne 3 4 1\nn 1 1\nn 3 1",
+    ),
+    ("an edge", "p edge 2 1\ne 1 2 7\nn 1 1\nn 2 3"),
+    (
+        "parallel edges below 0",
+        "p edge 2 3\ne 1 2 -5\ne 2 1 -3\ne 1 2 -4\nn 1 1\nn 2 1",
+    ),
+    (
+        "a way round",
+        "p edge 4 4\ne 1 2 9\ne 2 3 1\ne 3 4 1\ne 4 1 1\nn 1 1\nn 2 1",
+    ),
+    (
+        "all four vertices of a circuit",
+        "p edge 4 4\ne 1 2 3\ne 2 3 1\ne 3 4 4\ne 4 1 1\nn 1 1\nn 2 1\nn 3 1\nn 4 1",
+    ),
+    (
+        "a star with an odd middle",
+        "p edge 4 3\ne 1 2 3\ne 1 3 2\ne 1 4 1\nn 1 1\nn 2 1\nn 3 1\nn 4 1",
+    ),
+    (
+        "the greatest and the least weight",
+        "p edge 4 5\ne 1 2 1000000000\ne 2 3 -1000000000\ne 3 4 1000000000\ne 4 1 -1000000000\ne 1 3 0\nn 1 1\nn 3 1",
+    ),
+];

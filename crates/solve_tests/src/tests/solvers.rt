@@ -1,6 +1,6 @@
-ghost use Rattle.std.specs.Prelude.{◌≡◌, ◌<◌, true};
+ghost use Rattle.std.specs.Prelude.{◌≡◌, ◌≢◌, ◌<◌, true};
 ghost use Rattle.brute_force.specs.Best.{is_counted};
-ghost use Rattle.solve_kinds.specs.Solved.{is_solved};
+ghost use Rattle.mb_problem.specs.declared.kind.Kind.TheVariants.{Postman, Path};
 
 use brute_force::{best, is_small};
 use doc_format::Document;
@@ -35,7 +35,8 @@ pub fn document_of<L: Ledger>(
     kind: Kind,
     blank: Blank,
 ) -> Result<Document, OutOfMemory>
-    requires kind { is_solved kind ≡ true }
+    requires no_tour { kind ≢ Postman }
+    requires no_path { kind ≢ Path }
     requires name { blank.name ≡ L.name }
     requires parts { blank.parts ≡ L.parts }
     requires some { 0 < blank.parts }

@@ -1,28 +1,18 @@
-use Rattle.std.proofs.Common.{◌≡◌, ℤ, pos, List, map, Some, refl, ap, ◌∙◌}
-use Rattle.doc_format.specs.Form.{ascends}
+use Rattle.std.proofs.Common.{Bool, cond, Option, Some, None, ap, ◌∙◌}
+use Rattle.mb_problem.specs.declared.kind.Exclusion.{Exclusion}
+use Rattle.doc_format.specs.Form.{ascends, is_barrier, is_odd_part, is_split_part}
+use Rattle.doc_format.specs.declared.part.MemberLine.{MemberLine}
 use Rattle.solve_kinds.proofs.Ascents.{ascends-pos}
-use Rattle.solve_kinds.proofs.Forms.{form-infeasible}
+use Rattle.solve_kinds.proofs.SetForms.{form-infeasible}
 use Rattle.solve_kinds.proofs.infeasible.infeasible.Goals as goal
 
 pub invariant_of-result : goal.invariant_of-result
 invariant_of-result c =
-    let set = c.args.engine.now.barrier in
-    let members : c.from_vec-members.result ≡ map pos set = c.from_vec-members.ensures ∙ c.in_ok-barrier.ensures in
-    record { form = form-infeasible c.args.kind c.new.result c.new-2.result c.new-3.result (record { line = 1; members = c.from_vec-members.result }) c.requires.kind c.new.ensures c.new-2.ensures c.new-3.ensures (ap ascends members ∙ ascends-pos set c.requires.set.ascending) }
-
-pub returns : goal.returns
-returns c =
-    let set = c.args.engine.now.barrier in
-    let members : c.from_vec-members.result ≡ map pos set = c.from_vec-members.ensures ∙ c.in_ok-barrier.ensures in
+    let line = c.in_ok-line.line in
+    let place : (Exclusion → Bool) → Exclusion → Option MemberLine = λ p e. cond (p e) (Some line) None in
     record {
-      status = refl;
-      kind_is = refl;
-      weight = refl;
-      counts = c.new.ensures;
-      walk = refl;
-      duals = c.new-2.ensures;
-      sets = c.new-3.ensures;
-      barrier = ap (λ (zs : List ℤ). Some (record { line = 1; members = zs })) members;
-      odd = refl;
-      split = refl;
+      form = form-infeasible c.args.kind line c.new.result c.new-2.result c.new-3.result _ _ _ c.requires.kind (ap (λ (u : MemberLine). ascends u.members) c.in_ok-line.ensures ∙ ascends-pos c.args.set.now c.requires.ascending) c.new.ensures c.new-2.ensures c.new-3.ensures
+          (c.placed-barrier.ensures.barrier ∙ ap (place is_barrier) c.exclusion.ensures)
+          (c.placed-barrier.ensures.odd ∙ ap (place is_odd_part) c.exclusion.ensures)
+          (c.placed-barrier.ensures.split ∙ ap (place is_split_part) c.exclusion.ensures);
     }

@@ -1,11 +1,10 @@
-use Rattle.std.proofs.Common.{◌≡◌, ◌≤◌, ℤ, pos, ◌*ℤ◌, ◌≤ℤ◌, neg_ℤ, List, ℕ, length, map, All, refl, sym, ap, ◌∙◌, subst, arith, to_z, of_z, w64}
+use Rattle.std.proofs.Common.{◌≡◌, ◌≤◌, pos, ◌*ℤ◌, ◌≤ℤ◌, neg_ℤ, List, ℕ, length, map, All, refl, sym, ap, ◌∙◌, subst, arith, to_z, of_z, w64}
 use Rattle.std.proofs.lemmas.Int.{ints}
 use Rattle.graph_theory.specs.Graph.{Multigraph, IsGraph, IsPerfect, weight}
-use Rattle.graph_theory.specs.Walk.{walk_weight}
 use Rattle.graph_theory.specs.Duals.{IsNumber}
 use Rattle.mb_problem.specs.Feasible.{weight_of}
 use Rattle.mb_problem.specs.Values.{value_for}
-use Rattle.gadget_base.specs.Certified.{gadget_graph, IsPerfectList}
+use Rattle.gadget_base.specs.Certified.{IsPerfectList}
 use Rattle.gadget_base.specs.Listed.{ListsCounts}
 use Rattle.gadget_base.proofs.Listed.{list_from_perfect}
 use Rattle.doc_format.specs.declared.part.CountLine.{CountLine}
@@ -18,7 +17,8 @@ use Rattle.certificates.proofs.KindLemmas.{feasible-places}
 use Rattle.mwpm_engine.specs.Solutions.{matching_of, AreAscending}
 use Rattle.solve_kinds.specs.Parts.{ListsAnswer}
 use Rattle.solve_kinds.proofs.Forms.{form-optimal}
-use Rattle.solve_kinds.proofs.EachKind.{small, counted}
+use Rattle.solve_kinds.proofs.AnswerForms.{feasible-form}
+use Rattle.solve_kinds.proofs.EachKind.{small}
 use Rattle.solve_kinds.proofs.Weighed.{number-of_answer, pays-for_matching}
 use Rattle.solve_kinds.proofs.optimal.optimal.Goals as goal
 
@@ -42,18 +42,21 @@ stated_weight-weight-requires-clause-number c =
     let mates = c.args.engine.now.mates in
     let perfect : IsPerfect g (matching_of g mates) = subst (λ (h : Multigraph). IsPerfect h (matching_of h mates)) c.requires.same c.requires.solved.perfect in
     let lists : ListsCounts g (matching_of g mates) c.deref.result.now = subst (λ (es : List ℕ). ListsCounts g (matching_of g mates) es) (sym c.deref.ensures.value) c.in_ok-edges.ensures in
-    number-of_answer kind i g c.in_ok-answer.answer (matching_of g mates) c.requires.kind c.requires.certified c.vertices-vertices.ensures.graph c.requires.few_vertices c.requires.reached c.in_ok-answer.ensures.feasible perfect
+    number-of_answer kind i g c.in_ok-answer.answer (matching_of g mates) c.edges-edges.ensures.network c.requires.certified c.vertices-vertices.ensures.graph c.requires.few_vertices c.requires.reached c.in_ok-answer.ensures.feasible perfect
     (pays-for_matching kind i g (matching_of g mates) c.deref.result.now (weight_of i c.in_ok-answer.answer) c.requires.certified perfect lists c.in_ok-answer.ensures.pays)
 
 pub counts-requires-clause-places : goal.counts-requires-clause-places
 counts-requires-clause-places c = feasible-places c.args.kind c.args.instance.now c.in_ok-answer.answer c.in_ok-answer.ensures.feasible
 
 pub counts-requires-clause-small : goal.counts-requires-clause-small
-counts-requires-clause-small c = small c.args.kind c.args.instance.now c.in_ok-answer.answer c.edges-edges.ensures.network c.requires.kind c.in_ok-answer.ensures.feasible
+counts-requires-clause-small c = small c.args.kind c.args.instance.now c.in_ok-answer.answer c.edges-edges.ensures.network c.in_ok-answer.ensures.feasible
 
 pub invariant_of-result : goal.invariant_of-result
 invariant_of-result c = record {
-  form = form-optimal c.args.kind _ c.from_vec-counts.result c.from_vec-duals.result c.from_vec-sets.result (counted c.args.kind c.requires.kind)
+  form = form-optimal c.args.kind _ c.in_ok-answer.answer c.from_vec-counts.result c.in_ok-walk.walk c.from_vec-duals.result c.from_vec-sets.result
+      (feasible-form c.args.kind c.args.instance.now c.in_ok-answer.answer c.in_ok-answer.ensures.feasible)
+      (subst (ListsAnswer c.in_ok-answer.answer) (sym c.from_vec-counts.ensures) c.in_ok-counts.ensures.counts)
+      c.in_ok-walk.ensures
       (subst (λ (xs : List CountLine). AscendsBy (λ x. x.edge) xs) (sym c.from_vec-counts.ensures) c.in_ok-counts.ensures.ascending)
       (subst (λ (ys : List DualLine). AscendsBy (λ y. y.vertex) ys) (sym c.from_vec-duals.ensures) c.in_ok-duals.ensures.ascending);
 }
@@ -68,7 +71,7 @@ returns c =
     let perfect : IsPerfect g (matching_of g mates) = subst (λ (h : Multigraph). IsPerfect h (matching_of h mates)) c.requires.same c.requires.solved.perfect in
     let lists : ListsCounts g (matching_of g mates) c.deref.result.now = subst (λ (es : List ℕ). ListsCounts g (matching_of g mates) es) (sym c.deref.ensures.value) c.in_ok-edges.ensures in
     let pays : value_for kind i (weight_of i c.in_ok-answer.answer) ≤ℤ (pos 2 *ℤ weight g (matching_of g mates)) = pays-for_matching kind i g (matching_of g mates) c.deref.result.now (weight_of i c.in_ok-answer.answer) c.requires.certified perfect lists c.in_ok-answer.ensures.pays in
-    let number = number-of_answer kind i g c.in_ok-answer.answer (matching_of g mates) c.requires.kind c.requires.certified c.vertices-vertices.ensures.graph c.requires.few_vertices c.requires.reached c.in_ok-answer.ensures.feasible perfect pays in
+    let number = number-of_answer kind i g c.in_ok-answer.answer (matching_of g mates) c.edges-edges.ensures.network c.requires.certified c.vertices-vertices.ensures.graph c.requires.few_vertices c.requires.reached c.in_ok-answer.ensures.feasible perfect pays in
     let w = c.stated_weight-weight.result in
     let is : w ≡ weight_of i c.in_ok-answer.answer = c.stated_weight-weight.ensures in
     let fits : IsNumber w = subst IsNumber (sym is) number in
@@ -81,6 +84,8 @@ returns c =
       kind_is = refl;
       answer = c.in_ok-answer.answer;
       feasible = c.in_ok-answer.ensures.feasible;
+      few_steps = c.in_ok-answer.ensures.few_steps;
+      chosen = c.in_ok-answer.ensures.chosen;
       lists = subst (λ (xs : List CountLine). ListsAnswer c.in_ok-answer.answer xs) (sym c.from_vec-counts.ensures) c.in_ok-counts.ensures.counts;
       pays = subst (λ (h : Multigraph). value_for kind i (weight_of i c.in_ok-answer.answer) ≤ℤ (pos 2 *ℤ weight h (matching_of h mates))) (sym c.requires.same) pays;
       weight = weighs;
@@ -91,7 +96,7 @@ returns c =
       duals_within = subst (λ (h : Multigraph). All (IsDualWithin h.vertices) c.from_vec-duals.result) (sym c.requires.same) (subst (λ (ys : List DualLine). All (IsDualWithin g.vertices) ys) (sym c.from_vec-duals.ensures) c.in_ok-duals.ensures.in_range);
       sets = subst (λ (zs : List SetLine). AreAscending s.sets (map set_of zs)) (sym c.from_vec-sets.ensures) c.in_ok-sets.ensures.sets;
       natural = subst (λ (zs : List SetLine). All (λ z. All (λ m. pos 0 ≤ℤ m) z.members) zs) (sym c.from_vec-sets.ensures) c.in_ok-sets.ensures.natural;
-      walk = refl;
+      walk = c.in_ok-walk.ensures;
       barrier = refl;
       odd = refl;
       split = refl;

@@ -1,0 +1,62 @@
+-- Every list of numbers has the same members as some ascending one.
+use Rattle.std.proofs.Common.{◌≡◌, ℕ, suc, ◌+◌, ◌<◌, Bool, true, false, ◌&&◌, eqb, List, [], ◌∷◌, length, filter, get_or, refl, ap, sym, ◌∙◌, inl, inr, subst, arith}
+use Rattle.std.specs.List.{range_with_len}
+use Rattle.std.specs.List.Sorted.{IsStrictlyIncreasing}
+use Rattle.std.proofs.lemmas.Bool.{eqb-true, or_cases, true≢false}
+use Rattle.std.proofs.lemmas.List.FromFn.{length-range_with_len, get_or-range_with_len}
+use Rattle.std.proofs.lemmas.List.Kept.{IsStrictlyIncreasing-filter}
+use Rattle.std.proofs.lemmas.Map.Views.{any-filter_same}
+use Rattle.graph_theory.specs.declared.odd_set.OddSet.{OddSet}
+use Rattle.graph_theory.specs.Nested.{AreSame, AreAscending}
+use Rattle.graph_theory.specs.Parts.{holds}
+use Rattle.graph_theory.proofs.Members.{holds_at}
+
+-- above each member
+abbrev top : List ℕ → ℕ
+top [] = 0
+top (x ∷ xs) = suc x + top xs
+
+below_top : (xs : List ℕ) (v : ℕ) → holds xs v ≡ true → v < top xs
+below_top [] v h = absurd (true≢false (sym h))
+below_top (x ∷ xs) v h = elim (or_cases (eqb x v) (holds xs v) h) [
+  | inl on ↦ let same : x ≡ v = eqb-true x v on in omega (arith, same)
+  | inr later ↦ let rest : v < top xs = below_top xs v later in omega (arith, rest)
+]
+
+range-up : (n : ℕ) → IsStrictlyIncreasing (range_with_len 0 n)
+range-up n k h =
+    let long : length (range_with_len 0 n) ≡ n = length-range_with_len 0 n in
+    let here : get_or (range_with_len 0 n) k 0 ≡ 0 + k = get_or-range_with_len 0 n k 0 (omega arith) in
+    let next : get_or (range_with_len 0 n) (k + 1) 0 ≡ 0 + (k + 1) = get_or-range_with_len 0 n (k + 1) 0 (omega arith) in
+    omega arith
+
+range-holds : (n v : ℕ) → v < n → holds (range_with_len 0 n) v ≡ true
+range-holds n v h =
+    let long : length (range_with_len 0 n) ≡ n = length-range_with_len 0 n in
+    let here : get_or (range_with_len 0 n) v 0 ≡ 0 + v = get_or-range_with_len 0 n v 0 h in
+    let same : get_or (range_with_len 0 n) v 0 ≡ v = omega arith in
+    subst (λ (w : ℕ). holds (range_with_len 0 n) w ≡ true) same (holds_at (range_with_len 0 n) v 0 (omega arith))
+
+-- the members, ascending
+abbrev pub ascending : List ℕ → List ℕ
+ascending xs = filter (holds xs) (range_with_len 0 (top xs))
+
+both : (a b : Bool) → (a ≡ true → b ≡ true) → (a && b) ≡ a
+both true b h = h refl
+both false b h = refl
+
+ascending-same : (xs : List ℕ) → AreSame (ascending xs) xs
+ascending-same xs v =
+    any-filter_same (λ m. eqb m v) (holds xs) (holds xs v) (λ k t. ap (holds xs) (eqb-true k v t)) (range_with_len 0 (top xs))
+    ∙ both (holds xs v) (holds (range_with_len 0 (top xs)) v) (λ t. range-holds (top xs) v (below_top xs v t))
+
+ascending-up : (xs : List ℕ) → IsStrictlyIncreasing (ascending xs)
+ascending-up xs = IsStrictlyIncreasing-filter (holds xs) (range_with_len 0 (top xs)) (range-up (top xs))
+
+-- so the sets of a solution have a listing
+pub listing : (sets : List OddSet) → (lines : List OddSet) × AreAscending sets lines
+listing [] = ([], refl)
+listing (s ∷ sets) =
+    let rest = listing sets in
+    let t : OddSet = record { dual = s.dual; members = ascending s.members } in
+    (t ∷ rest.0, (t, rest.0, refl, refl, ascending-same s.members, ascending-up s.members, rest.1))

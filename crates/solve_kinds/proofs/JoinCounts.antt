@@ -1,0 +1,37 @@
+-- A join as counts.
+use Rattle.std.proofs.Common.{◌≡◌, ℕ, ◌+◌, ◌<◌, ◌≤◌, cond, List, length, All, sym, ap, ◌∙◌, subst, arith}
+use Rattle.std.specs.List.Sorted.{IsStrictlyIncreasing}
+use Rattle.std.proofs.lemmas.List.FromFn.{length-map-range_with_len, get_or-map-range_with_len}
+use Rattle.graph_theory.specs.Graph.{IsEdgeNumber}
+use Rattle.graph_theory.specs.Parts.{holds, IsVertexSet}
+use Rattle.mb_problem.specs.Joins.{IsJoinOf, listed_counts}
+use Rattle.mb_problem.specs.Feasible.{IsJoin}
+use Rattle.mb_problem.specs.Network.{Network, graph_of}
+use Rattle.mb_problem.specs.declared.answer.Parity.TheVariants.{Values}
+use Rattle.mb_problem.proofs.EdgeLemmas.{edges-count}
+use Rattle.gadget_base.specs.Listed.{times, times_each}
+use Rattle.gadget_base.proofs.Blocks.{is-tabled}
+use Rattle.matched_edges.proofs.Passing.{passing-few, passing-times, members-passing}
+
+-- an ascending list of numbers of edges, as a set
+as_set : (i : Network) (es : List ℕ) → IsStrictlyIncreasing es → All (IsEdgeNumber (graph_of i)) es → IsVertexSet (length i.edges) es
+as_set i es up numbers = record { ascending = up; in_range = subst (λ (n : ℕ). All (λ e. (1 ≤ e) × (e ≤ n)) es) (edges-count i) numbers }
+
+pub few-edges : (i : Network) (es : List ℕ) → IsStrictlyIncreasing es → All (IsEdgeNumber (graph_of i)) es → length es ≤ length i.edges
+few-edges i es up numbers = subst (λ (xs : List ℕ). length xs ≤ length i.edges) (members-passing (length i.edges) es (as_set i es up numbers)) (passing-few (holds es) (length i.edges))
+
+listed-once : (i : Network) (es : List ℕ) (k : ℕ) → IsStrictlyIncreasing es → All (IsEdgeNumber (graph_of i)) es → k < length i.edges → times es (k + 1) ≡ cond (holds es (k + 1)) 1 0
+listed-once i es k up numbers b =
+    sym (ap (λ (xs : List ℕ). times xs (k + 1)) (members-passing (length i.edges) es (as_set i es up numbers)))
+    ∙ passing-times (holds es) (length i.edges) (k + 1) (omega arith) (omega arith)
+
+pub times-listed : (i : Network) (es : List ℕ) → IsStrictlyIncreasing es → All (IsEdgeNumber (graph_of i)) es → times_each (graph_of i) es ≡ listed_counts es (length i.edges)
+times-listed i es up numbers =
+    let m = length i.edges in
+    let f : ℕ → ℕ = λ e. cond (holds es e) 1 0 in
+    let same : length (graph_of i).edges ≡ m = edges-count i in
+    sym (is-tabled (listed_counts es m) (λ k. times es (k + 1)) (length (graph_of i).edges) (length-map-range_with_len f 1 m ∙ sym same)
+    (λ k b. (let here : k < m = omega (arith, same, b) in get_or-map-range_with_len f 1 m k (k + 1) 0 here (omega arith) ∙ sym (listed-once i es k up numbers here))))
+
+pub value-join : (i : Network) (counts : List ℕ) → IsJoinOf Values i counts → IsJoin i counts
+value-join i counts join = record { one_each = join.one_each; at_most_once = join.at_most_once; degrees = join.degrees }

@@ -1,0 +1,95 @@
+-- Computed documents are short.
+use Rattle.std.proofs.Common.{◌≡◌, ℕ, ◌-◌, ◌/◌, ◌*◌, ◌≤◌, pos, false, List, length, All, IfSome, nat_abs, refl, sym, ◌∙◌, subst, arith}
+use Rattle.std.specs.Prelude.{codes}
+use Rattle.std.proofs.lemmas.List.{length-map}
+use Rattle.std.proofs.lemmas.List.Elements.{All-weaker}
+use Rattle.graph_theory.specs.declared.odd_set.OddSet.{OddSet}
+use Rattle.graph_theory.specs.Duals.{IsSetWithin, HasForm}
+use Rattle.mb_problem.specs.declared.kind.Kind.{Kind}
+use Rattle.mb_problem.specs.declared.answer.Answer.{Answer}
+use Rattle.mb_problem.specs.declared.answer.Answer.TheVariants as answers
+use Rattle.mb_problem.specs.Kinds.{exclusion_of}
+use Rattle.mb_problem.specs.Network.{Network, IsNetwork, vertices}
+use Rattle.doc_format.specs.declared.document.Document.{Document}
+use Rattle.doc_format.specs.declared.part.DualLine.{DualLine}
+use Rattle.doc_format.specs.declared.part.SetLine.{SetLine}
+use Rattle.doc_format.specs.declared.part.Part.TheVariants.{Count, Walk, Dual, Set, Barrier, Odd, Split}
+use Rattle.doc_format.specs.Form.{is_barrier, is_odd_part, is_split_part}
+use Rattle.doc_format.specs.Spelling.{row_text, part_row, document_text}
+use Rattle.certificates.specs.Claims.{numbers, set_of, sets_of}
+use Rattle.certificates.specs.Within.{IsCountWithin, IsDualWithin, IsSetLineWithin, IsWalkWithin}
+use Rattle.mwpm_engine.specs.Solutions.{Solution, IsSolved}
+use Rattle.solve_kinds.specs.Parts.{HasFewSteps, line_of, walk_line}
+use Rattle.solve_kinds.specs.Presented.{Presents}
+use Rattle.solve_kinds.specs.Excluding.{StatesSet}
+use Rattle.solve_kinds.proofs.Ascents.{unmap, both_all}
+use Rattle.solve_kinds.proofs.Excluding.{IsFewOf, line-holds}
+use Rattle.solve_kinds.proofs.LineSizes.{few_members, count-size, dual-size, set-size, walk-size, members-size, head-size, head_none-size}
+use Rattle.solve_kinds.proofs.Presenting.{are-duals, sets-within, listed-length}
+use Rattle.solve_kinds.proofs.Short.{IsShortLine, no-lines, no-line, short-document}
+use Rattle.solve_kinds.proofs.WalkLines.{line-within}
+
+-- a walk of few steps
+pub short-walk : (n m : ℕ) (start : ℕ) (edges : List ℕ) → n ≤ 4096 → m ≤ 65536 → length edges ≤ 2 * m → IsWalkWithin n m (walk_line start edges) → length (row_text (part_row (Walk (walk_line start edges)))) ≤ 2400000
+short-walk n m start edges few many size within = walk-size n m (walk_line start edges) few many (let same = length-map edges pos in omega (arith, same, size)) within
+
+answer-walk : (i : Network) (answer : Answer) → IsNetwork i → HasFewSteps i answer → IfSome (line_of answer) (IsWalkWithin (vertices i) (length i.edges)) → IsShortLine Walk 2400000 (line_of answer)
+answer-walk i (answers.Counts counts) network few within = tt
+answer-walk i (answers.Walk start edges) network few within = short-walk (vertices i) (length i.edges) start edges network.few_vertices network.few_edges few within
+answer-walk i answers.Nothing network few within = tt
+
+set-few : (n : ℕ) (z : SetLine) → IsSetWithin n (set_of z) → HasForm (numbers z.members) → length z.members ≤ n
+set-few n z within form =
+    let few : length (numbers z.members) ≤ n = few_members n (numbers z.members) (record { ascending = form.ascending; in_range = within.in_range }) in
+    omega (arith, length-map z.members nat_abs)
+
+sets-size : (kind : Kind) (i : Network) (s : Solution) (d : Document) → s.graph.vertices ≤ 4096 → IsSolved s → Presents kind i s d → All (λ z. length (row_text (part_row (Set z))) ≤ 20518) d.sets
+sets-size kind i s d few solved p =
+    let n = s.graph.vertices in
+    let duals = are-duals kind i s d solved p in
+    let forms : All (λ z. HasForm (numbers z.members)) d.sets = unmap (λ (t : OddSet). HasForm t.members) set_of d.sets duals.forms in
+    let within : All (λ z. IsSetWithin n (set_of z)) d.sets = unmap (IsSetWithin n) set_of d.sets duals.sets_within in
+    let short : All (λ z. length z.members ≤ n) d.sets = both_all (λ z. IsSetWithin n (set_of z)) (λ z. HasForm (numbers z.members)) (λ z. length z.members ≤ n) d.sets (set-few n) within forms in
+    both_all (λ z. length z.members ≤ n) (IsSetLineWithin n) (λ z. length (row_text (part_row (Set z))) ≤ 20518) d.sets (λ z a b. set-size n z few a b) short (sets-within kind i s d solved p)
+
+few_duals : (kind : Kind) (i : Network) (s : Solution) (d : Document) → IsSolved s → Presents kind i s d → length d.duals ≡ s.graph.vertices
+few_duals kind i s d solved p = sym (length-map d.duals (λ (y : DualLine). y.dual)) ∙ (are-duals kind i s d solved p).one_each
+
+few_sets : (kind : Kind) (i : Network) (s : Solution) (d : Document) → s.graph.vertices ≤ 4096 → IsSolved s → Presents kind i s d → length d.sets ≤ 2047
+few_sets kind i s d few solved p =
+    let as_many : length (sets_of d) ≡ length s.sets = listed-length s.sets (sets_of d) p.sets in
+    let room : length s.sets ≤ (s.graph.vertices - 1) / 2 = solved.few in
+    omega (arith, length-map d.sets set_of)
+
+pub short-optimal : (kind : Kind) (i : Network) (s : Solution) (d : Document) → IsNetwork i → s.graph.vertices ≤ 4096 → IsSolved s → Presents kind i s d → length (document_text d false) ≤ 50331648
+short-optimal kind i s d network few solved p =
+    let m = length i.edges in
+    let n = s.graph.vertices in
+    let few_edges : m ≤ 65536 = network.few_edges in
+    let few_xs : length d.counts ≤ m = p.few_counts in
+    let few_ys = few_duals kind i s d solved p in
+    let line : IsShortLine Walk 2400000 (line_of p.answer) = answer-walk i p.answer network p.few_steps (line-within kind i p.answer network p.feasible) in
+    short-document d (record {
+      head = rw (p.status, p.kind_is) (head-size kind d.weight p.number);
+      counts = record { few = omega arith; short = All-weaker (IsCountWithin m) (λ x. length (row_text (part_row (Count x))) ≤ 38) (λ x w. count-size m x few_edges w) d.counts p.counts_within };
+      walk = subst (IsShortLine Walk 2400000) (sym p.walk) line;
+      duals = record { few = omega arith; short = All-weaker (IsDualWithin n) (λ y. length (row_text (part_row (Dual y))) ≤ 38) (λ y w. dual-size n y few w) d.duals p.duals_within };
+      sets = record { few = few_sets kind i s d few solved p; short = sets-size kind i s d few solved p };
+      barrier = no-line Barrier 20500 d.barrier p.barrier;
+      odd = no-line Odd 20500 d.odd p.odd;
+      split = no-line Split 20500 d.split p.split;
+    })
+
+pub short-infeasible : (kind : Kind) (set : List ℕ) (d : Document) → IsFewOf set → StatesSet kind set d → length (document_text d false) ≤ 50331648
+short-infeasible kind set d few p =
+    let e = exclusion_of kind in
+    short-document d (record {
+      head = rw (p.status, p.kind_is) (head_none-size kind d.weight);
+      counts = no-lines Count 65536 38 d.counts p.counts;
+      walk = no-line Walk 2400000 d.walk p.walk;
+      duals = no-lines Dual 4096 38 d.duals p.duals;
+      sets = no-lines Set 2047 20518 d.sets p.sets;
+      barrier = line-holds (λ u. length (row_text (part_row (Barrier u))) ≤ 20500) (is_barrier e) set d.barrier p.barrier (λ t. members-size Barrier (codes "u") set few.n (λ u. refl) refl few.few few.is_set);
+      odd = line-holds (λ u. length (row_text (part_row (Odd u))) ≤ 20500) (is_odd_part e) set d.odd p.odd (λ t. members-size Odd (codes "t") set few.n (λ u. refl) refl few.few few.is_set);
+      split = line-holds (λ u. length (row_text (part_row (Split u))) ≤ 20500) (is_split_part e) set d.split p.split (λ t. members-size Split (codes "q") set few.n (λ u. refl) refl few.few few.is_set);
+    })

@@ -1,0 +1,63 @@
+-- The w lines of walks.
+use Rattle.std.proofs.Common.{◌≡◌, ℕ, ◌+◌, ◌*◌, ◌<◌, ◌≤◌, pos, true, List, [], ◌∷◌, length, All, count_by, IfSome, refl, ◌∙◌, subst, arith}
+use Rattle.std.proofs.lemmas.Int.{ints}
+use Rattle.std.proofs.lemmas.List.Elements.{All-map, All-weaker}
+use Rattle.std.proofs.lemmas.List.Sums.{sum_by-cons}
+use Rattle.graph_theory.specs.Graph.{IsEdgeNumber}
+use Rattle.graph_theory.specs.Sums.{sum_to}
+use Rattle.graph_theory.specs.Walk.{IsWalk}
+use Rattle.graph_theory.proofs.SumLemmas.{sum_to-most}
+use Rattle.graph_theory.proofs.Walks.{walk-numbers}
+use Rattle.mb_problem.specs.declared.kind.Kind.{Kind}
+use Rattle.mb_problem.specs.declared.kind.Kind.TheVariants.{Perfect, Match, BMatch, CapMatch, FFactor, TJoin, Postman, Path}
+use Rattle.mb_problem.specs.declared.answer.Answer.{Answer}
+use Rattle.mb_problem.specs.declared.answer.Answer.TheVariants.{Counts, Walk, Nothing}
+use Rattle.mb_problem.specs.Network.{Network, IsNetwork, vertices, graph_of}
+use Rattle.mb_problem.specs.Feasible.{IsFeasible}
+use Rattle.mb_problem.proofs.EdgeLemmas.{edges-count}
+use Rattle.mb_problem.proofs.WalkSteps.{walk-start}
+use Rattle.gadget_base.specs.Listed.{times}
+use Rattle.gadget_base.proofs.Listed.{times-sum}
+use Rattle.certificates.specs.Within.{IsUpTo, IsWalkWithin}
+use Rattle.solve_kinds.specs.Parts.{line_of, walk_line}
+
+up_to : (n v : ℕ) → 1 ≤ v → v ≤ n → IsUpTo n (pos v)
+up_to n v low high = record { low = omega (arith, ints, low); high = omega (arith, ints, high) }
+
+-- a walk of some edge has its numbers in range
+pub walk-within : (i : Network) (start : ℕ) (edges : List ℕ) → IsNetwork i → IsWalk (graph_of i) start edges → 1 ≤ length edges → IsWalkWithin (vertices i) (length i.edges) (walk_line start edges)
+walk-within i start edges network walk some =
+    let m = length i.edges in
+    let range = walk-start i start edges network walk some in
+    let same : length (graph_of i).edges ≡ m = edges-count i in (
+      up_to (vertices i) start range.0 range.1,
+      All-map (IsUpTo m) pos edges (All-weaker (IsEdgeNumber (graph_of i)) (λ e. IsUpTo m (pos e)) (λ e h. (let low : 1 ≤ e = h.0 in let high : e ≤ length (graph_of i).edges = h.1 in up_to m e low (omega (arith, high, same)))) edges (walk-numbers (graph_of i) start edges walk)),
+    )
+
+-- the line of a feasible answer
+pub line-within : (kind : Kind) (i : Network) (answer : Answer) → IsNetwork i → IsFeasible kind i answer → IfSome (line_of answer) (IsWalkWithin (vertices i) (length i.edges))
+line-within kind i (Counts counts) network f = tt
+line-within kind i Nothing network f = tt
+line-within Perfect i (Walk start edges) network f = absurd f
+line-within Match i (Walk start edges) network f = absurd f
+line-within BMatch i (Walk start edges) network f = absurd f
+line-within CapMatch i (Walk start edges) network f = absurd f
+line-within FFactor i (Walk start edges) network f = absurd f
+line-within TJoin i (Walk start edges) network f = absurd f
+line-within Postman i (Walk start edges) network f = walk-within i start edges network f.closed.0 f.some
+line-within Path i (Walk start edges) network f = walk-within i start edges network f.walk f.some
+
+-- how many steps a walk has
+
+count_all : (es : List ℕ) → count_by (λ _. true) es ≡ length es
+count_all [] = refl
+count_all (e ∷ es) = sum_by-cons (λ _. 1) e es ∙ (let rest = count_all es in omega (arith, rest))
+
+-- numbers of edges, none of them listed more often than c times
+pub few-steps : (c : ℕ) (i : Network) (es : List ℕ) → All (IsEdgeNumber (graph_of i)) es → ((k : ℕ) → k < length i.edges → times es (k + 1) ≤ c) → length es ≤ length i.edges * c
+few-steps c i es numbers few =
+    let m = length i.edges in
+    let same : length (graph_of i).edges ≡ m = edges-count i in
+    let all : sum_to (λ k. times es (k + 1)) m ≡ length es = times-sum (λ _. true) es m (subst (λ (n : ℕ). All (λ e. (1 ≤ e) × (e ≤ n)) es) same numbers) ∙ count_all es in
+    let most : sum_to (λ k. times es (k + 1)) m ≤ m * c = sum_to-most (λ k. times es (k + 1)) c m few in
+    omega (arith, all, most)

@@ -1,0 +1,5 @@
+use Rattle.solve_kinds.proofs.JoinAnswers.{tour-few}
+use Rattle.solve_kinds.proofs.joins.extract_tour.Goals as goal
+
+pub returns-clause-few_steps : goal.returns-clause-few_steps
+returns-clause-few_steps c = tour-few c.args.instance.now c.in_ok-join.join.edges c.in_ok-answer.answer c.in_ok-answer.ensures.feasible c.in_ok-answer.ensures.uses

@@ -1,0 +1,32 @@
+-- What is promised of a document, and what is known where there is none yet.
+use Rattle.std.specs.Prelude.{◌≡◌, ◌≤◌, length, false, Option, None, Some}
+use Rattle.mb_problem.specs.declared.kind.Kind.{Kind}
+use Rattle.mb_problem.specs.declared.kind.Kind.TheVariants.{Path}
+use Rattle.mb_problem.specs.Joins.{HasNoNegativeEvenSet}
+use Rattle.mb_problem.specs.Kinds.{exclusion_of}
+use Rattle.mb_problem.specs.Network.{Network}
+use Rattle.doc_format.specs.declared.document.Document.{Document}
+use Rattle.doc_format.specs.Spelling.{document_text}
+use Rattle.certificates.specs.Proved.{IsProved, StatesTruth}
+use Rattle.solve_kinds.specs.declared.limits.TheConstants.{DOCUMENT_BYTE_LIMIT}
+use Rattle.solve_kinds.specs.Solved.{HasTrueStatus, HasFitWeights}
+use Rattle.solve_kinds.specs.Chosen.{IsChosen}
+use Rattle.solve_kinds.specs.Open.{HasNoPartFor}
+
+-- the document proves what it states, which is true
+pub record Settles (kind : Kind) (i : Network) (d : Document) : Type 0 where
+  pub proved : IsProved kind i d
+  pub truth : StatesTruth kind i d
+  pub exact : HasTrueStatus kind i d.status
+  pub chosen : IsChosen kind i d
+  pub small : length (document_text d false) ≤ DOCUMENT_BYTE_LIMIT
+
+-- a document that settles an instance, or no part excludes all answers
+abbrev pub SettlesOrHasNoPart : Kind → Network → Option Document → Type 0
+SettlesOrHasNoPart kind i (Some d) = Settles kind i d
+SettlesOrHasNoPart kind i None = HasNoPartFor (exclusion_of kind) i
+
+-- a document that settles an instance, or, where a path is sought, no circuit weighs less than 0, nor any even set of edges
+abbrev pub SettlesOrIsFit : Kind → Network → Option Document → Type 0
+SettlesOrIsFit kind i (Some d) = Settles kind i d
+SettlesOrIsFit kind i None = HasFitWeights kind i × (kind ≡ Path → HasNoNegativeEvenSet i)

@@ -1,0 +1,67 @@
+ghost use Rattle.std.specs.Prelude.{◌≡◌, IfOk};
+ghost use Rattle.mb_problem.specs.Kinds.{exclusion_of};
+ghost use Rattle.mb_problem.specs.declared.kind.Exclusion.TheVariants.{OddPart, SplitPart};
+ghost use Rattle.solve_kinds.specs.Settled.{SettlesOrHasNoPart};
+ghost use Rattle.solve_kinds.specs.Solved.{HasFitWeights};
+
+use crate::infeasible::infeasible;
+use doc_format::Document;
+use graph_parts::{JoinOrOdd, component, edge_connected, join_or_odd};
+use mb_base::OutOfMemory;
+use mb_problem::{Exclusion, Instance, Kind, Parity};
+use postman_walk::least_met;
+use std::alloc::Global;
+
+/// The document of the first odd part, where there is no join on the vertices of odd value.
+fn odd_part(alloc: Global, instance: &Instance, kind: Kind) -> Result<Option<Document>, OutOfMemory>
+    requires kind { exclusion_of kind ≡ OddPart }
+    requires weights { HasFitWeights kind instance.now }
+    ensures { IfOk result (SettlesOrHasNoPart kind instance.now) }
+{
+    // The prover learns here that the instance is valid.
+    let _edges = instance.edges();
+    match join_or_odd(alloc, instance, &Parity::Values)? {
+        JoinOrOdd::Join(_) => Ok(None),
+        JoinOrOdd::OddSet(part) => Ok(Some(infeasible(alloc, kind, part.as_slice())?)),
+    }
+}
+
+/// The document of the component of the least vertex that an edge meets, where some edge lies in another.
+fn split_part(
+    alloc: Global,
+    instance: &Instance,
+    kind: Kind,
+) -> Result<Option<Document>, OutOfMemory>
+    requires kind { exclusion_of kind ≡ SplitPart }
+    requires weights { HasFitWeights kind instance.now }
+    ensures { IfOk result (SettlesOrHasNoPart kind instance.now) }
+{
+    // The prover learns here that the instance is valid.
+    let _edges = instance.edges();
+    let graph = instance.graph()?;
+    if edge_connected(alloc, &graph)? {
+        return Ok(None);
+    }
+    let Some(first) = least_met(&graph) else {
+        return Ok(None);
+    };
+    let part = component(alloc, &graph, first)?;
+    Ok(Some(infeasible(alloc, kind, &part)?))
+}
+
+/// The document of a part that excludes all answers of a kind, where there is one and this kind's
+/// answers are excluded so. It takes time linear in the instance.
+pub fn excluded(
+    alloc: Global,
+    instance: &Instance,
+    kind: Kind,
+) -> Result<Option<Document>, OutOfMemory>
+    requires weights { HasFitWeights kind instance.now }
+    ensures { IfOk result (SettlesOrHasNoPart kind instance.now) }
+{
+    match kind.exclusion() {
+        Exclusion::OddPart => odd_part(alloc, instance, kind),
+        Exclusion::SplitPart => split_part(alloc, instance, kind),
+        Exclusion::Barrier | Exclusion::Never => Ok(None),
+    }
+}
