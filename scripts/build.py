@@ -1,5 +1,6 @@
 #!/usr/bin/env python3
-"""Builds a program of this repository: the crates that it stands on first, side by side, on all processors.
+"""Builds a program of this repository: the crates that it stands on first, lowest first, one at a time on all processors. (`rt` holds
+the crates below the one that it works on, and all stand on one lowest crate, so that two builds side by side would wait for each other.)
 
 Usage: build.py PROGRAM [--jobs N]. A crate is built once all that it stands on are; each is proved first. A line a crate goes
 to standard error, with its number and the time so far. Where it is interrupted, a later call goes on with what is left, since
@@ -9,7 +10,6 @@ import os
 import subprocess
 import sys
 import time
-from concurrent.futures import FIRST_COMPLETED, ThreadPoolExecutor, wait
 
 TOP = os.path.dirname(os.path.dirname(os.path.abspath(__file__)))
 # What the program is run on once it is built: an instance that its document proves solved, so that it ends with status 0.
@@ -34,22 +34,14 @@ def crates_below(program):
     return wanted
 
 
-def size_of(name):
-    """The bytes of a crate's sources: a measure for the time that its proof takes."""
-    folders = [os.path.join(TOP, "crates", name, part) for part in ("src", "specs", "proofs")]
-    return sum(os.path.getsize(os.path.join(at, file)) for folder in folders for at, _, files in os.walk(folder) for file in files)
-
-
-def longest_first(below):
-    """The crates, those first on which the longest chain of crates stands."""
-    sizes, chains = {name: size_of(name) for name in below}, {}
-
-    def chain(name):
-        if name not in chains:
-            chains[name] = sizes[name] + max((chain(above) for above in below if name in below[above]), default=0)
-        return chains[name]
-
-    return sorted(below, key=chain, reverse=True)
+def lowest_first(below):
+    """The crates in an order in which each comes after all that it stands on."""
+    order, left = [], list(below)
+    while left:
+        name = next(name for name in left if set(order).issuperset(below[name]))
+        left.remove(name)
+        order.append(name)
+    return order
 
 
 def log_of(name):
@@ -63,12 +55,6 @@ def build(name, is_program, jobs):
     words = ["rt", "run", "--jobs", str(jobs), "--"] + TRIAL[0] if is_program else ["rt", "lib", "--jobs", str(jobs)]
     with open(log_of(name), "wb") as log:
         return subprocess.run(words, cwd=folder, input=TRIAL[1] if is_program else b"", stdout=log, stderr=log).returncode
-
-
-def shares(names, free):
-    """How many processors each of these crates gets, where so many are free: those that come first get what is left over."""
-    taken = names[:free]
-    return [(name, free // len(taken) + (place < free % len(taken))) for place, name in enumerate(taken)]
 
 
 def minutes(seconds):
@@ -87,22 +73,13 @@ def main():
     parser.add_argument("program")
     parser.add_argument("--jobs", type=int, default=os.cpu_count() or 1)
     args = parser.parse_args()
-    below, built, running, start = crates_below(args.program), set(), {}, time.monotonic()
-    left = longest_first(below)
-    with ThreadPoolExecutor(args.jobs) as pool:
-        while left or running:
-            ready = [name for name in left if built.issuperset(below[name])]
-            for name, jobs in shares(ready, args.jobs - sum(jobs for _, jobs in running.values())):
-                left.remove(name)
-                running[pool.submit(build, name, name == args.program, jobs)] = name, jobs
-            for future in wait(running, return_when=FIRST_COMPLETED).done:
-                (name, _), status = running.pop(future), future.result()
-                if status:
-                    pool.shutdown(wait=False, cancel_futures=True)
-                    report(args.program, name, status)
-                    return status
-                built.add(name)
-                print("%s: %d of %d: %s, %s" % (args.program, len(built), len(below), name, minutes(time.monotonic() - start)), file=sys.stderr)
+    below, start = crates_below(args.program), time.monotonic()
+    for place, name in enumerate(lowest_first(below)):
+        status = build(name, name == args.program, args.jobs)
+        if status:
+            report(args.program, name, status)
+            return status
+        print("%s: %d of %d: %s, %s" % (args.program, place + 1, len(below), name, minutes(time.monotonic() - start)), file=sys.stderr)
     return 0
 
 
