@@ -1,3 +1,4 @@
 pub mod Codes
 pub mod EachAnswer
+pub mod OddJoins
 pub mod Trials

@@ -1,3 +1,4 @@
 pub mod Best
 pub mod Digits
+pub mod Tours
 pub mod Tried
