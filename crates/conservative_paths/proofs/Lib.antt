@@ -1,5 +1,5 @@
 mod Looked
-pub mod Numbers
+pub mod ListedCounts
 mod Ways
 mod Weights
 mod EvenSets

@@ -1,12 +1,13 @@
 -- The edges at each vertex that were looked at, and an edge that is taken.
-use Rattle.std.proofs.Common.{◌≡◌, ℕ, ◌+◌, ◌-◌, ◌<◌, ◌≤◌, Bool, cond, eqb, ap, sym, ◌∙◌, subst, inl, inr, arith, List, length, slice_index, set, All}
+use Rattle.std.proofs.Common.{◌≡◌, ℕ, ◌+◌, ◌-◌, ◌<◌, ◌≤◌, Bool, cond, eqb, ap, sym, ◌∙◌, subst, inl, inr, arith, List, length, slice_index, set, All, true}
 use Rattle.std.proofs.lemmas.Bool.{cases_eq, cases_lt, eq-eqb, ne_eqb}
 use Rattle.std.proofs.lemmas.List.{get_or-set_same, get_or-set_other}
-use Rattle.graph_theory.specs.Graph.{Multigraph, edges_around}
+use Rattle.graph_theory.specs.Graph.{Multigraph, edges_around, CountsNoneAt, edge_of, touches}
 use Rattle.graph_theory.proofs.Around.{around-has, around-at}
 use Rattle.graph_theory.proofs.Members.{holds_place}
+use Rattle.graph_theory.proofs.Edges.{edge_of-place, number_of-place}
 use Rattle.conservative_paths.specs.declared.edges_left.EdgesLeft.{EdgesLeft}
-use Rattle.conservative_paths.specs.Trails.{IsTaken, IsSettled, IsLeft}
+use Rattle.conservative_paths.specs.Trails.{IsTaken, IsLeft}
 
 -- one count less
 pub taken-set : (counts : List ℕ) (e : ℕ) → 1 ≤ e → e - 1 < length counts → 0 < slice_index counts (e - 1) → IsTaken e counts (set counts (e - 1) (slice_index counts (e - 1) - 1))
@@ -27,10 +28,12 @@ taken-set counts e low place some k =
 -- the edges at a vertex that were looked at are those before a place, and none of them is left
 
 -- where all edges at a vertex were looked at none is left
-pub looked-all : (g : Multigraph) (counts : List ℕ) (v : ℕ) → ((k : ℕ) → k < length (edges_around g v) → slice_index counts (slice_index (edges_around g v) k - 1) ≡ 0) → IsSettled g counts v
-looked-all g counts v none e is meets =
-    let place = holds_place (edges_around g v) e (around-has g v e is meets) in
-    ap (λ (x : ℕ). slice_index counts (x - 1)) (sym place.2) ∙ none place.0 place.1
+pub looked-all : (g : Multigraph) (counts : List ℕ) (v : ℕ) → ((k : ℕ) → k < length (edges_around g v) → slice_index counts (slice_index (edges_around g v) k - 1) ≡ 0) → CountsNoneAt g counts v
+looked-all g counts v none k b meets =
+    let there : touches (edge_of g (k + 1)) v ≡ true = ap (λ e. touches e v) (edge_of-place g k) ∙ meets in
+    let place = holds_place (edges_around g v) (k + 1) (around-has g v (k + 1) (number_of-place g k b) there) in
+    let here : slice_index (edges_around g v) place.0 - 1 ≡ k = omega (arith, place.2) in
+    ap (slice_index counts) (sym here) ∙ none place.0 place.1
 
 pub around-numbers : (g : Multigraph) (v m : ℕ) → m ≡ length g.edges → All (λ e. (1 ≤ e) × (e ≤ m)) (edges_around g v)
 around-numbers g v m size k d b =

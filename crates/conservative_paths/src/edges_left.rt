@@ -1,9 +1,9 @@
 ghost use Rattle.std.specs.Prelude.{◌≡◌, ℕ, ◌+◌, ◌-◌, ◌<◌, ◌≤◌, length, slice_index, All, IfOk, MatchOption};
-ghost use Rattle.graph_theory.specs.Graph.{IsEdgeNumber};
+ghost use Rattle.graph_theory.specs.Graph.{IsEdgeNumber, CountsNoneAt};
 ghost use Rattle.weighted_graph.specs.Index.{IsIndex};
 ghost use Rattle.mb_problem.specs.Network.{graph_of};
 ghost use Rattle.mb_problem.specs.Joins.{listed_counts};
-ghost use Rattle.conservative_paths.specs.Trails.{IsLeft, IsSettled, Takes};
+ghost use Rattle.conservative_paths.specs.Trails.{IsLeft, Takes};
 
 use mb_base::{EdgeId, OutOfMemory, VertexId};
 use mb_problem::Instance;
@@ -82,7 +82,7 @@ impl EdgesLeft {
         requires left { IsLeft graph.now self.old }
         ensures left { IsLeft graph.now self.new }
         ensures step { MatchOption result
-            ((self.new.counts.items ≡ self.old.counts.items) × IsSettled graph.now self.new.counts.items vertex)
+            ((self.new.counts.items ≡ self.old.counts.items) × CountsNoneAt graph.now self.new.counts.items vertex)
             (λ step. Takes graph.now vertex step.edge step.there self.old.counts.items self.new.counts.items) }
     {
         let around = index.at(vertex);

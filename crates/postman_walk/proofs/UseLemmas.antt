@@ -1,16 +1,16 @@
 -- Uses that are left: what taking one changes, and when none is left at a vertex.
-use Rattle.std.proofs.Common.{◌≡◌, ℕ, ◌+◌, ◌-◌, ◌*◌, ◌<◌, ◌≤◌, Bool, true, false, cond, eqb, refl, ap, sym, ◌∙◌, inl, inr, arith, List, length, slice_index, slice_set, All, subst}
-use Rattle.std.proofs.lemmas.Bool.{cases_eq, cases_Bool, eq-eqb, ne_eqb}
+use Rattle.std.proofs.Common.{◌≡◌, ℕ, ◌+◌, ◌-◌, ◌*◌, ◌<◌, ◌≤◌, Bool, true, false, cond, eqb, ap, sym, ◌∙◌, inl, inr, arith, List, length, slice_index, slice_set, subst}
+use Rattle.std.proofs.lemmas.Bool.{cases_eq, eq-eqb, ne_eqb}
 use Rattle.std.proofs.lemmas.Grind.{common_steps}
 use Rattle.graph_theory.specs.Sums.{sum_to}
 use Rattle.graph_theory.specs.declared.edge.Edge.{Edge}
-use Rattle.graph_theory.specs.Graph.{Multigraph, IsEdgeWithin, IsEdgeNumber, edge_at, edge_of, edges_around, ends_at, touches, degree}
+use Rattle.graph_theory.specs.Graph.{Multigraph, IsEdgeNumber, edge_at, edge_of, edges_around, ends_at, touches, degree, CountsNoneAt}
 use Rattle.graph_theory.proofs.SumLemmas.{sum_to-same, sum_to-add}
-use Rattle.graph_theory.proofs.Edges.{edge_of-place, number_of-place, degree-touches}
+use Rattle.graph_theory.proofs.Edges.{edge_of-place, number_of-place}
 use Rattle.graph_theory.proofs.Around.{around-has}
 use Rattle.graph_theory.proofs.Members.{holds_place}
-use Rattle.gadget_base.proofs.BlockSums.{sum_to-hit, sum_to-none}
-use Rattle.postman_walk.specs.Uses.{NoneLeft, IsSettled, ArePassed, TakesUse}
+use Rattle.gadget_base.proofs.BlockSums.{sum_to-hit}
+use Rattle.postman_walk.specs.Uses.{NoneLeft, ArePassed, TakesUse}
 
 -- one use is taken
 
@@ -67,13 +67,7 @@ uses-taken g old new v e takes =
 
 -- where nothing is left at a vertex
 
-pub degree-settled : (g : Multigraph) (left : List ℕ) (v : ℕ) → All (IsEdgeWithin g.vertices) g.edges → IsSettled g left v → degree g left v ≡ 0
-degree-settled g left v ends settled =
-    degree-touches g left v ends
-    ∙ sum_to-none (λ k. cond (touches (edge_at g k) v) (slice_index left k) 0) (length g.edges)
-    (λ k b. elim (cases_Bool (touches (edge_at g k) v)) [ inl h ↦ rw h (settled k b h) | inr h ↦ rw h refl ])
-
-pub settled-all : (g : Multigraph) (left : List ℕ) (v : ℕ) → NoneLeft left (edges_around g v) (length (edges_around g v)) → IsSettled g left v
+pub settled-all : (g : Multigraph) (left : List ℕ) (v : ℕ) → NoneLeft left (edges_around g v) (length (edges_around g v)) → CountsNoneAt g left v
 settled-all g left v none k b meets =
     let there : touches (edge_of g (k + 1)) v ≡ true = ap (λ (e : Edge). touches e v) (edge_of-place g k) ∙ meets in
     let place = holds_place (edges_around g v) (k + 1) (around-has g v (k + 1) (number_of-place g k b) there) in

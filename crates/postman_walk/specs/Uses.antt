@@ -1,14 +1,10 @@
 -- How often each edge is still to be used, and how far the edges at each vertex are used up.
 use Rattle.std.specs.Prelude.{◌≡◌, ℕ, ◌+◌, ◌-◌, ◌==◌, ◌≤◌, ◌<◌, true, List, length, slice_index, if◌then◌else◌}
-use Rattle.graph_theory.specs.Graph.{Multigraph, IsEdgeNumber, edge_at, edge_of, edges_around, touches}
+use Rattle.graph_theory.specs.Graph.{Multigraph, IsEdgeNumber, edge_of, edges_around, touches}
 
 -- none of the first n of these edges is left
 abbrev pub NoneLeft : List ℕ → List ℕ → ℕ → Type 0
 NoneLeft left numbers n = (j : ℕ) → j < n → slice_index left (slice_index numbers j - 1) ≡ 0
-
--- no edge at v is left
-abbrev pub IsSettled : Multigraph → List ℕ → ℕ → Type 0
-IsSettled g left v = (k : ℕ) → k < length g.edges → touches (edge_at g k) v ≡ true → slice_index left k ≡ 0
 
 -- at each vertex no edge before its cursor is left
 pub record ArePassed (g : Multigraph) (left cursors : List ℕ) : Type 0 where

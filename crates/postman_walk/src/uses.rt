@@ -1,7 +1,8 @@
 ghost use Rattle.std.specs.Prelude.{◌≡◌, ℕ, ◌+◌, ◌-◌, ◌<◌, ◌≤◌, length, slice_index, All, if◌then◌else◌, IfOk, MatchOption};
 ghost use Rattle.graph_theory.specs.Parts.{holds};
+ghost use Rattle.graph_theory.specs.Graph.{CountsNoneAt};
 ghost use Rattle.weighted_graph.specs.Index.{IsIndex};
-ghost use Rattle.postman_walk.specs.Uses.{NoneLeft, IsSettled, ArePassed, TakesUse};
+ghost use Rattle.postman_walk.specs.Uses.{NoneLeft, ArePassed, TakesUse};
 
 use mb_base::{EdgeId, OutOfMemory, VertexId};
 use std::alloc::Global;
@@ -52,7 +53,7 @@ pub(crate) fn take_use(
     requires passed { ArePassed graph.now left.old cursors.old }
     ensures passed { ArePassed graph.now left.new cursors.new }
     ensures taken { MatchOption result
-        ((left.new ≡ left.old) × IsSettled graph.now left.old vertex)
+        ((left.new ≡ left.old) × CountsNoneAt graph.now left.old vertex)
         (TakesUse graph.now left.old left.new vertex) }
 {
     let numbers = index.at(vertex);

@@ -1,10 +1,10 @@
 use Rattle.std.proofs.Common.{ℕ, ◌≤ℤ◌, List, length, subst, sym, arith}
-use Rattle.graph_theory.specs.Graph.{Multigraph}
+use Rattle.graph_theory.specs.Graph.{Multigraph, CountsNoneAt}
 use Rattle.graph_theory.specs.Walk.{walk_weight}
 use Rattle.mb_problem.specs.Network.{graph_of}
 use Rattle.mb_problem.specs.Joins.{listed_counts}
 use Rattle.conservative_paths.specs.Within.{IsPathWithin}
-use Rattle.conservative_paths.specs.Trails.{KeepsOpen, Takes, IsOpen, IsSettled, IsLeft}
+use Rattle.conservative_paths.specs.Trails.{KeepsOpen, Takes, IsOpen, IsLeft}
 use Rattle.conservative_paths.proofs.Ways.{taken-sum}
 use Rattle.conservative_paths.proofs.EvenSets.{path-weighs}
 use Rattle.conservative_paths.proofs.Found.{path-found}
@@ -32,7 +32,7 @@ loop-step-preserved c =
 pub returns-clause-path : goal.returns-clause-path
 returns-clause-path c =
     let i = c.args.instance.now in
-    let S : Multigraph → Type 0 = λ g. IsSettled g c.take.new.self.counts.items c.loop-step.trail.here in
+    let S : Multigraph → Type 0 = λ g. CountsNoneAt g c.take.new.self.counts.items c.loop-step.trail.here in
     let step = c.in_default.ensures.step in
     let settled = subst S c.in_ok-graph.ensures step.1 in
     let O : List ℕ → Type 0 = λ xs. IsOpen (graph_of i) (listed_counts c.args.join.now.edges (length i.edges)) xs c.args.s c.args.t c.loop-step.trail in
@@ -42,7 +42,7 @@ returns-clause-path c =
 pub returns-clause-weighs : goal.returns-clause-weighs
 returns-clause-weighs c = λ even.
     let i = c.args.instance.now in
-    let S : Multigraph → Type 0 = λ g. IsSettled g c.take.new.self.counts.items c.loop-step.trail.here in
+    let S : Multigraph → Type 0 = λ g. CountsNoneAt g c.take.new.self.counts.items c.loop-step.trail.here in
     let step = c.in_default.ensures.step in
     let settled = subst S c.in_ok-graph.ensures step.1 in
     let O : List ℕ → Type 0 = λ xs. IsOpen (graph_of i) (listed_counts c.args.join.now.edges (length i.edges)) xs c.args.s c.args.t c.loop-step.trail in

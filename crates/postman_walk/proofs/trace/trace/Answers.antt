@@ -2,10 +2,10 @@ use Rattle.std.proofs.Common.{◌≡◌, ℕ, List, [], ◌∷◌, length, slice
 use Rattle.std.proofs.lemmas.Grind.{common_steps}
 use Rattle.std.proofs.lemmas.List.{with_items_is}
 use Rattle.graph_theory.specs.Sums.{sum_to}
-use Rattle.graph_theory.specs.Graph.{edge_at}
+use Rattle.graph_theory.specs.Graph.{edge_at, CountsNoneAt}
 use Rattle.graph_theory.proofs.Edges.{touched-within, edge_at-within}
 use Rattle.graph_theory.proofs.Walks.{walk-rest}
-use Rattle.postman_walk.specs.Uses.{IsSettled, TakesUse}
+use Rattle.postman_walk.specs.Uses.{TakesUse}
 use Rattle.postman_walk.specs.Tracing.{IsTracing}
 use Rattle.postman_walk.proofs.UseLemmas.{uses-taken, passed-same}
 use Rattle.postman_walk.proofs.TracingLemmas.{tracing-push, tracing-pop, tracing-end, tracing-same}
@@ -65,7 +65,7 @@ walk-preserved c =
     let finished = c.walk.finished.items in
     let was = c.deref_mut-in-walk.ensures.value in
     let kept : after ≡ left = c.in_default.ensures.taken.0 ∙ was in
-    let settled = subst (λ (xs : List ℕ). IsSettled g xs here) was c.in_default.ensures.taken.1 in
+    let settled = subst (λ (xs : List ℕ). CountsNoneAt g xs here) was c.in_default.ensures.taken.1 in
     let items = with_items_is c.walk.left after (ap length kept ∙ sym c.walk.left.ok.0) in
     let places = with_items_is c.walk.cursors cursors (c.in_default.ensures.passed.size ∙ sym c.walk.invariant.passed.size ∙ sym c.walk.cursors.ok.0) in
     let ends = c.index.ensures.graph.ends in
@@ -86,7 +86,7 @@ returns-in_default-pop-clause-closed c =
     let g = c.args.graph.now in
     let first = c.requires.start in
     let none : c.walk.opened.items ≡ [] = grind (arith, common_steps) in
-    let settled = subst (λ (xs : List ℕ). IsSettled g xs c.walk.here) c.deref_mut-in-walk.ensures.value c.in_default.ensures.taken.1 in
+    let settled = subst (λ (xs : List ℕ). CountsNoneAt g xs c.walk.here) c.deref_mut-in-walk.ensures.value c.in_default.ensures.taken.1 in
     let P : List ℕ → Type 0 = λ xs. IsTracing g c.args.uses.items c.walk.left.items c.args.start c.walk.here xs c.walk.finished.items in
     (tracing-end g c.args.uses.items c.walk.left.items c.args.start c.walk.here c.walk.finished.items c.index.ensures.graph.ends (subst P none c.walk.invariant.tracing) settled c.requires.all c.requires.connected first.0 first.1 first.2).0
 
@@ -95,6 +95,6 @@ returns-in_default-pop-clause-uses c =
     let g = c.args.graph.now in
     let first = c.requires.start in
     let none : c.walk.opened.items ≡ [] = grind (arith, common_steps) in
-    let settled = subst (λ (xs : List ℕ). IsSettled g xs c.walk.here) c.deref_mut-in-walk.ensures.value c.in_default.ensures.taken.1 in
+    let settled = subst (λ (xs : List ℕ). CountsNoneAt g xs c.walk.here) c.deref_mut-in-walk.ensures.value c.in_default.ensures.taken.1 in
     let P : List ℕ → Type 0 = λ xs. IsTracing g c.args.uses.items c.walk.left.items c.args.start c.walk.here xs c.walk.finished.items in
     (tracing-end g c.args.uses.items c.walk.left.items c.args.start c.walk.here c.walk.finished.items c.index.ensures.graph.ends (subst P none c.walk.invariant.tracing) settled c.requires.all c.requires.connected first.0 first.1 first.2).1
