@@ -1,4 +1,3 @@
-mod Looked
 pub mod ListedCounts
 mod Ways
 mod Weights

@@ -4,14 +4,15 @@ use Rattle.std.proofs.lemmas.Bool.{cases_eq, cases_Bool, eq-eqb, ne_eqb, eqb-tru
 use Rattle.graph_theory.specs.Sums.{sum_to}
 use Rattle.graph_theory.specs.Graph.{Multigraph, IsEdgeWithin, edge_of, IsEdgeNumber, touches, other_end, degree, CountsNoneAt}
 use Rattle.graph_theory.specs.Walk.{IsWalk, IsCircuit, walk_end, walk_left, walk_vertices, AllDiffer}
-use Rattle.graph_theory.proofs.SumLemmas.{sum_to-add, sum_to-same, sum_to-at_one}
 use Rattle.graph_theory.proofs.Edges.{edge_of_within, degree-none}
 use Rattle.graph_theory.proofs.Members.{holds_place}
 use Rattle.graph_theory.proofs.Walks.{walk-numbers, walk-push, end-push, walk-front, walk-rest, end-append, left-append, vertices-left, end_held}
+use Rattle.weighted_graph.specs.Left.{IsTaken}
+use Rattle.weighted_graph.proofs.LeftLemmas.{taken-sum}
 use Rattle.gadget_base.specs.Listed.{times}
 use Rattle.gadget_base.proofs.Times.{times-append, times-one, once-differ}
 use Rattle.gadget_tjoin.proofs.WalkParity.{flip-step}
-use Rattle.conservative_paths.specs.Trails.{IsTaken, IsWayOver}
+use Rattle.conservative_paths.specs.Trails.{IsWayOver}
 
 -- the parity of the degrees of what is left
 
@@ -151,10 +152,5 @@ home-none g v (e ∷ es) differ home =
     absurd (differ 0 (suc place.0) (omega arith) (let b = place.1 in omega (arith, b)) (sym (place.2 ∙ home)))
 
 -- what is left grows less
-pub taken-sum : (g : Multigraph) (left after : List ℕ) (e : ℕ) → IsEdgeNumber g e → IsTaken e left after → sum_to (slice_index after) (length g.edges) < sum_to (slice_index left) (length g.edges)
-taken-sum g left after e is one =
-    let m = length g.edges in
-    let parts = sum_to-same (slice_index left) (λ k. slice_index after k + cond (eqb e (k + 1)) 1 0) m (λ k b. sym (one k)) in
-    let both = sum_to-add (slice_index after) (λ k. cond (eqb e (k + 1)) 1 0) m in
-    let hit : sum_to (λ k. cond (eqb e (k + 1)) 1 0) m ≡ 1 = sum_to-at_one (λ _. 1) e m is.0 is.1 in
-    omega (arith, parts, both, hit)
+pub taken-less : (g : Multigraph) (left after : List ℕ) (e : ℕ) → IsEdgeNumber g e → IsTaken e left after → sum_to (slice_index after) (length g.edges) < sum_to (slice_index left) (length g.edges)
+taken-less g left after e is one = omega (arith, taken-sum left after e (length g.edges) is.0 is.1 one)

@@ -8,16 +8,16 @@ use Rattle.graph_theory.specs.Walk.{IsClosedWalk, walk_end, walk_vertices}
 use Rattle.graph_theory.proofs.Edges.{edge_of_within, edge_of-place, edge_back, touched-within, touches-u, edge_at-within, degree-none}
 use Rattle.graph_theory.proofs.Walks.{walk-within, walk-push, end-push, walk-front, walk-rest, start_held}
 use Rattle.graph_theory.proofs.Components.{IsClosedBut, closed_has}
+use Rattle.weighted_graph.specs.Left.{TakesOne}
+use Rattle.weighted_graph.proofs.LeftLemmas.{still-none, degree-taken}
 use Rattle.gadget_base.specs.Listed.{times}
 use Rattle.gadget_base.proofs.Times.{times-push, times-held}
 use Rattle.graph_parts.specs.Connected.{HasConnectedEdges}
-use Rattle.postman_walk.specs.Uses.{TakesUse}
 use Rattle.postman_walk.specs.Tracing.{IsTracing}
-use Rattle.postman_walk.proofs.UseLemmas.{still-none, degree-taken}
-use Rattle.postman_walk.proofs.WalkLemmas.{step-parity, test_place, left_or_end, left_before, comes_to_ends}
+use Rattle.postman_walk.proofs.WalkLemmas.{step-parity, left_or_end, left_before, comes_to_ends}
 
 -- one edge more of the open walk
-pub tracing-push : (g : Multigraph) (uses left after : List ℕ) (start here e : ℕ) (opened finished : List ℕ) → All (IsEdgeWithin g.vertices) g.edges → IsTracing g uses left start here opened finished → TakesUse g left after here e → IsTracing g uses after start (other_end (edge_of g e) here) (opened ++ e ∷ []) finished
+pub tracing-push : (g : Multigraph) (uses left after : List ℕ) (start here e : ℕ) (opened finished : List ℕ) → All (IsEdgeWithin g.vertices) g.edges → IsTracing g uses left start here opened finished → TakesOne g left after here e → IsTracing g uses after start (other_end (edge_of g e) here) (opened ++ e ∷ []) finished
 tracing-push g uses left after start here e opened finished ends t takes = record {
   opened_is = walk-push g start opened e t.opened_is takes.number (ap (touches (edge_of g e)) t.opened_end ∙ takes.meets);
   opened_end = end-push g start opened e ∙ ap (other_end (edge_of g e)) t.opened_end;
@@ -25,14 +25,13 @@ tracing-push g uses left after start here e opened finished ends t takes = recor
   shared = λ k b.
       let s = t.shared k b in
       let one = takes.taken k in
-      let low : 1 ≤ e = takes.number.0 in
-      omega (arith, s, one, times-push opened e (k + 1), test_place e k low);
+      omega (arith, s, one, times-push opened e (k + 1));
   even = λ v low high.
       let was = t.even v low high in
       let less = degree-taken g left after here e v takes in
       let turn = step-parity g.vertices (edge_of g e) here v (edge_of_within g e ends takes.number) takes.meets in
       omega (arith, was, less, turn);
-  settled = λ v h k b meets. still-none g left after here e k takes (t.settled v h k b meets);
+  settled = λ v h k b meets. still-none left after e k takes.taken (t.settled v h k b meets);
 }
 
 here_within : (g : Multigraph) (uses left : List ℕ) (start here : ℕ) (opened finished : List ℕ) → All (IsEdgeWithin g.vertices) g.edges → (1 ≤ start) × (start ≤ g.vertices) → IsTracing g uses left start here opened finished → (1 ≤ here) × (here ≤ g.vertices)

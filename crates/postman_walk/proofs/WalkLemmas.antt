@@ -1,5 +1,5 @@
 -- Walks and the edges that they use.
-use Rattle.std.proofs.Common.{◌≡◌, ◌⊎◌, ℕ, ◌+◌, ◌-◌, ◌%◌, ◌≤◌, true, false, cond, eqb, refl, ap, sym, ◌∙◌, subst, inl, inr, arith, List, [], ◌∷◌, ◌++◌}
+use Rattle.std.proofs.Common.{◌≡◌, ◌⊎◌, ℕ, ◌+◌, ◌%◌, true, false, cond, eqb, refl, ap, sym, ◌∙◌, subst, inl, inr, arith, List, [], ◌∷◌, ◌++◌}
 use Rattle.std.proofs.lemmas.Bool.{cases_eq, cases_Bool, eq-eqb, ne_eqb, eqb-true, or_cases, or_left, or_right, false≢true}
 use Rattle.graph_theory.specs.declared.edge.Edge.{Edge}
 use Rattle.graph_theory.specs.Graph.{Multigraph, IsEdgeWithin, edge_of, touches, other_end, ends_at}
@@ -23,20 +23,6 @@ step-parity n e v x within meets =
           let off = ne_eqb e.u v d in
           let at_v = touched_at_v e v meets off in
           rw (off, at_v) (omega arith)
-    ]
-
--- the same test of a number and of its place
-pub test_place : (e k : ℕ) → 1 ≤ e → cond {A = ℕ} (eqb k (e - 1)) 1 0 ≡ cond (eqb e (k + 1)) 1 0
-test_place e k low =
-    elim (cases_eq e (k + 1)) [
-      | inl h ↦
-          let on : eqb e (k + 1) ≡ true = eq-eqb _ _ h in
-          let on' : eqb k (e - 1) ≡ true = eq-eqb _ _ (let z : k ≡ e - 1 = omega arith in z) in
-          rw (on, on') refl
-      | inr d ↦
-          let off : eqb e (k + 1) ≡ false = ne_eqb _ _ d in
-          let off' : eqb k (e - 1) ≡ false = ne_eqb _ _ (λ h. d (let z : e ≡ k + 1 = omega arith in z)) in
-          rw (off, off') refl
     ]
 
 -- the vertices of a walk

@@ -5,7 +5,7 @@ use Rattle.mb_problem.specs.Network.{graph_of}
 use Rattle.mb_problem.specs.Joins.{listed_counts}
 use Rattle.conservative_paths.specs.Within.{IsPathWithin}
 use Rattle.conservative_paths.specs.Trails.{KeepsOpen, Takes, IsOpen, IsLeft}
-use Rattle.conservative_paths.proofs.Ways.{taken-sum}
+use Rattle.conservative_paths.proofs.Ways.{taken-less}
 use Rattle.conservative_paths.proofs.EvenSets.{path-weighs}
 use Rattle.conservative_paths.proofs.Found.{path-found}
 use Rattle.conservative_paths.proofs.path.path_in.Goals as goal
@@ -14,7 +14,7 @@ pub loop-step-smaller : goal.loop-step-smaller
 loop-step-smaller c =
     let T : Multigraph → Type 0 = λ g. Takes g c.loop-step.trail.here c.in-Some.step.edge c.in-Some.step.there c.loop-step.left.counts.items c.take.new.self.counts.items in
     let step = subst T c.in_ok-graph.ensures c.in-Some.ensures.step in
-    taken-sum (graph_of c.args.instance.now) c.loop-step.left.counts.items c.take.new.self.counts.items c.in-Some.step.edge step.number step.taken
+    taken-less (graph_of c.args.instance.now) c.loop-step.left.counts.items c.take.new.self.counts.items c.in-Some.step.edge step.number step.taken
 
 pub loop-step-preserved : goal.loop-step-preserved
 loop-step-preserved c =
