@@ -14,9 +14,10 @@ use Rattle.gadget_base.specs.Blocks.{tabled}
 use Rattle.gadget_base.specs.Listed.{times, times_each}
 use Rattle.gadget_base.proofs.Blocks.{tabled-length, tabled-at, All-tabled}
 use Rattle.gadget_base.proofs.Listed.{times_each-length, times_each-at, weight_of_list}
+use Rattle.gadget_base.proofs.Times.{differ-once}
 use Rattle.gadget_tjoin.proofs.WalkParity.{walk-parity}
 use Rattle.conservative_paths.specs.Within.{EvenSetsDecide}
-use Rattle.conservative_paths.proofs.Numbers.{once-differ, listed-weight, listed-small}
+use Rattle.conservative_paths.proofs.ListedCounts.{listed-weight, listed-small}
 
 -- circuits
 
@@ -25,7 +26,7 @@ circuit-even i v es ok c =
     let g = graph_of i in
     record {
       one_each = times_each-length g es ∙ edges-count i;
-      at_most_once = All-tabled (λ c. c ≤ 1) (λ k. times es (k + 1)) (length g.edges) (λ k b. once-differ es (k + 1) c.edges_differ);
+      at_most_once = All-tabled (λ c. c ≤ 1) (λ k. times es (k + 1)) (length g.edges) (λ k b. differ-once es (k + 1) c.edges_differ);
       degrees = λ x low high.
           let walk = walk-parity g v x es (network-graph i ok).ends c.walk in
           let home : cond {A = ℕ} (eqb (walk_end g v es) x) 1 0 ≡ cond {A = ℕ} (eqb v x) 1 0 = ap (λ (y : ℕ). cond {A = ℕ} (eqb y x) 1 0) c.closed in

@@ -2,7 +2,7 @@
 use Rattle.std.proofs.Common.{◌≡◌, ◌≢◌, ℕ, ◌+◌, ◌-◌, ◌<◌, ◌≤◌, pos, ◌+ℤ◌, ◌<ℤ◌, cond, eqb, refl, ap, sym, ◌∙◌, subst, inl, inr, arith, List, [], length, slice_index, take, drop, length-drop, take-append-drop, All}
 use Rattle.std.proofs.lemmas.Int.{ints}
 use Rattle.std.proofs.lemmas.Bool.{cases_Bool}
-use Rattle.graph_theory.specs.Graph.{Multigraph, IsEdgeWithin, weight}
+use Rattle.graph_theory.specs.Graph.{Multigraph, IsEdgeWithin, weight, CountsNoneAt}
 use Rattle.graph_theory.specs.Parts.{holds}
 use Rattle.graph_theory.specs.Walk.{walk_left, walk_weight, AllDiffer}
 use Rattle.graph_theory.proofs.Members.{holds_place}
@@ -12,10 +12,11 @@ use Rattle.mb_problem.specs.Network.{Network, IsNetwork, graph_of}
 use Rattle.mb_problem.specs.Size.{odd_at}
 use Rattle.mb_problem.specs.Joins.{ListsJoin, listed_counts}
 use Rattle.mb_problem.proofs.EdgeLemmas.{edges-count, network-graph}
+use Rattle.mb_problem.proofs.JoinLemmas.{listed-at}
 use Rattle.conservative_paths.specs.declared.trail.Trail.{Trail}
 use Rattle.conservative_paths.specs.Within.{IsPathWithin, IsNegativeCircuitWithin}
-use Rattle.conservative_paths.specs.Trails.{IsSettled, IsOpen, IsClosed, IsNegativeEven, IsDrained, IsNegativeOver}
-use Rattle.conservative_paths.proofs.Numbers.{listed-at, listed-small, listed-weight, within-listed}
+use Rattle.conservative_paths.specs.Trails.{IsOpen, IsClosed, IsNegativeEven, IsDrained, IsNegativeOver}
+use Rattle.conservative_paths.proofs.ListedCounts.{listed-small, listed-weight, within-listed}
 use Rattle.conservative_paths.proofs.Ways.{way-circuit, way-within, stuck_at_target, apart-some, home-none}
 use Rattle.conservative_paths.proofs.Weights.{weight-none}
 use Rattle.conservative_paths.proofs.Steps.{places-differ, closed-below, closed-home, closed-parts}
@@ -35,7 +36,7 @@ join-even i join lists negative =
 
 -- at its end a path between the two odd vertices has come to the other one
 
-pub path-found : (i : Network) (s t : ℕ) (join left : List ℕ) (trail : Trail) → IsNetwork i → s ≢ t → IsOpen (graph_of i) (listed_counts join (length i.edges)) left s t trail → IsSettled (graph_of i) left trail.here → IsPathWithin (graph_of i) join s t s trail.edges.items
+pub path-found : (i : Network) (s t : ℕ) (join left : List ℕ) (trail : Trail) → IsNetwork i → s ≢ t → IsOpen (graph_of i) (listed_counts join (length i.edges)) left s t trail → CountsNoneAt (graph_of i) left trail.here → IsPathWithin (graph_of i) join s t s trail.edges.items
 path-found i s t join left trail ok apart r settled =
     let g = graph_of i in
     let total = listed_counts join (length i.edges) in
@@ -79,7 +80,7 @@ circuit-within i join counts start edges fewer is =
 
 -- a path that is stuck at its start is empty, and what is left is even and weighs less than 0
 
-pub drained : (g : Multigraph) (total left : List ℕ) (base : ℕ) (t : Trail) → All (IsEdgeWithin g.vertices) g.edges → IsNegativeEven g total → IsOpen g total left base base t → (weight g left +ℤ walk_weight g t.edges.items) <ℤ pos 0 → IsSettled g left t.here → IsDrained g base total left
+pub drained : (g : Multigraph) (total left : List ℕ) (base : ℕ) (t : Trail) → All (IsEdgeWithin g.vertices) g.edges → IsNegativeEven g total → IsOpen g total left base base t → (weight g left +ℤ walk_weight g t.edges.items) <ℤ pos 0 → CountsNoneAt g left t.here → IsDrained g base total left
 drained g total left base t ends even r less settled =
     let way = r.trail.way in
     let home = stuck_at_target g total left base base t.here t.edges.items ends way r.trail.within settled in
@@ -87,7 +88,7 @@ drained g total left base t ends even r less settled =
     let none : t.edges.items ≡ [] = home-none g base t.edges.items differ (way.ends ∙ home) in
     let L : List ℕ → Type 0 = λ xs. (weight g left +ℤ walk_weight g xs) <ℤ pos 0 in
     let less' = subst L none less in
-    let S : ℕ → Type 0 = IsSettled g left in
+    let S : ℕ → Type 0 = CountsNoneAt g left in
     record {
       even = record {
         small = λ k b. let s = way.shared k b in let m = even.small k b in omega (arith, s, m);
@@ -113,7 +114,7 @@ all-gone i join left fewer none =
           sym at ∙ none place.0 place.1
       | inr off ↦
           let f = fewer k b in
-          let is = listed-at join (length i.edges) k (omega (arith, size, b)) in
+          let is = listed-at join (length i.edges) k 0 (omega (arith, size, b)) in
           let zero : cond {A = ℕ} (holds join (k + 1)) 1 0 ≡ 0 = ap (λ t. cond {A = ℕ} t 1 0) off in
           omega (arith, f, is, zero)
     ])

@@ -1,5 +1,4 @@
-mod Looked
-pub mod Numbers
+pub mod ListedCounts
 mod Ways
 mod Weights
 mod EvenSets

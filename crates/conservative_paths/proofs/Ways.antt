@@ -1,19 +1,18 @@
 -- Walks over edges that are taken from a set, and what is left of it.
 use Rattle.std.proofs.Common.{◌≡◌, ◌≢◌, ℕ, zero, suc, ◌+◌, ◌-◌, ◌%◌, ◌<◌, ◌≤◌, Bool, true, false, cond, eqb, refl, ap, sym, ◌∙◌, subst, inl, inr, arith, List, [], ◌∷◌, ◌++◌, length, get_or, slice_index, take, add-one, All}
-use Rattle.std.proofs.lemmas.Bool.{cases_eq, cases_Bool, eq-eqb, ne_eqb, eqb-true, or_left, or_right, true≢false}
+use Rattle.std.proofs.lemmas.Bool.{cases_eq, cases_Bool, eq-eqb, ne_eqb, eqb-true, true≢false}
 use Rattle.graph_theory.specs.Sums.{sum_to}
-use Rattle.graph_theory.specs.Graph.{Multigraph, IsEdgeWithin, edge_at, edge_of, IsEdgeNumber, touches, other_end, degree}
-use Rattle.graph_theory.specs.Parts.{holds}
+use Rattle.graph_theory.specs.Graph.{Multigraph, IsEdgeWithin, edge_of, IsEdgeNumber, touches, other_end, degree, CountsNoneAt}
 use Rattle.graph_theory.specs.Walk.{IsWalk, IsCircuit, walk_end, walk_left, walk_vertices, AllDiffer}
-use Rattle.graph_theory.proofs.SumLemmas.{sum_to-add, sum_to-same, sum_to-at_one}
-use Rattle.graph_theory.proofs.Edges.{edge_of_within, edge_of-place, number_of-place, degree-touches}
+use Rattle.graph_theory.proofs.Edges.{edge_of_within, degree-none}
 use Rattle.graph_theory.proofs.Members.{holds_place}
-use Rattle.graph_theory.proofs.Walks.{walk-numbers, walk-push, end-push, walk-front, walk-rest, end-append, left-append, vertices-left}
+use Rattle.graph_theory.proofs.Walks.{walk-numbers, walk-push, end-push, walk-front, walk-rest, end-append, left-append, vertices-left, end_held}
+use Rattle.weighted_graph.specs.Left.{IsTaken}
+use Rattle.weighted_graph.proofs.LeftLemmas.{taken-sum}
 use Rattle.gadget_base.specs.Listed.{times}
-use Rattle.gadget_base.proofs.BlockSums.{sum_to-none}
+use Rattle.gadget_base.proofs.Times.{times-append, times-one, once-differ}
 use Rattle.gadget_tjoin.proofs.WalkParity.{flip-step}
-use Rattle.conservative_paths.specs.Trails.{IsTaken, IsSettled, IsWayOver}
-use Rattle.conservative_paths.proofs.Numbers.{times-append, times-one, differ-once}
+use Rattle.conservative_paths.specs.Trails.{IsWayOver}
 
 -- the parity of the degrees of what is left
 
@@ -109,7 +108,7 @@ way-circuit g total left base target here front rest ends small r differ home so
       walk = walk;
       closed = closed;
       two = closed-two g here rest ends walk closed some;
-      edges_differ = differ-once rest (λ i b.
+      edges_differ = once-differ rest (λ i b.
           let e = get_or rest i 0 in
           let is : IsEdgeNumber g e = walk-numbers g here rest walk i 0 b in
           let low : 1 ≤ e = is.0 in
@@ -127,23 +126,9 @@ pub way-within : (g : Multigraph) (total left : List ℕ) (base target here : �
 way-within g total left base target here front rest r k b = let s = r.shared k b in omega (arith, s, times-append front rest (k + 1))
 
 -- where no edge is left here, this is the target
-pub settled-degree : (g : Multigraph) (left : List ℕ) (v : ℕ) → All (IsEdgeWithin g.vertices) g.edges → IsSettled g left v → degree g left v ≡ 0
-settled-degree g left v ends settled =
-    let T : ℕ → Bool = λ k. touches (edge_at g k) v in
-    degree-touches g left v ends
-    ∙ sum_to-none (λ k. cond (T k) (slice_index left k) 0) (length g.edges)
-    (λ k b. elim (cases_Bool (T k)) [
-      | inl h ↦
-          let meets : touches (edge_of g (k + 1)) v ≡ true = ap (λ e. touches e v) (edge_of-place g k) ∙ h in
-          let none : slice_index left (k + 1 - 1) ≡ 0 = settled (k + 1) (number_of-place g k b) meets in
-          let same : slice_index left (k + 1 - 1) ≡ slice_index left k = ap (slice_index left) (let z : k + 1 - 1 ≡ k = omega arith in z) in
-          rw h (sym same ∙ none)
-      | inr h ↦ rw h refl
-    ])
-
-pub stuck_at_target : (g : Multigraph) (total left : List ℕ) (base target here : ℕ) (way : List ℕ) → All (IsEdgeWithin g.vertices) g.edges → IsWayOver g total left base target here way → (1 ≤ here) × (here ≤ g.vertices) → IsSettled g left here → here ≡ target
+pub stuck_at_target : (g : Multigraph) (total left : List ℕ) (base target here : ℕ) (way : List ℕ) → All (IsEdgeWithin g.vertices) g.edges → IsWayOver g total left base target here way → (1 ≤ here) × (here ≤ g.vertices) → CountsNoneAt g left here → here ≡ target
 stuck_at_target g total left base target here way ends r within settled =
-    let none = settled-degree g left here ends settled in
+    let none = degree-none g left here ends settled in
     let even = r.parity here within.0 within.1 in
     let on : cond {A = ℕ} (eqb here here) 1 0 ≡ 1 = ap (λ (t : Bool). cond {A = ℕ} t 1 0) (eq-eqb here here refl) in
     elim (cases_eq target here) [
@@ -158,10 +143,6 @@ pub apart-some : (g : Multigraph) (v w : ℕ) (es : List ℕ) → v ≢ w → wa
 apart-some g v w [] apart ends = absurd (apart ends)
 apart-some g v w (e ∷ es) apart ends = omega arith
 
-end_held : (g : Multigraph) (v : ℕ) (es : List ℕ) → holds (walk_vertices g v es) (walk_end g v es) ≡ true
-end_held g v [] = or_left (eqb v v) false (eq-eqb v v refl)
-end_held g v (e ∷ es) = let w = other_end (edge_of g e) v in or_right (eqb v (walk_end g w es)) (holds (walk_vertices g w es) (walk_end g w es)) (end_held g w es)
-
 -- a path that ends at its start has none
 pub home-none : (g : Multigraph) (v : ℕ) (es : List ℕ) → AllDiffer (walk_vertices g v es) → walk_end g v es ≡ v → es ≡ []
 home-none g v [] differ home = refl
@@ -171,10 +152,5 @@ home-none g v (e ∷ es) differ home =
     absurd (differ 0 (suc place.0) (omega arith) (let b = place.1 in omega (arith, b)) (sym (place.2 ∙ home)))
 
 -- what is left grows less
-pub taken-sum : (g : Multigraph) (left after : List ℕ) (e : ℕ) → IsEdgeNumber g e → IsTaken e left after → sum_to (slice_index after) (length g.edges) < sum_to (slice_index left) (length g.edges)
-taken-sum g left after e is one =
-    let m = length g.edges in
-    let parts = sum_to-same (slice_index left) (λ k. slice_index after k + cond (eqb e (k + 1)) 1 0) m (λ k b. sym (one k)) in
-    let both = sum_to-add (slice_index after) (λ k. cond (eqb e (k + 1)) 1 0) m in
-    let hit : sum_to (λ k. cond (eqb e (k + 1)) 1 0) m ≡ 1 = sum_to-at_one (λ _. 1) e m is.0 is.1 in
-    omega (arith, parts, both, hit)
+pub taken-less : (g : Multigraph) (left after : List ℕ) (e : ℕ) → IsEdgeNumber g e → IsTaken e left after → sum_to (slice_index after) (length g.edges) < sum_to (slice_index left) (length g.edges)
+taken-less g left after e is one = omega (arith, taken-sum left after e (length g.edges) is.0 is.1 one)

@@ -7,8 +7,8 @@ use Rattle.graph_theory.specs.Walk.{walk_weight}
 use Rattle.graph_theory.proofs.SumLemmas.{int_sum_to-same, int_sum_to-add, int_sum_to-at_one, plus-times, times-one_if}
 use Rattle.graph_theory.proofs.Edges.{edge_of-place}
 use Rattle.graph_theory.proofs.Walks.{weight-append}
+use Rattle.weighted_graph.specs.Left.{IsTaken}
 use Rattle.gadget_base.proofs.BlockSums.{int_sum_to-none}
-use Rattle.conservative_paths.specs.Trails.{IsTaken}
 
 pub weight-taken : (g : Multigraph) (left after : List ℕ) (e : ℕ) → IsEdgeNumber g e → IsTaken e left after → weight g left ≡ weight g after +ℤ (edge_of g e).w
 weight-taken g left after e is one =

@@ -1,25 +1,16 @@
 -- A path that grows over the edges that are left of a set, and is cut back where it comes to a vertex again.
-use Rattle.std.specs.Prelude.{◌≡◌, ◌≢◌, ℕ, ◌+◌, ◌-◌, ◌%◌, ◌≤◌, ◌<◌, pos, ◌+ℤ◌, ◌<ℤ◌, ◌≤ℤ◌, ◌==◌, true, List, [], ◌∷◌, ◌++◌, length, slice_index, slice_set, take, drop, Option, None, Some, if◌then◌else◌}
-use Rattle.graph_theory.specs.Graph.{Multigraph, edge_of, IsEdgeNumber, edges_around, touches, other_end, degree, weight}
+use Rattle.std.specs.Prelude.{◌≡◌, ◌≢◌, ℕ, ◌+◌, ◌%◌, ◌≤◌, ◌<◌, pos, ◌+ℤ◌, ◌<ℤ◌, ◌≤ℤ◌, ◌==◌, true, List, [], ◌∷◌, ◌++◌, length, slice_index, slice_set, take, drop, Option, None, Some, if◌then◌else◌}
+use Rattle.graph_theory.specs.Graph.{Multigraph, edge_of, IsEdgeNumber, touches, other_end, degree, weight, CountsNoneAt}
 use Rattle.graph_theory.specs.Walk.{IsWalk, IsCircuit, walk_end, walk_left, walk_vertices, walk_weight}
+use Rattle.weighted_graph.specs.Left.{IsTaken, ArePassed}
 use Rattle.gadget_base.specs.Listed.{times}
 use Rattle.conservative_paths.specs.declared.edges_left.EdgesLeft.{EdgesLeft}
 use Rattle.conservative_paths.specs.declared.trail.Trail.{Trail}
 
--- the edge is counted once less
-abbrev pub IsTaken : ℕ → List ℕ → List ℕ → Type 0
-IsTaken e old new = (k : ℕ) → slice_index new k + (if e == k + 1 then 1 else 0) ≡ slice_index old k
-
--- no edge is left at the vertex
-abbrev pub IsSettled : Multigraph → List ℕ → ℕ → Type 0
-IsSettled g left v = (e : ℕ) → IsEdgeNumber g e → touches (edge_of g e) v ≡ true → slice_index left (e - 1) ≡ 0
-
 -- one count for each edge, and for each vertex how many of its edges were looked at, none of which is left
 pub record IsLeft (g : Multigraph) (l : EdgesLeft) : Type 0 where
   pub one_each : length l.counts.items ≡ length g.edges
-  pub one_each_vertex : length l.looked.items ≡ g.vertices + 1
-  pub looked : (v : ℕ) → v ≤ g.vertices → slice_index l.looked.items v ≤ length (edges_around g v)
-  pub none : (v k : ℕ) → v ≤ g.vertices → k < slice_index l.looked.items v → slice_index l.counts.items (slice_index (edges_around g v) k - 1) ≡ 0
+  pub looked : ArePassed g l.counts.items l.looked.items
 
 -- an edge at the vertex is taken, and leads there
 pub record Takes (g : Multigraph) (v e there : ℕ) (old new : List ℕ) : Type 0 where
@@ -117,7 +108,7 @@ pub record IsNegativeEven (g : Multigraph) (counts : List ℕ) : Type 0 where
 -- nothing is left at the vertex, no count has grown, and what is left is of even degrees and weighs less than 0
 pub record IsDrained (g : Multigraph) (base : ℕ) (old new : List ℕ) : Type 0 where
   pub even : IsNegativeEven g new
-  pub settled : IsSettled g new base
+  pub settled : CountsNoneAt g new base
   pub fewer : (k : ℕ) → k < length g.edges → slice_index new k ≤ slice_index old k
 
 -- a circuit over the counts that weighs less than 0

@@ -1,14 +1,14 @@
 ghost use Rattle.std.specs.Prelude.{◌≡◌, ℕ, ◌+◌, ◌-◌, ◌<◌, ◌≤◌, length, slice_index, All, IfOk, MatchOption};
-ghost use Rattle.graph_theory.specs.Graph.{IsEdgeNumber};
+ghost use Rattle.graph_theory.specs.Graph.{IsEdgeNumber, CountsNoneAt};
 ghost use Rattle.weighted_graph.specs.Index.{IsIndex};
 ghost use Rattle.mb_problem.specs.Network.{graph_of};
 ghost use Rattle.mb_problem.specs.Joins.{listed_counts};
-ghost use Rattle.conservative_paths.specs.Trails.{IsLeft, IsSettled, Takes};
+ghost use Rattle.conservative_paths.specs.Trails.{IsLeft, Takes};
 
 use mb_base::{EdgeId, OutOfMemory, VertexId};
 use mb_problem::Instance;
 use std::alloc::Global;
-use weighted_graph::{Graph, Incidence};
+use weighted_graph::{Graph, Incidence, take_left};
 
 /// Counts 1 for each edge that is listed, and 0 for each other one.
 fn counts_of(alloc: Global, m: u32, edges: &[EdgeId]) -> Result<Vec<u32>, OutOfMemory>
@@ -20,23 +20,6 @@ fn counts_of(alloc: Global, m: u32, edges: &[EdgeId]) -> Result<Vec<u32>, OutOfM
         counts[edge.number() as usize - 1] = 1;
     }
     Ok(counts)
-}
-
-/// The first place from this one on whose edge is left, or the end of the list.
-fn next_left(around: &[EdgeId], counts: &[u32], start: usize) -> usize
-    requires numbers { All (λ e. (1 ≤ e) × (e ≤ length counts.now)) around.now }
-    requires start { start ≤ length around.now }
-    ensures start { start ≤ result }
-    ensures end { result ≤ length around.now }
-    ensures before { (k : ℕ) → start ≤ k → k < result → slice_index counts.now (slice_index around.now k - 1) ≡ 0 }
-    ensures here { result < length around.now → 0 < slice_index counts.now (slice_index around.now result - 1) }
-{
-    for place in start..around.len() {
-        if counts[around[place].number() as usize - 1] > 0 {
-            return place;
-        }
-    }
-    around.len()
 }
 
 /// An edge, and the end of it that is come to.
@@ -82,19 +65,13 @@ impl EdgesLeft {
         requires left { IsLeft graph.now self.old }
         ensures left { IsLeft graph.now self.new }
         ensures step { MatchOption result
-            ((self.new.counts.items ≡ self.old.counts.items) × IsSettled graph.now self.new.counts.items vertex)
+            ((self.new.counts.items ≡ self.old.counts.items) × CountsNoneAt graph.now self.new.counts.items vertex)
             (λ step. Takes graph.now vertex step.edge step.there self.old.counts.items self.new.counts.items) }
     {
-        let around = index.at(vertex);
-        let at = vertex.number() as usize;
-        let place = next_left(around, &self.counts, self.looked[at]);
-        self.looked[at] = place;
-        if place == around.len() {
-            return None;
+        if let Some(edge) = take_left(graph, index, &mut self.looked, &mut self.counts, vertex) {
+            let there = graph.other_end(edge, vertex);
+            return Some(Step { edge, there });
         }
-        let edge = around[place];
-        self.counts[edge.number() as usize - 1] -= 1;
-        let there = graph.other_end(edge, vertex);
-        Some(Step { edge, there })
+        None
     }
 }

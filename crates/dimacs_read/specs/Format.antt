@@ -6,7 +6,7 @@ use Rattle.std.specs.Str.{bytes_eq}
 use Rattle.mb_base.specs.Text.{numeral}
 use Rattle.mb_base.specs.Rows.{Row, field_at, is_skipped}
 use Rattle.mb_problem.specs.declared.kind.Kind.{Kind}
-use Rattle.mb_problem.specs.declared.kind.Kind.TheVariants.{Postman, Path}
+use Rattle.mb_problem.specs.declared.kind.Kind.TheVariants.{Perfect, Match, BMatch, CapMatch, FFactor, TJoin, Postman, Path}
 use Rattle.mb_problem.specs.declared.instance.InstanceEdge.{InstanceEdge}
 use Rattle.graph_theory.specs.declared.limits.TheConstants.{WEIGHT_LIMIT}
 use Rattle.mb_problem.specs.declared.limits.TheConstants.{VERTEX_LIMIT, EDGE_LIMIT, VALUE_LIMIT}
@@ -165,9 +165,14 @@ is_negative row = is_edge row && int_lt (edge_of row).w (pos 0)
 
 -- what a kind asks besides: of the postman weights from 0 on, of a path two vertices of odd value
 abbrev pub kind_fault : Kind → ℕ → List Row → Option Fault
+kind_fault Perfect n rs = None
+kind_fault Match n rs = None
+kind_fault BMatch n rs = None
+kind_fault CapMatch n rs = None
+kind_fault FFactor n rs = None
+kind_fault TJoin n rs = None
 kind_fault Postman n rs = option_map (λ k. record { rule = Negative; place = k }) (first_place is_negative rs)
 kind_fault Path n rs = if count_by is_odd (values_of 0 n rs) == 2 then None else Some (record { rule = PathEnds; place = length rs })
-kind_fault kind n rs = None
 
 abbrev pub end_fault : Kind → Option Sizes → List Row → Option Fault
 end_fault kind None rs = Some (record { rule = HeaderMissing; place = length rs })

@@ -12,7 +12,7 @@ use Rattle.dimacs_read.specs.declared.rule.Rule.TheVariants.{HeaderMissing, Edge
 use Rattle.dimacs_read.specs.declared.rule.Fault.{Fault}
 use Rattle.dimacs_read.specs.declared.reader.Draft.{Draft}
 use Rattle.std.specs.Option.{option_map}
-use Rattle.mb_problem.specs.declared.kind.Kind.TheVariants.{Postman, Path}
+use Rattle.mb_problem.specs.declared.kind.Kind.TheVariants.{Perfect, Match, BMatch, CapMatch, FFactor, TJoin, Postman, Path}
 use Rattle.dimacs_read.specs.declared.keep.Line.{Line}
 use Rattle.dimacs_read.specs.declared.keep.Line.TheVariants as line
 use Rattle.dimacs_read.specs.declared.error.InstanceError.{InstanceError}
@@ -92,9 +92,14 @@ ReadsLines bytes (Err OutOfMemory) = Unit {0}
 
 -- what the tests at the end answer, from what was kept
 abbrev pub kind_fault_from : Kind → List (Option ℕ) → Option ℕ → ℕ → Option Fault
+kind_fault_from Perfect values negative lines = None
+kind_fault_from Match values negative lines = None
+kind_fault_from BMatch values negative lines = None
+kind_fault_from CapMatch values negative lines = None
+kind_fault_from FFactor values negative lines = None
+kind_fault_from TJoin values negative lines = None
 kind_fault_from Postman values negative lines = option_map (λ k. record { rule = Negative; place = k }) negative
 kind_fault_from Path values negative lines = if count_by is_odd (map (value_or 0) values) == 2 then None else Some (record { rule = PathEnds; place = lines })
-kind_fault_from kind values negative lines = None
 
 abbrev pub end_fault_from : Kind → Option Sizes → List (Option ℕ) → ℕ → Option ℕ → ℕ → Option Fault
 end_fault_from kind None values count negative lines = Some (record { rule = HeaderMissing; place = lines })

@@ -3,6 +3,7 @@ pub mod BlockSums
 pub mod Blocks
 pub mod StartLemmas
 pub mod Over
+pub mod Times
 pub mod Listed
 pub mod Degrees
 pub mod Within

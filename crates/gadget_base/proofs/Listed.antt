@@ -1,10 +1,9 @@
 -- A perfect matching as a list of numbers of edges, and as counts.
-use Rattle.std.proofs.Common.{◌≡◌, ℕ, ◌+◌, ◌-◌, ◌*◌, ◌<◌, ◌≤◌, ℤ, pos, ◌+ℤ◌, ◌*ℤ◌, Bool, true, false, cond, eqb, refl, ap, sym, ◌∙◌, subst, inl, inr, arith, List, [], ◌∷◌, length, take, slice_index, All, count_by}
+use Rattle.std.proofs.Common.{◌≡◌, ℕ, ◌+◌, ◌-◌, ◌*◌, ◌<◌, ◌≤◌, ℤ, pos, ◌+ℤ◌, ◌*ℤ◌, Bool, true, false, cond, eqb, refl, ap, sym, ◌∙◌, subst, inl, inr, arith, List, [], ◌∷◌, length, slice_index, All, count_by}
 use Rattle.std.proofs.lemmas.Int.{ints}
 use Rattle.std.proofs.lemmas.Bool.{eq-eqb, ne_eqb, cases_eq}
 use Rattle.std.proofs.lemmas.List.{get_or_default}
-use Rattle.std.proofs.lemmas.List.Sums.{sum_by-cons, count_by_more_yes, count_by_more_no, count_by-le-length}
-use Rattle.std.proofs.lemmas.Grind.{common_steps}
+use Rattle.std.proofs.lemmas.List.Sums.{sum_by-cons}
 use Rattle.std.proofs.lemmas.List.Elements.{All-tail, All-head}
 use Rattle.graph_theory.specs.Sums.{sum_to, int_sum_to}
 use Rattle.graph_theory.specs.declared.edge.Edge.{Edge}
@@ -17,9 +16,7 @@ use Rattle.gadget_base.specs.Certified.{IsPerfectList}
 use Rattle.gadget_base.specs.Listed.{times, times_each, ListsCounts}
 use Rattle.gadget_base.proofs.BlockSums.{sum_to-none, sum_to-hit}
 use Rattle.gadget_base.proofs.Blocks.{tabled-length, tabled-at, is-tabled}
-
-pub times-cons : (e : ℕ) (es : List ℕ) (k : ℕ) → times (e ∷ es) k ≡ cond (eqb e k) 1 0 + times es k
-times-cons e es k = sum_by-cons (λ x. cond (eqb x k) 1 0) e es
+use Rattle.gadget_base.proofs.Times.{times-cons, count_all}
 
 cond_off : (t : Bool) → cond {A = ℕ} t 0 0 ≡ 0
 cond_off true = refl
@@ -133,26 +130,7 @@ weight_of_list g es numbers =
     (λ k b. ap (λ x. pos x *ℤ (edge_at g k).w) (times_each-at g es k b))
     ∙ times-weight g es numbers
 
--- one number more of a list
-
-pub times-more : (es : List ℕ) (i e : ℕ) → i < length es → times (take (i + 1) es) e ≡ times (take i es) e + cond (eqb (slice_index es i) e) 1 0
-times-more es i e b =
-    elim (cases_eq (slice_index es i) e) [
-      | inl h ↦ let on : eqb (slice_index es i) e ≡ true = eq-eqb _ _ h in rw on (count_by_more_yes (λ x. eqb x e) es i 0 b on)
-      | inr d ↦ let off : eqb (slice_index es i) e ≡ false = ne_eqb _ _ d in rw off (count_by_more_no (λ x. eqb x e) es i 0 b off ∙ (let z : times (take i es) e ≡ times (take i es) e + 0 = omega arith in z))
-    ]
-
-pub times-take : (es : List ℕ) (i e : ℕ) → i < length es → times (take i es) e ≤ i
-times-take es i e b =
-    let most = count_by-le-length (λ x. eqb x e) (take i es) in
-    let size : length (take i es) ≡ i = grind (arith, common_steps) in
-    omega (arith, most, size)
-
 -- how many edges a perfect matching has
-
-count_all : (es : List ℕ) → count_by (λ _. true) es ≡ length es
-count_all [] = refl
-count_all (e ∷ es) = sum_by-cons (λ _. 1) e es ∙ (let rest = count_all es in omega (arith, rest))
 
 pub list-length : (g : Multigraph) (es : List ℕ) → All (IsEdgeWithin g.vertices) g.edges → IsPerfectList g es → 2 * length es ≡ g.vertices
 list-length g es ends list =

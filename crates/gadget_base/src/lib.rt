@@ -1,13 +1,16 @@
 //! What the reductions to perfect matching share: the graphs that certificates speak of, for all kinds,
-//! rows, rectangles and cliques of edges, and where blocks of given sizes start.
+//! rows, rectangles and cliques of edges, where blocks of given sizes start, and the answer that a perfect
+//! matching of the instance's own graph is.
 //! It stands on `mb_base`, `graph_theory`, `weighted_graph` and `mb_problem`. It promises that each
-//! call adds exactly the edges that it names.
+//! call that adds edges adds exactly those that it names, and that this answer is feasible and weighs what the matching does.
 #![tactic(auto)]
 
 mod copies;
 mod offsets;
+mod plain;
 mod rows;
 
 pub use copies::copies_of;
 pub use offsets::{find_block, starts, wide_starts};
+pub use plain::{count_listed, extract_plain};
 pub use rows::{add_clique, add_rectangle, add_row};

@@ -8,7 +8,7 @@ use Rattle.mb_problem.specs.Network.{Network}
 use Rattle.mb_problem.specs.Size.{value_u, value_v}
 use Rattle.gadget_base.specs.Listed.{times}
 use Rattle.gadget_base.proofs.BlockSums.{sum_to-none, sum_to-grows, sum_to-hit}
-use Rattle.gadget_base.proofs.Listed.{times-more}
+use Rattle.gadget_base.proofs.Times.{times-more}
 use Rattle.gadget_base.specs.Starts.{AreStarts}
 use Rattle.gadget_match.specs.Extracted.{pair_count, pairs_before, listed_pairs}
 

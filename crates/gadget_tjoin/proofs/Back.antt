@@ -5,7 +5,6 @@ use Rattle.std.specs.List.Sorted.{IsStrictlyIncreasing}
 use Rattle.std.proofs.lemmas.Bool.{cases_eq}
 use Rattle.std.proofs.lemmas.List.{length-map}
 use Rattle.std.proofs.lemmas.List.Elements.{All-map}
-use Rattle.std.proofs.lemmas.List.FromFn.{get_or-map-range_with_len, length-map-range_with_len}
 use Rattle.graph_theory.specs.Sums.{sum_to}
 use Rattle.graph_theory.specs.declared.edge.Edge.{Edge}
 use Rattle.graph_theory.specs.Graph.{no_edge, edge_at, ends_at, degree, IsPerfect, IsEdgeNumber}
@@ -13,15 +12,16 @@ use Rattle.graph_theory.specs.Parts.{holds}
 use Rattle.graph_theory.specs.Walk.{walk_weight}
 use Rattle.graph_theory.proofs.SumLemmas.{sum_to-same, sum_to-swap, sum_to-append, times-sum_to}
 use Rattle.mb_problem.specs.Network.{Network, IsNetwork, vertices, graph_of, plain}
+use Rattle.mb_problem.specs.Joins.{listed_counts}
+use Rattle.mb_problem.proofs.JoinLemmas.{listed-length, listed-at}
 use Rattle.gadget_base.specs.Blocks.{clique}
 use Rattle.gadget_base.specs.Gadgets.{ports_below, ports_graph}
 use Rattle.gadget_base.specs.Certified.{IsPerfectList}
 use Rattle.gadget_base.specs.Listed.{times, times_each}
 use Rattle.gadget_base.proofs.BlockSums.{sum_to-ones, test-small}
 use Rattle.gadget_base.proofs.Blocks.{All-blocks}
+use Rattle.gadget_base.proofs.Times.{times-holds, ascending-times}
 use Rattle.gadget_base.proofs.Listed.{times_each-at, times-small, perfect_from_list, weight_of_list}
-use Rattle.mb_problem.specs.Joins.{listed_counts}
-use Rattle.gadget_tjoin.proofs.Times.{times-holds, ascending-once}
 use Rattle.gadget_tjoin.proofs.OneTerm.{sum_to-even}
 use Rattle.gadget_tjoin.proofs.Cliques.{pair, meets_group, all_clique, pair-meets_own, pair-meets_other}
 use Rattle.gadget_tjoin.proofs.Places.{here, degree-here, group_size, groups-apart, groups-before_or_after, link-meets}
@@ -107,23 +107,20 @@ own-times i odd join matching k ok own perfect b =
     let few = times-small (ports_graph i odd) matching k (ports-within i odd ok) perfect (omega (arith, edges-size i odd)) in
     times-holds matching (k + 1) few
     ∙ ap (λ (t : Bool). cond {A = ℕ} t 1 0) (sym (own.exact k b))
-    ∙ sym (times-holds join (k + 1) (ascending-once join (k + 1) own.ascending))
-
-listed-at : (join : List ℕ) (m k : ℕ) → k < m → slice_index (listed_counts join m) k ≡ cond (holds join (k + 1)) 1 0
-listed-at join m k b = get_or-map-range_with_len (λ e. cond (holds join e) 1 0) 1 m k (k + 1) 0 b (omega arith)
+    ∙ sym (ascending-times join (k + 1) own.ascending)
 
 pub own-join : (i : Network) (odd : ℕ → ℕ) (join matching : List ℕ) → IsNetwork i → ((v : ℕ) → odd v ≤ 1) → AreOwn (length i.edges) join matching → IsPerfectList (ports_graph i odd) matching → IsOddAt i odd (listed_counts join (length i.edges))
 own-join i odd join matching ok bit own perfect =
     let m = length i.edges in
     let g = ports_graph i odd in
     back-join i odd (listed_counts join m) (times_each g matching) ok bit (perfect_from_list g matching (ports-within i odd ok) perfect)
-    (length-map-range_with_len (λ e. cond (holds join e) 1 0) 1 m)
+    (listed-length join m)
     (All-map (λ c. c ≤ 1) (λ e. cond (holds join e) 1 0) (range_with_len 1 m) (λ k d b. test-small (holds join (get_or (range_with_len 1 m) k d))))
     (λ k b.
     times_each-at g matching k (omega (arith, edges-size i odd))
     ∙ own-times i odd join matching k ok own perfect b
-    ∙ times-holds join (k + 1) (ascending-once join (k + 1) own.ascending)
-    ∙ sym (listed-at join m k b))
+    ∙ ascending-times join (k + 1) own.ascending
+    ∙ sym (listed-at join m k 0 b))
 
 pub own-weight : (i : Network) (odd : ℕ → ℕ) (join matching : List ℕ) → IsNetwork i → AreOwn (length i.edges) join matching → IsPerfectList (ports_graph i odd) matching → walk_weight (graph_of i) join ≡ walk_weight (ports_graph i odd) matching
 own-weight i odd join matching ok own perfect =

@@ -1,25 +1,21 @@
 -- The joins of each parity, and what the contracts say of them.
-use Rattle.std.proofs.Common.{◌≡◌, ℕ, ◌≤◌, ℤ, pos, ◌*ℤ◌, ◌≤ℤ◌, arith, List, length}
+use Rattle.std.proofs.Common.{◌≡◌, ℕ, ℤ, pos, ◌*ℤ◌, ◌≤ℤ◌, arith, List, length}
 use Rattle.std.proofs.lemmas.Int.{ints}
 use Rattle.graph_theory.specs.Graph.{weight}
 use Rattle.mb_problem.specs.declared.kind.Kind.TheVariants.{TJoin}
 use Rattle.mb_problem.specs.declared.answer.Answer.TheVariants.{Counts, Walk, Nothing}
 use Rattle.mb_problem.specs.declared.answer.Parity.{Parity}
-use Rattle.mb_problem.specs.declared.answer.Parity.TheVariants.{Empty, Values, OddDegrees}
+use Rattle.mb_problem.specs.declared.answer.Parity.TheVariants.{Values}
 use Rattle.mb_problem.specs.Network.{Network, IsNetwork, graph_of}
 use Rattle.mb_problem.specs.Feasible.{IsJoin}
 use Rattle.mb_problem.specs.Size.{odd_at}
 use Rattle.gadget_base.specs.Gadgets.{ports_graph}
 use Rattle.gadget_base.specs.Certified.{ReachesAll, IsPerfectList}
 use Rattle.mb_problem.specs.Joins.{IsJoinOf, listed_counts}
+use Rattle.mb_problem.proofs.JoinLemmas.{odd_at-bit}
 use Rattle.gadget_tjoin.specs.Joins.{ReachesJoins}
 use Rattle.gadget_tjoin.proofs.Reached.{IsOddAt, paired, paired-perfect, paired-weight}
 use Rattle.gadget_tjoin.proofs.Back.{AreOwn, own-join}
-
-pub odd_at-bit : (parity : Parity) (i : Network) (v : ℕ) → odd_at parity i v ≤ 1
-odd_at-bit Empty i v = omega arith
-odd_at-bit Values i v = omega arith
-odd_at-bit OddDegrees i v = omega arith
 
 pub as_odd : (parity : Parity) (i : Network) (counts : List ℕ) → IsJoinOf parity i counts → IsOddAt i (odd_at parity i) counts
 as_odd parity i counts join = record { one_each = join.one_each; small = join.at_most_once; parity = join.degrees }

@@ -1,6 +1,5 @@
 mod OneTerm
 mod Ranks
-mod Times
 pub mod WalkParity
 mod Cliques
 mod Places

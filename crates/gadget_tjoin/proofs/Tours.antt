@@ -23,11 +23,11 @@ use Rattle.mb_problem.specs.Values.{total_weight}
 use Rattle.gadget_base.specs.Certified.{ReachesAll}
 use Rattle.gadget_base.specs.Listed.{times, times_each}
 use Rattle.gadget_base.proofs.Blocks.{tabled-length, tabled-at, All-tabled}
+use Rattle.gadget_base.proofs.Times.{held-times}
 use Rattle.gadget_base.proofs.Listed.{times_each-at, times-weight}
 use Rattle.mb_problem.specs.Joins.{IsJoinOf}
 use Rattle.gadget_tjoin.specs.Joins.{NoneBelowZero}
 use Rattle.gadget_tjoin.proofs.OneTerm.{one_if}
-use Rattle.gadget_tjoin.proofs.Times.{held}
 use Rattle.gadget_tjoin.proofs.WalkParity.{walk-parity}
 use Rattle.gadget_tjoin.proofs.Places.{graph-within, degree-here, here}
 use Rattle.gadget_tjoin.proofs.Laws.{reaches-joins}
@@ -104,7 +104,7 @@ evenly-weight i es numbers all low =
     let a = evenly-at i es k place in
     let one : slice_index (replicate (length i.edges) 1) k ≡ 1 = get_or-replicate (length i.edges) k 1 0 place in
     let heavy : pos 0 ≤ℤ w k = let e = edge_at-graph_of i k in let h : pos 0 ≤ℤ (instance_edge_at i k).w = low k no_instance_edge place in let same : w k ≡ (instance_edge_at i k).w = ap (λ (x : Edge). x.w) e in omega (arith, ints, h, same) in
-    let some = held es (k + 1) (all (k + 1) (omega arith) (omega (arith, place))) in
+    let some = held-times es (k + 1) (all (k + 1) (omega arith) (omega (arith, place))) in
     rw (a, one) (at_least (times es (k + 1)) (w k) some heavy)) in
     omega (arith, ints, both, below, times-weight g es numbers)
 

@@ -1,7 +1,7 @@
 -- Walks and parity, in any graph: a walk is at its start and at its end an odd number of times where they
 -- differ, and else an even number; and a count that changes by an odd number turns the parity of the degrees
 -- at the two ends of its edge.
-use Rattle.std.proofs.Common.{◌≡◌, ℕ, suc, ◌+◌, ◌*◌, ◌/◌, ◌%◌, ◌<◌, ◌≤◌, Bool, true, false, cond, eqb, ◌||◌, refl, ap, sym, ◌∙◌, subst, inl, inr, arith, List, [], ◌∷◌, length, slice_index, All, count_by}
+use Rattle.std.proofs.Common.{◌≡◌, ℕ, ◌+◌, ◌*◌, ◌/◌, ◌%◌, ◌<◌, ◌≤◌, Bool, true, false, cond, eqb, ◌||◌, refl, ap, sym, ◌∙◌, subst, inl, inr, arith, List, [], ◌∷◌, length, slice_index, All, count_by}
 use Rattle.std.proofs.lemmas.Bool.{cases_eq, cases_Bool, eq-eqb, ne_eqb, eqb-true, or_cases, or_left, or_right, false≢true, true≢false, false_from_ne_true}
 use Rattle.std.proofs.lemmas.List.Sums.{sum_by-cons}
 use Rattle.graph_theory.specs.declared.edge.Edge.{Edge}
@@ -10,13 +10,13 @@ use Rattle.graph_theory.specs.Parts.{holds}
 use Rattle.graph_theory.specs.Walk.{IsWalk, walk_end, walk_vertices, AllDiffer}
 use Rattle.graph_theory.proofs.SumLemmas.{sum_to-add, sum_to-parity}
 use Rattle.graph_theory.proofs.Edges.{edge_of_within, ends_at-touches}
-use Rattle.graph_theory.proofs.Members.{holds_place}
-use Rattle.graph_theory.proofs.Walks.{walk-numbers}
+use Rattle.graph_theory.proofs.Members.{differ-tail, differ-head}
+use Rattle.graph_theory.proofs.Walks.{walk-numbers, start_held}
 use Rattle.gadget_base.specs.Listed.{times, times_each}
 use Rattle.gadget_base.proofs.BlockSums.{sum_to-hit}
-use Rattle.gadget_base.proofs.Listed.{times-cons, times_each-degree}
+use Rattle.gadget_base.proofs.Times.{times-cons, not_held-times}
+use Rattle.gadget_base.proofs.Listed.{times_each-degree}
 use Rattle.gadget_tjoin.proofs.OneTerm.{one_if, one_if-same, one_if-other}
-use Rattle.gadget_tjoin.proofs.Times.{not_held}
 
 -- an edge is at the end that a step leaves and at the one that it comes to
 pub ends_of_step : (n : ℕ) (e : Edge) (v x : ℕ) → IsEdgeWithin n e → touches e v ≡ true → ends_at e x ≡ one_if (eqb v x) + one_if (eqb (other_end e v) x)
@@ -87,10 +87,6 @@ flip-step g old new j v x ends b meets differ =
 
 -- a walk comes to both ends of each edge that it uses
 
-start_held : (g : Multigraph) (v : ℕ) (es : List ℕ) → holds (walk_vertices g v es) v ≡ true
-start_held g v [] = or_left (eqb v v) false (eq-eqb v v refl)
-start_held g v (e ∷ es) = or_left (eqb v v) (holds (walk_vertices g (other_end (edge_of g e) v) es) v) (eq-eqb v v refl)
-
 one_of : (v w x : ℕ) → 1 ≤ one_if (eqb v x) + one_if (eqb w x) → (eqb v x || eqb w x) ≡ true
 one_of v w x some =
     elim (cases_eq v x) [
@@ -119,12 +115,6 @@ used_ends g v e x (f ∷ fs) ends walk used meets =
       | inr further ↦ or_right (eqb v x) later (used_ends g w e x fs ends walk.2 further meets)
     ]
 
-differ_tail : (x : ℕ) (xs : List ℕ) → AllDiffer (x ∷ xs) → AllDiffer xs
-differ_tail x xs d = λ i j a b. d (suc i) (suc j) (omega arith) (omega arith)
-
-differ_head : (x : ℕ) (xs : List ℕ) → AllDiffer (x ∷ xs) → holds xs x ≡ false
-differ_head x xs d = false_from_ne_true (holds xs x) (λ h. let r = holds_place xs x h in d 0 (suc r.0) (omega arith) (let b = r.1 in omega arith) (sym r.2))
-
 -- a walk that comes to no vertex twice uses no edge twice
 pub used_once : (g : Multigraph) (v e : ℕ) (es : List ℕ) → All (IsEdgeWithin g.vertices) g.edges → IsWalk g v es → AllDiffer (walk_vertices g v es) → times es e ≤ 1
 used_once g v e [] ends walk differ = omega arith
@@ -135,7 +125,7 @@ used_once g v e (f ∷ fs) ends walk differ =
     elim (cases_eq f e) [
       | inl same ↦
           let meets : touches (edge_of g e) v ≡ true = ap (λ (i : ℕ). touches (edge_of g i) v) (sym same) ∙ walk.1 in
-          let no_more : holds fs e ≡ false = false_from_ne_true (holds fs e) (λ h. true≢false (sym (used_ends g w e v fs ends walk.2 h meets) ∙ differ_head v vs differ)) in
-          omega (arith, more, one_if-same f e same, not_held fs e no_more)
-      | inr other ↦ omega (arith, more, one_if-other f e other, used_once g w e fs ends walk.2 (differ_tail v vs differ))
+          let no_more : holds fs e ≡ false = false_from_ne_true (holds fs e) (λ h. true≢false (sym (used_ends g w e v fs ends walk.2 h meets) ∙ differ-head v vs differ)) in
+          omega (arith, more, one_if-same f e same, not_held-times fs e no_more)
+      | inr other ↦ omega (arith, more, one_if-other f e other, used_once g w e fs ends walk.2 (differ-tail v vs differ))
     ]

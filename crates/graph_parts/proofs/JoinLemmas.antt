@@ -1,8 +1,7 @@
 -- Lemmas on the two outcomes: the edges that are taken as a join, and an odd part that excludes joins.
-use Rattle.std.proofs.Common.{◌≡◌, ℕ, ◌+◌, ◌*◌, ◌%◌, ◌<◌, ◌≤◌, Bool, false, cond, eqb, refl, ap, sym, ◌∙◌, subst, inl, inr, arith, List, [], ◌∷◌, length, length-append, slice_index, get_or, replicate, zero, suc}
+use Rattle.std.proofs.Common.{◌≡◌, ℕ, ◌+◌, ◌*◌, ◌≤◌, Bool, false, cond, eqb, refl, ap, sym, ◌∙◌, subst, inl, inr, arith, List, [], ◌∷◌, length, length-append, slice_index, replicate, zero, suc}
 use Rattle.std.proofs.lemmas.Bool.{cases_Bool, eqb-true, eq-eqb}
 use Rattle.std.proofs.lemmas.List.{get_or-replicate}
-use Rattle.std.proofs.lemmas.List.FromFn.{length-map-range_with_len, get_or-map-range_with_len}
 use Rattle.graph_theory.specs.Sums.{sum_to}
 use Rattle.graph_theory.specs.Graph.{Multigraph, IsEdgeNumber, edge_at, edges_around, edges_below, touches, ends_at, degree}
 use Rattle.graph_theory.specs.Parts.{holds, IsOddPart}
@@ -11,25 +10,15 @@ use Rattle.graph_theory.proofs.Edges.{degree-touches}
 use Rattle.graph_theory.proofs.Members.{all_holds, same_tests}
 use Rattle.graph_theory.proofs.OddParts.{odd_part_excludes}
 use Rattle.mb_problem.specs.declared.answer.Parity.{Parity}
-use Rattle.mb_problem.specs.declared.answer.Parity.TheVariants.{Empty, Values, OddDegrees}
-use Rattle.mb_problem.specs.Network.{Network, IsNetwork, graph_of, value_of}
+use Rattle.mb_problem.specs.Network.{Network, IsNetwork, graph_of}
 use Rattle.mb_problem.specs.Size.{edge_count_at, odd_at}
 use Rattle.mb_problem.specs.Joins.{IsJoinOf, listed_counts, ListsJoin}
 use Rattle.mb_problem.proofs.EdgeLemmas.{edges-count, network-graph}
+use Rattle.mb_problem.proofs.JoinLemmas.{listed-length, listed-at}
 use Rattle.graph_parts.specs.Marks.{is_marked, ListsMarked}
 use Rattle.graph_parts.specs.Flags.{taken_counts, IsBalanced}
 use Rattle.graph_parts.specs.OddParts.{is_terminal}
 use Rattle.graph_parts.proofs.FlagLemmas.{one_if, bit-test, flag-within, taken-at}
-
--- the parity that is asked for
-
-bit : (n : ℕ) → n % 2 ≤ 1
-bit n = omega arith
-
-pub odd_at-bit : (parity : Parity) (i : Network) (v : ℕ) → odd_at parity i v ≤ 1
-odd_at-bit Empty i v = omega arith
-odd_at-bit Values i v = bit (value_of i v)
-odd_at-bit OddDegrees i v = bit (edge_count_at i v)
 
 -- flags at the vertices of this parity
 pub balanced-flags : (g : Multigraph) (odd : ℕ → ℕ) (taken first flags : List Bool) → ((v : ℕ) → odd v ≤ 1) → ((v : ℕ) → 1 ≤ v → v ≤ g.vertices → is_marked first v ≡ eqb (odd v) 1) → IsBalanced g (λ v. one_if (is_marked first v)) taken flags → IsBalanced g odd taken flags
@@ -58,9 +47,6 @@ around-count i v ok =
 
 -- the taken edges are a join where no flag is left
 
-listed-at : (edges : List ℕ) (m k d : ℕ) → k < m → get_or (listed_counts edges m) k d ≡ one_if (holds edges (k + 1))
-listed-at edges m k d b = get_or-map-range_with_len (λ e. cond (holds edges e) 1 0) 1 m k (k + 1) d b (omega arith)
-
 listed-degree : (g : Multigraph) (edges : List ℕ) (taken : List Bool) (m v : ℕ) → length g.edges ≡ m → ListsMarked taken edges → degree g (listed_counts edges m) v ≡ degree g (taken_counts taken (length g.edges)) v
 listed-degree g edges taken m v count lists =
     sum_to-same (λ k. slice_index (listed_counts edges m) k * ends_at (edge_at g k) v) (λ k. slice_index (taken_counts taken (length g.edges)) k * ends_at (edge_at g k) v) (length g.edges)
@@ -81,9 +67,9 @@ taken-join i odd taken flags edges size lists even off =
           let within = flag-within taken e r.1 in
           (r.0, omega (arith, size, within)));
       join = record {
-        one_each = length-map-range_with_len (λ e. one_if (holds edges e)) 1 m;
+        one_each = listed-length edges m;
         at_most_once = λ k d b.
-            let long = length-map-range_with_len (λ e. one_if (holds edges e)) 1 m in
+            let long = listed-length edges m in
             subst (λ (c : ℕ). c ≤ 1) (sym (listed-at edges m k d (omega (arith, long, b)))) (one_if-most (holds edges (k + 1)));
         degrees = λ v low high.
             let balanced = even v low high in

@@ -9,13 +9,14 @@ use Rattle.mb_problem.specs.Network.{Network, IsNetwork, graph_of, vertices}
 use Rattle.mb_problem.specs.Size.{odd_at}
 use Rattle.mb_problem.specs.Joins.{IsJoinOf, ListsJoin}
 use Rattle.mb_problem.proofs.EdgeLemmas.{network-graph}
+use Rattle.mb_problem.proofs.JoinLemmas.{odd_at-bit}
 use Rattle.graph_parts.specs.Marks.{is_marked, ListsMarked}
 use Rattle.graph_parts.specs.Forests.{IsLeast}
 use Rattle.graph_parts.specs.Flags.{IsBalanced, IsFirstMarked}
 use Rattle.graph_parts.specs.OddParts.{is_terminal, IsFirstOddPart}
 use Rattle.graph_parts.proofs.FlagLemmas.{one_if}
 use Rattle.graph_parts.proofs.PartLemmas.{first-odd}
-use Rattle.graph_parts.proofs.JoinLemmas.{odd_at-bit, balanced-flags, taken-join, part-excludes}
+use Rattle.graph_parts.proofs.JoinLemmas.{balanced-flags, taken-join, part-excludes}
 
 -- flags were at the vertices of the parity, and are at the least vertices of components
 pub record IsSettled (parity : Parity) (i : Network) (g : Multigraph) (first flags taken : List Bool) : Type 0 where

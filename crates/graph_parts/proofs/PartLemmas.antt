@@ -1,10 +1,10 @@
 -- Lemmas on flags in components: the first odd part.
-use Rattle.std.proofs.Common.{◌≡◌, ℕ, ◌+◌, ◌%◌, ◌<◌, ◌≤◌, Bool, true, false, not, cond, eqb, refl, ap, sym, ◌∙◌, subst, inl, inr, arith, List, [], length, slice_index, count_by, get_or}
+use Rattle.std.proofs.Common.{◌≡◌, ℕ, ◌+◌, ◌%◌, ◌<◌, ◌≤◌, Bool, true, false, not, cond, eqb, refl, ap, sym, ◌∙◌, subst, inl, inr, arith, List, [], length, slice_index, count_by, get_or, All}
 use Rattle.std.proofs.lemmas.Bool.{cases_eq, cases_lt, eq-eqb, ne_eqb, false≢true, false_from_ne_true}
 use Rattle.std.proofs.lemmas.List.{get_or_default}
 use Rattle.graph_theory.specs.Sums.{sum_to}
 use Rattle.graph_theory.specs.declared.edge.Edge.{Edge}
-use Rattle.graph_theory.specs.Graph.{Multigraph, IsGraph, no_edge, edge_at, edge_of, degree}
+use Rattle.graph_theory.specs.Graph.{Multigraph, IsGraph, IsEdgeWithin, no_edge, edge_at, edge_of, degree}
 use Rattle.graph_theory.specs.Parts.{holds, crosses, IsVertexSet, LeavesNone}
 use Rattle.graph_theory.specs.Barrier.{AreTogether, IsComponent}
 use Rattle.graph_theory.proofs.SumLemmas.{sum_to-same, sum_to-add, sum_to-zero, sum_to-parity, sum_to-at_one}
@@ -36,14 +36,14 @@ edge_at-any : (g : Multigraph) (k : ℕ) (d : Edge) → k < length g.edges → e
 edge_at-any g k d b = get_or_default g.edges k no_edge d b
 
 -- no edge leaves a component
-pub component-closed : (g : Multigraph) (part : List ℕ) → IsGraph g → IsComponent g [] part → LeavesNone g part
-component-closed g part ok is = λ k d b.
+pub component-closed : (g : Multigraph) (part : List ℕ) → All (IsEdgeWithin g.vertices) g.edges → IsComponent g [] part → LeavesNone g part
+component-closed g part ends is = λ k d b.
     let e = edge_at g k in
     let near = edge-together g k b in
     let P : Edge → Type 0 = λ x. crosses part x ≡ false in
     subst P (edge_at-any g k d b) (crossing-test (holds part e.u) (holds part e.v)
     (λ h. is.whole e.u e.v h near)
-    (λ h. is.whole e.v e.u h (together-sym g [] e.u e.v ok.ends near)))
+    (λ h. is.whole e.v e.u h (together-sym g [] e.u e.v ends near)))
 
 -- the parity of the terminals in a part is that of the flags there
 
@@ -96,7 +96,7 @@ flags-one g flags part root low high here on only =
 -- the component of the first flag, where flags are at the least vertices of components alone
 pub first-odd : (g : Multigraph) (odd : ℕ → ℕ) (taken flags : List Bool) (part : List ℕ) (root : ℕ) → IsGraph g → ((v : ℕ) → odd v ≤ 1) → IsBalanced g odd taken flags → ((v : ℕ) → is_marked flags v ≡ true → IsLeast g [] v) → is_marked flags root ≡ true → ((w : ℕ) → w < root → is_marked flags w ≡ false) → IsComponent g [] part → holds part root ≡ true → IsFirstOddPart g (λ v. eqb (odd v) 1) part
 first-odd g odd taken flags part root ok bit even least on first is here =
-    let closed = component-closed g part ok is in
+    let closed = component-closed g part ok.ends is in
     let range = component-within g [] part root is here in
     record {
       part = record {
@@ -118,7 +118,7 @@ first-odd g odd taken flags part root ok bit even least on first is here =
           elim (cases_lt w root) [
             | inl less ↦
                 let head = holds_first other is_other.some in
-                let parity = terminals-parity g odd taken flags other ok bit even is_other.vertices (component-closed g other ok is_other) in
+                let parity = terminals-parity g odd taken flags other ok bit even is_other.vertices (component-closed g other ok.ends is_other) in
                 let none = flags-none g flags other (λ v h. false_from_ne_true (is_marked flags v) (λ t.
                 let low : w ≤ v = least_first other v is_other.vertices.ascending h in
                 let high : v ≤ w = (least v t).1 w (is_other.joined v w h head) in

@@ -8,7 +8,7 @@ use Rattle.graph_theory.specs.Parts.{holds}
 use Rattle.graph_theory.specs.Barrier.{AreTogether}
 use Rattle.graph_theory.proofs.Members.{holds_at, holds_all, all_holds, holds-append, holds-push, holds-take}
 use Rattle.graph_theory.proofs.Edges.{edge_of_within, other_end-within}
-use Rattle.graph_theory.proofs.Around.{around-is, around-has}
+use Rattle.graph_theory.proofs.Around.{around-has, number_at}
 use Rattle.graph_theory.proofs.Components.{together-refl, together-free, together-push, closed_has}
 use Rattle.graph_parts.specs.Marks.{is_marked}
 use Rattle.graph_parts.specs.Search.{HoldsOnce, ReachesOne, Grows, IsReached, IsSettled, ReachesFrom, Finds}
@@ -130,13 +130,6 @@ pub record ReachesSome (g : Multigraph) (out : List Bool) (v : ℕ) (numbers : L
 
 pub reaches-none : (g : Multigraph) (out : List Bool) (v : ℕ) (numbers : List ℕ) (old : List Bool) (before : List ℕ) → ReachesSome g out v numbers 0 old before old before
 reaches-none g out v numbers old before = record { grows = grows-refl old before; keeps = λ start first h so_far. so_far; settled = λ e h free. absurd (false≢true h) }
-
--- a number at a place of the list of the edges at v
-pub number_at : (g : Multigraph) (v : ℕ) (numbers : List ℕ) (i p : ℕ) → numbers ≡ edges_around g v → i < length numbers → p ≡ get_or numbers i p → IsEdgeNumber g p × (touches (edge_of g p) v ≡ true)
-number_at g v numbers i p is b at =
-    let P : List ℕ → Type 0 = λ xs. holds xs p ≡ true in
-    let Q : ℕ → Type 0 = λ x. holds numbers x ≡ true in
-    around-is g v p (subst P is (subst Q (sym at) (holds_at numbers i p b)))
 
 pub reaches-next : (g : Multigraph) (out : List Bool) (v : ℕ) (numbers : List ℕ) (i p to : ℕ) (old : List Bool) (before : List ℕ) (mid : List Bool) (some : List ℕ) (new : List Bool) (reached : List ℕ) → IsGraph g → numbers ≡ edges_around g v → i < length numbers → p ≡ get_or numbers i p → to ≡ other_end (edge_of g p) v → to < length mid → ReachesSome g out v numbers i old before mid some → ReachesOne out to mid some new reached → ReachesSome g out v numbers (i + 1) old before new reached
 reaches-next g out v numbers i p to old before mid some new reached ok is b at leads inside so_far one =

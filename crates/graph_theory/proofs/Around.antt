@@ -1,5 +1,5 @@
 -- Lemmas on the lists of the edges at a vertex: what they list, in which order, and how one edge more changes them.
-use Rattle.std.proofs.Common.{◌≡◌, ℕ, zero, suc, ◌+◌, ◌-◌, ◌<◌, ◌≤◌, Bool, true, false, cond, eqb, ◌||◌, ◌↔◌, refl, ap, sym, ◌∙◌, subst, inl, inr, arith, add-one, [], ◌∷◌, ◌++◌, length, get_or, All}
+use Rattle.std.proofs.Common.{◌≡◌, ℕ, zero, suc, ◌+◌, ◌-◌, ◌<◌, ◌≤◌, Bool, true, false, cond, eqb, ◌||◌, ◌↔◌, refl, ap, sym, ◌∙◌, subst, inl, inr, arith, add-one, [], ◌∷◌, ◌++◌, length, get_or, All, List}
 use Rattle.std.specs.List.Sorted.{IsStrictlyIncreasing}
 use Rattle.std.proofs.lemmas.Bool.{false≢true, cases_Bool, or_cases, or_left, or_right, eqb-true, eq-eqb, cases_eq, cond-true, cond-false}
 use Rattle.std.proofs.lemmas.Grind.{common_steps}
@@ -87,6 +87,13 @@ around-exact g v e = ((λ h. around-is g v e h), (λ r. around-has g v e r.0 r.1
 -- what stands at a place of the list
 pub around-at : (g : Multigraph) (v i d : ℕ) → i < length (edges_around g v) → IsEdgeNumber g (get_or (edges_around g v) i d) × (touches (edge_of g (get_or (edges_around g v) i d)) v ≡ true)
 around-at g v i d b = around-is g v (get_or (edges_around g v) i d) (holds_at (edges_around g v) i d b)
+
+-- a number that stands in the list of the edges at a vertex
+pub number_at : (g : Multigraph) (v : ℕ) (numbers : List ℕ) (i p : ℕ) → numbers ≡ edges_around g v → i < length numbers → p ≡ get_or numbers i p → IsEdgeNumber g p × (touches (edge_of g p) v ≡ true)
+number_at g v numbers i p is b at =
+    let P : List ℕ → Type 0 = λ xs. holds xs p ≡ true in
+    let Q : ℕ → Type 0 = λ x. holds numbers x ≡ true in
+    around-is g v p (subst P is (subst Q (sym at) (holds_at numbers i p b)))
 
 pub around-all : (g : Multigraph) (v : ℕ) → All (λ e. IsEdgeNumber g e × (touches (edge_of g e) v ≡ true)) (edges_around g v)
 around-all g v = all_holds (λ e. IsEdgeNumber g e × (touches (edge_of g e) v ≡ true)) (edges_around g v) (λ e h. around-is g v e h)

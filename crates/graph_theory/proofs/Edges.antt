@@ -5,8 +5,8 @@ use Rattle.std.proofs.lemmas.List.{get_or_read}
 use Rattle.std.proofs.lemmas.Grind.{common_steps}
 use Rattle.graph_theory.specs.Sums.{sum_to}
 use Rattle.graph_theory.specs.declared.edge.Edge.{Edge}
-use Rattle.graph_theory.specs.Graph.{Multigraph, IsGraph, IsEdgeWithin, IsWeight, no_edge, edge_at, edge_of, IsEdgeNumber, touches, other_end, ends_at, degree}
-use Rattle.graph_theory.proofs.SumLemmas.{sum_to-same}
+use Rattle.graph_theory.specs.Graph.{Multigraph, IsGraph, IsEdgeWithin, IsWeight, no_edge, edge_at, edge_of, IsEdgeNumber, touches, other_end, ends_at, degree, CountsNoneAt}
+use Rattle.graph_theory.proofs.SumLemmas.{sum_to-same, sum_to-zero}
 
 -- the edges of a valid graph
 
@@ -120,6 +120,14 @@ times-cond_one false c = omega arith
 pub degree-touches : (g : Multigraph) (counts : List ℕ) (v : ℕ) → All (IsEdgeWithin g.vertices) g.edges → degree g counts v ≡ sum_to (λ k. cond (touches (edge_at g k) v) (slice_index counts k) 0) (length g.edges)
 degree-touches g counts v ends = sum_to-same (λ k. slice_index counts k * ends_at (edge_at g k) v) (λ k. cond (touches (edge_at g k) v) (slice_index counts k) 0) (length g.edges)
     (λ k b. ap (λ x. slice_index counts k * x) (ends_at-touches g.vertices (edge_at g k) v (ends k no_edge b)) ∙ times-cond_one (touches (edge_at g k) v) (slice_index counts k))
+
+-- where no edge at a vertex is counted its degree is 0
+pub degree-none : (g : Multigraph) (counts : List ℕ) (v : ℕ) → All (IsEdgeWithin g.vertices) g.edges → CountsNoneAt g counts v → degree g counts v ≡ 0
+degree-none g counts v ends none =
+    degree-touches g counts v ends
+    ∙ sum_to-same (λ k. cond (touches (edge_at g k) v) (slice_index counts k) 0) (λ _. 0) (length g.edges)
+    (λ k b. elim (cases_Bool (touches (edge_at g k) v)) [ inl h ↦ rw h (none k b h) | inr h ↦ rw h refl ])
+    ∙ sum_to-zero (length g.edges)
 
 -- no edge touches what is no vertex
 pub touches-none : (n : ℕ) (e : Edge) (v : ℕ) → IsEdgeWithin n e → ((1 ≤ v) × (v ≤ n) → ⊥) → touches e v ≡ false

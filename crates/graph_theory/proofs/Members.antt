@@ -4,7 +4,7 @@ use Rattle.std.specs.List.{range_with_len}
 use Rattle.std.specs.List.Sorted.{IsStrictlyIncreasing}
 use Rattle.std.proofs.lemmas.List.FromFn.{length-range_with_len, get_or-range_with_len}
 use Rattle.std.proofs.lemmas.Int.{ints}
-use Rattle.std.proofs.lemmas.Bool.{eq-eqb, ne_eqb, eqb-true, or_cases, or_right, cases_eq, false≢true}
+use Rattle.std.proofs.lemmas.Bool.{eq-eqb, ne_eqb, eqb-true, or_cases, or_right, cases_eq, false≢true, false_from_ne_true}
 use Rattle.std.proofs.lemmas.Bool.Decides.{nat_tests}
 use Rattle.std.proofs.Math.Bool.{or-false, or_assoc}
 use Rattle.std.proofs.lemmas.Grind.{common_steps}
@@ -14,6 +14,7 @@ use Rattle.std.proofs.lemmas.List.Kept.{AllPairs-from_increasing}
 use Rattle.std.proofs.lemmas.List.Elements.{All-tail, All-head}
 use Rattle.graph_theory.specs.Sums.{sum_to, int_sum_to}
 use Rattle.graph_theory.specs.Parts.{holds}
+use Rattle.graph_theory.specs.Walk.{AllDiffer}
 use Rattle.graph_theory.proofs.SumLemmas.{sum_to-same, sum_to-zero, sum_to-add, sum_to-at_one, int_sum_to-same, int_sum_to-add, int_sum_to-le, int_sum_to-zero, int_sum_to-at_one, int_sum_to-at_none}
 
 -- a member stands at some place
@@ -73,6 +74,19 @@ holds-of_take xs i w h =
     let short : (p.0 < i) × (p.0 < length xs) = grind (arith, p.1, common_steps) in
     let here : get_or (take i xs) p.0 0 ≡ get_or xs p.0 0 = get_or-take i xs p.0 0 short.0 in
     subst (λ (v : ℕ). holds xs v ≡ true) (sym here ∙ p.2) (holds_at xs p.0 0 short.1)
+
+-- numbers that all differ
+
+pub ascending-differ : (xs : List ℕ) → IsStrictlyIncreasing xs → AllDiffer xs
+ascending-differ xs up i j a b same =
+    let less : get_or xs i 0 < get_or xs j 0 = AllPairs-from_increasing xs up i j 0 a b in
+    omega (arith, less, same)
+
+pub differ-tail : (x : ℕ) (xs : List ℕ) → AllDiffer (x ∷ xs) → AllDiffer xs
+differ-tail x xs d = λ i j a b. d (suc i) (suc j) (omega arith) (omega arith)
+
+pub differ-head : (x : ℕ) (xs : List ℕ) → AllDiffer (x ∷ xs) → holds xs x ≡ false
+differ-head x xs d = false_from_ne_true (holds xs x) (λ h. let r = holds_place xs x h in d 0 (suc r.0) (omega arith) (let b = r.1 in omega arith) (sym r.2))
 
 -- ascending lists
 

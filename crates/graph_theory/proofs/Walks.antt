@@ -9,6 +9,7 @@ use Rattle.graph_theory.specs.Graph.{Multigraph, IsEdgeWithin, no_edge, edge_at,
 use Rattle.graph_theory.specs.Parts.{holds, crosses, LeavesNone, IsSplitPart}
 use Rattle.graph_theory.specs.Walk.{IsWalk, walk_end, walk_left, walk_vertices, walk_weight}
 use Rattle.graph_theory.proofs.Edges.{edge_of_within, edge_of-place, number_of-place, other_end-within, touched-within, edge_back}
+use Rattle.graph_theory.proofs.Members.{holds_at}
 
 -- what a walk comes to
 
@@ -41,6 +42,12 @@ end_has P g v [] a = All-head P v [] a
 end_has P g v (e ∷ es) a =
     let w = other_end (edge_of g e) v in
     end_has P g w es (All-tail P v (walk_vertices g w es) a)
+
+pub start_held : (g : Multigraph) (v : ℕ) (es : List ℕ) → holds (walk_vertices g v es) v ≡ true
+start_held g v es = start_has (λ x. holds (walk_vertices g v es) x ≡ true) g v es (holds_at (walk_vertices g v es))
+
+pub end_held : (g : Multigraph) (v : ℕ) (es : List ℕ) → holds (walk_vertices g v es) (walk_end g v es) ≡ true
+end_held g v es = end_has (λ x. holds (walk_vertices g v es) x ≡ true) g v es (holds_at (walk_vertices g v es))
 
 -- all vertices are those that are left, and the end
 pub vertices-left : (g : Multigraph) (v : ℕ) (es : List ℕ) → walk_vertices g v es ≡ walk_left g v es ++ walk_end g v es ∷ []

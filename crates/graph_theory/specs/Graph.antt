@@ -1,6 +1,6 @@
 -- Undirected multigraphs with whole weights, and what counts on their edges are (Schrijver,
 -- Combinatorial Optimization, volume A, chapters 3, 24 and 26).
-use Rattle.std.specs.Prelude.{◌≡◌, ◌≢◌, ℕ, zero, suc, ◌+◌, ◌-◌, ◌*◌, ◌≤◌, ◌<◌, ◌^◌, ℤ, pos, neg_ℤ, ◌*ℤ◌, ◌≤ℤ◌, Bool, ◌||◌, ◌==◌, List, [], ◌∷◌, ◌++◌, length, All, slice_index, slice_index_or, if◌then◌else◌}
+use Rattle.std.specs.Prelude.{◌≡◌, ◌≢◌, ℕ, zero, suc, ◌+◌, ◌-◌, ◌*◌, ◌≤◌, ◌<◌, ◌^◌, ℤ, pos, neg_ℤ, ◌*ℤ◌, ◌≤ℤ◌, Bool, true, ◌||◌, ◌==◌, List, [], ◌∷◌, ◌++◌, length, All, slice_index, slice_index_or, if◌then◌else◌}
 use Rattle.graph_theory.specs.Sums.{sum_to, int_sum_to}
 use Rattle.graph_theory.specs.declared.edge.Edge.{Edge}
 use Rattle.graph_theory.specs.declared.limits.TheConstants.{WEIGHT_LIMIT}
@@ -68,6 +68,10 @@ edges_around g v = edges_below g v (length g.edges)
 -- the degree of v: each edge as often as it is counted, and for each of its ends that is v
 abbrev pub degree : Multigraph → List ℕ → ℕ → ℕ
 degree g counts v = sum_to (λ k. slice_index counts k * ends_at (edge_at g k) v) (length g.edges)
+
+-- no edge at v is counted
+abbrev pub CountsNoneAt : Multigraph → List ℕ → ℕ → Type 0
+CountsNoneAt g counts v = (k : ℕ) → k < length g.edges → touches (edge_at g k) v ≡ true → slice_index counts k ≡ 0
 
 -- the weights of the edges, each as often as it is counted, added up
 abbrev pub weight : Multigraph → List ℕ → ℤ

@@ -1,13 +1,12 @@
 -- The numbers from 1 to k that pass a test, ascending.
-use Rattle.std.proofs.Common.{◌≡◌, ℕ, zero, suc, ◌+◌, ◌<◌, ◌≤◌, Bool, true, false, cond, ◌||◌, eqb, refl, ap, sym, ◌∙◌, inl, inr, arith, List, [], ◌∷◌, ◌++◌, length, map, All, add-one}
+use Rattle.std.proofs.Common.{◌≡◌, ℕ, zero, suc, ◌+◌, ◌<◌, ◌≤◌, Bool, true, false, cond, eqb, refl, ap, sym, ◌∙◌, inl, inr, arith, List, [], ◌∷◌, ◌++◌, length, map, All, add-one}
 use Rattle.std.specs.List.Sorted.{IsStrictlyIncreasing}
-use Rattle.std.proofs.lemmas.Bool.{eq-eqb, ne_eqb, eqb-true, or_cases, or_right, cases_eq, false≢true, or_left}
+use Rattle.std.proofs.lemmas.Bool.{eq-eqb, eqb-true, or_cases, or_right, cases_eq, false≢true, or_left}
 use Rattle.std.proofs.lemmas.List.{length_push, map-append}
 use Rattle.std.proofs.lemmas.List.Elements.{All-nil, All-push, All-weaker}
-use Rattle.std.proofs.lemmas.List.Sums.{sum_by-append}
 use Rattle.graph_theory.specs.Parts.{holds, IsVertexSet}
 use Rattle.gadget_base.specs.Listed.{times}
-use Rattle.gadget_base.proofs.Listed.{times-cons}
+use Rattle.gadget_base.proofs.Times.{ascending-times}
 use Rattle.graph_theory.proofs.Members.{holds-push, holds_all, increasing-push, same_list, same_tests}
 
 abbrev pub passing : (ℕ → Bool) → ℕ → List ℕ
@@ -98,37 +97,5 @@ members-passing n set is =
 
 -- how often each is listed
 
-times-push : (xs : List ℕ) (x e : ℕ) → times (xs ++ x ∷ []) e ≡ times xs e + cond (eqb x e) 1 0
-times-push xs x e =
-    let both : times (xs ++ x ∷ []) e ≡ times xs e + times (x ∷ []) e = sum_by-append (λ y. cond (eqb y e) 1 0) xs (x ∷ []) in
-    let last : times (x ∷ []) e ≡ cond (eqb x e) 1 0 + 0 = times-cons x [] e in
-    omega (arith, both, last)
-
-times-push-here : (xs : List ℕ) (x e : ℕ) → x ≡ e → times (xs ++ x ∷ []) e ≡ times xs e + 1
-times-push-here xs x e h = times-push xs x e ∙ ap (λ (t : Bool). times xs e + cond t 1 0) (eq-eqb x e h)
-
-times-push-past : (xs : List ℕ) (x e : ℕ) → (x ≡ e → ⊥) → times (xs ++ x ∷ []) e ≡ times xs e
-times-push-past xs x e h = times-push xs x e ∙ (ap (λ (t : Bool). times xs e + cond t 1 0) (ne_eqb x e h) ∙ (let none : times xs e + 0 ≡ times xs e = omega arith in none))
-
-times-past : (p : ℕ → Bool) (k v : ℕ) → k < v → times (passing p k) v ≡ 0
-times-past p zero v h = refl
-times-past p (suc k) v h =
-    by_test (λ xs. times xs v ≡ 0) (p (suc k)) (passing p k ++ suc k ∷ []) (passing p k)
-    (λ t. times-push-past (passing p k) (suc k) v (λ e. omega (arith, e)) ∙ times-past p k v (omega arith))
-    (λ t. times-past p k v (omega arith))
-
 pub passing-times : (p : ℕ → Bool) (k v : ℕ) → 1 ≤ v → v ≤ k → times (passing p k) v ≡ cond (p v) 1 0
-passing-times p zero v low high = absurd (omega arith)
-passing-times p (suc k) v low high =
-    elim (cases_eq v (suc k)) [
-      | inl e ↦
-          let none : times (passing p k) v ≡ 0 = times-past p k v (omega arith) in
-          by_test (λ xs. times xs v ≡ cond (p v) 1 0) (p (suc k)) (passing p k ++ suc k ∷ []) (passing p k)
-          (λ t. times-push-here (passing p k) (suc k) v (sym e) ∙ (ap (λ (n : ℕ). n + 1) none ∙ sym (ap (λ (b : Bool). cond b 1 0) (ap p e ∙ t))))
-          (λ t. none ∙ sym (ap (λ (b : Bool). cond b 1 0) (ap p e ∙ t)))
-      | inr d ↦
-          let before : times (passing p k) v ≡ cond (p v) 1 0 = passing-times p k v low (omega arith) in
-          by_test (λ xs. times xs v ≡ cond (p v) 1 0) (p (suc k)) (passing p k ++ suc k ∷ []) (passing p k)
-          (λ t. times-push-past (passing p k) (suc k) v (λ e. d (sym e)) ∙ before)
-          (λ t. before)
-    ]
+passing-times p k v low high = ascending-times (passing p k) v (passing-ascends p k) ∙ ap (λ (t : Bool). cond t 1 0) (passing-holds p k v low high)

@@ -4,3 +4,4 @@ pub mod MarkLemmas
 pub mod WalkPlaces
 pub mod EndLemmas
 pub mod WalkSteps
+pub mod JoinLemmas

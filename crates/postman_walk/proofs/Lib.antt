@@ -1,5 +1,4 @@
 pub mod StartLemmas
-pub mod UseLemmas
 pub mod WalkLemmas
 pub mod TracingLemmas
 pub mod JoinLemmas

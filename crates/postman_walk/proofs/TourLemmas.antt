@@ -9,7 +9,7 @@ use Rattle.mb_problem.specs.Feasible.{IsTour}
 use Rattle.mb_problem.proofs.EdgeLemmas.{edges-count}
 use Rattle.gadget_base.specs.Listed.{times}
 use Rattle.postman_walk.specs.Tours.{IsLeastMet, UsesOnceAndJoinTwice}
-use Rattle.postman_walk.proofs.WalkLemmas.{listed_holds}
+use Rattle.gadget_base.proofs.Times.{times-held}
 
 some_held : (es : List ℕ) (e : ℕ) → holds es e ≡ true → 1 ≤ length es
 some_held [] e h = absurd (false≢true h)
@@ -22,7 +22,7 @@ tour-uses i start join walk closed uses met =
     let back : e - 1 + 1 ≡ e = omega arith in
     let u = uses (e - 1) (omega arith) in
     let same : times walk (e - 1 + 1) ≡ times walk e = ap (times walk) back in
-    listed_holds walk e (omega (arith, u, same)) in
+    times-held walk e (omega (arith, u, same)) in
     let size = edges-count i in
     let first : met.met.0 < length i.edges = let b = met.met.1 in omega (arith, size, b) in
     record {

@@ -2,21 +2,22 @@
 use Rattle.std.proofs.Common.{◌≡◌, ℕ, ◌+◌, ◌-◌, ◌<◌, ◌≤◌, Bool, true, cond, eqb, refl, ap, sym, ◌∙◌, subst, inl, inr, arith, List, [], ◌∷◌, ◌++◌, length, slice_index, All}
 use Rattle.std.proofs.lemmas.Bool.{cases_eq, cases_Bool, eq-eqb, ne_eqb}
 use Rattle.graph_theory.specs.declared.edge.Edge.{Edge}
-use Rattle.graph_theory.specs.Graph.{Multigraph, IsEdgeWithin, edge_at, edge_of, touches, other_end}
+use Rattle.graph_theory.specs.Graph.{Multigraph, IsEdgeWithin, edge_at, edge_of, touches, other_end, CountsNoneAt}
 use Rattle.graph_theory.specs.Parts.{holds}
 use Rattle.graph_theory.specs.Walk.{IsClosedWalk, walk_end, walk_vertices}
-use Rattle.graph_theory.proofs.Edges.{edge_of_within, edge_of-place, edge_back, touched-within, touches-u, edge_at-within}
-use Rattle.graph_theory.proofs.Walks.{walk-within, walk-push, end-push, walk-front, walk-rest}
+use Rattle.graph_theory.proofs.Edges.{edge_of_within, edge_of-place, edge_back, touched-within, touches-u, edge_at-within, degree-none}
+use Rattle.graph_theory.proofs.Walks.{walk-within, walk-push, end-push, walk-front, walk-rest, start_held}
 use Rattle.graph_theory.proofs.Components.{IsClosedBut, closed_has}
+use Rattle.weighted_graph.specs.Left.{TakesOne}
+use Rattle.weighted_graph.proofs.LeftLemmas.{still-none, degree-taken}
 use Rattle.gadget_base.specs.Listed.{times}
+use Rattle.gadget_base.proofs.Times.{times-push, times-held}
 use Rattle.graph_parts.specs.Connected.{HasConnectedEdges}
-use Rattle.postman_walk.specs.Uses.{IsSettled, TakesUse}
 use Rattle.postman_walk.specs.Tracing.{IsTracing}
-use Rattle.postman_walk.proofs.UseLemmas.{still-none, degree-taken, degree-settled}
-use Rattle.postman_walk.proofs.WalkLemmas.{step-parity, times-push, test_place, listed_holds, start_held, left_or_end, left_before, comes_to_ends}
+use Rattle.postman_walk.proofs.WalkLemmas.{step-parity, left_or_end, left_before, comes_to_ends}
 
 -- one edge more of the open walk
-pub tracing-push : (g : Multigraph) (uses left after : List ℕ) (start here e : ℕ) (opened finished : List ℕ) → All (IsEdgeWithin g.vertices) g.edges → IsTracing g uses left start here opened finished → TakesUse g left after here e → IsTracing g uses after start (other_end (edge_of g e) here) (opened ++ e ∷ []) finished
+pub tracing-push : (g : Multigraph) (uses left after : List ℕ) (start here e : ℕ) (opened finished : List ℕ) → All (IsEdgeWithin g.vertices) g.edges → IsTracing g uses left start here opened finished → TakesOne g left after here e → IsTracing g uses after start (other_end (edge_of g e) here) (opened ++ e ∷ []) finished
 tracing-push g uses left after start here e opened finished ends t takes = record {
   opened_is = walk-push g start opened e t.opened_is takes.number (ap (touches (edge_of g e)) t.opened_end ∙ takes.meets);
   opened_end = end-push g start opened e ∙ ap (other_end (edge_of g e)) t.opened_end;
@@ -24,14 +25,13 @@ tracing-push g uses left after start here e opened finished ends t takes = recor
   shared = λ k b.
       let s = t.shared k b in
       let one = takes.taken k in
-      let low : 1 ≤ e = takes.number.0 in
-      omega (arith, s, one, times-push opened e (k + 1), test_place e k low);
+      omega (arith, s, one, times-push opened e (k + 1));
   even = λ v low high.
       let was = t.even v low high in
       let less = degree-taken g left after here e v takes in
       let turn = step-parity g.vertices (edge_of g e) here v (edge_of_within g e ends takes.number) takes.meets in
       omega (arith, was, less, turn);
-  settled = λ v h k b meets. still-none g left after here e k takes (t.settled v h k b meets);
+  settled = λ v h k b meets. still-none left after e k takes.taken (t.settled v h k b meets);
 }
 
 here_within : (g : Multigraph) (uses left : List ℕ) (start here : ℕ) (opened finished : List ℕ) → All (IsEdgeWithin g.vertices) g.edges → (1 ≤ start) × (start ≤ g.vertices) → IsTracing g uses left start here opened finished → (1 ≤ here) × (here ≤ g.vertices)
@@ -40,11 +40,11 @@ here_within g uses left start here opened finished ends within t =
     subst P t.opened_end (walk-within g start opened ends within t.opened_is)
 
 -- where nothing is left at the open end, the finished walk ends there too
-stuck : (g : Multigraph) (uses left : List ℕ) (start here : ℕ) (opened finished : List ℕ) → All (IsEdgeWithin g.vertices) g.edges → (1 ≤ start) × (start ≤ g.vertices) → IsTracing g uses left start here opened finished → IsSettled g left here → walk_end g start finished ≡ here
+stuck : (g : Multigraph) (uses left : List ℕ) (start here : ℕ) (opened finished : List ℕ) → All (IsEdgeWithin g.vertices) g.edges → (1 ≤ start) × (start ≤ g.vertices) → IsTracing g uses left start here opened finished → CountsNoneAt g left here → walk_end g start finished ≡ here
 stuck g uses left start here opened finished ends within t settled =
     let there = here_within g uses left start here opened finished ends within t in
     let even = t.even here there.0 there.1 in
-    let none = degree-settled g left here ends settled in
+    let none = degree-none g left here ends settled in
     let one : cond {A = ℕ} (eqb here here) 1 0 ≡ 1 = ap (λ (b : Bool). cond {A = ℕ} b 1 0) (eq-eqb here here refl) in
     elim (cases_eq (walk_end g start finished) here) [
       | inl e ↦ e
@@ -54,7 +54,7 @@ stuck g uses left start here opened finished ends within t settled =
     ]
 
 -- the last edge of the open walk, where nothing is left at its end, goes over to the finished one
-pub tracing-pop : (g : Multigraph) (uses left : List ℕ) (start here e : ℕ) (front finished : List ℕ) → All (IsEdgeWithin g.vertices) g.edges → (1 ≤ start) × (start ≤ g.vertices) → IsTracing g uses left start here (front ++ e ∷ []) finished → IsSettled g left here → IsTracing g uses left start (other_end (edge_of g e) here) front (finished ++ e ∷ [])
+pub tracing-pop : (g : Multigraph) (uses left : List ℕ) (start here e : ℕ) (front finished : List ℕ) → All (IsEdgeWithin g.vertices) g.edges → (1 ≤ start) × (start ≤ g.vertices) → IsTracing g uses left start here (front ++ e ∷ []) finished → CountsNoneAt g left here → IsTracing g uses left start (other_end (edge_of g e) here) front (finished ++ e ∷ [])
 tracing-pop g uses left start here e front finished ends within t settled =
     let edge = edge_of g e in
     let from = walk_end g start front in
@@ -77,29 +77,29 @@ tracing-pop g uses left start here e front finished ends within t settled =
           omega (arith, was, before, after);
       settled = λ v h. elim (left_before g start v e finished h) [
         | inl a ↦ t.settled v a
-        | inr a ↦ subst (IsSettled g left) (sym done ∙ a) settled
+        | inr a ↦ subst (CountsNoneAt g left) (sym done ∙ a) settled
       ];
     }
 
 -- at the end the finished walk is closed, and uses each edge as often as it is to
 
 -- nothing is left at a vertex that the finished walk comes to
-quiet : (g : Multigraph) (uses left : List ℕ) (start here v : ℕ) (opened finished : List ℕ) → walk_end g start finished ≡ here → IsTracing g uses left start here opened finished → IsSettled g left here → holds (walk_vertices g start finished) v ≡ true → IsSettled g left v
+quiet : (g : Multigraph) (uses left : List ℕ) (start here v : ℕ) (opened finished : List ℕ) → walk_end g start finished ≡ here → IsTracing g uses left start here opened finished → CountsNoneAt g left here → holds (walk_vertices g start finished) v ≡ true → CountsNoneAt g left v
 quiet g uses left start here v opened finished done t settled h =
     elim (left_or_end g start v finished h) [
       | inl a ↦ t.settled v a
-      | inr a ↦ subst (IsSettled g left) (sym done ∙ a) settled
+      | inr a ↦ subst (CountsNoneAt g left) (sym done ∙ a) settled
     ]
 
 -- an edge at such a vertex is used by the finished walk
-used : (g : Multigraph) (uses left : List ℕ) (start here k v : ℕ) (finished : List ℕ) → IsTracing g uses left start here [] finished → k < length g.edges → 1 ≤ slice_index uses k → IsSettled g left v → touches (edge_at g k) v ≡ true → holds finished (k + 1) ≡ true
+used : (g : Multigraph) (uses left : List ℕ) (start here k v : ℕ) (finished : List ℕ) → IsTracing g uses left start here [] finished → k < length g.edges → 1 ≤ slice_index uses k → CountsNoneAt g left v → touches (edge_at g k) v ≡ true → holds finished (k + 1) ≡ true
 used g uses left start here k v finished t b some settled meets =
     let s = t.shared k b in
     let none : times [] (k + 1) ≡ 0 = refl in
     let gone = settled k b meets in
-    listed_holds finished (k + 1) (omega (arith, s, none, gone, some))
+    times-held finished (k + 1) (omega (arith, s, none, gone, some))
 
-pub tracing-end : (g : Multigraph) (uses left : List ℕ) (start here : ℕ) (finished : List ℕ) → All (IsEdgeWithin g.vertices) g.edges → IsTracing g uses left start here [] finished → IsSettled g left here → ((k : ℕ) → k < length g.edges → 1 ≤ slice_index uses k) → HasConnectedEdges g → (first : ℕ) → first < length g.edges → touches (edge_at g first) start ≡ true → IsClosedWalk g start finished × ((k : ℕ) → k < length g.edges → times finished (k + 1) ≡ slice_index uses k)
+pub tracing-end : (g : Multigraph) (uses left : List ℕ) (start here : ℕ) (finished : List ℕ) → All (IsEdgeWithin g.vertices) g.edges → IsTracing g uses left start here [] finished → CountsNoneAt g left here → ((k : ℕ) → k < length g.edges → 1 ≤ slice_index uses k) → HasConnectedEdges g → (first : ℕ) → first < length g.edges → touches (edge_at g first) start ≡ true → IsClosedWalk g start finished × ((k : ℕ) → k < length g.edges → times finished (k + 1) ≡ slice_index uses k)
 tracing-end g uses left start here finished ends t settled all connected first first_low first_meets =
     let within = touched-within g.vertices (edge_at g first) start (edge_at-within g first ends first_low) first_meets in
     let done = stuck g uses left start here [] finished ends within t settled in

@@ -1,14 +1,12 @@
 -- Walks and the edges that they use.
-use Rattle.std.proofs.Common.{◌≡◌, ◌⊎◌, ℕ, ◌+◌, ◌-◌, ◌%◌, ◌≤◌, Bool, true, false, cond, eqb, refl, ap, sym, ◌∙◌, subst, inl, inr, arith, List, [], ◌∷◌, ◌++◌}
+use Rattle.std.proofs.Common.{◌≡◌, ◌⊎◌, ℕ, ◌+◌, ◌%◌, true, false, cond, eqb, refl, ap, sym, ◌∙◌, subst, inl, inr, arith, List, [], ◌∷◌, ◌++◌}
 use Rattle.std.proofs.lemmas.Bool.{cases_eq, cases_Bool, eq-eqb, ne_eqb, eqb-true, or_cases, or_left, or_right, false≢true}
 use Rattle.graph_theory.specs.declared.edge.Edge.{Edge}
 use Rattle.graph_theory.specs.Graph.{Multigraph, IsEdgeWithin, edge_of, touches, other_end, ends_at}
 use Rattle.graph_theory.specs.Parts.{holds}
 use Rattle.graph_theory.specs.Walk.{IsWalk, walk_end, walk_left, walk_vertices}
-use Rattle.graph_theory.proofs.Members.{holds_at, holds-push}
-use Rattle.graph_theory.proofs.Walks.{start_has, vertices-left, left-append}
-use Rattle.gadget_base.specs.Listed.{times}
-use Rattle.gadget_base.proofs.Listed.{times-cons}
+use Rattle.graph_theory.proofs.Members.{holds-push}
+use Rattle.graph_theory.proofs.Walks.{start_held, vertices-left, left-append}
 
 -- an edge that does not start at v ends there
 touched_at_v : (e : Edge) (v : ℕ) → touches e v ≡ true → eqb e.u v ≡ false → e.v ≡ v
@@ -27,43 +25,8 @@ step-parity n e v x within meets =
           rw (off, at_v) (omega arith)
     ]
 
--- one edge more at the end of a list
-
-pub times-push : (es : List ℕ) (e k : ℕ) → times (es ++ e ∷ []) k ≡ times es k + cond (eqb e k) 1 0
-times-push [] e k = omega (arith, times-cons e [] k)
-times-push (f ∷ fs) e k = omega (arith, times-cons f (fs ++ e ∷ []) k, times-cons f fs k, times-push fs e k)
-
--- the same test of a number and of its place
-pub test_place : (e k : ℕ) → 1 ≤ e → cond {A = ℕ} (eqb k (e - 1)) 1 0 ≡ cond (eqb e (k + 1)) 1 0
-test_place e k low =
-    elim (cases_eq e (k + 1)) [
-      | inl h ↦
-          let on : eqb e (k + 1) ≡ true = eq-eqb _ _ h in
-          let on' : eqb k (e - 1) ≡ true = eq-eqb _ _ (let z : k ≡ e - 1 = omega arith in z) in
-          rw (on, on') refl
-      | inr d ↦
-          let off : eqb e (k + 1) ≡ false = ne_eqb _ _ d in
-          let off' : eqb k (e - 1) ≡ false = ne_eqb _ _ (λ h. d (let z : e ≡ k + 1 = omega arith in z)) in
-          rw (off, off') refl
-    ]
-
--- what is listed at least once is a member
-pub listed_holds : (es : List ℕ) (e : ℕ) → 1 ≤ times es e → holds es e ≡ true
-listed_holds [] e some = absurd (let none : times [] e ≡ 0 = refl in omega (arith, none, some))
-listed_holds (f ∷ fs) e some =
-    elim (cases_Bool (eqb f e)) [
-      | inl on ↦ or_left (eqb f e) (holds fs e) on
-      | inr off ↦
-          let none : cond {A = ℕ} (eqb f e) 1 0 ≡ 0 = ap (λ (t : Bool). cond {A = ℕ} t 1 0) off in
-          or_right (eqb f e) (holds fs e) (listed_holds fs e (omega (arith, times-cons f fs e, none, some)))
-    ]
-
 -- the vertices of a walk
 
-pub start_held : (g : Multigraph) (v : ℕ) (es : List ℕ) → holds (walk_vertices g v es) v ≡ true
-start_held g v es = start_has (λ x. holds (walk_vertices g v es) x ≡ true) g v es (holds_at (walk_vertices g v es))
-
--- a walk comes to a vertex that it leaves, or ends at
 pub left_or_end : (g : Multigraph) (v x : ℕ) (es : List ℕ) → holds (walk_vertices g v es) x ≡ true → (holds (walk_left g v es) x ≡ true) ⊎ (walk_end g v es ≡ x)
 left_or_end g v x es h =
     elim (or_cases (holds (walk_left g v es) x) (eqb (walk_end g v es) x) (sym (holds-push (walk_left g v es) (walk_end g v es) x) ∙ sym (ap (λ (xs : List ℕ). holds xs x) (vertices-left g v es)) ∙ h)) [

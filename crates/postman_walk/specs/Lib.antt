@@ -1,3 +1,2 @@
 pub mod Tours
-pub mod Uses
 pub mod Tracing

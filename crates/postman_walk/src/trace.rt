@@ -4,17 +4,16 @@ ghost use Rattle.graph_theory.specs.Walk.{IsClosedWalk};
 ghost use Rattle.gadget_base.specs.Listed.{times};
 ghost use Rattle.graph_parts.specs.Connected.{HasConnectedEdges};
 
-use crate::uses::take_use;
 use mb_base::{EdgeId, OutOfMemory, VertexId};
 use std::alloc::Global;
-use weighted_graph::Graph;
+use weighted_graph::{Graph, take_left};
 
 /// A closed walk from the start that uses each edge as often as is left of it (Hierholzer's way): it
 /// goes on along edges that are left, and where none is, the last edge goes over to the finished walk.
 pub(crate) fn trace(
     alloc: Global,
     graph: &Graph,
-    uses: Vec<u8>,
+    uses: Vec<u32>,
     start: VertexId,
 ) -> Result<Vec<EdgeId>, OutOfMemory>
     requires size { length uses.items ≡ length graph.now.edges }
@@ -32,7 +31,7 @@ pub(crate) fn trace(
     let mut finished = Vec::with_capacity(alloc, 2 * left.len())?;
     let mut here = start;
     'walk: loop {
-        if let Some(edge) = take_use(graph, &index, &mut cursors, &mut left, here) {
+        if let Some(edge) = take_left(graph, &index, &mut cursors, &mut left, here) {
             opened.push(edge)?;
             here = graph.other_end(edge, here);
         } else if let Some(edge) = opened.pop() {

@@ -1,11 +1,7 @@
 -- A document of a circuit of weight below 0 proves that weights aren't conservative.
-use Rattle.std.proofs.Common.{◌≡◌, ℕ, suc, ◌+◌, ◌*◌, ◌<◌, ◌≤◌, pos, ◌<ℤ◌, Bool, true, false, cond, ◌||◌, eqb, List, [], ◌∷◌, length, All, Option, None, Some, MatchOption, IfSome, nat_abs, refl, sym, ap, ◌∙◌, inl, inr, subst, arith}
+use Rattle.std.proofs.Common.{◌≡◌, ℕ, ◌+◌, ◌*◌, ◌≤◌, pos, ◌<ℤ◌, true, List, [], length, All, Option, None, Some, MatchOption, IfSome, nat_abs, refl, sym, ap, ◌∙◌, subst, arith}
 use Rattle.std.proofs.lemmas.Int.{ints}
-use Rattle.std.proofs.lemmas.Bool.{cases_Bool, eqb-true}
-use Rattle.std.proofs.lemmas.List.Elements.{All-nil}
-use Rattle.graph_theory.specs.Parts.{holds}
-use Rattle.graph_theory.specs.Walk.{AllDiffer, IsCircuit, walk_weight}
-use Rattle.graph_theory.proofs.Members.{holds_place}
+use Rattle.graph_theory.specs.Walk.{IsCircuit, walk_weight}
 use Rattle.graph_theory.proofs.Walks.{walk-numbers}
 use Rattle.mb_problem.specs.declared.kind.Kind.TheVariants.{Path}
 use Rattle.mb_problem.specs.declared.kind.AnswerForm.TheVariants as form
@@ -15,8 +11,7 @@ use Rattle.mb_problem.specs.declared.answer.Parity.TheVariants.{Values}
 use Rattle.mb_problem.specs.Feasible.{IsWalkWith}
 use Rattle.mb_problem.specs.Network.{Network, IsNetwork, vertices, graph_of}
 use Rattle.gadget_base.specs.Certified.{gadget_graph}
-use Rattle.gadget_base.specs.Listed.{times}
-use Rattle.gadget_base.proofs.Listed.{times-cons}
+use Rattle.gadget_base.proofs.Times.{differ-once}
 use Rattle.graph_parts.specs.OddParts.{IsFirstOddPart, is_terminal}
 use Rattle.conservative_paths.specs.Within.{IsNegativeCircuitWithin}
 use Rattle.doc_format.specs.declared.document.Document.{Document}
@@ -39,42 +34,10 @@ use Rattle.solve_kinds.proofs.Ascents.{numbers-pos}
 use Rattle.solve_kinds.proofs.Forms.{some-edges}
 use Rattle.solve_kinds.proofs.InRange.{in-range}
 use Rattle.solve_kinds.proofs.LineSizes.{head_circuit-size}
-use Rattle.solve_kinds.proofs.Presenting.{none_if}
+use Rattle.solve_kinds.proofs.Presenting.{none_if, all_none}
 use Rattle.solve_kinds.proofs.Short.{IsShortLine, no-lines, no-line, short-document}
 use Rattle.solve_kinds.proofs.ShortDocuments.{short-walk}
 use Rattle.solve_kinds.proofs.WalkLines.{walk-within, few-steps}
-
-neither : (a b : Bool) → (a || b) ≡ false → (a ≡ false) × (b ≡ false)
-neither true b h = absurd (cc)
-neither false b h = (refl, h)
-
-unlisted : (es : List ℕ) (e : ℕ) → holds es e ≡ false → times es e ≡ 0
-unlisted [] e h = refl
-unlisted (x ∷ es) e h =
-    let parts = neither (eqb x e) (holds es e) h in
-    let first : cond {A = ℕ} (eqb x e) 1 0 ≡ 0 = ap (λ (t : Bool). cond {A = ℕ} t 1 0) parts.0 in
-    omega (arith, times-cons x es e, first, unlisted es e parts.1)
-
-differ-tail : (x : ℕ) (es : List ℕ) → AllDiffer (x ∷ es) → AllDiffer es
-differ-tail x es differ = λ j k below within same. differ (suc j) (suc k) (omega arith) (omega arith) same
-
--- a number stands in a list of different ones at most once
-differ-once : (es : List ℕ) (e : ℕ) → AllDiffer es → times es e ≤ 1
-differ-once [] e differ = omega arith
-differ-once (x ∷ es) e differ =
-    let more = times-cons x es e in
-    let rest : times es e ≤ 1 = differ-once es e (differ-tail x es differ) in
-    elim (cases_Bool (eqb x e)) [
-      | inl on ↦
-          let one : cond {A = ℕ} (eqb x e) 1 0 ≡ 1 = ap (λ (t : Bool). cond {A = ℕ} t 1 0) on in
-          elim (cases_Bool (holds es e)) [
-            | inl later ↦ absurd (let place = holds_place es e later in differ 0 (suc place.0) (omega arith) (let b : place.0 < length es = place.1 in omega arith) (eqb-true x e on ∙ sym place.2))
-            | inr none ↦ omega (arith, more, one, unlisted es e none)
-          ]
-      | inr off ↦
-          let none : cond {A = ℕ} (eqb x e) 1 0 ≡ 0 = ap (λ (t : Bool). cond {A = ℕ} t 1 0) off in
-          omega (arith, more, none, rest)
-    ]
 
 -- no part but the line of a circuit
 pub record StatesCircuit (answer : Answer) (d : Document) : Type 0 where
@@ -88,9 +51,6 @@ pub record StatesCircuit (answer : Answer) (d : Document) : Type 0 where
   pub barrier : d.barrier ≡ None
   pub odd : d.odd ≡ None
   pub split : d.split ≡ None
-
-all_none : {A : Type 0} (P : A → Type 0) (xs : List A) → xs ≡ [] → All P xs
-all_none P xs h = rw h (All-nil P)
 
 has-circuit : (i : Network) (start : ℕ) (edges : List ℕ) (line : Option WalkLine) → IsCircuit (graph_of i) start edges → walk_weight (graph_of i) edges <ℤ pos 0 → line ≡ Some (walk_line start edges) → MatchOption line ⊥ (λ w. IsCircuit (graph_of i) (nat_abs w.start) (numbers w.edges) × (walk_weight (graph_of i) (numbers w.edges) <ℤ pos 0))
 has-circuit i start edges line circuit negative is =

@@ -1,7 +1,7 @@
 -- A document of a set that excludes all answers proves that none is feasible.
-use Rattle.std.proofs.Common.{◌≡◌, ℕ, ◌≤◌, pos, Bool, true, false, List, [], length, map, All, Option, Some, IfSome, MatchOption, refl, sym, ◌∙◌, subst, arith}
+use Rattle.std.proofs.Common.{◌≡◌, ℕ, ◌≤◌, pos, Bool, true, false, List, length, map, All, Option, Some, IfSome, MatchOption, refl, sym, ◌∙◌, subst, arith}
 use Rattle.std.proofs.lemmas.Int.{ints}
-use Rattle.std.proofs.lemmas.List.Elements.{All-nil, All-map, All-weaker}
+use Rattle.std.proofs.lemmas.List.Elements.{All-map, All-weaker}
 use Rattle.graph_theory.specs.Barrier.{IsBarrier}
 use Rattle.graph_theory.specs.Parts.{IsVertexSet, IsOddPart, IsSplitPart}
 use Rattle.mb_problem.specs.declared.kind.Kind.{Kind}
@@ -26,10 +26,7 @@ use Rattle.solve_kinds.specs.Chosen.{IsFirstMetPart, IsChosen}
 use Rattle.solve_kinds.specs.Excluding.{member_line, line_if, StatesSet, ExcludesBy, Excludes}
 use Rattle.solve_kinds.proofs.Ascents.{numbers-pos}
 use Rattle.solve_kinds.proofs.InRange.{in-range}
-use Rattle.solve_kinds.proofs.Presenting.{none_if}
-
-all_none : {A : Type 0} (P : A → Type 0) (xs : List A) → xs ≡ [] → All P xs
-all_none P xs h = rw h (All-nil P)
+use Rattle.solve_kinds.proofs.Presenting.{none_if, all_none}
 
 pub up_to-pos : (n : ℕ) (set : List ℕ) → IsVertexSet n set → All (IsUpTo n) (map pos set)
 up_to-pos n set is = All-map (IsUpTo n) pos set (All-weaker (λ v. (1 ≤ v) × (v ≤ n)) (λ v. IsUpTo n (pos v)) (λ v h. (let low : 1 ≤ v = h.0 in let high : v ≤ n = h.1 in record { low = omega (arith, ints); high = omega (arith, ints) })) set is.in_range)

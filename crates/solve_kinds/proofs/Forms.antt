@@ -1,7 +1,8 @@
 -- The forms of documents of best answers.
-use Rattle.std.proofs.Common.{◌≡◌, ℕ, ◌≤◌, ℤ, pos, Bool, true, ◌&&◌, List, [], ◌∷◌, ◌++◌, length, map, Option, None, refl, ap, ◌∙◌, arith}
+use Rattle.std.proofs.Common.{◌≡◌, ℕ, ◌≤◌, ℤ, pos, Bool, true, List, [], ◌∷◌, ◌++◌, length, map, Option, None, refl, ap, ◌∙◌, arith}
 use Rattle.std.specs.List.{list_all}
 use Rattle.std.proofs.lemmas.List.Folds.{list_all-append}
+use Rattle.std.proofs.lemmas.Bool.{and_from}
 use Rattle.mb_problem.specs.declared.kind.Kind.{Kind}
 use Rattle.mb_problem.specs.declared.kind.AnswerForm.{AnswerForm}
 use Rattle.mb_problem.specs.declared.kind.AnswerForm.TheVariants as form
@@ -19,15 +20,12 @@ use Rattle.doc_format.specs.Form.{admits, is_counts, is_walk, has_any, has_edges
 use Rattle.solve_kinds.specs.Parts.{ListsAnswer, line_of}
 use Rattle.solve_kinds.proofs.AnswerForms.{HasForm}
 
-both_true : (a b : Bool) → a ≡ true → b ≡ true → (a && b) ≡ true
-both_true a b f h = rw (f, h) refl
-
 letters : {A : Type 0} (p : Part → Bool) (made : A → Part) (xs : List A) → ((x : A) → p (made x) ≡ true) → list_all p (map made xs) ≡ true
 letters p made [] each = refl
-letters p made (x ∷ xs) each = both_true (p (made x)) (list_all p (map made xs)) (each x) (letters p made xs each)
+letters p made (x ∷ xs) each = and_from (p (made x)) (list_all p (map made xs)) (each x) (letters p made xs each)
 
 joined : (p : Part → Bool) (xs ys : List Part) → list_all p xs ≡ true → list_all p ys ≡ true → list_all p (xs ++ ys) ≡ true
-joined p xs ys f h = list_all-append p xs ys ∙ both_true (list_all p xs) (list_all p ys) f h
+joined p xs ys f h = list_all-append p xs ys ∙ and_from (list_all p xs) (list_all p ys) f h
 
 -- the lines of an answer have its letter
 
@@ -41,7 +39,7 @@ walk-letters : (f : AnswerForm) (p : Part → Bool) (answer : Answer) → ((w : 
 walk-letters f p (Counts cs) takes has = refl
 walk-letters f p Nothing takes has = refl
 walk-letters form.Counts p (Walk start edges) takes has = absurd has
-walk-letters form.Walk p (Walk start edges) takes has = both_true (p (part.Walk _)) true (takes _) refl
+walk-letters form.Walk p (Walk start edges) takes has = and_from (p (part.Walk _)) true (takes _) refl
 
 some-any : (edges : List ℕ) → 1 ≤ length edges → has_any (map pos edges) ≡ true
 some-any [] h = absurd (omega arith)

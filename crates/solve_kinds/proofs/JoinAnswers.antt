@@ -1,6 +1,5 @@
 -- What joins, tours and paths pay for a perfect matching of the graph of ports.
-use Rattle.std.proofs.Common.{◌≡◌, ℕ, ◌+◌, ◌*◌, ◌≤◌, ℤ, pos, ◌+ℤ◌, ◌-ℤ◌, ◌*ℤ◌, ◌≤ℤ◌, true, false, cond, Bool, List, length, sym, subst, arith}
-use Rattle.std.proofs.lemmas.Int.{ints}
+use Rattle.std.proofs.Common.{◌≡◌, ℕ, ◌+◌, ◌*◌, ◌≤◌, true, false, cond, Bool, List, length, sym, subst, arith}
 use Rattle.graph_theory.specs.Parts.{holds}
 use Rattle.graph_theory.proofs.Walks.{walk-numbers}
 use Rattle.mb_problem.specs.declared.kind.Kind.TheVariants.{TJoin, Postman}
@@ -40,13 +39,3 @@ pub tour-chosen : (i : Network) (answer : Answer) → IsWalkWith (λ start edges
 tour-chosen i (Counts counts) start = absurd start
 tour-chosen i (Walk v es) start = (λ same. start, λ same. absurd (cc))
 tour-chosen i Nothing start = tt
-
--- twice the weight
-pub pays-same : (a b : ℤ) → a ≡ b → (pos 2 *ℤ a) ≤ℤ (pos 2 *ℤ b)
-pays-same a b e = omega (arith, ints, e)
-
-pub pays-less : (a b : ℤ) → a ≤ℤ b → (pos 2 *ℤ a) ≤ℤ (pos 2 *ℤ b)
-pays-less a b e = omega (arith, ints, e)
-
-pub pays-tour : (a t b : ℤ) → a ≡ t +ℤ b → (pos 2 *ℤ (a -ℤ t)) ≤ℤ (pos 2 *ℤ b)
-pays-tour a t b e = omega (arith, ints, e)

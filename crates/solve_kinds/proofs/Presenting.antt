@@ -72,6 +72,9 @@ sets-within kind i s d solved p =
     (λ z w natural. (let low : pos 1 ≤ℤ z.dual = w.0.positive in let high : z.dual ≤ℤ pos 1000000000000000 = w.1.1 in (record { low = low; high = high }, members-up n z.members natural w.0.in_range)))
     (both_all (λ z. IsSetWithin n (set_of z)) (λ z. IsNumber z.dual) (λ z. IsSetWithin n (set_of z) × IsNumber z.dual) d.sets (λ z a b. (a, b)) within number) p.natural
 
+pub all_none : {A : Type 0} (P : A → Type 0) (xs : List A) → xs ≡ [] → All P xs
+all_none P xs h = rw h (All-nil P)
+
 pub none_if : {A : Type 0} (P : A → Type 0) (x : Option A) → x ≡ None → IfSome x P
 none_if P x h = rw h tt
 

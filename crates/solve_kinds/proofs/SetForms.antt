@@ -1,5 +1,6 @@
 -- The forms of documents of sets that exclude all answers, and of circuits.
-use Rattle.std.proofs.Common.{◌≡◌, pos, Bool, true, false, cond, not, ◌&&◌, List, [], ◌++◌, Option, None, Some, refl, ap, ◌∙◌}
+use Rattle.std.proofs.Common.{◌≡◌, pos, Bool, true, false, cond, not, List, [], ◌++◌, Option, None, Some, refl, ap, ◌∙◌}
+use Rattle.std.proofs.lemmas.Bool.{and_from}
 use Rattle.std.specs.List.{list_all}
 use Rattle.mb_problem.specs.declared.kind.Kind.{Kind}
 use Rattle.mb_problem.specs.declared.kind.Kind.TheVariants.{Path}
@@ -16,13 +17,10 @@ use Rattle.doc_format.specs.declared.part.Part.{Part}
 use Rattle.doc_format.specs.declared.part.Part.TheVariants as part
 use Rattle.doc_format.specs.Form.{admits, is_barrier, is_odd_part, is_split_part, is_never, has_edges, have_order, at_most_one, ascends, IsDocument}
 
-both_true : (a b : Bool) → a ≡ true → b ≡ true → (a && b) ≡ true
-both_true a b f h = rw (f, h) refl
-
 set-letters : (e : Exclusion) (p : Part → Bool) (u : MemberLine) → p (part.Barrier u) ≡ is_barrier e → p (part.Odd u) ≡ is_odd_part e → p (part.Split u) ≡ is_split_part e → list_all p (at_most_one part.Barrier (cond (is_barrier e) (Some u) None) ++ (at_most_one part.Odd (cond (is_odd_part e) (Some u) None) ++ at_most_one part.Split (cond (is_split_part e) (Some u) None))) ≡ true
-set-letters exclusion.Barrier p u b o s = both_true (p (part.Barrier u)) true b refl
-set-letters exclusion.OddPart p u b o s = both_true (p (part.Odd u)) true o refl
-set-letters exclusion.SplitPart p u b o s = both_true (p (part.Split u)) true s refl
+set-letters exclusion.Barrier p u b o s = and_from (p (part.Barrier u)) true b refl
+set-letters exclusion.OddPart p u b o s = and_from (p (part.Odd u)) true o refl
+set-letters exclusion.SplitPart p u b o s = and_from (p (part.Split u)) true s refl
 set-letters exclusion.Never p u b o s = refl
 
 ordered : (t : Bool) (u : MemberLine) (line : Option MemberLine) → ascends u.members ≡ true → line ≡ cond t (Some u) None → have_order line ≡ true

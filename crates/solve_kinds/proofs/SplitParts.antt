@@ -1,45 +1,22 @@
 -- The component of an edge is a split part, where some edge lies in another.
-use Rattle.std.proofs.Common.{◌≡◌, ℕ, zero, suc, ◌+◌, ◌<◌, ◌≤◌, ◌⊎◌, Bool, true, false, not, cond, eqb, List, [], length, All, refl, sym, ap, ◌∙◌, inl, inr, subst, arith}
-use Rattle.std.proofs.lemmas.Bool.{cases_Bool, cases_eq, or_cases, eqb-true, true≢false}
-use Rattle.std.proofs.lemmas.List.{get_or_default}
-use Rattle.graph_theory.specs.declared.edge.Edge.{Edge}
-use Rattle.graph_theory.specs.Graph.{Multigraph, IsEdgeWithin, edge_at, edge_of, touches, no_edge}
-use Rattle.graph_theory.specs.Barrier.{AreTogether, IsComponent}
-use Rattle.graph_theory.specs.Parts.{holds, crosses, LeavesNone, IsSplitPart}
-use Rattle.graph_theory.proofs.Components.{together-edge}
-use Rattle.graph_theory.proofs.Edges.{edge_of-place, touches-u, touches-v, other_end-u, other_end-v, edge_at-within, number_of-place, touched-within}
+use Rattle.std.proofs.Common.{◌≡◌, ℕ, zero, suc, ◌<◌, ◌≤◌, ◌⊎◌, Bool, true, false, eqb, List, [], length, All, ap, ◌∙◌, inl, inr, arith}
+use Rattle.std.proofs.lemmas.Bool.{cases_Bool, cases_eq, or_cases, eqb-true}
+use Rattle.graph_theory.specs.Graph.{Multigraph, IsEdgeWithin, edge_at, touches}
+use Rattle.graph_theory.specs.Barrier.{IsComponent}
+use Rattle.graph_theory.specs.Parts.{holds, IsSplitPart}
+use Rattle.graph_theory.proofs.Components.{together-sym}
+use Rattle.graph_theory.proofs.Edges.{edge_at-within, touched-within}
 use Rattle.graph_parts.specs.Connected.{HasConnectedEdges}
+use Rattle.graph_parts.proofs.PartLemmas.{edge-together, component-closed}
 use Rattle.postman_walk.specs.Tours.{IsLeastMet}
 use Rattle.solve_kinds.specs.Chosen.{IsFirstMetPart}
-
--- the two ends of an edge are together
-to-v : (g : Multigraph) (k : ℕ) → k < length g.edges → AreTogether g [] (edge_at g k).u (edge_at g k).v
-to-v g k b = subst (λ (e : Edge). AreTogether g [] e.u e.v) (edge_of-place g k) (together-edge g [] (k + 1) (edge_of g (k + 1)).u (edge_of g (k + 1)).v (number_of-place g k b) (touches-u (edge_of g (k + 1))) (other_end-u (edge_of g (k + 1))) refl refl)
-
-to-u : (g : Multigraph) (k : ℕ) → All (IsEdgeWithin g.vertices) g.edges → k < length g.edges → AreTogether g [] (edge_at g k).v (edge_at g k).u
-to-u g k ends b =
-    let within : IsEdgeWithin g.vertices (edge_of g (k + 1)) = subst (IsEdgeWithin g.vertices) (sym (edge_of-place g k)) (edge_at-within g k ends b) in
-    subst (λ (e : Edge). AreTogether g [] e.v e.u) (edge_of-place g k) (together-edge g [] (k + 1) (edge_of g (k + 1)).v (edge_of g (k + 1)).u (number_of-place g k b) (touches-v (edge_of g (k + 1))) (other_end-v g.vertices (edge_of g (k + 1)) within) refl refl)
-
-not-crossed : (a b : Bool) → (a ≡ true → b ≡ true) → (b ≡ true → a ≡ true) → cond a (not b) b ≡ false
-not-crossed true b there back = ap not (there refl)
-not-crossed false true there back = absurd (true≢false (sym (back refl)))
-not-crossed false false there back = refl
-
--- no edge leaves a component
-pub component-closed : (g : Multigraph) (set : List ℕ) → All (IsEdgeWithin g.vertices) g.edges → IsComponent g [] set → LeavesNone g set
-component-closed g set ends is = λ k d b.
-    (let uv = to-v g k b in
-    let vu = to-u g k ends b in
-    subst (λ (e : Edge). crosses set e ≡ false) (get_or_default g.edges k no_edge d b)
-    (not-crossed (holds set (edge_at g k).u) (holds set (edge_at g k).v) (λ h. is.whole (edge_at g k).u (edge_at g k).v h uv) (λ h. is.whole (edge_at g k).v (edge_at g k).u h vu)))
 
 -- the first end of an edge at a member is a member
 first-end : (g : Multigraph) (set : List ℕ) (k v : ℕ) → All (IsEdgeWithin g.vertices) g.edges → IsComponent g [] set → k < length g.edges → touches (edge_at g k) v ≡ true → holds set v ≡ true → holds set (edge_at g k).u ≡ true
 first-end g set k v ends is b meets held =
     elim (or_cases (eqb (edge_at g k).u v) (eqb (edge_at g k).v v) meets) [
       | inl t ↦ ap (holds set) (eqb-true (edge_at g k).u v t) ∙ held
-      | inr t ↦ is.whole (edge_at g k).v (edge_at g k).u (ap (holds set) (eqb-true (edge_at g k).v v t) ∙ held) (to-u g k ends b)
+      | inr t ↦ is.whole (edge_at g k).v (edge_at g k).u (ap (holds set) (eqb-true (edge_at g k).v v t) ∙ held) (together-sym g [] (edge_at g k).u (edge_at g k).v ends (edge-together g k b))
     ]
 
 all-more : (p : ℕ → Bool) (n k : ℕ) → ((k : ℕ) → k < n → p k ≡ true) → p n ≡ true → k < suc n → p k ≡ true
@@ -69,9 +46,6 @@ split-part g set v ends is least held apart = record {
 
 pub first-met : (g : Multigraph) (set : List ℕ) (v : ℕ) → IsComponent g [] set → IsLeastMet g v → holds set v ≡ true → IsFirstMetPart g set
 first-met g set v is least held = record { component = is; first = v; least = least; held = held }
-
-pub none-connected : (g : Multigraph) → length g.edges ≡ 0 → HasConnectedEdges g
-none-connected g none = λ j k b c. absurd (omega (arith, none, b))
 
 -- the least vertex that an edge meets is one
 pub met-within : (g : Multigraph) (v : ℕ) → All (IsEdgeWithin g.vertices) g.edges → IsLeastMet g v → (1 ≤ v) × (v ≤ g.vertices)

@@ -1,8 +1,7 @@
 -- The w lines of walks.
-use Rattle.std.proofs.Common.{◌≡◌, ℕ, ◌+◌, ◌*◌, ◌<◌, ◌≤◌, pos, true, List, [], ◌∷◌, length, All, count_by, IfSome, refl, ◌∙◌, subst, arith}
+use Rattle.std.proofs.Common.{◌≡◌, ℕ, ◌+◌, ◌*◌, ◌<◌, ◌≤◌, pos, true, List, length, All, IfSome, ◌∙◌, subst, arith}
 use Rattle.std.proofs.lemmas.Int.{ints}
 use Rattle.std.proofs.lemmas.List.Elements.{All-map, All-weaker}
-use Rattle.std.proofs.lemmas.List.Sums.{sum_by-cons}
 use Rattle.graph_theory.specs.Graph.{IsEdgeNumber}
 use Rattle.graph_theory.specs.Sums.{sum_to}
 use Rattle.graph_theory.specs.Walk.{IsWalk}
@@ -18,6 +17,7 @@ use Rattle.mb_problem.proofs.EdgeLemmas.{edges-count}
 use Rattle.mb_problem.proofs.WalkSteps.{walk-start}
 use Rattle.gadget_base.specs.Listed.{times}
 use Rattle.gadget_base.proofs.Listed.{times-sum}
+use Rattle.gadget_base.proofs.Times.{count_all}
 use Rattle.certificates.specs.Within.{IsUpTo, IsWalkWithin}
 use Rattle.solve_kinds.specs.Parts.{line_of, walk_line}
 
@@ -48,10 +48,6 @@ line-within Postman i (Walk start edges) network f = walk-within i start edges n
 line-within Path i (Walk start edges) network f = walk-within i start edges network f.walk f.some
 
 -- how many steps a walk has
-
-count_all : (es : List ℕ) → count_by (λ _. true) es ≡ length es
-count_all [] = refl
-count_all (e ∷ es) = sum_by-cons (λ _. 1) e es ∙ (let rest = count_all es in omega (arith, rest))
 
 -- numbers of edges, none of them listed more often than c times
 pub few-steps : (c : ℕ) (i : Network) (es : List ℕ) → All (IsEdgeNumber (graph_of i)) es → ((k : ℕ) → k < length i.edges → times es (k + 1) ≤ c) → length es ≤ length i.edges * c

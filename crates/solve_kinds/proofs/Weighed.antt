@@ -1,5 +1,5 @@
 -- The weights of perfect matchings and of the answers that they stand for are numbers of documents.
-use Rattle.std.proofs.Common.{◌≡◌, ℕ, zero, suc, ◌*◌, ◌<◌, ◌≤◌, ℤ, pos, neg_ℤ, ◌+ℤ◌, ◌*ℤ◌, ◌≤ℤ◌, List, length, slice_index, sym, ◌∙◌, subst, arith}
+use Rattle.std.proofs.Common.{◌≡◌, ℕ, ◌*◌, ◌<◌, ◌≤◌, ℤ, pos, neg_ℤ, ◌+ℤ◌, ◌*ℤ◌, ◌≤ℤ◌, List, length, slice_index, sym, ◌∙◌, subst, arith}
 use Rattle.std.specs.Prelude.{replicate}
 use Rattle.std.proofs.lemmas.Int.{ints}
 use Rattle.std.proofs.lemmas.List.{get_or-replicate}
@@ -7,7 +7,7 @@ use Rattle.graph_theory.specs.Sums.{int_sum_to}
 use Rattle.graph_theory.specs.Graph.{Multigraph, IsGraph, IsWeight, IsPerfect, edge_at, no_edge, weight}
 use Rattle.graph_theory.specs.Walk.{walk_weight}
 use Rattle.graph_theory.specs.Duals.{IsNumber}
-use Rattle.graph_theory.proofs.SumLemmas.{int_sum_to-le, times-suc, times-int_sum_to, times-le, times-two, int_sum_to-within}
+use Rattle.graph_theory.proofs.SumLemmas.{int_sum_to-le, times-int_sum_to, times-le, times-two, int_sum_to-within, int_sum_to-constant}
 use Rattle.graph_theory.proofs.Edges.{edge_at-weight}
 use Rattle.graph_theory.proofs.Handshake.{handshake-perfect}
 use Rattle.mb_problem.specs.declared.kind.Kind.{Kind}
@@ -25,10 +25,6 @@ use Rattle.gadget_base.proofs.Listed.{list-weight}
 abbrev IsSmall : ℕ → ℤ → Type 0
 IsSmall n z = (neg_ℤ (pos (n * 1000000000)) ≤ℤ z) × (z ≤ℤ pos (n * 1000000000))
 
-constant : (b : ℤ) (n : ℕ) → int_sum_to (λ _. b) n ≡ pos n *ℤ b
-constant b zero = omega (arith, ints)
-constant b (suc n) = omega (arith, ints, constant b n, times-suc n b)
-
 share-most : (c : ℕ) (w : ℤ) → IsWeight w → (pos 2 *ℤ (pos c *ℤ w)) ≤ℤ (pos c *ℤ (pos 1000000000 +ℤ pos 1000000000))
 share-most c w h =
     let high : w ≤ℤ pos 1000000000 = h.1 in
@@ -44,7 +40,7 @@ share-least c w h =
 -- both ends of each counted edge give the same, and each vertex once
 shared : (g : Multigraph) (counts : List ℕ) (b : ℤ) → IsGraph g → IsPerfect g counts → int_sum_to (λ k. pos (slice_index counts k) *ℤ (b +ℤ b)) (length g.edges) ≡ pos g.vertices *ℤ b
 shared g counts b graph perfect =
-    let each : int_sum_to (λ _. b) g.vertices ≡ pos g.vertices *ℤ b = constant b g.vertices in
+    let each : int_sum_to (λ _. b) g.vertices ≡ pos g.vertices *ℤ b = int_sum_to-constant b g.vertices in
     handshake-perfect g counts (λ _. b) graph.ends perfect ∙ each
 
 pub perfect-small : (g : Multigraph) (counts : List ℕ) → IsGraph g → IsPerfect g counts → IsSmall g.vertices (pos 2 *ℤ weight g counts)

@@ -8,7 +8,7 @@ ghost use Rattle.solve_kinds.specs.Open.{IsOpen};
 ghost use Rattle.solve_kinds.specs.Parts.{HasFewSteps};
 
 use crate::joins::{extract_join, extract_path, extract_tour};
-use crate::plain::extract_plain;
+use gadget_base::extract_plain;
 use gadget_cap::extract;
 use gadget_match::{extract_copies, extract_double};
 use mb_base::{EdgeId, OutOfMemory};

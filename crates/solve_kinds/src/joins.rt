@@ -18,8 +18,8 @@ ghost use Rattle.solve_kinds.specs.Parts.{HasFewSteps};
 ghost use Rattle.solve_kinds.specs.Solved.{HasEnds};
 
 use crate::ends::ends;
-use crate::plain::count_listed;
 use conservative_paths::path_in;
+use gadget_base::count_listed;
 use gadget_tjoin::extract;
 use mb_base::{EdgeId, OutOfMemory, Sequence};
 use mb_problem::{Answer, Instance, Join, Parity};

@@ -17,7 +17,6 @@ mod limits;
 mod members;
 mod optimal;
 mod parts;
-mod plain;
 mod searching;
 mod sets;
 mod solving;

@@ -4,7 +4,7 @@ use Rattle.graph_theory.specs.Graph.{weight}
 use Rattle.graph_theory.specs.Walk.{walk_weight}
 use Rattle.graph_theory.proofs.Walks.{walk-numbers, vertices-length}
 use Rattle.conservative_paths.specs.Trails.{Advances, KeepsWeight, ClosesBelow, IsOpen}
-use Rattle.conservative_paths.proofs.Ways.{taken-sum}
+use Rattle.conservative_paths.proofs.Ways.{taken-less}
 use Rattle.conservative_paths.proofs.Found.{circuit-found, drained}
 use Rattle.conservative_paths.proofs.circuit.close_from.Goals as goal
 
@@ -33,7 +33,7 @@ returns-in-Some-2-clause-found c =
     circuit-found g c.args.left.now.counts.items c.take.new.self.counts.items c.args.base c.args.base c.in-Some-2.place c.go_on_or_close.new.trail c.requires.graph.ends c.requires.even.small closed closes.negative
 
 pub loop-step-smaller : goal.loop-step-smaller
-loop-step-smaller c = taken-sum c.args.graph.now c.loop-step.left.counts.items c.take.new.self.counts.items c.in-Some.step.edge c.in-Some.ensures.step.number c.in-Some.ensures.step.taken
+loop-step-smaller c = taken-less c.args.graph.now c.loop-step.left.counts.items c.take.new.self.counts.items c.in-Some.step.edge c.in-Some.ensures.step.number c.in-Some.ensures.step.taken
 
 pub loop-step-preserved : goal.loop-step-preserved
 loop-step-preserved c =

@@ -1,11 +1,11 @@
 use Rattle.std.proofs.Common.{ℕ, ◌≤ℤ◌, List, length, subst, sym, arith}
-use Rattle.graph_theory.specs.Graph.{Multigraph}
+use Rattle.graph_theory.specs.Graph.{Multigraph, CountsNoneAt}
 use Rattle.graph_theory.specs.Walk.{walk_weight}
 use Rattle.mb_problem.specs.Network.{graph_of}
 use Rattle.mb_problem.specs.Joins.{listed_counts}
 use Rattle.conservative_paths.specs.Within.{IsPathWithin}
-use Rattle.conservative_paths.specs.Trails.{KeepsOpen, Takes, IsOpen, IsSettled, IsLeft}
-use Rattle.conservative_paths.proofs.Ways.{taken-sum}
+use Rattle.conservative_paths.specs.Trails.{KeepsOpen, Takes, IsOpen, IsLeft}
+use Rattle.conservative_paths.proofs.Ways.{taken-less}
 use Rattle.conservative_paths.proofs.EvenSets.{path-weighs}
 use Rattle.conservative_paths.proofs.Found.{path-found}
 use Rattle.conservative_paths.proofs.path.path_in.Goals as goal
@@ -14,7 +14,7 @@ pub loop-step-smaller : goal.loop-step-smaller
 loop-step-smaller c =
     let T : Multigraph → Type 0 = λ g. Takes g c.loop-step.trail.here c.in-Some.step.edge c.in-Some.step.there c.loop-step.left.counts.items c.take.new.self.counts.items in
     let step = subst T c.in_ok-graph.ensures c.in-Some.ensures.step in
-    taken-sum (graph_of c.args.instance.now) c.loop-step.left.counts.items c.take.new.self.counts.items c.in-Some.step.edge step.number step.taken
+    taken-less (graph_of c.args.instance.now) c.loop-step.left.counts.items c.take.new.self.counts.items c.in-Some.step.edge step.number step.taken
 
 pub loop-step-preserved : goal.loop-step-preserved
 loop-step-preserved c =
@@ -32,7 +32,7 @@ loop-step-preserved c =
 pub returns-clause-path : goal.returns-clause-path
 returns-clause-path c =
     let i = c.args.instance.now in
-    let S : Multigraph → Type 0 = λ g. IsSettled g c.take.new.self.counts.items c.loop-step.trail.here in
+    let S : Multigraph → Type 0 = λ g. CountsNoneAt g c.take.new.self.counts.items c.loop-step.trail.here in
     let step = c.in_default.ensures.step in
     let settled = subst S c.in_ok-graph.ensures step.1 in
     let O : List ℕ → Type 0 = λ xs. IsOpen (graph_of i) (listed_counts c.args.join.now.edges (length i.edges)) xs c.args.s c.args.t c.loop-step.trail in
@@ -42,7 +42,7 @@ returns-clause-path c =
 pub returns-clause-weighs : goal.returns-clause-weighs
 returns-clause-weighs c = λ even.
     let i = c.args.instance.now in
-    let S : Multigraph → Type 0 = λ g. IsSettled g c.take.new.self.counts.items c.loop-step.trail.here in
+    let S : Multigraph → Type 0 = λ g. CountsNoneAt g c.take.new.self.counts.items c.loop-step.trail.here in
     let step = c.in_default.ensures.step in
     let settled = subst S c.in_ok-graph.ensures step.1 in
     let O : List ℕ → Type 0 = λ xs. IsOpen (graph_of i) (listed_counts c.args.join.now.edges (length i.edges)) xs c.args.s c.args.t c.loop-step.trail in

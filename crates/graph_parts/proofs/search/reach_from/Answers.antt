@@ -1,5 +1,6 @@
 use Rattle.std.proofs.Common.{◌≡◌, ℕ, arith, length, subst}
-use Rattle.graph_parts.proofs.SearchLemmas.{ReachesSome, number_at, reaches-next, reaches-all}
+use Rattle.graph_theory.proofs.Around.{number_at}
+use Rattle.graph_parts.proofs.SearchLemmas.{ReachesSome, reaches-next, reaches-all}
 use Rattle.graph_parts.proofs.LinkLemmas.{from-next, link-from}
 use Rattle.graph_parts.proofs.search.reach_from.Goals as goal
 

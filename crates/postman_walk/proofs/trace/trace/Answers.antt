@@ -2,12 +2,12 @@ use Rattle.std.proofs.Common.{◌≡◌, ℕ, List, [], ◌∷◌, length, slice
 use Rattle.std.proofs.lemmas.Grind.{common_steps}
 use Rattle.std.proofs.lemmas.List.{with_items_is}
 use Rattle.graph_theory.specs.Sums.{sum_to}
-use Rattle.graph_theory.specs.Graph.{edge_at}
+use Rattle.graph_theory.specs.Graph.{edge_at, CountsNoneAt}
 use Rattle.graph_theory.proofs.Edges.{touched-within, edge_at-within}
 use Rattle.graph_theory.proofs.Walks.{walk-rest}
-use Rattle.postman_walk.specs.Uses.{IsSettled, TakesUse}
+use Rattle.weighted_graph.specs.Left.{TakesOne}
+use Rattle.weighted_graph.proofs.LeftLemmas.{taken-sum, passed-same}
 use Rattle.postman_walk.specs.Tracing.{IsTracing}
-use Rattle.postman_walk.proofs.UseLemmas.{uses-taken, passed-same}
 use Rattle.postman_walk.proofs.TracingLemmas.{tracing-push, tracing-pop, tracing-end, tracing-same}
 use Rattle.postman_walk.proofs.trace.trace.Goals as goal
 
@@ -15,11 +15,11 @@ pub walk-smaller-in-Some : goal.walk-smaller-in-Some
 walk-smaller-in-Some c =
     let g = c.args.graph.now in
     let e = c.in-Some.edge in
-    let after = c.take_use.new.left in
+    let after = c.take_left.new.left in
     let was = c.deref_mut-in-walk.ensures.value in
-    let takes = subst (λ (xs : List ℕ). TakesUse g xs after c.walk.here e) was c.in-Some.ensures.taken in
+    let takes = subst (λ (xs : List ℕ). TakesOne g xs after c.walk.here e) was c.in-Some.ensures.taken in
     let items = with_items_is c.walk.left after (takes.size ∙ sym c.walk.left.ok.0) in
-    let less = uses-taken g c.walk.left.items after c.walk.here e takes in
+    let less = taken-sum c.walk.left.items after e (length g.edges) takes.number.0 takes.number.1 takes.taken in
     let same = ap (λ (xs : List ℕ). sum_to (slice_index xs) (length g.edges)) items in
     let pushed = ap length c.in_ok-push.ensures.items in
     omega (arith, less, same, pushed)
@@ -29,10 +29,10 @@ walk-preserved-in-Some c =
     let g = c.args.graph.now in
     let start = c.args.start in
     let e = c.in-Some.edge in
-    let after = c.take_use.new.left in
-    let cursors = c.take_use.new.cursors in
+    let after = c.take_left.new.left in
+    let cursors = c.take_left.new.cursors in
     let was = c.deref_mut-in-walk.ensures.value in
-    let takes = subst (λ (xs : List ℕ). TakesUse g xs after c.walk.here e) was c.in-Some.ensures.taken in
+    let takes = subst (λ (xs : List ℕ). TakesOne g xs after c.walk.here e) was c.in-Some.ensures.taken in
     let items = with_items_is c.walk.left after (takes.size ∙ sym c.walk.left.ok.0) in
     let places = with_items_is c.walk.cursors cursors (c.in-Some.ensures.passed.size ∙ sym c.walk.invariant.passed.size ∙ sym c.walk.cursors.ok.0) in
     let step = tracing-push g c.args.uses.items c.walk.left.items after start c.walk.here e c.walk.opened.items c.walk.finished.items c.index.ensures.graph.ends c.walk.invariant.tracing takes in
@@ -59,13 +59,13 @@ walk-preserved c =
     let here = c.walk.here in
     let e = c.in-Some-pop.edge in
     let left = c.walk.left.items in
-    let after = c.take_use.new.left in
-    let cursors = c.take_use.new.cursors in
+    let after = c.take_left.new.left in
+    let cursors = c.take_left.new.cursors in
     let front = c.pop.new.self.items in
     let finished = c.walk.finished.items in
     let was = c.deref_mut-in-walk.ensures.value in
     let kept : after ≡ left = c.in_default.ensures.taken.0 ∙ was in
-    let settled = subst (λ (xs : List ℕ). IsSettled g xs here) was c.in_default.ensures.taken.1 in
+    let settled = subst (λ (xs : List ℕ). CountsNoneAt g xs here) was c.in_default.ensures.taken.1 in
     let items = with_items_is c.walk.left after (ap length kept ∙ sym c.walk.left.ok.0) in
     let places = with_items_is c.walk.cursors cursors (c.in_default.ensures.passed.size ∙ sym c.walk.invariant.passed.size ∙ sym c.walk.cursors.ok.0) in
     let ends = c.index.ensures.graph.ends in
@@ -86,7 +86,7 @@ returns-in_default-pop-clause-closed c =
     let g = c.args.graph.now in
     let first = c.requires.start in
     let none : c.walk.opened.items ≡ [] = grind (arith, common_steps) in
-    let settled = subst (λ (xs : List ℕ). IsSettled g xs c.walk.here) c.deref_mut-in-walk.ensures.value c.in_default.ensures.taken.1 in
+    let settled = subst (λ (xs : List ℕ). CountsNoneAt g xs c.walk.here) c.deref_mut-in-walk.ensures.value c.in_default.ensures.taken.1 in
     let P : List ℕ → Type 0 = λ xs. IsTracing g c.args.uses.items c.walk.left.items c.args.start c.walk.here xs c.walk.finished.items in
     (tracing-end g c.args.uses.items c.walk.left.items c.args.start c.walk.here c.walk.finished.items c.index.ensures.graph.ends (subst P none c.walk.invariant.tracing) settled c.requires.all c.requires.connected first.0 first.1 first.2).0
 
@@ -95,6 +95,6 @@ returns-in_default-pop-clause-uses c =
     let g = c.args.graph.now in
     let first = c.requires.start in
     let none : c.walk.opened.items ≡ [] = grind (arith, common_steps) in
-    let settled = subst (λ (xs : List ℕ). IsSettled g xs c.walk.here) c.deref_mut-in-walk.ensures.value c.in_default.ensures.taken.1 in
+    let settled = subst (λ (xs : List ℕ). CountsNoneAt g xs c.walk.here) c.deref_mut-in-walk.ensures.value c.in_default.ensures.taken.1 in
     let P : List ℕ → Type 0 = λ xs. IsTracing g c.args.uses.items c.walk.left.items c.args.start c.walk.here xs c.walk.finished.items in
     (tracing-end g c.args.uses.items c.walk.left.items c.args.start c.walk.here c.walk.finished.items c.index.ensures.graph.ends (subst P none c.walk.invariant.tracing) settled c.requires.all c.requires.connected first.0 first.1 first.2).1

@@ -1,6 +1,6 @@
 use Rattle.std.proofs.Common.{◌≡◌, ◌+◌, ◌*◌, ◌≤◌, length, slice_index}
 use Rattle.graph_theory.specs.Sums.{sum_to}
-use Rattle.postman_walk.specs.Uses.{ArePassed}
+use Rattle.weighted_graph.specs.Left.{ArePassed}
 use Rattle.postman_walk.specs.Tracing.{IsTracing}
 use Rattle.postman_walk.proofs.trace.trace.Given as goal
 

@@ -2,7 +2,7 @@ use Rattle.std.proofs.Common.{◌≡◌, ℕ, ◌+◌, ◌≤◌, List, length, 
 use Rattle.std.proofs.lemmas.List.{length-replicate, get_or-replicate}
 use Rattle.mb_problem.specs.Network.{vertices}
 use Rattle.mb_problem.proofs.EdgeLemmas.{edges-count}
-use Rattle.conservative_paths.proofs.Numbers.{listed-length}
+use Rattle.mb_problem.proofs.JoinLemmas.{listed-length}
 use Rattle.conservative_paths.proofs.edges_left.EdgesLeft.of.Goals as goal
 
 pub returns-clause-left : goal.returns-clause-left
@@ -14,7 +14,9 @@ returns-clause-left c =
     let zero : (v : ℕ) → v ≤ vertices i → slice_index c.in_ok-looked.looked.items v ≡ 0 = λ v b. ap (λ (xs : List ℕ). slice_index xs v) zeros ∙ get_or-replicate n v 0 0 (omega (arith, b, count)) in
     record {
       one_each = ap length c.in_ok-counts.ensures ∙ listed-length c.args.edges.now c.edges.result ∙ c.edges.ensures.count ∙ sym (edges-count i);
-      one_each_vertex = ap length zeros ∙ length-replicate n 0 ∙ ap (λ (x : ℕ). x + 1) count;
-      looked = λ v b. omega (arith, zero v b);
-      none = λ v k b low. absurd (omega (arith, zero v b, low));
+      looked = record {
+        size = ap length zeros ∙ length-replicate n 0 ∙ ap (λ (x : ℕ). x + 1) count;
+        within = λ v b. omega (arith, zero v b);
+        none = λ v b j low. absurd (omega (arith, zero v b, low));
+      };
     }

@@ -4,7 +4,8 @@ use Rattle.std.proofs.lemmas.List.{get_or_default}
 use Rattle.graph_theory.specs.Graph.{IsEdgeNumber, degree}
 use Rattle.mb_problem.specs.Network.{graph_of}
 use Rattle.mb_problem.specs.Joins.{listed_counts, odd_between}
-use Rattle.conservative_paths.proofs.Numbers.{listed-length, listed-small}
+use Rattle.mb_problem.proofs.JoinLemmas.{listed-length}
+use Rattle.conservative_paths.proofs.ListedCounts.{listed-small}
 use Rattle.walk_tests.proofs.tests.odd_joins.joined.Goals as goal
 
 pub have_parities-requires : goal.have_parities-requires

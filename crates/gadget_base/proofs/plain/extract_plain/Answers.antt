@@ -4,7 +4,7 @@ use Rattle.mb_problem.specs.Network.{graph_of, vertices}
 use Rattle.mb_problem.proofs.EdgeLemmas.{network-graph}
 use Rattle.gadget_base.specs.Listed.{times_each}
 use Rattle.gadget_base.proofs.Listed.{perfect_from_list, weight_of_list, list-length}
-use Rattle.solve_kinds.proofs.plain.extract_plain.Goals as goal
+use Rattle.gadget_base.proofs.plain.extract_plain.Goals as goal
 
 pub count_listed-requires-clause-few : goal.count_listed-requires-clause-few
 count_listed-requires-clause-few c =

@@ -2,7 +2,7 @@ use Rattle.std.proofs.Common.{◌≡◌, ℕ, ◌+◌, List, length, take, ap, �
 use Rattle.std.proofs.lemmas.List.{take_all}
 use Rattle.gadget_base.specs.Listed.{times}
 use Rattle.gadget_base.proofs.Blocks.{is-tabled}
-use Rattle.solve_kinds.proofs.plain.add_listed.Goals as goal
+use Rattle.gadget_base.proofs.plain.add_listed.Goals as goal
 
 pub returns : goal.returns
 returns c =

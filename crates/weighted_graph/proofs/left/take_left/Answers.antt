@@ -1,10 +1,9 @@
 use Rattle.std.proofs.Common.{◌≡◌, ℕ, ◌-◌, ◌<◌, ◌≤◌, List, length, slice_index, slice_set, All, sym, subst, refl, ◌∙◌, arith}
 use Rattle.std.proofs.lemmas.List.{get_or_default}
-use Rattle.graph_theory.proofs.Around.{around-at}
-use Rattle.graph_parts.proofs.SearchLemmas.{number_at}
-use Rattle.postman_walk.specs.Uses.{NoneLeft, TakesUse}
-use Rattle.postman_walk.proofs.UseLemmas.{takes-use, settled-all}
-use Rattle.postman_walk.proofs.uses.take_use.Goals as goal
+use Rattle.graph_theory.proofs.Around.{around-at, number_at}
+use Rattle.weighted_graph.specs.Left.{NoneLeft, TakesOne}
+use Rattle.weighted_graph.proofs.LeftLemmas.{takes-one, none-at}
+use Rattle.weighted_graph.proofs.left.take_left.Goals as goal
 
 pub next_left-place-requires-clause-numbers : goal.next_left-place-requires-clause-numbers
 next_left-place-requires-clause-numbers c =
@@ -23,7 +22,7 @@ returns-then-place-numbers-clause-taken c =
     let around = c.at-numbers.ensures ∙ c.requires.index.exact v c.requires.vertex in
     let all : c.next_left-place.result ≡ length numbers = omega arith in
     let P : List ℕ → Type 0 = λ xs. NoneLeft left xs (length xs) in
-    (refl, settled-all g left v (subst P around (subst (NoneLeft left numbers) all c.next_left-place.ensures.passed)))
+    (refl, none-at g left v (subst P around (subst (NoneLeft left numbers) all c.next_left-place.ensures.passed)))
 
 pub overflow_sub-left : goal.overflow_sub-left
 overflow_sub-left c =
@@ -49,5 +48,5 @@ returns-clause-taken c =
     let edge = number_at g v numbers at e around place c.index-numbers-place.is in
     let same : slice_index numbers at ≡ e = get_or_default numbers at 0 e place ∙ sym c.index-numbers-place.is in
     let some : 0 < slice_index left (e - 1) = subst (λ (x : ℕ). 0 < slice_index left (x - 1)) same (c.next_left-place.ensures.left place) in
-    let P : ℕ → Type 0 = λ n. TakesUse g left (slice_set left (n - 1) (slice_index left (n - 1) - 1)) v e in
-    subst P (sym c.number.ensures) (takes-use g left v e (slice_index left (e - 1)) edge.0 edge.1 c.requires.size refl some)
+    let P : ℕ → Type 0 = λ n. TakesOne g left (slice_set left (n - 1) (slice_index left (n - 1) - 1)) v e in
+    subst P (sym c.number.ensures) (takes-one g left v e (slice_index left (e - 1)) edge.0 edge.1 c.requires.size refl some)

@@ -1,6 +1,6 @@
 use Rattle.std.proofs.Common.{◌≡◌, ℕ, ◌+◌, ◌<◌, length, take, slice_index}
 use Rattle.gadget_base.specs.Listed.{times}
-use Rattle.solve_kinds.proofs.plain.add_listed.Given as goal
+use Rattle.gadget_base.proofs.plain.add_listed.Given as goal
 
 abbrev pub invariant-loop-edge : goal.invariant-loop-edge
 invariant-loop-edge l = record {

@@ -1,14 +1,10 @@
--- How often each edge is still to be used, and how far the edges at each vertex are used up.
+-- Counts of edges that are used up one by one, and how far the edges at each vertex are.
 use Rattle.std.specs.Prelude.{◌≡◌, ℕ, ◌+◌, ◌-◌, ◌==◌, ◌≤◌, ◌<◌, true, List, length, slice_index, if◌then◌else◌}
-use Rattle.graph_theory.specs.Graph.{Multigraph, IsEdgeNumber, edge_at, edge_of, edges_around, touches}
+use Rattle.graph_theory.specs.Graph.{Multigraph, IsEdgeNumber, edge_of, edges_around, touches}
 
 -- none of the first n of these edges is left
 abbrev pub NoneLeft : List ℕ → List ℕ → ℕ → Type 0
 NoneLeft left numbers n = (j : ℕ) → j < n → slice_index left (slice_index numbers j - 1) ≡ 0
-
--- no edge at v is left
-abbrev pub IsSettled : Multigraph → List ℕ → ℕ → Type 0
-IsSettled g left v = (k : ℕ) → k < length g.edges → touches (edge_at g k) v ≡ true → slice_index left k ≡ 0
 
 -- at each vertex no edge before its cursor is left
 pub record ArePassed (g : Multigraph) (left cursors : List ℕ) : Type 0 where
@@ -16,9 +12,13 @@ pub record ArePassed (g : Multigraph) (left cursors : List ℕ) : Type 0 where
   pub within : (v : ℕ) → v ≤ g.vertices → slice_index cursors v ≤ length (edges_around g v)
   pub none : (v : ℕ) → v ≤ g.vertices → NoneLeft left (edges_around g v) (slice_index cursors v)
 
--- one use of edge e at v is taken off
-pub record TakesUse (g : Multigraph) (old new : List ℕ) (v e : ℕ) : Type 0 where
+-- the edge is counted once less
+abbrev pub IsTaken : ℕ → List ℕ → List ℕ → Type 0
+IsTaken e old new = (k : ℕ) → slice_index new k + (if e == k + 1 then 1 else 0) ≡ slice_index old k
+
+-- edge e at v is counted once less
+pub record TakesOne (g : Multigraph) (old new : List ℕ) (v e : ℕ) : Type 0 where
   pub number : IsEdgeNumber g e
   pub meets : touches (edge_of g e) v ≡ true
   pub size : length new ≡ length old
-  pub taken : (k : ℕ) → slice_index new k + (if k == e - 1 then 1 else 0) ≡ slice_index old k
+  pub taken : IsTaken e old new

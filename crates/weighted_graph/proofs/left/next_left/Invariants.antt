@@ -1,5 +1,5 @@
-use Rattle.postman_walk.specs.Uses.{NoneLeft}
-use Rattle.postman_walk.proofs.uses.next_left.Given as goal
+use Rattle.weighted_graph.specs.Left.{NoneLeft}
+use Rattle.weighted_graph.proofs.left.next_left.Given as goal
 
 abbrev pub invariant-loop-place : goal.invariant-loop-place
 invariant-loop-place l = NoneLeft l.left l.numbers l.place

@@ -1,0 +1,48 @@
+-- The counts of an ascending list.
+use Rattle.std.proofs.Common.{◌≡◌, ℕ, ◌+◌, ◌-◌, ◌<◌, ◌≤◌, pos, ◌*ℤ◌, Bool, true, cond, ap, sym, ◌∙◌, inl, inr, arith, List, length, get_or, slice_index, All}
+use Rattle.std.specs.List.Sorted.{IsStrictlyIncreasing}
+use Rattle.std.proofs.lemmas.Bool.{cases_Bool}
+use Rattle.std.proofs.lemmas.List.{ext_get_or}
+use Rattle.graph_theory.specs.Graph.{Multigraph, IsEdgeNumber, edge_at, weight}
+use Rattle.graph_theory.specs.Parts.{holds}
+use Rattle.graph_theory.specs.Walk.{walk_weight}
+use Rattle.graph_theory.proofs.SumLemmas.{int_sum_to-same}
+use Rattle.graph_theory.proofs.Members.{holds_at}
+use Rattle.mb_problem.specs.Joins.{listed_counts}
+use Rattle.mb_problem.proofs.JoinLemmas.{listed-length, listed-at}
+use Rattle.gadget_base.specs.Listed.{times}
+use Rattle.gadget_base.proofs.Listed.{times-weight}
+use Rattle.gadget_base.proofs.BlockSums.{test-small}
+use Rattle.gadget_base.proofs.Times.{held-times, ascending-times}
+
+pub listed-small : (es : List ℕ) (m k : ℕ) → k < m → slice_index (listed_counts es m) k ≤ 1
+listed-small es m k b = let is = listed-at es m k 0 b in omega (arith, is, test-small (holds es (k + 1)))
+
+pub listed-is : (counts es : List ℕ) (m : ℕ) → length counts ≡ m → ((k : ℕ) → k < m → slice_index counts k ≡ cond (holds es (k + 1)) 1 0) → counts ≡ listed_counts es m
+listed-is counts es m size each =
+    ext_get_or 0 counts (listed_counts es m) (size ∙ sym (listed-length es m)) (λ k b. let below : k < m = omega (arith, size, b) in each k below ∙ sym (listed-at es m k 0 below))
+
+-- they weigh what the list does
+pub listed-weight : (g : Multigraph) (es : List ℕ) → IsStrictlyIncreasing es → All (IsEdgeNumber g) es → weight g (listed_counts es (length g.edges)) ≡ walk_weight g es
+listed-weight g es up numbers =
+    int_sum_to-same (λ k. pos (slice_index (listed_counts es (length g.edges)) k) *ℤ (edge_at g k).w) (λ k. pos (times es (k + 1)) *ℤ (edge_at g k).w) (length g.edges)
+    (λ k b. ap (λ (c : ℕ). pos c *ℤ (edge_at g k).w) (listed-at es (length g.edges) k 0 b ∙ sym (ascending-times es (k + 1) up)))
+    ∙ times-weight g es numbers
+
+-- a walk that uses no edge more often than the list is within it
+pub within-listed : (g : Multigraph) (join way : List ℕ) (m : ℕ) → m ≡ length g.edges → All (IsEdgeNumber g) way → ((k : ℕ) → k < length g.edges → times way (k + 1) ≤ slice_index (listed_counts join m) k) → All (λ e. holds join e ≡ true) way
+within-listed g join way m size numbers below k d b =
+    let e = get_or way k d in
+    let is : IsEdgeNumber g e = numbers k d b in
+    let low : 1 ≤ e = is.0 in
+    let high : e ≤ length g.edges = is.1 in
+    let here : e - 1 + 1 ≡ e = omega arith in
+    let used : 1 ≤ times way e = held-times way e (holds_at way k d b) in
+    let most = below (e - 1) (omega arith) in
+    let count = listed-at join m (e - 1) 0 (omega (arith, size)) in
+    let again : times way (e - 1 + 1) ≡ times way e = ap (times way) here in
+    let test : cond {A = ℕ} (holds join (e - 1 + 1)) 1 0 ≡ cond {A = ℕ} (holds join e) 1 0 = ap (λ (x : ℕ). cond {A = ℕ} (holds join x) 1 0) here in
+    elim (cases_Bool (holds join e)) [
+      | inl on ↦ on
+      | inr off ↦ let none : cond {A = ℕ} (holds join e) 1 0 ≡ 0 = ap (λ (t : Bool). cond {A = ℕ} t 1 0) off in absurd (omega (arith, used, most, count, again, test, none))
+    ]
