@@ -2,7 +2,8 @@ ghost use Rattle.std.specs.Prelude.{◌≡◌, ◌+◌, ◌<◌, ◌≤◌, ◌^
 ghost use Rattle.graph_theory.specs.Limits.{IsWithinLimits};
 ghost use Rattle.mb_problem.specs.Size.{size_of};
 ghost use Rattle.dimacs_read.specs.Ready.{IsReady};
-ghost use Rattle.match_cli.specs.Lines.{rejected_line};
+ghost use Rattle.match_cli.specs.Codes.{status_of};
+ghost use Rattle.match_cli.specs.Lines.{rejected_line, verdict_line};
 ghost use Rattle.match_cli.specs.Answers.{Decides};
 ghost use Rattle.match_cli.specs.Checking.{DecidesDocument, DecidesRest, DecidesInstance};
 
@@ -34,6 +35,17 @@ fn accepted(alloc: Global) -> Result<Answer, OutOfMemory>
     Ok(Answer { text, status })
 }
 
+/// The answer to a verdict.
+pub fn judged(alloc: Global, verdict: Verdict) -> Result<Answer, OutOfMemory>
+    ensures text { IfOk result (λ a. a.text.items ≡ verdict_line verdict) }
+    ensures status { IfOk result (λ a. a.status ≡ status_of verdict) }
+{
+    match verdict {
+        Verdict::Accepted => accepted(alloc),
+        Verdict::Rejected { rule, line } => rejected(alloc, rule, line),
+    }
+}
+
 /// The answer to a document of an instance.
 fn check_document(
     alloc: Global,
@@ -45,10 +57,8 @@ fn check_document(
     requires ready { IsReady kind instance.now }
     ensures { IfOk result (DecidesDocument kind instance.now document.now) }
 {
-    match judge(alloc, instance, kind, document)? {
-        Verdict::Accepted => accepted(alloc),
-        Verdict::Rejected { rule, line } => rejected(alloc, rule, line),
-    }
+    let verdict = judge(alloc, instance, kind, document)?;
+    judged(alloc, verdict)
 }
 
 /// The answer to what follows an instance.
