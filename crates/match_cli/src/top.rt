@@ -105,13 +105,13 @@ fn prepare<I: Source, L: Ledger>(
     }
 }
 
-/// Does what the words of the command line say: reads the source to its end, and writes the answer
-/// to the sink. The words are the program's name and then those of a command: `check` and the name of
-/// a kind, which judges the document that follows an instance; `solve` and the name of a kind,
-/// which solves an instance (Schrijver, Combinatorial Optimization, volume A, chapters 24 to 33); or
-/// `trial`, the name of a kind and three numbers, which reads nothing: it makes an instance, solves it, and
-/// writes the size of the graph of its certificates, what its document states and the verdict on that.
-/// With `--brief` before or after the kind, `solve` writes the answer without what proves it.
+/// Does what the words of the command line say, and writes the answer to the sink. The words are the
+/// program's name and then those of a command. `check` and the name of a kind judges the document that
+/// follows an instance, `solve` and the name of a kind solves an instance (Schrijver, Combinatorial
+/// Optimization, volume A, chapters 24 to 33): these two read the source to its end. With `--brief`
+/// before or after the kind, `solve` writes the answer without what proves it. `trial`, the name of a
+/// kind and three numbers reads nothing: it makes an instance, solves it, and writes the size of the graph
+/// of its certificates, what its document states, and the verdict on that document.
 ///
 /// The whole answer stands ready before the first write, so want of memory leaves the sink untouched.
 ///

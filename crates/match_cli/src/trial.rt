@@ -12,9 +12,9 @@ ghost use Rattle.match_cli.specs.Lines.{statement_line};
 ghost use Rattle.match_cli.specs.Trying.{trial_text, IsTried, DecidesTrial};
 
 use crate::answer::{Answer, line_of_size};
-use crate::check::judged;
 use crate::refusal::{is_within_limits, too_large};
 use crate::status::Status;
+use crate::verdict::judged;
 use command_words::Command;
 use doc_format::{DocStatus, Document};
 use inst_gen::make;
