@@ -7,7 +7,9 @@ import tempfile
 
 INSTANCE = b"p edge 2 1\ne 1 2 5\n"
 ACCEPTED = INSTANCE + b"s OPTIMAL perfect 5\nx 1 1\ny 1 5\ny 2 5\n"
-COMMANDS = ((["solve", "perfect"], INSTANCE), (["check", "perfect"], ACCEPTED), (["check", "perfect"], b"p edge 0\n"), (["no command"], b""))
+TRIAL = ["trial", "perfect", "1", "0", "0"]
+TRIED = b"g 0 0\ns OPTIMAL perfect 0\ns ACCEPTED\n"
+COMMANDS = ((["solve", "perfect"], INSTANCE), (["check", "perfect"], ACCEPTED), (["check", "perfect"], b"p edge 0\n"), (TRIAL, b""), (["no command"], b""))
 
 
 def full_device(program, tests):
@@ -29,12 +31,22 @@ def closed_output(program, tests):
 
 
 def unreadable_input(program, tests):
-    """A read that fails is answered, with nothing written; words that are no command don't read."""
-    for words, status, output in ((["solve", "perfect"], 6, b""), (["check", "path"], 6, b""), (["check"], 2, b"s USAGE\n")):
+    """A read that fails is answered, with nothing written; a trial, and words that are no command, don't read."""
+    for words, status, output in ((["solve", "perfect"], 6, b""), (["check", "path"], 6, b""), (TRIAL, 0, TRIED), (["check"], 2, b"s USAGE\n")):
         folder = os.open(tempfile.gettempdir(), os.O_RDONLY)
         done = subprocess.run([program] + words, stdin=folder, capture_output=True)
         os.close(folder)
         tests.compare("a directory as standard input: " + " ".join(words), b"", (status, output, b""), (done.returncode, done.stdout, done.stderr))
+
+
+def untouched_input(program, tests):
+    """A file as standard input is read to its end, but by a trial, and for words that are no command, not at all."""
+    for words, left in ((["check", "perfect"], 0), (TRIAL, len(ACCEPTED)), (["check"], len(ACCEPTED))):
+        with tempfile.TemporaryFile(buffering=0) as file:
+            file.write(ACCEPTED)
+            file.seek(0)
+            subprocess.run([program] + words, stdin=file, capture_output=True)
+            tests.compare("what is left of standard input: " + " ".join(words), ACCEPTED, left, len(file.read()))
 
 
 def little_memory(program, tests):
@@ -56,5 +68,5 @@ def names_of_bytes(program, tests):
 
 
 def check(program, tests):
-    for part in (full_device, closed_output, unreadable_input, little_memory, names_of_bytes):
+    for part in (full_device, closed_output, unreadable_input, untouched_input, little_memory, names_of_bytes):
         part(program, tests)

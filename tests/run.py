@@ -12,6 +12,7 @@ import subprocess
 import sys
 
 import launcher
+import made
 import mutate
 import plain_checker
 import plain_solver
@@ -230,9 +231,31 @@ def large_instances(tests):
         tests.expect(name + ", checked", ["check", kind], (text + output).encode(), "s ACCEPTED\n", 0)
 
 
+def trials(tests):
+    """Small made instances are told as their rule, trying all and the plain graph of certificates say."""
+    for kind in made.KINDS:
+        for start, (n, m) in itertools.product((0, 1, 12, 2**64 - 1), ((0, 0), (1, 0), (2, 0), (2, 1), (2, 3), (3, 2), (4, 6), (5, 8), (6, 9), (8, 13))):
+            if n >= 2 or kind != "path":
+                output, status = made.answer_of(kind, start, n, m)
+                words = ["trial", kind, str(start), str(n), str(m)]
+                tests.expect(" ".join(words), words, b"", output, status)
+
+
+def large_trials(tests):
+    """What is stated of a larger made instance is what `solve` states of it as a text."""
+    for kind, n, m in (("perfect", 100, 400), ("match", 60, 150), ("bmatch", 30, 90), ("capmatch", 14, 40),
+                       ("ffactor", 20, 60), ("tjoin", 40, 100), ("postman", 40, 80), ("path", 30, 80)):
+        edges, values = made.made(kind, 5, n, m)
+        text = plain_solver.instance(edges, values)
+        _, solved, _ = run(["solve", kind], text.encode())
+        words = ["trial", kind, "5", str(n), str(m)]
+        size = "g %d %d" % made.graph_size(kind, edges, values)
+        tests.expect(" ".join(words), words, b"", "\n".join([size, solved.split("\n")[0], "s ACCEPTED"]) + "\n", 0)
+
+
 PROGRAM = os.path.abspath(sys.argv[1])
 TESTS = Tests()
-for part in (cases, cut_files, hostile_input, words, examples, documents, changed_documents, long_input, solved, large_instances):
+for part in (cases, cut_files, hostile_input, words, examples, documents, changed_documents, long_input, solved, large_instances, trials, large_trials):
     part(TESTS)
 process_ends.check(PROGRAM, TESTS)
 launcher.check(TESTS)

@@ -1,5 +1,6 @@
 -- What `solve` wrote in full is accepted by `check` where it follows the input.
 use Rattle.std.proofs.Common.{◌≡◌, ℕ, ◌≤◌, false, List, [], ◌∷◌, ◌++◌, length, Option, None, Some, refl, sym, ap, subst, ◌∙◌, arith}
+use Rattle.std.specs.Prelude.{IfSome}
 use Rattle.std.proofs.lemmas.List.{length-append, append_cancel_left}
 use Rattle.std.proofs.lemmas.Option.{same_Some}
 use Rattle.mb_base.specs.Rows.{Row, rows}
@@ -23,9 +24,10 @@ use Rattle.match_cli.specs.declared.status.Status.TheVariants.{Done, Rejected, U
 use Rattle.match_cli.specs.declared.limits.TheConstants.{SOLVE_BYTE_LIMIT}
 use Rattle.command_words.specs.declared.command.Command.{Command}
 use Rattle.command_words.specs.declared.command.Command.TheVariants.{Check, Solve}
-use Rattle.match_cli.specs.Commands.{limit_of}
+use Rattle.command_words.specs.Commands.{command_of}
+use Rattle.match_cli.specs.Commands.{IsShort, given}
 use Rattle.match_cli.specs.Solving.{Solves}
-use Rattle.match_cli.specs.Answers.{instance_part, document_part, document_line, InputHolds, InputStates, Accepts, HoldsAlone, Answers, DecidesSolve}
+use Rattle.match_cli.specs.Answers.{instance_part, document_part, document_line, InputHolds, InputStates, Accepts, HoldsAlone, Answers, Out, DecidesSolve}
 use Rattle.match_cli.specs.Runs.{IsAnswer, EndsLine, IsAccepted, IsAcceptedAgain}
 use Rattle.match_cli.proofs.CommandLines.{check_named}
 use Rattle.match_cli.proofs.InputParts.{rows-both, after-both, instance-alone, instance-before}
@@ -96,9 +98,11 @@ again_of words None after taken_before taken_after out h extends = tt
 again_of words (Some bytes) after None taken_after out h extends = tt
 again_of words (Some bytes) after (Some xs) None out h extends = tt
 again_of words (Some bytes) after (Some xs) (Some ys) out h extends = λ kind written solves ends is.
-    (let named : h.0.0 ≡ Solve kind false = same_Some h.0.0 (Solve kind false) (sym h.0.1 ∙ solves) in
-    let answers : Answers (Solve kind false) bytes out Done = subst (λ (c : Command). Answers c bytes out Done) named h.0.3 in
-    let short : length bytes ≤ SOLVE_BYTE_LIMIT = subst (λ (c : Command). length bytes ≤ limit_of c) named h.0.2 in
+    (let source : given (command_of words) (Some bytes) ≡ Some bytes = rw solves refl in
+    let says : Out words bytes out Done = subst (λ (o : Option (List ℕ)). IfSome o (λ (b : List ℕ). Out words b out Done)) source h.0 in
+    let named : says.0 ≡ Solve kind false = same_Some says.0 (Solve kind false) (sym says.1 ∙ solves) in
+    let answers : Answers (Solve kind false) bytes out Done = subst (λ (c : Command). Answers c bytes out Done) named says.3 in
+    let short : length bytes ≤ SOLVE_BYTE_LIMIT = subst (λ (c : Command). IsShort c bytes) named says.2 in
     let same : out ≡ written = append_cancel_left xs out written (sym extends ∙ is) in
     subst (λ (o : List ℕ). IsAccepted kind bytes o) same (solved_is_accepted kind bytes out short ends answers))
 

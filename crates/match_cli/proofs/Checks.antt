@@ -14,12 +14,21 @@ use Rattle.dimacs_read.specs.Rest.{IsRest}
 use Rattle.doc_format.specs.declared.document.Document.{Document}
 use Rattle.doc_format.specs.Reading.{HoldsDocument, IsFirstRefused}
 use Rattle.cert_check.specs.declared.rule.DocRule.TheVariants.{DocForm}
-use Rattle.match_cli.specs.Lines.{rejected_line}
+use Rattle.cert_check.specs.declared.rule.Verdict.{Verdict}
+use Rattle.cert_check.specs.declared.rule.Verdict.TheVariants as verdict
+use Rattle.cert_check.specs.Verdicts.{IsVerdict}
+use Rattle.certificates.specs.Proved.{StatesTruth}
+use Rattle.match_cli.specs.Lines.{rejected_line, verdict_line}
+use Rattle.match_cli.specs.Codes.{status_of}
 use Rattle.match_cli.specs.declared.status.Status.{Status}
 use Rattle.match_cli.specs.declared.status.Status.TheVariants.{Done, Rejected, Usage, Malformed, TooLarge, TooLong, ReadFault, WriteFault, OutOfMemory}
 use Rattle.match_cli.specs.declared.answer.Answer.{Answer}
 use Rattle.match_cli.specs.Checking.{DocumentAnswer, DecidesDocument, RestAnswer, DecidesRest, InstanceAnswer, DecidesInstance}
 use Rattle.match_cli.specs.Answers.{InputHolds, Decides, document_part, document_line}
+
+document_of_verdict : (kind : Kind) (i : Network) (d : Document) (v : Verdict) → IsVerdict kind i d v → (v ≡ verdict.Accepted → StatesTruth kind i d) → DocumentAnswer kind i d (verdict_line v) (status_of v)
+document_of_verdict kind i d verdict.Accepted is sound = (is, sound refl, refl)
+document_of_verdict kind i d (verdict.Rejected rule line) is sound = (rule, line, is, refl)
 
 rest_of_document : (kind : Kind) (i : Network) (n : ℕ) (bytes : List ℕ) (d : Document) (out : List ℕ) (status : Status) → HoldsDocument n (rows bytes) d → DocumentAnswer kind i d out status → RestAnswer kind i n bytes out status
 rest_of_document kind i n bytes d out Done h a = (d, h, a.0, a.1, a.2)
@@ -57,6 +66,10 @@ decides_from kind bytes i out OutOfMemory h a = absurd a.1
 pub if_ok-map : {A E : Type 0} (P Q : A → Type 0) (r : Result A E) → ((a : A) → P a → Q a) → IfOk r P → IfOk r Q
 if_ok-map P Q (Ok a) f h = f a h
 if_ok-map P Q (Err e) f h = tt
+
+pub document_answers : (kind : Kind) (i : Network) (d : Document) (v : Verdict) {E : Type 0} (r : Result Answer E) → IsVerdict kind i d v → (v ≡ verdict.Accepted → StatesTruth kind i d) → IfOk r (λ a. a.text.items ≡ verdict_line v) → IfOk r (λ a. a.status ≡ status_of v) → IfOk r (DecidesDocument kind i d)
+document_answers kind i d v (Ok a) is sound text status = subst (λ (out : List ℕ). DocumentAnswer kind i d out a.status) (sym text) (subst (λ (s : Status). DocumentAnswer kind i d (verdict_line v) s) (sym status) (document_of_verdict kind i d v is sound))
+document_answers kind i d v (Err e) is sound text status = tt
 
 pub rest_answers : (kind : Kind) (i : Network) (n : ℕ) (bytes : List ℕ) (d : Document) {E : Type 0} (r : Result Answer E) → HoldsDocument n (rows bytes) d → IfOk r (DecidesDocument kind i d) → IfOk r (DecidesRest kind i n bytes)
 rest_answers kind i n bytes d r h = if_ok-map (DecidesDocument kind i d) (DecidesRest kind i n bytes) r (λ a. rest_of_document kind i n bytes d a.text.items a.status h)

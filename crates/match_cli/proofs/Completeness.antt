@@ -1,5 +1,6 @@
 -- Every input within the limits is answered: no refusal is for it.
-use Rattle.std.proofs.Common.{◌≡◌, ℕ, ◌<◌, ◌≤◌, List, [], length, Option, None, Some, inl, inr, sym, subst, ◌∙◌, arith}
+use Rattle.std.proofs.Common.{◌≡◌, ℕ, ◌<◌, ◌≤◌, List, [], length, Option, None, Some, inl, inr, sym, ap, subst, ◌∙◌, arith}
+use Rattle.std.specs.Prelude.{IfSome}
 use Rattle.std.proofs.lemmas.Option.{same_Some}
 use Rattle.mb_problem.specs.declared.kind.Kind.{Kind}
 use Rattle.mb_problem.specs.Network.{Network}
@@ -11,7 +12,8 @@ use Rattle.match_cli.specs.declared.status.Status.{Status}
 use Rattle.match_cli.specs.declared.status.Status.TheVariants.{Done, Rejected, Usage, Malformed, TooLarge, TooLong, ReadFault, WriteFault, OutOfMemory}
 use Rattle.command_words.specs.declared.command.Command.{Command}
 use Rattle.command_words.specs.declared.command.Command.TheVariants.{Check, Solve, Trial}
-use Rattle.match_cli.specs.Commands.{command_of, limit_of}
+use Rattle.command_words.specs.Commands.{command_of}
+use Rattle.match_cli.specs.Commands.{limit_of, IsShort, given}
 use Rattle.match_cli.specs.Answers.{instance_part, document_part, answer_place, InputHolds, RefusesInput, Answers, Out}
 use Rattle.match_cli.specs.Runs.{IsAnswer, IsInput, MayReject, IsAnswered, Completes}
 use Rattle.match_cli.proofs.InputParts.{place_none}
@@ -38,15 +40,18 @@ not_malformed (Trial kind start n m) bytes out i input h = h
 not_large : (command : Command) (bytes out : List ℕ) (i : Network) → IsInput command bytes i → Answers command bytes out TooLarge → ⊥
 not_large (Check kind) bytes out i input h = not_too_large kind bytes i h.0 input.holds input.fits h.1 h.2
 not_large (Solve kind brief) bytes out i input h = not_too_large kind bytes i h.0 input.holds input.fits h.1.holds h.2
-not_large (Trial kind start n m) bytes out i input h = h
+not_large (Trial kind start n m) bytes out i input h = h.0 (subst (λ (j : Network). IsWithinLimits (size_of kind j)) input.holds input.fits)
 
 may_reject : (command : Command) (bytes out : List ℕ) → Answers command bytes out Rejected → MayReject command
 may_reject (Check kind) bytes out h = tt
 may_reject (Solve kind brief) bytes out h = h
 may_reject (Trial kind start n m) bytes out h = h
 
-not_long : (command other : Command) (bytes : List ℕ) → other ≡ command → length bytes ≤ limit_of command → limit_of other < length bytes → ⊥
-not_long command other bytes same short long = (let past : limit_of command < length bytes = subst (λ (c : Command). limit_of c < length bytes) same long in omega (arith, short, past))
+not_long : (command other : Command) (limit : ℕ) (bytes : List ℕ) → other ≡ command → IsShort command bytes → limit_of other ≡ Some limit → limit < length bytes → ⊥
+not_long command other limit bytes same short reads long =
+    let here : limit_of command ≡ Some limit = sym (ap limit_of same) ∙ reads in
+    let fits : length bytes ≤ limit = subst (λ (o : Option ℕ). IfSome o (λ most. length bytes ≤ most)) here short in
+    omega (arith, fits, long)
 
 module _ (words : List (List ℕ)) (command : Command) (bytes out : List ℕ) (i : Network) (taken : command_of words ≡ Some command) (input : IsInput command bytes i) where
   same_as : (other : Command) → command_of words ≡ Some other → other ≡ command
@@ -58,11 +63,14 @@ module _ (words : List (List ℕ)) (command : Command) (bytes out : List ℕ) (i
   answered Usage h = no_command words command h.0 taken
   answered Malformed h = not_malformed command bytes out i input (subst (λ (c : Command). Answers c bytes out Malformed) (same_as h.0 h.1) h.3)
   answered TooLarge h = not_large command bytes out i input (subst (λ (c : Command). Answers c bytes out TooLarge) (same_as h.0 h.1) h.3)
-  answered TooLong h = not_long command h.0 bytes (same_as h.0 h.1) input.short h.2
+  answered TooLong h = not_long command h.1.0 h.0 bytes (same_as h.1.0 h.1.1) input.short h.1.2 h.2
   answered ReadFault h = tt
   answered WriteFault h = tt
   answered OutOfMemory h = tt
 
+completes_given : (words : List (List ℕ)) (o : Option (List ℕ)) (out : List ℕ) (status : Status) → IfSome o (λ bytes. Out words bytes out status) → IfSome o (λ bytes. (command : Command) (i : Network) → command_of words ≡ Some command → IsInput command bytes i → IsAnswered command status)
+completes_given words None out status h = tt
+completes_given words (Some bytes) out status h = λ command i taken input. answered words command bytes out i taken input status h
+
 pub completes : (words : List (List ℕ)) (before after : Option (List ℕ)) (out : List ℕ) (status : Status) → IsAnswer words before after out status → Completes words before status
-completes words None after out status h = tt
-completes words (Some bytes) after out status h = λ command i taken input. answered words command bytes out i taken input status h.0
+completes words before after out status h = completes_given words (given (command_of words) before) out status h.0

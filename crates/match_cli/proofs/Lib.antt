@@ -1,9 +1,10 @@
 pub mod Checks
+pub mod CommandLines
 pub mod Prepares
 pub mod InputParts
-pub mod CommandLines
 pub mod AcceptedAgain
 pub mod StepCounts
 pub mod SolveAnswers
+pub mod TrialAnswers
 pub mod Completeness
 pub mod RunEnds

@@ -1,8 +1,8 @@
 -- What the bytes that were read decide is the answer to the source's bytes.
-use Rattle.std.proofs.Common.{◌≡◌, ℕ, ◌+◌, ◌<◌, ◌≤◌, List, [], ◌++◌, length, Option, Some, None, sym, ap, subst, ◌∙◌, append-nil, arith}
+use Rattle.std.proofs.Common.{◌≡◌, ℕ, ◌+◌, ◌<◌, ◌≤◌, List, [], ◌++◌, length, Option, Some, None, refl, sym, ap, subst, ◌∙◌, append-nil, arith}
 use Rattle.std.specs.Io.KnownBytes.{Consumes, IsAtEnd}
 use Rattle.std.specs.Global.{Vec}
-use Rattle.std.specs.Prelude.{Result, Ok, Err, codes, drop}
+use Rattle.std.specs.Prelude.{Result, Ok, Err, codes, drop, IfSome, IfOk, IfErr}
 use Rattle.std.proofs.lemmas.List.{length-append, drop_at}
 use Rattle.mb_base.specs.Streams.{ReadsAll}
 use Rattle.mb_base.specs.declared.whole.ReadAll.{ReadAll}
@@ -15,9 +15,11 @@ use Rattle.match_cli.specs.declared.status.Status.{Status}
 use Rattle.match_cli.specs.declared.status.Status.TheVariants.{Done, Rejected, Usage, Malformed, TooLarge, TooLong, ReadFault, WriteFault, OutOfMemory}
 use Rattle.command_words.specs.declared.command.Command.{Command}
 use Rattle.command_words.specs.declared.command.Command.TheVariants.{Check, Solve, Trial}
-use Rattle.match_cli.specs.Commands.{command_of, limit_of}
-use Rattle.match_cli.specs.Answers.{Answers}
-use Rattle.match_cli.specs.Runs.{IsAnswer, IsUsage, IsWritten, Spends, IsTrueBy, TellsTruth}
+use Rattle.command_words.specs.Commands.{command_of}
+use Rattle.match_cli.specs.Commands.{limit_of, IsShort, ReadsUpTo, given}
+use Rattle.match_cli.specs.Answers.{Answers, Out}
+use Rattle.match_cli.specs.Runs.{IsAnswer, IsUsage, IsWritten, left_by, Spends, IsTrueBy, TellsTruth}
+use Rattle.match_cli.proofs.CommandLines.{given_source, given_none, short-reading, short-unread, left-reading, left-unread}
 
 -- all bytes were read
 all_read : (xs ys bytes : List ℕ) → xs ≡ bytes ++ ys → ys ≡ [] → bytes ≡ xs
@@ -52,41 +54,67 @@ decided (Trial kind start n m) bytes out ReadFault h = h
 decided (Trial kind start n m) bytes out WriteFault h = h
 decided (Trial kind start n m) bytes out OutOfMemory h = h
 
-module _ (words : List (List ℕ)) (command : Command) (out bytes : List ℕ) (taken : command_of words ≡ Some command) (fits : length bytes ≤ limit_of command) where
-  answers_Done : (before after : Option (List ℕ)) → Consumes before after bytes → IsAtEnd after → Answers command bytes out Done → IsAnswer words before after out Done
-  answers_Done None after consumed end h = tt
-  answers_Done (Some xs) None consumed end h = absurd consumed
-  answers_Done (Some xs) (Some ys) consumed end h =
-      subst (λ (b : List ℕ). ((c : Command) × (command_of words ≡ Some c) × (length b ≤ limit_of c) × Answers c b out Done) × Spends words b (Some ys) Done) (all_read xs ys bytes consumed end) ((command, taken, fits, h), ap (λ l. Some l) end)
+-- ---- what a command decided on
 
-  answers_Rejected : (before after : Option (List ℕ)) → Consumes before after bytes → IsAtEnd after → Answers command bytes out Rejected → IsAnswer words before after out Rejected
-  answers_Rejected None after consumed end h = tt
-  answers_Rejected (Some xs) None consumed end h = absurd consumed
-  answers_Rejected (Some xs) (Some ys) consumed end h =
-      subst (λ (b : List ℕ). ((c : Command) × (command_of words ≡ Some c) × (length b ≤ limit_of c) × Answers c b out Rejected) × Spends words b (Some ys) Rejected) (all_read xs ys bytes consumed end) ((command, taken, fits, h), ap (λ l. Some l) end)
+abbrev Says : List (List ℕ) → List ℕ → List ℕ → Status → Type 0
+Says words bytes out status = (command : Command) × (command_of words ≡ Some command) × IsShort command bytes × Answers command bytes out status
 
-  answers_Malformed : (before after : Option (List ℕ)) → Consumes before after bytes → IsAtEnd after → Answers command bytes out Malformed → IsAnswer words before after out Malformed
-  answers_Malformed None after consumed end h = tt
-  answers_Malformed (Some xs) None consumed end h = absurd consumed
-  answers_Malformed (Some xs) (Some ys) consumed end h =
-      subst (λ (b : List ℕ). ((c : Command) × (command_of words ≡ Some c) × (length b ≤ limit_of c) × Answers c b out Malformed) × Spends words b (Some ys) Malformed) (all_read xs ys bytes consumed end) ((command, taken, fits, h), ap (λ l. Some l) end)
+abbrev Leaves : List (List ℕ) → List ℕ → Option (List ℕ) → Type 0
+Leaves words bytes left = (command : Command) × (command_of words ≡ Some command) × (left ≡ Some (left_by command bytes))
 
-  answers_TooLarge : (before after : Option (List ℕ)) → Consumes before after bytes → IsAtEnd after → Answers command bytes out TooLarge → IsAnswer words before after out TooLarge
-  answers_TooLarge None after consumed end h = tt
-  answers_TooLarge (Some xs) None consumed end h = absurd consumed
-  answers_TooLarge (Some xs) (Some ys) consumed end h =
-      subst (λ (b : List ℕ). ((c : Command) × (command_of words ≡ Some c) × (length b ≤ limit_of c) × Answers c b out TooLarge) × Spends words b (Some ys) TooLarge) (all_read xs ys bytes consumed end) ((command, taken, fits, h), ap (λ l. Some l) end)
+abbrev IsCommanded : List (List ℕ) → Option (List ℕ) → Option (List ℕ) → List ℕ → Status → Type 0
+IsCommanded words before after out status = IfSome (given (command_of words) before) (λ bytes. Says words bytes out status) × IfSome before (λ bytes. Leaves words bytes after)
+
+by_status : (words : List (List ℕ)) (command : Command) (bytes out : List ℕ) (before after : Option (List ℕ)) (status : Status) → Answers command bytes out status → IsCommanded words before after out status → IsWritten status × IsAnswer words before after out status
+by_status words command bytes out before after Done h is = (tt, is)
+by_status words command bytes out before after Rejected h is = (tt, is)
+by_status words command bytes out before after Malformed h is = (tt, is)
+by_status words command bytes out before after TooLarge h is = (tt, is)
+by_status words command bytes out before after Usage h is = absurd (decided command bytes out Usage h)
+by_status words command bytes out before after TooLong h is = absurd (decided command bytes out TooLong h)
+by_status words command bytes out before after ReadFault h is = absurd (decided command bytes out ReadFault h)
+by_status words command bytes out before after WriteFault h is = absurd (decided command bytes out WriteFault h)
+by_status words command bytes out before after OutOfMemory h is = absurd (decided command bytes out OutOfMemory h)
+
+-- a command that reads: all bytes of the source were read
+module _ (words : List (List ℕ)) (command : Command) (limit : ℕ) (out bytes : List ℕ) (taken : command_of words ≡ Some command) (reads : limit_of command ≡ Some limit) (fits : length bytes ≤ limit) where
+  says : (before after : Option (List ℕ)) (status : Status) → Consumes before after bytes → IsAtEnd after → Answers command bytes out status → IfSome before (λ b. Says words b out status)
+  says None after status consumed end h = tt
+  says (Some xs) None status consumed end h = absurd consumed
+  says (Some xs) (Some ys) status consumed end h =
+      subst (λ (b : List ℕ). Says words b out status) (all_read xs ys bytes consumed end) (command, taken, short-reading command limit bytes reads fits, h)
+
+  leaves : (before after : Option (List ℕ)) → Consumes before after bytes → IsAtEnd after → IfSome before (λ b. Leaves words b after)
+  leaves None after consumed end = tt
+  leaves (Some xs) None consumed end = absurd consumed
+  leaves (Some xs) (Some ys) consumed end = (command, taken, ap (λ l. Some l) (end ∙ sym (left-reading command limit xs reads)))
 
   pub is_answer : (before after : Option (List ℕ)) (status : Status) → Consumes before after bytes → IsAtEnd after → Answers command bytes out status → IsWritten status × IsAnswer words before after out status
-  is_answer before after Done consumed end h = (tt, answers_Done before after consumed end h)
-  is_answer before after Rejected consumed end h = (tt, answers_Rejected before after consumed end h)
-  is_answer before after Malformed consumed end h = (tt, answers_Malformed before after consumed end h)
-  is_answer before after TooLarge consumed end h = (tt, answers_TooLarge before after consumed end h)
-  is_answer before after Usage consumed end h = absurd (decided command bytes out Usage h)
-  is_answer before after TooLong consumed end h = absurd (decided command bytes out TooLong h)
-  is_answer before after ReadFault consumed end h = absurd (decided command bytes out ReadFault h)
-  is_answer before after WriteFault consumed end h = absurd (decided command bytes out WriteFault h)
-  is_answer before after OutOfMemory consumed end h = absurd (decided command bytes out OutOfMemory h)
+  is_answer before after status consumed end h =
+      let said : IfSome (given (command_of words) before) (λ b. Says words b out status) = subst (λ (o : Option (List ℕ)). IfSome o (λ b. Says words b out status)) (sym (given_source words command limit before taken reads)) (says before after status consumed end h) in
+      by_status words command bytes out before after status h (said, leaves before after consumed end)
+
+-- a command that reads nothing
+module _ (words : List (List ℕ)) (command : Command) (out : List ℕ) (taken : command_of words ≡ Some command) (unread : limit_of command ≡ None) where
+  leaves_all : (before : Option (List ℕ)) → IfSome before (λ b. Leaves words b before)
+  leaves_all None = tt
+  leaves_all (Some xs) = (command, taken, ap (λ l. Some l) (sym (left-unread command xs unread)))
+
+  pub is_answer_unread : (before : Option (List ℕ)) (status : Status) → Answers command [] out status → IsWritten status × IsAnswer words before before out status
+  is_answer_unread before status h =
+      let said : IfSome (given (command_of words) before) (λ b. Says words b out status) = subst (λ (o : Option (List ℕ)). IfSome o (λ b. Says words b out status)) (sym (given_none words command before taken unread)) (command, taken, short-unread command [] unread, h) in
+      by_status words command [] out before before status h (said, leaves_all before)
+
+-- a command is decided on, or memory is wanting
+pub answered_reading : (words : List (List ℕ)) (command : Command) (limit : ℕ) (bytes : List ℕ) (before after : Option (List ℕ)) → command_of words ≡ Some command → limit_of command ≡ Some limit → length bytes ≤ limit → Consumes before after bytes → IsAtEnd after → (r : Result Answer Stop) → IfOk r (λ a. Answers command bytes a.text.items a.status) → IfErr r (λ s. s ≡ stop.OutOfMemory) → Prepares words before after r
+answered_reading words command limit bytes before after taken reads fits consumed end (Ok a) h memory = is_answer words command limit a.text.items bytes taken reads fits before after a.status consumed end h
+answered_reading words command limit bytes before after taken reads fits consumed end (Err stop.ReadFault) h memory = absurd cc
+answered_reading words command limit bytes before after taken reads fits consumed end (Err stop.OutOfMemory) h memory = tt
+
+pub answered_unread : (words : List (List ℕ)) (command : Command) (before : Option (List ℕ)) → command_of words ≡ Some command → limit_of command ≡ None → (r : Result Answer Stop) → IfOk r (λ a. Answers command [] a.text.items a.status) → IfErr r (λ s. s ≡ stop.OutOfMemory) → Prepares words before before r
+answered_unread words command before taken unread (Ok a) h memory = is_answer_unread words command a.text.items taken unread before a.status h
+answered_unread words command before taken unread (Err stop.ReadFault) h memory = absurd cc
+answered_unread words command before taken unread (Err stop.OutOfMemory) h memory = tt
 
 -- the words of a command are no usage
 pub is_command : (words : List (List ℕ)) (command : Command) (bytes out : List ℕ) (status : Status) → command_of words ≡ Some command → Answers command bytes out status → IsUsage words status
@@ -108,35 +136,51 @@ long_input limit xs ys bytes e size =
     let whole = ap length e in
     (omega (arith, sum, whole, size), sym (ap (drop (limit + 1)) e ∙ drop_at bytes ys (limit + 1) size))
 
-long_answer : (words : List (List ℕ)) (command : Command) (before after : Option (List ℕ)) (out : List ℕ) → command_of words ≡ Some command → out ≡ codes "s TOOLONG\n" → ReadsAll (limit_of command) before after (Err ending.TooLong) → IsAnswer words before after out TooLong
-long_answer words command None after out taken is h = tt
-long_answer words command (Some xs) None out taken is h = absurd h.2
-long_answer words command (Some xs) (Some ys) out taken is h =
-    let long = long_input (limit_of command) xs ys h.0 h.2 h.1 in
-    ((command, taken, long.0, is), (command, taken, ap (λ l. Some l) long.1))
+long_answer : (words : List (List ℕ)) (limit : ℕ) (before after : Option (List ℕ)) (out : List ℕ) → ReadsUpTo words limit → out ≡ codes "s TOOLONG\n" → ReadsAll limit before after (Err ending.TooLong) → IfSome before (λ bytes. Out words bytes out TooLong) × IfSome before (λ bytes. Spends words bytes after TooLong)
+long_answer words limit None after out reads is h = (tt, tt)
+long_answer words limit (Some xs) None out reads is h = absurd h.2
+long_answer words limit (Some xs) (Some ys) out reads is h =
+    let long = long_input limit xs ys h.0 h.2 h.1 in
+    ((limit, reads, long.0, is), (limit, reads, ap (λ l. Some l) long.1))
 
-long_ready : (words : List (List ℕ)) (command : Command) (before after : Option (List ℕ)) → command_of words ≡ Some command → ReadsAll (limit_of command) before after (Err ending.TooLong) → (r : Result Answer Stop) → Readies (codes "s TOOLONG\n") TooLong r → Prepares words before after r
-long_ready words command before after taken h (Ok a) is = (subst IsWritten (sym is.1) tt, subst (λ (s : Status). IsAnswer words before after a.text.items s) (sym is.1) (long_answer words command before after a.text.items taken is.0 h))
-long_ready words command before after taken h (Err stop.ReadFault) is = absurd is
-long_ready words command before after taken h (Err stop.OutOfMemory) is = tt
+long_given : (words : List (List ℕ)) (limit : ℕ) (before after : Option (List ℕ)) (out : List ℕ) → ReadsUpTo words limit → out ≡ codes "s TOOLONG\n" → ReadsAll limit before after (Err ending.TooLong) → IsAnswer words before after out TooLong
+long_given words limit before after out reads is h =
+    let long = long_answer words limit before after out reads is h in
+    (subst (λ (o : Option (List ℕ)). IfSome o (λ bytes. Out words bytes out TooLong)) (sym (given_source words reads.0 limit before reads.1 reads.2)) long.0, long.1)
 
-pub too_long : (words : List (List ℕ)) (command : Command) (before after : Option (List ℕ)) → command_of words ≡ Some command → (read : Result (Vec ℕ) ReadAll) (e : ReadAll) → read ≡ Err e → e ≡ ending.TooLong → ReadsAll (limit_of command) before after read → (r : Result Answer Stop) → Readies (codes "s TOOLONG\n") TooLong r → Prepares words before after r
-too_long words command before after taken read e fails is h r readied =
-    long_ready words command before after taken (subst (λ (x : Result (Vec ℕ) ReadAll). ReadsAll (limit_of command) before after x) (fails ∙ ap (λ x. Err x) is) h) r readied
+long_ready : (words : List (List ℕ)) (limit : ℕ) (before after : Option (List ℕ)) → ReadsUpTo words limit → ReadsAll limit before after (Err ending.TooLong) → (r : Result Answer Stop) → Readies (codes "s TOOLONG\n") TooLong r → Prepares words before after r
+long_ready words limit before after reads h (Ok a) is = (subst IsWritten (sym is.1) tt, subst (λ (s : Status). IsAnswer words before after a.text.items s) (sym is.1) (long_given words limit before after a.text.items reads is.0 h))
+long_ready words limit before after reads h (Err stop.ReadFault) is = absurd is
+long_ready words limit before after reads h (Err stop.OutOfMemory) is = tt
 
--- ---- what was accepted or written is true
+pub too_long : (words : List (List ℕ)) (limit : ℕ) (before after : Option (List ℕ)) → ReadsUpTo words limit → (read : Result (Vec ℕ) ReadAll) (e : ReadAll) → read ≡ Err e → e ≡ ending.TooLong → ReadsAll limit before after read → (r : Result Answer Stop) → Readies (codes "s TOOLONG\n") TooLong r → Prepares words before after r
+too_long words limit before after reads read e fails is h r readied =
+    long_ready words limit before after reads (subst (λ (x : Result (Vec ℕ) ReadAll). ReadsAll limit before after x) (fails ∙ ap (λ x. Err x) is) h) r readied
+
+-- ---- words that are no command
+
+usage_given : (words : List (List ℕ)) (before : Option (List ℕ)) (out : List ℕ) → command_of words ≡ None → out ≡ codes "s USAGE\n" → IsAnswer words before before out Usage
+usage_given words None out none is = (let e : given (command_of words) None ≡ Some [] = rw none refl in subst (λ (o : Option (List ℕ)). IfSome o (λ bytes. Out words bytes out Usage)) (sym e) (none, is), tt)
+usage_given words (Some xs) out none is = (let e : given (command_of words) (Some xs) ≡ Some [] = rw none refl in subst (λ (o : Option (List ℕ)). IfSome o (λ bytes. Out words bytes out Usage)) (sym e) (none, is), refl)
+
+pub usage_ready : (words : List (List ℕ)) (before : Option (List ℕ)) → command_of words ≡ None → (r : Result Answer Stop) → Readies (codes "s USAGE\n") Usage r → Prepares words before before r
+usage_ready words before none (Ok a) is = (subst IsWritten (sym is.1) tt, subst (λ (s : Status). IsAnswer words before before a.text.items s) (sym is.1) (usage_given words before a.text.items none is.0))
+usage_ready words before none (Err stop.ReadFault) is = absurd is
+usage_ready words before none (Err stop.OutOfMemory) is = tt
+
+-- ---- what was accepted, written or tried is true
 
 truth_by : (command : Command) (bytes out : List ℕ) → Answers command bytes out Done → IsTrueBy command bytes
 truth_by (Check kind) bytes out h = (h.0, h.1, h.2)
 truth_by (Solve kind brief) bytes out h = (h.0, h.1, h.2, h.4)
-truth_by (Trial kind start n m) bytes out h = h
+truth_by (Trial kind start n m) bytes out h = (h.1.0, h.1.1)
 
-truth_of : (words : List (List ℕ)) (before after : Option (List ℕ)) (out : List ℕ) → IsAnswer words before after out Done → TellsTruth words before Done
-truth_of words None after out h = tt
-truth_of words (Some bytes) after out h = (h.0.0, h.0.1, truth_by h.0.0 bytes out h.0.3)
+truth_of : (words : List (List ℕ)) (o : Option (List ℕ)) (out : List ℕ) → IfSome o (λ bytes. Out words bytes out Done) → IfSome o (λ bytes. (command : Command) × (command_of words ≡ Some command) × IsTrueBy command bytes)
+truth_of words None out h = tt
+truth_of words (Some bytes) out h = (h.0, h.1, truth_by h.0 bytes out h.3)
 
 pub tells_truth : (words : List (List ℕ)) (before after : Option (List ℕ)) (out : List ℕ) (status : Status) → IsAnswer words before after out status → TellsTruth words before status
-tells_truth words before after out Done h = truth_of words before after out h
+tells_truth words before after out Done h = truth_of words (given (command_of words) before) out h.0
 tells_truth words before after out Rejected h = tt
 tells_truth words before after out Usage h = tt
 tells_truth words before after out Malformed h = tt

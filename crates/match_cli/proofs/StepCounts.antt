@@ -1,7 +1,8 @@
 -- Where nothing was counted, and what a search counts at most.
-use Rattle.std.proofs.Common.{◌≡◌, ℕ, ◌+◌, ◌*◌, ◌≤◌, List, ◌++◌, Bool, Option, None, Some, Result, Ok, Err, ap, sym, subst, ◌∙◌, append-nil, arith}
+use Rattle.std.proofs.Common.{◌≡◌, ℕ, ◌+◌, ◌*◌, ◌≤◌, List, [], ◌++◌, Bool, Option, None, Some, Result, Ok, Err, ap, sym, subst, ◌∙◌, append-nil, arith}
 use Rattle.std.proofs.Math.Nat.{mul-le-mul}
-use Rattle.std.specs.Prelude.{IfOk}
+use Rattle.std.specs.Prelude.{IfOk, IfSome}
+use Rattle.std.proofs.lemmas.Option.{same_Some}
 use Rattle.std.specs.Io.KnownBytes.{Consumes, IsAtEnd}
 use Rattle.mb_problem.specs.declared.kind.Kind.{Kind}
 use Rattle.mb_problem.specs.Network.{Network}
@@ -15,16 +16,19 @@ use Rattle.match_cli.specs.declared.status.Status.TheVariants.{Done, Rejected, U
 use Rattle.match_cli.specs.declared.answer.Answer.{Answer}
 use Rattle.command_words.specs.declared.command.Command.{Command}
 use Rattle.command_words.specs.declared.command.Command.TheVariants.{Check, Solve, Trial}
-use Rattle.match_cli.specs.Commands.{command_of}
-use Rattle.match_cli.specs.Answers.{instance_part, InputHolds}
+use Rattle.command_words.specs.Commands.{command_of}
+use Rattle.inst_gen.specs.Made.{made}
+use Rattle.match_cli.specs.Commands.{kind_of, limit_of, given}
+use Rattle.match_cli.specs.Answers.{instance_part, InputHolds, HasInstance}
 use Rattle.match_cli.specs.Counts.{largest, CountsSearch, CountsSteps, CountsAnswer, CountsInstance, CountsSource}
 use Rattle.match_cli.specs.Solving.{DecidesSolved, SolvedAnswer}
+use Rattle.match_cli.proofs.CommandLines.{given_source, given_none}
 
 none_searched : (command : Option Command) (before after : ℕ) → after ≡ before → CountsSearch command before after
 none_searched None before after same = same
 none_searched (Some (Check kind)) before after same = same
 none_searched (Some (Solve kind brief)) before after same = omega (arith, same)
-none_searched (Some (Trial kind start n m)) before after same = same
+none_searched (Some (Trial kind start n m)) before after same = omega (arith, same)
 
 pub none_counted : (command : Option Command) (before after : ℕ) (status : Status) → after ≡ before → CountsSteps command before after status
 none_counted command before after Done same = none_searched command before after same
@@ -64,29 +68,57 @@ pub search_counts : (kind : Kind) (brief : Bool) (i : Network) (before after : �
 search_counts kind brief i before after (Ok a) fits answer counted = searched kind brief i a.text.items before after a.status answer (within_limits (size_of kind i) (searches_of kind) before after fits counted)
 search_counts kind brief i before after (Err e) fits answer counted = within_limits (size_of kind i) (searches_of kind) before after fits counted
 
--- ---- the instance that the source gives
+-- a search that was made counts as its command does
+pub done_counts : (command : Command) (before after : ℕ) {E : Type 0} (r : Result Answer E) → IfOk r (λ a. a.status ≡ Done) → CountsSearch (Some command) before after → CountsAnswer command before after r
+done_counts command before after (Ok a) done counted = subst (λ (s : Status). CountsSteps (Some command) before after s) (sym done) counted
+done_counts command before after (Err e) done counted = counted
+
+-- ---- the instance of a command
+
+abbrev CountsFor : Command → Network → ℕ → ℕ → Type 0
+CountsFor command i before after = after ≤ before + searches_of (kind_of command) * most_steps (size_of (kind_of command) i)
 
 pub none_counted_for : (command : Option Command) (bytes : List ℕ) (before after : ℕ) → after ≡ before → CountsInstance command bytes before after
-none_counted_for command bytes before after same kind brief i is holds = omega (arith, same)
-
-pub source_uncounted : (words : List (List ℕ)) (source : Option (List ℕ)) (before after : ℕ) → after ≡ before → CountsSource words source before after
-source_uncounted words None before after same = tt
-source_uncounted words (Some bytes) before after same = none_counted_for (command_of words) bytes before after same
-
-same_solve : (a b : Kind) (c d : Bool) → Some (Solve a c) ≡ Some (Solve b d) → a ≡ b
-same_solve a b c d e = cc
+none_counted_for command bytes before after same c i is holds = omega (arith, same)
 
 -- an input holds one instance
 pub counted_for : (kind : Kind) (brief : Bool) (bytes : List ℕ) (j : Network) (before after : ℕ) → InputHolds kind bytes j → after ≤ before + searches_of kind * most_steps (size_of kind j) → CountsInstance (Some (Solve kind brief)) bytes before after
-counted_for kind brief bytes j before after held counted other other_brief i is holds =
-    let same : kind ≡ other = same_solve kind other brief other_brief is in
-    let here : InputHolds kind bytes i = subst (λ (k : Kind). InputHolds k bytes i) (sym same) holds in
-    subst (λ (k : Kind). after ≤ before + searches_of k * most_steps (size_of k i)) same (subst (λ (n : Network). after ≤ before + searches_of kind * most_steps (size_of kind n)) (one_instance kind (instance_part bytes) j i held here) counted)
+counted_for kind brief bytes j before after held counted c i is holds =
+    let same : Solve kind brief ≡ c = same_Some (Solve kind brief) c is in
+    let here : InputHolds kind bytes i = subst (λ (c : Command). HasInstance c bytes i) (sym same) holds in
+    subst (λ (c : Command). CountsFor c i before after) same (subst (λ (n : Network). CountsFor (Solve kind brief) n before after) (one_instance kind (instance_part bytes) j i held here) counted)
+
+-- a trial makes one instance
+pub trial_counted_for : (kind : Kind) (start n m : ℕ) (bytes : List ℕ) (before after : ℕ) → after ≤ before + searches_of kind * most_steps (size_of kind (made kind start n m)) → CountsInstance (Some (Trial kind start n m)) bytes before after
+trial_counted_for kind start n m bytes before after counted c i is holds =
+    let same : Trial kind start n m ≡ c = same_Some (Trial kind start n m) c is in
+    let here : i ≡ made kind start n m = subst (λ (c : Command). HasInstance c bytes i) (sym same) holds in
+    subst (λ (c : Command). CountsFor c i before after) same (subst (λ (j : Network). CountsFor (Trial kind start n m) j before after) (sym here) counted)
+
+-- ---- of what is given
+
+given_uncounted : (command : Option Command) (o : Option (List ℕ)) (before after : ℕ) → after ≡ before → IfSome o (λ bytes. CountsInstance command bytes before after)
+given_uncounted command None before after same = tt
+given_uncounted command (Some bytes) before after same = none_counted_for command bytes before after same
+
+pub source_uncounted : (words : List (List ℕ)) (source : Option (List ℕ)) (before after : ℕ) → after ≡ before → CountsSource words source before after
+source_uncounted words source before after same = given_uncounted (command_of words) (given (command_of words) source) before after same
+
+all_counted : (command : Option Command) (source left : Option (List ℕ)) (bytes : List ℕ) (before after : ℕ) → Consumes source left bytes → IsAtEnd left → CountsInstance command bytes before after → IfSome source (λ b. CountsInstance command b before after)
+all_counted command None left bytes before after consumed end counted = tt
+all_counted command (Some xs) None bytes before after consumed end counted = absurd consumed
+all_counted command (Some xs) (Some ys) bytes before after consumed end counted =
+    let all : bytes ≡ xs = sym (consumed ∙ ap (λ (l : List ℕ). bytes ++ l) end ∙ append-nil bytes) in
+    subst (λ (b : List ℕ). CountsInstance command b before after) all counted
 
 -- all bytes of the source were read
-pub source_counted : (words : List (List ℕ)) (command : Command) (source left : Option (List ℕ)) (bytes : List ℕ) (before after : ℕ) → command_of words ≡ Some command → Consumes source left bytes → IsAtEnd left → CountsInstance (Some command) bytes before after → CountsSource words source before after
-source_counted words command None left bytes before after taken consumed end counted = tt
-source_counted words command (Some xs) None bytes before after taken consumed end counted = absurd consumed
-source_counted words command (Some xs) (Some ys) bytes before after taken consumed end counted =
-    let all : bytes ≡ xs = sym (consumed ∙ ap (λ (l : List ℕ). bytes ++ l) end ∙ append-nil bytes) in
-    subst (λ (o : Option Command). CountsInstance o xs before after) (sym taken) (subst (λ (b : List ℕ). CountsInstance (Some command) b before after) all counted)
+pub source_counted : (words : List (List ℕ)) (command : Command) (limit : ℕ) (source left : Option (List ℕ)) (bytes : List ℕ) (before after : ℕ) → command_of words ≡ Some command → limit_of command ≡ Some limit → Consumes source left bytes → IsAtEnd left → CountsInstance (Some command) bytes before after → CountsSource words source before after
+source_counted words command limit source left bytes before after taken reads consumed end counted =
+    let named : CountsInstance (command_of words) bytes before after = subst (λ (o : Option Command). CountsInstance o bytes before after) (sym taken) counted in
+    subst (λ (o : Option (List ℕ)). IfSome o (λ b. CountsInstance (command_of words) b before after)) (sym (given_source words command limit source taken reads)) (all_counted (command_of words) source left bytes before after consumed end named)
+
+-- nothing of the source was read
+pub unread_counted : (words : List (List ℕ)) (command : Command) (source : Option (List ℕ)) (before after : ℕ) → command_of words ≡ Some command → limit_of command ≡ None → CountsInstance (Some command) [] before after → CountsSource words source before after
+unread_counted words command source before after taken unread counted =
+    let named : CountsInstance (command_of words) [] before after = subst (λ (o : Option Command). CountsInstance o [] before after) (sym taken) counted in
+    subst (λ (o : Option (List ℕ)). IfSome o (λ b. CountsInstance (command_of words) b before after)) (sym (given_none words command source taken unread)) named

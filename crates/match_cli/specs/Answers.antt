@@ -1,5 +1,5 @@
 -- What the program answers to its words and its input: what is written, and the status.
-use Rattle.std.specs.Prelude.{◌≡◌, ℕ, ◌+◌, ◌<◌, ◌≤◌, ◌⊎◌, List, length, Bool, codes, Option, None, Some}
+use Rattle.std.specs.Prelude.{◌≡◌, ℕ, ◌+◌, ◌<◌, ◌⊎◌, List, length, Bool, codes, Option, None, Some}
 use Rattle.mb_base.specs.Rows.{Row, rows}
 use Rattle.graph_theory.specs.Limits.{IsWithinLimits}
 use Rattle.mb_problem.specs.declared.kind.Kind.{Kind}
@@ -21,10 +21,13 @@ use Rattle.match_cli.specs.declared.status.Status.{Status}
 use Rattle.match_cli.specs.declared.status.Status.TheVariants.{Done, Rejected, Usage, Malformed, TooLarge, TooLong}
 use Rattle.command_words.specs.declared.command.Command.{Command}
 use Rattle.command_words.specs.declared.command.Command.TheVariants.{Check, Solve, Trial}
-use Rattle.match_cli.specs.Commands.{command_of, limit_of}
+use Rattle.command_words.specs.Commands.{command_of}
+use Rattle.inst_gen.specs.Made.{made}
+use Rattle.match_cli.specs.Commands.{IsShort, ReadsUpTo}
 use Rattle.match_cli.specs.Lines.{malformed_line, rejected_line, too_large_line}
 use Rattle.match_cli.specs.Checking.{RefusesFirst}
 use Rattle.match_cli.specs.Solving.{Solves}
+use Rattle.match_cli.specs.Trying.{TrialAnswer}
 
 -- ---- the two parts of an input
 
@@ -94,14 +97,20 @@ DecidesSolve kind brief bytes out _ = ⊥
 
 -- ---- the program
 
+-- the instance that a command is about: the one that its input holds, or that it makes
+abbrev pub HasInstance : Command → List ℕ → Network → Type 0
+HasInstance (Check kind) bytes i = InputHolds kind bytes i
+HasInstance (Solve kind brief) bytes i = InputHolds kind bytes i
+HasInstance (Trial kind start n m) bytes i = i ≡ made kind start n m
+
 -- what a command writes, and its status, for input within its limit of bytes
 abbrev pub Answers : Command → List ℕ → List ℕ → Status → Type 0
 Answers (Check kind) bytes out status = Decides kind bytes out status
 Answers (Solve kind brief) bytes out status = DecidesSolve kind brief bytes out status
-Answers (Trial kind start n m) bytes out status = ⊥
+Answers (Trial kind start n m) bytes out status = TrialAnswer kind (made kind start n m) out status
 
 -- The answer to words and bytes: what is written, and the status.
 abbrev pub Out : List (List ℕ) → List ℕ → List ℕ → Status → Type 0
 Out words bytes out Usage = (command_of words ≡ None) × (out ≡ codes "s USAGE\n")
-Out words bytes out TooLong = (command : Command) × (command_of words ≡ Some command) × (limit_of command < length bytes) × (out ≡ codes "s TOOLONG\n")
-Out words bytes out status = (command : Command) × (command_of words ≡ Some command) × (length bytes ≤ limit_of command) × Answers command bytes out status
+Out words bytes out TooLong = (limit : ℕ) × ReadsUpTo words limit × (limit < length bytes) × (out ≡ codes "s TOOLONG\n")
+Out words bytes out status = (command : Command) × (command_of words ≡ Some command) × IsShort command bytes × Answers command bytes out status

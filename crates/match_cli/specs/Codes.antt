@@ -1,5 +1,7 @@
--- The exit status of the process for each way that a run can end.
+-- The exit status of the process for each way that a run can end, and how a verdict ends it.
 use Rattle.std.specs.Prelude.{ℕ}
+use Rattle.cert_check.specs.declared.rule.Verdict.{Verdict}
+use Rattle.cert_check.specs.declared.rule.Verdict.TheVariants as verdict
 use Rattle.match_cli.specs.declared.status.Status.{Status}
 use Rattle.match_cli.specs.declared.status.Status.TheVariants.{Done, Rejected, Usage, Malformed, TooLarge, TooLong, ReadFault, WriteFault, OutOfMemory}
 
@@ -13,3 +15,7 @@ code_of TooLong = 5
 code_of ReadFault = 6
 code_of WriteFault = 7
 code_of OutOfMemory = 8
+
+abbrev pub status_of : Verdict → Status
+status_of verdict.Accepted = Done
+status_of (verdict.Rejected rule line) = Rejected

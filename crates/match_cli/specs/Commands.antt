@@ -1,26 +1,41 @@
--- The command that the words of a command line are, where the program takes it.
-use Rattle.std.specs.Prelude.{ℕ, List, Bool, true, false, if◌then◌else◌, Option, None, Some}
-use Rattle.std.specs.Option.{option_and_then}
-use Rattle.command_words.specs.Commands as spelled
+-- What a command reads, and which kind it is for.
+use Rattle.std.specs.Prelude.{◌≡◌, ℕ, ◌≤◌, List, [], length, Option, None, Some, IfSome}
+use Rattle.mb_problem.specs.declared.kind.Kind.{Kind}
+use Rattle.command_words.specs.Commands.{command_of}
 use Rattle.command_words.specs.declared.command.Command.{Command}
 use Rattle.command_words.specs.declared.command.Command.TheVariants.{Check, Solve, Trial}
 use Rattle.match_cli.specs.declared.limits.TheConstants.{SOLVE_BYTE_LIMIT, CHECK_BYTE_LIMIT}
 
--- a command that the program takes
-abbrev pub is_taken : Command → Bool
-is_taken (Check kind) = true
-is_taken (Solve kind brief) = true
-is_taken (Trial kind start n m) = false
+-- the kind that a command is for
+abbrev pub kind_of : Command → Kind
+kind_of (Check kind) = kind
+kind_of (Solve kind brief) = kind
+kind_of (Trial kind start n m) = kind
 
-abbrev pub taken : Command → Option Command
-taken command = if is_taken command then Some command else None
+-- how many bytes of input a command takes, where it reads any: a trial makes its instance
+abbrev pub limit_of : Command → Option ℕ
+limit_of (Check kind) = Some CHECK_BYTE_LIMIT
+limit_of (Solve kind brief) = Some SOLVE_BYTE_LIMIT
+limit_of (Trial kind start n m) = None
 
--- the command that the words are, the program's name first
-abbrev pub command_of : List (List ℕ) → Option Command
-command_of words = option_and_then taken (spelled.command_of words)
+-- the bytes are within the limit of a command that reads them
+abbrev pub IsShort : Command → List ℕ → Type 0
+IsShort command bytes = IfSome (limit_of command) (λ limit. length bytes ≤ limit)
 
--- how many bytes of input a command takes
-abbrev pub limit_of : Command → ℕ
-limit_of (Check kind) = CHECK_BYTE_LIMIT
-limit_of (Solve kind brief) = SOLVE_BYTE_LIMIT
-limit_of (Trial kind start n m) = 0
+-- the words are those of a command that reads at most so many bytes
+abbrev pub ReadsUpTo : List (List ℕ) → ℕ → Type 0
+ReadsUpTo words limit = (command : Command) × (command_of words ≡ Some command) × (limit_of command ≡ Some limit)
+
+-- What an answer hangs on besides the words: the bytes of the source, where the words are a command that reads them, else no bytes.
+abbrev pub given : Option Command → Option (List ℕ) → Option (List ℕ)
+given None source = Some []
+given (Some (Check kind)) source = source
+given (Some (Solve kind brief)) source = source
+given (Some (Trial kind start n m)) source = Some []
+
+-- a source is left as it was where it isn't read
+abbrev pub KeepsUnread : {S : Type 0} → Option Command → S → S → Type 0
+KeepsUnread None before after = after ≡ before
+KeepsUnread (Some (Check kind)) before after = Unit {0}
+KeepsUnread (Some (Solve kind brief)) before after = Unit {0}
+KeepsUnread (Some (Trial kind start n m)) before after = after ≡ before

@@ -3,6 +3,7 @@ pub mod Commands
 pub mod Lines
 pub mod Checking
 pub mod Solving
+pub mod Trying
 pub mod Answers
 pub mod Counts
 pub mod Runs

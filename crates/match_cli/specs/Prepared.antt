@@ -1,11 +1,11 @@
 -- The answer that stands ready before anything is written.
-use Rattle.std.specs.Prelude.{◌≡◌, ℕ, ◌<◌, List, Option, Some, Result, Ok, Err}
+use Rattle.std.specs.Prelude.{◌≡◌, ℕ, ◌<◌, List, Option, Result, Ok, Err}
 use Rattle.match_cli.specs.declared.status.Status.{Status}
 use Rattle.match_cli.specs.declared.answer.Answer.{Answer}
 use Rattle.match_cli.specs.declared.top.Stop.{Stop}
 use Rattle.match_cli.specs.declared.top.Stop.TheVariants as stop
 use Rattle.command_words.specs.declared.command.Command.{Command}
-use Rattle.match_cli.specs.Commands.{command_of}
+use Rattle.match_cli.specs.Commands.{ReadsUpTo}
 use Rattle.match_cli.specs.Counts.{CountsSearch, CountsSteps}
 use Rattle.match_cli.specs.Runs.{IsAnswer, IsUsage, IsWritten}
 
@@ -17,7 +17,7 @@ Readies text status (Err stop.OutOfMemory) = Unit {0}
 
 abbrev pub Prepares : List (List ℕ) → Option (List ℕ) → Option (List ℕ) → Result Answer Stop → Type 0
 Prepares words before after (Ok a) = IsWritten a.status × IsAnswer words before after a.text.items a.status
-Prepares words before after (Err stop.ReadFault) = (command : Command) × (command_of words ≡ Some command)
+Prepares words before after (Err stop.ReadFault) = (limit : ℕ) × ReadsUpTo words limit
 Prepares words before after (Err stop.OutOfMemory) = Unit {0}
 
 -- Usage is for words that are no command, whatever the source tells

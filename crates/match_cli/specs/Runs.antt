@@ -1,5 +1,5 @@
 -- What a run leaves of its source and its sink, by its status.
-use Rattle.std.specs.Prelude.{◌≡◌, ℕ, ◌+◌, ◌<◌, ◌≤◌, List, [], ◌∷◌, ◌++◌, length, take, drop, codes, false, Option, Some, None, IfSome}
+use Rattle.std.specs.Prelude.{◌≡◌, ℕ, ◌+◌, ◌<◌, List, [], ◌∷◌, ◌++◌, length, take, drop, codes, false, Option, Some, None, IfSome}
 use Rattle.mb_base.specs.Streams.{Extends, UsesRoom, StaysTold}
 use Rattle.graph_theory.specs.Limits.{IsWithinLimits}
 use Rattle.mb_problem.specs.declared.kind.Kind.{Kind}
@@ -11,21 +11,29 @@ use Rattle.match_cli.specs.declared.status.Status.{Status}
 use Rattle.match_cli.specs.declared.status.Status.TheVariants.{Done, Rejected, Usage, Malformed, TooLarge, TooLong, ReadFault, WriteFault, OutOfMemory}
 use Rattle.command_words.specs.declared.command.Command.{Command}
 use Rattle.command_words.specs.declared.command.Command.TheVariants.{Check, Solve, Trial}
-use Rattle.match_cli.specs.Commands.{command_of, limit_of}
+use Rattle.command_words.specs.Commands.{command_of}
+use Rattle.inst_gen.specs.Made.{made}
+use Rattle.match_cli.specs.Commands.{kind_of, IsShort, ReadsUpTo, given}
 use Rattle.match_cli.specs.Solving.{Solves}
 use Rattle.match_cli.specs.Counts.{CountsSearch, CountsSteps}
-use Rattle.match_cli.specs.Answers.{document_part, InputHolds, Out, Accepts, HoldsAlone}
+use Rattle.match_cli.specs.Answers.{document_part, HasInstance, Out, Accepts, HoldsAlone}
+
+-- what a command leaves of the source's bytes: nothing where it reads them, else all
+abbrev pub left_by : Command → List ℕ → List ℕ
+left_by (Check kind) bytes = []
+left_by (Solve kind brief) bytes = []
+left_by (Trial kind start n m) bytes = bytes
 
 -- What is left of the source's bytes after an answer: all of them where the words are no command, what
--- comes after one byte past the limit where the input is too long, else none.
+-- comes after one byte past the limit where the input is too long, else what the command leaves.
 abbrev pub Spends : List (List ℕ) → List ℕ → Option (List ℕ) → Status → Type 0
 Spends words bytes left Usage = left ≡ Some bytes
-Spends words bytes left TooLong = (command : Command) × (command_of words ≡ Some command) × (left ≡ Some (drop (limit_of command + 1) bytes))
-Spends words bytes left status = left ≡ Some []
+Spends words bytes left TooLong = (limit : ℕ) × ReadsUpTo words limit × (left ≡ Some (drop (limit + 1) bytes))
+Spends words bytes left status = (command : Command) × (command_of words ≡ Some command) × (left ≡ Some (left_by command bytes))
 
--- this is the answer for the bytes that were left, where the source tells them
+-- This is the answer for what is given, and so much is left then, where the source tells its bytes.
 abbrev pub IsAnswer : List (List ℕ) → Option (List ℕ) → Option (List ℕ) → List ℕ → Status → Type 0
-IsAnswer words before after out status = IfSome before (λ bytes. Out words bytes out status × Spends words bytes after status)
+IsAnswer words before after out status = IfSome (given (command_of words) before) (λ bytes. Out words bytes out status) × IfSome before (λ bytes. Spends words bytes after status)
 
 -- a status with something to write
 abbrev pub IsWritten : Status → Type 0
@@ -70,7 +78,7 @@ pub record TakesNothing (before after : Around) : Type 0 where
 
 -- What a run leaves. Where a write fails, its front was taken, and the steps are those of the answer that was to be written.
 abbrev pub Runs : List (List ℕ) → Around → Around → Status → Type 0
-Runs words before after ReadFault = TakesNothing before after × (after.steps ≡ before.steps) × ((command : Command) × (command_of words ≡ Some command))
+Runs words before after ReadFault = TakesNothing before after × (after.steps ≡ before.steps) × ((limit : ℕ) × ReadsUpTo words limit)
 Runs words before after OutOfMemory = TakesNothing before after × CountsSearch (command_of words) before.steps after.steps
 Runs words before after WriteFault = (status : Status) × (out : List ℕ) × IsDecided words before after out status × (n : ℕ) × (n < length out) × Takes before after (take n out)
 Runs words before after status = (out : List ℕ) × IsDecided words before after out status × Takes before after out
@@ -81,14 +89,14 @@ CountsRun source_before source_after sink_before sink_after ReadFault = (source_
 CountsRun source_before source_after sink_before sink_after WriteFault = (source_after ≡ source_before) × (sink_before < sink_after)
 CountsRun source_before source_after sink_before sink_after status = (source_after ≡ source_before) × (sink_after ≡ sink_before)
 
--- what a document states that was accepted or written is true of the instance of the input
+-- what a document states that was accepted, written or tried is true of its instance
 abbrev pub IsTrueBy : Command → List ℕ → Type 0
 IsTrueBy (Check kind) bytes = (i : Network) × (d : Document) × Accepts kind bytes i d
 IsTrueBy (Solve kind brief) bytes = (i : Network) × (d : Document) × HoldsAlone kind bytes i × Solves kind i d
-IsTrueBy (Trial kind start n m) bytes = ⊥
+IsTrueBy (Trial kind start n m) bytes = (d : Document) × Solves kind (made kind start n m) d
 
 abbrev pub TellsTruth : List (List ℕ) → Option (List ℕ) → Status → Type 0
-TellsTruth words before Done = IfSome before (λ bytes. (command : Command) × (command_of words ≡ Some command) × IsTrueBy command bytes)
+TellsTruth words before Done = IfSome (given (command_of words) before) (λ bytes. (command : Command) × (command_of words ≡ Some command) × IsTrueBy command bytes)
 TellsTruth words before status = Unit {0}
 
 -- ---- what was solved is accepted
@@ -107,22 +115,16 @@ IsAcceptedAgain words before taken_before taken_after status = Unit {0}
 
 -- ---- every input within the limits is answered
 
--- the kind that a command is for
-abbrev pub kind_of : Command → Kind
-kind_of (Check kind) = kind
-kind_of (Solve kind brief) = kind
-kind_of (Trial kind start n m) = kind
-
 -- nothing follows the instance, unless a document may
 abbrev pub EndsInput : Command → List ℕ → Type 0
 EndsInput (Check kind) bytes = Unit {0}
 EndsInput (Solve kind brief) bytes = document_part bytes ≡ []
 EndsInput (Trial kind start n m) bytes = Unit {0}
 
--- the bytes are within the limit of the command, and hold this instance, which is within the limits too
+-- the bytes are within the limit of the command, whose instance this is, within the limits too
 pub record IsInput (command : Command) (bytes : List ℕ) (i : Network) : Type 0 where
-  pub short : length bytes ≤ limit_of command
-  pub holds : InputHolds (kind_of command) bytes i
+  pub short : IsShort command bytes
+  pub holds : HasInstance command bytes i
   pub fits : IsWithinLimits (size_of (kind_of command) i)
   pub ends : EndsInput command bytes
 
@@ -142,4 +144,4 @@ IsAnswered command OutOfMemory = Unit {0}
 IsAnswered command status = ⊥
 
 abbrev pub Completes : List (List ℕ) → Option (List ℕ) → Status → Type 0
-Completes words before status = IfSome before (λ bytes. (command : Command) (i : Network) → command_of words ≡ Some command → IsInput command bytes i → IsAnswered command status)
+Completes words before status = IfSome (given (command_of words) before) (λ bytes. (command : Command) (i : Network) → command_of words ≡ Some command → IsInput command bytes i → IsAnswered command status)

@@ -1,5 +1,5 @@
 ghost use Rattle.std.specs.Prelude.{◌≡◌, ◌++◌, codes, decimal, IfOk};
-ghost use Rattle.match_cli.specs.Lines.{fault_line};
+ghost use Rattle.match_cli.specs.Lines.{fault_line, size_line};
 
 use crate::status::Status;
 use itoa::Buffer;
@@ -24,4 +24,17 @@ pub fn line(alloc: Global, words: &[u8], name: &[u8], number: u64) -> Result<Vec
     text.extend_from_slice(buffer.format(number).as_bytes())?;
     text.extend_from_slice(b"\n")?;
     Ok(text)
+}
+
+/// A line of words and the two numbers of a size.
+pub fn line_of_size(
+    alloc: Global,
+    words: &[u8],
+    vertices: u64,
+    edges: u64,
+) -> Result<Vec<u8>, OutOfMemory>
+    ensures { IfOk result (λ v. v.items ≡ size_line words.now (record { vertices = vertices; edges = edges })) }
+{
+    let mut buffer = Buffer::new();
+    line(alloc, words, buffer.format(vertices).as_bytes(), edges)
 }

@@ -1,38 +1,19 @@
-ghost use Rattle.std.specs.Prelude.{◌≡◌, ◌+◌, ◌<◌, ◌≤◌, ◌^◌, codes, length, IfOk};
+ghost use Rattle.std.specs.Prelude.{◌≡◌, ◌+◌, ◌<◌, ◌≤◌, ◌^◌, length, IfOk};
 ghost use Rattle.graph_theory.specs.Limits.{IsWithinLimits};
 ghost use Rattle.mb_problem.specs.Size.{size_of};
 ghost use Rattle.dimacs_read.specs.Ready.{IsReady};
-ghost use Rattle.match_cli.specs.Lines.{rejected_line};
 ghost use Rattle.match_cli.specs.Answers.{Decides};
 ghost use Rattle.match_cli.specs.Checking.{DecidesDocument, DecidesRest, DecidesInstance};
 
-use crate::answer::{Answer, line};
+use crate::answer::Answer;
 use crate::refusal::{is_within_limits, malformed, too_large};
-use crate::status::Status;
-use cert_check::{DocRule, Verdict, judge};
+use crate::verdict::{judged, rejected};
+use cert_check::{DocRule, judge};
 use dimacs_read::{InstanceError, Rest, read};
 use doc_format::{DocError, Document};
 use mb_base::OutOfMemory;
 use mb_problem::{Instance, Kind, gadget_size};
 use std::alloc::{AllocError, Global};
-
-fn rejected(alloc: Global, rule: DocRule, number: u64) -> Result<Answer, OutOfMemory>
-    ensures text { IfOk result (λ a. a.text.items ≡ rejected_line rule number) }
-    ensures status { IfOk result (λ a. a.status ≡ Status.Rejected) }
-{
-    let text = line(alloc, b"s REJECTED ", rule.name().as_bytes(), number)?;
-    let status = Status::Rejected;
-    Ok(Answer { text, status })
-}
-
-fn accepted(alloc: Global) -> Result<Answer, OutOfMemory>
-    ensures text { IfOk result (λ a. a.text.items ≡ codes "s ACCEPTED\n") }
-    ensures status { IfOk result (λ a. a.status ≡ Status.Done) }
-{
-    let text = Vec::from_slice(alloc, b"s ACCEPTED\n")?;
-    let status = Status::Done;
-    Ok(Answer { text, status })
-}
 
 /// The answer to a document of an instance.
 fn check_document(
@@ -45,10 +26,8 @@ fn check_document(
     requires ready { IsReady kind instance.now }
     ensures { IfOk result (DecidesDocument kind instance.now document.now) }
 {
-    match judge(alloc, instance, kind, document)? {
-        Verdict::Accepted => accepted(alloc),
-        Verdict::Rejected { rule, line } => rejected(alloc, rule, line),
-    }
+    let verdict = judge(alloc, instance, kind, document)?;
+    judged(alloc, verdict)
 }
 
 /// The answer to what follows an instance.

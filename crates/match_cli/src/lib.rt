@@ -1,7 +1,7 @@
 //! The program as one call over any source and any sink: `run` reads the words of the command line,
 //! the input, and writes the answer.
-//! It stands on the readers of instances and documents, on the judge of certificates and on the
-//! solvers. It promises the whole way from bytes to bytes: which answer comes for which input, that a
+//! It stands on the readers of instances and documents, on the judge of certificates, on the solvers
+//! and on made instances. It promises the whole way from bytes to bytes: which answer comes for which input, that a
 //! document that is accepted or written is true of its instance, that what is written in full is
 //! accepted, and what each fault leaves.
 #![tactic(auto)]
@@ -14,6 +14,8 @@ mod refusal;
 mod solve;
 mod status;
 mod top;
+mod trial;
+mod verdict;
 
 pub use limits::{CHECK_BYTE_LIMIT, SOLVE_BYTE_LIMIT};
 pub use status::Status;

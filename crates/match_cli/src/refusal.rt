@@ -2,11 +2,10 @@ ghost use Rattle.std.specs.Prelude.{◌≡◌, ◌↔◌, IsTrue, IfOk};
 ghost use Rattle.graph_theory.specs.Limits.{IsWithinLimits};
 ghost use Rattle.match_cli.specs.Lines.{malformed_line, too_large_line};
 
-use crate::answer::{Answer, line};
+use crate::answer::{Answer, line, line_of_size};
 use crate::status::Status;
 use dimacs_read::Rule;
 use graph_theory::{GRAPH_EDGE_LIMIT, GRAPH_VERTEX_LIMIT};
-use itoa::Buffer;
 use mb_base::OutOfMemory;
 use std::alloc::Global;
 
@@ -35,13 +34,7 @@ pub fn too_large(alloc: Global, vertices: u64, edges: u64) -> Result<Answer, Out
     ensures text { IfOk result (λ a. a.text.items ≡ too_large_line (record { vertices = vertices; edges = edges })) }
     ensures status { IfOk result (λ a. a.status ≡ Status.TooLarge) }
 {
-    let mut buffer = Buffer::new();
-    let text = line(
-        alloc,
-        b"s TOOLARGE ",
-        buffer.format(vertices).as_bytes(),
-        edges,
-    )?;
+    let text = line_of_size(alloc, b"s TOOLARGE ", vertices, edges)?;
     let status = Status::TooLarge;
     Ok(Answer { text, status })
 }

@@ -7,6 +7,7 @@ ghost use Rattle.doc_format.specs.Law.{HasKeptNumbers};
 ghost use Rattle.doc_format.specs.Spelling.{document_text};
 ghost use Rattle.certificates.specs.Proved.{IsProved, StatesTruth};
 ghost use Rattle.mwpm_engine.specs.Solutions.{most_steps};
+ghost use Rattle.solve_kinds.specs.Chosen.{IsChosen};
 ghost use Rattle.solve_kinds.specs.Solved.{searches_of, HasTrueStatus};
 
 use cert_check::{DocRule, Verdict, judge};
@@ -62,6 +63,7 @@ pub fn try_instance<L: Ledger>(
     ensures proved { IfOk result (λ t. IsProved kind instance.now t.document) }
     ensures truth { IfOk result (λ t. StatesTruth kind instance.now t.document) }
     ensures exact { IfOk result (λ t. HasTrueStatus kind instance.now t.document.status) }
+    ensures chosen { IfOk result (λ t. IsChosen kind instance.now t.document) }
     ensures small { IfOk result (λ t. length (document_text t.document false) ≤ DOCUMENT_BYTE_LIMIT) }
     ensures network { IsNetwork instance.now }
 

@@ -1,0 +1,27 @@
+use Rattle.std.proofs.Common.{rules, subst}
+use Rattle.std.specs.Prelude.{IfOk}
+use Rattle.graph_theory.specs.Limits.{IsWithinLimits}
+use Rattle.mb_problem.specs.Network.{Network}
+use Rattle.mb_problem.specs.Size.{size_of}
+use Rattle.solve_kinds.specs.Solved.{searches_of}
+use Rattle.command_words.specs.declared.command.Command.TheVariants.{Trial}
+use Rattle.match_cli.specs.Trying.{DecidesTrial}
+use Rattle.match_cli.proofs.StepCounts.{within_limits, done_counts}
+use Rattle.match_cli.proofs.TrialAnswers.{tried_answers}
+use Rattle.match_cli.proofs.trial.trial.Goals as goal
+
+pub returns-clause-answer : goal.returns-clause-answer
+returns-clause-answer g c =
+    let kind = c.args.kind in
+    let i : Network = c.in_ok-instance.instance in
+    let fits : IsWithinLimits (size_of kind i) = search rules in
+    let tried : IfOk c.try_within.result (DecidesTrial kind i) = tried_answers kind i c.try_within.result fits c.try_within.ensures.text c.try_within.ensures.status in
+    subst (λ (j : Network). IfOk c.try_within.result (DecidesTrial kind j)) c.in_ok-instance.ensures.made tried
+
+pub returns-clause-steps : goal.returns-clause-steps
+returns-clause-steps g c =
+    let kind = c.args.kind in
+    let i : Network = c.in_ok-instance.instance in
+    let fits : IsWithinLimits (size_of kind i) = search rules in
+    let counted = within_limits (size_of kind i) (searches_of kind) c.args.steps.now c.try_within.new.steps fits c.try_within.ensures.counted in
+    done_counts (Trial kind c.args.start c.args.n c.args.m) c.args.steps.now c.try_within.new.steps c.try_within.result c.try_within.ensures.status counted

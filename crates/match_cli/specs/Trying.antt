@@ -1,0 +1,31 @@
+-- What `trial` answers to the instance that it makes.
+use Rattle.std.specs.Prelude.{◌≡◌, ℕ, List, ◌++◌}
+use Rattle.graph_theory.specs.Limits.{Size, IsWithinLimits}
+use Rattle.mb_problem.specs.declared.kind.Kind.{Kind}
+use Rattle.mb_problem.specs.Network.{Network}
+use Rattle.mb_problem.specs.Size.{size_of}
+use Rattle.doc_format.specs.declared.document.Document.{Document}
+use Rattle.cert_check.specs.declared.rule.Verdict.{Verdict}
+use Rattle.cert_check.specs.declared.rule.Verdict.TheVariants.{Accepted}
+use Rattle.match_cli.specs.declared.status.Status.{Status}
+use Rattle.match_cli.specs.declared.status.Status.TheVariants.{Done, TooLarge}
+use Rattle.match_cli.specs.declared.answer.Answer as written
+use Rattle.match_cli.specs.Lines.{graph_line, statement_line, verdict_line, too_large_line}
+use Rattle.match_cli.specs.Solving.{Solves}
+
+-- the size of the graph that certificates speak of, what the document states, and the verdict on it
+abbrev pub trial_text : Size → Document → Verdict → List ℕ
+trial_text size d v = graph_line size ++ statement_line d ++ verdict_line v
+
+-- this is written of an instance within the limits: it is solved as `solve` does, and the document is accepted
+abbrev pub IsTried : Kind → Network → List ℕ → Type 0
+IsTried kind i out = (d : Document) × Solves kind i d × (out ≡ trial_text (size_of kind i) d Accepted)
+
+-- what is written of an instance of any size, and the status
+abbrev pub TrialAnswer : Kind → Network → List ℕ → Status → Type 0
+TrialAnswer kind i out Done = IsWithinLimits (size_of kind i) × IsTried kind i out
+TrialAnswer kind i out TooLarge = ¬ IsWithinLimits (size_of kind i) × (out ≡ too_large_line (size_of kind i))
+TrialAnswer kind i out status = ⊥
+
+abbrev pub DecidesTrial : Kind → Network → written.Answer → Type 0
+DecidesTrial kind i a = TrialAnswer kind i a.text.items a.status

@@ -1,0 +1,101 @@
+ghost use Rattle.std.specs.Prelude.{Some, [], ◌≡◌, ◌+◌, ◌*◌, ◌<◌, ◌≤◌, IfOk};
+ghost use Rattle.graph_theory.specs.Limits.{IsWithinLimits};
+ghost use Rattle.mb_problem.specs.declared.kind.Kind.TheVariants.{Path};
+ghost use Rattle.mb_problem.specs.Size.{size_of};
+ghost use Rattle.dimacs_read.specs.Ready.{IsReady};
+ghost use Rattle.inst_gen.specs.Made.{made};
+ghost use Rattle.mwpm_engine.specs.Solutions.{most_steps};
+ghost use Rattle.solve_kinds.specs.Solved.{searches_of};
+ghost use Rattle.match_cli.specs.Counts.{CountsAnswer};
+ghost use Rattle.match_cli.specs.Codes.{status_of};
+ghost use Rattle.match_cli.specs.Lines.{statement_line};
+ghost use Rattle.match_cli.specs.Trying.{trial_text, IsTried, DecidesTrial};
+
+use crate::answer::{Answer, line_of_size};
+use crate::refusal::{is_within_limits, too_large};
+use crate::status::Status;
+use crate::verdict::judged;
+use command_words::Command;
+use doc_format::{DocStatus, Document};
+use inst_gen::make;
+use itoa::Buffer;
+use mb_base::{OutOfMemory, Steps};
+use mb_problem::{EDGE_LIMIT, Instance, Kind, VERTEX_LIMIT, gadget_size};
+use std::alloc::Global;
+use std::sync::ledger::Ledger;
+use trial_run::{Trial, try_instance};
+
+/// The first line of a document.
+fn statement(alloc: Global, document: &Document) -> Result<Vec<u8>, OutOfMemory>
+    ensures { IfOk result (λ v. v.items ≡ statement_line document.now) }
+{
+    let mut text = Vec::from_slice(alloc, b"s ")?;
+    text.extend_from_slice(document.status.name())?;
+    text.extend_from_slice(b" ")?;
+    text.extend_from_slice(document.kind.name())?;
+    if document.status == DocStatus::Optimal {
+        let mut buffer = Buffer::new();
+        text.extend_from_slice(b" ")?;
+        text.extend_from_slice(buffer.format(document.weight).as_bytes())?;
+    }
+    text.extend_from_slice(b"\n")?;
+    Ok(text)
+}
+
+/// What is written of a trial on a graph of this size.
+fn told(alloc: Global, vertices: u64, edges: u64, tried: &Trial) -> Result<Answer, OutOfMemory>
+    ensures text { IfOk result (λ a. a.text.items
+        ≡ trial_text (record { vertices = vertices; edges = edges }) tried.now.document tried.now.verdict) }
+    ensures status { IfOk result (λ a. a.status ≡ status_of tried.now.verdict) }
+{
+    let statement = statement(alloc, &tried.document)?;
+    let judged = judged(alloc, tried.verdict)?;
+    let mut text = line_of_size(alloc, b"g ", vertices, edges)?;
+    text.extend_from_slice(&statement)?;
+    text.extend_from_slice(&judged.text)?;
+    let status = judged.status;
+    Ok(Answer { text, status })
+}
+
+/// The answer to an instance within the limits: it is solved, and its document judged.
+fn try_within<L: Ledger>(
+    alloc: Global,
+    kind: Kind,
+    instance: &Instance,
+    steps: &mut Steps<L>,
+) -> Result<Answer, OutOfMemory>
+    requires ready { IsReady kind instance.now }
+    requires limits { IsWithinLimits (size_of kind instance.now) }
+    ensures text { IfOk result (λ a. IsTried kind instance.now a.text.items) }
+    ensures status { IfOk result (λ a. a.status ≡ Status.Done) }
+    ensures counted { steps.new ≤ steps.old + searches_of kind * most_steps (size_of kind instance.now) }
+{
+    let (vertices, edges) = gadget_size(instance, kind);
+    let tried = try_instance(alloc, instance, kind, steps)?;
+    told(alloc, vertices, edges, &tried)
+}
+
+/// What `trial` answers: an instance is made, its size is tested, and then it is solved and its document judged.
+pub fn trial<L: Ledger>(
+    alloc: Global,
+    kind: Kind,
+    start: u64,
+    n: u32,
+    m: u32,
+    steps: &mut Steps<L>,
+) -> Result<Answer, OutOfMemory>
+    requires vertices { n ≤ VERTEX_LIMIT }
+    requires edges { m ≤ EDGE_LIMIT }
+    requires ends { 0 < m → 2 ≤ n }
+    requires path { kind ≡ Path → 2 ≤ n }
+    ensures answer { IfOk result (DecidesTrial kind (made kind start n m)) }
+    ensures steps { CountsAnswer (Command.Trial kind start n m) steps.old steps.new result }
+    ensures counted { steps.new ≤ steps.old + searches_of kind * most_steps (size_of kind (made kind start n m)) }
+{
+    let instance = make(alloc, kind, start, n, m)?;
+    let (vertices, edges) = gadget_size(&instance, kind);
+    if !is_within_limits(vertices, edges) {
+        return too_large(alloc, vertices, edges);
+    }
+    try_within(alloc, kind, &instance, steps)
+}
