@@ -1,0 +1,99 @@
+"""Many graphs at once, over any executor of `concurrent.futures`: threads, processes, or machines (as dask's `Client.get_executor()`)."""
+from __future__ import annotations
+
+import concurrent.futures
+import os
+from typing import Any, Callable, Dict, Iterable, List, Optional, Union
+
+from .answers import Answer, answer_of
+from .errors import BlossomError
+from .instances import Instance
+from .process import Running
+from .running import Runner, runner
+from .solving import instance_of
+
+Progress = Union[None, bool, Callable[[int, int], None]]
+
+
+def run_text(by: Runner, task: str, kind: str, text: bytes, timeout: Optional[float]) -> Any:
+    """One run, as it goes to an executor: only bytes, numbers and paths go there and come back."""
+    return by.run(task, kind, text, timeout)
+
+
+def prepared(graph: Any, kind: str, how: Dict[str, Any], errors: str) -> Union[Instance, BlossomError]:
+    """The instance of a graph, or the error that making it is, where errors are to be returned."""
+    try:
+        return instance_of(graph, kind, {} if isinstance(graph, Instance) else how)
+    except BlossomError as error:
+        if errors == "raise":
+            raise
+        return error
+
+
+def outcome(instance: Instance, future: concurrent.futures.Future, errors: str) -> Union[Answer, BlossomError]:
+    """The answer that a run came to, or its error, where errors are to be returned."""
+    try:
+        return answer_of(instance, *future.result())
+    except BlossomError as error:
+        if errors == "raise":
+            raise
+        return error
+
+
+def move(bar: Any, done: int, total: int) -> None:
+    """Moves a bar of tqdm to so many graphs."""
+    bar.update(done - bar.n)
+    if done == total:
+        bar.close()
+
+
+def reporter(progress: Progress, total: int) -> Callable[[int], None]:
+    """What is called with the number of graphs that are done."""
+    if progress is True:
+        from tqdm import tqdm
+
+        bar = tqdm(total=total, unit="graph")
+        return lambda done: move(bar, done, total)
+    return (lambda done: progress(done, total)) if callable(progress) else (lambda done: None)
+
+
+def solve_many(kind: str, graphs: Iterable[Any], *, executor: Optional[concurrent.futures.Executor] = None, progress: Progress = None,
+               errors: str = "raise", brief: bool = False, via: Any = "process", program: Optional[str] = None,
+               timeout: Optional[float] = None, **how: Any) -> List[Union[Answer, BlossomError]]:
+    """The answers of many graphs for one kind, in their order.
+
+    graphs: each in any of the forms that `solve` takes; one that is an `Instance` already keeps its own words, for the others `how` stands.
+    executor: any executor of `concurrent.futures`; by default a thread for each processor, each of which waits for a process. Where it
+    uses other machines, the package and the program have to be there too. progress: True for a bar by tqdm, or a call of
+    (done, total). errors: "raise" ends at the first error, and what runs then is stopped (in another executor: not waited for);
+    "return" puts each error of this package in its answer's place. timeout: in seconds, for each graph. The rest is that of
+    `solve`."""
+    if errors not in ("raise", "return"):
+        raise ValueError('errors is "raise" or "return", and not %r' % (errors,))
+    by, task = runner(via, program), "brief" if brief else "solve"
+    results: List[Any] = [prepared(graph, kind, how, errors) for graph in graphs]
+    jobs = {place: (task, kind, one.text, timeout) for place, one in enumerate(results) if isinstance(one, Instance)}
+    if executor is not None:
+        return collected(results, jobs, lambda *job: executor.submit(run_text, by, *job), errors, progress)
+    running = Running()
+    with concurrent.futures.ThreadPoolExecutor(os.cpu_count() or 1) as own:
+        try:
+            return collected(results, jobs, lambda *job: own.submit(by.run, *job, running), errors, progress)
+        except BaseException:
+            running.stop()
+            raise
+
+
+def collected(results: List[Any], jobs: Dict[int, Any], submit: Callable, errors: str, progress: Progress) -> List[Any]:
+    """The results, with the outcome of each job at its place. What isn't begun when an error ends it is cancelled."""
+    waiting = {submit(*job): place for place, job in jobs.items()}
+    report = reporter(progress, len(results))
+    try:
+        for done, future in enumerate(concurrent.futures.as_completed(waiting), 1 + len(results) - len(jobs)):
+            place = waiting[future]
+            results[place] = outcome(results[place], future, errors)
+            report(done)
+        return results
+    finally:
+        for future in waiting:
+            future.cancel()
