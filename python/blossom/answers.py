@@ -138,6 +138,8 @@ NO_ANSWER = {
 
 def why(certificate: Certificate) -> str:
     """What excludes all answers, in words."""
+    if certificate.barrier == []:
+        return ", since some component has an odd number of vertices"
     if certificate.barrier is not None:
         return ", since without %s more than %d components of odd size are left" % (listed(certificate.barrier), len(certificate.barrier))
     if certificate.part is not None and certificate.instance.kind != "postman":
@@ -148,7 +150,7 @@ def why(certificate: Certificate) -> str:
 def listed(names: List[Any]) -> str:
     """Some of the names, in words."""
     shown = ", ".join(repr(name if not isinstance(name, tuple) else tuple(name)) for name in names[:6])
-    return (shown or "no vertices") + (" and %d more" % (len(names) - 6) if len(names) > 6 else "")
+    return shown + (" and %d more" % (len(names) - 6) if len(names) > 6 else "")
 
 
 def answer_of(instance: Instance, status: int, output: bytes) -> Answer:

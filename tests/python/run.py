@@ -9,7 +9,9 @@ import sys
 import unittest
 
 HERE = os.path.dirname(os.path.abspath(__file__))
-sys.path[:0] = [HERE, os.path.join(os.path.dirname(os.path.dirname(HERE)), "python")]
+PACKAGE = os.path.join(os.path.dirname(os.path.dirname(HERE)), "python")
+sys.path[:0] = [HERE, PACKAGE]
+os.environ["PYTHONPATH"] = PACKAGE  # for the processes that tests start
 
 
 class Outcome(unittest.TestResult):

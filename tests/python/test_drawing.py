@@ -35,7 +35,8 @@ class Pictures(unittest.TestCase):
     def test_what_excludes_answers_is_red(self):
         with self.assertRaises(blossom.Infeasible) as told:
             blossom.perfect_matching(STAR)
-        self.assertEqual(blossom.draw(told.exception).svg().count('fill="#c8374a"'), 1)
+        found = blossom.draw(told.exception)
+        self.assertEqual((found.svg().count('<circle'), found.svg().count('fill="#c8374a" stroke="#2b2d42"'), parts(found)["polygon"]), (4, 1, 3))
         with self.assertRaises(blossom.NonConservative) as told:
             blossom.shortest_path([(1, 2, 1), (2, 3, -3), (3, 4, 1), (2, 4, 1)], 1, 4)
         self.assertIn("circuit in red", blossom.draw(told.exception).svg())

@@ -7,6 +7,7 @@ import subprocess
 import sys
 import tempfile
 import unittest
+from xml.etree import ElementTree
 
 from support import HERE, TOP, wanted
 
@@ -64,15 +65,20 @@ class Pages(unittest.TestCase):
             with self.subTest(page=page, code=code), tempfile.TemporaryDirectory() as room:
                 with open(os.path.join(room, "piece.py"), "w", encoding="utf-8") as file:
                     file.write(code)
-                self.with_files(room)
+                os.symlink(os.path.join(TOP, "examples"), os.path.join(room, "examples"))
                 done = subprocess.run([sys.executable, "piece.py"], cwd=room, capture_output=True, text=True)
                 self.assertEqual((done.returncode, done.stderr), (0, ""))
                 self.assertEqual(done.stdout, expected(code))
 
-    def with_files(self, room):
-        """Puts the files that the pages name into the folder where their pieces run."""
-        for path in glob.glob(os.path.join(TOP, "examples", "*.csv")):
-            os.symlink(path, os.path.join(room, os.path.basename(path)))
+    def test_the_pictures_are_there_and_can_be_made(self):
+        with open(os.path.join(TOP, "docs", "PYTHON.md"), encoding="utf-8") as file:
+            shown = re.findall(r"!\[.*?\]\(pictures/(\w+)\.svg\)", file.read())
+        self.assertEqual(len(shown), 4)
+        with tempfile.TemporaryDirectory() as room:
+            done = subprocess.run([sys.executable, os.path.join(TOP, "scripts", "pictures.py"), room], capture_output=True, text=True)
+            self.assertEqual((done.returncode, sorted(os.listdir(room))), (0, sorted(name + ".svg" for name in shown)), done.stderr)
+            for folder in (room, os.path.join(TOP, "docs", "pictures")):
+                self.assertTrue(all(ElementTree.parse(os.path.join(folder, name + ".svg")) for name in shown))
 
 
 def expected(code):

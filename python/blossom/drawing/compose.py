@@ -1,12 +1,13 @@
 """The shapes of a scene: odd sets as shaded hulls, duals as discs, used edges bold, walks as arrows, what excludes answers in red."""
 from __future__ import annotations
 
+from math import atan2, cos, pi, sin
 from typing import Dict, FrozenSet, List, Sequence, Tuple
 
 from ..kinds import VALUED, WALKED
 from .geometry import Point, arrow_head, control_point, on_curve, rounded_hull, toward
 from .scene import CAPTION, Scene
-from .shapes import Area, Curve, Disc, Shape, Sheet, Text
+from .shapes import Area, Curve, Disc, Shape, Sheet, Text, frame
 
 INK = "#2b2d42"
 FAINT = "#c3c8d1"
@@ -20,6 +21,8 @@ BAD = "#c8374a"
 WHITE = "#ffffff"
 #: Pixels between edges of the same two nodes.
 APART = 15.0
+#: Pixels between what is drawn and the sides of the sheet.
+RIM = 8.0
 TITLES = {"perfect": "perfect matching of least weight", "match": "matching of greatest weight", "bmatch": "b-matching of least weight",
           "capmatch": "b-matching of least weight within capacities", "ffactor": "factor of least weight", "tjoin": "join of least weight",
           "postman": "least closed walk along all edges", "path": "shortest path"}
@@ -129,32 +132,72 @@ def arrows(scene: Scene) -> List[Shape]:
 
 
 def excluding(scene: Scene) -> List[Shape]:
-    """The part that no edge leaves."""
-    nodes = scene.marked(scene.certificate.part)
-    corners = rounded_hull([scene.points[node] for node in nodes], [scene.radius + 16] * len(nodes))
-    return [Area(corners, BAD, 0.12, BAD, 1.4)] if nodes else []
+    """The part that no edge leaves, and the odd components that a barrier of nodes leaves."""
+    parts = [scene.marked(scene.certificate.part)] if scene.certificate.part is not None else []
+    if scene.certificate.barrier is not None and scene.instance.kind == "perfect":
+        parts = [part for part in components(scene, scene.marked(scene.certificate.barrier)) if len(part) % 2]
+    hulls = [rounded_hull([scene.points[node] for node in part], [scene.radius + 14] * len(part)) for part in parts if part]
+    return [Area(corners, BAD, 0.12, BAD, 1.2) for corners in hulls]
+
+
+def components(scene: Scene, removed: List[int]) -> List[List[int]]:
+    """The components of the graph without these nodes."""
+    pairs = [scene.pair(index) for index in range(len(scene.instance.edges))]
+    left, found = set(range(len(scene.points))) - set(removed), []
+    while left:
+        part, front = [], [left.pop()]
+        while front:
+            part.append(front.pop())
+            near = {end for pair in pairs if part[-1] in pair for end in pair} & left
+            left -= near
+            front += near
+        found.append(part)
+    return found
 
 
 def nodes(scene: Scene) -> List[Shape]:
     """The nodes with their names: red in a barrier, dark where they are terminals, and with their values where those ask for something."""
     barrier = set(scene.marked(scene.certificate.barrier))
     terminal = [scene.instance.kind in ("tjoin", "path") and value % 2 == 1 for value in scene.instance.values]
-    shapes: List[Shape] = []
+    inside = scene.inside and scene.instance.kind not in VALUED
+    away = free_directions(scene)
+    discs: List[Shape] = []
+    texts: List[Shape] = []
     for node, (place, name) in enumerate(zip(scene.points, scene.names)):
         fill = BAD if node in barrier else INK if terminal[node] else WHITE
-        shapes.append(Disc(place, scene.radius, fill, 1.0, INK, 1.4))
+        discs.append(Disc(place, scene.radius, fill, 1.0, INK, 1.4))
         if scene.instance.kind in VALUED:
             name = "%s:%d" % (name, scene.instance.values[node])
-        inside = scene.inside and scene.instance.kind not in VALUED
-        shapes.append(named(scene, place, name, inside, WHITE if fill != WHITE else INK))
-    return [shape for shape in shapes if not isinstance(shape, Text)] + [shape for shape in shapes if isinstance(shape, Text) and shape.words]
+        if name and inside:
+            texts.append(Text(place, name, 11, WHITE if fill != WHITE else INK, bold=True))
+        elif name:
+            texts.append(beside(place, away[node], scene.radius, name))
+    return discs + texts
 
 
-def named(scene: Scene, place: Point, name: str, inside: bool, colour: str) -> Text:
-    """A name, in its node or below it."""
-    if inside:
-        return Text(place, name, 11, colour, bold=True)
-    return Text((place[0], place[1] + scene.radius + 9), name, 11, INK, rim=True)
+def beside(place: Point, direction: float, radius: float, name: str) -> Text:
+    """A name by its node, in this direction."""
+    across, down = cos(direction), sin(direction)
+    anchor = "start" if across > 0.4 else "end" if across < -0.4 else "middle"
+    return Text((place[0] + across * (radius + 6), place[1] + down * (radius + 10)), name, 11, INK, rim=True, anchor=anchor)
+
+
+def free_directions(scene: Scene) -> List[float]:
+    """For each node the direction that is farthest from all its edges: there its name has room."""
+    ways: List[List[float]] = [[] for _ in scene.points]
+    for first, second in (scene.pair(index) for index in range(len(scene.instance.edges))):
+        for here, there in ((first, second), (second, first)):
+            ways[here].append(atan2(scene.points[there][1] - scene.points[here][1], scene.points[there][0] - scene.points[here][0]))
+    return [free_direction(sorted(angles)) for angles in ways]
+
+
+def free_direction(angles: List[float]) -> float:
+    """The middle of the widest gap between these directions, which ascend; down where there are none."""
+    if not angles:
+        return pi / 2
+    gaps = [(after - before, before) for before, after in zip(angles, angles[1:] + [angles[0] + 2 * pi])]
+    width, start = max(gaps)
+    return start + width / 2
 
 
 def title(scene: Scene) -> str:
@@ -175,6 +218,8 @@ def compose(scene: Scene, duals: bool, sets: bool, caption: bool) -> Sheet:
     shapes += excluding(scene)
     shapes += dual_discs(scene, discs)
     shapes += plain_edges(scene) + arrows(scene) + nodes(scene)
+    left, top, right, bottom = frame(scene.width, scene.height, shapes, RIM)
     if caption:
-        shapes.append(Text((scene.width / 2, scene.height - CAPTION / 2 - 3), title(scene), 14, INK, rim=True))
-    return Sheet(scene.width, scene.height, shapes)
+        bottom = max(bottom, frame(scene.width, scene.height, shapes, CAPTION)[3])
+        shapes.append(Text(((left + right) / 2, bottom - CAPTION / 2 - 2), title(scene), 14, INK, rim=True))
+    return Sheet(left, top, right - left, bottom - top, shapes)

@@ -5,7 +5,7 @@ from math import cos, hypot, pi, sin
 from typing import List, Sequence, Tuple
 
 Point = Tuple[float, float]
-CORNERS = 28
+CORNERS = 40
 
 
 def turn(origin: Point, first: Point, second: Point) -> float:

@@ -38,8 +38,8 @@ def on_axes(sheet: Sheet, axes: Any) -> None:
     """Draws the sheet on axes of matplotlib, which then have its pixels as their units."""
     for order, shape in enumerate(sheet.shapes, 2):
         add(axes, shape, order)
-    axes.set_xlim(0, sheet.width)
-    axes.set_ylim(sheet.height, 0)
+    axes.set_xlim(sheet.left, sheet.left + sheet.width)
+    axes.set_ylim(sheet.top + sheet.height, sheet.top)
     axes.set_aspect("equal")
     axes.set_axis_off()
 

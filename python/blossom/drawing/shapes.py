@@ -2,9 +2,12 @@
 from __future__ import annotations
 
 from dataclasses import dataclass
-from typing import List, Union
+from typing import List, Tuple, Union
 
 from .geometry import Point
+
+#: About how wide a letter is, in its size.
+LETTER = 0.58
 
 
 @dataclass
@@ -60,8 +63,31 @@ Shape = Union[Area, Disc, Curve, Text]
 
 @dataclass
 class Sheet:
-    """Shapes, those behind first, on a sheet of this width and height."""
+    """Shapes, those behind first, and the rectangle of the plane that is shown: its upper left corner, its width and height."""
 
+    left: float
+    top: float
     width: float
     height: float
     shapes: List[Shape]
+
+
+def corners_of(shape: Shape) -> List[Point]:
+    """Points that no part of the shape reaches beyond, to all sides; none of curves, whose ends are nodes. How wide a text is can only be guessed."""
+    if isinstance(shape, Area):
+        return shape.corners
+    if isinstance(shape, Disc):
+        (x, y), size = shape.centre, shape.radius
+        return [(x - size, y - size), (x + size, y + size)]
+    if isinstance(shape, Text):
+        (x, y), wide = shape.centre, LETTER * shape.size * len(shape.words)
+        start = {"start": x, "middle": x - wide / 2, "end": x - wide}[shape.anchor]
+        return [(start, y - shape.size / 2), (start + wide, y + shape.size / 2)]
+    return []
+
+
+def frame(width: float, height: float, shapes: List[Shape], rim: float) -> Tuple[float, float, float, float]:
+    """The sides (left, top, right, bottom) of a sheet of this size, moved out where shapes would reach over them or nearer than the rim."""
+    corners = [corner for shape in shapes for corner in corners_of(shape)] or [(rim, rim)]
+    across, down = [x for x, _ in corners], [y for _, y in corners]
+    return min(0.0, min(across) - rim), min(0.0, min(down) - rim), max(width, max(across) + rim), max(height, max(down) + rim)

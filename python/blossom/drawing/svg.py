@@ -45,7 +45,9 @@ def text_element(shape: Text) -> str:
 
 def svg(sheet: Sheet, title: str) -> str:
     """The picture as the text of an SVG file; the title is what a reader of the screen says."""
-    size = 'width="%s" height="%s" viewBox="0 0 %s %s"' % (2 * (short(sheet.width), short(sheet.height)))
+    size = 'width="%s" height="%s" viewBox="%s %s %s %s"' % tuple(
+        short(side) for side in (sheet.width, sheet.height, sheet.left, sheet.top, sheet.width, sheet.height))
     lines: List[str] = ['<svg xmlns="http://www.w3.org/2000/svg" %s font-family=%s>' % (size, quoteattr(FONT)),
-                        "<title>%s</title>" % escape(title), '<rect width="100%" height="100%" fill="white"/>']
+                        "<title>%s</title>" % escape(title),
+                        '<rect x="%s" y="%s" width="100%%" height="100%%" fill="white"/>' % (short(sheet.left), short(sheet.top))]
     return "\n".join(lines + [element(shape) for shape in sheet.shapes] + ["</svg>\n"])
