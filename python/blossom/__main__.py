@@ -7,6 +7,10 @@ USAGE = "usage: python -m blossom convert GRAPH [-o FILE] [--kind KIND] [--answe
 
 
 def main() -> int:
+    """Does what the words say; 2 where they are no command."""
+    if sys.argv[1:2] in (["-h"], ["--help"]):
+        print(USAGE)
+        return 0
     if sys.argv[1:2] != ["convert"]:
         print(USAGE, file=sys.stderr)
         return 2

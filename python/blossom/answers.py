@@ -159,12 +159,24 @@ def answer_of(instance: Instance, status: int, output: bytes) -> Answer:
     if status != 0:
         refuse(status, output)
     certificate = Certificate(instance, output)
+    refuse_strange(certificate)
     if certificate.status == "infeasible":
         raise Infeasible(NO_ANSWER[instance.kind] + why(certificate), certificate)
     if certificate.status == "nonconservative":
         circuit = "" if certificate.circuit is None else ": " + listed(certificate.circuit)
         raise NonConservative("some circuit weighs less than 0%s" % circuit, certificate)
     return Answer(instance, certificate)
+
+
+def refuse_strange(certificate: Certificate) -> None:
+    """Refuses a document that speaks of something else than its instance. ProgramFailed: it is of another kind, or names edges that aren't
+    there."""
+    document, instance = certificate.document, certificate.instance
+    if document.kind != instance.kind:
+        raise ProgramFailed("the document is one of %s, and not of %s" % (document.kind, instance.kind))
+    edges = [*document.counts, *(document.walk[1] if document.walk else ())]
+    if edges and not 1 <= min(edges) <= max(edges) <= len(instance.edges):
+        raise ProgramFailed("the document names edges that aren't in the graph: is it of another one?")
 
 
 def verdict_of(status: int, output: bytes) -> Verdict:

@@ -2,8 +2,10 @@
 from __future__ import annotations
 
 import concurrent.futures
+import contextlib
+import functools
 import os
-from typing import Any, Callable, Dict, Iterable, List, Optional, Union
+from typing import Any, Callable, Dict, Iterable, Iterator, List, Optional, Tuple, Union
 
 from .answers import Answer, answer_of
 from .errors import BlossomError
@@ -13,9 +15,10 @@ from .running import Runner, runner
 from .solving import instance_of
 
 Progress = Union[None, bool, Callable[[int, int], None]]
+Job = Tuple[str, str, bytes, Optional[float]]
 
 
-def run_text(by: Runner, task: str, kind: str, text: bytes, timeout: Optional[float]) -> Any:
+def run_text(by: Runner, task: str, kind: str, text: bytes, timeout: Optional[float]) -> Tuple[int, bytes]:
     """One run, as it goes to an executor: only bytes, numbers and paths go there and come back."""
     return by.run(task, kind, text, timeout)
 
@@ -40,26 +43,24 @@ def outcome(instance: Instance, future: concurrent.futures.Future, errors: str) 
         return error
 
 
-def move(bar: Any, done: int, total: int) -> None:
-    """Moves a bar of tqdm to so many graphs."""
-    bar.update(done - bar.n)
-    if done == total:
-        bar.close()
-
-
-def reporter(progress: Progress, total: int) -> Callable[[int], None]:
+@contextlib.contextmanager
+def reporter(progress: Progress, total: int) -> Iterator[Callable[[int], None]]:
     """What is called with the number of graphs that are done."""
     if progress is True:
         from tqdm import tqdm
 
-        bar = tqdm(total=total, unit="graph")
-        return lambda done: move(bar, done, total)
-    return (lambda done: progress(done, total)) if callable(progress) else (lambda done: None)
+        with tqdm(total=total, unit="graph") as bar:
+            yield lambda done: bar.update(done - bar.n) and None
+    elif callable(progress):
+        call = progress
+        yield lambda done: call(done, total)
+    else:
+        yield lambda done: None
 
 
 def solve_many(kind: str, graphs: Iterable[Any], *, executor: Optional[concurrent.futures.Executor] = None, progress: Progress = None,
                errors: str = "raise", brief: bool = False, via: Any = "process", program: Optional[str] = None,
-               timeout: Optional[float] = None, **how: Any) -> List[Union[Answer, BlossomError]]:
+               timeout: Optional[float] = None, **how: Any) -> List[Any]:
     """The answers of many graphs for one kind, in their order.
 
     graphs: each in any of the forms that `solve` takes; one that is an `Instance` already keeps its own words, for the others `how` stands.
@@ -72,27 +73,29 @@ def solve_many(kind: str, graphs: Iterable[Any], *, executor: Optional[concurren
         raise ValueError('errors is "raise" or "return", and not %r' % (errors,))
     by, task = runner(via, program), "brief" if brief else "solve"
     results: List[Any] = [prepared(graph, kind, how, errors) for graph in graphs]
-    jobs = {place: (task, kind, one.text, timeout) for place, one in enumerate(results) if isinstance(one, Instance)}
+    jobs: Dict[int, Job] = {place: (task, kind, one.text, timeout) for place, one in enumerate(results) if isinstance(one, Instance)}
     if executor is not None:
-        return collected(results, jobs, lambda *job: executor.submit(run_text, by, *job), errors, progress)
+        submit = executor.submit
+        return collected(results, jobs, lambda *job: submit(run_text, by, *job), errors, progress)
     running = Running()
     with concurrent.futures.ThreadPoolExecutor(os.cpu_count() or 1) as own:
         try:
-            return collected(results, jobs, lambda *job: own.submit(by.run, *job, running), errors, progress)
+            return collected(results, jobs, lambda *job: own.submit(functools.partial(by.run, running=running), *job), errors, progress)
         except BaseException:
             running.stop()
             raise
 
 
-def collected(results: List[Any], jobs: Dict[int, Any], submit: Callable, errors: str, progress: Progress) -> List[Any]:
+def collected(results: List[Any], jobs: Dict[int, Job], submit: Callable[..., concurrent.futures.Future], errors: str,
+              progress: Progress) -> List[Any]:
     """The results, with the outcome of each job at its place. What isn't begun when an error ends it is cancelled."""
     waiting = {submit(*job): place for place, job in jobs.items()}
-    report = reporter(progress, len(results))
     try:
-        for done, future in enumerate(concurrent.futures.as_completed(waiting), 1 + len(results) - len(jobs)):
-            place = waiting[future]
-            results[place] = outcome(results[place], future, errors)
-            report(done)
+        with reporter(progress, len(results)) as report:
+            for done, future in enumerate(concurrent.futures.as_completed(waiting), 1 + len(results) - len(jobs)):
+                place = waiting[future]
+                results[place] = outcome(results[place], future, errors)
+                report(done)
         return results
     finally:
         for future in waiting:

@@ -81,8 +81,8 @@ def from_arrays(arrays: Sequence[Any]) -> Table:
     if not 2 <= len(arrays) <= 4:
         raise GraphError("edges have two ends, a weight and a capacity: two to four columns, not %d" % len(arrays))
     lists = [plain_list(array) for array in arrays]
-    count = len(lists[0])
-    lists += [[1] * count, [None] * count][len(lists) - 2:]
+    usual: List[List[Any]] = [[1] * len(lists[0]), [None] * len(lists[0])]
+    lists += usual[len(lists) - 2:]
     return from_lists(*lists)
 
 

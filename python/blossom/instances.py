@@ -112,12 +112,15 @@ def asked_values(graph: Any, table: Table, kind: str, values: Values, terminals:
         if source is None or target is None or source == target:
             raise GraphError("a path goes from a source to another target, and not from %r to %r" % (source, target))
         return {source: 1, target: 1}
+    if values is not None and kind not in kinds.VALUED + kinds.ODD:
+        raise GraphError("values are those of %s, and not of %s" % (", ".join(kinds.VALUED + kinds.ODD), kind))
     if isinstance(values, str):
         if not hasattr(graph, "nodes") or isinstance(graph, Table):
             raise GraphError("values=%r names an attribute of nodes, and this graph has none: pass a mapping" % values)
         given = {node: attributes[values] for node, attributes in graph.nodes(data=True) if values in attributes}
     else:
-        given = dict(table.values if values is None else values)
+        own = table.values if kind in kinds.VALUED + kinds.ODD else {}
+        given = dict(own if values is None else values)
     if kind == "path" and sum(is_natural(value) and value % 2 == 1 for value in given.values()) != 2:
         raise GraphError("a path goes from a source to a target: name both")
     return given
@@ -125,7 +128,7 @@ def asked_values(graph: Any, table: Table, kind: str, values: Values, terminals:
 
 def is_natural(value: Any) -> bool:
     """Whether it is a whole number from 0 on, of whatever type."""
-    return isinstance(value, numbers.Real) and math.isfinite(value) and value == int(value) and value >= 0
+    return isinstance(value, numbers.Real) and math.isfinite(value) and float(value).is_integer() and float(value) >= 0
 
 
 def value_of(node: Node, given: Mapping[Node, int], kind: str) -> int:

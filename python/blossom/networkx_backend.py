@@ -9,6 +9,7 @@ from __future__ import annotations
 import warnings
 from typing import Any, Dict, List, Optional, Set, Tuple
 
+from .answers import Answer
 from .errors import Infeasible, RoundedWeights
 from .graphs import Node
 from .solving import solve
@@ -32,13 +33,18 @@ def most_edges(nodes: List[Node], edges: Edges) -> Set[Tuple[Node, Node]]:
     """A matching of least weight among those with the most edges: a perfect one where there is one. Else let one node more take the place of
     every partner that is lacking: it is met as often as the largest matching leaves nodes alone."""
     try:
-        return set(solve(edges, "perfect", nodes=nodes, brief=True).edges)
+        return pairs(solve(edges, "perfect", nodes=nodes, brief=True))
     except Infeasible:
         largest = len(solve([edge[:2] for edge in edges], "match", nodes=nodes, brief=True).indices)
     alone = len(nodes) - 2 * largest
     lonely = [(node, NOBODY, 0) for node in nodes]
-    used = solve(edges + lonely, "bmatch", nodes=nodes, values={NOBODY: alone}, brief=True).indices
-    return {edges[index][:2] for index in used if index < len(edges)}
+    used = solve(edges + lonely, "bmatch", nodes=nodes, values={NOBODY: alone}, brief=True)
+    return {pair for pair in pairs(used) if NOBODY not in pair}
+
+
+def pairs(answer: Answer) -> Set[Tuple[Node, Node]]:
+    """The edges that are used, as pairs of nodes."""
+    return {answer.instance.ends[index] for index in answer.indices}
 
 
 def max_weight_matching(G: Any, maxcardinality: bool = False, weight: Optional[str] = "weight") -> Set[Tuple[Node, Node]]:
@@ -46,7 +52,7 @@ def max_weight_matching(G: Any, maxcardinality: bool = False, weight: Optional[s
     edges = whole_edges(G, weight)
     if maxcardinality:
         return most_edges(list(G), [(first, second, -one) for first, second, one in edges])
-    return set(solve(edges, "match", nodes=list(G), brief=True).edges)
+    return pairs(solve(edges, "match", nodes=list(G), brief=True))
 
 
 def min_weight_matching(G: Any, weight: Optional[str] = "weight") -> Set[Tuple[Node, Node]]:

@@ -1,6 +1,7 @@
 """The program as a process: a call can be stopped, and nothing that happens to it happens to the caller."""
 from __future__ import annotations
 
+import contextlib
 import os
 import shutil
 import subprocess
@@ -79,7 +80,7 @@ class Process:
             output, _ = child.communicate(text, timeout=timeout)
             return child.returncode, output
         except subprocess.TimeoutExpired:
-            raise TimeLimit("the program was stopped after %g seconds" % timeout) from None
+            raise TimeLimit("the program was stopped after %s seconds" % timeout) from None
         finally:
             running.remove(child)
             end(child)
@@ -89,9 +90,7 @@ def end(child: subprocess.Popen) -> None:
     """Ends a process that still runs, and lets its pipes go."""
     if child.poll() is None:
         child.kill()
-    for pipe in (child.stdin, child.stdout):
-        try:
+    for pipe in filter(None, (child.stdin, child.stdout)):
+        with contextlib.suppress(OSError):
             pipe.close()
-        except OSError:
-            pass
     child.wait()

@@ -4,6 +4,7 @@ import unittest
 from fractions import Fraction
 
 import blossom
+from blossom.answers import answer_of
 from support import STAR, TRIANGLES, instances, wanted
 
 SQUARE = [(1, 2, 4), (2, 3, 4), (3, 4, 4), (1, 4, 4), (1, 3, 5)]
@@ -132,6 +133,11 @@ class NoAnswer(unittest.TestCase):
     def test_a_circuit_below_0(self):
         told = self.refused(blossom.NonConservative, blossom.shortest_path, [(1, 2, 1), (2, 3, -3), (3, 4, 1), (2, 4, 1)], 1, 4)
         self.assertEqual({frozenset(step) for step in told.circuit}, {frozenset(pair) for pair in ((2, 3), (3, 4), (4, 2))})
+
+    def test_a_document_of_something_else(self):
+        for text, words in ((b"s OPTIMAL match 5\nx 1 1\n", "one of match"), (b"s OPTIMAL perfect 5\nx 2 1\n", "aren't in the graph")):
+            with self.assertRaisesRegex(blossom.ProgramFailed, words):
+                answer_of(blossom.instance([("a", "b", 5)], "perfect"), 0, text)
 
     def test_a_brief_refusal_has_no_barrier(self):
         with self.assertRaises(blossom.Infeasible) as told:

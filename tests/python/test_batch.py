@@ -59,7 +59,7 @@ class Batches(unittest.TestCase):
     def test_time_limits_are_for_each(self):
         with stand_in("read line; case $line in *' 4 '*) exec sleep 60;; esac; cat >/dev/null; echo s OPTIMAL perfect 0") as path:
             graphs = [[("a", "b")], [("a", "b"), ("c", "d")]]
-            self.assertEqual(names(blossom.solve_many("perfect", graphs, program=path, timeout=1, errors="return")), ["Answer", "TimeLimit"])
+            self.assertEqual(names(blossom.solve_many("perfect", graphs, program=path, timeout=4, errors="return")), ["Answer", "TimeLimit"])
 
     def test_an_error_stops_what_runs(self):
         with stand_in("read line; case $line in *' 4 '*) exec sleep 60;; esac; exit 8") as path:

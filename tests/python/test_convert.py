@@ -1,5 +1,6 @@
 """Files of graphs, and `python -m blossom convert`."""
 import csv
+import glob
 import io
 import os
 import subprocess
@@ -152,8 +153,11 @@ class Command(unittest.TestCase):
         self.assertEqual(subprocess.run([sys.executable, "-m", "blossom"], capture_output=True).returncode, 2)
 
     def test_examples_of_the_repository(self):
-        for name in ("two-triangles", "tjoin-ladder", "capmatch-square"):
-            path = os.path.join(TOP, "examples", name + ".dimacs")
-            kind = name.partition("-")[0] if name != "two-triangles" else "perfect"
-            self.assertIn(b"p edge", self.convert(path, "--kind", kind))
-            self.assertGreater(blossom.solve(blossom.read(path), kind).weight, 0)
+        for path in sorted(glob.glob(os.path.join(TOP, "examples", "*.dimacs"))):
+            kind = os.path.basename(path).partition("-")[0]
+            kind = kind if kind in blossom.KINDS else "perfect"
+            text = self.convert(path, "--kind", kind)
+            with open(path, "rb") as file:
+                given = file.read()
+            runs = [subprocess.run([find_program(), "solve", kind], input=one, capture_output=True) for one in (given, text)]
+            self.assertEqual((runs[0].stdout, 0), (runs[1].stdout, runs[1].returncode), path)

@@ -99,7 +99,7 @@ class Refusals(unittest.TestCase):
             text([("a", "b")], "tjoin", terminals=["a", "c"])
 
     def test_words_of_another_kind(self):
-        for kind, how in (("perfect", {"terminals": ["a"]}), ("tjoin", {"source": "a", "target": "b"}), ("path", {"source": "a"}),
+        for kind, how in (("perfect", {"terminals": ["a"]}), ("tjoin", {"source": "a", "target": "b"}), ("path", {"source": "a"}), ("match", {"values": {"a": 1}}),
                           ("path", {"source": "a", "target": "a"}), ("path", {})):
             with self.assertRaises(blossom.GraphError):
                 text([("a", "b")], kind, **how)

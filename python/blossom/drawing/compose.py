@@ -83,7 +83,7 @@ def depth(nodes: List[int], sets: List[Tuple[List[int], float]]) -> int:
 def disc_sizes(scene: Scene) -> List[float]:
     """The radii of the discs of the duals: to scale the duals themselves, else rings around the nodes that are the wider the greater they are."""
     duals = scene.dual_of()
-    greatest = max(map(abs, duals), default=0) or 1.0
+    greatest = max([abs(dual) for dual in duals], default=0.0) or 1.0
     ring = min(22.0, max(7.0, 0.4 * scene.nearest() - scene.radius))
     return [0.0 if not dual else abs(dual) * scene.unit if scene.unit else scene.radius + ring * (0.15 + 0.85 * abs(dual) / greatest) for dual in duals]
 
@@ -102,9 +102,9 @@ def plain_edges(scene: Scene) -> List[Shape]:
     walked = scene.instance.kind in WALKED
     drawn = [(curve(scene, pair, bend, USED, 4.2) if counts[index] and not walked else curve(scene, pair, bend, FAINT, 1.6))
              for index, (pair, bend) in enumerate(zip(pairs, bends(pairs))) if not (walked and counts[index])]
-    shapes: List[Shape] = sorted(drawn, key=lambda line: line.width)
+    drawn.sort(key=lambda line: line.width)
     texts = [weight_text(scene, index, pair, bend, counts[index]) for index, (pair, bend) in enumerate(zip(pairs, bends(pairs)))]
-    return shapes + [text for text in texts if text.words]
+    return [*drawn, *[text for text in texts if text.words]]
 
 
 def weight_text(scene: Scene, index: int, pair: Tuple[int, int], bend: float, count: int) -> Text:
@@ -118,10 +118,9 @@ def weight_text(scene: Scene, index: int, pair: Tuple[int, int], bend: float, co
 
 def arrows(scene: Scene) -> List[Shape]:
     """The steps of a walk in their order, and the circuit that weighs less than 0. A step along an edge that was walked before stands out."""
-    places = {node: place for place, node in enumerate(scene.instance.nodes)}
     steps = scene.answer.steps if scene.answer is not None else scene.certificate.circuit or []
     edges = scene.answer.step_indices if scene.answer is not None else range(len(steps))
-    pairs = [(places[step[0]], places[step[1]]) for step in steps]
+    pairs = [(scene.places[step[0]], scene.places[step[1]]) for step in steps]
     seen: set = set()
     shapes: List[Shape] = []
     for place, (pair, bend, edge) in enumerate(zip(pairs, bends(pairs), edges), 1):

@@ -1,6 +1,7 @@
 """Pictures by matplotlib: on axes that are given, or as PNG, PDF and whatever else it writes."""
 from __future__ import annotations
 
+import os
 from typing import IO, Any, Union
 
 from .shapes import Area, Curve, Disc, Shape, Sheet, Text
@@ -44,7 +45,7 @@ def on_axes(sheet: Sheet, axes: Any) -> None:
     axes.set_axis_off()
 
 
-def save(sheet: Sheet, file: Union[str, IO[bytes]], format: str, sharpness: float = 2.0) -> None:
+def save(sheet: Sheet, file: Union[str, os.PathLike, IO[bytes]], format: str, sharpness: float = 2.0) -> None:
     """Writes the sheet as a picture of this format. sharpness: dots for each pixel of the sheet."""
     from matplotlib.backends.backend_agg import FigureCanvasAgg
     from matplotlib.figure import Figure

@@ -2,8 +2,9 @@
 from __future__ import annotations
 
 from dataclasses import dataclass
+from functools import cached_property
 from math import hypot
-from typing import Any, Dict, Hashable, List, Mapping, Optional, Sequence, Tuple, Union
+from typing import Any, Dict, FrozenSet, Hashable, List, Mapping, Optional, Sequence, Tuple, Union
 
 from ..answers import Answer
 from ..certificates import Certificate
@@ -39,6 +40,11 @@ class Scene:
     inside: bool
     weights: bool
 
+    @cached_property
+    def places(self) -> Dict[Hashable, int]:
+        """The place of each node."""
+        return {node: place for place, node in enumerate(self.instance.nodes)}
+
     def dual_of(self) -> List[float]:
         """For each node the mean of the duals of its vertices, in units of weight."""
         found: Dict[Hashable, List[float]] = {}
@@ -49,23 +55,20 @@ class Scene:
 
     def node_sets(self) -> List[Tuple[List[int], float]]:
         """The nodes of each odd set with its dual, the larger sets first; sets of the same nodes are one, with their duals added."""
-        number_of, sets = self.instance.number_of(), {}
+        sets: Dict[FrozenSet[int], float] = {}
         for members, dual in self.certificate.odd_sets:
-            nodes = frozenset(number_of[node_of(name)] - 1 for name in members)
+            nodes = frozenset(self.places[node_of(name)] for name in members)
             sets[nodes] = sets.get(nodes, 0.0) + float(dual)
         return [(sorted(nodes), dual) for nodes, dual in sorted(sets.items(), key=lambda one: (-len(one[0]), sorted(one[0])))]
 
     def marked(self, names: Optional[Sequence[Any]]) -> List[int]:
         """The nodes that these names belong to."""
-        number_of = self.instance.number_of()
-        return sorted({number_of[node_of(name)] - 1 for name in names or ()})
+        return sorted({self.places[node_of(name)] for name in names or ()})
 
     def pair(self, index: int) -> Tuple[int, int]:
         """The ends of an edge."""
-        if not hasattr(self, "_places"):
-            self._places = {node: place for place, node in enumerate(self.instance.nodes)}
         first, second = self.instance.ends[index]
-        return self._places[first], self._places[second]
+        return self.places[first], self.places[second]
 
     def nearest(self) -> float:
         """The least distance between two nodes, in pixels."""

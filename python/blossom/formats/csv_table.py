@@ -2,7 +2,7 @@
 from __future__ import annotations
 
 import csv
-from typing import IO, Dict, List, Optional
+from typing import IO, Any, List, Mapping, Optional, Sequence, Tuple
 
 from ..errors import GraphError
 from ..graphs import END_NAMES, Table, named
@@ -31,14 +31,15 @@ def read_csv(file: IO[str], weight: str = "weight", capacity: str = "capacity") 
     return table_of_rows(rows, pair[0], pair[1], weight, capacity)
 
 
-def table_of_rows(rows: List[Dict[str, Optional[str]]], first: str, second: str, weight: str, capacity: str) -> Table:
+def table_of_rows(rows: Sequence[Mapping[str, Optional[str]]], first: str, second: str, weight: str, capacity: str) -> Table:
     """The table of rows of texts. GraphError: an end is missing, a number is none, or two edges have one name."""
     for row in rows:
         if not row.get(first) or not row.get(second):
             raise GraphError("an edge lacks an end: %r" % (row,))
-    ends = [(row[first], row[second]) for row in rows]
+    ends: List[Tuple[Any, Any]] = [(row[first], row[second]) for row in rows]
     keys = [row.get("key") for row in rows]
-    names = [(*pair, key) for pair, key in zip(ends, keys)] if all(key is not None for key in keys) and rows else named(ends)
+    keyed = bool(rows) and all(key is not None for key in keys)
+    names: List[Tuple] = [(*pair, key) for pair, key in zip(ends, keys)] if keyed else named(ends)
     if len(set(names)) < len(names):
         raise GraphError("two edges have the same ends and the same key")
     return Table(list(dict.fromkeys(node for pair in ends for node in pair)), ends, names,

@@ -1,7 +1,7 @@
 """Graphs in the DIMACS format of matching problems, as docs/FORMAT.md has it for instances."""
 from __future__ import annotations
 
-from typing import IO, Dict, List
+from typing import IO, Any, Dict, List
 
 from ..errors import GraphError
 from ..graphs import Table, named
@@ -42,7 +42,7 @@ def take(table: Table, fields: List[str]) -> None:
         raise GraphError("the line %r has another number of fields" % " ".join(fields))
 
 
-def known(table: Table, node: int) -> int:
+def known(table: Table, node: Any) -> int:
     """The node, where it is one."""
     if node not in range(1, len(table.nodes) + 1):
         raise GraphError("there is no vertex %s: the header says %d" % (node, len(table.nodes)))
