@@ -1,5 +1,6 @@
 #!/usr/bin/env python3
-"""Runs the tests of the Python package. The environment variable BLOSSOM names the program. Prints each failure and each test that is
+"""Runs the tests of the Python package, over the program that the environment variable BLOSSOM names, or the one that is built in this
+checkout; where there is none it ends at once, since each call would begin to build it. Prints each failure and each test that is
 skipped, with the reason; the last line is 'N passed, M failed, K skipped'; the status is 1 if a test failed or none ran.
 
 Usage: run.py [NAME ..], as `run.py test_decoder`: the modules to run, all without names."""
@@ -29,7 +30,16 @@ class Outcome(unittest.TestResult):
         return self.failures + self.errors + [(test, "it should have failed") for test in self.unexpectedSuccesses]
 
 
+def program():
+    """The path of the program. Ends where there is none."""
+    path = os.path.abspath(os.environ.get("BLOSSOM") or os.path.join(os.path.dirname(PACKAGE), "crates", "blossom", "out", "blossom"))
+    if not os.path.exists(path):
+        sys.exit("there is no program %s: ./blossom builds it" % path)
+    return path
+
+
 def main(names):
+    os.environ["BLOSSOM"] = program()
     names = names or sorted(os.path.basename(path)[:-3] for path in glob.glob(os.path.join(HERE, "test_*.py")))
     outcome = Outcome()
     unittest.defaultTestLoader.loadTestsFromNames(names).run(outcome)
