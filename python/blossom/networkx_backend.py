@@ -49,6 +49,7 @@ def pairs(answer: Answer) -> Set[Tuple[Node, Node]]:
 
 def max_weight_matching(G: Any, maxcardinality: bool = False, weight: Optional[str] = "weight") -> Set[Tuple[Node, Node]]:
     """A matching of greatest weight; with `maxcardinality` among those with the most edges."""
+    forget(G)
     edges = whole_edges(G, weight)
     if maxcardinality:
         return most_edges(list(G), [(first, second, -one) for first, second, one in edges])
@@ -57,7 +58,14 @@ def max_weight_matching(G: Any, maxcardinality: bool = False, weight: Optional[s
 
 def min_weight_matching(G: Any, weight: Optional[str] = "weight") -> Set[Tuple[Node, Node]]:
     """A matching of least weight among those with the most edges."""
+    forget(G)
     return most_edges(list(G), whole_edges(G, weight))
+
+
+def forget(graph: Any) -> None:
+    """Takes away what networkx keeps of a conversion: there is none, since graphs are read as they stand, and what is kept makes it warn of graphs
+    that were changed since."""
+    (getattr(graph, "__networkx_cache__", None) or {}).get("backends", {}).pop("blossom", None)
 
 
 def convert_from_nx(graph: Any, **how: Any) -> Any:

@@ -40,7 +40,8 @@ def own_tests():
 def main():
     for name in ("max_weight_matching", "min_weight_matching"):
         setattr(networkx_backend, name, counted(getattr(networkx_backend, name)))
-    warnings.simplefilter("ignore")
+    warnings.simplefilter("error")
+    warnings.simplefilter("ignore", blossom.RoundedWeights)
     with networkx.config(backend_priority=["blossom"]):
         ran = own_tests()
     assert CALLED.count("max_weight_matching") >= ran and CALLED.count("min_weight_matching") >= ran, CALLED
