@@ -161,7 +161,7 @@ def answer_of(instance: Instance, status: int, output: bytes) -> Answer:
     certificate = Certificate(instance, output)
     refuse_strange(certificate)
     if certificate.status == "infeasible":
-        raise Infeasible(NO_ANSWER[instance.kind] + why(certificate), certificate)
+        raise Infeasible(NO_ANSWER.get(instance.kind, "there is no answer") + why(certificate), certificate)
     if certificate.status == "nonconservative":
         circuit = "" if certificate.circuit is None else ": " + listed(certificate.circuit)
         raise NonConservative("some circuit weighs less than 0%s" % circuit, certificate)
@@ -186,7 +186,7 @@ def verdict_of(status: int, output: bytes) -> Verdict:
     words = output.decode("latin-1").split()
     if words[:2] == ["s", "ACCEPTED"] and status == 0:
         return Verdict(True)
-    if words[:2] == ["s", "REJECTED"] and len(words) == 4:
+    if words[:2] == ["s", "REJECTED"] and len(words) == 4 and status == 1:
         return Verdict(False, words[2], int(words[3]))
     raise ProgramFailed("the program printed %r, which is no verdict" % output[:80])
 
@@ -196,7 +196,7 @@ def refuse(status: int, output: bytes) -> None:
     words = output.decode("latin-1").split()[1:]
     if status == 3:
         raise BlossomError("the instance breaks a rule: " + " ".join(words[1:]))
-    if status == 4:
+    if status == 4 and len(words) == 3:
         vertices, edges = int(words[1]), int(words[2])
         raise LimitExceeded("the graph of the duals has %d vertices and %d edges; at most 4096 and 1048576 are taken" % (vertices, edges),
                             vertices, edges)
@@ -204,5 +204,5 @@ def refuse(status: int, output: bytes) -> None:
         raise LimitExceeded("the input has more bytes than the program takes")
     meanings = {2: "it knows no such command; is it another version?", 6: "it could not read its input", 7: "it could not write its answer",
                 8: "there is not enough memory"}
-    signal = "a signal ended it" if status < 0 else "that is no status of its"
+    signal = "a signal ended it" if status < 0 else "that is no status of its, or not what it prints then"
     raise ProgramFailed("the program ended with status %d: %s" % (status, meanings.get(status, signal)))

@@ -1,4 +1,5 @@
 """networkx's functions by blossom."""
+import importlib.util
 import os
 import random
 import subprocess
@@ -22,6 +23,8 @@ class Backend(unittest.TestCase):
             self.skipTest("networkx %s has no backends" % self.networkx.__version__)
 
     def test_its_own_tests_pass(self):
+        if importlib.util.find_spec("networkx.algorithms.tests.test_matching") is None:
+            self.skipTest("networkx is installed without its tests")
         with tempfile.TemporaryDirectory() as room:
             sys.path.insert(0, os.path.join(TOP, "python"))
             import build_backend

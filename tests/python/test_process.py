@@ -66,12 +66,13 @@ class Ends(unittest.TestCase):
         self.assertEqual(blossom.perfect_matching(EDGE, timeout=60).weight, 1)
 
     def test_statuses_that_are_no_answer(self):
-        for text, words in (("exit 8", "not enough memory"), ("exit 2", "no such command"), ("exit 77", "status 77"), ("kill -9 $$", "signal"),
+        for text, words in (("exit 8", "not enough memory"), ("exit 2", "no such command"), ("exit 77", "status 77"), ("exit 4", "status 4"), ("kill -9 $$", "signal"),
                             ("echo hello", "no line of a document"), ("true", "no document"), ("echo s OPTIMAL perfect x", "no line")):
             with stand_in(text) as path, self.assertRaisesRegex(blossom.ProgramFailed, words):
                 blossom.perfect_matching(EDGE, program=path).weight
-        with stand_in("echo hello") as path, self.assertRaisesRegex(blossom.ProgramFailed, "no verdict"):
-            blossom.check(EDGE, "perfect", "", program=path)
+        for text in ("echo hello", "echo s ACCEPTED; exit 1", "echo s REJECTED Slack 3", "echo s REJECTED; exit 1"):
+            with stand_in(text) as path, self.assertRaisesRegex(blossom.ProgramFailed, "no verdict"):
+                blossom.check(EDGE, "perfect", "", program=path)
         with stand_in("echo s TOOLONG; exit 5") as path, self.assertRaises(blossom.LimitExceeded):
             blossom.perfect_matching(EDGE, program=path)
 
