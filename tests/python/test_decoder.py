@@ -76,6 +76,12 @@ class Decoding(unittest.TestCase):
         self.assertEqual(decoder.decode({3, 7, 30}, return_weight=True), ([1], 9))
         self.assertTrue(decoder.answer({3, 7, 30}).check())
 
+    def test_edges_within_the_boundary(self):
+        decoder = blossom.Decoder.from_edges([(0, 1, -5, 0), (1, None, -2, 1), (0, 3, 4, 2), (2, 1, 3, 3)], boundary=[0, 1])
+        self.assertEqual(decoder.decode([0, 0, 0, 0], return_weight=True), ([1, 1, 0, 0], -7))
+        self.assertEqual(decoder.decode({2}, return_weight=True), ([1, 1, 0, 1], -4))
+        self.assertEqual(decoder.decode_to_edges_array({2}), [(0, 1), (1, -1), (2, 1)])
+
     def test_answers_prove_themselves(self):
         answer = blossom.Decoder.from_edges(ring(7)).answer({1, 4})
         self.assertEqual((answer.weight, answer.certificate.bound), (3, 3))

@@ -66,8 +66,8 @@ class Ends(unittest.TestCase):
         self.assertEqual(blossom.perfect_matching(EDGE, timeout=60).weight, 1)
 
     def test_statuses_that_are_no_answer(self):
-        for text, words in (("exit 8", "not enough memory"), ("exit 2", "no such command"), ("exit 77", "status 77"), ("exit 4", "status 4"), ("kill -9 $$", "signal"),
-                            ("echo hello", "no line of a document"), ("true", "no document"), ("echo s OPTIMAL perfect x", "no line")):
+        for text, words in (("exit 8", "not enough memory"), ("exit 2", "no such command"), ("exit 77", "status 77"), ("exit 4", "status 4"),
+                            ("kill -9 $$", "signal"), ("echo hello", "no line of a document"), ("true", "no document"), ("echo s OPTIMAL perfect x", "no line")):
             with stand_in(text) as path, self.assertRaisesRegex(blossom.ProgramFailed, words):
                 blossom.perfect_matching(EDGE, program=path).weight
         for text in ("echo hello", "echo s ACCEPTED; exit 1", "echo s REJECTED Slack 3", "echo s REJECTED; exit 1"):
@@ -80,8 +80,9 @@ class Ends(unittest.TestCase):
         with stand_in("echo $$ > $0.pid; exec sleep 60") as path:
             child = subprocess.Popen([sys.executable, "-c", "import blossom; blossom.solve([(1, 2)], program=%r)" % path], stderr=subprocess.DEVNULL)
             number = self.number_in(path + ".pid")
+            time.sleep(1)  # until the caller waits for the process that it just started
             os.kill(child.pid, signal.SIGINT)  # to the caller alone, and not to the process
-            self.assertNotEqual(child.wait(20), 0)
+            self.assertNotEqual(child.wait(60), 0)
             self.gone(number)
 
     def test_what_runs_can_be_stopped_from_another_thread(self):
@@ -93,14 +94,14 @@ class Ends(unittest.TestCase):
             self.assertEqual((early.wait(20), late.wait(20)), (-9, -9))
 
     def number_in(self, path):
-        for _ in range(200):
+        for _ in range(1200):
             if os.path.exists(path) and open(path, encoding="utf-8").read().strip():
                 return int(open(path, encoding="utf-8").read())
             time.sleep(0.05)
         self.fail("the stand-in was never started")
 
     def gone(self, number):
-        for _ in range(200):
+        for _ in range(1200):
             try:
                 os.kill(number, 0)
             except ProcessLookupError:
