@@ -17,6 +17,7 @@ import mutate
 import plain_checker
 import plain_solver
 import process_ends
+import python_package
 
 HERE = os.path.dirname(os.path.abspath(__file__))
 USAGE = "s USAGE\n"
@@ -259,5 +260,6 @@ for part in (cases, cut_files, hostile_input, words, examples, documents, change
     part(TESTS)
 process_ends.check(PROGRAM, TESTS)
 launcher.check(TESTS)
+python_package.check(PROGRAM, TESTS)
 print("%d passed, %d failed" % (TESTS.passed, TESTS.failed))
 sys.exit(0 if TESTS.failed == 0 and TESTS.passed > 0 else 1)

@@ -1,0 +1,135 @@
+"""Certificates: what a document states and proves, in the caller's names."""
+from __future__ import annotations
+
+import os
+from dataclasses import dataclass
+from fractions import Fraction
+from functools import cached_property
+from typing import IO, Any, Dict, List, NamedTuple, Optional, Tuple, Union
+
+from . import documents
+from .dual_names import dual_names
+from .instances import Instance
+
+Number = Union[int, Fraction]
+
+
+class OddSet(NamedTuple):
+    """An odd set of at least three vertices of the graph of the duals, with its dual in units of weight."""
+
+    members: Tuple[Any, ...]
+    dual: Number
+
+
+@dataclass(frozen=True)
+class Certificate:
+    """What proves an answer, or that there is none. `text` is the document that `blossom check` judges behind `instance.text`.
+
+    The duals speak of a graph whose least perfect matchings are the best answers: the graph itself for `perfect`, and otherwise one
+    whose vertices have the names that `blossom.dual_names` explains. The weight of an edge there is never below the duals of its
+    two ends and of the odd sets that hold exactly one of them; so no perfect matching weighs less than all duals together."""
+
+    instance: Instance
+    text: bytes
+
+    @cached_property
+    def document(self) -> documents.Document:
+        """The document as numbers."""
+        return documents.read(self.text)
+
+    @property
+    def status(self) -> str:
+        """"optimal", "infeasible" or "nonconservative"."""
+        return self.document.status
+
+    @cached_property
+    def names(self) -> List[Any]:
+        """The names of the vertices of the graph of the duals, in the order of their numbers."""
+        return dual_names(self.instance)
+
+    def in_units(self, doubled: int) -> Number:
+        """A dual in the units of the caller's weights: documents have them doubled, and scaled as the weights."""
+        value = Fraction(doubled, 2) / self.instance.scale
+        return int(value) if value.denominator == 1 else value
+
+    @cached_property
+    def duals(self) -> Dict[Any, Number]:
+        """The dual of each vertex of the graph of the duals, by name, in units of weight. Empty where nothing is optimal, or the
+        call was brief."""
+        return {self.names[number - 1]: self.in_units(dual) for number, dual in self.document.duals.items()}
+
+    @cached_property
+    def odd_sets(self) -> List[OddSet]:
+        """The odd sets whose dual isn't 0."""
+        return [OddSet(tuple(self.names[number - 1] for number in members), self.in_units(dual))
+                for dual, members in self.document.sets]
+
+    @property
+    def bound(self) -> Number:
+        """What all duals add up to."""
+        return sum(self.duals.values()) + sum(one.dual for one in self.odd_sets)
+
+    @property
+    def barrier(self) -> Optional[List[Any]]:
+        """The names of a barrier: without these vertices more components of odd size are left than it has members, so there is
+        no perfect matching. None where the document has none."""
+        members = self.document.barrier
+        return None if members is None else [self.names[number - 1] for number in members]
+
+    @property
+    def part(self) -> Optional[List[Any]]:
+        """The nodes of an odd part (joins, paths) or of a split part (tours). None where the document has none."""
+        members = self.document.odd_part if self.document.odd_part is not None else self.document.split_part
+        return None if members is None else [self.instance.nodes[number - 1] for number in members]
+
+    @property
+    def circuit(self) -> Optional[List[Tuple]]:
+        """A circuit of weight below 0, as edges (from, to) or (from, to, key) in their order. None where the document has none."""
+        if self.status != "nonconservative" or self.document.walk is None:
+            return None
+        return walked(self.instance, *self.document.walk)
+
+    def check(self, **how: Any) -> Any:
+        """What the proved checker says of it: see `blossom.check`, which has the words that can be passed."""
+        from .solving import check
+
+        return check(self.instance, self.instance.kind, self, **how)
+
+    def __str__(self) -> str:
+        return self.text.decode("ascii")
+
+    def write(self, file: Union[str, os.PathLike, IO], instance: bool = True) -> None:
+        """Writes it to a path, or to a file that is open for text or bytes: as an input of `blossom check KIND`, with comments that
+        say which name each number has; or, with `instance=False`, the document alone."""
+        whole = (legend(self.instance) + self.instance.text if instance else b"") + self.text
+        if not hasattr(file, "write"):
+            with open(file, "wb") as opened:
+                opened.write(whole)
+        elif hasattr(file, "encoding") or hasattr(file, "getvalue") and isinstance(file.getvalue(), str):
+            file.write(whole.decode("ascii"))
+        else:
+            file.write(whole)
+
+    def draw(self, *words: Any, **how: Any) -> Any:
+        """A picture of it: see `blossom.draw`."""
+        from .drawing import draw
+
+        return draw(self, *words, **how)
+
+
+def legend(instance: Instance) -> bytes:
+    """Comment lines that say which name each number has. A name takes one line, whatever it is."""
+    lines = ["c vertex %d is %s" % (number, ascii(node)) for number, node in enumerate(instance.nodes, 1)]
+    lines += ["c edge %d is %s" % (number, ascii(edge)) for number, edge in enumerate(instance.edges, 1)]
+    return "".join(" ".join(line.splitlines()) + "\n" for line in lines).encode("ascii")
+
+
+def walked(instance: Instance, start: int, edges: List[int]) -> List[Tuple]:
+    """The edges of a walk as (from, to) or (from, to, key), the way they are walked. The arguments are numbers from 1."""
+    here, steps = instance.nodes[start - 1], []
+    for number in edges:
+        first, second = instance.ends[number - 1]
+        there = second if here == first else first
+        steps.append((here, there, *instance.edges[number - 1][2:]))
+        here = there
+    return steps

@@ -1,0 +1,89 @@
+"""Names for the vertices that duals and barriers speak of.
+
+For `perfect` they are the nodes themselves. The other kinds are matchings of a larger graph, made of the given one, which
+docs/FORMAT.md describes under "The graph of the duals". Its vertices get names made of the caller's:
+
+- `Copy(node, copy)`: one of the copies of a node, counted from 0. For `match` copy 0 is the node itself and 1 its twin; for `bmatch`,
+  `capmatch` and `ffactor` a node has as many copies as its value says.
+- `Gate(edge, gate, side)`: for `capmatch` and `ffactor` one unit of the use of an edge. There are two such vertices for each unit,
+  joined to each other: `side` is the end of the edge by which the vertex is, and `gate` counts the units from 0.
+- `Port(node, edge)`: for `tjoin`, `postman` and `path` the end of an edge at a node; `edge` is None for the spare vertex that
+  a node has where the number of its ports would not have the parity that is wanted there.
+"""
+from __future__ import annotations
+
+from typing import Any, Dict, Hashable, List, NamedTuple
+
+from .instances import Instance
+from .kinds import known
+
+
+class Copy(NamedTuple):
+    """One of the copies of a node."""
+
+    node: Hashable
+    copy: int
+
+
+class Gate(NamedTuple):
+    """One unit of an edge's use, by one of its ends."""
+
+    edge: Any
+    gate: int
+    side: Hashable
+
+
+class Port(NamedTuple):
+    """The end of an edge at a node, or the node's spare."""
+
+    node: Hashable
+    edge: Any
+
+
+def node_of(name: Any) -> Hashable:
+    """The node that a name belongs to: a gate belongs to the node that is its side."""
+    if isinstance(name, Gate):
+        return name.side
+    return name.node if isinstance(name, (Copy, Port)) else name
+
+
+def copies(of: Instance) -> List[Any]:
+    return [Copy(node, copy) for node, value in zip(of.nodes, of.values) for copy in range(value)]
+
+
+def gates(of: Instance) -> List[Any]:
+    """The gates of each edge: first those by its first end, then those by its second."""
+    value_at = dict(zip(of.nodes, of.values))
+    names: List[Any] = []
+    for edge, (first, second), capacity in zip(of.edges, of.ends, of.capacities):
+        most = 1 if of.kind == "ffactor" else capacity
+        units = min(value_at[first], value_at[second], *([] if most is None else [most]))
+        names += [Gate(edge, unit, side) for side in (first, second) for unit in range(units)]
+    return names
+
+
+def ports(of: Instance) -> List[Any]:
+    """The ports of each node in the order of the edges, and its spare. A tour wants as many ports as a node has, so none is spare."""
+    at: Dict[Hashable, List[Any]] = {node: [] for node in of.nodes}
+    for edge, (first, second) in zip(of.edges, of.ends):
+        at[first].append(Port(first, edge))
+        at[second].append(Port(second, edge))
+    names: List[Any] = []
+    for node, value in zip(of.nodes, of.values):
+        spare = of.kind != "postman" and (len(at[node]) + value) % 2 == 1
+        names += at[node] + ([Port(node, None)] if spare else [])
+    return names
+
+
+def dual_names(of: Instance) -> List[Any]:
+    """The names of the vertices of the graph of the duals; that of vertex i + 1 stands at place i."""
+    kind = known(of.kind)
+    if kind == "perfect":
+        return list(of.nodes)
+    if kind == "match":
+        return [Copy(node, copy) for copy in (0, 1) for node in of.nodes]
+    if kind == "bmatch":
+        return copies(of)
+    if kind in ("capmatch", "ffactor"):
+        return copies(of) + gates(of)
+    return ports(of)

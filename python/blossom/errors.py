@@ -1,0 +1,79 @@
+"""What can go wrong. Each error is a BlossomError, and each can be pickled, so that it comes back from other processes."""
+from __future__ import annotations
+
+from typing import TYPE_CHECKING, Any, List, Optional
+
+if TYPE_CHECKING:
+    from .certificates import Certificate
+
+
+class BlossomError(Exception):
+    """What every error of this package is."""
+
+
+class GraphError(BlossomError, ValueError):
+    """The graph is no instance of the kind: it is directed, it has a loop, or a node that is named isn't there."""
+
+
+class WeightError(BlossomError, ValueError):
+    """A weight, once scaled, is no whole number within 10^9."""
+
+
+class LimitExceeded(BlossomError):
+    """The instance, or the graph that its certificates speak of, is too large. `vertices` and `edges` are the numbers
+    that are too large, where they are known."""
+
+    def __init__(self, message: str, vertices: Optional[int] = None, edges: Optional[int] = None):
+        super().__init__(message, vertices, edges)
+        self.vertices = vertices
+        self.edges = edges
+
+    def __str__(self) -> str:
+        return self.args[0]
+
+
+class TimeLimit(BlossomError, TimeoutError):
+    """The program was stopped because it took longer than `timeout` seconds."""
+
+
+class ProgramFailed(BlossomError):
+    """There is no program, or it ended as it never should: by a signal, without memory, or with an answer that can't be read."""
+
+
+class NoBest(BlossomError, ValueError):
+    """No answer is best. That is a fact of the graph, and `certificate` proves it (unless the call was brief)."""
+
+    def __init__(self, message: str, certificate: "Certificate"):
+        super().__init__(message, certificate)
+        self.certificate = certificate
+
+    def __str__(self) -> str:
+        return self.args[0]
+
+
+class Infeasible(NoBest):
+    """There is no feasible answer."""
+
+    @property
+    def barrier(self) -> Optional[List[Any]]:
+        """For matchings and factors: the names of a set of vertices without which too many odd components are left."""
+        return self.certificate.barrier
+
+    @property
+    def part(self) -> Optional[List[Any]]:
+        """For joins and paths: nodes that no edge leaves, with an odd number of odd nodes among them.
+        For tours: nodes that no edge leaves, with edges among them and edges elsewhere."""
+        return self.certificate.part
+
+
+class NonConservative(NoBest):
+    """Some circuit weighs less than 0, so that no walk need be shortest."""
+
+    @property
+    def circuit(self) -> Optional[List[Any]]:
+        """Such a circuit: its edges in their order, each as (from, to) or (from, to, key)."""
+        return self.certificate.circuit
+
+
+class RoundedWeights(UserWarning):
+    """Weights were rounded: the answer is best for the rounded weights alone."""

@@ -1,0 +1,49 @@
+"""Graphs in the DIMACS format of matching problems, as docs/FORMAT.md has it for instances."""
+from __future__ import annotations
+
+from typing import IO, Any, Dict, List
+
+from ..errors import GraphError
+from ..graphs import Table, named
+from .numbers import number
+
+
+def read_dimacs(file: IO[str], weight: str = "weight", capacity: str = "capacity") -> Table:
+    """The graph of an open file with `p edge N M`, `e U V [W [C]]` and `n V B` lines; nodes are the numbers 1 to N. GraphError: a line is no
+    such line, a node isn't among them, or there are not M edges."""
+    lines = [fields for fields in (line.split() for line in file) if fields and not fields[0].startswith("c")]
+    headers = [fields for fields in lines if fields[0] == "p"]
+    if len(headers) != 1 or len(headers[0]) != 4:
+        raise GraphError("the file has %d lines `p edge N M`, and should have one" % len(headers))
+    nodes, edges = (int(number(field, "the header's number")) for field in headers[0][2:])
+    table = Table(list(range(1, nodes + 1)), [], [], [], [])
+    for fields in lines:
+        if fields[0] not in ("p", "e", "n"):
+            raise GraphError("no line begins with %r" % fields[0])
+        if fields[0] != "p":
+            take(table, fields)
+    if len(table.ends) != edges:
+        raise GraphError("the header says %d edges, and there are %d" % (edges, len(table.ends)))
+    table.names = named(table.ends)
+    return table
+
+
+def take(table: Table, fields: List[str]) -> None:
+    """Adds an `e` or `n` line to the table."""
+    numbers = [number(field, "a field of %r" % " ".join(fields)) for field in fields[1:]]
+    if fields[0] == "n" and len(numbers) == 2:
+        values: Dict = table.values
+        values[known(table, numbers[0])] = numbers[1]
+    elif fields[0] == "e" and 2 <= len(numbers) <= 4:
+        table.ends.append((known(table, numbers[0]), known(table, numbers[1])))
+        table.weights.append(numbers[2] if len(numbers) > 2 else 1)
+        table.capacities.append(numbers[3] if len(numbers) > 3 else None)
+    else:
+        raise GraphError("the line %r has another number of fields" % " ".join(fields))
+
+
+def known(table: Table, node: Any) -> int:
+    """The node, where it is one."""
+    if node not in range(1, len(table.nodes) + 1):
+        raise GraphError("there is no vertex %s: the header says %d" % (node, len(table.nodes)))
+    return node

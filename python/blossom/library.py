@@ -1,0 +1,86 @@
+"""The same call in this process: the shared object that `capi/build.sh` builds, by ctypes. It saves the start of a process, some
+milliseconds a call, and gives up what a process gives: no call can be stopped before its end."""
+from __future__ import annotations
+
+import ctypes
+import functools
+import mmap
+import os
+import threading
+from dataclasses import dataclass
+from typing import Optional, Tuple
+
+from .checkout import checkout
+from .errors import ProgramFailed
+from .kinds import KINDS
+
+#: What capi/blossom.h calls BLOSSOM_ABI: the version of the call that is declared here.
+ABI = 1
+TASKS = {"solve": 1, "brief": 2, "check": 3}
+KIND_NUMBERS = {kind: number for number, kind in enumerate(KINDS, 1)}
+SHORT_BUFFER = 9
+NO_SUCH_CALL = 10
+# No answer is longer (48 MiB and a line). Pages that no answer reaches are never touched, so this costs address space alone.
+ROOM = (48 << 20) + 4096
+PLACE = ("capi", "out", "libblossom.so")
+
+
+def find_library(path: Optional[str] = None) -> str:
+    """The path of the shared object: the argument, the environment variable BLOSSOM_LIBRARY, or what was built in the checkout.
+    ProgramFailed: there is none."""
+    named = path or os.environ.get("BLOSSOM_LIBRARY")
+    if named:
+        return os.fspath(named)
+    top = checkout()
+    if top is not None and os.path.exists(os.path.join(top, *PLACE)):
+        return os.path.join(top, *PLACE)
+    raise ProgramFailed("there is no libblossom.so: build it with capi/build.sh, or put its path in the environment variable BLOSSOM_LIBRARY")
+
+
+@functools.lru_cache(maxsize=None)
+def loaded(path: str) -> ctypes.CDLL:
+    """The library of this path. ProgramFailed: it can't be loaded, or declares another version of the call."""
+    try:
+        library = ctypes.CDLL(path)
+        library.blossom_abi.restype = ctypes.c_uint32
+        library.blossom_abi.argtypes = []
+        library.blossom_call.restype = ctypes.c_uint32
+    except (OSError, AttributeError) as error:
+        raise ProgramFailed("the library %s can't be used: %s" % (path, error)) from None
+    if library.blossom_abi() != ABI:
+        raise ProgramFailed("the library %s is of version %d, and this package calls version %d" % (path, library.blossom_abi(), ABI))
+    library.blossom_call.argtypes = [ctypes.c_uint32, ctypes.c_uint32, ctypes.c_char_p, ctypes.c_size_t, ctypes.c_void_p,
+                                     ctypes.c_size_t, ctypes.POINTER(ctypes.c_size_t)]
+    return library
+
+
+class Room(threading.local):
+    """Room for an answer, one for each thread, so that no two calls that run share one."""
+
+    def __init__(self) -> None:
+        # Private, so that the child of a fork has its own.
+        self.memory = mmap.mmap(-1, ROOM, flags=mmap.MAP_PRIVATE | mmap.MAP_ANONYMOUS)
+        self.address = ctypes.addressof(ctypes.c_ubyte.from_buffer(self.memory))
+
+
+@functools.lru_cache(maxsize=None)
+def room() -> Room:
+    return Room()
+
+
+@dataclass(frozen=True)
+class Library:
+    """Calls the library. `path`: that of the shared object, or None for what `find_library` finds when it is called."""
+
+    path: Optional[str] = None
+
+    def run(self, task: str, kind: str, text: bytes, timeout: Optional[float] = None, running: object = None) -> Tuple[int, bytes]:
+        """As `Process.run`. ValueError: a timeout, since a call in this process can't be stopped. ProgramFailed: there is no library,
+        or it answers what it never should."""
+        if timeout is not None:
+            raise ValueError('a call by the library can\'t be stopped: pass no timeout, or via="process"')
+        library, own, used = loaded(find_library(self.path)), room(), ctypes.c_size_t()
+        status = library.blossom_call(TASKS[task], KIND_NUMBERS[kind], text, len(text), own.address, ROOM, ctypes.byref(used))
+        if status in (SHORT_BUFFER, NO_SUCH_CALL):
+            raise ProgramFailed("the library ended with status %d on %d bytes" % (status, len(text)))
+        return status, own.memory[:used.value]

@@ -1,0 +1,111 @@
+"""Builds the wheel of the package for pip, with the standard library alone.
+
+The wheel has the package's files and one more, `installed_from.py`, which names the checkout that it was built in: that is where an installed
+package looks for the program, unless it is told otherwise."""
+import base64
+import hashlib
+import os
+import re
+import tarfile
+import zipfile
+
+HERE = os.path.dirname(os.path.abspath(__file__))
+CHECKOUT = os.path.dirname(HERE)
+PACKAGE = "blossom"
+WHEEL = "Wheel-Version: 1.0\nGenerator: blossom\nRoot-Is-Purelib: true\nTag: py3-none-any\n"
+
+
+def project():
+    """The text of pyproject.toml. (Python 3.9 has no reader of it; what is looked for stands on lines of its own.)"""
+    with open(os.path.join(HERE, "pyproject.toml"), encoding="utf-8") as file:
+        return file.read()
+
+
+def field(name):
+    """The text of a field of the project."""
+    return re.search(r'^%s = "(.*)"$' % re.escape(name), project(), re.M).group(1)
+
+
+def table(name):
+    """The entries of a table, in order."""
+    whole = re.search(r"^\[%s\]\n((?:[^\[\n].*\n)*)" % re.escape(name), project(), re.M).group(1)
+    return re.findall(r"^([\w-]+) = (.*)$", whole, re.M)
+
+
+def metadata():
+    """What METADATA says of the package."""
+    lines = ["Metadata-Version: 2.1", "Name: " + field("name"), "Version: " + field("version"), "Summary: " + field("description"),
+             "Requires-Python: " + field("requires-python")]
+    for extra, wanted in table("project.optional-dependencies"):
+        lines.append("Provides-Extra: " + extra)
+        lines += ['Requires-Dist: %s; extra == "%s"' % (one, extra) for one in re.findall(r'"(.*?)"', wanted)]
+    return "\n".join(lines) + "\n"
+
+
+def entry_points():
+    """What entry_points.txt says: where networkx finds its backend."""
+    groups = re.findall(r'^\[project\.entry-points\."(.*)"\]$', project(), re.M)
+    parts = [[group] + ["%s = %s" % (name, text.strip('"')) for name, text in table('project.entry-points."%s"' % group)] for group in groups]
+    return "\n".join("[%s]\n%s\n" % (part[0], "\n".join(part[1:])) for part in parts)
+
+
+def package_files():
+    """The files of the package: their names in the wheel and their bytes."""
+    found = {}
+    for folder, _, names in sorted(os.walk(os.path.join(HERE, PACKAGE))):
+        for name in sorted(name for name in names if name.endswith(".py") or name == "py.typed"):
+            path = os.path.join(folder, name)
+            with open(path, "rb") as file:
+                found[os.path.relpath(path, HERE).replace(os.sep, "/")] = file.read()
+    return found
+
+
+def installed_from():
+    """The module that names the checkout."""
+    return ('"""The checkout that this package was installed from."""\nCHECKOUT = %s\n' % ascii(CHECKOUT)).encode("ascii")
+
+
+def information():
+    return "%s-%s.dist-info" % (field("name"), field("version"))
+
+
+def write_wheel(folder, files):
+    """Writes a wheel of these files, and what every wheel has besides. Answers its name."""
+    name = "%s-%s-py3-none-any.whl" % (field("name"), field("version"))
+    own = {"METADATA": metadata(), "WHEEL": WHEEL, "entry_points.txt": entry_points()}
+    files = {**files, **{information() + "/" + part: text.encode("utf-8") for part, text in own.items()}}
+    with zipfile.ZipFile(os.path.join(folder, name), "w", zipfile.ZIP_DEFLATED) as wheel:
+        record = []
+        for path, content in files.items():
+            wheel.writestr(path, content)
+            digest = base64.urlsafe_b64encode(hashlib.sha256(content).digest()).rstrip(b"=").decode("ascii")
+            record.append("%s,sha256=%s,%d\n" % (path, digest, len(content)))
+        record_path = information() + "/RECORD"
+        wheel.writestr(record_path, "".join(record) + record_path + ",,\n")
+    return name
+
+
+def build_wheel(wheel_directory, config_settings=None, metadata_directory=None):
+    """The wheel for `pip install`."""
+    return write_wheel(wheel_directory, {**package_files(), PACKAGE + "/installed_from.py": installed_from()})
+
+
+def build_editable(wheel_directory, config_settings=None, metadata_directory=None):
+    """The wheel for `pip install -e`: a path to this folder."""
+    return write_wheel(wheel_directory, {"__editable__%s.pth" % PACKAGE: (HERE + "\n").encode("utf-8")})
+
+
+def build_sdist(sdist_directory, config_settings=None):
+    """An archive of the sources."""
+    name = "%s-%s" % (field("name"), field("version"))
+    with tarfile.open(os.path.join(sdist_directory, name + ".tar.gz"), "w:gz", format=tarfile.PAX_FORMAT) as archive:
+        for path in ["pyproject.toml", "README.md", "build_backend.py", *package_files()]:
+            archive.add(os.path.join(HERE, path), name + "/" + path)
+    return name + ".tar.gz"
+
+
+def get_requires_for_build_wheel(config_settings=None):
+    return []
+
+
+get_requires_for_build_editable = get_requires_for_build_sdist = get_requires_for_build_wheel

@@ -1,0 +1,104 @@
+#!/usr/bin/env python3
+"""Compares the package with networkx on graphs that hypothesis makes. Run by hand, where both are installed; it is no part of the gate.
+
+Usage: by_hand.py [EXAMPLES], with the program's path in the environment variable BLOSSOM where it isn't built in this checkout."""
+import os
+import sys
+
+import networkx
+from hypothesis import HealthCheck, given, settings
+from hypothesis import strategies as some
+
+sys.path.insert(0, os.path.join(os.path.dirname(os.path.abspath(__file__)), "..", "..", "python"))
+
+import blossom  # noqa: E402
+from blossom import networkx_backend  # noqa: E402
+
+EXAMPLES = int(sys.argv[1]) if len(sys.argv) > 1 else 300
+limits = settings(max_examples=EXAMPLES, deadline=None, suppress_health_check=list(HealthCheck))
+
+
+@some.composite
+def graphs(draw, least=-20, most=20, largest=9):
+    """Graphs of up to so many nodes with whole weights, some of whose nodes have no edges."""
+    count = draw(some.integers(1, largest))
+    pairs = [(u, v) for v in range(count) for u in range(v)]
+    graph = networkx.Graph()
+    graph.add_nodes_from(range(count))
+    for u, v in draw(some.lists(some.sampled_from(pairs), unique=True)) if pairs else []:
+        graph.add_edge(u, v, weight=draw(some.integers(least, most)))
+    return graph
+
+
+def weight_of(graph, edges):
+    return sum(graph[u][v]["weight"] for u, v in edges)
+
+
+@limits
+@given(graphs())
+def matchings_of_greatest_weight(graph):
+    answer = blossom.max_weight_matching(graph)
+    assert networkx.is_matching(graph, set(answer.edges))
+    assert answer.weight == weight_of(graph, networkx.max_weight_matching(graph)) and answer.check()
+
+
+@limits
+@given(graphs(), some.booleans())
+def matchings_of_the_most_edges(graph, least):
+    name = "min_weight_matching" if least else "max_weight_matching"
+    how = {} if least else {"maxcardinality": True}
+    found, known = getattr(networkx_backend, name)(graph, **how), getattr(networkx, name)(graph, **how)
+    assert networkx.is_matching(graph, found) and len(found) == len(known)
+    assert weight_of(graph, found) == weight_of(graph, known)
+
+
+@limits
+@given(graphs())
+def perfect_matchings(graph):
+    known = networkx.max_weight_matching(networkx.Graph((u, v, {"weight": -w}) for u, v, w in graph.edges(data="weight")), maxcardinality=True)
+    try:
+        answer = blossom.perfect_matching(graph)
+    except blossom.Infeasible as told:
+        assert 2 * len(known) < len(graph) and told.certificate.check()
+        left = graph.subgraph(set(graph) - set(told.barrier))
+        assert sum(len(part) % 2 for part in networkx.connected_components(left)) > len(told.barrier)
+        return
+    assert answer.weight == weight_of(graph, known) and answer.check()
+
+
+@limits
+@given(graphs(least=0), some.data())
+def shortest_paths(graph, data):
+    if len(graph) < 2:
+        return
+    source, target = data.draw(some.lists(some.sampled_from(sorted(graph)), min_size=2, max_size=2, unique=True))
+    try:
+        answer = blossom.shortest_path(graph, source, target)
+    except blossom.Infeasible as told:
+        assert not networkx.has_path(graph, source, target) and told.certificate.check()
+        return
+    assert answer.weight == networkx.dijkstra_path_length(graph, source, target) == networkx.path_weight(graph, answer.walk, "weight")
+    assert (answer.walk[0], answer.walk[-1]) == (source, target) and answer.check()
+
+
+@limits
+@given(graphs(least=0))
+def tours(graph):
+    if sum(len(component) > 1 for component in networkx.connected_components(graph)) > 1:
+        return
+    answer = blossom.postman(graph)
+    doubled = answer.to_networkx()
+    doubled.remove_nodes_from(list(networkx.isolates(doubled)))
+    assert graph.number_of_edges() == 0 or networkx.is_eulerian(doubled)
+    odd = networkx.Graph()
+    away = dict(networkx.all_pairs_dijkstra_path_length(graph))
+    odd_nodes = [node for node, degree in graph.degree if degree % 2]
+    odd.add_weighted_edges_from((u, v, away[u][v]) for u in odd_nodes for v in odd_nodes if u < v)
+    again = sum(odd[u][v]["weight"] for u, v in networkx.min_weight_matching(odd))
+    assert answer.weight == graph.size(weight="weight") + again and answer.check()
+
+
+if __name__ == "__main__":
+    for test in (matchings_of_greatest_weight, matchings_of_the_most_edges, perfect_matchings, shortest_paths, tours):
+        test()
+        print("%s: %d examples" % (test.__name__.replace("_", " "), EXAMPLES))

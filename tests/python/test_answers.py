@@ -1,0 +1,172 @@
+"""Answers of each kind, in the caller's names."""
+import pickle
+import unittest
+from fractions import Fraction
+
+import blossom
+from blossom.answers import answer_of
+from support import STAR, TRIANGLES, instances, wanted
+
+SQUARE = [(1, 2, 4), (2, 3, 4), (3, 4, 4), (1, 4, 4), (1, 3, 5)]
+
+
+class Kinds(unittest.TestCase):
+    def test_a_perfect_matching(self):
+        answer = blossom.perfect_matching(TRIANGLES)
+        self.assertEqual((answer.weight, answer.kind), (12, "perfect"))
+        self.assertIn(("c", "d"), answer.edges)
+        self.assertEqual(sorted(answer.partner), list("abcdef"))
+        self.assertTrue(all(answer.partner[answer.partner[node]] == node for node in "abcdef"))
+        self.assertTrue(answer.check())
+
+    def test_a_matching_of_greatest_weight(self):
+        answer = blossom.max_weight_matching([("a", "b", 3), ("b", "c", 5), ("c", "d", 3), ("d", "e", -1)])
+        self.assertEqual((answer.edges, answer.weight), ([("a", "b"), ("c", "d")], 6))
+        self.assertNotIn("e", answer.partner)
+
+    def test_a_b_matching(self):
+        answer = blossom.b_matching([("a", "b", 4), ("b", "c", 1)], {"a": 2, "b": 3, "c": 1})
+        self.assertEqual((answer.uses, answer.weight, answer.counts), ({("a", "b"): 2, ("b", "c"): 1}, 9, [2, 1]))
+
+    def test_a_b_matching_within_capacities(self):
+        edges = [("a", "b", 1, 1), ("a", "b", 5, None)]
+        answer = blossom.capacitated_b_matching(edges, {"a": 3, "b": 3})
+        self.assertEqual((answer.uses, answer.weight), ({("a", "b", 0): 1, ("a", "b", 1): 2}, 11))
+
+    def test_a_factor(self):
+        answer = blossom.f_factor(TRIANGLES + [("a", "f", 0)], dict.fromkeys("abcdef", 2))
+        self.assertEqual((len(answer.edges), answer.weight), (6, 6))
+
+    def test_a_join(self):
+        answer = blossom.t_join([("a", "b", 1), ("b", "c", 1), ("a", "c", 5)], ["a", "c"])
+        self.assertEqual((answer.edges, answer.weight), ([("a", "b"), ("b", "c")], 2))
+
+    def test_a_tour(self):
+        answer = blossom.postman(SQUARE)
+        self.assertEqual(answer.weight, 26)
+        self.assertEqual((len(answer.steps), len(answer.walk), answer.walk[0]), (6, 7, answer.walk[-1]))
+        self.assertEqual(answer.uses[(1, 3)], 2)
+        self.assertEqual([step[1] for step in answer.steps[:-1]], [step[0] for step in answer.steps[1:]])
+
+    def test_a_tour_without_edges(self):
+        answer = blossom.postman([], nodes=["a"])
+        self.assertEqual((answer.walk, answer.steps, answer.weight), ([], [], 0))
+
+    def test_a_path_goes_the_way_that_is_asked(self):
+        edges = [("a", "b", 1), ("b", "c", 1), ("a", "c", 5)]
+        for source, target, walk in (("a", "c", ["a", "b", "c"]), ("c", "a", ["c", "b", "a"])):
+            answer = blossom.shortest_path(edges, source, target)
+            self.assertEqual((answer.walk, answer.weight), (walk, 2))
+            self.assertEqual(answer.steps, list(zip(walk, walk[1:])))
+            self.assertEqual([answer.instance.edges[index] for index in answer.step_indices],
+                             [edge if edge in answer.instance.edges else edge[::-1] for edge in answer.steps])
+
+    def test_a_path_may_use_what_weighs_less_than_0(self):
+        self.assertEqual(blossom.shortest_path([("a", "b", 3), ("b", "c", -1), ("a", "c", 4)], "a", "c").walk, ["a", "b", "c"])
+
+
+class Whole(unittest.TestCase):
+    def test_made_instances_are_answered_and_accepted(self):
+        for kind in blossom.KINDS:
+            for edges, words in instances(kind, 12):
+                with self.subTest(kind=kind, edges=edges, words=words):
+                    certificate = outcome(edges, kind, words)
+                    self.assertTrue(certificate.check())
+                    self.assertTrue(blossom.check(edges, kind, str(certificate), **words))
+
+    def test_the_units_are_the_callers(self):
+        halves = [(u, v, weight / 2) for u, v, weight in TRIANGLES]
+        self.assertEqual(blossom.perfect_matching(halves, scale=2).weight, 6)
+        answer = blossom.perfect_matching([("a", "b", 0.25)], scale=1000)
+        self.assertEqual((answer.weight, answer.certificate.bound), (Fraction(1, 4), Fraction(1, 4)))
+
+    def test_brief_answers_prove_nothing(self):
+        answer = blossom.perfect_matching(TRIANGLES, brief=True)
+        self.assertEqual((answer.weight, answer.certificate.duals, answer.certificate.odd_sets), (12, {}, []))
+        self.assertEqual(answer.check().rule, "DualMissing")
+
+    def test_answers_can_be_pickled(self):
+        answer = pickle.loads(pickle.dumps(blossom.perfect_matching(TRIANGLES)))
+        self.assertEqual(answer.weight, 12)
+        self.assertTrue(answer.check())
+
+    def test_an_instance_serves_for_several_calls(self):
+        of = blossom.instance(TRIANGLES, "perfect")
+        answer = blossom.solve(of, "perfect")
+        self.assertTrue(blossom.check(of, "perfect", answer))
+        with self.assertRaises(ValueError):
+            blossom.solve(of, "match")
+        with self.assertRaises(TypeError):
+            blossom.solve(of, "perfect", scale=2)
+
+    def test_a_graph_of_the_used_edges(self):
+        networkx = wanted("networkx")
+        graph = blossom.postman(SQUARE).to_networkx()
+        self.assertTrue(networkx.is_eulerian(graph))
+        self.assertEqual((graph.number_of_edges(1, 3), graph.size(weight="weight")), (2, 26))
+
+
+class NoAnswer(unittest.TestCase):
+    def refused(self, error, call, *words, **how):
+        with self.assertRaises(error) as told:
+            call(*words, **how)
+        self.assertTrue(told.exception.certificate.check())
+        again = pickle.loads(pickle.dumps(told.exception))
+        self.assertEqual((type(again), str(again)), (error, str(told.exception)))
+        return told.exception
+
+    def test_a_barrier(self):
+        told = self.refused(blossom.Infeasible, blossom.perfect_matching, STAR)
+        self.assertEqual((told.barrier, told.part), (["hub"], None))
+        self.assertIn("without 'hub' more than 1 components of odd size are left", str(told))
+        told = self.refused(blossom.Infeasible, blossom.b_matching, [("a", "b", 1)], {"a": 1, "b": 2})
+        self.assertEqual(told.barrier, [("a", 0)])
+
+    def test_an_odd_part(self):
+        told = self.refused(blossom.Infeasible, blossom.t_join, [(1, 2), (1, 4)], [1, 3], nodes=[1, 2, 3, 4])
+        self.assertEqual((told.barrier, told.part), (None, [1, 2, 4]))
+        self.refused(blossom.Infeasible, blossom.shortest_path, [(1, 2), (3, 4)], 1, 4)
+
+    def test_a_split_part(self):
+        self.assertEqual(self.refused(blossom.Infeasible, blossom.postman, [(1, 2), (3, 4)]).part, [1, 2])
+
+    def test_a_circuit_below_0(self):
+        told = self.refused(blossom.NonConservative, blossom.shortest_path, [(1, 2, 1), (2, 3, -3), (3, 4, 1), (2, 4, 1)], 1, 4)
+        self.assertEqual({frozenset(step) for step in told.circuit}, {frozenset(pair) for pair in ((2, 3), (3, 4), (4, 2))})
+
+    def test_a_document_of_something_else(self):
+        for text, words in ((b"s OPTIMAL match 5\nx 1 1\n", "one of match"), (b"s OPTIMAL perfect 5\nx 2 1\n", "aren't in the graph")):
+            with self.assertRaisesRegex(blossom.ProgramFailed, words):
+                answer_of(blossom.instance([("a", "b", 5)], "perfect"), 0, text)
+
+    def test_a_brief_refusal_has_no_barrier(self):
+        with self.assertRaises(blossom.Infeasible) as told:
+            blossom.perfect_matching(STAR, brief=True)
+        self.assertIsNone(told.exception.barrier)
+        self.assertEqual(str(told.exception), "there is no perfect matching")
+
+    def test_a_graph_whose_certificates_are_too_large(self):
+        with self.assertRaises(blossom.LimitExceeded) as told:
+            blossom.b_matching([("a", "b", 1)], {"a": 4096, "b": 4096})
+        self.assertEqual((told.exception.vertices, told.exception.edges), (8192, 4096 * 4096))
+
+
+class Checks(unittest.TestCase):
+    def test_wrong_documents_are_refused_by_their_rule(self):
+        for document, rule, line in (("s OPTIMAL perfect 4\nx 1 1\ny 1 4\ny 2 4\n", "WeightDiffers", 3), ("", "DocForm", 3),
+                                     (b"s OPTIMAL match 5\nx 1 1\n", "KindDiffers", 3), ("s OPTIMAL perfect 5\nx 1 1\ny 1 5\ny 2 6\n", "Slack", 3)):
+            verdict = blossom.check([("a", "b", 5)], "perfect", document)
+            self.assertEqual((bool(verdict), verdict.rule, verdict.line), (False, rule, line))
+
+    def test_an_answer_of_another_graph_is_refused(self):
+        answer = blossom.perfect_matching([("a", "b", 5)])
+        self.assertTrue(blossom.check([("a", "b", 5)], "perfect", answer))
+        self.assertFalse(blossom.check([("a", "b", 4)], "perfect", answer))
+
+
+def outcome(edges, kind, words):
+    """The certificate of the answer, or of what shows that there is none."""
+    try:
+        return blossom.solve(edges, kind, **words).certificate
+    except blossom.NoBest as told:
+        return told.certificate

@@ -1,0 +1,135 @@
+"""Certificates in names: the duals are feasible and the barriers are barriers in graphs that are built here from names alone."""
+import io
+import os
+import subprocess
+import tempfile
+import unittest
+
+import blossom
+from blossom.process import find_program
+from support import STAR, TRIANGLES, instances
+from test_answers import outcome
+
+VALUES = {"tjoin": "terminals"}
+
+
+def graph_of_duals(edges, kind, words):
+    """The vertices and the edges (first, second, weight) of the graph that certificates speak of, by names."""
+    nodes = list(dict.fromkeys([*words["nodes"], *(end for edge in edges for end in edge[:2])]))
+    names = blossom.instance(edges, kind, **words).edges
+    if kind == "perfect":
+        return nodes, [edge[:3] for edge in edges]
+    if kind == "match":
+        twins = [((u, copy), (v, copy), -weight) for u, v, weight, _ in edges for copy in (0, 1)]
+        return [(node, copy) for node in nodes for copy in (0, 1)], twins + [((node, 0), (node, 1), 0) for node in nodes]
+    if kind in ("bmatch", "capmatch", "ffactor"):
+        return with_values(nodes, edges, names, kind, words["values"])
+    return with_ports(nodes, edges, names, kind, words)
+
+
+def with_values(nodes, edges, names, kind, values):
+    vertices = [(node, copy) for node in nodes for copy in range(values[node])]
+    found = []
+    for (u, v, weight, capacity), name in zip(edges, names):
+        one, other = [(u, copy) for copy in range(values[u])], [(v, copy) for copy in range(values[v])]
+        if kind == "bmatch":
+            found += [(a, b, weight) for a in one for b in other]
+            continue
+        units = min([len(one), len(other), 1 if kind == "ffactor" else len(one) if capacity is None else capacity])
+        near, far = [(name, unit, u) for unit in range(units)], [(name, unit, v) for unit in range(units)]
+        vertices += near + far
+        found += [(a, b, weight) for a in one for b in near] + [(a, b, 0) for a in near for b in far] + [(a, b, 0) for a in far for b in other]
+    return vertices, found
+
+
+def with_ports(nodes, edges, names, kind, words):
+    odd = set(words.get("terminals", ())) | {words[end] for end in ("source", "target") if end in words}
+    found = [((u, name), (v, name), weight) for (u, v, weight, _), name in zip(edges, names)]
+    vertices = []
+    for node in nodes:
+        own = [(node, name) for (u, v, *_), name in zip(edges, names) if node in (u, v)]
+        if kind != "postman" and (len(own) + (node in odd)) % 2:
+            own.append((node, None))
+        vertices += own
+        found += [(first, second, 0) for place, second in enumerate(own) for first in own[:place]]
+    return vertices, found
+
+
+def odd_components(vertices, edges, removed):
+    """The number of components of odd size without these vertices."""
+    left, count = set(vertices) - set(removed), 0
+    while left:
+        front, size = [left.pop()], 0
+        while front:
+            here = front.pop()
+            size += 1
+            near = {end for u, v, _ in edges if here in (u, v) for end in (u, v)} & left
+            left -= near
+            front += near
+        count += size % 2
+    return count
+
+
+class Named(unittest.TestCase):
+    def test_duals_and_barriers_are_right_by_name(self):
+        seen = set()
+        for kind in blossom.KINDS:
+            for edges, words in instances(kind, 40, seed=2):
+                with self.subTest(kind=kind, edges=edges, words=words):
+                    certificate = outcome(edges, kind, words)
+                    seen.add((kind, certificate.status, bool(certificate.odd_sets)))
+                    self.by_names(edges, kind, words, certificate)
+        for kind in blossom.KINDS:
+            self.assertIn((kind, "optimal", False), seen)
+        self.assertTrue({"bmatch", "capmatch", "ffactor"} <= {kind for kind, status, _ in seen if status == "infeasible"})
+        self.assertGreater(len({kind for kind, _, sets in seen if sets}), 3)
+
+    def by_names(self, edges, kind, words, certificate):
+        vertices, graph = graph_of_duals(edges, kind, words)
+        if certificate.status == "optimal":
+            self.assertEqual(set(certificate.duals), set(vertices))
+            for first, second, weight in graph:
+                sets = sum(one.dual for one in certificate.odd_sets if (first in one.members) != (second in one.members))
+                self.assertGreaterEqual(weight, certificate.duals[first] + certificate.duals[second] + sets)
+            weight = certificate.document.weight
+            best = -2 * weight if kind == "match" else weight - sum(edge[2] for edge in edges) if kind == "postman" else weight
+            self.assertEqual(certificate.bound, best)
+        elif certificate.barrier is not None:
+            self.assertGreater(odd_components(vertices, graph, certificate.barrier), len(certificate.barrier))
+
+    def test_the_odd_sets_of_two_triangles(self):
+        certificate = blossom.perfect_matching(TRIANGLES).certificate
+        self.assertEqual(certificate.bound, 12)
+        self.assertEqual(certificate.status, "optimal")
+        self.assertTrue(all(len(one.members) % 2 == 1 and one.dual > 0 for one in certificate.odd_sets))
+
+
+class Written(unittest.TestCase):
+    def test_a_certificate_writes_itself_as_what_the_program_checks(self):
+        certificate = blossom.perfect_matching([("a\nb", "\u00e9", 3)]).certificate
+        with tempfile.TemporaryDirectory() as room:
+            path = os.path.join(room, "certificate.txt")
+            certificate.write(path)
+            with open(path, "rb") as file:
+                done = subprocess.run([find_program(), "check", "perfect"], stdin=file, capture_output=True)
+        self.assertEqual((done.returncode, done.stdout), (0, b"s ACCEPTED\n"))
+
+    def test_files_that_are_open(self):
+        certificate = blossom.perfect_matching([("a", "b", 3)]).certificate
+        text, raw = io.StringIO(), io.BytesIO()
+        certificate.write(text)
+        certificate.write(raw)
+        self.assertEqual(text.getvalue().encode(), raw.getvalue())
+        self.assertIn("c vertex 2 is 'b'\n", text.getvalue())
+        alone = io.StringIO()
+        certificate.write(alone, instance=False)
+        self.assertEqual(alone.getvalue(), str(certificate))
+        with tempfile.TemporaryFile("w+") as file:
+            certificate.write(file)
+
+    def test_a_refusal_writes_itself_too(self):
+        with self.assertRaises(blossom.Infeasible) as told:
+            blossom.perfect_matching(STAR)
+        text = io.StringIO()
+        told.exception.certificate.write(text, instance=False)
+        self.assertEqual(text.getvalue(), "s INFEASIBLE perfect\nu 1 1\n")

@@ -1,0 +1,181 @@
+"""The decoder: predictions, weights and edges, compared with a search of all sets of errors."""
+import itertools
+import random
+import unittest
+from fractions import Fraction
+
+import blossom
+from support import library_or_skip, wanted
+
+
+def ring(nodes):
+    """A ring of detectors with an observable on its last edge."""
+    return [(node, (node + 1) % nodes, 1, 0 if node == nodes - 1 else None) for node in range(nodes)]
+
+
+def least(edges, boundary, nodes, fired):
+    """The least weight of a set of errors that fires these detectors, by trying all; None where there is none."""
+    best = None
+    for count in range(len(edges) + 1):
+        for chosen in itertools.combinations(edges, count):
+            flips = [end for edge in chosen for end in edge[:2]]
+            if all((flips.count(node) % 2 == 1) == (node in fired) for node in range(nodes) if node not in boundary):
+                weight = sum(edge[2] for edge in chosen)
+                best = weight if best is None else min(best, weight)
+    return best
+
+
+class Decoding(unittest.TestCase):
+    def test_a_repetition_code(self):
+        decoder = blossom.Decoder()
+        decoder.add_boundary_edge(0, fault_ids={0})
+        decoder.add_edge(0, 1, fault_ids={1}, weight=2)
+        decoder.add_edge(1, 2, fault_ids=2)
+        decoder.add_boundary_edge(2, fault_ids=3, weight=1)
+        self.assertEqual((decoder.num_nodes, decoder.num_detectors, decoder.num_edges, decoder.num_fault_ids), (3, 3, 4, 4))
+        self.assertEqual(decoder.decode([1, 0, 0]), [1, 0, 0, 0])
+        self.assertEqual(decoder.decode([1, 1, 0], return_weight=True), ([0, 1, 0, 0], 2))
+        self.assertEqual(decoder.decode({1}, return_weight=True), ([0, 0, 1, 1], 2))
+        self.assertEqual(decoder.decode_to_edges_array([0, 1, 1]), [(1, 2)])
+        self.assertEqual(decoder.decode_to_edges_array([1, 0, 0]), [(0, -1)])
+        self.assertEqual(decoder.decode([0, 0, 0]), [0, 0, 0, 0])
+        self.assertEqual(decoder.edges()[0], (0, None, {"fault_ids": {0}, "weight": 1}))
+
+    def test_all_syndromes_of_made_graphs(self):
+        chance = random.Random(7)
+        for turn in range(25):
+            nodes = chance.randint(1, 5)
+            pairs = [pair for pair in itertools.combinations(range(-1, nodes), 2)]
+            edges = [(*pair, chance.randint(-3 if turn % 2 else 0, 6)) for pair in chance.sample(pairs, chance.randint(1, min(6, len(pairs))))]
+            boundary = set(chance.sample(range(nodes), chance.randint(0, nodes // 2)))
+            decoder = blossom.Decoder.from_edges([(*edge, place) for place, edge in enumerate(edges)], boundary=boundary)
+            for size in range(1 << nodes):
+                fired = {node for node in range(nodes) if size >> node & 1} - boundary
+                with self.subTest(edges=edges, boundary=boundary, fired=fired):
+                    self.compare(decoder, edges, boundary, decoder.num_nodes, fired)
+
+    def compare(self, decoder, edges, boundary, nodes, fired):
+        if fired and max(fired) >= nodes:
+            with self.assertRaises(ValueError):
+                decoder.decode(fired)
+            return
+        wanted_weight = least(edges, boundary | {-1}, nodes, fired)
+        if wanted_weight is None:
+            with self.assertRaises(blossom.Infeasible):
+                decoder.decode(fired)
+            return
+        prediction, weight = decoder.decode(fired, return_weight=True)
+        chosen = [edge for edge, used in zip(edges, prediction) if used]
+        flips = [end for edge in chosen for end in edge[:2]]
+        self.assertEqual((weight, sum(edge[2] for edge in chosen)), (wanted_weight, wanted_weight))
+        self.assertEqual({node for node in range(nodes) if flips.count(node) % 2} - boundary, fired)
+
+    def test_a_boundary_of_many_edges(self):
+        decoder = blossom.Decoder.from_edges([(node, None, 5, 0) for node in range(50)] + [(node, node + 1, 1) for node in range(49)])
+        self.assertEqual(decoder.decode({0, 49}, return_weight=True), ([0], 10))
+        self.assertEqual(decoder.decode({3, 7, 30}, return_weight=True), ([1], 9))
+        self.assertTrue(decoder.answer({3, 7, 30}).check())
+
+    def test_edges_within_the_boundary(self):
+        decoder = blossom.Decoder.from_edges([(0, 1, -5, 0), (1, None, -2, 1), (0, 3, 4, 2), (2, 1, 3, 3)], boundary=[0, 1])
+        self.assertEqual(decoder.decode([0, 0, 0, 0], return_weight=True), ([1, 1, 0, 0], -7))
+        self.assertEqual(decoder.decode({2}, return_weight=True), ([1, 1, 0, 1], -4))
+        self.assertEqual(decoder.decode_to_edges_array({2}), [(0, 1), (1, -1), (2, 1)])
+
+    def test_answers_prove_themselves(self):
+        answer = blossom.Decoder.from_edges(ring(7)).answer({1, 4})
+        self.assertEqual((answer.weight, answer.certificate.bound), (3, 3))
+        self.assertTrue(answer.check())
+
+    def test_batches(self):
+        decoder = blossom.Decoder.from_edges(ring(5))
+        shots = [[0] * 5, [1, 0, 0, 0, 1], [1, 1, 0, 0, 0]]
+        self.assertEqual(decoder.decode_batch(shots), [[0], [1], [0]])
+        self.assertEqual(decoder.decode_batch(shots, return_weights=True), ([[0], [1], [0]], [0, 1, 1]))
+        self.assertEqual(decoder.decode_batch([]), [])
+
+    def test_no_set_of_errors(self):
+        decoder = blossom.Decoder.from_edges(ring(5))
+        with self.assertRaises(ValueError) as told:
+            decoder.decode([1, 0, 0, 0, 0])
+        self.assertEqual(told.exception.part, [0, 1, 2, 3, 4])
+
+
+class Built(unittest.TestCase):
+    def test_of_a_check_matrix(self):
+        decoder = blossom.Decoder.from_check_matrix([[1, 1, 0], [0, 1, 1]], weights=[1, 1, 1])
+        self.assertEqual((decoder.num_detectors, decoder.num_fault_ids), (2, 3))
+        self.assertEqual(decoder.decode([1, 1]), [0, 1, 0])
+        decoder = blossom.Decoder.from_check_matrix([[1, 1, 0], [0, 1, 1]], weights=3, faults_matrix=[[1, 0, 0], [1, 1, 1]])
+        self.assertEqual(decoder.decode([1, 0], return_weight=True), ([1, 1], 3))
+        with self.assertRaisesRegex(blossom.GraphError, "column 0 has 3"):
+            blossom.Decoder.from_check_matrix([[1], [1], [1]])
+
+    def test_of_a_graph_of_networkx(self):
+        networkx = wanted("networkx")
+        graph = networkx.Graph()
+        graph.add_edge(0, 1, fault_ids={0}, weight=2)
+        graph.add_edge(1, 2, weight=1)
+        graph.nodes[2]["is_boundary"] = True
+        decoder = blossom.Decoder.from_networkx(graph)
+        self.assertEqual((decoder.boundary, decoder.num_detectors), ({2}, 2))
+        self.assertEqual(decoder.decode([1, 0], return_weight=True), ([1], 3))
+        self.assertEqual(decoder.decode([1, 0, 1], return_weight=True), ([1], 3))
+
+    def test_two_edges_of_the_same_nodes(self):
+        for merge, weight in (("replace", 5), ("keep-original", 3), ("smallest-weight", 3)):
+            decoder = blossom.Decoder.from_edges([(0, 1, 3)])
+            decoder.add_edge(1, 0, weight=5, merge_strategy=merge)
+            self.assertEqual(decoder.decode([1, 1], return_weight=True)[1], weight)
+        with self.assertRaisesRegex(ValueError, "have an edge already"):
+            decoder.add_edge(0, 1)
+        with self.assertRaisesRegex(ValueError, "merge_strategy is one of"):
+            decoder.add_edge(0, 2, merge_strategy="independent")
+
+    def test_weights_are_whole_or_scaled(self):
+        with self.assertRaisesRegex(blossom.WeightError, "scale="):
+            blossom.Decoder.from_edges([(0, 1, 2.5)]).decode([1, 1])
+        self.assertEqual(blossom.Decoder.from_edges([(0, 1, 2.5)], scale=2).decode([1, 1], return_weight=True)[1], Fraction(5, 2))
+        finest = blossom.Decoder.from_edges([(0, 1, 2.944438979166440)], scale="finest")
+        self.assertAlmostEqual(float(finest.decode([1, 1], return_weight=True)[1]), 2.944438979166440, places=7)
+
+    def test_what_is_no_edge_or_syndrome(self):
+        decoder = blossom.Decoder.from_edges(ring(3))
+        for nodes in ((0, 0), (None, None), (0.5, 1), (-2, 1), ("a", 1)):
+            with self.assertRaises(blossom.GraphError):
+                decoder.add_edge(*nodes)
+        for syndrome in ([1, 1], [1, 1, 0, 0], [2, 0, 0], {5}):
+            with self.assertRaises(ValueError):
+                decoder.decode(syndrome)
+
+    def test_an_edge_more_after_a_call(self):
+        decoder = blossom.Decoder.from_edges([(0, 1, 3)])
+        self.assertEqual(decoder.decode([1, 1], return_weight=True)[1], 3)
+        decoder.add_boundary_edge(0)
+        decoder.add_boundary_edge(1, fault_ids=[1])
+        self.assertEqual(decoder.decode([1, 1], return_weight=True), ([0, 1], 2))
+        decoder.ensure_num_fault_ids(4)
+        self.assertEqual(decoder.decode([1, 1]), [0, 1, 0, 0])
+
+
+class Arrays(unittest.TestCase):
+    def test_numpy_is_answered_by_numpy(self):
+        numpy = wanted("numpy")
+        decoder = blossom.Decoder.from_edges(ring(5))
+        prediction, weight = decoder.decode(numpy.array([1, 0, 0, 0, 1], dtype=numpy.uint8), return_weight=True)
+        self.assertEqual((prediction.dtype, prediction.tolist(), weight), (numpy.uint8, [1], 1))
+        predictions, weights = decoder.decode_batch(numpy.array([[1, 1, 0, 0, 0], [0] * 5]), return_weights=True)
+        self.assertEqual((predictions.shape, predictions.tolist(), weights.tolist()), ((2, 1), [[0], [0]], [1.0, 0.0]))
+        self.assertEqual(decoder.decode_to_edges_array(numpy.array([1, 1, 0, 0, 0])).tolist(), [[0, 1]])
+        self.assertEqual(decoder.decode_batch(numpy.zeros((0, 5), dtype=int)).shape, (0, 1))
+
+    def test_check_matrices_of_numpy(self):
+        numpy = wanted("numpy")
+        decoder = blossom.Decoder.from_check_matrix(numpy.array([[1, 1, 0], [0, 1, 1]]), weights=numpy.array([1.0, 1.5, 1.0]), scale=2)
+        self.assertEqual(decoder.decode(numpy.array([1, 1])).tolist(), [0, 1, 0])
+
+
+class ByLibrary(unittest.TestCase):
+    def test_small_calls_by_the_library(self):
+        decoder = blossom.Decoder.from_edges(ring(5), via="library", program=library_or_skip())
+        self.assertEqual(decoder.decode_batch([[1, 0, 0, 0, 1]] * 200), [[1]] * 200)

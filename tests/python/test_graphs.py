@@ -1,0 +1,114 @@
+"""The forms in which graphs can be given, and the texts that they become."""
+import unittest
+
+import blossom
+from blossom.graphs import table_of
+from support import wanted
+
+
+def text(graph, kind="perfect", **how):
+    return blossom.instance(graph, kind, **how).text.decode()
+
+
+class Forms(unittest.TestCase):
+    def test_edges_have_two_to_four_entries(self):
+        self.assertEqual(text([("a", "b"), ("b", "c", 7), ("a", "c", 5, 2)], "capmatch"), "p edge 3 3\ne 1 2 1\ne 2 3 7\ne 1 3 5 2\n")
+        self.assertEqual(text([("a", "b", {"weight": 4, "cost": 9})], weight="cost"), "p edge 2 1\ne 1 2 9\n")
+        for edge in (("a",), ("a", "b", 1, 1, 1)):
+            with self.assertRaisesRegex(blossom.GraphError, "an edge is"):
+                text([edge])
+
+    def test_no_weights_are_all_1(self):
+        self.assertEqual(text([("a", "b", 8)], weight=None), "p edge 2 1\ne 1 2 1\n")
+
+    def test_nodes_without_edges_come_first_where_they_are_named(self):
+        self.assertEqual(blossom.instance([(1, 2)], "match", nodes=[3, 2]).nodes, [3, 2, 1])
+
+    def test_nodes_are_whatever_can_be_hashed(self):
+        nodes = [(0, "a"), frozenset({1}), None, 2.5, "x"]
+        of = blossom.instance([(nodes[0], nodes[1]), (nodes[2], nodes[3])], "perfect", nodes=nodes)
+        self.assertEqual(of.nodes, nodes)
+
+    def test_columns_have_names(self):
+        wanted_text = "p edge 3 2\ne 1 2 4\ne 2 3 5\n"
+        for ends in (("u", "v"), ("source", "target"), ("from", "to")):
+            self.assertEqual(text({ends[0]: ["a", "b"], ends[1]: ["b", "c"], "weight": [4, 5], "colour": [0, 0]}), wanted_text)
+        with self.assertRaisesRegex(blossom.GraphError, "differ in length"):
+            text({"u": [1, 2], "v": [3]})
+        with self.assertRaisesRegex(blossom.GraphError, "call them u and v"):
+            text({"a": [1], "b": [2]})
+
+    def test_columns_of_numpy(self):
+        numpy = wanted("numpy")
+        u, v, weight = numpy.array([0, 1]), numpy.array([1, 2]), numpy.array([4.0, 5.0])
+        for graph in ({"u": u, "v": v, "weight": weight}, (u, v, weight), numpy.array([[0, 1, 4], [1, 2, 5]])):
+            of = blossom.instance(graph, "perfect")
+            self.assertEqual((of.text, of.nodes, {type(node) for node in of.nodes}), (b"p edge 3 2\ne 1 2 4\ne 2 3 5\n", [0, 1, 2], {int}))
+        rows = numpy.array([(0, 1, 4), (1, 2, 5)], dtype=[("u", int), ("v", int), ("weight", float)])
+        self.assertEqual(text(rows), "p edge 3 2\ne 1 2 4\ne 2 3 5\n")
+        self.assertEqual(text([(0, 1, numpy.float32(0.5))], scale=2), "p edge 2 1\ne 1 2 1\n")
+
+    def test_graphs_of_networkx(self):
+        networkx = wanted("networkx")
+        graph = networkx.Graph()
+        graph.add_node("alone", need=0)
+        graph.add_edge("a", "b", weight=3, cost=8)
+        graph.nodes["a"]["need"] = 2
+        self.assertEqual(text(graph), "p edge 3 1\ne 2 3 3\n")
+        self.assertEqual(text(graph, weight="cost"), "p edge 3 1\ne 2 3 8\n")
+        self.assertEqual(text(graph, "bmatch", values="need"), "p edge 3 1\ne 2 3 3\nn 1 0\nn 2 2\n")
+        with self.assertRaisesRegex(blossom.GraphError, "to_undirected"):
+            text(networkx.DiGraph([(1, 2)]))
+
+    def test_multigraphs_keep_their_keys(self):
+        networkx = wanted("networkx")
+        graph = networkx.MultiGraph()
+        graph.add_edge("a", "b", key="old", weight=5)
+        graph.add_edge("a", "b", key="new", weight=2)
+        self.assertEqual(blossom.perfect_matching(graph).edges, [("a", "b", "new")])
+
+
+class Names(unittest.TestCase):
+    def test_edges_are_named_by_their_ends(self):
+        self.assertEqual(table_of([("a", "b"), ("c", "b")]).names, [("a", "b"), ("c", "b")])
+
+    def test_parallel_edges_are_counted(self):
+        self.assertEqual(table_of([("a", "b"), ("b", "c"), ("b", "a")]).names, [("a", "b", 0), ("b", "c", 0), ("b", "a", 1)])
+
+
+class Refusals(unittest.TestCase):
+    def test_loops(self):
+        with self.assertRaisesRegex(blossom.GraphError, "loop"):
+            text([("a", "a", 1)])
+
+    def test_what_is_too_large(self):
+        with self.assertRaises(blossom.LimitExceeded) as told:
+            text([(0, 1)], nodes=range(4097))
+        self.assertEqual((told.exception.vertices, told.exception.edges), (4097, 1))
+        with self.assertRaises(blossom.LimitExceeded):
+            text([(0, 1)], "bmatch", values={0: 4097})
+        self.assertEqual(len(blossom.instance([(0, 1)] * 65536, "perfect").edges), 65536)
+        with self.assertRaises(blossom.LimitExceeded):
+            text([(0, 1)] * 65537)
+
+    def test_values_that_are_none(self):
+        for value in (-1, 0.5, float("nan"), "two", None):
+            with self.assertRaises(blossom.GraphError):
+                text([("a", "b")], "bmatch", values={"a": value})
+        with self.assertRaisesRegex(blossom.GraphError, "isn't in the graph"):
+            text([("a", "b")], "tjoin", terminals=["a", "c"])
+
+    def test_words_of_another_kind(self):
+        for kind, how in (("perfect", {"terminals": ["a"]}), ("tjoin", {"source": "a", "target": "b"}), ("path", {"source": "a"}), ("match", {"values": {"a": 1}}),
+                          ("path", {"source": "a", "target": "a"}), ("path", {})):
+            with self.assertRaises(blossom.GraphError):
+                text([("a", "b")], kind, **how)
+        with self.assertRaisesRegex(ValueError, "the kinds are"):
+            text([("a", "b")], "matching")
+
+    def test_capacities(self):
+        self.assertEqual(text([(1, 2, 1, 10**9), (1, 2, 1, float("inf")), (1, 2, 1, None)], "capmatch"),
+                         "p edge 2 3\ne 1 2 1 4096\ne 1 2 1\ne 1 2 1\n")
+        with self.assertRaises(blossom.GraphError):
+            text([(1, 2, 1, -1)], "capmatch")
+        self.assertEqual(text([(1, 2, 1, -1)], "bmatch"), "p edge 2 1\ne 1 2 1\n")  # not asked for
