@@ -1,2 +1,3 @@
 pub mod CrossLemmas
 pub mod AddLemmas
+pub mod ListLemmas

@@ -7,8 +7,10 @@ mod barrier;
 mod crossings;
 mod duals;
 mod fault;
+mod holders;
 mod marks;
 mod sets;
+mod shares;
 mod slacks;
 
 pub use barrier::is_barrier;
