@@ -1,15 +1,16 @@
-ghost use Rattle.std.specs.Prelude.{◌≡◌, ℕ, ◌+◌, ◌<◌, ◌≤◌, false, length, All, IfOk, OnOk};
+ghost use Rattle.std.specs.Prelude.{◌≡◌, ℕ, ◌+◌, ◌≤◌, false, length, All, IfOk};
 ghost use Rattle.std.specs.List.Sorted.{IsStrictlyIncreasing};
 ghost use Rattle.graph_theory.specs.Graph.{IsEdgeNumber, edge_of, edges_around};
 ghost use Rattle.graph_theory.specs.Duals.{HasForm, IsNumber, IsSetWithin};
 ghost use Rattle.weighted_graph.specs.Index.{IsIndex};
 ghost use Rattle.graph_parts.specs.Marks.{is_marked};
 ghost use Rattle.dual_check.specs.Crossed.{total_of, AddsFrom, AddsSet, AreCrossed, IsWithin};
-ghost use Rattle.dual_check.specs.Shared.{IsHolders, AddsCrossed, crossed_at, other_dual, taken_dual};
+ghost use Rattle.dual_check.specs.Shared.{crossed_at, other_dual};
 
 use crate::holders::Holders;
 use crate::marks::unmark;
-use crate::shares::{add_unshared, shares_of};
+use crate::narrow::narrow_sets;
+use crate::shares::add_taken;
 use graph_parts::mark_all;
 use graph_theory::OddSet;
 use mb_base::{EdgeId, OutOfMemory, VertexId};
@@ -73,38 +74,6 @@ fn add_set(
     unmark(marks, members);
 }
 
-/// Whether the pairs of a set's members are fewer than the edges at them, counted at both ends. It says
-/// which of two ways is faster, and either answer is right.
-fn is_narrow(incidence: &Incidence, members: &[VertexId]) -> bool
-    requires { All (λ m. m < length incidence.now) members.now }
-{
-    let pairs = members.len().saturating_mul(members.len());
-    let mut edges = 0usize;
-    for vertex in members {
-        edges = edges.saturating_add(incidence.at(*vertex).len());
-    }
-    pairs < edges
-}
-
-/// For each set whether it is narrow.
-fn narrow_sets(
-    alloc: Global,
-    graph: &Graph,
-    incidence: &Incidence,
-    sets: &[OddSet],
-) -> Result<Vec<bool>, OutOfMemory>
-    requires index { IsIndex graph.now incidence.now }
-    requires within { All (IsSetWithin graph.now.vertices) sets.now }
-    ensures { IfOk result (λ narrow. length narrow.items ≡ length sets.now) }
-{
-    let _ = graph.vertices();
-    let mut narrow = Vec::new(alloc);
-    for set in sets {
-        narrow.push(is_narrow(incidence, set.members.as_slice()))?;
-    }
-    Ok(narrow)
-}
-
 /// Adds at each edge the duals of the sets that it crosses and that aren't taken, set by set.
 fn add_others(
     alloc: Global,
@@ -131,38 +100,6 @@ fn add_others(
     Ok(totals)
 }
 
-/// Adds at each edge the duals of the sets that it crosses and that are taken, vertex by vertex. The flags stand
-/// for the contract alone: the holders are theirs.
-fn add_taken(
-    alloc: Global,
-    graph: &Graph,
-    incidence: &Incidence,
-    sets: &[OddSet],
-    taken: &[bool],
-    holders: &Holders,
-    totals: &mut [i128],
-) -> Result<(), OutOfMemory>
-    requires index { IsIndex graph.now incidence.now }
-    requires numbers { All (λ s. IsNumber s.dual) sets.now }
-    requires within { All (IsSetWithin graph.now.vertices) sets.now }
-    requires forms { All (λ s. HasForm s.members) sets.now }
-    requires holders { IsHolders graph.now.vertices sets.now taken.now holders.now }
-    requires size { length totals.old ≡ length graph.now.edges + 1 }
-    requires small { (e : ℕ) → IsEdgeNumber graph.now e → IsWithin 35 (total_of totals.old e) }
-    ensures { OnOk result (AddsCrossed graph.now sets.now (taken_dual sets.now taken.now) totals.old totals.new) }
-{
-    let _ = taken;
-    for k in 0..graph.vertices() {
-        let vertex = VertexId::new(k + 1);
-        let list = holders.at(vertex);
-        if !list.is_empty() {
-            let shares = shares_of(alloc, graph.vertices(), sets, list)?;
-            add_unshared(graph, incidence.at(vertex), &shares, vertex, totals);
-        }
-    }
-    Ok(())
-}
-
 /// At each edge, by its number, the duals of the sets that it crosses. A set takes the lesser of the
 /// number of edges at its members and the square of the number of its members.
 pub(crate) fn crossed_all(
@@ -179,6 +116,14 @@ pub(crate) fn crossed_all(
     let narrow = narrow_sets(alloc, graph, &incidence, sets)?;
     let mut totals = add_others(alloc, graph, &incidence, sets, &narrow)?;
     let holders = Holders::of(alloc, graph.vertices(), sets, &narrow)?;
-    add_taken(alloc, graph, &incidence, sets, &narrow, &holders, &mut totals)?;
+    add_taken(
+        alloc,
+        graph,
+        &incidence,
+        sets,
+        &narrow,
+        &holders,
+        &mut totals,
+    )?;
     Ok(totals)
 }

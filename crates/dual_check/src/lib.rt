@@ -9,6 +9,7 @@ mod duals;
 mod fault;
 mod holders;
 mod marks;
+mod narrow;
 mod sets;
 mod shares;
 mod slacks;

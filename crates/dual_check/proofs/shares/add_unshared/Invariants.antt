@@ -1,5 +1,5 @@
-use Rattle.std.proofs.Common.{◌≡◌, ℕ, ◌+ℤ◌, pos, cond, ◌&&◌, take, length}
-use Rattle.graph_theory.specs.Graph.{IsEdgeNumber, edge_of}
+use Rattle.std.proofs.Common.{◌≡◌, ℕ, ◌+ℤ◌, pos, cond, take, length}
+use Rattle.graph_theory.specs.Graph.{IsEdgeNumber}
 use Rattle.graph_theory.specs.Parts.{holds}
 use Rattle.dual_check.specs.Crossed.{total_of}
 use Rattle.dual_check.specs.Shared.{unshared_at}

@@ -1,4 +1,4 @@
-use Rattle.std.proofs.Common.{arith, rules, ◌≡◌, ◌∙◌, ap, [], List, ℕ, ◌<◌, get_or, length, length-set}
+use Rattle.std.proofs.Common.{arith, rules, ◌≡◌, ◌∙◌, ap, [], ◌<◌, get_or, length, length-set}
 use Rattle.std.proofs.lemmas.List.{get_or_read}
 use Rattle.dual_check.proofs.ListLemmas.{noted_next}
 use Rattle.dual_check.proofs.holders.Holders.note_all.Goals as goal
