@@ -11,6 +11,7 @@ import random
 import subprocess
 import sys
 
+import fuzz
 import launcher
 import made
 import mutate
@@ -84,6 +85,10 @@ def hostile_input(tests):
     tests.expect("a count of a thousand digits", check, b"p edge " + long_number + b" 0\n", "s MALFORMED Range 1\n", 3)
     tests.expect("a thousand zeros before a digit", check,
                  b"p edge " + b"0" * 1000 + b"2 0\ns INFEASIBLE perfect\n", "s REJECTED NotBarrier 2\n", 1)
+    tests.expect("a weight of a thousand digits", ["solve", "perfect"], b"p edge 2 1\ne 1 2 " + long_number + b"\n",
+                 "s MALFORMED Range 2\n", 3)
+    tests.expect("a thousand zeros before a weight", ["solve", "perfect", "--brief"], b"p edge 2 1\ne 1 2 " + b"0" * 1000 + b"7\n",
+                 "s OPTIMAL perfect 7\nx 1 1\n", 0)
     tests.expect("NUL bytes", check, b"\0\0\0\n", "s MALFORMED UnknownLine 1\n", 3)
     tests.expect("a NUL byte in a number", check, b"p edge 2\0 1\n", "s MALFORMED Number 1\n", 3)
     tests.expect("bytes above 127", check, b"p edge 2 1\ne 1 \xff\n", "s MALFORMED Number 2\n", 3)
@@ -92,6 +97,22 @@ def hostile_input(tests):
     tests.expect("16 MiB of comments", check, b"c no edge\n" * 1_677_721, "s MALFORMED HeaderMissing 1677722\n", 3)
     tests.expect("the longest input", check, b"\n" * 67_108_864, "s MALFORMED HeaderMissing 67108865\n", 3)
     tests.expect("one byte more than that", check, b"\n" * 67_108_865, "s TOOLONG\n", 5)
+
+
+def hostile_documents(tests):
+    """Documents that no solver writes get their exact verdict: graphs at their limit, and many sets."""
+    for value, output, status in ((1024, "s ACCEPTED\n", 0), (1025, "s TOOLARGE 2049 1049600\n", 4)):
+        text = "p edge 2 1\nn 1 1024\nn 2 %d\ne 1 2 1\ns OPTIMAL bmatch 1024\nx 1 1024\n" % value
+        text += "".join("y %d 1\n" % v for v in range(1, 2049))
+        tests.expect("copies of %d vertices" % (1024 + value), ["check", "bmatch"], text.encode(), output, status)
+    crossing = "p edge 4 2\ne 1 2 1\ne 3 4 1\ns OPTIMAL perfect 2\nx 1 1\nx 2 1\ny 1 0\ny 2 1\ny 3 1\ny 4 0\nz 1 3 1 2 3\nz 1 3 2 3 4\n"
+    tests.expect("ten thousand equal sets", ["check", "perfect"], (crossing + "z 1 3 2 3 4\n" * 10_000).encode(), "s REJECTED Slack 4\n", 1)
+    # Their duals add up to more than 2^63: in 64 bits the slack would pass for a great one.
+    tests.expect("sets with great duals", ["check", "perfect"], (crossing + "z 1000000000000000 3 1 2 3\n" * 9_224).encode(),
+                 "s REJECTED Slack 4\n", 1)
+    parallel = "p edge 4 65536\n" + "e 1 2 1\n" * 65_535 + "e 3 4 1\ns OPTIMAL perfect 2\nx 1 1\nx 65536 1\ny 1 0\ny 2 1\ny 3 1\ny 4 0\n"
+    for sets, output, status in (("z 1 3 1 2 3\nz 1 3 2 3 4\n", "s ACCEPTED\n", 0), ("z 1 3 1 2 3\n" * 50_000, "s REJECTED Slack 65538\n", 1)):
+        tests.expect("%d sets at parallel edges" % sets.count("z"), ["check", "perfect"], (parallel + sets).encode(), output, status)
 
 
 def words(tests):
@@ -145,6 +166,12 @@ def changed_documents(tests):
             text = "\n".join(lines[:first] + mutate.changed(chance, lines[first:])) + "\n"
             status, answer = plain_checker.answer_of(kind, text)
             tests.expect("%s/%s, change %d" % (kind, name, turn), ["check", kind], text.encode(), answer, status)
+
+
+def changed_inputs(tests):
+    """Twenty thousand inputs of `check` and `solve` that were changed at random."""
+    passed, failed = fuzz.run(PROGRAM, 20_000)
+    tests.passed, tests.failed = tests.passed + passed, tests.failed + failed
 
 
 def long_input(tests):
@@ -256,7 +283,8 @@ def large_trials(tests):
 
 PROGRAM = os.path.abspath(sys.argv[1])
 TESTS = Tests()
-for part in (cases, cut_files, hostile_input, words, examples, documents, changed_documents, long_input, solved, large_instances, trials, large_trials):
+for part in (cases, cut_files, hostile_input, hostile_documents, words, examples, documents, changed_documents, changed_inputs, long_input, solved, large_instances,
+             trials, large_trials):
     part(TESTS)
 process_ends.check(PROGRAM, TESTS)
 launcher.check(TESTS)

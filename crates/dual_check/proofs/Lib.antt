@@ -1,2 +1,5 @@
 pub mod CrossLemmas
 pub mod AddLemmas
+pub mod ListLemmas
+pub mod ShareLemmas
+pub mod TakenLemmas

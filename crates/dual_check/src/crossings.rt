@@ -5,8 +5,12 @@ ghost use Rattle.graph_theory.specs.Duals.{HasForm, IsNumber, IsSetWithin};
 ghost use Rattle.weighted_graph.specs.Index.{IsIndex};
 ghost use Rattle.graph_parts.specs.Marks.{is_marked};
 ghost use Rattle.dual_check.specs.Crossed.{total_of, AddsFrom, AddsSet, AreCrossed, IsWithin};
+ghost use Rattle.dual_check.specs.Shared.{crossed_at, other_dual};
 
+use crate::holders::Holders;
 use crate::marks::unmark;
+use crate::narrow::narrow_sets;
+use crate::shares::add_taken;
 use graph_parts::mark_all;
 use graph_theory::OddSet;
 use mb_base::{EdgeId, OutOfMemory, VertexId};
@@ -70,8 +74,34 @@ fn add_set(
     unmark(marks, members);
 }
 
-/// At each edge, by its number, the duals of the sets that it crosses, in time linear in vertices,
-/// edges, and the degrees of the members of all sets.
+/// Adds at each edge the duals of the sets that it crosses and that aren't taken, set by set.
+fn add_others(
+    alloc: Global,
+    graph: &Graph,
+    incidence: &Incidence,
+    sets: &[OddSet],
+    taken: &[bool],
+) -> Result<Vec<i128>, OutOfMemory>
+    requires index { IsIndex graph.now incidence.now }
+    requires numbers { All (λ s. IsNumber s.dual) sets.now }
+    requires within { All (IsSetWithin graph.now.vertices) sets.now }
+    requires forms { All (λ s. HasForm s.members) sets.now }
+    requires one_each { length taken.now ≡ length sets.now }
+    ensures size { IfOk result (λ totals. length totals.items ≡ length graph.now.edges + 1) }
+    ensures totals { IfOk result (λ totals. (e : ℕ) → IsEdgeNumber graph.now e → total_of totals.items e ≡ crossed_at sets.now (other_dual sets.now taken.now) (length sets.now) (edge_of graph.now e)) }
+{
+    let mut marks = vec![in alloc; false; graph.vertices() as usize + 1]?;
+    let mut totals = vec![in alloc; 0i128; graph.edges() as usize + 1]?;
+    for (k, set) in sets.iter().enumerate() {
+        if !taken[k] {
+            add_set(graph, incidence, set, &mut marks, &mut totals);
+        }
+    }
+    Ok(totals)
+}
+
+/// At each edge, by its number, the duals of the sets that it crosses. A set takes the lesser of the
+/// number of edges at its members and the square of the number of its members.
 pub(crate) fn crossed_all(
     alloc: Global,
     graph: &Graph,
@@ -83,10 +113,17 @@ pub(crate) fn crossed_all(
     ensures totals { IfOk result (λ totals. AreCrossed graph.now sets.now totals.items) }
 {
     let incidence = graph.index()?;
-    let mut marks = vec![in alloc; false; graph.vertices() as usize + 1]?;
-    let mut totals = vec![in alloc; 0i128; graph.edges() as usize + 1]?;
-    for set in sets {
-        add_set(graph, &incidence, set, &mut marks, &mut totals);
-    }
+    let narrow = narrow_sets(alloc, graph, &incidence, sets)?;
+    let mut totals = add_others(alloc, graph, &incidence, sets, &narrow)?;
+    let holders = Holders::of(alloc, graph.vertices(), sets, &narrow)?;
+    add_taken(
+        alloc,
+        graph,
+        &incidence,
+        sets,
+        &narrow,
+        &holders,
+        &mut totals,
+    )?;
     Ok(totals)
 }

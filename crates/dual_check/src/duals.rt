@@ -29,7 +29,7 @@ fn vertex_total(y: &[i64]) -> i128
 /// The value of duals: one for each vertex, in `y`, and one for each odd set of vertices. Duals that
 /// are not feasible have none: the answer is their first fault, of the sets first, then of the slacks.
 /// Duals, slacks and the value are in doubled units: an edge counts twice its weight. It takes time
-/// linear in vertices, edges, and the degrees of the members of all sets.
+/// linear in vertices, edges and, for each set, the lesser of the degrees of its members and the square of their number.
 pub fn bound(alloc: Global, graph: &Graph, y: &[i64], sets: &[OddSet]) -> Result<i128, DualFault>
     requires one_each { length y.now ≡ graph.now.vertices }
     requires y_numbers { All IsNumber y.now }

@@ -7,8 +7,11 @@ mod barrier;
 mod crossings;
 mod duals;
 mod fault;
+mod holders;
 mod marks;
+mod narrow;
 mod sets;
+mod shares;
 mod slacks;
 
 pub use barrier::is_barrier;

@@ -1,14 +1,14 @@
 use Rattle.std.proofs.Common.{◌≡◌, ℕ, ◌+◌, false, length}
-use Rattle.graph_theory.specs.Duals.{crossed_by}
 use Rattle.graph_theory.specs.Graph.{IsEdgeNumber, edge_of}
 use Rattle.graph_parts.specs.Marks.{is_marked}
 use Rattle.dual_check.specs.Crossed.{total_of}
-use Rattle.dual_check.proofs.crossings.crossed_all.Given as goal
+use Rattle.dual_check.specs.Shared.{crossed_at, other_dual}
+use Rattle.dual_check.proofs.crossings.add_others.Given as goal
 
-abbrev pub invariant-loop-set : goal.invariant-loop-set
-invariant-loop-set l = record {
+abbrev pub invariant-loop-k : goal.invariant-loop-k
+invariant-loop-k l = record {
   size : length l.totals.items ≡ length l.graph.edges + 1;
   marks : length l.marks.items ≡ l.graph.vertices + 1;
   none : (v : ℕ) → is_marked l.marks.items v ≡ false;
-  exact : (e : ℕ) → IsEdgeNumber l.graph e → total_of l.totals.items e ≡ crossed_by l.sets l.set-index (edge_of l.graph e);
+  exact : (e : ℕ) → IsEdgeNumber l.graph e → total_of l.totals.items e ≡ crossed_at l.sets (other_dual l.sets l.taken) l.k (edge_of l.graph e);
 }

@@ -1,0 +1,62 @@
+-- Lemmas on lists by vertex, and on sums over lists.
+use Rattle.std.proofs.Common.{◌≡◌, ◌∙◌, sym, ap, ap₂, subst, inl, inr, arith, ℕ, zero, suc, ◌+◌, ◌<◌, ℤ, pos, ◌+ℤ◌, Bool, true, false, cond, eqb, ◌||◌, List, [], ◌∷◌, ◌++◌, length, get_or, set, take, All, get_or-set_same, get_or-set_other, length-append}
+use Rattle.std.proofs.Math.Bool.{or-false}
+use Rattle.std.proofs.Math.Seq.{get_or-append_seam}
+use Rattle.std.proofs.lemmas.Bool.{cases_eq, eq-eqb, ne_eqb, or_right}
+use Rattle.std.proofs.lemmas.Int.{ints}
+use Rattle.std.proofs.lemmas.List.{get_or_append_left}
+use Rattle.std.proofs.lemmas.List.Elements.{All-append, All-weaker, All-from_get_or}
+use Rattle.std.specs.List.Sorted.{IsStrictlyIncreasing}
+use Rattle.graph_theory.specs.Parts.{holds}
+use Rattle.graph_theory.specs.Sums.{int_sum_to}
+use Rattle.dual_check.specs.Shared.{sum_over}
+use Rattle.graph_theory.proofs.Members.{holds-take, not_before}
+use Rattle.graph_theory.proofs.SumLemmas.{int_sum_to-same, int_sum_to-more}
+
+-- one more member x has s at the end of its list
+pub noted_next : (L N : List (List ℕ)) (I : ℕ → List ℕ) (xs : List ℕ) (i x s : ℕ)
+    → IsStrictlyIncreasing xs → i < length xs → x ≡ get_or xs i 0 → x < length L
+    → N ≡ set L x (get_or L x [] ++ s ∷ [])
+    → ((w : ℕ) → get_or L w [] ≡ cond (holds (take i xs) w) (I w ++ s ∷ []) (I w))
+    → (v : ℕ) → get_or N v [] ≡ cond (holds (take (i + 1) xs) v) (I v ++ s ∷ []) (I v)
+noted_next L N I xs i x s up b here within is so v =
+    let Goal : Bool → Type 0 = λ t. get_or N v [] ≡ cond t (I v ++ s ∷ []) (I v) in
+    let more : holds (take (i + 1) xs) v ≡ (holds (take i xs) v || eqb x v) = holds-take xs i v b ∙ ap (λ q. holds (take i xs) v || eqb q v) (sym here) in
+    subst Goal (sym more) (elim (cases_eq x v) [
+      | inl same ↦
+          let fresh : holds (take i xs) x ≡ false = ap (λ q. holds (take i xs) q) here ∙ not_before xs i up b in
+          let old : get_or L x [] ≡ I x = so x ∙ ap (λ t. cond t (I x ++ s ∷ []) (I x)) fresh in
+          let new : get_or N x [] ≡ I x ++ s ∷ [] = ap (λ (M : List (List ℕ)). get_or M x []) is ∙ get_or-set_same _ _ _ _ within ∙ ap (λ (ys : List ℕ). ys ++ s ∷ []) old in
+          let held : (holds (take i xs) v || eqb x v) ≡ true = or_right (holds (take i xs) v) (eqb x v) (eq-eqb x v same) in
+          subst Goal (sym held) (subst (λ (q : ℕ). get_or N q [] ≡ I q ++ s ∷ []) same new)
+      | inr differ ↦
+          let off : (holds (take i xs) v || eqb x v) ≡ holds (take i xs) v = ap (λ t. holds (take i xs) v || t) (ne_eqb x v differ) ∙ or-false (holds (take i xs) v) in
+          subst Goal (sym off) (ap (λ (M : List (List ℕ)). get_or M v []) is ∙ get_or-set_other L x v _ [] (λ eq. differ (sym eq)) ∙ so v)
+    ])
+
+-- one more item of a list
+pub sum_over-push : (f : ℕ → ℤ) (xs : List ℕ) (j : ℕ) → sum_over f (xs ++ j ∷ []) ≡ sum_over f xs +ℤ f j
+sum_over-push f xs j =
+    let ys = xs ++ j ∷ [] in
+    let long : length ys ≡ length xs + 1 = length-append xs (j ∷ []) in
+    let front : int_sum_to (λ a. f (get_or ys a 0)) (length xs) ≡ sum_over f xs = int_sum_to-same (λ a. f (get_or ys a 0)) (λ a. f (get_or xs a 0)) (length xs) (λ a b. ap f (get_or_append_left xs (j ∷ []) 0 a b)) in
+    ap (int_sum_to (λ a. f (get_or ys a 0))) long
+    ∙ int_sum_to-more (λ a. f (get_or ys a 0)) (length xs)
+    ∙ ap₂ (λ p q. p +ℤ q) front (ap f (get_or-append_seam xs j [] 0))
+
+-- set k is put at the end of the list of v where it is taken and holds v
+pub held_next : (f : ℕ → ℤ) (xs ys : List ℕ) (k : ℕ) (t : Bool) (total : ℤ) → ys ≡ cond t (xs ++ k ∷ []) xs → sum_over f xs ≡ total → sum_over f ys ≡ total +ℤ cond t (f k) (pos 0)
+held_next f xs ys k true total is so = ap (sum_over f) is ∙ sum_over-push f xs k ∙ ap (λ z. z +ℤ f k) so
+held_next f xs ys k false total is so = ap (sum_over f) is ∙ so ∙ omega (arith, ints)
+
+all_below_next : (xs : List ℕ) (k : ℕ) → All (λ j. j < k) xs → All (λ j. j < k + 1) xs
+all_below_next xs k so = All-weaker (λ j. j < k) (λ j. j < k + 1) (λ (j : ℕ) (b : j < k). omega arith) xs so
+
+pub below_next : (xs ys : List ℕ) (k : ℕ) (t : Bool) → ys ≡ cond t (xs ++ k ∷ []) xs → All (λ j. j < k) xs → All (λ j. j < k + 1) ys
+below_next xs ys k true is so = subst (λ (zs : List ℕ). All (λ j. j < k + 1) zs) (sym is)
+    (All-append (λ j. j < k + 1) xs (k ∷ []) (all_below_next xs k so) (All-from_get_or (λ j. j < k + 1) (k ∷ []) k (λ a b. one a b)))
+  where
+    one : (a : ℕ) → a < 1 → get_or (k ∷ []) a k < k + 1
+    one zero b = omega arith
+    one (suc a) b = absurd (omega arith)
+below_next xs ys k false is so = subst (λ (zs : List ℕ). All (λ j. j < k + 1) zs) (sym is) (all_below_next xs k so)

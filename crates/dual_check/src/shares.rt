@@ -1,0 +1,112 @@
+ghost use Rattle.std.specs.Prelude.{◌≡◌, ℕ, ◌+◌, ◌<◌, ◌≤◌, ◌+ℤ◌, pos, length, All, IfOk, OnOk, if◌then◌else◌};
+ghost use Rattle.std.specs.List.Sorted.{IsStrictlyIncreasing};
+ghost use Rattle.graph_theory.specs.Graph.{IsEdgeNumber, edges_around};
+ghost use Rattle.graph_theory.specs.Parts.{holds};
+ghost use Rattle.graph_theory.specs.Duals.{HasForm, IsNumber, IsSetWithin};
+ghost use Rattle.weighted_graph.specs.Index.{IsIndex};
+ghost use Rattle.dual_check.specs.Crossed.{total_of, IsWithin};
+ghost use Rattle.dual_check.specs.Shared.{IsHolders, AreShares, AddsUnshared, AddsCrossed, taken_dual};
+
+use crate::holders::Holders;
+use graph_theory::OddSet;
+use mb_base::{EdgeId, OutOfMemory, VertexId};
+use std::alloc::Global;
+use weighted_graph::{Graph, Incidence};
+
+/// Duals of some sets, added up: of all, and at each vertex, by its number, of those that hold it.
+#[derive(Drop, Debug)]
+struct Shares {
+    whole: i128,
+    with_vertex: Vec<i128>,
+}
+
+/// Adds the dual at each member.
+fn share(totals: &mut [i128], members: &[VertexId], dual: i64)
+    requires in_range { All (λ m. m < length totals.old) members.now }
+    requires ascending { IsStrictlyIncreasing members.now }
+    requires small { (v : ℕ) → IsWithin 35 (total_of totals.old v) }
+    requires dual { IsNumber dual }
+    ensures { (v : ℕ) → total_of totals.new v ≡ (total_of totals.old v +ℤ (if holds members.now v then dual else pos 0)) }
+{
+    for vertex in members {
+        totals[vertex.number() as usize] += i128::from(dual);
+    }
+}
+
+/// What the sets of a list give, with a place for each vertex from 1 to `vertices`.
+fn shares_of(
+    alloc: Global,
+    vertices: u32,
+    sets: &[OddSet],
+    list: &[usize],
+) -> Result<Shares, OutOfMemory>
+    requires numbers { All (λ s. IsNumber s.dual) sets.now }
+    requires within { All (IsSetWithin vertices) sets.now }
+    requires forms { All (λ s. HasForm s.members) sets.now }
+    requires list { All (λ j. j < length sets.now) list.now }
+    ensures { IfOk result (AreShares vertices sets.now list.now) }
+{
+    let mut whole = 0i128;
+    let mut with_vertex = vec![in alloc; 0i128; vertices as usize + 1]?;
+    for number in list {
+        let set = &sets[*number];
+        whole += i128::from(set.dual);
+        share(&mut with_vertex, set.members.as_slice(), set.dual);
+    }
+    Ok(Shares { whole, with_vertex })
+}
+
+/// Adds at each edge of the vertex the duals of the sets that don't hold its other end.
+fn add_unshared(
+    graph: &Graph,
+    numbers: &[EdgeId],
+    shares: &Shares,
+    vertex: VertexId,
+    totals: &mut [i128],
+)
+    requires numbers { numbers.now ≡ edges_around graph.now vertex }
+    requires places { length shares.now.with_vertex.items ≡ graph.now.vertices + 1 }
+    requires whole { IsWithin 35 shares.now.whole }
+    requires with_vertex { (v : ℕ) → IsWithin 35 (total_of shares.now.with_vertex.items v) }
+    requires size { length totals.old ≡ length graph.now.edges + 1 }
+    requires small { (e : ℕ) → IsEdgeNumber graph.now e → IsWithin 36 (total_of totals.old e) }
+    ensures { AddsUnshared graph.now shares.now vertex totals.old totals.new }
+{
+    for number in numbers {
+        let end = graph.other_end(*number, vertex).number() as usize;
+        let unshared = shares.whole - shares.with_vertex[end];
+        totals[number.number() as usize] += unshared;
+    }
+}
+
+/// Adds at each edge the duals of the sets that it crosses and that are taken, vertex by vertex. The flags stand
+/// for the contract alone: the holders are theirs.
+pub(crate) fn add_taken(
+    alloc: Global,
+    graph: &Graph,
+    incidence: &Incidence,
+    sets: &[OddSet],
+    taken: &[bool],
+    holders: &Holders,
+    totals: &mut [i128],
+) -> Result<(), OutOfMemory>
+    requires index { IsIndex graph.now incidence.now }
+    requires numbers { All (λ s. IsNumber s.dual) sets.now }
+    requires within { All (IsSetWithin graph.now.vertices) sets.now }
+    requires forms { All (λ s. HasForm s.members) sets.now }
+    requires holders { IsHolders graph.now.vertices sets.now taken.now holders.now }
+    requires size { length totals.old ≡ length graph.now.edges + 1 }
+    requires small { (e : ℕ) → IsEdgeNumber graph.now e → IsWithin 35 (total_of totals.old e) }
+    ensures { OnOk result (AddsCrossed graph.now sets.now (taken_dual sets.now taken.now) totals.old totals.new) }
+{
+    let _ = taken;
+    for k in 0..graph.vertices() {
+        let vertex = VertexId::new(k + 1);
+        let list = holders.at(vertex);
+        if !list.is_empty() {
+            let shares = shares_of(alloc, graph.vertices(), sets, list)?;
+            add_unshared(graph, incidence.at(vertex), &shares, vertex, totals);
+        }
+    }
+    Ok(())
+}
