@@ -109,6 +109,7 @@ CASES = [
     ("65,536 edges, longest fields", CHECK, 65536 * 28, longest_fields((0, 65536 * 28))),
     ("65,536 edges, 58 zeros before each", CHECK, 16 * MIB, longest_fields((58, 16 * MIB))),
     ("sets of three", CHECK, 64 * MIB, sets(SMALL, b"z 1 3 1 2 3\n", b"s REJECTED Slack 4\n")),
+    ("sets of three at parallel edges", CHECK, 64 * MIB, sets(PARALLEL, b"z 1 3 1 2 3\n", b"s REJECTED Slack 65538\n")),
     ("sets of one", CHECK, 64 * MIB, sets(SMALL, b"z 1 1 1\n", b"s REJECTED SetForm 11\n")),
     ("sets of none", CHECK, 64 * MIB, sets(SMALL, b"z 1 0\n", b"s REJECTED SetForm 11\n")),
     ("one set", CHECK, 64 * MIB, one_set),

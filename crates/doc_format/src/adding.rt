@@ -1,4 +1,4 @@
-ghost use Rattle.std.specs.Prelude.{◌≡◌, ◌∷◌, [], ◌++◌, true, OnOk};
+ghost use Rattle.std.specs.Prelude.{◌≡◌, ◌∷◌, [], ◌++◌, true, OnOk, OnErr};
 ghost use Rattle.doc_format.specs.Form.{parts_of, is_formed};
 ghost use Rattle.doc_format.specs.Reading.{body_of, head_of, may_stand};
 
@@ -11,6 +11,7 @@ impl Document {
         requires { may_stand (head_of self.old) (parts_of (body_of self.old)) (Part.Count x) ≡ true }
         ensures head { OnOk result (head_of self.new ≡ head_of self.old) }
         ensures parts { OnOk result (parts_of (body_of self.new) ≡ parts_of (body_of self.old) ++ Part.Count x ∷ []) }
+        ensures unchanged { OnErr result (self.new ≡ self.old) }
     {
         self.counts.push(x)?;
         Ok(())
@@ -29,6 +30,7 @@ impl Document {
         requires { may_stand (head_of self.old) (parts_of (body_of self.old)) (Part.Dual y) ≡ true }
         ensures head { OnOk result (head_of self.new ≡ head_of self.old) }
         ensures parts { OnOk result (parts_of (body_of self.new) ≡ parts_of (body_of self.old) ++ Part.Dual y ∷ []) }
+        ensures unchanged { OnErr result (self.new ≡ self.old) }
     {
         self.duals.push(y)?;
         Ok(())
@@ -38,6 +40,7 @@ impl Document {
         requires { may_stand (head_of self.old) (parts_of (body_of self.old)) (Part.Set z) ≡ true }
         ensures head { OnOk result (head_of self.new ≡ head_of self.old) }
         ensures parts { OnOk result (parts_of (body_of self.new) ≡ parts_of (body_of self.old) ++ Part.Set z ∷ []) }
+        ensures unchanged { OnErr result (self.new ≡ self.old) }
     {
         self.sets.push(z)?;
         Ok(())
@@ -76,6 +79,7 @@ impl Document {
         requires form { is_formed part ≡ true }
         ensures head { OnOk result (head_of self.new ≡ head_of self.old) }
         ensures parts { OnOk result (parts_of (body_of self.new) ≡ parts_of (body_of self.old) ++ part ∷ []) }
+        ensures unchanged { OnErr result (self.new ≡ self.old) }
     {
         match part {
             Part::Count(x) => return self.add_count(x),

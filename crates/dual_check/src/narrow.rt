@@ -7,20 +7,20 @@ use mb_base::{OutOfMemory, VertexId};
 use std::alloc::Global;
 use weighted_graph::{Graph, Incidence};
 
-/// Whether the pairs of a set's members are fewer than the edges at them, counted at both ends. It says
-/// which of two ways is faster, and either answer is right.
-fn is_narrow(incidence: &Incidence, members: &[VertexId]) -> bool
+/// How many edges there are at the members, counted at each member.
+fn edges_at(incidence: &Incidence, members: &[VertexId]) -> usize
     requires { All (λ m. m < length incidence.now) members.now }
 {
-    let pairs = members.len().saturating_mul(members.len());
     let mut edges = 0usize;
     for vertex in members {
         edges = edges.saturating_add(incidence.at(*vertex).len());
     }
-    pairs < edges
+    edges
 }
 
-/// For each set whether it is narrow.
+/// For each set whether it is narrow: whether its pairs of members take less time than the edges at them, an
+/// edge as much as four pairs. None is where all these edges take less time than a table of a number for each two vertices,
+/// in which pairs are added up. It says which of two ways is faster, and either answer is right.
 pub(crate) fn narrow_sets(
     alloc: Global,
     graph: &Graph,
@@ -31,10 +31,20 @@ pub(crate) fn narrow_sets(
     requires within { All (IsSetWithin graph.now.vertices) sets.now }
     ensures { IfOk result (λ narrow. length narrow.items ≡ length sets.now) }
 {
-    let _ = graph.vertices();
+    let vertices = graph.vertices() as usize;
     let mut narrow = Vec::new(alloc);
+    let mut spared = 0usize;
     for set in sets {
-        narrow.push(is_narrow(incidence, set.members.as_slice()))?;
+        let members = set.members.as_slice();
+        let edges = edges_at(incidence, members);
+        let is_narrow = members.len().saturating_mul(members.len()) / 4 < edges;
+        if is_narrow {
+            spared = spared.saturating_add(edges);
+        }
+        narrow.push(is_narrow)?;
+    }
+    if spared < vertices.saturating_mul(vertices) / 4 {
+        return Ok(vec![in alloc; false; sets.len()]?);
     }
     Ok(narrow)
 }
