@@ -18,3 +18,11 @@ pub mod Pairs
 pub mod Balance
 pub mod Counted
 pub mod Puts
+pub mod Listed
+pub mod Queues
+pub mod Needs
+pub mod NoTree
+pub mod Looks
+pub mod Duals
+pub mod EntrySteps
+pub mod Planted

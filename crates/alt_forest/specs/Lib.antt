@@ -8,3 +8,5 @@ pub mod Chains
 pub mod Laws
 pub mod Ways
 pub mod Circuits
+pub mod Entries
+pub mod Standing

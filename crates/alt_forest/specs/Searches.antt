@@ -3,7 +3,9 @@ use Rattle.std.specs.Prelude.{◌≡◌, ℕ, ◌+◌, ◌≤◌, ℤ, pos, ◌�
 use Rattle.std.specs.Vec.{vec_capacity}
 use Rattle.graph_theory.specs.Limits.{IsWithinLimits}
 use Rattle.graph_theory.specs.Graph.{Multigraph, IsGraph, IsWeight, edge_of, IsEdgeNumber}
+use Rattle.weighted_graph.specs.Index.{IsIndex}
 use Rattle.blossom_arena.specs.Family.{dual_at, IsFamily}
+use Rattle.edge_queue.specs.Moments.{Moments}
 use Rattle.alt_forest.specs.declared.label.Label.{Label}
 use Rattle.alt_forest.specs.declared.label.Label.TheVariants.{Out}
 use Rattle.alt_forest.specs.declared.label.Weights.{Weights}
@@ -42,6 +44,16 @@ pub record IsSearchGraph (g : Multigraph) : Type 0 where
   pub graph : IsGraph g
   pub limits : IsWithinLimits (record { vertices = g.vertices; edges = length g.edges })
 
+-- the index is that of the graph, the queue has a place for each edge and each node, and the lists that changes of duals and
+-- looks run over have room for all nodes and for all vertices
+pub record HasRoom (g : Multigraph) (incidence : List (List ℕ)) (queue : Moments) (standing_room stands_len scanned_room : ℕ) : Type 0 where
+  pub index : IsIndex g incidence
+  pub edges : length queue.edges ≡ length g.edges
+  pub nodes : length queue.blossoms ≡ node_limit g.vertices
+  pub standing : node_limit g.vertices ≤ standing_room
+  pub stands : stands_len ≡ node_limit g.vertices + 1
+  pub scanned : g.vertices ≤ scanned_room
+
 -- the copy is a graph within the limits, the arena is a family on its vertices, each list has a place for each node and
 -- one, unused, before them, and the circuit has room for all vertices
 pub record HasShape (s : Search) : Type 0 where
@@ -52,6 +64,7 @@ pub record HasShape (s : Search) : Type 0 where
   pub parents : vec_len s.parents ≡ node_limit s.graph.vertices + 1
   pub mates : vec_len s.mates ≡ node_limit s.graph.vertices + 1
   pub circuit : s.graph.vertices ≤ vec_capacity s.circuit
+  pub room : HasRoom s.graph s.incidence s.queue (vec_capacity s.standing) (vec_len s.stands) (vec_capacity s.scanned)
 
 -- the search has its shape and is in the state of a search
 pub record IsSound (s : Search) : Type 0 where

@@ -2,6 +2,7 @@
 //! It stands on `mb_base`, `graph_theory`, `weighted_graph` and `blossom_arena`.
 #![tactic(auto)]
 
+mod entries;
 mod hop;
 mod label;
 mod law;
@@ -9,9 +10,11 @@ mod meet;
 mod path;
 mod search;
 mod slack;
+mod standing;
 mod starts;
 mod tables;
 
+pub use edge_queue::{EdgeQueue, Item};
 pub use hop::Hop;
 pub use label::{Label, Weights};
 pub use law::laws;

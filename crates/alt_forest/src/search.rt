@@ -1,26 +1,33 @@
-ghost use Rattle.std.specs.Prelude.{◌≡◌, ◌≢◌, ◌⊎◌, ◌↔◌, ◌+◌, ℕ, ℤ, pos, true, None, [], IfOk};
+ghost use Rattle.std.specs.Prelude.{◌≡◌, ◌≢◌, ◌⊎◌, ◌↔◌, ◌+◌, ◌≤◌, ℕ, ℤ, pos, true, None, [], IfOk};
 ghost use Rattle.blossom_arena.specs.Family.{is_vertex, dual_at, empty_family};
 ghost use Rattle.alt_forest.specs.declared.label.Label.TheVariants.{Outer, Out};
 ghost use Rattle.alt_forest.specs.declared.label.Weights.TheVariants.{Zero};
 ghost use Rattle.alt_forest.specs.Searches.{IsSearchGraph, HasShape, IsSound, IsStart, state_of, label_at, edge_in, put};
 ghost use Rattle.alt_forest.specs.State.{IsOutermost, IsExposed};
 ghost use Rattle.alt_forest.specs.Trees.{IsRoot};
-ghost use Rattle.alt_forest.specs.Counts.{exposed_count, tree_count};
+ghost use Rattle.alt_forest.specs.Counts.{exposed_count, tree_count, is_outside};
+ghost use Rattle.alt_forest.specs.Entries.{IsQueued, entry_count, looks_left};
+ghost use Rattle.alt_forest.specs.Standing.{IsStanding};
 
 use crate::label::{Label, Weights};
-use crate::starts::{copied, give_duals, no_edges, room_for};
+use crate::starts::{NodeLists, RoomLists, copied, give_duals, node_lists, room_lists};
 use crate::tables::{label_of, set_label, wipe_edges, wipe_labels};
 use blossom_arena::{Arena, Link, NodeId};
-use mb_base::{EdgeId, OutOfMemory};
+use edge_queue::EdgeQueue;
+use mb_base::{EdgeId, OutOfMemory, Steps, VertexId};
 use std::alloc::Global;
-use weighted_graph::Graph;
+use std::sync::ledger::Ledger;
+use weighted_graph::{Graph, Incidence};
 
 /// A search over one graph: blossoms with their duals, a matching of the outermost nodes, and trees.
 /// A step of a search is a look at an edge of the graph that it was made for, or a change of the duals;
 /// the ends of its mates and parents are read from its own copy, which counts none.
 /// `labels`, `parents` and `mates` stand by node number, with place 0 unused; a parent or a mate is
 /// given by the edge to it. `circuit` has room for n links. `graph` is a copy of the graph that the
-/// search was made for, which no call changes.
+/// search was made for, and `incidence` its edges by vertex, which no call changes. `queue` has the
+/// moment of each event that can come, by `clock`, the sum of the changes of duals since no tree stood.
+/// `standing` lists the nodes that these changes run over, `stands` says of each node whether it is
+/// listed, and `scanned` has the vertices whose edges are looked at after a step.
 #[derive(Drop)]
 pub struct Search {
     pub arena: Arena,
@@ -31,6 +38,27 @@ pub struct Search {
     pub graph: Graph,
     pub weights: Weights,
     pub start: i64,
+    pub queue: EdgeQueue,
+    pub incidence: Incidence,
+    pub clock: i64,
+    pub standing: Vec<NodeId>,
+    pub stands: Vec<bool>,
+    pub scanned: Vec<VertexId>,
+}
+
+/// Labels an exposed node as the root of a tree.
+fn make_root(search: &mut Search, v: NodeId)
+    requires sound { IsSound search.old }
+    requires exposed { IsExposed (state_of search.old) v }
+    requires out { label_at search.old.labels.items v ≡ Out }
+    ensures labels { label_at search.new.labels.items ≡ put (label_at search.old.labels.items) v Outer }
+    ensures rest { search.new ≡ record search.old { labels = search.new.labels } }
+    ensures roots { (a : ℕ) → IsRoot (state_of search.new) a ↔ (IsRoot (state_of search.old) a ⊎ (a ≡ v)) }
+    ensures trees { tree_count (state_of search.new) ≡ tree_count (state_of search.old) + 1 }
+    ensures exposed { exposed_count (state_of search.new) ≡ exposed_count (state_of search.old) }
+    ensures sound { IsSound search.new }
+{
+    set_label(&mut search.labels, v, Label::Outer);
 }
 
 impl Search {
@@ -47,20 +75,42 @@ impl Search {
         ensures mates { IfOk result (λ s. (a : ℕ) → edge_in s.mates.items a ≡ None) }
         ensures weights { IfOk result (λ s. s.weights ≡ Zero) }
         ensures start { IfOk result (λ s. s.start ≡ pos 0) }
+        ensures clock { IfOk result (λ s. s.clock ≡ pos 0) }
         ensures sound { IfOk result IsSound }
+        ensures queued { IfOk result IsQueued }
+        ensures standing { IfOk result IsStanding }
     {
         let copy = copied(alloc, graph)?;
+        let incidence = copy.index()?;
         let arena = Arena::new(alloc, graph.vertices())?;
-        let places = arena.node_limit() as usize + 1;
+        let limit = arena.node_limit();
+        let queue = EdgeQueue::new(alloc, graph.edges(), limit)?;
+        let NodeLists {
+            labels,
+            parents,
+            mates,
+            stands,
+        } = node_lists(alloc, limit as usize + 1)?;
+        let RoomLists {
+            circuit,
+            standing,
+            scanned,
+        } = room_lists(alloc, graph.vertices() as usize, limit as usize)?;
         Ok(Search {
             arena,
-            labels: vec![in alloc; Label::Out; places]?,
-            parents: no_edges(alloc, places)?,
-            mates: no_edges(alloc, places)?,
-            circuit: room_for(alloc, graph.vertices() as usize)?,
+            labels,
+            parents,
+            mates,
+            circuit,
             graph: copy,
             weights: Weights::Zero,
             start: 0,
+            queue,
+            incidence,
+            clock: 0,
+            standing,
+            stands,
+            scanned,
         })
     }
 
@@ -82,7 +132,11 @@ impl Search {
         ensures circuit { self.new.circuit ≡ self.old.circuit }
         ensures trees { tree_count (state_of self.new) ≡ 0 }
         ensures exposed { exposed_count (state_of self.new) ≡ self.new.graph.vertices }
+        ensures index { self.new.incidence ≡ self.old.incidence }
+        ensures clock { self.new.clock ≡ pos 0 }
         ensures sound { IsSound self.new }
+        ensures queued { IsQueued self.new }
+        ensures standing { IsStanding self.new }
     {
         let _ = graph;
         self.arena.clear();
@@ -92,21 +146,37 @@ impl Search {
         wipe_edges(&mut self.mates);
         self.weights = weights;
         self.start = start;
+        self.queue.clear();
+        self.clock = 0;
+        self.dismiss();
     }
 
-    /// Makes an exposed node the root of a tree of its own.
-    pub fn plant(&mut self, v: NodeId)
+    /// Makes an exposed node the root of a tree of its own (chapter 24), and looks at the edges at its
+    /// vertices, which get their moments. It takes no memory.
+    pub fn plant<L: Ledger>(&mut self, graph: &Graph, v: NodeId, steps: &mut Steps<L>)
         requires sound { IsSound self.old }
+        requires queued { IsQueued self.old }
+        requires standing { IsStanding self.old }
+        requires same { graph.now ≡ self.old.graph }
         requires exposed { IsExposed (state_of self.old) v }
         requires out { label_at self.old.labels.items v ≡ Out }
         ensures labels { label_at self.new.labels.items ≡ put (label_at self.old.labels.items) v Outer }
-        ensures rest { self.new ≡ record self.old { labels = self.new.labels } }
+        ensures rest { self.new ≡ record self.old { labels = self.new.labels; queue = self.new.queue; standing = self.new.standing; stands = self.new.stands; scanned = self.new.scanned } }
         ensures roots { (a : ℕ) → IsRoot (state_of self.new) a ↔ (IsRoot (state_of self.old) a ⊎ (a ≡ v)) }
         ensures trees { tree_count (state_of self.new) ≡ tree_count (state_of self.old) + 1 }
         ensures exposed { exposed_count (state_of self.new) ≡ exposed_count (state_of self.old) }
         ensures sound { IsSound self.new }
+        ensures queued { IsQueued self.new }
+        ensures standing { IsStanding self.new }
+        ensures inside { (w : ℕ) → is_outside (state_of self.new) w ≡ true → is_outside (state_of self.old) w ≡ true }
+        ensures looks { steps.new + looks_left (state_of self.new) ≤ steps.old + looks_left (state_of self.old) }
+        ensures count { entry_count self.new.queue + steps.old ≤ entry_count self.old.queue + steps.new }
     {
-        set_label(&mut self.labels, v, Label::Outer);
+        make_root(self, v);
+        self.stand(v);
+        self.scanned.clear();
+        self.scan(v);
+        self.enter_scanned(graph, steps);
     }
 
     /// How an outermost node stands in the trees.
@@ -122,11 +192,16 @@ impl Search {
     pub fn clear(&mut self)
         requires sound { IsSound self.old }
         ensures labels { (a : ℕ) → label_at self.new.labels.items a ≡ Out }
-        ensures rest { self.new ≡ record self.old { labels = self.new.labels } }
+        ensures rest { self.new ≡ record self.old { labels = self.new.labels; queue = self.new.queue; clock = pos 0; standing = self.new.standing; stands = self.new.stands } }
         ensures trees { tree_count (state_of self.new) ≡ 0 }
         ensures exposed { exposed_count (state_of self.new) ≡ exposed_count (state_of self.old) }
         ensures sound { IsSound self.new }
+        ensures queued { IsQueued self.new }
+        ensures standing { IsStanding self.new }
     {
         wipe_labels(&mut self.labels);
+        self.queue.clear();
+        self.clock = 0;
+        self.dismiss();
     }
 }

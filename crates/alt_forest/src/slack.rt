@@ -1,7 +1,7 @@
 ghost use Rattle.std.specs.Prelude.{◌≡◌, ◌<◌, ◌≤◌, ◌+◌, ◌^◌, ℕ, ℤ, pos, neg_ℤ, ◌+ℤ◌, ◌-ℤ◌, ◌*ℤ◌, ◌≤ℤ◌, true, if◌then◌else◌, drop, take, length};
 ghost use Rattle.std.specs.List.{AllByRecursion};
 ghost use Rattle.std.specs.Option.{ForSome};
-ghost use Rattle.graph_theory.specs.declared.limits.TheConstants.{GRAPH_VERTEX_LIMIT, NUMBER_LIMIT};
+ghost use Rattle.graph_theory.specs.declared.limits.TheConstants.{GRAPH_VERTEX_LIMIT, NUMBER_LIMIT, WEIGHT_LIMIT};
 ghost use Rattle.graph_theory.specs.Graph.{IsEdgeNumber, IsEdgeWithin, IsWeight, edge_of};
 ghost use Rattle.graph_theory.specs.Duals.{slack};
 ghost use Rattle.graph_theory.specs.Duals.{IsNumber};
@@ -15,7 +15,7 @@ use crate::label::Weights;
 use crate::meet::is_found;
 use crate::search::Search;
 use blossom_arena::{Arena, Chain, NodeId};
-use graph_theory::{Edge, GRAPH_VERTEX_LIMIT, NUMBER_LIMIT};
+use graph_theory::{Edge, GRAPH_VERTEX_LIMIT, NUMBER_LIMIT, WEIGHT_LIMIT};
 use mb_base::{EdgeId, Steps};
 use std::sync::ledger::Ledger;
 use weighted_graph::Graph;
@@ -121,7 +121,8 @@ fn duals_across(arena: &Arena, edge: &Edge) -> i64
 /// Twice a weight, or 0 in the pass without weights.
 fn doubled(weights: Weights, w: i64) -> i64
     requires { IsWeight w }
-    ensures { result ≡ if is_given weights then pos 2 *ℤ w else pos 0 }
+    ensures doubled { result ≡ if is_given weights then pos 2 *ℤ w else pos 0 }
+    ensures high { result ≤ℤ (pos 2 *ℤ WEIGHT_LIMIT) }
 {
     match weights {
         Weights::Zero => 0,
@@ -139,6 +140,7 @@ impl Search {
         requires weight { IsWeight edge.now.w }
         ensures slack { result ≡ slack_by (is_given self.now.weights) (dual_at self.now.arena.duals) self.now.arena.blossoms edge.now }
         ensures same { (e : ℕ) → edge_of self.now.graph e ≡ edge.now → result ≡ slack_of (state_of self.now) e }
+        ensures high { result ≤ℤ (NUMBER_LIMIT *ℤ pos (GRAPH_VERTEX_LIMIT + 1)) }
     {
         doubled(self.weights, edge.w) - duals_across(&self.arena, edge)
     }

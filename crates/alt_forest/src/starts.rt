@@ -1,13 +1,16 @@
-ghost use Rattle.std.specs.Prelude.{◌≡◌, ◌≤◌, ℕ, ℤ, pos, true, None, [], IfOk, vec_len};
+ghost use Rattle.std.specs.Prelude.{◌≡◌, ◌≤◌, ℕ, ℤ, pos, true, false, None, [], IfOk, vec_len};
 ghost use Rattle.std.specs.Vec.{vec_capacity};
 ghost use Rattle.graph_theory.specs.declared.limits.TheConstants.{GRAPH_VERTEX_LIMIT};
 ghost use Rattle.graph_theory.specs.Graph.{IsGraph, IsWeight};
 ghost use Rattle.blossom_arena.specs.Family.{IsFamily, empty_family, is_vertex, dual_at};
-ghost use Rattle.alt_forest.specs.Searches.{IsSearchGraph, edge_in};
+ghost use Rattle.alt_forest.specs.declared.label.Label.TheVariants.{Out};
+ghost use Rattle.alt_forest.specs.Searches.{IsSearchGraph, edge_in, label_at};
+ghost use Rattle.alt_forest.specs.Standing.{flag_at};
 
+use crate::label::Label;
 use blossom_arena::{Arena, Link, NodeId};
 use graph_theory::GRAPH_VERTEX_LIMIT;
-use mb_base::{EdgeId, OutOfMemory};
+use mb_base::{EdgeId, OutOfMemory, VertexId};
 use std::alloc::{AllocError, Global};
 use weighted_graph::Graph;
 
@@ -23,15 +26,16 @@ pub(crate) fn copied(alloc: Global, graph: &Graph) -> Result<Graph, OutOfMemory>
     Ok(copy)
 }
 
-/// A list with room for so many links.
-pub(crate) fn room_for(alloc: Global, links: usize) -> Result<Vec<Link>, OutOfMemory>
-    ensures { IfOk result (λ circuit. links ≤ vec_capacity circuit) }
+/// An empty list with room for so many entries.
+pub(crate) fn room_for<T: Drop>(alloc: Global, entries: usize) -> Result<Vec<T>, OutOfMemory>
+    ensures room { IfOk result (λ list. entries ≤ vec_capacity list) }
+    ensures empty { IfOk result (λ list. list.items ≡ []) }
 {
-    let circuit = Vec::with_capacity(alloc, links)?;
-    if circuit.capacity() < links {
+    let list = Vec::with_capacity(alloc, entries)?;
+    if list.capacity() < entries {
         return Err(AllocError);
     }
-    Ok(circuit)
+    Ok(list)
 }
 
 /// A list with no edge at each of so many places.
@@ -40,6 +44,67 @@ pub(crate) fn no_edges(alloc: Global, places: usize) -> Result<Vec<Option<EdgeId
     ensures len { IfOk result (λ edges. vec_len edges ≡ places) }
 {
     Ok(vec![in alloc; None; places]?)
+}
+
+/// What a search keeps by node.
+#[derive(Drop)]
+pub(crate) struct NodeLists {
+    pub(crate) labels: Vec<Label>,
+    pub(crate) parents: Vec<Option<EdgeId>>,
+    pub(crate) mates: Vec<Option<EdgeId>>,
+    pub(crate) stands: Vec<bool>,
+}
+
+/// Lists with so many places each, where no node is in a tree, has a mate or is listed.
+pub(crate) fn node_lists(alloc: Global, places: usize) -> Result<NodeLists, OutOfMemory>
+    ensures labels { IfOk result (λ l. (a : ℕ) → label_at l.labels.items a ≡ Out) }
+    ensures parents { IfOk result (λ l. (a : ℕ) → edge_in l.parents.items a ≡ None) }
+    ensures mates { IfOk result (λ l. (a : ℕ) → edge_in l.mates.items a ≡ None) }
+    ensures stands { IfOk result (λ l. (a : ℕ) → flag_at l.stands.items a ≡ false) }
+    ensures label_places { IfOk result (λ l. vec_len l.labels ≡ places) }
+    ensures parent_places { IfOk result (λ l. vec_len l.parents ≡ places) }
+    ensures mate_places { IfOk result (λ l. vec_len l.mates ≡ places) }
+    ensures stand_places { IfOk result (λ l. vec_len l.stands ≡ places) }
+{
+    let labels = vec![in alloc; Label::Out; places]?;
+    let parents = no_edges(alloc, places)?;
+    let mates = no_edges(alloc, places)?;
+    let stands = vec![in alloc; false; places]?;
+    Ok(NodeLists {
+        labels,
+        parents,
+        mates,
+        stands,
+    })
+}
+
+/// The lists of a search that grow, within the room that they have from the start.
+#[derive(Drop)]
+pub(crate) struct RoomLists {
+    pub(crate) circuit: Vec<Link>,
+    pub(crate) standing: Vec<NodeId>,
+    pub(crate) scanned: Vec<VertexId>,
+}
+
+/// Empty lists with room for so many links and vertices, and for so many nodes.
+pub(crate) fn room_lists(
+    alloc: Global,
+    vertices: usize,
+    nodes: usize,
+) -> Result<RoomLists, OutOfMemory>
+    ensures circuit { IfOk result (λ r. vertices ≤ vec_capacity r.circuit) }
+    ensures standing { IfOk result (λ r. nodes ≤ vec_capacity r.standing) }
+    ensures scanned { IfOk result (λ r. vertices ≤ vec_capacity r.scanned) }
+    ensures none { IfOk result (λ r. r.standing.items ≡ []) }
+{
+    let circuit = room_for(alloc, vertices)?;
+    let standing = room_for(alloc, nodes)?;
+    let scanned = room_for(alloc, vertices)?;
+    Ok(RoomLists {
+        circuit,
+        standing,
+        scanned,
+    })
 }
 
 /// Gives each vertex of an arena with no blossom and all duals 0 the same dual.

@@ -1,6 +1,7 @@
-ghost use Rattle.std.specs.Prelude.{◌≡◌, ◌<◌, ℕ, None, length, vec_len};
+ghost use Rattle.std.specs.Prelude.{◌≡◌, ◌<◌, ℕ, None, false, length, vec_len};
 ghost use Rattle.alt_forest.specs.declared.label.Label.TheVariants.{Out};
 ghost use Rattle.alt_forest.specs.Searches.{label_at, edge_in, put};
+ghost use Rattle.alt_forest.specs.Standing.{flag_at};
 
 use crate::label::Label;
 use blossom_arena::NodeId;
@@ -54,4 +55,12 @@ pub(crate) fn wipe_edges(edges: &mut Vec<Option<EdgeId>>)
     ensures len { vec_len edges.new ≡ vec_len edges.old }
 {
     edges.fill(None);
+}
+
+/// Takes all flags down.
+pub(crate) fn wipe_flags(flags: &mut Vec<bool>)
+    ensures none { (node : ℕ) → flag_at flags.new.items node ≡ false }
+    ensures len { vec_len flags.new ≡ vec_len flags.old }
+{
+    flags.fill(false);
 }

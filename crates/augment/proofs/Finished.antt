@@ -116,7 +116,7 @@ module _ (s : Search) (h : IsSound s) (matched : IsMatched (state_of s)) (m fina
   still_sound t is len now =
       let sh = h.shape in
       subst IsSound (sym is) (record {
-        shape = record { graph = sh.graph; family = sh.family; arena = sh.arena; labels = sh.labels; parents = sh.parents; mates = len ∙ sh.mates; circuit = sh.circuit };
+        shape = record { graph = sh.graph; family = sh.family; arena = sh.arena; labels = sh.labels; parents = sh.parents; mates = len ∙ sh.mates; circuit = sh.circuit; room = sh.room };
         depth = h.depth;
         state = subst (λ (m : ℕ → Option ℕ). IsSearchState (with_mates (state_of s) m) h.depth) (sym now) (still_state (state_of s) h.depth final v.kept h.state);
       })

@@ -97,7 +97,7 @@ sound_after s t u h rest mates_len mates now labels_len out =
     let paired : HasMates (with_mates (state_of s) (edge_in t.mates.items)) = subst (λ (x : Search). HasMates (state_of x)) rest mates in
     let labels : vec_len u.labels ≡ vec_len s.labels = labels_len ∙ ap (λ (x : Search). vec_len x.labels) rest in
     subst IsSound (sym is) (record {
-      shape = record { graph = sh.graph; family = sh.family; arena = sh.arena; labels = labels ∙ sh.labels; parents = sh.parents; mates = mates_len ∙ sh.mates; circuit = sh.circuit };
+      shape = record { graph = sh.graph; family = sh.family; arena = sh.arena; labels = labels ∙ sh.labels; parents = sh.parents; mates = mates_len ∙ sh.mates; circuit = sh.circuit; room = sh.room };
       depth = depth;
       state = all_out (state_of s) depth (edge_in t.mates.items) (label_at u.labels.items) h.state paired out;
     })

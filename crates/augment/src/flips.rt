@@ -1,4 +1,4 @@
-ghost use Rattle.std.specs.Prelude.{◌≡◌, ◌≢◌, ◌↔◌, ◌+◌, ◌≤◌, ℕ, false, Some, vec_len, length};
+ghost use Rattle.std.specs.Prelude.{◌≡◌, ◌≢◌, ◌↔◌, ◌+◌, ℕ, pos, false, Some, vec_len};
 ghost use Rattle.graph_theory.specs.Graph.{edge_of};
 ghost use Rattle.graph_theory.specs.Parts.{holds};
 ghost use Rattle.alt_forest.specs.declared.label.Label.TheVariants.{Out};
@@ -7,6 +7,8 @@ ghost use Rattle.alt_forest.specs.Trees.{path_of, root_of};
 ghost use Rattle.alt_forest.specs.Events.{CanAugment};
 ghost use Rattle.alt_forest.specs.Searches.{IsSound, state_of, label_at, edge_in};
 ghost use Rattle.alt_forest.specs.Counts.{exposed_count, tree_count};
+ghost use Rattle.alt_forest.specs.Entries.{IsQueued};
+ghost use Rattle.alt_forest.specs.Standing.{IsStanding};
 ghost use Rattle.augment.specs.Turns.{LeadsToExposed, HasMates, IsFlipped};
 
 use alt_forest::{Label, Search, set_edge};
@@ -63,14 +65,10 @@ fn wipe(labels: &mut Vec<Label>)
     labels.fill(Label::Out);
 }
 
-/// Flips the path from an exposed node along the tight edge `e` and up a tree to its root, so that
-/// both are matched and no other node is exposed or matched anew, and takes all trees away: every label
-/// becomes `Out` (chapters 24 and 26). The two nodes that `e` joins are mates by it, and a node off the
-/// path keeps its mate. Blossoms and duals stay. It looks at one edge and counts one step for itself,
-/// takes time linear in the path but for one pass over the labels, and takes no memory.
-pub fn flip<L: Ledger>(search: &mut Search, graph: &Graph, e: EdgeId, steps: &mut Steps<L>)
+/// Matches both nodes that the edge joins by it, changes the mates on the way up to the root, and labels all
+/// nodes out.
+fn exchange(search: &mut Search, e: EdgeId)
     requires sound { IsSound search.old }
-    requires same { graph.now ≡ search.old.graph }
     requires can { CanAugment (state_of search.old) e }
     ensures sound { IsSound search.new }
     ensures labels { (a : ℕ) → label_at search.new.labels.items a ≡ Out }
@@ -80,13 +78,37 @@ pub fn flip<L: Ledger>(search: &mut Search, graph: &Graph, e: EdgeId, steps: &mu
     ensures keeps { (c : CanAugment (state_of search.old) e) (a : ℕ) → a ≢ c.far → holds (path_of (state_of search.old) c.near) a ≡ false → edge_in search.new.mates.items a ≡ edge_in search.old.mates.items a }
     ensures exposed { (c : CanAugment (state_of search.old) e) (a : ℕ) → IsExposed (state_of search.new) a ↔ (IsExposed (state_of search.old) a × (a ≢ c.far) × (a ≢ root_of (state_of search.old) c.near)) }
     ensures fewer { exposed_count (state_of search.new) + 2 ≡ exposed_count (state_of search.old) }
-    ensures trees { tree_count (state_of search.new) ≡ 0 }
-    ensures step { steps.new ≡ steps.old + 2 }
-    ensures most { steps.new ≤ steps.old + 1 + length graph.now.edges }
 {
-    steps.tick();
-    let (u, v, _) = graph.look(e, steps);
+    let (u, v, _) = search.graph.edge(e);
     let (near, far) = ends_of(search, u, v, e);
     turn(search, e, near, far);
     wipe(&mut search.labels);
+}
+
+/// Flips the path from an exposed node along the tight edge `e` and up a tree to its root, so that
+/// both are matched and no other node is exposed or matched anew, and takes all trees away: every label
+/// becomes `Out`, and no event waits any more (chapters 24 and 26). The two nodes that `e` joins are mates by
+/// it, and a node off the path keeps its mate. Blossoms and duals stay. It counts one step for itself, takes
+/// time linear in the path but for one pass over the nodes, and takes no memory.
+pub fn flip<L: Ledger>(search: &mut Search, graph: &Graph, e: EdgeId, steps: &mut Steps<L>)
+    requires sound { IsSound search.old }
+    requires same { graph.now ≡ search.old.graph }
+    requires can { CanAugment (state_of search.old) e }
+    ensures sound { IsSound search.new }
+    ensures queued { IsQueued search.new }
+    ensures standing { IsStanding search.new }
+    ensures labels { (a : ℕ) → label_at search.new.labels.items a ≡ Out }
+    ensures rest { search.new ≡ record search.old { labels = search.new.labels; mates = search.new.mates; queue = search.new.queue; clock = pos 0; standing = search.new.standing; stands = search.new.stands } }
+    ensures near { (c : CanAugment (state_of search.old) e) → edge_in search.new.mates.items c.near ≡ Some e }
+    ensures far { (c : CanAugment (state_of search.old) e) → edge_in search.new.mates.items c.far ≡ Some e }
+    ensures keeps { (c : CanAugment (state_of search.old) e) (a : ℕ) → a ≢ c.far → holds (path_of (state_of search.old) c.near) a ≡ false → edge_in search.new.mates.items a ≡ edge_in search.old.mates.items a }
+    ensures exposed { (c : CanAugment (state_of search.old) e) (a : ℕ) → IsExposed (state_of search.new) a ↔ (IsExposed (state_of search.old) a × (a ≢ c.far) × (a ≢ root_of (state_of search.old) c.near)) }
+    ensures fewer { exposed_count (state_of search.new) + 2 ≡ exposed_count (state_of search.old) }
+    ensures trees { tree_count (state_of search.new) ≡ 0 }
+    ensures step { steps.new ≡ steps.old + 1 }
+{
+    let _ = graph;
+    steps.tick();
+    exchange(search, e);
+    search.clear();
 }

@@ -1,8 +1,8 @@
 -- A change of the duals within the bounds keeps the state of a search.
-use Rattle.std.proofs.Common.{◌≡◌, ◌≢◌, ℕ, ℤ, pos, ◌+ℤ◌, ◌-ℤ◌, ◌≤ℤ◌, Bool, true, false, not, ◌&&◌, eqb, cond, List, [], ◌∷◌, Some, refl, sym, ap, ap₂, ◌∙◌, subst, arith, ⊎_elim, inl, inr}
+use Rattle.std.proofs.Common.{◌≡◌, ◌≢◌, ℕ, ℤ, pos, ◌+ℤ◌, ◌-ℤ◌, ◌≤ℤ◌, Bool, true, false, not, ◌&&◌, cond, List, [], ◌∷◌, Some, refl, sym, ap, ap₂, ◌∙◌, subst, arith, ⊎_elim, inl, inr}
 use Rattle.std.specs.List.{AllByRecursion}
 use Rattle.std.proofs.lemmas.Int.{ints}
-use Rattle.std.proofs.lemmas.Bool.{cases_eq, both_ways, eqb-true, or_cases}
+use Rattle.std.proofs.lemmas.Bool.{cases_eq, both_ways}
 use Rattle.graph_theory.specs.Graph.{IsGraph, IsEdgeNumber, edge_of}
 use Rattle.graph_theory.specs.Parts.{holds}
 use Rattle.graph_theory.proofs.Edges.{edge_of_within}
@@ -208,8 +208,3 @@ module _ (s : State) (d : ℤ) (graph : IsGraph s.graph) (nested : IsNested s.gr
         out = λ lab e b has m. (st.labels a is).out lab e b has (mate_before a e b is has m);
       };
     }
-
--- the dual of one blossom
-pub low_at : (y : ℕ → ℤ) (bs : List Blossom) (x : ℕ) → AllByRecursion (λ (b : Blossom). pos 0 ≤ℤ y b.node) bs → holds (names_of bs) x ≡ true → pos 0 ≤ℤ y x
-low_at y [] x all e = absurd (both_ways false refl e)
-low_at y (b ∷ bs) x all e = ⊎_elim (λ here. subst (λ a. pos 0 ≤ℤ y a) (eqb-true b.node x here) all.0) (λ more. low_at y bs x all.1 more) (or_cases (eqb b.node x) (holds (names_of bs) x) e)

@@ -23,10 +23,10 @@ module _ (s : Search) (g : Multigraph) (e u v one other : ℕ) (h : HasShape s) 
   pub is_edge : IsEdgeNumber s.graph e
   is_edge = subst (λ x. IsEdgeNumber x e) ends.graph ends.edge
 
-  at_u : one ≡ node_u s.graph s.arena.blossoms e
+  pub at_u : one ≡ node_u s.graph s.arena.blossoms e
   at_u = ends.one_is ∙ ap (outermost s.arena.blossoms) ends.from ∙ ap (λ x. node_u x s.arena.blossoms e) ends.graph
 
-  at_v : other ≡ node_v s.graph s.arena.blossoms e
+  pub at_v : other ≡ node_v s.graph s.arena.blossoms e
   at_v = ends.other_is ∙ ap (outermost s.arena.blossoms) ends.to ∙ ap (λ x. node_v x s.arena.blossoms e) ends.graph
 
   pub one_outer : IsOutermost (state_of s) one

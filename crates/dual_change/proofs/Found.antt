@@ -1,50 +1,43 @@
--- Steps of the pass over edges and blossoms.
-use Rattle.std.proofs.Common.{◌≡◌, ◌≢◌, ◌⊎◌, ℕ, ◌+◌, ◌≤◌, ℤ, ◌+ℤ◌, true, eqb, List, ◌∷◌, sym, ap, ◌∙◌, subst, arith, ⊎_elim, inl, inr}
+-- What the least moment of a queue says of what comes next.
+use Rattle.std.proofs.Common.{◌≡◌, ◌≢◌, ℕ, ℤ, ◌+ℤ◌, ◌≤ℤ◌, true, Some, None, refl, sym, ◌∙◌, arith}
 use Rattle.std.proofs.lemmas.Int.{ints}
-use Rattle.std.proofs.lemmas.Bool.{eqb-true, eqb-false, or_cases}
+use Rattle.graph_theory.specs.Graph.{IsEdgeNumber}
 use Rattle.graph_theory.specs.Parts.{holds}
-use Rattle.blossom_arena.proofs.Lists.{by_test}
-use Rattle.alt_forest.specs.declared.label.Label.TheVariants.{Outer}
-use Rattle.alt_forest.specs.State.{State, Joins, node_u, node_v, slack_of}
-use Rattle.alt_forest.proofs.Relabelled.{outer_not_out}
+use Rattle.blossom_arena.specs.Family.{names_of}
+use Rattle.edge_queue.specs.declared.item.Item.{Item}
+use Rattle.edge_queue.specs.declared.item.Item.TheVariants.{Edge, Blossom}
+use Rattle.edge_queue.specs.Moments.{Moments, moment_of, IsLeast}
+use Rattle.alt_forest.specs.declared.search.Search.{Search}
+use Rattle.alt_forest.specs.Searches.{state_of}
+use Rattle.alt_forest.specs.Entries.{IsQueued}
 use Rattle.dual_change.specs.declared.event.Next.{Next}
-use Rattle.dual_change.specs.declared.event.Next.TheVariants.{Shrink as NextShrink}
-use Rattle.dual_change.specs.Candidates.{ComesBy, IsCandidate, MindsEdge, MindsBlossom}
+use Rattle.dual_change.specs.declared.event.Next.TheVariants.{Grow as NextGrow, Shrink as NextShrink, Augment as NextAugment, Expand as NextExpand, Stuck}
+use Rattle.dual_change.specs.Candidates.{ComesBy, ComesAt, MindsEdge, MindsBlossom}
 
--- one of two candidates is one
-pub either_candidate : (s : State) (p q r : Next) → (r ≡ p) ⊎ (r ≡ q) → IsCandidate s p → IsCandidate s q → IsCandidate s r
-either_candidate s p q r is cp cq = ⊎_elim (λ e. subst (IsCandidate s) (sym e) cp) (λ e. subst (IsCandidate s) (sym e) cq) is
+-- it comes no later than what has a moment x ahead of the clock
+abbrev pub IsFirst : Moments → ℤ → Next → Type 0
+IsFirst q clock next = (item : Item) (x : ℤ) → moment_of q item ≡ Some (clock +ℤ x) → ComesBy next x
 
--- what comes sooner minds the same
-pub minds_sooner : (s : State) (p r : Next) (e : ℕ) → ((x : ℤ) → ComesBy p x → ComesBy r x) → MindsEdge s p e → MindsEdge s r e
-minds_sooner s p r e sooner m = record {
-  to_out = λ a b j la lb. sooner (slack_of s e) (m.to_out a b j la lb);
-  between = λ a b half j ne la lb twice. sooner half (m.between a b half j ne la lb twice);
+no_later : (clock d m x y : ℤ) → m ≡ clock +ℤ d → m ≤ℤ y → y ≡ clock +ℤ x → d ≤ℤ x
+no_later clock d m x y is least same = omega (arith, ints)
+
+-- what comes at the least moment, and where nothing has a moment nothing comes
+pub first_by_least : (q : Moments) (clock m : ℤ) (at : Item) (next : Next) → IsLeast q (Some (at, m)) → next ≢ Stuck → ComesAt clock m next → IsFirst q clock next
+first_by_least q clock m at (NextGrow e d) least there is = λ item x has. no_later clock d m x (clock +ℤ x) is (least.1 item (clock +ℤ x) has) refl
+first_by_least q clock m at (NextShrink e d) least there is = λ item x has. no_later clock d m x (clock +ℤ x) is (least.1 item (clock +ℤ x) has) refl
+first_by_least q clock m at (NextAugment e d) least there is = λ item x has. no_later clock d m x (clock +ℤ x) is (least.1 item (clock +ℤ x) has) refl
+first_by_least q clock m at (NextExpand b d) least there is = λ item x has. no_later clock d m x (clock +ℤ x) is (least.1 item (clock +ℤ x) has) refl
+first_by_least q clock m at Stuck least there is = absurd (there refl)
+
+pub first_by_none : (q : Moments) (clock : ℤ) → IsLeast q None → IsFirst q clock Stuck
+first_by_none q clock none item x has = let no : None ≡ Some (clock +ℤ x) = sym (none item) ∙ has in absurd (cc)
+
+-- so it comes no later than any edge and any blossom lets it
+pub minds_edge : (s : Search) (next : Next) → IsQueued s → IsFirst s.queue s.clock next → (e : ℕ) → IsEdgeNumber s.graph e → MindsEdge (state_of s) next e
+minds_edge s next h first e is = record {
+  to_out = λ a b j la lb. first (Edge e) _ ((h.edges e is).to_out a b j la lb);
+  between = λ a b half j ne la lb twice. first (Edge e) half ((h.edges e is).between a b half j ne la lb twice);
 }
 
-pub minds_next : (s : State) (k : ℕ) (p q r : Next) → ((e : ℕ) → 1 ≤ e → e ≤ k → MindsEdge s p e) → MindsEdge s q (k + 1) → ((x : ℤ) → ComesBy p x → ComesBy r x) → ((x : ℤ) → ComesBy q x → ComesBy r x)
-    → (e : ℕ) → 1 ≤ e → e ≤ k + 1 → MindsEdge s r e
-minds_next s k p q r before here by_p by_q e low high = by_test (eqb e (k + 1))
-    (λ t. minds_sooner s q r e by_q (subst (MindsEdge s q) (sym (eqb-true e (k + 1) t)) here))
-    (λ t. minds_sooner s p r e by_p (before e low (let ne : e ≢ k + 1 = eqb-false e (k + 1) t in omega (arith, high, ne))))
-
--- an edge between two outer nodes
-pub minds_shrink : (s : State) (e one other : ℕ) (d : ℤ) → Joins s.graph s.blossoms e one other → s.label one ≡ Outer → s.label other ≡ Outer → ((x : ℤ) → slack_of s e ≡ x +ℤ x → d ≡ x) → MindsEdge s (NextShrink e d) e
-minds_shrink s e one other d j lo lt half = record {
-  to_out = λ a b k la lb. ⊎_elim (λ p. outer_not_out (sym (labels.1) ∙ ap s.label p.1 ∙ lb)) (λ p. outer_not_out (sym (labels.0) ∙ ap s.label p.0 ∙ lb)) k;
-  between = λ a b x k ne la lb twice. let same : d ≡ x = half x twice in omega (arith, ints, same);
-}
-  where
-    labels : (s.label (node_u s.graph s.blossoms e) ≡ Outer) × (s.label (node_v s.graph s.blossoms e) ≡ Outer)
-    labels = ⊎_elim (λ p. (ap s.label p.0 ∙ lo, ap s.label p.1 ∙ lt)) (λ p. (ap s.label p.0 ∙ lt, ap s.label p.1 ∙ lo)) j
-
--- a blossom more
-pub blossoms_next : (s : State) (names xs ys : List ℕ) (b : ℕ) (p q r : Next) → xs ≡ b ∷ ys → ((x : ℕ) → holds names x ≡ true → (holds xs x ≡ true) ⊎ MindsBlossom s p x) → MindsBlossom s q b
-    → ((x : ℤ) → ComesBy p x → ComesBy r x) → ((x : ℤ) → ComesBy q x → ComesBy r x) → (x : ℕ) → holds names x ≡ true → (holds ys x ≡ true) ⊎ MindsBlossom s r x
-blossoms_next s names xs ys b p q r e before here by_p by_q x name = ⊎_elim
-    (λ there. ⊎_elim
-    (λ same. inr (λ is lab. by_q (s.dual x) (subst (MindsBlossom s q) (eqb-true b x same) here is lab)))
-    (λ more. inl more)
-    (or_cases (eqb b x) (holds ys x) (sym (ap (λ zs. holds zs x) e) ∙ there)))
-    (λ m. inr (λ is lab. by_p (s.dual x) (m is lab)))
-    (before x name)
+pub minds_blossom : (s : Search) (next : Next) → IsQueued s → IsFirst s.queue s.clock next → (b : ℕ) → holds (names_of s.arena.blossoms) b ≡ true → MindsBlossom (state_of s) next b
+minds_blossom s next h first b name is lab = first (Blossom b) _ (h.blossoms b name is lab)

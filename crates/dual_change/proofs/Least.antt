@@ -4,6 +4,7 @@ use Rattle.std.proofs.lemmas.Int.{ints}
 use Rattle.graph_theory.specs.Graph.{IsGraph, IsEdgeNumber, edge_of}
 use Rattle.graph_theory.specs.Parts.{holds}
 use Rattle.blossom_arena.specs.Family.{IsNested, names_of, outermost}
+use Rattle.alt_forest.proofs.Duals.{low_at}
 use Rattle.alt_forest.specs.declared.label.Label.{Label}
 use Rattle.alt_forest.specs.declared.label.Label.TheVariants.{Outer, Inner, Out}
 use Rattle.alt_forest.specs.State.{State, IsOutermost, Joins, slack_of, IsSearchState}
@@ -18,7 +19,7 @@ use Rattle.dual_change.specs.declared.event.Next.TheVariants.{Grow as NextGrow, 
 use Rattle.alt_forest.specs.Counts.{HasOneTree}
 use Rattle.dual_change.specs.Changes.{share, applied, IsWithin, IsPossible, IsLeast, IsStuck, IsNext, IsNextWithin}
 use Rattle.dual_change.specs.Candidates.{change_of, IsAtMost, Leads, IsCandidate, MindsEdge, MindsBlossom}
-use Rattle.dual_change.proofs.Applied.{change_outer, slack_labels, u_outer, v_outer, low_at}
+use Rattle.dual_change.proofs.Applied.{change_outer, slack_labels, u_outer, v_outer}
 use Rattle.blossom_arena.proofs.Ends.{u_vertex, v_vertex}
 
 -- a change moves no tree
@@ -40,16 +41,16 @@ root_applied s d a = ap (last_of 0) (path_applied s d (node_limit s.graph.vertic
 
 module _ (s : State) (depth : ℕ → ℕ) (graph : IsGraph s.graph) (nested : IsNested s.graph.vertices s.blossoms) where
   -- what edges and inner nodes have left after a change of c
-  left_to_out : (c : ℤ) (e a b : ℕ) → IsEdgeNumber s.graph e → Joins s.graph s.blossoms e a b → s.label a ≡ Outer → s.label b ≡ Out → slack_of (applied s c) e ≡ slack_of s e -ℤ c
+  pub left_to_out : (c : ℤ) (e a b : ℕ) → IsEdgeNumber s.graph e → Joins s.graph s.blossoms e a b → s.label a ≡ Outer → s.label b ≡ Out → slack_of (applied s c) e ≡ slack_of s e -ℤ c
   left_to_out c e a b is j la lb = slack_labels s c graph nested e a b Outer Out is j (λ q. outer_not_out (sym la ∙ ap s.label q ∙ lb)) la lb ∙ plain (slack_of s e) c
     where
       plain : (x y : ℤ) → x -ℤ (y +ℤ pos 0) ≡ x -ℤ y
       plain x y = omega (arith, ints)
 
-  left_between : (c : ℤ) (e a b : ℕ) → IsEdgeNumber s.graph e → Joins s.graph s.blossoms e a b → a ≢ b → s.label a ≡ Outer → s.label b ≡ Outer → slack_of (applied s c) e ≡ slack_of s e -ℤ (c +ℤ c)
+  pub left_between : (c : ℤ) (e a b : ℕ) → IsEdgeNumber s.graph e → Joins s.graph s.blossoms e a b → a ≢ b → s.label a ≡ Outer → s.label b ≡ Outer → slack_of (applied s c) e ≡ slack_of s e -ℤ (c +ℤ c)
   left_between c e a b is j ne la lb = slack_labels s c graph nested e a b Outer Outer is j ne la lb
 
-  left_inner : (c : ℤ) (a : ℕ) → IsOutermost s a → s.label a ≡ Inner → (applied s c).dual a ≡ s.dual a -ℤ c
+  pub left_inner : (c : ℤ) (a : ℕ) → IsOutermost s a → s.label a ≡ Inner → (applied s c).dual a ≡ s.dual a -ℤ c
   left_inner c a is lab = ap (λ x. s.dual a +ℤ x) (change_outer s c a is ∙ ap (share c) lab) ∙ plain (s.dual a) c
     where
       plain : (x y : ℤ) → x +ℤ (pos 0 -ℤ y) ≡ x -ℤ y

@@ -2,9 +2,13 @@ pub mod Across
 pub mod Inside
 pub mod Applied
 pub mod Raised
+pub mod Listed
 pub mod UnderWay
 pub mod Least
 pub mod Found
+pub mod Dropped
+pub mod Clock
+pub mod Due
 pub mod Ends
 pub mod Reps
 pub mod Heads

@@ -1,6 +1,12 @@
 -- What `find` keeps while it looks. Only clauses of private calls cite this module.
-use Rattle.std.specs.Prelude.{◌≡◌, ◌≢◌, ℕ, ℤ, pos, ◌+ℤ◌, ◌≤ℤ◌, Option, Some, None}
+use Rattle.std.specs.Prelude.{◌≡◌, ◌≢◌, ℕ, ◌+◌, ℤ, pos, ◌+ℤ◌, ◌≤ℤ◌, true, Option, Some, None}
 use Rattle.alt_forest.specs.declared.label.Label.TheVariants.{Outer, Inner, Out}
+use Rattle.graph_theory.specs.Parts.{holds}
+use Rattle.blossom_arena.specs.Family.{names_of}
+use Rattle.edge_queue.specs.declared.item.Item.{Item}
+use Rattle.edge_queue.specs.declared.item.Item.TheVariants.{Edge as OfEdge, Blossom as OfBlossom}
+use Rattle.edge_queue.specs.Moments.{Moments}
+use Rattle.alt_forest.specs.Entries.{NeedsMoment, entered_among}
 use Rattle.alt_forest.specs.State.{State, IsOutermost, Joins, slack_of}
 use Rattle.dual_change.specs.declared.event.Event.{Event}
 use Rattle.dual_change.specs.declared.event.Event.TheVariants.{Grow, Shrink, Augment, Expand}
@@ -23,6 +29,28 @@ IsAtMost (Some d) x = d ≤ℤ x
 -- something is known that comes with a change of x or sooner
 abbrev pub ComesBy : Next → ℤ → Type 0
 ComesBy next x = IsAtMost (change_of next) x
+
+-- what comes does so when the clock has reached this moment
+abbrev pub ComesAt : ℤ → ℤ → Next → Type 0
+ComesAt clock moment (NextGrow e d) = moment ≡ clock +ℤ d
+ComesAt clock moment (NextShrink e d) = moment ≡ clock +ℤ d
+ComesAt clock moment (NextAugment e d) = moment ≡ clock +ℤ d
+ComesAt clock moment (NextExpand b d) = moment ≡ clock +ℤ d
+ComesAt clock moment Stuck = Unit {0}
+
+-- an edge that needs no moment, or a node that isn't an inner blossom
+abbrev pub IsStale : State → ℤ → Item → Type 0
+IsStale s clock (OfEdge e) = NeedsMoment s clock e None
+IsStale s clock (OfBlossom b) = holds (names_of s.blossoms) b ≡ true → IsOutermost s b → s.label b ≢ Inner
+
+-- how many looks an item takes
+abbrev pub item_looks : Item → ℕ
+item_looks (OfEdge e) = 1
+item_looks (OfBlossom b) = 0
+
+-- how many items have a moment
+abbrev pub entries_left : Moments → ℕ
+entries_left q = entered_among q.edges + entered_among q.blossoms
 
 -- a change of d, not below 0, makes an event possible
 pub record Leads (s : State) (d : ℤ) (event : Event) : Type 0 where

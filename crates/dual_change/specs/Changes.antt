@@ -73,3 +73,11 @@ IsNextWithin s (NextShrink e d) = IsWithin s d
 IsNextWithin s (NextAugment e d) = IsWithin s d
 IsNextWithin s (NextExpand b d) = IsWithin s d
 IsNextWithin s Stuck = Unit {0}
+
+-- how many looks it takes to find what comes next where no entry is stale: one at the edge of an event by an edge
+abbrev pub edge_looks : Next → ℕ
+edge_looks (NextGrow e d) = 1
+edge_looks (NextShrink e d) = 1
+edge_looks (NextAugment e d) = 1
+edge_looks (NextExpand b d) = 0
+edge_looks Stuck = 0

@@ -1,125 +1,112 @@
-ghost use Rattle.std.specs.Prelude.{◌≡◌, ◌≢◌, ◌⊎◌, ◌↔◌, ◌<◌, ◌≤◌, ◌+◌, ℕ, ℤ, pos, ◌+ℤ◌, ◌≤ℤ◌, true, None, Some, length};
-ghost use Rattle.graph_theory.specs.Graph.{IsEdgeNumber, edge_of};
+ghost use Rattle.std.specs.Prelude.{◌≡◌, ◌≢◌, ◌↔◌, ◌<◌, ◌≤◌, ◌+◌, ℕ, ℤ, pos, ◌+ℤ◌, ◌≤ℤ◌, true, false, None, Some};
+ghost use Rattle.graph_theory.specs.Graph.{IsEdgeNumber};
 ghost use Rattle.graph_theory.specs.Parts.{holds};
 ghost use Rattle.blossom_arena.specs.Family.{names_of};
-ghost use Rattle.alt_forest.specs.declared.label.Label.TheVariants.{Outer, Out};
-ghost use Rattle.alt_forest.specs.Searches.{HasShape, IsSound, state_of, label_at, edge_in};
+ghost use Rattle.edge_queue.specs.declared.item.Item.TheVariants.{Blossom as OfBlossom};
+ghost use Rattle.edge_queue.specs.Moments.{moment_of, IsLeast};
+ghost use Rattle.alt_forest.specs.declared.label.Label.TheVariants.{Outer, Inner, Out};
+ghost use Rattle.alt_forest.specs.Searches.{IsSound, state_of, label_at};
 ghost use Rattle.alt_forest.specs.State.{IsOutermost, Joins, slack_of};
 ghost use Rattle.alt_forest.specs.Counts.{HasOneTree};
-ghost use Rattle.dual_change.specs.Changes.{IsNext, IsNextWithin};
-ghost use Rattle.dual_change.specs.Candidates.{change_of, ComesBy, IsCandidate, MindsEdge, MindsBlossom};
+ghost use Rattle.alt_forest.specs.Entries.{NeedsMoment, IsQueued, entry_count};
+ghost use Rattle.dual_change.specs.declared.event.Next.TheVariants.{Stuck};
+ghost use Rattle.dual_change.specs.Changes.{IsNext, IsNextWithin, edge_looks};
+ghost use Rattle.dual_change.specs.Candidates.{IsCandidate, ComesAt, IsStale, item_looks, entries_left};
 
 use crate::event::Next;
-use alt_forest::{Label, Search};
+use alt_forest::{Item, Label, Search};
 use blossom_arena::NodeId;
-use graph_theory::Edge;
 use mb_base::{EdgeId, Steps};
 use std::sync::ledger::Ledger;
 use weighted_graph::Graph;
 
-/// Half of an even number that is not below 0.
-fn half(twice: i64) -> i64
-    requires low { pos 0 ≤ℤ twice }
-    ensures half { (x : ℤ) → twice ≡ x +ℤ x → result ≡ x }
+/// How far a moment lies ahead of the clock.
+fn ahead(clock: i64, moment: i64) -> i64
+    requires low { pos 0 ≤ℤ clock }
+    requires later { clock ≤ℤ moment }
+    ensures { (d : ℤ) → moment ≡ clock +ℤ d → result ≡ d }
 {
-    twice / 2
+    moment - clock
 }
 
-/// The change that leads to what comes, if something does.
-pub(crate) fn change_of(next: &Next) -> Option<i64>
-    ensures { result ≡ change_of next.now }
+/// Whether something comes.
+fn comes(next: &Next) -> bool
+    ensures { (result ≡ false) ↔ (next.now ≡ Stuck) }
 {
     match next {
-        Next::Grow(_, d) => Some(*d),
-        Next::Shrink(_, d) => Some(*d),
-        Next::Augment(_, d) => Some(*d),
-        Next::Expand(_, d) => Some(*d),
-        Next::Stuck => None,
+        Next::Stuck => false,
+        _ => true,
     }
 }
 
-/// The one of two that comes sooner.
-fn sooner(one: Next, other: Next) -> Next
-    ensures either { (result ≡ one) ⊎ (result ≡ other) }
-    ensures one { (x : ℤ) → ComesBy one x → ComesBy result x }
-    ensures other { (x : ℤ) → ComesBy other x → ComesBy result x }
-{
-    match change_of(&one) {
-        Some(d) => match change_of(&other) {
-            Some(c) => { if c < d { other } else { one } }
-            None => one,
-        },
-        None => other,
-    }
-}
-
-/// What an edge lets come that leads from an outer node to one labelled out: the tree grows where that
-/// has a mate, and else the matching is augmented.
-fn to_out(search: &Search, e: EdgeId, edge: &Edge, far: NodeId) -> Next
+/// What an edge lets come that leads from an outer node to one labelled out, after a change of its slack:
+/// the tree grows where that has a mate, and else the matching is augmented.
+fn to_out(search: &Search, e: EdgeId, far: NodeId, d: i64) -> Next
     requires sound { IsSound search.now }
     requires number { IsEdgeNumber search.now.graph e }
-    requires edge { edge_of search.now.graph e ≡ edge.now }
     requires outer { IsOutermost (state_of search.now) far }
     requires out { label_at search.now.labels.items far ≡ Out }
     requires near { (a : ℕ) × Joins search.now.graph search.now.arena.blossoms e a far × (label_at search.now.labels.items a ≡ Outer) }
-    ensures change { change_of result ≡ Some (slack_of (state_of search.now) e) }
+    requires slack { d ≡ slack_of (state_of search.now) e }
     ensures candidate { IsCandidate (state_of search.now) result }
+    ensures comes { (clock : ℤ) (moment : ℤ) → moment ≡ clock +ℤ d → ComesAt clock moment result }
+    ensures there { result ≢ Stuck }
+    ensures looks { edge_looks result ≡ 1 }
 {
-    let d = search.slack_by(edge);
     match search.mate(far) {
         Some(_) => Next::Grow(e, d),
         None => Next::Augment(e, d),
     }
 }
 
-/// What an edge lets come, and when, by one look at it.
-fn by_edge<L: Ledger>(search: &Search, graph: &Graph, e: EdgeId, steps: &mut Steps<L>) -> Next
+/// What an edge lets come at its moment, by one look at it. Where its ends are such that it needs no
+/// moment, the entry is stale and nothing comes.
+fn by_edge<L: Ledger>(
+    search: &Search,
+    graph: &Graph,
+    e: EdgeId,
+    moment: i64,
+    steps: &mut Steps<L>,
+) -> Next
     requires sound { IsSound search.now }
-    requires graph { graph.now ≡ search.now.graph }
+    requires same { graph.now ≡ search.now.graph }
     requires one_tree { HasOneTree (state_of search.now) }
     requires edge { IsEdgeNumber graph.now e }
+    requires low { pos 0 ≤ℤ search.now.clock }
+    requires entered { NeedsMoment (state_of search.now) search.now.clock e (Some moment) }
     ensures candidate { IsCandidate (state_of search.now) result }
-    ensures minds { MindsEdge (state_of search.now) result e }
+    ensures comes { ComesAt search.now.clock moment result }
+    ensures stale { result ≡ Stuck → NeedsMoment (state_of search.now) search.now.clock e None }
+    ensures looks { result ≢ Stuck → edge_looks result ≡ 1 }
     ensures step { steps.new ≡ steps.old + 1 }
 {
-    let (u, v, w) = graph.look(e, steps);
-    let edge = Edge { u, v, w };
+    let (u, v, _) = graph.look(e, steps);
     let one = search.arena.outermost(u);
     let other = search.arena.outermost(v);
     if one.number() == other.number() {
         return Next::Stuck;
     }
     match (search.label(one), search.label(other)) {
-        (Label::Outer, Label::Outer) => Next::Shrink(e, half(search.slack_by(&edge))),
-        (Label::Outer, Label::Out) => to_out(search, e, &edge, other),
-        (Label::Out, Label::Outer) => to_out(search, e, &edge, one),
+        (Label::Outer, Label::Outer) => Next::Shrink(e, ahead(search.clock, moment)),
+        (Label::Outer, Label::Out) => to_out(search, e, other, ahead(search.clock, moment)),
+        (Label::Out, Label::Outer) => to_out(search, e, one, ahead(search.clock, moment)),
         _ => Next::Stuck,
     }
 }
 
-/// What comes first by the edges.
-fn first_by_edges<L: Ledger>(search: &Search, graph: &Graph, steps: &mut Steps<L>) -> Next
-    requires sound { IsSound search.now }
-    requires graph { graph.now ≡ search.now.graph }
-    requires one_tree { HasOneTree (state_of search.now) }
-    ensures candidate { IsCandidate (state_of search.now) result }
-    ensures minds { (e : ℕ) → IsEdgeNumber graph.now e → MindsEdge (state_of search.now) result e }
-    ensures steps { steps.new ≡ steps.old + length graph.now.edges }
-{
-    let mut first = Next::Stuck;
-    for place in 0..graph.edges() {
-        first = sooner(first, by_edge(search, graph, EdgeId::new(place + 1), steps));
-    }
-    first
-}
-
-/// What a blossom lets come: an inner one can be expanded once its dual is 0.
+/// What a blossom lets come: an inner one is expanded once its dual is 0. The entry of any other node is
+/// stale.
 fn by_blossom(search: &Search, b: NodeId) -> Next
     requires sound { IsSound search.now }
-    requires blossom { holds (names_of search.now.arena.blossoms) b ≡ true }
+    requires queued { IsQueued search.now }
     ensures candidate { IsCandidate (state_of search.now) result }
-    ensures minds { MindsBlossom (state_of search.now) result b }
+    ensures comes { (moment : ℤ) → moment_of search.now.queue (OfBlossom b) ≡ Some moment → ComesAt search.now.clock moment result }
+    ensures stale { result ≡ Stuck → holds (names_of search.now.arena.blossoms) b ≡ true → IsOutermost (state_of search.now) b → label_at search.now.labels.items b ≢ Inner }
+    ensures looks { edge_looks result ≡ 0 }
 {
+    if !search.arena.is_blossom(b) {
+        return Next::Stuck;
+    }
     if !search.arena.is_outermost(b) {
         return Next::Stuck;
     }
@@ -129,36 +116,79 @@ fn by_blossom(search: &Search, b: NodeId) -> Next
     }
 }
 
-/// What comes first by these and by the blossoms.
-fn first_by_blossoms(search: &Search, by_edges: Next) -> Next
+/// What an item of the queue lets come at its moment, if its entry isn't stale.
+fn by_item<L: Ledger>(
+    search: &Search,
+    graph: &Graph,
+    item: &Item,
+    moment: i64,
+    steps: &mut Steps<L>,
+) -> Next
     requires sound { IsSound search.now }
-    requires candidate { IsCandidate (state_of search.now) by_edges }
+    requires queued { IsQueued search.now }
+    requires same { graph.now ≡ search.now.graph }
+    requires one_tree { HasOneTree (state_of search.now) }
+    requires has { moment_of search.now.queue item.now ≡ Some moment }
     ensures candidate { IsCandidate (state_of search.now) result }
-    ensures sooner { (x : ℤ) → ComesBy by_edges x → ComesBy result x }
-    ensures minds { (b : ℕ) → holds (names_of search.now.arena.blossoms) b ≡ true → MindsBlossom (state_of search.now) result b }
+    ensures comes { ComesAt search.now.clock moment result }
+    ensures stale { result ≡ Stuck → IsStale (state_of search.now) search.now.clock item.now }
+    ensures looks { result ≢ Stuck → edge_looks result ≡ item_looks item.now }
+    ensures step { steps.new ≡ steps.old + item_looks item.now }
 {
-    let mut first = by_edges;
-    for b in search.arena.blossoms() {
-        first = sooner(first, by_blossom(search, b));
+    match item {
+        Item::Edge(e) => by_edge(search, graph, *e, moment, steps),
+        Item::Blossom(b) => by_blossom(search, *b),
     }
-    first
+}
+
+/// An item whose moment is least, and its moment.
+fn earliest(search: &Search) -> Option<(Item, i64)>
+    ensures { IsLeast search.now.queue result }
+{
+    search.queue.least()
+}
+
+/// Drops a stale entry.
+fn drop_entry(search: &mut Search, item: Item)
+    requires sound { IsSound search.old }
+    requires queued { IsQueued search.old }
+    requires has { (moment : ℤ) × (moment_of search.old.queue item ≡ Some moment) }
+    requires stale { IsStale (state_of search.old) search.old.clock item }
+    ensures rest { search.new ≡ record search.old { queue = search.new.queue } }
+    ensures sound { IsSound search.new }
+    ensures queued { IsQueued search.new }
+    ensures left { entries_left search.new.queue < entries_left search.old.queue }
+    ensures count { entry_count search.new.queue + item_looks item ≤ entry_count search.old.queue }
+{
+    search.queue.remove(item);
 }
 
 /// What comes next, with the least change of duals that makes it possible (chapter 26): an edge from
 /// an outer node to one labelled out may become tight, so that the tree grows or, where the other end
 /// is exposed, the matching is augmented; an edge between two outer nodes may, so that a blossom is
 /// shrunk; or the dual of an inner blossom comes to 0, so that it is expanded. It answers `Stuck` where
-/// no change makes any of these possible. The graph is the one that the search was made for. It looks
-/// at each edge once, which is all that it counts, takes time linear in the edges and in the nodes around
-/// their ends, and no memory.
-pub fn find<L: Ledger>(search: &Search, graph: &Graph, steps: &mut Steps<L>) -> Next
-    requires sound { IsSound search.now }
-    requires same { graph.now ≡ search.now.graph }
-    requires one_tree { HasOneTree (state_of search.now) }
-    ensures found { IsNext (state_of search.now) result }
-    ensures within { IsNextWithin (state_of search.now) result }
-    ensures steps { steps.new ≡ steps.old + length graph.now.edges }
+/// no change makes any of these possible. The graph is the one that the search was made for. It takes the
+/// least moments from the queue, drops entries that no edge or blossom needs any more, and looks once at
+/// each edge whose entry it takes, which is all that it counts. The entry of what comes stays. It takes no
+/// memory.
+pub fn find<L: Ledger>(search: &mut Search, graph: &Graph, steps: &mut Steps<L>) -> Next
+    requires sound { IsSound search.old }
+    requires queued { IsQueued search.old }
+    requires same { graph.now ≡ search.old.graph }
+    requires one_tree { HasOneTree (state_of search.old) }
+    ensures found { IsNext (state_of search.new) result }
+    ensures within { IsNextWithin (state_of search.new) result }
+    ensures rest { search.new ≡ record search.old { queue = search.new.queue } }
+    ensures sound { IsSound search.new }
+    ensures queued { IsQueued search.new }
+    ensures count { entry_count search.new.queue + steps.new ≤ entry_count search.old.queue + steps.old + edge_looks result }
 {
-    let by_edges = first_by_edges(search, graph, steps);
-    first_by_blossoms(search, by_edges)
+    while let Some((item, moment)) = earliest(search) {
+        let next = by_item(search, graph, &item, moment, steps);
+        if comes(&next) {
+            return next;
+        }
+        drop_entry(search, item);
+    }
+    Next::Stuck
 }

@@ -140,7 +140,7 @@ outside_yes s v ne = outer_or (s.label (outermost s.blossoms v)) ne
 abbrev pub KeepsOuter : ℕ → State → State → Type 0
 KeepsOuter n s t = (v : ℕ) → is_vertex n v ≡ true → s.label (outermost s.blossoms v) ≡ Outer → t.label (outermost t.blossoms v) ≡ Outer
 
-outside_before : (n : ℕ) (s t : State) (v : ℕ) → KeepsOuter n s t → is_vertex n v ≡ true → is_outside t v ≡ true → is_outside s v ≡ true
+pub outside_before : (n : ℕ) (s t : State) (v : ℕ) → KeepsOuter n s t → is_vertex n v ≡ true → is_outside t v ≡ true → is_outside s v ≡ true
 outside_before n s t v keeps is e = outside_yes s v (λ o. both_ways (is_outside t v) (outside_no t v (keeps v is o)) e)
 
 pub vertices_le : (n : ℕ) (s t : State) → KeepsOuter n s t → counted (is_outside t) n ≤ counted (is_outside s) n

@@ -1,24 +1,28 @@
 -- An expand leaves roots and exposed nodes as they are, since the nodes of the circuit are mated and so was the blossom,
 -- and a blossom outside the outer nodes is gone.
-use Rattle.std.proofs.Common.{◌≡◌, ◌≢◌, ℕ, ◌≤◌, ◌<◌, Bool, true, false, not, ◌&&◌, List, sym, ap, ◌∙◌, arith, ⊎_elim}
+use Rattle.std.proofs.Common.{◌≡◌, ◌≢◌, ℕ, ◌+◌, ◌≤◌, ◌<◌, Bool, true, false, not, ◌&&◌, List, [], refl, sym, ap, ◌∙◌, arith, ⊎_elim}
 use Rattle.std.specs.List.{list_any}
 use Rattle.std.specs.Option.{is_some}
 use Rattle.std.specs.Cmp.{both_ways as same_tests}
 use Rattle.std.proofs.lemmas.Bool.{cases_eq, ne_eqb, and_left, and_right, both_ways, false_from_ne_true}
+use Rattle.graph_theory.specs.Graph.{IsGraph}
 use Rattle.blossom_arena.specs.Family.{Blossom, IsNested, is_node, is_child, is_outermost, members_of, in_ring, ring_of, outermost, without}
 use Rattle.blossom_arena.proofs.Lists.{by_test}
-use Rattle.blossom_arena.proofs.Nested.{name_range}
-use Rattle.blossom_arena.proofs.Sets.{outermost_free}
+use Rattle.blossom_arena.proofs.Nested.{name_range, outermost_parts}
+use Rattle.blossom_arena.proofs.Sets.{outermost_free, member_vertex, members_new}
 use Rattle.blossom_arena.proofs.Taken.{outermost_stays}
 use Rattle.alt_forest.specs.declared.label.Label.TheVariants.{Outer}
 use Rattle.alt_forest.specs.State.{State, IsSearchState}
 use Rattle.alt_forest.specs.Trees.{is_label, node_limit}
 use Rattle.alt_forest.specs.Counts.{is_outside, outside_among, exposed_count, tree_count, measure}
+use Rattle.alt_forest.specs.Entries.{ends_around, looks_left}
 use Rattle.alt_forest.specs.Events.{CanExpand}
+use Rattle.alt_forest.proofs.Looks.{ends_most, outside_ends_fall}
 use Rattle.alt_forest.proofs.Relabelled.{outer_not_inner}
 use Rattle.tree_steps.specs.Expanded.{IsExpanded}
 use Rattle.tree_steps.proofs.Opened.{outermost_elsewhere, outer_opened, gone}
-use Rattle.tree_steps.proofs.Counted.{counted_same, has_vertex, any_here, outside_yes, KeepsOuter, vertices_le, among_without}
+use Rattle.tree_steps.proofs.Counted.{counted_same, has_vertex, any_here, outside_yes, outside_before, KeepsOuter, vertices_le, among_without}
+use Rattle.tree_steps.proofs.LooksLeft.{looks_fall_by_blossom}
 use Rattle.blossom_arena.proofs.Parents.{ring_child}
 use Rattle.alt_forest.proofs.Counted.{counted}
 
@@ -72,8 +76,8 @@ module _ (s t : State) (depth : ℕ → ℕ) (node : ℕ) (h : IsNested s.graph.
       (λ a r. ap (λ l. is_label l Outer && not (is_some (t.mate a))) (x.labels a r) ∙ ap (λ o. is_label (s.label a) Outer && not (is_some o)) (x.mates a r))
 
   -- a vertex in an outer node is in another node than the blossom
-  keeps : KeepsOuter n s t
-  keeps v is lab =
+  pub expand_inside : KeepsOuter n s t
+  expand_inside v is lab =
       let o : ℕ = outermost bs v in
       let off : in_ring (ring_of bs node) o ≡ false = false_from_ne_true (in_ring (ring_of bs node) o) (λ r. both_ways (is_child bs o) (outermost_free n bs v h is) (ring_child bs node o r)) in
       let ne : o ≢ node = λ e. outer_not_inner (sym lab ∙ ap s.label e ∙ can.inner) in
@@ -87,7 +91,20 @@ module _ (s t : State) (depth : ℕ → ℕ) (node : ℕ) (h : IsNested s.graph.
 
   pub expand_falls : measure t < measure s
   expand_falls =
-      let vertices : counted (is_outside t) n ≤ counted (is_outside s) n = vertices_le n s t keeps in
+      let vertices : counted (is_outside t) n ≤ counted (is_outside s) n = vertices_le n s t expand_inside in
       let same : counted (is_outside t) t.graph.vertices ≡ counted (is_outside t) n = ap (λ g. counted (is_outside t) g.vertices) x.graph in
       let left : outside_among t t.blossoms ≡ outside_among t (without bs node) = ap (outside_among t) x.blossoms in
-      omega (arith, vertices, same, left, among_without n s t bs node h keeps can.blossom some_outside)
+      omega (arith, vertices, same, left, among_without n s t bs node h expand_inside can.blossom some_outside)
+
+  pub expand_blossoms : outside_among t t.blossoms < outside_among s s.blossoms
+  expand_blossoms =
+      let left : outside_among t t.blossoms ≡ outside_among t (without bs node) = ap (outside_among t) x.blossoms in
+      omega (arith, left, among_without n s t bs node h expand_inside can.blossom some_outside)
+
+  -- the blossom's vertices have no more ends of edges than there are
+  pub expand_looks : IsGraph s.graph → ends_around s.graph (members_of bs node) + looks_left t ≤ looks_left s
+  expand_looks graph =
+      let is : is_node n bs node ≡ true = (outermost_parts n bs node can.outermost).0 in
+      let ends = outside_ends_fall s t [] x.graph tt (λ v m. absurd (both_ways false refl m)) (λ v m. absurd (both_ways false refl m)) (λ v m. absurd (both_ways false refl m)) (λ a v e. outside_before n s t a expand_inside v e) in
+      let most = ends_most s.graph (members_of bs node) graph.ends (members_new n bs node h is) (λ v m. member_vertex n bs node v h is m) in
+      looks_fall_by_blossom s t (ends_around s.graph (members_of bs node)) x.graph most (omega (arith, ends)) expand_blossoms

@@ -1,17 +1,23 @@
 -- A grow leaves roots and exposed nodes as they are, and takes a node and its mate into a tree.
-use Rattle.std.proofs.Common.{◌≡◌, ℕ, ◌<◌, false, not, ◌&&◌, Some, refl, sym, ap, ◌∙◌, arith, ⊎_elim}
+use Rattle.std.proofs.Common.{◌≡◌, ℕ, ◌+◌, ◌<◌, ◌≤◌, true, false, not, ◌&&◌, Some, refl, sym, ap, ◌∙◌, arith, ⊎_elim}
 use Rattle.std.specs.Option.{is_some}
 use Rattle.std.proofs.lemmas.Bool.{cases_eq, and_right}
-use Rattle.blossom_arena.specs.Family.{IsNested, is_outermost, outermost}
+use Rattle.graph_theory.specs.Parts.{holds}
+use Rattle.blossom_arena.specs.Family.{IsNested, is_node, is_outermost, members_of, outermost}
+use Rattle.blossom_arena.proofs.Nested.{outermost_parts}
+use Rattle.blossom_arena.proofs.Sets.{member_vertex, members_new, outermost_by_member}
 use Rattle.alt_forest.specs.declared.label.Label.TheVariants.{Outer, Inner, Out}
 use Rattle.alt_forest.specs.State.{State, IsMate, IsSearchState}
 use Rattle.alt_forest.specs.Trees.{is_label, node_limit}
-use Rattle.alt_forest.specs.Counts.{is_root, tree_count, exposed_count, measure}
+use Rattle.alt_forest.specs.Counts.{is_root, is_outside, outside_among, tree_count, exposed_count, measure}
+use Rattle.alt_forest.specs.Entries.{ends_around, looks_left}
+use Rattle.alt_forest.proofs.Looks.{outside_ends_fall}
 use Rattle.alt_forest.specs.Events.{CanGrow}
 use Rattle.alt_forest.specs.Searches.{put}
 use Rattle.alt_forest.proofs.Relabelled.{put_here, put_other, outer_not_out}
 use Rattle.tree_steps.specs.Grown.{grown}
-use Rattle.tree_steps.proofs.Counted.{counted_same, has_vertex, KeepsOuter, vertices_less, among_le}
+use Rattle.tree_steps.proofs.Counted.{counted_same, has_vertex, outside_no, outside_yes, outside_before, KeepsOuter, vertices_less, among_le}
+use Rattle.tree_steps.proofs.LooksLeft.{looks_fall}
 
 -- what is mated is no root
 pub mated_no_root : (s : State) (a f : ℕ) → s.mate a ≡ Some f → is_root s a ≡ false
@@ -31,22 +37,55 @@ grow_trees s e far mate f h far_has mate_has = counted_same (is_root (grown s e 
 pub grow_exposed : (s : State) (e far mate : ℕ) → exposed_count (grown s e far mate) ≡ exposed_count s
 grow_exposed s e far mate = refl
 
-pub grow_falls : (s : State) (depth : ℕ → ℕ) (e mate : ℕ) → IsNested s.graph.vertices s.blossoms → IsSearchState s depth → (g : CanGrow s e) → IsMate s g.far g.mate_edge mate → measure (grown s e g.far mate) < measure s
-grow_falls s depth e mate h st g pair =
-    let n : ℕ = s.graph.vertices in
+-- no vertex leaves the outer nodes
+pub grow_inside : (s : State) (e mate : ℕ) (g : CanGrow s e) → KeepsOuter s.graph.vertices s (grown s e g.far mate)
+grow_inside s e mate g v is lab =
     let t : State = grown s e g.far mate in
-    let mate_out : s.label mate ≡ Out = (st.labels g.far g.far_is).out g.far_out g.mate_edge mate g.has_mate pair in
-    let now : t.label mate ≡ Outer = put_here (put s.label g.far Inner) mate Outer in
-    let keeps : KeepsOuter n s t = λ v is lab. ⊎_elim
-    (λ at_mate. ap t.label at_mate ∙ now)
+    ⊎_elim
+    (λ at_mate. ap t.label at_mate ∙ put_here (put s.label g.far Inner) mate Outer)
     (λ off_mate. ⊎_elim
     (λ at_far. outer_not_out (sym lab ∙ ap s.label at_far ∙ g.far_out))
     (λ off_far. put_other (put s.label g.far Inner) mate Outer (outermost s.blossoms v) off_mate ∙ put_other s.label g.far Inner (outermost s.blossoms v) off_far ∙ lab)
     (cases_eq (outermost s.blossoms v) g.far))
-    (cases_eq (outermost s.blossoms v) mate) in
-    let x = has_vertex n s.blossoms mate h pair.outer in
-    omega (
-      arith,
-      vertices_less n s t x.vertex keeps x.is (λ o. outer_not_out (sym o ∙ ap s.label x.node ∙ mate_out)) (ap t.label x.node ∙ now),
-      among_le n s t s.blossoms h keeps,
-    )
+    (cases_eq (outermost s.blossoms v) mate)
+
+module _ (s : State) (depth : ℕ → ℕ) (e mate : ℕ) (h : IsNested s.graph.vertices s.blossoms) (st : IsSearchState s depth) (g : CanGrow s e) (pair : IsMate s g.far g.mate_edge mate) where
+  abbrev n : ℕ
+  n = s.graph.vertices
+
+  abbrev t : State
+  t = grown s e g.far mate
+
+  pub mate_was : s.label mate ≡ Out
+  mate_was = (st.labels g.far g.far_is).out g.far_out g.mate_edge mate g.has_mate pair
+
+  mate_now : t.label mate ≡ Outer
+  mate_now = put_here (put s.label g.far Inner) mate Outer
+
+  keeps : KeepsOuter n s t
+  keeps = grow_inside s e mate g
+
+  pub grow_falls : measure t < measure s
+  grow_falls =
+      let x = has_vertex n s.blossoms mate h pair.outer in
+      omega (
+        arith,
+        vertices_less n s t x.vertex keeps x.is (λ o. outer_not_out (sym o ∙ ap s.label x.node ∙ mate_was)) (ap t.label x.node ∙ mate_now),
+        among_le n s t s.blossoms h keeps,
+      )
+
+  -- the mate's vertices come into an outer node
+  was_outside : (v : ℕ) → holds (members_of s.blossoms mate) v ≡ true → is_outside s v ≡ true
+  was_outside v m = outside_yes s v (λ o. outer_not_out (sym o ∙ ap s.label (outermost_by_member n s.blossoms mate v h pair.outer m) ∙ mate_was))
+
+  now_inside : (v : ℕ) → holds (members_of s.blossoms mate) v ≡ true → is_outside t v ≡ false
+  now_inside v m = outside_no t v (ap t.label (outermost_by_member n s.blossoms mate v h pair.outer m) ∙ mate_now)
+
+  pub grow_blossoms : outside_among t t.blossoms ≤ outside_among s s.blossoms
+  grow_blossoms = among_le n s t s.blossoms h keeps
+
+  pub grow_looks : ends_around s.graph (members_of s.blossoms mate) + looks_left t ≤ looks_left s
+  grow_looks =
+      let is : is_node n s.blossoms mate ≡ true = (outermost_parts n s.blossoms mate pair.outer).0 in
+      let ends = outside_ends_fall s t (members_of s.blossoms mate) refl (members_new n s.blossoms mate h is) (λ v m. member_vertex n s.blossoms mate v h is m) was_outside now_inside (λ a v e. outside_before n s t a keeps v e) in
+      looks_fall s t (members_of s.blossoms mate) refl ends grow_blossoms

@@ -1,6 +1,6 @@
 -- A shrink leaves as many roots and exposed nodes, since the new node takes the place of its circuit's base, and takes
 -- an inner node's vertices into an outer node.
-use Rattle.std.proofs.Common.{◌≡◌, ◌≢◌, ◌⊎◌, ℕ, ◌≤◌, ◌<◌, Bool, true, false, not, ◌||◌, ◌&&◌, cond, List, [], ◌∷◌, length, refl, sym, ap, ◌∙◌, subst, arith, ⊎_elim, inl, inr}
+use Rattle.std.proofs.Common.{◌≡◌, ◌≢◌, ◌⊎◌, ℕ, ◌+◌, ◌≤◌, ◌<◌, Bool, true, false, not, ◌||◌, ◌&&◌, cond, List, [], ◌∷◌, length, refl, sym, ap, ◌∙◌, subst, arith, ⊎_elim, inl, inr}
 use Rattle.std.specs.Option.{is_some}
 use Rattle.std.proofs.lemmas.Bool.{cases_eq, ne_eqb, and_left, and_right, both_ways, or_left}
 use Rattle.graph_theory.specs.Parts.{holds}
@@ -8,16 +8,21 @@ use Rattle.blossom_arena.specs.declared.links.Link.{Link}
 use Rattle.blossom_arena.specs.Family.{Blossom, IsNested, is_vertex, is_node, is_child, is_outermost, names_of, nodes_of, in_ring, outermost, made_of}
 use Rattle.blossom_arena.proofs.Lists.{by_test, AllNew, new_from_distinct, first_in, later_in}
 use Rattle.blossom_arena.proofs.Nested.{circuit_outer, outermost_parts, node_range, new_is_node, new_no_child}
-use Rattle.blossom_arena.proofs.Sets.{member_by_ring}
+use Rattle.blossom_arena.proofs.Sets.{member_by_ring, outermost_by_member}
 use Rattle.alt_forest.specs.declared.label.Label.{Label}
 use Rattle.alt_forest.specs.declared.label.Label.TheVariants.{Outer, Inner, Out}
 use Rattle.alt_forest.specs.State.{State, IsSearchState}
 use Rattle.alt_forest.specs.Trees.{is_label, node_limit}
-use Rattle.alt_forest.specs.Counts.{outside_among, tree_count, exposed_count, measure}
+use Rattle.alt_forest.specs.Counts.{is_outside, outside_among, tree_count, exposed_count, measure}
+use Rattle.alt_forest.specs.Entries.{ends_around, looks_left}
+use Rattle.alt_forest.proofs.Looks.{outside_ends_fall}
 use Rattle.alt_forest.proofs.Relabelled.{put_here, put_other, outer_not_inner, outer_not_out}
 use Rattle.tree_steps.specs.Shrunk.{shrunk_state}
 use Rattle.tree_steps.specs.Shrinkable.{IsShrinkable, IsShrunk}
-use Rattle.tree_steps.proofs.Counted.{counted_moved, has_vertex, KeepsOuter, none_outside, vertices_less, among_le}
+use Rattle.tree_steps.proofs.Counted.{counted_moved, has_vertex, outside_no, outside_before, KeepsOuter, none_outside, vertices_less, among_le}
+use Rattle.tree_steps.specs.Scanned.{newly_outer}
+use Rattle.tree_steps.proofs.LooksLeft.{looks_fall}
+use Rattle.tree_steps.proofs.NewlyOuter.{of_newly, newly_new, newly_vertex}
 use Rattle.alt_forest.proofs.Counted.{counted}
 
 -- a ring has another node
@@ -60,7 +65,7 @@ module _ (s : State) (depth : ℕ → ℕ) (ring : List Link) (node base : ℕ) 
   base_is : is_outermost n bs base ≡ true
   base_is = circuit_outer n bs ring base can.circuit can.base_in
 
-  node_is : is_outermost n (b ∷ bs) node ≡ true
+  pub node_is : is_outermost n (b ∷ bs) node ≡ true
   node_is = ap (λ q. q && not (is_child (b ∷ bs) node)) (new_is_node n b bs) ∙ ap not (new_no_child n b bs h)
 
   -- a node that was there and is not on the circuit is outermost as before
@@ -104,13 +109,34 @@ module _ (s : State) (depth : ℕ → ℕ) (ring : List Link) (node base : ℕ) 
   here : (v : ℕ) → holds b.members v ≡ true → t.label (outermost (b ∷ bs) v) ≡ Outer
   here v m = ap (λ q. t.label (cond q node (outermost bs v))) m ∙ put_here s.label node Outer
 
-  keeps : KeepsOuter n s t
+  pub keeps : KeepsOuter n s t
   keeps v is lab = by_test (holds b.members v)
       (λ m. here v m)
       (λ m. ap (λ q. t.label (cond q node (outermost bs v))) m ∙ ⊎_elim
       (λ at. ap t.label at ∙ put_here s.label node Outer)
       (λ off. put_other s.label node Outer (outermost bs v) off ∙ lab)
       (cases_eq (outermost bs v) node))
+
+  pub shrink_blossoms : outside_among t t.blossoms ≤ outside_among s s.blossoms
+  shrink_blossoms = omega (arith, among_le n s t bs h.1 keeps, none_outside t b here)
+
+  -- the vertices of the nodes that were not outer come into an outer node
+  was_outside : (v : ℕ) → holds (newly_outer s ring) v ≡ true → is_outside s v ≡ true
+  was_outside v m =
+      let r = of_newly s ring v m in
+      ap (λ a. not (is_label (s.label a) Outer)) (outermost_by_member n bs r.node v h.1 (circuit_outer n bs ring r.node can.circuit r.within) r.has) ∙ ap not r.low
+
+  now_inside : (v : ℕ) → holds (newly_outer s ring) v ≡ true → is_outside t v ≡ false
+  now_inside v m =
+      let r = of_newly s ring v m in
+      let at : outermost bs v ≡ r.node = outermost_by_member n bs r.node v h.1 (circuit_outer n bs ring r.node can.circuit r.within) r.has in
+      outside_no t v (here v (member_by_ring n bs b v h (newly_vertex s ring h.1 can.circuit v m) ∙ ap (in_ring ring) at ∙ r.within))
+
+  pub shrink_looks : ends_around s.graph (newly_outer s ring) + looks_left t ≤ looks_left s
+  shrink_looks =
+      looks_fall s t (newly_outer s ring) refl
+      (outside_ends_fall s t (newly_outer s ring) refl (newly_new s ring h.1 can.circuit) (newly_vertex s ring h.1 can.circuit) was_outside now_inside (λ a v e. outside_before n s t a keeps v e))
+      shrink_blossoms
 
   module _ (st : IsSearchState s depth) where
     -- of a node and its mate on the circuit one is not outer
@@ -142,7 +168,7 @@ module _ (s : State) (depth : ℕ → ℕ) (ring : List Link) (node base : ℕ) 
         omega (arith, older, none, vertices_less n s t v.vertex keeps v.is (λ o. x.low (sym (ap s.label v.node) ∙ o)) (here v.vertex inside))
 
 -- the state after a shrink
-abbrev IsNestedState : State → Type 0
+abbrev pub IsNestedState : State → Type 0
 IsNestedState s = IsNested s.graph.vertices s.blossoms
 
 pub shrunk_trees : (before after : State) (node : ℕ) → IsShrunk before after node → IsNestedState after → tree_count after ≡ tree_count before
@@ -154,3 +180,16 @@ shrunk_exposed before after node x h = ap exposed_count x.state ∙ shrink_expos
 pub shrunk_falls : (before after : State) (node : ℕ) → IsShrunk before after node → IsNestedState after → measure after < measure before
 shrunk_falls before after node x h =
     subst (λ (s : State). measure s < measure before) (sym x.state) (shrink_falls before x.can.depth x.ring node x.base (subst IsNestedState x.state h) x.can.shrinkable x.can.state)
+
+pub shrunk_inside : (before after : State) (node : ℕ) → IsShrunk before after node → IsNestedState after → KeepsOuter before.graph.vertices before after
+shrunk_inside before after node x h =
+    subst (λ (s : State). KeepsOuter before.graph.vertices before s) (sym x.state) (keeps before x.can.depth x.ring node x.base (subst IsNestedState x.state h) x.can.shrinkable)
+
+pub shrunk_blossoms : (before after : State) (node : ℕ) → IsShrunk before after node → IsNestedState after → outside_among after after.blossoms ≤ outside_among before before.blossoms
+shrunk_blossoms before after node x h =
+    subst (λ (s : State). outside_among s s.blossoms ≤ outside_among before before.blossoms) (sym x.state) (shrink_blossoms before x.can.depth x.ring node x.base (subst IsNestedState x.state h) x.can.shrinkable)
+
+pub shrunk_looks : (before after : State) (node : ℕ) (x : IsShrunk before after node) → IsNestedState after → ends_around before.graph (newly_outer before x.ring) + looks_left after ≤ looks_left before
+shrunk_looks before after node x h =
+    subst (λ (s : State). ends_around before.graph (newly_outer before x.ring) + looks_left s ≤ looks_left before) (sym x.state)
+    (shrink_looks before x.can.depth x.ring node x.base (subst IsNestedState x.state h) x.can.shrinkable)

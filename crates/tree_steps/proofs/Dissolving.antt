@@ -1,7 +1,7 @@
 -- What an expand reads off a search and writes.
 use Rattle.std.proofs.Common.{◌≡◌, ◌⊎◌, ℕ, ◌+◌, ◌≤◌, ◌%◌, true, List, length, take, drop, Option, Some, refl, sym, ap, ap₂, ◌∙◌, subst}
 use Rattle.std.specs.List.{AllByRecursion}
-use Rattle.graph_theory.specs.Graph.{IsGraph}
+use Rattle.graph_theory.specs.Graph.{IsGraph, IsEdgeNumber}
 use Rattle.blossom_arena.specs.declared.links.Link.{Link}
 use Rattle.blossom_arena.specs.Family.{IsNested, nodes_of, in_ring, ring_of}
 use Rattle.alt_forest.specs.declared.search.Search.{Search}
@@ -12,7 +12,7 @@ use Rattle.alt_forest.specs.Searches.{IsSound, state_of}
 use Rattle.alt_forest.proofs.Places.{nested_of}
 use Rattle.tree_steps.specs.Circuits.{before}
 use Rattle.tree_steps.specs.Expanded.{child_at, opened, hung_up, hung_down, IsRound}
-use Rattle.tree_steps.proofs.Opening.{Expands, hangs, parent_leaves, base_in, ring_limit, round_limit, round_even, goes_even_way}
+use Rattle.tree_steps.proofs.Opening.{Expands, goes, hangs, mate_leaves, parent_leaves, base_in, ring_limit, round_limit, round_even, goes_even_way}
 
 module _ (f : Search) (h : IsSound f) (a : ℕ) (can : CanExpand (state_of f) a) where
   abbrev s : State
@@ -34,6 +34,14 @@ module _ (f : Search) (h : IsSound f) (a : ℕ) (can : CanExpand (state_of f) a)
   pub parent_end : (o : Option ℕ) (parent : ℕ) → o ≡ s.parent a → ((e : ℕ) → o ≡ Some e → parent ≡ e) → (node_u s.graph s.blossoms parent ≡ a) ⊎ (node_v s.graph s.blossoms parent ≡ a)
   parent_end o parent read found = subst (λ e. (node_u s.graph s.blossoms e ≡ a) ⊎ (node_v s.graph s.blossoms e ≡ a)) (sym (parent_is o parent read found)) (parent_leaves s h.depth a graph nested h.state can)
 
+  pub parent_edge : (o : Option ℕ) (parent : ℕ) → o ≡ s.parent a → ((e : ℕ) → o ≡ Some e → parent ≡ e) → IsEdgeNumber s.graph parent
+  parent_edge o parent read found = subst (IsEdgeNumber s.graph) (sym (parent_is o parent read found)) inner.is_edge
+
+  -- the edge of the mate
+  pub mate_end : (o : Option ℕ) (mate : ℕ) → o ≡ s.mate a → ((e : ℕ) → o ≡ Some e → mate ≡ e) → (node_u s.graph s.blossoms mate ≡ a) ⊎ (node_v s.graph s.blossoms mate ≡ a)
+  mate_end o mate read found =
+      subst (λ e. (node_u s.graph s.blossoms e ≡ a) ⊎ (node_v s.graph s.blossoms e ≡ a)) (sym (found inner.child_edge (read ∙ inner.mate))) (mate_leaves s h.depth a graph nested h.state can)
+
   -- the base of the circuit
   module _ (o : Option ℕ) (mate base : ℕ) (read : o ≡ s.mate a) (found : (e : ℕ) → o ≡ Some e → mate ≡ e) (base_is : base ≡ child_at s.graph s.blossoms a mate) where
     mate_is : mate ≡ inner.child_edge
@@ -51,6 +59,13 @@ module _ (f : Search) (h : IsSound f) (a : ℕ) (can : CanExpand (state_of f) a)
     module _ (edge : ℕ) (round : List Link) (r : IsRound (ring_of s.blossoms a) base edge round) where
       pub round_low : AllByRecursion (λ (l : Link). l.node ≤ node_limit s.graph.vertices) round
       round_low = round_limit s h.depth a graph nested h.state can base edge round base_at r
+
+      -- which nodes the circuit's other links have
+      pub round_inside : (c : ℕ) → in_ring round c ≡ true → in_ring (ring_of s.blossoms a) c ≡ true
+      round_inside c = (goes s h.depth a graph nested h.state can base edge round base_at r).inside c
+
+      pub round_all : (c : ℕ) → in_ring (ring_of s.blossoms a) c ≡ true → (c ≡ base) ⊎ (in_ring round c ≡ true)
+      round_all c = (goes s h.depth a graph nested h.state can base edge round base_at r).all c
 
       pub round_pairs : length round % 2 ≡ 0
       round_pairs = round_even s h.depth a graph nested h.state can base edge round base_at r

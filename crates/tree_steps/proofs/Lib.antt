@@ -25,3 +25,14 @@ pub mod CountedGrow
 pub mod CountedShrink
 pub mod CountedExpand
 pub mod ClosedBy
+pub mod Needs
+pub mod LooksLeft
+pub mod QueuedGrow
+pub mod NewlyOuter
+pub mod QueuedShrink
+pub mod QueuedExpand
+pub mod Awaited
+pub mod GrownSearch
+pub mod ShrunkSearch
+pub mod EnlistedCircuit
+pub mod ExpandedSearch

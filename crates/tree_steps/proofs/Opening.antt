@@ -17,7 +17,6 @@ use Rattle.alt_forest.specs.Events.{CanExpand}
 use Rattle.alt_forest.proofs.Relabelled.{put_here, put_other, outer_not_inner}
 use Rattle.tree_steps.specs.Circuits.{before}
 use Rattle.tree_steps.specs.Expanded.{child_at, mated, labelled_out, opened, labels_up, labels_down, parents_up, parents_down, end_of, hung_up, hung_down, IsRound, IsExpanded}
-use Rattle.alt_forest.proofs.Mates.{joins_unique}
 use Rattle.tree_steps.proofs.Grown.{rehung}
 use Rattle.tree_steps.proofs.Opened.{joins_child, ring_chain, ring_each_link}
 use Rattle.tree_steps.proofs.Rungs.{out_other, mated_other, rung_at}
@@ -64,17 +63,6 @@ module _ (s : State) (depth : ℕ → ℕ) (a : ℕ) (graph : IsGraph s.graph) (
   pub parent_leaves : (node_u s.graph bs hangs.edge ≡ a) ⊎ (node_v s.graph bs hangs.edge ≡ a)
   parent_leaves = leaves hangs.edge hangs.up hangs.joins
 
-  -- the two are different
-  edges_differ : hangs.child_edge ≢ hangs.edge
-  edges_differ q =
-      let same : hangs.child ≡ hangs.up = joins_unique s.graph bs hangs.edge a hangs.child hangs.up (subst (λ e. Joins s.graph bs e a hangs.child) q hangs.is_mate.joins) hangs.joins hangs.is_mate.different in
-      let level : depth hangs.child ≡ depth hangs.up = ap depth same in
-      absurd (omega (arith, hangs.falls, hangs.rises, level))
-
-  -- so the graph has two edges
-  pub two_edges : 2 ≤ length s.graph.edges
-  two_edges = omega (arith, edges_differ, hangs.is_mate.edge.0, hangs.is_mate.edge.1, hangs.is_edge.0, hangs.is_edge.1)
-
   pub base_in : in_ring ring (child_at s.graph bs a hangs.child_edge) ≡ true
   base_in = child_in s.graph bs a hangs.child_edge graph nested can.blossom hangs.is_mate.edge mate_leaves
 
@@ -89,7 +77,7 @@ module _ (s : State) (depth : ℕ → ℕ) (a : ℕ) (graph : IsGraph s.graph) (
   ring_limit c r = (node_range s.graph.vertices bs c nested (child_is_node s.graph.vertices bs c nested (ring_child bs a c r))).1
 
   module _ (base edge : ℕ) (round : List Link) (base_is : base ≡ child_at s.graph bs a hangs.child_edge) (r : IsRound ring base edge round) where
-    goes : GoesRound ring base round
+    pub goes : GoesRound ring base round
     goes = goes_round ring base edge round r ring_new
 
     pub round_limit : AllByRecursion (λ (l : Link). l.node ≤ node_limit s.graph.vertices) round

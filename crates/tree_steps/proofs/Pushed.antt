@@ -9,7 +9,7 @@ use Rattle.blossom_arena.specs.Family.{IsNested}
 use Rattle.alt_forest.specs.declared.search.Search.{Search}
 use Rattle.alt_forest.specs.State.{State, IsOutermost, IsSearchState}
 use Rattle.alt_forest.specs.Trees.{node_limit, far_end, up_edge, up_of, path_of, other_node}
-use Rattle.alt_forest.specs.Searches.{IsSound, state_of}
+use Rattle.alt_forest.specs.Searches.{HasShape, IsSound, state_of}
 use Rattle.alt_forest.proofs.Walk.{up_step, path_none}
 use Rattle.alt_forest.proofs.Paths.{path_of-step}
 use Rattle.alt_forest.proofs.Roots.{some_node}
@@ -111,12 +111,19 @@ module _ (s t : Search) (rest : t ≡ record s { circuit = t.circuit }) (h : IsS
     up = λ x is. is ∙ ap (λ (f : Search). other_node f.graph f.arena.blossoms e node) rest ∙ ap (λ o. far_end (state_of s) o node) (sym has);
   }
 
--- a search with another circuit of the same room is sound
-pub sound_with : (s t : Search) → IsSound s → t ≡ record s { circuit = t.circuit } → vec_capacity t.circuit ≡ vec_capacity s.circuit → IsSound t
-sound_with s t h rest room =
-    let sh = h.shape in
-    subst IsSound (sym rest) (record {
-      shape = record { graph = sh.graph; family = sh.family; arena = sh.arena; labels = sh.labels; parents = sh.parents; mates = sh.mates; circuit = subst (λ n. s.graph.vertices ≤ n) (sym room) sh.circuit };
-      depth = h.depth;
-      state = h.state;
+-- a search with another circuit of the same room has its shape, and is sound
+pub shape_with : (s t : Search) → HasShape s → t ≡ record s { circuit = t.circuit } → vec_capacity t.circuit ≡ vec_capacity s.circuit → HasShape t
+shape_with s t sh rest room =
+    subst HasShape (sym rest) (record {
+      graph = sh.graph;
+      family = sh.family;
+      arena = sh.arena;
+      labels = sh.labels;
+      parents = sh.parents;
+      mates = sh.mates;
+      circuit = subst (λ n. s.graph.vertices ≤ n) (sym room) sh.circuit;
+      room = sh.room;
     })
+
+pub sound_with : (s t : Search) → IsSound s → t ≡ record s { circuit = t.circuit } → vec_capacity t.circuit ≡ vec_capacity s.circuit → IsSound t
+sound_with s t h rest room = record { shape = shape_with s t h.shape rest room; depth = h.depth; state = subst (λ (u : State). IsSearchState u h.depth) (sym (ap state_of rest)) h.state }

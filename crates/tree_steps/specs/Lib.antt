@@ -3,3 +3,4 @@ pub mod Shrunk
 pub mod Circuits
 pub mod Shrinkable
 pub mod Expanded
+pub mod Scanned

@@ -3,41 +3,37 @@ ghost use Rattle.std.specs.List.{AllByRecursion};
 ghost use Rattle.graph_theory.specs.Graph.{IsEdgeNumber};
 ghost use Rattle.graph_theory.specs.Parts.{holds};
 ghost use Rattle.blossom_arena.specs.declared.links.Link.{Link};
-ghost use Rattle.blossom_arena.specs.Family.{names_of, nodes_of, dissolved};
+ghost use Rattle.blossom_arena.specs.Family.{in_ring, is_vertex, members_of, names_of, nodes_of, ring_of, dissolved};
 ghost use Rattle.alt_forest.specs.State.{node_u, node_v};
 ghost use Rattle.alt_forest.specs.Trees.{node_limit};
-ghost use Rattle.alt_forest.specs.Counts.{tree_count, exposed_count, measure};
+ghost use Rattle.alt_forest.specs.Counts.{is_outside, outside_among, tree_count, exposed_count, measure};
+ghost use Rattle.alt_forest.specs.Entries.{IsQueued, ends_around, entry_count, looks_left};
 ghost use Rattle.alt_forest.specs.Events.{CanExpand};
 ghost use Rattle.alt_forest.specs.Searches.{HasShape, IsSound, state_of};
+ghost use Rattle.alt_forest.specs.Standing.{IsStanding};
 ghost use Rattle.tree_steps.specs.Circuits.{before};
 ghost use Rattle.tree_steps.specs.Expanded.{child_at, opened, hung_up, hung_down, IsExpanded};
 
 use crate::circuit::{fill_round, place_of};
+use crate::listing::{drop_entry, enlist_circuit};
 use crate::pairs::{climb_down, climb_up, label_out, mate_pairs};
+use crate::scanning::scan_node;
 use crate::way_up::or_none;
-use alt_forest::{Label, Search, set_edge, set_label};
+use alt_forest::{Item, Label, Search, set_edge, set_label};
 use blossom_arena::NodeId;
 use mb_base::{EdgeId, Steps};
 use std::sync::ledger::Ledger;
 use weighted_graph::Graph;
 
 /// The node of a blossom's circuit that holds the end of an edge that leaves the blossom.
-fn child_at<L: Ledger>(
-    search: &Search,
-    graph: &Graph,
-    b: NodeId,
-    e: EdgeId,
-    steps: &mut Steps<L>,
-) -> NodeId
+fn child_at(search: &Search, b: NodeId, e: EdgeId) -> NodeId
     requires shape { HasShape search.now }
-    requires same { graph.now ≡ search.now.graph }
     requires blossom { holds (names_of search.now.arena.blossoms) b ≡ true }
     requires edge { IsEdgeNumber search.now.graph e }
     requires leaves { (node_u search.now.graph search.now.arena.blossoms e ≡ b) ⊎ (node_v search.now.graph search.now.arena.blossoms e ≡ b) }
     ensures child { result ≡ child_at search.now.graph search.now.arena.blossoms b e }
-    ensures step { steps.new ≡ steps.old + 1 }
 {
-    let (u, v, _) = graph.look(e, steps);
+    let (u, v, _) = search.graph.edge(e);
     if search.arena.outermost(u).number() == b.number() {
         return search.arena.child_holding(b, u);
     }
@@ -95,31 +91,61 @@ fn take_even_way(search: &mut Search, base: NodeId, entry: NodeId, first: EdgeId
     );
 }
 
-/// Expands `b`, an inner blossom of dual 0, in a search over `graph` (chapters 24 and 26): the blossom is
-/// taken away and its circuit lies open. The way of even length along it between the node that holds the
-/// end of the blossom's mate and the node that holds the end of its parent comes into the tree, and the
-/// circuit's other nodes are mates two by two and labelled out. It looks at the edges of its mate and of
-/// its parent, counts one step for the event, takes time linear in the blossom's vertices and no memory,
-/// and there is no error.
-pub fn expand<L: Ledger>(search: &mut Search, graph: &Graph, b: NodeId, steps: &mut Steps<L>)
+/// Takes `b`, an inner blossom of dual 0, away, and takes the way of even length between its base and its
+/// entry into the tree. It answers the base; the search's circuit has the other nodes of `b`'s.
+fn lay_open(search: &mut Search, b: NodeId) -> NodeId
     requires sound { IsSound search.old }
-    requires same { graph.now ≡ search.old.graph }
     requires can { CanExpand (state_of search.old) b }
     ensures expanded { IsExpanded (state_of search.old) (state_of search.new) b }
+    ensures base { in_ring (ring_of search.old.arena.blossoms b) result ≡ true }
+    ensures circuit { (a : ℕ) → in_ring search.new.circuit.items a ≡ true → in_ring (ring_of search.old.arena.blossoms b) a ≡ true }
+    ensures all { (a : ℕ) → in_ring (ring_of search.old.arena.blossoms b) a ≡ true → (a ≡ result) ⊎ (in_ring search.new.circuit.items a ≡ true) }
     ensures rest { search.new ≡ record search.old { arena = record search.old.arena { blossoms = search.new.arena.blossoms }; labels = search.new.labels; parents = search.new.parents; mates = search.new.mates; circuit = search.new.circuit } }
     ensures sound { IsSound search.new }
     ensures trees { tree_count (state_of search.new) ≡ tree_count (state_of search.old) }
     ensures exposed { exposed_count (state_of search.new) ≡ exposed_count (state_of search.old) }
     ensures falls { measure (state_of search.new) < measure (state_of search.old) }
-    ensures step { steps.new ≡ steps.old + 3 }
-    ensures most { steps.new ≤ steps.old + 1 + length graph.now.edges }
 {
-    steps.tick();
     let mate = or_none(search.mate(b));
     let parent = or_none(search.parent(b));
-    let base = child_at(search, graph, b, mate, steps);
-    let entry = child_at(search, graph, b, parent, steps);
+    let base = child_at(search, b, mate);
+    let entry = child_at(search, b, parent);
     let first = fill_round(search, b, base);
     open_at(search, b, base, mate);
     take_even_way(search, base, entry, first, parent);
+    base
+}
+
+/// Expands `b`, an inner blossom of dual 0, in a search over `graph` (chapters 24 and 26): the blossom is
+/// taken away and its circuit lies open. The way of even length along it between the node that holds the
+/// end of the blossom's mate and the node that holds the end of its parent comes into the tree, and the
+/// circuit's other nodes are mates two by two and labelled out. It looks at the edges at the blossom's
+/// vertices, which get their moments, but for those in inner nodes. It counts a step for each look and one
+/// for the event, takes no memory, and there is no error.
+pub fn expand<L: Ledger>(search: &mut Search, graph: &Graph, b: NodeId, steps: &mut Steps<L>)
+    requires sound { IsSound search.old }
+    requires queued { IsQueued search.old }
+    requires standing { IsStanding search.old }
+    requires same { graph.now ≡ search.old.graph }
+    requires can { CanExpand (state_of search.old) b }
+    ensures expanded { IsExpanded (state_of search.old) (state_of search.new) b }
+    ensures rest { search.new ≡ record search.old { arena = record search.old.arena { blossoms = search.new.arena.blossoms }; labels = search.new.labels; parents = search.new.parents; mates = search.new.mates; circuit = search.new.circuit; queue = search.new.queue; standing = search.new.standing; stands = search.new.stands; scanned = search.new.scanned } }
+    ensures sound { IsSound search.new }
+    ensures queued { IsQueued search.new }
+    ensures standing { IsStanding search.new }
+    ensures trees { tree_count (state_of search.new) ≡ tree_count (state_of search.old) }
+    ensures exposed { exposed_count (state_of search.new) ≡ exposed_count (state_of search.old) }
+    ensures falls { measure (state_of search.new) < measure (state_of search.old) }
+    ensures inside { (w : ℕ) → is_vertex search.old.graph.vertices w ≡ true → is_outside (state_of search.new) w ≡ true → is_outside (state_of search.old) w ≡ true }
+    ensures blossoms { outside_among (state_of search.new) search.new.arena.blossoms < outside_among (state_of search.old) search.old.arena.blossoms }
+    ensures looks { steps.new + looks_left (state_of search.new) ≤ steps.old + 1 + looks_left (state_of search.old) }
+    ensures ends { steps.new ≤ steps.old + 1 + ends_around graph.now (members_of search.old.arena.blossoms b) }
+    ensures count { entry_count search.new.queue + steps.old + 1 ≤ entry_count search.old.queue + steps.new }
+{
+    steps.tick();
+    scan_node(search, b);
+    let base = lay_open(search, b);
+    enlist_circuit(search, base);
+    drop_entry(search, Item::Blossom(b));
+    search.enter_scanned(graph, steps);
 }

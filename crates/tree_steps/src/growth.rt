@@ -1,27 +1,29 @@
 ghost use Rattle.std.specs.Prelude.{◌≡◌, ◌≢◌, ◌<◌, ◌≤◌, ◌+◌, ℕ, true, Some, length};
-ghost use Rattle.graph_theory.specs.Graph.{IsEdgeNumber, edge_of};
-ghost use Rattle.blossom_arena.specs.Family.{outermost};
+ghost use Rattle.blossom_arena.specs.Family.{is_vertex};
 ghost use Rattle.alt_forest.specs.declared.label.Label.TheVariants.{Outer, Inner};
 ghost use Rattle.alt_forest.specs.State.{IsOutermost, IsMate};
-ghost use Rattle.alt_forest.specs.Counts.{tree_count, exposed_count, measure};
+ghost use Rattle.alt_forest.specs.Counts.{is_outside, outside_among, tree_count, exposed_count, measure};
+ghost use Rattle.alt_forest.specs.Entries.{IsQueued, entry_count, looks_left};
 ghost use Rattle.alt_forest.specs.Events.{CanGrow};
 ghost use Rattle.alt_forest.specs.Searches.{IsSound, state_of, label_at, edge_in, put};
+ghost use Rattle.alt_forest.specs.Standing.{IsStanding};
 ghost use Rattle.tree_steps.specs.Grown.{grown};
 
-use alt_forest::{Label, Search, set_edge, set_label};
+use crate::listing::{drop_entry, enlist};
+use crate::scanning::scan_node;
+use alt_forest::{Item, Label, Search, set_edge, set_label};
 use blossom_arena::NodeId;
-use mb_base::{EdgeId, Steps, VertexId};
+use mb_base::{EdgeId, Steps};
 use std::sync::ledger::Ledger;
 use weighted_graph::Graph;
 
-/// The node labelled out that a grow takes in, from the two ends of its edge.
-fn far_node(search: &Search, e: EdgeId, u: VertexId, v: VertexId) -> NodeId
+/// The node labelled out that a grow takes in.
+fn far_node(search: &Search, e: EdgeId) -> NodeId
     requires sound { IsSound search.now }
     requires can { CanGrow (state_of search.now) e }
-    requires u { u ≡ (edge_of search.now.graph e).u }
-    requires v { v ≡ (edge_of search.now.graph e).v }
     ensures { (g : CanGrow (state_of search.now) e) → result ≡ g.far }
 {
+    let (u, v, _) = search.graph.edge(e);
     let near = search.arena.outermost(u);
     let far = search.arena.outermost(v);
     if search.label(near) == Label::Outer {
@@ -42,26 +44,55 @@ fn mate_node(search: &Search, node: NodeId) -> NodeId
     }
 }
 
-/// Takes into a tree the node labelled out at the far end of a tight edge, which becomes inner, and its
-/// mate, which becomes outer (chapter 24). It looks at the edge once and counts one step for the event.
-pub fn grow<L: Ledger>(search: &mut Search, graph: &Graph, e: EdgeId, steps: &mut Steps<L>)
+/// Labels the node labelled out at the far end of a tight edge inner, hangs it by that edge, and labels
+/// its mate outer. It answers the two.
+fn take_in(search: &mut Search, e: EdgeId) -> (NodeId, NodeId)
     requires sound { IsSound search.old }
-    requires same { graph.now ≡ search.old.graph }
     requires can { CanGrow (state_of search.old) e }
+    ensures far { (g : CanGrow (state_of search.old) e) → result.0 ≡ g.far }
+    ensures mate { (g : CanGrow (state_of search.old) e) → IsMate (state_of search.old) g.far g.mate_edge result.1 }
     ensures grown { (g : CanGrow (state_of search.old) e) (mate : ℕ) → IsMate (state_of search.old) g.far g.mate_edge mate → state_of search.new ≡ grown (state_of search.old) e g.far mate }
     ensures rest { search.new ≡ record search.old { labels = search.new.labels; parents = search.new.parents } }
     ensures sound { IsSound search.new }
     ensures trees { tree_count (state_of search.new) ≡ tree_count (state_of search.old) }
     ensures exposed { exposed_count (state_of search.new) ≡ exposed_count (state_of search.old) }
     ensures falls { measure (state_of search.new) < measure (state_of search.old) }
-    ensures step { steps.new ≡ steps.old + 2 }
-    ensures most { steps.new ≤ steps.old + 1 + length graph.now.edges }
 {
-    steps.tick();
-    let (u, v, _) = graph.look(e, steps);
-    let far = far_node(search, e, u, v);
+    let far = far_node(search, e);
     let mate = mate_node(search, far);
     set_label(&mut search.labels, far, Label::Inner);
     set_label(&mut search.labels, mate, Label::Outer);
     set_edge(&mut search.parents, far, Some(e));
+    (far, mate)
+}
+
+/// Takes into a tree the node labelled out at the far end of a tight edge, which becomes inner, and its
+/// mate, which becomes outer (chapter 24). It looks at the edges at the mate's vertices, which get their
+/// moments, counts a step for each look and one for the event, and takes no memory.
+pub fn grow<L: Ledger>(search: &mut Search, graph: &Graph, e: EdgeId, steps: &mut Steps<L>)
+    requires sound { IsSound search.old }
+    requires queued { IsQueued search.old }
+    requires standing { IsStanding search.old }
+    requires same { graph.now ≡ search.old.graph }
+    requires can { CanGrow (state_of search.old) e }
+    ensures grown { (g : CanGrow (state_of search.old) e) (mate : ℕ) → IsMate (state_of search.old) g.far g.mate_edge mate → state_of search.new ≡ grown (state_of search.old) e g.far mate }
+    ensures rest { search.new ≡ record search.old { labels = search.new.labels; parents = search.new.parents; queue = search.new.queue; standing = search.new.standing; stands = search.new.stands; scanned = search.new.scanned } }
+    ensures sound { IsSound search.new }
+    ensures queued { IsQueued search.new }
+    ensures standing { IsStanding search.new }
+    ensures trees { tree_count (state_of search.new) ≡ tree_count (state_of search.old) }
+    ensures exposed { exposed_count (state_of search.new) ≡ exposed_count (state_of search.old) }
+    ensures falls { measure (state_of search.new) < measure (state_of search.old) }
+    ensures inside { (w : ℕ) → is_vertex search.old.graph.vertices w ≡ true → is_outside (state_of search.new) w ≡ true → is_outside (state_of search.old) w ≡ true }
+    ensures blossoms { outside_among (state_of search.new) search.new.arena.blossoms ≤ outside_among (state_of search.old) search.old.arena.blossoms }
+    ensures looks { steps.new + looks_left (state_of search.new) ≤ steps.old + 1 + looks_left (state_of search.old) }
+    ensures count { entry_count search.new.queue + steps.old + 2 ≤ entry_count search.old.queue + steps.new }
+{
+    steps.tick();
+    let (far, mate) = take_in(search, e);
+    enlist(search, far);
+    enlist(search, mate);
+    drop_entry(search, Item::Edge(e));
+    scan_node(search, mate);
+    search.enter_scanned(graph, steps);
 }

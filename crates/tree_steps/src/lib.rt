@@ -1,13 +1,16 @@
 //! The steps of a search that change its trees: a tree grows, an odd circuit is shrunk into one node,
 //! and an inner blossom is expanded.
-//! It stands on `mb_base`, `graph_theory`, `weighted_graph`, `blossom_arena` and `alt_forest`, and
-//! promises that each step leaves a search in the state of a search, and that less is left to do.
+//! It stands on `mb_base`, `graph_theory`, `weighted_graph`, `blossom_arena`, `edge_queue` and
+//! `alt_forest`, and promises that each step leaves a search in the state of a search, with the moment of
+//! each event that can come in its queue, and that less is left to do.
 #![tactic(auto)]
 
 mod circuit;
 mod expanding;
 mod growth;
+mod listing;
 mod pairs;
+mod scanning;
 mod shrinking;
 mod way_up;
 

@@ -1,18 +1,23 @@
 ghost use Rattle.std.specs.Prelude.{◌≡◌, ◌≢◌, ◌<◌, ◌≤◌, ◌+◌, ℕ, true, Some, length};
 ghost use Rattle.graph_theory.specs.Graph.{IsEdgeNumber, edge_of};
-ghost use Rattle.blossom_arena.specs.Family.{outermost, made_of, ring_of};
+ghost use Rattle.blossom_arena.specs.Family.{is_vertex, outermost, made_of, ring_of};
 ghost use Rattle.alt_forest.specs.declared.label.Label.TheVariants.{Outer, Out};
 ghost use Rattle.alt_forest.specs.State.{IsOutermost};
 ghost use Rattle.alt_forest.specs.Trees.{path_of, root_of, first_common};
-ghost use Rattle.alt_forest.specs.Counts.{tree_count, exposed_count, measure};
+ghost use Rattle.alt_forest.specs.Counts.{is_outside, outside_among, tree_count, exposed_count, measure};
+ghost use Rattle.alt_forest.specs.Entries.{IsQueued, entry_count, looks_left};
 ghost use Rattle.alt_forest.specs.Events.{CanShrink};
 ghost use Rattle.alt_forest.specs.Searches.{IsSound, state_of, label_at};
+ghost use Rattle.alt_forest.specs.Standing.{IsStanding};
 ghost use Rattle.tree_steps.specs.Circuits.{closed_by};
+ghost use Rattle.tree_steps.specs.Scanned.{newly_outer};
 ghost use Rattle.tree_steps.specs.Shrunk.{shrunk_state};
 ghost use Rattle.tree_steps.specs.Shrinkable.{AreEnds, CanClose, IsShrunk};
 
 use crate::circuit::fill_circuit;
-use alt_forest::{Label, Search, set_edge, set_label};
+use crate::listing::{drop_entry, enlist};
+use crate::scanning::scan_circuit;
+use alt_forest::{Item, Label, Search, set_edge, set_label};
 use blossom_arena::NodeId;
 use mb_base::{EdgeId, Steps};
 use std::sync::ledger::Ledger;
@@ -45,9 +50,35 @@ fn meeting_node(search: &Search, a: NodeId, b: NodeId) -> NodeId
     }
 }
 
+/// Makes one outer node of the circuit that a tight edge between two different outer nodes of one tree
+/// closes, and notes the vertices that come into it from nodes that were not outer. It answers the new node.
+fn close_by(search: &mut Search, e: EdgeId) -> NodeId
+    requires sound { IsSound search.old }
+    requires can { CanShrink (state_of search.old) e }
+    ensures shrunk { IsShrunk (state_of search.old) (state_of search.new) result }
+    ensures circuit { ring_of search.new.arena.blossoms result ≡ closed_by (state_of search.old) e }
+    ensures holds_u { outermost search.new.arena.blossoms (edge_of search.old.graph e).u ≡ result }
+    ensures holds_v { outermost search.new.arena.blossoms (edge_of search.old.graph e).v ≡ result }
+    ensures scanned { search.new.scanned.items ≡ newly_outer (state_of search.old) (closed_by (state_of search.old) e) }
+    ensures rest { search.new ≡ record search.old { arena = search.new.arena; labels = search.new.labels; mates = search.new.mates; circuit = search.new.circuit; scanned = search.new.scanned } }
+    ensures sound { IsSound search.new }
+    ensures trees { tree_count (state_of search.new) ≡ tree_count (state_of search.old) }
+    ensures exposed { exposed_count (state_of search.new) ≡ exposed_count (state_of search.old) }
+    ensures falls { measure (state_of search.new) < measure (state_of search.old) }
+{
+    let (u, v, _) = search.graph.edge(e);
+    let a = search.arena.outermost(u);
+    let b = search.arena.outermost(v);
+    let base = meeting_node(search, a, b);
+    fill_circuit(search, a, b, base, e);
+    scan_circuit(search);
+    close(search, base)
+}
+
 /// Makes one node of the circuit that a tight edge between two different outer nodes of one tree closes:
-/// the two ways up to where they meet (chapter 24). It answers the new node, looks at the edge once and
-/// counts one step for the event. It takes no memory.
+/// the two ways up to where they meet (chapter 24). It looks at the edges at the vertices that come into
+/// an outer node by that, which get their moments, and counts a step for each look and one for the event.
+/// It answers the new node, and takes no memory.
 pub fn shrink<L: Ledger>(
     search: &mut Search,
     graph: &Graph,
@@ -55,25 +86,30 @@ pub fn shrink<L: Ledger>(
     steps: &mut Steps<L>,
 ) -> NodeId
     requires sound { IsSound search.old }
+    requires queued { IsQueued search.old }
+    requires standing { IsStanding search.old }
     requires same { graph.now ≡ search.old.graph }
     requires can { CanShrink (state_of search.old) e }
     ensures shrunk { IsShrunk (state_of search.old) (state_of search.new) result }
     ensures circuit { ring_of search.new.arena.blossoms result ≡ closed_by (state_of search.old) e }
     ensures holds_u { outermost search.new.arena.blossoms (edge_of graph.now e).u ≡ result }
     ensures holds_v { outermost search.new.arena.blossoms (edge_of graph.now e).v ≡ result }
-    ensures rest { search.new ≡ record search.old { arena = search.new.arena; labels = search.new.labels; mates = search.new.mates; circuit = search.new.circuit } }
+    ensures rest { search.new ≡ record search.old { arena = search.new.arena; labels = search.new.labels; mates = search.new.mates; circuit = search.new.circuit; queue = search.new.queue; standing = search.new.standing; stands = search.new.stands; scanned = search.new.scanned } }
     ensures sound { IsSound search.new }
+    ensures queued { IsQueued search.new }
+    ensures standing { IsStanding search.new }
     ensures trees { tree_count (state_of search.new) ≡ tree_count (state_of search.old) }
     ensures exposed { exposed_count (state_of search.new) ≡ exposed_count (state_of search.old) }
     ensures falls { measure (state_of search.new) < measure (state_of search.old) }
-    ensures step { steps.new ≡ steps.old + 2 }
-    ensures most { steps.new ≤ steps.old + 1 + length graph.now.edges }
+    ensures inside { (w : ℕ) → is_vertex search.old.graph.vertices w ≡ true → is_outside (state_of search.new) w ≡ true → is_outside (state_of search.old) w ≡ true }
+    ensures blossoms { outside_among (state_of search.new) search.new.arena.blossoms ≤ outside_among (state_of search.old) search.old.arena.blossoms }
+    ensures looks { steps.new + looks_left (state_of search.new) ≤ steps.old + 1 + looks_left (state_of search.old) }
+    ensures count { entry_count search.new.queue + steps.old + 2 ≤ entry_count search.old.queue + steps.new }
 {
     steps.tick();
-    let (u, v, _) = graph.look(e, steps);
-    let a = search.arena.outermost(u);
-    let b = search.arena.outermost(v);
-    let base = meeting_node(search, a, b);
-    fill_circuit(search, a, b, base, e);
-    close(search, base)
+    let node = close_by(search, e);
+    enlist(search, node);
+    drop_entry(search, Item::Edge(e));
+    search.enter_scanned(graph, steps);
+    node
 }

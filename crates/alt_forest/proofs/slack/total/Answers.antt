@@ -1,7 +1,8 @@
-use Rattle.std.proofs.Common.{◌≡◌, ◌+ℤ◌, true, arith, rules, to_z, of_z}
+use Rattle.std.proofs.Common.{◌≡◌, ◌∙◌, ℕ, ◌-◌, ℤ, pos, ◌+ℤ◌, true, take, ap, arith, rules, to_z, of_z}
 use Rattle.std.proofs.lemmas.Int.{ints}
 use mir.Syntax.{w64}
 use Rattle.blossom_arena.specs.Family.{is_node, dual_at}
+use Rattle.alt_forest.specs.Chains.{total_of}
 use Rattle.alt_forest.proofs.Totals.{total_step, each_left}
 use Rattle.alt_forest.proofs.slack.total.Goals as goal
 
@@ -14,3 +15,12 @@ loop-preserved c =
       low = omega (arith, ints, back, c.loop.invariant.low, c.dual_or_zero-sum.ensures.in_range.0);
       high = omega (arith, ints, back, c.loop.invariant.high, c.dual_or_zero-sum.ensures.in_range.1);
     }
+
+no_more : (x : ℤ) → x ≡ x +ℤ pos 0
+no_more x = omega (arith, ints)
+
+pub returns-clause-total : goal.returns-clause-total
+returns-clause-total c =
+    let none : 0 ≡ c.args.nodes - c.loop.counter = omega arith in
+    no_more (to_z w64 c.loop.sum-bits)
+    ∙ ap (λ (k : ℕ). to_z w64 c.loop.sum-bits +ℤ total_of (dual_at c.args.arena.now.duals) (take k c.loop.rest)) none ∙ c.loop.invariant.sum

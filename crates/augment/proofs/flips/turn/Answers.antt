@@ -25,7 +25,7 @@ path-init c =
     let sh = c.requires.sound.shape in
     record {
       rest = refl;
-      shape = record { graph = sh.graph; family = sh.family; arena = sh.arena; labels = sh.labels; parents = sh.parents; mates = c.set_edge.ensures.len ∙ sh.mates; circuit = sh.circuit };
+      shape = record { graph = sh.graph; family = sh.family; arena = sh.arena; labels = sh.labels; parents = sh.parents; mates = c.set_edge.ensures.len ∙ sh.mates; circuit = sh.circuit; room = sh.room };
       depth = depth;
       state = c.requires.sound.state;
       low = c.args.far;
@@ -59,7 +59,7 @@ path-preserved c =
     let now : m ≡ put (put (edge_in t.mates.items) c.path.node (Some c.path.edge)) k.inner (Some k.parent) = c.set_edge-in-path-2.ensures.edges ∙ ap (λ n. put n k.inner (Some k.parent)) c.set_edge-in-path.ensures.edges in
     record {
       rest = ap (λ (u : Search). record u { mates = c.set_edge-in-path-2.new.edges }) v.rest;
-      shape = record { graph = v.shape.graph; family = v.shape.family; arena = v.shape.arena; labels = v.shape.labels; parents = v.shape.parents; mates = c.set_edge-in-path-2.ensures.len ∙ c.set_edge-in-path.ensures.len ∙ v.shape.mates; circuit = v.shape.circuit };
+      shape = record { graph = v.shape.graph; family = v.shape.family; arena = v.shape.arena; labels = v.shape.labels; parents = v.shape.parents; mates = c.set_edge-in-path-2.ensures.len ∙ c.set_edge-in-path.ensures.len ∙ v.shape.mates; circuit = v.shape.circuit; room = v.shape.room };
       depth = v.depth;
       state = v.state;
       low = k.inner;

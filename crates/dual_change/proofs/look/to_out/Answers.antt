@@ -5,7 +5,6 @@ use Rattle.alt_forest.proofs.Places.{nested_of}
 use Rattle.dual_change.specs.declared.event.Event.TheVariants.{Grow, Augment}
 use Rattle.dual_change.specs.Candidates.{Leads}
 use Rattle.dual_change.proofs.Least.{leads_grow, leads_augment}
-use Rattle.dual_change.proofs.Ends.{edge_within, edge_weighs}
 use Rattle.dual_change.proofs.look.to_out.Goals as goal
 
 pub returns-in-Some-clause-candidate : goal.returns-in-Some-clause-candidate
@@ -14,8 +13,8 @@ returns-in-Some-clause-candidate c =
     let sound = c.requires.sound in
     let e : ℕ = c.args.e in
     let near = c.requires.near in
-    let back : to_z w64 (of_z w64 c.slack_by-d.result) ≡ c.slack_by-d.result = search rules in
-    subst (λ x. Leads (state_of s) x (Grow e)) (sym (back ∙ c.slack_by-d.ensures.same e c.requires.edge))
+    let back : to_z w64 (of_z w64 c.args.d) ≡ c.args.d = search rules in
+    subst (λ x. Leads (state_of s) x (Grow e)) (sym (back ∙ c.requires.slack))
     (leads_grow (state_of s) sound.depth sound.shape.graph.graph (nested_of s sound.shape) sound.state e near.0 c.args.far c.in-Some.field-0 c.requires.number near.1 near.2 c.requires.out (sym c.mate.ensures.mate ∙ c.in-Some.is))
 
 pub returns-in-None-clause-candidate : goal.returns-in-None-clause-candidate
@@ -24,12 +23,6 @@ returns-in-None-clause-candidate c =
     let sound = c.requires.sound in
     let e : ℕ = c.args.e in
     let near = c.requires.near in
-    let back : to_z w64 (of_z w64 c.slack_by-d.result) ≡ c.slack_by-d.result = search rules in
-    subst (λ x. Leads (state_of s) x (Augment e)) (sym (back ∙ c.slack_by-d.ensures.same e c.requires.edge))
+    let back : to_z w64 (of_z w64 c.args.d) ≡ c.args.d = search rules in
+    subst (λ x. Leads (state_of s) x (Augment e)) (sym (back ∙ c.requires.slack))
     (leads_augment (state_of s) sound.depth sound.shape.graph.graph (nested_of s sound.shape) sound.state e near.0 c.args.far c.requires.number near.1 near.2 c.requires.out (sym c.mate.ensures.mate ∙ c.in-None.is))
-
-pub slack_by-d-requires-clause-ends : goal.slack_by-d-requires-clause-ends
-slack_by-d-requires-clause-ends c = edge_within c.args.search.now c.args.e c.args.edge.now c.requires.sound.shape c.requires.number c.requires.edge
-
-pub slack_by-d-requires-clause-weight : goal.slack_by-d-requires-clause-weight
-slack_by-d-requires-clause-weight c = edge_weighs c.args.search.now c.args.e c.args.edge.now c.requires.sound.shape c.requires.number c.requires.edge

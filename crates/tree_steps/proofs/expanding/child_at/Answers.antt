@@ -11,21 +11,21 @@ use Rattle.tree_steps.proofs.Holders.{other_end_in}
 use Rattle.tree_steps.proofs.expanding.child_at.Goals as goal
 
 pub child_holding-requires-clause-inside : goal.child_holding-requires-clause-inside
-child_holding-requires-clause-inside g c =
+child_holding-requires-clause-inside c =
     let f = c.args.search.now in
     let shape = c.requires.shape in
-    let from = c.look-u.ensures.from ∙ ap (λ k. (edge_of k c.args.e).u) c.requires.same in
+    let from = c.edge-u.ensures.from in
     let here : node_u f.graph f.arena.blossoms c.args.e ≡ c.args.b =
     ap (outermost f.arena.blossoms) (sym from) ∙ sym c.outermost.ensures.node ∙ sym c.number.ensures ∙ c.if-number.true ∙ c.number-2.ensures in
     ap (holds (members_of f.arena.blossoms c.args.b)) from
     ∙ end_member f.graph.vertices f.arena.blossoms c.args.b (edge_of f.graph c.args.e).u (nested_of f shape) (u_vertex f.graph c.args.e shape.graph.graph.ends c.requires.edge) here
 
 pub child_holding-requires-2-clause-inside : goal.child_holding-requires-2-clause-inside
-child_holding-requires-2-clause-inside g c =
+child_holding-requires-2-clause-inside c =
     let f = c.args.search.now in
     let shape = c.requires.shape in
-    let from = c.look-u.ensures.from ∙ ap (λ k. (edge_of k c.args.e).u) c.requires.same in
-    let to = c.look-u.ensures.to ∙ ap (λ k. (edge_of k c.args.e).v) c.requires.same in
+    let from = c.edge-u.ensures.from in
+    let to = c.edge-u.ensures.to in
     let elsewhere : eqb (node_u f.graph f.arena.blossoms c.args.e) c.args.b ≡ false =
     ne_eqb (node_u f.graph f.arena.blossoms c.args.e) c.args.b
     (λ q. c.if-number.false (c.number.ensures ∙ c.outermost.ensures.node ∙ ap (outermost f.arena.blossoms) from ∙ q ∙ sym c.number-2.ensures)) in

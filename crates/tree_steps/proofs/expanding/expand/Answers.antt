@@ -1,92 +1,84 @@
-use Rattle.std.proofs.Common.{◌≡◌, ◌≤◌, ◌%◌, ◌+◌, ◌∙◌, List, length, take, drop, sym, ap, subst, arith}
-use Rattle.std.specs.List.{AllByRecursion}
-use Rattle.blossom_arena.specs.declared.links.Link.{Link}
-use Rattle.blossom_arena.specs.Family.{nodes_of}
+use Rattle.std.proofs.Common.{◌≡◌, ◌∙◌, refl, sym, ap, subst, arith}
+use Rattle.graph_theory.specs.Graph.{Multigraph}
+use Rattle.blossom_arena.specs.Family.{members_of}
+use Rattle.blossom_arena.proofs.Nested.{name_is_node}
 use Rattle.alt_forest.specs.declared.search.Search.{Search}
-use Rattle.alt_forest.specs.Trees.{node_limit}
+use Rattle.alt_forest.specs.State.{State}
+use Rattle.alt_forest.specs.Entries.{ends_around}
+use Rattle.alt_forest.specs.Events.{CanExpand}
 use Rattle.alt_forest.specs.Searches.{state_of}
-use Rattle.tree_steps.specs.Circuits.{before}
-use Rattle.tree_steps.specs.Expanded.{opened, hung_up, hung_down}
-use Rattle.tree_steps.proofs.Opening.{Expands, two_edges}
-use Rattle.tree_steps.proofs.Dissolving.{parent_end, base_found, base_low, round_low, round_pairs, written}
+use Rattle.alt_forest.specs.Standing.{IsStanding}
 use Rattle.alt_forest.proofs.Places.{nested_of}
-use Rattle.tree_steps.proofs.CountedExpand.{expand_trees, expand_exposed, expand_falls}
+use Rattle.alt_forest.proofs.Queues.{standing_with}
+use Rattle.tree_steps.specs.Expanded.{IsExpanded}
+use Rattle.tree_steps.proofs.Counted.{outside_before}
+use Rattle.tree_steps.proofs.CountedExpand.{expand_inside, expand_blossoms, expand_looks}
+use Rattle.tree_steps.proofs.ExpandedSearch.{expanded_is, expanded_same, base_outer, circuit_outer, vertices_are, expanded_vertices, expanded_queued, expanded_standing}
 use Rattle.tree_steps.proofs.expanding.expand.Given.{Over}
 use Rattle.tree_steps.proofs.expanding.expand.Goals as goal
 
-pub child_at-entry-requires-clause-leaves : goal.child_at-entry-requires-clause-leaves
-child_at-entry-requires-clause-leaves g c = parent_end c.args.search.now c.requires.sound c.args.b c.requires.can c.parent.result c.or_none-parent.result c.parent.ensures.parent c.or_none-parent.ensures
+pub scan_node-requires-clause-node : goal.scan_node-requires-clause-node
+scan_node-requires-clause-node g c =
+    let f = c.args.search.now in
+    name_is_node f.graph.vertices f.arena.blossoms c.args.b c.requires.can.blossom
 
-pub fill_round-first-requires-clause-base : goal.fill_round-first-requires-clause-base
-fill_round-first-requires-clause-base g c = base_found c.args.search.now c.requires.sound c.args.b c.requires.can c.mate.result c.or_none-mate.result c.child_at-base.result c.mate.ensures.mate c.or_none-mate.ensures c.child_at-base.ensures.child
+pub lay_open-base-requires-clause-can : goal.lay_open-base-requires-clause-can
+lay_open-base-requires-clause-can g c = subst (λ (f : Search). CanExpand (state_of f) c.args.b) (sym c.scan_node.ensures.rest) c.requires.can
 
-pub open_at-requires-clause-nodes : goal.open_at-requires-clause-nodes
-open_at-requires-clause-nodes g c =
-    let round = c.fill_round-first.new.search.circuit.items in
-    subst (λ (f : Search). AllByRecursion (λ (l : Link). l.node ≤ node_limit f.graph.vertices) round) (sym c.fill_round-first.ensures.rest)
-    (round_low c.args.search.now c.requires.sound c.args.b c.requires.can c.mate.result c.or_none-mate.result c.child_at-base.result c.mate.ensures.mate c.or_none-mate.ensures c.child_at-base.ensures.child c.fill_round-first.result round c.fill_round-first.ensures.round)
+pub enlist_circuit-requires-clause-base : goal.enlist_circuit-requires-clause-base
+enlist_circuit-requires-clause-base g c = base_outer c.args.search.now c.scan_node.new.search c.lay_open-base.new.search c.lay_open-base.new.search c.lay_open-base.new.search c.requires.sound c.lay_open-base.ensures.sound c.args.b c.lay_open-base.result c.requires.can c.lay_open-base.ensures.expanded
+    c.scan_node.ensures.rest c.lay_open-base.ensures.rest refl refl c.lay_open-base.ensures.base c.lay_open-base.ensures.circuit c.lay_open-base.ensures.all
 
-pub open_at-requires-clause-base : goal.open_at-requires-clause-base
-open_at-requires-clause-base g c =
-    subst (λ (f : Search). c.child_at-base.result ≤ node_limit f.graph.vertices) (sym c.fill_round-first.ensures.rest)
-    (base_low c.args.search.now c.requires.sound c.args.b c.requires.can c.mate.result c.or_none-mate.result c.child_at-base.result c.mate.ensures.mate c.or_none-mate.ensures c.child_at-base.ensures.child)
+pub enlist_circuit-requires-clause-circuit : goal.enlist_circuit-requires-clause-circuit
+enlist_circuit-requires-clause-circuit g c = circuit_outer c.args.search.now c.scan_node.new.search c.lay_open-base.new.search c.lay_open-base.new.search c.lay_open-base.new.search c.requires.sound c.lay_open-base.ensures.sound c.args.b c.lay_open-base.result c.requires.can c.lay_open-base.ensures.expanded
+    c.scan_node.ensures.rest c.lay_open-base.ensures.rest refl refl c.lay_open-base.ensures.base c.lay_open-base.ensures.circuit c.lay_open-base.ensures.all
 
-pub take_even_way-requires-clause-even : goal.take_even_way-requires-clause-even
-take_even_way-requires-clause-even g c =
-    ap (λ (f : Search). length f.circuit.items % 2) c.open_at.ensures.rest
-    ∙ round_pairs c.args.search.now c.requires.sound c.args.b c.requires.can c.mate.result c.or_none-mate.result c.child_at-base.result c.mate.ensures.mate c.or_none-mate.ensures c.child_at-base.ensures.child c.fill_round-first.result c.fill_round-first.new.search.circuit.items c.fill_round-first.ensures.round
+pub enter_scanned-requires-clause-vertices : goal.enter_scanned-requires-clause-vertices
+enter_scanned-requires-clause-vertices g c = expanded_vertices c.args.search.now c.scan_node.new.search c.lay_open-base.new.search c.enlist_circuit.new.search c.drop_entry.new.search c.requires.sound c.enlist_circuit.ensures.sound c.args.b c.lay_open-base.result c.requires.can c.lay_open-base.ensures.expanded
+    c.scan_node.ensures.rest c.lay_open-base.ensures.rest c.enlist_circuit.ensures.rest c.drop_entry.ensures.rest c.lay_open-base.ensures.base c.lay_open-base.ensures.circuit c.lay_open-base.ensures.all
+    c.scan_node.ensures.scanned c.args.graph.now c.requires.same
 
-pub take_even_way-requires-clause-nodes : goal.take_even_way-requires-clause-nodes
-take_even_way-requires-clause-nodes g c =
-    let round = c.fill_round-first.new.search.circuit.items in
-    subst (λ (f : Search). AllByRecursion (λ (l : Link). l.node ≤ node_limit f.graph.vertices) f.circuit.items) (sym c.open_at.ensures.rest)
-    (subst (λ (f : Search). AllByRecursion (λ (l : Link). l.node ≤ node_limit f.graph.vertices) round) (sym c.fill_round-first.ensures.rest)
-    (round_low c.args.search.now c.requires.sound c.args.b c.requires.can c.mate.result c.or_none-mate.result c.child_at-base.result c.mate.ensures.mate c.or_none-mate.ensures c.child_at-base.ensures.child c.fill_round-first.result round c.fill_round-first.ensures.round))
+pub enter_scanned-requires-clause-queued : goal.enter_scanned-requires-clause-queued
+enter_scanned-requires-clause-queued g c = expanded_queued c.args.search.now c.scan_node.new.search c.lay_open-base.new.search c.enlist_circuit.new.search c.drop_entry.new.search c.requires.sound c.enlist_circuit.ensures.sound c.args.b c.lay_open-base.result c.requires.can c.lay_open-base.ensures.expanded
+    c.scan_node.ensures.rest c.lay_open-base.ensures.rest c.enlist_circuit.ensures.rest c.drop_entry.ensures.rest c.lay_open-base.ensures.base c.lay_open-base.ensures.circuit c.lay_open-base.ensures.all
+    c.scan_node.ensures.scanned c.requires.queued c.drop_entry.ensures.queue c.enlist_circuit.ensures.edges c.enlist_circuit.ensures.entered c.enlist_circuit.ensures.others
 
-pub take_even_way-requires-clause-base : goal.take_even_way-requires-clause-base
-take_even_way-requires-clause-base g c =
-    subst (λ (f : Search). c.child_at-base.result ≤ node_limit f.graph.vertices) (sym c.open_at.ensures.rest)
-    (subst (λ (f : Search). c.child_at-base.result ≤ node_limit f.graph.vertices) (sym c.fill_round-first.ensures.rest)
-    (base_low c.args.search.now c.requires.sound c.args.b c.requires.can c.mate.result c.or_none-mate.result c.child_at-base.result c.mate.ensures.mate c.or_none-mate.ensures c.child_at-base.ensures.child))
+pub returns-clause-standing : goal.returns-clause-standing
+returns-clause-standing g c =
+    subst IsStanding (sym c.enter_scanned.ensures.rest)
+    (standing_with c.drop_entry.new.search c.enter_scanned.new.self.queue
+    (expanded_standing c.args.search.now c.scan_node.new.search c.lay_open-base.new.search c.enlist_circuit.new.search c.drop_entry.new.search c.requires.sound c.enlist_circuit.ensures.sound c.args.b c.lay_open-base.result c.requires.can c.lay_open-base.ensures.expanded
+    c.scan_node.ensures.rest c.lay_open-base.ensures.rest c.enlist_circuit.ensures.rest c.drop_entry.ensures.rest c.lay_open-base.ensures.base c.lay_open-base.ensures.circuit c.lay_open-base.ensures.all
+    c.requires.standing c.enlist_circuit.ensures.listed c.enlist_circuit.ensures.keeps c.enlist_circuit.ensures.there))
 
-made : (g : Over) (c : goal.After-take_even_way g) → Expands (state_of c.args.search.now) (state_of c.take_even_way.new.search) c.args.b
-made g c =
-    let round : List Link = c.fill_round-first.new.search.circuit.items in
-    let base = c.child_at-base.result in
-    let mate = c.or_none-mate.result in
-    let parent = c.or_none-parent.result in
-    let entry = c.child_at-entry.result in
-    let same : c.open_at.new.search.circuit.items ≡ round = ap (λ (f : Search). f.circuit.items) c.open_at.ensures.rest in
-    let opens : state_of c.open_at.new.search ≡ opened (state_of c.args.search.now) c.args.b base round mate = c.open_at.ensures.state ∙ ap (λ (f : Search). opened (state_of f) c.args.b base round mate) c.fill_round-first.ensures.rest in
-    written c.args.search.now c.requires.sound c.args.b c.requires.can c.mate.result mate base c.mate.ensures.mate c.or_none-mate.ensures c.child_at-base.ensures.child c.fill_round-first.result round c.fill_round-first.ensures.round
-    c.parent.result parent entry c.parent.ensures.parent c.or_none-parent.ensures c.child_at-entry.ensures.child (state_of c.open_at.new.search) (state_of c.take_even_way.new.search) opens
-    (λ place is even. c.take_even_way.ensures.down place (is ∙ sym (ap (λ (ls : List Link). length (before (nodes_of ls) entry)) same)) even ∙ ap (λ (ls : List Link). hung_down (state_of c.open_at.new.search) base parent (drop place ls)) same)
-    (λ place is odd. c.take_even_way.ensures.up place (is ∙ sym (ap (λ (ls : List Link). length (before (nodes_of ls) entry)) same)) odd ∙ ap (λ (ls : List Link). hung_up (state_of c.open_at.new.search) base c.fill_round-first.result parent (take (place + 1) ls)) same)
+-- the state after the edges are looked at is that of the open blossom
+opened_is : (g : Over) (c : goal.After-enter_scanned g) → IsExpanded (state_of c.args.search.now) (state_of c.enter_scanned.new.self) c.args.b
+opened_is g c =
+    let same : state_of c.enter_scanned.new.self ≡ state_of c.lay_open-base.new.search = ap state_of c.enter_scanned.ensures.rest ∙ expanded_same c.args.search.now c.scan_node.new.search c.lay_open-base.new.search c.enlist_circuit.new.search c.drop_entry.new.search c.requires.sound c.enlist_circuit.ensures.sound c.args.b c.lay_open-base.result c.requires.can c.lay_open-base.ensures.expanded
+    c.scan_node.ensures.rest c.lay_open-base.ensures.rest c.enlist_circuit.ensures.rest c.drop_entry.ensures.rest c.lay_open-base.ensures.base c.lay_open-base.ensures.circuit c.lay_open-base.ensures.all in
+    subst (λ (t : State). IsExpanded (state_of c.args.search.now) t c.args.b) (sym same) (expanded_is c.args.search.now c.scan_node.new.search c.lay_open-base.new.search c.enlist_circuit.new.search c.drop_entry.new.search c.requires.sound c.enlist_circuit.ensures.sound c.args.b c.lay_open-base.result c.requires.can c.lay_open-base.ensures.expanded
+    c.scan_node.ensures.rest c.lay_open-base.ensures.rest c.enlist_circuit.ensures.rest c.drop_entry.ensures.rest c.lay_open-base.ensures.base c.lay_open-base.ensures.circuit c.lay_open-base.ensures.all)
 
-pub returns-clause-expanded : goal.returns-clause-expanded
-returns-clause-expanded g c = (made g c).is
-
-pub returns-clause-sound : goal.returns-clause-sound
-returns-clause-sound g c = let e = made g c in record { shape = c.take_even_way.ensures.shape; depth = e.after; state = e.state }
-
-pub returns-clause-trees : goal.returns-clause-trees
-returns-clause-trees g c =
+pub returns-clause-inside : goal.returns-clause-inside
+returns-clause-inside g c = λ w is out.
+    let f = c.args.search.now in
     let h = c.requires.sound in
-    expand_trees (state_of c.args.search.now) (state_of c.take_even_way.new.search) h.depth c.args.b (nested_of c.args.search.now h.shape) h.state c.requires.can (returns-clause-expanded g c)
+    outside_before f.graph.vertices (state_of f) (state_of c.enter_scanned.new.self) w
+    (expand_inside (state_of f) (state_of c.enter_scanned.new.self) h.depth c.args.b (nested_of f h.shape) h.state c.requires.can (opened_is g c)) is out
 
-pub returns-clause-exposed : goal.returns-clause-exposed
-returns-clause-exposed g c =
+pub returns-clause-blossoms : goal.returns-clause-blossoms
+returns-clause-blossoms g c =
+    let f = c.args.search.now in
     let h = c.requires.sound in
-    expand_exposed (state_of c.args.search.now) (state_of c.take_even_way.new.search) h.depth c.args.b (nested_of c.args.search.now h.shape) h.state c.requires.can (returns-clause-expanded g c)
+    expand_blossoms (state_of f) (state_of c.enter_scanned.new.self) h.depth c.args.b (nested_of f h.shape) h.state c.requires.can (opened_is g c)
 
-pub returns-clause-falls : goal.returns-clause-falls
-returns-clause-falls g c =
+pub returns-clause-looks : goal.returns-clause-looks
+returns-clause-looks g c =
+    let f = c.args.search.now in
     let h = c.requires.sound in
-    expand_falls (state_of c.args.search.now) (state_of c.take_even_way.new.search) h.depth c.args.b (nested_of c.args.search.now h.shape) h.state c.requires.can (returns-clause-expanded g c)
-
-pub returns-clause-most : goal.returns-clause-most
-returns-clause-most g c =
-    let s = c.args.search.now in
-    let h = c.requires.sound in
-    let two = two_edges (state_of s) h.depth c.args.b h.shape.graph.graph (nested_of s h.shape) h.state c.requires.can in
-    omega (arith, two, ap (λ k. length k.edges) c.requires.same, c.child_at-entry.ensures.step, c.child_at-base.ensures.step, c.tick.ensures)
+    let left = expand_looks (state_of f) (state_of c.enter_scanned.new.self) h.depth c.args.b (nested_of f h.shape) h.state c.requires.can (opened_is g c) h.shape.graph.graph in
+    let vs : c.drop_entry.new.search.scanned.items ≡ members_of f.arena.blossoms c.args.b = vertices_are c.args.search.now c.scan_node.new.search c.lay_open-base.new.search c.enlist_circuit.new.search c.drop_entry.new.search c.requires.sound c.enlist_circuit.ensures.sound c.args.b c.lay_open-base.result c.requires.can c.lay_open-base.ensures.expanded
+    c.scan_node.ensures.rest c.lay_open-base.ensures.rest c.enlist_circuit.ensures.rest c.drop_entry.ensures.rest c.lay_open-base.ensures.base c.lay_open-base.ensures.circuit c.lay_open-base.ensures.all c.scan_node.ensures.scanned in
+    let ends : ends_around c.args.graph.now c.drop_entry.new.search.scanned.items ≡ ends_around f.graph (members_of f.arena.blossoms c.args.b) =
+    ap (λ (d : Multigraph). ends_around d c.drop_entry.new.search.scanned.items) c.requires.same ∙ ap (ends_around f.graph) vs in
+    omega (arith, left, ends, c.enter_scanned.ensures.looks, c.tick.ensures)

@@ -54,6 +54,7 @@ returns-clause-sound c =
         parents = h.parents;
         mates = c.set_edge.ensures.len ∙ h.mates;
         circuit = h.circuit;
+        room = h.room;
       };
       depth = put can.depth node (can.depth c.args.base);
       state = subst (λ (t : State). IsSearchState t (put can.depth node (can.depth c.args.base))) (sym state)

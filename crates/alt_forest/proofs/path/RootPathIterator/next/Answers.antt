@@ -1,4 +1,4 @@
-use Rattle.std.proofs.Common.{◌≡◌, ℕ, ◌-◌, ◌∷◌, length, sym, ap, ◌∙◌, subst, arith, ⊎_elim}
+use Rattle.std.proofs.Common.{◌≡◌, ℕ, ◌-◌, ◌∷◌, length, sym, ap, ap₂, ◌∙◌, subst, arith, ⊎_elim}
 use Rattle.alt_forest.specs.State.{IsOutermost}
 use Rattle.alt_forest.specs.Trees.{path_within, up_of}
 use Rattle.alt_forest.specs.Searches.{state_of}
@@ -24,3 +24,11 @@ returns-clause-goes c =
     let next : length (path_within (left - 1) s (up_of s a)) ≡ length (path_within (left - 1) s c.up-self-inside.result) = ap (λ x. length (path_within (left - 1) s x)) (sym c.up-self-inside.ensures) in
     let old : length (path_within left s a) ≡ length c.args.self.now = ap length c.self.view_is in
     record { on = λ fin. (tt, tt, omega arith); keeps = tt; rests = λ fin. tt }
+
+pub returns-clause-steps : goal.returns-clause-steps
+returns-clause-steps c =
+    let s = state_of c.self.inside.search.now in
+    let a : ℕ = c.self.inside.at in
+    let left : ℕ = c.self.inside.left in
+    let view : c.args.self.now ≡ path_within left s a = sym c.self.view_is in
+    view ∙ path_step left s a c.if-self-eq0.false c.if-self-eq0-2.false ∙ ap₂ (λ (x y : ℕ). x ∷ path_within (left - 1) s y) (sym c.new.ensures) (sym c.up-self-inside.ensures)

@@ -1,17 +1,51 @@
-use Rattle.std.proofs.Common.{◌∙◌}
-use Rattle.alt_forest.specs.Searches.{state_of, label_at}
-use Rattle.alt_forest.proofs.Relabelled.{with_labels, cleared}
+use Rattle.std.proofs.Common.{◌∙◌, ℕ, sym, ap, subst}
+use Rattle.edge_queue.specs.Moments.{Moments, moment_of}
+use Rattle.edge_queue.proofs.Maps.{new_has_none}
+use Rattle.alt_forest.specs.declared.search.Search.{Search}
+use Rattle.alt_forest.specs.Standing.{AreListed}
+use Rattle.alt_forest.specs.Searches.{HasShape, IsSound, state_of, label_at}
+use Rattle.alt_forest.proofs.Relabelled.{cleared}
 use Rattle.alt_forest.proofs.Counted.{no_roots}
+use Rattle.alt_forest.proofs.NoTree.{none_queued, none_standing, room_cleared}
 use Rattle.alt_forest.proofs.search.Search.clear.Goals as goal
+
+pub dismiss-requires : goal.dismiss-requires
+dismiss-requires c =
+    let h = c.requires.sound.shape in
+    record {
+      shape = record {
+        graph = h.graph;
+        family = h.family;
+        arena = h.arena;
+        labels = c.wipe_labels.ensures.len ∙ h.labels;
+        parents = h.parents;
+        mates = h.mates;
+        circuit = h.circuit;
+        room = room_cleared c.args.self.now c.clear.new.self c.clear.ensures h;
+      };
+    }
 
 pub returns-clause-sound : goal.returns-clause-sound
 returns-clause-sound c =
     let h = c.requires.sound in
-    record {
-      shape = record { graph = h.shape.graph; family = h.shape.family; arena = h.shape.arena; labels = c.wipe_labels.ensures.len ∙ h.shape.labels; parents = h.shape.parents; mates = h.shape.mates; circuit = h.shape.circuit };
+    subst IsSound (sym c.dismiss.ensures.rest) (record {
+      shape = subst HasShape c.dismiss.ensures.rest c.dismiss.ensures.shape;
       depth = h.depth;
       state = cleared (state_of c.args.self.now) (label_at c.wipe_labels.new.labels.items) h.depth h.state c.wipe_labels.ensures.out;
-    }
+    })
 
 pub returns-clause-trees : goal.returns-clause-trees
-returns-clause-trees c = no_roots (with_labels (state_of c.args.self.now) (label_at c.wipe_labels.new.labels.items)) c.wipe_labels.ensures.out
+returns-clause-trees c = no_roots (state_of c.dismiss.new.self) (λ a. ap (λ (s : Search). label_at s.labels.items a) c.dismiss.ensures.rest ∙ c.wipe_labels.ensures.out a)
+
+pub returns-clause-queued : goal.returns-clause-queued
+returns-clause-queued c =
+    none_queued c.dismiss.new.self
+    (λ a. ap (λ (s : Search). label_at s.labels.items a) c.dismiss.ensures.rest ∙ c.wipe_labels.ensures.out a)
+    (ap (λ (s : Search). s.clock) c.dismiss.ensures.rest)
+    (λ item. ap (λ (s : Search). moment_of s.queue item) c.dismiss.ensures.rest ∙ ap (λ (q : Moments). moment_of q item) c.clear.ensures ∙ new_has_none _ _ item)
+
+pub returns-clause-standing : goal.returns-clause-standing
+returns-clause-standing c =
+    none_standing c.dismiss.new.self
+    (λ a. ap (λ (s : Search). label_at s.labels.items a) c.dismiss.ensures.rest ∙ c.wipe_labels.ensures.out a)
+    (subst (λ (n : ℕ). AreListed n c.dismiss.new.self.standing.items c.dismiss.new.self.stands.items) (sym (ap (λ (s : Search). s.graph.vertices) c.dismiss.ensures.rest)) c.dismiss.ensures.listed)

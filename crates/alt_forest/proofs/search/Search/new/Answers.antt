@@ -1,40 +1,68 @@
-use Rattle.std.proofs.Common.{◌≡◌, ◌∙◌, ℕ, ◌+◌, pos, List, refl, ap, subst, sym, arith}
+use Rattle.std.proofs.Common.{◌≡◌, ◌∙◌, ℕ, ◌+◌, ℤ, pos, List, length, Option, None, refl, ap, subst, sym, arith}
+use Rattle.std.proofs.lemmas.List.{length-replicate}
 use Rattle.graph_theory.specs.Graph.{Multigraph}
 use Rattle.graph_theory.specs.Nested.{most_blossoms}
 use Rattle.blossom_arena.specs.Family.{Family, dual_at, empty_family}
-use Rattle.alt_forest.specs.declared.label.Label.{Label}
-use Rattle.alt_forest.specs.declared.label.Label.TheVariants.{Out}
+use Rattle.edge_queue.specs.Moments.{Moments, moment_of}
+use Rattle.edge_queue.proofs.Maps.{new_has_none}
 use Rattle.alt_forest.specs.declared.label.Weights.TheVariants.{Zero}
 use Rattle.alt_forest.specs.Trees.{node_limit}
-use Rattle.alt_forest.specs.Searches.{IsSearchGraph, label_at}
+use Rattle.alt_forest.specs.Searches.{IsSearchGraph}
+use Rattle.alt_forest.specs.Standing.{AreListed}
 use Rattle.alt_forest.proofs.Fresh.{fresh, fresh_slack, same_entry}
+use Rattle.alt_forest.proofs.Listed.{none_listed}
+use Rattle.alt_forest.proofs.NoTree.{none_queued, none_standing}
 use Rattle.alt_forest.proofs.search.Search.new.Goals as goal
 
-pub returns-clause-labels : goal.returns-clause-labels
-returns-clause-labels c = λ a. ap (λ (ls : List Label). label_at ls a) (c.in_ok-vec.ensures.items_if_clones_equal (λ y e. e)) ∙ same_entry _ a Out
-
-pub returns-clause-sound : goal.returns-clause-sound
-returns-clause-sound c =
+pub returns-clause-shape : goal.returns-clause-shape
+returns-clause-shape c =
     let g : Multigraph = c.args.graph.now in
     let same : c.in_ok-copy.copy ≡ g = c.in_ok-copy.ensures in
     let empty : c.in_ok-arena.arena ≡ empty_family c.vertices.result = c.in_ok-arena.ensures.family in
     let count : c.in_ok-arena.arena.vertex_count ≡ g.vertices = ap (λ (f : Family). f.vertex_count) empty ∙ c.vertices.ensures.count in
     let graph : IsSearchGraph c.in_ok-copy.copy = subst IsSearchGraph (sym same) c.requires.graph in
     let few : c.in_ok-arena.arena.vertex_count ≡ c.in_ok-copy.copy.vertices = count ∙ sym (ap (λ (k : Multigraph). k.vertices) same) in
-    let limit : c.node_limit.result ≡ node_limit c.in_ok-copy.copy.vertices = c.node_limit.ensures.limit ∙ ap (λ (n : ℕ). n + most_blossoms n) few in
-    let out : (a : ℕ) → label_at c.in_ok-vec.field-0.items a ≡ Out = λ a. ap (λ (ls : List Label). label_at ls a) (c.in_ok-vec.ensures.items_if_clones_equal (λ y e. e)) ∙ same_entry _ a Out in
+    let limit : c.node_limit-limit.result ≡ node_limit c.in_ok-copy.copy.vertices = c.node_limit-limit.ensures.limit ∙ ap (λ (n : ℕ). n + most_blossoms n) few in
+    let vertices : c.vertices-2.result ≡ c.in_ok-copy.copy.vertices = c.vertices-2.ensures.count ∙ sym (ap (λ (k : Multigraph). k.vertices) same) in
+    let edges : c.edges.result ≡ length c.in_ok-copy.copy.edges = c.edges.ensures.count ∙ sym (ap (λ (k : Multigraph). length k.edges) same) in
+    let none : Option ℤ = None in
     record {
-      shape = record {
-        graph = graph;
-        family = c.in_ok-arena.ensures.good;
-        arena = few;
-        labels = c.in_ok-vec.ensures.len ∙ ap (λ (n : ℕ). n + 1) limit;
-        parents = c.in_ok-no_edges.ensures.len ∙ ap (λ (n : ℕ). n + 1) limit;
-        mates = c.in_ok-no_edges-2.ensures.len ∙ ap (λ (n : ℕ). n + 1) limit;
-        circuit = omega (arith, c.in_ok-room_for.ensures, ap (λ (k : Multigraph). k.vertices) same, c.vertices-2.ensures.count);
+      graph = graph;
+      family = c.in_ok-arena.ensures.good;
+      arena = few;
+      labels = c.in_ok-labels.ensures.label_places ∙ ap (λ (n : ℕ). n + 1) limit;
+      parents = c.in_ok-labels.ensures.parent_places ∙ ap (λ (n : ℕ). n + 1) limit;
+      mates = c.in_ok-labels.ensures.mate_places ∙ ap (λ (n : ℕ). n + 1) limit;
+      circuit = omega (arith, c.in_ok-circuit.ensures.circuit, vertices);
+      room = record {
+        index = c.in_ok-incidence.ensures.index;
+        edges = ap (λ (q : Moments). length q.edges) c.in_ok-queue.ensures ∙ length-replicate c.edges.result none ∙ edges;
+        nodes = ap (λ (q : Moments). length q.blossoms) c.in_ok-queue.ensures ∙ length-replicate c.node_limit-limit.result none ∙ limit;
+        standing = omega (arith, c.in_ok-circuit.ensures.standing, limit);
+        stands = c.in_ok-labels.ensures.stand_places ∙ ap (λ (n : ℕ). n + 1) limit;
+        scanned = omega (arith, c.in_ok-circuit.ensures.scanned, vertices);
       };
+    }
+
+pub returns-clause-sound : goal.returns-clause-sound
+returns-clause-sound c =
+    let g : Multigraph = c.args.graph.now in
+    let same : c.in_ok-copy.copy ≡ g = c.in_ok-copy.ensures in
+    let empty : c.in_ok-arena.arena ≡ empty_family c.vertices.result = c.in_ok-arena.ensures.family in
+    let graph : IsSearchGraph c.in_ok-copy.copy = subst IsSearchGraph (sym same) c.requires.graph in
+    record {
+      shape = returns-clause-shape c;
       depth = λ a. 0;
-      state = fresh _ (ap (λ (f : Family). f.blossoms) empty) out c.in_ok-no_edges-2.ensures.none
+      state = fresh _ (ap (λ (f : Family). f.blossoms) empty) c.in_ok-labels.ensures.labels c.in_ok-labels.ensures.mates
           (fresh_slack c.in_ok-copy.copy Zero (dual_at c.in_ok-arena.arena.duals) (pos 0) c.in_ok-arena.arena.blossoms graph.graph (ap (λ (f : Family). f.blossoms) empty)
           (λ v iv. ap (λ (f : Family). dual_at f.duals v) empty ∙ same_entry _ v (pos 0)) refl);
     }
+
+pub returns-clause-queued : goal.returns-clause-queued
+returns-clause-queued c = none_queued _ c.in_ok-labels.ensures.labels refl (λ item. ap (λ (q : Moments). moment_of q item) c.in_ok-queue.ensures ∙ new_has_none _ _ item)
+
+pub returns-clause-standing : goal.returns-clause-standing
+returns-clause-standing c =
+    let n : ℕ = c.in_ok-copy.copy.vertices in
+    none_standing _ c.in_ok-labels.ensures.labels
+    (subst (λ (xs : List ℕ). AreListed n xs c.in_ok-labels.field-0.stands.items) (sym c.in_ok-circuit.ensures.none) (none_listed n c.in_ok-labels.field-0.stands.items c.in_ok-labels.ensures.stands))

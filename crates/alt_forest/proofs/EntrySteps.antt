@@ -1,0 +1,87 @@
+-- Edges are given their moments one by one: those at a vertex, and those at each of some vertices.
+use Rattle.std.proofs.Common.{◌≡◌, ◌≢◌, ℕ, ◌+◌, ◌<◌, ◌≤◌, Bool, true, false, ◌||◌, eqb, List, [], ◌∷◌, length, get_or, Option, refl, sym, ap, ap₂, ◌∙◌, subst, arith}
+use Rattle.std.specs.Prelude.{ℤ, slice_index_or}
+use Rattle.std.proofs.lemmas.List.{get_or_read}
+use Rattle.std.proofs.lemmas.Bool.{eqb-true, eqb-false, both_ways}
+use Rattle.graph_theory.specs.declared.edge.Edge.{Edge as GraphEdge}
+use Rattle.graph_theory.specs.Parts.{holds}
+use Rattle.graph_theory.specs.Graph.{Multigraph, IsEdgeNumber, edge_of, edges_around, touches}
+use Rattle.graph_theory.proofs.Around.{around-has, around-at}
+use Rattle.graph_theory.proofs.Members.{holds_place, eqb-turned}
+use Rattle.blossom_arena.specs.Family.{is_vertex}
+use Rattle.blossom_arena.proofs.Lists.{by_test}
+use Rattle.blossom_arena.proofs.Nested.{vertex_range}
+use Rattle.edge_queue.specs.declared.item.Item.TheVariants.{Edge}
+use Rattle.edge_queue.specs.Moments.{Moments, moment_of, entry}
+use Rattle.alt_forest.specs.declared.search.Search.{Search}
+use Rattle.alt_forest.specs.State.{State}
+use Rattle.alt_forest.specs.Searches.{HasShape, state_of}
+use Rattle.alt_forest.specs.Entries.{NeedsMoment, IsEntered, IsQueuedBut, touches_any}
+
+-- a queue that has the same for an edge gives it what it needs just so
+pub entered_same : (s : State) (clock : ℤ) (q r : Moments) (e : ℕ) → moment_of r (Edge e) ≡ moment_of q (Edge e) → IsEntered s clock q e → IsEntered s clock r e
+entered_same s clock q r e same h = subst (NeedsMoment s clock e) (sym same) h
+
+-- an edge more of a list
+pub entered_next : (s : State) (clock : ℤ) (q r : Moments) (xs : List ℕ) (k e : ℕ) → e ≡ get_or xs k 0
+    → ((i : ℕ) → i < k → IsEntered s clock q (get_or xs i 0)) → IsEntered s clock r e → ((d : ℕ) → d ≢ e → moment_of r (Edge d) ≡ moment_of q (Edge d))
+    → (i : ℕ) → i < k + 1 → IsEntered s clock r (get_or xs i 0)
+entered_next s clock q r xs k e is before here others i low = by_test (eqb (get_or xs i 0) e)
+    (λ t. subst (IsEntered s clock r) (sym (eqb-true (get_or xs i 0) e t)) here)
+    (λ t. let ne : get_or xs i 0 ≢ e = eqb-false (get_or xs i 0) e t in
+    let earlier : i ≢ k = λ q. ne (ap (λ j. get_or xs j 0) q ∙ sym is) in
+    entered_same s clock q r (get_or xs i 0) (others (get_or xs i 0) ne) (before i (omega (arith, low, earlier))))
+
+pub others_next : (g : Multigraph) (v : ℕ) (first q r : Moments) (e : ℕ) → touches (edge_of g e) v ≡ true
+    → ((d : ℕ) → IsEdgeNumber g d → touches (edge_of g d) v ≡ false → moment_of q (Edge d) ≡ moment_of first (Edge d)) → ((d : ℕ) → d ≢ e → moment_of r (Edge d) ≡ moment_of q (Edge d))
+    → (d : ℕ) → IsEdgeNumber g d → touches (edge_of g d) v ≡ false → moment_of r (Edge d) ≡ moment_of first (Edge d)
+others_next g v first q r e touched before others d is missed = others d (λ p. both_ways (touches (edge_of g e) v) (ap (λ x. touches (edge_of g x) v) (sym p) ∙ missed) touched) ∙ before d is missed
+
+-- what holds of the edges at a vertex by their places holds of them all
+pub by_places : (P : ℕ → Type 0) (g : Multigraph) (v : ℕ) → ((i : ℕ) → i < length (edges_around g v) → P (get_or (edges_around g v) i 0)) → (e : ℕ) → IsEdgeNumber g e → touches (edge_of g e) v ≡ true → P e
+by_places P g v h e is touched =
+    let at = holds_place (edges_around g v) e (around-has g v e is touched) in
+    subst P at.2 (h at.0 at.1)
+
+-- the index has the edges at a vertex
+pub index_list : (s : Search) (g : Multigraph) (v : ℕ) (xs : List ℕ) → HasShape s → g ≡ s.graph → is_vertex g.vertices v ≡ true → xs ≡ slice_index_or s.incidence v [] → xs ≡ edges_around g v
+index_list s g v xs h same vertex is =
+    let range = vertex_range g.vertices v vertex in
+    let within : v ≤ s.graph.vertices = omega (arith, range.1, ap (λ (k : Multigraph). k.vertices) same) in
+    is ∙ h.room.index.exact v within ∙ ap (λ (k : Multigraph). edges_around k v) (sym same)
+
+pub listed_edge : (g : Multigraph) (v : ℕ) (xs : List ℕ) (k e : ℕ) → xs ≡ edges_around g v → k < length xs → e ≡ get_or xs k e → e ≡ get_or (edges_around g v) k 0
+listed_edge g v xs k e list low is = get_or_read xs k e low is 0 ∙ ap (λ (ys : List ℕ). get_or ys k 0) list
+
+pub edge_there : (g : Multigraph) (v : ℕ) (xs : List ℕ) (k e : ℕ) → xs ≡ edges_around g v → k < length xs → e ≡ get_or xs k e → IsEdgeNumber g e × (touches (edge_of g e) v ≡ true)
+edge_there g v xs k e list low is =
+    subst (λ d. IsEdgeNumber g d × (touches (edge_of g d) v ≡ true)) (sym (listed_edge g v xs k e list low is)) (around-at g v k 0 (omega (arith, low, ap length list)))
+
+-- an edge that no vertex of a longer list touches
+neither : (p q r t : Bool) → (p || q) ≡ false → (r || t) ≡ false → ((p || r) || (q || t)) ≡ false
+neither false false false false e f = refl
+neither false false false true e f = f
+neither false false true t e f = f
+neither false true false t e f = e
+neither false true true t e f = e
+neither true q r t e f = e
+
+touches_more : (v : ℕ) (vs : List ℕ) (e : GraphEdge) → touches e v ≡ false → touches_any vs e ≡ false → touches_any (v ∷ vs) e ≡ false
+touches_more v vs e missed none =
+    neither (eqb v e.u) (eqb v e.v) (holds vs e.u) (holds vs e.v)
+    (ap₂ (λ (a b : Bool). a || b) (eqb-turned v e.u) (eqb-turned v e.v) ∙ missed) none
+
+-- the edges at a vertex more are entered
+pub vertex_entered : (s r : Search) (v : ℕ) (vs : List ℕ) → r ≡ record s { queue = r.queue } → IsQueuedBut s (v ∷ vs)
+    → ((e : ℕ) → IsEdgeNumber s.graph e → touches (edge_of s.graph e) v ≡ true → IsEntered (state_of s) s.clock r.queue e)
+    → ((e : ℕ) → IsEdgeNumber s.graph e → touches (edge_of s.graph e) v ≡ false → moment_of r.queue (Edge e) ≡ moment_of s.queue (Edge e))
+    → r.queue.blossoms ≡ s.queue.blossoms → IsQueuedBut r vs
+vertex_entered s r v vs rest h here others blossoms = subst (λ (x : Search). IsQueuedBut x vs) (sym rest) (record {
+  low = h.low;
+  high = h.high;
+  edges = λ e is none. by_test (touches (edge_of s.graph e) v)
+      (λ t. here e is t)
+      (λ t. entered_same (state_of s) s.clock s.queue r.queue e (others e is t) (h.edges e is (touches_more v vs (edge_of s.graph e) t none)));
+  blossoms = λ b name is lab. ap (λ (xs : List (Option ℤ)). entry xs b) blossoms ∙ h.blossoms b name is lab;
+  tree = h.tree;
+})

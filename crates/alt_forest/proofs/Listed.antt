@@ -1,0 +1,77 @@
+-- The list of nodes that changes of duals run over, with one node more and with none.
+use Rattle.std.proofs.Common.{◌≡◌, ℕ, ◌<◌, ◌≤◌, Bool, true, false, ◌||◌, eqb, List, [], ◌∷◌, ◌++◌, length, refl, sym, ap, ◌∙◌, arith}
+use Rattle.std.specs.Prelude.{slice_set}
+use Rattle.std.proofs.lemmas.Bool.{eqb-true, eqb-false, eq-eqb}
+use Rattle.std.proofs.lemmas.Bool.Decides.{nat_tests}
+use Rattle.std.proofs.lemmas.List.{get_or-set_other, get_or-set_same}
+use Rattle.graph_theory.specs.Parts.{holds}
+use Rattle.graph_theory.proofs.Members.{holds-push, holds_all, all_holds}
+use Rattle.blossom_arena.proofs.Lists.{by_test, AllNew, new_from_distinct, distinct_from_new, new-append, length-within, vertices, holds-vertices, length-vertices, distinct_none}
+use Rattle.alt_forest.specs.Standing.{AreListed, flag_at}
+use Rattle.alt_forest.specs.Trees.{node_limit}
+
+-- an or by its second part
+or_second : (a b : Bool) → a ≡ false → (a || b) ≡ b
+or_second a b e = ap (λ t. t || b) e
+
+or_first : (a b : Bool) → b ≡ false → (a || b) ≡ a
+or_first true b e = refl
+or_first false b e = e
+
+-- a number that the list doesn't have goes to its end
+pub holds_more : (nodes : List ℕ) (a c : ℕ) → holds nodes c ≡ true → holds (nodes ++ a ∷ []) c ≡ true
+holds_more nodes a c e = holds-push nodes a c ∙ ap (λ t. t || eqb a c) e
+
+pub holds_last : (nodes : List ℕ) (a : ℕ) → holds (nodes ++ a ∷ []) a ≡ true
+holds_last nodes a = holds-push nodes a a ∙ either (holds nodes a) (eqb a a) (eq-eqb a a refl)
+  where
+    either : (p q : Bool) → q ≡ true → (p || q) ≡ true
+    either true q e = refl
+    either false q e = e
+
+-- a node that isn't listed finds room: all nodes that are listed and this one are different numbers up to the limit
+pub room_left : (n : ℕ) (nodes : List ℕ) (flags : List Bool) (a : ℕ) → AreListed n nodes flags → 1 ≤ a → a ≤ node_limit n → flag_at flags a ≡ false → length nodes < node_limit n
+room_left n nodes flags a h low high free =
+    let fresh : holds nodes a ≡ false = sym (h.flagged a) ∙ free in
+    let all : AllNew (a ∷ nodes) = (fresh, new_from_distinct nodes h.different) in
+    let within = length-within (a ∷ nodes) (vertices (node_limit n)) all inside in
+    omega (arith, within, length-vertices (node_limit n))
+  where
+    is_number : (m v : ℕ) → 1 ≤ v → v ≤ m → holds (vertices m) v ≡ true
+    is_number m v l u = holds-vertices m v ∙ grind (arith, nat_tests)
+
+    inside : (v : ℕ) → holds (a ∷ nodes) v ≡ true → holds (vertices (node_limit n)) v ≡ true
+    inside v e = by_test (eqb a v)
+        (λ t. let same : a ≡ v = eqb-true a v t in is_number (node_limit n) v (omega (arith, same)) (omega (arith, same)))
+        (λ t. let r = holds_all (λ c. (1 ≤ c) × (c ≤ node_limit n)) nodes v h.in_range (sym (or_second (eqb a v) (holds nodes v) t) ∙ e) in is_number (node_limit n) v r.0 r.1)
+
+-- one node more, with its flag
+pub listed_more : (n : ℕ) (nodes : List ℕ) (flags : List Bool) (a : ℕ) → AreListed n nodes flags → 1 ≤ a → a ≤ node_limit n → a < length flags → flag_at flags a ≡ false → AreListed n (nodes ++ a ∷ []) (slice_set flags a true)
+listed_more n nodes flags a h low high place free = record {
+  different = distinct_from_new (nodes ++ a ∷ []) (new-append nodes (a ∷ []) (new_from_distinct nodes h.different) (refl, tt) (λ v e. apart v e));
+  in_range = all_holds (λ c. (1 ≤ c) × (c ≤ node_limit n)) (nodes ++ a ∷ []) (λ v e. ranged v e);
+  flagged = λ c. flags_of c;
+}
+  where
+    fresh : holds nodes a ≡ false
+    fresh = sym (h.flagged a) ∙ free
+
+    apart : (v : ℕ) → holds nodes v ≡ true → holds (a ∷ []) v ≡ false
+    apart v e = by_test (eqb a v)
+        (λ t. let no : true ≡ false = sym e ∙ ap (holds nodes) (sym (eqb-true a v t)) ∙ fresh in absurd (cc))
+        (λ t. ap (λ q. q || false) t)
+
+    ranged : (v : ℕ) → holds (nodes ++ a ∷ []) v ≡ true → (1 ≤ v) × (v ≤ node_limit n)
+    ranged v e = by_test (eqb a v)
+        (λ t. let same : a ≡ v = eqb-true a v t in (omega (arith, same), omega (arith, same)))
+        (λ t. holds_all (λ c. (1 ≤ c) × (c ≤ node_limit n)) nodes v h.in_range (sym (or_first (holds nodes v) (eqb a v) t) ∙ sym (holds-push nodes a v) ∙ e))
+
+    flags_of : (c : ℕ) → flag_at (slice_set flags a true) c ≡ holds (nodes ++ a ∷ []) c
+    flags_of c = by_test (eqb a c)
+        (λ t. let same : a ≡ c = eqb-true a c t in
+        ap (flag_at (slice_set flags a true)) (sym same) ∙ get_or-set_same flags a true false place ∙ sym (holds_last nodes a) ∙ ap (holds (nodes ++ a ∷ [])) same)
+        (λ t. get_or-set_other flags a c true false (λ q. eqb-false a c t (sym q)) ∙ h.flagged c ∙ sym (or_first (holds nodes c) (eqb a c) t) ∙ sym (holds-push nodes a c))
+
+-- no node is listed where no flag says so
+pub none_listed : (n : ℕ) (flags : List Bool) → ((c : ℕ) → flag_at flags c ≡ false) → AreListed n [] flags
+none_listed n flags none = record { different = distinct_none; in_range = all_holds (λ c. (1 ≤ c) × (c ≤ node_limit n)) [] (λ v e. let no : false ≡ true = e in absurd (cc)); flagged = λ c. none c }

@@ -1,0 +1,101 @@
+-- Which moment an edge needs, by the labels of the nodes at its ends.
+use Rattle.std.proofs.Common.{◌≡◌, ◌≢◌, ℕ, Option, Some, None, refl, sym, ap, ◌∙◌, subst, ⊎_elim, inl, inr}
+use Rattle.std.specs.Prelude.{ℤ, ◌+ℤ◌}
+use Rattle.alt_forest.specs.declared.label.Label.{Label}
+use Rattle.alt_forest.specs.declared.label.Label.TheVariants.{Outer, Inner, Out}
+use Rattle.alt_forest.specs.State.{State, Joins, node_u, node_v, slack_of}
+use Rattle.alt_forest.specs.Entries.{NeedsMoment}
+use Rattle.alt_forest.proofs.Relabelled.{outer_not_out, outer_not_inner, inner_not_out}
+
+-- what is asked of a moment between two different nodes with these labels
+abbrev pub MomentBy : Label → Label → ℤ → ℤ → Option ℤ → Type 0
+MomentBy Outer Outer clock slack m = (half : ℤ) → slack ≡ half +ℤ half → m ≡ Some (clock +ℤ half)
+MomentBy Outer Out clock slack m = m ≡ Some (clock +ℤ slack)
+MomentBy Out Outer clock slack m = m ≡ Some (clock +ℤ slack)
+MomentBy one other clock slack m = Unit {0}
+
+turned : (one other : Label) (clock slack : ℤ) (m : Option ℤ) → MomentBy one other clock slack m → MomentBy other one clock slack m
+turned Outer Outer clock slack m h = h
+turned Outer Inner clock slack m h = tt
+turned Outer Out clock slack m h = h
+turned Inner Outer clock slack m h = tt
+turned Inner Inner clock slack m h = tt
+turned Inner Out clock slack m h = tt
+turned Out Outer clock slack m h = h
+turned Out Inner clock slack m h = tt
+turned Out Out clock slack m h = tt
+
+-- what holds of the two nodes at an edge holds of any two nodes that it joins
+by_nodes : (s : State) (clock : ℤ) (e : ℕ) (m : Option ℤ) (a b : ℕ) → Joins s.graph s.blossoms e a b → a ≢ b
+    → (node_u s.graph s.blossoms e ≢ node_v s.graph s.blossoms e → MomentBy (s.label (node_u s.graph s.blossoms e)) (s.label (node_v s.graph s.blossoms e)) clock (slack_of s e) m)
+    → MomentBy (s.label a) (s.label b) clock (slack_of s e) m
+by_nodes s clock e m a b j ne h = ⊎_elim
+    (λ p. subst (λ x. MomentBy (s.label x) (s.label b) clock (slack_of s e) m) p.0
+    (subst (λ y. MomentBy (s.label (node_u s.graph s.blossoms e)) (s.label y) clock (slack_of s e) m) p.1 (h (λ q. ne (sym p.0 ∙ q ∙ p.1)))))
+    (λ p. subst (λ x. MomentBy (s.label x) (s.label b) clock (slack_of s e) m) p.1
+    (subst (λ y. MomentBy (s.label (node_v s.graph s.blossoms e)) (s.label y) clock (slack_of s e) m) p.0
+    (turned (s.label (node_u s.graph s.blossoms e)) (s.label (node_v s.graph s.blossoms e)) clock (slack_of s e) m (h (λ q. ne (sym p.1 ∙ sym q ∙ p.0))))))
+    j
+
+-- an edge has what it needs where its nodes are the same, or it has what is asked by their labels
+pub needs_by : (s : State) (clock : ℤ) (e : ℕ) (m : Option ℤ)
+    → (node_u s.graph s.blossoms e ≢ node_v s.graph s.blossoms e → MomentBy (s.label (node_u s.graph s.blossoms e)) (s.label (node_v s.graph s.blossoms e)) clock (slack_of s e) m)
+    → NeedsMoment s clock e m
+needs_by s clock e m h = record {
+  to_out = λ a b j la lb.
+      let by = by_nodes s clock e m a b j (λ q. outer_not_out (sym la ∙ ap s.label q ∙ lb)) h in
+      subst (λ l. MomentBy Outer l clock (slack_of s e) m) lb (subst (λ l. MomentBy l (s.label b) clock (slack_of s e) m) la by);
+  between = λ a b half j ne la lb twice.
+      let by = by_nodes s clock e m a b j ne h in
+      (subst (λ l. MomentBy Outer l clock (slack_of s e) m) lb (subst (λ l. MomentBy l (s.label b) clock (slack_of s e) m) la by)) half twice;
+}
+
+-- and what it needs is what is asked
+pub asked_by : (s : State) (clock : ℤ) (e : ℕ) (m : Option ℤ) (a b : ℕ) → NeedsMoment s clock e m → Joins s.graph s.blossoms e a b → a ≢ b → MomentBy (s.label a) (s.label b) clock (slack_of s e) m
+asked_by s clock e m a b h j ne = of_labels (s.label a) (s.label b) refl refl
+  where
+    of_labels : (one other : Label) → s.label a ≡ one → s.label b ≡ other → MomentBy one other clock (slack_of s e) m
+    of_labels Outer Outer la lb = λ half twice. h.between a b half j ne la lb twice
+    of_labels Outer Inner la lb = tt
+    of_labels Outer Out la lb = h.to_out a b j la lb
+    of_labels Inner Outer la lb = tt
+    of_labels Inner Inner la lb = tt
+    of_labels Inner Out la lb = tt
+    of_labels Out Outer la lb = h.to_out b a (⊎_elim (λ p. inr (p.0, p.1)) (λ p. inl (p.0, p.1)) j) lb la
+    of_labels Out Inner la lb = tt
+    of_labels Out Out la lb = tt
+
+-- an edge at an inner node needs no moment
+pub needs_none_inner : (s : State) (clock : ℤ) (e a b : ℕ) (m : Option ℤ) → Joins s.graph s.blossoms e a b → s.label a ≡ Inner → NeedsMoment s clock e m
+needs_none_inner s clock e a b m j inner = record {
+  to_out = λ c d k lc ld. absurd (⊎_elim
+      (λ p. at_ends c d k (λ q. outer_not_inner (sym lc ∙ q)) (λ q. inner_not_out (sym q ∙ ld)))
+      (λ p. at_ends c d k (λ q. outer_not_inner (sym lc ∙ q)) (λ q. inner_not_out (sym q ∙ ld)))
+      j);
+  between = λ c d half k ne lc ld twice. absurd (at_ends c d k (λ q. outer_not_inner (sym lc ∙ q)) (λ q. outer_not_inner (sym ld ∙ q)));
+}
+  where
+    same_node : (c d : ℕ) → Joins s.graph s.blossoms e c d → (s.label c ≡ Inner → ⊥) → (s.label d ≡ Inner → ⊥) → (x : ℕ) → s.label x ≡ Inner → ((x ≡ node_u s.graph s.blossoms e → ⊥) × (x ≡ node_v s.graph s.blossoms e → ⊥))
+    same_node c d k nc nd x lx = ⊎_elim
+        (λ p. (λ q. nc (ap s.label (sym p.0 ∙ sym q) ∙ lx), λ q. nd (ap s.label (sym p.1 ∙ sym q) ∙ lx)))
+        (λ p. (λ q. nd (ap s.label (sym p.0 ∙ sym q) ∙ lx), λ q. nc (ap s.label (sym p.1 ∙ sym q) ∙ lx)))
+        k
+
+    at_ends : (c d : ℕ) → Joins s.graph s.blossoms e c d → (s.label c ≡ Inner → ⊥) → (s.label d ≡ Inner → ⊥) → ⊥
+    at_ends c d k nc nd = ⊎_elim
+        (λ p. (same_node c d k nc nd a inner).0 (sym p.0))
+        (λ p. (same_node c d k nc nd a inner).1 (sym p.1))
+        j
+
+-- an edge has what it needs where it has what is asked by the labels of the nodes at its ends
+pub needs_of : (s : State) (clock : ℤ) (e : ℕ) (m : Option ℤ) (one other : Label) → s.label (node_u s.graph s.blossoms e) ≡ one → s.label (node_v s.graph s.blossoms e) ≡ other → MomentBy one other clock (slack_of s e) m → NeedsMoment s clock e m
+needs_of s clock e m one other lu lv by = needs_by s clock e m (λ ne.
+    subst (λ l. MomentBy (s.label (node_u s.graph s.blossoms e)) l clock (slack_of s e) m) (sym lv)
+    (subst (λ l. MomentBy l other clock (slack_of s e) m) (sym lu) by))
+
+-- what needs nothing may have anything
+pub none_needed : (s : State) (clock : ℤ) (e : ℕ) (m : Option ℤ) → NeedsMoment s clock e None → NeedsMoment s clock e m
+none_needed s clock e m h = record {
+  to_out = λ a b j la lb. let no : (let o : Option ℤ = None in o) ≡ Some (clock +ℤ slack_of s e) = h.to_out a b j la lb in absurd (cc);
+  between = λ a b half j ne la lb twice. let no : (let o : Option ℤ = None in o) ≡ Some (clock +ℤ half) = h.between a b half j ne la lb twice in absurd (cc);
+}

@@ -1,0 +1,44 @@
+-- A search where no node is in a tree: nothing has a moment, and nothing need be listed for changes of duals.
+use Rattle.std.proofs.Common.{◌≡◌, ℕ, ℤ, pos, ◌≤ℤ◌, Option, None, length, vec_len, sym, ap, ◌∙◌, subst, arith}
+use Rattle.std.specs.Vec.{vec_capacity}
+use Rattle.std.proofs.lemmas.List.{length-replicate}
+use Rattle.std.proofs.lemmas.Int.{ints}
+use Rattle.graph_theory.specs.declared.limits.TheConstants.{NUMBER_LIMIT}
+use Rattle.edge_queue.specs.declared.item.Item.{Item}
+use Rattle.edge_queue.specs.Moments.{Moments, no_moments, moment_of}
+use Rattle.alt_forest.specs.declared.label.Label.TheVariants.{Out}
+use Rattle.alt_forest.specs.declared.search.Search.{Search}
+use Rattle.alt_forest.specs.Searches.{HasShape, HasRoom, label_at}
+use Rattle.alt_forest.specs.Entries.{IsQueued}
+use Rattle.alt_forest.specs.Standing.{AreListed, IsStanding}
+use Rattle.alt_forest.proofs.Relabelled.{outer_not_out, inner_not_out}
+
+within_limit : pos 0 ≤ℤ NUMBER_LIMIT
+within_limit = omega (arith, ints)
+
+pub none_queued : (s : Search) → ((a : ℕ) → label_at s.labels.items a ≡ Out) → s.clock ≡ pos 0 → ((item : Item) → moment_of s.queue item ≡ None) → IsQueued s
+none_queued s out clock none = record {
+  low = subst (λ (x : ℤ). pos 0 ≤ℤ x) (sym clock) (omega (arith, ints));
+  high = subst (λ (x : ℤ). x ≤ℤ NUMBER_LIMIT) (sym clock) within_limit;
+  edges = λ e is. record {
+    to_out = λ a b j la lb. outer_not_out (sym la ∙ out a);
+    between = λ a b half j ne la lb twice. outer_not_out (sym la ∙ out a);
+  };
+  blossoms = λ b name is lab. inner_not_out (sym lab ∙ out b);
+  still = λ no. clock;
+  empty = λ no item. none item;
+}
+
+pub none_standing : (s : Search) → ((a : ℕ) → label_at s.labels.items a ≡ Out) → AreListed s.graph.vertices s.standing.items s.stands.items → IsStanding s
+none_standing s out listed = record { listed = listed; trees = λ a is ne. absurd (ne (out a)) }
+
+-- a queue that is cleared has its places
+pub room_cleared : (s : Search) (q : Moments) → q ≡ no_moments (length s.queue.edges) (length s.queue.blossoms) → HasShape s → HasRoom s.graph s.incidence q (vec_capacity s.standing) (vec_len s.stands) (vec_capacity s.scanned)
+room_cleared s q is h = record {
+  index = h.room.index;
+  edges = ap (λ (r : Moments). length r.edges) is ∙ length-replicate (length s.queue.edges) (let none : Option ℤ = None in none) ∙ h.room.edges;
+  nodes = ap (λ (r : Moments). length r.blossoms) is ∙ length-replicate (length s.queue.blossoms) (let none : Option ℤ = None in none) ∙ h.room.nodes;
+  standing = h.room.standing;
+  stands = h.room.stands;
+  scanned = h.room.scanned;
+}

@@ -1,0 +1,139 @@
+-- What a root more leaves of the moments and of the nodes that are listed, before the edges at its vertices are looked at.
+use Rattle.std.proofs.Common.{◌≡◌, ◌≢◌, ℕ, ◌+◌, ◌*◌, ◌≤◌, Bool, true, false, not, eqb, cond, List, [], ◌∷◌, length, refl, sym, ap, ◌∙◌, subst, arith, ⊎_elim}
+use Rattle.std.specs.Prelude.{ℤ, Option}
+use Rattle.std.specs.List.{list_any}
+use Rattle.std.proofs.lemmas.Bool.{eqb-true, eqb-false, both_ways, or_cases, or_left, or_right}
+use Rattle.std.proofs.Math.Nat.{mul-le-mul_left}
+use Rattle.graph_theory.specs.Graph.{IsGraph, IsEdgeNumber, edge_of}
+use Rattle.graph_theory.specs.Parts.{holds}
+use Rattle.blossom_arena.specs.Family.{Blossom, IsNested, is_node, members_of, outermost}
+use Rattle.blossom_arena.proofs.Lists.{by_test, length-within, vertices, holds-vertices, length-vertices}
+use Rattle.blossom_arena.proofs.Nested.{outermost_parts}
+use Rattle.blossom_arena.proofs.Sets.{member_vertex, members_new, outermost_has, outermost_by_member}
+use Rattle.blossom_arena.proofs.Ends.{u_vertex, v_vertex}
+use Rattle.edge_queue.specs.declared.item.Item.TheVariants.{Edge}
+use Rattle.edge_queue.specs.Moments.{moment_of}
+use Rattle.alt_forest.specs.declared.label.Label.TheVariants.{Outer, Inner, Out}
+use Rattle.alt_forest.specs.declared.search.Search.{Search}
+use Rattle.alt_forest.specs.State.{State, IsOutermost, IsExposed, Joins, node_u, node_v}
+use Rattle.alt_forest.specs.Counts.{is_outside, outside_among}
+use Rattle.alt_forest.specs.Trees.{is_label}
+use Rattle.alt_forest.specs.Searches.{IsSound, state_of, label_at, put}
+use Rattle.alt_forest.specs.Entries.{NeedsMoment, IsQueued, IsQueuedBut, touches_any, ends_around, looks_left}
+use Rattle.alt_forest.specs.Standing.{AreListed, IsStanding}
+use Rattle.alt_forest.proofs.Places.{nested_of}
+use Rattle.alt_forest.proofs.Relabelled.{with_labels, put_here, put_other, outer_not_inner, outer_not_out}
+use Rattle.alt_forest.proofs.Looks.{outside_ends_fall}
+
+-- an edge with no end among the vertices of an outermost node leads past that node
+pub past_node : (s : State) (v e : ℕ) → IsGraph s.graph → IsNested s.graph.vertices s.blossoms → IsEdgeNumber s.graph e → touches_any (members_of s.blossoms v) (edge_of s.graph e) ≡ false
+    → (node_u s.graph s.blossoms e ≢ v) × (node_v s.graph s.blossoms e ≢ v)
+past_node s v e graph nested is none =
+    let u = outermost_has s.graph.vertices s.blossoms (edge_of s.graph e).u nested (u_vertex s.graph e graph.ends is) in
+    let w = outermost_has s.graph.vertices s.blossoms (edge_of s.graph e).v nested (v_vertex s.graph e graph.ends is) in (
+      λ q. both_ways (touches_any (members_of s.blossoms v) (edge_of s.graph e)) none (or_left (holds (members_of s.blossoms v) (edge_of s.graph e).u) (holds (members_of s.blossoms v) (edge_of s.graph e).v) (subst (λ x. holds (members_of s.blossoms x) (edge_of s.graph e).u ≡ true) q u.1)),
+      λ q. both_ways (touches_any (members_of s.blossoms v) (edge_of s.graph e)) none (or_right (holds (members_of s.blossoms v) (edge_of s.graph e).u) (holds (members_of s.blossoms v) (edge_of s.graph e).v) (subst (λ x. holds (members_of s.blossoms x) (edge_of s.graph e).v ≡ true) q w.1)),
+    )
+
+pub joins_past : (s : State) (v e a b : ℕ) → (node_u s.graph s.blossoms e ≢ v) × (node_v s.graph s.blossoms e ≢ v) → Joins s.graph s.blossoms e a b → (a ≢ v) × (b ≢ v)
+joins_past s v e a b past j = ⊎_elim
+    (λ p. (λ q. past.0 (p.0 ∙ q), λ q. past.1 (p.1 ∙ q)))
+    (λ p. (λ q. past.1 (p.1 ∙ q), λ q. past.0 (p.0 ∙ q)))
+    j
+
+-- such an edge needs the moment that it needed
+pub needs_past : (s : State) (clock : ℤ) (v e : ℕ) (m : Option ℤ) → (node_u s.graph s.blossoms e ≢ v) × (node_v s.graph s.blossoms e ≢ v) → NeedsMoment s clock e m → NeedsMoment (with_labels s (put s.label v Outer)) clock e m
+needs_past s clock v e m past h = record {
+  to_out = λ a b j la lb.
+      let ne = joins_past s v e a b past j in
+      h.to_out a b j (sym (put_other s.label v Outer a ne.0) ∙ la) (sym (put_other s.label v Outer b ne.1) ∙ lb);
+  between = λ a b half j differ la lb twice.
+      let ne = joins_past s v e a b past j in
+      h.between a b half j differ (sym (put_other s.label v Outer a ne.0) ∙ la) (sym (put_other s.label v Outer b ne.1) ∙ lb) twice;
+}
+
+-- the vertices of a node are no more than there are
+pub members_fit : (n : ℕ) (bs : List Blossom) (x : ℕ) → IsNested n bs → is_node n bs x ≡ true → length (members_of bs x) ≤ n
+members_fit n bs x nested is =
+    let within = length-within (members_of bs x) (vertices n) (members_new n bs x nested is) (λ v e. holds-vertices n v ∙ member_vertex n bs x v nested is e) in
+    omega (arith, within, length-vertices n)
+
+-- what a list has for any, a narrower test has for no more
+any_within : (p q : ℕ → Bool) (xs : List ℕ) → ((w : ℕ) → q w ≡ true → p w ≡ true) → list_any q xs ≡ true → list_any p xs ≡ true
+any_within p q [] within e = e
+any_within p q (x ∷ xs) within e = ⊎_elim
+    (λ h. or_left (p x) (list_any p xs) (within x h))
+    (λ h. or_right (p x) (list_any p xs) (any_within p q xs within h))
+    (or_cases (q x) (list_any q xs) e)
+
+one_within : (t u : Bool) → (u ≡ true → t ≡ true) → cond u 1 0 ≤ cond t 1 0
+one_within true true h = omega arith
+one_within true false h = omega arith
+one_within false true h = absurd (both_ways false refl (h refl))
+one_within false false h = omega arith
+
+-- where no vertex leaves the outer nodes, no blossom does
+pub among_within : (s t : State) (bs : List Blossom) → ((w : ℕ) → is_outside t w ≡ true → is_outside s w ≡ true) → outside_among t bs ≤ outside_among s bs
+among_within s t [] within = omega arith
+among_within s t (b ∷ older) within =
+    let here : cond (list_any (is_outside t) b.members) 1 0 ≤ cond (list_any (is_outside s) b.members) 1 0 = one_within (list_any (is_outside s) b.members) (list_any (is_outside t) b.members) (any_within (is_outside s) (is_outside t) b.members within) in
+    let rest = among_within s t older within in
+    omega (arith, here, rest)
+
+-- the vertices of the new root come into an outer node
+module _ (s : State) (v : ℕ) (nested : IsNested s.graph.vertices s.blossoms) (is : IsOutermost s v) (out : s.label v ≡ Out) where
+  pub root_inside : (w : ℕ) → is_outside (with_labels s (put s.label v Outer)) w ≡ true → is_outside s w ≡ true
+  root_inside w e = by_test (eqb (outermost s.blossoms w) v)
+      (λ t. let no : not true ≡ true = sym (ap (λ l. not (is_label l Outer)) (ap (put s.label v Outer) (eqb-true (outermost s.blossoms w) v t) ∙ put_here s.label v Outer)) ∙ e in absurd (both_ways false refl no))
+      (λ t. ap (λ l. not (is_label l Outer)) (sym (put_other s.label v Outer (outermost s.blossoms w) (eqb-false (outermost s.blossoms w) v t))) ∙ e)
+
+  pub root_looks : looks_left (with_labels s (put s.label v Outer)) + ends_around s.graph (members_of s.blossoms v) ≤ looks_left s
+  root_looks =
+      let n : ℕ = s.graph.vertices in
+      let t : State = with_labels s (put s.label v Outer) in
+      let node = (outermost_parts n s.blossoms v is).0 in
+      let at : (w : ℕ) → holds (members_of s.blossoms v) w ≡ true → outermost s.blossoms w ≡ v = λ w h. outermost_by_member n s.blossoms v w nested is h in
+      let ends = outside_ends_fall s t (members_of s.blossoms v) refl (members_new n s.blossoms v nested node)
+      (λ w h. member_vertex n s.blossoms v w nested node h)
+      (λ w h. ap (λ l. not (is_label l Outer)) (ap s.label (at w h) ∙ out))
+      (λ w h. ap (λ l. not (is_label l Outer)) (ap (put s.label v Outer) (at w h) ∙ put_here s.label v Outer))
+      (λ w iv e. root_inside w e) in
+      let among : outside_among t s.blossoms ≤ outside_among s s.blossoms = among_within s t s.blossoms root_inside in
+      by_product (2 * length s.graph.edges) _ _ _ _ _ ends among
+    where
+      by_product : (k a b x y z : ℕ) → a + z ≤ b → x ≤ y → (a + k * x) + z ≤ b + k * y
+      by_product k a b x y z first second = omega (arith, first, mul-le-mul_left k second)
+
+-- what its calls leave, at once
+pub whole : (s l a t : Search) → l ≡ record s { labels = l.labels } → a ≡ record l { standing = a.standing; stands = a.stands } → t ≡ record a { scanned = t.scanned } → t ≡ record s { labels = l.labels; standing = a.standing; stands = a.stands; scanned = t.scanned }
+whole s l a t one two three = three
+    ∙ ap (λ (x : Search). let y : Search = record x { scanned = t.scanned } in y) two
+    ∙ ap (λ (x : Search). let y : Search = record x { standing = a.standing; stands = a.stands; scanned = t.scanned } in y) one
+
+-- the search, whose labels, list of nodes and list of vertices are new
+module _ (s l a t : Search) (v : ℕ) (is : t ≡ record s { labels = l.labels; standing = a.standing; stands = a.stands; scanned = t.scanned })
+    (labels : label_at l.labels.items ≡ put (label_at s.labels.items) v Outer) (sound : IsSound s) (exposed : IsExposed (state_of s) v) (out : label_at s.labels.items v ≡ Out) where
+  pub planted_state : state_of t ≡ with_labels (state_of s) (put (label_at s.labels.items) v Outer)
+  planted_state = ap state_of is ∙ ap (with_labels (state_of s)) labels
+
+  pub planted_queued : IsQueued s → IsQueuedBut t (members_of s.arena.blossoms v)
+  planted_queued h = subst (λ (x : Search). IsQueuedBut x (members_of s.arena.blossoms v)) (sym is) (record {
+    low = h.low;
+    high = h.high;
+    edges = λ e number none. subst (λ f. NeedsMoment (with_labels (state_of s) f) s.clock e (moment_of s.queue (Edge e))) (sym labels)
+        (needs_past (state_of s) s.clock v e (moment_of s.queue (Edge e)) (past_node (state_of s) v e sound.shape.graph.graph (nested_of s sound.shape) number none) (h.edges e number));
+    blossoms = λ b name outer lab.
+        let here : put (label_at s.labels.items) v Outer b ≡ Inner = sym (ap (λ f. f b) labels) ∙ lab in
+        let ne : b ≢ v = λ q. outer_not_inner (sym (ap (put (label_at s.labels.items) v Outer) q ∙ put_here (label_at s.labels.items) v Outer) ∙ here) in
+        h.blossoms b name outer (sym (put_other (label_at s.labels.items) v Outer b ne) ∙ here);
+    tree = λ no. outer_not_out (sym (put_here (label_at s.labels.items) v Outer) ∙ sym (ap (λ f. f v) labels) ∙ no v exposed.0);
+  })
+
+  pub planted_standing : AreListed s.graph.vertices a.standing.items a.stands.items → holds a.standing.items v ≡ true
+      → ((x : ℕ) → holds s.standing.items x ≡ true → holds a.standing.items x ≡ true) → IsStanding s → IsStanding t
+  planted_standing listed there keeps h = subst IsStanding (sym is) (record {
+    listed = listed;
+    trees = λ x outer ne. by_test (eqb x v)
+        (λ q. subst (λ y. holds a.standing.items y ≡ true) (sym (eqb-true x v q)) there)
+        (λ q. keeps x (h.trees x outer (λ p. ne (ap (λ f. f x) labels ∙ put_other (label_at s.labels.items) v Outer x (eqb-false x v q) ∙ p))));
+  })

@@ -1,0 +1,9 @@
+use Rattle.std.proofs.Common.{ℕ, List, sym, subst}
+use Rattle.alt_forest.specs.Standing.{AreListed}
+use Rattle.alt_forest.proofs.Listed.{none_listed}
+use Rattle.alt_forest.proofs.search.Search.dismiss.Goals as goal
+
+pub returns-clause-listed : goal.returns-clause-listed
+returns-clause-listed c =
+    let n : ℕ = c.args.self.now.graph.vertices in
+    subst (λ (xs : List ℕ). AreListed n xs c.wipe_flags.new.flags.items) (sym c.clear.ensures.items) (none_listed n c.wipe_flags.new.flags.items c.wipe_flags.ensures.none)

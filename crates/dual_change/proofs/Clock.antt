@@ -1,0 +1,63 @@
+-- Moments stay what they are while the clock moves along with a change of the duals.
+use Rattle.std.proofs.Common.{◌≡◌, ℕ, ℤ, pos, ◌+ℤ◌, ◌-ℤ◌, ◌≤ℤ◌, Option, Some, sym, ap, ◌∙◌, subst, arith}
+use Rattle.std.proofs.lemmas.Int.{ints}
+use Rattle.graph_theory.specs.declared.limits.TheConstants.{NUMBER_LIMIT}
+use Rattle.graph_theory.specs.Graph.{IsGraph, IsEdgeNumber}
+use Rattle.blossom_arena.specs.Family.{IsNested}
+use Rattle.edge_queue.specs.declared.item.Item.TheVariants.{Edge}
+use Rattle.edge_queue.specs.Moments.{Moments, moment_of}
+use Rattle.alt_forest.specs.declared.search.Search.{Search}
+use Rattle.alt_forest.specs.State.{State, slack_of}
+use Rattle.alt_forest.specs.Searches.{IsSound, state_of}
+use Rattle.alt_forest.specs.Entries.{NeedsMoment, IsBlossomEntered, HasNoTree, IsQueued}
+use Rattle.alt_forest.specs.Standing.{IsStanding}
+use Rattle.alt_forest.proofs.Places.{nested_of}
+use Rattle.dual_change.specs.Changes.{applied}
+use Rattle.dual_change.proofs.UnderWay.{with_duals}
+use Rattle.dual_change.proofs.Least.{left_to_out, left_between, left_inner}
+
+with_clock : (clock d x y : ℤ) → y ≡ x -ℤ d → clock +ℤ x ≡ (clock +ℤ d) +ℤ y
+with_clock clock d x y e = omega (arith, ints)
+
+half_before : (d x y half : ℤ) → y ≡ x -ℤ (d +ℤ d) → y ≡ half +ℤ half → x ≡ (half +ℤ d) +ℤ (half +ℤ d)
+half_before d x y half e twice = omega (arith, ints)
+
+half_with_clock : (clock d half : ℤ) → clock +ℤ (half +ℤ d) ≡ (clock +ℤ d) +ℤ half
+half_with_clock clock d half = omega (arith, ints)
+
+moment : (x y : ℤ) → x ≡ y → (let o : Option ℤ = Some x in o) ≡ Some y
+moment x y e = ap (λ (z : ℤ). let o : Option ℤ = Some z in o) e
+
+module _ (s : State) (depth : ℕ → ℕ) (graph : IsGraph s.graph) (nested : IsNested s.graph.vertices s.blossoms) (clock d : ℤ) where
+  pub edge_later : (e : ℕ) (m : Option ℤ) → IsEdgeNumber s.graph e → NeedsMoment s clock e m → NeedsMoment (applied s d) (clock +ℤ d) e m
+  edge_later e m is h = record {
+    to_out = λ a b j la lb. h.to_out a b j la lb ∙ moment _ _ (with_clock clock d (slack_of s e) (slack_of (applied s d) e) (left_to_out s depth graph nested d e a b is j la lb));
+    between = λ a b half j ne la lb twice.
+        h.between a b (half +ℤ d) j ne la lb (half_before d (slack_of s e) (slack_of (applied s d) e) half (left_between s depth graph nested d e a b is j ne la lb) twice)
+        ∙ moment _ _ (half_with_clock clock d half);
+  }
+
+  pub blossom_later : (q : Moments) (b : ℕ) → IsBlossomEntered s clock q b → IsBlossomEntered (applied s d) (clock +ℤ d) q b
+  blossom_later q b h is lab = h is lab ∙ moment _ _ (with_clock clock d (s.dual b) ((applied s d).dual b) (left_inner s depth graph nested d b is lab))
+
+-- the search after a change, whose clock has gone on
+module _ (s t : Search) (d x : ℤ) (rest : t ≡ with_duals s t.arena.duals) (is : x ≡ s.clock +ℤ d) where
+  pub queued_later : state_of t ≡ applied (state_of s) d → IsSound s → IsQueued s → (HasNoTree (state_of s) → ⊥) → pos 0 ≤ℤ d → (s.clock +ℤ d) ≤ℤ NUMBER_LIMIT → IsQueued (record t { clock = x })
+  queued_later state sound h tree low high =
+      let now : state_of (with_duals s t.arena.duals) ≡ applied (state_of s) d = sym (ap state_of rest) ∙ state in
+      let graph = sound.shape.graph.graph in
+      let nested = nested_of s sound.shape in
+      let start : pos 0 ≤ℤ s.clock = h.low in
+      subst (λ (y : Search). IsQueued (record y { clock = x })) (sym rest) (record {
+        low = omega (arith, ints, is, start, low);
+        high = omega (arith, ints, is, high);
+        edges = λ e number. subst (λ z. NeedsMoment z x e (moment_of s.queue (Edge e))) (sym now) (subst (λ z. NeedsMoment (applied (state_of s) d) z e (moment_of s.queue (Edge e))) (sym is)
+            (edge_later (state_of s) sound.depth graph nested s.clock d e (moment_of s.queue (Edge e)) number (h.edges e number)));
+        blossoms = λ b name. subst (λ z. IsBlossomEntered z x s.queue b) (sym now) (subst (λ z. IsBlossomEntered (applied (state_of s) d) z s.queue b) (sym is)
+            (blossom_later (state_of s) sound.depth graph nested s.clock d s.queue b (h.blossoms b name)));
+        still = λ no. absurd (tree no);
+        empty = λ no item. absurd (tree no);
+      })
+
+  pub standing_later : IsStanding s → IsStanding (record t { clock = x })
+  standing_later h = subst (λ (y : Search). IsStanding (record y { clock = x })) (sym rest) (record { listed = h.listed; trees = h.trees })

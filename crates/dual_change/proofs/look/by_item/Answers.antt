@@ -1,0 +1,28 @@
+use Rattle.std.proofs.Common.{◌≡◌, ◌∙◌, ℤ, Option, Some, sym, ap, subst, arith, rules, to_z, of_z}
+use mir.Syntax.{w64}
+use Rattle.graph_theory.specs.Graph.{Multigraph, IsEdgeNumber}
+use Rattle.edge_queue.specs.Moments.{moment_of, IsItem}
+use Rattle.edge_queue.proofs.Maps.{only_items_have}
+use Rattle.alt_forest.specs.declared.search.Search.{Search}
+use Rattle.alt_forest.specs.Searches.{state_of}
+use Rattle.alt_forest.specs.Entries.{NeedsMoment}
+use Rattle.dual_change.proofs.look.by_item.Goals as goal
+
+pub by_edge-requires-clause-entered : goal.by_edge-requires-clause-entered
+by_edge-requires-clause-entered g c =
+    let s : Search = c.args.search.now in
+    let back : to_z w64 (of_z w64 c.args.moment) ≡ c.args.moment = search rules in
+    let place : IsItem s.queue c.args.item.now = only_items_have s.queue c.args.item.now c.args.moment c.requires.has in
+    let there = subst (IsItem s.queue) c.in-Edge.is place in
+    let number : IsEdgeNumber s.graph c.in-Edge.e = (there.0, omega (arith, there.1, c.requires.sound.shape.room.edges)) in
+    subst (NeedsMoment (state_of s) s.clock c.in-Edge.e)
+    (sym (ap (moment_of s.queue) c.in-Edge.is) ∙ c.requires.has ∙ sym (ap (λ (x : ℤ). let o : Option ℤ = Some x in o) back))
+    (c.requires.queued.edges c.in-Edge.e number)
+
+pub by_edge-requires-clause-edge : goal.by_edge-requires-clause-edge
+by_edge-requires-clause-edge g c =
+    let s : Search = c.args.search.now in
+    let place : IsItem s.queue c.args.item.now = only_items_have s.queue c.args.item.now c.args.moment c.requires.has in
+    let there = subst (IsItem s.queue) c.in-Edge.is place in
+    let number : IsEdgeNumber s.graph c.in-Edge.e = (there.0, omega (arith, there.1, c.requires.sound.shape.room.edges)) in
+    subst (λ (k : Multigraph). IsEdgeNumber k c.in-Edge.e) (sym c.requires.same) number

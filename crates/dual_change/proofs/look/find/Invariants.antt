@@ -1,0 +1,16 @@
+use Rattle.std.proofs.Common.{◌≡◌, ◌+◌, ◌≤◌}
+use Rattle.alt_forest.specs.Searches.{IsSound}
+use Rattle.alt_forest.specs.Entries.{IsQueued, entry_count}
+use Rattle.dual_change.specs.Candidates.{entries_left}
+use Rattle.dual_change.proofs.look.find.Given as goal
+
+abbrev pub invariant-loop-item : goal.invariant-loop-item
+invariant-loop-item g l = record {
+  rest : l.search ≡ record l.fn.search { queue = l.search.queue };
+  sound : IsSound l.search;
+  queued : IsQueued l.search;
+  count : entry_count l.search.queue + l.steps ≤ entry_count l.fn.search.queue + l.fn.steps;
+}
+
+abbrev pub decreases-loop-item : goal.decreases-loop-item
+decreases-loop-item g l = entries_left l.search.queue

@@ -1,0 +1,139 @@
+-- What the parts of an expand make of a search.
+use Rattle.std.proofs.Common.{◌≡◌, ◌≢◌, ◌⊎◌, ℕ, ℤ, ◌+ℤ◌, true, false, List, All, Some, None, sym, ap, ◌∙◌, subst, ◌≤◌}
+use Rattle.std.proofs.lemmas.Bool.{both_ways, false_from_ne_true}
+use Rattle.graph_theory.specs.Graph.{Multigraph}
+use Rattle.graph_theory.specs.Parts.{holds}
+use Rattle.blossom_arena.specs.Family.{Blossom, is_vertex, in_ring, members_of, names_of, ring_of}
+use Rattle.blossom_arena.proofs.Lists.{by_test}
+use Rattle.blossom_arena.proofs.Nested.{name_is_node, node_range}
+use Rattle.blossom_arena.proofs.Sets.{member_vertex}
+use Rattle.edge_queue.specs.declared.item.Item.TheVariants.{Edge as OfEdge, Blossom as OfBlossom}
+use Rattle.edge_queue.specs.Moments.{Moments, entry, moment_of, with_moment, IsItem}
+use Rattle.alt_forest.specs.declared.label.Label.TheVariants.{Out}
+use Rattle.alt_forest.specs.declared.search.Search.{Search}
+use Rattle.alt_forest.specs.State.{State, IsOutermost}
+use Rattle.alt_forest.specs.Trees.{node_limit}
+use Rattle.alt_forest.specs.Entries.{IsBlossomEntered, IsQueued, IsQueuedBut}
+use Rattle.alt_forest.specs.Events.{CanExpand}
+use Rattle.alt_forest.specs.Searches.{IsSound, state_of, label_at}
+use Rattle.alt_forest.specs.Standing.{AreListed, IsStanding}
+use Rattle.alt_forest.proofs.Places.{nested_of}
+use Rattle.alt_forest.proofs.Queues.{node_item, blossom_other}
+use Rattle.tree_steps.specs.Expanded.{IsExpanded}
+use Rattle.tree_steps.proofs.Awaited.{queued_but, standing_after, each_vertex}
+use Rattle.tree_steps.proofs.QueuedExpand.{expanded_child, expanded_entered, expanded_blossom, expanded_in_tree, expanded_tree, not_gone}
+
+-- f is the search before, f1 where the blossom's vertices are noted, f2 where it is open, f3 where its circuit is listed, and
+-- k where its moment is gone
+module _ (f f1 f2 f3 k : Search) (h : IsSound f) (h3 : IsSound f3) (b base : ℕ) (can : CanExpand (state_of f) b) (is : IsExpanded (state_of f1) (state_of f2) b)
+    (r1 : f1 ≡ record f { scanned = f1.scanned })
+    (r2 : f2 ≡ record f1 { arena = record f1.arena { blossoms = f2.arena.blossoms }; labels = f2.labels; parents = f2.parents; mates = f2.mates; circuit = f2.circuit })
+    (r3 : f3 ≡ record f2 { queue = f3.queue; standing = f3.standing; stands = f3.stands })
+    (r4 : k ≡ record f3 { queue = k.queue })
+    (base_on : in_ring (ring_of f1.arena.blossoms b) base ≡ true)
+    (inside : (a : ℕ) → in_ring f2.circuit.items a ≡ true → in_ring (ring_of f1.arena.blossoms b) a ≡ true)
+    (all : (a : ℕ) → in_ring (ring_of f1.arena.blossoms b) a ≡ true → (a ≡ base) ⊎ (in_ring f2.circuit.items a ≡ true)) where
+  abbrev s : State
+  s = state_of f
+
+  abbrev t : State
+  t = state_of f2
+
+  same_blossoms : f1.arena.blossoms ≡ f.arena.blossoms
+  same_blossoms = ap (λ (x : Search). x.arena.blossoms) r1
+
+  pub expanded_is : IsExpanded s t b
+  expanded_is = subst (λ (x : State). IsExpanded x t b) (ap state_of r1) is
+
+  pub expanded_same : state_of k ≡ t
+  expanded_same = ap state_of r4 ∙ ap state_of r3
+
+  clock_same : k.clock ≡ f.clock
+  clock_same = cc
+
+  graph_same : k.graph ≡ f.graph
+  graph_same = cc
+
+  on_ring : (a : ℕ) → in_ring f2.circuit.items a ≡ true → in_ring (ring_of f.arena.blossoms b) a ≡ true
+  on_ring a r = ap (λ (xs : List Blossom). in_ring (ring_of xs b) a) (sym same_blossoms) ∙ inside a r
+
+  base_ring : in_ring (ring_of f.arena.blossoms b) base ≡ true
+  base_ring = ap (λ (xs : List Blossom). in_ring (ring_of xs b) base) (sym same_blossoms) ∙ base_on
+
+  -- the nodes of the circuit are outermost
+  pub base_outer : IsOutermost t base
+  base_outer = expanded_child s t h.depth b h.shape.graph.graph (nested_of f h.shape) h.state can expanded_is base base_ring
+
+  pub circuit_outer : (a : ℕ) → in_ring f2.circuit.items a ≡ true → IsOutermost t a
+  circuit_outer a r = expanded_child s t h.depth b h.shape.graph.graph (nested_of f h.shape) h.state can expanded_is a (on_ring a r)
+
+  module _ (scanned : f1.scanned.items ≡ members_of f.arena.blossoms b) where
+    pub vertices_are : k.scanned.items ≡ members_of f.arena.blossoms b
+    vertices_are = let list : k.scanned ≡ f1.scanned = cc in ap (λ v. v.items) list ∙ scanned
+
+    pub expanded_vertices : (g : Multigraph) → g ≡ f.graph → All (λ v. is_vertex g.vertices v ≡ true) k.scanned.items
+    expanded_vertices g same =
+        subst (λ (d : Multigraph). All (λ v. is_vertex d.vertices v ≡ true) k.scanned.items) (sym same)
+        (subst (λ vs. All (λ v. is_vertex f.graph.vertices v ≡ true) vs) (sym vertices_are)
+        (each_vertex f.graph.vertices (members_of f.arena.blossoms b)
+        (λ v. member_vertex f.graph.vertices f.arena.blossoms b v (nested_of f h.shape) (name_is_node f.graph.vertices f.arena.blossoms b can.blossom))))
+
+    module _ (queued : IsQueued f) (queue4 : k.queue ≡ with_moment f3.queue (OfBlossom b) None) (edges3 : f3.queue.edges ≡ f2.queue.edges)
+        (entered3 : (a : ℕ) → (a ≡ base) ⊎ (in_ring f2.circuit.items a ≡ true) → holds (names_of f2.arena.blossoms) a ≡ true → IsBlossomEntered t f2.clock f3.queue a)
+        (others3 : (a : ℕ) → a ≢ base → in_ring f2.circuit.items a ≡ false → moment_of f3.queue (OfBlossom a) ≡ moment_of f2.queue (OfBlossom a)) where
+      item : IsItem f3.queue (OfBlossom b)
+      item =
+          let range = node_range f.graph.vertices f.arena.blossoms b (nested_of f h.shape) (name_is_node f.graph.vertices f.arena.blossoms b can.blossom) in
+          let same : f3.graph ≡ f.graph = cc in
+          node_item f3 b h3.shape range.0 (subst (λ (g : Multigraph). b ≤ node_limit g.vertices) (sym same) range.1)
+
+      queue_first : f2.queue ≡ f.queue
+      queue_first = cc
+
+      edge_stays : (d : ℕ) → moment_of k.queue (OfEdge d) ≡ moment_of f.queue (OfEdge d)
+      edge_stays d = ap (λ (q : Moments). moment_of q (OfEdge d)) queue4 ∙ ap (λ xs. entry xs d) edges3 ∙ ap (λ (q : Moments). moment_of q (OfEdge d)) queue_first
+
+      without_b : (a : ℕ) → a ≢ b → moment_of k.queue (OfBlossom a) ≡ moment_of f3.queue (OfBlossom a)
+      without_b a ne = ap (λ (q : Moments). moment_of q (OfBlossom a)) queue4 ∙ blossom_other f3.queue b a None item ne
+
+      on_circuit : (a : ℕ) → in_ring (ring_of f.arena.blossoms b) a ≡ true → holds (names_of t.blossoms) a ≡ true → IsBlossomEntered t f.clock k.queue a
+      on_circuit a r name outer inner =
+          let clock : f2.clock ≡ f.clock = cc in
+          without_b a (not_gone s t h.depth b h.shape.graph.graph (nested_of f h.shape) h.state can expanded_is a outer)
+          ∙ entered3 a (all a (ap (λ (xs : List Blossom). in_ring (ring_of xs b) a) same_blossoms ∙ r)) name outer inner
+          ∙ ap (λ (c : ℤ). Some (c +ℤ t.dual a)) clock
+
+      off_circuit : (a : ℕ) → in_ring (ring_of f.arena.blossoms b) a ≡ false → a ≢ b → moment_of k.queue (OfBlossom a) ≡ moment_of f.queue (OfBlossom a)
+      off_circuit a r ne =
+          without_b a ne
+          ∙ others3 a (λ at. both_ways (in_ring (ring_of f.arena.blossoms b) a) r (ap (in_ring (ring_of f.arena.blossoms b)) at ∙ base_ring))
+          (false_from_ne_true (in_ring f2.circuit.items a) (λ on. both_ways (in_ring (ring_of f.arena.blossoms b) a) r (on_ring a on)))
+          ∙ ap (λ (q : Moments). moment_of q (OfBlossom a)) queue_first
+
+      pub expanded_queued : IsQueuedBut k k.scanned.items
+      expanded_queued =
+          subst (IsQueuedBut k) (sym vertices_are)
+          (queued_but f k t (members_of f.arena.blossoms b) queued expanded_same clock_same graph_same
+          (expanded_entered s t h.depth b h.shape.graph.graph (nested_of f h.shape) h.state can expanded_is f.clock f.queue k.queue queued.edges edge_stays)
+          (λ a name. by_test (in_ring (ring_of f.arena.blossoms b) a)
+          (λ r. on_circuit a r name)
+          (λ r. expanded_blossom s t h.depth b h.shape.graph.graph (nested_of f h.shape) h.state can expanded_is f.clock f.queue k.queue a queued.blossoms name r (off_circuit a r)))
+          (expanded_tree s t h.depth b h.shape.graph.graph (nested_of f h.shape) h.state can expanded_is))
+
+  -- the nodes of the circuit that came into the tree are listed
+  pub expanded_standing : IsStanding f → AreListed f2.graph.vertices f3.standing.items f3.stands.items
+      → ((a : ℕ) → holds f2.standing.items a ≡ true → holds f3.standing.items a ≡ true)
+      → ((a : ℕ) → (a ≡ base) ⊎ (in_ring f2.circuit.items a ≡ true) → label_at f2.labels.items a ≢ Out → holds f3.standing.items a ≡ true) → IsStanding k
+  expanded_standing standing listed keeps there =
+      let graph : f2.graph ≡ f.graph = cc in
+      let list : k.standing ≡ f3.standing = cc in
+      let flags : k.stands ≡ f3.stands = cc in
+      let first : f2.standing ≡ f.standing = cc in
+      standing_after f k t expanded_same graph_same
+      (subst (λ (g : Multigraph). AreListed g.vertices k.standing.items k.stands.items) graph
+      (subst (λ v. AreListed f2.graph.vertices v.items k.stands.items) (sym list) (subst (λ v. AreListed f2.graph.vertices f3.standing.items v.items) (sym flags) listed)))
+      (λ a outer labelled. ap (λ v. holds v.items a) list ∙ by_test (in_ring (ring_of f.arena.blossoms b) a)
+      (λ r. there a (all a (ap (λ (xs : List Blossom). in_ring (ring_of xs b) a) same_blossoms ∙ r)) labelled)
+      (λ r.
+      let was = expanded_in_tree s t h.depth b h.shape.graph.graph (nested_of f h.shape) h.state can expanded_is a outer labelled r in
+      keeps a (ap (λ v. holds v.items a) first ∙ standing.trees a was.0 was.1)))

@@ -1,0 +1,119 @@
+-- What the parts of a grow make of a search.
+use Rattle.std.proofs.Common.{◌≡◌, ◌≢◌, ℕ, ℤ, ◌+◌, ◌+ℤ◌, true, List, Some, None, sym, ap, ◌∙◌, subst, ⊎_elim}
+use Rattle.std.proofs.lemmas.Bool.{cases_eq}
+use Rattle.graph_theory.specs.Graph.{Multigraph, IsEdgeNumber}
+use Rattle.graph_theory.specs.Parts.{holds}
+use Rattle.blossom_arena.specs.Family.{Blossom, is_node, members_of, names_of}
+use Rattle.blossom_arena.proofs.Nested.{outermost_parts}
+use Rattle.edge_queue.specs.declared.item.Item.TheVariants.{Edge as OfEdge, Blossom as OfBlossom}
+use Rattle.edge_queue.specs.Moments.{moment_of, with_moment, IsItem}
+use Rattle.alt_forest.specs.declared.search.Search.{Search}
+use Rattle.alt_forest.specs.declared.label.Label.TheVariants.{Out}
+use Rattle.alt_forest.specs.State.{State, IsOutermost, IsMate}
+use Rattle.alt_forest.specs.Entries.{IsBlossomEntered, IsQueued, IsQueuedBut, entry_count}
+use Rattle.alt_forest.specs.Events.{CanGrow}
+use Rattle.alt_forest.specs.Searches.{IsSound, state_of, label_at}
+use Rattle.alt_forest.specs.Standing.{AreListed, IsStanding}
+use Rattle.alt_forest.proofs.Places.{nested_of}
+use Rattle.alt_forest.proofs.Queues.{edge_item}
+use Rattle.alt_forest.proofs.Relabelled.{inner_not_out, outer_not_out}
+use Rattle.tree_steps.specs.Grown.{grown}
+use Rattle.tree_steps.proofs.Awaited.{queued_but, standing_after, edges_stay, blossoms_stay, one_less}
+use Rattle.tree_steps.proofs.QueuedGrow.{far_now, mate_now, grown_tree, grown_entered, grown_blossom, grown_trees}
+
+-- f is the search before, f1 where the labels are written, f2 and f3 where the node and its mate are listed, f4 where the
+-- edge's moment is gone, and k where the mate's vertices are noted
+module _ (f f1 f2 f3 f4 k : Search) (h : IsSound f) (e mate : ℕ) (can : CanGrow (state_of f) e) (pair : IsMate (state_of f) can.far can.mate_edge mate)
+    (r1 : f1 ≡ record f { labels = f1.labels; parents = f1.parents })
+    (r2 : f2 ≡ record f1 { queue = f2.queue; standing = f2.standing; stands = f2.stands })
+    (r3 : f3 ≡ record f2 { queue = f3.queue; standing = f3.standing; stands = f3.stands })
+    (r4 : f4 ≡ record f3 { queue = f4.queue })
+    (r5 : k ≡ record f4 { scanned = k.scanned })
+    (state : state_of f1 ≡ grown (state_of f) e can.far mate) where
+  abbrev t : State
+  t = grown (state_of f) e can.far mate
+
+  pub grown_state : state_of k ≡ t
+  grown_state = ap state_of r5 ∙ ap state_of r4 ∙ ap state_of r3 ∙ ap state_of r2 ∙ state
+
+  pub clock_same : k.clock ≡ f.clock
+  clock_same = cc
+
+  pub graph_same : k.graph ≡ f.graph
+  graph_same = cc
+
+  -- the mate is a node all the while
+  pub grown_node : is_node f4.graph.vertices f4.arena.blossoms mate ≡ true
+  grown_node =
+      let graph : f4.graph ≡ f.graph = cc in
+      let bs : f4.arena.blossoms ≡ f.arena.blossoms = cc in
+      ap (λ (g : Multigraph). is_node g.vertices f4.arena.blossoms mate) graph ∙ ap (λ (xs : List Blossom). is_node f.graph.vertices xs mate) bs
+      ∙ (outermost_parts f.graph.vertices f.arena.blossoms mate pair.outer).0
+
+  pub grown_scanned : k.scanned.items ≡ members_of f4.arena.blossoms mate → k.scanned.items ≡ members_of f.arena.blossoms mate
+  grown_scanned scanned = let bs : f4.arena.blossoms ≡ f.arena.blossoms = cc in scanned ∙ ap (λ (xs : List Blossom). members_of xs mate) bs
+
+  module _ (h3 : IsSound f3) (queued : IsQueued f) (queue4 : f4.queue ≡ with_moment f3.queue (OfEdge e) None) (edges2 : f2.queue.edges ≡ f1.queue.edges) (edges3 : f3.queue.edges ≡ f2.queue.edges) where
+    place : IsEdgeNumber f3.graph e
+    place = let same : f3.graph ≡ f.graph = cc in subst (λ (g : Multigraph). IsEdgeNumber g e) (sym same) can.tight.edge
+
+    item : IsItem f3.queue (OfEdge e)
+    item = edge_item f3 e h3.shape place
+
+    before : f3.queue.edges ≡ f.queue.edges
+    before = edges3 ∙ edges2 ∙ ap (λ (s : Search). s.queue.edges) r1
+
+    removed : k.queue ≡ with_moment f3.queue (OfEdge e) None
+    removed = ap (λ (s : Search). s.queue) r5 ∙ queue4
+
+    -- the edge had a moment
+    pub grown_count : entry_count k.queue + 1 ≡ entry_count f.queue
+    grown_count = one_less f.queue f3.queue k.queue e item before removed _ ((queued.edges e can.tight.edge).to_out can.near can.far can.joins can.near_outer can.far_out)
+
+    pub grown_queued : (entered : holds (names_of f1.arena.blossoms) can.far ≡ true → IsBlossomEntered (state_of f1) f1.clock f2.queue can.far)
+        → ((b : ℕ) → b ≢ can.far → moment_of f2.queue (OfBlossom b) ≡ moment_of f1.queue (OfBlossom b))
+        → ((b : ℕ) → b ≢ mate → moment_of f3.queue (OfBlossom b) ≡ moment_of f2.queue (OfBlossom b))
+        → k.scanned.items ≡ members_of f4.arena.blossoms mate → IsQueuedBut k k.scanned.items
+    grown_queued entered others2 others3 scanned =
+        let s : State = state_of f in
+        let same_clock : f1.clock ≡ f.clock = cc in
+        let same_names : f1.arena.blossoms ≡ f.arena.blossoms = cc in
+        subst (IsQueuedBut k) (sym (grown_scanned scanned))
+        (queued_but f k t (members_of s.blossoms mate) queued grown_state clock_same graph_same
+        (grown_entered s e mate can pair h.shape.graph.graph (nested_of f h.shape) f.clock f.queue k.queue queued.edges (edges_stay f.queue f3.queue k.queue e item before removed))
+        (λ b name. ⊎_elim
+        (λ at. subst (IsBlossomEntered t f.clock k.queue) (sym at) (at_far entered others3 same_clock same_names (subst (λ a. holds (names_of s.blossoms) a ≡ true) at name)))
+        (λ off. grown_blossom s e mate can pair f.clock f.queue k.queue b off (queued.blossoms b name)
+        (λ off_mate. blossoms_stay f.queue f3.queue k.queue e item before removed b ∙ others3 b off_mate ∙ others2 b off ∙ ap (λ (x : Search). moment_of x.queue (OfBlossom b)) r1))
+        (cases_eq b can.far))
+        (grown_tree s e mate can pair))
+      where
+        at_far : (holds (names_of f1.arena.blossoms) can.far ≡ true → IsBlossomEntered (state_of f1) f1.clock f2.queue can.far)
+            → ((b : ℕ) → b ≢ mate → moment_of f3.queue (OfBlossom b) ≡ moment_of f2.queue (OfBlossom b))
+            → f1.clock ≡ f.clock → f1.arena.blossoms ≡ f.arena.blossoms → holds (names_of f.arena.blossoms) can.far ≡ true → IsBlossomEntered t f.clock k.queue can.far
+        at_far entered others3 same_clock same_names name is inner =
+            let now = entered (ap (λ bs. holds (names_of bs) can.far) same_names ∙ name) (subst (λ (x : State). IsOutermost x can.far) (sym state) is) (ap (λ (x : State). x.label can.far) state ∙ inner) in
+            blossoms_stay f.queue f3.queue k.queue e item before removed can.far ∙ others3 can.far pair.different ∙ now
+            ∙ ap (λ (c : ℤ). Some (c +ℤ (state_of f1).dual can.far)) same_clock ∙ ap (λ (x : State). Some (f.clock +ℤ x.dual can.far)) state
+
+  -- the two nodes that came into the tree are listed
+  pub grown_standing : IsStanding f → AreListed f2.graph.vertices f3.standing.items f3.stands.items
+      → ((a : ℕ) → holds f1.standing.items a ≡ true → holds f2.standing.items a ≡ true) → ((a : ℕ) → holds f2.standing.items a ≡ true → holds f3.standing.items a ≡ true)
+      → (label_at f1.labels.items can.far ≢ Out → holds f2.standing.items can.far ≡ true) → (label_at f2.labels.items mate ≢ Out → holds f3.standing.items mate ≡ true) → IsStanding k
+  grown_standing standing listed keeps2 keeps3 far_there mate_there =
+      let graph : f2.graph ≡ f.graph = cc in
+      let list : k.standing ≡ f3.standing = cc in
+      let flags : k.stands ≡ f3.stands = cc in
+      let first : f1.standing ≡ f.standing = cc in
+      let labels : label_at f2.labels.items mate ≡ t.label mate = ap (λ (x : Search). label_at x.labels.items mate) r2 ∙ ap (λ (x : State). x.label mate) state in
+      let keeps : (a : ℕ) → holds f2.standing.items a ≡ true → holds k.standing.items a ≡ true = λ a e. ap (λ v. holds v.items a) list ∙ keeps3 a e in
+      standing_after f k t grown_state graph_same
+      (subst (λ (g : Multigraph). AreListed g.vertices k.standing.items k.stands.items) graph
+      (subst (λ v. AreListed f2.graph.vertices v.items k.stands.items) (sym list) (subst (λ v. AreListed f2.graph.vertices f3.standing.items v.items) (sym flags) listed)))
+      (λ a is labelled. ⊎_elim
+      (λ at. ap (holds k.standing.items) at ∙ keeps can.far (far_there (λ out. inner_not_out (sym (far_now (state_of f) e mate can pair) ∙ sym (ap (λ (x : State). x.label can.far) state) ∙ out))))
+      (λ off_far. ⊎_elim
+      (λ at. ap (holds k.standing.items) at ∙ ap (λ v. holds v.items mate) list ∙ mate_there (λ out. outer_not_out (sym (mate_now (state_of f) e mate can pair) ∙ sym labels ∙ out)))
+      (λ off_mate. keeps a (keeps2 a (ap (λ v. holds v.items a) first ∙ standing.trees a is (grown_trees (state_of f) e mate can pair a is labelled off_far off_mate))))
+      (cases_eq a mate))
+      (cases_eq a can.far))

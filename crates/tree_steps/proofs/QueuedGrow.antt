@@ -1,0 +1,76 @@
+-- The moments after a grow: only edges at the vertices of the mate have still to be looked at, and the node that becomes
+-- inner.
+use Rattle.std.proofs.Common.{◌≡◌, ◌≢◌, ℕ, ℤ, true, false, refl, sym, ap, ◌∙◌, subst, ⊎_elim, inl, inr}
+use Rattle.std.proofs.lemmas.Bool.{cases_eq, both_ways, or_parts}
+use Rattle.graph_theory.specs.Graph.{IsGraph, IsEdgeNumber, edge_of}
+use Rattle.graph_theory.specs.Parts.{holds}
+use Rattle.blossom_arena.specs.Family.{IsNested, is_vertex, members_of, outermost}
+use Rattle.blossom_arena.proofs.Ends.{u_vertex, v_vertex}
+use Rattle.blossom_arena.proofs.Sets.{outermost_has}
+use Rattle.edge_queue.specs.declared.item.Item.TheVariants.{Edge as OfEdge, Blossom as OfBlossom}
+use Rattle.edge_queue.specs.Moments.{Moments, moment_of}
+use Rattle.alt_forest.specs.declared.label.Label.TheVariants.{Outer, Inner, Out}
+use Rattle.alt_forest.specs.State.{State, IsOutermost, IsMate, Joins}
+use Rattle.alt_forest.specs.Entries.{NeedsMoment, IsEntered, IsBlossomEntered, HasNoTree, touches_any}
+use Rattle.alt_forest.specs.Events.{CanGrow}
+use Rattle.alt_forest.specs.Searches.{put}
+use Rattle.alt_forest.proofs.Relabelled.{put_here, put_other, outer_not_inner, outer_not_out}
+use Rattle.tree_steps.specs.Grown.{grown}
+use Rattle.alt_forest.proofs.Needs.{needs_none_inner}
+use Rattle.tree_steps.proofs.Needs.{EndStays, needs_still}
+use Rattle.alt_forest.proofs.Mates.{joins_turned}
+
+module _ (s : State) (e mate : ℕ) (g : CanGrow s e) (pair : IsMate s g.far g.mate_edge mate) where
+  abbrev t : State
+  t = grown s e g.far mate
+
+  pub far_now : t.label g.far ≡ Inner
+  far_now = put_other (put s.label g.far Inner) mate Outer g.far pair.different ∙ put_here s.label g.far Inner
+
+  pub mate_now : t.label mate ≡ Outer
+  mate_now = put_here (put s.label g.far Inner) mate Outer
+
+  others_now : (a : ℕ) → a ≢ g.far → a ≢ mate → t.label a ≡ s.label a
+  others_now a off_far off_mate = put_other (put s.label g.far Inner) mate Outer a off_mate ∙ put_other s.label g.far Inner a off_far
+
+  -- some tree stands
+  pub grown_tree : HasNoTree t → ⊥
+  grown_tree none = outer_not_out (sym mate_now ∙ none mate pair.outer)
+
+  module _ (graph : IsGraph s.graph) (h : IsNested s.graph.vertices s.blossoms) where
+    end_stays : (v : ℕ) → is_vertex s.graph.vertices v ≡ true → holds (members_of s.blossoms mate) v ≡ false → EndStays s t v
+    end_stays v is out =
+        let o : ℕ = outermost s.blossoms v in
+        ⊎_elim
+        (λ at_far. inl (ap t.label at_far ∙ far_now))
+        (λ off_far. ⊎_elim
+        (λ at_mate. absurd (both_ways (holds (members_of s.blossoms mate) v) out (subst (λ x. holds (members_of s.blossoms x) v ≡ true) at_mate (outermost_has s.graph.vertices s.blossoms v h is).1)))
+        (λ off_mate. inr (others_now o off_far off_mate))
+        (cases_eq o mate))
+        (cases_eq o g.far)
+
+    pub grown_entered : (clock : ℤ) (q r : Moments) → ((d : ℕ) → IsEdgeNumber s.graph d → IsEntered s clock q d) → ((d : ℕ) → d ≢ e → moment_of r (OfEdge d) ≡ moment_of q (OfEdge d))
+        → (d : ℕ) → IsEdgeNumber s.graph d → touches_any (members_of s.blossoms mate) (edge_of s.graph d) ≡ false → IsEntered t clock r d
+    grown_entered clock q r was same d is out =
+        let parts = or_parts (holds (members_of s.blossoms mate) (edge_of s.graph d).u) (holds (members_of s.blossoms mate) (edge_of s.graph d).v) out in
+        ⊎_elim
+        (λ here. needs_none_inner t clock d g.far g.near (moment_of r (OfEdge d)) (subst (λ k. Joins s.graph s.blossoms k g.far g.near) (sym here) (joins_turned s.graph s.blossoms e g.near g.far g.joins)) far_now)
+        (λ other. subst (NeedsMoment t clock d) (sym (same d other)) (needs_still s t clock d (moment_of q (OfEdge d)) (record {
+          graph = refl;
+          slack = refl;
+          u = end_stays (edge_of s.graph d).u (u_vertex s.graph d graph.ends is) parts.0;
+          v = end_stays (edge_of s.graph d).v (v_vertex s.graph d graph.ends is) parts.1;
+          together = λ p. p;
+        }) (was d is)))
+        (cases_eq d e)
+
+  -- an inner node was one before, or is the one that has become it
+  pub grown_blossom : (clock : ℤ) (q r : Moments) (b : ℕ) → b ≢ g.far → IsBlossomEntered s clock q b → (b ≢ mate → moment_of r (OfBlossom b) ≡ moment_of q (OfBlossom b)) → IsBlossomEntered t clock r b
+  grown_blossom clock q r b off was same is inner = ⊎_elim
+      (λ at. outer_not_inner (sym mate_now ∙ ap t.label (sym at) ∙ inner))
+      (λ ne. same ne ∙ was is (sym (others_now b off ne) ∙ inner))
+      (cases_eq b mate)
+
+  -- a node in a tree was in one before, or is one of the two
+  pub grown_trees : (a : ℕ) → IsOutermost s a → t.label a ≢ Out → (a ≢ g.far) → (a ≢ mate) → s.label a ≢ Out
+  grown_trees a is in_tree off_far off_mate out = in_tree (others_now a off_far off_mate ∙ out)

@@ -1,0 +1,112 @@
+-- What the parts of a shrink make of a search.
+use Rattle.std.proofs.Common.{◌≡◌, ◌≢◌, ℕ, ◌+◌, ◌≤◌, pos, ◌+ℤ◌, true, All, None, sym, ap, ◌∙◌, subst, ⊎_elim, inl, arith}
+use Rattle.std.proofs.lemmas.Bool.{cases_eq}
+use Rattle.std.proofs.lemmas.Int.{ints}
+use Rattle.graph_theory.specs.Graph.{Multigraph, IsEdgeNumber, edge_of}
+use Rattle.graph_theory.specs.Parts.{holds}
+use Rattle.blossom_arena.specs.Family.{IsNested, is_vertex, outermost, ring_of}
+use Rattle.edge_queue.specs.declared.item.Item.TheVariants.{Edge as OfEdge, Blossom as OfBlossom}
+use Rattle.edge_queue.specs.Moments.{moment_of, with_moment, IsItem}
+use Rattle.alt_forest.specs.declared.label.Label.TheVariants.{Out}
+use Rattle.alt_forest.specs.declared.search.Search.{Search}
+use Rattle.alt_forest.specs.State.{State, Joins}
+use Rattle.alt_forest.specs.Entries.{IsQueued, IsQueuedBut, ends_around, entry_count, looks_left}
+use Rattle.alt_forest.specs.Events.{CanShrink}
+use Rattle.alt_forest.specs.Searches.{IsSound, state_of, label_at}
+use Rattle.alt_forest.specs.Standing.{AreListed, IsStanding}
+use Rattle.alt_forest.proofs.Places.{nested_of}
+use Rattle.alt_forest.proofs.Queues.{edge_item}
+use Rattle.alt_forest.proofs.Relabelled.{outer_not_out}
+use Rattle.tree_steps.specs.Circuits.{closed_by}
+use Rattle.tree_steps.specs.Scanned.{newly_outer}
+use Rattle.tree_steps.specs.Shrinkable.{IsShrunk}
+use Rattle.tree_steps.proofs.Awaited.{queued_but, standing_after, edges_stay, blossoms_stay, one_less, each_vertex}
+use Rattle.tree_steps.proofs.CountedShrink.{shrunk_looks}
+use Rattle.tree_steps.proofs.NewlyOuter.{newly_vertex}
+use Rattle.tree_steps.proofs.QueuedShrink.{shrunk_tree, shrunk_entered, shrunk_blossom, shrunk_in_tree, shrunk_label, shrunk_ring}
+
+-- f is the search before, f1 where the circuit is one node, f2 where that is listed, and k where the edge's moment is gone
+module _ (f f1 f2 k : Search) (h : IsSound f) (h1 : IsSound f1) (h2 : IsSound f2) (e node : ℕ) (can : CanShrink (state_of f) e) (x : IsShrunk (state_of f) (state_of f1) node)
+    (r1 : f1 ≡ record f { arena = f1.arena; labels = f1.labels; mates = f1.mates; circuit = f1.circuit; scanned = f1.scanned })
+    (r2 : f2 ≡ record f1 { queue = f2.queue; standing = f2.standing; stands = f2.stands })
+    (r3 : k ≡ record f2 { queue = k.queue }) where
+  pub shrunk_same : state_of k ≡ state_of f1
+  shrunk_same = ap state_of r3 ∙ ap state_of r2
+
+  clock_same : k.clock ≡ f.clock
+  clock_same = cc
+
+  pub graph_same : k.graph ≡ f.graph
+  graph_same = cc
+
+  nested : IsNested f1.graph.vertices f1.arena.blossoms
+  nested = nested_of f1 h1.shape
+
+  module _ (circuit : ring_of f1.arena.blossoms node ≡ closed_by (state_of f) e) (scanned : f1.scanned.items ≡ newly_outer (state_of f) (closed_by (state_of f) e)) where
+    pub vertices_are : k.scanned.items ≡ newly_outer (state_of f) x.ring
+    vertices_are =
+        let list : k.scanned ≡ f1.scanned = cc in
+        let ring : closed_by (state_of f) e ≡ x.ring = sym circuit ∙ shrunk_ring (state_of f) (state_of f1) node x h.shape.graph.graph nested in
+        ap (λ v. v.items) list ∙ scanned ∙ ap (newly_outer (state_of f)) ring
+
+    pub shrunk_vertices : (g : Multigraph) → g ≡ f.graph → All (λ v. is_vertex g.vertices v ≡ true) k.scanned.items
+    shrunk_vertices g same =
+        subst (λ (d : Multigraph). All (λ v. is_vertex d.vertices v ≡ true) k.scanned.items) (sym same)
+        (subst (λ vs. All (λ v. is_vertex f.graph.vertices v ≡ true) vs) (sym vertices_are)
+        (each_vertex f.graph.vertices (newly_outer (state_of f) x.ring) (newly_vertex (state_of f) x.ring (nested_of f h.shape) x.can.shrinkable.circuit)))
+
+    pub shrunk_ends : (g : Multigraph) → g ≡ f.graph → ends_around g k.scanned.items + looks_left (state_of f1) ≤ looks_left (state_of f)
+    shrunk_ends g same =
+        let ends : ends_around g k.scanned.items ≡ ends_around f.graph (newly_outer (state_of f) x.ring) = ap (λ (d : Multigraph). ends_around d k.scanned.items) same ∙ ap (ends_around f.graph) vertices_are in
+        omega (arith, ends, shrunk_looks (state_of f) (state_of f1) node x nested)
+
+    module _ (queued : IsQueued f) (queue3 : k.queue ≡ with_moment f2.queue (OfEdge e) None) (edges2 : f2.queue.edges ≡ f1.queue.edges) where
+      place : IsEdgeNumber f2.graph e
+      place = let same : f2.graph ≡ f.graph = cc in subst (λ (g : Multigraph). IsEdgeNumber g e) (sym same) can.tight.edge
+
+      item : IsItem f2.queue (OfEdge e)
+      item = edge_item f2 e h2.shape place
+
+      before : f2.queue.edges ≡ f.queue.edges
+      before = edges2 ∙ ap (λ (s : Search). s.queue.edges) r1
+
+      -- the edge had a moment
+      pub shrunk_count : entry_count k.queue + 1 ≡ entry_count f.queue
+      shrunk_count =
+          let twice : pos 0 ≡ pos 0 +ℤ pos 0 = omega (arith, ints) in
+          one_less f.queue f2.queue k.queue e item before queue3 _
+          ((queued.edges e can.tight.edge).between can.one can.other (pos 0) can.joins can.different can.one_outer can.other_outer (can.tight.tight ∙ twice))
+
+      pub shrunk_queued : outermost f1.arena.blossoms (edge_of f.graph e).u ≡ node → outermost f1.arena.blossoms (edge_of f.graph e).v ≡ node
+          → ((b : ℕ) → b ≢ node → moment_of f2.queue (OfBlossom b) ≡ moment_of f1.queue (OfBlossom b)) → IsQueuedBut k k.scanned.items
+      shrunk_queued holds_u holds_v others2 =
+          let s : State = state_of f in
+          let t : State = state_of f1 in
+          let graph : f1.graph ≡ f.graph = cc in
+          let joins : Joins t.graph t.blossoms e node node =
+          inl (ap (λ (g : Multigraph). outermost f1.arena.blossoms (edge_of g e).u) graph ∙ holds_u, ap (λ (g : Multigraph). outermost f1.arena.blossoms (edge_of g e).v) graph ∙ holds_v) in
+          subst (IsQueuedBut k) (sym vertices_are)
+          (queued_but f k t (newly_outer s x.ring) queued shrunk_same clock_same graph_same
+          (shrunk_entered s t node x h.shape.graph.graph nested f.clock f.queue k.queue e joins queued.edges (edges_stay f.queue f2.queue k.queue e item before queue3))
+          (λ b name. shrunk_blossom s t node x h.shape.graph.graph nested f.clock f.queue k.queue b queued.blossoms name
+          (λ ne. blossoms_stay f.queue f2.queue k.queue e item before queue3 b ∙ others2 b ne ∙ ap (λ (y : Search). moment_of y.queue (OfBlossom b)) r1))
+          (shrunk_tree s t node x h.shape.graph.graph nested))
+
+  -- the new node is listed
+  pub shrunk_standing : IsStanding f → AreListed f1.graph.vertices f2.standing.items f2.stands.items
+      → ((a : ℕ) → holds f1.standing.items a ≡ true → holds f2.standing.items a ≡ true)
+      → (label_at f1.labels.items node ≢ Out → holds f2.standing.items node ≡ true) → IsStanding k
+  shrunk_standing standing listed keeps there =
+      let graph : f1.graph ≡ f.graph = cc in
+      let list : k.standing ≡ f2.standing = cc in
+      let flags : k.stands ≡ f2.stands = cc in
+      let first : f1.standing ≡ f.standing = cc in
+      let s : State = state_of f in
+      let t : State = state_of f1 in
+      standing_after f k t shrunk_same graph_same
+      (subst (λ (g : Multigraph). AreListed g.vertices k.standing.items k.stands.items) graph
+      (subst (λ v. AreListed f1.graph.vertices v.items k.stands.items) (sym list) (subst (λ v. AreListed f1.graph.vertices f2.standing.items v.items) (sym flags) listed)))
+      (λ a is labelled. ap (λ v. holds v.items a) list ∙ ⊎_elim
+      (λ at. ap (holds f2.standing.items) at ∙ there (λ out. outer_not_out (sym (shrunk_label s t node x h.shape.graph.graph nested) ∙ out)))
+      (λ off. let was = shrunk_in_tree s t node x h.shape.graph.graph nested a is labelled off in keeps a (ap (λ v. holds v.items a) first ∙ standing.trees a was.0 was.1))
+      (cases_eq a node))

@@ -1,0 +1,27 @@
+use Rattle.std.proofs.Common.{◌≡◌, ◌+◌, ◌≤◌, ◌∙◌, List, length, drop, get_or, sym, ap, arith, vec_len, length-append}
+use Rattle.std.specs.Vec.{vec_capacity}
+use Rattle.blossom_arena.specs.declared.links.Link.{Link}
+use Rattle.alt_forest.specs.declared.search.Search.{Search}
+use Rattle.alt_forest.specs.State.{State}
+use Rattle.alt_forest.specs.Searches.{state_of}
+use Rattle.alt_forest.proofs.Places.{nested_of}
+use Rattle.tree_steps.specs.Scanned.{unless_outer, newly_outer}
+use Rattle.tree_steps.proofs.NewlyOuter.{newly_at, newly_few}
+use Rattle.tree_steps.proofs.scanning.scan_circuit.Goals as goal
+
+pub scan_unless_outer-requires-clause-room : goal.scan_unless_outer-requires-clause-room
+scan_unless_outer-requires-clause-room c =
+    let f = c.args.search.now in
+    let s : State = state_of f in
+    let now = c.loop-place.search in
+    let l : Link = c.index-link.result.now in
+    let i = c.loop-place.invariant in
+    let ring : List Link = f.circuit.items in
+    let same : state_of now ≡ s = ap state_of i.rest in
+    let items : now.circuit.items ≡ ring = ap (λ (x : Search). x.circuit.items) i.rest in
+    let one : length (unless_outer (state_of now) l.node) ≡ length (unless_outer s l.node) = ap (λ (x : State). length (unless_outer x l.node)) same in
+    let at = newly_at s ring c.loop-place.place l (omega (arith, c.loop-place-test.true, c.len-place-end.ensures)) (sym (c.index-link.ensures ∙ ap (λ (ls : List Link). get_or ls c.loop-place.place l) items)) in
+    let all : length now.scanned.items + length (newly_outer s (drop c.loop-place.place ring)) ≡ length (newly_outer s ring) = sym (length-append now.scanned.items (newly_outer s (drop c.loop-place.place ring))) ∙ ap length i.scanned in
+    let few = newly_few s ring (nested_of f c.requires.sound.shape) c.requires.circuit in
+    let fact : vec_len now.scanned + length (unless_outer (state_of now) l.node) ≤ vec_capacity now.scanned = omega (arith, one, at, all, few, i.capacity, c.clear.ensures.capacity, c.requires.sound.shape.room.scanned) in
+    fact

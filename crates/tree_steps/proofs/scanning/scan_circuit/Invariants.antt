@@ -1,0 +1,12 @@
+use Rattle.std.proofs.Common.{◌≡◌, ◌++◌, drop}
+use Rattle.std.specs.Vec.{vec_capacity}
+use Rattle.alt_forest.specs.Searches.{state_of}
+use Rattle.tree_steps.specs.Scanned.{newly_outer}
+use Rattle.tree_steps.proofs.scanning.scan_circuit.Given as goal
+
+abbrev pub invariant-loop-place : goal.invariant-loop-place
+invariant-loop-place l = record {
+  rest : l.search ≡ record l.fn.search { scanned = l.search.scanned };
+  capacity : vec_capacity l.search.scanned ≡ vec_capacity l.fn.search.scanned;
+  scanned : l.search.scanned.items ++ newly_outer (state_of l.fn.search) (drop l.place l.fn.search.circuit.items) ≡ newly_outer (state_of l.fn.search) l.fn.search.circuit.items;
+}

@@ -1,0 +1,73 @@
+ghost use Rattle.std.specs.Prelude.{◌≡◌, ◌≢◌, ◌⊎◌, ℕ, pos, ◌≤ℤ◌, true, false, None};
+ghost use Rattle.graph_theory.specs.Parts.{holds};
+ghost use Rattle.graph_theory.specs.declared.limits.TheConstants.{NUMBER_LIMIT};
+ghost use Rattle.blossom_arena.specs.Family.{in_ring, names_of};
+ghost use Rattle.edge_queue.specs.declared.item.Item.TheVariants.{Blossom as OfBlossom};
+ghost use Rattle.edge_queue.specs.Moments.{moment_of, with_moment, IsItem};
+ghost use Rattle.alt_forest.specs.declared.label.Label.TheVariants.{Out};
+ghost use Rattle.alt_forest.specs.State.{IsOutermost};
+ghost use Rattle.alt_forest.specs.Entries.{IsBlossomEntered};
+ghost use Rattle.alt_forest.specs.Searches.{IsSound, state_of, label_at};
+ghost use Rattle.alt_forest.specs.Standing.{AreListed};
+
+use alt_forest::{Item, Label, Search};
+use blossom_arena::NodeId;
+
+/// Lists a node that a step took into a tree among those that changes of duals run over, and gives an
+/// inner blossom its moment. For a node labelled out nothing is done.
+pub(crate) fn enlist(search: &mut Search, node: NodeId)
+    requires sound { IsSound search.old }
+    requires listed { AreListed search.old.graph.vertices search.old.standing.items search.old.stands.items }
+    requires low { pos 0 ≤ℤ search.old.clock }
+    requires high { search.old.clock ≤ℤ NUMBER_LIMIT }
+    requires outer { IsOutermost (state_of search.old) node }
+    ensures rest { search.new ≡ record search.old { queue = search.new.queue; standing = search.new.standing; stands = search.new.stands } }
+    ensures sound { IsSound search.new }
+    ensures listed { AreListed search.old.graph.vertices search.new.standing.items search.new.stands.items }
+    ensures there { label_at search.old.labels.items node ≢ Out → holds search.new.standing.items node ≡ true }
+    ensures keeps { (a : ℕ) → holds search.old.standing.items a ≡ true → holds search.new.standing.items a ≡ true }
+    ensures entered { holds (names_of search.old.arena.blossoms) node ≡ true → IsBlossomEntered (state_of search.old) search.old.clock search.new.queue node }
+    ensures others { (b : ℕ) → b ≢ node → moment_of search.new.queue (OfBlossom b) ≡ moment_of search.old.queue (OfBlossom b) }
+    ensures edges { search.new.queue.edges ≡ search.old.queue.edges }
+{
+    if search.label(node) == Label::Out {
+        return;
+    }
+    search.stand(node);
+    search.enter_blossom(node);
+}
+
+/// The same for a node and all those of the circuit.
+pub(crate) fn enlist_circuit(search: &mut Search, base: NodeId)
+    requires sound { IsSound search.old }
+    requires listed { AreListed search.old.graph.vertices search.old.standing.items search.old.stands.items }
+    requires low { pos 0 ≤ℤ search.old.clock }
+    requires high { search.old.clock ≤ℤ NUMBER_LIMIT }
+    requires base { IsOutermost (state_of search.old) base }
+    requires circuit { (a : ℕ) → in_ring search.old.circuit.items a ≡ true → IsOutermost (state_of search.old) a }
+    ensures rest { search.new ≡ record search.old { queue = search.new.queue; standing = search.new.standing; stands = search.new.stands } }
+    ensures sound { IsSound search.new }
+    ensures listed { AreListed search.old.graph.vertices search.new.standing.items search.new.stands.items }
+    ensures there { (a : ℕ) → (a ≡ base) ⊎ (in_ring search.old.circuit.items a ≡ true) → label_at search.old.labels.items a ≢ Out → holds search.new.standing.items a ≡ true }
+    ensures keeps { (a : ℕ) → holds search.old.standing.items a ≡ true → holds search.new.standing.items a ≡ true }
+    ensures entered { (a : ℕ) → (a ≡ base) ⊎ (in_ring search.old.circuit.items a ≡ true) → holds (names_of search.old.arena.blossoms) a ≡ true → IsBlossomEntered (state_of search.old) search.old.clock search.new.queue a }
+    ensures others { (a : ℕ) → a ≢ base → in_ring search.old.circuit.items a ≡ false → moment_of search.new.queue (OfBlossom a) ≡ moment_of search.old.queue (OfBlossom a) }
+    ensures edges { search.new.queue.edges ≡ search.old.queue.edges }
+{
+    enlist(search, base);
+    for place in 0..search.circuit.len() {
+        let link = search.circuit[place];
+        enlist(search, link.node);
+    }
+}
+
+/// Takes the moment of an item away.
+pub(crate) fn drop_entry(search: &mut Search, item: Item)
+    requires sound { IsSound search.old }
+    requires item { IsItem search.old.queue item }
+    ensures queue { search.new.queue ≡ with_moment search.old.queue item None }
+    ensures rest { search.new ≡ record search.old { queue = search.new.queue } }
+    ensures sound { IsSound search.new }
+{
+    search.queue.remove(item);
+}
