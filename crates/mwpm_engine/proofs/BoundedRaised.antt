@@ -17,7 +17,8 @@ use Rattle.alt_forest.specs.Trees.{IsRoot, node_limit}
 use Rattle.alt_forest.specs.Counts.{is_root, tree_count, HasOneTree}
 use Rattle.dual_change.specs.Changes.{share, change, applied, IsWithin, StaysInRange}
 use Rattle.dual_change.specs.Laws.{dual_total}
-use Rattle.dual_change.proofs.Applied.{applied_state, low_at}
+use Rattle.alt_forest.proofs.Duals.{low_at}
+use Rattle.dual_change.proofs.Applied.{applied_state}
 use Rattle.dual_change.proofs.Total.{change_raises}
 use Rattle.mwpm_engine.specs.Bounds.{IsRaised}
 use Rattle.mwpm_engine.proofs.BoundedTotal.{total_bound, weight_bound}
@@ -39,7 +40,7 @@ raised_more : (s : State) (start : ℤ) (depth : ℕ → ℕ) (d : ℤ) → IsNe
 raised_more s start depth d nested st one low h = record {
   weighted = h.weighted;
   perfect = h.perfect;
-  begins = h.begins;
+  start_weight = h.start_weight;
   raised = h.raised +ℤ d;
   low = omega (arith, ints, low, h.low);
   total =
@@ -60,13 +61,13 @@ raised_more s start depth d nested st one low h = record {
     moved y c r b m = (omega (arith, ints, b.0, m.0), omega (arith, ints, b.1, m.1))
 
 -- all changes together are at most 2 * 10^9 for each vertex
-raised_at_most : (s : State) (start : ℤ) (depth : ℕ → ℕ) → IsGraph s.graph → IsNested s.graph.vertices s.blossoms → IsSearchState s depth → (h : IsRaised s start) → h.raised ≤ℤ pos (2 * s.graph.vertices * 10 ^ 9)
+pub raised_at_most : (s : State) (start : ℤ) (depth : ℕ → ℕ) → IsGraph s.graph → IsNested s.graph.vertices s.blossoms → IsSearchState s depth → (h : IsRaised s start) → h.raised ≤ℤ pos (2 * s.graph.vertices * 10 ^ 9)
 raised_at_most s start depth graph nested st h =
     let n : ℕ = s.graph.vertices in
     let counts = h.perfect.0 in
     let total : dual_total s ≤ℤ _ = total_bound s.graph counts graph h.perfect.1 s.dual s.blossoms nested st.duals (λ e is. subst (λ t. pos 0 ≤ℤ slack_with s.graph t s.dual s.blossoms e) h.weighted (st.slacks e is)) in
     let most = weight_bound s.graph counts graph h.perfect.1 in
-    let least : (pos n *ℤ neg_ℤ (pos (10 ^ 9))) ≤ℤ (pos n *ℤ start) = times-le n (neg_ℤ (pos (10 ^ 9))) start h.begins.0.0 in
+    let least : (pos n *ℤ neg_ℤ (pos (10 ^ 9))) ≤ℤ (pos n *ℤ start) = times-le n (neg_ℤ (pos (10 ^ 9))) start h.start_weight.0 in
     plain n (dual_total s) _ (pos n *ℤ start) h.raised total most least (times-neg n (pos (10 ^ 9))) h.total
   where
     plain : (n : ℕ) (t w x r : ℤ) → t ≤ℤ w → w ≤ℤ (pos n *ℤ pos (10 ^ 9)) → (pos n *ℤ neg_ℤ (pos (10 ^ 9))) ≤ℤ x → pos n *ℤ neg_ℤ (pos (10 ^ 9)) ≡ neg_ℤ (pos n *ℤ pos (10 ^ 9)) → t ≡ x +ℤ r → r ≤ℤ pos (2 * n * 10 ^ 9)
@@ -79,7 +80,7 @@ duals_bounded s start depth graph nested st h a is =
     let n : ℕ = s.graph.vertices in
     let most = raised_at_most s start depth graph nested st h in
     by_test (is_vertex n a)
-    (λ v. let b = h.vertices a v in vertex n start h.raised (s.dual a) h.begins.0.0 h.begins.0.1 most b.0 b.1)
+    (λ v. let b = h.vertices a v in vertex n start h.raised (s.dual a) h.start_weight.0 h.start_weight.1 most b.0 b.1)
     (λ v. let name : holds (names_of s.blossoms) a ≡ true = named (is_vertex n a) (holds (names_of s.blossoms) a) v is in
     blossom n h.raised (s.dual a) most (low_at s.dual s.blossoms a st.duals name) (h.blossoms a name))
   where

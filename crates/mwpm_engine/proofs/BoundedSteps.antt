@@ -2,6 +2,7 @@
 use Rattle.std.proofs.Common.{◌≡◌, ℕ, ◌+◌, ℤ, pos, ◌+ℤ◌, ◌-ℤ◌, ◌≤ℤ◌, true, false, eqb, cond, List, [], ◌∷◌, refl, sym, ap, ◌∙◌, subst, arith, ⊎_elim, inl, inr}
 use Rattle.std.proofs.lemmas.Int.{ints}
 use Rattle.std.proofs.lemmas.Bool.{eqb-true, eqb-false, or_cases, or_parts, or_left, or_right}
+use Rattle.graph_theory.specs.Graph.{Multigraph}
 use Rattle.graph_theory.specs.Sums.{int_sum_to}
 use Rattle.graph_theory.specs.Parts.{holds}
 use Rattle.graph_theory.proofs.SumLemmas.{int_sum_to-same}
@@ -21,7 +22,7 @@ use Rattle.mwpm_engine.specs.Bounds.{HasNoDuals, IsRaised, IsBounded}
 -- labels, parents and mates don't matter
 relabelled : (s t : State) (start : ℤ) → IsBounded s start → IsBounded (record s { label = t.label; parent = t.parent; mate = t.mate }) start
 relabelled s t start (inl h) = inl (record { unweighted = h.unweighted; zero = h.zero })
-relabelled s t start (inr h) = inr (record { weighted = h.weighted; perfect = h.perfect; begins = h.begins; raised = h.raised; low = h.low; total = h.total; vertices = h.vertices; blossoms = h.blossoms })
+relabelled s t start (inr h) = inr (record { weighted = h.weighted; perfect = h.perfect; start_weight = h.start_weight; raised = h.raised; low = h.low; total = h.total; vertices = h.vertices; blossoms = h.blossoms })
 
 -- a step that keeps the graph, the blossoms and the duals
 pub bounded_same : (before after : State) (start : ℤ) → after.graph ≡ before.graph → after.weighted ≡ before.weighted → after.blossoms ≡ before.blossoms → after.dual ≡ before.dual → IsBounded before start → IsBounded after start
@@ -59,7 +60,7 @@ module _ (s : State) (b : Blossom) (top : ℕ) (start : ℤ) (fresh : is_node s.
         (λ e. let old = node_before s.graph.vertices b s.blossoms a e is in old_dual a old ∙ h.zero a old);
   }
 
-  total_same : dual_total made ≡ dual_total s
+  pub total_same : dual_total made ≡ dual_total s
   total_same =
       let n : ℕ = s.graph.vertices in
       let sums : int_sum_to (λ i. made.dual (i + 1)) n ≡ int_sum_to (λ i. s.dual (i + 1)) n = int_sum_to-same (λ i. made.dual (i + 1)) (λ i. s.dual (i + 1)) n (λ i low. old_dual (i + 1) (vertex_is_node n s.blossoms (i + 1) (range_vertex n (i + 1) (omega arith) (omega arith)))) in
@@ -74,7 +75,7 @@ module _ (s : State) (b : Blossom) (top : ℕ) (start : ℤ) (fresh : is_node s.
   shrunk_raised h = record {
     weighted = h.weighted;
     perfect = h.perfect;
-    begins = h.begins;
+    start_weight = h.start_weight;
     raised = h.raised;
     low = h.low;
     total = total_same ∙ h.total;
@@ -129,7 +130,7 @@ opened_bounded s node start empty (inl h) = inl (record {
 opened_bounded s node start empty (inr h) = inr (record {
   weighted = h.weighted;
   perfect = h.perfect;
-  begins = h.begins;
+  start_weight = h.start_weight;
   raised = h.raised;
   low = h.low;
   total = ap (λ z. int_sum_to (λ i. s.dual (i + 1)) s.graph.vertices +ℤ z) (sum_without s.dual s.blossoms node empty) ∙ h.total;
@@ -141,3 +142,21 @@ opened_bounded s node start empty (inr h) = inr (record {
 pub bounded_expanded : (before after : State) (node : ℕ) (start : ℤ) → CanExpand before node → IsExpanded before after node → IsBounded before start → IsBounded after start
 bounded_expanded before after node start can expanded h =
     bounded_same (record before { blossoms = without before.blossoms node }) after start expanded.graph expanded.weighted expanded.blossoms expanded.dual (opened_bounded before node start can.empty h)
+
+-- the sum of all duals is the same after each of these
+pub total_kept : (before after : State) → after.graph ≡ before.graph → after.blossoms ≡ before.blossoms → after.dual ≡ before.dual → dual_total after ≡ dual_total before
+total_kept before after graph blossoms dual =
+    ap (λ (g : Multigraph). int_sum_to (λ i. after.dual (i + 1)) g.vertices +ℤ dual_sum after.dual (names_of after.blossoms)) graph
+    ∙ ap (λ (bs : List Blossom). int_sum_to (λ i. after.dual (i + 1)) before.graph.vertices +ℤ dual_sum after.dual (names_of bs)) blossoms
+    ∙ ap (λ (y : ℕ → ℤ). int_sum_to (λ i. y (i + 1)) before.graph.vertices +ℤ dual_sum y (names_of before.blossoms)) dual
+
+pub total_shrunk : (before after : State) (node : ℕ) → IsNested after.graph.vertices after.blossoms → IsShrunk before after node → dual_total after ≡ dual_total before
+total_shrunk before after node nested shrunk =
+    let b : Blossom = made_of before.blossoms shrunk.ring node in
+    let nested_new : IsNested before.graph.vertices (b ∷ before.blossoms) = subst (λ (t : State). IsNested t.graph.vertices t.blossoms) shrunk.state nested in
+    ap dual_total shrunk.state ∙ total_same before b shrunk.base (pos 0) nested_new.0.fresh
+
+pub total_expanded : (before after : State) (node : ℕ) → CanExpand before node → IsExpanded before after node → dual_total after ≡ dual_total before
+total_expanded before after node can expanded =
+    total_kept (record before { blossoms = without before.blossoms node }) after expanded.graph expanded.blossoms expanded.dual
+    ∙ ap (λ z. int_sum_to (λ i. before.dual (i + 1)) before.graph.vertices +ℤ z) (sum_without before.dual before.blossoms node can.empty)

@@ -45,7 +45,7 @@ module _ (s : State) (graph : IsGraph s.graph) (none : HasNoDuals s) where
       omega (arith, ints, felt, free)
 
   -- so a change that leads to an event is 0
-  no_change : (d : ℤ) (event : Event) → IsWithin s d → IsPossible (applied s d) event → d ≡ pos 0
+  pub no_change : (d : ℤ) (event : Event) → IsWithin s d → IsPossible (applied s d) event → d ≡ pos 0
   no_change d (Grow e) within can =
       let bound : d ≤ℤ slack_of s e = within.to_out e can.near can.far can.tight.edge can.joins can.near_outer can.far_out in
       let slack : slack_of s e ≡ pos 0 = no_slack e can.tight.edge in

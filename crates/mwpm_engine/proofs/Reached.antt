@@ -1,51 +1,120 @@
--- What comes next in a phase: the duals change within their bounds, and one tree stays.
-use Rattle.std.proofs.Common.{◌≡◌, ◌∙◌, ℕ, ℤ, Option, Some, None, sym, ap, subst}
+-- What comes next in a phase: the duals and the clock change within their bounds, and one tree stays.
+use Rattle.std.proofs.Common.{◌≡◌, ◌∙◌, ℕ, ◌+◌, ℤ, ◌+ℤ◌, ◌≤ℤ◌, Option, Some, None, refl, sym, ap, subst}
+use Rattle.graph_theory.specs.declared.limits.TheConstants.{NUMBER_LIMIT}
 use Rattle.alt_forest.specs.declared.search.Search.{Search}
 use Rattle.alt_forest.specs.State.{State}
 use Rattle.alt_forest.specs.Searches.{IsSound, state_of}
 use Rattle.alt_forest.specs.Trees.{IsRoot}
 use Rattle.alt_forest.specs.Counts.{tree_count, HasOneTree}
+use Rattle.alt_forest.specs.Entries.{HasNoTree, IsQueued}
+use Rattle.alt_forest.specs.Standing.{IsStanding}
 use Rattle.alt_forest.proofs.Places.{nested_of}
 use Rattle.alt_forest.proofs.Counted.{roots_counted}
+use Rattle.alt_forest.proofs.Queues.{standing_with}
+use Rattle.alt_forest.proofs.Relabelled.{outer_not_out}
 use Rattle.dual_change.specs.declared.event.Event.{Event}
 use Rattle.dual_change.specs.declared.event.Next.{Next}
 use Rattle.dual_change.specs.declared.event.Next.TheVariants.{Grow as NextGrow, Shrink as NextShrink, Augment as NextAugment, Expand as NextExpand, Stuck}
-use Rattle.dual_change.specs.Changes.{applied, IsWithin, IsPossible, IsLeast, IsStuck, IsNext, IsNextWithin, StaysInRange}
+use Rattle.dual_change.specs.Changes.{applied, IsWithin, IsPossible, IsLeast, IsStuck, IsNext, IsNextWithin, StaysInRange, edge_looks}
+use Rattle.dual_change.proofs.Applied.{applied_state}
 use Rattle.mwpm_engine.specs.Bounds.{IsBounded}
 use Rattle.mwpm_engine.proofs.Bounded.{in_range}
-use Rattle.mwpm_engine.specs.Passes.{IsGrowing, HasStuckTree, event_of}
+use Rattle.mwpm_engine.proofs.Timed.{timed_applied, clock_fits}
+use Rattle.mwpm_engine.specs.Passes.{IsTimed, IsGrowing, HasStuckTree, event_of, steps_to}
 
 -- an event that the least change leads to, within the bounds, or none where the search is stuck
-abbrev pub Comes : State → Option (Event × ℤ) → Type 0
+abbrev Comes : State → Option (Event × ℤ) → Type 0
 Comes s None = IsStuck s
 Comes s (Some p) = IsLeast s p.1 p.0 × IsWithin s p.1
 
-pub comes : (s : State) (next : Next) → IsNext s next → IsNextWithin s next → Comes s (event_of next)
+comes : (s : State) (next : Next) → IsNext s next → IsNextWithin s next → Comes s (event_of next)
 comes s (NextGrow e d) found within = (found, within)
 comes s (NextShrink e d) found within = (found, within)
 comes s (NextAugment e d) found within = (found, within)
 comes s (NextExpand b d) found within = (found, within)
 comes s Stuck found within = found
 
+-- the look at an event's edge, and the change of duals
+abbrev pub LooksThen : Next → Option (Event × ℤ) → Type 0
+LooksThen next None = edge_looks next ≡ 0
+LooksThen next (Some p) = edge_looks next + 1 ≡ steps_to p.0
+
+pub looks_then : (next : Next) → LooksThen next (event_of next)
+looks_then (NextGrow e d) = refl
+looks_then (NextShrink e d) = refl
+looks_then (NextAugment e d) = refl
+looks_then (NextExpand b d) = refl
+looks_then Stuck = refl
+
 -- one tree by count has one root
 pub one_root : (s : Search) → IsGrowing s → HasOneTree (state_of s) × ((root : ℕ) × IsRoot (state_of s) root)
 one_root s h = roots_counted (state_of s) (nested_of s h.sound.shape) h.tree
 
--- a change that leads to an event keeps the duals in range and bounded
-pub stays : (s : Search) (d : ℤ) (event : Event) → IsGrowing s → IsWithin (state_of s) d → IsPossible (applied (state_of s) d) event → StaysInRange (state_of s) d × IsBounded (applied (state_of s) d) s.start
+-- so some tree stands
+pub some_tree : (s : Search) → IsGrowing s → HasNoTree (state_of s) → ⊥
+some_tree s h none = let r = (one_root s h).1 in outer_not_out (sym r.1.outer ∙ none r.0 r.1.outermost)
+
+-- a search whose queue has lost entries grows on
+growing_found : (s u : Search) → u ≡ record s { queue = u.queue } → IsSound u → IsQueued u → IsGrowing s → IsGrowing u
+growing_found s u rest sound queued h =
+    let state : state_of u ≡ state_of s = ap state_of rest in
+    let start : u.start ≡ s.start = ap (λ (x : Search). x.start) rest in
+    let clock : u.clock ≡ s.clock = ap (λ (x : Search). x.clock) rest in
+    record {
+      sound = sound;
+      queued = queued;
+      standing = subst IsStanding (sym rest) (standing_with s u.queue h.standing);
+      tree = ap tree_count state ∙ h.tree;
+      bounded = subst (λ y. IsBounded (state_of u) y) (sym start) (subst (λ (x : State). IsBounded x s.start) (sym state) h.bounded);
+      timed = subst (λ y. IsTimed (state_of u) y u.clock) (sym start) (subst (λ y. IsTimed (state_of u) s.start y) (sym clock) (subst (λ (x : State). IsTimed x s.start s.clock) (sym state) h.timed));
+    }
+
+-- what a change that leads to an event leaves
+pub record Stays (s : State) (start clock d : ℤ) : Type 0 where
+  pub in_range : StaysInRange s d
+  pub bounded : IsBounded (applied s d) start
+  pub timed : IsTimed (applied s d) start (clock +ℤ d)
+  pub clock_fits : (clock +ℤ d) ≤ℤ NUMBER_LIMIT
+
+-- a change that leads to an event keeps the duals and the clock in range and bounded
+stays : (s : Search) (d : ℤ) (event : Event) → IsGrowing s → IsWithin (state_of s) d → IsPossible (applied (state_of s) d) event → Stays (state_of s) s.start s.clock d
 stays s d event h within can =
     let r = one_root s h in
     let graph = h.sound.shape.graph in
-    in_range (state_of s) s.start h.sound.depth graph.graph graph.limits.vertices (nested_of s h.sound.shape) h.sound.state h.bounded r.0 r.1.0 r.1.1 d event within can
+    let nested = nested_of s h.sound.shape in
+    let range = in_range (state_of s) s.start h.sound.depth graph.graph graph.limits.vertices nested h.sound.state h.bounded r.0 r.1.0 r.1.1 d event within can in
+    let timed = timed_applied (state_of s) s.start s.clock d h.sound.depth event graph.graph nested h.sound.state h.tree h.bounded within can h.timed in
+    record {
+      in_range = range.0;
+      bounded = range.1;
+      timed = timed;
+      clock_fits = clock_fits (applied (state_of s) d) s.start (s.clock +ℤ d) h.sound.depth graph.graph graph.limits.vertices nested (applied_state (state_of s) d graph.graph nested h.sound.depth h.sound.state within) range.1 timed;
+    }
 
 -- a search whose state is that after the change grows on
-pub grows_on : (s t : Search) (d : ℤ) (event : Event) → IsGrowing s → IsSound t → state_of t ≡ applied (state_of s) d → t.start ≡ s.start → IsBounded (applied (state_of s) d) s.start → IsGrowing t
-grows_on s t d event h sound is start bounded = record {
+pub grows_on : (s t : Search) (d : ℤ) → IsGrowing s → IsSound t → IsQueued t → IsStanding t → state_of t ≡ applied (state_of s) d → t.start ≡ s.start → t.clock ≡ s.clock +ℤ d → Stays (state_of s) s.start s.clock d → IsGrowing t
+grows_on s t d h sound queued standing is start clock left = record {
   sound = sound;
+  queued = queued;
+  standing = standing;
   tree = ap tree_count is ∙ h.tree;
-  bounded = subst (λ y. IsBounded (state_of t) y) (sym start) (subst (λ x. IsBounded x s.start) (sym is) bounded);
+  bounded = subst (λ y. IsBounded (state_of t) y) (sym start) (subst (λ (x : State). IsBounded x s.start) (sym is) left.bounded);
+  timed = subst (λ y. IsTimed (state_of t) y t.clock) (sym start) (subst (λ y. IsTimed (state_of t) s.start y) (sym clock) (subst (λ (x : State). IsTimed x s.start (s.clock +ℤ d)) (sym is) left.timed));
 }
 
 -- where nothing comes next the tree is stuck
 pub stuck_tree : (s : Search) → IsGrowing s → IsStuck (state_of s) → HasStuckTree s
 stuck_tree s h stuck = let r = one_root s h in record { sound = h.sound; one_tree = r.0; root = r.1.0; is_root = r.1.1; stuck = stuck }
+
+-- an event that was found, with the change that leads to it
+pub record IsFound (u : Search) (event : Event) (d : ℤ) : Type 0 where
+  pub growing : IsGrowing u
+  pub possible : IsPossible (applied (state_of u) d) event
+  pub within : IsWithin (state_of u) d
+  pub left : Stays (state_of u) u.start u.clock d
+
+pub found : (s u : Search) (next : Next) (event : Event) (d : ℤ) → u ≡ record s { queue = u.queue } → IsSound u → IsQueued u → IsNext (state_of u) next → IsNextWithin (state_of u) next → event_of next ≡ Some (event, d) → IsGrowing s → IsFound u event d
+found s u next event d rest sound queued is within same h =
+    let growing = growing_found s u rest sound queued h in
+    let all : Comes (state_of u) (Some (event, d)) = subst (Comes (state_of u)) same (comes (state_of u) next is within) in
+    record { growing = growing; possible = all.0.possible; within = all.1; left = stays u d event growing all.1 all.0.possible }

@@ -1,10 +1,9 @@
 -- What keeps every dual of a pass in range (chapter 26): the sum of all duals is at most twice the weight of a perfect
 -- matching, so all changes together are bounded.
 use Rattle.std.specs.Prelude.{◌≡◌, ◌⊎◌, ℕ, ℤ, pos, ◌+ℤ◌, ◌-ℤ◌, ◌*ℤ◌, ◌≤ℤ◌, true, false}
+use Rattle.graph_theory.specs.Graph.{IsWeight}
 use Rattle.graph_theory.specs.Parts.{holds}
 use Rattle.blossom_arena.specs.Family.{is_node, is_vertex, names_of}
-use Rattle.alt_forest.specs.declared.label.Weights.TheVariants.{Given}
-use Rattle.alt_forest.specs.Searches.{IsStart}
 use Rattle.alt_forest.specs.State.{State}
 use Rattle.dual_change.specs.Laws.{dual_total}
 use Rattle.mwpm_engine.specs.Solutions.{HasPerfect}
@@ -19,7 +18,7 @@ pub record HasNoDuals (s : State) : Type 0 where
 pub record IsRaised (s : State) (start : ℤ) : Type 0 where
   pub weighted : s.weighted ≡ true
   pub perfect : HasPerfect s.graph
-  pub begins : IsStart s.graph Given start
+  pub start_weight : IsWeight start
   pub raised : ℤ
   pub low : pos 0 ≤ℤ raised
   pub total : dual_total s ≡ (pos s.graph.vertices *ℤ start) +ℤ raised

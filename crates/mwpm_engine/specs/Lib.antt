@@ -1,5 +1,6 @@
 pub mod Solutions
 pub mod Bounds
+pub mod Starts
 pub mod Solving
 pub mod Passes
 pub mod Kept

@@ -4,13 +4,22 @@
 #![tactic(auto)]
 
 mod engine;
+mod exposed;
+mod lifting;
 mod listing;
 mod outcome;
+mod pairing;
 mod pass;
-mod phase;
+mod phases;
+mod phase_end;
+mod raising;
 mod solving;
+mod starting;
 mod weights;
 
 pub use blossom_arena::Members;
 pub use engine::Engine;
 pub use outcome::Outcome;
+pub use phases::phase;
+pub use phase_end::PhaseEnd;
+pub use starting::start_duals;

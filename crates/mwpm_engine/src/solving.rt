@@ -1,12 +1,13 @@
-ghost use Rattle.std.specs.Prelude.{◌≡◌, ◌≤◌, ◌+◌, ◌*◌, ℕ, true, MatchBool};
+ghost use Rattle.std.specs.Prelude.{◌≡◌, ◌≤◌, ◌+◌, ◌*◌, ℕ, true, length, MatchBool};
 ghost use Rattle.alt_forest.specs.declared.label.Weights.TheVariants.{Given};
 ghost use Rattle.alt_forest.specs.Searches.{HasShape, IsStart};
 ghost use Rattle.mwpm_engine.specs.Solutions.{HasPerfect, size_of_graph, most_steps};
 ghost use Rattle.mwpm_engine.specs.Solving.{IsUnpacked, HasBoundedDuals};
-ghost use Rattle.mwpm_engine.specs.Passes.{HasStuckTree, Concludes, phase_steps, phases_doubled};
+ghost use Rattle.mwpm_engine.specs.Passes.{HasStuckTree, Concludes, most_phase_steps, phases_doubled};
 
 use crate::outcome::Outcome;
 use crate::pass::pass;
+use crate::starting::start_duals;
 use crate::weights::{is_unweighted, least_weight};
 use alt_forest::{Search, Weights};
 use augment::unpack;
@@ -14,7 +15,7 @@ use mb_base::Steps;
 use std::sync::ledger::Ledger;
 use weighted_graph::Graph;
 
-/// A pass from the beginning, whose matching is unpacked; false where a tree is stuck. A pass with
+/// A pass from the beginning, with duals and mates to start with, whose matching is unpacked; false where a tree is stuck. A pass with
 /// weights is made only where there is a perfect matching, so it never is: else its duals have no bound.
 fn pass_anew<L: Ledger>(
     search: &mut Search,
@@ -33,9 +34,10 @@ fn pass_anew<L: Ledger>(
     ensures shape { HasShape search.new }
     ensures graph { search.new.graph ≡ search.old.graph }
     ensures weights { search.new.weights ≡ weights }
-    ensures steps { 2 * steps.new ≤ 2 * steps.old + phases_doubled graph.now.vertices result * phase_steps graph.now }
+    ensures steps { 2 * steps.new ≤ 2 * steps.old + phases_doubled graph.now.vertices result * most_phase_steps (size_of_graph graph.now) + 8 * length graph.now.edges }
 {
     search.reset(graph, weights, start);
+    start_duals(search, graph, steps);
     if !pass(search, graph, steps) {
         return false;
     }

@@ -1,4 +1,4 @@
-ghost use Rattle.std.specs.Prelude.{◌≡◌, ◌≤◌, ◌+◌, ◌≤ℤ◌, ℕ, pos, length, MatchBool};
+ghost use Rattle.std.specs.Prelude.{◌≡◌, ◌≤◌, ◌+◌, ◌≤ℤ◌, ℕ, ℤ, pos, length, MatchBool};
 ghost use Rattle.graph_theory.specs.Graph.{IsEdgeNumber, IsWeight, edge_of};
 ghost use Rattle.alt_forest.specs.declared.label.Weights.TheVariants.{Given};
 ghost use Rattle.alt_forest.specs.Searches.{IsStart};
@@ -9,7 +9,7 @@ use std::sync::ledger::Ledger;
 use weighted_graph::Graph;
 
 /// The weight of an edge, at one counted look.
-fn weight_of<L: Ledger>(graph: &Graph, e: EdgeId, steps: &mut Steps<L>) -> i64
+pub(crate) fn weight_of<L: Ledger>(graph: &Graph, e: EdgeId, steps: &mut Steps<L>) -> i64
     requires { IsEdgeNumber graph.now e }
     ensures is { result ≡ (edge_of graph.now e).w }
     ensures weight { IsWeight result }
@@ -26,6 +26,7 @@ fn lesser(one: i64, other: i64) -> i64
     ensures weight { IsWeight result }
     ensures one { result ≤ℤ one }
     ensures other { result ≤ℤ other }
+    ensures low { (x : ℤ) → x ≤ℤ one → x ≤ℤ other → x ≤ℤ result }
 {
     if one < other {
         return one;
@@ -34,12 +35,18 @@ fn lesser(one: i64, other: i64) -> i64
 }
 
 /// The lesser of a weight and of that of an edge, at one counted look.
-fn lesser_of<L: Ledger>(least: i64, graph: &Graph, e: EdgeId, steps: &mut Steps<L>) -> i64
+pub(crate) fn lesser_of<L: Ledger>(
+    least: i64,
+    graph: &Graph,
+    e: EdgeId,
+    steps: &mut Steps<L>,
+) -> i64
     requires least { IsWeight least }
     requires edge { IsEdgeNumber graph.now e }
     ensures weight { IsWeight result }
     ensures least { result ≤ℤ least }
     ensures edge { result ≤ℤ (edge_of graph.now e).w }
+    ensures low { (x : ℤ) → x ≤ℤ least → x ≤ℤ (edge_of graph.now e).w → x ≤ℤ result }
     ensures step { steps.new ≡ steps.old + 1 }
 {
     lesser(least, weight_of(graph, e, steps))

@@ -1,30 +1,17 @@
-use Rattle.std.proofs.Common.{◌≡◌, ◌∙◌, ℤ, true, false, sym, ap, subst, rules, to_z, of_z}
+use Rattle.std.proofs.Common.{◌≡◌, ◌∙◌, ◌≤◌, ℤ, true, false, length, sym, ap, subst, arith, rules, to_z, of_z}
 use mir.Syntax.{w64}
 use Rattle.graph_theory.specs.Graph.{Multigraph}
+use Rattle.alt_forest.specs.declared.label.Weights.{Weights}
 use Rattle.alt_forest.specs.declared.search.Search.{Search}
 use Rattle.alt_forest.specs.Counts.{exposed_count}
-use Rattle.alt_forest.specs.Searches.{IsStart, state_of}
-use Rattle.mwpm_engine.proofs.Anew.{bounded_anew}
+use Rattle.alt_forest.specs.Searches.{IsStart, label_at, state_of}
+use Rattle.mwpm_engine.specs.Solutions.{size_of_graph}
+use Rattle.mwpm_engine.specs.Passes.{most_phase_steps}
 use Rattle.mwpm_engine.proofs.BoundedDuals.{unpacked_within}
-use Rattle.mwpm_engine.proofs.StepCounts.{pass_paid}
+use Rattle.mwpm_engine.proofs.StepCounts.{exposed_few, pass_paid}
 use Rattle.mwpm_engine.proofs.Concluded.{stuck_excludes}
 use Rattle.mwpm_engine.proofs.CertificateRuns.{unpacked}
 use Rattle.mwpm_engine.proofs.solving.pass_anew.Goals as goal
-
-all_exposed : (s : Search) (g : Multigraph) → exposed_count (state_of s) ≡ s.graph.vertices → s.graph ≡ g → exposed_count (state_of s) ≡ g.vertices
-all_exposed s g all same = all ∙ ap (λ (x : Multigraph). x.vertices) same
-
-pub pass-requires-clause-ready : goal.pass-requires-clause-ready
-pass-requires-clause-ready g c =
-    let e = c.reset.ensures in
-    let start : ℤ = to_z w64 (of_z w64 c.args.start) in
-    let back : start ≡ c.args.start = search rules in
-    let can : IsStart c.args.graph.now c.args.weights start = subst (IsStart c.args.graph.now c.args.weights) (sym back) c.requires.start in
-    record {
-      sound = e.sound;
-      labels = e.labels;
-      bounded = bounded_anew c.reset.new.self c.args.graph.now c.args.weights start (e.graph ∙ sym c.requires.same) e.weights e.start e.blossoms e.duals can c.requires.perfect;
-    }
 
 pub returns-clause-ends : goal.returns-clause-ends
 returns-clause-ends g c =
@@ -34,12 +21,37 @@ returns-clause-ends g c =
 pub returns-clause-bounded : goal.returns-clause-bounded
 returns-clause-bounded g c _ = unpacked_within c.pass.new.search c.unpack.new.search c.unpack.ensures.rest c.if-not-pass.ensures.ends.0
 
+pub start_duals-requires-clause-start : goal.start_duals-requires-clause-start
+start_duals-requires-clause-start g c =
+    let back : to_z w64 (of_z w64 c.args.start) ≡ c.args.start = search rules in
+    let e = c.reset.ensures in
+    subst (λ (w : Weights). IsStart c.args.graph.now w c.reset.new.self.start) (sym e.weights) (subst (IsStart c.args.graph.now c.args.weights) (sym (e.start ∙ back)) c.requires.start)
+
+pub pass-requires-clause-ready : goal.pass-requires-clause-ready
+pass-requires-clause-ready g c =
+    let e = c.start_duals.ensures in
+    record {
+      sound = e.sound;
+      queued = e.queued;
+      standing = e.standing;
+      labels = λ a. ap (λ (t : Search). label_at t.labels.items a) e.rest ∙ c.reset.ensures.labels a;
+      bounded = e.bounded (λ given. c.requires.perfect (sym c.reset.ensures.weights ∙ given));
+    }
+
+-- the pass begins with no more exposed nodes than vertices, so this is what it counts
 pub returns-then-not-pass-clause-steps : goal.returns-then-not-pass-clause-steps
-returns-then-not-pass-clause-steps g c = pass_paid c.args.graph.now false (exposed_count (state_of c.reset.new.self)) c.args.steps.now c.pass.new.steps (all_exposed c.reset.new.self c.args.graph.now c.reset.ensures.exposed (c.reset.ensures.graph ∙ sym c.requires.same)) c.if-not-pass.ensures.steps
+returns-then-not-pass-clause-steps g c =
+    let graph : Multigraph = c.args.graph.now in
+    let few = exposed_few c.reset.new.self c.start_duals.new.search graph c.start_duals.ensures.exposed c.reset.ensures.exposed (c.reset.ensures.graph ∙ sym c.requires.same) in
+    pass_paid graph.vertices (length graph.edges) (most_phase_steps (size_of_graph graph)) false (exposed_count (state_of c.start_duals.new.search)) c.args.steps.now c.start_duals.new.steps c.pass.new.steps few c.start_duals.ensures.steps c.if-not-pass.ensures.steps
 
 pub returns-clause-steps : goal.returns-clause-steps
-returns-clause-steps g c = pass_paid c.args.graph.now true (exposed_count (state_of c.reset.new.self)) c.args.steps.now c.pass.new.steps (all_exposed c.reset.new.self c.args.graph.now c.reset.ensures.exposed (c.reset.ensures.graph ∙ sym c.requires.same)) c.if-not-pass.ensures.steps
+returns-clause-steps g c =
+    let graph : Multigraph = c.args.graph.now in
+    let few = exposed_few c.reset.new.self c.start_duals.new.search graph c.start_duals.ensures.exposed c.reset.ensures.exposed (c.reset.ensures.graph ∙ sym c.requires.same) in
+    pass_paid graph.vertices (length graph.edges) (most_phase_steps (size_of_graph graph)) true (exposed_count (state_of c.start_duals.new.search)) c.args.steps.now c.start_duals.new.steps c.pass.new.steps few c.start_duals.ensures.steps c.if-not-pass.ensures.steps
 
 pub returns-then-not-pass-clause-sure : goal.returns-then-not-pass-clause-sure
 returns-then-not-pass-clause-sure g c given =
-    absurd (stuck_excludes c.pass.new.search c.args.graph.now (c.if-not-pass.ensures.pass.graph ∙ c.reset.ensures.graph ∙ sym c.requires.same) c.if-not-pass.ensures.ends (c.requires.perfect given))
+    let graph = c.if-not-pass.ensures.pass.graph ∙ ap (λ (t : Search). t.graph) c.start_duals.ensures.rest ∙ c.reset.ensures.graph ∙ sym c.requires.same in
+    absurd (stuck_excludes c.pass.new.search c.args.graph.now graph c.if-not-pass.ensures.ends (c.requires.perfect given))

@@ -2,7 +2,7 @@ use Rattle.std.proofs.Common.{◌≡◌, ◌+◌, ◌-◌, subst, arith}
 use Rattle.alt_forest.specs.State.{IsExposed}
 use Rattle.alt_forest.specs.Searches.{state_of}
 use Rattle.alt_forest.proofs.Places.{outer_range}
-use Rattle.mwpm_engine.proofs.pass.exposed_node.Goals as goal
+use Rattle.mwpm_engine.proofs.exposed.exposed_node.Goals as goal
 
 pub returns : goal.returns
 returns c a exposed =

@@ -1,0 +1,61 @@
+-- Where no vertex lies in a blossom an edge feels its two ends alone.
+use Rattle.std.proofs.Common.{◌≡◌, ◌≢◌, ◌⊎◌, ◌∙◌, ℕ, ℤ, pos, ◌+ℤ◌, ◌-ℤ◌, ◌≤ℤ◌, true, false, ◌||◌, ◌&&◌, not, eqb, List, [], Some, sym, ap, subst, ⊎_elim, inl, inr}
+use Rattle.std.specs.List.{AllByRecursion}
+use Rattle.std.proofs.lemmas.Bool.{eqb-true, or_cases}
+use Rattle.graph_theory.specs.Graph.{IsEdgeNumber, edge_of, touches}
+use Rattle.blossom_arena.specs.declared.links.Link.{Link}
+use Rattle.blossom_arena.specs.Family.{Blossom, is_vertex, is_node, is_outermost}
+use Rattle.blossom_arena.proofs.Nested.{outermost_parts}
+use Rattle.alt_forest.specs.declared.label.Label.TheVariants.{Out}
+use Rattle.alt_forest.specs.State.{State, IsOutermost, Joins, IsMate, IsTight, HasRings, IsSearchState, doubled, slack_of, slack_with}
+use Rattle.alt_forest.proofs.Relabelled.{outer_not_out, inner_not_out}
+
+module _ (s : State) (alone : s.blossoms ≡ []) where
+  pub slack_flat : (e : ℕ) → slack_of s e ≡ doubled s.graph s.weighted e -ℤ (s.dual (edge_of s.graph e).u +ℤ s.dual (edge_of s.graph e).v)
+  slack_flat e = ap (λ (bs : List Blossom). slack_with s.graph s.weighted s.dual bs e) alone
+
+  -- the nodes that an edge joins are its ends
+  pub ends_flat : (e a b : ℕ) → Joins s.graph s.blossoms e a b → (((edge_of s.graph e).u ≡ a) × ((edge_of s.graph e).v ≡ b)) ⊎ (((edge_of s.graph e).u ≡ b) × ((edge_of s.graph e).v ≡ a))
+  ends_flat e a b j = subst (λ (bs : List Blossom). Joins s.graph bs e a b) alone j
+
+  pub joins_flat : (e a b : ℕ) → (((edge_of s.graph e).u ≡ a) × ((edge_of s.graph e).v ≡ b)) ⊎ (((edge_of s.graph e).u ≡ b) × ((edge_of s.graph e).v ≡ a)) → Joins s.graph s.blossoms e a b
+  joins_flat e a b p = subst (λ (bs : List Blossom). Joins s.graph bs e a b) (sym alone) p
+
+  -- the outermost nodes are the vertices
+  pub vertex_flat : (a : ℕ) → IsOutermost s a → is_vertex s.graph.vertices a ≡ true
+  vertex_flat a is = ⊎_elim
+      (λ v. v)
+      (λ m. absurd (false_true m))
+      (or_cases (is_vertex s.graph.vertices a) false (subst (λ (bs : List Blossom). is_node s.graph.vertices bs a ≡ true) alone (outermost_parts s.graph.vertices s.blossoms a is).0))
+    where
+      false_true : false ≡ true → ⊥
+      false_true e = cc
+
+  pub outer_flat : (a : ℕ) → is_vertex s.graph.vertices a ≡ true → IsOutermost s a
+  outer_flat a is = subst (λ (bs : List Blossom). is_outermost s.graph.vertices bs a ≡ true) (sym alone) (ap (λ q. (q || false) && not false) is)
+
+  -- an end of an edge is one of the nodes that it joins
+  pub end_flat : (v e a b : ℕ) → Joins s.graph s.blossoms e a b → touches (edge_of s.graph e) v ≡ true → (a ≡ v) ⊎ (b ≡ v)
+  end_flat v e a b j t =
+      let u_is = eqb-true (edge_of s.graph e).u v in
+      let v_is = eqb-true (edge_of s.graph e).v v in
+      ⊎_elim
+      (λ p. ⊎_elim (λ q. inl (sym p.0 ∙ u_is q)) (λ q. inr (sym p.1 ∙ v_is q)) (or_cases (eqb (edge_of s.graph e).u v) (eqb (edge_of s.graph e).v v) t))
+      (λ p. ⊎_elim (λ q. inr (sym p.0 ∙ u_is q)) (λ q. inl (sym p.1 ∙ v_is q)) (or_cases (eqb (edge_of s.graph e).u v) (eqb (edge_of s.graph e).v v) t))
+      (ends_flat e a b j)
+
+  -- with no tree either, feasible slacks and pairs of mates are all that there is to a search
+  pub flat_state : (depth : ℕ → ℕ) → ((a : ℕ) → s.label a ≡ Out) → ((e : ℕ) → IsEdgeNumber s.graph e → pos 0 ≤ℤ slack_of s e)
+      → ((a e : ℕ) → IsOutermost s a → s.mate a ≡ Some e → (b : ℕ) × IsMate s a e b) → IsSearchState s depth
+  flat_state depth out slacks mates = record {
+    rings = subst (HasRings s.graph) (sym alone) tt;
+    tight_rings = subst (AllByRecursion (λ (b : Blossom). AllByRecursion (λ (l : Link). IsTight s l.edge) b.ring)) (sym alone) tt;
+    slacks = slacks;
+    duals = subst (AllByRecursion (λ (b : Blossom). pos 0 ≤ℤ s.dual b.node)) (sym alone) tt;
+    mates = mates;
+    labels = λ a is. record {
+      outer = λ l. outer_not_out (sym l ∙ out a);
+      inner = λ l. inner_not_out (sym l ∙ out a);
+      out = λ l e b has m. out b;
+    };
+  }

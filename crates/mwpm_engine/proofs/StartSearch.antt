@@ -1,0 +1,151 @@
+-- What the steps of the start of a pass leave of a search.
+use Rattle.std.proofs.Common.{◌≡◌, ◌∙◌, ℕ, ◌+◌, ◌<◌, ◌≤◌, ℤ, pos, ◌+ℤ◌, ◌≤ℤ◌, true, ◌||◌, eqb, cond, List, [], Option, Some, None, length, sym, ap, subst, arith, vec_len}
+use Rattle.std.specs.Prelude.{slice_index_or}
+use Rattle.std.proofs.lemmas.Int.{ints}
+use Rattle.std.proofs.lemmas.Bool.{eqb-true}
+use Rattle.graph_theory.specs.Graph.{Multigraph, IsEdgeNumber, edge_of, edges_around, touches, other_end}
+use Rattle.graph_theory.proofs.Edges.{edge_of_within}
+use Rattle.blossom_arena.proofs.Lists.{by_test}
+use Rattle.blossom_arena.specs.Family.{Family, IsFamily, dual_at, is_vertex, raised}
+use Rattle.blossom_arena.proofs.Nested.{vertex_range}
+use Rattle.alt_forest.specs.declared.search.Search.{Search}
+use Rattle.alt_forest.specs.State.{State, IsExposed, IsTight, IsSearchState, slack_of}
+use Rattle.alt_forest.specs.Trees.{SameParity}
+use Rattle.alt_forest.specs.Counts.{exposed_count}
+use Rattle.alt_forest.specs.Searches.{HasShape, IsSound, edge_in, put, state_of}
+use Rattle.alt_forest.proofs.Puts.{put_dual}
+use Rattle.alt_forest.proofs.Relabelled.{some_not_none}
+use Rattle.mwpm_engine.specs.Starts.{IsBegun, CanRise, CanPair, IsRise}
+use Rattle.mwpm_engine.proofs.StartDuals.{raised_at, raised_state, raised_begun, rise_high, rise_still, slack_even, slack_here}
+use Rattle.mwpm_engine.proofs.StartMates.{paired_by, paired_state, paired_exposed, some_same}
+
+-- a vertex's dual has its place in the list
+pub dual_place : (s : Search) (v : ℕ) → HasShape s → is_vertex s.graph.vertices v ≡ true → v < length s.arena.duals
+dual_place s v h is = omega (arith, (vertex_range s.graph.vertices v is).1, h.family.duals.one_each, h.arena)
+
+-- the search with the dual of a vertex raised
+module _ (s : Search) (f : Family) (v : ℕ) (d : ℤ) (is : f ≡ raised s.arena v d) (h : IsSound s) (vertex : is_vertex s.graph.vertices v ≡ true) where
+  pub raised_duals : dual_at f.duals ≡ put (dual_at s.arena.duals) v (dual_at s.arena.duals v +ℤ d)
+  raised_duals = ap (λ (k : Family). dual_at k.duals) is ∙ put_dual s.arena.duals v (dual_at s.arena.duals v +ℤ d) (dual_place s v h.shape vertex)
+
+  pub raised_is : state_of (record s { arena = f }) ≡ raised_at (state_of s) v d
+  raised_is =
+      ap (λ (k : Family). state_of (record s { arena = k })) is
+      ∙ ap (λ (y : ℕ → ℤ). record (state_of s) { dual = y }) (put_dual s.arena.duals v (dual_at s.arena.duals v +ℤ d) (dual_place s v h.shape vertex))
+
+  module _ (begun : IsBegun (state_of s) s.start) (can : CanRise (state_of s) v d) where
+    pub raised_sound : IsFamily f → IsSound (record s { arena = f })
+    raised_sound good = record {
+      shape = record {
+        graph = h.shape.graph;
+        family = good;
+        arena = ap (λ (k : Family). k.vertex_count) is ∙ h.shape.arena;
+        labels = h.shape.labels;
+        parents = h.shape.parents;
+        mates = h.shape.mates;
+        circuit = h.shape.circuit;
+        room = h.shape.room;
+      };
+      depth = h.depth;
+      state = subst (λ (t : State). IsSearchState t h.depth) (sym raised_is) (raised_state (state_of s) v d h.shape.graph.graph.ends begun.alone can h.depth begun.out h.state);
+    }
+
+    pub raised_begins : IsBegun (state_of (record s { arena = f })) s.start
+    raised_begins = subst (λ (t : State). IsBegun t s.start) (sym raised_is) (raised_begun (state_of s) s.start v d vertex can begun)
+
+-- the search with the ends of an edge matched
+module _ (s t : Search) (e : ℕ) (rest : t ≡ record s { mates = t.mates }) (mates : edge_in t.mates.items ≡ (paired_by (state_of s) e).mate) where
+  pub paired_is : state_of t ≡ paired_by (state_of s) e
+  paired_is = ap state_of rest ∙ ap (λ (m : ℕ → Option ℕ). record (state_of s) { mate = m }) mates
+
+  pub paired_few : exposed_count (state_of t) ≤ exposed_count (state_of s)
+  paired_few = subst (λ (x : State). exposed_count x ≤ exposed_count (state_of s)) (sym paired_is) (paired_exposed (state_of s) e)
+
+  pub paired_sound : vec_len t.mates ≡ vec_len s.mates → IsSound s → IsBegun (state_of s) s.start → IsTight (state_of s) e → IsExposed (state_of s) (edge_of s.graph e).u → IsExposed (state_of s) (edge_of s.graph e).v → IsSound t
+  paired_sound len h begun tight u v = record {
+    shape = subst HasShape (sym rest) (record {
+      graph = h.shape.graph;
+      family = h.shape.family;
+      arena = h.shape.arena;
+      labels = h.shape.labels;
+      parents = h.shape.parents;
+      mates = len ∙ h.shape.mates;
+      circuit = h.shape.circuit;
+      room = h.shape.room;
+    });
+    depth = h.depth;
+    state = subst (λ (x : State). IsSearchState x h.depth) (sym paired_is) (paired_state (state_of s) e h.shape.graph.graph.ends begun.alone tight u v h.depth begun.out h.state);
+  }
+
+-- the slack of an edge at a vertex, with the edge itself where it leads to an exposed vertex
+module _ (s : Search) (v e : ℕ) (x : ℤ) (h : IsSound s) (begun : IsBegun (state_of s) s.start) (is : IsEdgeNumber s.graph e) (same : x ≡ slack_of (state_of s) e) where
+  rise_low : pos 0 ≤ℤ x
+  rise_low = subst (λ y. pos 0 ≤ℤ y) (sym same) (h.state.slacks e is)
+
+  rise_even : SameParity x (pos 0)
+  rise_even = subst (λ y. SameParity y (pos 0)) (sym same) (slack_even (state_of s) s.start e h.shape.graph.graph.ends begun is)
+
+  pub rise_alone : IsRise (state_of s) v x None
+  rise_alone = record { low = rise_low; even = rise_even; mate_pairs = λ d q. some_not_none d (sym q) }
+
+  pub rise_paired : touches (edge_of s.graph e) v ≡ true → IsExposed (state_of s) (other_end (edge_of s.graph e) v) → IsRise (state_of s) v x (Some e)
+  rise_paired at exposed = record {
+    low = rise_low;
+    even = rise_even;
+    mate_pairs = λ d q. subst (CanPair (state_of s) v x) (some_same e d q) (record { is_edge = is; at_vertex = at; slack_is = sym same; exposed = exposed });
+  }
+
+-- the edges at a vertex, as the index of a search lists them
+listed_around : (s : Search) (v : ℕ) (xs : List ℕ) → HasShape s → is_vertex s.graph.vertices v ≡ true → xs ≡ slice_index_or s.incidence v [] → xs ≡ edges_around s.graph v
+listed_around s v xs h is same = same ∙ h.room.index.exact v (vertex_range s.graph.vertices v is).1
+
+-- the same for the graph that a call is lent
+pub listed_in : (s : Search) (g : Multigraph) (v : ℕ) (xs : List ℕ) → g ≡ s.graph → HasShape s → is_vertex g.vertices v ≡ true → xs ≡ slice_index_or s.incidence v [] → xs ≡ edges_around g v
+listed_in s g v xs same h vertex is =
+    listed_around s v xs h (subst (λ (k : Multigraph). is_vertex k.vertices v ≡ true) same vertex) is ∙ ap (λ (k : Multigraph). edges_around k v) (sym same)
+
+-- what the least slack at an exposed vertex lets it do
+pub least_rises : (s : Search) (v : ℕ) (x : ℤ) (mate : Option ℕ) → IsSound s → IsBegun (state_of s) s.start → is_vertex s.graph.vertices v ≡ true → IsExposed (state_of s) v → IsRise (state_of s) v x mate
+    → ((e : ℕ) → IsEdgeNumber s.graph e → touches (edge_of s.graph e) v ≡ true → x ≤ℤ slack_of (state_of s) e) → (edges_around s.graph v ≡ [] → x ≡ pos 0) → CanRise (state_of s) v x
+least_rises s v x mate h begun vertex exposed rise each none = record {
+  exposed = exposed;
+  low = rise.low;
+  even = rise.even;
+  each = each;
+  high = rise_high (state_of s) s.start v x h.shape.graph.graph begun vertex each none;
+  still = rise_still (state_of s) s.start v x h.shape.graph.graph begun vertex rise.low each none;
+}
+
+-- an edge of the least slack is tight once the dual of its end has risen by it, and its two ends are exposed
+module _ (s t : Search) (v e : ℕ) (x : ℤ) (same : state_of t ≡ raised_at (state_of s) v x) (h : IsSound s) (begun : IsBegun (state_of s) s.start) (exposed : IsExposed (state_of s) v) (can : CanPair (state_of s) v x e) where
+  pair_tight : IsTight (state_of t) e
+  pair_tight = subst (λ (y : State). IsTight y e) (sym same) (record {
+    edge = can.is_edge;
+    tight =
+        let now = slack_here (state_of s) v x e begun.alone (edge_of_within s.graph e h.shape.graph.graph.ends can.is_edge) can.at_vertex in
+        let was = can.slack_is in
+        omega (arith, ints, now, was);
+  })
+
+  ends_exposed : IsExposed (state_of s) (edge_of s.graph e).u × IsExposed (state_of s) (edge_of s.graph e).v
+  ends_exposed = by_test (eqb (edge_of s.graph e).u v)
+      (λ q.
+      let here : IsExposed (state_of s) (edge_of s.graph e).u = subst (IsExposed (state_of s)) (sym (eqb-true (edge_of s.graph e).u v q)) exposed in
+      (here, subst (IsExposed (state_of s)) (ap (λ b. cond b (edge_of s.graph e).v (edge_of s.graph e).u) q) can.exposed))
+      (λ q.
+      let at_v : (edge_of s.graph e).v ≡ v = eqb-true (edge_of s.graph e).v v (sym (ap (λ b. b || eqb (edge_of s.graph e).v v) q) ∙ can.at_vertex) in
+      (subst (IsExposed (state_of s)) (ap (λ b. cond b (edge_of s.graph e).v (edge_of s.graph e).u) q) can.exposed, subst (IsExposed (state_of s)) (sym at_v) exposed))
+
+  graph : t.graph ≡ s.graph
+  graph = ap (λ (y : State). y.graph) same
+
+  pub can_be_paired : IsTight (state_of t) e × IsExposed (state_of t) (edge_of t.graph e).u × IsExposed (state_of t) (edge_of t.graph e).v
+  can_be_paired = (
+    pair_tight,
+    subst (λ (k : Multigraph). IsExposed (state_of t) (edge_of k e).u) (sym graph) (subst (λ (y : State). IsExposed y (edge_of s.graph e).u) (sym same) ends_exposed.0),
+    subst (λ (k : Multigraph). IsExposed (state_of t) (edge_of k e).v) (sym graph) (subst (λ (y : State). IsExposed y (edge_of s.graph e).v) (sym same) ends_exposed.1),
+  )
+
+-- the state of a search of which a dual has risen
+pub state_raised : (s t : Search) (v : ℕ) (d : ℤ) → t ≡ record s { arena = record s.arena { duals = t.arena.duals } } → dual_at t.arena.duals ≡ put (dual_at s.arena.duals) v (dual_at s.arena.duals v +ℤ d) → state_of t ≡ raised_at (state_of s) v d
+state_raised s t v d rest duals = ap state_of rest ∙ ap (λ (y : ℕ → ℤ). record (state_of s) { dual = y }) duals

@@ -1,0 +1,12 @@
+use Rattle.std.proofs.Common.{◌≡◌, ◌+◌, ◌≤ℤ◌}
+use Rattle.graph_theory.specs.Graph.{IsWeight, edge_of}
+use Rattle.mwpm_engine.proofs.LeastSeen.{IsBelow}
+use Rattle.mwpm_engine.proofs.lifting.least_around.Given as goal
+
+abbrev pub invariant-loop-place : goal.invariant-loop-place
+invariant-loop-place g l = record {
+  weight : IsWeight l.least;
+  low : l.search.start ≤ℤ l.least;
+  each : IsBelow (λ e. (edge_of l.graph e).w) l.edges l.place l.least;
+  looks : l.steps ≡ l.fn.steps + l.place;
+}

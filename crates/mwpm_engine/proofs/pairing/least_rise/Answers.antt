@@ -1,0 +1,62 @@
+use Rattle.std.proofs.Common.{◌≡◌, ◌∙◌, ℕ, ◌+◌, ◌<◌, ◌≤◌, true, List, [], length, sym, ap, subst, arith, ⊎_elim}
+use Rattle.std.specs.Prelude.{slice_index_or}
+use Rattle.std.proofs.lemmas.Bool.Decides.{nat_tests}
+use Rattle.graph_theory.specs.Graph.{Multigraph, IsEdgeNumber, edge_of, edges_around, touches}
+use Rattle.blossom_arena.specs.Family.{is_vertex}
+use Rattle.alt_forest.specs.declared.search.Search.{Search}
+use Rattle.alt_forest.specs.State.{slack_of}
+use Rattle.alt_forest.specs.Searches.{HasShape, state_of}
+use Rattle.mwpm_engine.specs.Starts.{IsRise}
+use Rattle.mwpm_engine.specs.declared.pairing.Rise.{Rise}
+use Rattle.mwpm_engine.proofs.LeastSeen.{at_place, below_one, below_first, below_around, some_there}
+use Rattle.mwpm_engine.proofs.StartSearch.{listed_in}
+use Rattle.mwpm_engine.proofs.pairing.least_rise.Goals as goal
+
+pub rise_by-least-requires-clause-edge : goal.rise_by-least-requires-clause-edge
+rise_by-least-requires-clause-edge g c =
+    let xs = listed_in c.args.search.now c.args.graph.now c.args.v c.at-edges.result.now c.requires.same c.requires.sound.shape c.requires.vertex c.at-edges.ensures in
+    let some = some_there c.at-edges.result.now c.is_empty.result c.is_empty.ensures c.if-is_empty.false in
+    (at_place c.args.graph.now c.args.v c.at-edges.result.now 0 c.index-edges-0.result xs some c.index-edges-0.is).0
+
+pub rise_by-least-requires-clause-at_vertex : goal.rise_by-least-requires-clause-at_vertex
+rise_by-least-requires-clause-at_vertex g c =
+    let xs = listed_in c.args.search.now c.args.graph.now c.args.v c.at-edges.result.now c.requires.same c.requires.sound.shape c.requires.vertex c.at-edges.ensures in
+    let some = some_there c.at-edges.result.now c.is_empty.result c.is_empty.ensures c.if-is_empty.false in
+    (at_place c.args.graph.now c.args.v c.at-edges.result.now 0 c.index-edges-0.result xs some c.index-edges-0.is).1
+
+pub loop-place-init : goal.loop-place-init
+loop-place-init g c =
+    let some = some_there c.at-edges.result.now c.is_empty.result c.is_empty.ensures c.if-is_empty.false in
+    record {
+      rise = c.rise_by-least.ensures.rise;
+      each = below_first (slack_of (state_of c.args.search.now)) c.at-edges.result.now c.index-edges-0.result c.rise_by-least.result.by some c.index-edges-0.is c.rise_by-least.ensures.slack;
+      looks = c.rise_by-least.ensures.step;
+    }
+
+pub rise_by-requires-clause-edge : goal.rise_by-requires-clause-edge
+rise_by-requires-clause-edge g c =
+    let xs = listed_in c.args.search.now c.args.graph.now c.args.v c.at-edges.result.now c.requires.same c.requires.sound.shape c.requires.vertex c.at-edges.ensures in
+    (at_place c.args.graph.now c.args.v c.at-edges.result.now c.loop-place.place c.index-edges-place.result xs (omega arith) c.index-edges-place.is).0
+
+pub rise_by-requires-clause-at_vertex : goal.rise_by-requires-clause-at_vertex
+rise_by-requires-clause-at_vertex g c =
+    let xs = listed_in c.args.search.now c.args.graph.now c.args.v c.at-edges.result.now c.requires.same c.requires.sound.shape c.requires.vertex c.at-edges.ensures in
+    (at_place c.args.graph.now c.args.v c.at-edges.result.now c.loop-place.place c.index-edges-place.result xs (omega arith) c.index-edges-place.is).1
+
+pub loop-place-preserved : goal.loop-place-preserved
+loop-place-preserved g c =
+    let s = state_of c.args.search.now in
+    let i = c.loop-place.invariant in
+    record {
+      rise = ⊎_elim
+          (λ q. subst (λ (r : Rise). IsRise s c.args.v r.by r.mate) (sym q) i.rise)
+          (λ q. subst (λ (r : Rise). IsRise s c.args.v r.by r.mate) (sym q) c.rise_by.ensures.rise)
+          c.lesser-least.ensures.which;
+      each = below_one (slack_of s) c.at-edges.result.now c.loop-place.place c.index-edges-place.result _ _ _ (omega arith) c.index-edges-place.is c.rise_by.ensures.slack c.lesser-least.ensures.one c.lesser-least.ensures.other i.each;
+      looks = omega arith;
+    }
+
+pub returns-clause-each : goal.returns-clause-each
+returns-clause-each g c e is t =
+    let xs = listed_in c.args.search.now c.args.graph.now c.args.v c.at-edges.result.now c.requires.same c.requires.sound.shape c.requires.vertex c.at-edges.ensures in
+    below_around c.args.graph.now c.args.v c.at-edges.result.now (slack_of (state_of c.args.search.now)) c.loop-place.place c.loop-place.least.by xs (omega arith) c.loop-place.invariant.each e is t

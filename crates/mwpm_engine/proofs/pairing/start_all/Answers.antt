@@ -1,0 +1,9 @@
+use Rattle.std.proofs.Common.{sym, subst}
+use Rattle.graph_theory.specs.Graph.{IsGraph}
+use Rattle.mwpm_engine.proofs.StartPass.{round_looks}
+use Rattle.mwpm_engine.proofs.pairing.start_all.Goals as goal
+
+pub returns-clause-looks : goal.returns-clause-looks
+returns-clause-looks g c =
+    round_looks c.args.graph.now c.loop-place.place c.vertices-place-end.result c.args.steps.now c.loop-place.steps (subst IsGraph (sym c.requires.same) c.requires.sound.shape.graph.graph)
+    c.vertices-place-end.ensures.count c.loop-place-test.false c.loop-place.auto.place-end c.loop-place.invariant.looks

@@ -1,0 +1,53 @@
+use Rattle.std.proofs.Common.{◌≡◌, ◌∙◌, ◌≤◌, ℕ, ◌+ℤ◌, Some, true, sym, ap, subst, arith, rules, to_z, of_z}
+use mir.Syntax.{w64}
+use Rattle.graph_theory.specs.Graph.{Multigraph, IsEdgeNumber, edge_of, edges_around, touches}
+use Rattle.blossom_arena.specs.Family.{dual_at, is_vertex}
+use Rattle.alt_forest.specs.declared.search.Search.{Search}
+use Rattle.alt_forest.specs.State.{IsExposed, IsTight}
+use Rattle.alt_forest.specs.Counts.{exposed_count}
+use Rattle.alt_forest.specs.Searches.{put, state_of}
+use Rattle.mwpm_engine.specs.Starts.{CanRise, CanPair}
+use Rattle.mwpm_engine.proofs.StartSearch.{least_rises, state_raised, can_be_paired}
+use Rattle.mwpm_engine.proofs.pairing.start_at.Given.{Over}
+use Rattle.mwpm_engine.proofs.pairing.start_at.Goals as goal
+
+pub raise-requires-clause-can : goal.raise-requires-clause-can
+raise-requires-clause-can g c =
+    let s = c.args.search.now in
+    let back : to_z w64 (of_z w64 c.least_rise-rise.result.by) ≡ c.least_rise-rise.result.by = search rules in
+    let r = c.least_rise-rise.ensures in
+    let exposed : IsExposed (state_of s) c.args.v = subst (IsExposed (state_of s)) (c.new.ensures ∙ c.number.ensures) (c.is_exposed.ensures.0 c.if-not-is_exposed.false) in
+    subst (CanRise (state_of s) c.args.v) (sym back)
+    (least_rises s c.args.v c.least_rise-rise.result.by c.least_rise-rise.result.mate c.requires.sound c.requires.begun (subst (λ (k : Multigraph). is_vertex k.vertices c.args.v ≡ true) c.requires.same c.requires.vertex) exposed r.rise
+    (λ e is t. r.each e (subst (λ (k : Multigraph). IsEdgeNumber k e) (sym c.requires.same) is) (subst (λ (k : Multigraph). touches (edge_of k e) c.args.v ≡ true) (sym c.requires.same) t))
+    (λ none. r.none (ap (λ (k : Multigraph). edges_around k c.args.v) c.requires.same ∙ none)))
+
+-- the edge is tight now, and joins two exposed vertices
+ready : (g : Over) (c : goal.After-pair-arg-1 g) → IsTight (state_of c.raise.new.search) c.in-Some.e × IsExposed (state_of c.raise.new.search) (edge_of c.raise.new.search.graph c.in-Some.e).u × IsExposed (state_of c.raise.new.search) (edge_of c.raise.new.search.graph c.in-Some.e).v
+ready g c =
+    let s = c.args.search.now in
+    let back : to_z w64 (of_z w64 c.least_rise-rise.result.by) ≡ c.least_rise-rise.result.by = search rules in
+    let state = state_raised s c.raise.new.search c.args.v c.least_rise-rise.result.by c.raise.ensures.rest (c.raise.ensures.duals ∙ ap (λ d. put (dual_at s.arena.duals) c.args.v (dual_at s.arena.duals c.args.v +ℤ d)) back) in
+    let exposed : IsExposed (state_of s) c.args.v = subst (IsExposed (state_of s)) (c.new.ensures ∙ c.number.ensures) (c.is_exposed.ensures.0 c.if-not-is_exposed.false) in
+    let can : CanPair (state_of s) c.args.v c.least_rise-rise.result.by c.in-Some.e = c.least_rise-rise.ensures.rise.mate_pairs c.in-Some.e c.in-Some.is in
+    can_be_paired s c.raise.new.search c.args.v c.in-Some.e c.least_rise-rise.result.by state c.requires.sound c.requires.begun exposed can
+
+pub pair-requires-clause-tight : goal.pair-requires-clause-tight
+pair-requires-clause-tight g c = (ready g c).0
+
+pub pair-requires-clause-u : goal.pair-requires-clause-u
+pair-requires-clause-u g c = (ready g c).1
+
+pub pair-requires-clause-v : goal.pair-requires-clause-v
+pair-requires-clause-v g c = (ready g c).2
+
+pub returns-in-Some-clause-exposed : goal.returns-in-Some-clause-exposed
+returns-in-Some-clause-exposed g c =
+    let same : exposed_count (state_of c.raise.new.search) ≡ exposed_count (state_of c.args.search.now) = ap (λ (t : Search). exposed_count (state_of t)) c.raise.ensures.rest in
+    let few = c.pair.ensures.exposed in
+    omega (arith, same, few)
+
+pub returns-in_default-clause-exposed : goal.returns-in_default-clause-exposed
+returns-in_default-clause-exposed g c =
+    let same : exposed_count (state_of c.raise.new.search) ≡ exposed_count (state_of c.args.search.now) = ap (λ (t : Search). exposed_count (state_of t)) c.raise.ensures.rest in
+    omega (arith, same)

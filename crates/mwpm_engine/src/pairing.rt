@@ -1,0 +1,144 @@
+ghost use Rattle.std.specs.Prelude.{◌≡◌, ◌⊎◌, ◌≤◌, ◌+◌, ◌*◌, ◌≤ℤ◌, ℕ, pos, true, [], length};
+ghost use Rattle.graph_theory.specs.Graph.{IsEdgeNumber, edge_of, edges_around, touches};
+ghost use Rattle.blossom_arena.specs.Family.{is_vertex};
+ghost use Rattle.alt_forest.specs.State.{IsExposed, IsTight, slack_of};
+ghost use Rattle.alt_forest.specs.Searches.{IsSound, state_of};
+ghost use Rattle.alt_forest.specs.Counts.{exposed_count};
+ghost use Rattle.mwpm_engine.specs.Starts.{IsBegun, IsRise};
+
+use crate::exposed::is_exposed;
+use crate::raising::raise;
+use alt_forest::{Search, set_edge};
+use blossom_arena::NodeId;
+use mb_base::{EdgeId, Steps, VertexId};
+use std::sync::ledger::Ledger;
+use weighted_graph::Graph;
+
+/// How far the dual of a vertex can rise, and an edge to an exposed vertex that is tight then, if there is one.
+#[derive(Clone, Copy)]
+struct Rise {
+    by: i64,
+    mate: Option<EdgeId>,
+}
+
+/// The slack of an edge at a vertex, by one look at it, and the edge itself if it leads to an exposed vertex.
+fn rise_by<L: Ledger>(
+    search: &Search,
+    graph: &Graph,
+    v: VertexId,
+    e: EdgeId,
+    steps: &mut Steps<L>,
+) -> Rise
+    requires sound { IsSound search.now }
+    requires begun { IsBegun (state_of search.now) search.now.start }
+    requires same { graph.now ≡ search.now.graph }
+    requires edge { IsEdgeNumber graph.now e }
+    requires at_vertex { touches (edge_of graph.now e) v ≡ true }
+    ensures rise { IsRise (state_of search.now) v result.by result.mate }
+    ensures slack { result.by ≡ slack_of (state_of search.now) e }
+    ensures step { steps.new ≡ steps.old + 1 }
+{
+    let by = search.slack(graph, e, steps);
+    let far = search.graph.other_end(e, v);
+    if is_exposed(search, NodeId::new(far.number())) {
+        return Rise { by, mate: Some(e) };
+    }
+    Rise { by, mate: None }
+}
+
+/// The lesser of two; of equal ones one with an edge, if either has one.
+fn lesser(one: Rise, other: Rise) -> Rise
+    ensures which { (result ≡ one) ⊎ (result ≡ other) }
+    ensures one { result.by ≤ℤ one.by }
+    ensures other { result.by ≤ℤ other.by }
+{
+    if one.by < other.by {
+        return one;
+    }
+    if other.by < one.by {
+        return other;
+    }
+    if one.mate.is_some() {
+        return one;
+    }
+    other
+}
+
+/// The least slack of an edge at a vertex, by one look at each, with an edge of this slack to an exposed vertex, if there is
+/// one; 0 where the vertex has no edge.
+fn least_rise<L: Ledger>(search: &Search, graph: &Graph, v: VertexId, steps: &mut Steps<L>) -> Rise
+    requires sound { IsSound search.now }
+    requires begun { IsBegun (state_of search.now) search.now.start }
+    requires same { graph.now ≡ search.now.graph }
+    requires vertex { is_vertex graph.now.vertices v ≡ true }
+    ensures rise { IsRise (state_of search.now) v result.by result.mate }
+    ensures each { (e : ℕ) → IsEdgeNumber graph.now e → touches (edge_of graph.now e) v ≡ true → result.by ≤ℤ slack_of (state_of search.now) e }
+    ensures none { edges_around graph.now v ≡ [] → result.by ≡ pos 0 }
+    ensures looks { steps.new ≡ steps.old + length (edges_around graph.now v) }
+{
+    let edges = search.incidence.at(v);
+    if edges.is_empty() {
+        return Rise { by: 0, mate: None };
+    }
+    let mut least = rise_by(search, graph, v, edges[0], steps);
+    for place in 1..edges.len() {
+        least = lesser(least, rise_by(search, graph, v, edges[place], steps));
+    }
+    least
+}
+
+/// Raises the dual of a vertex, if it is exposed, by the least slack of its edges, and matches it where an edge that is tight
+/// then leads to an exposed vertex. It looks at each of its edges once.
+fn start_at<L: Ledger>(search: &mut Search, graph: &Graph, v: VertexId, steps: &mut Steps<L>)
+    requires sound { IsSound search.old }
+    requires begun { IsBegun (state_of search.old) search.old.start }
+    requires same { graph.now ≡ search.old.graph }
+    requires vertex { is_vertex graph.now.vertices v ≡ true }
+    ensures sound { IsSound search.new }
+    ensures begun { IsBegun (state_of search.new) search.new.start }
+    ensures rest { search.new ≡ record search.old { arena = record search.old.arena { duals = search.new.arena.duals }; mates = search.new.mates } }
+    ensures exposed { exposed_count (state_of search.new) ≤ exposed_count (state_of search.old) }
+    ensures looks { steps.new ≤ steps.old + length (edges_around graph.now v) }
+{
+    if !is_exposed(search, NodeId::new(v.number())) {
+        return;
+    }
+    let rise = least_rise(search, graph, v, steps);
+    raise(search, v, rise.by);
+    if let Some(e) = rise.mate {
+        pair(search, e);
+    }
+}
+
+/// Matches the two ends of a tight edge, both of which are exposed.
+fn pair(search: &mut Search, e: EdgeId)
+    requires sound { IsSound search.old }
+    requires begun { IsBegun (state_of search.old) search.old.start }
+    requires tight { IsTight (state_of search.old) e }
+    requires u { IsExposed (state_of search.old) (edge_of search.old.graph e).u }
+    requires v { IsExposed (state_of search.old) (edge_of search.old.graph e).v }
+    ensures sound { IsSound search.new }
+    ensures begun { IsBegun (state_of search.new) search.new.start }
+    ensures exposed { exposed_count (state_of search.new) ≤ exposed_count (state_of search.old) }
+    ensures rest { search.new ≡ record search.old { mates = search.new.mates } }
+{
+    let (u, v, _) = search.graph.edge(e);
+    set_edge(&mut search.mates, NodeId::new(u.number()), Some(e));
+    set_edge(&mut search.mates, NodeId::new(v.number()), Some(e));
+}
+
+/// Raises the dual of each exposed vertex in turn as far as its edges allow, and matches it where it can be.
+pub(crate) fn start_all<L: Ledger>(search: &mut Search, graph: &Graph, steps: &mut Steps<L>)
+    requires sound { IsSound search.old }
+    requires begun { IsBegun (state_of search.old) search.old.start }
+    requires same { graph.now ≡ search.old.graph }
+    ensures sound { IsSound search.new }
+    ensures begun { IsBegun (state_of search.new) search.new.start }
+    ensures rest { search.new ≡ record search.old { arena = record search.old.arena { duals = search.new.arena.duals }; mates = search.new.mates } }
+    ensures exposed { exposed_count (state_of search.new) ≤ exposed_count (state_of search.old) }
+    ensures looks { steps.new ≤ steps.old + 2 * length graph.now.edges }
+{
+    for place in 0..graph.vertices() {
+        start_at(search, graph, VertexId::new(place + 1), steps);
+    }
+}

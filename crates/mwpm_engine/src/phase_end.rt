@@ -1,0 +1,8 @@
+/// How a phase ends.
+#[derive(Clone, Copy, PartialEq, Eq, Debug)]
+pub enum PhaseEnd {
+    /// The matching has been augmented: two exposed nodes are matched, and no tree is left.
+    Augmented,
+    /// The tree is stuck: no change of duals lets it grow.
+    Stuck,
+}
