@@ -1,7 +1,7 @@
 ghost use Rattle.std.specs.Prelude.{◌≡◌, ◌<◌};
 
 use match_cli::{Status, run};
-use mb_base::{MemSink, MemSource, Steps};
+use mb_base::{MemSink, MemSource, Steps, SureSink, SureSource, read_all};
 use std::alloc::Global;
 use std::marker::Brand;
 use std::sync::ledger::{Blank, Ledger};
@@ -69,6 +69,29 @@ fn ends_so(
     Ok(seen.status == status && seen.kept.as_slice() == kept)
 }
 
+/// How many bytes of its input are left after a run.
+fn count_left<L: Ledger>(blank: Blank, alloc: Global, given: Given) -> Result<Option<usize>, Fail>
+    requires name { blank.name ≡ L.name }
+    requires parts { blank.parts ≡ L.parts }
+    requires some { 0 < blank.parts }
+{
+    let (line, input) = given;
+    let mut source = SureSource::new(Vec::from_slice(alloc, input)?, 7);
+    let mut sink = SureSink::new(alloc, 1_000, 7)?;
+    let mut steps = Steps::<L>::new(blank);
+    let line = words(alloc, line)?;
+    let _status = run(alloc, &line, &mut source, &mut sink, &mut steps);
+    if let Ok(left) = read_all(alloc, &mut source, 1_000) {
+        return Ok(Some(left.len()));
+    }
+    Ok(None)
+}
+
+/// Whether a run leaves so many bytes of its input.
+fn leaves(alloc: Global, given: Given, count: usize) -> Result<bool, Fail> {
+    Ok(count_left::<Brand>(Blank::new(1), alloc, given)? == Some(count))
+}
+
 const CHECK: Given = (
     &["check", "perfect"],
     b"p edge 2 1\ne 1 2 5\ns OPTIMAL perfect 5\nx 1 1\ny 1 5\ny 2 5\n",
@@ -80,13 +103,21 @@ const SOLVE: Given = (
     b"p edge 6 7\ne 1 2 1\ne 2 3 1\ne 1 3 1\ne 4 5 1\ne 5 6 1\ne 4 6 1\ne 3 4 10\n",
 );
 
+/// One edge, whose weight is the first number drawn. The input isn't for it.
+const TRIAL: Given = (
+    &["trial", "perfect", "2", "2", "1"],
+    b"p edge 2 1\ne 1 2 5\n",
+);
+
 const ACCEPTED: &[u8] = b"s ACCEPTED\n";
 
 const SOLVED: &[u8] = b"s OPTIMAL perfect 12\nx 1 1\nx 5 1\nx 7 1\n";
 
+const TRIED: &[u8] = b"g 2 1\ns OPTIMAL perfect 294\ns ACCEPTED\n";
+
 #[test]
 fn runs_in_pieces(rt: HostRuntime) -> Result<(), Fail> {
-    let rows: [(Given, Status, &[u8]); 6] = [
+    let rows: [(Given, Status, &[u8]); 8] = [
         (CHECK, Status::Done, ACCEPTED),
         (SOLVE, Status::Done, SOLVED),
         (
@@ -101,6 +132,12 @@ fn runs_in_pieces(rt: HostRuntime) -> Result<(), Fail> {
             Status::TooLarge,
             b"s TOOLARGE 8192 4096\n",
         ),
+        (TRIAL, Status::Done, TRIED),
+        (
+            (&["trial", "match", "1", "4096", "0"], TRIAL.1),
+            Status::TooLarge,
+            b"s TOOLARGE 8192 4096\n",
+        ),
     ];
     for (given, status, kept) in rows {
         for piece in [1, 7, 100_000] {
@@ -112,6 +149,35 @@ fn runs_in_pieces(rt: HostRuntime) -> Result<(), Fail> {
             assert!(rt; ends_so(rt.alloc(), given, streams, (status, kept))?);
         }
     }
+    Ok(())
+}
+
+// A trial reads nothing, whatever the answer is, and nor is anything read for words that are no command.
+#[test]
+fn what_is_left(rt: HostRuntime) -> Result<(), Fail> {
+    let whole = TRIAL.1.len();
+    let rows: [(Given, usize); 5] = [
+        (CHECK, 0),
+        (SOLVE, 0),
+        (TRIAL, whole),
+        ((&["trial", "match", "1", "4096", "0"], TRIAL.1), whole),
+        ((&["trial", "perfect", "2", "2"], TRIAL.1), whole),
+    ];
+    for (given, left) in rows {
+        assert!(rt; leaves(rt.alloc(), given, left)?);
+    }
+    Ok(())
+}
+
+// A source whose first read fails is none to a trial.
+#[test]
+fn no_read_of_a_trial_fails(rt: HostRuntime) -> Result<(), Fail> {
+    let streams = Streams {
+        piece: 1,
+        read_fails: 1,
+        write_fails: 0,
+    };
+    assert!(rt; ends_so(rt.alloc(), TRIAL, streams, (Status::Done, TRIED))?);
     Ok(())
 }
 
@@ -145,6 +211,7 @@ fn each_write_may_fail(rt: HostRuntime) -> Result<(), Fail> {
     let rows = [
         (CHECK, Status::Done, ACCEPTED),
         (SOLVE, Status::Done, SOLVED),
+        (TRIAL, Status::Done, TRIED),
         (refused, Status::Malformed, refusal),
     ];
     for (given, status, answer) in rows {
