@@ -1,5 +1,5 @@
 -- Where no vertex lies in a blossom an edge feels its two ends alone.
-use Rattle.std.proofs.Common.{◌≡◌, ◌≢◌, ◌⊎◌, ◌∙◌, ℕ, ℤ, pos, ◌+ℤ◌, ◌-ℤ◌, ◌≤ℤ◌, true, false, ◌||◌, ◌&&◌, not, eqb, List, [], Some, sym, ap, subst, ⊎_elim, inl, inr}
+use Rattle.std.proofs.Common.{◌≡◌, ◌⊎◌, ◌∙◌, ℕ, pos, ◌+ℤ◌, ◌-ℤ◌, ◌≤ℤ◌, true, false, ◌||◌, ◌&&◌, not, eqb, List, [], Some, sym, ap, subst, ⊎_elim, inl, inr}
 use Rattle.std.specs.List.{AllByRecursion}
 use Rattle.std.proofs.lemmas.Bool.{eqb-true, or_cases}
 use Rattle.graph_theory.specs.Graph.{IsEdgeNumber, edge_of, touches}

@@ -35,16 +35,19 @@ comes s (NextExpand b d) found within = (found, within)
 comes s Stuck found within = found
 
 -- the look at an event's edge, and the change of duals
-abbrev pub LooksThen : Next → Option (Event × ℤ) → Type 0
+abbrev LooksThen : Next → Option (Event × ℤ) → Type 0
 LooksThen next None = edge_looks next ≡ 0
 LooksThen next (Some p) = edge_looks next + 1 ≡ steps_to p.0
 
-pub looks_then : (next : Next) → LooksThen next (event_of next)
+looks_then : (next : Next) → LooksThen next (event_of next)
 looks_then (NextGrow e d) = refl
 looks_then (NextShrink e d) = refl
 looks_then (NextAugment e d) = refl
 looks_then (NextExpand b d) = refl
 looks_then Stuck = refl
+
+pub looks_reach : (next : Next) (event : Event) (d : ℤ) → event_of next ≡ Some (event, d) → edge_looks next + 1 ≡ steps_to event
+looks_reach next event d same = subst (LooksThen next) same (looks_then next)
 
 -- one tree by count has one root
 pub one_root : (s : Search) → IsGrowing s → HasOneTree (state_of s) × ((root : ℕ) × IsRoot (state_of s) root)

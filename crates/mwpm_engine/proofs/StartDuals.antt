@@ -1,8 +1,8 @@
 -- The dual of an exposed vertex is raised before there is any blossom or tree.
-use Rattle.std.proofs.Common.{◌≡◌, ◌≢◌, ◌⊎◌, ◌∙◌, ℕ, ◌+◌, ◌<◌, ◌≤◌, ℤ, pos, ◌+ℤ◌, ◌-ℤ◌, ◌*ℤ◌, ◌≤ℤ◌, neg_ℤ, Bool, true, false, eqb, cond, List, [], ◌∷◌, Some, None, refl, sym, ap, ap₂, subst, ⊎_elim, inl, inr, arith, All}
+use Rattle.std.proofs.Common.{◌≡◌, ◌⊎◌, ◌∙◌, ℕ, ℤ, pos, ◌+ℤ◌, ◌-ℤ◌, ◌*ℤ◌, ◌≤ℤ◌, neg_ℤ, Bool, true, false, eqb, cond, List, [], ◌∷◌, Some, None, refl, sym, ap, ap₂, subst, ⊎_elim, inl, inr, arith, All}
 use Rattle.std.proofs.lemmas.Int.{ints}
 use Rattle.std.proofs.lemmas.Bool.{eqb-true, or_cases, or_parts}
-use Rattle.graph_theory.specs.Graph.{Multigraph, IsGraph, IsEdgeWithin, IsEdgeNumber, IsWeight, edge_of, edges_around, touches}
+use Rattle.graph_theory.specs.Graph.{Multigraph, IsGraph, IsEdgeWithin, IsEdgeNumber, edge_of, edges_around, touches}
 use Rattle.graph_theory.specs.declared.limits.TheConstants.{WEIGHT_LIMIT}
 use Rattle.graph_theory.specs.Parts.{holds}
 use Rattle.graph_theory.proofs.Edges.{edge_of_within, edge_of-weight}
@@ -11,7 +11,7 @@ use Rattle.blossom_arena.specs.Family.{is_vertex}
 use Rattle.blossom_arena.proofs.Lists.{by_test, first_in}
 use Rattle.blossom_arena.proofs.Ends.{u_vertex, v_vertex}
 use Rattle.alt_forest.specs.declared.label.Label.TheVariants.{Out}
-use Rattle.alt_forest.specs.State.{State, IsOutermost, IsMate, IsSearchState, doubled, slack_of}
+use Rattle.alt_forest.specs.State.{State, IsMate, IsSearchState, doubled, slack_of}
 use Rattle.alt_forest.specs.Searches.{put}
 use Rattle.alt_forest.specs.Trees.{SameParity}
 use Rattle.alt_forest.proofs.Relabelled.{some_not_none}

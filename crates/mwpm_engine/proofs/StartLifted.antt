@@ -1,5 +1,5 @@
 -- The duals of the vertices are raised towards the weights of their edges, one vertex after the other, where weights are used.
-use Rattle.std.proofs.Common.{◌≡◌, ◌≢◌, ◌∙◌, ℕ, ◌+◌, ◌-◌, ◌<◌, ◌≤◌, ℤ, pos, ◌+ℤ◌, ◌-ℤ◌, ◌*ℤ◌, ◌≤ℤ◌, Bool, true, false, ◌||◌, eqb, sym, ap, subst, ⊎_elim, arith}
+use Rattle.std.proofs.Common.{◌≡◌, ◌≢◌, ◌∙◌, ℕ, ◌-◌, ℤ, pos, ◌+ℤ◌, ◌*ℤ◌, ◌≤ℤ◌, true, eqb, sym, ap, subst, ⊎_elim, arith}
 use Rattle.std.proofs.lemmas.Int.{ints}
 use Rattle.std.proofs.lemmas.Bool.{both_ways, eqb-true, ne_eqb, or_cases}
 use Rattle.graph_theory.specs.declared.limits.TheConstants.{WEIGHT_LIMIT}
@@ -13,7 +13,7 @@ use Rattle.alt_forest.specs.Searches.{state_of}
 use Rattle.alt_forest.specs.State.{State, doubled, slack_of}
 use Rattle.alt_forest.specs.Trees.{SameParity}
 use Rattle.graph_theory.proofs.Edges.{touches-u, touches-v}
-use Rattle.mwpm_engine.specs.Starts.{IsBegun, CanRise, IsLifted}
+use Rattle.mwpm_engine.specs.Starts.{CanRise, IsLifted}
 use Rattle.mwpm_engine.proofs.Flat.{slack_flat, outer_flat}
 use Rattle.mwpm_engine.proofs.StartDuals.{raised_at, raised_here, raised_there, raised_begun}
 

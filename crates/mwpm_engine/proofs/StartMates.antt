@@ -1,9 +1,9 @@
 -- Two exposed vertices are matched by a tight edge before there is any blossom or tree.
-use Rattle.std.proofs.Common.{◌≡◌, ◌≢◌, ◌⊎◌, ◌∙◌, ℕ, ◌+◌, ◌≤◌, ℤ, pos, ◌≤ℤ◌, Bool, true, false, not, ◌&&◌, eqb, List, [], Option, Some, None, refl, sym, ap, subst, ⊎_elim, inl, inr, arith, All}
+use Rattle.std.proofs.Common.{◌≡◌, ◌≢◌, ◌⊎◌, ◌∙◌, ℕ, ◌+◌, ◌≤◌, ℤ, false, not, ◌&&◌, eqb, [], Option, Some, refl, sym, ap, subst, ⊎_elim, inl, inr, arith, All}
 use Rattle.std.specs.Prelude.{is_some}
 use Rattle.std.proofs.lemmas.Bool.{eqb-true, eqb-false}
 use Rattle.std.proofs.Math.Bool.{and-false}
-use Rattle.graph_theory.specs.Graph.{IsEdgeWithin, IsEdgeNumber, edge_of}
+use Rattle.graph_theory.specs.Graph.{IsEdgeWithin, edge_of}
 use Rattle.graph_theory.proofs.Edges.{edge_of_within}
 use Rattle.graph_theory.proofs.SumLemmas.{sum_to-le}
 use Rattle.blossom_arena.specs.Family.{is_outermost}

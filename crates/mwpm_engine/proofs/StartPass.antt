@@ -1,10 +1,10 @@
 -- The start of a pass as a whole.
-use Rattle.std.proofs.Common.{◌≡◌, ◌∙◌, ℕ, ◌+◌, ◌*◌, ◌≤◌, ℤ, pos, ◌+ℤ◌, ◌-ℤ◌, ◌*ℤ◌, ◌≤ℤ◌, true, false, List, [], length, Option, None, refl, sym, ap, subst, arith}
+use Rattle.std.proofs.Common.{◌≡◌, ◌∙◌, ℕ, ◌+◌, ◌*◌, ◌≤◌, ℤ, pos, ◌+ℤ◌, ◌-ℤ◌, ◌≤ℤ◌, true, false, [], length, None, refl, sym, ap, subst, arith}
 use Rattle.std.proofs.lemmas.Int.{ints}
 use Rattle.graph_theory.specs.declared.limits.TheConstants.{WEIGHT_LIMIT}
 use Rattle.graph_theory.specs.Graph.{Multigraph, IsGraph, IsWeight, IsEdgeNumber, edge_of, edges_around}
 use Rattle.graph_theory.specs.Sums.{sum_to}
-use Rattle.blossom_arena.specs.Family.{Family, is_vertex, dual_at}
+use Rattle.blossom_arena.specs.Family.{Family, is_vertex}
 use Rattle.alt_forest.specs.declared.label.Label.TheVariants.{Out}
 use Rattle.alt_forest.specs.declared.label.Weights.{Weights}
 use Rattle.alt_forest.specs.declared.label.Weights.TheVariants.{Zero, Given}

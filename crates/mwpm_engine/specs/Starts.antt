@@ -1,6 +1,6 @@
 -- How a pass begins (chapter 26): duals that are feasible, and vertices matched in pairs by tight edges, before there is any
 -- blossom or tree. Only clauses of private calls cite this module.
-use Rattle.std.specs.Prelude.{◌≡◌, ℕ, ◌+◌, ◌<◌, ◌≤◌, ℤ, pos, ◌+ℤ◌, ◌*ℤ◌, ◌≤ℤ◌, true, false, List, [], Option, None}
+use Rattle.std.specs.Prelude.{◌≡◌, ℕ, ◌<◌, ℤ, pos, ◌+ℤ◌, ◌*ℤ◌, ◌≤ℤ◌, true, false, [], Option, None}
 use Rattle.std.specs.Option.{ForSome}
 use Rattle.graph_theory.specs.declared.limits.TheConstants.{WEIGHT_LIMIT}
 use Rattle.graph_theory.specs.Graph.{IsEdgeNumber, IsWeight, edge_of, touches, other_end}

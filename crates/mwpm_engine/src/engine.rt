@@ -102,9 +102,10 @@ impl Engine {
     /// Runs the search (chapters 24 and 26): it ends with a perfect matching of least weight or with a
     /// barrier. The graph is the one that the engine was made for. `steps` counts its looks at edges, its
     /// changes of duals and its events: with n vertices and m edges at most (n + 1)(3n + 2)(m + 1). There
-    /// are two passes, of at most n / 2 phases that augment, or one that ends with a phase that is stuck; a
-    /// phase has at most 3n / 2 events, and before each of these all edges are looked at. Between the
-    /// passes each edge is looked at twice, for its weight. It takes no memory.
+    /// are two passes, of at most n / 2 phases that augment, or one that ends with a phase that is stuck. A
+    /// phase counts at most 2m(n + 1) + 3n + 2 steps, the duals and mates that a pass starts with take four
+    /// looks at each edge, and between the passes each edge is looked at twice, for its weight. It takes no
+    /// memory.
     pub fn run<L: Ledger>(&mut self, graph: &Graph, steps: &mut Steps<L>) -> Outcome
         requires same { graph.now ≡ self.old.graph }
         requires fresh { self.old.outcome ≡ None }

@@ -5,8 +5,8 @@ ghost use Rattle.mwpm_engine.specs.Solutions.{size_of_graph};
 ghost use Rattle.mwpm_engine.specs.Passes.{IsSamePass, IsReady, EndsPass, most_phase_steps, phases_doubled};
 
 use crate::exposed::exposed_node;
-use crate::phases::phase_from;
 use crate::phase_end::PhaseEnd;
+use crate::phases::phase_from;
 use alt_forest::Search;
 use mb_base::Steps;
 use std::sync::ledger::Ledger;

@@ -1,7 +1,6 @@
-use Rattle.std.proofs.Common.{◌≡◌, ◌∙◌, ℕ, ◌+◌, ◌<◌, ℤ, ◌≤ℤ◌, true, List, length, refl, sym, subst, arith, rules, to_z, of_z}
+use Rattle.std.proofs.Common.{◌≡◌, ◌∙◌, ℕ, ◌+◌, ℤ, ◌≤ℤ◌, refl, sym, subst, arith, rules, to_z, of_z}
 use mir.Syntax.{w64}
-use Rattle.std.proofs.lemmas.Int.{ints}
-use Rattle.graph_theory.specs.Graph.{IsGraph, IsEdgeNumber, IsWeight, edge_of, touches}
+use Rattle.graph_theory.specs.Graph.{IsWeight, edge_of}
 use Rattle.mwpm_engine.proofs.LeastSeen.{IsBelow, at_place, below_one, below_first, below_around, some_there}
 use Rattle.mwpm_engine.proofs.StartSearch.{listed_in}
 use Rattle.mwpm_engine.proofs.lifting.least_around.Goals as goal

@@ -1,11 +1,6 @@
-use Rattle.std.proofs.Common.{◌≡◌, ◌∙◌, ℕ, ◌+◌, ◌<◌, ◌≤◌, true, List, [], length, sym, ap, subst, arith, ⊎_elim}
-use Rattle.std.specs.Prelude.{slice_index_or}
-use Rattle.std.proofs.lemmas.Bool.Decides.{nat_tests}
-use Rattle.graph_theory.specs.Graph.{Multigraph, IsEdgeNumber, edge_of, edges_around, touches}
-use Rattle.blossom_arena.specs.Family.{is_vertex}
-use Rattle.alt_forest.specs.declared.search.Search.{Search}
+use Rattle.std.proofs.Common.{sym, subst, arith, ⊎_elim}
 use Rattle.alt_forest.specs.State.{slack_of}
-use Rattle.alt_forest.specs.Searches.{HasShape, state_of}
+use Rattle.alt_forest.specs.Searches.{state_of}
 use Rattle.mwpm_engine.specs.Starts.{IsRise}
 use Rattle.mwpm_engine.specs.declared.pairing.Rise.{Rise}
 use Rattle.mwpm_engine.proofs.LeastSeen.{at_place, below_one, below_first, below_around, some_there}

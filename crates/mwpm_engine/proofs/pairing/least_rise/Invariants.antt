@@ -1,4 +1,4 @@
-use Rattle.std.proofs.Common.{◌≡◌, ℕ, ◌+◌}
+use Rattle.std.proofs.Common.{◌≡◌, ◌+◌}
 use Rattle.alt_forest.specs.State.{slack_of}
 use Rattle.alt_forest.specs.Searches.{state_of}
 use Rattle.mwpm_engine.specs.Starts.{IsRise}

@@ -1,5 +1,4 @@
 use Rattle.std.proofs.Common.{◌≡◌, ◌∙◌, ℕ, Option, Some, refl, ap, ap₂}
-use Rattle.alt_forest.specs.declared.search.Search.{Search}
 use Rattle.alt_forest.specs.Searches.{edge_in, put, state_of}
 use Rattle.mwpm_engine.proofs.StartMates.{paired_by}
 use Rattle.mwpm_engine.proofs.StartSearch.{paired_sound, paired_few}

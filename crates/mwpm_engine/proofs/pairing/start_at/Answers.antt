@@ -1,4 +1,4 @@
-use Rattle.std.proofs.Common.{◌≡◌, ◌∙◌, ◌≤◌, ℕ, ◌+ℤ◌, Some, true, sym, ap, subst, arith, rules, to_z, of_z}
+use Rattle.std.proofs.Common.{◌≡◌, ◌∙◌, ◌+ℤ◌, true, sym, ap, subst, arith, rules, to_z, of_z}
 use mir.Syntax.{w64}
 use Rattle.graph_theory.specs.Graph.{Multigraph, IsEdgeNumber, edge_of, edges_around, touches}
 use Rattle.blossom_arena.specs.Family.{dual_at, is_vertex}

@@ -1,4 +1,4 @@
-use Rattle.std.proofs.Common.{◌≡◌, ◌≤◌, ◌+◌, ◌*◌, length}
+use Rattle.std.proofs.Common.{◌≡◌, ◌≤◌, ◌+◌, length}
 use Rattle.alt_forest.specs.Searches.{state_of}
 use Rattle.alt_forest.specs.Counts.{exposed_count, measure}
 use Rattle.mwpm_engine.specs.Passes.{IsSamePass, IsGrowing, account}

@@ -1,13 +1,12 @@
-use Rattle.std.proofs.Common.{◌≡◌, ◌∙◌, ◌+ℤ◌, ◌≤ℤ◌, ℕ, ℤ, Some, sym, ap, subst, rules, to_z, of_z}
+use Rattle.std.proofs.Common.{◌≡◌, ◌∙◌, ◌+ℤ◌, ◌≤ℤ◌, sym, ap, subst, rules, to_z, of_z, pos, arith}
 use mir.Syntax.{w64}
 use Rattle.graph_theory.specs.declared.limits.TheConstants.{NUMBER_LIMIT}
 use Rattle.alt_forest.specs.declared.search.Search.{Search}
 use Rattle.alt_forest.specs.Searches.{state_of}
-use Rattle.alt_forest.specs.State.{State}
 use Rattle.alt_forest.specs.Counts.{exposed_count, measure}
-use Rattle.alt_forest.specs.Entries.{looks_left}
+use Rattle.alt_forest.specs.Entries.{entry_count, looks_left}
 use Rattle.dual_change.specs.Changes.{applied, IsPossible, IsWithin, StaysInRange}
-use Rattle.mwpm_engine.proofs.Reached.{found, one_root, some_tree, grows_on}
+use Rattle.mwpm_engine.proofs.Reached.{found, looks_reach, one_root, some_tree, grows_on}
 use Rattle.mwpm_engine.proofs.phases.reach.Goals as goal
 
 pub find-next-requires-clause-one_tree : goal.find-next-requires-clause-one_tree
@@ -72,3 +71,18 @@ returns-clause-keeps g c =
       left = ap measure second ∙ ap (λ (t : Search). measure (state_of t)) first;
       looks = ap looks_left second ∙ ap (λ (t : Search). looks_left (state_of t)) first;
     }
+
+pub apply-requires-clause-low : goal.apply-requires-clause-low
+apply-requires-clause-low g c =
+    let u : Search = c.find-next.new.search in
+    let e = c.find-next.ensures in
+    let back : to_z w64 (of_z w64 c.in_ok-event.d) ≡ c.in_ok-event.d = search rules in
+    subst (λ x. pos 0 ≤ℤ x) (sym back)
+    (found c.args.search.now u c.find-next.result c.in_ok-event.event c.in_ok-event.d e.rest e.sound e.queued e.found e.within (sym c.event_of.ensures ∙ c.in_ok-event.was) c.requires.growing).within.low
+
+-- a look at the event's edge, and the change
+pub returns-clause-count : goal.returns-clause-count
+returns-clause-count g c =
+    let by = looks_reach c.find-next.result c.in_ok-event.event c.in_ok-event.d (sym c.event_of.ensures ∙ c.in_ok-event.was) in
+    let queue : entry_count c.apply.new.search.queue ≡ entry_count c.find-next.new.search.queue = ap (λ (t : Search). entry_count t.queue) c.apply.ensures.rest in
+    omega (arith, by, queue, c.find-next.ensures.count, c.apply.ensures.step)

@@ -1,4 +1,4 @@
-use Rattle.std.proofs.Common.{◌≡◌, ◌∙◌, refl, sym, ap, subst, true}
+use Rattle.std.proofs.Common.{◌≡◌, ◌∙◌, refl, sym, ap, subst}
 use Rattle.graph_theory.specs.Graph.{Multigraph}
 use Rattle.blossom_arena.specs.Family.{is_vertex}
 use Rattle.alt_forest.specs.declared.search.Search.{Search}
