@@ -1,5 +1,6 @@
-ghost use Rattle.std.specs.Prelude.{◌≡◌, ◌↔◌, true};
-ghost use Rattle.alt_forest.specs.Searches.{IsSearchGraph, HasShape, IsSound};
+ghost use Rattle.std.specs.Prelude.{◌≡◌, ◌↔◌, true, vec_len};
+ghost use Rattle.std.specs.Vec.{vec_capacity};
+ghost use Rattle.alt_forest.specs.Searches.{IsSearchGraph, HasRoom, HasShape, IsSound};
 
 use crate::labels::labels_fit;
 use crate::mates::mates_hold;
@@ -20,8 +21,9 @@ fn is_small(graph: &Graph) -> bool
     graph.edges() <= GRAPH_EDGE_LIMIT
 }
 
-/// Whether the lists of a search have their lengths, and its arena is one for its graph.
+/// Whether the lists of a search by node have their lengths, and its arena is one for its graph.
 fn has_shape(search: &Search) -> bool
+    requires room { HasRoom search.now.graph search.now.incidence search.now.queue (vec_capacity search.now.standing) (vec_len search.now.stands) (vec_capacity search.now.scanned) }
     ensures { (result ≡ true) ↔ HasShape search.now }
 {
     if !is_small(&search.graph) {
@@ -46,7 +48,10 @@ fn has_shape(search: &Search) -> bool
 /// Whether a search is in the state of a search (chapters 24 and 26), exactly: it recomputes each part
 /// from the lists. It is for tests of searches whose fields were written by hand, and slow: for n
 /// vertices and m edges its time is at most linear in n (n + m). It counts no step and takes no memory.
+/// What the index holds and what the queue has places for are the caller's to know: `Search::new` makes
+/// them fit the graph, and no call changes that.
 pub fn check_search(search: &Search) -> bool
+    requires room { HasRoom search.now.graph search.now.incidence search.now.queue (vec_capacity search.now.standing) (vec_len search.now.stands) (vec_capacity search.now.scanned) }
     ensures exact { (result ≡ true) ↔ IsSound search.now }
 {
     if !has_shape(search) {

@@ -1,7 +1,9 @@
 ghost use Rattle.std.specs.Prelude.{◌≡◌, IfSome, MatchBool};
 ghost use Rattle.alt_forest.specs.Searches.{IsSound, state_of};
 ghost use Rattle.alt_forest.specs.Counts.{tree_count};
-ghost use Rattle.dual_change.specs.Changes.{applied, IsWithin, IsPossible};
+ghost use Rattle.alt_forest.specs.Entries.{IsQueued};
+ghost use Rattle.alt_forest.specs.Standing.{IsStanding};
+ghost use Rattle.dual_change.specs.Changes.{applied, IsWithin, IsPossible, IsNext, IsNextWithin};
 
 use super::range::stays_in_range;
 use alt_forest::Search;
@@ -20,10 +22,14 @@ fn change<L: Ledger>(
     steps: &mut Steps<L>,
 ) -> Option<Event>
     requires sound { IsSound search.old }
+    requires queued { IsQueued search.old }
+    requires standing { IsStanding search.old }
     requires trees { tree_count (state_of search.old) ≡ 1 }
     requires within { IsWithin (state_of search.old) d }
     requires leads { IsPossible (applied (state_of search.old) d) event }
     ensures sound { IsSound search.new }
+    ensures queued { IsQueued search.new }
+    ensures standing { IsStanding search.new }
     ensures graph { search.new.graph ≡ search.old.graph }
     ensures trees { tree_count (state_of search.new) ≡ 1 }
     ensures possible { IfSome result (IsPossible (state_of search.new)) }
@@ -35,18 +41,40 @@ fn change<L: Ledger>(
     Some(event)
 }
 
+/// What comes next.
+fn seek<L: Ledger>(search: &mut Search, graph: &Graph, steps: &mut Steps<L>) -> Next
+    requires sound { IsSound search.old }
+    requires queued { IsQueued search.old }
+    requires standing { IsStanding search.old }
+    requires same { graph.now ≡ search.old.graph }
+    requires trees { tree_count (state_of search.old) ≡ 1 }
+    ensures sound { IsSound search.new }
+    ensures queued { IsQueued search.new }
+    ensures standing { IsStanding search.new }
+    ensures same { graph.now ≡ search.new.graph }
+    ensures trees { tree_count (state_of search.new) ≡ 1 }
+    ensures found { IsNext (state_of search.new) result }
+    ensures within { IsNextWithin (state_of search.new) result }
+{
+    find(search, graph, steps)
+}
+
 /// Changes the duals until an event can happen, and answers it; None where the tree is stuck, or a
 /// dual is large.
 pub fn reach<L: Ledger>(search: &mut Search, graph: &Graph, steps: &mut Steps<L>) -> Option<Event>
     requires sound { IsSound search.old }
+    requires queued { IsQueued search.old }
+    requires standing { IsStanding search.old }
     requires same { graph.now ≡ search.old.graph }
     requires trees { tree_count (state_of search.old) ≡ 1 }
     ensures sound { IsSound search.new }
+    ensures queued { IsQueued search.new }
+    ensures standing { IsStanding search.new }
     ensures same { graph.now ≡ search.new.graph }
     ensures trees { tree_count (state_of search.new) ≡ 1 }
     ensures possible { IfSome result (IsPossible (state_of search.new)) }
 {
-    match find(search, graph, steps) {
+    match seek(search, graph, steps) {
         Next::Grow(e, d) => change(search, Event::Grow(e), d, steps),
         Next::Shrink(e, d) => change(search, Event::Shrink(e), d, steps),
         Next::Augment(e, d) => change(search, Event::Augment(e), d, steps),
@@ -63,10 +91,14 @@ pub fn perform<L: Ledger>(
     steps: &mut Steps<L>,
 ) -> bool
     requires sound { IsSound search.old }
+    requires queued { IsQueued search.old }
+    requires standing { IsStanding search.old }
     requires same { graph.now ≡ search.old.graph }
     requires trees { tree_count (state_of search.old) ≡ 1 }
     requires possible { IsPossible (state_of search.old) event }
     ensures sound { IsSound search.new }
+    ensures queued { IsQueued search.new }
+    ensures standing { IsStanding search.new }
     ensures same { graph.now ≡ search.new.graph }
     ensures trees { MatchBool result (tree_count (state_of search.new) ≡ 0) (tree_count (state_of search.new) ≡ 1) }
 {

@@ -3,6 +3,8 @@ ghost use Rattle.alt_forest.specs.declared.label.Label.TheVariants.{Out};
 ghost use Rattle.alt_forest.specs.Searches.{IsSound, state_of, label_at};
 ghost use Rattle.alt_forest.specs.State.{IsExposed};
 ghost use Rattle.alt_forest.specs.Counts.{tree_count};
+ghost use Rattle.alt_forest.specs.Entries.{IsQueued};
+ghost use Rattle.alt_forest.specs.Standing.{IsStanding};
 
 use super::events::{perform, reach};
 use super::instances::{can_start, is_small};
@@ -30,9 +32,13 @@ fn advance<L: Ledger>(
     steps: &mut Steps<L>,
 ) -> bool
     requires sound { IsSound search.old }
+    requires queued { IsQueued search.old }
+    requires standing { IsStanding search.old }
     requires same { graph.now ≡ search.old.graph }
     requires trees { tree_count (state_of search.old) ≡ 1 }
     ensures sound { IsSound search.new }
+    ensures queued { IsQueued search.new }
+    ensures standing { IsStanding search.new }
     ensures same { graph.now ≡ search.new.graph }
     ensures trees { MatchBool result (tree_count (state_of search.new) ≡ 0) (tree_count (state_of search.new) ≡ 1) }
 {
@@ -56,15 +62,19 @@ fn phase<L: Ledger>(
     steps: &mut Steps<L>,
 )
     requires sound { IsSound search.old }
+    requires queued { IsQueued search.old }
+    requires standing { IsStanding search.old }
     requires same { graph.now ≡ search.old.graph }
     requires trees { tree_count (state_of search.old) ≡ 0 }
     requires exposed { IsExposed (state_of search.old) root }
     requires out { label_at search.old.labels.items root ≡ Out }
     ensures sound { IsSound search.new }
+    ensures queued { IsQueued search.new }
+    ensures standing { IsStanding search.new }
     ensures same { graph.now ≡ search.new.graph }
     ensures trees { tree_count (state_of search.new) ≡ 0 }
 {
-    search.plant(root);
+    search.plant(graph, root, steps);
     assert!(rt; check_search(search));
     for _ in 0..MOST_EVENTS {
         if advance(rt, search, graph, tally, steps) {
@@ -72,6 +82,31 @@ fn phase<L: Ledger>(
         }
     }
     panic!(rt; "a phase has not ended");
+}
+
+/// A phase from an exposed node, if there is one.
+fn match_one<L: Ledger>(
+    rt: &impl Abort,
+    search: &mut Search,
+    graph: &Graph,
+    tally: &mut Tally,
+    steps: &mut Steps<L>,
+)
+    requires sound { IsSound search.old }
+    requires queued { IsQueued search.old }
+    requires standing { IsStanding search.old }
+    requires same { graph.now ≡ search.old.graph }
+    requires trees { tree_count (state_of search.old) ≡ 0 }
+    ensures sound { IsSound search.new }
+    ensures queued { IsQueued search.new }
+    ensures standing { IsStanding search.new }
+    ensures same { graph.now ≡ search.new.graph }
+    ensures trees { tree_count (state_of search.new) ≡ 0 }
+{
+    let Some(root) = free_node(search) else {
+        return;
+    };
+    phase(rt, search, graph, root, tally, steps);
 }
 
 /// Phases until no outermost node is exposed.
@@ -83,14 +118,14 @@ fn pass<L: Ledger>(
     steps: &mut Steps<L>,
 )
     requires sound { IsSound search.old }
+    requires queued { IsQueued search.old }
+    requires standing { IsStanding search.old }
     requires same { graph.now ≡ search.old.graph }
     requires trees { tree_count (state_of search.old) ≡ 0 }
     ensures sound { IsSound search.new }
 {
     for _ in 0..graph.vertices() {
-        if let Some(root) = free_node(search) {
-            phase(rt, search, graph, root, tally, steps);
-        }
+        match_one(rt, search, graph, tally, steps);
     }
 }
 

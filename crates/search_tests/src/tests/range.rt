@@ -1,4 +1,5 @@
-ghost use Rattle.std.specs.Prelude.{◌≡◌, ◌≤ℤ◌, ℤ, pos, negsuc, true};
+ghost use Rattle.std.specs.Prelude.{◌≡◌, ◌≤ℤ◌, ◌+ℤ◌, ℤ, pos, negsuc, true};
+ghost use Rattle.graph_theory.specs.declared.limits.TheConstants.{NUMBER_LIMIT};
 ghost use Rattle.graph_theory.specs.Duals.{IsNumber};
 ghost use Rattle.alt_forest.specs.Searches.{IsSound, state_of};
 ghost use Rattle.alt_forest.specs.State.{IsOutermost};
@@ -50,12 +51,14 @@ fn duals_fit(search: &Search, d: i64) -> bool
     true
 }
 
-/// Whether a change leaves all duals in range; it refuses where a dual or the change is beyond 10^6.
+/// Whether a change leaves all duals and the clock in range; it refuses where a dual, the clock or the
+/// change is beyond 10^6.
 pub fn stays_in_range(search: &Search, d: i64) -> bool
     requires sound { IsSound search.now }
-    ensures { result ≡ true → StaysInRange (state_of search.now) d }
+    ensures duals { result ≡ true → StaysInRange (state_of search.now) d }
+    ensures clock { result ≡ true → (search.now.clock +ℤ d) ≤ℤ NUMBER_LIMIT }
 {
-    if d < 0 {
+    if d < 0 || search.clock > 1_000_000 {
         return false;
     }
     if d > 1_000_000 {

@@ -1,7 +1,11 @@
+use Rattle.std.proofs.Common.{◌≡◌, sym, subst, rules, to_z, of_z}
+use mir.Syntax.{w64}
+use Rattle.alt_forest.specs.Events.{CanGrow}
 use Rattle.alt_forest.specs.Searches.{state_of}
-use Rattle.alt_forest.proofs.Places.{nested_of}
-use Rattle.alt_forest.proofs.Counted.{roots_counted}
+use Rattle.dual_change.specs.Changes.{applied}
 use Rattle.search_tests.proofs.tests.events.reach.Goals as goal
 
-pub find-requires-clause-one_tree : goal.find-requires-clause-one_tree
-find-requires-clause-one_tree g c = (roots_counted (state_of c.args.search.now) (nested_of c.args.search.now c.requires.sound.shape) c.requires.trees).0
+pub change-requires-clause-leads : goal.change-requires-clause-leads
+change-requires-clause-leads g c =
+    let back : to_z w64 (of_z w64 c.in-Grow.d) ≡ c.in-Grow.d = search rules in
+    subst (λ d. CanGrow (applied (state_of c.seek.new.search) d) c.in-Grow.e) (sym back) c.in-Grow.ensures.found.possible

@@ -1,11 +1,15 @@
 use Rattle.std.proofs.Common.{◌≡◌}
 use Rattle.alt_forest.specs.Searches.{IsSound, state_of}
 use Rattle.alt_forest.specs.Counts.{tree_count}
+use Rattle.alt_forest.specs.Entries.{IsQueued}
+use Rattle.alt_forest.specs.Standing.{IsStanding}
 use Rattle.search_tests.proofs.tests.passes.pass.Given as goal
 
 abbrev pub invariant-loop : goal.invariant-loop
 invariant-loop g l = record {
   sound : IsSound l.search;
+  queued : IsQueued l.search;
+  standing : IsStanding l.search;
   same : l.graph ≡ l.search.graph;
   trees : tree_count (state_of l.search) ≡ 0;
 }
