@@ -7,7 +7,7 @@ def changed_field(random, line):
     """The line with one field after the first changed."""
     fields = line.split(" ")
     at = random.randrange(1, len(fields))
-    if random.randrange(3) > 0 and fields[at].lstrip("-").isdecimal():
+    if random.randrange(3) > 0 and fields[at].removeprefix("-").isdecimal():
         fields[at] = str(int(fields[at]) + random.choice([-2, -1, 1, 2]))
     else:
         fields[at] = random.choice(NUMBERS)

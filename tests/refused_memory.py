@@ -15,6 +15,8 @@ RUNS = (
     ("solve perfect", TRIANGLES),
     ("check perfect", TRIANGLES + "s OPTIMAL perfect 12\nx 1 1\nx 5 1\nx 7 1\ny 1 1\ny 2 1\ny 3 1\ny 4 1\ny 5 1\ny 6 1\n"
      "z 9 3 1 2 3\nz 9 3 4 5 6\n"),
+    ("check perfect", "p edge 4 9\n" + "e 1 2 1\n" * 8 + "e 3 4 1\ns OPTIMAL perfect 2\nx 1 1\nx 9 1\ny 1 0\ny 2 1\ny 3 1\ny 4 0\n"
+     "z 1 3 1 2 3\nz 1 3 2 3 4\n"),
     ("solve path", "p edge 3 3\nn 1 1\nn 3 1\ne 1 2 3\ne 2 3 -1\ne 1 3 4\n"),
     ("solve path", "p edge 3 3\nn 1 1\nn 3 1\ne 1 2 -1\ne 2 3 -1\ne 1 3 1\n"),
     ("solve match", "p edge 4 3\ne 1 2 1\ne 2 3 5\ne 3 4 1\n"),
