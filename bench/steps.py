@@ -9,7 +9,7 @@ import subprocess
 import sys
 import tempfile
 
-import solve
+import families
 from timing import HERE
 
 TOP = os.path.join(HERE, "..")
@@ -66,13 +66,13 @@ def steps(program, given):
 def main():
     with tempfile.TemporaryDirectory() as folder:
         program = copy_that_counts(folder)
-        for name, given in (("random, 3 edges a vertex, weights 0", solve.random_graph(100, 300, 0)),
-                            ("random, 3 edges a vertex", solve.random_graph(100, 300, 10**9)),
-                            ("random, 16 edges a vertex", solve.random_graph(100, 1600, 10**9)),
-                            ("a chain of triangles", solve.chain_of_triangles(96, 10**9)),
-                            ("nearest neighbours in a plane", solve.nearest_neighbours(100, 8)),
-                            ("nested odd sets", solve.nested_sets(100, 10**6)),
-                            ("no perfect matching", solve.without_matching(100, 400, 10**9))):
+        for name, given in (("random, 3 edges a vertex, weights 0", families.random_graph(100, 300, 0)),
+                            ("random, 3 edges a vertex", families.random_graph(100, 300, 10**9)),
+                            ("random, 16 edges a vertex", families.random_graph(100, 1600, 10**9)),
+                            ("a chain of triangles", families.chain_of_triangles(96, 10**9)),
+                            ("nearest neighbours in a plane", families.nearest_neighbours(100, 8)),
+                            ("nested odd sets", families.nested_sets(100, 10**6)),
+                            ("no perfect matching", families.without_matching(100, 400, 10**9))):
             n, m = map(int, given.split(b"\n")[0].split()[2:4])
             most = (n + 1) * (3 * n + 2) * (m + 1)
             counted = steps(program, given)
