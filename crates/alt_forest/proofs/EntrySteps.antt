@@ -6,7 +6,7 @@ use Rattle.std.proofs.lemmas.Bool.{eqb-true, eqb-false, both_ways}
 use Rattle.graph_theory.specs.declared.edge.Edge.{Edge as GraphEdge}
 use Rattle.graph_theory.specs.Parts.{holds}
 use Rattle.graph_theory.specs.Graph.{Multigraph, IsEdgeNumber, edge_of, edges_around, touches}
-use Rattle.graph_theory.proofs.Around.{around-has, around-at}
+use Rattle.graph_theory.proofs.Around.{around-has}
 use Rattle.graph_theory.proofs.Members.{holds_place, eqb-turned}
 use Rattle.blossom_arena.specs.Family.{is_vertex}
 use Rattle.blossom_arena.proofs.Lists.{by_test}
@@ -52,10 +52,6 @@ index_list s g v xs h same vertex is =
 
 pub listed_edge : (g : Multigraph) (v : ℕ) (xs : List ℕ) (k e : ℕ) → xs ≡ edges_around g v → k < length xs → e ≡ get_or xs k e → e ≡ get_or (edges_around g v) k 0
 listed_edge g v xs k e list low is = get_or_read xs k e low is 0 ∙ ap (λ (ys : List ℕ). get_or ys k 0) list
-
-pub edge_there : (g : Multigraph) (v : ℕ) (xs : List ℕ) (k e : ℕ) → xs ≡ edges_around g v → k < length xs → e ≡ get_or xs k e → IsEdgeNumber g e × (touches (edge_of g e) v ≡ true)
-edge_there g v xs k e list low is =
-    subst (λ d. IsEdgeNumber g d × (touches (edge_of g d) v ≡ true)) (sym (listed_edge g v xs k e list low is)) (around-at g v k 0 (omega (arith, low, ap length list)))
 
 -- an edge that no vertex of a longer list touches
 neither : (p q r t : Bool) → (p || q) ≡ false → (r || t) ≡ false → ((p || r) || (q || t)) ≡ false

@@ -1,6 +1,7 @@
 -- The list of nodes that changes of duals run over, with one node more and with none.
 use Rattle.std.proofs.Common.{◌≡◌, ℕ, ◌<◌, ◌≤◌, Bool, true, false, ◌||◌, eqb, List, [], ◌∷◌, ◌++◌, length, refl, sym, ap, ◌∙◌, arith}
 use Rattle.std.specs.Prelude.{slice_set}
+use Rattle.std.proofs.Math.Bool.{or-false}
 use Rattle.std.proofs.lemmas.Bool.{eqb-true, eqb-false, eq-eqb}
 use Rattle.std.proofs.lemmas.Bool.Decides.{nat_tests}
 use Rattle.std.proofs.lemmas.List.{get_or-set_other, get_or-set_same}
@@ -14,13 +15,12 @@ use Rattle.alt_forest.specs.Trees.{node_limit}
 or_second : (a b : Bool) → a ≡ false → (a || b) ≡ b
 or_second a b e = ap (λ t. t || b) e
 
-or_first : (a b : Bool) → b ≡ false → (a || b) ≡ a
-or_first true b e = refl
-or_first false b e = e
-
 -- a number that the list doesn't have goes to its end
 pub holds_more : (nodes : List ℕ) (a c : ℕ) → holds nodes c ≡ true → holds (nodes ++ a ∷ []) c ≡ true
 holds_more nodes a c e = holds-push nodes a c ∙ ap (λ t. t || eqb a c) e
+
+holds_else : (nodes : List ℕ) (a c : ℕ) → eqb a c ≡ false → holds (nodes ++ a ∷ []) c ≡ holds nodes c
+holds_else nodes a c e = holds-push nodes a c ∙ ap (λ t. holds nodes c || t) e ∙ or-false (holds nodes c)
 
 pub holds_last : (nodes : List ℕ) (a : ℕ) → holds (nodes ++ a ∷ []) a ≡ true
 holds_last nodes a = holds-push nodes a a ∙ either (holds nodes a) (eqb a a) (eq-eqb a a refl)
@@ -64,13 +64,13 @@ listed_more n nodes flags a h low high place free = record {
     ranged : (v : ℕ) → holds (nodes ++ a ∷ []) v ≡ true → (1 ≤ v) × (v ≤ node_limit n)
     ranged v e = by_test (eqb a v)
         (λ t. let same : a ≡ v = eqb-true a v t in (omega (arith, same), omega (arith, same)))
-        (λ t. holds_all (λ c. (1 ≤ c) × (c ≤ node_limit n)) nodes v h.in_range (sym (or_first (holds nodes v) (eqb a v) t) ∙ sym (holds-push nodes a v) ∙ e))
+        (λ t. holds_all (λ c. (1 ≤ c) × (c ≤ node_limit n)) nodes v h.in_range (sym (holds_else nodes a v t) ∙ e))
 
     flags_of : (c : ℕ) → flag_at (slice_set flags a true) c ≡ holds (nodes ++ a ∷ []) c
     flags_of c = by_test (eqb a c)
         (λ t. let same : a ≡ c = eqb-true a c t in
         ap (flag_at (slice_set flags a true)) (sym same) ∙ get_or-set_same flags a true false place ∙ sym (holds_last nodes a) ∙ ap (holds (nodes ++ a ∷ [])) same)
-        (λ t. get_or-set_other flags a c true false (λ q. eqb-false a c t (sym q)) ∙ h.flagged c ∙ sym (or_first (holds nodes c) (eqb a c) t) ∙ sym (holds-push nodes a c))
+        (λ t. get_or-set_other flags a c true false (λ q. eqb-false a c t (sym q)) ∙ h.flagged c ∙ sym (holds_else nodes a c t))
 
 -- no node is listed where no flag says so
 pub none_listed : (n : ℕ) (flags : List Bool) → ((c : ℕ) → flag_at flags c ≡ false) → AreListed n [] flags

@@ -1,11 +1,12 @@
 -- How many looks are left: ends of edges at vertices, added up.
-use Rattle.std.proofs.Common.{◌≡◌, ◌≢◌, ℕ, zero, suc, ◌+◌, ◌*◌, ◌≤◌, Bool, true, false, ◌||◌, eqb, cond, List, [], ◌∷◌, ◌++◌, length, length-append, refl, sym, ap, ◌∙◌, arith, All}
+use Rattle.std.proofs.Common.{◌≡◌, ◌≢◌, ℕ, ◌+◌, ◌*◌, ◌≤◌, Bool, true, false, ◌||◌, eqb, cond, List, [], ◌∷◌, length, refl, sym, ap, ◌∙◌, arith, All}
 use Rattle.std.proofs.lemmas.Bool.{eqb-true, ne_eqb, both_ways}
 use Rattle.graph_theory.specs.declared.edge.Edge.{Edge}
-use Rattle.graph_theory.specs.Graph.{Multigraph, IsEdgeWithin, no_edge, edge_at, touches, edges_below, edges_around}
+use Rattle.graph_theory.specs.Graph.{Multigraph, IsEdgeWithin, no_edge, edge_at, touches, edges_around}
 use Rattle.graph_theory.specs.Parts.{holds}
 use Rattle.graph_theory.specs.Sums.{sum_to}
 use Rattle.graph_theory.proofs.SumLemmas.{sum_to-same, sum_to-le, sum_to-add, sum_to-swap, sum_to-at_one, sum_to-most}
+use Rattle.graph_theory.proofs.Around.{edges_below-count}
 use Rattle.blossom_arena.specs.Family.{is_vertex}
 use Rattle.blossom_arena.proofs.Lists.{AllNew, first_in, later_in}
 use Rattle.blossom_arena.proofs.Nested.{range_vertex, vertex_range}
@@ -27,7 +28,7 @@ weigh_le : (p q : ℕ → Bool) (w : ℕ → ℕ) (n : ℕ) → ((a : ℕ) → 1
 weigh_le p q w n within = sum_to-le (λ i. cond (q (i + 1)) (w (i + 1)) 0) (λ i. cond (p (i + 1)) (w (i + 1)) 0) n (λ k b. term_le (q (k + 1)) (p (k + 1)) (w (k + 1)) (within (k + 1) (omega arith) (omega arith)))
 
 -- the same test but for one number
-abbrev but : (ℕ → Bool) → ℕ → ℕ → Bool
+abbrev pub but : (ℕ → Bool) → ℕ → ℕ → Bool
 but p x a = cond (eqb x a) false (p a)
 
 but_else : (p : ℕ → Bool) (x a : ℕ) → x ≢ a → but p x a ≡ p a
@@ -58,15 +59,6 @@ weigh_less g p q n (x ∷ xs) new vertex passes fails within =
     let one = weigh_but p (λ v. length (edges_around g v)) x n range.0 range.1 (passes x (first_in x xs)) in
     omega (arith, rest, one)
 
--- the edges at v, counted
-push_length : (t : Bool) (xs : List ℕ) (x : ℕ) → length (cond t (xs ++ x ∷ []) xs) ≡ length xs + cond t 1 0
-push_length true xs x = length-append xs (x ∷ [])
-push_length false xs x = omega arith
-
-below_length : (g : Multigraph) (v k : ℕ) → length (edges_below g v k) ≡ sum_to (λ i. cond (touches (edge_at g i) v) 1 0) k
-below_length g v zero = refl
-below_length g v (suc k) = omega (arith, push_length (touches (edge_at g k) v) (edges_below g v k) (suc k), below_length g v k)
-
 -- an edge has two ends
 either_le : (t u : Bool) → cond (t || u) 1 0 ≤ cond t 1 0 + cond u 1 0
 either_le true true = omega arith
@@ -87,7 +79,7 @@ pub all_ends : (g : Multigraph) → All (IsEdgeWithin g.vertices) g.edges → su
 all_ends g ends =
     let n : ℕ = g.vertices in
     let m : ℕ = length g.edges in
-    let spread = sum_to-same (λ i. length (edges_around g (i + 1))) (λ i. sum_to (λ k. cond (touches (edge_at g k) (i + 1)) 1 0) m) n (λ i b. below_length g (i + 1) m) in
+    let spread = sum_to-same (λ i. length (edges_around g (i + 1))) (λ i. sum_to (λ k. cond (touches (edge_at g k) (i + 1)) 1 0) m) n (λ i b. edges_below-count g (i + 1) m) in
     let turned = sum_to-swap (λ i k. cond (touches (edge_at g k) (i + 1)) 1 0) n m in
     let most = sum_to-most (λ k. sum_to (λ i. cond (touches (edge_at g k) (i + 1)) 1 0) n) 2 m (λ k b. two_ends n (edge_at g k) (ends k no_edge b)) in
     omega (arith, spread, turned, most)

@@ -1,7 +1,7 @@
 -- Lemmas on the sets that are taken out of all: their part of what an edge crosses, from what they share at its two ends.
 use Rattle.std.proofs.Common.{◌≡◌, ◌≢◌, ◌∙◌, sym, ap, ap₂, refl, inl, inr, arith, ℕ, zero, suc, ◌+◌, ◌<◌, ◌≤◌, ℤ, pos, neg_ℤ, ◌+ℤ◌, ◌-ℤ◌, ◌*ℤ◌, ◌≤ℤ◌, Bool, true, false, not, cond, eqb, ◌||◌, ◌&&◌, List, [], ◌∷◌, length, get_or, All}
 use Rattle.std.proofs.lemmas.Int.{ints}
-use Rattle.std.proofs.lemmas.Bool.{eq-eqb, ne_eqb, eqb-true, cases_lt}
+use Rattle.std.proofs.lemmas.Bool.{ne_eqb, eqb-true, cases_lt}
 use Rattle.graph_theory.specs.declared.edge.Edge.{Edge}
 use Rattle.graph_theory.specs.declared.limits.TheConstants.{NUMBER_LIMIT}
 use Rattle.graph_theory.specs.declared.odd_set.OddSet.{OddSet}
@@ -14,6 +14,7 @@ use Rattle.dual_check.specs.Crossed.{total_of}
 use Rattle.dual_check.specs.Shared.{sum_over, dual_at, dual_with, taken_dual, other_dual, is_held, crossed_at, IsHolders, AreShares}
 use Rattle.dual_check.specs.declared.shares.Shares.{Shares}
 use Rattle.graph_theory.proofs.SumLemmas.{int_sum_to-same, int_sum_to-add, int_sum_to-more, int_sum_to-at_none, int_sum_to-at_one}
+use Rattle.graph_theory.proofs.Edges.{other_end-u}
 use Rattle.dual_check.proofs.ShareLemmas.{given_or_none, sum-within}
 
 -- the parts of the sum at an edge
@@ -151,10 +152,7 @@ given-within e f vertices n c within at_u at_v =
 pub given_more : (e : Edge) (f : ℕ → ℤ) (n : ℕ) → given_to e f (n + 1) ≡ (given_to e f n +ℤ cond (touches e (n + 1)) (f (n + 1)) (pos 0))
 given_more e f n = int_sum_to-more (λ i. cond (touches e (i + 1)) (f (i + 1)) (pos 0)) n
 
--- the ends of an edge, seen from each other
-pub other_of_u : (e : Edge) → other_end e e.u ≡ e.v
-other_of_u e = ap (λ t. cond t e.v e.u) (eq-eqb e.u e.u refl)
-
+-- the other end, seen from v
 pub other_of_v : (e : Edge) → e.u ≢ e.v → other_end e e.v ≡ e.u
 other_of_v e differ = ap (λ t. cond t e.v e.u) (ne_eqb e.u e.v differ)
 
@@ -162,7 +160,7 @@ other_of_v e differ = ap (λ t. cond t e.v e.u) (ne_eqb e.u e.v differ)
 pub all_given : (sets : List OddSet) (taken : List Bool) (e : Edge) (n : ℕ) → IsEdgeWithin n e → given_to e (λ w. left_at sets taken w (other_end e w)) n ≡ crossed_at sets (taken_dual sets taken) (length sets) e
 all_given sets taken e n within =
     given_whole e (λ w. left_at sets taken w (other_end e w)) n within
-    ∙ ap₂ (λ a b. left_at sets taken e.u a +ℤ left_at sets taken e.v b) (other_of_u e) (other_of_v e within.differ)
+    ∙ ap₂ (λ a b. left_at sets taken e.u a +ℤ left_at sets taken e.v b) (other_end-u e) (other_of_v e within.differ)
     ∙ sym (crossed_ends sets taken e)
 
 pub nothing_given : (t : Bool) (a z : ℤ) → z ≡ pos 0 → a ≡ (a +ℤ cond t z (pos 0))

@@ -1,12 +1,12 @@
 -- Lemmas on the two outcomes: the edges that are taken as a join, and an odd part that excludes joins.
-use Rattle.std.proofs.Common.{◌≡◌, ℕ, ◌+◌, ◌*◌, ◌≤◌, Bool, false, cond, eqb, refl, ap, sym, ◌∙◌, subst, inl, inr, arith, List, [], ◌∷◌, length, length-append, slice_index, replicate, zero, suc}
-use Rattle.std.proofs.lemmas.Bool.{cases_Bool, eqb-true, eq-eqb}
+use Rattle.std.proofs.Common.{◌≡◌, ℕ, ◌+◌, ◌*◌, ◌≤◌, Bool, false, cond, eqb, ap, sym, ◌∙◌, subst, arith, List, length, slice_index, replicate}
+use Rattle.std.proofs.lemmas.Bool.{eqb-true, eq-eqb}
 use Rattle.std.proofs.lemmas.List.{get_or-replicate}
-use Rattle.graph_theory.specs.Sums.{sum_to}
-use Rattle.graph_theory.specs.Graph.{Multigraph, IsEdgeNumber, edge_at, edges_around, edges_below, touches, ends_at, degree}
+use Rattle.graph_theory.specs.Graph.{Multigraph, IsEdgeNumber, edge_at, edges_around, touches, ends_at, degree}
 use Rattle.graph_theory.specs.Parts.{holds, IsOddPart}
 use Rattle.graph_theory.proofs.SumLemmas.{sum_to-same, one_if-most}
 use Rattle.graph_theory.proofs.Edges.{degree-touches}
+use Rattle.graph_theory.proofs.Around.{edges_below-count}
 use Rattle.graph_theory.proofs.Members.{all_holds, same_tests}
 use Rattle.graph_theory.proofs.OddParts.{odd_part_excludes}
 use Rattle.mb_problem.specs.declared.answer.Parity.{Parity}
@@ -25,22 +25,13 @@ pub balanced-flags : (g : Multigraph) (odd : ℕ → ℕ) (taken first flags : L
 balanced-flags g odd taken first flags small are even = λ v low high. even v low high ∙ ap one_if (are v low high) ∙ bit-test (odd v) (small v)
 
 -- as many edges are listed at a vertex as it has
-below-count : (g : Multigraph) (v k : ℕ) → length (edges_below g v k) ≡ sum_to (λ j. cond (touches (edge_at g j) v) 1 0) k
-below-count g v zero = refl
-below-count g v (suc k) =
-    let front = below-count g v k in
-    elim (cases_Bool (touches (edge_at g k) v)) [
-      | inl h ↦ rw h (length-append (edges_below g v k) (suc k ∷ []) ∙ ap (λ n. n + 1) front)
-      | inr h ↦ rw h (front ∙ (let e : sum_to (λ j. cond (touches (edge_at g j) v) 1 0) k ≡ sum_to (λ j. cond (touches (edge_at g j) v) 1 0) k + 0 = omega arith in e))
-    ]
-
 pub around-count : (i : Network) (v : ℕ) → IsNetwork i → length (edges_around (graph_of i) v) ≡ edge_count_at i v
 around-count i v ok =
     let g = graph_of i in
     let m = length g.edges in
     let count : m ≡ length i.edges = edges-count i in
     let ones : List ℕ = replicate (length i.edges) 1 in
-    below-count g v m
+    edges_below-count g v m
     ∙ sum_to-same (λ k. cond (touches (edge_at g k) v) 1 0) (λ k. cond (touches (edge_at g k) v) (slice_index ones k) 0) m
     (λ k b. ap (λ (x : ℕ). cond (touches (edge_at g k) v) x 0) (sym (get_or-replicate (length i.edges) k 1 0 (omega (arith, count, b)))))
     ∙ sym (degree-touches g ones v (network-graph i ok).ends)

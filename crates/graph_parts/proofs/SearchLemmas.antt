@@ -1,6 +1,6 @@
 -- Lemmas on a search: one vertex more, all neighbours of a vertex, and what is found in the end.
 use Rattle.std.proofs.Common.{◌≡◌, ℕ, ◌+◌, ◌<◌, ◌≤◌, Bool, true, false, ◌||◌, eqb, refl, ap, sym, ◌∙◌, subst, inl, inr, arith, List, [], ◌∷◌, ◌++◌, length, get_or, set, take, length-set, length-append}
-use Rattle.std.proofs.Math.Bool.{or_assoc}
+use Rattle.std.proofs.Math.Bool.{or-false, or_assoc}
 use Rattle.std.proofs.lemmas.Bool.{cases_eq, eqb-true, eq-eqb, ne_eqb, false≢true, or_cases, or_parts, or_left, or_right}
 use Rattle.std.proofs.lemmas.List.{get_or-set_same, get_or-set_other, get_or_read, take-append-le, take_all, append-nil, append_assoc}
 use Rattle.graph_theory.specs.Graph.{Multigraph, IsGraph, IsEdgeNumber, edge_of, edges_around, touches, other_end}
@@ -27,16 +27,12 @@ grows-trans a b c xs ys zs first then = record {
   list = then.list ∙ ap (λ us. us ++ then.more) first.list ∙ append_assoc xs first.more then.more;
 }
 
-or_none : (a b : Bool) → b ≡ false → (a || b) ≡ a
-or_none true b h = refl
-or_none false b h = h
-
 -- what one mark more changes
 marked_now : (old : List Bool) (v w : ℕ) → v < length old → is_marked (set old v true) w ≡ (is_marked old w || eqb v w)
 marked_now old v w b =
     elim (cases_eq w v) [
       | inl e ↦ ap (λ x. get_or (set old v true) x false) e ∙ get_or-set_same old v true false b ∙ sym (or_right (is_marked old w) (eqb v w) (eq-eqb v w (sym e)))
-      | inr d ↦ get_or-set_other old v w true false d ∙ sym (or_none (is_marked old w) (eqb v w) (ne_eqb v w (λ e. d (sym e))))
+      | inr d ↦ get_or-set_other old v w true false d ∙ sym (ap (λ t. is_marked old w || t) (ne_eqb v w (λ e. d (sym e))) ∙ or-false (is_marked old w))
     ]
 
 pub grows-one : (out : List Bool) (v : ℕ) (old : List Bool) (before : List ℕ) (new : List Bool) (reached : List ℕ) → v < length old → ReachesOne out v old before new reached → Grows old before new reached

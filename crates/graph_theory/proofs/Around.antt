@@ -1,8 +1,9 @@
 -- Lemmas on the lists of the edges at a vertex: what they list, in which order, and how one edge more changes them.
-use Rattle.std.proofs.Common.{◌≡◌, ℕ, zero, suc, ◌+◌, ◌-◌, ◌<◌, ◌≤◌, Bool, true, false, cond, eqb, ◌||◌, ◌↔◌, refl, ap, sym, ◌∙◌, subst, inl, inr, arith, add-one, [], ◌∷◌, ◌++◌, length, get_or, All, List}
+use Rattle.std.proofs.Common.{◌≡◌, ℕ, zero, suc, ◌+◌, ◌-◌, ◌<◌, ◌≤◌, Bool, true, false, cond, eqb, ◌||◌, ◌↔◌, refl, ap, sym, ◌∙◌, subst, inl, inr, arith, add-one, [], ◌∷◌, ◌++◌, length, length-append, get_or, All, List}
 use Rattle.std.specs.List.Sorted.{IsStrictlyIncreasing}
 use Rattle.std.proofs.lemmas.Bool.{false≢true, cases_Bool, or_cases, or_left, or_right, eqb-true, eq-eqb, cases_eq, cond-true, cond-false}
 use Rattle.std.proofs.lemmas.Grind.{common_steps}
+use Rattle.graph_theory.specs.Sums.{sum_to}
 use Rattle.graph_theory.specs.Graph.{Multigraph, IsEdgeWithin, edge_at, edge_of, IsEdgeNumber, touches, edges_below, edges_around}
 use Rattle.graph_theory.specs.Parts.{holds}
 use Rattle.graph_theory.proofs.Members.{holds_at, holds-push, increasing-push, all_holds}
@@ -31,6 +32,16 @@ edges_below-length g v (suc k) =
     elim (cases_Bool (touches (edge_at g k) v)) [
       | inl h ↦ rw h (grind (arith, common_steps, edges_below-length g v k))
       | inr h ↦ rw h (let front = edges_below-length g v k in omega (arith, front))
+    ]
+
+-- as many are listed as are at the vertex
+pub edges_below-count : (g : Multigraph) (v k : ℕ) → length (edges_below g v k) ≡ sum_to (λ j. cond (touches (edge_at g j) v) 1 0) k
+edges_below-count g v zero = refl
+edges_below-count g v (suc k) =
+    let front = edges_below-count g v k in
+    elim (cases_Bool (touches (edge_at g k) v)) [
+      | inl h ↦ rw h (length-append (edges_below g v k) (suc k ∷ []) ∙ ap (λ n. n + 1) front)
+      | inr h ↦ rw h (front ∙ (let e : sum_to (λ j. cond (touches (edge_at g j) v) 1 0) k ≡ sum_to (λ j. cond (touches (edge_at g j) v) 1 0) k + 0 = omega arith in e))
     ]
 
 -- what is listed

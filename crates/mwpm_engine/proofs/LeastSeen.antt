@@ -6,7 +6,7 @@ use Rattle.std.proofs.lemmas.Bool.{eqb-false}
 use borrow.Author.Count.{below_more}
 use Rattle.graph_theory.specs.Graph.{Multigraph, IsEdgeNumber, edge_of, edges_around, touches}
 use Rattle.graph_theory.specs.Parts.{holds}
-use Rattle.graph_theory.proofs.Around.{around-at, around-has}
+use Rattle.graph_theory.proofs.Around.{around-has}
 use Rattle.graph_theory.proofs.Members.{holds_all}
 
 -- no value at the first i numbers is less
@@ -20,11 +20,6 @@ below_one f xs i x old new here low is value less less_here below =
 
 pub below_all : (f : ℕ → ℤ) (xs : List ℕ) (i : ℕ) (least : ℤ) → length xs ≤ i → IsBelow f xs i least → (e : ℕ) → holds xs e ≡ true → least ≤ℤ f e
 below_all f xs i least all below e there = holds_all (λ x. least ≤ℤ f x) xs e (λ k d low. subst (λ x. least ≤ℤ f x) (sym (get_or_default_zero xs k d low)) (below k (omega (arith, low, all)))) there
-
--- what stands in the list of the edges at a vertex
-pub at_place : (g : Multigraph) (v : ℕ) (xs : List ℕ) (i x : ℕ) → xs ≡ edges_around g v → i < length xs → x ≡ get_or xs i x → IsEdgeNumber g x × (touches (edge_of g x) v ≡ true)
-at_place g v xs i x same low is =
-    subst (λ y. IsEdgeNumber g y × (touches (edge_of g y) v ≡ true)) (sym (is ∙ ap (λ (ys : List ℕ). get_or ys i x) same)) (around-at g v i x (subst (λ (ys : List ℕ). i < length ys) same low))
 
 -- what is the least at all its places is so at each edge at the vertex
 pub below_around : (g : Multigraph) (v : ℕ) (xs : List ℕ) (f : ℕ → ℤ) (i : ℕ) (least : ℤ) → xs ≡ edges_around g v → length xs ≤ i → IsBelow f xs i least → (e : ℕ) → IsEdgeNumber g e → touches (edge_of g e) v ≡ true → least ≤ℤ f e

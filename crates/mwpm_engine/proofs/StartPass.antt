@@ -16,6 +16,7 @@ use Rattle.alt_forest.specs.Entries.{IsQueued, HasNoTree}
 use Rattle.alt_forest.specs.Standing.{AreListed, IsStanding}
 use Rattle.edge_queue.specs.Moments.{moment_of}
 use Rattle.alt_forest.proofs.Looks.{all_ends}
+use Rattle.alt_forest.proofs.Parity.{parity_refl}
 use Rattle.alt_forest.proofs.NoTree.{none_queued, none_standing}
 use Rattle.mwpm_engine.specs.Starts.{IsBegun, IsLifted}
 
@@ -32,9 +33,6 @@ pub given : (w : Weights) → is_given w ≡ true → w ≡ Given
 given Zero t = cc
 given Given t = refl
 
-same_parity : (x : ℤ) → SameParity x x
-same_parity x = (pos 0, omega (arith, ints))
-
 -- a pass that has just been reset
 pub begun_anew : (s : State) (g : Multigraph) (w : Weights) (start : ℤ) → s.graph ≡ g → s.weighted ≡ is_given w → s.blossoms ≡ [] → ((a : ℕ) → s.label a ≡ Out) → IsStart g w start → ((v : ℕ) → is_vertex g.vertices v ≡ true → s.dual v ≡ start) → IsBegun s start
 begun_anew s g w start same weights alone out is duals =
@@ -46,7 +44,7 @@ begun_anew s g w start same weights alone out is duals =
       start_weight = range;
       low = λ v vertex. let here = each v vertex in omega (arith, ints, here);
       high = λ v vertex. let here = each v vertex in let most : start ≤ℤ WEIGHT_LIMIT = range.1 in omega (arith, ints, here, most);
-      parity = λ v vertex. subst (λ y. SameParity y start) (sym (each v vertex)) (same_parity start);
+      parity = λ v vertex. subst (λ y. SameParity y start) (sym (each v vertex)) (parity_refl start);
       still = λ unweighted v vertex. each v vertex ∙ start_still g w start is (sym weights ∙ unweighted);
     }
 

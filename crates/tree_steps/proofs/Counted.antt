@@ -14,6 +14,7 @@ use Rattle.alt_forest.specs.State.{State}
 use Rattle.alt_forest.specs.Trees.{is_label}
 use Rattle.alt_forest.specs.Counts.{is_outside, outside_among}
 use Rattle.alt_forest.proofs.Counted.{one_if, counted}
+use Rattle.alt_forest.proofs.Looks.{but}
 
 one_same : (t u : Bool) → t ≡ u → one_if t ≡ one_if u
 one_same t u e = ap one_if e
@@ -46,14 +47,12 @@ counted_less p q x (suc n) low high fails passes within =
     (cases_eq x (suc n))
 
 -- a test that one number fails besides
-abbrev but : (ℕ → Bool) → ℕ → ℕ → Bool
-but p x a = cond (eqb a x) false (p a)
 
 but_here : (p : ℕ → Bool) (x a : ℕ) → a ≡ x → but p x a ≡ false
-but_here p x a e = ap (λ t. cond t false (p a)) (eq-eqb a x e)
+but_here p x a e = ap (λ t. cond t false (p a)) (eq-eqb x a (sym e))
 
 but_else : (p : ℕ → Bool) (x a : ℕ) → a ≢ x → but p x a ≡ p a
-but_else p x a ne = ap (λ t. cond t false (p a)) (ne_eqb a x ne)
+but_else p x a ne = ap (λ t. cond t false (p a)) (ne_eqb x a (λ e. ne (sym e)))
 
 counted_but : (p : ℕ → Bool) (x n : ℕ) → 1 ≤ x → x ≤ n → counted p n ≡ counted (but p x) n + one_if (p x)
 counted_but p x zero low high = absurd (omega arith)

@@ -3,13 +3,14 @@ use Rattle.graph_theory.specs.Graph.{Multigraph, edges_around}
 use Rattle.std.specs.Prelude.{slice_index_or}
 use Rattle.blossom_arena.specs.Family.{is_vertex}
 use Rattle.edge_queue.specs.Moments.{Moments}
+use Rattle.graph_theory.proofs.Around.{number_at}
 use Rattle.blossom_arena.proofs.Sets.{outermost_has}
 use Rattle.alt_forest.specs.declared.search.Search.{Search}
 use Rattle.alt_forest.specs.State.{IsOutermost}
 use Rattle.alt_forest.specs.Searches.{HasShape, state_of}
 use Rattle.alt_forest.specs.Entries.{IsEntered}
 use Rattle.alt_forest.proofs.Places.{nested_of}
-use Rattle.alt_forest.proofs.EntrySteps.{entered_next, others_next, by_places, index_list, listed_edge, edge_there}
+use Rattle.alt_forest.proofs.EntrySteps.{entered_next, others_next, by_places, index_list, listed_edge}
 use Rattle.alt_forest.proofs.entries.enter_around.Goals as goal
 
 pub label-requires-clause-outer : goal.label-requires-clause-outer
@@ -27,7 +28,7 @@ enter_edge-requires-clause-edge g c =
     let s = c.args.search.now in
     let all : c.at-place-end.result.now ≡ edges_around c.args.graph.now c.args.v = index_list s c.args.graph.now c.args.v _ c.requires.sound.shape c.requires.same c.requires.vertex c.at-place-end.ensures in
     let list : c.at.result.now ≡ edges_around c.args.graph.now c.args.v = around s c.args.graph.now c.args.v c.at.result.now c.loop-place.search _ c.requires.sound.shape c.requires.same c.requires.vertex c.loop-place.invariant.rest c.at.ensures in
-    (edge_there c.args.graph.now c.args.v c.at.result.now c.loop-place.place c.index-at-place.result list (omega (arith, ap length all, ap length list, c.loop-place-test.true)) c.index-at-place.is).0
+    (number_at c.args.graph.now c.args.v c.at.result.now c.loop-place.place c.index-at-place.result list (omega (arith, ap length all, ap length list, c.loop-place-test.true)) c.index-at-place.is).0
 
 pub loop-place-preserved : goal.loop-place-preserved
 loop-place-preserved g c =
@@ -42,7 +43,7 @@ loop-place-preserved g c =
     let all : c.at-place-end.result.now ≡ edges_around k v = index_list s k v _ c.requires.sound.shape c.requires.same c.requires.vertex c.at-place-end.ensures in
     let list : c.at.result.now ≡ edges_around k v = around s k v c.at.result.now c.loop-place.search _ c.requires.sound.shape c.requires.same c.requires.vertex i.rest c.at.ensures in
     let low : place < length c.at.result.now = omega (arith, ap length all, ap length list, c.loop-place-test.true) in
-    let there = edge_there k v c.at.result.now place e list low c.index-at-place.is in
+    let there = number_at k v c.at.result.now place e list low c.index-at-place.is in
     record {
       rest = call.rest ∙ ap (λ (x : Search). let y : Search = record x { queue = r } in y) i.rest;
       sound = call.sound;

@@ -3,7 +3,8 @@ use Rattle.alt_forest.specs.State.{slack_of}
 use Rattle.alt_forest.specs.Searches.{state_of}
 use Rattle.mwpm_engine.specs.Starts.{IsRise}
 use Rattle.mwpm_engine.specs.declared.pairing.Rise.{Rise}
-use Rattle.mwpm_engine.proofs.LeastSeen.{at_place, below_one, below_first, below_around, some_there}
+use Rattle.graph_theory.proofs.Around.{number_at}
+use Rattle.mwpm_engine.proofs.LeastSeen.{below_one, below_first, below_around, some_there}
 use Rattle.mwpm_engine.proofs.StartSearch.{listed_in}
 use Rattle.mwpm_engine.proofs.pairing.least_rise.Goals as goal
 
@@ -11,13 +12,13 @@ pub rise_by-least-requires-clause-edge : goal.rise_by-least-requires-clause-edge
 rise_by-least-requires-clause-edge g c =
     let xs = listed_in c.args.search.now c.args.graph.now c.args.v c.at-edges.result.now c.requires.same c.requires.sound.shape c.requires.vertex c.at-edges.ensures in
     let some = some_there c.at-edges.result.now c.is_empty.result c.is_empty.ensures c.if-is_empty.false in
-    (at_place c.args.graph.now c.args.v c.at-edges.result.now 0 c.index-edges-0.result xs some c.index-edges-0.is).0
+    (number_at c.args.graph.now c.args.v c.at-edges.result.now 0 c.index-edges-0.result xs some c.index-edges-0.is).0
 
 pub rise_by-least-requires-clause-at_vertex : goal.rise_by-least-requires-clause-at_vertex
 rise_by-least-requires-clause-at_vertex g c =
     let xs = listed_in c.args.search.now c.args.graph.now c.args.v c.at-edges.result.now c.requires.same c.requires.sound.shape c.requires.vertex c.at-edges.ensures in
     let some = some_there c.at-edges.result.now c.is_empty.result c.is_empty.ensures c.if-is_empty.false in
-    (at_place c.args.graph.now c.args.v c.at-edges.result.now 0 c.index-edges-0.result xs some c.index-edges-0.is).1
+    (number_at c.args.graph.now c.args.v c.at-edges.result.now 0 c.index-edges-0.result xs some c.index-edges-0.is).1
 
 pub loop-place-init : goal.loop-place-init
 loop-place-init g c =
@@ -31,12 +32,12 @@ loop-place-init g c =
 pub rise_by-requires-clause-edge : goal.rise_by-requires-clause-edge
 rise_by-requires-clause-edge g c =
     let xs = listed_in c.args.search.now c.args.graph.now c.args.v c.at-edges.result.now c.requires.same c.requires.sound.shape c.requires.vertex c.at-edges.ensures in
-    (at_place c.args.graph.now c.args.v c.at-edges.result.now c.loop-place.place c.index-edges-place.result xs (omega arith) c.index-edges-place.is).0
+    (number_at c.args.graph.now c.args.v c.at-edges.result.now c.loop-place.place c.index-edges-place.result xs (omega arith) c.index-edges-place.is).0
 
 pub rise_by-requires-clause-at_vertex : goal.rise_by-requires-clause-at_vertex
 rise_by-requires-clause-at_vertex g c =
     let xs = listed_in c.args.search.now c.args.graph.now c.args.v c.at-edges.result.now c.requires.same c.requires.sound.shape c.requires.vertex c.at-edges.ensures in
-    (at_place c.args.graph.now c.args.v c.at-edges.result.now c.loop-place.place c.index-edges-place.result xs (omega arith) c.index-edges-place.is).1
+    (number_at c.args.graph.now c.args.v c.at-edges.result.now c.loop-place.place c.index-edges-place.result xs (omega arith) c.index-edges-place.is).1
 
 pub loop-place-preserved : goal.loop-place-preserved
 loop-place-preserved g c =
