@@ -14,3 +14,4 @@ pub mod Reps
 pub mod Heads
 pub mod Barrier
 pub mod Total
+mod Still

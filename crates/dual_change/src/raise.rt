@@ -69,6 +69,23 @@ fn raise_listed(search: &mut Search, d: i64)
     }
 }
 
+/// Gives each node in a tree its share of a change of d. A change of 0 leaves all as it is, and passes no node.
+fn raise_trees(search: &mut Search, d: i64)
+    requires sound { IsSound search.old }
+    requires standing { IsStanding search.old }
+    requires low { pos 0 ≤ℤ d }
+    requires within { IsWithin (state_of search.old) d }
+    requires in_range { StaysInRange (state_of search.old) d }
+    ensures state { state_of search.new ≡ applied (state_of search.old) d }
+    ensures rest { search.new ≡ record search.old { arena = record search.old.arena { duals = search.new.arena.duals } } }
+    ensures sound { IsSound search.new }
+{
+    if d == 0 {
+        return;
+    }
+    raise_listed(search, d);
+}
+
 /// The clock after a change of d.
 fn later(clock: i64, d: i64) -> i64
     requires low { pos 0 ≤ℤ clock }
@@ -100,7 +117,7 @@ pub fn apply<L: Ledger>(search: &mut Search, d: i64, steps: &mut Steps<L>)
     ensures step { steps.new ≡ steps.old + 1 }
 {
     let clock = later(search.clock, d);
-    raise_listed(search, d);
+    raise_trees(search, d);
     search.clock = clock;
     steps.tick();
 }

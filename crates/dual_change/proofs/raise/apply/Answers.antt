@@ -10,29 +10,29 @@ use Rattle.dual_change.proofs.raise.apply.Goals as goal
 pub returns-clause-rest : goal.returns-clause-rest
 returns-clause-rest g c =
     let s : Search = c.args.search.now in
-    let t : Search = c.raise_listed.new.search in
+    let t : Search = c.raise_trees.new.search in
     let start : to_z w64 (of_z w64 s.clock) ≡ s.clock = search rules in
     let d : to_z w64 (of_z w64 c.args.d) ≡ c.args.d = search rules in
     let back : to_z w64 (of_z w64 c.later-clock.result) ≡ c.later-clock.result = search rules in
-    ap (λ (y : Search). let z : Search = record y { clock = to_z w64 (of_z w64 c.later-clock.result) } in z) c.raise_listed.ensures.rest
+    ap (λ (y : Search). let z : Search = record y { clock = to_z w64 (of_z w64 c.later-clock.result) } in z) c.raise_trees.ensures.rest
     ∙ ap (λ (y : ℤ). let z : Search = record (with_duals s t.arena.duals) { clock = y } in z) (back ∙ c.later-clock.ensures ∙ ap₂ ◌+ℤ◌ start d)
 
 pub returns-clause-queued : goal.returns-clause-queued
 returns-clause-queued g c =
     let s : Search = c.args.search.now in
-    let t : Search = c.raise_listed.new.search in
+    let t : Search = c.raise_trees.new.search in
     let start : to_z w64 (of_z w64 s.clock) ≡ s.clock = search rules in
     let d : to_z w64 (of_z w64 c.args.d) ≡ c.args.d = search rules in
     let back : to_z w64 (of_z w64 c.later-clock.result) ≡ c.later-clock.result = search rules in
-    let state : state_of t ≡ applied (state_of s) c.args.d = c.raise_listed.ensures.state ∙ ap (applied (state_of s)) d in
-    queued_later s t c.args.d (to_z w64 (of_z w64 c.later-clock.result)) c.raise_listed.ensures.rest (back ∙ c.later-clock.ensures ∙ ap₂ ◌+ℤ◌ start d)
+    let state : state_of t ≡ applied (state_of s) c.args.d = c.raise_trees.ensures.state ∙ ap (applied (state_of s)) d in
+    queued_later s t c.args.d (to_z w64 (of_z w64 c.later-clock.result)) c.raise_trees.ensures.rest (back ∙ c.later-clock.ensures ∙ ap₂ ◌+ℤ◌ start d)
     state c.requires.sound c.requires.queued c.requires.tree c.requires.low c.requires.clock
 
 pub returns-clause-standing : goal.returns-clause-standing
 returns-clause-standing g c =
     let s : Search = c.args.search.now in
-    let t : Search = c.raise_listed.new.search in
+    let t : Search = c.raise_trees.new.search in
     let start : to_z w64 (of_z w64 s.clock) ≡ s.clock = search rules in
     let d : to_z w64 (of_z w64 c.args.d) ≡ c.args.d = search rules in
     let back : to_z w64 (of_z w64 c.later-clock.result) ≡ c.later-clock.result = search rules in
-    standing_later s t c.args.d (to_z w64 (of_z w64 c.later-clock.result)) c.raise_listed.ensures.rest (back ∙ c.later-clock.ensures ∙ ap₂ ◌+ℤ◌ start d) c.requires.standing
+    standing_later s t c.args.d (to_z w64 (of_z w64 c.later-clock.result)) c.raise_trees.ensures.rest (back ∙ c.later-clock.ensures ∙ ap₂ ◌+ℤ◌ start d) c.requires.standing
