@@ -61,13 +61,15 @@ fn read_line(earlier: Option<Header>, values: &[Option<u32>], row: &[&[u8]]) -> 
     Err(Rule::UnknownLine)
 }
 
-fn begins_solution(row: &[&[u8]]) -> bool
-    ensures { result ≡ is_solution (field_list row.now) }
+/// Whether a line is the first of a document. It looks no farther than the first field.
+fn begins_solution(line: &[u8]) -> bool
+    ensures { result ≡ is_solution (fields line.now) }
 {
-    let Some(first) = row.first() else {
+    let mut fields = Fields::new(line);
+    let Some(first) = fields.next() else {
         return false;
     };
-    *first == b"s".as_slice()
+    first == b"s".as_slice()
 }
 
 /// The place of the first edge of a weight below 0, after one more line.
@@ -105,10 +107,10 @@ fn read_lines<'a>(alloc: Global, bytes: &'a [u8]) -> Result<Draft<'a>, InstanceE
     let mut rest = bytes;
     let mut line = 0u64;
     'lines: while let Some((text, after)) = next_line(rest) {
-        let row = some_fields(text);
-        if begins_solution(&row) {
+        if begins_solution(text) {
             break;
         }
+        let row = some_fields(text);
         match read_line(header, &values, &row) {
             Err(rule) => {
                 return Err(InstanceError::Malformed {
