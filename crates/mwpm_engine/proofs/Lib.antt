@@ -18,8 +18,10 @@ pub mod Concluded
 pub mod StepCounts
 pub mod Flat
 pub mod LeastSeen
+pub mod LeastRise
 pub mod StartDuals
 pub mod StartMates
 pub mod StartLifted
 pub mod StartSearch
 pub mod StartPass
+pub mod Settled

@@ -11,11 +11,11 @@ use Rattle.blossom_arena.specs.Family.{is_vertex}
 use Rattle.blossom_arena.proofs.Lists.{by_test, first_in}
 use Rattle.blossom_arena.proofs.Ends.{u_vertex, v_vertex}
 use Rattle.alt_forest.specs.declared.label.Label.TheVariants.{Out}
-use Rattle.alt_forest.specs.State.{State, IsMate, IsSearchState, doubled, slack_of}
+use Rattle.alt_forest.specs.State.{State, IsExposed, IsMate, IsSearchState, doubled, slack_of}
 use Rattle.alt_forest.specs.Searches.{put}
 use Rattle.alt_forest.specs.Trees.{SameParity}
 use Rattle.alt_forest.proofs.Relabelled.{some_not_none}
-use Rattle.mwpm_engine.specs.Starts.{IsBegun, CanRise}
+use Rattle.mwpm_engine.specs.Starts.{IsBegun, CanRise, CanPair, JoinsExposed}
 use Rattle.mwpm_engine.proofs.Flat.{slack_flat, end_flat, flat_state}
 
 abbrev pub raised_at : State → ℕ → ℤ → State
@@ -171,3 +171,22 @@ slack_even s start e ends h is =
   where
     plain : (t w x y k a b : ℤ) → t ≡ w -ℤ (x +ℤ y) → w ≡ k +ℤ k → x ≡ start +ℤ (a +ℤ a) → y ≡ start +ℤ (b +ℤ b) → SameParity t (pos 0)
     plain t w x y k a b e f g i = (((k -ℤ start) -ℤ a) -ℤ b, omega (arith, ints, e, f, g, i))
+
+-- an edge at the raised vertex that joins exposed vertices now had the slack by which the dual rose
+pub joins_here : (s : State) (v : ℕ) (d : ℤ) (e : ℕ) → All (IsEdgeWithin s.graph.vertices) s.graph.edges → s.blossoms ≡ [] → touches (edge_of s.graph e) v ≡ true → JoinsExposed (raised_at s v d) e → CanPair s v d e
+joins_here s v d e ends alone t j =
+    let is : IsEdgeNumber s.graph e = j.tight.edge in
+    let now = slack_here s v d e alone (edge_of_within s.graph e ends is) t in
+    let zero = j.tight.tight in
+    record {
+      is_edge = is;
+      at_vertex = t;
+      slack_is = omega (arith, ints, now, zero);
+      exposed = by_test (eqb (edge_of s.graph e).u v)
+          (λ q. subst (IsExposed s) (sym (ap (λ b. cond b (edge_of s.graph e).v (edge_of s.graph e).u) q)) j.v)
+          (λ q. subst (IsExposed s) (sym (ap (λ b. cond b (edge_of s.graph e).v (edge_of s.graph e).u) q)) j.u);
+    }
+
+-- another edge that does so did so before
+pub joins_there : (s : State) (v : ℕ) (d : ℤ) (e : ℕ) → s.blossoms ≡ [] → touches (edge_of s.graph e) v ≡ false → JoinsExposed (raised_at s v d) e → JoinsExposed s e
+joins_there s v d e alone t j = record { tight = record { edge = j.tight.edge; tight = sym (slack_there s v d e alone t) ∙ j.tight.tight }; u = j.u; v = j.v }

@@ -64,6 +64,14 @@ module _ (s : State) (e : ℕ) where
           omega (arith, same))
           (mate_cases c)
 
+  -- what is exposed still was so before, and is no end of the edge
+  pub paired_free : a ≢ b → (c : ℕ) → IsExposed (paired_by s e) c → IsExposed s c × (c ≢ a) × (c ≢ b)
+  paired_free differ c x = (
+    (x.0, ⊎_elim (λ q. some_not_none e (sym q ∙ x.1)) (λ q. sym q ∙ x.1) (mate_cases c)),
+    λ q. some_not_none e (sym (at_a differ) ∙ ap (paired_by s e).mate (sym q) ∙ x.1),
+    λ q. some_not_none e (sym at_b ∙ ap (paired_by s e).mate (sym q) ∙ x.1),
+  )
+
   module _ (ends : All (IsEdgeWithin s.graph.vertices) s.graph.edges) (alone : s.blossoms ≡ []) (tight : IsTight s e) (a_free : IsExposed s a) (b_free : IsExposed s b) where
     differ : a ≢ b
     differ = (edge_of_within s.graph e ends tight.edge).differ

@@ -4,6 +4,7 @@ use Rattle.std.proofs.lemmas.Int.{ints}
 use Rattle.graph_theory.specs.declared.limits.TheConstants.{WEIGHT_LIMIT}
 use Rattle.graph_theory.specs.Graph.{Multigraph, IsGraph, IsWeight, IsEdgeNumber, edge_of, edges_around}
 use Rattle.graph_theory.specs.Sums.{sum_to}
+use Rattle.graph_theory.proofs.SumLemmas.{sum_to-more}
 use Rattle.blossom_arena.specs.Family.{Family, is_vertex}
 use Rattle.alt_forest.specs.declared.label.Label.TheVariants.{Out}
 use Rattle.alt_forest.specs.declared.label.Weights.{Weights}
@@ -98,3 +99,14 @@ round_looks g place end old new graph last low high looks =
     let same : place ≡ g.vertices = omega (arith, low, high, last) in
     let here = ap (sum_to (λ i. length (edges_around g (i + 1)))) same in
     omega (arith, looks, all, here)
+
+-- one vertex more
+pub round_more : (g : Multigraph) (k v start old new : ℕ) → v ≡ k + 1 → old ≤ start + sum_to (λ i. length (edges_around g (i + 1))) k → new ≤ old + length (edges_around g v) → new ≤ start + sum_to (λ i. length (edges_around g (i + 1))) (k + 1)
+round_more g k v start old new is paid looks =
+    let here : length (edges_around g v) ≡ length (edges_around g (k + 1)) = ap (λ x. length (edges_around g x)) is in
+    let more = sum_to-more (λ i. length (edges_around g (i + 1))) k in
+    omega (arith, paid, looks, here, more)
+
+-- what stays through the turns of two vertices
+pub kept_on : (s u t : Search) → u ≡ record s { arena = record s.arena { duals = u.arena.duals }; mates = u.mates } → t ≡ record u { arena = record u.arena { duals = t.arena.duals }; mates = t.mates } → t ≡ record s { arena = record s.arena { duals = t.arena.duals }; mates = t.mates }
+kept_on s u t first second = second ∙ ap (λ (x : Search). record x { arena = record x.arena { duals = t.arena.duals }; mates = t.mates }) first

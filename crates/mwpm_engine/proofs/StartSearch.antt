@@ -1,8 +1,8 @@
 -- What the steps of the start of a pass leave of a search.
-use Rattle.std.proofs.Common.{◌≡◌, ◌∙◌, ℕ, ◌<◌, ◌≤◌, ℤ, pos, ◌+ℤ◌, ◌≤ℤ◌, true, ◌||◌, eqb, cond, List, [], Option, Some, None, length, sym, ap, subst, arith, vec_len}
+use Rattle.std.proofs.Common.{◌≡◌, ◌≢◌, ◌∙◌, ℕ, ◌<◌, ◌≤◌, ℤ, pos, ◌+ℤ◌, ◌≤ℤ◌, true, ◌||◌, eqb, cond, List, [], Option, Some, None, length, sym, ap, subst, arith, ⊎_elim, vec_len}
 use Rattle.std.specs.Prelude.{slice_index_or}
 use Rattle.std.proofs.lemmas.Int.{ints}
-use Rattle.std.proofs.lemmas.Bool.{eqb-true}
+use Rattle.std.proofs.lemmas.Bool.{eqb-true, or_cases}
 use Rattle.graph_theory.specs.Graph.{Multigraph, IsEdgeNumber, edge_of, edges_around, touches, other_end}
 use Rattle.graph_theory.proofs.Edges.{edge_of_within}
 use Rattle.blossom_arena.proofs.Lists.{by_test}
@@ -15,9 +15,9 @@ use Rattle.alt_forest.specs.Counts.{exposed_count}
 use Rattle.alt_forest.specs.Searches.{HasShape, IsSound, edge_in, put, state_of}
 use Rattle.alt_forest.proofs.Puts.{put_dual}
 use Rattle.alt_forest.proofs.Relabelled.{some_not_none}
-use Rattle.mwpm_engine.specs.Starts.{IsBegun, CanRise, CanPair, IsRise}
+use Rattle.mwpm_engine.specs.Starts.{IsBegun, CanRise, CanPair, IsRise, JoinsExposed}
 use Rattle.mwpm_engine.proofs.StartDuals.{raised_at, raised_state, raised_begun, rise_high, rise_still, slack_even, slack_here}
-use Rattle.mwpm_engine.proofs.StartMates.{paired_by, paired_state, paired_exposed, some_same}
+use Rattle.mwpm_engine.proofs.StartMates.{paired_by, paired_state, paired_exposed, paired_free, some_same}
 
 -- a vertex's dual has its place in the list
 pub dual_place : (s : Search) (v : ℕ) → HasShape s → is_vertex s.graph.vertices v ≡ true → v < length s.arena.duals
@@ -60,6 +60,9 @@ module _ (s t : Search) (e : ℕ) (rest : t ≡ record s { mates = t.mates }) (m
 
   pub paired_few : exposed_count (state_of t) ≤ exposed_count (state_of s)
   paired_few = subst (λ (x : State). exposed_count x ≤ exposed_count (state_of s)) (sym paired_is) (paired_exposed (state_of s) e)
+
+  pub paired_frees : HasShape s → IsTight (state_of s) e → (a : ℕ) → IsExposed (state_of t) a → IsExposed (state_of s) a × (a ≢ (edge_of s.graph e).u) × (a ≢ (edge_of s.graph e).v)
+  paired_frees h tight a x = paired_free (state_of s) e (edge_of_within s.graph e h.graph.graph.ends tight.edge).differ a (subst (λ (y : State). IsExposed y a) paired_is x)
 
   pub paired_sound : vec_len t.mates ≡ vec_len s.mates → IsSound s → IsBegun (state_of s) s.start → IsTight (state_of s) e → IsExposed (state_of s) (edge_of s.graph e).u → IsExposed (state_of s) (edge_of s.graph e).v → IsSound t
   paired_sound len h begun tight u v = record {
@@ -149,3 +152,21 @@ module _ (s t : Search) (v e : ℕ) (x : ℤ) (same : state_of t ≡ raised_at (
 -- the state of a search of which a dual has risen
 pub state_raised : (s t : Search) (v : ℕ) (d : ℤ) → t ≡ record s { arena = record s.arena { duals = t.arena.duals } } → dual_at t.arena.duals ≡ put (dual_at s.arena.duals) v (dual_at s.arena.duals v +ℤ d) → state_of t ≡ raised_at (state_of s) v d
 state_raised s t v d rest duals = ap state_of rest ∙ ap (λ (y : ℕ → ℤ). record (state_of s) { dual = y }) duals
+
+-- an end of an edge that joins exposed vertices is exposed
+pub end_exposed : (s : State) (v e : ℕ) → touches (edge_of s.graph e) v ≡ true → JoinsExposed s e → IsExposed s v
+end_exposed s v e t j = ⊎_elim
+    (λ q. subst (IsExposed s) (eqb-true (edge_of s.graph e).u v q) j.u)
+    (λ q. subst (IsExposed s) (eqb-true (edge_of s.graph e).v v q) j.v)
+    (or_cases (eqb (edge_of s.graph e).u v) (eqb (edge_of s.graph e).v v) t)
+
+-- where two more vertices are matched, what joins exposed vertices still did so before
+pub joins_before : (u t : Search) (e : ℕ) → t ≡ record u { mates = t.mates } → ((a : ℕ) → IsExposed (state_of t) a → IsExposed (state_of u) a) → JoinsExposed (state_of t) e → JoinsExposed (state_of u) e
+joins_before u t e rest free j =
+    let graph : t.graph ≡ u.graph = ap (λ (x : Search). x.graph) rest in
+    let tight = subst (λ (x : Search). IsTight (state_of x) e) rest j.tight in
+    record {
+      tight = record { edge = tight.edge; tight = tight.tight };
+      u = subst (λ (k : Multigraph). IsExposed (state_of u) (edge_of k e).u) graph (free (edge_of t.graph e).u j.u);
+      v = subst (λ (k : Multigraph). IsExposed (state_of u) (edge_of k e).v) graph (free (edge_of t.graph e).v j.v);
+    }

@@ -1,12 +1,12 @@
 -- How a pass begins (chapter 26): duals that are feasible, and vertices matched in pairs by tight edges, before there is any
--- blossom or tree. Only clauses of private calls cite this module.
+-- blossom or tree. Of this module public clauses cite `JoinsExposed` alone.
 use Rattle.std.specs.Prelude.{◌≡◌, ℕ, ◌<◌, ℤ, pos, ◌+ℤ◌, ◌*ℤ◌, ◌≤ℤ◌, true, false, [], Option, None}
 use Rattle.std.specs.Option.{ForSome}
 use Rattle.graph_theory.specs.declared.limits.TheConstants.{WEIGHT_LIMIT}
 use Rattle.graph_theory.specs.Graph.{IsEdgeNumber, IsWeight, edge_of, touches, other_end}
 use Rattle.blossom_arena.specs.Family.{is_vertex}
 use Rattle.alt_forest.specs.declared.label.Label.TheVariants.{Out}
-use Rattle.alt_forest.specs.State.{State, IsExposed, slack_of}
+use Rattle.alt_forest.specs.State.{State, IsExposed, IsTight, slack_of}
 use Rattle.alt_forest.specs.Trees.{SameParity}
 
 -- No blossom and no tree. The dual of each vertex has the parity of the start and isn't below it; where weights aren't used
@@ -41,6 +41,12 @@ pub record IsRise (s : State) (v : ℕ) (slack : ℤ) (mate : Option ℕ) : Type
   pub low : pos 0 ≤ℤ slack
   pub even : SameParity slack (pos 0)
   pub mate_pairs : ForSome mate (CanPair s v slack)
+
+-- a tight edge joins two exposed vertices, so that these can be matched by it
+pub record JoinsExposed (s : State) (e : ℕ) : Type 0 where
+  pub tight : IsTight s e
+  pub u : IsExposed s (edge_of s.graph e).u
+  pub v : IsExposed s (edge_of s.graph e).v
 
 -- The duals of the first k vertices have been raised towards the weights, the others are still the start: none is above the
 -- weight of an edge at it, and no vertex has a mate.

@@ -1,10 +1,10 @@
-ghost use Rattle.std.specs.Prelude.{◌≡◌, ◌⊎◌, ◌≤◌, ◌+◌, ◌*◌, ◌≤ℤ◌, ℕ, pos, true, [], length};
-ghost use Rattle.graph_theory.specs.Graph.{IsEdgeNumber, edge_of, edges_around, touches};
+ghost use Rattle.std.specs.Prelude.{◌≡◌, ◌≢◌, ◌⊎◌, ◌≤◌, ◌+◌, ◌*◌, ◌≤ℤ◌, ℕ, pos, true, false, [], length, is_some};
+ghost use Rattle.graph_theory.specs.Graph.{IsEdgeNumber, edge_of, edges_around, touches, other_end};
 ghost use Rattle.blossom_arena.specs.Family.{is_vertex};
 ghost use Rattle.alt_forest.specs.State.{IsExposed, IsTight, slack_of};
 ghost use Rattle.alt_forest.specs.Searches.{IsSound, state_of};
 ghost use Rattle.alt_forest.specs.Counts.{exposed_count};
-ghost use Rattle.mwpm_engine.specs.Starts.{IsBegun, IsRise};
+ghost use Rattle.mwpm_engine.specs.Starts.{IsBegun, CanPair, IsRise, JoinsExposed};
 
 use crate::exposed::is_exposed;
 use crate::raising::raise;
@@ -36,6 +36,7 @@ fn rise_by<L: Ledger>(
     requires at_vertex { touches (edge_of graph.now e) v ≡ true }
     ensures rise { IsRise (state_of search.now) v result.by result.mate }
     ensures slack { result.by ≡ slack_of (state_of search.now) e }
+    ensures found { IsExposed (state_of search.now) (other_end (edge_of search.now.graph e) v) → is_some result.mate ≡ true }
     ensures step { steps.new ≡ steps.old + 1 }
 {
     let by = search.slack(graph, e, steps);
@@ -51,6 +52,8 @@ fn lesser(one: Rise, other: Rise) -> Rise
     ensures which { (result ≡ one) ⊎ (result ≡ other) }
     ensures one { result.by ≤ℤ one.by }
     ensures other { result.by ≤ℤ other.by }
+    ensures one_mate { result.by ≡ one.by → is_some one.mate ≡ true → is_some result.mate ≡ true }
+    ensures other_mate { result.by ≡ other.by → is_some other.mate ≡ true → is_some result.mate ≡ true }
 {
     if one.by < other.by {
         return one;
@@ -74,6 +77,7 @@ fn least_rise<L: Ledger>(search: &Search, graph: &Graph, v: VertexId, steps: &mu
     ensures rise { IsRise (state_of search.now) v result.by result.mate }
     ensures each { (e : ℕ) → IsEdgeNumber graph.now e → touches (edge_of graph.now e) v ≡ true → result.by ≤ℤ slack_of (state_of search.now) e }
     ensures none { edges_around graph.now v ≡ [] → result.by ≡ pos 0 }
+    ensures found { (e : ℕ) → CanPair (state_of search.now) v result.by e → is_some result.mate ≡ true }
     ensures looks { steps.new ≡ steps.old + length (edges_around graph.now v) }
 {
     let edges = search.incidence.at(v);
@@ -97,6 +101,8 @@ fn start_at<L: Ledger>(search: &mut Search, graph: &Graph, v: VertexId, steps: &
     ensures sound { IsSound search.new }
     ensures begun { IsBegun (state_of search.new) search.new.start }
     ensures rest { search.new ≡ record search.old { arena = record search.old.arena { duals = search.new.arena.duals }; mates = search.new.mates } }
+    ensures settled { (e : ℕ) → touches (edge_of graph.now e) v ≡ true → JoinsExposed (state_of search.new) e → ⊥ }
+    ensures others { (e : ℕ) → touches (edge_of graph.now e) v ≡ false → JoinsExposed (state_of search.new) e → JoinsExposed (state_of search.old) e }
     ensures exposed { exposed_count (state_of search.new) ≤ exposed_count (state_of search.old) }
     ensures looks { steps.new ≤ steps.old + length (edges_around graph.now v) }
 {
@@ -119,6 +125,7 @@ fn pair(search: &mut Search, e: EdgeId)
     requires v { IsExposed (state_of search.old) (edge_of search.old.graph e).v }
     ensures sound { IsSound search.new }
     ensures begun { IsBegun (state_of search.new) search.new.start }
+    ensures free { (a : ℕ) → IsExposed (state_of search.new) a → IsExposed (state_of search.old) a × (a ≢ (edge_of search.old.graph e).u) × (a ≢ (edge_of search.old.graph e).v) }
     ensures exposed { exposed_count (state_of search.new) ≤ exposed_count (state_of search.old) }
     ensures rest { search.new ≡ record search.old { mates = search.new.mates } }
 {
@@ -135,6 +142,7 @@ pub(crate) fn start_all<L: Ledger>(search: &mut Search, graph: &Graph, steps: &m
     ensures sound { IsSound search.new }
     ensures begun { IsBegun (state_of search.new) search.new.start }
     ensures rest { search.new ≡ record search.old { arena = record search.old.arena { duals = search.new.arena.duals }; mates = search.new.mates } }
+    ensures maximal { (e : ℕ) → JoinsExposed (state_of search.new) e → ⊥ }
     ensures exposed { exposed_count (state_of search.new) ≤ exposed_count (state_of search.old) }
     ensures looks { steps.new ≤ steps.old + 2 * length graph.now.edges }
 {

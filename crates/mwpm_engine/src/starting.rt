@@ -9,6 +9,7 @@ ghost use Rattle.alt_forest.specs.Standing.{IsStanding};
 ghost use Rattle.alt_forest.specs.Trees.{SameParity};
 ghost use Rattle.mwpm_engine.specs.Bounds.{IsBounded};
 ghost use Rattle.mwpm_engine.specs.Solutions.{HasPerfect};
+ghost use Rattle.mwpm_engine.specs.Starts.{JoinsExposed};
 
 use crate::lifting::lift_all;
 use crate::pairing::start_all;
@@ -20,9 +21,9 @@ use weighted_graph::Graph;
 /// Gives a pass that has just been reset duals that are feasible, and matches vertices by tight edges (chapter 26). In the
 /// pass with weights the dual of each vertex rises to the least weight of its edges, or to 1 less, so that all duals keep the
 /// parity of the start. Then the dual of each exposed vertex in turn rises by the least slack of its edges, and where an edge
-/// that is tight then leads to another exposed vertex the two are matched. In the pass without weights no dual rises, so what
-/// is found is a matching to which no edge can be added. Each edge is looked at four times at most. It takes time linear in
-/// vertices and edges, and no memory.
+/// that is tight then leads to another exposed vertex the two are matched. So no tight edge joins two exposed vertices at the
+/// end; in the pass without weights, where no dual rises and each edge is tight, no edge can be added to the matching. Each
+/// edge is looked at four times at most. It takes time linear in vertices and edges, and no memory.
 pub fn start_duals<L: Ledger>(search: &mut Search, graph: &Graph, steps: &mut Steps<L>)
     requires sound { IsSound search.old }
     requires queued { IsQueued search.old }
@@ -39,6 +40,7 @@ pub fn start_duals<L: Ledger>(search: &mut Search, graph: &Graph, steps: &mut St
     ensures standing { IsStanding search.new }
     ensures bounded { (search.old.weights ≡ Given → HasPerfect graph.now) → IsBounded (state_of search.new) search.new.start }
     ensures parity { (u v : ℕ) → is_vertex graph.now.vertices u ≡ true → is_vertex graph.now.vertices v ≡ true → SameParity (dual_at search.new.arena.duals u) (dual_at search.new.arena.duals v) }
+    ensures maximal { (e : ℕ) → JoinsExposed (state_of search.new) e → ⊥ }
     ensures exposed { exposed_count (state_of search.new) ≤ exposed_count (state_of search.old) }
     ensures steps { steps.new ≤ steps.old + 4 * length graph.now.edges }
 {

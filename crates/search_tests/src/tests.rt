@@ -2,7 +2,9 @@ mod engine;
 mod events;
 mod instances;
 mod looks;
+mod made;
 mod passes;
+mod phases;
 mod range;
 mod results;
 mod rows;
@@ -12,7 +14,9 @@ mod tally;
 use alt_forest::Search;
 use engine::ends_with;
 use instances::instance_of;
+use made::odd_to_even;
 use passes::passed;
+use phases::phases_without_weights;
 use results::{has_mates, is_best};
 use rows::{ALL_EVENTS, DEEP_BLOSSOMS, Row, TWO_TRIANGLES};
 use runs::RUNS;
@@ -60,6 +64,20 @@ fn runs_end_with_a_matching_or_a_barrier(rt: HostRuntime) -> Result<(), Fail> {
             "{name}"
         );
     }
+    Ok(())
+}
+
+/// How many phases augment the matching in the pass without weights, from 1635 edges of a made graph.
+fn phases_of_made(rt: &impl Abort, alloc: Global) -> Result<u32, Fail> {
+    let instance = odd_to_even(rt, alloc)?;
+    assert!(rt; instance.edges() == 1635);
+    let graph = instance.graph()?;
+    Ok(phases_without_weights::<Brand>(rt, alloc, &graph, Blank::new(1))?)
+}
+
+#[test]
+fn each_phase_matches_two_more_vertices(rt: HostRuntime) -> Result<(), Fail> {
+    assert!(rt; phases_of_made(&rt, rt.alloc())? == 150);
     Ok(())
 }
 

@@ -11,8 +11,8 @@ use std::alloc::Global;
 use std::process::Abort;
 use weighted_graph::Graph;
 
-/// Whether a row's edge can be one of the instance.
-fn is_edge(instance: &Instance, u: u32, v: u32, w: i64) -> bool
+/// Whether an edge can be one of the instance.
+pub fn is_edge(instance: &Instance, u: u32, v: u32, w: i64) -> bool
     ensures { IsTrue result → IsInstanceEdge (vertices instance.now) (record { u = u; v = v; w = w; capacity = None }) }
 {
     let n = instance.vertices();

@@ -1,7 +1,7 @@
 use Rattle.std.proofs.Common.{◌≡◌, ◌∙◌, ℕ, Option, Some, refl, ap, ap₂}
 use Rattle.alt_forest.specs.Searches.{edge_in, put, state_of}
 use Rattle.mwpm_engine.proofs.StartMates.{paired_by}
-use Rattle.mwpm_engine.proofs.StartSearch.{paired_sound, paired_few}
+use Rattle.mwpm_engine.proofs.StartSearch.{paired_frees, paired_sound, paired_few}
 use Rattle.mwpm_engine.proofs.pairing.pair.Goals as goal
 
 mates : (c : goal.After-set_edge-2) → edge_in c.set_edge-2.new.edges.items ≡ (paired_by (state_of c.args.search.now) c.args.e).mate
@@ -19,3 +19,6 @@ returns-clause-sound c =
 
 pub returns-clause-exposed : goal.returns-clause-exposed
 returns-clause-exposed c = let s = c.args.search.now in paired_few s (record s { mates = c.set_edge-2.new.edges }) c.args.e refl (mates c)
+
+pub returns-clause-free : goal.returns-clause-free
+returns-clause-free c = let s = c.args.search.now in paired_frees s (record s { mates = c.set_edge-2.new.edges }) c.args.e refl (mates c) c.requires.sound.shape c.requires.tight

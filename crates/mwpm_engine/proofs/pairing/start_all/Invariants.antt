@@ -4,6 +4,7 @@ use Rattle.graph_theory.specs.Sums.{sum_to}
 use Rattle.alt_forest.specs.Counts.{exposed_count}
 use Rattle.alt_forest.specs.Searches.{IsSound, state_of}
 use Rattle.mwpm_engine.specs.Starts.{IsBegun}
+use Rattle.mwpm_engine.proofs.Settled.{AreSettled}
 use Rattle.mwpm_engine.proofs.pairing.start_all.Given as goal
 
 abbrev pub invariant-loop-place : goal.invariant-loop-place
@@ -11,6 +12,7 @@ invariant-loop-place g l = record {
   sound : IsSound l.search;
   begun : IsBegun (state_of l.search) l.search.start;
   rest : l.search ≡ record l.fn.search { arena = record l.fn.search.arena { duals = l.search.arena.duals }; mates = l.search.mates };
+  settled : AreSettled l.graph (state_of l.search) l.place;
   exposed : exposed_count (state_of l.search) ≤ exposed_count (state_of l.fn.search);
   looks : l.steps ≤ l.fn.steps + sum_to (λ i. length (edges_around l.graph (i + 1))) l.place;
 }

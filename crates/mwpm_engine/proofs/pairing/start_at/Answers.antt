@@ -1,5 +1,7 @@
-use Rattle.std.proofs.Common.{◌≡◌, ◌∙◌, ◌+ℤ◌, true, sym, ap, subst, arith, rules, to_z, of_z}
+use Rattle.std.proofs.Common.{◌≡◌, ◌∙◌, ◌+ℤ◌, ℕ, Option, true, sym, ap, subst, arith, rules, to_z, of_z}
 use mir.Syntax.{w64}
+use Rattle.std.specs.Prelude.{is_some}
+use Rattle.std.proofs.lemmas.Bool.{both_ways}
 use Rattle.graph_theory.specs.Graph.{Multigraph, IsEdgeNumber, edge_of, edges_around, touches}
 use Rattle.blossom_arena.specs.Family.{dual_at, is_vertex}
 use Rattle.alt_forest.specs.declared.search.Search.{Search}
@@ -7,7 +9,8 @@ use Rattle.alt_forest.specs.State.{IsExposed, IsTight}
 use Rattle.alt_forest.specs.Counts.{exposed_count}
 use Rattle.alt_forest.specs.Searches.{put, state_of}
 use Rattle.mwpm_engine.specs.Starts.{CanRise, CanPair}
-use Rattle.mwpm_engine.proofs.StartSearch.{least_rises, state_raised, can_be_paired}
+use Rattle.mwpm_engine.proofs.StartSearch.{least_rises, state_raised, can_be_paired, joins_before}
+use Rattle.mwpm_engine.proofs.Settled.{raised_settled, raised_others, matched_settled}
 use Rattle.mwpm_engine.proofs.pairing.start_at.Given.{Over}
 use Rattle.mwpm_engine.proofs.pairing.start_at.Goals as goal
 
@@ -51,3 +54,37 @@ pub returns-in_default-clause-exposed : goal.returns-in_default-clause-exposed
 returns-in_default-clause-exposed g c =
     let same : exposed_count (state_of c.raise.new.search) ≡ exposed_count (state_of c.args.search.now) = ap (λ (t : Search). exposed_count (state_of t)) c.raise.ensures.rest in
     omega (arith, same)
+
+pub returns-in-Some-clause-settled : goal.returns-in-Some-clause-settled
+returns-in-Some-clause-settled g c e at j =
+    let s : Search = c.args.search.now in
+    let first = ap (λ (x : Search). x.graph) c.raise.ensures.rest in
+    let graph = c.requires.same ∙ sym (ap (λ (x : Search). x.graph) c.pair.ensures.rest ∙ first) in
+    let can : CanPair (state_of s) c.args.v c.least_rise-rise.result.by c.in-Some.e = c.least_rise-rise.ensures.rise.mate_pairs c.in-Some.e c.in-Some.is in
+    matched_settled s c.pair.new.search c.args.graph.now c.raise.new.search.graph c.args.v e c.in-Some.e c.least_rise-rise.result.by graph first can (λ x. let f = c.pair.ensures.free c.args.v x in (f.1, f.2)) at j
+
+pub returns-in-Some-clause-others : goal.returns-in-Some-clause-others
+returns-in-Some-clause-others g c e at j =
+    let s : Search = c.args.search.now in
+    let u : Search = c.raise.new.search in
+    let back : to_z w64 (of_z w64 c.least_rise-rise.result.by) ≡ c.least_rise-rise.result.by = search rules in
+    let state = state_raised s u c.args.v c.least_rise-rise.result.by c.raise.ensures.rest (c.raise.ensures.duals ∙ ap (λ d. put (dual_at s.arena.duals) c.args.v (dual_at s.arena.duals c.args.v +ℤ d)) back) in
+    raised_others s u c.args.graph.now c.args.v e c.least_rise-rise.result.by c.requires.same state c.requires.sound c.requires.begun at
+    (joins_before u c.pair.new.search e c.pair.ensures.rest (λ a x. (c.pair.ensures.free a x).0) j)
+
+pub returns-in_default-clause-settled : goal.returns-in_default-clause-settled
+returns-in_default-clause-settled g c e at j =
+    let s : Search = c.args.search.now in
+    let u : Search = c.raise.new.search in
+    let back : to_z w64 (of_z w64 c.least_rise-rise.result.by) ≡ c.least_rise-rise.result.by = search rules in
+    let state = state_raised s u c.args.v c.least_rise-rise.result.by c.raise.ensures.rest (c.raise.ensures.duals ∙ ap (λ d. put (dual_at s.arena.duals) c.args.v (dual_at s.arena.duals c.args.v +ℤ d)) back) in
+    let can = raised_settled s u c.args.graph.now c.args.v e c.least_rise-rise.result.by c.requires.same state c.requires.sound c.requires.begun at j in
+    both_ways (is_some c.least_rise-rise.result.mate) (ap (λ (o : Option ℕ). is_some o) c.in_default.is) (c.least_rise-rise.ensures.found e can)
+
+pub returns-in_default-clause-others : goal.returns-in_default-clause-others
+returns-in_default-clause-others g c e at j =
+    let s : Search = c.args.search.now in
+    let u : Search = c.raise.new.search in
+    let back : to_z w64 (of_z w64 c.least_rise-rise.result.by) ≡ c.least_rise-rise.result.by = search rules in
+    let state = state_raised s u c.args.v c.least_rise-rise.result.by c.raise.ensures.rest (c.raise.ensures.duals ∙ ap (λ d. put (dual_at s.arena.duals) c.args.v (dual_at s.arena.duals c.args.v +ℤ d)) back) in
+    raised_others s u c.args.graph.now c.args.v e c.least_rise-rise.result.by c.requires.same state c.requires.sound c.requires.begun at j

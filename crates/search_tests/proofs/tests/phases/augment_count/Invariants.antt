@@ -1,0 +1,9 @@
+use Rattle.std.proofs.Common.{◌≡◌}
+use Rattle.mwpm_engine.specs.Passes.{IsReady}
+use Rattle.search_tests.proofs.tests.phases.augment_count.Given as goal
+
+abbrev pub invariant-loop-count : goal.invariant-loop-count
+invariant-loop-count g l = record {
+  ready : IsReady l.search;
+  same : l.graph ≡ l.search.graph;
+}
