@@ -271,12 +271,12 @@ def trials(tests):
 
 def large_trials(tests):
     """What is stated of a larger made instance is what `solve` states of it as a text."""
-    for kind, n, m in (("perfect", 100, 400), ("match", 60, 150), ("bmatch", 30, 90), ("capmatch", 14, 40),
-                       ("ffactor", 20, 60), ("tjoin", 40, 100), ("postman", 40, 80), ("path", 30, 80)):
-        edges, values = made.made(kind, 5, n, m)
+    for kind, start, n, m in (("perfect", 5, 100, 400), ("perfect", 7, 300, 3000), ("match", 5, 60, 150), ("bmatch", 5, 30, 90), ("capmatch", 5, 14, 40),
+                              ("ffactor", 5, 20, 60), ("tjoin", 5, 40, 100), ("postman", 5, 40, 80), ("postman", 7, 100, 150), ("path", 5, 30, 80)):
+        edges, values = made.made(kind, start, n, m)
         text = plain_solver.instance(edges, values)
         _, solved, _ = run(["solve", kind], text.encode())
-        words = ["trial", kind, "5", str(n), str(m)]
+        words = ["trial", kind, str(start), str(n), str(m)]
         size = "g %d %d" % made.graph_size(kind, edges, values)
         tests.expect(" ".join(words), words, b"", "\n".join([size, solved.split("\n")[0], "s ACCEPTED"]) + "\n", 0)
 
