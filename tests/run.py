@@ -269,6 +269,19 @@ def trials(tests):
                 tests.expect(" ".join(words), words, b"", output, status)
 
 
+def worked_trials(tests):
+    """The generator's first states from 1, and made instances that were worked out by hand."""
+    draws, states = made.Draws(1), []
+    for _ in range(4):
+        draws.draw(2001)
+        states.append(draws.state)
+    tests.compare("the generator's states from 1", "", [7806831264735756412, 9396908728118811419, 11960119808228829710, 7062582979898595269], states)
+    tests.compare("its first draw below 2001", "", 584, made.Draws(1).draw(2001))
+    for words, output in (("perfect 1 2 1", "g 2 1\ns OPTIMAL perfect -416\ns ACCEPTED\n"), ("match 1 2 2", "g 4 6\ns OPTIMAL match 980\ns ACCEPTED\n"),
+                          ("postman 1 2 0", "g 0 0\ns OPTIMAL postman 0\ns ACCEPTED\n"), ("path 1 2 0", "g 2 0\ns INFEASIBLE path\ns ACCEPTED\n")):
+        tests.expect("trial " + words, ["trial"] + words.split(), b"", output, 0)
+
+
 def large_trials(tests):
     """What is stated of a larger made instance is what `solve` states of it as a text."""
     for kind, start, n, m in (("perfect", 5, 100, 400), ("perfect", 7, 300, 3000), ("match", 5, 60, 150), ("bmatch", 5, 30, 90), ("capmatch", 5, 14, 40),
@@ -284,7 +297,7 @@ def large_trials(tests):
 PROGRAM = os.path.abspath(sys.argv[1])
 TESTS = Tests()
 for part in (cases, cut_files, hostile_input, hostile_documents, words, examples, documents, changed_documents, changed_inputs, long_input, solved, large_instances,
-             trials, large_trials):
+             trials, worked_trials, large_trials):
     part(TESTS)
 process_ends.check(PROGRAM, TESTS)
 launcher.check(TESTS)
