@@ -1,7 +1,8 @@
 #!/usr/bin/env python3
 """Builds a program of this repository, several crates at a time: the crates that it stands on and no others, each proved first.
 
-Usage: build.py PROGRAM [--jobs N]. The crates are built in a copy of their sources in the user's cache folder (XDG_CACHE_HOME, else
+Usage: build.py PROGRAM [--jobs N]. As long as several crates can be proved side by side, each has one job of the prover; the last ones, which
+stand on one another in a row, have all jobs, one crate after the other. The crates are built in a copy of their sources in the user's cache folder (XDG_CACHE_HOME, else
 ~/.cache), since `rt all` takes every crate of the folder that it is called in, tests and benches too. What a crate's own folder has
 proved already is taken along. A line a crate goes to standard error, with its number and the time so far. Where it is interrupted,
 a later call goes on with what is left. The program is put into crates/PROGRAM/out. The status is 0, or that of the command that
@@ -23,7 +24,7 @@ LAST_LINES = 30
 
 
 def crates_below(program):
-    """The repository's crates that the program stands on, and the program, each with its line of crates.txt."""
+    """The repository's crates that the program stands on, and the program: the line of crates.txt of each, and what each stands on."""
     lines, below = {}, {}
     with open(os.path.join(TOP, "crates.txt"), encoding="utf-8") as file:
         for line in file:
@@ -36,7 +37,23 @@ def crates_below(program):
         if name in lines and name not in wanted:
             wanted[name] = lines[name]
             left += below[name]
-    return wanted
+    return wanted, {name: [it for it in below[name] if it in wanted] for name in wanted}
+
+
+def row_at_top(below):
+    """The crates of the highest levels that have one crate each, lowest first: nothing is left to be proved beside them."""
+    level = {}
+    while len(level) < len(below):
+        for name in below:
+            if name not in level and all(it in level for it in below[name]):
+                level[name] = 1 + max([level[it] for it in below[name]], default=0)
+    row = []
+    for height in range(max(level.values()), 0, -1):
+        names = [name for name in level if level[name] == height]
+        if len(names) > 1:
+            break
+        row.insert(0, names[0])
+    return row
 
 
 def build_folder(program):
@@ -70,17 +87,39 @@ def take_proved(source, target):
             shutil.copytree(os.path.join(source, part), os.path.join(target, part))
 
 
+def list_crates(folder, crates):
+    with open(os.path.join(folder, "crates.txt"), "w", encoding="utf-8") as file:
+        file.writelines(crates.values())
+
+
+def aside(folder):
+    """Where crates wait whose turn hasn't come: `rt all` takes every crate that it finds."""
+    return folder + "-waiting"
+
+
+def set_aside(folder, names):
+    os.makedirs(aside(folder), exist_ok=True)
+    for name in names:
+        os.replace(os.path.join(folder, "crates", name), os.path.join(aside(folder), name))
+
+
+def bring_back(folder):
+    for name in os.listdir(aside(folder)) if os.path.isdir(aside(folder)) else []:
+        shutil.rmtree(os.path.join(folder, "crates", name), ignore_errors=True)
+        os.replace(os.path.join(aside(folder), name), os.path.join(folder, "crates", name))
+
+
 def lay_out(folder, crates):
     """Copies the sources of these crates into the folder, and takes out what is no more."""
     os.makedirs(os.path.join(folder, "crates"), exist_ok=True)
+    bring_back(folder)
     for name in set(os.listdir(os.path.join(folder, "crates"))) - set(crates):
         shutil.rmtree(os.path.join(folder, "crates", name))
     for name in crates:
         for part in PARTS:
             mirror(os.path.join(TOP, "crates", name, part), os.path.join(folder, "crates", name, part))
         take_proved(os.path.join(TOP, "crates", name, "out"), os.path.join(folder, "crates", name, "out"))
-    with open(os.path.join(folder, "crates.txt"), "w", encoding="utf-8") as file:
-        file.writelines(crates.values())
+    list_crates(folder, crates)
     shutil.copyfile(os.path.join(TOP, "HANDLES"), os.path.join(folder, "HANDLES"))
 
 
@@ -88,25 +127,60 @@ def minutes(seconds):
     return "%d s" % seconds if seconds < 60 else "%d min %d s" % divmod(int(seconds), 60)
 
 
-def prove(program, folder, names, jobs, log):
-    """Proves all crates, and says each that is done. Answers the status."""
-    start, done, now = time.monotonic(), set(), None
+class Progress:
+    """Says each crate that is done, with its number and the time so far."""
+
+    def __init__(self, program, count):
+        self.program, self.count, self.done, self.start = program, count, set(), time.monotonic()
+
+    def say(self, name):
+        if name not in self.done:
+            self.done.add(name)
+            print("%s: %d of %d: %s, %s" % (self.program, len(self.done), self.count, name, minutes(time.monotonic() - self.start)), file=sys.stderr)
+
+
+def prove(folder, names, jobs, log, progress):
+    """Proves these crates side by side. Answers the status."""
+    now = None
     process = subprocess.Popen(["rt", "all", "check", "--jobs", str(jobs)], cwd=folder, stdin=subprocess.DEVNULL,
                                stdout=subprocess.PIPE, stderr=subprocess.STDOUT, text=True, errors="replace")
     for line in process.stdout:
         log.write(line)
         now = line.split()[1] if line.startswith("== ") else now
-        if line.startswith("logic=proved") and now in names and now not in done:
-            done.add(now)
-            print("%s: %d of %d: %s, %s" % (program, len(done), len(names), now, minutes(time.monotonic() - start)), file=sys.stderr)
+        if line.startswith("logic=proved") and now in names:
+            progress.say(now)
     return process.wait()
 
 
-def link(program, folder, jobs, log):
-    """Builds the program over what is proved, and runs it once. Answers the status."""
-    log.flush()
-    words = ["rt", "run", "--jobs", str(jobs), "--"] + TRIAL[0]
-    return subprocess.run(words, cwd=os.path.join(folder, "crates", program), input=TRIAL[1], stdout=log, stderr=log).returncode
+def prove_row(folder, row, jobs, log, progress):
+    """Builds these crates one after the other, the program last, which is run once. Answers the status."""
+    for name in row:
+        log.flush()
+        is_program = name == row[-1]
+        words = ["rt", "run", "--jobs", str(jobs), "--"] + TRIAL[0] if is_program else ["rt", "lib", "--jobs", str(jobs)]
+        done = subprocess.run(words, cwd=os.path.join(folder, "crates", name), input=TRIAL[1] if is_program else b"", stdout=log, stderr=log)
+        if done.returncode:
+            return done.returncode
+        progress.say(name)
+    return 0
+
+
+def build(program, folder, jobs, log):
+    """Proves the crates that the program stands on, and makes it. Answers the status."""
+    crates, below = crates_below(program)
+    row = row_at_top(below)
+    first = {name: line for name, line in crates.items() if name not in row}
+    lay_out(folder, crates)
+    progress = Progress(program, len(crates))
+    if first:
+        set_aside(folder, row)
+        list_crates(folder, first)
+        status = prove(folder, first, jobs, log, progress)
+        bring_back(folder)
+        list_crates(folder, crates)
+        if status:
+            return status
+    return prove_row(folder, row, jobs, log, progress)
 
 
 def report(program, path, status):
@@ -121,11 +195,11 @@ def main():
     parser.add_argument("program")
     parser.add_argument("--jobs", type=int, default=os.cpu_count() or 1)
     args = parser.parse_args()
-    crates, folder = crates_below(args.program), build_folder(args.program)
-    lay_out(folder, crates)
+    folder = build_folder(args.program)
+    os.makedirs(folder, exist_ok=True)
     path = os.path.join(folder, "build.log")
     with open(path, "w", encoding="utf-8") as log:
-        status = prove(args.program, folder, set(crates), args.jobs, log) or link(args.program, folder, args.jobs, log)
+        status = build(args.program, folder, args.jobs, log)
     if status:
         report(args.program, path, status)
         return status

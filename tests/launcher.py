@@ -6,16 +6,18 @@ import subprocess
 import tempfile
 
 TOP = os.path.join(os.path.dirname(os.path.abspath(__file__)), "..")
-# Notes how it was called, proves each listed crate but one that has a file `broken` among its sources, and makes a program of a
-# program's crate.
+# Notes how it was called, proves all crates of a folder or one, but not one that has a file `broken` among its sources, and makes a
+# program of a program's crate.
 STAND_IN = """#!/bin/sh
-if [ "$1" = run ]; then
+if [ "$1" != all ]; then
   name=$(basename "$PWD")
+  if [ -e src/broken ]; then echo "the proof of $name failed"; exit 3; fi
+  if [ "$1" = lib ]; then echo "lib $name" >>"$CALLS"; exit 0; fi
   echo "run $name" >>"$CALLS"
   mkdir -p out; printf '#!/bin/sh\\necho made\\n' >out/$name; chmod +x out/$name
   exit 0
 fi
-for name in low blossom other; do
+for name in left right low blossom other; do
   [ -d crates/$name ] || continue
   echo "check $name" >>"$CALLS"
   echo "== $name"
@@ -26,13 +28,13 @@ done
 
 
 def repository(room):
-    """A small repository with the launcher: the program stands on `low`, and `other` on nothing that it needs."""
+    """A small repository with the launcher: the program stands on `low`, which stands on two crates; `other` is none that it needs."""
     os.makedirs(os.path.join(room, "bin"))
-    for name in ("low", "blossom", "other"):
+    for name in ("left", "right", "low", "blossom", "other"):
         os.makedirs(os.path.join(room, "crates", name, "src"))
         with open(os.path.join(room, "crates", name, "src", "lib.rt"), "w", encoding="utf-8") as file:
             file.write("// " + name)
-    for path, text in (("crates.txt", "blossom: low\nlow:\nother: low\n"), ("HANDLES", "none"), ("bin/rt", STAND_IN)):
+    for path, text in (("crates.txt", "blossom: low\nlow: left right\nleft:\nright:\nother: low\n"), ("HANDLES", "none"), ("bin/rt", STAND_IN)):
         with open(os.path.join(room, path), "w", encoding="utf-8") as file:
             file.write(text)
     os.chmod(os.path.join(room, "bin", "rt"), 0o755)
@@ -62,17 +64,17 @@ def check(tests):
         repository(room)
         broken = os.path.join(room, "crates", "low", "src", "broken")
         status, output, said, built = call(room)
-        tests.compare("the first call builds what the program stands on", "", (0, "made\n", ["check low", "check blossom", "run blossom"]), (status, output, built))
-        tests.compare("a line a crate is said", "", ["blossom: 1 of 2: low", "blossom: 2 of 2: blossom"],
+        tests.compare("the first call builds what the program stands on", "", (0, "made\n", ["check left", "check right", "lib low", "run blossom"]), (status, output, built))
+        tests.compare("a line a crate is said", "", ["blossom: 1 of 4: left", "blossom: 2 of 4: right", "blossom: 3 of 4: low", "blossom: 4 of 4: blossom"],
                       [line.rpartition(",")[0] for line in said.splitlines() if " of " in line])
         tests.compare("a second call builds nothing", "", (0, "made\n", "", []), call(room))
         change(room, "low")
         open(broken, "w", encoding="utf-8").close()
         status, output, said, built = call(room)
-        tests.compare("a failed build ends with its status and runs nothing", "", (3, "", ["check low"]), (status, output, built))
+        tests.compare("a failed build ends with its status and runs nothing", "", (3, "", ["check left", "check right"]), (status, output, built))
         tests.compare("the end of its log is shown", "", True, "the proof of low failed" in said)
         status, output, _, built = call(room)
-        tests.compare("and so does the next call", "", (3, "", ["check low"]), (status, output, built))
+        tests.compare("and so does the next call", "", (3, "", ["check left", "check right"]), (status, output, built))
         os.remove(broken)
         status, output, _, built = call(room)
-        tests.compare("a mended build runs", "", (0, "made\n", ["check low", "check blossom", "run blossom"]), (status, output, built))
+        tests.compare("a mended build runs", "", (0, "made\n", ["check left", "check right", "lib low", "run blossom"]), (status, output, built))
