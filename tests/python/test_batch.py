@@ -75,7 +75,9 @@ class Batches(unittest.TestCase):
         self.assertEqual([answer.weight for answer in answers], [12] * 3)
 
     def test_an_interrupt_ends_all(self):
+        # Where the tests run in the background, interrupts are ignored unless they are asked for.
         code = ("import blossom, os, signal, threading\n"
+                "signal.signal(signal.SIGINT, signal.default_int_handler)\n"
                 "threading.Timer(1, lambda: os.kill(os.getpid(), signal.SIGINT)).start()\n"
                 "blossom.solve_many('perfect', [[(1, 2)]] * 4, program=%r)\n")
         with stand_in("exec sleep 60") as path:

@@ -78,7 +78,9 @@ class Ends(unittest.TestCase):
 
     def test_an_interrupt_ends_the_process_too(self):
         with stand_in("echo $$ > $0.pid; exec sleep 60") as path:
-            child = subprocess.Popen([sys.executable, "-c", "import blossom; blossom.solve([(1, 2)], program=%r)" % path], stderr=subprocess.DEVNULL)
+            # where the tests run in the background, interrupts are ignored unless they are asked for
+            code = "import blossom, signal; signal.signal(signal.SIGINT, signal.default_int_handler); blossom.solve([(1, 2)], program=%r)" % path
+            child = subprocess.Popen([sys.executable, "-c", code], stderr=subprocess.DEVNULL)
             number = self.number_in(path + ".pid")
             time.sleep(1)  # until the caller waits for the process that it just started
             os.kill(child.pid, signal.SIGINT)  # to the caller alone, and not to the process
