@@ -90,15 +90,7 @@ outer_range : (s : State) (a : ℕ) → IsNested s.graph.vertices s.blossoms →
 outer_range s a nested is = node_range s.graph.vertices s.blossoms a nested (outermost_parts s.graph.vertices s.blossoms a is).0
 
 pub roots_counted : RootsCounted
-roots_counted s nested one = (
-  λ a b ra rb. by_test (eqb a b)
-      (λ t. eqb-true a b t)
-      (λ t.
-      let x = outer_range s a nested ra.outermost in
-      let y = outer_range s b nested rb.outermost in
-      absurd (omega (arith, one, two_pass (is_root s) (node_limit s.graph.vertices) a b x.0 x.1 y.0 y.1 (eqb-false a b t) (root_passes s a ra) (root_passes s b rb)))),
-  (let p = some_passes (is_root s) (node_limit s.graph.vertices) (omega (arith, one)) in (p.0, passing_root s p.0 p.1)),
-)
+roots_counted s some = let p = some_passes (is_root s) (node_limit s.graph.vertices) (omega (arith, some)) in (p.0, passing_root s p.0 p.1)
 
 pub exposed_counted : ExposedCounted
 exposed_counted s nested none a x =

@@ -1,5 +1,5 @@
 -- A search at its start is in the state of a search.
-use Rattle.std.proofs.Common.{◌≡◌, ◌≤◌, ℕ, ℤ, pos, ◌+ℤ◌, ◌-ℤ◌, ◌*ℤ◌, ◌≤ℤ◌, ◌<◌, true, false, List, [], None, sym, ap₂, ◌∙◌, subst, arith}
+use Rattle.std.proofs.Common.{◌≡◌, ◌≤◌, ℕ, ℤ, pos, ◌+ℤ◌, ◌-ℤ◌, ◌*ℤ◌, ◌≤ℤ◌, ◌<◌, true, false, List, [], None, sym, ap, ap₂, ◌∙◌, subst, arith}
 use Rattle.std.specs.Prelude.{nat_lt, replicate, slice_index_or}
 use Rattle.std.proofs.lemmas.Int.{ints}
 use Rattle.std.proofs.lemmas.Bool.Decides.{nat_tests}
@@ -13,7 +13,7 @@ use Rattle.blossom_arena.proofs.Lists.{by_test}
 use Rattle.alt_forest.specs.declared.label.Label.TheVariants.{Out}
 use Rattle.alt_forest.specs.declared.label.Weights.{Weights}
 use Rattle.alt_forest.specs.declared.label.Weights.TheVariants.{Zero, Given}
-use Rattle.alt_forest.specs.State.{State, IsTight, slack_of, slack_with, HasRings, IsSearchState}
+use Rattle.alt_forest.specs.State.{State, IsTight, slack_of, slack_with, HasRings, SameParity, held_by, cover, IsSearchState}
 use Rattle.alt_forest.specs.Searches.{IsStart, is_given}
 use Rattle.alt_forest.proofs.Relabelled.{outer_not_out, inner_not_out, some_not_none}
 use Rattle.blossom_arena.proofs.Ends.{u_vertex, v_vertex}
@@ -36,14 +36,23 @@ fresh_slack g w y start bs graph none duals is e number =
     subst (λ (xs : List Blossom). pos 0 ≤ℤ slack_with g (is_given w) y xs e) (sym none)
     (slack_from g w y start e (duals _ (u_vertex g e graph.ends number)) (duals _ (v_vertex g e graph.ends number)) is number)
 
--- no blossom, no mate, no tree
-pub fresh : (s : State) → s.blossoms ≡ [] → ((a : ℕ) → s.label a ≡ Out) → ((a : ℕ) → s.mate a ≡ None) → ((e : ℕ) → IsEdgeNumber s.graph e → pos 0 ≤ℤ slack_of s e) → IsSearchState s (λ a. 0)
-fresh s none out free slacks = record {
+-- where there is no blossom, and all vertices have one dual, that alone covers each
+pub alone_covered : (s : State) (start : ℤ) (v : ℕ) → s.blossoms ≡ [] → s.dual v ≡ start → cover s v ≡ start +ℤ pos 0
+alone_covered s start v none dual = ap (λ (bs : List Blossom). s.dual v +ℤ held_by s.dual bs v) none ∙ ap (λ (x : ℤ). x +ℤ pos 0) dual
+
+one_parity : (x y start : ℤ) → x ≡ start +ℤ pos 0 → y ≡ start +ℤ pos 0 → SameParity x y
+one_parity x y start e f = (pos 0, omega (arith, ints))
+
+-- no blossom, no mate, no tree, and one dual
+pub fresh : (s : State) (start : ℤ) → s.blossoms ≡ [] → ((a : ℕ) → s.label a ≡ Out) → ((a : ℕ) → s.mate a ≡ None) → ((v : ℕ) → is_vertex s.graph.vertices v ≡ true → s.dual v ≡ start)
+    → ((e : ℕ) → IsEdgeNumber s.graph e → pos 0 ≤ℤ slack_of s e) → IsSearchState s (λ a. 0)
+fresh s start none out free same slacks = record {
   rings = subst (HasRings s.graph) (sym none) tt;
   tight_rings = subst (AllByRecursion (λ (b : Blossom). AllByRecursion (λ (l : Link). IsTight s l.edge) b.ring)) (sym none) tt;
   slacks = slacks;
   duals = subst (AllByRecursion (λ (b : Blossom). pos 0 ≤ℤ s.dual b.node)) (sym none) tt;
   mates = λ a e is has. some_not_none e (sym has ∙ free a);
+  parity = λ v w iv iw v_free w_free. one_parity (cover s v) (cover s w) start (alone_covered s start v none (same v iv)) (alone_covered s start w none (same w iw));
   labels = λ a is. record {
     outer = λ l. outer_not_out (sym l ∙ out a);
     inner = λ l. inner_not_out (sym l ∙ out a);

@@ -26,3 +26,4 @@ pub mod Looks
 pub mod Duals
 pub mod EntrySteps
 pub mod Planted
+pub mod Seeds

@@ -1,6 +1,6 @@
 -- The list of nodes that changes of duals run over, with one node more and with none.
-use Rattle.std.proofs.Common.{◌≡◌, ℕ, ◌<◌, ◌≤◌, Bool, true, false, ◌||◌, eqb, List, [], ◌∷◌, ◌++◌, length, refl, sym, ap, ◌∙◌, arith}
-use Rattle.std.specs.Prelude.{slice_set}
+use Rattle.std.proofs.Common.{◌≡◌, ℕ, ◌<◌, ◌≤◌, Bool, true, false, ◌||◌, eqb, List, [], ◌∷◌, ◌++◌, length, Option, Some, None, refl, sym, ap, ◌∙◌, arith}
+use Rattle.std.specs.Prelude.{slice_set, is_some}
 use Rattle.std.proofs.Math.Bool.{or-false}
 use Rattle.std.proofs.lemmas.Bool.{eqb-true, eqb-false, eq-eqb}
 use Rattle.std.proofs.lemmas.Bool.Decides.{nat_tests}
@@ -8,7 +8,7 @@ use Rattle.std.proofs.lemmas.List.{get_or-set_other, get_or-set_same}
 use Rattle.graph_theory.specs.Parts.{holds}
 use Rattle.graph_theory.proofs.Members.{holds-push, holds_all, all_holds}
 use Rattle.blossom_arena.proofs.Lists.{by_test, AllNew, new_from_distinct, distinct_from_new, new-append, length-within, vertices, holds-vertices, length-vertices, distinct_none}
-use Rattle.alt_forest.specs.Standing.{AreListed, flag_at}
+use Rattle.alt_forest.specs.Standing.{AreListed, seed_at}
 use Rattle.alt_forest.specs.Trees.{node_limit}
 
 -- an or by its second part
@@ -30,9 +30,9 @@ holds_last nodes a = holds-push nodes a a ∙ either (holds nodes a) (eqb a a) (
     either false q e = e
 
 -- a node that isn't listed finds room: all nodes that are listed and this one are different numbers up to the limit
-pub room_left : (n : ℕ) (nodes : List ℕ) (flags : List Bool) (a : ℕ) → AreListed n nodes flags → 1 ≤ a → a ≤ node_limit n → flag_at flags a ≡ false → length nodes < node_limit n
-room_left n nodes flags a h low high free =
-    let fresh : holds nodes a ≡ false = sym (h.flagged a) ∙ free in
+pub room_left : (n : ℕ) (nodes : List ℕ) (seeds : List (Option ℕ)) (a : ℕ) → AreListed n nodes seeds → 1 ≤ a → a ≤ node_limit n → is_some (seed_at seeds a) ≡ false → length nodes < node_limit n
+room_left n nodes seeds a h low high free =
+    let fresh : holds nodes a ≡ false = sym (h.seeded a) ∙ free in
     let all : AllNew (a ∷ nodes) = (fresh, new_from_distinct nodes h.different) in
     let within = length-within (a ∷ nodes) (vertices (node_limit n)) all inside in
     omega (arith, within, length-vertices (node_limit n))
@@ -45,16 +45,16 @@ room_left n nodes flags a h low high free =
         (λ t. let same : a ≡ v = eqb-true a v t in is_number (node_limit n) v (omega (arith, same)) (omega (arith, same)))
         (λ t. let r = holds_all (λ c. (1 ≤ c) × (c ≤ node_limit n)) nodes v h.in_range (sym (or_second (eqb a v) (holds nodes v) t) ∙ e) in is_number (node_limit n) v r.0 r.1)
 
--- one node more, with its flag
-pub listed_more : (n : ℕ) (nodes : List ℕ) (flags : List Bool) (a : ℕ) → AreListed n nodes flags → 1 ≤ a → a ≤ node_limit n → a < length flags → flag_at flags a ≡ false → AreListed n (nodes ++ a ∷ []) (slice_set flags a true)
-listed_more n nodes flags a h low high place free = record {
+-- one node more, with its seed
+pub listed_more : (n : ℕ) (nodes : List ℕ) (seeds : List (Option ℕ)) (a w : ℕ) → AreListed n nodes seeds → 1 ≤ a → a ≤ node_limit n → a < length seeds → is_some (seed_at seeds a) ≡ false → AreListed n (nodes ++ a ∷ []) (slice_set seeds a (Some w))
+listed_more n nodes seeds a w h low high place free = record {
   different = distinct_from_new (nodes ++ a ∷ []) (new-append nodes (a ∷ []) (new_from_distinct nodes h.different) (refl, tt) (λ v e. apart v e));
   in_range = all_holds (λ c. (1 ≤ c) × (c ≤ node_limit n)) (nodes ++ a ∷ []) (λ v e. ranged v e);
-  flagged = λ c. flags_of c;
+  seeded = λ c. seeds_of c;
 }
   where
     fresh : holds nodes a ≡ false
-    fresh = sym (h.flagged a) ∙ free
+    fresh = sym (h.seeded a) ∙ free
 
     apart : (v : ℕ) → holds nodes v ≡ true → holds (a ∷ []) v ≡ false
     apart v e = by_test (eqb a v)
@@ -66,12 +66,27 @@ listed_more n nodes flags a h low high place free = record {
         (λ t. let same : a ≡ v = eqb-true a v t in (omega (arith, same), omega (arith, same)))
         (λ t. holds_all (λ c. (1 ≤ c) × (c ≤ node_limit n)) nodes v h.in_range (sym (holds_else nodes a v t) ∙ e))
 
-    flags_of : (c : ℕ) → flag_at (slice_set flags a true) c ≡ holds (nodes ++ a ∷ []) c
-    flags_of c = by_test (eqb a c)
+    seeds_of : (c : ℕ) → is_some (seed_at (slice_set seeds a (Some w)) c) ≡ holds (nodes ++ a ∷ []) c
+    seeds_of c = by_test (eqb a c)
         (λ t. let same : a ≡ c = eqb-true a c t in
-        ap (flag_at (slice_set flags a true)) (sym same) ∙ get_or-set_same flags a true false place ∙ sym (holds_last nodes a) ∙ ap (holds (nodes ++ a ∷ [])) same)
-        (λ t. get_or-set_other flags a c true false (λ q. eqb-false a c t (sym q)) ∙ h.flagged c ∙ sym (holds_else nodes a c t))
+        ap (λ k. is_some (seed_at (slice_set seeds a (Some w)) k)) (sym same) ∙ ap (λ (o : Option ℕ). is_some o) (get_or-set_same seeds a (Some w) None place) ∙ sym (holds_last nodes a) ∙ ap (holds (nodes ++ a ∷ [])) same)
+        (λ t. ap (λ (o : Option ℕ). is_some o) (get_or-set_other seeds a c (Some w) None (λ q. eqb-false a c t (sym q))) ∙ h.seeded c ∙ sym (holds_else nodes a c t))
 
--- no node is listed where no flag says so
-pub none_listed : (n : ℕ) (flags : List Bool) → ((c : ℕ) → flag_at flags c ≡ false) → AreListed n [] flags
-none_listed n flags none = record { different = distinct_none; in_range = all_holds (λ c. (1 ≤ c) × (c ≤ node_limit n)) [] (λ v e. let no : false ≡ true = e in absurd (cc)); flagged = λ c. none c }
+-- another seed for a node that is listed
+pub listed_again : (n : ℕ) (nodes : List ℕ) (seeds : List (Option ℕ)) (a w : ℕ) → AreListed n nodes seeds → a < length seeds → is_some (seed_at seeds a) ≡ true → AreListed n nodes (slice_set seeds a (Some w))
+listed_again n nodes seeds a w h place some = record {
+  different = h.different;
+  in_range = h.in_range;
+  seeded = λ c. by_test (eqb a c)
+      (λ t. let same : a ≡ c = eqb-true a c t in
+      ap (λ k. is_some (seed_at (slice_set seeds a (Some w)) k)) (sym same) ∙ ap (λ (o : Option ℕ). is_some o) (get_or-set_same seeds a (Some w) None place) ∙ sym some ∙ ap (λ k. is_some (seed_at seeds k)) same ∙ h.seeded c)
+      (λ t. ap (λ (o : Option ℕ). is_some o) (get_or-set_other seeds a c (Some w) None (λ q. eqb-false a c t (sym q))) ∙ h.seeded c);
+}
+
+-- no node is listed where none has a seed
+pub none_listed : (n : ℕ) (seeds : List (Option ℕ)) → ((c : ℕ) → seed_at seeds c ≡ None) → AreListed n [] seeds
+none_listed n seeds none = record {
+  different = distinct_none;
+  in_range = all_holds (λ c. (1 ≤ c) × (c ≤ node_limit n)) [] (λ v e. let no : false ≡ true = e in absurd (cc));
+  seeded = λ c. ap (λ (o : Option ℕ). is_some o) (none c);
+}

@@ -29,16 +29,16 @@ none_queued s out clock none = record {
   empty = λ no item. none item;
 }
 
-pub none_standing : (s : Search) → ((a : ℕ) → label_at s.labels.items a ≡ Out) → AreListed s.graph.vertices s.standing.items s.stands.items → IsStanding s
+pub none_standing : (s : Search) → ((a : ℕ) → label_at s.labels.items a ≡ Out) → AreListed s.graph.vertices s.standing.items s.seeds.items → IsStanding s
 none_standing s out listed = record { listed = listed; trees = λ a is ne. absurd (ne (out a)) }
 
 -- a queue that is cleared has its places
-pub room_cleared : (s : Search) (q : Moments) → q ≡ no_moments (length s.queue.edges) (length s.queue.blossoms) → HasShape s → HasRoom s.graph s.incidence q (vec_capacity s.standing) (vec_len s.stands) (vec_capacity s.scanned)
+pub room_cleared : (s : Search) (q : Moments) → q ≡ no_moments (length s.queue.edges) (length s.queue.blossoms) → HasShape s → HasRoom s.graph s.incidence q (vec_capacity s.standing) (vec_len s.seeds) (vec_capacity s.scanned)
 room_cleared s q is h = record {
   index = h.room.index;
   edges = ap (λ (r : Moments). length r.edges) is ∙ length-replicate (length s.queue.edges) (let none : Option ℤ = None in none) ∙ h.room.edges;
   nodes = ap (λ (r : Moments). length r.blossoms) is ∙ length-replicate (length s.queue.blossoms) (let none : Option ℤ = None in none) ∙ h.room.nodes;
   standing = h.room.standing;
-  stands = h.room.stands;
+  seeds = h.room.seeds;
   scanned = h.room.scanned;
 }

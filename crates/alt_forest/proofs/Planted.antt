@@ -105,13 +105,13 @@ module _ (s : State) (v : ℕ) (nested : IsNested s.graph.vertices s.blossoms) (
       by_product k a b x y z first second = omega (arith, first, mul-le-mul_left k second)
 
 -- what its calls leave, at once
-pub whole : (s l a t : Search) → l ≡ record s { labels = l.labels } → a ≡ record l { standing = a.standing; stands = a.stands } → t ≡ record a { scanned = t.scanned } → t ≡ record s { labels = l.labels; standing = a.standing; stands = a.stands; scanned = t.scanned }
+pub whole : (s l a t : Search) → l ≡ record s { labels = l.labels } → a ≡ record l { standing = a.standing; seeds = a.seeds } → t ≡ record a { scanned = t.scanned } → t ≡ record s { labels = l.labels; standing = a.standing; seeds = a.seeds; scanned = t.scanned }
 whole s l a t one two three = three
     ∙ ap (λ (x : Search). let y : Search = record x { scanned = t.scanned } in y) two
-    ∙ ap (λ (x : Search). let y : Search = record x { standing = a.standing; stands = a.stands; scanned = t.scanned } in y) one
+    ∙ ap (λ (x : Search). let y : Search = record x { standing = a.standing; seeds = a.seeds; scanned = t.scanned } in y) one
 
 -- the search, whose labels, list of nodes and list of vertices are new
-module _ (s l a t : Search) (v : ℕ) (is : t ≡ record s { labels = l.labels; standing = a.standing; stands = a.stands; scanned = t.scanned })
+module _ (s l a t : Search) (v : ℕ) (is : t ≡ record s { labels = l.labels; standing = a.standing; seeds = a.seeds; scanned = t.scanned })
     (labels : label_at l.labels.items ≡ put (label_at s.labels.items) v Outer) (sound : IsSound s) (exposed : IsExposed (state_of s) v) (out : label_at s.labels.items v ≡ Out) where
   pub planted_state : state_of t ≡ with_labels (state_of s) (put (label_at s.labels.items) v Outer)
   planted_state = ap state_of is ∙ ap (with_labels (state_of s)) labels
@@ -129,11 +129,53 @@ module _ (s l a t : Search) (v : ℕ) (is : t ≡ record s { labels = l.labels; 
     tree = λ no. outer_not_out (sym (put_here (label_at s.labels.items) v Outer) ∙ sym (ap (λ f. f v) labels) ∙ no v exposed.0);
   })
 
-  pub planted_standing : AreListed s.graph.vertices a.standing.items a.stands.items → holds a.standing.items v ≡ true
-      → ((x : ℕ) → holds s.standing.items x ≡ true → holds a.standing.items x ≡ true) → IsStanding s → IsStanding t
-  planted_standing listed there keeps h = subst IsStanding (sym is) (record {
+  pub planted_standing : (w : ℕ) → is_vertex s.graph.vertices w ≡ true → outermost s.arena.blossoms w ≡ v → AreListed s.graph.vertices a.standing.items a.seeds.items
+      → seed_at a.seeds.items ≡ put (seed_at s.seeds.items) v (Some w) → IsStanding s → IsStanding t
+  planted_standing w vertex within listed seeds h = subst IsStanding (sym is) (record {
     listed = listed;
     trees = λ x outer ne. by_test (eqb x v)
-        (λ q. subst (λ y. holds a.standing.items y ≡ true) (sym (eqb-true x v q)) there)
-        (λ q. keeps x (h.trees x outer (λ p. ne (ap (λ f. f x) labels ∙ put_other (label_at s.labels.items) v Outer x (eqb-false x v q) ∙ p))));
+        (λ q.
+        let same : x ≡ v = eqb-true x v q in (
+          w,
+          ap (λ (f : ℕ → Option ℕ). f x) seeds ∙ ap (put (seed_at s.seeds.items) v (Some w)) same ∙ put_here (seed_at s.seeds.items) v (Some w),
+          record { vertex = vertex; root = within ∙ sym (root_now x outer ne ∙ said_here x same) },
+        ))
+        (λ q.
+        let other : x ≢ v = eqb-false x v q in
+        let lab : label_at s.labels.items x ≢ Out = λ p. ne (ap (λ f. f x) labels ∙ put_other (label_at s.labels.items) v Outer x other ∙ p) in
+        let r = h.trees x outer lab in (
+          r.0,
+          ap (λ (f : ℕ → Option ℕ). f x) seeds ∙ put_other (seed_at s.seeds.items) v (Some w) x other ∙ r.1.0,
+          record { vertex = r.1.1.vertex; root = r.1.1.root ∙ sym (root_now x outer ne ∙ said_else x other) },
+        ));
   })
+    where
+      old : State
+      old = state_of s
+
+      new : State
+      new = with_labels old (label_at l.labels.items)
+
+      new_state : IsSearchState new sound.depth
+      new_state = subst (λ (f : ℕ → Label). IsSearchState (with_labels old f) sound.depth) (sym labels) (planted old sound.depth v exposed.1 out sound.state)
+
+      nested : IsNested s.graph.vertices s.arena.blossoms
+      nested = nested_of s sound.shape
+
+      said : ℕ → ℕ
+      said x = cond (eqb x v) v (root_of old x)
+
+      said_here : (x : ℕ) → x ≡ v → said x ≡ v
+      said_here x same = ap (λ t. cond t v (root_of old x)) (eq-eqb x v same)
+
+      said_else : (x : ℕ) → x ≢ v → said x ≡ root_of old x
+      said_else x other = ap (λ t. cond t v (root_of old x)) (ne_eqb x v other)
+
+      was : (x : ℕ) → x ≢ v → label_at l.labels.items x ≡ label_at s.labels.items x
+      was x other = ap (λ f. f x) labels ∙ put_other (label_at s.labels.items) v Outer x other
+
+      said_trees : AreTrees new said
+      said_trees = ?
+
+      root_now : (x : ℕ) → IsOutermost new x → label_at l.labels.items x ≢ Out → root_of new x ≡ said x
+      root_now x outer in_it = tree_root new sound.depth nested new_state said said_trees x outer in_it

@@ -89,7 +89,7 @@ room_with s q edges blossoms h = record {
   parents = h.parents;
   mates = h.mates;
   circuit = h.circuit;
-  room = record { index = h.room.index; edges = edges ∙ h.room.edges; nodes = blossoms ∙ h.room.nodes; standing = h.room.standing; stands = h.room.stands; scanned = h.room.scanned };
+  room = record { index = h.room.index; edges = edges ∙ h.room.edges; nodes = blossoms ∙ h.room.nodes; standing = h.room.standing; seeds = h.room.seeds; scanned = h.room.scanned };
 }
 
 pub sound_with : (s : Search) (q : Moments) → length q.edges ≡ length s.queue.edges → length q.blossoms ≡ length s.queue.blossoms → IsSound s → IsSound (record s { queue = q })

@@ -80,6 +80,7 @@ relabelled s label depth st fits = record {
   slacks = st.slacks;
   duals = st.duals;
   mates = λ a e is has. let m = st.mates a e is has in (m.0, mate_with s label a e m.0 m.1);
+  parity = st.parity;
   labels = fits;
 }
 

@@ -3,18 +3,18 @@ use Rattle.std.proofs.Common.{◌≡◌, ◌≢◌, ◌⊎◌, ℕ, zero, suc, �
 use Rattle.std.proofs.lemmas.Bool.{both_ways, eqb-true, or_cases}
 use Rattle.graph_theory.specs.Graph.{IsGraph, IsEdgeNumber}
 use Rattle.graph_theory.specs.Parts.{holds}
-use Rattle.blossom_arena.specs.Family.{IsNested, outermost}
+use Rattle.blossom_arena.specs.Family.{IsNested, outermost, is_vertex}
 use Rattle.blossom_arena.proofs.Nested.{outermost_parts, node_range}
 use Rattle.blossom_arena.proofs.Sets.{outermost_has, outermost_by_member}
 use Rattle.alt_forest.specs.declared.label.Label.{Label}
 use Rattle.alt_forest.specs.declared.label.Label.TheVariants.{Outer, Inner, Out}
 use Rattle.alt_forest.specs.State.{State, IsOutermost, Joins, slack_of, IsSearchState}
-use Rattle.alt_forest.specs.Trees.{node_limit, far_end, up_edge_by, up_of, path_of, last_of, root_of, IsRoot, cover}
-use Rattle.alt_forest.specs.Laws.{LeadsToRoot, WaysLeadToRoots, TreesHaveParity}
+use Rattle.alt_forest.specs.Trees.{node_limit, far_end, up_edge, up_edge_by, up_of, path_of, last_of, root_of, IsRoot, cover, SameParity}
+use Rattle.alt_forest.specs.Laws.{LeadsToRoot, WaysLeadToRoots, TreesHaveParity, IsReached, ForestsHaveParity}
 use Rattle.alt_forest.proofs.Relabelled.{outer_not_out, inner_not_out}
 use Rattle.alt_forest.proofs.Walk.{other_node_joins, path_none, deeper_differs}
 use Rattle.alt_forest.proofs.Paths.{path_of-step}
-use Rattle.alt_forest.proofs.Parity.{NodesAgree, parity_sym, parity_trans, node_parity, edge_parity, agree_trans, vertex_of}
+use Rattle.alt_forest.proofs.Parity.{NodesAgree, parity_refl, parity_sym, parity_trans, node_parity, edge_parity, agree_trans, vertex_of}
 
 module _ (s : State) (depth : ℕ → ℕ) (nested : IsNested s.graph.vertices s.blossoms) (st : IsSearchState s depth) where
   pub some_node : (a : ℕ) → IsOutermost s a → a ≢ 0
@@ -26,6 +26,7 @@ module _ (s : State) (depth : ℕ → ℕ) (nested : IsNested s.graph.vertices s
     pub is_edge : IsEdgeNumber s.graph edge
     pub joins : Joins s.graph s.blossoms edge a b
     pub tight : slack_of s edge ≡ pos 0
+    pub way : up_edge s a ≡ Some edge
     pub up : up_of s a ≡ b
     pub outer : IsOutermost s b
     pub in_tree : s.label b ≢ Out
@@ -46,6 +47,7 @@ module _ (s : State) (depth : ℕ → ℕ) (nested : IsNested s.graph.vertices s
               is_edge = m.1.edge;
               joins = m.1.joins;
               tight = m.1.tight;
+              way = ap (λ l. up_edge_by s l a) lab ∙ has;
               up = ap (λ l. far_end s (up_edge_by s l a) a) lab ∙ ap (λ o. far_end s o a) has ∙ other_node_joins s.graph s.blossoms e a m.0 m.1.joins m.1.different;
               outer = m.1.outer;
               in_tree = λ out. inner_not_out (sym says.0 ∙ out);
@@ -64,6 +66,7 @@ module _ (s : State) (depth : ℕ → ℕ) (nested : IsNested s.graph.vertices s
               is_edge = i.is_edge;
               joins = i.joins;
               tight = i.tight;
+              way = ap (λ l. up_edge_by s l a) lab ∙ i.parent;
               up = ap (λ l. far_end s (up_edge_by s l a) a) lab ∙ ap (λ o. far_end s o a) i.parent ∙ other_node_joins s.graph s.blossoms i.edge a i.up i.joins (deeper_differs depth a i.up i.falls);
               outer = i.up_is;
               in_tree = λ out. outer_not_out (sym i.up_outer ∙ out);
@@ -141,3 +144,28 @@ trees_have_parity s depth v w graph nested st iv iw v_in w_in same =
     let left = root_parity s depth nested st graph (depth a + 1) a (omega arith) a_is v_in v x.0 iv x.1 refl x.2 in
     let right = root_parity s depth nested st graph (depth b + 1) b (omega arith) b_is w_in w x.0 iw x.1 refl (x.2 ∙ same) in
     parity_trans (cover s v) (cover s x.0) (cover s w) left (parity_sym (cover s w) (cover s x.0) right)
+
+-- A vertex of a tree, or of an exposed node, has the parity of a vertex of an exposed node.
+record AgreesExposed (s : State) (v : ℕ) : Type 0 where
+  pub at : ℕ
+  pub vertex : is_vertex s.graph.vertices at ≡ true
+  pub exposed : s.mate (outermost s.blossoms at) ≡ None
+  pub agree : SameParity (cover s v) (cover s at)
+
+agrees_exposed : (s : State) (depth : ℕ → ℕ) (v : ℕ) → IsGraph s.graph → IsNested s.graph.vertices s.blossoms → IsSearchState s depth → is_vertex s.graph.vertices v ≡ true → IsReached s (outermost s.blossoms v) → AgreesExposed s v
+agrees_exposed s depth v graph nested st iv reached = ⊎_elim
+    (λ in_it.
+    let a : ℕ = outermost s.blossoms v in
+    let a_is : IsOutermost s a = (outermost_has s.graph.vertices s.blossoms v nested iv).0 in
+    let r = (ways_lead s depth a nested st a_is in_it).root in
+    let x = vertex_of s.graph.vertices s.blossoms (root_of s a) nested (outermost_parts s.graph.vertices s.blossoms (root_of s a) r.outermost).0 (λ u e. outermost_by_member s.graph.vertices s.blossoms (root_of s a) u nested r.outermost e) in
+    record { at = x.0; vertex = x.1; exposed = ap s.mate x.2 ∙ r.exposed; agree = root_parity s depth nested st graph (depth a + 1) a (omega arith) a_is in_it v x.0 iv x.1 refl x.2 })
+    (λ free. record { at = v; vertex = iv; exposed = free; agree = parity_refl (cover s v) })
+    reached
+
+pub forests_have_parity : ForestsHaveParity
+forests_have_parity s depth v w graph nested st iv iw v_in w_in =
+    let x = agrees_exposed s depth v graph nested st iv v_in in
+    let y = agrees_exposed s depth w graph nested st iw w_in in
+    parity_trans (cover s v) (cover s x.at) (cover s w) x.agree
+    (parity_trans (cover s x.at) (cover s y.at) (cover s w) (st.parity x.at y.at x.vertex y.vertex x.exposed y.exposed) (parity_sym (cover s w) (cover s y.at) y.agree))

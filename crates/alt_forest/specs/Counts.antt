@@ -1,11 +1,11 @@
 -- Counts of a state that steps of a search keep or lower (chapters 24 and 26).
-use Rattle.std.specs.Prelude.{◌≡◌, ℕ, ◌+◌, Bool, not, ◌&&◌, if◌then◌else◌, List, [], ◌∷◌, is_some}
+use Rattle.std.specs.Prelude.{◌≢◌, ℕ, ◌+◌, Bool, not, ◌&&◌, if◌then◌else◌, List, [], ◌∷◌, is_some}
 use Rattle.std.specs.List.{list_any}
 use Rattle.graph_theory.specs.Sums.{sum_to}
 use Rattle.blossom_arena.specs.Family.{Blossom, is_outermost, outermost}
-use Rattle.alt_forest.specs.declared.label.Label.TheVariants.{Outer}
+use Rattle.alt_forest.specs.declared.label.Label.TheVariants.{Outer, Out}
 use Rattle.alt_forest.specs.State.{State, IsExposed}
-use Rattle.alt_forest.specs.Trees.{IsRoot, is_label, node_limit}
+use Rattle.alt_forest.specs.Trees.{is_label, node_limit}
 
 abbrev pub is_exposed : State → ℕ → Bool
 is_exposed s a = is_outermost s.graph.vertices s.blossoms a && not (is_some (s.mate a))
@@ -26,9 +26,9 @@ is_root s a = is_outermost s.graph.vertices s.blossoms a && (is_label (s.label a
 abbrev pub tree_count : State → ℕ
 tree_count s = sum_to (λ i. if is_root s (i + 1) then 1 else 0) (node_limit s.graph.vertices)
 
--- at most one tree: any two roots are one node
-abbrev pub HasOneTree : State → Type 0
-HasOneTree s = (a b : ℕ) → IsRoot s a → IsRoot s b → a ≡ b
+-- no exposed node is labelled out: each is the root of a tree
+abbrev pub IsPlanted : State → Type 0
+IsPlanted s = (a : ℕ) → IsExposed s a → s.label a ≢ Out
 
 -- vertex v lies in no outer node
 abbrev pub is_outside : State → ℕ → Bool

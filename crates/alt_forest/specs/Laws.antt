@@ -1,11 +1,11 @@
 -- What holds in each tree of a search (chapters 24 and 26).
-use Rattle.std.specs.Prelude.{◌≡◌, ◌≢◌, ℕ, ◌+◌, true}
+use Rattle.std.specs.Prelude.{◌≡◌, ◌≢◌, ◌⊎◌, ℕ, ◌+◌, true, None}
 use Rattle.graph_theory.specs.Graph.{IsGraph}
 use Rattle.graph_theory.specs.Parts.{holds}
 use Rattle.blossom_arena.specs.Family.{IsNested, is_vertex, outermost}
 use Rattle.alt_forest.specs.declared.label.Label.TheVariants.{Outer, Inner, Out}
 use Rattle.alt_forest.specs.State.{State, IsOutermost, IsSearchState}
-use Rattle.alt_forest.specs.Counts.{exposed_count, IsMatched, tree_count, HasOneTree}
+use Rattle.alt_forest.specs.Counts.{exposed_count, IsMatched, tree_count}
 use Rattle.alt_forest.specs.Trees.{path_of, root_of, IsRoot, cover, SameParity, labelled}
 
 -- the way from a node in a tree leads through outermost nodes in trees to a root
@@ -27,9 +27,18 @@ TreesHaveParity = (s : State) (depth : ℕ → ℕ) (v w : ℕ) → IsGraph s.gr
 abbrev pub TreesBalance : Type 0
 TreesBalance = (s : State) (depth : ℕ → ℕ) (root : ℕ) → IsNested s.graph.vertices s.blossoms → IsSearchState s depth → IsRoot s root → labelled s root Outer ≡ labelled s root Inner + 1
 
--- one root by count is the one root there is
+-- an outermost node that is in a tree or exposed
+abbrev pub IsReached : State → ℕ → Type 0
+IsReached s a = (s.label a ≢ Out) ⊎ (s.mate a ≡ None)
+
+-- the same over the vertices of all trees and of all exposed nodes
+abbrev pub ForestsHaveParity : Type 0
+ForestsHaveParity = (s : State) (depth : ℕ → ℕ) (v w : ℕ) → IsGraph s.graph → IsNested s.graph.vertices s.blossoms → IsSearchState s depth
+    → is_vertex s.graph.vertices v ≡ true → is_vertex s.graph.vertices w ≡ true → IsReached s (outermost s.blossoms v) → IsReached s (outermost s.blossoms w) → SameParity (cover s v) (cover s w)
+
+-- where there is a tree by count there is a root
 abbrev pub RootsCounted : Type 0
-RootsCounted = (s : State) → IsNested s.graph.vertices s.blossoms → tree_count s ≡ 1 → HasOneTree s × ((root : ℕ) × IsRoot s root)
+RootsCounted = (s : State) → tree_count s ≢ 0 → (root : ℕ) × IsRoot s root
 
 -- no exposed node by count means that each outermost node has a mate
 abbrev pub ExposedCounted : Type 0

@@ -46,12 +46,12 @@ pub record IsSearchGraph (g : Multigraph) : Type 0 where
 
 -- the index is that of the graph, the queue has a place for each edge and each node, and the lists that changes of duals and
 -- looks run over have room for all nodes and for all vertices
-pub record HasRoom (g : Multigraph) (incidence : List (List ℕ)) (queue : Moments) (standing_room stands_len scanned_room : ℕ) : Type 0 where
+pub record HasRoom (g : Multigraph) (incidence : List (List ℕ)) (queue : Moments) (standing_room seeds_len scanned_room : ℕ) : Type 0 where
   pub index : IsIndex g incidence
   pub edges : length queue.edges ≡ length g.edges
   pub nodes : length queue.blossoms ≡ node_limit g.vertices
   pub standing : node_limit g.vertices ≤ standing_room
-  pub stands : stands_len ≡ node_limit g.vertices + 1
+  pub seeds : seeds_len ≡ node_limit g.vertices + 1
   pub scanned : g.vertices ≤ scanned_room
 
 -- the copy is a graph within the limits, the arena is a family on its vertices, each list has a place for each node and
@@ -64,7 +64,7 @@ pub record HasShape (s : Search) : Type 0 where
   pub parents : vec_len s.parents ≡ node_limit s.graph.vertices + 1
   pub mates : vec_len s.mates ≡ node_limit s.graph.vertices + 1
   pub circuit : s.graph.vertices ≤ vec_capacity s.circuit
-  pub room : HasRoom s.graph s.incidence s.queue (vec_capacity s.standing) (vec_len s.stands) (vec_capacity s.scanned)
+  pub room : HasRoom s.graph s.incidence s.queue (vec_capacity s.standing) (vec_len s.seeds) (vec_capacity s.scanned)
 
 -- the search has its shape and is in the state of a search
 pub record IsSound (s : Search) : Type 0 where

@@ -1,23 +1,31 @@
--- The nodes that changes of duals run over. What it lists is at least the outermost nodes in trees.
-use Rattle.std.specs.Prelude.{◌≡◌, ◌≢◌, ℕ, ◌≤◌, Bool, true, false, nat_eq, List, All, slice_index_or}
+-- The nodes that changes of duals run over, each with a vertex of the root of its tree. What is listed is at least the
+-- outermost nodes in trees.
+use Rattle.std.specs.Prelude.{◌≡◌, ◌≢◌, ℕ, ◌≤◌, true, nat_eq, List, All, slice_index_or, Option, Some, None, is_some}
 use Rattle.std.specs.List.{IsDistinct}
 use Rattle.graph_theory.specs.Parts.{holds}
+use Rattle.blossom_arena.specs.Family.{is_vertex, outermost}
 use Rattle.alt_forest.specs.declared.label.Label.TheVariants.{Out}
 use Rattle.alt_forest.specs.declared.search.Search.{Search}
-use Rattle.alt_forest.specs.State.{IsOutermost}
-use Rattle.alt_forest.specs.Searches.{state_of, label_at}
-use Rattle.alt_forest.specs.Trees.{node_limit}
+use Rattle.alt_forest.specs.State.{State, IsOutermost}
+use Rattle.alt_forest.specs.Searches.{state_of}
+use Rattle.alt_forest.specs.Trees.{node_limit, root_of}
 
-abbrev pub flag_at : List Bool → ℕ → Bool
-flag_at flags a = slice_index_or flags a false
+-- the seed of a node: a vertex that is kept for it, if it is listed
+abbrev pub seed_at : List (Option ℕ) → ℕ → Option ℕ
+seed_at seeds a = slice_index_or seeds a None
 
--- different nodes of a graph with n vertices, and the flags say which
-pub record AreListed (n : ℕ) (nodes : List ℕ) (flags : List Bool) : Type 0 where
+-- different nodes of a graph with n vertices, and exactly these have a seed
+pub record AreListed (n : ℕ) (nodes : List ℕ) (seeds : List (Option ℕ)) : Type 0 where
   pub different : IsDistinct nat_eq nodes
   pub in_range : All (λ a. (1 ≤ a) × (a ≤ node_limit n)) nodes
-  pub flagged : (a : ℕ) → flag_at flags a ≡ holds nodes a
+  pub seeded : (a : ℕ) → is_some (seed_at seeds a) ≡ holds nodes a
 
--- each outermost node of a tree is listed; others may be, until no tree stands
+-- the vertex v is kept for a node in a tree, and lies in the root of that tree
+pub record IsSeed (s : State) (a v : ℕ) : Type 0 where
+  pub vertex : is_vertex s.graph.vertices v ≡ true
+  pub root : outermost s.blossoms v ≡ root_of s a
+
+-- each outermost node of a tree is listed, with a vertex of its root; others may be listed, until no tree stands
 pub record IsStanding (s : Search) : Type 0 where
-  pub listed : AreListed s.graph.vertices s.standing.items s.stands.items
-  pub trees : (a : ℕ) → IsOutermost (state_of s) a → label_at s.labels.items a ≢ Out → holds s.standing.items a ≡ true
+  pub listed : AreListed s.graph.vertices s.standing.items s.seeds.items
+  pub trees : (a : ℕ) → IsOutermost (state_of s) a → (state_of s).label a ≢ Out → (v : ℕ) × (seed_at s.seeds.items a ≡ Some v) × IsSeed (state_of s) a v

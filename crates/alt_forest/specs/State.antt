@@ -3,12 +3,13 @@
 -- alternating trees over these.
 --
 -- A node is a vertex or a blossom. Labels, parents and mates mean something for outermost nodes alone.
-use Rattle.std.specs.Prelude.{◌≡◌, ◌≢◌, ℕ, ◌<◌, ◌⊎◌, ℤ, pos, ◌≤ℤ◌, ◌-ℤ◌, ◌*ℤ◌, Bool, true, if◌then◌else◌, List, [], ◌∷◌, Option, Some, None}
+use Rattle.std.specs.Prelude.{◌≡◌, ◌≢◌, ℕ, ◌<◌, ◌⊎◌, ℤ, pos, ◌≤ℤ◌, ◌+ℤ◌, ◌-ℤ◌, ◌*ℤ◌, Bool, true, if◌then◌else◌, List, [], ◌∷◌, Option, Some, None}
 use Rattle.std.specs.List.{AllByRecursion}
 use Rattle.graph_theory.specs.declared.edge.Edge.{Edge}
 use Rattle.graph_theory.specs.Graph.{Multigraph, IsEdgeNumber, edge_of}
 use Rattle.blossom_arena.specs.declared.links.Link.{Link}
-use Rattle.blossom_arena.specs.Family.{Blossom, outermost, is_outermost}
+use Rattle.graph_theory.specs.Parts.{holds}
+use Rattle.blossom_arena.specs.Family.{Blossom, outermost, is_outermost, is_vertex}
 use Rattle.blossom_arena.specs.Slack.{duals_across}
 pub use Rattle.blossom_arena.specs.Tables.{next_node}
 use Rattle.alt_forest.specs.declared.label.Label.{Label}
@@ -111,6 +112,23 @@ pub record FitsLabel (s : State) (depth : ℕ → ℕ) (a : ℕ) : Type 0 where
   pub inner : s.label a ≡ Inner → IsInner s depth a
   pub out : s.label a ≡ Out → (e b : ℕ) → s.mate a ≡ Some e → IsMate s a e b → s.label b ≡ Out
 
+-- the duals of the blossoms that hold v, added up
+abbrev pub held_by : (ℕ → ℤ) → List Blossom → ℕ → ℤ
+held_by y [] v = pos 0
+held_by y (b ∷ older) v = (if holds b.members v then y b.node else pos 0) +ℤ held_by y older v
+
+-- the duals of all nodes that hold v, added up
+abbrev pub cover : State → ℕ → ℤ
+cover s v = s.dual v +ℤ held_by s.dual s.blossoms v
+
+-- two numbers that differ by an even one
+abbrev pub SameParity : ℤ → ℤ → Type 0
+SameParity x y = (half : ℤ) × (x ≡ y +ℤ (half +ℤ half))
+
+-- any two vertices in exposed outermost nodes have covers of one parity
+abbrev pub ExposedAgree : State → Type 0
+ExposedAgree s = (v w : ℕ) → is_vertex s.graph.vertices v ≡ true → is_vertex s.graph.vertices w ≡ true → s.mate (outermost s.blossoms v) ≡ None → s.mate (outermost s.blossoms w) ≡ None → SameParity (cover s v) (cover s w)
+
 -- The state of a search. `depth` ranks the nodes of the trees: it falls on the way to a root, so each node reaches
 -- one.
 pub record IsSearchState (s : State) (depth : ℕ → ℕ) : Type 0 where
@@ -122,5 +140,8 @@ pub record IsSearchState (s : State) (depth : ℕ → ℕ) : Type 0 where
   pub duals : AllByRecursion (λ (b : Blossom). pos 0 ≤ℤ s.dual b.node) s.blossoms
   -- mates pair outermost nodes by tight edges, each the mate of both its nodes
   pub mates : (a e : ℕ) → IsOutermost s a → s.mate a ≡ Some e → (b : ℕ) × IsMate s a e b
+  -- the duals that cover the vertices of exposed nodes have one parity, whatever trees stand, so that the slack of an edge
+  -- between two trees is even
+  pub parity : ExposedAgree s
   -- the trees, and the nodes in none
   pub labels : (a : ℕ) → IsOutermost s a → FitsLabel s depth a

@@ -1,5 +1,5 @@
 -- The way from a node to the root of its tree, and what holds within one tree (chapter 24).
-use Rattle.std.specs.Prelude.{◌≡◌, ℕ, zero, suc, ◌+◌, ℤ, pos, ◌+ℤ◌, Bool, true, false, ◌==◌, ◌&&◌, if◌then◌else◌, List, [], ◌∷◌, length, Option, Some, None}
+use Rattle.std.specs.Prelude.{◌≡◌, ℕ, zero, suc, ◌+◌, Bool, true, false, ◌==◌, ◌&&◌, if◌then◌else◌, List, [], ◌∷◌, length, Option, Some, None}
 use Rattle.std.specs.List.{filter, range_with_len}
 use Rattle.graph_theory.specs.Graph.{Multigraph}
 use Rattle.graph_theory.specs.Parts.{holds}
@@ -9,6 +9,7 @@ use Rattle.blossom_arena.specs.Family.{Blossom, is_outermost}
 use Rattle.alt_forest.specs.declared.label.Label.{Label}
 use Rattle.alt_forest.specs.declared.label.Label.TheVariants.{Outer, Inner, Out}
 use Rattle.alt_forest.specs.State.{State, IsOutermost, node_u, node_v}
+pub use Rattle.alt_forest.specs.State.{held_by, cover, SameParity}
 
 -- the greatest number that a node of a graph with n vertices can have
 abbrev pub node_limit : ℕ → ℕ
@@ -58,19 +59,6 @@ pub record IsRoot (s : State) (a : ℕ) : Type 0 where
 abbrev pub first_common : List ℕ → List ℕ → Option ℕ
 first_common [] ys = None
 first_common (x ∷ xs) ys = if holds ys x then Some x else first_common xs ys
-
--- the duals of the blossoms that hold v, added up
-abbrev pub held_by : (ℕ → ℤ) → List Blossom → ℕ → ℤ
-held_by y [] v = pos 0
-held_by y (b ∷ older) v = (if holds b.members v then y b.node else pos 0) +ℤ held_by y older v
-
--- the duals of all nodes that hold v, added up
-abbrev pub cover : State → ℕ → ℤ
-cover s v = s.dual v +ℤ held_by s.dual s.blossoms v
-
--- two numbers that differ by an even one
-abbrev pub SameParity : ℤ → ℤ → Type 0
-SameParity x y = (half : ℤ) × (x ≡ y +ℤ (half +ℤ half))
 
 abbrev pub is_label : Label → Label → Bool
 is_label Outer Outer = true

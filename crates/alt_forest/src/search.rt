@@ -10,6 +10,7 @@ ghost use Rattle.alt_forest.specs.Entries.{IsQueued, entry_count, looks_left};
 ghost use Rattle.alt_forest.specs.Standing.{IsStanding};
 
 use crate::label::{Label, Weights};
+use crate::standing::vertex_within;
 use crate::starts::{NodeLists, RoomLists, copied, give_duals, node_lists, room_lists};
 use crate::tables::{label_of, set_label, wipe_edges, wipe_labels};
 use blossom_arena::{Arena, Link, NodeId};
@@ -26,8 +27,8 @@ use weighted_graph::{Graph, Incidence};
 /// given by the edge to it. `circuit` has room for n links. `graph` is a copy of the graph that the
 /// search was made for, and `incidence` its edges by vertex, which no call changes. `queue` has the
 /// moment of each event that can come, by `clock`, the sum of the changes of duals since no tree stood.
-/// `standing` lists the nodes that these changes run over, `stands` says of each node whether it is
-/// listed, and `scanned` has the vertices whose edges are looked at after a step.
+/// `standing` lists the nodes that these changes run over, `seeds` has for each of them, by node number, a
+/// vertex of the root of its tree, and `scanned` has the vertices whose edges are looked at after a step.
 #[derive(Drop)]
 pub struct Search {
     pub arena: Arena,
@@ -42,7 +43,7 @@ pub struct Search {
     pub incidence: Incidence,
     pub clock: i64,
     pub standing: Vec<NodeId>,
-    pub stands: Vec<bool>,
+    pub seeds: Vec<Option<VertexId>>,
     pub scanned: Vec<VertexId>,
 }
 
@@ -89,7 +90,7 @@ impl Search {
             labels,
             parents,
             mates,
-            stands,
+            seeds,
         } = node_lists(alloc, limit as usize + 1)?;
         let RoomLists {
             circuit,
@@ -109,7 +110,7 @@ impl Search {
             incidence,
             clock: 0,
             standing,
-            stands,
+            seeds,
             scanned,
         })
     }
@@ -161,7 +162,7 @@ impl Search {
         requires exposed { IsExposed (state_of self.old) v }
         requires out { label_at self.old.labels.items v ≡ Out }
         ensures labels { label_at self.new.labels.items ≡ put (label_at self.old.labels.items) v Outer }
-        ensures rest { self.new ≡ record self.old { labels = self.new.labels; queue = self.new.queue; standing = self.new.standing; stands = self.new.stands; scanned = self.new.scanned } }
+        ensures rest { self.new ≡ record self.old { labels = self.new.labels; queue = self.new.queue; standing = self.new.standing; seeds = self.new.seeds; scanned = self.new.scanned } }
         ensures roots { (a : ℕ) → IsRoot (state_of self.new) a ↔ (IsRoot (state_of self.old) a ⊎ (a ≡ v)) }
         ensures trees { tree_count (state_of self.new) ≡ tree_count (state_of self.old) + 1 }
         ensures exposed { exposed_count (state_of self.new) ≡ exposed_count (state_of self.old) }
@@ -173,7 +174,8 @@ impl Search {
         ensures count { entry_count self.new.queue + steps.old ≤ entry_count self.old.queue + steps.new }
     {
         make_root(self, v);
-        self.stand(v);
+        let seed = vertex_within(&self.arena, v);
+        self.stand(v, seed);
         self.scanned.clear();
         self.scan(v);
         self.enter_scanned(graph, steps);
@@ -192,7 +194,7 @@ impl Search {
     pub fn clear(&mut self)
         requires sound { IsSound self.old }
         ensures labels { (a : ℕ) → label_at self.new.labels.items a ≡ Out }
-        ensures rest { self.new ≡ record self.old { labels = self.new.labels; queue = self.new.queue; clock = pos 0; standing = self.new.standing; stands = self.new.stands } }
+        ensures rest { self.new ≡ record self.old { labels = self.new.labels; queue = self.new.queue; clock = pos 0; standing = self.new.standing; seeds = self.new.seeds } }
         ensures trees { tree_count (state_of self.new) ≡ 0 }
         ensures exposed { exposed_count (state_of self.new) ≡ exposed_count (state_of self.old) }
         ensures sound { IsSound self.new }

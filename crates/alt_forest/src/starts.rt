@@ -1,11 +1,11 @@
-ghost use Rattle.std.specs.Prelude.{◌≡◌, ◌≤◌, ℕ, ℤ, pos, true, false, None, [], IfOk, vec_len};
+ghost use Rattle.std.specs.Prelude.{◌≡◌, ◌≤◌, ℕ, ℤ, pos, true, None, [], IfOk, vec_len};
 ghost use Rattle.std.specs.Vec.{vec_capacity};
 ghost use Rattle.graph_theory.specs.declared.limits.TheConstants.{GRAPH_VERTEX_LIMIT};
 ghost use Rattle.graph_theory.specs.Graph.{IsGraph, IsWeight};
 ghost use Rattle.blossom_arena.specs.Family.{IsFamily, empty_family, is_vertex, dual_at};
 ghost use Rattle.alt_forest.specs.declared.label.Label.TheVariants.{Out};
 ghost use Rattle.alt_forest.specs.Searches.{IsSearchGraph, edge_in, label_at};
-ghost use Rattle.alt_forest.specs.Standing.{flag_at};
+ghost use Rattle.alt_forest.specs.Standing.{seed_at};
 
 use crate::label::Label;
 use blossom_arena::{Arena, Link, NodeId};
@@ -52,7 +52,7 @@ pub(crate) struct NodeLists {
     pub(crate) labels: Vec<Label>,
     pub(crate) parents: Vec<Option<EdgeId>>,
     pub(crate) mates: Vec<Option<EdgeId>>,
-    pub(crate) stands: Vec<bool>,
+    pub(crate) seeds: Vec<Option<VertexId>>,
 }
 
 /// Lists with so many places each, where no node is in a tree, has a mate or is listed.
@@ -60,21 +60,21 @@ pub(crate) fn node_lists(alloc: Global, places: usize) -> Result<NodeLists, OutO
     ensures labels { IfOk result (λ l. (a : ℕ) → label_at l.labels.items a ≡ Out) }
     ensures parents { IfOk result (λ l. (a : ℕ) → edge_in l.parents.items a ≡ None) }
     ensures mates { IfOk result (λ l. (a : ℕ) → edge_in l.mates.items a ≡ None) }
-    ensures stands { IfOk result (λ l. (a : ℕ) → flag_at l.stands.items a ≡ false) }
+    ensures seeds { IfOk result (λ l. (a : ℕ) → seed_at l.seeds.items a ≡ None) }
     ensures label_places { IfOk result (λ l. vec_len l.labels ≡ places) }
     ensures parent_places { IfOk result (λ l. vec_len l.parents ≡ places) }
     ensures mate_places { IfOk result (λ l. vec_len l.mates ≡ places) }
-    ensures stand_places { IfOk result (λ l. vec_len l.stands ≡ places) }
+    ensures seed_places { IfOk result (λ l. vec_len l.seeds ≡ places) }
 {
     let labels = vec![in alloc; Label::Out; places]?;
     let parents = no_edges(alloc, places)?;
     let mates = no_edges(alloc, places)?;
-    let stands = vec![in alloc; false; places]?;
+    let seeds = vec![in alloc; false; places]?;
     Ok(NodeLists {
         labels,
         parents,
         mates,
-        stands,
+        seeds,
     })
 }
 

@@ -1,11 +1,11 @@
-ghost use Rattle.std.specs.Prelude.{◌≡◌, ◌<◌, ℕ, None, false, length, vec_len};
+ghost use Rattle.std.specs.Prelude.{◌≡◌, ◌<◌, ℕ, None, length, vec_len};
 ghost use Rattle.alt_forest.specs.declared.label.Label.TheVariants.{Out};
 ghost use Rattle.alt_forest.specs.Searches.{label_at, edge_in, put};
 ghost use Rattle.alt_forest.specs.Standing.{flag_at};
 
 use crate::label::Label;
 use blossom_arena::NodeId;
-use mb_base::EdgeId;
+use mb_base::{EdgeId, VertexId};
 
 /// The label of a node.
 pub(crate) fn label_of(labels: &[Label], node: u32) -> Label
@@ -57,10 +57,10 @@ pub(crate) fn wipe_edges(edges: &mut Vec<Option<EdgeId>>)
     edges.fill(None);
 }
 
-/// Takes all flags down.
-pub(crate) fn wipe_flags(flags: &mut Vec<bool>)
-    ensures none { (node : ℕ) → flag_at flags.new.items node ≡ false }
-    ensures len { vec_len flags.new ≡ vec_len flags.old }
+/// Keeps no vertex for any node.
+pub(crate) fn wipe_seeds(seeds: &mut Vec<Option<VertexId>>)
+    ensures none { (node : ℕ) → seed_at seeds.new.items node ≡ None }
+    ensures len { vec_len seeds.new ≡ vec_len seeds.old }
 {
-    flags.fill(false);
+    seeds.fill(None);
 }

@@ -85,24 +85,25 @@ fn exchange(search: &mut Search, e: EdgeId)
     wipe(&mut search.labels);
 }
 
-/// Flips the path from an exposed node along the tight edge `e` and up a tree to its root, so that
-/// both are matched and no other node is exposed or matched anew, and takes all trees away: every label
-/// becomes `Out`, and no event waits any more (chapters 24 and 26). The two nodes that `e` joins are mates by
-/// it, and a node off the path keeps its mate. Blossoms and duals stay. It counts one step for itself, takes
-/// time linear in the path but for one pass over the nodes, and takes no memory.
+/// Flips the path between the roots of the two trees that the tight edge `e` joins, so that both are matched
+/// and no other node is exposed or matched anew, and takes all trees away: every label becomes `Out`, and no
+/// event waits any more (chapters 24 and 26). The two nodes that `e` joins are mates by it, and a node off the
+/// path keeps its mate. Blossoms and duals stay. It counts one step for itself, takes time linear in the path
+/// but for passes over the nodes, and takes no memory.
 pub fn flip<L: Ledger>(search: &mut Search, graph: &Graph, e: EdgeId, steps: &mut Steps<L>)
     requires sound { IsSound search.old }
+    requires standing { IsStanding search.old }
     requires same { graph.now ≡ search.old.graph }
     requires can { CanAugment (state_of search.old) e }
     ensures sound { IsSound search.new }
     ensures queued { IsQueued search.new }
     ensures standing { IsStanding search.new }
     ensures labels { (a : ℕ) → label_at search.new.labels.items a ≡ Out }
-    ensures rest { search.new ≡ record search.old { labels = search.new.labels; mates = search.new.mates; queue = search.new.queue; clock = pos 0; standing = search.new.standing; stands = search.new.stands } }
-    ensures near { (c : CanAugment (state_of search.old) e) → edge_in search.new.mates.items c.near ≡ Some e }
-    ensures far { (c : CanAugment (state_of search.old) e) → edge_in search.new.mates.items c.far ≡ Some e }
-    ensures keeps { (c : CanAugment (state_of search.old) e) (a : ℕ) → a ≢ c.far → holds (path_of (state_of search.old) c.near) a ≡ false → edge_in search.new.mates.items a ≡ edge_in search.old.mates.items a }
-    ensures exposed { (c : CanAugment (state_of search.old) e) (a : ℕ) → IsExposed (state_of search.new) a ↔ (IsExposed (state_of search.old) a × (a ≢ c.far) × (a ≢ root_of (state_of search.old) c.near)) }
+    ensures rest { search.new ≡ record search.old { labels = search.new.labels; mates = search.new.mates; queue = search.new.queue; clock = pos 0; standing = search.new.standing; seeds = search.new.seeds; scanned = search.new.scanned } }
+    ensures one { (c : CanAugment (state_of search.old) e) → edge_in search.new.mates.items c.one ≡ Some e }
+    ensures other { (c : CanAugment (state_of search.old) e) → edge_in search.new.mates.items c.other ≡ Some e }
+    ensures keeps { (c : CanAugment (state_of search.old) e) (a : ℕ) → holds (path_of (state_of search.old) c.one) a ≡ false → holds (path_of (state_of search.old) c.other) a ≡ false → edge_in search.new.mates.items a ≡ edge_in search.old.mates.items a }
+    ensures exposed { (c : CanAugment (state_of search.old) e) (a : ℕ) → IsExposed (state_of search.new) a ↔ (IsExposed (state_of search.old) a × (a ≢ root_of (state_of search.old) c.one) × (a ≢ root_of (state_of search.old) c.other)) }
     ensures fewer { exposed_count (state_of search.new) + 2 ≡ exposed_count (state_of search.old) }
     ensures trees { tree_count (state_of search.new) ≡ 0 }
     ensures step { steps.new ≡ steps.old + 1 }
@@ -111,4 +112,44 @@ pub fn flip<L: Ledger>(search: &mut Search, graph: &Graph, e: EdgeId, steps: &mu
     steps.tick();
     exchange(search, e);
     search.clear();
+}
+
+/// Flips the path between the roots of the two trees that the tight edge `e` joins, so that both are matched,
+/// and takes these two trees away: exactly their nodes are labelled out (chapters 24 and 26). Every other tree
+/// stays as it is, with its moments, and so do blossoms and duals. It counts one step for itself and looks once
+/// at most for each end of an edge at a vertex of the two trees; an edge that leads from there to an outer node
+/// gets its moment. It answers whether a tree is left, and where none is it ends as `clear` does. It takes no
+/// memory.
+pub fn join<L: Ledger>(search: &mut Search, graph: &Graph, e: EdgeId, steps: &mut Steps<L>) -> bool
+    requires sound { IsSound search.old }
+    requires queued { IsQueued search.old }
+    requires standing { IsStanding search.old }
+    requires same { graph.now ≡ search.old.graph }
+    requires can { CanAugment (state_of search.old) e }
+    ensures sound { IsSound search.new }
+    ensures queued { IsQueued search.new }
+    ensures standing { IsStanding search.new }
+    ensures cleared { (c : CanAugment (state_of search.old) e) (a : ℕ) → IsOutermost (state_of search.old) a → (root_of (state_of search.old) a ≡ root_of (state_of search.old) c.one) ⊎ (root_of (state_of search.old) a ≡ root_of (state_of search.old) c.other) → label_at search.new.labels.items a ≡ Out }
+    ensures stays { (c : CanAugment (state_of search.old) e) (a : ℕ) → IsOutermost (state_of search.old) a → root_of (state_of search.old) a ≢ root_of (state_of search.old) c.one → root_of (state_of search.old) a ≢ root_of (state_of search.old) c.other → label_at search.new.labels.items a ≡ label_at search.old.labels.items a }
+    ensures rest { search.new ≡ record search.old { labels = search.new.labels; mates = search.new.mates; queue = search.new.queue; clock = search.new.clock; standing = search.new.standing; seeds = search.new.seeds; scanned = search.new.scanned } }
+    ensures clock { search.new.clock ≡ (if result then search.old.clock else pos 0) }
+    ensures one { (c : CanAugment (state_of search.old) e) → edge_in search.new.mates.items c.one ≡ Some e }
+    ensures other { (c : CanAugment (state_of search.old) e) → edge_in search.new.mates.items c.other ≡ Some e }
+    ensures keeps { (c : CanAugment (state_of search.old) e) (a : ℕ) → holds (path_of (state_of search.old) c.one) a ≡ false → holds (path_of (state_of search.old) c.other) a ≡ false → edge_in search.new.mates.items a ≡ edge_in search.old.mates.items a }
+    ensures exposed { (c : CanAugment (state_of search.old) e) (a : ℕ) → IsExposed (state_of search.new) a ↔ (IsExposed (state_of search.old) a × (a ≢ root_of (state_of search.old) c.one) × (a ≢ root_of (state_of search.old) c.other)) }
+    ensures fewer { exposed_count (state_of search.new) + 2 ≡ exposed_count (state_of search.old) }
+    ensures trees { tree_count (state_of search.new) + 2 ≡ tree_count (state_of search.old) }
+    ensures left { (result ≡ false) ↔ (tree_count (state_of search.new) ≡ 0) }
+    ensures planted { IsPlanted (state_of search.old) → IsPlanted (state_of search.new) }
+    ensures looks { steps.new ≤ steps.old + 1 + 2 * length search.old.graph.edges }
+    ensures count { entry_count search.new.queue + steps.old ≤ entry_count search.old.queue + steps.new }
+{
+    steps.tick();
+    exchange(search, e);
+    if search.standing.is_empty() {
+        search.clear();
+        return false;
+    }
+    search.enter_scanned(graph, steps);
+    true
 }

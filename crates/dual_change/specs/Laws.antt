@@ -7,8 +7,8 @@ use Rattle.graph_theory.specs.Barrier.{IsBarrier}
 use Rattle.blossom_arena.specs.Family.{IsNested, is_vertex, names_of, outermost}
 use Rattle.alt_forest.specs.declared.label.Label.TheVariants.{Outer, Inner}
 use Rattle.alt_forest.specs.State.{State, IsOutermost, Joins, slack_of, IsSearchState}
-use Rattle.alt_forest.specs.Trees.{IsRoot, root_of, is_label}
-use Rattle.alt_forest.specs.Counts.{HasOneTree, tree_count}
+use Rattle.alt_forest.specs.Trees.{IsRoot, is_label}
+use Rattle.alt_forest.specs.Counts.{IsPlanted, tree_count}
 use Rattle.dual_change.specs.Changes.{IsStuck, applied}
 
 -- the vertices of inner nodes, ascending
@@ -17,18 +17,19 @@ inner_vertices s = filter (λ v. is_label (s.label (outermost s.blossoms v)) Inn
 
 -- where the search is stuck, no blossom is inner
 abbrev pub StuckInnerAreVertices : Type 0
-StuckInnerAreVertices = (s : State) (depth : ℕ → ℕ) (a : ℕ) → IsGraph s.graph → IsNested s.graph.vertices s.blossoms → IsSearchState s depth → HasOneTree s → IsStuck s
+StuckInnerAreVertices = (s : State) (depth : ℕ → ℕ) (a : ℕ) → IsGraph s.graph → IsNested s.graph.vertices s.blossoms → IsSearchState s depth → IsStuck s
     → IsOutermost s a → s.label a ≡ Inner → is_vertex s.graph.vertices a ≡ true
 
--- where the search is stuck at a tree, its inner vertices are a barrier: each outer node is an odd component of what
--- is left without them, and there is one outer node more than inner ones
+-- where a forest of all exposed nodes is stuck, its inner vertices are a barrier: each outer node is an odd component of what
+-- is left without them, and there is one outer node more than inner ones in each tree
 abbrev pub StuckHasBarrier : Type 0
-StuckHasBarrier = (s : State) (depth : ℕ → ℕ) (root : ℕ) → IsGraph s.graph → IsNested s.graph.vertices s.blossoms → IsSearchState s depth → HasOneTree s → IsRoot s root → IsStuck s → IsBarrier s.graph (inner_vertices s)
+StuckHasBarrier = (s : State) (depth : ℕ → ℕ) (root : ℕ) → IsGraph s.graph → IsNested s.graph.vertices s.blossoms → IsSearchState s depth → IsPlanted s → IsRoot s root → IsStuck s → IsBarrier s.graph (inner_vertices s)
 
--- the slack between two outer nodes of one tree is even, so the change that lets them be shrunk is a whole number
-abbrev pub ShrinkSlackIsEven : Type 0
-ShrinkSlackIsEven = (s : State) (depth : ℕ → ℕ) (e a b : ℕ) → IsGraph s.graph → IsNested s.graph.vertices s.blossoms → IsSearchState s depth → IsEdgeNumber s.graph e → Joins s.graph s.blossoms e a b
-    → s.label a ≡ Outer → s.label b ≡ Outer → root_of s a ≡ root_of s b → (half : ℤ) × (slack_of s e ≡ half +ℤ half)
+-- the slack between two outer nodes is even, so the change that lets them be shrunk, or the matching be augmented, is a
+-- whole number
+abbrev pub OuterSlackIsEven : Type 0
+OuterSlackIsEven = (s : State) (depth : ℕ → ℕ) (e a b : ℕ) → IsGraph s.graph → IsNested s.graph.vertices s.blossoms → IsSearchState s depth → IsEdgeNumber s.graph e → Joins s.graph s.blossoms e a b
+    → s.label a ≡ Outer → s.label b ≡ Outer → (half : ℤ) × (slack_of s e ≡ half +ℤ half)
 
 -- the duals of some nodes, added up
 abbrev pub dual_sum : (ℕ → ℤ) → List ℕ → ℤ

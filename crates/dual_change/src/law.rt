@@ -1,12 +1,12 @@
 //! What holds of all changes, for those who cite this crate's contracts alone.
-ghost use Rattle.dual_change.specs.Laws.{StuckInnerAreVertices, StuckHasBarrier, ShrinkSlackIsEven, ChangeRaisesTotal};
+ghost use Rattle.dual_change.specs.Laws.{StuckInnerAreVertices, StuckHasBarrier, OuterSlackIsEven, ChangeRaisesTotal};
 
-/// Where a search is stuck at a tree, no blossom is inner, and the vertices of inner nodes are a barrier
-/// (chapter 24). The slack of an edge between two outer nodes of one tree is even. A change of d raises
-/// the sum of all duals by d for each tree (chapter 26).
+/// Where a search is stuck, no blossom is inner, and where every exposed node is the root of a tree the
+/// vertices of all inner nodes are then a barrier (chapter 24). The slack of an edge between two outer
+/// nodes is even. A change of d raises the sum of all duals by d for each tree (chapter 26).
 pub fn laws()
     ensures inner { StuckInnerAreVertices }
     ensures barrier { StuckHasBarrier }
-    ensures parity { ShrinkSlackIsEven }
+    ensures parity { OuterSlackIsEven }
     ensures total { ChangeRaisesTotal }
 {}

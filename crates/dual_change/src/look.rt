@@ -7,8 +7,9 @@ ghost use Rattle.edge_queue.specs.Moments.{moment_of, IsLeast};
 ghost use Rattle.alt_forest.specs.declared.label.Label.TheVariants.{Outer, Inner, Out};
 ghost use Rattle.alt_forest.specs.Searches.{IsSound, state_of, label_at};
 ghost use Rattle.alt_forest.specs.State.{IsOutermost, Joins, slack_of};
-ghost use Rattle.alt_forest.specs.Counts.{HasOneTree};
+ghost use Rattle.alt_forest.specs.Counts.{IsPlanted};
 ghost use Rattle.alt_forest.specs.Entries.{NeedsMoment, IsQueued, entry_count};
+ghost use Rattle.alt_forest.specs.Standing.{IsStanding};
 ghost use Rattle.dual_change.specs.declared.event.Next.TheVariants.{Stuck};
 ghost use Rattle.dual_change.specs.Changes.{IsNext, IsNextWithin, edge_looks};
 ghost use Rattle.dual_change.specs.Candidates.{IsCandidate, ComesAt, IsStale, item_looks, entries_left};
@@ -39,24 +40,28 @@ fn comes(next: &Next) -> bool
     }
 }
 
-/// What an edge lets come that leads from an outer node to one labelled out, after a change of its slack:
-/// the tree grows where that has a mate, and else the matching is augmented.
-fn to_out(search: &Search, e: EdgeId, far: NodeId, d: i64) -> Next
+/// What a tight edge between two different outer nodes lets come, after a change: a blossom is shrunk
+/// where both are in one tree, else the matching is augmented.
+fn between(search: &Search, e: EdgeId, one: NodeId, other: NodeId, d: i64) -> Next
     requires sound { IsSound search.now }
+    requires standing { IsStanding search.now }
     requires number { IsEdgeNumber search.now.graph e }
-    requires outer { IsOutermost (state_of search.now) far }
-    requires out { label_at search.now.labels.items far ≡ Out }
-    requires near { (a : ℕ) × Joins search.now.graph search.now.arena.blossoms e a far × (label_at search.now.labels.items a ≡ Outer) }
-    requires slack { d ≡ slack_of (state_of search.now) e }
+    requires joins { Joins search.now.graph search.now.arena.blossoms e one other }
+    requires different { one ≢ other }
+    requires one_is { IsOutermost (state_of search.now) one }
+    requires other_is { IsOutermost (state_of search.now) other }
+    requires one_outer { label_at search.now.labels.items one ≡ Outer }
+    requires other_outer { label_at search.now.labels.items other ≡ Outer }
+    requires slack { slack_of (state_of search.now) e ≡ d +ℤ d }
     ensures candidate { IsCandidate (state_of search.now) result }
     ensures comes { (clock : ℤ) (moment : ℤ) → moment ≡ clock +ℤ d → ComesAt clock moment result }
     ensures there { result ≢ Stuck }
     ensures looks { edge_looks result ≡ 1 }
 {
-    match search.mate(far) {
-        Some(_) => Next::Grow(e, d),
-        None => Next::Augment(e, d),
+    if search.root(one).number() == search.root(other).number() {
+        return Next::Shrink(e, d);
     }
+    Next::Augment(e, d)
 }
 
 /// What an edge lets come at its moment, by one look at it. Where its ends are such that it needs no
@@ -70,7 +75,8 @@ fn by_edge<L: Ledger>(
 ) -> Next
     requires sound { IsSound search.now }
     requires same { graph.now ≡ search.now.graph }
-    requires one_tree { HasOneTree (state_of search.now) }
+    requires standing { IsStanding search.now }
+    requires planted { IsPlanted (state_of search.now) }
     requires edge { IsEdgeNumber graph.now e }
     requires low { pos 0 ≤ℤ search.now.clock }
     requires entered { NeedsMoment (state_of search.now) search.now.clock e (Some moment) }
@@ -87,9 +93,11 @@ fn by_edge<L: Ledger>(
         return Next::Stuck;
     }
     match (search.label(one), search.label(other)) {
-        (Label::Outer, Label::Outer) => Next::Shrink(e, ahead(search.clock, moment)),
-        (Label::Outer, Label::Out) => to_out(search, e, other, ahead(search.clock, moment)),
-        (Label::Out, Label::Outer) => to_out(search, e, one, ahead(search.clock, moment)),
+        (Label::Outer, Label::Outer) => {
+            between(search, e, one, other, ahead(search.clock, moment))
+        }
+        (Label::Outer, Label::Out) => Next::Grow(e, ahead(search.clock, moment)),
+        (Label::Out, Label::Outer) => Next::Grow(e, ahead(search.clock, moment)),
         _ => Next::Stuck,
     }
 }
@@ -127,7 +135,8 @@ fn by_item<L: Ledger>(
     requires sound { IsSound search.now }
     requires queued { IsQueued search.now }
     requires same { graph.now ≡ search.now.graph }
-    requires one_tree { HasOneTree (state_of search.now) }
+    requires standing { IsStanding search.now }
+    requires planted { IsPlanted (state_of search.now) }
     requires has { moment_of search.now.queue item.now ≡ Some moment }
     ensures candidate { IsCandidate (state_of search.now) result }
     ensures comes { ComesAt search.now.clock moment result }
@@ -163,24 +172,28 @@ fn drop_entry(search: &mut Search, item: Item)
     search.queue.remove(item);
 }
 
-/// What comes next, with the least change of duals that makes it possible (chapter 26): an edge from
-/// an outer node to one labelled out may become tight, so that the tree grows or, where the other end
-/// is exposed, the matching is augmented; an edge between two outer nodes may, so that a blossom is
-/// shrunk; or the dual of an inner blossom comes to 0, so that it is expanded. It answers `Stuck` where
-/// no change makes any of these possible. The graph is the one that the search was made for. It takes the
-/// least moments from the queue, drops entries that no edge or blossom needs any more, and looks once at
-/// each edge whose entry it takes, which is all that it counts. The entry of what comes stays. It takes no
-/// memory.
+/// What comes next, with the least change of duals that makes it possible (chapter 26), in a forest that
+/// has every exposed node as a root: an edge from an outer node to one labelled out may become tight, so
+/// that the tree grows; an edge between two outer nodes may, so that a blossom is shrunk where they are in
+/// one tree, and else the matching is augmented; or the dual of an inner blossom comes to 0, so that it is
+/// expanded. The change for an edge between outer nodes is half of its slack, which is even. It answers
+/// `Stuck` where no change makes any of these possible. The graph is the one that the search was made for. It
+/// takes the least moments from the queue, drops entries that no edge or blossom needs any more, and looks
+/// once at each edge whose entry it takes, which is all that it counts. The entry of what comes stays. It
+/// takes no memory.
 pub fn find<L: Ledger>(search: &mut Search, graph: &Graph, steps: &mut Steps<L>) -> Next
     requires sound { IsSound search.old }
     requires queued { IsQueued search.old }
     requires same { graph.now ≡ search.old.graph }
-    requires one_tree { HasOneTree (state_of search.old) }
+    requires standing { IsStanding search.old }
+    requires planted { IsPlanted (state_of search.old) }
     ensures found { IsNext (state_of search.new) result }
     ensures within { IsNextWithin (state_of search.new) result }
     ensures rest { search.new ≡ record search.old { queue = search.new.queue } }
     ensures sound { IsSound search.new }
     ensures queued { IsQueued search.new }
+    ensures standing { IsStanding search.new }
+    ensures planted { IsPlanted (state_of search.new) }
     ensures count { entry_count search.new.queue + steps.new ≤ entry_count search.old.queue + steps.old + edge_looks result }
 {
     while let Some((item, moment)) = earliest(search) {

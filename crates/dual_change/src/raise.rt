@@ -4,6 +4,7 @@ ghost use Rattle.blossom_arena.specs.Family.{dual_at, is_outermost};
 ghost use Rattle.graph_theory.specs.declared.limits.TheConstants.{NUMBER_LIMIT};
 ghost use Rattle.alt_forest.specs.Searches.{HasShape, IsSound, state_of, put};
 ghost use Rattle.alt_forest.specs.Entries.{HasNoTree, IsQueued};
+ghost use Rattle.alt_forest.specs.Counts.{IsPlanted};
 ghost use Rattle.alt_forest.specs.Standing.{IsStanding};
 ghost use Rattle.alt_forest.specs.State.{IsOutermost};
 ghost use Rattle.dual_change.specs.Changes.{share, applied, IsWithin, StaysInRange};
@@ -56,6 +57,7 @@ fn raise(search: &mut Search, node: NodeId, d: i64)
 fn raise_listed(search: &mut Search, d: i64)
     requires sound { IsSound search.old }
     requires standing { IsStanding search.old }
+    requires planted { IsPlanted (state_of search.old) }
     requires low { pos 0 ≤ℤ d }
     requires within { IsWithin (state_of search.old) d }
     requires in_range { StaysInRange (state_of search.old) d }
@@ -73,6 +75,7 @@ fn raise_listed(search: &mut Search, d: i64)
 fn raise_trees(search: &mut Search, d: i64)
     requires sound { IsSound search.old }
     requires standing { IsStanding search.old }
+    requires planted { IsPlanted (state_of search.old) }
     requires low { pos 0 ≤ℤ d }
     requires within { IsWithin (state_of search.old) d }
     requires in_range { StaysInRange (state_of search.old) d }
@@ -99,11 +102,12 @@ fn later(clock: i64, d: i64) -> i64
 /// Changes the duals along the trees by d (chapter 26): the duals of outer nodes rise by d, those of
 /// inner nodes fall by d, and all others stay. The clock goes on by d, so each moment stays what it is. It
 /// counts one step, takes time linear in the nodes that are listed for changes, which are at least those
-/// in trees, and no memory. There may be more trees than one.
+/// in trees, and no memory. Every exposed node is the root of a tree, so all these keep one parity.
 pub fn apply<L: Ledger>(search: &mut Search, d: i64, steps: &mut Steps<L>)
     requires sound { IsSound search.old }
     requires queued { IsQueued search.old }
     requires standing { IsStanding search.old }
+    requires planted { IsPlanted (state_of search.old) }
     requires tree { HasNoTree (state_of search.old) → ⊥ }
     requires low { pos 0 ≤ℤ d }
     requires within { IsWithin (state_of search.old) d }
@@ -114,6 +118,7 @@ pub fn apply<L: Ledger>(search: &mut Search, d: i64, steps: &mut Steps<L>)
     ensures sound { IsSound search.new }
     ensures queued { IsQueued search.new }
     ensures standing { IsStanding search.new }
+    ensures planted { IsPlanted (state_of search.new) }
     ensures step { steps.new ≡ steps.old + 1 }
 {
     let clock = later(search.clock, d);

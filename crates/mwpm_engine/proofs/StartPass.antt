@@ -84,7 +84,7 @@ module _ (s t : Search) (rest : t ≡ record s { arena = t.arena; mates = t.mate
   still_queued h = none_queued t still_out (ap (λ (x : Search). x.clock) rest ∙ h.still no_tree) (λ item. ap (λ (x : Search). moment_of x.queue item) rest ∙ h.empty no_tree item)
 
   pub still_standing : IsStanding s → IsStanding t
-  still_standing h = none_standing t still_out (subst (λ (x : Search). AreListed x.graph.vertices x.standing.items x.stands.items) (sym rest) h.listed)
+  still_standing h = none_standing t still_out (subst (λ (x : Search). AreListed x.graph.vertices x.standing.items x.seeds.items) (sym rest) h.listed)
 
 -- what the two rounds of the start of a pass leave alone together
 pub kept_through : (s u t : Search) → u ≡ record s { arena = record s.arena { duals = u.arena.duals } } → t ≡ record u { arena = record u.arena { duals = t.arena.duals }; mates = t.mates } → t ≡ record s { arena = t.arena; mates = t.mates }

@@ -35,10 +35,10 @@ queued_but f k t vs q state clock graph edges blossoms tree = record {
 }
 
 -- the nodes in trees are listed
-pub standing_after : (f k : Search) (t : State) → state_of k ≡ t → k.graph ≡ f.graph → AreListed f.graph.vertices k.standing.items k.stands.items
+pub standing_after : (f k : Search) (t : State) → state_of k ≡ t → k.graph ≡ f.graph → AreListed f.graph.vertices k.standing.items k.seeds.items
     → ((a : ℕ) → IsOutermost t a → t.label a ≢ Out → holds k.standing.items a ≡ true) → IsStanding k
 standing_after f k t state graph listed trees = record {
-  listed = subst (λ (g : Multigraph). AreListed g.vertices k.standing.items k.stands.items) (sym graph) listed;
+  listed = subst (λ (g : Multigraph). AreListed g.vertices k.standing.items k.seeds.items) (sym graph) listed;
   trees = λ a is labelled. trees a (subst (λ (s : State). IsOutermost s a) state is) (λ out. labelled (ap (λ (s : State). s.label a) state ∙ out));
 }
 

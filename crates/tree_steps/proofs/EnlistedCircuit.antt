@@ -21,9 +21,9 @@ IsAmong ring base count a = (a ≡ base) ⊎ (in_ring (take count ring) a ≡ tr
 
 -- what has become of the search f once these are listed
 pub record AreEnlisted (f k : Search) (base count : ℕ) : Type 0 where
-  pub rest : k ≡ record f { queue = k.queue; standing = k.standing; stands = k.stands }
+  pub rest : k ≡ record f { queue = k.queue; standing = k.standing; seeds = k.seeds }
   pub sound : IsSound k
-  pub listed : AreListed f.graph.vertices k.standing.items k.stands.items
+  pub listed : AreListed f.graph.vertices k.standing.items k.seeds.items
   pub there : (a : ℕ) → IsAmong f.circuit.items base count a → label_at f.labels.items a ≢ Out → holds k.standing.items a ≡ true
   pub keeps : (a : ℕ) → holds f.standing.items a ≡ true → holds k.standing.items a ≡ true
   pub entered : (a : ℕ) → IsAmong f.circuit.items base count a → holds (names_of f.arena.blossoms) a ≡ true → IsBlossomEntered (state_of f) f.clock k.queue a
@@ -32,9 +32,9 @@ pub record AreEnlisted (f k : Search) (base count : ℕ) : Type 0 where
 
 -- what listing one node makes of a search
 pub record IsEnlisted (k t : Search) (node : ℕ) : Type 0 where
-  pub rest : t ≡ record k { queue = t.queue; standing = t.standing; stands = t.stands }
+  pub rest : t ≡ record k { queue = t.queue; standing = t.standing; seeds = t.seeds }
   pub sound : IsSound t
-  pub listed : AreListed k.graph.vertices t.standing.items t.stands.items
+  pub listed : AreListed k.graph.vertices t.standing.items t.seeds.items
   pub there : label_at k.labels.items node ≢ Out → holds t.standing.items node ≡ true
   pub keeps : (a : ℕ) → holds k.standing.items a ≡ true → holds t.standing.items a ≡ true
   pub entered : holds (names_of k.arena.blossoms) node ≡ true → IsBlossomEntered (state_of k) k.clock t.queue node
@@ -82,9 +82,9 @@ module _ (f k t : Search) (base count : ℕ) (l : Link) (h : AreEnlisted f k bas
 
   pub enlisted_more : AreEnlisted f t base (count + 1)
   enlisted_more = record {
-    rest = e.rest ∙ ap (λ (x : Search). let y : Search = record x { queue = t.queue; standing = t.standing; stands = t.stands } in y) h.rest;
+    rest = e.rest ∙ ap (λ (x : Search). let y : Search = record x { queue = t.queue; standing = t.standing; seeds = t.seeds } in y) h.rest;
     sound = e.sound;
-    listed = subst (λ (x : Search). AreListed x.graph.vertices t.standing.items t.stands.items) h.rest e.listed;
+    listed = subst (λ (x : Search). AreListed x.graph.vertices t.standing.items t.seeds.items) h.rest e.listed;
     there = λ a among labelled. ⊎_elim
         (λ at. ap (holds t.standing.items) at ∙ e.there (λ out. labelled (ap (label_at f.labels.items) at ∙ ap (λ v. label_at v.items l.node) (sym labels) ∙ out)))
         (λ ne. e.keeps a (h.there a (among_before a among ne) labelled))

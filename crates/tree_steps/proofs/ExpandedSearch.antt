@@ -28,7 +28,7 @@ use Rattle.tree_steps.proofs.QueuedExpand.{expanded_child, expanded_entered, exp
 module _ (f f1 f2 f3 k : Search) (h : IsSound f) (h3 : IsSound f3) (b base : ℕ) (can : CanExpand (state_of f) b) (is : IsExpanded (state_of f1) (state_of f2) b)
     (r1 : f1 ≡ record f { scanned = f1.scanned })
     (r2 : f2 ≡ record f1 { arena = record f1.arena { blossoms = f2.arena.blossoms }; labels = f2.labels; parents = f2.parents; mates = f2.mates; circuit = f2.circuit })
-    (r3 : f3 ≡ record f2 { queue = f3.queue; standing = f3.standing; stands = f3.stands })
+    (r3 : f3 ≡ record f2 { queue = f3.queue; standing = f3.standing; seeds = f3.seeds })
     (r4 : k ≡ record f3 { queue = k.queue })
     (base_on : in_ring (ring_of f1.arena.blossoms b) base ≡ true)
     (inside : (a : ℕ) → in_ring f2.circuit.items a ≡ true → in_ring (ring_of f1.arena.blossoms b) a ≡ true)
@@ -121,17 +121,17 @@ module _ (f f1 f2 f3 k : Search) (h : IsSound f) (h3 : IsSound f3) (b base : ℕ
           (expanded_tree s t h.depth b h.shape.graph.graph (nested_of f h.shape) h.state can expanded_is))
 
   -- the nodes of the circuit that came into the tree are listed
-  pub expanded_standing : IsStanding f → AreListed f2.graph.vertices f3.standing.items f3.stands.items
+  pub expanded_standing : IsStanding f → AreListed f2.graph.vertices f3.standing.items f3.seeds.items
       → ((a : ℕ) → holds f2.standing.items a ≡ true → holds f3.standing.items a ≡ true)
       → ((a : ℕ) → (a ≡ base) ⊎ (in_ring f2.circuit.items a ≡ true) → label_at f2.labels.items a ≢ Out → holds f3.standing.items a ≡ true) → IsStanding k
   expanded_standing standing listed keeps there =
       let graph : f2.graph ≡ f.graph = cc in
       let list : k.standing ≡ f3.standing = cc in
-      let flags : k.stands ≡ f3.stands = cc in
+      let flags : k.seeds ≡ f3.seeds = cc in
       let first : f2.standing ≡ f.standing = cc in
       standing_after f k t expanded_same graph_same
-      (subst (λ (g : Multigraph). AreListed g.vertices k.standing.items k.stands.items) graph
-      (subst (λ v. AreListed f2.graph.vertices v.items k.stands.items) (sym list) (subst (λ v. AreListed f2.graph.vertices f3.standing.items v.items) (sym flags) listed)))
+      (subst (λ (g : Multigraph). AreListed g.vertices k.standing.items k.seeds.items) graph
+      (subst (λ v. AreListed f2.graph.vertices v.items k.seeds.items) (sym list) (subst (λ v. AreListed f2.graph.vertices f3.standing.items v.items) (sym flags) listed)))
       (λ a outer labelled. ap (λ v. holds v.items a) list ∙ by_test (in_ring (ring_of f.arena.blossoms b) a)
       (λ r. there a (all a (ap (λ (xs : List Blossom). in_ring (ring_of xs b) a) same_blossoms ∙ r)) labelled)
       (λ r.

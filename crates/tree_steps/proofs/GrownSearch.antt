@@ -25,8 +25,8 @@ use Rattle.tree_steps.proofs.QueuedGrow.{far_now, mate_now, grown_tree, grown_en
 -- edge's moment is gone, and k where the mate's vertices are noted
 module _ (f f1 f2 f3 f4 k : Search) (h : IsSound f) (e mate : ℕ) (can : CanGrow (state_of f) e) (pair : IsMate (state_of f) can.far can.mate_edge mate)
     (r1 : f1 ≡ record f { labels = f1.labels; parents = f1.parents })
-    (r2 : f2 ≡ record f1 { queue = f2.queue; standing = f2.standing; stands = f2.stands })
-    (r3 : f3 ≡ record f2 { queue = f3.queue; standing = f3.standing; stands = f3.stands })
+    (r2 : f2 ≡ record f1 { queue = f2.queue; standing = f2.standing; seeds = f2.seeds })
+    (r3 : f3 ≡ record f2 { queue = f3.queue; standing = f3.standing; seeds = f3.seeds })
     (r4 : f4 ≡ record f3 { queue = f4.queue })
     (r5 : k ≡ record f4 { scanned = k.scanned })
     (state : state_of f1 ≡ grown (state_of f) e can.far mate) where
@@ -97,19 +97,19 @@ module _ (f f1 f2 f3 f4 k : Search) (h : IsSound f) (e mate : ℕ) (can : CanGro
             ∙ ap (λ (c : ℤ). Some (c +ℤ (state_of f1).dual can.far)) same_clock ∙ ap (λ (x : State). Some (f.clock +ℤ x.dual can.far)) state
 
   -- the two nodes that came into the tree are listed
-  pub grown_standing : IsStanding f → AreListed f2.graph.vertices f3.standing.items f3.stands.items
+  pub grown_standing : IsStanding f → AreListed f2.graph.vertices f3.standing.items f3.seeds.items
       → ((a : ℕ) → holds f1.standing.items a ≡ true → holds f2.standing.items a ≡ true) → ((a : ℕ) → holds f2.standing.items a ≡ true → holds f3.standing.items a ≡ true)
       → (label_at f1.labels.items can.far ≢ Out → holds f2.standing.items can.far ≡ true) → (label_at f2.labels.items mate ≢ Out → holds f3.standing.items mate ≡ true) → IsStanding k
   grown_standing standing listed keeps2 keeps3 far_there mate_there =
       let graph : f2.graph ≡ f.graph = cc in
       let list : k.standing ≡ f3.standing = cc in
-      let flags : k.stands ≡ f3.stands = cc in
+      let flags : k.seeds ≡ f3.seeds = cc in
       let first : f1.standing ≡ f.standing = cc in
       let labels : label_at f2.labels.items mate ≡ t.label mate = ap (λ (x : Search). label_at x.labels.items mate) r2 ∙ ap (λ (x : State). x.label mate) state in
       let keeps : (a : ℕ) → holds f2.standing.items a ≡ true → holds k.standing.items a ≡ true = λ a e. ap (λ v. holds v.items a) list ∙ keeps3 a e in
       standing_after f k t grown_state graph_same
-      (subst (λ (g : Multigraph). AreListed g.vertices k.standing.items k.stands.items) graph
-      (subst (λ v. AreListed f2.graph.vertices v.items k.stands.items) (sym list) (subst (λ v. AreListed f2.graph.vertices f3.standing.items v.items) (sym flags) listed)))
+      (subst (λ (g : Multigraph). AreListed g.vertices k.standing.items k.seeds.items) graph
+      (subst (λ v. AreListed f2.graph.vertices v.items k.seeds.items) (sym list) (subst (λ v. AreListed f2.graph.vertices f3.standing.items v.items) (sym flags) listed)))
       (λ a is labelled. ⊎_elim
       (λ at. ap (holds k.standing.items) at ∙ keeps can.far (far_there (λ out. inner_not_out (sym (far_now (state_of f) e mate can pair) ∙ sym (ap (λ (x : State). x.label can.far) state) ∙ out))))
       (λ off_far. ⊎_elim

@@ -28,7 +28,7 @@ use Rattle.tree_steps.proofs.QueuedShrink.{shrunk_tree, shrunk_entered, shrunk_b
 -- f is the search before, f1 where the circuit is one node, f2 where that is listed, and k where the edge's moment is gone
 module _ (f f1 f2 k : Search) (h : IsSound f) (h1 : IsSound f1) (h2 : IsSound f2) (e node : ℕ) (can : CanShrink (state_of f) e) (x : IsShrunk (state_of f) (state_of f1) node)
     (r1 : f1 ≡ record f { arena = f1.arena; labels = f1.labels; mates = f1.mates; circuit = f1.circuit; scanned = f1.scanned })
-    (r2 : f2 ≡ record f1 { queue = f2.queue; standing = f2.standing; stands = f2.stands })
+    (r2 : f2 ≡ record f1 { queue = f2.queue; standing = f2.standing; seeds = f2.seeds })
     (r3 : k ≡ record f2 { queue = k.queue }) where
   pub shrunk_same : state_of k ≡ state_of f1
   shrunk_same = ap state_of r3 ∙ ap state_of r2
@@ -93,19 +93,19 @@ module _ (f f1 f2 k : Search) (h : IsSound f) (h1 : IsSound f1) (h2 : IsSound f2
           (shrunk_tree s t node x h.shape.graph.graph nested))
 
   -- the new node is listed
-  pub shrunk_standing : IsStanding f → AreListed f1.graph.vertices f2.standing.items f2.stands.items
+  pub shrunk_standing : IsStanding f → AreListed f1.graph.vertices f2.standing.items f2.seeds.items
       → ((a : ℕ) → holds f1.standing.items a ≡ true → holds f2.standing.items a ≡ true)
       → (label_at f1.labels.items node ≢ Out → holds f2.standing.items node ≡ true) → IsStanding k
   shrunk_standing standing listed keeps there =
       let graph : f1.graph ≡ f.graph = cc in
       let list : k.standing ≡ f2.standing = cc in
-      let flags : k.stands ≡ f2.stands = cc in
+      let flags : k.seeds ≡ f2.seeds = cc in
       let first : f1.standing ≡ f.standing = cc in
       let s : State = state_of f in
       let t : State = state_of f1 in
       standing_after f k t shrunk_same graph_same
-      (subst (λ (g : Multigraph). AreListed g.vertices k.standing.items k.stands.items) graph
-      (subst (λ v. AreListed f1.graph.vertices v.items k.stands.items) (sym list) (subst (λ v. AreListed f1.graph.vertices f2.standing.items v.items) (sym flags) listed)))
+      (subst (λ (g : Multigraph). AreListed g.vertices k.standing.items k.seeds.items) graph
+      (subst (λ v. AreListed f1.graph.vertices v.items k.seeds.items) (sym list) (subst (λ v. AreListed f1.graph.vertices f2.standing.items v.items) (sym flags) listed)))
       (λ a is labelled. ap (λ v. holds v.items a) list ∙ ⊎_elim
       (λ at. ap (holds f2.standing.items) at ∙ there (λ out. outer_not_out (sym (shrunk_label s t node x h.shape.graph.graph nested) ∙ out)))
       (λ off. let was = shrunk_in_tree s t node x h.shape.graph.graph nested a is labelled off in keeps a (ap (λ v. holds v.items a) first ∙ standing.trees a was.0 was.1))

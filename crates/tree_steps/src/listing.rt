@@ -17,13 +17,13 @@ use blossom_arena::NodeId;
 /// inner blossom its moment. For a node labelled out nothing is done.
 pub(crate) fn enlist(search: &mut Search, node: NodeId)
     requires sound { IsSound search.old }
-    requires listed { AreListed search.old.graph.vertices search.old.standing.items search.old.stands.items }
+    requires listed { AreListed search.old.graph.vertices search.old.standing.items search.old.seeds.items }
     requires low { pos 0 ≤ℤ search.old.clock }
     requires high { search.old.clock ≤ℤ NUMBER_LIMIT }
     requires outer { IsOutermost (state_of search.old) node }
-    ensures rest { search.new ≡ record search.old { queue = search.new.queue; standing = search.new.standing; stands = search.new.stands } }
+    ensures rest { search.new ≡ record search.old { queue = search.new.queue; standing = search.new.standing; seeds = search.new.seeds } }
     ensures sound { IsSound search.new }
-    ensures listed { AreListed search.old.graph.vertices search.new.standing.items search.new.stands.items }
+    ensures listed { AreListed search.old.graph.vertices search.new.standing.items search.new.seeds.items }
     ensures there { label_at search.old.labels.items node ≢ Out → holds search.new.standing.items node ≡ true }
     ensures keeps { (a : ℕ) → holds search.old.standing.items a ≡ true → holds search.new.standing.items a ≡ true }
     ensures entered { holds (names_of search.old.arena.blossoms) node ≡ true → IsBlossomEntered (state_of search.old) search.old.clock search.new.queue node }
@@ -40,14 +40,14 @@ pub(crate) fn enlist(search: &mut Search, node: NodeId)
 /// The same for a node and all those of the circuit.
 pub(crate) fn enlist_circuit(search: &mut Search, base: NodeId)
     requires sound { IsSound search.old }
-    requires listed { AreListed search.old.graph.vertices search.old.standing.items search.old.stands.items }
+    requires listed { AreListed search.old.graph.vertices search.old.standing.items search.old.seeds.items }
     requires low { pos 0 ≤ℤ search.old.clock }
     requires high { search.old.clock ≤ℤ NUMBER_LIMIT }
     requires base { IsOutermost (state_of search.old) base }
     requires circuit { (a : ℕ) → in_ring search.old.circuit.items a ≡ true → IsOutermost (state_of search.old) a }
-    ensures rest { search.new ≡ record search.old { queue = search.new.queue; standing = search.new.standing; stands = search.new.stands } }
+    ensures rest { search.new ≡ record search.old { queue = search.new.queue; standing = search.new.standing; seeds = search.new.seeds } }
     ensures sound { IsSound search.new }
-    ensures listed { AreListed search.old.graph.vertices search.new.standing.items search.new.stands.items }
+    ensures listed { AreListed search.old.graph.vertices search.new.standing.items search.new.seeds.items }
     ensures there { (a : ℕ) → (a ≡ base) ⊎ (in_ring search.old.circuit.items a ≡ true) → label_at search.old.labels.items a ≢ Out → holds search.new.standing.items a ≡ true }
     ensures keeps { (a : ℕ) → holds search.old.standing.items a ≡ true → holds search.new.standing.items a ≡ true }
     ensures entered { (a : ℕ) → (a ≡ base) ⊎ (in_ring search.old.circuit.items a ≡ true) → holds (names_of search.old.arena.blossoms) a ≡ true → IsBlossomEntered (state_of search.old) search.old.clock search.new.queue a }

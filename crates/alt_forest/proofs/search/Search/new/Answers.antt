@@ -39,7 +39,7 @@ returns-clause-shape c =
         edges = ap (λ (q : Moments). length q.edges) c.in_ok-queue.ensures ∙ length-replicate c.edges.result none ∙ edges;
         nodes = ap (λ (q : Moments). length q.blossoms) c.in_ok-queue.ensures ∙ length-replicate c.node_limit-limit.result none ∙ limit;
         standing = omega (arith, c.in_ok-circuit.ensures.standing, limit);
-        stands = c.in_ok-labels.ensures.stand_places ∙ ap (λ (n : ℕ). n + 1) limit;
+        seeds = c.in_ok-labels.ensures.seed_places ∙ ap (λ (n : ℕ). n + 1) limit;
         scanned = omega (arith, c.in_ok-circuit.ensures.scanned, vertices);
       };
     }
@@ -53,7 +53,8 @@ returns-clause-sound c =
     record {
       shape = returns-clause-shape c;
       depth = λ a. 0;
-      state = fresh _ (ap (λ (f : Family). f.blossoms) empty) c.in_ok-labels.ensures.labels c.in_ok-labels.ensures.mates
+      state = fresh _ (pos 0) (ap (λ (f : Family). f.blossoms) empty) c.in_ok-labels.ensures.labels c.in_ok-labels.ensures.mates
+          (λ v iv. ap (λ (f : Family). dual_at f.duals v) empty ∙ same_entry _ v (pos 0))
           (fresh_slack c.in_ok-copy.copy Zero (dual_at c.in_ok-arena.arena.duals) (pos 0) c.in_ok-arena.arena.blossoms graph.graph (ap (λ (f : Family). f.blossoms) empty)
           (λ v iv. ap (λ (f : Family). dual_at f.duals v) empty ∙ same_entry _ v (pos 0)) refl);
     }
@@ -65,4 +66,4 @@ pub returns-clause-standing : goal.returns-clause-standing
 returns-clause-standing c =
     let n : ℕ = c.in_ok-copy.copy.vertices in
     none_standing _ c.in_ok-labels.ensures.labels
-    (subst (λ (xs : List ℕ). AreListed n xs c.in_ok-labels.field-0.stands.items) (sym c.in_ok-circuit.ensures.none) (none_listed n c.in_ok-labels.field-0.stands.items c.in_ok-labels.ensures.stands))
+    (subst (λ (xs : List ℕ). AreListed n xs c.in_ok-labels.field-0.seeds.items) (sym c.in_ok-circuit.ensures.none) (none_listed n c.in_ok-labels.field-0.seeds.items c.in_ok-labels.ensures.seeds))

@@ -21,7 +21,7 @@ pub stand-requires-clause-low : goal.stand-requires-clause-low
 stand-requires-clause-low g c = (outer_range c.args.self.now c.args.v c.requires.sound.shape c.requires.exposed.0).0
 
 -- the vertices of the root, as the search keeps them after it is listed
-members : (s l a : Search) (v : ℕ) → l ≡ record s { labels = l.labels } → a ≡ record l { standing = a.standing; stands = a.stands } → members_of a.arena.blossoms v ≡ members_of s.arena.blossoms v
+members : (s l a : Search) (v : ℕ) → l ≡ record s { labels = l.labels } → a ≡ record l { standing = a.standing; seeds = a.seeds } → members_of a.arena.blossoms v ≡ members_of s.arena.blossoms v
 members s l a v one two = ap (λ (x : Search). members_of x.arena.blossoms v) two ∙ ap (λ (x : Search). members_of x.arena.blossoms v) one
 
 scanned : (now before more vs : List ℕ) → now ≡ before ++ more → before ≡ [] → more ≡ vs → now ≡ vs
@@ -50,7 +50,7 @@ enter_scanned-requires-clause-sound g c =
         parents = h.parents;
         mates = h.mates;
         circuit = h.circuit;
-        room = record { index = h.room.index; edges = h.room.edges; nodes = h.room.nodes; standing = h.room.standing; stands = h.room.stands; scanned = omega (arith, h.room.scanned, c.scan.ensures.capacity, c.clear.ensures.capacity) };
+        room = record { index = h.room.index; edges = h.room.edges; nodes = h.room.nodes; standing = h.room.standing; seeds = h.room.seeds; scanned = omega (arith, h.room.scanned, c.scan.ensures.capacity, c.clear.ensures.capacity) };
       };
       depth = sound.depth;
       state = subst (λ (x : State). IsSearchState x sound.depth) (sym (ap state_of c.stand.ensures.rest)) sound.state;
@@ -84,7 +84,7 @@ returns-clause-standing g c =
     let a : Search = c.stand.new.self in
     let t : Search = c.scan.new.self in
     let graph : l.graph.vertices ≡ s.graph.vertices = ap (λ (x : Search). x.graph.vertices) c.make_root.ensures.rest in
-    let listed : AreListed s.graph.vertices a.standing.items a.stands.items = subst (λ (n : ℕ). AreListed n a.standing.items a.stands.items) graph c.stand.ensures.listed in
+    let listed : AreListed s.graph.vertices a.standing.items a.seeds.items = subst (λ (n : ℕ). AreListed n a.standing.items a.seeds.items) graph c.stand.ensures.listed in
     let keeps : (x : ℕ) → holds s.standing.items x ≡ true → holds a.standing.items x ≡ true = λ x e. c.stand.ensures.keeps x (ap (λ (y : Search). holds y.standing.items x) c.make_root.ensures.rest ∙ e) in
     subst IsStanding (sym c.enter_scanned.ensures.rest)
     (standing_with t c.enter_scanned.new.self.queue (planted_standing s l a t c.args.v (whole s l a t c.make_root.ensures.rest c.stand.ensures.rest c.scan.ensures.rest) c.make_root.ensures.labels c.requires.sound c.requires.exposed c.requires.out listed c.stand.ensures.there keeps c.requires.standing))

@@ -38,7 +38,8 @@ returns-clause-sound c =
     subst IsSound (sym c.dismiss.ensures.rest) (record {
       shape = subst HasShape c.dismiss.ensures.rest c.dismiss.ensures.shape;
       depth = λ a. 0;
-      state = fresh _ c.give_duals.ensures.blossoms c.wipe_labels.ensures.out c.wipe_edges-2.ensures.none
+      state = fresh _ c.args.start c.give_duals.ensures.blossoms c.wipe_labels.ensures.out c.wipe_edges-2.ensures.none
+          (λ v iv. c.give_duals.ensures.duals v (ap (λ (n : ℕ). is_vertex n v) count ∙ iv) ∙ back)
           (fresh_slack g c.args.weights (dual_at c.give_duals.new.arena.duals) c.args.start c.give_duals.new.arena.blossoms h.graph.graph c.give_duals.ensures.blossoms
           (λ v iv. c.give_duals.ensures.duals v (ap (λ (n : ℕ). is_vertex n v) count ∙ iv) ∙ back)
           (subst (λ (k : Multigraph). IsStart k c.args.weights c.args.start) c.requires.graph c.requires.start));
@@ -63,4 +64,4 @@ pub returns-clause-standing : goal.returns-clause-standing
 returns-clause-standing c =
     none_standing c.dismiss.new.self
     (λ a. ap (λ (s : Search). label_at s.labels.items a) c.dismiss.ensures.rest ∙ c.wipe_labels.ensures.out a)
-    (subst (λ (n : ℕ). AreListed n c.dismiss.new.self.standing.items c.dismiss.new.self.stands.items) (sym (ap (λ (s : Search). s.graph.vertices) c.dismiss.ensures.rest)) c.dismiss.ensures.listed)
+    (subst (λ (n : ℕ). AreListed n c.dismiss.new.self.standing.items c.dismiss.new.self.seeds.items) (sym (ap (λ (s : Search). s.graph.vertices) c.dismiss.ensures.rest)) c.dismiss.ensures.listed)
