@@ -69,7 +69,7 @@ pub(crate) fn node_lists(alloc: Global, places: usize) -> Result<NodeLists, OutO
     let labels = vec![in alloc; Label::Out; places]?;
     let parents = no_edges(alloc, places)?;
     let mates = no_edges(alloc, places)?;
-    let seeds = vec![in alloc; false; places]?;
+    let seeds = vec![in alloc; None; places]?;
     Ok(NodeLists {
         labels,
         parents,

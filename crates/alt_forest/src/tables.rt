@@ -1,7 +1,7 @@
 ghost use Rattle.std.specs.Prelude.{◌≡◌, ◌<◌, ℕ, None, length, vec_len};
 ghost use Rattle.alt_forest.specs.declared.label.Label.TheVariants.{Out};
 ghost use Rattle.alt_forest.specs.Searches.{label_at, edge_in, put};
-ghost use Rattle.alt_forest.specs.Standing.{flag_at};
+ghost use Rattle.alt_forest.specs.Standing.{seed_at};
 
 use crate::label::Label;
 use blossom_arena::NodeId;
