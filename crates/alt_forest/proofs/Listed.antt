@@ -1,13 +1,15 @@
 -- The list of nodes that changes of duals run over, with one node more and with none.
 use Rattle.std.proofs.Common.{◌≡◌, ℕ, ◌<◌, ◌≤◌, Bool, true, false, ◌||◌, eqb, List, [], ◌∷◌, ◌++◌, length, Option, Some, None, refl, sym, ap, ◌∙◌, arith}
-use Rattle.std.specs.Prelude.{slice_set, is_some}
+use Rattle.std.specs.Prelude.{slice_set, is_some, nat_eq, IsPermutation}
 use Rattle.std.proofs.Math.Bool.{or-false}
 use Rattle.std.proofs.lemmas.Bool.{eqb-true, eqb-false, eq-eqb}
 use Rattle.std.proofs.lemmas.Bool.Decides.{nat_tests}
 use Rattle.std.proofs.lemmas.List.{get_or-set_other, get_or-set_same}
+use Rattle.std.proofs.lemmas.List.Sorted.{list_any-IsPermutation}
+use Rattle.std.proofs.lemmas.Map.Keys.{IsDistinct-IsPermutation}
 use Rattle.graph_theory.specs.Parts.{holds}
-use Rattle.graph_theory.proofs.Members.{holds-push, holds_all, all_holds}
-use Rattle.blossom_arena.proofs.Lists.{by_test, AllNew, new_from_distinct, distinct_from_new, new-append, length-within, vertices, holds-vertices, length-vertices, distinct_none}
+use Rattle.graph_theory.proofs.Members.{holds-push, holds_all, all_holds, eqb-turned}
+use Rattle.blossom_arena.proofs.Lists.{by_test, AllNew, new_from_distinct, distinct_from_new, new-append, length-within, vertices, holds-vertices, length-vertices, later_in, distinct_none}
 use Rattle.alt_forest.specs.Standing.{AreListed, seed_at}
 use Rattle.alt_forest.specs.Trees.{node_limit}
 
@@ -82,6 +84,20 @@ listed_again n nodes seeds a w h place some = record {
       ap (λ k. is_some (seed_at (slice_set seeds a (Some w)) k)) (sym same) ∙ ap (λ (o : Option ℕ). is_some o) (get_or-set_same seeds a (Some w) None place) ∙ sym some ∙ ap (λ k. is_some (seed_at seeds k)) same ∙ h.seeded c)
       (λ t. ap (λ (o : Option ℕ). is_some o) (get_or-set_other seeds a c (Some w) None (λ q. eqb-false a c t (sym q))) ∙ h.seeded c);
 }
+
+-- a node less, whose seed goes
+pub listed_less : (n : ℕ) (nodes rest : List ℕ) (seeds : List (Option ℕ)) (a : ℕ) → AreListed n nodes seeds → IsPermutation nodes (a ∷ rest) → a < length seeds → AreListed n rest (slice_set seeds a None)
+listed_less n nodes rest seeds a h same place = record {
+  different = distinct_from_new rest all.1;
+  in_range = all_holds (λ c. (1 ≤ c) × (c ≤ node_limit n)) rest (λ v e. holds_all (λ c. (1 ≤ c) × (c ≤ node_limit n)) nodes v h.in_range (list_any-IsPermutation (λ m. eqb m v) nodes (a ∷ rest) same ∙ later_in a rest v e));
+  seeded = λ c. by_test (eqb a c)
+      (λ t. let one : a ≡ c = eqb-true a c t in
+      ap (λ k. is_some (seed_at (slice_set seeds a None) k)) (sym one) ∙ ap (λ (o : Option ℕ). is_some o) (get_or-set_same seeds a None None place) ∙ sym all.0 ∙ ap (holds rest) one)
+      (λ t. ap (λ (o : Option ℕ). is_some o) (get_or-set_other seeds a c None None (λ q. eqb-false a c t (sym q))) ∙ h.seeded c ∙ list_any-IsPermutation (λ m. eqb m c) nodes (a ∷ rest) same ∙ or_second (eqb a c) (holds rest c) t);
+}
+  where
+    all : AllNew (a ∷ rest)
+    all = new_from_distinct (a ∷ rest) (IsDistinct-IsPermutation nat_eq eqb-turned nodes (a ∷ rest) same h.different)
 
 -- no node is listed where none has a seed
 pub none_listed : (n : ℕ) (seeds : List (Option ℕ)) → ((c : ℕ) → seed_at seeds c ≡ None) → AreListed n [] seeds

@@ -1,29 +1,33 @@
 -- What a root more leaves of the moments and of the nodes that are listed, before the edges at its vertices are looked at.
 use Rattle.std.proofs.Common.{◌≡◌, ◌≢◌, ℕ, ◌+◌, ◌*◌, ◌≤◌, Bool, true, false, not, eqb, cond, List, [], ◌∷◌, length, refl, sym, ap, ◌∙◌, subst, arith, ⊎_elim}
-use Rattle.std.specs.Prelude.{ℤ, Option}
+use Rattle.std.specs.Prelude.{ℤ, Option, Some, None}
 use Rattle.std.specs.List.{list_any}
-use Rattle.std.proofs.lemmas.Bool.{eqb-true, eqb-false, both_ways, or_cases, or_left, or_right}
+use Rattle.std.proofs.lemmas.Bool.{eqb-true, eqb-false, eq-eqb, ne_eqb, both_ways, or_cases, or_left, or_right}
 use Rattle.std.proofs.Math.Nat.{mul-le-mul_left}
 use Rattle.graph_theory.specs.Graph.{IsGraph, IsEdgeNumber, edge_of}
 use Rattle.graph_theory.specs.Parts.{holds}
-use Rattle.blossom_arena.specs.Family.{Blossom, IsNested, is_node, members_of, outermost}
+use Rattle.blossom_arena.specs.Family.{Blossom, IsNested, is_node, is_vertex, members_of, outermost}
 use Rattle.blossom_arena.proofs.Lists.{by_test, length-within, vertices, holds-vertices, length-vertices}
 use Rattle.blossom_arena.proofs.Nested.{outermost_parts}
 use Rattle.blossom_arena.proofs.Sets.{member_vertex, members_new, outermost_has, outermost_by_member}
 use Rattle.blossom_arena.proofs.Ends.{u_vertex, v_vertex}
 use Rattle.edge_queue.specs.declared.item.Item.TheVariants.{Edge}
 use Rattle.edge_queue.specs.Moments.{moment_of}
+use Rattle.alt_forest.specs.declared.label.Label.{Label}
 use Rattle.alt_forest.specs.declared.label.Label.TheVariants.{Outer, Inner, Out}
 use Rattle.alt_forest.specs.declared.search.Search.{Search}
-use Rattle.alt_forest.specs.State.{State, IsOutermost, IsExposed, Joins, node_u, node_v}
+use Rattle.alt_forest.specs.State.{State, IsOutermost, IsExposed, Joins, node_u, node_v, IsSearchState}
 use Rattle.alt_forest.specs.Counts.{is_outside, outside_among}
-use Rattle.alt_forest.specs.Trees.{is_label}
+use Rattle.alt_forest.specs.Trees.{is_label, root_of, up_edge, up_edge_by, far_end}
 use Rattle.alt_forest.specs.Searches.{IsSound, state_of, label_at, put}
 use Rattle.alt_forest.specs.Entries.{NeedsMoment, IsQueued, IsQueuedBut, touches_any, ends_around, looks_left}
-use Rattle.alt_forest.specs.Standing.{AreListed, IsStanding}
+use Rattle.alt_forest.specs.Standing.{AreListed, IsStanding, seed_at}
 use Rattle.alt_forest.proofs.Places.{nested_of}
-use Rattle.alt_forest.proofs.Relabelled.{with_labels, put_here, put_other, outer_not_inner, outer_not_out}
+use Rattle.alt_forest.proofs.Relabelled.{with_labels, put_here, put_other, outer_not_inner, outer_not_out, some_not_none, planted}
 use Rattle.alt_forest.proofs.Looks.{outside_ends_fall}
+use Rattle.alt_forest.proofs.Roots.{up_or_root}
+use Rattle.alt_forest.proofs.Seeds.{AreTrees, roots_are_trees, tree_root}
+use Rattle.alt_forest.proofs.Walk.{other_node_joins}
 
 -- an edge with no end among the vertices of an outermost node leads past that node
 pub past_node : (s : State) (v e : ℕ) → IsGraph s.graph → IsNested s.graph.vertices s.blossoms → IsEdgeNumber s.graph e → touches_any (members_of s.blossoms v) (edge_of s.graph e) ≡ false
@@ -104,6 +108,62 @@ module _ (s : State) (v : ℕ) (nested : IsNested s.graph.vertices s.blossoms) (
       by_product : (k a b x y z : ℕ) → a + z ≤ b → x ≤ y → (a + k * x) + z ≤ b + k * y
       by_product k a b x y z first second = omega (arith, first, mul-le-mul_left k second)
 
+-- a new root has itself, and all other nodes keep their root
+module _ (s : State) (depth : ℕ → ℕ) (v : ℕ) (nested : IsNested s.graph.vertices s.blossoms) (st : IsSearchState s depth) (exposed : s.mate v ≡ None) (out : s.label v ≡ Out) where
+  abbrev pub grown : State
+  grown = with_labels s (put s.label v Outer)
+
+  abbrev pub said : ℕ → ℕ
+  said x = cond (eqb x v) v (root_of s x)
+
+  pub said_here : (x : ℕ) → x ≡ v → said x ≡ v
+  said_here x same = ap (λ t. cond t v (root_of s x)) (eq-eqb x v same)
+
+  pub said_else : (x : ℕ) → x ≢ v → said x ≡ root_of s x
+  said_else x other = ap (λ t. cond t v (root_of s x)) (ne_eqb x v other)
+
+  was_in : (x : ℕ) → x ≢ v → put s.label v Outer x ≢ Out → s.label x ≢ Out
+  was_in x other ne p = ne (put_other s.label v Outer x other ∙ p)
+
+  -- the way up doesn't speak of other labels
+  same_edge : (l : Label) (x : ℕ) → up_edge_by grown l x ≡ up_edge_by s l x
+  same_edge Outer x = refl
+  same_edge Inner x = refl
+  same_edge Out x = refl
+
+  edge_was : (x : ℕ) → x ≢ v → up_edge grown x ≡ up_edge s x
+  edge_was x other = same_edge (put s.label v Outer x) x ∙ ap (λ l. up_edge_by s l x) (put_other s.label v Outer x other)
+
+  edge_here : (x : ℕ) → x ≡ v → up_edge grown x ≡ None
+  edge_here x same = same_edge (put s.label v Outer x) x ∙ ap (λ l. up_edge_by s l x) (ap (put s.label v Outer) same ∙ put_here s.label v Outer) ∙ ap s.mate same ∙ exposed
+
+  -- no node stood under the one that is a root now
+  not_under : (a e b : ℕ) → IsOutermost s a → s.label a ≢ Out → up_edge s a ≡ Some e → Joins s.graph s.blossoms e a b → a ≢ b → b ≢ v
+  not_under a e b is in_it way j ne same = ⊎_elim
+      (λ r. some_not_none e (sym way ∙ ap (λ l. up_edge_by s l a) r.outer ∙ r.exposed))
+      (λ p. p.1.in_tree (ap s.label (sym p.1.up ∙ ap (λ o. far_end s o a) way ∙ other_node_joins s.graph s.blossoms e a b j ne ∙ same) ∙ out))
+      (up_or_root s depth nested st a is in_it)
+
+  pub said_trees : AreTrees grown said
+  said_trees = record {
+    root = λ a r. by_test (eqb a v)
+        (λ t. let same : a ≡ v = eqb-true a v t in said_here a same ∙ sym same)
+        (λ t.
+        let other : a ≢ v = eqb-false a v t in
+        said_else a other ∙ (roots_are_trees s depth nested st).root a (record { outermost = r.outermost; outer = sym (put_other s.label v Outer a other) ∙ r.outer; exposed = r.exposed }));
+    step = λ a e b is in_it b_is b_in way number j ne. by_test (eqb a v)
+        (λ t. some_not_none e (sym way ∙ edge_here a (eqb-true a v t)))
+        (λ t.
+        let other : a ≢ v = eqb-false a v t in
+        let was = was_in a other in_it in
+        let up : up_edge s a ≡ Some e = sym (edge_was a other) ∙ way in
+        let under : b ≢ v = not_under a e b is was up j ne in
+        said_else a other ∙ (roots_are_trees s depth nested st).step a e b is was b_is (was_in b under b_in) up number j ne ∙ sym (said_else b under));
+  }
+
+  pub grown_root : (x : ℕ) → IsOutermost s x → put s.label v Outer x ≢ Out → root_of grown x ≡ said x
+  grown_root x outer in_it = tree_root grown depth nested (planted s depth v exposed out st) said said_trees x outer in_it
+
 -- what its calls leave, at once
 pub whole : (s l a t : Search) → l ≡ record s { labels = l.labels } → a ≡ record l { standing = a.standing; seeds = a.seeds } → t ≡ record a { scanned = t.scanned } → t ≡ record s { labels = l.labels; standing = a.standing; seeds = a.seeds; scanned = t.scanned }
 whole s l a t one two three = three
@@ -138,44 +198,28 @@ module _ (s l a t : Search) (v : ℕ) (is : t ≡ record s { labels = l.labels; 
         let same : x ≡ v = eqb-true x v q in (
           w,
           ap (λ (f : ℕ → Option ℕ). f x) seeds ∙ ap (put (seed_at s.seeds.items) v (Some w)) same ∙ put_here (seed_at s.seeds.items) v (Some w),
-          record { vertex = vertex; root = within ∙ sym (root_now x outer ne ∙ said_here x same) },
+          record { vertex = vertex; root = within ∙ sym (root_now x outer ne ∙ said_here old depth v nested sound.state exposed.1 out x same) },
         ))
         (λ q.
         let other : x ≢ v = eqb-false x v q in
         let lab : label_at s.labels.items x ≢ Out = λ p. ne (ap (λ f. f x) labels ∙ put_other (label_at s.labels.items) v Outer x other ∙ p) in
         let r = h.trees x outer lab in (
           r.0,
-          ap (λ (f : ℕ → Option ℕ). f x) seeds ∙ put_other (seed_at s.seeds.items) v (Some w) x other ∙ r.1.0,
-          record { vertex = r.1.1.vertex; root = r.1.1.root ∙ sym (root_now x outer ne ∙ said_else x other) },
+          ap (λ (f : ℕ → Option ℕ). f x) seeds ∙ put_other (seed_at s.seeds.items) v (Some w) x other ∙ r.1,
+          record { vertex = r.2.vertex; root = r.2.root ∙ sym (root_now x outer ne ∙ said_else old depth v nested sound.state exposed.1 out x other) },
         ));
   })
     where
       old : State
       old = state_of s
 
-      new : State
-      new = with_labels old (label_at l.labels.items)
-
-      new_state : IsSearchState new sound.depth
-      new_state = subst (λ (f : ℕ → Label). IsSearchState (with_labels old f) sound.depth) (sym labels) (planted old sound.depth v exposed.1 out sound.state)
+      depth : ℕ → ℕ
+      depth = sound.depth
 
       nested : IsNested s.graph.vertices s.arena.blossoms
       nested = nested_of s sound.shape
 
-      said : ℕ → ℕ
-      said x = cond (eqb x v) v (root_of old x)
-
-      said_here : (x : ℕ) → x ≡ v → said x ≡ v
-      said_here x same = ap (λ t. cond t v (root_of old x)) (eq-eqb x v same)
-
-      said_else : (x : ℕ) → x ≢ v → said x ≡ root_of old x
-      said_else x other = ap (λ t. cond t v (root_of old x)) (ne_eqb x v other)
-
-      was : (x : ℕ) → x ≢ v → label_at l.labels.items x ≡ label_at s.labels.items x
-      was x other = ap (λ f. f x) labels ∙ put_other (label_at s.labels.items) v Outer x other
-
-      said_trees : AreTrees new said
-      said_trees = ?
-
-      root_now : (x : ℕ) → IsOutermost new x → label_at l.labels.items x ≢ Out → root_of new x ≡ said x
-      root_now x outer in_it = tree_root new sound.depth nested new_state said said_trees x outer in_it
+      root_now : (x : ℕ) → IsOutermost old x → label_at l.labels.items x ≢ Out → root_of (with_labels old (label_at l.labels.items)) x ≡ said old depth v nested sound.state exposed.1 out x
+      root_now x outer ne =
+          ap (λ f. root_of (with_labels old f) x) labels
+          ∙ grown_root old depth v nested sound.state exposed.1 out x outer (λ p. ne (ap (λ f. f x) labels ∙ p))

@@ -1,17 +1,17 @@
-use Rattle.std.proofs.Common.{◌≡◌, ◌∙◌, ℕ, ◌≤◌, true, List, [], ◌++◌, length, sym, ap, subst, arith}
+use Rattle.std.proofs.Common.{◌≡◌, ◌∙◌, ℕ, ◌≤◌, true, List, [], ◌++◌, length, sym, ap, subst, arith, Some}
 use Rattle.std.specs.Prelude.{All}
 use Rattle.graph_theory.specs.Graph.{Multigraph}
 use Rattle.graph_theory.specs.Parts.{holds}
 use Rattle.graph_theory.proofs.Members.{all_holds}
-use Rattle.blossom_arena.specs.Family.{is_vertex, is_node, members_of}
+use Rattle.blossom_arena.specs.Family.{is_vertex, is_node, members_of, outermost}
 use Rattle.blossom_arena.proofs.Nested.{outermost_parts}
-use Rattle.blossom_arena.proofs.Sets.{member_vertex}
+use Rattle.blossom_arena.proofs.Sets.{member_vertex, outermost_by_member}
 use Rattle.alt_forest.specs.declared.search.Search.{Search}
 use Rattle.alt_forest.specs.State.{State, IsSearchState}
 use Rattle.alt_forest.specs.Counts.{is_outside}
-use Rattle.alt_forest.specs.Searches.{IsSound, state_of}
+use Rattle.alt_forest.specs.Searches.{IsSound, state_of, put}
 use Rattle.alt_forest.specs.Entries.{IsQueuedBut, looks_left, ends_around}
-use Rattle.alt_forest.specs.Standing.{IsStanding, AreListed}
+use Rattle.alt_forest.specs.Standing.{IsStanding, AreListed, seed_at}
 use Rattle.alt_forest.proofs.Places.{nested_of, outer_range}
 use Rattle.alt_forest.proofs.Queues.{standing_with}
 use Rattle.alt_forest.proofs.Planted.{members_fit, whole, planted_state, planted_queued, planted_standing, root_inside, root_looks}
@@ -85,9 +85,14 @@ returns-clause-standing g c =
     let t : Search = c.scan.new.self in
     let graph : l.graph.vertices ≡ s.graph.vertices = ap (λ (x : Search). x.graph.vertices) c.make_root.ensures.rest in
     let listed : AreListed s.graph.vertices a.standing.items a.seeds.items = subst (λ (n : ℕ). AreListed n a.standing.items a.seeds.items) graph c.stand.ensures.listed in
-    let keeps : (x : ℕ) → holds s.standing.items x ≡ true → holds a.standing.items x ≡ true = λ x e. c.stand.ensures.keeps x (ap (λ (y : Search). holds y.standing.items x) c.make_root.ensures.rest ∙ e) in
+    let w : ℕ = c.vertex_within-seed.result in
+    let count : l.arena.vertex_count ≡ s.graph.vertices = ap (λ (x : Search). x.arena.vertex_count) c.make_root.ensures.rest ∙ c.requires.sound.shape.arena in
+    let vertex : is_vertex s.graph.vertices w ≡ true = ap (λ (n : ℕ). is_vertex n w) (sym count) ∙ c.vertex_within-seed.ensures.vertex in
+    let member : holds (members_of s.arena.blossoms c.args.v) w ≡ true = sym (ap (λ (x : Search). holds (members_of x.arena.blossoms c.args.v) w) c.make_root.ensures.rest) ∙ c.vertex_within-seed.ensures.member in
+    let within : outermost s.arena.blossoms w ≡ c.args.v = outermost_by_member s.graph.vertices s.arena.blossoms c.args.v w (nested_of s c.requires.sound.shape) c.requires.exposed.0 member in
+    let seeds : seed_at a.seeds.items ≡ put (seed_at s.seeds.items) c.args.v (Some w) = c.stand.ensures.seeds ∙ ap (λ (x : Search). put (seed_at x.seeds.items) c.args.v (Some w)) c.make_root.ensures.rest in
     subst IsStanding (sym c.enter_scanned.ensures.rest)
-    (standing_with t c.enter_scanned.new.self.queue (planted_standing s l a t c.args.v (whole s l a t c.make_root.ensures.rest c.stand.ensures.rest c.scan.ensures.rest) c.make_root.ensures.labels c.requires.sound c.requires.exposed c.requires.out listed c.stand.ensures.there keeps c.requires.standing))
+    (standing_with t c.enter_scanned.new.self.queue (planted_standing s l a t c.args.v (whole s l a t c.make_root.ensures.rest c.stand.ensures.rest c.scan.ensures.rest) c.make_root.ensures.labels c.requires.sound c.requires.exposed c.requires.out w vertex within listed seeds c.requires.standing))
 
 pub returns-clause-inside : goal.returns-clause-inside
 returns-clause-inside g c = λ w e.
