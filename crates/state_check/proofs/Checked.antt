@@ -12,7 +12,7 @@ use Rattle.blossom_arena.proofs.Nested.{names_new, older_name}
 use Rattle.blossom_arena.proofs.Older.{here, past}
 use Rattle.alt_forest.specs.declared.label.Label.{Label}
 use Rattle.alt_forest.specs.declared.label.Label.TheVariants.{Outer, Inner, Out}
-use Rattle.alt_forest.specs.State.{State, IsOutermost, IsTight, Joins, slack_of, HasRings, IsRing, IsMate, FitsLabel, IsSearchState}
+use Rattle.alt_forest.specs.State.{State, IsOutermost, IsTight, Joins, slack_of, HasRings, IsRing, IsMate, FitsLabel, ExposedAgree, IsSearchState}
 use Rattle.alt_forest.specs.Trees.{other_node, node_limit, far_end, up_edge_by, up_edge, up_of, path_within, path_of}
 use Rattle.state_check.specs.Checks.{RingHolds, MateHolds, FitsHere}
 use Rattle.alt_forest.proofs.Relabelled.{some_not_none}
@@ -74,6 +74,7 @@ pub record IsChecked (s : State) : Type 0 where
   pub slacks : (e : ℕ) → IsEdgeNumber s.graph e → pos 0 ≤ℤ slack_of s e
   pub duals : AllByRecursion (λ (b : Blossom). pos 0 ≤ℤ s.dual b.node) s.blossoms
   pub mates : (a : ℕ) → IsOutermost s a → MateHolds s a
+  pub parity : ExposedAgree s
   pub labels : (a : ℕ) → IsOutermost s a → FitsHere s a
   pub ends : (a : ℕ) → IsOutermost s a → way_length s a ≤ node_limit s.graph.vertices
 
@@ -127,6 +128,7 @@ checked s h =
       slacks = h.slacks;
       duals = h.duals;
       mates = λ a e is has. (other_node s.graph s.blossoms e a, h.mates a is e has);
+      parity = h.parity;
       labels = fits_label s h;
     }
 

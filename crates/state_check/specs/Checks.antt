@@ -1,13 +1,13 @@
 -- What `check_search` looks at, node by node and blossom by blossom. Only clauses of private calls cite this module.
-use Rattle.std.specs.Prelude.{◌≡◌, ◌⊎◌, ℕ, pos, true, Option, Some, None}
+use Rattle.std.specs.Prelude.{◌≡◌, ◌⊎◌, ℕ, ℤ, pos, Bool, true, if◌then◌else◌, Option, Some, None}
 use Rattle.std.specs.List.{AllByRecursion}
 use Rattle.graph_theory.specs.Graph.{IsEdgeNumber, edge_of}
 use Rattle.graph_theory.specs.Parts.{holds}
 use Rattle.blossom_arena.specs.declared.links.Link.{Link}
-use Rattle.blossom_arena.specs.Family.{members_of, ring_of, older_than}
+use Rattle.blossom_arena.specs.Family.{members_of, ring_of, older_than, outermost, is_vertex}
 use Rattle.alt_forest.specs.declared.label.Label.{Label}
 use Rattle.alt_forest.specs.declared.label.Label.TheVariants.{Outer, Inner, Out}
-use Rattle.alt_forest.specs.State.{State, Joins, slack_of, IsTight, IsRing, IsMate}
+use Rattle.alt_forest.specs.State.{State, Joins, slack_of, IsTight, IsRing, IsMate, cover, SameParity}
 use Rattle.alt_forest.specs.Trees.{other_node}
 
 -- the two nodes are these, in either order
@@ -64,3 +64,15 @@ pub record FitsHere (s : State) (a : ℕ) : Type 0 where
   pub outer : s.label a ≡ Outer → MateHas s a Inner
   pub inner : s.label a ≡ Inner → IsHung s a
   pub out : s.label a ≡ Out → MateHas s a Out
+
+-- the number is odd, or it is even
+abbrev pub HasParity : ℤ → Bool → Type 0
+HasParity x odd = SameParity x (if odd then pos 1 else pos 0)
+
+-- the cover of a vertex, if its node is exposed, is odd, or it is even
+abbrev pub CoverHas : State → Bool → ℕ → Type 0
+CoverHas s odd v = s.mate (outermost s.blossoms v) ≡ None → HasParity (cover s v) odd
+
+-- and so are those of all vertices
+abbrev pub CoversHave : State → Bool → Type 0
+CoversHave s odd = (v : ℕ) → is_vertex s.graph.vertices v ≡ true → CoverHas s odd v

@@ -4,6 +4,7 @@ ghost use Rattle.alt_forest.specs.Searches.{IsSearchGraph, HasRoom, HasShape, Is
 
 use crate::labels::labels_fit;
 use crate::mates::mates_hold;
+use crate::parity::exposed_agree;
 use crate::rings::rings_hold;
 use crate::slacks::slacks_hold;
 use crate::ways::ways_end;
@@ -64,6 +65,9 @@ pub fn check_search(search: &Search) -> bool
         return false;
     }
     if !mates_hold(search) {
+        return false;
+    }
+    if !exposed_agree(search) {
         return false;
     }
     if !labels_fit(search) {

@@ -7,6 +7,7 @@ mod check;
 mod edges;
 mod labels;
 mod mates;
+mod parity;
 mod rings;
 mod slacks;
 mod ways;

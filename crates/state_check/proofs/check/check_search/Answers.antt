@@ -45,6 +45,7 @@ returns c =
             slacks = c.slacks_hold.ensures.0 c.if-not-slacks_hold.false;
             duals = h.family.duals.blossoms;
             mates = c.mates_hold.ensures.0 c.if-not-mates_hold.false;
+            parity = c.exposed_agree.ensures.0 c.if-not-exposed_agree.false;
             labels = c.labels_fit.ensures.0 c.if-not-labels_fit.false;
             ends = c.ways_end.ensures.0 e;
           });
