@@ -1,5 +1,5 @@
 -- A change of the duals within the bounds keeps the state of a search.
-use Rattle.std.proofs.Common.{◌≡◌, ◌≢◌, ℕ, ℤ, pos, ◌+ℤ◌, ◌-ℤ◌, ◌≤ℤ◌, Bool, true, false, not, ◌&&◌, cond, List, [], ◌∷◌, Some, refl, sym, ap, ap₂, ◌∙◌, subst, arith, ⊎_elim, inl, inr}
+use Rattle.std.proofs.Common.{◌≡◌, ◌≢◌, ℕ, ℤ, pos, ◌+ℤ◌, ◌-ℤ◌, ◌≤ℤ◌, Bool, true, false, not, ◌&&◌, cond, List, [], ◌∷◌, Some, None, refl, sym, ap, ap₂, ◌∙◌, subst, arith, ⊎_elim, inl, inr}
 use Rattle.std.specs.List.{AllByRecursion}
 use Rattle.std.proofs.lemmas.Int.{ints}
 use Rattle.std.proofs.lemmas.Bool.{cases_eq, both_ways}
@@ -7,17 +7,18 @@ use Rattle.graph_theory.specs.Graph.{IsGraph, IsEdgeNumber, edge_of}
 use Rattle.graph_theory.specs.Parts.{holds}
 use Rattle.graph_theory.proofs.Edges.{edge_of_within}
 use Rattle.blossom_arena.specs.declared.links.Link.{Link}
-use Rattle.blossom_arena.specs.Family.{Blossom, IsNested, is_node, is_child, is_outermost, names_of}
+use Rattle.blossom_arena.specs.Family.{Blossom, IsNested, is_node, is_child, is_vertex, is_outermost, names_of, outermost}
 use Rattle.blossom_arena.specs.Slack.{duals_across}
 use Rattle.blossom_arena.proofs.Lists.{by_test, first_in, later_in}
 use Rattle.blossom_arena.proofs.Sets.{outermost_has}
 use Rattle.alt_forest.specs.declared.label.Label.{Label}
 use Rattle.alt_forest.specs.declared.label.Label.TheVariants.{Outer, Inner, Out}
-use Rattle.alt_forest.specs.State.{State, IsOutermost, node_u, node_v, Joins, slack_of, IsTight, IsMate, IsInner, IsSearchState}
-use Rattle.alt_forest.proofs.Relabelled.{outer_not_inner}
+use Rattle.alt_forest.specs.State.{State, IsOutermost, node_u, node_v, Joins, slack_of, IsTight, IsMate, IsInner, cover, held_by, SameParity, ExposedAgree, IsSearchState}
+use Rattle.alt_forest.specs.Counts.{IsPlanted}
+use Rattle.alt_forest.proofs.Relabelled.{outer_not_inner, some_not_none}
 use Rattle.alt_forest.proofs.Walk.{other_node_joins}
 use Rattle.dual_change.specs.Changes.{share, change, applied, IsWithin}
-use Rattle.dual_change.proofs.Across.{across-sum, FeelsOuter, feels_outer}
+use Rattle.dual_change.proofs.Across.{across-sum, FeelsOuter, feels_outer, held-sum, covered_outer}
 use Rattle.dual_change.proofs.Inside.{LiesWithin, rings_within}
 use Rattle.std.proofs.lemmas.Option.{same_Some}
 use Rattle.blossom_arena.proofs.Ends.{u_vertex, v_vertex}
@@ -56,6 +57,17 @@ module _ (s : State) (d : ℤ) (graph : IsGraph s.graph) (nested : IsNested s.gr
   loses e z f =
       let sum = across-sum s.dual (change s d) s.blossoms (edge_of s.graph e) in
       omega (arith, ints, sum, f)
+
+  -- what covers a vertex grows by the share of its node
+  cover_grows : (v : ℕ) → is_vertex s.graph.vertices v ≡ true → cover (applied s d) v ≡ cover s v +ℤ share d (s.label (outermost s.blossoms v))
+  cover_grows v iv =
+      let sum : held_by (λ a. s.dual a +ℤ change s d a) s.blossoms v ≡ held_by s.dual s.blossoms v +ℤ held_by (change s d) s.blossoms v = held-sum s.dual (change s d) s.blossoms v in
+      let own : change s d v +ℤ held_by (change s d) s.blossoms v ≡ change s d (outermost s.blossoms v) = covered_outer s.graph.vertices (change s d) s.blossoms v iv nested (change_child s d) in
+      let given : change s d (outermost s.blossoms v) ≡ share d (s.label (outermost s.blossoms v)) = change_outer s d (outermost s.blossoms v) (outermost_has s.graph.vertices s.blossoms v nested iv).0 in
+      plain (s.dual v) (change s d v) (held_by s.dual s.blossoms v) (held_by (change s d) s.blossoms v) (held_by (applied s d).dual s.blossoms v) (share d (s.label (outermost s.blossoms v))) sum (own ∙ given)
+    where
+      plain : (y z h k both more : ℤ) → both ≡ h +ℤ k → z +ℤ k ≡ more → (y +ℤ z) +ℤ both ≡ (y +ℤ h) +ℤ more
+      plain y z h k both more e f = omega (arith, ints)
 
   -- an edge within a node keeps its slack
   pub slack_within : (e : ℕ) → IsEdgeNumber s.graph e → node_u s.graph s.blossoms e ≡ node_v s.graph s.blossoms e → slack_of (applied s d) e ≡ slack_of s e
@@ -195,13 +207,30 @@ module _ (s : State) (d : ℤ) (graph : IsGraph s.graph) (nested : IsNested s.gr
       rises = i.rises;
     }
 
-    pub applied_state : IsWithin s d → IsSearchState (applied s d) depth
-    applied_state within = record {
+    -- the duals that cover vertices of exposed nodes keep one parity, since all of these nodes are outer
+    exposed_agree : IsPlanted s → ExposedAgree (applied s d)
+    exposed_agree planted v w iv iw ev ew =
+        let lv : s.label (outermost s.blossoms v) ≡ Outer = by_label v iv ev (s.label (outermost s.blossoms v)) refl in
+        let lw : s.label (outermost s.blossoms w) ≡ Outer = by_label w iw ew (s.label (outermost s.blossoms w)) refl in
+        let before : SameParity (cover s v) (cover s w) = st.parity v w iv iw ev ew in
+        (before.0, plain (cover s v) (cover s w) (cover (applied s d) v) (cover (applied s d) w) before.0 before.1 (cover_grows v iv ∙ ap (λ l. cover s v +ℤ share d l) lv) (cover_grows w iw ∙ ap (λ l. cover s w +ℤ share d l) lw))
+      where
+        plain : (x y x_new y_new half : ℤ) → x ≡ y +ℤ (half +ℤ half) → x_new ≡ x +ℤ d → y_new ≡ y +ℤ d → x_new ≡ y_new +ℤ (half +ℤ half)
+        plain x y x_new y_new half e f g = omega (arith, ints)
+
+        by_label : (u : ℕ) → is_vertex s.graph.vertices u ≡ true → s.mate (outermost s.blossoms u) ≡ None → (l : Label) → s.label (outermost s.blossoms u) ≡ l → s.label (outermost s.blossoms u) ≡ Outer
+        by_label u iu none Outer lab = lab
+        by_label u iu none Inner lab = let i = (st.labels (outermost s.blossoms u) (outermost_has s.graph.vertices s.blossoms u nested iu).0).inner lab in some_not_none i.child_edge (sym i.mate ∙ none)
+        by_label u iu none Out lab = absurd (planted (outermost s.blossoms u) ((outermost_has s.graph.vertices s.blossoms u nested iu).0, none) lab)
+
+    pub applied_state : IsPlanted s → IsWithin s d → IsSearchState (applied s d) depth
+    applied_state planted within = record {
       rings = st.rings;
       tight_rings = rings_stay s.blossoms (rings_within s.graph graph s.blossoms nested st.rings) st.tight_rings;
       slacks = slacks_stay within st.slacks;
       duals = duals_stay within st.duals;
       mates = λ a e is has. let m = st.mates a e is has in (m.0, mate_after a e m.0 is has m.1);
+      parity = exposed_agree planted;
       labels = λ a is. record {
         outer = λ lab e b has m. (st.labels a is).outer lab e b has (mate_before a e b is has m);
         inner = λ lab. inner_after a is lab ((st.labels a is).inner lab);

@@ -1,5 +1,5 @@
--- Where a search is stuck at a tree, each outer node is a component of what is left without the inner vertices, and
--- there are more of them than inner vertices.
+-- Where a forest is stuck, each outer node is a component of what is left without the inner vertices, and there are
+-- more of them than inner vertices.
 use Rattle.std.proofs.Common.{◌≡◌, ◌≢◌, ◌⊎◌, ℕ, ◌≤◌, ◌%◌, true, false, ◌&&◌, not, eqb, List, [], ◌∷◌, length, map, slice_index, refl, sym, ap, ◌∙◌, subst, arith, ⊎_elim, inl, inr}
 use Rattle.std.specs.List.{AllByRecursion}
 use Rattle.std.proofs.lemmas.Bool.{both_ways, cases_eq, eqb-true, eq-eqb, and_parts, or_cases}
@@ -20,13 +20,23 @@ use Rattle.alt_forest.specs.declared.label.Label.TheVariants.{Outer, Inner, Out}
 use Rattle.alt_forest.specs.State.{State, IsOutermost, IsSearchState}
 use Rattle.alt_forest.specs.Trees.{IsRoot, is_label}
 use Rattle.alt_forest.proofs.Parity.{one_class}
-use Rattle.dual_change.specs.Laws.{inner_vertices}
+use Rattle.dual_change.specs.Laws.{inner_vertices, StuckInnerAreVertices, StuckHasBarrier}
 use Rattle.alt_forest.proofs.Pairs.{is_inner, is_outer, nodes_labelled, in_labelled, of_labelled, new_labelled, inner_fewer}
 use Rattle.dual_change.proofs.Inside.{LiesWithin, rings_within}
-use Rattle.dual_change.proofs.Least.{HasNoBound}
+use Rattle.dual_change.proofs.Least.{HasNoBound, stuck_inner, stuck_none}
 use Rattle.dual_change.proofs.Reps.{rep_edge, rep_related}
 use Rattle.alt_forest.proofs.Ascending.{holds-picked, picked_ascends, new_from_ascending, holds-map, new-map}
 use Rattle.dual_change.proofs.Heads.{head_of, head_together, same_head, class_of, in_class, of_class, odd_heads, HeadsOdd, of_heads, counted}
+
+-- an inner node that is no blossom is a vertex
+no_blossom : (s : State) (a : ℕ) → IsOutermost s a → (holds (names_of s.blossoms) a ≡ true → ⊥) → is_vertex s.graph.vertices a ≡ true
+no_blossom s a is none = ⊎_elim
+    (λ v. v)
+    (λ name. absurd (none name))
+    (or_cases (is_vertex s.graph.vertices a) (holds (names_of s.blossoms) a) (outermost_parts s.graph.vertices s.blossoms a is).0)
+
+pub inner_vertex : StuckInnerAreVertices
+inner_vertex s depth a graph nested st stuck is lab = no_blossom s a is (λ name. stuck_inner s depth graph nested st stuck a name is lab)
 
 module _ (s : State) (depth : ℕ → ℕ) (graph : IsGraph s.graph) (nested : IsNested s.graph.vertices s.blossoms) where
   abbrev label_of : ℕ → Label
@@ -74,13 +84,6 @@ module _ (s : State) (depth : ℕ → ℕ) (graph : IsGraph s.graph) (nested : I
         graph s.blossoms nested st.rings (link_rings s.blossoms (rings_within s.graph graph s.blossoms nested st.rings))
 
   module _ (bound : HasNoBound s depth graph nested) where
-    -- an inner node is a vertex
-    pub inner_vertex : (a : ℕ) → IsOutermost s a → s.label a ≡ Inner → is_vertex s.graph.vertices a ≡ true
-    inner_vertex a is lab = ⊎_elim
-        (λ v. v)
-        (λ name. absurd (bound.inner a name is lab))
-        (or_cases (is_vertex s.graph.vertices a) (holds (names_of s.blossoms) a) (outermost_parts s.graph.vertices s.blossoms a is).0)
-
     -- no edge outside the removed set leaves an outer node
     abbrev Alike : ℕ → ℕ → Type 0
     Alike u v = (label_of u ≡ Outer) ⊎ (label_of v ≡ Outer) → outermost s.blossoms u ≡ outermost s.blossoms v
@@ -201,9 +204,12 @@ module _ (s : State) (depth : ℕ → ℕ) (graph : IsGraph s.graph) (nested : I
           let a : ℕ = outermost s.blossoms v in
           let has = outermost_has s.graph.vertices s.blossoms v nested p.0 in
           let lab : s.label a ≡ Inner = is_inner (s.label a) p.1 in
-          let alone : members_of s.blossoms a ≡ a ∷ [] = members_of_vertex s.graph.vertices s.blossoms a nested (inner_vertex a has.0 lab) in
+          let alone : members_of s.blossoms a ≡ a ∷ [] = members_of_vertex s.graph.vertices s.blossoms a nested (no_blossom s a has.0 (λ name. bound.inner a name has.0 lab)) in
           let same : a ≡ v = ⊎_elim (λ t. eqb-true a v t) (λ f. absurd (both_ways false refl f)) (or_cases (eqb a v) false (sym (ap (λ ms. holds ms v) alone) ∙ has.1)) in
           subst (λ x. holds (nodes_labelled s Inner) x ≡ true) same (of_labelled s nested Inner a has.0 p.1))
 
-      pub barrier : (root : ℕ) → IsRoot s root → IsBarrier s.graph removed
-      barrier root r = (length (odd_heads s.graph removed graph), counted s.graph removed graph, omega (arith, removed_few, inner_fewer s nested depth st root r, outer_few))
+      unbound_barrier : (root : ℕ) → IsRoot s root → IsBarrier s.graph removed
+      unbound_barrier root r = (length (odd_heads s.graph removed graph), counted s.graph removed graph, omega (arith, removed_few, inner_fewer s nested depth st root r, outer_few))
+
+pub barrier : StuckHasBarrier
+barrier s depth root graph nested st planted r stuck = unbound_barrier s depth graph nested (stuck_none s depth graph nested st planted stuck) st root r

@@ -10,11 +10,11 @@ use Rattle.alt_forest.specs.declared.search.Search.{Search}
 use Rattle.alt_forest.specs.State.{State, slack_of}
 use Rattle.alt_forest.specs.Searches.{IsSound, state_of}
 use Rattle.alt_forest.specs.Entries.{NeedsMoment, IsBlossomEntered, HasNoTree, IsQueued}
-use Rattle.alt_forest.specs.Standing.{IsStanding}
+use Rattle.alt_forest.specs.Standing.{IsSeed, IsStanding}
 use Rattle.alt_forest.proofs.Places.{nested_of}
 use Rattle.dual_change.specs.Changes.{applied}
 use Rattle.dual_change.proofs.UnderWay.{with_duals}
-use Rattle.dual_change.proofs.Least.{left_to_out, left_between, left_inner}
+use Rattle.dual_change.proofs.Least.{root_applied, left_to_out, left_between, left_inner}
 
 with_clock : (clock d x y : ℤ) → y ≡ x -ℤ d → clock +ℤ x ≡ (clock +ℤ d) +ℤ y
 with_clock clock d x y e = omega (arith, ints)
@@ -40,6 +40,10 @@ module _ (s : State) (depth : ℕ → ℕ) (graph : IsGraph s.graph) (nested : I
   pub blossom_later : (q : Moments) (b : ℕ) → IsBlossomEntered s clock q b → IsBlossomEntered (applied s d) (clock +ℤ d) q b
   blossom_later q b h is lab = h is lab ∙ moment _ _ (with_clock clock d (s.dual b) ((applied s d).dual b) (left_inner s depth graph nested d b is lab))
 
+-- a change moves no seed
+seed_later : (s : State) (d : ℤ) (a v : ℕ) → IsSeed s a v → IsSeed (applied s d) a v
+seed_later s d a v h = record { vertex = h.vertex; root = h.root ∙ sym (root_applied s d a) }
+
 -- the search after a change, whose clock has gone on
 module _ (s t : Search) (d x : ℤ) (rest : t ≡ with_duals s t.arena.duals) (is : x ≡ s.clock +ℤ d) where
   pub queued_later : state_of t ≡ applied (state_of s) d → IsSound s → IsQueued s → (HasNoTree (state_of s) → ⊥) → pos 0 ≤ℤ d → (s.clock +ℤ d) ≤ℤ NUMBER_LIMIT → IsQueued (record t { clock = x })
@@ -59,5 +63,12 @@ module _ (s t : Search) (d x : ℤ) (rest : t ≡ with_duals s t.arena.duals) (i
         empty = λ no item. absurd (tree no);
       })
 
-  pub standing_later : IsStanding s → IsStanding (record t { clock = x })
-  standing_later h = subst (λ (y : Search). IsStanding (record y { clock = x })) (sym rest) (record { listed = h.listed; trees = h.trees })
+  pub standing_later : state_of t ≡ applied (state_of s) d → IsStanding s → IsStanding (record t { clock = x })
+  standing_later state h =
+      let now : state_of (with_duals s t.arena.duals) ≡ applied (state_of s) d = sym (ap state_of rest) ∙ state in
+      subst (λ (y : Search). IsStanding (record y { clock = x })) (sym rest) (record {
+        listed = h.listed;
+        trees = λ a outer in_it.
+            let seed = h.trees a outer in_it in
+            (seed.0, seed.1, subst (λ y. IsSeed y a seed.0) (sym now) (seed_later (state_of s) d a seed.0 seed.2));
+      })

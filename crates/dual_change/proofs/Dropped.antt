@@ -8,6 +8,7 @@ use Rattle.edge_queue.specs.Moments.{Moments, moment_of, with_moment, IsItem}
 use Rattle.alt_forest.specs.declared.search.Search.{Search}
 use Rattle.alt_forest.specs.Searches.{state_of}
 use Rattle.alt_forest.specs.Entries.{NeedsMoment, IsEntered, IsQueued, entry_count}
+use Rattle.alt_forest.specs.Standing.{IsStanding}
 use Rattle.alt_forest.proofs.Queues.{edge_set, edge_other, blossom_set, blossom_other, count_removed}
 use Rattle.alt_forest.proofs.EntrySteps.{entered_same}
 use Rattle.dual_change.specs.Candidates.{IsStale, entries_left, item_looks}
@@ -56,3 +57,7 @@ one_dropped q (Blossom b) m has =
 pub looks_dropped : (q : Moments) (item : Item) (m : ℤ) → moment_of q item ≡ Some m → entry_count (with_moment q item None) + item_looks item ≤ entry_count q
 looks_dropped q (Edge e) m has = omega (arith, count_removed q e m has)
 looks_dropped q (Blossom b) m has = omega arith
+
+-- what stands in trees is not in the queue
+pub still_standing : (s t : Search) → t ≡ record s { queue = t.queue } → IsStanding s → IsStanding t
+still_standing s t rest h = subst IsStanding (sym rest) (record { listed = h.listed; trees = h.trees })

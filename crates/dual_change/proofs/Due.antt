@@ -12,6 +12,14 @@ due x y e = cc
 pub later : (from to clock moment x : ℤ) → from ≡ clock → to ≡ moment → moment ≡ clock +ℤ x → pos 0 ≤ℤ x → from ≤ℤ to
 later from to clock moment x a b at low = omega (arith, ints)
 
+-- and comes with this change
+pub change_is : (from to clock moment x given found : ℤ) → from ≡ clock → to ≡ moment → moment ≡ clock +ℤ x → ((d : ℤ) → to ≡ from +ℤ d → found ≡ d) → given ≡ found → given ≡ x
+change_is from to clock moment x given found a b at ahead back = back ∙ ahead x (b ∙ at ∙ ap (λ (y : ℤ). y +ℤ x) (sym a))
+
+-- the same for its moment
+pub moment_is : (clock moment x given : ℤ) → moment ≡ clock +ℤ x → given ≡ x → moment ≡ clock +ℤ given
+moment_is clock moment x given at is = at ∙ ap (λ (y : ℤ). clock +ℤ y) (sym is)
+
 pub half_low : (x half : ℤ) → x ≡ half +ℤ half → pos 0 ≤ℤ x → pos 0 ≤ℤ half
 half_low x half twice low = omega (arith, ints)
 

@@ -1,6 +1,7 @@
 -- A change within the bounds is at most each change that makes an event possible; and what it is to be stuck.
-use Rattle.std.proofs.Common.{◌≡◌, ◌≢◌, ℕ, zero, suc, ◌+◌, ℤ, pos, ◌+ℤ◌, ◌-ℤ◌, ◌≤ℤ◌, true, eqb, cond, [], ◌∷◌, Option, Some, None, refl, sym, ap, ◌∙◌, subst, arith, ⊎_elim}
+use Rattle.std.proofs.Common.{◌≡◌, ◌≢◌, ℕ, zero, suc, ◌+◌, ℤ, pos, ◌+ℤ◌, ◌-ℤ◌, ◌≤ℤ◌, true, eqb, cond, [], ◌∷◌, Option, Some, None, refl, sym, ap, ◌∙◌, subst, arith, ⊎_elim, inl}
 use Rattle.std.proofs.lemmas.Int.{ints}
+use Rattle.std.proofs.lemmas.Bool.{cases_eq}
 use Rattle.graph_theory.specs.Graph.{IsGraph, IsEdgeNumber, edge_of}
 use Rattle.graph_theory.specs.Parts.{holds}
 use Rattle.blossom_arena.specs.Family.{IsNested, names_of, outermost}
@@ -11,16 +12,33 @@ use Rattle.alt_forest.specs.State.{State, IsOutermost, Joins, slack_of, IsSearch
 use Rattle.alt_forest.specs.Trees.{far_end, up_edge_by, up_of, node_limit, path_within, last_of, root_of, cover, SameParity}
 use Rattle.alt_forest.proofs.Relabelled.{outer_not_out}
 use Rattle.alt_forest.proofs.Parity.{even_slack}
-use Rattle.alt_forest.proofs.Roots.{ways_lead, trees_have_parity}
+use Rattle.alt_forest.proofs.Roots.{forests_have_parity}
 use Rattle.dual_change.specs.declared.event.Event.{Event}
 use Rattle.dual_change.specs.declared.event.Event.TheVariants.{Grow, Shrink, Augment, Expand}
 use Rattle.dual_change.specs.declared.event.Next.{Next}
 use Rattle.dual_change.specs.declared.event.Next.TheVariants.{Grow as NextGrow, Shrink as NextShrink, Augment as NextAugment, Expand as NextExpand, Stuck}
-use Rattle.alt_forest.specs.Counts.{HasOneTree}
+use Rattle.alt_forest.specs.Counts.{IsPlanted}
 use Rattle.dual_change.specs.Changes.{share, applied, IsWithin, IsPossible, IsLeast, IsStuck, IsNext, IsNextWithin}
+use Rattle.dual_change.specs.Laws.{OuterSlackIsEven}
 use Rattle.dual_change.specs.Candidates.{change_of, IsAtMost, Leads, IsCandidate, MindsEdge, MindsBlossom}
 use Rattle.dual_change.proofs.Applied.{change_outer, slack_labels, u_outer, v_outer}
 use Rattle.blossom_arena.proofs.Ends.{u_vertex, v_vertex}
+
+-- the slack between outer nodes is even, in one tree as in two
+pub outer_slack_even : OuterSlackIsEven
+outer_slack_even s depth e a b graph nested st is j la lb =
+    let u : ℕ = (edge_of s.graph e).u in
+    let v : ℕ = (edge_of s.graph e).v in
+    let labels : (s.label (outermost s.blossoms u) ≡ Outer) × (s.label (outermost s.blossoms v) ≡ Outer) = ⊎_elim
+    (λ p. (ap s.label p.0 ∙ la, ap s.label p.1 ∙ lb))
+    (λ p. (ap s.label p.0 ∙ lb, ap s.label p.1 ∙ la)) j in
+    let same : SameParity (cover s u) (cover s v) = forests_have_parity s depth u v graph nested st (u_vertex s.graph e graph.ends is) (v_vertex s.graph e graph.ends is)
+    (inl (λ q. outer_not_out (sym labels.0 ∙ q))) (inl (λ q. outer_not_out (sym labels.1 ∙ q))) in
+    let half = even_slack s e same in
+    (half.0, plain (slack_of s e) half.0 half.1)
+  where
+    plain : (x k : ℤ) → x ≡ pos 0 +ℤ (k +ℤ k) → x ≡ k +ℤ k
+    plain x k e = omega (arith, ints)
 
 -- a change moves no tree
 path_applied : (s : State) (d : ℤ) (k a : ℕ) → path_within k (applied s d) a ≡ path_within k s a
@@ -62,10 +80,16 @@ module _ (s : State) (depth : ℕ → ℕ) (graph : IsGraph s.graph) (nested : I
   by_half : (d c x y : ℤ) → y ≡ pos 0 → y ≡ x -ℤ (c +ℤ c) → (d +ℤ d) ≤ℤ x → d ≤ℤ c
   by_half d c x y t e r = omega (arith, ints)
 
+  -- nodes of two trees are two
+  two_nodes : (c : ℤ) (a b : ℕ) → root_of (applied s c) a ≢ root_of (applied s c) b → a ≢ b
+  two_nodes c a b apart same = apart (ap (root_of (applied s c)) same)
+
   -- a change within the bounds comes no later than any event
   no_later : (d : ℤ) → IsWithin s d → (c : ℤ) (event : Event) → IsPossible (applied s c) event → d ≤ℤ c
   no_later d w c (Grow e) p = by_slack d c (slack_of s e) (slack_of (applied s c) e) p.tight.tight (left_to_out c e p.near p.far p.tight.edge p.joins p.near_outer p.far_out) (w.to_out e p.near p.far p.tight.edge p.joins p.near_outer p.far_out)
-  no_later d w c (Augment e) p = by_slack d c (slack_of s e) (slack_of (applied s c) e) p.tight.tight (left_to_out c e p.near p.far p.tight.edge p.joins p.near_outer p.far_out) (w.to_out e p.near p.far p.tight.edge p.joins p.near_outer p.far_out)
+  no_later d w c (Augment e) p =
+      let ne : p.one ≢ p.other = two_nodes c p.one p.other p.two_trees in
+      by_half d c (slack_of s e) (slack_of (applied s c) e) p.tight.tight (left_between c e p.one p.other p.tight.edge p.joins ne p.one_outer p.other_outer) (w.between e p.one p.other p.tight.edge p.joins ne p.one_outer p.other_outer)
   no_later d w c (Shrink e) p = by_half d c (slack_of s e) (slack_of (applied s c) e) p.tight.tight (left_between c e p.one p.other p.tight.edge p.joins p.different p.one_outer p.other_outer) (w.between e p.one p.other p.tight.edge p.joins p.different p.one_outer p.other_outer)
   no_later d w c (Expand b) p = by_slack d c (s.dual b) ((applied s c).dual b) p.empty (left_inner c b p.outermost p.inner) (w.inner b p.blossom p.outermost p.inner)
 
@@ -80,7 +104,7 @@ module _ (s : State) (depth : ℕ → ℕ) (graph : IsGraph s.graph) (nested : I
 
   pub none_stuck : HasNoBound → IsStuck s
   none_stuck h c (Grow e) low p = h.to_out e p.near p.far p.tight.edge p.joins p.near_outer p.far_out
-  none_stuck h c (Augment e) low p = h.to_out e p.near p.far p.tight.edge p.joins p.near_outer p.far_out
+  none_stuck h c (Augment e) low p = h.between e p.one p.other p.tight.edge p.joins (two_nodes c p.one p.other p.two_trees) p.one_outer p.other_outer
   none_stuck h c (Shrink e) low p = h.between e p.one p.other p.tight.edge p.joins p.different p.one_outer p.other_outer
   none_stuck h c (Expand b) low p = h.inner b p.blossom p.outermost p.inner
 
@@ -101,54 +125,22 @@ module _ (s : State) (depth : ℕ → ℕ) (graph : IsGraph s.graph) (nested : I
   leads_expand b name is lab low = record { low = low; possible = record { blossom = name; outermost = is; inner = lab; empty = left_inner (s.dual b) b is lab ∙ none_left (s.dual b) } }
 
   module _ (st : IsSearchState s depth) where
-    pub leads_grow : (e a b f : ℕ) → IsEdgeNumber s.graph e → Joins s.graph s.blossoms e a b → s.label a ≡ Outer → s.label b ≡ Out → s.mate b ≡ Some f → Leads s (slack_of s e) (Grow e)
-    leads_grow e a b f is j la lb has =
-        let both = joined_outer e a b is j in
-        record {
-          low = st.slacks e is;
-          possible = record { near = a; far = b; tight = record { edge = is; tight = left_to_out (slack_of s e) e a b is j la lb ∙ none_left (slack_of s e) }; joins = j; near_is = both.0; far_is = both.1; near_outer = la; far_out = lb; mate_edge = f; has_mate = has };
-        }
-
-    pub leads_augment : (e a b : ℕ) → IsEdgeNumber s.graph e → Joins s.graph s.blossoms e a b → s.label a ≡ Outer → s.label b ≡ Out → s.mate b ≡ None → Leads s (slack_of s e) (Augment e)
-    leads_augment e a b is j la lb none =
-        let both = joined_outer e a b is j in
-        record {
-          low = st.slacks e is;
-          possible = record { near = a; far = b; tight = record { edge = is; tight = left_to_out (slack_of s e) e a b is j la lb ∙ none_left (slack_of s e) }; joins = j; near_is = both.0; far_is = both.1; near_outer = la; far_out = lb; exposed = none };
-        }
-
-    -- an edge between two outer nodes of one tree has even slack
-    pub even_by_root : (e a b : ℕ) → IsEdgeNumber s.graph e → Joins s.graph s.blossoms e a b → s.label a ≡ Outer → s.label b ≡ Outer → root_of s a ≡ root_of s b → (half : ℤ) × (slack_of s e ≡ half +ℤ half)
-    even_by_root e a b is j la lb root =
-        let u : ℕ = (edge_of s.graph e).u in
-        let v : ℕ = (edge_of s.graph e).v in
-        let labels : (s.label (outermost s.blossoms u) ≡ Outer) × (s.label (outermost s.blossoms v) ≡ Outer) = ⊎_elim
-        (λ p. (ap s.label p.0 ∙ la, ap s.label p.1 ∙ lb))
-        (λ p. (ap s.label p.0 ∙ lb, ap s.label p.1 ∙ la)) j in
-        let roots : root_of s (outermost s.blossoms u) ≡ root_of s (outermost s.blossoms v) = ⊎_elim
-        (λ p. ap (root_of s) p.0 ∙ root ∙ sym (ap (root_of s) p.1))
-        (λ p. ap (root_of s) p.0 ∙ sym root ∙ sym (ap (root_of s) p.1)) j in
-        let same : SameParity (cover s u) (cover s v) = trees_have_parity s depth u v graph nested st (u_vertex s.graph e graph.ends is) (v_vertex s.graph e graph.ends is)
-        (λ q. outer_not_out (sym labels.0 ∙ q)) (λ q. outer_not_out (sym labels.1 ∙ q)) roots in
-        let half = even_slack s e same in
-        (half.0, plain (slack_of s e) half.0 half.1)
+    -- an edge to a node labelled out, which has a mate in a forest that has every exposed node as a root
+    pub leads_grow : IsPlanted s → (e a b : ℕ) → IsEdgeNumber s.graph e → Joins s.graph s.blossoms e a b → s.label a ≡ Outer → s.label b ≡ Out → Leads s (slack_of s e) (Grow e)
+    leads_grow planted e a b is j la lb = by_mate (s.mate b) refl
       where
-        plain : (x k : ℤ) → x ≡ pos 0 +ℤ (k +ℤ k) → x ≡ k +ℤ k
-        plain x k e = omega (arith, ints)
+        by_mate : (o : Option ℕ) → s.mate b ≡ o → Leads s (slack_of s e) (Grow e)
+        by_mate None none = absurd (planted b ((joined_outer e a b is j).1, none) lb)
+        by_mate (Some f) has =
+            let both = joined_outer e a b is j in
+            record {
+              low = st.slacks e is;
+              possible = record { near = a; far = b; tight = record { edge = is; tight = left_to_out (slack_of s e) e a b is j la lb ∙ none_left (slack_of s e) }; joins = j; near_is = both.0; far_is = both.1; near_outer = la; far_out = lb; mate_edge = f; has_mate = has };
+            }
 
-  module _ (st : IsSearchState s depth) (one : HasOneTree s) where
-    -- two outer nodes are in one tree
-    one_root : (a b : ℕ) → IsOutermost s a → IsOutermost s b → s.label a ≡ Outer → s.label b ≡ Outer → root_of s a ≡ root_of s b
-    one_root a b a_is b_is la lb =
-        one (root_of s a) (root_of s b)
-        (ways_lead s depth a nested st a_is (λ q. outer_not_out (sym la ∙ q))).root
-        (ways_lead s depth b nested st b_is (λ q. outer_not_out (sym lb ∙ q))).root
-
-    pub slack_even : (e a b : ℕ) → IsEdgeNumber s.graph e → Joins s.graph s.blossoms e a b → s.label a ≡ Outer → s.label b ≡ Outer → (half : ℤ) × (slack_of s e ≡ half +ℤ half)
-    slack_even e a b is j la lb = let both = joined_outer e a b is j in even_by_root st e a b is j la lb (one_root a b both.0 both.1 la lb)
-
-    pub leads_shrink : (e a b : ℕ) (half : ℤ) → IsEdgeNumber s.graph e → Joins s.graph s.blossoms e a b → a ≢ b → s.label a ≡ Outer → s.label b ≡ Outer → slack_of s e ≡ half +ℤ half → Leads s half (Shrink e)
-    leads_shrink e a b half is j ne la lb twice =
+    -- a change by half of its slack makes an edge between two outer nodes tight: within a tree a blossom can be shrunk then
+    pub leads_shrink : (e a b : ℕ) (half : ℤ) → IsEdgeNumber s.graph e → Joins s.graph s.blossoms e a b → a ≢ b → s.label a ≡ Outer → s.label b ≡ Outer → slack_of s e ≡ half +ℤ half → root_of s a ≡ root_of s b → Leads s half (Shrink e)
+    leads_shrink e a b half is j ne la lb twice one_tree =
         let both = joined_outer e a b is j in
         let low : pos 0 ≤ℤ slack_of s e = st.slacks e is in
         record {
@@ -163,26 +155,48 @@ module _ (s : State) (depth : ℕ → ℕ) (graph : IsGraph s.graph) (nested : I
             other_is = both.1;
             one_outer = la;
             other_outer = lb;
-            one_tree = root_applied s half a ∙ one_root a b both.0 both.1 la lb ∙ sym (root_applied s half b);
+            one_tree = root_applied s half a ∙ one_tree ∙ sym (root_applied s half b);
           };
         }
 
-    -- where nothing can come there is no bound
-    pub stuck_none : IsStuck s → HasNoBound
-    stuck_none stuck = record {
-      to_out = λ e a b is j la lb. by_mate e a b is j la lb (s.mate b) refl;
+    -- and between two trees the matching can be augmented
+    pub leads_augment : (e a b : ℕ) (half : ℤ) → IsEdgeNumber s.graph e → Joins s.graph s.blossoms e a b → a ≢ b → s.label a ≡ Outer → s.label b ≡ Outer → slack_of s e ≡ half +ℤ half → root_of s a ≢ root_of s b → Leads s half (Augment e)
+    leads_augment e a b half is j ne la lb twice two_trees =
+        let both = joined_outer e a b is j in
+        let low : pos 0 ≤ℤ slack_of s e = st.slacks e is in
+        record {
+          low = omega (arith, ints, low, twice);
+          possible = record {
+            one = a;
+            other = b;
+            tight = record { edge = is; tight = left_between half e a b is j ne la lb ∙ ap (λ x. x -ℤ (half +ℤ half)) twice ∙ none_left (half +ℤ half) };
+            joins = j;
+            one_is = both.0;
+            other_is = both.1;
+            one_outer = la;
+            other_outer = lb;
+            two_trees = λ q. two_trees (sym (root_applied s half a) ∙ q ∙ root_applied s half b);
+          };
+        }
+
+    -- where nothing can come no blossom is inner
+    pub stuck_inner : IsStuck s → (b : ℕ) → holds (names_of s.blossoms) b ≡ true → IsOutermost s b → s.label b ≡ Inner → ⊥
+    stuck_inner stuck b name is lab =
+        let l = leads_expand b name is lab (low_at s.dual s.blossoms b st.duals name) in
+        stuck (s.dual b) (Expand b) l.low l.possible
+
+    -- nor is there any bound, in a forest that has every exposed node as a root
+    pub stuck_none : IsPlanted s → IsStuck s → HasNoBound
+    stuck_none planted stuck = record {
+      to_out = λ e a b is j la lb. let l = leads_grow planted e a b is j la lb in stuck (slack_of s e) (Grow e) l.low l.possible;
       between = λ e a b is j ne la lb.
-          let half = slack_even e a b is j la lb in
-          let l = leads_shrink e a b half.0 is j ne la lb half.1 in
-          stuck half.0 (Shrink e) l.low l.possible;
-      inner = λ b name is lab.
-          let l = leads_expand b name is lab (low_at s.dual s.blossoms b st.duals name) in
-          stuck (s.dual b) (Expand b) l.low l.possible;
+          let half = outer_slack_even s depth e a b graph nested st is j la lb in
+          ⊎_elim
+          (λ one. let l = leads_shrink e a b half.0 is j ne la lb half.1 one in stuck half.0 (Shrink e) l.low l.possible)
+          (λ two. let l = leads_augment e a b half.0 is j ne la lb half.1 two in stuck half.0 (Augment e) l.low l.possible)
+          (cases_eq (root_of s a) (root_of s b));
+      inner = stuck_inner stuck;
     }
-      where
-        by_mate : (e a b : ℕ) → IsEdgeNumber s.graph e → Joins s.graph s.blossoms e a b → s.label a ≡ Outer → s.label b ≡ Out → (o : Option ℕ) → s.mate b ≡ o → ⊥
-        by_mate e a b is j la lb None none = let l = leads_augment st e a b is j la lb none in stuck (slack_of s e) (Augment e) l.low l.possible
-        by_mate e a b is j la lb (Some f) has = let l = leads_grow st e a b f is j la lb has in stuck (slack_of s e) (Grow e) l.low l.possible
 
     -- what comes no later than all edges and all blossoms let it is next
     pub record MindsAll (next : Next) : Type 0 where
@@ -194,7 +208,7 @@ module _ (s : State) (depth : ℕ → ℕ) (graph : IsGraph s.graph) (nested : I
       low = low;
       to_out = λ e a b e_is j la lb. subst (λ o. IsAtMost o (slack_of s e)) is ((all.edges e e_is).to_out a b j la lb);
       between = λ e a b e_is j ne la lb.
-          let half = slack_even e a b e_is j la lb in
+          let half = outer_slack_even s depth e a b graph nested st e_is j la lb in
           let by : d ≤ℤ half.0 = subst (λ o. IsAtMost o half.0) is ((all.edges e e_is).between a b half.0 j ne la lb half.1) in
           let twice : slack_of s e ≡ half.0 +ℤ half.0 = half.1 in
           twofold d half.0 (slack_of s e) by twice;
@@ -218,6 +232,6 @@ module _ (s : State) (depth : ℕ → ℕ) (graph : IsGraph s.graph) (nested : I
     next_is (NextExpand b d) c all = is_least d (Expand b) (within_by (NextExpand b d) d refl c.low all) c.possible
     next_is Stuck c all = none_stuck (record {
       to_out = λ e a b e_is j la lb. (all.edges e e_is).to_out a b j la lb;
-      between = λ e a b e_is j ne la lb. let half = slack_even e a b e_is j la lb in (all.edges e e_is).between a b half.0 j ne la lb half.1;
+      between = λ e a b e_is j ne la lb. let half = outer_slack_even s depth e a b graph nested st e_is j la lb in (all.edges e e_is).between a b half.0 j ne la lb half.1;
       inner = λ b name b_is lab. all.blossoms b name b_is lab;
     })

@@ -10,6 +10,7 @@ pub mod Dropped
 pub mod Clock
 pub mod Due
 pub mod Ends
+pub mod EdgeDue
 pub mod Reps
 pub mod Heads
 pub mod Barrier

@@ -1,12 +1,13 @@
 -- A list of different nodes that is gone over place by place.
-use Rattle.std.proofs.Common.{◌≡◌, ℕ, zero, suc, ◌+◌, ◌<◌, false, ◌||◌, eqb, List, [], ◌∷◌, length, get_or, take, refl, sym, ap, ◌∙◌, arith}
+use Rattle.std.proofs.Common.{◌≡◌, ℕ, zero, suc, ◌+◌, ◌<◌, true, false, ◌||◌, eqb, List, [], ◌∷◌, length, get_or, take, refl, sym, ap, ◌∙◌, arith}
 use Rattle.std.proofs.lemmas.Bool.{eqb-true, or_from, both_ways}
 use Rattle.std.proofs.lemmas.List.{get_or_read}
 use Rattle.std.specs.List.{IsDistinct}
-use Rattle.std.specs.Prelude.{nat_eq}
+use Rattle.std.specs.Prelude.{nat_eq, Option, Some, is_some}
 use Rattle.graph_theory.specs.Parts.{holds}
 use Rattle.graph_theory.proofs.Members.{holds_at, holds-take}
 use Rattle.blossom_arena.proofs.Lists.{by_test, AllNew, new_from_distinct}
+use Rattle.alt_forest.specs.Standing.{AreListed, seed_at}
 
 new_take : (xs : List ℕ) (i : ℕ) → AllNew xs → i < length xs → holds (take i xs) (get_or xs i 0) ≡ false
 new_take [] i h low = absurd (omega (arith, low))
@@ -27,3 +28,7 @@ next_new xs ys i x different same low is =
 pub next_comes : (xs ys : List ℕ) (i x : ℕ) → ys ≡ xs → i < length xs → x ≡ get_or ys i x → (w : ℕ) → holds (take (i + 1) xs) w ≡ (holds (take i xs) w || eqb x w)
 next_comes xs ys i x same low is w =
     holds-take xs i w low ∙ ap (λ y. holds (take i xs) w || eqb y w) (sym (get_or_read ys i x (omega (arith, low, ap length same)) is 0 ∙ ap (λ (zs : List ℕ). get_or zs i 0) same))
+
+-- what has a seed is listed
+pub seeded_listed : (n : ℕ) (nodes : List ℕ) (seeds : List (Option ℕ)) (a v : ℕ) → AreListed n nodes seeds → seed_at seeds a ≡ Some v → holds nodes a ≡ true
+seeded_listed n nodes seeds a v h has = sym (h.seeded a) ∙ ap (λ (o : Option ℕ). is_some o) has

@@ -5,7 +5,7 @@ use Rattle.blossom_arena.proofs.Lists.{by_test}
 use Rattle.alt_forest.specs.declared.label.Label.{Label}
 use Rattle.alt_forest.specs.declared.label.Label.TheVariants.{Outer, Inner, Out}
 use Rattle.alt_forest.specs.State.{State}
-use Rattle.dual_change.specs.Changes.{share, change, applied}
+use Rattle.dual_change.specs.Changes.{share, applied}
 use Rattle.dual_change.proofs.Applied.{change_none, change_outer, plain_sum}
 
 nothing : (l : Label) → share (pos 0) l ≡ pos 0

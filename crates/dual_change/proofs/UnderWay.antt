@@ -10,6 +10,7 @@ use Rattle.alt_forest.specs.declared.label.Label.TheVariants.{Out}
 use Rattle.alt_forest.specs.declared.search.Search.{Search}
 use Rattle.alt_forest.specs.State.{State, IsOutermost, IsSearchState}
 use Rattle.alt_forest.specs.Searches.{HasShape, IsSound, state_of, put}
+use Rattle.alt_forest.specs.Counts.{IsPlanted}
 use Rattle.alt_forest.proofs.Places.{nested_of}
 use Rattle.dual_change.specs.Changes.{change, applied, IsWithin, StaysInRange}
 use Rattle.dual_change.proofs.Applied.{dual_stays, applied_state}
@@ -68,9 +69,9 @@ module _ (s : Search) (d : ℤ) (done : List ℕ) (t : Search) (u : UnderWay s d
       with_dual : State → (ℕ → ℤ) → State
       with_dual x y = record x { dual = y }
 
-  pub under_sound : (h : IsSound s) → IsWithin (state_of s) d → IsSound t
-  under_sound h within = record {
+  pub under_sound : (h : IsSound s) → IsPlanted (state_of s) → IsWithin (state_of s) d → IsSound t
+  under_sound h planted within = record {
     shape = u.shape;
     depth = h.depth;
-    state = subst (λ x. IsSearchState x h.depth) (sym under_end) (applied_state (state_of s) d h.shape.graph.graph (nested_of s h.shape) h.depth h.state within);
+    state = subst (λ x. IsSearchState x h.depth) (sym under_end) (applied_state (state_of s) d h.shape.graph.graph (nested_of s h.shape) h.depth h.state planted within);
   }

@@ -1,7 +1,7 @@
 //! Changes of the duals in a search for a perfect matching: which comes next, and what it does.
 //! It stands on `mb_base`, `graph_theory`, `weighted_graph`, `blossom_arena` and `alt_forest`. It promises
 //! that what it finds comes with the least change, that a change keeps the state of a search, and that
-//! a tree that is stuck shows a barrier.
+//! a forest that is stuck shows a barrier.
 #![tactic(auto)]
 
 mod event;

@@ -35,4 +35,5 @@ returns-clause-standing g c =
     let start : to_z w64 (of_z w64 s.clock) ≡ s.clock = search rules in
     let d : to_z w64 (of_z w64 c.args.d) ≡ c.args.d = search rules in
     let back : to_z w64 (of_z w64 c.later-clock.result) ≡ c.later-clock.result = search rules in
-    standing_later s t c.args.d (to_z w64 (of_z w64 c.later-clock.result)) c.raise_trees.ensures.rest (back ∙ c.later-clock.ensures ∙ ap₂ ◌+ℤ◌ start d) c.requires.standing
+    let state : state_of t ≡ applied (state_of s) c.args.d = c.raise_trees.ensures.state ∙ ap (applied (state_of s)) d in
+    standing_later s t c.args.d (to_z w64 (of_z w64 c.later-clock.result)) c.raise_trees.ensures.rest (back ∙ c.later-clock.ensures ∙ ap₂ ◌+ℤ◌ start d) state c.requires.standing

@@ -7,7 +7,7 @@ use Rattle.alt_forest.specs.declared.search.Search.{Search}
 use Rattle.alt_forest.specs.State.{IsOutermost}
 use Rattle.alt_forest.specs.Searches.{state_of}
 use Rattle.dual_change.specs.Changes.{applied, IsWithin, StaysInRange}
-use Rattle.dual_change.proofs.Listed.{next_new, next_comes}
+use Rattle.dual_change.proofs.Listed.{next_new, next_comes, seeded_listed}
 use Rattle.dual_change.proofs.UnderWay.{under_start, next_in_range, next_not_below, under_next, under_end, under_sound}
 use Rattle.dual_change.proofs.raise.raise_listed.Goals as goal
 
@@ -56,7 +56,9 @@ returns-clause-state c =
     let s : Search = c.args.search.now in
     let d : to_z w64 (of_z w64 c.args.d) ≡ c.args.d = search rules in
     let whole : take c.loop-place.place s.standing.items ≡ s.standing.items = take_all c.loop-place.place s.standing.items (omega (arith, c.loop-place-test.false, c.len-place-end.ensures)) in
-    let all : (a : ℕ) → IsOutermost (state_of s) a → (state_of s).label a ≢ Out → holds (take c.loop-place.place s.standing.items) a ≡ true = λ a is ne. ap (λ (xs : List ℕ). holds xs a) whole ∙ c.requires.standing.trees a is ne in
+    let all : (a : ℕ) → IsOutermost (state_of s) a → (state_of s).label a ≢ Out → holds (take c.loop-place.place s.standing.items) a ≡ true = λ a is ne.
+    let seed = c.requires.standing.trees a is ne in
+    ap (λ (xs : List ℕ). holds xs a) whole ∙ seeded_listed s.graph.vertices s.standing.items s.seeds.items a seed.0 c.requires.standing.listed seed.1 in
     subst (λ x. state_of c.loop-place.search ≡ applied (state_of s) x) d
     (under_end s (to_z w64 (of_z w64 c.args.d)) (take c.loop-place.place s.standing.items) c.loop-place.search c.loop-place.invariant all)
 
@@ -65,6 +67,8 @@ returns-clause-sound c =
     let s : Search = c.args.search.now in
     let d : to_z w64 (of_z w64 c.args.d) ≡ c.args.d = search rules in
     let whole : take c.loop-place.place s.standing.items ≡ s.standing.items = take_all c.loop-place.place s.standing.items (omega (arith, c.loop-place-test.false, c.len-place-end.ensures)) in
-    let all : (a : ℕ) → IsOutermost (state_of s) a → (state_of s).label a ≢ Out → holds (take c.loop-place.place s.standing.items) a ≡ true = λ a is ne. ap (λ (xs : List ℕ). holds xs a) whole ∙ c.requires.standing.trees a is ne in
-    under_sound s (to_z w64 (of_z w64 c.args.d)) (take c.loop-place.place s.standing.items) c.loop-place.search c.loop-place.invariant all c.requires.sound
+    let all : (a : ℕ) → IsOutermost (state_of s) a → (state_of s).label a ≢ Out → holds (take c.loop-place.place s.standing.items) a ≡ true = λ a is ne.
+    let seed = c.requires.standing.trees a is ne in
+    ap (λ (xs : List ℕ). holds xs a) whole ∙ seeded_listed s.graph.vertices s.standing.items s.seeds.items a seed.0 c.requires.standing.listed seed.1 in
+    under_sound s (to_z w64 (of_z w64 c.args.d)) (take c.loop-place.place s.standing.items) c.loop-place.search c.loop-place.invariant all c.requires.sound c.requires.planted
     (subst (IsWithin (state_of s)) (sym d) c.requires.within)
