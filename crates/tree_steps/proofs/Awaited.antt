@@ -1,5 +1,5 @@
 -- A search after a step, before the edges at some vertices are looked at.
-use Rattle.std.proofs.Common.{◌≡◌, ◌≢◌, ℕ, ◌+◌, ℤ, pos, ◌≤ℤ◌, true, false, List, All, Some, None, sym, ap, ◌∙◌, subst}
+use Rattle.std.proofs.Common.{◌≡◌, ◌≢◌, ℕ, ◌+◌, ℤ, pos, ◌≤ℤ◌, true, false, List, All, Option, Some, None, sym, ap, ◌∙◌, subst}
 use Rattle.graph_theory.specs.declared.limits.TheConstants.{NUMBER_LIMIT}
 use Rattle.graph_theory.specs.Graph.{Multigraph, IsEdgeNumber, edge_of}
 use Rattle.graph_theory.specs.Parts.{holds}
@@ -12,7 +12,7 @@ use Rattle.alt_forest.specs.declared.search.Search.{Search}
 use Rattle.alt_forest.specs.State.{State, IsOutermost}
 use Rattle.alt_forest.specs.Entries.{IsEntered, IsBlossomEntered, IsQueued, IsQueuedBut, HasNoTree, touches_any, entered_among, entry_count}
 use Rattle.alt_forest.specs.Searches.{state_of}
-use Rattle.alt_forest.specs.Standing.{AreListed, IsStanding}
+use Rattle.alt_forest.specs.Standing.{AreListed, IsSeed, IsStanding, seed_at}
 use Rattle.alt_forest.proofs.Queues.{edge_other, count_removed}
 
 -- the moments of all other edges and of the blossoms are what they have to be
@@ -34,12 +34,18 @@ queued_but f k t vs q state clock graph edges blossoms tree = record {
   tree = λ none. tree (subst HasNoTree state none);
 }
 
--- the nodes in trees are listed
+-- a vertex of the root of its tree is kept for a node
+abbrev pub HasSeed : List (Option ℕ) → State → ℕ → Type 0
+HasSeed seeds t a = (v : ℕ) × (seed_at seeds a ≡ Some v) × IsSeed t a v
+
+-- the nodes in trees are listed, with vertices of their roots
 pub standing_after : (f k : Search) (t : State) → state_of k ≡ t → k.graph ≡ f.graph → AreListed f.graph.vertices k.standing.items k.seeds.items
-    → ((a : ℕ) → IsOutermost t a → t.label a ≢ Out → holds k.standing.items a ≡ true) → IsStanding k
+    → ((a : ℕ) → IsOutermost t a → t.label a ≢ Out → HasSeed k.seeds.items t a) → IsStanding k
 standing_after f k t state graph listed trees = record {
   listed = subst (λ (g : Multigraph). AreListed g.vertices k.standing.items k.seeds.items) (sym graph) listed;
-  trees = λ a is labelled. trees a (subst (λ (s : State). IsOutermost s a) state is) (λ out. labelled (ap (λ (s : State). s.label a) state ∙ out));
+  trees = λ a is labelled.
+      subst (λ (s : State). HasSeed k.seeds.items s a) (sym state)
+      (trees a (subst (λ (s : State). IsOutermost s a) state is) (λ out. labelled (ap (λ (s : State). s.label a) state ∙ out)));
 }
 
 -- a test of each of a list's numbers

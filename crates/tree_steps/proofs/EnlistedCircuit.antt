@@ -1,5 +1,5 @@
 -- A node and the first nodes of a circuit are listed, one after another.
-use Rattle.std.proofs.Common.{◌≡◌, ◌≢◌, ◌⊎◌, ℕ, suc, ◌+◌, ◌<◌, ◌≤◌, true, false, ◌||◌, eqb, List, [], ◌∷◌, ◌++◌, length, take, drop, drop-cons, get_or, refl, sym, ap, ◌∙◌, subst, ⊎_elim, inl, inr}
+use Rattle.std.proofs.Common.{◌≡◌, ◌≢◌, ◌⊎◌, ℕ, suc, ◌+◌, ◌<◌, ◌≤◌, true, false, ◌||◌, eqb, List, [], ◌∷◌, ◌++◌, length, take, drop, drop-cons, get_or, Some, refl, sym, ap, ◌∙◌, subst, ⊎_elim, inl, inr}
 use Rattle.std.proofs.lemmas.List.{take_more, take_all, take-append-drop}
 use Rattle.std.proofs.lemmas.Bool.{cases_eq, eq-eqb, eqb-true, or_right, or_parts, or_cases, both_ways}
 use Rattle.graph_theory.specs.Parts.{holds}
@@ -13,30 +13,30 @@ use Rattle.alt_forest.specs.declared.label.Label.TheVariants.{Out}
 use Rattle.alt_forest.specs.declared.search.Search.{Search}
 use Rattle.alt_forest.specs.Entries.{IsBlossomEntered}
 use Rattle.alt_forest.specs.Searches.{IsSound, state_of, label_at}
-use Rattle.alt_forest.specs.Standing.{AreListed}
+use Rattle.alt_forest.specs.Standing.{AreListed, seed_at}
 
 -- the base, or one of the first so many nodes of the circuit
 abbrev pub IsAmong : List Link → ℕ → ℕ → ℕ → Type 0
 IsAmong ring base count a = (a ≡ base) ⊎ (in_ring (take count ring) a ≡ true)
 
 -- what has become of the search f once these are listed
-pub record AreEnlisted (f k : Search) (base count : ℕ) : Type 0 where
+pub record AreEnlisted (f k : Search) (base seed count : ℕ) : Type 0 where
   pub rest : k ≡ record f { queue = k.queue; standing = k.standing; seeds = k.seeds }
   pub sound : IsSound k
   pub listed : AreListed f.graph.vertices k.standing.items k.seeds.items
-  pub there : (a : ℕ) → IsAmong f.circuit.items base count a → label_at f.labels.items a ≢ Out → holds k.standing.items a ≡ true
-  pub keeps : (a : ℕ) → holds f.standing.items a ≡ true → holds k.standing.items a ≡ true
+  pub there : (a : ℕ) → IsAmong f.circuit.items base count a → label_at f.labels.items a ≢ Out → seed_at k.seeds.items a ≡ Some seed
+  pub keeps : (a : ℕ) → a ≢ base → in_ring (take count f.circuit.items) a ≡ false → seed_at k.seeds.items a ≡ seed_at f.seeds.items a
   pub entered : (a : ℕ) → IsAmong f.circuit.items base count a → holds (names_of f.arena.blossoms) a ≡ true → IsBlossomEntered (state_of f) f.clock k.queue a
   pub others : (a : ℕ) → a ≢ base → in_ring (take count f.circuit.items) a ≡ false → moment_of k.queue (OfBlossom a) ≡ moment_of f.queue (OfBlossom a)
   pub edges : k.queue.edges ≡ f.queue.edges
 
 -- what listing one node makes of a search
-pub record IsEnlisted (k t : Search) (node : ℕ) : Type 0 where
+pub record IsEnlisted (k t : Search) (node seed : ℕ) : Type 0 where
   pub rest : t ≡ record k { queue = t.queue; standing = t.standing; seeds = t.seeds }
   pub sound : IsSound t
   pub listed : AreListed k.graph.vertices t.standing.items t.seeds.items
-  pub there : label_at k.labels.items node ≢ Out → holds t.standing.items node ≡ true
-  pub keeps : (a : ℕ) → holds k.standing.items a ≡ true → holds t.standing.items a ≡ true
+  pub there : label_at k.labels.items node ≢ Out → seed_at t.seeds.items node ≡ Some seed
+  pub keeps : (a : ℕ) → a ≢ node → seed_at t.seeds.items a ≡ seed_at k.seeds.items a
   pub entered : holds (names_of k.arena.blossoms) node ≡ true → IsBlossomEntered (state_of k) k.clock t.queue node
   pub others : (b : ℕ) → b ≢ node → moment_of t.queue (OfBlossom b) ≡ moment_of k.queue (OfBlossom b)
   pub edges : t.queue.edges ≡ k.queue.edges
@@ -45,14 +45,14 @@ pub record IsEnlisted (k t : Search) (node : ℕ) : Type 0 where
 none_first : (ring : List Link) (base a : ℕ) → IsAmong ring base 0 a → a ≡ base
 none_first ring base a among = ⊎_elim (λ at. at) (λ r. absurd (both_ways false refl r)) among
 
-pub enlisted_base : (f k : Search) (base : ℕ) → IsEnlisted f k base → AreEnlisted f k base 0
-enlisted_base f k base h = record {
+pub enlisted_base : (f k : Search) (base seed : ℕ) → IsEnlisted f k base seed → AreEnlisted f k base seed 0
+enlisted_base f k base seed h = record {
   rest = h.rest;
   sound = h.sound;
   listed = h.listed;
   there = λ a among labelled. let at = none_first f.circuit.items base a among in
-      ap (holds k.standing.items) at ∙ h.there (λ out. labelled (ap (label_at f.labels.items) at ∙ out));
-  keeps = h.keeps;
+      ap (seed_at k.seeds.items) at ∙ h.there (λ out. labelled (ap (label_at f.labels.items) at ∙ out));
+  keeps = λ a ne off. h.keeps a ne;
   entered = λ a among name. let at = none_first f.circuit.items base a among in
       subst (IsBlossomEntered (state_of f) f.clock k.queue) (sym at) (h.entered (ap (holds (names_of f.arena.blossoms)) (sym at) ∙ name));
   others = λ a ne off. h.others a ne;
@@ -60,7 +60,7 @@ enlisted_base f k base h = record {
 }
 
 -- one node more
-module _ (f k t : Search) (base count : ℕ) (l : Link) (h : AreEnlisted f k base count) (b : count < length f.circuit.items) (is : get_or f.circuit.items count l ≡ l) (e : IsEnlisted k t l.node) where
+module _ (f k t : Search) (base seed count : ℕ) (l : Link) (h : AreEnlisted f k base seed count) (b : count < length f.circuit.items) (is : get_or f.circuit.items count l ≡ l) (e : IsEnlisted k t l.node seed) where
   ring_more : (a : ℕ) → in_ring (take (count + 1) f.circuit.items) a ≡ (in_ring (take count f.circuit.items) a || (eqb l.node a || false))
   ring_more a =
       ap (λ ls. in_ring ls a) (take_more f.circuit.items count l b ∙ ap (λ x. take count f.circuit.items ++ x ∷ []) is)
@@ -73,6 +73,12 @@ module _ (f k t : Search) (base count : ℕ) (l : Link) (h : AreEnlisted f k bas
       (or_cases (in_ring (take count f.circuit.items) a) (eqb l.node a || false) (sym (ring_more a) ∙ r)))
       among
 
+  -- what is none of these is not the last one
+  off_parts : (a : ℕ) → in_ring (take (count + 1) f.circuit.items) a ≡ false → (in_ring (take count f.circuit.items) a ≡ false) × (a ≢ l.node)
+  off_parts a off =
+      let parts = or_parts (in_ring (take count f.circuit.items) a) (eqb l.node a || false) (sym (ring_more a) ∙ off) in
+      (parts.0, λ at. both_ways (eqb l.node a) (or_parts (eqb l.node a) false parts.1).0 (eq-eqb l.node a (sym at)))
+
   -- the search that is read is the one before in all but the queue and the list
   labels : k.labels ≡ f.labels
   labels = ap (λ (x : Search). x.labels) h.rest
@@ -80,24 +86,22 @@ module _ (f k t : Search) (base count : ℕ) (l : Link) (h : AreEnlisted f k bas
   now : (a : ℕ) → IsBlossomEntered (state_of k) k.clock t.queue a → IsBlossomEntered (state_of f) f.clock t.queue a
   now a = subst (λ (x : Search). IsBlossomEntered (state_of x) x.clock t.queue a) h.rest
 
-  pub enlisted_more : AreEnlisted f t base (count + 1)
+  pub enlisted_more : AreEnlisted f t base seed (count + 1)
   enlisted_more = record {
     rest = e.rest ∙ ap (λ (x : Search). let y : Search = record x { queue = t.queue; standing = t.standing; seeds = t.seeds } in y) h.rest;
     sound = e.sound;
     listed = subst (λ (x : Search). AreListed x.graph.vertices t.standing.items t.seeds.items) h.rest e.listed;
     there = λ a among labelled. ⊎_elim
-        (λ at. ap (holds t.standing.items) at ∙ e.there (λ out. labelled (ap (label_at f.labels.items) at ∙ ap (λ v. label_at v.items l.node) (sym labels) ∙ out)))
-        (λ ne. e.keeps a (h.there a (among_before a among ne) labelled))
+        (λ at. ap (seed_at t.seeds.items) at ∙ e.there (λ out. labelled (ap (label_at f.labels.items) at ∙ ap (λ v. label_at v.items l.node) (sym labels) ∙ out)))
+        (λ ne. e.keeps a ne ∙ h.there a (among_before a among ne) labelled)
         (cases_eq a l.node);
-    keeps = λ a listed. e.keeps a (h.keeps a listed);
+    keeps = λ a ne off. let parts = off_parts a off in e.keeps a parts.1 ∙ h.keeps a ne parts.0;
     entered = λ a among name. ⊎_elim
         (λ at. subst (IsBlossomEntered (state_of f) f.clock t.queue) (sym at)
         (now l.node (e.entered (ap (λ (x : Search). holds (names_of x.arena.blossoms) l.node) h.rest ∙ ap (holds (names_of f.arena.blossoms)) (sym at) ∙ name))))
         (λ ne is inner. e.others a ne ∙ h.entered a (among_before a among ne) name is inner)
         (cases_eq a l.node);
-    others = λ a ne off.
-        let parts = or_parts (in_ring (take count f.circuit.items) a) (eqb l.node a || false) (sym (ring_more a) ∙ off) in
-        e.others a (λ at. both_ways (eqb l.node a) (or_parts (eqb l.node a) false parts.1).0 (eq-eqb l.node a (sym at))) ∙ h.others a ne parts.0;
+    others = λ a ne off. let parts = off_parts a off in e.others a parts.1 ∙ h.others a ne parts.0;
     edges = e.edges ∙ h.edges;
   }
 

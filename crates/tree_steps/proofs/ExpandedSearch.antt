@@ -16,11 +16,12 @@ use Rattle.alt_forest.specs.Trees.{node_limit}
 use Rattle.alt_forest.specs.Entries.{IsBlossomEntered, IsQueued, IsQueuedBut}
 use Rattle.alt_forest.specs.Events.{CanExpand}
 use Rattle.alt_forest.specs.Searches.{IsSound, state_of, label_at}
-use Rattle.alt_forest.specs.Standing.{AreListed, IsStanding}
+use Rattle.alt_forest.specs.Standing.{AreListed, IsSeed, IsStanding, seed_at}
 use Rattle.alt_forest.proofs.Places.{nested_of}
 use Rattle.alt_forest.proofs.Queues.{node_item, blossom_other}
-use Rattle.tree_steps.specs.Expanded.{IsExpanded}
+use Rattle.tree_steps.specs.Expanded.{IsExpanded, AreRootsOpened}
 use Rattle.tree_steps.proofs.Awaited.{queued_but, standing_after, each_vertex}
+use Rattle.tree_steps.proofs.ExpandedRoots.{from_on, from_off, opened_seed}
 use Rattle.tree_steps.proofs.QueuedExpand.{expanded_child, expanded_entered, expanded_blossom, expanded_in_tree, expanded_tree, not_gone}
 
 -- f is the search before, f1 where the blossom's vertices are noted, f2 where it is open, f3 where its circuit is listed, and
@@ -59,6 +60,12 @@ module _ (f f1 f2 f3 k : Search) (h : IsSound f) (h3 : IsSound f3) (b base : ℕ
 
   base_ring : in_ring (ring_of f.arena.blossoms b) base ≡ true
   base_ring = ap (λ (xs : List Blossom). in_ring (ring_of xs b) base) (sym same_blossoms) ∙ base_on
+
+  off_base : (a : ℕ) → in_ring (ring_of f.arena.blossoms b) a ≡ false → a ≢ base
+  off_base a r at = both_ways (in_ring (ring_of f.arena.blossoms b) a) r (ap (in_ring (ring_of f.arena.blossoms b)) at ∙ base_ring)
+
+  off_ring : (a : ℕ) → in_ring (ring_of f.arena.blossoms b) a ≡ false → in_ring f2.circuit.items a ≡ false
+  off_ring a r = false_from_ne_true (in_ring f2.circuit.items a) (λ on. both_ways (in_ring (ring_of f.arena.blossoms b) a) r (on_ring a on))
 
   -- the nodes of the circuit are outermost
   pub base_outer : IsOutermost t base
@@ -106,8 +113,7 @@ module _ (f f1 f2 f3 k : Search) (h : IsSound f) (h3 : IsSound f3) (b base : ℕ
       off_circuit : (a : ℕ) → in_ring (ring_of f.arena.blossoms b) a ≡ false → a ≢ b → moment_of k.queue (OfBlossom a) ≡ moment_of f.queue (OfBlossom a)
       off_circuit a r ne =
           without_b a ne
-          ∙ others3 a (λ at. both_ways (in_ring (ring_of f.arena.blossoms b) a) r (ap (in_ring (ring_of f.arena.blossoms b)) at ∙ base_ring))
-          (false_from_ne_true (in_ring f2.circuit.items a) (λ on. both_ways (in_ring (ring_of f.arena.blossoms b) a) r (on_ring a on)))
+          ∙ others3 a (off_base a r) (off_ring a r)
           ∙ ap (λ (q : Moments). moment_of q (OfBlossom a)) queue_first
 
       pub expanded_queued : IsQueuedBut k k.scanned.items
@@ -120,20 +126,32 @@ module _ (f f1 f2 f3 k : Search) (h : IsSound f) (h3 : IsSound f3) (b base : ℕ
           (λ r. expanded_blossom s t h.depth b h.shape.graph.graph (nested_of f h.shape) h.state can expanded_is f.clock f.queue k.queue a queued.blossoms name r (off_circuit a r)))
           (expanded_tree s t h.depth b h.shape.graph.graph (nested_of f h.shape) h.state can expanded_is))
 
-  -- the nodes of the circuit that came into the tree are listed
-  pub expanded_standing : IsStanding f → AreListed f2.graph.vertices f3.standing.items f3.seeds.items
-      → ((a : ℕ) → holds f2.standing.items a ≡ true → holds f3.standing.items a ≡ true)
-      → ((a : ℕ) → (a ≡ base) ⊎ (in_ring f2.circuit.items a ≡ true) → label_at f2.labels.items a ≢ Out → holds f3.standing.items a ≡ true) → IsStanding k
-  expanded_standing standing listed keeps there =
+  -- the nodes of the circuit that came into the tree are listed, with a vertex of its root
+  pub expanded_standing : (seed : ℕ) → IsSeed (state_of f) b seed → AreRootsOpened (state_of f1) (state_of f2) b → IsStanding f → AreListed f2.graph.vertices f3.standing.items f3.seeds.items
+      → ((a : ℕ) → a ≢ base → in_ring f2.circuit.items a ≡ false → seed_at f3.seeds.items a ≡ seed_at f2.seeds.items a)
+      → ((a : ℕ) → (a ≡ base) ⊎ (in_ring f2.circuit.items a ≡ true) → label_at f2.labels.items a ≢ Out → seed_at f3.seeds.items a ≡ Some seed) → IsStanding k
+  expanded_standing seed is_seed roots1 standing listed keeps there =
       let graph : f2.graph ≡ f.graph = cc in
       let list : k.standing ≡ f3.standing = cc in
-      let flags : k.seeds ≡ f3.seeds = cc in
-      let first : f2.standing ≡ f.standing = cc in
+      let seeds : k.seeds ≡ f3.seeds = cc in
+      let first : f2.seeds ≡ f.seeds = cc in
+      let roots : AreRootsOpened s t b = subst (λ (x : State). AreRootsOpened x t b) (ap state_of r1) roots1 in
+      let read : (a : ℕ) → seed_at k.seeds.items a ≡ seed_at f3.seeds.items a = λ a. ap (λ v. seed_at v.items a) seeds in
       standing_after f k t expanded_same graph_same
       (subst (λ (g : Multigraph). AreListed g.vertices k.standing.items k.seeds.items) graph
-      (subst (λ v. AreListed f2.graph.vertices v.items k.seeds.items) (sym list) (subst (λ v. AreListed f2.graph.vertices f3.standing.items v.items) (sym flags) listed)))
-      (λ a outer labelled. ap (λ v. holds v.items a) list ∙ by_test (in_ring (ring_of f.arena.blossoms b) a)
-      (λ r. there a (all a (ap (λ (xs : List Blossom). in_ring (ring_of xs b) a) same_blossoms ∙ r)) labelled)
+      (subst (λ v. AreListed f2.graph.vertices v.items k.seeds.items) (sym list) (subst (λ v. AreListed f2.graph.vertices f3.standing.items v.items) (sym seeds) listed)))
+      (λ a outer labelled. by_test (in_ring (ring_of f.arena.blossoms b) a)
+      (λ r. (
+        seed,
+        read a ∙ there a (all a (ap (λ (xs : List Blossom). in_ring (ring_of xs b) a) same_blossoms ∙ r)) labelled,
+        opened_seed s t h.depth b h.shape.graph.graph (nested_of f h.shape) h.state can expanded_is roots a seed outer labelled
+            (subst (λ x. IsSeed s x seed) (sym (from_on s t h.depth b h.shape.graph.graph (nested_of f h.shape) h.state can expanded_is a r)) is_seed),
+      ))
       (λ r.
       let was = expanded_in_tree s t h.depth b h.shape.graph.graph (nested_of f h.shape) h.state can expanded_is a outer labelled r in
-      keeps a (ap (λ v. holds v.items a) first ∙ standing.trees a was.0 was.1)))
+      let old = standing.trees a was.0 was.1 in (
+        old.0,
+        read a ∙ keeps a (off_base a r) (off_ring a r) ∙ ap (λ v. seed_at v.items a) first ∙ old.1,
+        opened_seed s t h.depth b h.shape.graph.graph (nested_of f h.shape) h.state can expanded_is roots a old.0 outer labelled
+            (subst (λ x. IsSeed s x old.0) (sym (from_off s t h.depth b h.shape.graph.graph (nested_of f h.shape) h.state can expanded_is a r)) old.2),
+      )))

@@ -1,25 +1,32 @@
 -- An expand keeps the state of a search.
-use Rattle.std.proofs.Common.{◌≡◌, ◌≢◌, ◌⊎◌, ℕ, ◌+◌, ◌*◌, ◌<◌, ◌≤◌, pos, ◌-ℤ◌, ◌≤ℤ◌, Bool, true, false, ◌||◌, eqb, cond, List, [], ◌∷◌, ◌++◌, length, Option, Some, refl, sym, ap, ◌∙◌, subst, arith, ⊎_elim}
+use Rattle.std.proofs.Common.{◌≡◌, ◌≢◌, ◌⊎◌, ℕ, ◌+◌, ◌*◌, ◌<◌, ◌≤◌, pos, ◌+ℤ◌, ◌-ℤ◌, ◌≤ℤ◌, Bool, true, false, ◌||◌, eqb, cond, List, [], ◌∷◌, ◌++◌, length, Option, Some, None, refl, sym, ap, ◌∙◌, subst, arith, ⊎_elim, inl, inr}
 use Rattle.std.specs.List.{AllByRecursion}
 use Rattle.std.proofs.lemmas.List.{length-append}
 use Rattle.std.proofs.lemmas.Bool.{eq-eqb, ne_eqb, eqb-true, eqb-false, or_parts, or_left, or_right, or_cases, both_ways, false_from_ne_true}
 use Rattle.graph_theory.specs.Graph.{IsGraph, IsEdgeNumber, edge_of}
 use Rattle.graph_theory.specs.Parts.{holds}
 use Rattle.blossom_arena.specs.declared.links.Link.{Link}
-use Rattle.blossom_arena.specs.Family.{Blossom, IsNested, is_node, is_child, in_ring, names_of, nodes_of, without, ring_of, older_than}
+use Rattle.blossom_arena.specs.Family.{Blossom, IsNested, is_vertex, is_node, is_child, in_ring, outermost, names_of, nodes_of, without, ring_of, older_than}
 use Rattle.blossom_arena.proofs.Lists.{AllNew, by_test}
-use Rattle.blossom_arena.proofs.Nested.{outermost_parts, name_range}
+use Rattle.blossom_arena.proofs.Nested.{outermost_parts, name_range, vertex_range}
+use Rattle.blossom_arena.proofs.Older.{holder, end_member}
+use Rattle.blossom_arena.proofs.Sets.{outermost_has}
 use Rattle.blossom_arena.proofs.Taken.{outermost_stays, each_without}
 use Rattle.alt_forest.specs.declared.label.Label.{Label}
 use Rattle.alt_forest.specs.declared.label.Label.TheVariants.{Outer, Inner, Out}
-use Rattle.alt_forest.specs.State.{State, IsOutermost, Joins, doubled, slack_of, IsTight, IsMate, IsInner, IsSearchState, next_node, IsChainTo}
+use Rattle.alt_forest.specs.State.{State, IsOutermost, Joins, doubled, slack_of, IsTight, IsMate, IsInner, IsSearchState, cover, next_node, node_u, node_v, IsChainTo}
+use Rattle.alt_forest.specs.Trees.{up_edge, up_edge_by}
 use Rattle.alt_forest.specs.Searches.{put}
-use Rattle.alt_forest.proofs.Relabelled.{put_here, put_other, outer_not_inner, outer_not_out, inner_not_out}
+use Rattle.alt_forest.proofs.Relabelled.{put_here, put_other, outer_not_inner, outer_not_out, inner_not_out, some_not_none}
+use Rattle.alt_forest.proofs.Parity.{parity_refl}
 use Rattle.tree_steps.specs.Expanded.{opened, mated, labelled_out, labels_up, labels_down, parents_up, parents_down, end_of}
 use Rattle.tree_steps.proofs.Gap.{FitsBut, FitBut, fits_all}
 use Rattle.tree_steps.proofs.Grown.{rehung}
 use Rattle.alt_forest.proofs.Mates.{joins_unique, joins_turned, mate_turned, mate_unique, partner_unique}
-use Rattle.tree_steps.proofs.Opened.{across_without, joins_opened, joins_elsewhere, outer_opened, gone, rings_without}
+use Rattle.tree_steps.proofs.Opened.{across_without, outermost_elsewhere, outermost_opened, outermost_by_ring, joins_opened, joins_elsewhere, outer_opened, gone, rings_without}
+use Rattle.tree_steps.proofs.Covers.{WasExposed, agree_after, held_without}
+use Rattle.blossom_arena.proofs.Ends.{u_vertex, v_vertex}
+use Rattle.tree_steps.proofs.Hung.{IsHungBy, up_hung, down_hung}
 use Rattle.tree_steps.proofs.Climbed.{IsOpenAt, Keeps, fit_scaled, room_between}
 use Rattle.tree_steps.proofs.Ladders.{IsLadder, climb_up, climb_down}
 use Rattle.alt_forest.specs.Circuits.{ArePaired}
@@ -329,6 +336,92 @@ module _ (s : State) (depth : ℕ → ℕ) (a base edge : ℕ) (rest : List Link
   pub parent_now : IsTight t says.edge
   parent_now = record { edge = says.is_edge; tight = slack_now says.edge ∙ says.tight }
 
+  -- an edge within the blossom, or the one by which it hung
+  abbrev IsWithin : ℕ → Type 0
+  IsWithin f = (node_u s.graph bs f ≡ a) × (node_v s.graph bs f ≡ a)
+
+  abbrev MayHang : ℕ → Type 0
+  MayHang f = IsWithin f ⊎ (says.edge ≡ f)
+
+  end_within : (v x : ℕ) → is_vertex s.graph.vertices v ≡ true → in_ring (ring_of bs a) x ≡ true → outermost (older_than bs a) v ≡ x → outermost bs v ≡ a
+  end_within v x iv r at = outermost_by_ring s.graph.vertices bs a v h.nested iv free (ap (in_ring (ring_of bs a)) at ∙ r)
+
+  within : (f x y : ℕ) → IsEdgeNumber s.graph f → in_ring (ring_of bs a) x ≡ true → in_ring (ring_of bs a) y ≡ true → Joins s.graph (older_than bs a) f x y → IsWithin f
+  within f x y is rx ry j =
+      let u_is = u_vertex s.graph f h.graph.ends is in
+      let v_is = v_vertex s.graph f h.graph.ends is in
+      ⊎_elim
+      (λ p. (end_within (edge_of s.graph f).u x u_is rx p.0, end_within (edge_of s.graph f).v y v_is ry p.1))
+      (λ p. (end_within (edge_of s.graph f).u y u_is ry p.0, end_within (edge_of s.graph f).v x v_is rx p.1))
+      j
+
+  chain_within : (ls : List Link) → IsChainTo s.graph (older_than bs a) ls base → AllByRecursion (λ (l : Link). in_ring (ring_of bs a) l.node ≡ true) ls → AllByRecursion (λ (l : Link). MayHang l.edge) ls
+  chain_within [] chain inside = tt
+  chain_within (l ∷ ls) chain inside = (inl (within l.edge l.node (next_node ls base) chain.0 inside.0 (next_inside ls inside.1) chain.1), chain_within ls chain.2 inside.1)
+
+  first_within : MayHang edge
+  first_within = inl (within edge base (next_node rest base) h.base_edge.edge h.base_in (next_inside rest h.inside) h.base_next)
+
+  -- before any pair of the circuit comes in only the base is inner
+  none_hangs : IsHungBy MayHang (λ c. in_ring (ring_of bs a) c ≡ true) t.label t.parent base
+  none_hangs c f r ne lab has = ⊎_elim (λ q. absurd (ne q)) (λ k. inner_not_out (sym lab ∙ rest_out c k)) (h.all c r)
+
+  -- both ends of an edge within the blossom come into nodes of the circuit
+  opened_end : (v : ℕ) → is_vertex s.graph.vertices v ≡ true → outermost bs v ≡ a → in_ring (ring_of bs a) (outermost (without bs a) v) ≡ true
+  opened_end v iv at =
+      let apart : v ≢ a = λ k. absurd (omega (arith, k, (vertex_range s.graph.vertices v iv).1, above)) in
+      ap (in_ring (ring_of bs a)) (outermost_opened bs a v at apart) ∙ holder s.graph.vertices bs a h.nested h.blossom v iv (end_member s.graph.vertices bs a v h.nested iv at)
+
+  ends_on : (f c d : ℕ) → IsEdgeNumber s.graph f → IsWithin f → Joins s.graph (without bs a) f c d → in_ring (ring_of bs a) d ≡ true
+  ends_on f c d is both j =
+      let on_u = opened_end (edge_of s.graph f).u (u_vertex s.graph f h.graph.ends is) both.0 in
+      let on_v = opened_end (edge_of s.graph f).v (v_vertex s.graph f h.graph.ends is) both.1 in
+      ⊎_elim
+      (λ p. ap (in_ring (ring_of bs a)) (sym p.1) ∙ on_v)
+      (λ p. ap (in_ring (ring_of bs a)) (sym p.0) ∙ on_u)
+      j
+
+  -- the edge up from a node of the circuit stays on it, or is the one by which the blossom hung
+  abbrev pub LeadsOut : State → Type 0
+  LeadsOut u = (c f d : ℕ) → in_ring (ring_of bs a) c ≡ true → up_edge u c ≡ Some f → IsEdgeNumber s.graph f → Joins s.graph (without bs a) f c d → (in_ring (ring_of bs a) d ≡ true) ⊎ (s.parent a ≡ Some f)
+
+  leads_out : (l : ℕ → Label) (p : ℕ → Option ℕ) → l base ≡ Inner → ((c f : ℕ) → in_ring (ring_of bs a) c ≡ true → l c ≡ Inner → p c ≡ Some f → MayHang f) → LeadsOut (rehung t l p)
+  leads_out l p at_base hung c f d r way is j = by_label (l c) refl
+    where
+      by_label : (k : Label) → l c ≡ k → (in_ring (ring_of bs a) d ≡ true) ⊎ (s.parent a ≡ Some f)
+      by_label Outer lab = ⊎_elim
+          (λ q. outer_not_inner (sym lab ∙ ap l q ∙ at_base))
+          (λ k.
+          let g = rung_at t rest base c ladder k in
+          let has : t.mate c ≡ Some f = sym (ap (λ x. up_edge_by (rehung t l p) x c) lab) ∙ way in
+          let joins : Joins s.graph (without bs a) f c g.other = subst (λ x. Joins s.graph (without bs a) x c g.other) (same_Some g.edge f (sym g.mate ∙ has)) g.is_mate.joins in
+          inl (ap (in_ring (ring_of bs a)) (sym (joins_unique s.graph (without bs a) f c g.other d joins j g.is_mate.different)) ∙ rest_in g.other g.inside))
+          (h.all c r)
+      by_label Inner lab = ⊎_elim
+          (λ both. inl (ends_on f c d is both j))
+          (λ same. inr (says.parent ∙ ap (λ x. Some x) same))
+          (hung c f r lab (sym (ap (λ x. up_edge_by (rehung t l p) x c) lab) ∙ way))
+      by_label Out lab = some_not_none f (sym way ∙ ap (λ x. up_edge_by (rehung t l p) x c) lab)
+
+  -- what covers a vertex stays, and so does what is exposed, since all nodes of the circuit have mates
+  cover_now : (v : ℕ) → is_vertex s.graph.vertices v ≡ true → cover t v ≡ cover s v
+  cover_now v iv = ap (λ z. s.dual v +ℤ z) (held_without s.dual bs a v h.empty)
+
+  child_mated : (c : ℕ) → in_ring (ring_of bs a) c ≡ true → t.mate c ≡ None → ⊥
+  child_mated c r none = ⊎_elim
+      (λ q. some_not_none e (sym base_mate_is ∙ ap t.mate (sym q) ∙ none))
+      (λ k. let g = rung_at t rest base c ladder k in some_not_none g.edge (sym g.mate ∙ none))
+      (h.all c r)
+
+  was_exposed : (v : ℕ) → is_vertex s.graph.vertices v ≡ true → t.mate (outermost (without bs a) v) ≡ None → WasExposed s v
+  was_exposed v iv none = by_test (eqb (outermost bs v) a)
+      (λ q.
+      let at : outermost bs v ≡ a = eqb-true (outermost bs v) a q in
+      absurd (child_mated (outermost (without bs a) v) (opened_end v iv at) none))
+      (λ q.
+      let stays : outermost (without bs a) v ≡ outermost bs v = outermost_elsewhere bs a v (eqb-false (outermost bs v) a q) in
+      record { at = v; vertex = iv; exposed = sym (mate_old (outermost bs v) (outermost_has s.graph.vertices bs v h.nested iv).0) ∙ ap t.mate (sym stays) ∙ none; agree = parity_refl (cover s v) })
+
   -- the whole of it, where all inner nodes hang
   whole : (l : ℕ → Label) (p : ℕ → Option ℕ) (after : ℕ → ℕ) → FitBut (rehung t l p) after (λ c. false) → IsSearchState (rehung t l p) after
   whole l p after fits = record {
@@ -338,17 +431,31 @@ module _ (s : State) (depth : ℕ → ℕ) (a base edge : ℕ) (rest : List Link
     duals = each_without _ bs a h.state.duals;
     mates = λ c f is has. let m = mates_now c f is has in
         (m.0, record { edge = m.1.edge; joins = m.1.joins; different = m.1.different; tight = m.1.tight; outer = m.1.outer; back = m.1.back });
+    parity = agree_after s (rehung t l p) refl h.state.parity cover_now was_exposed;
     labels = λ c is. fits_all (rehung t l p) after (λ x. false) c refl (fits c is);
   }
 
-  -- what was outer stays so
+  -- what was outer stays so, and from the circuit only the edge by which the blossom hung leads up
   pub record IsExpanded (u : State) : Type 0 where
     pub after : ℕ → ℕ
     pub state : IsSearchState u after
     pub stays : (c : ℕ) → IsOutermost s c → s.label c ≡ Outer → u.label c ≡ Outer
+    pub ways : LeadsOut u
 
   outer_stays : (u : State) (d f : ℕ → ℕ) → Keeps t u d f → (c : ℕ) → IsOutermost s c → s.label c ≡ Outer → u.label c ≡ Outer
   outer_stays u d f k c is lab = let now : t.label c ≡ Outer = label_old c is ∙ lab in k.labels c (λ q. outer_not_out (sym now ∙ q)) ∙ now
+
+  base_stays : (u : State) (d f : ℕ → ℕ) → Keeps t u d f → u.label base ≡ Inner
+  base_stays u d f k = k.labels base (λ q. inner_not_out (sym base_inner ∙ q)) ∙ base_inner
+
+  each_parts : (xs ys : List Link) → AllByRecursion (λ (k : Link). MayHang k.edge) (xs ++ ys) → AllByRecursion (λ (k : Link). MayHang k.edge) xs × AllByRecursion (λ (k : Link). MayHang k.edge) ys
+  each_parts [] ys each = (tt, each)
+  each_parts (x ∷ xs) ys each = let r = each_parts xs ys each.1 in ((each.0, r.0), r.1)
+
+  pairs_behind : (xs ys : List Link) → ArePairs xs → ArePairs (xs ++ ys) → ArePairs ys
+  pairs_behind [] ys even whole = whole
+  pairs_behind (x ∷ []) ys even whole = absurd even
+  pairs_behind (x ∷ (z ∷ xs)) ys even whole = pairs_behind xs ys even whole
 
   new_parts : (xs ys : List Link) → AllNew (nodes_of (xs ++ ys)) → AllNew (nodes_of xs) × AllNew (nodes_of ys)
   new_parts [] ys n = (tt, n)
@@ -371,6 +478,7 @@ module _ (s : State) (depth : ℕ → ℕ) (a base edge : ℕ) (rest : List Link
       → IsExpanded (rehung t (labels_up t.label xs) (parents_up t.parent base edge says.edge xs))
   expanded_up xs ys split even joins =
       let parts = ladder_parts t xs ys base even (subst (λ ls. IsLadder t ls base) split ladder) in
+      let all_within = each_parts xs ys (subst (λ ls. AllByRecursion (λ (k : Link). MayHang k.edge) ls) split (chain_within rest h.chain h.inside)) in
       let first : Joins s.graph (without bs a) edge base (next_node xs (next_node ys base)) = subst (Joins s.graph (without bs a) edge base) (ap (λ ls. next_node ls base) split ∙ next_node-append xs ys base)
       (joins_now edge base (next_node rest base) h.base_edge.edge h.base_in (next_inside rest h.inside) h.base_next) in
       let r = climb_up t (next_node ys base) xs t.label t.parent scaled base edge says.edge says.up opened_at parts.0 (tight_now edge h.base_edge) first
@@ -380,6 +488,8 @@ module _ (s : State) (depth : ℕ → ℕ) (a base edge : ℕ) (rest : List Link
         after = r.0;
         state = whole (labels_up t.label xs) (parents_up t.parent base edge says.edge xs) r.0 r.1.fits;
         stays = outer_stays (rehung t (labels_up t.label xs) (parents_up t.parent base edge says.edge xs)) scaled r.0 r.1.keeps;
+        ways = leads_out (labels_up t.label xs) (parents_up t.parent base edge says.edge xs) (base_stays (rehung t (labels_up t.label xs) (parents_up t.parent base edge says.edge xs)) scaled r.0 r.1.keeps)
+            (up_hung MayHang (λ c. in_ring (ring_of bs a) c ≡ true) t.label t.parent base edge says.edge xs even first_within (inr refl) all_within.0 none_hangs);
       }
 
   -- down to the base by the last links of the circuit
@@ -387,6 +497,7 @@ module _ (s : State) (depth : ℕ → ℕ) (a base edge : ℕ) (rest : List Link
       → IsExpanded (rehung t (labels_down t.label ys) (parents_down t.parent says.edge base ys))
   expanded_down xs ys split even joins =
       let parts = ladder_parts t xs ys base even (subst (λ ls. IsLadder t ls base) split ladder) in
+      let all_within = each_parts xs ys (subst (λ ls. AllByRecursion (λ (k : Link). MayHang k.edge) ls) split (chain_within rest h.chain h.inside)) in
       let r = climb_down t base ys t.label t.parent scaled says.edge says.up opened_at parts.1 parent_now joins
       (out_all t.label ys (λ c q. rest_out c (subst (λ ls. in_ring ls c ≡ true) (sym split) (in_back xs ys c q)))) (new_parts xs ys (subst (λ ls. AllNew (nodes_of ls)) split h.different)).1
       (stays_outer says.up says.up_is up_apart) up_outer (omega (arith, low, ap (λ (ls : List Link). length ls) split, length-append xs ys)) in
@@ -394,4 +505,6 @@ module _ (s : State) (depth : ℕ → ℕ) (a base edge : ℕ) (rest : List Link
         after = r.0;
         state = whole (labels_down t.label ys) (parents_down t.parent says.edge base ys) r.0 r.1.fits;
         stays = outer_stays (rehung t (labels_down t.label ys) (parents_down t.parent says.edge base ys)) scaled r.0 r.1.keeps;
+        ways = leads_out (labels_down t.label ys) (parents_down t.parent says.edge base ys) (base_stays (rehung t (labels_down t.label ys) (parents_down t.parent says.edge base ys)) scaled r.0 r.1.keeps)
+            (down_hung MayHang (λ c. in_ring (ring_of bs a) c ≡ true) t.label t.parent says.edge base ys (pairs_behind xs ys even (subst ArePairs split h.pairs)) (inr refl) all_within.1 none_hangs);
       }

@@ -22,6 +22,7 @@ rehung_state s l p depth after st fits = record {
   slacks = st.slacks;
   duals = st.duals;
   mates = λ a e is has. let m = st.mates a e is has in (m.0, record { edge = m.1.edge; joins = m.1.joins; different = m.1.different; tight = m.1.tight; outer = m.1.outer; back = m.1.back });
+  parity = st.parity;
   labels = fits;
 }
 

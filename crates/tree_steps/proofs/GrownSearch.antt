@@ -9,16 +9,17 @@ use Rattle.edge_queue.specs.declared.item.Item.TheVariants.{Edge as OfEdge, Blos
 use Rattle.edge_queue.specs.Moments.{moment_of, with_moment, IsItem}
 use Rattle.alt_forest.specs.declared.search.Search.{Search}
 use Rattle.alt_forest.specs.declared.label.Label.TheVariants.{Out}
-use Rattle.alt_forest.specs.State.{State, IsOutermost, IsMate}
+use Rattle.alt_forest.specs.State.{State, IsOutermost, IsMate, IsSearchState}
 use Rattle.alt_forest.specs.Entries.{IsBlossomEntered, IsQueued, IsQueuedBut, entry_count}
 use Rattle.alt_forest.specs.Events.{CanGrow}
 use Rattle.alt_forest.specs.Searches.{IsSound, state_of, label_at}
-use Rattle.alt_forest.specs.Standing.{AreListed, IsStanding}
+use Rattle.alt_forest.specs.Standing.{AreListed, IsSeed, IsStanding, seed_at}
 use Rattle.alt_forest.proofs.Places.{nested_of}
 use Rattle.alt_forest.proofs.Queues.{edge_item}
 use Rattle.alt_forest.proofs.Relabelled.{inner_not_out, outer_not_out}
 use Rattle.tree_steps.specs.Grown.{grown}
-use Rattle.tree_steps.proofs.Awaited.{queued_but, standing_after, edges_stay, blossoms_stay, one_less}
+use Rattle.tree_steps.proofs.Awaited.{queued_but, HasSeed, standing_after, edges_stay, blossoms_stay, one_less}
+use Rattle.tree_steps.proofs.GrownRoots.{far_seed, mate_seed, other_seed}
 use Rattle.tree_steps.proofs.QueuedGrow.{far_now, mate_now, grown_tree, grown_entered, grown_blossom, grown_trees}
 
 -- f is the search before, f1 where the labels are written, f2 and f3 where the node and its mate are listed, f4 where the
@@ -96,24 +97,39 @@ module _ (f f1 f2 f3 f4 k : Search) (h : IsSound f) (e mate : ℕ) (can : CanGro
             blossoms_stay f.queue f3.queue k.queue e item before removed can.far ∙ others3 can.far pair.different ∙ now
             ∙ ap (λ (c : ℤ). Some (c +ℤ (state_of f1).dual can.far)) same_clock ∙ ap (λ (x : State). Some (f.clock +ℤ x.dual can.far)) state
 
-  -- the two nodes that came into the tree are listed
-  pub grown_standing : IsStanding f → AreListed f2.graph.vertices f3.standing.items f3.seeds.items
-      → ((a : ℕ) → holds f1.standing.items a ≡ true → holds f2.standing.items a ≡ true) → ((a : ℕ) → holds f2.standing.items a ≡ true → holds f3.standing.items a ≡ true)
-      → (label_at f1.labels.items can.far ≢ Out → holds f2.standing.items can.far ≡ true) → (label_at f2.labels.items mate ≢ Out → holds f3.standing.items mate ≡ true) → IsStanding k
-  grown_standing standing listed keeps2 keeps3 far_there mate_there =
+  -- the two nodes that came into the tree are listed, with a vertex of its root
+  pub grown_standing : (h1 : IsSound f1) (seed : ℕ) → IsSeed (state_of f) can.near seed → IsStanding f → AreListed f2.graph.vertices f3.standing.items f3.seeds.items
+      → ((a : ℕ) → a ≢ can.far → seed_at f2.seeds.items a ≡ seed_at f1.seeds.items a) → ((a : ℕ) → a ≢ mate → seed_at f3.seeds.items a ≡ seed_at f2.seeds.items a)
+      → (label_at f1.labels.items can.far ≢ Out → seed_at f2.seeds.items can.far ≡ Some seed) → (label_at f2.labels.items mate ≢ Out → seed_at f3.seeds.items mate ≡ Some seed) → IsStanding k
+  grown_standing h1 seed is_seed standing listed keeps2 keeps3 far_there mate_there =
       let graph : f2.graph ≡ f.graph = cc in
       let list : k.standing ≡ f3.standing = cc in
-      let flags : k.seeds ≡ f3.seeds = cc in
-      let first : f1.standing ≡ f.standing = cc in
+      let seeds : k.seeds ≡ f3.seeds = cc in
+      let first : f1.seeds ≡ f.seeds = cc in
+      let nested = nested_of f h.shape in
+      let now : IsSearchState t h1.depth = subst (λ (x : State). IsSearchState x h1.depth) state h1.state in
       let labels : label_at f2.labels.items mate ≡ t.label mate = ap (λ (x : Search). label_at x.labels.items mate) r2 ∙ ap (λ (x : State). x.label mate) state in
-      let keeps : (a : ℕ) → holds f2.standing.items a ≡ true → holds k.standing.items a ≡ true = λ a e. ap (λ v. holds v.items a) list ∙ keeps3 a e in
+      let read : (a : ℕ) → seed_at k.seeds.items a ≡ seed_at f3.seeds.items a = λ a. ap (λ v. seed_at v.items a) seeds in
       standing_after f k t grown_state graph_same
       (subst (λ (g : Multigraph). AreListed g.vertices k.standing.items k.seeds.items) graph
-      (subst (λ v. AreListed f2.graph.vertices v.items k.seeds.items) (sym list) (subst (λ v. AreListed f2.graph.vertices f3.standing.items v.items) (sym flags) listed)))
+      (subst (λ v. AreListed f2.graph.vertices v.items k.seeds.items) (sym list) (subst (λ v. AreListed f2.graph.vertices f3.standing.items v.items) (sym seeds) listed)))
       (λ a is labelled. ⊎_elim
-      (λ at. ap (holds k.standing.items) at ∙ keeps can.far (far_there (λ out. inner_not_out (sym (far_now (state_of f) e mate can pair) ∙ sym (ap (λ (x : State). x.label can.far) state) ∙ out))))
+      (λ at. subst (HasSeed k.seeds.items t) (sym at) (
+        seed,
+        read can.far ∙ keeps3 can.far pair.different ∙ far_there (λ out. inner_not_out (sym (far_now (state_of f) e mate can pair) ∙ sym (ap (λ (x : State). x.label can.far) state) ∙ out)),
+        far_seed (state_of f) h.depth h1.depth e mate nested h.state can pair now seed is_seed,
+      ))
       (λ off_far. ⊎_elim
-      (λ at. ap (holds k.standing.items) at ∙ ap (λ v. holds v.items mate) list ∙ mate_there (λ out. outer_not_out (sym (mate_now (state_of f) e mate can pair) ∙ sym labels ∙ out)))
-      (λ off_mate. keeps a (keeps2 a (ap (λ v. holds v.items a) first ∙ standing.trees a is (grown_trees (state_of f) e mate can pair a is labelled off_far off_mate))))
+      (λ at. subst (HasSeed k.seeds.items t) (sym at) (
+        seed,
+        read mate ∙ mate_there (λ out. outer_not_out (sym (mate_now (state_of f) e mate can pair) ∙ sym labels ∙ out)),
+        mate_seed (state_of f) h.depth h1.depth e mate nested h.state can pair now seed is_seed,
+      ))
+      (λ off_mate.
+      let old = standing.trees a is (grown_trees (state_of f) e mate can pair a is labelled off_far off_mate) in (
+        old.0,
+        read a ∙ keeps3 a off_mate ∙ keeps2 a off_far ∙ ap (λ v. seed_at v.items a) first ∙ old.1,
+        other_seed (state_of f) h.depth h1.depth e mate nested h.state can pair now a old.0 is labelled off_far off_mate old.2,
+      ))
       (cases_eq a mate))
       (cases_eq a can.far))

@@ -1,3 +1,5 @@
+pub mod Covers
+pub mod OneTree
 pub mod Gap
 pub mod Grown
 pub mod Shrunk
@@ -13,6 +15,7 @@ pub mod Opened
 pub mod Climbed
 pub mod Ladders
 pub mod Rungs
+pub mod Hung
 pub mod Expansion
 pub mod Neighbours
 pub mod Rounds
@@ -32,6 +35,9 @@ pub mod NewlyOuter
 pub mod QueuedShrink
 pub mod QueuedExpand
 pub mod Awaited
+pub mod GrownRoots
+pub mod ShrunkRoots
+pub mod ExpandedRoots
 pub mod GrownSearch
 pub mod ShrunkSearch
 pub mod EnlistedCircuit

@@ -3,7 +3,7 @@ use Rattle.std.proofs.Common.{◌≡◌, ◌≢◌, ◌⊎◌, ℕ, ◌+◌, ◌
 use Rattle.std.specs.List.{AllByRecursion}
 use Rattle.std.proofs.lemmas.List.{take_at, drop_all, take-append-drop, length-take-le}
 use Rattle.std.proofs.lemmas.Bool.{or_parts, both_ways, eqb-true, eqb-false, false_from_ne_true}
-use Rattle.graph_theory.specs.Graph.{IsGraph}
+use Rattle.graph_theory.specs.Graph.{IsGraph, IsEdgeNumber}
 use Rattle.blossom_arena.specs.declared.links.Link.{Link}
 use Rattle.blossom_arena.specs.Family.{Blossom, IsNested, nodes_of, in_ring, ring_of, older_than, without}
 use Rattle.blossom_arena.proofs.Lists.{AllNew, by_test, new_from_distinct}
@@ -12,7 +12,7 @@ use Rattle.blossom_arena.proofs.Parents.{ring_child}
 use Rattle.alt_forest.specs.declared.label.Label.{Label}
 use Rattle.alt_forest.specs.declared.label.Label.TheVariants.{Outer, Inner}
 use Rattle.alt_forest.specs.State.{State, IsOutermost, Joins, IsTight, IsInner, IsSearchState, node_u, node_v, next_node}
-use Rattle.alt_forest.specs.Trees.{node_limit}
+use Rattle.alt_forest.specs.Trees.{node_limit, up_edge}
 use Rattle.alt_forest.specs.Events.{CanExpand}
 use Rattle.alt_forest.proofs.Relabelled.{put_here, put_other, outer_not_inner}
 use Rattle.tree_steps.specs.Circuits.{before}
@@ -33,6 +33,9 @@ pub record Expands (s t : State) (a : ℕ) : Type 0 where
   pub after : ℕ → ℕ
   pub state : IsSearchState t after
   pub is : IsExpanded s t a
+  -- the edge up from a node of the circuit stays on it, or is the one by which the blossom hung
+  pub ways : (c f d : ℕ) → in_ring (ring_of s.blossoms a) c ≡ true → up_edge t c ≡ Some f → IsEdgeNumber s.graph f → Joins s.graph (without s.blossoms a) f c d
+      → (in_ring (ring_of s.blossoms a) d ≡ true) ⊎ (s.parent a ≡ Some f)
 
 module _ (s : State) (depth : ℕ → ℕ) (a : ℕ) (graph : IsGraph s.graph) (nested : IsNested s.graph.vertices s.blossoms) (st : IsSearchState s depth) (can : CanExpand s a) where
   abbrev bs : List Blossom
@@ -180,6 +183,7 @@ module _ (s : State) (depth : ℕ → ℕ) (a : ℕ) (graph : IsGraph s.graph) (
                 (λ c out. labels_down_other t.label ys c (part_out xs ys split c out).1)
                 (λ c out. parents_down_other t.parent hangs.edge base ys c (outside_base c out) (part_out xs ys split c out).1)
                 e.stays;
+            ways = e.ways;
           }
         where
           first_is : next_node (drop place round) base ≡ entry
@@ -204,6 +208,7 @@ module _ (s : State) (depth : ℕ → ℕ) (a : ℕ) (graph : IsGraph s.graph) (
                 (λ c out. labels_up_other t.label xs c (part_out xs ys split c out).0)
                 (λ c out. parents_up_other t.parent base edge hangs.edge xs c (outside_base c out) (part_out xs ys split c out).0)
                 e.stays;
+            ways = e.ways;
           }
         where
           last_is : end_of base (take (place + 1) round) ≡ entry

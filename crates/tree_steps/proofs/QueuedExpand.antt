@@ -82,7 +82,7 @@ module _ (s t : State) (depth : ℕ → ℕ) (node : ℕ) (graph : IsGraph s.gra
       ∙ child_outer n bs node a h (outermost_parts n bs node can.outermost).1 r
 
   -- what is outermost and not on the circuit was so before
-  outer_before : (c : ℕ) → IsOutermost t c → in_ring (ring_of bs node) c ≡ false → IsOutermost s c
+  pub outer_before : (c : ℕ) → IsOutermost t c → in_ring (ring_of bs node) c ≡ false → IsOutermost s c
   outer_before c is off =
       let now : is_outermost n (without bs node) c ≡ true = sym (ap (λ g. is_outermost g.vertices t.blossoms c) x.graph ∙ ap (λ (cs : List Blossom). is_outermost n cs c) x.blossoms) ∙ is in
       ⊎_elim (λ was. was) (λ r. absurd (both_ways (in_ring (ring_of bs node) c) off r)) (outer_opened n bs node c now (not_gone c is))

@@ -30,7 +30,7 @@ module _ (s : State) (e mate : ℕ) (g : CanGrow s e) (pair : IsMate s g.far g.m
   pub mate_now : t.label mate ≡ Outer
   mate_now = put_here (put s.label g.far Inner) mate Outer
 
-  others_now : (a : ℕ) → a ≢ g.far → a ≢ mate → t.label a ≡ s.label a
+  pub others_now : (a : ℕ) → a ≢ g.far → a ≢ mate → t.label a ≡ s.label a
   others_now a off_far off_mate = put_other (put s.label g.far Inner) mate Outer a off_mate ∙ put_other s.label g.far Inner a off_far
 
   -- some tree stands

@@ -1,5 +1,5 @@
 -- A shrink keeps the state of a search.
-use Rattle.std.proofs.Common.{◌≡◌, ◌≢◌, ◌⊎◌, ℕ, ◌<◌, ◌≤◌, ℤ, pos, ◌+ℤ◌, ◌-ℤ◌, ◌≤ℤ◌, true, false, not, eqb, cond, List, [], ◌∷◌, Some, sym, ap, ◌∙◌, subst, arith, ⊎_elim, inl, inr}
+use Rattle.std.proofs.Common.{◌≡◌, ◌≢◌, ◌⊎◌, ℕ, ◌<◌, ◌≤◌, ℤ, pos, ◌+ℤ◌, ◌-ℤ◌, ◌≤ℤ◌, true, false, not, eqb, cond, List, [], ◌∷◌, Some, None, refl, sym, ap, ◌∙◌, subst, arith, ⊎_elim, inl, inr}
 use Rattle.std.specs.List.{AllByRecursion}
 use Rattle.std.proofs.Math.IntN.{+ℤ_idl}
 use Rattle.std.proofs.lemmas.Int.{ints}
@@ -12,14 +12,17 @@ use Rattle.blossom_arena.specs.Family.{Blossom, IsNested, is_node, is_child, is_
 use Rattle.blossom_arena.specs.Slack.{duals_across}
 use Rattle.blossom_arena.proofs.Lists.{by_test}
 use Rattle.blossom_arena.proofs.Nested.{outermost_parts, outermost_before, node_grows, new_is_node, new_no_child, vertex_is_node, circuit_outer, not_new}
-use Rattle.blossom_arena.proofs.Sets.{member_by_ring}
+use Rattle.blossom_arena.proofs.Sets.{member_by_ring, outermost_has}
 use Rattle.alt_forest.specs.declared.label.Label.TheVariants.{Outer, Inner}
-use Rattle.alt_forest.specs.State.{State, IsOutermost, Joins, node_u, node_v, doubled, slack_of, IsTight, IsRing, IsMate, FitsLabel, IsSearchState}
+use Rattle.alt_forest.specs.State.{State, IsOutermost, Joins, node_u, node_v, doubled, slack_of, IsTight, IsRing, IsMate, FitsLabel, IsSearchState, held_by, cover}
 use Rattle.alt_forest.specs.Searches.{put}
 use Rattle.alt_forest.proofs.Relabelled.{put_here, put_other, outer_not_inner, outer_not_out}
 use Rattle.tree_steps.specs.Shrunk.{shrunk_state}
 use Rattle.alt_forest.proofs.Mates.{joins_unique, mate_turned}
 use Rattle.alt_forest.proofs.Tight.{tight_ring, tight_rings}
+use Rattle.alt_forest.proofs.Parity.{one_class, parity_refl, parity_sym, parity_trans}
+use Rattle.tree_steps.proofs.Counted.{has_vertex}
+use Rattle.tree_steps.proofs.Covers.{Agree, WasExposed, agree_after, held_same, held_zero, ring_agrees, rings_agree}
 use Rattle.blossom_arena.proofs.Ends.{u_vertex, v_vertex}
 
 -- duals that agree at the nodes that an edge can feel
@@ -62,30 +65,30 @@ pub record Shrinks (s : State) (b : Blossom) (base : ℕ) (depth : ℕ → ℕ) 
   pub base_mated_outside : (e c : ℕ) → s.mate base ≡ Some e → IsMate s base e c → in_ring b.ring c ≡ false
 
 module _ (s : State) (b : Blossom) (base : ℕ) (depth : ℕ → ℕ) (h : Shrinks s b base depth) where
-  abbrev t : State
+  abbrev pub t : State
   t = shrunk_state s b base
 
   -- where a node comes by the shrink
-  abbrev lift : ℕ → ℕ
+  abbrev pub lift : ℕ → ℕ
   lift a = cond (in_ring b.ring a) b.node a
 
-  lift_in : (a : ℕ) → in_ring b.ring a ≡ true → lift a ≡ b.node
+  pub lift_in : (a : ℕ) → in_ring b.ring a ≡ true → lift a ≡ b.node
   lift_in a e = ap (λ q. cond q b.node a) e
 
-  lift_out : (a : ℕ) → in_ring b.ring a ≡ false → lift a ≡ a
+  pub lift_out : (a : ℕ) → in_ring b.ring a ≡ false → lift a ≡ a
   lift_out a e = ap (λ q. cond q b.node a) e
 
   node_differs : (a : ℕ) → is_node s.graph.vertices s.blossoms a ≡ true → a ≢ b.node
   node_differs a is = not_new s.graph.vertices s.blossoms b.node a h.nested.0.fresh is
 
-  outer_differs : (a : ℕ) → IsOutermost s a → a ≢ b.node
+  pub outer_differs : (a : ℕ) → IsOutermost s a → a ≢ b.node
   outer_differs a is = node_differs a (outermost_parts s.graph.vertices s.blossoms a is).0
 
-  outermost_lift : (v : ℕ) → is_vertex s.graph.vertices v ≡ true → outermost (b ∷ s.blossoms) v ≡ lift (outermost s.blossoms v)
+  pub outermost_lift : (v : ℕ) → is_vertex s.graph.vertices v ≡ true → outermost (b ∷ s.blossoms) v ≡ lift (outermost s.blossoms v)
   outermost_lift v iv = ap (λ q. cond q b.node (outermost s.blossoms v)) (member_by_ring s.graph.vertices s.blossoms b v h.nested iv)
 
   -- an edge joins the nodes that its nodes came into
-  joins_lift : (e x y : ℕ) → IsEdgeNumber s.graph e → Joins s.graph s.blossoms e x y → Joins s.graph (b ∷ s.blossoms) e (lift x) (lift y)
+  pub joins_lift : (e x y : ℕ) → IsEdgeNumber s.graph e → Joins s.graph s.blossoms e x y → Joins s.graph (b ∷ s.blossoms) e (lift x) (lift y)
   joins_lift e x y is j =
       let u : node_u s.graph (b ∷ s.blossoms) e ≡ lift (node_u s.graph s.blossoms e) = outermost_lift (edge_of s.graph e).u (u_vertex s.graph e h.graph.ends is) in
       let v : node_v s.graph (b ∷ s.blossoms) e ≡ lift (node_v s.graph s.blossoms e) = outermost_lift (edge_of s.graph e).v (v_vertex s.graph e h.graph.ends is) in
@@ -106,6 +109,14 @@ module _ (s : State) (b : Blossom) (base : ℕ) (depth : ℕ → ℕ) (h : Shrin
       (far (edge_of s.graph e).v (v_vertex s.graph e h.graph.ends is))
       (agrees_at s.blossoms s.dual b.node (pos 0) new_name))
 
+  -- and nothing that covers a vertex
+  cover_after : (v : ℕ) → is_vertex s.graph.vertices v ≡ true → cover t v ≡ cover s v
+  cover_after v iv =
+      let y : ℕ → ℤ = put s.dual b.node (pos 0) in
+      ap (λ z. z +ℤ held_by y (b ∷ s.blossoms) v) (put_other s.dual b.node (pos 0) v (node_differs v (vertex_is_node s.graph.vertices s.blossoms v iv)))
+      ∙ ap (λ z. s.dual v +ℤ z)
+      (held_zero y b s.blossoms v (put_here s.dual b.node (pos 0)) ∙ held_same y s.dual s.blossoms v (agrees_at s.blossoms s.dual b.node (pos 0) new_name))
+
   still_tight : (e : ℕ) → IsTight s e → IsTight t e
   still_tight e x = record { edge = x.edge; tight = slack_after e x.edge ∙ x.tight }
 
@@ -124,7 +135,7 @@ module _ (s : State) (b : Blossom) (base : ℕ) (depth : ℕ → ℕ) (h : Shrin
       (λ e. subst (IsOutermost t) (sym (lift_out a e)) (still_outer a is e))
 
   -- what is outermost then is the new node, or was outermost and is in no ring
-  outer_before : (a : ℕ) → IsOutermost t a → (a ≡ b.node) ⊎ (IsOutermost s a × (in_ring b.ring a ≡ false))
+  pub outer_before : (a : ℕ) → IsOutermost t a → (a ≡ b.node) ⊎ (IsOutermost s a × (in_ring b.ring a ≡ false))
   outer_before a is = by_test (eqb b.node a) (λ e. inl (sym (eqb-true b.node a e))) (λ e. inr (outermost_before s.graph.vertices b s.blossoms a e is))
 
   -- the mate in the ring of a node outside it is the base
@@ -135,16 +146,16 @@ module _ (s : State) (b : Blossom) (base : ℕ) (depth : ℕ → ℕ) (h : Shrin
   lift_differs : (a c : ℕ) → IsOutermost s a → a ≢ c → a ≢ lift c
   lift_differs a c is ne = by_test (in_ring b.ring c) (λ e q. outer_differs a is (q ∙ lift_in c e)) (λ e q. ne (q ∙ lift_out c e))
 
-  mate_here : t.mate b.node ≡ s.mate base
+  pub mate_here : t.mate b.node ≡ s.mate base
   mate_here = put_here s.mate b.node (s.mate base)
 
-  mate_else : (a : ℕ) → a ≢ b.node → t.mate a ≡ s.mate a
+  pub mate_else : (a : ℕ) → a ≢ b.node → t.mate a ≡ s.mate a
   mate_else a ne = put_other s.mate b.node (s.mate base) a ne
 
-  label_else : (a : ℕ) → a ≢ b.node → t.label a ≡ s.label a
+  pub label_else : (a : ℕ) → a ≢ b.node → t.label a ≡ s.label a
   label_else a ne = put_other s.label b.node Outer a ne
 
-  label_here : t.label b.node ≡ Outer
+  pub label_here : t.label b.node ≡ Outer
   label_here = put_here s.label b.node Outer
 
   mate_after : (a e c : ℕ) → IsOutermost s a → in_ring b.ring a ≡ false → s.mate a ≡ Some e → IsMate s a e c → IsMate t a e (lift c)
@@ -259,6 +270,25 @@ module _ (s : State) (b : Blossom) (base : ℕ) (depth : ℕ → ℕ) (h : Shrin
       out = λ lab. outer_not_out (sym label_here ∙ lab);
     }
 
+    -- all vertices of the new node agree
+    one_parity : (u v : ℕ) → is_vertex s.graph.vertices u ≡ true → is_vertex s.graph.vertices v ≡ true → outermost (b ∷ s.blossoms) u ≡ outermost (b ∷ s.blossoms) v → Agree s u v
+    one_parity = one_class s.graph (Agree s) (λ u. parity_refl (cover s u)) (λ u v. parity_sym (cover s u) (cover s v)) (λ u v w. parity_trans (cover s u) (cover s v) (cover s w)) h.graph
+        (b ∷ s.blossoms) h.nested (h.ring, st.rings) (ring_agrees s b.ring h.tight, rings_agree s s.blossoms st.tight_rings)
+
+    -- an exposed node was so, or is the new one, and then its base was
+    was_exposed : (v : ℕ) → is_vertex s.graph.vertices v ≡ true → t.mate (outermost (b ∷ s.blossoms) v) ≡ None → WasExposed s v
+    was_exposed v iv none =
+        let o : ℕ = outermost s.blossoms v in
+        by_test (in_ring b.ring o)
+        (λ r.
+        let x = has_vertex s.graph.vertices s.blossoms base h.nested.1 (circuit_outer s.graph.vertices s.blossoms b.ring base h.nested.0.circuit h.base_in) in
+        let at : outermost (b ∷ s.blossoms) v ≡ b.node = outermost_lift v iv ∙ lift_in o r in
+        let base_at : outermost (b ∷ s.blossoms) x.vertex ≡ b.node = outermost_lift x.vertex x.is ∙ ap lift x.node ∙ lift_in base h.base_in in
+        record { at = x.vertex; vertex = x.is; exposed = ap s.mate x.node ∙ sym mate_here ∙ ap t.mate (sym at) ∙ none; agree = one_parity v x.vertex iv x.is (at ∙ sym base_at) })
+        (λ r.
+        let at : outermost (b ∷ s.blossoms) v ≡ o = outermost_lift v iv ∙ lift_out o r in
+        record { at = v; vertex = iv; exposed = sym (mate_else o (outer_differs o (outermost_has s.graph.vertices s.blossoms v h.nested.1 iv).0)) ∙ ap t.mate (sym at) ∙ none; agree = parity_refl (cover s v) })
+
     pub shrink_keeps : IsSearchState t deeper
     shrink_keeps =
         let base_is : IsOutermost s base = circuit_outer s.graph.vertices s.blossoms b.ring base h.nested.0.circuit h.base_in in
@@ -277,6 +307,7 @@ module _ (s : State) (b : Blossom) (base : ℕ) (depth : ℕ → ℕ) (h : Shrin
               let was = st.mates a e old.0 has in
               (lift was.0, mate_after a e was.0 old.0 old.1 has was.1))
               (outer_before a is);
+          parity = agree_after s t refl st.parity cover_after was_exposed;
           labels = λ a is. ⊎_elim
               (λ new. subst (FitsLabel t deeper) (sym new) (new_label base_is))
               (λ old. old_label a old.0 old.1)

@@ -1,28 +1,30 @@
 -- What the parts of a shrink make of a search.
-use Rattle.std.proofs.Common.{◌≡◌, ◌≢◌, ℕ, ◌+◌, ◌≤◌, pos, ◌+ℤ◌, true, All, None, sym, ap, ◌∙◌, subst, ⊎_elim, inl, arith}
+use Rattle.std.proofs.Common.{◌≡◌, ◌≢◌, ℕ, ◌+◌, ◌≤◌, pos, ◌+ℤ◌, true, List, All, Some, None, sym, ap, ◌∙◌, subst, ⊎_elim, inl, arith}
 use Rattle.std.proofs.lemmas.Bool.{cases_eq}
 use Rattle.std.proofs.lemmas.Int.{ints}
 use Rattle.graph_theory.specs.Graph.{Multigraph, IsEdgeNumber, edge_of}
-use Rattle.graph_theory.specs.Parts.{holds}
-use Rattle.blossom_arena.specs.Family.{IsNested, is_vertex, outermost, ring_of}
+use Rattle.blossom_arena.specs.Family.{IsNested, is_vertex, in_ring, outermost, ring_of}
 use Rattle.edge_queue.specs.declared.item.Item.TheVariants.{Edge as OfEdge, Blossom as OfBlossom}
 use Rattle.edge_queue.specs.Moments.{moment_of, with_moment, IsItem}
 use Rattle.alt_forest.specs.declared.label.Label.TheVariants.{Out}
 use Rattle.alt_forest.specs.declared.search.Search.{Search}
-use Rattle.alt_forest.specs.State.{State, Joins}
+use Rattle.alt_forest.specs.State.{State, Joins, node_u}
+use Rattle.alt_forest.specs.Trees.{root_of}
+use Rattle.blossom_arena.specs.declared.links.Link.{Link}
 use Rattle.alt_forest.specs.Entries.{IsQueued, IsQueuedBut, ends_around, entry_count, looks_left}
 use Rattle.alt_forest.specs.Events.{CanShrink}
 use Rattle.alt_forest.specs.Searches.{IsSound, state_of, label_at}
-use Rattle.alt_forest.specs.Standing.{AreListed, IsStanding}
+use Rattle.alt_forest.specs.Standing.{AreListed, IsSeed, IsStanding, seed_at}
 use Rattle.alt_forest.proofs.Places.{nested_of}
 use Rattle.alt_forest.proofs.Queues.{edge_item}
 use Rattle.alt_forest.proofs.Relabelled.{outer_not_out}
 use Rattle.tree_steps.specs.Circuits.{closed_by}
 use Rattle.tree_steps.specs.Scanned.{newly_outer}
 use Rattle.tree_steps.specs.Shrinkable.{IsShrunk}
-use Rattle.tree_steps.proofs.Awaited.{queued_but, standing_after, edges_stay, blossoms_stay, one_less, each_vertex}
+use Rattle.tree_steps.proofs.Awaited.{queued_but, HasSeed, standing_after, edges_stay, blossoms_stay, one_less, each_vertex}
 use Rattle.tree_steps.proofs.CountedShrink.{shrunk_looks}
 use Rattle.tree_steps.proofs.NewlyOuter.{newly_vertex}
+use Rattle.tree_steps.proofs.ShrunkRoots.{shrunk_new_seed, shrunk_other_seed}
 use Rattle.tree_steps.proofs.QueuedShrink.{shrunk_tree, shrunk_entered, shrunk_blossom, shrunk_in_tree, shrunk_label, shrunk_ring}
 
 -- f is the search before, f1 where the circuit is one node, f2 where that is listed, and k where the edge's moment is gone
@@ -92,21 +94,37 @@ module _ (f f1 f2 k : Search) (h : IsSound f) (h1 : IsSound f1) (h2 : IsSound f2
           (λ ne. blossoms_stay f.queue f2.queue k.queue e item before queue3 b ∙ others2 b ne ∙ ap (λ (y : Search). moment_of y.queue (OfBlossom b)) r1))
           (shrunk_tree s t node x h.shape.graph.graph nested))
 
-  -- the new node is listed
-  pub shrunk_standing : IsStanding f → AreListed f1.graph.vertices f2.standing.items f2.seeds.items
-      → ((a : ℕ) → holds f1.standing.items a ≡ true → holds f2.standing.items a ≡ true)
-      → (label_at f1.labels.items node ≢ Out → holds f2.standing.items node ≡ true) → IsStanding k
-  shrunk_standing standing listed keeps there =
-      let graph : f1.graph ≡ f.graph = cc in
-      let list : k.standing ≡ f2.standing = cc in
-      let flags : k.seeds ≡ f2.seeds = cc in
-      let first : f1.standing ≡ f.standing = cc in
+  -- the new node is listed, with a vertex of the root of its base
+  pub shrunk_standing : (seed : ℕ) → IsSeed (state_of f) (node_u f.graph f.arena.blossoms e) seed → ring_of f1.arena.blossoms node ≡ closed_by (state_of f) e
+      → ((a : ℕ) → in_ring (closed_by (state_of f) e) a ≡ true → root_of (state_of f) a ≡ root_of (state_of f) (node_u f.graph f.arena.blossoms e))
+      → IsStanding f → AreListed f1.graph.vertices f2.standing.items f2.seeds.items
+      → ((a : ℕ) → a ≢ node → seed_at f2.seeds.items a ≡ seed_at f1.seeds.items a)
+      → (label_at f1.labels.items node ≢ Out → seed_at f2.seeds.items node ≡ Some seed) → IsStanding k
+  shrunk_standing seed is_seed circuit one_tree standing listed keeps there =
       let s : State = state_of f in
       let t : State = state_of f1 in
+      let graph : f1.graph ≡ f.graph = cc in
+      let list : k.standing ≡ f2.standing = cc in
+      let seeds : k.seeds ≡ f2.seeds = cc in
+      let first : f1.seeds ≡ f.seeds = cc in
+      let closed : closed_by s e ≡ x.ring = sym circuit ∙ shrunk_ring s t node x h.shape.graph.graph nested in
+      let one : (c : ℕ) → in_ring x.ring c ≡ true → root_of s c ≡ root_of s (node_u f.graph f.arena.blossoms e) = λ c r. one_tree c (ap (λ (ls : List Link). in_ring ls c) closed ∙ r) in
+      let at_base = one x.base x.can.shrinkable.base_in in
+      let read : (a : ℕ) → seed_at k.seeds.items a ≡ seed_at f2.seeds.items a = λ a. ap (λ v. seed_at v.items a) seeds in
       standing_after f k t shrunk_same graph_same
       (subst (λ (g : Multigraph). AreListed g.vertices k.standing.items k.seeds.items) graph
-      (subst (λ v. AreListed f1.graph.vertices v.items k.seeds.items) (sym list) (subst (λ v. AreListed f1.graph.vertices f2.standing.items v.items) (sym flags) listed)))
-      (λ a is labelled. ap (λ v. holds v.items a) list ∙ ⊎_elim
-      (λ at. ap (holds f2.standing.items) at ∙ there (λ out. outer_not_out (sym (shrunk_label s t node x h.shape.graph.graph nested) ∙ out)))
-      (λ off. let was = shrunk_in_tree s t node x h.shape.graph.graph nested a is labelled off in keeps a (ap (λ v. holds v.items a) first ∙ standing.trees a was.0 was.1))
+      (subst (λ v. AreListed f1.graph.vertices v.items k.seeds.items) (sym list) (subst (λ v. AreListed f1.graph.vertices f2.standing.items v.items) (sym seeds) listed)))
+      (λ a is labelled. ⊎_elim
+      (λ at. subst (HasSeed k.seeds.items t) (sym at) (
+        seed,
+        read node ∙ there (λ out. outer_not_out (sym (shrunk_label s t node x h.shape.graph.graph nested) ∙ out)),
+        shrunk_new_seed s t node x h.shape.graph.graph nested h1.depth h1.state (λ c r. one c r ∙ sym at_base) seed (record { vertex = is_seed.vertex; root = is_seed.root ∙ sym at_base }),
+      ))
+      (λ off.
+      let was = shrunk_in_tree s t node x h.shape.graph.graph nested a is labelled off in
+      let old = standing.trees a was.0 was.1 in (
+        old.0,
+        read a ∙ keeps a off ∙ ap (λ v. seed_at v.items a) first ∙ old.1,
+        shrunk_other_seed s t node x h.shape.graph.graph nested h1.depth h1.state (λ c r. one c r ∙ sym at_base) a old.0 is labelled off old.2,
+      ))
       (cases_eq a node))

@@ -1,13 +1,14 @@
 -- What an expand changes (chapter 24): the circuit of the blossom is opened at its base, the node that holds the end of
 -- the blossom's mate. The others are mates two by two, and the even way between the base and the node that holds the
 -- end of the blossom's parent comes into the tree.
-use Rattle.std.specs.Prelude.{◌≡◌, ℕ, true, false, ◌==◌, if◌then◌else◌, List, [], ◌∷◌, ◌++◌, Option, Some}
+use Rattle.std.specs.Prelude.{◌≡◌, ◌≢◌, ℕ, true, false, ◌==◌, if◌then◌else◌, List, [], ◌∷◌, ◌++◌, Option, Some}
 use Rattle.graph_theory.specs.Graph.{Multigraph, edge_of}
 use Rattle.blossom_arena.specs.declared.links.Link.{Link}
 use Rattle.blossom_arena.specs.Family.{Blossom, in_ring, ring_of, without, child_holding}
 use Rattle.alt_forest.specs.declared.label.Label.{Label}
 use Rattle.alt_forest.specs.declared.label.Label.TheVariants.{Outer, Inner, Out}
 use Rattle.alt_forest.specs.State.{State, IsOutermost, node_u}
+use Rattle.alt_forest.specs.Trees.{root_of}
 use Rattle.alt_forest.specs.Searches.{put}
 
 -- the node of a blossom's circuit that holds the end of an edge that leaves the blossom
@@ -88,3 +89,7 @@ pub record IsExpanded (before after : State) (node : ℕ) : Type 0 where
   -- each node of the circuit has a mate, and what was outer stays so
   pub mated : (a : ℕ) → in_ring (ring_of before.blossoms node) a ≡ true → (e : ℕ) × (after.mate a ≡ Some e)
   pub outer : (a : ℕ) → IsOutermost before a → before.label a ≡ Outer → after.label a ≡ Outer
+
+-- what is in a tree has the root that it had, and what came into one from the circuit has that of the blossom
+abbrev pub AreRootsOpened : State → State → ℕ → Type 0
+AreRootsOpened before after node = (a : ℕ) → IsOutermost after a → after.label a ≢ Out → root_of after a ≡ root_of before (if in_ring (ring_of before.blossoms node) a then node else a)

@@ -12,7 +12,7 @@ ghost use Rattle.alt_forest.specs.Events.{CanExpand};
 ghost use Rattle.alt_forest.specs.Searches.{HasShape, IsSound, state_of};
 ghost use Rattle.alt_forest.specs.Standing.{IsStanding};
 ghost use Rattle.tree_steps.specs.Circuits.{before};
-ghost use Rattle.tree_steps.specs.Expanded.{child_at, opened, hung_up, hung_down, IsExpanded};
+ghost use Rattle.tree_steps.specs.Expanded.{child_at, opened, hung_up, hung_down, IsExpanded, AreRootsOpened};
 
 use crate::circuit::{fill_round, place_of};
 use crate::listing::{drop_entry, enlist_circuit};
@@ -105,6 +105,7 @@ fn lay_open(search: &mut Search, b: NodeId) -> NodeId
     ensures trees { tree_count (state_of search.new) ≡ tree_count (state_of search.old) }
     ensures exposed { exposed_count (state_of search.new) ≡ exposed_count (state_of search.old) }
     ensures falls { measure (state_of search.new) < measure (state_of search.old) }
+    ensures roots { AreRootsOpened (state_of search.old) (state_of search.new) b }
 {
     let mate = or_none(search.mate(b));
     let parent = or_none(search.parent(b));
@@ -144,9 +145,10 @@ pub fn expand<L: Ledger>(search: &mut Search, graph: &Graph, b: NodeId, steps: &
     ensures count { entry_count search.new.queue + steps.old + 1 ≤ entry_count search.old.queue + steps.new }
 {
     steps.tick();
+    let seed = search.root_vertex(b);
     scan_node(search, b);
     let base = lay_open(search, b);
-    enlist_circuit(search, base);
+    enlist_circuit(search, base, seed);
     drop_entry(search, Item::Blossom(b));
     search.enter_scanned(graph, steps);
 }

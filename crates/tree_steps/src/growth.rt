@@ -6,14 +6,14 @@ ghost use Rattle.alt_forest.specs.Counts.{is_outside, outside_among, tree_count,
 ghost use Rattle.alt_forest.specs.Entries.{IsQueued, entry_count, looks_left};
 ghost use Rattle.alt_forest.specs.Events.{CanGrow};
 ghost use Rattle.alt_forest.specs.Searches.{IsSound, state_of, label_at, edge_in, put};
-ghost use Rattle.alt_forest.specs.Standing.{IsStanding};
+ghost use Rattle.alt_forest.specs.Standing.{IsSeed, IsStanding};
 ghost use Rattle.tree_steps.specs.Grown.{grown};
 
 use crate::listing::{drop_entry, enlist};
 use crate::scanning::scan_node;
 use alt_forest::{Item, Label, Search, set_edge, set_label};
 use blossom_arena::NodeId;
-use mb_base::{EdgeId, Steps};
+use mb_base::{EdgeId, Steps, VertexId};
 use std::sync::ledger::Ledger;
 use weighted_graph::Graph;
 
@@ -30,6 +30,22 @@ fn far_node(search: &Search, e: EdgeId) -> NodeId
         return far;
     }
     near
+}
+
+/// A vertex of the root of the tree that a grow takes nodes into.
+fn near_seed(search: &Search, e: EdgeId) -> VertexId
+    requires sound { IsSound search.now }
+    requires standing { IsStanding search.now }
+    requires can { CanGrow (state_of search.now) e }
+    ensures { (g : CanGrow (state_of search.now) e) → IsSeed (state_of search.now) g.near result }
+{
+    let (u, v, _) = search.graph.edge(e);
+    let node = search.arena.outermost(u);
+    if search.label(node) == Label::Outer {
+        return search.root_vertex(node);
+    }
+    let other = search.arena.outermost(v);
+    search.root_vertex(other)
 }
 
 /// The node at the other end of a node's mate; the node itself where it has none.
@@ -90,9 +106,10 @@ pub fn grow<L: Ledger>(search: &mut Search, graph: &Graph, e: EdgeId, steps: &mu
     ensures count { entry_count search.new.queue + steps.old + 2 ≤ entry_count search.old.queue + steps.new }
 {
     steps.tick();
+    let seed = near_seed(search, e);
     let (far, mate) = take_in(search, e);
-    enlist(search, far);
-    enlist(search, mate);
+    enlist(search, far, seed);
+    enlist(search, mate, seed);
     drop_entry(search, Item::Edge(e));
     scan_node(search, mate);
     search.enter_scanned(graph, steps);

@@ -1,4 +1,4 @@
-ghost use Rattle.std.specs.Prelude.{◌≡◌, ◌≢◌, ◌⊎◌, ℕ, pos, ◌≤ℤ◌, true, false, None};
+ghost use Rattle.std.specs.Prelude.{◌≡◌, ◌≢◌, ◌⊎◌, ℕ, pos, ◌≤ℤ◌, true, false, Some, None};
 ghost use Rattle.graph_theory.specs.Parts.{holds};
 ghost use Rattle.graph_theory.specs.declared.limits.TheConstants.{NUMBER_LIMIT};
 ghost use Rattle.blossom_arena.specs.Family.{in_ring, names_of};
@@ -8,14 +8,16 @@ ghost use Rattle.alt_forest.specs.declared.label.Label.TheVariants.{Out};
 ghost use Rattle.alt_forest.specs.State.{IsOutermost};
 ghost use Rattle.alt_forest.specs.Entries.{IsBlossomEntered};
 ghost use Rattle.alt_forest.specs.Searches.{IsSound, state_of, label_at};
-ghost use Rattle.alt_forest.specs.Standing.{AreListed};
+ghost use Rattle.alt_forest.specs.Standing.{AreListed, seed_at};
 
 use alt_forest::{Item, Label, Search};
 use blossom_arena::NodeId;
+use mb_base::VertexId;
 
-/// Lists a node that a step took into a tree among those that changes of duals run over, and gives an
-/// inner blossom its moment. For a node labelled out nothing is done.
-pub(crate) fn enlist(search: &mut Search, node: NodeId)
+/// Lists a node that a step took into a tree among those that changes of duals run over, keeps a vertex
+/// of the root of that tree for it, and gives an inner blossom its moment. For a node labelled out
+/// nothing is done.
+pub(crate) fn enlist(search: &mut Search, node: NodeId, seed: VertexId)
     requires sound { IsSound search.old }
     requires listed { AreListed search.old.graph.vertices search.old.standing.items search.old.seeds.items }
     requires low { pos 0 ≤ℤ search.old.clock }
@@ -24,8 +26,8 @@ pub(crate) fn enlist(search: &mut Search, node: NodeId)
     ensures rest { search.new ≡ record search.old { queue = search.new.queue; standing = search.new.standing; seeds = search.new.seeds } }
     ensures sound { IsSound search.new }
     ensures listed { AreListed search.old.graph.vertices search.new.standing.items search.new.seeds.items }
-    ensures there { label_at search.old.labels.items node ≢ Out → holds search.new.standing.items node ≡ true }
-    ensures keeps { (a : ℕ) → holds search.old.standing.items a ≡ true → holds search.new.standing.items a ≡ true }
+    ensures there { label_at search.old.labels.items node ≢ Out → seed_at search.new.seeds.items node ≡ Some seed }
+    ensures keeps { (a : ℕ) → a ≢ node → seed_at search.new.seeds.items a ≡ seed_at search.old.seeds.items a }
     ensures entered { holds (names_of search.old.arena.blossoms) node ≡ true → IsBlossomEntered (state_of search.old) search.old.clock search.new.queue node }
     ensures others { (b : ℕ) → b ≢ node → moment_of search.new.queue (OfBlossom b) ≡ moment_of search.old.queue (OfBlossom b) }
     ensures edges { search.new.queue.edges ≡ search.old.queue.edges }
@@ -33,12 +35,12 @@ pub(crate) fn enlist(search: &mut Search, node: NodeId)
     if search.label(node) == Label::Out {
         return;
     }
-    search.stand(node);
+    search.stand(node, seed);
     search.enter_blossom(node);
 }
 
 /// The same for a node and all those of the circuit.
-pub(crate) fn enlist_circuit(search: &mut Search, base: NodeId)
+pub(crate) fn enlist_circuit(search: &mut Search, base: NodeId, seed: VertexId)
     requires sound { IsSound search.old }
     requires listed { AreListed search.old.graph.vertices search.old.standing.items search.old.seeds.items }
     requires low { pos 0 ≤ℤ search.old.clock }
@@ -48,16 +50,16 @@ pub(crate) fn enlist_circuit(search: &mut Search, base: NodeId)
     ensures rest { search.new ≡ record search.old { queue = search.new.queue; standing = search.new.standing; seeds = search.new.seeds } }
     ensures sound { IsSound search.new }
     ensures listed { AreListed search.old.graph.vertices search.new.standing.items search.new.seeds.items }
-    ensures there { (a : ℕ) → (a ≡ base) ⊎ (in_ring search.old.circuit.items a ≡ true) → label_at search.old.labels.items a ≢ Out → holds search.new.standing.items a ≡ true }
-    ensures keeps { (a : ℕ) → holds search.old.standing.items a ≡ true → holds search.new.standing.items a ≡ true }
+    ensures there { (a : ℕ) → (a ≡ base) ⊎ (in_ring search.old.circuit.items a ≡ true) → label_at search.old.labels.items a ≢ Out → seed_at search.new.seeds.items a ≡ Some seed }
+    ensures keeps { (a : ℕ) → a ≢ base → in_ring search.old.circuit.items a ≡ false → seed_at search.new.seeds.items a ≡ seed_at search.old.seeds.items a }
     ensures entered { (a : ℕ) → (a ≡ base) ⊎ (in_ring search.old.circuit.items a ≡ true) → holds (names_of search.old.arena.blossoms) a ≡ true → IsBlossomEntered (state_of search.old) search.old.clock search.new.queue a }
     ensures others { (a : ℕ) → a ≢ base → in_ring search.old.circuit.items a ≡ false → moment_of search.new.queue (OfBlossom a) ≡ moment_of search.old.queue (OfBlossom a) }
     ensures edges { search.new.queue.edges ≡ search.old.queue.edges }
 {
-    enlist(search, base);
+    enlist(search, base, seed);
     for place in 0..search.circuit.len() {
         let link = search.circuit[place];
-        enlist(search, link.node);
+        enlist(search, link.node, seed);
     }
 }
 

@@ -1,14 +1,14 @@
 ghost use Rattle.std.specs.Prelude.{◌≡◌, ◌≢◌, ◌<◌, ◌≤◌, ◌+◌, ℕ, true, Some, length};
 ghost use Rattle.graph_theory.specs.Graph.{IsEdgeNumber, edge_of};
-ghost use Rattle.blossom_arena.specs.Family.{is_vertex, outermost, made_of, ring_of};
+ghost use Rattle.blossom_arena.specs.Family.{in_ring, is_vertex, outermost, made_of, ring_of};
 ghost use Rattle.alt_forest.specs.declared.label.Label.TheVariants.{Outer, Out};
-ghost use Rattle.alt_forest.specs.State.{IsOutermost};
+ghost use Rattle.alt_forest.specs.State.{IsOutermost, node_u};
 ghost use Rattle.alt_forest.specs.Trees.{path_of, root_of, first_common};
 ghost use Rattle.alt_forest.specs.Counts.{is_outside, outside_among, tree_count, exposed_count, measure, IsPlanted};
 ghost use Rattle.alt_forest.specs.Entries.{IsQueued, entry_count, looks_left};
 ghost use Rattle.alt_forest.specs.Events.{CanShrink};
 ghost use Rattle.alt_forest.specs.Searches.{IsSound, state_of, label_at};
-ghost use Rattle.alt_forest.specs.Standing.{IsStanding};
+ghost use Rattle.alt_forest.specs.Standing.{IsSeed, IsStanding};
 ghost use Rattle.tree_steps.specs.Circuits.{closed_by};
 ghost use Rattle.tree_steps.specs.Scanned.{newly_outer};
 ghost use Rattle.tree_steps.specs.Shrunk.{shrunk_state};
@@ -19,7 +19,7 @@ use crate::listing::{drop_entry, enlist};
 use crate::scanning::scan_circuit;
 use alt_forest::{Item, Label, Search, set_edge, set_label};
 use blossom_arena::NodeId;
-use mb_base::{EdgeId, Steps};
+use mb_base::{EdgeId, Steps, VertexId};
 use std::sync::ledger::Ledger;
 use weighted_graph::Graph;
 
@@ -50,6 +50,18 @@ fn meeting_node(search: &Search, a: NodeId, b: NodeId) -> NodeId
     }
 }
 
+/// A vertex of the root of the tree that a shrink's edge lies in.
+fn tree_seed(search: &Search, e: EdgeId) -> VertexId
+    requires sound { IsSound search.now }
+    requires standing { IsStanding search.now }
+    requires can { CanShrink (state_of search.now) e }
+    ensures { IsSeed (state_of search.now) (node_u search.now.graph search.now.arena.blossoms e) result }
+{
+    let (u, _, _) = search.graph.edge(e);
+    let node = search.arena.outermost(u);
+    search.root_vertex(node)
+}
+
 /// Makes one outer node of the circuit that a tight edge between two different outer nodes of one tree
 /// closes, and notes the vertices that come into it from nodes that were not outer. It answers the new node.
 fn close_by(search: &mut Search, e: EdgeId) -> NodeId
@@ -60,6 +72,7 @@ fn close_by(search: &mut Search, e: EdgeId) -> NodeId
     ensures holds_u { outermost search.new.arena.blossoms (edge_of search.old.graph e).u ≡ result }
     ensures holds_v { outermost search.new.arena.blossoms (edge_of search.old.graph e).v ≡ result }
     ensures scanned { search.new.scanned.items ≡ newly_outer (state_of search.old) (closed_by (state_of search.old) e) }
+    ensures one_tree { (a : ℕ) → in_ring (closed_by (state_of search.old) e) a ≡ true → root_of (state_of search.old) a ≡ root_of (state_of search.old) (node_u search.old.graph search.old.arena.blossoms e) }
     ensures rest { search.new ≡ record search.old { arena = search.new.arena; labels = search.new.labels; mates = search.new.mates; circuit = search.new.circuit; scanned = search.new.scanned } }
     ensures sound { IsSound search.new }
     ensures trees { tree_count (state_of search.new) ≡ tree_count (state_of search.old) }
@@ -108,8 +121,9 @@ pub fn shrink<L: Ledger>(
     ensures count { entry_count search.new.queue + steps.old + 2 ≤ entry_count search.old.queue + steps.new }
 {
     steps.tick();
+    let seed = tree_seed(search, e);
     let node = close_by(search, e);
-    enlist(search, node);
+    enlist(search, node, seed);
     drop_entry(search, Item::Edge(e));
     search.enter_scanned(graph, steps);
     node

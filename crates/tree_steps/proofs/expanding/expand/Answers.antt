@@ -13,6 +13,7 @@ use Rattle.alt_forest.proofs.Queues.{standing_with}
 use Rattle.tree_steps.specs.Expanded.{IsExpanded}
 use Rattle.tree_steps.proofs.Counted.{outside_before}
 use Rattle.tree_steps.proofs.CountedExpand.{expand_inside, expand_blossoms, expand_looks}
+use Rattle.tree_steps.proofs.ExpandedRoots.{expanded_planted}
 use Rattle.tree_steps.proofs.ExpandedSearch.{expanded_is, expanded_same, base_outer, circuit_outer, vertices_are, expanded_vertices, expanded_queued, expanded_standing}
 use Rattle.tree_steps.proofs.expanding.expand.Given.{Over}
 use Rattle.tree_steps.proofs.expanding.expand.Goals as goal
@@ -49,7 +50,7 @@ returns-clause-standing g c =
     (standing_with c.drop_entry.new.search c.enter_scanned.new.self.queue
     (expanded_standing c.args.search.now c.scan_node.new.search c.lay_open-base.new.search c.enlist_circuit.new.search c.drop_entry.new.search c.requires.sound c.enlist_circuit.ensures.sound c.args.b c.lay_open-base.result c.requires.can c.lay_open-base.ensures.expanded
     c.scan_node.ensures.rest c.lay_open-base.ensures.rest c.enlist_circuit.ensures.rest c.drop_entry.ensures.rest c.lay_open-base.ensures.base c.lay_open-base.ensures.circuit c.lay_open-base.ensures.all
-    c.requires.standing c.enlist_circuit.ensures.listed c.enlist_circuit.ensures.keeps c.enlist_circuit.ensures.there))
+    c.root_vertex-seed.result c.root_vertex-seed.ensures.seed c.lay_open-base.ensures.roots c.requires.standing c.enlist_circuit.ensures.listed c.enlist_circuit.ensures.keeps c.enlist_circuit.ensures.there))
 
 -- the state after the edges are looked at is that of the open blossom
 opened_is : (g : Over) (c : goal.After-enter_scanned g) → IsExpanded (state_of c.args.search.now) (state_of c.enter_scanned.new.self) c.args.b
@@ -58,6 +59,12 @@ opened_is g c =
     c.scan_node.ensures.rest c.lay_open-base.ensures.rest c.enlist_circuit.ensures.rest c.drop_entry.ensures.rest c.lay_open-base.ensures.base c.lay_open-base.ensures.circuit c.lay_open-base.ensures.all in
     subst (λ (t : State). IsExpanded (state_of c.args.search.now) t c.args.b) (sym same) (expanded_is c.args.search.now c.scan_node.new.search c.lay_open-base.new.search c.enlist_circuit.new.search c.drop_entry.new.search c.requires.sound c.enlist_circuit.ensures.sound c.args.b c.lay_open-base.result c.requires.can c.lay_open-base.ensures.expanded
     c.scan_node.ensures.rest c.lay_open-base.ensures.rest c.enlist_circuit.ensures.rest c.drop_entry.ensures.rest c.lay_open-base.ensures.base c.lay_open-base.ensures.circuit c.lay_open-base.ensures.all)
+
+pub returns-clause-planted : goal.returns-clause-planted
+returns-clause-planted g c = λ was.
+    let f = c.args.search.now in
+    let h = c.requires.sound in
+    expanded_planted (state_of f) (state_of c.enter_scanned.new.self) h.depth c.args.b h.shape.graph.graph (nested_of f h.shape) h.state c.requires.can (opened_is g c) was
 
 pub returns-clause-inside : goal.returns-clause-inside
 returns-clause-inside g c = λ w is out.

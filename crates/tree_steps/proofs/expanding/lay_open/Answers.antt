@@ -11,6 +11,7 @@ use Rattle.tree_steps.proofs.Opening.{Expands}
 use Rattle.tree_steps.proofs.Pushed.{shape_with}
 use Rattle.tree_steps.proofs.Dissolving.{mate_end, parent_edge, parent_end, base_found, base_low, round_low, round_inside, round_all, round_pairs, written}
 use Rattle.alt_forest.proofs.Places.{nested_of}
+use Rattle.tree_steps.proofs.ExpandedRoots.{roots_opened}
 use Rattle.tree_steps.proofs.CountedExpand.{expand_trees, expand_exposed, expand_falls}
 use Rattle.tree_steps.proofs.expanding.lay_open.Goals as goal
 
@@ -109,3 +110,11 @@ open_at-requires-clause-shape c = shape_with c.args.search.now c.fill_round-firs
 
 pub returns-clause-base : goal.returns-clause-base
 returns-clause-base c = base_found c.args.search.now c.requires.sound c.args.b c.requires.can c.mate.result c.or_none-mate.result c.child_at-base.result c.mate.ensures.mate c.or_none-mate.ensures c.child_at-base.ensures.child
+
+pub returns-clause-roots : goal.returns-clause-roots
+returns-clause-roots c =
+    let f = c.args.search.now in
+    let h = c.requires.sound in
+    let e = made c in
+    roots_opened (state_of f) (state_of c.take_even_way.new.search) h.depth c.args.b h.shape.graph.graph (nested_of f h.shape) h.state c.requires.can e.is e.after e.state
+    (nested_of c.take_even_way.new.search c.take_even_way.ensures.shape) e.ways

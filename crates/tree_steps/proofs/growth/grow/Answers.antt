@@ -1,4 +1,4 @@
-use Rattle.std.proofs.Common.{◌≡◌, ◌≢◌, ◌∙◌, ◌+◌, ◌≤◌, true, All, refl, sym, ap, subst, arith}
+use Rattle.std.proofs.Common.{◌≡◌, ◌≢◌, ◌∙◌, ◌+◌, ◌≤◌, true, All, Some, refl, sym, ap, subst, arith}
 use Rattle.graph_theory.specs.Graph.{Multigraph}
 use Rattle.graph_theory.specs.Parts.{holds}
 use Rattle.blossom_arena.specs.Family.{is_vertex, members_of, names_of}
@@ -7,15 +7,16 @@ use Rattle.blossom_arena.proofs.Sets.{member_vertex}
 use Rattle.alt_forest.specs.declared.label.Label.TheVariants.{Out}
 use Rattle.alt_forest.specs.declared.search.Search.{Search}
 use Rattle.alt_forest.specs.State.{State, IsOutermost}
-use Rattle.alt_forest.specs.Counts.{outside_among}
+use Rattle.alt_forest.specs.Counts.{outside_among, IsPlanted}
 use Rattle.alt_forest.specs.Entries.{IsBlossomEntered, ends_around, looks_left}
 use Rattle.alt_forest.specs.Searches.{state_of, label_at}
-use Rattle.alt_forest.specs.Standing.{IsStanding}
+use Rattle.alt_forest.specs.Standing.{IsStanding, seed_at}
 use Rattle.alt_forest.proofs.Places.{nested_of}
 use Rattle.alt_forest.proofs.Queues.{standing_with}
 use Rattle.tree_steps.proofs.Awaited.{each_vertex}
 use Rattle.tree_steps.proofs.Counted.{KeepsOuter, outside_before}
 use Rattle.tree_steps.proofs.CountedGrow.{grow_inside, grow_blossoms, grow_looks}
+use Rattle.tree_steps.proofs.GrownRoots.{grown_planted}
 use Rattle.tree_steps.proofs.GrownSearch.{grown_state, grown_node, grown_scanned, grown_count, grown_queued, grown_standing}
 use Rattle.tree_steps.proofs.growth.grow.Goals as goal
 
@@ -85,8 +86,16 @@ returns-clause-standing g c =
     (standing_with k c.enter_scanned.new.self.queue
     (grown_standing c.args.search.now f1 f2 c.enlist-2.new.search c.drop_entry.new.search k c.requires.sound c.args.e mate can pair
     c.take_in-far.ensures.rest c.enlist.ensures.rest c.enlist-2.ensures.rest c.drop_entry.ensures.rest c.scan_node.ensures.rest (c.take_in-far.ensures.grown can mate pair)
-    c.requires.standing c.enlist-2.ensures.listed c.enlist.ensures.keeps c.enlist-2.ensures.keeps
-    (subst (λ a. label_at f1.labels.items a ≢ Out → holds f2.standing.items a ≡ true) far c.enlist.ensures.there) c.enlist-2.ensures.there))
+    c.take_in-far.ensures.sound c.near_seed-seed.result (c.near_seed-seed.ensures can) c.requires.standing c.enlist-2.ensures.listed
+    (λ a ne. c.enlist.ensures.keeps a (λ at. ne (at ∙ far))) c.enlist-2.ensures.keeps
+    (subst (λ a. label_at f1.labels.items a ≢ Out → seed_at f2.seeds.items a ≡ Some c.near_seed-seed.result) far c.enlist.ensures.there) c.enlist-2.ensures.there))
+
+pub returns-clause-planted : goal.returns-clause-planted
+returns-clause-planted g c = λ was.
+    let can = c.requires.can in
+    let mate = c.take_in-far.result.1 in
+    let pair = c.take_in-far.ensures.mate can in
+    subst IsPlanted (sym (returns-clause-grown g c can mate pair)) (grown_planted (state_of c.args.search.now) c.args.e mate can pair was)
 
 pub returns-clause-inside : goal.returns-clause-inside
 returns-clause-inside g c = λ w is out.

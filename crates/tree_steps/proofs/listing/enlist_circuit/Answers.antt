@@ -1,5 +1,7 @@
 use Rattle.std.proofs.Common.{◌≡◌, ◌∙◌, List, ◌≤◌, length, get_or, sym, ap, subst, arith}
+use Rattle.std.proofs.lemmas.List.{take_all}
 use Rattle.blossom_arena.specs.declared.links.Link.{Link}
+use Rattle.blossom_arena.specs.Family.{in_ring}
 use Rattle.alt_forest.specs.declared.search.Search.{Search}
 use Rattle.alt_forest.specs.State.{IsOutermost}
 use Rattle.alt_forest.specs.Searches.{state_of}
@@ -8,7 +10,7 @@ use Rattle.tree_steps.proofs.listing.enlist_circuit.Goals as goal
 
 pub loop-place-init : goal.loop-place-init
 loop-place-init c = let e = c.enlist.ensures in
-    enlisted_base c.args.search.now c.enlist.new.search c.args.base (record { rest = e.rest; sound = e.sound; listed = e.listed; there = e.there; keeps = e.keeps; entered = e.entered; others = e.others; edges = e.edges })
+    enlisted_base c.args.search.now c.enlist.new.search c.args.base c.args.seed (record { rest = e.rest; sound = e.sound; listed = e.listed; there = e.there; keeps = e.keeps; entered = e.entered; others = e.others; edges = e.edges })
 
 pub enlist-requires-in-loop-place-clause-outer : goal.enlist-requires-in-loop-place-clause-outer
 enlist-requires-in-loop-place-clause-outer c =
@@ -31,7 +33,7 @@ loop-place-preserved c =
     let e = c.enlist-in-loop-place.ensures in
     let items : now.circuit.items ≡ f.circuit.items = ap (λ (x : Search). x.circuit.items) i.rest in
     let first : c.enlist.new.search.circuit.items ≡ f.circuit.items = ap (λ (x : Search). x.circuit.items) c.enlist.ensures.rest in
-    enlisted_more f now c.enlist-in-loop-place.new.search c.args.base c.loop-place.place l i (omega (arith, c.loop-place-test.true, c.len-place-end.ensures, ap length first))
+    enlisted_more f now c.enlist-in-loop-place.new.search c.args.base c.args.seed c.loop-place.place l i (omega (arith, c.loop-place-test.true, c.len-place-end.ensures, ap length first))
     (sym (c.index-link.ensures ∙ ap (λ (ls : List Link). get_or ls c.loop-place.place l) items))
     (record { rest = e.rest; sound = e.sound; listed = e.listed; there = e.there; keeps = e.keeps; entered = e.entered; others = e.others; edges = e.edges })
 
@@ -48,3 +50,10 @@ returns-clause-entered c = λ a among.
     let first : c.enlist.new.search.circuit.items ≡ f.circuit.items = ap (λ (x : Search). x.circuit.items) c.enlist.ensures.rest in
     let all : length f.circuit.items ≤ c.loop-place.place = omega (arith, c.loop-place-test.false, c.len-place-end.ensures, ap length first) in
     c.loop-place.invariant.entered a (among_all f.circuit.items c.args.base c.loop-place.place a all among)
+
+pub returns-clause-keeps : goal.returns-clause-keeps
+returns-clause-keeps c = λ a ne off.
+    let f = c.args.search.now in
+    let first : c.enlist.new.search.circuit.items ≡ f.circuit.items = ap (λ (x : Search). x.circuit.items) c.enlist.ensures.rest in
+    let all : length f.circuit.items ≤ c.loop-place.place = omega (arith, c.loop-place-test.false, c.len-place-end.ensures, ap length first) in
+    c.loop-place.invariant.keeps a ne (ap (λ ls. in_ring ls a) (take_all c.loop-place.place f.circuit.items all) ∙ off)

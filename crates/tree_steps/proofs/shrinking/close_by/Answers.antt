@@ -5,10 +5,10 @@ use Rattle.blossom_arena.specs.declared.links.Link.{Link}
 use Rattle.blossom_arena.specs.Family.{Blossom, IsNested, IsCircuit, is_vertex, in_ring, ring_of, outermost, made_of}
 use Rattle.blossom_arena.proofs.Ends.{u_vertex, v_vertex}
 use Rattle.blossom_arena.proofs.Sets.{member_by_ring}
-use Rattle.alt_forest.specs.State.{State}
+use Rattle.alt_forest.specs.State.{State, node_u, node_v}
 use Rattle.alt_forest.specs.declared.search.Search.{Search}
 use Rattle.graph_theory.specs.Graph.{edge_of}
-use Rattle.alt_forest.specs.Trees.{path_of, first_common}
+use Rattle.alt_forest.specs.Trees.{path_of, root_of, first_common}
 use Rattle.alt_forest.specs.Events.{CanShrink}
 use Rattle.alt_forest.specs.Searches.{IsSound, state_of}
 use Rattle.alt_forest.proofs.Places.{nested_of}
@@ -16,6 +16,9 @@ use Rattle.tree_steps.specs.Scanned.{newly_outer}
 use Rattle.tree_steps.specs.Shrunk.{shrunk_state}
 use Rattle.tree_steps.specs.Shrinkable.{CanClose, IsShrunk}
 use Rattle.tree_steps.proofs.CountedShrink.{shrunk_trees, shrunk_exposed, shrunk_falls}
+use Rattle.alt_forest.proofs.Relabelled.{outer_not_out}
+use Rattle.tree_steps.proofs.Ends.{ends_of}
+use Rattle.tree_steps.proofs.OneTree.{circuit_root}
 use Rattle.tree_steps.proofs.ClosedBy.{Closes, closes}
 use Rattle.tree_steps.proofs.shrinking.close_by.Goals as goal
 
@@ -120,3 +123,15 @@ returns-clause-holds_v c =
     (v_vertex c.args.search.now.graph c.args.e r.sound.shape.graph.graph.ends r.can.tight.edge)
     (sym (c.outermost-b.ensures.node ∙ ap (outermost c.args.search.now.arena.blossoms) c.edge-u.ensures.to))
     (ap (λ (ls : List Link). in_ring ls c.outermost-b.result) c.fill_circuit.ensures.circuit ∙ m.b_on)
+
+pub returns-clause-one_tree : goal.returns-clause-one_tree
+returns-clause-one_tree c = λ x on.
+    let r = c.requires in
+    let f = c.args.search.now in
+    let m = looked_up f r.sound c.args.e _ _ _ _ c.meeting_node-base.result r.can c.edge-u.ensures.from c.edge-u.ensures.to c.outermost-a.ensures.node c.outermost-b.ensures.node c.meeting_node-base.ensures in
+    let a_at : c.outermost-a.result ≡ node_u f.graph f.arena.blossoms c.args.e = c.outermost-a.ensures.node ∙ ap (outermost f.arena.blossoms) c.edge-u.ensures.from in
+    let b_at : c.outermost-b.result ≡ node_v f.graph f.arena.blossoms c.args.e = c.outermost-b.ensures.node ∙ ap (outermost f.arena.blossoms) c.edge-u.ensures.to in
+    let ends = (ends_of (state_of f) c.args.e c.outermost-a.result c.outermost-b.result r.can a_at b_at).0 in
+    circuit_root (state_of f) r.sound.depth c.outermost-a.result c.outermost-b.result c.meeting_node-base.result c.args.e (nested_of f r.sound.shape) r.sound.state
+    m.a_is (λ out. outer_not_out (sym ends.a_outer ∙ out)) m.b_is (λ out. outer_not_out (sym ends.b_outer ∙ out)) ends.one_tree m.a_there x (ap (λ (ls : List Link). in_ring ls x) m.is ∙ on)
+    ∙ ap (root_of (state_of f)) a_at

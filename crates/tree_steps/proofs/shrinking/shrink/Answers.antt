@@ -1,6 +1,6 @@
 use Rattle.std.proofs.Common.{◌≡◌, ◌∙◌, ◌≤◌, sym, ap, subst, arith}
 use Rattle.alt_forest.specs.State.{State}
-use Rattle.alt_forest.specs.Counts.{outside_among}
+use Rattle.alt_forest.specs.Counts.{outside_among, IsPlanted}
 use Rattle.alt_forest.specs.Entries.{looks_left}
 use Rattle.alt_forest.specs.Searches.{state_of}
 use Rattle.alt_forest.specs.Standing.{IsStanding}
@@ -9,6 +9,7 @@ use Rattle.alt_forest.proofs.Queues.{standing_with}
 use Rattle.tree_steps.proofs.Counted.{KeepsOuter, outside_before}
 use Rattle.tree_steps.proofs.CountedShrink.{shrunk_inside, shrunk_blossoms}
 use Rattle.tree_steps.proofs.QueuedShrink.{shrunk_outer}
+use Rattle.tree_steps.proofs.ShrunkRoots.{shrunk_planted}
 use Rattle.tree_steps.proofs.ShrunkSearch.{shrunk_same, shrunk_vertices, shrunk_ends, shrunk_count, shrunk_queued, shrunk_standing}
 use Rattle.tree_steps.proofs.shrinking.shrink.Given.{Over}
 use Rattle.tree_steps.proofs.shrinking.shrink.Goals as goal
@@ -36,7 +37,7 @@ returns-clause-standing g c =
     (standing_with c.drop_entry.new.search c.enter_scanned.new.self.queue
     (shrunk_standing c.args.search.now c.close_by-node.new.search c.enlist.new.search c.drop_entry.new.search c.requires.sound c.close_by-node.ensures.sound c.enlist.ensures.sound c.args.e c.close_by-node.result c.requires.can c.close_by-node.ensures.shrunk
     c.close_by-node.ensures.rest c.enlist.ensures.rest c.drop_entry.ensures.rest
-    c.requires.standing c.enlist.ensures.listed c.enlist.ensures.keeps c.enlist.ensures.there))
+    c.tree_seed-seed.result c.tree_seed-seed.ensures c.close_by-node.ensures.circuit c.close_by-node.ensures.one_tree c.requires.standing c.enlist.ensures.listed c.enlist.ensures.keeps c.enlist.ensures.there))
 
 -- the state after the edges are looked at is that of the new node
 same_state : (g : Over) (c : goal.After-enter_scanned g) → state_of c.enter_scanned.new.self ≡ state_of c.close_by-node.new.search
@@ -44,6 +45,12 @@ same_state g c =
     ap state_of c.enter_scanned.ensures.rest
     ∙ shrunk_same c.args.search.now c.close_by-node.new.search c.enlist.new.search c.drop_entry.new.search c.requires.sound c.close_by-node.ensures.sound c.enlist.ensures.sound c.args.e c.close_by-node.result c.requires.can c.close_by-node.ensures.shrunk
     c.close_by-node.ensures.rest c.enlist.ensures.rest c.drop_entry.ensures.rest
+
+pub returns-clause-planted : goal.returns-clause-planted
+returns-clause-planted g c = λ was.
+    let f1 = c.close_by-node.new.search in
+    subst IsPlanted (sym (same_state g c))
+    (shrunk_planted (state_of c.args.search.now) (state_of f1) c.close_by-node.result c.close_by-node.ensures.shrunk c.requires.sound.shape.graph.graph (nested_of f1 c.close_by-node.ensures.sound.shape) was)
 
 pub returns-clause-inside : goal.returns-clause-inside
 returns-clause-inside g c = λ w is out.

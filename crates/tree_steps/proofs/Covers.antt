@@ -1,0 +1,67 @@
+-- What covers a vertex, where a blossom of dual 0 comes or goes, and what exposed nodes have in common after that.
+use Rattle.std.proofs.Common.{◌≡◌, ℕ, ℤ, pos, ◌+ℤ◌, true, false, eqb, cond, List, [], ◌∷◌, None, refl, sym, ap, ◌∙◌, subst}
+use Rattle.std.specs.List.{AllByRecursion}
+use Rattle.std.proofs.Math.IntN.{+ℤ_idl}
+use Rattle.std.proofs.lemmas.Bool.{eqb-true}
+use Rattle.graph_theory.specs.Graph.{Multigraph, edge_of}
+use Rattle.graph_theory.specs.Parts.{holds}
+use Rattle.blossom_arena.specs.declared.links.Link.{Link}
+use Rattle.blossom_arena.specs.Family.{Blossom, is_vertex, outermost, without}
+use Rattle.blossom_arena.proofs.Lists.{by_test}
+use Rattle.alt_forest.specs.State.{State, IsTight, ExposedAgree, held_by, cover, SameParity}
+use Rattle.alt_forest.proofs.Parity.{parity_sym, parity_trans, tight_parity}
+
+-- duals that agree at the blossoms
+pub held_same : (y z : ℕ → ℤ) (bs : List Blossom) (v : ℕ) → AllByRecursion (λ (b : Blossom). y b.node ≡ z b.node) bs → held_by y bs v ≡ held_by z bs v
+held_same y z [] v each = refl
+held_same y z (b ∷ older) v each =
+    ap (λ t. cond (holds b.members v) t (pos 0) +ℤ held_by y older v) each.0
+    ∙ ap (λ t. cond (holds b.members v) (z b.node) (pos 0) +ℤ t) (held_same y z older v each.1)
+
+-- a blossom of dual 0 on base, and one taken away
+pub held_zero : (y : ℕ → ℤ) (b : Blossom) (older : List Blossom) (v : ℕ) → y b.node ≡ pos 0 → held_by y (b ∷ older) v ≡ held_by y older v
+held_zero y b older v zero_there =
+    elim (holds b.members v) as (λ t. cond t (y b.node) (pos 0) +ℤ held_by y older v ≡ held_by y older v) [
+      | true ↦ ap (λ t. t +ℤ held_by y older v) zero_there ∙ +ℤ_idl (held_by y older v)
+      | false ↦ +ℤ_idl (held_by y older v)
+    ]
+
+pub held_without : (y : ℕ → ℤ) (bs : List Blossom) (a v : ℕ) → y a ≡ pos 0 → held_by y (without bs a) v ≡ held_by y bs v
+held_without y [] a v none = refl
+held_without y (b ∷ older) a v none =
+    by_test (eqb b.node a)
+    (λ s. ap (λ q. held_by y (cond q older (b ∷ without older a)) v) s ∙ sym (held_zero y b older v (ap y (eqb-true b.node a s) ∙ none)))
+    (λ s. ap (λ q. held_by y (cond q older (b ∷ without older a)) v) s ∙ ap (λ t. cond (holds b.members v) (y b.node) (pos 0) +ℤ t) (held_without y older a v none))
+
+-- the ends of each tight edge agree
+abbrev pub Agree : State → ℕ → ℕ → Type 0
+Agree s u v = SameParity (cover s u) (cover s v)
+
+pub ring_agrees : (s : State) (ring : List Link) → AllByRecursion (λ (l : Link). IsTight s l.edge) ring → AllByRecursion (λ (l : Link). Agree s (edge_of s.graph l.edge).u (edge_of s.graph l.edge).v) ring
+ring_agrees s [] t = tt
+ring_agrees s (l ∷ ring) t = (tight_parity s l.edge t.0.tight, ring_agrees s ring t.1)
+
+pub rings_agree : (s : State) (bs : List Blossom) → AllByRecursion (λ (b : Blossom). AllByRecursion (λ (l : Link). IsTight s l.edge) b.ring) bs
+    → AllByRecursion (λ (b : Blossom). AllByRecursion (λ (l : Link). Agree s (edge_of s.graph l.edge).u (edge_of s.graph l.edge).v) b.ring) bs
+rings_agree s [] t = tt
+rings_agree s (b ∷ bs) t = (ring_agrees s b.ring t.0, rings_agree s bs t.1)
+
+-- a vertex agrees with one that was in an exposed node
+pub record WasExposed (s : State) (v : ℕ) : Type 0 where
+  pub at : ℕ
+  pub vertex : is_vertex s.graph.vertices at ≡ true
+  pub exposed : s.mate (outermost s.blossoms at) ≡ None
+  pub agree : Agree s v at
+
+-- covers that stay have one parity in exposed nodes, if their vertices agree with such as were exposed
+pub agree_after : (s t : State) → t.graph ≡ s.graph → ExposedAgree s → ((v : ℕ) → is_vertex s.graph.vertices v ≡ true → cover t v ≡ cover s v)
+    → ((v : ℕ) → is_vertex s.graph.vertices v ≡ true → t.mate (outermost t.blossoms v) ≡ None → WasExposed s v) → ExposedAgree t
+agree_after s t graph agree covers was v w iv iw ev ew =
+    let v_is : is_vertex s.graph.vertices v ≡ true = ap (λ (g : Multigraph). is_vertex g.vertices v) (sym graph) ∙ iv in
+    let w_is : is_vertex s.graph.vertices w ≡ true = ap (λ (g : Multigraph). is_vertex g.vertices w) (sym graph) ∙ iw in
+    let x = was v v_is ev in
+    let y = was w w_is ew in
+    let both : Agree s v w =
+    parity_trans (cover s v) (cover s x.at) (cover s w) x.agree
+    (parity_trans (cover s x.at) (cover s y.at) (cover s w) (agree x.at y.at x.vertex y.vertex x.exposed y.exposed) (parity_sym (cover s w) (cover s y.at) y.agree)) in
+    subst (λ z. SameParity (cover t v) z) (sym (covers w w_is)) (subst (λ z. SameParity z (cover s w)) (sym (covers v v_is)) both)
