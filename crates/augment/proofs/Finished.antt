@@ -3,8 +3,9 @@ use Rattle.std.proofs.Common.{◌≡◌, ℕ, true, false, List, [], ◌∷◌, 
 use Rattle.std.specs.List.{AllByRecursion}
 use Rattle.graph_theory.specs.Graph.{IsPerfect}
 use Rattle.graph_theory.specs.Parts.{holds}
-use Rattle.blossom_arena.specs.Family.{Blossom, is_vertex, is_child}
+use Rattle.blossom_arena.specs.Family.{Blossom, IsNested, is_vertex, is_child, outermost}
 use Rattle.blossom_arena.proofs.Nested.{outermost_parts}
+use Rattle.blossom_arena.proofs.Sets.{outermost_has}
 use Rattle.alt_forest.specs.declared.search.Search.{Search}
 use Rattle.alt_forest.specs.State.{State, IsOutermost, IsTight, IsMate, IsSearchState}
 use Rattle.alt_forest.specs.Searches.{IsSound, state_of, edge_in}
@@ -31,13 +32,14 @@ module _ (s : State) (depth : ℕ → ℕ) (m : ℕ → Option ℕ) (same : (a :
   pub still_tight : (e : ℕ) → IsTight s e → IsTight (with_mates s m) e
   still_tight e t = record { edge = t.edge; tight = t.tight }
 
-  pub still_state : IsSearchState (with_mates s m) depth
-  still_state = record {
+  pub still_state : IsNested s.graph.vertices s.blossoms → IsSearchState (with_mates s m) depth
+  still_state nested = record {
     rings = st.rings;
     tight_rings = tight_rings s (with_mates s m) still_tight s.blossoms st.tight_rings;
     slacks = st.slacks;
     duals = st.duals;
     mates = λ a e is has. let r = st.mates a e is (sym (same a is) ∙ has) in (r.0, forth a e r.0 r.1);
+    parity = λ v w iv iw ev ew. st.parity v w iv iw (free v iv ev) (free w iw ew);
     labels = λ a is. record {
       outer = λ l e b has w. (st.labels a is).outer l e b (sym (same a is) ∙ has) (back a e b w);
       inner = λ l.
@@ -62,6 +64,9 @@ module _ (s : State) (depth : ℕ → ℕ) (m : ℕ → Option ℕ) (same : (a :
       out = λ l e b has w. (st.labels a is).out l e b (sym (same a is) ∙ has) (back a e b w);
     };
   }
+    where
+      free : (v : ℕ) → is_vertex s.graph.vertices v ≡ true → m (outermost s.blossoms v) ≡ None → s.mate (outermost s.blossoms v) ≡ None
+      free v iv none = sym (same (outermost s.blossoms v) (outermost_has s.graph.vertices s.blossoms v nested iv).0) ∙ none
 
 -- mates that are those of the outermost nodes, and of no other node yet
 module _ (s : Search) (h : IsSound s) (matched : IsMatched (state_of s)) (m : ℕ → Option ℕ) (same : (a : ℕ) → is_child s.arena.blossoms a ≡ false → m a ≡ edge_in s.mates.items a) where
@@ -118,5 +123,5 @@ module _ (s : Search) (h : IsSound s) (matched : IsMatched (state_of s)) (m fina
       subst IsSound (sym is) (record {
         shape = record { graph = sh.graph; family = sh.family; arena = sh.arena; labels = sh.labels; parents = sh.parents; mates = len ∙ sh.mates; circuit = sh.circuit; room = sh.room };
         depth = h.depth;
-        state = subst (λ (m : ℕ → Option ℕ). IsSearchState (with_mates (state_of s) m) h.depth) (sym now) (still_state (state_of s) h.depth final v.kept h.state);
+        state = subst (λ (m : ℕ → Option ℕ). IsSearchState (with_mates (state_of s) m) h.depth) (sym now) (still_state (state_of s) h.depth final v.kept h.state (nested_of s h.shape));
       })

@@ -1,8 +1,4 @@
-pub mod Flipped
 pub mod Exposure
-pub mod Turning
-pub mod Changed
-pub mod Turned
 pub mod Chains
 pub mod Spreads
 pub mod Holders
@@ -15,3 +11,10 @@ pub mod LinkPairs
 pub mod Bases
 pub mod Ready
 pub mod Finished
+pub mod Removed
+pub mod Climbing
+pub mod Uprooted
+pub mod Felled
+pub mod Exchanged
+pub mod Fewer
+pub mod Joined

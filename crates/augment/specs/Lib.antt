@@ -1,3 +1,5 @@
 pub mod Turns
+pub mod Felling
+pub mod Exchange
 pub mod Matching
 pub mod Opening

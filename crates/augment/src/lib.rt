@@ -3,9 +3,13 @@
 //! exposed nodes fewer, and a perfect matching of the vertices by edges of slack 0.
 #![tactic(auto)]
 
+mod felling;
 mod flips;
+mod joining;
 mod marking;
 mod opening;
+mod turning;
 
 pub use flips::flip;
+pub use joining::join;
 pub use opening::unpack;

@@ -1,37 +1,22 @@
-use Rattle.std.proofs.Common.{◌≢◌, ◌↔◌, ◌∙◌, ℕ, refl, sym, ap, subst}
-use Rattle.graph_theory.specs.Parts.{holds}
+use Rattle.std.proofs.Common.{◌∙◌, ap}
+use Rattle.blossom_arena.specs.Family.{outermost}
 use Rattle.alt_forest.specs.declared.search.Search.{Search}
-use Rattle.alt_forest.specs.State.{State, IsExposed}
-use Rattle.alt_forest.specs.Trees.{path_of, root_of}
-use Rattle.alt_forest.specs.Searches.{state_of, edge_in}
-use Rattle.augment.proofs.Turned.{sound_after, ends_unique}
+use Rattle.augment.proofs.Exchanged.{seeded_with, sound_of, exchange_of}
 use Rattle.augment.proofs.flips.exchange.Goals as goal
 
+pub fell-requires-clause-seeded : goal.fell-requires-clause-seeded
+fell-requires-clause-seeded c = seeded_with c.args.search.now c.turn.new.search c.turn.ensures.rest c.requires.standing
+
 pub returns-clause-sound : goal.returns-clause-sound
-returns-clause-sound c = sound_after c.args.search.now c.turn.new.search (record c.turn.new.search { labels = c.wipe.new.labels }) c.requires.sound c.turn.ensures.rest c.turn.ensures.len c.turn.ensures.mates refl c.wipe.ensures.len c.wipe.ensures.out
+returns-clause-sound c =
+    let s : Search = c.args.search.now in
+    sound_of s c.turn.new.search c.fell.new.search c.requires.sound c.requires.standing c.args.e c.outermost-one.result c.outermost-other.result c.root-one_root.result c.root-other_root.result c.requires.can
+    (c.outermost-one.ensures.node ∙ ap (outermost s.arena.blossoms) c.edge-u.ensures.from) (c.outermost-other.ensures.node ∙ ap (outermost s.arena.blossoms) c.edge-u.ensures.to)
+    c.root-one_root.ensures.root c.root-other_root.ensures.root c.turn.ensures.rest c.fell.ensures.rest c.turn.ensures.turned c.fell.ensures.felled c.fell.ensures.shape
 
-pub returns-clause-near : goal.returns-clause-near
-returns-clause-near c can =
-    let r = ends_unique (state_of c.args.search.now) c.args.e c.ends_of-near.result.0 c.ends_of-near.result.1 c.ends_of-near.ensures can in
-    ap (edge_in c.turn.new.search.mates.items) (sym r.near_is) ∙ c.turn.ensures.flipped.near_has
-
-pub returns-clause-far : goal.returns-clause-far
-returns-clause-far c can =
-    let r = ends_unique (state_of c.args.search.now) c.args.e c.ends_of-near.result.0 c.ends_of-near.result.1 c.ends_of-near.ensures can in
-    ap (edge_in c.turn.new.search.mates.items) (sym r.far_is) ∙ c.turn.ensures.flipped.far_has
-
-pub returns-clause-keeps : goal.returns-clause-keeps
-returns-clause-keeps c can a other off =
-    let s : State = state_of c.args.search.now in
-    let r = ends_unique s c.args.e c.ends_of-near.result.0 c.ends_of-near.result.1 c.ends_of-near.ensures can in
-    c.turn.ensures.flipped.keeps a (λ q. other (q ∙ r.far_is)) (ap (λ x. holds (path_of s x) a) r.near_is ∙ off)
-
-pub returns-clause-exposed : goal.returns-clause-exposed
-returns-clause-exposed c can a =
-    let s : State = state_of c.args.search.now in
-    let far : ℕ = c.ends_of-near.result.1 in
-    let r = ends_unique s c.args.e c.ends_of-near.result.0 far c.ends_of-near.ensures can in
-    subst (λ (u : Search). IsExposed (state_of (record u { labels = c.wipe.new.labels })) a ↔ (IsExposed s a × (a ≢ can.far) × (a ≢ root_of s can.near))) (sym c.turn.ensures.rest)
-    (subst (λ x. IsExposed (state_of (record c.args.search.now { mates = c.turn.new.search.mates; labels = c.wipe.new.labels })) a ↔ (IsExposed s a × (a ≢ x) × (a ≢ root_of s can.near))) r.far_is
-    (subst (λ x. IsExposed (state_of (record c.args.search.now { mates = c.turn.new.search.mates; labels = c.wipe.new.labels })) a ↔ (IsExposed s a × (a ≢ far) × (a ≢ root_of s x))) r.near_is
-    (c.turn.ensures.flipped.exposed a)))
+pub returns-clause-exchanged : goal.returns-clause-exchanged
+returns-clause-exchanged c =
+    let s : Search = c.args.search.now in
+    exchange_of s c.turn.new.search c.fell.new.search c.requires.sound c.requires.standing c.args.e c.outermost-one.result c.outermost-other.result c.root-one_root.result c.root-other_root.result c.requires.can
+    (c.outermost-one.ensures.node ∙ ap (outermost s.arena.blossoms) c.edge-u.ensures.from) (c.outermost-other.ensures.node ∙ ap (outermost s.arena.blossoms) c.edge-u.ensures.to)
+    c.root-one_root.ensures.root c.root-other_root.ensures.root c.turn.ensures.rest c.fell.ensures.rest c.turn.ensures.turned c.fell.ensures.felled

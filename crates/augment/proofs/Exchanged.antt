@@ -1,0 +1,255 @@
+-- What a search is once the ways between two roots are flipped and their two trees are felled.
+use Rattle.std.proofs.Common.{◌≡◌, ◌≢◌, ◌⊎◌, ℕ, true, false, not, ◌||◌, eqb, cond, Option, Some, None, refl, sym, ap, ◌∙◌, subst, ⊎_elim, inl, inr}
+use Rattle.std.specs.Prelude.{is_some}
+use Rattle.std.proofs.lemmas.Bool.{both_ways, and_parts, and_from, or_left, or_right, or_cases, eqb-true, eq-eqb}
+use Rattle.std.proofs.lemmas.Option.{same_Some}
+use Rattle.graph_theory.specs.Parts.{holds}
+use Rattle.blossom_arena.specs.Family.{IsNested, is_outermost, outermost}
+use Rattle.blossom_arena.proofs.Lists.{by_test}
+use Rattle.alt_forest.specs.declared.label.Label.{Label}
+use Rattle.alt_forest.specs.declared.label.Label.TheVariants.{Outer, Inner, Out}
+use Rattle.alt_forest.specs.declared.search.Search.{Search}
+use Rattle.alt_forest.specs.State.{State, IsOutermost, IsSearchState, node_u, node_v}
+use Rattle.alt_forest.specs.Trees.{is_label, root_of}
+use Rattle.alt_forest.specs.Events.{CanAugment}
+use Rattle.alt_forest.specs.Searches.{HasShape, IsSound, state_of, label_at, edge_in}
+use Rattle.alt_forest.specs.Standing.{seed_at, IsSeed, IsStanding}
+use Rattle.alt_forest.proofs.Mates.{joins_turned}
+use Rattle.alt_forest.proofs.Places.{nested_of}
+use Rattle.alt_forest.proofs.Relabelled.{outer_not_out, inner_not_out}
+use Rattle.alt_forest.proofs.Roots.{ways_lead}
+use Rattle.augment.specs.Turns.{with_both, AreEnds, IsTurned, IsElsewhere, IsRemoved}
+use Rattle.augment.specs.Felling.{stands, leads_to, falls, AreSeeded, IsFelled}
+use Rattle.augment.specs.Exchange.{IsExchanged}
+use Rattle.augment.proofs.Removed.{away_of, removed_state, roots_stay}
+use Rattle.augment.proofs.Uprooted.{off_way}
+
+-- a label is out or isn't
+pub out_or_not : (k : Label) → (k ≡ Out) ⊎ (k ≢ Out)
+out_or_not Outer = inr (λ q. outer_not_out q)
+out_or_not Inner = inr (λ q. inner_not_out q)
+out_or_not Out = inl refl
+
+tests_out : (k : Label) → not (is_label k Out) ≡ true → k ≢ Out
+tests_out k t q = both_ways (not (is_label k Out)) (ap (λ x. not (is_label x Out)) q) t
+
+passes_out : (k : Label) → k ≢ Out → not (is_label k Out) ≡ true
+passes_out Outer ne = refl
+passes_out Inner ne = refl
+passes_out Out ne = absurd (ne refl)
+
+-- the ends of an edge by which the matching can be augmented
+pub ends_here : (s : State) (e : ℕ) → CanAugment s e → AreEnds s e (node_u s.graph s.blossoms e) (node_v s.graph s.blossoms e)
+ends_here s e c = ⊎_elim
+    (λ p. of_two (node_u s.graph s.blossoms e) (node_v s.graph s.blossoms e) (sym p.0) (sym p.1)
+    (record { tight = c.tight; joins = c.joins; near_is = c.one_is; far_is = c.other_is; near_outer = c.one_outer; far_outer = c.other_outer; two_trees = c.two_trees }))
+    (λ p. of_two (node_u s.graph s.blossoms e) (node_v s.graph s.blossoms e) (sym p.0) (sym p.1)
+    (record { tight = c.tight; joins = joins_turned s.graph s.blossoms e c.one c.other c.joins; near_is = c.other_is; far_is = c.one_is; near_outer = c.other_outer; far_outer = c.one_outer; two_trees = λ q. c.two_trees (sym q) }))
+    c.joins
+  where
+    of_two : {a b : ℕ} (x y : ℕ) → a ≡ x → b ≡ y → AreEnds s e a b → AreEnds s e x y
+    of_two {a} {b} x y p q h = subst (λ z. AreEnds s e z y) p (subst (AreEnds s e a) q h)
+
+-- it doesn't matter which of the two comes first
+removed_turned : (s : State) (m : ℕ → Option ℕ) (l : ℕ → Label) (one other : ℕ) → IsRemoved s m l one other → IsRemoved s m l other one
+removed_turned s m l one other h = record {
+  mates = h.mates;
+  kept = λ a is w. h.kept a is (record { not_one = w.not_other; not_other = w.not_one });
+  stays = λ a is w. h.stays a is (record { not_one = w.not_other; not_other = w.not_one });
+  gone = λ a is p. h.gone a is (⊎_elim (λ q. inr q) (λ q. inl q) p);
+  one_is = h.other_is;
+  other_is = h.one_is;
+  differ = λ q. h.differ (sym q);
+  one_has = h.other_has;
+  other_has = h.one_has;
+  seen = λ c x y. h.seen c y x;
+}
+
+exchanged_turned : (s t : Search) (e one other : ℕ) → IsExchanged s t e one other → IsExchanged s t e other one
+exchanged_turned s t e one other h = record {
+  removed = removed_turned (state_of s) (edge_in t.mates.items) (label_at t.labels.items) (root_of (state_of s) one) (root_of (state_of s) other) h.removed;
+  one_has = h.other_has;
+  other_has = h.one_has;
+  keeps = λ a x y. h.keeps a y x;
+  standing = h.standing;
+  only = h.only;
+  different = h.different;
+  vertices = h.vertices;
+  scans = h.scans;
+}
+
+pub exchanged_at : (s t : Search) (e : ℕ) → IsExchanged s t e (node_u s.graph s.arena.blossoms e) (node_v s.graph s.arena.blossoms e) → (c : CanAugment (state_of s) e) → IsExchanged s t e c.one c.other
+exchanged_at s t e h c = ⊎_elim
+    (λ p. subst (λ z. IsExchanged s t e z c.other) p.0 (subst (IsExchanged s t e (node_u s.graph s.arena.blossoms e)) p.1 h))
+    (λ p. exchanged_turned s t e c.other c.one (subst (λ z. IsExchanged s t e z c.one) p.0 (subst (IsExchanged s t e (node_u s.graph s.arena.blossoms e)) p.1 h)))
+    c.joins
+
+-- seeds are vertices
+pub seeded_of : (s : Search) → IsStanding s → AreSeeded s
+seeded_of s h a st =
+    let p = and_parts (is_outermost s.graph.vertices s.arena.blossoms a) (not (is_label (label_at s.labels.items a) Out)) st in
+    let r = h.trees a p.0 (tests_out (label_at s.labels.items a) p.1) in
+    (r.0, r.1, r.2.vertex)
+
+-- the nodes that fall are those of the two trees
+module _ (s : Search) (standing : IsStanding s) (one other : ℕ) where
+  leads_by : (a : ℕ) → IsOutermost (state_of s) a → label_at s.labels.items a ≢ Out → leads_to s.arena.blossoms one other (seed_at s.seeds.items a) ≡ (eqb (root_of (state_of s) a) one || eqb (root_of (state_of s) a) other)
+  leads_by a is in_it =
+      let r = standing.trees a is in_it in
+      ap (leads_to s.arena.blossoms one other) r.1 ∙ ap (λ x. eqb x one || eqb x other) r.2.root
+
+  pub falls_of : (a : ℕ) → IsOutermost (state_of s) a → label_at s.labels.items a ≢ Out → (root_of (state_of s) a ≡ one) ⊎ (root_of (state_of s) a ≡ other) → falls s one other a ≡ true
+  falls_of a is in_it p = and_from (stands s a) (leads_to s.arena.blossoms one other (seed_at s.seeds.items a))
+      (and_from (is_outermost s.graph.vertices s.arena.blossoms a) (not (is_label (label_at s.labels.items a) Out)) is (passes_out (label_at s.labels.items a) in_it))
+      (leads_by a is in_it ∙ ⊎_elim
+      (λ q. or_left (eqb (root_of (state_of s) a) one) (eqb (root_of (state_of s) a) other) (eq-eqb (root_of (state_of s) a) one q))
+      (λ q. or_right (eqb (root_of (state_of s) a) one) (eqb (root_of (state_of s) a) other) (eq-eqb (root_of (state_of s) a) other q))
+      p)
+
+  pub fallen_of : (a : ℕ) → falls s one other a ≡ true → (root_of (state_of s) a ≡ one) ⊎ (root_of (state_of s) a ≡ other)
+  fallen_of a f =
+      let p = and_parts (stands s a) (leads_to s.arena.blossoms one other (seed_at s.seeds.items a)) f in
+      let q = and_parts (is_outermost s.graph.vertices s.arena.blossoms a) (not (is_label (label_at s.labels.items a) Out)) p.0 in
+      ⊎_elim
+      (λ t. inl (eqb-true (root_of (state_of s) a) one t))
+      (λ t. inr (eqb-true (root_of (state_of s) a) other t))
+      (or_cases (eqb (root_of (state_of s) a) one) (eqb (root_of (state_of s) a) other) (sym (leads_by a q.0 (tests_out (label_at s.labels.items a) q.1)) ∙ p.1))
+
+  pub stays_of : (a : ℕ) → IsElsewhere (state_of s) one other a → falls s one other a ≡ false
+  stays_of a away = by_test (falls s one other a)
+      (λ t. absurd (⊎_elim (λ q. away.not_one q) (λ q. away.not_other q) (fallen_of a t)))
+      (λ t. t)
+
+module _ (s t : Search) (sound : IsSound s) (standing : IsStanding s) (e near far : ℕ) (ends : AreEnds (state_of s) e near far)
+    (is : t ≡ record s { labels = t.labels; mates = t.mates; standing = t.standing; seeds = t.seeds; scanned = t.scanned })
+    (turned : IsTurned (state_of s) (edge_in t.mates.items) e near far) (felled : IsFelled s t (root_of (state_of s) near) (root_of (state_of s) far)) where
+  abbrev x : State
+  x = state_of s
+
+  abbrev one : ℕ
+  one = root_of (state_of s) near
+
+  abbrev other : ℕ
+  other = root_of (state_of s) far
+
+  abbrev m : ℕ → Option ℕ
+  m = edge_in t.mates.items
+
+  abbrev l : ℕ → Label
+  l = label_at t.labels.items
+
+  nested : IsNested s.graph.vertices s.arena.blossoms
+  nested = nested_of s sound.shape
+
+  near_in : label_at s.labels.items near ≢ Out
+  near_in q = outer_not_out (sym ends.near_outer ∙ q)
+
+  far_in : label_at s.labels.items far ≢ Out
+  far_in q = outer_not_out (sym ends.far_outer ∙ q)
+
+  same_label : (a : ℕ) → falls s one other a ≡ false → l a ≡ label_at s.labels.items a
+  same_label a f = felled.labels a ∙ ap (λ q. cond q Out (label_at s.labels.items a)) f
+
+  pub removed : IsRemoved x m l one other
+  removed = record {
+    mates = turned.mates;
+    kept = λ a a_is away. turned.keeps a
+        (off_way x sound.depth nested sound.state near a ends.near_is near_in away.not_one)
+        (off_way x sound.depth nested sound.state far a ends.far_is far_in away.not_other);
+    stays = λ a a_is away. same_label a (stays_of s standing one other a away);
+    gone = λ a a_is p. ⊎_elim
+        (λ q. by_test (falls s one other a)
+        (λ f. felled.labels a ∙ ap (λ b. cond b Out (label_at s.labels.items a)) f)
+        (λ f. same_label a f ∙ q))
+        (λ q. felled.labels a ∙ ap (λ b. cond b Out (label_at s.labels.items a)) (falls_of s standing one other a a_is q p))
+        (out_or_not (label_at s.labels.items a));
+    one_is = (ways_lead x sound.depth near nested sound.state ends.near_is near_in).root;
+    other_is = (ways_lead x sound.depth far nested sound.state ends.far_is far_in).root;
+    differ = ends.two_trees;
+    one_has = turned.near_root_has;
+    other_has = turned.far_root_has;
+    seen = turned.seen;
+  }
+
+  state_is : state_of t ≡ with_both x m l
+  state_is = ap (λ (u : Search). state_of u) is
+
+  pub sound_now : HasShape t → IsSound t
+  sound_now shape = record { shape = shape; depth = sound.depth; state = subst (λ (u : State). IsSearchState u sound.depth) (sym state_is) (removed_state x sound.depth nested sound.state m l one other removed) }
+
+  seed_now : (a : ℕ) → IsOutermost x a → l a ≢ Out → (v : ℕ) × (seed_at t.seeds.items a ≡ Some v) × IsSeed (with_both x m l) a v
+  seed_now a a_is in_it =
+      let away = away_of x sound.depth nested sound.state m l one other removed a a_is in_it in
+      let free = stays_of s standing one other a away in
+      let was_in : label_at s.labels.items a ≢ Out = λ q. in_it (same_label a free ∙ q) in
+      let stood = and_from (is_outermost s.graph.vertices s.arena.blossoms a) (not (is_label (label_at s.labels.items a) Out)) a_is (passes_out (label_at s.labels.items a) was_in) in
+      let there : is_some (seed_at t.seeds.items a) ≡ true = felled.listed.seeded a ∙ felled.all a stood free in
+      let old = standing.trees a a_is was_in in
+      by_seed a a_is in_it old.0 old.1 old.2 (seed_at t.seeds.items a) refl there
+    where
+      by_seed : (a : ℕ) → IsOutermost x a → l a ≢ Out → (v : ℕ) → seed_at s.seeds.items a ≡ Some v → IsSeed x a v → (o : Option ℕ) → seed_at t.seeds.items a ≡ o → is_some o ≡ true → (w : ℕ) × (seed_at t.seeds.items a ≡ Some w) × IsSeed (with_both x m l) a w
+      by_seed a a_is in_it v was seed None e some = absurd (both_ways false refl some)
+      by_seed a a_is in_it v was seed (Some w) e some =
+          let same : v ≡ w = same_Some v w (sym was ∙ felled.seeds a w e) in
+          (w, e, subst (IsSeed (with_both x m l) a) same (record { vertex = seed.vertex; root = seed.root ∙ sym (roots_stay x sound.depth nested sound.state m l one other removed a a_is in_it) }))
+
+  pub standing_now : IsStanding t
+  standing_now = record {
+    listed = felled.listed;
+    trees = subst (λ (u : State). (a : ℕ) → IsOutermost u a → u.label a ≢ Out → (v : ℕ) × (seed_at t.seeds.items a ≡ Some v) × IsSeed u a v) (sym state_is) seed_now;
+  }
+
+  pub exchanged : IsExchanged s t e near far
+  exchanged = record {
+    removed = removed;
+    one_has = turned.near_has;
+    other_has = turned.far_has;
+    keeps = turned.keeps;
+    standing = standing_now;
+    only = λ a h.
+        let r = felled.only a h in
+        let p = and_parts (is_outermost s.graph.vertices s.arena.blossoms a) (not (is_label (label_at s.labels.items a) Out)) r.0 in
+        (p.0, λ q. tests_out (label_at s.labels.items a) p.1 (sym (same_label a r.1) ∙ q));
+    different = felled.different;
+    vertices = λ w h. (felled.inside w h).0;
+    scans = λ w iv none. same_label (outermost s.arena.blossoms w) (by_test (falls s one other (outermost s.arena.blossoms w))
+        (λ f. absurd (both_ways (holds t.scanned.items w) none (felled.scans w iv f)))
+        (λ f. f));
+  }
+
+-- what the calls leave, at once
+pub rest_of : (s t u : Search) → t ≡ record s { mates = t.mates } → u ≡ record t { labels = u.labels; standing = u.standing; seeds = u.seeds; scanned = u.scanned } → u ≡ record s { labels = u.labels; mates = u.mates; standing = u.standing; seeds = u.seeds; scanned = u.scanned }
+rest_of s t u first second = subst (λ (x : Search). x ≡ record s { labels = x.labels; mates = x.mates; standing = x.standing; seeds = x.seeds; scanned = x.scanned }) (sym second)
+    (ap (λ (x : Search). record x { labels = u.labels; standing = u.standing; seeds = u.seeds; scanned = u.scanned }) first)
+
+-- mates have nothing to do with what falls
+pub felled_of : (s t u : Search) (one other : ℕ) → t ≡ record s { mates = t.mates } → IsFelled t u one other → IsFelled s u one other
+felled_of s t u one other rest f =
+    let h : IsFelled (record s { mates = t.mates }) u one other = subst (λ (x : Search). IsFelled x u one other) rest f in
+    record { listed = h.listed; labels = h.labels; seeds = h.seeds; only = h.only; all = h.all; different = h.different; inside = h.inside; scans = h.scans }
+
+pub seeded_with : (s t : Search) → t ≡ record s { mates = t.mates } → IsStanding s → AreSeeded t
+seeded_with s t rest h = subst AreSeeded (sym rest) (seeded_of s h)
+
+-- the whole of it, by what the calls promise
+module _ (s t u : Search) (sound : IsSound s) (standing : IsStanding s) (e near far one other : ℕ) (can : CanAugment (state_of s) e) (near_is : near ≡ node_u s.graph s.arena.blossoms e) (far_is : far ≡ node_v s.graph s.arena.blossoms e)
+    (one_is : one ≡ root_of (state_of s) near) (other_is : other ≡ root_of (state_of s) far) (first : t ≡ record s { mates = t.mates }) (second : u ≡ record t { labels = u.labels; standing = u.standing; seeds = u.seeds; scanned = u.scanned })
+    (turned : IsTurned (state_of s) (edge_in t.mates.items) e near far) (felled : IsFelled t u one other) where
+  abbrev a : ℕ
+  a = node_u s.graph s.arena.blossoms e
+
+  abbrev b : ℕ
+  b = node_v s.graph s.arena.blossoms e
+
+  all_turned : IsTurned (state_of s) (edge_in u.mates.items) e a b
+  all_turned = subst (λ z. IsTurned (state_of s) (edge_in u.mates.items) e z b) near_is (subst (IsTurned (state_of s) (edge_in u.mates.items) e near) far_is
+      (subst (λ (f : ℕ → Option ℕ). IsTurned (state_of s) f e near far) (sym (ap (λ (x : Search). edge_in x.mates.items) second)) turned))
+
+  all_felled : IsFelled s u (root_of (state_of s) a) (root_of (state_of s) b)
+  all_felled = subst (λ z. IsFelled s u z (root_of (state_of s) b)) (one_is ∙ ap (root_of (state_of s)) near_is) (subst (IsFelled s u one) (other_is ∙ ap (root_of (state_of s)) far_is) (felled_of s t u one other first felled))
+
+  pub sound_of : HasShape u → IsSound u
+  sound_of shape = sound_now s u sound standing e a b (ends_here (state_of s) e can) (rest_of s t u first second) all_turned all_felled shape
+
+  pub exchange_of : (c : CanAugment (state_of s) e) → IsExchanged s u e c.one c.other
+  exchange_of c = exchanged_at s u e (exchanged s u sound standing e a b (ends_here (state_of s) e can) (rest_of s t u first second) all_turned all_felled) c

@@ -1,0 +1,201 @@
+-- A node loses its mate to the root of its tree, and then is matched anew: both ways to the roots are flipped.
+use Rattle.std.proofs.Common.{◌≡◌, ◌≢◌, ℕ, zero, suc, ◌+◌, ◌<◌, true, false, eqb, ◌∷◌, Option, Some, None, refl, sym, ap, ◌∙◌, subst, arith, ⊎_elim, inl, inr}
+use Rattle.std.specs.Prelude.{is_some}
+use Rattle.std.proofs.lemmas.Bool.{cases_eq, both_ways, eq-eqb, eqb-true, or_left, or_right, or_cases, false_from_ne_true}
+use Rattle.graph_theory.specs.Parts.{holds}
+use Rattle.blossom_arena.specs.Family.{IsNested}
+use Rattle.alt_forest.specs.declared.hop.Hop.{Hop}
+use Rattle.alt_forest.specs.declared.label.Label.TheVariants.{Outer, Out}
+use Rattle.alt_forest.specs.State.{State, IsOutermost, IsMate, IsSearchState}
+use Rattle.alt_forest.specs.Trees.{node_limit, path_of, root_of, IsRoot}
+use Rattle.alt_forest.specs.Searches.{put}
+use Rattle.alt_forest.specs.Ways.{HasHop, IsRead, IsHop}
+use Rattle.alt_forest.proofs.Hops.{hop_above, has_hop, read_is, hop_path, hop_root}
+use Rattle.alt_forest.proofs.Mates.{joins_turned, mate_turned, partner_unique}
+use Rattle.alt_forest.proofs.Paths.{descends, passed_at}
+use Rattle.alt_forest.proofs.Relabelled.{outer_not_out, outer_not_inner, some_not_none, put_here, put_other}
+use Rattle.alt_forest.proofs.Roots.{up_or_root, path_root, path_up, root_self, root_up}
+use Rattle.alt_forest.proofs.Walk.{deeper_differs}
+use Rattle.augment.specs.Turns.{AreEnds, IsLoose, IsClimbed, IsUprooted, IsTurned}
+
+module _ (s : State) (depth : ℕ → ℕ) (nested : IsNested s.graph.vertices s.blossoms) (st : IsSearchState s depth) where
+  -- a node on the way from another one is of its tree
+  pub on_way : (k a x : ℕ) → depth a < k → IsOutermost s a → s.label a ≢ Out → holds (path_of s a) x ≡ true → root_of s x ≡ root_of s a
+  on_way zero a x low is in_it on = absurd (omega (arith, low))
+  on_way (suc k) a x low is in_it on = ⊎_elim
+      (λ r. ⊎_elim (λ here. ap (root_of s) (sym (eqb-true a x here))) (λ none. absurd (both_ways false refl none)) (or_cases (eqb a x) false (sym (ap (λ xs. holds xs x) (path_root s depth nested st a r)) ∙ on)))
+      (λ p.
+      let b : ℕ = p.0 in
+      let u = p.1 in
+      ⊎_elim
+      (λ here. ap (root_of s) (sym (eqb-true a x here)))
+      (λ more. on_way k b x (omega (arith, u.falls, low)) u.outer u.in_tree more ∙ sym (root_up s depth nested st a b is u.outer u.up))
+      (or_cases (eqb a x) (holds (path_of s b) x) (sym (ap (λ xs. holds xs x) (path_up s depth nested st a b is u.up)) ∙ on)))
+      (up_or_root s depth nested st a is in_it)
+
+  -- so what is of another tree is off the way
+  pub off_way : (a x : ℕ) → IsOutermost s a → s.label a ≢ Out → root_of s x ≢ root_of s a → holds (path_of s a) x ≡ false
+  off_way a x is in_it ne = false_from_ne_true (holds (path_of s a) x) (λ on. ne (on_way (depth a + 1) a x (omega arith) is in_it on))
+
+  -- each way begins with its node
+  pub on_own : (a : ℕ) → IsOutermost s a → s.label a ≢ Out → holds (path_of s a) a ≡ true
+  on_own a is in_it = ⊎_elim
+      (λ r. ap (λ xs. holds xs a) (path_root s depth nested st a r) ∙ or_left (eqb a a) false (eq-eqb a a refl))
+      (λ p. ap (λ xs. holds xs a) (path_up s depth nested st a p.0 is p.1.up) ∙ or_left (eqb a a) (holds (path_of s p.0) a) (eq-eqb a a refl))
+      (up_or_root s depth nested st a is in_it)
+
+  -- a root has no mate to lose
+  pub uprooted_root : (far : ℕ) → IsRoot s far → IsUprooted s s.mate far
+  uprooted_root far r = record {
+    mates = λ a e is has. let w = st.mates a e is has in (w.0, record { edge = w.1.edge; joins = w.1.joins; different = w.1.different; tight = w.1.tight; outer = w.1.outer; back = w.1.back });
+    free = r.exposed;
+    keeps = λ a off. refl;
+    root_has = λ ne. absurd (ne (root_self s depth nested st far r));
+    seen = λ c ne nr. refl;
+  }
+
+  -- an outer node with a mate has a hop, and what is read there is that one
+  hop_there : (far : ℕ) → IsOutermost s far → s.label far ≡ Outer → is_some (s.mate far) ≡ true → (k : Hop) × IsHop s depth far k
+  hop_there far is lab has = by_mate (s.mate far) refl
+    where
+      by_mate : (o : Option ℕ) → s.mate far ≡ o → (k : Hop) × IsHop s depth far k
+      by_mate None none = absurd (both_ways (is_some (s.mate far)) (ap (λ (o : Option ℕ). is_some o) none) has)
+      by_mate (Some f) some = hop_above s depth far f st is lab some
+
+  pub some_hop : (far : ℕ) → IsOutermost s far → s.label far ≡ Outer → is_some (s.mate far) ≡ true → HasHop s far
+  some_hop far is lab has = let k = hop_there far is lab has in has_hop s depth far k.0 k.1
+
+  pub read_hop : (far : ℕ) → IsOutermost s far → s.label far ≡ Outer → is_some (s.mate far) ≡ true → (k : Hop) → IsRead s far k → IsHop s depth far k
+  read_hop far is lab has k read = let a = hop_there far is lab has in subst (IsHop s depth far) (sym (read_is s depth far a.0 a.1 k read)) a.1
+
+  -- an outer node with a mate has none any more, and its mate takes its parent
+  module _ (far : ℕ) (k : Hop) (hop : IsHop s depth far k) where
+    abbrev base : ℕ → Option ℕ
+    base = put s.mate far None
+
+    abbrev begun : ℕ → Option ℕ
+    begun = put base k.inner (Some k.parent)
+
+    begun_else : (c : ℕ) → c ≢ k.inner → c ≢ far → begun c ≡ s.mate c
+    begun_else c not_inner not_far = put_other base k.inner (Some k.parent) c not_inner ∙ put_other s.mate far None c not_far
+
+    begun_free : begun far ≡ None
+    begun_free = put_other base k.inner (Some k.parent) far hop.is_mate.different ∙ put_here s.mate far None
+
+    pub uproots : IsLoose s depth (put s.mate far None) (put (put s.mate far None) k.inner (Some k.parent)) k.inner k.parent k.outer
+    uproots =
+        let w = hop.is_mate in
+        record {
+          edge = hop.edge;
+          joins = hop.joins;
+          different = deeper_differs depth k.inner k.outer hop.lowest;
+          tight = hop.tight;
+          low_is = w.outer;
+          high_is = hop.up_is;
+          high_outer = hop.up_outer;
+          taken = put_here base k.inner (Some k.parent);
+          untouched = λ c is root under. begun_else c
+              (λ p. let same : depth c ≡ depth k.inner = ap depth p in absurd (omega (arith, same, under, hop.lowest)))
+              (λ p. let same : depth c ≡ depth far = ap depth p in absurd (omega (arith, same, under, hop.lowest, hop.lower)));
+          below = inr hop.lowest;
+          mates = λ a f is not_inner has.
+              let not_far : a ≢ far = λ q. some_not_none f (sym has ∙ ap begun q ∙ begun_free) in
+              let old : s.mate a ≡ Some f = sym (begun_else a not_inner not_far) ∙ has in
+              let r = st.mates a f is old in
+              let b_not_far : r.0 ≢ far = λ q. not_inner (partner_unique s a f k.inner k.mate far (subst (IsMate s a f) q r.1) (mate_turned s far k.mate k.inner hop.is hop.mate w)) in
+              let b_not_inner : r.0 ≢ k.inner = λ q. not_far (partner_unique s a f far k.mate k.inner (subst (IsMate s a f) q r.1) w) in (
+                r.0,
+                record { edge = r.1.edge; joins = r.1.joins; different = r.1.different; tight = r.1.tight; outer = r.1.outer; back = begun_else r.0 b_not_inner b_not_far ∙ r.1.back },
+              );
+          seen = λ c. ⊎_elim
+              (λ p. ap (λ (o : Option ℕ). is_some o) (ap begun p ∙ put_here base k.inner (Some k.parent)) ∙ sym (ap (λ (o : Option ℕ). is_some o) (ap base p ∙ put_other s.mate far None k.inner (λ q. w.different (sym q)) ∙ w.back)))
+              (λ p. ap (λ (o : Option ℕ). is_some o) (put_other base k.inner (Some k.parent) c p))
+              (cases_eq c k.inner);
+        }
+
+    pub uprooted : (m : ℕ → Option ℕ) → IsClimbed s (put s.mate far None) (put (put s.mate far None) k.inner (Some k.parent)) m k.parent k.outer → IsUprooted s m far
+    uprooted m c =
+        let root : root_of s far ≡ root_of s k.outer = hop_root s depth far k hop depth nested st in
+        let way : path_of s far ≡ far ∷ (k.inner ∷ path_of s k.outer) = hop_path s depth far k hop depth nested st in
+        let far_off : holds (path_of s k.outer) far ≡ false = false_from_ne_true (holds (path_of s k.outer) far) (λ on.
+        let d = passed_at s depth (depth k.outer) (path_of s k.outer) far (descends (node_limit s.graph.vertices + 1) s depth k.outer st hop.up_is).passed on in
+        absurd (omega (arith, d.shallow, hop.lowest, hop.lower))) in
+        record {
+          mates = c.mates;
+          free = c.keeps far far_off ∙ begun_free;
+          keeps = λ a off.
+              let out : holds (far ∷ (k.inner ∷ path_of s k.outer)) a ≡ false = ap (λ xs. holds xs a) (sym way) ∙ off in
+              let not_far : a ≢ far = λ q. both_ways (holds (far ∷ (k.inner ∷ path_of s k.outer)) a) out (or_left (eqb far a) (holds (k.inner ∷ path_of s k.outer) a) (eq-eqb far a (sym q))) in
+              let not_inner : a ≢ k.inner = λ q. both_ways (holds (far ∷ (k.inner ∷ path_of s k.outer)) a) out (or_right (eqb far a) (holds (k.inner ∷ path_of s k.outer) a) (or_left (eqb k.inner a) (holds (path_of s k.outer) a) (eq-eqb k.inner a (sym q)))) in
+              let past : holds (path_of s k.outer) a ≡ false = false_from_ne_true (holds (path_of s k.outer) a) (λ on. both_ways (holds (far ∷ (k.inner ∷ path_of s k.outer)) a) out (or_right (eqb far a) (holds (k.inner ∷ path_of s k.outer) a) (or_right (eqb k.inner a) (holds (path_of s k.outer) a) on))) in
+              c.keeps a past ∙ begun_else a not_inner not_far;
+          root_has = λ _. ap (λ x. is_some (m x)) root ∙ c.root_has;
+          seen = λ x not_far not_root. c.seen x (λ q. not_root (q ∙ sym root)) ∙ ap (λ (o : Option ℕ). is_some o) (put_other s.mate far None x not_far);
+        }
+
+  -- the exposed node takes the other end of the edge
+  module _ (e near far : ℕ) (h : AreEnds s e near far) (m : ℕ → Option ℕ) (u : IsUprooted s m far) where
+    near_in : s.label near ≢ Out
+    near_in q = outer_not_out (sym h.near_outer ∙ q)
+
+    far_in : s.label far ≢ Out
+    far_in q = outer_not_out (sym h.far_outer ∙ q)
+
+    abbrev taken : ℕ → Option ℕ
+    taken = put m far (Some e)
+
+    far_ne : near ≢ far
+    far_ne q = h.two_trees (ap (root_of s) q)
+
+    pub turns : IsLoose s depth (put m far (Some e)) (put m far (Some e)) far e near
+    turns = record {
+      edge = h.tight.edge;
+      joins = joins_turned s.graph s.blossoms e near far h.joins;
+      different = λ q. far_ne (sym q);
+      tight = h.tight.tight;
+      low_is = h.far_is;
+      high_is = h.near_is;
+      high_outer = h.near_outer;
+      taken = put_here m far (Some e);
+      untouched = λ c is root under.
+          put_other m far (Some e) c (λ q. h.two_trees (sym root ∙ ap (root_of s) q))
+          ∙ u.keeps c (off_way far c h.far_is far_in (λ q. h.two_trees (sym root ∙ q)));
+      below = inl (λ q. outer_not_inner (sym h.far_outer ∙ q));
+      mates = λ a f is not_far has.
+          let r = u.mates a f is (sym (put_other m far (Some e) a not_far) ∙ has) in
+          let b_not_far : r.0 ≢ far = λ q. some_not_none f (sym r.1.back ∙ ap m q ∙ u.free) in
+          (r.0, record { edge = r.1.edge; joins = r.1.joins; different = r.1.different; tight = r.1.tight; outer = r.1.outer; back = put_other m far (Some e) r.0 b_not_far ∙ r.1.back });
+      seen = λ c. refl;
+    }
+
+    far_off : holds (path_of s near) far ≡ false
+    far_off = off_way near far h.near_is near_in (λ q. h.two_trees (sym q))
+
+    had_mate : root_of s far ≢ far → is_some (s.mate far) ≡ true
+    had_mate ne = by_mate (s.mate far) refl
+      where
+        by_mate : (o : Option ℕ) → s.mate far ≡ o → is_some o ≡ true
+        by_mate None none = absurd (ne (root_self s depth nested st far (record { outermost = h.far_is; outer = h.far_outer; exposed = none })))
+        by_mate (Some f) is = refl
+
+    pub turned : (n : ℕ → Option ℕ) → IsClimbed s (put m far (Some e)) (put m far (Some e)) n e near → root_of s (root_of s far) ≡ root_of s far → IsTurned s n e near far
+    turned n c own = record {
+      mates = c.mates;
+      near_has = c.has;
+      far_has = c.keeps far far_off ∙ put_here m far (Some e);
+      near_root_has = c.root_has;
+      far_root_has = ap (λ (o : Option ℕ). is_some o) (c.keeps (root_of s far) (off_way near (root_of s far) h.near_is near_in (λ q. h.two_trees (sym q ∙ own))))
+          ∙ ⊎_elim
+          (λ q. ap (λ (o : Option ℕ). is_some o) (ap taken q ∙ put_here m far (Some e)))
+          (λ q. ap (λ (o : Option ℕ). is_some o) (put_other m far (Some e) (root_of s far) q) ∙ u.root_has q)
+          (cases_eq (root_of s far) far);
+      keeps = λ a off_near off_far.
+          c.keeps a off_near
+          ∙ put_other m far (Some e) a (λ q. both_ways (holds (path_of s far) a) off_far (ap (holds (path_of s far)) q ∙ on_own far h.far_is far_in))
+          ∙ u.keeps a off_far;
+      seen = λ x not_near not_far. c.seen x not_near
+          ∙ ⊎_elim
+          (λ q. ap (λ (o : Option ℕ). is_some o) (ap taken q ∙ put_here m far (Some e)) ∙ sym (ap (λ y. is_some (s.mate y)) q ∙ had_mate (λ r. not_far (q ∙ sym r))))
+          (λ q. ap (λ (o : Option ℕ). is_some o) (put_other m far (Some e) x q) ∙ u.seen x q not_far)
+          (cases_eq x far);
+    }

@@ -1,0 +1,76 @@
+use Rattle.std.proofs.Common.{◌≡◌, ◌+◌, ◌∙◌, ℕ, false, refl, sym, ap, subst, Some, Option}
+use Rattle.std.specs.Prelude.{is_some}
+use Rattle.alt_forest.specs.declared.search.Search.{Search}
+use Rattle.alt_forest.specs.declared.hop.Hop.{Hop}
+use Rattle.alt_forest.specs.Searches.{state_of, edge_in, put}
+use Rattle.alt_forest.specs.State.{State, IsOutermost}
+use Rattle.alt_forest.specs.Ways.{HasHop, IsRead}
+use Rattle.alt_forest.specs.Trees.{node_limit}
+use Rattle.alt_forest.proofs.Places.{mate_place}
+use Rattle.augment.specs.Turns.{CanClimb, IsClimbed}
+use Rattle.augment.proofs.Climbing.{IsClimbing, climbing_first, can_hop, climbing_on, climbing_shorter, climbing_done}
+use Rattle.augment.proofs.turning.climb.Goals as goal
+
+pub path-init : goal.path-init
+path-init c =
+    let can = c.requires.can in
+    record {
+      rest = refl;
+      shape = c.requires.shape;
+      is = subst (λ (x : State). IsOutermost x c.args.start) (sym can.is) can.loose.high_is;
+      climbing = λ h. climbing_first (state_of c.args.search.now) c.args.e c.args.start h;
+    }
+
+pub hop-hop-requires-clause-hop : goal.hop-hop-requires-clause-hop
+hop-hop-requires-clause-hop c =
+    let v = c.path.invariant in
+    let s : Search = c.args.search.now in
+    let has = sym (ap (λ o. is_some o) c.mate.ensures.mate) ∙ sym c.is_some.ensures ∙ c.path-test.true in
+    subst (λ (x : Search). HasHop (state_of x) c.path.node) (sym v.rest) (can_hop (state_of s) c.args.e c.args.start c.requires.can (edge_in c.path.search.mates.items) c.path.edge c.path.node (v.climbing c.requires.can) has)
+
+pub path-smaller : goal.path-smaller
+path-smaller c =
+    let v = c.path.invariant in
+    let s : Search = c.args.search.now in
+    let t : Search = c.path.search in
+    let k : Hop = c.hop-hop.result in
+    let has = sym (ap (λ o. is_some o) c.mate.ensures.mate) ∙ sym c.is_some.ensures ∙ c.path-test.true in
+    let read = subst (λ (x : Search). IsRead (state_of x) c.path.node k) v.rest c.hop-hop.ensures.hop in
+    climbing_shorter (state_of s) c.args.e c.args.start c.requires.can (edge_in t.mates.items) c.path.edge c.path.node (v.climbing c.requires.can) has k read
+
+pub path-preserved : goal.path-preserved
+path-preserved c =
+    let v = c.path.invariant in
+    let s : Search = c.args.search.now in
+    let t : Search = c.path.search in
+    let k : Hop = c.hop-hop.result in
+    let has = sym (ap (λ o. is_some o) c.mate.ensures.mate) ∙ sym c.is_some.ensures ∙ c.path-test.true in
+    let read = subst (λ (x : Search). IsRead (state_of x) c.path.node k) v.rest c.hop-hop.ensures.hop in
+    let m : ℕ → Option ℕ = edge_in c.set_edge-in-path.new.edges.items in
+    let now : m ≡ put (put (edge_in t.mates.items) c.path.node (Some c.path.edge)) k.inner (Some k.parent) = c.set_edge-in-path.ensures.edges ∙ ap (λ n. put n k.inner (Some k.parent)) c.set_edge.ensures.edges in
+    let on = λ (h : CanClimb (state_of s) c.args.e c.args.start). subst (λ (n : ℕ → Option ℕ). IsClimbing (state_of s) c.args.e c.args.start h n k.parent k.outer) (sym now)
+    (climbing_on (state_of s) c.args.e c.args.start h (edge_in t.mates.items) c.path.edge c.path.node (v.climbing h) has k read) in
+    let can = c.requires.can in
+    let is : IsOutermost (state_of s) k.outer = subst (λ (x : State). IsOutermost x k.outer) (sym can.is) (on can).loose.high_is in
+    record {
+      rest = ap (λ (u : Search). record u { mates = c.set_edge-in-path.new.edges }) v.rest;
+      shape = record { graph = v.shape.graph; family = v.shape.family; arena = v.shape.arena; labels = v.shape.labels; parents = v.shape.parents; mates = c.set_edge-in-path.ensures.len ∙ c.set_edge.ensures.len ∙ v.shape.mates; circuit = v.shape.circuit; room = v.shape.room };
+      is = subst (λ (x : Search). IsOutermost (state_of x) k.outer) (sym (ap (λ (u : Search). record u { mates = c.set_edge-in-path.new.edges }) v.rest)) is;
+      climbing = on;
+    }
+
+pub returns : goal.returns
+returns c =
+    let s : Search = c.args.search.now in
+    let t : Search = c.path.search in
+    let v = c.path.invariant in
+    let none : is_some (edge_in t.mates.items c.path.node) ≡ false = sym (ap (λ o. is_some o) c.mate.ensures.mate) ∙ sym c.is_some.ensures ∙ c.path-test.false in
+    record {
+      rest = ap (λ (u : Search). record u { mates = c.set_edge-2.new.edges }) v.rest;
+      len = c.set_edge-2.ensures.len ∙ v.shape.mates ∙ ap (λ (u : Search). node_limit u.graph.vertices + 1) v.rest ∙ sym c.requires.shape.mates;
+      climbed = λ h. subst (λ (n : ℕ → Option ℕ). IsClimbed h.was h.base (edge_in s.mates.items) n c.args.e c.args.start) (sym c.set_edge-2.ensures.edges)
+          (climbing_done (state_of s) c.args.e c.args.start h (edge_in t.mates.items) c.path.edge c.path.node (v.climbing h) none);
+    }
+
+pub set_edge-requires-2 : goal.set_edge-requires-2
+set_edge-requires-2 c = record { place = mate_place c.path.search c.path.node c.path.invariant.shape c.path.invariant.is }
