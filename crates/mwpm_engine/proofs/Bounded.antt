@@ -1,19 +1,18 @@
 -- Each change of a pass leaves the duals in range, and the pass within its bounds.
-use Rattle.std.proofs.Common.{ℕ, ◌≤◌, ℤ, ⊎_elim, inl, inr}
+use Rattle.std.proofs.Common.{ℕ, ◌≤◌, ◌≢◌, ℤ, ⊎_elim, inl, inr}
 use Rattle.graph_theory.specs.Graph.{IsGraph}
 use Rattle.blossom_arena.specs.Family.{IsNested}
-use Rattle.alt_forest.specs.Counts.{HasOneTree}
+use Rattle.alt_forest.specs.Counts.{tree_count, IsPlanted}
 use Rattle.alt_forest.specs.State.{State, IsSearchState}
-use Rattle.alt_forest.specs.Trees.{IsRoot}
 use Rattle.dual_change.specs.declared.event.Event.{Event}
 use Rattle.dual_change.specs.Changes.{applied, IsWithin, StaysInRange, IsPossible}
 use Rattle.mwpm_engine.specs.Bounds.{IsBounded}
 use Rattle.mwpm_engine.proofs.BoundedZero.{no_duals_in_range}
-use Rattle.mwpm_engine.proofs.BoundedRaised.{one_tree_counted, raised_in_range}
+use Rattle.mwpm_engine.proofs.BoundedRaised.{raised_in_range}
 
-pub in_range : (s : State) (start : ℤ) (depth : ℕ → ℕ) → IsGraph s.graph → s.graph.vertices ≤ 4096 → IsNested s.graph.vertices s.blossoms → IsSearchState s depth → IsBounded s start → HasOneTree s → (root : ℕ) → IsRoot s root
+pub in_range : (s : State) (start : ℤ) (depth : ℕ → ℕ) → IsGraph s.graph → s.graph.vertices ≤ 4096 → IsNested s.graph.vertices s.blossoms → IsSearchState s depth → IsBounded s start → IsPlanted s → tree_count s ≢ 0
     → (d : ℤ) (event : Event) → IsWithin s d → IsPossible (applied s d) event → StaysInRange s d × IsBounded (applied s d) start
-in_range s start depth graph few nested st bounded one root is_root d event within can = ⊎_elim
+in_range s start depth graph few nested st bounded planted some d event within can = ⊎_elim
     (λ h. let r = no_duals_in_range s graph h d event within can in (r.0, inl r.1))
-    (λ h. let r = raised_in_range s start depth d graph few nested st (one_tree_counted s root nested one is_root) within h in (r.0, inr r.1))
+    (λ h. let r = raised_in_range s start depth d graph few nested st planted some within h in (r.0, inr r.1))
     bounded

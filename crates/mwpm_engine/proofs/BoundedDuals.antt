@@ -13,7 +13,7 @@ use Rattle.alt_forest.proofs.Places.{nested_of}
 use Rattle.mwpm_engine.specs.Solutions.{IsWithinBound}
 use Rattle.mwpm_engine.specs.Solving.{HasBoundedDuals}
 use Rattle.mwpm_engine.specs.Bounds.{IsBounded}
-use Rattle.mwpm_engine.specs.Passes.{IsReady}
+use Rattle.mwpm_engine.specs.Passes.{IsComplete}
 use Rattle.mwpm_engine.proofs.BoundedRaised.{duals_bounded}
 
 zero_within : (n : ℕ) → IsWithinBound n (pos 0)
@@ -25,11 +25,11 @@ node_within s start depth graph nested st bounded a is = ⊎_elim
     (λ raised. duals_bounded s start depth graph nested st raised a is)
     bounded
 
-duals_within : (s : Search) → IsReady s → HasBoundedDuals s
+duals_within : (s : Search) → IsComplete s → HasBoundedDuals s
 duals_within s h = node_within (state_of s) s.start h.sound.depth h.sound.shape.graph.graph (nested_of s h.sound.shape) h.sound.state h.bounded
 
 -- once all blossoms have been opened they still do
-pub unpacked_within : (old new : Search) → new ≡ record old { mates = new.mates } → IsReady old → HasBoundedDuals new
+pub unpacked_within : (old new : Search) → new ≡ record old { mates = new.mates } → IsComplete old → HasBoundedDuals new
 unpacked_within old new rest h = subst HasBoundedDuals (sym rest) (duals_within old h)
 
 -- what holds of each vertex's dual holds of their list

@@ -1,28 +1,26 @@
--- In the pass with weights a change raises the sum of all duals by as much as it moves any of them, and that sum is
+-- In the pass with weights a change raises the sum of all duals by no less than it moves any of them, and that sum is
 -- bounded, so no dual moves far.
-use Rattle.std.proofs.Common.{◌≡◌, ℕ, ◌+◌, ◌*◌, ◌^◌, ◌≤◌, ℤ, pos, neg_ℤ, ◌+ℤ◌, ◌-ℤ◌, ◌*ℤ◌, ◌≤ℤ◌, Bool, true, false, ◌||◌, eqb, cond, refl, sym, ap, ◌∙◌, subst, arith}
+use Rattle.std.proofs.Common.{◌≡◌, ◌≢◌, ℕ, zero, suc, ◌+◌, ◌*◌, ◌^◌, ◌≤◌, ℤ, pos, neg_ℤ, ◌+ℤ◌, ◌-ℤ◌, ◌*ℤ◌, ◌≤ℤ◌, Bool, true, false, ◌||◌, cond, refl, sym, ap, subst, arith}
 use Rattle.std.proofs.lemmas.Int.{ints}
-use Rattle.std.proofs.lemmas.Bool.{eqb-true, eqb-false, both_ways, false_from_ne_true}
+use Rattle.std.proofs.lemmas.Bool.{both_ways}
 use Rattle.graph_theory.specs.Graph.{IsGraph}
 use Rattle.graph_theory.specs.Parts.{holds}
-use Rattle.graph_theory.proofs.SumLemmas.{sum_to-same, sum_to-at_one, times-le, times-neg}
+use Rattle.graph_theory.proofs.SumLemmas.{times-le, times-suc, times-neg}
 use Rattle.graph_theory.specs.Duals.{IsNumber}
 use Rattle.blossom_arena.specs.Family.{IsNested, is_node, is_vertex, is_outermost, names_of}
 use Rattle.blossom_arena.proofs.Lists.{by_test}
-use Rattle.blossom_arena.proofs.Nested.{outermost_parts, node_range}
+use Rattle.blossom_arena.proofs.Nested.{outermost_parts}
 use Rattle.alt_forest.specs.declared.label.Label.{Label}
 use Rattle.alt_forest.specs.declared.label.Label.TheVariants.{Outer, Inner, Out}
 use Rattle.alt_forest.specs.State.{State, IsSearchState, slack_with}
-use Rattle.alt_forest.specs.Trees.{IsRoot, node_limit}
-use Rattle.alt_forest.specs.Counts.{is_root, tree_count, HasOneTree}
+use Rattle.alt_forest.specs.Counts.{tree_count, IsPlanted}
 use Rattle.dual_change.specs.Changes.{share, change, applied, IsWithin, StaysInRange}
 use Rattle.dual_change.specs.Laws.{dual_total}
 use Rattle.alt_forest.proofs.Duals.{low_at}
-use Rattle.dual_change.proofs.Applied.{applied_state}
 use Rattle.dual_change.proofs.Total.{change_raises}
 use Rattle.mwpm_engine.specs.Bounds.{IsRaised}
+use Rattle.dual_change.proofs.Applied.{applied_state}
 use Rattle.mwpm_engine.proofs.BoundedTotal.{total_bound, weight_bound}
-use Rattle.alt_forest.proofs.Counted.{root_passes, passing_root}
 
 -- no change moves a dual farther than by itself
 between : (s : State) (d : ℤ) (a : ℕ) → pos 0 ≤ℤ d → ((pos 0 -ℤ d) ≤ℤ change s d a) × (change s d a ≤ℤ d)
@@ -35,30 +33,41 @@ between s d a low = by_test (is_outermost s.graph.vertices s.blossoms a)
     by_label Inner = (omega (arith, ints), omega (arith, ints, low))
     by_label Out = (omega (arith, ints, low), omega (arith, ints, low))
 
--- a change moves each bound by itself, where there is one tree
-raised_more : (s : State) (start : ℤ) (depth : ℕ → ℕ) (d : ℤ) → IsNested s.graph.vertices s.blossoms → IsSearchState s depth → tree_count s ≡ 1 → pos 0 ≤ℤ d → IsRaised s start → IsRaised (applied s d) start
-raised_more s start depth d nested st one low h = record {
-  weighted = h.weighted;
-  perfect = h.perfect;
-  start_weight = h.start_weight;
-  raised = h.raised +ℤ d;
-  low = omega (arith, ints, low, h.low);
-  total =
-      let rises = change_raises s depth d nested st in
-      let once : pos (tree_count s) *ℤ d ≡ d = ap (λ k. pos k *ℤ d) one ∙ alone d in
-      plain _ _ _ _ _ rises once h.total;
-  vertices = λ v is. moved (s.dual v) (change s d v) h.raised (h.vertices v is) (between s d v low);
-  blossoms = λ b name. let was : s.dual b ≤ℤ h.raised = h.blossoms b name in let more : change s d b ≤ℤ d = (between s d b low).1 in omega (arith, ints, was, more);
-}
+-- some trees times a change are no less than the change
+pub times_some : (k : ℕ) (d : ℤ) → k ≢ 0 → pos 0 ≤ℤ d → d ≤ℤ (pos k *ℤ d)
+times_some zero d some low = absurd (some refl)
+times_some (suc k) d some low =
+    let more = times-suc k d in
+    let rest = times-le k (pos 0) d low in
+    let none : pos k *ℤ pos 0 ≡ pos 0 = omega (arith, ints) in
+    omega (arith, ints, more, rest, none)
+
+-- a change moves no bound by less than itself, where there is some tree
+raised_more : (s : State) (start : ℤ) (depth : ℕ → ℕ) (d : ℤ) → IsNested s.graph.vertices s.blossoms → IsSearchState s depth → tree_count s ≢ 0 → pos 0 ≤ℤ d → IsRaised s start → IsRaised (applied s d) start
+raised_more s start depth d nested st some low h =
+    let more : d ≤ℤ (pos (tree_count s) *ℤ d) = times_some (tree_count s) d some low in
+    record {
+      weighted = h.weighted;
+      perfect = h.perfect;
+      start_weight = h.start_weight;
+      raised = h.raised +ℤ (pos (tree_count s) *ℤ d);
+      low = let was = h.low in added _ _ low more was;
+      total = plain _ _ _ _ _ (change_raises s depth d nested st) h.total;
+      vertices = λ v is. moved (s.dual v) (change s d v) h.raised _ more (h.vertices v is) (between s d v low);
+      blossoms = λ b name. within (s.dual b) (change s d b) h.raised _ more (h.blossoms b name) (between s d b low).1;
+    }
   where
-    alone : (x : ℤ) → pos 1 *ℤ x ≡ x
-    alone x = omega (arith, ints)
+    added : (r t : ℤ) → pos 0 ≤ℤ d → d ≤ℤ t → pos 0 ≤ℤ r → pos 0 ≤ℤ (r +ℤ t)
+    added r t a b e = omega (arith, ints, a, b, e)
 
-    plain : (new old t x r : ℤ) → new ≡ old +ℤ t → t ≡ d → old ≡ x +ℤ r → new ≡ x +ℤ (r +ℤ d)
-    plain new old t x r e f g = omega (arith, ints, e, f, g)
+    plain : (new old t x r : ℤ) → new ≡ old +ℤ t → old ≡ x +ℤ r → new ≡ x +ℤ (r +ℤ t)
+    plain new old t x r e g = omega (arith, ints, e, g)
 
-    moved : (y c r : ℤ) → ((start -ℤ r) ≤ℤ y) × (y ≤ℤ (start +ℤ r)) → ((pos 0 -ℤ d) ≤ℤ c) × (c ≤ℤ d) → ((start -ℤ (r +ℤ d)) ≤ℤ (y +ℤ c)) × ((y +ℤ c) ≤ℤ (start +ℤ (r +ℤ d)))
-    moved y c r b m = (omega (arith, ints, b.0, m.0), omega (arith, ints, b.1, m.1))
+    moved : (y c r t : ℤ) → d ≤ℤ t → ((start -ℤ r) ≤ℤ y) × (y ≤ℤ (start +ℤ r)) → ((pos 0 -ℤ d) ≤ℤ c) × (c ≤ℤ d) → ((start -ℤ (r +ℤ t)) ≤ℤ (y +ℤ c)) × ((y +ℤ c) ≤ℤ (start +ℤ (r +ℤ t)))
+    moved y c r t more b m = (omega (arith, ints, more, b.0, m.0), omega (arith, ints, more, b.1, m.1))
+
+    within : (y c r t : ℤ) → d ≤ℤ t → y ≤ℤ r → c ≤ℤ d → (y +ℤ c) ≤ℤ (r +ℤ t)
+    within y c r t more b m = omega (arith, ints, more, b, m)
 
 -- all changes together are at most 2 * 10^9 for each vertex
 pub raised_at_most : (s : State) (start : ℤ) (depth : ℕ → ℕ) → IsGraph s.graph → IsNested s.graph.vertices s.blossoms → IsSearchState s depth → (h : IsRaised s start) → h.raised ≤ℤ pos (2 * s.graph.vertices * 10 ^ 9)
@@ -94,23 +103,13 @@ duals_bounded s start depth graph nested st h a is =
     blossom : (n : ℕ) (r y : ℤ) → r ≤ℤ pos (2 * n * 10 ^ 9) → pos 0 ≤ℤ y → y ≤ℤ r → (neg_ℤ (pos ((2 * n + 1) * 10 ^ 9)) ≤ℤ y) × (y ≤ℤ pos ((2 * n + 1) * 10 ^ 9))
     blossom n r y a b c = (omega (arith, ints, a, b, c), omega (arith, ints, a, b, c))
 
--- where there is one tree, the count of trees is 1
-pub one_tree_counted : (s : State) (root : ℕ) → IsNested s.graph.vertices s.blossoms → HasOneTree s → IsRoot s root → tree_count s ≡ 1
-one_tree_counted s root nested one r =
-    let limit : ℕ = node_limit s.graph.vertices in
-    let range = node_range s.graph.vertices s.blossoms root nested (outermost_parts s.graph.vertices s.blossoms root r.outermost).0 in
-    sum_to-same (λ i. cond (is_root s (i + 1)) 1 0) (λ i. cond (eqb root (i + 1)) 1 0) limit (λ i low. ap (λ t. cond t 1 0) (by_test (eqb root (i + 1))
-    (λ e. ap (is_root s) (sym (eqb-true root (i + 1) e)) ∙ root_passes s root r ∙ sym e)
-    (λ e. false_from_ne_true (is_root s (i + 1)) (λ t. eqb-false root (i + 1) e (one root (i + 1) r (passing_root s (i + 1) t))) ∙ sym e)))
-    ∙ sum_to-at_one (λ _. 1) root limit range.0 range.1
-
 -- with at most 4,096 vertices that lies well within the range of duals
 in_room : (n : ℕ) (y : ℤ) → n ≤ 4096 → (neg_ℤ (pos ((2 * n + 1) * 10 ^ 9)) ≤ℤ y) × (y ≤ℤ pos ((2 * n + 1) * 10 ^ 9)) → IsNumber y
 in_room n y few b = (omega (arith, ints, few, b.0), omega (arith, ints, few, b.1))
 
 -- a change in the pass with weights
-pub raised_in_range : (s : State) (start : ℤ) (depth : ℕ → ℕ) (d : ℤ) → IsGraph s.graph → s.graph.vertices ≤ 4096 → IsNested s.graph.vertices s.blossoms → IsSearchState s depth → tree_count s ≡ 1 → IsWithin s d → IsRaised s start → StaysInRange s d × IsRaised (applied s d) start
-raised_in_range s start depth d graph few nested st one within h =
-    let new : IsRaised (applied s d) start = raised_more s start depth d nested st one within.low h in
-    let state : IsSearchState (applied s d) depth = applied_state s d graph nested depth st within in
+pub raised_in_range : (s : State) (start : ℤ) (depth : ℕ → ℕ) (d : ℤ) → IsGraph s.graph → s.graph.vertices ≤ 4096 → IsNested s.graph.vertices s.blossoms → IsSearchState s depth → IsPlanted s → tree_count s ≢ 0 → IsWithin s d → IsRaised s start → StaysInRange s d × IsRaised (applied s d) start
+raised_in_range s start depth d graph few nested st planted some within h =
+    let new : IsRaised (applied s d) start = raised_more s start depth d nested st some within.low h in
+    let state : IsSearchState (applied s d) depth = applied_state s d graph nested depth st planted within in
     (λ a outer. in_room s.graph.vertices ((applied s d).dual a) few (duals_bounded (applied s d) start depth graph nested state new a (outermost_parts s.graph.vertices s.blossoms a outer).0), new)

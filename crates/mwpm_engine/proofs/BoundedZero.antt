@@ -13,6 +13,7 @@ use Rattle.blossom_arena.proofs.Nested.{outermost_parts, vertex_is_node, name_is
 use Rattle.alt_forest.specs.declared.label.Label.{Label}
 use Rattle.alt_forest.specs.declared.label.Label.TheVariants.{Outer, Inner, Out}
 use Rattle.alt_forest.specs.State.{State, doubled, slack_of}
+use Rattle.alt_forest.specs.Trees.{root_of}
 use Rattle.dual_change.specs.declared.event.Event.{Event}
 use Rattle.dual_change.specs.declared.event.Event.TheVariants.{Grow, Shrink, Augment, Expand}
 use Rattle.dual_change.specs.Changes.{share, change, applied, IsWithin, StaysInRange, IsPossible}
@@ -57,7 +58,7 @@ module _ (s : State) (graph : IsGraph s.graph) (none : HasNoDuals s) where
       let low : pos 0 ≤ℤ d = within.low in
       omega (arith, ints, bound, slack, low)
   no_change d (Augment e) within can =
-      let bound : d ≤ℤ slack_of s e = within.to_out e can.near can.far can.tight.edge can.joins can.near_outer can.far_out in
+      let bound : (d +ℤ d) ≤ℤ slack_of s e = within.between e can.one can.other can.tight.edge can.joins (λ q. can.two_trees (ap (root_of (applied s d)) q)) can.one_outer can.other_outer in
       let slack : slack_of s e ≡ pos 0 = no_slack e can.tight.edge in
       let low : pos 0 ≤ℤ d = within.low in
       omega (arith, ints, bound, slack, low)

@@ -13,25 +13,24 @@ use Rattle.alt_forest.specs.Trees.{is_label}
 use Rattle.alt_forest.proofs.Places.{nested_of}
 use Rattle.alt_forest.proofs.Ascending.{picked_set, holds-picked}
 use Rattle.dual_change.specs.Laws.{inner_vertices}
-use Rattle.dual_change.proofs.Least.{stuck_none}
-use Rattle.dual_change.proofs.Barrier.{barrier}
 use Rattle.mwpm_engine.specs.declared.outcome.Outcome.{Outcome}
 use Rattle.mwpm_engine.specs.declared.outcome.Outcome.TheVariants.{Matched, Barrier}
 use Rattle.mwpm_engine.specs.Solutions.{Ends, HasPerfect}
 use Rattle.mwpm_engine.specs.Solving.{solution_of, AreProvingSets}
-use Rattle.mwpm_engine.specs.Passes.{Concludes, HasStuckTree}
+use Rattle.mwpm_engine.specs.Passes.{Concludes, HasStuckForest}
+use Rattle.dual_change.proofs.Barrier.{barrier}
 use Rattle.mwpm_engine.proofs.Certificate.{solved}
 
 -- the inner vertices of a stuck search are a barrier
-stuck_barrier : (s : Search) → HasStuckTree s → IsBarrier s.graph (inner_vertices (state_of s))
+stuck_barrier : (s : Search) → HasStuckForest s → IsBarrier s.graph (inner_vertices (state_of s))
 stuck_barrier s h =
     let t = state_of s in
     let nested = nested_of s h.sound.shape in
     let graph = h.sound.shape.graph.graph in
-    barrier t h.sound.depth graph nested (stuck_none t h.sound.depth graph nested h.sound.state h.one_tree h.stuck) h.sound.state h.root h.is_root
+    barrier t h.sound.depth h.root graph nested h.sound.state h.planted h.is_root h.stuck
 
 -- so there is no perfect matching
-pub stuck_excludes : (s : Search) (g : Multigraph) → s.graph ≡ g → HasStuckTree s → HasPerfect g → ⊥
+pub stuck_excludes : (s : Search) (g : Multigraph) → s.graph ≡ g → HasStuckForest s → HasPerfect g → ⊥
 stuck_excludes s g same h perfect =
     let here : HasPerfect s.graph = subst HasPerfect (sym same) perfect in
     barrier_excludes s.graph (inner_vertices (state_of s)) here.0 h.sound.shape.graph.graph (stuck_barrier s h) here.1

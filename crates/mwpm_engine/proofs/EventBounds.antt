@@ -1,9 +1,9 @@
 -- The duals stay bounded when an event happens.
-use Rattle.std.proofs.Common.{◌≡◌, ◌∙◌, ℕ, sym, ap, subst}
+use Rattle.std.proofs.Common.{◌≡◌, ◌≢◌, ◌∙◌, ℕ, sym, ap, subst}
 use Rattle.blossom_arena.specs.Family.{Family, dual_at}
 use Rattle.alt_forest.specs.declared.search.Search.{Search}
 use Rattle.alt_forest.specs.Searches.{HasShape, IsSound, state_of, is_given}
-use Rattle.alt_forest.specs.Counts.{tree_count}
+use Rattle.alt_forest.specs.Counts.{tree_count, IsPlanted}
 use Rattle.alt_forest.specs.Entries.{IsQueued}
 use Rattle.alt_forest.specs.Standing.{IsStanding}
 use Rattle.dual_change.specs.Laws.{dual_total}
@@ -37,29 +37,30 @@ shrunk_bounded s t node shape same shrunk bounded = with_start s t same (bounded
 expanded_bounded : (s t : Search) (node : ℕ) → IsSamePass s t → CanExpand (state_of s) node → IsExpanded (state_of s) (state_of t) node → IsBounded (state_of s) s.start → IsBounded (state_of t) t.start
 expanded_bounded s t node same can expanded bounded = with_start s t same (bounded_expanded (state_of s) (state_of t) node s.start can expanded bounded)
 
--- where a step keeps one tree and the sum of all duals, the phase goes on
-grows_still : (s t : Search) → IsGrowing s → IsSound t → IsQueued t → IsStanding t → tree_count (state_of t) ≡ tree_count (state_of s) → IsBounded (state_of t) t.start → dual_total (state_of t) ≡ dual_total (state_of s) → IsSamePass s t → t.clock ≡ s.clock → IsGrowing t
-grows_still s t h sound queued standing trees bounded total same clock = record {
+-- where a step keeps some tree and the sum of all duals, the forest grows on
+pub grows_still : (s t : Search) → IsGrowing s → IsSound t → IsQueued t → IsStanding t → IsPlanted (state_of t) → tree_count (state_of t) ≢ 0 → IsBounded (state_of t) t.start → dual_total (state_of t) ≡ dual_total (state_of s) → IsSamePass s t → t.clock ≡ s.clock → IsGrowing t
+grows_still s t h sound queued standing planted some bounded total same clock = record {
   sound = sound;
   queued = queued;
   standing = standing;
-  tree = trees ∙ h.tree;
+  planted = planted;
+  trees = some;
   bounded = bounded;
   timed = subst (λ y. IsTimed (state_of t) y t.clock) (sym same.start) (subst (λ y. IsTimed (state_of t) s.start y) (sym clock) (timed_same (state_of s) (state_of t) s.start s.clock same.graph (ap is_given same.weights) total h.timed));
 }
 
 -- after a grow
-pub grown_on : (s t : Search) → IsGrowing s → IsSound t → IsQueued t → IsStanding t → tree_count (state_of t) ≡ tree_count (state_of s) → t.arena ≡ s.arena → IsSamePass s t → t.clock ≡ s.clock → IsGrowing t
-grown_on s t h sound queued standing trees arena same clock =
-    grows_still s t h sound queued standing trees (still_bounded s t arena same h.bounded)
+pub grown_on : (s t : Search) → IsGrowing s → IsSound t → IsQueued t → IsStanding t → (IsPlanted (state_of s) → IsPlanted (state_of t)) → tree_count (state_of t) ≡ tree_count (state_of s) → t.arena ≡ s.arena → IsSamePass s t → t.clock ≡ s.clock → IsGrowing t
+grown_on s t h sound queued standing planted trees arena same clock =
+    grows_still s t h sound queued standing (planted h.planted) (λ none. h.trees (sym trees ∙ none)) (still_bounded s t arena same h.bounded)
     (total_kept (state_of s) (state_of t) same.graph (ap (λ (f : Family). f.blossoms) arena) (ap (λ (f : Family). dual_at f.duals) arena)) same clock
 
 -- after a shrink
-pub shrunk_on : (s t : Search) (node : ℕ) → IsGrowing s → IsSound t → IsQueued t → IsStanding t → tree_count (state_of t) ≡ tree_count (state_of s) → IsShrunk (state_of s) (state_of t) node → IsSamePass s t → t.clock ≡ s.clock → IsGrowing t
-shrunk_on s t node h sound queued standing trees shrunk same clock =
-    grows_still s t h sound queued standing trees (shrunk_bounded s t node sound.shape same shrunk h.bounded) (total_shrunk (state_of s) (state_of t) node (nested_of t sound.shape) shrunk) same clock
+pub shrunk_on : (s t : Search) (node : ℕ) → IsGrowing s → IsSound t → IsQueued t → IsStanding t → (IsPlanted (state_of s) → IsPlanted (state_of t)) → tree_count (state_of t) ≡ tree_count (state_of s) → IsShrunk (state_of s) (state_of t) node → IsSamePass s t → t.clock ≡ s.clock → IsGrowing t
+shrunk_on s t node h sound queued standing planted trees shrunk same clock =
+    grows_still s t h sound queued standing (planted h.planted) (λ none. h.trees (sym trees ∙ none)) (shrunk_bounded s t node sound.shape same shrunk h.bounded) (total_shrunk (state_of s) (state_of t) node (nested_of t sound.shape) shrunk) same clock
 
 -- after an expand
-pub expanded_on : (s t : Search) (node : ℕ) → IsGrowing s → IsSound t → IsQueued t → IsStanding t → tree_count (state_of t) ≡ tree_count (state_of s) → CanExpand (state_of s) node → IsExpanded (state_of s) (state_of t) node → IsSamePass s t → t.clock ≡ s.clock → IsGrowing t
-expanded_on s t node h sound queued standing trees can expanded same clock =
-    grows_still s t h sound queued standing trees (expanded_bounded s t node same can expanded h.bounded) (total_expanded (state_of s) (state_of t) node can expanded) same clock
+pub expanded_on : (s t : Search) (node : ℕ) → IsGrowing s → IsSound t → IsQueued t → IsStanding t → (IsPlanted (state_of s) → IsPlanted (state_of t)) → tree_count (state_of t) ≡ tree_count (state_of s) → CanExpand (state_of s) node → IsExpanded (state_of s) (state_of t) node → IsSamePass s t → t.clock ≡ s.clock → IsGrowing t
+expanded_on s t node h sound queued standing planted trees can expanded same clock =
+    grows_still s t h sound queued standing (planted h.planted) (λ none. h.trees (sym trees ∙ none)) (expanded_bounded s t node same can expanded h.bounded) (total_expanded (state_of s) (state_of t) node can expanded) same clock

@@ -1,14 +1,17 @@
 -- Where no vertex lies in a blossom an edge feels its two ends alone.
-use Rattle.std.proofs.Common.{◌≡◌, ◌⊎◌, ◌∙◌, ℕ, pos, ◌+ℤ◌, ◌-ℤ◌, ◌≤ℤ◌, true, false, ◌||◌, ◌&&◌, not, eqb, List, [], Some, sym, ap, subst, ⊎_elim, inl, inr}
+use Rattle.std.proofs.Common.{◌≡◌, ◌⊎◌, ◌∙◌, ℕ, ℤ, pos, ◌+ℤ◌, ◌-ℤ◌, ◌≤ℤ◌, true, false, ◌||◌, ◌&&◌, not, eqb, List, [], Some, sym, ap, subst, ⊎_elim, inl, inr, arith}
+use Rattle.std.proofs.lemmas.Int.{ints}
 use Rattle.std.specs.List.{AllByRecursion}
 use Rattle.std.proofs.lemmas.Bool.{eqb-true, or_cases}
 use Rattle.graph_theory.specs.Graph.{IsEdgeNumber, edge_of, touches}
 use Rattle.blossom_arena.specs.declared.links.Link.{Link}
 use Rattle.blossom_arena.specs.Family.{Blossom, is_vertex, is_node, is_outermost}
 use Rattle.blossom_arena.proofs.Nested.{outermost_parts}
-use Rattle.alt_forest.specs.declared.label.Label.TheVariants.{Out}
-use Rattle.alt_forest.specs.State.{State, IsOutermost, Joins, IsMate, IsTight, HasRings, IsSearchState, doubled, slack_of, slack_with}
+use Rattle.alt_forest.specs.State.{State, IsOutermost, Joins, IsMate, IsTight, HasRings, ExposedAgree, IsSearchState, doubled, slack_of, slack_with}
+use Rattle.alt_forest.specs.Trees.{SameParity, held_by, cover}
+use Rattle.alt_forest.proofs.Parity.{parity_sym, parity_trans}
 use Rattle.alt_forest.proofs.Relabelled.{outer_not_out, inner_not_out}
+use Rattle.mwpm_engine.specs.Starts.{IsBegun}
 
 module _ (s : State) (alone : s.blossoms ≡ []) where
   pub slack_flat : (e : ℕ) → slack_of s e ≡ doubled s.graph s.weighted e -ℤ (s.dual (edge_of s.graph e).u +ℤ s.dual (edge_of s.graph e).v)
@@ -44,18 +47,29 @@ module _ (s : State) (alone : s.blossoms ≡ []) where
       (λ p. ⊎_elim (λ q. inr (sym p.0 ∙ u_is q)) (λ q. inl (sym p.1 ∙ v_is q)) (or_cases (eqb (edge_of s.graph e).u v) (eqb (edge_of s.graph e).v v) t))
       (ends_flat e a b j)
 
-  -- with no tree either, feasible slacks and pairs of mates are all that there is to a search
-  pub flat_state : (depth : ℕ → ℕ) → ((a : ℕ) → s.label a ≡ Out) → ((e : ℕ) → IsEdgeNumber s.graph e → pos 0 ≤ℤ slack_of s e)
+  -- what covers a vertex is its own dual
+  cover_flat : (v : ℕ) → cover s v ≡ s.dual v
+  cover_flat v = ap (λ (bs : List Blossom). s.dual v +ℤ held_by s.dual bs v) alone ∙ plain (s.dual v)
+    where
+      plain : (x : ℤ) → x +ℤ pos 0 ≡ x
+      plain x = omega (arith, ints)
+
+  agree_flat : (start : ℤ) → IsBegun s start → ExposedAgree s
+  agree_flat start h v w iv iw ev ew = subst (λ x. SameParity x (cover s w)) (sym (cover_flat v)) (subst (SameParity (s.dual v)) (sym (cover_flat w)) (parity_trans (s.dual v) start (s.dual w) (h.parity v iv) (parity_sym (s.dual w) start (h.parity w iw))))
+
+  -- with no tree either, duals of one parity, feasible slacks and pairs of mates are all that there is to a search
+  pub flat_state : (start : ℤ) (depth : ℕ → ℕ) → IsBegun s start → ((e : ℕ) → IsEdgeNumber s.graph e → pos 0 ≤ℤ slack_of s e)
       → ((a e : ℕ) → IsOutermost s a → s.mate a ≡ Some e → (b : ℕ) × IsMate s a e b) → IsSearchState s depth
-  flat_state depth out slacks mates = record {
+  flat_state start depth h slacks mates = record {
     rings = subst (HasRings s.graph) (sym alone) tt;
     tight_rings = subst (AllByRecursion (λ (b : Blossom). AllByRecursion (λ (l : Link). IsTight s l.edge) b.ring)) (sym alone) tt;
     slacks = slacks;
     duals = subst (AllByRecursion (λ (b : Blossom). pos 0 ≤ℤ s.dual b.node)) (sym alone) tt;
     mates = mates;
+    parity = agree_flat start h;
     labels = λ a is. record {
-      outer = λ l. outer_not_out (sym l ∙ out a);
-      inner = λ l. inner_not_out (sym l ∙ out a);
-      out = λ l e b has m. out b;
+      outer = λ l. outer_not_out (sym l ∙ h.out a);
+      inner = λ l. inner_not_out (sym l ∙ h.out a);
+      out = λ l e b has m. h.out b;
     };
   }

@@ -17,6 +17,9 @@ pub mod CertificateRuns
 pub mod Concluded
 pub mod StepCounts
 pub mod Flat
+pub mod Forest
+pub mod Planted
+pub mod Joined
 pub mod LeastSeen
 pub mod LeastRise
 pub mod StartDuals

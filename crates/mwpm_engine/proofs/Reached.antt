@@ -1,26 +1,24 @@
--- What comes next in a phase: the duals and the clock change within their bounds, and one tree stays.
-use Rattle.std.proofs.Common.{◌≡◌, ◌∙◌, ℕ, ◌+◌, ℤ, ◌+ℤ◌, ◌≤ℤ◌, Option, Some, None, refl, sym, ap, subst}
+-- What comes next while a forest grows: the duals and the clock change within their bounds, and all trees stay.
+use Rattle.std.proofs.Common.{◌≡◌, ◌∙◌, ◌+◌, ℤ, ◌+ℤ◌, ◌≤ℤ◌, Option, Some, None, refl, sym, ap, subst}
 use Rattle.graph_theory.specs.declared.limits.TheConstants.{NUMBER_LIMIT}
 use Rattle.alt_forest.specs.declared.search.Search.{Search}
 use Rattle.alt_forest.specs.State.{State}
 use Rattle.alt_forest.specs.Searches.{IsSound, state_of}
-use Rattle.alt_forest.specs.Trees.{IsRoot}
-use Rattle.alt_forest.specs.Counts.{tree_count, HasOneTree}
+use Rattle.alt_forest.specs.Counts.{tree_count, IsPlanted}
 use Rattle.alt_forest.specs.Entries.{HasNoTree, IsQueued}
 use Rattle.alt_forest.specs.Standing.{IsStanding}
 use Rattle.alt_forest.proofs.Places.{nested_of}
 use Rattle.alt_forest.proofs.Counted.{roots_counted}
-use Rattle.alt_forest.proofs.Queues.{standing_with}
 use Rattle.alt_forest.proofs.Relabelled.{outer_not_out}
 use Rattle.dual_change.specs.declared.event.Event.{Event}
 use Rattle.dual_change.specs.declared.event.Next.{Next}
 use Rattle.dual_change.specs.declared.event.Next.TheVariants.{Grow as NextGrow, Shrink as NextShrink, Augment as NextAugment, Expand as NextExpand, Stuck}
 use Rattle.dual_change.specs.Changes.{applied, IsWithin, IsPossible, IsLeast, IsStuck, IsNext, IsNextWithin, StaysInRange, edge_looks}
-use Rattle.dual_change.proofs.Applied.{applied_state}
 use Rattle.mwpm_engine.specs.Bounds.{IsBounded}
+use Rattle.dual_change.proofs.Applied.{applied_state}
 use Rattle.mwpm_engine.proofs.Bounded.{in_range}
 use Rattle.mwpm_engine.proofs.Timed.{timed_applied, clock_fits}
-use Rattle.mwpm_engine.specs.Passes.{IsTimed, IsGrowing, HasStuckTree, event_of, steps_to}
+use Rattle.mwpm_engine.specs.Passes.{IsTimed, IsGrowing, HasStuckForest, event_of, steps_to}
 
 -- an event that the least change leads to, within the bounds, or none where the search is stuck
 abbrev Comes : State → Option (Event × ℤ) → Type 0
@@ -49,25 +47,22 @@ looks_then Stuck = refl
 pub looks_reach : (next : Next) (event : Event) (d : ℤ) → event_of next ≡ Some (event, d) → edge_looks next + 1 ≡ steps_to event
 looks_reach next event d same = subst (LooksThen next) same (looks_then next)
 
--- one tree by count has one root
-pub one_root : (s : Search) → IsGrowing s → HasOneTree (state_of s) × ((root : ℕ) × IsRoot (state_of s) root)
-one_root s h = roots_counted (state_of s) (nested_of s h.sound.shape) h.tree
-
--- so some tree stands
+-- where there is a tree by count some tree stands
 pub some_tree : (s : Search) → IsGrowing s → HasNoTree (state_of s) → ⊥
-some_tree s h none = let r = (one_root s h).1 in outer_not_out (sym r.1.outer ∙ none r.0 r.1.outermost)
+some_tree s h none = let r = roots_counted (state_of s) h.trees in outer_not_out (sym r.1.outer ∙ none r.0 r.1.outermost)
 
 -- a search whose queue has lost entries grows on
-growing_found : (s u : Search) → u ≡ record s { queue = u.queue } → IsSound u → IsQueued u → IsGrowing s → IsGrowing u
-growing_found s u rest sound queued h =
+growing_found : (s u : Search) → u ≡ record s { queue = u.queue } → IsSound u → IsQueued u → IsStanding u → IsPlanted (state_of u) → IsGrowing s → IsGrowing u
+growing_found s u rest sound queued standing planted h =
     let state : state_of u ≡ state_of s = ap state_of rest in
     let start : u.start ≡ s.start = ap (λ (x : Search). x.start) rest in
     let clock : u.clock ≡ s.clock = ap (λ (x : Search). x.clock) rest in
     record {
       sound = sound;
       queued = queued;
-      standing = subst IsStanding (sym rest) (standing_with s u.queue h.standing);
-      tree = ap tree_count state ∙ h.tree;
+      standing = standing;
+      planted = planted;
+      trees = λ none. h.trees (sym (ap tree_count state) ∙ none);
       bounded = subst (λ y. IsBounded (state_of u) y) (sym start) (subst (λ (x : State). IsBounded x s.start) (sym state) h.bounded);
       timed = subst (λ y. IsTimed (state_of u) y u.clock) (sym start) (subst (λ y. IsTimed (state_of u) s.start y) (sym clock) (subst (λ (x : State). IsTimed x s.start s.clock) (sym state) h.timed));
     }
@@ -82,32 +77,32 @@ pub record Stays (s : State) (start clock d : ℤ) : Type 0 where
 -- a change that leads to an event keeps the duals and the clock in range and bounded
 stays : (s : Search) (d : ℤ) (event : Event) → IsGrowing s → IsWithin (state_of s) d → IsPossible (applied (state_of s) d) event → Stays (state_of s) s.start s.clock d
 stays s d event h within can =
-    let r = one_root s h in
     let graph = h.sound.shape.graph in
     let nested = nested_of s h.sound.shape in
-    let range = in_range (state_of s) s.start h.sound.depth graph.graph graph.limits.vertices nested h.sound.state h.bounded r.0 r.1.0 r.1.1 d event within can in
-    let timed = timed_applied (state_of s) s.start s.clock d h.sound.depth event graph.graph nested h.sound.state h.tree h.bounded within can h.timed in
+    let range = in_range (state_of s) s.start h.sound.depth graph.graph graph.limits.vertices nested h.sound.state h.bounded h.planted h.trees d event within can in
+    let timed = timed_applied (state_of s) s.start s.clock d h.sound.depth event graph.graph nested h.sound.state h.trees h.bounded within can h.timed in
     record {
       in_range = range.0;
       bounded = range.1;
       timed = timed;
-      clock_fits = clock_fits (applied (state_of s) d) s.start (s.clock +ℤ d) h.sound.depth graph.graph graph.limits.vertices nested (applied_state (state_of s) d graph.graph nested h.sound.depth h.sound.state within) range.1 timed;
+      clock_fits = clock_fits (applied (state_of s) d) s.start (s.clock +ℤ d) h.sound.depth graph.graph graph.limits.vertices nested (applied_state (state_of s) d graph.graph nested h.sound.depth h.sound.state h.planted within) range.1 timed;
     }
 
 -- a search whose state is that after the change grows on
-pub grows_on : (s t : Search) (d : ℤ) → IsGrowing s → IsSound t → IsQueued t → IsStanding t → state_of t ≡ applied (state_of s) d → t.start ≡ s.start → t.clock ≡ s.clock +ℤ d → Stays (state_of s) s.start s.clock d → IsGrowing t
-grows_on s t d h sound queued standing is start clock left = record {
+pub grows_on : (s t : Search) (d : ℤ) → IsGrowing s → IsSound t → IsQueued t → IsStanding t → IsPlanted (state_of t) → state_of t ≡ applied (state_of s) d → t.start ≡ s.start → t.clock ≡ s.clock +ℤ d → Stays (state_of s) s.start s.clock d → IsGrowing t
+grows_on s t d h sound queued standing planted is start clock left = record {
   sound = sound;
   queued = queued;
   standing = standing;
-  tree = ap tree_count is ∙ h.tree;
+  planted = planted;
+  trees = λ none. h.trees (sym (ap tree_count is) ∙ none);
   bounded = subst (λ y. IsBounded (state_of t) y) (sym start) (subst (λ (x : State). IsBounded x s.start) (sym is) left.bounded);
   timed = subst (λ y. IsTimed (state_of t) y t.clock) (sym start) (subst (λ y. IsTimed (state_of t) s.start y) (sym clock) (subst (λ (x : State). IsTimed x s.start (s.clock +ℤ d)) (sym is) left.timed));
 }
 
--- where nothing comes next the tree is stuck
-pub stuck_tree : (s : Search) → IsGrowing s → IsStuck (state_of s) → HasStuckTree s
-stuck_tree s h stuck = let r = one_root s h in record { sound = h.sound; one_tree = r.0; root = r.1.0; is_root = r.1.1; stuck = stuck }
+-- where nothing comes next the forest is stuck
+pub stuck_forest : (s : Search) → IsGrowing s → IsStuck (state_of s) → HasStuckForest s
+stuck_forest s h stuck = let r = roots_counted (state_of s) h.trees in record { sound = h.sound; planted = h.planted; root = r.0; is_root = r.1; stuck = stuck }
 
 -- an event that was found, with the change that leads to it
 pub record IsFound (u : Search) (event : Event) (d : ℤ) : Type 0 where
@@ -116,8 +111,8 @@ pub record IsFound (u : Search) (event : Event) (d : ℤ) : Type 0 where
   pub within : IsWithin (state_of u) d
   pub left : Stays (state_of u) u.start u.clock d
 
-pub found : (s u : Search) (next : Next) (event : Event) (d : ℤ) → u ≡ record s { queue = u.queue } → IsSound u → IsQueued u → IsNext (state_of u) next → IsNextWithin (state_of u) next → event_of next ≡ Some (event, d) → IsGrowing s → IsFound u event d
-found s u next event d rest sound queued is within same h =
-    let growing = growing_found s u rest sound queued h in
+pub found : (s u : Search) (next : Next) (event : Event) (d : ℤ) → u ≡ record s { queue = u.queue } → IsSound u → IsQueued u → IsStanding u → IsPlanted (state_of u) → IsNext (state_of u) next → IsNextWithin (state_of u) next → event_of next ≡ Some (event, d) → IsGrowing s → IsFound u event d
+found s u next event d rest sound queued standing planted is within same h =
+    let growing = growing_found s u rest sound queued standing planted h in
     let all : Comes (state_of u) (Some (event, d)) = subst (Comes (state_of u)) same (comes (state_of u) next is within) in
     record { growing = growing; possible = all.0.possible; within = all.1; left = stays u d event growing all.1 all.0.possible }

@@ -10,7 +10,6 @@ use Rattle.graph_theory.proofs.Around.{around-is}
 use Rattle.blossom_arena.specs.Family.{is_vertex}
 use Rattle.blossom_arena.proofs.Lists.{by_test, first_in}
 use Rattle.blossom_arena.proofs.Ends.{u_vertex, v_vertex}
-use Rattle.alt_forest.specs.declared.label.Label.TheVariants.{Out}
 use Rattle.alt_forest.specs.State.{State, IsExposed, IsMate, IsSearchState, doubled, slack_of}
 use Rattle.alt_forest.specs.Searches.{put}
 use Rattle.alt_forest.specs.Trees.{SameParity}
@@ -66,26 +65,6 @@ mate_misses s v a e b alone exposed has m = by_test (touches (edge_of s.graph e)
     (end_flat s alone v e a b m.joins t))
     (λ t. t)
 
--- what the raised dual leaves of the slacks, of the mates and of the state
-module _ (s : State) (v : ℕ) (d : ℤ) (ends : All (IsEdgeWithin s.graph.vertices) s.graph.edges) (alone : s.blossoms ≡ []) (can : CanRise s v d) where
-  raised_slacks : ((e : ℕ) → IsEdgeNumber s.graph e → pos 0 ≤ℤ slack_of s e) → (e : ℕ) → IsEdgeNumber s.graph e → pos 0 ≤ℤ slack_of (raised_at s v d) e
-  raised_slacks slacks e is = by_test (touches (edge_of s.graph e) v)
-      (λ t. let now = slack_here s v d e alone (edge_of_within s.graph e ends is) t in let most = can.each e is t in omega (arith, ints, now, most))
-      (λ t. subst (λ x. pos 0 ≤ℤ x) (sym (slack_there s v d e alone t)) (slacks e is))
-
-  raised_mate : (a e b : ℕ) → s.mate a ≡ Some e → IsMate s a e b → IsMate (raised_at s v d) a e b
-  raised_mate a e b has m = record {
-    edge = m.edge;
-    joins = m.joins;
-    different = m.different;
-    tight = slack_there s v d e alone (mate_misses s v a e b alone can.exposed.1 has m) ∙ m.tight;
-    outer = m.outer;
-    back = m.back;
-  }
-
-  pub raised_state : (depth : ℕ → ℕ) → ((a : ℕ) → s.label a ≡ Out) → IsSearchState s depth → IsSearchState (raised_at s v d) depth
-  raised_state depth out st = flat_state (raised_at s v d) alone depth out (raised_slacks st.slacks) (λ a e is has. let m = st.mates a e is has in (m.0, raised_mate a e m.0 has m.1))
-
 even_more : (x y d : ℤ) → SameParity x y → SameParity d (pos 0) → SameParity (x +ℤ d) y
 even_more x y d p q = let h = p.0 in let k = q.0 in let e : x ≡ y +ℤ (h +ℤ h) = p.1 in let f : d ≡ pos 0 +ℤ (k +ℤ k) = q.1 in (h +ℤ k, omega (arith, ints, e, f))
 
@@ -105,6 +84,26 @@ raised_begun s start v d vertex can h = record {
   parity = λ c is. each_dual s v d (λ y. SameParity y start) (even_more (s.dual v) start d (h.parity v vertex) can.even) c (h.parity c is);
   still = λ zero c is. let was = h.still zero v vertex in let more = can.still zero in each_dual s v d (λ y. y ≡ pos 0) (omega (arith, ints, was, more)) c (h.still zero c is);
 }
+
+-- what the raised dual leaves of the slacks, of the mates and of the state
+module _ (s : State) (v : ℕ) (d : ℤ) (ends : All (IsEdgeWithin s.graph.vertices) s.graph.edges) (alone : s.blossoms ≡ []) (can : CanRise s v d) where
+  raised_slacks : ((e : ℕ) → IsEdgeNumber s.graph e → pos 0 ≤ℤ slack_of s e) → (e : ℕ) → IsEdgeNumber s.graph e → pos 0 ≤ℤ slack_of (raised_at s v d) e
+  raised_slacks slacks e is = by_test (touches (edge_of s.graph e) v)
+      (λ t. let now = slack_here s v d e alone (edge_of_within s.graph e ends is) t in let most = can.each e is t in omega (arith, ints, now, most))
+      (λ t. subst (λ x. pos 0 ≤ℤ x) (sym (slack_there s v d e alone t)) (slacks e is))
+
+  raised_mate : (a e b : ℕ) → s.mate a ≡ Some e → IsMate s a e b → IsMate (raised_at s v d) a e b
+  raised_mate a e b has m = record {
+    edge = m.edge;
+    joins = m.joins;
+    different = m.different;
+    tight = slack_there s v d e alone (mate_misses s v a e b alone can.exposed.1 has m) ∙ m.tight;
+    outer = m.outer;
+    back = m.back;
+  }
+
+  pub raised_state : (start : ℤ) (depth : ℕ → ℕ) → is_vertex s.graph.vertices v ≡ true → IsBegun s start → IsSearchState s depth → IsSearchState (raised_at s v d) depth
+  raised_state start depth vertex h st = flat_state (raised_at s v d) alone start depth (raised_begun s start v d vertex can h) (raised_slacks st.slacks) (λ a e is has. let m = st.mates a e is has in (m.0, raised_mate a e m.0 has m.1))
 
 -- no edge at a vertex, or some
 some_around : (g : Multigraph) (v : ℕ) → (edges_around g v ≡ []) ⊎ ((e : ℕ) × IsEdgeNumber g e × (touches (edge_of g e) v ≡ true))

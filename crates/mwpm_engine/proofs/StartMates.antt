@@ -8,7 +8,6 @@ use Rattle.graph_theory.proofs.Edges.{edge_of_within}
 use Rattle.graph_theory.proofs.SumLemmas.{sum_to-le}
 use Rattle.blossom_arena.specs.Family.{is_outermost}
 use Rattle.blossom_arena.proofs.Lists.{by_test}
-use Rattle.alt_forest.specs.declared.label.Label.TheVariants.{Out}
 use Rattle.alt_forest.specs.State.{State, IsOutermost, IsExposed, IsMate, IsTight, IsSearchState}
 use Rattle.alt_forest.specs.Counts.{is_exposed, exposed_count}
 use Rattle.alt_forest.specs.Searches.{put}
@@ -24,6 +23,9 @@ some_same e f q = cc
 -- the state with the two ends of an edge matched by it
 abbrev pub paired_by : State → ℕ → State
 paired_by s e = record s { mate = put (put s.mate (edge_of s.graph e).u (Some e)) (edge_of s.graph e).v (Some e) }
+
+pub paired_begun : (s : State) (start : ℤ) (e : ℕ) → IsBegun s start → IsBegun (paired_by s e) start
+paired_begun s start e h = record { alone = h.alone; out = h.out; start_weight = h.start_weight; low = h.low; high = h.high; parity = h.parity; still = h.still }
 
 module _ (s : State) (e : ℕ) where
   abbrev a : ℕ
@@ -102,8 +104,5 @@ module _ (s : State) (e : ℕ) where
         (b, subst (λ x. IsMate (paired_by s e) x f b) (sym here) (subst (λ x. IsMate (paired_by s e) a x b) same mate_of_a)))
         (λ u. let m = old c f is (sym (there c (eqb-false c a u) (eqb-false c b t)) ∙ has) in (m.0, old_mate c f m.0 m.1)))
 
-    pub paired_state : (depth : ℕ → ℕ) → ((c : ℕ) → s.label c ≡ Out) → IsSearchState s depth → IsSearchState (paired_by s e) depth
-    paired_state depth out st = flat_state (paired_by s e) alone depth out st.slacks (mates st.mates)
-
-pub paired_begun : (s : State) (start : ℤ) (e : ℕ) → IsBegun s start → IsBegun (paired_by s e) start
-paired_begun s start e h = record { alone = h.alone; out = h.out; start_weight = h.start_weight; low = h.low; high = h.high; parity = h.parity; still = h.still }
+    pub paired_state : (start : ℤ) (depth : ℕ → ℕ) → IsBegun s start → IsSearchState s depth → IsSearchState (paired_by s e) depth
+    paired_state start depth h st = flat_state (paired_by s e) alone start depth (paired_begun s start e h) st.slacks (mates st.mates)

@@ -47,7 +47,7 @@ module _ (s : Search) (f : Family) (v : ℕ) (d : ℤ) (is : f ≡ raised s.aren
         room = h.shape.room;
       };
       depth = h.depth;
-      state = subst (λ (t : State). IsSearchState t h.depth) (sym raised_is) (raised_state (state_of s) v d h.shape.graph.graph.ends begun.alone can h.depth begun.out h.state);
+      state = subst (λ (t : State). IsSearchState t h.depth) (sym raised_is) (raised_state (state_of s) v d h.shape.graph.graph.ends begun.alone can s.start h.depth vertex begun h.state);
     }
 
     pub raised_begins : IsBegun (state_of (record s { arena = f })) s.start
@@ -77,7 +77,7 @@ module _ (s t : Search) (e : ℕ) (rest : t ≡ record s { mates = t.mates }) (m
       room = h.shape.room;
     });
     depth = h.depth;
-    state = subst (λ (x : State). IsSearchState x h.depth) (sym paired_is) (paired_state (state_of s) e h.shape.graph.graph.ends begun.alone tight u v h.depth begun.out h.state);
+    state = subst (λ (x : State). IsSearchState x h.depth) (sym paired_is) (paired_state (state_of s) e h.shape.graph.graph.ends begun.alone tight u v s.start h.depth begun h.state);
   }
 
 -- the slack of an edge at a vertex, with the edge itself where it leads to an exposed vertex

@@ -1,9 +1,10 @@
 -- How many steps a search counts at most.
-use Rattle.std.proofs.Common.{◌≡◌, ◌≢◌, ◌⊎◌, ℕ, suc, ◌+◌, ◌*◌, ◌≤◌, ℤ, Bool, true, false, eqb, cond, List, [], ◌∷◌, length, Option, Some, None, refl, sym, ap, subst, arith, ⊎_elim, inl, inr, All}
+use Rattle.std.proofs.Common.{◌≡◌, ◌≢◌, ◌⊎◌, ℕ, zero, suc, ◌+◌, ◌-◌, ◌*◌, ◌<◌, ◌≤◌, ℤ, Bool, true, false, eqb, cond, List, [], ◌∷◌, length, Option, Some, None, refl, sym, ap, subst, arith, ⊎_elim, inl, inr, All}
 use Rattle.std.specs.Prelude.{slice_index_or}
 use Rattle.std.specs.List.{list_any}
 use Rattle.std.proofs.lemmas.Nat.{mul-le}
 use Rattle.std.proofs.lemmas.Bool.{eqb-true, eqb-false}
+use Rattle.graph_theory.specs.Limits.{Size}
 use Rattle.graph_theory.specs.Graph.{Multigraph, IsGraph, IsEdgeWithin, edge_of, edges_around}
 use Rattle.graph_theory.proofs.Edges.{edge_of_within}
 use Rattle.graph_theory.proofs.SumLemmas.{sum_to-le, sum_to-most, one_if-most}
@@ -14,7 +15,7 @@ use Rattle.edge_queue.specs.declared.item.Item.{Item}
 use Rattle.edge_queue.specs.declared.item.Item.TheVariants.{Edge}
 use Rattle.edge_queue.specs.Moments.{Moments, moment_of}
 use Rattle.alt_forest.specs.declared.search.Search.{Search}
-use Rattle.alt_forest.specs.State.{State, IsExposed}
+use Rattle.alt_forest.specs.State.{State, IsOutermost}
 use Rattle.alt_forest.specs.Searches.{HasShape, state_of}
 use Rattle.alt_forest.specs.Counts.{is_outside, outside_vertices, outside_among, measure, exposed_count}
 use Rattle.alt_forest.specs.Entries.{entered_among, entry_count, looks_left, outside_ends}
@@ -23,7 +24,7 @@ use Rattle.alt_forest.proofs.Places.{nested_of, outer_range}
 use Rattle.dual_change.specs.declared.event.Event.{Event}
 use Rattle.dual_change.specs.declared.event.Event.TheVariants.{Grow, Shrink, Augment, Expand}
 use Rattle.mwpm_engine.specs.Solutions.{size_of_graph, most_steps}
-use Rattle.mwpm_engine.specs.Passes.{IsReady, KeepsCounts, account, steps_to, phase_steps, most_phase_steps, phases_doubled}
+use Rattle.mwpm_engine.specs.Passes.{IsReady, KeepsCounts, account, steps_to, phase_steps, augment_account, pass_steps}
 
 -- products
 
@@ -70,16 +71,16 @@ none_among (Some m ∷ rest) none = let first = none 0 in absurd (cc)
 pub none_entered : (q : Moments) → ((item : Item) → moment_of q item ≡ None) → entry_count q ≡ 0
 none_entered q none = none_among q.edges (λ k. none (Edge (suc k)))
 
--- A round of a phase: the event makes up for what led to it. What is there at the phase's begin pays for all but the last round.
+-- A round: the event makes up for what led to it. What is there when the forest is planted pays for all rounds of a phase but the last.
 
 -- two for each look that is left, and for each vertex and blossom
 abbrev pub phase_account : Multigraph → ℕ → ℕ
 phase_account g blossoms = 2 * (2 * length g.edges + 2 * length g.edges * blossoms) + 2 * (g.vertices + blossoms)
 
 begins_paid : (old new first entries begin looks left most ends : ℕ) → first ≡ 0 → new + looks ≤ old + begin → entries + old ≤ first + new → left ≤ most → begin ≤ ends → new + entries + 2 * looks + 2 * left ≤ old + (2 * ends + 2 * most)
-begins_paid old new first entries begin looks left most ends zero look count small few = omega (arith, zero, look, count, small, few)
+begins_paid old new first entries begin looks left most ends none look count small few = omega (arith, none, look, count, small, few)
 
--- once a tree is planted
+-- once the forest is planted
 pub planted_paid : (s t : Search) (old new : ℕ) → IsReady s → t.arena ≡ s.arena → t.graph ≡ s.graph → new + looks_left (state_of t) ≤ old + looks_left (state_of s) → entry_count t.queue + old ≤ entry_count s.queue + new
     → account t new ≤ old + phase_account s.graph (length s.arena.blossoms)
 planted_paid s t old new ready arena graph look count =
@@ -99,45 +100,15 @@ steps_few (Augment e) = omega arith
 steps_few (Expand b) = omega arith
 
 -- the blossoms are fewer than half of the vertices, where there is a node at all
-pub few_blossoms : (s : Search) (root : ℕ) → HasShape s → IsExposed (state_of s) root → 2 * length s.arena.blossoms + 1 ≤ s.graph.vertices
-few_blossoms s root h exposed =
-    let range = outer_range s root h exposed.0 in
+pub few_blossoms : (s : Search) (a : ℕ) → HasShape s → IsOutermost (state_of s) a → 2 * length s.arena.blossoms + 1 ≤ s.graph.vertices
+few_blossoms s a h is =
+    let range = outer_range s a h is in
     let most = blossoms_most s.graph.vertices s.arena.blossoms (nested_of s h) in
     omega (arith, range.0, range.1, most)
 
 -- a phase as a whole
 pub phase_paid : (g : Multigraph) (b start new : ℕ) → 2 * b + 1 ≤ g.vertices → new ≤ start + phase_account g b + 3 → new ≤ start + phase_steps (size_of_graph g) b
 phase_paid g b start new few paid = omega (arith, few, paid)
-
-most_phase : (g : Multigraph) (b : ℕ) → 2 * b + 1 ≤ g.vertices → phase_steps (size_of_graph g) b ≤ most_phase_steps (size_of_graph g)
-most_phase g b few =
-    let all : 2 * (1 + b) * (2 * length g.edges) ≤ (g.vertices + 1) * (2 * length g.edges) = times_le (2 * (1 + b)) (g.vertices + 1) (2 * length g.edges) (omega (arith, few)) in
-    omega (arith, all)
-
--- a phase that augments leaves two exposed nodes fewer, which pay for it twice
-more_times : (a b k : ℕ) → (a + b) * k ≡ a * k + b * k
-more_times a b k = omega arith
-
-pub augment_paid : (k start all before after old new : ℕ) → 2 * old + before * k ≤ 2 * start + all * k → after + 2 ≡ before → new ≤ old + k → 2 * new + after * k ≤ 2 * start + all * k
-augment_paid k start all before after old new paid fewer last =
-    let here : (after + 2) * k ≤ before * k = times_le (after + 2) before k (omega (arith, fewer)) in
-    omega (arith, paid, last, here, more_times after 2 k)
-
--- the phase in which a tree is stuck comes on top
-pub stuck_paid : (k start all before old new : ℕ) → 2 * old + before * k ≤ 2 * start + all * k → new ≤ old + k → 2 * new ≤ 2 * start + phases_doubled all false * k
-stuck_paid k start all before old new paid last = omega (arith, paid, last, more_times all 2 k)
-
-pub matched_paid : (k start all before old : ℕ) → 2 * old + before * k ≤ 2 * start + all * k → 2 * old ≤ 2 * start + phases_doubled all true * k
-matched_paid k start all before old paid = omega (arith, paid)
-
--- a pass from the beginning has at most as many exposed nodes as vertices, and its start looks four times at each edge
-
-doubled_le : (ends : Bool) (a b k : ℕ) → a ≤ b → phases_doubled a ends * k ≤ phases_doubled b ends * k
-doubled_le true a b k low = times_le a b k low
-doubled_le false a b k low = times_le (a + 2) (b + 2) k (omega (arith, low))
-
-pub pass_paid : (n m k : ℕ) (ends : Bool) (exposed old begun new : ℕ) → exposed ≤ n → begun ≤ old + 4 * m → 2 * new ≤ 2 * begun + phases_doubled exposed ends * k → 2 * new ≤ 2 * old + phases_doubled n ends * k + 8 * m
-pass_paid n m k ends exposed old begun new few looks paid = let all = doubled_le ends exposed n k few in omega (arith, looks, paid, all)
 
 -- a graph has two vertices or more, or no edge
 pub some_or_none : (g : Multigraph) → IsGraph g → (2 ≤ g.vertices) ⊎ (length g.edges ≡ 0)
@@ -149,40 +120,111 @@ some_or_none g graph = by_test (eqb (length g.edges) 0)
     let differ : (edge_of g 1).u ≢ (edge_of g 1).v = w.differ in
     inl (omega (arith, w.u_low, w.u_high, w.v_low, w.v_high, differ)))
 
--- all phases of one pass that augment, with what is looked at besides, twice
-augments_paid : (n m : ℕ) → (2 ≤ n) ⊎ (m ≡ 0) → n * (2 * m * (n + 1) + 3 * n + 2) + 10 * m ≤ (n + 1) * (3 * n + 2) * (m + 1)
-augments_paid n m some = ⊎_elim
-    (λ two. let once : 2 * m ≤ n * m = times_le 2 n m two in let twice : 2 * (n * m) ≤ n * (n * m) = times_le 2 n (n * m) two in omega (arith, once, twice))
-    (λ none. subst (λ k. n * (2 * k * (n + 1) + 3 * n + 2) + 10 * k ≤ (n + 1) * (3 * n + 2) * (k + 1)) (sym none) (omega arith))
-    some
+-- A pass: each augment but the last one takes two exposed nodes away, which pay for what is counted anew.
 
--- and one pass that ends with a phase that is stuck
-stuck_most : (n m : ℕ) → (2 ≤ n) ⊎ (m ≡ 0) → (n + 2) * (2 * m * (n + 1) + 3 * n + 2) + 8 * m ≤ 2 * ((n + 1) * (3 * n + 2) * (m + 1))
+more_times : (a b k : ℕ) → (a + b) * k ≡ a * k + b * k
+more_times a b k = omega arith
+
+-- what is left once two trees have been taken away, with as many blossoms as there can be
+pub joined_paid : (n m b steps entries old before looks left : ℕ) → 2 * b + 1 ≤ n → steps ≤ old + 1 + 2 * m → entries + old ≤ before + steps → looks ≤ 2 * m + 2 * m * b → left ≤ n + b
+    → steps + entries + 2 * looks + 2 * left + 2 ≤ old + before + (2 * m * (n + 3) + 3 * n + 3)
+joined_paid n m b steps entries old before looks left few count entered most rest =
+    let all : (2 * b + 1) * (2 * m) ≤ n * (2 * m) = times_le (2 * b + 1) n (2 * m) few in
+    omega (arith, few, count, entered, most, rest, all)
+
+-- the two exposed nodes pay for it
+pub join_paid : (k new old after before : ℕ) → new + 2 ≤ old + k → after + 2 ≡ before → 2 * new + after * k + 4 ≤ 2 * old + before * k
+join_paid k new old after before paid fewer =
+    let here : (after + 2) * k ≡ before * k = ap (λ x. x * k) fewer in
+    omega (arith, paid, here, more_times after 2 k)
+
+-- what is left of a pass falls where two exposed nodes are taken away, and where a tree takes something in
+pub left_falls : (n after before new old : ℕ) → after + 2 ≡ before → new ≤ 2 * n → after * (2 * n + 1) + new < before * (2 * n + 1) + old
+left_falls n after before new old fewer most =
+    let here : (after + 2) * (2 * n + 1) ≡ before * (2 * n + 1) = ap (λ x. x * (2 * n + 1)) fewer in
+    omega (arith, here, most, more_times after 2 (2 * n + 1))
+
+pub less_left : (n after before new old : ℕ) → after ≡ before → new < old → after * (2 * n + 1) + new < before * (2 * n + 1) + old
+less_left n after before new old same less = let here : after * (2 * n + 1) ≡ before * (2 * n + 1) = ap (λ x. x * (2 * n + 1)) same in omega (arith, here, less)
+
+-- a round of a pass
+pub round_paid : (k start old reached new before between after by : ℕ) → 2 * old + before * k ≤ start → reached ≤ old + by → between ≡ before → 2 * new + after * k + 2 * by ≤ 2 * reached + between * k → 2 * new + after * k ≤ start
+round_paid k start old reached new before between after by paid reach same event =
+    let here : between * k ≡ before * k = ap (λ x. x * k) same in
+    omega (arith, paid, reach, event, here)
+
+-- once every exposed node is planted, before there is any blossom
+pub pass_begun : (g : Multigraph) (k blossoms start new all exposed : ℕ) → blossoms ≡ 0 → new ≤ start + phase_account g blossoms → exposed ≡ all → 2 * new + exposed * k ≤ 2 * start + (all * k + 8 * length g.edges + 4 * g.vertices)
+pass_begun g k blossoms start new all exposed none paid same =
+    let here : exposed * k ≡ all * k = ap (λ x. x * k) same in
+    let begin : phase_account g blossoms ≡ phase_account g 0 = ap (phase_account g) none in
+    omega (arith, here, begin, paid)
+
+-- the last of so many is paid for by none, and neither is the one before
+last_two : (k a x y : ℕ) → x + 2 * k ≤ y + a * k → x ≤ y + (a - 2) * k
+last_two k zero x y paid = omega (arith, paid)
+last_two k (suc zero) x y paid = omega (arith, paid)
+last_two k (suc (suc a)) x y paid =
+    let back : suc (suc a) - 2 ≡ a = omega arith in
+    subst (λ b. x ≤ y + b * k) (sym back) (omega (arith, paid))
+
+-- the last augment of a pass
+pub pass_matched : (n m k start all old before reached between new by : ℕ) → 2 * old + before * k ≤ 2 * start + (all * k + 8 * m + 4 * n) → reached ≤ old + by → by ≤ 2 → between ≡ before → 2 ≤ between → new ≤ reached + 1 + 2 * m → 2 ≤ n
+    → 2 * new ≤ 2 * start + ((all - 2) * k + 12 * m + 7 * n)
+pass_matched n m k start all old before reached between new by paid reach two same some last vertices =
+    let here : 2 * k ≤ before * k = times_le 2 before k (omega (arith, same, some)) in
+    let most = last_two k all (2 * new) (2 * start + 12 * m + 7 * n) (omega (arith, here, paid, reach, two, last, vertices)) in
+    omega (arith, most)
+
+-- a pass in which no node is exposed
+pub pass_idle : (g : Multigraph) (blossoms all old new looks before : ℕ) → blossoms ≡ 0 → new + looks ≤ old + before → before ≤ 2 * length g.edges + 2 * length g.edges * blossoms → 2 * new ≤ 2 * old + pass_steps (size_of_graph g) all true
+pass_idle g blossoms all old new looks before none looked most =
+    let begin : 2 * length g.edges * blossoms ≡ 2 * length g.edges * 0 = ap (λ b. 2 * length g.edges * b) none in
+    idle (length g.edges) g.vertices ((all - 2) * augment_account (size_of_graph g)) (omega (arith, looked, most, begin))
+  where
+    idle : (m n x : ℕ) → new ≤ old + 2 * m → 2 * new ≤ 2 * old + (x + 12 * m + 7 * n)
+    idle m n x low = omega (arith, low)
+
+-- a pass from the beginning has at most as many exposed nodes as vertices, and its start looks four times at each edge
+
+steps_le : (size : Size) (ends : Bool) (a b : ℕ) → a ≤ b → pass_steps size a ends ≤ pass_steps size b ends
+steps_le size true a b low = let more = times_le (a - 2) (b - 2) (augment_account size) (omega (arith, low)) in omega (arith, more)
+steps_le size false a b low = let more = times_le a b (augment_account size) low in omega (arith, more)
+
+pub pass_paid : (g : Multigraph) (ends : Bool) (exposed old begun new : ℕ) → exposed ≤ g.vertices → begun ≤ old + 4 * length g.edges → 2 * new ≤ 2 * begun + pass_steps (size_of_graph g) exposed ends
+    → 2 * new ≤ 2 * old + pass_steps (size_of_graph g) g.vertices ends + 8 * length g.edges
+pass_paid g ends exposed old begun new few looks paid = plain (pass_steps (size_of_graph g) exposed ends) (pass_steps (size_of_graph g) g.vertices ends) (length g.edges) (steps_le (size_of_graph g) ends exposed g.vertices few) looks paid
+  where
+    plain : (x y m : ℕ) → x ≤ y → begun ≤ old + 4 * m → 2 * new ≤ 2 * begun + x → 2 * new ≤ 2 * old + y + 8 * m
+    plain x y m a b c = omega (arith, a, b, c)
+
+-- what two passes of which neither is stuck count together, with two looks at each edge between them
+matched_most : (n m : ℕ) → (2 ≤ n) ⊎ (m ≡ 0) → (n - 2) * (2 * m * (n + 3) + 3 * n + 3) + 22 * m + 7 * n ≤ (n + 1) * (3 * n + 2) * (m + 1)
+matched_most zero m some = ⊎_elim (λ two. absurd (omega (arith, two))) (λ none. omega (arith, none)) some
+matched_most (suc zero) m some = ⊎_elim (λ two. absurd (omega (arith, two))) (λ none. omega (arith, none)) some
+matched_most (suc (suc k)) m some =
+    let back : suc (suc k) - 2 ≡ k = omega arith in
+    subst (λ b. b * (2 * m * (suc (suc k) + 3) + 3 * suc (suc k) + 3) + 22 * m + 7 * suc (suc k) ≤ (suc (suc k) + 1) * (3 * suc (suc k) + 2) * (m + 1)) (sym back) (omega arith)
+
+-- and twice what a pass counts that ends stuck
+stuck_most : (n m : ℕ) → (2 ≤ n) ⊎ (m ≡ 0) → n * (2 * m * (n + 3) + 3 * n + 3) + 16 * m + 4 * n ≤ 2 * ((n + 1) * (3 * n + 2) * (m + 1))
 stuck_most n m some = ⊎_elim
     (λ two. let once : 2 * m ≤ n * m = times_le 2 n m two in let twice : 2 * (n * m) ≤ n * (n * m) = times_le 2 n (n * m) two in omega (arith, once, twice))
-    (λ none. subst (λ k. (n + 2) * (2 * k * (n + 1) + 3 * n + 2) + 8 * k ≤ 2 * ((n + 1) * (3 * n + 2) * (k + 1))) (sym none) (omega arith))
+    (λ none. subst (λ k. n * (2 * k * (n + 3) + 3 * n + 3) + 16 * k + 4 * n ≤ 2 * ((n + 1) * (3 * n + 2) * (k + 1))) (sym none) (omega arith))
     some
 
--- one pass
-pub one_pass_paid : (g : Multigraph) (ends : Bool) (old new : ℕ) → IsGraph g → 2 * new ≤ 2 * old + phases_doubled g.vertices ends * most_phase_steps (size_of_graph g) + 8 * length g.edges → new ≤ old + most_steps (size_of_graph g)
-one_pass_paid g true old new graph paid = let most = augments_paid g.vertices (length g.edges) (some_or_none g graph) in omega (arith, paid, most)
-one_pass_paid g false old new graph paid = let most = stuck_most g.vertices (length g.edges) (some_or_none g graph) in omega (arith, paid, most)
+-- a pass that ends stuck
+pub stuck_paid : (g : Multigraph) (old new : ℕ) → IsGraph g → 2 * new ≤ 2 * old + pass_steps (size_of_graph g) g.vertices false + 8 * length g.edges → new ≤ old + most_steps (size_of_graph g)
+stuck_paid g old new graph paid = let most = stuck_most g.vertices (length g.edges) (some_or_none g graph) in omega (arith, paid, most)
 
--- one pass that isn't stuck, and a look at each edge
-pub looked_through : (g : Multigraph) (old between new : ℕ) → IsGraph g → 2 * between ≤ 2 * old + phases_doubled g.vertices true * most_phase_steps (size_of_graph g) + 8 * length g.edges → new ≤ between + length g.edges → new ≤ old + most_steps (size_of_graph g)
-looked_through g old between new graph first looks = let most = augments_paid g.vertices (length g.edges) (some_or_none g graph) in omega (arith, first, looks, most)
+-- a pass that doesn't, and a look at each edge
+pub looked_through : (g : Multigraph) (old between new : ℕ) → IsGraph g → 2 * between ≤ 2 * old + pass_steps (size_of_graph g) g.vertices true + 8 * length g.edges → new ≤ between + length g.edges → new ≤ old + most_steps (size_of_graph g)
+looked_through g old between new graph first looks = let most = matched_most g.vertices (length g.edges) (some_or_none g graph) in omega (arith, first, looks, most)
 
 -- two passes of which neither is stuck, with two looks at each edge between them
-pub two_passes_paid : (g : Multigraph) (old first looked found new : ℕ) → IsGraph g → 2 * first ≤ 2 * old + phases_doubled g.vertices true * most_phase_steps (size_of_graph g) + 8 * length g.edges → looked ≤ first + length g.edges → found ≤ looked + length g.edges
-    → 2 * new ≤ 2 * found + phases_doubled g.vertices true * most_phase_steps (size_of_graph g) + 8 * length g.edges → new ≤ old + most_steps (size_of_graph g)
-two_passes_paid g old first looked found new graph one looks more other = let most = augments_paid g.vertices (length g.edges) (some_or_none g graph) in omega (arith, one, looks, more, other, most)
-
--- a phase counts no more than any phase can
-pub within_most : (s : Search) (g : Multigraph) (root old new : ℕ) → s.graph ≡ g → HasShape s → IsExposed (state_of s) root → new ≤ old + phase_steps (size_of_graph g) (length s.arena.blossoms) → new ≤ old + most_phase_steps (size_of_graph g)
-within_most s g root old new same shape exposed paid =
-    let few : 2 * length s.arena.blossoms + 1 ≤ g.vertices = subst (λ (k : Multigraph). 2 * length s.arena.blossoms + 1 ≤ k.vertices) same (few_blossoms s root shape exposed) in
-    let most = most_phase g (length s.arena.blossoms) few in
-    omega (arith, paid, most)
+pub two_passes_paid : (g : Multigraph) (old first looked found new : ℕ) → IsGraph g → 2 * first ≤ 2 * old + pass_steps (size_of_graph g) g.vertices true + 8 * length g.edges → looked ≤ first + length g.edges → found ≤ looked + length g.edges
+    → 2 * new ≤ 2 * found + pass_steps (size_of_graph g) g.vertices true + 8 * length g.edges → new ≤ old + most_steps (size_of_graph g)
+two_passes_paid g old first looked found new graph one looks more other = let most = matched_most g.vertices (length g.edges) (some_or_none g graph) in omega (arith, one, looks, more, other, most)
 
 -- a pass that has just been reset has as many exposed nodes as vertices, and its start leaves no more
 pub exposed_few : (s t : Search) (g : Multigraph) → exposed_count (state_of t) ≤ exposed_count (state_of s) → exposed_count (state_of s) ≡ s.graph.vertices → s.graph ≡ g → exposed_count (state_of t) ≤ g.vertices

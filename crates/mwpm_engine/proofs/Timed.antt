@@ -1,5 +1,5 @@
 -- The clock of a pass is at most the sum of its changes, which is bounded.
-use Rattle.std.proofs.Common.{◌≡◌, ◌∙◌, ℕ, ◌*◌, ◌^◌, ◌≤◌, ℤ, pos, ◌+ℤ◌, ◌*ℤ◌, ◌≤ℤ◌, sym, ap, arith, ⊎_elim}
+use Rattle.std.proofs.Common.{◌≡◌, ◌≢◌, ◌∙◌, ℕ, ◌*◌, ◌^◌, ◌≤◌, ℤ, pos, ◌+ℤ◌, ◌*ℤ◌, ◌≤ℤ◌, sym, ap, arith, ⊎_elim}
 use Rattle.std.proofs.lemmas.Int.{ints}
 use Rattle.std.proofs.lemmas.Bool.{both_ways}
 use Rattle.graph_theory.specs.declared.limits.TheConstants.{NUMBER_LIMIT}
@@ -13,10 +13,10 @@ use Rattle.dual_change.specs.Laws.{dual_total}
 use Rattle.dual_change.proofs.Total.{change_raises}
 use Rattle.mwpm_engine.specs.Bounds.{IsBounded}
 use Rattle.mwpm_engine.specs.Passes.{IsTimed}
-use Rattle.mwpm_engine.proofs.BoundedRaised.{raised_at_most}
+use Rattle.mwpm_engine.proofs.BoundedRaised.{raised_at_most, times_some}
 use Rattle.mwpm_engine.proofs.BoundedZero.{no_change}
 
--- a phase begins with the clock at 0
+-- a forest is planted with the clock at 0
 pub timed_first : (s : State) (start clock : ℤ) → clock ≡ pos 0 → IsBounded s start → IsTimed s start clock
 timed_first s start clock zero bounded = record {
   unweighted = λ u. zero;
@@ -36,10 +36,10 @@ timed_same s t start clock graph weighted total h = record {
       omega (arith, ints, was, base, total);
 }
 
--- a change of the duals that leads to an event moves the clock by as much as it raises the sum of all duals
-pub timed_applied : (s : State) (start clock d : ℤ) (depth : ℕ → ℕ) (event : Event) → IsGraph s.graph → IsNested s.graph.vertices s.blossoms → IsSearchState s depth → tree_count s ≡ 1 → IsBounded s start → IsWithin s d → IsPossible (applied s d) event
+-- a change of the duals that leads to an event moves the clock by no more than it raises the sum of all duals
+pub timed_applied : (s : State) (start clock d : ℤ) (depth : ℕ → ℕ) (event : Event) → IsGraph s.graph → IsNested s.graph.vertices s.blossoms → IsSearchState s depth → tree_count s ≢ 0 → IsBounded s start → IsWithin s d → IsPossible (applied s d) event
     → IsTimed s start clock → IsTimed (applied s d) start (clock +ℤ d)
-timed_applied s start clock d depth event graph nested st one bounded within can h = record {
+timed_applied s start clock d depth event graph nested st some bounded within can h = record {
   unweighted = λ u. ⊎_elim
       (λ none. let zero = no_change s graph none d event within can in let was = h.unweighted u in omega (arith, ints, zero, was))
       (λ raised. absurd (both_ways s.weighted u raised.weighted))
@@ -47,14 +47,10 @@ timed_applied s start clock d depth event graph nested st one bounded within can
   weighted = λ w.
       let was = h.weighted w in
       let rises = change_raises s depth d nested st in
-      let once : pos (tree_count s) *ℤ d ≡ d = ap (λ k. pos k *ℤ d) one ∙ alone d in
-      plain _ _ _ _ _ rises once was;
+      plain _ _ _ _ _ rises (times_some (tree_count s) d some within.low) was;
 }
   where
-    alone : (x : ℤ) → pos 1 *ℤ x ≡ x
-    alone x = omega (arith, ints)
-
-    plain : (new old t c x : ℤ) → new ≡ old +ℤ t → t ≡ d → (c +ℤ x) ≤ℤ old → ((c +ℤ d) +ℤ x) ≤ℤ new
+    plain : (new old t c x : ℤ) → new ≡ old +ℤ t → d ≤ℤ t → (c +ℤ x) ≤ℤ old → ((c +ℤ d) +ℤ x) ≤ℤ new
     plain new old t c x e f g = omega (arith, ints, e, f, g)
 
 -- the clock stays in range

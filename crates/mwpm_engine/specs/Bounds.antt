@@ -13,8 +13,8 @@ pub record HasNoDuals (s : State) : Type 0 where
   pub unweighted : s.weighted ≡ false
   pub zero : (a : ℕ) → is_node s.graph.vertices s.blossoms a ≡ true → s.dual a ≡ pos 0
 
--- In the pass with weights, on a graph with a perfect matching, changes of `raised` in all have been made: the sum of
--- all duals has risen by it, and no dual has moved farther.
+-- In the pass with weights, on a graph with a perfect matching, the sum of all duals has risen by `raised`, and no dual has
+-- moved farther: a change of d raises the sum by d for each tree.
 pub record IsRaised (s : State) (start : ℤ) : Type 0 where
   pub weighted : s.weighted ≡ true
   pub perfect : HasPerfect s.graph

@@ -1,12 +1,12 @@
--- A pass of the search (chapters 24 and 26): what holds between its phases, while a tree grows, and at its end.
-use Rattle.std.specs.Prelude.{◌≡◌, ℕ, ◌+◌, ◌*◌, ◌<◌, ◌≤◌, ℤ, pos, ◌+ℤ◌, ◌*ℤ◌, ◌≤ℤ◌, Bool, true, false, Option, Some, None}
+-- A pass of the search (chapters 24 and 26): what holds before any tree stands, while a forest grows, and at its end.
+use Rattle.std.specs.Prelude.{◌≡◌, ◌≢◌, ℕ, ◌+◌, ◌-◌, ◌*◌, ◌<◌, ◌≤◌, ℤ, pos, ◌+ℤ◌, ◌*ℤ◌, ◌≤ℤ◌, Bool, true, false, length, Option, Some, None}
 use Rattle.graph_theory.specs.Limits.{Size}
 use Rattle.alt_forest.specs.declared.label.Label.TheVariants.{Out}
 use Rattle.alt_forest.specs.declared.search.Search.{Search}
 use Rattle.alt_forest.specs.State.{State}
 use Rattle.alt_forest.specs.Searches.{IsSound, state_of, label_at}
 use Rattle.alt_forest.specs.Trees.{IsRoot}
-use Rattle.alt_forest.specs.Counts.{tree_count, exposed_count, measure, HasOneTree, IsMatched}
+use Rattle.alt_forest.specs.Counts.{tree_count, exposed_count, measure, IsPlanted, IsMatched}
 use Rattle.alt_forest.specs.Entries.{IsQueued, entry_count, looks_left}
 use Rattle.alt_forest.specs.Standing.{IsStanding}
 use Rattle.dual_change.specs.declared.event.Event.{Event}
@@ -20,6 +20,7 @@ use Rattle.mwpm_engine.specs.declared.outcome.Outcome.TheVariants.{Matched, Barr
 use Rattle.mwpm_engine.specs.declared.phase_end.PhaseEnd.{PhaseEnd}
 use Rattle.mwpm_engine.specs.declared.phase_end.PhaseEnd.TheVariants.{Augmented, Stuck}
 use Rattle.mwpm_engine.specs.Bounds.{IsBounded}
+use Rattle.mwpm_engine.specs.Solutions.{size_of_graph}
 use Rattle.mwpm_engine.specs.Solving.{IsUnpacked, CountsWeights, HasBoundedDuals}
 
 -- the graph, the weights that count and the start are the same
@@ -34,7 +35,7 @@ pub record IsTimed (s : State) (start clock : ℤ) : Type 0 where
   pub unweighted : s.weighted ≡ false → clock ≡ pos 0
   pub weighted : s.weighted ≡ true → (clock +ℤ (pos s.graph.vertices *ℤ start)) ≤ℤ dual_total s
 
--- between two phases: no tree, and the duals are bounded
+-- no tree, and the duals are bounded
 pub record IsReady (s : Search) : Type 0 where
   pub sound : IsSound s
   pub queued : IsQueued s
@@ -42,22 +43,29 @@ pub record IsReady (s : Search) : Type 0 where
   pub labels : (a : ℕ) → label_at s.labels.items a ≡ Out
   pub bounded : IsBounded (state_of s) s.start
 
--- within a phase: one tree, and the duals and the clock are bounded
+-- a forest of all exposed nodes, with some tree, and the duals and the clock are bounded
 pub record IsGrowing (s : Search) : Type 0 where
   pub sound : IsSound s
   pub queued : IsQueued s
   pub standing : IsStanding s
-  pub tree : tree_count (state_of s) ≡ 1
+  pub planted : IsPlanted (state_of s)
+  pub trees : tree_count (state_of s) ≢ 0
   pub bounded : IsBounded (state_of s) s.start
   pub timed : IsTimed (state_of s) s.start s.clock
 
--- the one tree is stuck
-pub record HasStuckTree (s : Search) : Type 0 where
+-- the forest of all exposed nodes has a tree, and no change lets any of its trees grow
+pub record HasStuckForest (s : Search) : Type 0 where
   pub sound : IsSound s
-  pub one_tree : HasOneTree (state_of s)
+  pub planted : IsPlanted (state_of s)
   pub root : ℕ
   pub is_root : IsRoot (state_of s) root
   pub stuck : IsStuck (state_of s)
+
+-- no exposed node is left, and the duals are bounded
+pub record IsComplete (s : Search) : Type 0 where
+  pub sound : IsSound s
+  pub matched : IsMatched (state_of s)
+  pub bounded : IsBounded (state_of s) s.start
 
 -- what comes next as an event with the change of duals that leads to it
 abbrev pub event_of : Next → Option (Event × ℤ)
@@ -67,7 +75,7 @@ event_of (NextAugment e d) = Some (Augment e, d)
 event_of (NextExpand b d) = Some (Expand b, d)
 event_of NextStuck = None
 
--- an event that can happen now, or none, where the tree is stuck
+-- an event that can happen now, or none, where the forest is stuck
 abbrev pub IsReached : Search → Option Event → Type 0
 IsReached s (Some event) = IsPossible (state_of s) event
 IsReached s None = IsStuck (state_of s)
@@ -78,9 +86,10 @@ pub record KeepsCounts (before after : State) : Type 0 where
   pub left : measure after ≡ measure before
   pub looks : looks_left after ≡ looks_left before
 
--- What a phase has counted and how much it can still count at most. Each look at an end of an edge enters at most one edge into
--- the queue, and each edge there is looked at once more at most when it comes up, so a look that is left stands for two; each
--- event lowers the measure, and counts two steps.
+-- What a pass has counted and how much it can still count at most before the next augment. Each look at an end of an edge enters
+-- at most one edge into the queue, and each edge there is looked at once more at most when it comes up, so a look that is left
+-- stands for two; each event but an augment lowers the measure, and counts two steps. Entries outlive an augment, so a pass keeps
+-- the account to its end.
 abbrev pub account : Search → ℕ → ℕ
 account s steps = steps + entry_count s.queue + 2 * looks_left (state_of s) + 2 * measure (state_of s)
 
@@ -95,40 +104,78 @@ abbrev pub steps_reached : Option Event → ℕ
 steps_reached None = 0
 steps_reached (Some event) = steps_to event
 
--- an event has ended the phase, with two exposed nodes fewer; or the tree has taken something in
-abbrev pub EndsEvent : Search → Search → Bool → Type 0
-EndsEvent before after true = IsReady after × (exposed_count (state_of after) + 2 ≡ exposed_count (state_of before))
-EndsEvent before after false = IsGrowing after × (exposed_count (state_of after) ≡ exposed_count (state_of before)) × (measure (state_of after) < measure (state_of before))
+-- a tree has taken something in: less is left for the trees, and that makes up for the steps that led to it
+pub record TakesIn (before : Search) (old : ℕ) (after : Search) (new : ℕ) (event : Event) : Type 0 where
+  pub growing : IsGrowing after
+  pub exposed : exposed_count (state_of after) ≡ exposed_count (state_of before)
+  pub less : measure (state_of after) < measure (state_of before)
+  pub paid : account after new + steps_to event ≤ account before old
 
--- an event that ends the phase is one step; another one makes up for the steps that led to it
-abbrev pub CountsEvent : Search → ℕ → Search → ℕ → Event → Bool → Type 0
-CountsEvent before old after new event true = new ≡ old + 1
-CountsEvent before old after new event false = account after new + steps_to event ≤ account before old
+-- nothing has happened yet, and the matching can be augmented by this edge
+pub record IsPut (before : Search) (old : ℕ) (after : Search) (new : ℕ) (event : Event) (e : ℕ) : Type 0 where
+  pub augment : event ≡ Augment e
+  pub search : after ≡ before
+  pub steps : new ≡ old
 
--- a phase has ended with two exposed nodes fewer and no tree, or the tree is stuck
+abbrev pub TakesOrPuts : Search → ℕ → Search → ℕ → Event → Option ℕ → Type 0
+TakesOrPuts before old after new event None = TakesIn before old after new event
+TakesOrPuts before old after new event (Some e) = IsPut before old after new event e
+
+-- By how much an augment raises the account at most, with the two steps that lead to it, where some tree is left. On a graph with
+-- n vertices and m edges it counts one step, looks 2m times and enters as many edges. After it no more is left for the trees and to
+-- be looked at than with (n - 1) / 2 blossoms, the most that there can be, and no outer node.
+abbrev pub augment_account : Size → ℕ
+augment_account size = 2 * size.edges * (size.vertices + 3) + 3 * size.vertices + 3
+
+-- Twice what a pass has counted and can still count at most: each augment takes two exposed nodes away, which pay for what is
+-- counted anew after it. No event raises it together with what led to it.
+abbrev pub pass_account : Size → Search → ℕ → ℕ
+pass_account size s steps = 2 * account s steps + exposed_count (state_of s) * augment_account size
+
+-- What is left of a pass on a graph with n vertices: what is left for the trees, and more than that can be with each exposed node.
+-- Each event lowers it.
+abbrev pub remaining : ℕ → State → ℕ
+remaining n s = exposed_count s * (2 * n + 1) + measure s
+
+-- an event has happened and a forest still grows; it makes up for the steps that led to it
+pub record GoesOn (before : Search) (old : ℕ) (after : Search) (new : ℕ) (event : Event) : Type 0 where
+  pub growing : IsGrowing after
+  pub less : remaining before.graph.vertices (state_of after) < remaining before.graph.vertices (state_of before)
+  pub paid : pass_account (size_of_graph before.graph) after new + 2 * steps_to event ≤ pass_account (size_of_graph before.graph) before old
+
+-- the last augment, after which no tree is left: one step, and two looks at each edge at most
+pub record Completes (before : Search) (old : ℕ) (after : Search) (new : ℕ) : Type 0 where
+  pub complete : IsComplete after
+  pub vertices : 2 ≤ before.graph.vertices
+  pub exposed : 2 ≤ exposed_count (state_of before)
+  pub looks : new ≤ old + 1 + 2 * length before.graph.edges
+
+-- what an event leaves, by whether a tree is left
+abbrev pub Happens : Search → ℕ → Search → ℕ → Event → Bool → Type 0
+Happens before old after new event true = GoesOn before old after new event
+Happens before old after new event false = Completes before old after new
+
+-- a phase has ended with two exposed nodes fewer and no tree, or the forest is stuck
 abbrev pub EndsPhase : Search → Search → PhaseEnd → Type 0
 EndsPhase before after Augmented = ((a : ℕ) → label_at after.labels.items a ≡ Out) × (exposed_count (state_of after) + 2 ≡ exposed_count (state_of before))
-EndsPhase before after Stuck = HasStuckTree after
+EndsPhase before after Stuck = HasStuckForest after
 
--- a pass has ended with no exposed node, or a tree is stuck
+-- a pass has ended with no exposed node, or the forest is stuck
 abbrev pub EndsPass : Search → Bool → Type 0
-EndsPass after true = IsReady after × IsMatched (state_of after)
-EndsPass after false = HasStuckTree after
+EndsPass after true = IsComplete after
+EndsPass after false = HasStuckForest after
 
--- a search has ended with an unpacked matching whose slacks count twice the weights, its duals bounded, or with a stuck tree
+-- a search has ended with an unpacked matching whose slacks count twice the weights, its duals bounded, or with a stuck forest
 abbrev pub Concludes : Search → Outcome → Type 0
 Concludes s Matched = IsUnpacked s × CountsWeights s × HasBoundedDuals s
-Concludes s Barrier = HasStuckTree s
+Concludes s Barrier = HasStuckForest s
 
 -- how many steps a phase counts at most that begins with so many blossoms
 abbrev pub phase_steps : Size → ℕ → ℕ
 phase_steps size blossoms = 4 * size.edges * (1 + blossoms) + 3 * size.vertices + 2
 
--- the same whatever blossoms there are: at most (n - 1) / 2 where there are n vertices
-abbrev pub most_phase_steps : Size → ℕ
-most_phase_steps size = 2 * size.edges * (size.vertices + 1) + 3 * size.vertices + 2
-
--- twice the number of phases of a pass with so many exposed nodes, at most: each leaves two fewer, but for one that is stuck
-abbrev pub phases_doubled : ℕ → Bool → ℕ
-phases_doubled exposed true = exposed
-phases_doubled exposed false = exposed + 2
+-- Twice the steps that a pass counts at most which begins with no blossom and so many exposed nodes. Where it ends with no exposed
+-- node, its last augment leaves nothing to be counted; where it ends stuck, each augment does.
+abbrev pub pass_steps : Size → ℕ → Bool → ℕ
+pass_steps size exposed true = (exposed - 2) * augment_account size + 12 * size.edges + 7 * size.vertices
+pass_steps size exposed false = exposed * augment_account size + 8 * size.edges + 4 * size.vertices

@@ -70,6 +70,6 @@ Ends s Barrier = IsVertexSet s.graph.vertices s.barrier × IsBarrier s.graph s.b
 abbrev pub size_of_graph : Multigraph → Size
 size_of_graph g = record { vertices = g.vertices; edges = length g.edges }
 
--- how many steps a run on a graph of this size counts at most: in n + 1 phases, where it has n vertices
+-- how many steps a run on a graph of this size counts at most
 abbrev pub most_steps : Size → ℕ
 most_steps size = (size.vertices + 1) * (3 * size.vertices + 2) * (size.edges + 1)

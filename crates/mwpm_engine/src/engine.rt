@@ -102,10 +102,11 @@ impl Engine {
     /// Runs the search (chapters 24 and 26): it ends with a perfect matching of least weight or with a
     /// barrier. The graph is the one that the engine was made for. `steps` counts its looks at edges, its
     /// changes of duals and its events: with n vertices and m edges at most (n + 1)(3n + 2)(m + 1). There
-    /// are two passes, of at most n / 2 phases that augment, or one that ends with a phase that is stuck. A
-    /// phase counts at most 2m(n + 1) + 3n + 2 steps, the duals and mates that a pass starts with take four
-    /// looks at each edge, and between the passes each edge is looked at twice, for its weight. It takes no
-    /// memory.
+    /// are two passes, or one that ends stuck. A pass makes every exposed node the root of a tree and augments
+    /// at most n / 2 times; an augment takes the two trees away that it joins, and all others stay. With no
+    /// augment a pass counts at most 4m + 2n steps. An augment adds at most 2m(n + 3) + 3n + 3 to that, or
+    /// 2m + 3 where it leaves no exposed node. The duals and mates that a pass starts with take four looks at
+    /// each edge, and between the passes each edge is looked at twice, for its weight. It takes no memory.
     pub fn run<L: Ledger>(&mut self, graph: &Graph, steps: &mut Steps<L>) -> Outcome
         requires same { graph.now ≡ self.old.graph }
         requires fresh { self.old.outcome ≡ None }

@@ -1,7 +1,6 @@
-ghost use Rattle.std.specs.Prelude.{◌≡◌, ◌↔◌, ℕ, true, Some, None, MatchOption};
+ghost use Rattle.std.specs.Prelude.{◌≡◌, ◌↔◌, true};
 ghost use Rattle.alt_forest.specs.State.{IsExposed};
 ghost use Rattle.alt_forest.specs.Searches.{IsSound, state_of};
-ghost use Rattle.alt_forest.specs.Counts.{IsMatched};
 
 use alt_forest::Search;
 use blossom_arena::NodeId;
@@ -18,18 +17,4 @@ pub(crate) fn is_exposed(search: &Search, node: NodeId) -> bool
         return false;
     }
     search.mate(node).is_none()
-}
-
-/// The first outermost node without a mate.
-pub(crate) fn exposed_node(search: &Search) -> Option<NodeId>
-    requires sound { IsSound search.now }
-    ensures { MatchOption result (IsMatched (state_of search.now)) (IsExposed (state_of search.now)) }
-{
-    for place in 0..search.arena.node_limit() {
-        let node = NodeId::new(place + 1);
-        if is_exposed(search, node) {
-            return Some(node);
-        }
-    }
-    None
 }

@@ -12,6 +12,7 @@ mod pairing;
 mod pass;
 mod phase_end;
 mod phases;
+mod planting;
 mod raising;
 mod solving;
 mod starting;

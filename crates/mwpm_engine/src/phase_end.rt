@@ -3,6 +3,6 @@
 pub enum PhaseEnd {
     /// The matching has been augmented: two exposed nodes are matched, and no tree is left.
     Augmented,
-    /// The tree is stuck: no change of duals lets it grow.
+    /// The forest is stuck: no change of duals lets any of its trees grow.
     Stuck,
 }

@@ -7,20 +7,19 @@ ghost use Rattle.alt_forest.specs.Standing.{IsStanding};
 ghost use Rattle.dual_change.specs.Changes.{IsPossible};
 ghost use Rattle.mwpm_engine.specs.Bounds.{IsBounded};
 ghost use Rattle.mwpm_engine.specs.Solutions.{size_of_graph};
-ghost use Rattle.mwpm_engine.specs.Passes.{IsSamePass, IsReady, IsGrowing, IsReached, KeepsCounts, EndsEvent, CountsEvent, EndsPhase, event_of, steps_reached, phase_steps};
+ghost use Rattle.mwpm_engine.specs.Passes.{IsSamePass, IsGrowing, IsReached, KeepsCounts, TakesOrPuts, EndsPhase, event_of, steps_reached, phase_steps};
 
-use crate::exposed::exposed_node;
 use crate::phase_end::PhaseEnd;
+use crate::planting::plant_all;
 use alt_forest::Search;
 use augment::flip;
-use blossom_arena::NodeId;
 use dual_change::{Event, Next, apply, find};
-use mb_base::Steps;
+use mb_base::{EdgeId, Steps};
 use std::sync::ledger::Ledger;
 use tree_steps::{expand, grow, shrink};
 use weighted_graph::Graph;
 
-/// What comes next as an event with the change of duals that leads to it; None where a tree is stuck.
+/// What comes next as an event with the change of duals that leads to it; None where the forest is stuck.
 fn event_of(next: &Next) -> Option<(Event, i64)>
     ensures { result ≡ event_of next.now }
 {
@@ -33,8 +32,12 @@ fn event_of(next: &Next) -> Option<(Event, i64)>
     }
 }
 
-/// Changes the duals until an event can happen, and answers it; None where the tree is stuck.
-fn reach<L: Ledger>(search: &mut Search, graph: &Graph, steps: &mut Steps<L>) -> Option<Event>
+/// Changes the duals until an event can happen, and answers it; None where the forest is stuck.
+pub(crate) fn reach<L: Ledger>(
+    search: &mut Search,
+    graph: &Graph,
+    steps: &mut Steps<L>,
+) -> Option<Event>
     requires growing { IsGrowing search.old }
     requires same { graph.now ≡ search.old.graph }
     ensures growing { IsGrowing search.new }
@@ -49,80 +52,43 @@ fn reach<L: Ledger>(search: &mut Search, graph: &Graph, steps: &mut Steps<L>) ->
     Some(event)
 }
 
-/// Makes an event perform. It answers whether that ended the phase: the matching has been augmented.
-fn perform<L: Ledger>(
+/// Makes an event happen that takes something into a tree or out of its way. An augment is left to be done: its
+/// edge is answered.
+pub(crate) fn take_in<L: Ledger>(
     search: &mut Search,
     graph: &Graph,
     event: Event,
     steps: &mut Steps<L>,
-) -> bool
+) -> Option<EdgeId>
     requires growing { IsGrowing search.old }
     requires same { graph.now ≡ search.old.graph }
     requires possible { IsPossible (state_of search.old) event }
-    ensures ends { EndsEvent search.old search.new result }
+    ensures takes { TakesOrPuts search.old steps.old search.new steps.new event result }
     ensures pass { IsSamePass search.old search.new }
-    ensures count { CountsEvent search.old steps.old search.new steps.new event result }
 {
     match event {
-        Event::Augment(e) => {
-            flip(search, graph, e, steps);
-            return true;
+        Event::Augment(e) => Some(e),
+        Event::Grow(e) => {
+            grow(search, graph, e, steps);
+            None
         }
-        Event::Grow(e) => grow(search, graph, e, steps),
         Event::Shrink(e) => {
             shrink(search, graph, e, steps);
+            None
         }
-        Event::Expand(b) => expand(search, graph, b, steps),
-    }
-    false
-}
-
-/// A phase from an exposed node.
-pub(crate) fn phase_from<L: Ledger>(
-    search: &mut Search,
-    graph: &Graph,
-    root: NodeId,
-    steps: &mut Steps<L>,
-) -> PhaseEnd
-    requires ready { IsReady search.old }
-    requires same { graph.now ≡ search.old.graph }
-    requires exposed { IsExposed (state_of search.old) root }
-    ensures ends { EndsPhase search.old search.new result }
-    ensures sound { IsSound search.new }
-    ensures queued { IsQueued search.new }
-    ensures standing { IsStanding search.new }
-    ensures bounded { IsBounded (state_of search.new) search.new.start }
-    ensures pass { IsSamePass search.old search.new }
-    ensures steps { steps.new ≤ steps.old + phase_steps (size_of_graph graph.now) (length search.old.arena.blossoms) }
-{
-    search.plant(graph, root, steps);
-    while let Some(event) = reach(search, graph, steps) {
-        let augmented = perform(search, graph, event, steps);
-        if augmented {
-            return PhaseEnd::Augmented;
+        Event::Expand(b) => {
+            expand(search, graph, b, steps);
+            None
         }
     }
-    PhaseEnd::Stuck
 }
 
-/// An exposed node, where there is one.
-fn some_exposed(search: &Search) -> NodeId
-    requires sound { IsSound search.now }
-    requires exposed { (a : ℕ) × IsExposed (state_of search.now) a }
-    ensures { IsExposed (state_of search.now) result }
-{
-    match exposed_node(search) {
-        Some(node) => node,
-        None => unreachable!(),
-    }
-}
-
-/// A phase (chapters 24 and 26): a tree grows from an exposed node until the matching can be augmented,
-/// and is; or until it is stuck. No tree stands before it. The duals are bounded before and after it: in
-/// the pass without weights they are 0; in the pass with weights, on a graph with a perfect matching, no
-/// dual has moved farther from its first value than the sum of all duals has risen. Where it begins with s
-/// blossoms on a graph with n vertices and m edges it counts at most 4m(1 + s) + 3n + 2 steps. It takes no
-/// memory.
+/// A phase (chapters 24 and 26): a forest with every exposed node as a root grows until the matching can be
+/// augmented, and is; or until it is stuck. No tree stands before it, and none after an augment. The duals
+/// are bounded before and after it: in the pass without weights they are 0; in the pass with weights, on a
+/// graph with a perfect matching, no dual has moved farther from its first value than the sum of all duals
+/// has risen. Where it begins with s blossoms on a graph with n vertices and m edges it counts at most
+/// 4m(1 + s) + 3n + 2 steps. It takes no memory.
 pub fn phase<L: Ledger>(search: &mut Search, graph: &Graph, steps: &mut Steps<L>) -> PhaseEnd
     requires sound { IsSound search.old }
     requires queued { IsQueued search.old }
@@ -139,6 +105,12 @@ pub fn phase<L: Ledger>(search: &mut Search, graph: &Graph, steps: &mut Steps<L>
     ensures pass { IsSamePass search.old search.new }
     ensures steps { steps.new ≤ steps.old + phase_steps (size_of_graph graph.now) (length search.old.arena.blossoms) }
 {
-    let root = some_exposed(search);
-    phase_from(search, graph, root, steps)
+    plant_all(search, graph, steps);
+    while let Some(event) = reach(search, graph, steps) {
+        if let Some(e) = take_in(search, graph, event, steps) {
+            flip(search, graph, e, steps);
+            return PhaseEnd::Augmented;
+        }
+    }
+    PhaseEnd::Stuck
 }

@@ -3,7 +3,7 @@ ghost use Rattle.alt_forest.specs.declared.label.Weights.TheVariants.{Given};
 ghost use Rattle.alt_forest.specs.Searches.{HasShape, IsStart};
 ghost use Rattle.mwpm_engine.specs.Solutions.{HasPerfect, size_of_graph, most_steps};
 ghost use Rattle.mwpm_engine.specs.Solving.{IsUnpacked, HasBoundedDuals};
-ghost use Rattle.mwpm_engine.specs.Passes.{HasStuckTree, Concludes, most_phase_steps, phases_doubled};
+ghost use Rattle.mwpm_engine.specs.Passes.{HasStuckForest, Concludes, pass_steps};
 
 use crate::outcome::Outcome;
 use crate::pass::pass;
@@ -15,7 +15,7 @@ use mb_base::Steps;
 use std::sync::ledger::Ledger;
 use weighted_graph::Graph;
 
-/// A pass from the beginning, with duals and mates to start with, whose matching is unpacked; false where a tree is stuck. A pass with
+/// A pass from the beginning, with duals and mates to start with, whose matching is unpacked; false where the forest is stuck. A pass with
 /// weights is made only where there is a perfect matching, so it never is: else its duals have no bound.
 fn pass_anew<L: Ledger>(
     search: &mut Search,
@@ -28,13 +28,13 @@ fn pass_anew<L: Ledger>(
     requires same { graph.now ≡ search.old.graph }
     requires start { IsStart graph.now weights start }
     requires perfect { weights ≡ Given → HasPerfect graph.now }
-    ensures ends { MatchBool result (IsUnpacked search.new) (HasStuckTree search.new) }
+    ensures ends { MatchBool result (IsUnpacked search.new) (HasStuckForest search.new) }
     ensures sure { weights ≡ Given → result ≡ true }
     ensures bounded { result ≡ true → HasBoundedDuals search.new }
     ensures shape { HasShape search.new }
     ensures graph { search.new.graph ≡ search.old.graph }
     ensures weights { search.new.weights ≡ weights }
-    ensures steps { 2 * steps.new ≤ 2 * steps.old + phases_doubled graph.now.vertices result * most_phase_steps (size_of_graph graph.now) + 8 * length graph.now.edges }
+    ensures steps { 2 * steps.new ≤ 2 * steps.old + pass_steps (size_of_graph graph.now) graph.now.vertices result + 8 * length graph.now.edges }
 {
     search.reset(graph, weights, start);
     start_duals(search, graph, steps);

@@ -1,5 +1,8 @@
-use Rattle.std.proofs.Common.{sym, subst, arith}
+use Rattle.std.proofs.Common.{sym, ap, subst, arith, rules}
 use Rattle.graph_theory.specs.Graph.{IsGraph}
+use Rattle.alt_forest.specs.declared.label.Weights.TheVariants.{Given}
+use Rattle.alt_forest.specs.declared.search.Search.{Search}
+use Rattle.alt_forest.specs.Searches.{IsStart}
 use Rattle.mwpm_engine.proofs.StartPass.{round_looks}
 use Rattle.mwpm_engine.proofs.lifting.lift_all.Goals as goal
 
@@ -7,3 +10,8 @@ pub returns-clause-looks : goal.returns-clause-looks
 returns-clause-looks g c =
     round_looks c.args.graph.now c.loop-place.place c.vertices-place-end.result c.args.steps.now c.loop-place.steps (subst IsGraph (sym c.requires.same) c.requires.sound.shape.graph.graph)
     c.vertices-place-end.ensures.count c.loop-place-test.false c.loop-place.auto.place-end (omega (arith, c.loop-place.invariant.looks))
+
+pub lift-requires-clause-start : goal.lift-requires-clause-start
+lift-requires-clause-start g c =
+    let here : IsStart c.args.graph.now Given c.args.search.now.start = search rules in
+    subst (IsStart c.args.graph.now Given) (sym (ap (λ (x : Search). x.start) c.loop-place.invariant.rest)) here

@@ -1,12 +1,10 @@
-use Rattle.std.proofs.Common.{◌≡◌, ◌∙◌, true, false, length, sym, ap, subst, rules, to_z, of_z}
+use Rattle.std.proofs.Common.{◌≡◌, ◌∙◌, true, false, sym, ap, subst, rules, to_z, of_z}
 use mir.Syntax.{w64}
 use Rattle.graph_theory.specs.Graph.{Multigraph}
 use Rattle.alt_forest.specs.declared.label.Weights.{Weights}
 use Rattle.alt_forest.specs.declared.search.Search.{Search}
 use Rattle.alt_forest.specs.Counts.{exposed_count}
 use Rattle.alt_forest.specs.Searches.{IsStart, label_at, state_of}
-use Rattle.mwpm_engine.specs.Solutions.{size_of_graph}
-use Rattle.mwpm_engine.specs.Passes.{most_phase_steps}
 use Rattle.mwpm_engine.proofs.BoundedDuals.{unpacked_within}
 use Rattle.mwpm_engine.proofs.StepCounts.{exposed_few, pass_paid}
 use Rattle.mwpm_engine.proofs.Concluded.{stuck_excludes}
@@ -19,7 +17,7 @@ returns-clause-ends g c =
     unpacked c.pass.new.search c.unpack.new.search e.rest e.sound e.mates e.perfect e.tight e.leaves
 
 pub returns-clause-bounded : goal.returns-clause-bounded
-returns-clause-bounded g c _ = unpacked_within c.pass.new.search c.unpack.new.search c.unpack.ensures.rest c.if-not-pass.ensures.ends.0
+returns-clause-bounded g c _ = unpacked_within c.pass.new.search c.unpack.new.search c.unpack.ensures.rest c.if-not-pass.ensures.ends
 
 pub start_duals-requires-clause-start : goal.start_duals-requires-clause-start
 start_duals-requires-clause-start g c =
@@ -38,18 +36,21 @@ pass-requires-clause-ready g c =
       bounded = e.bounded (λ given. c.requires.perfect (sym c.reset.ensures.weights ∙ given));
     }
 
+pub pass-requires-clause-blossoms : goal.pass-requires-clause-blossoms
+pass-requires-clause-blossoms g c = ap (λ (t : Search). t.arena.blossoms) c.start_duals.ensures.rest ∙ c.reset.ensures.blossoms
+
 -- the pass begins with no more exposed nodes than vertices, so this is what it counts
 pub returns-then-not-pass-clause-steps : goal.returns-then-not-pass-clause-steps
 returns-then-not-pass-clause-steps g c =
     let graph : Multigraph = c.args.graph.now in
     let few = exposed_few c.reset.new.self c.start_duals.new.search graph c.start_duals.ensures.exposed c.reset.ensures.exposed (c.reset.ensures.graph ∙ sym c.requires.same) in
-    pass_paid graph.vertices (length graph.edges) (most_phase_steps (size_of_graph graph)) false (exposed_count (state_of c.start_duals.new.search)) c.args.steps.now c.start_duals.new.steps c.pass.new.steps few c.start_duals.ensures.steps c.if-not-pass.ensures.steps
+    pass_paid graph false (exposed_count (state_of c.start_duals.new.search)) c.args.steps.now c.start_duals.new.steps c.pass.new.steps few c.start_duals.ensures.steps c.if-not-pass.ensures.steps
 
 pub returns-clause-steps : goal.returns-clause-steps
 returns-clause-steps g c =
     let graph : Multigraph = c.args.graph.now in
     let few = exposed_few c.reset.new.self c.start_duals.new.search graph c.start_duals.ensures.exposed c.reset.ensures.exposed (c.reset.ensures.graph ∙ sym c.requires.same) in
-    pass_paid graph.vertices (length graph.edges) (most_phase_steps (size_of_graph graph)) true (exposed_count (state_of c.start_duals.new.search)) c.args.steps.now c.start_duals.new.steps c.pass.new.steps few c.start_duals.ensures.steps c.if-not-pass.ensures.steps
+    pass_paid graph true (exposed_count (state_of c.start_duals.new.search)) c.args.steps.now c.start_duals.new.steps c.pass.new.steps few c.start_duals.ensures.steps c.if-not-pass.ensures.steps
 
 pub returns-then-not-pass-clause-sure : goal.returns-then-not-pass-clause-sure
 returns-then-not-pass-clause-sure g c given =

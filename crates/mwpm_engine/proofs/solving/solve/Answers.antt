@@ -1,10 +1,10 @@
-use Rattle.std.proofs.Common.{◌+◌, ◌*◌, ◌≤◌, Bool, true, false, length, MatchBool, refl, sym, subst}
+use Rattle.std.proofs.Common.{◌+◌, ◌*◌, ◌≤◌, Bool, true, length, MatchBool, refl, sym, subst}
 use Rattle.graph_theory.specs.Graph.{Multigraph, IsGraph}
 use Rattle.alt_forest.specs.declared.search.Search.{Search}
 use Rattle.mwpm_engine.specs.Solving.{IsUnpacked}
 use Rattle.mwpm_engine.specs.Solutions.{size_of_graph}
-use Rattle.mwpm_engine.specs.Passes.{HasStuckTree, most_phase_steps, phases_doubled}
-use Rattle.mwpm_engine.proofs.StepCounts.{one_pass_paid, looked_through, two_passes_paid}
+use Rattle.mwpm_engine.specs.Passes.{HasStuckForest, pass_steps}
+use Rattle.mwpm_engine.proofs.StepCounts.{stuck_paid, looked_through, two_passes_paid}
 use Rattle.mwpm_engine.proofs.CertificateRuns.{counts_given}
 use Rattle.mwpm_engine.proofs.solving.solve.Goals as goal
 
@@ -12,10 +12,10 @@ pub returns-clause-concludes : goal.returns-clause-concludes
 returns-clause-concludes g c =
     let s : Search = c.pass_anew-2.new.search in
     let e = c.pass_anew-2.ensures in
-    (subst (λ (b : Bool). MatchBool b (IsUnpacked s) (HasStuckTree s)) (e.sure refl) e.ends, counts_given s e.weights, e.bounded (e.sure refl))
+    (subst (λ (b : Bool). MatchBool b (IsUnpacked s) (HasStuckForest s)) (e.sure refl) e.ends, counts_given s e.weights, e.bounded (e.sure refl))
 
 pub returns-then-not-pass_anew-clause-steps : goal.returns-then-not-pass_anew-clause-steps
-returns-then-not-pass_anew-clause-steps g c = one_pass_paid c.args.graph.now false c.args.steps.now c.pass_anew.new.steps (subst IsGraph (sym c.requires.same) c.requires.shape.graph.graph) c.if-not-pass_anew.ensures.steps
+returns-then-not-pass_anew-clause-steps g c = stuck_paid c.args.graph.now c.args.steps.now c.pass_anew.new.steps (subst IsGraph (sym c.requires.same) c.requires.shape.graph.graph) c.if-not-pass_anew.ensures.steps
 
 pub returns-then-is_unweighted-clause-steps : goal.returns-then-is_unweighted-clause-steps
 returns-then-is_unweighted-clause-steps g c =
@@ -25,7 +25,7 @@ pub returns-clause-steps : goal.returns-clause-steps
 returns-clause-steps g c =
     let graph : Multigraph = c.args.graph.now in
     let last = c.pass_anew-2.ensures in
-    let paid : 2 * c.pass_anew-2.new.steps ≤ 2 * c.least_weight-start.new.steps + phases_doubled graph.vertices true * most_phase_steps (size_of_graph graph) + 8 * length graph.edges =
-    subst (λ (b : Bool). 2 * c.pass_anew-2.new.steps ≤ 2 * c.least_weight-start.new.steps + phases_doubled graph.vertices b * most_phase_steps (size_of_graph graph) + 8 * length graph.edges) (last.sure refl) last.steps in
+    let paid : 2 * c.pass_anew-2.new.steps ≤ 2 * c.least_weight-start.new.steps + pass_steps (size_of_graph graph) graph.vertices true + 8 * length graph.edges =
+    subst (λ (b : Bool). 2 * c.pass_anew-2.new.steps ≤ 2 * c.least_weight-start.new.steps + pass_steps (size_of_graph graph) graph.vertices b + 8 * length graph.edges) (last.sure refl) last.steps in
     two_passes_paid graph c.args.steps.now c.pass_anew.new.steps c.is_unweighted.new.steps c.least_weight-start.new.steps c.pass_anew-2.new.steps (subst IsGraph (sym c.requires.same) c.requires.shape.graph.graph) c.if-not-pass_anew.ensures.steps
     c.is_unweighted.ensures.steps c.least_weight-start.ensures.steps paid

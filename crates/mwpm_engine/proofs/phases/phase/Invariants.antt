@@ -3,7 +3,7 @@ use Rattle.alt_forest.specs.Searches.{state_of}
 use Rattle.alt_forest.specs.Counts.{exposed_count, measure}
 use Rattle.mwpm_engine.specs.Passes.{IsSamePass, IsGrowing, account}
 use Rattle.mwpm_engine.proofs.StepCounts.{phase_account}
-use Rattle.mwpm_engine.proofs.phases.phase_from.Given as goal
+use Rattle.mwpm_engine.proofs.phases.phase.Given as goal
 
 abbrev pub invariant-loop-event : goal.invariant-loop-event
 invariant-loop-event g l = record {

@@ -1,0 +1,69 @@
+ghost use Rattle.std.specs.Prelude.{◌≡◌, ◌≢◌, ◌≤◌, ◌+◌, ℕ, MatchBool};
+ghost use Rattle.alt_forest.specs.declared.label.Label.TheVariants.{Out};
+ghost use Rattle.alt_forest.specs.State.{IsExposed};
+ghost use Rattle.alt_forest.specs.Searches.{IsSound, label_at, state_of};
+ghost use Rattle.alt_forest.specs.Counts.{exposed_count, tree_count, IsPlanted};
+ghost use Rattle.alt_forest.specs.Entries.{IsQueued, entry_count, looks_left};
+ghost use Rattle.alt_forest.specs.Standing.{IsStanding};
+ghost use Rattle.mwpm_engine.specs.Passes.{IsReady};
+
+use crate::exposed::is_exposed;
+use alt_forest::Search;
+use blossom_arena::NodeId;
+use mb_base::Steps;
+use std::sync::ledger::Ledger;
+use weighted_graph::Graph;
+
+/// Makes a node the root of a tree, if it is exposed, and answers whether it is. Any number may be given.
+fn plant_at<L: Ledger>(
+    search: &mut Search,
+    graph: &Graph,
+    node: NodeId,
+    steps: &mut Steps<L>,
+) -> bool
+    requires sound { IsSound search.old }
+    requires queued { IsQueued search.old }
+    requires standing { IsStanding search.old }
+    requires same { graph.now ≡ search.old.graph }
+    requires out { label_at search.old.labels.items node ≡ Out }
+    ensures sound { IsSound search.new }
+    ensures queued { IsQueued search.new }
+    ensures standing { IsStanding search.new }
+    ensures rest { search.new ≡ record search.old { labels = search.new.labels; queue = search.new.queue; standing = search.new.standing; seeds = search.new.seeds; scanned = search.new.scanned } }
+    ensures planted { IsExposed (state_of search.old) node → label_at search.new.labels.items node ≢ Out }
+    ensures others { (a : ℕ) → a ≢ node → label_at search.new.labels.items a ≡ label_at search.old.labels.items a }
+    ensures trees { MatchBool result (tree_count (state_of search.new) ≢ 0) (tree_count (state_of search.new) ≡ tree_count (state_of search.old)) }
+    ensures exposed { exposed_count (state_of search.new) ≡ exposed_count (state_of search.old) }
+    ensures looks { steps.new + looks_left (state_of search.new) ≤ steps.old + looks_left (state_of search.old) }
+    ensures count { entry_count search.new.queue + steps.old ≤ entry_count search.old.queue + steps.new }
+{
+    if !is_exposed(search, node) {
+        return false;
+    }
+    search.plant(graph, node, steps);
+    true
+}
+
+/// Makes every exposed node the root of a tree of its own, and answers whether there is one. No tree stands before.
+pub(crate) fn plant_all<L: Ledger>(search: &mut Search, graph: &Graph, steps: &mut Steps<L>) -> bool
+    requires ready { IsReady search.old }
+    requires same { graph.now ≡ search.old.graph }
+    ensures sound { IsSound search.new }
+    ensures queued { IsQueued search.new }
+    ensures standing { IsStanding search.new }
+    ensures rest { search.new ≡ record search.old { labels = search.new.labels; queue = search.new.queue; standing = search.new.standing; seeds = search.new.seeds; scanned = search.new.scanned } }
+    ensures planted { IsPlanted (state_of search.new) }
+    ensures trees { MatchBool result (tree_count (state_of search.new) ≢ 0) (tree_count (state_of search.new) ≡ 0) }
+    ensures exposed { exposed_count (state_of search.new) ≡ exposed_count (state_of search.old) }
+    ensures looks { steps.new + looks_left (state_of search.new) ≤ steps.old + looks_left (state_of search.old) }
+    ensures count { entry_count search.new.queue + steps.old ≤ entry_count search.old.queue + steps.new }
+{
+    let mut some = false;
+    for place in 0..search.arena.node_limit() {
+        let planted = plant_at(search, graph, NodeId::new(place + 1), steps);
+        if planted {
+            some = true;
+        }
+    }
+    some
+}
