@@ -1,6 +1,6 @@
-//! The end of a phase and of a pass: an augmenting path is flipped, and a perfect matching is unpacked
-//! from its blossoms. It stands on `alt_forest` and what is below, and promises a sound search with two
-//! exposed nodes fewer, and a perfect matching of the vertices by edges of slack 0.
+//! The end of a phase and of a pass: an augmenting path between two roots is flipped, and a perfect matching
+//! is unpacked from its blossoms. It stands on `alt_forest` and what is below, and promises a sound search
+//! with two exposed nodes fewer, and a perfect matching of the vertices by edges of slack 0.
 #![tactic(auto)]
 
 mod felling;
