@@ -69,7 +69,7 @@ raised_more s start depth d nested st some low h =
     within : (y c r t : ℤ) → d ≤ℤ t → y ≤ℤ r → c ≤ℤ d → (y +ℤ c) ≤ℤ (r +ℤ t)
     within y c r t more b m = omega (arith, ints, more, b, m)
 
--- all changes together are at most 2 * 10^9 for each vertex
+-- the sum of all duals rises by at most 2 * 10^9 for each vertex
 pub raised_at_most : (s : State) (start : ℤ) (depth : ℕ → ℕ) → IsGraph s.graph → IsNested s.graph.vertices s.blossoms → IsSearchState s depth → (h : IsRaised s start) → h.raised ≤ℤ pos (2 * s.graph.vertices * 10 ^ 9)
 raised_at_most s start depth graph nested st h =
     let n : ℕ = s.graph.vertices in

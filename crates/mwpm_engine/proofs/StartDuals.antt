@@ -5,6 +5,7 @@ use Rattle.std.proofs.lemmas.Bool.{eqb-true, or_cases, or_parts}
 use Rattle.graph_theory.specs.Graph.{Multigraph, IsGraph, IsEdgeWithin, IsEdgeNumber, edge_of, edges_around, touches}
 use Rattle.graph_theory.specs.declared.limits.TheConstants.{WEIGHT_LIMIT}
 use Rattle.graph_theory.specs.Parts.{holds}
+use Rattle.graph_theory.specs.Duals.{IsNumber}
 use Rattle.graph_theory.proofs.Edges.{edge_of_within, edge_of-weight}
 use Rattle.graph_theory.proofs.Around.{around-is}
 use Rattle.blossom_arena.specs.Family.{is_vertex}
@@ -104,6 +105,15 @@ module _ (s : State) (v : ℕ) (d : ℤ) (ends : All (IsEdgeWithin s.graph.verti
 
   pub raised_state : (start : ℤ) (depth : ℕ → ℕ) → is_vertex s.graph.vertices v ≡ true → IsBegun s start → IsSearchState s depth → IsSearchState (raised_at s v d) depth
   raised_state start depth vertex h st = flat_state (raised_at s v d) alone start depth (raised_begun s start v d vertex can h) (raised_slacks st.slacks) (λ a e is has. let m = st.mates a e is has in (m.0, raised_mate a e m.0 has m.1))
+
+-- the raised dual lies in range
+pub raised_number : (s : State) (start : ℤ) (v : ℕ) (d : ℤ) → is_vertex s.graph.vertices v ≡ true → CanRise s v d → IsBegun s start → IsNumber (s.dual v +ℤ d)
+raised_number s start v d vertex can h =
+    let was = h.low v vertex in
+    let least = h.start_weight.0 in
+    let more = can.low in
+    let most = can.high in
+    (omega (arith, ints, was, least, more), omega (arith, ints, most))
 
 -- no edge at a vertex, or some
 some_around : (g : Multigraph) (v : ℕ) → (edges_around g v ≡ []) ⊎ ((e : ℕ) × IsEdgeNumber g e × (touches (edge_of g e) v ≡ true))

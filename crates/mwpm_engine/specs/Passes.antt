@@ -29,8 +29,8 @@ pub record IsSamePass (before after : Search) : Type 0 where
   pub weights : after.weights ≡ before.weights
   pub start : after.start ≡ before.start
 
--- The clock is at most the sum of all changes of the pass, which is what the sum of all duals has risen by; in the pass
--- without weights both are 0.
+-- The clock is at most what the sum of all duals has risen by in the pass, since a change raises that sum once for each tree; in
+-- the pass without weights the clock is 0.
 pub record IsTimed (s : State) (start clock : ℤ) : Type 0 where
   pub unweighted : s.weighted ≡ false → clock ≡ pos 0
   pub weighted : s.weighted ≡ true → (clock +ℤ (pos s.graph.vertices *ℤ start)) ≤ℤ dual_total s

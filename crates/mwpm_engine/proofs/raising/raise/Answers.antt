@@ -1,6 +1,9 @@
-use Rattle.std.proofs.Common.{◌≡◌, ◌∙◌, ap, rules, to_z, of_z}
+use Rattle.std.proofs.Common.{◌≡◌, ◌∙◌, ◌+ℤ◌, sym, ap, subst, rules, to_z, of_z}
 use mir.Syntax.{w64}
-use Rattle.blossom_arena.specs.Family.{raised}
+use Rattle.graph_theory.specs.Duals.{IsNumber}
+use Rattle.blossom_arena.specs.Family.{dual_at, raised}
+use Rattle.alt_forest.specs.Searches.{state_of}
+use Rattle.mwpm_engine.proofs.StartDuals.{raised_number}
 use Rattle.mwpm_engine.proofs.StartSearch.{raised_sound, raised_begins, raised_duals}
 use Rattle.mwpm_engine.proofs.raising.raise.Goals as goal
 
@@ -8,6 +11,13 @@ family : (c : goal.After-add_dual) → c.add_dual.new.self ≡ raised c.args.sea
 family c =
     let back : to_z w64 (of_z w64 c.args.d) ≡ c.args.d = search rules in
     c.add_dual.ensures.family ∙ ap (λ x. raised c.args.search.now.arena x (to_z w64 (of_z w64 c.args.d))) (c.new.ensures ∙ c.number.ensures) ∙ ap (raised c.args.search.now.arena c.args.v) back
+
+pub add_dual-requires-clause-in_range : goal.add_dual-requires-clause-in_range
+add_dual-requires-clause-in_range c =
+    let s = c.args.search.now in
+    let back : to_z w64 (of_z w64 c.args.d) ≡ c.args.d = search rules in
+    subst (λ a. IsNumber (dual_at s.arena.duals a +ℤ to_z w64 (of_z w64 c.args.d))) (sym (c.new.ensures ∙ c.number.ensures))
+    (subst (λ x. IsNumber (dual_at s.arena.duals c.args.v +ℤ x)) (sym back) (raised_number (state_of s) s.start c.args.v c.args.d c.requires.vertex c.requires.can c.requires.begun))
 
 pub returns-clause-sound : goal.returns-clause-sound
 returns-clause-sound c = raised_sound c.args.search.now c.add_dual.new.self c.args.v c.args.d (family c) c.requires.sound c.requires.vertex c.requires.begun c.requires.can c.add_dual.ensures.good
