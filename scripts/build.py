@@ -1,8 +1,9 @@
 #!/usr/bin/env python3
 """Builds a program of this repository, several crates at a time: the crates that it stands on and no others, each proved first.
 
-Usage: build.py PROGRAM [--jobs N]. As long as several crates can be proved side by side, each has one job of the prover; the last ones, which
-stand on one another in a row, have all jobs, one crate after the other. The crates are built in a copy of their sources in the user's cache folder (XDG_CACHE_HOME, else
+Usage: build.py PROGRAM [--jobs N]. The lowest crates, on which nearly all others stand, come one after the other with all jobs of the prover. Then the tower of crates below the search's engine,
+which is high and narrow, is proved beside all others, in a folder of its own, since builds in one folder wait for each other. The last ones, which stand on one another in a row, have all
+jobs again, one crate after the other. The crates are built in a copy of their sources in the user's cache folder (XDG_CACHE_HOME, else
 ~/.cache), since `rt all` takes every crate of the folder that it is called in, tests and benches too. What a crate's own folder has
 proved already is taken along. A line a crate goes to standard error, with its number and the time so far. Where it is interrupted,
 a later call goes on with what is left. The program is put into crates/PROGRAM/out. The status is 0, or that of the command that
@@ -14,12 +15,15 @@ import os
 import shutil
 import subprocess
 import sys
+import threading
 import time
 
 TOP = os.path.dirname(os.path.dirname(os.path.abspath(__file__)))
 # What the program is run on once it is built: an instance that its document proves solved, so that it ends with status 0.
 TRIAL = (["check", "perfect"], b"p edge 0 0\ns OPTIMAL perfect 0\n")
 PARTS = ("src", "specs", "proofs")
+# The crate whose tower is proved beside all others.
+ENGINE = "mwpm_engine"
 LAST_LINES = 30
 
 
@@ -40,20 +44,50 @@ def crates_below(program):
     return wanted, {name: [it for it in below[name] if it in wanted] for name in wanted}
 
 
-def row_at_top(below):
-    """The crates of the highest levels that have one crate each, lowest first: nothing is left to be proved beside them."""
+def levels(below):
+    """By crate one more than the highest level that it stands on."""
     level = {}
     while len(level) < len(below):
         for name in below:
             if name not in level and all(it in level for it in below[name]):
                 level[name] = 1 + max([level[it] for it in below[name]], default=0)
-    row = []
+    return level
+
+
+def row_at_top(below):
+    """The crates of the highest levels that have one crate each, lowest first: nothing is left to be proved beside them."""
+    level, row = levels(below), []
     for height in range(max(level.values()), 0, -1):
         names = [name for name in level if level[name] == height]
         if len(names) > 1:
             break
         row.insert(0, names[0])
     return row
+
+
+def stood_on(below, name):
+    """The crate and all that it stands on."""
+    seen, left = set(), [name]
+    while left:
+        name = left.pop()
+        if name not in seen:
+            seen.add(name)
+            left += below[name]
+    return seen
+
+
+def plan(below):
+    """What is proved in which way: what the tower and the others share, the tower above that, the others beside it, and the rest in a row, the program last.
+    Without the tower's top all but the row at the top are others."""
+    level, row = levels(below), row_at_top(below)
+    first = [name for name in sorted(below, key=level.get) if name not in row]
+    if ENGINE not in first:
+        return [], [], first, row
+    tower = stood_on(below, ENGINE)
+    later = [name for name in first if name != ENGINE and ENGINE in stood_on(below, name)]
+    others = [name for name in first if name not in tower and name not in later]
+    shared = set().union(*(stood_on(below, name) for name in others)) & tower
+    return [name for name in first if name in shared], [name for name in first if name in tower - shared], others, later + row
 
 
 def build_folder(program):
@@ -92,21 +126,32 @@ def list_crates(folder, crates):
         file.writelines(crates.values())
 
 
-def aside(folder):
+def beside(folder):
+    """Where the others are proved while the tower is."""
+    return folder + "-beside"
+
+
+def waiting(folder):
     """Where crates wait whose turn hasn't come: `rt all` takes every crate that it finds."""
     return folder + "-waiting"
 
 
-def set_aside(folder, names):
-    os.makedirs(aside(folder), exist_ok=True)
+def move(names, source, target):
+    """Moves crates from one folder to another."""
+    os.makedirs(os.path.join(target, "crates"), exist_ok=True)
     for name in names:
-        os.replace(os.path.join(folder, "crates", name), os.path.join(aside(folder), name))
+        shutil.rmtree(os.path.join(target, "crates", name), ignore_errors=True)
+        os.replace(os.path.join(source, "crates", name), os.path.join(target, "crates", name))
 
 
 def bring_back(folder):
-    for name in os.listdir(aside(folder)) if os.path.isdir(aside(folder)) else []:
-        shutil.rmtree(os.path.join(folder, "crates", name), ignore_errors=True)
-        os.replace(os.path.join(aside(folder), name), os.path.join(folder, "crates", name))
+    """Brings back what an interrupted build has left in the other folders."""
+    for other in (os.path.join(beside(folder), "crates"), os.path.join(waiting(folder), "crates")):
+        for name in os.listdir(other) if os.path.isdir(other) else []:
+            if os.path.isdir(os.path.join(folder, "crates", name)):
+                shutil.rmtree(os.path.join(other, name))
+            else:
+                os.replace(os.path.join(other, name), os.path.join(folder, "crates", name))
 
 
 def lay_out(folder, crates):
@@ -140,7 +185,7 @@ class Progress:
 
 
 def prove(folder, names, jobs, log, progress):
-    """Proves these crates side by side. Answers the status."""
+    """Proves these crates side by side, one job each. Answers the status."""
     now = None
     process = subprocess.Popen(["rt", "all", "check", "--jobs", str(jobs)], cwd=folder, stdin=subprocess.DEVNULL,
                                stdout=subprocess.PIPE, stderr=subprocess.STDOUT, text=True, errors="replace")
@@ -152,35 +197,54 @@ def prove(folder, names, jobs, log, progress):
     return process.wait()
 
 
-def prove_row(folder, row, jobs, log, progress):
-    """Builds these crates one after the other, the program last, which is run once. Answers the status."""
+def prove_row(folder, row, program, jobs, log, progress):
+    """Builds these crates one after the other; the program is run once. Answers the status."""
     for name in row:
         log.flush()
-        is_program = name == row[-1]
-        words = ["rt", "run", "--jobs", str(jobs), "--"] + TRIAL[0] if is_program else ["rt", "lib", "--jobs", str(jobs)]
-        done = subprocess.run(words, cwd=os.path.join(folder, "crates", name), input=TRIAL[1] if is_program else b"", stdout=log, stderr=log)
+        words = ["rt", "run", "--jobs", str(jobs), "--"] + TRIAL[0] if name == program else ["rt", "lib", "--jobs", str(jobs)]
+        done = subprocess.run(words, cwd=os.path.join(folder, "crates", name), input=TRIAL[1] if name == program else b"", stdout=log, stderr=log)
         if done.returncode:
             return done.returncode
         progress.say(name)
     return 0
 
 
+def prove_beside(folder, crates, shared, tower, others, jobs, log, progress):
+    """Proves the tower in the folder, and the others beside it in another one, where what they share is copied to. Answers the status."""
+    other, statuses = beside(folder), []
+    move(others, folder, other)
+    for name in shared:
+        shutil.copytree(os.path.join(folder, "crates", name), os.path.join(other, "crates", name), dirs_exist_ok=True)
+    shutil.copyfile(os.path.join(folder, "HANDLES"), os.path.join(other, "HANDLES"))
+    list_crates(other, {name: crates[name] for name in shared + others})
+    list_crates(folder, {name: crates[name] for name in shared + tower})
+    with open(log.name + "-beside", "w", encoding="utf-8") as other_log:
+        thread = threading.Thread(target=lambda: statuses.append(prove(other, others, max(1, jobs - 1), other_log, progress)))
+        thread.start()
+        statuses.append(prove_row(folder, tower, None, max(1, jobs // 2), log, progress))
+        thread.join()
+    with open(other_log.name, encoding="utf-8") as text:
+        log.write(text.read())
+    move(others, other, folder)
+    return next((status for status in statuses if status), 0)
+
+
 def build(program, folder, jobs, log):
     """Proves the crates that the program stands on, and makes it. Answers the status."""
     crates, below = crates_below(program)
-    row = row_at_top(below)
-    first = {name: line for name, line in crates.items() if name not in row}
+    shared, tower, others, row = plan(below)
     lay_out(folder, crates)
     progress = Progress(program, len(crates))
-    if first:
-        set_aside(folder, row)
-        list_crates(folder, first)
-        status = prove(folder, first, jobs, log, progress)
-        bring_back(folder)
-        list_crates(folder, crates)
-        if status:
-            return status
-    return prove_row(folder, row, jobs, log, progress)
+    move(row, folder, waiting(folder))
+    list_crates(folder, {name: crates[name] for name in shared + tower + others})
+    status = prove_row(folder, shared, None, jobs, log, progress)
+    if not status and tower:
+        status = prove_beside(folder, crates, shared, tower, others, jobs, log, progress)
+    elif not status and others:
+        status = prove(folder, others, jobs, log, progress)
+    move(row, waiting(folder), folder)
+    list_crates(folder, crates)
+    return status or prove_row(folder, row, program, jobs, log, progress)
 
 
 def report(program, path, status):

@@ -17,7 +17,7 @@ if [ "$1" != all ]; then
   mkdir -p out; printf '#!/bin/sh\\necho made\\n' >out/$name; chmod +x out/$name
   exit 0
 fi
-for name in left right low blossom other; do
+for name in left right low side blossom other; do
   [ -d crates/$name ] || continue
   echo "check $name" >>"$CALLS"
   echo "== $name"
@@ -27,14 +27,20 @@ done
 """
 
 
-def repository(room):
-    """A small repository with the launcher: the program stands on `low`, which stands on two crates; `other` is none that it needs."""
+# The program stands on `low`, which stands on two crates; `other` is none that it needs.
+SMALL = "blossom: low\nlow: left right\nleft:\nright:\nother: low\n"
+# The search's engine stands on `low`, and so does `side`, which is proved beside it.
+WITH_TOWER = "blossom: mwpm_engine side\nmwpm_engine: low\nside: low\nlow:\n"
+
+
+def repository(room, crates=SMALL):
+    """A small repository of these crates with the launcher."""
     os.makedirs(os.path.join(room, "bin"))
-    for name in ("left", "right", "low", "blossom", "other"):
+    for name in (line.split(":")[0] for line in crates.splitlines()):
         os.makedirs(os.path.join(room, "crates", name, "src"))
         with open(os.path.join(room, "crates", name, "src", "lib.rt"), "w", encoding="utf-8") as file:
             file.write("// " + name)
-    for path, text in (("crates.txt", "blossom: low\nlow: left right\nleft:\nright:\nother: low\n"), ("HANDLES", "none"), ("bin/rt", STAND_IN)):
+    for path, text in (("crates.txt", crates), ("HANDLES", "none"), ("bin/rt", STAND_IN)):
         with open(os.path.join(room, path), "w", encoding="utf-8") as file:
             file.write(text)
     os.chmod(os.path.join(room, "bin", "rt"), 0o755)
@@ -78,3 +84,16 @@ def check(tests):
         os.remove(broken)
         status, output, _, built = call(room)
         tests.compare("a mended build runs", "", (0, "made\n", ["check left", "check right", "lib low", "run blossom"]), (status, output, built))
+    with tempfile.TemporaryDirectory() as room:
+        repository(room, WITH_TOWER)
+        status, output, said, built = call(room)
+        tests.compare("the search's crates are proved beside all others", "",
+                      (0, "made\n", ["check low", "check side", "lib low", "lib mwpm_engine", "run blossom"]), (status, output, sorted(built)))
+        tests.compare("what both need comes first, the program last", "", ("lib low", "run blossom"), (built[0], built[-1]))
+        tests.compare("and a line a crate is said", "", ["1 of 4", "2 of 4", "3 of 4", "4 of 4"], [line.split(": ")[1] for line in said.splitlines() if " of " in line])
+        change(room, "side")
+        open(os.path.join(room, "crates", "side", "src", "broken"), "w", encoding="utf-8").close()
+        status, output, said, built = call(room)
+        tests.compare("a crate beside them that fails ends the build", "", (3, "", True), (status, output, "the proof of side failed" in said))
+        os.remove(os.path.join(room, "crates", "side", "src", "broken"))
+        tests.compare("which goes on once it is mended", "", (0, "made\n"), call(room)[:2])
