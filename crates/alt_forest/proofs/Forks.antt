@@ -20,7 +20,7 @@ abbrev pub sharers : List Blossom → ℕ → ℕ → List ℕ
 sharers [] u v = []
 sharers (b ∷ older) u v = cond (holds b.members u && holds b.members v) (sharers older u v ++ b.node ∷ []) (sharers older u v)
 
-append_nil : (xs : List ℕ) → xs ++ [] ≡ xs
+pub append_nil : (xs : List ℕ) → xs ++ [] ≡ xs
 append_nil [] = refl
 append_nil (x ∷ xs) = ap (λ ys. x ∷ ys) (append_nil xs)
 
@@ -28,12 +28,12 @@ append_assoc : (xs ys zs : List ℕ) → (xs ++ ys) ++ zs ≡ xs ++ (ys ++ zs)
 append_assoc [] ys zs = refl
 append_assoc (x ∷ xs) ys zs = ap (λ q. x ∷ q) (append_assoc xs ys zs)
 
-total-append : (y : ℕ → ℤ) (xs : List ℕ) (a : ℕ) → total_of y (xs ++ a ∷ []) ≡ y a +ℤ total_of y xs
+pub total-append : (y : ℕ → ℤ) (xs : List ℕ) (a : ℕ) → total_of y (xs ++ a ∷ []) ≡ y a +ℤ total_of y xs
 total-append y [] a = refl
 total-append y (x ∷ xs) a = let r : total_of y (xs ++ a ∷ []) ≡ y a +ℤ total_of y xs = total-append y xs a in omega (arith, ints)
 
 -- two vertices that some blossom holds both lie in one outermost node
-together : (n : ℕ) (bs : List Blossom) (u v : ℕ) → IsNested n bs → is_vertex n u ≡ true → is_vertex n v ≡ true → (sharers bs u v ≡ []) ⊎ (outermost bs u ≡ outermost bs v)
+pub together : (n : ℕ) (bs : List Blossom) (u v : ℕ) → IsNested n bs → is_vertex n u ≡ true → is_vertex n v ≡ true → (sharers bs u v ≡ []) ⊎ (outermost bs u ≡ outermost bs v)
 together n [] u v h iu iv = inl refl
 together n (b ∷ older) u v h iu iv = by_tests (holds b.members u) (holds b.members v) refl refl (member_by_ring n older b u h iu) (member_by_ring n older b v h iv) (together n older u v h.1 iu iv)
   where

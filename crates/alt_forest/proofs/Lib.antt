@@ -7,6 +7,8 @@ pub mod Mates
 pub mod Paths
 pub mod Routes
 pub mod Forks
+pub mod Covers
+pub mod Leads
 pub mod Totals
 pub mod Certified
 pub mod Parity

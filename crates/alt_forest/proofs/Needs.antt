@@ -93,6 +93,26 @@ needs_of s clock e m one other lu lv by = needs_by s clock e m (λ ne.
     subst (λ l. MomentBy (s.label (node_u s.graph s.blossoms e)) l clock (slack_of s e) m) (sym lv)
     (subst (λ l. MomentBy l other clock (slack_of s e) m) (sym lu) by))
 
+-- the same of any two nodes that it joins, in either order
+pub needs_between : (s : State) (clock : ℤ) (e : ℕ) (m : Option ℤ) (a b : ℕ) (one other : Label) → Joins s.graph s.blossoms e a b → s.label a ≡ one → s.label b ≡ other → MomentBy one other clock (slack_of s e) m → NeedsMoment s clock e m
+needs_between s clock e m a b one other j la lb by = ⊎_elim
+    (λ p. needs_of s clock e m one other (ap s.label p.0 ∙ la) (ap s.label p.1 ∙ lb) by)
+    (λ p. needs_of s clock e m other one (ap s.label p.0 ∙ lb) (ap s.label p.1 ∙ la) (turned one other clock (slack_of s e) m by))
+    j
+
+-- an edge from a node labelled out needs none, unless it leads to an outer one
+pub needs_none_out : (s : State) (clock : ℤ) (e a b : ℕ) (m : Option ℤ) → Joins s.graph s.blossoms e a b → s.label a ≡ Out → s.label b ≢ Outer → NeedsMoment s clock e m
+needs_none_out s clock e a b m j out ne = by_label (s.label b) refl
+  where
+    by_label : (l : Label) → s.label b ≡ l → NeedsMoment s clock e m
+    by_label Outer lb = absurd (ne lb)
+    by_label Inner lb = needs_between s clock e m a b Out Inner j out lb tt
+    by_label Out lb = needs_between s clock e m a b Out Out j out lb tt
+
+-- an edge within a node needs none
+pub needs_none_within : (s : State) (clock : ℤ) (e a : ℕ) (m : Option ℤ) → Joins s.graph s.blossoms e a a → NeedsMoment s clock e m
+needs_none_within s clock e a m j = needs_by s clock e m (λ ne. absurd (ne (⊎_elim (λ p. p.0 ∙ sym p.1) (λ p. p.0 ∙ sym p.1) j)))
+
 -- what needs nothing may have anything
 pub none_needed : (s : State) (clock : ℤ) (e : ℕ) (m : Option ℤ) → NeedsMoment s clock e None → NeedsMoment s clock e m
 none_needed s clock e m h = record {

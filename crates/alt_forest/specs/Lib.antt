@@ -5,6 +5,7 @@ pub mod Counts
 pub mod Searches
 pub mod Routes
 pub mod Chains
+pub mod Ends
 pub mod Laws
 pub mod Ways
 pub mod Circuits

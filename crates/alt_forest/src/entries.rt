@@ -1,23 +1,35 @@
-ghost use Rattle.std.specs.Prelude.{◌≡◌, ◌≢◌, ◌+◌, ◌≤◌, ◌++◌, ℕ, ℤ, pos, ◌+ℤ◌, ◌*ℤ◌, ◌≤ℤ◌, true, false, All, Option, length, vec_len};
+ghost use Rattle.std.specs.Prelude.{◌≡◌, ◌≢◌, ◌+◌, ◌*◌, ◌≤◌, ◌++◌, ℕ, ℤ, pos, ◌+ℤ◌, ◌*ℤ◌, ◌≤ℤ◌, true, false, ◌==◌, if◌then◌else◌, All, Option, length, vec_len};
 ghost use Rattle.std.specs.Vec.{vec_capacity};
-ghost use Rattle.graph_theory.specs.Graph.{IsEdgeNumber, IsEdgeWithin, IsWeight, edge_of, edges_around, touches};
+ghost use Rattle.graph_theory.specs.Graph.{IsEdgeNumber, edge_of, edges_around, touches};
 ghost use Rattle.graph_theory.specs.Parts.{holds};
 ghost use Rattle.graph_theory.specs.declared.limits.TheConstants.{NUMBER_LIMIT, GRAPH_VERTEX_LIMIT};
-ghost use Rattle.blossom_arena.specs.Family.{is_node, is_vertex, members_of, names_of};
+ghost use Rattle.blossom_arena.specs.Family.{is_node, is_vertex, members_of, names_of, outermost};
 ghost use Rattle.edge_queue.specs.declared.item.Item.TheVariants.{Edge as OfEdge, Blossom as OfBlossom};
 ghost use Rattle.edge_queue.specs.Moments.{moment_of};
-ghost use Rattle.alt_forest.specs.State.{IsOutermost};
-ghost use Rattle.alt_forest.specs.Searches.{HasShape, IsSound, state_of};
+ghost use Rattle.alt_forest.specs.State.{IsOutermost, slack_of};
+ghost use Rattle.alt_forest.specs.Ends.{IsNear, LeadsTo};
+ghost use Rattle.alt_forest.specs.Searches.{HasShape, IsSound, state_of, label_at};
 ghost use Rattle.alt_forest.specs.Entries.{NeedsMoment, IsEntered, IsBlossomEntered, IsQueued, IsQueuedBut, entry_count, ends_around};
 
 use crate::label::Label;
 use crate::search::Search;
+use crate::slack::{cover, doubled};
 use blossom_arena::{Members, NodeId};
 use edge_queue::Item;
-use graph_theory::{Edge, GRAPH_VERTEX_LIMIT, NUMBER_LIMIT};
+use graph_theory::{GRAPH_VERTEX_LIMIT, NUMBER_LIMIT};
 use mb_base::{EdgeId, Steps, VertexId};
 use std::sync::ledger::Ledger;
 use weighted_graph::Graph;
+
+/// What is at hand of a vertex while the edges at it are looked at: the outermost node that holds it, how
+/// that one is labelled, and the duals of all nodes that hold the vertex, added up.
+#[derive(Clone, Copy)]
+struct Near {
+    vertex: VertexId,
+    node: NodeId,
+    label: Label,
+    cover: i64,
+}
 
 /// Half of an even number that is not below 0.
 fn half(twice: i64) -> i64
@@ -34,41 +46,73 @@ fn moment_after(clock: i64, left: i64) -> i64
     requires low { pos 0 ≤ℤ clock }
     requires high { clock ≤ℤ NUMBER_LIMIT }
     requires left_low { pos 0 ≤ℤ left }
-    requires left_high { left ≤ℤ (NUMBER_LIMIT *ℤ pos (GRAPH_VERTEX_LIMIT + 1)) }
+    requires left_high { left ≤ℤ (NUMBER_LIMIT *ℤ pos (2 * GRAPH_VERTEX_LIMIT + 1)) }
     ensures { result ≡ clock +ℤ left }
 {
     clock + left
 }
 
-/// The moment that an edge needs in the queue, if it needs one.
-fn moment_for(search: &Search, edge: &Edge) -> Option<i64>
+/// The end of an edge that is not this one.
+fn other_end(u: VertexId, v: VertexId, end: VertexId) -> VertexId
+    ensures { result ≡ if u == end then v else u }
+{
+    if u.number() == end.number() { v } else { u }
+}
+
+/// The slack of an edge to another outermost node: no blossom holds both its ends, so the duals of all nodes
+/// that hold either of them count.
+fn slack_to(search: &Search, near: &Near, far: VertexId, w: i64) -> i64
+    requires sound { IsSound search.now }
+    requires near { IsNear (state_of search.now) near.now }
+    requires edge { (e : ℕ) × LeadsTo search.now.graph e near.now.vertex far w }
+    requires apart { outermost search.now.arena.blossoms far ≢ near.now.node }
+    ensures slack { (e : ℕ) → LeadsTo search.now.graph e near.now.vertex far w → result ≡ slack_of (state_of search.now) e }
+    ensures low { pos 0 ≤ℤ result }
+    ensures high { result ≤ℤ (NUMBER_LIMIT *ℤ pos (2 * GRAPH_VERTEX_LIMIT + 1)) }
+{
+    doubled(search.weights, w) - (near.cover + cover(&search.arena, far))
+}
+
+/// The moment that an edge needs in the queue, if it needs one. Where it needs none its slack isn't taken.
+fn moment_for(search: &Search, near: &Near, far: VertexId, w: i64) -> Option<i64>
     requires sound { IsSound search.now }
     requires low { pos 0 ≤ℤ search.now.clock }
     requires high { search.now.clock ≤ℤ NUMBER_LIMIT }
-    requires edge { (e : ℕ) × IsEdgeNumber search.now.graph e × (edge_of search.now.graph e ≡ edge.now) }
-    ensures moment { (e : ℕ) → IsEdgeNumber search.now.graph e → edge_of search.now.graph e ≡ edge.now → NeedsMoment (state_of search.now) search.now.clock e result }
+    requires near { IsNear (state_of search.now) near.now }
+    requires edge { (e : ℕ) × LeadsTo search.now.graph e near.now.vertex far w }
+    ensures moment { (e : ℕ) → LeadsTo search.now.graph e near.now.vertex far w → NeedsMoment (state_of search.now) search.now.clock e result }
 {
-    let one = search.arena.outermost(edge.u);
-    let other = search.arena.outermost(edge.v);
-    if one.number() == other.number() {
+    let node = search.arena.outermost(far);
+    if node.number() == near.node.number() {
         return None;
     }
     let clock = search.clock;
-    match (search.label(one), search.label(other)) {
-        (Label::Outer, Label::Outer) => Some(moment_after(clock, half(search.slack_by(edge)))),
-        (Label::Outer, Label::Out) => Some(moment_after(clock, search.slack_by(edge))),
-        (Label::Out, Label::Outer) => Some(moment_after(clock, search.slack_by(edge))),
+    match (near.label, search.label(node)) {
+        (Label::Outer, Label::Outer) => Some(moment_after(
+            clock,
+            half(slack_to(search, near, far, w)),
+        )),
+        (Label::Outer, Label::Out) => Some(moment_after(clock, slack_to(search, near, far, w))),
+        (Label::Out, Label::Outer) => Some(moment_after(clock, slack_to(search, near, far, w))),
         _ => None,
     }
 }
 
-/// Gives an edge the moment that it needs, by one look at it.
-fn enter_edge<L: Ledger>(search: &mut Search, graph: &Graph, e: EdgeId, steps: &mut Steps<L>)
+/// Gives an edge at a vertex the moment that it needs, by one look at it.
+fn enter_edge<L: Ledger>(
+    search: &mut Search,
+    graph: &Graph,
+    near: &Near,
+    e: EdgeId,
+    steps: &mut Steps<L>,
+)
     requires sound { IsSound search.old }
     requires same { graph.now ≡ search.old.graph }
     requires low { pos 0 ≤ℤ search.old.clock }
     requires high { search.old.clock ≤ℤ NUMBER_LIMIT }
+    requires near { IsNear (state_of search.old) near.now }
     requires edge { IsEdgeNumber graph.now e }
+    requires end { touches (edge_of graph.now e) near.now.vertex ≡ true }
     ensures rest { search.new ≡ record search.old { queue = search.new.queue } }
     ensures sound { IsSound search.new }
     ensures entered { IsEntered (state_of search.old) search.old.clock search.new.queue e }
@@ -78,8 +122,27 @@ fn enter_edge<L: Ledger>(search: &mut Search, graph: &Graph, e: EdgeId, steps: &
     ensures step { steps.new ≡ steps.old + 1 }
 {
     let (u, v, w) = graph.look(e, steps);
-    if let Some(moment) = moment_for(search, &Edge { u, v, w }) {
+    let far = other_end(u, v, near.vertex);
+    if let Some(moment) = moment_for(search, near, far, w) {
         search.queue.set(Item::Edge(e), moment);
+    }
+}
+
+/// What is at hand of a vertex whose outermost node and its label are known, in one walk along the nodes
+/// that hold the vertex.
+fn near_of(search: &Search, vertex: VertexId, node: NodeId, label: Label) -> Near
+    requires sound { IsSound search.now }
+    requires vertex { is_vertex search.now.graph.vertices vertex ≡ true }
+    requires node { node ≡ outermost search.now.arena.blossoms vertex }
+    requires label { label ≡ label_at search.now.labels.items node }
+    ensures near { IsNear (state_of search.now) result }
+    ensures vertex { result.vertex ≡ vertex }
+{
+    Near {
+        vertex,
+        node,
+        label,
+        cover: cover(&search.arena, vertex),
     }
 }
 
@@ -100,12 +163,14 @@ fn enter_around<L: Ledger>(search: &mut Search, graph: &Graph, v: VertexId, step
     ensures count { entry_count search.new.queue + steps.old ≤ entry_count search.old.queue + steps.new }
 {
     let node = search.arena.outermost(v);
-    if search.label(node) == Label::Inner {
+    let label = search.label(node);
+    if label == Label::Inner {
         return;
     }
+    let near = near_of(search, v, node, label);
     for place in 0..search.incidence.at(v).len() {
         let e = search.incidence.at(v)[place];
-        enter_edge(search, graph, e, steps);
+        enter_edge(search, graph, &near, e, steps);
     }
 }
 

@@ -5,18 +5,19 @@ ghost use Rattle.graph_theory.specs.declared.limits.TheConstants.{GRAPH_VERTEX_L
 ghost use Rattle.graph_theory.specs.Graph.{IsEdgeNumber, IsEdgeWithin, IsWeight, edge_of};
 ghost use Rattle.graph_theory.specs.Duals.{slack};
 ghost use Rattle.graph_theory.specs.Duals.{IsNumber};
-ghost use Rattle.blossom_arena.specs.Family.{is_node, dual_at};
+ghost use Rattle.blossom_arena.specs.Family.{is_node, is_vertex, dual_at};
 ghost use Rattle.blossom_arena.specs.Slack.{duals_across, vertex_duals, sets_of};
-ghost use Rattle.alt_forest.specs.State.{slack_by, slack_of};
+ghost use Rattle.alt_forest.specs.State.{held_by, slack_by, slack_of};
 ghost use Rattle.alt_forest.specs.Searches.{HasShape, IsSound, state_of, is_given};
 ghost use Rattle.alt_forest.specs.Chains.{apart, dual_of, holders, total_of, weighed};
+ghost use Rattle.alt_forest.specs.Ends.{IsCover};
 
 use crate::label::Weights;
 use crate::meet::is_found;
 use crate::search::Search;
 use blossom_arena::{Arena, Chain, NodeId};
 use graph_theory::{Edge, GRAPH_VERTEX_LIMIT, NUMBER_LIMIT, WEIGHT_LIMIT};
-use mb_base::{EdgeId, Steps};
+use mb_base::{EdgeId, Steps, VertexId};
 use std::sync::ledger::Ledger;
 use weighted_graph::Graph;
 
@@ -118,10 +119,24 @@ fn duals_across(arena: &Arena, edge: &Edge) -> i64
     total(arena, arena.chain(edge.u), u) + total(arena, arena.chain(edge.v), v)
 }
 
+/// The duals of all nodes that hold a vertex, added up along its chain.
+pub(crate) fn cover(arena: &Arena, v: VertexId) -> i64
+    requires { is_vertex arena.now.vertex_count v ≡ true }
+    ensures cover { result ≡ dual_at arena.now.duals v +ℤ held_by (dual_at arena.now.duals) arena.now.blossoms v }
+    ensures in_range { IsCover result }
+{
+    let mut sum = 0;
+    for node in arena.chain(v) {
+        sum += dual_or_zero(arena, Some(node));
+    }
+    sum
+}
+
 /// Twice a weight, or 0 in the pass without weights.
-fn doubled(weights: Weights, w: i64) -> i64
+pub(crate) fn doubled(weights: Weights, w: i64) -> i64
     requires { IsWeight w }
     ensures doubled { result ≡ if is_given weights then pos 2 *ℤ w else pos 0 }
+    ensures low { neg_ℤ (pos 2 *ℤ WEIGHT_LIMIT) ≤ℤ result }
     ensures high { result ≤ℤ (pos 2 *ℤ WEIGHT_LIMIT) }
 {
     match weights {

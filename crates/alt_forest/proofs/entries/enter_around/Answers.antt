@@ -1,5 +1,5 @@
 use Rattle.std.proofs.Common.{◌≡◌, ◌∙◌, ℕ, ◌<◌, true, List, [], length, sym, ap, subst, arith}
-use Rattle.graph_theory.specs.Graph.{Multigraph, edges_around}
+use Rattle.graph_theory.specs.Graph.{Multigraph, edge_of, edges_around, touches}
 use Rattle.std.specs.Prelude.{slice_index_or}
 use Rattle.blossom_arena.specs.Family.{is_vertex}
 use Rattle.edge_queue.specs.Moments.{Moments}
@@ -8,13 +8,14 @@ use Rattle.blossom_arena.proofs.Sets.{outermost_has}
 use Rattle.alt_forest.specs.declared.search.Search.{Search}
 use Rattle.alt_forest.specs.State.{IsOutermost}
 use Rattle.alt_forest.specs.Searches.{HasShape, state_of}
+use Rattle.alt_forest.specs.Ends.{IsNear}
 use Rattle.alt_forest.specs.Entries.{IsEntered}
 use Rattle.alt_forest.proofs.Places.{nested_of}
 use Rattle.alt_forest.proofs.EntrySteps.{entered_next, others_next, by_places, index_list, listed_edge}
 use Rattle.alt_forest.proofs.entries.enter_around.Goals as goal
 
-pub label-requires-clause-outer : goal.label-requires-clause-outer
-label-requires-clause-outer g c =
+pub label-label-requires-clause-outer : goal.label-label-requires-clause-outer
+label-label-requires-clause-outer g c =
     let s = c.args.search.now in
     let vertex : is_vertex s.graph.vertices c.args.v ≡ true = subst (λ (k : Multigraph). is_vertex k.vertices c.args.v ≡ true) c.requires.same c.requires.vertex in
     subst (IsOutermost (state_of s)) (sym c.outermost-node.ensures.node) (outermost_has s.graph.vertices s.arena.blossoms c.args.v (nested_of s c.requires.sound.shape) vertex).0
@@ -29,6 +30,20 @@ enter_edge-requires-clause-edge g c =
     let all : c.at-place-end.result.now ≡ edges_around c.args.graph.now c.args.v = index_list s c.args.graph.now c.args.v _ c.requires.sound.shape c.requires.same c.requires.vertex c.at-place-end.ensures in
     let list : c.at.result.now ≡ edges_around c.args.graph.now c.args.v = around s c.args.graph.now c.args.v c.at.result.now c.loop-place.search _ c.requires.sound.shape c.requires.same c.requires.vertex c.loop-place.invariant.rest c.at.ensures in
     (number_at c.args.graph.now c.args.v c.at.result.now c.loop-place.place c.index-at-place.result list (omega (arith, ap length all, ap length list, c.loop-place-test.true)) c.index-at-place.is).0
+
+pub enter_edge-requires-clause-end : goal.enter_edge-requires-clause-end
+enter_edge-requires-clause-end g c =
+    let s = c.args.search.now in
+    let all : c.at-place-end.result.now ≡ edges_around c.args.graph.now c.args.v = index_list s c.args.graph.now c.args.v _ c.requires.sound.shape c.requires.same c.requires.vertex c.at-place-end.ensures in
+    let list : c.at.result.now ≡ edges_around c.args.graph.now c.args.v = around s c.args.graph.now c.args.v c.at.result.now c.loop-place.search _ c.requires.sound.shape c.requires.same c.requires.vertex c.loop-place.invariant.rest c.at.ensures in
+    let touched = number_at c.args.graph.now c.args.v c.at.result.now c.loop-place.place c.index-at-place.result list (omega (arith, ap length all, ap length list, c.loop-place-test.true)) c.index-at-place.is in
+    subst (λ (v : ℕ). touches (edge_of c.args.graph.now c.index-at-place.result) v ≡ true) (sym c.near_of-near.ensures.vertex) touched.1
+
+pub enter_edge-requires-clause-near : goal.enter_edge-requires-clause-near
+enter_edge-requires-clause-near g c = subst (λ (x : Search). IsNear (state_of x) c.near_of-near.result) (sym c.loop-place.invariant.rest) c.near_of-near.ensures.near
+
+pub near_of-near-requires-clause-vertex : goal.near_of-near-requires-clause-vertex
+near_of-near-requires-clause-vertex g c = subst (λ (k : Multigraph). is_vertex k.vertices c.args.v ≡ true) c.requires.same c.requires.vertex
 
 pub loop-place-preserved : goal.loop-place-preserved
 loop-place-preserved g c =

@@ -1,0 +1,39 @@
+-- An edge that leads from one vertex to another.
+use Rattle.std.proofs.Common.{◌≡◌, ℕ, ℤ, true, cond, eqb, List, sym, ap, ◌∙◌, subst, ⊎_elim, inl, inr}
+use Rattle.std.proofs.lemmas.Bool.{eqb-true, or_cases, both_ways}
+use Rattle.graph_theory.specs.Graph.{Multigraph, IsGraph, IsWeight, IsEdgeNumber, edge_of, touches}
+use Rattle.graph_theory.proofs.Edges.{edge_of-weight}
+use Rattle.blossom_arena.specs.Family.{Blossom, is_vertex, outermost}
+use Rattle.blossom_arena.proofs.Ends.{u_vertex, v_vertex}
+use Rattle.blossom_arena.proofs.Lists.{by_test}
+use Rattle.alt_forest.specs.State.{Joins}
+use Rattle.alt_forest.specs.Ends.{LeadsTo}
+
+-- an edge at a vertex leads to its other end
+pub leads : (g : Multigraph) (e v x : ℕ) (w : ℤ) → IsEdgeNumber g e → touches (edge_of g e) v ≡ true → x ≡ cond (eqb (edge_of g e).u v) (edge_of g e).v (edge_of g e).u → w ≡ (edge_of g e).w → LeadsTo g e v x w
+leads g e v x w is touched far weight = record {
+  number = is;
+  ends = by_test (eqb (edge_of g e).u v)
+      (λ t. inl (eqb-true (edge_of g e).u v t, sym (far ∙ ap (λ q. cond q (edge_of g e).v (edge_of g e).u) t)))
+      (λ f. inr (
+        sym (far ∙ ap (λ q. cond q (edge_of g e).v (edge_of g e).u) f),
+        ⊎_elim (λ t. absurd (both_ways (eqb (edge_of g e).u v) f t)) (λ t. eqb-true (edge_of g e).v v t) (or_cases (eqb (edge_of g e).u v) (eqb (edge_of g e).v v) touched),
+      ));
+  weight = sym weight;
+}
+
+pub leads_vertex : (g : Multigraph) (e v x : ℕ) (w : ℤ) → IsGraph g → LeadsTo g e v x w → is_vertex g.vertices x ≡ true
+leads_vertex g e v x w graph to = ⊎_elim
+    (λ p. subst (λ (a : ℕ). is_vertex g.vertices a ≡ true) p.1 (v_vertex g e graph.ends to.number))
+    (λ p. subst (λ (a : ℕ). is_vertex g.vertices a ≡ true) p.0 (u_vertex g e graph.ends to.number))
+    to.ends
+
+pub leads_weight : (g : Multigraph) (e v x : ℕ) (w : ℤ) → IsGraph g → LeadsTo g e v x w → IsWeight w
+leads_weight g e v x w graph to = subst IsWeight to.weight (edge_of-weight g e graph to.number)
+
+-- it joins the outermost nodes that hold the two
+pub leads_joins : (g : Multigraph) (bs : List Blossom) (e v x a b : ℕ) (w : ℤ) → LeadsTo g e v x w → a ≡ outermost bs v → b ≡ outermost bs x → Joins g bs e a b
+leads_joins g bs e v x a b w to near far = ⊎_elim
+    (λ p. inl (ap (outermost bs) p.0 ∙ sym near, ap (outermost bs) p.1 ∙ sym far))
+    (λ p. inr (ap (outermost bs) p.0 ∙ sym far, ap (outermost bs) p.1 ∙ sym near))
+    to.ends
