@@ -1,7 +1,7 @@
 /* blossom: exact optimisers on undirected multigraphs with whole weights, as one call.
  *
- * The call does what the program `blossom` does with the same bytes on its standard input: the answer is byte for byte what the program
- * would print, and the status is its exit status. Instances and documents are the texts of docs/FORMAT.md.
+ * The call does what the program `blossom` does with the same bytes on its standard input, by the same code: the answer is what the program
+ * prints, and the status is its exit status. Instances and documents are the texts of docs/FORMAT.md.
  *
  *     uint8_t answer[4096];
  *     size_t used;
@@ -9,12 +9,14 @@
  *
  * capi/build.sh builds libblossom.so and libblossom.a; capi/example.c is a whole program; docs/C.md says more.
  *
- * What is proved, for every input and every buffer: at a status from 0 to 8 the answer stands at the front of the buffer and the rest
- * of it is as it was; it is the text and the status of the program; what an accepted or written document states is true of its instance;
- * what was solved in full is accepted behind its input, where that ends in a line feed; every instance within the limits is answered, but
- * for want of memory. At BLOSSOM_SHORT_BUFFER the buffer is as it was, and `used` is the length of such an answer. At BLOSSOM_NO_SUCH_CALL it
- * is as it was, `used` is 0, and one of the numbers is none of those below. The call ends, and reads and writes nothing but what it is
- * given and memory that it takes and gives back.
+ * What is proved, for every input and every buffer: at a status from 0 to 8 the answer stands at the front of the buffer and the rest of it
+ * is as it was; text and status are such as the program may answer to these bytes (docs/FORMAT.md; which of several best answers is promised
+ * of neither); what an accepted or written document states is true of its instance; what was solved in full is accepted behind its input,
+ * where that ends in a line feed; every instance within the limits is answered, but for want of memory. At BLOSSOM_SHORT_BUFFER the buffer is
+ * as it was, and `used` is the length of such an answer. At BLOSSOM_NO_SUCH_CALL it is as it was, `used` is 0, and one of the numbers is none of
+ * those below. The call ends, and reads and writes nothing but what it is given and memory that it takes.
+ *
+ * What is only tested: that the shared object answers as the program does, byte for byte, and that calls give back what memory they take.
  *
  * What isn't proved, since it is the caller's or the machine's: what is said under "The caller" below, which the call can't test; that this
  * header declares what the library defines; that the linker and the compiler to machine code are right; that malloc, realloc, free, memcpy,

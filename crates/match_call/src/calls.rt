@@ -64,7 +64,7 @@ pub fn call<L: Ledger>(
     bytes: &[u8],
     steps: &mut Steps<L>,
 ) -> Answer
-    // The text that `run` would have written, and its status, which is never usage or a fault of a read or a write.
+    // The whole text and the status, by the relation of `run`; never usage, and never a fault of a read or a write.
     ensures answer { Gives (words_of task kind) bytes.now result.text.items result.status }
 
     // What a document that was accepted or written states is true of its instance.
