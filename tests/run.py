@@ -11,6 +11,7 @@ import random
 import subprocess
 import sys
 
+import c_library
 import fuzz
 import launcher
 import made
@@ -301,6 +302,7 @@ for part in (cases, cut_files, hostile_input, hostile_documents, words, examples
     part(TESTS)
 process_ends.check(PROGRAM, TESTS)
 launcher.check(TESTS)
+c_library.check(PROGRAM, TESTS)
 python_package.check(PROGRAM, TESTS)
 print("%d passed, %d failed" % (TESTS.passed, TESTS.failed))
 sys.exit(0 if TESTS.failed == 0 and TESTS.passed > 0 else 1)

@@ -1,0 +1,34 @@
+-- What a call for C leaves, by how it ended.
+use Rattle.std.specs.Prelude.{◌≡◌, ℕ, ◌⊎◌, List, [], length, Some}
+use Rattle.mb_problem.specs.declared.kind.Kind.{Kind}
+use Rattle.match_cli.specs.declared.status.Status.{Status}
+use Rattle.match_cli.specs.Runs.{TellsTruth, IsAcceptedAgain, Completes}
+use Rattle.match_call.specs.declared.task.Task.{Task}
+use Rattle.match_call.specs.Words.{words_of}
+use Rattle.match_call.specs.Calls.{Gives}
+use Rattle.blossom_c.specs.declared.ending.Ending.{Ending}
+use Rattle.blossom_c.specs.declared.ending.Ending.TheVariants.{Answered, ShortBuffer, NoSuchCall}
+use Rattle.blossom_c.specs.Numbers.{number_of_task, number_of_kind, number_of_ending, IsUnnumbered}
+use Rattle.blossom_c.specs.Buffers.{StandsIn, IsTooLong}
+
+-- what `call` promises of its text and its status, but for the steps: C has no counter
+pub record IsAnswer (task : Task) (kind : Kind) (input text : List ℕ) (status : Status) : Type 0 where
+  pub answer : Gives (words_of task kind) input text status
+  pub truth : TellsTruth (words_of task kind) (Some input) status
+  pub again : IsAcceptedAgain (words_of task kind) (Some input) (Some []) (Some text) status
+  pub complete : Completes (words_of task kind) (Some input) status
+
+-- For a task and a kind: the answer stands in the buffer, or it is too long for it. Either way its length is told.
+abbrev pub Ends : Task → Kind → List ℕ → List ℕ → List ℕ → ℕ → Ending → Type 0
+Ends task kind input before after used (Answered status) = (text : List ℕ) × IsAnswer task kind input text status × (used ≡ length text) × StandsIn text before after
+Ends task kind input before after used ShortBuffer = (text : List ℕ) × (status : Status) × IsAnswer task kind input text status × (used ≡ length text) × IsTooLong text before after
+Ends task kind input before after used NoSuchCall = ⊥
+
+-- For the numbers of a task and a kind; where no task or no kind has the number, nothing is done.
+abbrev pub EndsNumbered : ℕ → ℕ → List ℕ → List ℕ → List ℕ → ℕ → Ending → Type 0
+EndsNumbered task kind input before after used NoSuchCall = (IsUnnumbered number_of_task task ⊎ IsUnnumbered number_of_kind kind) × (used ≡ 0) × (after ≡ before)
+EndsNumbered task kind input before after used ending = (t : Task) × (k : Kind) × (number_of_task t ≡ task) × (number_of_kind k ≡ kind) × Ends t k input before after used ending
+
+-- the number tells the ending
+abbrev pub Tells : ℕ → ℕ → List ℕ → List ℕ → List ℕ → ℕ → ℕ → Type 0
+Tells task kind input before after used number = (ending : Ending) × (number ≡ number_of_ending ending) × EndsNumbered task kind input before after used ending

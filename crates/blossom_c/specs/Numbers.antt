@@ -1,0 +1,39 @@
+-- The numbers of tasks, kinds and endings, by which C names them.
+use Rattle.std.specs.Prelude.{◌≡◌, ℕ, Option, None, Some}
+use Rattle.mb_problem.specs.declared.kind.Kind.{Kind}
+use Rattle.mb_problem.specs.declared.kind.Kind.TheVariants.{Perfect, Match, BMatch, CapMatch, FFactor, TJoin, Postman, Path}
+use Rattle.match_cli.specs.Codes.{code_of}
+use Rattle.match_call.specs.declared.task.Task.{Task}
+use Rattle.match_call.specs.declared.task.Task.TheVariants.{Solve, SolveBriefly, Check}
+use Rattle.blossom_c.specs.declared.ending.Ending.{Ending}
+use Rattle.blossom_c.specs.declared.ending.Ending.TheVariants.{Answered, ShortBuffer, NoSuchCall}
+
+abbrev pub number_of_task : Task → ℕ
+number_of_task Solve = 1
+number_of_task SolveBriefly = 2
+number_of_task Check = 3
+
+abbrev pub number_of_kind : Kind → ℕ
+number_of_kind Perfect = 1
+number_of_kind Match = 2
+number_of_kind BMatch = 3
+number_of_kind CapMatch = 4
+number_of_kind FFactor = 5
+number_of_kind TJoin = 6
+number_of_kind Postman = 7
+number_of_kind Path = 8
+
+-- the exit statuses of the program, and two beyond them
+abbrev pub number_of_ending : Ending → ℕ
+number_of_ending (Answered status) = code_of status
+number_of_ending ShortBuffer = 9
+number_of_ending NoSuchCall = 10
+
+-- no value has the number
+abbrev pub IsUnnumbered : {T : Type 0} → (T → ℕ) → ℕ → Type 0
+IsUnnumbered {T} number_of number = (x : T) → number_of x ≡ number → ⊥
+
+-- this is the value of the number, or no value has it
+abbrev pub IsNumbered : {T : Type 0} → (T → ℕ) → ℕ → Option T → Type 0
+IsNumbered number_of number (Some x) = number_of x ≡ number
+IsNumbered number_of number None = IsUnnumbered number_of number

@@ -1,0 +1,85 @@
+ghost use Rattle.std.specs.Prelude.{◌≡◌, ◌<◌};
+ghost use Rattle.blossom_c.specs.Endings.{Ends, EndsNumbered, Tells};
+
+use crate::buffer::put;
+use crate::ending::Ending;
+use crate::numbers::{kind_numbered, task_numbered};
+use match_call::{Task, call};
+use mb_base::Steps;
+use mb_problem::Kind;
+use std::alloc::Global;
+use std::marker::Brand;
+use std::sync::ledger::{Blank, Ledger};
+
+/// Does the task for the kind, with a counter of its own.
+fn answer<L: Ledger>(
+    blank: Blank,
+    alloc: Global,
+    task: Task,
+    kind: Kind,
+    input: &[u8],
+    output: &mut [u8],
+    used: &mut usize,
+) -> Ending
+    requires name { blank.name ≡ L.name }
+    requires parts { blank.parts ≡ L.parts }
+    requires some { 0 < blank.parts }
+    ensures { Ends task kind input.now output.old output.new used.new result }
+{
+    let mut steps = Steps::<L>::new(blank);
+    let answer = call(alloc, task, kind, input, &mut steps);
+    *used = answer.text.len();
+    if put(&answer.text, output) {
+        Ending::Answered(answer.status)
+    } else {
+        Ending::ShortBuffer
+    }
+}
+
+/// The same, for the numbers of a task and a kind.
+fn answer_numbered(
+    alloc: Global,
+    task: u32,
+    kind: u32,
+    input: &[u8],
+    output: &mut [u8],
+    used: &mut usize,
+) -> Ending
+    ensures { EndsNumbered task kind input.now output.old output.new used.new result }
+{
+    let Some(task) = task_numbered(task) else {
+        *used = 0;
+        return Ending::NoSuchCall;
+    };
+    let Some(kind) = kind_numbered(kind) else {
+        *used = 0;
+        return Ending::NoSuchCall;
+    };
+    answer::<Brand>(Blank::new(1), alloc, task, kind, input, output, used)
+}
+
+/// Does the task of this number (1 solve, 2 solve in brief, 3 check) for the kind of this number (1 perfect, 2 match,
+/// 3 bmatch, 4 capmatch, 5 ffactor, 6 tjoin, 7 postman, 8 path) on the input. The answer stands at the front of
+/// `output` then, `used` is its length, and the result is the exit status of the program. Two results are others:
+/// at 9 the answer is longer than `output`, and at 10 a number is none of these. Then `output` is as it was.
+#[unsafe(no_mangle)]
+pub extern "C" fn blossom_call(
+    alloc: Global,
+    task: u32,
+    kind: u32,
+    input: &[u8],
+    output: &mut [u8],
+    used: &mut usize,
+) -> u32
+    ensures { Tells task kind input.now output.old output.new used.new result }
+{
+    answer_numbered(alloc, task, kind, input, output, used).number()
+}
+
+/// The version of the calls of this library.
+#[unsafe(no_mangle)]
+pub extern "C" fn blossom_abi() -> u32
+    ensures { result ≡ 1 }
+{
+    1
+}

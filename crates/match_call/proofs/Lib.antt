@@ -1,0 +1,2 @@
+pub mod TaskWords
+pub mod WholeAnswers
