@@ -2,12 +2,12 @@
 use Rattle.std.proofs.Common.{◌≡◌, ◌≢◌, ℕ, ◌+◌, ◌<◌, ◌≤◌, Bool, true, false, ◌||◌, eqb, List, [], ◌∷◌, length, get_or, Option, refl, sym, ap, ap₂, ◌∙◌, subst, arith}
 use Rattle.std.specs.Prelude.{ℤ, slice_index_or}
 use Rattle.std.proofs.lemmas.List.{get_or_read}
-use Rattle.std.proofs.lemmas.Bool.{eqb-true, eqb-false, both_ways}
+use Rattle.std.proofs.lemmas.Bool.{eqb-true, eqb-false, ne_eqb, or_parts, both_ways}
 use Rattle.graph_theory.specs.declared.edge.Edge.{Edge as GraphEdge}
 use Rattle.graph_theory.specs.Parts.{holds}
 use Rattle.graph_theory.specs.Graph.{Multigraph, IsEdgeNumber, edge_of, edges_around, touches}
 use Rattle.graph_theory.proofs.Around.{around-has}
-use Rattle.graph_theory.proofs.Members.{holds_place, eqb-turned}
+use Rattle.graph_theory.proofs.Members.{holds_at, holds_place, eqb-turned}
 use Rattle.blossom_arena.specs.Family.{is_vertex}
 use Rattle.blossom_arena.proofs.Lists.{by_test}
 use Rattle.blossom_arena.proofs.Nested.{vertex_range}
@@ -66,6 +66,15 @@ touches_more : (v : ℕ) (vs : List ℕ) (e : GraphEdge) → touches e v ≡ fal
 touches_more v vs e missed none =
     neither (eqb v e.u) (eqb v e.v) (holds vs e.u) (holds vs e.v)
     (ap₂ (λ (a b : Bool). a || b) (eqb-turned v e.u) (eqb-turned v e.v) ∙ missed) none
+
+-- an edge that none of some vertices touches
+pub missed_at : (vs : List ℕ) (k : ℕ) (e : GraphEdge) → k < length vs → touches_any vs e ≡ false → touches e (get_or vs k 0) ≡ false
+missed_at vs k e low none =
+    let parts = or_parts (holds vs e.u) (holds vs e.v) none in
+    let v : ℕ = get_or vs k 0 in
+    ap₂ (λ (a b : Bool). a || b)
+    (ne_eqb e.u v (λ p. both_ways (holds vs e.u) parts.0 (ap (holds vs) p ∙ holds_at vs k 0 low)))
+    (ne_eqb e.v v (λ p. both_ways (holds vs e.v) parts.1 (ap (holds vs) p ∙ holds_at vs k 0 low)))
 
 -- the edges at a vertex more are entered
 pub vertex_entered : (s r : Search) (v : ℕ) (vs : List ℕ) → r ≡ record s { queue = r.queue } → IsQueuedBut s (v ∷ vs)

@@ -9,7 +9,7 @@ ghost use Rattle.edge_queue.specs.Moments.{moment_of};
 ghost use Rattle.alt_forest.specs.State.{IsOutermost, slack_of};
 ghost use Rattle.alt_forest.specs.Ends.{IsNear, LeadsTo};
 ghost use Rattle.alt_forest.specs.Searches.{HasShape, IsSound, state_of, label_at};
-ghost use Rattle.alt_forest.specs.Entries.{NeedsMoment, IsEntered, IsBlossomEntered, IsQueued, IsQueuedBut, entry_count, ends_around};
+ghost use Rattle.alt_forest.specs.Entries.{NeedsMoment, IsEntered, IsBlossomEntered, IsQueued, IsQueuedBut, entry_count, ends_around, touches_any};
 
 use crate::label::Label;
 use crate::search::Search;
@@ -187,8 +187,9 @@ fn append(list: &mut Vec<VertexId>, vertices: Members<'_>)
 
 impl Search {
     /// Looks at the edges at each of the vertices in `scanned` and gives them the moments that they need
-    /// (chapter 26), but for those at vertices of inner nodes, which need none. Each end of an edge at these
-    /// vertices costs one look at most. It takes no memory.
+    /// (chapter 26), but for those at vertices of inner nodes, which need none. All other edges and each
+    /// blossom keep what they have. Each end of an edge at these vertices costs one look at most. It takes no
+    /// memory.
     pub fn enter_scanned<L: Ledger>(&mut self, graph: &Graph, steps: &mut Steps<L>)
         requires sound { IsSound self.old }
         requires same { graph.now ≡ self.old.graph }
@@ -198,6 +199,8 @@ impl Search {
         ensures sound { IsSound self.new }
         ensures queued { IsQueued self.new }
         ensures looks { steps.new ≤ steps.old + ends_around graph.now self.old.scanned.items }
+        ensures others { (e : ℕ) → IsEdgeNumber graph.now e → touches_any self.old.scanned.items (edge_of graph.now e) ≡ false → moment_of self.new.queue (OfEdge e) ≡ moment_of self.old.queue (OfEdge e) }
+        ensures blossoms { self.new.queue.blossoms ≡ self.old.queue.blossoms }
         ensures count { entry_count self.new.queue + steps.old ≤ entry_count self.old.queue + steps.new }
     {
         for place in 0..self.scanned.len() {

@@ -1,5 +1,5 @@
 -- A stale entry is dropped.
-use Rattle.std.proofs.Common.{◌≡◌, ◌+◌, ◌<◌, ◌≤◌, ℤ, eqb, Some, None, sym, ap, ◌∙◌, subst, arith}
+use Rattle.std.proofs.Common.{◌≡◌, ◌⊎◌, ◌+◌, ◌<◌, ◌≤◌, ℤ, eqb, Some, None, refl, sym, ap, ◌∙◌, subst, inl, inr, arith}
 use Rattle.std.proofs.lemmas.Bool.{eqb-true, eqb-false}
 use Rattle.blossom_arena.proofs.Lists.{by_test}
 use Rattle.edge_queue.specs.declared.item.Item.{Item}
@@ -23,6 +23,20 @@ none_stays q (Blossom b) (Edge d) is none = none
 none_stays q (Blossom b) (Blossom c) is none = by_test (eqb c b)
     (λ t. ap (λ k. moment_of (with_moment q (Blossom b) None) (Blossom k)) (eqb-true c b t) ∙ blossom_set q b None is)
     (λ t. blossom_other q b c None is (eqb-false c b t) ∙ none)
+
+-- each item has what it had, or none
+abbrev pub Drops : Moments → Moments → Type 0
+Drops q r = (item : Item) → (moment_of r item ≡ moment_of q item) ⊎ (moment_of r item ≡ None)
+
+pub drops_one : (q : Moments) (item : Item) → IsItem q item → Drops q (with_moment q item None)
+drops_one q (Edge e) is (Edge d) = by_test (eqb d e)
+    (λ t. inr (ap (λ k. moment_of (with_moment q (Edge e) None) (Edge k)) (eqb-true d e t) ∙ edge_set q e None is))
+    (λ t. inl (edge_other q e d None is (eqb-false d e t)))
+drops_one q (Edge e) is (Blossom c) = inl refl
+drops_one q (Blossom b) is (Edge d) = inl refl
+drops_one q (Blossom b) is (Blossom c) = by_test (eqb c b)
+    (λ t. inr (ap (λ k. moment_of (with_moment q (Blossom b) None) (Blossom k)) (eqb-true c b t) ∙ blossom_set q b None is))
+    (λ t. inl (blossom_other q b c None is (eqb-false c b t)))
 
 -- all else keeps what it needs
 pub dropped : (s : Search) (item : Item) → IsItem s.queue item → IsStale (state_of s) s.clock item → IsQueued s → IsQueued (record s { queue = with_moment s.queue item None })

@@ -1,7 +1,8 @@
-ghost use Rattle.std.specs.Prelude.{◌≡◌, ◌≢◌, ◌↔◌, ◌<◌, ◌≤◌, ◌+◌, ℕ, ℤ, pos, ◌+ℤ◌, ◌≤ℤ◌, true, false, None, Some};
+ghost use Rattle.std.specs.Prelude.{◌≡◌, ◌≢◌, ◌⊎◌, ◌↔◌, ◌<◌, ◌≤◌, ◌+◌, ℕ, ℤ, pos, ◌+ℤ◌, ◌≤ℤ◌, true, false, None, Some};
 ghost use Rattle.graph_theory.specs.Graph.{IsEdgeNumber};
 ghost use Rattle.graph_theory.specs.Parts.{holds};
 ghost use Rattle.blossom_arena.specs.Family.{names_of};
+ghost use Rattle.edge_queue.specs.declared.item.Item.{Item};
 ghost use Rattle.edge_queue.specs.declared.item.Item.TheVariants.{Blossom as OfBlossom};
 ghost use Rattle.edge_queue.specs.Moments.{moment_of, IsLeast};
 ghost use Rattle.alt_forest.specs.declared.label.Label.TheVariants.{Outer, Inner, Out};
@@ -166,6 +167,7 @@ fn drop_entry(search: &mut Search, item: Item)
     ensures rest { search.new ≡ record search.old { queue = search.new.queue } }
     ensures sound { IsSound search.new }
     ensures queued { IsQueued search.new }
+    ensures drops { (other : Item) → (moment_of search.new.queue other ≡ moment_of search.old.queue other) ⊎ (moment_of search.new.queue other ≡ None) }
     ensures left { entries_left search.new.queue < entries_left search.old.queue }
     ensures count { entry_count search.new.queue + item_looks item ≤ entry_count search.old.queue }
 {
@@ -178,9 +180,9 @@ fn drop_entry(search: &mut Search, item: Item)
 /// one tree, and else the matching is augmented; or the dual of an inner blossom comes to 0, so that it is
 /// expanded. The change for an edge between outer nodes is half of its slack, which is even. It answers
 /// `Stuck` where no change makes any of these possible. The graph is the one that the search was made for. It
-/// takes the least moments from the queue, drops entries that no edge or blossom needs any more, and looks
-/// once at each edge whose entry it takes, which is all that it counts. The entry of what comes stays. It
-/// takes no memory.
+/// takes the least moments from the queue, drops entries that no edge or blossom needs any more, enters
+/// none, and looks once at each edge whose entry it takes, which is all that it counts. The entry of what
+/// comes stays. It takes no memory.
 pub fn find<L: Ledger>(search: &mut Search, graph: &Graph, steps: &mut Steps<L>) -> Next
     requires sound { IsSound search.old }
     requires queued { IsQueued search.old }
@@ -192,6 +194,7 @@ pub fn find<L: Ledger>(search: &mut Search, graph: &Graph, steps: &mut Steps<L>)
     ensures rest { search.new ≡ record search.old { queue = search.new.queue } }
     ensures sound { IsSound search.new }
     ensures queued { IsQueued search.new }
+    ensures drops { (item : Item) → (moment_of search.new.queue item ≡ moment_of search.old.queue item) ⊎ (moment_of search.new.queue item ≡ None) }
     ensures standing { IsStanding search.new }
     ensures planted { IsPlanted (state_of search.new) }
     ensures count { entry_count search.new.queue + steps.new ≤ entry_count search.old.queue + steps.old + edge_looks result }

@@ -13,7 +13,7 @@ use Rattle.alt_forest.specs.State.{State, IsOutermost}
 use Rattle.alt_forest.specs.Entries.{IsEntered, IsBlossomEntered, IsQueued, IsQueuedBut, HasNoTree, touches_any, entered_among, entry_count}
 use Rattle.alt_forest.specs.Searches.{state_of}
 use Rattle.alt_forest.specs.Standing.{AreListed, IsSeed, IsStanding, seed_at}
-use Rattle.alt_forest.proofs.Queues.{edge_other, count_removed}
+use Rattle.alt_forest.proofs.Queues.{edge_set, edge_other, count_removed}
 
 -- the moments of all other edges and of the blossoms are what they have to be
 pub queued_but : (f k : Search) (t : State) (vs : List ℕ) → IsQueued f → state_of k ≡ t → k.clock ≡ f.clock → k.graph ≡ f.graph
@@ -56,6 +56,9 @@ each_vertex n vs each = all_holds (λ v. is_vertex n v ≡ true) vs each
 module _ (q r s : Moments) (e : ℕ) (item : IsItem r (OfEdge e)) (same : r.edges ≡ q.edges) (removed : s ≡ with_moment r (OfEdge e) None) where
   pub edges_stay : (d : ℕ) → d ≢ e → moment_of s (OfEdge d) ≡ moment_of q (OfEdge d)
   edges_stay d ne = ap (λ (m : Moments). moment_of m (OfEdge d)) removed ∙ edge_other r e d None item ne ∙ ap (λ xs. entry xs d) same
+
+  pub edge_gone : moment_of s (OfEdge e) ≡ None
+  edge_gone = ap (λ (m : Moments). moment_of m (OfEdge e)) removed ∙ edge_set r e None item
 
   pub blossoms_stay : (b : ℕ) → moment_of s (OfBlossom b) ≡ moment_of r (OfBlossom b)
   blossoms_stay b = ap (λ (m : Moments). moment_of m (OfBlossom b)) removed

@@ -18,7 +18,7 @@ use Rattle.alt_forest.specs.Events.{CanExpand}
 use Rattle.alt_forest.specs.Searches.{IsSound, state_of, label_at}
 use Rattle.alt_forest.specs.Standing.{AreListed, IsSeed, IsStanding, seed_at}
 use Rattle.alt_forest.proofs.Places.{nested_of}
-use Rattle.alt_forest.proofs.Queues.{node_item, blossom_other}
+use Rattle.alt_forest.proofs.Queues.{node_item, blossom_set, blossom_other}
 use Rattle.tree_steps.specs.Expanded.{IsExpanded, AreRootsOpened}
 use Rattle.tree_steps.proofs.Awaited.{queued_but, standing_after, each_vertex}
 use Rattle.tree_steps.proofs.ExpandedRoots.{from_on, from_off, opened_seed}
@@ -93,6 +93,10 @@ module _ (f f1 f2 f3 k : Search) (h : IsSound f) (h3 : IsSound f3) (b base : ℕ
           let range = node_range f.graph.vertices f.arena.blossoms b (nested_of f h.shape) (name_is_node f.graph.vertices f.arena.blossoms b can.blossom) in
           let same : f3.graph ≡ f.graph = cc in
           node_item f3 b h3.shape range.0 (subst (λ (g : Multigraph). b ≤ node_limit g.vertices) (sym same) range.1)
+
+      -- the blossom has no moment any more after the edges are looked at
+      pub expanded_taken : (q : Moments) → q.blossoms ≡ k.queue.blossoms → moment_of q (OfBlossom b) ≡ None
+      expanded_taken q same = ap (λ xs. entry xs b) same ∙ ap (λ (m : Moments). moment_of m (OfBlossom b)) queue4 ∙ blossom_set f3.queue b None item
 
       queue_first : f2.queue ≡ f.queue
       queue_first = cc

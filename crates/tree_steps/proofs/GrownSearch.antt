@@ -1,16 +1,16 @@
 -- What the parts of a grow make of a search.
-use Rattle.std.proofs.Common.{◌≡◌, ◌≢◌, ℕ, ℤ, ◌+◌, ◌+ℤ◌, true, List, Some, None, sym, ap, ◌∙◌, subst, ⊎_elim}
+use Rattle.std.proofs.Common.{◌≡◌, ◌≢◌, ℕ, ℤ, ◌+◌, ◌+ℤ◌, true, false, List, Some, None, sym, ap, ◌∙◌, subst, ⊎_elim}
 use Rattle.std.proofs.lemmas.Bool.{cases_eq}
-use Rattle.graph_theory.specs.Graph.{Multigraph, IsEdgeNumber}
+use Rattle.graph_theory.specs.Graph.{Multigraph, IsEdgeNumber, edge_of}
 use Rattle.graph_theory.specs.Parts.{holds}
 use Rattle.blossom_arena.specs.Family.{Blossom, is_node, members_of, names_of}
 use Rattle.blossom_arena.proofs.Nested.{outermost_parts}
 use Rattle.edge_queue.specs.declared.item.Item.TheVariants.{Edge as OfEdge, Blossom as OfBlossom}
-use Rattle.edge_queue.specs.Moments.{moment_of, with_moment, IsItem}
+use Rattle.edge_queue.specs.Moments.{Moments, moment_of, with_moment, IsItem}
 use Rattle.alt_forest.specs.declared.search.Search.{Search}
 use Rattle.alt_forest.specs.declared.label.Label.TheVariants.{Out}
 use Rattle.alt_forest.specs.State.{State, IsOutermost, IsMate, IsSearchState}
-use Rattle.alt_forest.specs.Entries.{IsBlossomEntered, IsQueued, IsQueuedBut, entry_count}
+use Rattle.alt_forest.specs.Entries.{IsBlossomEntered, IsQueued, IsQueuedBut, entry_count, touches_any}
 use Rattle.alt_forest.specs.Events.{CanGrow}
 use Rattle.alt_forest.specs.Searches.{IsSound, state_of, label_at}
 use Rattle.alt_forest.specs.Standing.{AreListed, IsSeed, IsStanding, seed_at}
@@ -18,9 +18,9 @@ use Rattle.alt_forest.proofs.Places.{nested_of}
 use Rattle.alt_forest.proofs.Queues.{edge_item}
 use Rattle.alt_forest.proofs.Relabelled.{inner_not_out, outer_not_out}
 use Rattle.tree_steps.specs.Grown.{grown}
-use Rattle.tree_steps.proofs.Awaited.{queued_but, HasSeed, standing_after, edges_stay, blossoms_stay, one_less}
+use Rattle.tree_steps.proofs.Awaited.{queued_but, HasSeed, standing_after, edges_stay, edge_gone, blossoms_stay, one_less}
 use Rattle.tree_steps.proofs.GrownRoots.{far_seed, mate_seed, other_seed}
-use Rattle.tree_steps.proofs.QueuedGrow.{far_now, mate_now, grown_tree, grown_entered, grown_blossom, grown_trees}
+use Rattle.tree_steps.proofs.QueuedGrow.{far_now, mate_now, grown_tree, grown_missed, grown_entered, grown_blossom, grown_trees}
 
 -- f is the search before, f1 where the labels are written, f2 and f3 where the node and its mate are listed, f4 where the
 -- edge's moment is gone, and k where the mate's vertices are noted
@@ -70,6 +70,15 @@ module _ (f f1 f2 f3 f4 k : Search) (h : IsSound f) (e mate : ℕ) (can : CanGro
     -- the edge had a moment
     pub grown_count : entry_count k.queue + 1 ≡ entry_count f.queue
     grown_count = one_less f.queue f3.queue k.queue e item before removed _ ((queued.edges e can.tight.edge).to_out can.near can.far can.joins can.near_outer can.far_out)
+
+    -- it has none any more after the mate's edges are looked at
+    pub grown_taken : (d : Multigraph) (q : Moments) → d ≡ f.graph → k.scanned.items ≡ members_of f4.arena.blossoms mate
+        → ((a : ℕ) → IsEdgeNumber d a → touches_any k.scanned.items (edge_of d a) ≡ false → moment_of q (OfEdge a) ≡ moment_of k.queue (OfEdge a)) → moment_of q (OfEdge e) ≡ None
+    grown_taken d q same scanned others =
+        others e (subst (λ (g : Multigraph). IsEdgeNumber g e) (sym same) can.tight.edge)
+        (ap (λ (g : Multigraph). touches_any k.scanned.items (edge_of g e)) same ∙ ap (λ vs. touches_any vs (edge_of f.graph e)) (grown_scanned scanned)
+        ∙ grown_missed (state_of f) e mate can pair h.shape.graph.graph (nested_of f h.shape) h.depth h.state)
+        ∙ edge_gone f.queue f3.queue k.queue e item before removed
 
     pub grown_queued : (entered : holds (names_of f1.arena.blossoms) can.far ≡ true → IsBlossomEntered (state_of f1) f1.clock f2.queue can.far)
         → ((b : ℕ) → b ≢ can.far → moment_of f2.queue (OfBlossom b) ≡ moment_of f1.queue (OfBlossom b))

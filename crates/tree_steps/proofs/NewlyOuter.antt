@@ -4,7 +4,7 @@ use Rattle.std.proofs.lemmas.Bool.{eqb-true, or_cases, or_left, or_right, both_w
 use Rattle.graph_theory.specs.Parts.{holds}
 use Rattle.graph_theory.proofs.Members.{holds-append}
 use Rattle.blossom_arena.specs.declared.links.Link.{Link}
-use Rattle.blossom_arena.specs.Family.{IsNested, IsCircuit, is_vertex, is_outermost, in_ring, nodes_of, members_of}
+use Rattle.blossom_arena.specs.Family.{IsNested, IsCircuit, is_vertex, is_outermost, in_ring, nodes_of, members_of, outermost}
 use Rattle.blossom_arena.proofs.Lists.{by_test, AllNew, new-append, new_from_distinct, first_in, later_in, length-within, vertices, holds-vertices, length-vertices}
 use Rattle.blossom_arena.proofs.Nested.{circuit_outer, outermost_parts}
 use Rattle.blossom_arena.proofs.Sets.{member_vertex, members_new, outermost_by_member}
@@ -71,6 +71,13 @@ module _ (s : State) (ring : List Link) (h : IsNested s.graph.vertices s.blossom
 
   pub newly_new : AllNew (newly_outer s ring)
   newly_new = newly_new_of s ring h (new_from_distinct (nodes_of ring) circuit.different) outer_in
+
+  -- a vertex of an outer node is none of them
+  pub newly_misses : (v : ℕ) → s.label (outermost s.blossoms v) ≡ Outer → holds (newly_outer s ring) v ≡ false
+  newly_misses v outer = false_from_ne_true (holds (newly_outer s ring) v) (λ m.
+      let r = of_newly s ring v m in
+      let at : outermost s.blossoms v ≡ r.node = outermost_by_member s.graph.vertices s.blossoms r.node v h (outer_in r.node r.within) r.has in
+      both_ways (is_label (s.label r.node) Outer) r.low (ap (λ a. is_label (s.label a) Outer) (sym at) ∙ ap (λ l. is_label l Outer) outer))
 
   pub newly_vertex : (v : ℕ) → holds (newly_outer s ring) v ≡ true → is_vertex s.graph.vertices v ≡ true
   newly_vertex v m = let r = of_newly s ring v m in member_vertex s.graph.vertices s.blossoms r.node v h (outermost_parts s.graph.vertices s.blossoms r.node (outer_in r.node r.within)).0 r.has

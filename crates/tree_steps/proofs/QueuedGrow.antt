@@ -1,16 +1,16 @@
 -- The moments after a grow: only edges at the vertices of the mate have still to be looked at, and the node that becomes
 -- inner.
-use Rattle.std.proofs.Common.{◌≡◌, ◌≢◌, ℕ, ℤ, true, false, refl, sym, ap, ◌∙◌, subst, ⊎_elim, inl, inr}
-use Rattle.std.proofs.lemmas.Bool.{cases_eq, both_ways, or_parts}
+use Rattle.std.proofs.Common.{◌≡◌, ◌≢◌, ◌⊎◌, ◌||◌, ℕ, ℤ, Bool, true, false, refl, sym, ap, ap₂, ◌∙◌, subst, ⊎_elim, inl, inr}
+use Rattle.std.proofs.lemmas.Bool.{cases_eq, both_ways, or_parts, false_from_ne_true}
 use Rattle.graph_theory.specs.Graph.{IsGraph, IsEdgeNumber, edge_of}
 use Rattle.graph_theory.specs.Parts.{holds}
 use Rattle.blossom_arena.specs.Family.{IsNested, is_vertex, members_of, outermost}
 use Rattle.blossom_arena.proofs.Ends.{u_vertex, v_vertex}
-use Rattle.blossom_arena.proofs.Sets.{outermost_has}
+use Rattle.blossom_arena.proofs.Sets.{outermost_has, outermost_by_member}
 use Rattle.edge_queue.specs.declared.item.Item.TheVariants.{Edge as OfEdge, Blossom as OfBlossom}
 use Rattle.edge_queue.specs.Moments.{Moments, moment_of}
 use Rattle.alt_forest.specs.declared.label.Label.TheVariants.{Outer, Inner, Out}
-use Rattle.alt_forest.specs.State.{State, IsOutermost, IsMate, Joins}
+use Rattle.alt_forest.specs.State.{State, IsOutermost, IsMate, IsSearchState, Joins}
 use Rattle.alt_forest.specs.Entries.{NeedsMoment, IsEntered, IsBlossomEntered, HasNoTree, touches_any}
 use Rattle.alt_forest.specs.Events.{CanGrow}
 use Rattle.alt_forest.specs.Searches.{put}
@@ -48,6 +48,19 @@ module _ (s : State) (e mate : ℕ) (g : CanGrow s e) (pair : IsMate s g.far g.m
         (λ off_mate. inr (others_now o off_far off_mate))
         (cases_eq o mate))
         (cases_eq o g.far)
+
+    -- an end in a node that is not the mate is no vertex of the mate
+    not_of_mate : (v x : ℕ) → outermost s.blossoms v ≡ x → x ≢ mate → holds (members_of s.blossoms mate) v ≡ false
+    not_of_mate v x is off = false_from_ne_true (holds (members_of s.blossoms mate) v) (λ m. off (sym is ∙ outermost_by_member s.graph.vertices s.blossoms mate v h pair.outer m))
+
+    -- no end of the edge is a vertex of the mate
+    pub grown_missed : (depth : ℕ → ℕ) → IsSearchState s depth → touches_any (members_of s.blossoms mate) (edge_of s.graph e) ≡ false
+    grown_missed depth st =
+        let mate_out : s.label mate ≡ Out = (st.labels g.far g.far_is).out g.far_out g.mate_edge mate g.has_mate pair in
+        let near_off : g.near ≢ mate = λ q. outer_not_out (sym g.near_outer ∙ ap s.label q ∙ mate_out) in
+        ap₂ (λ (a b : Bool). a || b)
+        (⊎_elim (λ p. not_of_mate (edge_of s.graph e).u g.near p.0 near_off) (λ p. not_of_mate (edge_of s.graph e).u g.far p.0 pair.different) g.joins)
+        (⊎_elim (λ p. not_of_mate (edge_of s.graph e).v g.far p.1 pair.different) (λ p. not_of_mate (edge_of s.graph e).v g.near p.1 near_off) g.joins)
 
     pub grown_entered : (clock : ℤ) (q r : Moments) → ((d : ℕ) → IsEdgeNumber s.graph d → IsEntered s clock q d) → ((d : ℕ) → d ≢ e → moment_of r (OfEdge d) ≡ moment_of q (OfEdge d))
         → (d : ℕ) → IsEdgeNumber s.graph d → touches_any (members_of s.blossoms mate) (edge_of s.graph d) ≡ false → IsEntered t clock r d

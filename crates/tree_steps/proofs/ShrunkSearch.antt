@@ -1,17 +1,17 @@
 -- What the parts of a shrink make of a search.
-use Rattle.std.proofs.Common.{◌≡◌, ◌≢◌, ℕ, ◌+◌, ◌≤◌, pos, ◌+ℤ◌, true, List, All, Some, None, sym, ap, ◌∙◌, subst, ⊎_elim, inl, arith}
+use Rattle.std.proofs.Common.{◌≡◌, ◌≢◌, ℕ, ◌+◌, ◌≤◌, ◌||◌, pos, ◌+ℤ◌, Bool, true, false, List, All, Some, None, sym, ap, ap₂, ◌∙◌, subst, ⊎_elim, inl, arith}
 use Rattle.std.proofs.lemmas.Bool.{cases_eq}
 use Rattle.std.proofs.lemmas.Int.{ints}
 use Rattle.graph_theory.specs.Graph.{Multigraph, IsEdgeNumber, edge_of}
 use Rattle.blossom_arena.specs.Family.{IsNested, is_vertex, in_ring, outermost, ring_of}
 use Rattle.edge_queue.specs.declared.item.Item.TheVariants.{Edge as OfEdge, Blossom as OfBlossom}
-use Rattle.edge_queue.specs.Moments.{moment_of, with_moment, IsItem}
-use Rattle.alt_forest.specs.declared.label.Label.TheVariants.{Out}
+use Rattle.edge_queue.specs.Moments.{Moments, moment_of, with_moment, IsItem}
+use Rattle.alt_forest.specs.declared.label.Label.TheVariants.{Outer, Out}
 use Rattle.alt_forest.specs.declared.search.Search.{Search}
-use Rattle.alt_forest.specs.State.{State, Joins, node_u}
+use Rattle.alt_forest.specs.State.{State, Joins, node_u, node_v}
 use Rattle.alt_forest.specs.Trees.{root_of}
 use Rattle.blossom_arena.specs.declared.links.Link.{Link}
-use Rattle.alt_forest.specs.Entries.{IsQueued, IsQueuedBut, ends_around, entry_count, looks_left}
+use Rattle.alt_forest.specs.Entries.{IsQueued, IsQueuedBut, ends_around, entry_count, looks_left, touches_any}
 use Rattle.alt_forest.specs.Events.{CanShrink}
 use Rattle.alt_forest.specs.Searches.{IsSound, state_of, label_at}
 use Rattle.alt_forest.specs.Standing.{AreListed, IsSeed, IsStanding, seed_at}
@@ -21,9 +21,9 @@ use Rattle.alt_forest.proofs.Relabelled.{outer_not_out}
 use Rattle.tree_steps.specs.Circuits.{closed_by}
 use Rattle.tree_steps.specs.Scanned.{newly_outer}
 use Rattle.tree_steps.specs.Shrinkable.{IsShrunk}
-use Rattle.tree_steps.proofs.Awaited.{queued_but, HasSeed, standing_after, edges_stay, blossoms_stay, one_less, each_vertex}
+use Rattle.tree_steps.proofs.Awaited.{queued_but, HasSeed, standing_after, edges_stay, edge_gone, blossoms_stay, one_less, each_vertex}
 use Rattle.tree_steps.proofs.CountedShrink.{shrunk_looks}
-use Rattle.tree_steps.proofs.NewlyOuter.{newly_vertex}
+use Rattle.tree_steps.proofs.NewlyOuter.{newly_misses, newly_vertex}
 use Rattle.tree_steps.proofs.ShrunkRoots.{shrunk_new_seed, shrunk_other_seed}
 use Rattle.tree_steps.proofs.QueuedShrink.{shrunk_tree, shrunk_entered, shrunk_blossom, shrunk_in_tree, shrunk_label, shrunk_ring}
 
@@ -57,6 +57,17 @@ module _ (f f1 f2 k : Search) (h : IsSound f) (h1 : IsSound f1) (h2 : IsSound f2
         (subst (λ vs. All (λ v. is_vertex f.graph.vertices v ≡ true) vs) (sym vertices_are)
         (each_vertex f.graph.vertices (newly_outer (state_of f) x.ring) (newly_vertex (state_of f) x.ring (nested_of f h.shape) x.can.shrinkable.circuit)))
 
+    -- no end of the edge is one of these
+    missed : touches_any k.scanned.items (edge_of f.graph e) ≡ false
+    missed =
+        let s : State = state_of f in
+        let u_outer : s.label (node_u f.graph f.arena.blossoms e) ≡ Outer = ⊎_elim (λ p. ap s.label p.0 ∙ can.one_outer) (λ p. ap s.label p.0 ∙ can.other_outer) can.joins in
+        let v_outer : s.label (node_v f.graph f.arena.blossoms e) ≡ Outer = ⊎_elim (λ p. ap s.label p.1 ∙ can.other_outer) (λ p. ap s.label p.1 ∙ can.one_outer) can.joins in
+        ap (λ vs. touches_any vs (edge_of f.graph e)) vertices_are
+        ∙ ap₂ (λ (a b : Bool). a || b)
+        (newly_misses s x.ring (nested_of f h.shape) x.can.shrinkable.circuit (edge_of f.graph e).u u_outer)
+        (newly_misses s x.ring (nested_of f h.shape) x.can.shrinkable.circuit (edge_of f.graph e).v v_outer)
+
     pub shrunk_ends : (g : Multigraph) → g ≡ f.graph → ends_around g k.scanned.items + looks_left (state_of f1) ≤ looks_left (state_of f)
     shrunk_ends g same =
         let ends : ends_around g k.scanned.items ≡ ends_around f.graph (newly_outer (state_of f) x.ring) = ap (λ (d : Multigraph). ends_around d k.scanned.items) same ∙ ap (ends_around f.graph) vertices_are in
@@ -78,6 +89,13 @@ module _ (f f1 f2 k : Search) (h : IsSound f) (h1 : IsSound f1) (h2 : IsSound f2
           let twice : pos 0 ≡ pos 0 +ℤ pos 0 = omega (arith, ints) in
           one_less f.queue f2.queue k.queue e item before queue3 _
           ((queued.edges e can.tight.edge).between can.one can.other (pos 0) can.joins can.different can.one_outer can.other_outer (can.tight.tight ∙ twice))
+
+      -- it has none any more after the edges are looked at
+      pub shrunk_taken : (d : Multigraph) (q : Moments) → d ≡ f.graph
+          → ((a : ℕ) → IsEdgeNumber d a → touches_any k.scanned.items (edge_of d a) ≡ false → moment_of q (OfEdge a) ≡ moment_of k.queue (OfEdge a)) → moment_of q (OfEdge e) ≡ None
+      shrunk_taken d q same others =
+          others e (subst (λ (g : Multigraph). IsEdgeNumber g e) (sym same) can.tight.edge) (ap (λ (g : Multigraph). touches_any k.scanned.items (edge_of g e)) same ∙ missed)
+          ∙ edge_gone f.queue f2.queue k.queue e item before queue3
 
       pub shrunk_queued : outermost f1.arena.blossoms (edge_of f.graph e).u ≡ node → outermost f1.arena.blossoms (edge_of f.graph e).v ≡ node
           → ((b : ℕ) → b ≢ node → moment_of f2.queue (OfBlossom b) ≡ moment_of f1.queue (OfBlossom b)) → IsQueuedBut k k.scanned.items

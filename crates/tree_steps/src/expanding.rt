@@ -1,9 +1,11 @@
-ghost use Rattle.std.specs.Prelude.{◌≡◌, ◌<◌, ◌≤◌, ◌+◌, ◌%◌, ◌⊎◌, ℕ, true, length, take, drop};
+ghost use Rattle.std.specs.Prelude.{◌≡◌, ◌<◌, ◌≤◌, ◌+◌, ◌%◌, ◌⊎◌, ℕ, true, None, length, take, drop};
 ghost use Rattle.std.specs.List.{AllByRecursion};
 ghost use Rattle.graph_theory.specs.Graph.{IsEdgeNumber};
 ghost use Rattle.graph_theory.specs.Parts.{holds};
 ghost use Rattle.blossom_arena.specs.declared.links.Link.{Link};
 ghost use Rattle.blossom_arena.specs.Family.{in_ring, is_vertex, members_of, names_of, nodes_of, ring_of, dissolved};
+ghost use Rattle.edge_queue.specs.declared.item.Item.TheVariants.{Blossom as OfBlossom};
+ghost use Rattle.edge_queue.specs.Moments.{moment_of};
 ghost use Rattle.alt_forest.specs.State.{node_u, node_v};
 ghost use Rattle.alt_forest.specs.Trees.{node_limit};
 ghost use Rattle.alt_forest.specs.Counts.{is_outside, outside_among, tree_count, exposed_count, measure, IsPlanted};
@@ -120,9 +122,9 @@ fn lay_open(search: &mut Search, b: NodeId) -> NodeId
 /// Expands `b`, an inner blossom of dual 0, in a search over `graph` (chapters 24 and 26): the blossom is
 /// taken away and its circuit lies open. The way of even length along it between the node that holds the
 /// end of the blossom's mate and the node that holds the end of its parent comes into the tree, and the
-/// circuit's other nodes are mates two by two and labelled out. It looks at the edges at the blossom's
-/// vertices, which get their moments, but for those in inner nodes. It counts a step for each look and one
-/// for the event, takes no memory, and there is no error.
+/// circuit's other nodes are mates two by two and labelled out. The blossom has no moment any more. It looks
+/// at the edges at the blossom's vertices, which get their moments, but for those in inner nodes. It counts a
+/// step for each look and one for the event, takes no memory, and there is no error.
 pub fn expand<L: Ledger>(search: &mut Search, graph: &Graph, b: NodeId, steps: &mut Steps<L>)
     requires sound { IsSound search.old }
     requires queued { IsQueued search.old }
@@ -133,6 +135,7 @@ pub fn expand<L: Ledger>(search: &mut Search, graph: &Graph, b: NodeId, steps: &
     ensures rest { search.new ≡ record search.old { arena = record search.old.arena { blossoms = search.new.arena.blossoms }; labels = search.new.labels; parents = search.new.parents; mates = search.new.mates; circuit = search.new.circuit; queue = search.new.queue; standing = search.new.standing; seeds = search.new.seeds; scanned = search.new.scanned } }
     ensures sound { IsSound search.new }
     ensures queued { IsQueued search.new }
+    ensures taken { moment_of search.new.queue (OfBlossom b) ≡ None }
     ensures standing { IsStanding search.new }
     ensures trees { tree_count (state_of search.new) ≡ tree_count (state_of search.old) }
     ensures exposed { exposed_count (state_of search.new) ≡ exposed_count (state_of search.old) }

@@ -1,5 +1,7 @@
-ghost use Rattle.std.specs.Prelude.{◌≡◌, ◌≢◌, ◌<◌, ◌≤◌, ◌+◌, ℕ, true, Some, length};
+ghost use Rattle.std.specs.Prelude.{◌≡◌, ◌≢◌, ◌<◌, ◌≤◌, ◌+◌, ℕ, true, Some, None, length};
 ghost use Rattle.blossom_arena.specs.Family.{is_vertex};
+ghost use Rattle.edge_queue.specs.declared.item.Item.TheVariants.{Edge as OfEdge};
+ghost use Rattle.edge_queue.specs.Moments.{moment_of};
 ghost use Rattle.alt_forest.specs.declared.label.Label.TheVariants.{Outer, Inner};
 ghost use Rattle.alt_forest.specs.State.{IsOutermost, IsMate};
 ghost use Rattle.alt_forest.specs.Counts.{is_outside, outside_among, tree_count, exposed_count, measure, IsPlanted};
@@ -83,8 +85,9 @@ fn take_in(search: &mut Search, e: EdgeId) -> (NodeId, NodeId)
 }
 
 /// Takes into a tree the node labelled out at the far end of a tight edge, which becomes inner, and its
-/// mate, which becomes outer (chapter 24). It looks at the edges at the mate's vertices, which get their
-/// moments, counts a step for each look and one for the event, and takes no memory.
+/// mate, which becomes outer (chapter 24). The edge has no moment any more. It looks at the edges at the
+/// mate's vertices, which get their moments, counts a step for each look and one for the event, and takes no
+/// memory.
 pub fn grow<L: Ledger>(search: &mut Search, graph: &Graph, e: EdgeId, steps: &mut Steps<L>)
     requires sound { IsSound search.old }
     requires queued { IsQueued search.old }
@@ -95,6 +98,7 @@ pub fn grow<L: Ledger>(search: &mut Search, graph: &Graph, e: EdgeId, steps: &mu
     ensures rest { search.new ≡ record search.old { labels = search.new.labels; parents = search.new.parents; queue = search.new.queue; standing = search.new.standing; seeds = search.new.seeds; scanned = search.new.scanned } }
     ensures sound { IsSound search.new }
     ensures queued { IsQueued search.new }
+    ensures taken { moment_of search.new.queue (OfEdge e) ≡ None }
     ensures standing { IsStanding search.new }
     ensures trees { tree_count (state_of search.new) ≡ tree_count (state_of search.old) }
     ensures exposed { exposed_count (state_of search.new) ≡ exposed_count (state_of search.old) }

@@ -1,6 +1,8 @@
-ghost use Rattle.std.specs.Prelude.{◌≡◌, ◌≢◌, ◌<◌, ◌≤◌, ◌+◌, ℕ, true, Some, length};
+ghost use Rattle.std.specs.Prelude.{◌≡◌, ◌≢◌, ◌<◌, ◌≤◌, ◌+◌, ℕ, true, Some, None, length};
 ghost use Rattle.graph_theory.specs.Graph.{IsEdgeNumber, edge_of};
 ghost use Rattle.blossom_arena.specs.Family.{in_ring, is_vertex, outermost, made_of, ring_of};
+ghost use Rattle.edge_queue.specs.declared.item.Item.TheVariants.{Edge as OfEdge};
+ghost use Rattle.edge_queue.specs.Moments.{moment_of};
 ghost use Rattle.alt_forest.specs.declared.label.Label.TheVariants.{Outer, Out};
 ghost use Rattle.alt_forest.specs.State.{IsOutermost, node_u};
 ghost use Rattle.alt_forest.specs.Trees.{path_of, root_of, first_common};
@@ -89,9 +91,9 @@ fn close_by(search: &mut Search, e: EdgeId) -> NodeId
 }
 
 /// Makes one node of the circuit that a tight edge between two different outer nodes of one tree closes:
-/// the two ways up to where they meet (chapter 24). It looks at the edges at the vertices that come into
-/// an outer node by that, which get their moments, and counts a step for each look and one for the event.
-/// It answers the new node, and takes no memory.
+/// the two ways up to where they meet (chapter 24). The edge has no moment any more. It looks at the edges at
+/// the vertices that come into an outer node by that, which get their moments, and counts a step for each
+/// look and one for the event. It answers the new node, and takes no memory.
 pub fn shrink<L: Ledger>(
     search: &mut Search,
     graph: &Graph,
@@ -110,6 +112,7 @@ pub fn shrink<L: Ledger>(
     ensures rest { search.new ≡ record search.old { arena = search.new.arena; labels = search.new.labels; mates = search.new.mates; circuit = search.new.circuit; queue = search.new.queue; standing = search.new.standing; seeds = search.new.seeds; scanned = search.new.scanned } }
     ensures sound { IsSound search.new }
     ensures queued { IsQueued search.new }
+    ensures taken { moment_of search.new.queue (OfEdge e) ≡ None }
     ensures standing { IsStanding search.new }
     ensures trees { tree_count (state_of search.new) ≡ tree_count (state_of search.old) }
     ensures exposed { exposed_count (state_of search.new) ≡ exposed_count (state_of search.old) }

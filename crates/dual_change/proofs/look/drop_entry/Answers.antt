@@ -6,7 +6,7 @@ use Rattle.alt_forest.specs.Searches.{IsSound}
 use Rattle.alt_forest.specs.Entries.{IsQueued, entry_count}
 use Rattle.alt_forest.proofs.Queues.{sound_set}
 use Rattle.dual_change.specs.Candidates.{entries_left}
-use Rattle.dual_change.proofs.Dropped.{dropped, one_dropped, looks_dropped}
+use Rattle.dual_change.proofs.Dropped.{Drops, dropped, drops_one, one_dropped, looks_dropped}
 use Rattle.dual_change.proofs.look.drop_entry.Goals as goal
 
 pub remove-requires : goal.remove-requires
@@ -22,6 +22,11 @@ returns-clause-queued c =
     let s : Search = c.args.search.now in
     let place = only_items_have s.queue c.args.item c.requires.has.0 c.requires.has.1 in
     subst (λ (q : Moments). IsQueued (record s { queue = q })) (sym c.remove.ensures) (dropped s c.args.item place c.requires.stale c.requires.queued)
+
+pub returns-clause-drops : goal.returns-clause-drops
+returns-clause-drops c =
+    let s : Search = c.args.search.now in
+    subst (Drops s.queue) (sym c.remove.ensures) (drops_one s.queue c.args.item (only_items_have s.queue c.args.item c.requires.has.0 c.requires.has.1))
 
 pub returns-clause-left : goal.returns-clause-left
 returns-clause-left c =

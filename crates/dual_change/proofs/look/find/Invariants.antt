@@ -2,6 +2,7 @@ use Rattle.std.proofs.Common.{◌≡◌, ◌+◌, ◌≤◌}
 use Rattle.alt_forest.specs.Searches.{IsSound}
 use Rattle.alt_forest.specs.Entries.{IsQueued, entry_count}
 use Rattle.dual_change.specs.Candidates.{entries_left}
+use Rattle.dual_change.proofs.Dropped.{Drops}
 use Rattle.dual_change.proofs.look.find.Given as goal
 
 abbrev pub invariant-loop-item : goal.invariant-loop-item
@@ -9,6 +10,7 @@ invariant-loop-item g l = record {
   rest : l.search ≡ record l.fn.search { queue = l.search.queue };
   sound : IsSound l.search;
   queued : IsQueued l.search;
+  drops : Drops l.fn.search.queue l.search.queue;
   count : entry_count l.search.queue + l.steps ≤ entry_count l.fn.search.queue + l.fn.steps;
 }
 

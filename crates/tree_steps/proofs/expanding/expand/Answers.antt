@@ -14,7 +14,7 @@ use Rattle.tree_steps.specs.Expanded.{IsExpanded}
 use Rattle.tree_steps.proofs.Counted.{outside_before}
 use Rattle.tree_steps.proofs.CountedExpand.{expand_inside, expand_blossoms, expand_looks}
 use Rattle.tree_steps.proofs.ExpandedRoots.{expanded_planted}
-use Rattle.tree_steps.proofs.ExpandedSearch.{expanded_is, expanded_same, base_outer, circuit_outer, vertices_are, expanded_vertices, expanded_queued, expanded_standing}
+use Rattle.tree_steps.proofs.ExpandedSearch.{expanded_is, expanded_same, base_outer, circuit_outer, vertices_are, expanded_vertices, expanded_queued, expanded_taken, expanded_standing}
 use Rattle.tree_steps.proofs.expanding.expand.Given.{Over}
 use Rattle.tree_steps.proofs.expanding.expand.Goals as goal
 
@@ -43,6 +43,12 @@ pub enter_scanned-requires-clause-queued : goal.enter_scanned-requires-clause-qu
 enter_scanned-requires-clause-queued g c = expanded_queued c.args.search.now c.scan_node.new.search c.lay_open-base.new.search c.enlist_circuit.new.search c.drop_entry.new.search c.requires.sound c.enlist_circuit.ensures.sound c.args.b c.lay_open-base.result c.requires.can c.lay_open-base.ensures.expanded
     c.scan_node.ensures.rest c.lay_open-base.ensures.rest c.enlist_circuit.ensures.rest c.drop_entry.ensures.rest c.lay_open-base.ensures.base c.lay_open-base.ensures.circuit c.lay_open-base.ensures.all
     c.scan_node.ensures.scanned c.requires.queued c.drop_entry.ensures.queue c.enlist_circuit.ensures.edges c.enlist_circuit.ensures.entered c.enlist_circuit.ensures.others
+
+pub returns-clause-taken : goal.returns-clause-taken
+returns-clause-taken g c = expanded_taken c.args.search.now c.scan_node.new.search c.lay_open-base.new.search c.enlist_circuit.new.search c.drop_entry.new.search c.requires.sound c.enlist_circuit.ensures.sound c.args.b c.lay_open-base.result c.requires.can c.lay_open-base.ensures.expanded
+    c.scan_node.ensures.rest c.lay_open-base.ensures.rest c.enlist_circuit.ensures.rest c.drop_entry.ensures.rest c.lay_open-base.ensures.base c.lay_open-base.ensures.circuit c.lay_open-base.ensures.all
+    c.scan_node.ensures.scanned c.requires.queued c.drop_entry.ensures.queue c.enlist_circuit.ensures.edges c.enlist_circuit.ensures.entered c.enlist_circuit.ensures.others
+    c.enter_scanned.new.self.queue c.enter_scanned.ensures.blossoms
 
 pub returns-clause-standing : goal.returns-clause-standing
 returns-clause-standing g c =

@@ -17,7 +17,7 @@ use Rattle.tree_steps.proofs.Awaited.{each_vertex}
 use Rattle.tree_steps.proofs.Counted.{KeepsOuter, outside_before}
 use Rattle.tree_steps.proofs.CountedGrow.{grow_inside, grow_blossoms, grow_looks}
 use Rattle.tree_steps.proofs.GrownRoots.{grown_planted}
-use Rattle.tree_steps.proofs.GrownSearch.{grown_state, grown_node, grown_scanned, grown_count, grown_queued, grown_standing}
+use Rattle.tree_steps.proofs.GrownSearch.{grown_state, grown_node, grown_scanned, grown_count, grown_queued, grown_taken, grown_standing}
 use Rattle.tree_steps.proofs.growth.grow.Goals as goal
 
 pub enlist-requires-clause-outer : goal.enlist-requires-clause-outer
@@ -89,6 +89,16 @@ returns-clause-standing g c =
     c.take_in-far.ensures.sound c.near_seed-seed.result (c.near_seed-seed.ensures can) c.requires.standing c.enlist-2.ensures.listed
     (λ a ne. c.enlist.ensures.keeps a (λ at. ne (at ∙ far))) c.enlist-2.ensures.keeps
     (subst (λ a. label_at f1.labels.items a ≢ Out → seed_at f2.seeds.items a ≡ Some c.near_seed-seed.result) far c.enlist.ensures.there) c.enlist-2.ensures.there))
+
+pub returns-clause-taken : goal.returns-clause-taken
+returns-clause-taken g c =
+    let can = c.requires.can in
+    let mate = c.take_in-far.result.1 in
+    let pair = c.take_in-far.ensures.mate can in
+    grown_taken c.args.search.now c.take_in-far.new.search c.enlist.new.search c.enlist-2.new.search c.drop_entry.new.search c.scan_node.new.search c.requires.sound c.args.e mate can pair
+    c.take_in-far.ensures.rest c.enlist.ensures.rest c.enlist-2.ensures.rest c.drop_entry.ensures.rest c.scan_node.ensures.rest (c.take_in-far.ensures.grown can mate pair)
+    c.enlist-2.ensures.sound c.requires.queued c.drop_entry.ensures.queue c.enlist.ensures.edges c.enlist-2.ensures.edges
+    c.args.graph.now c.enter_scanned.new.self.queue c.requires.same c.scan_node.ensures.scanned c.enter_scanned.ensures.others
 
 pub returns-clause-planted : goal.returns-clause-planted
 returns-clause-planted g c = λ was.

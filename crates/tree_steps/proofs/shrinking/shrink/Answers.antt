@@ -10,7 +10,7 @@ use Rattle.tree_steps.proofs.Counted.{KeepsOuter, outside_before}
 use Rattle.tree_steps.proofs.CountedShrink.{shrunk_inside, shrunk_blossoms}
 use Rattle.tree_steps.proofs.QueuedShrink.{shrunk_outer}
 use Rattle.tree_steps.proofs.ShrunkRoots.{shrunk_planted}
-use Rattle.tree_steps.proofs.ShrunkSearch.{shrunk_same, shrunk_vertices, shrunk_ends, shrunk_count, shrunk_queued, shrunk_standing}
+use Rattle.tree_steps.proofs.ShrunkSearch.{shrunk_same, shrunk_vertices, shrunk_ends, shrunk_count, shrunk_queued, shrunk_standing, shrunk_taken}
 use Rattle.tree_steps.proofs.shrinking.shrink.Given.{Over}
 use Rattle.tree_steps.proofs.shrinking.shrink.Goals as goal
 
@@ -30,6 +30,13 @@ enter_scanned-requires-clause-queued g c =
     shrunk_queued c.args.search.now c.close_by-node.new.search c.enlist.new.search c.drop_entry.new.search c.requires.sound c.close_by-node.ensures.sound c.enlist.ensures.sound c.args.e c.close_by-node.result c.requires.can c.close_by-node.ensures.shrunk
     c.close_by-node.ensures.rest c.enlist.ensures.rest c.drop_entry.ensures.rest
     c.close_by-node.ensures.circuit c.close_by-node.ensures.scanned c.requires.queued c.drop_entry.ensures.queue c.enlist.ensures.edges c.close_by-node.ensures.holds_u c.close_by-node.ensures.holds_v c.enlist.ensures.others
+
+pub returns-clause-taken : goal.returns-clause-taken
+returns-clause-taken g c =
+    shrunk_taken c.args.search.now c.close_by-node.new.search c.enlist.new.search c.drop_entry.new.search c.requires.sound c.close_by-node.ensures.sound c.enlist.ensures.sound c.args.e c.close_by-node.result c.requires.can c.close_by-node.ensures.shrunk
+    c.close_by-node.ensures.rest c.enlist.ensures.rest c.drop_entry.ensures.rest
+    c.close_by-node.ensures.circuit c.close_by-node.ensures.scanned c.requires.queued c.drop_entry.ensures.queue c.enlist.ensures.edges
+    c.args.graph.now c.enter_scanned.new.self.queue c.requires.same c.enter_scanned.ensures.others
 
 pub returns-clause-standing : goal.returns-clause-standing
 returns-clause-standing g c =

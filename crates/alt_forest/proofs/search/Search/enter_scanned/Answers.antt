@@ -7,7 +7,7 @@ use Rattle.edge_queue.specs.Moments.{Moments, moment_of}
 use Rattle.alt_forest.specs.declared.search.Search.{Search}
 use Rattle.alt_forest.specs.Searches.{state_of}
 use Rattle.alt_forest.specs.Entries.{IsEntered, IsQueuedBut, ends_around}
-use Rattle.alt_forest.proofs.EntrySteps.{vertex_entered}
+use Rattle.alt_forest.proofs.EntrySteps.{missed_at, vertex_entered}
 use Rattle.alt_forest.proofs.search.Search.enter_scanned.Goals as goal
 
 pub loop-place-preserved : goal.loop-place-preserved
@@ -33,5 +33,7 @@ loop-place-preserved g c =
           (subst (λ (k : Multigraph). (e : ℕ) → IsEdgeNumber k e → touches (edge_of k e) v ≡ false → moment_of r (Edge e) ≡ moment_of l.queue (Edge e)) graph call.others)
           call.blossoms;
       looks = omega (arith, call.looks, i.looks, ap (ends_around c.args.graph.now) step);
+      others = λ e number none. call.others e number (ap (touches (edge_of c.args.graph.now e)) is ∙ missed_at items place (edge_of c.args.graph.now e) low none) ∙ i.others e number none;
+      blossoms = call.blossoms ∙ i.blossoms;
       count = omega (arith, call.count, i.count);
     }
