@@ -18,7 +18,7 @@ use made::odd_to_even;
 use passes::passed;
 use phases::phases_without_weights;
 use results::{has_mates, is_best};
-use rows::{ALL_EVENTS, DEEP_BLOSSOMS, Row, TWO_TRIANGLES};
+use rows::{ALL_EVENTS, APART, DEEP_BLOSSOMS, Row, TWO_TRIANGLES};
 use runs::RUNS;
 use std::alloc::Global;
 use std::marker::Brand;
@@ -27,19 +27,30 @@ use std::sync::ledger::Blank;
 use std::test::Fail;
 use tally::Tally;
 
-/// A graph's search after a pass, its matching asserted to be a best one.
-fn expect_best(
+/// A graph's search after a pass, its matching asserted to be a best one; None where the forest is stuck.
+fn after_pass(
     rt: &impl Abort,
     alloc: Global,
     row: &Row,
+    trees_stay: bool,
     tally: &mut Tally,
-) -> Result<Search, Fail> {
+) -> Result<Option<Search>, Fail> {
     let (name, vertices, start, edges) = *row;
     let instance = instance_of(rt, alloc, vertices, edges)?;
     let graph = instance.graph()?;
-    let search = passed::<Brand>(rt, alloc, &graph, start, tally, Blank::new(1))?;
-    assert!(rt; is_best(alloc, &instance, &search)?, "{name}");
-    Ok(search)
+    let passed = passed::<Brand>(rt, alloc, &graph, start, trees_stay, tally, Blank::new(1))?;
+    if let Some(search) = &passed {
+        assert!(rt; is_best(alloc, &instance, search)?, "{name}");
+    }
+    Ok(passed)
+}
+
+/// Which events a pass over a row's graph has had, which is asserted to end with a best matching.
+fn tally_of(rt: &impl Abort, alloc: Global, row: &Row, trees_stay: bool) -> Result<Tally, Fail> {
+    let mut tally = Tally::new();
+    let passed = after_pass(rt, alloc, row, trees_stay, &mut tally)?;
+    assert!(rt; passed.is_some(), "{}", row.0);
+    Ok(tally)
 }
 
 /// Whether a run of the engine over a row's graph ends with what the row says.
@@ -83,18 +94,34 @@ fn each_phase_matches_two_more_vertices(rt: HostRuntime) -> Result<(), Fail> {
 
 #[test]
 fn two_triangles_are_matched_by_the_edge_between(rt: HostRuntime) -> Result<(), Fail> {
-    let mut tally = Tally::new();
-    let search = expect_best(&rt, rt.alloc(), &TWO_TRIANGLES, &mut tally)?;
-    assert!(rt; has_mates(&search, [1, 1, 7, 7, 5, 5].as_slice()));
+    for trees_stay in [false, true] {
+        let mut tally = Tally::new();
+        let Some(search) = after_pass(&rt, rt.alloc(), &TWO_TRIANGLES, trees_stay, &mut tally)?
+        else {
+            panic!(rt; "they are not matched");
+        };
+        assert!(rt; has_mates(&search, [1, 1, 7, 7, 5, 5].as_slice()));
+    }
+    Ok(())
+}
+
+#[test]
+fn two_triangles_apart_leave_the_forest_stuck(rt: HostRuntime) -> Result<(), Fail> {
+    for trees_stay in [false, true] {
+        let mut tally = Tally::new();
+        let passed = after_pass(&rt, rt.alloc(), &APART, trees_stay, &mut tally)?;
+        assert!(rt; passed.is_none());
+        assert!(rt; tally.shrunk == 2);
+    }
     Ok(())
 }
 
 #[test]
 fn passes_with_each_event_end_with_a_best_matching(rt: HostRuntime) -> Result<(), Fail> {
     for row in &ALL_EVENTS {
-        let mut tally = Tally::new();
-        let _ = expect_best(&rt, rt.alloc(), row, &mut tally)?;
-        assert!(rt; tally.has_all(), "{}", row.0);
+        let anew = tally_of(&rt, rt.alloc(), row, false)?;
+        let staying = tally_of(&rt, rt.alloc(), row, true)?;
+        assert!(rt; anew.has_all() && staying.has_all(), "{}", row.0);
     }
     Ok(())
 }
@@ -102,9 +129,13 @@ fn passes_with_each_event_end_with_a_best_matching(rt: HostRuntime) -> Result<()
 #[test]
 fn blossoms_in_blossoms_are_expanded_one_by_one(rt: HostRuntime) -> Result<(), Fail> {
     for row in &DEEP_BLOSSOMS {
-        let mut tally = Tally::new();
-        let _ = expect_best(&rt, rt.alloc(), row, &mut tally)?;
-        assert!(rt; tally.nests_expanded >= 3, "{}", row.0);
+        let anew = tally_of(&rt, rt.alloc(), row, false)?;
+        let staying = tally_of(&rt, rt.alloc(), row, true)?;
+        assert!(rt;
+            anew.nests_expanded >= 3 && staying.nests_expanded >= 3,
+            "{}",
+            row.0
+        );
     }
     Ok(())
 }

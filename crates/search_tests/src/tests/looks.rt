@@ -1,8 +1,9 @@
-ghost use Rattle.std.specs.Prelude.{◌≡◌, ◌↔◌, true, IfSome};
+ghost use Rattle.std.specs.Prelude.{◌≡◌, ◌≢◌, ◌↔◌, true, false, IfSome, None};
 ghost use Rattle.alt_forest.specs.declared.label.Label.TheVariants.{Out};
 ghost use Rattle.alt_forest.specs.Searches.{HasShape, IsSound, state_of, label_at};
 ghost use Rattle.alt_forest.specs.State.{IsOutermost, IsExposed};
-ghost use Rattle.alt_forest.specs.Counts.{IsMatched};
+ghost use Rattle.alt_forest.specs.Counts.{IsMatched, IsPlanted};
+ghost use Rattle.alt_forest.specs.Standing.{IsStanding};
 
 use alt_forest::{Label, Search};
 use blossom_arena::NodeId;
@@ -34,6 +35,7 @@ fn can_plant(search: &Search, node: NodeId) -> bool
     requires sound { IsSound search.now }
     ensures exposed { result ≡ true → IsExposed (state_of search.now) node }
     ensures out { result ≡ true → label_at search.now.labels.items node ≡ Out }
+    ensures not { result ≡ false → IsExposed (state_of search.now) node → label_at search.now.labels.items node ≢ Out }
 {
     if !is_exposed(search, node) {
         return false;
@@ -46,6 +48,7 @@ pub fn free_node(search: &Search) -> Option<NodeId>
     requires sound { IsSound search.now }
     ensures exposed { IfSome result (IsExposed (state_of search.now)) }
     ensures out { IfSome result (λ a. label_at search.now.labels.items a ≡ Out) }
+    ensures none { result ≡ None → IsPlanted (state_of search.now) }
 {
     for place in 0..search.arena.node_limit() {
         let node = NodeId::new(place + 1);
@@ -56,13 +59,42 @@ pub fn free_node(search: &Search) -> Option<NodeId>
     None
 }
 
-/// Whether each outermost node has a mate.
-pub fn is_matched(search: &Search) -> bool
+/// The first outermost node without a mate.
+pub fn exposed_node(search: &Search) -> Option<NodeId>
     requires sound { IsSound search.now }
-    ensures { result ≡ true → IsMatched (state_of search.now) }
+    ensures exposed { IfSome result (IsExposed (state_of search.now)) }
+    ensures none { result ≡ None → IsMatched (state_of search.now) }
 {
     for place in 0..search.arena.node_limit() {
-        if is_exposed(search, NodeId::new(place + 1)) {
+        let node = NodeId::new(place + 1);
+        if is_exposed(search, node) {
+            return Some(node);
+        }
+    }
+    None
+}
+
+/// Whether the root of a node is the last one on its way there. A node in no tree has nothing to show.
+fn has_root(search: &Search, node: NodeId) -> bool
+    requires sound { IsSound search.now }
+    requires standing { IsStanding search.now }
+{
+    if !is_outer(search, node) {
+        return true;
+    }
+    if search.label(node) == Label::Out {
+        return true;
+    }
+    search.path_to_root(node).last() == Some(search.root(node))
+}
+
+/// Whether the root of each node in a tree is the last one on its way there.
+pub fn have_roots(search: &Search) -> bool
+    requires sound { IsSound search.now }
+    requires standing { IsStanding search.now }
+{
+    for place in 0..search.arena.node_limit() {
+        if !has_root(search, NodeId::new(place + 1)) {
             return false;
         }
     }

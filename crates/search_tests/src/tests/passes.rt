@@ -1,18 +1,16 @@
-ghost use Rattle.std.specs.Prelude.{◌≡◌, ◌<◌, MatchBool};
-ghost use Rattle.alt_forest.specs.declared.label.Label.TheVariants.{Out};
-ghost use Rattle.alt_forest.specs.Searches.{IsSound, state_of, label_at};
+ghost use Rattle.std.specs.Prelude.{◌≡◌, ◌<◌, ℕ, true};
 ghost use Rattle.alt_forest.specs.State.{IsExposed};
-ghost use Rattle.alt_forest.specs.Counts.{tree_count};
+ghost use Rattle.alt_forest.specs.Searches.{IsSound, state_of};
+ghost use Rattle.alt_forest.specs.Counts.{IsMatched, IsPlanted};
 ghost use Rattle.alt_forest.specs.Entries.{IsQueued};
 ghost use Rattle.alt_forest.specs.Standing.{IsStanding};
 
-use super::events::{perform, reach};
+use super::events::{perform, plant_all, reach};
 use super::instances::{can_start, is_small};
-use super::looks::{free_node, is_matched};
+use super::looks::{exposed_node, have_roots};
 use super::tally::Tally;
 use alt_forest::{Search, Weights};
 use augment::unpack;
-use blossom_arena::NodeId;
 use mb_base::{OutOfMemory, Steps};
 use state_check::check_search;
 use std::alloc::Global;
@@ -20,14 +18,15 @@ use std::process::Abort;
 use std::sync::ledger::{Blank, Ledger};
 use weighted_graph::Graph;
 
-/// How many events a phase of these tests has at most.
+/// How many events a pass of these tests has at most.
 const MOST_EVENTS: u32 = 1000;
 
-/// Lets the next event happen, and answers whether it was that the matching has been augmented.
+/// Lets the next event happen, and answers whether there is one.
 fn advance<L: Ledger>(
     rt: &impl Abort,
     search: &mut Search,
     graph: &Graph,
+    trees_stay: bool,
     tally: &mut Tally,
     steps: &mut Steps<L>,
 ) -> bool
@@ -35,119 +34,65 @@ fn advance<L: Ledger>(
     requires queued { IsQueued search.old }
     requires standing { IsStanding search.old }
     requires same { graph.now ≡ search.old.graph }
-    requires trees { tree_count (state_of search.old) ≡ 1 }
+    requires planted { IsPlanted (state_of search.old) }
+    requires exposed { (a : ℕ) × IsExposed (state_of search.old) a }
     ensures sound { IsSound search.new }
     ensures queued { IsQueued search.new }
     ensures standing { IsStanding search.new }
     ensures same { graph.now ≡ search.new.graph }
-    ensures trees { MatchBool result (tree_count (state_of search.new) ≡ 0) (tree_count (state_of search.new) ≡ 1) }
+    ensures planted { IsPlanted (state_of search.new) }
 {
-    let Some(event) = reach(search, graph, steps) else {
-        panic!(rt; "nothing can happen");
+    let Some(event) = reach(rt, search, graph, steps) else {
+        return false;
     };
     assert!(rt; check_search(search));
     tally.count(search, &event);
-    let ended = perform(search, graph, event, steps);
+    perform(rt, search, graph, event, trees_stay, steps);
     assert!(rt; check_search(search));
-    ended
+    assert!(rt; have_roots(search));
+    true
 }
 
-/// A phase: a tree grows from an exposed node until the matching is augmented.
-fn phase<L: Ledger>(
-    rt: &impl Abort,
-    search: &mut Search,
-    graph: &Graph,
-    root: NodeId,
-    tally: &mut Tally,
-    steps: &mut Steps<L>,
-)
-    requires sound { IsSound search.old }
-    requires queued { IsQueued search.old }
-    requires standing { IsStanding search.old }
-    requires same { graph.now ≡ search.old.graph }
-    requires trees { tree_count (state_of search.old) ≡ 0 }
-    requires exposed { IsExposed (state_of search.old) root }
-    requires out { label_at search.old.labels.items root ≡ Out }
-    ensures sound { IsSound search.new }
-    ensures queued { IsQueued search.new }
-    ensures standing { IsStanding search.new }
-    ensures same { graph.now ≡ search.new.graph }
-    ensures trees { tree_count (state_of search.new) ≡ 0 }
-{
-    search.plant(graph, root, steps);
-    assert!(rt; check_search(search));
-    for _ in 0..MOST_EVENTS {
-        if advance(rt, search, graph, tally, steps) {
-            return;
-        }
-    }
-    panic!(rt; "a phase has not ended");
-}
-
-/// A phase from an exposed node, if there is one.
-fn match_one<L: Ledger>(
-    rt: &impl Abort,
-    search: &mut Search,
-    graph: &Graph,
-    tally: &mut Tally,
-    steps: &mut Steps<L>,
-)
-    requires sound { IsSound search.old }
-    requires queued { IsQueued search.old }
-    requires standing { IsStanding search.old }
-    requires same { graph.now ≡ search.old.graph }
-    requires trees { tree_count (state_of search.old) ≡ 0 }
-    ensures sound { IsSound search.new }
-    ensures queued { IsQueued search.new }
-    ensures standing { IsStanding search.new }
-    ensures same { graph.now ≡ search.new.graph }
-    ensures trees { tree_count (state_of search.new) ≡ 0 }
-{
-    let Some(root) = free_node(search) else {
-        return;
-    };
-    phase(rt, search, graph, root, tally, steps);
-}
-
-/// Phases until no outermost node is exposed.
+/// A forest grows from all exposed nodes until there are none, or until it is stuck; whether no exposed
+/// node is left.
 fn pass<L: Ledger>(
     rt: &impl Abort,
     search: &mut Search,
     graph: &Graph,
+    trees_stay: bool,
     tally: &mut Tally,
     steps: &mut Steps<L>,
-)
+) -> bool
     requires sound { IsSound search.old }
     requires queued { IsQueued search.old }
     requires standing { IsStanding search.old }
     requires same { graph.now ≡ search.old.graph }
-    requires trees { tree_count (state_of search.old) ≡ 0 }
     ensures sound { IsSound search.new }
+    ensures matched { result ≡ true → IsMatched (state_of search.new) }
 {
-    for _ in 0..graph.vertices() {
-        match_one(rt, search, graph, tally, steps);
+    plant_all(rt, search, graph, steps);
+    for _ in 0..MOST_EVENTS {
+        let Some(_) = exposed_node(search) else {
+            return true;
+        };
+        if !advance(rt, search, graph, trees_stay, tally, steps) {
+            return false;
+        }
     }
+    panic!(rt; "a pass has not ended");
 }
 
-/// Unpacks a matching of all outermost nodes.
-fn finish(rt: &impl Abort, search: &mut Search, tally: &mut Tally)
-    requires sound { IsSound search.old }
-{
-    assert!(rt; is_matched(search));
-    tally.count_kept(search);
-    unpack(search);
-    assert!(rt; check_search(search));
-}
-
-/// The search over a graph after a whole pass with its weights from a start, its matching unpacked.
+/// The search over a graph after a whole pass with its weights from a start, its matching unpacked; None
+/// where the forest of all exposed nodes is stuck.
 pub fn passed<L: Ledger>(
     rt: &impl Abort,
     alloc: Global,
     graph: &Graph,
     start: i64,
+    trees_stay: bool,
     tally: &mut Tally,
     blank: Blank,
-) -> Result<Search, OutOfMemory>
+) -> Result<Option<Search>, OutOfMemory>
     requires name { blank.name ≡ L.name }
     requires parts { blank.parts ≡ L.parts }
     requires some { 0 < blank.parts }
@@ -159,7 +104,11 @@ pub fn passed<L: Ledger>(
     assert!(rt; can_start(graph, start));
     search.reset(graph, Weights::Given, start);
     assert!(rt; check_search(&search));
-    pass(rt, &mut search, graph, tally, &mut steps);
-    finish(rt, &mut search, tally);
-    Ok(search)
+    if !pass(rt, &mut search, graph, trees_stay, tally, &mut steps) {
+        return Ok(None);
+    }
+    tally.count_kept(&search);
+    unpack(&mut search);
+    assert!(rt; check_search(&search));
+    Ok(Some(search))
 }

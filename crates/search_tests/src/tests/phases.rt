@@ -3,7 +3,7 @@ ghost use Rattle.alt_forest.specs.Searches.{IsSound};
 ghost use Rattle.mwpm_engine.specs.Passes.{IsReady};
 
 use super::instances::is_small;
-use super::looks::{free_node, is_matched};
+use super::looks::exposed_node;
 use alt_forest::{Search, Weights};
 use mb_base::{OutOfMemory, Steps};
 use mwpm_engine::{PhaseEnd, phase};
@@ -21,7 +21,7 @@ fn augments<L: Ledger>(search: &mut Search, graph: &Graph, steps: &mut Steps<L>)
     ensures sound { IsSound search.new }
     ensures same { graph.now ≡ search.new.graph }
 {
-    let Some(_) = free_node(search) else {
+    let Some(_) = exposed_node(search) else {
         return false;
     };
     match phase(search, graph, steps) {
@@ -62,6 +62,6 @@ pub fn phases_without_weights<L: Ledger>(
     search.reset(graph, Weights::Zero, 0);
     let count = augment_count(&mut search, graph, &mut steps);
     assert!(rt; check_search(&search));
-    assert!(rt; is_matched(&search));
+    assert!(rt; exposed_node(&search).is_none());
     Ok(count)
 }

@@ -9,7 +9,7 @@ pub type Run = (
 );
 
 /// Graphs with one answer each.
-pub const RUNS: [Run; 6] = [
+pub const RUNS: [Run; 7] = [
     ("no vertex", 0, &[], true, &[]),
     ("one vertex, whose barrier is empty", 1, &[], false, &[0]),
     (
@@ -26,6 +26,20 @@ pub const RUNS: [Run; 6] = [
         ],
         true,
         &[1, 1, 7, 7, 5, 5],
+    ),
+    (
+        "two triangles with no edge between, whose barrier is empty",
+        6,
+        &[
+            (1, 2, 4),
+            (2, 3, 4),
+            (1, 3, 4),
+            (4, 5, 4),
+            (5, 6, 4),
+            (4, 6, 4),
+        ],
+        false,
+        &[0, 0, 0, 0, 0, 0],
     ),
     (
         "a square whose lighter pair is taken",

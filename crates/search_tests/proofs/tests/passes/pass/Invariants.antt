@@ -1,6 +1,6 @@
 use Rattle.std.proofs.Common.{◌≡◌}
 use Rattle.alt_forest.specs.Searches.{IsSound, state_of}
-use Rattle.alt_forest.specs.Counts.{tree_count}
+use Rattle.alt_forest.specs.Counts.{IsPlanted}
 use Rattle.alt_forest.specs.Entries.{IsQueued}
 use Rattle.alt_forest.specs.Standing.{IsStanding}
 use Rattle.search_tests.proofs.tests.passes.pass.Given as goal
@@ -11,5 +11,5 @@ invariant-loop g l = record {
   queued : IsQueued l.search;
   standing : IsStanding l.search;
   same : l.graph ≡ l.search.graph;
-  trees : tree_count (state_of l.search) ≡ 0;
+  planted : IsPlanted (state_of l.search);
 }

@@ -1,9 +1,8 @@
 use Rattle.std.proofs.Common.{◌≡◌}
-use Rattle.alt_forest.specs.Searches.{IsSound, state_of}
-use Rattle.alt_forest.specs.Counts.{tree_count}
+use Rattle.alt_forest.specs.Searches.{IsSound}
 use Rattle.alt_forest.specs.Entries.{IsQueued}
 use Rattle.alt_forest.specs.Standing.{IsStanding}
-use Rattle.search_tests.proofs.tests.passes.phase.Given as goal
+use Rattle.search_tests.proofs.tests.events.plant_all.Given as goal
 
 abbrev pub invariant-loop : goal.invariant-loop
 invariant-loop g l = record {
@@ -11,5 +10,4 @@ invariant-loop g l = record {
   queued : IsQueued l.search;
   standing : IsStanding l.search;
   same : l.graph ≡ l.search.graph;
-  trees : tree_count (state_of l.search) ≡ 1;
 }

@@ -1,7 +1,7 @@
 use Rattle.std.proofs.Common.{ℕ, ◌+◌, ◌<◌}
 use Rattle.alt_forest.specs.State.{IsExposed}
 use Rattle.alt_forest.specs.Searches.{state_of}
-use Rattle.search_tests.proofs.tests.looks.is_matched.Given as goal
+use Rattle.search_tests.proofs.tests.looks.exposed_node.Given as goal
 
 abbrev pub invariant-loop-place : goal.invariant-loop-place
 invariant-loop-place l = (k : ℕ) → k < l.place → IsExposed (state_of l.search) (k + 1) → ⊥

@@ -2,10 +2,10 @@ use Rattle.std.proofs.Common.{◌≡◌, ◌+◌, ◌-◌, subst, arith}
 use Rattle.alt_forest.specs.State.{IsExposed}
 use Rattle.alt_forest.specs.Searches.{state_of}
 use Rattle.alt_forest.proofs.Places.{outer_range}
-use Rattle.search_tests.proofs.tests.looks.is_matched.Goals as goal
+use Rattle.search_tests.proofs.tests.looks.exposed_node.Goals as goal
 
-pub returns : goal.returns
-returns c = λ e a exposed.
+pub returns-clause-none : goal.returns-clause-none
+returns-clause-none c = λ e a exposed.
     let s = c.args.search.now in
     let range = outer_range s a c.requires.sound.shape exposed.0 in
     let back : a ≡ a - 1 + 1 = omega (arith, range.0) in
