@@ -8,10 +8,8 @@ fn comes_before(a: &Entry, b: &Entry) -> bool
     ensures before { result ≡ true → a.now.moment ≤ℤ b.now.moment }
     ensures after { result ≡ false → b.now.moment ≤ℤ a.now.moment }
 {
-    if a.moment == b.moment {
-        return a.age < b.age;
-    }
-    a.moment < b.moment
+    // Without a branch: the order of entries in a heap can't be foretold.
+    (a.moment < b.moment) | ((a.moment == b.moment) & (a.age < b.age))
 }
 
 /// The parent of a place, where an entry at this place stands before it.
