@@ -3,7 +3,7 @@ use Rattle.std.proofs.Common.{◌≡◌, ℕ, zero, suc, ◌+◌, ◌-◌, ◌*�
 use Rattle.std.specs.Prelude.{ℤ, ◌≤ℤ◌}
 use Rattle.std.proofs.lemmas.Bool.{cases_eq}
 use Rattle.std.proofs.lemmas.Int.{ints}
-use Rattle.edge_queue.specs.Heaps.{IsHeap, IsRising, IsSinking, IsLesser}
+use Rattle.edge_queue.specs.Heaps.{IsHeap, IsRising, IsSinking, IsEarlierOf, IsLeastOf}
 
 pub le_chain : (x y z : ℤ) → x ≤ℤ y → y ≤ℤ z → x ≤ℤ z
 le_chain x y z a b = omega (arith, ints)
@@ -18,7 +18,7 @@ pub record IsSwapped (f g : ℕ → ℤ) (a b : ℕ) : Type 0 where
   pub others : (i : ℕ) → i ≢ a → i ≢ b → g i ≡ f i
 
 -- up
-pub rise_steps : (f g : ℕ → ℤ) (j p n : ℕ) → 0 < j → p ≡ (j - 1) / 2 → j < n → f j ≤ℤ f p → IsSwapped f g j p → IsRising f j n → IsRising g p n
+pub rise_steps : (f g : ℕ → ℤ) (j p n : ℕ) → 0 < j → p ≡ (j - 1) / 4 → j < n → f j ≤ℤ f p → IsSwapped f g j p → IsRising f j n → IsRising g p n
 rise_steps f g j p n low is within later s r = record {
   others = λ q k a b c ne.
       ⊎_elim
@@ -34,7 +34,7 @@ rise_steps f g j p n low is within later s r = record {
       (cases_eq q p))
       (cases_eq k j);
   around = λ k high a b c.
-      let up : ℕ = (p - 1) / 2 in
+      let up : ℕ = (p - 1) / 4 in
       let first : g up ≡ f up = s.others up (λ e. absurd (omega arith)) (λ e. absurd (omega arith)) in
       let step : f up ≤ℤ f p = r.others up p (omega arith) (omega arith) (omega arith) (λ e. absurd (omega arith)) in
       ⊎_elim
@@ -44,11 +44,31 @@ rise_steps f g j p n low is within later s r = record {
       (cases_eq k j);
 }
 
+-- the least of places side by side, one after another
+pub one_is_least : (f : ℕ → ℤ) (n left : ℕ) → left < n → IsLeastOf f n left 1 left
+one_is_least f n left within = record {
+  low = omega arith;
+  high = omega arith;
+  within = within;
+  least = λ k a b c. let is : left ≡ k = omega arith in le_by (f left) (f k) (f k) (f k) (ap f is) refl (omega (arith, ints));
+}
+
+pub least_wider : (f : ℕ → ℤ) (n left wide first next c : ℕ) → next ≡ left + wide → IsLeastOf f n left wide first → IsEarlierOf f n first next c → IsLeastOf f n left (wide + 1) c
+least_wider f n left wide first next c is h e = record {
+  low = ⊎_elim (λ (o : c ≡ first). omega (arith, h.low)) (λ (o : c ≢ first). omega (arith, e.one o)) (cases_eq c first);
+  high = ⊎_elim (λ (o : c ≡ first). omega (arith, h.high)) (λ (o : c ≢ first). omega (arith, e.one o)) (cases_eq c first);
+  within = e.within;
+  least = λ k a b kn. ⊎_elim
+      (λ (o : k ≡ next). subst (λ i. f c ≤ℤ f i) (sym o) (e.least (omega arith)))
+      (λ (o : k ≢ next). le_chain (f c) (f first) (f k) e.no_later (h.least k a (omega arith) kn))
+      (cases_eq k next);
+}
+
 -- down
-pub sink_steps : (f g : ℕ → ℤ) (j c n : ℕ) → IsLesser f n (j * 2 + 1) c → f c ≤ℤ f j → IsSwapped f g j c → IsSinking f j n → IsSinking g c n
+pub sink_steps : (f g : ℕ → ℤ) (j c n : ℕ) → IsLeastOf f n (j * 4 + 1) 4 c → f c ≤ℤ f j → IsSwapped f g j c → IsSinking f j n → IsSinking g c n
 sink_steps f g j c n child earlier s r =
-    let low : j * 2 + 1 ≤ c = child.low in
-    let high : c ≤ j * 2 + 1 + 1 = child.high in
+    let low : j * 4 + 1 ≤ c = child.low in
+    let high : c < j * 4 + 1 + 4 = child.high in
     record {
       others = λ q k a b kn ne.
           ⊎_elim
@@ -58,14 +78,14 @@ sink_steps f g j c n child earlier s r =
           (child.least k (omega arith) (omega arith) kn))
           (cases_eq k c))
           (λ (qj : q ≢ j). ⊎_elim
-          (λ (kj : k ≡ j). let qp : q ≡ (j - 1) / 2 = omega arith in le_by (g q) (f ((j - 1) / 2)) (g k) (f c) (s.others q qj ne ∙ ap f qp) (ap g kj ∙ s.first)
+          (λ (kj : k ≡ j). let qp : q ≡ (j - 1) / 4 = omega arith in le_by (g q) (f ((j - 1) / 4)) (g k) (f c) (s.others q qj ne ∙ ap f qp) (ap g kj ∙ s.first)
           (r.around c (omega arith) low (omega arith) child.within))
           (λ (kj : k ≢ j). le_by (g q) (f q) (g k) (f k) (s.others q qj ne) (s.others k kj (λ e. absurd (omega arith))) (r.others q k a b kn qj))
           (cases_eq k j))
           (cases_eq q j);
       around = λ k z a b kn.
-          let up : (c - 1) / 2 ≡ j = omega arith in
-          le_by (g ((c - 1) / 2)) (f c) (g k) (f k) (ap g up ∙ s.first) (s.others k (λ e. absurd (omega arith)) (λ e. absurd (omega arith)))
+          let up : (c - 1) / 4 ≡ j = omega arith in
+          le_by (g ((c - 1) / 4)) (f c) (g k) (f k) (ap g up ∙ s.first) (s.others k (λ e. absurd (omega arith)) (λ e. absurd (omega arith)))
           (r.others c k a b kn (λ e. absurd (omega arith)));
     }
 
@@ -75,8 +95,8 @@ root_within f n h zero k a b = let is : k ≡ 0 = omega arith in le_by (f 0) (f 
 root_within f n h (suc fuel) k a b =
     ⊎_elim
     (λ (is : k ≡ 0). le_by (f 0) (f k) (f k) (f k) (ap f (sym is)) refl (omega (arith, ints)))
-    (λ (no : k ≢ 0). le_chain (f 0) (f ((k - 1) / 2)) (f k) (root_within f n h fuel ((k - 1) / 2) (omega arith) (omega arith))
-    (h.order ((k - 1) / 2) k (omega arith) (omega arith) b))
+    (λ (no : k ≢ 0). le_chain (f 0) (f ((k - 1) / 4)) (f k) (root_within f n h fuel ((k - 1) / 4) (omega arith) (omega arith))
+    (h.order ((k - 1) / 4) k (omega arith) (omega arith) b))
     (cases_eq k 0)
 
 pub root_least : (f : ℕ → ℤ) (n k : ℕ) → IsHeap f n → k < n → f 0 ≤ℤ f k

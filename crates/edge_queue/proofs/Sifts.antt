@@ -1,20 +1,21 @@
--- A slot on its way through a heap: the tables as they are once it is put at place j.
-use Rattle.std.proofs.Common.{◌≡◌, ℕ, ◌<◌, ◌≢◌, nat_lt, List, length, get_or, set, sym, ap, ◌∙◌, subst, arith}
-use Rattle.std.specs.Prelude.{ℤ}
-use Rattle.std.proofs.lemmas.List.{get_or-set_same, get_or-set_other, length-set}
-use Rattle.edge_queue.specs.Heaps.{key, moment_at, IsInverse, AreTables}
+-- An entry on its way through a heap: the tables as they are once it is put at place j.
+use Rattle.std.proofs.Common.{◌≡◌, ℕ, ◌<◌, ◌≢◌, List, length, get_or, set, refl, sym, ap, ◌∙◌, subst, arith}
+use Rattle.std.proofs.lemmas.List.{get_or-set_same, get_or-set_other, length-set, set-get_or}
+use Rattle.edge_queue.specs.declared.entry.Entry.{Entry}
+use Rattle.edge_queue.specs.Heaps.{blank, entry_at, slot_at, key, held, IsInverse, AreTables, IsHeap, IsMended}
 use Rattle.edge_queue.proofs.Orders.{IsSwapped}
-use Rattle.edge_queue.proofs.Exchanges.{IsExchanged, first_of_two, second_of_two, none_of_two, one_place, inverse_exchanged, same_exchanged}
+use Rattle.edge_queue.proofs.Exchanges.{slot_by, key_by, IsExchanged, first_of_two, second_of_two, none_of_two, one_place, inverse_exchanged, same_exchanged}
 
-pub record IsSifting (moments : List ℤ) (ages before heap places : List ℕ) (count j slot : ℕ) : Type 0 where
-  pub tables : AreTables moments ages (set heap j slot) (set places slot j) count
+pub record IsSifting (old_heap : List Entry) (old_places : List ℕ) (heap : List Entry) (places : List ℕ) (count j : ℕ) (entry : Entry) : Type 0 where
+  pub tables : AreTables (set heap j entry) (set places entry.slot j) count
   pub place : j < count
-  pub slot_in : slot < length heap
-  pub same : (s : ℕ) → nat_lt (get_or (set places slot j) s 0) count ≡ nat_lt (get_or before s 0) count
+  pub slot_in : entry.slot < length heap
+  pub size : length heap ≡ length old_heap
+  pub same : (s : ℕ) → s < length heap → held count (set heap j entry) (get_or (set places entry.slot j) s 0) ≡ held count old_heap (get_or old_places s 0)
 
-module _ (moments : List ℤ) (ages before heap places : List ℕ) (count j p slot : ℕ) (s : IsSifting moments ages before heap places count j slot) (within : p < count) (ne : p ≢ j) where
-  long : length (set heap j slot) ≡ length heap
-  long = length-set heap j slot
+module _ (old_heap : List Entry) (old_places : List ℕ) (heap : List Entry) (places : List ℕ) (count j p : ℕ) (entry : Entry) (s : IsSifting old_heap old_places heap places count j entry) (within : p < count) (ne : p ≢ j) where
+  long : length (set heap j entry) ≡ length heap
+  long = length-set heap j entry
 
   j_in : j < length heap
   j_in = omega (arith, long, s.place, s.tables.few)
@@ -22,70 +23,113 @@ module _ (moments : List ℤ) (ages before heap places : List ℕ) (count j p sl
   p_in : p < length heap
   p_in = omega (arith, long, within, s.tables.few)
 
-  at_j : get_or (set heap j slot) j 0 ≡ slot
-  at_j = get_or-set_same heap j slot 0 j_in
+  at_j : entry_at (set heap j entry) j ≡ entry
+  at_j = get_or-set_same heap j entry blank j_in
 
-  at_p : get_or (set heap j slot) p 0 ≡ get_or heap p 0
-  at_p = get_or-set_other heap j p slot 0 ne
+  at_p : entry_at (set heap j entry) p ≡ entry_at heap p
+  at_p = get_or-set_other heap j p entry blank ne
 
-  pub other_in : get_or heap p 0 < length heap
+  slot_j : slot_at (set heap j entry) j ≡ entry.slot
+  slot_j = slot_by (entry_at (set heap j entry) j) entry at_j
+
+  slot_p : slot_at (set heap j entry) p ≡ slot_at heap p
+  slot_p = slot_by (entry_at (set heap j entry) p) (entry_at heap p) at_p
+
+  pub other_in : slot_at heap p < length heap
   other_in =
-      let slots : get_or (set heap j slot) p 0 < length (set heap j slot) = s.tables.inverse.slots p (omega (arith, long, p_in)) in
-      omega (arith, long, at_p, slots)
+      let slots : slot_at (set heap j entry) p < length (set heap j entry) = s.tables.inverse.slots p (omega (arith, long, p_in)) in
+      omega (arith, long, slot_p, slots)
 
-  places_long : length places ≡ length heap
-  places_long = sym (length-set places slot j) ∙ s.tables.inverse.sizes ∙ long
+  pub places_long : length places ≡ length heap
+  places_long = sym (length-set places entry.slot j) ∙ s.tables.inverse.sizes ∙ long
 
-  pub sift_exchanges : IsExchanged (set heap j slot) (set places slot j) (set (set heap j (get_or heap p 0)) p slot) (set (set places (get_or heap p 0) j) slot p) j p
+  pub sift_exchanges : IsExchanged (set heap j entry) (set places entry.slot j) (set (set heap j (entry_at heap p)) p entry) (set (set places (slot_at heap p) j) entry.slot p) j p
   sift_exchanges = record {
-    size = length-set (set heap j (get_or heap p 0)) p slot ∙ length-set heap j (get_or heap p 0) ∙ sym long;
-    sizes = length-set (set places (get_or heap p 0) j) slot p ∙ length-set places (get_or heap p 0) j ∙ sym (length-set places slot j);
-    first = first_of_two heap j p (get_or heap p 0) slot j_in (λ e. absurd (ne (sym e))) ∙ sym at_p;
-    second = second_of_two heap j p (get_or heap p 0) slot p_in ∙ sym at_j;
-    others = λ i a b. none_of_two heap j p (get_or heap p 0) slot i a b ∙ sym (get_or-set_other heap j i slot 0 a);
-    first_place = ap (λ k. get_or (set (set places (get_or heap p 0) j) slot p) k 0) at_p
-        ∙ first_of_two places (get_or heap p 0) slot j p (omega (arith, places_long, other_in))
-        (λ e. one_place (set heap j slot) (set places slot j) j p s.tables.inverse (omega (arith, long, j_in)) (omega (arith, long, p_in)) (at_j ∙ sym e ∙ sym at_p));
-    second_place = ap (λ k. get_or (set (set places (get_or heap p 0) j) slot p) k 0) at_j
-        ∙ second_of_two places (get_or heap p 0) slot j p (omega (arith, places_long, s.slot_in));
-    other_places = λ i a b. none_of_two places (get_or heap p 0) slot j p i (λ e. b (e ∙ sym at_p)) (λ e. a (e ∙ sym at_j))
-        ∙ sym (get_or-set_other places slot i j 0 (λ e. a (e ∙ sym at_j)));
+    size = length-set (set heap j (entry_at heap p)) p entry ∙ length-set heap j (entry_at heap p) ∙ sym long;
+    sizes = length-set (set places (slot_at heap p) j) entry.slot p ∙ length-set places (slot_at heap p) j ∙ sym (length-set places entry.slot j);
+    first = first_of_two blank heap j p (entry_at heap p) entry j_in (λ e. absurd (ne (sym e))) ∙ sym at_p;
+    second = second_of_two blank heap j p (entry_at heap p) entry p_in ∙ sym at_j;
+    others = λ i a b. none_of_two blank heap j p (entry_at heap p) entry i a b ∙ sym (get_or-set_other heap j i entry blank a);
+    first_place = ap (λ k. get_or (set (set places (slot_at heap p) j) entry.slot p) k 0) slot_p
+        ∙ first_of_two 0 places (slot_at heap p) entry.slot j p (omega (arith, places_long, other_in))
+        (λ e. one_place (set heap j entry) (set places entry.slot j) j p s.tables.inverse (omega (arith, long, j_in)) (omega (arith, long, p_in)) (slot_j ∙ sym e ∙ sym slot_p));
+    second_place = ap (λ k. get_or (set (set places (slot_at heap p) j) entry.slot p) k 0) slot_j
+        ∙ second_of_two 0 places (slot_at heap p) entry.slot j p (omega (arith, places_long, s.slot_in));
+    other_places = λ i a b. none_of_two 0 places (slot_at heap p) entry.slot j p i (λ e. b (e ∙ sym slot_p)) (λ e. a (e ∙ sym slot_j))
+        ∙ sym (get_or-set_other places entry.slot i j 0 (λ e. a (e ∙ sym slot_j)));
   }
 
-  pub sift_steps : (above : ℕ) (new_heap new_places : List ℕ) → above ≡ get_or heap p 0 → new_heap ≡ set heap j above → new_places ≡ set places above j
-      → IsSifting moments ages before new_heap new_places count p slot
+  pub sift_steps : (above : Entry) (new_heap : List Entry) (new_places : List ℕ) → above ≡ entry_at heap p → new_heap ≡ set heap j above → new_places ≡ set places above.slot j
+      → IsSifting old_heap old_places new_heap new_places count p entry
   sift_steps above new_heap new_places a h q =
-      let in_j : j < length (set heap j slot) = omega (arith, long, j_in) in
-      let in_p : p < length (set heap j slot) = omega (arith, long, p_in) in
-      let heap_is : new_heap ≡ set heap j (get_or heap p 0) = h ∙ ap (λ k. set heap j k) a in
-      let places_is : new_places ≡ set places (get_or heap p 0) j = q ∙ ap (λ k. set places k j) a in
-      let size : length (set new_heap p slot) ≡ length (set heap j slot) = ap (λ l. length (set l p slot)) heap_is ∙ sift_exchanges.size in
+      let in_j : j < length (set heap j entry) = omega (arith, long, j_in) in
+      let in_p : p < length (set heap j entry) = omega (arith, long, p_in) in
+      let heap_is : new_heap ≡ set heap j (entry_at heap p) = h ∙ ap (λ k. set heap j k) a in
+      let places_is : new_places ≡ set places (slot_at heap p) j = q ∙ ap (λ k. set places k j) (slot_by above (entry_at heap p) a) in
+      let size : length (set new_heap p entry) ≡ length (set heap j entry) = ap (λ l. length (set l p entry)) heap_is ∙ sift_exchanges.size in
+      let new_long : length new_heap ≡ length heap = ap length heap_is ∙ length-set heap j (entry_at heap p) in
       record {
         tables = record {
-          inverse = subst (λ l. IsInverse (set l p slot) (set new_places slot p)) (sym heap_is) (subst (λ l. IsInverse (set (set heap j (get_or heap p 0)) p slot) (set l slot p)) (sym places_is)
-              (inverse_exchanged (set heap j slot) (set places slot j) (set (set heap j (get_or heap p 0)) p slot) (set (set places (get_or heap p 0) j) slot p) j p s.tables.inverse in_j in_p sift_exchanges));
-          moment_each = s.tables.moment_each ∙ sym size;
-          age_each = s.tables.age_each ∙ sym size;
+          inverse = subst (λ l. IsInverse (set l p entry) (set new_places entry.slot p)) (sym heap_is) (subst (λ l. IsInverse (set (set heap j (entry_at heap p)) p entry) (set l entry.slot p)) (sym places_is)
+              (inverse_exchanged (set heap j entry) (set places entry.slot j) (set (set heap j (entry_at heap p)) p entry) (set (set places (slot_at heap p) j) entry.slot p) j p s.tables.inverse in_j in_p sift_exchanges));
           few = omega (arith, size, s.tables.few);
           small = omega (arith, size, s.tables.small);
         };
         place = within;
-        slot_in = omega (arith, s.slot_in, ap length heap_is, length-set heap j (get_or heap p 0));
-        same = λ i. ap (λ l. nat_lt (get_or (set l slot p) i 0) count) places_is
-            ∙ same_exchanged (set heap j slot) (set places slot j) (set (set heap j (get_or heap p 0)) p slot) (set (set places (get_or heap p 0) j) slot p) j p s.tables.inverse in_j in_p sift_exchanges count s.place within i
-            ∙ s.same i;
+        slot_in = omega (arith, s.slot_in, new_long);
+        size = new_long ∙ s.size;
+        same = λ i low.
+            let i_in : i < length heap = omega (arith, low, new_long) in
+            ap (λ l. held count (set l p entry) (get_or (set new_places entry.slot p) i 0)) heap_is
+            ∙ ap (λ l. held count (set (set heap j (entry_at heap p)) p entry) (get_or (set l entry.slot p) i 0)) places_is
+            ∙ same_exchanged (set heap j entry) (set places entry.slot j) (set (set heap j (entry_at heap p)) p entry) (set (set places (slot_at heap p) j) entry.slot p) j p s.tables.inverse in_j in_p sift_exchanges count s.place within i (omega (arith, i_in, long))
+            ∙ s.same i i_in;
       }
 
-  pub keys_swapped : (above : ℕ) (new_heap : List ℕ) → above ≡ get_or heap p 0 → new_heap ≡ set heap j above
-      → IsSwapped (key moments (set heap j slot)) (key moments (set new_heap p slot)) j p
+  pub keys_swapped : (above : Entry) (new_heap : List Entry) → above ≡ entry_at heap p → new_heap ≡ set heap j above
+      → IsSwapped (key (set heap j entry)) (key (set new_heap p entry)) j p
   keys_swapped above new_heap a h =
-      let is : set new_heap p slot ≡ set (set heap j (get_or heap p 0)) p slot = ap (λ l. set l p slot) (h ∙ ap (λ k. set heap j k) a) in
+      let is : set new_heap p entry ≡ set (set heap j (entry_at heap p)) p entry = ap (λ l. set l p entry) (h ∙ ap (λ k. set heap j k) a) in
+      let at : (i k : ℕ) → entry_at (set (set heap j (entry_at heap p)) p entry) i ≡ entry_at (set heap j entry) k → key (set new_heap p entry) i ≡ key (set heap j entry) k =
+      λ i k e. ap (λ l. key l i) is ∙ key_by (entry_at (set (set heap j (entry_at heap p)) p entry) i) (entry_at (set heap j entry) k) e in
       record {
-        first = ap (λ l. key moments l j) is ∙ ap (moment_at moments) sift_exchanges.first;
-        second = ap (λ l. key moments l p) is ∙ ap (moment_at moments) sift_exchanges.second;
-        others = λ i q r. ap (λ l. key moments l i) is ∙ ap (moment_at moments) (sift_exchanges.others i q r);
+        first = at j p sift_exchanges.first;
+        second = at p j sift_exchanges.second;
+        others = λ i q r. at i i (sift_exchanges.others i q r);
       }
 
   -- what is read at another place is what stands there in the end
-  pub key_there : key moments (set heap j slot) p ≡ key moments heap p
-  key_there = ap (moment_at moments) at_p
+  pub key_there : key (set heap j entry) p ≡ key heap p
+  key_there = key_by (entry_at (set heap j entry) p) (entry_at heap p) at_p
+
+-- an entry that is where it was
+pub unmoved : (heap : List Entry) (j : ℕ) (entry : Entry) → entry ≡ entry_at heap j → heap ≡ set heap j entry
+unmoved heap j entry is = sym (ap (λ e. set heap j e) is ∙ set-get_or heap j blank)
+
+pub sift_starts : (heap : List Entry) (places : List ℕ) (count j : ℕ) (entry : Entry) → AreTables heap places count → j < count → entry ≡ entry_at heap j → IsSifting heap places heap places count j entry
+sift_starts heap places count j entry t within is =
+    let j_in : j < length heap = omega (arith, within, t.few) in
+    let slot : entry.slot ≡ slot_at heap j = slot_by entry (entry_at heap j) is in
+    let heap_is : heap ≡ set heap j entry = unmoved heap j entry is in
+    let places_is : places ≡ set places entry.slot j =
+    sym (ap (λ k. set places entry.slot k) (sym (ap (λ k. get_or places k 0) slot ∙ t.inverse.there j j_in)) ∙ set-get_or places entry.slot 0) in
+    record {
+      tables = subst (λ h. AreTables h (set places entry.slot j) count) heap_is (subst (λ p. AreTables heap p count) places_is t);
+      place = within;
+      slot_in = omega (arith, slot, t.inverse.slots j j_in);
+      size = refl;
+      same = λ s h. sym (ap (λ l. held count l (get_or places s 0)) heap_is ∙ ap (λ l. held count (set heap j entry) (get_or l s 0)) places_is);
+    }
+
+-- an entry that has arrived
+pub sift_ends : (old_heap : List Entry) (old_places : List ℕ) (heap : List Entry) (places : List ℕ) (count j : ℕ) (entry : Entry) (new_heap : List Entry) (new_places : List ℕ) → IsSifting old_heap old_places heap places count j entry
+    → new_heap ≡ set heap j entry → new_places ≡ set places entry.slot j → IsHeap (key (set heap j entry)) count → IsMended old_heap old_places new_heap new_places count
+sift_ends old_heap old_places heap places count j entry new_heap new_places s h p order =
+    let long : length (set heap j entry) ≡ length heap = length-set heap j entry in
+    let mended : IsMended old_heap old_places (set heap j entry) (set places entry.slot j) count = record {
+      tables = s.tables;
+      order = order;
+      size = long ∙ s.size;
+      same = λ i low. s.same i (omega (arith, low, long));
+    } in
+    subst (λ l. IsMended old_heap old_places l new_places count) (sym h) (subst (λ l. IsMended old_heap old_places (set heap j entry) l count) (sym p) mended)

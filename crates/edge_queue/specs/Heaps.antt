@@ -1,81 +1,99 @@
--- Slots in heap order. No public clause cites this module.
-use Rattle.std.specs.Prelude.{◌≡◌, ◌≢◌, ℕ, ◌+◌, ◌-◌, ◌*◌, ◌/◌, ◌<◌, ◌≤◌, ◌^◌, ℤ, pos, ◌≤ℤ◌, nat_lt, List, length, slice_index, slice_index_or}
+-- Entries in heap order. No public clause cites this module.
+use Rattle.std.specs.Prelude.{◌≡◌, ◌≢◌, ℕ, ◌+◌, ◌-◌, ◌*◌, ◌/◌, ◌<◌, ◌≤◌, ◌^◌, ℤ, pos, ◌≤ℤ◌, nat_lt, if◌then◌else◌, List, length, slice_index, slice_index_or, Option, Some, None}
+use Rattle.edge_queue.specs.declared.entry.Entry.{Entry}
 
-abbrev pub moment_at : List ℤ → ℕ → ℤ
-moment_at moments s = slice_index_or moments s (pos 0)
+-- what stands past the end of a list of entries
+abbrev pub blank : Entry
+blank = record { moment = pos 0; age = 0; slot = 0 }
 
--- the moment of the slot at a place of the heap
-abbrev pub key : List ℤ → List ℕ → ℕ → ℤ
-key moments heap i = moment_at moments (slice_index heap i)
+abbrev pub entry_at : List Entry → ℕ → Entry
+entry_at heap i = slice_index_or heap i blank
+
+-- the slot and the moment at a place of the heap
+abbrev pub slot_at : List Entry → ℕ → ℕ
+slot_at heap i = (slice_index_or heap i blank).slot
+
+abbrev pub key : List Entry → ℕ → ℤ
+key heap i = (slice_index_or heap i blank).moment
+
+-- the moment at a place, if that is among the first so many
+abbrev pub held : ℕ → List Entry → ℕ → Option ℤ
+held count heap p = if nat_lt p count then Some (key heap p) else None
 
 -- each table undoes the other
-pub record IsInverse (heap places : List ℕ) : Type 0 where
+pub record IsInverse (heap : List Entry) (places : List ℕ) : Type 0 where
   pub sizes : length places ≡ length heap
-  pub slots : (i : ℕ) → i < length heap → slice_index heap i < length heap
-  pub there : (i : ℕ) → i < length heap → slice_index places (slice_index heap i) ≡ i
+  pub slots : (i : ℕ) → i < length heap → slot_at heap i < length heap
+  pub there : (i : ℕ) → i < length heap → slice_index places (slot_at heap i) ≡ i
   pub spots : (s : ℕ) → s < length heap → slice_index places s < length heap
-  pub back : (s : ℕ) → s < length heap → slice_index heap (slice_index places s) ≡ s
+  pub back : (s : ℕ) → s < length heap → slot_at heap (slice_index places s) ≡ s
 
 -- the tables of a heap: there is a place in each for each slot, and the first so many places are the heap
-pub record AreTables (moments : List ℤ) (ages heap places : List ℕ) (count : ℕ) : Type 0 where
+pub record AreTables (heap : List Entry) (places : List ℕ) (count : ℕ) : Type 0 where
   pub inverse : IsInverse heap places
-  pub moment_each : length moments ≡ length heap
-  pub age_each : length ages ≡ length heap
   pub few : count ≤ length heap
   pub small : length heap < 2 ^ 32
 
--- no child of the first n has a lesser key than its parent; the parent of place k is (k - 1) / 2
+-- no child of the first n has a lesser key than its parent; the parent of place k is (k - 1) / 4
 pub record IsHeap (f : ℕ → ℤ) (n : ℕ) : Type 0 where
-  pub order : (p k : ℕ) → p * 2 + 1 ≤ k → k ≤ p * 2 + 2 → k < n → f p ≤ℤ f k
+  pub order : (p k : ℕ) → p * 4 + 1 ≤ k → k ≤ p * 4 + 4 → k < n → f p ≤ℤ f k
 
 -- the same but for the key at j
 pub record IsHeapBut (f : ℕ → ℤ) (j n : ℕ) : Type 0 where
-  pub others : (p k : ℕ) → p * 2 + 1 ≤ k → k ≤ p * 2 + 2 → k < n → p ≢ j → k ≢ j → f p ≤ℤ f k
-  pub around : (k : ℕ) → 0 < j → j * 2 + 1 ≤ k → k ≤ j * 2 + 2 → k < n → f ((j - 1) / 2) ≤ℤ f k
+  pub others : (p k : ℕ) → p * 4 + 1 ≤ k → k ≤ p * 4 + 4 → k < n → p ≢ j → k ≢ j → f p ≤ℤ f k
+  pub around : (k : ℕ) → 0 < j → j * 4 + 1 ≤ k → k ≤ j * 4 + 4 → k < n → f ((j - 1) / 4) ≤ℤ f k
 
 -- the same but that the key at j may be less than its parent's
 pub record IsRising (f : ℕ → ℤ) (j n : ℕ) : Type 0 where
-  pub others : (p k : ℕ) → p * 2 + 1 ≤ k → k ≤ p * 2 + 2 → k < n → k ≢ j → f p ≤ℤ f k
-  pub around : (k : ℕ) → 0 < j → j * 2 + 1 ≤ k → k ≤ j * 2 + 2 → k < n → f ((j - 1) / 2) ≤ℤ f k
+  pub others : (p k : ℕ) → p * 4 + 1 ≤ k → k ≤ p * 4 + 4 → k < n → k ≢ j → f p ≤ℤ f k
+  pub around : (k : ℕ) → 0 < j → j * 4 + 1 ≤ k → k ≤ j * 4 + 4 → k < n → f ((j - 1) / 4) ≤ℤ f k
 
 -- the same but that the key at j may be greater than its children's
 pub record IsSinking (f : ℕ → ℤ) (j n : ℕ) : Type 0 where
-  pub others : (p k : ℕ) → p * 2 + 1 ≤ k → k ≤ p * 2 + 2 → k < n → p ≢ j → f p ≤ℤ f k
-  pub around : (k : ℕ) → 0 < j → j * 2 + 1 ≤ k → k ≤ j * 2 + 2 → k < n → f ((j - 1) / 2) ≤ℤ f k
+  pub others : (p k : ℕ) → p * 4 + 1 ≤ k → k ≤ p * 4 + 4 → k < n → p ≢ j → f p ≤ℤ f k
+  pub around : (k : ℕ) → 0 < j → j * 4 + 1 ≤ k → k ≤ j * 4 + 4 → k < n → f ((j - 1) / 4) ≤ℤ f k
 
 -- the parent of a place has no lesser key than this moment
 pub record IsLaterParent (f : ℕ → ℤ) (m : ℤ) (j p : ℕ) : Type 0 where
   pub below : 0 < j
-  pub parent : p ≡ (j - 1) / 2
+  pub parent : p ≡ (j - 1) / 4
   pub later : m ≤ℤ f p
 
--- of two places side by side, or of the first alone where the second is not below n, that of the lesser key
-pub record IsLesser (f : ℕ → ℤ) (n left c : ℕ) : Type 0 where
-  pub low : left ≤ c
-  pub high : c ≤ left + 1
+-- of two places, or of the first alone where the next is not below n, that of the lesser key
+pub record IsEarlierOf (f : ℕ → ℤ) (n first next c : ℕ) : Type 0 where
   pub within : c < n
-  pub least : (k : ℕ) → left ≤ k → k ≤ left + 1 → k < n → f c ≤ℤ f k
+  pub one : c ≢ first → c ≡ next
+  pub no_later : f c ≤ℤ f first
+  pub least : next < n → f c ≤ℤ f next
 
--- the child of a place with the lesser key, which is no greater than this moment
+-- of so many places side by side, those that are below n, the one of the least key
+pub record IsLeastOf (f : ℕ → ℤ) (n left wide c : ℕ) : Type 0 where
+  pub low : left ≤ c
+  pub high : c < left + wide
+  pub within : c < n
+  pub least : (k : ℕ) → left ≤ k → k < left + wide → k < n → f c ≤ℤ f k
+
+-- the child of a place with the least key, which is no greater than this moment
 pub record IsEarlierChild (f : ℕ → ℤ) (m : ℤ) (n j c : ℕ) : Type 0 where
-  pub child : IsLesser f n (j * 2 + 1) c
+  pub child : IsLeastOf f n (j * 4 + 1) 4 c
   pub earlier : f c ≤ℤ m
 
 -- no child of a place has a lesser key than this moment
 pub record NoEarlierChild (f : ℕ → ℤ) (m : ℤ) (n j : ℕ) : Type 0 where
-  pub none : (k : ℕ) → j * 2 + 1 ≤ k → k ≤ j * 2 + 2 → k < n → m ≤ℤ f k
+  pub none : (k : ℕ) → j * 4 + 1 ≤ k → k ≤ j * 4 + 4 → k < n → m ≤ℤ f k
 
--- the tables are a heap of the same slots as before
-pub record IsMended (moments : List ℤ) (ages before heap places : List ℕ) (count : ℕ) : Type 0 where
-  pub tables : AreTables moments ages heap places count
-  pub order : IsHeap (key moments heap) count
-  pub same : (s : ℕ) → nat_lt (slice_index places s) count ≡ nat_lt (slice_index before s) count
+-- the tables are a heap in which each slot has the moment that it had before
+pub record IsMended (old_heap : List Entry) (old_places : List ℕ) (heap : List Entry) (places : List ℕ) (count : ℕ) : Type 0 where
+  pub tables : AreTables heap places count
+  pub order : IsHeap (key heap) count
+  pub size : length heap ≡ length old_heap
+  pub same : (s : ℕ) → s < length heap → held count heap (slice_index places s) ≡ held count old_heap (slice_index old_places s)
 
 -- a slot is among the first places, the others as before
-pub record IsEntered (heap places new_heap new_places : List ℕ) (count new_count slot : ℕ) : Type 0 where
+pub record IsEntered (heap : List Entry) (places : List ℕ) (new_heap : List Entry) (new_places : List ℕ) (count new_count slot : ℕ) : Type 0 where
   pub inverse : IsInverse new_heap new_places
   pub size : length new_heap ≡ length heap
   pub few : new_count ≤ length heap
   pub among : slice_index new_places slot < new_count
-  pub others : (i : ℕ) → i < new_count → slice_index new_heap i ≢ slot → (i < count) × (slice_index new_heap i ≡ slice_index heap i)
-  pub same : (s : ℕ) → s ≢ slot → s < length heap → nat_lt (slice_index new_places s) new_count ≡ nat_lt (slice_index places s) count
+  pub others : (i : ℕ) → i < new_count → slot_at new_heap i ≢ slot → (i < count) × (key new_heap i ≡ key heap i)
+  pub same : (s : ℕ) → s ≢ slot → s < length heap → held new_count new_heap (slice_index new_places s) ≡ held count heap (slice_index places s)

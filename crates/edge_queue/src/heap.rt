@@ -1,24 +1,23 @@
 ghost use Rattle.std.specs.Prelude.{◌≡◌, ◌<◌, ◌^◌, IfOk, Some, None, length, replicate, slice_index_or, slice_set};
 ghost use Rattle.edge_queue.specs.Slots.{IsLeastSlot};
 
+use crate::entry::Entry;
 use crate::sift::settle;
-use crate::tables::{enter, exchange, numbers};
+use crate::tables::{enter, exchange, fresh_entries, numbers};
 use mb_base::OutOfMemory;
 use std::alloc::Global;
 use std::marker::Model;
 
-/// An indexed binary heap of slots by their moments; of equal moments the one that was set first stands
-/// first. Contracts see the list of the moments by slot.
+/// An indexed heap of slots by their moments, in which an entry has up to four children; of equal moments the
+/// one that was set first stands first. Each entry has its moment and age with it, since the slots of entries
+/// that are compared lie far apart. Contracts see the list of the moments by slot.
 #[derive(Drop)]
 pub(crate) struct IndexedHeap {
-    // By slot: its moment, and how many were set before it.
-    moments: Vec<i64>,
-    ages: Vec<u64>,
-    next_age: u64,
-    // The slots, those that have a moment first, in heap order, and by slot its place among them.
-    heap: Vec<u32>,
+    // An entry of each slot, those of slots that have a moment first, in heap order, and by slot its place.
+    heap: Vec<Entry>,
     places: Vec<u32>,
     count: usize,
+    next_age: u64,
 }
 
 impl Model for IndexedHeap {
@@ -37,17 +36,13 @@ impl IndexedHeap {
     pub(crate) fn new(alloc: Global, size: u32) -> Result<IndexedHeap, OutOfMemory>
         ensures { IfOk result (λ h. h ≡ replicate size None) }
     {
-        let moments = vec![in alloc; 0i64; size as usize]?;
-        let ages = vec![in alloc; 0u64; size as usize]?;
-        let heap = numbers(alloc, size)?;
+        let heap = fresh_entries(alloc, size)?;
         let places = numbers(alloc, size)?;
         Ok(IndexedHeap {
-            moments,
-            ages,
-            next_age: 0,
             heap,
             places,
             count: 0,
+            next_age: 0,
         })
     }
 
@@ -58,7 +53,7 @@ impl IndexedHeap {
     {
         let place = self.places[slot as usize] as usize;
         if place < self.count {
-            return Some(self.moments[slot as usize]);
+            return Some(self.heap[place].moment);
         }
         None
     }
@@ -70,8 +65,8 @@ impl IndexedHeap {
         if self.count == 0 {
             return None;
         }
-        let slot = self.heap[0];
-        Some((slot, self.moments[slot as usize]))
+        let entry = self.heap[0];
+        Some((entry.slot, entry.moment))
     }
 
     /// Gives a slot this moment.
@@ -79,19 +74,12 @@ impl IndexedHeap {
         requires { slot < length self.old }
         ensures { self.new ≡ slice_set self.old slot (Some moment) }
     {
-        self.moments[slot as usize] = moment;
-        self.ages[slot as usize] = self.next_age;
-        self.next_age = self.next_age.wrapping_add(1);
+        let age = self.next_age;
+        self.next_age = age.wrapping_add(1);
         self.count = enter(&mut self.heap, &mut self.places, self.count, slot);
         let place = self.places[slot as usize] as usize;
-        settle(
-            &self.moments,
-            &self.ages,
-            &mut self.heap,
-            &mut self.places,
-            self.count,
-            place,
-        );
+        self.heap[place] = Entry { moment, age, slot };
+        settle(&mut self.heap, &mut self.places, self.count, place);
     }
 
     /// Takes the moment of a slot away.
@@ -108,14 +96,7 @@ impl IndexedHeap {
         if place == self.count {
             return;
         }
-        settle(
-            &self.moments,
-            &self.ages,
-            &mut self.heap,
-            &mut self.places,
-            self.count,
-            place,
-        );
+        settle(&mut self.heap, &mut self.places, self.count, place);
     }
 
     /// Takes all moments away.

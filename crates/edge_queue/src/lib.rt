@@ -3,6 +3,7 @@
 //! each call changes the moment of its item alone, and that `least` answers an item whose moment is least.
 #![tactic(auto)]
 
+mod entry;
 mod heap;
 mod item;
 mod law;

@@ -1,89 +1,79 @@
-ghost use Rattle.std.specs.Prelude.{◌≡◌, ℕ, ◌+◌, ◌-◌, ◌*◌, ◌/◌, ◌<◌, ◌≤◌, ◌^◌, ◌≤ℤ◌, IfSome, IfNone, length, slice_index, true, false};
-ghost use Rattle.edge_queue.specs.Heaps.{moment_at, key, IsLaterParent, IsLesser, IsEarlierChild, NoEarlierChild};
+ghost use Rattle.std.specs.Prelude.{◌≡◌, ℕ, ◌+◌, ◌-◌, ◌*◌, ◌/◌, ◌<◌, ◌≤◌, ◌^◌, ◌≤ℤ◌, IfSome, IfNone, length, true, false};
+ghost use Rattle.edge_queue.specs.Heaps.{key, IsLaterParent, IsEarlierOf, IsLeastOf, IsEarlierChild, NoEarlierChild};
 
-/// Whether a slot stands before another one: its moment is less, or it is the same and was set earlier.
-pub(crate) fn comes_before(moments: &[i64], ages: &[u64], a: u32, b: u32) -> bool
-    requires first { a < length moments.now }
-    requires second { b < length moments.now }
-    requires ages { length ages.now ≡ length moments.now }
-    ensures before { result ≡ true → moment_at moments.now a ≤ℤ moment_at moments.now b }
-    ensures after { result ≡ false → moment_at moments.now b ≤ℤ moment_at moments.now a }
+use crate::entry::Entry;
+
+/// Whether an entry stands before another one: its moment is less, or it is the same and was set earlier.
+fn comes_before(a: &Entry, b: &Entry) -> bool
+    ensures before { result ≡ true → a.now.moment ≤ℤ b.now.moment }
+    ensures after { result ≡ false → b.now.moment ≤ℤ a.now.moment }
 {
-    let first = moments[a as usize];
-    let second = moments[b as usize];
-    if first == second {
-        return ages[a as usize] < ages[b as usize];
-    }
-    first < second
+    // Without a branch: the order of entries in a heap can't be foretold.
+    (a.moment < b.moment) | ((a.moment == b.moment) & (a.age < b.age))
 }
 
-/// The parent of a place, where a slot at this place stands before it.
-pub(crate) fn later_parent(
-    moments: &[i64],
-    ages: &[u64],
-    heap: &[u32],
-    place: usize,
-    slot: u32,
-) -> Option<usize>
-    requires place { place < length heap.now }
-    requires slot { slot < length moments.now }
-    requires parent { 0 < place → slice_index heap.now ((place - 1) / 2) < length moments.now }
-    requires ages { length ages.now ≡ length moments.now }
-    ensures some { IfSome result (IsLaterParent (key moments.now heap.now) (moment_at moments.now slot) place) }
-    ensures none { IfNone result (0 < place → key moments.now heap.now ((place - 1) / 2) ≤ℤ moment_at moments.now slot) }
+/// The parent of a place, where an entry at this place stands before it.
+pub(crate) fn later_parent(heap: &[Entry], place: usize, entry: &Entry) -> Option<usize>
+    requires { place < length heap.now }
+    ensures some { IfSome result (IsLaterParent (key heap.now) entry.now.moment place) }
+    ensures none { IfNone result (0 < place → key heap.now ((place - 1) / 4) ≤ℤ entry.now.moment) }
 {
     if place == 0 {
         return None;
     }
-    let parent = (place - 1) / 2;
-    if comes_before(moments, ages, slot, heap[parent]) {
+    let parent = (place - 1) / 4;
+    if comes_before(entry, &heap[parent]) {
         return Some(parent);
     }
     None
 }
 
-/// Of a place and the next one, where that is below the count, the one whose slot stands first.
-fn lesser_place(moments: &[i64], ages: &[u64], heap: &[u32], count: usize, left: usize) -> usize
-    requires within { left < count }
+/// Of a place and a later one, where that is below the count, the one whose entry stands first.
+fn earlier_of(heap: &[Entry], count: usize, first: usize, next: usize) -> usize
+    requires within { first < count }
     requires few { count ≤ length heap.now }
-    requires slots { (k : ℕ) → left ≤ k → k < count → slice_index heap.now k < length moments.now }
-    requires ages { length ages.now ≡ length moments.now }
-    ensures { IsLesser (key moments.now heap.now) count left result }
+    ensures { IsEarlierOf (key heap.now) count first next result }
 {
-    let right = left + 1;
-    if right >= count {
-        return left;
+    if next >= count {
+        return first;
     }
-    if comes_before(moments, ages, heap[right], heap[left]) {
-        return right;
+    if comes_before(&heap[next], &heap[first]) {
+        return next;
     }
-    left
+    first
 }
 
-/// The child of a place that stands first, where it stands before a slot at this place.
+/// Of four places side by side, those below the count, the one whose entry stands first.
+fn least_of_four(heap: &[Entry], count: usize, left: usize) -> usize
+    requires within { left < count }
+    requires few { count ≤ length heap.now }
+    requires small { length heap.now < 2 ^ 32 }
+    ensures { IsLeastOf (key heap.now) count left 4 result }
+{
+    let of_two = earlier_of(heap, count, left, left + 1);
+    let of_three = earlier_of(heap, count, of_two, left + 2);
+    earlier_of(heap, count, of_three, left + 3)
+}
+
+/// The child of a place that stands first, where it stands before an entry at this place.
 pub(crate) fn earlier_child(
-    moments: &[i64],
-    ages: &[u64],
-    heap: &[u32],
+    heap: &[Entry],
     count: usize,
     place: usize,
-    slot: u32,
+    entry: &Entry,
 ) -> Option<usize>
     requires within { place < count }
     requires few { count ≤ length heap.now }
     requires small { length heap.now < 2 ^ 32 }
-    requires slot { slot < length moments.now }
-    requires slots { (k : ℕ) → place < k → k < count → slice_index heap.now k < length moments.now }
-    requires ages { length ages.now ≡ length moments.now }
-    ensures some { IfSome result (IsEarlierChild (key moments.now heap.now) (moment_at moments.now slot) count place) }
-    ensures none { IfNone result (NoEarlierChild (key moments.now heap.now) (moment_at moments.now slot) count place) }
+    ensures some { IfSome result (IsEarlierChild (key heap.now) entry.now.moment count place) }
+    ensures none { IfNone result (NoEarlierChild (key heap.now) entry.now.moment count place) }
 {
-    let left = place * 2 + 1;
+    let left = place * 4 + 1;
     if left >= count {
         return None;
     }
-    let child = lesser_place(moments, ages, heap, count, left);
-    if comes_before(moments, ages, heap[child], slot) {
+    let child = least_of_four(heap, count, left);
+    if comes_before(&heap[child], entry) {
         return Some(child);
     }
     None

@@ -8,8 +8,9 @@ use mb_base::OutOfMemory;
 use std::alloc::{AllocError, Global};
 use std::marker::Model;
 
-/// The moments at which edges and blossoms have their next event: an indexed binary heap (chapter 26 asks
-/// for the least of all slacks and duals at each step). Contracts see the moment of each item that has one.
+/// The moments at which edges and blossoms have their next event: an indexed heap in which an entry has up to
+/// four children (chapter 26 asks for the least of all slacks and duals at each step). Contracts see the moment
+/// of each item that has one.
 #[derive(Drop)]
 pub struct EdgeQueue {
     edges: u32,

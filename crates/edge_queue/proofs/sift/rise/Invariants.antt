@@ -5,8 +5,8 @@ use Rattle.edge_queue.proofs.sift.rise.Given as goal
 
 abbrev pub invariant-loop-parent : goal.invariant-loop-parent
 invariant-loop-parent l = record {
-  sifting : IsSifting l.moments l.ages l.fn.places.items l.heap.items l.places.items l.count l.place l.slot;
-  order : IsRising (key l.moments (set l.heap.items l.place l.slot)) l.place l.count;
+  sifting : IsSifting l.fn.heap.items l.fn.places.items l.heap.items l.places.items l.count l.place l.entry;
+  order : IsRising (key (set l.heap.items l.place l.entry)) l.place l.count;
 }
 
 abbrev pub decreases-loop-parent : goal.decreases-loop-parent

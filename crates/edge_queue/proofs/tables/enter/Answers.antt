@@ -1,11 +1,12 @@
 use Rattle.std.proofs.Common.{◌≡◌, ℕ, ◌<◌, List, length, get_or, subst, arith}
 use Rattle.std.proofs.lemmas.List.{get_or_read}
+use Rattle.edge_queue.specs.declared.entry.Entry.{Entry}
 use Rattle.edge_queue.proofs.Exchanges.{IsExchanged, exchanged_to, entered}
 use Rattle.edge_queue.proofs.tables.enter.Goals as goal
 
 pub returns : goal.returns
 returns c =
-    let heap : List ℕ = c.args.heap.now.items in
+    let heap : List Entry = c.args.heap.now.items in
     let places : List ℕ = c.args.places.now.items in
     let v = c.requires.inverse in
     let slot_in : c.args.slot < length heap = omega (arith, c.requires.slot) in

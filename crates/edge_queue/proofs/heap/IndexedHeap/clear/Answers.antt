@@ -1,9 +1,12 @@
-use Rattle.std.proofs.Common.{ap, ◌∙◌, length, List, Option, None, replicate}
+use Rattle.std.proofs.Common.{ap, ◌∙◌, sym, length, List, Option, None, replicate}
 use Rattle.std.specs.Prelude.{ℤ}
-use Rattle.edge_queue.proofs.Changes.{entries_none}
+use Rattle.std.proofs.lemmas.List.{length-map}
+use Rattle.edge_queue.specs.Heaps.{held}
+use Rattle.edge_queue.proofs.Entries.{none_held}
 use Rattle.edge_queue.proofs.heap.IndexedHeap.clear.Goals as goal
 
 pub returns : goal.returns
 returns c =
-    entries_none c.self.inside.count c.self.inside.places.items c.self.inside.moments.items
-    ∙ ap (λ (xs : List (Option ℤ)). let l : List (Option ℤ) = replicate (length xs) None in l) c.self.view_is
+    let a = c.self.inside in
+    none_held a.heap.items a.places.items
+    ∙ ap (λ n. let l : List (Option ℤ) = replicate n None in l) (sym (length-map a.places.items (held a.count a.heap.items)) ∙ ap length c.self.view_is)

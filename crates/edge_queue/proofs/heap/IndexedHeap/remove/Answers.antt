@@ -3,7 +3,7 @@ use Rattle.std.specs.Prelude.{ℤ}
 use Rattle.std.proofs.lemmas.List.{get_or_read}
 use Rattle.edge_queue.specs.Heaps.{AreTables}
 use Rattle.edge_queue.proofs.Exchanges.{IsExchanged, exchanged_to}
-use Rattle.edge_queue.proofs.Changes.{as_many, slots_long, absent_entries, left_tables, left_order, left_heap, left_entries}
+use Rattle.edge_queue.proofs.Changes.{slots_long, absent_entries, left_tables, left_order, left_heap, left_entries}
 use Rattle.edge_queue.proofs.heap.IndexedHeap.remove.Goals as goal
 use Rattle.edge_queue.proofs.heap.IndexedHeap.remove.Goals.{After-index, After-exchange}
 
@@ -17,7 +17,7 @@ returns-then-place-self c =
     let within : c.args.slot < length a.places.items = omega (arith, c.requires, slots_long a c.args.self.now c.self.invariant c.self.view_is, sizes) in
     let place : c.index.result.now ≡ get_or a.places.items c.args.slot 0 = get_or_read a.places.items c.args.slot c.index.result.now within c.index.ensures 0 in
     subst (λ (xs : List (Option ℤ)). xs ≡ set xs c.args.slot None) c.self.view_is
-    (absent_entries a.moments.items a.places.items a.count c.args.slot (as_many a c.self.invariant) within (omega (arith, place, c.if-place-self.true)))
+    (absent_entries a.heap.items a.places.items a.count c.args.slot within (omega (arith, place, c.if-place-self.true)))
 
 -- what the exchange leaves
 slot_in : (c : After-exchange) → c.args.slot < length c.self.inside.heap.items
@@ -40,10 +40,10 @@ swapped c =
     (exchanged_to a.heap.items a.places.items c.exchange.new.heap.items c.exchange.new.places.items c.index.result.now (a.count - 1) t.inverse
     (omega (arith, place c, here c, t.few)) (omega (arith, here c, t.few)) c.exchange.ensures.heap c.exchange.ensures.places)
 
-tables : (c : After-exchange) → AreTables c.self.inside.moments.items c.self.inside.ages.items c.exchange.new.heap.items c.exchange.new.places.items (c.self.inside.count - 1)
+tables : (c : After-exchange) → AreTables c.exchange.new.heap.items c.exchange.new.places.items (c.self.inside.count - 1)
 tables c =
     let a = c.self.inside in
-    left_tables a.moments.items a.ages.items a.heap.items a.places.items c.exchange.new.heap.items c.exchange.new.places.items a.count (a.count - 1) c.args.slot c.self.invariant.tables (one_less c) (slot_in c) (here c) (swapped c)
+    left_tables a.heap.items a.places.items c.exchange.new.heap.items c.exchange.new.places.items a.count (a.count - 1) c.args.slot c.self.invariant.tables (one_less c) (slot_in c) (here c) (swapped c)
 
 pub invariant_of-self : goal.invariant_of-self
 invariant_of-self c =
@@ -51,7 +51,7 @@ invariant_of-self c =
     let x = (goal.at.invariant_of-self c).After-exchange in
     record {
       tables = tables x;
-      order = left_heap a.moments.items a.ages.items a.heap.items a.places.items c.exchange.new.heap.items c.exchange.new.places.items a.count (a.count - 1) c.args.slot c.self.invariant.tables (one_less x) (slot_in x) (here x) (swapped x)
+      order = left_heap a.heap.items a.places.items c.exchange.new.heap.items c.exchange.new.places.items a.count (a.count - 1) c.args.slot c.self.invariant.tables (one_less x) (slot_in x) (here x) (swapped x)
           (omega (arith, place x, c.if-place-self-2.true)) c.self.invariant.order;
     }
 
@@ -59,28 +59,28 @@ pub returns-then-place-self-2 : goal.returns-then-place-self-2
 returns-then-place-self-2 c =
     let a = c.self.inside in
     let x = (goal.at.returns-then-place-self-2 c).After-exchange in
-    left_entries a.moments.items a.ages.items a.heap.items a.places.items c.exchange.new.heap.items c.exchange.new.places.items a.count (a.count - 1) c.args.slot c.self.invariant.tables (one_less x) (slot_in x) (here x) (swapped x)
-    c.exchange.new.places.items (swapped x).sizes (λ s. refl)
+    left_entries a.heap.items a.places.items c.exchange.new.heap.items c.exchange.new.places.items a.count (a.count - 1) c.args.slot c.self.invariant.tables (one_less x) (slot_in x) (here x) (swapped x)
+    c.exchange.new.heap.items c.exchange.new.places.items (swapped x).sizes (λ s h. refl)
     ∙ ap (λ (xs : List (Option ℤ)). set xs c.args.slot None) c.self.view_is
 
 pub settle-requires-clause-tables : goal.settle-requires-clause-tables
 settle-requires-clause-tables c =
     let x = (goal.at.settle-requires-clause-tables c).After-exchange in
-    rw (c.deref.ensures.value, c.deref-2.ensures.value) (tables x)
+    tables x
 
 pub settle-requires-clause-order : goal.settle-requires-clause-order
 settle-requires-clause-order c =
     let a = c.self.inside in
     let x = (goal.at.settle-requires-clause-order c).After-exchange in
-    rw (c.deref.ensures.value, place x)
-    (left_order a.moments.items a.ages.items a.heap.items a.places.items c.exchange.new.heap.items c.exchange.new.places.items a.count (a.count - 1) c.args.slot c.self.invariant.tables (one_less x) (slot_in x) (here x) (swapped x) c.self.invariant.order)
+    rw (place x)
+    (left_order a.heap.items a.places.items c.exchange.new.heap.items c.exchange.new.places.items a.count (a.count - 1) c.args.slot c.self.invariant.tables (one_less x) (slot_in x) (here x) (swapped x) c.self.invariant.order)
 
 pub returns : goal.returns
 returns c =
     let a = c.self.inside in
     let x = (goal.at.returns c).After-exchange in
     let long : length c.settle.new.places.items ≡ length a.places.items =
-    omega (arith, c.settle.ensures.tables.inverse.sizes, c.settle.ensures.tables.moment_each, ap length c.deref.ensures.value, as_many a c.self.invariant) in
-    left_entries a.moments.items a.ages.items a.heap.items a.places.items c.exchange.new.heap.items c.exchange.new.places.items a.count (a.count - 1) c.args.slot c.self.invariant.tables (one_less x) (slot_in x) (here x) (swapped x)
-    c.settle.new.places.items long c.settle.ensures.same
+    omega (arith, c.settle.ensures.tables.inverse.sizes, c.settle.ensures.size, (swapped x).size, c.self.invariant.tables.inverse.sizes) in
+    left_entries a.heap.items a.places.items c.exchange.new.heap.items c.exchange.new.places.items a.count (a.count - 1) c.args.slot c.self.invariant.tables (one_less x) (slot_in x) (here x) (swapped x)
+    c.settle.new.heap.items c.settle.new.places.items long (λ s h. c.settle.ensures.same s (omega (arith, h, c.settle.ensures.size, (swapped x).size)))
     ∙ ap (λ (xs : List (Option ℤ)). set xs c.args.slot None) c.self.view_is

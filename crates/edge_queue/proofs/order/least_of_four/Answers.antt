@@ -1,0 +1,14 @@
+use Rattle.std.proofs.Common.{ℕ, ◌+◌, arith}
+use Rattle.std.specs.Prelude.{ℤ}
+use Rattle.edge_queue.specs.Heaps.{key}
+use Rattle.edge_queue.proofs.Orders.{one_is_least, least_wider}
+use Rattle.edge_queue.proofs.order.least_of_four.Goals as goal
+
+pub returns : goal.returns
+returns c =
+    let f : ℕ → ℤ = key c.args.heap.now in
+    let n = c.args.count in
+    let left = c.args.left in
+    let two = least_wider f n left 1 left (left + 1) c.earlier_of-of_two.result (omega arith) (one_is_least f n left c.requires.within) c.earlier_of-of_two.ensures in
+    let three = least_wider f n left 2 c.earlier_of-of_two.result (left + 2) c.earlier_of-of_three.result (omega arith) two c.earlier_of-of_three.ensures in
+    least_wider f n left 3 c.earlier_of-of_three.result (left + 3) c.earlier_of.result (omega arith) three c.earlier_of.ensures
