@@ -110,7 +110,3 @@ module _ (s t : Search) (e one other : ℕ) (sound : IsSound s) (rest : t ≡ re
 -- a list that isn't empty has a first one
 pub first_of : (xs : List ℕ) → length xs ≢ 0 → (a : ℕ) × (holds xs a ≡ true)
 first_of xs some = (get_or xs 0 0, holds_at xs 0 0 (omega (arith, some)))
-
-pub empty_of : (xs : List ℕ) → length xs ≡ 0 → xs ≡ []
-empty_of [] none = refl
-empty_of (x ∷ xs) none = absurd (omega (arith, none))

@@ -11,7 +11,8 @@ use Rattle.alt_forest.specs.Standing.{IsStanding}
 use Rattle.alt_forest.proofs.Places.{nested_of, outer_range}
 use Rattle.mwpm_engine.specs.Passes.{IsSamePass, IsReady, IsGrowing, IsComplete}
 use Rattle.mwpm_engine.proofs.EventBounds.{still_bounded}
-use Rattle.mwpm_engine.proofs.Forest.{exposed_root, root_counts, none_left}
+use Rattle.augment.proofs.Fewer.{root_counted}
+use Rattle.mwpm_engine.proofs.Forest.{exposed_root, none_left}
 use Rattle.mwpm_engine.proofs.Timed.{timed_first}
 
 -- a search whose exposed nodes are those of another one
@@ -78,7 +79,7 @@ planted_on s t rest ready sound queued standing planted some =
 
 -- where some node is exposed there is one
 pub exposed_planted : (s t : Search) (a : ℕ) → t ≡ record s { labels = t.labels; queue = t.queue; standing = t.standing; seeds = t.seeds; scanned = t.scanned } → IsSound t → IsPlanted (state_of t) → IsExposed (state_of s) a → tree_count (state_of t) ≢ 0
-exposed_planted s t a rest sound planted x = root_counts (state_of t) a (nested_of t sound.shape) (exposed_root (state_of t) sound.depth a sound.state planted (exposed_after s t a rest x))
+exposed_planted s t a rest sound planted x = root_counted (state_of t) a (nested_of t sound.shape) (exposed_root (state_of t) sound.depth a sound.state planted (exposed_after s t a rest x))
 
 -- and where there is none no node is exposed
 pub planted_none_left : (s t : Search) → t ≡ record s { labels = t.labels; queue = t.queue; standing = t.standing; seeds = t.seeds; scanned = t.scanned } → IsReady s → IsSound t → IsPlanted (state_of t) → tree_count (state_of t) ≡ 0 → IsComplete t

@@ -23,6 +23,7 @@ use Rattle.alt_forest.proofs.Looks.{all_ends}
 use Rattle.alt_forest.proofs.Places.{nested_of, outer_range}
 use Rattle.dual_change.specs.declared.event.Event.{Event}
 use Rattle.dual_change.specs.declared.event.Event.TheVariants.{Grow, Shrink, Augment, Expand}
+use Rattle.augment.proofs.Joined.{none_entered}
 use Rattle.mwpm_engine.specs.Solutions.{size_of_graph, most_steps}
 use Rattle.mwpm_engine.specs.Passes.{IsReady, KeepsCounts, account, steps_to, phase_steps, augment_account, pass_steps}
 
@@ -60,16 +61,6 @@ looks_most s ends =
   where
     plain : (x m a b : ℕ) → x ≤ 2 * m → a * (2 * m) ≤ b * (2 * m) → x + 2 * m * a ≤ 2 * m + 2 * m * b
     plain x m a b p q = omega (arith, p, q)
-
--- nothing is in a queue where nothing has a moment
-
-none_among : (xs : List (Option ℤ)) → ((k : ℕ) → slice_index_or xs k None ≡ None) → entered_among xs ≡ 0
-none_among [] none = refl
-none_among (None ∷ rest) none = none_among rest (λ k. none (suc k))
-none_among (Some m ∷ rest) none = let first = none 0 in absurd (cc)
-
-pub none_entered : (q : Moments) → ((item : Item) → moment_of q item ≡ None) → entry_count q ≡ 0
-none_entered q none = none_among q.edges (λ k. none (Edge (suc k)))
 
 -- A round: the event makes up for what led to it. What is there when the forest is planted pays for all rounds of a phase but the last.
 

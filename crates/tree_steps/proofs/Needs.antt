@@ -54,14 +54,3 @@ needs_still s t clock e m h needs =
           (sym h.slack ∙ even))
           joins;
     }
-
--- an edge within one node needs no moment
-pub none_within : (s : State) (clock : ℤ) (e x : ℕ) (m : Option ℤ) → Joins s.graph s.blossoms e x x → NeedsMoment s clock e m
-none_within s clock e x m joins =
-    let u : node_u s.graph s.blossoms e ≡ x = ⊎_elim (λ p. p.0) (λ p. p.0) joins in
-    let v : node_v s.graph s.blossoms e ≡ x = ⊎_elim (λ p. p.1) (λ p. p.1) joins in
-    let level : (a b : ℕ) → Joins s.graph s.blossoms e a b → a ≡ b = λ a b j. ⊎_elim (λ p. sym p.0 ∙ u ∙ sym v ∙ p.1) (λ p. sym p.1 ∙ v ∙ sym u ∙ p.0) j in
-    record {
-      to_out = λ a b j outer out. outer_not_out (sym outer ∙ ap s.label (level a b j) ∙ out);
-      between = λ a b half j ne a_outer b_outer even. absurd (ne (level a b j));
-    }

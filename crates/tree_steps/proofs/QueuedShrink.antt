@@ -23,7 +23,8 @@ use Rattle.tree_steps.specs.Shrunk.{shrunk_state}
 use Rattle.tree_steps.specs.Shrinkable.{IsShrinkable, IsShrunk}
 use Rattle.tree_steps.proofs.Closed.{shrinks_from}
 use Rattle.tree_steps.proofs.CountedShrink.{IsNestedState, node_is}
-use Rattle.tree_steps.proofs.Needs.{EndStays, needs_still, none_within}
+use Rattle.alt_forest.proofs.Needs.{needs_none_within}
+use Rattle.tree_steps.proofs.Needs.{EndStays, needs_still}
 use Rattle.tree_steps.proofs.NewlyOuter.{in_newly}
 use Rattle.tree_steps.proofs.Shrunk.{slack_after}
 
@@ -67,7 +68,7 @@ module _ (s : State) (depth : ℕ → ℕ) (ring : List Link) (node base : ℕ) 
       let v_is = v_vertex s.graph d graph.ends is in
       let parts = or_parts (holds (newly_outer s ring) (edge_of s.graph d).u) (holds (newly_outer s ring) (edge_of s.graph d).v) out in
       ⊎_elim
-      (λ here. none_within t clock d node (moment_of r (OfEdge d)) (subst (λ k. Joins t.graph t.blossoms k node node) (sym here) joins))
+      (λ here. needs_none_within t clock d node (moment_of r (OfEdge d)) (subst (λ k. Joins t.graph t.blossoms k node node) (sym here) joins))
       (λ other. subst (NeedsMoment t clock d) (sym (same d other)) (needs_still s t clock d (moment_of q (OfEdge d)) (record {
         graph = refl;
         slack = slack_after s b base depth (shrinks_from s depth ring node base graph h can) d is;

@@ -11,7 +11,8 @@ use Rattle.alt_forest.specs.Searches.{state_of, label_at, edge_in}
 use Rattle.alt_forest.specs.Standing.{IsStanding}
 use Rattle.alt_forest.proofs.Queues.{standing_with}
 use Rattle.augment.proofs.Fewer.{exposed_in, fewer_in, trees_in, planted_in}
-use Rattle.augment.proofs.Joined.{none_entered, some_tree, no_tree, none_left, none_exposed, stays_in, queued_but, scanned_vertices, scanned_looks, first_of, empty_of}
+use Rattle.std.proofs.lemmas.List.{nil_from_length}
+use Rattle.augment.proofs.Joined.{none_entered, some_tree, no_tree, none_left, none_exposed, stays_in, queued_but, scanned_vertices, scanned_looks, first_of}
 use Rattle.augment.proofs.joining.join.Goals as goal
 
 pub returns-then-is_empty-clause-cleared : goal.returns-then-is_empty-clause-cleared
@@ -20,7 +21,7 @@ returns-then-is_empty-clause-cleared g c can a is p =
 
 pub returns-then-is_empty-clause-stays : goal.returns-then-is_empty-clause-stays
 returns-then-is_empty-clause-stays g c can a is not_one not_other =
-    c.clear.ensures.labels a ∙ sym (no_tree c.args.search.now c.exchange.new.search c.args.e can.one can.other c.requires.sound c.exchange.ensures.rest (c.exchange.ensures.exchanged can) (empty_of c.exchange.new.search.standing.items (let none : vec_len c.exchange.new.search.standing ≡ 0 = eqb-true (vec_len c.exchange.new.search.standing) 0 (sym c.is_empty.ensures ∙ c.if-is_empty.true) in omega (arith, none))) a is) ∙ stays_in c.args.search.now c.exchange.new.search c.args.e can.one can.other c.requires.sound c.exchange.ensures.rest (c.exchange.ensures.exchanged can) a is not_one not_other
+    c.clear.ensures.labels a ∙ sym (no_tree c.args.search.now c.exchange.new.search c.args.e can.one can.other c.requires.sound c.exchange.ensures.rest (c.exchange.ensures.exchanged can) (nil_from_length c.exchange.new.search.standing.items (let none : vec_len c.exchange.new.search.standing ≡ 0 = eqb-true (vec_len c.exchange.new.search.standing) 0 (sym c.is_empty.ensures ∙ c.if-is_empty.true) in omega (arith, none))) a is) ∙ stays_in c.args.search.now c.exchange.new.search c.args.e can.one can.other c.requires.sound c.exchange.ensures.rest (c.exchange.ensures.exchanged can) a is not_one not_other
 
 pub returns-then-is_empty-clause-one : goal.returns-then-is_empty-clause-one
 returns-then-is_empty-clause-one g c can =
@@ -47,12 +48,12 @@ returns-then-is_empty-clause-fewer g c =
 pub returns-then-is_empty-clause-trees : goal.returns-then-is_empty-clause-trees
 returns-then-is_empty-clause-trees g c =
     let can = c.requires.can in
-    ap (λ n. n + 2) (c.clear.ensures.trees ∙ sym (none_left c.args.search.now c.exchange.new.search c.args.e can.one can.other c.requires.sound c.exchange.ensures.rest (c.exchange.ensures.exchanged can) (empty_of c.exchange.new.search.standing.items (let none : vec_len c.exchange.new.search.standing ≡ 0 = eqb-true (vec_len c.exchange.new.search.standing) 0 (sym c.is_empty.ensures ∙ c.if-is_empty.true) in omega (arith, none))))) ∙ trees_in c.args.search.now c.exchange.new.search c.args.e can.one can.other c.requires.sound c.exchange.ensures.rest (c.exchange.ensures.exchanged can)
+    ap (λ n. n + 2) (c.clear.ensures.trees ∙ sym (none_left c.args.search.now c.exchange.new.search c.args.e can.one can.other c.requires.sound c.exchange.ensures.rest (c.exchange.ensures.exchanged can) (nil_from_length c.exchange.new.search.standing.items (let none : vec_len c.exchange.new.search.standing ≡ 0 = eqb-true (vec_len c.exchange.new.search.standing) 0 (sym c.is_empty.ensures ∙ c.if-is_empty.true) in omega (arith, none))))) ∙ trees_in c.args.search.now c.exchange.new.search c.args.e can.one can.other c.requires.sound c.exchange.ensures.rest (c.exchange.ensures.exchanged can)
 
 pub returns-then-is_empty-clause-planted : goal.returns-then-is_empty-clause-planted
 returns-then-is_empty-clause-planted g c planted a x out =
     let can = c.requires.can in
-    none_exposed c.args.search.now c.exchange.new.search c.args.e can.one can.other c.requires.sound c.exchange.ensures.rest (c.exchange.ensures.exchanged can) (empty_of c.exchange.new.search.standing.items (let none : vec_len c.exchange.new.search.standing ≡ 0 = eqb-true (vec_len c.exchange.new.search.standing) 0 (sym c.is_empty.ensures ∙ c.if-is_empty.true) in omega (arith, none))) planted a (subst (λ (u : Search). IsExposed (state_of u) a) c.clear.ensures.rest x)
+    none_exposed c.args.search.now c.exchange.new.search c.args.e can.one can.other c.requires.sound c.exchange.ensures.rest (c.exchange.ensures.exchanged can) (nil_from_length c.exchange.new.search.standing.items (let none : vec_len c.exchange.new.search.standing ≡ 0 = eqb-true (vec_len c.exchange.new.search.standing) 0 (sym c.is_empty.ensures ∙ c.if-is_empty.true) in omega (arith, none))) planted a (subst (λ (u : Search). IsExposed (state_of u) a) c.clear.ensures.rest x)
 
 pub returns-then-is_empty-clause-count : goal.returns-then-is_empty-clause-count
 returns-then-is_empty-clause-count g c =
