@@ -1,6 +1,5 @@
 -- How many steps a search counts at most.
-use Rattle.std.proofs.Common.{◌≡◌, ◌≢◌, ◌⊎◌, ℕ, zero, suc, ◌+◌, ◌-◌, ◌*◌, ◌<◌, ◌≤◌, ℤ, Bool, true, false, eqb, cond, List, [], ◌∷◌, length, Option, Some, None, refl, sym, ap, subst, arith, ⊎_elim, inl, inr, All}
-use Rattle.std.specs.Prelude.{slice_index_or}
+use Rattle.std.proofs.Common.{◌≡◌, ◌≢◌, ◌⊎◌, ℕ, zero, suc, ◌+◌, ◌-◌, ◌*◌, ◌<◌, ◌≤◌, Bool, true, false, eqb, cond, List, [], ◌∷◌, length, sym, ap, subst, arith, ⊎_elim, inl, inr, All}
 use Rattle.std.specs.List.{list_any}
 use Rattle.std.proofs.lemmas.Nat.{mul-le}
 use Rattle.std.proofs.lemmas.Bool.{eqb-true, eqb-false}
@@ -11,14 +10,11 @@ use Rattle.graph_theory.proofs.SumLemmas.{sum_to-le, sum_to-most, one_if-most}
 use Rattle.blossom_arena.specs.Family.{Blossom, Family}
 use Rattle.blossom_arena.proofs.Lists.{by_test}
 use Rattle.blossom_arena.proofs.Nested.{blossoms_most}
-use Rattle.edge_queue.specs.declared.item.Item.{Item}
-use Rattle.edge_queue.specs.declared.item.Item.TheVariants.{Edge}
-use Rattle.edge_queue.specs.Moments.{Moments, moment_of}
 use Rattle.alt_forest.specs.declared.search.Search.{Search}
 use Rattle.alt_forest.specs.State.{State, IsOutermost}
 use Rattle.alt_forest.specs.Searches.{HasShape, state_of}
 use Rattle.alt_forest.specs.Counts.{is_outside, outside_vertices, outside_among, measure, exposed_count}
-use Rattle.alt_forest.specs.Entries.{entered_among, entry_count, looks_left, outside_ends}
+use Rattle.alt_forest.specs.Entries.{entry_count, looks_left, outside_ends}
 use Rattle.alt_forest.proofs.Looks.{all_ends}
 use Rattle.alt_forest.proofs.Places.{nested_of, outer_range}
 use Rattle.dual_change.specs.declared.event.Event.{Event}

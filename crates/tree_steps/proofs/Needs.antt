@@ -3,9 +3,9 @@ use Rattle.std.proofs.Common.{◌≡◌, ◌⊎◌, ℕ, ℤ, ◌+ℤ◌, Option
 use Rattle.graph_theory.specs.Graph.{edge_of}
 use Rattle.blossom_arena.specs.Family.{outermost}
 use Rattle.alt_forest.specs.declared.label.Label.TheVariants.{Outer, Inner, Out}
-use Rattle.alt_forest.specs.State.{State, Joins, slack_of, node_u, node_v}
+use Rattle.alt_forest.specs.State.{State, slack_of, node_u, node_v}
 use Rattle.alt_forest.specs.Entries.{NeedsMoment}
-use Rattle.alt_forest.proofs.Relabelled.{outer_not_inner, outer_not_out, inner_not_out}
+use Rattle.alt_forest.proofs.Relabelled.{outer_not_inner, inner_not_out}
 
 -- an end of an edge whose node is inner now or is labelled as it was
 abbrev pub EndStays : State → State → ℕ → Type 0
