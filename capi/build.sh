@@ -43,7 +43,7 @@ archive_after_gate() {
   read -ra below <<<"$(sed -n 's/^blossom_c staticlib://p' "$top/crates.txt")"
   for name in "${below[@]}"; do
     at=$top/crates/$name/out/rlib/$name.rlib
-    if [ ! -f "$at" ] && [ ! -f "$kit/rlibs/$name.rlib" ]; then
+    if [ ! -e "$at" ]; then
       archive_by_rt
       return
     fi
