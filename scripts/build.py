@@ -2,13 +2,14 @@
 """Builds a program of this repository, several crates at a time: the crates that it stands on and no others, each proved first.
 
 Usage: build.py PROGRAM [--jobs N]. The lowest crates, on which nearly all others stand, come one after the other with all jobs of the prover. Then the tower of crates below the search's engine,
-which is high and narrow, is proved beside all others, in a folder of its own, since builds in one folder wait for each other. The last ones, which stand on one another in a row, have all
-jobs again, one crate after the other. The crates are built in a copy of their sources in the user's cache folder (XDG_CACHE_HOME, else
+which is high and narrow, and the crates above it up to solve_kinds are proved in one folder, and all others beside them in another, since builds in one folder wait for each other: first those that solve_kinds stands on,
+then those that only the last crates want. The last ones, which stand on one another in a row, have all jobs again. The crates are built in a copy of their sources in the user's cache folder (XDG_CACHE_HOME, else
 ~/.cache), since `rt all` takes every crate of the folder that it is called in, tests and benches too. What a crate's own folder has
 proved already is taken along. A line a crate goes to standard error, with its number and the time so far. Where it is interrupted,
 a later call goes on with what is left. The program is put into crates/PROGRAM/out. The status is 0, or that of the command that
 failed, whose last lines are printed."""
 import argparse
+import collections
 import filecmp
 import hashlib
 import os
@@ -24,6 +25,11 @@ TRIAL = (["check", "perfect"], b"p edge 0 0\ns OPTIMAL perfect 0\n")
 PARTS = ("src", "specs", "proofs")
 # The crate whose tower is proved beside all others.
 ENGINE = "mwpm_engine"
+# The last crate above the engine that others are still proved beside.
+MIDDLE = "solve_kinds"
+# What is proved first, with all jobs; the tower above it; beside the tower, what the middle wants; the middle, a row above the tower;
+# beside both, what only the last row wants; and that row.
+Plan = collections.namedtuple("Plan", "shared tower wanted middle late row")
 LAST_LINES = 30
 
 
@@ -77,17 +83,20 @@ def stood_on(below, name):
 
 
 def plan(below):
-    """What is proved in which way: what the tower and the others share, the tower above that, the others beside it, and the rest in a row, the program last.
-    Without the tower's top all but the row at the top are others."""
+    """What is proved in which way. Without the search's engine all but the row at the top are others."""
     level, row = levels(below), row_at_top(below)
     first = [name for name in sorted(below, key=level.get) if name not in row]
     if ENGINE not in first:
-        return [], [], first, row
+        return Plan([], [], first, [], [], row)
     tower = stood_on(below, ENGINE)
-    later = [name for name in first if name != ENGINE and ENGINE in stood_on(below, name)]
-    others = [name for name in first if name not in tower and name not in later]
+    row = [name for name in first if name not in tower and ENGINE in stood_on(below, name)] + row
+    middle = row[:row.index(MIDDLE) + 1] if MIDDLE in row else []
+    others = [name for name in first if name not in tower and name not in row]
+    wanted = set().union(*(stood_on(below, name) for name in middle)) if middle else set(others)
     shared = set().union(*(stood_on(below, name) for name in others)) & tower
-    return [name for name in first if name in shared], [name for name in first if name in tower - shared], others, later + row
+    return Plan([name for name in first if name in shared], [name for name in first if name in tower - shared],
+                [name for name in others if name in wanted], middle, [name for name in others if name not in wanted],
+                [name for name in row if name not in middle])
 
 
 def build_folder(program):
@@ -136,12 +145,17 @@ def waiting(folder):
     return folder + "-waiting"
 
 
+def move_one(source, target):
+    """Puts one folder where another may be."""
+    os.makedirs(os.path.dirname(target), exist_ok=True)
+    shutil.rmtree(target, ignore_errors=True)
+    os.replace(source, target)
+
+
 def move(names, source, target):
     """Moves crates from one folder to another."""
-    os.makedirs(os.path.join(target, "crates"), exist_ok=True)
     for name in names:
-        shutil.rmtree(os.path.join(target, "crates", name), ignore_errors=True)
-        os.replace(os.path.join(source, "crates", name), os.path.join(target, "crates", name))
+        move_one(os.path.join(source, "crates", name), os.path.join(target, "crates", name))
 
 
 def bring_back(folder):
@@ -209,42 +223,76 @@ def prove_row(folder, row, program, jobs, log, progress):
     return 0
 
 
-def prove_beside(folder, crates, shared, tower, others, jobs, log, progress):
-    """Proves the tower in the folder, and the others beside it in another one, where what they share is copied to. Answers the status."""
-    other, statuses = beside(folder), []
-    move(others, folder, other)
-    for name in shared:
-        shutil.copytree(os.path.join(folder, "crates", name), os.path.join(other, "crates", name), dirs_exist_ok=True)
+def copy_crates(names, source, target):
+    """Copies crates, with what is proved of them, from one folder to another, each at once: an interrupted copy leaves no half of one."""
+    part = os.path.join(target, "copied")
+    for name in names:
+        shutil.rmtree(part, ignore_errors=True)
+        shutil.copytree(os.path.join(source, "crates", name), part)
+        move_one(part, os.path.join(target, "crates", name))
+
+
+def lane_beside(folder, crates, steps, jobs, log, progress):
+    """Proves what is wanted soon in the folder beside the tower's, then what is wanted late. Answers a thread, an event that is set
+    after the first, and the statuses."""
+    other, first, statuses = beside(folder), threading.Event(), []
+    move(steps.wanted, waiting(folder), other)
+    copy_crates(steps.shared, folder, other)
     shutil.copyfile(os.path.join(folder, "HANDLES"), os.path.join(other, "HANDLES"))
-    list_crates(other, {name: crates[name] for name in shared + others})
-    list_crates(folder, {name: crates[name] for name in shared + tower})
+
+    def work():
+        try:
+            list_crates(other, {name: crates[name] for name in steps.shared + steps.wanted})
+            statuses.append(prove(other, steps.wanted, jobs, log, progress) if steps.wanted else 0)
+            first.set()
+            if steps.late and not statuses[0]:
+                move(steps.late, waiting(folder), other)
+                list_crates(other, {name: crates[name] for name in steps.shared + steps.wanted + steps.late})
+                statuses.append(prove(other, steps.late, jobs, log, progress))
+        finally:
+            first.set()
+
+    return threading.Thread(target=work), first, statuses
+
+
+def prove_beside(folder, crates, steps, jobs, log, progress):
+    """Proves the tower and the middle in the folder, and the others beside them in another one. Answers the status."""
+    other, listed = beside(folder), steps.shared + steps.tower
+    list_crates(folder, {name: crates[name] for name in listed})
     with open(log.name + "-beside", "w", encoding="utf-8") as other_log:
-        thread = threading.Thread(target=lambda: statuses.append(prove(other, others, max(1, jobs - 1), other_log, progress)))
+        thread, first, statuses = lane_beside(folder, crates, steps, max(1, jobs - 1), other_log, progress)
         thread.start()
-        statuses.append(prove_row(folder, tower, None, max(1, jobs // 2), log, progress))
+        status = prove_row(folder, steps.tower, None, max(1, jobs // 2), log, progress)
+        first.wait()
+        if not status and statuses and not statuses[0]:
+            copy_crates(steps.wanted, other, folder)
+            move(steps.middle, waiting(folder), folder)
+            list_crates(folder, {name: crates[name] for name in listed + steps.wanted + steps.middle})
+            status = prove_row(folder, steps.middle, None, max(1, jobs - 1), log, progress)
         thread.join()
     with open(other_log.name, encoding="utf-8") as text:
         log.write(text.read())
-    move(others, other, folder)
-    return next((status for status in statuses if status), 0)
+    return status or next((it for it in statuses if it), 0)
 
 
 def build(program, folder, jobs, log):
     """Proves the crates that the program stands on, and makes it. Answers the status."""
     crates, below = crates_below(program)
-    shared, tower, others, row = plan(below)
+    steps = plan(below)
     lay_out(folder, crates)
     progress = Progress(program, len(crates))
-    move(row, folder, waiting(folder))
-    list_crates(folder, {name: crates[name] for name in shared + tower + others})
-    status = prove_row(folder, shared, None, jobs, log, progress)
-    if not status and tower:
-        status = prove_beside(folder, crates, shared, tower, others, jobs, log, progress)
-    elif not status and others:
-        status = prove(folder, others, jobs, log, progress)
-    move(row, waiting(folder), folder)
+    move(steps.wanted + steps.middle + steps.late + steps.row, folder, waiting(folder))
+    list_crates(folder, {name: crates[name] for name in steps.shared + steps.tower})
+    status = prove_row(folder, steps.shared, None, jobs, log, progress)
+    if not status and steps.tower:
+        status = prove_beside(folder, crates, steps, jobs, log, progress)
+    elif not status:
+        move(steps.wanted, waiting(folder), folder)
+        list_crates(folder, {name: crates[name] for name in steps.wanted})
+        status = prove(folder, steps.wanted, jobs, log, progress)
+    bring_back(folder)
     list_crates(folder, crates)
-    return status or prove_row(folder, row, program, jobs, log, progress)
+    return status or prove_row(folder, steps.row, program, jobs, log, progress)
 
 
 def report(program, path, status):
