@@ -28,9 +28,11 @@ ENGINE = "mwpm_engine"
 # The last crate above the engine that others are still proved beside.
 MIDDLE = "solve_kinds"
 # What is proved first, with all jobs; the tower above it; beside the tower, what the middle wants; the middle, a row above the tower;
-# beside both, what only the last row wants; and that row.
-Plan = collections.namedtuple("Plan", "shared tower wanted middle late row")
+# beside both, what only the last row wants; and that row. What each stands on is with it.
+Plan = collections.namedtuple("Plan", "below shared tower wanted middle late row")
 LAST_LINES = 30
+# All wait for the tower and the middle, so what is proved beside them takes the processors' time that these leave.
+BEHIND = 10
 
 
 def crates_below(program):
@@ -87,14 +89,14 @@ def plan(below):
     level, row = levels(below), row_at_top(below)
     first = [name for name in sorted(below, key=level.get) if name not in row]
     if ENGINE not in first:
-        return Plan([], [], first, [], [], row)
+        return Plan(below, [], [], first, [], [], row)
     tower = stood_on(below, ENGINE)
     row = [name for name in first if name not in tower and ENGINE in stood_on(below, name)] + row
     middle = row[:row.index(MIDDLE) + 1] if MIDDLE in row else []
     others = [name for name in first if name not in tower and name not in row]
     wanted = set().union(*(stood_on(below, name) for name in middle)) if middle else set(others)
     shared = set().union(*(stood_on(below, name) for name in others)) & tower
-    return Plan([name for name in first if name in shared], [name for name in first if name in tower - shared],
+    return Plan(below, [name for name in first if name in shared], [name for name in first if name in tower - shared],
                 [name for name in others if name in wanted], middle, [name for name in others if name not in wanted],
                 [name for name in row if name not in middle])
 
@@ -198,10 +200,10 @@ class Progress:
             print("%s: %d of %d: %s, %s" % (self.program, len(self.done), self.count, name, minutes(time.monotonic() - self.start)), file=sys.stderr)
 
 
-def prove(folder, names, jobs, log, progress):
-    """Proves these crates side by side, one job each. Answers the status."""
+def prove(folder, names, jobs, log, progress, behind=0):
+    """Proves these crates side by side, one job each; `behind` is how much the processors put them behind other work. Answers the status."""
     now = None
-    process = subprocess.Popen(["rt", "all", "check", "--jobs", str(jobs)], cwd=folder, stdin=subprocess.DEVNULL,
+    process = subprocess.Popen(["nice", "-n", str(behind), "rt", "all", "check", "--jobs", str(jobs)], cwd=folder, stdin=subprocess.DEVNULL,
                                stdout=subprocess.PIPE, stderr=subprocess.STDOUT, text=True, errors="replace")
     for line in process.stdout:
         log.write(line)
@@ -211,15 +213,29 @@ def prove(folder, names, jobs, log, progress):
     return process.wait()
 
 
-def prove_row(folder, row, program, jobs, log, progress):
+def prove_row(folder, row, program, jobs, log, progress, behind=0):
     """Builds these crates one after the other; the program is run once. Answers the status."""
     for name in row:
         log.flush()
         words = ["rt", "run", "--jobs", str(jobs), "--"] + TRIAL[0] if name == program else ["rt", "lib", "--jobs", str(jobs)]
-        done = subprocess.run(words, cwd=os.path.join(folder, "crates", name), input=TRIAL[1] if name == program else b"", stdout=log, stderr=log)
+        done = subprocess.run(["nice", "-n", str(behind)] + words, cwd=os.path.join(folder, "crates", name), input=TRIAL[1] if name == program else b"", stdout=log, stderr=log)
         if done.returncode:
             return done.returncode
         progress.say(name)
+    return 0
+
+
+def prove_tower(folder, crates, steps, jobs, log, progress):
+    """Proves the tower, level by level: what stands alone on its level with all jobs, others side by side. Answers the status."""
+    level, listed = levels(steps.below), list(steps.shared)
+    for height in sorted({level[name] for name in steps.tower}):
+        names = [name for name in steps.tower if level[name] == height]
+        move(names, waiting(folder), folder)
+        listed += names
+        list_crates(folder, {name: crates[name] for name in listed})
+        status = prove_row(folder, names, None, jobs, log, progress) if len(names) == 1 else prove(folder, names, jobs, log, progress)
+        if status:
+            return status
     return 0
 
 
@@ -235,7 +251,8 @@ def copy_crates(names, source, target):
 def lane_beside(folder, crates, steps, jobs, log, progress):
     """Proves what is wanted soon in the folder beside the tower's, then what is wanted late. Answers a thread, an event that is set
     after the first, and the statuses."""
-    other, first, statuses = beside(folder), threading.Event(), []
+    other, first, statuses, level = beside(folder), threading.Event(), [], levels(steps.below)
+    lowest = [name for name in steps.wanted if level[name] == min(level[it] for it in steps.wanted)]
     move(steps.wanted, waiting(folder), other)
     copy_crates(steps.shared, folder, other)
     shutil.copyfile(os.path.join(folder, "HANDLES"), os.path.join(other, "HANDLES"))
@@ -243,12 +260,15 @@ def lane_beside(folder, crates, steps, jobs, log, progress):
     def work():
         try:
             list_crates(other, {name: crates[name] for name in steps.shared + steps.wanted})
-            statuses.append(prove(other, steps.wanted, jobs, log, progress) if steps.wanted else 0)
+            if len(lowest) == 1:
+                statuses.append(prove_row(other, lowest, None, jobs, log, progress, BEHIND))
+            if steps.wanted and not any(statuses):
+                statuses.append(prove(other, steps.wanted, jobs, log, progress, BEHIND))
             first.set()
-            if steps.late and not statuses[0]:
+            if steps.late and not any(statuses):
                 move(steps.late, waiting(folder), other)
                 list_crates(other, {name: crates[name] for name in steps.shared + steps.wanted + steps.late})
-                statuses.append(prove(other, steps.late, jobs, log, progress))
+                statuses.append(prove(other, steps.late, jobs, log, progress, BEHIND))
         finally:
             first.set()
 
@@ -258,17 +278,16 @@ def lane_beside(folder, crates, steps, jobs, log, progress):
 def prove_beside(folder, crates, steps, jobs, log, progress):
     """Proves the tower and the middle in the folder, and the others beside them in another one. Answers the status."""
     other, listed = beside(folder), steps.shared + steps.tower
-    list_crates(folder, {name: crates[name] for name in listed})
     with open(log.name + "-beside", "w", encoding="utf-8") as other_log:
-        thread, first, statuses = lane_beside(folder, crates, steps, max(1, jobs - 1), other_log, progress)
+        thread, first, statuses = lane_beside(folder, crates, steps, jobs, other_log, progress)
         thread.start()
-        status = prove_row(folder, steps.tower, None, max(1, jobs // 2), log, progress)
+        status = prove_tower(folder, crates, steps, jobs, log, progress)
         first.wait()
-        if not status and statuses and not statuses[0]:
+        if not status and not any(statuses):
             copy_crates(steps.wanted, other, folder)
             move(steps.middle, waiting(folder), folder)
             list_crates(folder, {name: crates[name] for name in listed + steps.wanted + steps.middle})
-            status = prove_row(folder, steps.middle, None, max(1, jobs - 1), log, progress)
+            status = prove_row(folder, steps.middle, None, jobs, log, progress)
         thread.join()
     with open(other_log.name, encoding="utf-8") as text:
         log.write(text.read())
@@ -281,8 +300,8 @@ def build(program, folder, jobs, log):
     steps = plan(below)
     lay_out(folder, crates)
     progress = Progress(program, len(crates))
-    move(steps.wanted + steps.middle + steps.late + steps.row, folder, waiting(folder))
-    list_crates(folder, {name: crates[name] for name in steps.shared + steps.tower})
+    move([name for name in crates if name not in steps.shared], folder, waiting(folder))
+    list_crates(folder, {name: crates[name] for name in steps.shared})
     status = prove_row(folder, steps.shared, None, jobs, log, progress)
     if not status and steps.tower:
         status = prove_beside(folder, crates, steps, jobs, log, progress)

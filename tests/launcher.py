@@ -17,7 +17,7 @@ if [ "$1" != all ]; then
   mkdir -p out; printf '#!/bin/sh\\necho made\\n' >out/$name; chmod +x out/$name
   exit 0
 fi
-for name in left right low side blossom other; do
+for name in left right low side late blossom other; do
   [ -d crates/$name ] || continue
   echo "check $name" >>"$CALLS"
   echo "== $name"
@@ -29,8 +29,8 @@ done
 
 # The program stands on `low`, which stands on two crates; `other` is none that it needs.
 SMALL = "blossom: low\nlow: left right\nleft:\nright:\nother: low\n"
-# The search's engine stands on `low`, and so does `side`, which is proved beside it.
-WITH_TOWER = "blossom: mwpm_engine side\nmwpm_engine: low\nside: low\nlow:\n"
+# The search's engine stands on `low`, and so does `side`, which is proved beside it; `late` is proved beside `solve_kinds`.
+WITH_TOWER = "blossom: solve_kinds late\nsolve_kinds: mwpm_engine side\nmwpm_engine: low\nside: low\nlate: low\nlow:\n"
 
 
 def repository(room, crates=SMALL):
@@ -88,9 +88,11 @@ def check(tests):
         repository(room, WITH_TOWER)
         status, output, said, built = call(room)
         tests.compare("the search's crates are proved beside all others", "",
-                      (0, "made\n", ["check low", "check side", "lib low", "lib mwpm_engine", "run blossom"]), (status, output, sorted(built)))
+                      (0, "made\n", ["check late", "check low", "check side", "lib low", "lib mwpm_engine", "lib side", "lib solve_kinds", "run blossom"]),
+                      (status, output, sorted(set(built))))
         tests.compare("what both need comes first, the program last", "", ("lib low", "run blossom"), (built[0], built[-1]))
-        tests.compare("and a line a crate is said", "", ["1 of 4", "2 of 4", "3 of 4", "4 of 4"], [line.split(": ")[1] for line in said.splitlines() if " of " in line])
+        tests.compare("what solve_kinds stands on comes before it", "", True, built.index("lib solve_kinds") > max(built.index("lib mwpm_engine"), built.index("check side")))
+        tests.compare("and a line a crate is said", "", ["%d of 6" % k for k in range(1, 7)], [line.split(": ")[1] for line in said.splitlines() if " of " in line])
         change(room, "side")
         open(os.path.join(room, "crates", "side", "src", "broken"), "w", encoding="utf-8").close()
         status, output, said, built = call(room)
