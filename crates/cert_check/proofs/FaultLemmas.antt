@@ -34,6 +34,13 @@ first_formless d number z fault is =
           subst (λ (s : OddSet). HasForm s.members) (ap (λ (k : ℕ). set_at (sets_of d) k) number_of ∙ get_or-map set_of d.sets j other no_set below ∙ ap set_of (sym other_is)) form);
     }
 
+-- a set that lacks form leaves no room for form
+pub no_set_fault : (sets : List OddSet) (number : ℕ) → IsFirstSetFault sets number → All (λ s. HasForm s.members) sets → ⊥
+no_set_fault sets number fault all =
+    let low : 1 ≤ number = fault.low in
+    let high : number ≤ length sets = fault.high in
+    fault.lacks (All-get_or (λ (s : OddSet). HasForm s.members) sets (number - 1) no_set (omega arith) all)
+
 -- an edge with a slack below 0 leaves no room for slack
 pub no_slack : (g : Multigraph) (y : List ℤ) (sets : List OddSet) (e : ℕ) → IsFirstSlackFault g y sets e → All (λ e. pos 0 ≤ℤ slack y sets e) g.edges → ⊥
 no_slack g y sets e fault all =

@@ -1,5 +1,6 @@
 pub mod CountLemmas
 pub mod RuleLemmas
 pub mod FaultLemmas
+pub mod FormLemmas
 pub mod VerdictLemmas
 pub mod PartLemmas

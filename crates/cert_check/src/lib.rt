@@ -12,6 +12,7 @@ mod optimal;
 mod parts;
 mod ranges;
 mod rule;
+mod set_form;
 
 pub use judging::judge;
 pub use rule::{DocRule, Verdict};

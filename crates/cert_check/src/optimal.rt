@@ -12,6 +12,7 @@ ghost use Rattle.certificates.specs.Proved.{StatesTruth};
 
 use crate::claims::{answer_of, duals_of, sets_of};
 use crate::rule::{DocRule, Verdict};
+use crate::set_form::first_formless;
 use certificates::{certified, certified_vertices, value_for};
 use doc_format::{DocStatus, Document};
 use dual_check::{DualFault, bound};
@@ -72,12 +73,17 @@ fn judge_duals(
         let rule = DocRule::DualMissing;
         return Ok(Verdict::Rejected { rule, line });
     }
+    // A set without form is refused before the graph and the sets take memory.
+    let lines = document.sets.as_slice();
+    if let Some(number) = first_formless(lines) {
+        return Ok(refuse_set(instance, kind, document, number));
+    }
     let graph = certified(alloc, instance, kind)?;
     let y = duals_of(alloc, document.duals.as_slice())?;
-    let sets = sets_of(alloc, document.sets.as_slice())?;
+    let sets = sets_of(alloc, lines)?;
     match bound(alloc, &graph, &y, &sets) {
         Ok(value) => Ok(judge_value(instance, kind, document, value)),
-        Err(DualFault::SetForm(number)) => Ok(refuse_set(instance, kind, document, number)),
+        Err(DualFault::SetForm(_)) => unreachable!(),
         Err(DualFault::Slack(_)) => {
             let rule = DocRule::Slack;
             Ok(Verdict::Rejected { rule, line })

@@ -14,7 +14,7 @@ use Rattle.cert_check.specs.Verdicts.{KeepsBefore}
 use Rattle.certificates.specs.Within.{AreWithin}
 use Rattle.cert_check.proofs.RuleLemmas.{keeps-next}
 use Rattle.certificates.proofs.DualLemmas.{has_duals, duals_size, duals-numbers, sets-numbers, sets-within, forms-of_lines}
-use Rattle.cert_check.proofs.FaultLemmas.{no_slack}
+use Rattle.cert_check.proofs.FaultLemmas.{no_set_fault, no_slack}
 use Rattle.cert_check.proofs.optimal.judge_duals.Goals as goal
 
 pub returns-then-len-certified_vertices-clause-verdict : goal.returns-then-len-certified_vertices-clause-verdict
@@ -39,7 +39,7 @@ bound-requires-clause-set_numbers c =
     let i = c.args.instance.now in
     let d = c.args.document.now in
     let within : AreWithin c.args.kind i d = c.requires.within in
-    let sets : c.deref-2.result.now ≡ sets_of d = c.deref-2.ensures.value ∙ c.in_ok-sets.ensures ∙ ap (λ (zs : List SetLine). map set_of zs) c.as_slice-2.ensures in
+    let sets : c.deref-2.result.now ≡ sets_of d = c.deref-2.ensures.value ∙ c.in_ok-sets.ensures ∙ ap (λ (zs : List SetLine). map set_of zs) c.as_slice-lines.ensures in
     subst (λ (zs : List OddSet). All (λ s. IsNumber s.dual) zs) (sym sets) (sets-numbers (gadget_graph c.args.kind i).vertices d.sets within.sets)
 
 pub bound-requires-clause-sets_within : goal.bound-requires-clause-sets_within
@@ -47,7 +47,7 @@ bound-requires-clause-sets_within c =
     let i = c.args.instance.now in
     let d = c.args.document.now in
     let within : AreWithin c.args.kind i d = c.requires.within in
-    let sets : c.deref-2.result.now ≡ sets_of d = c.deref-2.ensures.value ∙ c.in_ok-sets.ensures ∙ ap (λ (zs : List SetLine). map set_of zs) c.as_slice-2.ensures in
+    let sets : c.deref-2.result.now ≡ sets_of d = c.deref-2.ensures.value ∙ c.in_ok-sets.ensures ∙ ap (λ (zs : List SetLine). map set_of zs) c.as_slice-lines.ensures in
     let graph : c.in_ok-graph.graph ≡ gadget_graph c.args.kind i = c.in_ok-graph.ensures.graph in
     subst (λ (g : Multigraph). All (IsSetWithin g.vertices) c.deref-2.result.now) (sym graph) (subst (λ (zs : List OddSet). All (IsSetWithin (gadget_graph c.args.kind i).vertices) zs) (sym sets) (sets-within (gadget_graph c.args.kind i).vertices d.sets within.sets))
 
@@ -57,7 +57,7 @@ judge_value-requires-clause-before c =
     let d = c.args.document.now in
     let within : AreWithin c.args.kind i d = c.requires.within in
     let ys : c.deref.result.now ≡ duals_of d = c.deref.ensures.value ∙ c.in_ok-y.ensures ∙ ap (λ (xs : List DualLine). map (λ (y : DualLine). y.dual) xs) c.as_slice.ensures in
-    let sets : c.deref-2.result.now ≡ sets_of d = c.deref-2.ensures.value ∙ c.in_ok-sets.ensures ∙ ap (λ (zs : List SetLine). map set_of zs) c.as_slice-2.ensures in
+    let sets : c.deref-2.result.now ≡ sets_of d = c.deref-2.ensures.value ∙ c.in_ok-sets.ensures ∙ ap (λ (zs : List SetLine). map set_of zs) c.as_slice-lines.ensures in
     let graph : c.in_ok-graph.graph ≡ gadget_graph c.args.kind i = c.in_ok-graph.ensures.graph in
     let ascending : AscendsBy (λ y. y.vertex) d.duals = d.form.vertices_ascend in
     let size : length d.duals ≡ (gadget_graph c.args.kind i).vertices = sym c.len.ensures ∙ c.if-len-certified_vertices.false ∙ c.certified_vertices.ensures.count in
@@ -82,11 +82,15 @@ refuse_set-requires-clause-before c =
     keeps-next c.args.kind i d DualMissing SetForm refl c.requires.before (λ _. have)
 
 pub refuse_set-requires-clause-fault : goal.refuse_set-requires-clause-fault
-refuse_set-requires-clause-fault c =
-    let d = c.args.document.now in
-    let sets : c.deref-2.result.now ≡ sets_of d = c.deref-2.ensures.value ∙ c.in_ok-sets.ensures ∙ ap (λ (zs : List SetLine). map set_of zs) c.as_slice-2.ensures in
-    let found : IsFirstSetFault c.deref-2.result.now c.in-Err-SetForm.number = rw c.in-Err-SetForm.field-0-is at c.in-Err-SetForm.ensures.fault in
-    subst (λ (zs : List OddSet). IsFirstSetFault zs c.in-Err-SetForm.number) sets found
+refuse_set-requires-clause-fault c = subst (λ (zs : List SetLine). IsFirstSetFault (map set_of zs) c.in-Some.number) c.as_slice-lines.ensures c.in-Some.ensures
+
+pub unreachable-requires : goal.unreachable-requires
+unreachable-requires c =
+    let zs = c.deref-2.result.now in
+    let number = c.in-Err-SetForm.field-0-0 in
+    let sets : zs ≡ map set_of c.as_slice-lines.result.now = c.deref-2.ensures.value ∙ c.in_ok-sets.ensures in
+    let found : IsFirstSetFault zs number = rw c.in-Err-SetForm.field-0-is at c.in-Err-SetForm.ensures.fault in
+    no_set_fault zs number found (subst (λ (ws : List OddSet). All (λ s. HasForm s.members) ws) (sym sets) c.in_default.ensures)
 
 pub returns-in-Err-Slack-clause-verdict : goal.returns-in-Err-Slack-clause-verdict
 returns-in-Err-Slack-clause-verdict c =
@@ -94,7 +98,7 @@ returns-in-Err-Slack-clause-verdict c =
     let d = c.args.document.now in
     let within : AreWithin c.args.kind i d = c.requires.within in
     let ys : c.deref.result.now ≡ duals_of d = c.deref.ensures.value ∙ c.in_ok-y.ensures ∙ ap (λ (xs : List DualLine). map (λ (y : DualLine). y.dual) xs) c.as_slice.ensures in
-    let sets : c.deref-2.result.now ≡ sets_of d = c.deref-2.ensures.value ∙ c.in_ok-sets.ensures ∙ ap (λ (zs : List SetLine). map set_of zs) c.as_slice-2.ensures in
+    let sets : c.deref-2.result.now ≡ sets_of d = c.deref-2.ensures.value ∙ c.in_ok-sets.ensures ∙ ap (λ (zs : List SetLine). map set_of zs) c.as_slice-lines.ensures in
     let graph : c.in_ok-graph.graph ≡ gadget_graph c.args.kind i = c.in_ok-graph.ensures.graph in
     let ascending : AscendsBy (λ y. y.vertex) d.duals = d.form.vertices_ascend in
     let size : length d.duals ≡ (gadget_graph c.args.kind i).vertices = sym c.len.ensures ∙ c.if-len-certified_vertices.false ∙ c.certified_vertices.ensures.count in
