@@ -56,6 +56,11 @@ impl Rule {
 }
 
 impl fmt::Display for Rule {
+    ghost use Rattle.std.specs.Prelude.{Some};
+    ghost use Rattle.dimacs_read.specs.Rule.{rule_name};
+
+    ghost output = { λ rule. Some (rule_name rule) };
+
     fn fmt<W: fmt::Write>(&self, f: &mut fmt::Formatter<W>) -> fmt::Result {
         f.write_str(self.name())
     }

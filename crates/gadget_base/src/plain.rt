@@ -51,14 +51,16 @@ pub fn count_listed(
     Ok(counts)
 }
 
-/// A perfect matching of the instance's own graph, given as the numbers of its edges, as an answer. It
-/// takes time linear in the edges. `OutOfMemory` is its one error.
+/// A perfect matching of the instance's own graph, given as the numbers of its edges, as an answer that
+/// counts each edge as often as it is listed. It takes time linear in the edges. `OutOfMemory` is its one
+/// error.
 pub fn extract_plain(
     alloc: Global,
     instance: &Instance,
     edges: &[EdgeId],
 ) -> Result<Answer, OutOfMemory>
     requires perfect { IsPerfectList (graph_of instance.now) edges.now }
+    ensures counted { IfOk result (λ a. a ≡ Counts (times_each (graph_of instance.now) edges.now)) }
     ensures feasible { IfOk result (IsFeasible Perfect instance.now) }
     ensures weighs { IfOk result (λ a. weight_of instance.now a ≡ walk_weight (graph_of instance.now) edges.now) }
 {

@@ -1,4 +1,5 @@
 ghost use Rattle.std.specs.Prelude.{◌≡◌, ◌==◌, if◌then◌else◌, [], ◌∷◌, ◌++◌, Some, IfOk, OnOk};
+ghost use Rattle.std.specs.List.Sorted.{IsStrictlyIncreasing};
 ghost use Rattle.graph_theory.specs.Graph.{IsEdgeNumber, edge_of};
 ghost use Rattle.gadget_base.specs.Listed.{ListsCounts};
 ghost use Rattle.mwpm_engine.specs.Solutions.{mate_at, matching_of};
@@ -39,11 +40,12 @@ fn push_matched(
     Ok(())
 }
 
-/// The edges of the perfect matching that was found, ascending, in time linear in the edges.
+/// The edges of the perfect matching that was found, each once, ascending. It takes time linear in the edges.
 pub fn matching(alloc: Global, engine: &Engine, graph: &Graph) -> Result<Vec<EdgeId>, OutOfMemory>
     requires matched { engine.now.outcome ≡ Some Matched }
     requires same { engine.now.graph ≡ graph.now }
-    ensures { IfOk result (λ v. ListsCounts graph.now (matching_of graph.now engine.now.mates) v.items) }
+    ensures counts { IfOk result (λ v. ListsCounts graph.now (matching_of graph.now engine.now.mates) v.items) }
+    ensures ascending { IfOk result (λ v. IsStrictlyIncreasing v.items) }
 {
     let mut edges = Vec::new(alloc);
     for place in 0..graph.edges() {

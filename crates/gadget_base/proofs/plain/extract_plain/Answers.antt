@@ -1,5 +1,6 @@
 use Rattle.std.proofs.Common.{◌≡◌, ◌≤◌, ◌*◌, List, ℕ, length, ap, sym, subst, ◌∙◌, arith}
 use Rattle.graph_theory.specs.Graph.{IsPerfect, weight}
+use Rattle.mb_problem.specs.declared.answer.Answer.TheVariants.{Counts}
 use Rattle.mb_problem.specs.Network.{graph_of, vertices}
 use Rattle.mb_problem.proofs.EdgeLemmas.{network-graph}
 use Rattle.gadget_base.specs.Listed.{times_each}
@@ -12,6 +13,9 @@ count_listed-requires-clause-few c =
     let few : vertices i ≤ 4096 = c.edges-edges.ensures.network.few_vertices in
     let twice : 2 * length c.args.edges.now ≡ vertices i = list-length (graph_of i) c.args.edges.now (network-graph i c.edges-edges.ensures.network).ends c.requires.perfect in
     omega arith
+
+pub returns-clause-counted : goal.returns-clause-counted
+returns-clause-counted c = ap Counts (c.from_vec.ensures ∙ c.in_ok-counts.ensures)
 
 pub returns-clause-feasible : goal.returns-clause-feasible
 returns-clause-feasible c =

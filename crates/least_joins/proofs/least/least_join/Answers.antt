@@ -29,7 +29,7 @@ extract-requires g c =
     let perfect : IsPerfect s.graph r.counts = subst (λ (k : Multigraph). IsPerfect k r.counts) (sym (same ∙ c.in_ok-graph.ensures.graph)) r.perfect in
     let is : IsSolved s = solved s c.run-matched.result (matched s c.run-matched.result r.counts graph perfect c.run-matched.ensures.ends) c.run-matched.ensures.ends in
     let found : IsPerfect h (matching_of h s.mates) = subst (λ (k : Multigraph). IsPerfect k (matching_of k s.mates)) same is.perfect in
-    let lists : ListsCounts h (matching_of h s.mates) c.deref.result.now = subst (λ (es : List ℕ). ListsCounts h (matching_of h s.mates) es) (sym c.deref.ensures.value) c.in_ok-edges.ensures in
+    let lists : ListsCounts h (matching_of h s.mates) c.deref.result.now = subst (λ (es : List ℕ). ListsCounts h (matching_of h s.mates) es) (sym c.deref.ensures.value) c.in_ok-edges.ensures.counts in
     record { perfect = subst (λ (k : Multigraph). IsPerfectList k c.deref.result.now) c.in_ok-graph.ensures.graph (list_from_perfect h (matching_of h s.mates) c.deref.result.now c.vertices-vertices.ensures.graph.ends found lists) }
 
 pub returns-clause-least : goal.returns-clause-least
@@ -43,7 +43,7 @@ returns-clause-least g c =
     let perfect : IsPerfect s.graph r.counts = subst (λ (k : Multigraph). IsPerfect k r.counts) (sym (same ∙ c.in_ok-graph.ensures.graph)) r.perfect in
     let is : IsSolved s = solved s c.run-matched.result (matched s c.run-matched.result r.counts graph perfect c.run-matched.ensures.ends) c.run-matched.ensures.ends in
     let found : IsPerfect h (matching_of h s.mates) = subst (λ (k : Multigraph). IsPerfect k (matching_of k s.mates)) same is.perfect in
-    let lists : ListsCounts h (matching_of h s.mates) c.deref.result.now = subst (λ (es : List ℕ). ListsCounts h (matching_of h s.mates) es) (sym c.deref.ensures.value) c.in_ok-edges.ensures in
+    let lists : ListsCounts h (matching_of h s.mates) c.deref.result.now = subst (λ (es : List ℕ). ListsCounts h (matching_of h s.mates) es) (sym c.deref.ensures.value) c.in_ok-edges.ensures.counts in
     let listed : walk_weight h c.deref.result.now ≡ weight h (matching_of h s.mates) = list-weight h (matching_of h s.mates) c.deref.result.now found.one_each lists in
     let weighs : walk_weight (graph_of i) c.in_ok-join.join.edges ≡ walk_weight h c.deref.result.now = c.in_ok-join.ensures.weighs ∙ ap (λ (k : Multigraph). walk_weight k c.deref.result.now) (sym c.in_ok-graph.ensures.graph) in
     let mine : walk_weight (graph_of i) c.in_ok-join.join.edges ≡ weight s.graph (matching_of s.graph s.mates) = weighs ∙ (listed ∙ ap (λ (k : Multigraph). weight k (matching_of k s.mates)) (sym same)) in

@@ -28,7 +28,7 @@ answer-requires-clause-perfect c =
     let mates = c.args.engine.now.mates in
     let graph : IsGraph g = c.vertices-vertices.ensures.graph in
     let perfect : IsPerfect g (matching_of g mates) = subst (λ (h : Multigraph). IsPerfect h (matching_of h mates)) c.requires.same c.requires.solved.perfect in
-    let lists : ListsCounts g (matching_of g mates) c.deref.result.now = subst (λ (es : List ℕ). ListsCounts g (matching_of g mates) es) (sym c.deref.ensures.value) c.in_ok-edges.ensures in
+    let lists : ListsCounts g (matching_of g mates) c.deref.result.now = subst (λ (es : List ℕ). ListsCounts g (matching_of g mates) es) (sym c.deref.ensures.value) c.in_ok-edges.ensures.counts in
     subst (λ (h : Multigraph). IsPerfectList h c.deref.result.now) c.requires.certified (list_from_perfect g (matching_of g mates) c.deref.result.now graph.ends perfect lists)
 
 pub stated_weight-weight-requires-clause-places : goal.stated_weight-weight-requires-clause-places
@@ -41,7 +41,7 @@ stated_weight-weight-requires-clause-number c =
     let g = c.args.graph.now in
     let mates = c.args.engine.now.mates in
     let perfect : IsPerfect g (matching_of g mates) = subst (λ (h : Multigraph). IsPerfect h (matching_of h mates)) c.requires.same c.requires.solved.perfect in
-    let lists : ListsCounts g (matching_of g mates) c.deref.result.now = subst (λ (es : List ℕ). ListsCounts g (matching_of g mates) es) (sym c.deref.ensures.value) c.in_ok-edges.ensures in
+    let lists : ListsCounts g (matching_of g mates) c.deref.result.now = subst (λ (es : List ℕ). ListsCounts g (matching_of g mates) es) (sym c.deref.ensures.value) c.in_ok-edges.ensures.counts in
     number-of_answer kind i g c.in_ok-answer.answer (matching_of g mates) c.edges-edges.ensures.network c.requires.certified c.vertices-vertices.ensures.graph c.requires.few_vertices c.requires.reached c.in_ok-answer.ensures.feasible perfect
     (pays-for_matching kind i g (matching_of g mates) c.deref.result.now (weight_of i c.in_ok-answer.answer) c.requires.certified perfect lists c.in_ok-answer.ensures.pays)
 
@@ -69,7 +69,7 @@ returns c =
     let s = c.args.engine.now in
     let mates = s.mates in
     let perfect : IsPerfect g (matching_of g mates) = subst (λ (h : Multigraph). IsPerfect h (matching_of h mates)) c.requires.same c.requires.solved.perfect in
-    let lists : ListsCounts g (matching_of g mates) c.deref.result.now = subst (λ (es : List ℕ). ListsCounts g (matching_of g mates) es) (sym c.deref.ensures.value) c.in_ok-edges.ensures in
+    let lists : ListsCounts g (matching_of g mates) c.deref.result.now = subst (λ (es : List ℕ). ListsCounts g (matching_of g mates) es) (sym c.deref.ensures.value) c.in_ok-edges.ensures.counts in
     let pays : value_for kind i (weight_of i c.in_ok-answer.answer) ≤ℤ (pos 2 *ℤ weight g (matching_of g mates)) = pays-for_matching kind i g (matching_of g mates) c.deref.result.now (weight_of i c.in_ok-answer.answer) c.requires.certified perfect lists c.in_ok-answer.ensures.pays in
     let number = number-of_answer kind i g c.in_ok-answer.answer (matching_of g mates) c.edges-edges.ensures.network c.requires.certified c.vertices-vertices.ensures.graph c.requires.few_vertices c.requires.reached c.in_ok-answer.ensures.feasible perfect pays in
     let w = c.stated_weight-weight.result in
