@@ -18,12 +18,9 @@ first_or_later true true now was y here out = absurd (both_ways true (here refl)
 first_or_later true false now was y here out = let e : now ≡ was +ℤ y = (here refl).1 in omega (arith, ints)
 first_or_later false q now was y here out = ap (λ t. t +ℤ cond q y (pos 0)) (out refl)
 
-nothing_more : (x : ℤ) → x ≡ x +ℤ pos 0
-nothing_more x = omega (arith, ints)
-
 -- each of different places has its number more
 pub added_at : (t : List ℤ) (f : ℕ → ℤ) (xs : List ℕ) (v : ℕ) → AllNew xs → v < length t → sum_at (added t f xs) v ≡ sum_at t v +ℤ cond (holds xs v) (f v) (pos 0)
-added_at t f [] v new h = nothing_more (sum_at t v)
+added_at t f [] v new h = omega (arith, ints)
 added_at t f (x ∷ xs) v new h =
     let z : ℤ = sum_at t x +ℤ f x in
     added_at (set t x z) f xs v new.1 (omega (arith, h, length-set t x z))

@@ -1,10 +1,9 @@
 -- The duals of the nodes that hold a vertex, where a dual changes and where a blossom comes or goes.
-use Rattle.std.proofs.Common.{◌≡◌, ℕ, suc, ◌+◌, ◌*◌, ◌≤◌, ◌<◌, Bool, true, false, ◌||◌, ◌&&◌, eqb, leb, cond, List, [], ◌∷◌, length, refl, sym, ap, ap₂, ◌∙◌, subst, arith, ⊎_elim}
+use Rattle.std.proofs.Common.{◌≡◌, ℕ, suc, ◌+◌, ◌*◌, ◌≤◌, ◌<◌, Bool, true, false, ◌||◌, ◌&&◌, eqb, cond, List, [], ◌∷◌, length, refl, sym, ap, ap₂, ◌∙◌, subst, arith, ⊎_elim}
 use Rattle.std.specs.Prelude.{ℤ, pos, neg_ℤ, ◌+ℤ◌, ◌-ℤ◌, ◌*ℤ◌, ◌≤ℤ◌, slice_set, All}
 use Rattle.std.specs.List.{AllByRecursion}
 use Rattle.std.proofs.Math.IntN.{+ℤ_idl}
-use Rattle.std.proofs.lemmas.Bool.{eqb-true, eqb-false, ne_eqb, eq-eqb, or_parts, or_cases, or_left, or_from, both_ways, leb-true}
-use Rattle.std.proofs.lemmas.Bool.Decides.{nat_tests}
+use Rattle.std.proofs.lemmas.Bool.{eqb-true, eqb-false, ne_eqb, eq-eqb, or_parts, or_cases, or_left, or_from, both_ways, cases_lt}
 use Rattle.std.proofs.lemmas.Int.{ints}
 use Rattle.std.proofs.lemmas.List.{get_or-set_other, get_or-set_same, get_or_past}
 use Rattle.graph_theory.specs.declared.limits.TheConstants.{GRAPH_VERTEX_LIMIT, NUMBER_LIMIT}
@@ -42,14 +41,11 @@ held_without y (b ∷ older) a v none =
     (λ s. ap (λ q. held_by y (cond q older (b ∷ without older a)) v) s ∙ ap (λ t. cond (holds b.members v) (y b.node) (pos 0) +ℤ t) (held_without y older a v none))
 
 -- how large they can be
-past : (k a : ℕ) → leb k a ≡ false → a < k
-past k a e = grind (arith, nat_tests)
-
 pub dual_number : (ys : List ℤ) (a : ℕ) → All IsNumber ys → IsNumber (dual_at ys a)
-dual_number ys a all =
-    by_test (leb (length ys) a)
-    (λ e. subst IsNumber (sym (get_or_past ys a (pos 0) (leb-true (length ys) a e))) (omega (arith, ints), omega (arith, ints)))
-    (λ e. all a (pos 0) (past (length ys) a e))
+dual_number ys a all = ⊎_elim
+    (λ (low : a < length ys). all a (pos 0) low)
+    (λ (high : length ys ≤ a). subst IsNumber (sym (get_or_past ys a (pos 0) high)) (omega (arith, ints), omega (arith, ints)))
+    (cases_lt a (length ys))
 
 record IsWithin (x : ℤ) (k : ℕ) : Type 0 where
   low : neg_ℤ (NUMBER_LIMIT *ℤ pos k) ≤ℤ x
