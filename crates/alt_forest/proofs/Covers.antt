@@ -1,16 +1,13 @@
 -- The duals of the nodes that hold a vertex are added up along its chain; and where the ends of an edge lie in two outermost
 -- nodes no blossom holds both, so the slack is what the covers of both ends leave.
-use Rattle.std.proofs.Common.{◌≡◌, ◌≢◌, ℕ, ◌≤◌, ℤ, pos, ◌+ℤ◌, ◌-ℤ◌, ◌*ℤ◌, true, false, cond, List, [], ◌∷◌, ◌++◌, length, sym, ap, ap₂, ◌∙◌, arith, ⊎_elim}
+use Rattle.std.proofs.Common.{◌≡◌, ◌≢◌, ℕ, ℤ, pos, ◌+ℤ◌, ◌-ℤ◌, ◌*ℤ◌, true, false, cond, List, [], ◌∷◌, ◌++◌, sym, ap, ap₂, ◌∙◌, arith, ⊎_elim}
 use Rattle.std.proofs.lemmas.Int.{ints}
 use Rattle.graph_theory.specs.declared.edge.Edge.{Edge}
-use Rattle.graph_theory.specs.declared.limits.TheConstants.{GRAPH_VERTEX_LIMIT}
 use Rattle.graph_theory.specs.Graph.{IsGraph, IsEdgeNumber, edge_of}
 use Rattle.graph_theory.specs.Parts.{holds}
 use Rattle.blossom_arena.specs.Family.{Blossom, IsNested, is_vertex, outermost, chain_of}
 use Rattle.blossom_arena.specs.Slack.{duals_across}
 use Rattle.blossom_arena.proofs.Ends.{u_vertex, v_vertex}
-use Rattle.blossom_arena.proofs.Nested.{blossoms_few}
-use Rattle.blossom_arena.proofs.Parents.{chain_short}
 use Rattle.alt_forest.specs.State.{State, held_by, cover, doubled, slack_of, node_u, node_v}
 use Rattle.alt_forest.specs.Chains.{holders, total_of}
 use Rattle.alt_forest.specs.Ends.{LeadsTo}
@@ -22,10 +19,6 @@ chain_cover y (b ∷ older) v = elim (holds b.members v) as (λ q. total_of y (c
   | true ↦ omega (arith, ints, total-append y (chain_of older v) b.node, chain_cover y older v)
   | false ↦ omega (arith, ints, chain_cover y older v)
 ]
-
--- a chain has half as many nodes as there are vertices, and one more, at most
-pub chain_limit : (n : ℕ) (bs : List Blossom) (v : ℕ) → IsNested n bs → n ≤ GRAPH_VERTEX_LIMIT → length (chain_of bs v) ≤ 2049
-chain_limit n bs v nested few = omega (arith, chain_short bs v, blossoms_few n bs nested, few)
 
 -- all nodes that hold the one vertex miss the other
 apart_chain : (n : ℕ) (bs : List Blossom) (u v : ℕ) → IsNested n bs → is_vertex n u ≡ true → is_vertex n v ≡ true → outermost bs u ≢ outermost bs v → holders bs u v ≡ chain_of bs u

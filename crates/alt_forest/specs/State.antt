@@ -11,6 +11,7 @@ use Rattle.blossom_arena.specs.declared.links.Link.{Link}
 use Rattle.graph_theory.specs.Parts.{holds}
 use Rattle.blossom_arena.specs.Family.{Blossom, outermost, is_outermost, is_vertex}
 use Rattle.blossom_arena.specs.Slack.{duals_across}
+pub use Rattle.blossom_arena.specs.Slack.{held_by}
 pub use Rattle.blossom_arena.specs.Tables.{next_node}
 use Rattle.alt_forest.specs.declared.label.Label.{Label}
 use Rattle.alt_forest.specs.declared.label.Label.TheVariants.{Outer, Inner, Out}
@@ -111,11 +112,6 @@ pub record FitsLabel (s : State) (depth : ℕ → ℕ) (a : ℕ) : Type 0 where
   pub outer : s.label a ≡ Outer → (e b : ℕ) → s.mate a ≡ Some e → IsMate s a e b → (s.label b ≡ Inner) × (depth b < depth a)
   pub inner : s.label a ≡ Inner → IsInner s depth a
   pub out : s.label a ≡ Out → (e b : ℕ) → s.mate a ≡ Some e → IsMate s a e b → s.label b ≡ Out
-
--- the duals of the blossoms that hold v, added up
-abbrev pub held_by : (ℕ → ℤ) → List Blossom → ℕ → ℤ
-held_by y [] v = pos 0
-held_by y (b ∷ older) v = (if holds b.members v then y b.node else pos 0) +ℤ held_by y older v
 
 -- the duals of all nodes that hold v, added up
 abbrev pub cover : State → ℕ → ℤ

@@ -119,17 +119,13 @@ fn duals_across(arena: &Arena, edge: &Edge) -> i64
     total(arena, arena.chain(edge.u), u) + total(arena, arena.chain(edge.v), v)
 }
 
-/// The duals of all nodes that hold a vertex, added up along its chain.
+/// The duals of all nodes that hold a vertex, added up, in constant time.
 pub(crate) fn cover(arena: &Arena, v: VertexId) -> i64
     requires { is_vertex arena.now.vertex_count v ≡ true }
     ensures cover { result ≡ dual_at arena.now.duals v +ℤ held_by (dual_at arena.now.duals) arena.now.blossoms v }
     ensures in_range { IsCover result }
 {
-    let mut sum = 0;
-    for node in arena.chain(v) {
-        sum += dual_or_zero(arena, Some(node));
-    }
-    sum
+    arena.cover(v)
 }
 
 /// Twice a weight, or 0 in the pass without weights.

@@ -1,9 +1,9 @@
 -- What a dissolve leaves: the blossoms that stood, without one.
-use Rattle.std.proofs.Common.{◌≡◌, ℕ, ◌+◌, ◌<◌, true, false, eqb, leb, cond, List, length, sym, ap, ◌∙◌, subst, arith, ⊎_elim, None}
-use Rattle.std.specs.Prelude.{slice_set, slice_index, IsSome, is_some, pos, ◌≤ℤ◌}
+use Rattle.std.proofs.Common.{◌≡◌, ℕ, ◌+◌, ◌<◌, true, false, not, eqb, leb, cond, List, length, sym, ap, ap₂, ◌∙◌, subst, arith, ⊎_elim, None}
+use Rattle.std.specs.Prelude.{slice_set, slice_index, IsSome, is_some, ℤ, pos, neg_ℤ, ◌+ℤ◌, ◌≤ℤ◌}
 use Rattle.std.specs.List.{AllByRecursion}
 use Rattle.std.specs.Global.{Vec}
-use Rattle.std.proofs.lemmas.Bool.{eqb-true, eqb-false, ne_eqb, or_cases, both_ways}
+use Rattle.std.proofs.lemmas.Bool.{eqb-true, eqb-false, ne_eqb, or_cases, both_ways, and_from}
 use Rattle.std.proofs.lemmas.Bool.Decides.{nat_tests}
 use Rattle.std.proofs.lemmas.List.{length-set}
 use Rattle.slab.specs.Slab.{Slab, get, Updates, slab_len}
@@ -11,10 +11,11 @@ use Rattle.graph_theory.specs.Parts.{holds}
 use Rattle.blossom_arena.specs.declared.runs.Kept.{Kept}
 use Rattle.blossom_arena.specs.declared.arena.Arena.TheInside.{Inside}
 use Rattle.blossom_arena.specs.Tables.{walk, links_of, filled}
-use Rattle.blossom_arena.specs.Family.{Blossom, nodes_of, in_ring, names_of, is_child, members_of, ring_of, without, dual_at, HasDuals, IsNested, outermost}
-use Rattle.blossom_arena.specs.Fields.{IsSound, blossoms_of, order_of, key_of, kept_of, kept_or_none, run_of, vertices_of, IsRun, lowered, parent_of, build, IsOrder}
+use Rattle.blossom_arena.specs.Family.{Blossom, nodes_of, in_ring, names_of, is_vertex, is_node, is_child, members_of, ring_of, without, dual_at, HasDuals, IsNested, outermost}
+use Rattle.blossom_arena.specs.Fields.{IsSound, blossoms_of, order_of, key_of, kept_of, kept_or_none, run_of, vertices_of, IsRun, lowered, parent_of, build, IsOrder, sum_at, added, outer_dual, inner_of}
 use Rattle.blossom_arena.proofs.Lists.{by_test, each_from}
-use Rattle.blossom_arena.proofs.Nested.{range_vertex, child_is_node}
+use Rattle.blossom_arena.proofs.Nested.{vertex_range, range_vertex, child_is_node, name_is_node}
+use Rattle.blossom_arena.proofs.Sets.{members_new}
 use Rattle.blossom_arena.proofs.Parents.{ring_child}
 use Rattle.blossom_arena.proofs.Taken.{members_without, nested_without, parent_without, each_without}
 use Rattle.blossom_arena.proofs.Opened.{outermost_lowered, ring_other}
@@ -23,6 +24,8 @@ use Rattle.blossom_arena.proofs.Orders.{removed, length-removed, removed_sub, re
 use Rattle.blossom_arena.proofs.Builds.{build-same, build-without}
 use Rattle.blossom_arena.proofs.Sound.{rings, order_names, order_len, order_new, order_range, order_no_zero, node_run}
 use Rattle.blossom_arena.proofs.Shrunk.{each_some}
+use Rattle.blossom_arena.proofs.Held.{inner_dissolved}
+use Rattle.blossom_arena.proofs.Added.{length-added, added_at}
 
 -- how the fields change in a dissolve
 pub record Dissolves (a b : Inside) (node : ℕ) : Type 0 where
@@ -33,6 +36,8 @@ pub record Dissolves (a b : Inside) (node : ℕ) : Type 0 where
   pub newer : b.newer.items ≡ slice_set a.newer.items (slice_index a.older.items node) (slice_index a.newer.items node)
   pub parents : b.parents.items ≡ filled a.parents.items (nodes_of (ring_of (blossoms_of a) node)) 0
   pub outer : b.outer.items ≡ lowered a.outer.items (λ x. vertices_of a.followers.items (run_of a.vertex_count b.kept x)) (nodes_of (ring_of (blossoms_of a) node))
+  pub inner : b.inner.items ≡ added a.inner.items (λ v. neg_ℤ (outer_dual b.outer.items a.duals.items v)) (members_of (blossoms_of a) node)
+  pub none : dual_at a.duals.items node ≡ pos 0
 
 -- the kept of another node
 pub other_kept : (n : ℕ) (kept kept' : Slab Kept) (node x : ℕ) → Updates kept kept' (key_of n node) None → n < node → n < x → eqb node x ≡ false → get kept' (key_of n x) ≡ get kept (key_of n x)
@@ -50,9 +55,24 @@ other_run n kept kept' node x updates low_node ne =
     high : leb x n ≡ false → n < x
     high e = grind (arith, nat_tests)
 
-module _ (a : Inside) (parents outer older newer : Vec ℕ) (kept : Slab Kept) (node : ℕ) where
+-- the outermost nodes once each child is put at its vertices
+pub outer_after : (a : Inside) (kept : Slab Kept) (outer : List ℕ) (node v : ℕ) → IsSound a → holds (order_of a) node ≡ true → is_child (blossoms_of a) node ≡ false → Updates a.kept kept (key_of a.vertex_count node) None
+    → outer ≡ lowered a.outer.items (λ x. vertices_of a.followers.items (run_of a.vertex_count kept x)) (nodes_of (ring_of (blossoms_of a) node))
+    → is_vertex a.vertex_count v ≡ true → slice_index outer v ≡ outermost (without (blossoms_of a) node) v
+outer_after a kept outer node v s there free updates written iv =
+    let n : ℕ = a.vertex_count in
+    let bs : List Blossom = blossoms_of a in
+    let range = vertex_range n v iv in
+    let run_is : (x : ℕ) → in_ring (ring_of bs node) x ≡ true → vertices_of a.followers.items (run_of n kept x) ≡ members_of bs x = λ x r.
+    ap (vertices_of a.followers.items) (other_run n a.kept kept node x updates (order_range a s node there).0 (ring_other bs node x free r))
+    ∙ (node_run a s x (child_is_node n bs x s.family.nested (ring_child bs node x r))).vertices in
+    ap (λ t. slice_index t v) written
+    ∙ outermost_lowered n bs node v a.outer.items (λ x. vertices_of a.followers.items (run_of n kept x)) s.family.nested (ap (λ ys. holds ys node) (order_names a) ∙ there) free iv
+    (omega (arith, range.1, s.places.outer)) run_is (s.outer v range.0 range.1)
+
+module _ (a : Inside) (inner : Vec ℤ) (parents outer older newer : Vec ℕ) (kept : Slab Kept) (node : ℕ) where
   abbrev pub after : Inside
-  after = record { vertex_count = a.vertex_count; duals = a.duals; parents = parents; nexts = a.nexts; edges = a.edges; outer = outer; followers = a.followers; older = older; newer = newer; kept = kept }
+  after = record { vertex_count = a.vertex_count; duals = a.duals; inner = inner; parents = parents; nexts = a.nexts; edges = a.edges; outer = outer; followers = a.followers; older = older; newer = newer; kept = kept }
 
   module _ (s : IsSound a) (there : holds (order_of a) node ≡ true) (free : is_child (blossoms_of a) node ≡ false) (h : Dissolves a after node) where
     abbrev n : ℕ
@@ -67,8 +87,8 @@ module _ (a : Inside) (parents outer older newer : Vec ℕ) (kept : Slab Kept) (
     above : n < node
     above = (order_range a s node there).0
 
-    named : holds (names_of bs) node ≡ true
-    named = ap (λ ys. holds ys node) (order_names a) ∙ there
+    is : is_node n bs node ≡ true
+    is = name_is_node n bs node (ap (λ ys. holds ys node) (order_names a) ∙ there)
 
     -- the others
     other : (x : ℕ) → holds (removed xs node) x ≡ true → eqb node x ≡ false
@@ -101,10 +121,8 @@ module _ (a : Inside) (parents outer older newer : Vec ℕ) (kept : Slab Kept) (
     nested_after : IsNested n (without bs node)
     nested_after = nested_without n bs node s.family.nested free
 
-    run_is : (x : ℕ) → in_ring (ring_of bs node) x ≡ true → vertices_of a.followers.items (run_of n kept x) ≡ members_of bs x
-    run_is x r =
-        ap (vertices_of a.followers.items) (other_run n a.kept kept node x h.updates above (ring_other bs node x free r))
-        ∙ (node_run a s x (child_is_node n bs x s.family.nested (ring_child bs node x r))).vertices
+    now_outer : (v : ℕ) → is_vertex n v ≡ true → slice_index outer.items v ≡ outermost (without bs node) v
+    now_outer v iv = outer_after a kept outer.items node v s there free h.updates h.outer iv
 
     pub sound_after : IsSound after
     sound_after = record {
@@ -124,12 +142,17 @@ module _ (a : Inside) (parents outer older newer : Vec ℕ) (kept : Slab Kept) (
         older = ap length h.older ∙ length-set a.older.items (slice_index a.newer.items node) (slice_index a.older.items node) ∙ s.places.older;
         newer = ap length h.newer ∙ length-set a.newer.items (slice_index a.older.items node) (slice_index a.newer.items node) ∙ s.places.newer;
         outer = ap length h.outer ∙ length-lowered a.outer.items (λ x. vertices_of a.followers.items (run_of n kept x)) (nodes_of (ring_of bs node)) ∙ s.places.outer;
+        inner = ap length h.inner ∙ length-added a.inner.items (λ v. neg_ℤ (outer_dual outer.items a.duals.items v)) (members_of bs node) ∙ s.places.inner;
         followers = s.places.followers;
       };
       outer = λ v low high.
-          ap (λ t. slice_index t v) h.outer
-          ∙ outermost_lowered n bs node v a.outer.items (λ x. vertices_of a.followers.items (run_of n kept x)) s.family.nested named free (range_vertex n v low high) (omega (arith, high, s.places.outer)) run_is (s.outer v low high)
-          ∙ ap (λ us. outermost us v) (sym blossoms_after);
+          now_outer v (range_vertex n v low high) ∙ ap (λ us. outermost us v) (sym blossoms_after);
+      inner = λ v low high.
+          ap (λ (t : List ℤ). sum_at t v) h.inner
+          ∙ added_at a.inner.items (λ x. neg_ℤ (outer_dual outer.items a.duals.items x)) (members_of bs node) v (members_new n bs node s.family.nested is) (omega (arith, high, s.places.inner))
+          ∙ ap₂ (λ (z : ℤ) (o : ℕ). z +ℤ cond (holds (members_of bs node) v) (neg_ℤ (dual_at a.duals.items o)) (pos 0)) (s.inner v low high) (now_outer v (range_vertex n v low high))
+          ∙ sym (inner_dissolved n bs v s.family.nested (range_vertex n v low high) (dual_at a.duals.items) node (and_from (is_node n bs node) (not (is_child bs node)) is (ap not free)) h.none)
+          ∙ ap (λ (us : List Blossom). inner_of (dual_at a.duals.items) us v) (sym blossoms_after);
       parents = λ x high.
           ap (λ t. slice_index t x) h.parents ∙ filled_at a.parents.items (nodes_of (ring_of bs node)) 0 x (omega (arith, high, s.places.parents))
           ∙ ap (λ p. cond (in_ring (ring_of bs node) x) 0 p) (s.parents x high) ∙ sym (parent_without n bs node x s.family.nested) ∙ ap (λ us. parent_of us x) (sym blossoms_after);

@@ -1,6 +1,6 @@
 -- What a change of one dual keeps.
-use Rattle.std.proofs.Common.{◌≡◌, ℕ, ◌<◌, eqb, List, [], ◌∷◌, length, sym, ◌∙◌, subst}
-use Rattle.std.specs.Prelude.{ℤ, pos, ◌≤ℤ◌, slice_set}
+use Rattle.std.proofs.Common.{◌≡◌, ℕ, ◌+◌, ◌<◌, true, eqb, cond, List, [], ◌∷◌, length, sym, ap, ◌∙◌, subst, arith}
+use Rattle.std.specs.Prelude.{ℤ, pos, ◌+ℤ◌, ◌≤ℤ◌, slice_set}
 use Rattle.std.specs.List.{AllByRecursion}
 use Rattle.std.specs.Global.{Vec}
 use Rattle.std.proofs.lemmas.Bool.{eqb-true, eqb-false}
@@ -8,9 +8,14 @@ use Rattle.std.proofs.lemmas.List.{get_or-set_other, get_or-set_same, length-set
 use Rattle.std.proofs.lemmas.List.Elements.{All-set}
 use Rattle.blossom_arena.specs.declared.arena.Arena.TheInside.{Inside}
 use Rattle.graph_theory.specs.Duals.{IsNumber}
-use Rattle.blossom_arena.specs.Family.{Blossom, IsNested, HasDuals, dual_at}
-use Rattle.blossom_arena.specs.Fields.{IsSound, blossoms_of}
+use Rattle.graph_theory.specs.Parts.{holds}
+use Rattle.blossom_arena.specs.Family.{Blossom, is_vertex, is_node, is_child, is_outermost, members_of, IsNested, HasDuals, dual_at}
+use Rattle.blossom_arena.specs.Fields.{IsSound, blossoms_of, sum_at, added, inner_of}
 use Rattle.blossom_arena.proofs.Lists.{by_test}
+use Rattle.blossom_arena.proofs.Nested.{vertex_range, range_vertex, node_range}
+use Rattle.blossom_arena.proofs.Sets.{members_new}
+use Rattle.blossom_arena.proofs.Held.{inner_outer, inner_child}
+use Rattle.blossom_arena.proofs.Added.{length-added, added_at}
 
 each_dual : (n : ℕ) (bs : List Blossom) (ys : List ℤ) (node : ℕ) (y : ℤ) → IsNested n bs → node < length ys → (n < node → pos 0 ≤ℤ y)
     → AllByRecursion (λ (b : Blossom). pos 0 ≤ℤ dual_at ys b.node) bs → AllByRecursion (λ (b : Blossom). pos 0 ≤ℤ dual_at (slice_set ys node y) b.node) bs
@@ -30,12 +35,14 @@ duals_set n bs ys node y nested high is fine h = record {
   blossoms = each_dual n bs ys node y nested high fine h.blossoms;
 }
 
--- other duals leave the rest as it was
-pub sound_with_duals : (a : Inside) (duals : Vec ℤ) → IsSound a → HasDuals a.vertex_count duals.items (blossoms_of a) → IsSound (record a { duals = duals })
-sound_with_duals a duals s h = record {
+-- other duals and their sums leave the rest as it was
+pub sound_with_duals : (a : Inside) (duals inner : Vec ℤ) → IsSound a → HasDuals a.vertex_count duals.items (blossoms_of a) → length inner.items ≡ a.vertex_count + 1
+    → ((v : ℕ) → is_vertex a.vertex_count v ≡ true → sum_at inner.items v ≡ inner_of (dual_at duals.items) (blossoms_of a) v) → IsSound (record a { duals = duals; inner = inner })
+sound_with_duals a duals inner s h len sums = record {
   family = record { few = s.family.few; nested = s.family.nested; duals = h };
-  places = record { parents = s.places.parents; nexts = s.places.nexts; edges = s.places.edges; older = s.places.older; newer = s.places.newer; outer = s.places.outer; followers = s.places.followers };
+  places = record { parents = s.places.parents; nexts = s.places.nexts; edges = s.places.edges; older = s.places.older; newer = s.places.newer; outer = s.places.outer; inner = len; followers = s.places.followers };
   outer = s.outer;
+  inner = λ v low high. sums v (range_vertex a.vertex_count v low high);
   parents = s.parents;
   order = s.order;
   runs = s.runs;
@@ -43,3 +50,31 @@ sound_with_duals a duals s h = record {
   only = s.only;
   room = s.room;
 }
+
+-- a dual that is raised: the sums stay where no node holds the node, else each of its vertices has as much more
+module _ (a : Inside) (duals : Vec ℤ) (node : ℕ) (d : ℤ) (s : IsSound a) (h : HasDuals a.vertex_count duals.items (blossoms_of a))
+    (node_is : is_node a.vertex_count (blossoms_of a) node ≡ true) (written : duals.items ≡ slice_set a.duals.items node (dual_at a.duals.items node +ℤ d)) where
+  abbrev n : ℕ
+  n = a.vertex_count
+
+  abbrev bs : List Blossom
+  bs = blossoms_of a
+
+  place : node < length a.duals.items
+  place = omega (arith, (node_range n bs node s.family.nested node_is).1, s.family.duals.one_each)
+
+  pub raised_outer : is_outermost n bs node ≡ true → IsSound (record a { duals = duals; inner = a.inner })
+  raised_outer outer =
+      sound_with_duals a duals a.inner s h s.places.inner
+      (λ v iv. let r = vertex_range n v iv in
+      s.inner v r.0 r.1 ∙ sym (inner_outer n bs v s.family.nested iv a.duals.items node d outer place) ∙ ap (λ (ys : List ℤ). inner_of (dual_at ys) bs v) (sym written))
+
+  pub raised_child : (inner : Vec ℤ) → is_child bs node ≡ true → inner.items ≡ added a.inner.items (λ v. d) (members_of bs node) → IsSound (record a { duals = duals; inner = inner })
+  raised_child inner child sums =
+      sound_with_duals a duals inner s h (ap length sums ∙ length-added a.inner.items (λ v. d) (members_of bs node) ∙ s.places.inner)
+      (λ v iv. let r = vertex_range n v iv in
+      ap (λ (t : List ℤ). sum_at t v) sums
+      ∙ added_at a.inner.items (λ v. d) (members_of bs node) v (members_new n bs node s.family.nested node_is) (omega (arith, r.1, s.places.inner))
+      ∙ ap (λ z. z +ℤ cond (holds (members_of bs node) v) d (pos 0)) (s.inner v r.0 r.1)
+      ∙ sym (inner_child n bs v s.family.nested iv a.duals.items node d node_is child place)
+      ∙ ap (λ (ys : List ℤ). inner_of (dual_at ys) bs v) (sym written))

@@ -1,6 +1,6 @@
 -- The fields of an arena without blossoms.
 use Rattle.std.proofs.Common.{◌≡◌, ◌∙◌, ℕ, ◌+◌, ◌≤◌, ◌<◌, false, List, [], length, refl, sym, ap, subst, arith, get_or, Option, None}
-use Rattle.std.specs.Prelude.{ℤ, pos, replicate, slice_index, count_by, is_some}
+use Rattle.std.specs.Prelude.{ℤ, pos, ◌+ℤ◌, ◌-ℤ◌, replicate, slice_index, count_by, is_some}
 use Rattle.std.specs.List.{AllByRecursion}
 use Rattle.std.proofs.lemmas.Bool.{both_ways}
 use Rattle.std.proofs.lemmas.Int.{ints}
@@ -12,8 +12,8 @@ use Rattle.blossom_arena.specs.declared.arena.Arena.TheInside.{Inside}
 use Rattle.blossom_arena.specs.Tables.{walk}
 use Rattle.graph_theory.specs.Nested.{most_blossoms}
 use Rattle.graph_theory.specs.Duals.{IsNumber}
-use Rattle.blossom_arena.specs.Family.{IsNested, HasDuals, empty_family, outermost}
-use Rattle.blossom_arena.specs.Fields.{IsSound, blossoms_of, order_of, family_of, key_of, build, parent_of, IsOrder}
+use Rattle.blossom_arena.specs.Family.{IsNested, HasDuals, empty_family, outermost, dual_at}
+use Rattle.blossom_arena.specs.Fields.{IsSound, blossoms_of, order_of, family_of, key_of, build, parent_of, IsOrder, sum_at, inner_of}
 use Rattle.blossom_arena.proofs.Sound.{rings}
 
 pub record IsFresh (a : Inside) : Type 0 where
@@ -28,6 +28,7 @@ pub record IsFresh (a : Inside) : Type 0 where
   pub newer : a.newer.items ≡ replicate (a.vertex_count + most_blossoms a.vertex_count + 1) 0
   pub outer_len : length a.outer.items ≡ a.vertex_count + 1
   pub outer : (v : ℕ) → v ≤ a.vertex_count → slice_index a.outer.items v ≡ v
+  pub inner : a.inner.items ≡ replicate (a.vertex_count + 1) (pos 0)
   pub followers : length a.followers.items ≡ a.vertex_count + 1
 
 module _ (a : Inside) (h : IsFresh a) where
@@ -45,6 +46,14 @@ module _ (a : Inside) (h : IsFresh a) where
 
   zero_at : (t : List ℕ) (x : ℕ) → t ≡ replicate places 0 → x < places → get_or t x 0 ≡ 0
   zero_at t x e low = ap (λ s. get_or s x 0) e ∙ get_or-replicate places x 0 0 low
+
+  no_sum : (v : ℕ) → v ≤ n → sum_at a.inner.items v ≡ inner_of (dual_at a.duals.items) (blossoms_of a) v
+  no_sum v high =
+      ap (λ (t : List ℤ). sum_at t v) h.inner ∙ get_or-replicate (n + 1) v (pos 0) (pos 0) (omega (arith, high))
+      ∙ nothing (dual_at a.duals.items v) ∙ ap (λ bs. inner_of (dual_at a.duals.items) bs v) (sym no_blossoms)
+    where
+      nothing : (y : ℤ) → pos 0 ≡ (y +ℤ pos 0) -ℤ y
+      nothing y = omega (arith, ints)
 
   no_duals : HasDuals n (replicate places (pos 0)) []
   no_duals = record {
@@ -70,9 +79,11 @@ module _ (a : Inside) (h : IsFresh a) where
       older = ap length h.older ∙ length-replicate places 0;
       newer = ap length h.newer ∙ length-replicate places 0;
       outer = h.outer_len;
+      inner = ap length h.inner ∙ length-replicate (n + 1) (pos 0);
       followers = h.followers;
     };
     outer = λ v low high. h.outer v high ∙ ap (λ bs. outermost bs v) (sym no_blossoms);
+    inner = λ v low high. no_sum v high;
     parents = λ x high. zero_at a.parents.items x h.parents (omega (arith, high)) ∙ ap (λ bs. parent_of bs x) (sym no_blossoms);
     order = subst (IsOrder a.older.items a.newer.items 0) (sym no_order) (zero_at a.older.items 0 h.older (omega arith), zero_at a.newer.items 0 h.newer (omega arith));
     runs = λ x e. absurd (both_ways false refl (ap (λ xs. holds xs x) (sym no_order) ∙ e));

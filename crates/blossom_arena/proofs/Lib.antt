@@ -14,7 +14,10 @@ pub mod Joins
 pub mod Sound
 pub mod Shrunk
 pub mod Opened
+pub mod Held
+pub mod Added
 pub mod Dissolved
+pub mod Summed
 pub mod Duals
 pub mod Fresh
 pub mod Written

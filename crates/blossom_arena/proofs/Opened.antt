@@ -51,6 +51,14 @@ child_outer n bs a c h free r =
     (ap not (false_from_ne_true (is_child (without bs a) c) (λ e.
     child_parent n (without bs a) c (nested_without n bs a h free) e (parent_without n bs a c h ∙ ap (λ q. cond q 0 (parent_of bs c)) r))))
 
+-- the other vertices keep their outermost node
+pub outermost_without : (n : ℕ) (bs : List Blossom) (a v : ℕ) → IsNested n bs → is_child bs a ≡ false → is_vertex n v ≡ true → holds (members_of bs a) v ≡ false → outermost (without bs a) v ≡ outermost bs v
+outermost_without n bs a v h free iv m =
+    let has = outermost_has n bs v h iv in
+    let o : ℕ = outermost bs v in
+    let ne : eqb a o ≡ false = ne_eqb a o (λ s. both_ways (holds (members_of bs a) v) m (ap (λ x. holds (members_of bs x) v) s ∙ has.1)) in
+    outermost_by_member n (without bs a) o v (nested_without n bs a h free) (outermost_stays n bs a o ne has.0) (ap (λ ms. holds ms v) (members_without bs a o ne) ∙ has.1)
+
 -- the table of outermost nodes once each child is put at its vertices
 pub outermost_lowered : (n : ℕ) (bs : List Blossom) (a v : ℕ) (t : List ℕ) (run : ℕ → List ℕ) → IsNested n bs → holds (names_of bs) a ≡ true → is_child bs a ≡ false → is_vertex n v ≡ true → v < length t
     → ((c : ℕ) → in_ring (ring_of bs a) c ≡ true → run c ≡ members_of bs c) → get_or t v 0 ≡ outermost bs v
@@ -68,11 +76,8 @@ outermost_lowered n bs a v t run h k free iv low runs was =
     (λ c r e. sym (tells c r (sym (ap (λ ms. holds ms v) (runs c r)) ∙ e)) ∙ is)
     ∙ sym is)
     (λ m.
-    let has = outermost_has n bs v h iv in
-    let o : ℕ = outermost bs v in
-    let ne : eqb a o ≡ false = ne_eqb a o (λ s. both_ways (holds (members_of bs a) v) m (ap (λ x. holds (members_of bs x) v) s ∙ has.1)) in
     lowered_out t run (nodes_of ring) v low
     (λ c r. false_from_ne_true (holds (run c) v) (λ e. both_ways (holds (members_of bs a) v) m
     (ap (λ ms. holds ms v) (ring_members n bs a h k) ∙ in_union bs ring c v r (sym (ap (λ ms. holds ms v) (runs c r)) ∙ e))))
     ∙ was
-    ∙ sym (outermost_by_member n (without bs a) o v nested (outermost_stays n bs a o ne has.0) (ap (λ ms. holds ms v) (members_without bs a o ne) ∙ has.1)))
+    ∙ sym (outermost_without n bs a v h free iv m))

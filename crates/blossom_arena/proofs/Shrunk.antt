@@ -1,6 +1,6 @@
 -- What a shrink leaves: one blossom more before those that stood.
-use Rattle.std.proofs.Common.{◌≡◌, ℕ, ◌+◌, ◌≤◌, ◌<◌, ◌≢◌, true, false, eqb, leb, cond, List, [], ◌∷◌, length, refl, sym, ap, ◌∙◌, subst, arith, ⊎_elim, Some, None}
-use Rattle.std.specs.Prelude.{slice_set, slice_index, IsSome, is_some, ℤ, pos, ◌≤ℤ◌}
+use Rattle.std.proofs.Common.{◌≡◌, ℕ, ◌+◌, ◌≤◌, ◌<◌, ◌≢◌, true, false, eqb, leb, cond, List, [], ◌∷◌, length, refl, sym, ap, ap₂, ◌∙◌, subst, arith, ⊎_elim, Some, None}
+use Rattle.std.specs.Prelude.{slice_set, slice_index, IsSome, is_some, ℤ, pos, ◌+ℤ◌, ◌≤ℤ◌}
 use Rattle.std.specs.List.{AllByRecursion}
 use Rattle.std.specs.Global.{Vec}
 use Rattle.std.proofs.lemmas.Bool.{eqb-true, eqb-false, eq-eqb, or_cases, or_parts, or_from, or_left, both_ways, false_from_ne_true, lt-leb, and_right}
@@ -18,16 +18,18 @@ use Rattle.graph_theory.specs.Nested.{most_blossoms}
 use Rattle.graph_theory.specs.Duals.{IsNumber}
 use Rattle.blossom_arena.specs.Family.{Blossom, nodes_of, in_ring, names_of, is_vertex, is_node, is_child, members_of, union_of, made_of, dual_at, HasDuals, IsCircuit, IsNext, IsNested, outermost}
 use Rattle.blossom_arena.specs.Tables.{last_of}
-use Rattle.blossom_arena.specs.Fields.{IsSound, blossoms_of, order_of, key_of, kept_of, kept_or_none, runs_of, IsRun, joined, parent_of, build, IsOrder}
+use Rattle.blossom_arena.specs.Fields.{IsSound, blossoms_of, order_of, key_of, kept_of, kept_or_none, runs_of, IsRun, joined, parent_of, build, IsOrder, sum_at, added, outer_dual, inner_of}
 use Rattle.blossom_arena.proofs.Lists.{by_test, AllNew, new_from_distinct, first_in, later_in, each_from}
-use Rattle.blossom_arena.proofs.Nested.{circuit_outer, circuit_node, outermost_parts, node_range, vertex_range, name_is_node}
+use Rattle.blossom_arena.proofs.Nested.{circuit_outer, circuit_node, outermost_parts, node_range, vertex_range, range_vertex, name_is_node}
 use Rattle.blossom_arena.proofs.Sets.{members_past, member_vertex}
 use Rattle.blossom_arena.proofs.Tails.{front, front_sub, tails_apart}
 use Rattle.blossom_arena.proofs.Writes.{length-filled, filled_at, length-threaded, threaded_out, threaded_walk, length-noted, noted_out, noted_links, walk_same, links_same}
 use Rattle.blossom_arena.proofs.Orders.{put_first_order, walk_order}
 use Rattle.blossom_arena.proofs.Builds.{build-same}
 use Rattle.blossom_arena.proofs.Joins.{length-joined, joined_out, run_keeps}
-use Rattle.blossom_arena.proofs.Sound.{rings, order_names, order_len, order_new, order_range, order_no_zero, node_run, ring_walk_child, circuit_joins, joined_run}
+use Rattle.blossom_arena.proofs.Sound.{rings, order_names, order_len, order_new, order_range, order_no_zero, node_run, ring_walk_child, circuit_joins, joined_run, circuit_union_new}
+use Rattle.blossom_arena.proofs.Held.{inner_shrunk}
+use Rattle.blossom_arena.proofs.Added.{length-added, added_at}
 
 key_of_node : (n key : ℕ) → key_of n (n + 1 + key) ≡ key
 key_of_node n key = omega arith
@@ -50,6 +52,7 @@ pub record Shrinks (a b : Inside) (ring : List Link) (node key : ℕ) : Type 0 w
   pub edges : b.edges.items ≡ noted a.edges.items ring
   pub parents : b.parents.items ≡ filled a.parents.items (nodes_of ring) node
   pub outer : b.outer.items ≡ filled a.outer.items (union_of (blossoms_of a) ring) node
+  pub inner : b.inner.items ≡ added a.inner.items (outer_dual a.outer.items a.duals.items) (union_of (blossoms_of a) ring)
   pub older : b.older.items ≡ slice_set (slice_set a.older.items node (slice_index a.older.items 0)) 0 node
   pub newer : b.newer.items ≡ slice_set (slice_set a.newer.items (slice_index a.older.items 0) node) node 0
 
@@ -83,9 +86,9 @@ other_duals n (b ∷ older) ys node new each =
     let p = or_parts (eqb b.node node) (holds (names_of older) node) new in
     (rw (get_or-set_other ys node b.node (pos 0) (pos 0) (eqb-false b.node node p.0)) each.0, other_duals n older ys node p.1 each.1)
 
-module _ (a : Inside) (duals : Vec ℤ) (parents nexts edges outer followers older newer : Vec ℕ) (kept : Slab Kept) (ring : List Link) (node key : ℕ) where
+module _ (a : Inside) (duals inner : Vec ℤ) (parents nexts edges outer followers older newer : Vec ℕ) (kept : Slab Kept) (ring : List Link) (node key : ℕ) where
   abbrev pub after : Inside
-  after = record { vertex_count = a.vertex_count; duals = duals; parents = parents; nexts = nexts; edges = edges; outer = outer; followers = followers; older = older; newer = newer; kept = kept }
+  after = record { vertex_count = a.vertex_count; duals = duals; inner = inner; parents = parents; nexts = nexts; edges = edges; outer = outer; followers = followers; older = older; newer = newer; kept = kept }
 
   module _ (s : IsSound a) (c : IsCircuit a.vertex_count (blossoms_of a) ring) (h : Shrinks a after ring node key) where
     abbrev n : ℕ
@@ -240,11 +243,18 @@ module _ (a : Inside) (duals : Vec ℤ) (parents nexts edges outer followers old
         older = ap length h.older ∙ length-set (slice_set a.older.items node (slice_index a.older.items 0)) 0 node ∙ length-set a.older.items node (slice_index a.older.items 0) ∙ s.places.older;
         newer = ap length h.newer ∙ length-set (slice_set a.newer.items (slice_index a.older.items 0) node) node 0 ∙ length-set a.newer.items (slice_index a.older.items 0) node ∙ s.places.newer;
         outer = ap length h.outer ∙ length-filled a.outer.items (union_of bs ring) node ∙ s.places.outer;
+        inner = ap length h.inner ∙ length-added a.inner.items (outer_dual a.outer.items a.duals.items) (union_of bs ring) ∙ s.places.inner;
         followers = ap length h.followers ∙ length-joined a.followers.items 0 (runs_of n a.kept ring) ∙ s.places.followers;
       };
       outer = λ v low high.
           ap (λ t. slice_index t v) h.outer ∙ filled_at a.outer.items (union_of bs ring) node v (omega (arith, high, s.places.outer))
           ∙ ap (λ o. cond (holds (union_of bs ring) v) node o) (s.outer v low high) ∙ ap (λ us. outermost us v) (sym blossoms_after);
+      inner = λ v low high.
+          ap (λ (t : List ℤ). sum_at t v) h.inner
+          ∙ added_at a.inner.items (outer_dual a.outer.items a.duals.items) (union_of bs ring) v (circuit_union_new n bs ring s.family.nested c) (omega (arith, high, s.places.inner))
+          ∙ ap₂ (λ (z : ℤ) (o : ℕ). z +ℤ cond (holds (union_of bs ring) v) (dual_at a.duals.items o) (pos 0)) (s.inner v low high) (s.outer v low high)
+          ∙ sym (inner_shrunk n bs v s.family.nested (range_vertex n v low high) a.duals.items ring node fresh above (omega (arith, within, s.family.duals.one_each)))
+          ∙ ap₂ (λ (ys : List ℤ) (us : List Blossom). inner_of (dual_at ys) us v) (sym h.duals) (sym blossoms_after);
       parents = λ x high.
           ap (λ t. slice_index t x) h.parents ∙ filled_at a.parents.items (nodes_of ring) node x (omega (arith, high, s.places.parents))
           ∙ ap (λ p. cond (in_ring ring x) node p) (s.parents x high) ∙ ap (λ us. parent_of us x) (sym blossoms_after);

@@ -1,6 +1,6 @@
 -- What the steps of a dissolve need.
 use Rattle.std.proofs.Common.{◌≡◌, ℕ, ◌+◌, ◌<◌, true, false, List, length, sym, ap, ap₂, ◌∙◌, subst, arith, Some, None}
-use Rattle.std.specs.Prelude.{slice_index}
+use Rattle.std.specs.Prelude.{ℤ, neg_ℤ, slice_index, All}
 use Rattle.std.specs.List.{AllByRecursion}
 use Rattle.slab.specs.Slab.{Slab, get, Updates}
 use Rattle.graph_theory.specs.Parts.{holds}
@@ -10,14 +10,20 @@ use Rattle.blossom_arena.specs.declared.runs.Kept.{Kept}
 use Rattle.blossom_arena.specs.declared.arena.Arena.TheInside.{Inside}
 use Rattle.blossom_arena.specs.Tables.{walk, links_of}
 use Rattle.graph_theory.specs.Nested.{most_blossoms}
-use Rattle.blossom_arena.specs.Family.{in_ring, ring_of, is_child, is_node}
-use Rattle.blossom_arena.specs.Fields.{IsSound, blossoms_of, order_of, key_of, kept_of, kept_or_none, run_of, vertices_of}
-use Rattle.blossom_arena.proofs.Nested.{node_range, child_is_node}
+use Rattle.graph_theory.specs.Duals.{IsNumber}
+use Rattle.blossom_arena.specs.Family.{in_ring, nodes_of, ring_of, is_child, is_node, is_vertex, members_of, without}
+use Rattle.blossom_arena.specs.Fields.{IsSound, blossoms_of, order_of, key_of, kept_of, kept_or_none, run_of, vertices_of, lowered, AreSums, outer_dual}
+use Rattle.blossom_arena.proofs.Lists.{each_from}
+use Rattle.blossom_arena.proofs.Nested.{vertex_range, node_range, child_is_node, name_is_node}
+use Rattle.blossom_arena.proofs.Sets.{member_vertex}
+use Rattle.blossom_arena.proofs.Taken.{nested_without}
+use Rattle.blossom_arena.proofs.Writes.{length-lowered}
 use Rattle.blossom_arena.proofs.Parents.{ring_child}
 use Rattle.blossom_arena.proofs.Opened.{ring_other}
 use Rattle.blossom_arena.proofs.Orders.{neighbours_within}
-use Rattle.blossom_arena.proofs.Sound.{order_range, ring_within, ring_is, members_within}
-use Rattle.blossom_arena.proofs.Dissolved.{other_run}
+use Rattle.blossom_arena.proofs.Sound.{order_names, order_range, ring_within, ring_is, members_within}
+use Rattle.blossom_arena.proofs.Dissolved.{other_run, outer_after}
+use Rattle.blossom_arena.proofs.Summed.{outer_places, outer_step, taken_step, members_fit}
 use Rattle.blossom_arena.proofs.LinkLists.{each_link}
 
 module _ (a : Inside) (node : ℕ) (s : IsSound a) (there : holds (order_of a) node ≡ true) where
@@ -49,10 +55,37 @@ module _ (a : Inside) (node : ℕ) (s : IsSound a) (there : holds (order_of a) n
         (subst (λ (u : List ℕ). AllByRecursion (λ y. (y < length a.nexts.items) × (y < length u)) (walk k.links a.nexts.items k.first)) (sym edges)
         (subst (λ (q : Kept). AllByRecursion (λ y. (y < length a.nexts.items) × (y < length a.edges.items)) (walk q.links a.nexts.items q.first)) kept_is (ring_within a s node there)))
 
+    pub members_kept : (fs : List ℕ) → fs ≡ a.followers.items → vertices_of fs k.run ≡ members_of (blossoms_of a) node
+    members_kept fs same = ap (λ (t : List ℕ). vertices_of t k.run) same ∙ ap (λ (q : Kept). vertices_of a.followers.items q.run) (sym kept_is) ∙ (s.runs node there).vertices
+
     pub ring_kept : (ns es : List ℕ) → ns ≡ a.nexts.items → es ≡ a.edges.items → links_of es (walk k.links ns k.first) ≡ ring_of (blossoms_of a) node
     ring_kept ns es nexts edges =
         ap₂ (λ (t u : List ℕ). links_of u (walk k.links t k.first)) nexts edges
         ∙ ap (λ (q : Kept). links_of a.edges.items (walk q.links a.nexts.items q.first)) (sym kept_is) ∙ sym (ring_is a node there)
+
+  is : is_node n (blossoms_of a) node ≡ true
+  is = name_is_node n (blossoms_of a) node (ap (λ ys. holds ys node) (order_names a) ∙ there)
+
+  vertex : (v : ℕ) → holds (members_of (blossoms_of a) node) v ≡ true → is_vertex n v ≡ true
+  vertex v e = member_vertex n (blossoms_of a) node v s.family.nested is e
+
+  -- the vertices of the blossom stand in the tables
+  pub vertices_low : (m : ℕ) → n < m → AllByRecursion (λ v. v < m) (members_of (blossoms_of a) node)
+  vertices_low m enough = each_from (λ v. v < m) (members_of (blossoms_of a) node) (λ v e. omega (arith, enough, (vertex_range n v (vertex v e)).1))
+
+  pub outer_low : (kept : Slab Kept) (os : List ℕ) (ys : List ℤ) → is_child (blossoms_of a) node ≡ false → Updates a.kept kept (key_of n node) None → ys ≡ a.duals.items
+      → os ≡ lowered a.outer.items (λ x. vertices_of a.followers.items (run_of n kept x)) (nodes_of (ring_of (blossoms_of a) node))
+      → AllByRecursion (λ v. (v < length os) × (slice_index os v < length ys)) (members_of (blossoms_of a) node)
+  outer_low kept os ys free updates duals written =
+      let len : length os ≡ length a.outer.items = ap length written ∙ length-lowered a.outer.items (λ x. vertices_of a.followers.items (run_of n kept x)) (nodes_of (ring_of (blossoms_of a) node)) in
+      let duals_len : length ys ≡ length a.duals.items = ap length duals in
+      outer_places n (without (blossoms_of a) node) os ys (members_of (blossoms_of a) node) (nested_without n (blossoms_of a) node s.family.nested free)
+      (omega (arith, len, s.places.outer)) (omega (arith, duals_len, s.family.duals.one_each))
+      (λ v iv. outer_after a kept os node v s there free updates written iv) vertex
+
+  pub sums_low : (os : List ℕ) (ys : List ℤ) → ys ≡ a.duals.items → AreSums a.inner.items (λ v. neg_ℤ (outer_dual os ys v)) (members_of (blossoms_of a) node)
+  sums_low os ys duals = members_fit a s node (λ v. neg_ℤ (outer_dual os ys v)) is
+      (λ v. taken_step (outer_dual os ys v) (outer_step os ys v (subst (λ (zs : List ℤ). All IsNumber zs) (sym duals) s.family.duals.in_range)))
 
   pub children_within : (m : ℕ) → n + most_blossoms n < m → AllByRecursion (λ (l : Link). l.node < m) (ring_of (blossoms_of a) node)
   children_within m enough = each_link (λ x. x < m) (ring_of (blossoms_of a) node) (λ x r. omega (arith, (node_range n (blossoms_of a) x s.family.nested (child_node x r)).1, enough))

@@ -1,6 +1,6 @@
 -- What the steps of a shrink need, and what they have written.
 use Rattle.std.proofs.Common.{◌≡◌, ℕ, ◌+◌, ◌≤◌, ◌<◌, true, List, [], ◌∷◌, length, refl, sym, ap, ap₂, ◌∙◌, subst, arith}
-use Rattle.std.specs.Prelude.{slice_index}
+use Rattle.std.specs.Prelude.{ℤ, slice_index, All}
 use Rattle.std.specs.List.{AllByRecursion}
 use Rattle.slab.specs.Slab.{slab_len}
 use Rattle.graph_theory.specs.Parts.{holds}
@@ -9,13 +9,15 @@ use Rattle.blossom_arena.specs.declared.runs.Run.{Run}
 use Rattle.blossom_arena.specs.declared.arena.Arena.TheInside.{Inside}
 use Rattle.blossom_arena.specs.Tables.{walk, links_of, next_node, threaded, noted}
 use Rattle.graph_theory.specs.Nested.{most_blossoms}
+use Rattle.graph_theory.specs.Duals.{IsNumber}
 use Rattle.blossom_arena.specs.Family.{Blossom, nodes_of, union_of, IsCircuit}
-use Rattle.blossom_arena.specs.Fields.{IsSound, blossoms_of, order_of, runs_of, vertices_of, IsOrder, joined, joined_tail, joined_size}
+use Rattle.blossom_arena.specs.Fields.{IsSound, blossoms_of, order_of, runs_of, vertices_of, IsOrder, joined, joined_tail, joined_size, AreSums, outer_dual}
 use Rattle.blossom_arena.proofs.Lists.{AllNew, new_from_distinct, each_from, first_in}
 use Rattle.blossom_arena.proofs.Nested.{vertex_range, node_range, circuit_node, room_for_circuit}
 use Rattle.blossom_arena.proofs.Writes.{threaded_walk, length-threaded, length-noted}
 use Rattle.blossom_arena.proofs.Sound.{order_range, blossoms_len, union_vertex, union_few, joined_run, circuit_joins}
 use Rattle.blossom_arena.proofs.Shrunk.{circuit_places, ring_written}
+use Rattle.blossom_arena.proofs.Summed.{outer_places, outer_step, union_fits}
 
 same_run : (r : Run) (h t z : ℕ) → r.head ≡ h → r.tail ≡ t → r.size ≡ z → r ≡ record { head = h; tail = t; size = z }
 same_run r h t z eh et ez = by_parts eh ∙ ap₂ (λ (y x : ℕ). record { head = h; tail = y; size = x }) et ez
@@ -57,6 +59,17 @@ module _ (a : Inside) (ring : List Link) (s : IsSound a) (c : IsCircuit a.vertex
       go : (xs : List ℕ) → IsOrder a.older.items a.newer.items 0 xs → ((x : ℕ) → holds xs x ≡ true → x ≤ n + most_blossoms n) → slice_index a.older.items 0 < length a.newer.items
       go [] h each = omega (arith, h.0, s.places.newer)
       go (x ∷ xs) h each = omega (arith, h.0, each x (first_in x xs), s.places.newer)
+
+  -- the sums of its vertices
+  pub outer_low : (os : List ℕ) (ys : List ℤ) → os ≡ a.outer.items → ys ≡ a.duals.items → AllByRecursion (λ v. (v < length os) × (slice_index os v < length ys)) (union_of bs ring)
+  outer_low os ys outer duals =
+      let len : length os ≡ length a.outer.items = ap length outer in
+      let duals_len : length ys ≡ length a.duals.items = ap length duals in
+      outer_places n bs os ys (union_of bs ring) s.family.nested (omega (arith, len, s.places.outer)) (omega (arith, duals_len, s.family.duals.one_each))
+      (λ v iv. let r = vertex_range n v iv in ap (λ (t : List ℕ). slice_index t v) outer ∙ s.outer v r.0 r.1) (λ v e. union_vertex n bs ring v s.family.nested c e)
+
+  pub sums_low : (os : List ℕ) (ys : List ℤ) → ys ≡ a.duals.items → AreSums a.inner.items (outer_dual os ys) (union_of bs ring)
+  sums_low os ys duals = union_fits a s ring (outer_dual os ys) c (λ v. outer_step os ys v (subst (λ (zs : List ℤ). All IsNumber zs) (sym duals) s.family.duals.in_range))
 
   -- the run that is joined
   pub run_is : (fs : List ℕ) (r : Run) → fs ≡ joined a.followers.items 0 (runs_of n a.kept ring) → r.head ≡ slice_index fs 0 → r.tail ≡ joined_tail 0 (runs_of n a.kept ring) → r.size ≡ joined_size (runs_of n a.kept ring) → r ≡ joined_run a ring

@@ -1,7 +1,8 @@
 -- How an arena keeps its family. No public clause cites this module.
-use Rattle.std.specs.Prelude.{◌≡◌, ℕ, zero, suc, ◌+◌, ◌-◌, ◌<◌, ◌≤◌, true, ◌==◌, nat_le, if◌then◌else◌, List, [], ◌∷◌, length, map, Option, Some, None, IsSome, slice_index, slice_set}
+use Rattle.std.specs.Prelude.{◌≡◌, ℕ, zero, suc, ◌+◌, ◌-◌, ◌<◌, ◌≤◌, ℤ, pos, neg_ℤ, ◌+ℤ◌, ◌-ℤ◌, ◌*ℤ◌, ◌≤ℤ◌, true, ◌==◌, nat_le, if◌then◌else◌, List, [], ◌∷◌, length, map, Option, Some, None, IsSome, slice_index, slice_index_or, slice_set}
 use Rattle.std.specs.List.{AllByRecursion}
 use Rattle.slab.specs.Slab.{Slab, get, slab_len}
+use Rattle.graph_theory.specs.declared.limits.TheConstants.{GRAPH_VERTEX_LIMIT, NUMBER_LIMIT}
 use Rattle.graph_theory.specs.Parts.{holds}
 use Rattle.blossom_arena.specs.declared.links.Link.{Link}
 use Rattle.blossom_arena.specs.declared.runs.Run.{Run}
@@ -9,7 +10,8 @@ use Rattle.blossom_arena.specs.declared.runs.Kept.{Kept}
 use Rattle.blossom_arena.specs.declared.arena.Arena.TheInside.{Inside}
 use Rattle.blossom_arena.specs.Tables.{last_of, walk, links_of, filled}
 use Rattle.graph_theory.specs.Nested.{most_blossoms}
-use Rattle.blossom_arena.specs.Family.{Blossom, Family, IsFamily, outermost, made_of, in_ring, members_of}
+use Rattle.blossom_arena.specs.Family.{Blossom, Family, IsFamily, outermost, made_of, in_ring, members_of, dual_at}
+use Rattle.blossom_arena.specs.Slack.{held_by}
 
 -- the key of a blossom's node
 abbrev pub key_of : ℕ → ℕ → ℕ
@@ -56,6 +58,32 @@ joined_size (r ∷ rest) = r.size + joined_size rest
 abbrev pub lowered : List ℕ → (ℕ → List ℕ) → List ℕ → List ℕ
 lowered outer run [] = outer
 lowered outer run (c ∷ cs) = lowered (filled outer (run c) c) run cs
+
+-- the sum at a vertex
+abbrev pub sum_at : List ℤ → ℕ → ℤ
+sum_at sums v = slice_index_or sums v (pos 0)
+
+-- a number that the duals of all nodes that hold a vertex can add up to
+abbrev pub IsSum : ℤ → Type 0
+IsSum x = (neg_ℤ (NUMBER_LIMIT *ℤ pos GRAPH_VERTEX_LIMIT) ≤ℤ x) × (x ≤ℤ (NUMBER_LIMIT *ℤ pos GRAPH_VERTEX_LIMIT))
+
+-- the sums with these numbers added at these vertices, one after the other
+abbrev pub added : List ℤ → (ℕ → ℤ) → List ℕ → List ℤ
+added sums f [] = sums
+added sums f (v ∷ vs) = added (slice_set sums v (sum_at sums v +ℤ f v)) f vs
+
+-- each of these additions stays in range
+abbrev pub AreSums : List ℤ → (ℕ → ℤ) → List ℕ → Type 0
+AreSums sums f [] = Unit {0}
+AreSums sums f (v ∷ vs) = IsSum (sum_at sums v +ℤ f v) × AreSums (slice_set sums v (sum_at sums v +ℤ f v)) f vs
+
+-- the dual of the outermost node of a vertex, by the tables
+abbrev pub outer_dual : List ℕ → List ℤ → ℕ → ℤ
+outer_dual outer duals v = dual_at duals (slice_index outer v)
+
+-- the duals of the nodes that hold v without its outermost one, added up
+abbrev pub inner_of : (ℕ → ℤ) → List Blossom → ℕ → ℤ
+inner_of y bs v = (y v +ℤ held_by y bs v) -ℤ y (outermost bs v)
 
 -- up by a table of parents, at most so many numbers, until there is none
 abbrev pub climb : ℕ → List ℕ → ℕ → List ℕ
@@ -108,12 +136,14 @@ pub record HasPlaces (a : Inside) : Type 0 where
   pub older : length a.older.items ≡ a.vertex_count + most_blossoms a.vertex_count + 1
   pub newer : length a.newer.items ≡ a.vertex_count + most_blossoms a.vertex_count + 1
   pub outer : length a.outer.items ≡ a.vertex_count + 1
+  pub inner : length a.inner.items ≡ a.vertex_count + 1
   pub followers : length a.followers.items ≡ a.vertex_count + 1
 
 pub record IsSound (a : Inside) : Type 0 where
   pub family : IsFamily (family_of a)
   pub places : HasPlaces a
   pub outer : (v : ℕ) → 1 ≤ v → v ≤ a.vertex_count → slice_index a.outer.items v ≡ outermost (blossoms_of a) v
+  pub inner : (v : ℕ) → 1 ≤ v → v ≤ a.vertex_count → sum_at a.inner.items v ≡ inner_of (dual_at a.duals.items) (blossoms_of a) v
   pub parents : (x : ℕ) → x ≤ a.vertex_count + most_blossoms a.vertex_count → slice_index a.parents.items x ≡ parent_of (blossoms_of a) x
   pub order : IsOrder a.older.items a.newer.items 0 (order_of a)
   pub runs : (x : ℕ) → holds (order_of a) x ≡ true → IsRun a.followers.items (kept_of a.vertex_count a.kept x).run (members_of (blossoms_of a) x)

@@ -2,7 +2,7 @@
 use Rattle.std.specs.Prelude.{◌≡◌, ◌⊎◌, ℕ, ℤ, pos, ◌+ℤ◌, List, [], ◌∷◌, map, take, drop, if◌then◌else◌}
 use Rattle.graph_theory.specs.declared.edge.Edge.{Edge}
 use Rattle.graph_theory.specs.declared.odd_set.OddSet.{OddSet}
-use Rattle.graph_theory.specs.Parts.{crosses}
+use Rattle.graph_theory.specs.Parts.{holds, crosses}
 use Rattle.graph_theory.specs.Nested.{AreSame}
 use Rattle.blossom_arena.specs.Family.{Blossom, dual_at}
 
@@ -10,6 +10,11 @@ use Rattle.blossom_arena.specs.Family.{Blossom, dual_at}
 abbrev pub duals_across : (ℕ → ℤ) → List Blossom → Edge → ℤ
 duals_across y [] e = y e.u +ℤ y e.v
 duals_across y (b ∷ older) e = (if crosses b.members e then y b.node else pos 0) +ℤ duals_across y older e
+
+-- the duals of the blossoms that hold v, added up
+abbrev pub held_by : (ℕ → ℤ) → List Blossom → ℕ → ℤ
+held_by y [] v = pos 0
+held_by y (b ∷ older) v = (if holds b.members v then y b.node else pos 0) +ℤ held_by y older v
 
 -- the duals of the vertices 1 to n
 abbrev pub vertex_duals : ℕ → List ℤ → List ℤ

@@ -4,6 +4,7 @@ ghost use Rattle.graph_theory.specs.Parts.{holds};
 ghost use Rattle.graph_theory.specs.Nested.{most_blossoms};
 ghost use Rattle.graph_theory.specs.Duals.{IsNumber};
 ghost use Rattle.blossom_arena.specs.Family.{Family, IsFamily, IsCircuit, empty_family, is_vertex, is_node, is_outermost, shrunk, dissolved, raised, dual_at, outermost, child_holding, ring_of, members_of, chain_of, names_of};
+ghost use Rattle.blossom_arena.specs.Slack.{held_by};
 
 use crate::blossoms::Blossoms;
 use crate::chain::{Chain, child_below};
@@ -14,6 +15,7 @@ use crate::nodes::NodeId;
 use crate::order::{put_first, take_out};
 use crate::ring::Ring;
 use crate::runs::{Kept, find_kept, find_run, has_kept, join, lower};
+use crate::sums::{add_each, add_outer, take_outer};
 use crate::tables::{fill, hang, note, numbered, renumber, thread, wipe};
 use graph_theory::GRAPH_VERTEX_LIMIT;
 use mb_base::{EdgeId, OutOfMemory, VertexId};
@@ -34,8 +36,10 @@ pub struct Arena {
     parents: Vec<u32>,
     nexts: Vec<u32>,
     edges: Vec<EdgeId>,
-    // By vertex: its outermost node, and the vertex after it in the blossoms that hold both.
+    // By vertex: its outermost node, the duals of all other nodes that hold it, added up, and the vertex
+    // after it in the blossoms that hold both.
     outer: Vec<u32>,
+    inner: Vec<i64>,
     followers: Vec<u32>,
     // By node number: the next older and the next newer blossom. Place 0 stands between the two ends.
     older: Vec<u32>,
@@ -80,6 +84,7 @@ impl Arena {
             followers: vec![in alloc; 0u32; count + 1]?,
             older: vec![in alloc; 0u32; places]?,
             newer: vec![in alloc; 0u32; places]?,
+            inner: vec![in alloc; 0i64; count + 1]?,
             kept,
         })
     }
@@ -151,6 +156,15 @@ impl Arena {
         dual_in(&self.duals, node.number())
     }
 
+    /// The duals of all nodes that hold a vertex, added up, in constant time.
+    pub fn cover(&self, v: VertexId) -> i64
+        requires { is_vertex self.now.vertex_count v ≡ true }
+        ensures cover { result ≡ dual_at self.now.duals v +ℤ held_by (dual_at self.now.duals) self.now.blossoms v }
+        ensures good { IsFamily self.now }
+    {
+        self.inner[v.number() as usize] + self.dual(self.outermost(v))
+    }
+
     /// Adds d, in doubled units, to the dual of a node. The sum lies within 10^15, and is not below 0 for
     /// a blossom.
     pub fn add_dual(&mut self, node: NodeId, d: i64)
@@ -160,7 +174,19 @@ impl Arena {
         ensures family { self.new ≡ raised self.old node d }
         ensures good { IsFamily self.new }
     {
-        raise_dual(&mut self.duals, node.number(), d);
+        let number = node.number();
+        raise_dual(&mut self.duals, number, d);
+        if self.parents[number as usize] == 0 {
+            return;
+        }
+        add_each(
+            &mut self.inner,
+            Members::of(
+                &self.followers,
+                find_run(&self.kept, self.vertex_count, number),
+            ),
+            d,
+        );
     }
 
     /// The links of the circuit that a blossom was made of.
@@ -229,7 +255,6 @@ impl Arena {
         let links = circuit.len() as u32;
         let key = self.kept.insert_reserved(Kept { first, links, run });
         let node = self.vertex_count + 1 + key as u32;
-        set_dual(&mut self.duals, node, 0);
         thread(&mut self.nexts, circuit, first);
         note(&mut self.edges, circuit);
         hang(
@@ -237,6 +262,13 @@ impl Arena {
             Ring::of(&self.nexts, &self.edges, first, links),
             node,
         );
+        add_outer(
+            &mut self.inner,
+            Members::of(&self.followers, run),
+            &self.outer,
+            &self.duals,
+        );
+        set_dual(&mut self.duals, node, 0);
         fill(&mut self.outer, Members::of(&self.followers, run), node);
         put_first(&mut self.older, &mut self.newer, node);
         NodeId::new(node)
@@ -265,6 +297,12 @@ impl Arena {
             &self.kept,
             self.vertex_count,
         );
+        take_outer(
+            &mut self.inner,
+            Members::of(&self.followers, kept.run),
+            &self.outer,
+            &self.duals,
+        );
     }
 
     /// Takes away all blossoms and makes all duals 0.
@@ -274,6 +312,7 @@ impl Arena {
     {
         self.kept.clear();
         wipe_duals(&mut self.duals);
+        wipe_duals(&mut self.inner);
         wipe(&mut self.parents);
         wipe(&mut self.older);
         wipe(&mut self.newer);

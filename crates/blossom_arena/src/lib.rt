@@ -14,6 +14,7 @@ mod nodes;
 mod order;
 mod ring;
 mod runs;
+mod sums;
 mod tables;
 
 pub use arena::Arena;

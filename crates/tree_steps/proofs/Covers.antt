@@ -1,37 +1,11 @@
--- What covers a vertex, where a blossom of dual 0 comes or goes, and what exposed nodes have in common after that.
+-- What exposed nodes have in common where a blossom of dual 0 comes or goes.
 use Rattle.std.proofs.Common.{◌≡◌, ℕ, ℤ, pos, ◌+ℤ◌, true, false, eqb, cond, List, [], ◌∷◌, None, refl, sym, ap, ◌∙◌, subst}
 use Rattle.std.specs.List.{AllByRecursion}
-use Rattle.std.proofs.Math.IntN.{+ℤ_idl}
-use Rattle.std.proofs.lemmas.Bool.{eqb-true}
 use Rattle.graph_theory.specs.Graph.{Multigraph, edge_of}
-use Rattle.graph_theory.specs.Parts.{holds}
 use Rattle.blossom_arena.specs.declared.links.Link.{Link}
 use Rattle.blossom_arena.specs.Family.{Blossom, is_vertex, outermost, without}
-use Rattle.blossom_arena.proofs.Lists.{by_test}
-use Rattle.alt_forest.specs.State.{State, IsTight, ExposedAgree, held_by, cover, SameParity}
+use Rattle.alt_forest.specs.State.{State, IsTight, ExposedAgree, cover, SameParity}
 use Rattle.alt_forest.proofs.Parity.{parity_sym, parity_trans, tight_parity}
-
--- duals that agree at the blossoms
-pub held_same : (y z : ℕ → ℤ) (bs : List Blossom) (v : ℕ) → AllByRecursion (λ (b : Blossom). y b.node ≡ z b.node) bs → held_by y bs v ≡ held_by z bs v
-held_same y z [] v each = refl
-held_same y z (b ∷ older) v each =
-    ap (λ t. cond (holds b.members v) t (pos 0) +ℤ held_by y older v) each.0
-    ∙ ap (λ t. cond (holds b.members v) (z b.node) (pos 0) +ℤ t) (held_same y z older v each.1)
-
--- a blossom of dual 0 on base, and one taken away
-pub held_zero : (y : ℕ → ℤ) (b : Blossom) (older : List Blossom) (v : ℕ) → y b.node ≡ pos 0 → held_by y (b ∷ older) v ≡ held_by y older v
-held_zero y b older v zero_there =
-    elim (holds b.members v) as (λ t. cond t (y b.node) (pos 0) +ℤ held_by y older v ≡ held_by y older v) [
-      | true ↦ ap (λ t. t +ℤ held_by y older v) zero_there ∙ +ℤ_idl (held_by y older v)
-      | false ↦ +ℤ_idl (held_by y older v)
-    ]
-
-pub held_without : (y : ℕ → ℤ) (bs : List Blossom) (a v : ℕ) → y a ≡ pos 0 → held_by y (without bs a) v ≡ held_by y bs v
-held_without y [] a v none = refl
-held_without y (b ∷ older) a v none =
-    by_test (eqb b.node a)
-    (λ s. ap (λ q. held_by y (cond q older (b ∷ without older a)) v) s ∙ sym (held_zero y b older v (ap y (eqb-true b.node a s) ∙ none)))
-    (λ s. ap (λ q. held_by y (cond q older (b ∷ without older a)) v) s ∙ ap (λ t. cond (holds b.members v) (y b.node) (pos 0) +ℤ t) (held_without y older a v none))
 
 -- the ends of each tight edge agree
 abbrev pub Agree : State → ℕ → ℕ → Type 0

@@ -24,7 +24,7 @@ use Rattle.tree_steps.proofs.Gap.{FitsBut, FitBut, fits_all}
 use Rattle.tree_steps.proofs.Grown.{rehung}
 use Rattle.alt_forest.proofs.Mates.{joins_unique, joins_turned, mate_turned, mate_unique, partner_unique}
 use Rattle.tree_steps.proofs.Opened.{across_without, outermost_elsewhere, outermost_opened, outermost_by_ring, joins_opened, joins_elsewhere, outer_opened, gone, rings_without}
-use Rattle.tree_steps.proofs.Covers.{WasExposed, agree_after, held_without}
+use Rattle.tree_steps.proofs.Covers.{WasExposed, agree_after}
 use Rattle.blossom_arena.proofs.Ends.{u_vertex, v_vertex}
 use Rattle.tree_steps.proofs.Hung.{IsHungBy, up_hung, down_hung}
 use Rattle.tree_steps.proofs.Climbed.{IsOpenAt, Keeps, fit_scaled, room_between}
@@ -35,6 +35,7 @@ use Rattle.tree_steps.proofs.Rungs.{ArePairs, mated_other, mated_paired, paired_
 use Rattle.std.proofs.lemmas.Option.{same_Some}
 use Rattle.blossom_arena.proofs.Parents.{ring_child}
 use Rattle.blossom_arena.proofs.Opened.{child_outer}
+use Rattle.blossom_arena.proofs.Held.{held_without}
 use Rattle.alt_forest.proofs.Tight.{tight_rings}
 
 -- an inner blossom of dual 0, and its circuit from its base on

@@ -13,6 +13,7 @@ use Rattle.blossom_arena.specs.Slack.{duals_across}
 use Rattle.blossom_arena.proofs.Lists.{by_test}
 use Rattle.blossom_arena.proofs.Nested.{outermost_parts, outermost_before, node_grows, new_is_node, new_no_child, vertex_is_node, circuit_outer, not_new}
 use Rattle.blossom_arena.proofs.Sets.{member_by_ring, outermost_has}
+use Rattle.blossom_arena.proofs.Held.{held_same, held_zero}
 use Rattle.alt_forest.specs.declared.label.Label.TheVariants.{Outer, Inner}
 use Rattle.alt_forest.specs.State.{State, IsOutermost, Joins, node_u, node_v, doubled, slack_of, IsTight, IsRing, IsMate, FitsLabel, IsSearchState, held_by, cover}
 use Rattle.alt_forest.specs.Searches.{put}
@@ -22,7 +23,7 @@ use Rattle.alt_forest.proofs.Mates.{joins_unique, mate_turned}
 use Rattle.alt_forest.proofs.Tight.{tight_ring, tight_rings}
 use Rattle.alt_forest.proofs.Parity.{one_class, parity_refl, parity_sym, parity_trans}
 use Rattle.tree_steps.proofs.Counted.{has_vertex}
-use Rattle.tree_steps.proofs.Covers.{Agree, WasExposed, agree_after, held_same, held_zero, ring_agrees, rings_agree}
+use Rattle.tree_steps.proofs.Covers.{Agree, WasExposed, agree_after, ring_agrees, rings_agree}
 use Rattle.blossom_arena.proofs.Ends.{u_vertex, v_vertex}
 
 -- duals that agree at the nodes that an edge can feel

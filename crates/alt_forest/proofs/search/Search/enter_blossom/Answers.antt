@@ -8,7 +8,8 @@ use Rattle.edge_queue.specs.declared.item.Item.TheVariants.{Blossom}
 use Rattle.edge_queue.specs.Moments.{Moments, moment_of}
 use Rattle.alt_forest.specs.Searches.{IsSound}
 use Rattle.alt_forest.proofs.Places.{outer_range}
-use Rattle.alt_forest.proofs.Duals.{low_at, dual_number}
+use Rattle.blossom_arena.proofs.Held.{dual_number}
+use Rattle.alt_forest.proofs.Duals.{low_at}
 use Rattle.alt_forest.proofs.Queues.{sound_set, node_item, blossom_set, blossom_other}
 use Rattle.alt_forest.proofs.search.Search.enter_blossom.Goals as goal
 

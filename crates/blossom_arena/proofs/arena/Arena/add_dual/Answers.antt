@@ -1,34 +1,133 @@
-use Rattle.std.proofs.Common.{◌≡◌, ℕ, ◌<◌, List, true, sym, subst, arith, rules}
-use Rattle.std.specs.Prelude.{ℤ, pos, ◌≤ℤ◌, ◌+ℤ◌, slice_set}
+use Rattle.std.proofs.Common.{◌≡◌, ◌≢◌, ◌∙◌, ℕ, ◌<◌, List, true, sym, ap, ap₂, subst, length, arith, rules, to_z, of_z}
+use Rattle.std.specs.Prelude.{ℤ, pos, ◌≤ℤ◌, ◌+ℤ◌, slice_index, slice_set, vec_len, All}
+use Rattle.std.specs.List.{AllByRecursion}
+use mir.Syntax.{w64}
+use Rattle.std.proofs.lemmas.Bool.{eq-eqb}
+use Rattle.std.proofs.lemmas.Int.{ints}
+use Rattle.std.proofs.lemmas.List.{get_or_default}
 use Rattle.graph_theory.specs.Duals.{IsNumber}
-use Rattle.blossom_arena.specs.Family.{is_node, HasDuals, dual_at}
-use Rattle.blossom_arena.specs.Fields.{blossoms_of}
+use Rattle.blossom_arena.specs.declared.runs.Run.{Run}
+use Rattle.blossom_arena.specs.declared.arena.Arena.TheInside.{Inside}
+use Rattle.blossom_arena.specs.Family.{Family, is_node, is_child, is_outermost, members_of, HasDuals, dual_at}
+use Rattle.blossom_arena.specs.Fields.{IsSound, blossoms_of, family_of, parent_of, vertices_of, run_of, added, AreSums}
 use Rattle.blossom_arena.proofs.Nested.{node_range}
-use Rattle.blossom_arena.proofs.Duals.{duals_set, sound_with_duals}
+use Rattle.blossom_arena.proofs.Parents.{parent_child}
+use Rattle.blossom_arena.proofs.Asked.{outer_test}
+use Rattle.blossom_arena.proofs.Sound.{members_within, node_run}
+use Rattle.blossom_arena.proofs.Held.{dual_number}
+use Rattle.blossom_arena.proofs.Summed.{IsStep, members_fit, members_in_sums}
+use Rattle.blossom_arena.proofs.Duals.{duals_set, raised_outer, raised_child}
 use Rattle.blossom_arena.proofs.arena.Arena.add_dual.Goals as goal
+
+-- the node, by the view
+node_is : (a : Inside) (f : Family) (x y : ℕ) → family_of a ≡ f → is_node f.vertex_count f.blossoms x ≡ true → y ≡ x → is_node a.vertex_count (blossoms_of a) y ≡ true
+node_is a f x y view is same = ap₂ (λ (g : Family) (z : ℕ). is_node g.vertex_count g.blossoms z) view same ∙ is
+
+-- the duals after the change
+duals_after : (a : Inside) (f : Family) (x y : ℕ) (d : ℤ) (ys : List ℤ) → IsSound a → family_of a ≡ f → is_node f.vertex_count f.blossoms x ≡ true → y ≡ x
+    → IsNumber (dual_at f.duals x +ℤ d) → (f.vertex_count < x → pos 0 ≤ℤ (dual_at f.duals x +ℤ d)) → ys ≡ slice_set a.duals.items y (dual_at a.duals.items y +ℤ d)
+    → HasDuals a.vertex_count ys (blossoms_of a)
+duals_after a f x y d ys s view is same in_range not_below written =
+    let range = node_range a.vertex_count (blossoms_of a) y s.family.nested (node_is a f x y view is same) in
+    let number : IsNumber (dual_at a.duals.items y +ℤ d) = subst (λ (z : ℕ). IsNumber (dual_at a.duals.items z +ℤ d)) (sym same) (subst (λ (g : Family). IsNumber (dual_at g.duals x +ℤ d)) (sym view) in_range) in
+    let fine : a.vertex_count < y → pos 0 ≤ℤ (dual_at a.duals.items y +ℤ d) =
+    subst (λ (z : ℕ). a.vertex_count < z → pos 0 ≤ℤ (dual_at a.duals.items z +ℤ d)) (sym same) (subst (λ (g : Family). g.vertex_count < x → pos 0 ≤ℤ (dual_at g.duals x +ℤ d)) (sym view) not_below) in
+    subst (λ (zs : List ℤ). HasDuals a.vertex_count zs (blossoms_of a)) (sym written)
+    (duals_set a.vertex_count (blossoms_of a) a.duals.items y (dual_at a.duals.items y +ℤ d) s.family.nested (omega (arith, range.1, s.family.duals.one_each)) number fine s.family.duals)
+
+step : (ys : List ℤ) (x : ℕ) (d : ℤ) (v : ℕ) → All IsNumber ys → IsNumber (dual_at ys x +ℤ d) → IsStep d
+step ys x d v all is = let was = dual_number ys x all in record { low = omega (arith, ints, is.0, is.1, was.0, was.1); high = omega (arith, ints, is.0, is.1, was.0, was.1) }
+
+-- what is read of the parents
+parent_at : (a : Inside) (x p : ℕ) → IsSound a → is_node a.vertex_count (blossoms_of a) x ≡ true → p ≡ slice_index a.parents.items x → p ≡ parent_of (blossoms_of a) x
+parent_at a x p s is read = read ∙ s.parents x (node_range a.vertex_count (blossoms_of a) x s.family.nested is).1
+
+outer_from : (a : Inside) (x p : ℕ) → IsSound a → is_node a.vertex_count (blossoms_of a) x ≡ true → p ≡ slice_index a.parents.items x → p ≡ 0 → is_outermost a.vertex_count (blossoms_of a) x ≡ true
+outer_from a x p s is read zero =
+    sym (outer_test a.vertex_count (blossoms_of a) x s.family.nested is) ∙ eq-eqb (parent_of (blossoms_of a) x) 0 (sym (parent_at a x p s is read) ∙ zero)
+
+child_from : (a : Inside) (x p : ℕ) → IsSound a → is_node a.vertex_count (blossoms_of a) x ≡ true → p ≡ slice_index a.parents.items x → p ≢ 0 → is_child (blossoms_of a) x ≡ true
+child_from a x p s is read ne = parent_child (blossoms_of a) x (λ z. ne (parent_at a x p s is read ∙ z))
 
 pub raise_dual-requires-clause-place : goal.raise_dual-requires-clause-place
 raise_dual-requires-clause-place c =
-    let is = subst (λ f. is_node f.vertex_count f.blossoms c.args.node ≡ true) (sym c.self.view_is) c.requires.node in
-    let range = node_range _ _ c.args.node c.self.invariant.family.nested is in
-    omega (arith, range.1, c.self.invariant.family.duals.one_each, c.number.ensures)
+    let is = node_is c.self.inside _ c.args.node c.number-number.result c.self.view_is c.requires.node c.number-number.ensures in
+    omega (arith, (node_range _ _ c.number-number.result c.self.invariant.family.nested is).1, c.self.invariant.family.duals.one_each)
 
-duals : (c : goal.After-raise_dual) → HasDuals c.self.inside.vertex_count c.raise_dual.new.duals.items (blossoms_of c.self.inside)
-duals c =
-    let n : ℕ = c.self.inside.vertex_count in
-    let s = c.self.invariant in
-    let ys : List ℤ = c.self.inside.duals.items in
-    let node : ℕ = c.args.node in
-    let is = subst (λ f. is_node f.vertex_count f.blossoms c.args.node ≡ true) (sym c.self.view_is) c.requires.node in
-    let range = node_range n (blossoms_of c.self.inside) node s.family.nested is in
-    let in_range = subst (λ f. IsNumber (dual_at f.duals c.args.node +ℤ c.args.d)) (sym c.self.view_is) c.requires.in_range in
-    let not_below = subst (λ f. f.vertex_count < c.args.node → pos 0 ≤ℤ (dual_at f.duals c.args.node +ℤ c.args.d)) (sym c.self.view_is) c.requires.not_below in
-    let written : c.raise_dual.new.duals.items ≡ slice_set ys node (dual_at ys node +ℤ c.args.d) = search rules in
-    subst (λ (zs : List ℤ). HasDuals n zs (blossoms_of c.self.inside)) (sym written)
-    (duals_set n (blossoms_of c.self.inside) ys node (dual_at ys node +ℤ c.args.d) s.family.nested (omega (arith, range.1, s.family.duals.one_each)) in_range not_below s.family.duals)
+pub index-requires : goal.index-requires
+index-requires c =
+    let is = node_is c.self.inside _ c.args.node c.number-number.result c.self.view_is c.requires.node c.number-number.ensures in
+    omega (arith, (node_range _ _ c.number-number.result c.self.invariant.family.nested is).1, c.self.invariant.places.parents)
 
 pub invariant_of-self : goal.invariant_of-self
-invariant_of-self c = sound_with_duals c.self.inside c.raise_dual.new.duals c.self.invariant (duals c)
+invariant_of-self c =
+    let is = node_is c.self.inside _ c.args.node c.number-number.result c.self.view_is c.requires.node c.number-number.ensures in
+    let place : c.number-number.result < length c.self.inside.parents.items = omega (arith, (node_range _ _ c.number-number.result c.self.invariant.family.nested is).1, c.self.invariant.places.parents) in
+    let read : c.index.result.now ≡ slice_index c.self.inside.parents.items c.number-number.result =
+    c.index.ensures ∙ get_or_default c.self.inside.parents.items c.number-number.result c.index.result.now 0 place in
+    let written : c.raise_dual.new.duals.items ≡ slice_set c.self.inside.duals.items c.number-number.result (dual_at c.self.inside.duals.items c.number-number.result +ℤ c.args.d) = search rules in
+    let duals = duals_after c.self.inside _ c.args.node c.number-number.result c.args.d c.raise_dual.new.duals.items c.self.invariant c.self.view_is c.requires.node c.number-number.ensures c.requires.in_range c.requires.not_below written in
+    raised_outer c.self.inside c.raise_dual.new.duals c.number-number.result c.args.d c.self.invariant duals is written (outer_from c.self.inside c.number-number.result c.index.result.now c.self.invariant is read c.if-index-eq0.true)
+
+pub returns-then-index-eq0-clause-good : goal.returns-then-index-eq0-clause-good
+returns-then-index-eq0-clause-good c =
+    let is = node_is c.self.inside _ c.args.node c.number-number.result c.self.view_is c.requires.node c.number-number.ensures in
+    let place : c.number-number.result < length c.self.inside.parents.items = omega (arith, (node_range _ _ c.number-number.result c.self.invariant.family.nested is).1, c.self.invariant.places.parents) in
+    let read : c.index.result.now ≡ slice_index c.self.inside.parents.items c.number-number.result =
+    c.index.ensures ∙ get_or_default c.self.inside.parents.items c.number-number.result c.index.result.now 0 place in
+    let written : c.raise_dual.new.duals.items ≡ slice_set c.self.inside.duals.items c.number-number.result (dual_at c.self.inside.duals.items c.number-number.result +ℤ c.args.d) = search rules in
+    let duals = duals_after c.self.inside _ c.args.node c.number-number.result c.args.d c.raise_dual.new.duals.items c.self.invariant c.self.view_is c.requires.node c.number-number.ensures c.requires.in_range c.requires.not_below written in
+    (raised_outer c.self.inside c.raise_dual.new.duals c.number-number.result c.args.d c.self.invariant duals is written (outer_from c.self.inside c.number-number.result c.index.result.now c.self.invariant is read c.if-index-eq0.true)).family
+
+pub of-requires : goal.of-requires
+of-requires c =
+    let is = node_is c.self.inside _ c.args.node c.number-number.result c.self.view_is c.requires.node c.number-number.ensures in
+    subst (λ (fs : List ℕ). AllByRecursion (λ v. v < length fs) (vertices_of fs c.find_run.result)) (sym c.deref.ensures.value)
+    (subst (λ (r : Run). AllByRecursion (λ v. v < length c.self.inside.followers.items) (vertices_of c.self.inside.followers.items r)) (sym c.find_run.ensures)
+    (members_within c.self.inside c.self.invariant c.number-number.result is))
+
+pub add_each-requires-clause-places : goal.add_each-requires-clause-places
+add_each-requires-clause-places c =
+    let is = node_is c.self.inside _ c.args.node c.number-number.result c.self.view_is c.requires.node c.number-number.ensures in
+    let members : c.of.result ≡ members_of (blossoms_of c.self.inside) c.number-number.result =
+    c.of.ensures ∙ ap (λ (fs : List ℕ). vertices_of fs c.find_run.result) c.deref.ensures.value ∙ ap (vertices_of c.self.inside.followers.items) c.find_run.ensures ∙ (node_run c.self.inside c.self.invariant c.number-number.result is).vertices in
+    let len : vec_len c.self.inside.inner ≡ length c.self.inside.inner.items = omega arith in
+    subst (λ m. AllByRecursion (λ v. v < m) c.of.result) (sym len)
+    (subst (λ (vs : List ℕ). AllByRecursion (λ v. v < length c.self.inside.inner.items) vs) (sym members) (members_in_sums c.self.inside c.self.invariant c.number-number.result is))
+
+pub add_each-requires-clause-in_range : goal.add_each-requires-clause-in_range
+add_each-requires-clause-in_range c =
+    let is = node_is c.self.inside _ c.args.node c.number-number.result c.self.view_is c.requires.node c.number-number.ensures in
+    let members : c.of.result ≡ members_of (blossoms_of c.self.inside) c.number-number.result =
+    c.of.ensures ∙ ap (λ (fs : List ℕ). vertices_of fs c.find_run.result) c.deref.ensures.value ∙ ap (vertices_of c.self.inside.followers.items) c.find_run.ensures ∙ (node_run c.self.inside c.self.invariant c.number-number.result is).vertices in
+    let in_range = subst (λ f. IsNumber (dual_at f.duals c.args.node +ℤ c.args.d)) (sym c.self.view_is) c.requires.in_range in
+    let back : to_z w64 (of_z w64 c.args.d) ≡ c.args.d = search rules in
+    subst (λ (z : ℤ). AreSums c.self.inside.inner.items (λ v. z) c.of.result) (sym back)
+    (subst (λ (vs : List ℕ). AreSums c.self.inside.inner.items (λ v. c.args.d) vs) (sym members)
+    (members_fit c.self.inside c.self.invariant c.number-number.result (λ v. c.args.d) is (λ v. step c.self.inside.duals.items c.args.node c.args.d v c.self.invariant.family.duals.in_range in_range)))
+
+pub invariant_of-self-2 : goal.invariant_of-self-2
+invariant_of-self-2 c =
+    let is = node_is c.self.inside _ c.args.node c.number-number.result c.self.view_is c.requires.node c.number-number.ensures in
+    let place : c.number-number.result < length c.self.inside.parents.items = omega (arith, (node_range _ _ c.number-number.result c.self.invariant.family.nested is).1, c.self.invariant.places.parents) in
+    let read : c.index.result.now ≡ slice_index c.self.inside.parents.items c.number-number.result =
+    c.index.ensures ∙ get_or_default c.self.inside.parents.items c.number-number.result c.index.result.now 0 place in
+    let written : c.raise_dual.new.duals.items ≡ slice_set c.self.inside.duals.items c.number-number.result (dual_at c.self.inside.duals.items c.number-number.result +ℤ c.args.d) = search rules in
+    let duals = duals_after c.self.inside _ c.args.node c.number-number.result c.args.d c.raise_dual.new.duals.items c.self.invariant c.self.view_is c.requires.node c.number-number.ensures c.requires.in_range c.requires.not_below written in
+    let back : to_z w64 (of_z w64 c.args.d) ≡ c.args.d = search rules in
+    let members : c.of.result ≡ members_of (blossoms_of c.self.inside) c.number-number.result =
+    c.of.ensures ∙ ap (λ (fs : List ℕ). vertices_of fs c.find_run.result) c.deref.ensures.value ∙ ap (vertices_of c.self.inside.followers.items) c.find_run.ensures ∙ (node_run c.self.inside c.self.invariant c.number-number.result is).vertices in
+    raised_child c.self.inside c.raise_dual.new.duals c.number-number.result c.args.d c.self.invariant duals is written c.add_each.new.sums (child_from c.self.inside c.number-number.result c.index.result.now c.self.invariant is read c.if-index-eq0.false) (c.add_each.ensures.items ∙ ap (λ (z : ℤ). added c.self.inside.inner.items (λ v. z) c.of.result) back ∙ ap (added c.self.inside.inner.items (λ v. c.args.d)) members)
 
 pub returns-clause-good : goal.returns-clause-good
-returns-clause-good c = (sound_with_duals c.self.inside c.raise_dual.new.duals c.self.invariant (duals c)).family
+returns-clause-good c =
+    let is = node_is c.self.inside _ c.args.node c.number-number.result c.self.view_is c.requires.node c.number-number.ensures in
+    let place : c.number-number.result < length c.self.inside.parents.items = omega (arith, (node_range _ _ c.number-number.result c.self.invariant.family.nested is).1, c.self.invariant.places.parents) in
+    let read : c.index.result.now ≡ slice_index c.self.inside.parents.items c.number-number.result =
+    c.index.ensures ∙ get_or_default c.self.inside.parents.items c.number-number.result c.index.result.now 0 place in
+    let written : c.raise_dual.new.duals.items ≡ slice_set c.self.inside.duals.items c.number-number.result (dual_at c.self.inside.duals.items c.number-number.result +ℤ c.args.d) = search rules in
+    let duals = duals_after c.self.inside _ c.args.node c.number-number.result c.args.d c.raise_dual.new.duals.items c.self.invariant c.self.view_is c.requires.node c.number-number.ensures c.requires.in_range c.requires.not_below written in
+    let back : to_z w64 (of_z w64 c.args.d) ≡ c.args.d = search rules in
+    let members : c.of.result ≡ members_of (blossoms_of c.self.inside) c.number-number.result =
+    c.of.ensures ∙ ap (λ (fs : List ℕ). vertices_of fs c.find_run.result) c.deref.ensures.value ∙ ap (vertices_of c.self.inside.followers.items) c.find_run.ensures ∙ (node_run c.self.inside c.self.invariant c.number-number.result is).vertices in
+    (raised_child c.self.inside c.raise_dual.new.duals c.number-number.result c.args.d c.self.invariant duals is written c.add_each.new.sums (child_from c.self.inside c.number-number.result c.index.result.now c.self.invariant is read c.if-index-eq0.false) (c.add_each.ensures.items ∙ ap (λ (z : ℤ). added c.self.inside.inner.items (λ v. z) c.of.result) back ∙ ap (added c.self.inside.inner.items (λ v. c.args.d)) members)).family

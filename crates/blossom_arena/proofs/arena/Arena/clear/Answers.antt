@@ -10,6 +10,7 @@ abbrev after : goal.After-renumber → Inside
 after c = record {
   vertex_count = c.self.inside.vertex_count;
   duals = c.wipe_duals.new.duals;
+  inner = c.wipe_duals-2.new.duals;
   parents = c.wipe.new.table;
   nexts = c.self.inside.nexts;
   edges = c.self.inside.edges;
@@ -28,6 +29,7 @@ is_fresh c =
     let parents_len : vec_len a.parents ≡ places = omega (arith, c.self.invariant.places.parents) in
     let older_len : vec_len a.older ≡ places = omega (arith, c.self.invariant.places.older) in
     let newer_len : vec_len a.newer ≡ places = omega (arith, c.self.invariant.places.newer) in
+    let inner_len : vec_len a.inner ≡ a.vertex_count + 1 = omega (arith, c.self.invariant.places.inner) in
     record {
       few = c.self.invariant.family.few;
       slots = c.clear.ensures.empty;
@@ -40,6 +42,7 @@ is_fresh c =
       newer = c.wipe-3.ensures ∙ ap (λ (k : ℕ). replicate k 0) newer_len;
       outer_len = omega (arith, c.renumber.ensures.len, c.self.invariant.places.outer);
       outer = λ v low. c.renumber.ensures.each v (omega (arith, low, c.self.invariant.places.outer));
+      inner = c.wipe_duals-2.ensures ∙ ap (λ (k : ℕ). replicate k (pos 0)) inner_len;
       followers = c.self.invariant.places.followers;
     }
 

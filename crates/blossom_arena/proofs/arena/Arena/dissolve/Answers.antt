@@ -1,19 +1,28 @@
 use Rattle.std.proofs.Common.{◌≡◌, ◌∙◌, ℕ, ◌<◌, ◌+◌, List, true, false, sym, ap, ap₂, subst, length, arith}
-use Rattle.std.specs.Prelude.{vec_len}
+use Rattle.std.specs.Prelude.{ℤ, neg_ℤ, slice_index, vec_len}
 use Rattle.std.specs.List.{AllByRecursion}
 use Rattle.graph_theory.specs.Parts.{holds}
+use Rattle.slab.specs.Slab.{Slab}
 use Rattle.blossom_arena.specs.declared.links.Link.{Link}
+use Rattle.blossom_arena.specs.declared.runs.Kept.{Kept}
 use Rattle.blossom_arena.specs.declared.arena.Arena.TheInside.{Inside}
 use Rattle.blossom_arena.specs.Tables.{filled}
 use Rattle.graph_theory.specs.Nested.{most_blossoms}
-use Rattle.blossom_arena.specs.Family.{Blossom, Family, names_of, nodes_of, ring_of, is_child, is_outermost, dissolved}
-use Rattle.blossom_arena.specs.Fields.{blossoms_of, family_of, order_of, vertices_of, run_of, lowered}
+use Rattle.blossom_arena.specs.Family.{Blossom, Family, names_of, nodes_of, ring_of, members_of, is_child, is_outermost, dissolved, dual_at}
+use Rattle.blossom_arena.specs.Fields.{blossoms_of, family_of, order_of, vertices_of, run_of, lowered, added, AreSums, outer_dual}
 use Rattle.blossom_arena.proofs.Nested.{outermost_parts}
 use Rattle.blossom_arena.proofs.Sound.{order_names, order_range}
 use Rattle.blossom_arena.proofs.Shrunk.{each_some}
 use Rattle.blossom_arena.proofs.Dissolved.{Dissolves, sound_after, blossoms_after}
-use Rattle.blossom_arena.proofs.Undone.{older_place, newer_place, next_place, before_place, walk_kept, ring_kept, children_within, runs_within}
+use Rattle.blossom_arena.proofs.Undone.{older_place, newer_place, next_place, before_place, walk_kept, ring_kept, members_kept, vertices_low, outer_low, sums_low, children_within, runs_within}
 use Rattle.blossom_arena.proofs.arena.Arena.dissolve.Goals as goal
+
+-- the table as the children's runs leave it
+lowered_is : (a : Inside) (kept : Slab Kept) (outer fs : List ℕ) (ls : List Link) (node : ℕ)
+    → outer ≡ lowered a.outer.items (λ x. vertices_of fs (run_of a.vertex_count kept x)) (nodes_of ls) → fs ≡ a.followers.items → ls ≡ ring_of (blossoms_of a) node
+    → outer ≡ lowered a.outer.items (λ x. vertices_of a.followers.items (run_of a.vertex_count kept x)) (nodes_of (ring_of (blossoms_of a) node))
+lowered_is a kept outer fs ls node items followers ring =
+    items ∙ ap₂ (λ (t : List ℕ) (us : List Link). lowered a.outer.items (λ x. vertices_of t (run_of a.vertex_count kept x)) (nodes_of us)) followers ring
 
 -- the node stands in the order, and in no ring
 in_order : (a : Inside) (f : Family) (b x : ℕ) → family_of a ≡ f → holds (names_of f.blossoms) b ≡ true → x ≡ b → holds (order_of a) x ≡ true
@@ -80,10 +89,46 @@ lower-requires-clause-within c =
     subst (λ (ls : List Link). AllByRecursion (λ (l : Link). AllByRecursion (λ v. v < length c.deref-5.result.now) (vertices_of c.deref-5.result.now (run_of c.self.inside.vertex_count c.remove-kept.new.self l.node))) ls) (sym ring)
     (runs_within c.self.inside c.number-node.result c.self.invariant there c.remove-kept.new.self c.deref-5.result.now free c.remove-kept.ensures.updates c.deref-5.ensures.value)
 
-abbrev after : goal.After-lower → Inside
+pub of-requires-3 : goal.of-requires-3
+of-requires-3 c =
+    let there = in_order c.self.inside _ c.args.b c.number-node.result c.self.view_is c.requires.blossom c.number-node.ensures in
+    subst (AllByRecursion (λ v. v < length c.deref-6.result.now))
+    (sym (members_kept c.self.inside c.number-node.result c.self.invariant there c.remove-kept.result c.remove-kept.ensures.value c.deref-6.result.now c.deref-6.ensures.value))
+    (vertices_low c.self.inside c.number-node.result c.self.invariant there (length c.deref-6.result.now) (omega (arith, ap length c.deref-6.ensures.value, c.self.invariant.places.followers)))
+
+members_are : (c : goal.After-deref-8) → c.of-3.result ≡ members_of (blossoms_of c.self.inside) c.number-node.result
+members_are c =
+    let there = in_order c.self.inside _ c.args.b c.number-node.result c.self.view_is c.requires.blossom c.number-node.ensures in
+    c.of-3.ensures ∙ members_kept c.self.inside c.number-node.result c.self.invariant there c.remove-kept.result c.remove-kept.ensures.value c.deref-6.result.now c.deref-6.ensures.value
+
+pub take_outer-requires-clause-places : goal.take_outer-requires-clause-places
+take_outer-requires-clause-places c =
+    let there = in_order c.self.inside _ c.args.b c.number-node.result c.self.view_is c.requires.blossom c.number-node.ensures in
+    let enough : c.self.inside.vertex_count < vec_len c.self.inside.inner = omega (arith, c.self.invariant.places.inner) in
+    subst (λ (vs : List ℕ). AllByRecursion (λ v. v < vec_len c.self.inside.inner) vs) (sym (members_are c))
+    (vertices_low c.self.inside c.number-node.result c.self.invariant there (vec_len c.self.inside.inner) enough)
+
+pub take_outer-requires-clause-nodes : goal.take_outer-requires-clause-nodes
+take_outer-requires-clause-nodes c =
+    let there = in_order c.self.inside _ c.args.b c.number-node.result c.self.view_is c.requires.blossom c.number-node.ensures in
+    let free = is_free c.self.inside _ c.args.b c.number-node.result c.self.view_is c.requires.outer c.number-node.ensures in
+    let ring2 : c.of-2.result ≡ ring_of (blossoms_of c.self.inside) c.number-node.result =
+    c.of-2.ensures ∙ ring_kept c.self.inside c.number-node.result c.self.invariant there c.remove-kept.result c.remove-kept.ensures.value c.deref-3.result.now c.deref-4.result.now c.deref-3.ensures.value c.deref-4.ensures.value in
+    subst (λ (vs : List ℕ). AllByRecursion (λ v. (v < length c.deref-7.result.now) × (slice_index c.deref-7.result.now v < length c.deref-8.result.now)) vs) (sym (members_are c))
+    (outer_low c.self.inside c.number-node.result c.self.invariant there c.remove-kept.new.self c.deref-7.result.now c.deref-8.result.now free c.remove-kept.ensures.updates c.deref-8.ensures.value
+    (c.deref-7.ensures.value ∙ lowered_is c.self.inside c.remove-kept.new.self c.lower.new.outer.items c.deref-5.result.now c.of-2.result c.number-node.result c.lower.ensures.items c.deref-5.ensures.value ring2))
+
+pub take_outer-requires-clause-in_range : goal.take_outer-requires-clause-in_range
+take_outer-requires-clause-in_range c =
+    let there = in_order c.self.inside _ c.args.b c.number-node.result c.self.view_is c.requires.blossom c.number-node.ensures in
+    subst (AreSums c.self.inside.inner.items (λ v. neg_ℤ (outer_dual c.deref-7.result.now c.deref-8.result.now v))) (sym (members_are c))
+    (sums_low c.self.inside c.number-node.result c.self.invariant there c.deref-7.result.now c.deref-8.result.now c.deref-8.ensures.value)
+
+abbrev after : goal.After-take_outer → Inside
 after c = record {
   vertex_count = c.self.inside.vertex_count;
   duals = c.self.inside.duals;
+  inner = c.take_outer.new.sums;
   parents = c.hang.new.table;
   nexts = c.self.inside.nexts;
   edges = c.self.inside.edges;
@@ -94,7 +139,7 @@ after c = record {
   kept = c.remove-kept.new.self;
 }
 
-changes : (c : goal.After-lower) → holds (order_of c.self.inside) c.number-node.result ≡ true → Dissolves c.self.inside (after c) c.number-node.result
+changes : (c : goal.After-take_outer) → holds (order_of c.self.inside) c.number-node.result ≡ true → Dissolves c.self.inside (after c) c.number-node.result
 changes c there =
     let a : Inside = c.self.inside in
     let node : ℕ = c.number-node.result in
@@ -102,6 +147,8 @@ changes c there =
     c.of.ensures ∙ ring_kept a node c.self.invariant there c.remove-kept.result c.remove-kept.ensures.value c.deref.result.now c.deref-2.result.now c.deref.ensures.value c.deref-2.ensures.value in
     let ring2 : c.of-2.result ≡ ring_of (blossoms_of a) node =
     c.of-2.ensures ∙ ring_kept a node c.self.invariant there c.remove-kept.result c.remove-kept.ensures.value c.deref-3.result.now c.deref-4.result.now c.deref-3.ensures.value c.deref-4.ensures.value in
+    let members : c.of-3.result ≡ members_of (blossoms_of a) node =
+    c.of-3.ensures ∙ members_kept a node c.self.invariant there c.remove-kept.result c.remove-kept.ensures.value c.deref-6.result.now c.deref-6.ensures.value in
     record {
       updates = c.remove-kept.ensures.updates;
       len = c.remove-kept.ensures.len;
@@ -109,26 +156,29 @@ changes c there =
       older = c.take_out.ensures.older;
       newer = c.take_out.ensures.newer;
       parents = c.hang.ensures.items ∙ ap (λ (ls : List Link). filled a.parents.items (nodes_of ls) 0) ring;
-      outer = c.lower.ensures.items
-          ∙ ap₂ (λ (fs : List ℕ) (ls : List Link). lowered a.outer.items (λ x. vertices_of fs (run_of a.vertex_count c.remove-kept.new.self x)) (nodes_of ls)) c.deref-5.ensures.value ring2;
+      outer = lowered_is a c.remove-kept.new.self c.lower.new.outer.items c.deref-5.result.now c.of-2.result node c.lower.ensures.items c.deref-5.ensures.value ring2;
+      inner = c.take_outer.ensures.items
+          ∙ ap₂ (λ (os : List ℕ) (ys : List ℤ). added a.inner.items (λ v. neg_ℤ (outer_dual os ys v)) c.of-3.result) c.deref-7.ensures.value c.deref-8.ensures.value
+          ∙ ap (added a.inner.items (λ v. neg_ℤ (outer_dual c.lower.new.outer.items a.duals.items v))) members;
+      none = ap₂ (λ (f : Family) (x : ℕ). dual_at f.duals x) c.self.view_is c.number-node.ensures ∙ c.requires.dual;
     }
 
 pub invariant_of-self : goal.invariant_of-self
 invariant_of-self c =
     let there = in_order c.self.inside _ c.args.b c.number-node.result c.self.view_is c.requires.blossom c.number-node.ensures in
     let free = is_free c.self.inside _ c.args.b c.number-node.result c.self.view_is c.requires.outer c.number-node.ensures in
-    sound_after c.self.inside _ _ _ _ _ c.number-node.result c.self.invariant there free (changes c there)
+    sound_after c.self.inside _ _ _ _ _ _ c.number-node.result c.self.invariant there free (changes c there)
 
 pub returns-clause-family : goal.returns-clause-family
 returns-clause-family c =
     let a : Inside = c.self.inside in
     let there = in_order a _ c.args.b c.number-node.result c.self.view_is c.requires.blossom c.number-node.ensures in
     let free = is_free a _ c.args.b c.number-node.result c.self.view_is c.requires.outer c.number-node.ensures in
-    ap (λ (bs : List Blossom). record { vertex_count = a.vertex_count; duals = a.duals.items; blossoms = bs }) (blossoms_after a _ _ _ _ _ c.number-node.result c.self.invariant there free (changes c there))
+    ap (λ (bs : List Blossom). record { vertex_count = a.vertex_count; duals = a.duals.items; blossoms = bs }) (blossoms_after a _ _ _ _ _ _ c.number-node.result c.self.invariant there free (changes c there))
     ∙ ap₂ (λ (f : Family) (x : ℕ). dissolved f x) c.self.view_is c.number-node.ensures
 
 pub returns-clause-good : goal.returns-clause-good
 returns-clause-good c =
     let there = in_order c.self.inside _ c.args.b c.number-node.result c.self.view_is c.requires.blossom c.number-node.ensures in
     let free = is_free c.self.inside _ c.args.b c.number-node.result c.self.view_is c.requires.outer c.number-node.ensures in
-    (sound_after c.self.inside _ _ _ _ _ c.number-node.result c.self.invariant there free (changes c there)).family
+    (sound_after c.self.inside _ _ _ _ _ _ c.number-node.result c.self.invariant there free (changes c there)).family

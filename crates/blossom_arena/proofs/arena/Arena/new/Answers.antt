@@ -18,5 +18,6 @@ invariant_of-result c =
       newer = search rules;
       outer_len = omega (arith, c.in_ok-numbered.ensures.len);
       outer = c.in_ok-numbered.ensures.each;
+      inner = search rules;
       followers = omega (arith, c.in_ok-vec-5.ensures.len);
     })
