@@ -8,7 +8,7 @@ use std::marker::Model;
 fn is_space(b: u8) -> bool
     ensures { result ≡ is_blank b }
 {
-    b == b' ' || b == b'\t'
+    b <= b' ' && (b == b' ' || b == b'\t')
 }
 
 fn first_blank(line: &[u8]) -> Option<usize>
@@ -31,7 +31,7 @@ fn skip_blanks(line: &[u8]) -> &[u8]
     rest
 }
 
-/// The first field of a line, and what follows it.
+/// The first field of a line, and what follows it and the blank behind it.
 fn next_field(line: &[u8]) -> Option<(&[u8], &[u8])>
     ensures { MatchOption result (fields line.now ≡ []) (λ r. fields line.now ≡ r.0.now ∷ fields r.1.now) }
 {
@@ -40,7 +40,7 @@ fn next_field(line: &[u8]) -> Option<(&[u8], &[u8])>
         return None;
     }
     match first_blank(rest) {
-        Some(end) => Some((&rest[..end], &rest[end..])),
+        Some(end) => Some((&rest[..end], &rest[end + 1..])),
         None => Some((rest, &rest[..0])),
     }
 }

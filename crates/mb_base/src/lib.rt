@@ -1,7 +1,7 @@
 //! What every other crate stands on: numbers of vertices and edges, counted steps, bytes in and
 //! bytes out with their faults counted, and the lines, fields and numbers of a text.
-//! It stands on std alone. It promises that no byte is lost or made up on the way, that each fault
-//! is seen in a count, and that a text has one reading.
+//! It stands on std and on `memchr`, which finds the ends of lines. It promises that no byte is
+//! lost or made up on the way, that each fault is seen in a count, and that a text has one reading.
 #![tactic(auto)]
 
 mod fault_plan;

@@ -3,10 +3,12 @@ ghost use Rattle.std.specs.List.{position, after_first};
 ghost use Rattle.std.specs.Str.Lines.{strip_carriage_return};
 ghost use Rattle.mb_base.specs.Text.{lines, raw_lines, is_line_feed};
 
+use memchr::memchr;
+
 fn first_line_feed(bytes: &[u8]) -> Option<usize>
     ensures { result ≡ position is_line_feed bytes.now }
 {
-    bytes.iter().position(|b| *b == b'\n')
+    memchr(b'\n', bytes)
 }
 
 fn cut_line(bytes: &[u8]) -> (&[u8], &[u8])
