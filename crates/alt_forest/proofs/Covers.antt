@@ -26,7 +26,7 @@ apart_chain n bs u v nested iu iv ne =
     let none : sharers bs u v ≡ [] = ⊎_elim (λ p. p) (λ p. absurd (ne p)) (together n bs u v nested iu iv) in
     sym (chain_split n bs u v nested iu iv ∙ ap (λ xs. holders bs u v ++ xs) none ∙ append_nil (holders bs u v))
 
-across_apart : (n : ℕ) (y : ℕ → ℤ) (bs : List Blossom) (e : Edge) → IsNested n bs → is_vertex n e.u ≡ true → is_vertex n e.v ≡ true → outermost bs e.u ≢ outermost bs e.v
+pub across_apart : (n : ℕ) (y : ℕ → ℤ) (bs : List Blossom) (e : Edge) → IsNested n bs → is_vertex n e.u ≡ true → is_vertex n e.v ≡ true → outermost bs e.u ≢ outermost bs e.v
     → duals_across y bs e ≡ (y e.u +ℤ held_by y bs e.u) +ℤ (y e.v +ℤ held_by y bs e.v)
 across_apart n y bs e nested iu iv ne =
     across_split y bs e

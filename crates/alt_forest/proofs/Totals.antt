@@ -1,8 +1,12 @@
 -- The duals of the first nodes of a list, added up one by one.
-use Rattle.std.proofs.Common.{◌≡◌, ℕ, zero, suc, ◌+◌, ◌-◌, ◌<◌, ℤ, pos, ◌+ℤ◌, List, [], ◌∷◌, take, Option, Some, None, refl, sym, ap, ◌∙◌, subst, arith}
-use Rattle.std.specs.Prelude.{MatchOption}
+use Rattle.std.proofs.Common.{◌≡◌, ℕ, zero, suc, ◌+◌, ◌-◌, ◌<◌, ℤ, pos, ◌+ℤ◌, List, [], ◌∷◌, length, take, Option, Some, None, refl, sym, ap, ◌∙◌, subst, arith}
+use Rattle.std.specs.Prelude.{MatchOption, All, neg_ℤ, ◌*ℤ◌, ◌≤ℤ◌}
 use Rattle.std.specs.List.{AllByRecursion}
 use Rattle.std.proofs.lemmas.Int.{ints}
+use Rattle.graph_theory.specs.declared.limits.TheConstants.{NUMBER_LIMIT}
+use Rattle.graph_theory.specs.Duals.{IsNumber}
+use Rattle.blossom_arena.specs.Family.{dual_at}
+use Rattle.blossom_arena.proofs.Held.{dual_number}
 use Rattle.alt_forest.specs.Chains.{total_of, dual_of}
 
 take_none : (k : ℕ) → take {A = ℕ} k [] ≡ []
@@ -27,3 +31,12 @@ total_step y o xs ys n k sum next dual whole e low d s so =
 pub each_left : (P : ℕ → Type 0) (o : Option ℕ) (xs ys : List ℕ) → MatchOption o ((xs ≡ []) × (ys ≡ [])) (λ x. xs ≡ x ∷ ys) → AllByRecursion P xs → AllByRecursion P ys
 each_left P None xs ys e each = subst (AllByRecursion P) (sym e.1) tt
 each_left P (Some x) xs ys e each = (subst (AllByRecursion P) e each).1
+
+-- so many duals add up to no more than so many times the greatest
+pub total_within : (ys : List ℤ) (xs : List ℕ) → All IsNumber ys
+    → (neg_ℤ (NUMBER_LIMIT *ℤ pos (length xs)) ≤ℤ total_of (dual_at ys) xs) × (total_of (dual_at ys) xs ≤ℤ (NUMBER_LIMIT *ℤ pos (length xs)))
+total_within ys [] all = (omega (arith, ints), omega (arith, ints))
+total_within ys (x ∷ xs) all =
+    let rest = total_within ys xs all in
+    let own = dual_number ys x all in
+    (omega (arith, ints, rest.0, rest.1, own.0, own.1), omega (arith, ints, rest.0, rest.1, own.0, own.1))

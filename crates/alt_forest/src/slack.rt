@@ -108,8 +108,8 @@ fn holder_counts(arena: &Arena, edge: &Edge) -> (u32, u32)
     (more + both, less + both)
 }
 
-/// The duals of the nodes that hold exactly one end of an edge, added up.
-fn duals_across(arena: &Arena, edge: &Edge) -> i64
+/// The same along the two chains, whichever nodes hold the ends.
+fn duals_along(arena: &Arena, edge: &Edge) -> i64
     requires { IsEdgeWithin arena.now.vertex_count edge.now }
     ensures duals_across { result ≡ duals_across (dual_at arena.now.duals) arena.now.blossoms edge.now }
     ensures low { neg_ℤ (NUMBER_LIMIT *ℤ pos GRAPH_VERTEX_LIMIT) ≤ℤ result }
@@ -117,6 +117,20 @@ fn duals_across(arena: &Arena, edge: &Edge) -> i64
 {
     let (u, v) = holder_counts(arena, edge);
     total(arena, arena.chain(edge.u), u) + total(arena, arena.chain(edge.v), v)
+}
+
+/// The duals of the nodes that hold exactly one end of an edge, added up: where no blossom holds both ends,
+/// all that hold either, in constant time.
+fn duals_across(arena: &Arena, edge: &Edge) -> i64
+    requires { IsEdgeWithin arena.now.vertex_count edge.now }
+    ensures duals_across { result ≡ duals_across (dual_at arena.now.duals) arena.now.blossoms edge.now }
+    ensures low { neg_ℤ (NUMBER_LIMIT *ℤ pos GRAPH_VERTEX_LIMIT) ≤ℤ result }
+    ensures high { result ≤ℤ (NUMBER_LIMIT *ℤ pos GRAPH_VERTEX_LIMIT) }
+{
+    if arena.outermost(edge.u).number() == arena.outermost(edge.v).number() {
+        return duals_along(arena, edge);
+    }
+    cover(arena, edge.u) + cover(arena, edge.v)
 }
 
 /// The duals of all nodes that hold a vertex, added up, in constant time.

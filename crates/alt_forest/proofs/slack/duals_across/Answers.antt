@@ -1,33 +1,60 @@
-use Rattle.std.proofs.Common.{◌≡◌, ◌∙◌, ℕ, ℤ, ◌+ℤ◌, List, length, take, true, ap, ap₂, rules, to_z, of_z, sym, subst}
-use Rattle.std.specs.List.{AllByRecursion}
+use Rattle.std.proofs.Common.{◌≡◌, ◌≢◌, ◌∙◌, ◌+ℤ◌, List, ap₂, arith, rules, to_z, of_z, sym}
+use Rattle.std.proofs.lemmas.Int.{ints}
 use mir.Syntax.{w64}
 use Rattle.graph_theory.specs.declared.edge.Edge.{Edge}
-use Rattle.blossom_arena.specs.Family.{Blossom, is_node, dual_at, chain_of}
-use Rattle.alt_forest.specs.Chains.{holders, total_of}
-use Rattle.alt_forest.proofs.Forks.{IsEnds, ends_of, ends_turned, chain_nodes, first_holders, across_split}
+use Rattle.blossom_arena.specs.Family.{Blossom, dual_at, outermost}
+use Rattle.alt_forest.specs.Chains.{holders}
+use Rattle.alt_forest.proofs.Forks.{ends_of, across_split, holders_few}
+use Rattle.alt_forest.proofs.Covers.{across_apart}
+use Rattle.alt_forest.proofs.Totals.{total_within}
 use Rattle.alt_forest.proofs.slack.duals_across.Goals as goal
 
--- what is added up over the first nodes of a chain
-first_total : (n : ℕ) (bs : List Blossom) (u v k : ℕ) (y : ℕ → ℤ) (xs : List ℕ) (sum : ℤ) → IsEnds n bs u v → sum ≡ total_of y (take k xs) → k ≡ length (holders bs u v) → xs ≡ chain_of bs u → sum ≡ total_of y (holders bs u v)
-first_total n bs u v k y xs sum h is size chain = is ∙ ap₂ (λ (j : ℕ) (zs : List ℕ). total_of y (take j zs)) size chain ∙ ap (total_of y) (first_holders n bs u v h)
-
-pub total-requires-clause-nodes : goal.total-requires-clause-nodes
-total-requires-clause-nodes c =
-    let h = ends_of c.args.arena.now.vertex_count c.args.arena.now.blossoms c.args.edge.now c.chain.ensures.good.nested c.chain.ensures.good.few c.requires in
-    subst (AllByRecursion (λ a. is_node c.args.arena.now.vertex_count c.args.arena.now.blossoms a ≡ true)) (sym c.chain.ensures.chain) (chain_nodes c.args.arena.now.vertex_count c.args.arena.now.blossoms c.args.edge.now.u h.u_is)
-
-pub total-requires-2-clause-nodes : goal.total-requires-2-clause-nodes
-total-requires-2-clause-nodes c =
-    let h = ends_of c.args.arena.now.vertex_count c.args.arena.now.blossoms c.args.edge.now c.chain.ensures.good.nested c.chain.ensures.good.few c.requires in
-    subst (AllByRecursion (λ a. is_node c.args.arena.now.vertex_count c.args.arena.now.blossoms a ≡ true)) (sym c.chain-2.ensures.chain) (chain_nodes c.args.arena.now.vertex_count c.args.arena.now.blossoms c.args.edge.now.v h.v_is)
+pub overflow_add-result : goal.overflow_add-result
+overflow_add-result c =
+    let e : Edge = c.args.edge.now in
+    let bs : List Blossom = c.args.arena.now.blossoms in
+    let good = c.outermost.ensures.good in
+    let h = ends_of c.args.arena.now.vertex_count bs e good.nested good.few c.requires in
+    let one : to_z w64 (of_z w64 c.cover.result) ≡ c.cover.result = search rules in
+    let other : to_z w64 (of_z w64 c.cover-2.result) ≡ c.cover-2.result = search rules in
+    let ne : outermost bs e.u ≢ outermost bs e.v = λ p. c.if-number.false (c.number.ensures ∙ c.outermost.ensures.node ∙ p ∙ sym c.outermost-2.ensures.node ∙ sym c.number-2.ensures) in
+    let is = across_apart c.args.arena.now.vertex_count (dual_at c.args.arena.now.duals) bs e good.nested h.u_is h.v_is ne in
+    let parts = across_split (dual_at c.args.arena.now.duals) bs e in
+    let left = total_within c.args.arena.now.duals (holders bs e.u e.v) good.duals.in_range in
+    let right = total_within c.args.arena.now.duals (holders bs e.v e.u) good.duals.in_range in
+    omega (arith, ints, one, other, is, parts, c.cover.ensures.cover, c.cover-2.ensures.cover, left.0, left.1, right.0, right.1, holders_few c.args.arena.now.vertex_count bs e.u e.v h)
 
 pub returns-clause-duals_across : goal.returns-clause-duals_across
 returns-clause-duals_across c =
     let e : Edge = c.args.edge.now in
     let bs : List Blossom = c.args.arena.now.blossoms in
-    let y = dual_at c.args.arena.now.duals in
-    let h = ends_of c.args.arena.now.vertex_count bs e c.chain.ensures.good.nested c.chain.ensures.good.few c.requires in
-    let back : to_z w64 (of_z w64 (to_z w64 (of_z w64 c.total.result) +ℤ to_z w64 (of_z w64 c.total-2.result))) ≡ c.total.result +ℤ c.total-2.result = search rules in
-    let left = first_total _ bs e.u e.v _ y _ _ h c.total.ensures.total c.holder_counts-u.ensures.u c.chain.ensures.chain in
-    let right = first_total _ bs e.v e.u _ y _ _ (ends_turned _ bs e.u e.v h) c.total-2.ensures.total c.holder_counts-u.ensures.v c.chain-2.ensures.chain in
-    back ∙ ap₂ (λ (p q : ℤ). p +ℤ q) left right ∙ sym (across_split y bs e)
+    let good = c.outermost.ensures.good in
+    let h = ends_of c.args.arena.now.vertex_count bs e good.nested good.few c.requires in
+    let back : to_z w64 (of_z w64 (to_z w64 (of_z w64 c.cover.result) +ℤ to_z w64 (of_z w64 c.cover-2.result))) ≡ c.cover.result +ℤ c.cover-2.result = search rules in
+    let ne : outermost bs e.u ≢ outermost bs e.v = λ p. c.if-number.false (c.number.ensures ∙ c.outermost.ensures.node ∙ p ∙ sym c.outermost-2.ensures.node ∙ sym c.number-2.ensures) in
+    back ∙ ap₂ ◌+ℤ◌ c.cover.ensures.cover c.cover-2.ensures.cover
+    ∙ sym (across_apart c.args.arena.now.vertex_count (dual_at c.args.arena.now.duals) bs e good.nested h.u_is h.v_is ne)
+
+pub returns-clause-low : goal.returns-clause-low
+returns-clause-low c =
+    let e : Edge = c.args.edge.now in
+    let bs : List Blossom = c.args.arena.now.blossoms in
+    let good = c.outermost.ensures.good in
+    let h = ends_of c.args.arena.now.vertex_count bs e good.nested good.few c.requires in
+    let is = returns-clause-duals_across c in
+    let parts = across_split (dual_at c.args.arena.now.duals) bs e in
+    let left = total_within c.args.arena.now.duals (holders bs e.u e.v) good.duals.in_range in
+    let right = total_within c.args.arena.now.duals (holders bs e.v e.u) good.duals.in_range in
+    omega (arith, ints, is, parts, left.0, right.0, holders_few c.args.arena.now.vertex_count bs e.u e.v h)
+
+pub returns-clause-high : goal.returns-clause-high
+returns-clause-high c =
+    let e : Edge = c.args.edge.now in
+    let bs : List Blossom = c.args.arena.now.blossoms in
+    let good = c.outermost.ensures.good in
+    let h = ends_of c.args.arena.now.vertex_count bs e good.nested good.few c.requires in
+    let is = returns-clause-duals_across c in
+    let parts = across_split (dual_at c.args.arena.now.duals) bs e in
+    let left = total_within c.args.arena.now.duals (holders bs e.u e.v) good.duals.in_range in
+    let right = total_within c.args.arena.now.duals (holders bs e.v e.u) good.duals.in_range in
+    omega (arith, ints, is, parts, left.1, right.1, holders_few c.args.arena.now.vertex_count bs e.u e.v h)
