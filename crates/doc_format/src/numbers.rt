@@ -5,6 +5,9 @@ use graph_theory::NUMBER_LIMIT;
 use mb_base::{Fields, OutOfMemory, Sequence, number};
 use std::alloc::Global;
 
+/// So many numbers have their room before the first of them is read.
+const MOST_ROOM: i64 = 64;
+
 /// The number of a field, within the limit and one more.
 pub fn kept_number(field: &[u8]) -> Option<i64>
     ensures { result ≡ kept field.now }
@@ -27,11 +30,20 @@ pub fn pair(fields: Fields<'_>) -> Option<(i64, i64)>
     Some((first, second))
 }
 
+/// Room for so many numbers, but not for more than may well follow: a count may say anything.
+fn room_for(count: i64) -> usize {
+    count.clamp(0, MOST_ROOM) as usize
+}
+
 /// All fields as numbers, where they are that.
-fn all_numbers(alloc: Global, fields: Fields<'_>) -> Result<Option<Sequence<i64>>, OutOfMemory>
+fn all_numbers(
+    alloc: Global,
+    room: usize,
+    fields: Fields<'_>,
+) -> Result<Option<Sequence<i64>>, OutOfMemory>
     ensures { IfOk result (λ o. o ≡ numbers fields.entry) }
 {
-    let mut values = Sequence::new(alloc);
+    let mut values = Sequence::from_vec(Vec::with_capacity(alloc, room)?);
     for field in fields {
         let Some(value) = kept_number(field) else {
             return Ok(None);
@@ -55,7 +67,7 @@ pub fn counted_numbers(
     let Some(count) = kept_number(field) else {
         return Ok(None);
     };
-    let Some(values) = all_numbers(alloc, fields)? else {
+    let Some(values) = all_numbers(alloc, room_for(count), fields)? else {
         return Ok(None);
     };
     if count != values.len() as i64 {
