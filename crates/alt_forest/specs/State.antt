@@ -8,7 +8,6 @@ use Rattle.std.specs.List.{AllByRecursion}
 use Rattle.graph_theory.specs.declared.edge.Edge.{Edge}
 use Rattle.graph_theory.specs.Graph.{Multigraph, IsEdgeNumber, edge_of}
 use Rattle.blossom_arena.specs.declared.links.Link.{Link}
-use Rattle.graph_theory.specs.Parts.{holds}
 use Rattle.blossom_arena.specs.Family.{Blossom, outermost, is_outermost, is_vertex}
 use Rattle.blossom_arena.specs.Slack.{duals_across}
 pub use Rattle.blossom_arena.specs.Slack.{held_by}
