@@ -6,7 +6,7 @@ use Rattle.std.proofs.lemmas.Int.{ints}
 use Rattle.std.proofs.lemmas.List.{get_or-set_other, get_or-set_same, length-set}
 use Rattle.graph_theory.specs.Parts.{holds}
 use Rattle.blossom_arena.specs.Fields.{sum_at, IsSum, added, AreSums}
-use Rattle.blossom_arena.proofs.Lists.{by_test, AllNew, first_in, later_in}
+use Rattle.blossom_arena.proofs.Lists.{AllNew, first_in, later_in}
 
 pub length-added : (t : List ℤ) (f : ℕ → ℤ) (xs : List ℕ) → length (added t f xs) ≡ length t
 length-added t f [] = refl

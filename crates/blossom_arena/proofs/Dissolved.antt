@@ -11,7 +11,7 @@ use Rattle.graph_theory.specs.Parts.{holds}
 use Rattle.blossom_arena.specs.declared.runs.Kept.{Kept}
 use Rattle.blossom_arena.specs.declared.arena.Arena.TheInside.{Inside}
 use Rattle.blossom_arena.specs.Tables.{walk, links_of, filled}
-use Rattle.blossom_arena.specs.Family.{Blossom, nodes_of, in_ring, names_of, is_vertex, is_node, is_child, members_of, ring_of, without, dual_at, HasDuals, IsNested, outermost}
+use Rattle.blossom_arena.specs.Family.{Blossom, nodes_of, in_ring, is_vertex, is_node, is_child, members_of, ring_of, without, dual_at, HasDuals, IsNested, outermost}
 use Rattle.blossom_arena.specs.Fields.{IsSound, blossoms_of, order_of, key_of, kept_of, kept_or_none, run_of, vertices_of, IsRun, lowered, parent_of, build, IsOrder, sum_at, added, outer_dual, inner_of}
 use Rattle.blossom_arena.proofs.Lists.{by_test, each_from}
 use Rattle.blossom_arena.proofs.Nested.{vertex_range, range_vertex, child_is_node, name_is_node}

@@ -1,9 +1,9 @@
 -- The duals of the nodes that hold a vertex, where a dual changes and where a blossom comes or goes.
-use Rattle.std.proofs.Common.{◌≡◌, ℕ, suc, ◌+◌, ◌*◌, ◌≤◌, ◌<◌, Bool, true, false, ◌||◌, ◌&&◌, eqb, cond, List, [], ◌∷◌, length, refl, sym, ap, ap₂, ◌∙◌, subst, arith, ⊎_elim}
+use Rattle.std.proofs.Common.{◌≡◌, ℕ, suc, ◌*◌, ◌≤◌, ◌<◌, Bool, true, false, ◌||◌, ◌&&◌, eqb, cond, List, [], ◌∷◌, length, refl, sym, ap, ◌∙◌, subst, arith, ⊎_elim}
 use Rattle.std.specs.Prelude.{ℤ, pos, neg_ℤ, ◌+ℤ◌, ◌-ℤ◌, ◌*ℤ◌, ◌≤ℤ◌, slice_set, All}
 use Rattle.std.specs.List.{AllByRecursion}
 use Rattle.std.proofs.Math.IntN.{+ℤ_idl}
-use Rattle.std.proofs.lemmas.Bool.{eqb-true, eqb-false, ne_eqb, eq-eqb, or_parts, or_cases, or_left, or_from, both_ways, cases_lt}
+use Rattle.std.proofs.lemmas.Bool.{eqb-true, eqb-false, ne_eqb, or_parts, or_cases, both_ways, cases_lt}
 use Rattle.std.proofs.lemmas.Int.{ints}
 use Rattle.std.proofs.lemmas.List.{get_or-set_other, get_or-set_same, get_or_past}
 use Rattle.graph_theory.specs.declared.limits.TheConstants.{GRAPH_VERTEX_LIMIT, NUMBER_LIMIT}
@@ -14,8 +14,8 @@ use Rattle.blossom_arena.specs.Family.{Blossom, names_of, is_vertex, is_node, is
 use Rattle.blossom_arena.specs.Slack.{held_by}
 use Rattle.blossom_arena.specs.Fields.{IsSum, inner_of}
 use Rattle.blossom_arena.proofs.Lists.{by_test, AllNew}
-use Rattle.blossom_arena.proofs.Nested.{vertex_range, name_range, names_new, name_no_vertex, not_new, outermost_parts, blossoms_few, older_name}
-use Rattle.blossom_arena.proofs.Sets.{members_here, members_past, members_of_vertex, outermost_node, outermost_free, outer_member, outermost_by_member}
+use Rattle.blossom_arena.proofs.Nested.{vertex_range, name_range, names_new, not_new, outermost_parts, blossoms_few}
+use Rattle.blossom_arena.proofs.Sets.{members_of_vertex, outermost_node, outermost_free, outer_member, outermost_by_member}
 use Rattle.blossom_arena.proofs.Opened.{outermost_without}
 
 -- duals that agree at the blossoms

@@ -1,5 +1,5 @@
 -- What additions to the sums of an arena need.
-use Rattle.std.proofs.Common.{◌≡◌, ℕ, ◌+◌, ◌≤◌, ◌<◌, true, List, length, arith}
+use Rattle.std.proofs.Common.{◌≡◌, ℕ, ◌+◌, ◌<◌, true, List, length, arith}
 use Rattle.std.specs.Prelude.{ℤ, pos, neg_ℤ, ◌*ℤ◌, ◌≤ℤ◌, slice_index, All}
 use Rattle.std.specs.List.{AllByRecursion}
 use Rattle.std.proofs.lemmas.Int.{ints}
@@ -9,7 +9,7 @@ use Rattle.graph_theory.specs.Nested.{most_blossoms}
 use Rattle.graph_theory.specs.Parts.{holds}
 use Rattle.blossom_arena.specs.declared.links.Link.{Link}
 use Rattle.blossom_arena.specs.declared.arena.Arena.TheInside.{Inside}
-use Rattle.blossom_arena.specs.Family.{Blossom, is_vertex, is_node, outermost, members_of, union_of, dual_at, IsCircuit, IsNested}
+use Rattle.blossom_arena.specs.Family.{Blossom, is_vertex, is_node, outermost, members_of, union_of, IsCircuit, IsNested}
 use Rattle.blossom_arena.specs.Fields.{IsSound, blossoms_of, AreSums, sum_at, outer_dual}
 use Rattle.blossom_arena.proofs.Lists.{AllNew, each_from}
 use Rattle.blossom_arena.proofs.Nested.{vertex_range, node_range}

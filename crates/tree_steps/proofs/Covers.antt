@@ -1,9 +1,9 @@
 -- What exposed nodes have in common where a blossom of dual 0 comes or goes.
-use Rattle.std.proofs.Common.{◌≡◌, ℕ, ℤ, pos, ◌+ℤ◌, true, false, eqb, cond, List, [], ◌∷◌, None, refl, sym, ap, ◌∙◌, subst}
+use Rattle.std.proofs.Common.{◌≡◌, ℕ, true, List, [], ◌∷◌, None, sym, ap, ◌∙◌, subst}
 use Rattle.std.specs.List.{AllByRecursion}
 use Rattle.graph_theory.specs.Graph.{Multigraph, edge_of}
 use Rattle.blossom_arena.specs.declared.links.Link.{Link}
-use Rattle.blossom_arena.specs.Family.{Blossom, is_vertex, outermost, without}
+use Rattle.blossom_arena.specs.Family.{Blossom, is_vertex, outermost}
 use Rattle.alt_forest.specs.State.{State, IsTight, ExposedAgree, cover, SameParity}
 use Rattle.alt_forest.proofs.Parity.{parity_sym, parity_trans, tight_parity}
 

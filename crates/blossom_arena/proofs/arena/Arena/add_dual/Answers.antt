@@ -9,7 +9,7 @@ use Rattle.graph_theory.specs.Duals.{IsNumber}
 use Rattle.blossom_arena.specs.declared.runs.Run.{Run}
 use Rattle.blossom_arena.specs.declared.arena.Arena.TheInside.{Inside}
 use Rattle.blossom_arena.specs.Family.{Family, is_node, is_child, is_outermost, members_of, HasDuals, dual_at}
-use Rattle.blossom_arena.specs.Fields.{IsSound, blossoms_of, family_of, parent_of, vertices_of, run_of, added, AreSums}
+use Rattle.blossom_arena.specs.Fields.{IsSound, blossoms_of, family_of, parent_of, vertices_of, added, AreSums}
 use Rattle.blossom_arena.proofs.Nested.{node_range}
 use Rattle.blossom_arena.proofs.Parents.{parent_child}
 use Rattle.blossom_arena.proofs.Asked.{outer_test}
