@@ -33,6 +33,9 @@ Plan = collections.namedtuple("Plan", "below shared tower wanted middle late row
 LAST_LINES = 30
 # All wait for the tower and the middle, so what is proved beside them takes the processors' time that these leave.
 BEHIND = 10
+# How often a copy is tried where a library is just being written, and how many seconds pass between two looks for one.
+TRIES = 20
+WAIT = 0.3
 
 
 def crates_below(program):
@@ -240,58 +243,96 @@ def prove_tower(folder, crates, steps, jobs, log, progress):
 
 
 def copy_crates(names, source, target):
-    """Copies crates, with what is proved of them, from one folder to another, each at once: an interrupted copy leaves no half of one."""
+    """Copies crates, with what is proved of them, from one folder to another, each at once: an interrupted copy leaves no half of one.
+    A crate whose library is being written is tried again."""
     part = os.path.join(target, "copied")
     for name in names:
-        shutil.rmtree(part, ignore_errors=True)
-        shutil.copytree(os.path.join(source, "crates", name), part)
+        for left in reversed(range(TRIES)):
+            shutil.rmtree(part, ignore_errors=True)
+            try:
+                shutil.copytree(os.path.join(source, "crates", name), part)
+                break
+            except (OSError, shutil.Error):
+                if not left:
+                    raise
+                time.sleep(1)
         move_one(part, os.path.join(target, "crates", name))
 
 
-def lane_beside(folder, crates, steps, jobs, log, progress):
-    """Proves what is wanted soon in the folder beside the tower's, then what is wanted late. Answers a thread, an event that is set
-    after the first, and the statuses."""
-    other, first, statuses, level = beside(folder), threading.Event(), [], levels(steps.below)
-    lowest = [name for name in steps.wanted if level[name] == min(level[it] for it in steps.wanted)]
-    move(steps.wanted, waiting(folder), other)
-    copy_crates(steps.shared, folder, other)
-    shutil.copyfile(os.path.join(folder, "HANDLES"), os.path.join(other, "HANDLES"))
+def has_library(folder, name):
+    return os.path.isfile(os.path.join(folder, "crates", name, "out", "rlib", "stamp"))
 
-    def work():
-        try:
-            list_crates(other, {name: crates[name] for name in steps.shared + steps.wanted})
-            if len(lowest) == 1:
-                statuses.append(prove_row(other, lowest, None, jobs, log, progress, BEHIND))
-            if steps.wanted and not any(statuses):
-                statuses.append(prove(other, steps.wanted, jobs, log, progress, BEHIND))
-            first.set()
-            if steps.late and not any(statuses):
-                move(steps.late, waiting(folder), other)
-                list_crates(other, {name: crates[name] for name in steps.shared + steps.wanted + steps.late})
-                statuses.append(prove(other, steps.late, jobs, log, progress, BEHIND))
-        finally:
-            first.set()
 
-    return threading.Thread(target=work), first, statuses
+def top_of(below, names):
+    """Those of the crates that no other of them stands on."""
+    return [name for name in names if not any(name in below[it] for it in names)]
+
+
+class Lane(threading.Thread):
+    """Proves, in the folder beside the tower's, what is wanted soon, then what is wanted late, and makes their libraries."""
+
+    def __init__(self, folder, crates, steps, jobs, log, progress):
+        super().__init__()
+        self.main, self.folder, self.crates, self.steps, self.statuses = folder, beside(folder), crates, steps, []
+        self.how = jobs, log, progress, BEHIND
+        copy_crates(steps.shared, folder, self.folder)
+        shutil.copyfile(os.path.join(folder, "HANDLES"), os.path.join(self.folder, "HANDLES"))
+
+    def take(self, names, listed):
+        """Proves these crates: first the lowest, if it is one, since it has all jobs then."""
+        level = levels(self.steps.below)
+        lowest = [name for name in names if level[name] == min(level[it] for it in names)]
+        move(names, waiting(self.main), self.folder)
+        list_crates(self.folder, {name: self.crates[name] for name in listed + names})
+        return ((len(lowest) == 1 and prove_row(self.folder, lowest, None, *self.how))
+                or prove(self.folder, names, *self.how)
+                or prove_row(self.folder, top_of(self.steps.below, names), None, *self.how))
+
+    def run(self):
+        shared, wanted, late = self.steps.shared, self.steps.wanted, self.steps.late
+        for names, listed in ((wanted, shared), (late, shared + wanted)):
+            if names and not any(self.statuses):
+                self.statuses.append(self.take(names, listed))
+
+    def wait_for(self, names):
+        """Waits until these crates are proved and have their libraries. Answers whether they have."""
+        progress = self.how[2]
+        while True:
+            ended = not self.is_alive()
+            if all(name in progress.done and has_library(self.folder, name) for name in names):
+                return True
+            if ended:
+                return False
+            time.sleep(WAIT)
+
+
+def prove_middle(folder, crates, steps, lane, jobs, log, progress):
+    """Proves the middle, each of its crates once all that it stands on is there. Answers the status."""
+    there = steps.shared + steps.tower
+    for name in steps.middle:
+        needed = [it for it in steps.wanted if it in stood_on(steps.below, name) and it not in there]
+        if not lane.wait_for(needed):
+            return 0
+        copy_crates(needed, lane.folder, folder)
+        move([name], waiting(folder), folder)
+        there = there + needed + [name]
+        list_crates(folder, {it: crates[it] for it in there})
+        status = prove_row(folder, [name], None, jobs, log, progress)
+        if status:
+            return status
+    return 0
 
 
 def prove_beside(folder, crates, steps, jobs, log, progress):
     """Proves the tower and the middle in the folder, and the others beside them in another one. Answers the status."""
-    other, listed = beside(folder), steps.shared + steps.tower
     with open(log.name + "-beside", "w", encoding="utf-8") as other_log:
-        thread, first, statuses = lane_beside(folder, crates, steps, jobs, other_log, progress)
-        thread.start()
-        status = prove_tower(folder, crates, steps, jobs, log, progress)
-        first.wait()
-        if not status and not any(statuses):
-            copy_crates(steps.wanted, other, folder)
-            move(steps.middle, waiting(folder), folder)
-            list_crates(folder, {name: crates[name] for name in listed + steps.wanted + steps.middle})
-            status = prove_row(folder, steps.middle, None, jobs, log, progress)
-        thread.join()
+        lane = Lane(folder, crates, steps, jobs, other_log, progress)
+        lane.start()
+        status = prove_tower(folder, crates, steps, jobs, log, progress) or prove_middle(folder, crates, steps, lane, jobs, log, progress)
+        lane.join()
     with open(other_log.name, encoding="utf-8") as text:
         log.write(text.read())
-    return status or next((it for it in statuses if it), 0)
+    return status or next((it for it in lane.statuses if it), 0)
 
 
 def build(program, folder, jobs, log):
