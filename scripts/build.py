@@ -192,15 +192,16 @@ def minutes(seconds):
 
 
 class Progress:
-    """Says each crate that is done, with its number and the time so far."""
+    """Says each crate that is done, with its number and the time so far. Two ways may say one at once."""
 
     def __init__(self, program, count):
-        self.program, self.count, self.done, self.start = program, count, set(), time.monotonic()
+        self.program, self.count, self.done, self.start, self.turn = program, count, set(), time.monotonic(), threading.Lock()
 
     def say(self, name):
-        if name not in self.done:
-            self.done.add(name)
-            print("%s: %d of %d: %s, %s" % (self.program, len(self.done), self.count, name, minutes(time.monotonic() - self.start)), file=sys.stderr)
+        with self.turn:
+            if name not in self.done:
+                self.done.add(name)
+                print("%s: %d of %d: %s, %s" % (self.program, len(self.done), self.count, name, minutes(time.monotonic() - self.start)), file=sys.stderr)
 
 
 def prove(folder, names, jobs, log, progress, behind=0):
