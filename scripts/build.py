@@ -214,7 +214,11 @@ def prove(folder, names, jobs, log, progress, behind=0):
         now = line.split()[1] if line.startswith("== ") else now
         if line.startswith("logic=proved") and now in names:
             progress.say(now)
-    return process.wait()
+    status = process.wait()
+    for name in names if not status else []:
+        # What was proved before isn't told of again.
+        progress.say(name)
+    return status
 
 
 def prove_row(folder, row, program, jobs, log, progress, behind=0):
@@ -303,7 +307,7 @@ class Lane(threading.Thread):
             if all(name in progress.done and has_library(self.folder, name) for name in names):
                 return True
             if ended:
-                return False
+                return not any(self.statuses)
             time.sleep(WAIT)
 
 
