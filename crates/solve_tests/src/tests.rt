@@ -2,15 +2,16 @@ mod agreement;
 mod rows;
 mod solvers;
 
-ghost use Rattle.std.specs.Prelude.{◌≡◌, ◌≢◌, true};
+ghost use Rattle.std.specs.Prelude.{◌≡◌, ◌≢◌, true, IfSome};
 ghost use Rattle.brute_force.specs.Best.{is_counted};
+ghost use Rattle.dimacs_read.specs.Ready.{IsReady};
 ghost use Rattle.mb_problem.specs.declared.kind.Kind.TheVariants.{Postman, Path};
 
-use agreement::agrees;
+use agreement::{agrees, states_tour};
 use dimacs_read::read;
 use mb_problem::{Instance, Kind};
-use rows::{BMATCH, CAPMATCH, FFACTOR, MATCH, PERFECT, TJOIN};
-use solvers::{best_weight, document_of};
+use rows::{BMATCH, CAPMATCH, FFACTOR, MATCH, PERFECT, TJOIN, TOURS};
+use solvers::{best_weight, document_of, least_tour};
 use std::alloc::Global;
 use std::marker::Brand;
 use std::process::Abort;
@@ -35,8 +36,20 @@ fn expect_agreement(
     Ok(())
 }
 
+/// Asserts that the solver's document for an instance states the weight of a least tour that was found by trying all.
+fn expect_tour(rt: &impl Abort, alloc: Global, name: &str, instance: &Instance) -> Result<(), Fail>
+    requires { IsReady Postman instance.now }
+{
+    let least = least_tour(rt, alloc, instance)?;
+    let document = document_of::<Brand>(rt, alloc, instance, Kind::Postman, Blank::new(1))?;
+    assert!(rt; states_tour(&document, least), "{name}");
+    Ok(())
+}
+
 /// The instance of a text, where it is one.
-fn read_instance(alloc: Global, kind: Kind, text: &str) -> Option<Instance> {
+fn read_instance(alloc: Global, kind: Kind, text: &str) -> Option<Instance>
+    ensures { IfSome result (IsReady kind) }
+{
     match read(alloc, text.as_bytes(), kind) {
         Ok((instance, _rest)) => Some(instance),
         Err(_) => None,
@@ -57,6 +70,14 @@ fn expect_row(
 {
     match read_instance(alloc, kind, text) {
         Some(instance) => expect_agreement(rt, alloc, kind, name, &instance),
+        None => panic!(rt; "{name}"),
+    }
+}
+
+/// The same for the text of a row.
+fn expect_tour_row(rt: &impl Abort, alloc: Global, name: &str, text: &str) -> Result<(), Fail> {
+    match read_instance(alloc, Kind::Postman, text) {
+        Some(instance) => expect_tour(rt, alloc, name, &instance),
         None => panic!(rt; "{name}"),
     }
 }
@@ -105,6 +126,14 @@ fn factors(rt: HostRuntime) -> Result<(), Fail> {
 fn joins(rt: HostRuntime) -> Result<(), Fail> {
     for (name, text) in &TJOIN {
         expect_row(&rt, rt.alloc(), Kind::TJoin, name, text)?;
+    }
+    Ok(())
+}
+
+#[test]
+fn tours(rt: HostRuntime) -> Result<(), Fail> {
+    for (name, text) in &TOURS {
+        expect_tour_row(&rt, rt.alloc(), name, text)?;
     }
     Ok(())
 }

@@ -89,3 +89,8 @@ pub fn agrees(
         None => Ok(document.status == DocStatus::Infeasible && excludes(kind, document)),
     }
 }
+
+/// Whether a document states that a tour of this weight is best.
+pub fn states_tour(document: &Document, least: i128) -> bool {
+    document.status == DocStatus::Optimal && i128::from(document.weight) == least
+}

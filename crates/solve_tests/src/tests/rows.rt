@@ -233,3 +233,37 @@ pub const TJOIN: [Row; 12] = [
         "p edge 4 5\ne 1 2 1000000000\ne 2 3 -1000000000\ne 3 4 1000000000\ne 4 1 -1000000000\ne 1 3 0\nn 1 1\nn 3 1",
     ),
 ];
+
+/// Tours of least weight through edges that are connected. No weight is below 0.
+pub const TOURS: [Row; 12] = [
+    ("no edge", "p edge 3 0"),
+    ("an edge", "p edge 2 1\ne 1 2 7"),
+    ("a path of four", "p edge 4 3\ne 1 2 3\ne 2 3 7\ne 3 4 3"),
+    ("a triangle", "p edge 3 3\ne 1 2 1\ne 2 3 2\ne 1 3 3"),
+    (
+        "two triangles at a vertex",
+        "p edge 5 6\ne 1 2 1\ne 2 3 2\ne 1 3 3\ne 3 4 4\ne 4 5 5\ne 3 5 6",
+    ),
+    (
+        "two triangles and a heavy edge",
+        "p edge 6 7\ne 1 2 1\ne 2 3 1\ne 1 3 1\ne 4 5 1\ne 5 6 1\ne 4 6 1\ne 3 4 10",
+    ),
+    ("parallel edges", "p edge 2 3\ne 1 2 5\ne 2 1 3\ne 1 2 4"),
+    ("a star", "p edge 4 3\ne 1 2 3\ne 1 3 2\ne 1 4 1"),
+    (
+        "a square with a heavy diagonal",
+        "p edge 4 5\ne 1 2 1\ne 2 3 2\ne 3 4 4\ne 4 1 1\ne 1 3 9",
+    ),
+    (
+        "four vertices, each two joined",
+        "p edge 4 6\ne 1 2 1\ne 1 3 2\ne 1 4 3\ne 2 3 4\ne 2 4 5\ne 3 4 6",
+    ),
+    (
+        "weights of 0",
+        "p edge 4 4\ne 1 2 0\ne 2 3 0\ne 3 1 0\ne 3 4 0",
+    ),
+    (
+        "the greatest weight and 0",
+        "p edge 4 5\ne 1 2 1000000000\ne 2 3 0\ne 3 4 1000000000\ne 4 1 1000000000\ne 1 3 1000000000",
+    ),
+];

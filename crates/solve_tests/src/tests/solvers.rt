@@ -1,8 +1,8 @@
-ghost use Rattle.std.specs.Prelude.{◌≡◌, ◌≢◌, ◌<◌, true};
+ghost use Rattle.std.specs.Prelude.{◌≡◌, ◌≢◌, ◌<◌, pos, ◌≤ℤ◌, All, true};
 ghost use Rattle.brute_force.specs.Best.{is_counted};
 ghost use Rattle.mb_problem.specs.declared.kind.Kind.TheVariants.{Postman, Path};
 
-use brute_force::{best, is_small};
+use brute_force::{best, is_small, least_tour_weight};
 use doc_format::Document;
 use mb_base::{OutOfMemory, Steps};
 use mb_problem::{Instance, Kind, gadget_size, weight};
@@ -27,6 +27,16 @@ pub fn best_weight(
     }
 }
 
+/// The weight of a least tour, found by trying all sets of edges that it may use twice.
+pub fn least_tour(
+    rt: &impl Abort,
+    alloc: Global,
+    instance: &Instance,
+) -> Result<i128, OutOfMemory> {
+    assert!(rt; is_small(alloc, instance, Kind::Postman)?);
+    least_tour_weight(alloc, instance)
+}
+
 /// The solver's document for an instance.
 pub fn document_of<L: Ledger>(
     rt: &impl Abort,
@@ -35,7 +45,7 @@ pub fn document_of<L: Ledger>(
     kind: Kind,
     blank: Blank,
 ) -> Result<Document, OutOfMemory>
-    requires no_tour { kind ≢ Postman }
+    requires weights { kind ≡ Postman → All (λ e. pos 0 ≤ℤ e.w) instance.now.edges }
     requires no_path { kind ≢ Path }
     requires name { blank.name ≡ L.name }
     requires parts { blank.parts ≡ L.parts }
