@@ -8,6 +8,7 @@ use std::marker::Model;
 fn is_space(b: u8) -> bool
     ensures { result ≡ is_blank b }
 {
+    // Most bytes of a line stand above both, and are told by the first comparison.
     b <= b' ' && (b == b' ' || b == b'\t')
 }
 

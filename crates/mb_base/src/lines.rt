@@ -8,7 +8,11 @@ use memchr::memchr;
 fn first_line_feed(bytes: &[u8]) -> Option<usize>
     ensures { result ≡ position is_line_feed bytes.now }
 {
-    memchr(b'\n', bytes)
+    // A call of memchr costs more than an empty line has to be read.
+    match bytes {
+        [b'\n', ..] => Some(0),
+        _ => memchr(b'\n', bytes),
+    }
 }
 
 fn cut_line(bytes: &[u8]) -> (&[u8], &[u8])
