@@ -1,8 +1,8 @@
 -- What is at hand of a vertex while the edges at it are looked at. Only clauses of private calls cite what stands here.
-use Rattle.std.specs.Prelude.{◌≡◌, ◌⊎◌, ℕ, ℤ, pos, neg_ℤ, ◌*ℤ◌, ◌≤ℤ◌, true}
-use Rattle.graph_theory.specs.declared.limits.TheConstants.{GRAPH_VERTEX_LIMIT, NUMBER_LIMIT}
+use Rattle.std.specs.Prelude.{◌≡◌, ◌⊎◌, ℕ, ℤ, true}
 use Rattle.graph_theory.specs.Graph.{Multigraph, IsEdgeNumber, edge_of}
 use Rattle.blossom_arena.specs.Family.{is_vertex, outermost}
+use Rattle.blossom_arena.specs.Slack.{IsCover}
 use Rattle.alt_forest.specs.declared.entries.Near.{Near}
 use Rattle.alt_forest.specs.State.{State, cover}
 
@@ -11,10 +11,6 @@ pub record LeadsTo (g : Multigraph) (e v x : ℕ) (w : ℤ) : Type 0 where
   pub number : IsEdgeNumber g e
   pub ends : (((edge_of g e).u ≡ v) × ((edge_of g e).v ≡ x)) ⊎ (((edge_of g e).u ≡ x) × ((edge_of g e).v ≡ v))
   pub weight : (edge_of g e).w ≡ w
-
--- a number that the duals of all nodes that hold a vertex can add up to
-abbrev pub IsCover : ℤ → Type 0
-IsCover x = (neg_ℤ (NUMBER_LIMIT *ℤ pos GRAPH_VERTEX_LIMIT) ≤ℤ x) × (x ≤ℤ (NUMBER_LIMIT *ℤ pos GRAPH_VERTEX_LIMIT))
 
 -- what is at hand of a vertex is what holds in the state
 pub record IsNear (s : State) (near : Near) : Type 0 where

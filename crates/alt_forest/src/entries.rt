@@ -1,4 +1,4 @@
-ghost use Rattle.std.specs.Prelude.{◌≡◌, ◌≢◌, ◌+◌, ◌*◌, ◌≤◌, ◌++◌, ℕ, ℤ, pos, ◌+ℤ◌, ◌*ℤ◌, ◌≤ℤ◌, true, false, ◌==◌, if◌then◌else◌, All, Option, length, vec_len};
+ghost use Rattle.std.specs.Prelude.{◌≡◌, ◌≢◌, ◌⊎◌, ◌+◌, ◌*◌, ◌≤◌, ◌++◌, ℕ, ℤ, pos, ◌+ℤ◌, ◌*ℤ◌, ◌≤ℤ◌, true, false, ◌==◌, if◌then◌else◌, All, Option, length, vec_len};
 ghost use Rattle.std.specs.Vec.{vec_capacity};
 ghost use Rattle.graph_theory.specs.Graph.{IsEdgeNumber, edge_of, edges_around, touches};
 ghost use Rattle.graph_theory.specs.Parts.{holds};
@@ -6,6 +6,7 @@ ghost use Rattle.graph_theory.specs.declared.limits.TheConstants.{NUMBER_LIMIT, 
 ghost use Rattle.blossom_arena.specs.Family.{is_node, is_vertex, members_of, names_of, outermost};
 ghost use Rattle.edge_queue.specs.declared.item.Item.TheVariants.{Edge as OfEdge, Blossom as OfBlossom};
 ghost use Rattle.edge_queue.specs.Moments.{moment_of};
+ghost use Rattle.alt_forest.specs.declared.label.Label.TheVariants.{Inner};
 ghost use Rattle.alt_forest.specs.State.{IsOutermost, slack_of};
 ghost use Rattle.alt_forest.specs.Ends.{IsNear, LeadsTo};
 ghost use Rattle.alt_forest.specs.Searches.{HasShape, IsSound, state_of, label_at};
@@ -13,9 +14,9 @@ ghost use Rattle.alt_forest.specs.Entries.{NeedsMoment, IsEntered, IsBlossomEnte
 
 use crate::label::Label;
 use crate::search::Search;
-use crate::slack::{cover, doubled};
+use crate::slack::doubled;
 use blossom_arena::{Members, NodeId};
-use edge_queue::Item;
+use edge_queue::{Item, Turn};
 use graph_theory::{GRAPH_VERTEX_LIMIT, NUMBER_LIMIT};
 use mb_base::{EdgeId, Steps, VertexId};
 use std::sync::ledger::Ledger;
@@ -70,7 +71,7 @@ fn slack_to(search: &Search, near: &Near, far: VertexId, w: i64) -> i64
     ensures low { pos 0 ≤ℤ result }
     ensures high { result ≤ℤ (NUMBER_LIMIT *ℤ pos (2 * GRAPH_VERTEX_LIMIT + 1)) }
 {
-    doubled(search.weights, w) - (near.cover + cover(&search.arena, far))
+    doubled(search.weights, w) - (near.cover + search.arena.cover(far))
 }
 
 /// The moment that an edge needs in the queue, if it needs one. Where it needs none its slack isn't taken.
@@ -96,6 +97,26 @@ fn moment_for(search: &Search, near: &Near, far: VertexId, w: i64) -> Option<i64
         (Label::Out, Label::Outer) => Some(moment_after(clock, slack_to(search, near, far, w))),
         _ => None,
     }
+}
+
+/// The vertex that is kept for a node, or 0.
+fn seed_number(search: &Search, node: NodeId) -> u32 {
+    match search.seeds.get(node.number() as usize) {
+        Some(Some(v)) => v.number(),
+        _ => 0,
+    }
+}
+
+/// When an edge comes up among those of the same moment: one that joins two trees early, since it ends both.
+fn turn_to(search: &Search, near: &Near, far: VertexId) -> Turn
+    requires { is_vertex search.now.arena.vertex_count far ≡ true }
+{
+    let one = seed_number(search, near.node);
+    let other = seed_number(search, search.arena.outermost(far));
+    if one != 0 && other != 0 && one != other {
+        return Turn::Early;
+    }
+    Turn::Late
 }
 
 /// Gives an edge at a vertex the moment that it needs, by one look at it.
@@ -124,7 +145,8 @@ fn enter_edge<L: Ledger>(
     let (u, v, w) = graph.look(e, steps);
     let far = other_end(u, v, near.vertex);
     if let Some(moment) = moment_for(search, near, far, w) {
-        search.queue.set(Item::Edge(e), moment);
+        let turn = turn_to(search, near, far);
+        search.queue.set(Item::Edge(e), moment, turn);
     }
 }
 
@@ -142,7 +164,7 @@ fn near_of(search: &Search, vertex: VertexId, node: NodeId, label: Label) -> Nea
         vertex,
         node,
         label,
-        cover: cover(&search.arena, vertex),
+        cover: search.arena.cover(vertex),
     }
 }
 
@@ -230,6 +252,7 @@ impl Search {
         ensures rest { self.new ≡ record self.old { queue = self.new.queue } }
         ensures sound { IsSound self.new }
         ensures entered { holds (names_of self.old.arena.blossoms) node ≡ true → IsBlossomEntered (state_of self.old) self.old.clock self.new.queue node }
+        ensures none { (holds (names_of self.old.arena.blossoms) node ≡ false) ⊎ (label_at self.old.labels.items node ≢ Inner) → self.new.queue ≡ self.old.queue }
         ensures others { (b : ℕ) → b ≢ node → moment_of self.new.queue (OfBlossom b) ≡ moment_of self.old.queue (OfBlossom b) }
         ensures edges { self.new.queue.edges ≡ self.old.queue.edges }
     {
@@ -238,7 +261,7 @@ impl Search {
         }
         if self.label(node) == Label::Inner {
             let moment = moment_after(self.clock, self.arena.dual(node));
-            self.queue.set(Item::Blossom(node), moment);
+            self.queue.set(Item::Blossom(node), moment, Turn::Late);
         }
     }
 }

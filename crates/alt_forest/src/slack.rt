@@ -7,10 +7,9 @@ ghost use Rattle.graph_theory.specs.Duals.{slack};
 ghost use Rattle.graph_theory.specs.Duals.{IsNumber};
 ghost use Rattle.blossom_arena.specs.Family.{is_node, is_vertex, dual_at};
 ghost use Rattle.blossom_arena.specs.Slack.{duals_across, vertex_duals, sets_of};
-ghost use Rattle.alt_forest.specs.State.{held_by, slack_by, slack_of};
+ghost use Rattle.alt_forest.specs.State.{slack_by, slack_of};
 ghost use Rattle.alt_forest.specs.Searches.{HasShape, IsSound, state_of, is_given};
 ghost use Rattle.alt_forest.specs.Chains.{apart, dual_of, holders, total_of, weighed};
-ghost use Rattle.alt_forest.specs.Ends.{IsCover};
 
 use crate::label::Weights;
 use crate::meet::is_found;
@@ -108,7 +107,7 @@ fn holder_counts(arena: &Arena, edge: &Edge) -> (u32, u32)
     (more + both, less + both)
 }
 
-/// The same along the two chains, whichever nodes hold the ends.
+/// The duals of the nodes that hold exactly one end of an edge, added up along the chains of its two ends.
 fn duals_along(arena: &Arena, edge: &Edge) -> i64
     requires { IsEdgeWithin arena.now.vertex_count edge.now }
     ensures duals_across { result ≡ duals_across (dual_at arena.now.duals) arena.now.blossoms edge.now }
@@ -130,16 +129,7 @@ fn duals_across(arena: &Arena, edge: &Edge) -> i64
     if arena.outermost(edge.u).number() == arena.outermost(edge.v).number() {
         return duals_along(arena, edge);
     }
-    cover(arena, edge.u) + cover(arena, edge.v)
-}
-
-/// The duals of all nodes that hold a vertex, added up, in constant time.
-pub(crate) fn cover(arena: &Arena, v: VertexId) -> i64
-    requires { is_vertex arena.now.vertex_count v ≡ true }
-    ensures cover { result ≡ dual_at arena.now.duals v +ℤ held_by (dual_at arena.now.duals) arena.now.blossoms v }
-    ensures in_range { IsCover result }
-{
-    arena.cover(v)
+    arena.cover(edge.u) + arena.cover(edge.v)
 }
 
 /// Twice a weight, or 0 in the pass without weights.

@@ -5,7 +5,8 @@ use Rattle.std.proofs.lemmas.Bool.{eqb-true, eqb-false, both_ways}
 use Rattle.std.proofs.lemmas.Int.{ints}
 use Rattle.std.proofs.lemmas.List.{get_or-set_other, get_or-set_same, length-set}
 use Rattle.graph_theory.specs.Parts.{holds}
-use Rattle.blossom_arena.specs.Fields.{sum_at, IsSum, added, AreSums}
+use Rattle.blossom_arena.specs.Fields.{sum_at, added, AreSums}
+use Rattle.blossom_arena.specs.Slack.{IsCover}
 use Rattle.blossom_arena.proofs.Lists.{AllNew, first_in, later_in}
 
 pub length-added : (t : List ℤ) (f : ℕ → ℤ) (xs : List ℕ) → length (added t f xs) ≡ length t
@@ -32,11 +33,11 @@ added_at t f (x ∷ xs) v new h =
     (λ s. get_or-set_other t x v z (pos 0) (λ y. eqb-false x v s (sym y)))
 
 -- they stay in range where each of them does
-pub sums_each : (t : List ℤ) (f : ℕ → ℤ) (xs : List ℕ) → AllNew xs → ((v : ℕ) → holds xs v ≡ true → IsSum (sum_at t v +ℤ f v)) → AreSums t f xs
+pub sums_each : (t : List ℤ) (f : ℕ → ℤ) (xs : List ℕ) → AllNew xs → ((v : ℕ) → holds xs v ≡ true → IsCover (sum_at t v +ℤ f v)) → AreSums t f xs
 sums_each t f [] new each = tt
 sums_each t f (x ∷ xs) new each = (
   each x (first_in x xs),
   sums_each (set t x (sum_at t x +ℤ f x)) f xs new.1
-      (λ v m. subst (λ z. IsSum (z +ℤ f v)) (sym (get_or-set_other t x v (sum_at t x +ℤ f x) (pos 0) (λ s. both_ways (holds xs x) new.0 (subst (λ y. holds xs y ≡ true) s m))))
+      (λ v m. subst (λ z. IsCover (z +ℤ f v)) (sym (get_or-set_other t x v (sum_at t x +ℤ f x) (pos 0) (λ s. both_ways (holds xs x) new.0 (subst (λ y. holds xs y ≡ true) s m))))
       (each v (later_in x xs v m))),
 )

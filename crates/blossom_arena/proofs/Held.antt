@@ -11,8 +11,8 @@ use Rattle.graph_theory.specs.Duals.{IsNumber}
 use Rattle.graph_theory.specs.Parts.{holds}
 use Rattle.blossom_arena.specs.declared.links.Link.{Link}
 use Rattle.blossom_arena.specs.Family.{Blossom, names_of, is_vertex, is_node, is_child, is_outermost, outermost, members_of, union_of, made_of, without, dual_at, IsNested}
-use Rattle.blossom_arena.specs.Slack.{held_by}
-use Rattle.blossom_arena.specs.Fields.{IsSum, inner_of}
+use Rattle.blossom_arena.specs.Slack.{IsCover, held_by}
+use Rattle.blossom_arena.specs.Fields.{inner_of}
 use Rattle.blossom_arena.proofs.Lists.{by_test, AllNew}
 use Rattle.blossom_arena.proofs.Nested.{vertex_range, name_range, names_new, not_new, outermost_parts, blossoms_few}
 use Rattle.blossom_arena.proofs.Sets.{members_of_vertex, outermost_node, outermost_free, outer_member, outermost_by_member}
@@ -59,7 +59,7 @@ held_within : (ys : List ℤ) (bs : List Blossom) (v : ℕ) → All IsNumber ys 
 held_within ys [] v all = record { low = omega (arith, ints); high = omega (arith, ints) }
 held_within ys (b ∷ older) v all = one_more (holds b.members v) (dual_at ys b.node) (held_by (dual_at ys) older v) (length older) (dual_number ys b.node all) (held_within ys older v all)
 
-pub cover_range : (n : ℕ) (ys : List ℤ) (bs : List Blossom) (v : ℕ) → n ≤ GRAPH_VERTEX_LIMIT → IsNested n bs → All IsNumber ys → IsSum (dual_at ys v +ℤ held_by (dual_at ys) bs v)
+pub cover_range : (n : ℕ) (ys : List ℤ) (bs : List Blossom) (v : ℕ) → n ≤ GRAPH_VERTEX_LIMIT → IsNested n bs → All IsNumber ys → IsCover (dual_at ys v +ℤ held_by (dual_at ys) bs v)
 cover_range n ys bs v few nested all =
     let most : 2 * length bs ≤ n = blossoms_few n bs nested in
     let held = held_within ys bs v all in
@@ -68,7 +68,7 @@ cover_range n ys bs v few nested all =
 
 -- and with a number added that is no farther from 0 than two duals
 pub inner_range : (n : ℕ) (ys : List ℤ) (bs : List Blossom) (v : ℕ) (x z : ℤ) → n ≤ GRAPH_VERTEX_LIMIT → IsNested n bs → All IsNumber ys → x ≡ inner_of (dual_at ys) bs v
-    → neg_ℤ (pos 2 *ℤ NUMBER_LIMIT) ≤ℤ z → z ≤ℤ (pos 2 *ℤ NUMBER_LIMIT) → IsSum (x +ℤ z)
+    → neg_ℤ (pos 2 *ℤ NUMBER_LIMIT) ≤ℤ z → z ≤ℤ (pos 2 *ℤ NUMBER_LIMIT) → IsCover (x +ℤ z)
 inner_range n ys bs v x z few nested all is low high =
     let most : 2 * length bs ≤ n = blossoms_few n bs nested in
     let held = held_within ys bs v all in

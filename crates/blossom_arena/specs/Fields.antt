@@ -1,8 +1,7 @@
 -- How an arena keeps its family. No public clause cites this module.
-use Rattle.std.specs.Prelude.{◌≡◌, ℕ, zero, suc, ◌+◌, ◌-◌, ◌<◌, ◌≤◌, ℤ, pos, neg_ℤ, ◌+ℤ◌, ◌-ℤ◌, ◌*ℤ◌, ◌≤ℤ◌, true, ◌==◌, nat_le, if◌then◌else◌, List, [], ◌∷◌, length, map, Option, Some, None, IsSome, slice_index, slice_index_or, slice_set}
+use Rattle.std.specs.Prelude.{◌≡◌, ℕ, zero, suc, ◌+◌, ◌-◌, ◌<◌, ◌≤◌, ℤ, pos, ◌+ℤ◌, ◌-ℤ◌, true, ◌==◌, nat_le, if◌then◌else◌, List, [], ◌∷◌, length, map, Option, Some, None, IsSome, slice_index, slice_index_or, slice_set}
 use Rattle.std.specs.List.{AllByRecursion}
 use Rattle.slab.specs.Slab.{Slab, get, slab_len}
-use Rattle.graph_theory.specs.declared.limits.TheConstants.{GRAPH_VERTEX_LIMIT, NUMBER_LIMIT}
 use Rattle.graph_theory.specs.Parts.{holds}
 use Rattle.blossom_arena.specs.declared.links.Link.{Link}
 use Rattle.blossom_arena.specs.declared.runs.Run.{Run}
@@ -11,7 +10,7 @@ use Rattle.blossom_arena.specs.declared.arena.Arena.TheInside.{Inside}
 use Rattle.blossom_arena.specs.Tables.{last_of, walk, links_of, filled}
 use Rattle.graph_theory.specs.Nested.{most_blossoms}
 use Rattle.blossom_arena.specs.Family.{Blossom, Family, IsFamily, outermost, made_of, in_ring, members_of, dual_at}
-use Rattle.blossom_arena.specs.Slack.{held_by}
+use Rattle.blossom_arena.specs.Slack.{IsCover, held_by}
 
 -- the key of a blossom's node
 abbrev pub key_of : ℕ → ℕ → ℕ
@@ -63,10 +62,6 @@ lowered outer run (c ∷ cs) = lowered (filled outer (run c) c) run cs
 abbrev pub sum_at : List ℤ → ℕ → ℤ
 sum_at sums v = slice_index_or sums v (pos 0)
 
--- a number that the duals of all nodes that hold a vertex can add up to
-abbrev pub IsSum : ℤ → Type 0
-IsSum x = (neg_ℤ (NUMBER_LIMIT *ℤ pos GRAPH_VERTEX_LIMIT) ≤ℤ x) × (x ≤ℤ (NUMBER_LIMIT *ℤ pos GRAPH_VERTEX_LIMIT))
-
 -- the sums with these numbers added at these vertices, one after the other
 abbrev pub added : List ℤ → (ℕ → ℤ) → List ℕ → List ℤ
 added sums f [] = sums
@@ -75,7 +70,7 @@ added sums f (v ∷ vs) = added (slice_set sums v (sum_at sums v +ℤ f v)) f vs
 -- each of these additions stays in range
 abbrev pub AreSums : List ℤ → (ℕ → ℤ) → List ℕ → Type 0
 AreSums sums f [] = Unit {0}
-AreSums sums f (v ∷ vs) = IsSum (sum_at sums v +ℤ f v) × AreSums (slice_set sums v (sum_at sums v +ℤ f v)) f vs
+AreSums sums f (v ∷ vs) = IsCover (sum_at sums v +ℤ f v) × AreSums (slice_set sums v (sum_at sums v +ℤ f v)) f vs
 
 -- the dual of the outermost node of a vertex, by the tables
 abbrev pub outer_dual : List ℕ → List ℤ → ℕ → ℤ

@@ -1,5 +1,6 @@
 -- The duals of a family that an edge feels, and the family's sets as certificates list them (chapters 25 and 26).
-use Rattle.std.specs.Prelude.{◌≡◌, ◌⊎◌, ℕ, ℤ, pos, ◌+ℤ◌, List, [], ◌∷◌, map, take, drop, if◌then◌else◌}
+use Rattle.std.specs.Prelude.{◌≡◌, ◌⊎◌, ℕ, ℤ, pos, neg_ℤ, ◌+ℤ◌, ◌*ℤ◌, ◌≤ℤ◌, List, [], ◌∷◌, map, take, drop, if◌then◌else◌}
+use Rattle.graph_theory.specs.declared.limits.TheConstants.{GRAPH_VERTEX_LIMIT, NUMBER_LIMIT}
 use Rattle.graph_theory.specs.declared.edge.Edge.{Edge}
 use Rattle.graph_theory.specs.declared.odd_set.OddSet.{OddSet}
 use Rattle.graph_theory.specs.Parts.{holds, crosses}
@@ -15,6 +16,10 @@ duals_across y (b ∷ older) e = (if crosses b.members e then y b.node else pos 
 abbrev pub held_by : (ℕ → ℤ) → List Blossom → ℕ → ℤ
 held_by y [] v = pos 0
 held_by y (b ∷ older) v = (if holds b.members v then y b.node else pos 0) +ℤ held_by y older v
+
+-- a number that the duals of all nodes that hold a vertex can add up to
+abbrev pub IsCover : ℤ → Type 0
+IsCover x = (neg_ℤ (NUMBER_LIMIT *ℤ pos GRAPH_VERTEX_LIMIT) ≤ℤ x) × (x ≤ℤ (NUMBER_LIMIT *ℤ pos GRAPH_VERTEX_LIMIT))
 
 -- the duals of the vertices 1 to n
 abbrev pub vertex_duals : ℕ → List ℤ → List ℤ

@@ -4,7 +4,7 @@ ghost use Rattle.graph_theory.specs.Parts.{holds};
 ghost use Rattle.graph_theory.specs.Nested.{most_blossoms};
 ghost use Rattle.graph_theory.specs.Duals.{IsNumber};
 ghost use Rattle.blossom_arena.specs.Family.{Family, IsFamily, IsCircuit, empty_family, is_vertex, is_node, is_outermost, shrunk, dissolved, raised, dual_at, outermost, child_holding, ring_of, members_of, chain_of, names_of};
-ghost use Rattle.blossom_arena.specs.Slack.{held_by};
+ghost use Rattle.blossom_arena.specs.Slack.{IsCover, held_by};
 
 use crate::blossoms::Blossoms;
 use crate::chain::{Chain, child_below};
@@ -160,6 +160,7 @@ impl Arena {
     pub fn cover(&self, v: VertexId) -> i64
         requires { is_vertex self.now.vertex_count v ≡ true }
         ensures cover { result ≡ dual_at self.now.duals v +ℤ held_by (dual_at self.now.duals) self.now.blossoms v }
+        ensures in_range { IsCover result }
         ensures good { IsFamily self.now }
     {
         self.inner[v.number() as usize] + self.dual(self.outermost(v))

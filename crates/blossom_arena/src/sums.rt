@@ -1,6 +1,7 @@
 ghost use Rattle.std.specs.Prelude.{◌≡◌, ◌<◌, ◌+ℤ◌, neg_ℤ, ℕ, length, slice_index, slice_set, vec_len};
 ghost use Rattle.std.specs.List.{AllByRecursion};
-ghost use Rattle.blossom_arena.specs.Fields.{sum_at, IsSum, added, AreSums, outer_dual};
+ghost use Rattle.blossom_arena.specs.Fields.{sum_at, added, AreSums, outer_dual};
+ghost use Rattle.blossom_arena.specs.Slack.{IsCover};
 
 use crate::dual_table::dual_in;
 use crate::members::Members;
@@ -8,7 +9,7 @@ use crate::members::Members;
 /// Adds to the sum at a vertex.
 fn add_at(sums: &mut Vec<i64>, vertex: u32, y: i64)
     requires place { vertex < vec_len sums.old }
-    requires in_range { IsSum (sum_at sums.old.items vertex +ℤ y) }
+    requires in_range { IsCover (sum_at sums.old.items vertex +ℤ y) }
     ensures { sums.new.items ≡ slice_set sums.old.items vertex (sum_at sums.old.items vertex +ℤ y) }
 {
     let sum = sums[vertex as usize] + y;
@@ -18,7 +19,7 @@ fn add_at(sums: &mut Vec<i64>, vertex: u32, y: i64)
 /// Takes from the sum at a vertex.
 fn take_at(sums: &mut Vec<i64>, vertex: u32, y: i64)
     requires place { vertex < vec_len sums.old }
-    requires in_range { IsSum (sum_at sums.old.items vertex +ℤ neg_ℤ y) }
+    requires in_range { IsCover (sum_at sums.old.items vertex +ℤ neg_ℤ y) }
     ensures { sums.new.items ≡ slice_set sums.old.items vertex (sum_at sums.old.items vertex +ℤ neg_ℤ y) }
 {
     let sum = sums[vertex as usize] - y;

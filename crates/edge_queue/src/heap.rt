@@ -1,16 +1,29 @@
-ghost use Rattle.std.specs.Prelude.{◌≡◌, ◌<◌, ◌^◌, IfOk, Some, None, length, replicate, slice_index_or, slice_set};
+ghost use Rattle.std.specs.Prelude.{◌≡◌, ◌<◌, ◌^◌, IfOk, Some, None, length, replicate, slice_index_or, slice_set, true};
 ghost use Rattle.edge_queue.specs.Slots.{IsLeastSlot};
 
 use crate::entry::Entry;
 use crate::sift::settle;
 use crate::tables::{enter, exchange, fresh_entries, numbers};
+use crate::turn::Turn;
 use mb_base::OutOfMemory;
 use std::alloc::Global;
 use std::marker::Model;
 
-/// An indexed heap of slots by their moments, in which an entry has up to four children; of equal moments the
-/// one that was set first stands first. Each entry has its moment and age with it, since the slots of entries
-/// that are compared lie far apart. Contracts see the list of the moments by slot.
+/// The least age of an entry that wasn't set early.
+const LATE: u64 = 1 << 63;
+
+/// The age of an entry that so many were set before: each early one is less than all others.
+fn age_of(before: u64, turn: Turn) -> u64 {
+    match turn {
+        Turn::Early => before,
+        Turn::Late => before | LATE,
+    }
+}
+
+/// An indexed heap of slots by their moments, in which an entry has up to four children; of equal moments
+/// those set early stand before all others, and then the one that was set first. Each entry has its moment and
+/// age with it, since the slots of entries that are compared lie far apart. Contracts see the list of the
+/// moments by slot.
 #[derive(Drop)]
 pub(crate) struct IndexedHeap {
     // An entry of each slot, those of slots that have a moment first, in heap order, and by slot its place.
@@ -69,13 +82,40 @@ impl IndexedHeap {
         Some((entry.slot, entry.moment))
     }
 
-    /// Gives a slot this moment.
-    pub(crate) fn set(&mut self, slot: u32, moment: i64)
+    /// Whether a slot that has a moment comes among those of the same moment when it is to.
+    fn comes_by(&self, slot: u32, turn: Turn) -> bool
+        requires { slot < length self.now }
+    {
+        let Some(entry) = self.heap.get(self.places[slot as usize] as usize) else {
+            return false;
+        };
+        match turn {
+            Turn::Early => entry.age < LATE,
+            Turn::Late => true,
+        }
+    }
+
+    /// Whether a slot has this moment, and comes early where it is to.
+    fn keeps(&self, slot: u32, moment: i64, turn: Turn) -> bool
+        requires { slot < length self.now }
+        ensures { result ≡ true → slice_index_or self.now slot None ≡ Some moment }
+    {
+        match self.moment(slot) {
+            Some(held) => held == moment && self.comes_by(slot, turn),
+            None => false,
+        }
+    }
+
+    /// Gives a slot this moment. Where it has it already it keeps its age, unless it is to come early and doesn't.
+    pub(crate) fn set(&mut self, slot: u32, moment: i64, turn: Turn)
         requires { slot < length self.old }
         ensures { self.new ≡ slice_set self.old slot (Some moment) }
     {
-        let age = self.next_age;
-        self.next_age = age.wrapping_add(1);
+        if self.keeps(slot, moment, turn) {
+            return;
+        }
+        let age = age_of(self.next_age, turn);
+        self.next_age = self.next_age.wrapping_add(1);
         self.count = enter(&mut self.heap, &mut self.places, self.count, slot);
         let place = self.places[slot as usize] as usize;
         self.heap[place] = Entry { moment, age, slot };

@@ -12,7 +12,9 @@ mod queue;
 mod sift;
 mod slots;
 mod tables;
+mod turn;
 
 pub use item::Item;
 pub use law::laws;
 pub use queue::EdgeQueue;
+pub use turn::Turn;

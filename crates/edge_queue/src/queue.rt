@@ -4,6 +4,7 @@ ghost use Rattle.edge_queue.specs.Moments.{Moments, no_moments, moment_of, with_
 use crate::heap::IndexedHeap;
 use crate::item::Item;
 use crate::slots::{is_numbered, item_of, slot_of};
+use crate::turn::Turn;
 use mb_base::OutOfMemory;
 use std::alloc::{AllocError, Global};
 use std::marker::Model;
@@ -54,7 +55,7 @@ impl EdgeQueue {
     }
 
     /// An item whose moment is least, and its moment, in constant time. Of equal moments any may be given;
-    /// it is the one that was set first.
+    /// it is an early one if there is one, and of those the one that was given its moment first.
     pub fn least(&self) -> Option<(Item, i64)>
         ensures { IsLeast self.now result }
     {
@@ -62,13 +63,14 @@ impl EdgeQueue {
         Some((item_of(self.edges, slot), moment))
     }
 
-    /// Gives an item this moment, whether it had one or not, in time logarithmic in the number of moments.
-    pub fn set(&mut self, item: Item, moment: i64)
+    /// Gives an item this moment, whether it had one or not, in time logarithmic in the number of moments,
+    /// and in constant time where it has it already. `turn` only says which of equal moments `least` answers.
+    pub fn set(&mut self, item: Item, moment: i64, turn: Turn)
         requires { IsItem self.old item }
         ensures { self.new ≡ with_moment self.old item (Some moment) }
     {
         let slot = slot_of(self.edges, &item);
-        self.heap.set(slot, moment);
+        self.heap.set(slot, moment, turn);
     }
 
     /// Takes the moment of an item away, in time logarithmic in the number of moments. Where it had none,

@@ -5,7 +5,7 @@
 
 ghost use Rattle.std.specs.Prelude.{◌≡◌, length};
 
-use edge_queue::{EdgeQueue, Item};
+use edge_queue::{EdgeQueue, Item, Turn};
 use mb_base::{EdgeId, RealOut, number, write_all};
 use std::alloc::Global;
 use std::process::ExitCode;
@@ -38,7 +38,7 @@ fn fill(queue: &mut EdgeQueue, start: u64) -> u64
         let edge = ((state >> 33) % u64::from(EDGES)) as u32 + 1;
         state = next(state);
         let moment = ((state >> 33) % MOMENTS) as i64;
-        queue.set(Item::Edge(EdgeId::new(edge)), moment);
+        queue.set(Item::Edge(EdgeId::new(edge)), moment, Turn::Late);
     }
     state
 }

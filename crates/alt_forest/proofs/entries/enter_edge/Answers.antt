@@ -1,12 +1,13 @@
 use Rattle.std.proofs.Common.{◌≡◌, ◌∙◌, ℕ, ℤ, true, cond, eqb, Option, Some, sym, ap, ap₂, subst, arith, rules, to_z, of_z}
 use mir.Syntax.{w64}
 use Rattle.graph_theory.specs.Graph.{Multigraph, IsEdgeNumber, edge_of, touches}
+use Rattle.blossom_arena.specs.Family.{is_vertex}
 use Rattle.edge_queue.specs.declared.item.Item.TheVariants.{Edge}
 use Rattle.edge_queue.specs.Moments.{Moments, moment_of}
 use Rattle.alt_forest.specs.Searches.{IsSound, state_of}
 use Rattle.alt_forest.specs.Entries.{NeedsMoment, entry_count}
 use Rattle.alt_forest.specs.Ends.{LeadsTo}
-use Rattle.alt_forest.proofs.Leads.{leads}
+use Rattle.alt_forest.proofs.Leads.{leads, leads_vertex}
 use Rattle.alt_forest.proofs.Needs.{none_needed}
 use Rattle.alt_forest.proofs.Queues.{sound_set, edge_item, edge_set, edge_other, count_set}
 use Rattle.alt_forest.proofs.entries.enter_edge.Goals as goal
@@ -22,6 +23,15 @@ moment_for-requires-clause-edge g c =
     let to : LeadsTo s.graph c.args.e c.args.near.now.vertex c.other_end-far.result (to_z w64 (of_z w64 c.look-u.result.2)) = subst (λ (k : Multigraph). LeadsTo k c.args.e c.args.near.now.vertex c.other_end-far.result (to_z w64 (of_z w64 c.look-u.result.2))) c.requires.same
     (reached c.args.graph.now c.args.e c.args.near.now.vertex c.other_end-far.result c.look-u.result.0 c.look-u.result.1 (to_z w64 (of_z w64 c.look-u.result.2)) c.requires.edge c.requires.end c.look-u.ensures.from c.look-u.ensures.to (kept ∙ c.look-u.ensures.weight) c.other_end-far.ensures) in
     (c.args.e, to)
+
+pub turn_to-turn-requires : goal.turn_to-turn-requires
+turn_to-turn-requires g c =
+    let s = c.args.search.now in
+    let kept : to_z w64 (of_z w64 c.look-u.result.2) ≡ c.look-u.result.2 = search rules in
+    let to : LeadsTo s.graph c.args.e c.args.near.now.vertex c.other_end-far.result (to_z w64 (of_z w64 c.look-u.result.2)) = subst (λ (k : Multigraph). LeadsTo k c.args.e c.args.near.now.vertex c.other_end-far.result (to_z w64 (of_z w64 c.look-u.result.2))) c.requires.same
+    (reached c.args.graph.now c.args.e c.args.near.now.vertex c.other_end-far.result c.look-u.result.0 c.look-u.result.1 (to_z w64 (of_z w64 c.look-u.result.2)) c.requires.edge c.requires.end c.look-u.ensures.from c.look-u.ensures.to (kept ∙ c.look-u.ensures.weight) c.other_end-far.ensures) in
+    subst (λ (n : ℕ). is_vertex n c.other_end-far.result ≡ true) (sym c.requires.sound.shape.arena)
+    (leads_vertex s.graph c.args.e c.args.near.now.vertex c.other_end-far.result _ c.requires.sound.shape.graph.graph to)
 
 pub returns-in-Some-clause-sound : goal.returns-in-Some-clause-sound
 returns-in-Some-clause-sound g c =

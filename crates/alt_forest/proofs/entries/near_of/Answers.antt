@@ -1,7 +1,7 @@
 use Rattle.std.proofs.Common.{◌≡◌, ◌∙◌, ℕ, true, sym, subst, rules, to_z, of_z}
 use mir.Syntax.{w64}
 use Rattle.blossom_arena.specs.Family.{is_vertex}
-use Rattle.alt_forest.specs.Ends.{IsCover}
+use Rattle.blossom_arena.specs.Slack.{IsCover}
 use Rattle.alt_forest.proofs.entries.near_of.Goals as goal
 
 pub cover-requires : goal.cover-requires

@@ -6,6 +6,7 @@ use mir.Syntax.{w64}
 use Rattle.blossom_arena.specs.declared.arena.Arena.TheInside.{Inside}
 use Rattle.blossom_arena.specs.Family.{Family, is_vertex, is_node, outermost, dual_at}
 use Rattle.blossom_arena.specs.Fields.{IsSound, family_of, sum_at, inner_of}
+use Rattle.blossom_arena.specs.Slack.{IsCover}
 use Rattle.blossom_arena.proofs.Nested.{vertex_range}
 use Rattle.blossom_arena.proofs.Sets.{outermost_node}
 use Rattle.blossom_arena.proofs.Held.{cover_range}
@@ -55,3 +56,8 @@ returns-clause-cover c =
     let back_too : to_z w64 (of_z w64 c.dual.result) ≡ c.dual.result = search rules in
     let whole : to_z w64 (of_z w64 (to_z w64 (of_z w64 c.index.result.now) +ℤ to_z w64 (of_z w64 c.dual.result))) ≡ to_z w64 (of_z w64 c.index.result.now) +ℤ to_z w64 (of_z w64 c.dual.result) = search rules in
     omega (arith, ints, inner, outer, whole, back, back_too)
+
+pub returns-clause-in_range : goal.returns-clause-in_range
+returns-clause-in_range c =
+    let good = c.outermost.ensures.good in
+    subst IsCover (sym (returns-clause-cover c)) (cover_range c.args.self.now.vertex_count c.args.self.now.duals c.args.self.now.blossoms c.args.v good.few good.nested good.duals.in_range)

@@ -1,6 +1,6 @@
-use Rattle.std.proofs.Common.{◌≡◌, ◌<◌, length, get_or, set, ap, ◌∙◌, subst, arith, List, Option, Some}
+use Rattle.std.proofs.Common.{◌≡◌, ◌<◌, length, get_or, set, ap, ◌∙◌, subst, sym, arith, List, Option, Some, None}
 use Rattle.std.specs.Prelude.{ℤ}
-use Rattle.std.proofs.lemmas.List.{get_or_read}
+use Rattle.std.proofs.lemmas.List.{get_or_read, set-get_or}
 use Rattle.std.proofs.lemmas.Int.{to_z-of_z}
 use mir.Val.{to_z, of_z}
 use mir.Syntax.{w64}
@@ -9,6 +9,11 @@ use Rattle.edge_queue.specs.Heaps.{IsMended}
 use Rattle.edge_queue.proofs.Changes.{slots_long, entered_tables, entered_order, entered_entries}
 use Rattle.edge_queue.proofs.heap.IndexedHeap.set.Goals as goal
 use Rattle.edge_queue.proofs.heap.IndexedHeap.set.Goals.{After-index}
+
+pub returns-then-keeps : goal.returns-then-keeps
+returns-then-keeps c =
+    let kept = ap (λ (m : Option ℤ). set c.args.self.now c.args.slot m) (sym (c.keeps.ensures c.if-keeps.true)) ∙ set-get_or c.args.self.now c.args.slot None in
+    sym kept ∙ ap (λ (z : ℤ). set c.args.self.now c.args.slot (Some z)) (to_z-of_z w64 c.args.moment c.ranges.moment)
 
 pub enter-self-inside-requires-clause-slot : goal.enter-self-inside-requires-clause-slot
 enter-self-inside-requires-clause-slot c = omega (arith, c.requires, slots_long c.self.inside c.args.self.now c.self.invariant c.self.view_is)
@@ -26,7 +31,7 @@ place c =
     get_or_read e.new.places.items c.args.slot c.index.result.now (omega (arith, slot_in c, e.ensures.size, e.ensures.inverse.sizes)) c.index.ensures 0
 
 abbrev written : (c : After-index) → Entry
-written c = record { moment = to_z w64 (of_z w64 c.args.moment); age = c.self.inside.next_age; slot = c.args.slot }
+written c = record { moment = to_z w64 (of_z w64 c.args.moment); age = c.age_of-age.result; slot = c.args.slot }
 
 pub index_mut-requires : goal.index_mut-requires
 index_mut-requires c =
