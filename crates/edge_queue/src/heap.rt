@@ -10,12 +10,13 @@ use std::alloc::Global;
 use std::marker::Model;
 
 /// The least age of an entry that wasn't set early.
-const LATE: u64 = 1 << 63;
+const LATE: u32 = 1 << 31;
 
-/// The age of an entry that so many were set before: each early one is less than all others.
-fn age_of(before: u64, turn: Turn) -> u64 {
+/// The age of an entry that so many were set before: each early one is less than all others. Past 2^31 the count
+/// begins anew, and only the order of equal moments is another one.
+fn age_of(before: u32, turn: Turn) -> u32 {
     match turn {
-        Turn::Early => before,
+        Turn::Early => before & !LATE,
         Turn::Late => before | LATE,
     }
 }
@@ -30,7 +31,7 @@ pub(crate) struct IndexedHeap {
     heap: Vec<Entry>,
     places: Vec<u32>,
     count: usize,
-    next_age: u64,
+    next_age: u32,
 }
 
 impl Model for IndexedHeap {
