@@ -2,8 +2,8 @@
 """Builds a program of this repository, several crates at a time: the crates that it stands on and no others, each proved first.
 
 Usage: build.py PROGRAM [--jobs N]. The lowest crates, on which nearly all others stand, come one after the other with all jobs of the prover. Then the tower of crates below the search's engine,
-which is high and narrow, and the crates above it up to solve_kinds are proved in one folder, and all others beside them in another, since builds in one folder wait for each other: first those that solve_kinds stands on,
-then those that only the last crates want. The last ones, which stand on one another in a row, have all jobs again. The crates are built in a copy of their sources in the user's cache folder (XDG_CACHE_HOME, else
+which is high and narrow, and the crates above it are proved in one folder, and all others beside them in another, since builds in one folder wait for each other: first those that solve_kinds stands on and
+those that others stand on, then the rest. Each crate above the engine begins once all that it stands on is there; the program itself comes last. The crates are built in a copy of their sources in the user's cache folder (XDG_CACHE_HOME, else
 ~/.cache), since `rt all` takes every crate of the folder that it is called in, tests and benches too. What a crate's own folder has
 proved already is taken along. A line a crate goes to standard error, with its number and the time so far. Where it is interrupted,
 a later call goes on with what is left. The program is put into crates/PROGRAM/out. The status is 0, or that of the command that
@@ -16,6 +16,7 @@ import os
 import shutil
 import subprocess
 import sys
+import tempfile
 import threading
 import time
 
@@ -25,10 +26,10 @@ TRIAL = (["check", "perfect"], b"p edge 0 0\ns OPTIMAL perfect 0\n")
 PARTS = ("src", "specs", "proofs")
 # The crate whose tower is proved beside all others.
 ENGINE = "mwpm_engine"
-# The last crate above the engine that others are still proved beside.
-MIDDLE = "solve_kinds"
-# What is proved first, with all jobs; the tower above it; beside the tower, what the middle wants; the middle, a row above the tower;
-# beside both, what only the last row wants; and that row. What each stands on is with it.
+# The crate above the engine that takes longest: what it stands on is wanted first.
+LONGEST = "solve_kinds"
+# What is proved first, with all jobs; the tower above it; beside the tower, what is wanted first; the middle, a row above the tower;
+# beside both, what is wanted late; and the last row. What each stands on is with it.
 Plan = collections.namedtuple("Plan", "below shared tower wanted middle late row")
 LAST_LINES = 30
 # All wait for the tower and the middle, so what is proved beside them takes the processors' time that these leave.
@@ -95,13 +96,13 @@ def plan(below):
         return Plan(below, [], [], first, [], [], row)
     tower = stood_on(below, ENGINE)
     row = [name for name in first if name not in tower and ENGINE in stood_on(below, name)] + row
-    middle = row[:row.index(MIDDLE) + 1] if MIDDLE in row else []
-    others = [name for name in first if name not in tower and name not in row]
-    wanted = set().union(*(stood_on(below, name) for name in middle)) if middle else set(others)
+    middle, row = row[:-1], row[-1:]
+    others = [name for name in first if name not in tower and name not in middle + row]
+    wanted = stood_on(below, LONGEST) if LONGEST in middle else set(others)
+    wanted |= {it for name in others if name not in wanted for it in below[name]}
     shared = set().union(*(stood_on(below, name) for name in others)) & tower
     return Plan(below, [name for name in first if name in shared], [name for name in first if name in tower - shared],
-                [name for name in others if name in wanted], middle, [name for name in others if name not in wanted],
-                [name for name in row if name not in middle])
+                [name for name in others if name in wanted], middle, [name for name in others if name not in wanted], row)
 
 
 def build_folder(program):
@@ -150,6 +151,11 @@ def waiting(folder):
     return folder + "-waiting"
 
 
+def aside(folder):
+    """Where copies are put that are no longer wanted: to remove them takes longer than a build should wait."""
+    return folder + "-aside"
+
+
 def move_one(source, target):
     """Puts one folder where another may be."""
     os.makedirs(os.path.dirname(target), exist_ok=True)
@@ -163,20 +169,29 @@ def move(names, source, target):
         move_one(os.path.join(source, "crates", name), os.path.join(target, "crates", name))
 
 
+def has_kept(crate):
+    """Whether a crate has what its own proof leaves for the next one: a copy hasn't."""
+    return os.path.isdir(os.path.join(crate, "out", "incremental"))
+
+
 def bring_back(folder):
-    """Brings back what an interrupted build has left in the other folders."""
+    """Brings back what is in the other folders. Of two of one name a copy is put aside."""
     for other in (os.path.join(beside(folder), "crates"), os.path.join(waiting(folder), "crates")):
         for name in os.listdir(other) if os.path.isdir(other) else []:
-            if os.path.isdir(os.path.join(folder, "crates", name)):
-                shutil.rmtree(os.path.join(other, name))
-            else:
-                os.replace(os.path.join(other, name), os.path.join(folder, "crates", name))
+            here, there = os.path.join(folder, "crates", name), os.path.join(other, name)
+            if os.path.isdir(here):
+                os.makedirs(aside(folder), exist_ok=True)
+                extra = there if has_kept(here) or not has_kept(there) else here
+                os.replace(extra, os.path.join(tempfile.mkdtemp(dir=aside(folder)), name))
+            if os.path.isdir(there):
+                os.replace(there, here)
 
 
 def lay_out(folder, crates):
     """Copies the sources of these crates into the folder, and takes out what is no more."""
     os.makedirs(os.path.join(folder, "crates"), exist_ok=True)
     bring_back(folder)
+    shutil.rmtree(aside(folder), ignore_errors=True)
     for name in set(os.listdir(os.path.join(folder, "crates"))) - set(crates):
         shutil.rmtree(os.path.join(folder, "crates", name))
     for name in crates:
@@ -248,14 +263,14 @@ def prove_tower(folder, crates, steps, jobs, log, progress):
 
 
 def copy_crates(names, source, target):
-    """Copies crates, with what is proved of them, from one folder to another, each at once: an interrupted copy leaves no half of one.
-    A crate whose library is being written is tried again."""
+    """Copies crates, with their libraries, from one folder to another, each at once: an interrupted copy leaves no half of one. What only
+    their own proofs want is left out. A crate whose library is being written is tried again."""
     part = os.path.join(target, "copied")
     for name in names:
         for left in reversed(range(TRIES)):
             shutil.rmtree(part, ignore_errors=True)
             try:
-                shutil.copytree(os.path.join(source, "crates", name), part)
+                shutil.copytree(os.path.join(source, "crates", name), part, ignore=shutil.ignore_patterns("incremental"))
                 break
             except (OSError, shutil.Error):
                 if not left:
@@ -315,7 +330,7 @@ def prove_middle(folder, crates, steps, lane, jobs, log, progress):
     """Proves the middle, each of its crates once all that it stands on is there. Answers the status."""
     there = steps.shared + steps.tower
     for name in steps.middle:
-        needed = [it for it in steps.wanted if it in stood_on(steps.below, name) and it not in there]
+        needed = [it for it in steps.wanted + steps.late if it in stood_on(steps.below, name) and it not in there]
         if not lane.wait_for(needed):
             return 0
         copy_crates(needed, lane.folder, folder)
@@ -383,6 +398,8 @@ def main():
     made = os.path.join("crates", args.program, "out")
     os.makedirs(os.path.join(TOP, made), exist_ok=True)
     shutil.copy(os.path.join(folder, made, args.program), os.path.join(TOP, made, args.program))
+    # Nobody waits for this.
+    subprocess.Popen(["rm", "-rf", aside(folder)], stdin=subprocess.DEVNULL, stdout=subprocess.DEVNULL, stderr=subprocess.DEVNULL, start_new_session=True)
     return 0
 
 

@@ -1,9 +1,10 @@
-ghost use Rattle.std.specs.Prelude.{◌+◌, ◌≤◌, ◌≡◌, Some, IfOk};
+ghost use Rattle.std.specs.Prelude.{◌+◌, ◌≤◌, ◌≡◌, None, Some, IfOk};
 ghost use Rattle.graph_theory.specs.Limits.{IsWithinLimits};
 ghost use Rattle.mb_problem.specs.Size.{ports_size, odd_at};
 ghost use Rattle.gadget_base.specs.Certified.{IsPerfectList};
 ghost use Rattle.gadget_base.specs.Gadgets.{ports_graph};
 ghost use Rattle.gadget_base.specs.Listed.{ListsCounts};
+ghost use Rattle.gadget_tjoin.specs.Joins.{ReachesJoins};
 ghost use Rattle.mwpm_engine.specs.Solutions.{IsSolved, most_steps, size_of_graph, matching_of};
 ghost use Rattle.mwpm_engine.specs.declared.outcome.Outcome.TheVariants.{Matched};
 ghost use Rattle.least_joins.specs.Least.{HasJoin, IsLeastJoin};
@@ -15,6 +16,32 @@ use mb_problem::{Instance, Join, Parity};
 use mwpm_engine::Engine;
 use std::alloc::Global;
 use std::sync::ledger::Ledger;
+use weighted_graph::Graph;
+
+/// The join that the engine's matching of the graph of ports stands for, after its one run.
+fn matched_join<L: Ledger>(
+    alloc: Global,
+    instance: &Instance,
+    parity: &Parity,
+    engine: &mut Engine,
+    graph: &Graph,
+    steps: &mut Steps<L>,
+) -> Result<Join, OutOfMemory>
+    requires same { engine.old.graph ≡ graph.now }
+    requires fresh { engine.old.outcome ≡ None }
+    requires ports { graph.now ≡ ports_graph instance.now (odd_at parity.now instance.now) }
+    requires reached { ReachesJoins parity.now instance.now }
+    requires some { HasJoin parity.now instance.now }
+    ensures least { IfOk result (λ join. IsLeastJoin parity.now instance.now join.edges) }
+    ensures steps { steps.new ≤ steps.old + most_steps (size_of_graph graph.now) }
+{
+    // The prover learns here that the graph is valid.
+    let _vertices = graph.vertices();
+    let _matched = engine.run(graph, steps);
+    let edges = matching(alloc, engine, graph)?;
+    let join = extract(alloc, instance, parity, &edges)?;
+    Ok(join)
+}
 
 /// A join of this parity that weighs the least, where there is a join: that of a perfect matching of
 /// least weight in the graph of ports (Schrijver, Combinatorial Optimization, volume A, chapter 29).
@@ -33,11 +60,6 @@ pub fn least_join<L: Ledger>(
     ensures steps { steps.new ≤ steps.old + most_steps (ports_size instance.now (odd_at parity.now instance.now)) }
 {
     let graph = ports(alloc, instance, parity)?;
-    // The prover learns here that the graph is valid.
-    let _vertices = graph.vertices();
     let mut engine = Engine::new(alloc, &graph)?;
-    let _matched = engine.run(&graph, steps);
-    let edges = matching(alloc, &engine, &graph)?;
-    let join = extract(alloc, instance, parity, &edges)?;
-    Ok(join)
+    matched_join(alloc, instance, parity, &mut engine, &graph, steps)
 }

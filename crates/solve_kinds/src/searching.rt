@@ -1,11 +1,15 @@
-ghost use Rattle.std.specs.Prelude.{◌≡◌, ◌≤◌, ◌+◌, false, pos, ◌≤ℤ◌, All, IfOk};
+ghost use Rattle.std.specs.Prelude.{◌≡◌, ◌≤◌, ◌+◌, false, pos, ◌≤ℤ◌, All, IfOk, Some, None};
+ghost use Rattle.graph_theory.specs.declared.limits.TheConstants.{GRAPH_VERTEX_LIMIT};
 ghost use Rattle.graph_theory.specs.Limits.{IsWithinLimits};
+ghost use Rattle.graph_theory.specs.Parts.{IsVertexSet};
 ghost use Rattle.mb_problem.specs.Kinds.{exclusion_of};
 ghost use Rattle.mb_problem.specs.Size.{size_of};
 ghost use Rattle.gadget_base.specs.Certified.{gadget_graph, ReachesAll};
 ghost use Rattle.doc_format.specs.declared.status.DocStatus.TheVariants.{Optimal};
-ghost use Rattle.doc_format.specs.Form.{is_barrier};
+ghost use Rattle.doc_format.specs.Form.{is_barrier, is_never};
 ghost use Rattle.mwpm_engine.specs.Solutions.{HasPerfect, most_steps, size_of_graph};
+ghost use Rattle.mwpm_engine.specs.declared.outcome.Outcome.TheVariants.{Barrier};
+ghost use Rattle.solve_kinds.specs.Excluding.{StatesSet};
 ghost use Rattle.solve_kinds.specs.Open.{IsOpen};
 ghost use Rattle.solve_kinds.specs.Settled.{Settles};
 ghost use Rattle.solve_kinds.specs.Solved.{HasFitWeights};
@@ -16,6 +20,7 @@ use crate::optimal::optimal;
 use certificates::certified;
 use doc_format::Document;
 use gadget_tjoin::ports;
+use graph_theory::GRAPH_VERTEX_LIMIT;
 use mb_base::{OutOfMemory, Steps};
 use mb_problem::{Exclusion, Instance, Kind, Parity};
 use mwpm_engine::{Engine, Outcome};
@@ -45,6 +50,54 @@ fn searched_graph(alloc: Global, instance: &Instance, kind: Kind) -> Result<Grap
     }
 }
 
+/// The document of the barrier that a search has found.
+fn barred(
+    alloc: Global,
+    kind: Kind,
+    engine: &Engine,
+    graph: &Graph,
+) -> Result<Document, OutOfMemory>
+    requires barrier { engine.now.outcome ≡ Some Barrier }
+    requires same { engine.now.graph ≡ graph.now }
+    requires set { IsVertexSet graph.now.vertices engine.now.barrier }
+    requires kind { is_never (exclusion_of kind) ≡ false }
+    ensures { IfOk result (StatesSet kind engine.now.barrier) }
+{
+    let set = barrier(alloc, engine, graph)?;
+    infeasible(alloc, kind, &set)
+}
+
+/// The document of a best answer or of a barrier, by one run of the engine over the graph that the kind's
+/// certificates speak of.
+fn settled<L: Ledger>(
+    alloc: Global,
+    instance: &Instance,
+    kind: Kind,
+    engine: &mut Engine,
+    graph: &Graph,
+    steps: &mut Steps<L>,
+) -> Result<Document, OutOfMemory>
+    requires same { engine.old.graph ≡ graph.now }
+    requires fresh { engine.old.outcome ≡ None }
+    requires ready { IsOpen kind instance.now }
+    requires fit { HasFitWeights kind instance.now }
+    requires few { graph.now.vertices ≤ GRAPH_VERTEX_LIMIT }
+    requires certified { graph.now ≡ gadget_graph kind instance.now }
+    requires reached { ReachesAll kind instance.now }
+    requires perfect { is_barrier (exclusion_of kind) ≡ false → HasPerfect graph.now }
+    ensures settled { IfOk result (Settles kind instance.now) }
+    ensures best { IfOk result (λ d. is_barrier (exclusion_of kind) ≡ false → d.status ≡ Optimal) }
+    ensures steps { steps.new ≤ steps.old + most_steps (size_of_graph graph.now) }
+{
+    // The prover learns here that the instance and the graph are valid.
+    let _edges = instance.edges();
+    let _vertices = graph.vertices();
+    match engine.run(graph, steps) {
+        Outcome::Matched => optimal(alloc, instance, kind, engine, graph),
+        Outcome::Barrier => barred(alloc, kind, engine, graph),
+    }
+}
+
 /// The document of a best answer or of a barrier, by one search for a perfect matching of least weight in
 /// the graph that the kind's certificates speak of.
 pub fn searched<L: Ledger>(
@@ -61,16 +114,7 @@ pub fn searched<L: Ledger>(
     ensures best { IfOk result (λ d. is_barrier (exclusion_of kind) ≡ false → d.status ≡ Optimal) }
     ensures steps { steps.new ≤ steps.old + most_steps (size_of kind instance.now) }
 {
-    // The prover learns here that the instance and the graph are valid.
-    let _edges = instance.edges();
     let graph = searched_graph(alloc, instance, kind)?;
-    let _vertices = graph.vertices();
     let mut engine = Engine::new(alloc, &graph)?;
-    match engine.run(&graph, steps) {
-        Outcome::Matched => Ok(optimal(alloc, instance, kind, &engine, &graph)?),
-        Outcome::Barrier => {
-            let set = barrier(alloc, &engine, &graph)?;
-            Ok(infeasible(alloc, kind, &set)?)
-        }
-    }
+    settled(alloc, instance, kind, &mut engine, &graph, steps)
 }

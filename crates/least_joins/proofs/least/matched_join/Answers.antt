@@ -7,51 +7,51 @@ use Rattle.gadget_base.specs.Listed.{ListsCounts}
 use Rattle.gadget_base.proofs.Listed.{list_from_perfect, list-weight}
 use Rattle.mwpm_engine.specs.Solutions.{IsSolved, matching_of}
 use Rattle.least_joins.proofs.Leasts.{matched, solved, least}
-use Rattle.least_joins.proofs.least.least_join.Goals as goal
+use Rattle.least_joins.proofs.least.matched_join.Goals as goal
 
 pub matching-requires-clause-matched : goal.matching-requires-clause-matched
 matching-requires-clause-matched g c =
-    let h : Multigraph = c.in_ok-graph.graph in
+    let h : Multigraph = c.args.graph.now in
     let s = c.run-matched.new.self in
-    let same : s.graph ≡ h = c.run-matched.ensures.graph ∙ c.in_ok-engine.ensures.graph in
-    let r = c.in_ok-graph.ensures.reached c.requires.some.0 c.requires.some.1 in
+    let same : s.graph ≡ h = c.run-matched.ensures.graph ∙ c.requires.same in
+    let r = c.requires.reached c.requires.some.0 c.requires.some.1 in
     let graph : IsGraph s.graph = subst IsGraph (sym same) c.vertices-vertices.ensures.graph in
-    let perfect : IsPerfect s.graph r.counts = subst (λ (k : Multigraph). IsPerfect k r.counts) (sym (same ∙ c.in_ok-graph.ensures.graph)) r.perfect in
+    let perfect : IsPerfect s.graph r.counts = subst (λ (k : Multigraph). IsPerfect k r.counts) (sym (same ∙ c.requires.ports)) r.perfect in
     c.run-matched.ensures.outcome ∙ ap Some (matched s c.run-matched.result r.counts graph perfect c.run-matched.ensures.ends)
 
 pub extract-requires : goal.extract-requires
 extract-requires g c =
-    let h : Multigraph = c.in_ok-graph.graph in
+    let h : Multigraph = c.args.graph.now in
     let s = c.run-matched.new.self in
-    let same : s.graph ≡ h = c.run-matched.ensures.graph ∙ c.in_ok-engine.ensures.graph in
-    let r = c.in_ok-graph.ensures.reached c.requires.some.0 c.requires.some.1 in
+    let same : s.graph ≡ h = c.run-matched.ensures.graph ∙ c.requires.same in
+    let r = c.requires.reached c.requires.some.0 c.requires.some.1 in
     let graph : IsGraph s.graph = subst IsGraph (sym same) c.vertices-vertices.ensures.graph in
-    let perfect : IsPerfect s.graph r.counts = subst (λ (k : Multigraph). IsPerfect k r.counts) (sym (same ∙ c.in_ok-graph.ensures.graph)) r.perfect in
+    let perfect : IsPerfect s.graph r.counts = subst (λ (k : Multigraph). IsPerfect k r.counts) (sym (same ∙ c.requires.ports)) r.perfect in
     let is : IsSolved s = solved s c.run-matched.result (matched s c.run-matched.result r.counts graph perfect c.run-matched.ensures.ends) c.run-matched.ensures.ends in
     let found : IsPerfect h (matching_of h s.mates) = subst (λ (k : Multigraph). IsPerfect k (matching_of k s.mates)) same is.perfect in
     let lists : ListsCounts h (matching_of h s.mates) c.deref.result.now = subst (λ (es : List ℕ). ListsCounts h (matching_of h s.mates) es) (sym c.deref.ensures.value) c.in_ok-edges.ensures.counts in
-    record { perfect = subst (λ (k : Multigraph). IsPerfectList k c.deref.result.now) c.in_ok-graph.ensures.graph (list_from_perfect h (matching_of h s.mates) c.deref.result.now c.vertices-vertices.ensures.graph.ends found lists) }
+    record { perfect = subst (λ (k : Multigraph). IsPerfectList k c.deref.result.now) c.requires.ports (list_from_perfect h (matching_of h s.mates) c.deref.result.now c.vertices-vertices.ensures.graph.ends found lists) }
 
 pub returns-clause-least : goal.returns-clause-least
 returns-clause-least g c =
     let i = c.args.instance.now in
-    let h : Multigraph = c.in_ok-graph.graph in
+    let h : Multigraph = c.args.graph.now in
     let s = c.run-matched.new.self in
-    let same : s.graph ≡ h = c.run-matched.ensures.graph ∙ c.in_ok-engine.ensures.graph in
+    let same : s.graph ≡ h = c.run-matched.ensures.graph ∙ c.requires.same in
     let graph : IsGraph s.graph = subst IsGraph (sym same) c.vertices-vertices.ensures.graph in
-    let r = c.in_ok-graph.ensures.reached c.requires.some.0 c.requires.some.1 in
-    let perfect : IsPerfect s.graph r.counts = subst (λ (k : Multigraph). IsPerfect k r.counts) (sym (same ∙ c.in_ok-graph.ensures.graph)) r.perfect in
+    let r = c.requires.reached c.requires.some.0 c.requires.some.1 in
+    let perfect : IsPerfect s.graph r.counts = subst (λ (k : Multigraph). IsPerfect k r.counts) (sym (same ∙ c.requires.ports)) r.perfect in
     let is : IsSolved s = solved s c.run-matched.result (matched s c.run-matched.result r.counts graph perfect c.run-matched.ensures.ends) c.run-matched.ensures.ends in
     let found : IsPerfect h (matching_of h s.mates) = subst (λ (k : Multigraph). IsPerfect k (matching_of k s.mates)) same is.perfect in
     let lists : ListsCounts h (matching_of h s.mates) c.deref.result.now = subst (λ (es : List ℕ). ListsCounts h (matching_of h s.mates) es) (sym c.deref.ensures.value) c.in_ok-edges.ensures.counts in
     let listed : walk_weight h c.deref.result.now ≡ weight h (matching_of h s.mates) = list-weight h (matching_of h s.mates) c.deref.result.now found.one_each lists in
-    let weighs : walk_weight (graph_of i) c.in_ok-join.join.edges ≡ walk_weight h c.deref.result.now = c.in_ok-join.ensures.weighs ∙ ap (λ (k : Multigraph). walk_weight k c.deref.result.now) (sym c.in_ok-graph.ensures.graph) in
+    let weighs : walk_weight (graph_of i) c.in_ok-join.join.edges ≡ walk_weight h c.deref.result.now = c.in_ok-join.ensures.weighs ∙ ap (λ (k : Multigraph). walk_weight k c.deref.result.now) (sym c.requires.ports) in
     let mine : walk_weight (graph_of i) c.in_ok-join.join.edges ≡ weight s.graph (matching_of s.graph s.mates) = weighs ∙ (listed ∙ ap (λ (k : Multigraph). weight k (matching_of k s.mates)) (sym same)) in
     record {
       join = record { ascending = c.in_ok-join.ensures.ascending; in_range = c.in_ok-join.ensures.in_range; join = c.in_ok-join.ensures.join };
       least = λ counts join.
-          (let other = c.in_ok-graph.ensures.reached counts join in
-          let most : weight s.graph (matching_of s.graph s.mates) ≤ℤ weight s.graph other.counts = least s other.counts graph is (subst (λ (k : Multigraph). IsPerfect k other.counts) (sym (same ∙ c.in_ok-graph.ensures.graph)) other.perfect) in
-          let theirs : weight s.graph other.counts ≡ weight (graph_of i) counts = ap (λ (k : Multigraph). weight k other.counts) (same ∙ c.in_ok-graph.ensures.graph) ∙ other.weighs in
+          (let other = c.requires.reached counts join in
+          let most : weight s.graph (matching_of s.graph s.mates) ≤ℤ weight s.graph other.counts = least s other.counts graph is (subst (λ (k : Multigraph). IsPerfect k other.counts) (sym (same ∙ c.requires.ports)) other.perfect) in
+          let theirs : weight s.graph other.counts ≡ weight (graph_of i) counts = ap (λ (k : Multigraph). weight k other.counts) (same ∙ c.requires.ports) ∙ other.weighs in
           subst (λ (z : ℤ). walk_weight (graph_of i) c.in_ok-join.join.edges ≤ℤ z) theirs (subst (λ (z : ℤ). z ≤ℤ weight s.graph other.counts) (sym mine) most));
     }
