@@ -2,8 +2,8 @@
 """Builds a program of this repository, several crates at a time: the crates that it stands on and no others, each proved first.
 
 Usage: build.py PROGRAM [--jobs N]. The lowest crates, on which nearly all others stand, come one after the other with all jobs of the prover. Then the tower of crates below the search's engine,
-which is high and narrow, and the crates above it are proved in one folder, and all others beside them in another, since builds in one folder wait for each other: first those that solve_kinds stands on and
-those that others stand on, then the rest. Each crate above the engine begins once all that it stands on is there; the program itself comes last. The crates are built in a copy of their sources in the user's cache folder (XDG_CACHE_HOME, else
+which is high and narrow, and the crates above it are proved in one folder, and all others beside them in another, since builds in one folder wait for each other: first those that solve_kinds stands on,
+then those of the rest that others stand on, then the others. Each crate above the engine begins once all that it stands on is there; the program itself comes last. The crates are built in a copy of their sources in the user's cache folder (XDG_CACHE_HOME, else
 ~/.cache), since `rt all` takes every crate of the folder that it is called in, tests and benches too. What a crate's own folder has
 proved already is taken along. A line a crate goes to standard error, with its number and the time so far. Where it is interrupted,
 a later call goes on with what is left. The program is put into crates/PROGRAM/out. The status is 0, or that of the command that
@@ -28,9 +28,9 @@ PARTS = ("src", "specs", "proofs")
 ENGINE = "mwpm_engine"
 # The crate above the engine that takes longest: what it stands on is wanted first.
 LONGEST = "solve_kinds"
-# What is proved first, with all jobs; the tower above it; beside the tower, what is wanted first; the middle, a row above the tower;
-# beside both, what is wanted late; and the last row. What each stands on is with it.
-Plan = collections.namedtuple("Plan", "below shared tower wanted middle late row")
+# What is proved first, with all jobs; the tower above it; the middle, a row above the tower; beside both, the others, one stretch of them
+# after the other; and the last row. What each stands on is with it.
+Plan = collections.namedtuple("Plan", "below shared tower middle stretches row")
 LAST_LINES = 30
 # All wait for the tower and the middle, so what is proved beside them takes the processors' time that these leave.
 BEHIND = 10
@@ -88,21 +88,28 @@ def stood_on(below, name):
     return seen
 
 
+def top_of(below, names):
+    """Those of the crates that no other of them stands on."""
+    return [name for name in names if not any(name in below[it] for it in names)]
+
+
 def plan(below):
     """What is proved in which way. Without the search's engine all but the row at the top are others."""
     level, row = levels(below), row_at_top(below)
     first = [name for name in sorted(below, key=level.get) if name not in row]
     if ENGINE not in first:
-        return Plan(below, [], [], first, [], [], row)
+        return Plan(below, [], [], [], [first], row)
     tower = stood_on(below, ENGINE)
     row = [name for name in first if name not in tower and ENGINE in stood_on(below, name)] + row
     middle, row = row[:-1], row[-1:]
     others = [name for name in first if name not in tower and name not in middle + row]
     wanted = stood_on(below, LONGEST) if LONGEST in middle else set(others)
-    wanted |= {it for name in others if name not in wanted for it in below[name]}
+    rest = [name for name in others if name not in wanted]
+    top = top_of(below, rest)
+    stretches = [name for name in others if name in wanted], [name for name in rest if name not in top], top
     shared = set().union(*(stood_on(below, name) for name in others)) & tower
-    return Plan(below, [name for name in first if name in shared], [name for name in first if name in tower - shared],
-                [name for name in others if name in wanted], middle, [name for name in others if name not in wanted], row)
+    return Plan(below, [name for name in first if name in shared], [name for name in first if name in tower - shared], middle,
+                [names for names in stretches if names], row)
 
 
 def build_folder(program):
@@ -283,13 +290,8 @@ def has_library(folder, name):
     return os.path.isfile(os.path.join(folder, "crates", name, "out", "rlib", "stamp"))
 
 
-def top_of(below, names):
-    """Those of the crates that no other of them stands on."""
-    return [name for name in names if not any(name in below[it] for it in names)]
-
-
 class Lane(threading.Thread):
-    """Proves, in the folder beside the tower's, what is wanted soon, then what is wanted late, and makes their libraries."""
+    """Proves the others, in the folder beside the tower's, and makes their libraries."""
 
     def __init__(self, folder, crates, steps, jobs, log, progress):
         super().__init__()
@@ -309,10 +311,11 @@ class Lane(threading.Thread):
                 or prove_row(self.folder, top_of(self.steps.below, names), None, *self.how))
 
     def run(self):
-        shared, wanted, late = self.steps.shared, self.steps.wanted, self.steps.late
-        for names, listed in ((wanted, shared), (late, shared + wanted)):
-            if names and not any(self.statuses):
+        listed = list(self.steps.shared)
+        for names in self.steps.stretches:
+            if not any(self.statuses):
                 self.statuses.append(self.take(names, listed))
+                listed += names
 
     def wait_for(self, names):
         """Waits until these crates are proved and have their libraries. Answers whether they have."""
@@ -328,9 +331,9 @@ class Lane(threading.Thread):
 
 def prove_middle(folder, crates, steps, lane, jobs, log, progress):
     """Proves the middle, each of its crates once all that it stands on is there. Answers the status."""
-    there = steps.shared + steps.tower
+    there, others = steps.shared + steps.tower, sum(steps.stretches, [])
     for name in steps.middle:
-        needed = [it for it in steps.wanted + steps.late if it in stood_on(steps.below, name) and it not in there]
+        needed = [it for it in others if it in stood_on(steps.below, name) and it not in there]
         if not lane.wait_for(needed):
             return 0
         copy_crates(needed, lane.folder, folder)
@@ -367,9 +370,10 @@ def build(program, folder, jobs, log):
     if not status and steps.tower:
         status = prove_beside(folder, crates, steps, jobs, log, progress)
     elif not status:
-        move(steps.wanted, waiting(folder), folder)
-        list_crates(folder, {name: crates[name] for name in steps.wanted})
-        status = prove(folder, steps.wanted, jobs, log, progress)
+        others = sum(steps.stretches, [])
+        move(others, waiting(folder), folder)
+        list_crates(folder, {name: crates[name] for name in others})
+        status = prove(folder, others, jobs, log, progress)
     bring_back(folder)
     list_crates(folder, crates)
     return status or prove_row(folder, steps.row, program, jobs, log, progress)
