@@ -330,7 +330,8 @@ class Lane(threading.Thread):
 
 
 def prove_middle(folder, crates, steps, lane, jobs, log, progress):
-    """Proves the middle, each of its crates once all that it stands on is there. Answers the status."""
+    """Proves the middle, each of its crates once all that it stands on is there. With one job a crate takes the least of the processors
+    that the others want; beside the last one nothing is left to prove. Answers the status."""
     there, others = steps.shared + steps.tower, sum(steps.stretches, [])
     for name in steps.middle:
         needed = [it for it in others if it in stood_on(steps.below, name) and it not in there]
@@ -340,7 +341,7 @@ def prove_middle(folder, crates, steps, lane, jobs, log, progress):
         move([name], waiting(folder), folder)
         there = there + needed + [name]
         list_crates(folder, {it: crates[it] for it in there})
-        status = prove_row(folder, [name], None, jobs, log, progress)
+        status = prove_row(folder, [name], None, jobs if name == steps.middle[-1] else 1, log, progress)
         if status:
             return status
     return 0
