@@ -45,11 +45,14 @@ fn after_pass(
     Ok(passed)
 }
 
-/// Which events a pass over a row's graph has had, which is asserted to end with a best matching.
-fn tally_of(rt: &impl Abort, alloc: Global, row: &Row, trees_stay: bool) -> Result<Tally, Fail> {
+/// Which events passes over the graphs of rows have had together: which of several events of one moment comes
+/// first is free. Each pass is asserted to end with a best matching.
+fn tally_of(rt: &impl Abort, alloc: Global, rows: &[Row], trees_stay: bool) -> Result<Tally, Fail> {
     let mut tally = Tally::new();
-    let passed = after_pass(rt, alloc, row, trees_stay, &mut tally)?;
-    assert!(rt; passed.is_some(), "{}", row.0);
+    for row in rows {
+        let passed = after_pass(rt, alloc, row, trees_stay, &mut tally)?;
+        assert!(rt; passed.is_some(), "{}", row.0);
+    }
     Ok(tally)
 }
 
@@ -118,24 +121,18 @@ fn two_triangles_apart_leave_the_forest_stuck(rt: HostRuntime) -> Result<(), Fai
 
 #[test]
 fn passes_with_each_event_end_with_a_best_matching(rt: HostRuntime) -> Result<(), Fail> {
-    for row in &ALL_EVENTS {
-        let anew = tally_of(&rt, rt.alloc(), row, false)?;
-        let staying = tally_of(&rt, rt.alloc(), row, true)?;
-        assert!(rt; anew.has_all() && staying.has_all(), "{}", row.0);
+    for trees_stay in [false, true] {
+        let tally = tally_of(&rt, rt.alloc(), ALL_EVENTS.as_slice(), trees_stay)?;
+        assert!(rt; tally.has_all());
     }
     Ok(())
 }
 
 #[test]
 fn blossoms_in_blossoms_are_expanded_one_by_one(rt: HostRuntime) -> Result<(), Fail> {
-    for row in &DEEP_BLOSSOMS {
-        let anew = tally_of(&rt, rt.alloc(), row, false)?;
-        let staying = tally_of(&rt, rt.alloc(), row, true)?;
-        assert!(rt;
-            anew.nests_expanded >= 3 && staying.nests_expanded >= 3,
-            "{}",
-            row.0
-        );
+    for trees_stay in [false, true] {
+        let tally = tally_of(&rt, rt.alloc(), DEEP_BLOSSOMS.as_slice(), trees_stay)?;
+        assert!(rt; tally.nests_expanded >= 9);
     }
     Ok(())
 }
