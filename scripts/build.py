@@ -3,7 +3,7 @@
 
 Usage: build.py PROGRAM [--jobs N]. The lowest crates, on which nearly all others stand, come one after the other with all jobs of the prover. Then the tower of crates below the search's engine,
 which is high and narrow, and the crates above it are proved in one folder, and all others beside them in another, since builds in one folder wait for each other: first those that solve_kinds stands on,
-then those of the rest that others stand on, then the others. Each crate above the engine begins once all that it stands on is there; the program itself comes last. The crates are built in a copy of their sources in the user's cache folder (XDG_CACHE_HOME, else
+then the rest one by one. Each crate above the engine begins once all that it stands on is there; the program itself comes last. The crates are built in a copy of their sources in the user's cache folder (XDG_CACHE_HOME, else
 ~/.cache), since `rt all` takes every crate of the folder that it is called in, tests and benches too. What a crate's own folder has
 proved already is taken along. A line a crate goes to standard error, with its number and the time so far. Where it is interrupted,
 a later call goes on with what is left. The program is put into crates/PROGRAM/out. The status is 0, or that of the command that
@@ -104,9 +104,10 @@ def plan(below):
     middle, row = row[:-1], row[-1:]
     others = [name for name in first if name not in tower and name not in middle + row]
     wanted = stood_on(below, LONGEST) if LONGEST in middle else set(others)
-    rest = [name for name in others if name not in wanted]
-    top = top_of(below, rest)
-    stretches = [name for name in others if name in wanted], [name for name in rest if name not in top], top
+    stretches = [[name for name in others if name in wanted]]
+    # The rest one by one, in the order of those that wait for them, so that each has all processors that are free.
+    for name in middle + row:
+        stretches += [[it] for it in others if it in stood_on(below, name) and [it] not in stretches and it not in wanted]
     shared = set().union(*(stood_on(below, name) for name in others)) & tower
     return Plan(below, [name for name in first if name in shared], [name for name in first if name in tower - shared], middle,
                 [names for names in stretches if names], row)
