@@ -3,7 +3,7 @@
 
 Usage: build.py PROGRAM [--jobs N]. The lowest crates, on which nearly all others stand, come one after the other with all jobs of the prover. Then the tower of crates below the search's engine,
 which is high and narrow, and the crates above it are proved in one folder, and all others beside them in another, since builds in one folder wait for each other: first those that solve_kinds stands on,
-then the rest one by one. Each crate above the engine begins once all that it stands on is there; the program itself comes last. The crates are built in a copy of their sources in the user's cache folder (XDG_CACHE_HOME, else
+then the rest. Each crate above the engine begins once all that it stands on is there; the program itself comes last. The crates are built in a copy of their sources in the user's cache folder (XDG_CACHE_HOME, else
 ~/.cache), since `rt all` takes every crate of the folder that it is called in, tests and benches too. What a crate's own folder has
 proved already is taken along. A line a crate goes to standard error, with its number and the time so far. Where it is interrupted,
 a later call goes on with what is left. The program is put into crates/PROGRAM/out. The status is 0, or that of the command that
@@ -104,10 +104,8 @@ def plan(below):
     middle, row = row[:-1], row[-1:]
     others = [name for name in first if name not in tower and name not in middle + row]
     wanted = stood_on(below, LONGEST) if LONGEST in middle else set(others)
-    stretches = [[name for name in others if name in wanted]]
-    # The rest one by one, in the order of those that wait for them, so that each has all processors that are free.
-    for name in middle + row:
-        stretches += [[it] for it in others if it in stood_on(below, name) and [it] not in stretches and it not in wanted]
+    # The rest is proved side by side: one by one with all jobs, or in more stretches, it took longer.
+    stretches = [name for name in others if name in wanted], [name for name in others if name not in wanted]
     shared = set().union(*(stood_on(below, name) for name in others)) & tower
     return Plan(below, [name for name in first if name in shared], [name for name in first if name in tower - shared], middle,
                 [names for names in stretches if names], row)
@@ -331,8 +329,7 @@ class Lane(threading.Thread):
 
 
 def prove_middle(folder, crates, steps, lane, jobs, log, progress):
-    """Proves the middle, each of its crates once all that it stands on is there. With one job a crate takes the least of the processors
-    that the others want; beside the last one nothing is left to prove. Answers the status."""
+    """Proves the middle, each of its crates once all that it stands on is there. Answers the status."""
     there, others = steps.shared + steps.tower, sum(steps.stretches, [])
     for name in steps.middle:
         needed = [it for it in others if it in stood_on(steps.below, name) and it not in there]
@@ -342,7 +339,7 @@ def prove_middle(folder, crates, steps, lane, jobs, log, progress):
         move([name], waiting(folder), folder)
         there = there + needed + [name]
         list_crates(folder, {it: crates[it] for it in there})
-        status = prove_row(folder, [name], None, jobs if name == steps.middle[-1] else 1, log, progress)
+        status = prove_row(folder, [name], None, jobs, log, progress)
         if status:
             return status
     return 0
