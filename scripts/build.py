@@ -2,8 +2,8 @@
 """Builds a program of this repository, several crates at a time: the crates that it stands on and no others, each proved first.
 
 Usage: build.py PROGRAM [--jobs N]. The lowest crates, on which nearly all others stand, come one after the other with all jobs of the prover. Then the tower of crates below the search's engine,
-which is high and narrow, and the crates above it are proved in one folder, and all others beside them in another, since builds in one folder wait for each other: first those that solve_kinds stands on,
-then the rest. Each crate above the engine begins once all that it stands on is there; the program itself comes last. The crates are built in a copy of their sources in the user's cache folder (XDG_CACHE_HOME, else
+which is high and narrow, and the crates above it are proved in one folder, and all others beside them in another, since builds in one folder wait for each other: first those that solve_kinds and cert_check
+stand on, then the rest. Each crate above the engine begins once all that it stands on is there; the program itself comes last. The crates are built in a copy of their sources in the user's cache folder (XDG_CACHE_HOME, else
 ~/.cache), since `rt all` takes every crate of the folder that it is called in, tests and benches too. What a crate's own folder has
 proved already is taken along. A line a crate goes to standard error, with its number and the time so far. Where it is interrupted,
 a later call goes on with what is left. The program is put into crates/PROGRAM/out. The status is 0, or that of the command that
@@ -26,13 +26,13 @@ TRIAL = (["check", "perfect"], b"p edge 0 0\ns OPTIMAL perfect 0\n")
 PARTS = ("src", "specs", "proofs")
 # The crate whose tower is proved beside all others.
 ENGINE = "mwpm_engine"
-# The crate above the engine that takes longest: what it stands on is wanted first.
-LONGEST = "solve_kinds"
+# The crates above the engine and beside it that take longest: what they stand on is wanted first.
+LONGEST = ("solve_kinds", "cert_check")
 # What is proved first, with all jobs; the tower above it; the middle, a row above the tower; beside both, the others, one stretch of them
 # after the other; and the last row. What each stands on is with it.
 Plan = collections.namedtuple("Plan", "below shared tower middle stretches row")
 LAST_LINES = 30
-# All wait for the tower and the middle, so what is proved beside them takes the processors' time that these leave.
+# All wait for the tower, so what is proved beside it first takes the processors' time that it leaves.
 BEHIND = 10
 # How often a copy is tried where a library is just being written, and how many seconds pass between two looks for one.
 TRIES = 20
@@ -103,7 +103,7 @@ def plan(below):
     row = [name for name in first if name not in tower and ENGINE in stood_on(below, name)] + row
     middle, row = row[:-1], row[-1:]
     others = [name for name in first if name not in tower and name not in middle + row]
-    wanted = stood_on(below, LONGEST) if LONGEST in middle else set(others)
+    wanted = set().union(*(stood_on(below, name) - {name} for name in LONGEST if name in below)) or set(others)
     # The rest is proved side by side: one by one with all jobs, or in more stretches, it took longer.
     stretches = [name for name in others if name in wanted], [name for name in others if name not in wanted]
     shared = set().union(*(stood_on(below, name) for name in others)) & tower
@@ -295,25 +295,25 @@ class Lane(threading.Thread):
     def __init__(self, folder, crates, steps, jobs, log, progress):
         super().__init__()
         self.main, self.folder, self.crates, self.steps, self.statuses = folder, beside(folder), crates, steps, []
-        self.how = jobs, log, progress, BEHIND
+        self.how = jobs, log, progress
         copy_crates(steps.shared, folder, self.folder)
         shutil.copyfile(os.path.join(folder, "HANDLES"), os.path.join(self.folder, "HANDLES"))
 
-    def take(self, names, listed):
+    def take(self, names, listed, behind):
         """Proves these crates: first the lowest, if it is one, since it has all jobs then."""
         level = levels(self.steps.below)
         lowest = [name for name in names if level[name] == min(level[it] for it in names)]
         move(names, waiting(self.main), self.folder)
         list_crates(self.folder, {name: self.crates[name] for name in listed + names})
-        return ((len(lowest) == 1 and prove_row(self.folder, lowest, None, *self.how))
-                or prove(self.folder, names, *self.how)
-                or prove_row(self.folder, top_of(self.steps.below, names), None, *self.how))
+        return ((len(lowest) == 1 and prove_row(self.folder, lowest, None, *self.how, behind))
+                or prove(self.folder, names, *self.how, behind)
+                or prove_row(self.folder, top_of(self.steps.below, names), None, *self.how, behind))
 
     def run(self):
         listed = list(self.steps.shared)
-        for names in self.steps.stretches:
+        for behind, names in zip([BEHIND] + [0] * len(self.steps.stretches), self.steps.stretches):
             if not any(self.statuses):
-                self.statuses.append(self.take(names, listed))
+                self.statuses.append(self.take(names, listed, behind))
                 listed += names
 
     def wait_for(self, names):

@@ -31,9 +31,9 @@ use Rattle.match_cli.specs.Answers.{instance_part, document_part, document_line,
 use Rattle.match_cli.specs.Runs.{IsAnswer, EndsLine, IsAccepted, IsAcceptedAgain}
 use Rattle.match_cli.proofs.CommandLines.{check_named}
 use Rattle.match_cli.proofs.InputParts.{rows-both, after-both, instance-alone, instance-before}
-use Rattle.trial_run.proofs.Renumbering.{renumbered, text_holds}
-use Rattle.trial_run.proofs.ProvedAgain.{kept}
-use Rattle.trial_run.proofs.SameClaims.{proved-lines, truth-lines}
+use Rattle.match_cli.proofs.Renumbering.{renumbered, text_holds}
+use Rattle.match_cli.proofs.ProvedAgain.{kept}
+use Rattle.match_cli.proofs.SameClaims.{proved-lines, truth-lines}
 
 formed : (d : Document) → IsFormed d
 formed d = record { vertices_ascend = d.form.vertices_ascend; forms_where_none = λ other. forms-where_none d.status d.kind _ d.form.letters other }

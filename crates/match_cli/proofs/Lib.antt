@@ -1,3 +1,8 @@
+pub mod Renumbering
+pub mod KeptNumbers
+pub mod SameClaims
+pub mod OneDocument
+pub mod ProvedAgain
 pub mod Checks
 pub mod CommandLines
 pub mod Prepares

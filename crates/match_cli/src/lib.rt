@@ -15,6 +15,7 @@ mod solve;
 mod status;
 mod top;
 mod trial;
+mod trials;
 mod verdict;
 
 pub use limits::{CHECK_BYTE_LIMIT, SOLVE_BYTE_LIMIT};

@@ -14,6 +14,7 @@ ghost use Rattle.match_cli.specs.Trying.{trial_text, IsTried, DecidesTrial};
 use crate::answer::{Answer, line_of_size};
 use crate::refusal::{is_within_limits, too_large};
 use crate::status::Status;
+use crate::trials::{Trial, try_instance};
 use crate::verdict::judged;
 use command_words::Command;
 use doc_format::{DocStatus, Document};
@@ -23,7 +24,6 @@ use mb_base::{OutOfMemory, Steps};
 use mb_problem::{EDGE_LIMIT, Instance, Kind, VERTEX_LIMIT, gadget_size};
 use std::alloc::Global;
 use std::sync::ledger::Ledger;
-use trial_run::{Trial, try_instance};
 
 /// The first line of a document.
 fn statement(alloc: Global, document: &Document) -> Result<Vec<u8>, OutOfMemory>

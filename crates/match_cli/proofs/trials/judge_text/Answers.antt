@@ -6,8 +6,8 @@ use Rattle.doc_format.specs.Reading.{HoldsDocument, Reads}
 use Rattle.doc_format.specs.Spelling.{document_text}
 use Rattle.doc_format.specs.Law.{GivesAgain}
 use Rattle.doc_format.proofs.WholeBack.{reads_back}
-use Rattle.trial_run.proofs.ProvedAgain.{proved_again}
-use Rattle.trial_run.proofs.trial.judge_text.Goals as goal
+use Rattle.match_cli.proofs.ProvedAgain.{proved_again}
+use Rattle.match_cli.proofs.trials.judge_text.Goals as goal
 
 pub returns-in-Ok : goal.returns-in-Ok
 returns-in-Ok c =

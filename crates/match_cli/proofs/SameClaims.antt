@@ -31,7 +31,7 @@ use Rattle.certificates.specs.Claims.{numbers, count_of, walk_of, answer_by, ans
 use Rattle.certificates.specs.Ranges.{is_dual, Checked, checked_count, checked_walk, checked_dual, checked_set, checked_members, listed, checked_lines, first_fault, first_out_of_range}
 use Rattle.certificates.specs.Certificates.{HasBarrierFor, HasPartFor, HasNegativeCircuit}
 use Rattle.certificates.specs.Proved.{ProvesOptimal, ProvesByStatus, IsProved, StatesTruthBy, StatesTruth}
-use Rattle.trial_run.proofs.Renumbering.{count_lines, dual_lines, set_lines, walk_line, member_line, lines_of, renumbered}
+use Rattle.match_cli.proofs.Renumbering.{count_lines, dual_lines, set_lines, walk_line, member_line, lines_of, renumbered}
 
 -- ---- the same numbers are in range
 

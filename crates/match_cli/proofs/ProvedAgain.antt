@@ -26,10 +26,10 @@ use Rattle.certificates.specs.Proved.{ProvesOptimal, ProvesByStatus, IsProved}
 use Rattle.certificates.proofs.GadgetLemmas.{few_vertices}
 use Rattle.certificates.proofs.WithinLemmas.{are-within}
 use Rattle.solve_kinds.specs.declared.limits.TheConstants.{DOCUMENT_BYTE_LIMIT}
-use Rattle.trial_run.proofs.Renumbering.{renumbered, text_holds}
-use Rattle.trial_run.proofs.KeptNumbers.{kept_numbers}
-use Rattle.trial_run.proofs.SameClaims.{proved-lines}
-use Rattle.trial_run.proofs.OneDocument.{one_document}
+use Rattle.match_cli.proofs.Renumbering.{renumbered, text_holds}
+use Rattle.match_cli.proofs.KeptNumbers.{kept_numbers}
+use Rattle.match_cli.proofs.SameClaims.{proved-lines}
+use Rattle.match_cli.proofs.OneDocument.{one_document}
 
 -- a document by its first line, its body and the proof of its form
 abbrev formed : (h : Head) (b : Body) → IsDocument h.status h.kind h.weight b → Document

@@ -2,8 +2,8 @@ use Rattle.std.proofs.Common.{◌≡◌, subst}
 use Rattle.mb_problem.specs.declared.kind.Kind.{Kind}
 use Rattle.mb_problem.specs.declared.kind.Kind.TheVariants.{Path}
 use Rattle.dimacs_read.specs.Ready.{IsReady}
-use Rattle.trial_run.proofs.ProvedAgain.{kept}
-use Rattle.trial_run.proofs.trial.try_instance.Goals as goal
+use Rattle.match_cli.proofs.ProvedAgain.{kept}
+use Rattle.match_cli.proofs.trials.try_instance.Goals as goal
 
 pub solve-requires-clause-ends : goal.solve-requires-clause-ends
 solve-requires-clause-ends g c = λ is. (let path : IsReady Path c.args.instance.now = subst (λ (k : Kind). IsReady k c.args.instance.now) is c.requires.ready in (path.s, path.t, path.ends))
