@@ -5,7 +5,7 @@ use Rattle.std.proofs.lemmas.Bool.{cases_eq, cases_lt, cases_Bool, ltb-true}
 use Rattle.std.proofs.lemmas.List.{get_or-set_same, get_or-set_other, get_or-map, length-map, length-set, get_or_past, set-get_or}
 use Rattle.edge_queue.specs.declared.entry.Entry.{Entry}
 use Rattle.edge_queue.specs.declared.heap.IndexedHeap.TheInside.{Inside}
-use Rattle.edge_queue.specs.Heaps.{blank, absent, entry_at, slot_at, key, held, AreTables, IsPlaceOf, IsHeap, IsHeapBut, IsRising, IsMended}
+use Rattle.edge_queue.specs.Heaps.{blank, absent, entry_at, slot_at, key, held, AreTables, IsPlaceOf, IsHeap, IsHeapBut, IsMended}
 use Rattle.edge_queue.specs.Slots.{IsLeastSlot}
 use Rattle.edge_queue.specs.Fields.{entries_of, IsSound}
 use Rattle.edge_queue.proofs.Orders.{le_by, le_chain, root_least}
@@ -176,13 +176,6 @@ module _ (heap : List Entry) (places : List ℕ) (count : ℕ) (entry : Entry) (
   old_key : (i : ℕ) → i ≢ count → key (set heap count entry) i ≡ key heap i
   old_key i ne = key_by (entry_at (set heap count entry) i) (entry_at heap i) (old_entry i ne)
 
-  pub added_order : IsHeap (key heap) count → IsRising (key (set heap count entry)) count (count + 1)
-  added_order h = record {
-    others = λ p k a b c ne. le_by (key (set heap count entry) p) (key heap p) (key (set heap count entry) k) (key heap k)
-        (old_key p (λ e. absurd (omega (arith, a, c, e)))) (old_key k ne) (h.order p k a b (omega arith));
-    around = λ k low a b c. absurd (omega (arith, a, c, low));
-  }
-
   pub added_entries : (last_heap : List Entry) (last_places : List ℕ) → IsMended (set heap count entry) (set places entry.slot count) last_heap last_places (count + 1)
       → map (held (count + 1) last_heap) last_places ≡ set (map (held count heap) places) entry.slot (Some entry.moment)
   added_entries last_heap last_places d =
@@ -202,9 +195,9 @@ module _ (heap : List Entry) (places : List ℕ) (count : ℕ) (entry : Entry) (
       ∙ sym (held_there count heap (get_or places s 0) low))
       (λ (high : count ≤ get_or places s 0).
       let past : length heap ≤ get_or places s 0 = ⊎_elim
-          (λ (inside : get_or places s 0 < length heap). absurd (omega (arith, high, t.inverse.spots s s_in inside)))
-          (λ (outside : length heap ≤ get_or places s 0). outside)
-          (cases_lt (get_or places s 0) (length heap)) in
+      (λ (inside : get_or places s 0 < length heap). absurd (omega (arith, high, t.inverse.spots s s_in inside)))
+      (λ (outside : length heap ≤ get_or places s 0). outside)
+      (cases_lt (get_or places s 0) (length heap)) in
       held_absent (count + 1) (set heap count entry) (get_or places s 0) (omega (arith, past, room)) ∙ sym (held_absent count heap (get_or places s 0) high))
       (cases_lt (get_or places s 0) count))
 

@@ -44,8 +44,8 @@ fn keeps(entry: &Entry, moment: i64, turn: Turn) -> bool
 /// moments by slot.
 #[derive(Drop)]
 pub(crate) struct IndexedHeap {
-    // First the entries of the slots that have a moment, so many, in heap order, and behind them room for the
-    // others; and by slot the place of its entry.
+    // The first so many entries are those of the slots that have a moment, in heap order; behind them is room for
+    // the others. By slot there is the place of its entry, or a number past all places.
     heap: Vec<Entry>,
     places: Vec<u32>,
     count: usize,
@@ -136,7 +136,7 @@ impl IndexedHeap {
         settle(&mut self.heap, &mut self.places, self.count, place, last);
     }
 
-    /// Takes all moments away.
+    /// Takes all moments away, in time linear in the slots.
     pub(crate) fn clear(&mut self)
         ensures { self.new ≡ replicate (length self.old) None }
     {

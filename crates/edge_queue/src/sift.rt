@@ -28,13 +28,7 @@ pub(crate) fn rise(
 }
 
 /// Puts an entry at a place that is free, or below it, where it stands before its children.
-fn sink(
-    heap: &mut Vec<Entry>,
-    places: &mut Vec<u32>,
-    count: usize,
-    start: usize,
-    entry: Entry,
-)
+fn sink(heap: &mut Vec<Entry>, places: &mut Vec<u32>, count: usize, start: usize, entry: Entry)
     requires tables { AreTables (slice_set heap.old.items start entry) (slice_set places.old.items entry.slot start) count }
     requires start { start < count }
     requires order { IsSinking (key (slice_set heap.old.items start entry)) start count }
