@@ -1,20 +1,24 @@
 -- What a slot that comes, goes or gets another moment leaves of a heap.
-use Rattle.std.proofs.Common.{◌≡◌, ℕ, ◌+◌, ◌-◌, ◌/◌, ◌<◌, ◌≤◌, ◌≢◌, nat_lt, true, false, cond, List, length, get_or, set, map, sym, ap, ◌∙◌, subst, ⊎_elim, arith, Option, Some, None}
+use Rattle.std.proofs.Common.{◌≡◌, ℕ, ◌+◌, ◌-◌, ◌/◌, ◌<◌, ◌≤◌, ◌≢◌, nat_lt, true, false, cond, List, length, get_or, set, map, refl, sym, ap, ◌∙◌, subst, ⊎_elim, arith, Option, Some, None}
 use Rattle.std.specs.Prelude.{ℤ, ◌≤ℤ◌}
 use Rattle.std.proofs.lemmas.Bool.{cases_eq, cases_lt, cases_Bool, ltb-true}
 use Rattle.std.proofs.lemmas.List.{get_or-set_same, get_or-set_other, get_or-map, length-map, length-set, get_or_past, set-get_or}
 use Rattle.edge_queue.specs.declared.entry.Entry.{Entry}
 use Rattle.edge_queue.specs.declared.heap.IndexedHeap.TheInside.{Inside}
-use Rattle.edge_queue.specs.Heaps.{blank, entry_at, slot_at, key, held, IsInverse, AreTables, IsHeap, IsHeapBut, IsMended, IsEntered}
+use Rattle.edge_queue.specs.Heaps.{blank, absent, entry_at, slot_at, key, held, AreTables, IsPlaceOf, IsHeap, IsHeapBut, IsMended}
 use Rattle.edge_queue.specs.Slots.{IsLeastSlot}
 use Rattle.edge_queue.specs.Fields.{entries_of, IsSound}
 use Rattle.edge_queue.proofs.Orders.{le_by, le_chain, root_least}
-use Rattle.edge_queue.proofs.Exchanges.{slot_by, key_by, held_there, held_absent, held_by, IsExchanged, inverse_exchanged}
+use Rattle.edge_queue.proofs.Exchanges.{slot_by, key_by, held_there, held_absent, held_by, one_place, not_at}
 use Rattle.edge_queue.proofs.Entries.{entries_written}
+use Rattle.edge_queue.proofs.Pigeonholes.{less_by_one}
 
 -- a slot for each place
 pub slots_long : (a : Inside) (xs : List (Option ℤ)) → IsSound a → entries_of a ≡ xs → length xs ≡ length a.heap.items
 slots_long a xs s is = omega (arith, ap length is, length-map a.places.items (held a.count a.heap.items), s.tables.inverse.sizes)
+
+pub slot_within : (a : Inside) (xs : List (Option ℤ)) (slot : ℕ) → IsSound a → entries_of a ≡ xs → slot < length xs → slot < length a.heap.items
+slot_within a xs slot s is h = omega (arith, h, slots_long a xs s is)
 
 -- other keys as in a heap
 pub heap_but : (f g : ℕ → ℤ) (j n m : ℕ) → ((i : ℕ) → i < m → i ≢ j → (i < n) × (g i ≡ f i)) → IsHeap f n → IsHeapBut g j m
@@ -28,143 +32,386 @@ heap_but f g j n m like h = record {
       (le_chain (f up) (f j) (f k) (h.order up j (omega arith) (omega arith) (omega (arith, here.0))) (h.order j k a b here.0));
 }
 
-pub heap_front : (f g : ℕ → ℤ) (n m : ℕ) → ((i : ℕ) → i < m → (i < n) × (g i ≡ f i)) → IsHeap f n → IsHeap g m
-heap_front f g n m like h = record {
-  order = λ p k a b c. le_by (g p) (f p) (g k) (f k) (like p (omega arith)).1 (like k c).1 (h.order p k a b (like k c).0);
-}
+-- what is held at a place other than the last
+held_less : (last count : ℕ) (heap : List Entry) (p : ℕ) → last + 1 ≡ count → p ≢ last → held last heap p ≡ held count heap p
+held_less last count heap p one_less ne =
+    ⊎_elim
+    (λ (low : p < last). held_there last heap p low ∙ sym (held_there count heap p (omega (arith, low, one_less))))
+    (λ (high : last ≤ p). held_absent last heap p high ∙ sym (held_absent count heap p (omega (arith, high, ne, one_less))))
+    (cases_lt p last)
 
--- an entry that another one of its slot takes the place of
-module _ (heap : List Entry) (places : List ℕ) (p : ℕ) (entry : Entry) (v : IsInverse heap places) (within : p < length heap) (own : entry.slot ≡ slot_at heap p) where
+-- a slot that gets another moment: an entry is put at its place
+module _ (heap : List Entry) (places : List ℕ) (count p : ℕ) (entry : Entry) (t : AreTables heap places count) (slot_in : entry.slot < length heap) (here : IsPlaceOf places count entry.slot p) where
+  p_in : p < length heap
+  p_in = omega (arith, here.within, t.few)
+
+  own : entry.slot ≡ slot_at heap p
+  own = sym (ap (λ k. slot_at heap k) here.place ∙ t.inverse.back entry.slot slot_in (omega (arith, here.place, here.within)))
+
+  size : length (set heap p entry) ≡ length heap
+  size = length-set heap p entry
+
+  same_places : set places entry.slot p ≡ places
+  same_places = ap (λ k. set places entry.slot k) here.place ∙ set-get_or places entry.slot 0
+
   same_slot : (i : ℕ) → slot_at (set heap p entry) i ≡ slot_at heap i
   same_slot i =
       ⊎_elim
-      (λ (e : i ≡ p). ap (λ k. slot_at (set heap p entry) k) e ∙ slot_by (entry_at (set heap p entry) p) entry (get_or-set_same heap p entry blank within) ∙ own ∙ ap (λ k. slot_at heap k) (sym e))
+      (λ (e : i ≡ p). ap (λ k. slot_at (set heap p entry) k) e ∙ slot_by (entry_at (set heap p entry) p) entry (get_or-set_same heap p entry blank p_in) ∙ own ∙ ap (λ k. slot_at heap k) (sym e))
       (λ (ne : i ≢ p). slot_by (entry_at (set heap p entry) i) (entry_at heap i) (get_or-set_other heap p i entry blank ne))
       (cases_eq i p)
 
-  pub inverse_replaced : IsInverse (set heap p entry) places
-  inverse_replaced =
-      let size : length (set heap p entry) ≡ length heap = length-set heap p entry in
-      record {
-        sizes = v.sizes ∙ sym size;
-        slots = λ i h. omega (arith, same_slot i, size, v.slots i (omega (arith, h, size)));
-        there = λ i h. ap (λ k. get_or places k 0) (same_slot i) ∙ v.there i (omega (arith, h, size));
-        spots = λ s h. omega (arith, size, v.spots s (omega (arith, h, size)));
-        back = λ s h. same_slot (get_or places s 0) ∙ v.back s (omega (arith, h, size));
-      }
+  pub given_tables : AreTables (set heap p entry) (set places entry.slot p) count
+  given_tables = subst (λ l. AreTables (set heap p entry) l count) (sym same_places) (record {
+    inverse = record {
+      sizes = t.inverse.sizes ∙ sym size;
+      slots = λ i h. omega (arith, same_slot i, size, t.inverse.slots i h);
+      there = λ i h. ap (λ k. get_or places k 0) (same_slot i) ∙ t.inverse.there i h;
+      spots = λ s h l. t.inverse.spots s (omega (arith, h, size)) (omega (arith, l, size));
+      back = λ s h l. same_slot (get_or places s 0) ∙ t.inverse.back s (omega (arith, h, size)) l;
+    };
+    few = omega (arith, size, t.few);
+    small = omega (arith, size, t.small);
+  })
 
--- a slot that gets a moment: it is among the first places, and its entry is written there
-module _ (heap : List Entry) (places : List ℕ) (new_heap : List Entry) (new_places : List ℕ) (count new_count : ℕ) (entry : Entry) (t : AreTables heap places count) (e : IsEntered heap places new_heap new_places count new_count entry.slot) (within : entry.slot < length heap) where
-  spot_in : get_or new_places entry.slot 0 < length new_heap
-  spot_in = omega (arith, e.among, e.few, e.size)
-
-  own : entry.slot ≡ slot_at new_heap (get_or new_places entry.slot 0)
-  own = sym (e.inverse.back entry.slot (omega (arith, within, e.size)))
-
-  pub entered_tables : AreTables (set new_heap (get_or new_places entry.slot 0) entry) new_places new_count
-  entered_tables =
-      let size : length (set new_heap (get_or new_places entry.slot 0) entry) ≡ length new_heap = length-set new_heap (get_or new_places entry.slot 0) entry in
-      record {
-        inverse = inverse_replaced new_heap new_places (get_or new_places entry.slot 0) entry e.inverse spot_in own;
-        few = omega (arith, e.few, e.size, size);
-        small = omega (arith, e.size, size, t.small);
-      }
-
-  pub entered_order : IsHeap (key heap) count → IsHeapBut (key (set new_heap (get_or new_places entry.slot 0) entry)) (get_or new_places entry.slot 0) new_count
-  entered_order h = heap_but (key heap) (key (set new_heap (get_or new_places entry.slot 0) entry)) (get_or new_places entry.slot 0) count new_count
-      (λ i p ne.
-      let in_heap : i < length new_heap = omega (arith, p, e.few, e.size) in
-      let other : slot_at new_heap i ≢ entry.slot = λ s. ne (sym (e.inverse.there i in_heap) ∙ ap (λ k. get_or new_places k 0) s) in
-      let was = e.others i p other in
-      (was.0, key_by (entry_at (set new_heap (get_or new_places entry.slot 0) entry) i) (entry_at new_heap i) (get_or-set_other new_heap (get_or new_places entry.slot 0) i entry blank ne) ∙ was.1))
+  pub given_order : IsHeap (key heap) count → IsHeapBut (key (set heap p entry)) p count
+  given_order h = heap_but (key heap) (key (set heap p entry)) p count count
+      (λ i l ne. (l, key_by (entry_at (set heap p entry) i) (entry_at heap i) (get_or-set_other heap p i entry blank ne)))
       h
 
-  pub entered_entries : (last_heap : List Entry) (last_places : List ℕ) → IsMended (set new_heap (get_or new_places entry.slot 0) entry) new_places last_heap last_places new_count
-      → map (held new_count last_heap) last_places ≡ set (map (held count heap) places) entry.slot (Some entry.moment)
-  entered_entries last_heap last_places d =
-      let size : length (set new_heap (get_or new_places entry.slot 0) entry) ≡ length new_heap = length-set new_heap (get_or new_places entry.slot 0) entry in
-      let long : length last_heap ≡ length heap = d.size ∙ size ∙ e.size in
-      entries_written (held count heap) (held new_count last_heap) places last_places entry.slot (Some entry.moment)
-      (d.tables.inverse.sizes ∙ long ∙ sym t.inverse.sizes) (omega (arith, within, t.inverse.sizes))
-      (d.same entry.slot (omega (arith, within, long))
-      ∙ held_there new_count (set new_heap (get_or new_places entry.slot 0) entry) (get_or new_places entry.slot 0) e.among
-      ∙ ap (λ (z : Entry). Some z.moment) (get_or-set_same new_heap (get_or new_places entry.slot 0) entry blank spot_in))
+  pub given_entries : (last_heap : List Entry) (last_places : List ℕ) → IsMended (set heap p entry) (set places entry.slot p) last_heap last_places count
+      → map (held count last_heap) last_places ≡ set (map (held count heap) places) entry.slot (Some entry.moment)
+  given_entries last_heap last_places d =
+      entries_written (held count heap) (held count last_heap) places last_places entry.slot (Some entry.moment)
+      (d.tables.inverse.sizes ∙ d.size ∙ size ∙ sym t.inverse.sizes) (omega (arith, slot_in, t.inverse.sizes))
+      (d.same entry.slot (omega (arith, slot_in, d.size, size))
+      ∙ ap (λ k. held count (set heap p entry) k) (get_or-set_same places entry.slot p 0 (omega (arith, slot_in, t.inverse.sizes)))
+      ∙ held_there count (set heap p entry) p here.within
+      ∙ ap (λ (z : Entry). Some z.moment) (get_or-set_same heap p entry blank p_in))
       (λ s ne h.
       let s_in : s < length heap = omega (arith, h, t.inverse.sizes) in
-      let elsewhere : get_or new_places s 0 ≢ get_or new_places entry.slot 0 = λ q. ne (sym (e.inverse.back s (omega (arith, s_in, e.size))) ∙ ap (λ k. slot_at new_heap k) q ∙ sym own) in
-      d.same s (omega (arith, s_in, long))
-      ∙ held_by new_count new_heap (set new_heap (get_or new_places entry.slot 0) entry) (get_or new_places s 0) (get_or-set_other new_heap (get_or new_places entry.slot 0) (get_or new_places s 0) entry blank elsewhere)
-      ∙ e.same s ne s_in)
+      let elsewhere : get_or places s 0 ≢ p = not_at heap places count s p t.inverse here.within s_in (λ q. ne (q ∙ sym own)) in
+      d.same s (omega (arith, s_in, d.size, size))
+      ∙ ap (λ k. held count (set heap p entry) k) (get_or-set_other places entry.slot s p 0 ne)
+      ∙ held_by count heap (set heap p entry) (get_or places s 0) (get_or-set_other heap p (get_or places s 0) entry blank elsewhere))
 
--- a slot that goes: it changes places with the last one
-module _ (heap : List Entry) (places : List ℕ) (new_heap : List Entry) (new_places : List ℕ) (count last slot : ℕ) (t : AreTables heap places count) (one_less : last + 1 ≡ count) (within : slot < length heap) (here : get_or places slot 0 < count) (x : IsExchanged heap places new_heap new_places (get_or places slot 0) last) where
-  place_in : get_or places slot 0 < length heap
-  place_in = omega (arith, here, t.few)
+-- a slot that gets a moment and had none: its entry is put behind the others
+module _ (heap : List Entry) (places : List ℕ) (count : ℕ) (entry : Entry) (t : AreTables heap places count) (slot_in : entry.slot < length heap) (behind : count ≤ get_or places entry.slot 0) where
+  other_slots : (i : ℕ) → i < count → slot_at heap i ≢ entry.slot
+  other_slots i p q = absurd (omega (arith, p, behind, t.inverse.there i p, ap (λ k. get_or places k 0) q))
 
-  last_in : last < length heap
-  last_in = omega (arith, one_less, t.few)
+  pub room : count < length heap
+  room = less_by_one (slot_at heap) (λ s. get_or places s 0) count (length heap) entry.slot
+      (record { within = t.inverse.slots; undone = t.inverse.there }) slot_in other_slots
 
-  pub left_tables : AreTables new_heap new_places last
-  left_tables = record {
-    inverse = inverse_exchanged heap places new_heap new_places (get_or places slot 0) last t.inverse place_in last_in x;
-    few = omega (arith, last_in, x.size);
-    small = omega (arith, x.size, t.small);
+  new_size : length (set heap count entry) ≡ length heap
+  new_size = length-set heap count entry
+
+  new_sizes : length (set places entry.slot count) ≡ length places
+  new_sizes = length-set places entry.slot count
+
+  last_entry : entry_at (set heap count entry) count ≡ entry
+  last_entry = get_or-set_same heap count entry blank room
+
+  last_slot : slot_at (set heap count entry) count ≡ entry.slot
+  last_slot = slot_by (entry_at (set heap count entry) count) entry last_entry
+
+  old_entry : (i : ℕ) → i ≢ count → entry_at (set heap count entry) i ≡ entry_at heap i
+  old_entry i ne = get_or-set_other heap count i entry blank ne
+
+  old_slot : (i : ℕ) → i ≢ count → slot_at (set heap count entry) i ≡ slot_at heap i
+  old_slot i ne = slot_by (entry_at (set heap count entry) i) (entry_at heap i) (old_entry i ne)
+
+  new_place : (s : ℕ) → s ≡ entry.slot → get_or (set places entry.slot count) s 0 ≡ count
+  new_place s e = ap (λ k. get_or (set places entry.slot count) k 0) e ∙ get_or-set_same places entry.slot count 0 (omega (arith, slot_in, t.inverse.sizes))
+
+  old_place : (s : ℕ) → s ≢ entry.slot → get_or (set places entry.slot count) s 0 ≡ get_or places s 0
+  old_place s ne = get_or-set_other places entry.slot s count 0 ne
+
+  added_slots : (i : ℕ) → i < count + 1 → slot_at (set heap count entry) i < length (set heap count entry)
+  added_slots i p =
+      ⊎_elim
+      (λ (e : i ≡ count). let is : slot_at (set heap count entry) i ≡ entry.slot = ap (λ k. slot_at (set heap count entry) k) e ∙ last_slot in omega (arith, is, slot_in, new_size))
+      (λ (ne : i ≢ count). omega (arith, old_slot i ne, t.inverse.slots i (omega arith), new_size))
+      (cases_eq i count)
+
+  added_there : (i : ℕ) → i < count + 1 → get_or (set places entry.slot count) (slot_at (set heap count entry) i) 0 ≡ i
+  added_there i p =
+      ⊎_elim
+      (λ (e : i ≡ count). new_place (slot_at (set heap count entry) i) (ap (λ k. slot_at (set heap count entry) k) e ∙ last_slot) ∙ sym e)
+      (λ (ne : i ≢ count).
+      let low : i < count = omega arith in
+      ap (λ k. get_or (set places entry.slot count) k 0) (old_slot i ne) ∙ old_place (slot_at heap i) (other_slots i low) ∙ t.inverse.there i low)
+      (cases_eq i count)
+
+  added_spots : (s : ℕ) → s < length heap → get_or (set places entry.slot count) s 0 < length heap → get_or (set places entry.slot count) s 0 < count + 1
+  added_spots s p h =
+      ⊎_elim
+      (λ (e : s ≡ entry.slot). omega (arith, new_place s e))
+      (λ (ne : s ≢ entry.slot). omega (arith, old_place s ne, t.inverse.spots s p (omega (arith, h, old_place s ne))))
+      (cases_eq s entry.slot)
+
+  added_back : (s : ℕ) → s < length heap → get_or (set places entry.slot count) s 0 < count + 1 → slot_at (set heap count entry) (get_or (set places entry.slot count) s 0) ≡ s
+  added_back s p h =
+      ⊎_elim
+      (λ (e : s ≡ entry.slot). ap (λ k. slot_at (set heap count entry) k) (new_place s e) ∙ last_slot ∙ sym e)
+      (λ (ne : s ≢ entry.slot).
+      let low : get_or places s 0 < count = t.inverse.spots s p (omega (arith, h, room, old_place s ne)) in
+      ap (λ k. slot_at (set heap count entry) k) (old_place s ne) ∙ old_slot (get_or places s 0) (λ q. absurd (omega (arith, low, q))) ∙ t.inverse.back s p low)
+      (cases_eq s entry.slot)
+
+  pub added_tables : AreTables (set heap count entry) (set places entry.slot count) (count + 1)
+  added_tables = record {
+    inverse = record {
+      sizes = new_sizes ∙ t.inverse.sizes ∙ sym new_size;
+      slots = added_slots;
+      there = added_there;
+      spots = λ s p h. added_spots s (omega (arith, p, new_size)) (omega (arith, h, new_size));
+      back = λ s p h. added_back s (omega (arith, p, new_size)) h;
+    };
+    few = omega (arith, room, new_size);
+    small = omega (arith, new_size, t.small);
   }
 
-  key_kept : (i : ℕ) → i ≢ get_or places slot 0 → i ≢ last → key new_heap i ≡ key heap i
-  key_kept i p q = key_by (entry_at new_heap i) (entry_at heap i) (x.others i p q)
+  old_key : (i : ℕ) → i ≢ count → key (set heap count entry) i ≡ key heap i
+  old_key i ne = key_by (entry_at (set heap count entry) i) (entry_at heap i) (old_entry i ne)
 
-  pub left_order : IsHeap (key heap) count → IsHeapBut (key new_heap) (get_or places slot 0) last
-  left_order h = heap_but (key heap) (key new_heap) (get_or places slot 0) count last
-      (λ i p ne. (omega (arith, p, one_less), key_kept i ne (λ e. absurd (omega arith))))
-      h
-
-  pub left_heap : get_or places slot 0 ≡ last → IsHeap (key heap) count → IsHeap (key new_heap) last
-  left_heap is h = heap_front (key heap) (key new_heap) count last
-      (λ i p. (omega (arith, p, one_less), key_kept i (λ e. absurd (omega (arith, is))) (λ e. absurd (omega arith))))
-      h
-
-  slot_there : slot_at heap (get_or places slot 0) ≡ slot
-  slot_there = t.inverse.back slot within
-
-  left_same : (s : ℕ) → s ≢ slot → s < length heap → held last new_heap (get_or new_places s 0) ≡ held count heap (get_or places s 0)
-  left_same s ne h =
-      ⊎_elim
-      (λ (e : s ≡ slot_at heap last).
-      let was : get_or places s 0 ≡ last = ap (λ k. get_or places k 0) e ∙ t.inverse.there last last_in in
-      let is : get_or new_places s 0 ≡ get_or places slot 0 = ap (λ k. get_or new_places k 0) e ∙ x.first_place in
-      let moved : get_or places slot 0 ≢ last = λ q. ne (e ∙ ap (λ k. slot_at heap k) (sym q) ∙ slot_there) in
-      ap (λ k. held last new_heap k) is ∙ held_there last new_heap (get_or places slot 0) (omega (arith, moved, here, one_less))
-      ∙ ap (λ (z : Entry). Some z.moment) x.first
-      ∙ sym (ap (λ k. held count heap k) was ∙ held_there count heap last (omega (arith, one_less))))
-      (λ (no : s ≢ slot_at heap last).
-      let is : get_or new_places s 0 ≡ get_or places s 0 = x.other_places s (λ q. ne (q ∙ slot_there)) no in
-      let kept : get_or places s 0 ≢ last = λ q. no (sym (t.inverse.back s h) ∙ ap (λ k. slot_at heap k) q) in
-      let elsewhere : get_or places s 0 ≢ get_or places slot 0 = λ q. ne (sym (t.inverse.back s h) ∙ ap (λ k. slot_at heap k) q ∙ slot_there) in
-      ap (λ k. held last new_heap k) is
-      ∙ ⊎_elim
-      (λ (low : get_or places s 0 < last). held_there last new_heap (get_or places s 0) low
-      ∙ ap (λ (m : ℤ). Some m) (key_kept (get_or places s 0) elsewhere kept)
-      ∙ sym (held_there count heap (get_or places s 0) (omega (arith, low, one_less))))
-      (λ (high : last ≤ get_or places s 0). held_absent last new_heap (get_or places s 0) high ∙ sym (held_absent count heap (get_or places s 0) (omega (arith, high, kept, one_less))))
-      (cases_lt (get_or places s 0) last))
-      (cases_eq s (slot_at heap last))
-
-  pub left_entries : (last_heap : List Entry) (last_places : List ℕ) → length last_places ≡ length places → ((s : ℕ) → s < length heap → held last last_heap (get_or last_places s 0) ≡ held last new_heap (get_or new_places s 0))
-      → map (held last last_heap) last_places ≡ set (map (held count heap) places) slot None
-  left_entries last_heap last_places long same =
-      let gone : get_or new_places slot 0 ≡ last = ap (λ k. get_or new_places k 0) (sym slot_there) ∙ x.second_place in
-      entries_written (held count heap) (held last last_heap) places last_places slot None long (omega (arith, within, t.inverse.sizes))
-      (same slot within ∙ held_absent last new_heap (get_or new_places slot 0) (omega (arith, gone)))
+  pub added_entries : (last_heap : List Entry) (last_places : List ℕ) → IsMended (set heap count entry) (set places entry.slot count) last_heap last_places (count + 1)
+      → map (held (count + 1) last_heap) last_places ≡ set (map (held count heap) places) entry.slot (Some entry.moment)
+  added_entries last_heap last_places d =
+      entries_written (held count heap) (held (count + 1) last_heap) places last_places entry.slot (Some entry.moment)
+      (d.tables.inverse.sizes ∙ d.size ∙ new_size ∙ sym t.inverse.sizes) (omega (arith, slot_in, t.inverse.sizes))
+      (d.same entry.slot (omega (arith, slot_in, d.size, new_size))
+      ∙ ap (λ k. held (count + 1) (set heap count entry) k) (new_place entry.slot refl)
+      ∙ held_there (count + 1) (set heap count entry) count (omega arith)
+      ∙ ap (λ (z : Entry). Some z.moment) last_entry)
       (λ s ne h.
       let s_in : s < length heap = omega (arith, h, t.inverse.sizes) in
-      same s s_in ∙ left_same s ne s_in)
+      d.same s (omega (arith, s_in, d.size, new_size))
+      ∙ ap (λ k. held (count + 1) (set heap count entry) k) (old_place s ne)
+      ∙ ⊎_elim
+      (λ (low : get_or places s 0 < count). held_there (count + 1) (set heap count entry) (get_or places s 0) (omega (arith, low))
+      ∙ ap (λ (m : ℤ). Some m) (old_key (get_or places s 0) (λ e. absurd (omega (arith, low, e))))
+      ∙ sym (held_there count heap (get_or places s 0) low))
+      (λ (high : count ≤ get_or places s 0).
+      let past : length heap ≤ get_or places s 0 = ⊎_elim
+      (λ (inside : get_or places s 0 < length heap). absurd (omega (arith, high, t.inverse.spots s s_in inside)))
+      (λ (outside : length heap ≤ get_or places s 0). outside)
+      (cases_lt (get_or places s 0) (length heap)) in
+      held_absent (count + 1) (set heap count entry) (get_or places s 0) (omega (arith, past, room)) ∙ sym (held_absent count heap (get_or places s 0) high))
+      (cases_lt (get_or places s 0) count))
+
+-- a slot whose moment is taken away
+module _ (heap : List Entry) (places : List ℕ) (count last slot p : ℕ) (t : AreTables heap places count) (one_less : last + 1 ≡ count) (slot_in : slot < length heap) (here : IsPlaceOf places count slot p) where
+  slot_there : slot_at heap p ≡ slot
+  slot_there = ap (λ k. slot_at heap k) here.place ∙ t.inverse.back slot slot_in (omega (arith, here.place, here.within))
+
+  last_in : last < count
+  last_in = omega (arith, one_less)
+
+  last_room : last < length heap
+  last_room = omega (arith, last_in, t.few)
+
+  far : length heap ≤ absent
+  far = omega (arith, t.small)
+
+  gone : (s : ℕ) → s ≡ slot → get_or (set places slot absent) s 0 ≡ absent
+  gone s e = ap (λ k. get_or (set places slot absent) k 0) e ∙ get_or-set_same places slot absent 0 (omega (arith, slot_in, t.inverse.sizes))
+
+  kept : (s : ℕ) → s ≢ slot → get_or (set places slot absent) s 0 ≡ get_or places s 0
+  kept s ne = get_or-set_other places slot s absent 0 ne
+
+  -- other places have other slots
+  apart : (i : ℕ) → i < count → i ≢ p → slot_at heap i ≢ slot
+  apart i l ne q = ne (one_place heap places count i p t.inverse l here.within (q ∙ sym slot_there))
+
+  -- other slots have other places
+  elsewhere : (s : ℕ) → s < length heap → s ≢ slot → get_or places s 0 ≢ p
+  elsewhere s l ne = not_at heap places count s p t.inverse here.within l (λ q. ne (q ∙ slot_there))
+
+  gone_size : length (set places slot absent) ≡ length heap
+  gone_size = length-set places slot absent ∙ t.inverse.sizes
+
+  -- where it was the last one, the others stay where they are
+  pub dropped_tables : p ≡ last → AreTables heap (set places slot absent) last
+  dropped_tables is = record {
+    inverse = record {
+      sizes = gone_size;
+      slots = λ i l. t.inverse.slots i (omega (arith, l, last_in));
+      there = λ i l.
+          let low : i < count = omega (arith, l, last_in) in
+          kept (slot_at heap i) (apart i low (λ q. absurd (omega (arith, l, q, is)))) ∙ t.inverse.there i low;
+      spots = λ s l h. ⊎_elim
+          (λ (e : s ≡ slot). absurd (omega (arith, h, far, gone s e)))
+          (λ (ne : s ≢ slot).
+          let other : get_or places s 0 ≢ p = elsewhere s l ne in
+          omega (arith, kept s ne, other, is, one_less, t.inverse.spots s l (omega (arith, h, kept s ne))))
+          (cases_eq s slot);
+      back = λ s l h. ⊎_elim
+          (λ (e : s ≡ slot). absurd (omega (arith, h, far, last_room, gone s e)))
+          (λ (ne : s ≢ slot). ap (λ k. slot_at heap k) (kept s ne) ∙ t.inverse.back s l (omega (arith, h, last_in, kept s ne)))
+          (cases_eq s slot);
+    };
+    few = omega (arith, last_in, t.few);
+    small = t.small;
+  }
+
+  pub dropped_order : IsHeap (key heap) count → IsHeap (key heap) last
+  dropped_order h = record { order = λ a b l m n. h.order a b l m (omega (arith, n, last_in)) }
+
+  pub dropped_entries : p ≡ last → map (held last heap) (set places slot absent) ≡ set (map (held count heap) places) slot None
+  dropped_entries is =
+      entries_written (held count heap) (held last heap) places (set places slot absent) slot None
+      (length-set places slot absent) (omega (arith, slot_in, t.inverse.sizes))
+      (ap (λ k. held last heap k) (gone slot refl) ∙ held_absent last heap absent (omega (arith, far, last_room)))
+      (λ s ne h.
+      let other : get_or places s 0 ≢ p = elsewhere s (omega (arith, h, t.inverse.sizes)) ne in
+      ap (λ k. held last heap k) (kept s ne)
+      ∙ held_less last count heap (get_or places s 0) one_less (λ q. other (q ∙ sym is)))
+
+  -- else the last one takes its place
+  module _ (entry : Entry) (read : entry ≡ entry_at heap last) (ne_last : p ≢ last) where
+    moved_slot : entry.slot ≡ slot_at heap last
+    moved_slot = slot_by entry (entry_at heap last) read
+
+    moved_in : entry.slot < length heap
+    moved_in = omega (arith, moved_slot, t.inverse.slots last last_in)
+
+    other_slot : entry.slot ≢ slot
+    other_slot q = apart last last_in (λ e. ne_last (sym e)) (sym moved_slot ∙ q)
+
+    p_low : p < last
+    p_low = omega (arith, ne_last, here.within, one_less)
+
+    left_size : length (set heap p entry) ≡ length heap
+    left_size = length-set heap p entry
+
+    left_sizes : length (set (set places slot absent) entry.slot p) ≡ length heap
+    left_sizes = length-set (set places slot absent) entry.slot p ∙ gone_size
+
+    moved_entry : entry_at (set heap p entry) p ≡ entry
+    moved_entry = get_or-set_same heap p entry blank (omega (arith, here.within, t.few))
+
+    kept_entry : (i : ℕ) → i ≢ p → entry_at (set heap p entry) i ≡ entry_at heap i
+    kept_entry i ne = get_or-set_other heap p i entry blank ne
+
+    kept_slot : (i : ℕ) → i ≢ p → slot_at (set heap p entry) i ≡ slot_at heap i
+    kept_slot i ne = slot_by (entry_at (set heap p entry) i) (entry_at heap i) (kept_entry i ne)
+
+    moved_place : (s : ℕ) → s ≡ entry.slot → get_or (set (set places slot absent) entry.slot p) s 0 ≡ p
+    moved_place s e = ap (λ k. get_or (set (set places slot absent) entry.slot p) k 0) e ∙ get_or-set_same (set places slot absent) entry.slot p 0 (omega (arith, moved_in, gone_size))
+
+    gone_place : (s : ℕ) → s ≡ slot → get_or (set (set places slot absent) entry.slot p) s 0 ≡ absent
+    gone_place s e = get_or-set_other (set places slot absent) entry.slot s p 0 (λ q. other_slot (sym q ∙ e)) ∙ gone s e
+
+    kept_place : (s : ℕ) → s ≢ entry.slot → s ≢ slot → get_or (set (set places slot absent) entry.slot p) s 0 ≡ get_or places s 0
+    kept_place s ne other = get_or-set_other (set places slot absent) entry.slot s p 0 ne ∙ kept s other
+
+    -- a slot that is neither stands before the last place or nowhere
+    not_last : (s : ℕ) → s < length heap → s ≢ entry.slot → get_or places s 0 ≢ last
+    not_last s l ne = not_at heap places count s last t.inverse last_in l (λ q. ne (q ∙ sym moved_slot))
+
+    left_slots : (i : ℕ) → i < last → slot_at (set heap p entry) i < length heap
+    left_slots i l =
+        ⊎_elim
+        (λ (e : i ≡ p). let is : slot_at (set heap p entry) i ≡ entry.slot = ap (λ k. slot_at (set heap p entry) k) e ∙ slot_by (entry_at (set heap p entry) p) entry moved_entry in omega (arith, is, moved_in))
+        (λ (ne : i ≢ p). omega (arith, kept_slot i ne, t.inverse.slots i (omega (arith, l, last_in))))
+        (cases_eq i p)
+
+    left_there : (i : ℕ) → i < last → get_or (set (set places slot absent) entry.slot p) (slot_at (set heap p entry) i) 0 ≡ i
+    left_there i l =
+        ⊎_elim
+        (λ (e : i ≡ p). moved_place (slot_at (set heap p entry) i) (ap (λ k. slot_at (set heap p entry) k) e ∙ slot_by (entry_at (set heap p entry) p) entry moved_entry) ∙ sym e)
+        (λ (ne : i ≢ p).
+        let low : i < count = omega (arith, l, last_in) in
+        ap (λ k. get_or (set (set places slot absent) entry.slot p) k 0) (kept_slot i ne)
+        ∙ kept_place (slot_at heap i)
+        (λ q. let same : i ≡ last = one_place heap places count i last t.inverse low last_in (q ∙ moved_slot) in absurd (omega (arith, l, same)))
+        (apart i low ne)
+        ∙ t.inverse.there i low)
+        (cases_eq i p)
+
+    left_spots : (s : ℕ) → s < length heap → get_or (set (set places slot absent) entry.slot p) s 0 < length heap → get_or (set (set places slot absent) entry.slot p) s 0 < last
+    left_spots s l h =
+        ⊎_elim
+        (λ (e : s ≡ entry.slot). omega (arith, moved_place s e, p_low))
+        (λ (ne : s ≢ entry.slot). ⊎_elim
+        (λ (e : s ≡ slot). absurd (omega (arith, h, far, gone_place s e)))
+        (λ (no : s ≢ slot).
+        let other : get_or places s 0 ≢ last = not_last s l ne in
+        omega (arith, kept_place s ne no, other, one_less, t.inverse.spots s l (omega (arith, h, kept_place s ne no))))
+        (cases_eq s slot))
+        (cases_eq s entry.slot)
+
+    left_back : (s : ℕ) → s < length heap → get_or (set (set places slot absent) entry.slot p) s 0 < last → slot_at (set heap p entry) (get_or (set (set places slot absent) entry.slot p) s 0) ≡ s
+    left_back s l h =
+        ⊎_elim
+        (λ (e : s ≡ entry.slot). ap (λ k. slot_at (set heap p entry) k) (moved_place s e) ∙ slot_by (entry_at (set heap p entry) p) entry moved_entry ∙ sym e)
+        (λ (ne : s ≢ entry.slot). ⊎_elim
+        (λ (e : s ≡ slot). absurd (omega (arith, h, far, last_room, gone_place s e)))
+        (λ (no : s ≢ slot). ap (λ k. slot_at (set heap p entry) k) (kept_place s ne no)
+        ∙ kept_slot (get_or places s 0) (elsewhere s l no)
+        ∙ t.inverse.back s l (omega (arith, h, last_in, kept_place s ne no)))
+        (cases_eq s slot))
+        (cases_eq s entry.slot)
+
+    pub left_tables : AreTables (set heap p entry) (set (set places slot absent) entry.slot p) last
+    left_tables = record {
+      inverse = record {
+        sizes = left_sizes ∙ sym left_size;
+        slots = λ i l. omega (arith, left_size, left_slots i l);
+        there = left_there;
+        spots = λ s l h. left_spots s (omega (arith, l, left_size)) (omega (arith, h, left_size));
+        back = λ s l h. left_back s (omega (arith, l, left_size)) h;
+      };
+      few = omega (arith, left_size, last_room);
+      small = omega (arith, left_size, t.small);
+    }
+
+    kept_key : (i : ℕ) → i ≢ p → key (set heap p entry) i ≡ key heap i
+    kept_key i ne = key_by (entry_at (set heap p entry) i) (entry_at heap i) (kept_entry i ne)
+
+    pub left_order : IsHeap (key heap) count → IsHeapBut (key (set heap p entry)) p last
+    left_order h = heap_but (key heap) (key (set heap p entry)) p count last
+        (λ i l ne. (omega (arith, l, last_in), kept_key i ne))
+        h
+
+    pub left_entries : (last_heap : List Entry) (last_places : List ℕ) → IsMended (set heap p entry) (set (set places slot absent) entry.slot p) last_heap last_places last
+        → map (held last last_heap) last_places ≡ set (map (held count heap) places) slot None
+    left_entries last_heap last_places d =
+        entries_written (held count heap) (held last last_heap) places last_places slot None
+        (d.tables.inverse.sizes ∙ d.size ∙ left_size ∙ sym t.inverse.sizes) (omega (arith, slot_in, t.inverse.sizes))
+        (d.same slot (omega (arith, slot_in, d.size, left_size))
+        ∙ ap (λ k. held last (set heap p entry) k) (gone_place slot refl)
+        ∙ held_absent last (set heap p entry) absent (omega (arith, far, last_room)))
+        (λ s no h.
+        let s_in : s < length heap = omega (arith, h, t.inverse.sizes) in
+        d.same s (omega (arith, s_in, d.size, left_size))
+        ∙ ⊎_elim
+        (λ (e : s ≡ entry.slot).
+        let was : get_or places s 0 ≡ last = ap (λ k. get_or places k 0) (e ∙ moved_slot) ∙ t.inverse.there last last_in in
+        ap (λ k. held last (set heap p entry) k) (moved_place s e)
+        ∙ held_there last (set heap p entry) p p_low
+        ∙ ap (λ (z : Entry). Some z.moment) (moved_entry ∙ read)
+        ∙ sym (ap (λ k. held count heap k) was ∙ held_there count heap last last_in))
+        (λ (ne : s ≢ entry.slot).
+        ap (λ k. held last (set heap p entry) k) (kept_place s ne no)
+        ∙ held_by last heap (set heap p entry) (get_or places s 0) (kept_entry (get_or places s 0) (elsewhere s s_in no))
+        ∙ held_less last count heap (get_or places s 0) one_less (not_last s s_in ne))
+        (cases_eq s entry.slot))
 
 -- a slot that isn't there
 pub absent_entries : (heap : List Entry) (places : List ℕ) (count slot : ℕ) → slot < length places → count ≤ get_or places slot 0 → map (held count heap) places ≡ set (map (held count heap) places) slot None
 absent_entries heap places count slot h over =
     let none : get_or (map (held count heap) places) slot None ≡ None = get_or-map (held count heap) places slot 0 None h ∙ held_absent count heap (get_or places slot 0) over in
     sym (ap (λ k. set (map (held count heap) places) slot k) (sym none) ∙ set-get_or (map (held count heap) places) slot None)
+
+-- a slot that has this moment already
+pub kept_entries : (heap : List Entry) (places : List ℕ) (count slot p : ℕ) (m : ℤ) → slot < length places → IsPlaceOf places count slot p → key heap p ≡ m → map (held count heap) places ≡ set (map (held count heap) places) slot (Some m)
+kept_entries heap places count slot p m h here is =
+    let there : get_or (map (held count heap) places) slot None ≡ Some m =
+    get_or-map (held count heap) places slot 0 None h ∙ ap (λ k. held count heap k) (sym here.place) ∙ held_there count heap p here.within ∙ ap (λ (z : ℤ). Some z) is in
+    sym (ap (λ k. set (map (held count heap) places) slot k) (sym there) ∙ set-get_or (map (held count heap) places) slot None)
 
 -- the least
 held_is : (count : ℕ) (heap : List Entry) (p : ℕ) (m : ℤ) → held count heap p ≡ Some m → (p < count) × (key heap p ≡ m)
@@ -187,9 +434,8 @@ no_least heap places count z = λ s.
 
 pub root_is_least : (heap : List Entry) (places : List ℕ) (count : ℕ) → AreTables heap places count → IsHeap (key heap) count → 0 < count → IsLeastSlot (map (held count heap) places) (Some (slot_at heap 0, key heap 0))
 root_is_least heap places count t h some =
-    let in_heap : 0 < length heap = omega (arith, some, t.few) in
-    let slot_in : slot_at heap 0 < length places = omega (arith, t.inverse.slots 0 in_heap, t.inverse.sizes) in (
-      get_or-map (held count heap) places (slot_at heap 0) 0 None slot_in ∙ ap (λ k. held count heap k) (t.inverse.there 0 in_heap) ∙ held_there count heap 0 some,
+    let slot_in : slot_at heap 0 < length places = omega (arith, t.inverse.slots 0 some, t.inverse.sizes) in (
+      get_or-map (held count heap) places (slot_at heap 0) 0 None slot_in ∙ ap (λ k. held count heap k) (t.inverse.there 0 some) ∙ held_there count heap 0 some,
       λ s m is. ⊎_elim
           (λ (low : s < length places).
           let there = held_is count heap (get_or places s 0) m (sym (get_or-map (held count heap) places s 0 None low) ∙ is) in

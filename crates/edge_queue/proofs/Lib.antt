@@ -1,4 +1,5 @@
 pub mod Orders
+pub mod Pigeonholes
 pub mod Exchanges
 pub mod Sifts
 pub mod Entries

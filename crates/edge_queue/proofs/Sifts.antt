@@ -1,6 +1,6 @@
 -- An entry on its way through a heap: the tables as they are once it is put at place j.
 use Rattle.std.proofs.Common.{◌≡◌, ℕ, ◌<◌, ◌≢◌, List, length, get_or, set, refl, sym, ap, ◌∙◌, subst, arith}
-use Rattle.std.proofs.lemmas.List.{get_or-set_same, get_or-set_other, length-set, set-get_or}
+use Rattle.std.proofs.lemmas.List.{get_or-set_same, get_or-set_other, length-set}
 use Rattle.edge_queue.specs.declared.entry.Entry.{Entry}
 use Rattle.edge_queue.specs.Heaps.{blank, entry_at, slot_at, key, held, IsInverse, AreTables, IsHeap, IsMended}
 use Rattle.edge_queue.proofs.Orders.{IsSwapped}
@@ -37,7 +37,7 @@ module _ (old_heap : List Entry) (old_places : List ℕ) (heap : List Entry) (pl
 
   pub other_in : slot_at heap p < length heap
   other_in =
-      let slots : slot_at (set heap j entry) p < length (set heap j entry) = s.tables.inverse.slots p (omega (arith, long, p_in)) in
+      let slots : slot_at (set heap j entry) p < length (set heap j entry) = s.tables.inverse.slots p within in
       omega (arith, long, slot_p, slots)
 
   pub places_long : length places ≡ length heap
@@ -52,7 +52,7 @@ module _ (old_heap : List Entry) (old_places : List ℕ) (heap : List Entry) (pl
     others = λ i a b. none_of_two blank heap j p (entry_at heap p) entry i a b ∙ sym (get_or-set_other heap j i entry blank a);
     first_place = ap (λ k. get_or (set (set places (slot_at heap p) j) entry.slot p) k 0) slot_p
         ∙ first_of_two 0 places (slot_at heap p) entry.slot j p (omega (arith, places_long, other_in))
-        (λ e. one_place (set heap j entry) (set places entry.slot j) j p s.tables.inverse (omega (arith, long, j_in)) (omega (arith, long, p_in)) (slot_j ∙ sym e ∙ sym slot_p));
+        (λ e. one_place (set heap j entry) (set places entry.slot j) count j p s.tables.inverse s.place within (slot_j ∙ sym e ∙ sym slot_p));
     second_place = ap (λ k. get_or (set (set places (slot_at heap p) j) entry.slot p) k 0) slot_j
         ∙ second_of_two 0 places (slot_at heap p) entry.slot j p (omega (arith, places_long, s.slot_in));
     other_places = λ i a b. none_of_two 0 places (slot_at heap p) entry.slot j p i (λ e. b (e ∙ sym slot_p)) (λ e. a (e ∙ sym slot_j))
@@ -62,16 +62,14 @@ module _ (old_heap : List Entry) (old_places : List ℕ) (heap : List Entry) (pl
   pub sift_steps : (above : Entry) (new_heap : List Entry) (new_places : List ℕ) → above ≡ entry_at heap p → new_heap ≡ set heap j above → new_places ≡ set places above.slot j
       → IsSifting old_heap old_places new_heap new_places count p entry
   sift_steps above new_heap new_places a h q =
-      let in_j : j < length (set heap j entry) = omega (arith, long, j_in) in
-      let in_p : p < length (set heap j entry) = omega (arith, long, p_in) in
       let heap_is : new_heap ≡ set heap j (entry_at heap p) = h ∙ ap (λ k. set heap j k) a in
       let places_is : new_places ≡ set places (slot_at heap p) j = q ∙ ap (λ k. set places k j) (slot_by above (entry_at heap p) a) in
       let size : length (set new_heap p entry) ≡ length (set heap j entry) = ap (λ l. length (set l p entry)) heap_is ∙ sift_exchanges.size in
       let new_long : length new_heap ≡ length heap = ap length heap_is ∙ length-set heap j (entry_at heap p) in
       record {
         tables = record {
-          inverse = subst (λ l. IsInverse (set l p entry) (set new_places entry.slot p)) (sym heap_is) (subst (λ l. IsInverse (set (set heap j (entry_at heap p)) p entry) (set l entry.slot p)) (sym places_is)
-              (inverse_exchanged (set heap j entry) (set places entry.slot j) (set (set heap j (entry_at heap p)) p entry) (set (set places (slot_at heap p) j) entry.slot p) j p s.tables.inverse in_j in_p sift_exchanges));
+          inverse = subst (λ l. IsInverse (set l p entry) (set new_places entry.slot p) count) (sym heap_is) (subst (λ l. IsInverse (set (set heap j (entry_at heap p)) p entry) (set l entry.slot p) count) (sym places_is)
+              (inverse_exchanged (set heap j entry) (set places entry.slot j) (set (set heap j (entry_at heap p)) p entry) (set (set places (slot_at heap p) j) entry.slot p) count j p s.tables.inverse s.place within sift_exchanges));
           few = omega (arith, size, s.tables.few);
           small = omega (arith, size, s.tables.small);
         };
@@ -82,7 +80,7 @@ module _ (old_heap : List Entry) (old_places : List ℕ) (heap : List Entry) (pl
             let i_in : i < length heap = omega (arith, low, new_long) in
             ap (λ l. held count (set l p entry) (get_or (set new_places entry.slot p) i 0)) heap_is
             ∙ ap (λ l. held count (set (set heap j (entry_at heap p)) p entry) (get_or (set l entry.slot p) i 0)) places_is
-            ∙ same_exchanged (set heap j entry) (set places entry.slot j) (set (set heap j (entry_at heap p)) p entry) (set (set places (slot_at heap p) j) entry.slot p) j p s.tables.inverse in_j in_p sift_exchanges count s.place within i (omega (arith, i_in, long))
+            ∙ same_exchanged (set heap j entry) (set places entry.slot j) (set (set heap j (entry_at heap p)) p entry) (set (set places (slot_at heap p) j) entry.slot p) count j p s.tables.inverse s.place within sift_exchanges i (omega (arith, i_in, long))
             ∙ s.same i i_in;
       }
 
@@ -102,23 +100,17 @@ module _ (old_heap : List Entry) (old_places : List ℕ) (heap : List Entry) (pl
   pub key_there : key (set heap j entry) p ≡ key heap p
   key_there = key_by (entry_at (set heap j entry) p) (entry_at heap p) at_p
 
--- an entry that is where it was
-pub unmoved : (heap : List Entry) (j : ℕ) (entry : Entry) → entry ≡ entry_at heap j → heap ≡ set heap j entry
-unmoved heap j entry is = sym (ap (λ e. set heap j e) is ∙ set-get_or heap j blank)
-
-pub sift_starts : (heap : List Entry) (places : List ℕ) (count j : ℕ) (entry : Entry) → AreTables heap places count → j < count → entry ≡ entry_at heap j → IsSifting heap places heap places count j entry
-sift_starts heap places count j entry t within is =
-    let j_in : j < length heap = omega (arith, within, t.few) in
-    let slot : entry.slot ≡ slot_at heap j = slot_by entry (entry_at heap j) is in
-    let heap_is : heap ≡ set heap j entry = unmoved heap j entry is in
-    let places_is : places ≡ set places entry.slot j =
-    sym (ap (λ k. set places entry.slot k) (sym (ap (λ k. get_or places k 0) slot ∙ t.inverse.there j j_in)) ∙ set-get_or places entry.slot 0) in
+-- an entry that sets out
+pub sift_starts : (heap : List Entry) (places : List ℕ) (count j : ℕ) (entry : Entry) → AreTables (set heap j entry) (set places entry.slot j) count → j < count → IsSifting (set heap j entry) (set places entry.slot j) heap places count j entry
+sift_starts heap places count j entry t within =
+    let long : length (set heap j entry) ≡ length heap = length-set heap j entry in
+    let at_start : entry_at (set heap j entry) j ≡ entry = get_or-set_same heap j entry blank (omega (arith, long, within, t.few)) in
     record {
-      tables = subst (λ h. AreTables h (set places entry.slot j) count) heap_is (subst (λ p. AreTables heap p count) places_is t);
+      tables = t;
       place = within;
-      slot_in = omega (arith, slot, t.inverse.slots j j_in);
-      size = refl;
-      same = λ s h. sym (ap (λ l. held count l (get_or places s 0)) heap_is ∙ ap (λ l. held count (set heap j entry) (get_or l s 0)) places_is);
+      slot_in = omega (arith, long, slot_by (entry_at (set heap j entry) j) entry at_start, t.inverse.slots j within);
+      size = sym long;
+      same = λ s h. refl;
     }
 
 -- an entry that has arrived

@@ -9,6 +9,10 @@ blank = record { moment = pos 0; age = 0; slot = 0 }
 abbrev pub entry_at : List Entry → ℕ → Entry
 entry_at heap i = slice_index_or heap i blank
 
+-- what stands for the place of a slot that has none
+abbrev pub absent : ℕ
+absent = 2 ^ 32 - 1
+
 -- the slot and the moment at a place of the heap
 abbrev pub slot_at : List Entry → ℕ → ℕ
 slot_at heap i = (slice_index_or heap i blank).slot
@@ -20,19 +24,24 @@ key heap i = (slice_index_or heap i blank).moment
 abbrev pub held : ℕ → List Entry → ℕ → Option ℤ
 held count heap p = if nat_lt p count then Some (key heap p) else None
 
--- each table undoes the other
-pub record IsInverse (heap : List Entry) (places : List ℕ) : Type 0 where
+-- each of the first so many entries is that of the slot which has its place there; a slot with none has a number past all places
+pub record IsInverse (heap : List Entry) (places : List ℕ) (count : ℕ) : Type 0 where
   pub sizes : length places ≡ length heap
-  pub slots : (i : ℕ) → i < length heap → slot_at heap i < length heap
-  pub there : (i : ℕ) → i < length heap → slice_index places (slot_at heap i) ≡ i
-  pub spots : (s : ℕ) → s < length heap → slice_index places s < length heap
-  pub back : (s : ℕ) → s < length heap → slot_at heap (slice_index places s) ≡ s
+  pub slots : (i : ℕ) → i < count → slot_at heap i < length heap
+  pub there : (i : ℕ) → i < count → slice_index places (slot_at heap i) ≡ i
+  pub spots : (s : ℕ) → s < length heap → slice_index places s < length heap → slice_index places s < count
+  pub back : (s : ℕ) → s < length heap → slice_index places s < count → slot_at heap (slice_index places s) ≡ s
 
--- the tables of a heap: there is a place in each for each slot, and the first so many places are the heap
+-- the tables of a heap, which the first so many entries are: there is room for an entry of each slot
 pub record AreTables (heap : List Entry) (places : List ℕ) (count : ℕ) : Type 0 where
-  pub inverse : IsInverse heap places
+  pub inverse : IsInverse heap places count
   pub few : count ≤ length heap
   pub small : length heap < 2 ^ 32
+
+-- a slot has this place, which is among the first so many
+pub record IsPlaceOf (places : List ℕ) (count slot p : ℕ) : Type 0 where
+  pub place : p ≡ slice_index places slot
+  pub within : p < count
 
 -- no child of the first n has a lesser key than its parent; the parent of place k is (k - 1) / 4
 pub record IsHeap (f : ℕ → ℤ) (n : ℕ) : Type 0 where
@@ -88,12 +97,3 @@ pub record IsMended (old_heap : List Entry) (old_places : List ℕ) (heap : List
   pub order : IsHeap (key heap) count
   pub size : length heap ≡ length old_heap
   pub same : (s : ℕ) → s < length heap → held count heap (slice_index places s) ≡ held count old_heap (slice_index old_places s)
-
--- a slot is among the first places, the others as before
-pub record IsEntered (heap : List Entry) (places : List ℕ) (new_heap : List Entry) (new_places : List ℕ) (count new_count slot : ℕ) : Type 0 where
-  pub inverse : IsInverse new_heap new_places
-  pub size : length new_heap ≡ length heap
-  pub few : new_count ≤ length heap
-  pub among : slice_index new_places slot < new_count
-  pub others : (i : ℕ) → i < new_count → slot_at new_heap i ≢ slot → (i < count) × (key new_heap i ≡ key heap i)
-  pub same : (s : ℕ) → s ≢ slot → s < length heap → held new_count new_heap (slice_index new_places s) ≡ held count heap (slice_index places s)

@@ -1,9 +1,9 @@
-ghost use Rattle.std.specs.Prelude.{◌≡◌, ◌<◌, ◌^◌, IfOk, Some, None, length, replicate, slice_index_or, slice_set, true};
+ghost use Rattle.std.specs.Prelude.{◌≡◌, ◌<◌, IfOk, Some, None, length, replicate, slice_index_or, slice_set, true};
 ghost use Rattle.edge_queue.specs.Slots.{IsLeastSlot};
 
 use crate::entry::Entry;
-use crate::sift::settle;
-use crate::tables::{enter, exchange, fresh_entries, numbers};
+use crate::sift::{rise, settle};
+use crate::tables::{fresh_entries, no_places, place_of, wipe_place, wipe_places};
 use crate::turn::Turn;
 use mb_base::OutOfMemory;
 use std::alloc::Global;
@@ -21,13 +21,31 @@ fn age_of(before: u32, turn: Turn) -> u32 {
     }
 }
 
+/// The age of the next entry that is set.
+fn take_age(next_age: &mut u32, turn: Turn) -> u32 {
+    let age = age_of(*next_age, turn);
+    *next_age = next_age.wrapping_add(1);
+    age
+}
+
+/// Whether an entry has this moment, and comes among those of the same moment when it is to.
+fn keeps(entry: &Entry, moment: i64, turn: Turn) -> bool
+    ensures { result ≡ true → entry.now.moment ≡ moment }
+{
+    match turn {
+        Turn::Early => entry.moment == moment && entry.age < LATE,
+        Turn::Late => entry.moment == moment,
+    }
+}
+
 /// An indexed heap of slots by their moments, in which an entry has up to four children; of equal moments
 /// those set early stand before all others, and then the one that was set first. Each entry has its moment and
 /// age with it, since the slots of entries that are compared lie far apart. Contracts see the list of the
 /// moments by slot.
 #[derive(Drop)]
 pub(crate) struct IndexedHeap {
-    // An entry of each slot, those of slots that have a moment first, in heap order, and by slot its place.
+    // The first so many entries are those of the slots that have a moment, in heap order; behind them is room for
+    // the others. By slot there is the place of its entry, or a number past all places.
     heap: Vec<Entry>,
     places: Vec<u32>,
     count: usize,
@@ -51,7 +69,7 @@ impl IndexedHeap {
         ensures { IfOk result (λ h. h ≡ replicate size None) }
     {
         let heap = fresh_entries(alloc, size)?;
-        let places = numbers(alloc, size)?;
+        let places = no_places(alloc, size)?;
         Ok(IndexedHeap {
             heap,
             places,
@@ -65,11 +83,8 @@ impl IndexedHeap {
         requires { slot < length self.now }
         ensures { result ≡ slice_index_or self.now slot None }
     {
-        let place = self.places[slot as usize] as usize;
-        if place < self.count {
-            return Some(self.heap[place].moment);
-        }
-        None
+        let place = place_of(&self.places, self.count, slot)?;
+        Some(self.heap[place].moment)
     }
 
     /// A slot whose moment is least, and its moment.
@@ -83,44 +98,25 @@ impl IndexedHeap {
         Some((entry.slot, entry.moment))
     }
 
-    /// Whether a slot that has a moment comes among those of the same moment when it is to.
-    fn comes_by(&self, slot: u32, turn: Turn) -> bool
-        requires { slot < length self.now }
-    {
-        let Some(entry) = self.heap.get(self.places[slot as usize] as usize) else {
-            return false;
-        };
-        match turn {
-            Turn::Early => entry.age < LATE,
-            Turn::Late => true,
-        }
-    }
-
-    /// Whether a slot has this moment, and comes early where it is to.
-    fn keeps(&self, slot: u32, moment: i64, turn: Turn) -> bool
-        requires { slot < length self.now }
-        ensures { result ≡ true → slice_index_or self.now slot None ≡ Some moment }
-    {
-        match self.moment(slot) {
-            Some(held) => held == moment && self.comes_by(slot, turn),
-            None => false,
-        }
-    }
-
     /// Gives a slot this moment. Where it has it already it keeps its age, unless it is to come early and doesn't.
     pub(crate) fn set(&mut self, slot: u32, moment: i64, turn: Turn)
         requires { slot < length self.old }
         ensures { self.new ≡ slice_set self.old slot (Some moment) }
     {
-        if self.keeps(slot, moment, turn) {
+        let Some(place) = place_of(&self.places, self.count, slot) else {
+            let age = take_age(&mut self.next_age, turn);
+            let entry = Entry { moment, age, slot };
+            let last = self.count;
+            self.count += 1;
+            rise(&mut self.heap, &mut self.places, self.count, last, entry);
+            return;
+        };
+        if keeps(&self.heap[place], moment, turn) {
             return;
         }
-        let age = age_of(self.next_age, turn);
-        self.next_age = self.next_age.wrapping_add(1);
-        self.count = enter(&mut self.heap, &mut self.places, self.count, slot);
-        let place = self.places[slot as usize] as usize;
-        self.heap[place] = Entry { moment, age, slot };
-        settle(&mut self.heap, &mut self.places, self.count, place);
+        let age = take_age(&mut self.next_age, turn);
+        let entry = Entry { moment, age, slot };
+        settle(&mut self.heap, &mut self.places, self.count, place, entry);
     }
 
     /// Takes the moment of a slot away.
@@ -128,22 +124,23 @@ impl IndexedHeap {
         requires { slot < length self.old }
         ensures { self.new ≡ slice_set self.old slot None }
     {
-        let place = self.places[slot as usize] as usize;
-        if place >= self.count {
+        let Some(place) = place_of(&self.places, self.count, slot) else {
             return;
-        }
+        };
+        wipe_place(&mut self.places, slot);
         self.count -= 1;
-        exchange(&mut self.heap, &mut self.places, place, self.count);
         if place == self.count {
             return;
         }
-        settle(&mut self.heap, &mut self.places, self.count, place);
+        let last = self.heap[self.count];
+        settle(&mut self.heap, &mut self.places, self.count, place, last);
     }
 
-    /// Takes all moments away.
+    /// Takes all moments away, in time linear in the slots.
     pub(crate) fn clear(&mut self)
         ensures { self.new ≡ replicate (length self.old) None }
     {
+        wipe_places(&mut self.places);
         self.count = 0;
     }
 }

@@ -83,7 +83,7 @@ impl EdgeQueue {
         self.heap.remove(slot);
     }
 
-    /// Takes all moments away, in constant time.
+    /// Takes all moments away, in time linear in the items.
     pub fn clear(&mut self)
         ensures { self.new ≡ no_moments (length self.old.edges) (length self.old.blossoms) }
     {

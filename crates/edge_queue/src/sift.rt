@@ -1,18 +1,23 @@
-ghost use Rattle.std.specs.Prelude.{◌≡◌, ℕ, ◌<◌, ◌≤◌, length, vec_len, slice_index};
+ghost use Rattle.std.specs.Prelude.{◌<◌, slice_set};
 ghost use Rattle.edge_queue.specs.Heaps.{key, AreTables, IsHeapBut, IsRising, IsSinking, IsMended};
 
 use crate::entry::Entry;
 use crate::order::{earlier_child, later_parent};
 use crate::tables::put;
 
-/// Moves the entry at a place up until its parent stands before it.
-fn rise(heap: &mut Vec<Entry>, places: &mut Vec<u32>, count: usize, start: usize)
-    requires tables { AreTables heap.old.items places.old.items count }
+/// Puts an entry at a place that is free, or above it, where its parent stands before it.
+pub(crate) fn rise(
+    heap: &mut Vec<Entry>,
+    places: &mut Vec<u32>,
+    count: usize,
+    start: usize,
+    entry: Entry,
+)
+    requires tables { AreTables (slice_set heap.old.items start entry) (slice_set places.old.items entry.slot start) count }
     requires start { start < count }
-    requires order { IsRising (key heap.old.items) start count }
-    ensures { IsMended heap.old.items places.old.items heap.new.items places.new.items count }
+    requires order { IsRising (key (slice_set heap.old.items start entry)) start count }
+    ensures { IsMended (slice_set heap.old.items start entry) (slice_set places.old.items entry.slot start) heap.new.items places.new.items count }
 {
-    let entry = heap[start];
     let mut place = start;
     while let Some(parent) = later_parent(heap, place, &entry) {
         let above = heap[parent];
@@ -22,14 +27,13 @@ fn rise(heap: &mut Vec<Entry>, places: &mut Vec<u32>, count: usize, start: usize
     put(heap, places, place, entry);
 }
 
-/// Moves the entry at a place down until it stands before its children.
-fn sink(heap: &mut Vec<Entry>, places: &mut Vec<u32>, count: usize, start: usize)
-    requires tables { AreTables heap.old.items places.old.items count }
+/// Puts an entry at a place that is free, or below it, where it stands before its children.
+fn sink(heap: &mut Vec<Entry>, places: &mut Vec<u32>, count: usize, start: usize, entry: Entry)
+    requires tables { AreTables (slice_set heap.old.items start entry) (slice_set places.old.items entry.slot start) count }
     requires start { start < count }
-    requires order { IsSinking (key heap.old.items) start count }
-    ensures { IsMended heap.old.items places.old.items heap.new.items places.new.items count }
+    requires order { IsSinking (key (slice_set heap.old.items start entry)) start count }
+    ensures { IsMended (slice_set heap.old.items start entry) (slice_set places.old.items entry.slot start) heap.new.items places.new.items count }
 {
-    let entry = heap[start];
     let mut place = start;
     while let Some(child) = earlier_child(heap, count, place, &entry) {
         let below = heap[child];
@@ -39,17 +43,22 @@ fn sink(heap: &mut Vec<Entry>, places: &mut Vec<u32>, count: usize, start: usize
     put(heap, places, place, entry);
 }
 
-/// Moves the entry at a place to where it belongs, where all others are in order.
-pub(crate) fn settle(heap: &mut Vec<Entry>, places: &mut Vec<u32>, count: usize, place: usize)
-    requires tables { AreTables heap.old.items places.old.items count }
+/// Puts an entry where it belongs: at a place that is free, above or below it, where all others are in order.
+pub(crate) fn settle(
+    heap: &mut Vec<Entry>,
+    places: &mut Vec<u32>,
+    count: usize,
+    place: usize,
+    entry: Entry,
+)
+    requires tables { AreTables (slice_set heap.old.items place entry) (slice_set places.old.items entry.slot place) count }
     requires place { place < count }
-    requires order { IsHeapBut (key heap.old.items) place count }
-    ensures { IsMended heap.old.items places.old.items heap.new.items places.new.items count }
+    requires order { IsHeapBut (key (slice_set heap.old.items place entry)) place count }
+    ensures { IsMended (slice_set heap.old.items place entry) (slice_set places.old.items entry.slot place) heap.new.items places.new.items count }
 {
-    let entry = heap[place];
     if let Some(_) = later_parent(heap, place, &entry) {
-        rise(heap, places, count, place);
+        rise(heap, places, count, place, entry);
         return;
     }
-    sink(heap, places, count, place);
+    sink(heap, places, count, place, entry);
 }

@@ -1,39 +1,34 @@
-use Rattle.std.proofs.Common.{◌≡◌, subst, arith, length, ◌<◌}
+use Rattle.std.proofs.Common.{◌≡◌, subst, arith, length, set, ◌<◌}
 use Rattle.std.proofs.lemmas.List.{get_or_read, length-set}
-use Rattle.edge_queue.specs.Heaps.{blank, entry_at, key, IsLaterParent, IsRising}
+use Rattle.edge_queue.specs.Heaps.{blank, entry_at, key, IsLaterParent}
 use Rattle.edge_queue.proofs.Moves.{rise_moves, other_slot_in}
-use Rattle.edge_queue.proofs.Sifts.{sift_starts, unmoved}
+use Rattle.edge_queue.proofs.Sifts.{sift_starts}
 use Rattle.edge_queue.proofs.sift.rise.Goals as goal
 
 pub loop-parent-preserved : goal.loop-parent-preserved
 loop-parent-preserved c =
     let l = c.loop-parent in
     let s = l.invariant.sifting in
-    let later = subst (λ h. IsLaterParent (key h) c.index.result.now.moment l.place c.in-Some.parent) c.deref.ensures.value c.in-Some.ensures.some in
-    let within : c.in-Some.parent < length l.heap.items = omega (arith, later.parent, later.below, s.place, s.tables.few, length-set l.heap.items l.place c.index.result.now) in
+    let later = subst (λ h. IsLaterParent (key h) c.args.entry.moment l.place c.in-Some.parent) c.deref.ensures.value c.in-Some.ensures.some in
+    let within : c.in-Some.parent < length l.heap.items = omega (arith, later.parent, later.below, s.place, s.tables.few, length-set l.heap.items l.place c.args.entry) in
     let above : c.index-above.result.now ≡ entry_at l.heap.items c.in-Some.parent = get_or_read l.heap.items c.in-Some.parent c.index-above.result.now within c.index-above.ensures blank in
-    let moved = rise_moves c.args.heap.now.items c.args.places.now.items l.heap.items l.places.items c.args.count l.place c.index.result.now s
+    let moved = rise_moves (set c.args.heap.now.items c.args.start c.args.entry) (set c.args.places.now.items c.args.entry.slot c.args.start) l.heap.items l.places.items c.args.count l.place c.args.entry s
     c.in-Some.parent c.index-above.result.now c.put.new.heap.items c.put.new.places.items later above c.put.ensures.heap c.put.ensures.places l.invariant.order in
     record { sifting = moved.0; order = moved.1 }
 
 pub loop-parent-init : goal.loop-parent-init
-loop-parent-init c =
-    let heap = c.args.heap.now.items in
-    let start = c.args.start in
-    let entry = c.index.result.now in
-    let read : entry ≡ entry_at heap start = get_or_read heap start entry (omega (arith, c.requires.start, c.requires.tables.few)) c.index.ensures blank in
-    record {
-      sifting = sift_starts heap c.args.places.now.items c.args.count start entry c.requires.tables c.requires.start read;
-      order = subst (λ h. IsRising (key h) start c.args.count) (unmoved heap start entry read) c.requires.order;
-    }
+loop-parent-init c = record {
+  sifting = sift_starts c.args.heap.now.items c.args.places.now.items c.args.count c.args.start c.args.entry c.requires.tables c.requires.start;
+  order = c.requires.order;
+}
 
 pub put-requires-clause-slot : goal.put-requires-clause-slot
 put-requires-clause-slot c =
     let l = c.loop-parent in
     let s = l.invariant.sifting in
-    let later = subst (λ h. IsLaterParent (key h) c.index.result.now.moment l.place c.in-Some.parent) c.deref.ensures.value c.in-Some.ensures.some in
+    let later = subst (λ h. IsLaterParent (key h) c.args.entry.moment l.place c.in-Some.parent) c.deref.ensures.value c.in-Some.ensures.some in
     let p = c.in-Some.parent in
     let entry = c.index-above.result.now in
     let p_in : p < c.args.count = omega (arith, later.parent, later.below, s.place) in
-    let read : entry ≡ entry_at l.heap.items p = get_or_read l.heap.items p entry (omega (arith, p_in, s.tables.few, length-set l.heap.items l.place c.index.result.now)) c.index-above.ensures blank in
-    omega (arith, other_slot_in c.args.heap.now.items c.args.places.now.items l.heap.items l.places.items c.args.count l.place c.index.result.now s p entry p_in (λ e. absurd (omega (arith, later.parent, later.below))) read)
+    let read : entry ≡ entry_at l.heap.items p = get_or_read l.heap.items p entry (omega (arith, p_in, s.tables.few, length-set l.heap.items l.place c.args.entry)) c.index-above.ensures blank in
+    omega (arith, other_slot_in (set c.args.heap.now.items c.args.start c.args.entry) (set c.args.places.now.items c.args.entry.slot c.args.start) l.heap.items l.places.items c.args.count l.place c.args.entry s p entry p_in (λ e. absurd (omega (arith, later.parent, later.below))) read)

@@ -1,47 +1,42 @@
-use Rattle.std.proofs.Common.{◌≡◌, subst, arith, length, ◌<◌}
+use Rattle.std.proofs.Common.{◌≡◌, subst, arith, length, set, ◌<◌}
 use Rattle.std.proofs.lemmas.List.{get_or_read, length-set}
-use Rattle.edge_queue.specs.Heaps.{blank, entry_at, key, IsEarlierChild, IsSinking, NoEarlierChild}
+use Rattle.edge_queue.specs.Heaps.{blank, entry_at, key, IsEarlierChild, NoEarlierChild}
 use Rattle.edge_queue.proofs.Moves.{sink_moves, sink_ends, other_slot_in}
-use Rattle.edge_queue.proofs.Sifts.{sift_starts, unmoved, sift_ends}
+use Rattle.edge_queue.proofs.Sifts.{sift_starts, sift_ends}
 use Rattle.edge_queue.proofs.sift.sink.Goals as goal
 
 pub loop-child-preserved : goal.loop-child-preserved
 loop-child-preserved c =
     let l = c.loop-child in
     let s = l.invariant.sifting in
-    let earlier = subst (λ h. IsEarlierChild (key h) c.index.result.now.moment c.args.count l.place c.in-Some.child) c.deref.ensures.value c.in-Some.ensures.some in
-    let within : c.in-Some.child < length l.heap.items = omega (arith, earlier.child.within, s.tables.few, length-set l.heap.items l.place c.index.result.now) in
+    let earlier = subst (λ h. IsEarlierChild (key h) c.args.entry.moment c.args.count l.place c.in-Some.child) c.deref.ensures.value c.in-Some.ensures.some in
+    let within : c.in-Some.child < length l.heap.items = omega (arith, earlier.child.within, s.tables.few, length-set l.heap.items l.place c.args.entry) in
     let below : c.index-below.result.now ≡ entry_at l.heap.items c.in-Some.child = get_or_read l.heap.items c.in-Some.child c.index-below.result.now within c.index-below.ensures blank in
-    let moved = sink_moves c.args.heap.now.items c.args.places.now.items l.heap.items l.places.items c.args.count l.place c.index.result.now s
+    let moved = sink_moves (set c.args.heap.now.items c.args.start c.args.entry) (set c.args.places.now.items c.args.entry.slot c.args.start) l.heap.items l.places.items c.args.count l.place c.args.entry s
     c.in-Some.child c.index-below.result.now c.put.new.heap.items c.put.new.places.items earlier below c.put.ensures.heap c.put.ensures.places l.invariant.order in
     record { sifting = moved.0; order = moved.1 }
 
 pub loop-child-init : goal.loop-child-init
-loop-child-init c =
-    let heap = c.args.heap.now.items in
-    let start = c.args.start in
-    let entry = c.index.result.now in
-    let read : entry ≡ entry_at heap start = get_or_read heap start entry (omega (arith, c.requires.start, c.requires.tables.few)) c.index.ensures blank in
-    record {
-      sifting = sift_starts heap c.args.places.now.items c.args.count start entry c.requires.tables c.requires.start read;
-      order = subst (λ h. IsSinking (key h) start c.args.count) (unmoved heap start entry read) c.requires.order;
-    }
+loop-child-init c = record {
+  sifting = sift_starts c.args.heap.now.items c.args.places.now.items c.args.count c.args.start c.args.entry c.requires.tables c.requires.start;
+  order = c.requires.order;
+}
 
 pub put-requires-clause-slot : goal.put-requires-clause-slot
 put-requires-clause-slot c =
     let l = c.loop-child in
     let s = l.invariant.sifting in
-    let earlier = subst (λ h. IsEarlierChild (key h) c.index.result.now.moment c.args.count l.place c.in-Some.child) c.deref.ensures.value c.in-Some.ensures.some in
+    let earlier = subst (λ h. IsEarlierChild (key h) c.args.entry.moment c.args.count l.place c.in-Some.child) c.deref.ensures.value c.in-Some.ensures.some in
     let p = c.in-Some.child in
     let entry = c.index-below.result.now in
     let p_in : p < c.args.count = earlier.child.within in
-    let read : entry ≡ entry_at l.heap.items p = get_or_read l.heap.items p entry (omega (arith, p_in, s.tables.few, length-set l.heap.items l.place c.index.result.now)) c.index-below.ensures blank in
-    omega (arith, other_slot_in c.args.heap.now.items c.args.places.now.items l.heap.items l.places.items c.args.count l.place c.index.result.now s p entry p_in (λ e. absurd (omega (arith, earlier.child.low))) read)
+    let read : entry ≡ entry_at l.heap.items p = get_or_read l.heap.items p entry (omega (arith, p_in, s.tables.few, length-set l.heap.items l.place c.args.entry)) c.index-below.ensures blank in
+    omega (arith, other_slot_in (set c.args.heap.now.items c.args.start c.args.entry) (set c.args.places.now.items c.args.entry.slot c.args.start) l.heap.items l.places.items c.args.count l.place c.args.entry s p entry p_in (λ e. absurd (omega (arith, earlier.child.low))) read)
 
 pub returns : goal.returns
 returns c =
     let l = c.loop-child in
     let s = l.invariant.sifting in
-    let last = subst (λ h. NoEarlierChild (key h) c.index.result.now.moment c.args.count l.place) c.deref.ensures.value c.in_default.ensures.none in
-    sift_ends c.args.heap.now.items c.args.places.now.items l.heap.items l.places.items c.args.count l.place c.index.result.now c.put-2.new.heap.items c.put-2.new.places.items s c.put-2.ensures.heap c.put-2.ensures.places
-    (sink_ends c.args.heap.now.items c.args.places.now.items l.heap.items l.places.items c.args.count l.place c.index.result.now s last l.invariant.order)
+    let last = subst (λ h. NoEarlierChild (key h) c.args.entry.moment c.args.count l.place) c.deref.ensures.value c.in_default.ensures.none in
+    sift_ends (set c.args.heap.now.items c.args.start c.args.entry) (set c.args.places.now.items c.args.entry.slot c.args.start) l.heap.items l.places.items c.args.count l.place c.args.entry c.put-2.new.heap.items c.put-2.new.places.items s c.put-2.ensures.heap c.put-2.ensures.places
+    (sink_ends (set c.args.heap.now.items c.args.start c.args.entry) (set c.args.places.now.items c.args.entry.slot c.args.start) l.heap.items l.places.items c.args.count l.place c.args.entry s last l.invariant.order)

@@ -1,86 +1,80 @@
-use Rattle.std.proofs.Common.{◌≡◌, ◌+◌, ◌-◌, ◌<◌, List, length, get_or, set, refl, ap, ◌∙◌, subst, arith, Option, None}
+use Rattle.std.proofs.Common.{◌≡◌, ◌+◌, ◌-◌, ◌<◌, ◌≤◌, List, length, get_or, set, map, sym, ap, ◌∙◌, subst, arith, Option, None}
 use Rattle.std.specs.Prelude.{ℤ}
 use Rattle.std.proofs.lemmas.List.{get_or_read}
-use Rattle.edge_queue.specs.Heaps.{AreTables}
-use Rattle.edge_queue.proofs.Exchanges.{IsExchanged, exchanged_to}
-use Rattle.edge_queue.proofs.Changes.{slots_long, absent_entries, left_tables, left_order, left_heap, left_entries}
+use Rattle.edge_queue.specs.Heaps.{blank, entry_at, held, AreTables, IsPlaceOf, IsMended}
+use Rattle.edge_queue.proofs.Changes.{slot_within, absent_entries, dropped_tables, dropped_order, dropped_entries, left_tables, left_order, left_entries}
 use Rattle.edge_queue.proofs.heap.IndexedHeap.remove.Goals as goal
-use Rattle.edge_queue.proofs.heap.IndexedHeap.remove.Goals.{After-index, After-exchange}
+use Rattle.edge_queue.proofs.heap.IndexedHeap.remove.Goals.{After-wipe_place, After-index-last}
 
-pub index-requires : goal.index-requires
-index-requires c = omega (arith, c.requires, slots_long c.self.inside c.args.self.now c.self.invariant c.self.view_is, c.self.invariant.tables.inverse.sizes)
-
-pub returns-then-place-self : goal.returns-then-place-self
-returns-then-place-self c =
+pub returns-in_default : goal.returns-in_default
+returns-in_default c =
     let a = c.self.inside in
-    let sizes = c.self.invariant.tables.inverse.sizes in
-    let within : c.args.slot < length a.places.items = omega (arith, c.requires, slots_long a c.args.self.now c.self.invariant c.self.view_is, sizes) in
-    let place : c.index.result.now ≡ get_or a.places.items c.args.slot 0 = get_or_read a.places.items c.args.slot c.index.result.now within c.index.ensures 0 in
+    let within : c.args.slot < length a.heap.items = slot_within a c.args.self.now c.args.slot c.self.invariant c.self.view_is c.requires in
     subst (λ (xs : List (Option ℤ)). xs ≡ set xs c.args.slot None) c.self.view_is
-    (absent_entries a.heap.items a.places.items a.count c.args.slot within (omega (arith, place, c.if-place-self.true)))
+    (absent_entries a.heap.items a.places.items a.count c.args.slot (omega (arith, within, c.self.invariant.tables.inverse.sizes))
+    (subst (λ l. a.count ≤ get_or l c.args.slot 0) c.deref.ensures.value c.in_default.ensures.none))
 
--- what the exchange leaves
-slot_in : (c : After-exchange) → c.args.slot < length c.self.inside.heap.items
-slot_in c = omega (arith, c.requires, slots_long c.self.inside c.args.self.now c.self.invariant c.self.view_is)
+-- the slot and its place
+slot_in : (c : After-wipe_place) → c.args.slot < length c.self.inside.heap.items
+slot_in c = slot_within c.self.inside c.args.self.now c.args.slot c.self.invariant c.self.view_is c.requires
 
-place : (c : After-exchange) → c.index.result.now ≡ get_or c.self.inside.places.items c.args.slot 0
-place c = get_or_read c.self.inside.places.items c.args.slot c.index.result.now (omega (arith, slot_in c, c.self.invariant.tables.inverse.sizes)) c.index.ensures 0
+here : (c : After-wipe_place) → IsPlaceOf c.self.inside.places.items c.self.inside.count c.args.slot c.in-Some.place
+here c = subst (λ l. IsPlaceOf l c.self.inside.count c.args.slot c.in-Some.place) c.deref.ensures.value c.in-Some.ensures.some
 
-here : (c : After-exchange) → get_or c.self.inside.places.items c.args.slot 0 < c.self.inside.count
-here c = omega (arith, place c, c.if-place-self.false)
-
-one_less : (c : After-exchange) → c.self.inside.count - 1 + 1 ≡ c.self.inside.count
-one_less c = omega (arith, here c)
-
-swapped : (c : After-exchange) → IsExchanged c.self.inside.heap.items c.self.inside.places.items c.exchange.new.heap.items c.exchange.new.places.items (get_or c.self.inside.places.items c.args.slot 0) (c.self.inside.count - 1)
-swapped c =
-    let a = c.self.inside in
-    let t = c.self.invariant.tables in
-    subst (λ i. IsExchanged a.heap.items a.places.items c.exchange.new.heap.items c.exchange.new.places.items i (a.count - 1)) (place c)
-    (exchanged_to a.heap.items a.places.items c.exchange.new.heap.items c.exchange.new.places.items c.index.result.now (a.count - 1) t.inverse
-    (omega (arith, place c, here c, t.few)) (omega (arith, here c, t.few)) c.exchange.ensures.heap c.exchange.ensures.places)
-
-tables : (c : After-exchange) → AreTables c.exchange.new.heap.items c.exchange.new.places.items (c.self.inside.count - 1)
-tables c =
-    let a = c.self.inside in
-    left_tables a.heap.items a.places.items c.exchange.new.heap.items c.exchange.new.places.items a.count (a.count - 1) c.args.slot c.self.invariant.tables (one_less c) (slot_in c) (here c) (swapped c)
+one_less : (c : After-wipe_place) → c.self.inside.count - 1 + 1 ≡ c.self.inside.count
+one_less c = omega (arith, (here c).within)
 
 pub invariant_of-self : goal.invariant_of-self
 invariant_of-self c =
+    let x = (goal.at.invariant_of-self c).After-wipe_place in
     let a = c.self.inside in
-    let x = (goal.at.invariant_of-self c).After-exchange in
+    let t = c.self.invariant.tables in
     record {
-      tables = tables x;
-      order = left_heap a.heap.items a.places.items c.exchange.new.heap.items c.exchange.new.places.items a.count (a.count - 1) c.args.slot c.self.invariant.tables (one_less x) (slot_in x) (here x) (swapped x)
-          (omega (arith, place x, c.if-place-self-2.true)) c.self.invariant.order;
+      tables = subst (λ l. AreTables a.heap.items l (a.count - 1)) (sym c.wipe_place.ensures.items)
+          (dropped_tables a.heap.items a.places.items a.count (a.count - 1) c.args.slot c.in-Some.place t (one_less x) (slot_in x) (here x) c.if-place-self.true);
+      order = dropped_order a.heap.items a.places.items a.count (a.count - 1) c.args.slot c.in-Some.place t (one_less x) (slot_in x) (here x) c.self.invariant.order;
     }
 
-pub returns-then-place-self-2 : goal.returns-then-place-self-2
-returns-then-place-self-2 c =
+pub returns-then-place-self : goal.returns-then-place-self
+returns-then-place-self c =
+    let x = (goal.at.returns-then-place-self c).After-wipe_place in
     let a = c.self.inside in
-    let x = (goal.at.returns-then-place-self-2 c).After-exchange in
-    left_entries a.heap.items a.places.items c.exchange.new.heap.items c.exchange.new.places.items a.count (a.count - 1) c.args.slot c.self.invariant.tables (one_less x) (slot_in x) (here x) (swapped x)
-    c.exchange.new.heap.items c.exchange.new.places.items (swapped x).sizes (λ s h. refl)
+    ap (λ l. map (held (a.count - 1) a.heap.items) l) c.wipe_place.ensures.items
+    ∙ dropped_entries a.heap.items a.places.items a.count (a.count - 1) c.args.slot c.in-Some.place c.self.invariant.tables (one_less x) (slot_in x) (here x) c.if-place-self.true
     ∙ ap (λ (xs : List (Option ℤ)). set xs c.args.slot None) c.self.view_is
+
+-- the last entry, which takes that place
+last_in : (c : After-wipe_place) → c.self.inside.count - 1 < length c.self.inside.heap.items
+last_in c = omega (arith, (here c).within, c.self.invariant.tables.few)
+
+read : (c : After-index-last) → c.self.inside.count - 1 < length c.self.inside.heap.items → c.index-last.result.now ≡ entry_at c.self.inside.heap.items (c.self.inside.count - 1)
+read c within = get_or_read c.self.inside.heap.items (c.self.inside.count - 1) c.index-last.result.now within c.index-last.ensures blank
 
 pub settle-requires-clause-tables : goal.settle-requires-clause-tables
 settle-requires-clause-tables c =
-    let x = (goal.at.settle-requires-clause-tables c).After-exchange in
-    tables x
+    let x = (goal.at.settle-requires-clause-tables c).After-wipe_place in
+    let y = (goal.at.settle-requires-clause-tables c).After-index-last in
+    let a = c.self.inside in
+    let entry = c.index-last.result.now in
+    let p = c.in-Some.place in
+    subst (λ l. AreTables (set a.heap.items p entry) (set l entry.slot p) (a.count - 1)) (sym c.wipe_place.ensures.items)
+    (left_tables a.heap.items a.places.items a.count (a.count - 1) c.args.slot p c.self.invariant.tables (one_less x) (slot_in x) (here x) entry (read y (last_in x)) c.if-place-self.false)
 
 pub settle-requires-clause-order : goal.settle-requires-clause-order
 settle-requires-clause-order c =
+    let x = (goal.at.settle-requires-clause-order c).After-wipe_place in
+    let y = (goal.at.settle-requires-clause-order c).After-index-last in
     let a = c.self.inside in
-    let x = (goal.at.settle-requires-clause-order c).After-exchange in
-    rw (place x)
-    (left_order a.heap.items a.places.items c.exchange.new.heap.items c.exchange.new.places.items a.count (a.count - 1) c.args.slot c.self.invariant.tables (one_less x) (slot_in x) (here x) (swapped x) c.self.invariant.order)
+    left_order a.heap.items a.places.items a.count (a.count - 1) c.args.slot c.in-Some.place c.self.invariant.tables (one_less x) (slot_in x) (here x) c.index-last.result.now (read y (last_in x)) c.if-place-self.false c.self.invariant.order
 
 pub returns : goal.returns
 returns c =
+    let x = (goal.at.returns c).After-wipe_place in
+    let y = (goal.at.returns c).After-index-last in
     let a = c.self.inside in
-    let x = (goal.at.returns c).After-exchange in
-    let long : length c.settle.new.places.items ≡ length a.places.items =
-    omega (arith, c.settle.ensures.tables.inverse.sizes, c.settle.ensures.size, (swapped x).size, c.self.invariant.tables.inverse.sizes) in
-    left_entries a.heap.items a.places.items c.exchange.new.heap.items c.exchange.new.places.items a.count (a.count - 1) c.args.slot c.self.invariant.tables (one_less x) (slot_in x) (here x) (swapped x)
-    c.settle.new.heap.items c.settle.new.places.items long (λ s h. c.settle.ensures.same s (omega (arith, h, c.settle.ensures.size, (swapped x).size)))
+    let entry = c.index-last.result.now in
+    let p = c.in-Some.place in
+    let mended = subst (λ l. IsMended (set a.heap.items p entry) (set l entry.slot p) c.settle.new.heap.items c.settle.new.places.items (a.count - 1)) c.wipe_place.ensures.items c.settle.ensures in
+    left_entries a.heap.items a.places.items a.count (a.count - 1) c.args.slot p c.self.invariant.tables (one_less x) (slot_in x) (here x) entry (read y (last_in x)) c.if-place-self.false
+    c.settle.new.heap.items c.settle.new.places.items mended
     ∙ ap (λ (xs : List (Option ℤ)). set xs c.args.slot None) c.self.view_is

@@ -1,69 +1,78 @@
-use Rattle.std.proofs.Common.{◌≡◌, ◌<◌, length, get_or, set, ap, ◌∙◌, subst, sym, arith, List, Option, Some, None}
+use Rattle.std.proofs.Common.{◌≡◌, ◌<◌, ◌≤◌, length, get_or, set, ap, ◌∙◌, subst, sym, arith, List, Option, Some}
 use Rattle.std.specs.Prelude.{ℤ}
-use Rattle.std.proofs.lemmas.List.{get_or_read, set-get_or}
+use Rattle.std.proofs.lemmas.List.{get_or_read}
 use Rattle.std.proofs.lemmas.Int.{to_z-of_z}
 use mir.Val.{to_z, of_z}
 use mir.Syntax.{w64}
 use Rattle.edge_queue.specs.declared.entry.Entry.{Entry}
-use Rattle.edge_queue.specs.Heaps.{IsMended}
-use Rattle.edge_queue.proofs.Changes.{slots_long, entered_tables, entered_order, entered_entries}
+use Rattle.edge_queue.specs.Heaps.{blank, entry_at, key, IsPlaceOf}
+use Rattle.edge_queue.proofs.Exchanges.{key_by}
+use Rattle.edge_queue.proofs.Changes.{slot_within, kept_entries, given_tables, given_order, given_entries, added_tables, added_entries}
 use Rattle.edge_queue.proofs.heap.IndexedHeap.set.Goals as goal
-use Rattle.edge_queue.proofs.heap.IndexedHeap.set.Goals.{After-index}
+use Rattle.edge_queue.proofs.heap.IndexedHeap.set.Goals.{In-Some, In_default}
+
+-- where the slot has no moment
+slot_in : (c : In_default) → c.args.slot < length c.self.inside.heap.items
+slot_in c = slot_within c.self.inside c.args.self.now c.args.slot c.self.invariant c.self.view_is c.requires
+
+behind : (c : In_default) → c.self.inside.count ≤ get_or c.self.inside.places.items c.args.slot 0
+behind c = subst (λ l. c.self.inside.count ≤ get_or l c.args.slot 0) c.deref.ensures.value c.in_default.ensures.none
+
+pub rise-requires-clause-tables : goal.rise-requires-clause-tables
+rise-requires-clause-tables c =
+    let x = (goal.at.rise-requires-clause-tables c).In_default in
+    let a = c.self.inside in
+    let entry : Entry = record { moment = to_z w64 (of_z w64 c.args.moment); age = c.take_age-age.result; slot = c.args.slot } in
+    added_tables a.heap.items a.places.items a.count entry c.self.invariant.tables (slot_in x) (behind x)
+
+pub returns-in_default : goal.returns-in_default
+returns-in_default c =
+    let x = (goal.at.returns-in_default c).In_default in
+    let a = c.self.inside in
+    let entry : Entry = record { moment = to_z w64 (of_z w64 c.args.moment); age = c.take_age-age.result; slot = c.args.slot } in
+    added_entries a.heap.items a.places.items a.count entry c.self.invariant.tables (slot_in x) (behind x) c.rise.new.heap.items c.rise.new.places.items c.rise.ensures
+    ∙ ap (λ (xs : List (Option ℤ)). set xs c.args.slot (Some entry.moment)) c.self.view_is
+    ∙ ap (λ (z : ℤ). set c.args.self.now c.args.slot (Some z)) (to_z-of_z w64 c.args.moment c.ranges.moment)
+
+-- where it has one
+slot_there : (c : In-Some) → c.args.slot < length c.self.inside.heap.items
+slot_there c = slot_within c.self.inside c.args.self.now c.args.slot c.self.invariant c.self.view_is c.requires
+
+here : (c : In-Some) → IsPlaceOf c.self.inside.places.items c.self.inside.count c.args.slot c.in-Some.place
+here c = subst (λ l. IsPlaceOf l c.self.inside.count c.args.slot c.in-Some.place) c.deref.ensures.value c.in-Some.ensures.some
 
 pub returns-then-keeps : goal.returns-then-keeps
 returns-then-keeps c =
-    let kept = ap (λ (m : Option ℤ). set c.args.self.now c.args.slot m) (sym (c.keeps.ensures c.if-keeps.true)) ∙ set-get_or c.args.self.now c.args.slot None in
-    sym kept ∙ ap (λ (z : ℤ). set c.args.self.now c.args.slot (Some z)) (to_z-of_z w64 c.args.moment c.ranges.moment)
-
-pub enter-self-inside-requires-clause-slot : goal.enter-self-inside-requires-clause-slot
-enter-self-inside-requires-clause-slot c = omega (arith, c.requires, slots_long c.self.inside c.args.self.now c.self.invariant c.self.view_is)
-
-pub index-requires : goal.index-requires
-index-requires c = omega (arith, c.requires, slots_long c.self.inside c.args.self.now c.self.invariant c.self.view_is, c.enter-self-inside.ensures.size, c.enter-self-inside.ensures.inverse.sizes)
-
--- what is written
-slot_in : (c : After-index) → c.args.slot < length c.self.inside.heap.items
-slot_in c = omega (arith, c.requires, slots_long c.self.inside c.args.self.now c.self.invariant c.self.view_is)
-
-place : (c : After-index) → c.index.result.now ≡ get_or c.enter-self-inside.new.places.items c.args.slot 0
-place c =
-    let e = c.enter-self-inside in
-    get_or_read e.new.places.items c.args.slot c.index.result.now (omega (arith, slot_in c, e.ensures.size, e.ensures.inverse.sizes)) c.index.ensures 0
-
-abbrev written : (c : After-index) → Entry
-written c = record { moment = to_z w64 (of_z w64 c.args.moment); age = c.age_of-age.result; slot = c.args.slot }
-
-pub index_mut-requires : goal.index_mut-requires
-index_mut-requires c =
-    let x = (goal.at.index_mut-requires c).After-index in
-    omega (arith, place x, c.enter-self-inside.ensures.among, c.enter-self-inside.ensures.few, c.enter-self-inside.ensures.size)
-
-pub settle-requires-clause-place : goal.settle-requires-clause-place
-settle-requires-clause-place c =
-    let x = (goal.at.settle-requires-clause-place c).After-index in
-    omega (arith, place x, c.enter-self-inside.ensures.among)
+    let x = (goal.at.returns-then-keeps c).In-Some in
+    let a = c.self.inside in
+    let t = c.self.invariant.tables in
+    let p = c.in-Some.place in
+    let entry = c.index.result.now in
+    let read : entry ≡ entry_at a.heap.items p = get_or_read a.heap.items p entry (omega (arith, (here x).within, t.few)) c.index.ensures blank in
+    let moment : key a.heap.items p ≡ c.args.moment =
+    sym (key_by entry (entry_at a.heap.items p) read) ∙ c.keeps.ensures c.if-keeps.true ∙ to_z-of_z w64 c.args.moment c.ranges.moment in
+    subst (λ (xs : List (Option ℤ)). xs ≡ set xs c.args.slot (Some c.args.moment)) c.self.view_is
+    (kept_entries a.heap.items a.places.items a.count c.args.slot p c.args.moment (omega (arith, slot_there x, t.inverse.sizes)) (here x) moment)
 
 pub settle-requires-clause-tables : goal.settle-requires-clause-tables
 settle-requires-clause-tables c =
-    let x = (goal.at.settle-requires-clause-tables c).After-index in
+    let x = (goal.at.settle-requires-clause-tables c).In-Some in
     let a = c.self.inside in
-    let e = c.enter-self-inside in
-    rw (place x) (entered_tables a.heap.items a.places.items e.new.heap.items e.new.places.items a.count e.result (written x) c.self.invariant.tables e.ensures (slot_in x))
+    let entry : Entry = record { moment = to_z w64 (of_z w64 c.args.moment); age = c.take_age-age-2.result; slot = c.args.slot } in
+    given_tables a.heap.items a.places.items a.count c.in-Some.place entry c.self.invariant.tables (slot_there x) (here x)
 
 pub settle-requires-clause-order : goal.settle-requires-clause-order
 settle-requires-clause-order c =
-    let x = (goal.at.settle-requires-clause-order c).After-index in
+    let x = (goal.at.settle-requires-clause-order c).In-Some in
     let a = c.self.inside in
-    let e = c.enter-self-inside in
-    rw (place x) (entered_order a.heap.items a.places.items e.new.heap.items e.new.places.items a.count e.result (written x) c.self.invariant.tables e.ensures (slot_in x) c.self.invariant.order)
+    let entry : Entry = record { moment = to_z w64 (of_z w64 c.args.moment); age = c.take_age-age-2.result; slot = c.args.slot } in
+    given_order a.heap.items a.places.items a.count c.in-Some.place entry c.self.invariant.tables (slot_there x) (here x) c.self.invariant.order
 
 pub returns : goal.returns
 returns c =
-    let x = (goal.at.returns c).After-index in
+    let x = (goal.at.returns c).In-Some in
     let a = c.self.inside in
-    let e = c.enter-self-inside in
-    let s = c.settle in
-    let mended = subst (λ p. IsMended (set e.new.heap.items p (written x)) e.new.places.items s.new.heap.items s.new.places.items e.result) (place x) s.ensures in
-    entered_entries a.heap.items a.places.items e.new.heap.items e.new.places.items a.count e.result (written x) c.self.invariant.tables e.ensures (slot_in x) s.new.heap.items s.new.places.items mended
-    ∙ ap (λ (xs : List (Option ℤ)). set xs c.args.slot (Some (to_z w64 (of_z w64 c.args.moment)))) c.self.view_is
+    let entry : Entry = record { moment = to_z w64 (of_z w64 c.args.moment); age = c.take_age-age-2.result; slot = c.args.slot } in
+    given_entries a.heap.items a.places.items a.count c.in-Some.place entry c.self.invariant.tables (slot_there x) (here x) c.settle.new.heap.items c.settle.new.places.items c.settle.ensures
+    ∙ ap (λ (xs : List (Option ℤ)). set xs c.args.slot (Some entry.moment)) c.self.view_is
     ∙ ap (λ (z : ℤ). set c.args.self.now c.args.slot (Some z)) (to_z-of_z w64 c.args.moment c.ranges.moment)
