@@ -8,12 +8,13 @@ use Rattle.slab.specs.Slab.{get}
 use Rattle.graph_theory.specs.Parts.{holds}
 use Rattle.blossom_arena.specs.declared.arena.Arena.TheInside.{Inside}
 use Rattle.blossom_arena.specs.Family.{Blossom, names_of, is_vertex, is_node, is_child, is_outermost, IsNested}
-use Rattle.blossom_arena.specs.Fields.{IsSound, blossoms_of, order_of, key_of, parent_of}
+use Rattle.blossom_arena.specs.Fields.{IsSound, blossoms_of, order_of, key_of, parent_of, parent_entry}
 use Rattle.blossom_arena.proofs.Lists.{by_test}
 use Rattle.blossom_arena.proofs.Nested.{name_range, vertex_range}
 use Rattle.blossom_arena.proofs.Parents.{free_parent}
 use Rattle.blossom_arena.proofs.Opened.{child_parent}
 use Rattle.blossom_arena.proofs.Sound.{order_names}
+use Rattle.blossom_arena.proofs.Marks.{entry_node, entry_none}
 use Rattle.blossom_arena.proofs.Shrunk.{each_some}
 
 -- no blossom has the number of a vertex, or 0
@@ -44,3 +45,10 @@ outer_test n bs x h node =
     by_test (is_child bs x)
     (λ e. ne_eqb (parent_of bs x) 0 (child_parent n bs x h e) ∙ sym (ap₂ (λ (p q : Bool). p && not q) node e))
     (λ e. eq-eqb (parent_of bs x) 0 (free_parent bs x e) ∙ sym (ap₂ (λ (p q : Bool). p && not q) node e))
+
+-- the entry of a number tells whether it is an outermost node
+pub outer_entry : (n : ℕ) (bs : List Blossom) (x : ℕ) → IsNested n bs → eqb (parent_entry n bs x) 0 ≡ is_outermost n bs x
+outer_entry n bs x h =
+    by_test (is_node n bs x)
+    (λ e. ap (λ (p : ℕ). eqb p 0) (entry_node n bs x e) ∙ outer_test n bs x h e)
+    (λ e. ap (λ (p : ℕ). eqb p 0) (entry_none n bs x e) ∙ sym (ap (λ q. q && not (is_child bs x)) e))

@@ -12,14 +12,15 @@ use Rattle.blossom_arena.specs.declared.runs.Kept.{Kept}
 use Rattle.blossom_arena.specs.declared.arena.Arena.TheInside.{Inside}
 use Rattle.blossom_arena.specs.Tables.{walk, links_of, filled}
 use Rattle.blossom_arena.specs.Family.{Blossom, nodes_of, in_ring, is_vertex, is_node, is_child, members_of, ring_of, without, dual_at, HasDuals, IsNested, outermost}
-use Rattle.blossom_arena.specs.Fields.{IsSound, blossoms_of, order_of, key_of, kept_of, kept_or_none, run_of, vertices_of, IsRun, lowered, parent_of, build, IsOrder, sum_at, added, outer_dual, inner_of}
+use Rattle.blossom_arena.specs.Fields.{IsSound, blossoms_of, order_of, key_of, kept_of, kept_or_none, run_of, vertices_of, IsRun, lowered, parent_entry, build, IsOrder, sum_at, added, outer_dual, inner_of}
 use Rattle.blossom_arena.proofs.Lists.{by_test, each_from}
 use Rattle.blossom_arena.proofs.Nested.{vertex_range, range_vertex, child_is_node, name_is_node}
 use Rattle.blossom_arena.proofs.Sets.{members_new}
 use Rattle.blossom_arena.proofs.Parents.{ring_child}
-use Rattle.blossom_arena.proofs.Taken.{members_without, nested_without, parent_without, each_without}
+use Rattle.blossom_arena.proofs.Taken.{members_without, nested_without, each_without}
 use Rattle.blossom_arena.proofs.Opened.{outermost_lowered, ring_other}
-use Rattle.blossom_arena.proofs.Writes.{length-filled, filled_at, length-lowered}
+use Rattle.blossom_arena.proofs.Writes.{length-filled, length-lowered}
+use Rattle.blossom_arena.proofs.Marks.{dissolved_entry}
 use Rattle.blossom_arena.proofs.Orders.{removed, length-removed, removed_sub, removed_has, removed_not, take_out_order, walk_order}
 use Rattle.blossom_arena.proofs.Builds.{build-same, build-without}
 use Rattle.blossom_arena.proofs.Sound.{rings, order_names, order_len, order_new, order_range, order_no_zero, node_run}
@@ -34,7 +35,7 @@ pub record Dissolves (a b : Inside) (node : ℕ) : Type 0 where
   pub capacity : b.kept.capacity ≡ a.kept.capacity
   pub older : b.older.items ≡ slice_set a.older.items (slice_index a.newer.items node) (slice_index a.older.items node)
   pub newer : b.newer.items ≡ slice_set a.newer.items (slice_index a.older.items node) (slice_index a.newer.items node)
-  pub parents : b.parents.items ≡ filled a.parents.items (nodes_of (ring_of (blossoms_of a) node)) 0
+  pub parents : b.parents.items ≡ slice_set (filled a.parents.items (nodes_of (ring_of (blossoms_of a) node)) 0) node 1
   pub outer : b.outer.items ≡ lowered a.outer.items (λ x. vertices_of a.followers.items (run_of a.vertex_count b.kept x)) (nodes_of (ring_of (blossoms_of a) node))
   pub inner : b.inner.items ≡ added a.inner.items (λ v. neg_ℤ (outer_dual b.outer.items a.duals.items v)) (members_of (blossoms_of a) node)
   pub none : dual_at a.duals.items node ≡ pos 0
@@ -136,7 +137,7 @@ module _ (a : Inside) (inner : Vec ℤ) (parents outer older newer : Vec ℕ) (k
         });
       };
       places = record {
-        parents = ap length h.parents ∙ length-filled a.parents.items (nodes_of (ring_of bs node)) 0 ∙ s.places.parents;
+        parents = ap length h.parents ∙ length-set (filled a.parents.items (nodes_of (ring_of bs node)) 0) node 1 ∙ length-filled a.parents.items (nodes_of (ring_of bs node)) 0 ∙ s.places.parents;
         nexts = s.places.nexts;
         edges = s.places.edges;
         older = ap length h.older ∙ length-set a.older.items (slice_index a.newer.items node) (slice_index a.older.items node) ∙ s.places.older;
@@ -154,8 +155,10 @@ module _ (a : Inside) (inner : Vec ℤ) (parents outer older newer : Vec ℕ) (k
           ∙ sym (inner_dissolved n bs v s.family.nested (range_vertex n v low high) (dual_at a.duals.items) node (and_from (is_node n bs node) (not (is_child bs node)) is (ap not free)) h.none)
           ∙ ap (λ (us : List Blossom). inner_of (dual_at a.duals.items) us v) (sym blossoms_after);
       parents = λ x high.
-          ap (λ t. slice_index t x) h.parents ∙ filled_at a.parents.items (nodes_of (ring_of bs node)) 0 x (omega (arith, high, s.places.parents))
-          ∙ ap (λ p. cond (in_ring (ring_of bs node) x) 0 p) (s.parents x high) ∙ sym (parent_without n bs node x s.family.nested) ∙ ap (λ us. parent_of us x) (sym blossoms_after);
+          ap (λ t. slice_index t x) h.parents
+          ∙ dissolved_entry n bs node a.parents.items x s.family.nested (ap (λ ys. holds ys node) (order_names a) ∙ there)
+          (omega (arith, (order_range a s node there).1, s.places.parents)) (omega (arith, high, s.places.parents)) (s.parents x high)
+          ∙ ap (λ us. parent_entry n us x) (sym blossoms_after);
       order = subst (IsOrder older.items newer.items 0) (sym order_after) order;
       runs = λ x e.
           let m : holds (removed xs node) x ≡ true = ap (λ ys. holds ys x) (sym order_after) ∙ e in

@@ -1,5 +1,5 @@
 -- What a change of one dual keeps.
-use Rattle.std.proofs.Common.{◌≡◌, ℕ, ◌+◌, ◌<◌, true, eqb, cond, List, [], ◌∷◌, length, sym, ap, ◌∙◌, subst, arith}
+use Rattle.std.proofs.Common.{◌≡◌, ℕ, ◌+◌, ◌<◌, true, eqb, cond, List, [], ◌∷◌, length, sym, ap, ap₂, ◌∙◌, subst, arith}
 use Rattle.std.specs.Prelude.{ℤ, pos, ◌+ℤ◌, ◌≤ℤ◌, slice_set}
 use Rattle.std.specs.List.{AllByRecursion}
 use Rattle.std.specs.Global.{Vec}
@@ -9,8 +9,8 @@ use Rattle.std.proofs.lemmas.List.Elements.{All-set}
 use Rattle.blossom_arena.specs.declared.arena.Arena.TheInside.{Inside}
 use Rattle.graph_theory.specs.Duals.{IsNumber}
 use Rattle.graph_theory.specs.Parts.{holds}
-use Rattle.blossom_arena.specs.Family.{Blossom, is_vertex, is_node, is_child, is_outermost, members_of, IsNested, HasDuals, dual_at}
-use Rattle.blossom_arena.specs.Fields.{IsSound, blossoms_of, sum_at, added, inner_of}
+use Rattle.blossom_arena.specs.Family.{Blossom, Family, is_vertex, is_node, is_child, is_outermost, members_of, IsNested, HasDuals, dual_at}
+use Rattle.blossom_arena.specs.Fields.{IsSound, blossoms_of, family_of, sum_at, added, inner_of}
 use Rattle.blossom_arena.proofs.Lists.{by_test}
 use Rattle.blossom_arena.proofs.Nested.{vertex_range, range_vertex, node_range}
 use Rattle.blossom_arena.proofs.Sets.{members_new}
@@ -34,6 +34,22 @@ duals_set n bs ys node y nested high is fine h = record {
   in_range = All-set IsNumber ys node y is h.in_range;
   blossoms = each_dual n bs ys node y nested high fine h.blossoms;
 }
+
+-- the node, by the view
+pub node_is : (a : Inside) (f : Family) (x y : ℕ) → family_of a ≡ f → is_node f.vertex_count f.blossoms x ≡ true → y ≡ x → is_node a.vertex_count (blossoms_of a) y ≡ true
+node_is a f x y view is same = ap₂ (λ (g : Family) (z : ℕ). is_node g.vertex_count g.blossoms z) view same ∙ is
+
+-- the duals after the change
+pub duals_after : (a : Inside) (f : Family) (x y : ℕ) (d : ℤ) (ys : List ℤ) → IsSound a → family_of a ≡ f → is_node f.vertex_count f.blossoms x ≡ true → y ≡ x
+    → IsNumber (dual_at f.duals x +ℤ d) → (f.vertex_count < x → pos 0 ≤ℤ (dual_at f.duals x +ℤ d)) → ys ≡ slice_set a.duals.items y (dual_at a.duals.items y +ℤ d)
+    → HasDuals a.vertex_count ys (blossoms_of a)
+duals_after a f x y d ys s view is same in_range not_below written =
+    let range = node_range a.vertex_count (blossoms_of a) y s.family.nested (node_is a f x y view is same) in
+    let number : IsNumber (dual_at a.duals.items y +ℤ d) = subst (λ (z : ℕ). IsNumber (dual_at a.duals.items z +ℤ d)) (sym same) (subst (λ (g : Family). IsNumber (dual_at g.duals x +ℤ d)) (sym view) in_range) in
+    let fine : a.vertex_count < y → pos 0 ≤ℤ (dual_at a.duals.items y +ℤ d) =
+    subst (λ (z : ℕ). a.vertex_count < z → pos 0 ≤ℤ (dual_at a.duals.items z +ℤ d)) (sym same) (subst (λ (g : Family). g.vertex_count < x → pos 0 ≤ℤ (dual_at g.duals x +ℤ d)) (sym view) not_below) in
+    subst (λ (zs : List ℤ). HasDuals a.vertex_count zs (blossoms_of a)) (sym written)
+    (duals_set a.vertex_count (blossoms_of a) a.duals.items y (dual_at a.duals.items y +ℤ d) s.family.nested (omega (arith, range.1, s.family.duals.one_each)) number fine s.family.duals)
 
 -- other duals and their sums leave the rest as it was
 pub sound_with_duals : (a : Inside) (duals inner : Vec ℤ) → IsSound a → HasDuals a.vertex_count duals.items (blossoms_of a) → length inner.items ≡ a.vertex_count + 1

@@ -13,7 +13,7 @@ use Rattle.blossom_arena.specs.Tables.{walk}
 use Rattle.graph_theory.specs.Nested.{most_blossoms}
 use Rattle.graph_theory.specs.Duals.{IsNumber}
 use Rattle.blossom_arena.specs.Family.{IsNested, HasDuals, empty_family, outermost, dual_at}
-use Rattle.blossom_arena.specs.Fields.{IsSound, blossoms_of, order_of, family_of, key_of, build, parent_of, IsOrder, sum_at, inner_of}
+use Rattle.blossom_arena.specs.Fields.{IsSound, blossoms_of, order_of, family_of, key_of, build, parent_entry, IsOrder, sum_at, inner_of}
 use Rattle.blossom_arena.proofs.Sound.{rings}
 
 pub record IsFresh (a : Inside) : Type 0 where
@@ -21,7 +21,8 @@ pub record IsFresh (a : Inside) : Type 0 where
   pub slots : a.kept.slots ≡ []
   pub room : a.kept.capacity ≡ most_blossoms a.vertex_count
   pub duals : a.duals.items ≡ replicate (a.vertex_count + most_blossoms a.vertex_count + 1) (pos 0)
-  pub parents : a.parents.items ≡ replicate (a.vertex_count + most_blossoms a.vertex_count + 1) 0
+  pub parents_len : length a.parents.items ≡ a.vertex_count + most_blossoms a.vertex_count + 1
+  pub parents : (x : ℕ) → x ≤ a.vertex_count + most_blossoms a.vertex_count → slice_index a.parents.items x ≡ parent_entry a.vertex_count [] x
   pub nexts : length a.nexts.items ≡ a.vertex_count + most_blossoms a.vertex_count + 1
   pub edges : length a.edges.items ≡ a.vertex_count + most_blossoms a.vertex_count + 1
   pub older : a.older.items ≡ replicate (a.vertex_count + most_blossoms a.vertex_count + 1) 0
@@ -73,7 +74,7 @@ module _ (a : Inside) (h : IsFresh a) where
       duals = subst (HasDuals n a.duals.items) (sym no_blossoms) (subst (λ ys. HasDuals n ys []) (sym h.duals) no_duals);
     };
     places = record {
-      parents = ap length h.parents ∙ length-replicate places 0;
+      parents = h.parents_len;
       nexts = h.nexts;
       edges = h.edges;
       older = ap length h.older ∙ length-replicate places 0;
@@ -84,7 +85,7 @@ module _ (a : Inside) (h : IsFresh a) where
     };
     outer = λ v low high. h.outer v high ∙ ap (λ bs. outermost bs v) (sym no_blossoms);
     inner = λ v low high. no_sum v high;
-    parents = λ x high. zero_at a.parents.items x h.parents (omega (arith, high)) ∙ ap (λ bs. parent_of bs x) (sym no_blossoms);
+    parents = λ x high. h.parents x high ∙ ap (λ bs. parent_entry n bs x) (sym no_blossoms);
     order = subst (IsOrder a.older.items a.newer.items 0) (sym no_order) (zero_at a.older.items 0 h.older (omega arith), zero_at a.newer.items 0 h.newer (omega arith));
     runs = λ x e. absurd (both_ways false refl (ap (λ xs. holds xs x) (sym no_order) ∙ e));
     kept = subst (AllByRecursion _) (sym no_order) tt;

@@ -12,6 +12,7 @@ pub mod Orders
 pub mod Builds
 pub mod Joins
 pub mod Sound
+pub mod Marks
 pub mod Shrunk
 pub mod Opened
 pub mod Held

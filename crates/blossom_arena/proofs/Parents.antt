@@ -144,21 +144,21 @@ chain_first (b ∷ older) v =
     (λ m. (r.0, ap (λ q. cond q (chain_of older v ++ b.node ∷ []) (chain_of older v)) m ∙ r.1))
 
 -- the table has the parents of these nodes
-pub at_nodes : (n : ℕ) (bs : List Blossom) (ps xs : List ℕ) → IsNested n bs → ((x : ℕ) → x ≤ n + most_blossoms n → get_or ps x 0 ≡ parent_of bs x) → ((x : ℕ) → holds xs x ≡ true → is_node n bs x ≡ true) → AllByRecursion (λ y. get_or ps y 0 ≡ parent_of bs y) xs
-at_nodes n bs ps xs h table nodes = each_from (λ y. get_or ps y 0 ≡ parent_of bs y) xs (λ x e. let r = node_range n bs x h (nodes x e) in table x r.1)
+pub at_nodes : (n : ℕ) (bs : List Blossom) (ps xs : List ℕ) → ((x : ℕ) → is_node n bs x ≡ true → get_or ps x 0 ≡ parent_of bs x) → ((x : ℕ) → holds xs x ≡ true → is_node n bs x ≡ true) → AllByRecursion (λ y. get_or ps y 0 ≡ parent_of bs y) xs
+at_nodes n bs ps xs table nodes = each_from (λ y. get_or ps y 0 ≡ parent_of bs y) xs (λ x e. table x (nodes x e))
 
-pub climb_chain : (n k : ℕ) (bs : List Blossom) (ps : List ℕ) (v : ℕ) → IsNested n bs → is_vertex n v ≡ true → ((x : ℕ) → x ≤ n + most_blossoms n → get_or ps x 0 ≡ parent_of bs x) → length bs + 1 ≤ k → climb k ps v ≡ chain_of bs v
+pub climb_chain : (n k : ℕ) (bs : List Blossom) (ps : List ℕ) (v : ℕ) → IsNested n bs → is_vertex n v ≡ true → ((x : ℕ) → is_node n bs x ≡ true → get_or ps x 0 ≡ parent_of bs x) → length bs + 1 ≤ k → climb k ps v ≡ chain_of bs v
 climb_chain n k bs ps v h iv table short =
     let first = chain_first bs v in
     let is : chain_of bs v ≡ v ∷ first.0 = first.1 in
     climb_is k ps (parent_of bs) v first.0
     (subst (IsUp (parent_of bs)) is (chain_up n bs v h iv))
-    (subst (AllByRecursion (λ y. get_or ps y 0 ≡ parent_of bs y)) is (at_nodes n bs ps (chain_of bs v) h table (λ x e. chain_node n bs v x iv e)))
+    (subst (AllByRecursion (λ y. get_or ps y 0 ≡ parent_of bs y)) is (at_nodes n bs ps (chain_of bs v) table (λ x e. chain_node n bs v x iv e)))
     (subst (AllByRecursion (λ y. y ≢ 0)) is (chain_nonzero n bs v h iv))
     (omega (arith, chain_short bs v, ap length is))
     ∙ sym is
 
-pub can_climb : (n : ℕ) (bs : List Blossom) (ps : List ℕ) (v : ℕ) → IsNested n bs → is_vertex n v ≡ true → ((x : ℕ) → x ≤ n + most_blossoms n → get_or ps x 0 ≡ parent_of bs x) → length ps ≡ n + most_blossoms n + 1 → CanClimb ps v
+pub can_climb : (n : ℕ) (bs : List Blossom) (ps : List ℕ) (v : ℕ) → IsNested n bs → is_vertex n v ≡ true → ((x : ℕ) → is_node n bs x ≡ true → get_or ps x 0 ≡ parent_of bs x) → length ps ≡ n + most_blossoms n + 1 → CanClimb ps v
 can_climb n bs ps v h iv table len =
     let few : length bs + 1 ≤ length ps = omega (arith, blossoms_few n bs h, len) in
     let at_len = climb_chain n (length ps) bs ps v h iv table few in
@@ -212,7 +212,7 @@ chain_through (b ∷ older) a v k m =
     (λ held. (r.0, ap (λ q. cond q (chain_of older v ++ b.node ∷ []) (chain_of older v)) held ∙ r.1 ∙ ap (λ c. c ++ (a ∷ r.0)) (sym below))))
 
 pub climb_child : (n : ℕ) (bs : List Blossom) (ps : List ℕ) (a v : ℕ) → IsNested n bs → is_vertex n v ≡ true → holds (names_of bs) a ≡ true → holds (members_of bs a) v ≡ true
-    → ((x : ℕ) → x ≤ n + most_blossoms n → get_or ps x 0 ≡ parent_of bs x) → length ps ≡ n + most_blossoms n + 1 → climb_to (length ps) ps a v ≡ child_holding bs a v
+    → ((x : ℕ) → is_node n bs x ≡ true → get_or ps x 0 ≡ parent_of bs x) → length ps ≡ n + most_blossoms n + 1 → climb_to (length ps) ps a v ≡ child_holding bs a v
 climb_child n bs ps a v h iv k m table len =
     let older : List Blossom = older_than bs a in
     let through = chain_through bs a v k m in
@@ -220,7 +220,7 @@ climb_child n bs ps a v h iv k m table len =
     let is : chain_of older v ≡ v ∷ first.0 = first.1 in
     let up : IsUp (parent_of bs) ((v ∷ first.0) ++ (a ∷ through.0)) = subst (IsUp (parent_of bs)) (through.1 ∙ ap (λ c. c ++ (a ∷ through.0)) is) (chain_up n bs v h iv) in
     climb_to_is (length ps) ps (parent_of bs) a v first.0 through.0 up
-    (subst (AllByRecursion (λ y. get_or ps y 0 ≡ parent_of bs y)) is (at_nodes n bs ps (chain_of older v) h table (λ x e. older_node n bs a x (chain_node n older v x iv e))))
+    (subst (AllByRecursion (λ y. get_or ps y 0 ≡ parent_of bs y)) is (at_nodes n bs ps (chain_of older v) table (λ x e. older_node n bs a x (chain_node n older v x iv e))))
     (subst (AllByRecursion (λ y. y ≢ a)) is (each_from (λ y. y ≢ a) (chain_of older v) (λ x e. λ s. both_ways (is_node n older a) (older_fresh n bs a h k) (subst (λ y. is_node n older y ≡ true) s (chain_node n older v x iv e)))))
     (omega (arith, ap length is, chain_short older v, older_short bs a, blossoms_few n bs h, len))
     ∙ sym (ap (last_of v) is) ∙ chain_last older v v

@@ -18,7 +18,7 @@ use Rattle.graph_theory.specs.Nested.{most_blossoms}
 use Rattle.graph_theory.specs.Duals.{IsNumber}
 use Rattle.blossom_arena.specs.Family.{Blossom, nodes_of, in_ring, names_of, is_vertex, is_node, is_child, members_of, union_of, made_of, dual_at, HasDuals, IsCircuit, IsNext, IsNested, outermost}
 use Rattle.blossom_arena.specs.Tables.{last_of}
-use Rattle.blossom_arena.specs.Fields.{IsSound, blossoms_of, order_of, key_of, kept_of, kept_or_none, runs_of, IsRun, joined, parent_of, build, IsOrder, sum_at, added, outer_dual, inner_of}
+use Rattle.blossom_arena.specs.Fields.{IsSound, blossoms_of, order_of, key_of, kept_of, kept_or_none, runs_of, IsRun, joined, parent_entry, build, IsOrder, sum_at, added, outer_dual, inner_of}
 use Rattle.blossom_arena.proofs.Lists.{by_test, AllNew, new_from_distinct, first_in, later_in, each_from}
 use Rattle.blossom_arena.proofs.Nested.{circuit_outer, circuit_node, outermost_parts, node_range, vertex_range, range_vertex, name_is_node}
 use Rattle.blossom_arena.proofs.Sets.{members_past, member_vertex}
@@ -28,6 +28,7 @@ use Rattle.blossom_arena.proofs.Orders.{put_first_order, walk_order}
 use Rattle.blossom_arena.proofs.Builds.{build-same}
 use Rattle.blossom_arena.proofs.Joins.{length-joined, joined_out, run_keeps}
 use Rattle.blossom_arena.proofs.Sound.{rings, order_names, order_len, order_new, order_range, order_no_zero, node_run, ring_walk_child, circuit_joins, joined_run, circuit_union_new}
+use Rattle.blossom_arena.proofs.Marks.{shrunk_entry}
 use Rattle.blossom_arena.proofs.Held.{inner_shrunk}
 use Rattle.blossom_arena.proofs.Added.{length-added, added_at}
 
@@ -50,7 +51,7 @@ pub record Shrinks (a b : Inside) (ring : List Link) (node key : ℕ) : Type 0 w
   pub followers : b.followers.items ≡ joined a.followers.items 0 (runs_of a.vertex_count a.kept ring)
   pub nexts : b.nexts.items ≡ threaded a.nexts.items ring (next_node ring 0)
   pub edges : b.edges.items ≡ noted a.edges.items ring
-  pub parents : b.parents.items ≡ filled a.parents.items (nodes_of ring) node
+  pub parents : b.parents.items ≡ slice_set (filled a.parents.items (nodes_of ring) node) node 0
   pub outer : b.outer.items ≡ filled a.outer.items (union_of (blossoms_of a) ring) node
   pub inner : b.inner.items ≡ added a.inner.items (outer_dual a.outer.items a.duals.items) (union_of (blossoms_of a) ring)
   pub older : b.older.items ≡ slice_set (slice_set a.older.items node (slice_index a.older.items 0)) 0 node
@@ -237,7 +238,7 @@ module _ (a : Inside) (duals inner : Vec ℤ) (parents nexts edges outer followe
         duals = subst (HasDuals n duals.items) (sym blossoms_after) duals_after;
       };
       places = record {
-        parents = ap length h.parents ∙ length-filled a.parents.items (nodes_of ring) node ∙ s.places.parents;
+        parents = ap length h.parents ∙ length-set (filled a.parents.items (nodes_of ring) node) node 0 ∙ length-filled a.parents.items (nodes_of ring) node ∙ s.places.parents;
         nexts = ap length h.nexts ∙ length-threaded a.nexts.items ring (next_node ring 0) ∙ s.places.nexts;
         edges = ap length h.edges ∙ length-noted a.edges.items ring ∙ s.places.edges;
         older = ap length h.older ∙ length-set (slice_set a.older.items node (slice_index a.older.items 0)) 0 node ∙ length-set a.older.items node (slice_index a.older.items 0) ∙ s.places.older;
@@ -256,8 +257,9 @@ module _ (a : Inside) (duals inner : Vec ℤ) (parents nexts edges outer followe
           ∙ sym (inner_shrunk n bs v s.family.nested (range_vertex n v low high) a.duals.items ring node fresh above (omega (arith, within, s.family.duals.one_each)))
           ∙ ap₂ (λ (ys : List ℤ) (us : List Blossom). inner_of (dual_at ys) us v) (sym h.duals) (sym blossoms_after);
       parents = λ x high.
-          ap (λ t. slice_index t x) h.parents ∙ filled_at a.parents.items (nodes_of ring) node x (omega (arith, high, s.places.parents))
-          ∙ ap (λ p. cond (in_ring ring x) node p) (s.parents x high) ∙ ap (λ us. parent_of us x) (sym blossoms_after);
+          ap (λ t. slice_index t x) h.parents
+          ∙ shrunk_entry n bs ring node a.parents.items x (next, s.family.nested) (omega (arith, within, s.places.parents)) (omega (arith, high, s.places.parents)) (s.parents x high)
+          ∙ ap (λ us. parent_entry n us x) (sym blossoms_after);
       order = subst (IsOrder older.items newer.items 0) (sym order_after) order;
       runs = λ x e. subst (λ us. IsRun followers.items (kept_of n kept x).run (members_of us x)) (sym blossoms_after) (runs_after x (ap (λ ys. holds ys x) (sym order_after) ∙ e));
       kept = subst (AllByRecursion (λ x. IsSome (get kept (key_of n x)))) (sym order_after)

@@ -9,7 +9,7 @@ use Rattle.blossom_arena.specs.declared.runs.Kept.{Kept}
 use Rattle.blossom_arena.specs.declared.arena.Arena.TheInside.{Inside}
 use Rattle.blossom_arena.specs.Tables.{last_of, walk, links_of, filled}
 use Rattle.graph_theory.specs.Nested.{most_blossoms}
-use Rattle.blossom_arena.specs.Family.{Blossom, Family, IsFamily, outermost, made_of, in_ring, members_of, dual_at}
+use Rattle.blossom_arena.specs.Family.{Blossom, Family, IsFamily, is_node, outermost, made_of, in_ring, members_of, dual_at}
 use Rattle.blossom_arena.specs.Slack.{IsCover, held_by}
 
 -- the key of a blossom's node
@@ -114,6 +114,10 @@ abbrev pub parent_of : List Blossom → ℕ → ℕ
 parent_of [] a = 0
 parent_of (b ∷ older) a = if in_ring b.ring a then b.node else parent_of older a
 
+-- what the table of parents has for a number: 1 where no node has got it
+abbrev pub parent_entry : ℕ → List Blossom → ℕ → ℕ
+parent_entry n bs x = if is_node n bs x then parent_of bs x else 1
+
 abbrev pub order_of : Inside → List ℕ
 order_of a = walk (slab_len a.kept) a.older.items (slice_index a.older.items 0)
 
@@ -139,7 +143,7 @@ pub record IsSound (a : Inside) : Type 0 where
   pub places : HasPlaces a
   pub outer : (v : ℕ) → 1 ≤ v → v ≤ a.vertex_count → slice_index a.outer.items v ≡ outermost (blossoms_of a) v
   pub inner : (v : ℕ) → 1 ≤ v → v ≤ a.vertex_count → sum_at a.inner.items v ≡ inner_of (dual_at a.duals.items) (blossoms_of a) v
-  pub parents : (x : ℕ) → x ≤ a.vertex_count + most_blossoms a.vertex_count → slice_index a.parents.items x ≡ parent_of (blossoms_of a) x
+  pub parents : (x : ℕ) → x ≤ a.vertex_count + most_blossoms a.vertex_count → slice_index a.parents.items x ≡ parent_entry a.vertex_count (blossoms_of a) x
   pub order : IsOrder a.older.items a.newer.items 0 (order_of a)
   pub runs : (x : ℕ) → holds (order_of a) x ≡ true → IsRun a.followers.items (kept_of a.vertex_count a.kept x).run (members_of (blossoms_of a) x)
   pub kept : AllByRecursion (λ x. IsSome (get a.kept (key_of a.vertex_count x))) (order_of a)

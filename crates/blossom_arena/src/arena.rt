@@ -16,7 +16,7 @@ use crate::order::{put_first, take_out};
 use crate::ring::Ring;
 use crate::runs::{Kept, find_kept, find_run, has_kept, join, lower};
 use crate::sums::{add_each, add_outer, take_outer};
-use crate::tables::{fill, hang, note, numbered, renumber, thread, wipe};
+use crate::tables::{NO_NODE, bare, fill, hang, note, numbered, renumber, set_entry, thread, wipe};
 use graph_theory::GRAPH_VERTEX_LIMIT;
 use mb_base::{EdgeId, OutOfMemory, VertexId};
 use slab::Slab;
@@ -31,7 +31,8 @@ use std::marker::Model;
 pub struct Arena {
     vertex_count: u32,
     // By node number, with place 0 unused: its dual, the blossom in whose ring it lies or 0, and in that
-    // ring the next node and the edge to it.
+    // ring the next node and the edge to it. A number that no node has got has the parent `NO_NODE`, so that
+    // one look tells whether it is an outermost node.
     duals: Vec<i64>,
     parents: Vec<u32>,
     nexts: Vec<u32>,
@@ -74,10 +75,12 @@ impl Arena {
             return Err(AllocError);
         }
         let places = count + room + 1;
+        let mut parents = vec![in alloc; 0u32; places]?;
+        bare(&mut parents, n);
         Ok(Arena {
             vertex_count: n,
             duals: vec![in alloc; 0i64; places]?,
-            parents: vec![in alloc; 0u32; places]?,
+            parents,
             nexts: vec![in alloc; 0u32; places]?,
             edges: vec![in alloc; EdgeId::new(0); places]?,
             outer: numbered(alloc, n)?,
@@ -129,13 +132,17 @@ impl Arena {
         self.is_blossom(node)
     }
 
-    /// Whether no other node holds a node, in constant time.
+    /// Whether this is a node and no other node holds it, by one look at a table. Any number may be asked
+    /// for.
     pub fn is_outermost(&self, node: NodeId) -> bool
-        requires { is_node self.now.vertex_count self.now.blossoms node ≡ true }
         ensures outer { result ≡ is_outermost self.now.vertex_count self.now.blossoms node }
         ensures good { IsFamily self.now }
     {
-        self.parents[node.number() as usize] == 0
+        let number = node.number();
+        if number as usize >= self.parents.len() {
+            return false;
+        }
+        self.parents[number as usize] == 0
     }
 
     /// The outermost node that holds a vertex, in constant time.
@@ -188,6 +195,18 @@ impl Arena {
             ),
             d,
         );
+    }
+
+    /// Adds d, in doubled units, to the dual of an outermost node, in constant time. The sum lies within
+    /// 10^15, and is not below 0 for a blossom.
+    pub fn add_outer_dual(&mut self, node: NodeId, d: i64)
+        requires outer { is_outermost self.old.vertex_count self.old.blossoms node ≡ true }
+        requires in_range { IsNumber (dual_at self.old.duals node +ℤ d) }
+        requires not_below { self.old.vertex_count < node → pos 0 ≤ℤ (dual_at self.old.duals node +ℤ d) }
+        ensures family { self.new ≡ raised self.old node d }
+        ensures good { IsFamily self.new }
+    {
+        raise_dual(&mut self.duals, node.number(), d);
     }
 
     /// The links of the circuit that a blossom was made of.
@@ -263,6 +282,7 @@ impl Arena {
             Ring::of(&self.nexts, &self.edges, first, links),
             node,
         );
+        set_entry(&mut self.parents, node, 0);
         add_outer(
             &mut self.inner,
             Members::of(&self.followers, run),
@@ -291,6 +311,7 @@ impl Arena {
             Ring::of(&self.nexts, &self.edges, kept.first, kept.links),
             0,
         );
+        set_entry(&mut self.parents, node, NO_NODE);
         lower(
             &mut self.outer,
             Ring::of(&self.nexts, &self.edges, kept.first, kept.links),
@@ -314,7 +335,7 @@ impl Arena {
         self.kept.clear();
         wipe_duals(&mut self.duals);
         wipe_duals(&mut self.inner);
-        wipe(&mut self.parents);
+        bare(&mut self.parents, self.vertex_count);
         wipe(&mut self.older);
         wipe(&mut self.newer);
         renumber(&mut self.outer);

@@ -1,8 +1,9 @@
-ghost use Rattle.std.specs.Prelude.{◌≡◌, ◌<◌, ◌≤◌, ◌+◌, ◌^◌, ℕ, IfOk, replicate, slice_index, map, drop, length, vec_len};
+ghost use Rattle.std.specs.Prelude.{◌≡◌, ◌<◌, ◌≤◌, ◌+◌, ◌^◌, ℕ, [], IfOk, replicate, slice_index, slice_set, map, drop, length, vec_len};
 ghost use Rattle.std.specs.List.{AllByRecursion};
 ghost use Rattle.graph_theory.specs.declared.limits.TheConstants.{GRAPH_VERTEX_LIMIT};
 ghost use Rattle.blossom_arena.specs.Tables.{filled, threaded, noted};
 ghost use Rattle.blossom_arena.specs.Family.{nodes_of};
+ghost use Rattle.blossom_arena.specs.Fields.{parent_entry};
 ghost use Rattle.blossom_arena.specs.declared.links.Link.{Link};
 
 use crate::links::{Link, node_at};
@@ -11,6 +12,42 @@ use crate::ring::Ring;
 use graph_theory::GRAPH_VERTEX_LIMIT;
 use mb_base::{EdgeId, OutOfMemory};
 use std::alloc::Global;
+
+/// What the table of parents has for a number that no node has got.
+pub(crate) const NO_NODE: u32 = 1;
+
+/// What the table of parents has for a number where there is no blossom: 0 for a vertex.
+fn bare_entry(number: u32, n: u32) -> u32
+    ensures { result ≡ parent_entry n [] number }
+{
+    if number == 0 {
+        return NO_NODE;
+    }
+    if number > n {
+        return NO_NODE;
+    }
+    0
+}
+
+/// Makes it the table of parents of n vertices where there is no blossom.
+pub(crate) fn bare(table: &mut Vec<u32>, n: u32)
+    requires { vec_len table.old < 2 ^ 32 }
+    ensures len { vec_len table.new ≡ vec_len table.old }
+    ensures each { (x : ℕ) → x < vec_len table.old → slice_index table.new.items x ≡ parent_entry n [] x }
+{
+    for place in 0..table.len() {
+        table[place] = bare_entry(place as u32, n);
+    }
+}
+
+/// Puts an entry at a place.
+pub(crate) fn set_entry(table: &mut Vec<u32>, place: u32, entry: u32)
+    requires { place < vec_len table.old }
+    ensures items { table.new.items ≡ slice_set table.old.items place entry }
+    ensures len { vec_len table.new ≡ vec_len table.old }
+{
+    table[place as usize] = entry;
+}
 
 /// The numbers 0 to n.
 pub(crate) fn numbered(alloc: Global, n: u32) -> Result<Vec<u32>, OutOfMemory>

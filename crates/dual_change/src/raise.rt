@@ -1,6 +1,6 @@
 ghost use Rattle.std.specs.Prelude.{◌≡◌, ◌<◌, ◌≤◌, ◌+◌, ℕ, ℤ, pos, ◌+ℤ◌, ◌≤ℤ◌, true};
 ghost use Rattle.graph_theory.specs.Duals.{IsNumber};
-ghost use Rattle.blossom_arena.specs.Family.{dual_at, is_outermost};
+ghost use Rattle.blossom_arena.specs.Family.{dual_at};
 ghost use Rattle.graph_theory.specs.declared.limits.TheConstants.{NUMBER_LIMIT};
 ghost use Rattle.alt_forest.specs.Searches.{HasShape, IsSound, state_of, put};
 ghost use Rattle.alt_forest.specs.Entries.{HasNoTree, IsQueued};
@@ -10,30 +10,28 @@ ghost use Rattle.alt_forest.specs.State.{IsOutermost};
 ghost use Rattle.dual_change.specs.Changes.{share, applied, IsWithin, StaysInRange};
 
 use alt_forest::{Label, Search};
-use blossom_arena::{Arena, NodeId};
+use blossom_arena::NodeId;
 use mb_base::Steps;
 use std::sync::ledger::Ledger;
+
+/// How often a change is added to the dual of a node with this label. The answers are constants, so that a
+/// machine needs no branch on the label, which it could not foresee.
+fn times(label: Label) -> i64
+    ensures { result ≡ share (pos 1) label }
+{
+    match label {
+        Label::Outer => 1,
+        Label::Inner => -1,
+        Label::Out => 0,
+    }
+}
 
 /// What a change of d adds to the dual of a node with this label.
 fn share(d: i64, label: Label) -> i64
     requires low { pos 0 ≤ℤ d }
     ensures { result ≡ share d label }
 {
-    match label {
-        Label::Outer => d,
-        Label::Inner => -d,
-        Label::Out => 0,
-    }
-}
-
-/// Whether this is an outermost node.
-fn is_outer_node(arena: &Arena, node: NodeId) -> bool
-    ensures { result ≡ is_outermost arena.now.vertex_count arena.now.blossoms node }
-{
-    if !arena.is_node(node) {
-        return false;
-    }
-    arena.is_outermost(node)
+    d * times(label)
 }
 
 /// Gives a node, if there is one of this number and it is outermost, its share of a change of d.
@@ -46,11 +44,11 @@ fn raise(search: &mut Search, node: NodeId, d: i64)
     ensures rest { search.new ≡ record search.old { arena = record search.old.arena { duals = search.new.arena.duals } } }
     ensures shape { HasShape search.new }
 {
-    if !is_outer_node(&search.arena, node) {
+    if !search.arena.is_outermost(node) {
         return;
     }
     let more = share(d, search.label(node));
-    search.arena.add_dual(node, more);
+    search.arena.add_outer_dual(node, more);
 }
 
 /// Gives each node that is listed for changes its share of a change of d.

@@ -1,5 +1,5 @@
-use Rattle.std.proofs.Common.{◌≡◌, ◌≢◌, ◌∙◌, ℕ, ◌<◌, List, true, sym, ap, ap₂, subst, length, arith, rules, to_z, of_z}
-use Rattle.std.specs.Prelude.{ℤ, pos, ◌≤ℤ◌, ◌+ℤ◌, slice_index, slice_set, vec_len, All}
+use Rattle.std.proofs.Common.{◌≡◌, ◌≢◌, ◌∙◌, ℕ, ◌<◌, List, true, sym, ap, subst, length, arith, rules, to_z, of_z}
+use Rattle.std.specs.Prelude.{ℤ, ◌+ℤ◌, slice_index, slice_set, vec_len, All}
 use Rattle.std.specs.List.{AllByRecursion}
 use mir.Syntax.{w64}
 use Rattle.std.proofs.lemmas.Bool.{eq-eqb}
@@ -8,46 +8,27 @@ use Rattle.std.proofs.lemmas.List.{get_or_default}
 use Rattle.graph_theory.specs.Duals.{IsNumber}
 use Rattle.blossom_arena.specs.declared.runs.Run.{Run}
 use Rattle.blossom_arena.specs.declared.arena.Arena.TheInside.{Inside}
-use Rattle.blossom_arena.specs.Family.{Family, is_node, is_child, is_outermost, members_of, HasDuals, dual_at}
-use Rattle.blossom_arena.specs.Fields.{IsSound, blossoms_of, family_of, parent_of, vertices_of, added, AreSums}
+use Rattle.blossom_arena.specs.Family.{is_node, is_child, is_outermost, members_of, dual_at}
+use Rattle.blossom_arena.specs.Fields.{IsSound, blossoms_of, parent_of, vertices_of, added, AreSums}
 use Rattle.blossom_arena.proofs.Nested.{node_range}
 use Rattle.blossom_arena.proofs.Parents.{parent_child}
 use Rattle.blossom_arena.proofs.Asked.{outer_test}
 use Rattle.blossom_arena.proofs.Sound.{members_within, node_run}
 use Rattle.blossom_arena.proofs.Held.{dual_number}
 use Rattle.blossom_arena.proofs.Summed.{IsStep, members_fit, members_in_sums}
-use Rattle.blossom_arena.proofs.Duals.{duals_set, raised_outer, raised_child}
+use Rattle.blossom_arena.proofs.Duals.{node_is, duals_after, raised_outer, raised_child}
+use Rattle.blossom_arena.proofs.Marks.{parent_at}
 use Rattle.blossom_arena.proofs.arena.Arena.add_dual.Goals as goal
-
--- the node, by the view
-node_is : (a : Inside) (f : Family) (x y : ℕ) → family_of a ≡ f → is_node f.vertex_count f.blossoms x ≡ true → y ≡ x → is_node a.vertex_count (blossoms_of a) y ≡ true
-node_is a f x y view is same = ap₂ (λ (g : Family) (z : ℕ). is_node g.vertex_count g.blossoms z) view same ∙ is
-
--- the duals after the change
-duals_after : (a : Inside) (f : Family) (x y : ℕ) (d : ℤ) (ys : List ℤ) → IsSound a → family_of a ≡ f → is_node f.vertex_count f.blossoms x ≡ true → y ≡ x
-    → IsNumber (dual_at f.duals x +ℤ d) → (f.vertex_count < x → pos 0 ≤ℤ (dual_at f.duals x +ℤ d)) → ys ≡ slice_set a.duals.items y (dual_at a.duals.items y +ℤ d)
-    → HasDuals a.vertex_count ys (blossoms_of a)
-duals_after a f x y d ys s view is same in_range not_below written =
-    let range = node_range a.vertex_count (blossoms_of a) y s.family.nested (node_is a f x y view is same) in
-    let number : IsNumber (dual_at a.duals.items y +ℤ d) = subst (λ (z : ℕ). IsNumber (dual_at a.duals.items z +ℤ d)) (sym same) (subst (λ (g : Family). IsNumber (dual_at g.duals x +ℤ d)) (sym view) in_range) in
-    let fine : a.vertex_count < y → pos 0 ≤ℤ (dual_at a.duals.items y +ℤ d) =
-    subst (λ (z : ℕ). a.vertex_count < z → pos 0 ≤ℤ (dual_at a.duals.items z +ℤ d)) (sym same) (subst (λ (g : Family). g.vertex_count < x → pos 0 ≤ℤ (dual_at g.duals x +ℤ d)) (sym view) not_below) in
-    subst (λ (zs : List ℤ). HasDuals a.vertex_count zs (blossoms_of a)) (sym written)
-    (duals_set a.vertex_count (blossoms_of a) a.duals.items y (dual_at a.duals.items y +ℤ d) s.family.nested (omega (arith, range.1, s.family.duals.one_each)) number fine s.family.duals)
 
 step : (ys : List ℤ) (x : ℕ) (d : ℤ) (v : ℕ) → All IsNumber ys → IsNumber (dual_at ys x +ℤ d) → IsStep d
 step ys x d v all is = let was = dual_number ys x all in record { low = omega (arith, ints, is.0, is.1, was.0, was.1); high = omega (arith, ints, is.0, is.1, was.0, was.1) }
 
--- what is read of the parents
-parent_at : (a : Inside) (x p : ℕ) → IsSound a → is_node a.vertex_count (blossoms_of a) x ≡ true → p ≡ slice_index a.parents.items x → p ≡ parent_of (blossoms_of a) x
-parent_at a x p s is read = read ∙ s.parents x (node_range a.vertex_count (blossoms_of a) x s.family.nested is).1
-
 outer_from : (a : Inside) (x p : ℕ) → IsSound a → is_node a.vertex_count (blossoms_of a) x ≡ true → p ≡ slice_index a.parents.items x → p ≡ 0 → is_outermost a.vertex_count (blossoms_of a) x ≡ true
 outer_from a x p s is read zero =
-    sym (outer_test a.vertex_count (blossoms_of a) x s.family.nested is) ∙ eq-eqb (parent_of (blossoms_of a) x) 0 (sym (parent_at a x p s is read) ∙ zero)
+    sym (outer_test a.vertex_count (blossoms_of a) x s.family.nested is) ∙ eq-eqb (parent_of (blossoms_of a) x) 0 (sym (read ∙ parent_at a s x is) ∙ zero)
 
 child_from : (a : Inside) (x p : ℕ) → IsSound a → is_node a.vertex_count (blossoms_of a) x ≡ true → p ≡ slice_index a.parents.items x → p ≢ 0 → is_child (blossoms_of a) x ≡ true
-child_from a x p s is read ne = parent_child (blossoms_of a) x (λ z. ne (parent_at a x p s is read ∙ z))
+child_from a x p s is read ne = parent_child (blossoms_of a) x (λ z. ne (read ∙ parent_at a s x is ∙ z))
 
 pub raise_dual-requires-clause-place : goal.raise_dual-requires-clause-place
 raise_dual-requires-clause-place c =

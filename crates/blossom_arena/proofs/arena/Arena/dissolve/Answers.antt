@@ -1,5 +1,5 @@
 use Rattle.std.proofs.Common.{◌≡◌, ◌∙◌, ℕ, ◌<◌, ◌+◌, List, true, false, sym, ap, ap₂, subst, length, arith}
-use Rattle.std.specs.Prelude.{ℤ, neg_ℤ, slice_index, vec_len}
+use Rattle.std.specs.Prelude.{ℤ, neg_ℤ, slice_index, slice_set, vec_len}
 use Rattle.std.specs.List.{AllByRecursion}
 use Rattle.graph_theory.specs.Parts.{holds}
 use Rattle.slab.specs.Slab.{Slab}
@@ -75,6 +75,11 @@ hang-requires c =
     subst (λ (ls : List Link). AllByRecursion (λ (l : Link). l.node < vec_len c.self.inside.parents) ls) (sym ring)
     (children_within c.self.inside c.number-node.result c.self.invariant there (vec_len c.self.inside.parents) enough)
 
+pub set_entry-requires : goal.set_entry-requires
+set_entry-requires c =
+    let there = in_order c.self.inside _ c.args.b c.number-node.result c.self.view_is c.requires.blossom c.number-node.ensures in
+    omega (arith, (order_range c.self.inside c.self.invariant c.number-node.result there).1, c.hang.ensures.len, c.self.invariant.places.parents)
+
 pub of-requires-2 : goal.of-requires-2
 of-requires-2 c =
     let there = in_order c.self.inside _ c.args.b c.number-node.result c.self.view_is c.requires.blossom c.number-node.ensures in
@@ -129,7 +134,7 @@ after c = record {
   vertex_count = c.self.inside.vertex_count;
   duals = c.self.inside.duals;
   inner = c.take_outer.new.sums;
-  parents = c.hang.new.table;
+  parents = c.set_entry.new.table;
   nexts = c.self.inside.nexts;
   edges = c.self.inside.edges;
   outer = c.lower.new.outer;
@@ -155,7 +160,7 @@ changes c there =
       capacity = c.remove-kept.ensures.capacity;
       older = c.take_out.ensures.older;
       newer = c.take_out.ensures.newer;
-      parents = c.hang.ensures.items ∙ ap (λ (ls : List Link). filled a.parents.items (nodes_of ls) 0) ring;
+      parents = c.set_entry.ensures.items ∙ ap (λ (t : List ℕ). slice_set t node 1) (c.hang.ensures.items ∙ ap (λ (ls : List Link). filled a.parents.items (nodes_of ls) 0) ring);
       outer = lowered_is a c.remove-kept.new.self c.lower.new.outer.items c.deref-5.result.now c.of-2.result node c.lower.ensures.items c.deref-5.ensures.value ring2;
       inner = c.take_outer.ensures.items
           ∙ ap₂ (λ (os : List ℕ) (ys : List ℤ). added a.inner.items (λ v. neg_ℤ (outer_dual os ys v)) c.of-3.result) c.deref-7.ensures.value c.deref-8.ensures.value

@@ -1,25 +1,26 @@
-use Rattle.std.proofs.Common.{◌≡◌, ◌∙◌, ℕ, true, sym, ap, subst, arith, eqb}
-use Rattle.std.specs.Prelude.{slice_index}
+use Rattle.std.proofs.Common.{◌≡◌, ◌∙◌, ℕ, ◌<◌, length, sym, ap, ap₂, arith, eqb}
+use Rattle.std.specs.Prelude.{slice_index_or}
 use Rattle.std.proofs.lemmas.List.{get_or_default}
-use Rattle.blossom_arena.specs.Family.{Family, is_node, is_outermost}
-use Rattle.blossom_arena.specs.Fields.{blossoms_of, parent_of}
-use Rattle.blossom_arena.proofs.Nested.{node_range}
-use Rattle.blossom_arena.proofs.Asked.{outer_test}
+use Rattle.blossom_arena.specs.Family.{Family, is_outermost}
+use Rattle.blossom_arena.specs.declared.arena.Arena.TheInside.{Inside}
+use Rattle.blossom_arena.specs.Fields.{IsSound, blossoms_of, family_of}
+use Rattle.blossom_arena.proofs.Asked.{outer_entry}
+use Rattle.blossom_arena.proofs.Marks.{none_above}
 use Rattle.blossom_arena.proofs.arena.Arena.is_outermost.Goals as goal
 
-pub index-requires : goal.index-requires
-index-requires c =
-    let is = subst (λ f. is_node f.vertex_count f.blossoms c.args.node ≡ true) (sym c.self.view_is) c.requires in
-    omega (arith, (node_range _ _ c.args.node c.self.invariant.family.nested is).1, c.number.ensures, c.self.invariant.places.parents)
+-- the test of an entry that is read, by the view
+tested : (a : Inside) (f : Family) (x y p : ℕ) → IsSound a → family_of a ≡ f → y ≡ x → y < length a.parents.items → p ≡ slice_index_or a.parents.items y p → eqb p 0 ≡ is_outermost f.vertex_count f.blossoms x
+tested a f x y p s view same low read =
+    ap (λ (q : ℕ). eqb q 0) (read ∙ get_or_default a.parents.items y p 0 low ∙ s.parents y (omega (arith, low, s.places.parents)))
+    ∙ outer_entry a.vertex_count (blossoms_of a) y s.family.nested
+    ∙ ap₂ (λ (g : Family) (z : ℕ). is_outermost g.vertex_count g.blossoms z) view same
+
+pub returns-then-number-len-clause-outer : goal.returns-then-number-len-clause-outer
+returns-then-number-len-clause-outer c =
+    let a : Inside = c.self.inside in
+    sym (none_above a.vertex_count (blossoms_of a) c.number-number.result c.self.invariant.family.nested (omega (arith, c.if-number-len.true, c.len.ensures, c.self.invariant.places.parents)))
+    ∙ ap₂ (λ (f : Family) (x : ℕ). is_outermost f.vertex_count f.blossoms x) c.self.view_is c.number-number.ensures
 
 pub returns-clause-outer : goal.returns-clause-outer
 returns-clause-outer c =
-    let n : ℕ = c.self.inside.vertex_count in
-    let is = subst (λ f. is_node f.vertex_count f.blossoms c.args.node ≡ true) (sym c.self.view_is) c.requires in
-    let range = node_range n (blossoms_of c.self.inside) c.args.node c.self.invariant.family.nested is in
-    let read : c.index.result.now ≡ slice_index c.self.inside.parents.items c.number.result =
-    c.index.ensures ∙ get_or_default c.self.inside.parents.items c.number.result c.index.result.now 0 (omega (arith, range.1, c.number.ensures, c.self.invariant.places.parents)) in
-    let parent : c.index.result.now ≡ parent_of (blossoms_of c.self.inside) c.args.node =
-    read ∙ ap (slice_index c.self.inside.parents.items) c.number.ensures ∙ c.self.invariant.parents c.args.node range.1 in
-    ap (λ (p : ℕ). eqb p 0) parent ∙ outer_test n (blossoms_of c.self.inside) c.args.node c.self.invariant.family.nested is
-    ∙ ap (λ (f : Family). is_outermost f.vertex_count f.blossoms c.args.node) c.self.view_is
+    tested c.self.inside _ c.args.node c.number-number.result c.index.result.now c.self.invariant c.self.view_is c.number-number.ensures (omega (arith, c.if-number-len.false, c.len.ensures)) c.index.ensures

@@ -1,5 +1,5 @@
 use Rattle.std.proofs.Common.{◌≡◌, ◌∙◌, ℕ, ◌<◌, ◌+◌, List, ◌∷◌, sym, ap, ap₂, subst, length, arith, Some}
-use Rattle.std.specs.Prelude.{ℤ, slice_index, vec_len}
+use Rattle.std.specs.Prelude.{ℤ, slice_index, slice_set, vec_len}
 use Rattle.std.specs.List.{AllByRecursion}
 use Rattle.blossom_arena.specs.declared.links.Link.{Link}
 use Rattle.slab.specs.Slab.{Updates}
@@ -132,7 +132,7 @@ after c = record {
   vertex_count = c.self.inside.vertex_count;
   duals = c.set_dual.new.duals;
   inner = c.add_outer.new.sums;
-  parents = c.hang.new.table;
+  parents = c.set_entry.new.table;
   nexts = c.thread.new.nexts;
   edges = c.note.new.edges;
   outer = c.fill.new.table;
@@ -166,7 +166,7 @@ changes c circuit =
       followers = c.join-run.ensures.items;
       nexts = c.thread.ensures.items ∙ ap (threaded a.nexts.items ring) first;
       edges = c.note.ensures.items;
-      parents = c.hang.ensures.items ∙ ap (λ (ls : List Link). filled a.parents.items (nodes_of ls) (node c)) written;
+      parents = c.set_entry.ensures.items ∙ ap (λ (t : List ℕ). slice_set t (node c) 0) (c.hang.ensures.items ∙ ap (λ (ls : List Link). filled a.parents.items (nodes_of ls) (node c)) written);
       outer = c.fill.ensures.items ∙ ap (λ (vs : List ℕ). filled a.outer.items vs (node c)) again;
       inner = c.add_outer.ensures.items
           ∙ ap₂ (λ (os : List ℕ) (ys : List ℤ). added a.inner.items (outer_dual os ys) c.of-2.result) c.deref-4.ensures.value c.deref-5.ensures.value
