@@ -10,7 +10,7 @@ use Rattle.blossom_arena.specs.Slack.{duals_across}
 use Rattle.blossom_arena.proofs.Ends.{u_vertex, v_vertex}
 use Rattle.alt_forest.specs.State.{State, held_by, cover, doubled, slack_of, node_u, node_v}
 use Rattle.alt_forest.specs.Chains.{holders, total_of}
-use Rattle.alt_forest.specs.Ends.{LeadsTo}
+use Rattle.alt_forest.specs.Spokes.{LeadsTo}
 use Rattle.alt_forest.proofs.Forks.{sharers, append_nil, total-append, together, chain_split, across_split}
 
 pub chain_cover : (y : ℕ → ℤ) (bs : List Blossom) (v : ℕ) → total_of y (chain_of bs v) ≡ y v +ℤ held_by y bs v

@@ -1,21 +1,18 @@
 -- Edges are given their moments one by one: those at a vertex, and those at each of some vertices.
-use Rattle.std.proofs.Common.{◌≡◌, ◌≢◌, ℕ, ◌+◌, ◌<◌, ◌≤◌, Bool, true, false, ◌||◌, eqb, List, [], ◌∷◌, length, get_or, Option, refl, sym, ap, ap₂, ◌∙◌, subst, arith}
-use Rattle.std.specs.Prelude.{ℤ, slice_index_or}
-use Rattle.std.proofs.lemmas.List.{get_or_read}
+use Rattle.std.proofs.Common.{◌≡◌, ◌≢◌, ℕ, ◌+◌, ◌<◌, Bool, true, false, ◌||◌, eqb, List, ◌∷◌, length, get_or, Option, refl, sym, ap, ap₂, ◌∙◌, subst, arith}
+use Rattle.std.specs.Prelude.{ℤ}
 use Rattle.std.proofs.lemmas.Bool.{eqb-true, eqb-false, ne_eqb, or_parts, both_ways}
 use Rattle.graph_theory.specs.declared.edge.Edge.{Edge as GraphEdge}
 use Rattle.graph_theory.specs.Parts.{holds}
 use Rattle.graph_theory.specs.Graph.{Multigraph, IsEdgeNumber, edge_of, edges_around, touches}
 use Rattle.graph_theory.proofs.Around.{around-has}
 use Rattle.graph_theory.proofs.Members.{holds_at, holds_place, eqb-turned}
-use Rattle.blossom_arena.specs.Family.{is_vertex}
 use Rattle.blossom_arena.proofs.Lists.{by_test}
-use Rattle.blossom_arena.proofs.Nested.{vertex_range}
 use Rattle.edge_queue.specs.declared.item.Item.TheVariants.{Edge}
 use Rattle.edge_queue.specs.Moments.{Moments, moment_of, entry}
 use Rattle.alt_forest.specs.declared.search.Search.{Search}
 use Rattle.alt_forest.specs.State.{State}
-use Rattle.alt_forest.specs.Searches.{HasShape, state_of}
+use Rattle.alt_forest.specs.Searches.{state_of}
 use Rattle.alt_forest.specs.Entries.{NeedsMoment, IsEntered, IsQueuedBut, touches_any}
 
 -- a queue that has the same for an edge gives it what it needs just so
@@ -42,16 +39,6 @@ pub by_places : (P : ℕ → Type 0) (g : Multigraph) (v : ℕ) → ((i : ℕ) �
 by_places P g v h e is touched =
     let at = holds_place (edges_around g v) e (around-has g v e is touched) in
     subst P at.2 (h at.0 at.1)
-
--- the index has the edges at a vertex
-pub index_list : (s : Search) (g : Multigraph) (v : ℕ) (xs : List ℕ) → HasShape s → g ≡ s.graph → is_vertex g.vertices v ≡ true → xs ≡ slice_index_or s.incidence v [] → xs ≡ edges_around g v
-index_list s g v xs h same vertex is =
-    let range = vertex_range g.vertices v vertex in
-    let within : v ≤ s.graph.vertices = omega (arith, range.1, ap (λ (k : Multigraph). k.vertices) same) in
-    is ∙ h.room.index.exact v within ∙ ap (λ (k : Multigraph). edges_around k v) (sym same)
-
-pub listed_edge : (g : Multigraph) (v : ℕ) (xs : List ℕ) (k e : ℕ) → xs ≡ edges_around g v → k < length xs → e ≡ get_or xs k e → e ≡ get_or (edges_around g v) k 0
-listed_edge g v xs k e list low is = get_or_read xs k e low is 0 ∙ ap (λ (ys : List ℕ). get_or ys k 0) list
 
 -- an edge that no vertex of a longer list touches
 neither : (p q r t : Bool) → (p || q) ≡ false → (r || t) ≡ false → ((p || r) || (q || t)) ≡ false

@@ -26,6 +26,7 @@ pub mod Needs
 pub mod NoTree
 pub mod Looks
 pub mod Duals
+pub mod SpokeLists
 pub mod EntrySteps
 pub mod Planted
 pub mod Seeds

@@ -33,7 +33,7 @@ pub none_standing : (s : Search) → ((a : ℕ) → label_at s.labels.items a �
 none_standing s out listed = record { listed = listed; trees = λ a is ne. absurd (ne (out a)) }
 
 -- a queue that is cleared has its places
-pub room_cleared : (s : Search) (q : Moments) → q ≡ no_moments (length s.queue.edges) (length s.queue.blossoms) → HasShape s → HasRoom s.graph s.incidence q (vec_capacity s.standing) (vec_len s.seeds) (vec_capacity s.scanned)
+pub room_cleared : (s : Search) (q : Moments) → q ≡ no_moments (length s.queue.edges) (length s.queue.blossoms) → HasShape s → HasRoom s.graph s.spokes q (vec_capacity s.standing) (vec_len s.seeds) (vec_capacity s.scanned)
 room_cleared s q is h = record {
   index = h.room.index;
   edges = ap (λ (r : Moments). length r.edges) is ∙ length-replicate (length s.queue.edges) (let none : Option ℤ = None in none) ∙ h.room.edges;

@@ -1,16 +1,9 @@
 -- What is at hand of a vertex while the edges at it are looked at. Only clauses of private calls cite what stands here.
-use Rattle.std.specs.Prelude.{◌≡◌, ◌⊎◌, ℕ, ℤ, true}
-use Rattle.graph_theory.specs.Graph.{Multigraph, IsEdgeNumber, edge_of}
+use Rattle.std.specs.Prelude.{◌≡◌, true}
 use Rattle.blossom_arena.specs.Family.{is_vertex, outermost}
 use Rattle.blossom_arena.specs.Slack.{IsCover}
 use Rattle.alt_forest.specs.declared.entries.Near.{Near}
 use Rattle.alt_forest.specs.State.{State, cover}
-
--- edge e leads from the vertex v to the vertex x, and has the weight w
-pub record LeadsTo (g : Multigraph) (e v x : ℕ) (w : ℤ) : Type 0 where
-  pub number : IsEdgeNumber g e
-  pub ends : (((edge_of g e).u ≡ v) × ((edge_of g e).v ≡ x)) ⊎ (((edge_of g e).u ≡ x) × ((edge_of g e).v ≡ v))
-  pub weight : (edge_of g e).w ≡ w
 
 -- what is at hand of a vertex is what holds in the state
 pub record IsNear (s : State) (near : Near) : Type 0 where

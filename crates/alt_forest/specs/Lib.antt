@@ -2,6 +2,7 @@ pub mod State
 pub mod Trees
 pub mod Events
 pub mod Counts
+pub mod Spokes
 pub mod Searches
 pub mod Routes
 pub mod Chains

@@ -3,7 +3,6 @@ use Rattle.std.specs.Prelude.{◌≡◌, ℕ, ◌+◌, ◌≤◌, ℤ, pos, ◌�
 use Rattle.std.specs.Vec.{vec_capacity}
 use Rattle.graph_theory.specs.Limits.{IsWithinLimits}
 use Rattle.graph_theory.specs.Graph.{Multigraph, IsGraph, IsWeight, edge_of, IsEdgeNumber}
-use Rattle.weighted_graph.specs.Index.{IsIndex}
 use Rattle.blossom_arena.specs.Family.{dual_at, IsFamily}
 use Rattle.edge_queue.specs.Moments.{Moments}
 use Rattle.alt_forest.specs.declared.label.Label.{Label}
@@ -11,6 +10,8 @@ use Rattle.alt_forest.specs.declared.label.Label.TheVariants.{Out}
 use Rattle.alt_forest.specs.declared.label.Weights.{Weights}
 use Rattle.alt_forest.specs.declared.label.Weights.TheVariants.{Zero, Given}
 use Rattle.alt_forest.specs.declared.search.Search.{Search}
+use Rattle.alt_forest.specs.declared.spokes.Spoke.{Spoke}
+use Rattle.alt_forest.specs.Spokes.{AreSpokes}
 use Rattle.alt_forest.specs.State.{State, IsSearchState}
 use Rattle.alt_forest.specs.Trees.{node_limit}
 
@@ -44,10 +45,10 @@ pub record IsSearchGraph (g : Multigraph) : Type 0 where
   pub graph : IsGraph g
   pub limits : IsWithinLimits (record { vertices = g.vertices; edges = length g.edges })
 
--- the index is that of the graph, the queue has a place for each edge and each node, and the lists that changes of duals and
--- looks run over have room for all nodes and for all vertices
-pub record HasRoom (g : Multigraph) (incidence : List (List ℕ)) (queue : Moments) (standing_room seeds_len scanned_room : ℕ) : Type 0 where
-  pub index : IsIndex g incidence
+-- the spokes are those of the graph, the queue has a place for each edge and each node, and the lists that changes of duals
+-- and looks run over have room for all nodes and for all vertices
+pub record HasRoom (g : Multigraph) (spokes : List (List Spoke)) (queue : Moments) (standing_room seeds_len scanned_room : ℕ) : Type 0 where
+  pub index : AreSpokes g spokes
   pub edges : length queue.edges ≡ length g.edges
   pub nodes : length queue.blossoms ≡ node_limit g.vertices
   pub standing : node_limit g.vertices ≤ standing_room
@@ -64,7 +65,7 @@ pub record HasShape (s : Search) : Type 0 where
   pub parents : vec_len s.parents ≡ node_limit s.graph.vertices + 1
   pub mates : vec_len s.mates ≡ node_limit s.graph.vertices + 1
   pub circuit : s.graph.vertices ≤ vec_capacity s.circuit
-  pub room : HasRoom s.graph s.incidence s.queue (vec_capacity s.standing) (vec_len s.seeds) (vec_capacity s.scanned)
+  pub room : HasRoom s.graph s.spokes s.queue (vec_capacity s.standing) (vec_len s.seeds) (vec_capacity s.scanned)
 
 -- the search has its shape and is in the state of a search
 pub record IsSound (s : Search) : Type 0 where

@@ -8,27 +8,31 @@ ghost use Rattle.edge_queue.specs.declared.item.Item.TheVariants.{Edge as OfEdge
 ghost use Rattle.edge_queue.specs.Moments.{moment_of};
 ghost use Rattle.alt_forest.specs.declared.label.Label.TheVariants.{Inner};
 ghost use Rattle.alt_forest.specs.State.{IsOutermost, slack_of};
-ghost use Rattle.alt_forest.specs.Ends.{IsNear, LeadsTo};
+ghost use Rattle.alt_forest.specs.Spokes.{LeadsTo, IsSpoke};
+ghost use Rattle.alt_forest.specs.Ends.{IsNear};
 ghost use Rattle.alt_forest.specs.Searches.{HasShape, IsSound, state_of, label_at};
 ghost use Rattle.alt_forest.specs.Entries.{NeedsMoment, IsEntered, IsBlossomEntered, IsQueued, IsQueuedBut, entry_count, ends_around, touches_any};
 
 use crate::label::Label;
 use crate::search::Search;
 use crate::slack::doubled;
+use crate::spokes::Spoke;
 use blossom_arena::{Members, NodeId};
 use edge_queue::{Item, Turn};
 use graph_theory::{GRAPH_VERTEX_LIMIT, NUMBER_LIMIT};
-use mb_base::{EdgeId, Steps, VertexId};
+use mb_base::{Steps, VertexId};
 use std::sync::ledger::Ledger;
 use weighted_graph::Graph;
 
 /// What is at hand of a vertex while the edges at it are looked at: the outermost node that holds it, how
-/// that one is labelled, and the duals of all nodes that hold the vertex, added up.
+/// that one is labelled, the vertex that is kept for it, or 0, and the duals of all nodes that hold the
+/// vertex, added up.
 #[derive(Clone, Copy)]
 struct Near {
     vertex: VertexId,
     node: NodeId,
     label: Label,
+    seed: u32,
     cover: i64,
 }
 
@@ -53,48 +57,48 @@ fn moment_after(clock: i64, left: i64) -> i64
     clock + left
 }
 
-/// The end of an edge that is not this one.
-fn other_end(u: VertexId, v: VertexId, end: VertexId) -> VertexId
-    ensures { result ≡ if u == end then v else u }
-{
-    if u.number() == end.number() { v } else { u }
-}
-
 /// The slack of an edge to another outermost node: no blossom holds both its ends, so the duals of all nodes
 /// that hold either of them count.
-fn slack_to(search: &Search, near: &Near, far: VertexId, w: i64) -> i64
+fn slack_to(search: &Search, near: &Near, spoke: &Spoke) -> i64
     requires sound { IsSound search.now }
     requires near { IsNear (state_of search.now) near.now }
-    requires edge { (e : ℕ) × LeadsTo search.now.graph e near.now.vertex far w }
-    requires apart { outermost search.now.arena.blossoms far ≢ near.now.node }
-    ensures slack { (e : ℕ) → LeadsTo search.now.graph e near.now.vertex far w → result ≡ slack_of (state_of search.now) e }
+    requires spoke { IsSpoke search.now.graph near.now.vertex spoke.now }
+    requires apart { outermost search.now.arena.blossoms spoke.now.far ≢ near.now.node }
+    ensures slack { result ≡ slack_of (state_of search.now) spoke.now.edge }
     ensures low { pos 0 ≤ℤ result }
     ensures high { result ≤ℤ (NUMBER_LIMIT *ℤ pos (2 * GRAPH_VERTEX_LIMIT + 1)) }
 {
-    doubled(search.weights, w) - (near.cover + search.arena.cover(far))
+    doubled(search.weights, spoke.weight) - (near.cover + search.arena.cover(spoke.far))
 }
 
-/// The moment that an edge needs in the queue, if it needs one. Where it needs none its slack isn't taken.
-fn moment_for(search: &Search, near: &Near, far: VertexId, w: i64) -> Option<i64>
+/// The moment that an edge needs in the queue, if it needs one, where the outermost node at its far end and
+/// the label of that one are known. Where it needs none its slack isn't taken.
+fn moment_for(
+    search: &Search,
+    near: &Near,
+    spoke: &Spoke,
+    node: NodeId,
+    label: Label,
+) -> Option<i64>
     requires sound { IsSound search.now }
     requires low { pos 0 ≤ℤ search.now.clock }
     requires high { search.now.clock ≤ℤ NUMBER_LIMIT }
     requires near { IsNear (state_of search.now) near.now }
-    requires edge { (e : ℕ) × LeadsTo search.now.graph e near.now.vertex far w }
-    ensures moment { (e : ℕ) → LeadsTo search.now.graph e near.now.vertex far w → NeedsMoment (state_of search.now) search.now.clock e result }
+    requires spoke { IsSpoke search.now.graph near.now.vertex spoke.now }
+    requires node { node ≡ outermost search.now.arena.blossoms spoke.now.far }
+    requires label { label ≡ label_at search.now.labels.items node }
+    ensures moment { NeedsMoment (state_of search.now) search.now.clock spoke.now.edge result }
 {
-    let node = search.arena.outermost(far);
     if node.number() == near.node.number() {
         return None;
     }
     let clock = search.clock;
-    match (near.label, search.label(node)) {
-        (Label::Outer, Label::Outer) => Some(moment_after(
-            clock,
-            half(slack_to(search, near, far, w)),
-        )),
-        (Label::Outer, Label::Out) => Some(moment_after(clock, slack_to(search, near, far, w))),
-        (Label::Out, Label::Outer) => Some(moment_after(clock, slack_to(search, near, far, w))),
+    match (near.label, label) {
+        (Label::Outer, Label::Outer) => {
+            Some(moment_after(clock, half(slack_to(search, near, spoke))))
+        }
+        (Label::Outer, Label::Out) => Some(moment_after(clock, slack_to(search, near, spoke))),
+        (Label::Out, Label::Outer) => Some(moment_after(clock, slack_to(search, near, spoke))),
         _ => None,
     }
 }
@@ -107,46 +111,40 @@ fn seed_number(search: &Search, node: NodeId) -> u32 {
     }
 }
 
-/// When an edge comes up among those of the same moment: one that joins two trees early, since it ends both.
-fn turn_to(search: &Search, near: &Near, far: VertexId) -> Turn
-    requires { is_vertex search.now.arena.vertex_count far ≡ true }
-{
-    let one = seed_number(search, near.node);
-    let other = seed_number(search, search.arena.outermost(far));
-    if one != 0 && other != 0 && one != other {
+/// When an edge to a node with this label comes up among those of the same moment: one that joins two trees
+/// early, since it ends both. Only one between outer nodes can, so at others no seed is read.
+fn turn_to(search: &Search, near: &Near, node: NodeId, label: Label) -> Turn {
+    if near.label != Label::Outer || label != Label::Outer {
+        return Turn::Late;
+    }
+    let seed = seed_number(search, node);
+    if near.seed != 0 && seed != 0 && near.seed != seed {
         return Turn::Early;
     }
     Turn::Late
 }
 
 /// Gives an edge at a vertex the moment that it needs, by one look at it.
-fn enter_edge<L: Ledger>(
-    search: &mut Search,
-    graph: &Graph,
-    near: &Near,
-    e: EdgeId,
-    steps: &mut Steps<L>,
-)
+fn enter_edge<L: Ledger>(search: &mut Search, near: &Near, spoke: &Spoke, steps: &mut Steps<L>)
     requires sound { IsSound search.old }
-    requires same { graph.now ≡ search.old.graph }
     requires low { pos 0 ≤ℤ search.old.clock }
     requires high { search.old.clock ≤ℤ NUMBER_LIMIT }
     requires near { IsNear (state_of search.old) near.now }
-    requires edge { IsEdgeNumber graph.now e }
-    requires end { touches (edge_of graph.now e) near.now.vertex ≡ true }
+    requires spoke { IsSpoke search.old.graph near.now.vertex spoke.now }
     ensures rest { search.new ≡ record search.old { queue = search.new.queue } }
     ensures sound { IsSound search.new }
-    ensures entered { IsEntered (state_of search.old) search.old.clock search.new.queue e }
-    ensures others { (d : ℕ) → d ≢ e → moment_of search.new.queue (OfEdge d) ≡ moment_of search.old.queue (OfEdge d) }
+    ensures entered { IsEntered (state_of search.old) search.old.clock search.new.queue spoke.now.edge }
+    ensures others { (d : ℕ) → d ≢ spoke.now.edge → moment_of search.new.queue (OfEdge d) ≡ moment_of search.old.queue (OfEdge d) }
     ensures blossoms { search.new.queue.blossoms ≡ search.old.queue.blossoms }
     ensures count { entry_count search.new.queue ≤ entry_count search.old.queue + 1 }
     ensures step { steps.new ≡ steps.old + 1 }
 {
-    let (u, v, w) = graph.look(e, steps);
-    let far = other_end(u, v, near.vertex);
-    if let Some(moment) = moment_for(search, near, far, w) {
-        let turn = turn_to(search, near, far);
-        search.queue.set(Item::Edge(e), moment, turn);
+    steps.tick();
+    let node = search.arena.outermost(spoke.far);
+    let label = search.label(node);
+    if let Some(moment) = moment_for(search, near, spoke, node, label) {
+        let turn = turn_to(search, near, node, label);
+        search.queue.set(Item::Edge(spoke.edge), moment, turn);
     }
 }
 
@@ -164,24 +162,24 @@ fn near_of(search: &Search, vertex: VertexId, node: NodeId, label: Label) -> Nea
         vertex,
         node,
         label,
+        seed: seed_number(search, node),
         cover: search.arena.cover(vertex),
     }
 }
 
 /// Gives each edge at a vertex the moment that it needs. At a vertex of an inner node none needs one, and
 /// none is looked at.
-fn enter_around<L: Ledger>(search: &mut Search, graph: &Graph, v: VertexId, steps: &mut Steps<L>)
+fn enter_around<L: Ledger>(search: &mut Search, v: VertexId, steps: &mut Steps<L>)
     requires sound { IsSound search.old }
-    requires same { graph.now ≡ search.old.graph }
     requires low { pos 0 ≤ℤ search.old.clock }
     requires high { search.old.clock ≤ℤ NUMBER_LIMIT }
-    requires vertex { is_vertex graph.now.vertices v ≡ true }
+    requires vertex { is_vertex search.old.graph.vertices v ≡ true }
     ensures rest { search.new ≡ record search.old { queue = search.new.queue } }
     ensures sound { IsSound search.new }
-    ensures entered { (e : ℕ) → IsEdgeNumber graph.now e → touches (edge_of graph.now e) v ≡ true → IsEntered (state_of search.old) search.old.clock search.new.queue e }
-    ensures others { (e : ℕ) → IsEdgeNumber graph.now e → touches (edge_of graph.now e) v ≡ false → moment_of search.new.queue (OfEdge e) ≡ moment_of search.old.queue (OfEdge e) }
+    ensures entered { (e : ℕ) → IsEdgeNumber search.old.graph e → touches (edge_of search.old.graph e) v ≡ true → IsEntered (state_of search.old) search.old.clock search.new.queue e }
+    ensures others { (e : ℕ) → IsEdgeNumber search.old.graph e → touches (edge_of search.old.graph e) v ≡ false → moment_of search.new.queue (OfEdge e) ≡ moment_of search.old.queue (OfEdge e) }
     ensures blossoms { search.new.queue.blossoms ≡ search.old.queue.blossoms }
-    ensures looks { steps.new ≤ steps.old + length (edges_around graph.now v) }
+    ensures looks { steps.new ≤ steps.old + length (edges_around search.old.graph v) }
     ensures count { entry_count search.new.queue + steps.old ≤ entry_count search.old.queue + steps.new }
 {
     let node = search.arena.outermost(v);
@@ -190,9 +188,9 @@ fn enter_around<L: Ledger>(search: &mut Search, graph: &Graph, v: VertexId, step
         return;
     }
     let near = near_of(search, v, node, label);
-    for place in 0..search.incidence.at(v).len() {
-        let e = search.incidence.at(v)[place];
-        enter_edge(search, graph, &near, e, steps);
+    for place in 0..search.spokes.at(v).len() {
+        let spoke = search.spokes.at(v)[place];
+        enter_edge(search, &near, &spoke, steps);
     }
 }
 
@@ -225,9 +223,10 @@ impl Search {
         ensures blossoms { self.new.queue.blossoms ≡ self.old.queue.blossoms }
         ensures count { entry_count self.new.queue + steps.old ≤ entry_count self.old.queue + steps.new }
     {
+        let _ = graph;
         for place in 0..self.scanned.len() {
             let v = self.scanned[place];
-            enter_around(self, graph, v, steps);
+            enter_around(self, v, steps);
         }
     }
 

@@ -10,6 +10,7 @@ ghost use Rattle.alt_forest.specs.Entries.{IsQueued, entry_count, looks_left};
 ghost use Rattle.alt_forest.specs.Standing.{IsStanding};
 
 use crate::label::{Label, Weights};
+use crate::spokes::Spokes;
 use crate::standing::vertex_within;
 use crate::starts::{NodeLists, RoomLists, copied, give_duals, node_lists, room_lists};
 use crate::tables::{label_of, set_label, wipe_edges, wipe_labels};
@@ -18,14 +19,14 @@ use edge_queue::EdgeQueue;
 use mb_base::{EdgeId, OutOfMemory, Steps, VertexId};
 use std::alloc::Global;
 use std::sync::ledger::Ledger;
-use weighted_graph::{Graph, Incidence};
+use weighted_graph::Graph;
 
 /// A search over one graph: blossoms with their duals, a matching of the outermost nodes, and trees.
-/// A step of a search is a look at an edge of the graph that it was made for, or a change of the duals;
-/// the ends of its mates and parents are read from its own copy, which counts none.
+/// A step of a search is a look at an edge of the graph that it was made for, also one by `spokes`, or a
+/// change of the duals; the ends of its mates and parents are read from its own copy, which counts none.
 /// `labels`, `parents` and `mates` stand by node number, with place 0 unused; a parent or a mate is
 /// given by the edge to it. `circuit` has room for n links. `graph` is a copy of the graph that the
-/// search was made for, and `incidence` its edges by vertex, which no call changes. `queue` has the
+/// search was made for, and `spokes` its edges by vertex, which no call changes. `queue` has the
 /// moment of each event that can come, by `clock`, the sum of the changes of duals since no tree stood.
 /// `standing` lists the nodes that these changes run over, `seeds` has for each of them, by node number, a
 /// vertex of the root of its tree, and `scanned` has the vertices whose edges are looked at after a step.
@@ -40,7 +41,7 @@ pub struct Search {
     pub weights: Weights,
     pub start: i64,
     pub queue: EdgeQueue,
-    pub incidence: Incidence,
+    pub spokes: Spokes,
     pub clock: i64,
     pub standing: Vec<NodeId>,
     pub seeds: Vec<Option<VertexId>>,
@@ -82,7 +83,7 @@ impl Search {
         ensures standing { IfOk result IsStanding }
     {
         let copy = copied(alloc, graph)?;
-        let incidence = copy.index()?;
+        let spokes = Spokes::of(alloc, &copy)?;
         let arena = Arena::new(alloc, graph.vertices())?;
         let limit = arena.node_limit();
         let queue = EdgeQueue::new(alloc, graph.edges(), limit)?;
@@ -107,7 +108,7 @@ impl Search {
             weights: Weights::Zero,
             start: 0,
             queue,
-            incidence,
+            spokes,
             clock: 0,
             standing,
             seeds,
@@ -133,7 +134,7 @@ impl Search {
         ensures circuit { self.new.circuit ≡ self.old.circuit }
         ensures trees { tree_count (state_of self.new) ≡ 0 }
         ensures exposed { exposed_count (state_of self.new) ≡ self.new.graph.vertices }
-        ensures index { self.new.incidence ≡ self.old.incidence }
+        ensures spokes { self.new.spokes ≡ self.old.spokes }
         ensures clock { self.new.clock ≡ pos 0 }
         ensures sound { IsSound self.new }
         ensures queued { IsQueued self.new }

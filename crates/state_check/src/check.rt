@@ -24,7 +24,7 @@ fn is_small(graph: &Graph) -> bool
 
 /// Whether the lists of a search by node have their lengths, and its arena is one for its graph.
 fn has_shape(search: &Search) -> bool
-    requires room { HasRoom search.now.graph search.now.incidence search.now.queue (vec_capacity search.now.standing) (vec_len search.now.seeds) (vec_capacity search.now.scanned) }
+    requires room { HasRoom search.now.graph search.now.spokes search.now.queue (vec_capacity search.now.standing) (vec_len search.now.seeds) (vec_capacity search.now.scanned) }
     ensures { (result ≡ true) ↔ HasShape search.now }
 {
     if !is_small(&search.graph) {
@@ -49,10 +49,10 @@ fn has_shape(search: &Search) -> bool
 /// Whether a search is in the state of a search (chapters 24 and 26), exactly: it recomputes each part
 /// from the lists. It is for tests of searches whose fields were written by hand, and slow: for n
 /// vertices and m edges its time is at most linear in n (n + m). It counts no step and takes no memory.
-/// What the index holds and what the queue has places for are the caller's to know: `Search::new` makes
+/// What the spokes hold and what the queue has places for are the caller's to know: `Search::new` makes
 /// them fit the graph, and no call changes that.
 pub fn check_search(search: &Search) -> bool
-    requires room { HasRoom search.now.graph search.now.incidence search.now.queue (vec_capacity search.now.standing) (vec_len search.now.seeds) (vec_capacity search.now.scanned) }
+    requires room { HasRoom search.now.graph search.now.spokes search.now.queue (vec_capacity search.now.standing) (vec_len search.now.seeds) (vec_capacity search.now.scanned) }
     ensures exact { (result ≡ true) ↔ IsSound search.now }
 {
     if !has_shape(search) {

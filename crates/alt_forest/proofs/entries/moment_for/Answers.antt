@@ -1,116 +1,96 @@
-use Rattle.std.proofs.Common.{◌≡◌, ◌∙◌, ℕ, ℤ, ◌+ℤ◌, true, Option, Some, None, sym, ap, ap₂, subst, rules, to_z, of_z}
+use Rattle.std.proofs.Common.{◌≡◌, ◌∙◌, ℤ, ◌+ℤ◌, Option, Some, None, sym, ap, ap₂, rules, to_z, of_z}
 use mir.Syntax.{w64}
-use Rattle.blossom_arena.specs.Family.{is_vertex}
-use Rattle.blossom_arena.proofs.Sets.{outermost_has}
 use Rattle.alt_forest.specs.declared.label.Label.TheVariants.{Outer, Inner, Out}
-use Rattle.alt_forest.specs.State.{IsOutermost}
 use Rattle.alt_forest.specs.Searches.{state_of, label_at}
-use Rattle.alt_forest.specs.Ends.{LeadsTo}
-use Rattle.alt_forest.proofs.Places.{nested_of}
 use Rattle.alt_forest.proofs.Needs.{needs_between, needs_none_inner, needs_none_out, needs_none_within}
-use Rattle.alt_forest.proofs.Leads.{leads_vertex, leads_joins}
+use Rattle.alt_forest.proofs.Leads.{leads_joins}
 use Rattle.alt_forest.proofs.entries.moment_for.Goals as goal
-
-pub outermost-node-requires : goal.outermost-node-requires
-outermost-node-requires c =
-    let s = c.args.search.now in
-    subst (λ (n : ℕ). is_vertex n c.args.far ≡ true) (sym c.requires.sound.shape.arena)
-    (leads_vertex s.graph c.requires.edge.0 c.args.near.now.vertex c.args.far c.args.w c.requires.sound.shape.graph.graph c.requires.edge.1)
-
-pub label-requires-clause-outer : goal.label-requires-clause-outer
-label-requires-clause-outer c =
-    let s = c.args.search.now in
-    let vertex : is_vertex s.graph.vertices c.args.far ≡ true = leads_vertex s.graph c.requires.edge.0 c.args.near.now.vertex c.args.far c.args.w c.requires.sound.shape.graph.graph c.requires.edge.1 in
-    subst (IsOutermost (state_of s)) (sym c.outermost-node.ensures.node) (outermost_has s.graph.vertices s.arena.blossoms c.args.far (nested_of s c.requires.sound.shape) vertex).0
 
 pub returns-in-Outer-Outer : goal.returns-in-Outer-Outer
 returns-in-Outer-Outer c = record {
-  moment = λ e to.
+  moment =
       let s = c.args.search.now in
       let near = c.requires.near in
       let one : label_at s.labels.items c.args.near.now.node ≡ Outer = sym near.label ∙ c.in-Outer-Outer.is-0 in
-      let other : label_at s.labels.items c.outermost-node.result ≡ Outer = sym c.label.ensures.label ∙ c.in-Outer-Outer.is-1 in
+      let other : label_at s.labels.items c.args.node ≡ Outer = sym c.requires.label ∙ c.in-Outer-Outer.is-1 in
       let back : to_z w64 (of_z w64 c.moment_after.result) ≡ c.moment_after.result = search rules in
-      let kept : to_z w64 (of_z w64 c.args.w) ≡ c.args.w = search rules in
       let whole : to_z w64 (of_z w64 c.slack_to.result) ≡ c.slack_to.result = search rules in
       let now : to_z w64 (of_z w64 s.clock) ≡ s.clock = search rules in
       let halved : to_z w64 (of_z w64 c.half.result) ≡ c.half.result = search rules in
-      needs_between (state_of s) s.clock e _ c.args.near.now.node c.outermost-node.result Outer Outer
-      (leads_joins s.graph s.arena.blossoms e c.args.near.now.vertex c.args.far c.args.near.now.node c.outermost-node.result c.args.w to near.node c.outermost-node.ensures.node) one other
+      needs_between (state_of s) s.clock c.args.spoke.now.edge _ c.args.near.now.node c.args.node Outer Outer
+      (leads_joins s.graph s.arena.blossoms c.args.spoke.now.edge c.args.near.now.vertex c.args.spoke.now.far c.args.near.now.node c.args.node c.args.spoke.now.weight c.requires.spoke near.node c.requires.node) one other
       (λ h twice. ap (λ (x : ℤ). let o : Option ℤ = Some x in o)
-      (back ∙ c.moment_after.ensures ∙ ap₂ ◌+ℤ◌ now (halved ∙ c.half.ensures.half h (whole ∙ c.slack_to.ensures.slack e (subst (LeadsTo s.graph e c.args.near.now.vertex c.args.far) (sym kept) to) ∙ twice))));
+      (back ∙ c.moment_after.ensures ∙ ap₂ ◌+ℤ◌ now (halved ∙ c.half.ensures.half h (whole ∙ c.slack_to.ensures.slack ∙ twice))));
 }
 
 pub returns-in-Outer-Out : goal.returns-in-Outer-Out
 returns-in-Outer-Out c = record {
-  moment = λ e to.
+  moment =
       let s = c.args.search.now in
       let near = c.requires.near in
       let one : label_at s.labels.items c.args.near.now.node ≡ Outer = sym near.label ∙ c.in-Outer-Out.is-0 in
-      let other : label_at s.labels.items c.outermost-node.result ≡ Out = sym c.label.ensures.label ∙ c.in-Outer-Out.is-1 in
+      let other : label_at s.labels.items c.args.node ≡ Out = sym c.requires.label ∙ c.in-Outer-Out.is-1 in
       let back : to_z w64 (of_z w64 c.moment_after-in-Outer-Out.result) ≡ c.moment_after-in-Outer-Out.result = search rules in
-      let kept : to_z w64 (of_z w64 c.args.w) ≡ c.args.w = search rules in
       let whole : to_z w64 (of_z w64 c.slack_to-in-Outer-Out.result) ≡ c.slack_to-in-Outer-Out.result = search rules in
       let now : to_z w64 (of_z w64 s.clock) ≡ s.clock = search rules in
-      needs_between (state_of s) s.clock e _ c.args.near.now.node c.outermost-node.result Outer Out
-      (leads_joins s.graph s.arena.blossoms e c.args.near.now.vertex c.args.far c.args.near.now.node c.outermost-node.result c.args.w to near.node c.outermost-node.ensures.node) one other
+      needs_between (state_of s) s.clock c.args.spoke.now.edge _ c.args.near.now.node c.args.node Outer Out
+      (leads_joins s.graph s.arena.blossoms c.args.spoke.now.edge c.args.near.now.vertex c.args.spoke.now.far c.args.near.now.node c.args.node c.args.spoke.now.weight c.requires.spoke near.node c.requires.node) one other
       (ap (λ (x : ℤ). let o : Option ℤ = Some x in o)
-      (back ∙ c.moment_after-in-Outer-Out.ensures ∙ ap₂ ◌+ℤ◌ now (whole ∙ c.slack_to-in-Outer-Out.ensures.slack e (subst (LeadsTo s.graph e c.args.near.now.vertex c.args.far) (sym kept) to))));
+      (back ∙ c.moment_after-in-Outer-Out.ensures ∙ ap₂ ◌+ℤ◌ now (whole ∙ c.slack_to-in-Outer-Out.ensures.slack)));
 }
 
 pub returns-in-Out-Outer : goal.returns-in-Out-Outer
 returns-in-Out-Outer c = record {
-  moment = λ e to.
+  moment =
       let s = c.args.search.now in
       let near = c.requires.near in
       let one : label_at s.labels.items c.args.near.now.node ≡ Out = sym near.label ∙ c.in-Out-Outer.is-0 in
-      let other : label_at s.labels.items c.outermost-node.result ≡ Outer = sym c.label.ensures.label ∙ c.in-Out-Outer.is-1 in
+      let other : label_at s.labels.items c.args.node ≡ Outer = sym c.requires.label ∙ c.in-Out-Outer.is-1 in
       let back : to_z w64 (of_z w64 c.moment_after-in-Out-Outer.result) ≡ c.moment_after-in-Out-Outer.result = search rules in
-      let kept : to_z w64 (of_z w64 c.args.w) ≡ c.args.w = search rules in
       let whole : to_z w64 (of_z w64 c.slack_to-in-Out-Outer.result) ≡ c.slack_to-in-Out-Outer.result = search rules in
       let now : to_z w64 (of_z w64 s.clock) ≡ s.clock = search rules in
-      needs_between (state_of s) s.clock e _ c.args.near.now.node c.outermost-node.result Out Outer
-      (leads_joins s.graph s.arena.blossoms e c.args.near.now.vertex c.args.far c.args.near.now.node c.outermost-node.result c.args.w to near.node c.outermost-node.ensures.node) one other
+      needs_between (state_of s) s.clock c.args.spoke.now.edge _ c.args.near.now.node c.args.node Out Outer
+      (leads_joins s.graph s.arena.blossoms c.args.spoke.now.edge c.args.near.now.vertex c.args.spoke.now.far c.args.near.now.node c.args.node c.args.spoke.now.weight c.requires.spoke near.node c.requires.node) one other
       (ap (λ (x : ℤ). let o : Option ℤ = Some x in o)
-      (back ∙ c.moment_after-in-Out-Outer.ensures ∙ ap₂ ◌+ℤ◌ now (whole ∙ c.slack_to-in-Out-Outer.ensures.slack e (subst (LeadsTo s.graph e c.args.near.now.vertex c.args.far) (sym kept) to))));
+      (back ∙ c.moment_after-in-Out-Outer.ensures ∙ ap₂ ◌+ℤ◌ now (whole ∙ c.slack_to-in-Out-Outer.ensures.slack)));
 }
 
 pub returns-then-number : goal.returns-then-number
 returns-then-number c = record {
-  moment = λ e to.
+  moment =
       let s = c.args.search.now in
       let near = c.requires.near in
-      let same : c.args.near.now.node ≡ c.outermost-node.result = sym c.number-2.ensures ∙ sym c.if-number.true ∙ c.number.ensures in
-      needs_none_within (state_of s) s.clock e c.args.near.now.node None
-      (leads_joins s.graph s.arena.blossoms e c.args.near.now.vertex c.args.far c.args.near.now.node c.args.near.now.node c.args.w to near.node (same ∙ c.outermost-node.ensures.node));
+      let same : c.args.near.now.node ≡ c.args.node = sym c.number-2.ensures ∙ sym c.if-number.true ∙ c.number.ensures in
+      needs_none_within (state_of s) s.clock c.args.spoke.now.edge c.args.near.now.node None
+      (leads_joins s.graph s.arena.blossoms c.args.spoke.now.edge c.args.near.now.vertex c.args.spoke.now.far c.args.near.now.node c.args.near.now.node c.args.spoke.now.weight c.requires.spoke near.node (same ∙ c.requires.node));
 }
 
 pub returns-in_default : goal.returns-in_default
 returns-in_default c = record {
-  moment = λ e to.
+  moment =
       let s = c.args.search.now in
       let near = c.requires.near in
-      needs_between (state_of s) s.clock e None c.args.near.now.node c.outermost-node.result Outer Inner
-      (leads_joins s.graph s.arena.blossoms e c.args.near.now.vertex c.args.far c.args.near.now.node c.outermost-node.result c.args.w to near.node c.outermost-node.ensures.node)
-      (sym near.label ∙ c.in_default.is-0) (sym c.label.ensures.label ∙ c.in_default.is-1) tt;
+      needs_between (state_of s) s.clock c.args.spoke.now.edge None c.args.near.now.node c.args.node Outer Inner
+      (leads_joins s.graph s.arena.blossoms c.args.spoke.now.edge c.args.near.now.vertex c.args.spoke.now.far c.args.near.now.node c.args.node c.args.spoke.now.weight c.requires.spoke near.node c.requires.node)
+      (sym near.label ∙ c.in_default.is-0) (sym c.requires.label ∙ c.in_default.is-1) tt;
 }
 
 pub returns-in_default-2 : goal.returns-in_default-2
 returns-in_default-2 c = record {
-  moment = λ e to.
+  moment =
       let s = c.args.search.now in
       let near = c.requires.near in
-      needs_none_out (state_of s) s.clock e c.args.near.now.node c.outermost-node.result None
-      (leads_joins s.graph s.arena.blossoms e c.args.near.now.vertex c.args.far c.args.near.now.node c.outermost-node.result c.args.w to near.node c.outermost-node.ensures.node)
-      (sym near.label ∙ c.in_default.is-0) (λ p. c.in_default.not-Outer-1 (c.label.ensures.label ∙ p));
+      needs_none_out (state_of s) s.clock c.args.spoke.now.edge c.args.near.now.node c.args.node None
+      (leads_joins s.graph s.arena.blossoms c.args.spoke.now.edge c.args.near.now.vertex c.args.spoke.now.far c.args.near.now.node c.args.node c.args.spoke.now.weight c.requires.spoke near.node c.requires.node)
+      (sym near.label ∙ c.in_default.is-0) (λ p. c.in_default.not-Outer-1 (c.requires.label ∙ p));
 }
 
 pub returns-in_default-3 : goal.returns-in_default-3
 returns-in_default-3 c = record {
-  moment = λ e to.
+  moment =
       let s = c.args.search.now in
       let near = c.requires.near in
-      needs_none_inner (state_of s) s.clock e c.args.near.now.node c.outermost-node.result None
-      (leads_joins s.graph s.arena.blossoms e c.args.near.now.vertex c.args.far c.args.near.now.node c.outermost-node.result c.args.w to near.node c.outermost-node.ensures.node)
+      needs_none_inner (state_of s) s.clock c.args.spoke.now.edge c.args.near.now.node c.args.node None
+      (leads_joins s.graph s.arena.blossoms c.args.spoke.now.edge c.args.near.now.vertex c.args.spoke.now.far c.args.near.now.node c.args.node c.args.spoke.now.weight c.requires.spoke near.node c.requires.node)
       (sym near.label ∙ c.in_default.is-0);
 }

@@ -8,8 +8,9 @@ use Rattle.alt_forest.specs.Entries.{ends_around}
 use Rattle.alt_forest.specs.Events.{CanExpand}
 use Rattle.alt_forest.specs.Searches.{state_of}
 use Rattle.alt_forest.specs.Standing.{IsStanding}
-use Rattle.alt_forest.proofs.Places.{nested_of}
-use Rattle.alt_forest.proofs.Queues.{standing_with}
+use Rattle.alt_forest.specs.Trees.{node_limit}
+use Rattle.alt_forest.proofs.Places.{nested_of, outer_range}
+use Rattle.alt_forest.proofs.Queues.{node_item, standing_with}
 use Rattle.tree_steps.specs.Expanded.{IsExpanded}
 use Rattle.tree_steps.proofs.Counted.{outside_before}
 use Rattle.tree_steps.proofs.CountedExpand.{expand_inside, expand_blossoms, expand_looks}
@@ -33,6 +34,15 @@ enlist_circuit-requires-clause-base g c = base_outer c.args.search.now c.scan_no
 pub enlist_circuit-requires-clause-circuit : goal.enlist_circuit-requires-clause-circuit
 enlist_circuit-requires-clause-circuit g c = circuit_outer c.args.search.now c.scan_node.new.search c.lay_open-base.new.search c.lay_open-base.new.search c.lay_open-base.new.search c.requires.sound c.lay_open-base.ensures.sound c.args.b c.lay_open-base.result c.requires.can c.lay_open-base.ensures.expanded
     c.scan_node.ensures.rest c.lay_open-base.ensures.rest refl refl c.lay_open-base.ensures.base c.lay_open-base.ensures.circuit c.lay_open-base.ensures.all
+
+pub drop_entry-requires-clause-item : goal.drop_entry-requires-clause-item
+drop_entry-requires-clause-item g c =
+    let s : Search = c.args.search.now in
+    let t : Search = c.enlist_circuit.new.search in
+    let same : t.graph ≡ s.graph = ap (λ (x : Search). x.graph) c.enlist_circuit.ensures.rest ∙ ap (λ (x : Search). x.graph) c.lay_open-base.ensures.rest ∙ ap (λ (x : Search). x.graph) c.scan_node.ensures.rest in
+    let range = outer_range s c.args.b c.requires.sound.shape c.requires.can.outermost in
+    let limit : node_limit t.graph.vertices ≡ node_limit s.graph.vertices = ap (λ (k : Multigraph). node_limit k.vertices) same in
+    node_item t c.args.b c.enlist_circuit.ensures.sound.shape range.0 (omega (arith, range.1, limit))
 
 pub enter_scanned-requires-clause-vertices : goal.enter_scanned-requires-clause-vertices
 enter_scanned-requires-clause-vertices g c = expanded_vertices c.args.search.now c.scan_node.new.search c.lay_open-base.new.search c.enlist_circuit.new.search c.drop_entry.new.search c.requires.sound c.enlist_circuit.ensures.sound c.args.b c.lay_open-base.result c.requires.can c.lay_open-base.ensures.expanded

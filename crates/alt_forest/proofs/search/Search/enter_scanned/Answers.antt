@@ -1,12 +1,11 @@
-use Rattle.std.proofs.Common.{◌≡◌, ◌∙◌, ℕ, ◌+◌, ◌<◌, true, false, List, ◌∷◌, length, get_or, drop, add-one, sym, ap, ap₂, subst, arith}
+use Rattle.std.proofs.Common.{◌≡◌, ◌∙◌, ℕ, ◌+◌, ◌<◌, false, List, ◌∷◌, length, get_or, drop, add-one, sym, ap, ap₂, subst, arith}
 use Rattle.std.proofs.lemmas.List.{get_or_read}
 use Rattle.std.proofs.Math.Seq.{drop-cons}
-use Rattle.graph_theory.specs.Graph.{Multigraph, IsEdgeNumber, edge_of, touches}
+use Rattle.graph_theory.specs.Graph.{Multigraph, IsEdgeNumber, edge_of, edges_around, touches}
 use Rattle.edge_queue.specs.declared.item.Item.TheVariants.{Edge}
 use Rattle.edge_queue.specs.Moments.{Moments, moment_of}
 use Rattle.alt_forest.specs.declared.search.Search.{Search}
-use Rattle.alt_forest.specs.Searches.{state_of}
-use Rattle.alt_forest.specs.Entries.{IsEntered, IsQueuedBut, ends_around}
+use Rattle.alt_forest.specs.Entries.{IsQueuedBut, ends_around}
 use Rattle.alt_forest.proofs.EntrySteps.{missed_at, vertex_entered}
 use Rattle.alt_forest.proofs.search.Search.enter_scanned.Goals as goal
 
@@ -25,15 +24,15 @@ loop-place-preserved g c =
     let is : v ≡ get_or items place 0 = get_or_read l.scanned.items place v (omega (arith, low, ap length same)) c.index-v.ensures 0 ∙ ap (λ (xs : List ℕ). get_or xs place 0) same in
     let step : drop place items ≡ v ∷ drop (place + 1) items = drop-cons items place 0 low ∙ ap₂ (λ (x k : ℕ). x ∷ drop k items) (sym is) (sym (add-one place)) in
     let graph : c.args.graph.now ≡ l.graph = c.requires.same ∙ sym (ap (λ (x : Search). x.graph) i.rest) in
+    let others : (e : ℕ) → IsEdgeNumber c.args.graph.now e → touches (edge_of c.args.graph.now e) v ≡ false → moment_of r (Edge e) ≡ moment_of l.queue (Edge e) =
+    subst (λ (k : Multigraph). (e : ℕ) → IsEdgeNumber k e → touches (edge_of k e) v ≡ false → moment_of r (Edge e) ≡ moment_of l.queue (Edge e)) (sym graph) call.others in
     record {
       rest = call.rest ∙ ap (λ (x : Search). let y : Search = record x { queue = r } in y) i.rest;
       sound = call.sound;
       queued = vertex_entered l c.enter_around.new.search v (drop (place + 1) items) call.rest (subst (IsQueuedBut l) step i.queued)
-          (subst (λ (k : Multigraph). (e : ℕ) → IsEdgeNumber k e → touches (edge_of k e) v ≡ true → IsEntered (state_of l) l.clock r e) graph call.entered)
-          (subst (λ (k : Multigraph). (e : ℕ) → IsEdgeNumber k e → touches (edge_of k e) v ≡ false → moment_of r (Edge e) ≡ moment_of l.queue (Edge e)) graph call.others)
-          call.blossoms;
-      looks = omega (arith, call.looks, i.looks, ap (ends_around c.args.graph.now) step);
-      others = λ e number none. call.others e number (ap (touches (edge_of c.args.graph.now e)) is ∙ missed_at items place (edge_of c.args.graph.now e) low none) ∙ i.others e number none;
+          call.entered call.others call.blossoms;
+      looks = omega (arith, call.looks, i.looks, ap (λ (k : Multigraph). length (edges_around k v)) graph, ap (ends_around c.args.graph.now) step);
+      others = λ e number none. others e number (ap (touches (edge_of c.args.graph.now e)) is ∙ missed_at items place (edge_of c.args.graph.now e) low none) ∙ i.others e number none;
       blossoms = call.blossoms ∙ i.blossoms;
       count = omega (arith, call.count, i.count);
     }
