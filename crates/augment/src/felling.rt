@@ -15,9 +15,6 @@ fn stands(search: &Search, node: NodeId) -> bool
     requires shape { HasShape search.now }
     ensures { result ≡ stands search.now node }
 {
-    if !search.arena.is_node(node) {
-        return false;
-    }
     if !search.arena.is_outermost(node) {
         return false;
     }

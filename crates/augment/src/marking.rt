@@ -1,7 +1,7 @@
 ghost use Rattle.std.specs.Prelude.{◌≡◌, ◌+◌, ◌<◌, ℕ, true, false, None, is_some, vec_len, length, if◌then◌else◌};
 ghost use Rattle.graph_theory.specs.Graph.{IsEdgeNumber};
 ghost use Rattle.graph_theory.specs.Nested.{most_blossoms};
-ghost use Rattle.blossom_arena.specs.Family.{is_vertex, is_child, is_outermost, chain_of};
+ghost use Rattle.blossom_arena.specs.Family.{is_vertex, is_child, chain_of};
 ghost use Rattle.alt_forest.specs.Searches.{edge_in, put};
 ghost use Rattle.augment.specs.Opening.{IsSpread, IsBare, CanMark, marked, up_to, spread_in};
 
@@ -84,16 +84,6 @@ pub(crate) fn clear_children(arena: &Arena, mates: &mut Vec<Option<EdgeId>>)
     }
 }
 
-/// Whether a node is outermost. Any number may be asked for.
-fn is_free(arena: &Arena, node: NodeId) -> bool
-    ensures { result ≡ is_outermost arena.now.vertex_count arena.now.blossoms node }
-{
-    if !arena.is_node(node) {
-        return false;
-    }
-    arena.is_outermost(node)
-}
-
 /// The edge that is kept for a node that has one.
 fn kept_edge(edges: &[Option<EdgeId>], node: NodeId) -> EdgeId
     requires place { node < length edges.now }
@@ -116,7 +106,7 @@ fn mark_mate(arena: &Arena, graph: &Graph, mates: &mut Vec<Option<EdgeId>>, node
     ensures outer { (c : ℕ) → is_child arena.now.blossoms c ≡ false → edge_in mates.new.items c ≡ edge_in mates.old.items c }
     ensures len { vec_len mates.new ≡ vec_len mates.old }
 {
-    if !is_free(arena, node) {
+    if !arena.is_outermost(node) {
         return;
     }
     let e = kept_edge(mates, node);

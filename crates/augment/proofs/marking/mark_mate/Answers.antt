@@ -7,8 +7,8 @@ use Rattle.augment.proofs.Marks.{IsMarked, nested_of, marked_mate, none_spread}
 use Rattle.std.proofs.lemmas.Option.{same_Some}
 use Rattle.augment.proofs.marking.mark_mate.Goals as goal
 
-pub returns-then-not-is_free-clause-spread : goal.returns-then-not-is_free-clause-spread
-returns-then-not-is_free-clause-spread c = none_spread c.args.graph.now c.args.arena.now (edge_in c.args.mates.now.items) (edge_in c.args.mates.now.items) c.args.node c.requires.can (sym c.is_free.ensures ∙ c.if-not-is_free.true)
+pub returns-then-not-is_outermost-clause-spread : goal.returns-then-not-is_outermost-clause-spread
+returns-then-not-is_outermost-clause-spread c = none_spread c.args.graph.now c.args.arena.now (edge_in c.args.mates.now.items) (edge_in c.args.mates.now.items) c.args.node c.requires.can (sym c.is_outermost.ensures.outer ∙ c.if-not-is_outermost.true)
 
 pub returns : goal.returns
 returns c =
@@ -17,7 +17,7 @@ returns c =
     let m = edge_in c.args.mates.now.items in
     let can = c.requires.can in
     let e = c.kept_edge-e.result in
-    let is = sym c.is_free.ensures ∙ c.if-not-is_free.false in
+    let is = sym c.is_outermost.ensures.outer ∙ c.if-not-is_outermost.false in
     let has = c.kept_edge-e.ensures ∙ ap (λ xs. edge_in xs c.args.node) c.deref.ensures.value in
     let r = can.mated c.args.node (subst (λ n. is_outermost n f.blossoms c.args.node ≡ true) can.vertices is) in
     let number = subst (IsEdgeNumber g) (same_Some r.0 e (sym r.2 ∙ sym has)) r.3.edge in
