@@ -29,5 +29,5 @@ pub below_first : (f : ℕ → ℤ) (xs : List ℕ) (x : ℕ) (least : ℤ) → 
 below_first f xs x least low is value = below_one f xs 0 x least least least low is value (omega (arith, ints)) (omega (arith, ints)) (λ k b. absurd (omega (arith, b)))
 
 -- a list that isn't empty
-pub some_there : (xs : List ℕ) (t : Bool) → t ≡ eqb (length xs) 0 → t ≡ false → 0 < length xs
+pub some_there : {A : Type 0} (xs : List A) (t : Bool) → t ≡ eqb (length xs) 0 → t ≡ false → 0 < length xs
 some_there xs t is none = let ne = eqb-false (length xs) 0 (sym is ∙ none) in omega (arith, ne)

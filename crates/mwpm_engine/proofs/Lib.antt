@@ -26,5 +26,6 @@ pub mod StartDuals
 pub mod StartMates
 pub mod StartLifted
 pub mod StartSearch
+pub mod StartSpokes
 pub mod StartPass
 pub mod Settled

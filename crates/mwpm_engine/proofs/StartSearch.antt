@@ -1,6 +1,5 @@
 -- What the steps of the start of a pass leave of a search.
-use Rattle.std.proofs.Common.{◌≡◌, ◌≢◌, ◌∙◌, ℕ, ◌<◌, ◌≤◌, ℤ, pos, ◌+ℤ◌, ◌≤ℤ◌, true, ◌||◌, eqb, cond, List, [], Option, Some, None, length, sym, ap, subst, arith, ⊎_elim, vec_len}
-use Rattle.std.specs.Prelude.{slice_index_or}
+use Rattle.std.proofs.Common.{◌≡◌, ◌≢◌, ◌∙◌, ℕ, ◌<◌, ◌≤◌, ℤ, pos, ◌+ℤ◌, ◌≤ℤ◌, true, ◌||◌, eqb, cond, [], Option, Some, None, length, sym, ap, subst, arith, ⊎_elim, vec_len}
 use Rattle.std.proofs.lemmas.Int.{ints}
 use Rattle.std.proofs.lemmas.Bool.{eqb-true, or_cases}
 use Rattle.graph_theory.specs.Graph.{Multigraph, IsEdgeNumber, edge_of, edges_around, touches, other_end}
@@ -97,15 +96,6 @@ module _ (s : Search) (v e : ℕ) (x : ℤ) (h : IsSound s) (begun : IsBegun (st
     even = rise_even;
     mate_pairs = λ d q. subst (CanPair (state_of s) v x) (some_same e d q) (record { is_edge = is; at_vertex = at; slack_is = sym same; exposed = exposed });
   }
-
--- the edges at a vertex, as the index of a search lists them
-listed_around : (s : Search) (v : ℕ) (xs : List ℕ) → HasShape s → is_vertex s.graph.vertices v ≡ true → xs ≡ slice_index_or s.incidence v [] → xs ≡ edges_around s.graph v
-listed_around s v xs h is same = same ∙ h.room.index.exact v (vertex_range s.graph.vertices v is).1
-
--- the same for the graph that a call is lent
-pub listed_in : (s : Search) (g : Multigraph) (v : ℕ) (xs : List ℕ) → g ≡ s.graph → HasShape s → is_vertex g.vertices v ≡ true → xs ≡ slice_index_or s.incidence v [] → xs ≡ edges_around g v
-listed_in s g v xs same h vertex is =
-    listed_around s v xs h (subst (λ (k : Multigraph). is_vertex k.vertices v ≡ true) same vertex) is ∙ ap (λ (k : Multigraph). edges_around k v) (sym same)
 
 -- what the least slack at an exposed vertex lets it do
 pub least_rises : (s : Search) (v : ℕ) (x : ℤ) (mate : Option ℕ) → IsSound s → IsBegun (state_of s) s.start → is_vertex s.graph.vertices v ≡ true → IsExposed (state_of s) v → IsRise (state_of s) v x mate

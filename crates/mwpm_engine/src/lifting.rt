@@ -7,30 +7,38 @@ ghost use Rattle.alt_forest.specs.Trees.{SameParity};
 ghost use Rattle.mwpm_engine.specs.Starts.{IsBegun, IsLifted};
 
 use crate::raising::raise;
-use crate::weights::{lesser_of, weight_of};
-use alt_forest::{Search, Weights};
+use crate::weights::lesser;
+use alt_forest::{Search, Spoke, Weights};
 use mb_base::{Steps, VertexId};
 use std::sync::ledger::Ledger;
 use weighted_graph::Graph;
 
+/// The weight of an edge that is looked at from a vertex, at one counted look.
+fn weight_at<L: Ledger>(spoke: &Spoke, steps: &mut Steps<L>) -> i64
+    ensures weight { result ≡ spoke.now.weight }
+    ensures step { steps.new ≡ steps.old + 1 }
+{
+    steps.tick();
+    spoke.weight
+}
+
 /// The least weight of an edge at a vertex, at one look for each; the start of the pass where it has no edge.
-fn least_around<L: Ledger>(search: &Search, graph: &Graph, v: VertexId, steps: &mut Steps<L>) -> i64
+fn least_around<L: Ledger>(search: &Search, v: VertexId, steps: &mut Steps<L>) -> i64
     requires shape { HasShape search.now }
-    requires same { graph.now ≡ search.now.graph }
-    requires start { IsStart graph.now Given search.now.start }
-    requires vertex { is_vertex graph.now.vertices v ≡ true }
+    requires start { IsStart search.now.graph Given search.now.start }
+    requires vertex { is_vertex search.now.graph.vertices v ≡ true }
     ensures weight { IsWeight result }
     ensures low { search.now.start ≤ℤ result }
-    ensures each { (e : ℕ) → IsEdgeNumber graph.now e → touches (edge_of graph.now e) v ≡ true → result ≤ℤ (edge_of graph.now e).w }
-    ensures looks { steps.new ≡ steps.old + length (edges_around graph.now v) }
+    ensures each { (e : ℕ) → IsEdgeNumber search.now.graph e → touches (edge_of search.now.graph e) v ≡ true → result ≤ℤ (edge_of search.now.graph e).w }
+    ensures looks { steps.new ≡ steps.old + length (edges_around search.now.graph v) }
 {
-    let edges = search.incidence.at(v);
-    if edges.is_empty() {
+    let spokes = search.spokes.at(v);
+    if spokes.is_empty() {
         return search.start;
     }
-    let mut least = weight_of(graph, edges[0], steps);
-    for place in 1..edges.len() {
-        least = lesser_of(least, graph, edges[place], steps);
+    let mut least = weight_at(&spokes[0], steps);
+    for place in 1..spokes.len() {
+        least = lesser(least, weight_at(&spokes[place], steps));
     }
     least
 }
@@ -50,18 +58,17 @@ fn even_room(from: i64, to: i64) -> i64
 
 /// Raises the dual of a vertex from the start of the pass to the least weight of its edges, or to 1 less, so that its parity
 /// stays. It looks at each of its edges once.
-fn lift<L: Ledger>(search: &mut Search, graph: &Graph, v: VertexId, steps: &mut Steps<L>)
+fn lift<L: Ledger>(search: &mut Search, v: VertexId, steps: &mut Steps<L>)
     requires sound { IsSound search.old }
-    requires same { graph.now ≡ search.old.graph }
-    requires start { IsStart graph.now Given search.old.start }
+    requires start { IsStart search.old.graph Given search.old.start }
     requires lifted { IsLifted (state_of search.old) search.old.start (v - 1) }
-    requires vertex { is_vertex graph.now.vertices v ≡ true }
+    requires vertex { is_vertex search.old.graph.vertices v ≡ true }
     ensures sound { IsSound search.new }
     ensures lifted { IsLifted (state_of search.new) search.new.start v }
     ensures rest { search.new ≡ record search.old { arena = record search.old.arena { duals = search.new.arena.duals } } }
-    ensures looks { steps.new ≡ steps.old + length (edges_around graph.now v) }
+    ensures looks { steps.new ≡ steps.old + length (edges_around search.old.graph v) }
 {
-    let least = least_around(search, graph, v, steps);
+    let least = least_around(search, v, steps);
     let more = even_room(search.start, least);
     raise(search, v, more);
 }
@@ -83,6 +90,6 @@ pub(crate) fn lift_all<L: Ledger>(search: &mut Search, graph: &Graph, steps: &mu
         return;
     }
     for place in 0..graph.vertices() {
-        lift(search, graph, VertexId::new(place + 1), steps);
+        lift(search, VertexId::new(place + 1), steps);
     }
 }

@@ -3,13 +3,15 @@ ghost use Rattle.graph_theory.specs.Graph.{IsEdgeNumber, edge_of, edges_around, 
 ghost use Rattle.blossom_arena.specs.Family.{is_vertex};
 ghost use Rattle.alt_forest.specs.State.{IsExposed, IsTight, slack_of};
 ghost use Rattle.alt_forest.specs.Searches.{IsSound, state_of};
+ghost use Rattle.alt_forest.specs.Spokes.{IsSpoke};
 ghost use Rattle.alt_forest.specs.Counts.{exposed_count};
 ghost use Rattle.mwpm_engine.specs.Starts.{IsBegun, CanPair, IsRise, JoinsExposed};
 
 use crate::exposed::is_exposed;
 use crate::raising::raise;
-use alt_forest::{Search, set_edge};
+use alt_forest::{Search, Spoke, set_edge};
 use blossom_arena::NodeId;
+use graph_theory::Edge;
 use mb_base::{EdgeId, Steps, VertexId};
 use std::sync::ledger::Ledger;
 use weighted_graph::Graph;
@@ -22,27 +24,26 @@ struct Rise {
 }
 
 /// The slack of an edge at a vertex, by one look at it, and the edge itself if it leads to an exposed vertex.
-fn rise_by<L: Ledger>(
-    search: &Search,
-    graph: &Graph,
-    v: VertexId,
-    e: EdgeId,
-    steps: &mut Steps<L>,
-) -> Rise
+fn rise_by<L: Ledger>(search: &Search, v: VertexId, spoke: &Spoke, steps: &mut Steps<L>) -> Rise
     requires sound { IsSound search.now }
     requires begun { IsBegun (state_of search.now) search.now.start }
-    requires same { graph.now ≡ search.now.graph }
-    requires edge { IsEdgeNumber graph.now e }
-    requires at_vertex { touches (edge_of graph.now e) v ≡ true }
+    requires spoke { IsSpoke search.now.graph v spoke.now }
     ensures rise { IsRise (state_of search.now) v result.by result.mate }
-    ensures slack { result.by ≡ slack_of (state_of search.now) e }
-    ensures found { IsExposed (state_of search.now) (other_end (edge_of search.now.graph e) v) → is_some result.mate ≡ true }
+    ensures slack { result.by ≡ slack_of (state_of search.now) spoke.now.edge }
+    ensures found { IsExposed (state_of search.now) (other_end (edge_of search.now.graph spoke.now.edge) v) → is_some result.mate ≡ true }
     ensures step { steps.new ≡ steps.old + 1 }
 {
-    let by = search.slack(graph, e, steps);
-    let far = search.graph.other_end(e, v);
-    if is_exposed(search, NodeId::new(far.number())) {
-        return Rise { by, mate: Some(e) };
+    steps.tick();
+    let by = search.slack_by(&Edge {
+        u: v,
+        v: spoke.far,
+        w: spoke.weight,
+    });
+    if is_exposed(search, NodeId::new(spoke.far.number())) {
+        return Rise {
+            by,
+            mate: Some(spoke.edge),
+        };
     }
     Rise { by, mate: None }
 }
@@ -69,47 +70,45 @@ fn lesser(one: Rise, other: Rise) -> Rise
 
 /// The least slack of an edge at a vertex, by one look at each, with an edge of this slack to an exposed vertex, if there is
 /// one; 0 where the vertex has no edge.
-fn least_rise<L: Ledger>(search: &Search, graph: &Graph, v: VertexId, steps: &mut Steps<L>) -> Rise
+fn least_rise<L: Ledger>(search: &Search, v: VertexId, steps: &mut Steps<L>) -> Rise
     requires sound { IsSound search.now }
     requires begun { IsBegun (state_of search.now) search.now.start }
-    requires same { graph.now ≡ search.now.graph }
-    requires vertex { is_vertex graph.now.vertices v ≡ true }
+    requires vertex { is_vertex search.now.graph.vertices v ≡ true }
     ensures rise { IsRise (state_of search.now) v result.by result.mate }
-    ensures each { (e : ℕ) → IsEdgeNumber graph.now e → touches (edge_of graph.now e) v ≡ true → result.by ≤ℤ slack_of (state_of search.now) e }
-    ensures none { edges_around graph.now v ≡ [] → result.by ≡ pos 0 }
+    ensures each { (e : ℕ) → IsEdgeNumber search.now.graph e → touches (edge_of search.now.graph e) v ≡ true → result.by ≤ℤ slack_of (state_of search.now) e }
+    ensures none { edges_around search.now.graph v ≡ [] → result.by ≡ pos 0 }
     ensures found { (e : ℕ) → CanPair (state_of search.now) v result.by e → is_some result.mate ≡ true }
-    ensures looks { steps.new ≡ steps.old + length (edges_around graph.now v) }
+    ensures looks { steps.new ≡ steps.old + length (edges_around search.now.graph v) }
 {
-    let edges = search.incidence.at(v);
-    if edges.is_empty() {
+    let spokes = search.spokes.at(v);
+    if spokes.is_empty() {
         return Rise { by: 0, mate: None };
     }
-    let mut least = rise_by(search, graph, v, edges[0], steps);
-    for place in 1..edges.len() {
-        least = lesser(least, rise_by(search, graph, v, edges[place], steps));
+    let mut least = rise_by(search, v, &spokes[0], steps);
+    for place in 1..spokes.len() {
+        least = lesser(least, rise_by(search, v, &spokes[place], steps));
     }
     least
 }
 
 /// Raises the dual of a vertex, if it is exposed, by the least slack of its edges, and matches it where an edge that is tight
 /// then leads to an exposed vertex. It looks at each of its edges once.
-fn start_at<L: Ledger>(search: &mut Search, graph: &Graph, v: VertexId, steps: &mut Steps<L>)
+fn start_at<L: Ledger>(search: &mut Search, v: VertexId, steps: &mut Steps<L>)
     requires sound { IsSound search.old }
     requires begun { IsBegun (state_of search.old) search.old.start }
-    requires same { graph.now ≡ search.old.graph }
-    requires vertex { is_vertex graph.now.vertices v ≡ true }
+    requires vertex { is_vertex search.old.graph.vertices v ≡ true }
     ensures sound { IsSound search.new }
     ensures begun { IsBegun (state_of search.new) search.new.start }
     ensures rest { search.new ≡ record search.old { arena = record search.old.arena { duals = search.new.arena.duals }; mates = search.new.mates } }
-    ensures settled { (e : ℕ) → touches (edge_of graph.now e) v ≡ true → JoinsExposed (state_of search.new) e → ⊥ }
-    ensures others { (e : ℕ) → touches (edge_of graph.now e) v ≡ false → JoinsExposed (state_of search.new) e → JoinsExposed (state_of search.old) e }
+    ensures settled { (e : ℕ) → touches (edge_of search.old.graph e) v ≡ true → JoinsExposed (state_of search.new) e → ⊥ }
+    ensures others { (e : ℕ) → touches (edge_of search.old.graph e) v ≡ false → JoinsExposed (state_of search.new) e → JoinsExposed (state_of search.old) e }
     ensures exposed { exposed_count (state_of search.new) ≤ exposed_count (state_of search.old) }
-    ensures looks { steps.new ≤ steps.old + length (edges_around graph.now v) }
+    ensures looks { steps.new ≤ steps.old + length (edges_around search.old.graph v) }
 {
     if !is_exposed(search, NodeId::new(v.number())) {
         return;
     }
-    let rise = least_rise(search, graph, v, steps);
+    let rise = least_rise(search, v, steps);
     raise(search, v, rise.by);
     if let Some(e) = rise.mate {
         pair(search, e);
@@ -147,6 +146,6 @@ pub(crate) fn start_all<L: Ledger>(search: &mut Search, graph: &Graph, steps: &m
     ensures looks { steps.new ≤ steps.old + 2 * length graph.now.edges }
 {
     for place in 0..graph.vertices() {
-        start_at(search, graph, VertexId::new(place + 1), steps);
+        start_at(search, VertexId::new(place + 1), steps);
     }
 }

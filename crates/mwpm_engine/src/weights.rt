@@ -9,7 +9,7 @@ use std::sync::ledger::Ledger;
 use weighted_graph::Graph;
 
 /// The weight of an edge, at one counted look.
-pub(crate) fn weight_of<L: Ledger>(graph: &Graph, e: EdgeId, steps: &mut Steps<L>) -> i64
+fn weight_of<L: Ledger>(graph: &Graph, e: EdgeId, steps: &mut Steps<L>) -> i64
     requires { IsEdgeNumber graph.now e }
     ensures is { result ≡ (edge_of graph.now e).w }
     ensures weight { IsWeight result }
@@ -20,7 +20,7 @@ pub(crate) fn weight_of<L: Ledger>(graph: &Graph, e: EdgeId, steps: &mut Steps<L
 }
 
 /// The lesser of two weights.
-fn lesser(one: i64, other: i64) -> i64
+pub(crate) fn lesser(one: i64, other: i64) -> i64
     requires one { IsWeight one }
     requires other { IsWeight other }
     ensures weight { IsWeight result }
@@ -35,12 +35,7 @@ fn lesser(one: i64, other: i64) -> i64
 }
 
 /// The lesser of a weight and of that of an edge, at one counted look.
-pub(crate) fn lesser_of<L: Ledger>(
-    least: i64,
-    graph: &Graph,
-    e: EdgeId,
-    steps: &mut Steps<L>,
-) -> i64
+fn lesser_of<L: Ledger>(least: i64, graph: &Graph, e: EdgeId, steps: &mut Steps<L>) -> i64
     requires least { IsWeight least }
     requires edge { IsEdgeNumber graph.now e }
     ensures weight { IsWeight result }

@@ -1,4 +1,4 @@
-use Rattle.std.proofs.Common.{◌≡◌, ◌∙◌, ◌+ℤ◌, ◌≤ℤ◌, sym, ap, subst, arith, rules, to_z, of_z}
+use Rattle.std.proofs.Common.{◌≡◌, ◌∙◌, ◌+ℤ◌, ◌≤ℤ◌, refl, sym, ap, subst, arith, rules, to_z, of_z}
 use mir.Syntax.{w64}
 use Rattle.std.proofs.lemmas.Int.{ints}
 use Rattle.blossom_arena.specs.Family.{dual_at}
@@ -21,7 +21,7 @@ raise-requires-clause-can g c =
     let most : (s.start +ℤ c.even_room-more.result) ≤ℤ c.least_around-least.result = omega (arith, ints, high, from, to) in
     let back : to_z w64 (of_z w64 c.even_room-more.result) ≡ c.even_room-more.result = search rules in
     subst (CanRise (state_of s) c.args.v) (sym back)
-    (lifts s c.args.graph.now c.args.v c.least_around-least.result c.even_room-more.result c.requires.same c.requires.sound.shape.graph.graph c.requires.lifted c.requires.vertex e.low most e.even m.weight m.each).0
+    (lifts s s.graph c.args.v c.least_around-least.result c.even_room-more.result refl c.requires.sound.shape.graph.graph c.requires.lifted c.requires.vertex e.low most e.even m.weight m.each).0
 
 pub returns-clause-lifted : goal.returns-clause-lifted
 returns-clause-lifted g c =
@@ -36,4 +36,4 @@ returns-clause-lifted g c =
     let back : to_z w64 (of_z w64 c.even_room-more.result) ≡ c.even_room-more.result = search rules in
     let state = state_raised s t c.args.v c.even_room-more.result c.raise.ensures.rest (c.raise.ensures.duals ∙ ap (λ d. put (dual_at s.arena.duals) c.args.v (dual_at s.arena.duals c.args.v +ℤ d)) back) in
     subst (λ x. IsLifted (state_of t) x c.args.v) (sym (ap (λ (x : Search). x.start) c.raise.ensures.rest)) (subst (λ (x : State). IsLifted x s.start c.args.v) (sym state)
-    (lifts s c.args.graph.now c.args.v c.least_around-least.result c.even_room-more.result c.requires.same c.requires.sound.shape.graph.graph c.requires.lifted c.requires.vertex e.low most e.even m.weight m.each).1)
+    (lifts s s.graph c.args.v c.least_around-least.result c.even_room-more.result refl c.requires.sound.shape.graph.graph c.requires.lifted c.requires.vertex e.low most e.even m.weight m.each).1)

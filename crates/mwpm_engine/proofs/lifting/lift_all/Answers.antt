@@ -1,5 +1,5 @@
-use Rattle.std.proofs.Common.{sym, ap, subst, arith, rules}
-use Rattle.graph_theory.specs.Graph.{IsGraph}
+use Rattle.std.proofs.Common.{◌≡◌, ◌∙◌, sym, ap, subst, arith, rules}
+use Rattle.graph_theory.specs.Graph.{Multigraph, IsGraph}
 use Rattle.alt_forest.specs.declared.label.Weights.TheVariants.{Given}
 use Rattle.alt_forest.specs.declared.search.Search.{Search}
 use Rattle.alt_forest.specs.Searches.{IsStart}
@@ -14,4 +14,5 @@ returns-clause-looks g c =
 pub lift-requires-clause-start : goal.lift-requires-clause-start
 lift-requires-clause-start g c =
     let here : IsStart c.args.graph.now Given c.args.search.now.start = search rules in
-    subst (IsStart c.args.graph.now Given) (sym (ap (λ (x : Search). x.start) c.loop-place.invariant.rest)) here
+    let graph : c.args.graph.now ≡ c.loop-place.search.graph = c.requires.same ∙ sym (ap (λ (x : Search). x.graph) c.loop-place.invariant.rest) in
+    subst (λ (k : Multigraph). IsStart k Given c.loop-place.search.start) graph (subst (IsStart c.args.graph.now Given) (sym (ap (λ (x : Search). x.start) c.loop-place.invariant.rest)) here)

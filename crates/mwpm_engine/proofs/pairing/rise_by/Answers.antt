@@ -1,24 +1,68 @@
-use Rattle.std.proofs.Common.{◌≡◌, ◌∙◌, true, subst, rules, to_z, of_z}
+use Rattle.std.proofs.Common.{◌≡◌, ◌∙◌, ℕ, ℤ, [], sym, ap, subst, rules, to_z, of_z}
 use mir.Syntax.{w64}
-use Rattle.graph_theory.specs.Graph.{Multigraph, IsEdgeNumber, edge_of, touches, other_end}
-use Rattle.alt_forest.specs.State.{IsExposed}
-use Rattle.alt_forest.specs.Searches.{state_of}
+use Rattle.graph_theory.specs.Graph.{IsWeight, IsEdgeWithin, edge_of, other_end}
+use Rattle.blossom_arena.specs.Family.{dual_at}
+use Rattle.alt_forest.specs.declared.search.Search.{Search}
+use Rattle.alt_forest.specs.declared.spokes.Spoke.{Spoke}
+use Rattle.alt_forest.specs.Spokes.{IsSpoke}
+use Rattle.alt_forest.specs.State.{IsExposed, slack_by, slack_of}
+use Rattle.alt_forest.specs.Searches.{is_given, state_of}
+use Rattle.alt_forest.proofs.Leads.{leads_weight}
 use Rattle.mwpm_engine.proofs.StartSearch.{rise_alone, rise_paired}
+use Rattle.mwpm_engine.proofs.StartSpokes.{leads_touches, leads_other, leads_within, slack_seen}
 use Rattle.mwpm_engine.proofs.pairing.rise_by.Goals as goal
+
+-- the slack that is worked out from what is at hand is that of the edge
+seen : (s : Search) (v : ℕ) (p : Spoke) (w x y : ℤ) → s.arena.blossoms ≡ [] → IsSpoke s.graph v p → w ≡ p.weight → x ≡ slack_by (is_given s.weights) (dual_at s.arena.duals) s.arena.blossoms (record { u = v; v = p.far; w = w }) → y ≡ x → y ≡ slack_of (state_of s) p.edge
+seen s v p w x y alone to kept is back =
+    back ∙ is ∙ ap (λ (z : ℤ). slack_by (is_given s.weights) (dual_at s.arena.duals) s.arena.blossoms (record { u = v; v = p.far; w = z })) kept
+    ∙ slack_seen (state_of s) p.edge v p.far p.weight alone to
+
+pub slack_by-by-requires-clause-ends : goal.slack_by-by-requires-clause-ends
+slack_by-by-requires-clause-ends g c =
+    let s = c.args.search.now in
+    let p : Spoke = c.args.spoke.now in
+    let kept : to_z w64 (of_z w64 p.weight) ≡ p.weight = search rules in
+    subst (λ (w : ℤ). IsEdgeWithin s.graph.vertices (record { u = c.args.v; v = p.far; w = w })) (sym kept) (leads_within s.graph p.edge c.args.v p.far p.weight c.requires.sound.shape.graph.graph c.requires.spoke)
+
+pub slack_by-by-requires-clause-weight : goal.slack_by-by-requires-clause-weight
+slack_by-by-requires-clause-weight g c =
+    let s = c.args.search.now in
+    let p : Spoke = c.args.spoke.now in
+    let kept : to_z w64 (of_z w64 p.weight) ≡ p.weight = search rules in
+    subst IsWeight (sym kept) (leads_weight s.graph p.edge c.args.v p.far p.weight c.requires.sound.shape.graph.graph c.requires.spoke)
+
+pub returns-then-is_exposed-clause-slack : goal.returns-then-is_exposed-clause-slack
+returns-then-is_exposed-clause-slack g c =
+    let p : Spoke = c.args.spoke.now in
+    let kept : to_z w64 (of_z w64 p.weight) ≡ p.weight = search rules in
+    let back : to_z w64 (of_z w64 c.slack_by-by.result) ≡ c.slack_by-by.result = search rules in
+    seen c.args.search.now c.args.v p (to_z w64 (of_z w64 p.weight)) c.slack_by-by.result (to_z w64 (of_z w64 c.slack_by-by.result)) c.requires.begun.alone c.requires.spoke kept c.slack_by-by.ensures.slack back
+
+pub returns-clause-slack : goal.returns-clause-slack
+returns-clause-slack g c =
+    let p : Spoke = c.args.spoke.now in
+    let kept : to_z w64 (of_z w64 p.weight) ≡ p.weight = search rules in
+    let back : to_z w64 (of_z w64 c.slack_by-by.result) ≡ c.slack_by-by.result = search rules in
+    seen c.args.search.now c.args.v p (to_z w64 (of_z w64 p.weight)) c.slack_by-by.result (to_z w64 (of_z w64 c.slack_by-by.result)) c.requires.begun.alone c.requires.spoke kept c.slack_by-by.ensures.slack back
 
 pub returns-then-is_exposed-clause-rise : goal.returns-then-is_exposed-clause-rise
 returns-then-is_exposed-clause-rise g c =
     let s = c.args.search.now in
-    let is : IsEdgeNumber s.graph c.args.e = subst (λ (k : Multigraph). IsEdgeNumber k c.args.e) c.requires.same c.requires.edge in
-    let back : to_z w64 (of_z w64 c.slack-by.result) ≡ c.slack-by.result = search rules in
-    let far : c.new.result ≡ other_end (edge_of s.graph c.args.e) c.args.v = c.new.ensures ∙ c.number.ensures ∙ c.other_end-far.ensures.end in
-    rise_paired s c.args.v c.args.e (to_z w64 (of_z w64 c.slack-by.result)) c.requires.sound c.requires.begun is (back ∙ c.slack-by.ensures.slack)
-    (subst (λ (k : Multigraph). touches (edge_of k c.args.e) c.args.v ≡ true) c.requires.same c.requires.at_vertex)
+    let p : Spoke = c.args.spoke.now in
+    let far : c.new.result ≡ other_end (edge_of s.graph p.edge) c.args.v = c.new.ensures ∙ c.number.ensures ∙ sym (leads_other s.graph p.edge c.args.v p.far p.weight c.requires.sound.shape.graph.graph c.requires.spoke) in
+    rise_paired s c.args.v p.edge (to_z w64 (of_z w64 c.slack_by-by.result)) c.requires.sound c.requires.begun c.requires.spoke.number (returns-then-is_exposed-clause-slack g c)
+    (leads_touches s.graph p.edge c.args.v p.far p.weight c.requires.spoke)
     (subst (IsExposed (state_of s)) far (c.is_exposed.ensures.0 c.if-is_exposed.true))
 
 pub returns-clause-rise : goal.returns-clause-rise
 returns-clause-rise g c =
     let s = c.args.search.now in
-    let is : IsEdgeNumber s.graph c.args.e = subst (λ (k : Multigraph). IsEdgeNumber k c.args.e) c.requires.same c.requires.edge in
-    let back : to_z w64 (of_z w64 c.slack-by.result) ≡ c.slack-by.result = search rules in
-    rise_alone s c.args.v c.args.e (to_z w64 (of_z w64 c.slack-by.result)) c.requires.sound c.requires.begun is (back ∙ c.slack-by.ensures.slack)
+    rise_alone s c.args.v c.args.spoke.now.edge (to_z w64 (of_z w64 c.slack_by-by.result)) c.requires.sound c.requires.begun c.requires.spoke.number (returns-clause-slack g c)
+
+pub returns-clause-found : goal.returns-clause-found
+returns-clause-found g c = λ exposed.
+    let s = c.args.search.now in
+    let p : Spoke = c.args.spoke.now in
+    let far : c.new.result ≡ other_end (edge_of s.graph p.edge) c.args.v = c.new.ensures ∙ c.number.ensures ∙ sym (leads_other s.graph p.edge c.args.v p.far p.weight c.requires.sound.shape.graph.graph c.requires.spoke) in
+    sym c.if-is_exposed.false ∙ c.is_exposed.ensures.1 (subst (IsExposed (state_of s)) (sym far) exposed)

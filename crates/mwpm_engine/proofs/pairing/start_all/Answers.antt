@@ -1,5 +1,5 @@
-use Rattle.std.proofs.Common.{◌∙◌, ap, arith, refl, sym, subst}
-use Rattle.graph_theory.specs.Graph.{Multigraph, IsGraph}
+use Rattle.std.proofs.Common.{◌≡◌, ◌∙◌, length, ap, arith, refl, sym, subst}
+use Rattle.graph_theory.specs.Graph.{Multigraph, IsGraph, edge_of, edges_around, touches}
 use Rattle.alt_forest.specs.declared.search.Search.{Search}
 use Rattle.alt_forest.specs.Searches.{state_of}
 use Rattle.mwpm_engine.proofs.Settled.{settled_one, settled_none, settled_all}
@@ -28,13 +28,15 @@ loop-place-preserved g c =
     let i = c.loop-place.invariant in
     let e = c.start_at.ensures in
     let graph : Multigraph = c.args.graph.now in
+    let same : graph ≡ c.loop-place.search.graph = c.requires.same ∙ sym (ap (λ (x : Search). x.graph) i.rest) in
     record {
       sound = e.sound;
       begun = e.begun;
       rest = kept_on c.args.search.now c.loop-place.search c.start_at.new.search i.rest e.rest;
-      settled = settled_one graph (state_of c.loop-place.search) (state_of c.start_at.new.search) c.loop-place.place c.new.result c.new.ensures e.settled e.others i.settled;
+      settled = settled_one graph (state_of c.loop-place.search) (state_of c.start_at.new.search) c.loop-place.place c.new.result c.new.ensures
+          (λ d t. e.settled d (sym (ap (λ (k : Multigraph). touches (edge_of k d) c.new.result) same) ∙ t)) (λ d t. e.others d (sym (ap (λ (k : Multigraph). touches (edge_of k d) c.new.result) same) ∙ t)) i.settled;
       exposed = omega (arith, e.exposed, i.exposed);
-      looks = round_more graph c.loop-place.place c.new.result c.args.steps.now c.loop-place.steps c.start_at.new.steps c.new.ensures i.looks e.looks;
+      looks = round_more graph c.loop-place.place c.new.result c.args.steps.now c.loop-place.steps c.start_at.new.steps c.new.ensures i.looks (omega (arith, e.looks, ap (λ (k : Multigraph). length (edges_around k c.new.result)) same));
     }
 
 pub returns-clause-maximal : goal.returns-clause-maximal

@@ -1,9 +1,9 @@
-use Rattle.std.proofs.Common.{◌≡◌, ◌∙◌, ◌+ℤ◌, ℕ, Option, true, sym, ap, subst, arith, rules, to_z, of_z}
+use Rattle.std.proofs.Common.{◌≡◌, ◌∙◌, ◌+ℤ◌, ℕ, Option, refl, sym, ap, subst, arith, rules, to_z, of_z}
 use mir.Syntax.{w64}
 use Rattle.std.specs.Prelude.{is_some}
 use Rattle.std.proofs.lemmas.Bool.{both_ways}
-use Rattle.graph_theory.specs.Graph.{Multigraph, IsEdgeNumber, edge_of, edges_around, touches}
-use Rattle.blossom_arena.specs.Family.{dual_at, is_vertex}
+use Rattle.graph_theory.specs.Graph.{edge_of}
+use Rattle.blossom_arena.specs.Family.{dual_at}
 use Rattle.alt_forest.specs.declared.search.Search.{Search}
 use Rattle.alt_forest.specs.State.{IsExposed, IsTight}
 use Rattle.alt_forest.specs.Counts.{exposed_count}
@@ -21,9 +21,7 @@ raise-requires-clause-can g c =
     let r = c.least_rise-rise.ensures in
     let exposed : IsExposed (state_of s) c.args.v = subst (IsExposed (state_of s)) (c.new.ensures ∙ c.number.ensures) (c.is_exposed.ensures.0 c.if-not-is_exposed.false) in
     subst (CanRise (state_of s) c.args.v) (sym back)
-    (least_rises s c.args.v c.least_rise-rise.result.by c.least_rise-rise.result.mate c.requires.sound c.requires.begun (subst (λ (k : Multigraph). is_vertex k.vertices c.args.v ≡ true) c.requires.same c.requires.vertex) exposed r.rise
-    (λ e is t. r.each e (subst (λ (k : Multigraph). IsEdgeNumber k e) (sym c.requires.same) is) (subst (λ (k : Multigraph). touches (edge_of k e) c.args.v ≡ true) (sym c.requires.same) t))
-    (λ none. r.none (ap (λ (k : Multigraph). edges_around k c.args.v) c.requires.same ∙ none)))
+    (least_rises s c.args.v c.least_rise-rise.result.by c.least_rise-rise.result.mate c.requires.sound c.requires.begun c.requires.vertex exposed r.rise r.each r.none)
 
 -- the edge is tight now, and joins two exposed vertices
 ready : (g : Over) (c : goal.After-pair-arg-1 g) → IsTight (state_of c.raise.new.search) c.in-Some.e × IsExposed (state_of c.raise.new.search) (edge_of c.raise.new.search.graph c.in-Some.e).u × IsExposed (state_of c.raise.new.search) (edge_of c.raise.new.search.graph c.in-Some.e).v
@@ -59,9 +57,9 @@ pub returns-in-Some-clause-settled : goal.returns-in-Some-clause-settled
 returns-in-Some-clause-settled g c e at j =
     let s : Search = c.args.search.now in
     let first = ap (λ (x : Search). x.graph) c.raise.ensures.rest in
-    let graph = c.requires.same ∙ sym (ap (λ (x : Search). x.graph) c.pair.ensures.rest ∙ first) in
+    let graph = sym (ap (λ (x : Search). x.graph) c.pair.ensures.rest ∙ first) in
     let can : CanPair (state_of s) c.args.v c.least_rise-rise.result.by c.in-Some.e = c.least_rise-rise.ensures.rise.mate_pairs c.in-Some.e c.in-Some.is in
-    matched_settled s c.pair.new.search c.args.graph.now c.raise.new.search.graph c.args.v e c.in-Some.e c.least_rise-rise.result.by graph first can (λ x. let f = c.pair.ensures.free c.args.v x in (f.1, f.2)) at j
+    matched_settled s c.pair.new.search s.graph c.raise.new.search.graph c.args.v e c.in-Some.e c.least_rise-rise.result.by graph first can (λ x. let f = c.pair.ensures.free c.args.v x in (f.1, f.2)) at j
 
 pub returns-in-Some-clause-others : goal.returns-in-Some-clause-others
 returns-in-Some-clause-others g c e at j =
@@ -69,7 +67,7 @@ returns-in-Some-clause-others g c e at j =
     let u : Search = c.raise.new.search in
     let back : to_z w64 (of_z w64 c.least_rise-rise.result.by) ≡ c.least_rise-rise.result.by = search rules in
     let state = state_raised s u c.args.v c.least_rise-rise.result.by c.raise.ensures.rest (c.raise.ensures.duals ∙ ap (λ d. put (dual_at s.arena.duals) c.args.v (dual_at s.arena.duals c.args.v +ℤ d)) back) in
-    raised_others s u c.args.graph.now c.args.v e c.least_rise-rise.result.by c.requires.same state c.requires.sound c.requires.begun at
+    raised_others s u s.graph c.args.v e c.least_rise-rise.result.by refl state c.requires.sound c.requires.begun at
     (joins_before u c.pair.new.search e c.pair.ensures.rest (λ a x. (c.pair.ensures.free a x).0) j)
 
 pub returns-in_default-clause-settled : goal.returns-in_default-clause-settled
@@ -78,7 +76,7 @@ returns-in_default-clause-settled g c e at j =
     let u : Search = c.raise.new.search in
     let back : to_z w64 (of_z w64 c.least_rise-rise.result.by) ≡ c.least_rise-rise.result.by = search rules in
     let state = state_raised s u c.args.v c.least_rise-rise.result.by c.raise.ensures.rest (c.raise.ensures.duals ∙ ap (λ d. put (dual_at s.arena.duals) c.args.v (dual_at s.arena.duals c.args.v +ℤ d)) back) in
-    let can = raised_settled s u c.args.graph.now c.args.v e c.least_rise-rise.result.by c.requires.same state c.requires.sound c.requires.begun at j in
+    let can = raised_settled s u s.graph c.args.v e c.least_rise-rise.result.by refl state c.requires.sound c.requires.begun at j in
     both_ways (is_some c.least_rise-rise.result.mate) (ap (λ (o : Option ℕ). is_some o) c.in_default.is) (c.least_rise-rise.ensures.found e can)
 
 pub returns-in_default-clause-others : goal.returns-in_default-clause-others
@@ -87,4 +85,4 @@ returns-in_default-clause-others g c e at j =
     let u : Search = c.raise.new.search in
     let back : to_z w64 (of_z w64 c.least_rise-rise.result.by) ≡ c.least_rise-rise.result.by = search rules in
     let state = state_raised s u c.args.v c.least_rise-rise.result.by c.raise.ensures.rest (c.raise.ensures.duals ∙ ap (λ d. put (dual_at s.arena.duals) c.args.v (dual_at s.arena.duals c.args.v +ℤ d)) back) in
-    raised_others s u c.args.graph.now c.args.v e c.least_rise-rise.result.by c.requires.same state c.requires.sound c.requires.begun at j
+    raised_others s u s.graph c.args.v e c.least_rise-rise.result.by refl state c.requires.sound c.requires.begun at j

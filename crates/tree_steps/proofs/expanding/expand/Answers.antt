@@ -35,13 +35,18 @@ pub enlist_circuit-requires-clause-circuit : goal.enlist_circuit-requires-clause
 enlist_circuit-requires-clause-circuit g c = circuit_outer c.args.search.now c.scan_node.new.search c.lay_open-base.new.search c.lay_open-base.new.search c.lay_open-base.new.search c.requires.sound c.lay_open-base.ensures.sound c.args.b c.lay_open-base.result c.requires.can c.lay_open-base.ensures.expanded
     c.scan_node.ensures.rest c.lay_open-base.ensures.rest refl refl c.lay_open-base.ensures.base c.lay_open-base.ensures.circuit c.lay_open-base.ensures.all
 
+-- the graph is the same all along
+same_graph : (f f1 f2 f3 : Search) → f1 ≡ record f { scanned = f1.scanned }
+    → f2 ≡ record f1 { arena = record f1.arena { blossoms = f2.arena.blossoms }; labels = f2.labels; parents = f2.parents; mates = f2.mates; circuit = f2.circuit }
+    → f3 ≡ record f2 { queue = f3.queue; standing = f3.standing; seeds = f3.seeds } → f3.graph ≡ f.graph
+same_graph f f1 f2 f3 scanned opened listed = ap (λ (x : Search). x.graph) listed ∙ ap (λ (x : Search). x.graph) opened ∙ ap (λ (x : Search). x.graph) scanned
+
 pub drop_entry-requires-clause-item : goal.drop_entry-requires-clause-item
 drop_entry-requires-clause-item g c =
     let s : Search = c.args.search.now in
     let t : Search = c.enlist_circuit.new.search in
-    let same : t.graph ≡ s.graph = ap (λ (x : Search). x.graph) c.enlist_circuit.ensures.rest ∙ ap (λ (x : Search). x.graph) c.lay_open-base.ensures.rest ∙ ap (λ (x : Search). x.graph) c.scan_node.ensures.rest in
     let range = outer_range s c.args.b c.requires.sound.shape c.requires.can.outermost in
-    let limit : node_limit t.graph.vertices ≡ node_limit s.graph.vertices = ap (λ (k : Multigraph). node_limit k.vertices) same in
+    let limit : node_limit t.graph.vertices ≡ node_limit s.graph.vertices = ap (λ (k : Multigraph). node_limit k.vertices) (same_graph s c.scan_node.new.search c.lay_open-base.new.search t c.scan_node.ensures.rest c.lay_open-base.ensures.rest c.enlist_circuit.ensures.rest) in
     node_item t c.args.b c.enlist_circuit.ensures.sound.shape range.0 (omega (arith, range.1, limit))
 
 pub enter_scanned-requires-clause-vertices : goal.enter_scanned-requires-clause-vertices
