@@ -80,7 +80,8 @@ pub(crate) fn release(
     ensures outer_len { vec_len outer.new ≡ vec_len outer.old }
 {
     for v in vertices {
-        take_at(sums, v.number(), y);
-        outer[v.number() as usize] = node;
+        let place = v.number();
+        take_at(sums, place, y);
+        outer[place as usize] = node;
     }
 }
