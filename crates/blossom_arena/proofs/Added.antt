@@ -1,5 +1,5 @@
 -- What additions to a table of sums leave.
-use Rattle.std.proofs.Common.{◌≡◌, ℕ, ◌<◌, Bool, true, false, ◌||◌, eqb, cond, List, [], ◌∷◌, length, refl, sym, ap, ◌∙◌, subst, arith, set}
+use Rattle.std.proofs.Common.{◌≡◌, ℕ, ◌<◌, Bool, true, false, ◌||◌, eqb, cond, List, [], ◌∷◌, ◌++◌, length, refl, sym, ap, ◌∙◌, subst, arith, set}
 use Rattle.std.specs.Prelude.{ℤ, pos, ◌+ℤ◌}
 use Rattle.std.proofs.lemmas.Bool.{eqb-true, eqb-false, both_ways}
 use Rattle.std.proofs.lemmas.Int.{ints}
@@ -41,3 +41,27 @@ sums_each t f (x ∷ xs) new each = (
       (λ v m. subst (λ z. IsCover (z +ℤ f v)) (sym (get_or-set_other t x v (sum_at t x +ℤ f x) (pos 0) (λ s. both_ways (holds xs x) new.0 (subst (λ y. holds xs y ≡ true) s m))))
       (each v (later_in x xs v m))),
 )
+
+-- they are the same by two functions that agree at the places
+pub added_same : (t : List ℤ) (f g : ℕ → ℤ) (xs : List ℕ) → ((v : ℕ) → holds xs v ≡ true → f v ≡ g v) → added t f xs ≡ added t g xs
+added_same t f g [] same = refl
+added_same t f g (x ∷ xs) same =
+    added_same (set t x (sum_at t x +ℤ f x)) f g xs (λ v m. same v (later_in x xs v m))
+    ∙ ap (λ z. added (set t x (sum_at t x +ℤ z)) g xs) (same x (first_in x xs))
+
+pub sums_same : (t : List ℤ) (f g : ℕ → ℤ) (xs : List ℕ) → ((v : ℕ) → holds xs v ≡ true → f v ≡ g v) → AreSums t g xs → AreSums t f xs
+sums_same t f g [] same h = tt
+sums_same t f g (x ∷ xs) same h =
+    let here : f x ≡ g x = same x (first_in x xs) in (
+      subst (λ z. IsCover (sum_at t x +ℤ z)) (sym here) h.0,
+      sums_same (set t x (sum_at t x +ℤ f x)) f g xs (λ v m. same v (later_in x xs v m)) (subst (λ z. AreSums (set t x (sum_at t x +ℤ z)) g xs) (sym here) h.1),
+    )
+
+-- places in two parts
+pub added-append : (t : List ℤ) (f : ℕ → ℤ) (xs ys : List ℕ) → added t f (xs ++ ys) ≡ added (added t f xs) f ys
+added-append t f [] ys = refl
+added-append t f (x ∷ xs) ys = added-append (set t x (sum_at t x +ℤ f x)) f xs ys
+
+pub sums_parts : (t : List ℤ) (f : ℕ → ℤ) (xs ys : List ℕ) → AreSums t f (xs ++ ys) → AreSums t f xs × AreSums (added t f xs) f ys
+sums_parts t f [] ys h = (tt, h)
+sums_parts t f (x ∷ xs) ys h = let r = sums_parts (set t x (sum_at t x +ℤ f x)) f xs ys h.1 in ((h.0, r.0), r.1)

@@ -17,6 +17,7 @@ pub mod Shrunk
 pub mod Opened
 pub mod Held
 pub mod Added
+pub mod Lost
 pub mod Dissolved
 pub mod Summed
 pub mod Duals

@@ -27,6 +27,12 @@ filled_at t (x ∷ xs) e v h =
     ap (λ y. get_or (set t x e) y 0) same ∙ get_or-set_same t x e 0 (subst (λ y. y < length t) same h) ∙ sym (ap (λ q. cond (q || holds xs v) e (get_or t v 0)) s))
     (λ s. get_or-set_other t x v e 0 (λ y. eqb-false x v s (sym y)) ∙ sym (ap₂ (λ (p q : Bool). cond (p || q) e (get_or t v 0)) s m)))
 
+-- an entry that is written changes none at other places
+pub same_past : (t was : List ℕ) (x e : ℕ) (xs : List ℕ) → holds xs x ≡ false → AllByRecursion (λ v. get_or t v 0 ≡ get_or was v 0) xs → AllByRecursion (λ v. get_or (set t x e) v 0 ≡ get_or was v 0) xs
+same_past t was x e [] out h = tt
+same_past t was x e (y ∷ ys) out h =
+    let p = or_parts (eqb y x) (holds ys x) out in (get_or-set_other t x y e 0 (λ s. eqb-false y x p.0 s) ∙ h.0, same_past t was x e ys p.1 h.1)
+
 -- a table that is filled with each of some nodes at its run
 pub length-lowered : (t : List ℕ) (run : ℕ → List ℕ) (cs : List ℕ) → length (lowered t run cs) ≡ length t
 length-lowered t run [] = refl

@@ -1,5 +1,5 @@
 -- How an arena keeps its family. No public clause cites this module.
-use Rattle.std.specs.Prelude.{◌≡◌, ℕ, zero, suc, ◌+◌, ◌-◌, ◌<◌, ◌≤◌, ℤ, pos, ◌+ℤ◌, ◌-ℤ◌, true, ◌==◌, nat_le, if◌then◌else◌, List, [], ◌∷◌, length, map, Option, Some, None, IsSome, slice_index, slice_index_or, slice_set}
+use Rattle.std.specs.Prelude.{◌≡◌, ℕ, zero, suc, ◌+◌, ◌-◌, ◌<◌, ◌≤◌, ℤ, pos, ◌+ℤ◌, ◌-ℤ◌, neg_ℤ, true, ◌==◌, nat_le, if◌then◌else◌, List, [], ◌∷◌, length, map, Option, Some, None, IsSome, slice_index, slice_index_or, slice_set}
 use Rattle.std.specs.List.{AllByRecursion}
 use Rattle.slab.specs.Slab.{Slab, get, slab_len}
 use Rattle.graph_theory.specs.Parts.{holds}
@@ -71,6 +71,16 @@ added sums f (v ∷ vs) = added (slice_set sums v (sum_at sums v +ℤ f v)) f vs
 abbrev pub AreSums : List ℤ → (ℕ → ℤ) → List ℕ → Type 0
 AreSums sums f [] = Unit {0}
 AreSums sums f (v ∷ vs) = IsCover (sum_at sums v +ℤ f v) × AreSums (slice_set sums v (sum_at sums v +ℤ f v)) f vs
+
+-- the sums without the dual of each of these nodes at each vertex of its run
+abbrev pub taken : List ℤ → (ℕ → List ℕ) → (ℕ → ℤ) → List ℕ → List ℤ
+taken sums run y [] = sums
+taken sums run y (c ∷ cs) = taken (added sums (λ v. neg_ℤ (y c)) (run c)) run y cs
+
+-- each of these differences stays in range
+abbrev pub AreTaken : List ℤ → (ℕ → List ℕ) → (ℕ → ℤ) → List ℕ → Type 0
+AreTaken sums run y [] = Unit {0}
+AreTaken sums run y (c ∷ cs) = AreSums sums (λ v. neg_ℤ (y c)) (run c) × AreTaken (added sums (λ v. neg_ℤ (y c)) (run c)) run y cs
 
 -- the dual of the outermost node of a vertex, by the tables
 abbrev pub outer_dual : List ℕ → List ℤ → ℕ → ℤ

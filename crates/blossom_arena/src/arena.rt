@@ -15,8 +15,8 @@ use crate::nodes::NodeId;
 use crate::order::{put_first, take_out};
 use crate::ring::Ring;
 use crate::runs::{Kept, find_kept, find_run, has_kept, join, lower};
-use crate::sums::{add_each, add_outer, take_outer};
-use crate::tables::{NO_NODE, bare, fill, hang, note, numbered, renumber, set_entry, thread, wipe};
+use crate::sums::{absorb, add_each};
+use crate::tables::{NO_NODE, bare, hang, note, numbered, renumber, set_entry, thread, wipe};
 use graph_theory::GRAPH_VERTEX_LIMIT;
 use mb_base::{EdgeId, OutOfMemory, VertexId};
 use slab::Slab;
@@ -283,14 +283,14 @@ impl Arena {
             node,
         );
         set_entry(&mut self.parents, node, 0);
-        add_outer(
+        absorb(
             &mut self.inner,
+            &mut self.outer,
             Members::of(&self.followers, run),
-            &self.outer,
             &self.duals,
+            node,
         );
         set_dual(&mut self.duals, node, 0);
-        fill(&mut self.outer, Members::of(&self.followers, run), node);
         put_first(&mut self.older, &mut self.newer, node);
         NodeId::new(node)
     }
@@ -313,16 +313,12 @@ impl Arena {
         );
         set_entry(&mut self.parents, node, NO_NODE);
         lower(
+            &mut self.inner,
             &mut self.outer,
             Ring::of(&self.nexts, &self.edges, kept.first, kept.links),
             &self.followers,
             &self.kept,
             self.vertex_count,
-        );
-        take_outer(
-            &mut self.inner,
-            Members::of(&self.followers, kept.run),
-            &self.outer,
             &self.duals,
         );
     }

@@ -3,13 +3,14 @@ ghost use Rattle.slab.specs.Slab.{get};
 ghost use Rattle.std.specs.List.{AllByRecursion};
 ghost use Rattle.blossom_arena.specs.declared.links.Link.{Link};
 ghost use Rattle.blossom_arena.specs.declared.runs.Run.{Run};
-ghost use Rattle.blossom_arena.specs.Family.{nodes_of};
-ghost use Rattle.blossom_arena.specs.Fields.{key_of, kept_of, run_of, runs_of, joined, joined_tail, joined_size, lowered, vertices_of};
+ghost use Rattle.blossom_arena.specs.Family.{nodes_of, dual_at};
+ghost use Rattle.blossom_arena.specs.Fields.{key_of, kept_of, run_of, runs_of, joined, joined_tail, joined_size, lowered, taken, AreTaken, vertices_of};
 
+use crate::dual_table::dual_in;
 use crate::links::Link;
 use crate::members::Members;
 use crate::ring::Ring;
-use crate::tables::fill;
+use crate::sums::release;
 use slab::Slab;
 
 /// The vertices of a node: so many from `head` to `tail`, each the follower of the one before it.
@@ -96,25 +97,35 @@ pub(crate) fn join(followers: &mut Vec<u32>, kept: &Slab<Kept>, count: u32, circ
     }
 }
 
-/// Puts each node of a ring at each of its vertices.
+/// Makes each node of a ring the outermost one of its vertices, and takes its dual away from the sums
+/// there.
 pub(crate) fn lower(
+    sums: &mut Vec<i64>,
     outer: &mut Vec<u32>,
     ring: Ring<'_>,
     followers: &[u32],
     kept: &Slab<Kept>,
     count: u32,
+    duals: &[i64],
 )
-    requires places { vec_len outer.old ≡ length followers.now }
+    requires sums { vec_len sums.old ≡ length followers.now }
+    requires outer { vec_len outer.old ≡ length followers.now }
     requires within { AllByRecursion (λ (l : Link). AllByRecursion (λ v. v < length followers.now) (vertices_of followers.now (run_of count kept.now l.node))) ring }
-    ensures items { outer.new.items ≡ lowered outer.old.items (λ a. vertices_of followers.now (run_of count kept.now a)) (nodes_of ring.entry) }
-    ensures len { vec_len outer.new ≡ vec_len outer.old }
+    requires nodes { AllByRecursion (λ (l : Link). l.node < length duals.now) ring }
+    requires in_range { AreTaken sums.old.items (λ a. vertices_of followers.now (run_of count kept.now a)) (dual_at duals.now) (nodes_of ring) }
+    ensures sums { sums.new.items ≡ taken sums.old.items (λ a. vertices_of followers.now (run_of count kept.now a)) (dual_at duals.now) (nodes_of ring.entry) }
+    ensures outer { outer.new.items ≡ lowered outer.old.items (λ a. vertices_of followers.now (run_of count kept.now a)) (nodes_of ring.entry) }
+    ensures sums_len { vec_len sums.new ≡ vec_len sums.old }
+    ensures outer_len { vec_len outer.new ≡ vec_len outer.old }
 {
     for link in ring {
         let node = link.node.number();
-        fill(
+        release(
+            sums,
             outer,
             Members::of(followers, find_run(kept, count, node)),
             node,
+            dual_in(duals, node),
         );
     }
 }

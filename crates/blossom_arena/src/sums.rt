@@ -1,5 +1,6 @@
-ghost use Rattle.std.specs.Prelude.{◌≡◌, ◌<◌, ◌+ℤ◌, neg_ℤ, ℕ, length, slice_index, slice_set, vec_len};
-ghost use Rattle.std.specs.List.{AllByRecursion};
+ghost use Rattle.std.specs.Prelude.{◌≡◌, ◌<◌, ◌+ℤ◌, neg_ℤ, ℕ, nat_eq, length, slice_index, slice_set, vec_len};
+ghost use Rattle.std.specs.List.{AllByRecursion, IsDistinct};
+ghost use Rattle.blossom_arena.specs.Tables.{filled};
 ghost use Rattle.blossom_arena.specs.Fields.{sum_at, added, AreSums, outer_dual};
 ghost use Rattle.blossom_arena.specs.Slack.{IsCover};
 
@@ -38,30 +39,49 @@ pub(crate) fn add_each(sums: &mut Vec<i64>, vertices: Members<'_>, y: i64)
     }
 }
 
-/// Adds at each of these vertices the dual of its outermost node.
-pub(crate) fn add_outer(sums: &mut Vec<i64>, vertices: Members<'_>, outer: &[u32], duals: &[i64])
+/// Adds at each of these vertices the dual of its outermost node, and makes another node its outermost
+/// one.
+pub(crate) fn absorb(
+    sums: &mut Vec<i64>,
+    outer: &mut Vec<u32>,
+    vertices: Members<'_>,
+    duals: &[i64],
+    node: u32,
+)
     requires places { AllByRecursion (λ v. v < vec_len sums.old) vertices }
-    requires nodes { AllByRecursion (λ v. (v < length outer.now) × (slice_index outer.now v < length duals.now)) vertices }
-    requires in_range { AreSums sums.old.items (outer_dual outer.now duals.now) vertices }
-    ensures items { sums.new.items ≡ added sums.old.items (outer_dual outer.now duals.now) vertices.entry }
-    ensures len { vec_len sums.new ≡ vec_len sums.old }
+    requires nodes { AllByRecursion (λ v. (v < vec_len outer.old) × (slice_index outer.old.items v < length duals.now)) vertices }
+    requires different { IsDistinct nat_eq vertices }
+    requires in_range { AreSums sums.old.items (outer_dual outer.old.items duals.now) vertices }
+    ensures sums { sums.new.items ≡ added sums.old.items (outer_dual outer.old.items duals.now) vertices.entry }
+    ensures outer { outer.new.items ≡ filled outer.old.items vertices.entry node }
+    ensures sums_len { vec_len sums.new ≡ vec_len sums.old }
+    ensures outer_len { vec_len outer.new ≡ vec_len outer.old }
 {
     for v in vertices {
-        let node = outer[v.number() as usize];
-        add_at(sums, v.number(), dual_in(duals, node));
+        let place = v.number();
+        add_at(sums, place, dual_in(duals, outer[place as usize]));
+        outer[place as usize] = node;
     }
 }
 
-/// Takes away at each of these vertices the dual of its outermost node.
-pub(crate) fn take_outer(sums: &mut Vec<i64>, vertices: Members<'_>, outer: &[u32], duals: &[i64])
-    requires places { AllByRecursion (λ v. v < vec_len sums.old) vertices }
-    requires nodes { AllByRecursion (λ v. (v < length outer.now) × (slice_index outer.now v < length duals.now)) vertices }
-    requires in_range { AreSums sums.old.items (λ v. neg_ℤ (outer_dual outer.now duals.now v)) vertices }
-    ensures items { sums.new.items ≡ added sums.old.items (λ v. neg_ℤ (outer_dual outer.now duals.now v)) vertices.entry }
-    ensures len { vec_len sums.new ≡ vec_len sums.old }
+/// Makes a node the outermost one of each of these vertices, and takes its dual away from the sums there.
+pub(crate) fn release(
+    sums: &mut Vec<i64>,
+    outer: &mut Vec<u32>,
+    vertices: Members<'_>,
+    node: u32,
+    y: i64,
+)
+    requires places { AllByRecursion (λ v. (v < vec_len sums.old) × (v < vec_len outer.old)) vertices }
+    requires in_range { AreSums sums.old.items (λ v. neg_ℤ y) vertices }
+    ensures sums { sums.new.items ≡ added sums.old.items (λ v. neg_ℤ y) vertices.entry }
+    ensures outer { outer.new.items ≡ filled outer.old.items vertices.entry node }
+    ensures sums_len { vec_len sums.new ≡ vec_len sums.old }
+    ensures outer_len { vec_len outer.new ≡ vec_len outer.old }
 {
     for v in vertices {
-        let node = outer[v.number() as usize];
-        take_at(sums, v.number(), dual_in(duals, node));
+        let place = v.number();
+        take_at(sums, place, y);
+        outer[place as usize] = node;
     }
 }

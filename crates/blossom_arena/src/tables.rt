@@ -7,7 +7,6 @@ ghost use Rattle.blossom_arena.specs.Fields.{parent_entry};
 ghost use Rattle.blossom_arena.specs.declared.links.Link.{Link};
 
 use crate::links::{Link, node_at};
-use crate::members::Members;
 use crate::ring::Ring;
 use graph_theory::GRAPH_VERTEX_LIMIT;
 use mb_base::{EdgeId, OutOfMemory};
@@ -60,17 +59,6 @@ pub(crate) fn numbered(alloc: Global, n: u32) -> Result<Vec<u32>, OutOfMemory>
         numbers.push(number)?;
     }
     Ok(numbers)
-}
-
-/// Puts an entry at each of these vertices.
-pub(crate) fn fill(table: &mut Vec<u32>, vertices: Members<'_>, entry: u32)
-    requires { AllByRecursion (λ v. v < vec_len table.old) vertices }
-    ensures items { table.new.items ≡ filled table.old.items vertices.entry entry }
-    ensures len { vec_len table.new ≡ vec_len table.old }
-{
-    for v in vertices {
-        table[v.number() as usize] = entry;
-    }
 }
 
 /// Puts 0 at each place.

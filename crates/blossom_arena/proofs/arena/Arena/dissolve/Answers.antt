@@ -1,5 +1,5 @@
 use Rattle.std.proofs.Common.{◌≡◌, ◌∙◌, ℕ, ◌<◌, ◌+◌, List, true, false, sym, ap, ap₂, subst, length, arith}
-use Rattle.std.specs.Prelude.{ℤ, neg_ℤ, slice_index, slice_set, vec_len}
+use Rattle.std.specs.Prelude.{ℤ, neg_ℤ, slice_set, vec_len}
 use Rattle.std.specs.List.{AllByRecursion}
 use Rattle.graph_theory.specs.Parts.{holds}
 use Rattle.slab.specs.Slab.{Slab}
@@ -9,12 +9,12 @@ use Rattle.blossom_arena.specs.declared.arena.Arena.TheInside.{Inside}
 use Rattle.blossom_arena.specs.Tables.{filled}
 use Rattle.graph_theory.specs.Nested.{most_blossoms}
 use Rattle.blossom_arena.specs.Family.{Blossom, Family, names_of, nodes_of, ring_of, members_of, is_child, is_outermost, dissolved, dual_at}
-use Rattle.blossom_arena.specs.Fields.{blossoms_of, family_of, order_of, vertices_of, run_of, lowered, added, AreSums, outer_dual}
+use Rattle.blossom_arena.specs.Fields.{blossoms_of, family_of, order_of, vertices_of, run_of, lowered, added, taken, AreTaken, outer_dual}
 use Rattle.blossom_arena.proofs.Nested.{outermost_parts}
 use Rattle.blossom_arena.proofs.Sound.{order_names, order_range}
 use Rattle.blossom_arena.proofs.Shrunk.{each_some}
 use Rattle.blossom_arena.proofs.Dissolved.{Dissolves, sound_after, blossoms_after}
-use Rattle.blossom_arena.proofs.Undone.{older_place, newer_place, next_place, before_place, walk_kept, ring_kept, members_kept, vertices_low, outer_low, sums_low, children_within, runs_within}
+use Rattle.blossom_arena.proofs.Undone.{older_place, newer_place, next_place, before_place, walk_kept, ring_kept, children_within, runs_within, all_taken, taken_low}
 use Rattle.blossom_arena.proofs.arena.Arena.dissolve.Goals as goal
 
 -- the table as the children's runs leave it
@@ -94,46 +94,32 @@ lower-requires-clause-within c =
     subst (λ (ls : List Link). AllByRecursion (λ (l : Link). AllByRecursion (λ v. v < length c.deref-5.result.now) (vertices_of c.deref-5.result.now (run_of c.self.inside.vertex_count c.remove-kept.new.self l.node))) ls) (sym ring)
     (runs_within c.self.inside c.number-node.result c.self.invariant there c.remove-kept.new.self c.deref-5.result.now free c.remove-kept.ensures.updates c.deref-5.ensures.value)
 
-pub of-requires-3 : goal.of-requires-3
-of-requires-3 c =
+pub lower-requires-clause-nodes : goal.lower-requires-clause-nodes
+lower-requires-clause-nodes c =
     let there = in_order c.self.inside _ c.args.b c.number-node.result c.self.view_is c.requires.blossom c.number-node.ensures in
-    subst (AllByRecursion (λ v. v < length c.deref-6.result.now))
-    (sym (members_kept c.self.inside c.number-node.result c.self.invariant there c.remove-kept.result c.remove-kept.ensures.value c.deref-6.result.now c.deref-6.ensures.value))
-    (vertices_low c.self.inside c.number-node.result c.self.invariant there (length c.deref-6.result.now) (omega (arith, ap length c.deref-6.ensures.value, c.self.invariant.places.followers)))
-
-members_are : (c : goal.After-deref-8) → c.of-3.result ≡ members_of (blossoms_of c.self.inside) c.number-node.result
-members_are c =
-    let there = in_order c.self.inside _ c.args.b c.number-node.result c.self.view_is c.requires.blossom c.number-node.ensures in
-    c.of-3.ensures ∙ members_kept c.self.inside c.number-node.result c.self.invariant there c.remove-kept.result c.remove-kept.ensures.value c.deref-6.result.now c.deref-6.ensures.value
-
-pub take_outer-requires-clause-places : goal.take_outer-requires-clause-places
-take_outer-requires-clause-places c =
-    let there = in_order c.self.inside _ c.args.b c.number-node.result c.self.view_is c.requires.blossom c.number-node.ensures in
-    let enough : c.self.inside.vertex_count < vec_len c.self.inside.inner = omega (arith, c.self.invariant.places.inner) in
-    subst (λ (vs : List ℕ). AllByRecursion (λ v. v < vec_len c.self.inside.inner) vs) (sym (members_are c))
-    (vertices_low c.self.inside c.number-node.result c.self.invariant there (vec_len c.self.inside.inner) enough)
-
-pub take_outer-requires-clause-nodes : goal.take_outer-requires-clause-nodes
-take_outer-requires-clause-nodes c =
-    let there = in_order c.self.inside _ c.args.b c.number-node.result c.self.view_is c.requires.blossom c.number-node.ensures in
-    let free = is_free c.self.inside _ c.args.b c.number-node.result c.self.view_is c.requires.outer c.number-node.ensures in
-    let ring2 : c.of-2.result ≡ ring_of (blossoms_of c.self.inside) c.number-node.result =
+    let ring : c.of-2.result ≡ ring_of (blossoms_of c.self.inside) c.number-node.result =
     c.of-2.ensures ∙ ring_kept c.self.inside c.number-node.result c.self.invariant there c.remove-kept.result c.remove-kept.ensures.value c.deref-3.result.now c.deref-4.result.now c.deref-3.ensures.value c.deref-4.ensures.value in
-    subst (λ (vs : List ℕ). AllByRecursion (λ v. (v < length c.deref-7.result.now) × (slice_index c.deref-7.result.now v < length c.deref-8.result.now)) vs) (sym (members_are c))
-    (outer_low c.self.inside c.number-node.result c.self.invariant there c.remove-kept.new.self c.deref-7.result.now c.deref-8.result.now free c.remove-kept.ensures.updates c.deref-8.ensures.value
-    (c.deref-7.ensures.value ∙ lowered_is c.self.inside c.remove-kept.new.self c.lower.new.outer.items c.deref-5.result.now c.of-2.result c.number-node.result c.lower.ensures.items c.deref-5.ensures.value ring2))
+    subst (λ (ls : List Link). AllByRecursion (λ (l : Link). l.node < length c.deref-6.result.now) ls) (sym ring)
+    (children_within c.self.inside c.number-node.result c.self.invariant there (length c.deref-6.result.now) (omega (arith, ap length c.deref-6.ensures.value, c.self.invariant.family.duals.one_each)))
 
-pub take_outer-requires-clause-in_range : goal.take_outer-requires-clause-in_range
-take_outer-requires-clause-in_range c =
-    let there = in_order c.self.inside _ c.args.b c.number-node.result c.self.view_is c.requires.blossom c.number-node.ensures in
-    subst (AreSums c.self.inside.inner.items (λ v. neg_ℤ (outer_dual c.deref-7.result.now c.deref-8.result.now v))) (sym (members_are c))
-    (sums_low c.self.inside c.number-node.result c.self.invariant there c.deref-7.result.now c.deref-8.result.now c.deref-8.ensures.value)
+pub lower-requires-clause-in_range : goal.lower-requires-clause-in_range
+lower-requires-clause-in_range c =
+    let a : Inside = c.self.inside in
+    let kept : Slab Kept = c.remove-kept.new.self in
+    let ys : List ℤ = c.deref-6.result.now in
+    let there = in_order a _ c.args.b c.number-node.result c.self.view_is c.requires.blossom c.number-node.ensures in
+    let free = is_free a _ c.args.b c.number-node.result c.self.view_is c.requires.outer c.number-node.ensures in
+    let ring : c.of-2.result ≡ ring_of (blossoms_of a) c.number-node.result =
+    c.of-2.ensures ∙ ring_kept a c.number-node.result c.self.invariant there c.remove-kept.result c.remove-kept.ensures.value c.deref-3.result.now c.deref-4.result.now c.deref-3.ensures.value c.deref-4.ensures.value in
+    subst (λ (fs : List ℕ). AreTaken a.inner.items (λ x. vertices_of fs (run_of a.vertex_count kept x)) (dual_at ys) (nodes_of c.of-2.result)) (sym c.deref-5.ensures.value)
+    (subst (λ (ls : List Link). AreTaken a.inner.items (λ x. vertices_of a.followers.items (run_of a.vertex_count kept x)) (dual_at ys) (nodes_of ls)) (sym ring)
+    (taken_low a c.number-node.result c.self.invariant there kept free c.remove-kept.ensures.updates ys c.deref-6.ensures.value))
 
-abbrev after : goal.After-take_outer → Inside
+abbrev after : goal.After-lower → Inside
 after c = record {
   vertex_count = c.self.inside.vertex_count;
   duals = c.self.inside.duals;
-  inner = c.take_outer.new.sums;
+  inner = c.lower.new.sums;
   parents = c.set_entry.new.table;
   nexts = c.self.inside.nexts;
   edges = c.self.inside.edges;
@@ -144,16 +130,16 @@ after c = record {
   kept = c.remove-kept.new.self;
 }
 
-changes : (c : goal.After-take_outer) → holds (order_of c.self.inside) c.number-node.result ≡ true → Dissolves c.self.inside (after c) c.number-node.result
-changes c there =
+changes : (c : goal.After-lower) → holds (order_of c.self.inside) c.number-node.result ≡ true → is_child (blossoms_of c.self.inside) c.number-node.result ≡ false → Dissolves c.self.inside (after c) c.number-node.result
+changes c there free =
     let a : Inside = c.self.inside in
     let node : ℕ = c.number-node.result in
+    let kept : Slab Kept = c.remove-kept.new.self in
     let ring : c.of.result ≡ ring_of (blossoms_of a) node =
     c.of.ensures ∙ ring_kept a node c.self.invariant there c.remove-kept.result c.remove-kept.ensures.value c.deref.result.now c.deref-2.result.now c.deref.ensures.value c.deref-2.ensures.value in
     let ring2 : c.of-2.result ≡ ring_of (blossoms_of a) node =
     c.of-2.ensures ∙ ring_kept a node c.self.invariant there c.remove-kept.result c.remove-kept.ensures.value c.deref-3.result.now c.deref-4.result.now c.deref-3.ensures.value c.deref-4.ensures.value in
-    let members : c.of-3.result ≡ members_of (blossoms_of a) node =
-    c.of-3.ensures ∙ members_kept a node c.self.invariant there c.remove-kept.result c.remove-kept.ensures.value c.deref-6.result.now c.deref-6.ensures.value in
+    let outer = lowered_is a kept c.lower.new.outer.items c.deref-5.result.now c.of-2.result node c.lower.ensures.outer c.deref-5.ensures.value ring2 in
     record {
       updates = c.remove-kept.ensures.updates;
       len = c.remove-kept.ensures.len;
@@ -161,10 +147,12 @@ changes c there =
       older = c.take_out.ensures.older;
       newer = c.take_out.ensures.newer;
       parents = c.set_entry.ensures.items ∙ ap (λ (t : List ℕ). slice_set t node 1) (c.hang.ensures.items ∙ ap (λ (ls : List Link). filled a.parents.items (nodes_of ls) 0) ring);
-      outer = lowered_is a c.remove-kept.new.self c.lower.new.outer.items c.deref-5.result.now c.of-2.result node c.lower.ensures.items c.deref-5.ensures.value ring2;
-      inner = c.take_outer.ensures.items
-          ∙ ap₂ (λ (os : List ℕ) (ys : List ℤ). added a.inner.items (λ v. neg_ℤ (outer_dual os ys v)) c.of-3.result) c.deref-7.ensures.value c.deref-8.ensures.value
-          ∙ ap (added a.inner.items (λ v. neg_ℤ (outer_dual c.lower.new.outer.items a.duals.items v))) members;
+      outer = outer;
+      inner = c.lower.ensures.sums
+          ∙ ap₂ (λ (fs : List ℕ) (ls : List Link). taken a.inner.items (λ x. vertices_of fs (run_of a.vertex_count kept x)) (dual_at c.deref-6.result.now) (nodes_of ls)) c.deref-5.ensures.value ring2
+          ∙ ap (λ (ys : List ℤ). taken a.inner.items (λ x. vertices_of a.followers.items (run_of a.vertex_count kept x)) (dual_at ys) (nodes_of (ring_of (blossoms_of a) node))) c.deref-6.ensures.value
+          ∙ all_taken a node c.self.invariant there kept free c.remove-kept.ensures.updates a.duals.items
+          ∙ ap (λ (os : List ℕ). added a.inner.items (λ v. neg_ℤ (outer_dual os a.duals.items v)) (members_of (blossoms_of a) node)) (sym outer);
       none = ap₂ (λ (f : Family) (x : ℕ). dual_at f.duals x) c.self.view_is c.number-node.ensures ∙ c.requires.dual;
     }
 
@@ -172,18 +160,18 @@ pub invariant_of-self : goal.invariant_of-self
 invariant_of-self c =
     let there = in_order c.self.inside _ c.args.b c.number-node.result c.self.view_is c.requires.blossom c.number-node.ensures in
     let free = is_free c.self.inside _ c.args.b c.number-node.result c.self.view_is c.requires.outer c.number-node.ensures in
-    sound_after c.self.inside _ _ _ _ _ _ c.number-node.result c.self.invariant there free (changes c there)
+    sound_after c.self.inside _ _ _ _ _ _ c.number-node.result c.self.invariant there free (changes c there free)
 
 pub returns-clause-family : goal.returns-clause-family
 returns-clause-family c =
     let a : Inside = c.self.inside in
     let there = in_order a _ c.args.b c.number-node.result c.self.view_is c.requires.blossom c.number-node.ensures in
     let free = is_free a _ c.args.b c.number-node.result c.self.view_is c.requires.outer c.number-node.ensures in
-    ap (λ (bs : List Blossom). record { vertex_count = a.vertex_count; duals = a.duals.items; blossoms = bs }) (blossoms_after a _ _ _ _ _ _ c.number-node.result c.self.invariant there free (changes c there))
+    ap (λ (bs : List Blossom). record { vertex_count = a.vertex_count; duals = a.duals.items; blossoms = bs }) (blossoms_after a _ _ _ _ _ _ c.number-node.result c.self.invariant there free (changes c there free))
     ∙ ap₂ (λ (f : Family) (x : ℕ). dissolved f x) c.self.view_is c.number-node.ensures
 
 pub returns-clause-good : goal.returns-clause-good
 returns-clause-good c =
     let there = in_order c.self.inside _ c.args.b c.number-node.result c.self.view_is c.requires.blossom c.number-node.ensures in
     let free = is_free c.self.inside _ c.args.b c.number-node.result c.self.view_is c.requires.outer c.number-node.ensures in
-    (sound_after c.self.inside _ _ _ _ _ _ c.number-node.result c.self.invariant there free (changes c there)).family
+    (sound_after c.self.inside _ _ _ _ _ _ c.number-node.result c.self.invariant there free (changes c there free)).family

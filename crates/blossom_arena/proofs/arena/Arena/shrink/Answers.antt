@@ -1,6 +1,6 @@
-use Rattle.std.proofs.Common.{◌≡◌, ◌∙◌, ℕ, ◌<◌, ◌+◌, List, ◌∷◌, sym, ap, ap₂, subst, length, arith, Some}
-use Rattle.std.specs.Prelude.{ℤ, slice_index, slice_set, vec_len}
-use Rattle.std.specs.List.{AllByRecursion}
+use Rattle.std.proofs.Common.{◌≡◌, ◌∙◌, ℕ, ◌<◌, ◌+◌, List, ◌∷◌, refl, sym, ap, ap₂, subst, length, arith, Some}
+use Rattle.std.specs.Prelude.{ℤ, nat_eq, slice_index, slice_set, vec_len}
+use Rattle.std.specs.List.{AllByRecursion, IsDistinct}
 use Rattle.blossom_arena.specs.declared.links.Link.{Link}
 use Rattle.slab.specs.Slab.{Updates}
 use Rattle.blossom_arena.specs.declared.runs.Run.{Run}
@@ -10,7 +10,8 @@ use Rattle.blossom_arena.specs.Tables.{filled, threaded, next_node}
 use Rattle.graph_theory.specs.Nested.{most_blossoms}
 use Rattle.blossom_arena.specs.Family.{Blossom, Family, IsCircuit, is_node, shrunk, nodes_of, union_of, made_of}
 use Rattle.blossom_arena.specs.Fields.{blossoms_of, vertices_of, runs_of, added, AreSums, outer_dual}
-use Rattle.blossom_arena.proofs.Sound.{tails_within, joined_run}
+use Rattle.blossom_arena.proofs.Lists.{distinct_from_new}
+use Rattle.blossom_arena.proofs.Sound.{tails_within, joined_run, circuit_union_new}
 use Rattle.blossom_arena.proofs.Shrunk.{Shrinks, sound_after, blossoms_after, fresh}
 use Rattle.blossom_arena.proofs.Written.{room_left, circuit_few, sizes_few, nodes_within, union_within, newest_within, outer_low, sums_low, run_is, run_vertices, ring_walk, walk_within}
 use Rattle.blossom_arena.proofs.arena.Arena.shrink.Goals as goal
@@ -77,50 +78,41 @@ of-requires-2 c =
     subst (AllByRecursion (λ v. v < length c.deref-3.result.now)) (sym (vertices_are c))
     (union_within c.self.inside c.args.circuit.now c.self.invariant circuit (length c.deref-3.result.now) (omega (arith, c.deref-3.ensures.len, c.join-run.ensures.len, c.self.invariant.places.followers)))
 
-vertices_then : (c : goal.After-deref-5) → c.of-2.result ≡ union_of (blossoms_of c.self.inside) c.args.circuit.now
+vertices_then : (c : goal.After-deref-4) → c.of-2.result ≡ union_of (blossoms_of c.self.inside) c.args.circuit.now
 vertices_then c =
     let circuit = subst (λ f. IsCircuit f.vertex_count f.blossoms c.args.circuit.now) (sym c.self.view_is) c.requires in
     c.of-2.ensures ∙ run_vertices c.self.inside c.args.circuit.now c.self.invariant circuit c.deref-3.result.now c.join-run.result (c.deref-3.ensures.value ∙ c.join-run.ensures.items)
     (run_is c.self.inside c.args.circuit.now c.self.invariant circuit c.join-run.new.followers.items c.join-run.result c.join-run.ensures.items c.join-run.ensures.head c.join-run.ensures.tail c.join-run.ensures.size)
 
-pub add_outer-requires-clause-places : goal.add_outer-requires-clause-places
-add_outer-requires-clause-places c =
+pub absorb-requires-clause-places : goal.absorb-requires-clause-places
+absorb-requires-clause-places c =
     let circuit = subst (λ f. IsCircuit f.vertex_count f.blossoms c.args.circuit.now) (sym c.self.view_is) c.requires in
     let enough : c.self.inside.vertex_count < vec_len c.self.inside.inner = omega (arith, c.self.invariant.places.inner) in
     subst (λ (vs : List ℕ). AllByRecursion (λ v. v < vec_len c.self.inside.inner) vs) (sym (vertices_then c))
     (union_within c.self.inside c.args.circuit.now c.self.invariant circuit (vec_len c.self.inside.inner) enough)
 
-pub add_outer-requires-clause-nodes : goal.add_outer-requires-clause-nodes
-add_outer-requires-clause-nodes c =
+pub absorb-requires-clause-nodes : goal.absorb-requires-clause-nodes
+absorb-requires-clause-nodes c =
+    let a : Inside = c.self.inside in
     let circuit = subst (λ f. IsCircuit f.vertex_count f.blossoms c.args.circuit.now) (sym c.self.view_is) c.requires in
-    subst (λ (vs : List ℕ). AllByRecursion (λ v. (v < length c.deref-4.result.now) × (slice_index c.deref-4.result.now v < length c.deref-5.result.now)) vs) (sym (vertices_then c))
-    (outer_low c.self.inside c.args.circuit.now c.self.invariant circuit c.deref-4.result.now c.deref-5.result.now c.deref-4.ensures.value c.deref-5.ensures.value)
+    let len : vec_len a.outer ≡ length a.outer.items = omega arith in
+    subst (λ m. AllByRecursion (λ v. (v < m) × (slice_index a.outer.items v < length c.deref-4.result.now)) c.of-2.result) (sym len)
+    (subst (λ (vs : List ℕ). AllByRecursion (λ v. (v < length a.outer.items) × (slice_index a.outer.items v < length c.deref-4.result.now)) vs) (sym (vertices_then c))
+    (outer_low a c.args.circuit.now c.self.invariant circuit a.outer.items c.deref-4.result.now refl c.deref-4.ensures.value))
 
-pub add_outer-requires-clause-in_range : goal.add_outer-requires-clause-in_range
-add_outer-requires-clause-in_range c =
+pub absorb-requires-clause-different : goal.absorb-requires-clause-different
+absorb-requires-clause-different c =
+    let a : Inside = c.self.inside in
     let circuit = subst (λ f. IsCircuit f.vertex_count f.blossoms c.args.circuit.now) (sym c.self.view_is) c.requires in
-    subst (AreSums c.self.inside.inner.items (outer_dual c.deref-4.result.now c.deref-5.result.now)) (sym (vertices_then c))
-    (sums_low c.self.inside c.args.circuit.now c.self.invariant circuit c.deref-4.result.now c.deref-5.result.now c.deref-5.ensures.value)
+    subst (IsDistinct nat_eq) (sym (vertices_then c))
+    (distinct_from_new (union_of (blossoms_of a) c.args.circuit.now) (circuit_union_new a.vertex_count (blossoms_of a) c.args.circuit.now c.self.invariant.family.nested circuit))
 
-vertices_again : (c : goal.After-deref-6) → vertices_of c.deref-6.result.now c.join-run.result ≡ union_of (blossoms_of c.self.inside) c.args.circuit.now
-vertices_again c =
+pub absorb-requires-clause-in_range : goal.absorb-requires-clause-in_range
+absorb-requires-clause-in_range c =
+    let a : Inside = c.self.inside in
     let circuit = subst (λ f. IsCircuit f.vertex_count f.blossoms c.args.circuit.now) (sym c.self.view_is) c.requires in
-    run_vertices c.self.inside c.args.circuit.now c.self.invariant circuit c.deref-6.result.now c.join-run.result (c.deref-6.ensures.value ∙ c.join-run.ensures.items)
-    (run_is c.self.inside c.args.circuit.now c.self.invariant circuit c.join-run.new.followers.items c.join-run.result c.join-run.ensures.items c.join-run.ensures.head c.join-run.ensures.tail c.join-run.ensures.size)
-
-pub of-requires-3 : goal.of-requires-3
-of-requires-3 c =
-    let circuit = subst (λ f. IsCircuit f.vertex_count f.blossoms c.args.circuit.now) (sym c.self.view_is) c.requires in
-    subst (AllByRecursion (λ v. v < length c.deref-6.result.now)) (sym (vertices_again c))
-    (union_within c.self.inside c.args.circuit.now c.self.invariant circuit (length c.deref-6.result.now) (omega (arith, c.deref-6.ensures.len, c.join-run.ensures.len, c.self.invariant.places.followers)))
-
-pub fill-requires : goal.fill-requires
-fill-requires c =
-    let circuit = subst (λ f. IsCircuit f.vertex_count f.blossoms c.args.circuit.now) (sym c.self.view_is) c.requires in
-    let enough : c.self.inside.vertex_count < vec_len c.self.inside.outer = omega (arith, c.self.invariant.places.outer) in
-    subst (λ (vs : List ℕ). AllByRecursion (λ v. v < vec_len c.self.inside.outer) vs) (sym (c.of-3.ensures ∙ run_vertices c.self.inside c.args.circuit.now c.self.invariant circuit c.deref-6.result.now c.join-run.result (c.deref-6.ensures.value ∙ c.join-run.ensures.items)
-    (run_is c.self.inside c.args.circuit.now c.self.invariant circuit c.join-run.new.followers.items c.join-run.result c.join-run.ensures.items c.join-run.ensures.head c.join-run.ensures.tail c.join-run.ensures.size)))
-    (union_within c.self.inside c.args.circuit.now c.self.invariant circuit (vec_len c.self.inside.outer) enough)
+    subst (AreSums a.inner.items (outer_dual a.outer.items c.deref-4.result.now)) (sym (vertices_then c))
+    (sums_low a c.args.circuit.now c.self.invariant circuit a.outer.items c.deref-4.result.now c.deref-4.ensures.value)
 
 pub put_first-requires-clause-next : goal.put_first-requires-clause-next
 put_first-requires-clause-next c =
@@ -131,11 +123,11 @@ abbrev after : goal.After-new → Inside
 after c = record {
   vertex_count = c.self.inside.vertex_count;
   duals = c.set_dual.new.duals;
-  inner = c.add_outer.new.sums;
+  inner = c.absorb.new.sums;
   parents = c.set_entry.new.table;
   nexts = c.thread.new.nexts;
   edges = c.note.new.edges;
-  outer = c.fill.new.table;
+  outer = c.absorb.new.outer;
   followers = c.join-run.new.followers;
   older = c.put_first.new.older;
   newer = c.put_first.new.newer;
@@ -153,7 +145,6 @@ changes c circuit =
     let run : c.join-run.result ≡ joined_run a ring = run_is a ring c.self.invariant circuit c.join-run.new.followers.items c.join-run.result c.join-run.ensures.items c.join-run.ensures.head c.join-run.ensures.tail c.join-run.ensures.size in
     let written : c.of.result ≡ ring = c.of.ensures ∙ ring_walk a ring c.self.invariant circuit c.deref.result.now c.deref-2.result.now c.node_at-first.result first (c.deref.ensures.value ∙ c.thread.ensures.items) (c.deref-2.ensures.value ∙ c.note.ensures.items) in
     let vertices : c.of-2.result ≡ union_of (blossoms_of a) ring = c.of-2.ensures ∙ run_vertices a ring c.self.invariant circuit c.deref-3.result.now c.join-run.result (c.deref-3.ensures.value ∙ c.join-run.ensures.items) run in
-    let again : c.of-3.result ≡ union_of (blossoms_of a) ring = c.of-3.ensures ∙ run_vertices a ring c.self.invariant circuit c.deref-6.result.now c.join-run.result (c.deref-6.ensures.value ∙ c.join-run.ensures.items) run in
     record {
       number = omega arith;
       duals = c.set_dual.ensures;
@@ -167,9 +158,9 @@ changes c circuit =
       nexts = c.thread.ensures.items ∙ ap (threaded a.nexts.items ring) first;
       edges = c.note.ensures.items;
       parents = c.set_entry.ensures.items ∙ ap (λ (t : List ℕ). slice_set t (node c) 0) (c.hang.ensures.items ∙ ap (λ (ls : List Link). filled a.parents.items (nodes_of ls) (node c)) written);
-      outer = c.fill.ensures.items ∙ ap (λ (vs : List ℕ). filled a.outer.items vs (node c)) again;
-      inner = c.add_outer.ensures.items
-          ∙ ap₂ (λ (os : List ℕ) (ys : List ℤ). added a.inner.items (outer_dual os ys) c.of-2.result) c.deref-4.ensures.value c.deref-5.ensures.value
+      outer = c.absorb.ensures.outer ∙ ap (λ (vs : List ℕ). filled a.outer.items vs (node c)) vertices;
+      inner = c.absorb.ensures.sums
+          ∙ ap (λ (ys : List ℤ). added a.inner.items (outer_dual a.outer.items ys) c.of-2.result) c.deref-4.ensures.value
           ∙ ap (added a.inner.items (outer_dual a.outer.items a.duals.items)) vertices;
       older = c.put_first.ensures.older;
       newer = c.put_first.ensures.newer;
