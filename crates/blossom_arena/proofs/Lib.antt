@@ -20,6 +20,7 @@ pub mod Added
 pub mod Dissolved
 pub mod Summed
 pub mod Duals
+pub mod Changed
 pub mod Fresh
 pub mod Written
 pub mod Undone

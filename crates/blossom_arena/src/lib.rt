@@ -6,6 +6,7 @@
 mod arena;
 mod blossoms;
 mod chain;
+mod changes;
 mod dual_table;
 mod label;
 mod law;
