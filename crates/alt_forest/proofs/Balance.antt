@@ -7,8 +7,8 @@ use Rattle.graph_theory.specs.Parts.{holds}
 use Rattle.blossom_arena.specs.Family.{IsNested, is_outermost, is_vertex}
 use Rattle.blossom_arena.proofs.Lists.{AllNew, length-within}
 use Rattle.blossom_arena.proofs.Nested.{outermost_parts, node_range, range_vertex}
-use Rattle.alt_forest.specs.declared.label.Label.{Label}
-use Rattle.alt_forest.specs.declared.label.Label.TheVariants.{Outer, Inner}
+use Rattle.blossom_arena.specs.declared.label.Label.{Label}
+use Rattle.blossom_arena.specs.declared.label.Label.TheVariants.{Outer, Inner}
 use Rattle.alt_forest.specs.State.{State, IsOutermost, IsMate, IsSearchState}
 use Rattle.alt_forest.specs.Trees.{IsRoot, far_end, up_edge_by, up_of, root_of, is_label, node_limit}
 use Rattle.alt_forest.specs.Laws.{TreesBalance}

@@ -7,8 +7,8 @@ use Rattle.graph_theory.specs.Duals.{slack}
 use Rattle.blossom_arena.specs.Family.{Blossom, dual_at}
 use Rattle.blossom_arena.specs.Slack.{duals_across, vertex_duals, sets_of}
 use Rattle.blossom_arena.proofs.Slacks.{slack_across}
-use Rattle.alt_forest.specs.declared.label.Weights.{Weights}
-use Rattle.alt_forest.specs.declared.label.Weights.TheVariants.{Zero, Given}
+use Rattle.alt_forest.specs.declared.weights.Weights.{Weights}
+use Rattle.alt_forest.specs.declared.weights.Weights.TheVariants.{Zero, Given}
 use Rattle.alt_forest.specs.Searches.{is_given}
 use Rattle.alt_forest.specs.Chains.{weighed}
 

@@ -9,7 +9,7 @@ use Rattle.graph_theory.specs.Nested.{most_blossoms}
 use Rattle.blossom_arena.specs.Family.{Blossom, IsNested, is_vertex, is_outermost}
 use Rattle.blossom_arena.proofs.Lists.{by_test}
 use Rattle.blossom_arena.proofs.Nested.{outermost_parts, node_range, range_vertex, vertex_range}
-use Rattle.alt_forest.specs.declared.label.Label.TheVariants.{Outer, Out}
+use Rattle.blossom_arena.specs.declared.label.Label.TheVariants.{Outer, Out}
 use Rattle.alt_forest.specs.State.{State, IsOutermost, IsExposed}
 use Rattle.alt_forest.specs.Trees.{IsRoot, is_label, node_limit}
 use Rattle.alt_forest.specs.Counts.{is_exposed, exposed_count, is_root, tree_count}

@@ -4,7 +4,7 @@ use Rattle.std.proofs.Common.{◌≡◌, ℕ, ◌<◌, ◌∷◌, length, Some, 
 use Rattle.std.proofs.lemmas.Option.{same_Some}
 use Rattle.alt_forest.specs.declared.hop.Hop.{Hop}
 use Rattle.blossom_arena.specs.Family.{IsNested}
-use Rattle.alt_forest.specs.declared.label.Label.TheVariants.{Outer}
+use Rattle.blossom_arena.specs.declared.label.Label.TheVariants.{Outer}
 use Rattle.alt_forest.specs.State.{State, IsOutermost, IsSearchState}
 use Rattle.alt_forest.specs.Trees.{other_node, far_end, up_edge_by, up_of, path_of, root_of}
 use Rattle.alt_forest.specs.Ways.{HasHop, IsRead, IsHop}

@@ -1,8 +1,8 @@
 -- Which moment an edge needs, by the labels of the nodes at its ends.
 use Rattle.std.proofs.Common.{◌≡◌, ◌≢◌, ℕ, Option, Some, None, refl, sym, ap, ◌∙◌, subst, ⊎_elim, inl, inr}
 use Rattle.std.specs.Prelude.{ℤ, ◌+ℤ◌}
-use Rattle.alt_forest.specs.declared.label.Label.{Label}
-use Rattle.alt_forest.specs.declared.label.Label.TheVariants.{Outer, Inner, Out}
+use Rattle.blossom_arena.specs.declared.label.Label.{Label}
+use Rattle.blossom_arena.specs.declared.label.Label.TheVariants.{Outer, Inner, Out}
 use Rattle.alt_forest.specs.State.{State, Joins, node_u, node_v, slack_of}
 use Rattle.alt_forest.specs.Entries.{NeedsMoment}
 use Rattle.alt_forest.proofs.Relabelled.{outer_not_out, outer_not_inner, inner_not_out}

@@ -6,7 +6,7 @@ use Rattle.std.proofs.lemmas.Int.{ints}
 use Rattle.graph_theory.specs.declared.limits.TheConstants.{NUMBER_LIMIT}
 use Rattle.edge_queue.specs.declared.item.Item.{Item}
 use Rattle.edge_queue.specs.Moments.{Moments, no_moments, moment_of}
-use Rattle.alt_forest.specs.declared.label.Label.TheVariants.{Out}
+use Rattle.blossom_arena.specs.declared.label.Label.TheVariants.{Out}
 use Rattle.alt_forest.specs.declared.search.Search.{Search}
 use Rattle.alt_forest.specs.Searches.{HasShape, HasRoom, label_at}
 use Rattle.alt_forest.specs.Entries.{IsQueued}

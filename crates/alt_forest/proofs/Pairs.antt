@@ -7,8 +7,8 @@ use Rattle.graph_theory.specs.Parts.{holds}
 use Rattle.blossom_arena.specs.Family.{IsNested}
 use Rattle.blossom_arena.proofs.Lists.{AllNew, holds-filter, new-filter, length-within}
 use Rattle.blossom_arena.proofs.Nested.{outer_nodes, holds-outer_nodes, new-outer_nodes}
-use Rattle.alt_forest.specs.declared.label.Label.{Label}
-use Rattle.alt_forest.specs.declared.label.Label.TheVariants.{Outer, Inner, Out}
+use Rattle.blossom_arena.specs.declared.label.Label.{Label}
+use Rattle.blossom_arena.specs.declared.label.Label.TheVariants.{Outer, Inner, Out}
 use Rattle.alt_forest.specs.State.{State, IsOutermost, IsMate, IsSearchState}
 use Rattle.alt_forest.specs.Trees.{IsRoot, far_end, is_label}
 use Rattle.alt_forest.proofs.Relabelled.{some_not_none}

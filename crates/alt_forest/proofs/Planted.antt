@@ -13,8 +13,8 @@ use Rattle.blossom_arena.proofs.Sets.{member_vertex, members_new, outermost_has,
 use Rattle.blossom_arena.proofs.Ends.{u_vertex, v_vertex}
 use Rattle.edge_queue.specs.declared.item.Item.TheVariants.{Edge}
 use Rattle.edge_queue.specs.Moments.{moment_of}
-use Rattle.alt_forest.specs.declared.label.Label.{Label}
-use Rattle.alt_forest.specs.declared.label.Label.TheVariants.{Outer, Inner, Out}
+use Rattle.blossom_arena.specs.declared.label.Label.{Label}
+use Rattle.blossom_arena.specs.declared.label.Label.TheVariants.{Outer, Inner, Out}
 use Rattle.alt_forest.specs.declared.search.Search.{Search}
 use Rattle.alt_forest.specs.State.{State, IsOutermost, IsExposed, Joins, node_u, node_v, IsSearchState}
 use Rattle.alt_forest.specs.Counts.{is_outside, outside_among}

@@ -2,8 +2,8 @@
 use Rattle.std.proofs.Common.{◌≡◌, ◌≢◌, ◌⊎◌, ◌↔◌, ℕ, eqb, cond, Option, Some, None, refl, sym, ap, ◌∙◌, subst, ⊎_elim, inl, inr}
 use Rattle.std.proofs.lemmas.Bool.{eqb-true, eqb-false, eq-eqb, ne_eqb}
 use Rattle.blossom_arena.proofs.Lists.{by_test}
-use Rattle.alt_forest.specs.declared.label.Label.{Label}
-use Rattle.alt_forest.specs.declared.label.Label.TheVariants.{Outer, Inner, Out}
+use Rattle.blossom_arena.specs.declared.label.Label.{Label}
+use Rattle.blossom_arena.specs.declared.label.Label.TheVariants.{Outer, Inner, Out}
 use Rattle.alt_forest.specs.State.{State, IsOutermost, IsMate, IsInner, FitsLabel, IsSearchState}
 use Rattle.alt_forest.specs.Trees.{IsRoot}
 use Rattle.alt_forest.specs.Searches.{put}

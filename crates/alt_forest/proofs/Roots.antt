@@ -6,8 +6,8 @@ use Rattle.graph_theory.specs.Parts.{holds}
 use Rattle.blossom_arena.specs.Family.{IsNested, outermost, is_vertex}
 use Rattle.blossom_arena.proofs.Nested.{outermost_parts, node_range}
 use Rattle.blossom_arena.proofs.Sets.{outermost_has, outermost_by_member}
-use Rattle.alt_forest.specs.declared.label.Label.{Label}
-use Rattle.alt_forest.specs.declared.label.Label.TheVariants.{Outer, Inner, Out}
+use Rattle.blossom_arena.specs.declared.label.Label.{Label}
+use Rattle.blossom_arena.specs.declared.label.Label.TheVariants.{Outer, Inner, Out}
 use Rattle.alt_forest.specs.State.{State, IsOutermost, Joins, slack_of, IsSearchState}
 use Rattle.alt_forest.specs.Trees.{node_limit, far_end, up_edge, up_edge_by, up_of, path_of, last_of, root_of, IsRoot, cover, SameParity}
 use Rattle.alt_forest.specs.Laws.{LeadsToRoot, WaysLeadToRoots, TreesHaveParity, IsReached, ForestsHaveParity}

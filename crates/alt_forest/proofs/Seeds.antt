@@ -2,7 +2,7 @@
 use Rattle.std.proofs.Common.{◌≡◌, ◌≢◌, ℕ, zero, suc, ◌+◌, ◌<◌, sym, ap, ◌∙◌, arith, ⊎_elim, Some}
 use Rattle.graph_theory.specs.Graph.{IsEdgeNumber}
 use Rattle.blossom_arena.specs.Family.{IsNested}
-use Rattle.alt_forest.specs.declared.label.Label.TheVariants.{Out}
+use Rattle.blossom_arena.specs.declared.label.Label.TheVariants.{Out}
 use Rattle.alt_forest.specs.State.{State, IsOutermost, Joins, IsSearchState}
 use Rattle.alt_forest.specs.Trees.{far_end, up_edge, up_of, root_of, IsRoot}
 use Rattle.alt_forest.proofs.Walk.{other_node_joins, deeper_differs}

@@ -3,8 +3,8 @@ use Rattle.std.proofs.Common.{◌≡◌, ◌≢◌, ◌⊎◌, ℕ, zero, suc, �
 use Rattle.std.proofs.lemmas.Bool.{eq-eqb, ne_eqb}
 use Rattle.graph_theory.specs.Graph.{Multigraph, IsEdgeNumber}
 use Rattle.blossom_arena.specs.Family.{Blossom}
-use Rattle.alt_forest.specs.declared.label.Label.{Label}
-use Rattle.alt_forest.specs.declared.label.Label.TheVariants.{Outer, Inner, Out}
+use Rattle.blossom_arena.specs.declared.label.Label.{Label}
+use Rattle.blossom_arena.specs.declared.label.Label.TheVariants.{Outer, Inner, Out}
 use Rattle.alt_forest.specs.State.{State, IsOutermost, Joins, node_u, node_v, IsSearchState}
 use Rattle.alt_forest.proofs.Relabelled.{some_not_none}
 use Rattle.alt_forest.specs.Trees.{other_node, far_end, up_edge_by, up_edge, up_of, path_within}

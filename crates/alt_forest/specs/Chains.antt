@@ -3,8 +3,8 @@ use Rattle.std.specs.Prelude.{ℕ, suc, ℤ, pos, ◌+ℤ◌, not, ◌&&◌, ◌
 use Rattle.graph_theory.specs.Parts.{holds}
 use Rattle.blossom_arena.specs.Family.{Blossom}
 use Rattle.graph_theory.specs.declared.edge.Edge.{Edge}
-use Rattle.alt_forest.specs.declared.label.Weights.{Weights}
-use Rattle.alt_forest.specs.declared.label.Weights.TheVariants.{Zero, Given}
+use Rattle.alt_forest.specs.declared.weights.Weights.{Weights}
+use Rattle.alt_forest.specs.declared.weights.Weights.TheVariants.{Zero, Given}
 
 -- the edge as a pass weighs it
 abbrev pub weighed : Weights → Edge → Edge

@@ -3,7 +3,7 @@ use Rattle.std.specs.Prelude.{◌≢◌, ℕ, ◌+◌, Bool, not, ◌&&◌, if�
 use Rattle.std.specs.List.{list_any}
 use Rattle.graph_theory.specs.Sums.{sum_to}
 use Rattle.blossom_arena.specs.Family.{Blossom, is_outermost, outermost}
-use Rattle.alt_forest.specs.declared.label.Label.TheVariants.{Outer, Out}
+use Rattle.blossom_arena.specs.declared.label.Label.TheVariants.{Outer, Out}
 use Rattle.alt_forest.specs.State.{State, IsExposed}
 use Rattle.alt_forest.specs.Trees.{is_label, node_limit}
 

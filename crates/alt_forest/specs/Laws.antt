@@ -3,7 +3,7 @@ use Rattle.std.specs.Prelude.{◌≡◌, ◌≢◌, ◌⊎◌, ℕ, ◌+◌, tru
 use Rattle.graph_theory.specs.Graph.{IsGraph}
 use Rattle.graph_theory.specs.Parts.{holds}
 use Rattle.blossom_arena.specs.Family.{IsNested, is_vertex, outermost}
-use Rattle.alt_forest.specs.declared.label.Label.TheVariants.{Outer, Inner, Out}
+use Rattle.blossom_arena.specs.declared.label.Label.TheVariants.{Outer, Inner, Out}
 use Rattle.alt_forest.specs.State.{State, IsOutermost, IsSearchState}
 use Rattle.alt_forest.specs.Counts.{exposed_count, IsMatched, tree_count}
 use Rattle.alt_forest.specs.Trees.{path_of, root_of, IsRoot, cover, SameParity, labelled}

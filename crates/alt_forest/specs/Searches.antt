@@ -5,10 +5,10 @@ use Rattle.graph_theory.specs.Limits.{IsWithinLimits}
 use Rattle.graph_theory.specs.Graph.{Multigraph, IsGraph, IsWeight, edge_of, IsEdgeNumber}
 use Rattle.blossom_arena.specs.Family.{dual_at, IsFamily}
 use Rattle.edge_queue.specs.Moments.{Moments}
-use Rattle.alt_forest.specs.declared.label.Label.{Label}
-use Rattle.alt_forest.specs.declared.label.Label.TheVariants.{Out}
-use Rattle.alt_forest.specs.declared.label.Weights.{Weights}
-use Rattle.alt_forest.specs.declared.label.Weights.TheVariants.{Zero, Given}
+use Rattle.blossom_arena.specs.declared.label.Label.{Label}
+use Rattle.blossom_arena.specs.declared.label.Label.TheVariants.{Out}
+use Rattle.alt_forest.specs.declared.weights.Weights.{Weights}
+use Rattle.alt_forest.specs.declared.weights.Weights.TheVariants.{Zero, Given}
 use Rattle.alt_forest.specs.declared.search.Search.{Search}
 use Rattle.alt_forest.specs.declared.spokes.Spoke.{Spoke}
 use Rattle.alt_forest.specs.Spokes.{AreSpokes}

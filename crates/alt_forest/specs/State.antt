@@ -12,8 +12,8 @@ use Rattle.blossom_arena.specs.Family.{Blossom, outermost, is_outermost, is_vert
 use Rattle.blossom_arena.specs.Slack.{duals_across}
 pub use Rattle.blossom_arena.specs.Slack.{held_by}
 pub use Rattle.blossom_arena.specs.Tables.{next_node}
-use Rattle.alt_forest.specs.declared.label.Label.{Label}
-use Rattle.alt_forest.specs.declared.label.Label.TheVariants.{Outer, Inner, Out}
+use Rattle.blossom_arena.specs.declared.label.Label.{Label}
+use Rattle.blossom_arena.specs.declared.label.Label.TheVariants.{Outer, Inner, Out}
 
 -- duals, labels, edges to parents and edges to mates by node; `weighted` says whether slacks use the weights or 0
 pub record State : Type 0 where

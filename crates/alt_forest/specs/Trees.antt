@@ -6,8 +6,8 @@ use Rattle.graph_theory.specs.Parts.{holds}
 use Rattle.graph_theory.specs.Nested.{most_blossoms}
 pub use Rattle.blossom_arena.specs.Tables.{last_of}
 use Rattle.blossom_arena.specs.Family.{Blossom, is_outermost}
-use Rattle.alt_forest.specs.declared.label.Label.{Label}
-use Rattle.alt_forest.specs.declared.label.Label.TheVariants.{Outer, Inner, Out}
+use Rattle.blossom_arena.specs.declared.label.Label.{Label}
+use Rattle.blossom_arena.specs.declared.label.Label.TheVariants.{Outer, Inner, Out}
 use Rattle.alt_forest.specs.State.{State, IsOutermost, node_u, node_v}
 pub use Rattle.alt_forest.specs.State.{held_by, cover, SameParity}
 

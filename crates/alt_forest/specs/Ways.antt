@@ -3,7 +3,7 @@ use Rattle.std.specs.Prelude.{◌≡◌, ℕ, ◌<◌, pos, List, [], ◌∷◌,
 use Rattle.graph_theory.specs.Graph.{IsEdgeNumber}
 use Rattle.blossom_arena.specs.declared.links.Link.{Link}
 use Rattle.alt_forest.specs.declared.hop.Hop.{Hop}
-use Rattle.alt_forest.specs.declared.label.Label.TheVariants.{Outer, Inner}
+use Rattle.blossom_arena.specs.declared.label.Label.TheVariants.{Outer, Inner}
 use Rattle.alt_forest.specs.State.{State, IsOutermost, Joins, slack_of, IsMate}
 use Rattle.alt_forest.specs.Trees.{other_node}
 

@@ -6,18 +6,17 @@ ghost use Rattle.graph_theory.specs.declared.limits.TheConstants.{NUMBER_LIMIT, 
 ghost use Rattle.blossom_arena.specs.Family.{is_node, is_vertex, members_of, names_of, outermost};
 ghost use Rattle.edge_queue.specs.declared.item.Item.TheVariants.{Edge as OfEdge, Blossom as OfBlossom};
 ghost use Rattle.edge_queue.specs.Moments.{moment_of};
-ghost use Rattle.alt_forest.specs.declared.label.Label.TheVariants.{Inner};
+ghost use Rattle.blossom_arena.specs.declared.label.Label.TheVariants.{Inner};
 ghost use Rattle.alt_forest.specs.State.{IsOutermost, slack_of};
 ghost use Rattle.alt_forest.specs.Spokes.{LeadsTo, IsSpoke};
 ghost use Rattle.alt_forest.specs.Ends.{IsNear};
 ghost use Rattle.alt_forest.specs.Searches.{HasShape, IsSound, state_of, label_at};
 ghost use Rattle.alt_forest.specs.Entries.{NeedsMoment, IsEntered, IsBlossomEntered, IsQueued, IsQueuedBut, entry_count, ends_around, touches_any};
 
-use crate::label::Label;
 use crate::search::Search;
 use crate::slack::doubled;
 use crate::spokes::Spoke;
-use blossom_arena::{Members, NodeId};
+use blossom_arena::{Label, Members, NodeId};
 use edge_queue::{Item, Turn};
 use graph_theory::{GRAPH_VERTEX_LIMIT, NUMBER_LIMIT};
 use mb_base::{Steps, VertexId};

@@ -4,7 +4,6 @@
 
 mod entries;
 mod hop;
-mod label;
 mod law;
 mod meet;
 mod path;
@@ -14,12 +13,14 @@ mod spokes;
 mod standing;
 mod starts;
 mod tables;
+mod weights;
 
+pub use blossom_arena::Label;
 pub use edge_queue::{EdgeQueue, Item};
 pub use hop::Hop;
-pub use label::{Label, Weights};
 pub use law::laws;
 pub use path::RootPath;
 pub use search::Search;
 pub use spokes::{Spoke, Spokes};
 pub use tables::{set_edge, set_label};
+pub use weights::Weights;

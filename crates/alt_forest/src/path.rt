@@ -2,15 +2,14 @@ ghost use Rattle.std.specs.Prelude.{◌≡◌, ◌≢◌, ◌<◌, ℕ, zero, su
 ghost use Rattle.std.specs.Option.{ForSome};
 ghost use Rattle.std.specs.Iterator.{YieldsFirst, item_count};
 ghost use Rattle.graph_theory.specs.Graph.{IsEdgeNumber};
-ghost use Rattle.alt_forest.specs.declared.label.Label.TheVariants.{Out};
+ghost use Rattle.blossom_arena.specs.declared.label.Label.TheVariants.{Out};
 ghost use Rattle.alt_forest.specs.State.{IsOutermost, node_u};
 ghost use Rattle.alt_forest.specs.Trees.{other_node, far_end, up_edge, up_of, path_within, path_of};
 ghost use Rattle.alt_forest.specs.Searches.{HasShape, IsSound, state_of, label_at, edge_in};
 
-use crate::label::Label;
 use crate::search::Search;
 use crate::tables::{edge_for, label_of};
-use blossom_arena::NodeId;
+use blossom_arena::{Label, NodeId};
 use mb_base::EdgeId;
 use std::marker::Model;
 

@@ -1,7 +1,7 @@
 ghost use Rattle.std.specs.Prelude.{◌≡◌, ◌≢◌, ◌⊎◌, ◌↔◌, ◌+◌, ◌≤◌, ℕ, ℤ, pos, true, None, [], IfOk};
 ghost use Rattle.blossom_arena.specs.Family.{is_vertex, dual_at, empty_family};
-ghost use Rattle.alt_forest.specs.declared.label.Label.TheVariants.{Outer, Out};
-ghost use Rattle.alt_forest.specs.declared.label.Weights.TheVariants.{Zero};
+ghost use Rattle.blossom_arena.specs.declared.label.Label.TheVariants.{Outer, Out};
+ghost use Rattle.alt_forest.specs.declared.weights.Weights.TheVariants.{Zero};
 ghost use Rattle.alt_forest.specs.Searches.{IsSearchGraph, HasShape, IsSound, IsStart, state_of, label_at, edge_in, put};
 ghost use Rattle.alt_forest.specs.State.{IsOutermost, IsExposed};
 ghost use Rattle.alt_forest.specs.Trees.{IsRoot};
@@ -9,12 +9,12 @@ ghost use Rattle.alt_forest.specs.Counts.{exposed_count, tree_count, is_outside}
 ghost use Rattle.alt_forest.specs.Entries.{IsQueued, entry_count, looks_left};
 ghost use Rattle.alt_forest.specs.Standing.{IsStanding};
 
-use crate::label::{Label, Weights};
 use crate::spokes::Spokes;
 use crate::standing::vertex_within;
 use crate::starts::{NodeLists, RoomLists, copied, give_duals, node_lists, room_lists};
 use crate::tables::{label_of, set_label, wipe_edges, wipe_labels};
-use blossom_arena::{Arena, Link, NodeId};
+use crate::weights::Weights;
+use blossom_arena::{Arena, Label, Link, NodeId};
 use edge_queue::EdgeQueue;
 use mb_base::{EdgeId, OutOfMemory, Steps, VertexId};
 use std::alloc::Global;

@@ -11,9 +11,9 @@ ghost use Rattle.alt_forest.specs.State.{slack_by, slack_of};
 ghost use Rattle.alt_forest.specs.Searches.{HasShape, IsSound, state_of, is_given};
 ghost use Rattle.alt_forest.specs.Chains.{apart, dual_of, holders, total_of, weighed};
 
-use crate::label::Weights;
 use crate::meet::is_found;
 use crate::search::Search;
+use crate::weights::Weights;
 use blossom_arena::{Arena, Chain, NodeId};
 use graph_theory::{Edge, GRAPH_VERTEX_LIMIT, NUMBER_LIMIT, WEIGHT_LIMIT};
 use mb_base::{EdgeId, Steps, VertexId};

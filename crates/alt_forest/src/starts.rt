@@ -3,12 +3,11 @@ ghost use Rattle.std.specs.Vec.{vec_capacity};
 ghost use Rattle.graph_theory.specs.declared.limits.TheConstants.{GRAPH_VERTEX_LIMIT};
 ghost use Rattle.graph_theory.specs.Graph.{IsGraph, IsWeight};
 ghost use Rattle.blossom_arena.specs.Family.{IsFamily, empty_family, is_vertex, dual_at};
-ghost use Rattle.alt_forest.specs.declared.label.Label.TheVariants.{Out};
+ghost use Rattle.blossom_arena.specs.declared.label.Label.TheVariants.{Out};
 ghost use Rattle.alt_forest.specs.Searches.{IsSearchGraph, edge_in, label_at};
 ghost use Rattle.alt_forest.specs.Standing.{seed_at};
 
-use crate::label::Label;
-use blossom_arena::{Arena, Link, NodeId};
+use blossom_arena::{Arena, Label, Link, NodeId};
 use graph_theory::GRAPH_VERTEX_LIMIT;
 use mb_base::{EdgeId, OutOfMemory, VertexId};
 use std::alloc::{AllocError, Global};

@@ -1,10 +1,9 @@
 ghost use Rattle.std.specs.Prelude.{◌≡◌, ◌<◌, ℕ, None, length, vec_len};
-ghost use Rattle.alt_forest.specs.declared.label.Label.TheVariants.{Out};
+ghost use Rattle.blossom_arena.specs.declared.label.Label.TheVariants.{Out};
 ghost use Rattle.alt_forest.specs.Searches.{label_at, edge_in, put};
 ghost use Rattle.alt_forest.specs.Standing.{seed_at};
 
-use crate::label::Label;
-use blossom_arena::NodeId;
+use blossom_arena::{Label, NodeId};
 use mb_base::{EdgeId, VertexId};
 
 /// The label of a node.

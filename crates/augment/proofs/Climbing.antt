@@ -6,8 +6,8 @@ use Rattle.std.proofs.lemmas.Option.{same_Some}
 use Rattle.graph_theory.specs.Parts.{holds}
 use Rattle.blossom_arena.specs.Family.{IsNested}
 use Rattle.alt_forest.specs.declared.hop.Hop.{Hop}
-use Rattle.alt_forest.specs.declared.label.Label.{Label}
-use Rattle.alt_forest.specs.declared.label.Label.TheVariants.{Outer, Inner, Out}
+use Rattle.blossom_arena.specs.declared.label.Label.{Label}
+use Rattle.blossom_arena.specs.declared.label.Label.TheVariants.{Outer, Inner, Out}
 use Rattle.alt_forest.specs.State.{State, IsOutermost, Joins, IsMate, IsSearchState}
 use Rattle.alt_forest.specs.Trees.{node_limit, far_end, up_edge_by, up_of, path_within, path_of, root_of, IsRoot}
 use Rattle.alt_forest.specs.Searches.{put}

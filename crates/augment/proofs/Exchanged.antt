@@ -6,8 +6,8 @@ use Rattle.std.proofs.lemmas.Option.{same_Some}
 use Rattle.graph_theory.specs.Parts.{holds}
 use Rattle.blossom_arena.specs.Family.{IsNested, is_outermost, outermost}
 use Rattle.blossom_arena.proofs.Lists.{by_test}
-use Rattle.alt_forest.specs.declared.label.Label.{Label}
-use Rattle.alt_forest.specs.declared.label.Label.TheVariants.{Outer, Inner, Out}
+use Rattle.blossom_arena.specs.declared.label.Label.{Label}
+use Rattle.blossom_arena.specs.declared.label.Label.TheVariants.{Outer, Inner, Out}
 use Rattle.alt_forest.specs.declared.search.Search.{Search}
 use Rattle.alt_forest.specs.State.{State, IsOutermost, IsSearchState, node_u, node_v}
 use Rattle.alt_forest.specs.Trees.{is_label, root_of}

@@ -8,8 +8,8 @@ use Rattle.blossom_arena.specs.Family.{Blossom, IsNested, is_node, is_vertex, is
 use Rattle.blossom_arena.proofs.Lists.{AllNew, distinct_from_new, by_test, new-append, length-within, vertices, holds-vertices, length-vertices}
 use Rattle.blossom_arena.proofs.Nested.{outermost_parts}
 use Rattle.blossom_arena.proofs.Sets.{member_vertex, members_new, outermost_has, outermost_by_member}
-use Rattle.alt_forest.specs.declared.label.Label.{Label}
-use Rattle.alt_forest.specs.declared.label.Label.TheVariants.{Out}
+use Rattle.blossom_arena.specs.declared.label.Label.{Label}
+use Rattle.blossom_arena.specs.declared.label.Label.TheVariants.{Out}
 use Rattle.alt_forest.specs.declared.search.Search.{Search}
 use Rattle.alt_forest.specs.Searches.{label_at, put}
 use Rattle.alt_forest.specs.Standing.{AreListed, seed_at}

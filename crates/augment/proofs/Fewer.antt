@@ -8,8 +8,8 @@ use Rattle.graph_theory.proofs.SumLemmas.{sum_to-same, sum_to-add, sum_to-at_one
 use Rattle.blossom_arena.specs.Family.{IsNested, is_outermost}
 use Rattle.blossom_arena.proofs.Lists.{by_test}
 use Rattle.blossom_arena.proofs.Nested.{outermost_parts, node_range}
-use Rattle.alt_forest.specs.declared.label.Label.{Label}
-use Rattle.alt_forest.specs.declared.label.Label.TheVariants.{Outer, Inner, Out}
+use Rattle.blossom_arena.specs.declared.label.Label.{Label}
+use Rattle.blossom_arena.specs.declared.label.Label.TheVariants.{Outer, Inner, Out}
 use Rattle.alt_forest.specs.State.{State, IsExposed, IsSearchState}
 use Rattle.alt_forest.specs.Trees.{is_label, node_limit, root_of, IsRoot}
 use Rattle.alt_forest.specs.Counts.{exposed_count, is_root, tree_count, IsPlanted}

@@ -5,7 +5,7 @@ use Rattle.std.proofs.lemmas.Bool.{cases_eq, both_ways, eq-eqb, eqb-true, or_lef
 use Rattle.graph_theory.specs.Parts.{holds}
 use Rattle.blossom_arena.specs.Family.{IsNested}
 use Rattle.alt_forest.specs.declared.hop.Hop.{Hop}
-use Rattle.alt_forest.specs.declared.label.Label.TheVariants.{Outer, Out}
+use Rattle.blossom_arena.specs.declared.label.Label.TheVariants.{Outer, Out}
 use Rattle.alt_forest.specs.State.{State, IsOutermost, IsMate, IsSearchState}
 use Rattle.alt_forest.specs.Trees.{node_limit, path_of, root_of, IsRoot}
 use Rattle.alt_forest.specs.Searches.{put}

@@ -1,7 +1,7 @@
 ghost use Rattle.std.specs.Prelude.{◌≡◌, ◌<◌, ◌≤◌, ◌+◌, ◌++◌, ◌&&◌, ℕ, true, not, None, Some, [], length, vec_len, get_or, if◌then◌else◌};
 ghost use Rattle.std.specs.Vec.{vec_capacity};
 ghost use Rattle.blossom_arena.specs.Family.{is_vertex, members_of};
-ghost use Rattle.alt_forest.specs.declared.label.Label.TheVariants.{Out};
+ghost use Rattle.blossom_arena.specs.declared.label.Label.TheVariants.{Out};
 ghost use Rattle.alt_forest.specs.Searches.{HasShape, label_at, put};
 ghost use Rattle.alt_forest.specs.Standing.{AreListed, seed_at};
 ghost use Rattle.alt_forest.specs.Trees.{node_limit};

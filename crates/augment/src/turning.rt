@@ -1,5 +1,5 @@
 ghost use Rattle.std.specs.Prelude.{◌≡◌, vec_len};
-ghost use Rattle.alt_forest.specs.declared.label.Label.TheVariants.{Outer};
+ghost use Rattle.blossom_arena.specs.declared.label.Label.TheVariants.{Outer};
 ghost use Rattle.alt_forest.specs.State.{IsOutermost};
 ghost use Rattle.alt_forest.specs.Searches.{HasShape, IsSound, state_of, edge_in};
 ghost use Rattle.augment.specs.Turns.{AreEnds, CanClimb, IsClimbed, IsUprooted, IsTurned};

@@ -21,6 +21,7 @@ pub mod Lost
 pub mod Dissolved
 pub mod Summed
 pub mod Duals
+pub mod Changed
 pub mod Fresh
 pub mod Written
 pub mod Undone

@@ -3,6 +3,7 @@ use Rattle.std.specs.Prelude.{◌≡◌, ℕ, zero, suc, ◌+◌, ◌-◌, ◌<�
 use Rattle.std.specs.List.{AllByRecursion}
 use Rattle.slab.specs.Slab.{Slab, get, slab_len}
 use Rattle.graph_theory.specs.Parts.{holds}
+use Rattle.blossom_arena.specs.declared.label.Label.{Label}
 use Rattle.blossom_arena.specs.declared.links.Link.{Link}
 use Rattle.blossom_arena.specs.declared.runs.Run.{Run}
 use Rattle.blossom_arena.specs.declared.runs.Kept.{Kept}
@@ -10,6 +11,7 @@ use Rattle.blossom_arena.specs.declared.arena.Arena.TheInside.{Inside}
 use Rattle.blossom_arena.specs.Tables.{last_of, walk, links_of, filled}
 use Rattle.graph_theory.specs.Nested.{most_blossoms}
 use Rattle.blossom_arena.specs.Family.{Blossom, Family, IsFamily, is_node, outermost, made_of, in_ring, members_of, dual_at}
+use Rattle.blossom_arena.specs.Changes.{label_at, share}
 use Rattle.blossom_arena.specs.Slack.{IsCover, held_by}
 
 -- the key of a blossom's node
@@ -81,6 +83,10 @@ taken sums run y (c ∷ cs) = taken (added sums (λ v. neg_ℤ (y c)) (run c)) r
 abbrev pub AreTaken : List ℤ → (ℕ → List ℕ) → (ℕ → ℤ) → List ℕ → Type 0
 AreTaken sums run y [] = Unit {0}
 AreTaken sums run y (c ∷ cs) = AreSums sums (λ v. neg_ℤ (y c)) (run c) × AreTaken (added sums (λ v. neg_ℤ (y c)) (run c)) run y cs
+
+-- what a change of d adds to the dual of a node, by its parent
+abbrev pub gain_by : List ℕ → List Label → ℤ → ℕ → ℤ
+gain_by parents labels d a = if slice_index parents a == 0 then share d (label_at labels a) else pos 0
 
 -- the dual of the outermost node of a vertex, by the tables
 abbrev pub outer_dual : List ℕ → List ℤ → ℕ → ℤ

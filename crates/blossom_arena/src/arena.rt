@@ -1,14 +1,18 @@
-ghost use Rattle.std.specs.Prelude.{◌≡◌, ℕ, ◌+◌, ◌<◌, ◌≤◌, pos, ◌≤ℤ◌, ◌+ℤ◌, true, false, IfOk};
+ghost use Rattle.std.specs.Prelude.{◌≡◌, ℕ, ◌+◌, ◌<◌, ◌≤◌, pos, ◌≤ℤ◌, ◌+ℤ◌, true, false, nat_eq, length, All, IfOk};
+ghost use Rattle.std.specs.List.{IsDistinct};
 ghost use Rattle.graph_theory.specs.declared.limits.TheConstants.{GRAPH_VERTEX_LIMIT};
 ghost use Rattle.graph_theory.specs.Parts.{holds};
 ghost use Rattle.graph_theory.specs.Nested.{most_blossoms};
 ghost use Rattle.graph_theory.specs.Duals.{IsNumber};
 ghost use Rattle.blossom_arena.specs.Family.{Family, IsFamily, IsCircuit, empty_family, is_vertex, is_node, is_outermost, shrunk, dissolved, raised, dual_at, outermost, child_holding, ring_of, members_of, chain_of, names_of};
+ghost use Rattle.blossom_arena.specs.Changes.{gain, label_at, share};
 ghost use Rattle.blossom_arena.specs.Slack.{IsCover, held_by};
 
 use crate::blossoms::Blossoms;
 use crate::chain::{Chain, child_below};
+use crate::changes::add_gains;
 use crate::dual_table::{dual_in, raise_dual, set_dual, wipe_duals};
+use crate::label::Label;
 use crate::links::{Link, node_at};
 use crate::members::Members;
 use crate::nodes::NodeId;
@@ -197,16 +201,22 @@ impl Arena {
         );
     }
 
-    /// Adds d, in doubled units, to the dual of an outermost node, in constant time. The sum lies within
-    /// 10^15, and is not below 0 for a blossom.
-    pub fn add_outer_dual(&mut self, node: NodeId, d: i64)
-        requires outer { is_outermost self.old.vertex_count self.old.blossoms node ≡ true }
-        requires in_range { IsNumber (dual_at self.old.duals node +ℤ d) }
-        requires not_below { self.old.vertex_count < node → pos 0 ≤ℤ (dual_at self.old.duals node +ℤ d) }
-        ensures family { self.new ≡ raised self.old node d }
+    /// Adds to the dual of each of these nodes that is outermost its share of a change of d (chapter 26): d
+    /// where it is labelled outer, -d where inner, and nothing where out. Labels stand by node number. It
+    /// takes time linear in the nodes, which are all different. The sums lie within 10^15, and are not
+    /// below 0 for blossoms.
+    pub fn change_duals(&mut self, nodes: &[NodeId], labels: &[Label], d: i64)
+        requires low { pos 0 ≤ℤ d }
+        requires different { IsDistinct nat_eq nodes.now }
+        requires within { All (λ a. a ≤ self.old.vertex_count + most_blossoms self.old.vertex_count) nodes.now }
+        requires labels { self.old.vertex_count + most_blossoms self.old.vertex_count < length labels.now }
+        requires in_range { (a : ℕ) → is_outermost self.old.vertex_count self.old.blossoms a ≡ true → IsNumber (dual_at self.old.duals a +ℤ share d (label_at labels.now a)) }
+        requires not_below { (a : ℕ) → is_outermost self.old.vertex_count self.old.blossoms a ≡ true → self.old.vertex_count < a → pos 0 ≤ℤ (dual_at self.old.duals a +ℤ share d (label_at labels.now a)) }
+        ensures duals { (a : ℕ) → dual_at self.new.duals a ≡ dual_at self.old.duals a +ℤ gain self.old nodes.now labels.now d a }
+        ensures rest { self.new ≡ record self.old { duals = self.new.duals } }
         ensures good { IsFamily self.new }
     {
-        raise_dual(&mut self.duals, node.number(), d);
+        add_gains(&mut self.duals, &self.parents, nodes, labels, d);
     }
 
     /// The links of the circuit that a blossom was made of.

@@ -6,7 +6,9 @@
 mod arena;
 mod blossoms;
 mod chain;
+mod changes;
 mod dual_table;
+mod label;
 mod law;
 mod links;
 mod members;
@@ -20,6 +22,7 @@ mod tables;
 pub use arena::Arena;
 pub use blossoms::Blossoms;
 pub use chain::Chain;
+pub use label::Label;
 pub use law::laws;
 pub use links::Link;
 pub use members::Members;

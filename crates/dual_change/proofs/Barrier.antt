@@ -15,8 +15,8 @@ use Rattle.blossom_arena.proofs.Lists.{length-within}
 use Rattle.blossom_arena.proofs.Nested.{outermost_parts, vertex_range, range_vertex}
 use Rattle.blossom_arena.proofs.Sets.{outermost_has, outer_member, outermost_by_member, member_vertex, members_new, members_odd, members_some, members_of_vertex}
 use Rattle.blossom_arena.proofs.Ends.{u_vertex, v_vertex}
-use Rattle.alt_forest.specs.declared.label.Label.{Label}
-use Rattle.alt_forest.specs.declared.label.Label.TheVariants.{Outer, Inner, Out}
+use Rattle.blossom_arena.specs.declared.label.Label.{Label}
+use Rattle.blossom_arena.specs.declared.label.Label.TheVariants.{Outer, Inner, Out}
 use Rattle.alt_forest.specs.State.{State, IsOutermost, IsSearchState}
 use Rattle.alt_forest.specs.Trees.{IsRoot, is_label}
 use Rattle.alt_forest.proofs.Parity.{one_class}

@@ -1,7 +1,7 @@
 -- When an edge is due.
 use Rattle.std.proofs.Common.{◌≡◌, ℕ, ℤ, pos, ◌+ℤ◌, ◌≤ℤ◌, Option, Some, sym, ap, ◌∙◌, arith, ⊎_elim}
 use Rattle.std.proofs.lemmas.Int.{ints}
-use Rattle.alt_forest.specs.declared.label.Label.TheVariants.{Outer}
+use Rattle.blossom_arena.specs.declared.label.Label.TheVariants.{Outer}
 use Rattle.alt_forest.specs.State.{State, Joins}
 use Rattle.alt_forest.specs.Entries.{NeedsMoment}
 

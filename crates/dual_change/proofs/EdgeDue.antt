@@ -1,7 +1,7 @@
 -- With which change the event of an edge comes that has its moment.
 use Rattle.std.proofs.Common.{◌≡◌, ◌≢◌, ℕ, ℤ, pos, ◌+ℤ◌, ◌≤ℤ◌, Some}
 use Rattle.graph_theory.specs.Graph.{Multigraph}
-use Rattle.alt_forest.specs.declared.label.Label.TheVariants.{Outer, Out}
+use Rattle.blossom_arena.specs.declared.label.Label.TheVariants.{Outer, Out}
 use Rattle.alt_forest.specs.declared.search.Search.{Search}
 use Rattle.alt_forest.specs.State.{Joins, slack_of}
 use Rattle.alt_forest.specs.Searches.{IsSound, state_of, label_at}

@@ -6,8 +6,8 @@ use Rattle.graph_theory.specs.Graph.{IsGraph, IsEdgeNumber, edge_of}
 use Rattle.graph_theory.specs.Parts.{holds}
 use Rattle.blossom_arena.specs.Family.{IsNested, names_of, outermost}
 use Rattle.alt_forest.proofs.Duals.{low_at}
-use Rattle.alt_forest.specs.declared.label.Label.{Label}
-use Rattle.alt_forest.specs.declared.label.Label.TheVariants.{Outer, Inner, Out}
+use Rattle.blossom_arena.specs.declared.label.Label.{Label}
+use Rattle.blossom_arena.specs.declared.label.Label.TheVariants.{Outer, Inner, Out}
 use Rattle.alt_forest.specs.State.{State, IsOutermost, Joins, slack_of, IsSearchState}
 use Rattle.alt_forest.specs.Trees.{far_end, up_edge_by, up_of, node_limit, path_within, last_of, root_of, cover, SameParity}
 use Rattle.alt_forest.proofs.Relabelled.{outer_not_out}

@@ -12,8 +12,8 @@ use Rattle.graph_theory.specs.Parts.{holds}
 use Rattle.blossom_arena.specs.Family.{Blossom, IsNested, is_vertex, is_child, is_outermost, in_ring, names_of}
 use Rattle.blossom_arena.proofs.Lists.{by_test, vertices, holds-vertices, new-vertices, holds-filter, new-filter, length-within, first_in, later_in}
 use Rattle.blossom_arena.proofs.Nested.{outer_nodes, holds-outer_nodes, outermost_parts, node_range, range_vertex}
-use Rattle.alt_forest.specs.declared.label.Label.{Label}
-use Rattle.alt_forest.specs.declared.label.Label.TheVariants.{Outer, Inner, Out}
+use Rattle.blossom_arena.specs.declared.label.Label.{Label}
+use Rattle.blossom_arena.specs.declared.label.Label.TheVariants.{Outer, Inner, Out}
 use Rattle.alt_forest.specs.State.{State, IsMate, IsSearchState}
 use Rattle.alt_forest.specs.Trees.{is_label, node_limit}
 use Rattle.alt_forest.specs.Counts.{is_root, tree_count}

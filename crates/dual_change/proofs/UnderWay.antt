@@ -6,7 +6,7 @@ use Rattle.graph_theory.specs.Duals.{IsNumber}
 use Rattle.blossom_arena.specs.Family.{dual_at, is_vertex, is_node, names_of}
 use Rattle.blossom_arena.proofs.Nested.{outermost_parts, vertex_range}
 use Rattle.alt_forest.proofs.Duals.{low_at}
-use Rattle.alt_forest.specs.declared.label.Label.TheVariants.{Out}
+use Rattle.blossom_arena.specs.declared.label.Label.TheVariants.{Out}
 use Rattle.alt_forest.specs.declared.search.Search.{Search}
 use Rattle.alt_forest.specs.State.{State, IsOutermost, IsSearchState}
 use Rattle.alt_forest.specs.Searches.{HasShape, IsSound, state_of, put}

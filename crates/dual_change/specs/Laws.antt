@@ -5,7 +5,7 @@ use Rattle.graph_theory.specs.Sums.{int_sum_to}
 use Rattle.graph_theory.specs.Graph.{IsGraph, IsEdgeNumber}
 use Rattle.graph_theory.specs.Barrier.{IsBarrier}
 use Rattle.blossom_arena.specs.Family.{IsNested, is_vertex, names_of, outermost}
-use Rattle.alt_forest.specs.declared.label.Label.TheVariants.{Outer, Inner}
+use Rattle.blossom_arena.specs.declared.label.Label.TheVariants.{Outer, Inner}
 use Rattle.alt_forest.specs.State.{State, IsOutermost, Joins, slack_of, IsSearchState}
 use Rattle.alt_forest.specs.Trees.{IsRoot, is_label}
 use Rattle.alt_forest.specs.Counts.{IsPlanted, tree_count}

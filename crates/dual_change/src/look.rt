@@ -5,7 +5,7 @@ ghost use Rattle.blossom_arena.specs.Family.{names_of};
 ghost use Rattle.edge_queue.specs.declared.item.Item.{Item};
 ghost use Rattle.edge_queue.specs.declared.item.Item.TheVariants.{Blossom as OfBlossom};
 ghost use Rattle.edge_queue.specs.Moments.{moment_of, IsLeast};
-ghost use Rattle.alt_forest.specs.declared.label.Label.TheVariants.{Outer, Inner, Out};
+ghost use Rattle.blossom_arena.specs.declared.label.Label.TheVariants.{Outer, Inner, Out};
 ghost use Rattle.alt_forest.specs.Searches.{IsSound, state_of, label_at};
 ghost use Rattle.alt_forest.specs.State.{IsOutermost, Joins, slack_of};
 ghost use Rattle.alt_forest.specs.Counts.{IsPlanted};

@@ -10,8 +10,8 @@ use Rattle.graph_theory.specs.Duals.{IsNumber}
 use Rattle.blossom_arena.specs.Family.{IsNested, is_node, is_vertex, is_outermost, names_of}
 use Rattle.blossom_arena.proofs.Lists.{by_test}
 use Rattle.blossom_arena.proofs.Nested.{outermost_parts}
-use Rattle.alt_forest.specs.declared.label.Label.{Label}
-use Rattle.alt_forest.specs.declared.label.Label.TheVariants.{Outer, Inner, Out}
+use Rattle.blossom_arena.specs.declared.label.Label.{Label}
+use Rattle.blossom_arena.specs.declared.label.Label.TheVariants.{Outer, Inner, Out}
 use Rattle.alt_forest.specs.State.{State, IsSearchState, slack_with}
 use Rattle.alt_forest.specs.Counts.{tree_count, IsPlanted}
 use Rattle.dual_change.specs.Changes.{share, change, applied, IsWithin, StaysInRange}

@@ -10,8 +10,8 @@ use Rattle.blossom_arena.specs.Family.{Blossom, is_node, is_outermost, names_of}
 use Rattle.blossom_arena.specs.Slack.{duals_across}
 use Rattle.blossom_arena.proofs.Lists.{by_test, first_in, later_in}
 use Rattle.blossom_arena.proofs.Nested.{outermost_parts, vertex_is_node, name_is_node}
-use Rattle.alt_forest.specs.declared.label.Label.{Label}
-use Rattle.alt_forest.specs.declared.label.Label.TheVariants.{Outer, Inner, Out}
+use Rattle.blossom_arena.specs.declared.label.Label.{Label}
+use Rattle.blossom_arena.specs.declared.label.Label.TheVariants.{Outer, Inner, Out}
 use Rattle.alt_forest.specs.State.{State, doubled, slack_of}
 use Rattle.alt_forest.specs.Trees.{root_of}
 use Rattle.dual_change.specs.declared.event.Event.{Event}

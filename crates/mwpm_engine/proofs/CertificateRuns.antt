@@ -5,7 +5,7 @@ use Rattle.std.proofs.lemmas.List.{append-nil}
 use Rattle.graph_theory.specs.Graph.{Multigraph, IsPerfect}
 use Rattle.blossom_arena.specs.Family.{Blossom, is_vertex, dual_at}
 use Rattle.alt_forest.specs.declared.search.Search.{Search}
-use Rattle.alt_forest.specs.declared.label.Weights.TheVariants.{Zero, Given}
+use Rattle.alt_forest.specs.declared.weights.Weights.TheVariants.{Zero, Given}
 use Rattle.alt_forest.specs.State.{IsTight, doubled}
 use Rattle.alt_forest.specs.Searches.{IsSound, state_of, edge_in, is_given}
 use Rattle.augment.specs.Matching.{IsVertexMate, mate_counts, leaving}

@@ -5,7 +5,7 @@ use Rattle.graph_theory.specs.Barrier.{IsBarrier}
 use Rattle.graph_theory.specs.Parts.{holds}
 use Rattle.graph_theory.proofs.Barriers.{barrier_excludes}
 use Rattle.blossom_arena.specs.Family.{is_vertex, outermost}
-use Rattle.alt_forest.specs.declared.label.Label.TheVariants.{Inner}
+use Rattle.blossom_arena.specs.declared.label.Label.TheVariants.{Inner}
 use Rattle.alt_forest.specs.declared.search.Search.{Search}
 use Rattle.alt_forest.specs.State.{State}
 use Rattle.alt_forest.specs.Searches.{state_of}

@@ -6,9 +6,9 @@ use Rattle.graph_theory.specs.Graph.{Multigraph, IsGraph, IsWeight, IsEdgeNumber
 use Rattle.graph_theory.specs.Sums.{sum_to}
 use Rattle.graph_theory.proofs.SumLemmas.{sum_to-more}
 use Rattle.blossom_arena.specs.Family.{Family, is_vertex}
-use Rattle.alt_forest.specs.declared.label.Label.TheVariants.{Out}
-use Rattle.alt_forest.specs.declared.label.Weights.{Weights}
-use Rattle.alt_forest.specs.declared.label.Weights.TheVariants.{Zero, Given}
+use Rattle.blossom_arena.specs.declared.label.Label.TheVariants.{Out}
+use Rattle.alt_forest.specs.declared.weights.Weights.{Weights}
+use Rattle.alt_forest.specs.declared.weights.Weights.TheVariants.{Zero, Given}
 use Rattle.alt_forest.specs.declared.search.Search.{Search}
 use Rattle.alt_forest.specs.State.{State}
 use Rattle.alt_forest.specs.Searches.{IsStart, is_given, label_at, state_of}

@@ -1,7 +1,7 @@
 -- A pass of the search (chapters 24 and 26): what holds before any tree stands, while a forest grows, and at its end.
 use Rattle.std.specs.Prelude.{◌≡◌, ◌≢◌, ℕ, ◌+◌, ◌-◌, ◌*◌, ◌<◌, ◌≤◌, ℤ, pos, ◌+ℤ◌, ◌*ℤ◌, ◌≤ℤ◌, Bool, true, false, length, Option, Some, None}
 use Rattle.graph_theory.specs.Limits.{Size}
-use Rattle.alt_forest.specs.declared.label.Label.TheVariants.{Out}
+use Rattle.blossom_arena.specs.declared.label.Label.TheVariants.{Out}
 use Rattle.alt_forest.specs.declared.search.Search.{Search}
 use Rattle.alt_forest.specs.State.{State}
 use Rattle.alt_forest.specs.Searches.{IsSound, state_of, label_at}

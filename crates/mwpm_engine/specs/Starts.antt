@@ -5,7 +5,7 @@ use Rattle.std.specs.Option.{ForSome}
 use Rattle.graph_theory.specs.declared.limits.TheConstants.{WEIGHT_LIMIT}
 use Rattle.graph_theory.specs.Graph.{IsEdgeNumber, IsWeight, edge_of, touches, other_end}
 use Rattle.blossom_arena.specs.Family.{is_vertex}
-use Rattle.alt_forest.specs.declared.label.Label.TheVariants.{Out}
+use Rattle.blossom_arena.specs.declared.label.Label.TheVariants.{Out}
 use Rattle.alt_forest.specs.State.{State, IsExposed, IsTight, slack_of}
 use Rattle.alt_forest.specs.Trees.{SameParity}
 

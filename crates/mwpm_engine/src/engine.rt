@@ -3,7 +3,7 @@ ghost use Rattle.std.specs.Vec.{vec_capacity};
 ghost use Rattle.graph_theory.specs.Parts.{holds};
 ghost use Rattle.graph_theory.specs.Duals.{dual_of, set_at};
 ghost use Rattle.graph_theory.specs.Limits.{IsWithinLimits};
-ghost use Rattle.alt_forest.specs.declared.label.Label.TheVariants.{Inner};
+ghost use Rattle.blossom_arena.specs.declared.label.Label.TheVariants.{Inner};
 ghost use Rattle.alt_forest.specs.Searches.{edge_in, label_at};
 ghost use Rattle.alt_forest.specs.Trees.{is_label};
 ghost use Rattle.mwpm_engine.specs.Solutions.{Solution, Ends, mate_at, size_of_graph, most_steps};

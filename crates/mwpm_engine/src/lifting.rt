@@ -1,7 +1,7 @@
 ghost use Rattle.std.specs.Prelude.{◌≡◌, ◌≤◌, ◌+◌, ◌-◌, ◌*◌, ◌≤ℤ◌, ◌+ℤ◌, ℕ, pos, true, None, length};
 ghost use Rattle.graph_theory.specs.Graph.{IsEdgeNumber, IsWeight, edge_of, edges_around, touches};
 ghost use Rattle.blossom_arena.specs.Family.{dual_at, is_vertex};
-ghost use Rattle.alt_forest.specs.declared.label.Weights.TheVariants.{Given};
+ghost use Rattle.alt_forest.specs.declared.weights.Weights.TheVariants.{Given};
 ghost use Rattle.alt_forest.specs.Searches.{HasShape, IsSound, IsStart, edge_in, state_of};
 ghost use Rattle.alt_forest.specs.Trees.{SameParity};
 ghost use Rattle.mwpm_engine.specs.Starts.{IsBegun, IsLifted};

@@ -1,7 +1,7 @@
 ghost use Rattle.std.specs.Prelude.{◌≡◌, ◌≤◌, ◌+◌, ◌*◌, ℕ, true, None, [], length};
 ghost use Rattle.blossom_arena.specs.Family.{dual_at, is_vertex};
-ghost use Rattle.alt_forest.specs.declared.label.Label.TheVariants.{Out};
-ghost use Rattle.alt_forest.specs.declared.label.Weights.TheVariants.{Given};
+ghost use Rattle.blossom_arena.specs.declared.label.Label.TheVariants.{Out};
+ghost use Rattle.alt_forest.specs.declared.weights.Weights.TheVariants.{Given};
 ghost use Rattle.alt_forest.specs.Searches.{IsSound, IsStart, edge_in, label_at, state_of};
 ghost use Rattle.alt_forest.specs.Counts.{exposed_count};
 ghost use Rattle.alt_forest.specs.Entries.{IsQueued};

@@ -10,8 +10,8 @@ use Rattle.blossom_arena.specs.Family.{Blossom, IsNested, names_of, ring_of, old
 use Rattle.blossom_arena.proofs.Lists.{AllNew, by_test, first_in, later_in}
 use Rattle.blossom_arena.proofs.Nested.{names_new, older_name}
 use Rattle.blossom_arena.proofs.Older.{here, past}
-use Rattle.alt_forest.specs.declared.label.Label.{Label}
-use Rattle.alt_forest.specs.declared.label.Label.TheVariants.{Outer, Inner, Out}
+use Rattle.blossom_arena.specs.declared.label.Label.{Label}
+use Rattle.blossom_arena.specs.declared.label.Label.TheVariants.{Outer, Inner, Out}
 use Rattle.alt_forest.specs.State.{State, IsOutermost, IsTight, Joins, slack_of, HasRings, IsRing, IsMate, FitsLabel, ExposedAgree, IsSearchState}
 use Rattle.alt_forest.specs.Trees.{other_node, node_limit, far_end, up_edge_by, up_edge, up_of, path_within, path_of}
 use Rattle.state_check.specs.Checks.{RingHolds, MateHolds, FitsHere}

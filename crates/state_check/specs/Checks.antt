@@ -5,8 +5,8 @@ use Rattle.graph_theory.specs.Graph.{IsEdgeNumber, edge_of}
 use Rattle.graph_theory.specs.Parts.{holds}
 use Rattle.blossom_arena.specs.declared.links.Link.{Link}
 use Rattle.blossom_arena.specs.Family.{members_of, ring_of, older_than, outermost, is_vertex}
-use Rattle.alt_forest.specs.declared.label.Label.{Label}
-use Rattle.alt_forest.specs.declared.label.Label.TheVariants.{Outer, Inner, Out}
+use Rattle.blossom_arena.specs.declared.label.Label.{Label}
+use Rattle.blossom_arena.specs.declared.label.Label.TheVariants.{Outer, Inner, Out}
 use Rattle.alt_forest.specs.State.{State, Joins, slack_of, IsTight, IsRing, IsMate, cover, SameParity}
 use Rattle.alt_forest.specs.Trees.{other_node}
 

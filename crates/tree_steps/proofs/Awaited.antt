@@ -7,7 +7,7 @@ use Rattle.graph_theory.proofs.Members.{all_holds}
 use Rattle.blossom_arena.specs.Family.{names_of, is_vertex}
 use Rattle.edge_queue.specs.declared.item.Item.TheVariants.{Edge as OfEdge, Blossom as OfBlossom}
 use Rattle.edge_queue.specs.Moments.{Moments, entry, moment_of, with_moment, IsItem}
-use Rattle.alt_forest.specs.declared.label.Label.TheVariants.{Out}
+use Rattle.blossom_arena.specs.declared.label.Label.TheVariants.{Out}
 use Rattle.alt_forest.specs.declared.search.Search.{Search}
 use Rattle.alt_forest.specs.State.{State, IsOutermost}
 use Rattle.alt_forest.specs.Entries.{IsEntered, IsBlossomEntered, IsQueued, IsQueuedBut, HasNoTree, touches_any, entered_among, entry_count}

@@ -8,8 +8,8 @@ use Rattle.blossom_arena.specs.Family.{Blossom, IsNested, is_vertex, is_outermos
 use Rattle.blossom_arena.proofs.Lists.{by_test, first_in, later_in}
 use Rattle.blossom_arena.proofs.Nested.{outermost_parts, new_is_node, range_vertex, vertex_range, older_name}
 use Rattle.blossom_arena.proofs.Sets.{members_here, members_past, member_vertex, members_some, outermost_by_member}
-use Rattle.alt_forest.specs.declared.label.Label.{Label}
-use Rattle.alt_forest.specs.declared.label.Label.TheVariants.{Outer, Inner, Out}
+use Rattle.blossom_arena.specs.declared.label.Label.{Label}
+use Rattle.blossom_arena.specs.declared.label.Label.TheVariants.{Outer, Inner, Out}
 use Rattle.alt_forest.specs.State.{State}
 use Rattle.alt_forest.specs.Trees.{is_label}
 use Rattle.alt_forest.specs.Counts.{is_outside, outside_among}

@@ -11,7 +11,7 @@ use Rattle.blossom_arena.proofs.Lists.{by_test}
 use Rattle.blossom_arena.proofs.Nested.{name_range, outermost_parts}
 use Rattle.blossom_arena.proofs.Sets.{outermost_free, member_vertex, members_new}
 use Rattle.blossom_arena.proofs.Taken.{outermost_stays}
-use Rattle.alt_forest.specs.declared.label.Label.TheVariants.{Outer}
+use Rattle.blossom_arena.specs.declared.label.Label.TheVariants.{Outer}
 use Rattle.alt_forest.specs.State.{State, IsSearchState}
 use Rattle.alt_forest.specs.Trees.{is_label, node_limit}
 use Rattle.alt_forest.specs.Counts.{is_outside, outside_among, exposed_count, tree_count, measure}

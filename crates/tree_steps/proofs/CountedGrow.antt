@@ -6,7 +6,7 @@ use Rattle.graph_theory.specs.Parts.{holds}
 use Rattle.blossom_arena.specs.Family.{IsNested, is_node, is_outermost, members_of, outermost}
 use Rattle.blossom_arena.proofs.Nested.{outermost_parts}
 use Rattle.blossom_arena.proofs.Sets.{member_vertex, members_new, outermost_by_member}
-use Rattle.alt_forest.specs.declared.label.Label.TheVariants.{Outer, Inner, Out}
+use Rattle.blossom_arena.specs.declared.label.Label.TheVariants.{Outer, Inner, Out}
 use Rattle.alt_forest.specs.State.{State, IsMate, IsSearchState}
 use Rattle.alt_forest.specs.Trees.{is_label, node_limit}
 use Rattle.alt_forest.specs.Counts.{is_root, is_outside, outside_among, tree_count, exposed_count, measure}

@@ -9,8 +9,8 @@ use Rattle.blossom_arena.specs.Family.{Blossom, IsNested, is_vertex, is_node, is
 use Rattle.blossom_arena.proofs.Lists.{by_test, AllNew, new_from_distinct, first_in, later_in}
 use Rattle.blossom_arena.proofs.Nested.{circuit_outer, outermost_parts, node_range, new_is_node, new_no_child}
 use Rattle.blossom_arena.proofs.Sets.{member_by_ring, outermost_by_member}
-use Rattle.alt_forest.specs.declared.label.Label.{Label}
-use Rattle.alt_forest.specs.declared.label.Label.TheVariants.{Outer, Inner, Out}
+use Rattle.blossom_arena.specs.declared.label.Label.{Label}
+use Rattle.blossom_arena.specs.declared.label.Label.TheVariants.{Outer, Inner, Out}
 use Rattle.alt_forest.specs.State.{State, IsSearchState}
 use Rattle.alt_forest.specs.Trees.{is_label, node_limit}
 use Rattle.alt_forest.specs.Counts.{is_outside, outside_among, tree_count, exposed_count, measure}

@@ -9,7 +9,7 @@ use Rattle.blossom_arena.proofs.Lists.{first_in}
 use Rattle.blossom_arena.proofs.LinkLists.{in_ring-append}
 use Rattle.edge_queue.specs.declared.item.Item.TheVariants.{Blossom as OfBlossom}
 use Rattle.edge_queue.specs.Moments.{moment_of}
-use Rattle.alt_forest.specs.declared.label.Label.TheVariants.{Out}
+use Rattle.blossom_arena.specs.declared.label.Label.TheVariants.{Out}
 use Rattle.alt_forest.specs.declared.search.Search.{Search}
 use Rattle.alt_forest.specs.Entries.{IsBlossomEntered}
 use Rattle.alt_forest.specs.Searches.{IsSound, state_of, label_at}

@@ -9,7 +9,7 @@ use Rattle.blossom_arena.proofs.Nested.{name_range, vertex_range}
 use Rattle.blossom_arena.proofs.Older.{holder, end_member}
 use Rattle.blossom_arena.proofs.Parents.{ring_child}
 use Rattle.blossom_arena.proofs.Sets.{outermost_free}
-use Rattle.alt_forest.specs.declared.label.Label.TheVariants.{Out}
+use Rattle.blossom_arena.specs.declared.label.Label.TheVariants.{Out}
 use Rattle.alt_forest.specs.State.{State, IsOutermost, Joins, IsSearchState}
 use Rattle.alt_forest.specs.Counts.{IsPlanted}
 use Rattle.alt_forest.specs.Events.{CanExpand}

@@ -9,7 +9,7 @@ use Rattle.blossom_arena.proofs.Nested.{name_is_node, node_range}
 use Rattle.blossom_arena.proofs.Sets.{member_vertex}
 use Rattle.edge_queue.specs.declared.item.Item.TheVariants.{Edge as OfEdge, Blossom as OfBlossom}
 use Rattle.edge_queue.specs.Moments.{Moments, entry, moment_of, with_moment, IsItem}
-use Rattle.alt_forest.specs.declared.label.Label.TheVariants.{Out}
+use Rattle.blossom_arena.specs.declared.label.Label.TheVariants.{Out}
 use Rattle.alt_forest.specs.declared.search.Search.{Search}
 use Rattle.alt_forest.specs.State.{State, IsOutermost}
 use Rattle.alt_forest.specs.Trees.{node_limit}

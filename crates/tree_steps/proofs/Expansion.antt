@@ -12,8 +12,8 @@ use Rattle.blossom_arena.proofs.Nested.{outermost_parts, name_range, vertex_rang
 use Rattle.blossom_arena.proofs.Older.{holder, end_member}
 use Rattle.blossom_arena.proofs.Sets.{outermost_has}
 use Rattle.blossom_arena.proofs.Taken.{outermost_stays, each_without}
-use Rattle.alt_forest.specs.declared.label.Label.{Label}
-use Rattle.alt_forest.specs.declared.label.Label.TheVariants.{Outer, Inner, Out}
+use Rattle.blossom_arena.specs.declared.label.Label.{Label}
+use Rattle.blossom_arena.specs.declared.label.Label.TheVariants.{Outer, Inner, Out}
 use Rattle.alt_forest.specs.State.{State, IsOutermost, Joins, doubled, slack_of, IsTight, IsMate, IsInner, IsSearchState, cover, next_node, node_u, node_v, IsChainTo}
 use Rattle.alt_forest.specs.Trees.{up_edge, up_edge_by}
 use Rattle.alt_forest.specs.Searches.{put}

@@ -2,8 +2,8 @@
 use Rattle.std.proofs.Common.{◌≡◌, ◌≢◌, ℕ, ◌+◌, ◌<◌, pos, Bool, true, false, ◌||◌, ◌&&◌, not, eqb, cond, Option, Some, refl, sym, ap, ◌∙◌, subst, arith, ⊎_elim}
 use Rattle.std.proofs.lemmas.Bool.{cases_eq, eq-eqb, ne_eqb, or_parts, eqb-true, eqb-false, both_ways}
 use Rattle.graph_theory.specs.Graph.{IsEdgeNumber}
-use Rattle.alt_forest.specs.declared.label.Label.{Label}
-use Rattle.alt_forest.specs.declared.label.Label.TheVariants.{Outer, Inner, Out}
+use Rattle.blossom_arena.specs.declared.label.Label.{Label}
+use Rattle.blossom_arena.specs.declared.label.Label.TheVariants.{Outer, Inner, Out}
 use Rattle.alt_forest.specs.State.{State, IsOutermost, Joins, slack_of, IsMate, FitsLabel}
 use Rattle.alt_forest.proofs.Relabelled.{outer_not_inner, outer_not_out, inner_not_out}
 use Rattle.alt_forest.proofs.Mates.{mate_turned, mate_unique, partner_unique}

@@ -1,7 +1,7 @@
 -- A grow keeps the state of a search.
 use Rattle.std.proofs.Common.{◌≡◌, ◌≢◌, ℕ, ◌+◌, Bool, true, false, ◌||◌, ◌&&◌, not, eqb, Option, Some, refl, sym, ap, ◌∙◌, arith}
-use Rattle.alt_forest.specs.declared.label.Label.{Label}
-use Rattle.alt_forest.specs.declared.label.Label.TheVariants.{Outer, Inner, Out}
+use Rattle.blossom_arena.specs.declared.label.Label.{Label}
+use Rattle.blossom_arena.specs.declared.label.Label.TheVariants.{Outer, Inner, Out}
 use Rattle.alt_forest.specs.State.{State, IsOutermost, IsMate, FitsLabel, IsSearchState}
 use Rattle.alt_forest.specs.Events.{CanGrow}
 use Rattle.alt_forest.specs.Searches.{put}

@@ -8,7 +8,7 @@ use Rattle.blossom_arena.proofs.Nested.{outermost_parts}
 use Rattle.edge_queue.specs.declared.item.Item.TheVariants.{Edge as OfEdge, Blossom as OfBlossom}
 use Rattle.edge_queue.specs.Moments.{Moments, moment_of, with_moment, IsItem}
 use Rattle.alt_forest.specs.declared.search.Search.{Search}
-use Rattle.alt_forest.specs.declared.label.Label.TheVariants.{Out}
+use Rattle.blossom_arena.specs.declared.label.Label.TheVariants.{Out}
 use Rattle.alt_forest.specs.State.{State, IsOutermost, IsMate, IsSearchState}
 use Rattle.alt_forest.specs.Entries.{IsBlossomEntered, IsQueued, IsQueuedBut, entry_count, touches_any}
 use Rattle.alt_forest.specs.Events.{CanGrow}

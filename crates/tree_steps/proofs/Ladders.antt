@@ -7,8 +7,8 @@ use Rattle.graph_theory.specs.Parts.{holds}
 use Rattle.blossom_arena.specs.declared.links.Link.{Link}
 use Rattle.blossom_arena.specs.Family.{nodes_of}
 use Rattle.blossom_arena.proofs.Lists.{AllNew}
-use Rattle.alt_forest.specs.declared.label.Label.{Label}
-use Rattle.alt_forest.specs.declared.label.Label.TheVariants.{Outer, Inner, Out}
+use Rattle.blossom_arena.specs.declared.label.Label.{Label}
+use Rattle.blossom_arena.specs.declared.label.Label.TheVariants.{Outer, Inner, Out}
 use Rattle.alt_forest.specs.State.{State, IsOutermost, IsTight, Joins, IsMate, next_node}
 use Rattle.alt_forest.specs.Searches.{put}
 use Rattle.alt_forest.proofs.Relabelled.{put_other, outer_not_out, inner_not_out}

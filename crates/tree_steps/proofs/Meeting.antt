@@ -4,7 +4,7 @@ use Rattle.std.proofs.lemmas.Bool.{cases_eq, eq-eqb, ne_eqb, eqb-true, eqb-false
 use Rattle.graph_theory.specs.Parts.{holds}
 use Rattle.blossom_arena.specs.Family.{in_ring}
 use Rattle.blossom_arena.proofs.Lists.{by_test}
-use Rattle.alt_forest.specs.declared.label.Label.TheVariants.{Outer, Inner}
+use Rattle.blossom_arena.specs.declared.label.Label.TheVariants.{Outer, Inner}
 use Rattle.alt_forest.specs.State.{State, IsOutermost, IsTight, Joins, node_u, node_v, IsMate, IsSearchState}
 use Rattle.alt_forest.specs.Trees.{far_end, up_edge_by, up_of, path_within, path_of, first_common}
 use Rattle.alt_forest.proofs.Relabelled.{outer_not_inner, some_not_none}

@@ -2,7 +2,7 @@
 use Rattle.std.proofs.Common.{◌≡◌, ◌⊎◌, ℕ, ℤ, ◌+ℤ◌, Option, Some, refl, sym, ap, ◌∙◌, ⊎_elim, inl, inr}
 use Rattle.graph_theory.specs.Graph.{edge_of}
 use Rattle.blossom_arena.specs.Family.{outermost}
-use Rattle.alt_forest.specs.declared.label.Label.TheVariants.{Outer, Inner, Out}
+use Rattle.blossom_arena.specs.declared.label.Label.TheVariants.{Outer, Inner, Out}
 use Rattle.alt_forest.specs.State.{State, slack_of, node_u, node_v}
 use Rattle.alt_forest.specs.Entries.{NeedsMoment}
 use Rattle.alt_forest.proofs.Relabelled.{outer_not_inner, inner_not_out}

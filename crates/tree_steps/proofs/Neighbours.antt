@@ -2,7 +2,7 @@
 use Rattle.std.proofs.Common.{◌≡◌, ℕ, ◌-◌, ◌<◌, ◌≤◌, ◌%◌, List, [], ◌∷◌, length, get_or, take, drop, Option, Some, refl, sym, ap, ap₂, ◌∙◌, arith}
 use Rattle.std.proofs.lemmas.List.{take_rest}
 use Rattle.blossom_arena.specs.declared.links.Link.{Link}
-use Rattle.alt_forest.specs.declared.label.Label.{Label}
+use Rattle.blossom_arena.specs.declared.label.Label.{Label}
 use Rattle.alt_forest.specs.Searches.{put}
 use Rattle.tree_steps.specs.Expanded.{mated, labels_up, labels_down, parents_up, parents_down}
 

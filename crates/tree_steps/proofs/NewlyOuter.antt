@@ -8,7 +8,7 @@ use Rattle.blossom_arena.specs.Family.{IsNested, IsCircuit, is_vertex, is_outerm
 use Rattle.blossom_arena.proofs.Lists.{by_test, AllNew, new-append, new_from_distinct, first_in, later_in, length-within, vertices, holds-vertices, length-vertices}
 use Rattle.blossom_arena.proofs.Nested.{circuit_outer, outermost_parts}
 use Rattle.blossom_arena.proofs.Sets.{member_vertex, members_new, outermost_by_member}
-use Rattle.alt_forest.specs.declared.label.Label.TheVariants.{Outer}
+use Rattle.blossom_arena.specs.declared.label.Label.TheVariants.{Outer}
 use Rattle.alt_forest.specs.State.{State}
 use Rattle.alt_forest.specs.Trees.{is_label}
 use Rattle.tree_steps.specs.Scanned.{unless_outer, newly_outer}

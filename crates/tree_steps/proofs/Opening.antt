@@ -9,8 +9,8 @@ use Rattle.blossom_arena.specs.Family.{Blossom, IsNested, nodes_of, in_ring, rin
 use Rattle.blossom_arena.proofs.Lists.{AllNew, by_test, new_from_distinct}
 use Rattle.blossom_arena.proofs.Nested.{name_range, node_range, child_is_node}
 use Rattle.blossom_arena.proofs.Parents.{ring_child}
-use Rattle.alt_forest.specs.declared.label.Label.{Label}
-use Rattle.alt_forest.specs.declared.label.Label.TheVariants.{Outer, Inner}
+use Rattle.blossom_arena.specs.declared.label.Label.{Label}
+use Rattle.blossom_arena.specs.declared.label.Label.TheVariants.{Outer, Inner}
 use Rattle.alt_forest.specs.State.{State, IsOutermost, Joins, IsTight, IsInner, IsSearchState, node_u, node_v, next_node}
 use Rattle.alt_forest.specs.Trees.{node_limit, up_edge}
 use Rattle.alt_forest.specs.Events.{CanExpand}

@@ -14,7 +14,7 @@ use Rattle.blossom_arena.proofs.Sets.{outermost_has, outermost_free}
 use Rattle.blossom_arena.proofs.Taken.{names_without, outermost_stays}
 use Rattle.edge_queue.specs.declared.item.Item.TheVariants.{Edge as OfEdge, Blossom as OfBlossom}
 use Rattle.edge_queue.specs.Moments.{Moments, moment_of}
-use Rattle.alt_forest.specs.declared.label.Label.TheVariants.{Out}
+use Rattle.blossom_arena.specs.declared.label.Label.TheVariants.{Out}
 use Rattle.alt_forest.specs.State.{State, IsOutermost, IsInner, IsSearchState, doubled, slack_of}
 use Rattle.alt_forest.specs.Entries.{NeedsMoment, IsEntered, IsBlossomEntered, HasNoTree, touches_any}
 use Rattle.alt_forest.specs.Events.{CanExpand}

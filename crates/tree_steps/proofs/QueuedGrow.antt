@@ -9,7 +9,7 @@ use Rattle.blossom_arena.proofs.Ends.{u_vertex, v_vertex}
 use Rattle.blossom_arena.proofs.Sets.{outermost_has, outermost_by_member}
 use Rattle.edge_queue.specs.declared.item.Item.TheVariants.{Edge as OfEdge, Blossom as OfBlossom}
 use Rattle.edge_queue.specs.Moments.{Moments, moment_of}
-use Rattle.alt_forest.specs.declared.label.Label.TheVariants.{Outer, Inner, Out}
+use Rattle.blossom_arena.specs.declared.label.Label.TheVariants.{Outer, Inner, Out}
 use Rattle.alt_forest.specs.State.{State, IsOutermost, IsMate, IsSearchState, Joins}
 use Rattle.alt_forest.specs.Entries.{NeedsMoment, IsEntered, IsBlossomEntered, HasNoTree, touches_any}
 use Rattle.alt_forest.specs.Events.{CanGrow}

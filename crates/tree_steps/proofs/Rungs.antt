@@ -4,8 +4,8 @@ use Rattle.std.proofs.lemmas.Bool.{or_parts, or_cases, both_ways, eqb-true, eqb-
 use Rattle.blossom_arena.specs.declared.links.Link.{Link}
 use Rattle.blossom_arena.specs.Family.{in_ring, nodes_of}
 use Rattle.blossom_arena.proofs.Lists.{AllNew, by_test, first_in, later_in}
-use Rattle.alt_forest.specs.declared.label.Label.{Label}
-use Rattle.alt_forest.specs.declared.label.Label.TheVariants.{Out}
+use Rattle.blossom_arena.specs.declared.label.Label.{Label}
+use Rattle.blossom_arena.specs.declared.label.Label.TheVariants.{Out}
 use Rattle.alt_forest.specs.State.{State, Joins, IsMate, next_node}
 use Rattle.alt_forest.specs.Searches.{put}
 use Rattle.alt_forest.proofs.Relabelled.{put_here, put_other}

@@ -14,7 +14,7 @@ use Rattle.blossom_arena.proofs.Lists.{by_test}
 use Rattle.blossom_arena.proofs.Nested.{outermost_parts, outermost_before, node_grows, new_is_node, new_no_child, vertex_is_node, circuit_outer, not_new}
 use Rattle.blossom_arena.proofs.Sets.{member_by_ring, outermost_has}
 use Rattle.blossom_arena.proofs.Held.{held_same, held_zero}
-use Rattle.alt_forest.specs.declared.label.Label.TheVariants.{Outer, Inner}
+use Rattle.blossom_arena.specs.declared.label.Label.TheVariants.{Outer, Inner}
 use Rattle.alt_forest.specs.State.{State, IsOutermost, Joins, node_u, node_v, doubled, slack_of, IsTight, IsRing, IsMate, FitsLabel, IsSearchState, held_by, cover}
 use Rattle.alt_forest.specs.Searches.{put}
 use Rattle.alt_forest.proofs.Relabelled.{put_here, put_other, outer_not_inner, outer_not_out}

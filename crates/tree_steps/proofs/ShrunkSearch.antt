@@ -6,7 +6,7 @@ use Rattle.graph_theory.specs.Graph.{Multigraph, IsEdgeNumber, edge_of}
 use Rattle.blossom_arena.specs.Family.{IsNested, is_vertex, in_ring, outermost, ring_of}
 use Rattle.edge_queue.specs.declared.item.Item.TheVariants.{Edge as OfEdge, Blossom as OfBlossom}
 use Rattle.edge_queue.specs.Moments.{Moments, moment_of, with_moment, IsItem}
-use Rattle.alt_forest.specs.declared.label.Label.TheVariants.{Outer, Out}
+use Rattle.blossom_arena.specs.declared.label.Label.TheVariants.{Outer, Out}
 use Rattle.alt_forest.specs.declared.search.Search.{Search}
 use Rattle.alt_forest.specs.State.{State, Joins, node_u, node_v}
 use Rattle.alt_forest.specs.Trees.{root_of}

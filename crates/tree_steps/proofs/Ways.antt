@@ -6,7 +6,7 @@ use Rattle.std.proofs.lemmas.Bool.{or_cases, or_from, or_left, or_right, both_wa
 use Rattle.blossom_arena.specs.declared.links.Link.{Link}
 use Rattle.blossom_arena.specs.Family.{is_outermost, in_ring, nodes_of}
 use Rattle.blossom_arena.proofs.Lists.{AllNew, distinct_from_new}
-use Rattle.alt_forest.specs.declared.label.Label.TheVariants.{Outer}
+use Rattle.blossom_arena.specs.declared.label.Label.TheVariants.{Outer}
 use Rattle.alt_forest.specs.State.{State, IsOutermost, Joins, IsTight, next_node, IsChainTo, IsMate, IsSearchState}
 use Rattle.alt_forest.specs.declared.hop.Hop.{Hop}
 use Rattle.alt_forest.specs.Ways.{AreHops, links_up}

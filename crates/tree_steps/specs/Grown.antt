@@ -1,6 +1,6 @@
 -- What a step of the search changes (chapter 24).
 use Rattle.std.specs.Prelude.{ℕ, Some}
-use Rattle.alt_forest.specs.declared.label.Label.TheVariants.{Outer, Inner}
+use Rattle.blossom_arena.specs.declared.label.Label.TheVariants.{Outer, Inner}
 use Rattle.alt_forest.specs.State.{State}
 use Rattle.alt_forest.specs.Searches.{put}
 

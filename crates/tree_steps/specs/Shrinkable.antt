@@ -3,7 +3,7 @@ use Rattle.std.specs.Prelude.{◌≡◌, ◌≢◌, ℕ, ◌≤◌, true, false,
 use Rattle.std.specs.List.{AllByRecursion}
 use Rattle.blossom_arena.specs.declared.links.Link.{Link}
 use Rattle.blossom_arena.specs.Family.{in_ring, IsCircuit, made_of}
-use Rattle.alt_forest.specs.declared.label.Label.TheVariants.{Outer}
+use Rattle.blossom_arena.specs.declared.label.Label.TheVariants.{Outer}
 use Rattle.alt_forest.specs.Trees.{root_of}
 use Rattle.alt_forest.specs.State.{State, IsOutermost, IsTight, IsRing, IsMate, IsSearchState}
 use Rattle.tree_steps.specs.Shrunk.{shrunk_state}

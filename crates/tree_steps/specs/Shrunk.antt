@@ -1,7 +1,7 @@
 -- What a shrink changes (chapter 24).
 use Rattle.std.specs.Prelude.{ℕ, pos, ◌∷◌}
 use Rattle.blossom_arena.specs.Family.{Blossom}
-use Rattle.alt_forest.specs.declared.label.Label.TheVariants.{Outer}
+use Rattle.blossom_arena.specs.declared.label.Label.TheVariants.{Outer}
 use Rattle.alt_forest.specs.State.{State}
 use Rattle.alt_forest.specs.Searches.{put}
 

@@ -2,7 +2,7 @@ ghost use Rattle.std.specs.Prelude.{◌≡◌, ◌≢◌, ◌<◌, ◌≤◌, �
 ghost use Rattle.blossom_arena.specs.Family.{is_vertex};
 ghost use Rattle.edge_queue.specs.declared.item.Item.TheVariants.{Edge as OfEdge};
 ghost use Rattle.edge_queue.specs.Moments.{moment_of};
-ghost use Rattle.alt_forest.specs.declared.label.Label.TheVariants.{Outer, Inner};
+ghost use Rattle.blossom_arena.specs.declared.label.Label.TheVariants.{Outer, Inner};
 ghost use Rattle.alt_forest.specs.State.{IsOutermost, IsMate};
 ghost use Rattle.alt_forest.specs.Counts.{is_outside, outside_among, tree_count, exposed_count, measure, IsPlanted};
 ghost use Rattle.alt_forest.specs.Entries.{IsQueued, entry_count, looks_left};

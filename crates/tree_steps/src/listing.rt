@@ -4,7 +4,7 @@ ghost use Rattle.graph_theory.specs.declared.limits.TheConstants.{NUMBER_LIMIT};
 ghost use Rattle.blossom_arena.specs.Family.{in_ring, names_of};
 ghost use Rattle.edge_queue.specs.declared.item.Item.TheVariants.{Blossom as OfBlossom};
 ghost use Rattle.edge_queue.specs.Moments.{moment_of, with_moment, IsItem};
-ghost use Rattle.alt_forest.specs.declared.label.Label.TheVariants.{Out};
+ghost use Rattle.blossom_arena.specs.declared.label.Label.TheVariants.{Out};
 ghost use Rattle.alt_forest.specs.State.{IsOutermost};
 ghost use Rattle.alt_forest.specs.Entries.{IsBlossomEntered};
 ghost use Rattle.alt_forest.specs.Searches.{IsSound, state_of, label_at};

@@ -1,7 +1,7 @@
 ghost use Rattle.std.specs.Prelude.{◌≡◌, ◌<◌, ◌%◌, ℕ, length, vec_len};
 ghost use Rattle.std.specs.List.{AllByRecursion};
 ghost use Rattle.blossom_arena.specs.declared.links.Link.{Link};
-ghost use Rattle.alt_forest.specs.declared.label.Label.TheVariants.{Outer, Inner};
+ghost use Rattle.blossom_arena.specs.declared.label.Label.TheVariants.{Outer, Inner};
 ghost use Rattle.alt_forest.specs.Searches.{label_at, edge_in, put};
 ghost use Rattle.tree_steps.specs.Expanded.{mated, labelled_out, labels_up, parents_up, labels_down, parents_down};
 

@@ -3,7 +3,7 @@ ghost use Rattle.graph_theory.specs.Graph.{IsEdgeNumber, edge_of};
 ghost use Rattle.blossom_arena.specs.Family.{in_ring, is_vertex, outermost, made_of, ring_of};
 ghost use Rattle.edge_queue.specs.declared.item.Item.TheVariants.{Edge as OfEdge};
 ghost use Rattle.edge_queue.specs.Moments.{moment_of};
-ghost use Rattle.alt_forest.specs.declared.label.Label.TheVariants.{Outer, Out};
+ghost use Rattle.blossom_arena.specs.declared.label.Label.TheVariants.{Outer, Out};
 ghost use Rattle.alt_forest.specs.State.{IsOutermost, node_u};
 ghost use Rattle.alt_forest.specs.Trees.{path_of, root_of, first_common};
 ghost use Rattle.alt_forest.specs.Counts.{is_outside, outside_among, tree_count, exposed_count, measure, IsPlanted};

@@ -1,7 +1,7 @@
 ghost use Rattle.std.specs.Prelude.{◌≡◌, ◌≤◌, length, true, None, IsTrue, IfOk};
 ghost use Rattle.graph_theory.specs.Graph.{IsWeight};
 ghost use Rattle.mb_problem.specs.Network.{IsInstanceEdge, vertices};
-ghost use Rattle.alt_forest.specs.declared.label.Weights.TheVariants.{Given};
+ghost use Rattle.alt_forest.specs.declared.weights.Weights.TheVariants.{Given};
 ghost use Rattle.alt_forest.specs.Searches.{IsSearchGraph, IsStart};
 
 use graph_theory::{GRAPH_EDGE_LIMIT, GRAPH_VERTEX_LIMIT, WEIGHT_LIMIT};

@@ -1,5 +1,5 @@
 ghost use Rattle.std.specs.Prelude.{◌≡◌, ◌≢◌, ◌↔◌, true, false, IfSome, None};
-ghost use Rattle.alt_forest.specs.declared.label.Label.TheVariants.{Out};
+ghost use Rattle.blossom_arena.specs.declared.label.Label.TheVariants.{Out};
 ghost use Rattle.alt_forest.specs.Searches.{HasShape, IsSound, state_of, label_at};
 ghost use Rattle.alt_forest.specs.State.{IsOutermost, IsExposed};
 ghost use Rattle.alt_forest.specs.Counts.{IsMatched, IsPlanted};

@@ -1,6 +1,6 @@
 use Rattle.std.proofs.Common.{◌≡◌, ◌∙◌, ℤ, ◌+ℤ◌, Option, Some, None, sym, ap, ap₂, rules, to_z, of_z}
 use mir.Syntax.{w64}
-use Rattle.alt_forest.specs.declared.label.Label.TheVariants.{Outer, Inner, Out}
+use Rattle.blossom_arena.specs.declared.label.Label.TheVariants.{Outer, Inner, Out}
 use Rattle.alt_forest.specs.Searches.{state_of, label_at}
 use Rattle.alt_forest.proofs.Needs.{needs_between, needs_none_inner, needs_none_out, needs_none_within}
 use Rattle.alt_forest.proofs.Leads.{leads_joins}

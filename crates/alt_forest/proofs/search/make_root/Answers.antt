@@ -1,5 +1,5 @@
 use Rattle.std.proofs.Common.{◌≡◌, ◌∙◌, sym, subst, ℕ, ◌+◌, ◌⊎◌, ◌↔◌}
-use Rattle.alt_forest.specs.declared.label.Label.{Label}
+use Rattle.blossom_arena.specs.declared.label.Label.{Label}
 use Rattle.alt_forest.specs.State.{IsSearchState}
 use Rattle.alt_forest.specs.Trees.{IsRoot}
 use Rattle.alt_forest.specs.Searches.{state_of}

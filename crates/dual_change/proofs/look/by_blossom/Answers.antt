@@ -3,7 +3,7 @@ use mir.Syntax.{w64}
 use Rattle.graph_theory.specs.Parts.{holds}
 use Rattle.blossom_arena.specs.Family.{names_of, dual_at}
 use Rattle.blossom_arena.proofs.Nested.{name_is_node}
-use Rattle.alt_forest.specs.declared.label.Label.TheVariants.{Inner}
+use Rattle.blossom_arena.specs.declared.label.Label.TheVariants.{Inner}
 use Rattle.alt_forest.specs.State.{IsOutermost}
 use Rattle.alt_forest.specs.Searches.{state_of, label_at}
 use Rattle.alt_forest.proofs.Duals.{low_at}

@@ -1,6 +1,6 @@
 use Rattle.std.proofs.Common.{◌∙◌, ap}
-use Rattle.alt_forest.specs.declared.label.Label.TheVariants.{Outer}
-use Rattle.alt_forest.specs.declared.label.Label.{Label}
+use Rattle.blossom_arena.specs.declared.label.Label.TheVariants.{Outer}
+use Rattle.blossom_arena.specs.declared.label.Label.{Label}
 use Rattle.std.proofs.Common.{ℕ}
 use Rattle.alt_forest.specs.Searches.{label_at}
 use Rattle.alt_forest.proofs.Relabelled.{put_other}

@@ -5,7 +5,7 @@ use Rattle.graph_theory.specs.Nested.{most_blossoms}
 use Rattle.blossom_arena.specs.Family.{Family, dual_at, empty_family}
 use Rattle.edge_queue.specs.Moments.{Moments, moment_of}
 use Rattle.edge_queue.proofs.Maps.{new_has_none}
-use Rattle.alt_forest.specs.declared.label.Weights.TheVariants.{Zero}
+use Rattle.alt_forest.specs.declared.weights.Weights.TheVariants.{Zero}
 use Rattle.alt_forest.specs.Trees.{node_limit}
 use Rattle.alt_forest.specs.Searches.{IsSearchGraph}
 use Rattle.alt_forest.specs.Standing.{AreListed}

@@ -3,7 +3,7 @@ use Rattle.graph_theory.specs.Parts.{holds}
 use Rattle.blossom_arena.specs.Family.{is_vertex}
 use Rattle.blossom_arena.proofs.Nested.{range_vertex}
 use Rattle.blossom_arena.proofs.Sets.{outermost_has}
-use Rattle.alt_forest.specs.declared.label.Label.TheVariants.{Inner}
+use Rattle.blossom_arena.specs.declared.label.Label.TheVariants.{Inner}
 use Rattle.alt_forest.specs.State.{IsOutermost}
 use Rattle.alt_forest.specs.Searches.{state_of, label_at}
 use Rattle.alt_forest.specs.Trees.{is_label}

@@ -1,5 +1,5 @@
 use Rattle.std.proofs.Common.{◌≡◌, ◌≢◌, ◌+◌, ◌-◌, sym, subst, arith}
-use Rattle.alt_forest.specs.declared.label.Label.TheVariants.{Out}
+use Rattle.blossom_arena.specs.declared.label.Label.TheVariants.{Out}
 use Rattle.alt_forest.specs.State.{IsExposed}
 use Rattle.alt_forest.specs.Searches.{label_at, state_of}
 use Rattle.alt_forest.proofs.Places.{outer_range}

@@ -8,12 +8,3 @@ pub enum Label {
     /// In no tree.
     Out,
 }
-
-/// The weights that slacks use.
-#[derive(Clone, Copy, PartialEq, Eq, Debug)]
-pub enum Weights {
-    /// 0 for each edge.
-    Zero,
-    /// Those of the graph.
-    Given,
-}

@@ -1,0 +1,8 @@
+/// The weights that slacks use.
+#[derive(Clone, Copy, PartialEq, Eq, Debug)]
+pub enum Weights {
+    /// 0 for each edge.
+    Zero,
+    /// Those of the graph.
+    Given,
+}
