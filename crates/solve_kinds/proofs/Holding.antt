@@ -48,9 +48,9 @@ rest_next L N x p rest within is v =
           let new : get_or N x [] ≡ put = ap (λ (M : List (List ℕ)). get_or M x []) is ∙ get_or-set_same _ _ _ _ within in
           let held : holds (x ∷ rest) x ≡ true = or_left (eqb x x) (holds rest x) (eq-eqb x x refl) in
           let here : cond (holds rest x) (with_place (get_or N x []) p) (get_or N x []) ≡ cond (holds (x ∷ rest) x) put (get_or L x []) =
-              ap (λ (ys : List ℕ). cond (holds rest x) (with_place ys p) ys) new
-              ∙ either_way (holds rest x) (with_place put p) put (with_place-twice (get_or L x []) p)
-              ∙ sym (ap (λ (t : Bool). cond t put (get_or L x [])) held)
+          ap (λ (ys : List ℕ). cond (holds rest x) (with_place ys p) ys) new
+          ∙ either_way (holds rest x) (with_place put p) put (with_place-twice (get_or L x []) p)
+          ∙ sym (ap (λ (t : Bool). cond t put (get_or L x [])) held)
           in
           subst (λ (w : ℕ). cond (holds rest w) (with_place (get_or N w []) p) (get_or N w []) ≡ cond (holds (x ∷ rest) w) (with_place (get_or L w []) p) (get_or L w [])) same here
       | inr differ ↦
