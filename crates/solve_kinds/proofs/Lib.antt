@@ -2,7 +2,10 @@ mod Ascents
 mod AnswerForms
 mod CountLines
 mod DualLines
+mod Keeping
+mod Holding
 mod SetLines
+mod SolvedSets
 mod WalkLines
 mod JoinCounts
 mod TwoEnds

@@ -5,3 +5,4 @@ pub mod Settled
 pub mod Parts
 pub mod Presented
 pub mod Excluding
+pub mod Holders

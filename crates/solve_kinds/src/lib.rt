@@ -11,6 +11,7 @@ mod conservative;
 mod counts;
 mod duals;
 mod ends;
+mod holders;
 mod infeasible;
 mod joins;
 mod limits;

@@ -57,7 +57,7 @@ pub fn optimal(
     let weight = stated_weight(instance, &answer);
     let counts = Sequence::from_vec(counts(alloc, instance, &answer)?);
     let walk = walk(alloc, &answer)?;
-    let sets = Sequence::from_vec(sets(alloc, engine)?);
+    let sets = Sequence::from_vec(sets(alloc, engine, graph)?);
     let duals = Sequence::from_vec(duals(alloc, engine, graph)?);
     Ok(Document {
         status: DocStatus::Optimal,

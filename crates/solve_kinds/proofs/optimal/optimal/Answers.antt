@@ -20,6 +20,8 @@ use Rattle.solve_kinds.proofs.Forms.{form-optimal}
 use Rattle.solve_kinds.proofs.AnswerForms.{feasible-form}
 use Rattle.solve_kinds.proofs.EachKind.{small}
 use Rattle.solve_kinds.proofs.Weighed.{number-of_answer, pays-for_matching}
+use Rattle.solve_kinds.specs.Holders.{AreWithin}
+use Rattle.solve_kinds.proofs.SolvedSets.{solved-within}
 use Rattle.solve_kinds.proofs.optimal.optimal.Goals as goal
 
 pub answer-requires-clause-perfect : goal.answer-requires-clause-perfect
@@ -50,6 +52,9 @@ counts-requires-clause-places c = feasible-places c.args.kind c.args.instance.no
 
 pub counts-requires-clause-small : goal.counts-requires-clause-small
 counts-requires-clause-small c = small c.args.kind c.args.instance.now c.in_ok-answer.answer c.edges-edges.ensures.network c.in_ok-answer.ensures.feasible
+
+pub sets-requires-clause-within : goal.sets-requires-clause-within
+sets-requires-clause-within c = subst (λ (h : Multigraph). AreWithin h.vertices c.args.engine.now.sets) c.requires.same (solved-within c.args.engine.now c.requires.solved)
 
 pub invariant_of-result : goal.invariant_of-result
 invariant_of-result c = record {
