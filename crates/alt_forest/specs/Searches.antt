@@ -3,10 +3,9 @@ use Rattle.std.specs.Prelude.{◌≡◌, ℕ, ◌+◌, ◌≤◌, ℤ, pos, ◌�
 use Rattle.std.specs.Vec.{vec_capacity}
 use Rattle.graph_theory.specs.Limits.{IsWithinLimits}
 use Rattle.graph_theory.specs.Graph.{Multigraph, IsGraph, IsWeight, edge_of, IsEdgeNumber}
+pub use Rattle.blossom_arena.specs.Changes.{label_at}
 use Rattle.blossom_arena.specs.Family.{dual_at, IsFamily}
 use Rattle.edge_queue.specs.Moments.{Moments}
-use Rattle.blossom_arena.specs.declared.label.Label.{Label}
-use Rattle.blossom_arena.specs.declared.label.Label.TheVariants.{Out}
 use Rattle.alt_forest.specs.declared.weights.Weights.{Weights}
 use Rattle.alt_forest.specs.declared.weights.Weights.TheVariants.{Zero, Given}
 use Rattle.alt_forest.specs.declared.search.Search.{Search}
@@ -18,9 +17,6 @@ use Rattle.alt_forest.specs.Trees.{node_limit}
 abbrev pub is_given : Weights → Bool
 is_given Zero = false
 is_given Given = true
-
-abbrev pub label_at : List Label → ℕ → Label
-label_at labels a = slice_index_or labels a Out
 
 abbrev pub edge_in : List (Option ℕ) → ℕ → Option ℕ
 edge_in edges a = slice_index_or edges a None

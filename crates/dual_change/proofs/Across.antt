@@ -1,4 +1,4 @@
--- The duals that an edge feels, and those that cover a vertex, where they change at outermost nodes alone.
+-- The duals that an edge feels where they change at outermost nodes alone.
 use Rattle.std.proofs.Common.{◌≡◌, ◌≢◌, ℕ, ℤ, pos, ◌+ℤ◌, Bool, true, false, not, cond, List, [], ◌∷◌, refl, sym, ap, ◌∙◌, arith, ⊎_elim}
 use Rattle.std.proofs.lemmas.Int.{ints}
 use Rattle.std.proofs.lemmas.Bool.{or_left, or_right, both_ways, cases_eq}
@@ -9,7 +9,6 @@ use Rattle.blossom_arena.specs.Family.{Blossom, IsNested, is_child, is_node, is_
 use Rattle.blossom_arena.specs.Slack.{duals_across}
 use Rattle.blossom_arena.proofs.Nested.{range_vertex}
 use Rattle.blossom_arena.proofs.Sets.{member_by_ring, outermost_node}
-use Rattle.alt_forest.specs.State.{held_by}
 
 -- what is felt of sums is the sum of what is felt
 pub across-sum : (y z : ℕ → ℤ) (bs : List Blossom) (e : Edge) → duals_across (λ a. y a +ℤ z a) bs e ≡ duals_across y bs e +ℤ duals_across z bs e
@@ -60,31 +59,3 @@ feels_outer n z (b ∷ older) e ends h none =
     (λ t. none y (or_left (in_ring b.ring y) (is_child older y) (sym v_in ∙ t)))
     before.apart before.within in
     record { apart = f.0; within = f.1 }
-
--- the sums of what holds a vertex
-pub held-sum : (y z : ℕ → ℤ) (bs : List Blossom) (v : ℕ) → held_by (λ a. y a +ℤ z a) bs v ≡ held_by y bs v +ℤ held_by z bs v
-held-sum y z [] v = omega (arith, ints)
-held-sum y z (b ∷ older) v =
-    let rest : held_by (λ a. y a +ℤ z a) older v ≡ held_by y older v +ℤ held_by z older v = held-sum y z older v in
-    elim (holds b.members v) as (λ t. cond t (y b.node +ℤ z b.node) (pos 0) +ℤ held_by (λ a. y a +ℤ z a) older v ≡ (cond t (y b.node) (pos 0) +ℤ held_by y older v) +ℤ (cond t (z b.node) (pos 0) +ℤ held_by z older v)) [
-      | true ↦ omega (arith, ints)
-      | false ↦ omega (arith, ints)
-    ]
-
--- of numbers at outermost nodes alone that of its own node covers a vertex
-pub covered_outer : (n : ℕ) (z : ℕ → ℤ) (bs : List Blossom) (v : ℕ) → is_vertex n v ≡ true → IsNested n bs → ((a : ℕ) → is_child bs a ≡ true → z a ≡ pos 0) → z v +ℤ held_by z bs v ≡ z (outermost bs v)
-covered_outer n z [] v iv h none = omega (arith, ints)
-covered_outer n z (b ∷ older) v iv h none =
-    let x : ℕ = outermost older v in
-    let before : z v +ℤ held_by z older v ≡ z x = covered_outer n z older v iv h.1 (λ a c. none a (or_right (in_ring b.ring a) (is_child older a) c)) in
-    let v_in : holds b.members v ≡ in_ring b.ring x = member_by_ring n older b v h iv in
-    by_test (z v) (z b.node) (held_by z older v) (z x) (holds b.members v) before (λ t. none x (or_left (in_ring b.ring x) (is_child older x) (sym v_in ∙ t)))
-    ∙ by_holder (holds b.members v)
-  where
-    by_test : (own new rest old : ℤ) (p : Bool) → own +ℤ rest ≡ old → (p ≡ true → old ≡ pos 0) → own +ℤ (cond p new (pos 0) +ℤ rest) ≡ cond p new old
-    by_test own new rest old true e zero = let none : old ≡ pos 0 = zero refl in omega (arith, ints, e, none)
-    by_test own new rest old false e zero = omega (arith, ints, e)
-
-    by_holder : (p : Bool) → cond p (z b.node) (z (outermost older v)) ≡ z (cond p b.node (outermost older v))
-    by_holder true = refl
-    by_holder false = refl

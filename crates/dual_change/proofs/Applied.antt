@@ -18,7 +18,8 @@ use Rattle.alt_forest.specs.Counts.{IsPlanted}
 use Rattle.alt_forest.proofs.Relabelled.{outer_not_inner, some_not_none}
 use Rattle.alt_forest.proofs.Walk.{other_node_joins}
 use Rattle.dual_change.specs.Changes.{share, change, applied, IsWithin}
-use Rattle.dual_change.proofs.Across.{across-sum, FeelsOuter, feels_outer, held-sum, covered_outer}
+use Rattle.blossom_arena.proofs.Changed.{held-sum, covered_outer}
+use Rattle.dual_change.proofs.Across.{across-sum, FeelsOuter, feels_outer}
 use Rattle.dual_change.proofs.Inside.{LiesWithin, rings_within}
 use Rattle.std.proofs.lemmas.Option.{same_Some}
 use Rattle.blossom_arena.proofs.Ends.{u_vertex, v_vertex}

@@ -13,7 +13,7 @@ use Rattle.alt_forest.specs.Entries.{NeedsMoment, IsBlossomEntered, HasNoTree, I
 use Rattle.alt_forest.specs.Standing.{IsSeed, IsStanding}
 use Rattle.alt_forest.proofs.Places.{nested_of}
 use Rattle.dual_change.specs.Changes.{applied}
-use Rattle.dual_change.proofs.UnderWay.{with_duals}
+use Rattle.dual_change.proofs.Raised.{with_duals}
 use Rattle.dual_change.proofs.Least.{root_applied, left_to_out, left_between, left_inner}
 
 with_clock : (clock d x y : ℤ) → y ≡ x -ℤ d → clock +ℤ x ≡ (clock +ℤ d) +ℤ y

@@ -2,8 +2,6 @@ pub mod Across
 pub mod Inside
 pub mod Applied
 pub mod Raised
-pub mod Listed
-pub mod UnderWay
 pub mod Least
 pub mod Found
 pub mod Dropped

@@ -1,78 +1,84 @@
--- The duals while a change is under way: some nodes have it.
-use Rattle.std.proofs.Common.{◌≡◌, ◌≢◌, ℕ, ◌<◌, ℤ, ◌+ℤ◌, Bool, true, false, ◌||◌, eqb, cond, List, length, refl, sym, ap, ◌∙◌, subst, arith}
-use Rattle.std.specs.Prelude.{slice_set}
-use Rattle.std.proofs.lemmas.Bool.{eqb-true, eqb-false, eq-eqb, ne_eqb, or_right, both_ways, false_from_ne_true}
+-- The search after a change of the duals of the nodes that are listed for it.
+use Rattle.std.proofs.Common.{◌≡◌, ℕ, ◌<◌, ℤ, pos, ◌+ℤ◌, ◌≤ℤ◌, true, false, ◌&&◌, cond, List, Option, Some, refl, sym, ap, ◌∙◌, subst, arith, ⊎_elim}
+use Rattle.std.specs.Prelude.{is_some}
+use Rattle.std.proofs.lemmas.Bool.{both_ways, or_cases}
 use Rattle.graph_theory.specs.Parts.{holds}
-use Rattle.blossom_arena.specs.Family.{is_outermost, dual_at}
-use Rattle.blossom_arena.proofs.Lists.{by_test}
+use Rattle.blossom_arena.specs.Changes.{label_at, gain}
+use Rattle.blossom_arena.specs.Family.{Family, IsFamily, dual_at, is_node, is_outermost, is_vertex, names_of}
 use Rattle.blossom_arena.specs.declared.label.Label.{Label}
 use Rattle.blossom_arena.specs.declared.label.Label.TheVariants.{Outer, Inner, Out}
+use Rattle.blossom_arena.proofs.Lists.{by_test}
+use Rattle.blossom_arena.proofs.Nested.{outermost_parts, vertex_range}
+use Rattle.alt_forest.specs.Counts.{IsPlanted}
+use Rattle.alt_forest.specs.Searches.{HasShape, IsSound, state_of}
+use Rattle.alt_forest.specs.Standing.{AreListed, IsStanding, seed_at}
+use Rattle.alt_forest.specs.State.{State, IsOutermost, IsSearchState}
 use Rattle.alt_forest.specs.declared.search.Search.{Search}
-use Rattle.alt_forest.proofs.Places.{outer_range}
-use Rattle.alt_forest.specs.State.{State, IsOutermost}
-use Rattle.alt_forest.specs.Searches.{HasShape, state_of, label_at, put}
+use Rattle.alt_forest.proofs.Duals.{low_at}
+use Rattle.alt_forest.proofs.Places.{nested_of}
 use Rattle.alt_forest.proofs.Relabelled.{outer_not_out, inner_not_out}
-use Rattle.alt_forest.proofs.Puts.{put_dual}
-use Rattle.dual_change.specs.Changes.{share, applied}
-use Rattle.dual_change.proofs.Applied.{change_none, change_outer, plain_sum}
+use Rattle.dual_change.specs.Changes.{share, change, applied, IsWithin}
+use Rattle.dual_change.proofs.Applied.{change_none, change_outer, dual_stays, applied_state}
 
--- these nodes have their share of a change
-abbrev pub partly : State → ℤ → List ℕ → ℕ → ℤ
-partly s d done a = cond (holds done a) ((applied s d).dual a) (s.dual a)
-
--- numbers that are no outermost nodes get nothing
-no_share : (s : State) (d : ℤ) (a : ℕ) → (IsOutermost s a → ⊥) → (applied s d).dual a ≡ s.dual a
-no_share s d a none = ap (λ x. s.dual a +ℤ x) (change_none s d a (false_from_ne_true (is_outermost s.graph.vertices s.blossoms a) (λ t. absurd (none t)))) ∙ plain_sum (s.dual a)
-
--- nor do nodes in no tree
-no_tree_share : (s : State) (d : ℤ) (a : ℕ) → IsOutermost s a → s.label a ≡ Out → (applied s d).dual a ≡ s.dual a
-no_tree_share s d a is out = ap (λ x. s.dual a +ℤ x) (change_outer s d a is ∙ ap (share d) out) ∙ plain_sum (s.dual a)
-
--- so all have it once those have it that are in trees
-pub partly_all : (s : State) (d : ℤ) (done : List ℕ) → ((a : ℕ) → IsOutermost s a → s.label a ≢ Out → holds done a ≡ true) → partly s d done ≡ (applied s d).dual
-partly_all s d done all = λ i a. here a i
-  where
-    is_out : (a : ℕ) (l : Label) → s.label a ≡ l → IsOutermost s a → holds done a ≡ false → s.label a ≡ Out
-    is_out a Outer e is none = absurd (both_ways (holds done a) none (all a is (λ q. outer_not_out (sym e ∙ q))))
-    is_out a Inner e is none = absurd (both_ways (holds done a) none (all a is (λ q. inner_not_out (sym e ∙ q))))
-    is_out a Out e is none = e
-
-    here : (a : ℕ) → partly s d done a ≡ (applied s d).dual a
-    here a = by_test (holds done a)
-        (λ t. ap (λ q. cond q ((applied s d).dual a) (s.dual a)) t)
-        (λ t. ap (λ q. cond q ((applied s d).dual a) (s.dual a)) t ∙ by_test (is_outermost s.graph.vertices s.blossoms a)
-        (λ o. sym (no_tree_share s d a o (is_out a (s.label a) refl o t)))
-        (λ o. sym (no_share s d a (λ is. absurd (both_ways (is_outermost s.graph.vertices s.blossoms a) o is)))))
-
--- a node that isn't among them is as it was
-pub partly_next : (s : State) (d : ℤ) (done : List ℕ) (x : ℕ) → holds done x ≡ false → partly s d done x ≡ s.dual x
-partly_next s d done x fresh = ap (λ q. cond q ((applied s d).dual x) (s.dual x)) fresh
-
-pub partly_step : (s : State) (d : ℤ) (done more : List ℕ) (x : ℕ) → ((w : ℕ) → holds more w ≡ (holds done w || eqb x w)) → put (partly s d done) x ((applied s d).dual x) ≡ partly s d more
-partly_step s d done more x both = λ i a. here a i
-  where
-    without_it : (p q : Bool) → q ≡ false → (p || q) ≡ p
-    without_it true q e = refl
-    without_it false q e = e
-
-    here : (a : ℕ) → put (partly s d done) x ((applied s d).dual x) a ≡ partly s d more a
-    here a = by_test (eqb a x)
-        (λ t. let same : a ≡ x = eqb-true a x t in
-        ap (λ q. cond q ((applied s d).dual x) (partly s d done a)) t
-        ∙ ap (applied s d).dual (sym same)
-        ∙ sym (ap (λ q. cond q ((applied s d).dual a) (s.dual a)) (both a ∙ or_right (holds done a) (eqb x a) (eq-eqb x a (sym same)))))
-        (λ t. ap (λ q. cond q ((applied s d).dual x) (partly s d done a)) t
-        ∙ sym (ap (λ q. cond q ((applied s d).dual a) (s.dual a)) (both a ∙ without_it (holds done a) (eqb x a) (ne_eqb x a (λ q. eqb-false a x t (sym q))))))
-
--- a write of an outermost node's dual is its share of the change
-pub raise_put : (s : Search) (d : ℤ) (a : ℕ) (more : ℤ) → HasShape s → IsOutermost (state_of s) a → more ≡ share d (label_at s.labels.items a)
-    → dual_at (slice_set s.arena.duals a (dual_at s.arena.duals a +ℤ more)) ≡ put (dual_at s.arena.duals) a ((applied (state_of s) d).dual a)
-raise_put s d a more h is m =
-    let range = outer_range s a h is in
-    let place : a < length s.arena.duals = omega (arith, range.1, h.family.duals.one_each, h.arena) in
-    let sum : dual_at s.arena.duals a +ℤ more ≡ (applied (state_of s) d).dual a = ap (λ x. dual_at s.arena.duals a +ℤ x) (m ∙ sym (change_outer (state_of s) d a is)) in
-    put_dual s.arena.duals a (dual_at s.arena.duals a +ℤ more) place ∙ ap (put (dual_at s.arena.duals) a) sum
+-- the search with other duals
+abbrev pub with_duals : Search → List ℤ → Search
+with_duals s ys = record s { arena = record s.arena { duals = ys } }
 
 -- the test of the code
 pub outer_by : (s : Search) (a b : ℕ) → HasShape s → is_outermost s.arena.vertex_count s.arena.blossoms b ≡ true → b ≡ a → IsOutermost (state_of s) a
 outer_by s a b h e same = subst (λ x. is_outermost s.graph.vertices s.arena.blossoms x ≡ true) same (subst (λ n. is_outermost n s.arena.blossoms b ≡ true) h.arena e)
+
+-- what has a seed is listed
+seeded_listed : (n : ℕ) (nodes : List ℕ) (seeds : List (Option ℕ)) (a v : ℕ) → AreListed n nodes seeds → seed_at seeds a ≡ Some v → holds nodes a ≡ true
+seeded_listed n nodes seeds a v h has = sym (h.seeded a) ∙ ap (λ (o : Option ℕ). is_some o) has
+
+-- so each node in a tree is
+unlisted_out : (s : Search) → IsStanding s → (a : ℕ) (l : Label) → (state_of s).label a ≡ l → IsOutermost (state_of s) a → holds s.standing.items a ≡ false → (state_of s).label a ≡ Out
+unlisted_out s standing a Outer e is none =
+    let seed = standing.trees a is (λ q. outer_not_out (sym e ∙ q)) in
+    absurd (both_ways (holds s.standing.items a) none (seeded_listed s.graph.vertices s.standing.items s.seeds.items a seed.0 standing.listed seed.1))
+unlisted_out s standing a Inner e is none =
+    let seed = standing.trees a is (λ q. inner_not_out (sym e ∙ q)) in
+    absurd (both_ways (holds s.standing.items a) none (seeded_listed s.graph.vertices s.standing.items s.seeds.items a seed.0 standing.listed seed.1))
+unlisted_out s standing a Out e is none = e
+
+module _ (s : Search) (d : ℤ) (h : HasShape s) where
+  -- no blossom's dual falls below 0
+  pub raised_low : IsSound s → IsWithin (state_of s) d → (a : ℕ) → is_outermost s.arena.vertex_count s.arena.blossoms a ≡ true → s.arena.vertex_count < a → pos 0 ≤ℤ (dual_at s.arena.duals a +ℤ share d (label_at s.labels.items a))
+  raised_low sound within a e above =
+      let is : IsOutermost (state_of s) a = outer_by s a a h e refl in
+      let node : is_node s.graph.vertices s.arena.blossoms a ≡ true = (outermost_parts s.graph.vertices s.arena.blossoms a is).0 in
+      let name : holds (names_of s.arena.blossoms) a ≡ true = ⊎_elim
+      (λ v. absurd (omega (arith, above, h.arena, (vertex_range s.graph.vertices a v).1)))
+      (λ m. m)
+      (or_cases (is_vertex s.graph.vertices a) (holds (names_of s.arena.blossoms) a) node) in
+      subst (λ x. pos 0 ≤ℤ (dual_at s.arena.duals a +ℤ x)) (change_outer (state_of s) d a is)
+      (dual_stays (state_of s) d h.graph.graph (nested_of s h) within a name (low_at (dual_at s.arena.duals) s.arena.blossoms a sound.state.duals name))
+
+  -- what the listed nodes gain is the change
+  gain_is : IsStanding s → (a : ℕ) → gain s.arena s.standing.items s.labels.items d a ≡ change (state_of s) d a
+  gain_is standing a =
+      ap (λ n. cond (holds s.standing.items a && is_outermost n s.arena.blossoms a) (share d (label_at s.labels.items a)) (pos 0)) h.arena
+      ∙ by_test (holds s.standing.items a)
+      (λ t. ap (λ q. cond (q && is_outermost s.graph.vertices s.arena.blossoms a) (share d (label_at s.labels.items a)) (pos 0)) t)
+      (λ t. ap (λ q. cond (q && is_outermost s.graph.vertices s.arena.blossoms a) (share d (label_at s.labels.items a)) (pos 0)) t
+      ∙ by_test (is_outermost s.graph.vertices s.arena.blossoms a)
+      (λ o. sym (change_outer (state_of s) d a o ∙ ap (share d) (unlisted_out s standing a ((state_of s).label a) refl o t)))
+      (λ o. sym (change_none (state_of s) d a o)))
+
+  -- an arena where they have gained it
+  module _ (standing : IsStanding s) (f : Family) (each : (a : ℕ) → dual_at f.duals a ≡ dual_at s.arena.duals a +ℤ gain s.arena s.standing.items s.labels.items d a) (rest : f ≡ record s.arena { duals = f.duals }) where
+    abbrev with_dual : State → (ℕ → ℤ) → State
+    with_dual x y = record x { dual = y }
+
+    pub raised_state : state_of (record s { arena = f }) ≡ applied (state_of s) d
+    raised_state =
+        ap (λ (g : Family). let t : Search = record s { arena = g } in state_of t) rest
+        ∙ ap (with_dual (state_of s)) (λ i a. (each a ∙ ap (λ x. dual_at s.arena.duals a +ℤ x) (gain_is standing a)) i)
+
+    pub raised_sound : IsFamily f → (sound : IsSound s) → IsPlanted (state_of s) → IsWithin (state_of s) d → IsSound (record s { arena = f })
+    raised_sound good sound planted within = record {
+      shape = record { graph = h.graph; family = good; arena = ap (λ (g : Family). g.vertex_count) rest ∙ h.arena; labels = h.labels; parents = h.parents; mates = h.mates; circuit = h.circuit; room = h.room };
+      depth = sound.depth;
+      state = subst (λ x. IsSearchState x sound.depth) (sym raised_state) (applied_state (state_of s) d h.graph.graph (nested_of s h) sound.depth sound.state planted within);
+    }

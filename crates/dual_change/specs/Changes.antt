@@ -1,11 +1,11 @@
 -- A change of the duals along alternating trees, and what comes next (chapter 26): the duals of outer nodes rise,
 -- those of inner nodes fall, until a tree can grow, a blossom can be shrunk or expanded, or the matching augmented.
-use Rattle.std.specs.Prelude.{◌≡◌, ◌≢◌, ℕ, ℤ, pos, ◌+ℤ◌, ◌-ℤ◌, ◌≤ℤ◌, true, if◌then◌else◌}
+use Rattle.std.specs.Prelude.{◌≡◌, ◌≢◌, ℕ, ℤ, pos, ◌+ℤ◌, ◌≤ℤ◌, true, if◌then◌else◌}
 use Rattle.graph_theory.specs.Graph.{IsEdgeNumber}
 use Rattle.graph_theory.specs.Parts.{holds}
 use Rattle.graph_theory.specs.Duals.{IsNumber}
+pub use Rattle.blossom_arena.specs.Changes.{share}
 use Rattle.blossom_arena.specs.Family.{names_of, is_outermost}
-use Rattle.blossom_arena.specs.declared.label.Label.{Label}
 use Rattle.blossom_arena.specs.declared.label.Label.TheVariants.{Outer, Inner, Out}
 use Rattle.alt_forest.specs.State.{State, IsOutermost, Joins, slack_of}
 use Rattle.alt_forest.specs.Events.{CanGrow, CanAugment, CanShrink, CanExpand}
@@ -14,13 +14,7 @@ use Rattle.dual_change.specs.declared.event.Event.TheVariants.{Grow, Shrink, Aug
 use Rattle.dual_change.specs.declared.event.Next.{Next}
 use Rattle.dual_change.specs.declared.event.Next.TheVariants.{Grow as NextGrow, Shrink as NextShrink, Augment as NextAugment, Expand as NextExpand, Stuck}
 
--- what a change of d adds to the dual of an outermost node
-abbrev pub share : ℤ → Label → ℤ
-share d Outer = d
-share d Inner = pos 0 -ℤ d
-share d Out = pos 0
-
--- what it adds to the dual of a node: nothing inside a blossom
+-- what a change of d adds to the dual of a node: nothing inside a blossom
 abbrev pub change : State → ℤ → ℕ → ℤ
 change s d a = if is_outermost s.graph.vertices s.blossoms a then share d (s.label a) else pos 0
 

@@ -1,75 +1,17 @@
-ghost use Rattle.std.specs.Prelude.{◌≡◌, ◌<◌, ◌≤◌, ◌+◌, ℕ, ℤ, pos, ◌+ℤ◌, ◌≤ℤ◌, true};
-ghost use Rattle.graph_theory.specs.Duals.{IsNumber};
-ghost use Rattle.blossom_arena.specs.Family.{dual_at};
+ghost use Rattle.std.specs.Prelude.{◌≡◌, ◌+◌, pos, ◌+ℤ◌, ◌≤ℤ◌};
 ghost use Rattle.graph_theory.specs.declared.limits.TheConstants.{NUMBER_LIMIT};
-ghost use Rattle.alt_forest.specs.Searches.{HasShape, IsSound, state_of, put};
+ghost use Rattle.alt_forest.specs.Searches.{IsSound, state_of};
 ghost use Rattle.alt_forest.specs.Entries.{HasNoTree, IsQueued};
 ghost use Rattle.alt_forest.specs.Counts.{IsPlanted};
 ghost use Rattle.alt_forest.specs.Standing.{IsStanding};
-ghost use Rattle.alt_forest.specs.State.{IsOutermost};
-ghost use Rattle.dual_change.specs.Changes.{share, applied, IsWithin, StaysInRange};
+ghost use Rattle.dual_change.specs.Changes.{applied, IsWithin, StaysInRange};
 
-use alt_forest::{Label, Search};
-use blossom_arena::NodeId;
+use alt_forest::Search;
 use mb_base::Steps;
 use std::sync::ledger::Ledger;
 
-/// How often a change is added to the dual of a node with this label. The answers are constants, so that a
-/// machine needs no branch on the label, which it could not foresee.
-fn times(label: Label) -> i64
-    ensures { result ≡ share (pos 1) label }
-{
-    match label {
-        Label::Outer => 1,
-        Label::Inner => -1,
-        Label::Out => 0,
-    }
-}
-
-/// What a change of d adds to the dual of a node with this label.
-fn share(d: i64, label: Label) -> i64
-    requires low { pos 0 ≤ℤ d }
-    ensures { result ≡ share d label }
-{
-    d * times(label)
-}
-
-/// Gives a node, if there is one of this number and it is outermost, its share of a change of d.
-fn raise(search: &mut Search, node: NodeId, d: i64)
-    requires shape { HasShape search.old }
-    requires low { pos 0 ≤ℤ d }
-    requires in_range { IsOutermost (state_of search.old) node → IsNumber ((applied (state_of search.old) d).dual node) }
-    requires not_below { IsOutermost (state_of search.old) node → search.old.graph.vertices < node → pos 0 ≤ℤ (applied (state_of search.old) d).dual node }
-    ensures duals { dual_at search.new.arena.duals ≡ put (dual_at search.old.arena.duals) node ((applied (state_of search.old) d).dual node) }
-    ensures rest { search.new ≡ record search.old { arena = record search.old.arena { duals = search.new.arena.duals } } }
-    ensures shape { HasShape search.new }
-{
-    if !search.arena.is_outermost(node) {
-        return;
-    }
-    let more = share(d, search.label(node));
-    search.arena.add_outer_dual(node, more);
-}
-
-/// Gives each node that is listed for changes its share of a change of d.
-fn raise_listed(search: &mut Search, d: i64)
-    requires sound { IsSound search.old }
-    requires standing { IsStanding search.old }
-    requires planted { IsPlanted (state_of search.old) }
-    requires low { pos 0 ≤ℤ d }
-    requires within { IsWithin (state_of search.old) d }
-    requires in_range { StaysInRange (state_of search.old) d }
-    ensures state { state_of search.new ≡ applied (state_of search.old) d }
-    ensures rest { search.new ≡ record search.old { arena = record search.old.arena { duals = search.new.arena.duals } } }
-    ensures sound { IsSound search.new }
-{
-    for place in 0..search.standing.len() {
-        let node = search.standing[place];
-        raise(search, node, d);
-    }
-}
-
-/// Gives each node in a tree its share of a change of d. A change of 0 leaves all as it is, and passes no node.
+/// Gives each node in a tree its share of a change of d, by the nodes that are listed for changes. A change
+/// of 0 leaves all as it is, and passes no node.
 fn raise_trees(search: &mut Search, d: i64)
     requires sound { IsSound search.old }
     requires standing { IsStanding search.old }
@@ -84,7 +26,9 @@ fn raise_trees(search: &mut Search, d: i64)
     if d == 0 {
         return;
     }
-    raise_listed(search, d);
+    search
+        .arena
+        .change_duals(&search.standing, &search.labels, d);
 }
 
 /// The clock after a change of d.

@@ -3,7 +3,7 @@ use mir.Syntax.{w64}
 use Rattle.alt_forest.specs.declared.search.Search.{Search}
 use Rattle.alt_forest.specs.Searches.{state_of}
 use Rattle.dual_change.specs.Changes.{applied}
-use Rattle.dual_change.proofs.UnderWay.{with_duals}
+use Rattle.dual_change.proofs.Raised.{with_duals}
 use Rattle.dual_change.proofs.Clock.{queued_later, standing_later}
 use Rattle.dual_change.proofs.raise.apply.Goals as goal
 
