@@ -4,6 +4,7 @@ use Rattle.std.specs.List.{AllByRecursion}
 use Rattle.slab.specs.Slab.{Slab, get, slab_len}
 use Rattle.graph_theory.specs.Parts.{holds}
 use Rattle.blossom_arena.specs.declared.label.Label.{Label}
+use Rattle.blossom_arena.specs.declared.label.Label.TheVariants.{Outer, Inner, Out}
 use Rattle.blossom_arena.specs.declared.links.Link.{Link}
 use Rattle.blossom_arena.specs.declared.runs.Run.{Run}
 use Rattle.blossom_arena.specs.declared.runs.Kept.{Kept}
@@ -83,6 +84,16 @@ taken sums run y (c ∷ cs) = taken (added sums (λ v. neg_ℤ (y c)) (run c)) r
 abbrev pub AreTaken : List ℤ → (ℕ → List ℕ) → (ℕ → ℤ) → List ℕ → Type 0
 AreTaken sums run y [] = Unit {0}
 AreTaken sums run y (c ∷ cs) = AreSums sums (λ v. neg_ℤ (y c)) (run c) × AreTaken (added sums (λ v. neg_ℤ (y c)) (run c)) run y cs
+
+-- the shares of a change of d in the order of the labels, and nothing twice more
+abbrev pub shares_of : ℤ → List ℤ
+shares_of d = d ∷ (pos 0 -ℤ d) ∷ pos 0 ∷ pos 0 ∷ pos 0 ∷ []
+
+-- the place of a label among them
+abbrev pub class_of : Label → ℕ
+class_of Outer = 0
+class_of Inner = 1
+class_of Out = 2
 
 -- what a change of d adds to the dual of a node, by its parent
 abbrev pub gain_by : List ℕ → List Label → ℤ → ℕ → ℤ

@@ -1,40 +1,61 @@
-ghost use Rattle.std.specs.Prelude.{◌≡◌, ◌<◌, ◌==◌, ◌≤ℤ◌, ◌+ℤ◌, pos, if◌then◌else◌, length, slice_set};
+ghost use Rattle.std.specs.Prelude.{◌≡◌, ◌<◌, ◌≤ℤ◌, ◌+ℤ◌, pos, length, slice_set};
 ghost use Rattle.std.specs.List.{AllByRecursion};
-ghost use Rattle.blossom_arena.specs.Changes.{share};
-ghost use Rattle.blossom_arena.specs.Fields.{added, AreSums, gain_by, sum_at};
+ghost use Rattle.blossom_arena.specs.Fields.{added, AreSums, class_of, gain_by, sum_at};
 ghost use Rattle.blossom_arena.specs.Slack.{IsCover};
 
 use crate::label::Label;
 use crate::nodes::NodeId;
+use std::marker::Model;
 
-/// How often a change counts at an outermost node with this label. The answers are constants, so that a
-/// machine needs no branch on the label, which it could not foresee.
-fn times(label: Label) -> i64
-    ensures { result ≡ share (pos 1) label }
+/// The place of a label among the shares of a change.
+fn class(label: Label) -> usize
+    ensures { result ≡ class_of label }
 {
     match label {
-        Label::Outer => 1,
-        Label::Inner => -1,
-        Label::Out => 0,
+        Label::Outer => 0,
+        Label::Inner => 1,
+        Label::Out => 2,
     }
 }
 
-/// How often it counts at a node with this parent: once where there is none.
-fn once(parent: u32) -> i64
-    ensures { result ≡ if parent == 0 then pos 1 else pos 0 }
-{
-    match parent {
-        0 => 1,
-        _ => 0,
-    }
+/// The shares of a change in the order of the labels, and nothing twice more, for nodes inside a blossom:
+/// they are read from a table, since a machine can't foresee a branch on a label. Contracts see the change.
+#[derive(Drop)]
+struct Shares {
+    table: [i64; 5],
 }
 
-/// What a change of d adds to the dual of a node with this label and this parent.
-fn gain(d: i64, label: Label, parent: u32) -> i64
-    requires low { pos 0 ≤ℤ d }
-    ensures { result ≡ if parent == 0 then share d label else pos 0 }
-{
-    d * times(label) * once(parent)
+impl Model for Shares {
+    ghost use Rattle.std.specs.Prelude.{◌≡◌, ℤ, pos, slice_index_or};
+    ghost use Rattle.blossom_arena.specs.Fields.{shares_of};
+
+    ghost Value = { ℤ };
+
+    ghost view = { λ s. slice_index_or s.table 0 (pos 0) };
+
+    ghost invariant = { λ s. s.table ≡ shares_of (slice_index_or s.table 0 (pos 0)) };
+}
+
+impl Shares {
+    ghost use Rattle.std.specs.Prelude.{◌≡◌, ◌==◌, ◌≤ℤ◌, pos, if◌then◌else◌};
+    ghost use Rattle.blossom_arena.specs.Changes.{share};
+
+    /// The shares of a change of d.
+    fn of(d: i64) -> Shares
+        requires low { pos 0 ≤ℤ d }
+        ensures { result ≡ d }
+    {
+        Shares {
+            table: [d, -d, 0, 0, 0],
+        }
+    }
+
+    /// What the change adds to the dual of a node with this label and this parent, or 0.
+    fn gain(&self, label: Label, parent: u32) -> i64
+        ensures { result ≡ if parent == 0 then share self.now label else pos 0 }
+    {
+        self.table[class(label) + 2 * usize::from(parent != 0)]
+    }
 }
 
 /// Adds to the dual at a place.
@@ -61,9 +82,10 @@ pub(crate) fn add_gains(
     requires in_range { AreSums duals.old (gain_by parents.now labels.now d) nodes.now }
     ensures { duals.new ≡ added duals.old (gain_by parents.now labels.now d) nodes.now }
 {
+    let shares = Shares::of(d);
     for node in nodes {
         let place = node.number() as usize;
-        let more = gain(d, labels[place], parents[place]);
+        let more = shares.gain(labels[place], parents[place]);
         raise_at(duals, place, more);
     }
 }
