@@ -152,18 +152,17 @@ queued_with s t vs rest q =
     subst (λ (x : Search). IsQueuedBut x vs) (sym rest) h
 
 pub suffices_with : (s t : Search) (vs : List ℕ) → t ≡ record s { scanned = t.scanned } → Suffices s vs → Suffices t vs
-suffices_with s t vs rest h =
-    let graph = ap (λ (x : Search). x.graph) rest in
-    record {
-      vertices = λ w on. ap (λ (x : Search). is_vertex x.graph.vertices w) rest ∙ h.vertices w on;
-      looks = subst (λ (x : Search). ends_around x.graph vs ≤ 2 * length x.graph.edges) (sym rest) h.looks;
-      queued = queued_with s t vs rest h.queued;
-    }
+suffices_with s t vs rest h = record {
+  vertices = λ w on. ap (λ (x : Search). is_vertex x.graph.vertices w) rest ∙ h.vertices w on;
+  looks = subst (λ (x : Search). ends_around x.graph vs ≤ 2 * length x.graph.edges) (sym rest) h.looks;
+  queued = queued_with s t vs rest h.queued;
+}
 
 -- what two calls leave
 pub rest_then : (s t u : Search) → t ≡ record s { scanned = t.scanned } → u ≡ record t { queue = u.queue } → u ≡ record s { queue = u.queue; scanned = u.scanned }
 rest_then s t u first second = subst (λ (x : Search). x ≡ record s { queue = x.queue; scanned = x.scanned }) (sym second) (ap (λ (x : Search). record x { queue = u.queue }) first)
 
+-- the list of nodes has nothing to do with moments, nor with what is to be looked at
 pub standing_then : (s t : Search) → t ≡ record s { queue = t.queue; scanned = t.scanned } → IsStanding s → IsStanding t
 standing_then s t rest h =
     let now : IsStanding (record s { queue = t.queue; scanned = t.scanned }) = record { listed = h.listed; trees = h.trees } in
