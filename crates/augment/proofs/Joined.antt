@@ -1,10 +1,10 @@
 -- What is left to do and to count once two trees are taken away.
-use Rattle.std.proofs.Common.{◌≡◌, ◌≢◌, ℕ, suc, ◌*◌, ◌≤◌, true, List, [], ◌∷◌, length, get_or, Option, Some, None, refl, sym, ap, ◌∙◌, subst, arith, ⊎_elim, All}
+use Rattle.std.proofs.Common.{◌≡◌, ◌≢◌, ℕ, suc, ◌*◌, ◌<◌, ◌≤◌, true, List, [], ◌∷◌, length, get_or, Option, Some, None, refl, sym, ap, ◌∙◌, subst, arith, ⊎_elim}
 use Rattle.std.specs.Prelude.{ℤ, is_some}
 use Rattle.std.proofs.lemmas.Bool.{both_ways, or_parts}
 use Rattle.graph_theory.specs.Graph.{edge_of}
 use Rattle.graph_theory.specs.Parts.{holds}
-use Rattle.graph_theory.proofs.Members.{all_holds, holds_at}
+use Rattle.graph_theory.proofs.Members.{holds_at}
 use Rattle.blossom_arena.specs.Family.{is_vertex}
 use Rattle.blossom_arena.proofs.Ends.{u_vertex, v_vertex}
 use Rattle.blossom_arena.proofs.Lists.{new_from_distinct}
@@ -25,7 +25,9 @@ use Rattle.alt_forest.proofs.Relabelled.{outer_not_out, inner_not_out}
 use Rattle.alt_forest.proofs.Roots.{ways_lead}
 use Rattle.augment.specs.Turns.{with_both}
 use Rattle.augment.specs.Exchange.{IsExchanged}
+use Rattle.augment.specs.Sides.{AreOutermost, outer_vertices}
 use Rattle.augment.proofs.Exchanged.{out_or_not}
+use Rattle.augment.proofs.OuterLists.{Suffices, either_side, outer_suffices, suffices_with}
 use Rattle.augment.proofs.Fewer.{root_counted, none_counted, planted_in}
 use Rattle.augment.proofs.Removed.{away_of}
 
@@ -98,14 +100,27 @@ module _ (s t : Search) (e one other : ℕ) (sound : IsSound s) (rest : t ≡ re
     tree = λ none. let r = h.only f.0 f.1 in r.1 (none f.0 r.0);
   }
 
-  pub queued_but : (f : (a : ℕ) × (holds t.standing.items a ≡ true)) → IsQueued s → IsQueuedBut t t.scanned.items
+  queued_but : (f : (a : ℕ) × (holds t.standing.items a ≡ true)) → IsQueued s → IsQueuedBut t t.scanned.items
   queued_but f q = subst (λ (u : Search). IsQueuedBut u t.scanned.items) (sym rest) (queued_here f q)
 
-  pub scanned_vertices : All (λ v. is_vertex s.graph.vertices v ≡ true) t.scanned.items
-  scanned_vertices = all_holds (λ v. is_vertex s.graph.vertices v ≡ true) t.scanned.items h.vertices
-
-  pub scanned_looks : ends_around s.graph t.scanned.items ≤ 2 * length s.graph.edges
+  scanned_looks : ends_around s.graph t.scanned.items ≤ 2 * length s.graph.edges
   scanned_looks = ends_most s.graph t.scanned.items sound.shape.graph.graph.ends (new_from_distinct t.scanned.items h.different) h.vertices
+
+  pub outermost_listed : AreOutermost t
+  outermost_listed a on = subst (λ (u : Search). IsOutermost (state_of u) a) (sym rest) (h.only a on).0
+
+  scanned_suffices : (f : (a : ℕ) × (holds t.standing.items a ≡ true)) → IsQueued s → Suffices t t.scanned.items
+  scanned_suffices f q = record {
+    vertices = λ w on. ap (λ (u : Search). is_vertex u.graph.vertices w) rest ∙ h.vertices w on;
+    looks = subst (λ (u : Search). ends_around u.graph t.scanned.items ≤ 2 * length u.graph.edges) (sym rest) scanned_looks;
+    queued = queued_but f q;
+  }
+
+  -- and so will looks at the side that is taken
+  pub side_suffices : (f : (a : ℕ) × (holds t.standing.items a ≡ true)) → IsQueued s → IsSound t → (u : Search) → u ≡ record t { scanned = u.scanned } → (2 * length (outer_vertices t) ≤ length t.scanned.items → u.scanned.items ≡ outer_vertices t)
+      → (length t.scanned.items < 2 * length (outer_vertices t) → u.scanned.items ≡ t.scanned.items) → Suffices u u.scanned.items
+  side_suffices f q now u taken few many = suffices_with t u u.scanned.items taken
+      (either_side (Suffices t) t.scanned.items (outer_vertices t) u.scanned.items few many (scanned_suffices f q) (outer_suffices t now h.standing outermost_listed t.scanned.items (queued_but f q)))
 
 -- a list that isn't empty has a first one
 pub first_of : (xs : List ℕ) → length xs ≢ 0 → (a : ℕ) × (holds xs a ≡ true)

@@ -17,4 +17,5 @@ pub mod Uprooted
 pub mod Felled
 pub mod Exchanged
 pub mod Fewer
+pub mod OuterLists
 pub mod Joined

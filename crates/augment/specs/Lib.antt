@@ -1,5 +1,6 @@
 pub mod Turns
 pub mod Felling
 pub mod Exchange
+pub mod Sides
 pub mod Matching
 pub mod Opening

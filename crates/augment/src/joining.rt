@@ -10,6 +10,7 @@ ghost use Rattle.alt_forest.specs.Entries.{IsQueued, entry_count};
 ghost use Rattle.alt_forest.specs.Standing.{IsStanding};
 
 use crate::flips::exchange;
+use crate::sides::take_smaller_side;
 use alt_forest::Search;
 use mb_base::{EdgeId, Steps};
 use std::sync::ledger::Ledger;
@@ -18,9 +19,9 @@ use weighted_graph::Graph;
 /// Flips the path between the roots of the two trees that the tight edge `e` joins, so that both are matched,
 /// and takes these two trees away: exactly their nodes are labelled out (chapters 24 and 26). Every other tree
 /// stays as it is, with its moments, and so do blossoms and duals. It counts one step for itself and looks once
-/// at most for each end of an edge at a vertex of the two trees; an edge that leads from there to an outer node
-/// gets its moment. It answers whether a tree is left, and where none is it ends as `clear` does. It takes no
-/// memory.
+/// at most for each end of an edge at a vertex of the two trees, or of the outer nodes of the trees that stay
+/// where these are few; an edge that leads from an outer node to a node of the two trees gets its moment. It
+/// answers whether a tree is left, and where none is it ends as `clear` does. It takes no memory.
 pub fn join<L: Ledger>(search: &mut Search, graph: &Graph, e: EdgeId, steps: &mut Steps<L>) -> bool
     requires sound { IsSound search.old }
     requires queued { IsQueued search.old }
@@ -51,6 +52,7 @@ pub fn join<L: Ledger>(search: &mut Search, graph: &Graph, e: EdgeId, steps: &mu
         search.clear();
         return false;
     }
+    take_smaller_side(search);
     search.enter_scanned(graph, steps);
     true
 }

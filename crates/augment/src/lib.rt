@@ -8,6 +8,7 @@ mod flips;
 mod joining;
 mod marking;
 mod opening;
+mod sides;
 mod turning;
 
 pub use flips::flip;

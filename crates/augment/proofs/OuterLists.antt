@@ -1,0 +1,169 @@
+-- The vertices of the outer nodes that are listed: none stands there twice, and looks at their edges will do.
+use Rattle.std.proofs.Common.{◌≡◌, ◌≢◌, ℕ, ◌+◌, ◌*◌, ◌<◌, ◌≤◌, true, false, cond, List, [], ◌∷◌, ◌++◌, length, take, get_or, Option, refl, sym, ap, ◌∙◌, subst, arith, ⊎_elim}
+use Rattle.std.specs.Prelude.{is_some, nat_eq}
+use Rattle.std.specs.List.{IsDistinct, flat_map}
+use Rattle.std.proofs.lemmas.Bool.{both_ways, eqb-true, or_cases, or_left, or_right, or_parts, false_from_ne_true, cases_lt}
+use Rattle.std.proofs.lemmas.List.{take_more, append-nil}
+use Rattle.std.proofs.lemmas.List.Concat.{flat_map-append}
+use Rattle.std.proofs.lemmas.List.Folds.{length-flat_map-take}
+use Rattle.graph_theory.specs.Graph.{IsEdgeNumber, edge_of}
+use Rattle.graph_theory.specs.Parts.{holds}
+use Rattle.graph_theory.proofs.Members.{holds-append}
+use Rattle.blossom_arena.specs.Family.{IsNested, is_vertex, members_of, outermost}
+use Rattle.blossom_arena.proofs.Ends.{u_vertex, v_vertex}
+use Rattle.blossom_arena.proofs.Lists.{by_test, AllNew, new_from_distinct, new-append, length-within, vertices, holds-vertices, length-vertices, first_in, later_in}
+use Rattle.blossom_arena.proofs.Nested.{outermost_parts}
+use Rattle.blossom_arena.proofs.Sets.{member_vertex, members_new, outermost_has, outermost_by_member}
+use Rattle.alt_forest.specs.declared.label.Label.{Label}
+use Rattle.alt_forest.specs.declared.label.Label.TheVariants.{Outer}
+use Rattle.alt_forest.specs.declared.search.Search.{Search}
+use Rattle.alt_forest.specs.State.{IsOutermost, Joins}
+use Rattle.alt_forest.specs.Entries.{IsQueuedBut, touches_any, ends_around}
+use Rattle.alt_forest.specs.Searches.{IsSound, state_of, label_at}
+use Rattle.alt_forest.specs.Standing.{IsStanding}
+use Rattle.alt_forest.specs.Trees.{is_label}
+use Rattle.alt_forest.proofs.Looks.{ends_most}
+use Rattle.alt_forest.proofs.Places.{nested_of}
+use Rattle.alt_forest.proofs.Relabelled.{outer_not_out}
+use Rattle.augment.specs.Sides.{AreOutermost, outer_part, outer_vertices}
+
+-- lists put behind one another have just what one of them has
+flat_part : (f : ℕ → List ℕ) (xs : List ℕ) (w : ℕ) → holds (flat_map f xs) w ≡ true → (a : ℕ) × (holds xs a ≡ true) × (holds (f a) w ≡ true)
+flat_part f [] w e = absurd (both_ways false refl e)
+flat_part f (x ∷ xs) w e = ⊎_elim
+    (λ t. (x, first_in x xs, t))
+    (λ t. let r = flat_part f xs w t in (r.0, later_in x xs r.0 r.1, r.2))
+    (or_cases (holds (f x) w) (holds (flat_map f xs) w) (sym (holds-append (f x) (flat_map f xs) w) ∙ e))
+
+flat_has : (f : ℕ → List ℕ) (xs : List ℕ) (a w : ℕ) → holds xs a ≡ true → holds (f a) w ≡ true → holds (flat_map f xs) w ≡ true
+flat_has f [] a w on e = absurd (both_ways false refl on)
+flat_has f (x ∷ xs) a w on e = holds-append (f x) (flat_map f xs) w ∙ ⊎_elim
+    (λ t. or_left (holds (f x) w) (holds (flat_map f xs) w) (ap (λ y. holds (f y) w) (eqb-true x a t) ∙ e))
+    (λ t. or_right (holds (f x) w) (holds (flat_map f xs) w) (flat_has f xs a w t e))
+    (or_cases (nat_eq x a) (holds xs a) on)
+
+-- none stands there twice where none stands in two of them
+flat_new : (f : ℕ → List ℕ) (xs : List ℕ) → AllNew xs → ((a : ℕ) → holds xs a ≡ true → AllNew (f a))
+    → ((a b w : ℕ) → holds xs a ≡ true → holds xs b ≡ true → holds (f a) w ≡ true → holds (f b) w ≡ true → a ≡ b) → AllNew (flat_map f xs)
+flat_new f [] new each apart = tt
+flat_new f (x ∷ xs) new each apart =
+    new-append (f x) (flat_map f xs) (each x (first_in x xs))
+    (flat_new f xs new.1 (λ a on. each a (later_in x xs a on)) (λ a b w p q. apart a b w (later_in x xs a p) (later_in x xs b q)))
+    (λ w e. false_from_ne_true (holds (flat_map f xs) w) (λ t.
+    let r = flat_part f xs w t in
+    both_ways (holds xs x) new.0 (ap (holds xs) (apart x r.0 w (first_in x xs) (later_in x xs r.0 r.1) e r.2) ∙ r.1)))
+
+-- one list more
+pub flat_more : (f : ℕ → List ℕ) (xs : List ℕ) (i : ℕ) → i < length xs → flat_map f (take (i + 1) xs) ≡ flat_map f (take i xs) ++ f (get_or xs i 0)
+flat_more f xs i low =
+    ap (flat_map f) (take_more xs i 0 low) ∙ flat_map-append f (take i xs) (get_or xs i 0 ∷ []) ∙ ap (λ ys. flat_map f (take i xs) ++ ys) (append-nil (f (get_or xs i 0)))
+
+tests_outer : (k : Label) → k ≡ Outer → is_label k Outer ≡ true
+tests_outer k e = ap (λ x. is_label x Outer) e
+
+module _ (s : Search) (nested : IsNested s.graph.vertices s.arena.blossoms) (all : AreOutermost s) where
+  part_new : (a : ℕ) → IsOutermost (state_of s) a → AllNew (outer_part s a)
+  part_new a is =
+      elim (is_label (label_at s.labels.items a) Outer) as (λ b. AllNew (cond b (members_of s.arena.blossoms a) [])) [
+        | true ↦ members_new s.graph.vertices s.arena.blossoms a nested (outermost_parts s.graph.vertices s.arena.blossoms a is).0
+        | false ↦ tt
+      ]
+
+  part_member : (a w : ℕ) → holds (outer_part s a) w ≡ true → holds (members_of s.arena.blossoms a) w ≡ true
+  part_member a w e = by_test (is_label (label_at s.labels.items a) Outer)
+      (λ t. sym (ap (λ b. holds (cond b (members_of s.arena.blossoms a) []) w) t) ∙ e)
+      (λ t. absurd (both_ways false refl (sym (ap (λ b. holds (cond b (members_of s.arena.blossoms a) []) w) t) ∙ e)))
+
+  part_outermost : (a w : ℕ) → holds s.standing.items a ≡ true → holds (outer_part s a) w ≡ true → outermost s.arena.blossoms w ≡ a
+  part_outermost a w on e = outermost_by_member s.graph.vertices s.arena.blossoms a w nested (all a on) (part_member a w e)
+
+  pub outer_new : IsDistinct nat_eq s.standing.items → AllNew (outer_vertices s)
+  outer_new different = flat_new (outer_part s) s.standing.items (new_from_distinct s.standing.items different)
+      (λ a on. part_new a (all a on))
+      (λ a b w p q e f. sym (part_outermost a w p e) ∙ part_outermost b w q f)
+
+  pub outer_vertex : (w : ℕ) → holds (outer_vertices s) w ≡ true → is_vertex s.graph.vertices w ≡ true
+  outer_vertex w e =
+      let r = flat_part (outer_part s) s.standing.items w e in
+      member_vertex s.graph.vertices s.arena.blossoms r.0 w nested (outermost_parts s.graph.vertices s.arena.blossoms r.0 (all r.0 r.1)).0 (part_member r.0 w r.2)
+
+  outer_has : (w : ℕ) → is_vertex s.graph.vertices w ≡ true → label_at s.labels.items (outermost s.arena.blossoms w) ≡ Outer → holds s.standing.items (outermost s.arena.blossoms w) ≡ true → holds (outer_vertices s) w ≡ true
+  outer_has w is outer on = flat_has (outer_part s) s.standing.items (outermost s.arena.blossoms w) w on
+      (ap (λ b. holds (cond b (members_of s.arena.blossoms (outermost s.arena.blossoms w)) []) w) (tests_outer (label_at s.labels.items (outermost s.arena.blossoms w)) outer)
+      ∙ (outermost_has s.graph.vertices s.arena.blossoms w nested is).1)
+
+  -- there is room for the vertices of one node more
+  pub room_more : IsDistinct nat_eq s.standing.items → (place : ℕ) → place < length s.standing.items
+      → length (flat_map (outer_part s) (take place s.standing.items)) + length (outer_part s (get_or s.standing.items place 0)) ≤ s.graph.vertices
+  room_more different place low =
+      let n : ℕ = s.graph.vertices in
+      let within = length-within (outer_vertices s) (vertices n) (outer_new different) (λ w e. holds-vertices n w ∙ outer_vertex w e) in
+      omega (arith, within, length-vertices n, length-flat_map-take (outer_part s) s.standing.items place 0 low)
+
+-- Looks at the edges at these vertices will do, and are few.
+pub record Suffices (s : Search) (vs : List ℕ) : Type 0 where
+  pub vertices : (w : ℕ) → holds vs w ≡ true → is_vertex s.graph.vertices w ≡ true
+  pub looks : ends_around s.graph vs ≤ 2 * length s.graph.edges
+  pub queued : IsQueuedBut s vs
+
+-- An edge that touches none of the vertices of outer nodes needs no moment.
+module _ (s : Search) (sound : IsSound s) (standing : IsStanding s) (all : AreOutermost s) where
+  no_outer : (w : ℕ) → is_vertex s.graph.vertices w ≡ true → holds (outer_vertices s) w ≡ false → label_at s.labels.items (outermost s.arena.blossoms w) ≢ Outer
+  no_outer w is none outer =
+      let nested = nested_of s sound.shape in
+      let there = standing.trees (outermost s.arena.blossoms w) (outermost_has s.graph.vertices s.arena.blossoms w nested is).0 (λ q. outer_not_out (sym outer ∙ q)) in
+      both_ways (holds (outer_vertices s) w) none (outer_has s nested all w is outer (sym (standing.listed.seeded (outermost s.arena.blossoms w)) ∙ ap (λ (o : Option ℕ). is_some o) there.1))
+
+  no_outer_end : (d a b : ℕ) → IsEdgeNumber s.graph d → touches_any (outer_vertices s) (edge_of s.graph d) ≡ false → Joins s.graph s.arena.blossoms d a b → label_at s.labels.items a ≢ Outer
+  no_outer_end d a b number none joins outer =
+      let parts = or_parts (holds (outer_vertices s) (edge_of s.graph d).u) (holds (outer_vertices s) (edge_of s.graph d).v) none in
+      ⊎_elim
+      (λ p. no_outer (edge_of s.graph d).u (u_vertex s.graph d sound.shape.graph.graph.ends number) parts.0 (ap (label_at s.labels.items) p.0 ∙ outer))
+      (λ p. no_outer (edge_of s.graph d).v (v_vertex s.graph d sound.shape.graph.graph.ends number) parts.1 (ap (label_at s.labels.items) p.1 ∙ outer))
+      joins
+
+  pub outer_suffices : (vs : List ℕ) → IsQueuedBut s vs → Suffices s (outer_vertices s)
+  outer_suffices vs q = record {
+    vertices = outer_vertex s (nested_of s sound.shape) all;
+    looks = ends_most s.graph (outer_vertices s) sound.shape.graph.graph.ends (outer_new s (nested_of s sound.shape) all standing.listed.different) (outer_vertex s (nested_of s sound.shape) all);
+    queued = record {
+      low = q.low;
+      high = q.high;
+      edges = λ d number none. record {
+        to_out = λ a b joins outer out. absurd (no_outer_end d a b number none joins outer);
+        between = λ a b half joins ne outer other twice. absurd (no_outer_end d a b number none joins outer);
+      };
+      blossoms = q.blossoms;
+      tree = q.tree;
+    };
+  }
+
+-- one list or the other, as they are long
+pub either_side : (P : List ℕ → Type 0) (xs ys zs : List ℕ) → (2 * length ys ≤ length xs → zs ≡ ys) → (length xs < 2 * length ys → zs ≡ xs) → P xs → P ys → P zs
+either_side P xs ys zs few many p q = ⊎_elim
+    (λ less. subst P (sym (many less)) p)
+    (λ most. subst P (sym (few (omega (arith, most)))) q)
+    (cases_lt (length xs) (2 * length ys))
+
+-- what is to be looked at has nothing to do with what is entered
+queued_with : (s t : Search) (vs : List ℕ) → t ≡ record s { scanned = t.scanned } → IsQueuedBut s vs → IsQueuedBut t vs
+queued_with s t vs rest q =
+    let h : IsQueuedBut (record s { scanned = t.scanned }) vs = record { low = q.low; high = q.high; edges = q.edges; blossoms = q.blossoms; tree = q.tree } in
+    subst (λ (x : Search). IsQueuedBut x vs) (sym rest) h
+
+pub suffices_with : (s t : Search) (vs : List ℕ) → t ≡ record s { scanned = t.scanned } → Suffices s vs → Suffices t vs
+suffices_with s t vs rest h = record {
+  vertices = λ w on. ap (λ (x : Search). is_vertex x.graph.vertices w) rest ∙ h.vertices w on;
+  looks = subst (λ (x : Search). ends_around x.graph vs ≤ 2 * length x.graph.edges) (sym rest) h.looks;
+  queued = queued_with s t vs rest h.queued;
+}
+
+-- what two calls leave
+pub rest_then : (s t u : Search) → t ≡ record s { scanned = t.scanned } → u ≡ record t { queue = u.queue } → u ≡ record s { queue = u.queue; scanned = u.scanned }
+rest_then s t u first second = subst (λ (x : Search). x ≡ record s { queue = x.queue; scanned = x.scanned }) (sym second) (ap (λ (x : Search). record x { queue = u.queue }) first)
+
+-- the list of nodes has nothing to do with moments, nor with what is to be looked at
+pub standing_then : (s t : Search) → t ≡ record s { queue = t.queue; scanned = t.scanned } → IsStanding s → IsStanding t
+standing_then s t rest h =
+    let now : IsStanding (record s { queue = t.queue; scanned = t.scanned }) = record { listed = h.listed; trees = h.trees } in
+    subst IsStanding (sym rest) now

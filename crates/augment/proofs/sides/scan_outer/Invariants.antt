@@ -1,0 +1,12 @@
+use Rattle.std.proofs.Common.{◌≡◌, take}
+use Rattle.std.specs.List.{flat_map}
+use Rattle.alt_forest.specs.Searches.{HasShape}
+use Rattle.augment.specs.Sides.{outer_part}
+use Rattle.augment.proofs.sides.scan_outer.Given as goal
+
+abbrev pub invariant-loop-place : goal.invariant-loop-place
+invariant-loop-place l = record {
+  rest : l.search ≡ record l.fn.search { scanned = l.search.scanned };
+  shape : HasShape l.search;
+  scanned : l.search.scanned.items ≡ flat_map (outer_part l.fn.search) (take l.place l.fn.search.standing.items);
+}
