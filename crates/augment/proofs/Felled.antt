@@ -1,7 +1,7 @@
 -- The list is gone through, and the nodes of two trees are labelled out and taken off it.
-use Rattle.std.proofs.Common.{◌≡◌, ◌≢◌, ℕ, ◌+◌, ◌<◌, ◌≤◌, true, false, not, ◌&&◌, cond, List, [], ◌++◌, length, get_or, Option, Some, None, refl, sym, ap, ◌∙◌, subst, arith, ⊎_elim, length-append}
-use Rattle.std.specs.Prelude.{is_some}
-use Rattle.std.proofs.lemmas.Bool.{cases_eq, both_ways, and_parts, or_left, or_right, or_cases}
+use Rattle.std.proofs.Common.{◌≡◌, ◌≢◌, ℕ, ◌+◌, ◌<◌, ◌≤◌, true, false, not, ◌&&◌, cond, List, [], ◌++◌, length, vec_len, get_or, Option, Some, None, refl, sym, ap, ◌∙◌, subst, arith, ⊎_elim, length-append}
+use Rattle.std.specs.Prelude.{Bool, is_some}
+use Rattle.std.proofs.lemmas.Bool.{cases_eq, cases_lt, both_ways, and_parts, and_from, or_left, or_right, or_cases, not_from_true, not_from_false}
 use Rattle.graph_theory.specs.Parts.{holds}
 use Rattle.graph_theory.proofs.Members.{holds_place, holds_at, holds-append}
 use Rattle.blossom_arena.specs.Family.{Blossom, IsNested, is_node, is_vertex, is_outermost, members_of, outermost}
@@ -15,7 +15,7 @@ use Rattle.alt_forest.specs.Searches.{label_at, put}
 use Rattle.alt_forest.specs.Standing.{AreListed, seed_at}
 use Rattle.alt_forest.specs.Trees.{is_label}
 use Rattle.alt_forest.proofs.Relabelled.{put_here, put_other}
-use Rattle.augment.specs.Felling.{stands, leads_to, falls, AreSeeded, IsFelled}
+use Rattle.augment.specs.Felling.{stands, leads_to, falls, stays, AreSeeded, IsFelled}
 
 -- a node that falls stands, and is listed
 falls_stands : (s : Search) (one other a : ℕ) → falls s one other a ≡ true → stands s a ≡ true
@@ -59,14 +59,11 @@ module _ (s : Search) (one other : ℕ) where
   }
 
   module _ (l : ℕ → Label) (seed : ℕ → Option ℕ) (nodes scanned : List ℕ) (place : ℕ) (h : IsFelling s one other l seed nodes scanned place) where
-    -- a node that stays
-    pub felling_stays : stands s (get_or nodes place 0) ≡ true → falls s one other (get_or nodes place 0) ≡ false → IsFelling s one other l seed nodes scanned (place + 1)
-    felling_stays st free = record {
+    -- nodes that stay
+    pub felling_stays : (next : ℕ) → ((k : ℕ) → place ≤ k → k < next → (stands s (get_or nodes k 0) ≡ true) × (falls s one other (get_or nodes k 0) ≡ false)) → IsFelling s one other l seed nodes scanned next
+    felling_stays next stay = record {
       seeds = h.seeds;
-      checked = λ k low. ⊎_elim
-          (λ q. (ap (λ i. stands s (get_or nodes i 0)) q ∙ st, ap (λ i. falls s one other (get_or nodes i 0)) q ∙ free))
-          (λ ne. h.checked k (omega (arith, low, ne)))
-          (cases_eq k place);
+      checked = λ k low. ⊎_elim (λ before. h.checked k before) (λ behind. stay k behind low) (cases_lt k place);
       same = h.same;
       off = h.off;
       all = h.all;
@@ -165,39 +162,78 @@ module _ (s : Search) (one other : ℕ) where
             let within = length-within (scanned ++ members_of s.arena.blossoms node) (vertices n) none_twice (λ w e. holds-vertices n w ∙ (inside_after w e).0) in
             omega (arith, within, length-vertices n, length-append scanned (members_of s.arena.blossoms node))
 
+-- The seed of a node that stays leads to neither of the two roots, and that of one that stands and leaves leads to one of them.
+leads_not : (s : Search) (one other a : ℕ) → stays s one other a ≡ true → (stands s a ≡ true) × (leads_to s.arena.blossoms one other (seed_at s.seeds.items a) ≡ false)
+leads_not s one other a e =
+    let leads : Bool = leads_to s.arena.blossoms one other (seed_at s.seeds.items a) in
+    let r = and_parts (stands s a) (not leads) e in
+    (r.0, by_test leads (λ t. absurd (both_ways (not leads) (not_from_true leads t) r.1)) (λ t. t))
+
+pub leads_on : (s : Search) (one other a : ℕ) → stays s one other a ≡ false → stands s a ≡ true → leads_to s.arena.blossoms one other (seed_at s.seeds.items a) ≡ true
+leads_on s one other a e st =
+    let leads : Bool = leads_to s.arena.blossoms one other (seed_at s.seeds.items a) in
+    by_test leads (λ t. t) (λ t. absurd (both_ways (stays s one other a) e (and_from (stands s a) (not leads) st (not_from_false leads t))))
+
+-- The list, as far as it is gone through.
+module _ (s t : Search) (one other place : ℕ) (rest : t ≡ record s { labels = t.labels; standing = t.standing; seeds = t.seeds; scanned = t.scanned })
+    (h : IsFelling s one other (label_at t.labels.items) (seed_at t.seeds.items) t.standing.items t.scanned.items place) where
+  stands_with : (a : ℕ) → label_at t.labels.items a ≡ label_at s.labels.items a → stands t a ≡ stands s a
+  stands_with a same = ap (λ (u : Search). is_outermost u.graph.vertices u.arena.blossoms a && not (is_label (label_at t.labels.items a) Out)) rest
+      ∙ ap (λ k. is_outermost s.graph.vertices s.arena.blossoms a && not (is_label k Out)) same
+
+  stands_on : (a : ℕ) → is_some (seed_at t.seeds.items a) ≡ true → stands t a ≡ stands s a
+  stands_on a on = stands_with a (h.same a on)
+
+  seed_on : (a : ℕ) → is_some (seed_at t.seeds.items a) ≡ true → seed_at t.seeds.items a ≡ seed_at s.seeds.items a
+  seed_on a on = by_seed (seed_at t.seeds.items a) refl on
+    where
+      by_seed : (o : Option ℕ) → seed_at t.seeds.items a ≡ o → is_some o ≡ true → seed_at t.seeds.items a ≡ seed_at s.seeds.items a
+      by_seed None e some = absurd (both_ways false refl some)
+      by_seed (Some v) e some = e ∙ sym (h.seeds a v e)
+
+  falls_on_list : (a : ℕ) → is_some (seed_at t.seeds.items a) ≡ true → stands t a ≡ true → falls s one other a ≡ leads_to t.arena.blossoms one other (seed_at t.seeds.items a)
+  falls_on_list a on st = ap (λ q. q && leads_to s.arena.blossoms one other (seed_at s.seeds.items a)) (sym (stands_on a on) ∙ st)
+      ∙ ap (leads_to s.arena.blossoms one other) (sym (seed_on a on))
+      ∙ ap (λ (u : Search). leads_to u.arena.blossoms one other (seed_at t.seeds.items a)) (sym rest)
+
+  -- a node that still stands has not been taken off the list
+  still_on : (a : ℕ) → stands t a ≡ true → is_some (seed_at t.seeds.items a) ≡ true
+  still_on a st = by_test (is_some (seed_at t.seeds.items a)) (λ on. on)
+      (λ off. by_test (falls s one other a)
+      (λ f. absurd (both_ways (not (is_label (label_at t.labels.items a) Out)) (ap (λ k. not (is_label k Out)) (h.off a off ∙ ap (λ q. cond q Out (label_at s.labels.items a)) f)) (and_parts (is_outermost t.graph.vertices t.arena.blossoms a) (not (is_label (label_at t.labels.items a) Out)) st).1))
+      (λ f. h.all a (sym (stands_with a (h.off a off ∙ ap (λ q. cond q Out (label_at s.labels.items a)) f)) ∙ st) f))
+
+  pub seeded_still : AreSeeded s → AreSeeded t
+  seeded_still seeded a st =
+      let on = still_on a st in
+      let r = seeded a (sym (stands_on a on) ∙ st) in
+      (r.0, seed_on a on ∙ r.1, ap (λ (u : Search). is_vertex u.graph.vertices r.0) rest ∙ r.2)
+
+  module _ (listed : AreListed t.graph.vertices t.standing.items t.seeds.items) where
+    -- the nodes from here to a later place stay
+    pub stays_on : (next : ℕ) → next ≤ vec_len t.standing → ((k : ℕ) → place ≤ k → k < next → stays t one other (get_or t.standing.items k 0) ≡ true)
+        → IsFelling s one other (label_at t.labels.items) (seed_at t.seeds.items) t.standing.items t.scanned.items next
+    stays_on next high stay = felling_stays s one other (label_at t.labels.items) (seed_at t.seeds.items) t.standing.items t.scanned.items place h next
+        (λ k behind low.
+        let a : ℕ = get_or t.standing.items k 0 in
+        let on : is_some (seed_at t.seeds.items a) ≡ true = listed.seeded a ∙ holds_at t.standing.items k 0 (omega (arith, low, high, t.standing.ok.0)) in
+        let r = leads_not t one other a (stay k behind low) in
+        (sym (stands_on a on) ∙ r.0, falls_on_list a on r.0 ∙ r.1))
+
 -- The node at a place of the list.
 module _ (s t : Search) (one other place : ℕ) (rest : t ≡ record s { labels = t.labels; standing = t.standing; seeds = t.seeds; scanned = t.scanned }) (listed : AreListed t.graph.vertices t.standing.items t.seeds.items)
     (h : IsFelling s one other (label_at t.labels.items) (seed_at t.seeds.items) t.standing.items t.scanned.items place) (low : place < length t.standing.items) where
   abbrev here : ℕ
   here = get_or t.standing.items place 0
 
-  pub is_on : is_some (seed_at t.seeds.items here) ≡ true
+  is_on : is_some (seed_at t.seeds.items here) ≡ true
   is_on = listed.seeded here ∙ holds_at t.standing.items place 0 low
 
-  pub stands_same : stands t here ≡ stands s here
-  stands_same = ap (λ (u : Search). is_outermost u.graph.vertices u.arena.blossoms here && not (is_label (label_at t.labels.items here) Out)) rest
-      ∙ ap (λ k. is_outermost s.graph.vertices s.arena.blossoms here && not (is_label k Out)) (h.same here is_on)
+  stands_same : stands t here ≡ stands s here
+  stands_same = stands_on s t one other place rest h here is_on
 
-  seed_same : seed_at t.seeds.items here ≡ seed_at s.seeds.items here
-  seed_same = by_seed (seed_at t.seeds.items here) refl is_on
-    where
-      by_seed : (o : Option ℕ) → seed_at t.seeds.items here ≡ o → is_some o ≡ true → seed_at t.seeds.items here ≡ seed_at s.seeds.items here
-      by_seed None e some = absurd (both_ways false refl some)
-      by_seed (Some v) e some = e ∙ sym (h.seeds here v e)
-
-  pub falls_same : stands t here ≡ true → falls s one other here ≡ leads_to t.arena.blossoms one other (seed_at t.seeds.items here)
-  falls_same st = ap (λ q. q && leads_to s.arena.blossoms one other (seed_at s.seeds.items here)) (sym stands_same ∙ st)
-      ∙ ap (leads_to s.arena.blossoms one other) (sym seed_same)
-      ∙ ap (λ (u : Search). leads_to u.arena.blossoms one other (seed_at t.seeds.items here)) (sym rest)
-
-  pub seed_there : AreSeeded s → stands t here ≡ true → (v : ℕ) × (seed_at t.seeds.items here ≡ Some v) × (is_vertex t.graph.vertices v ≡ true)
-  seed_there seeded st =
-      let r = seeded here (sym stands_same ∙ st) in
-      (r.0, seed_same ∙ r.1, ap (λ (u : Search). is_vertex u.graph.vertices r.0) rest ∙ r.2)
-
-  -- in a tree, and not of these two
-  pub stays_on : stands t here ≡ true → leads_to t.arena.blossoms one other (seed_at t.seeds.items here) ≡ false → IsFelling s one other (label_at t.labels.items) (seed_at t.seeds.items) t.standing.items t.scanned.items (place + 1)
-  stays_on st none = felling_stays s one other (label_at t.labels.items) (seed_at t.seeds.items) t.standing.items t.scanned.items place h (sym stands_same ∙ st) (falls_same st ∙ none)
+  falls_same : stands t here ≡ true → falls s one other here ≡ leads_to t.arena.blossoms one other (seed_at t.seeds.items here)
+  falls_same st = falls_on_list s t one other place rest h here is_on st
 
   pub drops_off : (u : Search) → stands t here ≡ false → u ≡ record t { standing = u.standing; seeds = u.seeds } → seed_at u.seeds.items ≡ put (seed_at t.seeds.items) here None → ((k : ℕ) → k < place → get_or u.standing.items k 0 ≡ get_or t.standing.items k 0)
       → IsFelling s one other (label_at u.labels.items) (seed_at u.seeds.items) u.standing.items u.scanned.items place

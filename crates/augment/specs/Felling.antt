@@ -22,6 +22,10 @@ leads_to bs one other (Some v) = (outermost bs v == one) || (outermost bs v == o
 abbrev pub falls : Search → ℕ → ℕ → ℕ → Bool
 falls s one other a = stands s a && leads_to s.arena.blossoms one other (seed_at s.seeds.items a)
 
+-- a node in a tree, and of neither of the trees of these two roots
+abbrev pub stays : Search → ℕ → ℕ → ℕ → Bool
+stays s one other a = stands s a && not (leads_to s.arena.blossoms one other (seed_at s.seeds.items a))
+
 -- each node in a tree has a vertex as its seed
 abbrev pub AreSeeded : Search → Type 0
 AreSeeded s = (a : ℕ) → stands s a ≡ true → (v : ℕ) × (seed_at s.seeds.items a ≡ Some v) × (is_vertex s.graph.vertices v ≡ true)

@@ -1,11 +1,11 @@
-ghost use Rattle.std.specs.Prelude.{◌≡◌, ◌<◌, ◌≤◌, ◌+◌, ◌++◌, ◌&&◌, ℕ, true, not, None, Some, [], length, vec_len, get_or, if◌then◌else◌};
+ghost use Rattle.std.specs.Prelude.{◌≡◌, ◌<◌, ◌≤◌, ◌+◌, ◌++◌, ◌&&◌, ℕ, true, false, not, None, Some, [], length, vec_len, get_or, if◌then◌else◌};
 ghost use Rattle.std.specs.Vec.{vec_capacity};
 ghost use Rattle.blossom_arena.specs.Family.{is_vertex, members_of};
 ghost use Rattle.blossom_arena.specs.declared.label.Label.TheVariants.{Out};
 ghost use Rattle.alt_forest.specs.Searches.{HasShape, label_at, put};
 ghost use Rattle.alt_forest.specs.Standing.{AreListed, seed_at};
 ghost use Rattle.alt_forest.specs.Trees.{node_limit};
-ghost use Rattle.augment.specs.Felling.{stands, leads_to, falls, AreSeeded, IsFelled};
+ghost use Rattle.augment.specs.Felling.{stands, leads_to, falls, stays, AreSeeded, IsFelled};
 
 use alt_forest::{Label, Search, set_label};
 use blossom_arena::NodeId;
@@ -35,6 +35,37 @@ fn is_led(search: &Search, node: NodeId, one: NodeId, other: NodeId) -> bool
         }
         None => false,
     }
+}
+
+/// Whether a node is in a tree, and in neither of the trees of two roots.
+fn stays(search: &Search, node: NodeId, one: NodeId, other: NodeId) -> bool
+    requires shape { HasShape search.now }
+    requires seeded { AreSeeded search.now }
+    ensures { result ≡ stays search.now one other node }
+{
+    if !stands(search, node) {
+        return false;
+    }
+    !is_led(search, node, one, other)
+}
+
+/// The first place of the list, from this one on, whose node leaves it: it stands no longer, or it is of one of the
+/// trees of two roots. The length of the list where none does.
+fn next_leaving(search: &Search, from: usize, one: NodeId, other: NodeId) -> usize
+    requires shape { HasShape search.now }
+    requires seeded { AreSeeded search.now }
+    requires from { from ≤ vec_len search.now.standing }
+    ensures low { from ≤ result }
+    ensures high { result ≤ vec_len search.now.standing }
+    ensures stays { (k : ℕ) → from ≤ k → k < result → stays search.now one other (get_or search.now.standing.items k 0) ≡ true }
+    ensures leaves { result < vec_len search.now.standing → stays search.now one other (get_or search.now.standing.items result 0) ≡ false }
+{
+    for place in from..search.standing.len() {
+        if !stays(search, search.standing[place], one, other) {
+            return place;
+        }
+    }
+    search.standing.len()
 }
 
 /// Labels the node at a place of the list out, keeps its vertices for looks and takes it off the list.
@@ -71,16 +102,15 @@ pub(crate) fn fell(search: &mut Search, one: NodeId, other: NodeId)
 {
     search.scanned.clear();
     let mut place = 0;
-    'list: while place < search.standing.len() {
-        let node = search.standing[place];
-        if !stands(search, node) {
+    'list: loop {
+        place = next_leaving(search, place, one, other);
+        if place >= search.standing.len() {
+            return;
+        }
+        if !stands(search, search.standing[place]) {
             search.unlist(place);
             continue;
         }
-        if is_led(search, node, one, other) {
-            fell_at(search, place);
-            continue;
-        }
-        place += 1;
+        fell_at(search, place);
     }
 }

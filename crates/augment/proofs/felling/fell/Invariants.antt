@@ -1,4 +1,4 @@
-use Rattle.std.proofs.Common.{◌≡◌, ◌-◌, vec_len}
+use Rattle.std.proofs.Common.{◌≡◌, ◌≤◌, vec_len}
 use Rattle.alt_forest.specs.Searches.{HasShape, label_at}
 use Rattle.alt_forest.specs.Standing.{AreListed, seed_at}
 use Rattle.augment.proofs.Felled.{IsFelling}
@@ -9,8 +9,9 @@ invariant-list l = record {
   rest : l.search ≡ record l.fn.search { labels = l.search.labels; standing = l.search.standing; seeds = l.search.seeds; scanned = l.search.scanned };
   shape : HasShape l.search;
   listed : AreListed l.search.graph.vertices l.search.standing.items l.search.seeds.items;
+  place : l.place ≤ vec_len l.search.standing;
   felling : IsFelling l.fn.search l.one l.other (label_at l.search.labels.items) (seed_at l.search.seeds.items) l.search.standing.items l.search.scanned.items l.place;
 }
 
 abbrev pub decreases-list : goal.decreases-list
-decreases-list l = vec_len l.search.standing - l.place
+decreases-list l = vec_len l.search.standing
