@@ -14,8 +14,8 @@ use Rattle.blossom_arena.proofs.Ends.{u_vertex, v_vertex}
 use Rattle.blossom_arena.proofs.Lists.{by_test, AllNew, new_from_distinct, new-append, length-within, vertices, holds-vertices, length-vertices, first_in, later_in}
 use Rattle.blossom_arena.proofs.Nested.{outermost_parts}
 use Rattle.blossom_arena.proofs.Sets.{member_vertex, members_new, outermost_has, outermost_by_member}
-use Rattle.alt_forest.specs.declared.label.Label.{Label}
-use Rattle.alt_forest.specs.declared.label.Label.TheVariants.{Outer}
+use Rattle.blossom_arena.specs.declared.label.Label.{Label}
+use Rattle.blossom_arena.specs.declared.label.Label.TheVariants.{Outer}
 use Rattle.alt_forest.specs.declared.search.Search.{Search}
 use Rattle.alt_forest.specs.State.{IsOutermost, Joins}
 use Rattle.alt_forest.specs.Entries.{IsQueuedBut, touches_any, ends_around}

@@ -3,7 +3,7 @@ use Rattle.std.specs.Prelude.{◌≡◌, ℕ, true, if◌then◌else◌, List, [
 use Rattle.std.specs.List.{flat_map}
 use Rattle.graph_theory.specs.Parts.{holds}
 use Rattle.blossom_arena.specs.Family.{members_of}
-use Rattle.alt_forest.specs.declared.label.Label.TheVariants.{Outer}
+use Rattle.blossom_arena.specs.declared.label.Label.TheVariants.{Outer}
 use Rattle.alt_forest.specs.declared.search.Search.{Search}
 use Rattle.alt_forest.specs.State.{IsOutermost}
 use Rattle.alt_forest.specs.Searches.{state_of, label_at}
