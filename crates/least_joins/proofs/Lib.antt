@@ -1,2 +1,2 @@
-mod Listing
+pub mod Listing
 mod Leasts

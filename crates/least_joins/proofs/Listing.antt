@@ -12,25 +12,25 @@ use Rattle.graph_theory.specs.Parts.{holds}
 use Rattle.graph_theory.proofs.Members.{holds_at}
 
 -- above each member
-abbrev top : List ℕ → ℕ
+abbrev pub top : List ℕ → ℕ
 top [] = 0
 top (x ∷ xs) = suc x + top xs
 
-below_top : (xs : List ℕ) (v : ℕ) → holds xs v ≡ true → v < top xs
+pub below_top : (xs : List ℕ) (v : ℕ) → holds xs v ≡ true → v < top xs
 below_top [] v h = absurd (true≢false (sym h))
 below_top (x ∷ xs) v h = elim (or_cases (eqb x v) (holds xs v) h) [
   | inl on ↦ let same : x ≡ v = eqb-true x v on in omega (arith, same)
   | inr later ↦ let rest : v < top xs = below_top xs v later in omega (arith, rest)
 ]
 
-range-up : (n : ℕ) → IsStrictlyIncreasing (range_with_len 0 n)
+pub range-up : (n : ℕ) → IsStrictlyIncreasing (range_with_len 0 n)
 range-up n k h =
     let long : length (range_with_len 0 n) ≡ n = length-range_with_len 0 n in
     let here : get_or (range_with_len 0 n) k 0 ≡ 0 + k = get_or-range_with_len 0 n k 0 (omega arith) in
     let next : get_or (range_with_len 0 n) (k + 1) 0 ≡ 0 + (k + 1) = get_or-range_with_len 0 n (k + 1) 0 (omega arith) in
     omega arith
 
-range-holds : (n v : ℕ) → v < n → holds (range_with_len 0 n) v ≡ true
+pub range-holds : (n v : ℕ) → v < n → holds (range_with_len 0 n) v ≡ true
 range-holds n v h =
     let long : length (range_with_len 0 n) ≡ n = length-range_with_len 0 n in
     let here : get_or (range_with_len 0 n) v 0 ≡ 0 + v = get_or-range_with_len 0 n v 0 h in
@@ -41,7 +41,7 @@ range-holds n v h =
 abbrev pub ascending : List ℕ → List ℕ
 ascending xs = filter (holds xs) (range_with_len 0 (top xs))
 
-both : (a b : Bool) → (a ≡ true → b ≡ true) → (a && b) ≡ a
+pub both : (a b : Bool) → (a ≡ true → b ≡ true) → (a && b) ≡ a
 both true b h = h refl
 both false b h = refl
 
