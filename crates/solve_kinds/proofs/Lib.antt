@@ -3,7 +3,7 @@ mod AnswerForms
 mod CountLines
 mod DualLines
 mod Keeping
-mod Holding
+mod Marking
 mod SetLines
 mod SolvedSets
 mod WalkLines

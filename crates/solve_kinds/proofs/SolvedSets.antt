@@ -8,7 +8,7 @@ use Rattle.graph_theory.specs.Nested.{AreSame, AreAscending}
 use Rattle.graph_theory.specs.Parts.{holds}
 use Rattle.graph_theory.proofs.Members.{holds_all, all_holds}
 use Rattle.mwpm_engine.specs.Solutions.{Solution, IsSolved}
-use Rattle.solve_kinds.specs.Holders.{AreWithin}
+use Rattle.solve_kinds.specs.Marked.{AreWithin}
 use Rattle.solve_kinds.proofs.Keeping.{kept, kept-holds, kept-up}
 
 -- above each member

@@ -1,11 +1,13 @@
-use Rattle.std.proofs.Common.{◌≡◌, ℕ, ◌<◌, length}
-use Rattle.graph_theory.specs.Duals.{set_at}
-use Rattle.solve_kinds.specs.Holders.{set_line}
-use Rattle.solve_kinds.proofs.SetLines.{line_to}
+use Rattle.std.proofs.Common.{◌≡◌, ◌+◌, pos, ◌≤ℤ◌, [], take, map, length, All}
+use Rattle.certificates.specs.Claims.{set_of}
+use Rattle.mwpm_engine.specs.Solutions.{AreAscending}
+use Rattle.solve_kinds.specs.Marked.{AreMarked}
 use Rattle.solve_kinds.proofs.sets.sets.Given as goal
 
 abbrev pub invariant-loop-place : goal.invariant-loop-place
 invariant-loop-place l = record {
-  size : length l.lines.items ≡ length l.engine.sets;
-  each : (p : ℕ) → p < length l.engine.sets → set_line l.lines.items p ≡ line_to l.place (set_at l.engine.sets p);
+  size : length l.marks.items ≡ l.graph.vertices + 1;
+  clear : AreMarked [] l.marks.items;
+  sets : AreAscending (take l.place l.engine.sets) (map set_of l.lines.items);
+  natural : All (λ z. All (λ m. pos 0 ≤ℤ m) z.members) l.lines.items;
 }
