@@ -32,8 +32,6 @@ LONGEST = ("solve_kinds", "cert_check")
 # after the other; and the last row. What each stands on is with it.
 Plan = collections.namedtuple("Plan", "below shared tower middle stretches row")
 LAST_LINES = 30
-# A proof with all jobs takes up to twice the processors' time of one with a single job: all are used where nothing else is proved.
-PART_OF_JOBS = 2
 # All wait for the tower, so what is proved beside it first takes the processors' time that it leaves.
 BEHIND = 10
 # How often a copy is tried where a library is just being written, and how many seconds pass between two looks for one.
@@ -256,20 +254,15 @@ def prove_row(folder, row, program, jobs, log, progress, behind=0):
     return 0
 
 
-def part_of(jobs):
-    """How many jobs a proof gets beside which others run."""
-    return max(1, jobs // PART_OF_JOBS)
-
-
 def prove_tower(folder, crates, steps, jobs, log, progress):
-    """Proves the tower, level by level: what stands alone on its level with some of the jobs, others side by side. Answers the status."""
+    """Proves the tower, level by level: what stands alone on its level with all jobs, others side by side. Answers the status."""
     level, listed = levels(steps.below), list(steps.shared)
     for height in sorted({level[name] for name in steps.tower}):
         names = [name for name in steps.tower if level[name] == height]
         move(names, waiting(folder), folder)
         listed += names
         list_crates(folder, {name: crates[name] for name in listed})
-        status = prove_row(folder, names, None, part_of(jobs), log, progress) if len(names) == 1 else prove(folder, names, jobs, log, progress)
+        status = prove_row(folder, names, None, jobs, log, progress) if len(names) == 1 else prove(folder, names, jobs, log, progress)
         if status:
             return status
     return 0
@@ -302,20 +295,19 @@ class Lane(threading.Thread):
     def __init__(self, folder, crates, steps, jobs, log, progress):
         super().__init__()
         self.main, self.folder, self.crates, self.steps, self.statuses = folder, beside(folder), crates, steps, []
-        self.jobs, self.told = jobs, (log, progress)
+        self.how = jobs, log, progress
         copy_crates(steps.shared, folder, self.folder)
         shutil.copyfile(os.path.join(folder, "HANDLES"), os.path.join(self.folder, "HANDLES"))
 
     def take(self, names, listed, behind):
-        """Proves these crates: first the lowest, if it is one, with some of the jobs, then as many side by side as there are jobs."""
+        """Proves these crates: first the lowest, if it is one, since it has all jobs then."""
         level = levels(self.steps.below)
         lowest = [name for name in names if level[name] == min(level[it] for it in names)]
         move(names, waiting(self.main), self.folder)
         list_crates(self.folder, {name: self.crates[name] for name in listed + names})
-        some = part_of(self.jobs)
-        return ((len(lowest) == 1 and prove_row(self.folder, lowest, None, some, *self.told, behind))
-                or prove(self.folder, names, self.jobs, *self.told, behind)
-                or prove_row(self.folder, top_of(self.steps.below, names), None, some, *self.told, behind))
+        return ((len(lowest) == 1 and prove_row(self.folder, lowest, None, *self.how, behind))
+                or prove(self.folder, names, *self.how, behind)
+                or prove_row(self.folder, top_of(self.steps.below, names), None, *self.how, behind))
 
     def run(self):
         listed = list(self.steps.shared)
@@ -326,7 +318,7 @@ class Lane(threading.Thread):
 
     def wait_for(self, names):
         """Waits until these crates are proved and have their libraries. Answers whether they have."""
-        progress = self.told[1]
+        progress = self.how[2]
         while True:
             ended = not self.is_alive()
             if all(name in progress.done and has_library(self.folder, name) for name in names):
@@ -347,7 +339,7 @@ def prove_middle(folder, crates, steps, lane, jobs, log, progress):
         move([name], waiting(folder), folder)
         there = there + needed + [name]
         list_crates(folder, {it: crates[it] for it in there})
-        status = prove_row(folder, [name], None, part_of(jobs) if lane.is_alive() else jobs, log, progress)
+        status = prove_row(folder, [name], None, jobs, log, progress)
         if status:
             return status
     return 0
