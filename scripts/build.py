@@ -1,42 +1,31 @@
 #!/usr/bin/env python3
 """Builds a program of this repository, several crates at a time: the crates that it stands on and no others, each proved first.
 
-Usage: build.py PROGRAM [--jobs N]. The lowest crates, on which nearly all others stand, come one after the other with all jobs of the prover. Then the tower of crates below the search's engine,
-which is high and narrow, and the crates above it are proved in one folder, and all others beside them in another, since builds in one folder wait for each other: first those that solve_kinds and cert_check
-stand on, then the rest. Each crate above the engine begins once all that it stands on is there; the program itself comes last. The crates are built in a copy of their sources in the user's cache folder (XDG_CACHE_HOME, else
-~/.cache), since `rt all` takes every crate of the folder that it is called in, tests and benches too. What a crate's own folder has
-proved already is taken along. A line a crate goes to standard error, with its number and the time so far. Where it is interrupted,
-a later call goes on with what is left. The program is put into crates/PROGRAM/out. The status is 0, or that of the command that
-failed, whose last lines are printed."""
+Usage: build.py PROGRAM [--jobs N]. Each crate is proved, and its library made, in a folder of its own that has its sources and the
+libraries that it stands on, since builds in one folder wait for each other. A crate begins once what it stands on is there: first the one
+with the longest chain of crates above it, measured by the bytes of their code. That one has half of the processors and goes before all
+others, which are proved beside it by one job each. The folders are in the user's cache folder (XDG_CACHE_HOME, else ~/.cache). What a
+crate's own folder in the repository has proved already is taken along. A line a crate goes to standard error, with its number and the time
+so far. Where it is interrupted, a later call goes on with what is left. The program is put into crates/PROGRAM/out. The status is 0, or
+that of the first command that failed, whose last lines are printed; what is being proved beside it is let end."""
 import argparse
-import collections
 import filecmp
 import hashlib
 import os
 import shutil
 import subprocess
 import sys
-import tempfile
-import threading
 import time
 
 TOP = os.path.dirname(os.path.dirname(os.path.abspath(__file__)))
 # What the program is run on once it is built: an instance that its document proves solved, so that it ends with status 0.
 TRIAL = (["check", "perfect"], b"p edge 0 0\ns OPTIMAL perfect 0\n")
 PARTS = ("src", "specs", "proofs")
-# The crate whose tower is proved beside all others.
-ENGINE = "mwpm_engine"
-# The crates above the engine and beside it that take longest: what they stand on is wanted first.
-LONGEST = ("solve_kinds", "cert_check")
-# What is proved first, with all jobs; the tower above it; the middle, a row above the tower; beside both, the others, one stretch of them
-# after the other; and the last row. What each stands on is with it.
-Plan = collections.namedtuple("Plan", "below shared tower middle stretches row")
 LAST_LINES = 30
-# All wait for the tower, so what is proved beside it first takes the processors' time that it leaves.
+# How much the processors put a crate behind the one that all wait for.
 BEHIND = 10
-# How often a copy is tried where a library is just being written, and how many seconds pass between two looks for one.
-TRIES = 20
-WAIT = 0.3
+# How many seconds pass between two looks at what runs.
+WAIT = 0.1
 
 
 def crates_below(program):
@@ -53,72 +42,40 @@ def crates_below(program):
         if name in lines and name not in wanted:
             wanted[name] = lines[name]
             left += below[name]
-    return wanted, {name: [it for it in below[name] if it in wanted] for name in wanted}
+    return wanted, {name: stood_on(below, name, wanted) for name in wanted}
 
 
-def levels(below):
-    """By crate one more than the highest level that it stands on."""
-    level = {}
-    while len(level) < len(below):
-        for name in below:
-            if name not in level and all(it in level for it in below[name]):
-                level[name] = 1 + max([level[it] for it in below[name]], default=0)
-    return level
+def stood_on(below, name, wanted):
+    """All crates that a crate stands on, lowest first."""
+    found = []
+    for it in below[name]:
+        if it in wanted:
+            found += [low for low in stood_on(below, it, wanted) + [it] if low not in found]
+    return found
 
 
-def row_at_top(below):
-    """The crates of the highest levels that have one crate each, lowest first: nothing is left to be proved beside them."""
-    level, row = levels(below), []
-    for height in range(max(level.values()), 0, -1):
-        names = [name for name in level if level[name] == height]
-        if len(names) > 1:
-            break
-        row.insert(0, names[0])
-    return row
+def files_below(folder):
+    return {os.path.relpath(os.path.join(at, name), folder) for at, _, names in os.walk(folder) for name in names}
 
 
-def stood_on(below, name):
-    """The crate and all that it stands on."""
-    seen, left = set(), [name]
-    while left:
-        name = left.pop()
-        if name not in seen:
-            seen.add(name)
-            left += below[name]
-    return seen
+def size_of(name):
+    """The bytes of a crate's code, which tell best how long its proof takes."""
+    folder = os.path.join(TOP, "crates", name, PARTS[0])
+    return 1 + sum(os.path.getsize(os.path.join(folder, path)) for path in files_below(folder))
 
 
-def top_of(below, names):
-    """Those of the crates that no other of them stands on."""
-    return [name for name in names if not any(name in below[it] for it in names)]
-
-
-def plan(below):
-    """What is proved in which way. Without the search's engine all but the row at the top are others."""
-    level, row = levels(below), row_at_top(below)
-    first = [name for name in sorted(below, key=level.get) if name not in row]
-    if ENGINE not in first:
-        return Plan(below, [], [], [], [first], row)
-    tower = stood_on(below, ENGINE)
-    row = [name for name in first if name not in tower and ENGINE in stood_on(below, name)] + row
-    middle, row = row[:-1], row[-1:]
-    others = [name for name in first if name not in tower and name not in middle + row]
-    wanted = set().union(*(stood_on(below, name) - {name} for name in LONGEST if name in below)) or set(others)
-    # The rest is proved side by side: one by one with all jobs, or in more stretches, it took longer.
-    stretches = [name for name in others if name in wanted], [name for name in others if name not in wanted]
-    shared = set().union(*(stood_on(below, name) for name in others)) & tower
-    return Plan(below, [name for name in first if name in shared], [name for name in first if name in tower - shared], middle,
-                [names for names in stretches if names], row)
+def chains(below):
+    """By crate the bytes of code in the longest chain of crates from it up to the program."""
+    length = {}
+    for name in sorted(below, key=lambda it: -len(below[it])):
+        length[name] = size_of(name) + max((length[it] for it in below if name in below[it]), default=0)
+    return length
 
 
 def build_folder(program):
     """Where this checkout's program is built."""
     cache = os.environ.get("XDG_CACHE_HOME") or os.path.join(os.path.expanduser("~"), ".cache")
     return os.path.join(cache, "%s-build" % program, hashlib.sha256(os.fsencode(TOP)).hexdigest()[:16])
-
-
-def files_below(folder):
-    return {os.path.relpath(os.path.join(at, name), folder) for at, _, names in os.walk(folder) for name in names}
 
 
 def mirror(source, target):
@@ -130,7 +87,9 @@ def mirror(source, target):
         old, new = os.path.join(source, name), os.path.join(target, name)
         if name not in there or not filecmp.cmp(old, new, shallow=False):
             os.makedirs(os.path.dirname(new), exist_ok=True)
-            shutil.copyfile(old, new)
+            # Libraries in other folders may be links to the old file.
+            shutil.copyfile(old, new + ".new")
+            os.replace(new + ".new", new)
 
 
 def take_proved(source, target):
@@ -142,240 +101,107 @@ def take_proved(source, target):
             shutil.copytree(os.path.join(source, part), os.path.join(target, part))
 
 
-def list_crates(folder, crates):
-    with open(os.path.join(folder, "crates.txt"), "w", encoding="utf-8") as file:
-        file.writelines(crates.values())
+def link(source, target):
+    """Has a file under a second name, or a copy of it where the file system knows no second names."""
+    try:
+        os.link(source, target)
+    except OSError:
+        shutil.copy2(source, target)
 
 
-def beside(folder):
-    """Where the others are proved while the tower is."""
-    return folder + "-beside"
+def place_of(folder, name, crate):
+    """Where one crate's folder has another crate, or itself."""
+    return os.path.join(folder, name, "crates", crate)
 
 
-def waiting(folder):
-    """Where crates wait whose turn hasn't come: `rt all` takes every crate that it finds."""
-    return folder + "-waiting"
+def clear(folder, crates):
+    """Makes the folder that crates are built in, and takes out what is none of them."""
+    os.makedirs(folder, exist_ok=True)
+    for name in set(os.listdir(folder)) - set(crates):
+        shutil.rmtree(os.path.join(folder, name), ignore_errors=True)
 
 
-def aside(folder):
-    """Where copies are put that are no longer wanted: to remove them takes longer than a build should wait."""
-    return folder + "-aside"
-
-
-def move_one(source, target):
-    """Puts one folder where another may be."""
-    os.makedirs(os.path.dirname(target), exist_ok=True)
-    shutil.rmtree(target, ignore_errors=True)
-    os.replace(source, target)
-
-
-def move(names, source, target):
-    """Moves crates from one folder to another."""
-    for name in names:
-        move_one(os.path.join(source, "crates", name), os.path.join(target, "crates", name))
-
-
-def has_kept(crate):
-    """Whether a crate has what its own proof leaves for the next one: a copy hasn't."""
-    return os.path.isdir(os.path.join(crate, "out", "incremental"))
-
-
-def bring_back(folder):
-    """Brings back what is in the other folders. Of two of one name a copy is put aside."""
-    for other in (os.path.join(beside(folder), "crates"), os.path.join(waiting(folder), "crates")):
-        for name in os.listdir(other) if os.path.isdir(other) else []:
-            here, there = os.path.join(folder, "crates", name), os.path.join(other, name)
-            if os.path.isdir(here):
-                os.makedirs(aside(folder), exist_ok=True)
-                extra = there if has_kept(here) or not has_kept(there) else here
-                os.replace(extra, os.path.join(tempfile.mkdtemp(dir=aside(folder)), name))
-            if os.path.isdir(there):
-                os.replace(there, here)
-
-
-def lay_out(folder, crates):
-    """Copies the sources of these crates into the folder, and takes out what is no more."""
-    os.makedirs(os.path.join(folder, "crates"), exist_ok=True)
-    bring_back(folder)
-    shutil.rmtree(aside(folder), ignore_errors=True)
-    for name in set(os.listdir(os.path.join(folder, "crates"))) - set(crates):
-        shutil.rmtree(os.path.join(folder, "crates", name))
-    for name in crates:
-        for part in PARTS:
-            mirror(os.path.join(TOP, "crates", name, part), os.path.join(folder, "crates", name, part))
-        take_proved(os.path.join(TOP, "crates", name, "out"), os.path.join(folder, "crates", name, "out"))
-    list_crates(folder, crates)
-    shutil.copyfile(os.path.join(TOP, "HANDLES"), os.path.join(folder, "HANDLES"))
+def lay_out(folder, name, crates, low):
+    """Makes a crate's folder: its sources, and the crates that it stands on with their libraries, but without what only their proofs want."""
+    own = place_of(folder, name, name)
+    for part in PARTS:
+        mirror(os.path.join(TOP, "crates", name, part), os.path.join(own, part))
+    take_proved(os.path.join(TOP, "crates", name, "out"), os.path.join(own, "out"))
+    there = os.listdir(os.path.dirname(own))
+    for other in there:
+        if other != name:
+            shutil.rmtree(place_of(folder, name, other))
+    for other in low:
+        shutil.copytree(place_of(folder, other, other), place_of(folder, name, other), copy_function=link, ignore=shutil.ignore_patterns("incremental"))
+    with open(os.path.join(folder, name, "crates.txt"), "w", encoding="utf-8") as file:
+        file.writelines(crates[it] for it in low + [name])
+    shutil.copyfile(os.path.join(TOP, "HANDLES"), os.path.join(folder, name, "HANDLES"))
 
 
 def minutes(seconds):
     return "%d s" % seconds if seconds < 60 else "%d min %d s" % divmod(int(seconds), 60)
 
 
-class Progress:
-    """Says each crate that is done, with its number and the time so far. Two ways may say one at once."""
+class Build:
+    """The crates of a program that are done, those that are being proved, and those that are left."""
 
-    def __init__(self, program, count):
-        self.program, self.count, self.done, self.start, self.turn = program, count, set(), time.monotonic(), threading.Lock()
+    def __init__(self, program, folder, jobs):
+        self.program, self.folder, self.jobs = program, folder, jobs
+        self.crates, self.below = crates_below(program)
+        self.chains = chains(self.below)
+        self.left = sorted(self.crates, key=self.order)
+        self.running, self.done, self.failed, self.start = {}, [], None, time.monotonic()
+        clear(folder, self.crates)
 
-    def say(self, name):
-        with self.turn:
-            if name not in self.done:
-                self.done.add(name)
-                print("%s: %d of %d: %s, %s" % (self.program, len(self.done), self.count, name, minutes(time.monotonic() - self.start)), file=sys.stderr)
+    def order(self, name):
+        """What has the longest chain of crates above it comes first."""
+        return -self.chains[name], name
 
+    def log_of(self, name):
+        return os.path.join(self.folder, name, "build.log")
 
-def prove(folder, names, jobs, log, progress, behind=0):
-    """Proves these crates side by side, one job each; `behind` is how much the processors put them behind other work. Answers the status."""
-    now = None
-    process = subprocess.Popen(["nice", "-n", str(behind), "rt", "all", "check", "--jobs", str(jobs)], cwd=folder, stdin=subprocess.DEVNULL,
-                               stdout=subprocess.PIPE, stderr=subprocess.STDOUT, text=True, errors="replace")
-    for line in process.stdout:
-        log.write(line)
-        now = line.split()[1] if line.startswith("== ") else now
-        if line.startswith("logic=proved") and now in names:
-            progress.say(now)
-    status = process.wait()
-    for name in names if not status else []:
-        # What was proved before isn't told of again.
-        progress.say(name)
-    return status
+    def begin(self, name, jobs, behind):
+        """Begins to prove a crate."""
+        lay_out(self.folder, name, self.crates, self.below[name])
+        words, given = ["rt", "lib", "--jobs", str(jobs)], b""
+        if name == self.program:
+            words, given = ["rt", "run", "--jobs", str(jobs), "--"] + TRIAL[0], TRIAL[1]
+        with open(self.log_of(name), "w", encoding="utf-8") as log:
+            process = subprocess.Popen(["nice", "-n", str(behind)] + words, cwd=place_of(self.folder, name, name), stdin=subprocess.PIPE, stdout=log, stderr=log)
+        process.stdin.write(given)
+        process.stdin.close()
+        self.running[name] = process
 
+    def begin_ready(self):
+        """Begins with crates that nothing is missing for: the one that all wait for, and others while there are processors."""
+        first = min(self.left + list(self.running), key=self.order)
+        ready = [name for name in self.left if all(it in self.done for it in self.below[name])]
+        alone = len(ready) + len(self.running) == 1
+        for name in ready[:self.jobs - len(self.running)]:
+            self.left.remove(name)
+            leads = self.jobs if alone else max(1, self.jobs // 2)
+            self.begin(name, leads if name == first else 1, 0 if name == first else BEHIND)
 
-def prove_row(folder, row, program, jobs, log, progress, behind=0):
-    """Builds these crates one after the other; the program is run once. Answers the status."""
-    for name in row:
-        log.flush()
-        words = ["rt", "run", "--jobs", str(jobs), "--"] + TRIAL[0] if name == program else ["rt", "lib", "--jobs", str(jobs)]
-        done = subprocess.run(["nice", "-n", str(behind)] + words, cwd=os.path.join(folder, "crates", name), input=TRIAL[1] if name == program else b"", stdout=log, stderr=log)
-        if done.returncode:
-            return done.returncode
-        progress.say(name)
-    return 0
-
-
-def prove_tower(folder, crates, steps, jobs, log, progress):
-    """Proves the tower, level by level: what stands alone on its level with all jobs, others side by side. Answers the status."""
-    level, listed = levels(steps.below), list(steps.shared)
-    for height in sorted({level[name] for name in steps.tower}):
-        names = [name for name in steps.tower if level[name] == height]
-        move(names, waiting(folder), folder)
-        listed += names
-        list_crates(folder, {name: crates[name] for name in listed})
-        status = prove_row(folder, names, None, jobs, log, progress) if len(names) == 1 else prove(folder, names, jobs, log, progress)
-        if status:
-            return status
-    return 0
-
-
-def copy_crates(names, source, target):
-    """Copies crates, with their libraries, from one folder to another, each at once: an interrupted copy leaves no half of one. What only
-    their own proofs want is left out. A crate whose library is being written is tried again."""
-    part = os.path.join(target, "copied")
-    for name in names:
-        for left in reversed(range(TRIES)):
-            shutil.rmtree(part, ignore_errors=True)
-            try:
-                shutil.copytree(os.path.join(source, "crates", name), part, ignore=shutil.ignore_patterns("incremental"))
-                break
-            except (OSError, shutil.Error):
-                if not left:
-                    raise
-                time.sleep(1)
-        move_one(part, os.path.join(target, "crates", name))
-
-
-def has_library(folder, name):
-    return os.path.isfile(os.path.join(folder, "crates", name, "out", "rlib", "stamp"))
-
-
-class Lane(threading.Thread):
-    """Proves the others, in the folder beside the tower's, and makes their libraries."""
-
-    def __init__(self, folder, crates, steps, jobs, log, progress):
-        super().__init__()
-        self.main, self.folder, self.crates, self.steps, self.statuses = folder, beside(folder), crates, steps, []
-        self.how = jobs, log, progress
-        copy_crates(steps.shared, folder, self.folder)
-        shutil.copyfile(os.path.join(folder, "HANDLES"), os.path.join(self.folder, "HANDLES"))
-
-    def take(self, names, listed, behind):
-        """Proves these crates: first the lowest, if it is one, since it has all jobs then."""
-        level = levels(self.steps.below)
-        lowest = [name for name in names if level[name] == min(level[it] for it in names)]
-        move(names, waiting(self.main), self.folder)
-        list_crates(self.folder, {name: self.crates[name] for name in listed + names})
-        return ((len(lowest) == 1 and prove_row(self.folder, lowest, None, *self.how, behind))
-                or prove(self.folder, names, *self.how, behind)
-                or prove_row(self.folder, top_of(self.steps.below, names), None, *self.how, behind))
+    def end_finished(self):
+        """Takes note of what has ended."""
+        for name, process in list(self.running.items()):
+            if process.poll() is None:
+                continue
+            del self.running[name]
+            if process.returncode:
+                self.failed = self.failed or (name, process.returncode)
+                continue
+            self.done.append(name)
+            print("%s: %d of %d: %s, %s" % (self.program, len(self.done), len(self.crates), name, minutes(time.monotonic() - self.start)), file=sys.stderr)
 
     def run(self):
-        listed = list(self.steps.shared)
-        for behind, names in zip([BEHIND] + [0] * len(self.steps.stretches), self.steps.stretches):
-            if not any(self.statuses):
-                self.statuses.append(self.take(names, listed, behind))
-                listed += names
-
-    def wait_for(self, names):
-        """Waits until these crates are proved and have their libraries. Answers whether they have."""
-        progress = self.how[2]
-        while True:
-            ended = not self.is_alive()
-            if all(name in progress.done and has_library(self.folder, name) for name in names):
-                return True
-            if ended:
-                return not any(self.statuses)
+        """Proves all crates. Answers the first that failed with its status, or nothing."""
+        while self.running or (self.left and not self.failed):
+            if not self.failed:
+                self.begin_ready()
             time.sleep(WAIT)
-
-
-def prove_middle(folder, crates, steps, lane, jobs, log, progress):
-    """Proves the middle, each of its crates once all that it stands on is there. Answers the status."""
-    there, others = steps.shared + steps.tower, sum(steps.stretches, [])
-    for name in steps.middle:
-        needed = [it for it in others if it in stood_on(steps.below, name) and it not in there]
-        if not lane.wait_for(needed):
-            return 0
-        copy_crates(needed, lane.folder, folder)
-        move([name], waiting(folder), folder)
-        there = there + needed + [name]
-        list_crates(folder, {it: crates[it] for it in there})
-        status = prove_row(folder, [name], None, jobs, log, progress)
-        if status:
-            return status
-    return 0
-
-
-def prove_beside(folder, crates, steps, jobs, log, progress):
-    """Proves the tower and the middle in the folder, and the others beside them in another one. Answers the status."""
-    with open(log.name + "-beside", "w", encoding="utf-8") as other_log:
-        lane = Lane(folder, crates, steps, jobs, other_log, progress)
-        lane.start()
-        status = prove_tower(folder, crates, steps, jobs, log, progress) or prove_middle(folder, crates, steps, lane, jobs, log, progress)
-        lane.join()
-    with open(other_log.name, encoding="utf-8") as text:
-        log.write(text.read())
-    return status or next((it for it in lane.statuses if it), 0)
-
-
-def build(program, folder, jobs, log):
-    """Proves the crates that the program stands on, and makes it. Answers the status."""
-    crates, below = crates_below(program)
-    steps = plan(below)
-    lay_out(folder, crates)
-    progress = Progress(program, len(crates))
-    move([name for name in crates if name not in steps.shared], folder, waiting(folder))
-    list_crates(folder, {name: crates[name] for name in steps.shared})
-    status = prove_row(folder, steps.shared, None, jobs, log, progress)
-    if not status and steps.tower:
-        status = prove_beside(folder, crates, steps, jobs, log, progress)
-    elif not status:
-        others = sum(steps.stretches, [])
-        move(others, waiting(folder), folder)
-        list_crates(folder, {name: crates[name] for name in others})
-        status = prove(folder, others, jobs, log, progress)
-    bring_back(folder)
-    list_crates(folder, crates)
-    return status or prove_row(folder, steps.row, program, jobs, log, progress)
+            self.end_finished()
+        return self.failed
 
 
 def report(program, path, status):
@@ -390,19 +216,14 @@ def main():
     parser.add_argument("program")
     parser.add_argument("--jobs", type=int, default=os.cpu_count() or 1)
     args = parser.parse_args()
-    folder = build_folder(args.program)
-    os.makedirs(folder, exist_ok=True)
-    path = os.path.join(folder, "build.log")
-    with open(path, "w", encoding="utf-8") as log:
-        status = build(args.program, folder, args.jobs, log)
-    if status:
-        report(args.program, path, status)
-        return status
-    made = os.path.join("crates", args.program, "out")
-    os.makedirs(os.path.join(TOP, made), exist_ok=True)
-    shutil.copy(os.path.join(folder, made, args.program), os.path.join(TOP, made, args.program))
-    # Nobody waits for this.
-    subprocess.Popen(["rm", "-rf", aside(folder)], stdin=subprocess.DEVNULL, stdout=subprocess.DEVNULL, stderr=subprocess.DEVNULL, start_new_session=True)
+    build = Build(args.program, build_folder(args.program), args.jobs)
+    failed = build.run()
+    if failed:
+        report(args.program, build.log_of(failed[0]), failed[1])
+        return failed[1]
+    made = os.path.join("crates", args.program, "out", args.program)
+    os.makedirs(os.path.dirname(os.path.join(TOP, made)), exist_ok=True)
+    shutil.copy(os.path.join(build.folder, args.program, made), os.path.join(TOP, made))
     return 0
 
 

@@ -6,32 +6,29 @@ import subprocess
 import tempfile
 
 TOP = os.path.join(os.path.dirname(os.path.abspath(__file__)), "..")
-# Notes how it was called, proves all crates of a folder or one, but not one that has a file `broken` among its sources, and makes a
-# program of a program's crate.
+# Notes which crate it proved, but fails on one that has a file `broken` among its sources, and makes a program of a program's crate. It
+# wants the libraries that the crate stands on in the same folder. The crate `side` takes until `late` has begun.
 STAND_IN = """#!/bin/sh
-if [ "$1" != all ]; then
-  name=$(basename "$PWD")
-  if [ -e src/broken ]; then echo "the proof of $name failed"; exit 3; fi
-  mkdir -p out/rlib; touch out/rlib/stamp
-  if [ "$1" = lib ]; then echo "lib $name" >>"$CALLS"; exit 0; fi
-  echo "run $name" >>"$CALLS"
-  mkdir -p out; printf '#!/bin/sh\\necho made\\n' >out/$name; chmod +x out/$name
-  exit 0
-fi
-for name in left right low side late blossom other; do
-  [ -d crates/$name ] || continue
-  echo "check $name" >>"$CALLS"
-  echo "== $name"
-  if [ -e crates/$name/src/broken ]; then echo "the proof of $name failed"; exit 3; fi
-  echo "logic=proved functions=1"
+name=$(basename "$PWD")
+for low in $(sed -n "s/^$name://p" ../../crates.txt); do
+  [ -e ../$low/out/rlib/stamp ] || { echo "$name has no library of $low"; exit 4; }
 done
+if [ -e src/broken ]; then echo "the proof of $name failed"; exit 3; fi
+echo "begin $name" >>"$CALLS"
+for turn in 1 2 3 4 5 6 7 8 9 10; do
+  [ "$name" = side ] && ! grep -q "begin late" "$CALLS" && sleep 0.3
+done
+mkdir -p out/rlib; touch out/rlib/stamp
+echo "$1 $name" >>"$CALLS"
+[ "$1" = run ] || exit 0
+printf '#!/bin/sh\\necho made\\n' >out/$name; chmod +x out/$name
 """
 
 
 # The program stands on `low`, which stands on two crates; `other` is none that it needs.
 SMALL = "blossom: low\nlow: left right\nleft:\nright:\nother: low\n"
-# The search's engine stands on `low`, and so does `side`, which is proved beside it; `late` is proved beside `solve_kinds`.
-WITH_TOWER = "blossom: solve_kinds late\nsolve_kinds: mwpm_engine side\nmwpm_engine: low\nside: low\nlate: low\nlow:\n"
+# Two crates stand on `low`, and another one on `side`; its chain is the longest.
+WIDE = "blossom: top late\ntop: side\nside: low\nlate: low\nlow:\n"
 
 
 def repository(room, crates=SMALL):
@@ -66,37 +63,41 @@ def change(room, name):
         file.write("\n// more")
 
 
+def made(built):
+    """The crates that were proved, in the order in which they were done."""
+    return [line for line in built if not line.startswith("begin")]
+
+
 def check(tests):
     with tempfile.TemporaryDirectory() as room:
         repository(room)
         broken = os.path.join(room, "crates", "low", "src", "broken")
         status, output, said, built = call(room)
-        tests.compare("the first call builds what the program stands on", "", (0, "made\n", ["check left", "check right", "lib low", "run blossom"]), (status, output, built))
-        tests.compare("a line a crate is said", "", ["blossom: 1 of 4: left", "blossom: 2 of 4: right", "blossom: 3 of 4: low", "blossom: 4 of 4: blossom"],
-                      [line.rpartition(",")[0] for line in said.splitlines() if " of " in line])
+        tests.compare("the first call builds what the program stands on", "", (0, "made\n", ["lib left", "lib right", "lib low", "run blossom"]),
+                      (status, output, sorted(made(built)[:2]) + made(built)[2:]))
+        tests.compare("a line a crate is said", "", ["%d of 4" % k for k in range(1, 5)], [line.split(": ")[1] for line in said.splitlines() if " of " in line])
         tests.compare("a second call builds nothing", "", (0, "made\n", "", []), call(room))
         change(room, "low")
         open(broken, "w", encoding="utf-8").close()
         status, output, said, built = call(room)
-        tests.compare("a failed build ends with its status and runs nothing", "", (3, "", ["check left", "check right"]), (status, output, built))
+        tests.compare("a failed build ends with its status and runs nothing", "", (3, "", ["lib left", "lib right"]), (status, output, sorted(made(built))))
         tests.compare("the end of its log is shown", "", True, "the proof of low failed" in said)
         status, output, _, built = call(room)
-        tests.compare("and so does the next call", "", (3, "", ["check left", "check right"]), (status, output, built))
+        tests.compare("and so does the next call", "", (3, "", ["lib left", "lib right"]), (status, output, sorted(made(built))))
         os.remove(broken)
         status, output, _, built = call(room)
-        tests.compare("a mended build runs", "", (0, "made\n", ["check left", "check right", "lib low", "run blossom"]), (status, output, built))
+        tests.compare("a mended build runs", "", (0, "made\n", ["lib low", "run blossom"]), (status, output, made(built)[2:]))
     with tempfile.TemporaryDirectory() as room:
-        repository(room, WITH_TOWER)
+        repository(room, WIDE)
         status, output, said, built = call(room)
-        tests.compare("the search's crates are proved beside all others", "",
-                      (0, "made\n", ["check late", "check low", "check side", "lib late", "lib low", "lib mwpm_engine", "lib side", "lib solve_kinds", "run blossom"]),
-                      (status, output, sorted(set(built))))
-        tests.compare("what both need comes first, the program last", "", ("lib low", "run blossom"), (built[0], built[-1]))
-        tests.compare("what solve_kinds stands on comes before it", "", True, built.index("lib solve_kinds") > max(built.index("lib mwpm_engine"), built.index("check side")))
-        tests.compare("and a line a crate is said", "", ["%d of 6" % k for k in range(1, 7)], [line.split(": ")[1] for line in said.splitlines() if " of " in line])
+        tests.compare("crates that don't stand on one another are proved side by side", "", (0, "made\n", True),
+                      (status, output, built.index("begin side") < built.index("begin late") < built.index("lib side")))
+        tests.compare("each begins once what it stands on is there", "", ["lib late", "lib low", "lib side", "lib top", "run blossom"], sorted(made(built)))
+        tests.compare("the lowest first, the program last", "", ("begin low", "run blossom"), (built[0], built[-1]))
+        tests.compare("and a line a crate is said", "", ["%d of 5" % k for k in range(1, 6)], [line.split(": ")[1] for line in said.splitlines() if " of " in line])
         change(room, "side")
         open(os.path.join(room, "crates", "side", "src", "broken"), "w", encoding="utf-8").close()
         status, output, said, built = call(room)
-        tests.compare("a crate beside them that fails ends the build", "", (3, "", True), (status, output, "the proof of side failed" in said))
+        tests.compare("one of them that fails ends the build", "", (3, "", True, False), (status, output, "the proof of side failed" in said, "lib top" in built))
         os.remove(os.path.join(room, "crates", "side", "src", "broken"))
         tests.compare("which goes on once it is mended", "", (0, "made\n"), call(room)[:2])

@@ -1,7 +1,7 @@
 //! Reads the words with `clap`.
 ghost use Rattle.std.specs.Prelude.{◌≡◌, ℕ, List, map, false, IfOk, Some, MatchOption, string_bytes, codes};
-ghost use Rattle.clap.specs.Words.{Row, app_of, new_app, rule_of, found_of, rows_of, subcommand_rows_of};
-ghost use Rattle.command_words.specs.Program.{wanted, brief, program, subcommand_wanted, text_in, command_in, is_taken, found_in};
+ghost use Rattle.clap.specs.Words.{Row, app_of, new_app, rule_of, found_of, rows_of, subcommand_rows_of, with_subcommand};
+ghost use Rattle.command_words.specs.Program.{wanted, brief, solve, check, trial, program, subcommand_wanted, text_in, command_in, is_taken, found_in};
 
 use crate::command::{Command, read_check, read_solve, read_trial};
 use clap::error::ErrorKind;
@@ -31,23 +31,52 @@ fn top<'a>(alloc: Global) -> clap::Command<'a>
     clap::Command::new(alloc, "blossom").subcommand_required(true)
 }
 
-/// The command line as `clap` reads it.
-fn program<'a>(alloc: Global) -> Result<clap::Command<'a>, OutOfMemory>
-    ensures app { IfOk result (λ c. app_of c ≡ program) }
+/// Adds the subcommand that solves.
+fn with_solve<'a>(
+    alloc: Global,
+    program: clap::Command<'a>,
+) -> Result<clap::Command<'a>, OutOfMemory>
+    ensures { IfOk result (λ c. app_of c ≡ with_subcommand (app_of program.entry) solve.top) }
 {
     let solve = clap::Command::new(alloc, "solve")
         .arg(wanted(alloc, "kind"))?
         .arg(brief(alloc))?;
+    program.subcommand(solve)
+}
+
+/// Adds the subcommand that checks.
+fn with_check<'a>(
+    alloc: Global,
+    program: clap::Command<'a>,
+) -> Result<clap::Command<'a>, OutOfMemory>
+    ensures { IfOk result (λ c. app_of c ≡ with_subcommand (app_of program.entry) check.top) }
+{
     let check = clap::Command::new(alloc, "check").arg(wanted(alloc, "kind"))?;
+    program.subcommand(check)
+}
+
+/// Adds the subcommand that tries.
+fn with_trial<'a>(
+    alloc: Global,
+    program: clap::Command<'a>,
+) -> Result<clap::Command<'a>, OutOfMemory>
+    ensures { IfOk result (λ c. app_of c ≡ with_subcommand (app_of program.entry) trial.top) }
+{
     let trial = clap::Command::new(alloc, "trial")
         .arg(wanted(alloc, "kind"))?
         .arg(wanted(alloc, "start"))?
         .arg(wanted(alloc, "vertices"))?
         .arg(wanted(alloc, "edges"))?;
-    top(alloc)
-        .subcommand(solve)?
-        .subcommand(check)?
-        .subcommand(trial)
+    program.subcommand(trial)
+}
+
+/// The command line as `clap` reads it.
+fn program<'a>(alloc: Global) -> Result<clap::Command<'a>, OutOfMemory>
+    ensures app { IfOk result (λ c. app_of c ≡ program) }
+{
+    let solving = with_solve(alloc, top(alloc))?;
+    let checking = with_check(alloc, solving)?;
+    with_trial(alloc, checking)
 }
 
 /// What `clap` finds in the words; nothing where it refuses them.

@@ -5,4 +5,4 @@ pub mod Settled
 pub mod Parts
 pub mod Presented
 pub mod Excluding
-pub mod Marked
+pub mod Members

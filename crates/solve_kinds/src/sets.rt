@@ -2,10 +2,11 @@ ghost use Rattle.std.specs.Prelude.{◌≡◌, ◌+◌, ◌<◌, ◌≤◌, pos,
 ghost use Rattle.std.specs.List.Sorted.{IsStrictlyIncreasing};
 ghost use Rattle.graph_theory.specs.Duals.{set_at};
 ghost use Rattle.graph_theory.specs.Nested.{AreSame};
+ghost use Rattle.graph_parts.specs.Marks.{MarksSet};
 ghost use Rattle.certificates.specs.Claims.{numbers, set_of};
 ghost use Rattle.mwpm_engine.specs.Solutions.{AreAscending};
 ghost use Rattle.mwpm_engine.specs.declared.outcome.Outcome.TheVariants.{Matched};
-ghost use Rattle.solve_kinds.specs.Marked.{AreMarked, AreWithin};
+ghost use Rattle.solve_kinds.specs.Members.{AreWithin};
 
 use crate::members::ascending;
 use doc_format::SetLine;
@@ -26,9 +27,9 @@ fn set_line(
     requires place { place < length engine.now.sets }
     requires within { All (λ m. (1 ≤ m) × (m ≤ vertices)) (set_at engine.now.sets place).members }
     requires size { length marks.old ≡ vertices + 1 }
-    requires clear { AreMarked [] marks.old }
+    requires clear { MarksSet marks.old [] }
     ensures size { OnOk result (length marks.new ≡ length marks.old) }
-    ensures clear { OnOk result (AreMarked [] marks.new) }
+    ensures clear { OnOk result (MarksSet marks.new []) }
     ensures dual { IfOk result (λ z. z.dual ≡ (set_at engine.now.sets place).dual) }
     ensures same { IfOk result (λ z. AreSame (numbers z.members) (set_at engine.now.sets place).members) }
     ensures ascending { IfOk result (λ z. IsStrictlyIncreasing (numbers z.members)) }

@@ -27,7 +27,8 @@ use std::sync::ledger::Ledger;
 /// ends.
 ///
 /// The steps of the searches are counted on `steps`: looks at edges and events. What it takes besides
-/// them is linear in that graph and the members of the sets. An error is want of memory.
+/// them is linear in that graph and the members of the sets, but for sets of less than a sixteenth of
+/// the vertices, which are sorted. An error is want of memory.
 pub fn solve<L: Ledger>(
     alloc: Global,
     instance: &Instance,

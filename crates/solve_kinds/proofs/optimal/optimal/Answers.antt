@@ -20,7 +20,7 @@ use Rattle.solve_kinds.proofs.Forms.{form-optimal}
 use Rattle.solve_kinds.proofs.AnswerForms.{feasible-form}
 use Rattle.solve_kinds.proofs.EachKind.{small}
 use Rattle.solve_kinds.proofs.Weighed.{number-of_answer, pays-for_matching}
-use Rattle.solve_kinds.specs.Marked.{AreWithin}
+use Rattle.solve_kinds.specs.Members.{AreWithin}
 use Rattle.solve_kinds.proofs.SolvedSets.{solved-within}
 use Rattle.solve_kinds.proofs.optimal.optimal.Goals as goal
 

@@ -3,7 +3,7 @@ use Rattle.std.proofs.lemmas.List.{with_items_is}
 use Rattle.std.proofs.lemmas.List.Elements.{All-push}
 use Rattle.std.specs.Vec.{with_items}
 use Rattle.doc_format.specs.declared.part.SetLine.{SetLine}
-use Rattle.solve_kinds.specs.Marked.{AreMarked}
+use Rattle.graph_parts.specs.Marks.{MarksSet}
 use Rattle.solve_kinds.proofs.SetLines.{lines-push}
 use Rattle.solve_kinds.proofs.sets.sets.Goals as goal
 
@@ -18,7 +18,7 @@ loop-place-preserved c =
     let is : (with_items old new).items ≡ new = with_items_is old new (long ∙ sym old.ok.0) in
     record {
       size = ap length is ∙ long ∙ c.loop-place.invariant.size;
-      clear = subst (λ (bs : List Bool). AreMarked [] bs) (sym is) e.clear;
+      clear = subst (λ (bs : List Bool). MarksSet bs []) (sym is) e.clear;
       sets = lines-push c.args.engine.now.sets c.loop-place.place c.loop-place.lines.items c.push.new.self.items z (omega arith) c.in_ok-push.ensures.items c.loop-place.invariant.sets e.dual e.same e.ascending;
       natural = subst (λ (xs : List SetLine). All P xs) (sym c.in_ok-push.ensures.items) (All-push P c.loop-place.lines.items z c.loop-place.invariant.natural e.natural);
     }

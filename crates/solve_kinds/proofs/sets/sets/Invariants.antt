@@ -1,13 +1,13 @@
 use Rattle.std.proofs.Common.{◌≡◌, ◌+◌, pos, ◌≤ℤ◌, [], take, map, length, All}
 use Rattle.certificates.specs.Claims.{set_of}
 use Rattle.mwpm_engine.specs.Solutions.{AreAscending}
-use Rattle.solve_kinds.specs.Marked.{AreMarked}
+use Rattle.graph_parts.specs.Marks.{MarksSet}
 use Rattle.solve_kinds.proofs.sets.sets.Given as goal
 
 abbrev pub invariant-loop-place : goal.invariant-loop-place
 invariant-loop-place l = record {
   size : length l.marks.items ≡ l.graph.vertices + 1;
-  clear : AreMarked [] l.marks.items;
+  clear : MarksSet l.marks.items [];
   sets : AreAscending (take l.place l.engine.sets) (map set_of l.lines.items);
   natural : All (λ z. All (λ m. pos 0 ≤ℤ m) z.members) l.lines.items;
 }

@@ -1,0 +1,13 @@
+use Rattle.std.proofs.Common.{ap, ap₂, ◌≡◌, ◌∙◌, ◌||◌}
+use Rattle.std.proofs.lemmas.Result.{IfOk-weaker}
+use Rattle.clap.specs.Words.{App, app_of, with_rule, with_subcommand}
+use Rattle.command_words.specs.Program.{solve}
+use Rattle.command_words.proofs.parse.with_solve.Goals as goal
+
+pub returns : goal.returns
+returns c =
+    let shape : app_of c.in_ok-solve.solve ≡ solve =
+    c.in_ok-solve.ensures.shape c.brief.ensures.own
+    ∙ ap₂ with_rule (c.in_ok-arg.ensures.shape c.wanted.ensures.own ∙ ap₂ with_rule c.new.ensures.app c.wanted.ensures.rule) c.brief.ensures.rule in
+    let own = c.in_ok-solve.ensures.globals ∙ ap₂ ◌||◌ (c.in_ok-arg.ensures.globals ∙ ap₂ ◌||◌ c.new.ensures.local c.wanted.ensures.own) c.brief.ensures.own in
+    IfOk-weaker c.subcommand.result _ _ (λ r adds. adds.shape own ∙ ap (λ (a : App). with_subcommand (app_of c.args.program) a.top) shape) c.subcommand.ensures
