@@ -2,11 +2,16 @@
 """Builds a program of this repository: the crates that it stands on and no others, each proved first.
 
 Usage: build.py PROGRAM. The sources of these crates are copied to a folder of their own, without their must-fail edits, and `rt ci` is run
-there. It proves each crate once, as many side by side as there are processors, those first that most others wait for, and makes the
-program. A crate is proved over the statements of those below it, as in the gate, which takes half of the time that it takes over their
-proofs. A line a crate goes to standard error, with its number and the time so far. What `rt ci` has proved it keeps beside the kit, so that
-a build which was interrupted goes on where it was, and one after the gate has nothing left to prove. The program and the log are put into
-crates/PROGRAM/out. The status is 0, or that of `rt ci`, whose last lines are printed then."""
+there. It proves each crate once, as many side by side as there are processors, and makes the program. A crate is proved over the statements
+of those below it, as in the gate, which takes less than the time that it takes over their proofs. What `rt ci` has proved it keeps beside
+the kit, so that a build which was interrupted goes on where it was, and one after the gate has nothing left to prove.
+
+Most crates wait for the search's, which stand on one another, one by one. Where `rt ci` can keep what it proves, a second run of it proves
+these alone, with the processors that it wants; the whole run begins once their first crate is there, takes from it what it proves, and
+proves the others beside it, behind it.
+
+A line a crate goes to standard error, with its number and the time so far. The program and the logs are put into crates/PROGRAM/out. The
+status is 0, or that of the whole run, whose last lines are printed then."""
 import argparse
 import os
 import re
@@ -14,6 +19,7 @@ import shutil
 import subprocess
 import sys
 import tempfile
+import threading
 import time
 
 TOP = os.path.dirname(os.path.dirname(os.path.abspath(__file__)))
@@ -21,26 +27,38 @@ TOP = os.path.dirname(os.path.dirname(os.path.abspath(__file__)))
 PARTS = ("src", "specs", "proofs", "args", "stdin", "stdout", "status")
 # How `rt ci` says that a crate is proved, now or by an earlier run.
 PROVED = re.compile(r"rt: (\w+) (?:proved$|is kept: )")
+# The highest crate of the search.
+ENGINE = "mwpm_engine"
+# How much the processors put the whole run behind the search's.
+BEHIND = 10
 LAST_LINES = 30
 # The status of a build that was interrupted.
 INTERRUPTED = 130
 
 
-def crates_below(program):
-    """The repository's crates that the program stands on, and the program: the line of crates.txt of each."""
+def crates_below(top):
+    """The repository's crates that one stands on, and itself: the line of crates.txt of each."""
     lines, below = {}, {}
     with open(os.path.join(TOP, "crates.txt"), encoding="utf-8") as file:
         for line in file:
             name, colon, rest = line.split("#")[0].partition(":")
             if colon:
                 lines[name.split()[0]], below[name.split()[0]] = line, rest.split()
-    wanted, left = {}, [program]
+    wanted, left = {}, [top]
     while left:
         name = left.pop()
         if name in lines and name not in wanted:
             wanted[name] = lines[name]
             left += below[name]
     return wanted
+
+
+def keeps():
+    """Whether `rt ci` can keep what it proves beside the kit, where another run finds it."""
+    page = subprocess.run(["rt", "doc"], capture_output=True, text=True).stdout.strip()
+    beside = os.path.dirname(os.path.dirname(page))
+    kept = os.path.join(beside, "rattle-kept")
+    return bool(page) and os.access(kept if os.path.isdir(kept) else beside, os.W_OK)
 
 
 def lay_out(folder, crates):
@@ -61,17 +79,54 @@ def minutes(seconds):
     return "%d s" % seconds if seconds < 60 else "%d min %d s" % divmod(int(seconds), 60)
 
 
-def prove(program, crates, folder, log):
-    """Proves the crates in the folder and makes the program there. Answers the status."""
-    start, done = time.monotonic(), set()
-    process = subprocess.Popen(["rt", "ci"], cwd=folder, stdin=subprocess.DEVNULL, stdout=subprocess.PIPE, stderr=subprocess.STDOUT, text=True, errors="replace")
-    for line in process.stdout:
-        log.write(line)
+class Progress:
+    """Says each crate that is proved, once, with its number and the time so far."""
+
+    def __init__(self, program, crates):
+        self.program, self.crates, self.done, self.start, self.turn = program, crates, set(), time.monotonic(), threading.Lock()
+        self.begun = threading.Event()
+
+    def read(self, line):
+        """Takes note of what a line of `rt ci` says."""
         proved = PROVED.match(line)
-        if proved and proved[1] in crates and proved[1] not in done:
-            done.add(proved[1])
-            print("%s: %d of %d: %s, %s" % (program, len(done), len(crates), proved[1], minutes(time.monotonic() - start)), file=sys.stderr)
-    return process.wait()
+        with self.turn:
+            if proved and proved[1] in self.crates and proved[1] not in self.done:
+                self.done.add(proved[1])
+                print("%s: %d of %d: %s, %s" % (self.program, len(self.done), len(self.crates), proved[1], minutes(time.monotonic() - self.start)), file=sys.stderr)
+                self.begun.set()
+
+
+def prove(crates, path, progress, behind=0, made=None):
+    """Proves crates in a folder of their own, and copies the program, if one is wanted, from there. Answers the status."""
+    with tempfile.TemporaryDirectory(prefix="%s-build-" % progress.program) as folder, open(path, "w", encoding="utf-8") as log:
+        lay_out(folder, crates)
+        process = subprocess.Popen(["nice", "-n", str(behind), "rt", "ci"], cwd=folder, stdin=subprocess.DEVNULL, stdout=subprocess.PIPE, stderr=subprocess.STDOUT,
+                                   text=True, errors="replace")
+        for line in process.stdout:
+            log.write(line)
+            progress.read(line)
+        status = process.wait()
+        if made and not status:
+            shutil.copy(os.path.join(folder, made), os.path.join(TOP, made))
+        return status
+
+
+def build(program, made):
+    """Proves the crates that the program stands on and makes it: the search's in a run of their own, where another one can use what it proves. Answers the status."""
+    crates = crates_below(program)
+    progress, logs, search = Progress(program, crates), os.path.join(TOP, os.path.dirname(made)), None
+    if ENGINE in crates and keeps():
+        def first():
+            prove(crates_below(ENGINE), os.path.join(logs, "search.log"), progress)
+            progress.begun.set()
+
+        search = threading.Thread(target=first)
+        search.start()
+        progress.begun.wait()
+    status = prove(crates, os.path.join(logs, "build.log"), progress, BEHIND if search else 0, made)
+    if search:
+        search.join()
+    return status
 
 
 def report(program, path, status):
@@ -85,21 +140,15 @@ def main():
     parser = argparse.ArgumentParser(description=__doc__)
     parser.add_argument("program")
     program = parser.parse_args().program
-    crates, made = crates_below(program), os.path.join("crates", program, "out")
-    os.makedirs(os.path.join(TOP, made), exist_ok=True)
-    path = os.path.join(TOP, made, "build.log")
-    with tempfile.TemporaryDirectory(prefix="%s-build-" % program) as folder:
-        lay_out(folder, crates)
-        with open(path, "w", encoding="utf-8") as log:
-            try:
-                status = prove(program, crates, folder, log)
-            except KeyboardInterrupt:
-                return INTERRUPTED
-        if status:
-            report(program, path, status)
-            return status
-        shutil.copy(os.path.join(folder, made, program), os.path.join(TOP, made))
-    return 0
+    made = os.path.join("crates", program, "out", program)
+    os.makedirs(os.path.join(TOP, os.path.dirname(made)), exist_ok=True)
+    try:
+        status = build(program, made)
+    except KeyboardInterrupt:
+        return INTERRUPTED
+    if status:
+        report(program, os.path.join(TOP, os.path.dirname(made), "build.log"), status)
+    return status
 
 
 if __name__ == "__main__":
