@@ -84,7 +84,12 @@ class Progress:
 
     def __init__(self, program, crates):
         self.program, self.crates, self.done, self.start, self.turn = program, crates, set(), time.monotonic(), threading.Lock()
-        self.begun = threading.Event()
+        self.begun, self.runs = threading.Event(), []
+
+    def end(self):
+        """Ends the runs. A `rt ci` that is interrupted waits for its proofs; one that is told to end takes them along."""
+        for run in self.runs:
+            run.terminate()
 
     def read(self, line):
         """Takes note of what a line of `rt ci` says."""
@@ -98,17 +103,25 @@ class Progress:
 
 def prove(crates, path, progress, behind=0, made=None):
     """Proves crates in a folder of their own, and copies the program, if one is wanted, from there. Answers the status."""
-    with tempfile.TemporaryDirectory(prefix="%s-build-" % progress.program) as folder, open(path, "w", encoding="utf-8") as log:
+    folder = tempfile.mkdtemp(prefix="%s-build-" % progress.program)
+    try:
         lay_out(folder, crates)
-        process = subprocess.Popen(["nice", "-n", str(behind), "rt", "ci"], cwd=folder, stdin=subprocess.DEVNULL, stdout=subprocess.PIPE, stderr=subprocess.STDOUT,
-                                   text=True, errors="replace")
-        for line in process.stdout:
-            log.write(line)
-            progress.read(line)
+        with open(path, "w", encoding="utf-8") as log:
+            process = subprocess.Popen(["nice", "-n", str(behind), "rt", "ci"], cwd=folder, stdin=subprocess.DEVNULL, stdout=subprocess.PIPE, stderr=subprocess.STDOUT,
+                                       text=True, errors="replace")
+            progress.runs.append(process)
+            for line in process.stdout:
+                log.write(line)
+                progress.read(line)
         status = process.wait()
         if made and not status:
             shutil.copy(os.path.join(folder, made), os.path.join(TOP, made))
         return status
+    except KeyboardInterrupt:
+        progress.end()
+        raise
+    finally:
+        shutil.rmtree(folder, ignore_errors=True)
 
 
 def build(program, made):
@@ -122,7 +135,11 @@ def build(program, made):
 
         search = threading.Thread(target=first)
         search.start()
-        progress.begun.wait()
+        try:
+            progress.begun.wait()
+        except KeyboardInterrupt:
+            progress.end()
+            raise
     status = prove(crates, os.path.join(logs, "build.log"), progress, BEHIND if search else 0, made)
     if search:
         search.join()
