@@ -3,7 +3,7 @@
 # kit alone (the command `rt`): its prover, its compiler and its linker. Where capi/out is of the present sources, nothing is done.
 #
 # Usage: build.sh [--after-gate | --is-built]
-#   without a word   the crates below are proved first, where `rt` hasn't kept that; from nothing this takes as long as the first ./blossom
+#   without a word   the crates below are proved first, where `rt` hasn't kept that; from nothing this takes longer than the first ./blossom, since `rt lib` builds libraries that hold all proofs
 #   --after-gate     `rt ci` has just passed here: what it left in crates/*/out is taken as it stands
 #   --is-built       builds nothing; the status is 0 where capi/out is of the present sources
 set -eu

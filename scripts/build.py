@@ -130,8 +130,10 @@ def build(program, made):
     progress, logs, search = Progress(program, crates), os.path.join(TOP, os.path.dirname(made)), None
     if ENGINE in crates and keeps():
         def first():
-            prove(crates_below(ENGINE), os.path.join(logs, "search.log"), progress)
-            progress.begun.set()
+            try:
+                prove(crates_below(ENGINE), os.path.join(logs, "search.log"), progress)
+            finally:
+                progress.begun.set()
 
         search = threading.Thread(target=first)
         search.start()
