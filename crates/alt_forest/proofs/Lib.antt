@@ -20,6 +20,7 @@ pub mod Pairs
 pub mod Balance
 pub mod Counted
 pub mod Puts
+pub mod Moving
 pub mod Listed
 pub mod Queues
 pub mod Needs

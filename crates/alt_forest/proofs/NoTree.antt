@@ -1,4 +1,4 @@
--- A search where no node is in a tree: nothing has a moment, and nothing need be listed for changes of duals.
+-- A search where no node is in a tree: nothing has a moment, and nothing need be listed.
 use Rattle.std.proofs.Common.{◌≡◌, ℕ, ℤ, pos, ◌≤ℤ◌, Option, None, length, vec_len, sym, ap, ◌∙◌, subst, arith}
 use Rattle.std.specs.Vec.{vec_capacity}
 use Rattle.std.proofs.lemmas.List.{length-replicate}
@@ -29,8 +29,8 @@ none_queued s out clock none = record {
   empty = λ no item. none item;
 }
 
-pub none_standing : (s : Search) → ((a : ℕ) → label_at s.labels.items a ≡ Out) → AreListed s.graph.vertices s.standing.items s.seeds.items → IsStanding s
-none_standing s out listed = record { listed = listed; trees = λ a is ne. absurd (ne (out a)) }
+pub none_standing : (s : Search) → ((a : ℕ) → label_at s.labels.items a ≡ Out) → ((a : ℕ) → label_at s.arena.motions a ≡ Out) → AreListed s.graph.vertices s.standing.items s.seeds.items → IsStanding s
+none_standing s out rest listed = record { listed = listed; trees = λ a is ne. absurd (ne (out a)); moves = λ a is. rest a ∙ sym (out a) }
 
 -- a queue that is cleared has its places
 pub room_cleared : (s : Search) (q : Moments) → q ≡ no_moments (length s.queue.edges) (length s.queue.blossoms) → HasShape s → HasRoom s.graph s.spokes q (vec_capacity s.standing) (vec_len s.seeds) (vec_capacity s.scanned)

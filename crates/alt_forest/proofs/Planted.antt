@@ -165,13 +165,13 @@ module _ (s : State) (depth : ℕ → ℕ) (v : ℕ) (nested : IsNested s.graph.
   grown_root x outer in_it = tree_root grown depth nested (planted s depth v exposed out st) said said_trees x outer in_it
 
 -- what its calls leave, at once
-pub whole : (s l a t : Search) → l ≡ record s { labels = l.labels } → a ≡ record l { standing = a.standing; seeds = a.seeds } → t ≡ record a { scanned = t.scanned } → t ≡ record s { labels = l.labels; standing = a.standing; seeds = a.seeds; scanned = t.scanned }
+pub whole : (s l a t : Search) → l ≡ record s { labels = l.labels } → a ≡ record l { arena = record l.arena { motions = a.arena.motions }; standing = a.standing; seeds = a.seeds } → t ≡ record a { scanned = t.scanned } → t ≡ record s { arena = record s.arena { motions = a.arena.motions }; labels = l.labels; standing = a.standing; seeds = a.seeds; scanned = t.scanned }
 whole s l a t one two three = three
     ∙ ap (λ (x : Search). let y : Search = record x { scanned = t.scanned } in y) two
-    ∙ ap (λ (x : Search). let y : Search = record x { standing = a.standing; seeds = a.seeds; scanned = t.scanned } in y) one
+    ∙ ap (λ (x : Search). let y : Search = record x { arena = record x.arena { motions = a.arena.motions }; standing = a.standing; seeds = a.seeds; scanned = t.scanned } in y) one
 
 -- the search, whose labels, list of nodes and list of vertices are new
-module _ (s l a t : Search) (v : ℕ) (is : t ≡ record s { labels = l.labels; standing = a.standing; seeds = a.seeds; scanned = t.scanned })
+module _ (s l a t : Search) (v : ℕ) (is : t ≡ record s { arena = record s.arena { motions = a.arena.motions }; labels = l.labels; standing = a.standing; seeds = a.seeds; scanned = t.scanned })
     (labels : label_at l.labels.items ≡ put (label_at s.labels.items) v Outer) (sound : IsSound s) (exposed : IsExposed (state_of s) v) (out : label_at s.labels.items v ≡ Out) where
   pub planted_state : state_of t ≡ with_labels (state_of s) (put (label_at s.labels.items) v Outer)
   planted_state = ap state_of is ∙ ap (with_labels (state_of s)) labels
@@ -190,8 +190,8 @@ module _ (s l a t : Search) (v : ℕ) (is : t ≡ record s { labels = l.labels; 
   })
 
   pub planted_standing : (w : ℕ) → is_vertex s.graph.vertices w ≡ true → outermost s.arena.blossoms w ≡ v → AreListed s.graph.vertices a.standing.items a.seeds.items
-      → seed_at a.seeds.items ≡ put (seed_at s.seeds.items) v (Some w) → IsStanding s → IsStanding t
-  planted_standing w vertex within listed seeds h = subst IsStanding (sym is) (record {
+      → seed_at a.seeds.items ≡ put (seed_at s.seeds.items) v (Some w) → label_at a.arena.motions ≡ put (label_at s.arena.motions) v (label_at l.labels.items v) → IsStanding s → IsStanding t
+  planted_standing w vertex within listed seeds motions h = subst IsStanding (sym is) (record {
     listed = listed;
     trees = λ x outer ne. by_test (eqb x v)
         (λ q.
@@ -208,6 +208,13 @@ module _ (s l a t : Search) (v : ℕ) (is : t ≡ record s { labels = l.labels; 
           ap (λ (f : ℕ → Option ℕ). f x) seeds ∙ put_other (seed_at s.seeds.items) v (Some w) x other ∙ r.1,
           record { vertex = r.2.vertex; root = r.2.root ∙ sym (root_now x outer ne ∙ said_else old depth v nested sound.state exposed.1 out x other) },
         ));
+    moves = λ x outer. ap (λ (f : ℕ → Label). f x) motions ∙ by_test (eqb x v)
+        (λ q.
+        let same : x ≡ v = eqb-true x v q in
+        ap (put (label_at s.arena.motions) v (label_at l.labels.items v)) same ∙ put_here (label_at s.arena.motions) v (label_at l.labels.items v) ∙ sym (ap (label_at l.labels.items) same))
+        (λ q.
+        let other : x ≢ v = eqb-false x v q in
+        put_other (label_at s.arena.motions) v (label_at l.labels.items v) x other ∙ h.moves x outer ∙ sym (ap (λ (f : ℕ → Label). f x) labels ∙ put_other (label_at s.labels.items) v Outer x other));
   })
     where
       old : State

@@ -98,6 +98,6 @@ sound_with s q edges blossoms h = record { shape = room_with s q edges blossoms 
 pub sound_set : (s : Search) (item : Item) (m : Option ℤ) → IsSound s → IsSound (record s { queue = with_moment s.queue item m })
 sound_set s item m h = let same = places_stay s.queue item m in sound_with s (with_moment s.queue item m) same.0 same.1 h
 
--- what is listed for changes of duals has nothing to do with the queue
+-- what is listed has nothing to do with the queue
 pub standing_with : (s : Search) (q : Moments) → IsStanding s → IsStanding (record s { queue = q })
-standing_with s q h = record { listed = h.listed; trees = h.trees }
+standing_with s q h = record { listed = h.listed; trees = h.trees; moves = h.moves }

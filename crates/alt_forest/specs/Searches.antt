@@ -41,8 +41,8 @@ pub record IsSearchGraph (g : Multigraph) : Type 0 where
   pub graph : IsGraph g
   pub limits : IsWithinLimits (record { vertices = g.vertices; edges = length g.edges })
 
--- the spokes are those of the graph, the queue has a place for each edge and each node, and the lists that changes of duals
--- and looks run over have room for all nodes and for all vertices
+-- the spokes are those of the graph, the queue has a place for each edge and each node, and the lists that joins and
+-- looks run over have room for all nodes and for all vertices
 pub record HasRoom (g : Multigraph) (spokes : List (List Spoke)) (queue : Moments) (standing_room seeds_len scanned_room : ℕ) : Type 0 where
   pub index : AreSpokes g spokes
   pub edges : length queue.edges ≡ length g.edges

@@ -1,4 +1,4 @@
--- The nodes that changes of duals run over, each with a vertex of the root of its tree. What is listed is at least the
+-- The nodes in trees, each with a vertex of the root of its tree, and how their duals move. What is listed is at least the
 -- outermost nodes in trees.
 use Rattle.std.specs.Prelude.{◌≡◌, ◌≢◌, ℕ, ◌≤◌, true, nat_eq, List, All, slice_index_or, Option, Some, None, is_some}
 use Rattle.std.specs.List.{IsDistinct}
@@ -7,7 +7,7 @@ use Rattle.blossom_arena.specs.Family.{is_vertex, outermost}
 use Rattle.blossom_arena.specs.declared.label.Label.TheVariants.{Out}
 use Rattle.alt_forest.specs.declared.search.Search.{Search}
 use Rattle.alt_forest.specs.State.{State, IsOutermost}
-use Rattle.alt_forest.specs.Searches.{state_of}
+use Rattle.alt_forest.specs.Searches.{label_at, state_of}
 use Rattle.alt_forest.specs.Trees.{node_limit, root_of}
 
 -- the seed of a node: a vertex that is kept for it, if it is listed
@@ -25,7 +25,13 @@ pub record IsSeed (s : State) (a v : ℕ) : Type 0 where
   pub vertex : is_vertex s.graph.vertices v ≡ true
   pub root : outermost s.blossoms v ≡ root_of s a
 
--- each outermost node of a tree is listed, with a vertex of its root; others may be listed, until no tree stands
+-- each outermost node moves as its label says
+abbrev pub AreMoving : Search → Type 0
+AreMoving s = (a : ℕ) → IsOutermost (state_of s) a → label_at s.arena.motions a ≡ label_at s.labels.items a
+
+-- each outermost node of a tree is listed, with a vertex of its root; others may be listed, until no tree stands; and each
+-- outermost node moves as its label says
 pub record IsStanding (s : Search) : Type 0 where
   pub listed : AreListed s.graph.vertices s.standing.items s.seeds.items
   pub trees : (a : ℕ) → IsOutermost (state_of s) a → (state_of s).label a ≢ Out → (v : ℕ) × (seed_at s.seeds.items a ≡ Some v) × IsSeed (state_of s) a v
+  pub moves : AreMoving s

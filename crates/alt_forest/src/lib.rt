@@ -6,6 +6,7 @@ mod entries;
 mod hop;
 mod law;
 mod meet;
+mod motions;
 mod path;
 mod search;
 mod slack;

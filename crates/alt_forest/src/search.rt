@@ -28,8 +28,8 @@ use weighted_graph::Graph;
 /// given by the edge to it. `circuit` has room for n links. `graph` is a copy of the graph that the
 /// search was made for, and `spokes` its edges by vertex, which no call changes. `queue` has the
 /// moment of each event that can come, by `clock`, the sum of the changes of duals since no tree stood.
-/// `standing` lists the nodes that these changes run over, `seeds` has for each of them, by node number, a
-/// vertex of the root of its tree, and `scanned` has the vertices whose edges are looked at after a step.
+/// `standing` lists the nodes in trees, `seeds` has for each of them, by node number, a vertex of the root
+/// of its tree, and `scanned` has the vertices whose edges are looked at after a step.
 #[derive(Drop)]
 pub struct Search {
     pub arena: Arena,
@@ -163,7 +163,7 @@ impl Search {
         requires exposed { IsExposed (state_of self.old) v }
         requires out { label_at self.old.labels.items v ≡ Out }
         ensures labels { label_at self.new.labels.items ≡ put (label_at self.old.labels.items) v Outer }
-        ensures rest { self.new ≡ record self.old { labels = self.new.labels; queue = self.new.queue; standing = self.new.standing; seeds = self.new.seeds; scanned = self.new.scanned } }
+        ensures rest { self.new ≡ record self.old { arena = record self.old.arena { motions = self.new.arena.motions }; labels = self.new.labels; queue = self.new.queue; standing = self.new.standing; seeds = self.new.seeds; scanned = self.new.scanned } }
         ensures roots { (a : ℕ) → IsRoot (state_of self.new) a ↔ (IsRoot (state_of self.old) a ⊎ (a ≡ v)) }
         ensures trees { tree_count (state_of self.new) ≡ tree_count (state_of self.old) + 1 }
         ensures exposed { exposed_count (state_of self.new) ≡ exposed_count (state_of self.old) }
@@ -195,7 +195,7 @@ impl Search {
     pub fn clear(&mut self)
         requires sound { IsSound self.old }
         ensures labels { (a : ℕ) → label_at self.new.labels.items a ≡ Out }
-        ensures rest { self.new ≡ record self.old { labels = self.new.labels; queue = self.new.queue; clock = pos 0; standing = self.new.standing; seeds = self.new.seeds } }
+        ensures rest { self.new ≡ record self.old { arena = record self.old.arena { motions = self.new.arena.motions }; labels = self.new.labels; queue = self.new.queue; clock = pos 0; standing = self.new.standing; seeds = self.new.seeds } }
         ensures trees { tree_count (state_of self.new) ≡ 0 }
         ensures exposed { exposed_count (state_of self.new) ≡ exposed_count (state_of self.old) }
         ensures sound { IsSound self.new }

@@ -13,7 +13,7 @@ use Rattle.alt_forest.specs.State.{State, IsOutermost, IsSearchState, node_u, no
 use Rattle.alt_forest.specs.Trees.{is_label, root_of}
 use Rattle.alt_forest.specs.Events.{CanAugment}
 use Rattle.alt_forest.specs.Searches.{HasShape, IsSound, state_of, label_at, edge_in}
-use Rattle.alt_forest.specs.Standing.{seed_at, IsSeed, IsStanding}
+use Rattle.alt_forest.specs.Standing.{AreMoving, seed_at, IsSeed, IsStanding}
 use Rattle.alt_forest.proofs.Mates.{joins_turned}
 use Rattle.alt_forest.proofs.Places.{nested_of}
 use Rattle.alt_forest.proofs.Relabelled.{outer_not_out, inner_not_out}
@@ -121,8 +121,8 @@ module _ (s : Search) (standing : IsStanding s) (one other : ℕ) where
       (λ t. t)
 
 module _ (s t : Search) (sound : IsSound s) (standing : IsStanding s) (e near far : ℕ) (ends : AreEnds (state_of s) e near far)
-    (is : t ≡ record s { labels = t.labels; mates = t.mates; standing = t.standing; seeds = t.seeds; scanned = t.scanned })
-    (turned : IsTurned (state_of s) (edge_in t.mates.items) e near far) (felled : IsFelled s t (root_of (state_of s) near) (root_of (state_of s) far)) where
+    (is : t ≡ record s { arena = record s.arena { motions = t.arena.motions }; labels = t.labels; mates = t.mates; standing = t.standing; seeds = t.seeds; scanned = t.scanned })
+    (turned : IsTurned (state_of s) (edge_in t.mates.items) e near far) (felled : IsFelled s t (root_of (state_of s) near) (root_of (state_of s) far)) (moving : AreMoving t) where
   abbrev x : State
   x = state_of s
 
@@ -197,6 +197,7 @@ module _ (s t : Search) (sound : IsSound s) (standing : IsStanding s) (e near fa
   standing_now = record {
     listed = felled.listed;
     trees = subst (λ (u : State). (a : ℕ) → IsOutermost u a → u.label a ≢ Out → (v : ℕ) × (seed_at t.seeds.items a ≡ Some v) × IsSeed u a v) (sym state_is) seed_now;
+    moves = moving;
   }
 
   pub exchanged : IsExchanged s t e near far
@@ -218,9 +219,9 @@ module _ (s t : Search) (sound : IsSound s) (standing : IsStanding s) (e near fa
   }
 
 -- what the calls leave, at once
-pub rest_of : (s t u : Search) → t ≡ record s { mates = t.mates } → u ≡ record t { labels = u.labels; standing = u.standing; seeds = u.seeds; scanned = u.scanned } → u ≡ record s { labels = u.labels; mates = u.mates; standing = u.standing; seeds = u.seeds; scanned = u.scanned }
-rest_of s t u first second = subst (λ (x : Search). x ≡ record s { labels = x.labels; mates = x.mates; standing = x.standing; seeds = x.seeds; scanned = x.scanned }) (sym second)
-    (ap (λ (x : Search). record x { labels = u.labels; standing = u.standing; seeds = u.seeds; scanned = u.scanned }) first)
+pub rest_of : (s t u : Search) → t ≡ record s { mates = t.mates } → u ≡ record t { arena = record t.arena { motions = u.arena.motions }; labels = u.labels; standing = u.standing; seeds = u.seeds; scanned = u.scanned } → u ≡ record s { arena = record s.arena { motions = u.arena.motions }; labels = u.labels; mates = u.mates; standing = u.standing; seeds = u.seeds; scanned = u.scanned }
+rest_of s t u first second = subst (λ (x : Search). x ≡ record s { arena = record s.arena { motions = x.arena.motions }; labels = x.labels; mates = x.mates; standing = x.standing; seeds = x.seeds; scanned = x.scanned }) (sym second)
+    (ap (λ (x : Search). record x { arena = record x.arena { motions = u.arena.motions }; labels = u.labels; standing = u.standing; seeds = u.seeds; scanned = u.scanned }) first)
 
 -- mates have nothing to do with what falls
 pub felled_of : (s t u : Search) (one other : ℕ) → t ≡ record s { mates = t.mates } → IsFelled t u one other → IsFelled s u one other
@@ -228,13 +229,16 @@ felled_of s t u one other rest f =
     let h : IsFelled (record s { mates = t.mates }) u one other = subst (λ (x : Search). IsFelled x u one other) rest f in
     record { listed = h.listed; labels = h.labels; seeds = h.seeds; only = h.only; all = h.all; different = h.different; inside = h.inside; scans = h.scans }
 
+pub moving_with : (s t : Search) → t ≡ record s { mates = t.mates } → IsStanding s → AreMoving t
+moving_with s t rest h = subst AreMoving (sym rest) h.moves
+
 pub seeded_with : (s t : Search) → t ≡ record s { mates = t.mates } → IsStanding s → AreSeeded t
 seeded_with s t rest h = subst AreSeeded (sym rest) (seeded_of s h)
 
 -- the whole of it, by what the calls promise
 module _ (s t u : Search) (sound : IsSound s) (standing : IsStanding s) (e near far one other : ℕ) (can : CanAugment (state_of s) e) (near_is : near ≡ node_u s.graph s.arena.blossoms e) (far_is : far ≡ node_v s.graph s.arena.blossoms e)
-    (one_is : one ≡ root_of (state_of s) near) (other_is : other ≡ root_of (state_of s) far) (first : t ≡ record s { mates = t.mates }) (second : u ≡ record t { labels = u.labels; standing = u.standing; seeds = u.seeds; scanned = u.scanned })
-    (turned : IsTurned (state_of s) (edge_in t.mates.items) e near far) (felled : IsFelled t u one other) where
+    (one_is : one ≡ root_of (state_of s) near) (other_is : other ≡ root_of (state_of s) far) (first : t ≡ record s { mates = t.mates }) (second : u ≡ record t { arena = record t.arena { motions = u.arena.motions }; labels = u.labels; standing = u.standing; seeds = u.seeds; scanned = u.scanned })
+    (turned : IsTurned (state_of s) (edge_in t.mates.items) e near far) (felled : IsFelled t u one other) (moving : AreMoving u) where
   abbrev a : ℕ
   a = node_u s.graph s.arena.blossoms e
 
@@ -249,7 +253,7 @@ module _ (s t u : Search) (sound : IsSound s) (standing : IsStanding s) (e near 
   all_felled = subst (λ z. IsFelled s u z (root_of (state_of s) b)) (one_is ∙ ap (root_of (state_of s)) near_is) (subst (IsFelled s u one) (other_is ∙ ap (root_of (state_of s)) far_is) (felled_of s t u one other first felled))
 
   pub sound_of : HasShape u → IsSound u
-  sound_of shape = sound_now s u sound standing e a b (ends_here (state_of s) e can) (rest_of s t u first second) all_turned all_felled shape
+  sound_of shape = sound_now s u sound standing e a b (ends_here (state_of s) e can) (rest_of s t u first second) all_turned all_felled moving shape
 
   pub exchange_of : (c : CanAugment (state_of s) e) → IsExchanged s u e c.one c.other
-  exchange_of c = exchanged_at s u e (exchanged s u sound standing e a b (ends_here (state_of s) e can) (rest_of s t u first second) all_turned all_felled) c
+  exchange_of c = exchanged_at s u e (exchanged s u sound standing e a b (ends_here (state_of s) e can) (rest_of s t u first second) all_turned all_felled moving) c

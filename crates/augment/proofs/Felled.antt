@@ -9,10 +9,11 @@ use Rattle.blossom_arena.proofs.Lists.{AllNew, distinct_from_new, by_test, new-a
 use Rattle.blossom_arena.proofs.Nested.{outermost_parts}
 use Rattle.blossom_arena.proofs.Sets.{member_vertex, members_new, outermost_has, outermost_by_member}
 use Rattle.blossom_arena.specs.declared.label.Label.{Label}
-use Rattle.blossom_arena.specs.declared.label.Label.TheVariants.{Out}
+use Rattle.blossom_arena.specs.declared.label.Label.TheVariants.{Outer, Inner, Out}
 use Rattle.alt_forest.specs.declared.search.Search.{Search}
-use Rattle.alt_forest.specs.Searches.{label_at, put}
-use Rattle.alt_forest.specs.Standing.{AreListed, seed_at}
+use Rattle.alt_forest.specs.Searches.{label_at, put, state_of}
+use Rattle.alt_forest.specs.State.{IsOutermost}
+use Rattle.alt_forest.specs.Standing.{AreListed, AreMoving, seed_at}
 use Rattle.alt_forest.specs.Trees.{is_label}
 use Rattle.alt_forest.proofs.Relabelled.{put_here, put_other}
 use Rattle.augment.specs.Felling.{stands, leads_to, falls, stays, AreSeeded, IsFelled}
@@ -175,7 +176,7 @@ leads_on s one other a e st =
     by_test leads (λ t. t) (λ t. absurd (both_ways (stays s one other a) e (and_from (stands s a) (not leads) st (not_from_false leads t))))
 
 -- The list, as far as it is gone through.
-module _ (s t : Search) (one other place : ℕ) (rest : t ≡ record s { labels = t.labels; standing = t.standing; seeds = t.seeds; scanned = t.scanned })
+module _ (s t : Search) (one other place : ℕ) (rest : t ≡ record s { arena = record s.arena { motions = t.arena.motions }; labels = t.labels; standing = t.standing; seeds = t.seeds; scanned = t.scanned })
     (h : IsFelling s one other (label_at t.labels.items) (seed_at t.seeds.items) t.standing.items t.scanned.items place) where
   stands_with : (a : ℕ) → label_at t.labels.items a ≡ label_at s.labels.items a → stands t a ≡ stands s a
   stands_with a same = ap (λ (u : Search). is_outermost u.graph.vertices u.arena.blossoms a && not (is_label (label_at t.labels.items a) Out)) rest
@@ -221,7 +222,7 @@ module _ (s t : Search) (one other place : ℕ) (rest : t ≡ record s { labels 
         (sym (stands_on a on) ∙ r.0, falls_on_list a on r.0 ∙ r.1))
 
 -- The node at a place of the list.
-module _ (s t : Search) (one other place : ℕ) (rest : t ≡ record s { labels = t.labels; standing = t.standing; seeds = t.seeds; scanned = t.scanned }) (listed : AreListed t.graph.vertices t.standing.items t.seeds.items)
+module _ (s t : Search) (one other place : ℕ) (rest : t ≡ record s { arena = record s.arena { motions = t.arena.motions }; labels = t.labels; standing = t.standing; seeds = t.seeds; scanned = t.scanned }) (listed : AreListed t.graph.vertices t.standing.items t.seeds.items)
     (h : IsFelling s one other (label_at t.labels.items) (seed_at t.seeds.items) t.standing.items t.scanned.items place) (low : place < length t.standing.items) where
   abbrev here : ℕ
   here = get_or t.standing.items place 0
@@ -235,7 +236,7 @@ module _ (s t : Search) (one other place : ℕ) (rest : t ≡ record s { labels 
   falls_same : stands t here ≡ true → falls s one other here ≡ leads_to t.arena.blossoms one other (seed_at t.seeds.items here)
   falls_same st = falls_on_list s t one other place rest h here is_on st
 
-  pub drops_off : (u : Search) → stands t here ≡ false → u ≡ record t { standing = u.standing; seeds = u.seeds } → seed_at u.seeds.items ≡ put (seed_at t.seeds.items) here None → ((k : ℕ) → k < place → get_or u.standing.items k 0 ≡ get_or t.standing.items k 0)
+  pub drops_off : (u : Search) → stands t here ≡ false → u ≡ record t { arena = record t.arena { motions = u.arena.motions }; standing = u.standing; seeds = u.seeds } → seed_at u.seeds.items ≡ put (seed_at t.seeds.items) here None → ((k : ℕ) → k < place → get_or u.standing.items k 0 ≡ get_or t.standing.items k 0)
       → IsFelling s one other (label_at u.labels.items) (seed_at u.seeds.items) u.standing.items u.scanned.items place
   drops_off u none now seeds before = subst (λ (x : Search). IsFelling s one other (label_at x.labels.items) (seed_at u.seeds.items) u.standing.items x.scanned.items place) (sym now)
       (felling_drops s one other (label_at t.labels.items) (seed_at t.seeds.items) t.standing.items t.scanned.items place h here (seed_at u.seeds.items) u.standing.items seeds before is_on (sym stands_same ∙ none))
@@ -276,3 +277,32 @@ felled s t one other place graph listed h all = record {
     kept a e =
         let r = holds_place t.standing.items a e in
         subst (λ x. (stands s x ≡ true) × (falls s one other x ≡ false)) r.2 (h.checked r.0 (omega (arith, r.1, all)))
+
+-- A node that is taken off the list moves no more; if it stood no longer, it didn't before.
+pub still_moving : (t u : Search) (here : ℕ) → u ≡ record t { arena = record t.arena { motions = u.arena.motions }; standing = u.standing; seeds = u.seeds } → label_at u.arena.motions ≡ put (label_at t.arena.motions) here Out
+    → stands t here ≡ false → AreMoving t → AreMoving u
+still_moving t u here rest motions none h a is =
+    let was : IsOutermost (state_of t) a = subst (λ (x : Search). IsOutermost (state_of x) a) rest is in
+    ap (λ (f : ℕ → Label). f a) motions
+    ∙ ⊎_elim
+    (λ at. ap (put (label_at t.arena.motions) here Out) at ∙ put_here (label_at t.arena.motions) here Out ∙ sym (out_here (label_at t.labels.items here) (subst (λ z. IsOutermost (state_of t) z) at was) none) ∙ sym (ap (label_at t.labels.items) at))
+    (λ ne. put_other (label_at t.arena.motions) here Out a ne ∙ h a was)
+    (cases_eq a here)
+    ∙ sym (ap (λ (x : Search). label_at x.labels.items a) rest)
+  where
+    out_here : (l : Label) → is_outermost t.graph.vertices t.arena.blossoms here ≡ true → (is_outermost t.graph.vertices t.arena.blossoms here && not (is_label l Out)) ≡ false → l ≡ Out
+    out_here Out is off = refl
+    out_here Outer is off = absurd (both_ways (is_outermost t.graph.vertices t.arena.blossoms here && true) off (and_from (is_outermost t.graph.vertices t.arena.blossoms here) true is refl))
+    out_here Inner is off = absurd (both_ways (is_outermost t.graph.vertices t.arena.blossoms here && true) off (and_from (is_outermost t.graph.vertices t.arena.blossoms here) true is refl))
+
+-- a node that is labelled out rests
+pub felled_moving : (t u : Search) (here : ℕ) → u ≡ record t { arena = record t.arena { motions = u.arena.motions }; labels = u.labels; standing = u.standing; seeds = u.seeds; scanned = u.scanned } → label_at u.arena.motions ≡ put (label_at t.arena.motions) here Out
+    → label_at u.labels.items ≡ put (label_at t.labels.items) here Out → AreMoving t → AreMoving u
+felled_moving t u here rest motions labels h a is =
+    let was : IsOutermost (state_of t) a = subst (λ (x : Search). is_outermost x.graph.vertices x.arena.blossoms a ≡ true) rest is in
+    ap (λ (f : ℕ → Label). f a) motions
+    ∙ ⊎_elim
+    (λ at. ap (put (label_at t.arena.motions) here Out) at ∙ put_here (label_at t.arena.motions) here Out ∙ sym (ap (put (label_at t.labels.items) here Out) at ∙ put_here (label_at t.labels.items) here Out))
+    (λ ne. put_other (label_at t.arena.motions) here Out a ne ∙ h a was ∙ sym (put_other (label_at t.labels.items) here Out a ne))
+    (cases_eq a here)
+    ∙ sym (ap (λ (f : ℕ → Label). f a) labels)

@@ -132,22 +132,22 @@ module _ (s : State) (depth : ℕ → ℕ) (nested : IsNested s.graph.vertices s
       (where_is s one other a)
 
 -- what is left of the mates of a search
-pub exposed_in : (s t : Search) (e one other : ℕ) → IsSound s → t ≡ record s { labels = t.labels; mates = t.mates; standing = t.standing; seeds = t.seeds; scanned = t.scanned } → IsExchanged s t e one other
+pub exposed_in : (s t : Search) (e one other : ℕ) → IsSound s → t ≡ record s { arena = record s.arena { motions = t.arena.motions }; labels = t.labels; mates = t.mates; standing = t.standing; seeds = t.seeds; scanned = t.scanned } → IsExchanged s t e one other
     → (a : ℕ) → IsExposed (state_of t) a ↔ (IsExposed (state_of s) a × (a ≢ root_of (state_of s) one) × (a ≢ root_of (state_of s) other))
 exposed_in s t e one other sound rest h a = subst (λ (u : Search). IsExposed (state_of u) a ↔ (IsExposed (state_of s) a × (a ≢ root_of (state_of s) one) × (a ≢ root_of (state_of s) other))) (sym rest)
     (exposed_now (state_of s) sound.depth (nested_of s sound.shape) sound.state (edge_in t.mates.items) (label_at t.labels.items) (root_of (state_of s) one) (root_of (state_of s) other) h.removed a)
 
-pub fewer_in : (s t : Search) (e one other : ℕ) → IsSound s → t ≡ record s { labels = t.labels; mates = t.mates; standing = t.standing; seeds = t.seeds; scanned = t.scanned } → IsExchanged s t e one other
+pub fewer_in : (s t : Search) (e one other : ℕ) → IsSound s → t ≡ record s { arena = record s.arena { motions = t.arena.motions }; labels = t.labels; mates = t.mates; standing = t.standing; seeds = t.seeds; scanned = t.scanned } → IsExchanged s t e one other
     → exposed_count (state_of t) + 2 ≡ exposed_count (state_of s)
 fewer_in s t e one other sound rest h = ap (λ (u : Search). exposed_count (state_of u) + 2) rest
     ∙ exposed_fewer (state_of s) sound.depth (nested_of s sound.shape) sound.state (edge_in t.mates.items) (label_at t.labels.items) (root_of (state_of s) one) (root_of (state_of s) other) h.removed
 
-pub trees_in : (s t : Search) (e one other : ℕ) → IsSound s → t ≡ record s { labels = t.labels; mates = t.mates; standing = t.standing; seeds = t.seeds; scanned = t.scanned } → IsExchanged s t e one other
+pub trees_in : (s t : Search) (e one other : ℕ) → IsSound s → t ≡ record s { arena = record s.arena { motions = t.arena.motions }; labels = t.labels; mates = t.mates; standing = t.standing; seeds = t.seeds; scanned = t.scanned } → IsExchanged s t e one other
     → tree_count (state_of t) + 2 ≡ tree_count (state_of s)
 trees_in s t e one other sound rest h = ap (λ (u : Search). tree_count (state_of u) + 2) rest
     ∙ trees_fewer (state_of s) sound.depth (nested_of s sound.shape) sound.state (edge_in t.mates.items) (label_at t.labels.items) (root_of (state_of s) one) (root_of (state_of s) other) h.removed
 
-pub planted_in : (s t : Search) (e one other : ℕ) → IsSound s → t ≡ record s { labels = t.labels; mates = t.mates; standing = t.standing; seeds = t.seeds; scanned = t.scanned } → IsExchanged s t e one other
+pub planted_in : (s t : Search) (e one other : ℕ) → IsSound s → t ≡ record s { arena = record s.arena { motions = t.arena.motions }; labels = t.labels; mates = t.mates; standing = t.standing; seeds = t.seeds; scanned = t.scanned } → IsExchanged s t e one other
     → IsPlanted (state_of s) → IsPlanted (state_of t)
 planted_in s t e one other sound rest h planted = subst (λ (u : Search). IsPlanted (state_of u)) (sym rest)
     (still_planted (state_of s) sound.depth (nested_of s sound.shape) sound.state (edge_in t.mates.items) (label_at t.labels.items) (root_of (state_of s) one) (root_of (state_of s) other) h.removed planted)

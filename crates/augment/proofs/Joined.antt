@@ -54,7 +54,7 @@ needs_kept s m l clock e o same_u same_v h = record {
         (λ p. (ap l (sym p.1) ∙ same_v ∙ ap s.label p.1, ap l (sym p.0) ∙ same_u ∙ ap s.label p.0))
         j
 
-module _ (s t : Search) (e one other : ℕ) (sound : IsSound s) (rest : t ≡ record s { labels = t.labels; mates = t.mates; standing = t.standing; seeds = t.seeds; scanned = t.scanned }) (h : IsExchanged s t e one other) where
+module _ (s t : Search) (e one other : ℕ) (sound : IsSound s) (rest : t ≡ record s { arena = record s.arena { motions = t.arena.motions }; labels = t.labels; mates = t.mates; standing = t.standing; seeds = t.seeds; scanned = t.scanned }) (h : IsExchanged s t e one other) where
   -- just what is in a tree is listed
   pub listed_tree : (a : ℕ) → IsOutermost (state_of s) a → label_at t.labels.items a ≢ Out → holds t.standing.items a ≡ true
   listed_tree a is in_it =
@@ -84,7 +84,7 @@ module _ (s t : Search) (e one other : ℕ) (sound : IsSound s) (rest : t ≡ re
   stays_in a is not_one not_other = h.removed.stays a is (record { not_one = not_one; not_other = not_other })
 
   -- looks at the vertices of the two trees will do
-  queued_here : (f : (a : ℕ) × (holds t.standing.items a ≡ true)) → IsQueued s → IsQueuedBut (record s { labels = t.labels; mates = t.mates; standing = t.standing; seeds = t.seeds; scanned = t.scanned }) t.scanned.items
+  queued_here : (f : (a : ℕ) × (holds t.standing.items a ≡ true)) → IsQueued s → IsQueuedBut (record s { arena = record s.arena { motions = t.arena.motions }; labels = t.labels; mates = t.mates; standing = t.standing; seeds = t.seeds; scanned = t.scanned }) t.scanned.items
   queued_here f q = record {
     low = q.low;
     high = q.high;

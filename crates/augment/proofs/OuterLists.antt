@@ -165,5 +165,5 @@ rest_then s t u first second = subst (λ (x : Search). x ≡ record s { queue = 
 -- the list of nodes has nothing to do with moments, nor with what is to be looked at
 pub standing_then : (s t : Search) → t ≡ record s { queue = t.queue; scanned = t.scanned } → IsStanding s → IsStanding t
 standing_then s t rest h =
-    let now : IsStanding (record s { queue = t.queue; scanned = t.scanned }) = record { listed = h.listed; trees = h.trees } in
+    let now : IsStanding (record s { queue = t.queue; scanned = t.scanned }) = record { listed = h.listed; trees = h.trees; moves = h.moves } in
     subst IsStanding (sym rest) now

@@ -3,7 +3,7 @@ ghost use Rattle.std.specs.Vec.{vec_capacity};
 ghost use Rattle.blossom_arena.specs.Family.{is_vertex, members_of};
 ghost use Rattle.blossom_arena.specs.declared.label.Label.TheVariants.{Out};
 ghost use Rattle.alt_forest.specs.Searches.{HasShape, label_at, put};
-ghost use Rattle.alt_forest.specs.Standing.{AreListed, seed_at};
+ghost use Rattle.alt_forest.specs.Standing.{AreMoving, AreListed, seed_at};
 ghost use Rattle.alt_forest.specs.Trees.{node_limit};
 ghost use Rattle.augment.specs.Felling.{stands, leads_to, falls, stays, AreSeeded, IsFelled};
 
@@ -75,12 +75,13 @@ fn fell_at(search: &mut Search, place: usize)
     requires place { place < vec_len search.old.standing }
     requires stands { stands search.old (get_or search.old.standing.items place 0) ≡ true }
     requires room { vec_len search.old.scanned + length (members_of search.old.arena.blossoms (get_or search.old.standing.items place 0)) ≤ vec_capacity search.old.scanned }
-    ensures rest { search.new ≡ record search.old { labels = search.new.labels; standing = search.new.standing; seeds = search.new.seeds; scanned = search.new.scanned } }
+    ensures rest { search.new ≡ record search.old { arena = record search.old.arena { motions = search.new.arena.motions }; labels = search.new.labels; standing = search.new.standing; seeds = search.new.seeds; scanned = search.new.scanned } }
     ensures shape { HasShape search.new }
     ensures listed { AreListed search.old.graph.vertices search.new.standing.items search.new.seeds.items }
     ensures labels { label_at search.new.labels.items ≡ put (label_at search.old.labels.items) (get_or search.old.standing.items place 0) Out }
     ensures scanned { search.new.scanned.items ≡ search.old.scanned.items ++ members_of search.old.arena.blossoms (get_or search.old.standing.items place 0) }
     ensures seeds { seed_at search.new.seeds.items ≡ put (seed_at search.old.seeds.items) (get_or search.old.standing.items place 0) None }
+    ensures motions { label_at search.new.arena.motions ≡ put (label_at search.old.arena.motions) (get_or search.old.standing.items place 0) Out }
     ensures fewer { vec_len search.new.standing + 1 ≡ vec_len search.old.standing }
     ensures before { (k : ℕ) → k < place → get_or search.new.standing.items k 0 ≡ get_or search.old.standing.items k 0 }
 {
@@ -90,15 +91,17 @@ fn fell_at(search: &mut Search, place: usize)
     search.unlist(place);
 }
 
-/// Labels exactly the nodes of the trees of two roots out, lists just the others in trees, and keeps the vertices
-/// of those two trees for looks.
+/// Labels exactly the nodes of the trees of two roots out, which rest then, lists just the others in trees, and
+/// keeps the vertices of those two trees for looks.
 pub(crate) fn fell(search: &mut Search, one: NodeId, other: NodeId)
     requires shape { HasShape search.old }
     requires listed { AreListed search.old.graph.vertices search.old.standing.items search.old.seeds.items }
     requires seeded { AreSeeded search.old }
-    ensures rest { search.new ≡ record search.old { labels = search.new.labels; standing = search.new.standing; seeds = search.new.seeds; scanned = search.new.scanned } }
+    requires moving { AreMoving search.old }
+    ensures rest { search.new ≡ record search.old { arena = record search.old.arena { motions = search.new.arena.motions }; labels = search.new.labels; standing = search.new.standing; seeds = search.new.seeds; scanned = search.new.scanned } }
     ensures shape { HasShape search.new }
     ensures felled { IsFelled search.old search.new one other }
+    ensures moving { AreMoving search.new }
 {
     search.scanned.clear();
     let mut place = 0;

@@ -33,7 +33,7 @@ pub fn join<L: Ledger>(search: &mut Search, graph: &Graph, e: EdgeId, steps: &mu
     ensures standing { IsStanding search.new }
     ensures cleared { (c : CanAugment (state_of search.old) e) (a : ℕ) → IsOutermost (state_of search.old) a → (root_of (state_of search.old) a ≡ root_of (state_of search.old) c.one) ⊎ (root_of (state_of search.old) a ≡ root_of (state_of search.old) c.other) → label_at search.new.labels.items a ≡ Out }
     ensures stays { (c : CanAugment (state_of search.old) e) (a : ℕ) → IsOutermost (state_of search.old) a → root_of (state_of search.old) a ≢ root_of (state_of search.old) c.one → root_of (state_of search.old) a ≢ root_of (state_of search.old) c.other → label_at search.new.labels.items a ≡ label_at search.old.labels.items a }
-    ensures rest { search.new ≡ record search.old { labels = search.new.labels; mates = search.new.mates; queue = search.new.queue; clock = search.new.clock; standing = search.new.standing; seeds = search.new.seeds; scanned = search.new.scanned } }
+    ensures rest { search.new ≡ record search.old { arena = record search.old.arena { motions = search.new.arena.motions }; labels = search.new.labels; mates = search.new.mates; queue = search.new.queue; clock = search.new.clock; standing = search.new.standing; seeds = search.new.seeds; scanned = search.new.scanned } }
     ensures clock { search.new.clock ≡ (if result then search.old.clock else pos 0) }
     ensures one { (c : CanAugment (state_of search.old) e) → edge_in search.new.mates.items c.one ≡ Some e }
     ensures other { (c : CanAugment (state_of search.old) e) → edge_in search.new.mates.items c.other ≡ Some e }

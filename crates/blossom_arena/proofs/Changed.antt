@@ -1,28 +1,23 @@
 -- What a change of the duals of outermost nodes keeps.
-use Rattle.std.proofs.Common.{◌≡◌, ℕ, ◌+◌, ◌≤◌, ◌<◌, Bool, true, false, ◌&&◌, not, eqb, cond, List, [], ◌∷◌, length, refl, sym, ap, ◌∙◌, subst, arith, ⊎_elim}
-use Rattle.std.specs.Prelude.{ℤ, pos, ◌+ℤ◌, ◌≤ℤ◌, nat_eq, All}
-use Rattle.std.specs.List.{AllByRecursion, IsDistinct}
-use Rattle.std.specs.Global.{Vec}
-use Rattle.std.specs.Vec.{with_items}
+use Rattle.std.proofs.Common.{◌≡◌, ℕ, ◌<◌, Bool, true, false, ◌&&◌, not, cond, List, [], ◌∷◌, length, refl, sym, ap, ◌∙◌, subst, arith}
+use Rattle.std.specs.Prelude.{ℤ, pos, ◌+ℤ◌, ◌≤ℤ◌, slice_set}
+use Rattle.std.specs.List.{AllByRecursion}
 use Rattle.std.proofs.lemmas.Int.{ints}
-use Rattle.std.proofs.lemmas.Bool.{and_parts, or_left, or_right, both_ways, cases_lt}
-use Rattle.std.proofs.lemmas.List.{get_or_default, get_or_past, with_items_is}
+use Rattle.std.proofs.lemmas.Bool.{or_left, or_right, both_ways}
+use Rattle.std.proofs.lemmas.List.{get_or_default, get_or-set_other, length-set}
 use Rattle.graph_theory.specs.Duals.{IsNumber}
-use Rattle.graph_theory.specs.Nested.{most_blossoms}
 use Rattle.graph_theory.specs.Parts.{holds}
-use Rattle.graph_theory.proofs.Members.{holds_all}
 use Rattle.blossom_arena.specs.declared.arena.Arena.TheInside.{Inside}
 use Rattle.blossom_arena.specs.declared.label.Label.{Label}
+use Rattle.blossom_arena.specs.declared.label.Label.TheVariants.{Out}
 use Rattle.blossom_arena.specs.Changes.{label_at, share, gain}
-use Rattle.blossom_arena.specs.Family.{Blossom, Family, IsNested, HasDuals, dual_at, in_ring, is_child, is_node, is_outermost, is_vertex, names_of, outermost}
-use Rattle.blossom_arena.specs.Fields.{AreSums, IsSound, added, blossoms_of, family_of, gain_by, inner_of}
-use Rattle.blossom_arena.specs.Slack.{IsCover, held_by}
-use Rattle.blossom_arena.proofs.Added.{added_at, length-added, sums_each}
-use Rattle.blossom_arena.proofs.Asked.{outer_entry}
+use Rattle.blossom_arena.specs.Family.{Blossom, Family, IsNested, HasDuals, HasMotions, dual_at, in_ring, is_child, is_node, is_outermost, is_vertex, names_of, outermost}
+use Rattle.blossom_arena.specs.Moving.{DualTable}
+use Rattle.blossom_arena.specs.Fields.{IsSound, blossoms_of, family_of, inner_of}
+use Rattle.blossom_arena.specs.Slack.{held_by}
 use Rattle.blossom_arena.proofs.Duals.{sound_with_duals}
 use Rattle.blossom_arena.proofs.Held.{dual_number}
-use Rattle.blossom_arena.proofs.Lists.{by_test, each_from, first_in, later_in, new_from_distinct}
-use Rattle.blossom_arena.proofs.Marks.{none_above}
+use Rattle.blossom_arena.proofs.Lists.{by_test, first_in, later_in}
 use Rattle.blossom_arena.proofs.Nested.{name_range, vertex_range}
 use Rattle.blossom_arena.proofs.Sets.{member_by_ring}
 
@@ -66,11 +61,6 @@ no_child true true e = refl
 no_child false true e = refl
 no_child p false e = absurd (both_ways false refl e)
 
-not_both : (p q : Bool) → q ≡ false → (p && q) ≡ false
-not_both true false e = refl
-not_both false false e = refl
-not_both p true e = absurd (both_ways true e refl)
-
 -- the duals of blossoms stay at least 0 where each of them does
 each_low : (y z : ℕ → ℤ) (us : List Blossom) → AllByRecursion (λ (b : Blossom). pos 0 ≤ℤ y b.node) us → ((x : ℕ) → holds (names_of us) x ≡ true → pos 0 ≤ℤ y x → pos 0 ≤ℤ z x)
     → AllByRecursion (λ (b : Blossom). pos 0 ≤ℤ z b.node) us
@@ -81,30 +71,18 @@ each_low y z (b ∷ us) each step = (
 )
 
 -- what an arena wants of a change
-pub record IsChange (f : Family) (nodes : List ℕ) (labels : List Label) (d : ℤ) : Type 0 where
-  pub different : IsDistinct nat_eq nodes
-  pub within : All (λ x. x ≤ f.vertex_count + most_blossoms f.vertex_count) nodes
-  pub labelled : f.vertex_count + most_blossoms f.vertex_count < length labels
-  pub in_range : (x : ℕ) → is_outermost f.vertex_count f.blossoms x ≡ true → IsNumber (dual_at f.duals x +ℤ share d (label_at labels x))
-  pub not_below : (x : ℕ) → is_outermost f.vertex_count f.blossoms x ≡ true → f.vertex_count < x → pos 0 ≤ℤ (dual_at f.duals x +ℤ share d (label_at labels x))
+pub record IsChange (f : Family) (d : ℤ) : Type 0 where
+  pub in_range : (x : ℕ) → is_outermost f.vertex_count f.blossoms x ≡ true → IsNumber (dual_at f.duals x +ℤ share d (label_at f.motions x))
+  pub not_below : (x : ℕ) → is_outermost f.vertex_count f.blossoms x ≡ true → f.vertex_count < x → pos 0 ≤ℤ (dual_at f.duals x +ℤ share d (label_at f.motions x))
 
 -- the same by the view
-pub seen : (a : Inside) (f : Family) (nodes : List ℕ) (labels : List Label) (d : ℤ) → family_of a ≡ f → IsDistinct nat_eq nodes
-    → All (λ x. x ≤ f.vertex_count + most_blossoms f.vertex_count) nodes → f.vertex_count + most_blossoms f.vertex_count < length labels
-    → ((x : ℕ) → is_outermost f.vertex_count f.blossoms x ≡ true → IsNumber (dual_at f.duals x +ℤ share d (label_at labels x)))
-    → ((x : ℕ) → is_outermost f.vertex_count f.blossoms x ≡ true → f.vertex_count < x → pos 0 ≤ℤ (dual_at f.duals x +ℤ share d (label_at labels x)))
-    → IsChange (family_of a) nodes labels d
-seen a f nodes labels d view different within labelled in_range not_below =
-    subst (λ g. IsChange g nodes labels d) (sym view) (record { different = different; within = within; labelled = labelled; in_range = in_range; not_below = not_below })
+pub seen : (a : Inside) (f : Family) (d : ℤ) → family_of a ≡ f
+    → ((x : ℕ) → is_outermost f.vertex_count f.blossoms x ≡ true → IsNumber (dual_at f.duals x +ℤ share d (label_at f.motions x)))
+    → ((x : ℕ) → is_outermost f.vertex_count f.blossoms x ≡ true → f.vertex_count < x → pos 0 ≤ℤ (dual_at f.duals x +ℤ share d (label_at f.motions x)))
+    → IsChange (family_of a) d
+seen a f d view in_range not_below = subst (λ g. IsChange g d) (sym view) (record { in_range = in_range; not_below = not_below })
 
--- the table of duals as a call leaves it
-pub written : (v : Vec ℤ) (ws : List ℤ) (f : ℕ → ℤ) (nodes : List ℕ) → ws ≡ added v.items f nodes → (with_items v ws).items ≡ added v.items f nodes
-written v ws f nodes e = with_items_is v ws (ap length e ∙ length-added v.items f nodes ∙ sym v.ok.0) ∙ e
-
-each_within : (xs : List ℕ) (k : ℕ) → All (λ x. x ≤ k) xs → (x : ℕ) → holds xs x ≡ true → x ≤ k
-each_within xs k all x m = holds_all (λ z. z ≤ k) xs x all m
-
-module _ (a : Inside) (nodes : List ℕ) (labels : List Label) (d : ℤ) (s : IsSound a) (c : IsChange (family_of a) nodes labels d) where
+module _ (a : Inside) (d : ℤ) (s : IsSound a) (c : IsChange (family_of a) d) where
   abbrev n : ℕ
   n = a.vertex_count
 
@@ -112,77 +90,66 @@ module _ (a : Inside) (nodes : List ℕ) (labels : List Label) (d : ℤ) (s : Is
   bs = blossoms_of a
 
   abbrev ys : List ℤ
-  ys = a.duals.items
+  ys = a.duals.values
 
-  abbrev more : ℕ → ℤ
-  more = gain_by a.parents.items labels d
+  abbrev ms : List Label
+  ms = a.duals.motions
 
   abbrev here : ℕ → ℤ
-  here = gain (family_of a) nodes labels d
+  here = gain (family_of a) d
 
-  -- each node has a place in each table
-  pub change_places : AllByRecursion (λ x. (x < length ys) × (x < length a.parents.items) × (x < length labels)) nodes
-  change_places = each_from (λ x. (x < length ys) × (x < length a.parents.items) × (x < length labels)) nodes
-      (λ x m. let low : x ≤ n + most_blossoms n = each_within nodes (n + most_blossoms n) c.within x m in
-      (omega (arith, low, s.family.duals.one_each), omega (arith, low, s.places.parents), omega (arith, low, c.labelled)))
-
-  -- the table of parents tells which nodes are outermost
-  by_parent : (x : ℕ) → x ≤ n + most_blossoms n → more x ≡ cond (is_outermost n bs x) (share d (label_at labels x)) (pos 0)
-  by_parent x low = ap (λ q. cond q (share d (label_at labels x)) (pos 0)) (ap (λ p. eqb p 0) (s.parents x low) ∙ outer_entry n bs x s.family.nested)
-
-  both : (p q : Bool) (x : ℤ) → cond p (cond q x (pos 0)) (pos 0) ≡ cond (p && q) x (pos 0)
-  both true q x = refl
-  both false q x = refl
-
-  -- what a node has after the change
-  pub changed_at : (x : ℕ) → dual_at (added ys more nodes) x ≡ dual_at ys x +ℤ here x
-  changed_at x = ⊎_elim
-      (λ (low : x < length ys).
-      added_at ys more nodes x (new_from_distinct nodes c.different) low
-      ∙ ap (λ z. dual_at ys x +ℤ cond (holds nodes x) z (pos 0)) (by_parent x (omega (arith, low, s.family.duals.one_each)))
-      ∙ ap (λ z. dual_at ys x +ℤ z) (both (holds nodes x) (is_outermost n bs x) (share d (label_at labels x))))
-      (λ (high : length ys ≤ x).
-      let none : here x ≡ pos 0 = ap (λ q. cond q (share d (label_at labels x)) (pos 0)) (not_both (holds nodes x) (is_outermost n bs x) (none_above n bs x s.family.nested (omega (arith, high, s.family.duals.one_each)))) in
-      let past : dual_at ys x ≡ pos 0 = get_or_past ys x (pos 0) high in
-      let after : dual_at (added ys more nodes) x ≡ pos 0 = get_or_past (added ys more nodes) x (pos 0) (omega (arith, high, length-added ys more nodes)) in
-      omega (arith, ints, none, past, after))
-      (cases_lt x (length ys))
+  -- what isn't outermost rests
+  gain_is : (x : ℕ) → here x ≡ share d (label_at ms x)
+  gain_is x = by_test (is_outermost n bs x)
+      (λ t. ap (λ q. cond q (share d (label_at ms x)) (pos 0)) t)
+      (λ t. ap (λ q. cond q (share d (label_at ms x)) (pos 0)) t ∙ sym (ap (share d) (s.family.motions.inside x t)))
 
   -- a property of each sum
-  either : (P : ℤ → Type 0) (x : ℕ) → (is_outermost n bs x ≡ true → P (dual_at ys x +ℤ share d (label_at labels x))) → P (dual_at ys x) → P (dual_at ys x +ℤ here x)
-  either P x gains stays = by_test (holds nodes x && is_outermost n bs x)
-      (λ t. subst (λ q. P (dual_at ys x +ℤ cond q (share d (label_at labels x)) (pos 0))) (sym t) (gains (and_parts (holds nodes x) (is_outermost n bs x) t).1))
-      (λ t. subst (λ q. P (dual_at ys x +ℤ cond q (share d (label_at labels x)) (pos 0))) (sym t) (subst P (alone (dual_at ys x)) stays))
+  either : (P : ℤ → Type 0) (x : ℕ) → (is_outermost n bs x ≡ true → P (dual_at ys x +ℤ share d (label_at ms x))) → P (dual_at ys x) → P (dual_at ys x +ℤ share d (label_at ms x))
+  either P x gains stays = by_test (is_outermost n bs x) gains
+      (λ t. subst (λ (l : Label). P (dual_at ys x +ℤ share d l)) (sym (s.family.motions.inside x t)) (subst P (alone (dual_at ys x)) stays))
     where
       alone : (y : ℤ) → y ≡ y +ℤ pos 0
       alone y = omega (arith, ints)
 
-  number : (x : ℕ) → IsNumber (dual_at ys x +ℤ here x)
-  number x = either IsNumber x (c.in_range x) (dual_number ys x s.family.duals.in_range)
-
-  pub change_fits : AreSums ys more nodes
-  change_fits = sums_each ys more nodes (new_from_distinct nodes c.different)
-      (λ x m. let low : x ≤ n + most_blossoms n = each_within nodes (n + most_blossoms n) c.within x m in
-      let same : here x ≡ more x = ap (λ q. cond (q && is_outermost n bs x) (share d (label_at labels x)) (pos 0)) m ∙ sym (by_parent x low) in
-      cover (dual_at ys x +ℤ more x) (subst (λ z. IsNumber (dual_at ys x +ℤ z)) same (number x)))
-    where
-      cover : (y : ℤ) → IsNumber y → IsCover y
-      cover y is = (omega (arith, ints, is.0, is.1), omega (arith, ints, is.0, is.1))
-
-  pub change_duals : HasDuals n (added ys more nodes) bs
-  change_duals = record {
-    one_each = length-added ys more nodes ∙ s.family.duals.one_each;
-    in_range = λ i e low. subst IsNumber (get_or_default (added ys more nodes) i (pos 0) e low) (subst IsNumber (sym (changed_at i)) (number i));
-    blossoms = each_low (dual_at ys) (dual_at (added ys more nodes)) bs s.family.duals.blossoms
-        (λ x m low. subst (λ z. pos 0 ≤ℤ z) (sym (changed_at x)) (either (λ z. pos 0 ≤ℤ z) x (λ o. c.not_below x o (name_range n bs x s.family.nested m).0) low));
-  }
+  pub numbers : (x : ℕ) → IsNumber (dual_at ys x +ℤ share d (label_at ms x))
+  numbers x = either IsNumber x (c.in_range x) (dual_number ys x s.family.duals.in_range)
 
   child_none : (x : ℕ) → is_child bs x ≡ true → here x ≡ pos 0
-  child_none x child = ap (λ q. cond q (share d (label_at labels x)) (pos 0)) (not_both (holds nodes x) (is_outermost n bs x) (no_child (is_node n bs x) (is_child bs x) child))
+  child_none x child = ap (λ q. cond q (share d (label_at ms x)) (pos 0)) (no_child (is_node n bs x) (is_child bs x) child)
 
-  pub change_sound : (duals : Vec ℤ) → duals.items ≡ added ys more nodes → IsSound (record a { duals = duals })
-  change_sound duals written =
-      let same : dual_at (added ys more nodes) ≡ (λ x. dual_at ys x +ℤ here x) = λ i x. changed_at x i in
-      sound_with_duals a duals a.inner s (subst (λ (zs : List ℤ). HasDuals n zs bs) (sym written) change_duals) s.places.inner
-      (λ v iv. let r = vertex_range n v iv in
-      s.inner v r.0 r.1 ∙ sym (inner_stays n (dual_at ys) here bs v iv s.family.nested child_none) ∙ ap (λ y. inner_of y bs v) (sym same) ∙ ap (λ (zs : List ℤ). inner_of (dual_at zs) bs v) (sym written))
+  module _ (t : DualTable) (each : (x : ℕ) → dual_at t.values x ≡ dual_at ys x +ℤ share d (label_at ms x)) (len : length t.values ≡ length ys) (same : t.motions ≡ ms) where
+    pub advanced_at : (x : ℕ) → dual_at t.values x ≡ dual_at ys x +ℤ here x
+    advanced_at x = each x ∙ ap (λ z. dual_at ys x +ℤ z) (sym (gain_is x))
+
+    advanced_duals : HasDuals n t.values bs
+    advanced_duals = record {
+      one_each = len ∙ s.family.duals.one_each;
+      in_range = λ i e low. subst IsNumber (get_or_default t.values i (pos 0) e low) (subst IsNumber (sym (each i)) (numbers i));
+      blossoms = each_low (dual_at ys) (dual_at t.values) bs s.family.duals.blossoms
+          (λ x m low. subst (λ z. pos 0 ≤ℤ z) (sym (each x)) (either (λ z. pos 0 ≤ℤ z) x (λ o. c.not_below x o (name_range n bs x s.family.nested m).0) low));
+    }
+
+    pub advance_sound : IsSound (record a { duals = t })
+    advance_sound =
+        let all : dual_at t.values ≡ (λ x. dual_at ys x +ℤ here x) = λ i x. advanced_at x i in
+        sound_with_duals a t a.inner s advanced_duals (subst (λ (ls : List Label). HasMotions n ls bs) (sym same) s.family.motions) s.places.inner
+        (λ v iv. let r = vertex_range n v iv in
+        s.inner v r.0 r.1 ∙ sym (inner_stays n (dual_at ys) here bs v iv s.family.nested child_none) ∙ ap (λ y. inner_of y bs v) (sym all))
+
+-- motions that change, and the duals as they were
+module _ (a : Inside) (s : IsSound a) (t : DualTable) (same : t.values ≡ a.duals.values) where
+  still_duals : HasDuals a.vertex_count t.values (blossoms_of a)
+  still_duals = subst (λ (ys : List ℤ). HasDuals a.vertex_count ys (blossoms_of a)) (sym same) s.family.duals
+
+  pub motions_sound : HasMotions a.vertex_count t.motions (blossoms_of a) → IsSound (record a { duals = t })
+  motions_sound h =
+      sound_with_duals a t a.inner s still_duals h s.places.inner
+      (λ v iv. let r = vertex_range a.vertex_count v iv in s.inner v r.0 r.1 ∙ ap (λ (ys : List ℤ). inner_of (dual_at ys) (blossoms_of a) v) (sym same))
+
+-- an outermost node that moves
+pub motions_with : (n : ℕ) (bs : List Blossom) (ms : List Label) (node : ℕ) (l : Label) → is_outermost n bs node ≡ true → HasMotions n ms bs → HasMotions n (slice_set ms node l) bs
+motions_with n bs ms node l outer h = record {
+  one_each = length-set ms node l ∙ h.one_each;
+  inside = λ x e. get_or-set_other ms node x l Out (λ (same : x ≡ node). both_ways (is_outermost n bs x) e (ap (is_outermost n bs) same ∙ outer)) ∙ h.inside x e;
+}

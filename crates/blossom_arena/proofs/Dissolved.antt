@@ -11,7 +11,10 @@ use Rattle.graph_theory.specs.Parts.{holds}
 use Rattle.blossom_arena.specs.declared.runs.Kept.{Kept}
 use Rattle.blossom_arena.specs.declared.arena.Arena.TheInside.{Inside}
 use Rattle.blossom_arena.specs.Tables.{walk, links_of, filled}
-use Rattle.blossom_arena.specs.Family.{Blossom, nodes_of, in_ring, is_vertex, is_node, is_child, members_of, ring_of, without, dual_at, HasDuals, IsNested, outermost}
+use Rattle.blossom_arena.specs.Family.{Blossom, nodes_of, in_ring, is_vertex, is_node, is_child, members_of, ring_of, without, dual_at, HasDuals, HasMotions, IsNested, outermost}
+use Rattle.blossom_arena.specs.declared.label.Label.TheVariants.{Out}
+use Rattle.blossom_arena.specs.Moving.{DualTable}
+use Rattle.blossom_arena.proofs.Rested.{motions_dissolved}
 use Rattle.blossom_arena.specs.Fields.{IsSound, blossoms_of, order_of, key_of, kept_of, kept_or_none, run_of, vertices_of, IsRun, lowered, parent_entry, build, IsOrder, sum_at, added, outer_dual, inner_of}
 use Rattle.blossom_arena.proofs.Lists.{by_test, each_from}
 use Rattle.blossom_arena.proofs.Nested.{vertex_range, range_vertex, child_is_node, name_is_node}
@@ -37,8 +40,9 @@ pub record Dissolves (a b : Inside) (node : ℕ) : Type 0 where
   pub newer : b.newer.items ≡ slice_set a.newer.items (slice_index a.older.items node) (slice_index a.newer.items node)
   pub parents : b.parents.items ≡ slice_set (filled a.parents.items (nodes_of (ring_of (blossoms_of a) node)) 0) node 1
   pub outer : b.outer.items ≡ lowered a.outer.items (λ x. vertices_of a.followers.items (run_of a.vertex_count b.kept x)) (nodes_of (ring_of (blossoms_of a) node))
-  pub inner : b.inner.items ≡ added a.inner.items (λ v. neg_ℤ (outer_dual b.outer.items a.duals.items v)) (members_of (blossoms_of a) node)
-  pub none : dual_at a.duals.items node ≡ pos 0
+  pub inner : b.inner.items ≡ added a.inner.items (λ v. neg_ℤ (outer_dual b.outer.items a.duals.values v)) (members_of (blossoms_of a) node)
+  pub none : dual_at a.duals.values node ≡ pos 0
+  pub duals : b.duals ≡ record { values = a.duals.values; motions = slice_set a.duals.motions node Out }
 
 -- the kept of another node
 pub other_kept : (n : ℕ) (kept kept' : Slab Kept) (node x : ℕ) → Updates kept kept' (key_of n node) None → n < node → n < x → eqb node x ≡ false → get kept' (key_of n x) ≡ get kept (key_of n x)
@@ -71,9 +75,9 @@ outer_after a kept outer node v s there free updates written iv =
     ∙ outermost_lowered n bs node v a.outer.items (λ x. vertices_of a.followers.items (run_of n kept x)) s.family.nested (ap (λ ys. holds ys node) (order_names a) ∙ there) free iv
     (omega (arith, range.1, s.places.outer)) run_is (s.outer v range.0 range.1)
 
-module _ (a : Inside) (inner : Vec ℤ) (parents outer older newer : Vec ℕ) (kept : Slab Kept) (node : ℕ) where
+module _ (a : Inside) (duals : DualTable) (inner : Vec ℤ) (parents outer older newer : Vec ℕ) (kept : Slab Kept) (node : ℕ) where
   abbrev pub after : Inside
-  after = record { vertex_count = a.vertex_count; duals = a.duals; inner = inner; parents = parents; nexts = a.nexts; edges = a.edges; outer = outer; followers = a.followers; older = older; newer = newer; kept = kept }
+  after = record { vertex_count = a.vertex_count; duals = duals; inner = inner; parents = parents; nexts = a.nexts; edges = a.edges; outer = outer; followers = a.followers; older = older; newer = newer; kept = kept }
 
   module _ (s : IsSound a) (there : holds (order_of a) node ≡ true) (free : is_child (blossoms_of a) node ≡ false) (h : Dissolves a after node) where
     abbrev n : ℕ
@@ -130,11 +134,12 @@ module _ (a : Inside) (inner : Vec ℤ) (parents outer older newer : Vec ℕ) (k
       family = record {
         few = s.family.few;
         nested = subst (IsNested n) (sym blossoms_after) nested_after;
-        duals = subst (HasDuals n a.duals.items) (sym blossoms_after) (record {
+        duals = subst (λ (t : DualTable). HasDuals n t.values (blossoms_of after)) (sym h.duals) (subst (HasDuals n a.duals.values) (sym blossoms_after) (record {
           one_each = s.family.duals.one_each;
           in_range = s.family.duals.in_range;
-          blossoms = each_without (λ (b : Blossom). pos 0 ≤ℤ dual_at a.duals.items b.node) bs node s.family.duals.blossoms;
-        });
+          blossoms = each_without (λ (b : Blossom). pos 0 ≤ℤ dual_at a.duals.values b.node) bs node s.family.duals.blossoms;
+        }));
+        motions = subst (λ (t : DualTable). HasMotions n t.motions (blossoms_of after)) (sym h.duals) (subst (HasMotions n (slice_set a.duals.motions node Out)) (sym blossoms_after) (motions_dissolved n bs a.duals.motions node s.family.motions));
       };
       places = record {
         parents = ap length h.parents ∙ length-set (filled a.parents.items (nodes_of (ring_of bs node)) 0) node 1 ∙ length-filled a.parents.items (nodes_of (ring_of bs node)) 0 ∙ s.places.parents;
@@ -143,17 +148,18 @@ module _ (a : Inside) (inner : Vec ℤ) (parents outer older newer : Vec ℕ) (k
         older = ap length h.older ∙ length-set a.older.items (slice_index a.newer.items node) (slice_index a.older.items node) ∙ s.places.older;
         newer = ap length h.newer ∙ length-set a.newer.items (slice_index a.older.items node) (slice_index a.newer.items node) ∙ s.places.newer;
         outer = ap length h.outer ∙ length-lowered a.outer.items (λ x. vertices_of a.followers.items (run_of n kept x)) (nodes_of (ring_of bs node)) ∙ s.places.outer;
-        inner = ap length h.inner ∙ length-added a.inner.items (λ v. neg_ℤ (outer_dual outer.items a.duals.items v)) (members_of bs node) ∙ s.places.inner;
+        inner = ap length h.inner ∙ length-added a.inner.items (λ v. neg_ℤ (outer_dual outer.items a.duals.values v)) (members_of bs node) ∙ s.places.inner;
         followers = s.places.followers;
       };
       outer = λ v low high.
           now_outer v (range_vertex n v low high) ∙ ap (λ us. outermost us v) (sym blossoms_after);
       inner = λ v low high.
           ap (λ (t : List ℤ). sum_at t v) h.inner
-          ∙ added_at a.inner.items (λ x. neg_ℤ (outer_dual outer.items a.duals.items x)) (members_of bs node) v (members_new n bs node s.family.nested is) (omega (arith, high, s.places.inner))
-          ∙ ap₂ (λ (z : ℤ) (o : ℕ). z +ℤ cond (holds (members_of bs node) v) (neg_ℤ (dual_at a.duals.items o)) (pos 0)) (s.inner v low high) (now_outer v (range_vertex n v low high))
-          ∙ sym (inner_dissolved n bs v s.family.nested (range_vertex n v low high) (dual_at a.duals.items) node (and_from (is_node n bs node) (not (is_child bs node)) is (ap not free)) h.none)
-          ∙ ap (λ (us : List Blossom). inner_of (dual_at a.duals.items) us v) (sym blossoms_after);
+          ∙ added_at a.inner.items (λ x. neg_ℤ (outer_dual outer.items a.duals.values x)) (members_of bs node) v (members_new n bs node s.family.nested is) (omega (arith, high, s.places.inner))
+          ∙ ap₂ (λ (z : ℤ) (o : ℕ). z +ℤ cond (holds (members_of bs node) v) (neg_ℤ (dual_at a.duals.values o)) (pos 0)) (s.inner v low high) (now_outer v (range_vertex n v low high))
+          ∙ sym (inner_dissolved n bs v s.family.nested (range_vertex n v low high) (dual_at a.duals.values) node (and_from (is_node n bs node) (not (is_child bs node)) is (ap not free)) h.none)
+          ∙ ap (λ (us : List Blossom). inner_of (dual_at a.duals.values) us v) (sym blossoms_after)
+          ∙ ap (λ (t : DualTable). inner_of (dual_at t.values) (blossoms_of after) v) (sym h.duals);
       parents = λ x high.
           ap (λ t. slice_index t x) h.parents
           ∙ dissolved_entry n bs node a.parents.items x s.family.nested (ap (λ ys. holds ys node) (order_names a) ∙ there)

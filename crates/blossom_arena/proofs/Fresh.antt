@@ -1,10 +1,10 @@
 -- The fields of an arena without blossoms.
-use Rattle.std.proofs.Common.{◌≡◌, ◌∙◌, ℕ, ◌+◌, ◌≤◌, ◌<◌, false, List, [], length, refl, sym, ap, subst, arith, get_or, Option, None}
+use Rattle.std.proofs.Common.{◌≡◌, ◌∙◌, ℕ, ◌+◌, ◌≤◌, ◌<◌, false, List, [], length, refl, sym, ap, subst, arith, get_or, Option, None, ⊎_elim}
 use Rattle.std.specs.Prelude.{ℤ, pos, ◌+ℤ◌, ◌-ℤ◌, replicate, slice_index, count_by, is_some}
 use Rattle.std.specs.List.{AllByRecursion}
-use Rattle.std.proofs.lemmas.Bool.{both_ways}
+use Rattle.std.proofs.lemmas.Bool.{both_ways, cases_lt}
 use Rattle.std.proofs.lemmas.Int.{ints}
-use Rattle.std.proofs.lemmas.List.{length-replicate, get_or-replicate}
+use Rattle.std.proofs.lemmas.List.{length-replicate, get_or-replicate, get_or_past}
 use Rattle.slab.specs.Slab.{get}
 use Rattle.graph_theory.specs.Parts.{holds}
 use Rattle.blossom_arena.specs.declared.runs.Kept.{Kept}
@@ -12,7 +12,10 @@ use Rattle.blossom_arena.specs.declared.arena.Arena.TheInside.{Inside}
 use Rattle.blossom_arena.specs.Tables.{walk}
 use Rattle.graph_theory.specs.Nested.{most_blossoms}
 use Rattle.graph_theory.specs.Duals.{IsNumber}
-use Rattle.blossom_arena.specs.Family.{IsNested, HasDuals, empty_family, outermost, dual_at}
+use Rattle.blossom_arena.specs.Family.{IsNested, HasDuals, HasMotions, empty_family, outermost, dual_at}
+use Rattle.blossom_arena.specs.declared.label.Label.{Label}
+use Rattle.blossom_arena.specs.declared.label.Label.TheVariants.{Out}
+use Rattle.blossom_arena.specs.Moving.{DualTable, empty_table}
 use Rattle.blossom_arena.specs.Fields.{IsSound, blossoms_of, order_of, family_of, key_of, build, parent_entry, IsOrder, sum_at, inner_of}
 use Rattle.blossom_arena.proofs.Sound.{rings}
 
@@ -20,7 +23,7 @@ pub record IsFresh (a : Inside) : Type 0 where
   pub few : a.vertex_count ≤ 4096
   pub slots : a.kept.slots ≡ []
   pub room : a.kept.capacity ≡ most_blossoms a.vertex_count
-  pub duals : a.duals.items ≡ replicate (a.vertex_count + most_blossoms a.vertex_count + 1) (pos 0)
+  pub duals : a.duals ≡ empty_table (a.vertex_count + most_blossoms a.vertex_count + 1)
   pub parents_len : length a.parents.items ≡ a.vertex_count + most_blossoms a.vertex_count + 1
   pub parents : (x : ℕ) → x ≤ a.vertex_count + most_blossoms a.vertex_count → slice_index a.parents.items x ≡ parent_entry a.vertex_count [] x
   pub nexts : length a.nexts.items ≡ a.vertex_count + most_blossoms a.vertex_count + 1
@@ -48,10 +51,10 @@ module _ (a : Inside) (h : IsFresh a) where
   zero_at : (t : List ℕ) (x : ℕ) → t ≡ replicate places 0 → x < places → get_or t x 0 ≡ 0
   zero_at t x e low = ap (λ s. get_or s x 0) e ∙ get_or-replicate places x 0 0 low
 
-  no_sum : (v : ℕ) → v ≤ n → sum_at a.inner.items v ≡ inner_of (dual_at a.duals.items) (blossoms_of a) v
+  no_sum : (v : ℕ) → v ≤ n → sum_at a.inner.items v ≡ inner_of (dual_at a.duals.values) (blossoms_of a) v
   no_sum v high =
       ap (λ (t : List ℤ). sum_at t v) h.inner ∙ get_or-replicate (n + 1) v (pos 0) (pos 0) (omega (arith, high))
-      ∙ nothing (dual_at a.duals.items v) ∙ ap (λ bs. inner_of (dual_at a.duals.items) bs v) (sym no_blossoms)
+      ∙ nothing (dual_at a.duals.values v) ∙ ap (λ bs. inner_of (dual_at a.duals.values) bs v) (sym no_blossoms)
     where
       nothing : (y : ℤ) → pos 0 ≡ (y +ℤ pos 0) -ℤ y
       nothing y = omega (arith, ints)
@@ -63,15 +66,25 @@ module _ (a : Inside) (h : IsFresh a) where
     blossoms = tt;
   }
 
+  no_motions : HasMotions n (replicate places Out) []
+  no_motions = record {
+    one_each = length-replicate places Out;
+    inside = λ x e. ⊎_elim
+        (λ (low : x < places). get_or-replicate places x Out Out low)
+        (λ (high : places ≤ x). get_or_past (replicate places Out) x Out (omega (arith, high, length-replicate {A = Label} places Out)))
+        (cases_lt x places);
+  }
+
   pub fresh_family : family_of a ≡ empty_family n
-  fresh_family = ap (λ bs. record { vertex_count = n; duals = a.duals.items; blossoms = bs }) no_blossoms ∙ ap (λ ys. record { vertex_count = n; duals = ys; blossoms = [] }) h.duals
+  fresh_family = ap (λ bs. record { vertex_count = n; duals = a.duals.values; motions = a.duals.motions; blossoms = bs }) no_blossoms ∙ ap (λ (t : DualTable). record { vertex_count = n; duals = t.values; motions = t.motions; blossoms = [] }) h.duals
 
   pub fresh_sound : IsSound a
   fresh_sound = record {
     family = record {
       few = h.few;
       nested = subst (IsNested n) (sym no_blossoms) tt;
-      duals = subst (HasDuals n a.duals.items) (sym no_blossoms) (subst (λ ys. HasDuals n ys []) (sym h.duals) no_duals);
+      duals = subst (HasDuals n a.duals.values) (sym no_blossoms) (subst (λ (t : DualTable). HasDuals n t.values []) (sym h.duals) no_duals);
+      motions = subst (HasMotions n a.duals.motions) (sym no_blossoms) (subst (λ (t : DualTable). HasMotions n t.motions []) (sym h.duals) no_motions);
     };
     places = record {
       parents = h.parents_len;

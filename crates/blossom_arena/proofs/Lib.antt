@@ -1,4 +1,5 @@
 pub mod Lists
+pub mod Moving
 pub mod LinkLists
 pub mod Nested
 pub mod Sets
@@ -7,6 +8,7 @@ pub mod Ends
 pub mod Tails
 pub mod Parents
 pub mod Taken
+pub mod Rested
 pub mod Writes
 pub mod Orders
 pub mod Builds

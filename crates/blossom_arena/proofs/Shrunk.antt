@@ -16,8 +16,11 @@ use Rattle.blossom_arena.specs.declared.arena.Arena.TheInside.{Inside}
 use Rattle.blossom_arena.specs.Tables.{walk, links_of, filled, next_node, threaded, noted}
 use Rattle.graph_theory.specs.Nested.{most_blossoms}
 use Rattle.graph_theory.specs.Duals.{IsNumber}
-use Rattle.blossom_arena.specs.Family.{Blossom, nodes_of, in_ring, names_of, is_vertex, is_node, is_child, members_of, union_of, made_of, dual_at, HasDuals, IsCircuit, IsNext, IsNested, outermost}
+use Rattle.blossom_arena.specs.Family.{Blossom, nodes_of, in_ring, names_of, is_vertex, is_node, is_child, members_of, union_of, made_of, dual_at, rested, HasDuals, HasMotions, IsCircuit, IsNext, IsNested, outermost}
 use Rattle.blossom_arena.specs.Tables.{last_of}
+use Rattle.blossom_arena.specs.declared.label.Label.TheVariants.{Out}
+use Rattle.blossom_arena.specs.Moving.{DualTable}
+use Rattle.blossom_arena.proofs.Rested.{motions_shrunk}
 use Rattle.blossom_arena.specs.Fields.{IsSound, blossoms_of, order_of, key_of, kept_of, kept_or_none, runs_of, IsRun, joined, parent_entry, build, IsOrder, sum_at, added, outer_dual, inner_of}
 use Rattle.blossom_arena.proofs.Lists.{by_test, AllNew, new_from_distinct, first_in, later_in, each_from}
 use Rattle.blossom_arena.proofs.Nested.{circuit_outer, circuit_node, outermost_parts, node_range, vertex_range, range_vertex, name_is_node}
@@ -42,7 +45,8 @@ new_kept a ring = record { first = next_node ring 0; links = length ring; run = 
 -- how the fields change in a shrink
 pub record Shrinks (a b : Inside) (ring : List Link) (node key : ℕ) : Type 0 where
   pub number : node ≡ a.vertex_count + 1 + key
-  pub duals : b.duals.items ≡ slice_set a.duals.items node (pos 0)
+  pub duals : b.duals.values ≡ slice_set a.duals.values node (pos 0)
+  pub motions : b.duals.motions ≡ slice_set (rested a.duals.motions (nodes_of ring)) node Out
   pub vacant : get a.kept key ≡ None
   pub updates : Updates a.kept b.kept key (Some (new_kept a ring))
   pub len : slab_len b.kept ≡ slab_len a.kept + 1
@@ -53,7 +57,7 @@ pub record Shrinks (a b : Inside) (ring : List Link) (node key : ℕ) : Type 0 w
   pub edges : b.edges.items ≡ noted a.edges.items ring
   pub parents : b.parents.items ≡ slice_set (filled a.parents.items (nodes_of ring) node) node 0
   pub outer : b.outer.items ≡ filled a.outer.items (union_of (blossoms_of a) ring) node
-  pub inner : b.inner.items ≡ added a.inner.items (outer_dual a.outer.items a.duals.items) (union_of (blossoms_of a) ring)
+  pub inner : b.inner.items ≡ added a.inner.items (outer_dual a.outer.items a.duals.values) (union_of (blossoms_of a) ring)
   pub older : b.older.items ≡ slice_set (slice_set a.older.items node (slice_index a.older.items 0)) 0 node
   pub newer : b.newer.items ≡ slice_set (slice_set a.newer.items (slice_index a.older.items 0) node) node 0
 
@@ -87,7 +91,7 @@ other_duals n (b ∷ older) ys node new each =
     let p = or_parts (eqb b.node node) (holds (names_of older) node) new in
     (rw (get_or-set_other ys node b.node (pos 0) (pos 0) (eqb-false b.node node p.0)) each.0, other_duals n older ys node p.1 each.1)
 
-module _ (a : Inside) (duals inner : Vec ℤ) (parents nexts edges outer followers older newer : Vec ℕ) (kept : Slab Kept) (ring : List Link) (node key : ℕ) where
+module _ (a : Inside) (duals : DualTable) (inner : Vec ℤ) (parents nexts edges outer followers older newer : Vec ℕ) (kept : Slab Kept) (ring : List Link) (node key : ℕ) where
   abbrev pub after : Inside
   after = record { vertex_count = a.vertex_count; duals = duals; inner = inner; parents = parents; nexts = nexts; edges = edges; outer = outer; followers = followers; older = older; newer = newer; kept = kept }
 
@@ -184,15 +188,19 @@ module _ (a : Inside) (duals inner : Vec ℤ) (parents nexts edges outer followe
     next = record { after_vertices = above; within_room = within; fresh = fresh; circuit = c; union = refl }
 
     -- the duals
-    duals_after : HasDuals n duals.items (made_of bs ring node ∷ bs)
+    duals_after : HasDuals n duals.values (made_of bs ring node ∷ bs)
     duals_after = subst (λ ys. HasDuals n ys (made_of bs ring node ∷ bs)) (sym h.duals) (record {
-      one_each = length-set a.duals.items node (pos 0) ∙ s.family.duals.one_each;
-      in_range = All-set IsNumber a.duals.items node (pos 0) (omega (arith, ints), omega (arith, ints)) s.family.duals.in_range;
+      one_each = length-set a.duals.values node (pos 0) ∙ s.family.duals.one_each;
+      in_range = All-set IsNumber a.duals.values node (pos 0) (omega (arith, ints), omega (arith, ints)) s.family.duals.in_range;
       blossoms = (
-        rw (get_or-set_same a.duals.items node (pos 0) (pos 0) (omega (arith, within, s.family.duals.one_each))) (omega (arith, ints)),
-        other_duals n bs a.duals.items node (or_parts (is_vertex n node) (holds (names_of bs) node) fresh).1 s.family.duals.blossoms,
+        rw (get_or-set_same a.duals.values node (pos 0) (pos 0) (omega (arith, within, s.family.duals.one_each))) (omega (arith, ints)),
+        other_duals n bs a.duals.values node (or_parts (is_vertex n node) (holds (names_of bs) node) fresh).1 s.family.duals.blossoms,
       );
     })
+
+    -- the motions: those of the circuit's nodes rest
+    motions_after : HasMotions n duals.motions (made_of bs ring node ∷ bs)
+    motions_after = subst (λ ms. HasMotions n ms (made_of bs ring node ∷ bs)) (sym h.motions) (motions_shrunk n bs a.duals.motions ring node fresh s.family.motions)
 
     -- the runs
     joins : IsRun (joined a.followers.items 0 (runs_of n a.kept ring)) (joined_run a ring) (union_of bs ring)
@@ -235,7 +243,8 @@ module _ (a : Inside) (duals inner : Vec ℤ) (parents nexts edges outer followe
       family = record {
         few = s.family.few;
         nested = subst (IsNested n) (sym blossoms_after) (next, s.family.nested);
-        duals = subst (HasDuals n duals.items) (sym blossoms_after) duals_after;
+        duals = subst (HasDuals n duals.values) (sym blossoms_after) duals_after;
+        motions = subst (HasMotions n duals.motions) (sym blossoms_after) motions_after;
       };
       places = record {
         parents = ap length h.parents ∙ length-set (filled a.parents.items (nodes_of ring) node) node 0 ∙ length-filled a.parents.items (nodes_of ring) node ∙ s.places.parents;
@@ -244,7 +253,7 @@ module _ (a : Inside) (duals inner : Vec ℤ) (parents nexts edges outer followe
         older = ap length h.older ∙ length-set (slice_set a.older.items node (slice_index a.older.items 0)) 0 node ∙ length-set a.older.items node (slice_index a.older.items 0) ∙ s.places.older;
         newer = ap length h.newer ∙ length-set (slice_set a.newer.items (slice_index a.older.items 0) node) node 0 ∙ length-set a.newer.items (slice_index a.older.items 0) node ∙ s.places.newer;
         outer = ap length h.outer ∙ length-filled a.outer.items (union_of bs ring) node ∙ s.places.outer;
-        inner = ap length h.inner ∙ length-added a.inner.items (outer_dual a.outer.items a.duals.items) (union_of bs ring) ∙ s.places.inner;
+        inner = ap length h.inner ∙ length-added a.inner.items (outer_dual a.outer.items a.duals.values) (union_of bs ring) ∙ s.places.inner;
         followers = ap length h.followers ∙ length-joined a.followers.items 0 (runs_of n a.kept ring) ∙ s.places.followers;
       };
       outer = λ v low high.
@@ -252,9 +261,9 @@ module _ (a : Inside) (duals inner : Vec ℤ) (parents nexts edges outer followe
           ∙ ap (λ o. cond (holds (union_of bs ring) v) node o) (s.outer v low high) ∙ ap (λ us. outermost us v) (sym blossoms_after);
       inner = λ v low high.
           ap (λ (t : List ℤ). sum_at t v) h.inner
-          ∙ added_at a.inner.items (outer_dual a.outer.items a.duals.items) (union_of bs ring) v (circuit_union_new n bs ring s.family.nested c) (omega (arith, high, s.places.inner))
-          ∙ ap₂ (λ (z : ℤ) (o : ℕ). z +ℤ cond (holds (union_of bs ring) v) (dual_at a.duals.items o) (pos 0)) (s.inner v low high) (s.outer v low high)
-          ∙ sym (inner_shrunk n bs v s.family.nested (range_vertex n v low high) a.duals.items ring node fresh above (omega (arith, within, s.family.duals.one_each)))
+          ∙ added_at a.inner.items (outer_dual a.outer.items a.duals.values) (union_of bs ring) v (circuit_union_new n bs ring s.family.nested c) (omega (arith, high, s.places.inner))
+          ∙ ap₂ (λ (z : ℤ) (o : ℕ). z +ℤ cond (holds (union_of bs ring) v) (dual_at a.duals.values o) (pos 0)) (s.inner v low high) (s.outer v low high)
+          ∙ sym (inner_shrunk n bs v s.family.nested (range_vertex n v low high) a.duals.values ring node fresh above (omega (arith, within, s.family.duals.one_each)))
           ∙ ap₂ (λ (ys : List ℤ) (us : List Blossom). inner_of (dual_at ys) us v) (sym h.duals) (sym blossoms_after);
       parents = λ x high.
           ap (λ t. slice_index t x) h.parents

@@ -51,7 +51,7 @@ module _ (a : Inside) (s : IsSound a) where
   fits f xs new vertex step =
       sums_each a.inner.items f xs new
       (λ v m. let r = vertex_range n v (vertex v m) in
-      inner_range n a.duals.items bs v (sum_at a.inner.items v) (f v) s.family.few s.family.nested s.family.duals.in_range (s.inner v r.0 r.1) (step v).low (step v).high)
+      inner_range n a.duals.values bs v (sum_at a.inner.items v) (f v) s.family.few s.family.nested s.family.duals.in_range (s.inner v r.0 r.1) (step v).low (step v).high)
 
   pub members_fit : (x : ℕ) (f : ℕ → ℤ) → is_node n bs x ≡ true → ((v : ℕ) → IsStep (f v)) → AreSums a.inner.items f (members_of bs x)
   members_fit x f is step = fits f (members_of bs x) (members_new n bs x s.family.nested is) (λ v m. member_vertex n bs x v s.family.nested is m) step

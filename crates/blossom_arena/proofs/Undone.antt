@@ -111,7 +111,7 @@ module _ (a : Inside) (node : ℕ) (s : IsSound a) (there : holds (order_of a) n
     pub all_taken : (ys : List ℤ) → taken a.inner.items run (dual_at ys) (nodes_of ring) ≡ added a.inner.items (loses ys) (members_of (blossoms_of a) node)
     all_taken ys = taken_is run (dual_at ys) (loses ys) (blossoms_of a) a.inner.items ring (told ys) ∙ ap (added a.inner.items (loses ys)) (sym union)
 
-    pub taken_low : (ys : List ℤ) → ys ≡ a.duals.items → AreTaken a.inner.items run (dual_at ys) (nodes_of ring)
+    pub taken_low : (ys : List ℤ) → ys ≡ a.duals.values → AreTaken a.inner.items run (dual_at ys) (nodes_of ring)
     taken_low ys duals =
         taken_fits run (dual_at ys) (loses ys) (blossoms_of a) a.inner.items ring (told ys)
         (subst (AreSums a.inner.items (loses ys)) union

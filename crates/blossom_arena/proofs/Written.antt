@@ -61,14 +61,14 @@ module _ (a : Inside) (ring : List Link) (s : IsSound a) (c : IsCircuit a.vertex
       go (x ∷ xs) h each = omega (arith, h.0, each x (first_in x xs), s.places.newer)
 
   -- the sums of its vertices
-  pub outer_low : (os : List ℕ) (ys : List ℤ) → os ≡ a.outer.items → ys ≡ a.duals.items → AllByRecursion (λ v. (v < length os) × (slice_index os v < length ys)) (union_of bs ring)
+  pub outer_low : (os : List ℕ) (ys : List ℤ) → os ≡ a.outer.items → ys ≡ a.duals.values → AllByRecursion (λ v. (v < length os) × (slice_index os v < length ys)) (union_of bs ring)
   outer_low os ys outer duals =
       let len : length os ≡ length a.outer.items = ap length outer in
-      let duals_len : length ys ≡ length a.duals.items = ap length duals in
+      let duals_len : length ys ≡ length a.duals.values = ap length duals in
       outer_places n bs os ys (union_of bs ring) s.family.nested (omega (arith, len, s.places.outer)) (omega (arith, duals_len, s.family.duals.one_each))
       (λ v iv. let r = vertex_range n v iv in ap (λ (t : List ℕ). slice_index t v) outer ∙ s.outer v r.0 r.1) (λ v e. union_vertex n bs ring v s.family.nested c e)
 
-  pub sums_low : (os : List ℕ) (ys : List ℤ) → ys ≡ a.duals.items → AreSums a.inner.items (outer_dual os ys) (union_of bs ring)
+  pub sums_low : (os : List ℕ) (ys : List ℤ) → ys ≡ a.duals.values → AreSums a.inner.items (outer_dual os ys) (union_of bs ring)
   sums_low os ys duals = union_fits a s ring (outer_dual os ys) c (λ v. outer_step os ys v (subst (λ (zs : List ℤ). All IsNumber zs) (sym duals) s.family.duals.in_range))
 
   -- the run that is joined

@@ -6,6 +6,8 @@ use Rattle.graph_theory.specs.Parts.{holds}
 use Rattle.graph_theory.specs.Nested.{most_blossoms}
 use Rattle.graph_theory.specs.Duals.{IsNumber}
 use Rattle.blossom_arena.specs.declared.links.Link.{Link}
+use Rattle.blossom_arena.specs.declared.label.Label.{Label}
+use Rattle.blossom_arena.specs.declared.label.Label.TheVariants.{Out}
 
 -- an odd set that is one node: the circuit that it was shrunk from, and its vertices in the order of the circuit
 pub record Blossom : Type 0 where
@@ -13,10 +15,12 @@ pub record Blossom : Type 0 where
   pub ring : List Link
   pub members : List ℕ
 
--- the vertices are 1 to vertex_count, the duals stand by node number, the blossoms newest first
+-- the vertices are 1 to vertex_count, the duals and the labels by which they move stand by node number, the blossoms newest
+-- first
 pub record Family : Type 0 where
   pub vertex_count : ℕ
   pub duals : List ℤ
+  pub motions : List Label
   pub blossoms : List Blossom
 
 abbrev pub nodes_of : List Link → List ℕ
@@ -89,6 +93,15 @@ pub record HasDuals (n : ℕ) (ys : List ℤ) (bs : List Blossom) : Type 0 where
   pub in_range : All IsNumber ys
   pub blossoms : AllByRecursion (λ (b : Blossom). pos 0 ≤ℤ dual_at ys b.node) bs
 
+-- the label of a node
+abbrev pub label_at : List Label → ℕ → Label
+label_at labels a = slice_index_or labels a Out
+
+-- each number has a motion, and none but an outermost node moves
+pub record HasMotions (n : ℕ) (ms : List Label) (bs : List Blossom) : Type 0 where
+  pub one_each : length ms ≡ n + most_blossoms n + 1
+  pub inside : (a : ℕ) → is_outermost n bs a ≡ false → label_at ms a ≡ Out
+
 -- an odd number of at least three different vertices
 pub record IsOddSet (n : ℕ) (set : List ℕ) : Type 0 where
   pub three : 3 ≤ length set
@@ -101,31 +114,41 @@ pub record IsFamily (f : Family) : Type 0 where
   pub few : f.vertex_count ≤ GRAPH_VERTEX_LIMIT
   pub nested : IsNested f.vertex_count f.blossoms
   pub duals : HasDuals f.vertex_count f.duals f.blossoms
+  pub motions : HasMotions f.vertex_count f.motions f.blossoms
 
--- all duals 0, and no blossom
+-- all duals 0 and at rest, and no blossom
 abbrev pub empty_family : ℕ → Family
-empty_family n = record { vertex_count = n; duals = replicate (n + most_blossoms n + 1) (pos 0); blossoms = [] }
+empty_family n = record { vertex_count = n; duals = replicate (n + most_blossoms n + 1) (pos 0); motions = replicate (n + most_blossoms n + 1) Out; blossoms = [] }
 
 -- a blossom on top of these
 abbrev pub made_of : List Blossom → List Link → ℕ → Blossom
 made_of bs ring node = record { node = node; ring = ring; members = union_of bs ring }
 
--- the family after a shrink: one set more, of dual 0
+-- the motions once these nodes rest
+abbrev pub rested : List Label → List ℕ → List Label
+rested ms [] = ms
+rested ms (a ∷ rest) = rested (slice_set ms a Out) rest
+
+-- the family after a shrink: one set more, of dual 0, which rests, and so do the circuit's nodes inside it
 abbrev pub shrunk : Family → ℕ → List Link → Family
-shrunk f node ring = record f { duals = slice_set f.duals node (pos 0); blossoms = made_of f.blossoms ring node ∷ f.blossoms }
+shrunk f node ring = record f { duals = slice_set f.duals node (pos 0); motions = slice_set (rested f.motions (nodes_of ring)) node Out; blossoms = made_of f.blossoms ring node ∷ f.blossoms }
 
 -- the blossoms without the one of this node
 abbrev pub without : List Blossom → ℕ → List Blossom
 without [] a = []
 without (b ∷ older) a = if b.node == a then older else b ∷ without older a
 
--- the family after a dissolve
+-- the family after a dissolve: the blossom moves no more, and its circuit's nodes rest as they did inside it
 abbrev pub dissolved : Family → ℕ → Family
-dissolved f a = record f { blossoms = without f.blossoms a }
+dissolved f a = record f { motions = slice_set f.motions a Out; blossoms = without f.blossoms a }
 
 -- the family after the dual of a node is raised
 abbrev pub raised : Family → ℕ → ℤ → Family
 raised f a d = record f { duals = slice_set f.duals a (dual_at f.duals a +ℤ d) }
+
+-- the family once a node moves as a label says
+abbrev pub moving : Family → ℕ → Label → Family
+moving f a label = record f { motions = slice_set f.motions a label }
 
 -- the circuit of a blossom, and the blossoms older than it
 abbrev pub ring_of : List Blossom → ℕ → List Link

@@ -3,8 +3,6 @@ use Rattle.std.specs.Prelude.{◌≡◌, ℕ, zero, suc, ◌+◌, ◌-◌, ◌<�
 use Rattle.std.specs.List.{AllByRecursion}
 use Rattle.slab.specs.Slab.{Slab, get, slab_len}
 use Rattle.graph_theory.specs.Parts.{holds}
-use Rattle.blossom_arena.specs.declared.label.Label.{Label}
-use Rattle.blossom_arena.specs.declared.label.Label.TheVariants.{Outer, Inner, Out}
 use Rattle.blossom_arena.specs.declared.links.Link.{Link}
 use Rattle.blossom_arena.specs.declared.runs.Run.{Run}
 use Rattle.blossom_arena.specs.declared.runs.Kept.{Kept}
@@ -12,7 +10,6 @@ use Rattle.blossom_arena.specs.declared.arena.Arena.TheInside.{Inside}
 use Rattle.blossom_arena.specs.Tables.{last_of, walk, links_of, filled}
 use Rattle.graph_theory.specs.Nested.{most_blossoms}
 use Rattle.blossom_arena.specs.Family.{Blossom, Family, IsFamily, is_node, outermost, made_of, in_ring, members_of, dual_at}
-use Rattle.blossom_arena.specs.Changes.{label_at, share}
 use Rattle.blossom_arena.specs.Slack.{IsCover, held_by}
 
 -- the key of a blossom's node
@@ -85,20 +82,6 @@ abbrev pub AreTaken : List ℤ → (ℕ → List ℕ) → (ℕ → ℤ) → List
 AreTaken sums run y [] = Unit {0}
 AreTaken sums run y (c ∷ cs) = AreSums sums (λ v. neg_ℤ (y c)) (run c) × AreTaken (added sums (λ v. neg_ℤ (y c)) (run c)) run y cs
 
--- the shares of a change of d in the order of the labels, and nothing twice more
-abbrev pub shares_of : ℤ → List ℤ
-shares_of d = d ∷ (pos 0 -ℤ d) ∷ pos 0 ∷ pos 0 ∷ pos 0 ∷ []
-
--- the place of a label among them
-abbrev pub class_of : Label → ℕ
-class_of Outer = 0
-class_of Inner = 1
-class_of Out = 2
-
--- what a change of d adds to the dual of a node, by its parent
-abbrev pub gain_by : List ℕ → List Label → ℤ → ℕ → ℤ
-gain_by parents labels d a = if slice_index parents a == 0 then share d (label_at labels a) else pos 0
-
 -- the dual of the outermost node of a vertex, by the tables
 abbrev pub outer_dual : List ℕ → List ℤ → ℕ → ℤ
 outer_dual outer duals v = dual_at duals (slice_index outer v)
@@ -152,7 +135,7 @@ abbrev pub blossoms_of : Inside → List Blossom
 blossoms_of a = build (ring_at a.vertex_count a.kept a.nexts.items a.edges.items) (order_of a)
 
 abbrev pub family_of : Inside → Family
-family_of a = record { vertex_count = a.vertex_count; duals = a.duals.items; blossoms = blossoms_of a }
+family_of a = record { vertex_count = a.vertex_count; duals = a.duals.values; motions = a.duals.motions; blossoms = blossoms_of a }
 
 -- each table has a place for each of the numbers
 pub record HasPlaces (a : Inside) : Type 0 where
@@ -169,7 +152,7 @@ pub record IsSound (a : Inside) : Type 0 where
   pub family : IsFamily (family_of a)
   pub places : HasPlaces a
   pub outer : (v : ℕ) → 1 ≤ v → v ≤ a.vertex_count → slice_index a.outer.items v ≡ outermost (blossoms_of a) v
-  pub inner : (v : ℕ) → 1 ≤ v → v ≤ a.vertex_count → sum_at a.inner.items v ≡ inner_of (dual_at a.duals.items) (blossoms_of a) v
+  pub inner : (v : ℕ) → 1 ≤ v → v ≤ a.vertex_count → sum_at a.inner.items v ≡ inner_of (dual_at a.duals.values) (blossoms_of a) v
   pub parents : (x : ℕ) → x ≤ a.vertex_count + most_blossoms a.vertex_count → slice_index a.parents.items x ≡ parent_entry a.vertex_count (blossoms_of a) x
   pub order : IsOrder a.older.items a.newer.items 0 (order_of a)
   pub runs : (x : ℕ) → holds (order_of a) x ≡ true → IsRun a.followers.items (kept_of a.vertex_count a.kept x).run (members_of (blossoms_of a) x)

@@ -1,17 +1,16 @@
-ghost use Rattle.std.specs.Prelude.{◌≡◌, ℕ, ◌+◌, ◌<◌, ◌≤◌, pos, ◌≤ℤ◌, ◌+ℤ◌, true, false, nat_eq, length, All, IfOk};
-ghost use Rattle.std.specs.List.{IsDistinct};
+ghost use Rattle.std.specs.Prelude.{◌≡◌, ℕ, ◌+◌, ◌<◌, ◌≤◌, pos, ◌≤ℤ◌, ◌+ℤ◌, true, false, IfOk};
 ghost use Rattle.graph_theory.specs.declared.limits.TheConstants.{GRAPH_VERTEX_LIMIT};
 ghost use Rattle.graph_theory.specs.Parts.{holds};
 ghost use Rattle.graph_theory.specs.Nested.{most_blossoms};
 ghost use Rattle.graph_theory.specs.Duals.{IsNumber};
-ghost use Rattle.blossom_arena.specs.Family.{Family, IsFamily, IsCircuit, empty_family, is_vertex, is_node, is_outermost, shrunk, dissolved, raised, dual_at, outermost, child_holding, ring_of, members_of, chain_of, names_of};
+ghost use Rattle.blossom_arena.specs.Family.{Family, IsFamily, IsCircuit, empty_family, is_vertex, is_node, is_outermost, shrunk, dissolved, raised, moving, dual_at, outermost, child_holding, ring_of, members_of, chain_of, names_of};
 ghost use Rattle.blossom_arena.specs.Changes.{gain, label_at, share};
+ghost use Rattle.blossom_arena.specs.declared.label.Label.TheVariants.{Out};
 ghost use Rattle.blossom_arena.specs.Slack.{IsCover, held_by};
 
 use crate::blossoms::Blossoms;
 use crate::chain::{Chain, child_below};
-use crate::changes::add_gains;
-use crate::dual_table::{dual_in, raise_dual, set_dual, wipe_duals};
+use crate::dual_table::Duals;
 use crate::label::Label;
 use crate::links::{Link, node_at};
 use crate::members::Members;
@@ -19,7 +18,7 @@ use crate::nodes::NodeId;
 use crate::order::{put_first, take_out};
 use crate::ring::Ring;
 use crate::runs::{Kept, find_kept, find_run, has_kept, join, lower};
-use crate::sums::{absorb, add_each};
+use crate::sums::{absorb, add_each, wipe_sums};
 use crate::tables::{NO_NODE, bare, hang, note, numbered, renumber, set_entry, thread, wipe};
 use graph_theory::GRAPH_VERTEX_LIMIT;
 use mb_base::{EdgeId, OutOfMemory, VertexId};
@@ -29,15 +28,16 @@ use std::marker::Model;
 
 /// Blossoms over the vertices 1 to n, each of them a node, and a dual for each node, as the weighted
 /// matching algorithm keeps them (chapter 26). Duals are in doubled units, so that they stay whole, and
-/// within 10^15. Contracts see the list of the blossoms, newest first, and the list of the duals by node
-/// number.
+/// within 10^15. Outermost nodes move: a change of duals raises the duals of all that move as outer nodes
+/// and lowers those that move as inner ones, in constant time. Contracts see the list of the blossoms,
+/// newest first, and the lists of the duals, as they are now, and of the motions by node number.
 #[derive(Drop)]
 pub struct Arena {
     vertex_count: u32,
-    // By node number, with place 0 unused: its dual, the blossom in whose ring it lies or 0, and in that
-    // ring the next node and the edge to it. A number that no node has got has the parent `NO_NODE`, so that
-    // one look tells whether it is an outermost node.
-    duals: Vec<i64>,
+    // By node number, with place 0 unused: its dual and how it moves, the blossom in whose ring it lies or
+    // 0, and in that ring the next node and the edge to it. A number that no node has got has the parent
+    // `NO_NODE`, so that one look tells whether it is an outermost node.
+    duals: Duals,
     parents: Vec<u32>,
     nexts: Vec<u32>,
     edges: Vec<EdgeId>,
@@ -83,7 +83,7 @@ impl Arena {
         bare(&mut parents, n);
         Ok(Arena {
             vertex_count: n,
-            duals: vec![in alloc; 0i64; places]?,
+            duals: Duals::new(alloc, places)?,
             parents,
             nexts: vec![in alloc; 0u32; places]?,
             edges: vec![in alloc; EdgeId::new(0); places]?,
@@ -164,7 +164,7 @@ impl Arena {
         ensures dual { result ≡ dual_at self.now.duals node }
         ensures good { IsFamily self.now }
     {
-        dual_in(&self.duals, node.number())
+        self.duals.get(node.number() as usize)
     }
 
     /// The duals of all nodes that hold a vertex, added up, in constant time.
@@ -187,7 +187,7 @@ impl Arena {
         ensures good { IsFamily self.new }
     {
         let number = node.number();
-        raise_dual(&mut self.duals, number, d);
+        self.duals.raise(number as usize, d);
         if self.parents[number as usize] == 0 {
             return;
         }
@@ -201,22 +201,38 @@ impl Arena {
         );
     }
 
-    /// Adds to the dual of each of these nodes that is outermost its share of a change of d (chapter 26): d
-    /// where it is labelled outer, -d where inner, and nothing where out. Labels stand by node number. It
-    /// takes time linear in the nodes, which are all different. The sums lie within 10^15, and are not
-    /// below 0 for blossoms.
-    pub fn change_duals(&mut self, nodes: &[NodeId], labels: &[Label], d: i64)
+    /// Lets an outermost node move as this label says from now on: with changes of duals where it is outer,
+    /// against them where inner, and not at all where out (chapter 26). No dual changes.
+    pub fn move_as(&mut self, node: NodeId, label: Label)
+        requires { is_outermost self.old.vertex_count self.old.blossoms node ≡ true }
+        ensures family { self.new ≡ moving self.old node label }
+        ensures good { IsFamily self.new }
+    {
+        self.duals.move_as(node.number() as usize, label);
+    }
+
+    /// Lets no node move any more, in time linear in the nodes. No dual changes.
+    pub fn rest(&mut self)
+        ensures motions { (a : ℕ) → label_at self.new.motions a ≡ Out }
+        ensures rest { self.new ≡ record self.old { motions = self.new.motions } }
+        ensures good { IsFamily self.new }
+    {
+        self.duals.rest();
+    }
+
+    /// Adds to the dual of each outermost node its share of a change of d, as it moves (chapter 26): d for an
+    /// outer one, -d for an inner one, and nothing for one that is out. It takes constant time, but time
+    /// linear in the nodes once the changes since all duals were 0 add up to more than 10^15. The sums lie
+    /// within 10^15, and are not below 0 for blossoms.
+    pub fn advance(&mut self, d: i64)
         requires low { pos 0 ≤ℤ d }
-        requires different { IsDistinct nat_eq nodes.now }
-        requires within { All (λ a. a ≤ self.old.vertex_count + most_blossoms self.old.vertex_count) nodes.now }
-        requires labels { self.old.vertex_count + most_blossoms self.old.vertex_count < length labels.now }
-        requires in_range { (a : ℕ) → is_outermost self.old.vertex_count self.old.blossoms a ≡ true → IsNumber (dual_at self.old.duals a +ℤ share d (label_at labels.now a)) }
-        requires not_below { (a : ℕ) → is_outermost self.old.vertex_count self.old.blossoms a ≡ true → self.old.vertex_count < a → pos 0 ≤ℤ (dual_at self.old.duals a +ℤ share d (label_at labels.now a)) }
-        ensures duals { (a : ℕ) → dual_at self.new.duals a ≡ dual_at self.old.duals a +ℤ gain self.old nodes.now labels.now d a }
+        requires in_range { (a : ℕ) → is_outermost self.old.vertex_count self.old.blossoms a ≡ true → IsNumber (dual_at self.old.duals a +ℤ share d (label_at self.old.motions a)) }
+        requires not_below { (a : ℕ) → is_outermost self.old.vertex_count self.old.blossoms a ≡ true → self.old.vertex_count < a → pos 0 ≤ℤ (dual_at self.old.duals a +ℤ share d (label_at self.old.motions a)) }
+        ensures duals { (a : ℕ) → dual_at self.new.duals a ≡ dual_at self.old.duals a +ℤ gain self.old d a }
         ensures rest { self.new ≡ record self.old { duals = self.new.duals } }
         ensures good { IsFamily self.new }
     {
-        add_gains(&mut self.duals, &self.parents, nodes, labels, d);
+        self.duals.advance(d);
     }
 
     /// The links of the circuit that a blossom was made of.
@@ -271,7 +287,8 @@ impl Arena {
     }
 
     /// Makes one node of a circuit of outermost nodes, of dual 0, and answers it, in time linear in its
-    /// vertices. The circuit has an odd number of at least three nodes, all different.
+    /// vertices. The circuit has an odd number of at least three nodes, all different. It rests, and so do
+    /// they.
     pub fn shrink(&mut self, circuit: &[Link]) -> NodeId
         requires { IsCircuit self.old.vertex_count self.old.blossoms circuit.now }
         ensures fresh { is_node self.old.vertex_count self.old.blossoms result ≡ false }
@@ -300,12 +317,14 @@ impl Arena {
             &self.duals,
             node,
         );
-        set_dual(&mut self.duals, node, 0);
+        self.duals.rest_each(circuit);
+        self.duals.put(node as usize, 0, Label::Out);
         put_first(&mut self.older, &mut self.newer, node);
         NodeId::new(node)
     }
 
-    /// Takes away an outermost blossom of dual 0, in time linear in its vertices.
+    /// Takes away an outermost blossom of dual 0, in time linear in its vertices. The nodes of its circuit
+    /// rest.
     pub fn dissolve(&mut self, b: NodeId)
         requires blossom { holds (names_of self.old.blossoms) b ≡ true }
         requires outer { is_outermost self.old.vertex_count self.old.blossoms b ≡ true }
@@ -331,16 +350,17 @@ impl Arena {
             self.vertex_count,
             &self.duals,
         );
+        self.duals.move_as(node as usize, Label::Out);
     }
 
-    /// Takes away all blossoms and makes all duals 0.
+    /// Takes away all blossoms and makes all duals 0, which rest.
     pub fn clear(&mut self)
         ensures family { self.new ≡ empty_family self.old.vertex_count }
         ensures good { IsFamily self.new }
     {
         self.kept.clear();
-        wipe_duals(&mut self.duals);
-        wipe_duals(&mut self.inner);
+        self.duals.wipe();
+        wipe_sums(&mut self.inner);
         bare(&mut self.parents, self.vertex_count);
         wipe(&mut self.older);
         wipe(&mut self.newer);

@@ -6,7 +6,6 @@
 mod arena;
 mod blossoms;
 mod chain;
-mod changes;
 mod dual_table;
 mod label;
 mod law;
@@ -16,6 +15,7 @@ mod nodes;
 mod order;
 mod ring;
 mod runs;
+mod shares;
 mod sums;
 mod tables;
 

@@ -6,7 +6,7 @@ ghost use Rattle.blossom_arena.specs.declared.runs.Run.{Run};
 ghost use Rattle.blossom_arena.specs.Family.{nodes_of, dual_at};
 ghost use Rattle.blossom_arena.specs.Fields.{key_of, kept_of, run_of, runs_of, joined, joined_tail, joined_size, lowered, taken, AreTaken, vertices_of};
 
-use crate::dual_table::dual_in;
+use crate::dual_table::Duals;
 use crate::links::Link;
 use crate::members::Members;
 use crate::ring::Ring;
@@ -106,14 +106,14 @@ pub(crate) fn lower(
     followers: &[u32],
     kept: &Slab<Kept>,
     count: u32,
-    duals: &[i64],
+    duals: &Duals,
 )
     requires sums { vec_len sums.old ≡ length followers.now }
     requires outer { vec_len outer.old ≡ length followers.now }
     requires within { AllByRecursion (λ (l : Link). AllByRecursion (λ v. v < length followers.now) (vertices_of followers.now (run_of count kept.now l.node))) ring }
-    requires nodes { AllByRecursion (λ (l : Link). l.node < length duals.now) ring }
-    requires in_range { AreTaken sums.old.items (λ a. vertices_of followers.now (run_of count kept.now a)) (dual_at duals.now) (nodes_of ring) }
-    ensures sums { sums.new.items ≡ taken sums.old.items (λ a. vertices_of followers.now (run_of count kept.now a)) (dual_at duals.now) (nodes_of ring.entry) }
+    requires nodes { AllByRecursion (λ (l : Link). l.node < length duals.now.values) ring }
+    requires in_range { AreTaken sums.old.items (λ a. vertices_of followers.now (run_of count kept.now a)) (dual_at duals.now.values) (nodes_of ring) }
+    ensures sums { sums.new.items ≡ taken sums.old.items (λ a. vertices_of followers.now (run_of count kept.now a)) (dual_at duals.now.values) (nodes_of ring.entry) }
     ensures outer { outer.new.items ≡ lowered outer.old.items (λ a. vertices_of followers.now (run_of count kept.now a)) (nodes_of ring.entry) }
     ensures sums_len { vec_len sums.new ≡ vec_len sums.old }
     ensures outer_len { vec_len outer.new ≡ vec_len outer.old }
@@ -125,7 +125,7 @@ pub(crate) fn lower(
             outer,
             Members::of(followers, find_run(kept, count, node)),
             node,
-            dual_in(duals, node),
+            duals.get(node as usize),
         );
     }
 }

@@ -71,4 +71,5 @@ module _ (s t : Search) (d x : ℤ) (rest : t ≡ with_duals s t.arena.duals) (i
         trees = λ a outer in_it.
             let seed = h.trees a outer in_it in
             (seed.0, seed.1, subst (λ y. IsSeed y a seed.0) (sym now) (seed_later (state_of s) d a seed.0 seed.2));
+        moves = h.moves;
       })

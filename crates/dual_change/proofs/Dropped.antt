@@ -74,4 +74,4 @@ looks_dropped q (Blossom b) m has = omega arith
 
 -- what stands in trees is not in the queue
 pub still_standing : (s t : Search) → t ≡ record s { queue = t.queue } → IsStanding s → IsStanding t
-still_standing s t rest h = subst IsStanding (sym rest) (record { listed = h.listed; trees = h.trees })
+still_standing s t rest h = subst IsStanding (sym rest) (record { listed = h.listed; trees = h.trees; moves = h.moves })

@@ -13,4 +13,3 @@ pub mod Reps
 pub mod Heads
 pub mod Barrier
 pub mod Total
-mod Still

@@ -10,8 +10,7 @@ use alt_forest::Search;
 use mb_base::Steps;
 use std::sync::ledger::Ledger;
 
-/// Gives each node in a tree its share of a change of d, by the nodes that are listed for changes. A change
-/// of 0 leaves all as it is, and passes no node.
+/// Gives each node in a tree its share of a change of d, since each moves as its label says.
 fn raise_trees(search: &mut Search, d: i64)
     requires sound { IsSound search.old }
     requires standing { IsStanding search.old }
@@ -23,12 +22,7 @@ fn raise_trees(search: &mut Search, d: i64)
     ensures rest { search.new ≡ record search.old { arena = record search.old.arena { duals = search.new.arena.duals } } }
     ensures sound { IsSound search.new }
 {
-    if d == 0 {
-        return;
-    }
-    search
-        .arena
-        .change_duals(&search.standing, &search.labels, d);
+    search.arena.advance(d);
 }
 
 /// The clock after a change of d.
@@ -43,8 +37,8 @@ fn later(clock: i64, d: i64) -> i64
 
 /// Changes the duals along the trees by d (chapter 26): the duals of outer nodes rise by d, those of
 /// inner nodes fall by d, and all others stay. The clock goes on by d, so each moment stays what it is. It
-/// counts one step, takes time linear in the nodes that are listed for changes, which are at least those
-/// in trees, and no memory. Every exposed node is the root of a tree, so all these keep one parity.
+/// counts one step, takes constant time (but time linear in the nodes once the changes of a pass add up to
+/// more than 10^15), and no memory. Every exposed node is the root of a tree, so all these keep one parity.
 pub fn apply<L: Ledger>(search: &mut Search, d: i64, steps: &mut Steps<L>)
     requires sound { IsSound search.old }
     requires queued { IsQueued search.old }

@@ -24,7 +24,7 @@ pub same_through : (s t u : Search) → IsSamePass s t → IsSamePass t u → Is
 same_through s t u one other = record { graph = other.graph ∙ one.graph; weights = other.weights ∙ one.weights; start = other.start ∙ one.start }
 
 -- where blossoms and duals stay
-pub still_bounded : (s t : Search) → t.arena ≡ s.arena → IsSamePass s t → IsBounded (state_of s) s.start → IsBounded (state_of t) t.start
+pub still_bounded : (s t : Search) → t.arena ≡ record s.arena { motions = t.arena.motions } → IsSamePass s t → IsBounded (state_of s) s.start → IsBounded (state_of t) t.start
 still_bounded s t arena same bounded =
     with_start s t same
     (bounded_same (state_of s) (state_of t) s.start same.graph (ap is_given same.weights) (ap (λ (f : Family). f.blossoms) arena) (ap (λ (f : Family). dual_at f.duals) arena) bounded)
@@ -50,7 +50,7 @@ grows_still s t h sound queued standing planted some bounded total same clock = 
 }
 
 -- after a grow
-pub grown_on : (s t : Search) → IsGrowing s → IsSound t → IsQueued t → IsStanding t → (IsPlanted (state_of s) → IsPlanted (state_of t)) → tree_count (state_of t) ≡ tree_count (state_of s) → t.arena ≡ s.arena → IsSamePass s t → t.clock ≡ s.clock → IsGrowing t
+pub grown_on : (s t : Search) → IsGrowing s → IsSound t → IsQueued t → IsStanding t → (IsPlanted (state_of s) → IsPlanted (state_of t)) → tree_count (state_of t) ≡ tree_count (state_of s) → t.arena ≡ record s.arena { motions = t.arena.motions } → IsSamePass s t → t.clock ≡ s.clock → IsGrowing t
 grown_on s t h sound queued standing planted trees arena same clock =
     grows_still s t h sound queued standing (planted h.planted) (λ none. h.trees (sym trees ∙ none)) (still_bounded s t arena same h.bounded)
     (total_kept (state_of s) (state_of t) same.graph (ap (λ (f : Family). f.blossoms) arena) (ap (λ (f : Family). dual_at f.duals) arena)) same clock

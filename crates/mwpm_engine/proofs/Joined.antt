@@ -21,13 +21,13 @@ use Rattle.mwpm_engine.proofs.StepCounts.{left_most, looks_most, few_blossoms, s
 
 -- a search whose trees and mates alone are others
 abbrev pub IsJoinedFrom : Search → Search → Type 0
-IsJoinedFrom s t = t ≡ record s { labels = t.labels; mates = t.mates; queue = t.queue; clock = t.clock; standing = t.standing; seeds = t.seeds; scanned = t.scanned }
+IsJoinedFrom s t = t ≡ record s { arena = record s.arena { motions = t.arena.motions }; labels = t.labels; mates = t.mates; queue = t.queue; clock = t.clock; standing = t.standing; seeds = t.seeds; scanned = t.scanned }
 
 pub joined_pass : (s t : Search) → IsJoinedFrom s t → IsSamePass s t
 joined_pass s t rest = record { graph = ap (λ (x : Search). x.graph) rest; weights = ap (λ (x : Search). x.weights) rest; start = ap (λ (x : Search). x.start) rest }
 
 module _ (s t : Search) (e old new : ℕ) (growing : IsGrowing s) (can : CanAugment (state_of s) e) (rest : IsJoinedFrom s t) (sound : IsSound t) (fewer : exposed_count (state_of t) + 2 ≡ exposed_count (state_of s)) (planted : IsPlanted (state_of s) → IsPlanted (state_of t)) where
-  arena : t.arena ≡ s.arena
+  arena : t.arena ≡ record s.arena { motions = t.arena.motions }
   arena = ap (λ (x : Search). x.arena) rest
 
   graph : t.graph ≡ s.graph

@@ -5,12 +5,12 @@ use Rattle.graph_theory.specs.declared.limits.TheConstants.{WEIGHT_LIMIT}
 use Rattle.graph_theory.specs.Graph.{Multigraph, IsGraph, IsWeight, IsEdgeNumber, edge_of, edges_around}
 use Rattle.graph_theory.specs.Sums.{sum_to}
 use Rattle.graph_theory.proofs.SumLemmas.{sum_to-more}
-use Rattle.blossom_arena.specs.Family.{Family, is_vertex}
+use Rattle.blossom_arena.specs.Family.{Family, is_outermost, is_vertex}
 use Rattle.blossom_arena.specs.declared.label.Label.TheVariants.{Out}
 use Rattle.alt_forest.specs.declared.weights.Weights.{Weights}
 use Rattle.alt_forest.specs.declared.weights.Weights.TheVariants.{Zero, Given}
 use Rattle.alt_forest.specs.declared.search.Search.{Search}
-use Rattle.alt_forest.specs.State.{State}
+use Rattle.alt_forest.specs.State.{State, IsOutermost}
 use Rattle.alt_forest.specs.Searches.{IsStart, is_given, label_at, state_of}
 use Rattle.alt_forest.specs.Trees.{SameParity}
 use Rattle.alt_forest.specs.Entries.{IsQueued, HasNoTree}
@@ -18,7 +18,7 @@ use Rattle.alt_forest.specs.Standing.{AreListed, IsStanding}
 use Rattle.edge_queue.specs.Moments.{moment_of}
 use Rattle.alt_forest.proofs.Looks.{all_ends}
 use Rattle.alt_forest.proofs.Parity.{parity_refl}
-use Rattle.alt_forest.proofs.NoTree.{none_queued, none_standing}
+use Rattle.alt_forest.proofs.NoTree.{none_queued}
 use Rattle.mwpm_engine.specs.Starts.{IsBegun, IsLifted}
 
 start_weight : (g : Multigraph) (w : Weights) (start : ℤ) → IsStart g w start → IsWeight start
@@ -83,14 +83,24 @@ module _ (s t : Search) (rest : t ≡ record s { arena = t.arena; mates = t.mate
   pub still_queued : IsQueued s → IsQueued t
   still_queued h = none_queued t still_out (ap (λ (x : Search). x.clock) rest ∙ h.still no_tree) (λ item. ap (λ (x : Search). moment_of x.queue item) rest ∙ h.empty no_tree item)
 
-  pub still_standing : IsStanding s → IsStanding t
-  still_standing h = none_standing t still_out (subst (λ (x : Search). AreListed x.graph.vertices x.standing.items x.seeds.items) (sym rest) h.listed)
+  pub still_standing : t.arena ≡ record s.arena { duals = t.arena.duals } → IsStanding s → IsStanding t
+  still_standing arena h = record {
+    listed = subst (λ (x : Search). AreListed x.graph.vertices x.standing.items x.seeds.items) (sym rest) h.listed;
+    trees = λ a is ne. absurd (ne (still_out a));
+    moves = λ a is.
+        let graph : t.graph ≡ s.graph = ap (λ (x : Search). x.graph) rest in
+        let was : IsOutermost (state_of s) a = subst (λ (f : Family). is_outermost s.graph.vertices f.blossoms a ≡ true) arena (subst (λ (g : Multigraph). is_outermost g.vertices t.arena.blossoms a ≡ true) graph is) in
+        ap (λ (f : Family). label_at f.motions a) arena ∙ h.moves a was ∙ out a ∙ sym (still_out a);
+  }
 
 -- what the two rounds of the start of a pass leave alone together
 pub kept_through : (s u t : Search) → u ≡ record s { arena = record s.arena { duals = u.arena.duals } } → t ≡ record u { arena = record u.arena { duals = t.arena.duals }; mates = t.mates } → t ≡ record s { arena = t.arena; mates = t.mates }
 kept_through s u t first second =
     let arena : t.arena ≡ record u.arena { duals = t.arena.duals } = ap (λ (x : Search). x.arena) second in
     second ∙ sym (ap (λ (f : Family). record u { arena = f; mates = t.mates }) arena) ∙ ap (λ (x : Search). record x { arena = t.arena; mates = t.mates }) first
+
+pub arena_through : (s u t : Search) → u ≡ record s { arena = record s.arena { duals = u.arena.duals } } → t ≡ record u { arena = record u.arena { duals = t.arena.duals }; mates = t.mates } → t.arena ≡ record s.arena { duals = t.arena.duals }
+arena_through s u t first second = ap (λ (x : Search). x.arena) second ∙ ap (λ (x : Search). let f : Family = record x.arena { duals = t.arena.duals } in f) first
 
 -- all looks of one round over the vertices
 pub round_looks : (g : Multigraph) (place end old new : ℕ) → IsGraph g → end ≡ g.vertices → end ≤ place → place ≤ end → new ≤ old + sum_to (λ i. length (edges_around g (i + 1))) place → new ≤ old + 2 * length g.edges

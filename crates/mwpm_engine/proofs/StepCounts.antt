@@ -68,7 +68,7 @@ begins_paid : (old new first entries begin looks left most ends : ℕ) → first
 begins_paid old new first entries begin looks left most ends none look count small few = omega (arith, none, look, count, small, few)
 
 -- once the forest is planted
-pub planted_paid : (s t : Search) (old new : ℕ) → IsReady s → t.arena ≡ s.arena → t.graph ≡ s.graph → new + looks_left (state_of t) ≤ old + looks_left (state_of s) → entry_count t.queue + old ≤ entry_count s.queue + new
+pub planted_paid : (s t : Search) (old new : ℕ) → IsReady s → t.arena ≡ record s.arena { motions = t.arena.motions } → t.graph ≡ s.graph → new + looks_left (state_of t) ≤ old + looks_left (state_of s) → entry_count t.queue + old ≤ entry_count s.queue + new
     → account t new ≤ old + phase_account s.graph (length s.arena.blossoms)
 planted_paid s t old new ready arena graph look count =
     let none : entry_count s.queue ≡ 0 = none_entered s.queue (ready.queued.empty (λ a is. ready.labels a)) in

@@ -11,7 +11,7 @@ use Rattle.blossom_arena.specs.declared.label.Label.TheVariants.{Out}
 use Rattle.alt_forest.specs.declared.search.Search.{Search}
 use Rattle.alt_forest.specs.State.{State, IsOutermost}
 use Rattle.alt_forest.specs.Entries.{IsEntered, IsBlossomEntered, IsQueued, IsQueuedBut, HasNoTree, touches_any, entered_among, entry_count}
-use Rattle.alt_forest.specs.Searches.{state_of}
+use Rattle.alt_forest.specs.Searches.{label_at, state_of}
 use Rattle.alt_forest.specs.Standing.{AreListed, IsSeed, IsStanding, seed_at}
 use Rattle.alt_forest.proofs.Queues.{edge_set, edge_other, count_removed}
 
@@ -40,12 +40,13 @@ HasSeed seeds t a = (v : ℕ) × (seed_at seeds a ≡ Some v) × IsSeed t a v
 
 -- the nodes in trees are listed, with vertices of their roots
 pub standing_after : (f k : Search) (t : State) → state_of k ≡ t → k.graph ≡ f.graph → AreListed f.graph.vertices k.standing.items k.seeds.items
-    → ((a : ℕ) → IsOutermost t a → t.label a ≢ Out → HasSeed k.seeds.items t a) → IsStanding k
-standing_after f k t state graph listed trees = record {
+    → ((a : ℕ) → IsOutermost t a → t.label a ≢ Out → HasSeed k.seeds.items t a) → ((a : ℕ) → IsOutermost t a → label_at k.arena.motions a ≡ t.label a) → IsStanding k
+standing_after f k t state graph listed trees moves = record {
   listed = subst (λ (g : Multigraph). AreListed g.vertices k.standing.items k.seeds.items) (sym graph) listed;
   trees = λ a is labelled.
       subst (λ (s : State). HasSeed k.seeds.items s a) (sym state)
       (trees a (subst (λ (s : State). IsOutermost s a) state is) (λ out. labelled (ap (λ (s : State). s.label a) state ∙ out)));
+  moves = λ a is. moves a (subst (λ (s : State). IsOutermost s a) state is) ∙ sym (ap (λ (s : State). s.label a) state);
 }
 
 -- a test of each of a list's numbers

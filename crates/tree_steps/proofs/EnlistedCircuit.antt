@@ -14,6 +14,7 @@ use Rattle.alt_forest.specs.declared.search.Search.{Search}
 use Rattle.alt_forest.specs.Entries.{IsBlossomEntered}
 use Rattle.alt_forest.specs.Searches.{IsSound, state_of, label_at}
 use Rattle.alt_forest.specs.Standing.{AreListed, seed_at}
+use Rattle.tree_steps.specs.Moving.{IsMoving}
 
 -- the base, or one of the first so many nodes of the circuit
 abbrev pub IsAmong : List Link → ℕ → ℕ → ℕ → Type 0
@@ -21,10 +22,12 @@ IsAmong ring base count a = (a ≡ base) ⊎ (in_ring (take count ring) a ≡ tr
 
 -- what has become of the search f once these are listed
 pub record AreEnlisted (f k : Search) (base seed count : ℕ) : Type 0 where
-  pub rest : k ≡ record f { queue = k.queue; standing = k.standing; seeds = k.seeds }
+  pub rest : k ≡ record f { arena = record f.arena { motions = k.arena.motions }; queue = k.queue; standing = k.standing; seeds = k.seeds }
   pub sound : IsSound k
   pub listed : AreListed f.graph.vertices k.standing.items k.seeds.items
   pub there : (a : ℕ) → IsAmong f.circuit.items base count a → label_at f.labels.items a ≢ Out → seed_at k.seeds.items a ≡ Some seed
+  pub moves : (a : ℕ) → IsAmong f.circuit.items base count a → label_at f.labels.items a ≢ Out → IsMoving k a
+  pub still : (a : ℕ) → IsMoving f a → IsMoving k a
   pub keeps : (a : ℕ) → a ≢ base → in_ring (take count f.circuit.items) a ≡ false → seed_at k.seeds.items a ≡ seed_at f.seeds.items a
   pub entered : (a : ℕ) → IsAmong f.circuit.items base count a → holds (names_of f.arena.blossoms) a ≡ true → IsBlossomEntered (state_of f) f.clock k.queue a
   pub others : (a : ℕ) → a ≢ base → in_ring (take count f.circuit.items) a ≡ false → moment_of k.queue (OfBlossom a) ≡ moment_of f.queue (OfBlossom a)
@@ -32,10 +35,12 @@ pub record AreEnlisted (f k : Search) (base seed count : ℕ) : Type 0 where
 
 -- what listing one node makes of a search
 pub record IsEnlisted (k t : Search) (node seed : ℕ) : Type 0 where
-  pub rest : t ≡ record k { queue = t.queue; standing = t.standing; seeds = t.seeds }
+  pub rest : t ≡ record k { arena = record k.arena { motions = t.arena.motions }; queue = t.queue; standing = t.standing; seeds = t.seeds }
   pub sound : IsSound t
   pub listed : AreListed k.graph.vertices t.standing.items t.seeds.items
   pub there : label_at k.labels.items node ≢ Out → seed_at t.seeds.items node ≡ Some seed
+  pub moves : label_at k.labels.items node ≢ Out → IsMoving t node
+  pub still : (a : ℕ) → IsMoving k a → IsMoving t a
   pub keeps : (a : ℕ) → a ≢ node → seed_at t.seeds.items a ≡ seed_at k.seeds.items a
   pub entered : holds (names_of k.arena.blossoms) node ≡ true → IsBlossomEntered (state_of k) k.clock t.queue node
   pub others : (b : ℕ) → b ≢ node → moment_of t.queue (OfBlossom b) ≡ moment_of k.queue (OfBlossom b)
@@ -52,6 +57,9 @@ enlisted_base f k base seed h = record {
   listed = h.listed;
   there = λ a among labelled. let at = none_first f.circuit.items base a among in
       ap (seed_at k.seeds.items) at ∙ h.there (λ out. labelled (ap (label_at f.labels.items) at ∙ out));
+  moves = λ a among labelled. let at = none_first f.circuit.items base a among in
+      subst (IsMoving k) (sym at) (h.moves (λ out. labelled (ap (label_at f.labels.items) at ∙ out)));
+  still = h.still;
   keeps = λ a ne off. h.keeps a ne;
   entered = λ a among name. let at = none_first f.circuit.items base a among in
       subst (IsBlossomEntered (state_of f) f.clock k.queue) (sym at) (h.entered (ap (holds (names_of f.arena.blossoms)) (sym at) ∙ name));
@@ -88,13 +96,18 @@ module _ (f k t : Search) (base seed count : ℕ) (l : Link) (h : AreEnlisted f 
 
   pub enlisted_more : AreEnlisted f t base seed (count + 1)
   enlisted_more = record {
-    rest = e.rest ∙ ap (λ (x : Search). let y : Search = record x { queue = t.queue; standing = t.standing; seeds = t.seeds } in y) h.rest;
+    rest = e.rest ∙ ap (λ (x : Search). let y : Search = record x { arena = record x.arena { motions = t.arena.motions }; queue = t.queue; standing = t.standing; seeds = t.seeds } in y) h.rest;
     sound = e.sound;
     listed = subst (λ (x : Search). AreListed x.graph.vertices t.standing.items t.seeds.items) h.rest e.listed;
     there = λ a among labelled. ⊎_elim
         (λ at. ap (seed_at t.seeds.items) at ∙ e.there (λ out. labelled (ap (label_at f.labels.items) at ∙ ap (λ v. label_at v.items l.node) (sym labels) ∙ out)))
         (λ ne. e.keeps a ne ∙ h.there a (among_before a among ne) labelled)
         (cases_eq a l.node);
+    moves = λ a among labelled. ⊎_elim
+        (λ at. subst (IsMoving t) (sym at) (e.moves (λ out. labelled (ap (label_at f.labels.items) at ∙ ap (λ v. label_at v.items l.node) (sym labels) ∙ out))))
+        (λ ne. e.still a (h.moves a (among_before a among ne) labelled))
+        (cases_eq a l.node);
+    still = λ a was. e.still a (h.still a was);
     keeps = λ a ne off. let parts = off_parts a off in e.keeps a parts.1 ∙ h.keeps a ne parts.0;
     entered = λ a among name. ⊎_elim
         (λ at. subst (IsBlossomEntered (state_of f) f.clock t.queue) (sym at)

@@ -1,15 +1,18 @@
 -- What the parts of an expand make of a search.
-use Rattle.std.proofs.Common.{◌≡◌, ◌≢◌, ◌⊎◌, ℕ, ℤ, ◌+ℤ◌, true, false, List, All, Some, None, sym, ap, ◌∙◌, subst, ◌≤◌}
+use Rattle.std.proofs.Common.{◌≡◌, ◌≢◌, ◌⊎◌, ℕ, ℤ, ◌+ℤ◌, Bool, true, false, ◌&&◌, not, List, All, Some, None, refl, sym, ap, ◌∙◌, subst, ◌≤◌}
 use Rattle.std.proofs.lemmas.Bool.{both_ways, false_from_ne_true}
 use Rattle.graph_theory.specs.Graph.{Multigraph}
 use Rattle.graph_theory.specs.Parts.{holds}
-use Rattle.blossom_arena.specs.Family.{Blossom, is_vertex, in_ring, members_of, names_of, ring_of}
+use Rattle.blossom_arena.specs.Family.{Blossom, is_vertex, is_node, is_child, in_ring, members_of, names_of, ring_of}
 use Rattle.blossom_arena.proofs.Lists.{by_test}
 use Rattle.blossom_arena.proofs.Nested.{name_is_node, node_range}
 use Rattle.blossom_arena.proofs.Sets.{member_vertex}
 use Rattle.edge_queue.specs.declared.item.Item.TheVariants.{Edge as OfEdge, Blossom as OfBlossom}
 use Rattle.edge_queue.specs.Moments.{Moments, entry, moment_of, with_moment, IsItem}
-use Rattle.blossom_arena.specs.declared.label.Label.TheVariants.{Out}
+use Rattle.blossom_arena.specs.declared.label.Label.{Label}
+use Rattle.blossom_arena.specs.declared.label.Label.TheVariants.{Outer, Inner, Out}
+use Rattle.blossom_arena.proofs.Parents.{ring_child}
+use Rattle.alt_forest.proofs.Relabelled.{inner_not_out, outer_not_out}
 use Rattle.alt_forest.specs.declared.search.Search.{Search}
 use Rattle.alt_forest.specs.State.{State, IsOutermost}
 use Rattle.alt_forest.specs.Trees.{node_limit}
@@ -19,17 +22,32 @@ use Rattle.alt_forest.specs.Searches.{IsSound, state_of, label_at}
 use Rattle.alt_forest.specs.Standing.{AreListed, IsSeed, IsStanding, seed_at}
 use Rattle.alt_forest.proofs.Places.{nested_of}
 use Rattle.alt_forest.proofs.Queues.{node_item, blossom_set, blossom_other}
+use Rattle.tree_steps.specs.Moving.{IsMoving}
 use Rattle.tree_steps.specs.Expanded.{IsExpanded, AreRootsOpened}
 use Rattle.tree_steps.proofs.Awaited.{queued_but, standing_after, each_vertex}
 use Rattle.tree_steps.proofs.ExpandedRoots.{from_on, from_off, opened_seed}
-use Rattle.tree_steps.proofs.QueuedExpand.{expanded_child, expanded_entered, expanded_blossom, expanded_in_tree, expanded_tree, not_gone}
+use Rattle.tree_steps.proofs.QueuedExpand.{outer_before, expanded_child, expanded_entered, expanded_blossom, expanded_in_tree, expanded_tree, not_gone}
+
+by_label : {P : Type 0} (l : Label) → (l ≡ Out → P) → (l ≢ Out → P) → P
+by_label Outer is isnt = isnt outer_not_out
+by_label Inner is isnt = isnt inner_not_out
+by_label Out is isnt = is refl
+
+-- a node of a blossom's circuit rests
+child_rests : (f : Search) → IsSound f → (b a : ℕ) → in_ring (ring_of f.arena.blossoms b) a ≡ true → label_at f.arena.motions a ≡ Out
+child_rests f h b a r = h.shape.family.motions.inside a (no_outer (is_node f.arena.vertex_count f.arena.blossoms a) (is_child f.arena.blossoms a) (ring_child f.arena.blossoms b a r))
+  where
+    no_outer : (p q : Bool) → q ≡ true → (p && not q) ≡ false
+    no_outer true true e = refl
+    no_outer false true e = refl
+    no_outer p false e = absurd (both_ways false refl e)
 
 -- f is the search before, f1 where the blossom's vertices are noted, f2 where it is open, f3 where its circuit is listed, and
 -- k where its moment is gone
 module _ (f f1 f2 f3 k : Search) (h : IsSound f) (h3 : IsSound f3) (b base : ℕ) (can : CanExpand (state_of f) b) (is : IsExpanded (state_of f1) (state_of f2) b)
     (r1 : f1 ≡ record f { scanned = f1.scanned })
-    (r2 : f2 ≡ record f1 { arena = record f1.arena { blossoms = f2.arena.blossoms }; labels = f2.labels; parents = f2.parents; mates = f2.mates; circuit = f2.circuit })
-    (r3 : f3 ≡ record f2 { queue = f3.queue; standing = f3.standing; seeds = f3.seeds })
+    (r2 : f2 ≡ record f1 { arena = record f1.arena { motions = f2.arena.motions; blossoms = f2.arena.blossoms }; labels = f2.labels; parents = f2.parents; mates = f2.mates; circuit = f2.circuit })
+    (r3 : f3 ≡ record f2 { arena = record f2.arena { motions = f3.arena.motions }; queue = f3.queue; standing = f3.standing; seeds = f3.seeds })
     (r4 : k ≡ record f3 { queue = k.queue })
     (base_on : in_ring (ring_of f1.arena.blossoms b) base ≡ true)
     (inside : (a : ℕ) → in_ring f2.circuit.items a ≡ true → in_ring (ring_of f1.arena.blossoms b) a ≡ true)
@@ -133,8 +151,10 @@ module _ (f f1 f2 f3 k : Search) (h : IsSound f) (h3 : IsSound f3) (b base : ℕ
   -- the nodes of the circuit that came into the tree are listed, with a vertex of its root
   pub expanded_standing : (seed : ℕ) → IsSeed (state_of f) b seed → AreRootsOpened (state_of f1) (state_of f2) b → IsStanding f → AreListed f2.graph.vertices f3.standing.items f3.seeds.items
       → ((a : ℕ) → a ≢ base → in_ring f2.circuit.items a ≡ false → seed_at f3.seeds.items a ≡ seed_at f2.seeds.items a)
-      → ((a : ℕ) → (a ≡ base) ⊎ (in_ring f2.circuit.items a ≡ true) → label_at f2.labels.items a ≢ Out → seed_at f3.seeds.items a ≡ Some seed) → IsStanding k
-  expanded_standing seed is_seed roots1 standing listed keeps there =
+      → ((a : ℕ) → (a ≡ base) ⊎ (in_ring f2.circuit.items a ≡ true) → label_at f2.labels.items a ≢ Out → seed_at f3.seeds.items a ≡ Some seed)
+      → ((a : ℕ) → a ≢ b → label_at f2.arena.motions a ≡ label_at f1.arena.motions a)
+      → ((a : ℕ) → (a ≡ base) ⊎ (in_ring f2.circuit.items a ≡ true) → label_at f2.labels.items a ≢ Out → IsMoving f3 a) → ((a : ℕ) → IsMoving f2 a → IsMoving f3 a) → IsStanding k
+  expanded_standing seed is_seed roots1 standing listed keeps there still2 moves3 still3 =
       let graph : f2.graph ≡ f.graph = cc in
       let list : k.standing ≡ f3.standing = cc in
       let seeds : k.seeds ≡ f3.seeds = cc in
@@ -159,3 +179,12 @@ module _ (f f1 f2 f3 k : Search) (h : IsSound f) (h3 : IsSound f3) (b base : ℕ
         opened_seed s t h.depth b h.shape.graph.graph (nested_of f h.shape) h.state can expanded_is roots a old.0 outer labelled
             (subst (λ x. IsSeed s x old.0) (sym (from_off s t h.depth b h.shape.graph.graph (nested_of f h.shape) h.state can expanded_is a r)) old.2),
       )))
+      (λ a outer.
+      let ne = not_gone s t h.depth b h.shape.graph.graph (nested_of f h.shape) h.state can expanded_is a outer in
+      let stays : label_at f2.arena.motions a ≡ label_at f.arena.motions a = still2 a ne ∙ ap (λ (x : Search). label_at x.arena.motions a) r1 in
+      let moving : IsMoving f3 a = by_test (in_ring (ring_of f.arena.blossoms b) a)
+      (λ r. by_label (label_at f2.labels.items a)
+      (λ out. still3 a (stays ∙ child_rests f h b a r ∙ sym out))
+      (λ labelled. moves3 a (all a (ap (λ (xs : List Blossom). in_ring (ring_of xs b) a) same_blossoms ∙ r)) labelled))
+      (λ r. still3 a (stays ∙ standing.moves a (outer_before s t h.depth b h.shape.graph.graph (nested_of f h.shape) h.state can expanded_is a outer r) ∙ sym (expanded_is.labels a r))) in
+      ap (λ (x : Search). label_at x.arena.motions a) r4 ∙ moving ∙ ap (λ (x : Search). label_at x.labels.items a) r3)

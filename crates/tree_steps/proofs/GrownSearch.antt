@@ -18,16 +18,17 @@ use Rattle.alt_forest.proofs.Places.{nested_of}
 use Rattle.alt_forest.proofs.Queues.{edge_item}
 use Rattle.alt_forest.proofs.Relabelled.{inner_not_out, outer_not_out}
 use Rattle.tree_steps.specs.Grown.{grown}
+use Rattle.tree_steps.specs.Moving.{IsMoving}
 use Rattle.tree_steps.proofs.Awaited.{queued_but, HasSeed, standing_after, edges_stay, edge_gone, blossoms_stay, one_less}
 use Rattle.tree_steps.proofs.GrownRoots.{far_seed, mate_seed, other_seed}
-use Rattle.tree_steps.proofs.QueuedGrow.{far_now, mate_now, grown_tree, grown_missed, grown_entered, grown_blossom, grown_trees}
+use Rattle.tree_steps.proofs.QueuedGrow.{far_now, mate_now, others_now, grown_tree, grown_missed, grown_entered, grown_blossom, grown_trees}
 
 -- f is the search before, f1 where the labels are written, f2 and f3 where the node and its mate are listed, f4 where the
 -- edge's moment is gone, and k where the mate's vertices are noted
 module _ (f f1 f2 f3 f4 k : Search) (h : IsSound f) (e mate : ℕ) (can : CanGrow (state_of f) e) (pair : IsMate (state_of f) can.far can.mate_edge mate)
     (r1 : f1 ≡ record f { labels = f1.labels; parents = f1.parents })
-    (r2 : f2 ≡ record f1 { queue = f2.queue; standing = f2.standing; seeds = f2.seeds })
-    (r3 : f3 ≡ record f2 { queue = f3.queue; standing = f3.standing; seeds = f3.seeds })
+    (r2 : f2 ≡ record f1 { arena = record f1.arena { motions = f2.arena.motions }; queue = f2.queue; standing = f2.standing; seeds = f2.seeds })
+    (r3 : f3 ≡ record f2 { arena = record f2.arena { motions = f3.arena.motions }; queue = f3.queue; standing = f3.standing; seeds = f3.seeds })
     (r4 : f4 ≡ record f3 { queue = f4.queue })
     (r5 : k ≡ record f4 { scanned = k.scanned })
     (state : state_of f1 ≡ grown (state_of f) e can.far mate) where
@@ -43,16 +44,19 @@ module _ (f f1 f2 f3 f4 k : Search) (h : IsSound f) (e mate : ℕ) (can : CanGro
   pub graph_same : k.graph ≡ f.graph
   graph_same = cc
 
+  blossoms_same : f4.arena.blossoms ≡ f.arena.blossoms
+  blossoms_same = ap (λ (x : Search). x.arena.blossoms) r4 ∙ ap (λ (x : Search). x.arena.blossoms) r3 ∙ ap (λ (x : Search). x.arena.blossoms) r2 ∙ ap (λ (x : Search). x.arena.blossoms) r1
+
   -- the mate is a node all the while
   pub grown_node : is_node f4.graph.vertices f4.arena.blossoms mate ≡ true
   grown_node =
       let graph : f4.graph ≡ f.graph = cc in
-      let bs : f4.arena.blossoms ≡ f.arena.blossoms = cc in
+      let bs : f4.arena.blossoms ≡ f.arena.blossoms = blossoms_same in
       ap (λ (g : Multigraph). is_node g.vertices f4.arena.blossoms mate) graph ∙ ap (λ (xs : List Blossom). is_node f.graph.vertices xs mate) bs
       ∙ (outermost_parts f.graph.vertices f.arena.blossoms mate pair.outer).0
 
   pub grown_scanned : k.scanned.items ≡ members_of f4.arena.blossoms mate → k.scanned.items ≡ members_of f.arena.blossoms mate
-  grown_scanned scanned = let bs : f4.arena.blossoms ≡ f.arena.blossoms = cc in scanned ∙ ap (λ (xs : List Blossom). members_of xs mate) bs
+  grown_scanned scanned = let bs : f4.arena.blossoms ≡ f.arena.blossoms = blossoms_same in scanned ∙ ap (λ (xs : List Blossom). members_of xs mate) bs
 
   module _ (h3 : IsSound f3) (queued : IsQueued f) (queue4 : f4.queue ≡ with_moment f3.queue (OfEdge e) None) (edges2 : f2.queue.edges ≡ f1.queue.edges) (edges3 : f3.queue.edges ≡ f2.queue.edges) where
     place : IsEdgeNumber f3.graph e
@@ -109,8 +113,9 @@ module _ (f f1 f2 f3 f4 k : Search) (h : IsSound f) (e mate : ℕ) (can : CanGro
   -- the two nodes that came into the tree are listed, with a vertex of its root
   pub grown_standing : (h1 : IsSound f1) (seed : ℕ) → IsSeed (state_of f) can.near seed → IsStanding f → AreListed f2.graph.vertices f3.standing.items f3.seeds.items
       → ((a : ℕ) → a ≢ can.far → seed_at f2.seeds.items a ≡ seed_at f1.seeds.items a) → ((a : ℕ) → a ≢ mate → seed_at f3.seeds.items a ≡ seed_at f2.seeds.items a)
-      → (label_at f1.labels.items can.far ≢ Out → seed_at f2.seeds.items can.far ≡ Some seed) → (label_at f2.labels.items mate ≢ Out → seed_at f3.seeds.items mate ≡ Some seed) → IsStanding k
-  grown_standing h1 seed is_seed standing listed keeps2 keeps3 far_there mate_there =
+      → (label_at f1.labels.items can.far ≢ Out → seed_at f2.seeds.items can.far ≡ Some seed) → (label_at f2.labels.items mate ≢ Out → seed_at f3.seeds.items mate ≡ Some seed)
+      → (label_at f1.labels.items can.far ≢ Out → IsMoving f2 can.far) → ((a : ℕ) → IsMoving f1 a → IsMoving f2 a) → (label_at f2.labels.items mate ≢ Out → IsMoving f3 mate) → ((a : ℕ) → IsMoving f2 a → IsMoving f3 a) → IsStanding k
+  grown_standing h1 seed is_seed standing listed keeps2 keeps3 far_there mate_there far_moves still2 mate_moves still3 =
       let graph : f2.graph ≡ f.graph = cc in
       let list : k.standing ≡ f3.standing = cc in
       let seeds : k.seeds ≡ f3.seeds = cc in
@@ -142,3 +147,14 @@ module _ (f f1 f2 f3 f4 k : Search) (h : IsSound f) (e mate : ℕ) (can : CanGro
       ))
       (cases_eq a mate))
       (cases_eq a can.far))
+      (λ a is. ap (λ (x : Search). label_at x.arena.motions a) r5 ∙ ap (λ (x : Search). label_at x.arena.motions a) r4
+      ∙ ⊎_elim
+      (λ at. subst (IsMoving f3) (sym at) (still3 can.far (far_moves (λ out. inner_not_out (sym (far_now (state_of f) e mate can pair) ∙ sym (ap (λ (x : State). x.label can.far) state) ∙ out)))))
+      (λ off_far. ⊎_elim
+      (λ at. subst (IsMoving f3) (sym at) (mate_moves (λ out. outer_not_out (sym (mate_now (state_of f) e mate can pair) ∙ sym labels ∙ out))))
+      (λ off_mate.
+      let old : IsMoving f1 a = ap (λ (x : Search). label_at x.arena.motions a) r1 ∙ standing.moves a is ∙ sym (ap (λ (x : State). x.label a) state ∙ others_now (state_of f) e mate can pair a off_far off_mate) in
+      still3 a (still2 a old))
+      (cases_eq a mate))
+      (cases_eq a can.far)
+      ∙ ap (λ (x : Search). label_at x.labels.items a) r3 ∙ ap (λ (x : Search). label_at x.labels.items a) r2 ∙ ap (λ (x : State). x.label a) state)

@@ -118,6 +118,12 @@ module _ (before after : State) (node : ℕ) (x : IsShrunk before after node) (g
   shrunk_in_tree a is labelled ne =
       in_tree before x.can.depth x.ring node x.base graph nested x.can.shrinkable a (subst (λ (s : State). IsOutermost s a) x.state is) (λ e. labelled (ap (λ (s : State). s.label a) x.state ∙ e)) ne
 
+  -- any other outermost node was one before, none of the circuit, with its label
+  pub shrunk_other : (a : ℕ) → IsOutermost after a → a ≢ node → IsOutermost before a × (in_ring x.ring a ≡ false) × (after.label a ≡ before.label a)
+  shrunk_other a is ne =
+      let p = outermost_before before.graph.vertices (made_of before.blossoms x.ring node) before.blossoms a (ne_eqb node a (λ e. ne (sym e))) (subst (λ (s : State). IsOutermost s a) x.state is) in
+      (p.0, p.1, ap (λ (s : State). s.label a) x.state ∙ put_other before.label node Outer a ne)
+
   -- the new node is outermost
   pub shrunk_outer : IsOutermost after node
   shrunk_outer = subst (λ (s : State). IsOutermost s node) (sym x.state) (node_is before x.can.depth x.ring node x.base nested x.can.shrinkable)

@@ -19,18 +19,19 @@ use Rattle.alt_forest.proofs.Places.{nested_of}
 use Rattle.alt_forest.proofs.Queues.{edge_item}
 use Rattle.alt_forest.proofs.Relabelled.{outer_not_out}
 use Rattle.tree_steps.specs.Circuits.{closed_by}
+use Rattle.tree_steps.specs.Moving.{IsMoving}
 use Rattle.tree_steps.specs.Scanned.{newly_outer}
 use Rattle.tree_steps.specs.Shrinkable.{IsShrunk}
 use Rattle.tree_steps.proofs.Awaited.{queued_but, HasSeed, standing_after, edges_stay, edge_gone, blossoms_stay, one_less, each_vertex}
 use Rattle.tree_steps.proofs.CountedShrink.{shrunk_looks}
 use Rattle.tree_steps.proofs.NewlyOuter.{newly_misses, newly_vertex}
 use Rattle.tree_steps.proofs.ShrunkRoots.{shrunk_new_seed, shrunk_other_seed}
-use Rattle.tree_steps.proofs.QueuedShrink.{shrunk_tree, shrunk_entered, shrunk_blossom, shrunk_in_tree, shrunk_label, shrunk_ring}
+use Rattle.tree_steps.proofs.QueuedShrink.{shrunk_other, shrunk_tree, shrunk_entered, shrunk_blossom, shrunk_in_tree, shrunk_label, shrunk_ring}
 
 -- f is the search before, f1 where the circuit is one node, f2 where that is listed, and k where the edge's moment is gone
 module _ (f f1 f2 k : Search) (h : IsSound f) (h1 : IsSound f1) (h2 : IsSound f2) (e node : ℕ) (can : CanShrink (state_of f) e) (x : IsShrunk (state_of f) (state_of f1) node)
     (r1 : f1 ≡ record f { arena = f1.arena; labels = f1.labels; mates = f1.mates; circuit = f1.circuit; scanned = f1.scanned })
-    (r2 : f2 ≡ record f1 { queue = f2.queue; standing = f2.standing; seeds = f2.seeds })
+    (r2 : f2 ≡ record f1 { arena = record f1.arena { motions = f2.arena.motions }; queue = f2.queue; standing = f2.standing; seeds = f2.seeds })
     (r3 : k ≡ record f2 { queue = k.queue }) where
   pub shrunk_same : state_of k ≡ state_of f1
   shrunk_same = ap state_of r3 ∙ ap state_of r2
@@ -117,8 +118,10 @@ module _ (f f1 f2 k : Search) (h : IsSound f) (h1 : IsSound f1) (h2 : IsSound f2
       → ((a : ℕ) → in_ring (closed_by (state_of f) e) a ≡ true → root_of (state_of f) a ≡ root_of (state_of f) (node_u f.graph f.arena.blossoms e))
       → IsStanding f → AreListed f1.graph.vertices f2.standing.items f2.seeds.items
       → ((a : ℕ) → a ≢ node → seed_at f2.seeds.items a ≡ seed_at f1.seeds.items a)
-      → (label_at f1.labels.items node ≢ Out → seed_at f2.seeds.items node ≡ Some seed) → IsStanding k
-  shrunk_standing seed is_seed circuit one_tree standing listed keeps there =
+      → (label_at f1.labels.items node ≢ Out → seed_at f2.seeds.items node ≡ Some seed)
+      → ((a : ℕ) → a ≢ node → in_ring (closed_by (state_of f) e) a ≡ false → label_at f1.arena.motions a ≡ label_at f.arena.motions a)
+      → (label_at f1.labels.items node ≢ Out → IsMoving f2 node) → ((a : ℕ) → IsMoving f1 a → IsMoving f2 a) → IsStanding k
+  shrunk_standing seed is_seed circuit one_tree standing listed keeps there still1 moves2 still2 =
       let s : State = state_of f in
       let t : State = state_of f1 in
       let graph : f1.graph ≡ f.graph = cc in
@@ -146,3 +149,12 @@ module _ (f f1 f2 k : Search) (h : IsSound f) (h1 : IsSound f1) (h2 : IsSound f2
         shrunk_other_seed s t node x h.shape.graph.graph nested h1.depth h1.state (λ c r. one c r ∙ sym at_base) a old.0 is labelled off old.2,
       ))
       (cases_eq a node))
+      (λ a is. ap (λ (y : Search). label_at y.arena.motions a) r3
+      ∙ ⊎_elim
+      (λ at. subst (IsMoving f2) (sym at) (moves2 (λ out. outer_not_out (sym (shrunk_label s t node x h.shape.graph.graph nested) ∙ out))))
+      (λ off.
+      let was = shrunk_other s t node x h.shape.graph.graph nested a is off in
+      let now : IsMoving f1 a = still1 a off (ap (λ (ls : List Link). in_ring ls a) closed ∙ was.1) ∙ standing.moves a was.0 ∙ sym was.2 in
+      still2 a now)
+      (cases_eq a node)
+      ∙ ap (λ (y : Search). label_at y.labels.items a) r2)

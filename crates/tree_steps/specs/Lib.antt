@@ -4,3 +4,4 @@ pub mod Circuits
 pub mod Shrinkable
 pub mod Expanded
 pub mod Scanned
+pub mod Moving

@@ -1,4 +1,4 @@
-ghost use Rattle.std.specs.Prelude.{◌≡◌, ◌<◌, ◌≤◌, ◌+◌, ◌%◌, ◌⊎◌, ℕ, true, None, length, take, drop};
+ghost use Rattle.std.specs.Prelude.{◌≡◌, ◌≢◌, ◌<◌, ◌≤◌, ◌+◌, ◌%◌, ◌⊎◌, ℕ, true, None, length, take, drop};
 ghost use Rattle.std.specs.List.{AllByRecursion};
 ghost use Rattle.graph_theory.specs.Graph.{IsEdgeNumber};
 ghost use Rattle.graph_theory.specs.Parts.{holds};
@@ -11,7 +11,7 @@ ghost use Rattle.alt_forest.specs.Trees.{node_limit};
 ghost use Rattle.alt_forest.specs.Counts.{is_outside, outside_among, tree_count, exposed_count, measure, IsPlanted};
 ghost use Rattle.alt_forest.specs.Entries.{IsQueued, ends_around, entry_count, looks_left};
 ghost use Rattle.alt_forest.specs.Events.{CanExpand};
-ghost use Rattle.alt_forest.specs.Searches.{HasShape, IsSound, state_of};
+ghost use Rattle.alt_forest.specs.Searches.{HasShape, IsSound, label_at, state_of};
 ghost use Rattle.alt_forest.specs.Standing.{IsStanding};
 ghost use Rattle.tree_steps.specs.Circuits.{before};
 ghost use Rattle.tree_steps.specs.Expanded.{child_at, opened, hung_up, hung_down, IsExpanded, AreRootsOpened};
@@ -102,11 +102,12 @@ fn lay_open(search: &mut Search, b: NodeId) -> NodeId
     ensures base { in_ring (ring_of search.old.arena.blossoms b) result ≡ true }
     ensures circuit { (a : ℕ) → in_ring search.new.circuit.items a ≡ true → in_ring (ring_of search.old.arena.blossoms b) a ≡ true }
     ensures all { (a : ℕ) → in_ring (ring_of search.old.arena.blossoms b) a ≡ true → (a ≡ result) ⊎ (in_ring search.new.circuit.items a ≡ true) }
-    ensures rest { search.new ≡ record search.old { arena = record search.old.arena { blossoms = search.new.arena.blossoms }; labels = search.new.labels; parents = search.new.parents; mates = search.new.mates; circuit = search.new.circuit } }
+    ensures rest { search.new ≡ record search.old { arena = record search.old.arena { motions = search.new.arena.motions; blossoms = search.new.arena.blossoms }; labels = search.new.labels; parents = search.new.parents; mates = search.new.mates; circuit = search.new.circuit } }
     ensures sound { IsSound search.new }
     ensures trees { tree_count (state_of search.new) ≡ tree_count (state_of search.old) }
     ensures exposed { exposed_count (state_of search.new) ≡ exposed_count (state_of search.old) }
     ensures falls { measure (state_of search.new) < measure (state_of search.old) }
+    ensures still { (a : ℕ) → a ≢ b → label_at search.new.arena.motions a ≡ label_at search.old.arena.motions a }
     ensures roots { AreRootsOpened (state_of search.old) (state_of search.new) b }
 {
     let mate = or_none(search.mate(b));
@@ -132,7 +133,7 @@ pub fn expand<L: Ledger>(search: &mut Search, graph: &Graph, b: NodeId, steps: &
     requires same { graph.now ≡ search.old.graph }
     requires can { CanExpand (state_of search.old) b }
     ensures expanded { IsExpanded (state_of search.old) (state_of search.new) b }
-    ensures rest { search.new ≡ record search.old { arena = record search.old.arena { blossoms = search.new.arena.blossoms }; labels = search.new.labels; parents = search.new.parents; mates = search.new.mates; circuit = search.new.circuit; queue = search.new.queue; standing = search.new.standing; seeds = search.new.seeds; scanned = search.new.scanned } }
+    ensures rest { search.new ≡ record search.old { arena = record search.old.arena { motions = search.new.arena.motions; blossoms = search.new.arena.blossoms }; labels = search.new.labels; parents = search.new.parents; mates = search.new.mates; circuit = search.new.circuit; queue = search.new.queue; standing = search.new.standing; seeds = search.new.seeds; scanned = search.new.scanned } }
     ensures sound { IsSound search.new }
     ensures queued { IsQueued search.new }
     ensures taken { moment_of search.new.queue (OfBlossom b) ≡ None }

@@ -9,24 +9,26 @@ ghost use Rattle.alt_forest.specs.State.{IsOutermost};
 ghost use Rattle.alt_forest.specs.Entries.{IsBlossomEntered};
 ghost use Rattle.alt_forest.specs.Searches.{IsSound, state_of, label_at};
 ghost use Rattle.alt_forest.specs.Standing.{AreListed, seed_at};
+ghost use Rattle.tree_steps.specs.Moving.{IsMoving};
 
 use alt_forest::{Item, Label, Search};
 use blossom_arena::NodeId;
 use mb_base::VertexId;
 
-/// Lists a node that a step took into a tree among those that changes of duals run over, keeps a vertex
-/// of the root of that tree for it, and gives an inner blossom its moment. For a node labelled out
-/// nothing is done.
+/// Lists a node that a step took into a tree, lets its dual move as its label says, keeps a vertex of the root
+/// of that tree for it, and gives an inner blossom its moment. For a node labelled out nothing is done.
 pub(crate) fn enlist(search: &mut Search, node: NodeId, seed: VertexId)
     requires sound { IsSound search.old }
     requires listed { AreListed search.old.graph.vertices search.old.standing.items search.old.seeds.items }
     requires low { pos 0 ≤ℤ search.old.clock }
     requires high { search.old.clock ≤ℤ NUMBER_LIMIT }
     requires outer { IsOutermost (state_of search.old) node }
-    ensures rest { search.new ≡ record search.old { queue = search.new.queue; standing = search.new.standing; seeds = search.new.seeds } }
+    ensures rest { search.new ≡ record search.old { arena = record search.old.arena { motions = search.new.arena.motions }; queue = search.new.queue; standing = search.new.standing; seeds = search.new.seeds } }
     ensures sound { IsSound search.new }
     ensures listed { AreListed search.old.graph.vertices search.new.standing.items search.new.seeds.items }
     ensures there { label_at search.old.labels.items node ≢ Out → seed_at search.new.seeds.items node ≡ Some seed }
+    ensures moves { label_at search.old.labels.items node ≢ Out → IsMoving search.new node }
+    ensures still { (a : ℕ) → IsMoving search.old a → IsMoving search.new a }
     ensures keeps { (a : ℕ) → a ≢ node → seed_at search.new.seeds.items a ≡ seed_at search.old.seeds.items a }
     ensures entered { holds (names_of search.old.arena.blossoms) node ≡ true → IsBlossomEntered (state_of search.old) search.old.clock search.new.queue node }
     ensures others { (b : ℕ) → b ≢ node → moment_of search.new.queue (OfBlossom b) ≡ moment_of search.old.queue (OfBlossom b) }
@@ -47,10 +49,12 @@ pub(crate) fn enlist_circuit(search: &mut Search, base: NodeId, seed: VertexId)
     requires high { search.old.clock ≤ℤ NUMBER_LIMIT }
     requires base { IsOutermost (state_of search.old) base }
     requires circuit { (a : ℕ) → in_ring search.old.circuit.items a ≡ true → IsOutermost (state_of search.old) a }
-    ensures rest { search.new ≡ record search.old { queue = search.new.queue; standing = search.new.standing; seeds = search.new.seeds } }
+    ensures rest { search.new ≡ record search.old { arena = record search.old.arena { motions = search.new.arena.motions }; queue = search.new.queue; standing = search.new.standing; seeds = search.new.seeds } }
     ensures sound { IsSound search.new }
     ensures listed { AreListed search.old.graph.vertices search.new.standing.items search.new.seeds.items }
     ensures there { (a : ℕ) → (a ≡ base) ⊎ (in_ring search.old.circuit.items a ≡ true) → label_at search.old.labels.items a ≢ Out → seed_at search.new.seeds.items a ≡ Some seed }
+    ensures moves { (a : ℕ) → (a ≡ base) ⊎ (in_ring search.old.circuit.items a ≡ true) → label_at search.old.labels.items a ≢ Out → IsMoving search.new a }
+    ensures still { (a : ℕ) → IsMoving search.old a → IsMoving search.new a }
     ensures keeps { (a : ℕ) → a ≢ base → in_ring search.old.circuit.items a ≡ false → seed_at search.new.seeds.items a ≡ seed_at search.old.seeds.items a }
     ensures entered { (a : ℕ) → (a ≡ base) ⊎ (in_ring search.old.circuit.items a ≡ true) → holds (names_of search.old.arena.blossoms) a ≡ true → IsBlossomEntered (state_of search.old) search.old.clock search.new.queue a }
     ensures others { (a : ℕ) → a ≢ base → in_ring search.old.circuit.items a ≡ false → moment_of search.new.queue (OfBlossom a) ≡ moment_of search.old.queue (OfBlossom a) }

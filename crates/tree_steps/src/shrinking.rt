@@ -1,4 +1,4 @@
-ghost use Rattle.std.specs.Prelude.{◌≡◌, ◌≢◌, ◌<◌, ◌≤◌, ◌+◌, ℕ, true, Some, None, length};
+ghost use Rattle.std.specs.Prelude.{◌≡◌, ◌≢◌, ◌<◌, ◌≤◌, ◌+◌, ℕ, true, false, Some, None, length};
 ghost use Rattle.graph_theory.specs.Graph.{IsEdgeNumber, edge_of};
 ghost use Rattle.blossom_arena.specs.Family.{in_ring, is_vertex, outermost, made_of, ring_of};
 ghost use Rattle.edge_queue.specs.declared.item.Item.TheVariants.{Edge as OfEdge};
@@ -30,6 +30,7 @@ fn close(search: &mut Search, base: NodeId) -> NodeId
     requires sound { IsSound search.old }
     requires can { CanClose (state_of search.old) search.old.circuit.items base }
     ensures state { state_of search.new ≡ shrunk_state (state_of search.old) (made_of search.old.arena.blossoms search.old.circuit.items result) base }
+    ensures still { (a : ℕ) → a ≢ result → in_ring search.old.circuit.items a ≡ false → label_at search.new.arena.motions a ≡ label_at search.old.arena.motions a }
     ensures rest { search.new ≡ record search.old { arena = search.new.arena; labels = search.new.labels; mates = search.new.mates } }
     ensures sound { IsSound search.new }
 {
@@ -75,6 +76,7 @@ fn close_by(search: &mut Search, e: EdgeId) -> NodeId
     ensures holds_v { outermost search.new.arena.blossoms (edge_of search.old.graph e).v ≡ result }
     ensures scanned { search.new.scanned.items ≡ newly_outer (state_of search.old) (closed_by (state_of search.old) e) }
     ensures one_tree { (a : ℕ) → in_ring (closed_by (state_of search.old) e) a ≡ true → root_of (state_of search.old) a ≡ root_of (state_of search.old) (node_u search.old.graph search.old.arena.blossoms e) }
+    ensures still { (a : ℕ) → a ≢ result → in_ring (closed_by (state_of search.old) e) a ≡ false → label_at search.new.arena.motions a ≡ label_at search.old.arena.motions a }
     ensures rest { search.new ≡ record search.old { arena = search.new.arena; labels = search.new.labels; mates = search.new.mates; circuit = search.new.circuit; scanned = search.new.scanned } }
     ensures sound { IsSound search.new }
     ensures trees { tree_count (state_of search.new) ≡ tree_count (state_of search.old) }

@@ -1,4 +1,4 @@
-use Rattle.std.proofs.Common.{◌≡◌, ◌∙◌, ℕ, ℤ, ◌+ℤ◌, List, length, take, true, ap, ap₂, rules, to_z, of_z, sym, subst}
+use Rattle.std.proofs.Common.{◌≡◌, ◌∙◌, ℕ, ℤ, ◌+ℤ◌, List, length, take, true, ap, ap₂, rules, to_z, of_z, FitsSigned, sym, subst}
 use Rattle.std.specs.List.{AllByRecursion}
 use mir.Syntax.{w64}
 use Rattle.graph_theory.specs.declared.edge.Edge.{Edge}
@@ -23,11 +23,12 @@ total-requires-2-clause-nodes c =
 
 pub returns-clause-duals_across : goal.returns-clause-duals_across
 returns-clause-duals_across c =
+    let fits : FitsSigned w64 (c.total.result +ℤ c.total-2.result) = search rules in
+    let back : to_z w64 (of_z w64 (to_z w64 (of_z w64 c.total.result) +ℤ to_z w64 (of_z w64 c.total-2.result))) ≡ c.total.result +ℤ c.total-2.result = search rules in
     let e : Edge = c.args.edge.now in
     let bs : List Blossom = c.args.arena.now.blossoms in
     let y = dual_at c.args.arena.now.duals in
     let h = ends_of c.args.arena.now.vertex_count bs e c.chain.ensures.good.nested c.chain.ensures.good.few c.requires in
-    let back : to_z w64 (of_z w64 (to_z w64 (of_z w64 c.total.result) +ℤ to_z w64 (of_z w64 c.total-2.result))) ≡ c.total.result +ℤ c.total-2.result = search rules in
     let left = first_total _ bs e.u e.v _ y _ _ h c.total.ensures.total c.holder_counts-u.ensures.u c.chain.ensures.chain in
     let right = first_total _ bs e.v e.u _ y _ _ (ends_turned _ bs e.u e.v h) c.total-2.ensures.total c.holder_counts-u.ensures.v c.chain-2.ensures.chain in
     back ∙ ap₂ (λ (p q : ℤ). p +ℤ q) left right ∙ sym (across_split y bs e)

@@ -5,12 +5,12 @@ use Rattle.alt_forest.specs.Searches.{label_at}
 use Rattle.alt_forest.specs.Standing.{AreListed, seed_at}
 use Rattle.alt_forest.proofs.Places.{nested_of}
 use Rattle.augment.specs.Felling.{stands}
-use Rattle.augment.proofs.Felled.{IsFelling, leads_on, seeded_still, stays_on, drops_off, room_here, takes_off, felled}
+use Rattle.augment.proofs.Felled.{still_moving, felled_moving, IsFelling, leads_on, seeded_still, stays_on, drops_off, room_here, takes_off, felled}
 use Rattle.augment.proofs.felling.fell.Goals as goal
 
 -- what is left after a node is taken off the list
-unlisted_rest : (s t u : Search) → t ≡ record s { labels = t.labels; standing = t.standing; seeds = t.seeds; scanned = t.scanned } → u ≡ record t { standing = u.standing; seeds = u.seeds } → u ≡ record s { labels = u.labels; standing = u.standing; seeds = u.seeds; scanned = u.scanned }
-unlisted_rest s t u rest now = subst (λ (x : Search). x ≡ record s { labels = x.labels; standing = x.standing; seeds = x.seeds; scanned = x.scanned }) (sym now) (ap (λ (x : Search). record x { standing = u.standing; seeds = u.seeds }) rest)
+unlisted_rest : (s t u : Search) → t ≡ record s { arena = record s.arena { motions = t.arena.motions }; labels = t.labels; standing = t.standing; seeds = t.seeds; scanned = t.scanned } → u ≡ record t { arena = record t.arena { motions = u.arena.motions }; standing = u.standing; seeds = u.seeds } → u ≡ record s { arena = record s.arena { motions = u.arena.motions }; labels = u.labels; standing = u.standing; seeds = u.seeds; scanned = u.scanned }
+unlisted_rest s t u rest now = subst (λ (x : Search). x ≡ record s { arena = record s.arena { motions = x.arena.motions }; labels = x.labels; standing = x.standing; seeds = x.seeds; scanned = x.scanned }) (sym now) (ap (λ (x : Search). record x { arena = record x.arena { motions = u.arena.motions }; standing = u.standing; seeds = u.seeds }) rest)
 
 pub next_leaving-place-requires-clause-seeded : goal.next_leaving-place-requires-clause-seeded
 next_leaving-place-requires-clause-seeded c =
@@ -43,6 +43,7 @@ list-preserved-then-not-stands c =
       shape = c.unlist.ensures.shape;
       listed = subst (λ (x : Search). AreListed x.graph.vertices u.standing.items u.seeds.items) (sym c.unlist.ensures.rest) c.unlist.ensures.listed;
       place = omega (arith, low, c.unlist.ensures.fewer);
+      moving = still_moving t u (get_or t.standing.items place 0) c.unlist.ensures.rest c.unlist.ensures.motions (ap (stands t) (sym at) ∙ sym c.stands.ensures ∙ c.if-not-stands.true) v.moving;
       felling = drops_off s t c.args.one c.args.other place v.rest v.listed felling low u (ap (stands t) (sym at) ∙ sym c.stands.ensures ∙ c.if-not-stands.true) c.unlist.ensures.rest c.unlist.ensures.seeds c.unlist.ensures.before;
     }
 
@@ -76,10 +77,11 @@ list-preserved c =
     let st : stands t (get_or t.standing.items place 0) ≡ true = ap (stands t) (sym at) ∙ sym c.stands.ensures ∙ c.if-not-stands.false in
     let leads = leads_on t c.args.one c.args.other (get_or t.standing.items place 0) (n.leaves (omega (arith, c.if-place-len.false, c.len.ensures))) st in
     record {
-      rest = c.fell_at.ensures.rest ∙ ap (λ (x : Search). record x { labels = u.labels; standing = u.standing; seeds = u.seeds; scanned = u.scanned }) v.rest;
+      rest = c.fell_at.ensures.rest ∙ ap (λ (x : Search). record x { arena = record x.arena { motions = u.arena.motions }; labels = u.labels; standing = u.standing; seeds = u.seeds; scanned = u.scanned }) v.rest;
       shape = c.fell_at.ensures.shape;
       listed = subst (λ (x : Search). AreListed x.graph.vertices u.standing.items u.seeds.items) (sym c.fell_at.ensures.rest) c.fell_at.ensures.listed;
       place = omega (arith, low, c.fell_at.ensures.fewer);
+      moving = felled_moving t u (get_or t.standing.items place 0) c.fell_at.ensures.rest c.fell_at.ensures.motions c.fell_at.ensures.labels v.moving;
       felling = takes_off s t c.args.one c.args.other place v.rest v.listed felling low (nested_of s c.requires.shape) st leads
           u c.fell_at.ensures.labels c.fell_at.ensures.scanned c.fell_at.ensures.seeds c.fell_at.ensures.before;
     }

@@ -26,18 +26,18 @@ loop-v-preserved c =
     let was : List ℕ = c.args.outer.now.items in
     let now : List ℕ = c.loop-v.outer.items in
     let sums : List ℤ = c.loop-v.sums.items in
-    let f : ℕ → ℤ = outer_dual was c.args.duals.now in
+    let f : ℕ → ℤ = outer_dual was c.args.duals.now.values in
     let rest : List ℕ = c.next.new.self in
     let steps : c.loop-v.v-iterator ≡ c.in-Some.v ∷ rest = c.in-Some.ensures.steps in
     let here : c.number-place.result ≡ c.in-Some.v = c.number-place.ensures in
     let different = subst AllNew steps c.loop-v.invariant.different in
     let same = subst (AllByRecursion (λ v. slice_index now v ≡ slice_index was v)) steps c.loop-v.invariant.same in
-    let nodes = subst (AllByRecursion (λ v. (v < vec_len c.args.outer.now) × (slice_index was v < length c.args.duals.now))) steps c.loop-v.invariant.nodes in
+    let nodes = subst (AllByRecursion (λ v. (v < vec_len c.args.outer.now) × (slice_index was v < length c.args.duals.now.values))) steps c.loop-v.invariant.nodes in
     let place : c.number-place.result < length now = omega (arith, here, nodes.0.0, c.loop-v.invariant.outer_len) in
     let read : c.index.result.now ≡ slice_index was c.in-Some.v =
     c.index.ensures ∙ get_or_default now c.number-place.result c.index.result.now 0 place ∙ ap (slice_index now) here ∙ same.0 in
-    let back : to_z w64 (of_z w64 c.dual_in.result) ≡ c.dual_in.result = search rules in
-    let dual : to_z w64 (of_z w64 c.dual_in.result) ≡ f c.in-Some.v = back ∙ c.dual_in.ensures ∙ ap (dual_at c.args.duals.now) read in
+    let back : to_z w64 (of_z w64 c.get.result) ≡ c.get.result = search rules in
+    let dual : to_z w64 (of_z w64 c.get.result) ≡ f c.in-Some.v = back ∙ c.get.ensures.dual ∙ ap (dual_at c.args.duals.now.values) read in
     let written : c.add_at.new.sums.items ≡ slice_set sums c.in-Some.v (sum_at sums c.in-Some.v +ℤ f c.in-Some.v) =
     c.add_at.ensures ∙ ap (λ (z : ℤ). slice_set sums c.number-place.result (sum_at sums c.number-place.result +ℤ z)) dual ∙ ap (λ (x : ℕ). slice_set sums x (sum_at sums x +ℤ f c.in-Some.v)) here in
     record {

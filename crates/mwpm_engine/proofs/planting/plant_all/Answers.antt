@@ -1,5 +1,4 @@
 use Rattle.std.proofs.Common.{◌≡◌, ◌≢◌, ◌∙◌, MatchBool, refl, sym, ap, subst, arith}
-use Rattle.blossom_arena.specs.Family.{Family}
 use Rattle.alt_forest.specs.Trees.{node_limit}
 use Rattle.alt_forest.specs.declared.search.Search.{Search}
 use Rattle.alt_forest.specs.Searches.{state_of}
@@ -52,6 +51,6 @@ returns-clause-planted g c =
     let s : Search = c.loop-place.search in
     let i = c.loop-place.invariant in
     let shape = i.sound.shape in
-    let arena : s.arena ≡ c.args.search.now.arena = ap (λ (x : Search). x.arena) i.rest in
-    let limit : c.node_limit-place-end.result ≡ node_limit s.graph.vertices = c.node_limit-place-end.ensures.limit ∙ ap node_limit (sym (ap (λ (f : Family). f.vertex_count) arena) ∙ shape.arena) in
+    let count : s.arena.vertex_count ≡ c.args.search.now.arena.vertex_count = ap (λ (x : Search). x.arena.vertex_count) i.rest in
+    let limit : c.node_limit-place-end.result ≡ node_limit s.graph.vertices = c.node_limit-place-end.ensures.limit ∙ ap node_limit (sym count ∙ shape.arena) in
     planted_all s c.loop-place.place c.node_limit-place-end.result shape c.loop-place-test.false (λ a x. let range = outer_range s a shape x.0 in omega (arith, range.1, limit)) i.planted

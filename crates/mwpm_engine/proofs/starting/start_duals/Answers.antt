@@ -4,7 +4,7 @@ use Rattle.blossom_arena.specs.Family.{is_vertex}
 use Rattle.alt_forest.specs.declared.search.Search.{Search}
 use Rattle.alt_forest.specs.Searches.{state_of}
 use Rattle.mwpm_engine.specs.Solutions.{HasPerfect}
-use Rattle.mwpm_engine.proofs.StartPass.{begun_anew, one_parity, given, kept_through, still_queued, still_standing}
+use Rattle.mwpm_engine.proofs.StartPass.{arena_through, begun_anew, one_parity, given, kept_through, still_queued, still_standing}
 use Rattle.mwpm_engine.proofs.BoundedStarts.{bounded_begun}
 use Rattle.mwpm_engine.proofs.starting.start_duals.Goals as goal
 
@@ -25,7 +25,8 @@ returns-clause-queued g c =
 
 pub returns-clause-standing : goal.returns-clause-standing
 returns-clause-standing g c =
-    still_standing c.args.search.now c.start_all.new.search (kept_through c.args.search.now c.lift_all.new.search c.start_all.new.search c.lift_all.ensures.rest c.start_all.ensures.rest) c.requires.labels c.requires.standing
+    still_standing c.args.search.now c.start_all.new.search (kept_through c.args.search.now c.lift_all.new.search c.start_all.new.search c.lift_all.ensures.rest c.start_all.ensures.rest) c.requires.labels
+    (arena_through c.args.search.now c.lift_all.new.search c.start_all.new.search c.lift_all.ensures.rest c.start_all.ensures.rest) c.requires.standing
 
 pub returns-clause-bounded : goal.returns-clause-bounded
 returns-clause-bounded g c perfect =

@@ -37,8 +37,8 @@ enlist_circuit-requires-clause-circuit g c = circuit_outer c.args.search.now c.s
 
 -- the graph is the same all along
 same_graph : (f f1 f2 f3 : Search) → f1 ≡ record f { scanned = f1.scanned }
-    → f2 ≡ record f1 { arena = record f1.arena { blossoms = f2.arena.blossoms }; labels = f2.labels; parents = f2.parents; mates = f2.mates; circuit = f2.circuit }
-    → f3 ≡ record f2 { queue = f3.queue; standing = f3.standing; seeds = f3.seeds } → f3.graph ≡ f.graph
+    → f2 ≡ record f1 { arena = record f1.arena { motions = f2.arena.motions; blossoms = f2.arena.blossoms }; labels = f2.labels; parents = f2.parents; mates = f2.mates; circuit = f2.circuit }
+    → f3 ≡ record f2 { arena = record f2.arena { motions = f3.arena.motions }; queue = f3.queue; standing = f3.standing; seeds = f3.seeds } → f3.graph ≡ f.graph
 same_graph f f1 f2 f3 scanned opened listed = ap (λ (x : Search). x.graph) listed ∙ ap (λ (x : Search). x.graph) opened ∙ ap (λ (x : Search). x.graph) scanned
 
 pub drop_entry-requires-clause-item : goal.drop_entry-requires-clause-item
@@ -71,7 +71,8 @@ returns-clause-standing g c =
     (standing_with c.drop_entry.new.search c.enter_scanned.new.self.queue
     (expanded_standing c.args.search.now c.scan_node.new.search c.lay_open-base.new.search c.enlist_circuit.new.search c.drop_entry.new.search c.requires.sound c.enlist_circuit.ensures.sound c.args.b c.lay_open-base.result c.requires.can c.lay_open-base.ensures.expanded
     c.scan_node.ensures.rest c.lay_open-base.ensures.rest c.enlist_circuit.ensures.rest c.drop_entry.ensures.rest c.lay_open-base.ensures.base c.lay_open-base.ensures.circuit c.lay_open-base.ensures.all
-    c.root_vertex-seed.result c.root_vertex-seed.ensures.seed c.lay_open-base.ensures.roots c.requires.standing c.enlist_circuit.ensures.listed c.enlist_circuit.ensures.keeps c.enlist_circuit.ensures.there))
+    c.root_vertex-seed.result c.root_vertex-seed.ensures.seed c.lay_open-base.ensures.roots c.requires.standing c.enlist_circuit.ensures.listed c.enlist_circuit.ensures.keeps c.enlist_circuit.ensures.there
+    c.lay_open-base.ensures.still c.enlist_circuit.ensures.moves c.enlist_circuit.ensures.still))
 
 -- the state after the edges are looked at is that of the open blossom
 opened_is : (g : Over) (c : goal.After-enter_scanned g) → IsExpanded (state_of c.args.search.now) (state_of c.enter_scanned.new.self) c.args.b

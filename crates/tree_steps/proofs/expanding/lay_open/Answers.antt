@@ -4,7 +4,9 @@ use Rattle.blossom_arena.specs.declared.links.Link.{Link}
 use Rattle.blossom_arena.specs.Family.{in_ring, nodes_of}
 use Rattle.alt_forest.specs.declared.search.Search.{Search}
 use Rattle.alt_forest.specs.Trees.{node_limit}
-use Rattle.alt_forest.specs.Searches.{state_of}
+use Rattle.alt_forest.specs.Searches.{label_at, state_of}
+use Rattle.std.proofs.lemmas.List.{get_or-set_other}
+use Rattle.blossom_arena.specs.declared.label.Label.TheVariants.{Out}
 use Rattle.tree_steps.specs.Circuits.{before}
 use Rattle.tree_steps.specs.Expanded.{opened, hung_up, hung_down}
 use Rattle.tree_steps.proofs.Opening.{Expands}
@@ -118,3 +120,9 @@ returns-clause-roots c =
     let e = made c in
     roots_opened (state_of f) (state_of c.take_even_way.new.search) h.depth c.args.b h.shape.graph.graph (nested_of f h.shape) h.state c.requires.can e.is e.after e.state
     (nested_of c.take_even_way.new.search c.take_even_way.ensures.shape) e.ways
+
+pub returns-clause-still : goal.returns-clause-still
+returns-clause-still c = λ a ne.
+    ap (λ (f : Search). label_at f.arena.motions a) c.take_even_way.ensures.rest ∙ ap (λ (f : Search). label_at f.arena.motions a) c.open_at.ensures.rest
+    ∙ get_or-set_other c.fill_round-first.new.search.arena.motions c.args.b a Out Out ne
+    ∙ ap (λ (f : Search). label_at f.arena.motions a) c.fill_round-first.ensures.rest

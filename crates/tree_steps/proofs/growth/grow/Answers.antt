@@ -13,6 +13,7 @@ use Rattle.alt_forest.specs.Searches.{state_of, label_at}
 use Rattle.alt_forest.specs.Standing.{IsStanding, seed_at}
 use Rattle.alt_forest.proofs.Places.{nested_of}
 use Rattle.alt_forest.proofs.Queues.{standing_with}
+use Rattle.tree_steps.specs.Moving.{IsMoving}
 use Rattle.tree_steps.proofs.Awaited.{each_vertex}
 use Rattle.tree_steps.proofs.Counted.{KeepsOuter, outside_before}
 use Rattle.tree_steps.proofs.CountedGrow.{grow_inside, grow_blossoms, grow_looks}
@@ -88,7 +89,8 @@ returns-clause-standing g c =
     c.take_in-far.ensures.rest c.enlist.ensures.rest c.enlist-2.ensures.rest c.drop_entry.ensures.rest c.scan_node.ensures.rest (c.take_in-far.ensures.grown can mate pair)
     c.take_in-far.ensures.sound c.near_seed-seed.result (c.near_seed-seed.ensures can) c.requires.standing c.enlist-2.ensures.listed
     (λ a ne. c.enlist.ensures.keeps a (λ at. ne (at ∙ far))) c.enlist-2.ensures.keeps
-    (subst (λ a. label_at f1.labels.items a ≢ Out → seed_at f2.seeds.items a ≡ Some c.near_seed-seed.result) far c.enlist.ensures.there) c.enlist-2.ensures.there))
+    (subst (λ a. label_at f1.labels.items a ≢ Out → seed_at f2.seeds.items a ≡ Some c.near_seed-seed.result) far c.enlist.ensures.there) c.enlist-2.ensures.there
+    (subst (λ a. label_at f1.labels.items a ≢ Out → IsMoving f2 a) far c.enlist.ensures.moves) c.enlist.ensures.still c.enlist-2.ensures.moves c.enlist-2.ensures.still))
 
 pub returns-clause-taken : goal.returns-clause-taken
 returns-clause-taken g c =

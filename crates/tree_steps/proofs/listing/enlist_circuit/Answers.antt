@@ -10,7 +10,7 @@ use Rattle.tree_steps.proofs.listing.enlist_circuit.Goals as goal
 
 pub loop-place-init : goal.loop-place-init
 loop-place-init c = let e = c.enlist.ensures in
-    enlisted_base c.args.search.now c.enlist.new.search c.args.base c.args.seed (record { rest = e.rest; sound = e.sound; listed = e.listed; there = e.there; keeps = e.keeps; entered = e.entered; others = e.others; edges = e.edges })
+    enlisted_base c.args.search.now c.enlist.new.search c.args.base c.args.seed (record { rest = e.rest; sound = e.sound; listed = e.listed; there = e.there; moves = e.moves; still = e.still; keeps = e.keeps; entered = e.entered; others = e.others; edges = e.edges })
 
 pub enlist-requires-in-loop-place-clause-outer : goal.enlist-requires-in-loop-place-clause-outer
 enlist-requires-in-loop-place-clause-outer c =
@@ -35,7 +35,7 @@ loop-place-preserved c =
     let first : c.enlist.new.search.circuit.items ≡ f.circuit.items = ap (λ (x : Search). x.circuit.items) c.enlist.ensures.rest in
     enlisted_more f now c.enlist-in-loop-place.new.search c.args.base c.args.seed c.loop-place.place l i (omega (arith, c.loop-place-test.true, c.len-place-end.ensures, ap length first))
     (sym (c.index-link.ensures ∙ ap (λ (ls : List Link). get_or ls c.loop-place.place l) items))
-    (record { rest = e.rest; sound = e.sound; listed = e.listed; there = e.there; keeps = e.keeps; entered = e.entered; others = e.others; edges = e.edges })
+    (record { rest = e.rest; sound = e.sound; listed = e.listed; there = e.there; moves = e.moves; still = e.still; keeps = e.keeps; entered = e.entered; others = e.others; edges = e.edges })
 
 pub returns-clause-there : goal.returns-clause-there
 returns-clause-there c = λ a among.
@@ -57,3 +57,10 @@ returns-clause-keeps c = λ a ne off.
     let first : c.enlist.new.search.circuit.items ≡ f.circuit.items = ap (λ (x : Search). x.circuit.items) c.enlist.ensures.rest in
     let all : length f.circuit.items ≤ c.loop-place.place = omega (arith, c.loop-place-test.false, c.len-place-end.ensures, ap length first) in
     c.loop-place.invariant.keeps a ne (ap (λ ls. in_ring ls a) (take_all c.loop-place.place f.circuit.items all) ∙ off)
+
+pub returns-clause-moves : goal.returns-clause-moves
+returns-clause-moves c = λ a among.
+    let f = c.args.search.now in
+    let first : c.enlist.new.search.circuit.items ≡ f.circuit.items = ap (λ (x : Search). x.circuit.items) c.enlist.ensures.rest in
+    let all : length f.circuit.items ≤ c.loop-place.place = omega (arith, c.loop-place-test.false, c.len-place-end.ensures, ap length first) in
+    c.loop-place.invariant.moves a (among_all f.circuit.items c.args.base c.loop-place.place a all among)

@@ -1,9 +1,12 @@
 use Rattle.std.proofs.Common.{◌≡◌, ◌∙◌, ℕ, ◌<◌, pos, List, length, sym, ap, subst, arith}
 use Rattle.blossom_arena.specs.declared.links.Link.{Link}
-use Rattle.blossom_arena.specs.Family.{Blossom, Family, made_of, shrunk, dual_at}
+use Rattle.blossom_arena.specs.Family.{Blossom, Family, made_of, shrunk, rested, nodes_of, dual_at}
+use Rattle.std.proofs.lemmas.List.{get_or-set_other}
+use Rattle.blossom_arena.specs.declared.label.Label.TheVariants.{Out}
+use Rattle.blossom_arena.proofs.Rested.{rested_out}
 use Rattle.blossom_arena.proofs.Nested.{circuit_outer}
 use Rattle.alt_forest.specs.State.{State, IsSearchState}
-use Rattle.alt_forest.specs.Searches.{state_of, put}
+use Rattle.alt_forest.specs.Searches.{label_at, state_of, put}
 use Rattle.alt_forest.proofs.Puts.{put_dual}
 use Rattle.tree_steps.proofs.Shrunk.{shrink_keeps}
 use Rattle.tree_steps.proofs.Closed.{closed_is, nested_after, shrinks_from}
@@ -60,3 +63,11 @@ returns-clause-sound c =
       state = subst (λ (t : State). IsSearchState t (put can.depth node (can.depth c.args.base))) (sym state)
           (shrink_keeps s b c.args.base can.depth (shrinks_from s can.depth items node c.args.base h.graph.graph nested can.shrinkable) can.state);
     }
+
+pub returns-clause-still : goal.returns-clause-still
+returns-clause-still c = λ a ne off.
+    let old : Family = c.args.search.now.arena in
+    let items : List Link = c.args.search.now.circuit.items in
+    let node : ℕ = c.shrink-node.result in
+    let family : c.shrink-node.new.self ≡ shrunk old node items = c.shrink-node.ensures.family ∙ ap (shrunk old node) c.deref.ensures.value in
+    ap (λ (f : Family). label_at f.motions a) family ∙ get_or-set_other (rested old.motions (nodes_of items)) node a Out Out ne ∙ rested_out old.motions (nodes_of items) a off

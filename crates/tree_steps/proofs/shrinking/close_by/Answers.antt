@@ -10,7 +10,7 @@ use Rattle.alt_forest.specs.declared.search.Search.{Search}
 use Rattle.graph_theory.specs.Graph.{edge_of}
 use Rattle.alt_forest.specs.Trees.{path_of, root_of, first_common}
 use Rattle.alt_forest.specs.Events.{CanShrink}
-use Rattle.alt_forest.specs.Searches.{IsSound, state_of}
+use Rattle.alt_forest.specs.Searches.{IsSound, label_at, state_of}
 use Rattle.alt_forest.proofs.Places.{nested_of}
 use Rattle.tree_steps.specs.Scanned.{newly_outer}
 use Rattle.tree_steps.specs.Shrunk.{shrunk_state}
@@ -135,3 +135,10 @@ returns-clause-one_tree c = λ x on.
     circuit_root (state_of f) r.sound.depth c.outermost-a.result c.outermost-b.result c.meeting_node-base.result c.args.e (nested_of f r.sound.shape) r.sound.state
     m.a_is (λ out. outer_not_out (sym ends.a_outer ∙ out)) m.b_is (λ out. outer_not_out (sym ends.b_outer ∙ out)) ends.one_tree m.a_there x (ap (λ (ls : List Link). in_ring ls x) m.is ∙ on)
     ∙ ap (root_of (state_of f)) a_at
+
+pub returns-clause-still : goal.returns-clause-still
+returns-clause-still c = λ a ne off.
+    let r = c.requires in
+    let m = looked_up c.args.search.now r.sound c.args.e _ _ _ _ c.meeting_node-base.result r.can c.edge-u.ensures.from c.edge-u.ensures.to c.outermost-a.ensures.node c.outermost-b.ensures.node c.meeting_node-base.ensures in
+    c.close.ensures.still a ne (ap (λ (f : Search). in_ring f.circuit.items a) c.scan_circuit.ensures.rest ∙ ap (λ (ls : List Link). in_ring ls a) (c.fill_circuit.ensures.circuit ∙ m.is) ∙ off)
+    ∙ ap (λ (f : Search). label_at f.arena.motions a) c.scan_circuit.ensures.rest ∙ ap (λ (f : Search). label_at f.arena.motions a) c.fill_circuit.ensures.rest

@@ -44,7 +44,8 @@ returns-clause-standing g c =
     (standing_with c.drop_entry.new.search c.enter_scanned.new.self.queue
     (shrunk_standing c.args.search.now c.close_by-node.new.search c.enlist.new.search c.drop_entry.new.search c.requires.sound c.close_by-node.ensures.sound c.enlist.ensures.sound c.args.e c.close_by-node.result c.requires.can c.close_by-node.ensures.shrunk
     c.close_by-node.ensures.rest c.enlist.ensures.rest c.drop_entry.ensures.rest
-    c.tree_seed-seed.result c.tree_seed-seed.ensures c.close_by-node.ensures.circuit c.close_by-node.ensures.one_tree c.requires.standing c.enlist.ensures.listed c.enlist.ensures.keeps c.enlist.ensures.there))
+    c.tree_seed-seed.result c.tree_seed-seed.ensures c.close_by-node.ensures.circuit c.close_by-node.ensures.one_tree c.requires.standing c.enlist.ensures.listed c.enlist.ensures.keeps c.enlist.ensures.there
+    c.close_by-node.ensures.still c.enlist.ensures.moves c.enlist.ensures.still))
 
 -- the state after the edges are looked at is that of the new node
 same_state : (g : Over) (c : goal.After-enter_scanned g) → state_of c.enter_scanned.new.self ≡ state_of c.close_by-node.new.search

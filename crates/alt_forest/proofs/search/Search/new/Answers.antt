@@ -7,10 +7,11 @@ use Rattle.edge_queue.specs.Moments.{Moments, moment_of}
 use Rattle.edge_queue.proofs.Maps.{new_has_none}
 use Rattle.alt_forest.specs.declared.weights.Weights.TheVariants.{Zero}
 use Rattle.alt_forest.specs.Trees.{node_limit}
-use Rattle.alt_forest.specs.Searches.{IsSearchGraph}
+use Rattle.alt_forest.specs.Searches.{label_at, IsSearchGraph}
 use Rattle.alt_forest.specs.Standing.{AreListed}
 use Rattle.alt_forest.proofs.Fresh.{fresh, fresh_slack, same_entry}
 use Rattle.alt_forest.proofs.Listed.{none_listed}
+use Rattle.alt_forest.proofs.Moving.{none_move}
 use Rattle.alt_forest.proofs.NoTree.{none_queued, none_standing}
 use Rattle.alt_forest.proofs.search.Search.new.Goals as goal
 
@@ -65,5 +66,5 @@ returns-clause-queued c = none_queued _ c.in_ok-labels.ensures.labels refl (λ i
 pub returns-clause-standing : goal.returns-clause-standing
 returns-clause-standing c =
     let n : ℕ = c.in_ok-copy.copy.vertices in
-    none_standing _ c.in_ok-labels.ensures.labels
+    none_standing _ c.in_ok-labels.ensures.labels (λ a. ap (λ (f : Family). label_at f.motions a) c.in_ok-arena.ensures.family ∙ none_move _ a)
     (subst (λ (xs : List ℕ). AreListed n xs c.in_ok-labels.field-0.seeds.items) (sym c.in_ok-circuit.ensures.none) (none_listed n c.in_ok-labels.field-0.seeds.items c.in_ok-labels.ensures.seeds))

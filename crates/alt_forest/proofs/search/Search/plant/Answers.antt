@@ -9,7 +9,7 @@ use Rattle.blossom_arena.proofs.Sets.{member_vertex, outermost_by_member}
 use Rattle.alt_forest.specs.declared.search.Search.{Search}
 use Rattle.alt_forest.specs.State.{State, IsSearchState}
 use Rattle.alt_forest.specs.Counts.{is_outside}
-use Rattle.alt_forest.specs.Searches.{IsSound, state_of, put}
+use Rattle.alt_forest.specs.Searches.{IsSound, label_at, state_of, put}
 use Rattle.alt_forest.specs.Entries.{IsQueuedBut, looks_left, ends_around}
 use Rattle.alt_forest.specs.Standing.{IsStanding, AreListed, seed_at}
 use Rattle.alt_forest.proofs.Places.{nested_of, outer_range}
@@ -21,7 +21,7 @@ pub stand-requires-clause-low : goal.stand-requires-clause-low
 stand-requires-clause-low g c = (outer_range c.args.self.now c.args.v c.requires.sound.shape c.requires.exposed.0).0
 
 -- the vertices of the root, as the search keeps them after it is listed
-members : (s l a : Search) (v : ℕ) → l ≡ record s { labels = l.labels } → a ≡ record l { standing = a.standing; seeds = a.seeds } → members_of a.arena.blossoms v ≡ members_of s.arena.blossoms v
+members : (s l a : Search) (v : ℕ) → l ≡ record s { labels = l.labels } → a ≡ record l { arena = record l.arena { motions = a.arena.motions }; standing = a.standing; seeds = a.seeds } → members_of a.arena.blossoms v ≡ members_of s.arena.blossoms v
 members s l a v one two = ap (λ (x : Search). members_of x.arena.blossoms v) two ∙ ap (λ (x : Search). members_of x.arena.blossoms v) one
 
 scanned : (now before more vs : List ℕ) → now ≡ before ++ more → before ≡ [] → more ≡ vs → now ≡ vs
@@ -91,8 +91,9 @@ returns-clause-standing g c =
     let member : holds (members_of s.arena.blossoms c.args.v) w ≡ true = sym (ap (λ (x : Search). holds (members_of x.arena.blossoms c.args.v) w) c.make_root.ensures.rest) ∙ c.vertex_within-seed.ensures.member in
     let within : outermost s.arena.blossoms w ≡ c.args.v = outermost_by_member s.graph.vertices s.arena.blossoms c.args.v w (nested_of s c.requires.sound.shape) c.requires.exposed.0 member in
     let seeds : seed_at a.seeds.items ≡ put (seed_at s.seeds.items) c.args.v (Some w) = c.stand.ensures.seeds ∙ ap (λ (x : Search). put (seed_at x.seeds.items) c.args.v (Some w)) c.make_root.ensures.rest in
+    let motions : label_at a.arena.motions ≡ put (label_at s.arena.motions) c.args.v (label_at l.labels.items c.args.v) = c.stand.ensures.motions ∙ ap (λ (x : Search). put (label_at x.arena.motions) c.args.v (label_at l.labels.items c.args.v)) c.make_root.ensures.rest in
     subst IsStanding (sym c.enter_scanned.ensures.rest)
-    (standing_with t c.enter_scanned.new.self.queue (planted_standing s l a t c.args.v (whole s l a t c.make_root.ensures.rest c.stand.ensures.rest c.scan.ensures.rest) c.make_root.ensures.labels c.requires.sound c.requires.exposed c.requires.out w vertex within listed seeds c.requires.standing))
+    (standing_with t c.enter_scanned.new.self.queue (planted_standing s l a t c.args.v (whole s l a t c.make_root.ensures.rest c.stand.ensures.rest c.scan.ensures.rest) c.make_root.ensures.labels c.requires.sound c.requires.exposed c.requires.out w vertex within listed seeds motions c.requires.standing))
 
 pub returns-clause-inside : goal.returns-clause-inside
 returns-clause-inside g c = λ w e.

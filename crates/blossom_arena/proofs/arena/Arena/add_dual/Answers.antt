@@ -30,8 +30,8 @@ outer_from a x p s is read zero =
 child_from : (a : Inside) (x p : ℕ) → IsSound a → is_node a.vertex_count (blossoms_of a) x ≡ true → p ≡ slice_index a.parents.items x → p ≢ 0 → is_child (blossoms_of a) x ≡ true
 child_from a x p s is read ne = parent_child (blossoms_of a) x (λ z. ne (read ∙ parent_at a s x is ∙ z))
 
-pub raise_dual-requires-clause-place : goal.raise_dual-requires-clause-place
-raise_dual-requires-clause-place c =
+pub raise-requires-clause-place : goal.raise-requires-clause-place
+raise-requires-clause-place c =
     let is = node_is c.self.inside _ c.args.node c.number-number.result c.self.view_is c.requires.node c.number-number.ensures in
     omega (arith, (node_range _ _ c.number-number.result c.self.invariant.family.nested is).1, c.self.invariant.family.duals.one_each)
 
@@ -46,9 +46,9 @@ invariant_of-self c =
     let place : c.number-number.result < length c.self.inside.parents.items = omega (arith, (node_range _ _ c.number-number.result c.self.invariant.family.nested is).1, c.self.invariant.places.parents) in
     let read : c.index.result.now ≡ slice_index c.self.inside.parents.items c.number-number.result =
     c.index.ensures ∙ get_or_default c.self.inside.parents.items c.number-number.result c.index.result.now 0 place in
-    let written : c.raise_dual.new.duals.items ≡ slice_set c.self.inside.duals.items c.number-number.result (dual_at c.self.inside.duals.items c.number-number.result +ℤ c.args.d) = search rules in
-    let duals = duals_after c.self.inside _ c.args.node c.number-number.result c.args.d c.raise_dual.new.duals.items c.self.invariant c.self.view_is c.requires.node c.number-number.ensures c.requires.in_range c.requires.not_below written in
-    raised_outer c.self.inside c.raise_dual.new.duals c.number-number.result c.args.d c.self.invariant duals is written (outer_from c.self.inside c.number-number.result c.index.result.now c.self.invariant is read c.if-index-eq0.true)
+    let written : c.raise.new.self.values ≡ slice_set c.self.inside.duals.values c.number-number.result (dual_at c.self.inside.duals.values c.number-number.result +ℤ c.args.d) = search rules in
+    let duals = duals_after c.self.inside _ c.args.node c.number-number.result c.args.d c.raise.new.self.values c.self.invariant c.self.view_is c.requires.node c.number-number.ensures c.requires.in_range c.requires.not_below written in
+    raised_outer c.self.inside c.raise.new.self c.number-number.result c.args.d c.self.invariant duals c.raise.ensures.motions is written (outer_from c.self.inside c.number-number.result c.index.result.now c.self.invariant is read c.if-index-eq0.true)
 
 pub returns-then-index-eq0-clause-good : goal.returns-then-index-eq0-clause-good
 returns-then-index-eq0-clause-good c =
@@ -56,9 +56,9 @@ returns-then-index-eq0-clause-good c =
     let place : c.number-number.result < length c.self.inside.parents.items = omega (arith, (node_range _ _ c.number-number.result c.self.invariant.family.nested is).1, c.self.invariant.places.parents) in
     let read : c.index.result.now ≡ slice_index c.self.inside.parents.items c.number-number.result =
     c.index.ensures ∙ get_or_default c.self.inside.parents.items c.number-number.result c.index.result.now 0 place in
-    let written : c.raise_dual.new.duals.items ≡ slice_set c.self.inside.duals.items c.number-number.result (dual_at c.self.inside.duals.items c.number-number.result +ℤ c.args.d) = search rules in
-    let duals = duals_after c.self.inside _ c.args.node c.number-number.result c.args.d c.raise_dual.new.duals.items c.self.invariant c.self.view_is c.requires.node c.number-number.ensures c.requires.in_range c.requires.not_below written in
-    (raised_outer c.self.inside c.raise_dual.new.duals c.number-number.result c.args.d c.self.invariant duals is written (outer_from c.self.inside c.number-number.result c.index.result.now c.self.invariant is read c.if-index-eq0.true)).family
+    let written : c.raise.new.self.values ≡ slice_set c.self.inside.duals.values c.number-number.result (dual_at c.self.inside.duals.values c.number-number.result +ℤ c.args.d) = search rules in
+    let duals = duals_after c.self.inside _ c.args.node c.number-number.result c.args.d c.raise.new.self.values c.self.invariant c.self.view_is c.requires.node c.number-number.ensures c.requires.in_range c.requires.not_below written in
+    (raised_outer c.self.inside c.raise.new.self c.number-number.result c.args.d c.self.invariant duals c.raise.ensures.motions is written (outer_from c.self.inside c.number-number.result c.index.result.now c.self.invariant is read c.if-index-eq0.true)).family
 
 pub of-requires : goal.of-requires
 of-requires c =
@@ -85,7 +85,7 @@ add_each-requires-clause-in_range c =
     let back : to_z w64 (of_z w64 c.args.d) ≡ c.args.d = search rules in
     subst (λ (z : ℤ). AreSums c.self.inside.inner.items (λ v. z) c.of.result) (sym back)
     (subst (λ (vs : List ℕ). AreSums c.self.inside.inner.items (λ v. c.args.d) vs) (sym members)
-    (members_fit c.self.inside c.self.invariant c.number-number.result (λ v. c.args.d) is (λ v. step c.self.inside.duals.items c.args.node c.args.d v c.self.invariant.family.duals.in_range in_range)))
+    (members_fit c.self.inside c.self.invariant c.number-number.result (λ v. c.args.d) is (λ v. step c.self.inside.duals.values c.args.node c.args.d v c.self.invariant.family.duals.in_range in_range)))
 
 pub invariant_of-self-2 : goal.invariant_of-self-2
 invariant_of-self-2 c =
@@ -93,12 +93,12 @@ invariant_of-self-2 c =
     let place : c.number-number.result < length c.self.inside.parents.items = omega (arith, (node_range _ _ c.number-number.result c.self.invariant.family.nested is).1, c.self.invariant.places.parents) in
     let read : c.index.result.now ≡ slice_index c.self.inside.parents.items c.number-number.result =
     c.index.ensures ∙ get_or_default c.self.inside.parents.items c.number-number.result c.index.result.now 0 place in
-    let written : c.raise_dual.new.duals.items ≡ slice_set c.self.inside.duals.items c.number-number.result (dual_at c.self.inside.duals.items c.number-number.result +ℤ c.args.d) = search rules in
-    let duals = duals_after c.self.inside _ c.args.node c.number-number.result c.args.d c.raise_dual.new.duals.items c.self.invariant c.self.view_is c.requires.node c.number-number.ensures c.requires.in_range c.requires.not_below written in
+    let written : c.raise.new.self.values ≡ slice_set c.self.inside.duals.values c.number-number.result (dual_at c.self.inside.duals.values c.number-number.result +ℤ c.args.d) = search rules in
+    let duals = duals_after c.self.inside _ c.args.node c.number-number.result c.args.d c.raise.new.self.values c.self.invariant c.self.view_is c.requires.node c.number-number.ensures c.requires.in_range c.requires.not_below written in
     let back : to_z w64 (of_z w64 c.args.d) ≡ c.args.d = search rules in
     let members : c.of.result ≡ members_of (blossoms_of c.self.inside) c.number-number.result =
     c.of.ensures ∙ ap (λ (fs : List ℕ). vertices_of fs c.find_run.result) c.deref.ensures.value ∙ ap (vertices_of c.self.inside.followers.items) c.find_run.ensures ∙ (node_run c.self.inside c.self.invariant c.number-number.result is).vertices in
-    raised_child c.self.inside c.raise_dual.new.duals c.number-number.result c.args.d c.self.invariant duals is written c.add_each.new.sums (child_from c.self.inside c.number-number.result c.index.result.now c.self.invariant is read c.if-index-eq0.false) (c.add_each.ensures.items ∙ ap (λ (z : ℤ). added c.self.inside.inner.items (λ v. z) c.of.result) back ∙ ap (added c.self.inside.inner.items (λ v. c.args.d)) members)
+    raised_child c.self.inside c.raise.new.self c.number-number.result c.args.d c.self.invariant duals c.raise.ensures.motions is written c.add_each.new.sums (child_from c.self.inside c.number-number.result c.index.result.now c.self.invariant is read c.if-index-eq0.false) (c.add_each.ensures.items ∙ ap (λ (z : ℤ). added c.self.inside.inner.items (λ v. z) c.of.result) back ∙ ap (added c.self.inside.inner.items (λ v. c.args.d)) members)
 
 pub returns-clause-good : goal.returns-clause-good
 returns-clause-good c =
@@ -106,9 +106,9 @@ returns-clause-good c =
     let place : c.number-number.result < length c.self.inside.parents.items = omega (arith, (node_range _ _ c.number-number.result c.self.invariant.family.nested is).1, c.self.invariant.places.parents) in
     let read : c.index.result.now ≡ slice_index c.self.inside.parents.items c.number-number.result =
     c.index.ensures ∙ get_or_default c.self.inside.parents.items c.number-number.result c.index.result.now 0 place in
-    let written : c.raise_dual.new.duals.items ≡ slice_set c.self.inside.duals.items c.number-number.result (dual_at c.self.inside.duals.items c.number-number.result +ℤ c.args.d) = search rules in
-    let duals = duals_after c.self.inside _ c.args.node c.number-number.result c.args.d c.raise_dual.new.duals.items c.self.invariant c.self.view_is c.requires.node c.number-number.ensures c.requires.in_range c.requires.not_below written in
+    let written : c.raise.new.self.values ≡ slice_set c.self.inside.duals.values c.number-number.result (dual_at c.self.inside.duals.values c.number-number.result +ℤ c.args.d) = search rules in
+    let duals = duals_after c.self.inside _ c.args.node c.number-number.result c.args.d c.raise.new.self.values c.self.invariant c.self.view_is c.requires.node c.number-number.ensures c.requires.in_range c.requires.not_below written in
     let back : to_z w64 (of_z w64 c.args.d) ≡ c.args.d = search rules in
     let members : c.of.result ≡ members_of (blossoms_of c.self.inside) c.number-number.result =
     c.of.ensures ∙ ap (λ (fs : List ℕ). vertices_of fs c.find_run.result) c.deref.ensures.value ∙ ap (vertices_of c.self.inside.followers.items) c.find_run.ensures ∙ (node_run c.self.inside c.self.invariant c.number-number.result is).vertices in
-    (raised_child c.self.inside c.raise_dual.new.duals c.number-number.result c.args.d c.self.invariant duals is written c.add_each.new.sums (child_from c.self.inside c.number-number.result c.index.result.now c.self.invariant is read c.if-index-eq0.false) (c.add_each.ensures.items ∙ ap (λ (z : ℤ). added c.self.inside.inner.items (λ v. z) c.of.result) back ∙ ap (added c.self.inside.inner.items (λ v. c.args.d)) members)).family
+    (raised_child c.self.inside c.raise.new.self c.number-number.result c.args.d c.self.invariant duals c.raise.ensures.motions is written c.add_each.new.sums (child_from c.self.inside c.number-number.result c.index.result.now c.self.invariant is read c.if-index-eq0.false) (c.add_each.ensures.items ∙ ap (λ (z : ℤ). added c.self.inside.inner.items (λ v. z) c.of.result) back ∙ ap (added c.self.inside.inner.items (λ v. c.args.d)) members)).family

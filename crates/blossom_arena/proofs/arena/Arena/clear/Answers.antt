@@ -3,21 +3,22 @@ use Rattle.std.specs.Prelude.{vec_len}
 use Rattle.blossom_arena.specs.declared.arena.Arena.TheInside.{Inside}
 use Rattle.graph_theory.specs.Nested.{most_blossoms}
 use Rattle.blossom_arena.specs.Family.{Family, empty_family}
+use Rattle.blossom_arena.specs.Moving.{empty_table}
 use Rattle.blossom_arena.proofs.Fresh.{IsFresh, fresh_sound, fresh_family}
 use Rattle.blossom_arena.proofs.arena.Arena.clear.Goals as goal
 
 abbrev after : goal.After-renumber → Inside
 after c = record {
   vertex_count = c.self.inside.vertex_count;
-  duals = c.wipe_duals.new.duals;
-  inner = c.wipe_duals-2.new.duals;
+  duals = c.wipe.new.self;
+  inner = c.wipe_sums.new.sums;
   parents = c.bare.new.table;
   nexts = c.self.inside.nexts;
   edges = c.self.inside.edges;
   outer = c.renumber.new.table;
   followers = c.self.inside.followers;
-  older = c.wipe.new.table;
-  newer = c.wipe-2.new.table;
+  older = c.wipe-2.new.table;
+  newer = c.wipe-3.new.table;
   kept = c.clear.new.self;
 }
 
@@ -25,7 +26,6 @@ is_fresh : (c : goal.After-renumber) → IsFresh (after c)
 is_fresh c =
     let a : Inside = c.self.inside in
     let places : ℕ = a.vertex_count + most_blossoms a.vertex_count + 1 in
-    let duals_len : vec_len a.duals ≡ places = omega (arith, c.self.invariant.family.duals.one_each) in
     let parents_len : vec_len a.parents ≡ places = omega (arith, c.self.invariant.places.parents) in
     let older_len : vec_len a.older ≡ places = omega (arith, c.self.invariant.places.older) in
     let newer_len : vec_len a.newer ≡ places = omega (arith, c.self.invariant.places.newer) in
@@ -34,16 +34,16 @@ is_fresh c =
       few = c.self.invariant.family.few;
       slots = c.clear.ensures.empty;
       room = c.clear.ensures.capacity ∙ c.self.invariant.room;
-      duals = c.wipe_duals.ensures ∙ ap (λ (k : ℕ). replicate k (pos 0)) duals_len;
+      duals = c.wipe.ensures ∙ ap empty_table c.self.invariant.family.duals.one_each;
       parents_len = omega (arith, c.bare.ensures.len, parents_len);
       parents = λ x high. c.bare.ensures.each x (omega (arith, high, parents_len));
       nexts = c.self.invariant.places.nexts;
       edges = c.self.invariant.places.edges;
-      older = c.wipe.ensures ∙ ap (λ (k : ℕ). replicate k 0) older_len;
-      newer = c.wipe-2.ensures ∙ ap (λ (k : ℕ). replicate k 0) newer_len;
+      older = c.wipe-2.ensures ∙ ap (λ (k : ℕ). replicate k 0) older_len;
+      newer = c.wipe-3.ensures ∙ ap (λ (k : ℕ). replicate k 0) newer_len;
       outer_len = omega (arith, c.renumber.ensures.len, c.self.invariant.places.outer);
       outer = λ v low. c.renumber.ensures.each v (omega (arith, low, c.self.invariant.places.outer));
-      inner = c.wipe_duals-2.ensures ∙ ap (λ (k : ℕ). replicate k (pos 0)) inner_len;
+      inner = c.wipe_sums.ensures ∙ ap (λ (k : ℕ). replicate k (pos 0)) inner_len;
       followers = c.self.invariant.places.followers;
     }
 

@@ -1,4 +1,4 @@
-use Rattle.std.proofs.Common.{◌≡◌, ◌∙◌, ℕ, ◌<◌, ◌+◌, List, true, false, sym, ap, ap₂, subst, length, arith}
+use Rattle.std.proofs.Common.{◌≡◌, ◌∙◌, ℕ, ◌<◌, ◌+◌, List, true, false, refl, sym, ap, ap₂, subst, length, arith}
 use Rattle.std.specs.Prelude.{ℤ, neg_ℤ, slice_set, vec_len}
 use Rattle.std.specs.List.{AllByRecursion}
 use Rattle.graph_theory.specs.Parts.{holds}
@@ -9,6 +9,8 @@ use Rattle.blossom_arena.specs.declared.arena.Arena.TheInside.{Inside}
 use Rattle.blossom_arena.specs.Tables.{filled}
 use Rattle.graph_theory.specs.Nested.{most_blossoms}
 use Rattle.blossom_arena.specs.Family.{Blossom, Family, names_of, nodes_of, ring_of, members_of, is_child, is_outermost, dissolved, dual_at}
+use Rattle.blossom_arena.specs.declared.label.Label.{Label}
+use Rattle.blossom_arena.specs.Moving.{DualTable}
 use Rattle.blossom_arena.specs.Fields.{blossoms_of, family_of, order_of, vertices_of, run_of, lowered, added, taken, AreTaken, outer_dual}
 use Rattle.blossom_arena.proofs.Nested.{outermost_parts}
 use Rattle.blossom_arena.proofs.Sound.{order_names, order_range}
@@ -99,26 +101,31 @@ lower-requires-clause-nodes c =
     let there = in_order c.self.inside _ c.args.b c.number-node.result c.self.view_is c.requires.blossom c.number-node.ensures in
     let ring : c.of-2.result ≡ ring_of (blossoms_of c.self.inside) c.number-node.result =
     c.of-2.ensures ∙ ring_kept c.self.inside c.number-node.result c.self.invariant there c.remove-kept.result c.remove-kept.ensures.value c.deref-3.result.now c.deref-4.result.now c.deref-3.ensures.value c.deref-4.ensures.value in
-    subst (λ (ls : List Link). AllByRecursion (λ (l : Link). l.node < length c.deref-6.result.now) ls) (sym ring)
-    (children_within c.self.inside c.number-node.result c.self.invariant there (length c.deref-6.result.now) (omega (arith, ap length c.deref-6.ensures.value, c.self.invariant.family.duals.one_each)))
+    subst (λ (ls : List Link). AllByRecursion (λ (l : Link). l.node < length c.self.inside.duals.values) ls) (sym ring)
+    (children_within c.self.inside c.number-node.result c.self.invariant there (length c.self.inside.duals.values) (omega (arith, c.self.invariant.family.duals.one_each)))
 
 pub lower-requires-clause-in_range : goal.lower-requires-clause-in_range
 lower-requires-clause-in_range c =
     let a : Inside = c.self.inside in
     let kept : Slab Kept = c.remove-kept.new.self in
-    let ys : List ℤ = c.deref-6.result.now in
+    let ys : List ℤ = c.self.inside.duals.values in
     let there = in_order a _ c.args.b c.number-node.result c.self.view_is c.requires.blossom c.number-node.ensures in
     let free = is_free a _ c.args.b c.number-node.result c.self.view_is c.requires.outer c.number-node.ensures in
     let ring : c.of-2.result ≡ ring_of (blossoms_of a) c.number-node.result =
     c.of-2.ensures ∙ ring_kept a c.number-node.result c.self.invariant there c.remove-kept.result c.remove-kept.ensures.value c.deref-3.result.now c.deref-4.result.now c.deref-3.ensures.value c.deref-4.ensures.value in
     subst (λ (fs : List ℕ). AreTaken a.inner.items (λ x. vertices_of fs (run_of a.vertex_count kept x)) (dual_at ys) (nodes_of c.of-2.result)) (sym c.deref-5.ensures.value)
     (subst (λ (ls : List Link). AreTaken a.inner.items (λ x. vertices_of a.followers.items (run_of a.vertex_count kept x)) (dual_at ys) (nodes_of ls)) (sym ring)
-    (taken_low a c.number-node.result c.self.invariant there kept free c.remove-kept.ensures.updates ys c.deref-6.ensures.value))
+    (taken_low a c.number-node.result c.self.invariant there kept free c.remove-kept.ensures.updates ys refl))
 
-abbrev after : goal.After-lower → Inside
+pub move_as-requires : goal.move_as-requires
+move_as-requires c =
+    let there = in_order c.self.inside _ c.args.b c.number-node.result c.self.view_is c.requires.blossom c.number-node.ensures in
+    omega (arith, (order_range c.self.inside c.self.invariant c.number-node.result there).1, c.self.invariant.family.duals.one_each)
+
+abbrev after : goal.After-move_as → Inside
 after c = record {
   vertex_count = c.self.inside.vertex_count;
-  duals = c.self.inside.duals;
+  duals = c.move_as.new.self;
   inner = c.lower.new.sums;
   parents = c.set_entry.new.table;
   nexts = c.self.inside.nexts;
@@ -130,7 +137,7 @@ after c = record {
   kept = c.remove-kept.new.self;
 }
 
-changes : (c : goal.After-lower) → holds (order_of c.self.inside) c.number-node.result ≡ true → is_child (blossoms_of c.self.inside) c.number-node.result ≡ false → Dissolves c.self.inside (after c) c.number-node.result
+changes : (c : goal.After-move_as) → holds (order_of c.self.inside) c.number-node.result ≡ true → is_child (blossoms_of c.self.inside) c.number-node.result ≡ false → Dissolves c.self.inside (after c) c.number-node.result
 changes c there free =
     let a : Inside = c.self.inside in
     let node : ℕ = c.number-node.result in
@@ -149,29 +156,29 @@ changes c there free =
       parents = c.set_entry.ensures.items ∙ ap (λ (t : List ℕ). slice_set t node 1) (c.hang.ensures.items ∙ ap (λ (ls : List Link). filled a.parents.items (nodes_of ls) 0) ring);
       outer = outer;
       inner = c.lower.ensures.sums
-          ∙ ap₂ (λ (fs : List ℕ) (ls : List Link). taken a.inner.items (λ x. vertices_of fs (run_of a.vertex_count kept x)) (dual_at c.deref-6.result.now) (nodes_of ls)) c.deref-5.ensures.value ring2
-          ∙ ap (λ (ys : List ℤ). taken a.inner.items (λ x. vertices_of a.followers.items (run_of a.vertex_count kept x)) (dual_at ys) (nodes_of (ring_of (blossoms_of a) node))) c.deref-6.ensures.value
-          ∙ all_taken a node c.self.invariant there kept free c.remove-kept.ensures.updates a.duals.items
-          ∙ ap (λ (os : List ℕ). added a.inner.items (λ v. neg_ℤ (outer_dual os a.duals.items v)) (members_of (blossoms_of a) node)) (sym outer);
+          ∙ ap₂ (λ (fs : List ℕ) (ls : List Link). taken a.inner.items (λ x. vertices_of fs (run_of a.vertex_count kept x)) (dual_at c.self.inside.duals.values) (nodes_of ls)) c.deref-5.ensures.value ring2
+          ∙ all_taken a node c.self.invariant there kept free c.remove-kept.ensures.updates a.duals.values
+          ∙ ap (λ (os : List ℕ). added a.inner.items (λ v. neg_ℤ (outer_dual os a.duals.values v)) (members_of (blossoms_of a) node)) (sym outer);
       none = ap₂ (λ (f : Family) (x : ℕ). dual_at f.duals x) c.self.view_is c.number-node.ensures ∙ c.requires.dual;
+      duals = ap₂ (λ (ys : List ℤ) (ms : List Label). record { values = ys; motions = ms }) c.move_as.ensures.values c.move_as.ensures.motions;
     }
 
 pub invariant_of-self : goal.invariant_of-self
 invariant_of-self c =
     let there = in_order c.self.inside _ c.args.b c.number-node.result c.self.view_is c.requires.blossom c.number-node.ensures in
     let free = is_free c.self.inside _ c.args.b c.number-node.result c.self.view_is c.requires.outer c.number-node.ensures in
-    sound_after c.self.inside _ _ _ _ _ _ c.number-node.result c.self.invariant there free (changes c there free)
+    sound_after c.self.inside _ _ _ _ _ _ _ c.number-node.result c.self.invariant there free (changes c there free)
 
 pub returns-clause-family : goal.returns-clause-family
 returns-clause-family c =
     let a : Inside = c.self.inside in
     let there = in_order a _ c.args.b c.number-node.result c.self.view_is c.requires.blossom c.number-node.ensures in
     let free = is_free a _ c.args.b c.number-node.result c.self.view_is c.requires.outer c.number-node.ensures in
-    ap (λ (bs : List Blossom). record { vertex_count = a.vertex_count; duals = a.duals.items; blossoms = bs }) (blossoms_after a _ _ _ _ _ _ c.number-node.result c.self.invariant there free (changes c there free))
+    ap₂ (λ (t : DualTable) (bs : List Blossom). record { vertex_count = a.vertex_count; duals = t.values; motions = t.motions; blossoms = bs }) (changes c there free).duals (blossoms_after a _ _ _ _ _ _ _ c.number-node.result c.self.invariant there free (changes c there free))
     ∙ ap₂ (λ (f : Family) (x : ℕ). dissolved f x) c.self.view_is c.number-node.ensures
 
 pub returns-clause-good : goal.returns-clause-good
 returns-clause-good c =
     let there = in_order c.self.inside _ c.args.b c.number-node.result c.self.view_is c.requires.blossom c.number-node.ensures in
     let free = is_free c.self.inside _ c.args.b c.number-node.result c.self.view_is c.requires.outer c.number-node.ensures in
-    (sound_after c.self.inside _ _ _ _ _ _ c.number-node.result c.self.invariant there free (changes c there free)).family
+    (sound_after c.self.inside _ _ _ _ _ _ _ c.number-node.result c.self.invariant there free (changes c there free)).family

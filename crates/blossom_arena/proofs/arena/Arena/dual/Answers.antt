@@ -3,8 +3,8 @@ use Rattle.blossom_arena.specs.Family.{is_node}
 use Rattle.blossom_arena.proofs.Nested.{node_range}
 use Rattle.blossom_arena.proofs.arena.Arena.dual.Goals as goal
 
-pub dual_in-requires : goal.dual_in-requires
-dual_in-requires c =
+pub get-requires : goal.get-requires
+get-requires c =
     let is = subst (λ f. is_node f.vertex_count f.blossoms c.args.node ≡ true) (sym c.self.view_is) c.requires in
     let range = node_range _ _ c.args.node c.self.invariant.family.nested is in
-    omega (arith, range.1, c.self.invariant.family.duals.one_each, c.deref.ensures.len, c.number.ensures)
+    omega (arith, range.1, c.self.invariant.family.duals.one_each, c.number.ensures)

@@ -13,12 +13,15 @@ invariant_of-result c =
       duals = search rules;
       parents_len = omega (arith, c.bare.ensures.len, c.in_ok-parents.ensures.len, c.saturating_sub.ensures);
       parents = λ x high. c.bare.ensures.each x (omega (arith, high, c.in_ok-parents.ensures.len, c.saturating_sub.ensures));
-      nexts = omega (arith, c.in_ok-vec-2.ensures.len, c.saturating_sub.ensures);
-      edges = omega (arith, c.in_ok-vec-3.ensures.len, c.saturating_sub.ensures);
+      nexts = omega (arith, c.in_ok-vec.ensures.len, c.saturating_sub.ensures);
+      edges = omega (arith, c.in_ok-vec-2.ensures.len, c.saturating_sub.ensures);
       older = search rules;
       newer = search rules;
       outer_len = omega (arith, c.in_ok-numbered.ensures.len);
       outer = c.in_ok-numbered.ensures.each;
       inner = search rules;
-      followers = omega (arith, c.in_ok-vec-4.ensures.len);
+      followers = omega (arith, c.in_ok-vec-3.ensures.len);
     })
+
+pub returns-clause-good : goal.returns-clause-good
+returns-clause-good c = (invariant_of-result c).family

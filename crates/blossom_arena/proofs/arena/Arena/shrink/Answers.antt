@@ -1,5 +1,5 @@
 use Rattle.std.proofs.Common.{◌≡◌, ◌∙◌, ℕ, ◌<◌, ◌+◌, List, ◌∷◌, refl, sym, ap, ap₂, subst, length, arith, Some}
-use Rattle.std.specs.Prelude.{ℤ, nat_eq, slice_index, slice_set, vec_len}
+use Rattle.std.specs.Prelude.{ℤ, pos, nat_eq, slice_index, slice_set, vec_len}
 use Rattle.std.specs.List.{AllByRecursion, IsDistinct}
 use Rattle.blossom_arena.specs.declared.links.Link.{Link}
 use Rattle.slab.specs.Slab.{Updates}
@@ -9,6 +9,8 @@ use Rattle.blossom_arena.specs.declared.arena.Arena.TheInside.{Inside}
 use Rattle.blossom_arena.specs.Tables.{filled, threaded, next_node}
 use Rattle.graph_theory.specs.Nested.{most_blossoms}
 use Rattle.blossom_arena.specs.Family.{Blossom, Family, IsCircuit, is_node, shrunk, nodes_of, union_of, made_of}
+use Rattle.blossom_arena.specs.declared.label.Label.{Label}
+use Rattle.blossom_arena.specs.declared.label.Label.TheVariants.{Out}
 use Rattle.blossom_arena.specs.Fields.{blossoms_of, vertices_of, runs_of, added, AreSums, outer_dual}
 use Rattle.blossom_arena.proofs.Lists.{distinct_from_new}
 use Rattle.blossom_arena.proofs.Sound.{tails_within, joined_run, circuit_union_new}
@@ -78,7 +80,7 @@ of-requires-2 c =
     subst (AllByRecursion (λ v. v < length c.deref-3.result.now)) (sym (vertices_are c))
     (union_within c.self.inside c.args.circuit.now c.self.invariant circuit (length c.deref-3.result.now) (omega (arith, c.deref-3.ensures.len, c.join-run.ensures.len, c.self.invariant.places.followers)))
 
-vertices_then : (c : goal.After-deref-4) → c.of-2.result ≡ union_of (blossoms_of c.self.inside) c.args.circuit.now
+vertices_then : (c : goal.After-absorb-arg-3-1) → c.of-2.result ≡ union_of (blossoms_of c.self.inside) c.args.circuit.now
 vertices_then c =
     let circuit = subst (λ f. IsCircuit f.vertex_count f.blossoms c.args.circuit.now) (sym c.self.view_is) c.requires in
     c.of-2.ensures ∙ run_vertices c.self.inside c.args.circuit.now c.self.invariant circuit c.deref-3.result.now c.join-run.result (c.deref-3.ensures.value ∙ c.join-run.ensures.items)
@@ -96,9 +98,9 @@ absorb-requires-clause-nodes c =
     let a : Inside = c.self.inside in
     let circuit = subst (λ f. IsCircuit f.vertex_count f.blossoms c.args.circuit.now) (sym c.self.view_is) c.requires in
     let len : vec_len a.outer ≡ length a.outer.items = omega arith in
-    subst (λ m. AllByRecursion (λ v. (v < m) × (slice_index a.outer.items v < length c.deref-4.result.now)) c.of-2.result) (sym len)
-    (subst (λ (vs : List ℕ). AllByRecursion (λ v. (v < length a.outer.items) × (slice_index a.outer.items v < length c.deref-4.result.now)) vs) (sym (vertices_then c))
-    (outer_low a c.args.circuit.now c.self.invariant circuit a.outer.items c.deref-4.result.now refl c.deref-4.ensures.value))
+    subst (λ m. AllByRecursion (λ v. (v < m) × (slice_index a.outer.items v < length c.self.inside.duals.values)) c.of-2.result) (sym len)
+    (subst (λ (vs : List ℕ). AllByRecursion (λ v. (v < length a.outer.items) × (slice_index a.outer.items v < length c.self.inside.duals.values)) vs) (sym (vertices_then c))
+    (outer_low a c.args.circuit.now c.self.invariant circuit a.outer.items c.self.inside.duals.values refl refl))
 
 pub absorb-requires-clause-different : goal.absorb-requires-clause-different
 absorb-requires-clause-different c =
@@ -111,8 +113,13 @@ pub absorb-requires-clause-in_range : goal.absorb-requires-clause-in_range
 absorb-requires-clause-in_range c =
     let a : Inside = c.self.inside in
     let circuit = subst (λ f. IsCircuit f.vertex_count f.blossoms c.args.circuit.now) (sym c.self.view_is) c.requires in
-    subst (AreSums a.inner.items (outer_dual a.outer.items c.deref-4.result.now)) (sym (vertices_then c))
-    (sums_low a c.args.circuit.now c.self.invariant circuit a.outer.items c.deref-4.result.now c.deref-4.ensures.value)
+    subst (AreSums a.inner.items (outer_dual a.outer.items c.self.inside.duals.values)) (sym (vertices_then c))
+    (sums_low a c.args.circuit.now c.self.invariant circuit a.outer.items c.self.inside.duals.values refl)
+
+pub rest_each-requires : goal.rest_each-requires
+rest_each-requires c =
+    let circuit = subst (λ f. IsCircuit f.vertex_count f.blossoms c.args.circuit.now) (sym c.self.view_is) c.requires in
+    nodes_within c.self.inside c.args.circuit.now c.self.invariant circuit _ (omega (arith, c.self.invariant.family.duals.one_each))
 
 pub put_first-requires-clause-next : goal.put_first-requires-clause-next
 put_first-requires-clause-next c =
@@ -122,7 +129,7 @@ put_first-requires-clause-next c =
 abbrev after : goal.After-new → Inside
 after c = record {
   vertex_count = c.self.inside.vertex_count;
-  duals = c.set_dual.new.duals;
+  duals = c.put.new.self;
   inner = c.absorb.new.sums;
   parents = c.set_entry.new.table;
   nexts = c.thread.new.nexts;
@@ -147,7 +154,8 @@ changes c circuit =
     let vertices : c.of-2.result ≡ union_of (blossoms_of a) ring = c.of-2.ensures ∙ run_vertices a ring c.self.invariant circuit c.deref-3.result.now c.join-run.result (c.deref-3.ensures.value ∙ c.join-run.ensures.items) run in
     record {
       number = omega arith;
-      duals = c.set_dual.ensures;
+      duals = c.put.ensures.values ∙ ap (λ (ys : List ℤ). slice_set ys (node c) (pos 0)) c.rest_each.ensures.values;
+      motions = c.put.ensures.motions ∙ ap (λ (ms : List Label). slice_set ms (node c) Out) c.rest_each.ensures.motions;
       vacant = c.insert_reserved-key.ensures.was_vacant;
       updates = subst (λ (k : Kept). Updates a.kept c.insert_reserved-key.new.self c.insert_reserved-key.result (Some k))
           (ap₂ (λ (f : ℕ) (r : Run). record { first = f; links = length ring; run = r }) first run) c.insert_reserved-key.ensures.updates;
@@ -160,8 +168,7 @@ changes c circuit =
       parents = c.set_entry.ensures.items ∙ ap (λ (t : List ℕ). slice_set t (node c) 0) (c.hang.ensures.items ∙ ap (λ (ls : List Link). filled a.parents.items (nodes_of ls) (node c)) written);
       outer = c.absorb.ensures.outer ∙ ap (λ (vs : List ℕ). filled a.outer.items vs (node c)) vertices;
       inner = c.absorb.ensures.sums
-          ∙ ap (λ (ys : List ℤ). added a.inner.items (outer_dual a.outer.items ys) c.of-2.result) c.deref-4.ensures.value
-          ∙ ap (added a.inner.items (outer_dual a.outer.items a.duals.items)) vertices;
+          ∙ ap (added a.inner.items (outer_dual a.outer.items a.duals.values)) vertices;
       older = c.put_first.ensures.older;
       newer = c.put_first.ensures.newer;
     }
@@ -176,8 +183,9 @@ returns-clause-family c =
     let a : Inside = c.self.inside in
     let circuit = subst (λ f. IsCircuit f.vertex_count f.blossoms c.args.circuit.now) (sym c.self.view_is) c.requires in
     let blossoms = blossoms_after a _ _ _ _ _ _ _ _ _ _ c.args.circuit.now (node c) c.insert_reserved-key.result c.self.invariant circuit (changes c circuit) in
-    ap (λ (bs : List Blossom). record { vertex_count = a.vertex_count; duals = c.set_dual.new.duals.items; blossoms = bs }) blossoms
-    ∙ ap (λ (ys : List ℤ). record { vertex_count = a.vertex_count; duals = ys; blossoms = made_of (blossoms_of a) c.args.circuit.now (node c) ∷ blossoms_of a }) c.set_dual.ensures
+    let changed = changes c circuit in
+    ap (λ (bs : List Blossom). record { vertex_count = a.vertex_count; duals = c.put.new.self.values; motions = c.put.new.self.motions; blossoms = bs }) blossoms
+    ∙ ap₂ (λ (ys : List ℤ) (ms : List Label). record { vertex_count = a.vertex_count; duals = ys; motions = ms; blossoms = made_of (blossoms_of a) c.args.circuit.now (node c) ∷ blossoms_of a }) changed.duals changed.motions
     ∙ ap₂ (λ (f : Family) (x : ℕ). shrunk f x c.args.circuit.now) c.self.view_is (sym c.new.ensures)
 
 pub returns-clause-fresh : goal.returns-clause-fresh

@@ -1,0 +1,9 @@
+use Rattle.std.proofs.Common.{◌∙◌, ap}
+use Rattle.blossom_arena.specs.declared.label.Label.TheVariants.{Out}
+use Rattle.blossom_arena.specs.Family.{Family}
+use Rattle.alt_forest.specs.Searches.{label_at}
+use Rattle.alt_forest.proofs.Moving.{put_motion}
+use Rattle.alt_forest.proofs.motions.halt.Goals as goal
+
+pub returns-clause-motions : goal.returns-clause-motions
+returns-clause-motions c = ap (λ (f : Family). label_at f.motions) c.move_as.ensures.family ∙ put_motion c.args.arena.now.motions c.args.node Out c.requires.within
