@@ -88,6 +88,19 @@ def nested_sets(n, most, seed=1):
     return text(n, pairs)
 
 
+def two_nests(sets, most, seed=1):
+    """Two chains of odd sets, each set within the next, so many in all, around the two ends of one heavy edge, which every perfect
+    matching has: an odd row of vertices for each, each vertex joined to the two before it by edges that weigh more the farther
+    out they are."""
+    draw = random.Random(seed)
+    row = sets // 2 * 2 + 1
+    step = most // (4 * sets)
+    pairs = [(1, row + 1, most)]
+    for start in (0, row):
+        pairs += [(start + k, start + k - back, step * k + draw.randint(0, 3)) for back in (1, 2) for k in range(back + 1, row + 1)]
+    return text(2 * row, pairs)
+
+
 def valued(n, pairs, most_count, most_weight, capacities, seed=1):
     """An instance whose values are the degrees of counts that were drawn, so that it has a feasible answer."""
     draw = random.Random(seed)

@@ -4,8 +4,12 @@ processes, the ratio for each graph, and the geometric mean of the ratios for ea
 the least time of each counts, and both answers are compared. For kinds that are solved in another graph, LEMON gets that graph. Where
 LEMON isn't installed this says so and compares nothing.
 
-Usage: solve.py [--part WORD] [--runs N] [--most RATIO]. A part is the families whose name has the word. It fails where two answers differ, or
-where a family's mean is past RATIO (without it there is no bound).
+Usage: solve.py [--part WORD] [--runs N] [--most RATIO] [--growth RATIO] [--before PROGRAM]. A part is the families whose name has the word. It
+fails where two answers differ, or where a family's mean is past RATIO (without it there is no bound).
+
+Some families have a graph and one of four times its size last: for these it says how many times the time of the first the last one takes, and
+fails where that is past the RATIO of `--growth`. With `--before` an older build of the program takes its turn too, and its means
+stand beside.
 
 `solve.py kinds`: a row for each kind but `perfect`: the time of `solve`, and how much of it `check` takes of the instance with the
 answer. `check` builds the same graph, reads the document and adds up its duals, so it takes no less than building the
@@ -24,6 +28,8 @@ sys.path.insert(0, os.path.join(HERE, "..", "tests"))
 import plain_checker
 
 LIMIT = 300
+# families whose last graph has four times the vertices and edges of their first
+GROWING = ("random, 3 edges a vertex", "neighbours in a plane", "chains of triangles", "grids", "nests of two chains")
 
 
 def kind_of_instance(kind, given):
@@ -45,15 +51,17 @@ def searched_graph(kind, given):
 def graphs():
     """Family, kind and instance, those of a family side by side."""
     big = 10**9
-    for n, each in ((1000, 3), (4096, 3), (1000, 16), (4096, 16)):
-        yield "random", "perfect", families.random_graph(n, each * n, big)
+    yield "random, 3 edges a vertex", "perfect", families.random_graph(1024, 3 * 1024, big)
+    yield "random, 3 edges a vertex", "perfect", families.random_graph(4096, 3 * 4096, big)
+    yield "random", "perfect", families.random_graph(1000, 16 * 1000, big)
+    yield "random", "perfect", families.random_graph(4096, 16 * 4096, big)
     yield "random, weights 0", "perfect", families.random_graph(4096, 3 * 4096, 0)
     yield "random, weights 0", "perfect", families.random_graph(4096, 65536, 0)
     yield "random, many ties", "perfect", families.random_graph(4096, 3 * 4096, 3)
     yield "random, many ties", "perfect", families.random_graph(4096, 65536, 3)
     yield "a path and more edges", "perfect", families.path_and_more(1000, 10000, 1000)
     yield "a path and more edges", "perfect", families.path_and_more(4096, 40960, big)
-    yield "neighbours in a plane", "perfect", families.nearest_neighbours(1000, 8)
+    yield "neighbours in a plane", "perfect", families.nearest_neighbours(1024, 8)
     yield "neighbours in a plane", "perfect", families.nearest_neighbours(4096, 8)
     yield "clusters in a plane", "perfect", families.clusters(1000, 10)
     yield "clusters in a plane", "perfect", families.clusters(4096, 10)
@@ -64,9 +72,13 @@ def graphs():
     yield "complete, few values", "perfect", families.complete(360, lambda u, v, draw: draw.randint(1, 10))
     yield "complete, products", "perfect", families.complete(200, lambda u, v, draw: u * v)
     yield "complete, products", "perfect", families.complete(360, lambda u, v, draw: u * v)
-    yield "chains of triangles", "perfect", families.chain_of_triangles(1000, big)
+    yield "chains of triangles", "perfect", families.chain_of_triangles(1024, big)
     yield "chains of triangles", "perfect", families.chain_of_triangles(4096, big)
-    yield "chains of triangles", "perfect", families.chain_of_triangles(4096, 0)
+    yield "triangles, weights 0", "perfect", families.chain_of_triangles(4096, 0)
+    for sets in (500, 1000, 2000):
+        yield "nests of two chains", "perfect", families.two_nests(sets, big)
+    yield "grids", "perfect", families.grid(32, 32, big)
+    yield "grids", "perfect", families.grid(64, 64, big)
     yield "nested odd sets", "perfect", families.nested_sets(1000, 10**6)
     yield "nested odd sets", "perfect", families.nested_sets(4096, big)
     yield "triangulated grids", "perfect", families.triangulated_grid(30, 32, 1000)
@@ -119,52 +131,93 @@ def agree(kind, ours, theirs, edges_weigh):
     return twice == 2 * int(theirs)
 
 
-def compare(kind, given, peer, runs):
-    """Least processor times of ours and of LEMON's, taking turns; and whether the answers agree."""
+def compare(kind, given, programs, peer, runs):
+    """Least processor times of each of our programs and of LEMON's, taking turns, none where one takes too long; and whether all
+    answers agree."""
     own_file, peer_file = written("instance", given), written("graph", searched_graph(kind, given))
-    own, other, answer, matching = [], [], "", ""
+    own, other, answers, matching = [[] for _ in programs], [], set(), ""
     for turn in range(runs):
-        spent, answer = processor_time([PROGRAM, "solve", kind, "--brief"], own_file)
-        if spent is None:
-            return None, None, False
-        own.append(spent)
+        for program, times in zip(programs, own):
+            spent, answer = processor_time([program, "solve", kind, "--brief"], own_file)
+            if spent is None:
+                return None, None, False
+            times.append(spent)
+            answers.add(answer)
         spent, matching = processor_time([peer], peer_file)
         other.append(spent if spent is not None else math.inf)
-        if turn == 0 and own[0] > 20:
+        if turn == 0 and own[0][0] > 20:
             break
     edges_weigh = sum(int(line.split()[3]) for line in given.decode().splitlines() if line.startswith("e "))
-    return min(own), min(other), agree(kind, answer, matching, edges_weigh)
+    same = len(answers) == 1 and agree(kind, answers.pop(), matching, edges_weigh)
+    return [min(times) for times in own], min(other), same
 
 
 def mean(ratios):
     return math.exp(sum(map(math.log, ratios)) / len(ratios))
 
 
-def beside_lemon(args):
-    if not os.path.exists("/usr/include/lemon/matching.h"):
-        print("LEMON isn't installed (Debian's liblemon-dev), so nothing is compared")
-        return 0
+def measured(args):
+    """By family the times of each graph, (ours, those of an older build, LEMON's); and whether all answers agree."""
     peer, by_family, good = compiled("lemon_matching"), {}, True
+    programs = [PROGRAM] + ([args.before] if args.before else [])
     for family, kind, given in graphs():
         if args.part not in family:
             continue
         n, m = given.split(b"\n")[0].split()[2:4]
-        own, other, same = compare(kind, given, peer, args.runs)
+        own, other, same = compare(kind, given, programs, peer, args.runs)
         row = "%-24s %-8s n %5d  m %6d" % (family, kind, int(n), int(m))
         if own is None:
             print("%s  no answer within %d s" % (row, LIMIT), flush=True)
             good = False
             continue
-        by_family.setdefault(family, []).append(max(own, 1e-4) / max(other, 1e-4))
+        times = [max(spent, 1e-4) for spent in own + [other]]
+        by_family.setdefault(family, []).append(times)
         good = good and same
-        print("%s  blossom %9.1f ms  LEMON %9.1f ms  ratio %7.2f%s" % (row, own * 1000, other * 1000, by_family[family][-1], "" if same else "  ANSWERS DIFFER"), flush=True)
-    for family, ratios in by_family.items():
-        late = args.most is not None and mean(ratios) > args.most
-        good = good and not late
-        print("mean of %-24s %7.2f%s" % (family, mean(ratios), "  TOO SLOW" if late else ""))
-    every = [ratio for ratios in by_family.values() for ratio in ratios]
-    print("mean of all %d graphs %25.2f" % (len(every), mean(every)) if every else "no such family")
-    return 0 if good else 1
+        before = "  before %9.1f ms" % (times[1] * 1000) if args.before else ""
+        print("%s  blossom %9.1f ms%s  LEMON %9.1f ms  ratio %7.2f%s" % (row, times[0] * 1000, before, times[-1] * 1000, times[0] / times[-1], "" if same else "  ANSWERS DIFFER"), flush=True)
+    return by_family, good
+
+
+def ratios_of(every, which=0):
+    return [times[which] / times[-1] for times in every]
+
+
+def means(name, every, args):
+    """The mean of some graphs, with that of the older build, and whether it is late."""
+    late = args.most is not None and mean(ratios_of(every)) > args.most
+    before = "  before %7.2f" % mean(ratios_of(every, 1)) if args.before else ""
+    print("mean of %-24s %7.2f%s%s" % (name, mean(ratios_of(every)), before, "  TOO SLOW" if late else ""))
+    return late
+
+
+def growths(by_family, most):
+    """How many times the time four times the graph takes, and whether any of it is past a bound."""
+    late = False
+    for family in GROWING:
+        every = by_family.get(family, [])
+        if len(every) > 1:
+            grown = [last / first for first, last in zip(every[0], every[-1])]
+            past = most is not None and grown[0] > most
+            late = late or past
+            print("four times the graph: %-24s %7.2f times the time%s, LEMON %7.2f%s"
+                  % (family, grown[0], ", before %7.2f" % grown[1] if len(grown) > 2 else "", grown[-1], "  TOO SLOW" if past else ""))
+    return late
+
+
+def beside_lemon(args):
+    if not os.path.exists("/usr/include/lemon/matching.h"):
+        print("LEMON isn't installed (Debian's liblemon-dev), so nothing is compared")
+        return 0
+    by_family, good = measured(args)
+    late = [means(family, every, args) for family, every in by_family.items()]
+    late.append(growths(by_family, args.growth))
+    every = [times for family in by_family.values() for times in family]
+    if not every:
+        print("no such family")
+        return 1
+    before = ", before %.2f" % mean(ratios_of(every, 1)) if args.before else ""
+    print("mean of all %d graphs %25.2f%s" % (len(every), mean(ratios_of(every)), before))
+    return 0 if good and not any(late) else 1
 
 
 def kinds():
@@ -190,6 +243,8 @@ def main():
     parser.add_argument("--part", default="")
     parser.add_argument("--runs", type=int, default=3)
     parser.add_argument("--most", type=float)
+    parser.add_argument("--growth", type=float)
+    parser.add_argument("--before", help="an older build of the program")
     args = parser.parse_args()
     if args.what == "kinds":
         for kind, given in kinds():

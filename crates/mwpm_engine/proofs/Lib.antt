@@ -29,3 +29,8 @@ pub mod StartSearch
 pub mod StartSpokes
 pub mod StartPass
 pub mod Settled
+pub mod Freed
+pub mod FarEnds
+pub mod Taken
+pub mod Reaches
+pub mod Wrapped

@@ -15,7 +15,7 @@ use Rattle.alt_forest.specs.State.{State, IsExposed, IsMate, IsSearchState, doub
 use Rattle.alt_forest.specs.Searches.{put}
 use Rattle.alt_forest.specs.Trees.{SameParity}
 use Rattle.alt_forest.proofs.Relabelled.{some_not_none}
-use Rattle.mwpm_engine.specs.Starts.{IsBegun, CanRise, CanPair, JoinsExposed}
+use Rattle.mwpm_engine.specs.Starts.{IsBegun, CanMove, CanPair, JoinsExposed}
 use Rattle.mwpm_engine.proofs.Flat.{slack_flat, end_flat, flat_state}
 
 abbrev pub raised_at : State → ℕ → ℤ → State
@@ -75,19 +75,19 @@ each_dual s v d P here c old = by_test (eqb c v)
     (λ t. subst P (sym (ap (λ q. cond q (s.dual v +ℤ d) (s.dual c)) t)) here)
     (λ t. subst P (sym (raised_there s v d c t)) old)
 
-pub raised_begun : (s : State) (start : ℤ) (v : ℕ) (d : ℤ) → is_vertex s.graph.vertices v ≡ true → CanRise s v d → IsBegun s start → IsBegun (raised_at s v d) start
+pub raised_begun : (s : State) (start : ℤ) (v : ℕ) (d : ℤ) → is_vertex s.graph.vertices v ≡ true → CanMove s start v d → IsBegun s start → IsBegun (raised_at s v d) start
 raised_begun s start v d vertex can h = record {
   alone = h.alone;
   out = h.out;
   start_weight = h.start_weight;
-  low = λ c is. let was = h.low v vertex in let more = can.low in each_dual s v d (λ y. start ≤ℤ y) (omega (arith, ints, was, more)) c (h.low c is);
+  low = λ c is. each_dual s v d (λ y. start ≤ℤ y) can.low c (h.low c is);
   high = λ c is. each_dual s v d (λ y. y ≤ℤ (pos 3 *ℤ WEIGHT_LIMIT)) can.high c (h.high c is);
   parity = λ c is. each_dual s v d (λ y. SameParity y start) (even_more (s.dual v) start d (h.parity v vertex) can.even) c (h.parity c is);
   still = λ zero c is. let was = h.still zero v vertex in let more = can.still zero in each_dual s v d (λ y. y ≡ pos 0) (omega (arith, ints, was, more)) c (h.still zero c is);
 }
 
 -- what the raised dual leaves of the slacks, of the mates and of the state
-module _ (s : State) (v : ℕ) (d : ℤ) (ends : All (IsEdgeWithin s.graph.vertices) s.graph.edges) (alone : s.blossoms ≡ []) (can : CanRise s v d) where
+module _ (s : State) (start : ℤ) (v : ℕ) (d : ℤ) (ends : All (IsEdgeWithin s.graph.vertices) s.graph.edges) (alone : s.blossoms ≡ []) (can : CanMove s start v d) where
   raised_slacks : ((e : ℕ) → IsEdgeNumber s.graph e → pos 0 ≤ℤ slack_of s e) → (e : ℕ) → IsEdgeNumber s.graph e → pos 0 ≤ℤ slack_of (raised_at s v d) e
   raised_slacks slacks e is = by_test (touches (edge_of s.graph e) v)
       (λ t. let now = slack_here s v d e alone (edge_of_within s.graph e ends is) t in let most = can.each e is t in omega (arith, ints, now, most))
@@ -103,17 +103,16 @@ module _ (s : State) (v : ℕ) (d : ℤ) (ends : All (IsEdgeWithin s.graph.verti
     back = m.back;
   }
 
-  pub raised_state : (start : ℤ) (depth : ℕ → ℕ) → is_vertex s.graph.vertices v ≡ true → IsBegun s start → IsSearchState s depth → IsSearchState (raised_at s v d) depth
-  raised_state start depth vertex h st = flat_state (raised_at s v d) alone start depth (raised_begun s start v d vertex can h) (raised_slacks st.slacks) (λ a e is has. let m = st.mates a e is has in (m.0, raised_mate a e m.0 has m.1))
+  pub raised_state : (depth : ℕ → ℕ) → is_vertex s.graph.vertices v ≡ true → IsBegun s start → IsSearchState s depth → IsSearchState (raised_at s v d) depth
+  raised_state depth vertex h st = flat_state (raised_at s v d) alone start depth (raised_begun s start v d vertex can h) (raised_slacks st.slacks) (λ a e is has. let m = st.mates a e is has in (m.0, raised_mate a e m.0 has m.1))
 
 -- the raised dual lies in range
-pub raised_number : (s : State) (start : ℤ) (v : ℕ) (d : ℤ) → is_vertex s.graph.vertices v ≡ true → CanRise s v d → IsBegun s start → IsNumber (s.dual v +ℤ d)
+pub raised_number : (s : State) (start : ℤ) (v : ℕ) (d : ℤ) → is_vertex s.graph.vertices v ≡ true → CanMove s start v d → IsBegun s start → IsNumber (s.dual v +ℤ d)
 raised_number s start v d vertex can h =
-    let was = h.low v vertex in
     let least = h.start_weight.0 in
-    let more = can.low in
+    let low = can.low in
     let most = can.high in
-    (omega (arith, ints, was, least, more), omega (arith, ints, most))
+    (omega (arith, ints, least, low), omega (arith, ints, most))
 
 -- no edge at a vertex, or some
 some_around : (g : Multigraph) (v : ℕ) → (edges_around g v ≡ []) ⊎ ((e : ℕ) × IsEdgeNumber g e × (touches (edge_of g e) v ≡ true))
@@ -124,7 +123,7 @@ some_around g v = pick (edges_around g v) refl
     pick (e ∷ rest) same = let r = around-is g v e (ap (λ xs. holds xs e) same ∙ first_in e rest) in inr (e, r.0, r.1)
 
 -- the doubled weight of an edge is at most twice the limit
-doubled_most : (g : Multigraph) (weighted : Bool) (e : ℕ) → IsGraph g → IsEdgeNumber g e → doubled g weighted e ≤ℤ (pos 2 *ℤ WEIGHT_LIMIT)
+pub doubled_most : (g : Multigraph) (weighted : Bool) (e : ℕ) → IsGraph g → IsEdgeNumber g e → doubled g weighted e ≤ℤ (pos 2 *ℤ WEIGHT_LIMIT)
 doubled_most g true e graph is = let w = edge_of-weight g e graph is in let high : (edge_of g e).w ≤ℤ WEIGHT_LIMIT = w.1 in omega (arith, ints, high)
 doubled_most g false e graph is = omega (arith, ints)
 

@@ -13,7 +13,7 @@ use Rattle.alt_forest.specs.Searches.{state_of}
 use Rattle.alt_forest.specs.State.{State, doubled, slack_of}
 use Rattle.alt_forest.specs.Trees.{SameParity}
 use Rattle.graph_theory.proofs.Edges.{touches-u, touches-v}
-use Rattle.mwpm_engine.specs.Starts.{CanRise, IsLifted}
+use Rattle.mwpm_engine.specs.Starts.{CanMove, IsLifted}
 use Rattle.mwpm_engine.proofs.Flat.{slack_flat, outer_flat}
 use Rattle.mwpm_engine.proofs.StartDuals.{raised_at, raised_here, raised_there, raised_begun}
 
@@ -37,10 +37,10 @@ module _ (s : State) (start : ℤ) (v : ℕ) (d : ℤ) (graph : IsGraph s.graph)
       (λ q. let here : s.dual b ≡ start = ap s.dual (eqb-true b v q) ∙ begins in omega (arith, ints, was, twice, room, here, below_a))
       (or_cases (eqb a v) (eqb b v) t)
 
-  lift_rises : CanRise s v d
+  lift_rises : CanMove s start v d
   lift_rises = record {
     exposed = (outer_flat s h.begun.alone v vertex, h.unmated v);
-    low = low;
+    low = let here = begins in omega (arith, ints, here, low);
     even = even;
     each = most;
     high = let here = begins in omega (arith, ints, here, high);
@@ -66,7 +66,7 @@ module _ (s : State) (start : ℤ) (v : ℕ) (d : ℤ) (graph : IsGraph s.graph)
 
 -- a dual may rise by what is at most the room below the least weight at its vertex, in the graph that a call is lent
 pub lifts : (s : Search) (g : Multigraph) (v : ℕ) (least d : ℤ) → g ≡ s.graph → IsGraph s.graph → IsLifted (state_of s) s.start (v - 1) → is_vertex g.vertices v ≡ true → pos 0 ≤ℤ d → (s.start +ℤ d) ≤ℤ least → SameParity d (pos 0) → IsWeight least
-    → ((e : ℕ) → IsEdgeNumber g e → touches (edge_of g e) v ≡ true → least ≤ℤ (edge_of g e).w) → CanRise (state_of s) v d × IsLifted (raised_at (state_of s) v d) s.start v
+    → ((e : ℕ) → IsEdgeNumber g e → touches (edge_of g e) v ≡ true → least ≤ℤ (edge_of g e).w) → CanMove (state_of s) s.start v d × IsLifted (raised_at (state_of s) v d) s.start v
 lifts s g v least d same graph h vertex low less even weight each =
     let here : is_vertex s.graph.vertices v ≡ true = subst (λ (k : Multigraph). is_vertex k.vertices v ≡ true) same vertex in
     let room : (e : ℕ) → IsEdgeNumber s.graph e → touches (edge_of s.graph e) v ≡ true → (s.start +ℤ d) ≤ℤ (edge_of s.graph e).w =

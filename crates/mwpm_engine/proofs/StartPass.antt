@@ -1,18 +1,21 @@
 -- The start of a pass as a whole.
-use Rattle.std.proofs.Common.{◌≡◌, ◌∙◌, ℕ, ◌+◌, ◌*◌, ◌≤◌, ℤ, pos, ◌+ℤ◌, ◌-ℤ◌, ◌≤ℤ◌, true, false, [], length, None, refl, sym, ap, subst, arith}
+use Rattle.std.proofs.Common.{◌≡◌, ◌∙◌, ℕ, ◌+◌, ◌*◌, ◌≤◌, ℤ, pos, ◌+ℤ◌, ◌-ℤ◌, ◌≤ℤ◌, Bool, true, false, not, ◌&&◌, [], length, Option, None, refl, sym, ap, subst, arith}
+use Rattle.std.specs.Prelude.{is_some}
 use Rattle.std.proofs.lemmas.Int.{ints}
 use Rattle.graph_theory.specs.declared.limits.TheConstants.{WEIGHT_LIMIT}
 use Rattle.graph_theory.specs.Graph.{Multigraph, IsGraph, IsWeight, IsEdgeNumber, edge_of, edges_around}
 use Rattle.graph_theory.specs.Sums.{sum_to}
-use Rattle.graph_theory.proofs.SumLemmas.{sum_to-more}
+use Rattle.graph_theory.proofs.SumLemmas.{one_if-most, sum_to-le, sum_to-more}
 use Rattle.blossom_arena.specs.Family.{Family, is_outermost, is_vertex}
 use Rattle.blossom_arena.specs.declared.label.Label.TheVariants.{Out}
 use Rattle.alt_forest.specs.declared.weights.Weights.{Weights}
 use Rattle.alt_forest.specs.declared.weights.Weights.TheVariants.{Zero, Given}
 use Rattle.alt_forest.specs.declared.search.Search.{Search}
 use Rattle.alt_forest.specs.State.{State, IsOutermost}
-use Rattle.alt_forest.specs.Searches.{IsStart, is_given, label_at, state_of}
-use Rattle.alt_forest.specs.Trees.{SameParity}
+use Rattle.alt_forest.specs.Counts.{is_exposed, exposed_count}
+use Rattle.alt_forest.specs.Searches.{IsStart, edge_in, is_given, label_at, state_of}
+use Rattle.alt_forest.specs.Trees.{SameParity, node_limit}
+use Rattle.alt_forest.proofs.Counted.{one_if}
 use Rattle.alt_forest.specs.Entries.{IsQueued, HasNoTree}
 use Rattle.alt_forest.specs.Standing.{AreListed, IsStanding}
 use Rattle.edge_queue.specs.Moments.{moment_of}
@@ -120,3 +123,18 @@ round_more g k v start old new is paid looks =
 -- what stays through the turns of two vertices
 pub kept_on : (s u t : Search) → u ≡ record s { arena = record s.arena { duals = u.arena.duals }; mates = u.mates } → t ≡ record u { arena = record u.arena { duals = t.arena.duals }; mates = t.mates } → t ≡ record s { arena = record s.arena { duals = t.arena.duals }; mates = t.mates }
 kept_on s u t first second = second ∙ ap (λ (x : Search). record x { arena = record x.arena { duals = t.arena.duals }; mates = t.mates }) first
+
+-- a node without a mate is exposed where it is outermost, so none can be exposed besides
+none_more : (outermost free : Bool) → one_if (outermost && free) ≤ one_if (outermost && true)
+none_more true free = one_if-most free
+none_more false free = omega arith
+
+-- where no node has a mate at first, no more are exposed in the end
+pub exposed_most : (s t : Search) → t ≡ record s { arena = record s.arena { duals = t.arena.duals }; mates = t.mates } → ((a : ℕ) → edge_in s.mates.items a ≡ None) → exposed_count (state_of t) ≤ exposed_count (state_of s)
+exposed_most s t rest free = subst (λ (x : Search). exposed_count (state_of x) ≤ exposed_count (state_of s)) (sym rest) (sum_to-le
+    (λ i. one_if (is_outermost s.graph.vertices s.arena.blossoms (i + 1) && not (is_some (edge_in t.mates.items (i + 1)))))
+    (λ i. one_if (is_exposed (state_of s) (i + 1)))
+    (node_limit s.graph.vertices)
+    (λ i low. subst (λ (b : Bool). one_if (is_outermost s.graph.vertices s.arena.blossoms (i + 1) && not (is_some (edge_in t.mates.items (i + 1)))) ≤ one_if b)
+    (sym (ap (λ (o : Option ℕ). is_outermost s.graph.vertices s.arena.blossoms (i + 1) && not (is_some o)) (free (i + 1))))
+    (none_more (is_outermost s.graph.vertices s.arena.blossoms (i + 1)) (not (is_some (edge_in t.mates.items (i + 1)))))))

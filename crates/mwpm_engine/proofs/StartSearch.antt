@@ -14,7 +14,7 @@ use Rattle.alt_forest.specs.Counts.{exposed_count}
 use Rattle.alt_forest.specs.Searches.{HasShape, IsSound, edge_in, put, state_of}
 use Rattle.alt_forest.proofs.Puts.{put_dual}
 use Rattle.alt_forest.proofs.Relabelled.{some_not_none}
-use Rattle.mwpm_engine.specs.Starts.{IsBegun, CanRise, CanPair, IsRise, JoinsExposed}
+use Rattle.mwpm_engine.specs.Starts.{IsBegun, CanMove, CanPair, IsRise, JoinsExposed}
 use Rattle.mwpm_engine.proofs.StartDuals.{raised_at, raised_state, raised_begun, rise_high, rise_still, slack_even, slack_here}
 use Rattle.mwpm_engine.proofs.StartMates.{paired_by, paired_state, paired_exposed, paired_free, some_same}
 
@@ -32,7 +32,7 @@ module _ (s : Search) (f : Family) (v : ℕ) (d : ℤ) (is : f ≡ raised s.aren
       ap (λ (k : Family). state_of (record s { arena = k })) is
       ∙ ap (λ (y : ℕ → ℤ). record (state_of s) { dual = y }) (put_dual s.arena.duals v (dual_at s.arena.duals v +ℤ d) (dual_place s v h.shape vertex))
 
-  module _ (begun : IsBegun (state_of s) s.start) (can : CanRise (state_of s) v d) where
+  module _ (begun : IsBegun (state_of s) s.start) (can : CanMove (state_of s) s.start v d) where
     pub raised_sound : IsFamily f → IsSound (record s { arena = f })
     raised_sound good = record {
       shape = record {
@@ -46,7 +46,7 @@ module _ (s : Search) (f : Family) (v : ℕ) (d : ℤ) (is : f ≡ raised s.aren
         room = h.shape.room;
       };
       depth = h.depth;
-      state = subst (λ (t : State). IsSearchState t h.depth) (sym raised_is) (raised_state (state_of s) v d h.shape.graph.graph.ends begun.alone can s.start h.depth vertex begun h.state);
+      state = subst (λ (t : State). IsSearchState t h.depth) (sym raised_is) (raised_state (state_of s) s.start v d h.shape.graph.graph.ends begun.alone can h.depth vertex begun h.state);
     }
 
     pub raised_begins : IsBegun (state_of (record s { arena = f })) s.start
@@ -99,10 +99,10 @@ module _ (s : Search) (v e : ℕ) (x : ℤ) (h : IsSound s) (begun : IsBegun (st
 
 -- what the least slack at an exposed vertex lets it do
 pub least_rises : (s : Search) (v : ℕ) (x : ℤ) (mate : Option ℕ) → IsSound s → IsBegun (state_of s) s.start → is_vertex s.graph.vertices v ≡ true → IsExposed (state_of s) v → IsRise (state_of s) v x mate
-    → ((e : ℕ) → IsEdgeNumber s.graph e → touches (edge_of s.graph e) v ≡ true → x ≤ℤ slack_of (state_of s) e) → (edges_around s.graph v ≡ [] → x ≡ pos 0) → CanRise (state_of s) v x
+    → ((e : ℕ) → IsEdgeNumber s.graph e → touches (edge_of s.graph e) v ≡ true → x ≤ℤ slack_of (state_of s) e) → (edges_around s.graph v ≡ [] → x ≡ pos 0) → CanMove (state_of s) s.start v x
 least_rises s v x mate h begun vertex exposed rise each none = record {
   exposed = exposed;
-  low = rise.low;
+  low = let was = begun.low v vertex in let more = rise.low in omega (arith, ints, was, more);
   even = rise.even;
   each = each;
   high = rise_high (state_of s) s.start v x h.shape.graph.graph begun vertex each none;

@@ -1,8 +1,8 @@
 -- How many steps a search counts at most.
-use Rattle.std.proofs.Common.{◌≡◌, ◌≢◌, ◌⊎◌, ℕ, zero, suc, ◌+◌, ◌-◌, ◌*◌, ◌<◌, ◌≤◌, Bool, true, false, eqb, cond, List, [], ◌∷◌, length, sym, ap, subst, arith, ⊎_elim, inl, inr, All}
+use Rattle.std.proofs.Common.{◌≡◌, ◌≢◌, ◌⊎◌, ℕ, zero, suc, ◌+◌, ◌-◌, ◌*◌, ◌<◌, ◌≤◌, Bool, true, false, eqb, ltb, cond, List, [], ◌∷◌, length, sym, ap, subst, arith, ⊎_elim, inl, inr, All}
 use Rattle.std.specs.List.{list_any}
 use Rattle.std.proofs.lemmas.Nat.{mul-le}
-use Rattle.std.proofs.lemmas.Bool.{eqb-true, eqb-false}
+use Rattle.std.proofs.lemmas.Bool.{eqb-true, eqb-false, ltb-false}
 use Rattle.graph_theory.specs.Limits.{Size}
 use Rattle.graph_theory.specs.Graph.{Multigraph, IsGraph, IsEdgeWithin, edge_of, edges_around}
 use Rattle.graph_theory.proofs.Edges.{edge_of_within}
@@ -21,6 +21,7 @@ use Rattle.dual_change.specs.declared.event.Event.{Event}
 use Rattle.dual_change.specs.declared.event.Event.TheVariants.{Grow, Shrink, Augment, Expand}
 use Rattle.augment.proofs.Joined.{none_entered}
 use Rattle.mwpm_engine.specs.Solutions.{size_of_graph, most_steps}
+use Rattle.mwpm_engine.specs.Sweeps.{start_looks}
 use Rattle.mwpm_engine.specs.Passes.{IsReady, KeepsCounts, account, steps_to, phase_steps, augment_account, pass_steps}
 
 -- products
@@ -172,46 +173,84 @@ pass_idle g blossoms all old new looks before none looked most =
     idle : (m n x : ℕ) → new ≤ old + 2 * m → 2 * new ≤ 2 * old + (x + 12 * m + 7 * n)
     idle m n x low = omega (arith, low)
 
--- a pass from the beginning has at most as many exposed nodes as vertices, and its start looks four times at each edge
+-- a pass from the beginning has at most as many exposed nodes as vertices, and its start looks a few times at each edge
 
 steps_le : (size : Size) (ends : Bool) (a b : ℕ) → a ≤ b → pass_steps size a ends ≤ pass_steps size b ends
 steps_le size true a b low = let more = times_le (a - 2) (b - 2) (augment_account size) (omega (arith, low)) in omega (arith, more)
 steps_le size false a b low = let more = times_le a b (augment_account size) low in omega (arith, more)
 
-pub pass_paid : (g : Multigraph) (ends : Bool) (exposed old begun new : ℕ) → exposed ≤ g.vertices → begun ≤ old + 4 * length g.edges → 2 * new ≤ 2 * begun + pass_steps (size_of_graph g) exposed ends
-    → 2 * new ≤ 2 * old + pass_steps (size_of_graph g) g.vertices ends + 8 * length g.edges
-pass_paid g ends exposed old begun new few looks paid = plain (pass_steps (size_of_graph g) exposed ends) (pass_steps (size_of_graph g) g.vertices ends) (length g.edges) (steps_le (size_of_graph g) ends exposed g.vertices few) looks paid
+pub pass_paid : (g : Multigraph) (ends : Bool) (exposed old begun new : ℕ) → exposed ≤ g.vertices → begun ≤ old + start_looks g.vertices * length g.edges → 2 * new ≤ 2 * begun + pass_steps (size_of_graph g) exposed ends
+    → 2 * new ≤ 2 * old + pass_steps (size_of_graph g) g.vertices ends + 2 * start_looks g.vertices * length g.edges
+pass_paid g ends exposed old begun new few looks paid = plain (pass_steps (size_of_graph g) exposed ends) (pass_steps (size_of_graph g) g.vertices ends) (start_looks g.vertices) (length g.edges) (steps_le (size_of_graph g) ends exposed g.vertices few) looks paid
   where
-    plain : (x y m : ℕ) → x ≤ y → begun ≤ old + 4 * m → 2 * new ≤ 2 * begun + x → 2 * new ≤ 2 * old + y + 8 * m
-    plain x y m a b c = omega (arith, a, b, c)
+    plain : (x y k m : ℕ) → x ≤ y → begun ≤ old + k * m → 2 * new ≤ 2 * begun + x → 2 * new ≤ 2 * old + y + 2 * k * m
+    plain x y k m a b c = omega (arith, a, b, c)
+
+-- the sweeps at the start are made where there are four vertices at least
+few_looks : (n : ℕ) → (start_looks n ≡ 4) ⊎ ((4 ≤ n) × (start_looks n ≡ 10))
+few_looks n = by_test (ltb n 4)
+    (λ t. inl (ap (λ b. 4 + cond b 0 6) t))
+    (λ t. inr (ltb-false n 4 t, ap (λ b. 4 + cond b 0 6) t))
 
 -- what two passes of which neither is stuck count together, with two looks at each edge between them
-matched_most : (n m : ℕ) → (2 ≤ n) ⊎ (m ≡ 0) → (n - 2) * (2 * m * (n + 3) + 3 * n + 3) + 22 * m + 7 * n ≤ (n + 1) * (3 * n + 2) * (m + 1)
-matched_most zero m some = ⊎_elim (λ two. absurd (omega (arith, two))) (λ none. omega (arith, none)) some
-matched_most (suc zero) m some = ⊎_elim (λ two. absurd (omega (arith, two))) (λ none. omega (arith, none)) some
-matched_most (suc (suc k)) m some =
+matched_few : (n m : ℕ) → (2 ≤ n) ⊎ (m ≡ 0) → (n - 2) * (2 * m * (n + 3) + 3 * n + 3) + 22 * m + 7 * n ≤ (n + 1) * (3 * n + 2) * (m + 1)
+matched_few zero m some = ⊎_elim (λ two. absurd (omega (arith, two))) (λ none. omega (arith, none)) some
+matched_few (suc zero) m some = ⊎_elim (λ two. absurd (omega (arith, two))) (λ none. omega (arith, none)) some
+matched_few (suc (suc k)) m some =
     let back : suc (suc k) - 2 ≡ k = omega arith in
     subst (λ b. b * (2 * m * (suc (suc k) + 3) + 3 * suc (suc k) + 3) + 22 * m + 7 * suc (suc k) ≤ (suc (suc k) + 1) * (3 * suc (suc k) + 2) * (m + 1)) (sym back) (omega arith)
 
+matched_many : (n k m : ℕ) → n ≡ k + 4 → (n - 2) * (2 * m * (n + 3) + 3 * n + 3) + 34 * m + 7 * n ≤ (n + 1) * (3 * n + 2) * (m + 1)
+matched_many n k m is =
+    let back : k + 4 - 2 ≡ k + 2 = omega arith in
+    subst (λ x. (x - 2) * (2 * m * (x + 3) + 3 * x + 3) + 34 * m + 7 * x ≤ (x + 1) * (3 * x + 2) * (m + 1)) (sym is)
+    (subst (λ b. b * (2 * m * (k + 4 + 3) + 3 * (k + 4) + 3) + 34 * m + 7 * (k + 4) ≤ (k + 4 + 1) * (3 * (k + 4) + 2) * (m + 1)) (sym back) (omega arith))
+
+matched_most : (n m : ℕ) → (2 ≤ n) ⊎ (m ≡ 0) → (n - 2) * (2 * m * (n + 3) + 3 * n + 3) + (14 + 2 * start_looks n) * m + 7 * n ≤ (n + 1) * (3 * n + 2) * (m + 1)
+matched_most n m some = ⊎_elim
+    (λ four. subst (λ k. (n - 2) * (2 * m * (n + 3) + 3 * n + 3) + (14 + 2 * k) * m + 7 * n ≤ (n + 1) * (3 * n + 2) * (m + 1)) (sym four) (matched_few n m some))
+    (λ (many, ten). subst (λ k. (n - 2) * (2 * m * (n + 3) + 3 * n + 3) + (14 + 2 * k) * m + 7 * n ≤ (n + 1) * (3 * n + 2) * (m + 1)) (sym ten) (matched_many n (n - 4) m (omega (arith, many))))
+    (few_looks n)
+
 -- and twice what a pass counts that ends stuck
-stuck_most : (n m : ℕ) → (2 ≤ n) ⊎ (m ≡ 0) → n * (2 * m * (n + 3) + 3 * n + 3) + 16 * m + 4 * n ≤ 2 * ((n + 1) * (3 * n + 2) * (m + 1))
-stuck_most n m some = ⊎_elim
+stuck_few : (n m : ℕ) → (2 ≤ n) ⊎ (m ≡ 0) → n * (2 * m * (n + 3) + 3 * n + 3) + 16 * m + 4 * n ≤ 2 * ((n + 1) * (3 * n + 2) * (m + 1))
+stuck_few n m some = ⊎_elim
     (λ two. let once : 2 * m ≤ n * m = times_le 2 n m two in let twice : 2 * (n * m) ≤ n * (n * m) = times_le 2 n (n * m) two in omega (arith, once, twice))
     (λ none. subst (λ k. n * (2 * k * (n + 3) + 3 * n + 3) + 16 * k + 4 * n ≤ 2 * ((n + 1) * (3 * n + 2) * (k + 1))) (sym none) (omega arith))
     some
 
+stuck_many : (n k m : ℕ) → n ≡ k + 4 → n * (2 * m * (n + 3) + 3 * n + 3) + 28 * m + 4 * n ≤ 2 * ((n + 1) * (3 * n + 2) * (m + 1))
+stuck_many n k m is = subst (λ x. x * (2 * m * (x + 3) + 3 * x + 3) + 28 * m + 4 * x ≤ 2 * ((x + 1) * (3 * x + 2) * (m + 1))) (sym is) (omega arith)
+
+stuck_most : (n m : ℕ) → (2 ≤ n) ⊎ (m ≡ 0) → n * (2 * m * (n + 3) + 3 * n + 3) + (8 + 2 * start_looks n) * m + 4 * n ≤ 2 * ((n + 1) * (3 * n + 2) * (m + 1))
+stuck_most n m some = ⊎_elim
+    (λ four. subst (λ k. n * (2 * m * (n + 3) + 3 * n + 3) + (8 + 2 * k) * m + 4 * n ≤ 2 * ((n + 1) * (3 * n + 2) * (m + 1))) (sym four) (stuck_few n m some))
+    (λ (many, ten). subst (λ k. n * (2 * m * (n + 3) + 3 * n + 3) + (8 + 2 * k) * m + 4 * n ≤ 2 * ((n + 1) * (3 * n + 2) * (m + 1))) (sym ten) (stuck_many n (n - 4) m (omega (arith, many))))
+    (few_looks n)
+
 -- a pass that ends stuck
-pub stuck_paid : (g : Multigraph) (old new : ℕ) → IsGraph g → 2 * new ≤ 2 * old + pass_steps (size_of_graph g) g.vertices false + 8 * length g.edges → new ≤ old + most_steps (size_of_graph g)
-stuck_paid g old new graph paid = let most = stuck_most g.vertices (length g.edges) (some_or_none g graph) in omega (arith, paid, most)
+pub stuck_paid : (g : Multigraph) (old new : ℕ) → IsGraph g → 2 * new ≤ 2 * old + pass_steps (size_of_graph g) g.vertices false + 2 * start_looks g.vertices * length g.edges → new ≤ old + most_steps (size_of_graph g)
+stuck_paid g old new graph paid = plain g.vertices (length g.edges) (start_looks g.vertices) (stuck_most g.vertices (length g.edges) (some_or_none g graph)) paid
+  where
+    plain : (n m k : ℕ) → n * (2 * m * (n + 3) + 3 * n + 3) + (8 + 2 * k) * m + 4 * n ≤ 2 * ((n + 1) * (3 * n + 2) * (m + 1)) → 2 * new ≤ 2 * old + (n * (2 * m * (n + 3) + 3 * n + 3) + 8 * m + 4 * n) + 2 * k * m → new ≤ old + (n + 1) * (3 * n + 2) * (m + 1)
+    plain n m k most all = omega (arith, most, all)
 
 -- a pass that doesn't, and a look at each edge
-pub looked_through : (g : Multigraph) (old between new : ℕ) → IsGraph g → 2 * between ≤ 2 * old + pass_steps (size_of_graph g) g.vertices true + 8 * length g.edges → new ≤ between + length g.edges → new ≤ old + most_steps (size_of_graph g)
-looked_through g old between new graph first looks = let most = matched_most g.vertices (length g.edges) (some_or_none g graph) in omega (arith, first, looks, most)
+pub looked_through : (g : Multigraph) (old between new : ℕ) → IsGraph g → 2 * between ≤ 2 * old + pass_steps (size_of_graph g) g.vertices true + 2 * start_looks g.vertices * length g.edges → new ≤ between + length g.edges → new ≤ old + most_steps (size_of_graph g)
+looked_through g old between new graph first looks = plain g.vertices (length g.edges) (start_looks g.vertices) (matched_most g.vertices (length g.edges) (some_or_none g graph)) first looks
+  where
+    plain : (n m k : ℕ) → (n - 2) * (2 * m * (n + 3) + 3 * n + 3) + (14 + 2 * k) * m + 7 * n ≤ (n + 1) * (3 * n + 2) * (m + 1) → 2 * between ≤ 2 * old + ((n - 2) * (2 * m * (n + 3) + 3 * n + 3) + 12 * m + 7 * n) + 2 * k * m → new ≤ between + m
+        → new ≤ old + (n + 1) * (3 * n + 2) * (m + 1)
+    plain n m k most one two = omega (arith, most, one, two)
 
 -- two passes of which neither is stuck, with two looks at each edge between them
-pub two_passes_paid : (g : Multigraph) (old first looked found new : ℕ) → IsGraph g → 2 * first ≤ 2 * old + pass_steps (size_of_graph g) g.vertices true + 8 * length g.edges → looked ≤ first + length g.edges → found ≤ looked + length g.edges
-    → 2 * new ≤ 2 * found + pass_steps (size_of_graph g) g.vertices true + 8 * length g.edges → new ≤ old + most_steps (size_of_graph g)
-two_passes_paid g old first looked found new graph one looks more other = let most = matched_most g.vertices (length g.edges) (some_or_none g graph) in omega (arith, one, looks, more, other, most)
+pub two_passes_paid : (g : Multigraph) (old first looked found new : ℕ) → IsGraph g → 2 * first ≤ 2 * old + pass_steps (size_of_graph g) g.vertices true + 2 * start_looks g.vertices * length g.edges → looked ≤ first + length g.edges → found ≤ looked + length g.edges
+    → 2 * new ≤ 2 * found + pass_steps (size_of_graph g) g.vertices true + 2 * start_looks g.vertices * length g.edges → new ≤ old + most_steps (size_of_graph g)
+two_passes_paid g old first looked found new graph one looks more other = plain g.vertices (length g.edges) (start_looks g.vertices) (matched_most g.vertices (length g.edges) (some_or_none g graph)) one looks more other
+  where
+    plain : (n m k : ℕ) → (n - 2) * (2 * m * (n + 3) + 3 * n + 3) + (14 + 2 * k) * m + 7 * n ≤ (n + 1) * (3 * n + 2) * (m + 1) → 2 * first ≤ 2 * old + ((n - 2) * (2 * m * (n + 3) + 3 * n + 3) + 12 * m + 7 * n) + 2 * k * m → looked ≤ first + m → found ≤ looked + m
+        → 2 * new ≤ 2 * found + ((n - 2) * (2 * m * (n + 3) + 3 * n + 3) + 12 * m + 7 * n) + 2 * k * m → new ≤ old + (n + 1) * (3 * n + 2) * (m + 1)
+    plain n m k most a b c d = omega (arith, most, a, b, c, d)
 
 -- a pass that has just been reset has as many exposed nodes as vertices, and its start leaves no more
 pub exposed_few : (s t : Search) (g : Multigraph) → exposed_count (state_of t) ≤ exposed_count (state_of s) → exposed_count (state_of s) ≡ s.graph.vertices → s.graph ≡ g → exposed_count (state_of t) ≤ g.vertices

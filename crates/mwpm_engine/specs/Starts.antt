@@ -20,10 +20,11 @@ pub record IsBegun (s : State) (start : ℤ) : Type 0 where
   pub parity : (v : ℕ) → is_vertex s.graph.vertices v ≡ true → SameParity (s.dual v) start
   pub still : s.weighted ≡ false → (v : ℕ) → is_vertex s.graph.vertices v ≡ true → s.dual v ≡ pos 0
 
--- the dual of an exposed vertex can rise by d: no slack of its edges falls below 0, and the dual keeps its parity and its range
-pub record CanRise (s : State) (v : ℕ) (d : ℤ) : Type 0 where
+-- the dual of an exposed vertex can change by d: it doesn't fall below the start, no slack of its edges falls below 0, and it
+-- keeps its parity and its range
+pub record CanMove (s : State) (start : ℤ) (v : ℕ) (d : ℤ) : Type 0 where
   pub exposed : IsExposed s v
-  pub low : pos 0 ≤ℤ d
+  pub low : start ≤ℤ (s.dual v +ℤ d)
   pub even : SameParity d (pos 0)
   pub each : (e : ℕ) → IsEdgeNumber s.graph e → touches (edge_of s.graph e) v ≡ true → d ≤ℤ slack_of s e
   pub high : (s.dual v +ℤ d) ≤ℤ (pos 3 *ℤ WEIGHT_LIMIT)

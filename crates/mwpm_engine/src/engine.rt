@@ -106,7 +106,8 @@ impl Engine {
     /// at most n / 2 times; an augment takes the two trees away that it joins, and all others stay. With no
     /// augment a pass counts at most 4m + 2n steps. An augment adds at most 2m(n + 3) + 3n + 3 to that, or
     /// 2m + 3 where it leaves no exposed node. The duals and mates that a pass starts with take four looks at
-    /// each edge, and between the passes each edge is looked at twice, for its weight. It takes no memory.
+    /// each edge, or ten with weights and at least four vertices; between the passes each edge is
+    /// looked at twice, for its weight. It takes no memory.
     pub fn run<L: Ledger>(&mut self, graph: &Graph, steps: &mut Steps<L>) -> Outcome
         requires same { graph.now ≡ self.old.graph }
         requires fresh { self.old.outcome ≡ None }

@@ -5,17 +5,20 @@
 
 mod engine;
 mod exposed;
+mod freeing;
 mod lifting;
 mod listing;
+mod moving;
 mod outcome;
 mod pairing;
 mod pass;
 mod phase_end;
 mod phases;
 mod planting;
-mod raising;
+mod reaching;
 mod solving;
 mod starting;
+mod sweeping;
 mod weights;
 
 pub use blossom_arena::Members;

@@ -6,7 +6,7 @@ ghost use Rattle.alt_forest.specs.Searches.{HasShape, IsSound, IsStart, edge_in,
 ghost use Rattle.alt_forest.specs.Trees.{SameParity};
 ghost use Rattle.mwpm_engine.specs.Starts.{IsBegun, IsLifted};
 
-use crate::raising::raise;
+use crate::moving::move_dual;
 use crate::weights::lesser;
 use alt_forest::{Search, Spoke, Weights};
 use mb_base::{Steps, VertexId};
@@ -70,7 +70,7 @@ fn lift<L: Ledger>(search: &mut Search, v: VertexId, steps: &mut Steps<L>)
 {
     let least = least_around(search, v, steps);
     let more = even_room(search.start, least);
-    raise(search, v, more);
+    move_dual(search, v, more);
 }
 
 /// Raises the dual of each vertex towards the weights of its edges, where weights are used.

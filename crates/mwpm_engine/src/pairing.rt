@@ -8,7 +8,7 @@ ghost use Rattle.alt_forest.specs.Counts.{exposed_count};
 ghost use Rattle.mwpm_engine.specs.Starts.{IsBegun, CanPair, IsRise, JoinsExposed};
 
 use crate::exposed::is_exposed;
-use crate::raising::raise;
+use crate::moving::move_dual;
 use alt_forest::{Search, Spoke, set_edge};
 use blossom_arena::NodeId;
 use graph_theory::Edge;
@@ -68,8 +68,17 @@ fn lesser(one: Rise, other: Rise) -> Rise
     other
 }
 
-/// The least slack of an edge at a vertex, by one look at each, with an edge of this slack to an exposed vertex, if there is
-/// one; 0 where the vertex has no edge.
+/// Whether no other edge can have less slack, and this one leads to an exposed vertex.
+fn is_last(rise: &Rise) -> bool
+    ensures by { result ≡ true → rise.now.by ≡ pos 0 }
+    ensures mate { result ≡ true → is_some rise.now.mate ≡ true }
+{
+    rise.by == 0 && rise.mate.is_some()
+}
+
+/// The least slack of an edge at a vertex, with an edge of this slack to an exposed vertex, if there
+/// is one; 0 where the vertex has no edge. It looks at each edge once at most, and at none after a
+/// tight one to an exposed vertex.
 fn least_rise<L: Ledger>(search: &Search, v: VertexId, steps: &mut Steps<L>) -> Rise
     requires sound { IsSound search.now }
     requires begun { IsBegun (state_of search.now) search.now.start }
@@ -78,7 +87,7 @@ fn least_rise<L: Ledger>(search: &Search, v: VertexId, steps: &mut Steps<L>) -> 
     ensures each { (e : ℕ) → IsEdgeNumber search.now.graph e → touches (edge_of search.now.graph e) v ≡ true → result.by ≤ℤ slack_of (state_of search.now) e }
     ensures none { edges_around search.now.graph v ≡ [] → result.by ≡ pos 0 }
     ensures found { (e : ℕ) → CanPair (state_of search.now) v result.by e → is_some result.mate ≡ true }
-    ensures looks { steps.new ≡ steps.old + length (edges_around search.now.graph v) }
+    ensures looks { steps.new ≤ steps.old + length (edges_around search.now.graph v) }
 {
     let spokes = search.spokes.at(v);
     if spokes.is_empty() {
@@ -86,13 +95,16 @@ fn least_rise<L: Ledger>(search: &Search, v: VertexId, steps: &mut Steps<L>) -> 
     }
     let mut least = rise_by(search, v, &spokes[0], steps);
     for place in 1..spokes.len() {
+        if is_last(&least) {
+            return least;
+        }
         least = lesser(least, rise_by(search, v, &spokes[place], steps));
     }
     least
 }
 
 /// Raises the dual of a vertex, if it is exposed, by the least slack of its edges, and matches it where an edge that is tight
-/// then leads to an exposed vertex. It looks at each of its edges once.
+/// then leads to an exposed vertex. It looks at each of its edges once at most.
 fn start_at<L: Ledger>(search: &mut Search, v: VertexId, steps: &mut Steps<L>)
     requires sound { IsSound search.old }
     requires begun { IsBegun (state_of search.old) search.old.start }
@@ -109,14 +121,14 @@ fn start_at<L: Ledger>(search: &mut Search, v: VertexId, steps: &mut Steps<L>)
         return;
     }
     let rise = least_rise(search, v, steps);
-    raise(search, v, rise.by);
+    move_dual(search, v, rise.by);
     if let Some(e) = rise.mate {
         pair(search, e);
     }
 }
 
 /// Matches the two ends of a tight edge, both of which are exposed.
-fn pair(search: &mut Search, e: EdgeId)
+pub(crate) fn pair(search: &mut Search, e: EdgeId)
     requires sound { IsSound search.old }
     requires begun { IsBegun (state_of search.old) search.old.start }
     requires tight { IsTight (state_of search.old) e }

@@ -3,6 +3,7 @@ ghost use Rattle.alt_forest.specs.declared.weights.Weights.TheVariants.{Given};
 ghost use Rattle.alt_forest.specs.Searches.{HasShape, IsStart};
 ghost use Rattle.mwpm_engine.specs.Solutions.{HasPerfect, size_of_graph, most_steps};
 ghost use Rattle.mwpm_engine.specs.Solving.{IsUnpacked, HasBoundedDuals};
+ghost use Rattle.mwpm_engine.specs.Sweeps.{start_looks};
 ghost use Rattle.mwpm_engine.specs.Passes.{HasStuckForest, Concludes, pass_steps};
 
 use crate::outcome::Outcome;
@@ -34,7 +35,7 @@ fn pass_anew<L: Ledger>(
     ensures shape { HasShape search.new }
     ensures graph { search.new.graph ≡ search.old.graph }
     ensures weights { search.new.weights ≡ weights }
-    ensures steps { 2 * steps.new ≤ 2 * steps.old + pass_steps (size_of_graph graph.now) graph.now.vertices result + 8 * length graph.now.edges }
+    ensures steps { 2 * steps.new ≤ 2 * steps.old + pass_steps (size_of_graph graph.now) graph.now.vertices result + 2 * start_looks graph.now.vertices * length graph.now.edges }
 {
     search.reset(graph, weights, start);
     start_duals(search, graph, steps);

@@ -60,7 +60,9 @@ pub fn is_best(alloc: Global, instance: &Instance, search: &Search) -> Result<bo
         return Ok(false);
     }
     match best(alloc, instance, Kind::Perfect)? {
-        Some(least) => Ok(weight(instance, &answer) == weight(instance, &least)),
+        Some(least) => {
+            Ok(weight(instance, Kind::Perfect, &answer) == weight(instance, Kind::Perfect, &least))
+        },
         None => Ok(false),
     }
 }

@@ -1,22 +1,14 @@
-use Rattle.std.proofs.Common.{◌≡◌, ◌∙◌, ℕ, ℤ, [], sym, ap, subst, rules, to_z, of_z}
+use Rattle.std.proofs.Common.{◌≡◌, ◌∙◌, ℤ, sym, subst, rules, to_z, of_z}
 use mir.Syntax.{w64}
 use Rattle.graph_theory.specs.Graph.{IsWeight, IsEdgeWithin, edge_of, other_end}
-use Rattle.blossom_arena.specs.Family.{dual_at}
-use Rattle.alt_forest.specs.declared.search.Search.{Search}
 use Rattle.alt_forest.specs.declared.spokes.Spoke.{Spoke}
-use Rattle.alt_forest.specs.Spokes.{IsSpoke}
-use Rattle.alt_forest.specs.State.{IsExposed, slack_by, slack_of}
-use Rattle.alt_forest.specs.Searches.{is_given, state_of}
+use Rattle.alt_forest.specs.State.{IsExposed}
+use Rattle.alt_forest.specs.Searches.{state_of}
 use Rattle.alt_forest.proofs.Leads.{leads_weight}
 use Rattle.mwpm_engine.proofs.StartSearch.{rise_alone, rise_paired}
-use Rattle.mwpm_engine.proofs.StartSpokes.{leads_touches, leads_other, leads_within, slack_seen}
+use Rattle.mwpm_engine.proofs.StartSpokes.{leads_touches, leads_other, leads_within}
+use Rattle.mwpm_engine.proofs.Reaches.{slack_told}
 use Rattle.mwpm_engine.proofs.pairing.rise_by.Goals as goal
-
--- the slack that is worked out from what is at hand is that of the edge
-seen : (s : Search) (v : ℕ) (p : Spoke) (w x y : ℤ) → s.arena.blossoms ≡ [] → IsSpoke s.graph v p → w ≡ p.weight → x ≡ slack_by (is_given s.weights) (dual_at s.arena.duals) s.arena.blossoms (record { u = v; v = p.far; w = w }) → y ≡ x → y ≡ slack_of (state_of s) p.edge
-seen s v p w x y alone to kept is back =
-    back ∙ is ∙ ap (λ (z : ℤ). slack_by (is_given s.weights) (dual_at s.arena.duals) s.arena.blossoms (record { u = v; v = p.far; w = z })) kept
-    ∙ slack_seen (state_of s) p.edge v p.far p.weight alone to
 
 pub slack_by-by-requires-clause-ends : goal.slack_by-by-requires-clause-ends
 slack_by-by-requires-clause-ends g c =
@@ -37,14 +29,14 @@ returns-then-is_exposed-clause-slack g c =
     let p : Spoke = c.args.spoke.now in
     let kept : to_z w64 (of_z w64 p.weight) ≡ p.weight = search rules in
     let back : to_z w64 (of_z w64 c.slack_by-by.result) ≡ c.slack_by-by.result = search rules in
-    seen c.args.search.now c.args.v p (to_z w64 (of_z w64 p.weight)) c.slack_by-by.result (to_z w64 (of_z w64 c.slack_by-by.result)) c.requires.begun.alone c.requires.spoke kept c.slack_by-by.ensures.slack back
+    slack_told c.args.search.now c.args.v p (to_z w64 (of_z w64 p.weight)) c.slack_by-by.result (to_z w64 (of_z w64 c.slack_by-by.result)) c.requires.begun.alone c.requires.spoke kept c.slack_by-by.ensures.slack back
 
 pub returns-clause-slack : goal.returns-clause-slack
 returns-clause-slack g c =
     let p : Spoke = c.args.spoke.now in
     let kept : to_z w64 (of_z w64 p.weight) ≡ p.weight = search rules in
     let back : to_z w64 (of_z w64 c.slack_by-by.result) ≡ c.slack_by-by.result = search rules in
-    seen c.args.search.now c.args.v p (to_z w64 (of_z w64 p.weight)) c.slack_by-by.result (to_z w64 (of_z w64 c.slack_by-by.result)) c.requires.begun.alone c.requires.spoke kept c.slack_by-by.ensures.slack back
+    slack_told c.args.search.now c.args.v p (to_z w64 (of_z w64 p.weight)) c.slack_by-by.result (to_z w64 (of_z w64 c.slack_by-by.result)) c.requires.begun.alone c.requires.spoke kept c.slack_by-by.ensures.slack back
 
 pub returns-then-is_exposed-clause-rise : goal.returns-then-is_exposed-clause-rise
 returns-then-is_exposed-clause-rise g c =

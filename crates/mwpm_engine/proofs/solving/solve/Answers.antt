@@ -3,6 +3,7 @@ use Rattle.graph_theory.specs.Graph.{Multigraph, IsGraph}
 use Rattle.alt_forest.specs.declared.search.Search.{Search}
 use Rattle.mwpm_engine.specs.Solving.{IsUnpacked}
 use Rattle.mwpm_engine.specs.Solutions.{size_of_graph}
+use Rattle.mwpm_engine.specs.Sweeps.{start_looks}
 use Rattle.mwpm_engine.specs.Passes.{HasStuckForest, pass_steps}
 use Rattle.mwpm_engine.proofs.StepCounts.{stuck_paid, looked_through, two_passes_paid}
 use Rattle.mwpm_engine.proofs.CertificateRuns.{counts_given}
@@ -25,7 +26,7 @@ pub returns-clause-steps : goal.returns-clause-steps
 returns-clause-steps g c =
     let graph : Multigraph = c.args.graph.now in
     let last = c.pass_anew-2.ensures in
-    let paid : 2 * c.pass_anew-2.new.steps ≤ 2 * c.least_weight-start.new.steps + pass_steps (size_of_graph graph) graph.vertices true + 8 * length graph.edges =
-    subst (λ (b : Bool). 2 * c.pass_anew-2.new.steps ≤ 2 * c.least_weight-start.new.steps + pass_steps (size_of_graph graph) graph.vertices b + 8 * length graph.edges) (last.sure refl) last.steps in
+    let paid : 2 * c.pass_anew-2.new.steps ≤ 2 * c.least_weight-start.new.steps + pass_steps (size_of_graph graph) graph.vertices true + 2 * start_looks graph.vertices * length graph.edges =
+    subst (λ (b : Bool). 2 * c.pass_anew-2.new.steps ≤ 2 * c.least_weight-start.new.steps + pass_steps (size_of_graph graph) graph.vertices b + 2 * start_looks graph.vertices * length graph.edges) (last.sure refl) last.steps in
     two_passes_paid graph c.args.steps.now c.pass_anew.new.steps c.is_unweighted.new.steps c.least_weight-start.new.steps c.pass_anew-2.new.steps (subst IsGraph (sym c.requires.same) c.requires.shape.graph.graph) c.if-not-pass_anew.ensures.steps
     c.is_unweighted.ensures.steps c.least_weight-start.ensures.steps paid

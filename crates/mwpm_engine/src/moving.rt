@@ -1,18 +1,18 @@
 ghost use Rattle.std.specs.Prelude.{◌≡◌, ◌+ℤ◌, true};
 ghost use Rattle.blossom_arena.specs.Family.{dual_at, is_vertex};
 ghost use Rattle.alt_forest.specs.Searches.{IsSound, put, state_of};
-ghost use Rattle.mwpm_engine.specs.Starts.{IsBegun, CanRise};
+ghost use Rattle.mwpm_engine.specs.Starts.{IsBegun, CanMove};
 
 use alt_forest::Search;
 use blossom_arena::NodeId;
 use mb_base::VertexId;
 
-/// Raises the dual of an exposed vertex.
-pub(crate) fn raise(search: &mut Search, v: VertexId, d: i64)
+/// Changes the dual of an exposed vertex by d.
+pub(crate) fn move_dual(search: &mut Search, v: VertexId, d: i64)
     requires sound { IsSound search.old }
     requires begun { IsBegun (state_of search.old) search.old.start }
     requires vertex { is_vertex search.old.graph.vertices v ≡ true }
-    requires can { CanRise (state_of search.old) v d }
+    requires can { CanMove (state_of search.old) search.old.start v d }
     ensures sound { IsSound search.new }
     ensures begun { IsBegun (state_of search.new) search.new.start }
     ensures duals { dual_at search.new.arena.duals ≡ put (dual_at search.old.arena.duals) v (dual_at search.old.arena.duals v +ℤ d) }

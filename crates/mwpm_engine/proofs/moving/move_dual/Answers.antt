@@ -5,7 +5,7 @@ use Rattle.blossom_arena.specs.Family.{dual_at, raised}
 use Rattle.alt_forest.specs.Searches.{state_of}
 use Rattle.mwpm_engine.proofs.StartDuals.{raised_number}
 use Rattle.mwpm_engine.proofs.StartSearch.{raised_sound, raised_begins, raised_duals}
-use Rattle.mwpm_engine.proofs.raising.raise.Goals as goal
+use Rattle.mwpm_engine.proofs.moving.move_dual.Goals as goal
 
 family : (c : goal.After-add_dual) → c.add_dual.new.self ≡ raised c.args.search.now.arena c.args.v c.args.d
 family c =

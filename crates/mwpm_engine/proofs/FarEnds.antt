@@ -1,0 +1,55 @@
+-- The far end of an edge at a vertex.
+use Rattle.std.proofs.Common.{◌≡◌, ◌≢◌, ◌∙◌, ℕ, true, false, ◌||◌, eqb, cond, sym, ap, subst, ⊎_elim, All}
+use Rattle.std.proofs.lemmas.Bool.{eqb-true, eqb-false, or_cases}
+use Rattle.graph_theory.specs.Graph.{Multigraph, IsEdgeWithin, IsEdgeNumber, edge_of, touches, other_end}
+use Rattle.graph_theory.proofs.Edges.{edge_of_within, touches-u, touches-v}
+use Rattle.blossom_arena.specs.Family.{is_vertex}
+use Rattle.blossom_arena.proofs.Ends.{u_vertex, v_vertex}
+use Rattle.blossom_arena.proofs.Lists.{by_test}
+
+module _ (g : Multigraph) (e v : ℕ) (ends : All (IsEdgeWithin g.vertices) g.edges) (is : IsEdgeNumber g e) where
+  -- what holds of the two ends holds of the far one
+  of_far : (P : ℕ → Type 0) → P (edge_of g e).u → P (edge_of g e).v → P (other_end (edge_of g e) v)
+  of_far P at_u at_v = by_test (eqb (edge_of g e).u v)
+      (λ q. subst P (sym (ap (λ b. cond b (edge_of g e).v (edge_of g e).u) q)) at_v)
+      (λ q. subst P (sym (ap (λ b. cond b (edge_of g e).v (edge_of g e).u) q)) at_u)
+
+  -- it is a vertex, at which the edge is
+  pub far_vertex : is_vertex g.vertices (other_end (edge_of g e) v) ≡ true
+  far_vertex = of_far (λ x. is_vertex g.vertices x ≡ true) (u_vertex g e ends is) (v_vertex g e ends is)
+
+  pub far_touches : touches (edge_of g e) (other_end (edge_of g e) v) ≡ true
+  far_touches = of_far (λ x. touches (edge_of g e) x ≡ true) (touches-u (edge_of g e)) (touches-v (edge_of g e))
+
+  -- and another one
+  pub far_differs : other_end (edge_of g e) v ≢ v
+  far_differs same = by_test (eqb (edge_of g e).u v)
+      (λ q. (edge_of_within g e ends is).differ (eqb-true (edge_of g e).u v q ∙ sym same ∙ ap (λ b. cond b (edge_of g e).v (edge_of g e).u) q))
+      (λ q. eqb-false (edge_of g e).u v q (sym (ap (λ b. cond b (edge_of g e).v (edge_of g e).u) q) ∙ same))
+
+  -- the edge is at no third vertex
+  pub far_alone : (x : ℕ) → touches (edge_of g e) v ≡ true → other_end (edge_of g e) v ≢ x → x ≢ v → touches (edge_of g e) x ≡ false
+  far_alone x at other differs = by_test (touches (edge_of g e) x)
+      (λ t. absurd (by_test (eqb (edge_of g e).u v)
+      (λ q.
+      let far : other_end (edge_of g e) v ≡ (edge_of g e).v = ap (λ b. cond b (edge_of g e).v (edge_of g e).u) q in
+      ⊎_elim
+      (λ p. differs (sym (eqb-true (edge_of g e).u x p) ∙ eqb-true (edge_of g e).u v q))
+      (λ p. other (far ∙ eqb-true (edge_of g e).v x p))
+      (or_cases (eqb (edge_of g e).u x) (eqb (edge_of g e).v x) t))
+      (λ q.
+      let far : other_end (edge_of g e) v ≡ (edge_of g e).u = ap (λ b. cond b (edge_of g e).v (edge_of g e).u) q in
+      let at_v : (edge_of g e).v ≡ v = eqb-true (edge_of g e).v v (sym (ap (λ b. b || eqb (edge_of g e).v v) q) ∙ at) in
+      ⊎_elim
+      (λ p. other (far ∙ eqb-true (edge_of g e).u x p))
+      (λ p. differs (sym (eqb-true (edge_of g e).v x p) ∙ at_v))
+      (or_cases (eqb (edge_of g e).u x) (eqb (edge_of g e).v x) t))))
+      (λ t. t)
+
+  -- what holds of the vertex and of the far end holds of both ends
+  pub both_ends : (P : ℕ → Type 0) → touches (edge_of g e) v ≡ true → P v → P (other_end (edge_of g e) v) → P (edge_of g e).u × P (edge_of g e).v
+  both_ends P at here there = by_test (eqb (edge_of g e).u v)
+      (λ q. (subst P (sym (eqb-true (edge_of g e).u v q)) here, subst P (ap (λ b. cond b (edge_of g e).v (edge_of g e).u) q) there))
+      (λ q.
+      let at_v : (edge_of g e).v ≡ v = eqb-true (edge_of g e).v v (sym (ap (λ b. b || eqb (edge_of g e).v v) q) ∙ at) in
+      (subst P (ap (λ b. cond b (edge_of g e).v (edge_of g e).u) q) there, subst P (sym at_v) here))

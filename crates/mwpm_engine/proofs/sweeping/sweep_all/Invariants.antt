@@ -1,0 +1,14 @@
+use Rattle.std.proofs.Common.{◌≡◌, ◌+◌, ◌≤◌, length}
+use Rattle.graph_theory.specs.Graph.{edges_around}
+use Rattle.graph_theory.specs.Sums.{sum_to}
+use Rattle.alt_forest.specs.Searches.{IsSound, state_of}
+use Rattle.mwpm_engine.specs.Starts.{IsBegun}
+use Rattle.mwpm_engine.proofs.sweeping.sweep_all.Given as goal
+
+abbrev pub invariant-loop-place : goal.invariant-loop-place
+invariant-loop-place g l = record {
+  sound : IsSound l.search;
+  begun : IsBegun (state_of l.search) l.search.start;
+  rest : l.search ≡ record l.fn.search { arena = record l.fn.search.arena { duals = l.search.arena.duals }; mates = l.search.mates };
+  looks : l.steps ≤ l.fn.steps + sum_to (λ i. length (edges_around l.graph (i + 1))) l.place;
+}

@@ -1,0 +1,116 @@
+ghost use Rattle.std.specs.Prelude.{◌≡◌, ◌⊎◌, ◌+◌, ◌≤ℤ◌, ℕ, ℤ, true, length};
+ghost use Rattle.std.specs.Option.{ForSome};
+ghost use Rattle.graph_theory.specs.Graph.{edges_around};
+ghost use Rattle.blossom_arena.specs.Family.{is_vertex};
+ghost use Rattle.alt_forest.specs.Searches.{IsSound, state_of};
+ghost use Rattle.alt_forest.specs.Spokes.{IsSpoke};
+ghost use Rattle.mwpm_engine.specs.Starts.{IsBegun};
+ghost use Rattle.mwpm_engine.specs.Sweeps.{IsReach, IsBehind, IsLead};
+
+use alt_forest::{Search, Spoke};
+use graph_theory::Edge;
+use mb_base::{EdgeId, Steps, VertexId};
+use std::sync::ledger::Ledger;
+
+/// An edge at a vertex, with its slack and its far end.
+#[derive(Clone, Copy)]
+pub(crate) struct Reach {
+    pub(crate) by: i64,
+    pub(crate) edge: EdgeId,
+    pub(crate) far: VertexId,
+}
+
+/// Of the edges at a vertex that of least slack, and of those that lead elsewhere that of least
+/// slack; where none does, any edge.
+#[derive(Clone, Copy)]
+pub(crate) struct Lead {
+    pub(crate) least: Reach,
+    pub(crate) next: Reach,
+}
+
+/// An edge with its slack, by one look at it from a vertex.
+fn reach_by<L: Ledger>(search: &Search, v: VertexId, spoke: &Spoke, steps: &mut Steps<L>) -> Reach
+    requires sound { IsSound search.now }
+    requires begun { IsBegun (state_of search.now) search.now.start }
+    requires spoke { IsSpoke search.now.graph v spoke.now }
+    ensures reach { IsReach (state_of search.now) v result }
+    ensures edge { result.edge ≡ spoke.now.edge }
+    ensures step { steps.new ≡ steps.old + 1 }
+{
+    steps.tick();
+    let by = search.slack_by(&Edge {
+        u: v,
+        v: spoke.far,
+        w: spoke.weight,
+    });
+    Reach {
+        by,
+        edge: spoke.edge,
+        far: spoke.far,
+    }
+}
+
+/// The two edges of least slack that lead to different ends, once one edge more is seen.
+fn with_one(lead: &Lead, reach: &Reach) -> Lead
+    ensures least { (result.least ≡ lead.now.least) ⊎ (result.least ≡ reach.now) }
+    ensures next { (result.next ≡ lead.now.next) ⊎ (result.next ≡ lead.now.least) ⊎ (result.next ≡ reach.now) }
+    ensures one { result.least.by ≤ℤ lead.now.least.by }
+    ensures other { result.least.by ≤ℤ reach.now.by }
+    ensures order { lead.now.least.by ≤ℤ lead.now.next.by → result.least.by ≤ℤ result.next.by }
+    ensures seen { IsBehind result reach.now.far reach.now.by }
+    ensures kept { (far : ℕ) → (slack : ℤ) → lead.now.least.by ≤ℤ slack → IsBehind lead.now far slack → IsBehind result far slack }
+{
+    let least = lead.least;
+    let same = reach.far.number() == lead.least.far.number();
+    if reach.by < lead.least.by {
+        if same {
+            return Lead {
+                least: *reach,
+                next: lead.next,
+            };
+        }
+        return Lead {
+            least: *reach,
+            next: least,
+        };
+    }
+    if same {
+        return *lead;
+    }
+    if lead.next.far.number() == lead.least.far.number() {
+        return Lead {
+            least,
+            next: *reach,
+        };
+    }
+    if reach.by < lead.next.by {
+        return Lead {
+            least,
+            next: *reach,
+        };
+    }
+    *lead
+}
+
+/// The two edges of least slack at a vertex that lead to different ends, by one look at each of its
+/// edges.
+pub(crate) fn lead_at<L: Ledger>(search: &Search, v: VertexId, steps: &mut Steps<L>) -> Option<Lead>
+    requires sound { IsSound search.now }
+    requires begun { IsBegun (state_of search.now) search.now.start }
+    requires vertex { is_vertex search.now.graph.vertices v ≡ true }
+    ensures lead { ForSome result (IsLead (state_of search.now) v) }
+    ensures looks { steps.new ≡ steps.old + length (edges_around search.now.graph v) }
+{
+    let spokes = search.spokes.at(v);
+    if spokes.is_empty() {
+        return None;
+    }
+    let least = reach_by(search, v, &spokes[0], steps);
+    let next = least;
+    let mut lead = Lead { least, next };
+    for place in 1..spokes.len() {
+        let reach = reach_by(search, v, &spokes[place], steps);
+        lead = with_one(&lead, &reach);
+    }
+    Some(lead)
+}
