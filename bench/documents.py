@@ -2,13 +2,12 @@
 """Reading documents, against a plain reader of the same bytes: the document is of another kind than the
 command, so that the judge stops after it was read. Writing documents, against a plain writer: what a copy of
 a document takes more than reading it."""
-import os
 import random
 import sys
 
-from timing import HERE, compiled, report, seconds
+from timing import PARTS, compiled, report, seconds
 
-COPY = os.path.join(HERE, "..", "crates", "document_copy", "out", "document_copy")
+COPY = [PARTS, "document"]
 
 
 def sets_of_half(head, size):
@@ -22,7 +21,7 @@ def sets_of_half(head, size):
 def report_writing(text, most):
     """Prints the ratio of writing a document to writing it plainly, and says whether it is within the bound."""
     plain = compiled("plain_copy")
-    own_time = seconds([COPY], text, text) - seconds([COPY, "read"], text)
+    own_time = seconds(COPY, text, text) - seconds(COPY + ["read"], text)
     plain_time = seconds([plain], text, text) - seconds([plain, "read"], text)
     ratio = own_time / plain_time
     print("%-40s %8.1f MiB  plain %7.1f ms  blossom %7.1f ms  ratio %.2f (at most %g) %s"

@@ -7,6 +7,8 @@ import time
 
 HERE = os.path.dirname(os.path.abspath(__file__))
 PROGRAM = os.path.join(HERE, "..", "crates", "blossom", "out", "blossom")
+# The program that runs one part of the work by itself.
+PARTS = os.path.join(HERE, "..", "crates", "timed_parts", "out", "timed_parts")
 
 
 def compiled(name):

@@ -1,13 +1,12 @@
 #!/usr/bin/env python3
 """Walking along all of 65,536 edges, of a graph of even degrees and of one where a join is walked twice, beside a plain program in C++ that
-reads the same instance. `walk_edges` walks 60 times in one run, and what a run without walks takes is left out."""
-import os
+reads the same instance. `timed_parts` walks 60 times in one run, and what a run without walks takes is left out."""
 import random
 import sys
 
-from timing import HERE, compiled, seconds
+from timing import PARTS, compiled, seconds
 
-WALKER = os.path.join(HERE, "..", "crates", "walk_edges", "out", "walk_edges")
+WALKER = [PARTS, "walk"]
 VERTICES, EDGES = 4096, 65536
 TIMES = 60
 MOST = 3
@@ -44,7 +43,7 @@ draw, good = random.Random(1), True
 for name, edges in (("even degrees", even_degrees(draw)), ("any degrees", any_degrees(draw))):
     given = text(edges, draw)
     reading = seconds([compiled("plain_reader")], given)
-    walking = (seconds([WALKER, str(TIMES)], given) - seconds([WALKER, "0"], given)) / TIMES
+    walking = (seconds(WALKER + [str(TIMES)], given) - seconds(WALKER + ["0"], given)) / TIMES
     good = good and walking <= MOST * reading
     print("closed walk, %-12s %d edges: %.1f ms, reading the instance %.1f ms, ratio %.2f (at most %d)"
           % (name, len(edges), walking * 1000, reading * 1000, walking / reading, MOST))

@@ -1,6 +1,6 @@
 //! The program `blossom`: `match_cli::run` over the words, the input and the output of a process.
-//! It stands on `match_cli` and `mb_base`. It promises nothing of its own: what the operating system
-//! does with standard input and output is trusted.
+//! It stands on `match_cli` and `mb_base`. It promises nothing of its own: what the operating
+//! system does with standard input and output is trusted.
 #![tactic(auto)]
 
 ghost use Rattle.std.specs.Prelude.{◌≡◌, ◌<◌};
@@ -13,8 +13,8 @@ use std::marker::Brand;
 use std::process::ExitCode;
 use std::sync::ledger::{Blank, Ledger};
 
-/// The process's words and environment, but for the first word, which is answered as empty: it stands for
-/// the program's name, and needn't be text.
+/// The process's words and environment, but for the first word, which is answered as empty: it
+/// stands for the program's name, and needn't be text.
 #[derive(Drop)]
 struct Nameless<'a> {
     rt: &'a HostRuntime,
@@ -37,8 +37,8 @@ impl Env for Nameless<'_> {
     }
 }
 
-/// The words of the command line. Where one after the program's name isn't text there are none, which is no
-/// command.
+/// The words of the command line. Where one after the program's name isn't text there are none,
+/// which is no command.
 fn words(rt: &HostRuntime) -> Result<Vec<String>, OutOfMemory> {
     let mut words = Vec::new(rt.alloc());
     match env::args(&(Nameless { rt }, rt.alloc())) {

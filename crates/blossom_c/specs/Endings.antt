@@ -1,22 +1,22 @@
 -- What a call for C leaves, by how it ended.
-use Rattle.std.specs.Prelude.{◌≡◌, ℕ, ◌⊎◌, List, [], length, Some}
+use Rattle.std.specs.Prelude.{◌≡◌, ℕ, ◌⊎◌, List, length}
 use Rattle.mb_problem.specs.declared.kind.Kind.{Kind}
+use Rattle.mb_problem.specs.Kinds.{kind_number}
 use Rattle.match_cli.specs.declared.status.Status.{Status}
-use Rattle.match_cli.specs.Runs.{TellsTruth, IsAcceptedAgain, Completes}
+use Rattle.match_cli.specs.Runs.{TellsTrue, IsAcceptedBehind, IsComplete}
 use Rattle.match_call.specs.declared.task.Task.{Task}
-use Rattle.match_call.specs.Words.{words_of}
-use Rattle.match_call.specs.Calls.{Gives}
+use Rattle.match_call.specs.Calls.{command_for, Calls}
 use Rattle.blossom_c.specs.declared.ending.Ending.{Ending}
 use Rattle.blossom_c.specs.declared.ending.Ending.TheVariants.{Answered, ShortBuffer, NoSuchCall}
-use Rattle.blossom_c.specs.Numbers.{number_of_task, number_of_kind, number_of_ending, IsUnnumbered}
+use Rattle.blossom_c.specs.Numbers.{number_of_task, number_of_ending, IsUnnumbered}
 use Rattle.blossom_c.specs.Buffers.{StandsIn, IsTooLong}
 
 -- what `call` promises of its text and its status, but for the steps: C has no counter
 pub record IsAnswer (task : Task) (kind : Kind) (input text : List ℕ) (status : Status) : Type 0 where
-  pub answer : Gives (words_of task kind) input text status
-  pub truth : TellsTruth (words_of task kind) (Some input) status
-  pub again : IsAcceptedAgain (words_of task kind) (Some input) (Some []) (Some text) status
-  pub complete : Completes (words_of task kind) (Some input) status
+  pub answer : Calls (command_for task kind) input text status
+  pub truth : TellsTrue (command_for task kind) input status
+  pub again : IsAcceptedBehind (command_for task kind) input text status
+  pub complete : IsComplete (command_for task kind) input status
 
 -- For a task and a kind: the answer stands in the buffer, or it is too long for it. Either way its length is told.
 abbrev pub Ends : Task → Kind → List ℕ → List ℕ → List ℕ → ℕ → Ending → Type 0
@@ -26,8 +26,8 @@ Ends task kind input before after used NoSuchCall = ⊥
 
 -- For the numbers of a task and a kind; where no task or no kind has the number, nothing is done.
 abbrev pub EndsNumbered : ℕ → ℕ → List ℕ → List ℕ → List ℕ → ℕ → Ending → Type 0
-EndsNumbered task kind input before after used NoSuchCall = (IsUnnumbered number_of_task task ⊎ IsUnnumbered number_of_kind kind) × (used ≡ 0) × (after ≡ before)
-EndsNumbered task kind input before after used ending = (t : Task) × (k : Kind) × (number_of_task t ≡ task) × (number_of_kind k ≡ kind) × Ends t k input before after used ending
+EndsNumbered task kind input before after used NoSuchCall = (IsUnnumbered number_of_task task ⊎ IsUnnumbered kind_number kind) × (used ≡ 0) × (after ≡ before)
+EndsNumbered task kind input before after used ending = (t : Task) × (k : Kind) × (number_of_task t ≡ task) × (kind_number k ≡ kind) × Ends t k input before after used ending
 
 -- the number tells the ending
 abbrev pub Tells : ℕ → ℕ → List ℕ → List ℕ → List ℕ → ℕ → ℕ → Type 0

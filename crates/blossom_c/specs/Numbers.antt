@@ -1,7 +1,5 @@
--- The numbers of tasks, kinds and endings, by which C names them.
+-- The numbers of tasks and endings, by which C names them beside kinds.
 use Rattle.std.specs.Prelude.{◌≡◌, ℕ, Option, None, Some}
-use Rattle.mb_problem.specs.declared.kind.Kind.{Kind}
-use Rattle.mb_problem.specs.declared.kind.Kind.TheVariants.{Perfect, Match, BMatch, CapMatch, FFactor, TJoin, Postman, Path}
 use Rattle.match_cli.specs.Codes.{code_of}
 use Rattle.match_call.specs.declared.task.Task.{Task}
 use Rattle.match_call.specs.declared.task.Task.TheVariants.{Solve, SolveBriefly, Check}
@@ -12,16 +10,6 @@ abbrev pub number_of_task : Task → ℕ
 number_of_task Solve = 1
 number_of_task SolveBriefly = 2
 number_of_task Check = 3
-
-abbrev pub number_of_kind : Kind → ℕ
-number_of_kind Perfect = 1
-number_of_kind Match = 2
-number_of_kind BMatch = 3
-number_of_kind CapMatch = 4
-number_of_kind FFactor = 5
-number_of_kind TJoin = 6
-number_of_kind Postman = 7
-number_of_kind Path = 8
 
 -- the exit statuses of the program, and two beyond them
 abbrev pub number_of_ending : Ending → ℕ

@@ -58,10 +58,11 @@ fn answer_numbered(
     answer::<Brand>(Blank::new(1), alloc, task, kind, input, output, used)
 }
 
-/// Does the task of this number (1 solve, 2 solve in brief, 3 check) for the kind of this number (1 perfect, 2 match,
-/// 3 bmatch, 4 capmatch, 5 ffactor, 6 tjoin, 7 postman, 8 path) on the input. The answer stands at the front of
-/// `output` then, `used` is its length, and the result is the exit status of the program. Two results are others:
-/// at 9 the answer is longer than `output`, and at 10 a number is none of these. Then `output` is as it was.
+/// Does the task of this number (1 solve, 2 solve in brief, 3 check) for the kind of this number
+/// (`Kind::number`, from 1) on the input. The answer stands at the front of `output` then, `used`
+/// is its length, and the result is the exit status of the program. Two results are others: at 9
+/// the answer is longer than `output`, and at 10 a number is none of these. Then `output` is as it
+/// was.
 #[unsafe(no_mangle)]
 pub extern "C" fn blossom_call(
     alloc: Global,

@@ -28,11 +28,15 @@ fn improves(instance: &Instance, kind: Kind, found: &Option<Answer>, answer: &An
     requires found { IfSome found.now (HasPlaces instance.now) }
     requires answer { HasPlaces instance.now answer.now }
     ensures { MatchBool result
-        (IfSome found.now (λ a. IsAsGood kind (weight_of instance.now answer.now) (weight_of instance.now a)))
-        (MatchOption found.now ⊥ (λ a. IsAsGood kind (weight_of instance.now a) (weight_of instance.now answer.now))) }
+        (IfSome found.now (λ a. IsAsGood kind (weight_of kind instance.now answer.now) (weight_of kind instance.now a)))
+        (MatchOption found.now ⊥ (λ a. IsAsGood kind (weight_of kind instance.now a) (weight_of kind instance.now answer.now))) }
 {
     match found {
-        Some(before) => is_better(kind, weight(instance, answer), weight(instance, before)),
+        Some(before) => is_better(
+            kind,
+            weight(instance, kind, answer),
+            weight(instance, kind, before),
+        ),
         None => true,
     }
 }

@@ -1,12 +1,12 @@
 ghost use Rattle.std.specs.Prelude.{◌≡◌, ◌≤◌, min, All, IfOk};
 ghost use Rattle.graph_theory.specs.Graph.{IsEdgeWithin};
 ghost use Rattle.mb_problem.specs.Network.{vertices, plain, value_of};
-ghost use Rattle.mb_problem.specs.Size.{bounded};
+ghost use Rattle.mb_problem.specs.Size.{bounded, most_by};
 ghost use Rattle.mb_problem.specs.declared.limits.TheConstants.{VALUE_LIMIT};
 ghost use Rattle.brute_force.specs.Best.{most_of, mosts};
 
 use mb_base::OutOfMemory;
-use mb_problem::{Instance, InstanceEdge, Kind};
+use mb_problem::{AnswerForm, EdgeUse, Instance, InstanceEdge, Kind};
 use std::alloc::Global;
 
 /// The lesser of the values at the ends of an edge.
@@ -29,16 +29,28 @@ fn capped(capacity: Option<u32>, most: u32) -> u32
     }
 }
 
-/// How often an edge can be used at most.
+/// How often an answer of counts may use an edge.
+fn most_by(instance: &Instance, edge_use: EdgeUse, edge: &InstanceEdge) -> u32
+    requires { IsEdgeWithin (vertices instance.now) (plain edge.now) }
+    ensures most { result ≡ most_by edge_use instance.now edge.now }
+    ensures small { result ≤ VALUE_LIMIT }
+{
+    match edge_use {
+        EdgeUse::Once => 1,
+        EdgeUse::AnyNumber => valued(instance, edge),
+        EdgeUse::WithinCapacity => capped(edge.capacity, valued(instance, edge)),
+    }
+}
+
+/// How often an edge is tried at most.
 fn most_of(instance: &Instance, kind: Kind, edge: &InstanceEdge) -> u32
     requires { IsEdgeWithin (vertices instance.now) (plain edge.now) }
     ensures most { result ≡ most_of kind instance.now edge.now }
     ensures small { result ≤ VALUE_LIMIT }
 {
-    match kind {
-        Kind::BMatch => valued(instance, edge),
-        Kind::CapMatch => capped(edge.capacity, valued(instance, edge)),
-        Kind::Perfect | Kind::Match | Kind::FFactor | Kind::TJoin | Kind::Postman | Kind::Path => 1,
+    match kind.form() {
+        AnswerForm::Counts => most_by(instance, kind.edge_use(), edge),
+        AnswerForm::Walk => 1,
     }
 }
 

@@ -100,5 +100,5 @@ pub fn least_tour_weight(alloc: Global, instance: &Instance) -> Result<i128, Out
 {
     let join = least_odd_join(alloc, instance)?;
     let uses = once_more(alloc, join.as_slice())?;
-    Ok(weight(instance, &Answer::Counts(uses)))
+    Ok(weight(instance, Kind::Postman, &Answer::Counts(uses)))
 }

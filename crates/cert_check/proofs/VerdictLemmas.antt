@@ -21,7 +21,7 @@ use Rattle.certificates.specs.Ranges.{first_out_of_range}
 use Rattle.certificates.specs.Certificates.{HaveForm}
 use Rattle.cert_check.specs.Verdicts.{Keeps, Breaks, IsVerdict}
 use Rattle.certificates.specs.Proved.{IsProved, ProvesOptimal, ProvesByStatus}
-use Rattle.certificates.proofs.WithinLemmas.{are-within}
+use Rattle.certificates.proofs.WithinLemmas.{are-within, sets-in}
 use Rattle.certificates.proofs.DualLemmas.{has_duals, duals_size, sets-within, forms-of_lines, lines-forms}
 
 -- what the type of a document keeps, as far as it counts here
@@ -59,7 +59,7 @@ proves-by kind i d formed keeps Optimal is =
     let within = are-within kind i d (keeps DocRange) in
     let duals : AreDuals _ (duals_of d) (sets_of d) = record {
       one_each = length-map d.duals (λ (y : DualLine). y.dual) ∙ duals_size kind i d formed.vertices_ascend within (keeps DualMissing is);
-      sets_within = sets-within (gadget_graph kind i).vertices d.sets within.sets;
+      sets_within = sets-within (gadget_graph kind i).vertices d.sets (sets-in kind i d within);
       forms = lines-forms d (keeps SetForm);
       slacks = keeps Slack is;
     } in

@@ -28,7 +28,7 @@ fn has_negative_circuit(
     if !is_circuit(alloc, instance, *start, edges.as_slice())? {
         return Ok(false);
     }
-    Ok(weight(instance, &walk) < 0)
+    Ok(weight(instance, Kind::Path, &walk) < 0)
 }
 
 /// The verdict on a document that states that the weights aren't conservative.

@@ -1,4 +1,5 @@
-ghost use Rattle.std.specs.Prelude.{◌≡◌, ◌↔◌, pos, ◌≤ℤ◌, All, IsTrue, IfOk};
+ghost use Rattle.std.specs.Prelude.{◌≡◌, ◌↔◌, IsTrue, IfOk};
+ghost use Rattle.mb_problem.specs.Ready.{HasNeededWeights};
 ghost use Rattle.mb_problem.specs.Size.{size_of};
 ghost use Rattle.graph_theory.specs.Limits.{IsWithinLimits};
 ghost use Rattle.certificates.specs.Within.{AreWithin};
@@ -25,7 +26,7 @@ fn has_barrier(
     document: &Document,
 ) -> Result<bool, OutOfMemory>
     requires limits { IsWithinLimits (size_of kind instance.now) }
-    requires weights { kind ≡ Kind.Postman → All (λ e. pos 0 ≤ℤ e.w) instance.now.edges }
+    requires weights { HasNeededWeights kind instance.now }
     requires within { AreWithin kind instance.now document.now }
     ensures exact { IfOk result (λ b. IsTrue b ↔ HasBarrier kind instance.now document.now) }
     ensures none { IfOk result (λ b. IsTrue b → HasNoAnswer kind instance.now) }
@@ -46,7 +47,7 @@ fn has_wanted_barrier(
     document: &Document,
 ) -> Result<bool, OutOfMemory>
     requires limits { IsWithinLimits (size_of kind instance.now) }
-    requires weights { kind ≡ Kind.Postman → All (λ e. pos 0 ≤ℤ e.w) instance.now.edges }
+    requires weights { HasNeededWeights kind instance.now }
     requires within { AreWithin kind instance.now document.now }
     ensures exact { IfOk result (λ b. IsTrue b ↔ HasWantedBarrier kind instance.now document.now) }
     ensures none { IfOk result (λ b. IsTrue b → IsExcludedByBarrier kind instance.now) }
@@ -66,7 +67,7 @@ pub fn judge_infeasible(
     document: &Document,
 ) -> Result<Verdict, OutOfMemory>
     requires limits { IsWithinLimits (size_of kind instance.now) }
-    requires weights { kind ≡ Kind.Postman → All (λ e. pos 0 ≤ℤ e.w) instance.now.edges }
+    requires weights { HasNeededWeights kind instance.now }
     requires status { document.now.status ≡ DocStatus.Infeasible }
     requires within { AreWithin kind instance.now document.now }
     requires before { KeepsBefore kind instance.now document.now DocRule.NotBarrier }

@@ -1,4 +1,5 @@
-ghost use Rattle.std.specs.Prelude.{◌≡◌, ◌↔◌, pos, ◌≤ℤ◌, All, None, IfOk};
+ghost use Rattle.std.specs.Prelude.{◌≡◌, ◌↔◌, None, IfOk};
+ghost use Rattle.mb_problem.specs.Ready.{HasNeededWeights};
 ghost use Rattle.mb_problem.specs.Size.{size_of};
 ghost use Rattle.graph_theory.specs.Limits.{IsWithinLimits};
 ghost use Rattle.certificates.specs.Ranges.{first_out_of_range};
@@ -24,7 +25,7 @@ fn judge_claims(
     document: &Document,
 ) -> Result<Verdict, OutOfMemory>
     requires limits { IsWithinLimits (size_of kind instance.now) }
-    requires weights { kind ≡ Kind.Postman → All (λ e. pos 0 ≤ℤ e.w) instance.now.edges }
+    requires weights { HasNeededWeights kind instance.now }
     requires same { document.now.kind ≡ kind }
     requires within { AreWithin kind instance.now document.now }
     requires in_range { first_out_of_range kind instance.now document.now ≡ None }
@@ -51,7 +52,7 @@ pub fn judge(
     document: &Document,
 ) -> Result<Verdict, OutOfMemory>
     requires limits { IsWithinLimits (size_of kind instance.now) }
-    requires weights { kind ≡ Kind.Postman → All (λ e. pos 0 ≤ℤ e.w) instance.now.edges }
+    requires weights { HasNeededWeights kind instance.now }
     ensures verdict { IfOk result (IsVerdict kind instance.now document.now) }
     ensures accepted { IfOk result (λ v. (v ≡ Verdict.Accepted) ↔ IsProved kind instance.now document.now) }
 

@@ -1,6 +1,7 @@
-ghost use Rattle.std.specs.Prelude.{◌≡◌, ◌≢◌, ℕ, pos, ◌*ℤ◌, ◌≤ℤ◌, List, All, IfOk};
+ghost use Rattle.std.specs.Prelude.{◌≡◌, ◌≢◌, ℕ, pos, ◌*ℤ◌, ◌≤ℤ◌, List, IfOk};
 ghost use Rattle.graph_theory.specs.Graph.{IsPerfect, weight};
 ghost use Rattle.graph_theory.specs.Duals.{dual_value};
+ghost use Rattle.mb_problem.specs.Ready.{HasNeededWeights};
 ghost use Rattle.mb_problem.specs.Size.{size_of};
 ghost use Rattle.graph_theory.specs.Limits.{IsWithinLimits};
 ghost use Rattle.gadget_base.specs.Certified.{gadget_graph, ReachesAll};
@@ -61,7 +62,7 @@ fn judge_duals(
     document: &Document,
 ) -> Result<Verdict, OutOfMemory>
     requires limits { IsWithinLimits (size_of kind instance.now) }
-    requires weights { kind ≡ Kind.Postman → All (λ e. pos 0 ≤ℤ e.w) instance.now.edges }
+    requires weights { HasNeededWeights kind instance.now }
     requires status { document.now.status ≡ DocStatus.Optimal }
     requires within { AreWithin kind instance.now document.now }
     requires before { KeepsBefore kind instance.now document.now DocRule.DualMissing }
@@ -100,7 +101,7 @@ pub fn judge_optimal(
     document: &Document,
 ) -> Result<Verdict, OutOfMemory>
     requires limits { IsWithinLimits (size_of kind instance.now) }
-    requires weights { kind ≡ Kind.Postman → All (λ e. pos 0 ≤ℤ e.w) instance.now.edges }
+    requires weights { HasNeededWeights kind instance.now }
     requires status { document.now.status ≡ DocStatus.Optimal }
     requires within { AreWithin kind instance.now document.now }
     requires before { KeepsBefore kind instance.now document.now DocRule.NotFeasible }
@@ -113,7 +114,7 @@ pub fn judge_optimal(
         let rule = DocRule::NotFeasible;
         return Ok(Verdict::Rejected { rule, line });
     }
-    if weight(instance, &answer) != i128::from(document.weight) {
+    if weight(instance, kind, &answer) != i128::from(document.weight) {
         let rule = DocRule::WeightDiffers;
         return Ok(Verdict::Rejected { rule, line });
     }

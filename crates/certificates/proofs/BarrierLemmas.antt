@@ -13,9 +13,9 @@ use Rattle.doc_format.specs.declared.status.DocStatus.TheVariants.{Optimal, Infe
 use Rattle.doc_format.specs.declared.part.SetLine.{SetLine}
 use Rattle.doc_format.specs.declared.part.Part.TheVariants.{Set}
 use Rattle.doc_format.specs.Form.{ascends, admits, parts_of, Body}
-use Rattle.doc_format.proofs.OnePartMore.{no_items, part_by_part}
+use Rattle.doc_format.proofs.PartLaws.{no_items, part_by_part}
 use Rattle.certificates.specs.Claims.{numbers}
-use Rattle.certificates.specs.Within.{IsUpTo}
+use Rattle.certificates.specs.Within.{IsUpTo, IsSetLineWithin}
 use Rattle.certificates.proofs.AscentLemmas.{ascends-below}
 use Rattle.certificates.proofs.DualLemmas.{members-within}
 
@@ -49,3 +49,7 @@ forms-where_none status kind b letters other =
 -- numbers up to n are numbers up to a greater one
 pub up_to-more : (n m : ℕ) (zs : List ℤ) → n ≤ m → All (IsUpTo n) zs → All (IsUpTo m) zs
 up_to-more n m zs more within = All-weaker (IsUpTo n) (IsUpTo m) (λ z h. (let low : pos 1 ≤ℤ z = h.low in let high : z ≤ℤ pos n = h.high in record { low = low; high = omega (arith, ints) })) zs within
+
+-- and so are those of sets
+pub set_lines-more : (n m : ℕ) (zs : List SetLine) → n ≤ m → All (IsSetLineWithin n) zs → All (IsSetLineWithin m) zs
+set_lines-more n m zs more within = All-weaker (IsSetLineWithin n) (IsSetLineWithin m) (λ z h. (h.0, up_to-more n m z.members more h.1)) zs within

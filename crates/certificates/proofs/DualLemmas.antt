@@ -17,6 +17,7 @@ use Rattle.certificates.specs.Claims.{numbers, sets_of, set_of, HasDual}
 use Rattle.certificates.specs.Certificates.{HasDuals, HaveForm}
 use Rattle.certificates.specs.Within.{IsUpTo, IsDualWithin, IsSetLineWithin, AreWithin}
 use Rattle.certificates.proofs.AscentLemmas.{at_place, as_many}
+use Rattle.certificates.proofs.WithinLemmas.{duals-in}
 
 vertex : DualLine → ℤ
 vertex y = y.vertex
@@ -35,7 +36,7 @@ pub has_duals : (kind : Kind) (i : Network) (d : Document) → AscendsBy (λ y. 
 has_duals kind i d ascending within size v low high =
     let zs = map (λ (y : DualLine). y.vertex) d.duals in
     let long : length zs ≡ length d.duals = length-map d.duals (λ (y : DualLine). y.vertex) in
-    let inside = within_at (gadget_graph kind i).vertices d.duals within.duals in
+    let inside = within_at (gadget_graph kind i).vertices d.duals (duals-in kind i d within) in
     let place : v - 1 < (gadget_graph kind i).vertices = omega arith in
     let is = at_place zs (gadget_graph kind i).vertices ascending (λ k below. (inside k (omega arith)).low) (λ k below. (inside k (omega arith)).high) (long ∙ size) (v - 1) place in
     let number : v - 1 + 1 ≡ v = omega arith in
@@ -46,7 +47,7 @@ pub duals_size : (kind : Kind) (i : Network) (d : Document) → AscendsBy (λ y.
 duals_size kind i d ascending within have =
     let zs = map (λ (y : DualLine). y.vertex) d.duals in
     let long : length zs ≡ length d.duals = length-map d.duals (λ (y : DualLine). y.vertex) in
-    let inside = within_at (gadget_graph kind i).vertices d.duals within.duals in
+    let inside = within_at (gadget_graph kind i).vertices d.duals (duals-in kind i d within) in
     let all = as_many zs (gadget_graph kind i).vertices ascending (λ k below. (inside k (omega arith)).low) (λ k below. (inside k (omega arith)).high)
     (λ v low high. (let one : HasDual d v = have v low high in (one.0, (let below : one.0 < length d.duals = one.1 in omega arith), one.2))) in
     sym long ∙ all

@@ -1,81 +1,33 @@
--- What has to be shown of each kind: which values belong to better answers, what excludes its answers, and that its
--- answers can be measured.
-use Rattle.std.proofs.Common.{ℤ, ◌≤ℤ◌, Option, None, Some, MatchOption, ◌∙◌, arith}
-use Rattle.std.proofs.lemmas.Int.{ints}
+-- What excludes the answers of a kind: a barrier and a part together.
+use Rattle.std.proofs.Common.{◌≡◌, Option, None, Some, MatchOption, refl}
 use Rattle.graph_theory.specs.Parts.{IsOddPart, IsSplitPart}
-use Rattle.graph_theory.proofs.Walks.{walk-numbers}
 use Rattle.mb_problem.specs.declared.kind.Kind.{Kind}
-use Rattle.mb_problem.specs.declared.kind.Kind.TheVariants.{Perfect, Match, BMatch, CapMatch, FFactor, TJoin, Postman, Path}
-use Rattle.mb_problem.specs.declared.answer.Answer.{Answer}
-use Rattle.mb_problem.specs.declared.answer.Answer.TheVariants.{Counts, Walk, Nothing}
+use Rattle.mb_problem.specs.declared.kind.Exclusion.{Exclusion}
+use Rattle.mb_problem.specs.declared.kind.Exclusion.TheVariants.{Barrier, OddPart, SplitPart, Never}
+use Rattle.mb_problem.specs.Kinds.{exclusion_of}
 use Rattle.mb_problem.specs.Network.{Network, IsNetwork, graph_of}
-use Rattle.mb_problem.specs.Feasible.{IsFeasible, IsAsGood}
-use Rattle.mb_problem.specs.Measured.{HasPlaces}
-use Rattle.mb_problem.specs.Values.{total_weight, value_for}
-use Rattle.mb_problem.proofs.EdgeLemmas.{edges-count}
+use Rattle.mb_problem.proofs.KindLaws.{odd-excludes, split-excludes}
+use Rattle.mb_problem.proofs.PartTruths.{has_odd_value}
 use Rattle.doc_format.specs.declared.document.Document.{Document}
 use Rattle.doc_format.specs.declared.part.MemberLine.{MemberLine}
 use Rattle.certificates.specs.Claims.{numbers}
-use Rattle.certificates.specs.Certificates.{HasWantedPart}
-use Rattle.certificates.specs.Excluded.{HasNoAnswer, IsExcludedByBarrier}
-use Rattle.certificates.proofs.PartTruths.{has_odd_value, odd_part-join, odd_part-path, split_part-tour, split_part-none}
+use Rattle.certificates.specs.Certificates.{HasPartFor, HasWantedPart}
+use Rattle.certificates.specs.Excluded.{HasNoAnswer, IsExcludedFor, IsExcludedByBarrier}
 
--- a value that asks for no more belongs to an answer that is as good
-pub value-order : (kind : Kind) (i : Network) (a b : ℤ) → value_for kind i a ≤ℤ value_for kind i b → IsAsGood kind a b
-value-order Perfect i a b h = omega (arith, ints)
-value-order Match i a b h = omega (arith, ints)
-value-order BMatch i a b h = omega (arith, ints)
-value-order CapMatch i a b h = omega (arith, ints)
-value-order FFactor i a b h = omega (arith, ints)
-value-order TJoin i a b h = omega (arith, ints)
-value-order Postman i a b h = let t = total_weight i in omega (arith, ints)
-value-order Path i a b h = omega (arith, ints)
+by_odd : (kind : Kind) (i : Network) (line : Option MemberLine) → exclusion_of kind ≡ OddPart → IsNetwork i → MatchOption line ⊥ (λ t. IsOddPart (graph_of i) (has_odd_value i) (numbers t.members)) → HasNoAnswer kind i
+by_odd kind i None is ok part answer feasible = part
+by_odd kind i (Some t) is ok part answer feasible = odd-excludes kind i (numbers t.members) answer is ok part feasible
 
-odd_excludes-joins : (i : Network) (line : Option MemberLine) → IsNetwork i → MatchOption line ⊥ (λ t. IsOddPart (graph_of i) (has_odd_value i) (numbers t.members)) → HasNoAnswer TJoin i
-odd_excludes-joins i None ok part answer feasible = part
-odd_excludes-joins i (Some t) ok part (Counts counts) feasible = odd_part-join i (numbers t.members) counts ok part feasible
-odd_excludes-joins i (Some t) ok part (Walk start edges) feasible = feasible
-odd_excludes-joins i (Some t) ok part Nothing feasible = feasible
+by_split : (kind : Kind) (i : Network) (line : Option MemberLine) → exclusion_of kind ≡ SplitPart → MatchOption line ⊥ (λ q. IsSplitPart (graph_of i) (numbers q.members)) → HasNoAnswer kind i
+by_split kind i None is part answer feasible = part
+by_split kind i (Some q) is part answer feasible = split-excludes kind i (numbers q.members) answer is part feasible
 
-odd_excludes-paths : (i : Network) (line : Option MemberLine) → IsNetwork i → MatchOption line ⊥ (λ t. IsOddPart (graph_of i) (has_odd_value i) (numbers t.members)) → HasNoAnswer Path i
-odd_excludes-paths i None ok part answer feasible = part
-odd_excludes-paths i (Some t) ok part (Counts counts) feasible = feasible
-odd_excludes-paths i (Some t) ok part (Walk start edges) feasible = odd_part-path i (numbers t.members) start edges ok part feasible
-odd_excludes-paths i (Some t) ok part Nothing feasible = feasible
-
-split_excludes-tours : (i : Network) (line : Option MemberLine) → MatchOption line ⊥ (λ q. IsSplitPart (graph_of i) (numbers q.members)) → HasNoAnswer Postman i
-split_excludes-tours i None part answer feasible = part
-split_excludes-tours i (Some q) part (Counts counts) feasible = feasible
-split_excludes-tours i (Some q) part (Walk start edges) feasible = split_part-tour i (numbers q.members) start edges part feasible
-split_excludes-tours i (Some q) part Nothing feasible = split_part-none i (numbers q.members) part feasible
+by_exclusion : (e : Exclusion) (kind : Kind) (i : Network) (d : Document) → exclusion_of kind ≡ e → IsNetwork i → IsExcludedFor e kind i → HasPartFor e i d → HasNoAnswer kind i
+by_exclusion Barrier kind i d is ok barrier part = barrier
+by_exclusion OddPart kind i d is ok barrier part = by_odd kind i d.odd is ok part
+by_exclusion SplitPart kind i d is ok barrier part = by_split kind i d.split is part
+by_exclusion Never kind i d is ok barrier part = absurd barrier
 
 -- what the barrier of a kind and its part exclude together: all answers
 pub excluded : (kind : Kind) (i : Network) (d : Document) → IsNetwork i → IsExcludedByBarrier kind i → HasWantedPart kind i d → HasNoAnswer kind i
-excluded Perfect i d ok barrier part = barrier
-excluded Match i d ok barrier part = absurd barrier
-excluded BMatch i d ok barrier part = barrier
-excluded CapMatch i d ok barrier part = barrier
-excluded FFactor i d ok barrier part = barrier
-excluded TJoin i d ok barrier part = odd_excludes-joins i d.odd ok part
-excluded Postman i d ok barrier part = split_excludes-tours i d.split part
-excluded Path i d ok barrier part = odd_excludes-paths i d.odd ok part
-
--- a feasible answer has one count for each edge, or numbers of edges
-pub feasible-places : (kind : Kind) (i : Network) (a : Answer) → IsFeasible kind i a → HasPlaces i a
-feasible-places Perfect i (Counts counts) f = f.one_each ∙ edges-count i
-feasible-places Match i (Counts counts) f = f.one_each
-feasible-places BMatch i (Counts counts) f = f.one_each
-feasible-places CapMatch i (Counts counts) f = f.0.one_each
-feasible-places FFactor i (Counts counts) f = f.0.one_each
-feasible-places TJoin i (Counts counts) f = f.one_each
-feasible-places Postman i (Counts counts) f = absurd f
-feasible-places Path i (Counts counts) f = absurd f
-feasible-places Perfect i (Walk start edges) f = absurd f
-feasible-places Match i (Walk start edges) f = absurd f
-feasible-places BMatch i (Walk start edges) f = absurd f
-feasible-places CapMatch i (Walk start edges) f = absurd f
-feasible-places FFactor i (Walk start edges) f = absurd f
-feasible-places TJoin i (Walk start edges) f = absurd f
-feasible-places Postman i (Walk start edges) f = walk-numbers (graph_of i) start edges f.closed.0
-feasible-places Path i (Walk start edges) f = walk-numbers (graph_of i) start edges f.walk
-feasible-places kind i Nothing f = tt
+excluded kind i d ok barrier part = by_exclusion (exclusion_of kind) kind i d refl ok barrier part

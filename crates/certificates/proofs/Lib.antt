@@ -3,7 +3,6 @@ pub mod RangeLemmas
 pub mod WithinLemmas
 pub mod DualLemmas
 pub mod BarrierLemmas
-pub mod PartTruths
 pub mod GadgetLemmas
 pub mod KindLemmas
 pub mod TruthLemmas

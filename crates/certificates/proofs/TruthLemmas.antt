@@ -7,6 +7,7 @@ use Rattle.mb_problem.specs.declared.kind.Kind.{Kind}
 use Rattle.mb_problem.specs.Network.{Network, graph_of}
 use Rattle.mb_problem.specs.Feasible.{IsAsGood, weight_of}
 use Rattle.mb_problem.specs.Values.{value_for}
+use Rattle.mb_problem.proofs.KindLaws.{value-order}
 use Rattle.gadget_base.specs.Certified.{gadget_graph, ReachesAll, IsReached}
 use Rattle.doc_format.specs.declared.document.Document.{Document}
 use Rattle.doc_format.specs.declared.part.WalkLine.{WalkLine}
@@ -15,7 +16,6 @@ use Rattle.certificates.specs.Claims.{numbers}
 use Rattle.certificates.specs.Certificates.{HasFeasibleAnswer, HasStatedWeight, HasNegativeCircuit}
 use Rattle.certificates.specs.Excluded.{HasNoAnswer}
 use Rattle.certificates.specs.Proved.{StatesTruthBy}
-use Rattle.certificates.proofs.KindLemmas.{value-order}
 
 -- no perfect matching of the graph weighs less than half the value, and each answer has one: so the stated answer is best
 pub best-by_value : (kind : Kind) (i : Network) (d : Document) (value : ℤ) → HasFeasibleAnswer kind i d → HasStatedWeight kind i d → value ≡ value_for kind i d.weight → ((counts : List ℕ) → IsPerfect (gadget_graph kind i) counts → value ≤ℤ (pos 2 *ℤ weight (gadget_graph kind i) counts)) → ReachesAll kind i → StatesTruthBy Optimal kind i d
@@ -25,9 +25,9 @@ best-by_value kind i d value feasible weighs is below reached = (
     best = λ other allowed.
         (let r : IsReached kind i other = reached other allowed in
         let least : value ≤ℤ (pos 2 *ℤ weight (gadget_graph kind i) r.counts) = below r.counts r.perfect in
-        let most : (pos 2 *ℤ weight (gadget_graph kind i) r.counts) ≤ℤ value_for kind i (weight_of i other) = r.weighs in
-        let order : value_for kind i d.weight ≤ℤ value_for kind i (weight_of i other) = omega (arith, ints) in
-        subst (λ (w : ℤ). IsAsGood kind w (weight_of i other)) (sym weighs) (value-order kind i d.weight (weight_of i other) order));
+        let most : (pos 2 *ℤ weight (gadget_graph kind i) r.counts) ≤ℤ value_for kind i (weight_of kind i other) = r.weighs in
+        let order : value_for kind i d.weight ≤ℤ value_for kind i (weight_of kind i other) = omega (arith, ints) in
+        subst (λ (w : ℤ). IsAsGood kind w (weight_of kind i other)) (sym weighs) (value-order kind i d.weight (weight_of kind i other) order));
   },
   weighs,
 )

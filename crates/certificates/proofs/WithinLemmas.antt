@@ -1,9 +1,9 @@
 -- Where no line is at fault every number is in its range.
-use Rattle.std.proofs.Common.{◌≡◌, ℕ, ℤ, pos, neg_ℤ, nat_abs, ◌≤ℤ◌, Bool, true, false, not, cond, ◌&&◌, List, [], ◌∷◌, ◌++◌, length, map, All, Option, None, Some, IfSome, MatchOption, refl, sym, ◌∙◌, arith}
+use Rattle.std.proofs.Common.{◌≡◌, ℕ, ℤ, pos, neg_ℤ, nat_abs, ◌≤ℤ◌, Bool, true, false, not, cond, ◌&&◌, List, [], ◌∷◌, length, map, All, Option, None, Some, IfSome, MatchOption, refl, sym, ◌∙◌, arith}
 use Rattle.std.specs.Prelude.{int_le, ⊤}
-use Rattle.std.specs.Option.{option_map, option_or}
+use Rattle.std.specs.Option.{option_map}
 use Rattle.std.specs.List.{list_all, find}
-use Rattle.std.proofs.lemmas.Bool.{and_parts}
+use Rattle.std.proofs.lemmas.Bool.{and_parts, and_from}
 use Rattle.std.proofs.lemmas.Int.{ints}
 use Rattle.std.proofs.lemmas.List.Elements.{All-nil, All-cons, All-weaker}
 use Rattle.graph_theory.specs.declared.limits.TheConstants.{NUMBER_LIMIT}
@@ -18,30 +18,37 @@ use Rattle.doc_format.specs.declared.part.WalkLine.{WalkLine}
 use Rattle.doc_format.specs.declared.part.DualLine.{DualLine}
 use Rattle.doc_format.specs.declared.part.SetLine.{SetLine}
 use Rattle.doc_format.specs.declared.part.MemberLine.{MemberLine}
-use Rattle.certificates.specs.Ranges.{Checked, first_fault, first_out_of_range, is_between, is_up_to, is_dual, is_set_dual, checked_count, checked_walk, checked_dual, checked_set, checked_members, listed}
+use Rattle.doc_format.specs.declared.part.Part.{Part}
+use Rattle.doc_format.specs.declared.part.Part.TheVariants.{Count, Walk, Dual, Set, Barrier, Odd, Split}
+use Rattle.doc_format.specs.Parts.{at_most_one, parts_of}
+use Rattle.doc_format.specs.Reading.{body_of}
+use Rattle.doc_format.proofs.PartLaws.{AllParts, part_by_part}
+use Rattle.certificates.specs.Ranges.{Checked, first_fault, first_out_of_range, is_between, is_up_to, is_dual, is_set_dual, in_range, in_range_for, checked}
 use Rattle.certificates.specs.Within.{IsUpTo, IsSetDual, IsCountWithin, IsWalkWithin, IsDualWithin, IsSetLineWithin, AreWithin}
-use Rattle.certificates.proofs.RangeLemmas.{first_fault-append}
-
-neither : (a b : Option ℕ) → option_or a b ≡ None → (a ≡ None) × (b ≡ None)
-neither None b h = (refl, h)
-neither (Some x) b h = (h, absurd (cc))
-
-none-append : (xs ys : List Checked) → first_fault (xs ++ ys) ≡ None → (first_fault xs ≡ None) × (first_fault ys ≡ None)
-none-append xs ys h = neither (first_fault xs) (first_fault ys) (sym (first_fault-append xs ys) ∙ h)
 
 pub one_in_range : (b : Bool) (c : Checked) (rest : Option Checked) → option_map (λ (l : Checked). l.line) (cond (not b) (Some c) rest) ≡ None → (b ≡ true) × (option_map (λ (l : Checked). l.line) rest ≡ None)
 one_in_range true c rest h = (refl, h)
 one_in_range false c rest h = (absurd (cc), absurd (cc))
 
-all_in_range : {A : Type 0} (f : A → Checked) (xs : List A) → first_fault (map f xs) ≡ None → All (λ x. (f x).in_range ≡ true) xs
-all_in_range f [] h = All-nil (λ x. (f x).in_range ≡ true)
-all_in_range f (x ∷ xs) h =
-    let parts = one_in_range (f x).in_range (f x) (find (λ (l : Checked). not l.in_range) (map f xs)) h in
-    All-cons (λ x. (f x).in_range ≡ true) x xs parts.0 (all_in_range f xs parts.1)
+-- a line in range is no fault, and where there is none all lines are
+none_faulty : (n m p : ℕ) (parts : List Part) → list_all (in_range n m p) parts ≡ true → first_fault (map (checked n m p) parts) ≡ None
+none_faulty n m p [] h = refl
+none_faulty n m p (part ∷ parts) h =
+    let both = and_parts (in_range n m p part) (list_all (in_range n m p) parts) h in
+    rw (both.0) (none_faulty n m p parts both.1)
+
+all_in_range : (n m p : ℕ) (parts : List Part) → first_fault (map (checked n m p) parts) ≡ None → list_all (in_range n m p) parts ≡ true
+all_in_range n m p [] h = refl
+all_in_range n m p (part ∷ parts) h =
+    let both = one_in_range (in_range n m p part) (checked n m p part) (find (λ (l : Checked). not l.in_range) (map (checked n m p) parts)) h in
+    and_from (in_range n m p part) (list_all (in_range n m p) parts) both.0 (all_in_range n m p parts both.1)
 
 all-list_all : {A : Type 0} (p : A → Bool) (xs : List A) → list_all p xs ≡ true → All (λ x. p x ≡ true) xs
 all-list_all p [] h = All-nil (λ x. p x ≡ true)
 all-list_all p (x ∷ xs) h = (let parts = and_parts (p x) (list_all p xs) h in All-cons (λ x. p x ≡ true) x xs parts.0 (all-list_all p xs parts.1))
+
+int_le-yes : (a b : ℤ) → a ≤ℤ b → int_le a b ≡ true
+int_le-yes a b h = grind (arith, ints)
 
 int_le-true : (a b : ℤ) → int_le a b ≡ true → a ≤ℤ b
 int_le-true a b h = grind (arith, ints)
@@ -61,49 +68,77 @@ set_dual z h = up_to (nat_abs NUMBER_LIMIT) z h
 all_up_to : (n : ℕ) (zs : List ℤ) → list_all (is_up_to n) zs ≡ true → All (IsUpTo n) zs
 all_up_to n zs h = All-weaker (λ z. is_up_to n z ≡ true) (IsUpTo n) (up_to n) zs (all-list_all (is_up_to n) zs h)
 
-count_within : (m : ℕ) (x : CountLine) → (checked_count m x).in_range ≡ true → IsCountWithin m x
-count_within m x h = (let parts = and_parts (is_up_to m x.edge) (is_up_to VALUE_LIMIT x.count) h in (up_to m x.edge parts.0, up_to VALUE_LIMIT x.count parts.1))
+count_within : (n m p : ℕ) (x : CountLine) → in_range n m p (Count x) ≡ true → IsCountWithin m x
+count_within n m p x h = (let parts = and_parts (is_up_to m x.edge) (is_up_to VALUE_LIMIT x.count) h in (up_to m x.edge parts.0, up_to VALUE_LIMIT x.count parts.1))
 
-dual_within : (n : ℕ) (y : DualLine) → (checked_dual n y).in_range ≡ true → IsDualWithin n y
-dual_within n y h = (let parts = and_parts (is_up_to n y.vertex) (is_dual y.dual) h in (up_to n y.vertex parts.0, number y.dual parts.1))
+dual_within : (n m p : ℕ) (y : DualLine) → in_range n m p (Dual y) ≡ true → IsDualWithin p y
+dual_within n m p y h = (let parts = and_parts (is_up_to p y.vertex) (is_dual y.dual) h in (up_to p y.vertex parts.0, number y.dual parts.1))
 
-set_within : (n : ℕ) (z : SetLine) → (checked_set n z).in_range ≡ true → IsSetLineWithin n z
-set_within n z h = (let parts = and_parts (is_set_dual z.dual) (list_all (is_up_to n) z.members) h in (set_dual z.dual parts.0, all_up_to n z.members parts.1))
+set_within : (n m p : ℕ) (z : SetLine) → in_range n m p (Set z) ≡ true → IsSetLineWithin p z
+set_within n m p z h = (let parts = and_parts (is_set_dual z.dual) (list_all (is_up_to p) z.members) h in (set_dual z.dual parts.0, all_up_to p z.members parts.1))
 
-member_line_within : (n : ℕ) (line : Option MemberLine) → first_fault (map (checked_members n) (listed line)) ≡ None → IfSome line (λ u. All (IsUpTo n) u.members)
-member_line_within n None h = tt
-member_line_within n (Some u) h = all_up_to n u.members (one_in_range (list_all (is_up_to n) u.members) (checked_members n u) None h).0
+walk_within : (n m p : ℕ) (w : WalkLine) → in_range n m p (Walk w) ≡ true → IsWalkWithin n m w
+walk_within n m p w h = (let parts = and_parts (is_up_to n w.start) (list_all (is_up_to m) w.edges) h in (up_to n w.start parts.0, all_up_to m w.edges parts.1))
 
-walk_line_within : (n m : ℕ) (line : Option WalkLine) → first_fault (map (checked_walk n m) (listed line)) ≡ None → IfSome line (IsWalkWithin n m)
-walk_line_within n m None h = tt
-walk_line_within n m (Some w) h =
-    let in_range = (one_in_range (is_up_to n w.start && list_all (is_up_to m) w.edges) (checked_walk n m w) None h).0 in
-    let parts = and_parts (is_up_to n w.start) (list_all (is_up_to m) w.edges) in_range in
-    (up_to n w.start parts.0, all_up_to m w.edges parts.1)
+-- what holds of each line of a letter, and of the one that there is
+
+each_line : {A : Type 0} (p : Part → Bool) (made : A → Part) (P : A → Type 0) (xs : List A) → ((x : A) → p (made x) ≡ true → P x) → list_all p (map made xs) ≡ true → All P xs
+each_line p made P [] each h = All-nil P
+each_line p made P (x ∷ xs) each h = (let both = and_parts (p (made x)) (list_all p (map made xs)) h in All-cons P x xs (each x both.0) (each_line p made P xs each both.1))
+
+the_line : {A : Type 0} (p : Part → Bool) (made : A → Part) (P : A → Type 0) (o : Option A) → ((x : A) → p (made x) ≡ true → P x) → list_all p (at_most_one made o) ≡ true → IfSome o P
+the_line p made P None each h = tt
+the_line p made P (Some x) each h = each x (and_parts (p (made x)) true h).0
+
+module _ (kind : Kind) (i : Network) (d : Document) (within : AreWithin kind i d) where
+  abbrev n : ℕ
+  n = vertices i
+
+  abbrev m : ℕ
+  m = length i.edges
+
+  abbrev p : ℕ
+  p = (gadget_graph kind i).vertices
+
+  parts : AllParts (in_range_for kind i) (body_of d)
+  parts = part_by_part (in_range_for kind i) (body_of d) within.parts
+
+  pub counts-in : All (IsCountWithin m) d.counts
+  counts-in = each_line (in_range_for kind i) Count (IsCountWithin m) d.counts (count_within n m p) parts.counts
+
+  pub walk-in : IfSome d.walk (IsWalkWithin n m)
+  walk-in = the_line (in_range_for kind i) Walk (IsWalkWithin n m) d.walk (walk_within n m p) parts.walk
+
+  pub duals-in : All (IsDualWithin p) d.duals
+  duals-in = each_line (in_range_for kind i) Dual (IsDualWithin p) d.duals (dual_within n m p) parts.duals
+
+  pub sets-in : All (IsSetLineWithin p) d.sets
+  sets-in = each_line (in_range_for kind i) Set (IsSetLineWithin p) d.sets (set_within n m p) parts.sets
+
+  pub barrier-in : IfSome d.barrier (λ u. All (IsUpTo p) u.members)
+  barrier-in = the_line (in_range_for kind i) Barrier (λ u. All (IsUpTo p) u.members) d.barrier (λ u h. all_up_to p u.members h) parts.barrier
+
+  pub odd-in : IfSome d.odd (λ t. All (IsUpTo n) t.members)
+  odd-in = the_line (in_range_for kind i) Odd (λ t. All (IsUpTo n) t.members) d.odd (λ t h. all_up_to n t.members h) parts.odd
+
+  pub split-in : IfSome d.split (λ q. All (IsUpTo n) q.members)
+  split-in = the_line (in_range_for kind i) Split (λ q. All (IsUpTo n) q.members) d.split (λ q h. all_up_to n q.members h) parts.split
 
 pub are-within : (kind : Kind) (i : Network) (d : Document) → first_out_of_range kind i d ≡ None → AreWithin kind i d
 are-within kind i d h =
-    let n = vertices i in
-    let m = length i.edges in
-    let p = (gadget_graph kind i).vertices in
     let head = one_in_range (is_dual d.weight) (record { line = d.line; in_range = is_dual d.weight }) _ h in
-    let counts = none-append (map (checked_count m) d.counts) _ head.1 in
-    let walk = none-append (map (checked_walk n m) (listed d.walk)) _ counts.1 in
-    let duals = none-append (map (checked_dual p) d.duals) _ walk.1 in
-    let sets = none-append (map (checked_set p) d.sets) _ duals.1 in
-    let barrier = none-append (map (checked_members p) (listed d.barrier)) _ sets.1 in
-    let odd = none-append (map (checked_members n) (listed d.odd)) _ barrier.1 in
     record {
       weight = number d.weight head.0;
-      counts = All-weaker (λ x. (checked_count m x).in_range ≡ true) (IsCountWithin m) (count_within m) d.counts (all_in_range (checked_count m) d.counts counts.0);
-      walk = walk_line_within n m d.walk walk.0;
-      duals = All-weaker (λ y. (checked_dual p y).in_range ≡ true) (IsDualWithin p) (dual_within p) d.duals (all_in_range (checked_dual p) d.duals duals.0);
-      sets = All-weaker (λ z. (checked_set p z).in_range ≡ true) (IsSetLineWithin p) (set_within p) d.sets (all_in_range (checked_set p) d.sets sets.0);
-      barrier = member_line_within p d.barrier barrier.0;
-      odd = member_line_within n d.odd odd.0;
-      split = member_line_within n d.split odd.1;
+      parts = all_in_range (vertices i) (length i.edges) (gadget_graph kind i).vertices (parts_of (body_of d)) head.1;
     }
 
 pub within-where_none : (kind : Kind) (i : Network) (d : Document) (r : Option ℕ) → r ≡ first_out_of_range kind i d → MatchOption r (AreWithin kind i d) (λ line. ⊤)
 within-where_none kind i d None is = are-within kind i d (sym is)
 within-where_none kind i d (Some line) is = tt
+
+-- and only then
+number-in : (z : ℤ) → IsNumber z → is_dual z ≡ true
+number-in z h = and_from (int_le (neg_ℤ NUMBER_LIMIT) z) (int_le z NUMBER_LIMIT) (int_le-yes (neg_ℤ NUMBER_LIMIT) z h.0) (int_le-yes z NUMBER_LIMIT h.1)
+
+pub in-range : (kind : Kind) (i : Network) (d : Document) → AreWithin kind i d → first_out_of_range kind i d ≡ None
+in-range kind i d h = rw (number-in d.weight h.weight) (none_faulty (vertices i) (length i.edges) (gadget_graph kind i).vertices (parts_of (body_of d)) h.parts)

@@ -19,7 +19,7 @@ abbrev pub HasFeasibleAnswer : Kind → Network → Document → Type 0
 HasFeasibleAnswer kind i d = IsFeasible kind i (answer_of kind i d)
 
 abbrev pub HasStatedWeight : Kind → Network → Document → Type 0
-HasStatedWeight kind i d = weight_of i (answer_of kind i d) ≡ d.weight
+HasStatedWeight kind i d = weight_of kind i (answer_of kind i d) ≡ d.weight
 
 -- every vertex of the graph of certificates has a y line
 abbrev pub HasDuals : Kind → Network → Document → Type 0

@@ -34,7 +34,7 @@ pub record IsProved (kind : Kind) (i : Network) (d : Document) : Type 0 where
 
 -- the answer is best and weighs what is stated, or no answer is feasible, or some circuit weighs less than 0
 abbrev pub StatesTruthBy : DocStatus → Kind → Network → Document → Type 0
-StatesTruthBy Optimal kind i d = IsBest kind i (answer_of kind i d) × (weight_of i (answer_of kind i d) ≡ d.weight)
+StatesTruthBy Optimal kind i d = IsBest kind i (answer_of kind i d) × (weight_of kind i (answer_of kind i d) ≡ d.weight)
 StatesTruthBy Infeasible kind i d = (answer : Answer) → IsFeasible kind i answer → ⊥
 StatesTruthBy NonConservative kind i d = IsConservative (graph_of i) → ⊥
 

@@ -1,8 +1,9 @@
-ghost use Rattle.std.specs.Prelude.{◌≡◌, ◌≢◌, ◌≤◌, pos, ◌≤ℤ◌, All, IfOk};
+ghost use Rattle.std.specs.Prelude.{◌≡◌, ◌≤◌, IfOk};
 ghost use Rattle.graph_theory.specs.Graph.{IsGraph};
 ghost use Rattle.graph_theory.specs.Limits.{IsWithinLimits, HasSize};
 ghost use Rattle.mb_problem.specs.Network.{IsNetwork};
-ghost use Rattle.mb_problem.specs.Size.{size_of};
+ghost use Rattle.mb_problem.specs.Ready.{HasNeededWeights};
+ghost use Rattle.mb_problem.specs.Size.{size_of, certified_size};
 ghost use Rattle.gadget_base.specs.Certified.{gadget_graph, ReachesAll};
 
 use gadget_cap::capped;
@@ -30,11 +31,13 @@ pub fn certified_vertices(instance: &Instance, kind: Kind) -> u32
 /// That graph, by the builder that knows the kind's answers.
 fn build(alloc: Global, instance: &Instance, kind: Kind) -> Result<Graph, OutOfMemory>
     requires limits { IsWithinLimits (size_of kind instance.now) }
-    requires weights { kind ≡ Kind.Postman → All (λ e. pos 0 ≤ℤ e.w) instance.now.edges }
+    requires weights { HasNeededWeights kind instance.now }
     ensures graph { IfOk result (λ h. h ≡ gadget_graph kind instance.now) }
-    ensures size { IfOk result (λ h. kind ≢ Kind.Path → HasSize (size_of kind instance.now) h) }
+    ensures size { IfOk result (HasSize (certified_size kind instance.now)) }
     ensures reached { IfOk result (λ h. ReachesAll kind instance.now) }
+    ensures network { IsNetwork instance.now }
 {
+    let _ = instance.vertices();
     match kind {
         Kind::Perfect => instance.graph(),
         Kind::Match => double(alloc, instance),
@@ -51,18 +54,15 @@ fn build(alloc: Global, instance: &Instance, kind: Kind) -> Result<Graph, OutOfM
 /// takes time linear in the instance and the graph. An error is want of memory.
 pub fn certified(alloc: Global, instance: &Instance, kind: Kind) -> Result<Graph, OutOfMemory>
     requires limits { IsWithinLimits (size_of kind instance.now) }
-    requires weights { kind ≡ Kind.Postman → All (λ e. pos 0 ≤ℤ e.w) instance.now.edges }
+    requires weights { HasNeededWeights kind instance.now }
     ensures graph { IfOk result (λ h. h ≡ gadget_graph kind instance.now) }
-
-    // A path's size is the greater of two graphs'.
-    ensures size { IfOk result (λ h. kind ≢ Kind.Path → HasSize (size_of kind instance.now) h) }
+    ensures size { IfOk result (HasSize (certified_size kind instance.now)) }
     ensures reached { IfOk result (λ h. ReachesAll kind instance.now) }
 
     // Both are what `laws` asks of an instance and its graph.
     ensures good { IfOk result (λ h. IsGraph (gadget_graph kind instance.now)) }
     ensures network { IsNetwork instance.now }
 {
-    let _ = instance.vertices();
     let graph = build(alloc, instance, kind)?;
     // The prover learns here that the graph is one.
     let _ = graph.vertices();

@@ -1,8 +1,8 @@
 ghost use Rattle.std.specs.Prelude.{◌≡◌, ◌≤◌, ◌^◌, pos, neg_ℤ, ◌≤ℤ◌};
 ghost use Rattle.graph_theory.specs.Duals.{IsNumber};
-ghost use Rattle.mb_problem.specs.Values.{total_weight, value_for};
+ghost use Rattle.mb_problem.specs.Values.{total_weight, value_by, value_for};
 
-use mb_problem::{GadgetForm, Instance, Kind, Parity};
+use mb_problem::{BestProof, DualValue, Instance, Kind};
 
 /// The weights of all edges, added up.
 pub fn total_weight(instance: &Instance) -> i128
@@ -17,20 +17,25 @@ pub fn total_weight(instance: &Instance) -> i128
     total
 }
 
+/// The value that duals of this rule have beside a best answer of this weight, in doubled units.
+fn value_by(instance: &Instance, value: DualValue, weight: i64) -> i128
+    requires { IsNumber weight }
+    ensures { result ≡ value_by value instance.now weight }
+{
+    let weight = i128::from(weight);
+    match value {
+        DualValue::Twice => 2 * weight,
+        DualValue::Opposite => -4 * weight,
+        DualValue::BesideAll => 2 * (weight - total_weight(instance)),
+    }
+}
+
 /// The value that duals have beside a best answer of this weight, in doubled units.
 pub fn value_for(instance: &Instance, kind: Kind, weight: i64) -> i128
     requires { IsNumber weight }
     ensures { result ≡ value_for kind instance.now weight }
 {
-    let weight = i128::from(weight);
-    match kind.gadget() {
-        GadgetForm::Doubled => -4 * weight,
-        GadgetForm::Ports(Parity::OddDegrees) => 2 * (weight - total_weight(instance)),
-        GadgetForm::Itself
-        | GadgetForm::Copies
-        | GadgetForm::Capped(_)
-        | GadgetForm::Ports(Parity::Empty)
-        | GadgetForm::Ports(Parity::Values)
-        | GadgetForm::PathPorts => 2 * weight,
+    match kind.proof() {
+        BestProof::Duals(value) => value_by(instance, value, weight),
     }
 }

@@ -1,5 +1,6 @@
 -- The words that spell a command have the form of one, and on those clap gives it.
-use Rattle.std.proofs.Common.{◌≡◌, ◌∙◌, sym, ap, ap₂, subst, arith, length, get_or, map, ℕ, ◌&&◌, ◌||◌, cond, List, [], ◌∷◌, Bool, true, false, refl, codes, Option, Some, None, nat_eq, ◌-◌, ◌^◌, inl, inr, option_and_then, option_map}
+use Rattle.std.proofs.Common.{◌≡◌, ◌∙◌, sym, ap, ap₂, subst, arith, length, get_or, map, ℕ, ◌&&◌, ◌||◌, cond, List, [], ◌∷◌, Bool, true, false, refl, codes, Option, Some, None, nat_eq, ◌-◌}
+use Rattle.std.proofs.Common.{◌^◌, inl, inr, option_and_then, option_map}
 use Rattle.std.proofs.lemmas.Bool.{false≢true, eqb-true, or_cases, not-true, not-false, and_parts, and_cases}
 use Rattle.std.proofs.lemmas.Slice.Eq.{bytes_eq-Decides}
 use Rattle.std.specs.Str.{bytes_eq}
@@ -63,7 +64,8 @@ two_none false false p x y hx hy h = refl
 
 -- ---- three words
 
-three_gives : (first a b d : Text) → (bytes_eq a (codes "solve") && ((is_plain b && bytes_eq d (codes "--brief")) || (bytes_eq b (codes "--brief") && is_plain d))) ≡ true → Gives (first ∷ a ∷ b ∷ d ∷ []) (command_of (first ∷ a ∷ b ∷ d ∷ []))
+three_gives : (first a b d : Text) → (bytes_eq a (codes "solve") && ((is_plain b && bytes_eq d (codes "--brief")) || (bytes_eq b (codes "--brief") && is_plain d))) ≡ true →
+    Gives (first ∷ a ∷ b ∷ d ∷ []) (command_of (first ∷ a ∷ b ∷ d ∷ []))
 three_gives first a b d h =
     let P : Text → Type 0 = λ t. Gives (first ∷ t ∷ b ∷ d ∷ []) (command_of (first ∷ t ∷ b ∷ d ∷ [])) in
     let is_solve = same a (codes "solve") (and_parts (bytes_eq a (codes "solve")) _ h).0 in
@@ -78,7 +80,8 @@ three_gives first a b d h =
           subst Q (sym (same b (codes "--brief") (and_parts (bytes_eq b (codes "--brief")) _ e).0)) (subst R (sym (not_brief d p)) (brief_first_gives first d (plain d p)))
     ])
 
-three_none : (s bp db bb dp : Bool) (x y : Option Command) → (bp ≡ false → x ≡ None) → (dp ≡ false → y ≡ None) → (s && ((bp && db) || (bb && dp))) ≡ false → cond s (cond db x (cond bb y None)) None ≡ None
+three_none : (s bp db bb dp : Bool) (x y : Option Command) → (bp ≡ false → x ≡ None) → (dp ≡ false → y ≡ None) → (s && ((bp && db) || (bb && dp))) ≡ false →
+    cond s (cond db x (cond bb y None)) None ≡ None
 three_none false bp db bb dp x y hx hy h = refl
 three_none true false true bb dp x y hx hy h = hx refl
 three_none true true true bb dp x y hx hy h = absurd (false≢true (sym h))
@@ -88,7 +91,8 @@ three_none true false false true dp x y hx hy h = hy h
 
 -- ---- five words
 
-five_gives : (first a k s n m : Text) → (bytes_eq a (codes "trial") && (is_plain k && (is_plain s && (is_plain n && is_plain m)))) ≡ true → Gives (first ∷ a ∷ k ∷ s ∷ n ∷ m ∷ []) (command_of (first ∷ a ∷ k ∷ s ∷ n ∷ m ∷ []))
+five_gives : (first a k s n m : Text) → (bytes_eq a (codes "trial") && (is_plain k && (is_plain s && (is_plain n && is_plain m)))) ≡ true →
+    Gives (first ∷ a ∷ k ∷ s ∷ n ∷ m ∷ []) (command_of (first ∷ a ∷ k ∷ s ∷ n ∷ m ∷ []))
 five_gives first a k s n m h =
     let P : Text → Type 0 = λ t. Gives (first ∷ t ∷ k ∷ s ∷ n ∷ m ∷ []) (command_of (first ∷ t ∷ k ∷ s ∷ n ∷ m ∷ [])) in
     let ps = (and_parts (bytes_eq a (codes "trial")) _ h).1 in
@@ -169,7 +173,8 @@ name_first (Some b) = refl
 pub by_name : (m : ArgMatches) → subcommand_name_of m ≡ option_map (λ (p : Text × List Row). p.0) (subcommand_rows_of m)
 by_name m = name_first (out-ArgMatches m).subcommand
 
-pub four_words : {S : Type 0} (f : S → Text) (ws : List S) (a b d : S) → length ws ≡ 4 → a ≡ get_or ws 1 a → b ≡ get_or ws 2 b → d ≡ get_or ws 3 d → map f ws ≡ f (get_or ws 0 a) ∷ f a ∷ f b ∷ f d ∷ []
+pub four_words : {S : Type 0} (f : S → Text) (ws : List S) (a b d : S) → length ws ≡ 4 → a ≡ get_or ws 1 a → b ≡ get_or ws 2 b → d ≡ get_or ws 3 d →
+    map f ws ≡ f (get_or ws 0 a) ∷ f a ∷ f b ∷ f d ∷ []
 four_words f [] a b d n ea eb ed = absurd (omega (arith, n))
 four_words f (p ∷ []) a b d n ea eb ed = absurd (omega (arith, n))
 four_words f (p ∷ q ∷ []) a b d n ea eb ed = absurd (omega (arith, n))
@@ -178,7 +183,8 @@ four_words f (p ∷ q ∷ r ∷ s ∷ []) a b d n ea eb ed =
     ap₂ (λ x xs. f p ∷ f x ∷ xs) (sym ea) (ap₂ (λ x y. f x ∷ f y ∷ []) (sym eb) (sym ed))
 four_words f (p ∷ q ∷ r ∷ s ∷ t ∷ more) a b d n ea eb ed = absurd (omega (arith, n))
 
-pub six_words : {S : Type 0} (f : S → Text) (ws : List S) (a b d e g : S) → length ws ≡ 6 → a ≡ get_or ws 1 a → b ≡ get_or ws 2 b → d ≡ get_or ws 3 d → e ≡ get_or ws 4 e → g ≡ get_or ws 5 g → map f ws ≡ f (get_or ws 0 a) ∷ f a ∷ f b ∷ f d ∷ f e ∷ f g ∷ []
+pub six_words : {S : Type 0} (f : S → Text) (ws : List S) (a b d e g : S) → length ws ≡ 6 → a ≡ get_or ws 1 a → b ≡ get_or ws 2 b → d ≡ get_or ws 3 d → e ≡ get_or ws 4 e →
+    g ≡ get_or ws 5 g → map f ws ≡ f (get_or ws 0 a) ∷ f a ∷ f b ∷ f d ∷ f e ∷ f g ∷ []
 six_words f [] a b d e g n ea eb ed ee eg = absurd (omega (arith, n))
 six_words f (p ∷ []) a b d e g n ea eb ed ee eg = absurd (omega (arith, n))
 six_words f (p ∷ q ∷ []) a b d e g n ea eb ed ee eg = absurd (omega (arith, n))

@@ -84,7 +84,8 @@ brief_first_ends k w = walked-plain (shape_named (codes "solve")).rules 1 brief_
 
 brief_first_level : (k : Text) → IsPlainWord k → level_passes (shape_named (codes "solve")) [] nothing_held (codes "--brief" ∷ k ∷ []) false ≡ true
 unfolding clap_on_literals program
-brief_first_level k w = level_by (shape_named (codes "solve")) (codes "--brief" ∷ k ∷ []) (brief_first_end k) (brief_first_ends k w) (pass (shape_named (codes "solve")) 1 brief_held k [] w refl refl) refl
+brief_first_level k w =
+    level_by (shape_named (codes "solve")) (codes "--brief" ∷ k ∷ []) (brief_first_end k) (brief_first_ends k w) (pass (shape_named (codes "solve")) 1 brief_held k [] w refl refl) refl
 
 pub brief_first_gives : (first k : Text) → IsPlainWord k → Gives (first ∷ codes "solve" ∷ codes "--brief" ∷ k ∷ []) (solve_named true k)
 unfolding clap_on_literals program

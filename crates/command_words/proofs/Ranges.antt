@@ -1,28 +1,30 @@
 -- The numbers of a trial that words spell are within their limits.
-use Rattle.std.proofs.Common.{◌≡◌, ℕ, ◌≤◌, ◌^◌, ◌-◌, ◌&&◌, ◌==◌, not, cond, leb, List, [], ◌∷◌, Bool, true, false, refl, sym, ap, subst, ◌∙◌, codes, Option, Some, None, inl, inr, arith, option_and_then, option_map}
+use Rattle.std.proofs.Common.{◌≡◌, ℕ, ◌≤◌, ◌^◌, ◌-◌, ◌&&◌, ◌==◌, not, cond, leb, List, [], ◌∷◌, Bool, true, false, refl, sym, ap, subst, ◌∙◌, codes, Option, Some, None, inl, inr, arith}
+use Rattle.std.proofs.Common.{option_and_then, option_map}
 use Rattle.std.proofs.lemmas.Bool.{false≢true, or_cases, and_parts, not-true, leb-true, eqb-true}
 use Rattle.std.specs.Prelude.{nat_le, IfSome}
 use Rattle.std.specs.Str.{bytes_eq}
 use Rattle.mb_base.specs.Text.{natural}
 use Rattle.mb_problem.specs.declared.kind.Kind.{Kind}
 use Rattle.mb_problem.specs.declared.limits.TheConstants.{VERTEX_LIMIT, EDGE_LIMIT}
-use Rattle.mb_problem.specs.Kinds.{kind_named}
+use Rattle.mb_problem.specs.Kinds.{kind_named, vertex_value_of, is_drawn}
 use Rattle.command_words.specs.declared.command.Command.{Command}
 use Rattle.command_words.specs.declared.command.Command.TheVariants.{Solve, Check, Trial}
-use Rattle.command_words.specs.Commands.{solve_named, solve_briefly, check_named, natural_within, is_path, has_ends, trial, trial_by, command_of, IsTrialSize, HasRanges}
+use Rattle.command_words.specs.Commands.{solve_named, solve_briefly, check_named, natural_within, marks_ends, has_ends, is_made, trial, trial_by, command_of, IsTrialSize, HasRanges}
 
 size_by : (kind : Kind) (n m : ℕ) → has_ends kind n m ≡ true → n ≤ VERTEX_LIMIT → m ≤ EDGE_LIMIT → IsTrialSize kind n m
-size_by kind n m h few_vertices few_edges = elim (or_cases (nat_le 2 n) ((m == 0) && not (is_path kind)) h) [
+size_by kind n m h few_vertices few_edges = elim (or_cases (nat_le 2 n) ((m == 0) && not (marks_ends (vertex_value_of kind))) h) [
   | inl two ↦ let low = leb-true 2 n two in record { vertices = few_vertices; edges = few_edges; ends = λ some. low; path = λ is. low }
   | inr none ↦
-      let parts = and_parts (m == 0) (not (is_path kind)) none in
+      let parts = and_parts (m == 0) (not (marks_ends (vertex_value_of kind))) none in
       let no_edge = eqb-true m 0 parts.0 in
-      let no_path = not-true (is_path kind) parts.1 in
-      record { vertices = few_vertices; edges = few_edges; ends = λ some. absurd (omega (arith, some, no_edge)); path = λ is. absurd (false≢true (sym no_path ∙ ap is_path is)) }
+      let no_ends = not-true (marks_ends (vertex_value_of kind)) parts.1 in
+      record { vertices = few_vertices; edges = few_edges; ends = λ some. absurd (omega (arith, some, no_edge)); path = λ is. absurd (false≢true (sym no_ends ∙ ap marks_ends is)) }
 ]
 
-chosen : (test : Bool) (kind : Kind) (s n m : ℕ) (c : Command) → has_ends kind n m ≡ test → n ≤ VERTEX_LIMIT → m ≤ EDGE_LIMIT → cond test (Some (Trial kind s n m)) None ≡ Some c → HasRanges c
-chosen true kind s n m c h few_vertices few_edges e = (let same : Trial kind s n m ≡ c = cc in subst HasRanges same (size_by kind n m h few_vertices few_edges))
+chosen : (test : Bool) (kind : Kind) (s n m : ℕ) (c : Command) → is_made kind n m ≡ test → n ≤ VERTEX_LIMIT → m ≤ EDGE_LIMIT → cond test (Some (Trial kind s n m)) None ≡ Some c → HasRanges c
+chosen true kind s n m c h few_vertices few_edges e =
+    (let same : Trial kind s n m ≡ c = cc in subst HasRanges same (size_by kind n m (and_parts (is_drawn kind) (has_ends kind n m) h).1 few_vertices few_edges))
 chosen false kind s n m c h few_vertices few_edges e = absurd cc
 
 limited : (limit k n : ℕ) (test : Bool) → leb k limit ≡ test → cond test (Some k) None ≡ Some n → n ≤ limit
@@ -39,7 +41,7 @@ trial_ranges None os on om c hn hm e = absurd cc
 trial_ranges (Some kind) None on om c hn hm e = absurd cc
 trial_ranges (Some kind) (Some s) None om c hn hm e = absurd cc
 trial_ranges (Some kind) (Some s) (Some n) None c hn hm e = absurd cc
-trial_ranges (Some kind) (Some s) (Some n) (Some m) c hn hm e = chosen (has_ends kind n m) kind s n m c refl (hn n refl) (hm m refl) e
+trial_ranges (Some kind) (Some s) (Some n) (Some m) c hn hm e = chosen (is_made kind n m) kind s n m c refl (hn n refl) (hm m refl) e
 
 solve_ranges : (brief : Bool) (o : Option Kind) (c : Command) → option_map (λ kind. Solve kind brief) o ≡ Some c → HasRanges c
 solve_ranges brief None c e = absurd cc

@@ -5,8 +5,10 @@ use Rattle.std.specs.Option.{option_map_or}
 use Rattle.std.specs.List.{list_all}
 use Rattle.std.specs.Str.{bytes_eq}
 use Rattle.clap.specs.Words.{Rule, Shape, Text, built}
-use Rattle.clap.specs.Walk.{Held, Walk, arg_by_index, after_step, answers_to, finished, idle, long_or_other, nothing_held, short_or_plain, to_positional, trailing, value, walk, walk_from, walked, stop_after, word_met}
-use Rattle.clap.specs.Takes.{bundle_passes, entered_passes, settle_passes, default_passes, is_valid, built_takes, flag_word_passes, level_passes, step_passes, turn_passes, walk_passes, word_passes}
+use Rattle.clap.specs.Walk.{Held, Walk, arg_by_index, after_step, answers_to, finished, idle, long_or_other, nothing_held, short_or_plain, to_positional, trailing, value, walk, walk_from}
+use Rattle.clap.specs.Walk.{walked, stop_after, word_met}
+use Rattle.clap.specs.Takes.{bundle_passes, entered_passes, settle_passes, default_passes, is_valid, built_takes, flag_word_passes, level_passes, step_passes, turn_passes, walk_passes}
+use Rattle.clap.specs.Takes.{word_passes}
 use Rattle.clap.specs.Simple.{argument_words, label_of, names_of, new_shape, entered, is_simple, rows_at}
 use Rattle.clap.specs.Lexer.{long_of, short_of}
 use Rattle.command_words.specs.Program.{program, is_taken, found_in}
@@ -48,12 +50,15 @@ pub turn-plain : (s : Shape) (p : ℕ) (h : Held) (word : Text) → IsPlainWord 
 turn-plain s p h word w =
     ap₂ (λ a m. a && step_passes s p m.0 m.1) (word-passes s h word w) (met s.rules p h word w)
 
-pub pass : (s : Shape) (p : ℕ) (h : Held) (word : Text) (rest : List Text) → IsPlainWord word → step_passes s p h value ≡ true → walk_passes s [] (steps_to s.rules p h word) rest ≡ true → walk_passes s [] (at p h) (word ∷ rest) ≡ true
+pub pass : (s : Shape) (p : ℕ) (h : Held) (word : Text) (rest : List Text) → IsPlainWord word → step_passes s p h value ≡ true → walk_passes s [] (steps_to s.rules p h word) rest ≡ true →
+    walk_passes s [] (at p h) (word ∷ rest) ≡ true
 unfolding walk_passes
 pass s p h word rest w step more = ap₂ ◌&&◌ (turn-plain s p h word w ∙ step) (ap (λ v. walk_passes s [] v rest) (walked-plain s.rules p h word w) ∙ more)
 
 -- one level passes, from where its walk ends
-pub level_by : (s : Shape) (words : List Text) (end : Walk) → walk s.rules [] nothing_held words ≡ end → walk_passes s [] (walk_from nothing_held) words ≡ true → (settle_passes s.rules s.args_override_self end.held && (list_all default_passes s.rules && is_valid s (finished s.rules end.held) false)) ≡ true → level_passes s [] nothing_held words false ≡ true
+pub level_by : (s : Shape) (words : List Text) (end : Walk) → walk s.rules [] nothing_held words ≡ end → walk_passes s [] (walk_from nothing_held) words ≡ true →
+    (settle_passes s.rules s.args_override_self end.held && (list_all default_passes s.rules && is_valid s (finished s.rules end.held) false)) ≡ true →
+    level_passes s [] nothing_held words false ≡ true
 level_by s words end ends walks last =
     ap (λ (e : Walk). walk_passes s [] (walk_from nothing_held) words && (settle_passes s.rules s.args_override_self e.held && (list_all default_passes s.rules && is_valid s (finished s.rules e.held) false))) ends
     ∙ ap₂ ◌&&◌ walks last
@@ -80,7 +85,8 @@ no_name : (name : Text) (words : List Text) → argument_words program (name ∷
 unfolding program
 no_name name words = refl
 
-pub takes_by : (first : Text) (words : List Text) (name : Text) (rest : List Text) → Meets words name rest → level_passes (shape_named name) [] nothing_held rest false ≡ true → is_taken (first ∷ words) ≡ true
+pub takes_by : (first : Text) (words : List Text) (name : Text) (rest : List Text) → Meets words name rest → level_passes (shape_named name) [] nothing_held rest false ≡ true →
+    is_taken (first ∷ words) ≡ true
 unfolding is_taken
 takes_by first words name rest m inner =
     ap₂ ◌&&◌ simple (ap (λ ws. built_takes (built program) nothing_held ws) (no_name first words)
@@ -89,7 +95,8 @@ takes_by first words name rest m inner =
     (ap (λ o. option_map_or (λ s. level_passes s [] nothing_held rest false) o true) m.there ∙ inner)
     (ap (λ (o : Option Shape). level_passes (built program).top (names_of (built program)) nothing_held words (is_some (option_map (λ s. rows_at s rest) o))) m.there ∙ m.level))
 
-pub found_by : (first : Text) (words : List Text) (name : Text) (rest : List Text) (end : Walk) → Meets words name rest → walk (shape_named name).rules [] nothing_held rest ≡ end → found_in (first ∷ words) ≡ Some ((shape_named name).name, finished (shape_named name).rules end.held)
+pub found_by : (first : Text) (words : List Text) (name : Text) (rest : List Text) (end : Walk) → Meets words name rest → walk (shape_named name).rules [] nothing_held rest ≡ end →
+    found_in (first ∷ words) ≡ Some ((shape_named name).name, finished (shape_named name).rules end.held)
 unfolding found_in
 found_by first words name rest end m ends =
     ap (λ ws. entered (built program) (stop_after (built program).top.rules (names_of (built program)) ws)) (no_name first words)

@@ -4,9 +4,10 @@ use Rattle.std.specs.Option.{option_map, option_and_then}
 use Rattle.std.specs.Str.{bytes_eq}
 use Rattle.mb_base.specs.Text.{natural}
 use Rattle.mb_problem.specs.declared.kind.Kind.{Kind}
-use Rattle.mb_problem.specs.declared.kind.Kind.TheVariants.{Perfect, Match, BMatch, CapMatch, FFactor, TJoin, Postman, Path}
+use Rattle.mb_problem.specs.declared.kind.VertexValue.{VertexValue}
+use Rattle.mb_problem.specs.declared.kind.VertexValue.TheVariants.{Unused, Degree, Parity, End}
 use Rattle.mb_problem.specs.declared.limits.TheConstants.{VERTEX_LIMIT, EDGE_LIMIT}
-use Rattle.mb_problem.specs.Kinds.{kind_named}
+use Rattle.mb_problem.specs.Kinds.{kind_named, vertex_value_of, is_drawn}
 use Rattle.command_words.specs.declared.command.Command.{Command}
 use Rattle.command_words.specs.declared.command.Command.TheVariants.{Solve, Check, Trial}
 
@@ -25,22 +26,23 @@ check_named name = option_map (λ kind. Check kind) (kind_named name)
 abbrev pub natural_within : ℕ → List ℕ → Option ℕ
 natural_within limit word = option_and_then (λ n. if nat_le n limit then Some n else None) (natural word)
 
-abbrev pub is_path : Kind → Bool
-is_path Perfect = false
-is_path Match = false
-is_path BMatch = false
-is_path CapMatch = false
-is_path FFactor = false
-is_path TJoin = false
-is_path Postman = false
-is_path Path = true
+-- the values mark two ends
+abbrev pub marks_ends : VertexValue → Bool
+marks_ends Unused = false
+marks_ends Degree = false
+marks_ends Parity = false
+marks_ends End = true
 
--- an edge has two ends, and so has a path
+-- there are the two vertices that an edge has, and those that values mark as ends
 abbrev pub has_ends : Kind → ℕ → ℕ → Bool
-has_ends kind n m = nat_le 2 n || ((m == 0) && not (is_path kind))
+has_ends kind n m = nat_le 2 n || ((m == 0) && not (marks_ends (vertex_value_of kind)))
+
+-- an instance of the kind and of this size can be made
+abbrev pub is_made : Kind → ℕ → ℕ → Bool
+is_made kind n m = is_drawn kind && has_ends kind n m
 
 abbrev pub trial : Kind → ℕ → ℕ → ℕ → Option Command
-trial kind start n m = if has_ends kind n m then Some (Trial kind start n m) else None
+trial kind start n m = if is_made kind n m then Some (Trial kind start n m) else None
 
 -- the command that tries a made instance: the name of a kind, a start below 2^64, and numbers of vertices and edges within the limits
 abbrev pub trial_by : List ℕ → List ℕ → List ℕ → List ℕ → Option Command
@@ -62,12 +64,12 @@ abbrev pub command_of : List (List ℕ) → Option Command
 command_of [] = None
 command_of (name ∷ words) = after_name words
 
--- the numbers of a trial: within the limits of instances, with the ends of an edge and of a path
+-- the numbers of a trial: within the limits of instances, with the ends of an edge, and those that values mark
 pub record IsTrialSize (kind : Kind) (n m : ℕ) : Type 0 where
   pub vertices : n ≤ VERTEX_LIMIT
   pub edges : m ≤ EDGE_LIMIT
   pub ends : 0 < m → 2 ≤ n
-  pub path : kind ≡ Path → 2 ≤ n
+  pub path : vertex_value_of kind ≡ End → 2 ≤ n
 
 abbrev pub HasRanges : Command → Type 0
 HasRanges (Solve kind brief) = Unit {0}

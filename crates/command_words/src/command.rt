@@ -1,8 +1,10 @@
 ghost use Rattle.std.specs.Prelude.{◌≡◌, ◌-◌, ◌^◌};
-ghost use Rattle.command_words.specs.Commands.{solve_named, check_named, has_ends, trial_by};
+ghost use Rattle.mb_problem.specs.Kinds.{vertex_value_of};
+ghost use Rattle.command_words.specs.Commands.{solve_named, check_named, marks_ends, has_ends};
+ghost use Rattle.command_words.specs.Commands.{is_made, trial_by};
 
 use crate::numbers::read_natural;
-use mb_problem::{EDGE_LIMIT, Kind, VERTEX_LIMIT};
+use mb_problem::{EDGE_LIMIT, Kind, VERTEX_LIMIT, VertexValue};
 
 /// What the program is to do.
 #[derive(Clone, Copy, Debug, PartialEq, Eq)]
@@ -41,11 +43,30 @@ pub fn read_check(name: &str) -> Option<Command>
     Some(Command::Check { kind })
 }
 
-/// Whether there are the two vertices that an edge has, and a path.
+/// Whether the values mark two ends.
+fn marks_ends(kind: Kind) -> bool
+    ensures { result ≡ marks_ends (vertex_value_of kind) }
+{
+    match kind.vertex_value() {
+        VertexValue::Unused => false,
+        VertexValue::Degree => false,
+        VertexValue::Parity => false,
+        VertexValue::End => true,
+    }
+}
+
+/// Whether there are the two vertices that an edge has, and those that values mark as ends.
 fn has_ends(kind: Kind, n: u64, m: u64) -> bool
     ensures { result ≡ has_ends kind n m }
 {
-    n >= 2 || (m == 0 && kind != Kind::Path)
+    n >= 2 || (m == 0 && !marks_ends(kind))
+}
+
+/// Whether an instance of the kind and of this size can be made.
+fn is_made(kind: Kind, n: u64, m: u64) -> bool
+    ensures { result ≡ is_made kind n m }
+{
+    kind.is_drawn() && has_ends(kind, n, m)
 }
 
 /// The command that tries a made instance of the kind of this name.
@@ -56,7 +77,7 @@ pub fn read_trial(name: &str, start: &str, n: &str, m: &str) -> Option<Command>
     let start = read_natural(start, u64::MAX)?;
     let n = read_natural(n, u64::from(VERTEX_LIMIT))?;
     let m = read_natural(m, u64::from(EDGE_LIMIT))?;
-    if has_ends(kind, n, m) {
+    if is_made(kind, n, m) {
         Some(Command::Trial {
             kind,
             start,

@@ -24,7 +24,8 @@ fn has_form_of_three(a: &str, b: &str, c: &str) -> bool
 }
 
 fn has_form_of_five(a: &str, kind: &str, start: &str, n: &str, m: &str) -> bool
-    ensures { result ≡ after_name_form (a.now ∷ kind.now ∷ start.now ∷ n.now ∷ m.now ∷ []) }
+    ensures { result
+        ≡ after_name_form (a.now ∷ kind.now ∷ start.now ∷ n.now ∷ m.now ∷ []) }
 {
     a == "trial" && is_plain(kind) && is_plain(start) && is_plain(n) && is_plain(m)
 }

@@ -1,7 +1,11 @@
 //! Reads the words with `clap`.
-ghost use Rattle.std.specs.Prelude.{◌≡◌, ℕ, List, map, false, IfOk, Some, MatchOption, string_bytes, codes};
-ghost use Rattle.clap.specs.Words.{Row, app_of, new_app, rule_of, found_of, rows_of, subcommand_rows_of, with_subcommand};
-ghost use Rattle.command_words.specs.Program.{wanted, brief, solve, check, trial, program, subcommand_wanted, text_in, command_in, is_taken, found_in};
+ghost use Rattle.std.specs.Prelude.{◌≡◌, ℕ, List, map, false, IfOk, Some, MatchOption};
+ghost use Rattle.std.specs.Prelude.{string_bytes, codes};
+ghost use Rattle.clap.specs.Words.{Row, app_of, new_app, rule_of, found_of, rows_of};
+ghost use Rattle.clap.specs.Words.{subcommand_rows_of, with_subcommand};
+ghost use Rattle.command_words.specs.Program.{wanted, brief, solve, check, trial, program};
+ghost use Rattle.command_words.specs.Program.{subcommand_wanted, text_in, command_in, is_taken};
+ghost use Rattle.command_words.specs.Program.{found_in};
 
 use crate::command::{Command, read_check, read_solve, read_trial};
 use clap::error::ErrorKind;
@@ -118,7 +122,8 @@ fn command_in(name: &str, found: &ArgMatches<'_>) -> Option<Command>
 
 /// The command that was found.
 pub fn command_found(matches: &ArgMatches<'_>) -> Option<Command>
-    ensures { (name : List ℕ) (rows : List Row) → subcommand_rows_of matches.now ≡ Some (name, rows) → result ≡ command_in name rows }
+    ensures { (name : List ℕ) (rows : List Row) → subcommand_rows_of matches.now ≡ Some (name, rows)
+        → result ≡ command_in name rows }
 {
     match matches.subcommand() {
         Some((name, found)) => command_in(name, found),

@@ -20,9 +20,9 @@ fn read_words(alloc: Global, words: &[String]) -> Result<Option<Command>, OutOfM
     Ok(command_found(&matches))
 }
 
-/// The command that the words of a command line are, the program's name first; None where they are none.
-/// Taken are `solve KIND`, the same with `--brief` before or after the kind, `check KIND`, and
-/// `trial KIND START N M`, where the numbers are digits alone. An error is want of memory.
+/// The command that the words of a command line are, the program's name first; None where they are
+/// none. Taken are `solve KIND`, the same with `--brief` before or after the kind, `check KIND`,
+/// and `trial KIND START N M`, where the numbers are digits alone. An error is want of memory.
 pub fn read_command(alloc: Global, words: &Vec<String>) -> Result<Option<Command>, OutOfMemory>
     ensures exact { IfOk result (λ c. c ≡ command_of (map string_bytes words.now.items)) }
 

@@ -1,7 +1,8 @@
 ghost use Rattle.std.specs.Prelude.{◌≡◌, ◌≢◌, ◌≤◌, ◌≤ℤ◌, IfOk};
 ghost use Rattle.graph_theory.specs.Walk.{walk_weight};
+ghost use Rattle.mb_problem.specs.declared.kind.Measure.TheVariants.{Total};
 ghost use Rattle.mb_problem.specs.Network.{graph_of, vertices};
-ghost use Rattle.mb_problem.specs.Feasible.{IsWalkWith, weight_of};
+ghost use Rattle.mb_problem.specs.Feasible.{IsWalkWith, weight_by};
 ghost use Rattle.mb_problem.specs.Joins.{ListsJoin, odd_between, HasNoNegativeEvenSet};
 ghost use Rattle.conservative_paths.specs.Within.{IsPathWithin};
 
@@ -28,7 +29,7 @@ pub fn path_in(
     requires t { (1 ≤ t) × (t ≤ vertices instance.now) }
     requires join { ListsJoin instance.now (odd_between s t) join.now.edges }
     ensures path { IfOk result (IsWalkWith (λ start edges. IsPathWithin (graph_of instance.now) join.now.edges s t start edges) ⊥) }
-    ensures weighs { HasNoNegativeEvenSet instance.now → IfOk result (λ answer. weight_of instance.now answer ≤ℤ walk_weight (graph_of instance.now) join.now.edges) }
+    ensures weighs { HasNoNegativeEvenSet instance.now → IfOk result (λ answer. weight_by Total instance.now answer ≤ℤ walk_weight (graph_of instance.now) join.now.edges) }
 {
     let _ = t;
     let graph = instance.graph()?;

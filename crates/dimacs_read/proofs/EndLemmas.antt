@@ -1,22 +1,27 @@
 -- What the tests at the end answer, and the instance that lines without a fault hold.
-use Rattle.std.proofs.Common.{◌≡◌, ℕ, suc, ◌+◌, ◌-◌, ◌<◌, ◌≤◌, Bool, true, false, cond, eqb, List, [], ◌∷◌, length, take, get_or, map, Option, Some, None, refl, sym, ap, ap₂, subst, ◌∙◌, arith}
+use Rattle.std.proofs.Common.{◌≡◌, ℕ, suc, ◌+◌, ◌-◌, ◌<◌, ◌≤◌, Bool, true, false, cond, eqb, List, [], ◌∷◌, length, take, get_or, map, Option, Some, None, refl, sym, ap, ap₂, subst, ◌∙◌}
+use Rattle.std.proofs.Common.{arith}
 use Rattle.std.specs.Prelude.{count_by}
-use Rattle.std.specs.Option.{option_map}
+use Rattle.std.specs.Option.{option_map, option_or}
 use Rattle.std.proofs.lemmas.Bool.{eqb-true}
 use Rattle.std.proofs.lemmas.List.{take_all, length-map, get_or-map, ext_get_or}
 use Rattle.std.proofs.lemmas.List.Elements.{All-map}
 use Rattle.std.proofs.lemmas.List.FromFn.{get_or-map-range_with_len, length-map-range_with_len}
 use Rattle.mb_base.specs.Rows.{Row}
 use Rattle.mb_problem.specs.declared.kind.Kind.{Kind}
-use Rattle.mb_problem.specs.declared.kind.Kind.TheVariants.{Perfect, Match, BMatch, CapMatch, FFactor, TJoin, Postman, Path}
+use Rattle.mb_problem.specs.declared.kind.Need.{Need}
+use Rattle.mb_problem.specs.declared.kind.Need.TheVariants.{Unrestricted, WeightsFromZero, Ends, EndsAndWeightsFromZero}
+use Rattle.mb_problem.specs.declared.kind.VertexValue.{VertexValue}
+use Rattle.mb_problem.specs.declared.kind.VertexValue.TheVariants.{Unused, Degree, Parity, End}
 use Rattle.mb_problem.specs.declared.instance.InstanceEdge.{InstanceEdge}
 use Rattle.mb_problem.specs.Network.{IsNetwork, IsInstanceEdge}
 use Rattle.mb_problem.specs.declared.limits.TheConstants.{VALUE_LIMIT}
 use Rattle.dimacs_read.specs.declared.line.Header.{Header}
 use Rattle.dimacs_read.specs.declared.rule.Rule.TheVariants.{HeaderMissing, EdgeCount, Negative, PathEnds}
 use Rattle.dimacs_read.specs.declared.rule.Fault.{Fault}
-use Rattle.mb_problem.specs.Kinds.{default_value_of}
-use Rattle.dimacs_read.specs.Format.{Sizes, header_of, value_in, edges_of, values_of, value_or, first_place, is_negative, is_odd, kind_fault, end_fault, HoldsInstance}
+use Rattle.mb_problem.specs.Kinds.{default_value_of, default_by, vertex_value_of, need_of}
+use Rattle.dimacs_read.specs.Format.{Sizes, header_of, value_in, edges_of, values_of, value_or, first_place, is_negative, is_odd, negative_fault, ends_fault, need_fault, kind_fault}
+use Rattle.dimacs_read.specs.Format.{end_fault, HoldsInstance}
 use Rattle.dimacs_read.specs.Line.{sizes, sizes_of_header, FitsHeader, IsSmall, HasValues, HasFewVertices}
 use Rattle.dimacs_read.specs.Reading.{IsRead, kind_fault_from, end_fault_from}
 
@@ -45,7 +50,8 @@ first_place-within p (row ∷ rs) k e = place_step (p row) (first_place p rs) k 
 
 -- ---- a fault at the end stands on a line, or on the one after the last
 
-negative_place : (neg : Option ℕ) (lines : ℕ) (f : Fault) → ((k : ℕ) → neg ≡ Some k → k ≤ lines) → option_map (λ k. record { rule = Negative; place = k }) neg ≡ some_fault f → f.place ≤ lines
+negative_place : (neg : Option ℕ) (lines : ℕ) (f : Fault) → ((k : ℕ) → neg ≡ Some k → k ≤ lines) → option_map (λ k. record { rule = Negative; place = k }) neg ≡ some_fault f →
+    f.place ≤ lines
 negative_place None lines f h e = absurd cc
 negative_place (Some k) lines f h e = let is = fault_is (record { rule = Negative; place = k }) f e in let z : k ≡ f.place = ap (λ (x : Fault). x.place) is in omega (arith, z, h k refl)
 
@@ -53,23 +59,28 @@ ends_place : (b : Bool) (lines : ℕ) (f : Fault) → cond b None (some_fault (r
 ends_place true lines f e = absurd cc
 ends_place false lines f e = let z : lines ≡ f.place = ap (λ (x : Fault). x.place) (fault_is (record { rule = PathEnds; place = lines }) f e) in omega (arith, z)
 
-kind_place : (kind : Kind) (vs : List (Option ℕ)) (neg : Option ℕ) (lines : ℕ) (f : Fault) → ((k : ℕ) → neg ≡ Some k → k ≤ lines) → kind_fault_from kind vs neg lines ≡ some_fault f → f.place ≤ lines
-kind_place Perfect vs neg lines f h e = absurd cc
-kind_place Match vs neg lines f h e = absurd cc
-kind_place BMatch vs neg lines f h e = absurd cc
-kind_place CapMatch vs neg lines f h e = absurd cc
-kind_place FFactor vs neg lines f h e = absurd cc
-kind_place TJoin vs neg lines f h e = absurd cc
-kind_place Postman vs neg lines f h e = negative_place neg lines f h e
-kind_place Path vs neg lines f h e = ends_place (eqb (count_by is_odd (map (value_or 0) vs)) 2) lines f e
+either_place : (a b : Option Fault) (lines : ℕ) (f : Fault) → (a ≡ some_fault f → f.place ≤ lines) → (b ≡ some_fault f → f.place ≤ lines) → option_or a b ≡ some_fault f → f.place ≤ lines
+either_place None b lines f ha hb e = hb e
+either_place (Some a) b lines f ha hb e = ha e
 
-count_place : (b : Bool) (o : Option Fault) (lines : ℕ) (f : Fault) → (o ≡ some_fault f → f.place ≤ lines) → cond b o (some_fault (record { rule = EdgeCount; place = lines })) ≡ some_fault f → f.place ≤ lines
+need_place : (need : Need) (values : List ℕ) (neg : Option ℕ) (lines : ℕ) (f : Fault) → ((k : ℕ) → neg ≡ Some k → k ≤ lines) → need_fault need values neg lines ≡ some_fault f →
+    f.place ≤ lines
+need_place Unrestricted values neg lines f h e = absurd cc
+need_place WeightsFromZero values neg lines f h e = negative_place neg lines f h e
+need_place Ends values neg lines f h e = ends_place (eqb (count_by is_odd values) 2) lines f e
+need_place EndsAndWeightsFromZero values neg lines f h e =
+    either_place (negative_fault neg) (ends_fault values lines) lines f (negative_place neg lines f h) (ends_place (eqb (count_by is_odd values) 2) lines f) e
+
+count_place : (b : Bool) (o : Option Fault) (lines : ℕ) (f : Fault) → (o ≡ some_fault f → f.place ≤ lines) →
+    cond b o (some_fault (record { rule = EdgeCount; place = lines })) ≡ some_fault f → f.place ≤ lines
 count_place true o lines f h e = h e
 count_place false o lines f h e = let z : lines ≡ f.place = ap (λ (x : Fault). x.place) (fault_is (record { rule = EdgeCount; place = lines }) f e) in omega (arith, z)
 
-pub end_place : (kind : Kind) (s : Option Sizes) (vs : List (Option ℕ)) (count : ℕ) (neg : Option ℕ) (lines : ℕ) (f : Fault) → ((k : ℕ) → neg ≡ Some k → k ≤ lines) → end_fault_from kind s vs count neg lines ≡ some_fault f → f.place ≤ lines
+pub end_place : (kind : Kind) (s : Option Sizes) (vs : List (Option ℕ)) (count : ℕ) (neg : Option ℕ) (lines : ℕ) (f : Fault) → ((k : ℕ) → neg ≡ Some k → k ≤ lines) →
+    end_fault_from kind s vs count neg lines ≡ some_fault f → f.place ≤ lines
 end_place kind None vs count neg lines f h e = let z : lines ≡ f.place = ap (λ (x : Fault). x.place) (fault_is (record { rule = HeaderMissing; place = lines }) f e) in omega (arith, z)
-end_place kind (Some s) vs count neg lines f h e = count_place (eqb count s.edges) (kind_fault_from kind vs neg lines) lines f (kind_place kind vs neg lines f h) e
+end_place kind (Some s) vs count neg lines f h e =
+    count_place (eqb count s.edges) (kind_fault_from kind vs neg lines) lines f (need_place (need_of kind) (map (value_or (default_value_of kind)) vs) neg lines f h) e
 
 -- ---- without a fault at the end there is a header, and as many edges as it says
 
@@ -77,24 +88,22 @@ count_whole : (b : Bool) (o : Option Fault) (f : Fault) → cond b o (some_fault
 count_whole true o f e = refl
 count_whole false o f e = absurd cc
 
-pub end_whole : (kind : Kind) (h : Option Header) (vs : List (Option ℕ)) (count : ℕ) (neg : Option ℕ) (lines : ℕ) → end_fault_from kind (sizes h) vs count neg lines ≡ None → (g : Header) × (h ≡ Some g) × (count ≡ g.edges)
+pub end_whole : (kind : Kind) (h : Option Header) (vs : List (Option ℕ)) (count : ℕ) (neg : Option ℕ) (lines : ℕ) → end_fault_from kind (sizes h) vs count neg lines ≡ None →
+    (g : Header) × (h ≡ Some g) × (count ≡ g.edges)
 end_whole kind None vs count neg lines e = absurd cc
-end_whole kind (Some g) vs count neg lines e = (g, refl, eqb-true count g.edges (count_whole (eqb count g.edges) (kind_fault_from kind vs neg lines) (record { rule = EdgeCount; place = lines }) e))
+end_whole kind (Some g) vs count neg lines e =
+    (g, refl, eqb-true count g.edges (count_whole (eqb count g.edges) (kind_fault_from kind vs neg lines) (record { rule = EdgeCount; place = lines }) e))
 
 -- ---- all lines
 
-default_small : (kind : Kind) → default_value_of kind ≤ VALUE_LIMIT
-default_small Perfect = omega arith
-default_small Match = omega arith
-default_small BMatch = omega arith
-default_small CapMatch = omega arith
-default_small FFactor = omega arith
-default_small TJoin = omega arith
-default_small Postman = omega arith
-default_small Path = omega arith
+default_small : (value : VertexValue) → default_by value ≤ VALUE_LIMIT
+default_small Unused = omega arith
+default_small Degree = omega arith
+default_small Parity = omega arith
+default_small End = omega arith
 
 small_value : (kind : Kind) (o : Option ℕ) → IsSmall o → value_or (default_value_of kind) o ≤ VALUE_LIMIT
-small_value kind None h = default_small kind
+small_value kind None h = default_small (vertex_value_of kind)
 small_value kind (Some b) h = h
 
 module _ (rs : List Row) (h : Option Header) (vs : List (Option ℕ)) (es : List InstanceEdge) (neg : Option ℕ) (so_far : IsRead rs (length rs) h vs es neg) where
@@ -129,14 +138,7 @@ module _ (rs : List Row) (h : Option Header) (vs : List (Option ℕ)) (es : List
       one_value default i short ∙ sym (get_or-map-range_with_len (λ v. value_or default (value_in rs v)) 1 n i (i + 1) 0 (omega (arith, short, len)) (omega arith)))
 
   kind_same : (kind : Kind) (n : ℕ) → length vs ≡ n → kind_fault_from kind vs neg (length rs) ≡ kind_fault kind n rs
-  kind_same Perfect n len = refl
-  kind_same Match n len = refl
-  kind_same BMatch n len = refl
-  kind_same CapMatch n len = refl
-  kind_same FFactor n len = refl
-  kind_same TJoin n len = refl
-  kind_same Postman n len = ap (option_map (λ k. record { rule = Negative; place = k })) all_negative
-  kind_same Path n len = ap (λ (xs : List ℕ). cond (eqb (count_by is_odd xs) 2) None (some_fault (record { rule = PathEnds; place = length rs }))) (all_values 0 n len)
+  kind_same kind n len = ap₂ (λ (values : List ℕ) (first : Option ℕ). need_fault (need_of kind) values first (length rs)) (all_values (default_value_of kind) n len) all_negative
 
   header_count : (g : Header) → h ≡ Some g → length vs ≡ g.vertices
   header_count g e = subst (λ (x : Option Header). HasValues x (length vs)) e so_far.room
@@ -160,7 +162,8 @@ module _ (rs : List Row) (h : Option Header) (vs : List (Option ℕ)) (es : List
         values = All-map (λ b. b ≤ VALUE_LIMIT) (value_or (default_value_of kind)) vs (λ j d lt. small_value kind (get_or vs j d) (so_far.small j d lt));
       }
 
-  pub holds : (kind : Kind) (g : Header) → h ≡ Some g → end_fault_from kind (sizes h) vs (length es) neg (length rs) ≡ None → HoldsInstance kind rs (record { edges = es; values = map (value_or (default_value_of kind)) vs })
+  pub holds : (kind : Kind) (g : Header) → h ≡ Some g → end_fault_from kind (sizes h) vs (length es) neg (length rs) ≡ None →
+      HoldsInstance kind rs (record { edges = es; values = map (value_or (default_value_of kind)) vs })
   holds kind g e none =
       let header : header_of rs ≡ Some (sizes_of_header g) = sym all_header ∙ ap sizes e in
       record {

@@ -41,7 +41,8 @@ one_fault kind rs p q m n (j, e, inr a) (k, f, inr b) = let t = two_ends kind rs
 
 pub no_instance_and_fault : NoInstanceAndFault
 no_instance_and_fault kind rs i rule line h (k, e, inl a) = not_faultless (fault_at rs k) rule a.fault (h.faultless k a.there)
-no_instance_and_fault kind rs i rule line h (k, e, inr a) = not_faultless (end_fault kind (header_of rs) rs) (record { rule = rule; place = k }) a.fault (ap (λ (s : Option Sizes). end_fault kind s rs) h.header_is ∙ h.whole)
+no_instance_and_fault kind rs i rule line h (k, e, inr a) =
+    not_faultless (end_fault kind (header_of rs) rs) (record { rule = rule; place = k }) a.fault (ap (λ (s : Option Sizes). end_fault kind s rs) h.header_is ∙ h.whole)
 
 same_network : (i j : Network) → i.edges ≡ j.edges → i.values ≡ j.values → i ≡ j
 same_network i j e f = ap₂ (λ (es : List InstanceEdge) (vs : List ℕ). record { edges = es; values = vs }) e f
@@ -53,7 +54,8 @@ one_instance kind rs i j a b =
 
 -- ---- the first n lines have no fault, or one of them is the first that has
 
-one_more : (rs : List Row) (n : ℕ) (o : Option Rule) → fault_at rs n ≡ o → NoFaultBelow rs n → NoFaultBelow rs (suc n) ⊎ ((k : ℕ) × (rule : Rule) × (k < suc n) × (fault_at rs k ≡ Some rule) × NoFaultBelow rs k)
+one_more : (rs : List Row) (n : ℕ) (o : Option Rule) → fault_at rs n ≡ o → NoFaultBelow rs n →
+    NoFaultBelow rs (suc n) ⊎ ((k : ℕ) × (rule : Rule) × (k < suc n) × (fault_at rs k ≡ Some rule) × NoFaultBelow rs k)
 one_more rs n None e below = inl (λ j lt. elim (cases_eq j n) [
   | inl same ↦ ap (fault_at rs) same ∙ e
   | inr other ↦ below j (omega (arith, other, lt))
@@ -68,11 +70,13 @@ search_first rs (suc n) =
       | inr r ↦ inr (r.0, r.1, omega (arith, r.2), r.3, r.4)
     ]
 
-at_end : (kind : Kind) (rs : List Row) (s : Sizes) (o : Option Fault) → NoFaultBelow rs (length rs) → header_of rs ≡ Some s → end_fault kind (Some s) rs ≡ o → ((i : Network) × HoldsInstance kind rs i) ⊎ ((rule : Rule) × (line : ℕ) × IsFirstFault kind rs rule line)
+at_end : (kind : Kind) (rs : List Row) (s : Sizes) (o : Option Fault) → NoFaultBelow rs (length rs) → header_of rs ≡ Some s → end_fault kind (Some s) rs ≡ o →
+    ((i : Network) × HoldsInstance kind rs i) ⊎ ((rule : Rule) × (line : ℕ) × IsFirstFault kind rs rule line)
 at_end kind rs s None below e end = inl (record { edges = edges_of rs; values = values_of (default_value_of kind) s.vertices rs }, record { faultless = below; header = s; header_is = e; whole = end; edges_are = refl; values_are = refl })
 at_end kind rs s (Some f) below e end = inr (f.rule, f.place + 1, (f.place, refl, inr (record { faultless = below; fault = ap (λ (h : Option Sizes). end_fault kind h rs) e ∙ end })))
 
-by_header : (kind : Kind) (rs : List Row) (h : Option Sizes) → NoFaultBelow rs (length rs) → header_of rs ≡ h → ((i : Network) × HoldsInstance kind rs i) ⊎ ((rule : Rule) × (line : ℕ) × IsFirstFault kind rs rule line)
+by_header : (kind : Kind) (rs : List Row) (h : Option Sizes) → NoFaultBelow rs (length rs) → header_of rs ≡ h →
+    ((i : Network) × HoldsInstance kind rs i) ⊎ ((rule : Rule) × (line : ℕ) × IsFirstFault kind rs rule line)
 by_header kind rs None below e = inr (HeaderMissing, length rs + 1, (length rs, refl, inr (record { faultless = below; fault = ap (λ (h : Option Sizes). end_fault kind h rs) e })))
 by_header kind rs (Some s) below e = at_end kind rs s (end_fault kind (Some s) rs) below e refl
 

@@ -1,20 +1,23 @@
 -- What an instance has that passes the tests of its kind.
-use Rattle.std.proofs.Common.{◌≡◌, ℕ, zero, suc, ◌+◌, ◌-◌, ◌<◌, ◌≤◌, ◌%◌, ◌⊎◌, Bool, true, false, cond, eqb, List, [], ◌∷◌, length, get_or, map, filter, All, Option, Some, None, ℤ, pos, negsuc, ◌≤ℤ◌, refl, sym, ap, subst, ◌∙◌, arith, rules, inl, inr}
+use Rattle.std.proofs.Common.{◌≡◌, ℕ, zero, suc, ◌+◌, ◌-◌, ◌<◌, ◌≤◌, ◌%◌, ◌⊎◌, Bool, true, false, cond, eqb, List, [], ◌∷◌, length, get_or, map, filter, All, Option, Some, None, ℤ, pos}
+use Rattle.std.proofs.Common.{negsuc, ◌≤ℤ◌, refl, sym, ap, subst, ◌∙◌, arith, rules, inl, inr}
 use Rattle.std.specs.Prelude.{count_by, int_lt, ◌&&◌}
-use Rattle.std.specs.Option.{option_map}
+use Rattle.std.specs.Option.{option_map, option_or}
 use Rattle.std.proofs.lemmas.Bool.{eqb-true, eq-eqb}
 use Rattle.std.proofs.lemmas.List.Elements.{All-nil, All-cons}
 use Rattle.std.proofs.lemmas.List.Sums.{sum_by-cons}
 use Rattle.mb_base.specs.Rows.{Row}
 use Rattle.mb_problem.specs.declared.kind.Kind.{Kind}
-use Rattle.mb_problem.specs.declared.kind.Kind.TheVariants.{Perfect, Match, BMatch, CapMatch, FFactor, TJoin, Postman, Path}
+use Rattle.mb_problem.specs.declared.kind.Need.{Need}
+use Rattle.mb_problem.specs.declared.kind.Need.TheVariants.{Unrestricted, WeightsFromZero, Ends, EndsAndWeightsFromZero}
+use Rattle.mb_problem.specs.Kinds.{need_of}
+use Rattle.mb_problem.specs.Ready.{HasWeightsFromZero, HasEnds, HasWeightsBy, HasEndsBy, IsReady}
 use Rattle.mb_problem.specs.declared.instance.InstanceEdge.{InstanceEdge}
 use Rattle.mb_problem.specs.Network.{Network, vertices, value_of}
 use Rattle.dimacs_read.specs.declared.rule.Rule.TheVariants.{EdgeCount, Negative, PathEnds}
 use Rattle.dimacs_read.specs.declared.rule.Fault.{Fault}
 use Rattle.dimacs_read.specs.Rows.{is_edge}
-use Rattle.dimacs_read.specs.Format.{edge_of, edges_of, values_of, first_place, is_negative, is_odd, kind_fault, HoldsInstance}
-use Rattle.dimacs_read.specs.Ready.{IsPathReady, IsReady}
+use Rattle.dimacs_read.specs.Format.{edge_of, edges_of, first_place, is_negative, is_odd, negative_fault, ends_fault, need_fault, kind_fault, HoldsInstance}
 
 -- ---- weights
 
@@ -30,7 +33,8 @@ not_below (negsuc n) e = absurd cc
 negative_edge : (row : Row) → is_edge row ≡ true → is_negative row ≡ false → int_lt (edge_of row).w (pos 0) ≡ false
 negative_edge row e h = ap (λ (c : Bool). c && int_lt (edge_of row).w (pos 0)) (sym e) ∙ h
 
-weight_grows : (b : Bool) (row : Row) (rs : List Row) → is_edge row ≡ b → is_negative row ≡ false → All (λ e. pos 0 ≤ℤ e.w) (edges_of rs) → All (λ e. pos 0 ≤ℤ e.w) (map edge_of (cond b (row ∷ filter is_edge rs) (filter is_edge rs)))
+weight_grows : (b : Bool) (row : Row) (rs : List Row) → is_edge row ≡ b → is_negative row ≡ false → All (λ e. pos 0 ≤ℤ e.w) (edges_of rs) →
+    All (λ e. pos 0 ≤ℤ e.w) (map edge_of (cond b (row ∷ filter is_edge rs) (filter is_edge rs)))
 weight_grows true row rs e h all = All-cons (λ (d : InstanceEdge). pos 0 ≤ℤ d.w) (edge_of row) (edges_of rs) (not_below (edge_of row).w (negative_edge row e h)) all
 weight_grows false row rs e h all = all
 
@@ -53,7 +57,8 @@ module _ (p : ℕ → Bool) where
   PassesOnce xs = (i : ℕ) × (i < length xs) × (p (get_or xs i 0) ≡ true) × ((k : ℕ) → k < length xs → p (get_or xs k 0) ≡ true → k ≡ i)
 
   abbrev PassesTwice : List ℕ → Type 0
-  PassesTwice xs = (i : ℕ) × (j : ℕ) × (i < j) × (j < length xs) × (p (get_or xs i 0) ≡ true) × (p (get_or xs j 0) ≡ true) × ((k : ℕ) → k < length xs → p (get_or xs k 0) ≡ true → (k ≡ i) ⊎ (k ≡ j))
+  PassesTwice xs =
+      (i : ℕ) × (j : ℕ) × (i < j) × (j < length xs) × (p (get_or xs i 0) ≡ true) × (p (get_or xs j 0) ≡ true) × ((k : ℕ) → k < length xs → p (get_or xs k 0) ≡ true → (k ≡ i) ⊎ (k ≡ j))
 
   nowhere_later : (x : ℕ) (xs : List ℕ) → p x ≡ false → PassesNowhere xs → PassesNowhere (x ∷ xs)
   nowhere_later x xs e none zero lt passes = absurd cc
@@ -63,11 +68,13 @@ module _ (p : ℕ → Bool) where
   once_here x xs none zero lt passes = refl
   once_here x xs none (suc k) lt passes = absurd (none k (omega (arith, lt)) passes)
 
-  once_later : (x : ℕ) (xs : List ℕ) (i : ℕ) → p x ≡ false → ((k : ℕ) → k < length xs → p (get_or xs k 0) ≡ true → k ≡ i) → (k : ℕ) → k < suc (length xs) → p (get_or (x ∷ xs) k 0) ≡ true → k ≡ suc i
+  once_later : (x : ℕ) (xs : List ℕ) (i : ℕ) → p x ≡ false → ((k : ℕ) → k < length xs → p (get_or xs k 0) ≡ true → k ≡ i) → (k : ℕ) → k < suc (length xs) → p (get_or (x ∷ xs) k 0) ≡ true →
+      k ≡ suc i
   once_later x xs i e only zero lt passes = absurd cc
   once_later x xs i e only (suc k) lt passes = ap (λ (n : ℕ). suc n) (only k (omega (arith, lt)) passes)
 
-  twice_here : (x : ℕ) (xs : List ℕ) (i : ℕ) → ((k : ℕ) → k < length xs → p (get_or xs k 0) ≡ true → k ≡ i) → (k : ℕ) → k < suc (length xs) → p (get_or (x ∷ xs) k 0) ≡ true → (k ≡ 0) ⊎ (k ≡ suc i)
+  twice_here : (x : ℕ) (xs : List ℕ) (i : ℕ) → ((k : ℕ) → k < length xs → p (get_or xs k 0) ≡ true → k ≡ i) → (k : ℕ) → k < suc (length xs) → p (get_or (x ∷ xs) k 0) ≡ true →
+      (k ≡ 0) ⊎ (k ≡ suc i)
   twice_here x xs i only zero lt passes = inl refl
   twice_here x xs i only (suc k) lt passes = inr (ap (λ (n : ℕ). suc n) (only k (omega (arith, lt)) passes))
 
@@ -75,7 +82,8 @@ module _ (p : ℕ → Bool) where
   shifted k i j (inl e) = inl (ap (λ (n : ℕ). suc n) e)
   shifted k i j (inr e) = inr (ap (λ (n : ℕ). suc n) e)
 
-  twice_later : (x : ℕ) (xs : List ℕ) (i j : ℕ) → p x ≡ false → ((k : ℕ) → k < length xs → p (get_or xs k 0) ≡ true → (k ≡ i) ⊎ (k ≡ j)) → (k : ℕ) → k < suc (length xs) → p (get_or (x ∷ xs) k 0) ≡ true → (k ≡ suc i) ⊎ (k ≡ suc j)
+  twice_later : (x : ℕ) (xs : List ℕ) (i j : ℕ) → p x ≡ false → ((k : ℕ) → k < length xs → p (get_or xs k 0) ≡ true → (k ≡ i) ⊎ (k ≡ j)) → (k : ℕ) → k < suc (length xs) →
+      p (get_or (x ∷ xs) k 0) ≡ true → (k ≡ suc i) ⊎ (k ≡ suc j)
   twice_later x xs i j e only zero lt passes = absurd cc
   twice_later x xs i j e only (suc k) lt passes = shifted k i j (only k (omega (arith, lt)) passes)
 
@@ -114,7 +122,7 @@ module _ (p : ℕ → Bool) where
   passes_twice [] e = absurd cc
   passes_twice (x ∷ xs) e = twice_step x xs (p x) refl e (passes_twice xs)
 
--- ---- the ends of a path
+-- ---- the two ends
 
 end_places : (v i j : ℕ) → 1 ≤ v → (v - 1 ≡ i) ⊎ (v - 1 ≡ j) → (v ≡ i + 1) ⊎ (v ≡ j + 1)
 end_places v i j low (inl e) = inl (omega (arith, low, e))
@@ -126,14 +134,12 @@ odd_end i k v lt odd e =
     let value : get_or i.values k 0 % 2 ≡ 1 = eqb-true (get_or i.values k 0 % 2) 1 odd in
     (omega (arith, e), omega (arith, e, lt), ap (λ (n : ℕ). get_or i.values n 0 % 2) back ∙ value)
 
-path_ends : (i : Network) → count_by is_odd i.values ≡ 2 → IsPathReady i
-path_ends i e =
-    let two = passes_twice is_odd i.values e in
-    record {
-      odd_values = e;
-      s = two.0 + 1;
-      t = two.1 + 1;
-      ends = record {
+two_ends : (i : Network) → count_by is_odd i.values ≡ 2 → HasEnds i
+two_ends i e =
+    let two = passes_twice is_odd i.values e in (
+      two.0 + 1,
+      two.1 + 1,
+      record {
         order = omega (arith, two.2);
         exact = λ v. (
           λ given. end_places v two.0 two.1 given.0 (two.6 (v - 1) (omega (arith, given.0, given.1)) (eq-eqb (value_of i v % 2) 1 given.2)),
@@ -142,8 +148,8 @@ path_ends i e =
             | inr second ↦ odd_end i two.1 v two.3 two.5 second
           ],
         );
-      };
-    }
+      },
+    )
 
 -- ---- an instance that passes the tests of its kind
 
@@ -162,17 +168,38 @@ no_negative : (o : Option ℕ) → option_map (λ k. record { rule = Negative; p
 no_negative None e = refl
 no_negative (Some k) e = absurd cc
 
+neither : (a b : Option Fault) → option_or a b ≡ no_fault → (a ≡ None) × (b ≡ None)
+neither None b e = (refl, e)
+neither (Some f) b e = absurd cc
+
+-- ---- what a need asks is there where its tests find no fault
+
+module _ (i : Network) (rs : List Row) (lines : ℕ) (edges_are : i.edges ≡ edges_of rs) where
+  from_zero : negative_fault (first_place is_negative rs) ≡ None → HasWeightsFromZero i
+  from_zero e = subst (λ (es : List InstanceEdge). All (λ (d : InstanceEdge). pos 0 ≤ℤ d.w) es) (sym edges_are) (weights_ready rs (no_negative (first_place is_negative rs) e))
+
+  ends_there : ends_fault i.values lines ≡ None → HasEnds i
+  ends_there e = two_ends i (eqb-true (count_by is_odd i.values) 2 (ends_pass (eqb (count_by is_odd i.values) 2) (record { rule = PathEnds; place = lines }) e))
+
+  weights_there : (need : Need) → need_fault need i.values (first_place is_negative rs) lines ≡ None → HasWeightsBy need i
+  weights_there Unrestricted e = tt
+  weights_there WeightsFromZero e = from_zero e
+  weights_there Ends e = tt
+  weights_there EndsAndWeightsFromZero e = from_zero (neither (negative_fault (first_place is_negative rs)) (ends_fault i.values lines) e).0
+
+  needed_ends : (need : Need) → need_fault need i.values (first_place is_negative rs) lines ≡ None → HasEndsBy need i
+  needed_ends Unrestricted e = tt
+  needed_ends WeightsFromZero e = tt
+  needed_ends Ends e = ends_there e
+  needed_ends EndsAndWeightsFromZero e = ends_there (neither (negative_fault (first_place is_negative rs)) (ends_fault i.values lines) e).1
+
 passes_kind : (kind : Kind) (rs : List Row) (i : Network) (h : HoldsInstance kind rs i) → kind_fault kind h.header.vertices rs ≡ None
 passes_kind kind rs i h = count_passes (eqb (length (edges_of rs)) h.header.edges) (kind_fault kind h.header.vertices rs) (record { rule = EdgeCount; place = length rs }) h.whole
 
 pub is_ready : (kind : Kind) (rs : List Row) (i : Network) → HoldsInstance kind rs i → IsReady kind i
-is_ready Perfect rs i h = tt
-is_ready Match rs i h = tt
-is_ready BMatch rs i h = tt
-is_ready CapMatch rs i h = tt
-is_ready FFactor rs i h = tt
-is_ready TJoin rs i h = tt
-is_ready Postman rs i h = subst (λ (es : List InstanceEdge). All (λ e. pos 0 ≤ℤ e.w) es) (sym h.edges_are) (weights_ready rs (no_negative (first_place is_negative rs) (passes_kind Postman rs i h)))
-is_ready Path rs i h =
-    let passes = ends_pass (eqb (count_by is_odd (values_of 0 h.header.vertices rs)) 2) (record { rule = PathEnds; place = length rs }) (passes_kind Path rs i h) in
-    path_ends i (ap (count_by is_odd) h.values_are ∙ eqb-true (count_by is_odd (values_of 0 h.header.vertices rs)) 2 passes)
+is_ready kind rs i h =
+    let passes = ap (λ (values : List ℕ). need_fault (need_of kind) values (first_place is_negative rs) (length rs)) h.values_are ∙ passes_kind kind rs i h in
+    record {
+      weights = weights_there i rs (length rs) h.edges_are (need_of kind) passes;
+      ends = needed_ends i rs (length rs) h.edges_are (need_of kind) passes;
+    }

@@ -1,5 +1,6 @@
 -- One line more.
-use Rattle.std.proofs.Common.{◌-◌, zero, suc, eqb, replicate, ◌≡◌, ℕ, ◌+◌, ◌≤◌, Bool, true, false, List, [], ◌∷◌, ◌++◌, length, take, drop, get_or, map, filter, Option, Some, None, refl, sym, ap, subst, ◌∙◌, arith}
+use Rattle.std.proofs.Common.{◌-◌, zero, suc, eqb, replicate, ◌≡◌, ℕ, ◌+◌, ◌≤◌, Bool, true, false, List, [], ◌∷◌, ◌++◌, length, take, drop, get_or, map, filter, Option, Some, None, refl}
+use Rattle.std.proofs.Common.{sym, ap, subst, ◌∙◌, arith}
 use Rattle.std.proofs.Common.{inl, inr, cond}
 use Rattle.std.specs.List.{find}
 use Rattle.std.proofs.lemmas.Bool.{and_right, cases_eq, eqb-true, eq-eqb, ne_eqb}
@@ -15,7 +16,8 @@ use Rattle.mb_problem.specs.declared.instance.InstanceEdge.{InstanceEdge}
 use Rattle.mb_base.specs.Rows.{Row, rows, is_skipped}
 use Rattle.mb_base.proofs.RowLemmas.{next_row}
 use Rattle.dimacs_read.specs.Rows.{is_header, is_edge, is_node, is_solution, instance_rows}
-use Rattle.dimacs_read.specs.Format.{value_in, names, natural_at, fault_of, header_at, edge_at, node_at, Sizes, header_of, sizes_in, edges_of, edge_of, fault_at, line_fault, NoFaultBelow, IsFirstFaulty, first_place, is_negative}
+use Rattle.dimacs_read.specs.Format.{value_in, names, natural_at, fault_of, header_at, edge_at, node_at, Sizes, header_of, sizes_in, edges_of, edge_of, fault_at, line_fault, NoFaultBelow}
+use Rattle.dimacs_read.specs.Format.{IsFirstFaulty, first_place, is_negative}
 use Rattle.std.specs.Prelude.{Result, Ok, Err}
 use Rattle.std.proofs.lemmas.List.{length-drop, length-replicate, length-set, nil_from_length, get_or-set_same, get_or-set_other}
 use Rattle.mb_base.specs.Text.{lines, fields}
@@ -95,13 +97,15 @@ no_values (Some g) count e room = absurd cc
 abbrev named_in : List Row → ℕ → Bool
 named_in earlier v = is_some (value_in earlier v)
 
-marked_nodes : (h : Option Header) (values : List (Option ℕ)) (earlier : List Row) (row : Row) → ((v : ℕ) → 1 ≤ v → get_or values (v - 1) None ≡ value_in earlier v) → node_at (sizes h) (is_valued values) row ≡ node_at (sizes h) (named_in earlier) row
+marked_nodes : (h : Option Header) (values : List (Option ℕ)) (earlier : List Row) (row : Row) → ((v : ℕ) → 1 ≤ v → get_or values (v - 1) None ≡ value_in earlier v) →
+    node_at (sizes h) (is_valued values) row ≡ node_at (sizes h) (named_in earlier) row
 unfolding node_at
 marked_nodes None values earlier row are = refl
 marked_nodes (Some g) values earlier row are = node_at-same (sizes_of_header g) (is_valued values) (named_in earlier) row (λ v low high. ap is_some (are v low))
 
 -- a vertex that the code has marked is one that an earlier line names
-same_marks : (h : Option Header) (values : List (Option ℕ)) (earlier : List Row) (row : Row) → ((v : ℕ) → 1 ≤ v → get_or values (v - 1) None ≡ value_in earlier v) → line_fault (sizes h) (is_valued values) row ≡ line_fault (sizes h) (named_in earlier) row
+same_marks : (h : Option Header) (values : List (Option ℕ)) (earlier : List Row) (row : Row) → ((v : ℕ) → 1 ≤ v → get_or values (v - 1) None ≡ value_in earlier v) →
+    line_fault (sizes h) (is_valued values) row ≡ line_fault (sizes h) (named_in earlier) row
 same_marks h values earlier row are =
     ap (λ (r : Result Node Rule). cond (is_skipped row) None (cond (is_header row) (fault_of (header_at (sizes h) row)) (cond (is_edge row) (fault_of (edge_at (sizes h) row)) (cond (is_node row) (fault_of r) (Some UnknownLine))))) (marked_nodes h values earlier row are)
 
@@ -138,7 +142,9 @@ module _ (rs : List Row) (k : ℕ) (row : Row) (more : List Row) (at : drop k rs
   values_stay h v = ap (λ (r : List Row). value_in r v) took ∙ ap (option_map (λ (r : Row). natural_at r 2)) (find_push-no (names v) (take k rs) row (rw h refl))
 
   values_other : (v : ℕ) → (natural_at row 1 ≡ v → ⊥) → value_in (take (k + 1) rs) v ≡ value_in (take k rs) v
-  values_other v ne = ap (λ (r : List Row). value_in r v) took ∙ ap (option_map (λ (r : Row). natural_at r 2)) (find_push-no (names v) (take k rs) row (and_right (is_node row) (eqb (natural_at row 1) v) (ne_eqb (natural_at row 1) v ne)))
+  values_other v ne =
+      ap (λ (r : List Row). value_in r v) took
+      ∙ ap (option_map (λ (r : Row). natural_at r 2)) (find_push-no (names v) (take k rs) row (and_right (is_node row) (eqb (natural_at row 1) v) (ne_eqb (natural_at row 1) v ne)))
 
   values_here : is_node row ≡ true → value_in (take k rs) (natural_at row 1) ≡ None → value_in (take (k + 1) rs) (natural_at row 1) ≡ Some (natural_at row 2)
   values_here h none =
@@ -219,7 +225,8 @@ edge_negative : (row : Row) (e : InstanceEdge) → is_edge row ≡ true → edge
 edge_negative row e h is = rw h (ap (λ (x : InstanceEdge). int_lt x.w (pos 0)) is)
 
 module _ (rs : List Row) (k : ℕ) (row : Row) (more : List Row) (at : drop k rs ≡ row ∷ more) where
-  faultless_more : (h : Option Header) (vs : List (Option ℕ)) (es : List InstanceEdge) (neg : Option ℕ) → IsRead rs k h vs es neg → line_fault (sizes h) (is_valued vs) (take 6 row) ≡ None → NoFaultBelow rs (k + 1)
+  faultless_more : (h : Option Header) (vs : List (Option ℕ)) (es : List InstanceEdge) (neg : Option ℕ) → IsRead rs k h vs es neg → line_fault (sizes h) (is_valued vs) (take 6 row) ≡ None →
+      NoFaultBelow rs (k + 1)
   faultless_more h vs es neg so_far none = no_fault_more rs k row more at (sizes h) so_far.header_is (sym (same_marks h vs (take k rs) row so_far.values_are) ∙ sym (six_fault (sizes h) (is_valued vs) row) ∙ none) so_far.faultless
 
   negative_more : (neg : Option ℕ) → neg ≡ first_place is_negative (take k rs) → first_place is_negative (take (k + 1) rs) ≡ or_here neg (is_negative row) k
@@ -231,7 +238,8 @@ module _ (rs : List Row) (k : ℕ) (row : Row) (more : List Row) (at : drop k rs
   negative_stays : (neg : Option ℕ) → neg ≡ first_place is_negative (take k rs) → is_edge row ≡ false → neg ≡ first_place is_negative (take (k + 1) rs)
   negative_stays neg e h = sym (negative_more neg e ∙ ap (λ (b : Bool). or_here neg b k) (no_edge_negative row h) ∙ negative_no neg k)
 
-  pub goes_on : (h : Option Header) (vs : List (Option ℕ)) (es : List InstanceEdge) (neg : Option ℕ) (l : Line) → IsRead rs k h vs es neg → GivesLine h (is_valued vs) (length vs) (take 6 row) (Ok l) → IsRead rs (k + 1) (header_after h l) (values_after vs l) (edges_after es l) (negative_after neg l k)
+  pub goes_on : (h : Option Header) (vs : List (Option ℕ)) (es : List InstanceEdge) (neg : Option ℕ) (l : Line) → IsRead rs k h vs es neg →
+      GivesLine h (is_valued vs) (length vs) (take 6 row) (Ok l) → IsRead rs (k + 1) (header_after h l) (values_after vs l) (edges_after es l) (negative_after neg l k)
   goes_on h vs es neg line.Skipped so_far given =
       let kind = skipped_kind row (sym (is_skipped-six row) ∙ given.1) in
       record {
@@ -300,7 +308,8 @@ module _ (rs : List Row) (k : ℕ) (row : Row) (more : List Row) (at : drop k rs
         small = All-set IsSmall vs (node.vertex - 1) (Some node.value) given.1.6 so_far.small;
       }
 
-  pub stops : (h : Option Header) (vs : List (Option ℕ)) (es : List InstanceEdge) (neg : Option ℕ) (rule : Rule) → IsRead rs k h vs es neg → GivesLine h (is_valued vs) (length vs) (take 6 row) (Err rule) → IsFirstFaulty rs rule k
+  pub stops : (h : Option Header) (vs : List (Option ℕ)) (es : List InstanceEdge) (neg : Option ℕ) (rule : Rule) → IsRead rs k h vs es neg →
+      GivesLine h (is_valued vs) (length vs) (take 6 row) (Err rule) → IsFirstFaulty rs rule k
   stops h vs es neg rule so_far given = faulty_here rs k row more at (sizes h) rule so_far.header_is (sym (same_marks h vs (take k rs) row so_far.values_are) ∙ sym (six_fault (sizes h) (is_valued vs) row) ∙ given) so_far.faultless
 
   pub within_more : k + 1 ≤ length rs
@@ -315,11 +324,15 @@ instance_turn row more h = rw h refl
 instance_end : (row : Row) (more : List Row) → is_solution row ≡ true → instance_rows (row ∷ more) ≡ []
 instance_end row more h = rw h refl
 
-pub turn_at : (rs : List Row) (k : ℕ) (rest text after : List ℕ) (six : Row) → drop k rs ≡ instance_rows (rows rest) → lines rest ≡ text ∷ lines after → six ≡ take 6 (fields text) → is_solution six ≡ false → drop k rs ≡ fields text ∷ instance_rows (rows after)
-turn_at rs k rest text after six left e s h = left ∙ ap (λ (ls : List (List ℕ)). instance_rows (map fields ls)) e ∙ instance_turn (fields text) (rows after) (sym (is_solution-six (fields text)) ∙ ap is_solution (sym s) ∙ h)
+pub turn_at : (rs : List Row) (k : ℕ) (rest text after : List ℕ) (six : Row) → drop k rs ≡ instance_rows (rows rest) → lines rest ≡ text ∷ lines after → six ≡ take 6 (fields text) →
+    is_solution six ≡ false → drop k rs ≡ fields text ∷ instance_rows (rows after)
+turn_at rs k rest text after six left e s h =
+    left ∙ ap (λ (ls : List (List ℕ)). instance_rows (map fields ls)) e ∙ instance_turn (fields text) (rows after) (sym (is_solution-six (fields text)) ∙ ap is_solution (sym s) ∙ h)
 
-pub end_at : (rs : List Row) (k : ℕ) (rest text after : List ℕ) (six : Row) → drop k rs ≡ instance_rows (rows rest) → lines rest ≡ text ∷ lines after → six ≡ take 6 (fields text) → is_solution six ≡ true → drop k rs ≡ []
-end_at rs k rest text after six left e s h = left ∙ ap (λ (ls : List (List ℕ)). instance_rows (map fields ls)) e ∙ instance_end (fields text) (rows after) (sym (is_solution-six (fields text)) ∙ ap is_solution (sym s) ∙ h)
+pub end_at : (rs : List Row) (k : ℕ) (rest text after : List ℕ) (six : Row) → drop k rs ≡ instance_rows (rows rest) → lines rest ≡ text ∷ lines after → six ≡ take 6 (fields text) →
+    is_solution six ≡ true → drop k rs ≡ []
+end_at rs k rest text after six left e s h =
+    left ∙ ap (λ (ls : List (List ℕ)). instance_rows (map fields ls)) e ∙ instance_end (fields text) (rows after) (sym (is_solution-six (fields text)) ∙ ap is_solution (sym s) ∙ h)
 
 -- ---- the end of the lines
 

@@ -1,16 +1,18 @@
 -- Which line of an instance is at fault, by which rule, and what instance the lines hold.
-use Rattle.std.specs.Prelude.{Bool, ◌≡◌, ℕ, suc, ◌∷◌, ◌+◌, ◌%◌, ◌<◌, ◌⊎◌, is_some, List, [], length, take, map, filter, count_by, not, ◌&&◌, ◌||◌, ◌==◌, nat_lt, if◌then◌else◌, Option, None, Some, Result, Ok, Err, ℤ, pos, neg_ℤ, nat_abs, int_le, int_lt, unwrap_or, codes, slice_index_or}
+use Rattle.std.specs.Prelude.{Bool, ◌≡◌, ℕ, suc, ◌∷◌, ◌+◌, ◌%◌, ◌<◌, ◌⊎◌, is_some, List, [], length, take, map, filter, count_by, not, ◌&&◌, ◌||◌, ◌==◌, nat_lt, if◌then◌else◌, Option, None}
+use Rattle.std.specs.Prelude.{Some, Result, Ok, Err, ℤ, pos, neg_ℤ, nat_abs, int_le, int_lt, unwrap_or, codes, slice_index_or}
 use Rattle.std.specs.List.{find, range_with_len}
-use Rattle.std.specs.Option.{option_map}
+use Rattle.std.specs.Option.{option_map, option_or}
 use Rattle.std.specs.Str.{bytes_eq}
 use Rattle.mb_base.specs.Text.{numeral}
 use Rattle.mb_base.specs.Rows.{Row, field_at, is_skipped}
 use Rattle.mb_problem.specs.declared.kind.Kind.{Kind}
-use Rattle.mb_problem.specs.declared.kind.Kind.TheVariants.{Perfect, Match, BMatch, CapMatch, FFactor, TJoin, Postman, Path}
+use Rattle.mb_problem.specs.declared.kind.Need.{Need}
+use Rattle.mb_problem.specs.declared.kind.Need.TheVariants.{Unrestricted, WeightsFromZero, Ends, EndsAndWeightsFromZero}
 use Rattle.mb_problem.specs.declared.instance.InstanceEdge.{InstanceEdge}
 use Rattle.graph_theory.specs.declared.limits.TheConstants.{WEIGHT_LIMIT}
 use Rattle.mb_problem.specs.declared.limits.TheConstants.{VERTEX_LIMIT, EDGE_LIMIT, VALUE_LIMIT}
-use Rattle.mb_problem.specs.Kinds.{default_value_of}
+use Rattle.mb_problem.specs.Kinds.{default_value_of, need_of}
 use Rattle.mb_problem.specs.Network.{Network}
 use Rattle.dimacs_read.specs.declared.rule.Rule.{Rule}
 use Rattle.dimacs_read.specs.declared.rule.Rule.TheVariants.{UnknownLine, HeaderMissing, HeaderTwice, HeaderForm, FieldCount, Number, Range, Loop, NodeTwice, EdgeCount, Negative, PathEnds}
@@ -163,16 +165,24 @@ first_place p (row ∷ rs) = if p row then Some 0 else option_map (λ k. suc k) 
 abbrev pub is_negative : Row → Bool
 is_negative row = is_edge row && int_lt (edge_of row).w (pos 0)
 
--- what a kind asks besides: of the postman weights from 0 on, of a path two vertices of odd value
+-- an edge that weighs less than 0, the first of which stands at this place
+abbrev pub negative_fault : Option ℕ → Option Fault
+negative_fault first = option_map (λ k. record { rule = Negative; place = k }) first
+
+-- other than two odd values, which only the end of the lines shows
+abbrev pub ends_fault : List ℕ → ℕ → Option Fault
+ends_fault values lines = if count_by is_odd values == 2 then None else Some (record { rule = PathEnds; place = lines })
+
+-- what an instance of these values lacks, whose first edge below 0 stands at this place, if there is one, and which has so many lines
+abbrev pub need_fault : Need → List ℕ → Option ℕ → ℕ → Option Fault
+need_fault Unrestricted values first lines = None
+need_fault WeightsFromZero values first lines = negative_fault first
+need_fault Ends values first lines = ends_fault values lines
+need_fault EndsAndWeightsFromZero values first lines = option_or (negative_fault first) (ends_fault values lines)
+
+-- what a kind asks besides
 abbrev pub kind_fault : Kind → ℕ → List Row → Option Fault
-kind_fault Perfect n rs = None
-kind_fault Match n rs = None
-kind_fault BMatch n rs = None
-kind_fault CapMatch n rs = None
-kind_fault FFactor n rs = None
-kind_fault TJoin n rs = None
-kind_fault Postman n rs = option_map (λ k. record { rule = Negative; place = k }) (first_place is_negative rs)
-kind_fault Path n rs = if count_by is_odd (values_of 0 n rs) == 2 then None else Some (record { rule = PathEnds; place = length rs })
+kind_fault kind n rs = need_fault (need_of kind) (values_of (default_value_of kind) n rs) (first_place is_negative rs) (length rs)
 
 abbrev pub end_fault : Kind → Option Sizes → List Row → Option Fault
 end_fault kind None rs = Some (record { rule = HeaderMissing; place = length rs })

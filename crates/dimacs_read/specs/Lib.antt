@@ -5,4 +5,3 @@ pub mod Rest
 pub mod Line
 pub mod Reading
 pub mod Law
-pub mod Ready

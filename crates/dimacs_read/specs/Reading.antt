@@ -1,5 +1,6 @@
 -- What the code says of one line, and of the whole text.
-use Rattle.std.specs.Prelude.{Bool, ◌≡◌, ◌≤◌, ◌==◌, ℕ, ◌+◌, ◌-◌, pos, int_lt, if◌then◌else◌, take, map, count_by, slice_index_or, replicate, slice_set, length, List, [], ◌∷◌, ◌++◌, true, false, Option, None, Some, Result, Ok, Err}
+use Rattle.std.specs.Prelude.{Bool, ◌≡◌, ◌≤◌, ◌==◌, ℕ, ◌+◌, ◌-◌, pos, int_lt, if◌then◌else◌, take, map, slice_index_or, replicate, slice_set, length, List, [], ◌∷◌, ◌++◌, true, false}
+use Rattle.std.specs.Prelude.{Option, None, Some, Result, Ok, Err}
 use Rattle.mb_base.specs.Rows.{Row, rows, is_skipped}
 use Rattle.mb_problem.specs.declared.kind.Kind.{Kind}
 use Rattle.mb_problem.specs.declared.instance.InstanceEdge.{InstanceEdge}
@@ -8,17 +9,17 @@ use Rattle.mb_problem.specs.Network.{Network}
 use Rattle.dimacs_read.specs.declared.line.Header.{Header}
 use Rattle.dimacs_read.specs.declared.rest.Rest.{Rest}
 use Rattle.dimacs_read.specs.declared.rule.Rule.{Rule}
-use Rattle.dimacs_read.specs.declared.rule.Rule.TheVariants.{HeaderMissing, EdgeCount, Negative, PathEnds}
+use Rattle.dimacs_read.specs.declared.rule.Rule.TheVariants.{HeaderMissing, EdgeCount}
 use Rattle.dimacs_read.specs.declared.rule.Fault.{Fault}
 use Rattle.dimacs_read.specs.declared.reader.Draft.{Draft}
-use Rattle.std.specs.Option.{option_map}
-use Rattle.mb_problem.specs.declared.kind.Kind.TheVariants.{Perfect, Match, BMatch, CapMatch, FFactor, TJoin, Postman, Path}
+use Rattle.mb_problem.specs.Kinds.{default_value_of, need_of}
 use Rattle.dimacs_read.specs.declared.keep.Line.{Line}
 use Rattle.dimacs_read.specs.declared.keep.Line.TheVariants as line
 use Rattle.dimacs_read.specs.declared.error.InstanceError.{InstanceError}
 use Rattle.dimacs_read.specs.declared.error.InstanceError.TheVariants.{Malformed, OutOfMemory}
 use Rattle.dimacs_read.specs.Rows.{is_header, is_edge, is_node, instance_rows}
-use Rattle.dimacs_read.specs.Format.{Sizes, header_at, edge_at, node_at, line_fault, header_of, value_in, edges_of, first_place, is_negative, is_odd, value_or, NoFaultBelow, IsFirstFaulty, IsFirstFault, HoldsInstance}
+use Rattle.dimacs_read.specs.Format.{Sizes, header_at, edge_at, node_at, line_fault, header_of, value_in, edges_of, first_place, is_negative, need_fault, value_or, NoFaultBelow}
+use Rattle.dimacs_read.specs.Format.{IsFirstFaulty, IsFirstFault, HoldsInstance}
 use Rattle.dimacs_read.specs.Line.{sizes, sizes_of_header, FitsHeader, HasValues, HasFewVertices, IsAnnounced, AllFit, AreSmall}
 use Rattle.dimacs_read.specs.Rest.{IsRest, after_lines}
 
@@ -92,14 +93,7 @@ ReadsLines bytes (Err OutOfMemory) = Unit {0}
 
 -- what the tests at the end answer, from what was kept
 abbrev pub kind_fault_from : Kind → List (Option ℕ) → Option ℕ → ℕ → Option Fault
-kind_fault_from Perfect values negative lines = None
-kind_fault_from Match values negative lines = None
-kind_fault_from BMatch values negative lines = None
-kind_fault_from CapMatch values negative lines = None
-kind_fault_from FFactor values negative lines = None
-kind_fault_from TJoin values negative lines = None
-kind_fault_from Postman values negative lines = option_map (λ k. record { rule = Negative; place = k }) negative
-kind_fault_from Path values negative lines = if count_by is_odd (map (value_or 0) values) == 2 then None else Some (record { rule = PathEnds; place = lines })
+kind_fault_from kind values negative lines = need_fault (need_of kind) (map (value_or (default_value_of kind)) values) negative lines
 
 abbrev pub end_fault_from : Kind → Option Sizes → List (Option ℕ) → ℕ → Option ℕ → ℕ → Option Fault
 end_fault_from kind None values count negative lines = Some (record { rule = HeaderMissing; place = lines })

@@ -1,4 +1,5 @@
-ghost use Rattle.std.specs.Prelude.{◌≡◌, ℕ, ◌+◌, ◌<◌, ◌≤◌, ◌^◌, length, map, take, Option, Some, None, OnOk, IfOk, vec_len};
+ghost use Rattle.std.specs.Prelude.{◌≡◌, ℕ, ◌+◌, ◌<◌, ◌≤◌, ◌^◌, length, map, take, Option, Some};
+ghost use Rattle.std.specs.Prelude.{None, OnOk, IfOk, vec_len};
 ghost use Rattle.mb_problem.specs.Network.{IsNetwork};
 ghost use Rattle.dimacs_read.specs.Format.{value_or};
 ghost use Rattle.dimacs_read.specs.Line.{AllFit, AreSmall};

@@ -1,7 +1,8 @@
-ghost use Rattle.dimacs_read.specs.Law.{EachIsRead, OneFault, NoInstanceAndFault, OneInstance, OneRest};
+ghost use Rattle.dimacs_read.specs.Law.{EachIsRead, OneFault, NoInstanceAndFault, OneInstance};
+ghost use Rattle.dimacs_read.specs.Law.{OneRest};
 
-/// The lines of a text have exactly one reading for each kind: one instance or one first fault. What
-/// follows the instance in a text is one too.
+/// The lines of a text have exactly one reading for each kind: one instance or one first fault.
+/// What follows the instance in a text is one too.
 pub fn one_reading()
     ensures read { EachIsRead }
     ensures fault { OneFault }

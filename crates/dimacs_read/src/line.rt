@@ -1,8 +1,11 @@
-ghost use Rattle.std.specs.Prelude.{◌≡◌, ℕ, ◌<◌, ◌≤◌, ◌^◌, map, length, pos, neg_ℤ, ◌≤ℤ◌, Result, IfOk, Some, None, Option};
+ghost use Rattle.std.specs.Prelude.{◌≡◌, ℕ, ◌<◌, ◌≤◌, ◌^◌, map, length, pos, neg_ℤ, ◌≤ℤ◌, Result};
+ghost use Rattle.std.specs.Prelude.{IfOk, Some, None, Option};
 ghost use Rattle.graph_theory.specs.Graph.{IsWeight};
 ghost use Rattle.mb_problem.specs.Network.{IsInstanceEdge};
-ghost use Rattle.dimacs_read.specs.Format.{number_in, natural_in, weight_at, capacity_at, edge_at, header_at, node_at, sizes_at, Sizes};
-ghost use Rattle.dimacs_read.specs.Line.{sizes, seen, field_list, HasFewVertices, HasValues, is_valued, FitsHeader, IsAnnounced, IsSmall};
+ghost use Rattle.dimacs_read.specs.Format.{number_in, natural_in, weight_at, capacity_at, edge_at};
+ghost use Rattle.dimacs_read.specs.Format.{header_at, node_at, sizes_at, Sizes};
+ghost use Rattle.dimacs_read.specs.Line.{sizes, seen, field_list, HasFewVertices, HasValues};
+ghost use Rattle.dimacs_read.specs.Line.{is_valued, FitsHeader, IsAnnounced, IsSmall};
 
 use crate::rule::Rule;
 use graph_theory::WEIGHT_LIMIT;

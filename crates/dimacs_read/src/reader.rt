@@ -1,20 +1,22 @@
-ghost use Rattle.std.specs.Prelude.{◌≡◌, ℕ, ◌+◌, ◌<◌, ◌≤◌, ◌^◌, ◌==◌, ◌%◌, length, map, take, count_by, Option, Some, None, OnOk, IfOk, vec_len, pos, int_lt, option_map, Bool};
+ghost use Rattle.std.specs.Prelude.{◌≡◌, ℕ, ◌+◌, ◌<◌, ◌≤◌, ◌^◌, length, map, take, Option, Some};
+ghost use Rattle.std.specs.Prelude.{None, OnOk, IfOk, vec_len};
 ghost use Rattle.std.specs.List.{position};
 ghost use Rattle.mb_base.specs.Text.{fields};
 ghost use Rattle.mb_base.specs.Rows.{Row, rows, is_skipped};
 ghost use Rattle.mb_problem.specs.Kinds.{default_value_of};
 ghost use Rattle.mb_problem.specs.Network.{IsNetwork};
+ghost use Rattle.mb_problem.specs.Ready.{IsReady};
 ghost use Rattle.dimacs_read.specs.Rows.{instance_rows, is_header, is_edge, is_solution};
-ghost use Rattle.dimacs_read.specs.Format.{line_fault, value_or, is_odd};
+ghost use Rattle.dimacs_read.specs.Format.{line_fault, value_or};
 ghost use Rattle.dimacs_read.specs.Line.{sizes, field_list, HasFewVertices, HasValues, is_valued};
-ghost use Rattle.dimacs_read.specs.Ready.{IsReady};
-ghost use Rattle.dimacs_read.specs.Reading.{GivesLine, Reads, ReadsLines, IsDraft, negative_after, kind_fault_from, end_fault_from};
+ghost use Rattle.dimacs_read.specs.Reading.{GivesLine, Reads, ReadsLines, IsDraft, negative_after};
 
+use crate::end::end_fault;
 use crate::error::InstanceError;
 use crate::keep::{Line, keep_line, with_default};
 use crate::line::{Header, read_edge, read_header, read_node};
 use crate::rest::Rest;
-use crate::rule::{Fault, Rule};
+use crate::rule::Rule;
 use arrayvec::ArrayVec;
 use mb_base::{Fields, OutOfMemory, Sequence, next_line};
 use mb_problem::{Instance, InstanceEdge, Kind};
@@ -38,7 +40,8 @@ fn some_fields(line: &[u8]) -> ArrayVec<&[u8], 6>
 fn read_line(earlier: Option<Header>, values: &[Option<u32>], row: &[&[u8]]) -> Result<Line, Rule>
     requires few { HasFewVertices earlier }
     requires room { HasValues earlier (length values.now) }
-    ensures { GivesLine earlier (is_valued values.now) (length values.now) (field_list row.now) result }
+    ensures { GivesLine earlier (is_valued values.now) (length values.now) (field_list row.now)
+        result }
 {
     let Some(first) = row.first() else {
         return Ok(Line::Skipped);
@@ -136,65 +139,6 @@ fn read_lines<'a>(alloc: Global, bytes: &'a [u8]) -> Result<Draft<'a>, InstanceE
     })
 }
 
-/// How many of the values that were given are odd.
-fn odd_values(values: &[Option<u32>]) -> usize
-    ensures { result ≡ count_by is_odd (map (value_or 0) values.now) }
-{
-    values
-        .iter()
-        .filter(|value| value.unwrap_or(0) % 2 == 1)
-        .count()
-}
-
-/// What a kind asks of the whole instance besides.
-fn kind_fault(
-    kind: Kind,
-    values: &[Option<u32>],
-    negative: Option<u64>,
-    lines: u64,
-) -> Option<Fault>
-    ensures { result ≡ kind_fault_from kind values.now negative lines }
-{
-    match kind {
-        Kind::Postman => {
-            let place = negative?;
-            let rule = Rule::Negative;
-            Some(Fault { rule, place })
-        }
-        Kind::Path => {
-            if odd_values(values) == 2 {
-                return None;
-            }
-            let rule = Rule::PathEnds;
-            Some(Fault { rule, place: lines })
-        }
-        Kind::Perfect | Kind::Match | Kind::BMatch | Kind::CapMatch | Kind::FFactor | Kind::TJoin =>
-            None,
-    }
-}
-
-/// The first test at the end that fails.
-fn end_fault(
-    kind: Kind,
-    header: Option<Header>,
-    values: &[Option<u32>],
-    edges: &[InstanceEdge],
-    negative: Option<u64>,
-    lines: u64,
-) -> Option<Fault>
-    ensures { result ≡ end_fault_from kind (sizes header) values.now (length edges.now) negative lines }
-{
-    let Some(header) = header else {
-        let rule = Rule::HeaderMissing;
-        return Some(Fault { rule, place: lines });
-    };
-    if edges.len() as u64 != u64::from(header.edges) {
-        let rule = Rule::EdgeCount;
-        return Some(Fault { rule, place: lines });
-    }
-    kind_fault(kind, values, negative, lines)
-}
-
 /// A copy of what follows the instance.
 fn copy_rest(alloc: Global, rest: &[u8], line: u64) -> Result<Rest, OutOfMemory>
     ensures bytes { IfOk result (λ r. r.bytes ≡ rest.now) }
@@ -214,8 +158,14 @@ fn build(
     values: &[Option<u32>],
     edges: Vec<InstanceEdge>,
 ) -> Result<Instance, OutOfMemory>
-    requires { IsNetwork (record { edges = edges.items; values = map (value_or (default_value_of kind)) values.now }) }
-    ensures { IfOk result (λ i. i ≡ record { edges = edges.items; values = map (value_or (default_value_of kind)) values.now }) }
+    requires { IsNetwork (record {
+      edges = edges.items;
+      values = map (value_or (default_value_of kind)) values.now;
+    }) }
+    ensures { IfOk result (λ i. i ≡ record {
+      edges = edges.items;
+      values = map (value_or (default_value_of kind)) values.now;
+    }) }
 {
     let all = with_default(alloc, values, kind.default_value())?;
     Ok(Instance::from_parts(alloc, edges, all))
@@ -223,8 +173,8 @@ fn build(
 
 /// The instance of a text, for a kind, and what follows it; or the first rule that the text breaks.
 ///
-/// The instance's lines are those before the first whose first field is exactly `s`. Lines that only
-/// the end shows to be missing are named by the number after the last of them.
+/// The instance's lines are those before the first whose first field is exactly `s`. Lines that
+/// only the end shows to be missing are named by the number after the last of them.
 pub fn read(alloc: Global, bytes: &[u8], kind: Kind) -> Result<(Instance, Rest), InstanceError>
     ensures reading { Reads kind bytes.now result }
     ensures ready { IfOk result (λ r. IsReady kind r.0) }

@@ -25,9 +25,9 @@ pub enum Rule {
     NodeTwice,
     /// There are fewer or more edges than the header says.
     EdgeCount,
-    /// For the postman an edge weighs less than 0.
+    /// An edge weighs less than 0, and the kind asks for weights from 0.
     Negative,
-    /// For a path other than two vertices have odd values.
+    /// Other than two vertices have odd values, and the kind asks for two ends.
     PathEnds,
 }
 

@@ -1,3 +1,4 @@
+pub mod PartLaws
 pub mod OnePartMore
 pub mod Following
 pub mod Lines
@@ -6,4 +7,5 @@ pub mod RowsBack
 pub mod NumbersBack
 pub mod PartsBack
 pub mod InOrder
+pub mod Stretches
 pub mod WholeBack

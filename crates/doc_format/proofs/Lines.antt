@@ -15,7 +15,8 @@ use Rattle.doc_format.specs.declared.part.Part.{Part}
 use Rattle.doc_format.specs.declared.head.Head.{Head}
 use Rattle.doc_format.specs.declared.document.Document.{Document}
 use Rattle.doc_format.specs.Form.{parts_of}
-use Rattle.doc_format.specs.Rows.{head_at, headed, part_at, part_in}
+use Rattle.doc_format.specs.Rows.{head_at, headed, part_at}
+use Rattle.doc_format.specs.Parts.{part_in}
 use Rattle.doc_format.specs.Reading.{head_from, onto, parts_from, may_stand, stands, refuses, is_refused_at, NoneRefusedBelow, body_of, head_of, HoldsDocument, ReadsRows}
 use Rattle.doc_format.specs.declared.error.DocError.{DocError}
 use Rattle.doc_format.specs.declared.error.DocError.TheVariants.{DocForm, OutOfMemory}

@@ -12,8 +12,7 @@ use Rattle.mb_base.specs.Text.{is_digit, value_from, natural, numeral, clamped}
 use Rattle.doc_format.specs.Plain.{is_plain, IsField, HasFields}
 use Rattle.graph_theory.specs.declared.limits.TheConstants.{NUMBER_LIMIT}
 use Rattle.doc_format.specs.Law.{IsKept}
-use Rattle.doc_format.specs.Rows.{kept, numbers, counted}
-use Rattle.doc_format.specs.Spelling.{with_count}
+use Rattle.doc_format.specs.Numbers.{kept, numbers, counted, with_count}
 
 abbrev IsDecimal : ℕ → List ℕ → Type 0
 IsDecimal n ds = (0 < length ds) × (list_all is_digit ds ≡ true) × (value_from 0 ds ≡ n)

@@ -13,14 +13,16 @@ use Rattle.doc_format.specs.declared.head.Head.{Head}
 use Rattle.doc_format.specs.declared.document.Document.{Document}
 use Rattle.doc_format.specs.declared.error.DocError.{DocError}
 use Rattle.doc_format.specs.declared.error.DocError.TheVariants.{DocForm, OutOfMemory}
-use Rattle.doc_format.specs.Form.{parts_of, may_follow, admits, is_formed}
+use Rattle.doc_format.specs.Parts.{parts_of, numbers_of, on_line, is_formed}
+use Rattle.doc_format.specs.Form.{may_follow, admits}
 use Rattle.doc_format.specs.Rows.{head_at, part_at}
 use Rattle.doc_format.specs.Reading.{body_of, head_of, head_from, parts_from, stands, refuses, is_refused_at, ReadsRows}
-use Rattle.doc_format.specs.Spelling.{numbers_of, part_row, head_row, document_rows, document_text}
+use Rattle.doc_format.specs.Spelling.{part_row, head_row, document_rows, document_text}
 use Rattle.doc_format.specs.Law.{IsKept, HasKeptNumbers, unnumbered, GivesAgain, ReadsBack}
 use Rattle.doc_format.proofs.RowsBack.{rows_back}
-use Rattle.doc_format.proofs.PartsBack.{on_line, on_lines, HasKept, part_back, part_there, parts_back, parts_have_fields, head_back, head_has_fields, unnumbered_all}
-use Rattle.doc_format.proofs.InOrder.{passes, all_taken, parts_in_order, in_order_at, parts_formed, admits-line, follow-lines}
+use Rattle.doc_format.proofs.PartsBack.{on_lines, part_there, parts_back, parts_have_fields, head_back, head_has_fields, unnumbered_all}
+use Rattle.doc_format.proofs.PartLaws.{HasKept, part_back}
+use Rattle.doc_format.proofs.InOrder.{passes, all_taken, in_order_at, admits-line, follow-lines}
 use Rattle.doc_format.proofs.Lines.{refusal}
 
 pub kept_parts : (parts : List Part) → All (λ part. All IsKept (numbers_of part)) parts → AllByRecursion HasKept parts
@@ -49,17 +51,17 @@ head_read d n kept = head_back n d.status d.kind d.weight kept.weight d.form.hea
 parts_read : (d : Document) (n k : ℕ) → HasKeptNumbers d → parts_from n (map part_row (take k (parts_of (body_of d)))) ≡ on_lines n (take k (parts_of (body_of d)))
 parts_read d n k kept =
     let parts = parts_of (body_of d) in
-    parts_back n (take k parts) (kept_taken parts k (kept_parts parts kept.parts)) (all_taken is_formed parts k (parts_formed d.status d.kind d.weight (body_of d) d.form))
+    parts_back n (take k parts) (kept_taken parts k (kept_parts parts kept.parts)) (all_taken is_formed parts k d.form.formed)
 
 -- line k + 1 isn't refused
 part_stands : (d : Document) (n m k : ℕ) → HasKeptNumbers d → k < length (parts_of (body_of d)) → stands (head_on d n) (on_lines (n + 1) (take k (parts_of (body_of d)))) (part_at m (part_row (get_or (parts_of (body_of d)) k no_part))) ≡ true
 part_stands d n m k kept lt =
     let parts = parts_of (body_of d) in
     let part = get_or parts k no_part in
-    let formed = passes is_formed parts k no_part (parts_formed d.status d.kind d.weight (body_of d) d.form) lt in
+    let formed = passes is_formed parts k no_part d.form.formed lt in
     let back : part_at m (part_row part) ≡ Some (on_line m part) = part_back m part (kept_at parts k no_part (kept_parts parts kept.parts) lt) formed in
     let letter : admits d.status d.kind (on_line m part) ≡ true = admits-line d.status d.kind m part ∙ passes (admits d.status d.kind) parts k no_part d.form.letters lt in
-    let order : list_all (λ earlier. may_follow earlier (on_line m part)) (on_lines (n + 1) (take k parts)) ≡ true = follow-lines (n + 1) m (take k parts) part ∙ in_order_at parts k no_part (parts_in_order d.status d.kind d.weight (body_of d) d.form) lt in
+    let order : list_all (λ earlier. may_follow earlier (on_line m part)) (on_lines (n + 1) (take k parts)) ≡ true = follow-lines (n + 1) m (take k parts) part ∙ in_order_at parts k no_part d.form.ordered lt in
     ap (stands (head_on d n) (on_lines (n + 1) (take k parts))) back
     ∙ and_from (admits d.status d.kind (on_line m part)) (list_all (λ earlier. may_follow earlier (on_line m part)) (on_lines (n + 1) (take k parts))) letter order
 
@@ -85,7 +87,7 @@ gives_again : (d : Document) (n : ℕ) (answer : Result Document DocError) → H
 gives_again d n (Ok e) kept holds =
     let head : head_on d n ≡ head_of e = same_Some (head_on d n) (head_of e) (sym (head_read d n kept) ∙ holds.head) in
     let parts = parts_of (body_of d) in
-    let back : parts_of (body_of e) ≡ on_lines (n + 1) parts = holds.parts ∙ parts_back (n + 1) parts (kept_parts parts kept.parts) (parts_formed d.status d.kind d.weight (body_of d) d.form) in
+    let back : parts_of (body_of e) ≡ on_lines (n + 1) parts = holds.parts ∙ parts_back (n + 1) parts (kept_parts parts kept.parts) d.form.formed in
     record {
       status = ap (λ (h : Head). h.status) head;
       kind = ap (λ (h : Head). h.kind) head;

@@ -2,13 +2,12 @@
 use Rattle.std.specs.Prelude.{◌≡◌, ℕ, ◌≤◌, ℤ, nat_abs, map, All, false, Result, Ok, Err}
 use Rattle.graph_theory.specs.declared.limits.TheConstants.{NUMBER_LIMIT}
 use Rattle.doc_format.specs.declared.part.Part.{Part}
-use Rattle.doc_format.specs.declared.part.Part.TheVariants.{Count, Walk, Dual, Set, Barrier, Odd, Split}
 use Rattle.doc_format.specs.declared.document.Document.{Document}
 use Rattle.doc_format.specs.declared.error.DocError.{DocError}
 use Rattle.doc_format.specs.declared.error.DocError.TheVariants.{DocForm, OutOfMemory}
-use Rattle.doc_format.specs.Form.{parts_of}
+use Rattle.doc_format.specs.Parts.{parts_of, on_line, numbers_of}
 use Rattle.doc_format.specs.Reading.{body_of, Reads}
-use Rattle.doc_format.specs.Spelling.{numbers_of, document_text}
+use Rattle.doc_format.specs.Spelling.{document_text}
 
 abbrev pub IsKept : ℤ → Type 0
 IsKept z = nat_abs z ≤ nat_abs NUMBER_LIMIT
@@ -20,13 +19,7 @@ pub record HasKeptNumbers (d : Document) : Type 0 where
 
 -- the part as if it stood on line 0
 abbrev pub unnumbered : Part → Part
-unnumbered (Count x) = Count (record x { line = 0 })
-unnumbered (Walk w) = Walk (record w { line = 0 })
-unnumbered (Dual y) = Dual (record y { line = 0 })
-unnumbered (Set z) = Set (record z { line = 0 })
-unnumbered (Barrier u) = Barrier (record u { line = 0 })
-unnumbered (Odd t) = Odd (record t { line = 0 })
-unnumbered (Split q) = Split (record q { line = 0 })
+unnumbered part = on_line 0 part
 
 -- two documents that say the same, line numbers aside
 pub record SaysTheSame (d e : Document) : Type 0 where

@@ -1,4 +1,6 @@
 pub mod Status
+pub mod Numbers
+pub mod Parts
 pub mod Form
 pub mod Rows
 pub mod Reading

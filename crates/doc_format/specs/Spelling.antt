@@ -1,16 +1,17 @@
 -- The one text of a document.
-use Rattle.std.specs.Prelude.{ℕ, ℤ, pos, List, [], ◌∷◌, ◌++◌, map, flat_map, length, codes, Bool, true, false}
+use Rattle.std.specs.Prelude.{ℕ, ℤ, List, [], ◌∷◌, ◌++◌, map, flat_map, codes, Bool, true, false}
 use Rattle.std.specs.Fmt.{signed_decimal}
 use Rattle.mb_base.specs.Rows.{Row}
 use Rattle.doc_format.specs.declared.status.DocStatus.{DocStatus}
 use Rattle.doc_format.specs.declared.status.DocStatus.TheVariants.{Optimal, NonConservative}
 use Rattle.doc_format.specs.declared.part.Part.{Part}
-use Rattle.doc_format.specs.declared.part.Part.TheVariants.{Count, Walk, Dual, Set, Barrier, Odd, Split}
+use Rattle.doc_format.specs.declared.part.Part.TheVariants.{Count, Walk}
 use Rattle.mb_problem.specs.declared.kind.Kind.{Kind}
 use Rattle.doc_format.specs.declared.document.Document.{Document}
 use Rattle.mb_problem.specs.Kinds.{kind_text}
 use Rattle.doc_format.specs.Status.{status_text}
-use Rattle.doc_format.specs.Form.{Body, at_most_one, parts_of}
+pub use Rattle.doc_format.specs.Numbers.{with_count}
+pub use Rattle.doc_format.specs.Parts.{Body, at_most_one, parts_of, letter_text, letter_of, numbers_of}
 use Rattle.doc_format.specs.Reading.{body_of}
 
 -- ---- lines
@@ -35,26 +36,7 @@ abbrev pub head_row : DocStatus → Kind → ℤ → Row
 head_row status kind weight = codes "s" ∷ status_text status ∷ kind_text kind ∷ weight_fields status weight
 
 abbrev pub letter : Part → List ℕ
-letter (Count x) = codes "x"
-letter (Walk w) = codes "w"
-letter (Dual y) = codes "y"
-letter (Set z) = codes "z"
-letter (Barrier u) = codes "u"
-letter (Odd t) = codes "t"
-letter (Split q) = codes "q"
-
--- numbers after their count
-abbrev pub with_count : List ℤ → List ℤ
-with_count zs = pos (length zs) ∷ zs
-
-abbrev pub numbers_of : Part → List ℤ
-numbers_of (Count x) = x.edge ∷ x.count ∷ []
-numbers_of (Walk w) = w.start ∷ with_count w.edges
-numbers_of (Dual y) = y.vertex ∷ y.dual ∷ []
-numbers_of (Set z) = z.dual ∷ with_count z.members
-numbers_of (Barrier u) = with_count u.members
-numbers_of (Odd t) = with_count t.members
-numbers_of (Split q) = with_count q.members
+letter part = letter_text (letter_of part)
 
 -- the letter and its numbers, without leading zeros
 abbrev pub part_row : Part → Row
@@ -69,9 +51,6 @@ parts_text parts = flat_map row_text (map part_row parts)
 abbrev pub answer : DocStatus → Body → List Part
 answer NonConservative body = map Count body.counts
 answer status body = map Count body.counts ++ at_most_one Walk body.walk
-
-abbrev pub certificate : Body → List Part
-certificate body = map Dual body.duals ++ (map Set body.sets ++ (at_most_one Barrier body.barrier ++ (at_most_one Odd body.odd ++ at_most_one Split body.split)))
 
 abbrev pub written_parts : Document → Bool → List Part
 written_parts d true = answer d.status (body_of d)

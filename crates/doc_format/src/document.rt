@@ -5,8 +5,8 @@ use crate::status::DocStatus;
 use mb_base::Sequence;
 use mb_problem::Kind;
 
-/// What a text claims of an instance, and the answer and certificate that it claims it by. Each part
-/// keeps the number of its line; `line` is that of the first.
+/// What a text claims of an instance, and the answer and certificate that it claims it by. Each
+/// part keeps the number of its line; `line` is that of the first.
 #[derive(Debug, Drop)]
 pub struct Document {
     pub status: DocStatus,

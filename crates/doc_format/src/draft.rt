@@ -8,12 +8,11 @@ ghost use Rattle.doc_format.specs.Steps.{Pushes, Takes};
 
 use crate::document::Document;
 use crate::error::DocError;
+use crate::first_field::first_field;
 use crate::head::Head;
-use crate::letter::letter;
 use crate::order::{Place, may_follow, may_have, place_of};
 use crate::part::Part;
 use crate::part_reading::read_part;
-use mb_base::Sequence;
 use std::alloc::Global;
 
 /// What has been read of a document, and the place of its last part.
@@ -31,21 +30,8 @@ impl Draft {
         ensures parts { parts_of (body_of result.document) ≡ [] }
         ensures last { IsLast result.last (parts_of (body_of result.document)) }
     {
-        let document = Document {
-            status: head.status,
-            kind: head.kind,
-            weight: head.weight,
-            line: head.line,
-            counts: Sequence::new(alloc),
-            walk: None,
-            duals: Sequence::new(alloc),
-            sets: Sequence::new(alloc),
-            barrier: None,
-            odd: None,
-            split: None,
-        };
         Draft {
-            document,
+            document: Document::new(alloc, head),
             last: None,
         }
     }
@@ -74,7 +60,7 @@ impl Draft {
         ensures taken { Takes self.old.document self.new.document line (fields text.now) result }
         ensures last { OnOk result (IsLast self.new.last (parts_of (body_of self.new.document))) }
     {
-        let Some((letter, others)) = letter(text) else {
+        let Some((letter, others)) = first_field(text) else {
             return Ok(());
         };
         let Some(part) = read_part(alloc, line, letter, others)? else {

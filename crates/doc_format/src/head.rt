@@ -20,6 +20,6 @@ pub fn fits(status: DocStatus, kind: Kind) -> bool
     match status {
         DocStatus::Optimal => true,
         DocStatus::Infeasible => kind.exclusion() != Exclusion::Never,
-        DocStatus::NonConservative => kind == Kind::Path,
+        DocStatus::NonConservative => kind.asks_conservative(),
     }
 }

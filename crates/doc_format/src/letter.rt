@@ -1,20 +1,95 @@
-ghost use Rattle.std.specs.Prelude.{◌≡◌, ◌∷◌, true, false, MatchOption};
-ghost use Rattle.mb_base.specs.Text.{fields};
-ghost use Rattle.mb_base.specs.Rows.{is_skipped};
+ghost use Rattle.std.specs.Prelude.{◌≡◌};
+ghost use Rattle.doc_format.specs.Parts.{rank, repeats, answers, proves_best, excludes, is_circuit};
 
-use mb_base::Fields;
+use mb_problem::{AnswerForm, BestProof, Exclusion};
 
-/// The first field of a line and the others, unless the line is blank or a comment.
-pub fn letter(text: &[u8]) -> Option<(&[u8], Fields<'_>)>
-    ensures { MatchOption result (is_skipped (fields text.now) ≡ true)
-        (λ r. (is_skipped (fields text.now) ≡ false) × (fields text.now ≡ r.0.now ∷ r.1)) }
-{
-    let mut others = Fields::new(text);
-    let Some(first) = others.next() else {
-        return None;
-    };
-    if first.first() == Some(&b'c') {
-        return None;
+/// A letter that lines after the first begin with, in the order in which they stand.
+#[derive(Clone, Copy, Debug)]
+pub enum Letter {
+    /// `x`
+    Count,
+    /// `w`
+    Walk,
+    /// `y`
+    Dual,
+    /// `z`
+    Set,
+    /// `u`
+    Barrier,
+    /// `t`
+    Odd,
+    /// `q`
+    Split,
+}
+
+impl Letter {
+    /// The letter's place in the order of lines.
+    pub fn rank(self) -> u8
+        ensures { result ≡ rank self }
+    {
+        match self {
+            Letter::Count => 1,
+            Letter::Walk => 2,
+            Letter::Dual => 3,
+            Letter::Set => 4,
+            Letter::Barrier => 5,
+            Letter::Odd => 6,
+            Letter::Split => 7,
+        }
     }
-    Some((first, others))
+
+    /// Whether any number of its lines may follow one another.
+    pub fn repeats(self) -> bool
+        ensures { result ≡ repeats self }
+    {
+        match self {
+            Letter::Set => true,
+            _ => false,
+        }
+    }
+
+    /// Whether an answer of this form has the letter.
+    pub fn answers(self, form: AnswerForm) -> bool
+        ensures { result ≡ answers self form }
+    {
+        match self {
+            Letter::Count => form == AnswerForm::Counts,
+            Letter::Walk => form == AnswerForm::Walk,
+            _ => false,
+        }
+    }
+
+    /// Whether what proves an answer best in this way has the letter.
+    pub fn proves_best(self, proof: BestProof) -> bool
+        ensures { result ≡ proves_best self proof }
+    {
+        let BestProof::Duals(_) = proof;
+        match self {
+            Letter::Dual => true,
+            Letter::Set => true,
+            _ => false,
+        }
+    }
+
+    /// Whether what excludes all answers in this way has the letter.
+    pub fn excludes(self, exclusion: Exclusion) -> bool
+        ensures { result ≡ excludes self exclusion }
+    {
+        match self {
+            Letter::Barrier => exclusion == Exclusion::Barrier,
+            Letter::Odd => exclusion == Exclusion::OddPart,
+            Letter::Split => exclusion == Exclusion::SplitPart,
+            _ => false,
+        }
+    }
+
+    /// Whether a circuit that weighs less than 0 has the letter.
+    pub fn is_circuit(self) -> bool
+        ensures { result ≡ is_circuit self }
+    {
+        match self {
+            Letter::Walk => true,
+            _ => false,
+        }
+    }
 }

@@ -8,6 +8,7 @@ mod adding;
 mod document;
 mod draft;
 mod error;
+mod first_field;
 mod head;
 mod law;
 mod letter;
@@ -23,8 +24,9 @@ mod writing;
 
 pub use document::Document;
 pub use error::DocError;
+pub use head::Head;
 pub use law::reads_back;
-pub use part::{CountLine, DualLine, MemberLine, SetLine, WalkLine};
+pub use part::{CountLine, DualLine, MemberLine, Part, SetLine, WalkLine};
 pub use reading::read;
 pub use status::DocStatus;
 pub use writing::write;

@@ -1,5 +1,5 @@
 ghost use Rattle.std.specs.Prelude.{◌≡◌, IfOk};
-ghost use Rattle.doc_format.specs.Rows.{kept, two_numbers, numbers, counted};
+ghost use Rattle.doc_format.specs.Numbers.{kept, two_numbers, numbers, counted, led};
 
 use graph_theory::NUMBER_LIMIT;
 use mb_base::{Fields, OutOfMemory, Sequence, number};
@@ -74,4 +74,24 @@ pub fn counted_numbers(
         return Ok(None);
     }
     Ok(Some(values))
+}
+
+/// A number, and so many more as the field after it says, where the fields are that.
+pub fn led_numbers(
+    alloc: Global,
+    fields: Fields<'_>,
+) -> Result<Option<(i64, Sequence<i64>)>, OutOfMemory>
+    ensures { IfOk result (λ o. o ≡ led fields.entry) }
+{
+    let mut fields = fields;
+    let Some(field) = fields.next() else {
+        return Ok(None);
+    };
+    let Some(first) = kept_number(field) else {
+        return Ok(None);
+    };
+    let Some(values) = counted_numbers(alloc, fields)? else {
+        return Ok(None);
+    };
+    Ok(Some((first, values)))
 }

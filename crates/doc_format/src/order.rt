@@ -1,10 +1,11 @@
 ghost use Rattle.std.specs.Prelude.{◌≡◌};
-ghost use Rattle.doc_format.specs.Form.{rank, key, admits};
+ghost use Rattle.doc_format.specs.Form.{letter_of, rank, key, takes, admits};
 ghost use Rattle.doc_format.specs.Order.{follows};
 
-use crate::part::Part;
+use crate::letter::Letter;
+use crate::part::{Part, key, letter_of};
 use crate::status::DocStatus;
-use mb_problem::{AnswerForm, Exclusion, Kind};
+use mb_problem::Kind;
 
 /// Where a part stands in the order of a document's lines.
 #[derive(Clone, Copy, Debug, PartialEq, Eq)]
@@ -13,37 +14,13 @@ pub struct Place {
     key: i64,
 }
 
-fn rank(part: &Part) -> u8
-    ensures { result ≡ rank part.now }
-{
-    match part {
-        Part::Count(_) => 1,
-        Part::Walk(_) => 2,
-        Part::Dual(_) => 3,
-        Part::Set(_) => 4,
-        Part::Barrier(_) => 5,
-        Part::Odd(_) => 6,
-        Part::Split(_) => 7,
-    }
-}
-
-fn key(part: &Part) -> i64
-    ensures { result ≡ key part.now }
-{
-    match part {
-        Part::Count(x) => x.edge,
-        Part::Dual(y) => y.vertex,
-        _ => 0,
-    }
-}
-
 /// The place of a part.
 pub fn place_of(part: &Part) -> Place
-    ensures rank { result.rank ≡ rank part.now }
+    ensures rank { result.rank ≡ rank (letter_of part.now) }
     ensures key { result.key ≡ key part.now }
 {
     Place {
-        rank: rank(part),
+        rank: letter_of(part).rank(),
         key: key(part),
     }
 }
@@ -55,39 +32,34 @@ pub fn may_follow(last: Option<Place>, part: &Part) -> bool
     let Some(last) = last else {
         return true;
     };
-    let rank = rank(part);
+    let letter = letter_of(part);
+    let rank = letter.rank();
     if last.rank < rank {
         return true;
     }
     if last.rank != rank {
         return false;
     }
-    if let Part::Set(_) = part {
+    if letter.repeats() {
         return true;
     }
     last.key < key(part)
 }
 
-/// Whether a document of this status and kind may have the part's letter.
+/// Whether a document of this status and kind has lines of this letter.
+fn takes(status: DocStatus, kind: Kind, letter: Letter) -> bool
+    ensures { result ≡ takes status kind letter }
+{
+    match status {
+        DocStatus::Optimal => letter.proves_best(kind.proof()) || letter.answers(kind.form()),
+        DocStatus::Infeasible => letter.excludes(kind.exclusion()),
+        DocStatus::NonConservative => letter.is_circuit(),
+    }
+}
+
+/// Whether a document of this status and kind may have the part.
 pub fn may_have(status: DocStatus, kind: Kind, part: &Part) -> bool
     ensures { result ≡ admits status kind part.now }
 {
-    match status {
-        DocStatus::Optimal => match part {
-            Part::Count(_) => kind.form() == AnswerForm::Counts,
-            Part::Walk(_) => kind.form() == AnswerForm::Walk,
-            Part::Dual(_) | Part::Set(_) => true,
-            _ => false,
-        },
-        DocStatus::Infeasible => match part {
-            Part::Barrier(_) => kind.exclusion() == Exclusion::Barrier,
-            Part::Odd(_) => kind.exclusion() == Exclusion::OddPart,
-            Part::Split(_) => kind.exclusion() == Exclusion::SplitPart,
-            _ => false,
-        },
-        DocStatus::NonConservative => match part {
-            Part::Walk(_) => true,
-            _ => false,
-        },
-    }
+    takes(status, kind, letter_of(part))
 }

@@ -1,3 +1,7 @@
+ghost use Rattle.std.specs.Prelude.{◌≡◌};
+ghost use Rattle.doc_format.specs.Parts.{letter_of, key};
+
+use crate::letter::Letter;
 use mb_base::Sequence;
 
 /// An `x` line: an edge and how often the answer uses it.
@@ -56,4 +60,30 @@ pub enum Part {
     Odd(MemberLine),
     /// A `q` line.
     Split(MemberLine),
+}
+
+/// The letter of a part.
+pub fn letter_of(part: &Part) -> Letter
+    ensures { result ≡ letter_of part.now }
+{
+    match part {
+        Part::Count(_) => Letter::Count,
+        Part::Walk(_) => Letter::Walk,
+        Part::Dual(_) => Letter::Dual,
+        Part::Set(_) => Letter::Set,
+        Part::Barrier(_) => Letter::Barrier,
+        Part::Odd(_) => Letter::Odd,
+        Part::Split(_) => Letter::Split,
+    }
+}
+
+/// What ascends from line to line of a letter: the edge of an `x` line, the vertex of a `y` line.
+pub fn key(part: &Part) -> i64
+    ensures { result ≡ key part.now }
+{
+    match part {
+        Part::Count(x) => x.edge,
+        Part::Dual(y) => y.vertex,
+        _ => 0,
+    }
 }

@@ -1,8 +1,8 @@
 ghost use Rattle.std.specs.Prelude.{◌≡◌, ◌∷◌, IfOk, IfSome, true};
-ghost use Rattle.doc_format.specs.Form.{ascends, is_formed};
-ghost use Rattle.doc_format.specs.Rows.{count_in, dual_in, walk_in, set_in, members_in, part_in};
+ghost use Rattle.doc_format.specs.Parts.{ascends, is_formed};
+ghost use Rattle.doc_format.specs.Parts.{count_in, dual_in, walk_in, set_in, members_in, part_in};
 
-use crate::numbers::{counted_numbers, kept_number, pair};
+use crate::numbers::{counted_numbers, led_numbers, pair};
 use crate::part::{CountLine, DualLine, MemberLine, Part, SetLine, WalkLine};
 use mb_base::{Fields, OutOfMemory};
 use std::alloc::Global;
@@ -42,14 +42,7 @@ fn read_walk(alloc: Global, line: u64, fields: Fields<'_>) -> Result<Option<Part
     ensures value { IfOk result (λ o. o ≡ walk_in line fields.entry) }
     ensures form { IfOk result (λ o. IfSome o (λ p. is_formed p ≡ true)) }
 {
-    let mut fields = fields;
-    let Some(field) = fields.next() else {
-        return Ok(None);
-    };
-    let Some(start) = kept_number(field) else {
-        return Ok(None);
-    };
-    let Some(edges) = counted_numbers(alloc, fields)? else {
+    let Some((start, edges)) = led_numbers(alloc, fields)? else {
         return Ok(None);
     };
     if edges.is_empty() {
@@ -62,14 +55,7 @@ fn read_set(alloc: Global, line: u64, fields: Fields<'_>) -> Result<Option<Part>
     ensures value { IfOk result (λ o. o ≡ set_in line fields.entry) }
     ensures form { IfOk result (λ o. IfSome o (λ p. is_formed p ≡ true)) }
 {
-    let mut fields = fields;
-    let Some(field) = fields.next() else {
-        return Ok(None);
-    };
-    let Some(dual) = kept_number(field) else {
-        return Ok(None);
-    };
-    let Some(members) = counted_numbers(alloc, fields)? else {
+    let Some((dual, members)) = led_numbers(alloc, fields)? else {
         return Ok(None);
     };
     Ok(Some(Part::Set(SetLine {

@@ -7,8 +7,8 @@ ghost use Rattle.doc_format.specs.Steps.{IsOpening, IsFault};
 use crate::document::Document;
 use crate::draft::Draft;
 use crate::error::DocError;
+use crate::first_field::first_field;
 use crate::head::Head;
-use crate::letter::letter;
 use crate::opening::read_head;
 use mb_base::next_line;
 use std::alloc::Global;
@@ -17,14 +17,16 @@ use std::alloc::Global;
 /// that should be a first line and is none.
 fn open(bytes: &[u8], line: u64) -> Result<(Head, &[u8]), u64>
     requires { line ≤ 2 ^ 62 }
-    ensures opening { MatchResult result (λ r. IsOpening line (rows bytes.now) (rows r.1.now) r.0) (IsFault line (rows bytes.now)) }
+    ensures opening { MatchResult result
+        (λ r. IsOpening line (rows bytes.now) (rows r.1.now) r.0)
+        (IsFault line (rows bytes.now)) }
     ensures table { IfOk result (λ r. IsTabled r.0) }
     ensures small { IfOk result (λ r. r.0.line + length r.1.now < line + length bytes.now) }
 {
     let mut rest = bytes;
     let mut number = line;
     'lines: while let Some((text, after)) = next_line(rest) {
-        if let Some((letter, others)) = letter(text) {
+        if let Some((letter, others)) = first_field(text) {
             return match read_head(number, letter, others) {
                 Some(head) => Ok((head, after)),
                 None => Err(number),
@@ -38,8 +40,7 @@ fn open(bytes: &[u8], line: u64) -> Result<(Head, &[u8]), u64>
 
 /// The document of a text whose first line has the number `line`, or the number of the first line
 /// that makes the text none: the line after the last one where the text has no line but blank ones
-/// and comments. Numbers beyond `NUMBER_LIMIT` are kept as that
-/// and one more, with their sign.
+/// and comments. Numbers beyond `NUMBER_LIMIT` are kept as that and one more, with their sign.
 pub fn read(alloc: Global, bytes: &[u8], line: u64) -> Result<Document, DocError>
     requires low { 1 ≤ line }
     requires high { line ≤ 2 ^ 62 }

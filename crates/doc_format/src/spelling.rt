@@ -74,7 +74,8 @@ pub fn put_head(
     kind: Kind,
     weight: i64,
 ) -> Result<(), OutOfMemory>
-    ensures { OnOk result (out.new.items ≡ out.old.items ++ row_text (head_row status kind weight)) }
+    ensures { OnOk result (out.new.items ≡ out.old.items
+        ++ row_text (head_row status kind weight)) }
 {
     out.extend_from_slice(b"s ")?;
     out.extend_from_slice(status.name())?;

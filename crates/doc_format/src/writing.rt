@@ -1,7 +1,7 @@
 ghost use Rattle.std.specs.Prelude.{◌≡◌, ◌++◌, map, OnOk, IfOk};
-ghost use Rattle.doc_format.specs.Form.{at_most_one};
+ghost use Rattle.doc_format.specs.Parts.{at_most_one, certificate};
 ghost use Rattle.doc_format.specs.Reading.{body_of};
-ghost use Rattle.doc_format.specs.Spelling.{row_text, part_row, certificate, parts_text, document_text};
+ghost use Rattle.doc_format.specs.Spelling.{row_text, part_row, parts_text, document_text};
 
 use crate::document::Document;
 use crate::part::{CountLine, DualLine, MemberLine, Part, SetLine, WalkLine};
@@ -11,7 +11,8 @@ use mb_base::OutOfMemory;
 use std::alloc::Global;
 
 fn put_count(out: &mut Vec<u8>, x: &CountLine) -> Result<(), OutOfMemory>
-    ensures { OnOk result (out.new.items ≡ out.old.items ++ row_text (part_row (Part.Count x.now))) }
+    ensures { OnOk result (out.new.items ≡ out.old.items
+        ++ row_text (part_row (Part.Count x.now))) }
 {
     put_pair(out, b'x', x.edge, x.count)
 }
@@ -23,7 +24,8 @@ fn put_dual(out: &mut Vec<u8>, y: &DualLine) -> Result<(), OutOfMemory>
 }
 
 fn put_counts(out: &mut Vec<u8>, counts: &[CountLine]) -> Result<(), OutOfMemory>
-    ensures { OnOk result (out.new.items ≡ out.old.items ++ parts_text (map Part.Count counts.now)) }
+    ensures { OnOk result (out.new.items ≡ out.old.items
+        ++ parts_text (map Part.Count counts.now)) }
 {
     for x in counts {
         put_count(out, x)?;
@@ -32,7 +34,8 @@ fn put_counts(out: &mut Vec<u8>, counts: &[CountLine]) -> Result<(), OutOfMemory
 }
 
 fn put_walk(out: &mut Vec<u8>, walk: &Option<WalkLine>) -> Result<(), OutOfMemory>
-    ensures { OnOk result (out.new.items ≡ out.old.items ++ parts_text (at_most_one Part.Walk walk.now)) }
+    ensures { OnOk result (out.new.items ≡ out.old.items
+        ++ parts_text (at_most_one Part.Walk walk.now)) }
 {
     if let Some(w) = walk {
         put_number_and_members(out, b'w', w.start, w.edges.as_slice())?;
@@ -59,7 +62,8 @@ fn put_sets(out: &mut Vec<u8>, sets: &[SetLine]) -> Result<(), OutOfMemory>
 }
 
 fn put_barrier(out: &mut Vec<u8>, barrier: &Option<MemberLine>) -> Result<(), OutOfMemory>
-    ensures { OnOk result (out.new.items ≡ out.old.items ++ parts_text (at_most_one Part.Barrier barrier.now)) }
+    ensures { OnOk result (out.new.items ≡ out.old.items
+        ++ parts_text (at_most_one Part.Barrier barrier.now)) }
 {
     if let Some(u) = barrier {
         put_members(out, b'u', u.members.as_slice())?;
@@ -68,7 +72,8 @@ fn put_barrier(out: &mut Vec<u8>, barrier: &Option<MemberLine>) -> Result<(), Ou
 }
 
 fn put_odd(out: &mut Vec<u8>, odd: &Option<MemberLine>) -> Result<(), OutOfMemory>
-    ensures { OnOk result (out.new.items ≡ out.old.items ++ parts_text (at_most_one Part.Odd odd.now)) }
+    ensures { OnOk result (out.new.items ≡ out.old.items
+        ++ parts_text (at_most_one Part.Odd odd.now)) }
 {
     if let Some(t) = odd {
         put_members(out, b't', t.members.as_slice())?;
@@ -77,7 +82,8 @@ fn put_odd(out: &mut Vec<u8>, odd: &Option<MemberLine>) -> Result<(), OutOfMemor
 }
 
 fn put_split(out: &mut Vec<u8>, split: &Option<MemberLine>) -> Result<(), OutOfMemory>
-    ensures { OnOk result (out.new.items ≡ out.old.items ++ parts_text (at_most_one Part.Split split.now)) }
+    ensures { OnOk result (out.new.items ≡ out.old.items
+        ++ parts_text (at_most_one Part.Split split.now)) }
 {
     if let Some(q) = split {
         put_members(out, b'q', q.members.as_slice())?;
@@ -87,7 +93,8 @@ fn put_split(out: &mut Vec<u8>, split: &Option<MemberLine>) -> Result<(), OutOfM
 
 /// The lines that are left out in brief: duals and sets of vertices.
 fn put_certificate(out: &mut Vec<u8>, document: &Document) -> Result<(), OutOfMemory>
-    ensures { OnOk result (out.new.items ≡ out.old.items ++ parts_text (certificate (body_of document.now))) }
+    ensures { OnOk result (out.new.items ≡ out.old.items
+        ++ parts_text (certificate (body_of document.now))) }
 {
     put_duals(out, document.duals.as_slice())?;
     put_sets(out, document.sets.as_slice())?;

@@ -29,7 +29,7 @@ gadget_graph kind i = graph_by (gadget_of kind) i
 pub record IsReached (kind : Kind) (i : Network) (answer : Answer) : Type 0 where
   pub counts : List ℕ
   pub perfect : IsPerfect (gadget_graph kind i) counts
-  pub weighs : (pos 2 *ℤ weight (gadget_graph kind i) counts) ≤ℤ value_for kind i (weight_of i answer)
+  pub weighs : (pos 2 *ℤ weight (gadget_graph kind i) counts) ≤ℤ value_for kind i (weight_of kind i answer)
 
 -- each feasible answer has such a perfect matching
 abbrev pub ReachesAll : Kind → Network → Type 0

@@ -62,7 +62,7 @@ pub fn extract_plain(
     requires perfect { IsPerfectList (graph_of instance.now) edges.now }
     ensures counted { IfOk result (λ a. a ≡ Counts (times_each (graph_of instance.now) edges.now)) }
     ensures feasible { IfOk result (IsFeasible Perfect instance.now) }
-    ensures weighs { IfOk result (λ a. weight_of instance.now a ≡ walk_weight (graph_of instance.now) edges.now) }
+    ensures weighs { IfOk result (λ a. weight_of Perfect instance.now a ≡ walk_weight (graph_of instance.now) edges.now) }
 {
     // The prover learns here that the instance is valid.
     let _edges = instance.edges();

@@ -1,5 +1,5 @@
 -- The answer that a perfect matching stands for, from the counts of the listed edges that enter each first gate.
-use Rattle.std.proofs.Common.{◌≡◌, ℕ, ◌+◌, ◌-◌, ◌<◌, ◌≤◌, min, Bool, true, false, cond, ap, sym, ◌∙◌, subst, arith, List, length, take, get_or, slice_index, slice_index_or, All, Option, None, Some, count_by}
+use Rattle.std.proofs.Common.{◌≡◌, ℕ, ◌+◌, ◌-◌, ◌<◌, ◌≤◌, min, Bool, true, false, cond, ap, refl, sym, ◌∙◌, subst, arith, List, length, take, get_or, slice_index, slice_index_or, All, Option, None, Some, count_by}
 use Rattle.std.proofs.lemmas.List.{ext_get_or}
 use Rattle.std.proofs.lemmas.List.Sums.{sum_by-take-le, count_by_more_yes}
 use Rattle.graph_theory.specs.Graph.{weight, IsPerfect}
@@ -7,7 +7,7 @@ use Rattle.graph_theory.specs.Walk.{walk_weight}
 use Rattle.mb_problem.specs.declared.answer.Answer.TheVariants.{Counts}
 use Rattle.mb_problem.specs.Network.{Network, IsNetwork, vertices, graph_of, instance_edge_at}
 use Rattle.mb_problem.specs.Size.{bounded, value_u, value_v}
-use Rattle.mb_problem.specs.Feasible.{IsFeasible}
+use Rattle.mb_problem.specs.Feasible.{IsFeasible, weight_of}
 use Rattle.mb_problem.proofs.EdgeLemmas.{edge-ends}
 use Rattle.gadget_base.specs.Gadgets.{capped_graph}
 use Rattle.gadget_base.specs.Certified.{IsPerfectList}
@@ -99,3 +99,8 @@ extracted-weight unit i es counts perfect size each =
     ∙ passed-weight i room (listed i room es)
     ∙ ap (weight (capped_graph i room)) (sym (listed-all i room es))
     ∙ weight_of_list (capped_graph i room) es perfect.numbers
+
+-- what an answer of either kind weighs
+pub counts-weight : (unit : Bool) (i : Network) (counts : List ℕ) → weight_of (capped_kind unit) i (Counts counts) ≡ weight (graph_of i) counts
+counts-weight true i counts = refl
+counts-weight false i counts = refl

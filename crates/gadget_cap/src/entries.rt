@@ -80,7 +80,7 @@ pub fn extract(
     requires perfect { IsPerfectList (gadget_graph (capped_kind unit) instance.now) edges.now }
     ensures counts { IfOk result (CountsEntries instance.now (capped_room unit instance.now) edges.now) }
     ensures feasible { IfOk result (IsFeasible (capped_kind unit) instance.now) }
-    ensures weighs { IfOk result (λ a. weight_of instance.now a ≡ walk_weight (gadget_graph (capped_kind unit) instance.now) edges.now) }
+    ensures weighs { IfOk result (λ a. weight_of (capped_kind unit) instance.now a ≡ walk_weight (gadget_graph (capped_kind unit) instance.now) edges.now) }
 {
     let starts = gate_starts(alloc, instance, unit)?;
     let mut counts = vec![in alloc; 0u32; instance.edges() as usize]?;

@@ -91,7 +91,7 @@ pub fn extract_copies(
 ) -> Result<Answer, OutOfMemory>
     requires perfect { IsPerfectList (copies_graph instance.now) edges.now }
     ensures feasible { IfOk result (IsFeasible BMatch instance.now) }
-    ensures weighs { IfOk result (λ a. weight_of instance.now a ≡ walk_weight (copies_graph instance.now) edges.now) }
+    ensures weighs { IfOk result (λ a. weight_of BMatch instance.now a ≡ walk_weight (copies_graph instance.now) edges.now) }
     ensures answer { IfOk result (λ a. a ≡ Counts (gathered instance.now edges.now)) }
 {
     // The prover learns here that the instance is valid.

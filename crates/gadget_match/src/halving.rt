@@ -11,7 +11,7 @@ ghost use Rattle.gadget_base.specs.Listed.{times};
 ghost use Rattle.gadget_match.specs.Extracted.{heavier_copy};
 
 use mb_base::{EdgeId, OutOfMemory, Sequence};
-use mb_problem::{Answer, Instance, weight};
+use mb_problem::{Answer, Instance, Kind, weight};
 use std::alloc::Global;
 
 /// Counts an edge of the graph, where it is copy number `copy`, 1 or 2, of an edge.
@@ -66,9 +66,9 @@ fn count_copies(
 fn weighs_less(instance: &Instance, one: &Answer, other: &Answer) -> bool
     requires one { HasPlaces instance.now one.now }
     requires other { HasPlaces instance.now other.now }
-    ensures { result ≡ int_lt (weight_of instance.now one.now) (weight_of instance.now other.now) }
+    ensures { result ≡ int_lt (weight_of Match instance.now one.now) (weight_of Match instance.now other.now) }
 {
-    weight(instance, one) < weight(instance, other)
+    weight(instance, Kind::Match, one) < weight(instance, Kind::Match, other)
 }
 
 /// The matching that a perfect matching of the graph of `double` stands for, given as the numbers of
@@ -82,7 +82,7 @@ pub fn extract_double(
 ) -> Result<Answer, OutOfMemory>
     requires perfect { IsPerfectList (doubled_graph instance.now) edges.now }
     ensures feasible { IfOk result (IsFeasible Match instance.now) }
-    ensures heavier { IfOk result (λ a. neg_ℤ (walk_weight (doubled_graph instance.now) edges.now) ≤ℤ (pos 2 *ℤ weight_of instance.now a)) }
+    ensures heavier { IfOk result (λ a. neg_ℤ (walk_weight (doubled_graph instance.now) edges.now) ≤ℤ (pos 2 *ℤ weight_of Match instance.now a)) }
     ensures answer { IfOk result (λ a. a ≡ Counts (heavier_copy instance.now edges.now)) }
 {
     let m = instance.edges() as usize;

@@ -8,6 +8,6 @@ mod PortEdges
 mod Back
 mod Steps
 mod Marks
-mod Laws
+pub mod Laws
 mod Tours
 mod Paths

@@ -26,7 +26,7 @@ use Rattle.gadget_base.proofs.Blocks.{tabled-length, tabled-at, All-tabled}
 use Rattle.gadget_base.proofs.Times.{held-times}
 use Rattle.gadget_base.proofs.Listed.{times_each-at, times-weight}
 use Rattle.mb_problem.specs.Joins.{IsJoinOf}
-use Rattle.gadget_tjoin.specs.Joins.{NoneBelowZero}
+use Rattle.mb_problem.specs.Ready.{HasWeightsFromZero}
 use Rattle.gadget_tjoin.proofs.OneTerm.{one_if}
 use Rattle.gadget_tjoin.proofs.WalkParity.{walk-parity}
 use Rattle.gadget_tjoin.proofs.Places.{graph-within, degree-here, here}
@@ -91,7 +91,7 @@ at_least t w some low =
     omega (arith, ints, whole, split, again, more, none)
 
 -- a walk that uses each edge weighs at least all edges and that join
-pub evenly-weight : (i : Network) (es : List ℕ) → All (IsEdgeNumber (graph_of i)) es → ((e : ℕ) → 1 ≤ e → e ≤ length i.edges → holds es e ≡ true) → NoneBelowZero i → (weight (graph_of i) (evenly i es) +ℤ total_weight i) ≤ℤ walk_weight (graph_of i) es
+pub evenly-weight : (i : Network) (es : List ℕ) → All (IsEdgeNumber (graph_of i)) es → ((e : ℕ) → 1 ≤ e → e ≤ length i.edges → holds es e ≡ true) → HasWeightsFromZero i → (weight (graph_of i) (evenly i es) +ℤ total_weight i) ≤ℤ walk_weight (graph_of i) es
 evenly-weight i es numbers all low =
     let g = graph_of i in
     let m = length g.edges in
@@ -119,7 +119,7 @@ nothing-used i none =
 twice-less : (a b c d : ℤ) → a ≡ b → (b +ℤ c) ≤ℤ d → (pos 2 *ℤ a) ≤ℤ (pos 2 *ℤ (d -ℤ c))
 twice-less a b c d e h = omega (arith, ints, e, h)
 
-tours-reached : (i : Network) → IsNetwork i → NoneBelowZero i → ReachesAll Postman i
+tours-reached : (i : Network) → IsNetwork i → HasWeightsFromZero i → ReachesAll Postman i
 tours-reached i ok low (Counts counts) h = absurd h
 tours-reached i ok low (Walk start edges) tour =
     let r = reaches-joins OddDegrees i ok (evenly i edges) (evenly-join i start edges ok tour.closed) in
@@ -129,5 +129,5 @@ tours-reached i ok low Nothing none =
     let r = reaches-joins OddDegrees i ok (evenly i []) (evenly-join i 0 [] ok (tt, refl)) in
     record { counts = r.counts; perfect = r.perfect; weighs = twice-less (weight (ports_graph i (odd_at OddDegrees i)) r.counts) (weight (graph_of i) (evenly i [])) (total_weight i) (pos 0) r.weighs (nothing-used i none) }
 
-pub reaches-tours : (parity : Parity) (i : Network) → IsNetwork i → parity ≡ OddDegrees → NoneBelowZero i → ReachesAll Postman i
+pub reaches-tours : (parity : Parity) (i : Network) → IsNetwork i → parity ≡ OddDegrees → HasWeightsFromZero i → ReachesAll Postman i
 reaches-tours parity i ok is low = tours-reached i ok low

@@ -1,9 +1,8 @@
 -- Joins for each of the three parities, and what the graph of ports says of them (Schrijver,
 -- Combinatorial Optimization, volume A, chapter 29).
-use Rattle.std.specs.Prelude.{◌≡◌, ℕ, ℤ, pos, ◌≤ℤ◌, List, All}
+use Rattle.std.specs.Prelude.{◌≡◌, ℕ, ℤ, List}
 use Rattle.graph_theory.specs.Graph.{Multigraph, weight, IsPerfect}
 use Rattle.mb_problem.specs.declared.answer.Parity.{Parity}
-use Rattle.mb_problem.specs.declared.instance.InstanceEdge.{InstanceEdge}
 use Rattle.mb_problem.specs.Network.{Network, graph_of}
 use Rattle.mb_problem.specs.Size.{odd_at}
 use Rattle.mb_problem.specs.Joins.{IsJoinOf}
@@ -18,7 +17,3 @@ pub record HasPerfect (g : Multigraph) (w : ℤ) : Type 0 where
 -- each join has a perfect matching of the graph of ports with its weight
 abbrev pub ReachesJoins : Parity → Network → Type 0
 ReachesJoins parity i = (counts : List ℕ) → IsJoinOf parity i counts → HasPerfect (ports_graph i (odd_at parity i)) (weight (graph_of i) counts)
-
--- no edge weighs less than 0
-abbrev pub NoneBelowZero : Network → Type 0
-NoneBelowZero i = All (λ (e : InstanceEdge). pos 0 ≤ℤ e.w) i.edges

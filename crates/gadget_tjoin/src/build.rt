@@ -1,13 +1,13 @@
 ghost use Rattle.std.specs.Prelude.{◌≡◌, IfOk};
 ghost use Rattle.mb_problem.specs.Network.{Network, IsNetwork};
-ghost use Rattle.mb_problem.specs.Size.{ports_size};
-ghost use Rattle.mb_problem.specs.Size.{odd_at};
+ghost use Rattle.mb_problem.specs.Ready.{HasWeightsFromZero};
+ghost use Rattle.mb_problem.specs.Size.{ports_size, odd_at};
 ghost use Rattle.gadget_base.specs.Gadgets.{ports_graph};
 ghost use Rattle.graph_theory.specs.Limits.{IsWithinLimits, HasSize};
 ghost use Rattle.gadget_base.specs.Certified.{ReachesAll};
 ghost use Rattle.mb_problem.specs.declared.kind.Kind.TheVariants.{TJoin, Postman, Path};
 ghost use Rattle.mb_problem.specs.declared.answer.Parity.TheVariants.{Values, OddDegrees};
-ghost use Rattle.gadget_tjoin.specs.Joins.{ReachesJoins, NoneBelowZero};
+ghost use Rattle.gadget_tjoin.specs.Joins.{ReachesJoins};
 ghost use Rattle.gadget_tjoin.specs.Groups.{AreGroups};
 
 use crate::groups::{add_cliques, group_sizes};
@@ -64,7 +64,7 @@ pub fn ports(alloc: Global, instance: &Instance, parity: &Parity) -> Result<Grap
     ensures size { HasSize (ports_size instance.now (odd_at parity.now instance.now)) (ports_graph instance.now (odd_at parity.now instance.now)) }
     ensures reached { ReachesJoins parity.now instance.now }
     ensures tjoin { parity.now ≡ Values → ReachesAll TJoin instance.now }
-    ensures postman { parity.now ≡ OddDegrees → NoneBelowZero instance.now → ReachesAll Postman instance.now }
+    ensures postman { parity.now ≡ OddDegrees → HasWeightsFromZero instance.now → ReachesAll Postman instance.now }
     ensures path { parity.now ≡ Values → ReachesAll Path instance.now }
 {
     build(alloc, instance, *parity)

@@ -9,9 +9,17 @@ use Rattle.graph_theory.proofs.Members.{holds_first, least_first, holds-push, in
 use Rattle.graph_theory.proofs.Components.{together-refl, together-sym, together-trans, together-free, component-outside, component-within, component-unique}
 use Rattle.graph_parts.specs.Marks.{is_marked, MarksSet}
 use Rattle.graph_parts.specs.Search.{Finds}
-use Rattle.graph_parts.specs.Heads.{SeenBelow, CountsBelow}
+use Rattle.graph_parts.specs.Heads.{SeenBelow}
 use Rattle.graph_parts.proofs.Once.{members_to, to-has, to-length}
 use Rattle.graph_parts.proofs.ComponentLemmas.{found_component}
+use Rattle.std.specs.List.Sorted.{IsStrictlyIncreasing}
+
+-- how many least vertices of components of odd size are below n
+pub record CountsBelow (g : Multigraph) (removed : List ℕ) (n count : ℕ) : Type 0 where
+  pub heads : List ℕ
+  pub ascending : IsStrictlyIncreasing heads
+  pub exact : (v : ℕ) → (holds heads v ≡ true) ↔ ((v < n) × IsOddHead g removed v)
+  pub size : length heads ≡ count
 
 -- the least vertex of a component is a member
 head_held : (g : Multigraph) (removed component : List ℕ) (v : ℕ) → IsComponent g removed component → slice_index component 0 ≡ v → holds component v ≡ true

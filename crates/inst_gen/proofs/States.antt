@@ -2,36 +2,31 @@
 use Rattle.std.proofs.Common.{◌≡◌, ℕ, zero, suc, ◌+◌, ◌-◌, ◌*◌, ◌≤◌, Bool, true, false, cond, ltb, refl, ap, sym, ◌∙◌, arith}
 use Rattle.std.proofs.lemmas.Bool.{ltb-true, ltb-false, le-ltb}
 use Rattle.mb_problem.specs.declared.kind.Kind.{Kind}
-use Rattle.mb_problem.specs.declared.kind.Kind.TheVariants.{Perfect, Match, BMatch, CapMatch, FFactor, TJoin, Postman, Path}
+use Rattle.mb_problem.specs.declared.kind.VertexValue.{VertexValue}
+use Rattle.mb_problem.specs.declared.kind.VertexValue.TheVariants.{Unused, Degree, Parity, End}
+use Rattle.mb_problem.specs.declared.kind.EdgeUse.{EdgeUse}
+use Rattle.mb_problem.specs.declared.kind.EdgeUse.TheVariants.{Once, AnyNumber, WithinCapacity}
+use Rattle.mb_problem.specs.Kinds.{vertex_value_of, edge_use_of}
 use Rattle.inst_gen.specs.Draws.{next_state, state_after}
-use Rattle.inst_gen.specs.Made.{value_draws, label_draws, edge_draws}
+use Rattle.inst_gen.specs.Made.{value_draws_by, value_draws, label_draws_by, label_draws, edge_draws}
 
 pub state_after-more : (s a b : ℕ) → state_after (state_after s a) b ≡ state_after s (a + b)
 state_after-more s a zero = ap (state_after s) (let e : a ≡ a + 0 = omega arith in e)
 state_after-more s a (suc b) = ap next_state (state_after-more s a b) ∙ ap (state_after s) (let e : suc (a + b) ≡ a + suc b = omega arith in e)
 
-one_value : (kind : Kind) (k : ℕ) → value_draws kind k + value_draws kind 1 ≡ value_draws kind (k + 1)
-one_value Perfect k = refl
-one_value Match k = refl
-one_value BMatch k = refl
-one_value CapMatch k = refl
-one_value FFactor k = refl
-one_value TJoin k = refl
-one_value Postman k = refl
-one_value Path k = refl
+one_value : (value : VertexValue) (k : ℕ) → value_draws_by value k + value_draws_by value 1 ≡ value_draws_by value (k + 1)
+one_value Unused k = refl
+one_value Degree k = refl
+one_value Parity k = refl
+one_value End k = refl
 
 pub value_state : (kind : Kind) (s k : ℕ) → state_after (state_after s (value_draws kind k)) (value_draws kind 1) ≡ state_after s (value_draws kind (k + 1))
-value_state kind s k = state_after-more s (value_draws kind k) (value_draws kind 1) ∙ ap (state_after s) (one_value kind k)
+value_state kind s k = state_after-more s (value_draws kind k) (value_draws kind 1) ∙ ap (state_after s) (one_value (vertex_value_of kind) k)
 
-labels_more : (kind : Kind) (k : ℕ) → label_draws kind * k + label_draws kind ≡ label_draws kind * (k + 1)
-labels_more Perfect k = omega arith
-labels_more Match k = omega arith
-labels_more BMatch k = omega arith
-labels_more CapMatch k = omega arith
-labels_more FFactor k = omega arith
-labels_more TJoin k = omega arith
-labels_more Postman k = omega arith
-labels_more Path k = omega arith
+labels_more : (often : EdgeUse) (k : ℕ) → label_draws_by often * k + label_draws_by often ≡ label_draws_by often * (k + 1)
+labels_more Once k = omega arith
+labels_more AnyNumber k = omega arith
+labels_more WithinCapacity k = omega arith
 
 ends_more : (n k : ℕ) (b : Bool) → 2 ≤ n → ltb (k + 1) n ≡ b → 2 * (k - (n - 1)) + cond b 0 2 ≡ 2 * (k + 1 - (n - 1))
 ends_more n k true two e = let less = ltb-true (k + 1) n e in omega (arith, less, two)
@@ -40,12 +35,14 @@ ends_more n k false two e = let more = ltb-false (k + 1) n e in omega (arith, mo
 one_edge : (kind : Kind) (n k : ℕ) → 2 ≤ n → edge_draws kind n k + (label_draws kind + cond (ltb (k + 1) n) 0 2) ≡ edge_draws kind n (k + 1)
 one_edge kind n k two =
     let ends = ends_more n k (ltb (k + 1) n) two refl in
-    let labels = labels_more kind k in
+    let labels = labels_more (edge_use_of kind) k in
     omega (arith, ends, labels)
 
-pub edge_state : (kind : Kind) (s n k : ℕ) → 2 ≤ n → state_after (state_after s (edge_draws kind n k)) (label_draws kind + cond (ltb (k + 1) n) 0 2) ≡ state_after s (edge_draws kind n (k + 1))
+pub edge_state : (kind : Kind) (s n k : ℕ) → 2 ≤ n →
+    state_after (state_after s (edge_draws kind n k)) (label_draws kind + cond (ltb (k + 1) n) 0 2) ≡ state_after s (edge_draws kind n (k + 1))
 edge_state kind s n k two = state_after-more s (edge_draws kind n k) (label_draws kind + cond (ltb (k + 1) n) 0 2) ∙ ap (state_after s) (one_edge kind n k two)
 
 -- two ends drawn, and then the weight and the capacity
 pub drawn_state : (s labels n k : ℕ) → n ≤ k + 1 → state_after (state_after s 2) labels ≡ state_after s (labels + cond (ltb (k + 1) n) 0 2)
-drawn_state s labels n k past = state_after-more s 2 labels ∙ ap (state_after s) ((let e : 2 + labels ≡ labels + 2 = omega arith in e) ∙ ap (λ (b : Bool). labels + cond b 0 2) (sym (le-ltb (k + 1) n past)))
+drawn_state s labels n k past =
+    state_after-more s 2 labels ∙ ap (state_after s) ((let e : 2 + labels ≡ labels + 2 = omega arith in e) ∙ ap (λ (b : Bool). labels + cond b 0 2) (sym (le-ltb (k + 1) n past)))

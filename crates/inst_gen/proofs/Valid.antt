@@ -6,13 +6,17 @@ use Rattle.std.proofs.lemmas.Nat.{mod_below}
 use Rattle.std.specs.Prelude.{IfSome}
 use Rattle.graph_theory.specs.Graph.{IsWeight}
 use Rattle.mb_problem.specs.declared.kind.Kind.{Kind}
-use Rattle.mb_problem.specs.declared.kind.Kind.TheVariants.{Perfect, Match, BMatch, CapMatch, FFactor, TJoin, Postman, Path}
+use Rattle.mb_problem.specs.declared.kind.VertexValue.{VertexValue}
+use Rattle.mb_problem.specs.declared.kind.VertexValue.TheVariants.{Unused, Degree, Parity, End}
+use Rattle.mb_problem.specs.declared.kind.EdgeUse.{EdgeUse}
+use Rattle.mb_problem.specs.declared.kind.EdgeUse.TheVariants.{Once, AnyNumber, WithinCapacity}
+use Rattle.mb_problem.specs.Kinds.{vertex_value_of, edge_use_of}
 use Rattle.mb_problem.specs.declared.limits.TheConstants.{VERTEX_LIMIT, EDGE_LIMIT, VALUE_LIMIT}
 use Rattle.mb_problem.specs.Network.{IsInstanceEdge, IsNetwork}
 use Rattle.gadget_base.proofs.Blocks.{tabled-length, All-tabled}
 use Rattle.inst_gen.specs.declared.limits.TheConstants.{MADE_WEIGHT_LIMIT, MADE_CAPACITY_LIMIT}
 use Rattle.inst_gen.specs.Draws.{next_state, state_after, drawn}
-use Rattle.inst_gen.specs.Made.{value_draws, value_at, weight_at, capacity_at, edge_between, other_than, edge_at, edge_draws, edges_from, made}
+use Rattle.inst_gen.specs.Made.{value_draws, value_by, value_at, is_from_zero, capacity_by, edge_between, other_than, edge_at, edge_draws, edges_from, made}
 
 pub drawn_below : (k s : ℕ) → 0 < k → drawn k s < k
 drawn_below k s some = mod_below (next_state s / 2 ^ 33) k some
@@ -23,15 +27,11 @@ choice_small : (b : Bool) → cond {A = ℕ} b 1 0 ≤ VALUE_LIMIT
 choice_small true = omega arith
 choice_small false = omega arith
 
-value_small : (kind : Kind) (s n k : ℕ) → value_at kind s n k ≤ VALUE_LIMIT
-value_small Perfect s n k = omega arith
-value_small Match s n k = omega arith
-value_small BMatch s n k = omega (arith, drawn_below 2 s (omega arith))
-value_small CapMatch s n k = omega (arith, drawn_below 2 s (omega arith))
-value_small FFactor s n k = omega (arith, drawn_below 2 s (omega arith))
-value_small TJoin s n k = omega (arith, drawn_below 2 s (omega arith))
-value_small Postman s n k = omega arith
-value_small Path s n k = choice_small ((k == 0) || (k + 1 == n))
+value_small : (value : VertexValue) (s n k : ℕ) → value_by value s n k ≤ VALUE_LIMIT
+value_small Unused s n k = omega arith
+value_small Degree s n k = omega (arith, drawn_below 2 s (omega arith))
+value_small Parity s n k = omega (arith, drawn_below 2 s (omega arith))
+value_small End s n k = choice_small ((k == 0) || (k + 1 == n))
 
 shifted : (r : ℕ) → r < 2 * MADE_WEIGHT_LIMIT + 1 → IsWeight (pos r -ℤ pos MADE_WEIGHT_LIMIT)
 shifted r h = (omega (arith, ints, h), omega (arith, ints, h))
@@ -45,31 +45,20 @@ shifted_draw s = shifted (drawn (2 * MADE_WEIGHT_LIMIT + 1) s) (drawn_below (2 *
 plain_draw : (s : ℕ) → IsWeight (pos (drawn (MADE_WEIGHT_LIMIT + 1) s))
 plain_draw s = plain (drawn (MADE_WEIGHT_LIMIT + 1) s) (drawn_below (MADE_WEIGHT_LIMIT + 1) s (omega arith))
 
-weight_fits : (kind : Kind) (s : ℕ) → IsWeight (weight_at kind s)
-weight_fits Perfect s = shifted_draw s
-weight_fits Match s = shifted_draw s
-weight_fits BMatch s = shifted_draw s
-weight_fits CapMatch s = shifted_draw s
-weight_fits FFactor s = shifted_draw s
-weight_fits TJoin s = shifted_draw s
-weight_fits Postman s = plain_draw s
-weight_fits Path s = plain_draw s
+weight_fits : (least : Bool) (s : ℕ) → IsWeight (cond least (pos (drawn (MADE_WEIGHT_LIMIT + 1) s)) (pos (drawn (2 * MADE_WEIGHT_LIMIT + 1) s) -ℤ pos MADE_WEIGHT_LIMIT))
+weight_fits true s = plain_draw s
+weight_fits false s = shifted_draw s
 
-capacity_small : (kind : Kind) (s : ℕ) → IfSome (capacity_at kind s) (λ c. c ≤ VALUE_LIMIT)
-capacity_small Perfect s = tt
-capacity_small Match s = tt
-capacity_small BMatch s = tt
-capacity_small CapMatch s = omega (arith, drawn_below MADE_CAPACITY_LIMIT s (omega arith))
-capacity_small FFactor s = tt
-capacity_small TJoin s = tt
-capacity_small Postman s = tt
-capacity_small Path s = tt
+capacity_small : (often : EdgeUse) (s : ℕ) → IfSome (capacity_by often s) (λ c. c ≤ VALUE_LIMIT)
+capacity_small Once s = tt
+capacity_small AnyNumber s = tt
+capacity_small WithinCapacity s = omega (arith, drawn_below MADE_CAPACITY_LIMIT s (omega arith))
 
 between_fits : (kind : Kind) (s u v n : ℕ) → 1 ≤ u → u ≤ n → 1 ≤ v → v ≤ n → u ≢ v → IsInstanceEdge n (edge_between kind s u v)
 between_fits kind s u v n u_low u_high v_low v_high differ = record {
   ends = record { u_low = u_low; u_high = u_high; v_low = v_low; v_high = v_high; differ = differ };
-  weight = weight_fits kind s;
-  capacity = capacity_small kind (next_state s);
+  weight = weight_fits (is_from_zero kind) s;
+  capacity = capacity_small (edge_use_of kind) (next_state s);
 }
 
 pub record IsOther (n u v : ℕ) : Type 0 where
@@ -88,8 +77,10 @@ drawn_fits kind s n r t first second =
 
 edge_by : (kind : Kind) (s n k : ℕ) (b : Bool) → ltb (k + 1) n ≡ b → 2 ≤ n →
     IsInstanceEdge n (cond b (edge_between kind s (k + 1) (k + 2)) (edge_between kind (state_after s 2) (1 + drawn n s) (other_than (1 + drawn n s) (drawn (n - 1) (next_state s)))))
-edge_by kind s n k true e two = let less = ltb-true (k + 1) n e in between_fits kind s (k + 1) (k + 2) n (omega arith) (omega (arith, less)) (omega arith) (omega (arith, less)) (λ same. omega (arith, same))
-edge_by kind s n k false e two = drawn_fits kind (state_after s 2) n (drawn n s) (drawn (n - 1) (next_state s)) (drawn_below n s (omega (arith, two))) (drawn_below (n - 1) (next_state s) (omega (arith, two)))
+edge_by kind s n k true e two =
+    let less = ltb-true (k + 1) n e in between_fits kind s (k + 1) (k + 2) n (omega arith) (omega (arith, less)) (omega arith) (omega (arith, less)) (λ same. omega (arith, same))
+edge_by kind s n k false e two =
+    drawn_fits kind (state_after s 2) n (drawn n s) (drawn (n - 1) (next_state s)) (drawn_below n s (omega (arith, two))) (drawn_below (n - 1) (next_state s) (omega (arith, two)))
 
 edge_fits : (kind : Kind) (s n k : ℕ) → 2 ≤ n → IsInstanceEdge n (edge_at kind s n k)
 edge_fits kind s n k two = edge_by kind s n k (ltb (k + 1) n) refl two
@@ -104,5 +95,5 @@ made_is_network kind start n m few_vertices few_edges ends =
       few_vertices = omega (arith, size, few_vertices);
       few_edges = omega (arith, tabled-length (λ k. edge_at kind (state_after s (edge_draws kind n k)) n k) m, few_edges);
       edges = subst (λ (v : ℕ). All (IsInstanceEdge v) (edges_from kind s n m)) (sym size) (All-tabled (IsInstanceEdge n) (λ k. edge_at kind (state_after s (edge_draws kind n k)) n k) m (λ k below. edge_fits kind (state_after s (edge_draws kind n k)) n k (ends (omega (arith, below)))));
-      values = All-tabled (λ b. b ≤ VALUE_LIMIT) (λ k. value_at kind (state_after start (value_draws kind k)) n k) n (λ k below. value_small kind (state_after start (value_draws kind k)) n k);
+      values = All-tabled (λ b. b ≤ VALUE_LIMIT) (λ k. value_at kind (state_after start (value_draws kind k)) n k) n (λ k below. value_small (vertex_value_of kind) (state_after start (value_draws kind k)) n k);
     }

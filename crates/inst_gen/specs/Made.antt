@@ -1,7 +1,13 @@
 -- The made instances: each value and each edge from the state of the generator before it.
-use Rattle.std.specs.Prelude.{ℕ, ◌+◌, ◌-◌, ◌*◌, ◌||◌, ◌==◌, nat_lt, nat_le, if◌then◌else◌, ℤ, pos, ◌-ℤ◌, List, Option, None, Some}
+use Rattle.std.specs.Prelude.{ℕ, Bool, true, ◌+◌, ◌-◌, ◌*◌, ◌||◌, ◌==◌, nat_lt, nat_le, if◌then◌else◌, ℤ, pos, ◌-ℤ◌, List, Option, None, Some}
 use Rattle.mb_problem.specs.declared.kind.Kind.{Kind}
-use Rattle.mb_problem.specs.declared.kind.Kind.TheVariants.{Perfect, Match, BMatch, CapMatch, FFactor, TJoin, Postman, Path}
+use Rattle.mb_problem.specs.declared.kind.Need.{Need}
+use Rattle.mb_problem.specs.declared.kind.Need.TheVariants.{Unrestricted, WeightsFromZero, Ends, EndsAndWeightsFromZero}
+use Rattle.mb_problem.specs.declared.kind.VertexValue.{VertexValue}
+use Rattle.mb_problem.specs.declared.kind.VertexValue.TheVariants.{Unused, Degree, Parity, End}
+use Rattle.mb_problem.specs.declared.kind.EdgeUse.{EdgeUse}
+use Rattle.mb_problem.specs.declared.kind.EdgeUse.TheVariants.{Once, AnyNumber, WithinCapacity}
+use Rattle.mb_problem.specs.Kinds.{need_of, vertex_value_of, edge_use_of, asks_conservative}
 use Rattle.mb_problem.specs.declared.instance.InstanceEdge.{InstanceEdge}
 use Rattle.mb_problem.specs.Network.{Network}
 use Rattle.gadget_base.specs.Blocks.{tabled}
@@ -11,61 +17,60 @@ use Rattle.inst_gen.specs.Draws.{next_state, state_after, drawn}
 -- ---- values of vertices
 
 -- how many numbers are drawn for the values of k vertices
-abbrev pub value_draws : Kind → ℕ → ℕ
-value_draws Perfect k = 0
-value_draws Match k = 0
-value_draws BMatch k = k
-value_draws CapMatch k = k
-value_draws FFactor k = k
-value_draws TJoin k = k
-value_draws Postman k = 0
-value_draws Path k = 0
+abbrev pub value_draws_by : VertexValue → ℕ → ℕ
+value_draws_by Unused k = 0
+value_draws_by Degree k = k
+value_draws_by Parity k = k
+value_draws_by End k = 0
 
--- the value of the vertex at place k of n, from 0, in state s; a path goes from the first vertex to the last
+abbrev pub value_draws : Kind → ℕ → ℕ
+value_draws kind k = value_draws_by (vertex_value_of kind) k
+
+-- the value of the vertex at place k of n, from 0, in state s; the first vertex and the last are the ends
+abbrev pub value_by : VertexValue → ℕ → ℕ → ℕ → ℕ
+value_by Unused s n k = 0
+value_by Degree s n k = 1 + drawn 2 s
+value_by Parity s n k = drawn 2 s
+value_by End s n k = if (k == 0) || (k + 1 == n) then 1 else 0
+
 abbrev pub value_at : Kind → ℕ → ℕ → ℕ → ℕ
-value_at Perfect s n k = 0
-value_at Match s n k = 0
-value_at BMatch s n k = 1 + drawn 2 s
-value_at CapMatch s n k = 1 + drawn 2 s
-value_at FFactor s n k = 1 + drawn 2 s
-value_at TJoin s n k = drawn 2 s
-value_at Postman s n k = 0
-value_at Path s n k = if (k == 0) || (k + 1 == n) then 1 else 0
+value_at kind s n k = value_by (vertex_value_of kind) s n k
 
 -- ---- edges
 
--- weights from -MADE_WEIGHT_LIMIT to MADE_WEIGHT_LIMIT, but none below 0 for tours and paths
-abbrev pub weight_at : Kind → ℕ → ℤ
-weight_at Perfect s = pos (drawn (2 * MADE_WEIGHT_LIMIT + 1) s) -ℤ pos MADE_WEIGHT_LIMIT
-weight_at Match s = pos (drawn (2 * MADE_WEIGHT_LIMIT + 1) s) -ℤ pos MADE_WEIGHT_LIMIT
-weight_at BMatch s = pos (drawn (2 * MADE_WEIGHT_LIMIT + 1) s) -ℤ pos MADE_WEIGHT_LIMIT
-weight_at CapMatch s = pos (drawn (2 * MADE_WEIGHT_LIMIT + 1) s) -ℤ pos MADE_WEIGHT_LIMIT
-weight_at FFactor s = pos (drawn (2 * MADE_WEIGHT_LIMIT + 1) s) -ℤ pos MADE_WEIGHT_LIMIT
-weight_at TJoin s = pos (drawn (2 * MADE_WEIGHT_LIMIT + 1) s) -ℤ pos MADE_WEIGHT_LIMIT
-weight_at Postman s = pos (drawn (MADE_WEIGHT_LIMIT + 1) s)
-weight_at Path s = pos (drawn (MADE_WEIGHT_LIMIT + 1) s)
+-- no weight below 0 is drawn where the kind asks for such an instance, or that no circuit weighs less than 0
+abbrev pub from_zero_by : Need → Bool → Bool
+from_zero_by Unrestricted conservative = conservative
+from_zero_by WeightsFromZero conservative = true
+from_zero_by Ends conservative = conservative
+from_zero_by EndsAndWeightsFromZero conservative = true
 
--- capacities from 1 to MADE_CAPACITY_LIMIT, for the one kind that uses them
+abbrev pub is_from_zero : Kind → Bool
+is_from_zero kind = from_zero_by (need_of kind) (asks_conservative kind)
+
+-- weights of at most MADE_WEIGHT_LIMIT in absolute value
+abbrev pub weight_at : Kind → ℕ → ℤ
+weight_at kind s =
+    if is_from_zero kind then pos (drawn (MADE_WEIGHT_LIMIT + 1) s)
+    else pos (drawn (2 * MADE_WEIGHT_LIMIT + 1) s) -ℤ pos MADE_WEIGHT_LIMIT
+
+-- capacities from 1 to MADE_CAPACITY_LIMIT, where they are used
+abbrev pub capacity_by : EdgeUse → ℕ → Option ℕ
+capacity_by Once s = None
+capacity_by AnyNumber s = None
+capacity_by WithinCapacity s = Some (1 + drawn MADE_CAPACITY_LIMIT s)
+
 abbrev pub capacity_at : Kind → ℕ → Option ℕ
-capacity_at Perfect s = None
-capacity_at Match s = None
-capacity_at BMatch s = None
-capacity_at CapMatch s = Some (1 + drawn MADE_CAPACITY_LIMIT s)
-capacity_at FFactor s = None
-capacity_at TJoin s = None
-capacity_at Postman s = None
-capacity_at Path s = None
+capacity_at kind s = capacity_by (edge_use_of kind) s
 
 -- how many numbers are drawn for the weight and the capacity of an edge
+abbrev pub label_draws_by : EdgeUse → ℕ
+label_draws_by Once = 1
+label_draws_by AnyNumber = 1
+label_draws_by WithinCapacity = 2
+
 abbrev pub label_draws : Kind → ℕ
-label_draws Perfect = 1
-label_draws Match = 1
-label_draws BMatch = 1
-label_draws CapMatch = 2
-label_draws FFactor = 1
-label_draws TJoin = 1
-label_draws Postman = 1
-label_draws Path = 1
+label_draws kind = label_draws_by (edge_use_of kind)
 
 -- the edge from u to v, whose weight is drawn in state s, and then its capacity
 abbrev pub edge_between : Kind → ℕ → ℕ → ℕ → InstanceEdge

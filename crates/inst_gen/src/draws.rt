@@ -3,8 +3,8 @@ ghost use Rattle.inst_gen.specs.Draws.{next_state, drawn};
 
 use crate::limits::{INCREMENT, MULTIPLIER};
 
-/// Numbers drawn one after another, all of which the start determines: a linear congruential generator
-/// modulo 2^64 (Knuth, The Art of Computer Programming, volume 2, section 3.2.1).
+/// Numbers drawn one after another, all of which the start determines: a linear congruential
+/// generator modulo 2^64 (Knuth, The Art of Computer Programming, volume 2, section 3.2.1).
 #[derive(Drop)]
 pub struct Draws {
     state: u64,

@@ -1,37 +1,45 @@
 ghost use Rattle.std.specs.Prelude.{◌≡◌, ◌+◌, ◌-◌, ◌<◌, ◌≤◌, IfOk, if◌then◌else◌, nat_lt};
 ghost use Rattle.inst_gen.specs.Draws.{next_state, state_after};
-ghost use Rattle.inst_gen.specs.Made.{weight_at, capacity_at, label_draws, edge_between, other_than, edge_at, edges_from};
+ghost use Rattle.inst_gen.specs.Made.{is_from_zero, weight_at, capacity_at, label_draws};
+ghost use Rattle.inst_gen.specs.Made.{edge_between, other_than};
+ghost use Rattle.inst_gen.specs.Made.{edge_at, edges_from};
 
 use crate::draws::Draws;
 use crate::limits::{MADE_CAPACITY_LIMIT, MADE_WEIGHT_LIMIT};
 use mb_base::{OutOfMemory, VertexId};
-use mb_problem::{EDGE_LIMIT, InstanceEdge, Kind, VERTEX_LIMIT};
+use mb_problem::{EDGE_LIMIT, EdgeUse, InstanceEdge, Kind, Need, VERTEX_LIMIT};
 use std::alloc::Global;
+
+/// Whether no weight below 0 is drawn.
+fn is_from_zero(kind: Kind) -> bool
+    ensures { result ≡ is_from_zero kind }
+{
+    match kind.needs() {
+        Need::Unrestricted => kind.asks_conservative(),
+        Need::WeightsFromZero => true,
+        Need::Ends => kind.asks_conservative(),
+        Need::EndsAndWeightsFromZero => true,
+    }
+}
 
 fn weight(kind: Kind, draws: &mut Draws) -> i64
     ensures weight { result ≡ weight_at kind draws.old.state }
     ensures state { draws.new.state ≡ next_state draws.old.state }
 {
-    match kind {
-        Kind::Postman | Kind::Path => i64::from(draws.draw(MADE_WEIGHT_LIMIT + 1)),
-        Kind::Perfect | Kind::Match | Kind::BMatch | Kind::CapMatch | Kind::FFactor | Kind::TJoin =>
-            { i64::from(draws.draw(2 * MADE_WEIGHT_LIMIT + 1)) - i64::from(MADE_WEIGHT_LIMIT) }
+    if is_from_zero(kind) {
+        return i64::from(draws.draw(MADE_WEIGHT_LIMIT + 1));
     }
+    i64::from(draws.draw(2 * MADE_WEIGHT_LIMIT + 1)) - i64::from(MADE_WEIGHT_LIMIT)
 }
 
 fn capacity(kind: Kind, draws: &mut Draws) -> Option<u32>
     ensures capacity { result ≡ capacity_at kind draws.old.state }
     ensures state { draws.new.state ≡ state_after draws.old.state (label_draws kind - 1) }
 {
-    match kind {
-        Kind::CapMatch => Some(1 + draws.draw(MADE_CAPACITY_LIMIT)),
-        Kind::Perfect
-        | Kind::Match
-        | Kind::BMatch
-        | Kind::FFactor
-        | Kind::TJoin
-        | Kind::Postman
-        | Kind::Path => None,
+    match kind.edge_use() {
+        EdgeUse::Once => None,
+        EdgeUse::AnyNumber => None,
+        EdgeUse::WithinCapacity => Some(1 + draws.draw(MADE_CAPACITY_LIMIT)),
     }
 }
 
@@ -68,7 +76,8 @@ fn edge(kind: Kind, n: u32, k: u32, draws: &mut Draws) -> InstanceEdge
     requires few { n ≤ VERTEX_LIMIT }
     requires place { k < EDGE_LIMIT }
     ensures edge { result ≡ edge_at kind draws.old.state n k }
-    ensures state { draws.new.state ≡ state_after draws.old.state (label_draws kind + (if nat_lt (k + 1) n then 0 else 2)) }
+    ensures state { draws.new.state
+        ≡ state_after draws.old.state (label_draws kind + (if nat_lt (k + 1) n then 0 else 2)) }
 {
     if k + 1 < n {
         return between(kind, k + 1, k + 2, draws);

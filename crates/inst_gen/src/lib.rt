@@ -1,6 +1,6 @@
-//! Instances that are made by rule, for trials: the kind, a start and two counts determine each of them.
-//! It stands on `mb_problem` and, for what an instance of a kind has to have, on `dimacs_read`. It promises
-//! that an instance is the one of its definition, and that it is one of its kind.
+//! Instances that are made by rule, for trials: the kind, a start and two counts determine each. It
+//! stands on `mb_problem`. It promises that an instance is the one of its definition, and that it
+//! is one of its kind.
 #![tactic(auto)]
 
 mod draws;

@@ -4,7 +4,7 @@ ghost use Rattle.inst_gen.specs.Made.{value_draws, value_at, values_from};
 
 use crate::draws::Draws;
 use mb_base::OutOfMemory;
-use mb_problem::{Kind, VERTEX_LIMIT};
+use mb_problem::{Kind, VERTEX_LIMIT, VertexValue};
 use std::alloc::Global;
 
 /// The value of the vertex at place k of n.
@@ -13,11 +13,11 @@ fn value(kind: Kind, n: u32, k: u32, draws: &mut Draws) -> u32
     ensures value { result ≡ value_at kind draws.old.state n k }
     ensures state { draws.new.state ≡ state_after draws.old.state (value_draws kind 1) }
 {
-    match kind {
-        Kind::BMatch | Kind::CapMatch | Kind::FFactor => 1 + draws.draw(2),
-        Kind::TJoin => draws.draw(2),
-        Kind::Path => u32::from(k == 0 || k + 1 == n),
-        Kind::Perfect | Kind::Match | Kind::Postman => 0,
+    match kind.vertex_value() {
+        VertexValue::Unused => 0,
+        VertexValue::Degree => 1 + draws.draw(2),
+        VertexValue::Parity => draws.draw(2),
+        VertexValue::End => u32::from(k == 0 || k + 1 == n),
     }
 }
 
@@ -30,7 +30,8 @@ pub fn make_values(
 ) -> Result<Vec<u32>, OutOfMemory>
     requires { n ≤ VERTEX_LIMIT }
     ensures values { IfOk result (λ v. v.items ≡ values_from kind draws.old.state n) }
-    ensures state { OnOk result (draws.new.state ≡ state_after draws.old.state (value_draws kind n)) }
+    ensures state { OnOk result
+        (draws.new.state ≡ state_after draws.old.state (value_draws kind n)) }
 {
     let mut values = Vec::with_capacity(alloc, n as usize)?;
     for k in 0..n {

@@ -1,2 +1,4 @@
+pub mod Passing
+mod MatchedEdges
 pub mod Listing
 mod Leasts

@@ -9,8 +9,8 @@ ghost use Rattle.mwpm_engine.specs.Solutions.{IsSolved, most_steps, size_of_grap
 ghost use Rattle.mwpm_engine.specs.declared.outcome.Outcome.TheVariants.{Matched};
 ghost use Rattle.least_joins.specs.Least.{HasJoin, IsLeastJoin};
 
+use crate::matched::matching;
 use gadget_tjoin::{extract, ports};
-use matched_edges::matching;
 use mb_base::{OutOfMemory, Steps};
 use mb_problem::{Instance, Join, Parity};
 use mwpm_engine::Engine;

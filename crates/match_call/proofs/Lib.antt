@@ -1,2 +1,1 @@
-pub mod TaskWords
-pub mod WholeAnswers
+pub mod TaskAnswers

@@ -1,12 +1,12 @@
-//! `match_cli::run` over bytes in memory: a task, a kind and bytes in, the status and the whole answer out.
-//! It stands on `match_cli`. It promises what `run` promises, by a source and a sink that always tell their bytes.
+//! The program as one call over bytes in memory: a task, a kind and bytes in, the status and the
+//! whole answer out.
+//! It stands on `match_cli`, on the call that `run` stands on too. It promises what `run` promises
+//! of its answers.
 #![tactic(auto)]
 
 mod calls;
-mod sink;
-mod source;
 mod task;
-mod words;
 
-pub use calls::{Answer, call};
+pub use calls::call;
+pub use match_cli::Answer;
 pub use task::Task;

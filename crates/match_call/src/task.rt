@@ -1,3 +1,9 @@
+ghost use Rattle.std.specs.Prelude.{◌≡◌};
+ghost use Rattle.match_call.specs.Calls.{command_for};
+
+use command_words::Command;
+use mb_problem::Kind;
+
 /// What a call is to do.
 #[derive(Clone, Copy, Debug, PartialEq, Eq)]
 pub enum Task {
@@ -7,4 +13,15 @@ pub enum Task {
     SolveBriefly,
     /// Judge the document that follows an instance.
     Check,
+}
+
+/// The command that is the task for the kind.
+pub fn command_for(task: Task, kind: Kind) -> Command
+    ensures { result ≡ command_for task kind }
+{
+    match task {
+        Task::Solve => Command::Solve { kind, brief: false },
+        Task::SolveBriefly => Command::Solve { kind, brief: true },
+        Task::Check => Command::Check { kind },
+    }
 }

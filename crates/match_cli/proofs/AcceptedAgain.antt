@@ -1,6 +1,6 @@
 -- What `solve` wrote in full is accepted by `check` where it follows the input.
 use Rattle.std.proofs.Common.{◌≡◌, ℕ, ◌≤◌, false, List, [], ◌∷◌, ◌++◌, length, Option, None, Some, refl, sym, ap, subst, ◌∙◌, arith}
-use Rattle.std.specs.Prelude.{IfSome}
+use Rattle.std.specs.Prelude.{IfSome, codes}
 use Rattle.std.proofs.lemmas.List.{length-append, append_cancel_left}
 use Rattle.std.proofs.lemmas.Option.{same_Some}
 use Rattle.mb_base.specs.Rows.{Row, rows}
@@ -14,7 +14,8 @@ use Rattle.dimacs_read.specs.Rows.{instance_rows}
 use Rattle.dimacs_read.specs.Format.{HoldsInstance}
 use Rattle.dimacs_read.specs.Rest.{after_lines}
 use Rattle.doc_format.specs.declared.document.Document.{Document}
-use Rattle.doc_format.specs.Reading.{HoldsDocument}
+use Rattle.doc_format.specs.Reading.{body_of, HoldsDocument}
+use Rattle.doc_format.proofs.PartLaws.{vertices_ascend}
 use Rattle.doc_format.specs.Spelling.{document_text}
 use Rattle.doc_format.specs.Law.{HasKeptNumbers}
 use Rattle.certificates.proofs.BarrierLemmas.{forms-where_none}
@@ -25,10 +26,10 @@ use Rattle.match_cli.specs.declared.limits.TheConstants.{SOLVE_BYTE_LIMIT}
 use Rattle.command_words.specs.declared.command.Command.{Command}
 use Rattle.command_words.specs.declared.command.Command.TheVariants.{Check, Solve}
 use Rattle.command_words.specs.Commands.{command_of}
-use Rattle.match_cli.specs.Commands.{IsShort, given}
+use Rattle.match_cli.specs.Commands.{given}
 use Rattle.match_cli.specs.Solving.{Solves}
-use Rattle.match_cli.specs.Answers.{instance_part, document_part, document_line, InputHolds, InputStates, Accepts, HoldsAlone, Answers, Out, DecidesSolve}
-use Rattle.match_cli.specs.Runs.{IsAnswer, EndsLine, IsAccepted, IsAcceptedAgain}
+use Rattle.match_cli.specs.Answers.{instance_part, document_part, document_line, InputHolds, InputStates, Accepts, HoldsAlone, Gives, Out, DecidesSolve}
+use Rattle.match_cli.specs.Runs.{IsAnswer, EndsLine, IsAcceptedBehind, IsAcceptedAgain}
 use Rattle.match_cli.proofs.CommandLines.{check_named}
 use Rattle.match_cli.proofs.InputParts.{rows-both, after-both, instance-alone, instance-before}
 use Rattle.match_cli.proofs.Renumbering.{renumbered, text_holds}
@@ -36,7 +37,7 @@ use Rattle.match_cli.proofs.ProvedAgain.{kept}
 use Rattle.match_cli.proofs.SameClaims.{proved-lines, truth-lines}
 
 formed : (d : Document) → IsFormed d
-formed d = record { vertices_ascend = d.form.vertices_ascend; forms_where_none = λ other. forms-where_none d.status d.kind _ d.form.letters other }
+formed d = record { vertices_ascend = vertices_ascend (body_of d) d.form.ordered; forms_where_none = λ other. forms-where_none d.status d.kind _ d.form.letters other }
 
 module _ (kind : Kind) (front : List ℕ) (i : Network) (d : Document) (alone : HoldsAlone kind (front ++ 10 ∷ []) i) (read : HasKeptNumbers d) where
   abbrev input : List ℕ
@@ -71,16 +72,19 @@ module _ (kind : Kind) (front : List ℕ) (i : Network) (d : Document) (alone : 
         truth = truth-lines kind i (document_line whole) d solves.truth;
       }
 
+abbrev AcceptsBehind : Kind → List ℕ → List ℕ → Type 0
+AcceptsBehind kind bytes written = Gives (Check kind) (bytes ++ written) (codes "s ACCEPTED\n") Done
+
 -- the answer of `check` to an input that ends its last line, and a full document of its instance behind it
-accepts_text : (kind : Kind) (front : List ℕ) (i : Network) (d : Document) → length (front ++ 10 ∷ []) ≤ SOLVE_BYTE_LIMIT → HoldsAlone kind (front ++ 10 ∷ []) i → IsWithinLimits (size_of kind i) → Solves kind i d → IsAccepted kind (front ++ 10 ∷ []) (document_text d false)
-accepts_text kind front i d short alone fits solves name =
+accepts_text : (kind : Kind) (front : List ℕ) (i : Network) (d : Document) → length (front ++ 10 ∷ []) ≤ SOLVE_BYTE_LIMIT → HoldsAlone kind (front ++ 10 ∷ []) i → IsWithinLimits (size_of kind i) → Solves kind i d → AcceptsBehind kind (front ++ 10 ∷ []) (document_text d false)
+accepts_text kind front i d short alone fits solves =
     let input = front ++ 10 ∷ [] in
     let sum = length-append input (document_text d false) in
     let small = solves.small in
     let accepts = accepts_both kind front i d alone (kept kind i d solves.network fits solves.proved solves.small) fits solves in
-    (Check kind, check_named kind name, omega arith, (i, renumbered (document_line (input ++ document_text d false)) d, accepts, refl))
+    (omega arith, (i, renumbered (document_line (input ++ document_text d false)) d, accepts, refl))
 
-solved_is_accepted : (kind : Kind) (bytes out : List ℕ) → length bytes ≤ SOLVE_BYTE_LIMIT → EndsLine bytes → DecidesSolve kind false bytes out Done → IsAccepted kind bytes out
+solved_is_accepted : (kind : Kind) (bytes out : List ℕ) → length bytes ≤ SOLVE_BYTE_LIMIT → EndsLine bytes → DecidesSolve kind false bytes out Done → AcceptsBehind kind bytes out
 solved_is_accepted kind bytes out short ends h =
     let front = ends.0 in
     let i = h.0 in
@@ -88,8 +92,24 @@ solved_is_accepted kind bytes out short ends h =
     let input : front ++ 10 ∷ [] ≡ bytes = sym ends.1 in
     let alone : HoldsAlone kind (front ++ 10 ∷ []) i = subst (λ (b : List ℕ). HoldsAlone kind b i) ends.1 h.2 in
     let within : length (front ++ 10 ∷ []) ≤ SOLVE_BYTE_LIMIT = subst (λ (b : List ℕ). length b ≤ SOLVE_BYTE_LIMIT) ends.1 short in
-    let accepted : IsAccepted kind (front ++ 10 ∷ []) (document_text d false) = accepts_text kind front i d within alone h.3 h.4 in
-    subst (λ (b : List ℕ). IsAccepted kind b out) input (subst (λ (o : List ℕ). IsAccepted kind (front ++ 10 ∷ []) o) (sym h.5) accepted)
+    let accepted : AcceptsBehind kind (front ++ 10 ∷ []) (document_text d false) = accepts_text kind front i d within alone h.3 h.4 in
+    subst (λ (b : List ℕ). AcceptsBehind kind b out) input (subst (λ (o : List ℕ). AcceptsBehind kind (front ++ 10 ∷ []) o) (sym h.5) accepted)
+
+accepted_done : (command : Command) (bytes out : List ℕ) → Gives command bytes out Done → IsAcceptedBehind command bytes out Done
+accepted_done command bytes out h kind is ends =
+    let gives : Gives (Solve kind false) bytes out Done = subst (λ (c : Command). Gives c bytes out Done) is h in
+    solved_is_accepted kind bytes out gives.0 ends gives.1
+
+pub accepted_behind : (command : Command) (bytes out : List ℕ) (status : Status) → Gives command bytes out status → IsAcceptedBehind command bytes out status
+accepted_behind command bytes out Done h = accepted_done command bytes out h
+accepted_behind command bytes out Rejected h = tt
+accepted_behind command bytes out Usage h = tt
+accepted_behind command bytes out Malformed h = tt
+accepted_behind command bytes out TooLarge h = tt
+accepted_behind command bytes out TooLong h = tt
+accepted_behind command bytes out ReadFault h = tt
+accepted_behind command bytes out WriteFault h = tt
+accepted_behind command bytes out OutOfMemory h = tt
 
 -- ---- of a run
 
@@ -97,14 +117,13 @@ again_of : (words : List (List ℕ)) (before after taken_before taken_after : Op
 again_of words None after taken_before taken_after out h extends = tt
 again_of words (Some bytes) after None taken_after out h extends = tt
 again_of words (Some bytes) after (Some xs) None out h extends = tt
-again_of words (Some bytes) after (Some xs) (Some ys) out h extends = λ kind written solves ends is.
+again_of words (Some bytes) after (Some xs) (Some ys) out h extends = λ kind written solves ends is name.
     (let source : given (command_of words) (Some bytes) ≡ Some bytes = rw solves refl in
     let says : Out words bytes out Done = subst (λ (o : Option (List ℕ)). IfSome o (λ (b : List ℕ). Out words b out Done)) source h.0 in
     let named : says.0 ≡ Solve kind false = same_Some says.0 (Solve kind false) (sym says.1 ∙ solves) in
-    let answers : Answers (Solve kind false) bytes out Done = subst (λ (c : Command). Answers c bytes out Done) named says.3 in
-    let short : length bytes ≤ SOLVE_BYTE_LIMIT = subst (λ (c : Command). IsShort c bytes) named says.2 in
     let same : out ≡ written = append_cancel_left xs out written (sym extends ∙ is) in
-    subst (λ (o : List ℕ). IsAccepted kind bytes o) same (solved_is_accepted kind bytes out short ends answers))
+    let accepted : AcceptsBehind kind bytes out = accepted_done says.0 bytes out says.2 kind named ends in
+    (Check kind, check_named kind name, subst (λ (o : List ℕ). AcceptsBehind kind bytes o) same accepted))
 
 pub accepted_again : (words : List (List ℕ)) (before after taken_before taken_after : Option (List ℕ)) (out : List ℕ) (status : Status) → IsAnswer words before after out status → Extends taken_before taken_after out → IsAcceptedAgain words before taken_before taken_after status
 accepted_again words before after taken_before taken_after out Done h extends = again_of words before after taken_before taken_after out h extends

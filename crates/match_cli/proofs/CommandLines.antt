@@ -1,13 +1,14 @@
 -- What the words of a command line can ask for, and what is read for them.
-use Rattle.std.proofs.Common.{◌≡◌, ℕ, ◌≤◌, List, [], ◌∷◌, length, Option, None, Some, refl}
+use Rattle.std.proofs.Common.{◌≡◌, ℕ, List, [], ◌∷◌, Option, None, Some, refl, ap}
 use Rattle.std.specs.Prelude.{codes}
+use Rattle.std.specs.Option.{option_map}
 use Rattle.mb_problem.specs.declared.kind.Kind.{Kind}
-use Rattle.mb_problem.specs.declared.kind.Kind.TheVariants.{Perfect, Match, BMatch, CapMatch, FFactor, TJoin, Postman, Path}
 use Rattle.mb_problem.specs.Kinds.{kind_text}
+use Rattle.mb_problem.proofs.KindLaws.{kind-back}
 use Rattle.command_words.specs.Commands.{command_of}
 use Rattle.command_words.specs.declared.command.Command.{Command}
 use Rattle.command_words.specs.declared.command.Command.TheVariants.{Check, Solve, Trial}
-use Rattle.match_cli.specs.Commands.{limit_of, IsShort, given, KeepsUnread}
+use Rattle.match_cli.specs.Commands.{limit_of, given, KeepsUnread}
 use Rattle.match_cli.specs.Runs.{left_by}
 
 -- a command that reads is given what its source tells
@@ -16,7 +17,8 @@ given-reading (Check kind) limit source reads = refl
 given-reading (Solve kind brief) limit source reads = refl
 given-reading (Trial kind start n m) limit source reads = absurd cc
 
-pub given_source : (words : List (List ℕ)) (command : Command) (limit : ℕ) (source : Option (List ℕ)) → command_of words ≡ Some command → limit_of command ≡ Some limit → given (command_of words) source ≡ source
+pub given_source : (words : List (List ℕ)) (command : Command) (limit : ℕ) (source : Option (List ℕ)) → command_of words ≡ Some command → limit_of command ≡ Some limit →
+    given (command_of words) source ≡ source
 given_source words command limit source taken reads = rw taken (given-reading command limit source reads)
 
 -- a command that reads nothing is given nothing
@@ -25,14 +27,9 @@ given-unread (Check kind) source unread = absurd cc
 given-unread (Solve kind brief) source unread = absurd cc
 given-unread (Trial kind start n m) source unread = refl
 
-pub given_none : (words : List (List ℕ)) (command : Command) (source : Option (List ℕ)) → command_of words ≡ Some command → limit_of command ≡ None → given (command_of words) source ≡ Some []
+pub given_none : (words : List (List ℕ)) (command : Command) (source : Option (List ℕ)) → command_of words ≡ Some command → limit_of command ≡ None →
+    given (command_of words) source ≡ Some []
 given_none words command source taken unread = rw taken (given-unread command source unread)
-
-pub short-reading : (command : Command) (limit : ℕ) (bytes : List ℕ) → limit_of command ≡ Some limit → length bytes ≤ limit → IsShort command bytes
-short-reading command limit bytes reads fits = rw reads fits
-
-pub short-unread : (command : Command) (bytes : List ℕ) → limit_of command ≡ None → IsShort command bytes
-short-unread command bytes unread = rw unread tt
 
 pub left-reading : (command : Command) (limit : ℕ) (bytes : List ℕ) → limit_of command ≡ Some limit → left_by command bytes ≡ []
 left-reading (Check kind) limit bytes reads = refl
@@ -50,7 +47,8 @@ keeps-reading (Solve kind brief) limit before after reads = tt
 keeps-reading (Trial kind start n m) limit before after reads = absurd cc
 
 -- a command that reads may do with its source what it will
-pub keeps_reading : {S : Type 0} (words : List (List ℕ)) (command : Command) (limit : ℕ) (before after : S) → command_of words ≡ Some command → limit_of command ≡ Some limit → KeepsUnread (command_of words) before after
+pub keeps_reading : {S : Type 0} (words : List (List ℕ)) (command : Command) (limit : ℕ) (before after : S) → command_of words ≡ Some command → limit_of command ≡ Some limit →
+    KeepsUnread (command_of words) before after
 keeps_reading words command limit before after taken reads = rw taken (keeps-reading command limit before after reads)
 
 keeps-same : {S : Type 0} (command : Option Command) (before after : S) → after ≡ before → KeepsUnread command before after
@@ -64,11 +62,4 @@ keeps_same words before after same = keeps-same (command_of words) before after 
 
 -- `check` and the name of a kind are its command
 pub check_named : (kind : Kind) (name : List ℕ) → command_of (name ∷ codes "check" ∷ kind_text kind ∷ []) ≡ Some (Check kind)
-check_named Perfect name = refl
-check_named Match name = refl
-check_named BMatch name = refl
-check_named CapMatch name = refl
-check_named FFactor name = refl
-check_named TJoin name = refl
-check_named Postman name = refl
-check_named Path name = refl
+check_named kind name = ap (option_map (λ (k : Kind). Check k)) (kind-back kind)

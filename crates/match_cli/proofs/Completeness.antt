@@ -1,5 +1,5 @@
 -- Every input within the limits is answered: no refusal is for it.
-use Rattle.std.proofs.Common.{◌≡◌, ℕ, ◌<◌, ◌≤◌, List, [], length, Option, None, Some, inl, inr, sym, ap, subst, ◌∙◌, arith}
+use Rattle.std.proofs.Common.{◌≡◌, ℕ, ◌≤◌, List, [], length, Option, None, Some, inl, inr, sym, subst, ◌∙◌, arith}
 use Rattle.std.specs.Prelude.{IfSome}
 use Rattle.std.proofs.lemmas.Option.{same_Some}
 use Rattle.mb_problem.specs.declared.kind.Kind.{Kind}
@@ -13,9 +13,10 @@ use Rattle.match_cli.specs.declared.status.Status.TheVariants.{Done, Rejected, U
 use Rattle.command_words.specs.declared.command.Command.{Command}
 use Rattle.command_words.specs.declared.command.Command.TheVariants.{Check, Solve, Trial}
 use Rattle.command_words.specs.Commands.{command_of}
-use Rattle.match_cli.specs.Commands.{limit_of, IsShort, given}
-use Rattle.match_cli.specs.Answers.{instance_part, document_part, answer_place, InputHolds, RefusesInput, Answers, Out}
-use Rattle.match_cli.specs.Runs.{IsAnswer, IsInput, MayReject, IsAnswered, Completes}
+use Rattle.match_cli.specs.Commands.{IsShort, given}
+use Rattle.match_cli.specs.Answers.{instance_part, document_part, answer_place, InputHolds, RefusesInput, Answers, Gives, Out}
+use Rattle.match_cli.specs.Runs.{IsAnswer, IsInput, MayReject, IsAnswered, IsComplete, Completes}
+use Rattle.match_cli.proofs.Decided.{decided}
 use Rattle.match_cli.proofs.InputParts.{place_none}
 
 no_command : (words : List (List ℕ)) (command : Command) → command_of words ≡ None → command_of words ≡ Some command → ⊥
@@ -47,28 +48,43 @@ may_reject (Check kind) bytes out h = tt
 may_reject (Solve kind brief) bytes out h = h
 may_reject (Trial kind start n m) bytes out h = h
 
-not_long : (command other : Command) (limit : ℕ) (bytes : List ℕ) → other ≡ command → IsShort command bytes → limit_of other ≡ Some limit → limit < length bytes → ⊥
-not_long command other limit bytes same short reads long =
-    let here : limit_of command ≡ Some limit = sym (ap limit_of same) ∙ reads in
-    let fits : length bytes ≤ limit = subst (λ (o : Option ℕ). IfSome o (λ most. length bytes ≤ most)) here short in
-    omega (arith, fits, long)
+not_long : (command : Command) (bytes out : List ℕ) → IsShort command bytes → Gives command bytes out TooLong → ⊥
+not_long command bytes out short long =
+    let fits : length bytes ≤ long.0 = subst (λ (o : Option ℕ). IfSome o (λ most. length bytes ≤ most)) long.1 short in
+    omega (arith, fits, long.2)
+
+pub is_complete : (command : Command) (bytes out : List ℕ) (status : Status) → Gives command bytes out status → IsComplete command bytes status
+is_complete command bytes out Done h i input = tt
+is_complete command bytes out Rejected h i input = may_reject command bytes out h.1
+is_complete command bytes out Usage h i input = absurd (decided command bytes out Usage h.1)
+is_complete command bytes out Malformed h i input = absurd (not_malformed command bytes out i input h.1)
+is_complete command bytes out TooLarge h i input = absurd (not_large command bytes out i input h.1)
+is_complete command bytes out TooLong h i input = absurd (not_long command bytes out input.short h)
+is_complete command bytes out ReadFault h i input = tt
+is_complete command bytes out WriteFault h i input = tt
+is_complete command bytes out OutOfMemory h i input = tt
+
+-- ---- of a run
 
 module _ (words : List (List ℕ)) (command : Command) (bytes out : List ℕ) (i : Network) (taken : command_of words ≡ Some command) (input : IsInput command bytes i) where
-  same_as : (other : Command) → command_of words ≡ Some other → other ≡ command
-  same_as other e = same_Some other command (sym e ∙ taken)
+  as_command : (status : Status) → (other : Command) × (command_of words ≡ Some other) × Gives other bytes out status → IsAnswered command status
+  as_command status h =
+      let same : h.0 ≡ command = same_Some h.0 command (sym h.1 ∙ taken) in
+      is_complete command bytes out status (subst (λ (c : Command). Gives c bytes out status) same h.2) i input
 
   answered : (status : Status) → Out words bytes out status → IsAnswered command status
-  answered Done h = tt
-  answered Rejected h = may_reject command bytes out (subst (λ (c : Command). Answers c bytes out Rejected) (same_as h.0 h.1) h.3)
   answered Usage h = no_command words command h.0 taken
-  answered Malformed h = not_malformed command bytes out i input (subst (λ (c : Command). Answers c bytes out Malformed) (same_as h.0 h.1) h.3)
-  answered TooLarge h = not_large command bytes out i input (subst (λ (c : Command). Answers c bytes out TooLarge) (same_as h.0 h.1) h.3)
-  answered TooLong h = not_long command h.1.0 h.0 bytes (same_as h.1.0 h.1.1) input.short h.1.2 h.2
-  answered ReadFault h = tt
-  answered WriteFault h = tt
-  answered OutOfMemory h = tt
+  answered Done h = as_command Done h
+  answered Rejected h = as_command Rejected h
+  answered Malformed h = as_command Malformed h
+  answered TooLarge h = as_command TooLarge h
+  answered TooLong h = as_command TooLong h
+  answered ReadFault h = as_command ReadFault h
+  answered WriteFault h = as_command WriteFault h
+  answered OutOfMemory h = as_command OutOfMemory h
 
-completes_given : (words : List (List ℕ)) (o : Option (List ℕ)) (out : List ℕ) (status : Status) → IfSome o (λ bytes. Out words bytes out status) → IfSome o (λ bytes. (command : Command) (i : Network) → command_of words ≡ Some command → IsInput command bytes i → IsAnswered command status)
+completes_given : (words : List (List ℕ)) (o : Option (List ℕ)) (out : List ℕ) (status : Status) → IfSome o (λ bytes. Out words bytes out status) →
+    IfSome o (λ bytes. (command : Command) (i : Network) → command_of words ≡ Some command → IsInput command bytes i → IsAnswered command status)
 completes_given words None out status h = tt
 completes_given words (Some bytes) out status h = λ command i taken input. answered words command bytes out i taken input status h
 

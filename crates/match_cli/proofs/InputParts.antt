@@ -1,5 +1,6 @@
 -- The two parts of an input: the instance's lines and what follows them.
-use Rattle.std.proofs.Common.{◌≡◌, ◌≢◌, ℕ, zero, suc, ◌+◌, ◌<◌, true, false, List, [], ◌∷◌, ◌++◌, length, map, take, drop, Option, None, Some, refl, sym, ap, ◌∙◌, inl, inr, append_assoc, append-nil, arith}
+use Rattle.std.proofs.Common.{◌≡◌, ◌≢◌, ℕ, zero, suc, ◌+◌, ◌<◌, true, false, List, [], ◌∷◌, ◌++◌, length, map, take, drop, Option, None, Some, refl, sym, ap, ◌∙◌, inl, inr, append_assoc}
+use Rattle.std.proofs.Common.{append-nil, arith}
 use Rattle.std.specs.List.{slice_split, onto_first, after_first, position, position_or_len}
 use Rattle.std.specs.Option.{option_map}
 use Rattle.std.specs.Str.Lines.{strip_carriage_return}
@@ -199,7 +200,8 @@ place_none bytes empty = rest_at bytes (first_place is_solution (rows bytes)) re
 pub rest_empty : (bytes : List ℕ) (rest : Rest) → IsRest bytes rest → rest.bytes ≡ [] → first_place is_solution (rows bytes) ≡ None
 rest_empty bytes rest is empty = place_none bytes (sym is.bytes_are ∙ empty)
 
-some_at : (bytes : List ℕ) (line : ℕ) (o : Option ℕ) → first_place is_solution (rows bytes) ≡ o → line ≡ length (instance_rows (rows bytes)) + 1 → after_lines (length (instance_rows (rows bytes))) bytes ≢ [] → (k : ℕ) × (o ≡ Some k) × (line ≡ k + 1)
+some_at : (bytes : List ℕ) (line : ℕ) (o : Option ℕ) → first_place is_solution (rows bytes) ≡ o → line ≡ length (instance_rows (rows bytes)) + 1 →
+    after_lines (length (instance_rows (rows bytes))) bytes ≢ [] → (k : ℕ) × (o ≡ Some k) × (line ≡ k + 1)
 some_at bytes line None at is some = absurd (some (after_all (length (instance_rows (rows bytes))) bytes (ap length (sym (instance-alone (rows bytes) at)))))
 some_at bytes line (Some k) at is some = (k, refl, is ∙ ap (λ (n : ℕ). n + 1) (place_is (rows bytes) k at))
 

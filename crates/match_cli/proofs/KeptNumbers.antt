@@ -1,42 +1,51 @@
 -- The numbers of a document that proves its answer, and the counts of its members, lie within what a reader keeps.
-use Rattle.std.proofs.Common.{ℕ, ◌≤◌, ℤ, false, List, [], ◌∷◌, ◌++◌, length, map, flat_map, Option, None, Some, arith}
-use Rattle.std.specs.Prelude.{All, IfSome}
+use Rattle.std.proofs.Common.{◌≡◌, ℕ, ◌≤◌, ℤ, pos, neg_ℤ, ◌≤ℤ◌, true, false, ◌&&◌, List, [], ◌∷◌, ◌++◌, length, map, flat_map, arith}
+use Rattle.std.specs.Prelude.{All, int_le}
 use Rattle.std.specs.Fmt.{signed_decimal}
-use Rattle.std.specs.List.{AllByRecursion}
+use Rattle.std.specs.List.{list_all, AllByRecursion}
+use Rattle.std.proofs.lemmas.Bool.{and_parts}
 use Rattle.std.proofs.lemmas.Int.{ints}
 use Rattle.std.proofs.lemmas.List.{length-append}
-use Rattle.std.proofs.lemmas.List.Elements.{recursion_from_All, All-from_recursion}
+use Rattle.std.proofs.lemmas.List.Elements.{All-from_recursion}
 use Rattle.graph_theory.specs.Duals.{IsNumber}
 use Rattle.mb_problem.specs.declared.kind.Kind.{Kind}
 use Rattle.mb_problem.specs.Network.{Network, vertices}
 use Rattle.gadget_base.specs.Certified.{gadget_graph}
-use Rattle.doc_format.specs.declared.part.CountLine.{CountLine}
-use Rattle.doc_format.specs.declared.part.WalkLine.{WalkLine}
-use Rattle.doc_format.specs.declared.part.DualLine.{DualLine}
-use Rattle.doc_format.specs.declared.part.SetLine.{SetLine}
-use Rattle.doc_format.specs.declared.part.MemberLine.{MemberLine}
 use Rattle.doc_format.specs.declared.part.Part.{Part}
 use Rattle.doc_format.specs.declared.part.Part.TheVariants.{Count, Walk, Dual, Set, Barrier, Odd, Split}
 use Rattle.doc_format.specs.declared.document.Document.{Document}
-use Rattle.doc_format.specs.Form.{parts_of, at_most_one}
+use Rattle.doc_format.specs.Parts.{numbers_of, parts_of}
 use Rattle.doc_format.specs.Reading.{body_of}
-use Rattle.doc_format.specs.Spelling.{after_space, row_text, letter, numbers_of, part_row, head_row, parts_text, document_text}
+use Rattle.doc_format.specs.Spelling.{after_space, row_text, letter, part_row, head_row, parts_text, document_text}
 use Rattle.doc_format.specs.Law.{IsKept, HasKeptNumbers}
-use Rattle.doc_format.proofs.PartsBack.{HasKept}
-use Rattle.certificates.specs.Within.{IsUpTo, IsCountWithin, IsDualWithin, IsSetLineWithin, IsWalkWithin, AreWithin}
+use Rattle.doc_format.proofs.PartLaws.{HasKept}
+use Rattle.certificates.specs.Ranges.{is_up_to, is_dual, in_range}
+use Rattle.certificates.specs.Within.{AreWithin}
 
 abbrev most : ℕ
 most = 1000000000000000
 
+bound : (a b : ℤ) → int_le a b ≡ true → a ≤ℤ b
+bound a b h = grind (arith, ints)
+
 kept_number : (z : ℤ) → IsNumber z → IsKept z
 kept_number z h = let low = h.0 in let high = h.1 in omega (arith, ints)
 
-kept_up_to : (n : ℕ) (z : ℤ) → n ≤ most → IsUpTo n z → IsKept z
-kept_up_to n z few h = let low = h.low in let high = h.high in omega (arith, ints)
+kept_dual : (z : ℤ) → is_dual z ≡ true → IsKept z
+kept_dual z h =
+    let both = and_parts (int_le (neg_ℤ (pos most)) z) (int_le z (pos most)) h in
+    kept_number z (bound (neg_ℤ (pos most)) z both.0, bound z (pos most) both.1)
 
-all_up_to : (n : ℕ) (zs : List ℤ) → n ≤ most → AllByRecursion (IsUpTo n) zs → AllByRecursion IsKept zs
+kept_up_to : (n : ℕ) (z : ℤ) → n ≤ most → is_up_to n z ≡ true → IsKept z
+kept_up_to n z few h =
+    let both = and_parts (int_le (pos 1) z) (int_le z (pos n)) h in
+    let low : pos 1 ≤ℤ z = bound (pos 1) z both.0 in
+    let high : z ≤ℤ pos n = bound z (pos n) both.1 in
+    omega (arith, ints)
+
+all_up_to : (n : ℕ) (zs : List ℤ) → n ≤ most → list_all (is_up_to n) zs ≡ true → AllByRecursion IsKept zs
 all_up_to n [] few h = tt
-all_up_to n (z ∷ zs) few h = (kept_up_to n z few h.0, all_up_to n zs few h.1)
+all_up_to n (z ∷ zs) few h = let both = and_parts (is_up_to n z) (list_all (is_up_to n) zs) h in (kept_up_to n z few both.0, all_up_to n zs few both.1)
 
 -- ---- the counts of members are at most the bytes of the text
 
@@ -90,50 +99,24 @@ all_with_sizes : (parts : List Part) → AllByRecursion HasKeptValues parts → 
 all_with_sizes [] h short = tt
 all_with_sizes (part ∷ parts) h short = (with_sizes part h.0 short.0, all_with_sizes parts h.1 short.1)
 
-counts_kept : (m : ℕ) (xs : List CountLine) → m ≤ most → AllByRecursion (IsCountWithin m) xs → AllByRecursion HasKeptValues (map Count xs)
-counts_kept m [] few h = tt
-counts_kept m (x ∷ xs) few h = ((kept_up_to m x.edge few h.0.0, kept_up_to 4096 x.count (omega arith) h.0.1), counts_kept m xs few h.1)
+module _ (n m p : ℕ) (few : n ≤ most) (short : m ≤ most) (certified : p ≤ most) where
+  part_kept : (part : Part) → in_range n m p part ≡ true → HasKeptValues part
+  part_kept (Count x) h = let both = and_parts (is_up_to m x.edge) (is_up_to 4096 x.count) h in (kept_up_to m x.edge short both.0, kept_up_to 4096 x.count (omega arith) both.1)
+  part_kept (Walk w) h = let both = and_parts (is_up_to n w.start) (list_all (is_up_to m) w.edges) h in (kept_up_to n w.start few both.0, all_up_to m w.edges short both.1)
+  part_kept (Dual y) h = let both = and_parts (is_up_to p y.vertex) (is_dual y.dual) h in (kept_up_to p y.vertex certified both.0, kept_dual y.dual both.1)
+  part_kept (Set z) h = let both = and_parts (is_up_to most z.dual) (list_all (is_up_to p) z.members) h in (kept_up_to most z.dual (omega arith) both.0, all_up_to p z.members certified both.1)
+  part_kept (Barrier u) h = all_up_to p u.members certified h
+  part_kept (Odd t) h = all_up_to n t.members few h
+  part_kept (Split q) h = all_up_to n q.members few h
 
-duals_kept : (n : ℕ) (ys : List DualLine) → n ≤ most → AllByRecursion (IsDualWithin n) ys → AllByRecursion HasKeptValues (map Dual ys)
-duals_kept n [] few h = tt
-duals_kept n (y ∷ ys) few h = ((kept_up_to n y.vertex few h.0.0, kept_number y.dual h.0.1), duals_kept n ys few h.1)
-
-sets_kept : (n : ℕ) (zs : List SetLine) → n ≤ most → AllByRecursion (IsSetLineWithin n) zs → AllByRecursion HasKeptValues (map Set zs)
-sets_kept n [] few h = tt
-sets_kept n (z ∷ zs) few h = ((kept_up_to most z.dual (omega arith) h.0.0, all_up_to n z.members few (recursion_from_All (IsUpTo n) z.members h.0.1)), sets_kept n zs few h.1)
-
-walk_kept : (n m : ℕ) (w : Option WalkLine) → n ≤ most → m ≤ most → IfSome w (IsWalkWithin n m) → AllByRecursion HasKeptValues (at_most_one Walk w)
-walk_kept n m None few short h = tt
-walk_kept n m (Some w) few short h = ((kept_up_to n w.start few h.0, all_up_to m w.edges short (recursion_from_All (IsUpTo m) w.edges h.1)), tt)
-
-barrier_kept : (n : ℕ) (u : Option MemberLine) → n ≤ most → IfSome u (λ u. All (IsUpTo n) u.members) → AllByRecursion HasKeptValues (at_most_one Barrier u)
-barrier_kept n None few h = tt
-barrier_kept n (Some u) few h = (all_up_to n u.members few (recursion_from_All (IsUpTo n) u.members h), tt)
-
-odd_kept : (n : ℕ) (t : Option MemberLine) → n ≤ most → IfSome t (λ t. All (IsUpTo n) t.members) → AllByRecursion HasKeptValues (at_most_one Odd t)
-odd_kept n None few h = tt
-odd_kept n (Some t) few h = (all_up_to n t.members few (recursion_from_All (IsUpTo n) t.members h), tt)
-
-split_kept : (n : ℕ) (q : Option MemberLine) → n ≤ most → IfSome q (λ q. All (IsUpTo n) q.members) → AllByRecursion HasKeptValues (at_most_one Split q)
-split_kept n None few h = tt
-split_kept n (Some q) few h = (all_up_to n q.members few (recursion_from_All (IsUpTo n) q.members h), tt)
+  parts_kept : (parts : List Part) → list_all (in_range n m p) parts ≡ true → AllByRecursion HasKeptValues parts
+  parts_kept [] h = tt
+  parts_kept (part ∷ parts) h = let both = and_parts (in_range n m p part) (list_all (in_range n m p) parts) h in (part_kept part both.0, parts_kept parts both.1)
 
 -- ---- the whole
 
-and_then : (xs ys : List Part) → AllByRecursion HasKeptValues xs → AllByRecursion HasKeptValues ys → AllByRecursion HasKeptValues (xs ++ ys)
-and_then [] ys h k = k
-and_then (x ∷ xs) ys h k = (h.0, and_then xs ys h.1 k)
-
 values_kept : (kind : Kind) (i : Network) (d : Document) → AreWithin kind i d → vertices i ≤ most → length i.edges ≤ most → (gadget_graph kind i).vertices ≤ most → AllByRecursion HasKeptValues (parts_of (body_of d))
-values_kept kind i d within few short certified =
-    let n = (gadget_graph kind i).vertices in
-    let m = length i.edges in
-    and_then (map Count d.counts) _ (counts_kept m d.counts short (recursion_from_All (IsCountWithin m) d.counts within.counts))
-    (and_then (at_most_one Walk d.walk) _ (walk_kept (vertices i) m d.walk few short within.walk)
-    (and_then (map Dual d.duals) _ (duals_kept n d.duals certified (recursion_from_All (IsDualWithin n) d.duals within.duals))
-    (and_then (map Set d.sets) _ (sets_kept n d.sets certified (recursion_from_All (IsSetLineWithin n) d.sets within.sets))
-    (and_then (at_most_one Barrier d.barrier) _ (barrier_kept n d.barrier certified within.barrier)
-    (and_then (at_most_one Odd d.odd) (at_most_one Split d.split) (odd_kept (vertices i) d.odd few within.odd) (split_kept (vertices i) d.split few within.split))))))
+values_kept kind i d within few short certified = parts_kept (vertices i) (length i.edges) (gadget_graph kind i).vertices few short certified (parts_of (body_of d)) within.parts
 
 text_size : (d : Document) → length (parts_text (parts_of (body_of d))) ≤ length (document_text d false)
 text_size d = let sum = length-append (row_text (head_row d.status d.kind d.weight)) (parts_text (parts_of (body_of d))) in omega arith

@@ -5,7 +5,9 @@ pub mod OneDocument
 pub mod ProvedAgain
 pub mod Checks
 pub mod CommandLines
+pub mod Decided
 pub mod Prepares
+pub mod Truths
 pub mod InputParts
 pub mod AcceptedAgain
 pub mod StepCounts

@@ -70,7 +70,7 @@ module _ (kind : Kind) (i : Network) (h : Head) (b : Body) (f g : IsDocument h.s
   optimal_same : ProvesOptimal kind i (formed h b f) → ProvesOptimal kind i (formed h b g)
   optimal_same p = record {
     feasible = subst (λ (a : Answer). IsFeasible kind i a) (answer_same (form_of kind)) p.feasible;
-    weighs = sym (ap (weight_of i) (answer_same (form_of kind))) ∙ p.weighs;
+    weighs = sym (ap (weight_of kind i) (answer_same (form_of kind))) ∙ p.weighs;
     duals = p.duals;
     value = p.value;
   }

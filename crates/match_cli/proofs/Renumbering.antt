@@ -16,12 +16,13 @@ use Rattle.doc_format.specs.declared.part.Part.{Part}
 use Rattle.doc_format.specs.declared.part.Part.TheVariants.{Count, Walk, Dual, Set, Barrier, Odd, Split}
 use Rattle.doc_format.specs.declared.document.Document.{Document}
 use Rattle.doc_format.specs.declared.error.DocError.TheVariants.{DocForm}
-use Rattle.doc_format.specs.Form.{Body, parts_of, at_most_one, admits, has_edges, have_order, IsDocument}
+use Rattle.doc_format.specs.Parts.{Body, parts_of, at_most_one, on_line}
+use Rattle.doc_format.specs.Form.{admits, in_order, is_formed, IsDocument}
 use Rattle.doc_format.specs.Reading.{body_of, head_from, parts_from, is_refused_at, NoneRefusedBelow, HoldsDocument}
 use Rattle.doc_format.specs.Spelling.{part_row, document_text}
 use Rattle.doc_format.specs.Law.{HasKeptNumbers}
-use Rattle.doc_format.proofs.PartsBack.{on_line, on_lines, parts_back, head_back}
-use Rattle.doc_format.proofs.InOrder.{parts_formed, admits-line}
+use Rattle.doc_format.proofs.PartsBack.{on_lines, parts_back, head_back}
+use Rattle.doc_format.proofs.InOrder.{admitted-lines, order-lines, formed-lines}
 use Rattle.doc_format.proofs.WholeBack.{reads_back, kept_parts, text_back}
 
 -- ---- the parts on their lines
@@ -111,7 +112,7 @@ one_line made (Some x) = refl
 stretch : (n size : ℕ) (xs ys xs' ys' : List Part) → xs' ≡ on_lines n xs → length xs ≡ size → ys' ≡ on_lines (n + size) ys → xs' ++ ys' ≡ on_lines n (xs ++ ys)
 stretch n size xs ys xs' ys' e s f = rw (e, f, ← s) (sym (on_lines-append n xs ys))
 
-parts-lines : (n : ℕ) (b : Body) → parts_of (body_lines n b) ≡ on_lines n (parts_of b)
+pub parts-lines : (n : ℕ) (b : Body) → parts_of (body_lines n b) ≡ on_lines n (parts_of b)
 parts-lines n b =
     let walk_at = n + length b.counts in
     let duals_at = walk_at + lines_of b.walk in
@@ -129,37 +130,13 @@ parts-lines n b =
 
 -- ---- the document on its lines
 
-all_admitted : (status : DocStatus) (kind : Kind) (n : ℕ) (parts : List Part) → list_all (admits status kind) (on_lines n parts) ≡ list_all (admits status kind) parts
-all_admitted status kind n [] = refl
-all_admitted status kind n (part ∷ parts) = rw (admits-line status kind n part, all_admitted status kind (n + 1) parts) refl
-
-pub same_edges : (n : ℕ) (xs : List CountLine) → map (λ x. x.edge) (count_lines n xs) ≡ map (λ x. x.edge) xs
-same_edges n [] = refl
-same_edges n (x ∷ xs) = ap (λ (l : List ℤ). x.edge ∷ l) (same_edges (n + 1) xs)
-
-pub same_vertices : (n : ℕ) (ys : List DualLine) → map (λ y. y.vertex) (dual_lines n ys) ≡ map (λ y. y.vertex) ys
-same_vertices n [] = refl
-same_vertices n (y ∷ ys) = ap (λ (l : List ℤ). y.vertex ∷ l) (same_vertices (n + 1) ys)
-
-same_has_edges : (n : ℕ) (w : Option WalkLine) → has_edges (walk_line n w) ≡ has_edges w
-same_has_edges n None = refl
-same_has_edges n (Some w) = refl
-
-same_order : (n : ℕ) (u : Option MemberLine) → have_order (member_line n u) ≡ have_order u
-same_order n None = refl
-same_order n (Some u) = refl
-
 pub form-lines : (status : DocStatus) (kind : Kind) (weight : ℤ) (n : ℕ) (b : Body) → IsDocument status kind weight b → IsDocument status kind weight (body_lines n b)
 form-lines status kind weight n b form = record {
   headed = form.headed;
   no_weight = form.no_weight;
-  letters = ap (list_all (admits status kind)) (parts-lines n b) ∙ all_admitted status kind n (parts_of b) ∙ form.letters;
-  edges_ascend = rw (same_edges n b.counts) form.edges_ascend;
-  walk_has_edges = same_has_edges _ b.walk ∙ form.walk_has_edges;
-  vertices_ascend = rw (same_vertices _ b.duals) form.vertices_ascend;
-  barrier_ascends = same_order _ b.barrier ∙ form.barrier_ascends;
-  odd_ascends = same_order _ b.odd ∙ form.odd_ascends;
-  split_ascends = same_order _ b.split ∙ form.split_ascends;
+  letters = ap (list_all (admits status kind)) (parts-lines n b) ∙ admitted-lines status kind n (parts_of b) ∙ form.letters;
+  ordered = ap in_order (parts-lines n b) ∙ order-lines n (parts_of b) ∙ form.ordered;
+  formed = ap (list_all is_formed) (parts-lines n b) ∙ formed-lines n (parts_of b) ∙ form.formed;
 }
 
 -- the document with its first line on line n
@@ -213,7 +190,7 @@ text_holds d n kept =
     let parts = parts_of (body_of d) in
     let rs = rows (document_text d false) in
     let are = text_back d kept in
-    let back : parts_from (n + 1) (map part_row parts) ≡ on_lines (n + 1) parts = parts_back (n + 1) parts (kept_parts parts kept.parts) (parts_formed d.status d.kind d.weight (body_of d) d.form) in
+    let back : parts_from (n + 1) (map part_row parts) ≡ on_lines (n + 1) parts = parts_back (n + 1) parts (kept_parts parts kept.parts) d.form.formed in
     record {
       none_refused = none_refused d n kept;
       head = ap (head_from n) are ∙ head_back n d.status d.kind d.weight kept.weight d.form.headed d.form.no_weight;

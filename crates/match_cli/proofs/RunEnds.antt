@@ -4,7 +4,8 @@ use Rattle.match_cli.specs.declared.status.Status.{Status}
 use Rattle.match_cli.specs.declared.status.Status.TheVariants.{Done, Rejected, Usage, Malformed, TooLarge, TooLong, ReadFault, WriteFault, OutOfMemory}
 use Rattle.match_cli.specs.Runs.{Around, IsDecided, Takes, Runs}
 
-pub written_whole : (words : List (List ℕ)) (before after : Around) (out : List ℕ) (status : Status) → IsDecided words before after out status → Takes before after out → Runs words before after status
+pub written_whole : (words : List (List ℕ)) (before after : Around) (out : List ℕ) (status : Status) → IsDecided words before after out status → Takes before after out →
+    Runs words before after status
 written_whole words before after out Done h took = (out, h, took)
 written_whole words before after out Rejected h took = (out, h, took)
 written_whole words before after out Usage h took = (out, h, took)

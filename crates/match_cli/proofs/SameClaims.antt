@@ -2,7 +2,6 @@
 use Rattle.std.proofs.Common.{◌≡◌, ℕ, ◌+◌, ℤ, ◌%◌, pos, Bool, cond, eqb, not, List, [], ◌∷◌, ◌++◌, length, map, Option, None, Some, nat_abs, refl, sym, ap, subst, ◌∙◌, MatchOption}
 use Rattle.std.specs.Ordering.{int_eq}
 use Rattle.std.specs.List.{range_with_len, find}
-use Rattle.std.proofs.lemmas.List.{map-append}
 use Rattle.graph_theory.specs.Barrier.{IsBarrier}
 use Rattle.graph_theory.specs.Parts.{IsOddPart, IsSplitPart}
 use Rattle.graph_theory.specs.Duals.{AreDuals, dual_value}
@@ -28,57 +27,30 @@ use Rattle.doc_format.specs.declared.part.SetLine.{SetLine}
 use Rattle.doc_format.specs.declared.part.MemberLine.{MemberLine}
 use Rattle.doc_format.specs.declared.document.Document.{Document}
 use Rattle.certificates.specs.Claims.{numbers, count_of, walk_of, answer_by, answer_of, duals_of, set_of, sets_of}
-use Rattle.certificates.specs.Ranges.{is_dual, Checked, checked_count, checked_walk, checked_dual, checked_set, checked_members, listed, checked_lines, first_fault, first_out_of_range}
+use Rattle.doc_format.specs.declared.part.Part.{Part}
+use Rattle.doc_format.specs.Parts.{parts_of}
+use Rattle.doc_format.specs.Reading.{body_of}
+use Rattle.doc_format.proofs.PartsBack.{on_lines}
+use Rattle.certificates.specs.Ranges.{is_dual, Checked, in_range, checked, checked_lines, first_fault, first_out_of_range}
+use Rattle.certificates.proofs.RangeLemmas.{range-line}
 use Rattle.certificates.specs.Certificates.{HasBarrierFor, HasPartFor, HasNegativeCircuit}
 use Rattle.certificates.specs.Proved.{ProvesOptimal, ProvesByStatus, IsProved, StatesTruthBy, StatesTruth}
-use Rattle.match_cli.proofs.Renumbering.{count_lines, dual_lines, set_lines, walk_line, member_line, lines_of, renumbered}
+use Rattle.match_cli.proofs.Renumbering.{count_lines, dual_lines, set_lines, walk_line, member_line, parts-lines, renumbered}
 
 -- ---- the same numbers are in range
 
 abbrev fits : List Checked → List Bool
 fits lines = map (λ l. l.in_range) lines
 
-fits-append : (xs ys xs' ys' : List Checked) → fits xs ≡ fits xs' → fits ys ≡ fits ys' → fits (xs ++ ys) ≡ fits (xs' ++ ys')
-fits-append xs ys xs' ys' e f = rw (map-append (λ (l : Checked). l.in_range) xs ys, map-append (λ (l : Checked). l.in_range) xs' ys', e, f) refl
-
-count_fits : (m n : ℕ) (xs : List CountLine) → fits (map (checked_count m) (count_lines n xs)) ≡ fits (map (checked_count m) xs)
-count_fits m n [] = refl
-count_fits m n (x ∷ xs) = ap (λ (l : List Bool). (checked_count m x).in_range ∷ l) (count_fits m (n + 1) xs)
-
-dual_fits : (m n : ℕ) (ys : List DualLine) → fits (map (checked_dual m) (dual_lines n ys)) ≡ fits (map (checked_dual m) ys)
-dual_fits m n [] = refl
-dual_fits m n (y ∷ ys) = ap (λ (l : List Bool). (checked_dual m y).in_range ∷ l) (dual_fits m (n + 1) ys)
-
-set_fits : (m n : ℕ) (zs : List SetLine) → fits (map (checked_set m) (set_lines n zs)) ≡ fits (map (checked_set m) zs)
-set_fits m n [] = refl
-set_fits m n (z ∷ zs) = ap (λ (l : List Bool). (checked_set m z).in_range ∷ l) (set_fits m (n + 1) zs)
-
-walk_fits : (k m n : ℕ) (w : Option WalkLine) → fits (map (checked_walk k m) (listed (walk_line n w))) ≡ fits (map (checked_walk k m) (listed w))
-walk_fits k m n None = refl
-walk_fits k m n (Some w) = refl
-
-member_fits : (m n : ℕ) (u : Option MemberLine) → fits (map (checked_members m) (listed (member_line n u))) ≡ fits (map (checked_members m) (listed u))
-member_fits m n None = refl
-member_fits m n (Some u) = refl
+parts_fit : (n m p k : ℕ) (parts : List Part) → fits (map (checked n m p) (on_lines k parts)) ≡ fits (map (checked n m p) parts)
+parts_fit n m p k [] = refl
+parts_fit n m p k (part ∷ parts) = rw (range-line n m p k part) (ap (λ (l : List Bool). in_range n m p part ∷ l) (parts_fit n m p (k + 1) parts))
 
 lines_fit : (kind : Kind) (i : Network) (n : ℕ) (d : Document) → fits (checked_lines kind i (renumbered n d)) ≡ fits (checked_lines kind i d)
 lines_fit kind i n d =
-    let k = vertices i in
-    let m = length i.edges in
-    let certified = (gadget_graph kind i).vertices in
-    let walk_at = (n + 1) + length d.counts in
-    let duals_at = walk_at + lines_of d.walk in
-    let sets_at = duals_at + length d.duals in
-    let barrier_at = sets_at + length d.sets in
-    let odd_at = barrier_at + lines_of d.barrier in
-    let split_at = odd_at + lines_of d.odd in
+    let f = checked (vertices i) (length i.edges) (gadget_graph kind i).vertices in
     ap (λ (l : List Bool). is_dual d.weight ∷ l)
-    (fits-append _ _ _ _ (count_fits m (n + 1) d.counts)
-    (fits-append _ _ _ _ (walk_fits k m walk_at d.walk)
-    (fits-append _ _ _ _ (dual_fits certified duals_at d.duals)
-    (fits-append _ _ _ _ (set_fits certified sets_at d.sets)
-    (fits-append _ _ _ _ (member_fits certified barrier_at d.barrier)
-    (fits-append _ _ _ _ (member_fits k odd_at d.odd) (member_fits k split_at d.split)))))))
+    (ap (λ (parts : List Part). fits (map f parts)) (parts-lines (n + 1) (body_of d)) ∙ parts_fit (vertices i) (length i.edges) (gadget_graph kind i).vertices (n + 1) (parts_of (body_of d)))
 
 no_fault : (xs ys : List Checked) → fits xs ≡ fits ys → first_fault ys ≡ None → first_fault xs ≡ None
 no_fault [] ys e h = refl
@@ -152,7 +124,7 @@ circuit-line i n d e (Some w) is is' h = rw is' (rw is at h)
 optimal-lines : (kind : Kind) (i : Network) (n : ℕ) (d : Document) → ProvesOptimal kind i d → ProvesOptimal kind i (renumbered n d)
 optimal-lines kind i n d p = record {
   feasible = subst (λ (a : Answer). IsFeasible kind i a) (sym (same_answer kind i n d)) p.feasible;
-  weighs = ap (weight_of i) (same_answer kind i n d) ∙ p.weighs;
+  weighs = ap (weight_of kind i) (same_answer kind i n d) ∙ p.weighs;
   duals = subst (λ (ys : List ℤ). AreDuals (gadget_graph kind i) ys (sets_of (renumbered n d))) (sym (same_duals n d)) (subst (λ (zs : List OddSet). AreDuals (gadget_graph kind i) (duals_of d) zs) (sym (same_sets n d)) p.duals);
   value = ap (λ (ys : List ℤ). dual_value ys (sets_of (renumbered n d))) (same_duals n d) ∙ ap (dual_value (duals_of d)) (same_sets n d) ∙ p.value;
 }
@@ -166,7 +138,7 @@ pub proved-lines : (kind : Kind) (i : Network) (n : ℕ) (d : Document) → IsPr
 proved-lines kind i n d p = record { same_kind = p.same_kind; in_range = in_range-lines kind i n d p.in_range; proves = proves-lines kind i n d d.status p.proves }
 
 true-lines : (kind : Kind) (i : Network) (n : ℕ) (d : Document) (s : DocStatus) → StatesTruthBy s kind i d → StatesTruthBy s kind i (renumbered n d)
-true-lines kind i n d Optimal t = (subst (λ (a : Answer). IsBest kind i a) (sym (same_answer kind i n d)) t.0, ap (weight_of i) (same_answer kind i n d) ∙ t.1)
+true-lines kind i n d Optimal t = (subst (λ (a : Answer). IsBest kind i a) (sym (same_answer kind i n d)) t.0, ap (weight_of kind i) (same_answer kind i n d) ∙ t.1)
 true-lines kind i n d Infeasible t = t
 true-lines kind i n d NonConservative t = t
 

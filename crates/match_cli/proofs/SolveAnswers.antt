@@ -16,11 +16,13 @@ use Rattle.match_cli.specs.Answers.{InputHolds, DecidesSolve}
 use Rattle.match_cli.proofs.Checks.{if_ok-map}
 use Rattle.match_cli.proofs.InputParts.{rest_empty, rest_some}
 
-pub solved_answers : (kind : Kind) (brief : Bool) (i : Network) (d : Document) {E : Type 0} (r : Result Answer E) → Solves kind i d → IfOk r (λ a. a.text.items ≡ document_text d brief) → IfOk r (λ a. a.status ≡ Done) → IfOk r (DecidesSolved kind brief i)
+pub solved_answers : (kind : Kind) (brief : Bool) (i : Network) (d : Document) {E : Type 0} (r : Result Answer E) → Solves kind i d → IfOk r (λ a. a.text.items ≡ document_text d brief) →
+    IfOk r (λ a. a.status ≡ Done) → IfOk r (DecidesSolved kind brief i)
 solved_answers kind brief i d (Ok a) solves text status = subst (λ (s : Status). SolvedAnswer kind brief i a.text.items s) (sym status) (d, solves, text)
 solved_answers kind brief i d (Err e) solves text status = tt
 
-decides_from : (kind : Kind) (brief : Bool) (bytes : List ℕ) (i : Network) (rest : Rest) (out : List ℕ) (status : Status) → InputHolds kind bytes i → IsRest bytes rest → FollowedAnswer kind brief i rest out status → DecidesSolve kind brief bytes out status
+decides_from : (kind : Kind) (brief : Bool) (bytes : List ℕ) (i : Network) (rest : Rest) (out : List ℕ) (status : Status) → InputHolds kind bytes i → IsRest bytes rest →
+    FollowedAnswer kind brief i rest out status → DecidesSolve kind brief bytes out status
 decides_from kind brief bytes i rest out Malformed h is a = (let found = rest_some bytes rest is a.0 in (UnknownLine, rest.line, inr ((i, h), refl, found), a.1))
 decides_from kind brief bytes i rest out TooLarge h is a = (i, record { holds = h; alone = rest_empty bytes rest is a.0 }, a.1.0, a.1.1)
 decides_from kind brief bytes i rest out Done h is a = (i, a.1.1.0, record { holds = h; alone = rest_empty bytes rest is a.0 }, a.1.0, a.1.1.1, a.1.1.2)
@@ -31,5 +33,7 @@ decides_from kind brief bytes i rest out ReadFault h is a = absurd a.1.1
 decides_from kind brief bytes i rest out WriteFault h is a = absurd a.1.1
 decides_from kind brief bytes i rest out OutOfMemory h is a = absurd a.1.1
 
-pub solve_answers : (kind : Kind) (brief : Bool) (bytes : List ℕ) (i : Network) (rest : Rest) {E : Type 0} (r : Result Answer E) → InputHolds kind bytes i → IsRest bytes rest → IfOk r (DecidesFollowed kind brief i rest) → IfOk r (λ a. DecidesSolve kind brief bytes a.text.items a.status)
-solve_answers kind brief bytes i rest r h is = if_ok-map (DecidesFollowed kind brief i rest) (λ a. DecidesSolve kind brief bytes a.text.items a.status) r (λ a p. decides_from kind brief bytes i rest a.text.items a.status h is p)
+pub solve_answers : (kind : Kind) (brief : Bool) (bytes : List ℕ) (i : Network) (rest : Rest) {E : Type 0} (r : Result Answer E) → InputHolds kind bytes i → IsRest bytes rest →
+    IfOk r (DecidesFollowed kind brief i rest) → IfOk r (λ a. DecidesSolve kind brief bytes a.text.items a.status)
+solve_answers kind brief bytes i rest r h is =
+    if_ok-map (DecidesFollowed kind brief i rest) (λ a. DecidesSolve kind brief bytes a.text.items a.status) r (λ a p. decides_from kind brief bytes i rest a.text.items a.status h is p)

@@ -9,7 +9,7 @@ use Rattle.mb_problem.specs.Network.{Network}
 use Rattle.mb_problem.specs.Size.{size_of}
 use Rattle.graph_theory.specs.Limits.{Size, IsWithinLimits}
 use Rattle.mwpm_engine.specs.Solutions.{most_steps}
-use Rattle.solve_kinds.specs.Solved.{searches_of}
+use Rattle.mb_problem.specs.Kinds.{searches_of}
 use Rattle.dimacs_read.proofs.ReadingLemmas.{one_instance}
 use Rattle.match_cli.specs.declared.status.Status.{Status}
 use Rattle.match_cli.specs.declared.status.Status.TheVariants.{Done, Rejected, Usage, Malformed, TooLarge, TooLong, ReadFault, WriteFault, OutOfMemory}
@@ -53,7 +53,8 @@ within_limits size searches before after fits counted =
     let all : searches * most_steps size ≤ searches * most_steps largest = mul-le-mul (let same : searches ≤ searches = omega arith in same) less in
     omega (arith, counted, all)
 
-searched : (kind : Kind) (brief : Bool) (i : Network) (out : List ℕ) (before after : ℕ) (status : Status) → SolvedAnswer kind brief i out status → after ≤ before + searches_of kind * most_steps largest → CountsSteps (Some (Solve kind brief)) before after status
+searched : (kind : Kind) (brief : Bool) (i : Network) (out : List ℕ) (before after : ℕ) (status : Status) → SolvedAnswer kind brief i out status →
+    after ≤ before + searches_of kind * most_steps largest → CountsSteps (Some (Solve kind brief)) before after status
 searched kind brief i out before after Done answer counted = counted
 searched kind brief i out before after Rejected answer counted = absurd answer
 searched kind brief i out before after Usage answer counted = absurd answer
@@ -64,12 +65,15 @@ searched kind brief i out before after ReadFault answer counted = absurd answer
 searched kind brief i out before after WriteFault answer counted = absurd answer
 searched kind brief i out before after OutOfMemory answer counted = absurd answer
 
-pub search_counts : (kind : Kind) (brief : Bool) (i : Network) (before after : ℕ) {E : Type 0} (r : Result Answer E) → IsWithinLimits (size_of kind i) → IfOk r (DecidesSolved kind brief i) → after ≤ before + searches_of kind * most_steps (size_of kind i) → CountsAnswer (Solve kind brief) before after r
-search_counts kind brief i before after (Ok a) fits answer counted = searched kind brief i a.text.items before after a.status answer (within_limits (size_of kind i) (searches_of kind) before after fits counted)
+pub search_counts : (kind : Kind) (brief : Bool) (i : Network) (before after : ℕ) {E : Type 0} (r : Result Answer E) → IsWithinLimits (size_of kind i) →
+    IfOk r (DecidesSolved kind brief i) → after ≤ before + searches_of kind * most_steps (size_of kind i) → CountsAnswer (Solve kind brief) before after r
+search_counts kind brief i before after (Ok a) fits answer counted =
+    searched kind brief i a.text.items before after a.status answer (within_limits (size_of kind i) (searches_of kind) before after fits counted)
 search_counts kind brief i before after (Err e) fits answer counted = within_limits (size_of kind i) (searches_of kind) before after fits counted
 
 -- a search that was made counts as its command does
-pub done_counts : (command : Command) (before after : ℕ) {E : Type 0} (r : Result Answer E) → IfOk r (λ a. a.status ≡ Done) → CountsSearch (Some command) before after → CountsAnswer command before after r
+pub done_counts : (command : Command) (before after : ℕ) {E : Type 0} (r : Result Answer E) → IfOk r (λ a. a.status ≡ Done) → CountsSearch (Some command) before after →
+    CountsAnswer command before after r
 done_counts command before after (Ok a) done counted = subst (λ (s : Status). CountsSteps (Some command) before after s) (sym done) counted
 done_counts command before after (Err e) done counted = counted
 
@@ -82,14 +86,16 @@ pub none_counted_for : (command : Option Command) (bytes : List ℕ) (before aft
 none_counted_for command bytes before after same c i is holds = omega (arith, same)
 
 -- an input holds one instance
-pub counted_for : (kind : Kind) (brief : Bool) (bytes : List ℕ) (j : Network) (before after : ℕ) → InputHolds kind bytes j → after ≤ before + searches_of kind * most_steps (size_of kind j) → CountsInstance (Some (Solve kind brief)) bytes before after
+pub counted_for : (kind : Kind) (brief : Bool) (bytes : List ℕ) (j : Network) (before after : ℕ) → InputHolds kind bytes j →
+    after ≤ before + searches_of kind * most_steps (size_of kind j) → CountsInstance (Some (Solve kind brief)) bytes before after
 counted_for kind brief bytes j before after held counted c i is holds =
     let same : Solve kind brief ≡ c = same_Some (Solve kind brief) c is in
     let here : InputHolds kind bytes i = subst (λ (c : Command). HasInstance c bytes i) (sym same) holds in
     subst (λ (c : Command). CountsFor c i before after) same (subst (λ (n : Network). CountsFor (Solve kind brief) n before after) (one_instance kind (instance_part bytes) j i held here) counted)
 
 -- a trial makes one instance
-pub trial_counted_for : (kind : Kind) (start n m : ℕ) (bytes : List ℕ) (before after : ℕ) → after ≤ before + searches_of kind * most_steps (size_of kind (made kind start n m)) → CountsInstance (Some (Trial kind start n m)) bytes before after
+pub trial_counted_for : (kind : Kind) (start n m : ℕ) (bytes : List ℕ) (before after : ℕ) → after ≤ before + searches_of kind * most_steps (size_of kind (made kind start n m)) →
+    CountsInstance (Some (Trial kind start n m)) bytes before after
 trial_counted_for kind start n m bytes before after counted c i is holds =
     let same : Trial kind start n m ≡ c = same_Some (Trial kind start n m) c is in
     let here : i ≡ made kind start n m = subst (λ (c : Command). HasInstance c bytes i) (sym same) holds in
@@ -104,7 +110,8 @@ given_uncounted command (Some bytes) before after same = none_counted_for comman
 pub source_uncounted : (words : List (List ℕ)) (source : Option (List ℕ)) (before after : ℕ) → after ≡ before → CountsSource words source before after
 source_uncounted words source before after same = given_uncounted (command_of words) (given (command_of words) source) before after same
 
-all_counted : (command : Option Command) (source left : Option (List ℕ)) (bytes : List ℕ) (before after : ℕ) → Consumes source left bytes → IsAtEnd left → CountsInstance command bytes before after → IfSome source (λ b. CountsInstance command b before after)
+all_counted : (command : Option Command) (source left : Option (List ℕ)) (bytes : List ℕ) (before after : ℕ) → Consumes source left bytes → IsAtEnd left →
+    CountsInstance command bytes before after → IfSome source (λ b. CountsInstance command b before after)
 all_counted command None left bytes before after consumed end counted = tt
 all_counted command (Some xs) None bytes before after consumed end counted = absurd consumed
 all_counted command (Some xs) (Some ys) bytes before after consumed end counted =
@@ -112,13 +119,15 @@ all_counted command (Some xs) (Some ys) bytes before after consumed end counted 
     subst (λ (b : List ℕ). CountsInstance command b before after) all counted
 
 -- all bytes of the source were read
-pub source_counted : (words : List (List ℕ)) (command : Command) (limit : ℕ) (source left : Option (List ℕ)) (bytes : List ℕ) (before after : ℕ) → command_of words ≡ Some command → limit_of command ≡ Some limit → Consumes source left bytes → IsAtEnd left → CountsInstance (Some command) bytes before after → CountsSource words source before after
+pub source_counted : (words : List (List ℕ)) (command : Command) (limit : ℕ) (source left : Option (List ℕ)) (bytes : List ℕ) (before after : ℕ) → command_of words ≡ Some command →
+    limit_of command ≡ Some limit → Consumes source left bytes → IsAtEnd left → CountsInstance (Some command) bytes before after → CountsSource words source before after
 source_counted words command limit source left bytes before after taken reads consumed end counted =
     let named : CountsInstance (command_of words) bytes before after = subst (λ (o : Option Command). CountsInstance o bytes before after) (sym taken) counted in
     subst (λ (o : Option (List ℕ)). IfSome o (λ b. CountsInstance (command_of words) b before after)) (sym (given_source words command limit source taken reads)) (all_counted (command_of words) source left bytes before after consumed end named)
 
 -- nothing of the source was read
-pub unread_counted : (words : List (List ℕ)) (command : Command) (source : Option (List ℕ)) (before after : ℕ) → command_of words ≡ Some command → limit_of command ≡ None → CountsInstance (Some command) [] before after → CountsSource words source before after
+pub unread_counted : (words : List (List ℕ)) (command : Command) (source : Option (List ℕ)) (before after : ℕ) → command_of words ≡ Some command → limit_of command ≡ None →
+    CountsInstance (Some command) [] before after → CountsSource words source before after
 unread_counted words command source before after taken unread counted =
     let named : CountsInstance (command_of words) [] before after = subst (λ (o : Option Command). CountsInstance o [] before after) (sym taken) counted in
     subst (λ (o : Option (List ℕ)). IfSome o (λ b. CountsInstance (command_of words) b before after)) (sym (given_none words command source taken unread)) named

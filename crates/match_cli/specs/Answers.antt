@@ -23,7 +23,7 @@ use Rattle.command_words.specs.declared.command.Command.{Command}
 use Rattle.command_words.specs.declared.command.Command.TheVariants.{Check, Solve, Trial}
 use Rattle.command_words.specs.Commands.{command_of}
 use Rattle.inst_gen.specs.Made.{made}
-use Rattle.match_cli.specs.Commands.{IsShort, ReadsUpTo}
+use Rattle.match_cli.specs.Commands.{limit_of, IsShort}
 use Rattle.match_cli.specs.Lines.{malformed_line, rejected_line, too_large_line}
 use Rattle.match_cli.specs.Checking.{RefusesFirst}
 use Rattle.match_cli.specs.Solving.{Solves}
@@ -67,7 +67,8 @@ pub record Accepts (kind : Kind) (bytes : List ℕ) (i : Network) (d : Document)
 abbrev pub Decides : Kind → List ℕ → List ℕ → Status → Type 0
 Decides kind bytes out Malformed = (rule : Rule) × (line : ℕ) × IsFirstFault kind (instance_part bytes) rule line × (out ≡ malformed_line rule line)
 Decides kind bytes out TooLarge = (i : Network) × InputHolds kind bytes i × ¬ IsWithinLimits (size_of kind i) × (out ≡ too_large_line (size_of kind i))
-Decides kind bytes out Rejected = (i : Network) × InputHolds kind bytes i × IsWithinLimits (size_of kind i) × (rule : DocRule) × (line : ℕ) × BreaksFirst kind bytes i rule line × (out ≡ rejected_line rule line)
+Decides kind bytes out Rejected =
+    (i : Network) × InputHolds kind bytes i × IsWithinLimits (size_of kind i) × (rule : DocRule) × (line : ℕ) × BreaksFirst kind bytes i rule line × (out ≡ rejected_line rule line)
 Decides kind bytes out Done = (i : Network) × (d : Document) × Accepts kind bytes i d × (out ≡ codes "s ACCEPTED\n")
 Decides kind bytes out _ = ⊥
 
@@ -109,8 +110,12 @@ Answers (Check kind) bytes out status = Decides kind bytes out status
 Answers (Solve kind brief) bytes out status = DecidesSolve kind brief bytes out status
 Answers (Trial kind start n m) bytes out status = TrialAnswer kind (made kind start n m) out status
 
--- The answer to words and bytes: what is written, and the status.
+-- What a command answers to the bytes of any input: what is written, and the status.
+abbrev pub Gives : Command → List ℕ → List ℕ → Status → Type 0
+Gives command bytes out TooLong = (limit : ℕ) × (limit_of command ≡ Some limit) × (limit < length bytes) × (out ≡ codes "s TOOLONG\n")
+Gives command bytes out status = IsShort command bytes × Answers command bytes out status
+
+-- The answer to words and bytes: usage, or what the command answers that the words are.
 abbrev pub Out : List (List ℕ) → List ℕ → List ℕ → Status → Type 0
 Out words bytes out Usage = (command_of words ≡ None) × (out ≡ codes "s USAGE\n")
-Out words bytes out TooLong = (limit : ℕ) × ReadsUpTo words limit × (limit < length bytes) × (out ≡ codes "s TOOLONG\n")
-Out words bytes out status = (command : Command) × (command_of words ≡ Some command) × IsShort command bytes × Answers command bytes out status
+Out words bytes out status = (command : Command) × (command_of words ≡ Some command) × Gives command bytes out status

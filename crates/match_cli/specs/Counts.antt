@@ -5,9 +5,9 @@ use Rattle.graph_theory.specs.Limits.{Size}
 use Rattle.mb_problem.specs.Network.{Network}
 use Rattle.mb_problem.specs.Size.{size_of}
 use Rattle.mwpm_engine.specs.Solutions.{most_steps}
-use Rattle.solve_kinds.specs.Solved.{searches_of}
+use Rattle.mb_problem.specs.Kinds.{searches_of}
 use Rattle.match_cli.specs.declared.status.Status.{Status}
-use Rattle.match_cli.specs.declared.status.Status.TheVariants.{Done}
+use Rattle.match_cli.specs.declared.status.Status.TheVariants.{Done, OutOfMemory}
 use Rattle.match_cli.specs.declared.answer.Answer.{Answer}
 use Rattle.command_words.specs.declared.command.Command.{Command}
 use Rattle.command_words.specs.declared.command.Command.TheVariants.{Check, Solve, Trial}
@@ -35,9 +35,15 @@ abbrev pub CountsAnswer : {E : Type 0} → Command → ℕ → ℕ → Result An
 CountsAnswer command before after (Ok a) = CountsSteps (Some command) before after a.status
 CountsAnswer command before after (Err e) = CountsSearch (Some command) before after
 
+-- the same, where want of memory is one of the statuses
+abbrev pub CountsCall : Command → ℕ → ℕ → Status → Type 0
+CountsCall command before after OutOfMemory = CountsSearch (Some command) before after
+CountsCall command before after status = CountsSteps (Some command) before after status
+
 -- for its instance a command counts no more steps than its searches on the graph that certificates speak of take
 abbrev pub CountsInstance : Option Command → List ℕ → ℕ → ℕ → Type 0
-CountsInstance command bytes before after = (c : Command) (i : Network) → command ≡ Some c → HasInstance c bytes i → after ≤ before + searches_of (kind_of c) * most_steps (size_of (kind_of c) i)
+CountsInstance command bytes before after =
+    (c : Command) (i : Network) → command ≡ Some c → HasInstance c bytes i → after ≤ before + searches_of (kind_of c) * most_steps (size_of (kind_of c) i)
 
 abbrev pub CountsSource : List (List ℕ) → Option (List ℕ) → ℕ → ℕ → Type 0
 CountsSource words source before after = IfSome (given (command_of words) source) (λ bytes. CountsInstance (command_of words) bytes before after)

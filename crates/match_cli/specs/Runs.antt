@@ -16,7 +16,7 @@ use Rattle.inst_gen.specs.Made.{made}
 use Rattle.match_cli.specs.Commands.{kind_of, IsShort, ReadsUpTo, given}
 use Rattle.match_cli.specs.Solving.{Solves}
 use Rattle.match_cli.specs.Counts.{CountsSearch, CountsSteps}
-use Rattle.match_cli.specs.Answers.{document_part, HasInstance, Out, Accepts, HoldsAlone}
+use Rattle.match_cli.specs.Answers.{document_part, HasInstance, Gives, Out, Accepts, HoldsAlone}
 
 -- what a command leaves of the source's bytes: nothing where it reads them, else all
 abbrev pub left_by : Command → List ℕ → List ℕ
@@ -95,6 +95,10 @@ IsTrueBy (Check kind) bytes = (i : Network) × (d : Document) × Accepts kind by
 IsTrueBy (Solve kind brief) bytes = (i : Network) × (d : Document) × HoldsAlone kind bytes i × Solves kind i d
 IsTrueBy (Trial kind start n m) bytes = (d : Document) × Solves kind (made kind start n m) d
 
+abbrev pub TellsTrue : Command → List ℕ → Status → Type 0
+TellsTrue command bytes Done = IsTrueBy command bytes
+TellsTrue command bytes status = Unit {0}
+
 abbrev pub TellsTruth : List (List ℕ) → Option (List ℕ) → Status → Type 0
 TellsTruth words before Done = IfSome (given (command_of words) before) (λ bytes. (command : Command) × (command_of words ≡ Some command) × IsTrueBy command bytes)
 TellsTruth words before status = Unit {0}
@@ -105,7 +109,12 @@ TellsTruth words before status = Unit {0}
 abbrev pub EndsLine : List ℕ → Type 0
 EndsLine bytes = (front : List ℕ) × (bytes ≡ front ++ 10 ∷ [])
 
--- `check`, under any name of the program, accepts what a full answer of `solve` wrote where it follows the input
+-- `check` accepts what a full answer of `solve` wrote where it follows the input
+abbrev pub IsAcceptedBehind : Command → List ℕ → List ℕ → Status → Type 0
+IsAcceptedBehind command bytes written Done = (kind : Kind) → command ≡ Solve kind false → EndsLine bytes → Gives (Check kind) (bytes ++ written) (codes "s ACCEPTED\n") Done
+IsAcceptedBehind command bytes written status = Unit {0}
+
+-- the same of the words of `check`, under any name of the program
 abbrev pub IsAccepted : Kind → List ℕ → List ℕ → Type 0
 IsAccepted kind bytes written = (name : List ℕ) → Out (name ∷ codes "check" ∷ kind_text kind ∷ []) (bytes ++ written) (codes "s ACCEPTED\n") Done
 
@@ -143,5 +152,9 @@ IsAnswered command WriteFault = Unit {0}
 IsAnswered command OutOfMemory = Unit {0}
 IsAnswered command status = ⊥
 
+abbrev pub IsComplete : Command → List ℕ → Status → Type 0
+IsComplete command bytes status = (i : Network) → IsInput command bytes i → IsAnswered command status
+
 abbrev pub Completes : List (List ℕ) → Option (List ℕ) → Status → Type 0
-Completes words before status = IfSome (given (command_of words) before) (λ bytes. (command : Command) (i : Network) → command_of words ≡ Some command → IsInput command bytes i → IsAnswered command status)
+Completes words before status =
+    IfSome (given (command_of words) before) (λ bytes. (command : Command) (i : Network) → command_of words ≡ Some command → IsInput command bytes i → IsAnswered command status)

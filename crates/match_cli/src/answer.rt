@@ -33,7 +33,8 @@ pub fn line_of_size(
     vertices: u64,
     edges: u64,
 ) -> Result<Vec<u8>, OutOfMemory>
-    ensures { IfOk result (λ v. v.items ≡ size_line words.now (record { vertices = vertices; edges = edges })) }
+    ensures { IfOk result (λ v. v.items ≡ size_line words.now
+        (record { vertices = vertices; edges = edges })) }
 {
     let mut buffer = Buffer::new();
     line(alloc, words, buffer.format(vertices).as_bytes(), edges)

@@ -1,7 +1,7 @@
 ghost use Rattle.std.specs.Prelude.{◌≡◌, ◌+◌, ◌<◌, ◌≤◌, ◌^◌, length, IfOk};
 ghost use Rattle.graph_theory.specs.Limits.{IsWithinLimits};
 ghost use Rattle.mb_problem.specs.Size.{size_of};
-ghost use Rattle.dimacs_read.specs.Ready.{IsReady};
+ghost use Rattle.mb_problem.specs.Ready.{IsReady};
 ghost use Rattle.match_cli.specs.Answers.{Decides};
 ghost use Rattle.match_cli.specs.Checking.{DecidesDocument, DecidesRest, DecidesInstance};
 

@@ -1,8 +1,20 @@
-ghost use Rattle.std.specs.Prelude.{◌≡◌, ◌≤◌, ◌^◌, IfSome};
-ghost use Rattle.match_cli.specs.Commands.{limit_of};
+//! A command: how many bytes it takes, and what it answers to them.
+ghost use Rattle.std.specs.Prelude.{◌≡◌, ◌≤◌, ◌^◌, ◌↔◌, IsTrue, IfOk, IfSome, Some};
+ghost use Rattle.command_words.specs.Commands.{HasRanges};
+ghost use Rattle.match_cli.specs.Answers.{Answers, Gives};
+ghost use Rattle.match_cli.specs.Commands.{limit_of, IsShort};
+ghost use Rattle.match_cli.specs.Counts.{CountsAnswer, CountsInstance};
 
+use crate::answer::Answer;
+use crate::check::check;
 use crate::limits::{CHECK_BYTE_LIMIT, SOLVE_BYTE_LIMIT};
+use crate::refusal::too_long;
+use crate::solve::solve;
+use crate::trial::trial;
 use command_words::Command;
+use mb_base::{OutOfMemory, Steps};
+use std::alloc::Global;
+use std::sync::ledger::Ledger;
 
 /// How many bytes of input the command takes; None where it reads none.
 pub fn limit(command: Command) -> Option<u64>
@@ -14,4 +26,62 @@ pub fn limit(command: Command) -> Option<u64>
         Command::Solve { .. } => Some(SOLVE_BYTE_LIMIT),
         Command::Trial { .. } => None,
     }
+}
+
+/// Whether an input is within the limit of a command that reads it.
+fn is_short(command: Command, bytes: &[u8]) -> bool
+    ensures { IsTrue result ↔ IsShort command bytes.now }
+{
+    match limit(command) {
+        Some(limit) => bytes.len() as u64 <= limit,
+        None => true,
+    }
+}
+
+/// What a command answers to bytes within its limit.
+fn answer_within<L: Ledger>(
+    alloc: Global,
+    command: Command,
+    bytes: &[u8],
+    steps: &mut Steps<L>,
+) -> Result<Answer, OutOfMemory>
+    requires ranges { HasRanges command }
+    requires short { IsShort command bytes.now }
+    ensures answer { IfOk result (λ a. Answers command bytes.now a.text.items a.status) }
+    ensures steps { CountsAnswer command steps.old steps.new result }
+    ensures counted { CountsInstance (Some command) bytes.now steps.old steps.new }
+{
+    match command {
+        Command::Check { kind } => check(alloc, kind, bytes),
+        Command::Solve { kind, brief } => solve(alloc, kind, brief, bytes, steps),
+        Command::Trial { kind, start, n, m } => trial(alloc, kind, start, n, m, steps),
+    }
+}
+
+/// What a command answers to the bytes of an input: the whole text, and the status. It is what the
+/// program writes for words that are the command. `check` and `solve` look at the bytes (Schrijver,
+/// Combinatorial Optimization, volume A, chapters 24 to 33), `trial` at none. An error is want of
+/// memory.
+pub fn answer_to<L: Ledger>(
+    alloc: Global,
+    command: Command,
+    bytes: &[u8],
+    steps: &mut Steps<L>,
+) -> Result<Answer, OutOfMemory>
+    requires ranges { HasRanges command }
+
+    // Which text and status come for which bytes.
+    ensures answer { IfOk result (λ a. Gives command bytes.now a.text.items a.status) }
+
+    // `check` and refusals count nothing, and no search more than on the largest graph.
+    ensures steps { CountsAnswer command steps.old steps.new result }
+
+    // Where there is an instance, its search counts no more than the graph of its certificates
+    // allows.
+    ensures counted { CountsInstance (Some command) bytes.now steps.old steps.new }
+{
+    if !is_short(command, bytes) {
+        return too_long(alloc);
+    }
+    answer_within(alloc, command, bytes, steps)
 }

@@ -1,4 +1,4 @@
-ghost use Rattle.std.specs.Prelude.{◌≡◌, ◌↔◌, IsTrue, IfOk};
+ghost use Rattle.std.specs.Prelude.{◌≡◌, ◌↔◌, IsTrue, IfOk, codes};
 ghost use Rattle.graph_theory.specs.Limits.{IsWithinLimits};
 ghost use Rattle.match_cli.specs.Lines.{malformed_line, too_large_line};
 
@@ -31,10 +31,21 @@ pub fn is_within_limits(vertices: u64, edges: u64) -> bool
 
 /// The answer to an instance whose certificates speak of a graph past a limit.
 pub fn too_large(alloc: Global, vertices: u64, edges: u64) -> Result<Answer, OutOfMemory>
-    ensures text { IfOk result (λ a. a.text.items ≡ too_large_line (record { vertices = vertices; edges = edges })) }
+    ensures text { IfOk result (λ a. a.text.items ≡ too_large_line
+        (record { vertices = vertices; edges = edges })) }
     ensures status { IfOk result (λ a. a.status ≡ Status.TooLarge) }
 {
     let text = line_of_size(alloc, b"s TOOLARGE ", vertices, edges)?;
     let status = Status::TooLarge;
+    Ok(Answer { text, status })
+}
+
+/// The answer to an input past its command's limit.
+pub fn too_long(alloc: Global) -> Result<Answer, OutOfMemory>
+    ensures text { IfOk result (λ a. a.text.items ≡ codes "s TOOLONG\n") }
+    ensures status { IfOk result (λ a. a.status ≡ Status.TooLong) }
+{
+    let text = Vec::from_slice(alloc, b"s TOOLONG\n")?;
+    let status = Status::TooLong;
     Ok(Answer { text, status })
 }

@@ -1,12 +1,12 @@
 ghost use Rattle.std.specs.Prelude.{Some, ◌≡◌, ◌≢◌, ◌+◌, ◌*◌, ◌≤◌, ◌^◌, length, IfOk};
 ghost use Rattle.graph_theory.specs.Limits.{IsWithinLimits};
+ghost use Rattle.mb_problem.specs.Kinds.{searches_of};
 ghost use Rattle.mb_problem.specs.Network.{IsNetwork};
 ghost use Rattle.mb_problem.specs.Size.{size_of};
-ghost use Rattle.dimacs_read.specs.Ready.{IsReady};
+ghost use Rattle.mb_problem.specs.Ready.{IsReady};
 ghost use Rattle.mwpm_engine.specs.Solutions.{most_steps};
 ghost use Rattle.doc_format.specs.Spelling.{document_text};
 ghost use Rattle.match_cli.specs.Answers.{DecidesSolve};
-ghost use Rattle.solve_kinds.specs.Solved.{searches_of};
 ghost use Rattle.match_cli.specs.Counts.{CountsAnswer, CountsInstance};
 ghost use Rattle.match_cli.specs.Solving.{DecidesSolved, DecidesSized, DecidesFollowed};
 
@@ -42,7 +42,8 @@ fn solve_within<L: Ledger>(
     requires limits { IsWithinLimits (size_of kind instance.now) }
     requires network { IsNetwork instance.now }
     ensures answer { IfOk result (DecidesSolved kind brief instance.now) }
-    ensures counted { steps.new ≤ steps.old + searches_of kind * most_steps (size_of kind instance.now) }
+    ensures counted { steps.new ≤ steps.old + searches_of kind * most_steps
+        (size_of kind instance.now) }
 {
     match solve_kinds::solve(alloc, instance, kind, steps) {
         Ok(document) => solved(alloc, &document, brief),
@@ -62,7 +63,8 @@ fn solve_instance<L: Ledger>(
     requires network { IsNetwork instance.now }
     ensures answer { IfOk result (DecidesSized kind brief instance.now) }
     ensures steps { CountsAnswer (Command.Solve kind brief) steps.old steps.new result }
-    ensures counted { steps.new ≤ steps.old + searches_of kind * most_steps (size_of kind instance.now) }
+    ensures counted { steps.new ≤ steps.old + searches_of kind * most_steps
+        (size_of kind instance.now) }
 {
     let (vertices, edges) = gadget_size(instance, kind);
     if !is_within_limits(vertices, edges) {
@@ -84,7 +86,8 @@ fn solve_followed<L: Ledger>(
     requires network { IsNetwork instance.now }
     ensures answer { IfOk result (DecidesFollowed kind brief instance.now rest.now) }
     ensures steps { CountsAnswer (Command.Solve kind brief) steps.old steps.new result }
-    ensures counted { steps.new ≤ steps.old + searches_of kind * most_steps (size_of kind instance.now) }
+    ensures counted { steps.new ≤ steps.old + searches_of kind * most_steps
+        (size_of kind instance.now) }
 {
     if !rest.bytes.as_slice().is_empty() {
         return malformed(alloc, Rule::UnknownLine, rest.line);
@@ -103,7 +106,8 @@ pub fn solve<L: Ledger>(
     requires short { length bytes.now ≤ 2 ^ 32 }
     ensures answer { IfOk result (λ a. DecidesSolve kind brief bytes.now a.text.items a.status) }
     ensures steps { CountsAnswer (Command.Solve kind brief) steps.old steps.new result }
-    ensures counted { CountsInstance (Some (Command.Solve kind brief)) bytes.now steps.old steps.new }
+    ensures counted { CountsInstance (Some (Command.Solve kind brief)) bytes.now
+        steps.old steps.new }
 {
     match read(alloc, bytes, kind) {
         Ok((instance, rest)) => solve_followed(alloc, kind, brief, &instance, &rest, steps),

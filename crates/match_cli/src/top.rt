@@ -1,17 +1,16 @@
-ghost use Rattle.std.specs.Prelude.{◌≡◌, ◌<◌, ◌≤◌, ◌-◌, ◌^◌, length, map, string_bytes, Some, IfOk, IfErr};
+ghost use Rattle.std.specs.Prelude.{◌≡◌, ◌<◌, ◌≤◌, ◌-◌, ◌^◌, length, map, string_bytes, Some, IfOk};
+ghost use Rattle.std.specs.Prelude.{IfErr};
 ghost use Rattle.command_words.specs.Commands.{command_of, HasRanges};
 ghost use Rattle.match_cli.specs.Commands.{KeepsUnread};
-ghost use Rattle.match_cli.specs.Answers.{Answers};
+ghost use Rattle.match_cli.specs.Answers.{Gives};
 ghost use Rattle.match_cli.specs.Runs.{Runs, CountsRun, TellsTruth, IsAcceptedAgain, Completes};
 ghost use Rattle.match_cli.specs.Counts.{CountsAnswer, CountsInstance, CountsSource};
-ghost use Rattle.match_cli.specs.Prepared.{Prepares, PreparesUsage, CountsPrepared, Readies, CountsPreparedSteps};
+ghost use Rattle.match_cli.specs.Prepared.{Prepares, PreparesUsage, CountsPrepared, Readies};
+ghost use Rattle.match_cli.specs.Prepared.{CountsPreparedSteps};
 
 use crate::answer::Answer;
-use crate::check::check;
-use crate::commands::limit;
-use crate::solve::solve;
+use crate::commands::{answer_to, limit};
 use crate::status::Status;
-use crate::trial::trial;
 use command_words::{Command, read_command};
 use mb_base::{OutOfMemory, ReadAll, Sink, Source, Steps, read_all, write_all};
 use std::alloc::Global;
@@ -33,27 +32,7 @@ fn ready(alloc: Global, text: &[u8], status: Status) -> Result<Answer, Stop>
     }
 }
 
-/// What a command answers to bytes within its limit.
-fn answer_to<L: Ledger>(
-    alloc: Global,
-    command: Command,
-    bytes: &[u8],
-    steps: &mut Steps<L>,
-) -> Result<Answer, OutOfMemory>
-    requires ranges { HasRanges command }
-    requires short { length bytes.now ≤ 2 ^ 32 }
-    ensures answer { IfOk result (λ a. Answers command bytes.now a.text.items a.status) }
-    ensures steps { CountsAnswer command steps.old steps.new result }
-    ensures counted { CountsInstance (Some command) bytes.now steps.old steps.new }
-{
-    match command {
-        Command::Check { kind } => check(alloc, kind, bytes),
-        Command::Solve { kind, brief } => solve(alloc, kind, brief, bytes, steps),
-        Command::Trial { kind, start, n, m } => trial(alloc, kind, start, n, m, steps),
-    }
-}
-
-/// The same, where want of memory is why there is no answer.
+/// What a command answers, where want of memory is why there is no answer.
 fn decide<L: Ledger>(
     alloc: Global,
     command: Command,
@@ -61,8 +40,7 @@ fn decide<L: Ledger>(
     steps: &mut Steps<L>,
 ) -> Result<Answer, Stop>
     requires ranges { HasRanges command }
-    requires short { length bytes.now ≤ 2 ^ 32 }
-    ensures answer { IfOk result (λ a. Answers command bytes.now a.text.items a.status) }
+    ensures answer { IfOk result (λ a. Gives command bytes.now a.text.items a.status) }
     ensures memory { IfErr result (λ stop. stop ≡ Stop.OutOfMemory) }
     ensures steps { CountsAnswer command steps.old steps.new result }
     ensures counted { CountsInstance (Some command) bytes.now steps.old steps.new }
@@ -81,12 +59,16 @@ fn prepare<I: Source, L: Ledger>(
     steps: &mut Steps<L>,
 ) -> Result<Answer, Stop>
     requires { I.faults source.old < 2 ^ 64 - 1 }
-    ensures answer { Prepares (map string_bytes words.now.items) (I.left source.old) (I.left source.new) result }
+    ensures answer { Prepares (map string_bytes words.now.items) (I.left source.old)
+        (I.left source.new) result }
     ensures usage { PreparesUsage (map string_bytes words.now.items) result }
     ensures count { CountsPrepared (I.faults source.old) (I.faults source.new) result }
-    ensures steps { CountsPreparedSteps (command_of (map string_bytes words.now.items)) steps.old steps.new result }
-    ensures counted { CountsSource (map string_bytes words.now.items) (I.left source.old) steps.old steps.new }
-    ensures unread { KeepsUnread (command_of (map string_bytes words.now.items)) source.old source.new }
+    ensures steps { CountsPreparedSteps (command_of (map string_bytes words.now.items))
+        steps.old steps.new result }
+    ensures counted { CountsSource (map string_bytes words.now.items) (I.left source.old)
+        steps.old steps.new }
+    ensures unread { KeepsUnread (command_of (map string_bytes words.now.items))
+        source.old source.new }
 {
     let Ok(taken) = read_command(alloc, words) else {
         return Err(Stop::OutOfMemory);
@@ -105,19 +87,21 @@ fn prepare<I: Source, L: Ledger>(
     }
 }
 
-/// Does what the words of the command line say, and writes the answer to the sink. The words are the
-/// program's name and then those of a command. `check` and the name of a kind judges the document that
-/// follows an instance, `solve` and the name of a kind solves an instance (Schrijver, Combinatorial
-/// Optimization, volume A, chapters 24 to 33): these two read the source to its end. With `--brief`
-/// before or after the kind, `solve` writes the answer without what proves it. `trial`, the name of a
-/// kind and three numbers reads nothing: it makes an instance, solves it, and writes the size of the graph
-/// of its certificates, what its document states, and the verdict on that document.
+/// Does what the words of the command line say, and writes the answer to the sink. The words are
+/// the program's name and then those of a command. `check` and the name of a kind judges the
+/// document that follows an instance, `solve` and the name of a kind solves an instance (Schrijver,
+/// Combinatorial Optimization, volume A, chapters 24 to 33): these two read the source to its end.
+/// With `--brief` before or after the kind, `solve` writes the answer without what proves it.
+/// `trial`, the name of a kind and three numbers reads nothing: it makes an instance, solves it,
+/// and writes the size of the graph of its certificates, what its document states, and the verdict
+/// on that document.
 ///
-/// The whole answer stands ready before the first write, so want of memory leaves the sink untouched.
+/// The whole answer stands ready before the first write, so want of memory leaves the sink
+/// untouched.
 ///
-/// Only `solve` and `trial` count steps, and none where they refuse: on an instance whose certificates speak
-/// of a graph with n vertices and m edges at most (n + 1)(3n + 2)(m + 1), twice as many for a path. The
-/// memory holds the input, the answer and what a search keeps.
+/// Only `solve` and `trial` count steps, and none where they refuse: on an instance whose
+/// certificates speak of a graph with n vertices and m edges at most (n + 1)(3n + 2)(m + 1), twice
+/// as many for a path. The memory holds the input, the answer and what a search keeps.
 pub fn run<I: Source, O: Sink, L: Ledger>(
     alloc: Global,
     words: &Vec<String>,
@@ -130,27 +114,41 @@ pub fn run<I: Source, O: Sink, L: Ledger>(
 
     // Which answer comes, what is left of the source and the sink, and how many steps came to it.
     ensures answer { Runs (map string_bytes words.now.items)
-        (record { left = I.left source.old; taken = O.taken sink.old; room = O.room sink.old; steps = steps.old })
-        (record { left = I.left source.new; taken = O.taken sink.new; room = O.room sink.new; steps = steps.new })
+        (record {
+          left = I.left source.old;
+          taken = O.taken sink.old;
+          room = O.room sink.old;
+          steps = steps.old;
+        })
+        (record {
+          left = I.left source.new;
+          taken = O.taken sink.new;
+          room = O.room sink.new;
+          steps = steps.new;
+        })
         result }
 
     // Faults are told exactly where a count rose.
-    ensures count { CountsRun (I.faults source.old) (I.faults source.new) (O.faults sink.old) (O.faults sink.new) result }
+    ensures count { CountsRun (I.faults source.old) (I.faults source.new) (O.faults sink.old)
+        (O.faults sink.new) result }
 
     // What a document that was accepted, written or tried states is true of its instance.
     ensures truth { TellsTruth (map string_bytes words.now.items) (I.left source.old) result }
 
     // What `solve` wrote in full is accepted behind its input.
-    ensures again { IsAcceptedAgain (map string_bytes words.now.items) (I.left source.old) (O.taken sink.old) (O.taken sink.new) result }
+    ensures again { IsAcceptedAgain (map string_bytes words.now.items) (I.left source.old)
+        (O.taken sink.old) (O.taken sink.new) result }
 
     // Every instance within the limits is answered, but for a fault or want of memory.
     ensures complete { Completes (map string_bytes words.now.items) (I.left source.old) result }
 
     // A search counts no more steps than the graph of its certificates allows.
-    ensures steps { CountsSource (map string_bytes words.now.items) (I.left source.old) steps.old steps.new }
+    ensures steps { CountsSource (map string_bytes words.now.items) (I.left source.old)
+        steps.old steps.new }
 
     // Usage and trials leave the source as it was.
-    ensures unread { KeepsUnread (command_of (map string_bytes words.now.items)) source.old source.new }
+    ensures unread { KeepsUnread (command_of (map string_bytes words.now.items))
+        source.old source.new }
 {
     match prepare(alloc, words, source, steps) {
         Err(Stop::ReadFault) => Status::ReadFault,

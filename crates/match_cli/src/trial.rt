@@ -1,11 +1,12 @@
 ghost use Rattle.std.specs.Prelude.{Some, [], ◌≡◌, ◌+◌, ◌*◌, ◌<◌, ◌≤◌, IfOk};
 ghost use Rattle.graph_theory.specs.Limits.{IsWithinLimits};
-ghost use Rattle.mb_problem.specs.declared.kind.Kind.TheVariants.{Path};
+ghost use Rattle.mb_problem.specs.declared.kind.VertexValue.TheVariants.{End};
+ghost use Rattle.mb_problem.specs.Kinds.{vertex_value_of, searches_of};
 ghost use Rattle.mb_problem.specs.Size.{size_of};
-ghost use Rattle.dimacs_read.specs.Ready.{IsReady};
+ghost use Rattle.mb_problem.specs.Network.{IsNetwork};
+ghost use Rattle.mb_problem.specs.Ready.{IsReady};
 ghost use Rattle.inst_gen.specs.Made.{made};
 ghost use Rattle.mwpm_engine.specs.Solutions.{most_steps};
-ghost use Rattle.solve_kinds.specs.Solved.{searches_of};
 ghost use Rattle.match_cli.specs.Counts.{CountsAnswer};
 ghost use Rattle.match_cli.specs.Codes.{status_of};
 ghost use Rattle.match_cli.specs.Lines.{statement_line};
@@ -45,7 +46,8 @@ fn statement(alloc: Global, document: &Document) -> Result<Vec<u8>, OutOfMemory>
 /// What is written of a trial on a graph of this size.
 fn told(alloc: Global, vertices: u64, edges: u64, tried: &Trial) -> Result<Answer, OutOfMemory>
     ensures text { IfOk result (λ a. a.text.items
-        ≡ trial_text (record { vertices = vertices; edges = edges }) tried.now.document tried.now.verdict) }
+        ≡ trial_text (record { vertices = vertices; edges = edges }) tried.now.document
+        tried.now.verdict) }
     ensures status { IfOk result (λ a. a.status ≡ status_of tried.now.verdict) }
 {
     let statement = statement(alloc, &tried.document)?;
@@ -65,17 +67,20 @@ fn try_within<L: Ledger>(
     steps: &mut Steps<L>,
 ) -> Result<Answer, OutOfMemory>
     requires ready { IsReady kind instance.now }
+    requires network { IsNetwork instance.now }
     requires limits { IsWithinLimits (size_of kind instance.now) }
     ensures text { IfOk result (λ a. IsTried kind instance.now a.text.items) }
     ensures status { IfOk result (λ a. a.status ≡ Status.Done) }
-    ensures counted { steps.new ≤ steps.old + searches_of kind * most_steps (size_of kind instance.now) }
+    ensures counted { steps.new ≤ steps.old + searches_of kind * most_steps
+        (size_of kind instance.now) }
 {
     let (vertices, edges) = gadget_size(instance, kind);
     let tried = try_instance(alloc, instance, kind, steps)?;
     told(alloc, vertices, edges, &tried)
 }
 
-/// What `trial` answers: an instance is made, its size is tested, and then it is solved and its document judged.
+/// What `trial` answers: an instance is made, its size is tested, and then it is solved and its
+/// document judged.
 pub fn trial<L: Ledger>(
     alloc: Global,
     kind: Kind,
@@ -87,10 +92,11 @@ pub fn trial<L: Ledger>(
     requires vertices { n ≤ VERTEX_LIMIT }
     requires edges { m ≤ EDGE_LIMIT }
     requires ends { 0 < m → 2 ≤ n }
-    requires path { kind ≡ Path → 2 ≤ n }
+    requires path { vertex_value_of kind ≡ End → 2 ≤ n }
     ensures answer { IfOk result (DecidesTrial kind (made kind start n m)) }
     ensures steps { CountsAnswer (Command.Trial kind start n m) steps.old steps.new result }
-    ensures counted { steps.new ≤ steps.old + searches_of kind * most_steps (size_of kind (made kind start n m)) }
+    ensures counted { steps.new ≤ steps.old + searches_of kind * most_steps
+        (size_of kind (made kind start n m)) }
 {
     let instance = make(alloc, kind, start, n, m)?;
     let (vertices, edges) = gadget_size(&instance, kind);

@@ -1,14 +1,15 @@
 ghost use Rattle.std.specs.Prelude.{◌≡◌, ◌+◌, ◌*◌, ◌≤◌, false, length, IfOk};
 ghost use Rattle.graph_theory.specs.Limits.{IsWithinLimits};
+ghost use Rattle.mb_problem.specs.Kinds.{searches_of};
 ghost use Rattle.mb_problem.specs.Network.{IsNetwork};
 ghost use Rattle.mb_problem.specs.Size.{size_of};
-ghost use Rattle.dimacs_read.specs.Ready.{IsReady};
+ghost use Rattle.mb_problem.specs.Ready.{IsReady};
 ghost use Rattle.doc_format.specs.Law.{HasKeptNumbers};
 ghost use Rattle.doc_format.specs.Spelling.{document_text};
 ghost use Rattle.certificates.specs.Proved.{IsProved, StatesTruth};
 ghost use Rattle.mwpm_engine.specs.Solutions.{most_steps};
 ghost use Rattle.solve_kinds.specs.Chosen.{IsChosen};
-ghost use Rattle.solve_kinds.specs.Solved.{searches_of, HasTrueStatus};
+ghost use Rattle.solve_kinds.specs.Solved.{HasTrueStatus};
 
 use cert_check::{DocRule, Verdict, judge};
 use doc_format::{DocError, Document, read, write};
@@ -49,9 +50,9 @@ fn judge_text(
     }
 }
 
-/// Solves an instance, writes the document in full, reads it back and judges it (Schrijver, Combinatorial
-/// Optimization, volume A, chapters 24 to 33): the verdict is yes, whatever the instance is. The steps of
-/// the searches are counted on `steps`. An error is want of memory.
+/// Solves an instance, writes the document in full, reads it back and judges it (Schrijver,
+/// Combinatorial Optimization, volume A, chapters 24 to 33): the verdict is yes, whatever the
+/// instance is. The steps of the searches are counted on `steps`. An error is want of memory.
 pub fn try_instance<L: Ledger>(
     alloc: Global,
     instance: &Instance,
@@ -60,19 +61,19 @@ pub fn try_instance<L: Ledger>(
 ) -> Result<Trial, OutOfMemory>
     requires limits { IsWithinLimits (size_of kind instance.now) }
     requires ready { IsReady kind instance.now }
+    requires network { IsNetwork instance.now }
     ensures proved { IfOk result (λ t. IsProved kind instance.now t.document) }
     ensures truth { IfOk result (λ t. StatesTruth kind instance.now t.document) }
     ensures exact { IfOk result (λ t. HasTrueStatus kind instance.now t.document.status) }
     ensures chosen { IfOk result (λ t. IsChosen kind instance.now t.document) }
-    ensures small { IfOk result (λ t. length (document_text t.document false) ≤ DOCUMENT_BYTE_LIMIT) }
-    ensures network { IsNetwork instance.now }
+    ensures small { IfOk result (λ t. length (document_text t.document false)
+        ≤ DOCUMENT_BYTE_LIMIT) }
 
     // The document is accepted as it reads back.
     ensures accepted { IfOk result (λ t. t.verdict ≡ Verdict.Accepted) }
-    ensures steps { steps.new ≤ steps.old + searches_of kind * most_steps (size_of kind instance.now) }
+    ensures steps { steps.new ≤ steps.old + searches_of kind * most_steps
+        (size_of kind instance.now) }
 {
-    // The prover learns here that the instance is valid.
-    let _edges = instance.edges();
     let document = solve(alloc, instance, kind, steps)?;
     let verdict = judge_text(alloc, instance, kind, &document)?;
     Ok(Trial { document, verdict })

@@ -5,3 +5,6 @@ pub mod WalkPlaces
 pub mod EndLemmas
 pub mod WalkSteps
 pub mod JoinLemmas
+pub mod PartTruths
+pub mod CountBounds
+pub mod KindLaws

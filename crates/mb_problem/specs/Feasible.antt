@@ -1,4 +1,4 @@
--- Which answers are feasible, and which are best, for each of the eight kinds (Schrijver, volume A,
+-- Which answers are feasible, and which are best, for each kind (Schrijver, volume A,
 -- chapters 24 and 26 for matchings, 29 for joins, walks and paths, 31 for b-matchings, 32 for
 -- capacities, 33 for factors).
 use Rattle.std.specs.Prelude.{◌≡◌, ℕ, ◌%◌, ◌≤◌, ◌<◌, ℤ, pos, ◌≤ℤ◌, true, List, length, All, slice_index, IfSome, ◌↔◌, ◌⊎◌}
@@ -7,12 +7,14 @@ use Rattle.graph_theory.specs.Parts.{holds}
 use Rattle.graph_theory.specs.Walk.{IsWalk, walk_end, walk_vertices, walk_weight, IsClosedWalk, AllDiffer}
 use Rattle.mb_problem.specs.declared.kind.Kind.{Kind}
 use Rattle.mb_problem.specs.declared.kind.Kind.TheVariants.{Perfect, Match, BMatch, CapMatch, FFactor, TJoin, Postman, Path}
+use Rattle.mb_problem.specs.declared.kind.Measure.{Measure}
+use Rattle.mb_problem.specs.declared.kind.Measure.TheVariants.{Total}
 use Rattle.mb_problem.specs.declared.kind.Sense.{Sense}
 use Rattle.mb_problem.specs.declared.kind.Sense.TheVariants.{Least, Greatest}
 use Rattle.mb_problem.specs.declared.answer.Answer.{Answer}
 use Rattle.mb_problem.specs.declared.answer.Answer.TheVariants.{Counts, Walk, Nothing}
 use Rattle.mb_problem.specs.Network.{Network, vertices, graph_of, value_of, instance_edge_at}
-use Rattle.mb_problem.specs.Kinds.{sense_of}
+use Rattle.mb_problem.specs.Kinds.{sense_of, measure_of}
 
 -- one count for each edge
 abbrev pub HasCounts : Network → List ℕ → Type 0
@@ -90,10 +92,14 @@ IsFeasible Postman i answer = IsWalkWith (IsTour i) (length i.edges ≡ 0) answe
 IsFeasible Path i answer = IsWalkWith (IsPath i) ⊥ answer
 
 -- the weights of the edges, each as often as the answer uses it, added up
-abbrev pub weight_of : Network → Answer → ℤ
-weight_of i (Counts counts) = weight (graph_of i) counts
-weight_of i (Walk start edges) = walk_weight (graph_of i) edges
-weight_of i Nothing = pos 0
+abbrev pub weight_by : Measure → Network → Answer → ℤ
+weight_by Total i (Counts counts) = weight (graph_of i) counts
+weight_by Total i (Walk start edges) = walk_weight (graph_of i) edges
+weight_by Total i Nothing = pos 0
+
+-- what an answer of the kind weighs
+abbrev pub weight_of : Kind → Network → Answer → ℤ
+weight_of kind i answer = weight_by (measure_of kind) i answer
 
 -- the one weight is at least as good as the other
 abbrev pub IsAsGoodBy : Sense → ℤ → ℤ → Type 0
@@ -106,4 +112,4 @@ IsAsGood kind one other = IsAsGoodBy (sense_of kind) one other
 -- a best answer: feasible, and as good as every feasible one
 pub record IsBest (kind : Kind) (i : Network) (answer : Answer) : Type 0 where
   pub feasible : IsFeasible kind i answer
-  pub best : (other : Answer) → IsFeasible kind i other → IsAsGood kind (weight_of i answer) (weight_of i other)
+  pub best : (other : Answer) → IsFeasible kind i other → IsAsGood kind (weight_of kind i answer) (weight_of kind i other)

@@ -1,5 +1,5 @@
 -- What each kind of problem is, one table for each trait and in it one row for each kind.
-use Rattle.std.specs.Prelude.{ℕ, List, Option, None, Some, codes, bytes_eq, if◌then◌else◌}
+use Rattle.std.specs.Prelude.{ℕ, ◌==◌, Bool, true, false, List, Option, None, Some, codes, bytes_eq, if◌then◌else◌}
 use Rattle.mb_problem.specs.declared.kind.Kind.{Kind}
 use Rattle.mb_problem.specs.declared.kind.Kind.TheVariants.{Perfect, Match, BMatch, CapMatch, FFactor, TJoin, Postman, Path}
 use Rattle.mb_problem.specs.declared.kind.AnswerForm.{AnswerForm}
@@ -8,6 +8,19 @@ use Rattle.mb_problem.specs.declared.kind.Sense.{Sense}
 use Rattle.mb_problem.specs.declared.kind.Sense.TheVariants.{Least, Greatest}
 use Rattle.mb_problem.specs.declared.kind.Exclusion.{Exclusion}
 use Rattle.mb_problem.specs.declared.kind.Exclusion.TheVariants.{Barrier, OddPart, SplitPart, Never}
+use Rattle.mb_problem.specs.declared.kind.Need.{Need}
+use Rattle.mb_problem.specs.declared.kind.Need.TheVariants as need
+use Rattle.mb_problem.specs.declared.kind.VertexValue.{VertexValue}
+use Rattle.mb_problem.specs.declared.kind.VertexValue.TheVariants as value
+use Rattle.mb_problem.specs.declared.kind.EdgeUse.{EdgeUse}
+use Rattle.mb_problem.specs.declared.kind.EdgeUse.TheVariants as use_of
+use Rattle.mb_problem.specs.declared.kind.Measure.{Measure}
+use Rattle.mb_problem.specs.declared.kind.Measure.TheVariants.{Total}
+use Rattle.mb_problem.specs.declared.kind.DualValue.TheVariants.{Twice, Opposite, BesideAll}
+use Rattle.mb_problem.specs.declared.kind.BestProof.{BestProof}
+use Rattle.mb_problem.specs.declared.kind.BestProof.TheVariants.{Duals}
+use Rattle.mb_problem.specs.declared.kind.Start.{Start}
+use Rattle.mb_problem.specs.declared.kind.Start.TheVariants.{Free, LeastMet, LesserEnd}
 use Rattle.mb_problem.specs.declared.gadget.GadgetForm.{GadgetForm}
 use Rattle.mb_problem.specs.declared.gadget.GadgetForm.TheVariants.{Itself, Doubled, Copies, Capped, Ports, PathPorts}
 use Rattle.mb_problem.specs.declared.gadget.Capacities.TheVariants.{Own, Unit as Once}
@@ -36,6 +49,29 @@ kind_named text =
     (if bytes_eq text (kind_text Postman) then Some Postman else
     (if bytes_eq text (kind_text Path) then Some Path else None)))))))
 
+-- the number by which callers in C name the kind
+abbrev pub kind_number : Kind → ℕ
+kind_number Perfect = 1
+kind_number Match = 2
+kind_number BMatch = 3
+kind_number CapMatch = 4
+kind_number FFactor = 5
+kind_number TJoin = 6
+kind_number Postman = 7
+kind_number Path = 8
+
+-- the kind of this number, where one has it
+abbrev pub kind_numbered : ℕ → Option Kind
+kind_numbered number =
+    if number == 1 then Some Perfect else
+    (if number == 2 then Some Match else
+    (if number == 3 then Some BMatch else
+    (if number == 4 then Some CapMatch else
+    (if number == 5 then Some FFactor else
+    (if number == 6 then Some TJoin else
+    (if number == 7 then Some Postman else
+    (if number == 8 then Some Path else None)))))))
+
 -- what an answer consists of
 abbrev pub form_of : Kind → AnswerForm
 form_of Perfect = form.Counts
@@ -58,16 +94,48 @@ exclusion_of TJoin = OddPart
 exclusion_of Postman = SplitPart
 exclusion_of Path = OddPart
 
+-- what an instance must have besides
+abbrev pub need_of : Kind → Need
+need_of Perfect = need.Unrestricted
+need_of Match = need.Unrestricted
+need_of BMatch = need.Unrestricted
+need_of CapMatch = need.Unrestricted
+need_of FFactor = need.Unrestricted
+need_of TJoin = need.Unrestricted
+need_of Postman = need.WeightsFromZero
+need_of Path = need.Ends
+
+-- what the value of a vertex says
+abbrev pub vertex_value_of : Kind → VertexValue
+vertex_value_of Perfect = value.Unused
+vertex_value_of Match = value.Unused
+vertex_value_of BMatch = value.Degree
+vertex_value_of CapMatch = value.Degree
+vertex_value_of FFactor = value.Degree
+vertex_value_of TJoin = value.Parity
+vertex_value_of Postman = value.Unused
+vertex_value_of Path = value.End
+
 -- the value of a vertex that an instance gives none
+abbrev pub default_by : VertexValue → ℕ
+default_by value.Unused = 0
+default_by value.Degree = 1
+default_by value.Parity = 0
+default_by value.End = 0
+
 abbrev pub default_value_of : Kind → ℕ
-default_value_of Perfect = 0
-default_value_of Match = 0
-default_value_of BMatch = 1
-default_value_of CapMatch = 1
-default_value_of FFactor = 1
-default_value_of TJoin = 0
-default_value_of Postman = 0
-default_value_of Path = 0
+default_value_of kind = default_by (vertex_value_of kind)
+
+-- how often an answer may use an edge
+abbrev pub edge_use_of : Kind → EdgeUse
+edge_use_of Perfect = use_of.Once
+edge_use_of Match = use_of.Once
+edge_use_of BMatch = use_of.AnyNumber
+edge_use_of CapMatch = use_of.WithinCapacity
+edge_use_of FFactor = use_of.Once
+edge_use_of TJoin = use_of.Once
+edge_use_of Postman = use_of.AnyNumber
+edge_use_of Path = use_of.Once
 
 -- whether a best answer weighs the least or the most
 abbrev pub sense_of : Kind → Sense
@@ -90,3 +158,69 @@ gadget_of FFactor = Capped Once
 gadget_of TJoin = Ports Values
 gadget_of Postman = Ports OddDegrees
 gadget_of Path = PathPorts
+
+-- what an answer weighs
+abbrev pub measure_of : Kind → Measure
+measure_of Perfect = Total
+measure_of Match = Total
+measure_of BMatch = Total
+measure_of CapMatch = Total
+measure_of FFactor = Total
+measure_of TJoin = Total
+measure_of Postman = Total
+measure_of Path = Total
+
+-- what proves that an answer is a best one
+abbrev pub proof_of : Kind → BestProof
+proof_of Perfect = Duals Twice
+proof_of Match = Duals Opposite
+proof_of BMatch = Duals Twice
+proof_of CapMatch = Duals Twice
+proof_of FFactor = Duals Twice
+proof_of TJoin = Duals Twice
+proof_of Postman = Duals BesideAll
+proof_of Path = Duals Twice
+
+-- whether answers are asked for only where no circuit weighs less than 0
+abbrev pub asks_conservative : Kind → Bool
+asks_conservative Perfect = false
+asks_conservative Match = false
+asks_conservative BMatch = false
+asks_conservative CapMatch = false
+asks_conservative FFactor = false
+asks_conservative TJoin = false
+asks_conservative Postman = false
+asks_conservative Path = true
+
+-- where the walk of a solved document starts
+abbrev pub start_of : Kind → Start
+start_of Perfect = Free
+start_of Match = Free
+start_of BMatch = Free
+start_of CapMatch = Free
+start_of FFactor = Free
+start_of TJoin = Free
+start_of Postman = LeastMet
+start_of Path = LesserEnd
+
+-- how many searches are made at most
+abbrev pub searches_of : Kind → ℕ
+searches_of Perfect = 1
+searches_of Match = 1
+searches_of BMatch = 1
+searches_of CapMatch = 1
+searches_of FFactor = 1
+searches_of TJoin = 1
+searches_of Postman = 1
+searches_of Path = 2
+
+-- whether instances of the kind are made for trials
+abbrev pub is_drawn : Kind → Bool
+is_drawn Perfect = true
+is_drawn Match = true
+is_drawn BMatch = true
+is_drawn CapMatch = true
+is_drawn FFactor = true
+is_drawn TJoin = true
+is_drawn Postman = true
+is_drawn Path = true

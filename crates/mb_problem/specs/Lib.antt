@@ -1,6 +1,8 @@
 pub mod Network
+pub mod Words
 pub mod Kinds
 pub mod Feasible
+pub mod Ready
 pub mod Size
 pub mod Values
 pub mod Measured

@@ -1,9 +1,11 @@
 -- The size of the graph that certificates speak of, its vertices and edges.
-use Rattle.std.specs.Prelude.{ℕ, ◌+◌, ◌-◌, ◌*◌, ◌/◌, ◌%◌, min, max, length, Option, None, Some, slice_index, replicate}
+use Rattle.std.specs.Prelude.{ℕ, ◌≤◌, ◌+◌, ◌-◌, ◌*◌, ◌/◌, ◌%◌, min, max, length, Option, None, Some, slice_index, replicate}
 use Rattle.graph_theory.specs.Sums.{sum_to}
 use Rattle.graph_theory.specs.Graph.{degree}
 use Rattle.graph_theory.specs.Limits.{Size}
 use Rattle.mb_problem.specs.declared.kind.Kind.{Kind}
+use Rattle.mb_problem.specs.declared.kind.EdgeUse.{EdgeUse}
+use Rattle.mb_problem.specs.declared.kind.EdgeUse.TheVariants as use_of
 use Rattle.mb_problem.specs.declared.answer.Parity.{Parity}
 use Rattle.mb_problem.specs.declared.answer.Parity.TheVariants.{Empty, Values, OddDegrees}
 use Rattle.mb_problem.specs.declared.gadget.Capacities.{Capacities}
@@ -43,6 +45,12 @@ room_of i = room_by Own i
 
 abbrev pub unit_room_of : Network → ℕ → ℕ
 unit_room_of i = room_by Once i
+
+-- how often an answer may use an edge: once, or as often as the values at its ends and its capacity let it
+abbrev pub most_by : EdgeUse → Network → InstanceEdge → ℕ
+most_by use_of.Once i e = 1
+most_by use_of.AnyNumber i e = min (value_of i e.u) (value_of i e.v)
+most_by use_of.WithinCapacity i e = bounded e.capacity (min (value_of i e.u) (value_of i e.v))
 
 -- copies of the vertices, and for each edge its room twice; the edges from the copies and between
 abbrev pub capped_size : Network → (ℕ → ℕ) → Size
@@ -90,3 +98,20 @@ size_by PathPorts i = greater (ports_size i (odd_at Values i)) (ports_size i (od
 
 abbrev pub size_of : Kind → Network → Size
 size_of kind i = size_by (gadget_of kind) i
+
+-- the size of the one graph that certificates speak of, where it is built so
+abbrev pub certified_by : GadgetForm → Network → Size
+certified_by Itself i = size_by Itself i
+certified_by Doubled i = size_by Doubled i
+certified_by Copies i = size_by Copies i
+certified_by (Capped capacities) i = size_by (Capped capacities) i
+certified_by (Ports parity) i = size_by (Ports parity) i
+certified_by PathPorts i = size_by (Ports Values) i
+
+abbrev pub certified_size : Kind → Network → Size
+certified_size kind i = certified_by (gadget_of kind) i
+
+-- the one has no more vertices than the other, and no more edges
+pub record IsNoLarger (a b : Size) : Type 0 where
+  pub vertices : a.vertices ≤ b.vertices
+  pub edges : a.edges ≤ b.edges

@@ -1,5 +1,6 @@
-ghost use Rattle.std.specs.Prelude.{◌≡◌, Some};
-ghost use Rattle.mb_problem.specs.Kinds.{kind_text, kind_named, form_of, exclusion_of, default_value_of, sense_of, gadget_of};
+ghost use Rattle.std.specs.Prelude.{◌≡◌, ◌≤◌, length, Some};
+ghost use Rattle.mb_problem.specs.Words.{IsField};
+ghost use Rattle.mb_problem.specs.Kinds.{kind_text, kind_named, kind_number, kind_numbered, form_of, exclusion_of, sense_of, measure_of, proof_of, gadget_of, need_of, vertex_value_of, default_value_of, edge_use_of, start_of, asks_conservative, searches_of, is_drawn};
 
 use crate::answer::Parity;
 use crate::gadget::{Capacities, GadgetForm};
@@ -56,11 +57,86 @@ pub enum Exclusion {
     Never,
 }
 
+/// What an instance must have besides, for a kind.
+#[derive(Clone, Copy, Debug, PartialEq, Eq)]
+pub enum Need {
+    /// Nothing.
+    Unrestricted,
+    /// No edge of weight below 0.
+    WeightsFromZero,
+    /// Two vertices of odd value: the ends.
+    Ends,
+    /// Both.
+    EndsAndWeightsFromZero,
+}
+
+/// What the value of a vertex says.
+#[derive(Clone, Copy, Debug, PartialEq, Eq)]
+pub enum VertexValue {
+    /// Nothing.
+    Unused,
+    /// The degree of the vertex.
+    Degree,
+    /// Whether its degree is odd.
+    Parity,
+    /// Whether it is an end.
+    End,
+}
+
+/// How often an answer may use an edge.
+#[derive(Clone, Copy, Debug, PartialEq, Eq)]
+pub enum EdgeUse {
+    /// Once.
+    Once,
+    /// As often as degrees let it.
+    AnyNumber,
+    /// As often as degrees let it, within the capacity of an edge that has one.
+    WithinCapacity,
+}
+
+/// What an answer weighs.
+#[derive(Clone, Copy, Debug, PartialEq, Eq)]
+pub enum Measure {
+    /// The weights of the edges, each as often as it is used, added up.
+    Total,
+}
+
+/// The value that duals have beside a best answer, from its weight.
+#[derive(Clone, Copy, Debug, PartialEq, Eq)]
+pub enum DualValue {
+    /// The weight, doubled.
+    Twice,
+    /// The weight, four times, with the opposite sign.
+    Opposite,
+    /// What the weight is beside that of all edges, doubled.
+    BesideAll,
+}
+
+/// What proves that an answer is a best one.
+#[derive(Clone, Copy, Debug, PartialEq, Eq)]
+pub enum BestProof {
+    /// Duals of this value in the graph that certificates speak of.
+    Duals(DualValue),
+}
+
+/// Where the walk of a solved document starts.
+#[derive(Clone, Copy, Debug, PartialEq, Eq)]
+pub enum Start {
+    /// Anywhere, if there is a walk at all.
+    Free,
+    /// At the least vertex that an edge meets.
+    LeastMet,
+    /// At the lesser of the two ends.
+    LesserEnd,
+}
+
 impl Kind {
     /// The word for the kind, in documents and on the command line.
     pub fn name(self) -> &'static [u8]
         ensures text { result.now ≡ kind_text self }
         ensures back { kind_named (kind_text self) ≡ Some self }
+        ensures short { length (kind_text self) ≤ 10 }
+        ensures field { IsField (kind_text self) }
     {
         match self {
             Kind::Perfect => b"perfect",
@@ -105,6 +181,40 @@ impl Kind {
         None
     }
 
+    /// The number by which callers in C name the kind, from 1.
+    pub fn number(self) -> u32
+        ensures number { result ≡ kind_number self }
+        ensures back { kind_numbered (kind_number self) ≡ Some self }
+    {
+        match self {
+            Kind::Perfect => 1,
+            Kind::Match => 2,
+            Kind::BMatch => 3,
+            Kind::CapMatch => 4,
+            Kind::FFactor => 5,
+            Kind::TJoin => 6,
+            Kind::Postman => 7,
+            Kind::Path => 8,
+        }
+    }
+
+    /// The kind of this number, where one has it.
+    pub fn numbered(number: u32) -> Option<Kind>
+        ensures { result ≡ kind_numbered number }
+    {
+        match number {
+            1 => Some(Kind::Perfect),
+            2 => Some(Kind::Match),
+            3 => Some(Kind::BMatch),
+            4 => Some(Kind::CapMatch),
+            5 => Some(Kind::FFactor),
+            6 => Some(Kind::TJoin),
+            7 => Some(Kind::Postman),
+            8 => Some(Kind::Path),
+            _ => None,
+        }
+    }
+
     /// Whether an answer is counts on edges or a walk.
     pub fn form(self) -> AnswerForm
         ensures { result ≡ form_of self }
@@ -132,13 +242,54 @@ impl Kind {
         }
     }
 
-    /// The value of a vertex that an instance gives none.
+    /// What an instance must have besides.
+    pub fn needs(self) -> Need
+        ensures { result ≡ need_of self }
+    {
+        match self {
+            Kind::Postman => Need::WeightsFromZero,
+            Kind::Path => Need::Ends,
+            Kind::Perfect
+            | Kind::Match
+            | Kind::BMatch
+            | Kind::CapMatch
+            | Kind::FFactor
+            | Kind::TJoin => Need::Unrestricted,
+        }
+    }
+
+    /// What the value of a vertex says.
+    pub fn vertex_value(self) -> VertexValue
+        ensures { result ≡ vertex_value_of self }
+    {
+        match self {
+            Kind::Perfect | Kind::Match | Kind::Postman => VertexValue::Unused,
+            Kind::BMatch | Kind::CapMatch | Kind::FFactor => VertexValue::Degree,
+            Kind::TJoin => VertexValue::Parity,
+            Kind::Path => VertexValue::End,
+        }
+    }
+
+    /// The value of a vertex that an instance gives none: a degree is 1 then.
     pub fn default_value(self) -> u32
         ensures { result ≡ default_value_of self }
     {
+        match self.vertex_value() {
+            VertexValue::Degree => 1,
+            VertexValue::Unused => 0,
+            VertexValue::Parity => 0,
+            VertexValue::End => 0,
+        }
+    }
+
+    /// How often an answer may use an edge.
+    pub fn edge_use(self) -> EdgeUse
+        ensures { result ≡ edge_use_of self }
+    {
         match self {
-            Kind::BMatch | Kind::CapMatch | Kind::FFactor => 1,
-            Kind::Perfect | Kind::Match | Kind::TJoin | Kind::Postman | Kind::Path => 0,
+            Kind::Perfect | Kind::Match | Kind::FFactor | Kind::TJoin | Kind::Path => EdgeUse::Once,
+            Kind::BMatch | Kind::Postman => EdgeUse::AnyNumber,
+            Kind::CapMatch => EdgeUse::WithinCapacity,
         }
     }
 
@@ -171,6 +322,103 @@ impl Kind {
             Kind::TJoin => GadgetForm::Ports(Parity::Values),
             Kind::Postman => GadgetForm::Ports(Parity::OddDegrees),
             Kind::Path => GadgetForm::PathPorts,
+        }
+    }
+
+    /// What an answer weighs.
+    pub fn measure(self) -> Measure
+        ensures { result ≡ measure_of self }
+    {
+        match self {
+            Kind::Perfect
+            | Kind::Match
+            | Kind::BMatch
+            | Kind::CapMatch
+            | Kind::FFactor
+            | Kind::TJoin
+            | Kind::Postman
+            | Kind::Path => Measure::Total,
+        }
+    }
+
+    /// What proves that an answer is a best one.
+    pub fn proof(self) -> BestProof
+        ensures { result ≡ proof_of self }
+    {
+        match self {
+            Kind::Match => BestProof::Duals(DualValue::Opposite),
+            Kind::Postman => BestProof::Duals(DualValue::BesideAll),
+            Kind::Perfect
+            | Kind::BMatch
+            | Kind::CapMatch
+            | Kind::FFactor
+            | Kind::TJoin
+            | Kind::Path => BestProof::Duals(DualValue::Twice),
+        }
+    }
+
+    /// Whether answers are asked for only where no circuit weighs less than 0. A document of such a kind
+    /// may state that one does, in place of an answer.
+    pub fn asks_conservative(self) -> bool
+        ensures { result ≡ asks_conservative self }
+    {
+        match self {
+            Kind::Path => true,
+            Kind::Perfect
+            | Kind::Match
+            | Kind::BMatch
+            | Kind::CapMatch
+            | Kind::FFactor
+            | Kind::TJoin
+            | Kind::Postman => false,
+        }
+    }
+
+    /// Where the walk of a solved document starts.
+    pub fn start(self) -> Start
+        ensures { result ≡ start_of self }
+    {
+        match self {
+            Kind::Postman => Start::LeastMet,
+            Kind::Path => Start::LesserEnd,
+            Kind::Perfect
+            | Kind::Match
+            | Kind::BMatch
+            | Kind::CapMatch
+            | Kind::FFactor
+            | Kind::TJoin => Start::Free,
+        }
+    }
+
+    /// How many searches are made at most to solve an instance.
+    pub fn searches(self) -> u32
+        ensures { result ≡ searches_of self }
+    {
+        match self {
+            Kind::Path => 2,
+            Kind::Perfect
+            | Kind::Match
+            | Kind::BMatch
+            | Kind::CapMatch
+            | Kind::FFactor
+            | Kind::TJoin
+            | Kind::Postman => 1,
+        }
+    }
+
+    /// Whether instances of the kind are made for trials.
+    pub fn is_drawn(self) -> bool
+        ensures { result ≡ is_drawn self }
+    {
+        match self {
+            Kind::Perfect
+            | Kind::Match
+            | Kind::BMatch
+            | Kind::CapMatch
+            | Kind::FFactor
+            | Kind::TJoin
+            | Kind::Postman
+            | Kind::Path => true,
         }
     }
 }

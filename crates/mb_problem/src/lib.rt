@@ -1,4 +1,4 @@
-//! Instances of the eight problems, their answers, and which answers are feasible.
+//! Instances of the problems, their answers, and which answers are feasible.
 //! It stands on `mb_base`, `graph_theory` and `weighted_graph`. It promises the definitions of a
 //! feasible and of a best answer for each kind, that `feasible`, `degree` and `weight` are these
 //! definitions, and that `gadget_size` is the size of the graph that certificates speak of. All that
@@ -21,7 +21,10 @@ pub use answer::{Answer, Join, Parity};
 pub use feasibility::feasible;
 pub use gadget::{Capacities, GadgetForm};
 pub use instance::{Instance, InstanceEdge};
-pub use kind::{AnswerForm, Exclusion, Kind, Sense};
+pub use kind::{
+    AnswerForm, BestProof, DualValue, EdgeUse, Exclusion, Kind, Measure, Need, Sense, Start,
+    VertexValue,
+};
 pub use limits::{EDGE_LIMIT, VALUE_LIMIT, VERTEX_LIMIT};
 pub use measure::{degree, weight};
 pub use size::{gadget_size, size_by};

@@ -2,11 +2,13 @@ ghost use Rattle.std.specs.Prelude.{◌≡◌, ℕ, ◌+◌, ◌-◌, ◌*◌, �
 ghost use Rattle.graph_theory.specs.Graph.{degree, ends_at, weight, IsEdgeNumber};
 ghost use Rattle.graph_theory.specs.Walk.{walk_weight};
 ghost use Rattle.mb_problem.specs.Network.{Network, IsNetwork, graph_of, plain};
-ghost use Rattle.mb_problem.specs.Feasible.{weight_of};
+ghost use Rattle.mb_problem.specs.Feasible.{weight_by, weight_of};
+ghost use Rattle.mb_problem.specs.declared.kind.Measure.TheVariants.{Total};
 ghost use Rattle.mb_problem.specs.Measured.{HasPlaces};
 
 use crate::answer::Answer;
 use crate::instance::{Instance, InstanceEdge};
+use crate::kind::{Kind, Measure};
 use mb_base::{EdgeId, VertexId};
 
 /// How many ends of an edge are this vertex.
@@ -64,13 +66,23 @@ fn weight_of_walk(instance: &Instance, edges: &[EdgeId]) -> i128
 }
 
 /// The weight of an answer: the weights of the edges, each as often as it is used, added up.
-pub fn weight(instance: &Instance, answer: &Answer) -> i128
+fn total(instance: &Instance, answer: &Answer) -> i128
     requires { HasPlaces instance.now answer.now }
-    ensures { result ≡ weight_of instance.now answer.now }
+    ensures { result ≡ weight_by Total instance.now answer.now }
 {
     match answer {
         Answer::Counts(counts) => weight_of_counts(instance, counts.as_slice()),
         Answer::Walk { edges, .. } => weight_of_walk(instance, edges.as_slice()),
         Answer::Nothing => 0,
+    }
+}
+
+/// What an answer of a kind weighs, by the measure of the kind. It takes time linear in the answer.
+pub fn weight(instance: &Instance, kind: Kind, answer: &Answer) -> i128
+    requires { HasPlaces instance.now answer.now }
+    ensures { result ≡ weight_of kind instance.now answer.now }
+{
+    match kind.measure() {
+        Measure::Total => total(instance, answer),
     }
 }

@@ -2,9 +2,9 @@
 use Rattle.std.proofs.Common.{◌≡◌, ℕ, ◌+◌, ◌-◌, ◌<◌, ◌≤◌, Bool, true, cond, eqb, refl, ap, sym, ◌∙◌, subst, inl, inr, arith, List, [], ◌∷◌, ◌++◌, length, slice_index, All}
 use Rattle.std.proofs.lemmas.Bool.{cases_eq, cases_Bool, eq-eqb, ne_eqb}
 use Rattle.graph_theory.specs.declared.edge.Edge.{Edge}
-use Rattle.graph_theory.specs.Graph.{Multigraph, IsEdgeWithin, edge_at, edge_of, touches, other_end, CountsNoneAt}
+use Rattle.graph_theory.specs.Graph.{Multigraph, IsEdgeWithin, edge_at, edge_of, touches, other_end, CountsNoneAt, degree}
 use Rattle.graph_theory.specs.Parts.{holds}
-use Rattle.graph_theory.specs.Walk.{IsClosedWalk, walk_end, walk_vertices}
+use Rattle.graph_theory.specs.Walk.{IsClosedWalk, walk_end, walk_vertices, IsWalk, walk_left}
 use Rattle.graph_theory.proofs.Edges.{edge_of_within, edge_of-place, edge_back, touched-within, touches-u, edge_at-within, degree-none}
 use Rattle.graph_theory.proofs.Walks.{walk-within, walk-push, end-push, walk-front, walk-rest, start_held}
 use Rattle.graph_theory.proofs.Components.{IsClosedBut, closed_has}
@@ -13,8 +13,19 @@ use Rattle.weighted_graph.proofs.LeftLemmas.{still-none, degree-taken}
 use Rattle.gadget_base.specs.Listed.{times}
 use Rattle.gadget_base.proofs.Times.{times-push, times-held}
 use Rattle.graph_parts.specs.Connected.{HasConnectedEdges}
-use Rattle.postman_walk.specs.Tracing.{IsTracing}
 use Rattle.postman_walk.proofs.WalkLemmas.{step-parity, left_or_end, left_before, comes_to_ends}
+use Rattle.std.specs.Prelude.{◌%◌, ◌==◌, if◌then◌else◌}
+
+-- Two walks from the start, an open one that ends here and a finished one. Together with what is left they use each edge
+-- as often as they are to. What is left has even degrees, but at the ends of the two walks where these differ. The
+-- finished one has left no edge at any vertex that it left.
+pub record IsTracing (g : Multigraph) (uses left : List ℕ) (start here : ℕ) (opened finished : List ℕ) : Type 0 where
+  pub opened_is : IsWalk g start opened
+  pub opened_end : walk_end g start opened ≡ here
+  pub finished_is : IsWalk g start finished
+  pub shared : (k : ℕ) → k < length g.edges → times opened (k + 1) + times finished (k + 1) + slice_index left k ≡ slice_index uses k
+  pub even : (v : ℕ) → 1 ≤ v → v ≤ g.vertices → (degree g left v + (if here == v then 1 else 0) + (if walk_end g start finished == v then 1 else 0)) % 2 ≡ 0
+  pub settled : (v : ℕ) → holds (walk_left g start finished) v ≡ true → CountsNoneAt g left v
 
 -- one edge more of the open walk
 pub tracing-push : (g : Multigraph) (uses left after : List ℕ) (start here e : ℕ) (opened finished : List ℕ) → All (IsEdgeWithin g.vertices) g.edges → IsTracing g uses left start here opened finished → TakesOne g left after here e → IsTracing g uses after start (other_end (edge_of g e) here) (opened ++ e ∷ []) finished

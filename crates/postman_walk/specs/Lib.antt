@@ -1,2 +1,1 @@
 pub mod Tours
-pub mod Tracing

@@ -28,7 +28,7 @@ pub fn closed_walk(alloc: Global, instance: &Instance, join: &Join) -> Result<An
     ensures feasible { IfOk result (IsFeasible Postman instance.now) }
     ensures uses { IfOk result (IsWalkWith (λ start edges. UsesOnceAndJoinTwice instance.now join.now.edges edges) (length instance.now.edges ≡ 0)) }
     ensures start { IfOk result (IsWalkWith (λ start edges. IsLeastMet (graph_of instance.now) start) (length instance.now.edges ≡ 0)) }
-    ensures weighs { IfOk result (λ answer. weight_of instance.now answer ≡ total_weight instance.now +ℤ walk_weight (graph_of instance.now) join.now.edges) }
+    ensures weighs { IfOk result (λ answer. weight_of Postman instance.now answer ≡ total_weight instance.now +ℤ walk_weight (graph_of instance.now) join.now.edges) }
 {
     let graph = instance.graph()?;
     let Some(start) = least_met(&graph) else {

@@ -1,13 +1,15 @@
 -- A document of a circuit of weight below 0 proves that weights aren't conservative.
 use Rattle.std.proofs.Common.{◌≡◌, ℕ, ◌+◌, ◌*◌, ◌≤◌, pos, ◌<ℤ◌, true, List, [], length, All, Option, None, Some, MatchOption, IfSome, nat_abs, refl, sym, ap, ◌∙◌, subst, arith}
+use Rattle.std.specs.List.{list_all}
 use Rattle.std.proofs.lemmas.Int.{ints}
 use Rattle.graph_theory.specs.Walk.{IsCircuit, walk_weight}
 use Rattle.graph_theory.proofs.Walks.{walk-numbers}
-use Rattle.mb_problem.specs.declared.kind.Kind.TheVariants.{Path}
+use Rattle.mb_problem.specs.declared.kind.Kind.{Kind}
 use Rattle.mb_problem.specs.declared.kind.AnswerForm.TheVariants as form
 use Rattle.mb_problem.specs.declared.answer.Answer.{Answer}
 use Rattle.mb_problem.specs.declared.answer.Answer.TheVariants as answers
 use Rattle.mb_problem.specs.declared.answer.Parity.TheVariants.{Values}
+use Rattle.mb_problem.specs.Kinds.{asks_conservative}
 use Rattle.mb_problem.specs.Feasible.{IsWalkWith}
 use Rattle.mb_problem.specs.Network.{Network, IsNetwork, vertices, graph_of}
 use Rattle.gadget_base.specs.Certified.{gadget_graph}
@@ -18,94 +20,79 @@ use Rattle.doc_format.specs.declared.document.Document.{Document}
 use Rattle.doc_format.specs.declared.status.DocStatus.{DocStatus}
 use Rattle.doc_format.specs.declared.status.DocStatus.TheVariants.{NonConservative}
 use Rattle.doc_format.specs.declared.part.WalkLine.{WalkLine}
-use Rattle.doc_format.specs.declared.part.Part.TheVariants.{Walk, Count, Dual, Set, Barrier, Odd, Split}
-use Rattle.doc_format.specs.Form.{has_edges}
+use Rattle.doc_format.specs.declared.part.Part.TheVariants.{Walk}
+use Rattle.doc_format.specs.Parts.{Body, blank, at_most_one, parts_of}
+use Rattle.doc_format.specs.Reading.{body_of}
+use Rattle.doc_format.specs.Spelling.{parts_text}
+use Rattle.certificates.specs.Ranges.{in_range_for}
+use Rattle.certificates.proofs.WithinLemmas.{in-range}
 use Rattle.certificates.specs.Claims.{numbers}
 use Rattle.certificates.specs.Certificates.{HasNegativeCircuit}
 use Rattle.certificates.specs.Proved.{ProvesByStatus, StatesTruthBy}
-use Rattle.certificates.specs.Within.{IsUpTo, IsCountWithin, IsWalkWithin, IsDualWithin, IsSetLineWithin, AreWithin}
+use Rattle.certificates.specs.Within.{IsWalkWithin, AreWithin}
 use Rattle.certificates.proofs.TruthLemmas.{not_conservative}
 use Rattle.solve_kinds.specs.Chosen.{IsFirstMetPart}
 use Rattle.solve_kinds.specs.Parts.{line_of, walk_line}
 use Rattle.solve_kinds.specs.Settled.{Settles}
 use Rattle.solve_kinds.specs.Solved.{HasTrueStatus}
-use Rattle.solve_kinds.proofs.AnswerForms.{HasForm}
+use Rattle.mb_problem.specs.Measured.{IsInForm}
 use Rattle.solve_kinds.proofs.Ascents.{numbers-pos}
-use Rattle.solve_kinds.proofs.Forms.{some-edges}
-use Rattle.solve_kinds.proofs.InRange.{in-range}
+use Rattle.solve_kinds.proofs.Forms.{has_edges, some-edges}
+use Rattle.solve_kinds.proofs.InRange.{walk_in}
 use Rattle.solve_kinds.proofs.LineSizes.{head_circuit-size}
-use Rattle.solve_kinds.proofs.Presenting.{none_if, all_none}
-use Rattle.solve_kinds.proofs.Short.{IsShortLine, no-lines, no-line, short-document}
+use Rattle.solve_kinds.proofs.Presenting.{none_if}
+use Rattle.solve_kinds.proofs.Short.{IsShortLine, line-size, short-document}
 use Rattle.solve_kinds.proofs.ShortDocuments.{short-walk}
 use Rattle.solve_kinds.proofs.WalkLines.{walk-within, few-steps}
 
 -- no part but the line of a circuit
-pub record StatesCircuit (answer : Answer) (d : Document) : Type 0 where
+pub record StatesCircuit (kind : Kind) (answer : Answer) (d : Document) : Type 0 where
   pub status : d.status ≡ NonConservative
-  pub kind_is : d.kind ≡ Path
+  pub kind_is : d.kind ≡ kind
   pub weight : d.weight ≡ pos 0
-  pub counts : d.counts ≡ []
-  pub walk : d.walk ≡ line_of answer
-  pub duals : d.duals ≡ []
-  pub sets : d.sets ≡ []
-  pub barrier : d.barrier ≡ None
-  pub odd : d.odd ≡ None
-  pub split : d.split ≡ None
+  pub body : body_of d ≡ record blank { walk = line_of answer }
 
 has-circuit : (i : Network) (start : ℕ) (edges : List ℕ) (line : Option WalkLine) → IsCircuit (graph_of i) start edges → walk_weight (graph_of i) edges <ℤ pos 0 → line ≡ Some (walk_line start edges) → MatchOption line ⊥ (λ w. IsCircuit (graph_of i) (nat_abs w.start) (numbers w.edges) × (walk_weight (graph_of i) (numbers w.edges) <ℤ pos 0))
 has-circuit i start edges line circuit negative is =
     subst (λ (o : Option WalkLine). MatchOption o ⊥ (λ w. IsCircuit (graph_of i) (nat_abs w.start) (numbers w.edges) × (walk_weight (graph_of i) (numbers w.edges) <ℤ pos 0))) (sym is)
     (subst (λ (es : List ℕ). IsCircuit (graph_of i) start es × (walk_weight (graph_of i) es <ℤ pos 0)) (sym (numbers-pos edges)) (circuit, negative))
 
-within-circuit : (i : Network) (start : ℕ) (edges : List ℕ) (d : Document) → IsWalkWithin (vertices i) (length i.edges) (walk_line start edges) → StatesCircuit (answers.Walk start edges) d → AreWithin Path i d
-within-circuit i start edges d within p =
-    let n = (gadget_graph Path i).vertices in
+within-circuit : (kind : Kind) (i : Network) (start : ℕ) (edges : List ℕ) (d : Document) → IsWalkWithin (vertices i) (length i.edges) (walk_line start edges) → StatesCircuit kind (answers.Walk start edges) d → AreWithin kind i d
+within-circuit kind i start edges d within p =
     record {
       weight = rw p.weight (omega (arith, ints), omega (arith, ints));
-      counts = all_none (IsCountWithin (length i.edges)) d.counts p.counts;
-      walk = subst (λ (line : Option WalkLine). IfSome line (IsWalkWithin (vertices i) (length i.edges))) (sym p.walk) within;
-      duals = all_none (IsDualWithin n) d.duals p.duals;
-      sets = all_none (IsSetLineWithin n) d.sets p.sets;
-      barrier = none_if (λ u. All (IsUpTo n) u.members) d.barrier p.barrier;
-      odd = none_if (λ u. All (IsUpTo (vertices i)) u.members) d.odd p.odd;
-      split = none_if (λ u. All (IsUpTo (vertices i)) u.members) d.split p.split;
+      parts = ap (λ (b : Body). list_all (in_range_for kind i) (parts_of b)) p.body ∙ walk_in (vertices i) (length i.edges) (gadget_graph kind i).vertices (Some (walk_line start edges)) within;
     }
 
-settles : (i : Network) (start : ℕ) (edges : List ℕ) (d : Document) → IsNetwork i → IsCircuit (graph_of i) start edges → walk_weight (graph_of i) edges <ℤ pos 0 → StatesCircuit (answers.Walk start edges) d → Settles Path i d
-settles i start edges d network circuit negative p =
+settles : (kind : Kind) (i : Network) (start : ℕ) (edges : List ℕ) (d : Document) → asks_conservative kind ≡ true → IsNetwork i → IsCircuit (graph_of i) start edges → walk_weight (graph_of i) edges <ℤ pos 0 → StatesCircuit kind (answers.Walk start edges) d → Settles kind i d
+settles kind i start edges d asks network circuit negative p =
     let two : 2 ≤ length edges = circuit.two in
     let within = walk-within i start edges network circuit.walk (omega arith) in
     let size : length edges ≤ length i.edges * 1 = few-steps 1 i edges (walk-numbers (graph_of i) start edges circuit.walk) (λ k b. differ-once edges (k + 1) circuit.edges_differ) in
-    let has : HasNegativeCircuit i d = has-circuit i start edges d.walk circuit negative p.walk in
+    let walk : d.walk ≡ Some (walk_line start edges) = ap (λ (b : Body). b.walk) p.body in
+    let has : HasNegativeCircuit i d = has-circuit i start edges d.walk circuit negative walk in
     let row : IsShortLine Walk 2400000 (Some (walk_line start edges)) = short-walk (vertices i) (length i.edges) start edges network.few_vertices network.few_edges (omega (arith, size)) within in
+    let text = line-size Walk 2400000 (Some (walk_line start edges)) row in
+    let same : length (parts_text (parts_of (body_of d))) ≡ length (parts_text (at_most_one Walk (Some (walk_line start edges)))) = ap (λ (b : Body). length (parts_text (parts_of b))) p.body in
     record {
-      proved = record { same_kind = p.kind_is; in_range = in-range Path i d (within-circuit i start edges d within p); proves = subst (λ (t : DocStatus). ProvesByStatus t Path i d) (sym p.status) has };
-      truth = subst (λ (t : DocStatus). StatesTruthBy t Path i d) (sym p.status) (not_conservative i d has);
-      exact = subst (HasTrueStatus Path i) (sym p.status) (refl, not_conservative i d has);
+      proved = record { same_kind = p.kind_is; in_range = in-range kind i d (within-circuit kind i start edges d within p); proves = subst (λ (t : DocStatus). ProvesByStatus t kind i d) (sym p.status) has };
+      truth = subst (λ (t : DocStatus). StatesTruthBy t kind i d) (sym p.status) (not_conservative i d has);
+      exact = subst (HasTrueStatus kind i) (sym p.status) (asks, not_conservative i d has);
       chosen = record {
         walk = λ best. absurd (let same = sym p.status ∙ best in cc);
-        odd = none_if (λ t. IsFirstOddPart (graph_of i) (is_terminal Values i) (numbers t.members)) d.odd p.odd;
-        split = none_if (λ q. IsFirstMetPart (graph_of i) (numbers q.members)) d.split p.split;
+        odd = none_if (λ t. IsFirstOddPart (graph_of i) (is_terminal Values i) (numbers t.members)) d.odd (ap (λ (b : Body). b.odd) p.body);
+        split = none_if (λ q. IsFirstMetPart (graph_of i) (numbers q.members)) d.split (ap (λ (b : Body). b.split) p.body);
       };
-      small = short-document d (record {
-        head = rw (p.status, p.kind_is) (head_circuit-size Path d.weight);
-        counts = no-lines Count 65536 38 d.counts p.counts;
-        walk = subst (IsShortLine Walk 2400000) (sym p.walk) row;
-        duals = no-lines Dual 4096 38 d.duals p.duals;
-        sets = no-lines Set 2047 20518 d.sets p.sets;
-        barrier = no-line Barrier 20500 d.barrier p.barrier;
-        odd = no-line Odd 20500 d.odd p.odd;
-        split = no-line Split 20500 d.split p.split;
-      });
+      small = short-document d (rw (p.status, p.kind_is) (head_circuit-size kind d.weight)) (omega (arith, text, same));
     }
 
-pub settles-circuit : (i : Network) (join : List ℕ) (answer : Answer) (d : Document) → IsNetwork i → IsWalkWith (λ start edges. IsNegativeCircuitWithin (graph_of i) join start edges) ⊥ answer → StatesCircuit answer d → Settles Path i d
-settles-circuit i join (answers.Counts counts) d network circuit p = absurd circuit
-settles-circuit i join (answers.Walk start edges) d network circuit p = settles i start edges d network circuit.circuit circuit.negative p
-settles-circuit i join answers.Nothing d network circuit p = absurd circuit
+pub settles-circuit : (kind : Kind) (i : Network) (join : List ℕ) (answer : Answer) (d : Document) → asks_conservative kind ≡ true → IsNetwork i → IsWalkWith (λ start edges. IsNegativeCircuitWithin (graph_of i) join start edges) ⊥ answer → StatesCircuit kind answer d → Settles kind i d
+settles-circuit kind i join (answers.Counts counts) d asks network circuit p = absurd circuit
+settles-circuit kind i join (answers.Walk start edges) d asks network circuit p = settles kind i start edges d asks network circuit.circuit circuit.negative p
+settles-circuit kind i join answers.Nothing d asks network circuit p = absurd circuit
 
 -- a circuit has edges
-circuit-form : (i : Network) (join : List ℕ) (answer : Answer) → IsWalkWith (λ start edges. IsNegativeCircuitWithin (graph_of i) join start edges) ⊥ answer → HasForm form.Walk answer
+circuit-form : (i : Network) (join : List ℕ) (answer : Answer) → IsWalkWith (λ start edges. IsNegativeCircuitWithin (graph_of i) join start edges) ⊥ answer → IsInForm form.Walk answer
 circuit-form i join (answers.Counts counts) circuit = absurd circuit
 circuit-form i join (answers.Walk start edges) circuit = (let two : 2 ≤ length edges = circuit.circuit.two in omega arith)
 circuit-form i join answers.Nothing circuit = absurd circuit

@@ -12,7 +12,7 @@ use Rattle.doc_format.specs.Form.{ascends, AscendsBy}
 use Rattle.certificates.specs.Claims.{count_of, counts_of}
 use Rattle.certificates.specs.Within.{IsCountWithin}
 use Rattle.solve_kinds.specs.Parts.{count_line, line_at, is_used}
-use Rattle.matched_edges.proofs.Passing.{passing, passing-range, passing-ascends, passing-few, passing-holds, passing-only}
+use Rattle.least_joins.proofs.Passing.{passing, passing-range, passing-ascends, passing-few, passing-holds, passing-only}
 use Rattle.solve_kinds.proofs.Ascents.{ascends-pos, map-map, map-range-same, each-place, both_all}
 
 -- the lines of the edges up to number k

@@ -1,5 +1,7 @@
 -- A document of a set that excludes all answers proves that none is feasible.
-use Rattle.std.proofs.Common.{◌≡◌, ℕ, ◌≤◌, pos, Bool, true, false, List, length, map, All, Option, Some, IfSome, MatchOption, refl, sym, ◌∙◌, subst, arith}
+use Rattle.std.proofs.Common.{◌≡◌, ℕ, ◌≤◌, pos, Bool, true, false, cond, ◌&&◌, List, length, map, All, Option, None, Some, IfSome, MatchOption, refl, sym, ap, ◌∙◌, subst, arith}
+use Rattle.std.specs.List.{list_all}
+use Rattle.std.proofs.lemmas.Bool.{and_from}
 use Rattle.std.proofs.lemmas.Int.{ints}
 use Rattle.std.proofs.lemmas.List.Elements.{All-map, All-weaker}
 use Rattle.graph_theory.specs.Barrier.{IsBarrier}
@@ -15,23 +17,29 @@ use Rattle.graph_parts.specs.OddParts.{IsFirstOddPart, is_terminal}
 use Rattle.doc_format.specs.declared.document.Document.{Document}
 use Rattle.doc_format.specs.declared.status.DocStatus.{DocStatus}
 use Rattle.doc_format.specs.declared.part.MemberLine.{MemberLine}
-use Rattle.doc_format.specs.Form.{is_barrier, is_odd_part, is_split_part, is_never}
+use Rattle.doc_format.specs.Parts.{Body, parts_of, is_barrier, is_odd_part, is_split_part}
+use Rattle.doc_format.specs.Form.{is_never}
+use Rattle.certificates.specs.Ranges.{is_up_to, in_range_for}
 use Rattle.certificates.specs.Claims.{numbers}
 use Rattle.certificates.specs.Certificates.{HasBarrierFor, HasPartFor}
 use Rattle.certificates.specs.Excluded.{HasNoAnswer, IsExcludedFor}
 use Rattle.certificates.specs.Proved.{IsProved, ProvesByStatus}
-use Rattle.certificates.specs.Within.{IsUpTo, IsCountWithin, IsWalkWithin, IsDualWithin, IsSetLineWithin, AreWithin}
+use Rattle.certificates.specs.Within.{IsUpTo, AreWithin}
 use Rattle.certificates.proofs.KindLemmas.{excluded}
 use Rattle.solve_kinds.specs.Chosen.{IsFirstMetPart, IsChosen}
-use Rattle.solve_kinds.specs.Excluding.{member_line, line_if, StatesSet, ExcludesBy, Excludes}
+use Rattle.solve_kinds.specs.Excluding.{member_line, set_body, StatesSet, ExcludesBy, Excludes}
 use Rattle.solve_kinds.proofs.Ascents.{numbers-pos}
-use Rattle.solve_kinds.proofs.InRange.{in-range}
-use Rattle.solve_kinds.proofs.Presenting.{none_if, all_none}
+use Rattle.certificates.proofs.WithinLemmas.{in-range}
+use Rattle.solve_kinds.proofs.InRange.{all_up_to}
 
 pub up_to-pos : (n : ℕ) (set : List ℕ) → IsVertexSet n set → All (IsUpTo n) (map pos set)
 up_to-pos n set is = All-map (IsUpTo n) pos set (All-weaker (λ v. (1 ≤ v) × (v ≤ n)) (λ v. IsUpTo n (pos v)) (λ v h. (let low : 1 ≤ v = h.0 in let high : v ≤ n = h.1 in record { low = omega (arith, ints); high = omega (arith, ints) })) set is.in_range)
 
--- what holds of a line, where it is wanted
+-- the line, where it is wanted
+abbrev pub line_if : Bool → List ℕ → Option MemberLine
+line_if wanted set = cond wanted (Some (member_line set)) None
+
+-- what holds of it there
 pub line-holds : (P : MemberLine → Type 0) (t : Bool) (set : List ℕ) (line : Option MemberLine) → line ≡ line_if t set → (t ≡ true → P (member_line set)) → IfSome line P
 line-holds P true set line is h = subst (λ (o : Option MemberLine). IfSome o P) (sym is) (h refl)
 line-holds P false set line is h = subst (λ (o : Option MemberLine). IfSome o P) (sym is) tt
@@ -56,20 +64,48 @@ as-split OddPart kind i set t x = absurd (cc)
 as-split SplitPart kind i set t x = x
 as-split Never kind i set t x = absurd x
 
+-- the lines of the body
+
+set_barrier : (e : Exclusion) (set : List ℕ) → (set_body e (member_line set)).barrier ≡ line_if (is_barrier e) set
+set_barrier Barrier set = refl
+set_barrier OddPart set = refl
+set_barrier SplitPart set = refl
+set_barrier Never set = refl
+
+set_odd : (e : Exclusion) (set : List ℕ) → (set_body e (member_line set)).odd ≡ line_if (is_odd_part e) set
+set_odd Barrier set = refl
+set_odd OddPart set = refl
+set_odd SplitPart set = refl
+set_odd Never set = refl
+
+set_split : (e : Exclusion) (set : List ℕ) → (set_body e (member_line set)).split ≡ line_if (is_split_part e) set
+set_split Barrier set = refl
+set_split OddPart set = refl
+set_split SplitPart set = refl
+set_split Never set = refl
+
+module _ (kind : Kind) (set : List ℕ) (d : Document) (p : StatesSet kind set d) where
+  barrier_is : d.barrier ≡ line_if (is_barrier (exclusion_of kind)) set
+  barrier_is = ap (λ (b : Body). b.barrier) p.body ∙ set_barrier (exclusion_of kind) set
+
+  odd_is : d.odd ≡ line_if (is_odd_part (exclusion_of kind)) set
+  odd_is = ap (λ (b : Body). b.odd) p.body ∙ set_odd (exclusion_of kind) set
+
+  split_is : d.split ≡ line_if (is_split_part (exclusion_of kind)) set
+  split_is = ap (λ (b : Body). b.split) p.body ∙ set_split (exclusion_of kind) set
+
+-- the numbers of the line are in their range
+set_within : (e : Exclusion) (kind : Kind) (i : Network) (set : List ℕ) → ExcludesBy e kind i set → list_all (in_range_for kind i) (parts_of (set_body e (member_line set))) ≡ true
+set_within Barrier kind i set x = let n = (gadget_graph kind i).vertices in and_from (list_all (is_up_to n) (map pos set)) true (all_up_to n (map pos set) (up_to-pos n set x.0)) refl
+set_within OddPart kind i set x = let n = vertices i in and_from (list_all (is_up_to n) (map pos set)) true (all_up_to n (map pos set) (up_to-pos n set x.part.vertices)) refl
+set_within SplitPart kind i set x = let n = vertices i in and_from (list_all (is_up_to n) (map pos set)) true (all_up_to n (map pos set) (up_to-pos n set x.0.vertices)) refl
+set_within Never kind i set x = absurd x
+
 are-within : (kind : Kind) (i : Network) (set : List ℕ) (d : Document) → Excludes kind i set → StatesSet kind set d → AreWithin kind i d
 are-within kind i set d x p =
-    let e = exclusion_of kind in
-    let n = (gadget_graph kind i).vertices in
-    let m = length i.edges in
     record {
       weight = rw p.weight (omega (arith, ints), omega (arith, ints));
-      counts = all_none (IsCountWithin m) d.counts p.counts;
-      walk = none_if (IsWalkWithin (vertices i) m) d.walk p.walk;
-      duals = all_none (IsDualWithin n) d.duals p.duals;
-      sets = all_none (IsSetLineWithin n) d.sets p.sets;
-      barrier = line-holds (λ u. All (IsUpTo n) u.members) (is_barrier e) set d.barrier p.barrier (λ t. up_to-pos n set (as-barrier e kind i set t x).0);
-      odd = line-holds (λ u. All (IsUpTo (vertices i)) u.members) (is_odd_part e) set d.odd p.odd (λ t. up_to-pos (vertices i) set (as-odd e kind i set t x).part.vertices);
-      split = line-holds (λ u. All (IsUpTo (vertices i)) u.members) (is_split_part e) set d.split p.split (λ t. up_to-pos (vertices i) set (as-split e kind i set t x).0.vertices);
+      parts = ap (λ (b : Body). list_all (in_range_for kind i) (parts_of b)) p.body ∙ set_within (exclusion_of kind) kind i set x;
     }
 
 -- the line that an infeasible document wants
@@ -95,7 +131,7 @@ proved-infeasible kind i set d x p =
     record {
       same_kind = p.kind_is;
       in_range = in-range kind i d (are-within kind i set d x p);
-      proves = subst (λ (t : DocStatus). ProvesByStatus t kind i d) (sym p.status) (wanted-barrier e kind i set d x p.barrier, wanted-part e kind i set d x p.odd p.split);
+      proves = subst (λ (t : DocStatus). ProvesByStatus t kind i d) (sym p.status) (wanted-barrier e kind i set d x (barrier_is kind set d p), wanted-part e kind i set d x (odd_is kind set d p) (split_is kind set d p));
     }
 
 by-barrier : (e : Exclusion) (kind : Kind) (i : Network) → is_never e ≡ false → (is_barrier e ≡ true → HasNoAnswer kind i) → IsExcludedFor e kind i
@@ -108,15 +144,15 @@ by-barrier Never kind i never none = absurd (cc)
 pub none-feasible : (kind : Kind) (i : Network) (set : List ℕ) (d : Document) → IsNetwork i → is_never (exclusion_of kind) ≡ false → (is_barrier (exclusion_of kind) ≡ true → HasNoAnswer kind i) → Excludes kind i set → StatesSet kind set d → HasNoAnswer kind i
 none-feasible kind i set d network never none x p =
     let e = exclusion_of kind in
-    excluded kind i d network (by-barrier e kind i never none) (wanted-part e kind i set d x p.odd p.split)
+    excluded kind i d network (by-barrier e kind i never none) (wanted-part e kind i set d x (odd_is kind set d p) (split_is kind set d p))
 
 pub chosen-infeasible : (kind : Kind) (i : Network) (set : List ℕ) (d : Document) → Excludes kind i set → StatesSet kind set d → IsChosen kind i d
 chosen-infeasible kind i set d x p =
     let e = exclusion_of kind in
     record {
       walk = λ best. absurd (let same = sym p.status ∙ best in cc);
-      odd = line-holds (λ u. IsFirstOddPart (graph_of i) (is_terminal Values i) (numbers u.members)) (is_odd_part e) set d.odd p.odd (λ t. subst (IsFirstOddPart (graph_of i) (is_terminal Values i)) (sym (numbers-pos set)) (as-odd e kind i set t x));
-      split = line-holds (λ u. IsFirstMetPart (graph_of i) (numbers u.members)) (is_split_part e) set d.split p.split (λ t. subst (IsFirstMetPart (graph_of i)) (sym (numbers-pos set)) (as-split e kind i set t x).1);
+      odd = line-holds (λ u. IsFirstOddPart (graph_of i) (is_terminal Values i) (numbers u.members)) (is_odd_part e) set d.odd (odd_is kind set d p) (λ t. subst (IsFirstOddPart (graph_of i) (is_terminal Values i)) (sym (numbers-pos set)) (as-odd e kind i set t x));
+      split = line-holds (λ u. IsFirstMetPart (graph_of i) (numbers u.members)) (is_split_part e) set d.split (split_is kind set d p) (λ t. subst (IsFirstMetPart (graph_of i)) (sym (numbers-pos set)) (as-split e kind i set t x).1);
     }
 
 -- the set has few members

@@ -1,5 +1,5 @@
 -- The forms of documents of best answers.
-use Rattle.std.proofs.Common.{◌≡◌, ℕ, ◌≤◌, ℤ, pos, Bool, true, List, [], ◌∷◌, ◌++◌, length, map, Option, None, refl, ap, ◌∙◌, arith}
+use Rattle.std.proofs.Common.{◌||◌, ◌≡◌, ℕ, ◌≤◌, ℤ, pos, Bool, true, false, List, [], ◌∷◌, ◌++◌, length, map, Option, None, Some, refl, sym, ap, subst, ◌∙◌, arith}
 use Rattle.std.specs.List.{list_all}
 use Rattle.std.proofs.lemmas.List.Folds.{list_all-append}
 use Rattle.std.proofs.lemmas.Bool.{and_from}
@@ -8,7 +8,7 @@ use Rattle.mb_problem.specs.declared.kind.AnswerForm.{AnswerForm}
 use Rattle.mb_problem.specs.declared.kind.AnswerForm.TheVariants as form
 use Rattle.mb_problem.specs.declared.answer.Answer.{Answer}
 use Rattle.mb_problem.specs.declared.answer.Answer.TheVariants.{Counts, Walk, Nothing}
-use Rattle.mb_problem.specs.Kinds.{form_of}
+use Rattle.mb_problem.specs.Kinds.{form_of, proof_of}
 use Rattle.doc_format.specs.declared.status.DocStatus.TheVariants.{Optimal}
 use Rattle.doc_format.specs.declared.part.CountLine.{CountLine}
 use Rattle.doc_format.specs.declared.part.WalkLine.{WalkLine}
@@ -16,9 +16,17 @@ use Rattle.doc_format.specs.declared.part.DualLine.{DualLine}
 use Rattle.doc_format.specs.declared.part.SetLine.{SetLine}
 use Rattle.doc_format.specs.declared.part.Part.{Part}
 use Rattle.doc_format.specs.declared.part.Part.TheVariants as part
-use Rattle.doc_format.specs.Form.{admits, is_counts, is_walk, has_any, has_edges, at_most_one, AscendsBy, IsDocument}
+use Rattle.mb_problem.specs.declared.kind.BestProof.{BestProof}
+use Rattle.mb_problem.specs.declared.kind.BestProof.TheVariants.{Duals}
+use Rattle.doc_format.specs.declared.letter.Letter.TheVariants as letter
+use Rattle.doc_format.specs.declared.document.Document.{Document}
+use Rattle.doc_format.specs.declared.head.Head.{Head}
+use Rattle.doc_format.specs.Parts.{Body, blank, proves_best, is_counts, is_walk, is_formed, has_any, at_most_one}
+use Rattle.doc_format.specs.Form.{admits, in_order, AscendsBy, IsDocument}
+use Rattle.doc_format.specs.Reading.{body_of, head_of}
+use Rattle.doc_format.proofs.Stretches.{IsTail, before, many_ranked, one_ranked, keyed, sets_in_order, one_in_order}
 use Rattle.solve_kinds.specs.Parts.{ListsAnswer, line_of}
-use Rattle.solve_kinds.proofs.AnswerForms.{HasForm}
+use Rattle.mb_problem.specs.Measured.{IsInForm}
 
 letters : {A : Type 0} (p : Part → Bool) (made : A → Part) (xs : List A) → ((x : A) → p (made x) ≡ true) → list_all p (map made xs) ≡ true
 letters p made [] each = refl
@@ -29,29 +37,60 @@ joined p xs ys f h = list_all-append p xs ys ∙ and_from (list_all p xs) (list_
 
 -- the lines of an answer have its letter
 
-count-letters : (f : AnswerForm) (p : Part → Bool) (answer : Answer) (counts : List CountLine) → ((x : CountLine) → p (part.Count x) ≡ is_counts f) → HasForm f answer → ListsAnswer answer counts → list_all p (map part.Count counts) ≡ true
+count-letters : (f : AnswerForm) (p : Part → Bool) (answer : Answer) (counts : List CountLine) → ((x : CountLine) → p (part.Count x) ≡ is_counts f) → IsInForm f answer → ListsAnswer answer counts → list_all p (map part.Count counts) ≡ true
 count-letters form.Counts p answer counts takes has lists = letters p part.Count counts takes
 count-letters form.Walk p (Counts cs) counts takes has lists = absurd has
 count-letters form.Walk p (Walk start edges) counts takes has lists = ap (λ (xs : List CountLine). list_all p (map part.Count xs)) lists
 count-letters form.Walk p Nothing counts takes has lists = ap (λ (xs : List CountLine). list_all p (map part.Count xs)) lists
 
-walk-letters : (f : AnswerForm) (p : Part → Bool) (answer : Answer) → ((w : WalkLine) → p (part.Walk w) ≡ is_walk f) → HasForm f answer → list_all p (at_most_one part.Walk (line_of answer)) ≡ true
+walk-letters : (f : AnswerForm) (p : Part → Bool) (answer : Answer) → ((w : WalkLine) → p (part.Walk w) ≡ is_walk f) → IsInForm f answer → list_all p (at_most_one part.Walk (line_of answer)) ≡ true
 walk-letters f p (Counts cs) takes has = refl
 walk-letters f p Nothing takes has = refl
 walk-letters form.Counts p (Walk start edges) takes has = absurd has
 walk-letters form.Walk p (Walk start edges) takes has = and_from (p (part.Walk _)) true (takes _) refl
 
+-- a walk has edges, where there is one
+abbrev pub has_edges : Option WalkLine → Bool
+has_edges None = true
+has_edges (Some w) = has_any w.edges
+
 some-any : (edges : List ℕ) → 1 ≤ length edges → has_any (map pos edges) ≡ true
 some-any [] h = absurd (omega arith)
 some-any (e ∷ edges) h = refl
 
-pub some-edges : (f : AnswerForm) (answer : Answer) → HasForm f answer → has_edges (line_of answer) ≡ true
+pub some-edges : (f : AnswerForm) (answer : Answer) → IsInForm f answer → has_edges (line_of answer) ≡ true
 some-edges f (Counts cs) has = refl
 some-edges f Nothing has = refl
 some-edges form.Counts (Walk start edges) has = absurd has
 some-edges form.Walk (Walk start edges) has = some-any edges has
 
-pub form-optimal : (kind : Kind) (weight : ℤ) (answer : Answer) (counts : List CountLine) (walk : Option WalkLine) (duals : List DualLine) (sets : List SetLine) → HasForm (form_of kind) answer → ListsAnswer answer counts → walk ≡ line_of answer → AscendsBy (λ x. x.edge) counts → AscendsBy (λ y. y.vertex) duals → IsDocument Optimal kind weight (record { counts = counts; walk = walk; duals = duals; sets = sets; barrier = None; odd = None; split = None })
+-- four letters stand in order
+
+ordered-four : (counts : List CountLine) (walk : Option WalkLine) (duals : List DualLine) (sets : List SetLine) → AscendsBy (λ x. x.edge) counts → AscendsBy (λ y. y.vertex) duals → in_order (map part.Count counts ++ (at_most_one part.Walk walk ++ (map part.Dual duals ++ (map part.Set sets ++ [])))) ≡ true
+ordered-four counts walk duals sets edges vertices =
+    let none : IsTail 4 [] = record { order = refl; beyond = refl } in
+    let three = before 3 (map part.Set sets) [] (many_ranked 4 part.Set sets (λ z. refl)) (sets_in_order sets) none in
+    let two = before 2 (map part.Dual duals) _ (many_ranked 3 part.Dual duals (λ y. refl)) (keyed part.Dual (λ (y : DualLine). y.vertex) duals (λ x y h. h) vertices) three in
+    let one = before 1 (at_most_one part.Walk walk) _ (one_ranked 2 part.Walk walk (λ w. refl)) (one_in_order part.Walk walk) two in
+    (before 0 (map part.Count counts) _ (many_ranked 1 part.Count counts (λ x. refl)) (keyed part.Count (λ (x : CountLine). x.edge) counts (λ x y h. h) edges) one).order
+
+walk-formed : (walk : Option WalkLine) → has_edges walk ≡ true → list_all is_formed (at_most_one part.Walk walk) ≡ true
+walk-formed None h = refl
+walk-formed (Some w) h = and_from (has_any w.edges) true h refl
+
+-- the body of counts, a walk, duals and sets
+abbrev pub four : List CountLine → Option WalkLine → List DualLine → List SetLine → Body
+four counts walk duals sets = record blank { counts = counts; walk = walk; duals = duals; sets = sets }
+
+-- y and z lines stand in it
+
+dual-taken : (proof : BestProof) → (proves_best letter.Dual proof || false) ≡ true
+dual-taken (Duals value) = refl
+
+set-taken : (proof : BestProof) → (proves_best letter.Set proof || false) ≡ true
+set-taken (Duals value) = refl
+
+pub form-optimal : (kind : Kind) (weight : ℤ) (answer : Answer) (counts : List CountLine) (walk : Option WalkLine) (duals : List DualLine) (sets : List SetLine) → IsInForm (form_of kind) answer → ListsAnswer answer counts → walk ≡ line_of answer → AscendsBy (λ x. x.edge) counts → AscendsBy (λ y. y.vertex) duals → IsDocument Optimal kind weight (four counts walk duals sets)
 form-optimal kind weight answer counts walk duals sets has lists line edges vertices =
     let p = admits Optimal kind in
     record {
@@ -59,11 +98,13 @@ form-optimal kind weight answer counts walk duals sets has lists line edges vert
       no_weight = λ h. absurd (cc);
       letters = joined p (map part.Count counts) (at_most_one part.Walk walk ++ (map part.Dual duals ++ (map part.Set sets ++ []))) (count-letters (form_of kind) p answer counts (λ x. refl) has lists)
           (joined p (at_most_one part.Walk walk) (map part.Dual duals ++ (map part.Set sets ++ [])) (ap (λ (w : Option WalkLine). list_all p (at_most_one part.Walk w)) line ∙ walk-letters (form_of kind) p answer (λ w. refl) has)
-          (joined p (map part.Dual duals) (map part.Set sets ++ []) (letters p part.Dual duals (λ x. refl)) (joined p (map part.Set sets) [] (letters p part.Set sets (λ x. refl)) refl)));
-      edges_ascend = edges;
-      walk_has_edges = ap has_edges line ∙ some-edges (form_of kind) answer has;
-      vertices_ascend = vertices;
-      barrier_ascends = refl;
-      odd_ascends = refl;
-      split_ascends = refl;
+          (joined p (map part.Dual duals) (map part.Set sets ++ []) (letters p part.Dual duals (λ y. dual-taken (proof_of kind))) (joined p (map part.Set sets) [] (letters p part.Set sets (λ z. set-taken (proof_of kind))) refl)));
+      ordered = ordered-four counts walk duals sets edges vertices;
+      formed = joined is_formed (map part.Count counts) (at_most_one part.Walk walk ++ (map part.Dual duals ++ (map part.Set sets ++ []))) (letters is_formed part.Count counts (λ x. refl))
+          (joined is_formed (at_most_one part.Walk walk) (map part.Dual duals ++ (map part.Set sets ++ [])) (walk-formed walk (ap has_edges line ∙ some-edges (form_of kind) answer has))
+          (joined is_formed (map part.Dual duals) (map part.Set sets ++ []) (letters is_formed part.Dual duals (λ x. refl)) (joined is_formed (map part.Set sets) [] (letters is_formed part.Set sets (λ x. refl)) refl)));
     }
+
+-- the form of a document made from another by a change of its parts
+pub formed-as : (d : Document) (h : Head) (b : Body) (change : Body → Body) → head_of d ≡ h → body_of d ≡ b → IsDocument h.status h.kind h.weight (change b) → IsDocument d.status d.kind d.weight (change (body_of d))
+formed-as d h b change head body form = subst (λ (g : Head). IsDocument g.status g.kind g.weight (change (body_of d))) (sym head) (subst (λ (c : Body). IsDocument h.status h.kind h.weight (change c)) (sym body) form)

@@ -11,7 +11,7 @@ use Rattle.mb_problem.specs.declared.answer.Parity.TheVariants.{Values}
 use Rattle.mb_problem.proofs.EdgeLemmas.{edges-count}
 use Rattle.gadget_base.specs.Listed.{times, times_each}
 use Rattle.gadget_base.proofs.Blocks.{is-tabled}
-use Rattle.matched_edges.proofs.Passing.{passing-few, passing-times, members-passing}
+use Rattle.least_joins.proofs.Passing.{passing-few, passing-times, members-passing}
 
 -- an ascending list of numbers of edges, as a set
 as_set : (i : Network) (es : List ℕ) → IsStrictlyIncreasing es → All (IsEdgeNumber (graph_of i)) es → IsVertexSet (length i.edges) es

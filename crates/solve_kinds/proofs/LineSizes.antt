@@ -23,9 +23,9 @@ use Rattle.doc_format.specs.Status.{status_text}
 use Rattle.doc_format.specs.Spelling.{after_space, row_text, spaced, with_count, numbers_of, head_row, part_row, parts_text}
 use Rattle.certificates.specs.Within.{IsUpTo, IsCountWithin, IsDualWithin, IsSetLineWithin, IsWalkWithin}
 use Rattle.solve_kinds.specs.Excluding.{member_line}
-use Rattle.matched_edges.proofs.Passing.{passing-few, members-passing}
+use Rattle.least_joins.proofs.Passing.{passing-few, members-passing}
 use Rattle.solve_kinds.proofs.Texts.{short_number, short_vertex, spaced-most, row-length, size-most}
-use Rattle.solve_kinds.proofs.EachKind.{kind-size}
+use Rattle.mb_problem.proofs.KindLaws.{kind-short}
 use Rattle.solve_kinds.proofs.Excluding.{up_to-pos}
 
 pub up_to-number : (n : ℕ) (z : ℤ) → n ≤ 1000000000000000 → IsUpTo n z → IsNumber z
@@ -115,7 +115,7 @@ two-fields a b =
 pub head-size : (kind : Kind) (w : ℤ) → IsNumber w → length (row_text (head_row Optimal kind w)) ≤ 40
 head-size kind w h =
     let number = short_number w h in
-    let name = kind-size kind in
+    let name = kind-short kind in
     let row : length (row_text (head_row Optimal kind w)) ≡ 1 + length (flat_map after_space (status_text Optimal ∷ kind_text kind ∷ signed_decimal w ∷ [])) + 1 = row-length (codes "s") (status_text Optimal ∷ kind_text kind ∷ signed_decimal w ∷ []) in
     let fields = three-fields (status_text Optimal) (kind_text kind) (signed_decimal w) in
     let status : length (status_text Optimal) ≡ 7 = refl in
@@ -123,7 +123,7 @@ head-size kind w h =
 
 pub head_none-size : (kind : Kind) (w : ℤ) → length (row_text (head_row Infeasible kind w)) ≤ 40
 head_none-size kind w =
-    let name = kind-size kind in
+    let name = kind-short kind in
     let row : length (row_text (head_row Infeasible kind w)) ≡ 1 + length (flat_map after_space (status_text Infeasible ∷ kind_text kind ∷ [])) + 1 = row-length (codes "s") (status_text Infeasible ∷ kind_text kind ∷ []) in
     let fields = two-fields (status_text Infeasible) (kind_text kind) in
     let status : length (status_text Infeasible) ≡ 10 = refl in
@@ -131,7 +131,7 @@ head_none-size kind w =
 
 pub head_circuit-size : (kind : Kind) (w : ℤ) → length (row_text (head_row NonConservative kind w)) ≤ 40
 head_circuit-size kind w =
-    let name = kind-size kind in
+    let name = kind-short kind in
     let row : length (row_text (head_row NonConservative kind w)) ≡ 1 + length (flat_map after_space (status_text NonConservative ∷ kind_text kind ∷ [])) + 1 = row-length (codes "s") (status_text NonConservative ∷ kind_text kind ∷ []) in
     let fields = two-fields (status_text NonConservative) (kind_text kind) in
     let status : length (status_text NonConservative) ≡ 15 = refl in

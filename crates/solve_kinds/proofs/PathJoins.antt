@@ -69,5 +69,5 @@ path-few i s t join Nothing network p = absurd p
 
 pub path-chosen : (i : Network) (s t : ℕ) (join : List ℕ) (answer : Answer) → AreEnds i s t → IsWalkWith (λ start edges. IsPathWithin (graph_of i) join s t start edges) ⊥ answer → IsChosenAnswer Path i answer
 path-chosen i s t join (Counts counts) ends p = absurd p
-path-chosen i s t join (Walk start es) ends p = (λ same. absurd (cc), λ same. (t, subst (λ (v : ℕ). AreEnds i v t) (sym p.starts) ends))
+path-chosen i s t join (Walk start es) ends p = (t, subst (λ (v : ℕ). AreEnds i v t) (sym p.starts) ends)
 path-chosen i s t join Nothing ends p = absurd p

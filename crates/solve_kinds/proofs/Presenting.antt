@@ -1,5 +1,6 @@
 -- A document that presents a solution proves its answer best.
-use Rattle.std.proofs.Common.{◌≡◌, ℕ, suc, ◌≤◌, ℤ, pos, ◌≤ℤ◌, ◌*ℤ◌, List, [], ◌∷◌, length, All, Option, None, IfSome, nat_abs, refl, sym, ap, ◌∙◌, subst, arith}
+use Rattle.std.proofs.Common.{◌≡◌, ℕ, suc, ◌≤◌, ℤ, pos, ◌≤ℤ◌, ◌*ℤ◌, List, [], ◌∷◌, length, map, All, Option, None, IfSome, nat_abs, refl, sym, ap, ◌∙◌, subst, arith}
+use Rattle.std.specs.List.{list_all}
 use Rattle.std.proofs.lemmas.Int.{ints}
 use Rattle.std.proofs.lemmas.List.Elements.{All-nil, All-cons, All-head, All-tail}
 use Rattle.graph_theory.specs.declared.odd_set.OddSet.{OddSet}
@@ -14,22 +15,27 @@ use Rattle.mb_problem.specs.Kinds.{form_of}
 use Rattle.mb_problem.specs.Network.{Network, IsNetwork, vertices, graph_of}
 use Rattle.mb_problem.specs.Feasible.{IsFeasible, weight_of}
 use Rattle.mb_problem.specs.Values.{value_for}
+use Rattle.mb_problem.proofs.KindLaws.{feasible-form, feasible-places}
 use Rattle.gadget_base.specs.Certified.{gadget_graph, IsReached, ReachesAll}
 use Rattle.doc_format.specs.declared.document.Document.{Document}
 use Rattle.doc_format.specs.declared.part.WalkLine.{WalkLine}
 use Rattle.doc_format.specs.declared.status.DocStatus.{DocStatus}
+use Rattle.doc_format.specs.declared.part.Part.TheVariants as part
+use Rattle.doc_format.specs.Parts.{Body, parts_of, at_most_one}
+use Rattle.doc_format.proofs.InOrder.{all_joined}
+use Rattle.certificates.specs.Ranges.{in_range_for}
 use Rattle.certificates.specs.Claims.{answer_of, numbers, duals_of, sets_of, set_of}
 use Rattle.certificates.specs.Proved.{IsProved, ProvesOptimal, ProvesByStatus}
 use Rattle.certificates.specs.Within.{IsUpTo, IsWalkWithin, IsDualWithin, IsSetLineWithin, AreWithin}
-use Rattle.certificates.proofs.KindLemmas.{feasible-places}
 use Rattle.mwpm_engine.specs.Solutions.{Solution, matching_of, AreAscending, IsSolved}
 use Rattle.graph_parts.specs.OddParts.{IsFirstOddPart, is_terminal}
 use Rattle.solve_kinds.specs.Chosen.{StartsFirst, IsChosenAnswer, IsFirstMetPart, IsChosen}
 use Rattle.solve_kinds.specs.Parts.{line_of}
 use Rattle.solve_kinds.specs.Presented.{Presents}
-use Rattle.solve_kinds.proofs.AnswerForms.{feasible-form, stated-by}
+use Rattle.solve_kinds.proofs.AnswerForms.{stated-by}
 use Rattle.solve_kinds.proofs.Ascents.{unmap, both_all}
-use Rattle.solve_kinds.proofs.InRange.{in-range}
+use Rattle.certificates.proofs.WithinLemmas.{in-range}
+use Rattle.solve_kinds.proofs.InRange.{counts_in, duals_in, sets_in, walk_in}
 use Rattle.solve_kinds.proofs.WalkLines.{line-within}
 
 -- a solution of the kind's graph
@@ -80,30 +86,34 @@ none_if P x h = rw h tt
 
 are-within : (kind : Kind) (i : Network) (s : Solution) (d : Document) → Solves kind i s → Presents kind i s d → AreWithin kind i d
 are-within kind i s d of p =
-    let n = (gadget_graph kind i).vertices in
-    let same : s.graph.vertices ≡ n = ap (λ (g : Multigraph). g.vertices) of.graph in
+    let n = vertices i in
+    let m = length i.edges in
+    let k = (gadget_graph kind i).vertices in
+    let same : s.graph.vertices ≡ k = ap (λ (g : Multigraph). g.vertices) of.graph in
+    let walk = subst (λ (line : Option WalkLine). IfSome line (IsWalkWithin n m)) (sym p.walk) (line-within kind i p.answer of.network p.feasible) in
+    let duals = subst (λ (v : ℕ). All (IsDualWithin v) d.duals) same p.duals_within in
+    let sets = subst (λ (v : ℕ). All (IsSetLineWithin v) d.sets) same (sets-within kind i s d of.solved p) in
+    let r = in_range_for kind i in
     record {
       weight = p.number;
-      counts = p.counts_within;
-      walk = subst (λ (line : Option WalkLine). IfSome line (IsWalkWithin (vertices i) (length i.edges))) (sym p.walk) (line-within kind i p.answer of.network p.feasible);
-      duals = subst (λ (k : ℕ). All (IsDualWithin k) d.duals) same p.duals_within;
-      sets = subst (λ (k : ℕ). All (IsSetLineWithin k) d.sets) same (sets-within kind i s d of.solved p);
-      barrier = none_if (λ u. All (IsUpTo n) u.members) d.barrier p.barrier;
-      odd = none_if (λ u. All (IsUpTo (vertices i)) u.members) d.odd p.odd;
-      split = none_if (λ u. All (IsUpTo (vertices i)) u.members) d.split p.split;
+      parts = ap (λ (b : Body). list_all r (parts_of b)) p.only
+          ∙ all_joined r (map part.Count d.counts) _ (counts_in n m k d.counts p.counts_within)
+          (all_joined r (at_most_one part.Walk d.walk) _ (walk_in n m k d.walk walk)
+          (all_joined r (map part.Dual d.duals) _ (duals_in n m k d.duals duals)
+          (all_joined r (map part.Set d.sets) [] (sets_in n m k d.sets sets) refl)));
     }
 
 -- The value lies between those of two perfect matchings, and no perfect matching weighs less than the solution's: so it
 -- is the value of the duals.
-value-met : (kind : Kind) (i : Network) (g : Multigraph) (s : Solution) (d : Document) → g ≡ gadget_graph kind i → s.graph ≡ g → IsGraph g → IsSolved s → ReachesAll kind i → (p : Presents kind i s d) → dual_value (duals_of d) (sets_of d) ≡ value_for kind i (weight_of i p.answer)
+value-met : (kind : Kind) (i : Network) (g : Multigraph) (s : Solution) (d : Document) → g ≡ gadget_graph kind i → s.graph ≡ g → IsGraph g → IsSolved s → ReachesAll kind i → (p : Presents kind i s d) → dual_value (duals_of d) (sets_of d) ≡ value_for kind i (weight_of kind i p.answer)
 value-met kind i g s d is graph is_graph solved reached p =
     let r : IsReached kind i p.answer = reached p.answer p.feasible in
-    let there : Multigraph → Type 0 = λ h. (counts : List ℕ) × IsPerfect h counts × ((pos 2 *ℤ weight h counts) ≤ℤ value_for kind i (weight_of i p.answer)) in
+    let there : Multigraph → Type 0 = λ h. (counts : List ℕ) × IsPerfect h counts × ((pos 2 *ℤ weight h counts) ≤ℤ value_for kind i (weight_of kind i p.answer)) in
     let other : there g = subst there (sym is) (r.counts, r.perfect, r.weighs) in
     let duals : AreDuals g (duals_of d) (sets_of d) = subst (λ (h : Multigraph). AreDuals h (duals_of d) (sets_of d)) graph (are-duals kind i s d solved p) in
     let below : dual_value (duals_of d) (sets_of d) ≤ℤ (pos 2 *ℤ weight g other.0) = weak_duality g (duals_of d) (sets_of d) other.0 is_graph duals other.1 in
-    let most : (pos 2 *ℤ weight g other.0) ≤ℤ value_for kind i (weight_of i p.answer) = other.2 in
-    let pays : value_for kind i (weight_of i p.answer) ≤ℤ (pos 2 *ℤ weight s.graph (matching_of s.graph s.mates)) = p.pays in
+    let most : (pos 2 *ℤ weight g other.0) ≤ℤ value_for kind i (weight_of kind i p.answer) = other.2 in
+    let pays : value_for kind i (weight_of kind i p.answer) ≤ℤ (pos 2 *ℤ weight s.graph (matching_of s.graph s.mates)) = p.pays in
     let same : dual_value (duals_of d) (sets_of d) ≡ pos 2 *ℤ weight s.graph (matching_of s.graph s.mates) = ap (λ (ys : List ℤ). dual_value ys (sets_of d)) p.duals ∙ solved.value (sets_of d) p.sets in
     omega (arith, ints)
 
@@ -112,7 +122,7 @@ proves-optimal kind i s d of p =
     let is : answer_of kind i d ≡ p.answer = stated-by (form_of kind) i d p.answer (feasible-form kind i p.answer p.feasible) (feasible-places kind i p.answer p.feasible) p.lists p.walk in
     record {
       feasible = subst (IsFeasible kind i) (sym is) p.feasible;
-      weighs = ap (weight_of i) is ∙ sym p.weight;
+      weighs = ap (weight_of kind i) is ∙ sym p.weight;
       duals = subst (λ (h : Multigraph). AreDuals h (duals_of d) (sets_of d)) of.graph (are-duals kind i s d of.solved p);
       value = value-met kind i (gadget_graph kind i) s d refl of.graph of.is_graph of.solved of.reached p ∙ ap (value_for kind i) (sym p.weight);
     }
@@ -132,6 +142,6 @@ started kind i Nothing c = tt
 pub chosen-optimal : (kind : Kind) (i : Network) (s : Solution) (d : Document) → Presents kind i s d → IsChosen kind i d
 chosen-optimal kind i s d p = record {
   walk = λ best. subst (λ (line : Option WalkLine). IfSome line (λ w. StartsFirst kind i (nat_abs w.start))) (sym p.walk) (started kind i p.answer p.chosen);
-  odd = none_if (λ t. IsFirstOddPart (graph_of i) (is_terminal Values i) (numbers t.members)) d.odd p.odd;
-  split = none_if (λ q. IsFirstMetPart (graph_of i) (numbers q.members)) d.split p.split;
+  odd = none_if (λ t. IsFirstOddPart (graph_of i) (is_terminal Values i) (numbers t.members)) d.odd (ap (λ (b : Body). b.odd) p.only);
+  split = none_if (λ q. IsFirstMetPart (graph_of i) (numbers q.members)) d.split (ap (λ (b : Body). b.split) p.only);
 }

@@ -1,72 +1,45 @@
--- The graph of a kind's certificates, by what excludes its answers.
-use Rattle.std.proofs.Common.{◌≡◌, ◌≢◌, refl, sym, ap, ◌∙◌, subst}
+-- The graph of a kind's certificates has a perfect matching, unless what excludes the kind's answers does.
+use Rattle.std.proofs.Common.{◌≡◌, false, refl, inl, inr, sym, subst}
 use Rattle.mb_problem.specs.declared.kind.Kind.{Kind}
-use Rattle.mb_problem.specs.declared.kind.Kind.TheVariants.{Perfect, Match, BMatch, CapMatch, FFactor, TJoin, Postman, Path}
 use Rattle.mb_problem.specs.declared.kind.Exclusion.{Exclusion}
-use Rattle.mb_problem.specs.declared.kind.Exclusion.TheVariants.{OddPart, SplitPart, Never}
-use Rattle.mb_problem.specs.declared.answer.Parity.TheVariants.{Values}
+use Rattle.mb_problem.specs.declared.kind.Exclusion.TheVariants.{Barrier, OddPart, SplitPart, Never}
+use Rattle.mb_problem.specs.declared.gadget.GadgetForm.{GadgetForm}
+use Rattle.mb_problem.specs.declared.answer.Answer.{Answer}
+use Rattle.mb_problem.specs.declared.answer.Parity.TheVariants.{Values, OddDegrees}
 use Rattle.mb_problem.specs.Kinds.{exclusion_of}
-use Rattle.mb_problem.specs.Network.{Network}
-use Rattle.mb_problem.specs.Size.{ports_size, odd_at, size_of}
-use Rattle.gadget_base.specs.Certified.{gadget_graph, ReachesAll}
+use Rattle.mb_problem.specs.Network.{Network, IsNetwork}
+use Rattle.mb_problem.specs.Feasible.{IsFeasible}
+use Rattle.mb_problem.specs.Size.{odd_at}
+use Rattle.mb_problem.proofs.KindLaws.{odd-ports, split-ports, never-excluded}
+use Rattle.gadget_base.specs.Certified.{graph_by, gadget_graph, IsReached, ReachesAll}
 use Rattle.gadget_base.specs.Gadgets.{ports_graph}
+use Rattle.gadget_tjoin.proofs.Laws.{reaches-joins}
+use Rattle.doc_format.specs.Form.{is_barrier}
+use Rattle.least_joins.specs.Least.{HasJoin}
 use Rattle.mwpm_engine.specs.Solutions.{HasPerfect}
-use Rattle.solve_kinds.proofs.Searches.{IsNoLarger, as-large, values-path, matching-perfect}
+use Rattle.solve_kinds.specs.Open.{HasNoPartFor}
+use Rattle.solve_kinds.proofs.Searches.{join-perfect, all-edges}
 
-pub odd-graph : (kind : Kind) (i : Network) → exclusion_of kind ≡ OddPart → ports_graph i (odd_at Values i) ≡ gadget_graph kind i
-odd-graph Perfect i h = absurd (cc)
-odd-graph Match i h = absurd (cc)
-odd-graph BMatch i h = absurd (cc)
-odd-graph CapMatch i h = absurd (cc)
-odd-graph FFactor i h = absurd (cc)
-odd-graph TJoin i h = refl
-odd-graph Postman i h = absurd (cc)
-odd-graph Path i h = refl
+odd-perfect : (kind : Kind) (i : Network) → exclusion_of kind ≡ OddPart → HasPerfect (ports_graph i (odd_at Values i)) → HasPerfect (gadget_graph kind i)
+odd-perfect kind i is perfect = elim (odd-ports kind is) [
+  | inl e ↦ subst (λ (gadget : GadgetForm). HasPerfect (graph_by gadget i)) (sym e) perfect
+  | inr e ↦ subst (λ (gadget : GadgetForm). HasPerfect (graph_by gadget i)) (sym e) perfect
+]
 
-pub odd-reached : (kind : Kind) (i : Network) → exclusion_of kind ≡ OddPart → ReachesAll TJoin i → ReachesAll Path i → ReachesAll kind i
-odd-reached Perfect i h joins paths = absurd (cc)
-odd-reached Match i h joins paths = absurd (cc)
-odd-reached BMatch i h joins paths = absurd (cc)
-odd-reached CapMatch i h joins paths = absurd (cc)
-odd-reached FFactor i h joins paths = absurd (cc)
-odd-reached TJoin i h joins paths = joins
-odd-reached Postman i h joins paths = absurd (cc)
-odd-reached Path i h joins paths = paths
+split-perfect : (kind : Kind) (i : Network) → exclusion_of kind ≡ SplitPart → HasPerfect (ports_graph i (odd_at OddDegrees i)) → HasPerfect (gadget_graph kind i)
+split-perfect kind i is perfect = subst (λ (gadget : GadgetForm). HasPerfect (graph_by gadget i)) (sym (split-ports kind is)) perfect
 
-pub odd-size : (kind : Kind) (i : Network) → exclusion_of kind ≡ OddPart → IsNoLarger (ports_size i (odd_at Values i)) (size_of kind i)
-odd-size Perfect i h = absurd (cc)
-odd-size Match i h = absurd (cc)
-odd-size BMatch i h = absurd (cc)
-odd-size CapMatch i h = absurd (cc)
-odd-size FFactor i h = absurd (cc)
-odd-size TJoin i h = as-large (ports_size i (odd_at Values i))
-odd-size Postman i h = absurd (cc)
-odd-size Path i h = values-path i
+never-perfect : (kind : Kind) (i : Network) → exclusion_of kind ≡ Never → ReachesAll kind i → HasPerfect (gadget_graph kind i)
+never-perfect kind i is reached =
+    let some : (answer : Answer) × IsFeasible kind i answer = never-excluded kind i is in
+    let r : IsReached kind i some.0 = reached some.0 some.1 in
+    (r.counts, r.perfect)
 
-pub split-kind : (kind : Kind) → exclusion_of kind ≡ SplitPart → kind ≡ Postman
-split-kind Perfect h = absurd (cc)
-split-kind Match h = absurd (cc)
-split-kind BMatch h = absurd (cc)
-split-kind CapMatch h = absurd (cc)
-split-kind FFactor h = absurd (cc)
-split-kind TJoin h = absurd (cc)
-split-kind Postman h = refl
-split-kind Path h = absurd (cc)
+perfect-by : (e : Exclusion) (kind : Kind) (i : Network) → exclusion_of kind ≡ e → IsNetwork i → ReachesAll kind i → HasNoPartFor e i → is_barrier e ≡ false → HasPerfect (gadget_graph kind i)
+perfect-by Barrier kind i is network reached no_part none = absurd (cc)
+perfect-by OddPart kind i is network reached no_part none = odd-perfect kind i is (join-perfect Values i (reaches-joins Values i network) no_part)
+perfect-by SplitPart kind i is network reached no_part none = split-perfect kind i is (join-perfect OddDegrees i (reaches-joins OddDegrees i network) (all-edges i))
+perfect-by Never kind i is network reached no_part none = never-perfect kind i is reached
 
-pub never-kind : (kind : Kind) → exclusion_of kind ≡ Never → kind ≡ Match
-never-kind Perfect h = absurd (cc)
-never-kind Match h = refl
-never-kind BMatch h = absurd (cc)
-never-kind CapMatch h = absurd (cc)
-never-kind FFactor h = absurd (cc)
-never-kind TJoin h = absurd (cc)
-never-kind Postman h = absurd (cc)
-never-kind Path h = absurd (cc)
-
-pub no-path-by : (kind : Kind) (e : Exclusion) → exclusion_of kind ≡ e → (e ≡ OddPart → ⊥) → kind ≢ Path
-no-path-by kind e is other = λ same. other (sym is ∙ ap exclusion_of same)
-
-pub never-perfect : (kind : Kind) (i : Network) → exclusion_of kind ≡ Never → ReachesAll kind i → HasPerfect (gadget_graph kind i)
-never-perfect kind i h reached =
-    let same : kind ≡ Match = never-kind kind h in
-    subst (λ (k : Kind). HasPerfect (gadget_graph k i)) (sym same) (matching-perfect i (subst (λ (k : Kind). ReachesAll k i) same reached))
+pub searched-perfect : (kind : Kind) (i : Network) → IsNetwork i → ReachesAll kind i → HasNoPartFor (exclusion_of kind) i → is_barrier (exclusion_of kind) ≡ false → HasPerfect (gadget_graph kind i)
+searched-perfect kind i network reached no_part none = perfect-by (exclusion_of kind) kind i refl network reached no_part none

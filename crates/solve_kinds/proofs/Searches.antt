@@ -1,7 +1,8 @@
 -- What a search on the graph of a kind's certificates finds, and how many steps it takes.
-use Rattle.std.proofs.Common.{◌≡◌, ◌≢◌, ℕ, ◌+◌, ◌*◌, ◌%◌, ◌≤◌, pos, ◌≤ℤ◌, cond, max, List, length, refl, sym, ap, subst, arith}
+use Rattle.std.proofs.Common.{◌≡◌, ℕ, zero, suc, ◌+◌, ◌-◌, ◌*◌, ◌%◌, ◌≤◌, pos, ◌≤ℤ◌, true, false, cond, ◌∙◌, List, length, refl, sym, ap, subst, arith}
 use Rattle.std.specs.Prelude.{replicate}
 use Rattle.std.proofs.Math.Nat.{mul-le-mul}
+use Rattle.std.proofs.lemmas.Bool.{true≢false}
 use Rattle.std.proofs.lemmas.Int.{ints}
 use Rattle.std.proofs.lemmas.List.{length-replicate}
 use Rattle.std.proofs.lemmas.List.FromFn.{length-map-range_with_len}
@@ -11,32 +12,27 @@ use Rattle.graph_theory.specs.Parts.{holds}
 use Rattle.graph_theory.specs.Walk.{walk_weight}
 use Rattle.graph_theory.specs.Limits.{Size, IsWithinLimits, HasSize}
 use Rattle.mb_problem.specs.declared.kind.Kind.{Kind}
-use Rattle.mb_problem.specs.declared.kind.Kind.TheVariants.{Match, Path}
 use Rattle.mb_problem.specs.declared.answer.Answer.{Answer}
 use Rattle.mb_problem.specs.declared.answer.Answer.TheVariants.{Counts}
 use Rattle.mb_problem.specs.declared.answer.Parity.{Parity}
 use Rattle.mb_problem.specs.declared.answer.Parity.TheVariants.{Empty, Values, OddDegrees}
+use Rattle.mb_problem.specs.Kinds.{asks_conservative, searches_of}
 use Rattle.mb_problem.specs.Joins.{HasNoNegativeEvenSet, listed_counts}
 use Rattle.mb_problem.specs.Measured.{HasPlaces}
 use Rattle.conservative_paths.specs.Within.{EvenSetsDecide}
 use Rattle.mb_problem.specs.Network.{Network, IsNetwork, graph_of}
-use Rattle.mb_problem.specs.Size.{ports_size, odd_at, size_of}
-use Rattle.gadget_base.specs.Certified.{gadget_graph, ReachesAll, IsReached}
+use Rattle.mb_problem.specs.Size.{ports_size, odd_at, size_of, IsNoLarger}
+use Rattle.mb_problem.proofs.CountBounds.{nothing-used}
+use Rattle.mb_problem.proofs.KindLaws.{even-no-larger, two-searches}
 use Rattle.gadget_base.specs.Gadgets.{ports_graph}
 use Rattle.gadget_tjoin.specs.Joins.{ReachesJoins}
 use Rattle.least_joins.specs.Least.{HasJoin, IsLeastJoin}
 use Rattle.mwpm_engine.specs.Solutions.{HasPerfect, most_steps, size_of_graph}
 use Rattle.solve_kinds.specs.Solved.{HasFitWeights}
-use Rattle.solve_kinds.proofs.EachKind.{empty-matching, nothing-used}
 
 -- a graph has the vertices and edges of its size
 same-size : (size : Size) (g : Multigraph) → HasSize size g → size_of_graph g ≡ size
 same-size size g h = rw (h.vertices, h.edges) refl
-
--- no larger
-pub record IsNoLarger (a b : Size) : Type 0 where
-  pub vertices : a.vertices ≤ b.vertices
-  pub edges : a.edges ≤ b.edges
 
 pub fewer-steps : (a b : Size) → IsNoLarger a b → most_steps a ≤ most_steps b
 fewer-steps a b h =
@@ -63,37 +59,13 @@ graph-limits s b g has smaller limits = subst IsWithinLimits (sym (same-size s g
 pub graph-steps : (s b : Size) (g : Multigraph) → HasSize s g → IsNoLarger s b → most_steps (size_of_graph g) ≤ most_steps b
 graph-steps s b g has smaller = subst (λ (t : Size). most_steps t ≤ most_steps b) (sym (same-size s g has)) (fewer-steps s b smaller)
 
-pub as-large : (s : Size) → IsNoLarger s s
-as-large s = record { vertices = omega arith; edges = omega arith }
-
-left-max : (a b : ℕ) → a ≤ max a b
-left-max a b = omega arith
-
-right-max : (a b : ℕ) → b ≤ max a b
-right-max a b = omega arith
-
-pub values-path : (i : Network) → IsNoLarger (ports_size i (odd_at Values i)) (size_of Path i)
-values-path i = record {
-  vertices = left-max (ports_size i (odd_at Values i)).vertices (ports_size i (odd_at Empty i)).vertices;
-  edges = left-max (ports_size i (odd_at Values i)).edges (ports_size i (odd_at Empty i)).edges;
-}
-
-pub even-path : (i : Network) → IsNoLarger (ports_size i (odd_at Empty i)) (size_of Path i)
-even-path i = record {
-  vertices = right-max (ports_size i (odd_at Values i)).vertices (ports_size i (odd_at Empty i)).vertices;
-  edges = right-max (ports_size i (odd_at Values i)).edges (ports_size i (odd_at Empty i)).edges;
-}
-
-pub even-limits : (i : Network) → IsWithinLimits (size_of Path i) → IsWithinLimits (ports_size i (odd_at Empty i))
-even-limits i limits = within-smaller (ports_size i (odd_at Empty i)) (size_of Path i) (even-path i) limits
+pub even-limits : (kind : Kind) (i : Network) → asks_conservative kind ≡ true → IsWithinLimits (size_of kind i) → IsWithinLimits (ports_size i (odd_at Empty i))
+even-limits kind i asks limits = within-smaller (ports_size i (odd_at Empty i)) (size_of kind i) (even-no-larger kind i asks) limits
 
 -- perfect matchings of the graph of certificates
 
 pub join-perfect : (parity : Parity) (i : Network) → ReachesJoins parity i → HasJoin parity i → HasPerfect (ports_graph i (odd_at parity i))
 join-perfect parity i reached join = let r = reached join.0 join.1 in (r.counts, r.perfect)
-
-pub matching-perfect : (i : Network) → ReachesAll Match i → HasPerfect (gadget_graph Match i)
-matching-perfect i reached = let r : IsReached Match i (Counts (replicate {A = ℕ} (length i.edges) 0)) = reached (Counts (replicate {A = ℕ} (length i.edges) 0)) (empty-matching i) in (r.counts, r.perfect)
 
 -- all edges are a join on the vertices of odd degree
 pub all-edges : (i : Network) → HasJoin OddDegrees i
@@ -121,19 +93,30 @@ no-edges i = (
 even-sets : (i : Network) (es : List ℕ) → IsLeastJoin Empty i es → pos 0 ≤ℤ walk_weight (graph_of i) es → HasNoNegativeEvenSet i
 even-sets i es least low = λ counts join. (let more : walk_weight (graph_of i) es ≤ℤ weight (graph_of i) counts = least.least counts join in omega (arith, ints, low, more))
 
-pub fit-weights : (i : Network) (es : List ℕ) → IsNetwork i → EvenSetsDecide → IsLeastJoin Empty i es → pos 0 ≤ℤ walk_weight (graph_of i) es → HasFitWeights Path i × (Path ≡ Path → HasNoNegativeEvenSet i)
-fit-weights i es network decide least low =
+pub fit-weights : (kind : Kind) (i : Network) (es : List ℕ) → IsNetwork i → EvenSetsDecide → IsLeastJoin Empty i es → pos 0 ≤ℤ walk_weight (graph_of i) es → HasFitWeights kind i × (asks_conservative kind ≡ true → HasNoNegativeEvenSet i)
+fit-weights kind i es network decide least low =
     let even = even-sets i es least low in
-    (λ same. decide i network even, λ same. even)
+    (λ asks. decide i network even, λ asks. even)
 
--- a kind other than a path asks for nothing
-pub no-weights : (kind : Kind) (i : Network) → kind ≢ Path → HasFitWeights kind i × (kind ≡ Path → HasNoNegativeEvenSet i)
-no-weights kind i other = (λ same. absurd (other same), λ same. absurd (other same))
+-- a kind that doesn't ask for conservative weights asks for nothing
+pub no-weights : (kind : Kind) (i : Network) → asks_conservative kind ≡ false → HasFitWeights kind i × (asks_conservative kind ≡ true → HasNoNegativeEvenSet i)
+no-weights kind i never = (λ asks. absurd (true≢false (sym asks ∙ never)), λ asks. absurd (true≢false (sym asks ∙ never)))
 
 -- the counts of a join have one for each edge
 pub counts-places : (i : Network) (es : List ℕ) (answer : Answer) → answer ≡ Counts (listed_counts es (length i.edges)) → HasPlaces i answer
 counts-places i es answer is = subst (HasPlaces i) (sym is) (length-map-range_with_len (λ e. cond (holds es e) 1 0) 1 (length i.edges))
 
--- the steps of the first search for a path
-pub even-steps : (i : Network) (before after : ℕ) → after ≤ before + most_steps (ports_size i (odd_at Empty i)) → after ≤ before + most_steps (size_of Path i)
-even-steps i before after counted = (let more = fewer-steps (ports_size i (odd_at Empty i)) (size_of Path i) (even-path i) in omega (arith, counted, more))
+at-least-once : (n m : ℕ) → 1 ≤ n → m ≤ n * m
+at-least-once zero m some = absurd (omega arith)
+at-least-once (suc n) m some = omega arith
+
+steps-within : (before after few m s : ℕ) → after ≤ before + few → few ≤ m → 1 ≤ s → after ≤ before + s * m
+steps-within before after few m s counted less some = (let once = at-least-once s m some in omega (arith, counted, less, once))
+
+-- the steps of the search for an even set that weighs the least
+pub even-steps : (kind : Kind) (i : Network) (before after : ℕ) → asks_conservative kind ≡ true → after ≤ before + most_steps (ports_size i (odd_at Empty i)) → after ≤ before + (searches_of kind - 1) * most_steps (size_of kind i)
+even-steps kind i before after asks counted =
+    let two : 2 ≤ searches_of kind = two-searches kind asks in
+    let one : 1 ≤ searches_of kind - 1 = omega (arith, two) in
+    steps-within before after (most_steps (ports_size i (odd_at Empty i))) (most_steps (size_of kind i)) (searches_of kind - 1) counted
+    (fewer-steps (ports_size i (odd_at Empty i)) (size_of kind i) (even-no-larger kind i asks)) one

@@ -1,11 +1,13 @@
 -- Computed documents are short.
-use Rattle.std.proofs.Common.{◌≡◌, ℕ, ◌-◌, ◌/◌, ◌*◌, ◌≤◌, pos, false, List, length, All, IfSome, nat_abs, refl, sym, ◌∙◌, subst, arith}
+use Rattle.std.proofs.Common.{◌≡◌, ℕ, ◌-◌, ◌/◌, ◌*◌, ◌≤◌, pos, false, List, [], ◌++◌, length, map, All, Some, IfSome, nat_abs, refl, sym, ap, ◌∙◌, subst, arith}
 use Rattle.std.specs.Prelude.{codes}
 use Rattle.std.proofs.lemmas.List.{length-map}
 use Rattle.std.proofs.lemmas.List.Elements.{All-weaker}
 use Rattle.graph_theory.specs.declared.odd_set.OddSet.{OddSet}
 use Rattle.graph_theory.specs.Duals.{IsSetWithin, HasForm}
 use Rattle.mb_problem.specs.declared.kind.Kind.{Kind}
+use Rattle.mb_problem.specs.declared.kind.Exclusion.{Exclusion}
+use Rattle.mb_problem.specs.declared.kind.Exclusion.TheVariants.{Barrier, OddPart, SplitPart, Never}
 use Rattle.mb_problem.specs.declared.answer.Answer.{Answer}
 use Rattle.mb_problem.specs.declared.answer.Answer.TheVariants as answers
 use Rattle.mb_problem.specs.Kinds.{exclusion_of}
@@ -13,20 +15,22 @@ use Rattle.mb_problem.specs.Network.{Network, IsNetwork, vertices}
 use Rattle.doc_format.specs.declared.document.Document.{Document}
 use Rattle.doc_format.specs.declared.part.DualLine.{DualLine}
 use Rattle.doc_format.specs.declared.part.SetLine.{SetLine}
-use Rattle.doc_format.specs.declared.part.Part.TheVariants.{Count, Walk, Dual, Set, Barrier, Odd, Split}
-use Rattle.doc_format.specs.Form.{is_barrier, is_odd_part, is_split_part}
-use Rattle.doc_format.specs.Spelling.{row_text, part_row, document_text}
+use Rattle.doc_format.specs.declared.part.Part.TheVariants.{Count, Walk, Dual, Set}
+use Rattle.doc_format.specs.declared.part.Part.TheVariants as part
+use Rattle.doc_format.specs.Parts.{Body, at_most_one, parts_of}
+use Rattle.doc_format.specs.Reading.{body_of}
+use Rattle.doc_format.specs.Spelling.{row_text, part_row, parts_text, document_text}
 use Rattle.certificates.specs.Claims.{numbers, set_of, sets_of}
 use Rattle.certificates.specs.Within.{IsCountWithin, IsDualWithin, IsSetLineWithin, IsWalkWithin}
 use Rattle.mwpm_engine.specs.Solutions.{Solution, IsSolved}
 use Rattle.solve_kinds.specs.Parts.{HasFewSteps, line_of, walk_line}
 use Rattle.solve_kinds.specs.Presented.{Presents}
-use Rattle.solve_kinds.specs.Excluding.{StatesSet}
+use Rattle.solve_kinds.specs.Excluding.{member_line, set_body, StatesSet}
 use Rattle.solve_kinds.proofs.Ascents.{unmap, both_all}
-use Rattle.solve_kinds.proofs.Excluding.{IsFewOf, line-holds}
+use Rattle.solve_kinds.proofs.Excluding.{IsFewOf}
 use Rattle.solve_kinds.proofs.LineSizes.{few_members, count-size, dual-size, set-size, walk-size, members-size, head-size, head_none-size}
 use Rattle.solve_kinds.proofs.Presenting.{are-duals, sets-within, listed-length}
-use Rattle.solve_kinds.proofs.Short.{IsShortLine, no-lines, no-line, short-document}
+use Rattle.solve_kinds.proofs.Short.{IsShortLine, lines-size, line-size, four-size, short-document}
 use Rattle.solve_kinds.proofs.WalkLines.{line-within}
 
 -- a walk of few steps
@@ -69,27 +73,23 @@ short-optimal kind i s d network few solved p =
     let few_xs : length d.counts ≤ m = p.few_counts in
     let few_ys = few_duals kind i s d solved p in
     let line : IsShortLine Walk 2400000 (line_of p.answer) = answer-walk i p.answer network p.few_steps (line-within kind i p.answer network p.feasible) in
-    short-document d (record {
-      head = rw (p.status, p.kind_is) (head-size kind d.weight p.number);
-      counts = record { few = omega arith; short = All-weaker (IsCountWithin m) (λ x. length (row_text (part_row (Count x))) ≤ 38) (λ x w. count-size m x few_edges w) d.counts p.counts_within };
-      walk = subst (IsShortLine Walk 2400000) (sym p.walk) line;
-      duals = record { few = omega arith; short = All-weaker (IsDualWithin n) (λ y. length (row_text (part_row (Dual y))) ≤ 38) (λ y w. dual-size n y few w) d.duals p.duals_within };
-      sets = record { few = few_sets kind i s d few solved p; short = sets-size kind i s d few solved p };
-      barrier = no-line Barrier 20500 d.barrier p.barrier;
-      odd = no-line Odd 20500 d.odd p.odd;
-      split = no-line Split 20500 d.split p.split;
-    })
+    let counts : length (parts_text (map Count d.counts)) ≤ 65536 * 38 = lines-size Count 65536 38 d.counts (record { few = omega arith; short = All-weaker (IsCountWithin m) (λ x. length (row_text (part_row (Count x))) ≤ 38) (λ x w. count-size m x few_edges w) d.counts p.counts_within }) in
+    let walk = line-size Walk 2400000 d.walk (subst (IsShortLine Walk 2400000) (sym p.walk) line) in
+    let duals : length (parts_text (map Dual d.duals)) ≤ 4096 * 38 = lines-size Dual 4096 38 d.duals (record { few = omega arith; short = All-weaker (IsDualWithin n) (λ y. length (row_text (part_row (Dual y))) ≤ 38) (λ y w. dual-size n y few w) d.duals p.duals_within }) in
+    let sets : length (parts_text (map Set d.sets)) ≤ 2047 * 20518 = lines-size Set 2047 20518 d.sets (record { few = few_sets kind i s d few solved p; short = sets-size kind i s d few solved p }) in
+    let all = four-size (map Count d.counts) (at_most_one Walk d.walk) (map Dual d.duals) (map Set d.sets) in
+    let same : length (parts_text (parts_of (body_of d))) ≡ length (parts_text (map Count d.counts ++ (at_most_one Walk d.walk ++ (map Dual d.duals ++ (map Set d.sets ++ []))))) = ap (λ (b : Body). length (parts_text (parts_of b))) p.only in
+    short-document d (rw (p.status, p.kind_is) (head-size kind d.weight p.number)) (omega (arith, same, all, counts, walk, duals, sets))
+
+-- the line of a set
+set-text : (e : Exclusion) (set : List ℕ) → IsFewOf set → length (parts_text (parts_of (set_body e (member_line set)))) ≤ 20500
+set-text Barrier set few = line-size part.Barrier 20500 (Some (member_line set)) (members-size part.Barrier (codes "u") set few.n (λ u. refl) refl few.few few.is_set)
+set-text OddPart set few = line-size part.Odd 20500 (Some (member_line set)) (members-size part.Odd (codes "t") set few.n (λ u. refl) refl few.few few.is_set)
+set-text SplitPart set few = line-size part.Split 20500 (Some (member_line set)) (members-size part.Split (codes "q") set few.n (λ u. refl) refl few.few few.is_set)
+set-text Never set few = omega arith
 
 pub short-infeasible : (kind : Kind) (set : List ℕ) (d : Document) → IsFewOf set → StatesSet kind set d → length (document_text d false) ≤ 50331648
 short-infeasible kind set d few p =
-    let e = exclusion_of kind in
-    short-document d (record {
-      head = rw (p.status, p.kind_is) (head_none-size kind d.weight);
-      counts = no-lines Count 65536 38 d.counts p.counts;
-      walk = no-line Walk 2400000 d.walk p.walk;
-      duals = no-lines Dual 4096 38 d.duals p.duals;
-      sets = no-lines Set 2047 20518 d.sets p.sets;
-      barrier = line-holds (λ u. length (row_text (part_row (Barrier u))) ≤ 20500) (is_barrier e) set d.barrier p.barrier (λ t. members-size Barrier (codes "u") set few.n (λ u. refl) refl few.few few.is_set);
-      odd = line-holds (λ u. length (row_text (part_row (Odd u))) ≤ 20500) (is_odd_part e) set d.odd p.odd (λ t. members-size Odd (codes "t") set few.n (λ u. refl) refl few.few few.is_set);
-      split = line-holds (λ u. length (row_text (part_row (Split u))) ≤ 20500) (is_split_part e) set d.split p.split (λ t. members-size Split (codes "q") set few.n (λ u. refl) refl few.few few.is_set);
-    })
+    let text = set-text (exclusion_of kind) set few in
+    let same : length (parts_text (parts_of (body_of d))) ≡ length (parts_text (parts_of (set_body (exclusion_of kind) (member_line set)))) = ap (λ (b : Body). length (parts_text (parts_of b))) p.body in
+    short-document d (rw (p.status, p.kind_is) (head_none-size kind d.weight)) (omega (arith, same, text))

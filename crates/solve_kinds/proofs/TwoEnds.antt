@@ -3,7 +3,7 @@ use Rattle.std.proofs.Common.{◌≡◌, ℕ, ◌%◌, ◌<◌, ◌≤◌, refl,
 use Rattle.mb_problem.specs.Feasible.{AreEnds}
 use Rattle.mb_problem.specs.Network.{Network, vertices, value_of}
 use Rattle.mb_problem.proofs.EndLemmas.{ends-low, ends-high}
-use Rattle.solve_kinds.specs.Solved.{HasEnds}
+use Rattle.mb_problem.specs.Ready.{HasEnds}
 
 -- a vertex of odd value, and the first one after another, where there is one
 abbrev pub IsNextOdd : Network → ℕ → ℕ → Type 0

@@ -8,11 +8,11 @@ use Rattle.graph_theory.specs.Walk.{IsWalk}
 use Rattle.graph_theory.proofs.SumLemmas.{sum_to-most}
 use Rattle.graph_theory.proofs.Walks.{walk-numbers}
 use Rattle.mb_problem.specs.declared.kind.Kind.{Kind}
-use Rattle.mb_problem.specs.declared.kind.Kind.TheVariants.{Perfect, Match, BMatch, CapMatch, FFactor, TJoin, Postman, Path}
 use Rattle.mb_problem.specs.declared.answer.Answer.{Answer}
 use Rattle.mb_problem.specs.declared.answer.Answer.TheVariants.{Counts, Walk, Nothing}
 use Rattle.mb_problem.specs.Network.{Network, IsNetwork, vertices, graph_of}
 use Rattle.mb_problem.specs.Feasible.{IsFeasible}
+use Rattle.mb_problem.proofs.KindLaws.{feasible-walk}
 use Rattle.mb_problem.proofs.EdgeLemmas.{edges-count}
 use Rattle.mb_problem.proofs.WalkSteps.{walk-start}
 use Rattle.gadget_base.specs.Listed.{times}
@@ -38,14 +38,7 @@ walk-within i start edges network walk some =
 pub line-within : (kind : Kind) (i : Network) (answer : Answer) → IsNetwork i → IsFeasible kind i answer → IfSome (line_of answer) (IsWalkWithin (vertices i) (length i.edges))
 line-within kind i (Counts counts) network f = tt
 line-within kind i Nothing network f = tt
-line-within Perfect i (Walk start edges) network f = absurd f
-line-within Match i (Walk start edges) network f = absurd f
-line-within BMatch i (Walk start edges) network f = absurd f
-line-within CapMatch i (Walk start edges) network f = absurd f
-line-within FFactor i (Walk start edges) network f = absurd f
-line-within TJoin i (Walk start edges) network f = absurd f
-line-within Postman i (Walk start edges) network f = walk-within i start edges network f.closed.0 f.some
-line-within Path i (Walk start edges) network f = walk-within i start edges network f.walk f.some
+line-within kind i (Walk start edges) network f = (let w = feasible-walk kind i start edges f in walk-within i start edges network w.0 w.1)
 
 -- how many steps a walk has
 

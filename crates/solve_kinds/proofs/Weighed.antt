@@ -11,11 +11,15 @@ use Rattle.graph_theory.proofs.SumLemmas.{int_sum_to-le, times-int_sum_to, times
 use Rattle.graph_theory.proofs.Edges.{edge_at-weight}
 use Rattle.graph_theory.proofs.Handshake.{handshake-perfect}
 use Rattle.mb_problem.specs.declared.kind.Kind.{Kind}
-use Rattle.mb_problem.specs.declared.kind.Kind.TheVariants.{Perfect, Match, BMatch, CapMatch, FFactor, TJoin, Postman, Path}
+use Rattle.mb_problem.specs.declared.kind.DualValue.{DualValue}
+use Rattle.mb_problem.specs.declared.kind.DualValue.TheVariants.{Twice, Opposite, BesideAll}
+use Rattle.mb_problem.specs.declared.kind.BestProof.{BestProof}
+use Rattle.mb_problem.specs.declared.kind.BestProof.TheVariants.{Duals}
 use Rattle.mb_problem.specs.declared.answer.Answer.{Answer}
+use Rattle.mb_problem.specs.Kinds.{proof_of}
 use Rattle.mb_problem.specs.Network.{Network, IsNetwork, graph_of}
 use Rattle.mb_problem.specs.Feasible.{IsFeasible, weight_of}
-use Rattle.mb_problem.specs.Values.{total_weight, value_for}
+use Rattle.mb_problem.specs.Values.{total_weight, value_by, value_beside, value_for}
 use Rattle.mb_problem.proofs.EdgeLemmas.{edges-count, network-graph}
 use Rattle.gadget_base.specs.Certified.{gadget_graph, IsReached, ReachesAll}
 use Rattle.gadget_base.specs.Listed.{ListsCounts}
@@ -76,32 +80,31 @@ total-small i network =
     (omega (arith, ints, low, size, few), omega (arith, ints, high, size, few))
 
 -- an answer's weight, where it asks for a value of at most that size
-number-by_value : (kind : Kind) (i : Network) (w : ℤ) → IsNetwork i → neg_ℤ (pos 4096000000000) ≤ℤ value_for kind i w → value_for kind i w ≤ℤ pos 4096000000000 → IsNumber w
-number-by_value Perfect i w network low high = (omega (arith, ints), omega (arith, ints))
-number-by_value Match i w network low high = (omega (arith, ints), omega (arith, ints))
-number-by_value BMatch i w network low high = (omega (arith, ints), omega (arith, ints))
-number-by_value CapMatch i w network low high = (omega (arith, ints), omega (arith, ints))
-number-by_value FFactor i w network low high = (omega (arith, ints), omega (arith, ints))
-number-by_value TJoin i w network low high = (omega (arith, ints), omega (arith, ints))
-number-by_value Postman i w network low high =
+
+number-by : (value : DualValue) (i : Network) (w : ℤ) → IsNetwork i → neg_ℤ (pos 4096000000000) ≤ℤ value_by value i w → value_by value i w ≤ℤ pos 4096000000000 → IsNumber w
+number-by Twice i w network low high = (omega (arith, ints), omega (arith, ints))
+number-by Opposite i w network low high = (omega (arith, ints), omega (arith, ints))
+number-by BesideAll i w network low high =
     let total = total-small i network in
     let least : neg_ℤ (pos 65536000000000) ≤ℤ total_weight i = total.0 in
     let most : total_weight i ≤ℤ pos 65536000000000 = total.1 in
     (omega (arith, ints, low, high, least, most), omega (arith, ints, low, high, least, most))
-number-by_value Path i w network low high = (omega (arith, ints), omega (arith, ints))
+
+number-beside : (proof : BestProof) (i : Network) (w : ℤ) → IsNetwork i → neg_ℤ (pos 4096000000000) ≤ℤ value_beside proof i w → value_beside proof i w ≤ℤ pos 4096000000000 → IsNumber w
+number-beside (Duals value) i w network low high = number-by value i w network low high
 
 -- the answer lies between two perfect matchings
-pub number-of_answer : (kind : Kind) (i : Network) (g : Multigraph) (answer : Answer) (counts : List ℕ) → IsNetwork i → g ≡ gadget_graph kind i → IsGraph g → g.vertices ≤ 4096 → ReachesAll kind i → IsFeasible kind i answer → IsPerfect g counts → value_for kind i (weight_of i answer) ≤ℤ (pos 2 *ℤ weight g counts) → IsNumber (weight_of i answer)
+pub number-of_answer : (kind : Kind) (i : Network) (g : Multigraph) (answer : Answer) (counts : List ℕ) → IsNetwork i → g ≡ gadget_graph kind i → IsGraph g → g.vertices ≤ 4096 → ReachesAll kind i → IsFeasible kind i answer → IsPerfect g counts → value_for kind i (weight_of kind i answer) ≤ℤ (pos 2 *ℤ weight g counts) → IsNumber (weight_of kind i answer)
 number-of_answer kind i g answer counts network is graph few reached feasible perfect pays =
     let r : IsReached kind i answer = reached answer feasible in
-    let there : Multigraph → Type 0 = λ h. (counts : List ℕ) × IsPerfect h counts × ((pos 2 *ℤ weight h counts) ≤ℤ value_for kind i (weight_of i answer)) in
+    let there : Multigraph → Type 0 = λ h. (counts : List ℕ) × IsPerfect h counts × ((pos 2 *ℤ weight h counts) ≤ℤ value_for kind i (weight_of kind i answer)) in
     let other : there g = subst there (sym is) (r.counts, r.perfect, r.weighs) in
     let below : IsSmall g.vertices (pos 2 *ℤ weight g other.0) = perfect-small g other.0 graph other.1 in
     let above : IsSmall g.vertices (pos 2 *ℤ weight g counts) = perfect-small g counts graph perfect in
     let low : neg_ℤ (pos (g.vertices * 1000000000)) ≤ℤ (pos 2 *ℤ weight g other.0) = below.0 in
     let high : (pos 2 *ℤ weight g counts) ≤ℤ pos (g.vertices * 1000000000) = above.1 in
-    let weighs : (pos 2 *ℤ weight g other.0) ≤ℤ value_for kind i (weight_of i answer) = other.2 in
-    number-by_value kind i (weight_of i answer) network (omega (arith, ints, low, weighs, few)) (omega (arith, ints, high, pays, few))
+    let weighs : (pos 2 *ℤ weight g other.0) ≤ℤ value_for kind i (weight_of kind i answer) = other.2 in
+    number-beside (proof_of kind) i (weight_of kind i answer) network (omega (arith, ints, low, weighs, few)) (omega (arith, ints, high, pays, few))
 
 -- what an answer pays for the listed edges it pays for the matching that they are
 pub pays-for_matching : (kind : Kind) (i : Network) (g : Multigraph) (counts edges : List ℕ) (w : ℤ) → g ≡ gadget_graph kind i → IsPerfect g counts → ListsCounts g counts edges → value_for kind i w ≤ℤ (pos 2 *ℤ walk_weight (gadget_graph kind i) edges) → value_for kind i w ≤ℤ (pos 2 *ℤ weight g counts)

@@ -4,10 +4,12 @@ use Rattle.graph_theory.specs.Graph.{Multigraph}
 use Rattle.graph_theory.specs.Parts.{holds}
 use Rattle.graph_theory.specs.Barrier.{IsComponent}
 use Rattle.mb_problem.specs.declared.kind.Kind.{Kind}
-use Rattle.mb_problem.specs.declared.kind.Kind.TheVariants.{Postman, Path}
+use Rattle.mb_problem.specs.declared.kind.Start.{Start}
+use Rattle.mb_problem.specs.declared.kind.Start.TheVariants.{Free, LeastMet, LesserEnd}
 use Rattle.mb_problem.specs.declared.answer.Answer.{Answer}
 use Rattle.mb_problem.specs.declared.answer.Answer.TheVariants.{Counts, Walk, Nothing}
 use Rattle.mb_problem.specs.declared.answer.Parity.TheVariants.{Values}
+use Rattle.mb_problem.specs.Kinds.{start_of}
 use Rattle.mb_problem.specs.Network.{Network, graph_of}
 use Rattle.mb_problem.specs.Feasible.{AreEnds}
 use Rattle.doc_format.specs.declared.document.Document.{Document}
@@ -24,8 +26,13 @@ pub record IsFirstMetPart (g : Multigraph) (set : List ℕ) : Type 0 where
   pub held : holds set first ≡ true
 
 -- the vertex that a best answer starts at: the least that an edge meets, or the lesser end
+abbrev pub StartsBy : Start → Network → ℕ → Type 0
+StartsBy Free i start = ⊤
+StartsBy LeastMet i start = IsLeastMet (graph_of i) start
+StartsBy LesserEnd i start = (t : ℕ) × AreEnds i start t
+
 abbrev pub StartsFirst : Kind → Network → ℕ → Type 0
-StartsFirst kind i start = (kind ≡ Postman → IsLeastMet (graph_of i) start) × (kind ≡ Path → (t : ℕ) × AreEnds i start t)
+StartsFirst kind i start = StartsBy (start_of kind) i start
 
 abbrev pub IsChosenAnswer : Kind → Network → Answer → Type 0
 IsChosenAnswer kind i (Counts counts) = ⊤

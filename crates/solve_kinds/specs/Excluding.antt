@@ -1,5 +1,5 @@
 -- What a document that excludes all answers is made of.
-use Rattle.std.specs.Prelude.{◌≡◌, ℕ, pos, Bool, List, [], map, Option, None, Some, if◌then◌else◌}
+use Rattle.std.specs.Prelude.{◌≡◌, ℕ, pos, List, map, Some}
 use Rattle.graph_theory.specs.Barrier.{IsBarrier}
 use Rattle.graph_theory.specs.Parts.{IsVertexSet, IsSplitPart}
 use Rattle.mb_problem.specs.declared.kind.Kind.{Kind}
@@ -13,29 +13,31 @@ use Rattle.graph_parts.specs.OddParts.{IsFirstOddPart, is_terminal}
 use Rattle.doc_format.specs.declared.document.Document.{Document}
 use Rattle.doc_format.specs.declared.status.DocStatus.TheVariants.{Infeasible}
 use Rattle.doc_format.specs.declared.part.MemberLine.{MemberLine}
-use Rattle.doc_format.specs.Form.{is_barrier, is_odd_part, is_split_part}
+use Rattle.doc_format.specs.Parts.{Body, blank}
+use Rattle.doc_format.specs.Reading.{body_of}
 use Rattle.solve_kinds.specs.Chosen.{IsFirstMetPart}
 
 -- the line of a set of vertices
 abbrev pub member_line : List ℕ → MemberLine
 member_line set = record { line = 1; members = map pos set }
 
--- that line, where it is wanted
-abbrev pub line_if : Bool → List ℕ → Option MemberLine
-line_if wanted set = if wanted then Some (member_line set) else None
+-- no part but such a line, by the letter of what excludes answers
+abbrev pub set_body : Exclusion → MemberLine → Body
+set_body Barrier u = record blank { barrier = Some u }
+set_body OddPart t = record blank { odd = Some t }
+set_body SplitPart q = record blank { split = Some q }
+set_body Never u = blank
 
--- no part but the line of the set, whose letter is that of what excludes the kind's answers
-pub record StatesSet (kind : Kind) (set : List ℕ) (d : Document) : Type 0 where
+-- no part but this line, whose letter is that of what excludes the kind's answers
+pub record StatesLine (kind : Kind) (u : MemberLine) (d : Document) : Type 0 where
   pub status : d.status ≡ Infeasible
   pub kind_is : d.kind ≡ kind
   pub weight : d.weight ≡ pos 0
-  pub counts : d.counts ≡ []
-  pub walk : d.walk ≡ None
-  pub duals : d.duals ≡ []
-  pub sets : d.sets ≡ []
-  pub barrier : d.barrier ≡ line_if (is_barrier (exclusion_of kind)) set
-  pub odd : d.odd ≡ line_if (is_odd_part (exclusion_of kind)) set
-  pub split : d.split ≡ line_if (is_split_part (exclusion_of kind)) set
+  pub body : body_of d ≡ set_body (exclusion_of kind) u
+
+-- no part but the line of the set
+abbrev pub StatesSet : Kind → List ℕ → Document → Type 0
+StatesSet kind set d = StatesLine kind (member_line set) d
 
 -- a barrier of the graph of certificates, or the first part that excludes all answers
 abbrev pub ExcludesBy : Exclusion → Kind → Network → List ℕ → Type 0

@@ -1,5 +1,5 @@
 -- What the document of a perfect matching is made of.
-use Rattle.std.specs.Prelude.{◌≡◌, ◌≤◌, pos, ◌*ℤ◌, ◌≤ℤ◌, length, All, None}
+use Rattle.std.specs.Prelude.{◌≡◌, ◌≤◌, pos, ◌*ℤ◌, ◌≤ℤ◌, length, All}
 use Rattle.graph_theory.specs.Graph.{weight}
 use Rattle.graph_theory.specs.Duals.{IsNumber}
 use Rattle.mb_problem.specs.declared.kind.Kind.{Kind}
@@ -9,6 +9,8 @@ use Rattle.mb_problem.specs.Feasible.{IsFeasible, weight_of}
 use Rattle.mb_problem.specs.Values.{value_for}
 use Rattle.doc_format.specs.declared.document.Document.{Document}
 use Rattle.doc_format.specs.declared.status.DocStatus.TheVariants.{Optimal}
+use Rattle.doc_format.specs.Parts.{blank}
+use Rattle.doc_format.specs.Reading.{body_of}
 use Rattle.certificates.specs.Claims.{duals_of, sets_of}
 use Rattle.certificates.specs.Within.{IsCountWithin, IsDualWithin}
 use Rattle.mwpm_engine.specs.Solutions.{Solution, matching_of, AreAscending}
@@ -25,8 +27,8 @@ pub record Presents (kind : Kind) (i : Network) (s : Solution) (d : Document) : 
   pub chosen : IsChosenAnswer kind i answer
   pub lists : ListsAnswer answer d.counts
   pub walk : d.walk ≡ line_of answer
-  pub pays : value_for kind i (weight_of i answer) ≤ℤ (pos 2 *ℤ weight s.graph (matching_of s.graph s.mates))
-  pub weight : d.weight ≡ weight_of i answer
+  pub pays : value_for kind i (weight_of kind i answer) ≤ℤ (pos 2 *ℤ weight s.graph (matching_of s.graph s.mates))
+  pub weight : d.weight ≡ weight_of kind i answer
   pub number : IsNumber d.weight
   pub counts_within : All (IsCountWithin (length i.edges)) d.counts
   pub few_counts : length d.counts ≤ length i.edges
@@ -34,6 +36,4 @@ pub record Presents (kind : Kind) (i : Network) (s : Solution) (d : Document) : 
   pub duals_within : All (IsDualWithin s.graph.vertices) d.duals
   pub sets : AreAscending s.sets (sets_of d)
   pub natural : All (λ z. All (λ m. pos 0 ≤ℤ m) z.members) d.sets
-  pub barrier : d.barrier ≡ None
-  pub odd : d.odd ≡ None
-  pub split : d.split ≡ None
+  pub only : body_of d ≡ record blank { counts = d.counts; walk = d.walk; duals = d.duals; sets = d.sets }

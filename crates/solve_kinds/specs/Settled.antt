@@ -1,9 +1,8 @@
 -- What is promised of a document, and what is known where there is none yet.
-use Rattle.std.specs.Prelude.{◌≡◌, ◌≤◌, length, false, Option, None, Some}
+use Rattle.std.specs.Prelude.{◌≡◌, ◌≤◌, length, true, false, Option, None, Some}
 use Rattle.mb_problem.specs.declared.kind.Kind.{Kind}
-use Rattle.mb_problem.specs.declared.kind.Kind.TheVariants.{Path}
 use Rattle.mb_problem.specs.Joins.{HasNoNegativeEvenSet}
-use Rattle.mb_problem.specs.Kinds.{exclusion_of}
+use Rattle.mb_problem.specs.Kinds.{exclusion_of, asks_conservative}
 use Rattle.mb_problem.specs.Network.{Network}
 use Rattle.doc_format.specs.declared.document.Document.{Document}
 use Rattle.doc_format.specs.Spelling.{document_text}
@@ -26,7 +25,8 @@ abbrev pub SettlesOrHasNoPart : Kind → Network → Option Document → Type 0
 SettlesOrHasNoPart kind i (Some d) = Settles kind i d
 SettlesOrHasNoPart kind i None = HasNoPartFor (exclusion_of kind) i
 
--- a document that settles an instance, or, where a path is sought, no circuit weighs less than 0, nor any even set of edges
+-- a document that settles an instance, or, where the kind asks for that, no circuit weighs less than 0, nor any even set
+-- of edges
 abbrev pub SettlesOrIsFit : Kind → Network → Option Document → Type 0
 SettlesOrIsFit kind i (Some d) = Settles kind i d
-SettlesOrIsFit kind i None = HasFitWeights kind i × (kind ≡ Path → HasNoNegativeEvenSet i)
+SettlesOrIsFit kind i None = HasFitWeights kind i × (asks_conservative kind ≡ true → HasNoNegativeEvenSet i)

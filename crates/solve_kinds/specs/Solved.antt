@@ -1,51 +1,39 @@
--- Which status a document has, and how many searches are made for it.
-use Rattle.std.specs.Prelude.{◌≡◌, ℕ, Bool, true, false}
+-- Which status a document has, and where it is known without a search.
+use Rattle.std.specs.Prelude.{◌≡◌, Bool, true, false, not, ◌&&◌}
 use Rattle.graph_theory.specs.Walk.{IsConservative}
 use Rattle.mb_problem.specs.declared.kind.Kind.{Kind}
-use Rattle.mb_problem.specs.declared.kind.Kind.TheVariants.{Perfect, Match, BMatch, CapMatch, FFactor, TJoin, Postman, Path}
+use Rattle.mb_problem.specs.declared.kind.Exclusion.{Exclusion}
+use Rattle.mb_problem.specs.declared.kind.Exclusion.TheVariants.{Barrier, OddPart, SplitPart, Never}
 use Rattle.mb_problem.specs.declared.answer.Answer.{Answer}
+use Rattle.mb_problem.specs.Kinds.{exclusion_of, asks_conservative}
 use Rattle.mb_problem.specs.Network.{Network, graph_of}
-use Rattle.mb_problem.specs.Feasible.{IsFeasible, AreEnds}
+use Rattle.mb_problem.specs.Feasible.{IsFeasible}
 use Rattle.doc_format.specs.declared.status.DocStatus.{DocStatus}
 use Rattle.doc_format.specs.declared.status.DocStatus.TheVariants.{Optimal, Infeasible, NonConservative}
 use Rattle.certificates.specs.Excluded.{HasNoAnswer}
-
--- two values are odd
-abbrev pub HasEnds : Network → Type 0
-HasEnds i = (s : ℕ) × (t : ℕ) × AreEnds i s t
 
 -- some answer is feasible
 abbrev pub HasAnswer : Kind → Network → Type 0
 HasAnswer kind i = (answer : Answer) × IsFeasible kind i answer
 
--- where a path is sought no circuit weighs less than 0
+-- no circuit weighs less than 0, where the kind asks for that
 abbrev pub HasFitWeights : Kind → Network → Type 0
-HasFitWeights kind i = kind ≡ Path → IsConservative (graph_of i)
+HasFitWeights kind i = asks_conservative kind ≡ true → IsConservative (graph_of i)
 
--- optimal where some answer is feasible, infeasible where none is; for paths neither where weights aren't conservative
+-- optimal where some answer is feasible, infeasible where none is; neither where a kind asks for conservative weights
+-- and they aren't
 abbrev pub HasTrueStatus : Kind → Network → DocStatus → Type 0
 HasTrueStatus kind i Optimal = HasAnswer kind i × HasFitWeights kind i
 HasTrueStatus kind i Infeasible = HasNoAnswer kind i × HasFitWeights kind i
-HasTrueStatus kind i NonConservative = (kind ≡ Path) × (IsConservative (graph_of i) → ⊥)
+HasTrueStatus kind i NonConservative = (asks_conservative kind ≡ true) × (IsConservative (graph_of i) → ⊥)
 
--- how many searches are made at most
-abbrev pub searches_of : Kind → ℕ
-searches_of Perfect = 1
-searches_of Match = 1
-searches_of BMatch = 1
-searches_of CapMatch = 1
-searches_of FFactor = 1
-searches_of TJoin = 1
-searches_of Postman = 1
-searches_of Path = 2
+-- a part that no edge leaves excludes answers: that is seen without a search
+abbrev pub is_part : Exclusion → Bool
+is_part Barrier = false
+is_part OddPart = true
+is_part SplitPart = true
+is_part Never = false
 
 -- no search is made where no answer is feasible
 abbrev pub is_tested_first : Kind → Bool
-is_tested_first Perfect = false
-is_tested_first Match = false
-is_tested_first BMatch = false
-is_tested_first CapMatch = false
-is_tested_first FFactor = false
-is_tested_first TJoin = true
-is_tested_first Postman = true
-is_tested_first Path = false
+is_tested_first kind = is_part (exclusion_of kind) && not (asks_conservative kind)

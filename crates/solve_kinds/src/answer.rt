@@ -28,7 +28,7 @@ pub fn answer(
     ensures feasible { IfOk result (IsFeasible kind instance.now) }
     ensures few_steps { IfOk result (HasFewSteps instance.now) }
     ensures chosen { IfOk result (IsChosenAnswer kind instance.now) }
-    ensures pays { IfOk result (λ a. value_for kind instance.now (weight_of instance.now a) ≤ℤ (pos 2 *ℤ walk_weight (gadget_graph kind instance.now) edges.now)) }
+    ensures pays { IfOk result (λ a. value_for kind instance.now (weight_of kind instance.now a) ≤ℤ (pos 2 *ℤ walk_weight (gadget_graph kind instance.now) edges.now)) }
 {
     match kind {
         Kind::Perfect => extract_plain(alloc, instance, edges),

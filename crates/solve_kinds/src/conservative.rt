@@ -1,48 +1,49 @@
-ghost use Rattle.std.specs.Prelude.{◌≡◌, ◌≢◌, ◌+◌, ◌-◌, ◌*◌, ◌≤◌, pos, ◌<ℤ◌, IfOk};
+ghost use Rattle.std.specs.Prelude.{◌≡◌, ◌+◌, ◌-◌, ◌*◌, ◌≤◌, pos, ◌<ℤ◌, true, false, IfOk};
 ghost use Rattle.graph_theory.specs.Limits.{IsWithinLimits};
 ghost use Rattle.graph_theory.specs.Walk.{walk_weight};
 ghost use Rattle.mb_problem.specs.declared.answer.Parity.TheVariants.{Empty};
+ghost use Rattle.mb_problem.specs.Kinds.{asks_conservative, searches_of};
 ghost use Rattle.mb_problem.specs.Joins.{ListsJoin};
 ghost use Rattle.mb_problem.specs.Network.{graph_of};
 ghost use Rattle.mb_problem.specs.Size.{size_of, odd_at};
-ghost use Rattle.mb_problem.specs.declared.kind.Kind.TheVariants.{Path};
 ghost use Rattle.mwpm_engine.specs.Solutions.{most_steps};
 ghost use Rattle.solve_kinds.specs.Settled.{Settles, SettlesOrIsFit};
-ghost use Rattle.solve_kinds.specs.Solved.{searches_of};
 
 use crate::joins::as_counts;
 use crate::walk::walk;
 use conservative_paths::{laws, negative_circuit};
-use doc_format::{DocStatus, Document};
+use doc_format::{DocStatus, Document, Head};
 use least_joins::least_join;
-use mb_base::{OutOfMemory, Sequence, Steps};
+use mb_base::{OutOfMemory, Steps};
 use mb_problem::{Instance, Join, Kind, Parity, weight};
 use std::alloc::Global;
 use std::sync::ledger::Ledger;
 
 /// The document of a circuit of weight below 0 within an even set of edges that weighs less than 0.
-fn nonconservative(alloc: Global, instance: &Instance, even: &Join) -> Result<Document, OutOfMemory>
+fn nonconservative(
+    alloc: Global,
+    instance: &Instance,
+    kind: Kind,
+    even: &Join,
+) -> Result<Document, OutOfMemory>
+    requires kind { asks_conservative kind ≡ true }
     requires even { ListsJoin instance.now (odd_at Empty instance.now) even.now.edges }
     requires negative { walk_weight (graph_of instance.now) even.now.edges <ℤ pos 0 }
-    ensures { IfOk result (Settles Path instance.now) }
+    ensures { IfOk result (Settles kind instance.now) }
 {
     // The prover learns here that the instance is valid.
     let _edges = instance.edges();
     let circuit = negative_circuit(alloc, instance, even)?;
     let walk = walk(alloc, &circuit)?;
-    Ok(Document {
-        status: DocStatus::NonConservative,
-        kind: Kind::Path,
-        weight: 0,
+    let head = Head {
         line: 1,
-        counts: Sequence::new(alloc),
-        walk,
-        duals: Sequence::new(alloc),
-        sets: Sequence::new(alloc),
-        barrier: None,
-        odd: None,
-        split: None,
-    })
+        status: DocStatus::NonConservative,
+        kind,
+        weight: 0,
+    };
+    let mut document = Document::new(alloc, head);
+    document.walk = walk;
+    Ok(document)
 }
 
 /// The document of a circuit of weight below 0, where there is one: an even set of edges of least weight
@@ -50,24 +51,26 @@ fn nonconservative(alloc: Global, instance: &Instance, even: &Join) -> Result<Do
 fn negative<L: Ledger>(
     alloc: Global,
     instance: &Instance,
+    kind: Kind,
     steps: &mut Steps<L>,
 ) -> Result<Option<Document>, OutOfMemory>
-    requires limits { IsWithinLimits (size_of Path instance.now) }
-    ensures settled { IfOk result (SettlesOrIsFit Path instance.now) }
-    ensures steps { steps.new ≤ steps.old + most_steps (size_of Path instance.now) }
+    requires kind { asks_conservative kind ≡ true }
+    requires limits { IsWithinLimits (size_of kind instance.now) }
+    ensures settled { IfOk result (SettlesOrIsFit kind instance.now) }
+    ensures steps { steps.new ≤ steps.old + (searches_of kind - 1) * most_steps (size_of kind instance.now) }
 {
     laws();
     // The prover learns here that the instance is valid.
     let _edges = instance.edges();
     let even = least_join(alloc, instance, &Parity::Empty, steps)?;
     let counts = as_counts(alloc, instance, &even)?;
-    if weight(instance, &counts) >= 0 {
+    if weight(instance, Kind::TJoin, &counts) >= 0 {
         return Ok(None);
     }
-    Ok(Some(nonconservative(alloc, instance, &even)?))
+    Ok(Some(nonconservative(alloc, instance, kind, &even)?))
 }
 
-/// The same for paths; other kinds don't ask for conservative weights, and make no search here.
+/// The same for a kind that asks for conservative weights; the others make no search here.
 pub fn unfit<L: Ledger>(
     alloc: Global,
     instance: &Instance,
@@ -76,11 +79,11 @@ pub fn unfit<L: Ledger>(
 ) -> Result<Option<Document>, OutOfMemory>
     requires limits { IsWithinLimits (size_of kind instance.now) }
     ensures settled { IfOk result (SettlesOrIsFit kind instance.now) }
-    ensures idle { kind ≢ Path → steps.new ≡ steps.old }
+    ensures idle { asks_conservative kind ≡ false → steps.new ≡ steps.old }
     ensures steps { steps.new ≤ steps.old + (searches_of kind - 1) * most_steps (size_of kind instance.now) }
 {
-    if kind != Kind::Path {
+    if !kind.asks_conservative() {
         return Ok(None);
     }
-    negative(alloc, instance, steps)
+    negative(alloc, instance, kind, steps)
 }

@@ -1,7 +1,7 @@
 ghost use Rattle.std.specs.Prelude.{◌≡◌, ◌<◌, ◌≤◌, ◌%◌, ℕ};
 ghost use Rattle.mb_problem.specs.Network.{vertices, value_of};
 ghost use Rattle.mb_problem.specs.Feasible.{AreEnds};
-ghost use Rattle.solve_kinds.specs.Solved.{HasEnds};
+ghost use Rattle.mb_problem.specs.Ready.{HasEnds};
 
 use mb_base::VertexId;
 use mb_problem::Instance;

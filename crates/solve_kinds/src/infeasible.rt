@@ -1,10 +1,12 @@
-ghost use Rattle.std.specs.Prelude.{◌≡◌, false, pos, map, None, Some, if◌then◌else◌, IfOk};
+ghost use Rattle.std.specs.Prelude.{◌≡◌, true, false, pos, map, OnOk, IfOk};
 ghost use Rattle.std.specs.List.Sorted.{IsStrictlyIncreasing};
 ghost use Rattle.mb_problem.specs.Kinds.{exclusion_of};
-ghost use Rattle.doc_format.specs.Form.{is_barrier, is_odd_part, is_split_part, is_never};
-ghost use Rattle.solve_kinds.specs.Excluding.{member_line, StatesSet};
+ghost use Rattle.doc_format.specs.Parts.{ascends, blank};
+ghost use Rattle.doc_format.specs.Form.{is_never};
+ghost use Rattle.doc_format.specs.Reading.{body_of, head_of};
+ghost use Rattle.solve_kinds.specs.Excluding.{member_line, set_body, StatesLine, StatesSet};
 
-use doc_format::{DocStatus, Document, MemberLine};
+use doc_format::{DocStatus, Document, Head, MemberLine, Part};
 use mb_base::{OutOfMemory, Sequence, VertexId};
 use mb_problem::{Exclusion, Kind};
 use std::alloc::Global;
@@ -23,21 +25,42 @@ fn line_of(alloc: Global, set: &[VertexId]) -> Result<MemberLine, OutOfMemory>
     })
 }
 
-/// A line as a `u`, a `t` and a `q` line: it is the one that excludes answers so.
-fn placed(
+/// Puts such a line into a document without one, by the letter of what excludes answers so.
+fn add_line(
+    document: &mut Document,
     exclusion: Exclusion,
     line: MemberLine,
-) -> (Option<MemberLine>, Option<MemberLine>, Option<MemberLine>)
-    ensures barrier { result.0 ≡ (if is_barrier exclusion then Some line else None) }
-    ensures odd { result.1 ≡ (if is_odd_part exclusion then Some line else None) }
-    ensures split { result.2 ≡ (if is_split_part exclusion then Some line else None) }
+) -> Result<(), OutOfMemory>
+    requires status { document.old.status ≡ DocStatus.Infeasible }
+    requires kind { exclusion_of document.old.kind ≡ exclusion }
+    requires blank { body_of document.old ≡ blank }
+    requires ascending { ascends line.members ≡ true }
+    ensures head { OnOk result (head_of document.new ≡ head_of document.old) }
+    ensures body { OnOk result (body_of document.new ≡ set_body exclusion line) }
 {
     match exclusion {
-        Exclusion::Barrier => (Some(line), None, None),
-        Exclusion::OddPart => (None, Some(line), None),
-        Exclusion::SplitPart => (None, None, Some(line)),
-        Exclusion::Never => (None, None, None),
+        Exclusion::Barrier => document.add(Part::Barrier(line)),
+        Exclusion::OddPart => document.add(Part::Odd(line)),
+        Exclusion::SplitPart => document.add(Part::Split(line)),
+        Exclusion::Never => Ok(()),
     }
+}
+
+/// The document of a line of vertices, ascending, that excludes all answers of a kind.
+fn of_line(alloc: Global, kind: Kind, line: MemberLine) -> Result<Document, OutOfMemory>
+    requires kind { is_never (exclusion_of kind) ≡ false }
+    requires ascending { ascends line.members ≡ true }
+    ensures { IfOk result (StatesLine kind line) }
+{
+    let head = Head {
+        line: 1,
+        status: DocStatus::Infeasible,
+        kind,
+        weight: 0,
+    };
+    let mut document = Document::new(alloc, head);
+    add_line(&mut document, kind.exclusion(), line)?;
+    Ok(document)
 }
 
 /// The document of a set of vertices, ascending, that excludes all answers of a kind.
@@ -47,18 +70,5 @@ pub fn infeasible(alloc: Global, kind: Kind, set: &[VertexId]) -> Result<Documen
     ensures { IfOk result (StatesSet kind set.now) }
 {
     let line = line_of(alloc, set)?;
-    let (barrier, odd, split) = placed(kind.exclusion(), line);
-    Ok(Document {
-        status: DocStatus::Infeasible,
-        kind,
-        weight: 0,
-        line: 1,
-        counts: Sequence::new(alloc),
-        walk: None,
-        duals: Sequence::new(alloc),
-        sets: Sequence::new(alloc),
-        barrier,
-        odd,
-        split,
-    })
+    of_line(alloc, kind, line)
 }

@@ -3,11 +3,13 @@ ghost use Rattle.std.specs.List.Sorted.{IsStrictlyIncreasing};
 ghost use Rattle.graph_theory.specs.Graph.{IsEdgeNumber};
 ghost use Rattle.graph_theory.specs.Walk.{walk_weight};
 ghost use Rattle.mb_problem.specs.declared.kind.Kind.TheVariants.{TJoin, Postman, Path};
+ghost use Rattle.mb_problem.specs.declared.kind.Measure.TheVariants.{Total};
 ghost use Rattle.mb_problem.specs.declared.answer.Answer.TheVariants.{Counts};
 ghost use Rattle.mb_problem.specs.declared.answer.Parity.TheVariants.{Values, OddDegrees};
 ghost use Rattle.mb_problem.specs.Network.{graph_of};
-ghost use Rattle.mb_problem.specs.Feasible.{IsFeasible, weight_of};
+ghost use Rattle.mb_problem.specs.Feasible.{IsFeasible, weight_by, weight_of};
 ghost use Rattle.mb_problem.specs.Joins.{HasNoNegativeEvenSet, listed_counts};
+ghost use Rattle.mb_problem.specs.Ready.{HasEnds};
 ghost use Rattle.mb_problem.specs.Size.{odd_at};
 ghost use Rattle.mb_problem.specs.Values.{total_weight};
 ghost use Rattle.gadget_base.specs.Certified.{IsPerfectList};
@@ -15,7 +17,6 @@ ghost use Rattle.gadget_base.specs.Gadgets.{ports_graph};
 ghost use Rattle.graph_parts.specs.Connected.{HasConnectedEdges};
 ghost use Rattle.solve_kinds.specs.Chosen.{IsChosenAnswer};
 ghost use Rattle.solve_kinds.specs.Parts.{HasFewSteps};
-ghost use Rattle.solve_kinds.specs.Solved.{HasEnds};
 
 use crate::ends::ends;
 use conservative_paths::path_in;
@@ -31,7 +32,7 @@ pub fn as_counts(alloc: Global, instance: &Instance, join: &Join) -> Result<Answ
     requires ascending { IsStrictlyIncreasing join.now.edges }
     requires in_range { All (IsEdgeNumber (graph_of instance.now)) join.now.edges }
     ensures counts { IfOk result (λ a. a ≡ Counts (listed_counts join.now.edges (length instance.now.edges))) }
-    ensures weighs { IfOk result (λ a. weight_of instance.now a ≡ walk_weight (graph_of instance.now) join.now.edges) }
+    ensures weighs { IfOk result (λ a. weight_by Total instance.now a ≡ walk_weight (graph_of instance.now) join.now.edges) }
 {
     // The prover learns here that the instance is valid.
     let _edges = instance.edges();
@@ -49,7 +50,7 @@ pub fn extract_join(
     ensures feasible { IfOk result (IsFeasible TJoin instance.now) }
     ensures few_steps { IfOk result (HasFewSteps instance.now) }
     ensures chosen { IfOk result (IsChosenAnswer TJoin instance.now) }
-    ensures weighs { IfOk result (λ a. weight_of instance.now a ≡ walk_weight (ports_graph instance.now (odd_at Values instance.now)) edges.now) }
+    ensures weighs { IfOk result (λ a. weight_of TJoin instance.now a ≡ walk_weight (ports_graph instance.now (odd_at Values instance.now)) edges.now) }
 {
     // The prover learns here that the instance is valid.
     let _edges = instance.edges();
@@ -69,7 +70,7 @@ pub fn extract_tour(
     ensures feasible { IfOk result (IsFeasible Postman instance.now) }
     ensures few_steps { IfOk result (HasFewSteps instance.now) }
     ensures chosen { IfOk result (IsChosenAnswer Postman instance.now) }
-    ensures weighs { IfOk result (λ a. weight_of instance.now a ≡ total_weight instance.now +ℤ walk_weight (ports_graph instance.now (odd_at OddDegrees instance.now)) edges.now) }
+    ensures weighs { IfOk result (λ a. weight_of Postman instance.now a ≡ total_weight instance.now +ℤ walk_weight (ports_graph instance.now (odd_at OddDegrees instance.now)) edges.now) }
 {
     // The prover learns here that the instance is valid.
     let _edges = instance.edges();
@@ -90,7 +91,7 @@ pub fn extract_path(
     ensures feasible { IfOk result (IsFeasible Path instance.now) }
     ensures few_steps { IfOk result (HasFewSteps instance.now) }
     ensures chosen { IfOk result (IsChosenAnswer Path instance.now) }
-    ensures weighs { IfOk result (λ a. weight_of instance.now a ≤ℤ walk_weight (ports_graph instance.now (odd_at Values instance.now)) edges.now) }
+    ensures weighs { IfOk result (λ a. weight_of Path instance.now a ≤ℤ walk_weight (ports_graph instance.now (odd_at Values instance.now)) edges.now) }
 {
     // The prover learns here that the instance is valid.
     let _edges = instance.edges();

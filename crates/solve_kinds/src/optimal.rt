@@ -14,8 +14,8 @@ use crate::counts::counts;
 use crate::duals::duals;
 use crate::sets::sets;
 use crate::walk::walk;
-use doc_format::{DocStatus, Document};
-use matched_edges::matching;
+use doc_format::{DocStatus, Document, Head};
+use least_joins::matching;
 use mb_base::{OutOfMemory, Sequence};
 use mb_problem::{Answer, Instance, Kind, weight};
 use mwpm_engine::Engine;
@@ -23,12 +23,12 @@ use std::alloc::Global;
 use weighted_graph::Graph;
 
 /// The weight of an answer, as it stands in a document.
-fn stated_weight(instance: &Instance, answer: &Answer) -> i64
+fn stated_weight(instance: &Instance, kind: Kind, answer: &Answer) -> i64
     requires places { HasPlaces instance.now answer.now }
-    requires number { IsNumber (weight_of instance.now answer.now) }
-    ensures { result ≡ weight_of instance.now answer.now }
+    requires number { IsNumber (weight_of kind instance.now answer.now) }
+    ensures { result ≡ weight_of kind instance.now answer.now }
 {
-    weight(instance, answer) as i64
+    weight(instance, kind, answer) as i64
 }
 
 /// The document of the answer that the engine's perfect matching stands for, with the duals that prove
@@ -54,22 +54,21 @@ pub fn optimal(
     let _vertices = graph.vertices();
     let edges = matching(alloc, engine, graph)?;
     let answer = answer(alloc, instance, kind, &edges)?;
-    let weight = stated_weight(instance, &answer);
+    let weight = stated_weight(instance, kind, &answer);
     let counts = Sequence::from_vec(counts(alloc, instance, &answer)?);
     let walk = walk(alloc, &answer)?;
     let sets = Sequence::from_vec(sets(alloc, engine, graph)?);
     let duals = Sequence::from_vec(duals(alloc, engine, graph)?);
-    Ok(Document {
+    let head = Head {
+        line: 1,
         status: DocStatus::Optimal,
         kind,
         weight,
-        line: 1,
-        counts,
-        walk,
-        duals,
-        sets,
-        barrier: None,
-        odd: None,
-        split: None,
-    })
+    };
+    let mut document = Document::new(alloc, head);
+    document.counts = counts;
+    document.walk = walk;
+    document.duals = duals;
+    document.sets = sets;
+    Ok(document)
 }

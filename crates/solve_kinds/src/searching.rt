@@ -1,8 +1,9 @@
-ghost use Rattle.std.specs.Prelude.{◌≡◌, ◌≤◌, ◌+◌, false, pos, ◌≤ℤ◌, All, IfOk, Some, None};
+ghost use Rattle.std.specs.Prelude.{◌≡◌, ◌≤◌, ◌+◌, false, IfOk, Some, None};
 ghost use Rattle.graph_theory.specs.declared.limits.TheConstants.{GRAPH_VERTEX_LIMIT};
 ghost use Rattle.graph_theory.specs.Limits.{IsWithinLimits};
 ghost use Rattle.graph_theory.specs.Parts.{IsVertexSet};
 ghost use Rattle.mb_problem.specs.Kinds.{exclusion_of};
+ghost use Rattle.mb_problem.specs.Ready.{HasNeededWeights};
 ghost use Rattle.mb_problem.specs.Size.{size_of};
 ghost use Rattle.gadget_base.specs.Certified.{gadget_graph, ReachesAll};
 ghost use Rattle.doc_format.specs.declared.status.DocStatus.TheVariants.{Optimal};
@@ -19,10 +20,9 @@ use crate::infeasible::infeasible;
 use crate::optimal::optimal;
 use certificates::certified;
 use doc_format::Document;
-use gadget_tjoin::ports;
 use graph_theory::GRAPH_VERTEX_LIMIT;
 use mb_base::{OutOfMemory, Steps};
-use mb_problem::{Exclusion, Instance, Kind, Parity};
+use mb_problem::{Instance, Kind};
 use mwpm_engine::{Engine, Outcome};
 use std::alloc::Global;
 use std::sync::ledger::Ledger;
@@ -32,7 +32,7 @@ use weighted_graph::Graph;
 /// exclude the kind's answers.
 fn searched_graph(alloc: Global, instance: &Instance, kind: Kind) -> Result<Graph, OutOfMemory>
     requires limits { IsWithinLimits (size_of kind instance.now) }
-    requires weights { kind ≡ Kind.Postman → All (λ e. pos 0 ≤ℤ e.w) instance.now.edges }
+    requires weights { HasNeededWeights kind instance.now }
     requires ready { IsOpen kind instance.now }
     ensures graph { IfOk result (λ h. h ≡ gadget_graph kind instance.now) }
     ensures limits { IfOk result (λ h. IsWithinLimits (size_of_graph h)) }
@@ -40,14 +40,8 @@ fn searched_graph(alloc: Global, instance: &Instance, kind: Kind) -> Result<Grap
     ensures reached { IfOk result (λ h. ReachesAll kind instance.now) }
     ensures perfect { IfOk result (λ h. is_barrier (exclusion_of kind) ≡ false → HasPerfect h) }
 {
-    // The prover learns here that the instance is valid.
-    let _edges = instance.edges();
-    match kind.exclusion() {
-        Exclusion::OddPart => Ok(ports(alloc, instance, &Parity::Values)?),
-        Exclusion::SplitPart => Ok(ports(alloc, instance, &Parity::OddDegrees)?),
-        Exclusion::Barrier => Ok(certified(alloc, instance, kind)?),
-        Exclusion::Never => Ok(certified(alloc, instance, kind)?),
-    }
+    let graph = certified(alloc, instance, kind)?;
+    Ok(graph)
 }
 
 /// The document of the barrier that a search has found.
@@ -107,7 +101,7 @@ pub fn searched<L: Ledger>(
     steps: &mut Steps<L>,
 ) -> Result<Document, OutOfMemory>
     requires limits { IsWithinLimits (size_of kind instance.now) }
-    requires weights { kind ≡ Kind.Postman → All (λ e. pos 0 ≤ℤ e.w) instance.now.edges }
+    requires weights { HasNeededWeights kind instance.now }
     requires ready { IsOpen kind instance.now }
     requires fit { HasFitWeights kind instance.now }
     ensures settled { IfOk result (Settles kind instance.now) }

@@ -1,4 +1,6 @@
-ghost use Rattle.std.specs.Prelude.{◌≡◌, ◌≤◌, ◌+◌, ◌*◌, pos, ◌≤ℤ◌, length, All, true, false, IfOk};
+ghost use Rattle.std.specs.Prelude.{◌≡◌, ◌≤◌, ◌+◌, ◌*◌, length, true, false, IfOk};
+ghost use Rattle.mb_problem.specs.Kinds.{searches_of};
+ghost use Rattle.mb_problem.specs.Ready.{IsReady};
 ghost use Rattle.mb_problem.specs.Size.{size_of};
 ghost use Rattle.graph_theory.specs.Limits.{IsWithinLimits};
 ghost use Rattle.doc_format.specs.Spelling.{document_text};
@@ -6,7 +8,7 @@ ghost use Rattle.doc_format.specs.declared.status.DocStatus.TheVariants.{Infeasi
 ghost use Rattle.certificates.specs.Proved.{IsProved, StatesTruth};
 ghost use Rattle.mwpm_engine.specs.Solutions.{most_steps};
 ghost use Rattle.solve_kinds.specs.Chosen.{IsChosen};
-ghost use Rattle.solve_kinds.specs.Solved.{HasEnds, HasTrueStatus, searches_of, is_tested_first};
+ghost use Rattle.solve_kinds.specs.Solved.{HasTrueStatus, is_tested_first};
 
 use crate::conservative::unfit;
 use crate::limits::DOCUMENT_BYTE_LIMIT;
@@ -22,9 +24,9 @@ use std::sync::ledger::Ledger;
 /// states, whole: an accepting judge is sure. A perfect matching of least weight is sought in the graph
 /// that the certificates of the kind speak of (Schrijver, Combinatorial Optimization, volume A, chapter
 /// 26 for matchings, 29 for joins, tours and paths, 31 to 33 for b-matchings, capacities and factors).
-/// For a path an even set of edges of least weight is sought first, to tell whether weights are
-/// conservative. For a tour no edge weighs less than 0, and for a path two vertices have odd values: its
-/// ends.
+/// Where the kind asks for conservative weights an even set of edges of least weight is sought first, to
+/// tell whether they are. The instance has what the kind needs: for a tour no edge weighs less than 0, and
+/// for a path two vertices have odd values, its ends.
 ///
 /// The steps of the searches are counted on `steps`: looks at edges and events. What it takes besides
 /// them is linear in that graph and the members of the sets, but for sets of less than a sixteenth of
@@ -36,8 +38,7 @@ pub fn solve<L: Ledger>(
     steps: &mut Steps<L>,
 ) -> Result<Document, OutOfMemory>
     requires limits { IsWithinLimits (size_of kind instance.now) }
-    requires weights { kind ≡ Kind.Postman → All (λ e. pos 0 ≤ℤ e.w) instance.now.edges }
-    requires ends { kind ≡ Kind.Path → HasEnds instance.now }
+    requires ready { IsReady kind instance.now }
     ensures proved { IfOk result (IsProved kind instance.now) }
     ensures truth { IfOk result (StatesTruth kind instance.now) }
     ensures exact { IfOk result (λ d. HasTrueStatus kind instance.now d.status) }
@@ -45,7 +46,7 @@ pub fn solve<L: Ledger>(
     ensures small { IfOk result (λ d. length (document_text d false) ≤ DOCUMENT_BYTE_LIMIT) }
     ensures steps { steps.new ≤ steps.old + searches_of kind * most_steps (size_of kind instance.now) }
 
-    // Where no join or tour is feasible that is seen without a search.
+    // Where a part that no edge leaves excludes all answers that is seen without a search.
     ensures unsearched { IfOk result (λ d. is_tested_first kind ≡ true → d.status ≡ Infeasible → steps.new ≡ steps.old) }
 {
     if let Some(document) = unfit(alloc, instance, kind, steps)? {

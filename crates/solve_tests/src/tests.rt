@@ -2,10 +2,10 @@ mod agreement;
 mod rows;
 mod solvers;
 
-ghost use Rattle.std.specs.Prelude.{◌≡◌, ◌≢◌, true, IfSome};
+ghost use Rattle.std.specs.Prelude.{◌≡◌, true, IfSome};
 ghost use Rattle.brute_force.specs.Best.{is_counted};
-ghost use Rattle.dimacs_read.specs.Ready.{IsReady};
-ghost use Rattle.mb_problem.specs.declared.kind.Kind.TheVariants.{Postman, Path};
+ghost use Rattle.mb_problem.specs.Ready.{IsReady};
+ghost use Rattle.mb_problem.specs.declared.kind.Kind.TheVariants.{Postman};
 
 use agreement::{agrees, states_tour};
 use dimacs_read::read;
@@ -26,8 +26,7 @@ fn expect_agreement(
     name: &str,
     instance: &Instance,
 ) -> Result<(), Fail>
-    requires no_tour { kind ≢ Postman }
-    requires no_path { kind ≢ Path }
+    requires ready { IsReady kind instance.now }
     requires counted { is_counted kind ≡ true }
 {
     let best = best_weight(rt, alloc, instance, kind)?;
@@ -64,8 +63,6 @@ fn expect_row(
     name: &str,
     text: &str,
 ) -> Result<(), Fail>
-    requires no_tour { kind ≢ Postman }
-    requires no_path { kind ≢ Path }
     requires counted { is_counted kind ≡ true }
 {
     match read_instance(alloc, kind, text) {

@@ -1,4 +1,5 @@
 mod bytes;
+mod devices;
 mod documents;
 mod instances;
 mod runs;

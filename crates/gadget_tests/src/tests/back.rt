@@ -5,7 +5,7 @@ ghost use Rattle.gadget_base.specs.Certified.{IsPerfectList};
 use super::there::graph_of;
 use gadget_match::{extract_copies, extract_double};
 use mb_base::{EdgeId, OutOfMemory, Sequence, VertexId};
-use mb_problem::{Answer, Instance, Join, Kind, Parity};
+use mb_problem::{Answer, Capacities, GadgetForm, Instance, Join, Kind};
 use std::alloc::Global;
 use weighted_graph::Graph;
 
@@ -87,12 +87,12 @@ pub fn counts_of(
     if !is_perfect(&graph, &edges) {
         return Ok(None);
     }
-    let answer = match kind {
-        Kind::Match => extract_double(alloc, instance, &edges)?,
-        Kind::BMatch => extract_copies(alloc, instance, &edges)?,
-        Kind::CapMatch => gadget_cap::extract(alloc, instance, false, &edges)?,
-        Kind::FFactor => gadget_cap::extract(alloc, instance, true, &edges)?,
-        Kind::Perfect | Kind::TJoin | Kind::Postman | Kind::Path => Answer::Nothing,
+    let answer = match kind.gadget() {
+        GadgetForm::Doubled => extract_double(alloc, instance, &edges)?,
+        GadgetForm::Copies => extract_copies(alloc, instance, &edges)?,
+        GadgetForm::Capped(Capacities::Own) => gadget_cap::extract(alloc, instance, false, &edges)?,
+        GadgetForm::Capped(Capacities::Unit) => gadget_cap::extract(alloc, instance, true, &edges)?,
+        GadgetForm::Itself | GadgetForm::Ports(_) | GadgetForm::PathPorts => Answer::Nothing,
     };
     match answer {
         Answer::Counts(counts) => Ok(Some(counts)),
@@ -114,11 +114,8 @@ pub fn join_of(
     if !is_perfect(&graph, &edges) {
         return Ok(None);
     }
-    let join = match kind {
-        Kind::TJoin => gadget_tjoin::extract(alloc, instance, &Parity::Values, &edges)?,
-        Kind::Postman => gadget_tjoin::extract(alloc, instance, &Parity::OddDegrees, &edges)?,
-        Kind::Perfect | Kind::Match | Kind::BMatch | Kind::CapMatch | Kind::FFactor | Kind::Path =>
-            return Ok(None),
+    let GadgetForm::Ports(parity) = kind.gadget() else {
+        return Ok(None);
     };
-    Ok(Some(join))
+    Ok(Some(gadget_tjoin::extract(alloc, instance, &parity, &edges)?))
 }

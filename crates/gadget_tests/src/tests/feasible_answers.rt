@@ -103,6 +103,6 @@ fn instance_by_its_calls(rt: HostRuntime) -> Result<(), Fail> {
         start: one,
         edges: Sequence::from_vec(walk),
     };
-    assert_eq!(rt; weight(&instance, &walk), 6);
+    assert_eq!(rt; weight(&instance, Kind::Postman, &walk), 6);
     Ok(())
 }

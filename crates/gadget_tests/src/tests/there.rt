@@ -6,7 +6,7 @@ use gadget_match::{copies, double};
 use gadget_tjoin::ports;
 use graph_theory::{GRAPH_EDGE_LIMIT, GRAPH_VERTEX_LIMIT};
 use mb_base::OutOfMemory;
-use mb_problem::{Instance, Kind, Parity, gadget_size};
+use mb_problem::{Capacities, GadgetForm, Instance, Kind, gadget_size};
 use std::alloc::Global;
 use weighted_graph::Graph;
 
@@ -26,15 +26,14 @@ pub fn graph_of(
     if edges > u64::from(GRAPH_EDGE_LIMIT) {
         return Ok(None);
     }
-    let graph = match kind {
-        Kind::Match => double(alloc, instance)?,
-        Kind::BMatch => copies(alloc, instance)?,
-        Kind::CapMatch => capped(alloc, instance, false)?,
-        Kind::FFactor => capped(alloc, instance, true)?,
-        Kind::Postman => ports(alloc, instance, &Parity::OddDegrees)?,
-        Kind::TJoin => ports(alloc, instance, &Parity::Values)?,
-        Kind::Perfect => instance.graph()?,
-        Kind::Path => return Ok(None),
+    let graph = match kind.gadget() {
+        GadgetForm::Itself => instance.graph()?,
+        GadgetForm::Doubled => double(alloc, instance)?,
+        GadgetForm::Copies => copies(alloc, instance)?,
+        GadgetForm::Capped(Capacities::Own) => capped(alloc, instance, false)?,
+        GadgetForm::Capped(Capacities::Unit) => capped(alloc, instance, true)?,
+        GadgetForm::Ports(parity) => ports(alloc, instance, &parity)?,
+        GadgetForm::PathPorts => return Ok(None),
     };
     Ok(Some(graph))
 }

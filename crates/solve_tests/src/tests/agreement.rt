@@ -54,7 +54,7 @@ fn states_weight(
     let Some(answer) = stated_answer(alloc, instance, document)? else {
         return Ok(false);
     };
-    if weight(instance, &answer) != wanted {
+    if weight(instance, kind, &answer) != wanted {
         return Ok(false);
     }
     feasible(alloc, instance, kind, &answer)

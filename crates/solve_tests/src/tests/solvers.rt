@@ -1,6 +1,6 @@
-ghost use Rattle.std.specs.Prelude.{◌≡◌, ◌≢◌, ◌<◌, pos, ◌≤ℤ◌, All, true};
+ghost use Rattle.std.specs.Prelude.{◌≡◌, ◌<◌, true};
 ghost use Rattle.brute_force.specs.Best.{is_counted};
-ghost use Rattle.mb_problem.specs.declared.kind.Kind.TheVariants.{Postman, Path};
+ghost use Rattle.mb_problem.specs.Ready.{IsReady};
 
 use brute_force::{best, is_small, least_tour_weight};
 use doc_format::Document;
@@ -22,7 +22,7 @@ pub fn best_weight(
 {
     assert!(rt; is_small(alloc, instance, kind)?);
     match best(alloc, instance, kind)? {
-        Some(answer) => Ok(Some(weight(instance, &answer))),
+        Some(answer) => Ok(Some(weight(instance, kind, &answer))),
         None => Ok(None),
     }
 }
@@ -45,8 +45,7 @@ pub fn document_of<L: Ledger>(
     kind: Kind,
     blank: Blank,
 ) -> Result<Document, OutOfMemory>
-    requires weights { kind ≡ Postman → All (λ e. pos 0 ≤ℤ e.w) instance.now.edges }
-    requires no_path { kind ≢ Path }
+    requires ready { IsReady kind instance.now }
     requires name { blank.name ≡ L.name }
     requires parts { blank.parts ≡ L.parts }
     requires some { 0 < blank.parts }

@@ -152,7 +152,8 @@ fn runs_in_pieces(rt: HostRuntime) -> Result<(), Fail> {
     Ok(())
 }
 
-// A trial reads nothing, whatever the answer is, and nor is anything read for words that are no command.
+// A trial reads nothing, whatever the answer is, and nor is anything read for words that are no
+// command.
 #[test]
 fn what_is_left(rt: HostRuntime) -> Result<(), Fail> {
     let whole = TRIAL.1.len();

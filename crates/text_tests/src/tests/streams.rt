@@ -53,7 +53,8 @@ fn reads_fail_at_their_calls(rt: HostRuntime) -> Result<(), Fail> {
     Ok(())
 }
 
-/// How writing four bytes ends, one at a time, where the call of this number fails, and how many are kept.
+/// How writing four bytes ends, one at a time, where the call of this number fails, and how many
+/// are kept.
 fn end_of_write(alloc: Global, call: u64) -> Result<(Result<(), WriteFault>, usize), Fail> {
     let mut sink = MemSink::new(alloc, 4, 1, vec![in alloc; call]?)?;
     let end = write_all(&mut sink, b"abcd");

@@ -73,7 +73,7 @@ fn is_wanted(
     if !feasible(alloc, &instance, Kind::Postman, &answer)? {
         return Ok(false);
     }
-    if weight(&instance, &answer) != total {
+    if weight(&instance, Kind::Postman, &answer) != total {
         return Ok(false);
     }
     match &answer {

@@ -24,5 +24,5 @@ returns-then-improves c =
     let counts : List ℕ = c.in_ok-digits_of.field-0 in
     let is : counts ≡ digits ms c.args.code = c.in_ok-digits_of.ensures in
     let works : IsFeasible kind i (Counts counts) = c.in_ok-feasible.ensures.0 c.if-not-branch.false in
-    let better : IfSome c.args.found (λ a. IsAsGood kind (weight_of i (Counts counts)) (weight_of i a)) = MatchBool-at_true _ _ c.if-improves.true c.improves.ensures in
+    let better : IfSome c.args.found (λ a. IsAsGood kind (weight_of kind i (Counts counts)) (weight_of kind i a)) = MatchBool-at_true _ _ c.if-improves.true c.improves.ensures in
     record { best = rw is (taken kind i ms c.args.code c.args.found c.requires.best (rw is at works) (rw is at better)) }

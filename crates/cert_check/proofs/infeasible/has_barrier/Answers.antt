@@ -14,6 +14,9 @@ use Rattle.certificates.specs.Claims.{numbers}
 use Rattle.certificates.specs.Within.{IsUpTo}
 use Rattle.certificates.proofs.BarrierLemmas.{vertex_set, up_to-more}
 use Rattle.certificates.proofs.GadgetLemmas.{few_vertices}
+use Rattle.doc_format.specs.Reading.{body_of}
+use Rattle.doc_format.proofs.PartLaws.{barrier_ascends}
+use Rattle.certificates.proofs.WithinLemmas.{barrier-in}
 use Rattle.cert_check.proofs.infeasible.has_barrier.Goals as goal
 
 none_of : (kind : Kind) (i : Network) (r : Result Bool AllocError) → ReachesAll kind i → IfOk r (λ b. IsTrue b → (counts : List ℕ) → IsPerfect (gadget_graph kind i) counts → ⊥) → IfOk r (λ b. IsTrue b → HasNoAnswer kind i)
@@ -24,7 +27,7 @@ pub members_of-requires : goal.members_of-requires
 members_of-requires c =
     let g = gadget_graph c.args.kind c.args.instance.now in
     let u : MemberLine = c.in-Some.u in
-    let within : All (IsUpTo g.vertices) u.members = rw c.in-Some.is at c.requires.within.barrier in
+    let within : All (IsUpTo g.vertices) u.members = rw c.in-Some.is at (barrier-in c.args.kind c.args.instance.now c.args.document.now c.requires.within) in
     let few : g.vertices ≤ GRAPH_VERTEX_LIMIT = few_vertices c.args.kind c.args.instance.now c.requires.limits in
     subst (λ (zs : List ℤ). All (IsUpTo GRAPH_VERTEX_LIMIT) zs) (sym c.as_slice.ensures) (up_to-more g.vertices GRAPH_VERTEX_LIMIT u.members few within)
 
@@ -32,8 +35,8 @@ pub is_barrier-requires : goal.is_barrier-requires
 is_barrier-requires c =
     let g = gadget_graph c.args.kind c.args.instance.now in
     let u : MemberLine = c.in-Some.u in
-    let within : All (IsUpTo g.vertices) u.members = rw c.in-Some.is at c.requires.within.barrier in
-    let ascending : ascends u.members ≡ true = rw c.in-Some.is at c.args.document.now.form.barrier_ascends in
+    let within : All (IsUpTo g.vertices) u.members = rw c.in-Some.is at (barrier-in c.args.kind c.args.instance.now c.args.document.now c.requires.within) in
+    let ascending : ascends u.members ≡ true = barrier_ascends (body_of c.args.document.now) c.args.document.now.form.formed u c.in-Some.is in
     let set : IsVertexSet g.vertices (numbers u.members) = vertex_set g.vertices u.members ascending within in
     let members : c.deref.result.now ≡ numbers u.members = c.deref.ensures.value ∙ c.in_ok-members.ensures ∙ ap numbers c.as_slice.ensures in
     let graph : c.in_ok-graph.graph ≡ g = c.in_ok-graph.ensures.graph in

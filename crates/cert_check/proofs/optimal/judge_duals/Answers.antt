@@ -11,7 +11,13 @@ use Rattle.cert_check.specs.declared.rule.DocRule.TheVariants.{DualMissing, SetF
 use Rattle.certificates.specs.Claims.{duals_of, sets_of, set_of}
 use Rattle.certificates.specs.Certificates.{HasDuals, HaveForm, HaveSlack}
 use Rattle.cert_check.specs.Verdicts.{KeepsBefore}
-use Rattle.certificates.specs.Within.{AreWithin}
+use Rattle.certificates.specs.Within.{IsSetLineWithin, AreWithin}
+use Rattle.graph_theory.specs.declared.limits.TheConstants.{GRAPH_VERTEX_LIMIT}
+use Rattle.certificates.proofs.BarrierLemmas.{set_lines-more}
+use Rattle.certificates.proofs.GadgetLemmas.{few_vertices}
+use Rattle.doc_format.specs.Reading.{body_of}
+use Rattle.doc_format.proofs.PartLaws.{vertices_ascend}
+use Rattle.certificates.proofs.WithinLemmas.{duals-in, sets-in}
 use Rattle.cert_check.proofs.RuleLemmas.{keeps-next}
 use Rattle.certificates.proofs.DualLemmas.{has_duals, duals_size, duals-numbers, sets-numbers, sets-within, forms-of_lines}
 use Rattle.cert_check.proofs.FaultLemmas.{no_set_fault, no_slack}
@@ -22,7 +28,7 @@ returns-then-len-certified_vertices-clause-verdict c =
     let i = c.args.instance.now in
     let d = c.args.document.now in
     let within : AreWithin c.args.kind i d = c.requires.within in
-    let ascending : AscendsBy (λ y. y.vertex) d.duals = d.form.vertices_ascend in
+    let ascending : AscendsBy (λ y. y.vertex) d.duals = vertices_ascend (body_of d) d.form.ordered in
     let lacks : HasDuals c.args.kind i d → ⊥ = λ have. c.if-len-certified_vertices.true (c.len.ensures ∙ duals_size c.args.kind i d ascending within have ∙ sym c.certified_vertices.ensures.count) in
     ((c.requires.status, lacks, refl), c.requires.before)
 
@@ -32,7 +38,7 @@ bound-requires-clause-y_numbers c =
     let d = c.args.document.now in
     let within : AreWithin c.args.kind i d = c.requires.within in
     let ys : c.deref.result.now ≡ duals_of d = c.deref.ensures.value ∙ c.in_ok-y.ensures ∙ ap (λ (xs : List DualLine). map (λ (y : DualLine). y.dual) xs) c.as_slice.ensures in
-    subst (λ (y : List ℤ). All IsNumber y) (sym ys) (duals-numbers (gadget_graph c.args.kind i).vertices d.duals within.duals)
+    subst (λ (y : List ℤ). All IsNumber y) (sym ys) (duals-numbers (gadget_graph c.args.kind i).vertices d.duals (duals-in c.args.kind i d within))
 
 pub bound-requires-clause-set_numbers : goal.bound-requires-clause-set_numbers
 bound-requires-clause-set_numbers c =
@@ -40,7 +46,7 @@ bound-requires-clause-set_numbers c =
     let d = c.args.document.now in
     let within : AreWithin c.args.kind i d = c.requires.within in
     let sets : c.deref-2.result.now ≡ sets_of d = c.deref-2.ensures.value ∙ c.in_ok-sets.ensures ∙ ap (λ (zs : List SetLine). map set_of zs) c.as_slice-lines.ensures in
-    subst (λ (zs : List OddSet). All (λ s. IsNumber s.dual) zs) (sym sets) (sets-numbers (gadget_graph c.args.kind i).vertices d.sets within.sets)
+    subst (λ (zs : List OddSet). All (λ s. IsNumber s.dual) zs) (sym sets) (sets-numbers (gadget_graph c.args.kind i).vertices d.sets (sets-in c.args.kind i d within))
 
 pub bound-requires-clause-sets_within : goal.bound-requires-clause-sets_within
 bound-requires-clause-sets_within c =
@@ -49,7 +55,7 @@ bound-requires-clause-sets_within c =
     let within : AreWithin c.args.kind i d = c.requires.within in
     let sets : c.deref-2.result.now ≡ sets_of d = c.deref-2.ensures.value ∙ c.in_ok-sets.ensures ∙ ap (λ (zs : List SetLine). map set_of zs) c.as_slice-lines.ensures in
     let graph : c.in_ok-graph.graph ≡ gadget_graph c.args.kind i = c.in_ok-graph.ensures.graph in
-    subst (λ (g : Multigraph). All (IsSetWithin g.vertices) c.deref-2.result.now) (sym graph) (subst (λ (zs : List OddSet). All (IsSetWithin (gadget_graph c.args.kind i).vertices) zs) (sym sets) (sets-within (gadget_graph c.args.kind i).vertices d.sets within.sets))
+    subst (λ (g : Multigraph). All (IsSetWithin g.vertices) c.deref-2.result.now) (sym graph) (subst (λ (zs : List OddSet). All (IsSetWithin (gadget_graph c.args.kind i).vertices) zs) (sym sets) (sets-within (gadget_graph c.args.kind i).vertices d.sets (sets-in c.args.kind i d within)))
 
 pub judge_value-requires-clause-before : goal.judge_value-requires-clause-before
 judge_value-requires-clause-before c =
@@ -59,7 +65,7 @@ judge_value-requires-clause-before c =
     let ys : c.deref.result.now ≡ duals_of d = c.deref.ensures.value ∙ c.in_ok-y.ensures ∙ ap (λ (xs : List DualLine). map (λ (y : DualLine). y.dual) xs) c.as_slice.ensures in
     let sets : c.deref-2.result.now ≡ sets_of d = c.deref-2.ensures.value ∙ c.in_ok-sets.ensures ∙ ap (λ (zs : List SetLine). map set_of zs) c.as_slice-lines.ensures in
     let graph : c.in_ok-graph.graph ≡ gadget_graph c.args.kind i = c.in_ok-graph.ensures.graph in
-    let ascending : AscendsBy (λ y. y.vertex) d.duals = d.form.vertices_ascend in
+    let ascending : AscendsBy (λ y. y.vertex) d.duals = vertices_ascend (body_of d) d.form.ordered in
     let size : length d.duals ≡ (gadget_graph c.args.kind i).vertices = sym c.len.ensures ∙ c.if-len-certified_vertices.false ∙ c.certified_vertices.ensures.count in
     let have : HasDuals c.args.kind i d = has_duals c.args.kind i d ascending within size in
     let to_forms : KeepsBefore c.args.kind i d SetForm = keeps-next c.args.kind i d DualMissing SetForm refl c.requires.before (λ _. have) in
@@ -76,7 +82,7 @@ refuse_set-requires-clause-before c =
     let i = c.args.instance.now in
     let d = c.args.document.now in
     let within : AreWithin c.args.kind i d = c.requires.within in
-    let ascending : AscendsBy (λ y. y.vertex) d.duals = d.form.vertices_ascend in
+    let ascending : AscendsBy (λ y. y.vertex) d.duals = vertices_ascend (body_of d) d.form.ordered in
     let size : length d.duals ≡ (gadget_graph c.args.kind i).vertices = sym c.len.ensures ∙ c.if-len-certified_vertices.false ∙ c.certified_vertices.ensures.count in
     let have : HasDuals c.args.kind i d = has_duals c.args.kind i d ascending within size in
     keeps-next c.args.kind i d DualMissing SetForm refl c.requires.before (λ _. have)
@@ -100,7 +106,7 @@ returns-in-Err-Slack-clause-verdict c =
     let ys : c.deref.result.now ≡ duals_of d = c.deref.ensures.value ∙ c.in_ok-y.ensures ∙ ap (λ (xs : List DualLine). map (λ (y : DualLine). y.dual) xs) c.as_slice.ensures in
     let sets : c.deref-2.result.now ≡ sets_of d = c.deref-2.ensures.value ∙ c.in_ok-sets.ensures ∙ ap (λ (zs : List SetLine). map set_of zs) c.as_slice-lines.ensures in
     let graph : c.in_ok-graph.graph ≡ gadget_graph c.args.kind i = c.in_ok-graph.ensures.graph in
-    let ascending : AscendsBy (λ y. y.vertex) d.duals = d.form.vertices_ascend in
+    let ascending : AscendsBy (λ y. y.vertex) d.duals = vertices_ascend (body_of d) d.form.ordered in
     let size : length d.duals ≡ (gadget_graph c.args.kind i).vertices = sym c.len.ensures ∙ c.if-len-certified_vertices.false ∙ c.certified_vertices.ensures.count in
     let have : HasDuals c.args.kind i d = has_duals c.args.kind i d ascending within size in
     let to_forms : KeepsBefore c.args.kind i d SetForm = keeps-next c.args.kind i d DualMissing SetForm refl c.requires.before (λ _. have) in
@@ -117,3 +123,17 @@ returns-in-Err-Slack-clause-verdict c =
     let at_duals : All (λ e. pos 0 ≤ℤ slack y zs e) g.edges = subst (λ (x : List ℤ). All (λ e. pos 0 ≤ℤ slack x zs e) g.edges) (sym ys) at_sets in
     no_slack g y zs e fault at_duals) in
     ((c.requires.status, lacks, refl), to_slacks)
+
+pub first_formless-requires : goal.first_formless-requires
+first_formless-requires c =
+    let i = c.args.instance.now in
+    let d = c.args.document.now in
+    let few = few_vertices c.args.kind i c.requires.limits in
+    subst (λ (zs : List SetLine). All (IsSetLineWithin GRAPH_VERTEX_LIMIT) zs) (sym c.as_slice-lines.ensures) (set_lines-more (gadget_graph c.args.kind i).vertices GRAPH_VERTEX_LIMIT d.sets few (sets-in c.args.kind i d c.requires.within))
+
+pub sets_of-requires : goal.sets_of-requires
+sets_of-requires c =
+    let i = c.args.instance.now in
+    let d = c.args.document.now in
+    let few = few_vertices c.args.kind i c.requires.limits in
+    subst (λ (zs : List SetLine). All (IsSetLineWithin GRAPH_VERTEX_LIMIT) zs) (sym c.as_slice-lines.ensures) (set_lines-more (gadget_graph c.args.kind i).vertices GRAPH_VERTEX_LIMIT d.sets few (sets-in c.args.kind i d c.requires.within))

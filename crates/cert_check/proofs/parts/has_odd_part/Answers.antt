@@ -7,6 +7,8 @@ use Rattle.doc_format.specs.Form.{ascends}
 use Rattle.certificates.specs.Claims.{numbers}
 use Rattle.certificates.specs.Within.{IsUpTo}
 use Rattle.certificates.proofs.BarrierLemmas.{vertex_set, up_to-more}
+use Rattle.doc_format.specs.Reading.{body_of}
+use Rattle.doc_format.proofs.PartLaws.{odd_ascends}
 use Rattle.cert_check.proofs.parts.has_odd_part.Goals as goal
 
 pub members_of-requires : goal.members_of-requires
@@ -22,7 +24,7 @@ is_odd_part-requires c =
     let n = vertices c.args.instance.now in
     let line : MemberLine = c.in-Some.t in
     let within : All (IsUpTo n) line.members = rw c.in-Some.is at c.requires in
-    let ascending : ascends line.members ≡ true = rw c.in-Some.is at c.args.document.now.form.odd_ascends in
+    let ascending : ascends line.members ≡ true = odd_ascends (body_of c.args.document.now) c.args.document.now.form.formed line c.in-Some.is in
     let set : IsVertexSet n (numbers line.members) = vertex_set n line.members ascending within in
     let members : c.deref.result.now ≡ numbers line.members = c.deref.ensures.value ∙ c.in_ok-members.ensures ∙ ap numbers c.as_slice.ensures in
     rw members set

@@ -1,3 +1,4 @@
+use Rattle.certificates.proofs.WithinLemmas.{odd-in, split-in}
 use Rattle.cert_check.proofs.parts.has_wanted_part.Goals as goal
 
 pub returns-in-OddPart-clause-exact : goal.returns-in-OddPart-clause-exact
@@ -5,3 +6,9 @@ returns-in-OddPart-clause-exact c = rw (← c.exclusion.ensures, c.in-OddPart.is
 
 pub returns-in-SplitPart-clause-exact : goal.returns-in-SplitPart-clause-exact
 returns-in-SplitPart-clause-exact c = rw (← c.exclusion.ensures, c.in-SplitPart.is) c.has_split_part.ensures
+
+pub has_odd_part-requires : goal.has_odd_part-requires
+has_odd_part-requires c = odd-in c.args.kind c.args.instance.now c.args.document.now c.requires
+
+pub has_split_part-requires : goal.has_split_part-requires
+has_split_part-requires c = split-in c.args.kind c.args.instance.now c.args.document.now c.requires

@@ -1,6 +1,6 @@
 use Rattle.std.proofs.Common.{◌≡◌, ◌++◌}
 use Rattle.std.specs.Prelude.{option_map}
-use Rattle.doc_format.specs.Rows.{numbers}
+use Rattle.doc_format.specs.Numbers.{numbers}
 use Rattle.doc_format.proofs.numbers.all_numbers.Given as goal
 
 abbrev pub invariant-loop-field : goal.invariant-loop-field

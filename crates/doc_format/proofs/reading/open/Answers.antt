@@ -14,11 +14,11 @@ returns-in-Some-read_head-clause-opening c =
     let at = rows_more c.lines.rest.now c.in-Some.text.now c.in-Some.after.now c.in-Some.ensures.line in
     let skips : Skips c.args.line rs c.lines.number (row ∷ left) = skips_at c.args.line rs c.lines.number (rows c.lines.rest.now) (row ∷ left) at c.lines.invariant.skips in
     let line = c.in-Some-read_head.ensures.line in
-    let said : head_at c.lines.number row ≡ Some c.in-Some-read_head.head = ap (head_at c.lines.number) c.in-Some-letter.ensures.1 ∙ sym c.in-Some-read_head.ensures.value in
+    let said : head_at c.lines.number row ≡ Some c.in-Some-read_head.head = ap (head_at c.lines.number) c.in-Some-first_field.ensures.1 ∙ sym c.in-Some-read_head.ensures.value in
     record {
       row = row;
       skips = subst (λ n. Skips c.args.line rs n (row ∷ left)) (sym line) skips;
-      there = c.in-Some-letter.ensures.0;
+      there = c.in-Some-first_field.ensures.0;
       says = ap (λ n. head_at n row) line ∙ said;
     }
 
@@ -32,7 +32,7 @@ returns-in-None-clause-opening c =
     let left = rows c.in-Some.after.now in
     let at = rows_more c.lines.rest.now c.in-Some.text.now c.in-Some.after.now c.in-Some.ensures.line in
     let skips : Skips c.args.line rs c.lines.number (row ∷ left) = skips_at c.args.line rs c.lines.number (rows c.lines.rest.now) (row ∷ left) at c.lines.invariant.skips in
-    no_head c.args.line rs c.lines.number row left skips c.in-Some-letter.ensures.0 (ap (head_at c.lines.number) c.in-Some-letter.ensures.1 ∙ sym c.in-None.ensures.value)
+    no_head c.args.line rs c.lines.number row left skips c.in-Some-first_field.ensures.0 (ap (head_at c.lines.number) c.in-Some-first_field.ensures.1 ∙ sym c.in-None.ensures.value)
 
 pub lines-preserved : goal.lines-preserved
 lines-preserved c =
@@ -41,6 +41,6 @@ lines-preserved c =
     let left = rows c.in-Some.after.now in
     let at = rows_more c.lines.rest.now c.in-Some.text.now c.in-Some.after.now c.in-Some.ensures.line in
     record {
-      skips = skips_more c.args.line rs c.lines.number row left (skips_at c.args.line rs c.lines.number (rows c.lines.rest.now) (row ∷ left) at c.lines.invariant.skips) c.in_default-letter.ensures;
+      skips = skips_more c.args.line rs c.lines.number row left (skips_at c.args.line rs c.lines.number (rows c.lines.rest.now) (row ∷ left) at c.lines.invariant.skips) c.in_default-first_field.ensures;
       small = omega (arith, c.in-Some.ensures.rest, c.lines.invariant.small);
     }

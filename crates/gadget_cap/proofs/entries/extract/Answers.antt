@@ -8,7 +8,7 @@ use Rattle.gadget_base.specs.Certified.{IsPerfectList}
 use Rattle.gadget_cap.specs.Capped.{capped_room}
 use Rattle.gadget_cap.specs.Places.{enters, IsEntry}
 use Rattle.gadget_cap.proofs.Sizes.{graph-is}
-use Rattle.gadget_cap.proofs.Extracted.{listed-numbers, entries-more, room-small, extracted-feasible, extracted-weight}
+use Rattle.gadget_cap.proofs.Extracted.{listed-numbers, entries-more, room-small, extracted-feasible, extracted-weight, counts-weight}
 use Rattle.gadget_cap.proofs.Steps.{AreEntries, entry-none, entry-some}
 use Rattle.gadget_cap.proofs.entries.extract.Goals.{in-Some, in_default}
 use Rattle.gadget_cap.proofs.entries.extract.Goals as goal
@@ -103,6 +103,7 @@ returns-clause-weighs c =
     let whole : take c.loop-edge.edge-index es ≡ es = take_all c.loop-edge.edge-index es (omega (arith, past)) in
     let items : c.from_vec.result ≡ c.loop-edge.counts.items = c.from_vec.ensures in
     let each : (k : ℕ) → k < length i.edges → slice_index c.loop-edge.counts.items k ≡ count_by (enters i (capped_room unit i) k) es = λ k b. c.loop-edge.invariant.each k b ∙ ap (λ xs. count_by (enters i (capped_room unit i) k) xs) whole in
-    ap (weight (graph_of i)) items
+    counts-weight unit i c.from_vec.result
+    ∙ ap (weight (graph_of i)) items
     ∙ extracted-weight unit i es c.loop-edge.counts.items perfect c.loop-edge.invariant.size each
     ∙ ap (λ (g : Multigraph). walk_weight g es) (sym (graph-is unit i))

@@ -3,9 +3,9 @@ use Rattle.std.proofs.lemmas.Bool.{false≢true}
 use Rattle.std.proofs.lemmas.List.{with_items_is}
 use Rattle.graph_theory.specs.Barrier.{IsOddHead}
 use Rattle.graph_parts.specs.Marks.{MarksSet}
-use Rattle.graph_parts.specs.Heads.{SeenBelow, CountsBelow}
+use Rattle.graph_parts.specs.Heads.{SeenBelow}
 use Rattle.graph_parts.proofs.ComponentLemmas.{set_marked}
-use Rattle.graph_parts.proofs.HeadLemmas.{counts-more, counts-same, counts-all}
+use Rattle.graph_parts.proofs.HeadLemmas.{counts-more, counts-same, counts-all, CountsBelow}
 use Rattle.graph_parts.proofs.odd.odd_components.Goals as goal
 use Rattle.graph_parts.proofs.odd.odd_components.Goals.{then-branch, else-branch}
 

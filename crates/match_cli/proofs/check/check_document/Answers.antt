@@ -1,8 +1,8 @@
-use Rattle.match_cli.proofs.Checks.{none_below, document_answers}
+use Rattle.match_cli.proofs.Checks.{document_answers}
 use Rattle.match_cli.proofs.check.check_document.Goals as goal
 
 pub judge-requires-clause-weights : goal.judge-requires-clause-weights
-judge-requires-clause-weights c = none_below c.args.kind c.args.instance.now c.requires.ready
+judge-requires-clause-weights c = c.requires.ready.weights
 
 pub returns : goal.returns
 returns c = document_answers c.args.kind c.args.instance.now c.args.document.now c.in_ok-verdict.verdict c.judged.result c.in_ok-verdict.ensures.verdict c.in_ok-verdict.ensures.sound c.judged.ensures.text c.judged.ensures.status

@@ -1,5 +1,4 @@
 use Rattle.match_cli.specs.Solving.{Solves}
-use Rattle.match_cli.proofs.Checks.{none_below, two_ends}
 use Rattle.match_cli.proofs.SolveAnswers.{solved_answers}
 use Rattle.match_cli.proofs.solve.solve_within.Goals as goal
 
@@ -10,9 +9,3 @@ returns-in-Ok-clause-answer g c =
     let e = c.in-Ok.ensures in
     let solves : Solves c.args.kind i d = record { network = c.requires.network; proved = e.proved; truth = e.truth; exact = e.exact; chosen = e.chosen; small = e.small } in
     solved_answers c.args.kind c.args.brief i d c.solved.result solves c.solved.ensures.text c.solved.ensures.status
-
-pub solve-requires-clause-weights : goal.solve-requires-clause-weights
-solve-requires-clause-weights g c = none_below c.args.kind c.args.instance.now c.requires.ready
-
-pub solve-requires-clause-ends : goal.solve-requires-clause-ends
-solve-requires-clause-ends g c = two_ends c.args.kind c.args.instance.now c.requires.ready

@@ -1,7 +1,7 @@
 use Rattle.std.proofs.Common.{ℕ, List, map, subst}
 use Rattle.std.specs.Prelude.{string_bytes}
 use Rattle.mb_base.specs.Streams.{Extends}
-use Rattle.match_cli.proofs.Prepares.{tells_truth}
+use Rattle.match_cli.proofs.Truths.{tells_truth}
 use Rattle.match_cli.proofs.Completeness.{completes}
 use Rattle.match_cli.proofs.AcceptedAgain.{accepted_again}
 use Rattle.match_cli.proofs.RunEnds.{written_whole}

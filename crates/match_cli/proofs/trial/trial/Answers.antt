@@ -3,7 +3,7 @@ use Rattle.std.specs.Prelude.{IfOk}
 use Rattle.graph_theory.specs.Limits.{IsWithinLimits}
 use Rattle.mb_problem.specs.Network.{Network}
 use Rattle.mb_problem.specs.Size.{size_of}
-use Rattle.solve_kinds.specs.Solved.{searches_of}
+use Rattle.mb_problem.specs.Kinds.{searches_of}
 use Rattle.command_words.specs.declared.command.Command.TheVariants.{Trial}
 use Rattle.match_cli.specs.Trying.{DecidesTrial}
 use Rattle.match_cli.proofs.StepCounts.{within_limits, done_counts}

@@ -7,8 +7,7 @@ use Rattle.graph_theory.proofs.Edges.{touched-within, edge_at-within}
 use Rattle.graph_theory.proofs.Walks.{walk-rest}
 use Rattle.weighted_graph.specs.Left.{TakesOne}
 use Rattle.weighted_graph.proofs.LeftLemmas.{taken-sum, passed-same}
-use Rattle.postman_walk.specs.Tracing.{IsTracing}
-use Rattle.postman_walk.proofs.TracingLemmas.{tracing-push, tracing-pop, tracing-end, tracing-same}
+use Rattle.postman_walk.proofs.TracingLemmas.{tracing-push, tracing-pop, tracing-end, tracing-same, IsTracing}
 use Rattle.postman_walk.proofs.trace.trace.Goals as goal
 
 pub walk-smaller-in-Some : goal.walk-smaller-in-Some

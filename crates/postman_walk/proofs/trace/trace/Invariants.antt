@@ -1,8 +1,8 @@
 use Rattle.std.proofs.Common.{◌≡◌, ◌+◌, ◌*◌, ◌≤◌, length, slice_index}
 use Rattle.graph_theory.specs.Sums.{sum_to}
 use Rattle.weighted_graph.specs.Left.{ArePassed}
-use Rattle.postman_walk.specs.Tracing.{IsTracing}
 use Rattle.postman_walk.proofs.trace.trace.Given as goal
+use Rattle.postman_walk.proofs.TracingLemmas.{IsTracing}
 
 abbrev pub invariant-walk : goal.invariant-walk
 invariant-walk l = record {

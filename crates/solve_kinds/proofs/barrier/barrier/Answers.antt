@@ -1,6 +1,6 @@
 use Rattle.std.proofs.Common.{◌≡◌, ap, ◌∙◌, arith}
 use Rattle.graph_theory.specs.Parts.{holds}
-use Rattle.matched_edges.proofs.Passing.{passing, members-passing}
+use Rattle.least_joins.proofs.Passing.{passing, members-passing}
 use Rattle.solve_kinds.proofs.barrier.barrier.Goals as goal
 
 pub returns : goal.returns

@@ -1,6 +1,6 @@
 use Rattle.std.proofs.Common.{◌≡◌}
 use Rattle.graph_theory.specs.Parts.{holds}
-use Rattle.matched_edges.proofs.Passing.{passing}
+use Rattle.least_joins.proofs.Passing.{passing}
 use Rattle.solve_kinds.proofs.barrier.barrier.Given as goal
 
 abbrev pub invariant-loop-place : goal.invariant-loop-place

@@ -4,7 +4,7 @@ use Rattle.doc_format.specs.Form.{AscendsBy}
 use Rattle.certificates.specs.Claims.{counts_of}
 use Rattle.certificates.specs.Within.{IsCountWithin}
 use Rattle.solve_kinds.specs.Parts.{is_used, line_at}
-use Rattle.matched_edges.proofs.Passing.{lines-push}
+use Rattle.least_joins.proofs.Passing.{lines-push}
 use Rattle.solve_kinds.proofs.CountLines.{lines_to, counts-lines, lines-ascend, lines-within, lines-few}
 use Rattle.solve_kinds.proofs.counts.used.Goals as goal
 

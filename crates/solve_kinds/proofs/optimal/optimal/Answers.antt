@@ -4,20 +4,21 @@ use Rattle.graph_theory.specs.Graph.{Multigraph, IsGraph, IsPerfect, weight}
 use Rattle.graph_theory.specs.Duals.{IsNumber}
 use Rattle.mb_problem.specs.Feasible.{weight_of}
 use Rattle.mb_problem.specs.Values.{value_for}
+use Rattle.mb_problem.proofs.KindLaws.{feasible-form, feasible-places}
 use Rattle.gadget_base.specs.Certified.{IsPerfectList}
 use Rattle.gadget_base.specs.Listed.{ListsCounts}
 use Rattle.gadget_base.proofs.Listed.{list_from_perfect}
 use Rattle.doc_format.specs.declared.part.CountLine.{CountLine}
 use Rattle.doc_format.specs.declared.part.DualLine.{DualLine}
 use Rattle.doc_format.specs.declared.part.SetLine.{SetLine}
+use Rattle.doc_format.specs.declared.head.Head.{Head}
+use Rattle.doc_format.specs.Parts.{Body, blank}
 use Rattle.doc_format.specs.Form.{AscendsBy}
 use Rattle.certificates.specs.Claims.{set_of}
 use Rattle.certificates.specs.Within.{IsCountWithin, IsDualWithin}
-use Rattle.certificates.proofs.KindLemmas.{feasible-places}
 use Rattle.mwpm_engine.specs.Solutions.{matching_of, AreAscending}
 use Rattle.solve_kinds.specs.Parts.{ListsAnswer}
-use Rattle.solve_kinds.proofs.Forms.{form-optimal}
-use Rattle.solve_kinds.proofs.AnswerForms.{feasible-form}
+use Rattle.solve_kinds.proofs.Forms.{form-optimal, formed-as}
 use Rattle.solve_kinds.proofs.EachKind.{small}
 use Rattle.solve_kinds.proofs.Weighed.{number-of_answer, pays-for_matching}
 use Rattle.solve_kinds.specs.Members.{AreWithin}
@@ -45,7 +46,7 @@ stated_weight-weight-requires-clause-number c =
     let perfect : IsPerfect g (matching_of g mates) = subst (λ (h : Multigraph). IsPerfect h (matching_of h mates)) c.requires.same c.requires.solved.perfect in
     let lists : ListsCounts g (matching_of g mates) c.deref.result.now = subst (λ (es : List ℕ). ListsCounts g (matching_of g mates) es) (sym c.deref.ensures.value) c.in_ok-edges.ensures.counts in
     number-of_answer kind i g c.in_ok-answer.answer (matching_of g mates) c.edges-edges.ensures.network c.requires.certified c.vertices-vertices.ensures.graph c.requires.few_vertices c.requires.reached c.in_ok-answer.ensures.feasible perfect
-    (pays-for_matching kind i g (matching_of g mates) c.deref.result.now (weight_of i c.in_ok-answer.answer) c.requires.certified perfect lists c.in_ok-answer.ensures.pays)
+    (pays-for_matching kind i g (matching_of g mates) c.deref.result.now (weight_of kind i c.in_ok-answer.answer) c.requires.certified perfect lists c.in_ok-answer.ensures.pays)
 
 pub counts-requires-clause-places : goal.counts-requires-clause-places
 counts-requires-clause-places c = feasible-places c.args.kind c.args.instance.now c.in_ok-answer.answer c.in_ok-answer.ensures.feasible
@@ -56,14 +57,16 @@ counts-requires-clause-small c = small c.args.kind c.args.instance.now c.in_ok-a
 pub sets-requires-clause-within : goal.sets-requires-clause-within
 sets-requires-clause-within c = subst (λ (h : Multigraph). AreWithin h.vertices c.args.engine.now.sets) c.requires.same (solved-within c.args.engine.now c.requires.solved)
 
-pub invariant_of-result : goal.invariant_of-result
-invariant_of-result c = record {
-  form = form-optimal c.args.kind _ c.in_ok-answer.answer c.from_vec-counts.result c.in_ok-walk.walk c.from_vec-duals.result c.from_vec-sets.result
+pub invariant_of-document : goal.invariant_of-document
+invariant_of-document c = record {
+  form = formed-as c.new-document.result _ blank (λ (b : Body). record b { counts = c.from_vec-counts.result; walk = c.in_ok-walk.walk; duals = c.from_vec-duals.result; sets = c.from_vec-sets.result })
+      c.new-document.ensures.head c.new-document.ensures.body
+      (form-optimal c.args.kind _ c.in_ok-answer.answer c.from_vec-counts.result c.in_ok-walk.walk c.from_vec-duals.result c.from_vec-sets.result
       (feasible-form c.args.kind c.args.instance.now c.in_ok-answer.answer c.in_ok-answer.ensures.feasible)
       (subst (ListsAnswer c.in_ok-answer.answer) (sym c.from_vec-counts.ensures) c.in_ok-counts.ensures.counts)
       c.in_ok-walk.ensures
       (subst (λ (xs : List CountLine). AscendsBy (λ x. x.edge) xs) (sym c.from_vec-counts.ensures) c.in_ok-counts.ensures.ascending)
-      (subst (λ (ys : List DualLine). AscendsBy (λ y. y.vertex) ys) (sym c.from_vec-duals.ensures) c.in_ok-duals.ensures.ascending);
+      (subst (λ (ys : List DualLine). AscendsBy (λ y. y.vertex) ys) (sym c.from_vec-duals.ensures) c.in_ok-duals.ensures.ascending));
 }
 
 pub returns : goal.returns
@@ -75,26 +78,28 @@ returns c =
     let mates = s.mates in
     let perfect : IsPerfect g (matching_of g mates) = subst (λ (h : Multigraph). IsPerfect h (matching_of h mates)) c.requires.same c.requires.solved.perfect in
     let lists : ListsCounts g (matching_of g mates) c.deref.result.now = subst (λ (es : List ℕ). ListsCounts g (matching_of g mates) es) (sym c.deref.ensures.value) c.in_ok-edges.ensures.counts in
-    let pays : value_for kind i (weight_of i c.in_ok-answer.answer) ≤ℤ (pos 2 *ℤ weight g (matching_of g mates)) = pays-for_matching kind i g (matching_of g mates) c.deref.result.now (weight_of i c.in_ok-answer.answer) c.requires.certified perfect lists c.in_ok-answer.ensures.pays in
+    let pays : value_for kind i (weight_of kind i c.in_ok-answer.answer) ≤ℤ (pos 2 *ℤ weight g (matching_of g mates)) = pays-for_matching kind i g (matching_of g mates) c.deref.result.now (weight_of kind i c.in_ok-answer.answer) c.requires.certified perfect lists c.in_ok-answer.ensures.pays in
     let number = number-of_answer kind i g c.in_ok-answer.answer (matching_of g mates) c.edges-edges.ensures.network c.requires.certified c.vertices-vertices.ensures.graph c.requires.few_vertices c.requires.reached c.in_ok-answer.ensures.feasible perfect pays in
     let w = c.stated_weight-weight.result in
-    let is : w ≡ weight_of i c.in_ok-answer.answer = c.stated_weight-weight.ensures in
+    let is : w ≡ weight_of kind i c.in_ok-answer.answer = c.stated_weight-weight.ensures in
     let fits : IsNumber w = subst IsNumber (sym is) number in
     let low : neg_ℤ (pos 1000000000000000) ≤ℤ w = fits.0 in
     let high : w ≤ℤ pos 1000000000000000 = fits.1 in
     let kept : to_z w64 (of_z w64 w) ≡ w = omega (arith, ints) in
-    let weighs : to_z w64 (of_z w64 w) ≡ weight_of i c.in_ok-answer.answer = kept ∙ is in
+    let weighs : to_z w64 (of_z w64 w) ≡ weight_of kind i c.in_ok-answer.answer = kept ∙ is in
+    let head_weight = ap (λ (h : Head). h.weight) c.new-document.ensures.head in
+    let stated : c.new-document.result.weight ≡ weight_of kind i c.in_ok-answer.answer = omega (arith, ints, head_weight, weighs, is) in
     record {
-      status = refl;
-      kind_is = refl;
+      status = ap (λ (h : Head). h.status) c.new-document.ensures.head;
+      kind_is = ap (λ (h : Head). h.kind) c.new-document.ensures.head;
       answer = c.in_ok-answer.answer;
       feasible = c.in_ok-answer.ensures.feasible;
       few_steps = c.in_ok-answer.ensures.few_steps;
       chosen = c.in_ok-answer.ensures.chosen;
       lists = subst (λ (xs : List CountLine). ListsAnswer c.in_ok-answer.answer xs) (sym c.from_vec-counts.ensures) c.in_ok-counts.ensures.counts;
-      pays = subst (λ (h : Multigraph). value_for kind i (weight_of i c.in_ok-answer.answer) ≤ℤ (pos 2 *ℤ weight h (matching_of h mates))) (sym c.requires.same) pays;
-      weight = weighs;
-      number = subst IsNumber (sym weighs) number;
+      pays = subst (λ (h : Multigraph). value_for kind i (weight_of kind i c.in_ok-answer.answer) ≤ℤ (pos 2 *ℤ weight h (matching_of h mates))) (sym c.requires.same) pays;
+      weight = stated;
+      number = subst IsNumber (sym stated) number;
       counts_within = subst (λ (xs : List CountLine). All (IsCountWithin (length i.edges)) xs) (sym c.from_vec-counts.ensures) c.in_ok-counts.ensures.in_range;
       few_counts = subst (λ (xs : List CountLine). length xs ≤ length i.edges) (sym c.from_vec-counts.ensures) c.in_ok-counts.ensures.few;
       duals = ap (λ (ys : List DualLine). map (λ (y : DualLine). y.dual) ys) c.from_vec-duals.ensures ∙ c.in_ok-duals.ensures.duals;
@@ -102,7 +107,5 @@ returns c =
       sets = subst (λ (zs : List SetLine). AreAscending s.sets (map set_of zs)) (sym c.from_vec-sets.ensures) c.in_ok-sets.ensures.sets;
       natural = subst (λ (zs : List SetLine). All (λ z. All (λ m. pos 0 ≤ℤ m) z.members) zs) (sym c.from_vec-sets.ensures) c.in_ok-sets.ensures.natural;
       walk = c.in_ok-walk.ensures;
-      barrier = refl;
-      odd = refl;
-      split = refl;
+      only = ap (λ (b : Body). record b { counts = c.from_vec-counts.result; walk = c.in_ok-walk.walk; duals = c.from_vec-duals.result; sets = c.from_vec-sets.result }) c.new-document.ensures.body;
     }

@@ -1,0 +1,10 @@
+-- The kind that has a number.
+use Rattle.std.proofs.Common.{◌≡◌, ℕ, Option, None, Some, ap, sym, ◌∙◌}
+use Rattle.mb_problem.specs.declared.kind.Kind.{Kind}
+use Rattle.mb_problem.specs.Kinds.{kind_number, kind_numbered}
+use Rattle.mb_problem.proofs.KindLaws.{number-back, numbered-number}
+use Rattle.blossom_c.specs.Numbers.{IsNumbered}
+
+pub is_numbered : (number : ℕ) (o : Option Kind) → o ≡ kind_numbered number → IsNumbered kind_number number o
+is_numbered number None e = λ kind is. (let found : None ≡ Some kind = e ∙ ap kind_numbered (sym is) ∙ number-back kind in absurd cc)
+is_numbered number (Some kind) e = numbered-number kind number (sym e)

@@ -1,0 +1,20 @@
+use Rattle.std.proofs.Common.{ℕ, List, length, All, sym, subst}
+use Rattle.doc_format.specs.declared.part.CountLine.{CountLine}
+use Rattle.doc_format.specs.Form.{AscendsBy}
+use Rattle.doc_format.specs.Reading.{body_of}
+use Rattle.doc_format.proofs.PartLaws.{edges_ascend}
+use Rattle.certificates.specs.Within.{IsCountWithin}
+use Rattle.certificates.proofs.WithinLemmas.{counts-in}
+use Rattle.cert_check.proofs.claims.answer_of.Goals as goal
+
+pub counts_of-requires-clause-in_range : goal.counts_of-requires-clause-in_range
+counts_of-requires-clause-in_range c =
+    let i = c.args.instance.now in
+    let d = c.args.document.now in
+    let within : All (IsCountWithin (length i.edges)) d.counts = counts-in c.args.kind i d c.requires in
+    subst (λ (xs : List CountLine). All (IsCountWithin c.edges.result) xs) (sym c.as_slice.ensures) (subst (λ (m : ℕ). All (IsCountWithin m) d.counts) (sym c.edges.ensures.count) within)
+
+pub counts_of-requires-clause-ascending : goal.counts_of-requires-clause-ascending
+counts_of-requires-clause-ascending c =
+    let d = c.args.document.now in
+    subst (λ (xs : List CountLine). AscendsBy (λ x. x.edge) xs) (sym c.as_slice.ensures) (edges_ascend (body_of d) d.form.ordered)
