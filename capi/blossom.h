@@ -16,7 +16,8 @@
  * as it was, and `used` is the length of such an answer. At BLOSSOM_NO_SUCH_CALL it is as it was, `used` is 0, and one of the numbers is none of
  * those below. The call ends, and reads and writes nothing but what it is given and memory that it takes.
  *
- * What is only tested: that the shared object answers as the program does, byte for byte, and that calls give back what memory they take.
+ * What is only tested: that the shared object answers as the program does, byte for byte, that equal calls give equal answers, and that calls
+ * give back what memory they take.
  *
  * What isn't proved, since it is the caller's or the machine's: what is said under "The caller" below, which the call can't test; that this
  * header declares what the library defines; that the linker and the compiler to machine code are right; that malloc, realloc, free, memcpy,

@@ -1,9 +1,12 @@
 """Builds the wheel of the package for pip, with the standard library alone.
 
 The wheel has the package's files and one more, `installed_from.py`, which names the checkout that it was built in: that is where an installed
-package looks for the program, unless it is told otherwise."""
+package looks for the program, unless it is told otherwise. A wheel of a release (`scripts/release.py`) holds the program itself instead.
+
+Equal files give equal bytes: entries have no time of their own."""
 import base64
 import hashlib
+import io
 import os
 import re
 import tarfile
@@ -12,7 +15,10 @@ import zipfile
 HERE = os.path.dirname(os.path.abspath(__file__))
 CHECKOUT = os.path.dirname(HERE)
 PACKAGE = "blossom"
-WHEEL = "Wheel-Version: 1.0\nGenerator: blossom\nRoot-Is-Purelib: true\nTag: py3-none-any\n"
+ANYWHERE = "py3-none-any"
+# The time of every entry, the first that an archive can state, and the two kinds of files.
+NO_TIME = (1980, 1, 1, 0, 0, 0)
+PLAIN, PROGRAM = 0o100644, 0o100755
 
 
 def project():
@@ -26,6 +32,15 @@ def field(name):
     return re.search(r'^%s = "(.*)"$' % re.escape(name), project(), re.M).group(1)
 
 
+def version():
+    """The number of the release: the file VERSION, in the checkout or in an archive of the package's sources."""
+    for folder in (HERE, CHECKOUT):
+        if os.path.exists(os.path.join(folder, "VERSION")):
+            with open(os.path.join(folder, "VERSION"), encoding="ascii") as file:
+                return file.read().strip()
+    raise FileNotFoundError("there is no file VERSION in %s" % CHECKOUT)
+
+
 def table(name):
     """The entries of a table, in order."""
     whole = re.search(r"^\[%s\]\n((?:[^\[\n].*\n)*)" % re.escape(name), project(), re.M).group(1)
@@ -34,12 +49,13 @@ def table(name):
 
 def metadata():
     """What METADATA says of the package."""
-    lines = ["Metadata-Version: 2.1", "Name: " + field("name"), "Version: " + field("version"), "Summary: " + field("description"),
+    lines = ["Metadata-Version: 2.1", "Name: " + field("name"), "Version: " + version(), "Summary: " + field("description"),
              "Requires-Python: " + field("requires-python")]
     for extra, wanted in table("project.optional-dependencies"):
         lines.append("Provides-Extra: " + extra)
         lines += ['Requires-Dist: %s; extra == "%s"' % (one, extra) for one in re.findall(r'"(.*?)"', wanted)]
-    return "\n".join(lines) + "\n"
+    with open(os.path.join(HERE, field("readme")), encoding="utf-8") as page:
+        return "\n".join([*lines, "Description-Content-Type: text/markdown", "", page.read()])
 
 
 def entry_points():
@@ -60,28 +76,37 @@ def package_files():
     return found
 
 
-def installed_from():
-    """The module that names the checkout."""
-    return ('"""The checkout that this package was installed from."""\nCHECKOUT = %s\n' % ascii(CHECKOUT)).encode("ascii")
+def installed_from(checkout=CHECKOUT):
+    """The module that names the checkout, if there is one, and the version."""
+    text = '"""Where this package was installed from: a checkout, or a release (None); and its version."""\nCHECKOUT = %s\nVERSION = %s\n'
+    return (text % (ascii(checkout), ascii(version()))).encode("ascii")
 
 
 def information():
-    return "%s-%s.dist-info" % (field("name"), field("version"))
+    return "%s-%s.dist-info" % (field("name"), version())
 
 
-def write_wheel(folder, files):
-    """Writes a wheel of these files, and what every wheel has besides. Answers its name."""
-    name = "%s-%s-py3-none-any.whl" % (field("name"), field("version"))
-    own = {"METADATA": metadata(), "WHEEL": WHEEL, "entry_points.txt": entry_points()}
+def add(archive, path, content, mode):
+    """Writes an entry. A file that may be run is one where it is installed too."""
+    entry = zipfile.ZipInfo(path, NO_TIME)
+    entry.compress_type, entry.external_attr, entry.create_system = zipfile.ZIP_DEFLATED, mode << 16, 3
+    archive.writestr(entry, content)
+
+
+def write_wheel(folder, files, tag=ANYWHERE, programs=()):
+    """Writes a wheel of these files, and what every wheel has besides. programs: those of the files that may be run. Answers its name."""
+    name = "%s-%s-%s.whl" % (field("name"), version(), tag)
+    wheel = "Wheel-Version: 1.0\nGenerator: blossom\nRoot-Is-Purelib: %s\nTag: %s\n" % ("true" if tag == ANYWHERE else "false", tag)
+    own = {"METADATA": metadata(), "WHEEL": wheel, "entry_points.txt": entry_points()}
     files = {**files, **{information() + "/" + part: text.encode("utf-8") for part, text in own.items()}}
-    with zipfile.ZipFile(os.path.join(folder, name), "w", zipfile.ZIP_DEFLATED) as wheel:
+    with zipfile.ZipFile(os.path.join(folder, name), "w") as archive:
         record = []
         for path, content in files.items():
-            wheel.writestr(path, content)
+            add(archive, path, content, PROGRAM if path in programs else PLAIN)
             digest = base64.urlsafe_b64encode(hashlib.sha256(content).digest()).rstrip(b"=").decode("ascii")
             record.append("%s,sha256=%s,%d\n" % (path, digest, len(content)))
         record_path = information() + "/RECORD"
-        wheel.writestr(record_path, "".join(record) + record_path + ",,\n")
+        add(archive, record_path, "".join(record) + record_path + ",,\n", PLAIN)
     return name
 
 
@@ -97,10 +122,13 @@ def build_editable(wheel_directory, config_settings=None, metadata_directory=Non
 
 def build_sdist(sdist_directory, config_settings=None):
     """An archive of the sources."""
-    name = "%s-%s" % (field("name"), field("version"))
+    name = "%s-%s" % (field("name"), version())
     with tarfile.open(os.path.join(sdist_directory, name + ".tar.gz"), "w:gz", format=tarfile.PAX_FORMAT) as archive:
         for path in ["pyproject.toml", "README.md", "build_backend.py", *package_files()]:
             archive.add(os.path.join(HERE, path), name + "/" + path)
+        number = tarfile.TarInfo(name + "/VERSION")
+        number.size = len(version()) + 1
+        archive.addfile(number, io.BytesIO((version() + "\n").encode("ascii")))
     return name + ".tar.gz"
 
 

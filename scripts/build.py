@@ -1,56 +1,124 @@
 #!/usr/bin/env python3
-"""Builds a program of this repository: the crates that it stands on and no others, each proved first.
+"""Builds the program or the library for C: the crates that it stands on and no others, each proved
+first.
 
-Usage: build.py PROGRAM. The sources of these crates are copied to a folder of their own, without their must-fail edits, and `rt ci` is run
-there. It proves each crate once, as many side by side as there are processors, and makes the program. A crate is proved over the statements
-of those below it, as in the gate, which takes less than the time that it takes over their proofs. What `rt ci` has proved it keeps beside
-the kit, so that a build which was interrupted goes on where it was, and one after the gate has nothing left to prove.
+Usage: build.py program|library [--after-gate | --is-built] [--for PROCESS]
 
-Most crates wait for the search's, which stand on one another, one by one. Where `rt ci` can keep what it proves, a second run of it proves
-these alone, with the processors that it wants; the whole run begins once their first crate is there, takes from it what it proves, and
-proves the others beside it, behind it.
+Nothing is done where what stands there is of the present sources. Else the sources of these crates
+are copied to a folder of their own, without their must-fail edits, and `rt ci` is run there. It
+proves each crate once, as many side by side as there are processors, and makes the program. A crate
+is proved over the statements of those below it, as in the gate, which takes less than the time that
+it takes over their proofs. What `rt ci` has proved it keeps beside the kit, so that a build which
+was interrupted goes on where it was, and one after the gate, or after that of the other target, has
+little left to prove. The library is compiled, which proves its own crate, and linked over what that
+leaves.
 
-A line a crate goes to standard error, with its number and the time so far. The program and the logs are put into crates/PROGRAM/out. The
-status is 0, or that of the whole run, whose last lines are printed then."""
+Most crates wait for the search's, which stand on one another, one by one. Where `rt ci` can keep
+what it proves, a second run of it proves these alone, with the processors that it wants; the whole
+run begins once their first crate is there, takes from it what it proves, and proves the others
+beside it, behind it.
+
+--after-gate: `rt ci` has just passed here, and what it left in crates/*/out is taken. --is-built:
+builds nothing; the status is 0 where what stands there is of the present sources. --for: the
+process that wants this; where it has gone, the build ends.
+
+A line a crate goes to standard error, with its number and the time so far. The status is 0; that of
+the whole run, whose last lines are printed then; 69 where the kit isn't there; or 128 and the
+number of the signal that ended it. A build that is ended takes its proofs along and leaves nothing
+but what is kept."""
 import argparse
+import contextlib
+import ctypes
+import fcntl
+import glob
 import os
 import re
 import shutil
+import signal
 import subprocess
 import sys
 import tempfile
 import threading
 import time
 
-TOP = os.path.dirname(os.path.dirname(os.path.abspath(__file__)))
+import link_library
+from sources import TOP, crates_below
+from targets import TARGETS, look
+
 # What a crate is copied of: its sources, and what its program is run with.
 PARTS = ("src", "specs", "proofs", "args", "stdin", "stdout", "status")
 # How `rt ci` says that a crate is proved, now or by an earlier run.
 PROVED = re.compile(r"rt: (\w+) (?:proved$|is kept: )")
 # The highest crate of the search.
 ENGINE = "mwpm_engine"
+# The crate that is a static library, of which `rt ci` makes none.
+LIBRARY = "blossom_c"
 # How much the processors put the whole run behind the search's.
 BEHIND = 10
 LAST_LINES = 30
-# The status of a build that was interrupted.
-INTERRUPTED = 130
+# The seconds that runs have to end.
+PATIENCE = 30
+NO_KIT = 69
+WITHOUT_KIT = (
+    "%s: building it wants the kit (the command rt), which isn't in PATH; a release needs none: "
+    'README.md says under "Without the kit" which file to install and where it is'
+)
+SIGNALS = (signal.SIGINT, signal.SIGTERM, signal.SIGHUP)
+PROCESS = ctypes.CDLL(None)
+DIE_WITH_PARENT = 1
 
 
-def crates_below(top):
-    """The repository's crates that one stands on, and itself: the line of crates.txt of each."""
-    lines, below = {}, {}
-    with open(os.path.join(TOP, "crates.txt"), encoding="utf-8") as file:
-        for line in file:
-            name, colon, rest = line.split("#")[0].partition(":")
-            if colon:
-                lines[name.split()[0]], below[name.split()[0]] = line, rest.split()
-    wanted, left = {}, [top]
-    while left:
-        name = left.pop()
-        if name in lines and name not in wanted:
-            wanted[name] = lines[name]
-            left += below[name]
-    return wanted
+class Stopped(BaseException):
+    """A signal has told the build to end."""
+
+
+def on_signal(number, frame):
+    for each in SIGNALS:
+        signal.signal(each, signal.SIG_IGN)
+    raise Stopped(number)
+
+
+def die_with_parent():
+    """Has the system tell this process to end when the one that started it has ended, however that
+    was."""
+    PROCESS.prctl(DIE_WITH_PARENT, signal.SIGTERM, 0, 0, 0)
+
+
+class Runs:
+    """The processes of a build."""
+
+    def __init__(self):
+        self.all, self.ended, self.turn = [], False, threading.Lock()
+
+    def start(self, words, folder):
+        with self.turn:
+            if self.ended:
+                raise Stopped(signal.SIGTERM)
+            self.all.append(
+                subprocess.Popen(
+                    words,
+                    cwd=folder,
+                    stdin=subprocess.DEVNULL,
+                    stdout=subprocess.PIPE,
+                    stderr=subprocess.STDOUT,
+                    text=True,
+                    errors="replace",
+                    preexec_fn=die_with_parent,
+                )
+            )
+            return self.all[-1]
+
+    def end(self):
+        """Ends them, and starts no more. A `rt ci` that is interrupted waits for its proofs; one
+        that is told to end takes them along."""
+        with self.turn:
+            self.ended = True
+        for run in self.all:
+            run.terminate()
+        for run in self.all:
+            with contextlib.suppress(subprocess.TimeoutExpired):
+                run.wait(PATIENCE)
+            run.kill()
 
 
 def keeps():
@@ -61,15 +129,31 @@ def keeps():
     return bool(page) and os.access(kept if os.path.isdir(kept) else beside, os.W_OK)
 
 
+def proved_by_rt(target):
+    """The crates that `rt ci` proves for a target. The library's own is proved by the compiler that
+    makes its archive, which makes none of what isn't proved; `rt ci` would do it a second time."""
+    crates = crates_below(target.crate)
+    if target.crate == LIBRARY:
+        del crates[LIBRARY]
+    return crates
+
+
+def copy_sources(folder, crate):
+    """Copies the sources of a crate to its place in a folder."""
+    for part in PARTS:
+        source, target = (os.path.join(top, "crates", crate, part) for top in (TOP, folder))
+        if os.path.isdir(source):
+            shutil.copytree(source, target)
+        elif os.path.isfile(source):
+            shutil.copy(source, target)
+
+
 def lay_out(folder, crates):
-    """Makes the folder a repository of these crates."""
-    for name in crates:
-        for part in PARTS:
-            source, target = (os.path.join(top, "crates", name, part) for top in (TOP, folder))
-            if os.path.isdir(source):
-                shutil.copytree(source, target)
-            elif os.path.isfile(source):
-                shutil.copy(source, target)
+    """Makes the folder a repository of these crates; what `rt ci` sets aside it so puts there too,
+    and nothing is left of it where it is ended."""
+    os.mkdir(os.path.join(folder, ".git"))
+    for crate in crates:
+        copy_sources(folder, crate)
     with open(os.path.join(folder, "crates.txt"), "w", encoding="utf-8") as file:
         file.writelines(crates.values())
     shutil.copy(os.path.join(TOP, "HANDLES"), folder)
@@ -82,92 +166,193 @@ def minutes(seconds):
 class Progress:
     """Says each crate that is proved, once, with its number and the time so far."""
 
-    def __init__(self, program, crates):
-        self.program, self.crates, self.done, self.start, self.turn = program, crates, set(), time.monotonic(), threading.Lock()
-        self.begun, self.runs = threading.Event(), []
-
-    def end(self):
-        """Ends the runs. A `rt ci` that is interrupted waits for its proofs; one that is told to end takes them along."""
-        for run in self.runs:
-            run.terminate()
+    def __init__(self, name, crates):
+        self.name, self.crates, self.done = name, crates, set()
+        self.start, self.turn, self.begun = time.monotonic(), threading.Lock(), threading.Event()
 
     def read(self, line):
         """Takes note of what a line of `rt ci` says."""
         proved = PROVED.match(line)
+        if proved:
+            self.say(proved[1])
+
+    def say(self, crate):
+        """Says that a crate is proved."""
         with self.turn:
-            if proved and proved[1] in self.crates and proved[1] not in self.done:
-                self.done.add(proved[1])
-                print("%s: %d of %d: %s, %s" % (self.program, len(self.done), len(self.crates), proved[1], minutes(time.monotonic() - self.start)), file=sys.stderr)
-                self.begun.set()
+            if crate not in self.crates or crate in self.done:
+                return
+            self.done.add(crate)
+            told = (self.name, len(self.done), len(self.crates), crate)
+            took = minutes(time.monotonic() - self.start)
+            print("%s: %d of %d: %s, %s" % (*told, took), file=sys.stderr)
+            self.begun.set()
 
 
-def prove(crates, path, progress, behind=0, made=None):
-    """Proves crates in a folder of their own, and copies the program, if one is wanted, from there. Answers the status."""
-    folder = tempfile.mkdtemp(prefix="%s-build-" % progress.program)
-    try:
-        lay_out(folder, crates)
-        with open(path, "w", encoding="utf-8") as log:
-            process = subprocess.Popen(["nice", "-n", str(behind), "rt", "ci"], cwd=folder, stdin=subprocess.DEVNULL, stdout=subprocess.PIPE, stderr=subprocess.STDOUT,
-                                       text=True, errors="replace")
-            progress.runs.append(process)
-            for line in process.stdout:
-                log.write(line)
-                progress.read(line)
-        status = process.wait()
-        if made and not status:
-            shutil.copy(os.path.join(folder, made), os.path.join(TOP, made))
-        return status
-    except KeyboardInterrupt:
-        progress.end()
-        raise
-    finally:
-        shutil.rmtree(folder, ignore_errors=True)
+class Build:
+    """A build of a target: its runs, and what they say."""
 
+    def __init__(self, target):
+        self.target, self.crates, self.runs = target, crates_below(target.crate), Runs()
+        self.progress = Progress(target.crate, self.crates)
 
-def build(program, made):
-    """Proves the crates that the program stands on and makes it: the search's in a run of their own, where another one can use what it proves. Answers the status."""
-    crates = crates_below(program)
-    progress, logs, search = Progress(program, crates), os.path.join(TOP, os.path.dirname(made)), None
-    if ENGINE in crates and keeps():
+    def log(self, name):
+        return os.path.join(self.target.logs, name)
+
+    def prove(self, crates, log, behind=0, finish=None):
+        """Proves crates in a folder of their own; then `finish` takes what is wanted from there.
+        Answers the status."""
+        folder = tempfile.mkdtemp(prefix="%s-build-" % self.target.crate)
+        try:
+            lay_out(folder, crates)
+            with open(self.log(log), "w", encoding="utf-8") as file:
+                process = self.runs.start(["nice", "-n", str(behind), "rt", "ci"], folder)
+                for line in process.stdout:
+                    file.write(line)
+                    self.progress.read(line)
+            status = process.wait()
+            if finish and not status:
+                finish(folder)
+                self.progress.say(self.target.crate)
+            return status
+        finally:
+            shutil.rmtree(folder, ignore_errors=True)
+
+    def search(self):
+        """Proves the crates of the search, in a thread, and answers it once the first of them is
+        there; none where the whole run can't use what it proves."""
+        if ENGINE not in self.crates or not keeps():
+            return None
+
         def first():
             try:
-                prove(crates_below(ENGINE), os.path.join(logs, "search.log"), progress)
+                self.prove(crates_below(ENGINE), "search.log")
+            except Stopped:
+                pass
             finally:
-                progress.begun.set()
+                self.progress.begun.set()
 
-        search = threading.Thread(target=first)
-        search.start()
+        thread = threading.Thread(target=first)
+        thread.start()
+        return thread
+
+    def run(self, finish):
+        """All of it. Answers the status."""
+        search = None
         try:
-            progress.begun.wait()
-        except KeyboardInterrupt:
-            progress.end()
+            search = self.search()
+            if search:
+                self.progress.begun.wait()
+            crates = proved_by_rt(self.target)
+            return self.prove(crates, "build.log", BEHIND if search else 0, finish)
+        except BaseException:
+            self.runs.end()
             raise
-    status = prove(crates, os.path.join(logs, "build.log"), progress, BEHIND if search else 0, made)
-    if search:
-        search.join()
+        finally:
+            if search:
+                search.join()
+
+    def report(self, status):
+        with open(self.log("build.log"), encoding="utf-8", errors="replace") as log:
+            lines = log.read().splitlines()
+        print("\n".join(lines[-LAST_LINES:]), file=sys.stderr)
+        print(
+            "%s: the build failed with status %d; its whole log is %s"
+            % (self.target.crate, status, self.log("build.log")),
+            file=sys.stderr,
+        )
+
+
+def take(target, folder, sources):
+    """Takes what is wanted of a repository whose crates `rt ci` has just proved."""
+    if target.crate != LIBRARY:
+        target.put([os.path.join(folder, "crates", "blossom", "out", "blossom")], sources)
+        return
+    below = proved_by_rt(target)
+    if folder != TOP:
+        copy_sources(folder, target.crate)
+    with tempfile.TemporaryDirectory(prefix="%s-link-" % target.crate) as room:
+        shared, static = link_library.libraries(folder, below, room)
+        target.put([static, shared], sources)
+
+
+def left_by_gate(target):
+    """Whether `rt ci` has left here what the target is made of. Where other commands had left
+    libraries, which they stamp, it has put these back in place of its own."""
+    if target.crate != LIBRARY:
+        return os.path.exists(os.path.join(target.folder, "blossom"))
+    places = [os.path.join(TOP, "crates", name, "out", "rlib") for name in proved_by_rt(target)]
+    are_there = all(glob.glob(os.path.join(place, "*.rlib")) for place in places)
+    return are_there and not any(os.path.exists(os.path.join(place, "stamp")) for place in places)
+
+
+def build(target, after_gate, sources):
+    """Builds the target of these sources. Answers the status."""
+    if after_gate and left_by_gate(target):
+        take(target, TOP, sources)
+        return 0
+    if shutil.which("rt") is None:
+        print(WITHOUT_KIT % target.crate, file=sys.stderr)
+        return NO_KIT
+    print(
+        "%s: building; each crate is proved first, which takes some minutes"
+        " (README.md says how long)" % target.crate,
+        file=sys.stderr,
+    )
+    target.take_away()
+    building = Build(target)
+    try:
+        status = building.run(lambda folder: take(target, folder, sources))
+    except subprocess.CalledProcessError as told:
+        print("%s: %s" % (target.crate, told), file=sys.stderr)
+        return told.returncode
+    if status:
+        building.report(status)
     return status
 
 
-def report(program, path, status):
-    with open(path, encoding="utf-8", errors="replace") as log:
-        lines = log.read().splitlines()
-    print("\n".join(lines[-LAST_LINES:]), file=sys.stderr)
-    print("%s: the build failed with status %d; its whole log is %s" % (program, status, path), file=sys.stderr)
+@contextlib.contextmanager
+def in_turn(target):
+    """Lets one build of a target run at a time."""
+    os.makedirs(target.folder, exist_ok=True)
+    os.makedirs(target.logs, exist_ok=True)
+    with open(os.path.join(target.folder, "build.lock"), "w", encoding="ascii") as lock:
+        fcntl.flock(lock, fcntl.LOCK_EX)
+        yield
+
+
+def words():
+    parser = argparse.ArgumentParser(
+        description=__doc__, formatter_class=argparse.RawDescriptionHelpFormatter
+    )
+    parser.add_argument("target", choices=list(TARGETS))
+    how = parser.add_mutually_exclusive_group()
+    how.add_argument("--after-gate", action="store_true")
+    how.add_argument("--is-built", action="store_true")
+    parser.add_argument("--for", dest="parent", type=int)
+    return parser.parse_args()
 
 
 def main():
-    parser = argparse.ArgumentParser(description=__doc__)
-    parser.add_argument("program")
-    program = parser.parse_args().program
-    made = os.path.join("crates", program, "out", program)
-    os.makedirs(os.path.join(TOP, os.path.dirname(made)), exist_ok=True)
+    said = words()
+    target = TARGETS[said.target]
+    for number in SIGNALS:
+        signal.signal(number, on_signal)
     try:
-        status = build(program, made)
-    except KeyboardInterrupt:
-        return INTERRUPTED
-    if status:
-        report(program, os.path.join(TOP, os.path.dirname(made), "build.log"), status)
-    return status
+        if said.parent is not None:
+            die_with_parent()
+            if os.getppid() != said.parent:
+                return 128 + signal.SIGTERM
+        if said.is_built:
+            return 0 if target.is_built(target.sources()) else 1
+        with in_turn(target):
+            seen = look()
+            sources = target.sources()
+            status = 0 if target.is_built(sources) else build(target, said.after_gate, sources)
+            if not status:
+                target.note(seen)
+            return status
+    except Stopped as told:
+        return 128 + told.args[0]
 
 
 if __name__ == "__main__":

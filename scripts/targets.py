@@ -1,0 +1,81 @@
+"""What is built here: the program and the library for C; where they stand, and of which sources."""
+import contextlib
+import os
+import shutil
+import subprocess
+
+from sources import TOP, checksum_below
+
+# What lists the sources with their sizes and times, as ./blossom does.
+LOOK = "find crates.txt HANDLES crates ( -name out -o -name must-fail ) -prune -o -type f".split()
+LOOK += "( -name *.rt -o -name *.antt -o -name crates.txt -o -name HANDLES ) -printf".split()
+LOOK += ["%p %s %T@ %C@\\n"]
+
+
+def look():
+    """What the sources look like: their names, sizes and times."""
+    return subprocess.run(LOOK, cwd=TOP, stdout=subprocess.PIPE).stdout
+
+
+class Target:
+    """What is built: of which crate, which files it is, and where they stand. others: what it is
+    made by, beside the sources of crates."""
+
+    def __init__(self, crate, folder, names, others=()):
+        self.crate, self.names, self.others = crate, names, others
+        self.folder = os.path.join(TOP, folder)
+        self.stamp = os.path.join(self.folder, "blossom.sources")
+        self.noted = os.path.join(self.folder, "blossom.look")
+        self.logs = os.path.join(TOP, "crates", crate, "out")
+
+    def sources(self):
+        """The checksum of its sources."""
+        return checksum_below(self.crate, self.others)
+
+    def note(self, seen):
+        """Notes what the sources look like, where that can be noted: it spares a checksum."""
+        with contextlib.suppress(OSError), open(self.noted, "wb") as file:
+            file.write(seen)
+
+    def is_built(self, sources):
+        """Whether all of it stands there, and is of these sources."""
+        try:
+            with open(self.stamp, encoding="ascii") as file:
+                return file.read().strip() == sources and all(
+                    os.path.exists(os.path.join(self.folder, name)) for name in self.names
+                )
+        except OSError:
+            return False
+
+    def take_away(self):
+        """Takes all of it away, the stamp last."""
+        for path in [os.path.join(self.folder, name) for name in self.names]:
+            with contextlib.suppress(FileNotFoundError):
+                os.remove(path)
+        for path in (self.noted, self.stamp):
+            with contextlib.suppress(FileNotFoundError):
+                os.remove(path)
+
+    def put(self, made, sources):
+        """Puts files into their places: first what was there goes, then the stamp comes, then they
+        do. So whenever this ends, nothing stands there under a stamp of other sources."""
+        fresh = [os.path.join(self.folder, name + ".new") for name in self.names]
+        for source, path in zip(made, fresh):
+            shutil.copy(source, path)
+        with open(self.stamp + ".new", "w", encoding="ascii") as file:
+            file.write(sources + "\n")
+        self.take_away()
+        os.replace(self.stamp + ".new", self.stamp)
+        for path, name in zip(fresh, self.names):
+            os.replace(path, os.path.join(self.folder, name))
+
+
+TARGETS = {
+    "program": Target("blossom", "crates/blossom/out", ("blossom",)),
+    "library": Target(
+        "blossom_c",
+        "capi/out",
+        ("libblossom.a", "libblossom.so"),
+        ("scripts/build.py", "scripts/link_library.py", "scripts/sources.py", "scripts/targets.py"),
+    ),
+}
