@@ -1,15 +1,17 @@
-"""Exact matchings, factors, joins, tours and paths of undirected multigraphs, each answer with a certificate.
+"""Exact matchings, factors, joins, tours and paths of undirected multigraphs, each answer with a
+certificate.
 
     import blossom
     answer = blossom.perfect_matching([("a", "b", 1), ("b", "c", 4), ("c", "d", 1), ("d", "a", 4)])
     answer.edges, answer.weight, bool(answer.check())       # ([('a', 'b'), ('c', 'd')], 2, True)
 
-The work is done by the program `blossom`, whose answers are proved; this package turns graphs into what it reads and what it writes into the
-caller's names. docs/PYTHON.md has examples, and what is proved of which part.
-"""
+The work is done by the program `blossom`, whose answers are proved; this package turns graphs into
+what it reads and what it writes into the caller's names. docs/PYTHON.md has examples, and what is
+proved of which part. """
 from .answers import Answer, Verdict
 from .batch import solve_many
 from .certificates import Certificate, OddSet
+from .checkout import version
 from .decoder import Decoder
 from .drawing import draw
 from .dual_names import Copy, Gate, Port
@@ -24,7 +26,7 @@ from .process import Process
 from .solving import (b_matching, capacitated_b_matching, check, f_factor, max_weight_matching, perfect_matching, postman,
                       shortest_path, solve, t_join)
 
-__version__ = "1.0"
+__version__ = version()
 __all__ = [
     "Answer", "BlossomError", "Certificate", "Copy", "Decoder", "Gate", "GraphError", "Infeasible", "Instance", "KINDS", "Library",
     "LimitExceeded", "NoBest", "NonConservative", "OddSet", "Port", "Process", "ProgramFailed", "RoundedWeights", "Table", "TimeLimit",

@@ -1,29 +1,99 @@
-"""Many graphs at once, over any executor of `concurrent.futures`: threads, processes, or machines (as dask's `Client.get_executor()`)."""
+"""Many graphs at once, over any executor of `concurrent.futures`: threads, processes, or machines
+(as dask's `Client.get_executor()`)."""
 from __future__ import annotations
 
 import concurrent.futures
 import contextlib
 import functools
 import os
-from typing import Any, Callable, Dict, Iterable, Iterator, List, Optional, Tuple, Union
+from typing import (Any, Callable, Dict, Generator, Iterable, Iterator, List, Literal, Optional,
+                    Sequence, Tuple, Union, overload)
 
 from .answers import Answer, answer_of
 from .errors import BlossomError
-from .instances import Instance
+from .graphs import USUAL_CAPACITY, USUAL_WEIGHT, Graph, Node
+from .instances import Instance, Values
+from .kinds import Kind
+from .library import Library
 from .process import Running
-from .running import Runner, runner
+from .running import Runner, Via, runner
 from .solving import instance_of
+from .weights import Rounding, Scale
+from .wording import wanted
 
 Progress = Union[None, bool, Callable[[int, int], None]]
-Job = Tuple[str, str, bytes, Optional[float]]
+Errors = Literal["raise", "return"]
+#: What a run came to: its status and what it wrote, or an error of this package.
+Run = Union[Tuple[int, bytes], BlossomError]
+#: What runs came to, as they end, each with the place of its text.
+Ended = Generator[Tuple[int, Run], None, None]
+Future = concurrent.futures.Future
+#: A text of so few bytes is answered by the library before another thread has begun with it.
+SMALL = 2000
 
 
-def run_text(by: Runner, task: str, kind: str, text: bytes, timeout: Optional[float]) -> Tuple[int, bytes]:
+def run_text(by: Runner, task: str, kind: str, text: bytes,
+             timeout: Optional[float]) -> Tuple[int, bytes]:
     """One run, as it goes to an executor: only bytes, numbers and paths go there and come back."""
     return by.run(task, kind, text, timeout)
 
 
-def prepared(graph: Any, kind: str, how: Dict[str, Any], errors: str) -> Union[Instance, BlossomError]:
+def came_to(run: Callable[[], Tuple[int, bytes]]) -> Run:
+    """What a run came to."""
+    try:
+        return run()
+    except BlossomError as error:
+        return error
+
+
+def awaited(waiting: Dict[Future[Tuple[int, bytes]], int]) -> Ended:
+    """What runs came to, as they end, each with its place. What isn't begun when the caller wants
+    no more is cancelled."""
+    try:
+        for future in concurrent.futures.as_completed(waiting):
+            yield waiting[future], came_to(future.result)
+    finally:
+        for future in waiting:
+            future.cancel()
+
+
+@contextlib.contextmanager
+def threads(by: Runner, jobs: int) -> Iterator[Callable[..., Future[Tuple[int, bytes]]]]:
+    """What hands runs to threads of their own, if there are any; what runs when an error ends it is
+    stopped."""
+    running = Running()
+    workers = min(os.cpu_count() or 1, max(jobs, 1))
+    with concurrent.futures.ThreadPoolExecutor(workers) as own:
+        try:
+            yield lambda *job: own.submit(functools.partial(by.run, running=running), *job)
+        except BaseException:
+            running.stop()
+            raise
+
+
+def runs(by: Runner, task: str, kind: str, texts: Sequence[bytes], timeout: Optional[float] = None,
+         executor: Optional[concurrent.futures.Executor] = None) -> Ended:
+    """What a run on each of the texts came to, with the place of its text, as they end. Without an
+    executor a single run, and a small one by the library, are this thread's."""
+    if executor is not None:
+        yield from awaited({executor.submit(run_text, by, task, kind, text, timeout): place
+                            for place, text in enumerate(texts)})
+        return
+    apart = [place for place, text in enumerate(texts)
+             if not isinstance(by, Library) or len(text) > SMALL]
+    if len(apart) < 2:
+        for place, text in enumerate(texts):
+            yield place, came_to(functools.partial(by.run, task, kind, text, timeout))
+        return
+    with threads(by, len(apart)) as submit:
+        waiting = {submit(task, kind, texts[place], timeout): place for place in apart}
+        for place in sorted(set(range(len(texts))).difference(apart)):
+            yield place, came_to(functools.partial(by.run, task, kind, texts[place], timeout))
+        yield from awaited(waiting)
+
+
+def prepared(graph: Any, kind: Kind, how: Dict[str, Any],
+             errors: Errors) -> Union[Instance, BlossomError]:
     """The instance of a graph, or the error that making it is, where errors are to be returned."""
     try:
         return instance_of(graph, kind, {} if isinstance(graph, Instance) else how)
@@ -33,10 +103,13 @@ def prepared(graph: Any, kind: str, how: Dict[str, Any], errors: str) -> Union[I
         return error
 
 
-def outcome(instance: Instance, future: concurrent.futures.Future, errors: str) -> Union[Answer, BlossomError]:
+def outcome(instance: Instance, run: Run, by: Runner,
+            errors: Errors) -> Union[Answer, BlossomError]:
     """The answer that a run came to, or its error, where errors are to be returned."""
     try:
-        return answer_of(instance, *future.result())
+        if isinstance(run, BlossomError):
+            raise run
+        return answer_of(instance, *run, by)
     except BlossomError as error:
         if errors == "raise":
             raise
@@ -47,9 +120,7 @@ def outcome(instance: Instance, future: concurrent.futures.Future, errors: str) 
 def reporter(progress: Progress, total: int) -> Iterator[Callable[[int], None]]:
     """What is called with the number of graphs that are done."""
     if progress is True:
-        from tqdm import tqdm
-
-        with tqdm(total=total, unit="graph") as bar:
+        with wanted("tqdm", "bars of progress").tqdm(total=total, unit="graph") as bar:
             yield lambda done: bar.update(done - bar.n) and None
     elif callable(progress):
         call = progress
@@ -58,45 +129,55 @@ def reporter(progress: Progress, total: int) -> Iterator[Callable[[int], None]]:
         yield lambda done: None
 
 
-def solve_many(kind: str, graphs: Iterable[Any], *, executor: Optional[concurrent.futures.Executor] = None, progress: Progress = None,
-               errors: str = "raise", brief: bool = False, via: Any = "process", program: Optional[str] = None,
-               timeout: Optional[float] = None, **how: Any) -> List[Any]:
+@overload
+def solve_many(kind: Kind, graphs: Iterable[Union[Graph, Instance]], *,
+               errors: Literal["raise"] = "raise",
+               executor: Optional[concurrent.futures.Executor] = None, progress: Progress = None,
+               brief: bool = False, via: Via = "process", program: Optional[str] = None,
+               timeout: Optional[float] = None, nodes: Iterable[Node] = (),
+               weight: Optional[str] = USUAL_WEIGHT, capacity: Optional[str] = USUAL_CAPACITY,
+               values: Values = None, terminals: Optional[Iterable[Node]] = None,
+               source: Optional[Node] = None, target: Optional[Node] = None, scale: Scale = 1,
+               rounding: Rounding = None) -> List[Answer]: ...
+
+
+@overload
+def solve_many(kind: Kind, graphs: Iterable[Union[Graph, Instance]], *,
+               errors: Literal["return"],
+               executor: Optional[concurrent.futures.Executor] = None, progress: Progress = None,
+               brief: bool = False, via: Via = "process", program: Optional[str] = None,
+               timeout: Optional[float] = None, nodes: Iterable[Node] = (),
+               weight: Optional[str] = USUAL_WEIGHT, capacity: Optional[str] = USUAL_CAPACITY,
+               values: Values = None, terminals: Optional[Iterable[Node]] = None,
+               source: Optional[Node] = None, target: Optional[Node] = None, scale: Scale = 1,
+               rounding: Rounding = None) -> List[Union[Answer, BlossomError]]: ...
+
+
+def solve_many(kind: Kind, graphs: Iterable[Any], *, errors: Errors = "raise",
+               executor: Optional[concurrent.futures.Executor] = None, progress: Progress = None,
+               brief: bool = False, via: Via = "process", program: Optional[str] = None,
+               timeout: Optional[float] = None, **how: Any) -> Any:
     """The answers of many graphs for one kind, in their order.
 
-    graphs: each in any of the forms that `solve` takes; one that is an `Instance` already keeps its own words, for the others `how` stands.
-    executor: any executor of `concurrent.futures`; by default a thread for each processor, each of which waits for a process. Where it
-    uses other machines, the package and the program have to be there too. progress: True for a bar by tqdm, or a call of
-    (done, total). errors: "raise" ends at the first error, and what runs then is stopped (in another executor: not waited for);
-    "return" puts each error of this package in its answer's place. timeout: in seconds, for each graph. The rest is that of
-    `solve`."""
+    graphs: each in any of the forms that `solve` takes; one that is an `Instance` already keeps its
+    own words, for the others `how` stands. errors: "raise" ends at the first error, and what runs
+    then is stopped (in another executor, and by the library: waited for, or left); "return" puts
+    each error of this package in its answer's place. executor: any executor of
+    `concurrent.futures`; by default a thread for each processor, each of which waits for a process
+    or for a call of the library, but small calls of the library, and a single call, are made one by
+    one where they are asked for. Where it uses other machines, the package and the program have to
+    be there too. progress: True for a bar by tqdm, or a call of (done, total). timeout: in seconds,
+    for each graph. The rest is that of `solve`."""
     if errors not in ("raise", "return"):
         raise ValueError('errors is "raise" or "return", and not %r' % (errors,))
     by, task = runner(via, program), "brief" if brief else "solve"
     results: List[Any] = [prepared(graph, kind, how, errors) for graph in graphs]
-    jobs: Dict[int, Job] = {place: (task, kind, one.text, timeout) for place, one in enumerate(results) if isinstance(one, Instance)}
-    if executor is not None:
-        submit = executor.submit
-        return collected(results, jobs, lambda *job: submit(run_text, by, *job), errors, progress)
-    running = Running()
-    with concurrent.futures.ThreadPoolExecutor(os.cpu_count() or 1) as own:
-        try:
-            return collected(results, jobs, lambda *job: own.submit(functools.partial(by.run, running=running), *job), errors, progress)
-        except BaseException:
-            running.stop()
-            raise
-
-
-def collected(results: List[Any], jobs: Dict[int, Job], submit: Callable[..., concurrent.futures.Future], errors: str,
-              progress: Progress) -> List[Any]:
-    """The results, with the outcome of each job at its place. What isn't begun when an error ends it is cancelled."""
-    waiting = {submit(*job): place for place, job in jobs.items()}
-    try:
-        with reporter(progress, len(results)) as report:
-            for done, future in enumerate(concurrent.futures.as_completed(waiting), 1 + len(results) - len(jobs)):
-                place = waiting[future]
-                results[place] = outcome(results[place], future, errors)
-                report(done)
-        return results
-    finally:
-        for future in waiting:
-            future.cancel()
+    places = [place for place, one in enumerate(results) if isinstance(one, Instance)]
+    texts = [results[place].text for place in places]
+    ended = runs(by, task, kind, texts, timeout, executor)
+    with contextlib.closing(ended), reporter(progress, len(results)) as report:
+        for done, (number, run) in enumerate(ended, 1 + len(results) - len(places)):
+            place = places[number]
+            results[place] = outcome(results[place], run, by, errors)
+            report(done)
+    return results

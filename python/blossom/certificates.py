@@ -2,35 +2,47 @@
 from __future__ import annotations
 
 import os
-from dataclasses import dataclass
+from dataclasses import dataclass, field
 from fractions import Fraction
 from functools import cached_property
-from typing import IO, Any, Dict, List, NamedTuple, Optional, Tuple, Union
+from typing import (IO, TYPE_CHECKING, Any, Dict, List, Mapping, NamedTuple, Optional, Tuple, Union)
 
 from . import documents
 from .dual_names import dual_names
+from .graphs import EdgeName, Node
 from .instances import Instance
+from .weights import plain
+
+if TYPE_CHECKING:
+    from .answers import Verdict
+    from .drawing import Picture
+    from .running import Via
 
 Number = Union[int, Fraction]
 
 
 class OddSet(NamedTuple):
-    """An odd set of at least three vertices of the graph of the duals, with its dual in units of weight."""
+    """An odd set of at least three vertices of the graph of the duals, with its dual in units of
+    weight."""
 
     members: Tuple[Any, ...]
     dual: Number
 
 
-@dataclass(frozen=True)
+@dataclass(frozen=True, repr=False)
 class Certificate:
-    """What proves an answer, or that there is none. `text` is the document that `blossom check` judges behind `instance.text`.
+    """What proves an answer, or that there is none. `text` is the document that `blossom check`
+    judges behind `instance.text`; `by` is what ran the program, and runs it again for `check`.
 
-    The duals speak of a graph whose least perfect matchings are the best answers: the graph itself for `perfect`, and otherwise one
-    whose vertices have the names that `blossom.dual_names` explains. The weight of an edge there is never below the duals of its
-    two ends and of the odd sets that hold exactly one of them; so no perfect matching weighs less than all duals together."""
+    The duals speak of a graph whose least perfect matchings are the best answers: the graph itself
+    for `perfect`, and otherwise one whose vertices have the names that `blossom.dual_names`
+    explains. The weight of an edge there is never below the duals of its two ends and of the odd
+    sets that hold exactly one of them; so no perfect matching weighs less than all duals
+    together."""
 
     instance: Instance
     text: bytes
+    by: Any = field(default=None, compare=False)
 
     @cached_property
     def document(self) -> documents.Document:
@@ -38,7 +50,7 @@ class Certificate:
         return documents.read(self.text)
 
     @property
-    def status(self) -> str:
+    def status(self) -> documents.Status:
         """"optimal", "infeasible" or "nonconservative"."""
         return self.document.status
 
@@ -48,15 +60,16 @@ class Certificate:
         return dual_names(self.instance)
 
     def in_units(self, doubled: int) -> Number:
-        """A dual in the units of the caller's weights: documents have them doubled, and scaled as the weights."""
-        value = Fraction(doubled, 2) / self.instance.scale
-        return int(value) if value.denominator == 1 else value
+        """A dual in the units of the caller's weights: documents have them doubled, and scaled as
+        the weights."""
+        return plain(Fraction(doubled, 2) / self.instance.scale)
 
     @cached_property
     def duals(self) -> Dict[Any, Number]:
-        """The dual of each vertex of the graph of the duals, by name, in units of weight. Empty where nothing is optimal, or the
-        call was brief."""
-        return {self.names[number - 1]: self.in_units(dual) for number, dual in self.document.duals.items()}
+        """The dual of each vertex of the graph of the duals, by name, in units of weight. Empty
+        where nothing is optimal, or the call was brief."""
+        return {self.names[number - 1]: self.in_units(dual)
+                for number, dual in self.document.duals.items()}
 
     @cached_property
     def odd_sets(self) -> List[OddSet]:
@@ -71,61 +84,91 @@ class Certificate:
 
     @property
     def barrier(self) -> Optional[List[Any]]:
-        """The names of a barrier: without these vertices more components of odd size are left than it has members, so there is
-        no perfect matching. None where the document has none."""
+        """The names of a barrier: without these vertices more components of odd size are left than
+        it has members, so there is no perfect matching. None where the document has none."""
         members = self.document.barrier
         return None if members is None else [self.names[number - 1] for number in members]
 
     @property
-    def part(self) -> Optional[List[Any]]:
-        """The nodes of an odd part (joins, paths) or of a split part (tours). None where the document has none."""
-        members = self.document.odd_part if self.document.odd_part is not None else self.document.split_part
+    def part(self) -> Optional[List[Node]]:
+        """The nodes of an odd part (joins, paths) or of a split part (tours). None where the
+        document has none."""
+        odd, split = self.document.odd_part, self.document.split_part
+        members = odd if odd is not None else split
         return None if members is None else [self.instance.nodes[number - 1] for number in members]
 
     @property
-    def circuit(self) -> Optional[List[Tuple]]:
-        """A circuit of weight below 0, as edges (from, to) or (from, to, key) in their order. None where the document has none."""
+    def circuit(self) -> Optional[List[EdgeName]]:
+        """A circuit of weight below 0, as edges (from, to) or (from, to, key) in their order. None
+        where the document has none."""
         if self.status != "nonconservative" or self.document.walk is None:
             return None
         return walked(self.instance, *self.document.walk)
 
-    def check(self, **how: Any) -> Any:
-        """What the proved checker says of it: see `blossom.check`, which has the words that can be passed."""
+    def check(self, *, via: Optional[Via] = None, program: Optional[str] = None,
+              timeout: Optional[float] = None) -> Verdict:
+        """What the proved checker says of it: see `blossom.check`. Without `via` and `program` it
+        is run as the solver was."""
         from .solving import check
 
-        return check(self.instance, self.instance.kind, self, **how)
+        return check(self.instance, self.instance.kind, self, via=via, program=program,
+                     timeout=timeout)
 
     def __str__(self) -> str:
         return self.text.decode("ascii")
 
-    def write(self, file: Union[str, os.PathLike, IO], instance: bool = True) -> None:
-        """Writes it to a path, or to a file that is open for text or bytes: as an input of `blossom check KIND`, with comments that
-        say which name each number has; or, with `instance=False`, the document alone."""
+    def __repr__(self) -> str:
+        held = "%d duals, %d odd sets" % (len(self.document.duals), len(self.document.sets))
+        return "<certificate of %s: %s%s>" % (self.instance.kind, self.status,
+                                              ", " + held if self.status == "optimal" else "")
+
+    def write(self, file: Union[str, os.PathLike[str], IO[str], IO[bytes]],
+              instance: bool = True) -> None:
+        """Writes it to a path, or to a file that is open for text or bytes: as an input of
+        `blossom check KIND`, with comments that say which name each number has; or, with
+        `instance=False`, the document alone."""
         whole = (legend(self.instance) + self.instance.text if instance else b"") + self.text
-        if not hasattr(file, "write"):
+        if isinstance(file, (str, os.PathLike)):
             with open(file, "wb") as opened:
                 opened.write(whole)
-        elif hasattr(file, "encoding") or hasattr(file, "getvalue") and isinstance(file.getvalue(), str):
-            file.write(whole.decode("ascii"))
+            return
+        target: Any = file
+        if hasattr(target, "encoding") or isinstance(getattr(target, "getvalue", bytes)(), str):
+            target.write(whole.decode("ascii"))
         else:
-            file.write(whole)
+            target.write(whole)
 
-    def draw(self, *words: Any, **how: Any) -> Any:
-        """A picture of it: see `blossom.draw`."""
+    def draw(self, positions: Optional[Mapping[Any, Tuple[float, float]]] = None,
+             file: Union[None, str, os.PathLike[str], IO[bytes]] = None, *,
+             width: Optional[float] = None, height: Optional[float] = None,
+             labels: Union[None, bool, Mapping[Any, str]] = None, weights: Optional[bool] = None,
+             steps: Optional[bool] = None, duals: Optional[bool] = None,
+             odd_sets: Optional[bool] = None, dual_length: Optional[float] = None,
+             caption: bool = True, axes: Any = None) -> Picture:
+        """A picture of it: see `blossom.draw`, which says what the words are."""
         from .drawing import draw
 
-        return draw(self, *words, **how)
+        return draw(self, positions, file, width=width, height=height, labels=labels,
+                    weights=weights, steps=steps, duals=duals, odd_sets=odd_sets,
+                    dual_length=dual_length, caption=caption, axes=axes)
+
+
+#: Begins the comment that says which instance a file is of.
+CHECKSUM = b"c instance sha256 "
 
 
 def legend(instance: Instance) -> bytes:
-    """Comment lines that say which name each number has. A name takes one line, whatever it is."""
-    lines = ["c vertex %d is %s" % (number, ascii(node)) for number, node in enumerate(instance.nodes, 1)]
-    lines += ["c edge %d is %s" % (number, ascii(edge)) for number, edge in enumerate(instance.edges, 1)]
-    return "".join(" ".join(line.splitlines()) + "\n" for line in lines).encode("ascii")
+    """Comment lines: the instance's checksum, and which name each number has. A name takes one
+    line, whatever it is."""
+    lines = ["c vertex %d is %s" % pair for pair in enumerate(map(ascii, instance.nodes), 1)]
+    lines += ["c edge %d is %s" % pair for pair in enumerate(map(ascii, instance.edges), 1)]
+    comments = "".join(" ".join(line.splitlines()) + "\n" for line in lines).encode("ascii")
+    return CHECKSUM + instance.checksum.encode("ascii") + b"\n" + comments
 
 
-def walked(instance: Instance, start: int, edges: List[int]) -> List[Tuple]:
-    """The edges of a walk as (from, to) or (from, to, key), the way they are walked. The arguments are numbers from 1."""
+def walked(instance: Instance, start: int, edges: List[int]) -> List[EdgeName]:
+    """The edges of a walk as (from, to) or (from, to, key), the way they are walked. The arguments
+    are numbers from 1."""
     here, steps = instance.nodes[start - 1], []
     for number in edges:
         first, second = instance.ends[number - 1]

@@ -1,114 +1,187 @@
-"""A decoder for quantum error correcting codes whose errors each flip at most two detectors: a least set of errors for a syndrome.
+"""A decoder for quantum error correcting codes whose errors each flip at most two detectors: a
+least set of errors for a syndrome.
 
-Its calls are named and ordered as in PyMatching's `Matching`; docs/PYTHON.md says what differs. Nothing is rounded unless the
-caller says so, and `answer` gives the proof that no set of errors with this syndrome weighs less.
+Its calls are named and ordered as in PyMatching's `Matching`; docs/PYTHON.md says what differs.
+Nothing is rounded unless the caller says so, or gives probabilities in place of weights, and
+`answer` gives the proof that no set of errors with this syndrome weighs less.
 """
 from __future__ import annotations
 
+import concurrent.futures
+import contextlib
 import dataclasses
 from dataclasses import dataclass
 from fractions import Fraction
-from typing import AbstractSet, Any, Dict, FrozenSet, Iterable, List, Optional, Sequence, Set, Tuple, Union
+from itertools import compress
+from typing import (AbstractSet, Any, Dict, FrozenSet, Iterable, List, Literal, Optional, Sequence,
+                    Set, Tuple, Union)
 
-from .answers import Answer
-from .batch import solve_many
+from . import documents
+from .answers import Answer, answer_of
+from .batch import Run, runs
 from .certificates import Number
+from .decoder_input import (BOUNDARY, fault_ids_in, for_each, is_boundary, like, node_in, rows_of,
+                            weight_of_probability)
 from .decoding_graph import DecodingGraph, decoding_graph
-from .errors import GraphError, Infeasible, LimitExceeded
+from .errors import BlossomError, GraphError, LimitExceeded, WeightError
+from .graphs import NetworkxGraph
 from .instances import Instance, instance
 from .kinds import MOST_EDGES
-from .solving import solve
-from .weights import Scale, plain, scale_of, whole
+from .running import Via, runner
+from .weights import Rounding, Scale, plain, scale_of, whole
 
-Syndrome = Union[Sequence[int], AbstractSet[int]]
+Syndrome = Union[Sequence[int], AbstractSet[int], Any]
 FaultIds = Union[None, int, Iterable[int]]
+Merge = Literal["disallow", "smallest-weight", "keep-original", "replace"]
 MERGES = ("disallow", "smallest-weight", "keep-original", "replace")
-BOUNDARY = -1
 
 
 @dataclass(frozen=True)
 class DecoderEdge:
-    """An error: the two nodes whose detectors it flips (-1: the boundary), its weight, and the observables that it flips."""
+    """An error: the two nodes whose detectors it flips (-1: the boundary), its weight, and the
+    observables that it flips. error_probability: where the weight is made of it."""
 
     node1: int
     node2: int
     weight: Any
     fault_ids: FrozenSet[int]
+    error_probability: Optional[float] = None
 
 
 class Decoder:
-    """Least-weight decoding on a graph whose nodes are detectors, numbered from 0, and whose edges are errors.
+    """Least-weight decoding on a graph whose nodes are detectors, numbered from 0, and whose edges
+    are errors.
 
-    scale, rounding: as for `solve`; weights that aren't whole are refused unless these say what to do (`scale="finest"`). via, program,
-    timeout: as for `solve`, for each call; `via="library"` saves the start of a process each time."""
+    graph: a check matrix, as for `from_check_matrix`, or a networkx graph, as for `from_networkx`;
+    without it the decoder has no edges yet. weights, error_probabilities, faults_matrix,
+    merge_strategy: as for `from_check_matrix`, for a matrix alone. scale, rounding: as for `solve`;
+    weights that aren't whole are refused unless these say what to do. Without `scale`, weights are
+    taken as they are, but where errors have probabilities `scale="finest"` stands; the property
+    `scale` says which number that is. via, program, timeout: as for `solve`, for each call;
+    `via="library"` saves the start of a process each time."""
 
-    def __init__(self, *, scale: Scale = 1, rounding: Optional[str] = None, via: Any = "process", program: Optional[str] = None,
-                 timeout: Optional[float] = None):
+    def __init__(self, graph: Any = None, weights: Any = None, error_probabilities: Any = None, *,
+                 faults_matrix: Any = None, merge_strategy: Merge = "smallest-weight",
+                 scale: Optional[Scale] = None, rounding: Rounding = None, via: Via = "process",
+                 program: Optional[str] = None, timeout: Optional[float] = None):
         self._edges: List[DecoderEdge] = []
         self._place: Dict[FrozenSet[int], int] = {}
         self._boundary: Set[int] = set()
         self._faults = 0
         self._nodes = 0
         self._scale, self._rounding = scale, rounding
-        self._how = {"via": via, "program": program, "timeout": timeout}
+        self._by, self._timeout = runner(via, program), timeout
         self._plan: Optional[_Plan] = None
+        for_matrices = (weights, error_probabilities, faults_matrix)
+        if hasattr(graph, "is_directed") or graph is None:
+            if any(one is not None for one in for_matrices):
+                raise GraphError("weights, error_probabilities and faults_matrix are those of a"
+                                 " check matrix")
+            if graph is not None:
+                self._take_networkx(graph)
+        else:
+            self._take_matrix(graph, weights, error_probabilities, faults_matrix, merge_strategy)
 
     @classmethod
-    def from_edges(cls, edges: Iterable[Sequence[Any]], *, boundary: Iterable[int] = (), **how: Any) -> "Decoder":
-        """A decoder of the edges (node1, node2), (node1, node2, weight) or (node1, node2, weight, fault_ids); None or -1 in place of a
-        node is the boundary. `boundary` names nodes that belong to it besides; `how` is that of the constructor."""
-        decoder = cls(**how)
-        for node1, node2, *rest in edges:
+    def from_edges(cls, edges: Iterable[Sequence[Any]], *, boundary: Iterable[int] = (),
+                   scale: Optional[Scale] = None, rounding: Rounding = None, via: Via = "process",
+                   program: Optional[str] = None, timeout: Optional[float] = None) -> Decoder:
+        """A decoder of the edges (node1, node2), (node1, node2, weight) or (node1, node2, weight,
+        fault_ids); None or -1 in place of a node is the boundary. `boundary` names nodes that
+        belong to it besides; the other words are those of the constructor."""
+        decoder = cls(scale=scale, rounding=rounding, via=via, program=program, timeout=timeout)
+        for edge in edges:
+            if not 2 <= len(edge) <= 4:
+                raise GraphError("an edge is (node1, node2), (node1, node2, weight) or (node1,"
+                                 " node2, weight, fault_ids), and not %r" % (tuple(edge),))
+            node1, node2, *rest = edge
             fault_ids = rest[1] if len(rest) > 1 else None
-            decoder._add(node1, node2, fault_ids, rest[0] if rest else 1, "disallow")
+            decoder._add(node1, node2, fault_ids, rest[0] if rest else 1, None, "disallow")
         decoder.set_boundary_nodes(boundary)
         return decoder
 
     @classmethod
-    def from_check_matrix(cls, check_matrix: Any, weights: Any = None, *, faults_matrix: Any = None,
-                          merge_strategy: str = "smallest-weight", **how: Any) -> "Decoder":
-        """A decoder of a matrix of 0 and 1 (lists, numpy, scipy) with a row for each detector and a column for each error, of which one or
-        two entries are 1; an error with one flips it and the boundary. weights: a number, or one for each column; 1 each without
-        them. faults_matrix: a row for each observable and a column for each error; without it each error is an observable of its own.
-        ValueError: a column has no or more than two entries."""
-        decoder, rows = cls(**how), _rows(check_matrix)
+    def from_check_matrix(cls, check_matrix: Any, weights: Any = None,
+                          error_probabilities: Any = None, *, faults_matrix: Any = None,
+                          merge_strategy: Merge = "smallest-weight", scale: Optional[Scale] = None,
+                          rounding: Rounding = None, via: Via = "process",
+                          program: Optional[str] = None,
+                          timeout: Optional[float] = None) -> Decoder:
+        """A decoder of a matrix of 0 and 1 (lists, numpy, scipy) with a row for each detector and a
+        column for each error, of which one or two entries are 1; an error with one flips it and the
+        boundary. weights: a number, or one for each column; 1 each without them.
+        error_probabilities: a probability, or one for each column, in place of weights (see
+        `add_edge`). faults_matrix: a row for each observable and a column for each error; without
+        it each error is an observable of its own. ValueError: a column has no or more than two
+        entries."""
+        return cls(check_matrix, weights, error_probabilities, faults_matrix=faults_matrix,
+                   merge_strategy=merge_strategy, scale=scale, rounding=rounding, via=via,
+                   program=program, timeout=timeout)
+
+    @classmethod
+    def from_networkx(cls, graph: NetworkxGraph, *, scale: Optional[Scale] = None,
+                      rounding: Rounding = None, via: Via = "process",
+                      program: Optional[str] = None, timeout: Optional[float] = None) -> Decoder:
+        """A decoder of a networkx graph with nodes 0, 1, 2 and so on; edges have `weight` or
+        `error_probability`, and `fault_ids`, and nodes of the boundary have `is_boundary`, all of
+        which can be missing."""
+        return cls(graph, scale=scale, rounding=rounding, via=via, program=program,
+                   timeout=timeout)
+
+    def _take_networkx(self, graph: Any) -> None:
+        """Adds the edges of a graph of networkx."""
+        for node1, node2, attributes in graph.edges(data=True):
+            self._add(node1, node2, attributes.get("fault_ids"), attributes.get("weight"),
+                      attributes.get("error_probability"), "disallow")
+        last = max((node_in(node) for node in graph.nodes), default=-1)
+        self._nodes = max(self._nodes, 1 + last)
+        self.set_boundary_nodes([node for node, attributes in graph.nodes(data=True)
+                                 if attributes.get("is_boundary")])
+
+    def _take_matrix(self, check_matrix: Any, weights: Any, error_probabilities: Any,
+                     faults_matrix: Any, merge_strategy: Merge) -> None:
+        """Adds the errors of a check matrix."""
+        rows = rows_of(check_matrix)
         columns = list(zip(*rows))
-        weights = [1 if weights is None else weights] * len(columns) if not hasattr(weights, "__len__") else list(weights)
-        faults = None if faults_matrix is None else list(zip(*_rows(faults_matrix)))
-        decoder._nodes = len(rows)
-        decoder.ensure_num_fault_ids(len(columns) if faults_matrix is None else len(_rows(faults_matrix)))
+        weight_of = for_each(weights, len(columns), "weights")
+        chance_of = for_each(error_probabilities, len(columns), "error_probabilities")
+        faults = None if faults_matrix is None else list(zip(*rows_of(faults_matrix)))
+        if faults is not None and len(faults) != len(columns):
+            raise GraphError("the faults matrix has %d columns, and the check matrix %d"
+                             % (len(faults), len(columns)))
+        self._nodes = len(rows)
+        self.ensure_num_fault_ids(len(columns) if faults is None else len(rows_of(faults_matrix)))
         for error, column in enumerate(columns):
             flipped = [detector for detector, entry in enumerate(column) if entry]
             if not 1 <= len(flipped) <= 2:
-                raise GraphError("column %d has %d entries that aren't 0: an error flips one detector or two" % (error, len(flipped)))
-            fault_ids = {error} if faults is None else {fault for fault, entry in enumerate(faults[error]) if entry}
-            decoder._add(flipped[0], (flipped + [BOUNDARY])[1], fault_ids, weights[error], merge_strategy)
-        return decoder
+                raise GraphError("column %d has %d entries that aren't 0: an error flips one"
+                                 " detector or two" % (error, len(flipped)))
+            flips = {error} if faults is None else {fault for fault, entry
+                                                    in enumerate(faults[error]) if entry}
+            self._add(flipped[0], (flipped + [BOUNDARY])[1], flips, weight_of[error],
+                      chance_of[error], merge_strategy)
 
-    @classmethod
-    def from_networkx(cls, graph: Any, **how: Any) -> "Decoder":
-        """A decoder of a networkx graph with nodes 0, 1, 2 and so on; edges have `weight` and `fault_ids`, and nodes of the boundary have
-        `is_boundary`, all of which can be missing."""
-        decoder = cls(**how)
-        for node1, node2, attributes in graph.edges(data=True):
-            decoder._add(node1, node2, attributes.get("fault_ids"), attributes.get("weight", 1), "disallow")
-        decoder._nodes = max(decoder._nodes, 1 + max((_node(node) for node in graph.nodes), default=-1))
-        decoder.set_boundary_nodes([node for node, attributes in graph.nodes(data=True) if attributes.get("is_boundary")])
-        return decoder
+    def add_edge(self, node1: int, node2: int, fault_ids: FaultIds = None, weight: Any = None,
+                 error_probability: Optional[float] = None, *,
+                 merge_strategy: Merge = "disallow") -> None:
+        """Adds an error that flips the detectors of two nodes. fault_ids: the observable that it
+        flips, or several. weight: any number, below 0 too; 1 without it. error_probability: in
+        place of a weight, how likely the error is, between 0 and 1: its weight is the logarithm of
+        (1 - p) / p then, so that a least set of errors is a likeliest one.
+        merge_strategy: where the two nodes have an edge already, "disallow" refuses this one,
+        "replace" takes it in place of that, "keep-original" leaves it out, and "smallest-weight"
+        takes the lighter."""
+        self._add(node1, node2, fault_ids, weight, error_probability, merge_strategy)
 
-    def add_edge(self, node1: int, node2: int, fault_ids: FaultIds = None, weight: Any = 1, *, merge_strategy: str = "disallow") -> None:
-        """Adds an error that flips the detectors of two nodes. fault_ids: the observable that it flips, or several. weight: any
-        number, below 0 too. merge_strategy: where the two nodes have an edge already, "disallow" refuses this one, "replace" takes it
-        in place of that, "keep-original" leaves it out, and "smallest-weight" takes the lighter."""
-        self._add(node1, node2, fault_ids, weight, merge_strategy)
-
-    def add_boundary_edge(self, node: int, fault_ids: FaultIds = None, weight: Any = 1, *, merge_strategy: str = "disallow") -> None:
+    def add_boundary_edge(self, node: int, fault_ids: FaultIds = None, weight: Any = None,
+                          error_probability: Optional[float] = None, *,
+                          merge_strategy: Merge = "disallow") -> None:
         """Adds an error that flips the detector of one node alone; otherwise as `add_edge`."""
-        self._add(node, BOUNDARY, fault_ids, weight, merge_strategy)
+        self._add(node, BOUNDARY, fault_ids, weight, error_probability, merge_strategy)
 
     def set_boundary_nodes(self, nodes: Iterable[int]) -> None:
         """Makes these the nodes that are no detectors but belong to the boundary."""
-        self._boundary = {_node(node) for node in nodes}
+        self._boundary = {node_in(node) for node in nodes}
         self._nodes = max([self._nodes, *[node + 1 for node in self._boundary]])
         self._plan = None
 
@@ -141,103 +214,167 @@ class Decoder:
         """The nodes that belong to the boundary."""
         return set(self._boundary)
 
+    @property
+    def scale(self) -> Number:
+        """What weights are multiplied by before they are rounded, if at all: a weight of an answer
+        is so exact."""
+        return plain(self._planned().base.scale)
+
     def edges(self) -> List[Tuple[int, Optional[int], Dict[str, Any]]]:
-        """The edges as (node1, node2, {"fault_ids", "weight"}); node2 is None at the boundary."""
-        return [(edge.node1, None if edge.node2 == BOUNDARY else edge.node2, {"fault_ids": set(edge.fault_ids), "weight": edge.weight})
-                for edge in self._edges]
+        """The edges as (node1, node2, {"fault_ids", "weight", "error_probability"}); node2 is None
+        at the boundary, and the probability is None where there is none."""
+        return [(edge.node1, None if edge.node2 == BOUNDARY else edge.node2,
+                 {"fault_ids": set(edge.fault_ids), "weight": edge.weight,
+                  "error_probability": edge.error_probability}) for edge in self._edges]
+
+    def __repr__(self) -> str:
+        return "<decoder of %d detectors, %d boundary nodes, %d edges, %d observables>" % (
+            self.num_detectors, len(self._boundary), self.num_edges, self.num_fault_ids)
 
     def decode(self, syndrome: Syndrome, *, return_weight: bool = False) -> Any:
-        """The observables that a least set of errors with this syndrome flips: a list of 0 and 1, as long as `num_fault_ids`.
+        """The observables that a least set of errors with this syndrome flips: a list of 0 and 1,
+        as long as `num_fault_ids`.
 
-        syndrome: 0 or 1 for each node, or for each detector where the boundary's nodes come last, or a set of the detectors that fired. A
-        numpy array is answered by a numpy array (uint8). return_weight: the answer is a pair of that and the weight.
-        Infeasible (a ValueError): no set of errors has this syndrome. The other errors are those of `solve`."""
-        used = self._used(self._answers([self.instance(syndrome)], None, brief=True)[0])
-        prediction = _like(syndrome, self._prediction(used), "uint8")
+        syndrome: 0 or 1 for each node, or for each detector where the boundary's nodes come last,
+        or a set of the detectors that fired. A numpy array is answered by a numpy array (uint8).
+        return_weight: the answer is a pair of that and the weight.
+        Infeasible (a ValueError): no set of errors has this syndrome. The other errors are those of
+        `solve`."""
+        used = self._used_for(syndrome)
+        prediction = like(syndrome, self._prediction(used), "uint8")
         return (prediction, self._weight(used)) if return_weight else prediction
 
-    def decode_batch(self, shots: Sequence[Syndrome], *, return_weights: bool = False, executor: Any = None) -> Any:
-        """`decode` for each of the syndromes, many at a time (`executor` as for `solve_many`): a list of predictions, or for a numpy
-        array of shape (shots, detectors) one of shape (shots, observables); with `return_weights` a pair of that and the weights."""
-        answers = self._answers([self.instance(shot) for shot in shots], executor, brief=True)
-        used = [self._used(answer) for answer in answers]
-        predictions = _like(shots, [self._prediction(edges) for edges in used], "uint8", (len(used), self._faults))
+    def decode_batch(self, shots: Sequence[Syndrome], *, return_weights: bool = False,
+                     executor: Optional[concurrent.futures.Executor] = None) -> Any:
+        """`decode` for each of the syndromes, many at a time (`executor` as for `solve_many`): a
+        list of predictions, or for a numpy array of shape (shots, detectors) one of shape (shots,
+        observables); with `return_weights` a pair of that and the weights."""
+        fired = [self._fired(shot) for shot in shots]
+        used: List[List[int]] = [[]] * len(fired)
+        texts = [self._text(one) for one in fired]
+        ended = runs(self._by, "brief", "tjoin", texts, self._timeout, executor)
+        with contextlib.closing(ended):
+            for place, run in ended:
+                used[place] = self._used(fired[place], run)
+        predictions = like(shots, [self._prediction(edges) for edges in used], "uint8",
+                            (len(used), self._faults))
         if not return_weights:
             return predictions
-        return predictions, _like(shots, [self._weight(edges) for edges in used], "float64")
+        return predictions, like(shots, [self._weight(edges) for edges in used], "float64")
 
     def decode_to_edges_array(self, syndrome: Syndrome) -> Any:
-        """The edges of a least set of errors, as pairs of nodes, of which -1 is the boundary: a list, or a numpy array of shape (edges, 2)
-        for a syndrome that is one."""
-        used = self._used(self._answers([self.instance(syndrome)], None, brief=True)[0])
+        """The edges of a least set of errors, as pairs of nodes, of which -1 is the boundary: a
+        list, or a numpy array of shape (edges, 2) for a syndrome that is one."""
+        used = self._used_for(syndrome)
         pairs = [(self._edges[edge].node1, self._edges[edge].node2) for edge in used]
-        return _like(syndrome, pairs, "int64", (len(pairs), 2))
+        return like(syndrome, pairs, "int64", (len(pairs), 2))
 
     def answer(self, syndrome: Syndrome) -> Answer:
-        """The join that `decode` reads its prediction from, with its certificate. Its nodes are those of the decoder, and from `num_nodes` on
-        those that stand for the boundary; its edges are in the order of `add_edge`, with edges of weight 0 among them that join
-        nodes of the boundary."""
-        return self._answers([self.instance(syndrome)], None, brief=False)[0]
+        """The join that `decode` reads its prediction from, with its certificate. Its nodes are
+        those of the decoder, and from `num_nodes` on those that stand for the boundary; its edges
+        are in the order of `add_edge`, with edges of weight 0 among them that join nodes of the
+        boundary."""
+        of = self.instance(syndrome)
+        return answer_of(of, *self._by.run("solve", of.kind, of.text, self._timeout), self._by)
 
     def instance(self, syndrome: Syndrome) -> Instance:
-        """The instance of `tjoin` for a syndrome. All but its terminals is made once. ValueError: the syndrome has a wrong length."""
-        plan = self._planned()
-        terminals = plan.graph.terminals(self._fired(syndrome))
-        values = [0] * plan.graph.nodes
-        for node in terminals:
-            values[node] = 1
-        lines = "".join("n %d 1\n" % (node + 1) for node in sorted(terminals))
-        return dataclasses.replace(plan.base, values=values, text=plan.base.text + lines.encode("ascii"))
+        """The instance of `tjoin` for a syndrome. All but its terminals is made once. ValueError:
+        the syndrome has a wrong length."""
+        return self._instance(self._fired(syndrome))
 
-    def _add(self, node1: Any, node2: Any, fault_ids: FaultIds, weight: Any, merge_strategy: str) -> None:
+    def _add(self, node1: Any, node2: Any, fault_ids: FaultIds, weight: Any,
+             error_probability: Any, merge_strategy: str) -> None:
         if merge_strategy not in MERGES:
-            raise ValueError("merge_strategy is one of %s, and not %r" % (", ".join(MERGES), merge_strategy))
-        nodes = sorted((BOUNDARY if node in (None, BOUNDARY) else _node(node) for node in (node1, node2)), reverse=True)
+            raise ValueError("merge_strategy is one of %s, and not %r"
+                             % (", ".join(MERGES), merge_strategy))
+        if weight is not None and error_probability is not None:
+            raise WeightError("an error has a weight or an error_probability, and not both")
+        nodes = [BOUNDARY if node is None or is_boundary(node) else node_in(node)
+                 for node in (node1, node2)]
         if nodes[0] == nodes[1]:
             raise GraphError("an edge joins two nodes, and not %r to %r" % (node1, node2))
-        edge = DecoderEdge(nodes[0], nodes[1], weight, _fault_ids(fault_ids)) if nodes[1] == BOUNDARY else DecoderEdge(
-            _node(node1), _node(node2), weight, _fault_ids(fault_ids))
-        place = self._place.setdefault(frozenset(nodes), len(self._edges))
-        if place == len(self._edges):
-            self._edges.append(edge)
-        elif merge_strategy == "disallow":
-            raise ValueError("nodes %r and %r have an edge already: say what to do by merge_strategy=" % (node1, node2))
-        elif merge_strategy == "replace" or merge_strategy == "smallest-weight" and weight < self._edges[place].weight:
-            self._edges[place] = edge
-        self._nodes = max(self._nodes, nodes[0] + 1)
+        if nodes[0] == BOUNDARY:
+            nodes.reverse()
+        if error_probability is not None:
+            weight = weight_of_probability(error_probability)
+        edge = DecoderEdge(nodes[0], nodes[1], 1 if weight is None else weight,
+                           fault_ids_in(fault_ids), error_probability)
+        self._merge(edge, merge_strategy)
+        self._nodes = max(self._nodes, *[node + 1 for node in nodes])
         self._faults = max([self._faults, *[fault + 1 for fault in edge.fault_ids]])
         self._plan = None
 
-    def _planned(self) -> "_Plan":
+    def _merge(self, edge: DecoderEdge, merge_strategy: str) -> None:
+        """Takes an edge in, unless that of the same nodes stays. ValueError: there is one, and
+        that isn't allowed."""
+        place = self._place.setdefault(frozenset((edge.node1, edge.node2)), len(self._edges))
+        if place == len(self._edges):
+            self._edges.append(edge)
+        elif merge_strategy == "disallow":
+            raise ValueError("nodes %r and %r have an edge already: say what to do by"
+                             " merge_strategy=" % (edge.node1, edge.node2))
+        elif merge_strategy == "replace" or (merge_strategy == "smallest-weight"
+                                             and edge.weight < self._edges[place].weight):
+            self._edges[place] = edge
+
+    def _planned(self) -> _Plan:
         if self._plan is None:
-            self._plan = _plan(self._nodes, self._edges, self._boundary, self._scale, self._rounding)
+            likely = any(edge.error_probability is not None for edge in self._edges)
+            scale = self._scale if self._scale is not None else "finest" if likely else 1
+            self._plan = _plan(self._nodes, self._edges, self._boundary, scale, self._rounding)
         return self._plan
 
     def _fired(self, syndrome: Syndrome) -> Set[int]:
+        """The detectors that fired. ValueError: the syndrome isn't one of this graph."""
         if isinstance(syndrome, (set, frozenset)):
-            fired = {_node(node) for node in syndrome}
-            length = 1 + max(fired, default=-1)
-        else:
-            entries = syndrome.tolist() if hasattr(syndrome, "tolist") else list(syndrome)
-            fired, length = {node for node, entry in enumerate(entries) if entry}, len(entries)
-            detectors = 1 + max((node for node in range(self._nodes) if node not in self._boundary), default=-1)
-            if length not in (self._nodes, detectors) or any(entry not in (0, 1) for entry in entries):
-                raise ValueError("a syndrome is %d times 0 or 1 here, and not %d entries such as %r" % (self._nodes, length, entries[:9]))
-        if length > self._nodes:
-            raise ValueError("detector %d isn't in the graph, which has %d nodes" % (length - 1, self._nodes))
+            fired = {node_in(node) for node in syndrome}
+            if fired and max(fired) >= self._nodes:
+                raise ValueError("detector %d isn't in the graph, which has %d nodes"
+                                 % (max(fired), self._nodes))
+            return fired - self._boundary
+        entries = syndrome.tolist() if hasattr(syndrome, "tolist") else list(syndrome)
+        fired = set(compress(range(len(entries)), entries))
+        if (len(entries) not in self._planned().lengths
+                or entries.count(0) + entries.count(1) != len(entries)):
+            raise ValueError("a syndrome is %d times 0 or 1 here, and not %d entries such as %r"
+                             % (self._nodes, len(entries), entries[:9]))
         return fired - self._boundary
 
-    def _answers(self, instances: List[Instance], executor: Any, brief: bool) -> List[Answer]:
-        try:
-            return solve_many("tjoin", instances, executor=executor, brief=brief, **self._how)
-        except Infeasible as told:
-            if told.part is None:  # a brief run doesn't say which part of the graph it is, and a full one does
-                solve(told.certificate.instance, "tjoin", **self._how)
-            raise
+    def _text(self, fired: Set[int]) -> bytes:
+        """What the program reads for these detectors."""
+        plan = self._planned()
+        lines = "".join(map("n %d 1\n".__mod__, sorted(plan.graph.terminals(fired, 1))))
+        return plan.base.text + lines.encode("ascii")
 
-    def _used(self, answer: Answer) -> List[int]:
+    def _instance(self, fired: Set[int]) -> Instance:
+        """The instance for these detectors."""
+        plan = self._planned()
+        values = [0] * plan.graph.nodes
+        for number in plan.graph.terminals(fired, 1):
+            values[number - 1] = 1
+        return dataclasses.replace(plan.base, values=values, text=self._text(fired))
+
+    def _used_for(self, syndrome: Syndrome) -> List[int]:
+        """The edges of a least set of errors."""
+        fired = self._fired(syndrome)
+        run = self._by.run("brief", "tjoin", self._text(fired), self._timeout)
+        return self._used(fired, run)
+
+    def _used(self, fired: Set[int], run: Run) -> List[int]:
+        """The edges that a brief run used. What the run came to besides is raised, with the part
+        of the graph that shows that there is no answer, which a brief run doesn't say."""
+        if isinstance(run, BlossomError):
+            raise run
+        status, output = run
+        if status != 0 or not output.startswith(b"s OPTIMAL tjoin "):
+            of = self._instance(fired)
+            if status == 0:
+                status, output = self._by.run("solve", of.kind, of.text, self._timeout)
+            answer_of(of, status, output, self._by)
         graph = self._planned().graph
-        return sorted([graph.origins[index] for index in answer.indices if graph.origins[index] >= 0] + graph.always)
+        places = [number - 1 for number in documents.read(output).counts]
+        return sorted([graph.origins[place] for place in places if graph.origins[place] >= 0]
+                      + graph.always)
 
     def _prediction(self, used: List[int]) -> List[int]:
         flipped = [0] * self._faults
@@ -252,47 +389,26 @@ class Decoder:
 
 @dataclass
 class _Plan:
-    """What is made once for all syndromes. weights: of the decoder's edges, as whole numbers. base: the instance without terminals."""
+    """What is made once for all syndromes. weights: of the decoder's edges, as whole numbers. base:
+    the instance without terminals. lengths: those that a syndrome can have."""
 
     graph: DecodingGraph
     weights: List[int]
     base: Instance
+    lengths: Tuple[int, int]
 
 
-def _plan(nodes: int, edges: List[DecoderEdge], boundary: Set[int], scale: Scale, rounding: Optional[str]) -> _Plan:
+def _plan(nodes: int, edges: List[DecoderEdge], boundary: Set[int], scale: Scale,
+          rounding: Optional[str]) -> _Plan:
     number = scale_of(scale, [edge.weight for edge in edges])
     near = "nearest" if scale == "finest" else rounding
     weights = [whole(edge.weight, number, near, (edge.node1, edge.node2)) for edge in edges]
     graph = decoding_graph(nodes, [(edge.node1, edge.node2) for edge in edges], weights, boundary)
     if len(graph.ends) > MOST_EDGES:
-        raise LimitExceeded("the decoder has %d edges; at most %d are taken" % (len(edges), MOST_EDGES), nodes, len(edges))
-    rows = [(*pair, weights[origin] if origin >= 0 else 0) for pair, origin in zip(graph.ends, graph.origins)]
+        raise LimitExceeded("the decoder has %d edges; at most %d are taken"
+                            % (len(edges), MOST_EDGES), nodes, len(edges))
+    rows = [(*pair, weights[origin] if origin >= 0 else 0)
+            for pair, origin in zip(graph.ends, graph.origins)]
     base = instance(rows, "tjoin", nodes=range(graph.nodes), terminals=())
-    return _Plan(graph, weights, dataclasses.replace(base, scale=number))
-
-
-def _like(given: Any, values: List[Any], dtype: str, shape: Any = None) -> Any:
-    """The values as they are, or as a numpy array where what was given is one."""
-    if not hasattr(given, "dtype"):
-        return values
-    import numpy
-
-    array = numpy.array(values, dtype=dtype)
-    return array if shape is None else array.reshape(shape)
-
-
-def _node(node: Any) -> int:
-    if isinstance(node, bool) or not hasattr(node, "__index__") or node.__index__() < 0:
-        raise GraphError("nodes are numbers from 0 on, and not %r" % (node,))
-    return node.__index__()
-
-
-def _fault_ids(fault_ids: FaultIds) -> FrozenSet[int]:
-    if fault_ids is None or isinstance(fault_ids, int) and fault_ids == -1:
-        return frozenset()
-    return frozenset([_node(fault_ids)] if hasattr(fault_ids, "__index__") else [_node(fault) for fault in fault_ids])
-
-
-def _rows(matrix: Any) -> List[Sequence[int]]:
-    dense = matrix.toarray() if hasattr(matrix, "toarray") else matrix
-    return dense.tolist() if hasattr(dense, "tolist") else [list(row) for row in dense]
+    detectors = 1 + max((node for node in range(nodes) if node not in boundary), default=-1)
+    return _Plan(graph, weights, dataclasses.replace(base, scale=number), (nodes, detectors))

@@ -1,9 +1,10 @@
-"""What a `Decoder` solves for a syndrome: a join in the graph of its detectors, with the boundary as a few more nodes.
+"""What a `Decoder` solves for a syndrome: a join in the graph of its detectors, with the boundary
+as a few more nodes.
 
-The ends of all edges at the boundary are one node, which is met as often as need be. One node of many edges would make the graph of the
-duals large (it joins all pairs of the edges at a node), so the boundary is a row of nodes with some edges each, joined by edges of
-weight 0, along which any two of them are met together for nothing.
-"""
+The ends of all edges at the boundary are one node, which is met as often as need be. One node of
+many edges would make the graph of the duals large (it joins all pairs of the edges at a node), so
+the boundary is a row of nodes with some edges each, joined by edges of weight 0, along which any
+two of them are met together for nothing. """
 from __future__ import annotations
 
 from dataclasses import dataclass
@@ -15,11 +16,13 @@ EDGES_A_NODE = 16
 
 @dataclass
 class DecodingGraph:
-    """The graph of joins. Nodes up to `detectors` are those of the decoder, the others stand for the boundary.
+    """The graph of joins. Nodes up to `detectors` are those of the decoder, the others stand for
+    the boundary.
 
-    ends: two nodes for each edge. origins: the decoder's edge that each edge is, or -1. always: edges of the decoder with both
-    ends at the boundary that weigh less than 0, and so are used whatever the syndrome is. near: the nodes that hang together
-    with the boundary. first: the first node of the boundary, or -1."""
+    ends: two nodes for each edge. origins: the decoder's edge that each edge is, or -1. always:
+    edges of the decoder with both ends at the boundary that weigh less than 0, and so are used
+    whatever the syndrome is. near: the nodes that hang together with the boundary. first: the first
+    node of the boundary, or -1."""
 
     nodes: int
     ends: List[Tuple[int, int]]
@@ -28,14 +31,19 @@ class DecodingGraph:
     near: Set[int]
     first: int = -1
 
-    def terminals(self, fired: Set[int]) -> Set[int]:
-        """The nodes that a join for these detectors meets an odd number of times. The boundary takes part in pairs that have only one
-        detector on its side."""
-        return fired ^ {self.first} if len(fired & self.near) % 2 else set(fired)
+    def terminals(self, fired: Set[int], first: int = 0) -> List[int]:
+        """The nodes that a join for these detectors meets an odd number of times, counted from
+        `first`. The boundary takes part in pairs that have only one detector on its side."""
+        ends = [node + first for node in fired]
+        if len(fired & self.near) % 2:
+            ends.append(self.first + first)
+        return ends
 
 
-def decoding_graph(nodes: int, ends: Sequence[Tuple[int, int]], weights: Sequence[int], boundary: Set[int]) -> DecodingGraph:
-    """The graph of joins for a decoder's edges. An end is a node of the decoder; those in `boundary`, and -1, are the boundary."""
+def decoding_graph(nodes: int, ends: Sequence[Tuple[int, int]], weights: Sequence[int],
+                   boundary: Set[int]) -> DecodingGraph:
+    """The graph of joins for a decoder's edges. An end is a node of the decoder; those in
+    `boundary`, and -1, are the boundary."""
     graph = DecodingGraph(nodes, [], [], [], set())
     at_boundary = 0
     for edge, pair in enumerate(ends):

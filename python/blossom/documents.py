@@ -2,22 +2,33 @@
 from __future__ import annotations
 
 from dataclasses import dataclass, field
-from typing import Dict, List, Optional, Tuple
+from typing import Dict, FrozenSet, List, Literal, Optional, Tuple
 
 from .errors import ProgramFailed
 
-STATES = {"OPTIMAL": "optimal", "INFEASIBLE": "infeasible", "NONCONSERVATIVE": "nonconservative"}
+Status = Literal["optimal", "infeasible", "nonconservative"]
+STATES: Dict[str, Status] = {"OPTIMAL": "optimal", "INFEASIBLE": "infeasible",
+                             "NONCONSERVATIVE": "nonconservative"}
+#: The letters of the lines that a document has, by its status and kind; `*` is any other kind.
+LETTERS = {("optimal", "postman"): "wyz", ("optimal", "path"): "wyz", ("optimal", "*"): "xyz",
+           ("infeasible", "tjoin"): "t", ("infeasible", "path"): "t",
+           ("infeasible", "postman"): "q", ("infeasible", "*"): "u",
+           ("nonconservative", "path"): "w"}
+#: How many numbers stand before the members that a line counts; the last of them is their number.
+COUNTED = {"w": 2, "z": 2, "u": 1, "t": 1, "q": 1}
 
 
-@dataclass
+@dataclass(repr=False)
 class Document:
     """What a document states. Vertices and edges are numbers from 1 on.
 
-    status: "optimal", "infeasible" or "nonconservative". weight: of an optimal answer. counts: how often each edge is used that
-    is used at all. walk: its first vertex and its edges. duals: of the vertices of the graph of the duals, in doubled units.
-    sets: odd sets of such vertices, each with its dual. barrier, odd_part, split_part: what proves that there is no answer."""
+    status: "optimal", "infeasible" or "nonconservative". weight: of an optimal answer.
+    counts: how often each edge is used that is used at all. walk: its first vertex and its edges.
+    duals: of the vertices of the graph of the duals, in doubled units. sets: odd sets of such
+    vertices, each with its dual. barrier, odd_part, split_part: what proves that there is no
+    answer."""
 
-    status: str
+    status: Status
     kind: str
     weight: Optional[int] = None
     counts: Dict[int, int] = field(default_factory=dict)
@@ -28,41 +39,76 @@ class Document:
     odd_part: Optional[List[int]] = None
     split_part: Optional[List[int]] = None
 
+    def __repr__(self) -> str:
+        return "<%s document of %s>" % (self.status, self.kind)
+
+
+def header(fields: List[str]) -> Document:
+    """The document that an `s` line begins. ValueError, KeyError, IndexError: it is no such
+    line."""
+    status, kind = STATES[fields[1]], fields[2]
+    length = 4 if status == "optimal" else 3
+    if fields[0] != "s" or len(fields) != length:
+        raise ValueError(fields)
+    return Document(status, kind, int(fields[3]) if length == 4 else None)
+
 
 def take(document: Document, letter: str, numbers: List[int]) -> None:
-    """Adds one line to the document."""
+    """Adds one line to the document. ValueError, IndexError: its numbers aren't those of such a
+    line, or it stands there a second time."""
+    before = COUNTED.get(letter, 2)
+    if letter in COUNTED and len(numbers) != before + numbers[before - 1]:
+        raise ValueError(letter)
     if letter == "x":
-        document.counts[numbers[0]] = numbers[1]
-    elif letter == "w":
-        document.walk = (numbers[0], numbers[2:])
+        edge, count = numbers
+        if edge in document.counts or count < 1:
+            raise ValueError(letter)
+        document.counts[edge] = count
     elif letter == "y":
-        document.duals[numbers[0]] = numbers[1]
+        vertex, dual = numbers
+        document.duals[vertex] = dual
     elif letter == "z":
         document.sets.append((numbers[0], numbers[2:]))
+    else:
+        take_once(document, letter, numbers)
+
+
+def take_once(document: Document, letter: str, numbers: List[int]) -> None:
+    """Adds a line of those that stand there once. ValueError: one stands there already."""
+    known = (document.walk, document.barrier, document.odd_part, document.split_part)
+    if any(one is not None for one in known):
+        raise ValueError(letter)
+    if letter == "w":
+        document.walk = (numbers[0], numbers[2:])
     elif letter == "u":
         document.barrier = numbers[1:]
     elif letter == "t":
         document.odd_part = numbers[1:]
-    elif letter == "q":
-        document.split_part = numbers[1:]
     else:
-        raise ValueError(letter)
+        document.split_part = numbers[1:]
+
+
+def letters_of(document: Document) -> FrozenSet[str]:
+    """The letters of the lines that this document may have."""
+    status = document.status
+    return frozenset(LETTERS.get((status, document.kind), LETTERS.get((status, "*"), "")))
 
 
 def read(text: bytes) -> Document:
     """The document of a text; comments and blank lines are skipped. ProgramFailed: it is none."""
-    document = None
-    for line in text.decode("latin-1").splitlines():
+    document, letters = None, frozenset[str]()
+    for line in text.decode("latin-1").split("\n"):
         fields = line.split()
         if not fields or fields[0].startswith("c"):
             continue
         try:
             if document is None:
-                if fields[0] != "s":
-                    raise ValueError(line)
-                document = Document(STATES[fields[1]], fields[2], int(fields[3]) if len(fields) > 3 else None)
+                document = header(fields)
+                letters = letters_of(document)
+            elif fields[0] in letters:
+                take(document, fields[0], list(map(int, fields[1:])))
             else:
-                take(document, fields[0], [int(one) for one in fields[1:]])
+                raise ValueError(line)
         except (ValueError, KeyError, IndexError):
             raise ProgramFailed("%r is no line of a document" % line[:80]) from None
     if document is None:

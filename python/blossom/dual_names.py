@@ -1,15 +1,18 @@
 """Names for the vertices that duals and barriers speak of.
 
-For `perfect` they are the nodes themselves. The other kinds are matchings of a larger graph, made of the given one, which
-docs/FORMAT.md describes under "The graph of the duals". Its vertices get names made of the caller's:
+For `perfect` they are the nodes themselves. The other kinds are matchings of a larger graph, made
+of the given one, which docs/FORMAT.md describes under "The graph of the duals". Its vertices get
+names made of the caller's:
 
-- `Copy(node, copy)`: one of the copies of a node, counted from 0. For `match` copy 0 is the node itself and 1 its twin; for `bmatch`,
-  `capmatch` and `ffactor` a node has as many copies as its value says.
-- `Gate(edge, gate, side)`: for `capmatch` and `ffactor` one unit of the use of an edge. There are two such vertices for each unit,
-  joined to each other: `side` is the end of the edge by which the vertex is, and `gate` counts the units from 0.
-- `Port(node, edge)`: for `tjoin`, `postman` and `path` the end of an edge at a node; `edge` is None for the spare vertex that
-  a node has where the number of its ports would not have the parity that is wanted there.
-"""
+- `Copy(node, copy)`: one of the copies of a node, counted from 0. For `match` copy 0 is the node
+  itself and 1 its twin; for `bmatch`, `capmatch` and `ffactor` a node has as many copies as its
+  value says.
+- `Gate(edge, gate, side)`: for `capmatch` and `ffactor` one unit of the use of an edge. There are
+  two such vertices for each unit, joined to each other: `side` is the end of the edge by which the
+  vertex is, and `gate` counts the units from 0.
+- `Port(node, edge)`: for `tjoin`, `postman` and `path` the end of an edge at a node; `edge` is None
+  for the spare vertex that a node has where the number of its ports would not have the parity that
+  is wanted there. """
 from __future__ import annotations
 
 from typing import Any, Dict, Hashable, List, NamedTuple
@@ -44,26 +47,32 @@ def node_of(name: Any) -> Hashable:
     """The node that a name belongs to: a gate belongs to the node that is its side."""
     if isinstance(name, Gate):
         return name.side
-    return name.node if isinstance(name, (Copy, Port)) else name
+    found: Hashable = name.node if isinstance(name, (Copy, Port)) else name
+    return found
 
 
 def copies(of: Instance) -> List[Any]:
+    """The copies of each node."""
     return [Copy(node, copy) for node, value in zip(of.nodes, of.values) for copy in range(value)]
+
+
+def units_of(of: Instance) -> List[int]:
+    """How often each edge can be used, for `capmatch` and `ffactor`."""
+    value_at = dict(zip(of.nodes, of.values))
+    most = [1 if of.kind == "ffactor" else capacity for capacity in of.capacities]
+    return [min(value_at[u], value_at[v], *([] if one is None else [one]))
+            for (u, v), one in zip(of.ends, most)]
 
 
 def gates(of: Instance) -> List[Any]:
     """The gates of each edge: first those by its first end, then those by its second."""
-    value_at = dict(zip(of.nodes, of.values))
-    names: List[Any] = []
-    for edge, (first, second), capacity in zip(of.edges, of.ends, of.capacities):
-        most = 1 if of.kind == "ffactor" else capacity
-        units = min(value_at[first], value_at[second], *([] if most is None else [most]))
-        names += [Gate(edge, unit, side) for side in (first, second) for unit in range(units)]
-    return names
+    return [Gate(edge, unit, side) for edge, ends, units in zip(of.edges, of.ends, units_of(of))
+            for side in ends for unit in range(units)]
 
 
 def ports(of: Instance) -> List[Any]:
-    """The ports of each node in the order of the edges, and its spare. A tour wants as many ports as a node has, so none is spare."""
+    """The ports of each node in the order of the edges, and its spare. A tour wants as many ports
+    as a node has, so none is spare."""
     at: Dict[Hashable, List[Any]] = {node: [] for node in of.nodes}
     for edge, (first, second) in zip(of.edges, of.ends):
         at[first].append(Port(first, edge))
@@ -76,7 +85,8 @@ def ports(of: Instance) -> List[Any]:
 
 
 def dual_names(of: Instance) -> List[Any]:
-    """The names of the vertices of the graph of the duals; that of vertex i + 1 stands at place i."""
+    """The names of the vertices of the graph of the duals; that of vertex i + 1 stands at place
+    i."""
     kind = known(of.kind)
     if kind == "perfect":
         return list(of.nodes)

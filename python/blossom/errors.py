@@ -1,4 +1,5 @@
-"""What can go wrong. Each error is a BlossomError, and each can be pickled, so that it comes back from other processes."""
+"""What can go wrong. Each error is a BlossomError, and each can be pickled, so that it comes back
+from other processes."""
 from __future__ import annotations
 
 from typing import TYPE_CHECKING, Any, List, Optional
@@ -12,7 +13,8 @@ class BlossomError(Exception):
 
 
 class GraphError(BlossomError, ValueError):
-    """The graph is no instance of the kind: it is directed, it has a loop, or a node that is named isn't there."""
+    """The graph is no instance of the kind: it is directed, it has a loop, or a node that is named
+    isn't there."""
 
 
 class WeightError(BlossomError, ValueError):
@@ -20,8 +22,8 @@ class WeightError(BlossomError, ValueError):
 
 
 class LimitExceeded(BlossomError):
-    """The instance, or the graph that its certificates speak of, is too large. `vertices` and `edges` are the numbers
-    that are too large, where they are known."""
+    """The instance, or the graph that its certificates speak of, is too large. `vertices` and
+    `edges` are the numbers that are too large, where they are known."""
 
     def __init__(self, message: str, vertices: Optional[int] = None, edges: Optional[int] = None):
         super().__init__(message, vertices, edges)
@@ -29,7 +31,7 @@ class LimitExceeded(BlossomError):
         self.edges = edges
 
     def __str__(self) -> str:
-        return self.args[0]
+        return str(self.args[0])
 
 
 class TimeLimit(BlossomError, TimeoutError):
@@ -37,18 +39,20 @@ class TimeLimit(BlossomError, TimeoutError):
 
 
 class ProgramFailed(BlossomError):
-    """There is no program, or it ended as it never should: by a signal, without memory, or with an answer that can't be read."""
+    """There is no program, or it ended as it never should: by a signal, without memory, or with an
+    answer that can't be read."""
 
 
 class NoBest(BlossomError, ValueError):
-    """No answer is best. That is a fact of the graph, and `certificate` proves it (unless the call was brief)."""
+    """No answer is best. That is a fact of the graph, and `certificate` proves it (unless the call
+    was brief)."""
 
     def __init__(self, message: str, certificate: "Certificate"):
         super().__init__(message, certificate)
         self.certificate = certificate
 
     def __str__(self) -> str:
-        return self.args[0]
+        return str(self.args[0])
 
 
 class Infeasible(NoBest):
@@ -56,13 +60,14 @@ class Infeasible(NoBest):
 
     @property
     def barrier(self) -> Optional[List[Any]]:
-        """For matchings and factors: the names of a set of vertices without which too many odd components are left."""
+        """For matchings and factors: the names of a set of vertices without which too many odd
+        components are left."""
         return self.certificate.barrier
 
     @property
     def part(self) -> Optional[List[Any]]:
-        """For joins and paths: nodes that no edge leaves, with an odd number of odd nodes among them.
-        For tours: nodes that no edge leaves, with edges among them and edges elsewhere."""
+        """For joins and paths: nodes that no edge leaves, with an odd number of odd nodes among
+        them. For tours: nodes that no edge leaves, with edges among them and edges elsewhere."""
         return self.certificate.part
 
 

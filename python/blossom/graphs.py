@@ -3,129 +3,359 @@
 A graph is one of
 
 - a networkx `Graph` or `MultiGraph` (directed ones are refused);
-- an iterable of edges `(u, v)`, `(u, v, weight)`, `(u, v, weight, capacity)` or `(u, v, attributes)` with a mapping;
-- columns: a mapping of names to columns of equal length (a dict of lists or of numpy arrays, a numpy structured array, a pandas
-  `DataFrame`), with `u` and `v` (or `source` and `target`, or `from` and `to`) and perhaps the weights and capacities;
-- a tuple of two to four numpy arrays `(u, v, weight, capacity)`, or one numpy array of shape (edges, 2 to 4);
-- a `Table`.
+- an iterable of edges `(u, v)`, `(u, v, weight)`, `(u, v, weight, capacity)` or
+  `(u, v, attributes)` with a mapping;
+- columns: a mapping of names to columns of equal length (a dict of lists or of numpy arrays, a
+  numpy structured array, a pandas `DataFrame`), with `u` and `v` (or `source` and `target`, or
+  `from` and `to`) and perhaps the weights and capacities;
+- a tuple of two to four numpy arrays `(u, v, weight, capacity)`, or one numpy array of shape
+  (edges, 2 to 4);
+- a `Table`, as `blossom.read` makes one.
 
-Nodes are whatever can be hashed. Two nodes that are equal are the same node.
+Nodes are whatever can be hashed. Two nodes that are equal are the same node. Columns and
+attributes besides these are kept, and come back with the answer.
 """
 from __future__ import annotations
 
+import re
+from collections.abc import Mapping
 from dataclasses import dataclass, field
-from typing import Any, Dict, Hashable, Iterable, List, Mapping, Optional, Sequence, Tuple
+from itertools import chain
+from operator import itemgetter
+from typing import (Any, Dict, Hashable, Iterable, List, Optional, Protocol, Sequence, Tuple,
+                    Union)
 
 from .errors import GraphError
+from .not_graphs import refuse_other_things, refuse_square
+from .numbers_in_text import number
+from .wording import word
 
 Node = Hashable
+#: The name of an edge: `(u, v)`, or `(u, v, key)`.
+EdgeName = Tuple[Any, ...]
 END_NAMES = (("u", "v"), ("source", "target"), ("from", "to"), ("node1", "node2"))
+#: Words of the names of columns that may well be weights.
+LIKE_WEIGHTS = frozenset({"weight", "weights", "length", "distance", "dist", "cost", "costs",
+                          "price", "duration"})
 
 
-@dataclass
+class Usual(str):
+    """The name of a column that is looked for where the caller names none: nobody asked for it, so
+    a graph need not have it."""
+
+
+USUAL_WEIGHT = Usual("weight")
+USUAL_CAPACITY = Usual("capacity")
+
+
+class NetworkxGraph(Protocol):
+    """What is asked of a graph of networkx."""
+
+    def is_directed(self) -> bool: ...
+
+    def is_multigraph(self) -> bool: ...
+
+    @property
+    def nodes(self) -> Any: ...
+
+    @property
+    def edges(self) -> Any: ...
+
+
+class Frame(Protocol):
+    """What is asked of a DataFrame."""
+
+    @property
+    def columns(self) -> Any: ...
+
+    @property
+    def iloc(self) -> Any: ...
+
+    def __getitem__(self, name: Any) -> Any: ...
+
+
+class Array(Protocol):
+    """What is asked of a numpy array."""
+
+    @property
+    def dtype(self) -> Any: ...
+
+    def tolist(self) -> Any: ...
+
+
+@dataclass(repr=False)
 class Table:
     """A graph as columns. All lists about edges have one entry an edge.
 
-    nodes: each node once. ends: the two ends of each edge. names: the name of each edge, no two alike: `(u, v)`, or
-    `(u, v, key)` in a graph that can have parallel edges. weights: numbers of any type. capacities: None where an edge has none.
-    values: of the nodes that have one."""
+    nodes: each node once. ends: the two ends of each edge. names: the name of each edge, no two
+    alike: `(u, v)`, or `(u, v, key)` in a graph that can have parallel edges. weights: numbers of
+    any type. capacities: None where an edge has none. values: of the nodes that have one.
+    columns: what else is known of the edges, by the columns' names. weight_name, capacity_name: of
+    which column the weights and the capacities are; None where there is no such column."""
 
     nodes: List[Node]
     ends: List[Tuple[Node, Node]]
-    names: List[Tuple]
+    names: List[EdgeName]
     weights: List[Any]
     capacities: List[Any]
     values: Dict[Node, Any] = field(default_factory=dict)
+    columns: Dict[str, List[Any]] = field(default_factory=dict)
+    weight_name: Optional[str] = None
+    capacity_name: Optional[str] = None
+
+    def __repr__(self) -> str:
+        return "<table of %d nodes and %d edges>" % (len(self.nodes), len(self.ends))
 
 
-def named(ends: Sequence[Tuple[Node, Node]]) -> List[Tuple]:
-    """Names for edges that come without: `(u, v)`, but where some pair is joined more than once all are `(u, v, key)`, with the
-    number of earlier edges of the pair as the key, as networkx counts them."""
-    seen: Dict[frozenset, int] = {}
-    keys = []
-    for pair in ends:
-        both = frozenset(pair)
-        keys.append(seen.get(both, 0))
-        seen[both] = keys[-1] + 1
-    return [(*pair, key) for pair, key in zip(ends, keys)] if any(keys) else [tuple(pair) for pair in ends]
+Graph = Union[Table, NetworkxGraph, Frame, Array, Tuple[Array, ...], "Mapping[str, Any]",
+              Iterable[Sequence[Any]]]
+
+
+def named(ends: Sequence[Tuple[Node, Node]]) -> List[EdgeName]:
+    """Names for edges that come without: `(u, v)`, but where some pair is joined more than once all
+    are `(u, v, key)`, with the number of earlier edges of the pair as the key, as networkx counts
+    them."""
+    pairs = set(ends)
+    turned = zip(map(itemgetter(1), ends), map(itemgetter(0), ends))
+    if len(pairs) == len(ends) and pairs.isdisjoint(turned):
+        return list(ends)
+    seen: Dict[Tuple[Node, Node], int] = {}
+    names: List[EdgeName] = []
+    for u, v in ends:
+        both = (v, u) if (v, u) in seen else (u, v)
+        key = seen.get(both, 0)
+        seen[both] = key + 1
+        names.append((u, v, key))
+    return names if len(seen) < len(ends) else list(ends)
 
 
 def plain_list(column: Any) -> List[Any]:
     """A column as a list of Python's own values."""
-    return column.tolist() if hasattr(column, "tolist") else list(column)
+    values: List[Any] = column.tolist() if hasattr(column, "tolist") else list(column)
+    return values
 
 
-def from_columns(columns: Mapping[str, Any], names: Iterable[str], weight: Optional[str], capacity: Optional[str]) -> Table:
-    """The table of a mapping of names to columns. GraphError: there are no ends, or columns differ in length."""
+def like_weights(names: Iterable[Any]) -> Optional[str]:
+    """The first of these names that is called like a weight."""
+    words = ((name, re.findall("[a-z]+", name.lower())) for name in names if isinstance(name, str))
+    return next((name for name, parts in words if LIKE_WEIGHTS & set(parts)), None)
+
+
+def refuse_absent(named_as: Optional[str], what: str, names: Iterable[Any]) -> None:
+    """GraphError: a column of this name was asked for, and the graph, whose columns `names` are,
+    hasn't it; or none was asked for, and another column is called like a weight."""
     names = list(names)
-    pair = next((pair for pair in END_NAMES if pair[0] in names and pair[1] in names), None)
+    if named_as is not None and not isinstance(named_as, Usual):
+        others = ", ".join(map(str, names)) or "no others"
+        raise GraphError("no edge has %s, as %s asks: there are %s"
+                         % ("a weight called %r" % named_as if what == "weight" else
+                            "a capacity called %r" % named_as, word(what, str(named_as)), others))
+    like = like_weights(names) if what == "weight" and named_as is not None else None
+    if like is not None:
+        raise GraphError("the edges have no 'weight', but %r, which is called like one: pass %s, or"
+                         " %s to count each edge as 1"
+                         % (like, word("weight", like), word("weight", None)))
+
+
+def column_of(columns: Mapping[str, Any], named_as: Optional[str], what: str, length: int,
+              missing: Any) -> List[Any]:
+    """The column of weights or of capacities, or `missing` for each edge where none was asked for
+    and none is there."""
+    if named_as is not None and named_as in columns:
+        return plain_list(columns[named_as])
+    refuse_absent(named_as, what, columns)
+    return [missing] * length
+
+
+def from_columns(columns: Mapping[str, Any], weight: Optional[str],
+                 capacity: Optional[str]) -> Table:
+    """The table of a mapping of names to columns. GraphError: there are no ends, a column that was
+    named isn't there, or columns differ in length."""
+    pair = next((pair for pair in END_NAMES if pair[0] in columns and pair[1] in columns), None)
     if pair is None:
-        raise GraphError("the columns %s name no ends of edges: call them u and v" % ", ".join(map(str, names)))
-    first, second = plain_list(columns[pair[0]]), plain_list(columns[pair[1]])
-    weights = plain_list(columns[weight]) if weight in names else [1] * len(first)
-    capacities = plain_list(columns[capacity]) if capacity in names else [None] * len(first)
-    return from_lists(first, second, weights, capacities)
+        raise GraphError("the columns %s name no ends of edges: call them u and v"
+                         % ", ".join(map(str, columns)))
+    ends = plain_list(columns[pair[0]]), plain_list(columns[pair[1]])
+    beside = {name: columns[name] for name in columns if name not in pair}
+    weights = column_of(beside, weight, "weight", len(ends[0]), 1)
+    capacities = column_of(beside, capacity, "capacity", len(ends[0]), None)
+    others = {name: plain_list(column) for name, column in beside.items()
+              if name not in (weight, capacity)}
+    return from_lists(*ends, weights, capacities, others, weight if weight in beside else None,
+                      capacity if capacity in beside else None)
 
 
-def from_lists(first: List[Node], second: List[Node], weights: List[Any], capacities: List[Any]) -> Table:
+def from_lists(first: List[Node], second: List[Node], weights: List[Any], capacities: List[Any],
+               columns: Optional[Dict[str, List[Any]]] = None, weight_name: Optional[str] = None,
+               capacity_name: Optional[str] = None) -> Table:
     """The table of these columns. GraphError: they differ in length."""
-    if len({len(column) for column in (first, second, weights, capacities)}) > 1:
+    columns = columns or {}
+    if len({len(one) for one in (first, second, weights, capacities, *columns.values())}) > 1:
         raise GraphError("the columns of the edges differ in length")
     ends = list(zip(first, second))
-    nodes = list(dict.fromkeys(node for pair in ends for node in pair))
-    return Table(nodes, ends, named(ends), weights, capacities)
+    nodes = list(dict.fromkeys(chain.from_iterable(ends)))
+    return Table(nodes, ends, named(ends), weights, capacities, columns=columns,
+                 weight_name=weight_name, capacity_name=capacity_name)
 
 
 def from_arrays(arrays: Sequence[Any]) -> Table:
-    """The table of two to four arrays: ends, ends, weights, capacities. GraphError: their number is another."""
+    """The table of two to four arrays: ends, ends, weights, capacities. GraphError: their number is
+    another."""
     if not 2 <= len(arrays) <= 4:
-        raise GraphError("edges have two ends, a weight and a capacity: two to four columns, not %d" % len(arrays))
-    lists = [plain_list(array) for array in arrays]
+        raise GraphError("edges have two ends, a weight and a capacity: two to four columns, not %d"
+                         % len(arrays))
+    lists = filled_up([plain_list(array) for array in arrays])
+    return from_lists(lists[0], lists[1], lists[2], lists[3])
+
+
+def filled_up(lists: List[List[Any]]) -> List[List[Any]]:
+    """Two to four columns, and those that lack: weights of 1, and no capacities."""
     usual: List[List[Any]] = [[1] * len(lists[0]), [None] * len(lists[0])]
-    lists += usual[len(lists) - 2:]
-    return from_lists(*lists)
+    return lists + usual[len(lists) - 2:]
 
 
-def from_edges(edges: Iterable[Sequence[Any]], weight: Optional[str], capacity: Optional[str]) -> Table:
-    """The table of edges as tuples. GraphError: one isn't of two to four entries."""
-    rows = [row_of(tuple(edge), weight, capacity) for edge in edges]
-    return from_lists(*[list(column) for column in zip(*rows)]) if rows else from_lists([], [], [], [])
+def from_edges(edges: List[Any], weight: Optional[str], capacity: Optional[str]) -> Table:
+    """The table of edges as tuples. GraphError: one isn't of two to four entries, or lacks what was
+    named."""
+    rows = edges if set(map(type, edges)) == {tuple} else list(map(entries_of, edges))
+    lengths = set(map(len, rows))
+    if not lengths <= {2, 3, 4}:
+        wrong = next(row for row in rows if not 2 <= len(row) <= 4)
+        raise GraphError("an edge is (u, v), (u, v, weight) or (u, v, weight, capacity), and not %r"
+                         % (wrong,))
+    threes = rows if lengths == {3} else [row for row in rows if len(row) == 3]
+    if any(issubclass(one, Mapping) for one in set(map(type, map(itemgetter(2), threes)))):
+        return from_attributes(rows, weight, capacity)
+    if 2 in lengths and weight is not None and not isinstance(weight, Usual):
+        refuse_absent(weight, "weight", ())
+    if len(lengths) > 1:
+        rows = [row if len(row) == 4 else (*row[:2], *(*row[2:], 1)[:1], None) for row in rows]
+    lists = filled_up([list(map(itemgetter(place), rows))
+                       for place in range(max(map(len, rows[:1]), default=2))])
+    weights = [1] * len(rows) if weight is None else lists[2]
+    return from_lists(lists[0], lists[1], weights, lists[3])
 
 
-def row_of(edge: Tuple, weight: Optional[str], capacity: Optional[str]) -> Tuple:
-    """Ends, weight and capacity of one edge."""
-    if len(edge) == 3 and isinstance(edge[2], Mapping):
-        return edge[0], edge[1], edge[2].get(weight, 1), edge[2].get(capacity)
-    if not 2 <= len(edge) <= 4:
-        raise GraphError("an edge is (u, v), (u, v, weight) or (u, v, weight, capacity), and not %r" % (edge,))
-    one = edge[2] if len(edge) > 2 and weight is not None else 1
-    return edge[0], edge[1], one, edge[3] if len(edge) > 3 else None
+def entries_of(edge: Any) -> Tuple[Any, ...]:
+    """The entries of an edge. GraphError: it is a text, or can't have any."""
+    if isinstance(edge, (str, bytes)) or not hasattr(edge, "__iter__"):
+        raise GraphError("an edge is (u, v), (u, v, weight) or (u, v, weight, capacity), and not %r"
+                         % (edge,))
+    return tuple(edge)
+
+
+def from_attributes(rows: List[Tuple[Any, ...]], weight: Optional[str],
+                    capacity: Optional[str]) -> Table:
+    """The table of edges some of which have a mapping of attributes."""
+    given = [row[2] if len(row) == 3 and isinstance(row[2], Mapping) else
+             dict(zip((weight or "weight", capacity or "capacity"), row[2:])) for row in rows]
+    ends = [(row[0], row[1]) for row in rows]
+    return with_attributes(list(dict.fromkeys(chain.from_iterable(ends))), ends, named(ends), given,
+                           weight, capacity)
+
+
+def with_attributes(nodes: List[Node], ends: List[Tuple[Node, Node]], names: List[EdgeName],
+                    given: List[Mapping[str, Any]], weight: Optional[str],
+                    capacity: Optional[str]) -> Table:
+    """The table of edges with attributes. GraphError: an edge lacks the weight that was named, or
+    all lack the capacity."""
+    known = set().union(*given) if given else set()
+    if given and weight not in known:
+        refuse_absent(weight, "weight", sorted(known, key=str))
+    if given and capacity not in known:
+        refuse_absent(capacity, "capacity", sorted(known, key=str))
+    if weight in known and not isinstance(weight, Usual):
+        without = next((name for name, one in zip(names, given) if weight not in one), None)
+        if without is not None:
+            raise GraphError("edge %r has no %r, as %s asks" % (without, weight,
+                                                                word("weight", weight)))
+    columns = {name: [one.get(name) for one in given] for name in sorted(known, key=str)
+               if isinstance(name, str) and name not in (weight, capacity)}
+    weights = [1] * len(ends) if weight is None else [one.get(weight, 1) for one in given]
+    capacities = [None] * len(ends) if capacity is None else [one.get(capacity) for one in given]
+    return Table(nodes, ends, names, weights, capacities, columns=columns,
+                 weight_name=weight if weight in known else None,
+                 capacity_name=capacity if capacity in known else None)
+
+
+def edges_of(graph: Any) -> List[Tuple[Any, ...]]:
+    """The edges of a networkx graph in its order: (u, v, attributes), with a key before these in a
+    multigraph."""
+    if graph.is_multigraph():
+        return [edge for edge in graph.edges(data=True, keys=True)]
+    rows: List[Tuple[Any, ...]] = []
+    seen = set()
+    for u, near in graph.adjacency():  # (in half the time that graph.edges takes)
+        rows += [(u, v, attributes) for v, attributes in near.items() if v not in seen]
+        seen.add(u)
+    return rows
 
 
 def from_networkx(graph: Any, weight: Optional[str], capacity: Optional[str]) -> Table:
-    """The table of a networkx graph; edges of a multigraph keep their keys. GraphError: it is directed."""
+    """The table of a networkx graph; edges of a multigraph keep their keys. GraphError: it is
+    directed, or edges lack what was named."""
     if graph.is_directed():
-        raise GraphError("the graph is directed, and these problems are those of undirected graphs: pass graph.to_undirected()")
-    keyed = {"keys": True} if graph.is_multigraph() else {}
-    rows = list(graph.edges(data=True, **keyed))
-    ends = [(row[0], row[1]) for row in rows]
-    return Table(list(graph.nodes), ends, [tuple(row[:-1]) for row in rows], [row[-1].get(weight, 1) for row in rows],
-                 [row[-1].get(capacity) for row in rows])
+        raise GraphError("the graph is directed, and these problems are those of undirected graphs:"
+                         " pass graph.to_undirected()")
+    rows = edges_of(graph)
+    return with_attributes(list(graph.nodes), [(row[0], row[1]) for row in rows],
+                           [row[:-1] for row in rows], [row[-1] for row in rows], weight, capacity)
 
 
-def table_of(graph: Any, weight: Optional[str] = "weight", capacity: Optional[str] = "capacity") -> Table:
-    """The table of a graph in any of its forms. `weight` and `capacity` are the names of attributes or columns; with
-    `weight=None` every edge weighs 1. GraphError: it is in none of them."""
-    if isinstance(graph, Table):
-        return graph
-    if hasattr(graph, "is_directed") and hasattr(graph, "edges"):
-        return from_networkx(graph, weight, capacity)
-    if isinstance(graph, Mapping):
-        return from_columns(graph, graph.keys(), weight, capacity)
-    if hasattr(graph, "columns") and hasattr(graph, "iloc"):
-        return from_columns(graph, graph.columns, weight, capacity)
-    if getattr(getattr(graph, "dtype", None), "names", None):
-        return from_columns(graph, graph.dtype.names, weight, capacity)
-    if isinstance(graph, tuple) and graph and all(hasattr(column, "dtype") for column in graph):
-        return from_arrays(graph)
-    return from_edges(plain_list(graph) if hasattr(graph, "dtype") else graph, weight, capacity)
+def from_table(table: Table, weight: Optional[str], capacity: Optional[str]) -> Table:
+    """The table with the weights and the capacities that were named. GraphError: it hasn't them."""
+    own = {name: column for name, column in ((table.weight_name, table.weights),
+                                             (table.capacity_name, table.capacities)) if name}
+    columns = {**table.columns, **own}
+    weights = chosen(columns, weight, "weight", table.weight_name, table.weights, 1)
+    capacities = chosen(columns, capacity, "capacity", table.capacity_name, table.capacities, None)
+    if weights is table.weights and capacities is table.capacities:
+        return table
+    taken = [name for name, now in ((weight, weights), (capacity, capacities))
+             if name is not None and columns.get(name) is not None]
+    left = {name: column for name, column in columns.items() if name not in taken}
+    return Table(table.nodes, table.ends, table.names, weights, capacities, table.values, left,
+                 weight, capacity)
+
+
+def chosen(columns: Mapping[str, List[Any]], named_as: Optional[str], what: str,
+           own_name: Optional[str], own: List[Any], missing: Any) -> List[Any]:
+    """The weights or the capacities of a table: its own, or a column of it that was named, whose
+    texts are read as numbers."""
+    if named_as is None:
+        return [missing] * len(own)
+    if named_as == own_name or isinstance(named_as, Usual) and own_name is not None:
+        return own
+    if named_as in columns and not isinstance(named_as, Usual):
+        return [numeral(entry, "%s of an edge" % named_as) for entry in columns[named_as]]
+    refuse_absent(named_as, what, columns)
+    return own
+
+
+def numeral(entry: Any, what: str) -> Any:
+    """The number that an entry of a column is: texts are read. GraphError: one is no number."""
+    return number(entry, what) if isinstance(entry, str) else entry
+
+
+def table_of(graph: Graph, weight: Optional[str] = USUAL_WEIGHT,
+             capacity: Optional[str] = USUAL_CAPACITY) -> Table:
+    """The table of a graph in any of its forms. `weight` and `capacity` are the names of attributes
+    or columns; with `weight=None` every edge weighs 1. GraphError: it is in none of them, or
+    it has no column of a name that is passed."""
+    given: Any = graph
+    if isinstance(given, Table):
+        return from_table(given, weight, capacity)
+    if hasattr(given, "is_directed") and hasattr(given, "edges"):
+        return from_networkx(given, weight, capacity)
+    if isinstance(given, Mapping):
+        return from_columns(given, weight, capacity)
+    if hasattr(given, "columns") and hasattr(given, "iloc"):
+        return from_columns({name: given[name] for name in given.columns}, weight, capacity)
+    if getattr(getattr(given, "dtype", None), "names", None):
+        return from_columns({name: given[name] for name in given.dtype.names}, weight, capacity)
+    if isinstance(given, tuple) and given and all(hasattr(one, "dtype") for one in given):
+        return from_arrays(given)
+    refuse_other_things(given)
+    rows = plain_list(given)
+    refuse_square(rows)
+    return from_edges(rows, weight, capacity)

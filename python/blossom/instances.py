@@ -1,40 +1,49 @@
-"""Instances: a graph and a kind, as the program reads them, with the names that its numbers stand for."""
+"""Instances: a graph and a kind, as the program reads them, with the names that its numbers stand
+for."""
 from __future__ import annotations
 
+import hashlib
 import math
 import numbers
 from dataclasses import dataclass, field
 from fractions import Fraction
-from typing import Any, Dict, Iterable, List, Mapping, Optional, Tuple, Union
+from itertools import chain
+from operator import eq, itemgetter
+from typing import Any, Dict, Iterable, List, Mapping, Optional, Sequence, Tuple, Union
 
 from . import kinds
 from .errors import GraphError, LimitExceeded, WeightError
-from .graphs import Node, Table, table_of
-from .weights import ROUNDINGS, Scale, plain, scale_of, whole
+from .graphs import USUAL_CAPACITY, USUAL_WEIGHT, EdgeName, Graph, Node, Table, table_of
+from .kinds import Kind
+from .weights import ROUNDINGS, Rounding, Scale, all_whole, plain, scale_of
+from .wording import word
 
-Values = Union[str, Mapping[Node, int], None]
+Values = Union[str, Mapping[Any, int], None]
 
 
-@dataclass(frozen=True)
+@dataclass(frozen=True, repr=False)
 class Instance:
-    """A graph as the program reads it. Vertex i + 1 of the program is `nodes[i]`, and its edge i + 1 is `edges[i]`.
+    """A graph as the program reads it. Vertex i + 1 of the program is `nodes[i]`, and its edge
+    i + 1 is `edges[i]`.
 
-    kind: one of `KINDS`. nodes, edges: names, in order. ends: the two nodes of each edge. weights: whole numbers, the given ones
-    times `scale`. capacities: whole numbers, or None; only `capmatch` has any. values: one whole number a node.
-    backwards: a path is asked for from its greater end to its lesser, the other way round than the program's.
-    text: what the program reads. graph: what was given."""
+    kind: one of `KINDS`. nodes, edges: names, in order. ends: the two nodes of each edge.
+    weights: whole numbers, the given ones times `scale`. capacities: whole numbers, or None; only
+    `capmatch` has any. values: one whole number a node. backwards: a path is asked for from its
+    greater end to its lesser, the other way round than the program's. text: what the program reads.
+    graph: what was given. columns: what else is known of the edges, by name."""
 
-    kind: str
+    kind: Kind
     nodes: List[Node]
-    edges: List[Tuple]
+    edges: List[EdgeName]
     ends: List[Tuple[Node, Node]]
     weights: List[int]
     capacities: List[Optional[int]]
     values: List[int]
     scale: Fraction = Fraction(1)
     backwards: bool = False
-    text: bytes = field(default=b"", repr=False)
-    graph: Any = field(default=None, repr=False, compare=False)
+    text: bytes = b""
+    graph: Any = field(default=None, compare=False)
+    columns: Dict[str, List[Any]] = field(default_factory=dict, compare=False)
 
     def number_of(self) -> Dict[Node, int]:
         """The program's number of each node."""
@@ -44,64 +53,86 @@ class Instance:
         """The weight of an edge by its place in `edges`, in the caller's units."""
         return plain(Fraction(self.weights[index]) / self.scale)
 
+    @property
+    def checksum(self) -> str:
+        """The SHA-256 of what the program reads, in hexadecimal digits: equal for equal graphs,
+        whose nodes and edges come in one order."""
+        return hashlib.sha256(self.text).hexdigest()
 
-def instance(graph: Any, kind: str, *, nodes: Iterable[Node] = (), weight: Optional[str] = "weight",
-             capacity: Optional[str] = "capacity", values: Values = None, terminals: Optional[Iterable[Node]] = None,
+    def __repr__(self) -> str:
+        return "<%s instance of %d nodes and %d edges>" % (self.kind, len(self.nodes),
+                                                           len(self.edges))
+
+
+def instance(graph: Graph, kind: Kind, *, nodes: Iterable[Node] = (),
+             weight: Optional[str] = USUAL_WEIGHT, capacity: Optional[str] = USUAL_CAPACITY,
+             values: Values = None, terminals: Optional[Iterable[Node]] = None,
              source: Optional[Node] = None, target: Optional[Node] = None, scale: Scale = 1,
-             rounding: Optional[str] = None) -> Instance:
-    """The instance of this kind on the graph, which is in any of the forms that `blossom.graphs` lists.
+             rounding: Rounding = None) -> Instance:
+    """The instance of this kind on the graph, which is in any of the forms that `blossom.graphs`
+    lists.
 
-    nodes: nodes to begin with, so that those without edges stand there too. weight, capacity: names of attributes or columns;
-    `weight=None` counts every edge as 1, as does an edge without the attribute. values (`bmatch`, `capmatch`, `ffactor`): how
-    often each node is met, as a mapping or the name of an attribute of nodes; 1 where it says nothing. terminals (`tjoin`): the
-    nodes that are met an odd number of times. source, target (`path`): the two ends.
-    scale, rounding: weights are multiplied by `scale`, and have to be whole then, unless `rounding="nearest"`;
-    `scale="finest"` rounds to the finest power of two that fits. Answers and duals come back in the units that were given.
+    nodes: nodes to begin with, so that those without edges stand there too. weight, capacity: names
+    of attributes or columns; one that is passed has to be there. Without `weight` an edge that has
+    no `weight` counts as 1, unless the graph has a column that is called like a weight; with
+    `weight=None` each edge counts as 1. values (`bmatch`, `capmatch`, `ffactor`): how often each
+    node is met, as a mapping or the name of an attribute of nodes; 1 where it says nothing.
+    terminals (`tjoin`): the nodes that are met an odd number of times. source, target (`path`): the
+    two ends. scale, rounding: weights are multiplied by `scale`, and have to be whole then, unless
+    `rounding="nearest"`; `scale="finest"` rounds to the finest power of two that fits. Answers and
+    duals come back in the units that were given.
 
-    GraphError: the graph, or what is said of its nodes, is no instance of the kind. WeightError: see `weights`.
-    LimitExceeded: over 4,096 nodes, 65,536 edges, or a value over 4,096."""
-    table = table_of(graph, weight, capacity)
+    GraphError: the graph, or what is said of its nodes, is no instance of the kind. WeightError:
+    see `weights`. LimitExceeded: over 4,096 nodes, 65,536 edges, or a value over 4,096."""
+    kind, table = kinds.known(kind), table_of(graph, weight, capacity)
     if rounding not in ROUNDINGS:
         raise ValueError('rounding is None or "nearest", and not %r' % (rounding,))
     names = list(dict.fromkeys([*nodes, *table.nodes]))
     refuse_large(len(names), len(table.ends))
-    refuse_loops(table)
-    given = asked_values(graph, table, kinds.known(kind), values, terminals, source, target)
+    given = asked_values(graph, table, kind, values, terminals, source, target)
     number_of = {node: number for number, node in enumerate(names, 1)}
-    node_values = [value_of(node, given, kind) for node in names]
-    absent = [node for node in given if node not in number_of]
-    if absent:
-        raise GraphError("node %r isn't in the graph" % (absent[0],))
+    first, second = numbered(table, number_of)
     factor = scale_of(scale, table.weights)
     near = "nearest" if scale == "finest" else rounding
-    whole_weights = [whole(one, factor, near, name) for one, name in zip(table.weights, table.names)]
-    refuse_negative(kind, whole_weights, table)
-    capacities = [capacity_of(one, name) if kind == "capmatch" else None for one, name in zip(table.capacities, table.names)]
+    weights = all_whole(table.weights, factor, near, table.names)
+    refuse_negative(kind, weights, table)
+    capacities = capacities_of(table, kind)
+    node_values = all_values(names, given, number_of, kind)
+    text = text_of(len(names), first, second, weights, capacities, node_values, kind)
     backwards = kind == "path" and source is not None and number_of[source] > number_of[target]
-    text = text_of(number_of, table.ends, whole_weights, capacities, node_values, kind)
-    return Instance(kind, names, table.names, table.ends, whole_weights, capacities, node_values, factor, backwards, text, graph)
+    return Instance(kind, names, table.names, table.ends, weights, capacities, node_values, factor,
+                    backwards, text, graph, table.columns)
 
 
 def refuse_large(nodes: int, edges: int) -> None:
+    """LimitExceeded: the graph has more nodes or edges than any kind takes."""
     if nodes > kinds.MOST_NODES or edges > kinds.MOST_EDGES:
         raise LimitExceeded("the graph has %d nodes and %d edges; at most %d and %d are taken"
                             % (nodes, edges, kinds.MOST_NODES, kinds.MOST_EDGES), nodes, edges)
 
 
-def refuse_loops(table: Table) -> None:
-    for (first, second), name in zip(table.ends, table.names):
-        if first == second:
-            raise GraphError("edge %r is a loop, and these problems have none: leave it out" % (name,))
+def numbered(table: Table, number_of: Mapping[Node, int]) -> Tuple[List[int], List[int]]:
+    """The numbers of the two ends of each edge. GraphError: an edge is a loop."""
+    first, second = (list(map(number_of.__getitem__, map(itemgetter(end), table.ends)))
+                     for end in (0, 1))
+    if any(map(eq, first, second)):
+        name = next(name for name, one, other in zip(table.names, first, second) if one == other)
+        raise GraphError("edge %r is a loop, and these problems have none: leave it out" % (name,))
+    return first, second
 
 
 def refuse_negative(kind: str, weights: List[int], table: Table) -> None:
+    """WeightError: a tour is asked for, and an edge weighs less than 0."""
     if kind == "postman" and min(weights, default=0) < 0:
-        raise WeightError("edge %r weighs less than 0, and a tour has no such edges" % (table.names[weights.index(min(weights))],))
+        raise WeightError("edge %r weighs less than 0, and a tour has no such edges"
+                          % (table.names[weights.index(min(weights))],))
 
 
-def asked_values(graph: Any, table: Table, kind: str, values: Values, terminals: Optional[Iterable[Node]],
-                 source: Optional[Node], target: Optional[Node]) -> Mapping[Node, int]:
-    """What the caller says of nodes, as one mapping. GraphError: the kind doesn't ask for it, or asks for something else."""
+def asked_values(graph: Any, table: Table, kind: Kind, values: Values,
+                 terminals: Optional[Iterable[Node]], source: Optional[Node],
+                 target: Optional[Node]) -> Mapping[Any, int]:
+    """What the caller says of nodes, as one mapping. GraphError: the kind doesn't ask for it, or
+    asks for something else."""
     if terminals is not None and kind != "tjoin":
         raise GraphError("terminals are those of tjoin, and not of %s" % kind)
     if (source is not None or target is not None) and kind != "path":
@@ -110,55 +141,96 @@ def asked_values(graph: Any, table: Table, kind: str, values: Values, terminals:
         return {node: 1 for node in terminals}
     if source is not None or target is not None:
         if source is None or target is None or source == target:
-            raise GraphError("a path goes from a source to another target, and not from %r to %r" % (source, target))
+            raise GraphError("a path goes from a source to another target, and not from %r to %r"
+                             % (source, target))
         return {source: 1, target: 1}
     if values is not None and kind not in kinds.VALUED + kinds.ODD:
-        raise GraphError("values are those of %s, and not of %s" % (", ".join(kinds.VALUED + kinds.ODD), kind))
-    if isinstance(values, str):
-        if not hasattr(graph, "nodes") or isinstance(graph, Table):
-            raise GraphError("values=%r names an attribute of nodes, and this graph has none: pass a mapping" % values)
-        given = {node: attributes[values] for node, attributes in graph.nodes(data=True) if values in attributes}
-    else:
-        own = table.values if kind in kinds.VALUED + kinds.ODD else {}
-        given = dict(own if values is None else values)
-    if kind == "path" and sum(is_natural(value) and value % 2 == 1 for value in given.values()) != 2:
+        raise GraphError("values are those of %s, and not of %s"
+                         % (", ".join(kinds.VALUED + kinds.ODD), kind))
+    given = named_values(graph, table, values, kind)
+    if kind == "path" and sum(is_natural(one) and one % 2 == 1 for one in given.values()) != 2:
         raise GraphError("a path goes from a source to a target: name both")
     return given
 
 
+def named_values(graph: Any, table: Table, values: Values, kind: Kind) -> Mapping[Any, int]:
+    """The values of nodes: those of a mapping, of an attribute, or of the table itself."""
+    if isinstance(values, str):
+        if not hasattr(graph, "nodes") or isinstance(graph, Table):
+            raise GraphError("%s names an attribute of nodes, and this graph has none: pass a"
+                             " mapping" % word("values", values))
+        found = {node: attributes[values] for node, attributes in graph.nodes(data=True)
+                 if values in attributes}
+        if not found and table.nodes:
+            raise GraphError("no node has an attribute %r, as %s asks"
+                             % (values, word("values", values)))
+        return found
+    own = table.values if kind in kinds.VALUED + kinds.ODD else {}
+    return dict(own if values is None else values)
+
+
 def is_natural(value: Any) -> bool:
     """Whether it is a whole number from 0 on, of whatever type."""
-    return isinstance(value, numbers.Real) and math.isfinite(value) and float(value).is_integer() and float(value) >= 0
+    return (isinstance(value, numbers.Real) and math.isfinite(value) and float(value).is_integer()
+            and float(value) >= 0)
 
 
-def value_of(node: Node, given: Mapping[Node, int], kind: str) -> int:
-    """The value of a node. GraphError: it is no whole number from 0. LimitExceeded: it is over 4,096."""
-    value = given.get(node, kinds.default_value(kind))
+def all_values(nodes: Sequence[Node], given: Mapping[Any, int], number_of: Mapping[Node, int],
+               kind: Kind) -> List[int]:
+    """The value of each node. GraphError: one that is given isn't in the graph, or see
+    `value_of`."""
+    absent = [node for node in given if node not in number_of]
+    if absent:
+        raise GraphError("node %r isn't in the graph" % (absent[0],))
+    values = [kinds.default_value(kind)] * len(nodes)
+    for node, value in given.items():
+        values[number_of[node] - 1] = value_of(node, value)
+    return values
+
+
+def value_of(node: Node, value: Any) -> int:
+    """The value as an int. GraphError: it is no whole number from 0. LimitExceeded: it is over
+    4,096."""
     if not is_natural(value):
-        raise GraphError("node %r has the value %r, which is no whole number from 0 on" % (node, value))
+        raise GraphError("node %r has the value %r, which is no whole number from 0 on"
+                         % (node, value))
     if value > kinds.MOST_VALUE:
-        raise LimitExceeded("node %r has the value %d; at most %d is taken" % (node, value, kinds.MOST_VALUE))
+        raise LimitExceeded("node %r has the value %d; at most %d is taken"
+                            % (node, value, kinds.MOST_VALUE))
     return int(value)
 
 
+def capacities_of(table: Table, kind: Kind) -> List[Optional[int]]:
+    """The capacity of each edge, where the kind asks for them."""
+    if kind != "capmatch":
+        return [None] * len(table.ends)
+    return [capacity_of(one, name) for one, name in zip(table.capacities, table.names)]
+
+
 def capacity_of(capacity: Any, edge: Any) -> Optional[int]:
-    """The capacity of an edge, or None where it has none (None, infinity, nan). One over 4,096 is as good as that, since no
-    value is greater. GraphError: it is no whole number from 0."""
+    """The capacity of an edge, or None where it has none (None, infinity, nan). One over 4,096 is
+    as good as that, since no value is greater. GraphError: it is no whole number from 0."""
     if capacity is None or (isinstance(capacity, numbers.Real) and not math.isfinite(capacity)):
         return None
     if not is_natural(capacity):
-        raise GraphError("edge %r has the capacity %r, which is no whole number from 0 on" % (edge, capacity))
+        raise GraphError("edge %r has the capacity %r, which is no whole number from 0 on"
+                         % (edge, capacity))
     return min(int(capacity), kinds.MOST_VALUE)
 
 
-def text_of(number_of: Mapping[Node, int], ends: List[Tuple[Node, Node]], weights: List[int],
-            capacities: List[Optional[int]], values: List[int], kind: str) -> bytes:
-    """The instance as the program reads it."""
-    lines = ["p edge %d %d" % (len(number_of), len(ends))]
-    for (first, second), weight, capacity in zip(ends, weights, capacities):
-        last = "" if capacity is None else " %d" % capacity
-        lines.append("e %d %d %d%s" % (number_of[first], number_of[second], weight, last))
+def text_of(nodes: int, first: List[int], second: List[int], weights: List[int],
+            capacities: List[Optional[int]], values: List[int], kind: Kind) -> bytes:
+    """The instance as the program reads it. One text is filled in for all edges at once, since that
+    takes least time."""
+    if capacities.count(None) == len(capacities):
+        rows: Iterable[Tuple[Any, ...]] = zip(first, second, weights)
+        form = "e %d %d %d\n" * len(first)
+    else:
+        rows = zip(first, second, weights, ["" if c is None else " %d" % c for c in capacities])
+        form = "e %d %d %d%s\n" * len(first)
+    lines = ["p edge %d %d\n" % (nodes, len(first)), form % tuple(chain.from_iterable(rows))]
     if kind in kinds.VALUED or kind in kinds.ODD:
         usual = kinds.default_value(kind)
-        lines += ["n %d %d" % (number, value) for number, value in enumerate(values, 1) if value != usual]
-    return ("\n".join(lines) + "\n").encode("ascii")
+        lines += ["n %d %d\n" % (number, value) for number, value in enumerate(values, 1)
+                  if value != usual]
+    return "".join(lines).encode("ascii")

@@ -1,25 +1,33 @@
 """The eight kinds of problem, by the names that the program takes, and what it takes at most."""
 from __future__ import annotations
 
-KINDS = ("perfect", "match", "bmatch", "capmatch", "ffactor", "tjoin", "postman", "path")
-#: Kinds whose answer meets each node as often as its value says; a node without a value has the value 1.
-VALUED = ("bmatch", "capmatch", "ffactor")
+from typing import Literal, Tuple, cast
+
+Kind = Literal["perfect", "match", "bmatch", "capmatch", "ffactor", "tjoin", "postman", "path"]
+KINDS: Tuple[Kind, ...] = ("perfect", "match", "bmatch", "capmatch", "ffactor", "tjoin", "postman",
+                           "path")
+#: Kinds whose answer meets each node as often as its value says; a node without a value has the
+#: value 1.
+VALUED: Tuple[Kind, ...] = ("bmatch", "capmatch", "ffactor")
 #: Kinds that ask which values are odd; a node without a value has the value 0.
-ODD = ("tjoin", "path")
+ODD: Tuple[Kind, ...] = ("tjoin", "path")
 #: Kinds whose answer is a walk.
-WALKED = ("postman", "path")
+WALKED: Tuple[Kind, ...] = ("postman", "path")
 
 MOST_NODES = 4096
 MOST_EDGES = 65536
 MOST_VALUE = 4096
 MOST_WEIGHT = 10**9
+#: What the graph of the duals may have at most.
+MOST_VERTICES = 4096
+MOST_PAIRS = 1048576
 
 
-def known(kind: str) -> str:
+def known(kind: str) -> Kind:
     """The kind, where it is one. ValueError: it is none."""
     if kind not in KINDS:
         raise ValueError("the kinds are %s, and not %r" % (", ".join(KINDS), kind))
-    return kind
+    return cast(Kind, kind)
 
 
 def default_value(kind: str) -> int:

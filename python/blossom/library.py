@@ -8,16 +8,16 @@ import mmap
 import os
 import threading
 from dataclasses import dataclass
-from typing import Optional, Tuple
+from typing import Dict, Optional, Tuple
 
-from .checkout import checkout
+from .checkout import checkout, is_present, released
 from .errors import ProgramFailed
 from .kinds import KINDS
 
 #: What capi/blossom.h calls BLOSSOM_ABI: the version of the call that is declared here.
 ABI = 1
 TASKS = {"solve": 1, "brief": 2, "check": 3}
-KIND_NUMBERS = {kind: number for number, kind in enumerate(KINDS, 1)}
+KIND_NUMBERS: Dict[str, int] = {kind: number for number, kind in enumerate(KINDS, 1)}
 SHORT_BUFFER = 9
 NO_SUCH_CALL = 10
 # No answer is longer (48 MiB and a line). Pages that no answer reaches are never touched, so this costs address space alone.
@@ -26,20 +26,25 @@ PLACE = ("capi", "out", "libblossom.so")
 
 
 def find_library(path: Optional[str] = None) -> str:
-    """The path of the shared object: the argument, the environment variable BLOSSOM_LIBRARY, or what was built in the checkout.
+    """The path of the shared object: the argument, the environment variable BLOSSOM_LIBRARY, that of the release that this package is, or what was
+    built in the checkout of the present sources.
     ProgramFailed: there is none."""
-    named = path or os.environ.get("BLOSSOM_LIBRARY")
+    named = path or os.environ.get("BLOSSOM_LIBRARY") or released("libblossom.so")
     if named:
         return os.fspath(named)
     top = checkout()
-    if top is not None and os.path.exists(os.path.join(top, *PLACE)):
-        return os.path.join(top, *PLACE)
+    built = os.path.join(top, *PLACE) if top is not None else ""
+    if top is not None and os.path.exists(built):
+        if is_present(top, os.path.join(os.path.dirname(built), "blossom.look")):
+            return built
+        raise ProgramFailed("%s isn't of the present sources: capi/build.sh builds it anew" % built)
     raise ProgramFailed("there is no libblossom.so: build it with capi/build.sh, or put its path in the environment variable BLOSSOM_LIBRARY")
 
 
 @functools.lru_cache(maxsize=None)
 def loaded(path: str) -> ctypes.CDLL:
-    """The library of this path. ProgramFailed: it can't be loaded, or declares another version of the call."""
+    """The library of this path, whose calls leave the interpreter's lock to other threads.
+    ProgramFailed: it can't be loaded, or declares another version of the call."""
     try:
         library = ctypes.CDLL(path)
         library.blossom_abi.restype = ctypes.c_uint32
@@ -48,10 +53,19 @@ def loaded(path: str) -> ctypes.CDLL:
     except (OSError, AttributeError) as error:
         raise ProgramFailed("the library %s can't be used: %s" % (path, error)) from None
     if library.blossom_abi() != ABI:
-        raise ProgramFailed("the library %s is of version %d, and this package calls version %d" % (path, library.blossom_abi(), ABI))
-    library.blossom_call.argtypes = [ctypes.c_uint32, ctypes.c_uint32, ctypes.c_char_p, ctypes.c_size_t, ctypes.c_void_p,
-                                     ctypes.c_size_t, ctypes.POINTER(ctypes.c_size_t)]
+        raise ProgramFailed("the library %s is of version %d, and this package calls version %d"
+                            % (path, library.blossom_abi(), ABI))
+    library.blossom_call.argtypes = [ctypes.c_uint32, ctypes.c_uint32, ctypes.c_char_p,
+                                     ctypes.c_size_t, ctypes.c_void_p, ctypes.c_size_t,
+                                     ctypes.POINTER(ctypes.c_size_t)]
     return library
+
+
+@functools.lru_cache(maxsize=None)
+def found(path: Optional[str], environment: Optional[str]) -> ctypes.CDLL:
+    """The library that `find_library` finds for these, looked for once. ProgramFailed: see
+    there."""
+    return loaded(find_library(path))
 
 
 class Room(threading.local):
@@ -61,26 +75,34 @@ class Room(threading.local):
         # Private, so that the child of a fork has its own.
         self.memory = mmap.mmap(-1, ROOM, flags=mmap.MAP_PRIVATE | mmap.MAP_ANONYMOUS)
         self.address = ctypes.addressof(ctypes.c_ubyte.from_buffer(self.memory))
+        self.used = ctypes.c_size_t()
+        self.used_at = ctypes.byref(self.used)
 
 
 @functools.lru_cache(maxsize=None)
 def room() -> Room:
+    """The room of the thread that asks."""
     return Room()
 
 
 @dataclass(frozen=True)
 class Library:
-    """Calls the library. `path`: that of the shared object, or None for what `find_library` finds when it is called."""
+    """Calls the library. `path`: that of the shared object, or None for what `find_library` finds
+    when it is called first."""
 
     path: Optional[str] = None
 
-    def run(self, task: str, kind: str, text: bytes, timeout: Optional[float] = None, running: object = None) -> Tuple[int, bytes]:
-        """As `Process.run`. ValueError: a timeout, since a call in this process can't be stopped. ProgramFailed: there is no library,
-        or it answers what it never should."""
+    def run(self, task: str, kind: str, text: bytes, timeout: Optional[float] = None,
+            running: object = None) -> Tuple[int, bytes]:
+        """As `Process.run`. ValueError: a timeout, since a call in this process can't be stopped.
+        ProgramFailed: there is no library, or it answers what it never should."""
         if timeout is not None:
-            raise ValueError('a call by the library can\'t be stopped: pass no timeout, or via="process"')
-        library, own, used = loaded(find_library(self.path)), room(), ctypes.c_size_t()
-        status = library.blossom_call(TASKS[task], KIND_NUMBERS[kind], text, len(text), own.address, ROOM, ctypes.byref(used))
+            raise ValueError("a call by the library can't be stopped: pass no timeout, or"
+                             ' via="process"')
+        library, own = found(self.path, os.environ.get("BLOSSOM_LIBRARY")), room()
+        status: int = library.blossom_call(TASKS[task], KIND_NUMBERS[kind], text, len(text),
+                                           own.address, ROOM, own.used_at)
         if status in (SHORT_BUFFER, NO_SUCH_CALL):
-            raise ProgramFailed("the library ended with status %d on %d bytes" % (status, len(text)))
-        return status, own.memory[:used.value]
+            raise ProgramFailed("the library ended with status %d on %d bytes"
+                                % (status, len(text)))
+        return status, own.memory[:own.used.value]

@@ -1,17 +1,23 @@
-"""networkx's matchings by blossom: `nx.max_weight_matching(G, backend="blossom")` and `nx.min_weight_matching(G, backend="blossom")`, with networkx
-3.2 or later, once the package is installed.
+"""networkx's matchings by blossom: `nx.max_weight_matching(G, backend="blossom")` and
+`nx.min_weight_matching(G, backend="blossom")`, with networkx 3.2 or later, once the package is
+installed.
 
-Both answer what networkx's own functions are to answer, exactly. Weights that aren't whole are rounded to the finest power of two with
-which all stay within 10^9, and a `RoundedWeights` warning says so: networkx's own functions round too, in the arithmetic of floats.
+Both answer what networkx's own functions are to answer, exactly. Weights that aren't whole are
+rounded to the finest power of two with which all stay within 10^9, and a `RoundedWeights` warning
+says so: networkx's own functions round too, in the arithmetic of floats. Where networkx may choose
+by itself (`nx.config.backend_priority`), it goes on with its own functions for graphs that are too
+large for the program.
 """
 from __future__ import annotations
 
+import contextlib
 import warnings
-from typing import Any, Dict, List, Optional, Set, Tuple
+from typing import Any, Dict, Iterator, List, Mapping, Optional, Sequence, Set, Tuple, Union
 
 from .answers import Answer
-from .errors import Infeasible, RoundedWeights
+from .errors import Infeasible, LimitExceeded, RoundedWeights
 from .graphs import Node
+from .kinds import MOST_EDGES, MOST_NODES, MOST_VERTICES
 from .solving import solve
 from .weights import exact, scale_of, whole
 
@@ -20,25 +26,49 @@ Edges = List[Tuple[Node, Node, int]]
 NOBODY = object()
 
 
+class TooLarge(LimitExceeded, NotImplementedError):
+    """The graph is too large for the program. networkx goes on by itself where it may, since it
+    sees a NotImplementedError."""
+
+
+@contextlib.contextmanager
+def within_limits() -> Iterator[None]:
+    """Lets networkx see which graphs are too large."""
+    try:
+        yield
+    except LimitExceeded as error:
+        raise TooLarge(*error.args) from error
+
+
 def whole_edges(graph: Any, weight: Optional[str]) -> Edges:
     """The edges but loops, which no matching has, with whole weights."""
-    edges = [(first, second, attributes.get(weight, 1)) for first, second, attributes in graph.edges(data=True) if first != second]
+    edges = [(first, second, attributes.get(weight, 1))
+             for first, second, attributes in graph.edges(data=True) if first != second]
     scale = scale_of("finest", [edge[2] for edge in edges])
     if any((exact(edge[2], edge[:2]) * scale).denominator != 1 for edge in edges):
-        warnings.warn("weights were rounded to multiples of %s, which whole weights within 10^9 allow" % (1 / scale), RoundedWeights, stacklevel=3)
-    return [(first, second, whole(one, scale, "nearest", (first, second))) for first, second, one in edges]
+        warnings.warn("weights were rounded to multiples of %s, which whole weights within 10^9"
+                      " allow" % (1 / scale), RoundedWeights, stacklevel=3)
+    return [(first, second, whole(one, scale, "nearest", (first, second)))
+            for first, second, one in edges]
 
 
 def most_edges(nodes: List[Node], edges: Edges) -> Set[Tuple[Node, Node]]:
-    """A matching of least weight among those with the most edges: a perfect one where there is one. Else let one node more take the place of
-    every partner that is lacking: it is met as often as the largest matching leaves nodes alone."""
+    """A matching of least weight among those with the most edges: a perfect one where there is one.
+    Else let one node more take the place of every partner that is lacking: it is met as often as
+    the largest matching leaves nodes alone."""
     try:
         return pairs(solve(edges, "perfect", nodes=nodes, brief=True))
     except Infeasible:
-        largest = len(solve([edge[:2] for edge in edges], "match", nodes=nodes, brief=True).indices)
+        counted = [edge[:2] for edge in edges]
+        largest = len(solve(counted, "match", nodes=nodes, brief=True).indices)
     alone = len(nodes) - 2 * largest
-    lonely = [(node, NOBODY, 0) for node in nodes]
-    used = solve(edges + lonely, "bmatch", nodes=nodes, values={NOBODY: alone}, brief=True)
+    lonely: Edges = [(node, NOBODY, 0) for node in nodes]
+    try:
+        used = solve(edges + lonely, "bmatch", nodes=nodes, values={NOBODY: alone}, brief=True)
+    except LimitExceeded as error:
+        raise LimitExceeded("the largest matchings leave %d of the %d nodes alone: that many times"
+                            " the nodes, and %d edges, are more than is taken"
+                            % (alone, len(nodes), len(edges)), *error.args[1:]) from None
     return {pair for pair in pairs(used) if NOBODY not in pair}
 
 
@@ -47,25 +77,29 @@ def pairs(answer: Answer) -> Set[Tuple[Node, Node]]:
     return {answer.instance.ends[index] for index in answer.indices}
 
 
-def max_weight_matching(G: Any, maxcardinality: bool = False, weight: Optional[str] = "weight") -> Set[Tuple[Node, Node]]:
+def max_weight_matching(G: Any, maxcardinality: bool = False,
+                        weight: Optional[str] = "weight") -> Set[Tuple[Node, Node]]:
     """A matching of greatest weight; with `maxcardinality` among those with the most edges."""
     forget(G)
-    edges = whole_edges(G, weight)
-    if maxcardinality:
-        return most_edges(list(G), [(first, second, -one) for first, second, one in edges])
-    return pairs(solve(edges, "match", nodes=list(G), brief=True))
+    with within_limits():
+        edges = whole_edges(G, weight)
+        if maxcardinality:
+            return most_edges(list(G), [(first, second, -one) for first, second, one in edges])
+        return pairs(solve(edges, "match", nodes=list(G), brief=True))
 
 
 def min_weight_matching(G: Any, weight: Optional[str] = "weight") -> Set[Tuple[Node, Node]]:
     """A matching of least weight among those with the most edges."""
     forget(G)
-    return most_edges(list(G), whole_edges(G, weight))
+    with within_limits():
+        return most_edges(list(G), whole_edges(G, weight))
 
 
 def forget(graph: Any) -> None:
-    """Takes away what networkx keeps of a conversion: there is none, since graphs are read as they stand, and what is kept makes it warn of graphs
-    that were changed since."""
-    (getattr(graph, "__networkx_cache__", None) or {}).get("backends", {}).pop("blossom", None)
+    """Takes away what networkx keeps of a conversion: there is none, since graphs are read as they
+    stand, and what is kept makes it warn of graphs that were changed since."""
+    kept = getattr(graph, "__networkx_cache__", None) or {}
+    kept.get("backends", {}).pop("blossom", None)
 
 
 def convert_from_nx(graph: Any, **how: Any) -> Any:
@@ -78,18 +112,31 @@ def convert_to_nx(found: Any, **how: Any) -> Any:
     return found
 
 
-def can_run(name: str, args: Any, kwargs: Any) -> Any:
-    """Whether the function can be run, or why not."""
-    return True if name in ("max_weight_matching", "min_weight_matching") else "blossom has matchings of least and greatest weight alone"
+def can_run(name: str, args: Sequence[Any], kwargs: Mapping[str, Any]) -> Union[bool, str]:
+    """Whether the function can be run on its graph, or why not, in words. (Where many nodes stay
+    alone a smaller graph may be too large; that is seen when it is run.)"""
+    if name not in ("max_weight_matching", "min_weight_matching"):
+        return "blossom has matchings of least and greatest weight alone"
+    graph = args[0] if args else kwargs.get("G")
+    nodes, edges = graph.number_of_nodes(), graph.number_of_edges()
+    asked = bool(args[1]) if len(args) > 1 else bool(kwargs.get("maxcardinality", False))
+    most = name == "min_weight_matching" or asked
+    limit = MOST_NODES if most else MOST_VERTICES // 2
+    if nodes > limit or edges > MOST_EDGES:
+        return ("blossom takes %d nodes and %d edges here, and the graph has %d and %d"
+                % (limit, MOST_EDGES, nodes, edges))
+    return True
 
 
-def should_run(name: str, args: Any, kwargs: Any) -> Any:
+def should_run(name: str, args: Sequence[Any], kwargs: Mapping[str, Any]) -> Union[bool, str]:
     """Whether the function should be run where networkx may choose."""
     return can_run(name, args, kwargs)
 
 
 def info() -> Dict[str, Any]:
     """What networkx shows of the backend."""
-    return {"backend_name": "blossom", "project": "blossom", "package": "blossom", "short_summary": "Exact matchings whose optimality is proved.",
-            "functions": {"max_weight_matching": {"additional_docs": "Proved to be of greatest weight; weights that aren't whole are rounded."},
-                          "min_weight_matching": {"additional_docs": "Proved to be of least weight; weights that aren't whole are rounded."}}}
+    told = "Proved to be of %s weight; weights that aren't whole are rounded."
+    return {"backend_name": "blossom", "project": "blossom", "package": "blossom",
+            "short_summary": "Exact matchings whose optimality is proved.",
+            "functions": {"max_weight_matching": {"additional_docs": told % "greatest"},
+                          "min_weight_matching": {"additional_docs": told % "least"}}}

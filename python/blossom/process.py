@@ -9,23 +9,24 @@ import threading
 from dataclasses import dataclass
 from typing import Optional, Set, Tuple
 
-from .checkout import checkout
+from .checkout import checkout, is_present, released
 from .errors import ProgramFailed, TimeLimit
 
 WORDS = {"solve": ["solve"], "brief": ["solve", "--brief"], "check": ["check"]}
 
 
 def find_program(program: Optional[str] = None) -> str:
-    """The path of the program: the argument; the environment variable BLOSSOM; in the checkout that this package lies in or was installed
-    from, what was built there, or else the launcher, which builds it first; the first `blossom` in PATH.
+    """The path of the program: the argument; the environment variable BLOSSOM; that of the release that this package is; in the checkout that
+    it lies in or was installed from, what was built there of the present sources, or else the launcher, which builds it first; the first `blossom`
+    in PATH.
     ProgramFailed: there is none."""
-    named = program or os.environ.get("BLOSSOM")
+    named = program or os.environ.get("BLOSSOM") or released("blossom")
     if named:
         return os.fspath(named)
     top = checkout()
     if top is not None:
         built = os.path.join(top, "crates", "blossom", "out", "blossom")
-        return built if os.path.exists(built) else os.path.join(top, "blossom")
+        return built if os.path.exists(built) and is_present(top, built + ".look") else os.path.join(top, "blossom")
     found = shutil.which("blossom")
     if found is None:
         raise ProgramFailed("there is no program blossom: pass program=, or put its path in the environment variable BLOSSOM")
@@ -36,17 +37,17 @@ class Running:
     """The processes that run now, so that all of them can be stopped at once, by whatever thread they were started."""
 
     def __init__(self) -> None:
-        self.children: Set[subprocess.Popen] = set()
+        self.children: Set[subprocess.Popen[bytes]] = set()
         self.lock = threading.Lock()
         self.stopped = False
 
-    def add(self, child: subprocess.Popen) -> None:
+    def add(self, child: subprocess.Popen[bytes]) -> None:
         with self.lock:
             self.children.add(child)
             if self.stopped:
                 child.kill()
 
-    def remove(self, child: subprocess.Popen) -> None:
+    def remove(self, child: subprocess.Popen[bytes]) -> None:
         with self.lock:
             self.children.discard(child)
 
@@ -86,7 +87,7 @@ class Process:
             end(child)
 
 
-def end(child: subprocess.Popen) -> None:
+def end(child: subprocess.Popen[bytes]) -> None:
     """Ends a process that still runs, and lets its pipes go."""
     if child.poll() is None:
         child.kill()

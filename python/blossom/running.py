@@ -1,17 +1,28 @@
 """How the program is run: as a process or by its library."""
 from __future__ import annotations
 
-from typing import Any, Optional, Union
+from typing import Any, Literal, Optional, Protocol, Tuple, Union
 
 from .library import Library
 from .process import Process
 
-Runner = Union[Process, Library]
+
+class Runner(Protocol):
+    """What runs the program."""
+
+    def run(self, task: str, kind: str, text: bytes, timeout: Optional[float] = None,
+            running: Any = None) -> Tuple[int, bytes]:
+        """See `Process.run`."""
+        ...
 
 
-def runner(via: Any = "process", program: Optional[str] = None) -> Runner:
-    """What runs the program. via: "process", "library", or something made by `Process` or `Library`. program: the path of the program,
-    or of the shared object. ValueError: via is none of these."""
+Via = Union[Literal["process", "library"], Runner]
+
+
+def runner(via: Via = "process", program: Optional[str] = None) -> Runner:
+    """What runs the program. via: "process", "library", or something made by `Process` or
+    `Library`. program: the path of the program, or of the shared object. ValueError: via is none of
+    these."""
     if via == "process":
         return Process(program)
     if via == "library":
@@ -19,3 +30,11 @@ def runner(via: Any = "process", program: Optional[str] = None) -> Runner:
     if hasattr(via, "run"):
         return via
     raise ValueError('via is "process" or "library", and not %r' % (via,))
+
+
+def runner_again(before: Optional[Runner], via: Optional[Via], program: Optional[str]) -> Runner:
+    """What runs the program on something that `before` ran it on: that again, unless the caller
+    says another way."""
+    if via is None and program is None and before is not None:
+        return before
+    return runner("process" if via is None else via, program)

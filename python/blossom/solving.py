@@ -1,92 +1,182 @@
 """Solving and checking: one call for every kind, and one for each kind with its own words."""
 from __future__ import annotations
 
-from typing import Any, Optional, Union
+from typing import Any, Dict, Iterable, Optional, Union
 
 from .answers import Answer, Verdict, answer_of, verdict_of
 from .certificates import Certificate
-from .graphs import Node
+from .errors import GraphError, NoBest
+from .graphs import USUAL_CAPACITY, USUAL_WEIGHT, Graph, Node
 from .instances import Instance, Values, instance
-from .kinds import known
-from .running import runner
+from .kinds import Kind, known
+from .running import Via, runner, runner_again
+from .weights import Rounding, Scale
+
+#: What the words of `blossom.instance` are where nobody says anything.
+USUAL: Dict[str, Any] = {"nodes": (), "weight": USUAL_WEIGHT, "capacity": USUAL_CAPACITY,
+                         "values": None, "terminals": None, "source": None, "target": None,
+                         "scale": 1, "rounding": None}
 
 
-def instance_of(graph: Any, kind: str, how: dict) -> Instance:
-    """The graph as an instance of the kind, or the instance itself where it is one already. ValueError: that is of another kind, or
-    words for making one are left over."""
+def instance_of(graph: Union[Graph, Instance], kind: Kind, how: Dict[str, Any]) -> Instance:
+    """The graph as an instance of the kind, or the instance itself where it is one already.
+    ValueError: that is of another kind. TypeError: words for making one are passed besides."""
     if not isinstance(graph, Instance):
         return instance(graph, kind, **how)
     if graph.kind != known(kind):
         raise ValueError("the instance is one of %s, and not of %s" % (graph.kind, kind))
-    if how:
-        raise TypeError("an instance is made already; it takes no %s" % ", ".join(sorted(how)))
+    said = [name for name, value in how.items() if not is_usual(value, USUAL[name])]
+    if said:
+        raise TypeError("an instance is made already; it takes no %s" % ", ".join(sorted(said)))
     return graph
 
 
-def solve(graph: Any, kind: str = "perfect", *, brief: bool = False, via: Any = "process", program: Optional[str] = None,
-          timeout: Optional[float] = None, **how: Any) -> Answer:
+def is_usual(value: Any, usual: Any) -> bool:
+    """Whether a word is what it is where nobody says anything."""
+    return value is usual or type(value) is type(usual) and bool(value == usual)
+
+
+def solve(graph: Union[Graph, Instance], kind: Kind = "perfect", *, nodes: Iterable[Node] = (),
+          weight: Optional[str] = USUAL_WEIGHT, capacity: Optional[str] = USUAL_CAPACITY,
+          values: Values = None, terminals: Optional[Iterable[Node]] = None,
+          source: Optional[Node] = None, target: Optional[Node] = None, scale: Scale = 1,
+          rounding: Rounding = None, brief: bool = False, via: Via = "process",
+          program: Optional[str] = None, timeout: Optional[float] = None) -> Answer:
     """A best answer of the graph for the kind, with its certificate.
 
-    graph: in any of the forms that `blossom.graphs` lists, or an `Instance`. kind: one of `blossom.KINDS`. brief: without duals, so
-    that the answer proves nothing. via, program: see `blossom.running`. timeout: in seconds, for a process. how: the words of
+    graph: in any of the forms that `blossom.graphs` lists, or an `Instance`. kind: one of
+    `blossom.KINDS`. brief: without duals, so that the answer proves nothing. via, program: see
+    `blossom.running`. timeout: in seconds, for a process. The other words are those of
     `blossom.instance`.
 
-    Infeasible: there is no feasible answer. NonConservative: some circuit weighs less than 0 (`path`). GraphError, WeightError:
-    the graph is no instance of the kind. LimitExceeded: it is too large. TimeLimit: it took too long. ProgramFailed: the program
-    isn't there, or failed."""
-    of = instance_of(graph, kind, how)
-    return answer_of(of, *runner(via, program).run("brief" if brief else "solve", of.kind, of.text, timeout))
+    Infeasible: there is no feasible answer. NonConservative: some circuit weighs less than 0
+    (`path`). GraphError, WeightError: the graph is no instance of the kind. LimitExceeded: it is
+    too large. TimeLimit: it took too long. ProgramFailed: the program isn't there, or failed."""
+    of = instance_of(graph, kind, {"nodes": nodes, "weight": weight, "capacity": capacity,
+                                   "values": values, "terminals": terminals, "source": source,
+                                   "target": target, "scale": scale, "rounding": rounding})
+    by = runner(via, program)
+    status, output = by.run("brief" if brief else "solve", of.kind, of.text, timeout)
+    return answer_of(of, status, output, by)
 
 
-def check(graph: Any, kind: str, answer: Union[Answer, Certificate, str, bytes], *, via: Any = "process",
-          program: Optional[str] = None, timeout: Optional[float] = None, **how: Any) -> Verdict:
-    """What the proved checker says of an answer, a certificate or the text of a document for this graph: a Verdict, true where the document
-    proves what it states. A document speaks in numbers, so the graph has to be given as it was when it was solved: nodes and edges
-    in the same order, and the same words in `how`. Errors are those of `solve`, but for the first two."""
-    of = instance_of(graph, kind, how)
-    document = answer.certificate if isinstance(answer, Answer) else answer
-    text = document.text if isinstance(document, Certificate) else document
-    whole = text.encode("utf-8") if isinstance(text, str) else bytes(text)
-    return verdict_of(*runner(via, program).run("check", of.kind, of.text + whole, timeout))
+def check(graph: Union[Graph, Instance], kind: Kind,
+          answer: Union[Answer, Certificate, NoBest, str, bytes], *, nodes: Iterable[Node] = (),
+          weight: Optional[str] = USUAL_WEIGHT, capacity: Optional[str] = USUAL_CAPACITY,
+          values: Values = None, terminals: Optional[Iterable[Node]] = None,
+          source: Optional[Node] = None, target: Optional[Node] = None, scale: Scale = 1,
+          rounding: Rounding = None, via: Optional[Via] = None, program: Optional[str] = None,
+          timeout: Optional[float] = None) -> Verdict:
+    """What the proved checker says of an answer, a certificate or the text of a document for this
+    graph: a Verdict, true where the document proves what it states. A document speaks in numbers,
+    so the graph has to be given as it was when it was solved: nodes and edges in the same order,
+    and the same words besides. Without `via` and `program` the checker is run as what solved it
+    was, and for a text as a process. Errors are those of `solve`, but for the first two."""
+    of = instance_of(graph, kind, {"nodes": nodes, "weight": weight, "capacity": capacity,
+                                   "values": values, "terminals": terminals, "source": source,
+                                   "target": target, "scale": scale, "rounding": rounding})
+    text = document_of(answer)
+    before = text.by if isinstance(text, Certificate) else None
+    whole = text.text if isinstance(text, Certificate) else text
+    by = runner_again(before, via, program)
+    return verdict_of(of, *by.run("check", of.kind, of.text + whole, timeout))
 
 
-def perfect_matching(graph: Any, **how: Any) -> Answer:
-    """A perfect matching of least weight: every node is an end of exactly one of its edges. `how` is that of `solve`."""
-    return solve(graph, "perfect", **how)
+def document_of(answer: Any) -> Union[Certificate, bytes]:
+    """The certificate of an answer, or the bytes of a text. GraphError: it is none of these."""
+    if isinstance(answer, (Answer, NoBest)):
+        return answer.certificate
+    if isinstance(answer, Certificate):
+        return answer
+    if isinstance(answer, str):
+        return answer.encode("utf-8")
+    if isinstance(answer, (bytes, bytearray, memoryview)):
+        return bytes(answer)
+    raise GraphError("what is checked is an answer, a certificate or the text of a document, and"
+                     " not a %s" % type(answer).__name__)
 
 
-def max_weight_matching(graph: Any, **how: Any) -> Answer:
-    """A matching of greatest weight: every node is an end of at most one of its edges. `how` is that of `solve`."""
-    return solve(graph, "match", **how)
+def perfect_matching(graph: Union[Graph, Instance], *, nodes: Iterable[Node] = (),
+                     weight: Optional[str] = USUAL_WEIGHT, scale: Scale = 1,
+                     rounding: Rounding = None, brief: bool = False, via: Via = "process",
+                     program: Optional[str] = None, timeout: Optional[float] = None) -> Answer:
+    """A perfect matching of least weight: every node is an end of exactly one of its edges. The
+    words are those of `solve`."""
+    return solve(graph, "perfect", nodes=nodes, weight=weight, scale=scale, rounding=rounding,
+                 brief=brief, via=via, program=program, timeout=timeout)
 
 
-def b_matching(graph: Any, values: Values = None, **how: Any) -> Answer:
-    """Edges of least weight, each used any number of times, that meet each node as often as its value says."""
-    return solve(graph, "bmatch", values=values, **how)
+def max_weight_matching(
+        graph: Union[Graph, Instance], *, nodes: Iterable[Node] = (),
+        weight: Optional[str] = USUAL_WEIGHT, scale: Scale = 1, rounding: Rounding = None,
+        brief: bool = False, via: Via = "process", program: Optional[str] = None,
+        timeout: Optional[float] = None) -> Answer:
+    """A matching of greatest weight: every node is an end of at most one of its edges. The words
+    are those of `solve`."""
+    return solve(graph, "match", nodes=nodes, weight=weight, scale=scale, rounding=rounding,
+                 brief=brief, via=via, program=program, timeout=timeout)
 
 
-def capacitated_b_matching(graph: Any, values: Values = None, capacity: Optional[str] = "capacity", **how: Any) -> Answer:
-    """Edges of least weight that meet each node as often as its value says, none used more often than its capacity. `capacity` names the
-    attribute or column of capacities; an edge without one can be used any number of times."""
-    return solve(graph, "capmatch", values=values, capacity=capacity, **how)
+def b_matching(graph: Union[Graph, Instance], values: Values = None, *, nodes: Iterable[Node] = (),
+               weight: Optional[str] = USUAL_WEIGHT, scale: Scale = 1, rounding: Rounding = None,
+               brief: bool = False, via: Via = "process", program: Optional[str] = None,
+               timeout: Optional[float] = None) -> Answer:
+    """Edges of least weight, each used any number of times, that meet each node as often as its
+    value says."""
+    return solve(graph, "bmatch", nodes=nodes, weight=weight, values=values, scale=scale,
+                 rounding=rounding, brief=brief, via=via, program=program, timeout=timeout)
 
 
-def f_factor(graph: Any, values: Values = None, **how: Any) -> Answer:
-    """Edges of least weight, each used at most once, that meet each node as often as its value says."""
-    return solve(graph, "ffactor", values=values, **how)
+def capacitated_b_matching(
+        graph: Union[Graph, Instance], values: Values = None,
+        capacity: Optional[str] = USUAL_CAPACITY, *, nodes: Iterable[Node] = (),
+        weight: Optional[str] = USUAL_WEIGHT, scale: Scale = 1, rounding: Rounding = None,
+        brief: bool = False, via: Via = "process", program: Optional[str] = None,
+        timeout: Optional[float] = None) -> Answer:
+    """Edges of least weight that meet each node as often as its value says, none used more often
+    than its capacity. `capacity` names the attribute or column of capacities; an edge without one
+    can be used any number of times."""
+    return solve(graph, "capmatch", nodes=nodes, weight=weight, values=values, capacity=capacity,
+                 scale=scale, rounding=rounding, brief=brief, via=via, program=program,
+                 timeout=timeout)
 
 
-def t_join(graph: Any, terminals: Any, **how: Any) -> Answer:
-    """Edges of least weight, an odd number of them at each of the terminals and an even number at every other node. Weights may be below
-    0."""
-    return solve(graph, "tjoin", terminals=terminals, **how)
+def f_factor(graph: Union[Graph, Instance], values: Values = None, *, nodes: Iterable[Node] = (),
+             weight: Optional[str] = USUAL_WEIGHT, scale: Scale = 1, rounding: Rounding = None,
+             brief: bool = False, via: Via = "process", program: Optional[str] = None,
+             timeout: Optional[float] = None) -> Answer:
+    """Edges of least weight, each used at most once, that meet each node as often as its value
+    says."""
+    return solve(graph, "ffactor", nodes=nodes, weight=weight, values=values, scale=scale,
+                 rounding=rounding, brief=brief, via=via, program=program, timeout=timeout)
 
 
-def postman(graph: Any, **how: Any) -> Answer:
+def t_join(graph: Union[Graph, Instance], terminals: Iterable[Node], *, nodes: Iterable[Node] = (),
+           weight: Optional[str] = USUAL_WEIGHT, scale: Scale = 1, rounding: Rounding = None,
+           brief: bool = False, via: Via = "process", program: Optional[str] = None,
+           timeout: Optional[float] = None) -> Answer:
+    """Edges of least weight, an odd number of them at each of the terminals and an even number at
+    every other node. Weights may be below 0."""
+    return solve(graph, "tjoin", nodes=nodes, weight=weight, terminals=terminals, scale=scale,
+                 rounding=rounding, brief=brief, via=via, program=program, timeout=timeout)
+
+
+def postman(graph: Union[Graph, Instance], *, nodes: Iterable[Node] = (),
+            weight: Optional[str] = USUAL_WEIGHT, scale: Scale = 1, rounding: Rounding = None,
+            brief: bool = False, via: Via = "process", program: Optional[str] = None,
+            timeout: Optional[float] = None) -> Answer:
     """A closed walk of least weight that uses each edge at least once. No weight is below 0."""
-    return solve(graph, "postman", **how)
+    return solve(graph, "postman", nodes=nodes, weight=weight, scale=scale, rounding=rounding,
+                 brief=brief, via=via, program=program, timeout=timeout)
 
 
-def shortest_path(graph: Any, source: Node, target: Node, **how: Any) -> Answer:
-    """A path of least weight from source to target. Weights may be below 0, as long as no circuit weighs less than 0."""
-    return solve(graph, "path", source=source, target=target, **how)
+def shortest_path(graph: Union[Graph, Instance], source: Node, target: Node, *,
+                  nodes: Iterable[Node] = (), weight: Optional[str] = USUAL_WEIGHT,
+                  scale: Scale = 1, rounding: Rounding = None, brief: bool = False,
+                  via: Via = "process", program: Optional[str] = None,
+                  timeout: Optional[float] = None) -> Answer:
+    """A path of least weight from source to target. Weights may be below 0, as long as no circuit
+    weighs less than 0."""
+    return solve(graph, "path", nodes=nodes, weight=weight, source=source, target=target,
+                 scale=scale, rounding=rounding, brief=brief, via=via, program=program,
+                 timeout=timeout)

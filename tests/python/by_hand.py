@@ -15,7 +15,7 @@ import blossom  # noqa: E402
 from blossom import networkx_backend  # noqa: E402
 
 EXAMPLES = int(sys.argv[1]) if len(sys.argv) > 1 else 300
-limits = settings(max_examples=EXAMPLES, deadline=None, suppress_health_check=list(HealthCheck))
+limits = settings(max_examples=EXAMPLES, deadline=None, database=None, suppress_health_check=list(HealthCheck))
 
 
 @some.composite

@@ -11,8 +11,10 @@ import unittest
 
 HERE = os.path.dirname(os.path.abspath(__file__))
 PACKAGE = os.path.join(os.path.dirname(os.path.dirname(HERE)), "python")
-sys.path[:0] = [HERE, PACKAGE]
-os.environ["PYTHONPATH"] = PACKAGE  # for the processes that tests start
+# Libraries that tests shall find before those that are installed.
+LIBRARIES = [path for path in [os.environ.get("BLOSSOM_TEST_LIBRARIES")] if path]
+sys.path[:0] = [HERE, PACKAGE, *LIBRARIES]
+os.environ["PYTHONPATH"] = os.pathsep.join([PACKAGE, *LIBRARIES])  # for the processes that tests start
 
 
 class Outcome(unittest.TestResult):

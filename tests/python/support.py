@@ -21,6 +21,17 @@ def wanted(name):
         raise unittest.SkipTest("%s isn't installed" % name) from None
 
 
+class StandIn:
+    """In place of a program or a library: notes what it is asked, and answers the same each time."""
+
+    def __init__(self, status=0, output=b"s OPTIMAL perfect 1\nx 1 1\n"):
+        self.status, self.output, self.asked = status, output, []
+
+    def run(self, task, kind, text, timeout=None, running=None):
+        self.asked.append((task, kind, text, timeout))
+        return self.status, self.output
+
+
 def library_or_skip():
     """The path of the shared object, or a test that is skipped where it isn't built."""
     import blossom

@@ -3,11 +3,13 @@ import concurrent.futures
 import os
 import subprocess
 import sys
+import threading
 import time
 import unittest
+from unittest import mock
 
 import blossom
-from support import STAR, TRIANGLES, wanted
+from support import STAR, TRIANGLES, StandIn, library_or_skip, wanted
 from test_process import stand_in
 
 MIXED = [TRIANGLES, STAR, [("a", "b", 0.5)], [("a", "b", 7)]]
@@ -68,6 +70,30 @@ class Batches(unittest.TestCase):
                 blossom.solve_many("perfect", [[("a", "b"), ("c", "d")], [("a", "b")]], program=path)
             self.assertLess(time.monotonic() - start, 30)
 
+    def test_a_single_graph_makes_no_pool(self):
+        by = StandIn()
+        with mock.patch("concurrent.futures.ThreadPoolExecutor", side_effect=AssertionError):
+            answers = blossom.solve_many("perfect", [[("a", "b", 1)]], via=by, timeout=5)
+        self.assertEqual((answers[0].weight, by.asked[0][3]), (1, 5))
+
+    def test_several_are_run_at_once(self):
+        turn = threading.Barrier(3, timeout=60)
+
+        class Meeting(StandIn):
+            def run(self, *words, **how):
+                turn.wait()  # ends when three are here
+                return super().run(*words, **how)
+
+        with mock.patch("os.cpu_count", lambda: 3):
+            answers = blossom.solve_many("perfect", [[("a", "b", 1)]] * 3, via=Meeting())
+        self.assertEqual([answer.weight for answer in answers], [1] * 3)
+
+    def test_answers_are_checked_as_they_were_found(self):
+        by = StandIn()
+        for answer in blossom.solve_many("perfect", [[("a", "b", 1)]] * 2, via=by, brief=True):
+            self.assertIs(answer.certificate.by, by)
+        self.assertEqual([asked[0] for asked in by.asked], ["brief", "brief"])
+
     def test_over_dask(self):
         distributed = wanted("distributed")
         with distributed.Client(processes=False, n_workers=1, threads_per_worker=2, dashboard_address=None) as client:
@@ -85,3 +111,55 @@ class Batches(unittest.TestCase):
             done = subprocess.run([sys.executable, "-c", code % path], capture_output=True, timeout=50, env=dict(os.environ))
         self.assertIn(b"KeyboardInterrupt", done.stderr)
         self.assertLess(time.monotonic() - start, 40)
+
+
+class ByLibrary(unittest.TestCase):
+    SMALL = [[("a", "b", weight), ("b", "c", 3)] for weight in range(300)]
+
+    def test_small_graphs_make_no_pool_and_take_no_longer_than_a_loop(self):
+        by = blossom.Library(library_or_skip())
+        looped = batched = 1.0
+        for _ in range(5):
+            start = time.process_time()
+            one_by_one = [blossom.max_weight_matching(graph, via=by) for graph in self.SMALL]
+            looped = min(looped, time.process_time() - start)
+            start = time.process_time()
+            with mock.patch("concurrent.futures.ThreadPoolExecutor", side_effect=AssertionError):
+                answers = blossom.solve_many("match", self.SMALL, via=by)
+            batched = min(batched, time.process_time() - start)
+        self.assertEqual([one.weight for one in answers], [one.weight for one in one_by_one])
+        self.assertLess(batched, 1.2 * looped)
+        self.assertLess(batched / len(self.SMALL), 5e-4)  # (0.1 ms, on an idle machine)
+
+    def test_large_and_small_ones_come_in_order(self):
+        by = blossom.Library(library_or_skip())
+        large = [(node, node + 1, node % 7) for node in range(399)]
+        graphs = [large, [(0, 1, 5)], large, [(0, 1, 6)], large]
+        weights = [blossom.max_weight_matching(graph, via=by).weight for graph in graphs]
+        self.assertEqual([one.weight for one in blossom.solve_many("match", graphs, via=by)],
+                         weights)
+        found = blossom.solve_many("perfect", [large[:-1], [(0, 1, 5)]] * 2, via=by,
+                                   errors="return")
+        self.assertEqual(names(found), ["Infeasible", "Answer"] * 2)
+
+    def test_a_call_leaves_the_interpreter_to_other_threads(self):
+        by = blossom.Library(library_or_skip())
+        of = blossom.instance([(node, other, (node * other) % 97) for node in range(400)
+                               for other in range(node + 1, min(node + 40, 400))], "perfect")
+        done, turns = threading.Event(), []
+
+        def count():
+            while not done.is_set():
+                turns.append(time.monotonic())
+                time.sleep(0.001)
+
+        thread = threading.Thread(target=count)
+        thread.start()
+        start = time.monotonic()
+        by.run("solve", "perfect", of.text)
+        end = time.monotonic()
+        done.set()
+        thread.join()
+        inside = sum(start < turn < end for turn in turns)
+        self.assertGreater(inside, 20 * (end - start))
+        self.assertGreater(inside, 1)

@@ -139,10 +139,10 @@ class Command(unittest.TestCase):
         graph = self.path("graph.dimacs", "p edge 2 1\ne 1 2 5\n")
         answer = self.path("answer.txt", "s OPTIMAL perfect 5\nx 1 1\n")
         self.assertEqual(self.convert(graph, "--answer", answer), b"u,v,weight,count\n1,2,5,1\n")
-        twice = self.path("twice.txt", "s OPTIMAL bmatch 10\nx 1 2\n")
+        twice = self.path("twice.txt", "s OPTIMAL bmatch 20\nx 1 2\n")
         words = ["--kind", "bmatch", "--values", "1=2,2=2", "--scale", "2", "--answer", twice]
         self.assertEqual(self.convert(graph, *words), b"u,v,weight,count\n1,2,5,2\n")
-        halves = self.path("halves.edges", "a b 0.5\na b 2.5\n")
+        halves, answer = self.path("halves.edges", "a b 0.5\na b 2.5\n"), self.path("least.txt", "s OPTIMAL perfect 1\nx 1 1\n")
         self.assertEqual(self.convert(halves, "--scale", "2", "--answer", answer), b"u,v,key,weight,count\na,b,0,0.5,1\n")
 
     def test_dimacs_nodes_are_numbers(self):

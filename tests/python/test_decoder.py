@@ -1,11 +1,16 @@
 """The decoder: predictions, weights and edges, compared with a search of all sets of errors."""
 import itertools
+import math
 import random
+import time
 import unittest
 from fractions import Fraction
+from unittest import mock
 
 import blossom
-from support import library_or_skip, wanted
+from support import StandIn, library_or_skip, wanted
+
+STEANE = [[1, 1, 0, 0], [0, 1, 1, 0], [0, 0, 1, 1]]
 
 
 def ring(nodes):
@@ -39,7 +44,8 @@ class Decoding(unittest.TestCase):
         self.assertEqual(decoder.decode_to_edges_array([0, 1, 1]), [(1, 2)])
         self.assertEqual(decoder.decode_to_edges_array([1, 0, 0]), [(0, -1)])
         self.assertEqual(decoder.decode([0, 0, 0]), [0, 0, 0, 0])
-        self.assertEqual(decoder.edges()[0], (0, None, {"fault_ids": {0}, "weight": 1}))
+        self.assertEqual(decoder.edges()[0], (0, None, {"fault_ids": {0}, "weight": 1,
+                                                        "error_probability": None}))
 
     def test_all_syndromes_of_made_graphs(self):
         chance = random.Random(7)
@@ -75,6 +81,8 @@ class Decoding(unittest.TestCase):
         self.assertEqual(decoder.decode({0, 49}, return_weight=True), ([0], 10))
         self.assertEqual(decoder.decode({3, 7, 30}, return_weight=True), ([1], 9))
         self.assertTrue(decoder.answer({3, 7, 30}).check())
+        ends = [node for pair in decoder.instance({3}).ends for node in pair if node >= 50]
+        self.assertEqual((len(set(ends)), max(map(ends.count, ends))), (4, 18))  # no node has many
 
     def test_edges_within_the_boundary(self):
         decoder = blossom.Decoder.from_edges([(0, 1, -5, 0), (1, None, -2, 1), (0, 3, 4, 2), (2, 1, 3, 3)], boundary=[0, 1])
@@ -123,14 +131,18 @@ class Built(unittest.TestCase):
         self.assertEqual(decoder.decode([1, 0, 1], return_weight=True), ([1], 3))
 
     def test_two_edges_of_the_same_nodes(self):
-        for merge, weight in (("replace", 5), ("keep-original", 3), ("smallest-weight", 3)):
+        for merge, weight, least in (("replace", 5, 5), ("keep-original", 5, 3), ("smallest-weight", 5, 3),
+                                     ("replace", 2, 2), ("keep-original", 2, 3), ("smallest-weight", 2, 2)):
             decoder = blossom.Decoder.from_edges([(0, 1, 3)])
-            decoder.add_edge(1, 0, weight=5, merge_strategy=merge)
-            self.assertEqual(decoder.decode([1, 1], return_weight=True)[1], weight)
+            decoder.add_edge(1, 0, weight=weight, merge_strategy=merge)
+            self.assertEqual(decoder.decode([1, 1], return_weight=True)[1], least)
         with self.assertRaisesRegex(ValueError, "have an edge already"):
             decoder.add_edge(0, 1)
         with self.assertRaisesRegex(ValueError, "merge_strategy is one of"):
             decoder.add_edge(0, 2, merge_strategy="independent")
+        for edge in ((0,), (0, 1, 2, 3, 4)):
+            with self.assertRaisesRegex(blossom.GraphError, "an edge is"):
+                blossom.Decoder.from_edges([edge])
 
     def test_weights_are_whole_or_scaled(self):
         with self.assertRaisesRegex(blossom.WeightError, "scale="):
@@ -156,6 +168,127 @@ class Built(unittest.TestCase):
         self.assertEqual(decoder.decode([1, 1], return_weight=True), ([0, 1], 2))
         decoder.ensure_num_fault_ids(4)
         self.assertEqual(decoder.decode([1, 1]), [0, 1, 0, 0])
+
+
+class Constructed(unittest.TestCase):
+    def test_a_check_matrix_is_taken_by_the_constructor(self):
+        decoder = blossom.Decoder(STEANE, [5, 1, 1, 1], faults_matrix=[[1, 0, 0, 1]])
+        self.assertEqual((decoder.num_detectors, decoder.num_edges, decoder.num_fault_ids),
+                         (3, 4, 1))
+        self.assertEqual(decoder.edges()[0], (0, None, {"fault_ids": {0}, "weight": 5,
+                                                        "error_probability": None}))
+        self.assertEqual(decoder.decode([1, 0, 0], return_weight=True), ([1], 3))
+        self.assertEqual(blossom.Decoder(STEANE).decode([1, 1, 0]), [0, 1, 0, 0])
+        same = blossom.Decoder.from_check_matrix(STEANE, [5, 1, 1, 1], faults_matrix=[[1, 0, 0, 1]])
+        self.assertEqual(same.edges(), decoder.edges())
+
+    def test_a_graph_of_networkx_too(self):
+        networkx = wanted("networkx")
+        graph = networkx.path_graph(3)
+        graph.edges[0, 1]["error_probability"] = 0.1
+        decoder = blossom.Decoder(graph)
+        self.assertEqual(decoder.edges()[0][2]["error_probability"], 0.1)
+        with self.assertRaisesRegex(blossom.GraphError, "those of a check matrix"):
+            blossom.Decoder(graph, 3)
+
+    def test_what_is_no_matrix(self):
+        for matrix, words, said in (
+                (5, {}, "rows of 0 and 1, and not 5"), ("101", {}, "rows of 0 and 1"),
+                ([1, 0, 1], {}, "one is 1"), ([[1, 0], [1]], {}, "differ in length"),
+                ([[1, 0]], {}, "column 1 has 0 entries"),
+                ([[1, 1]], {"weights": [1, 2, 3]}, "there are 3 weights, and 2 errors"),
+                ([[1, 1]], {"error_probabilities": [0.1]}, "1 error_probabilities, and 2 errors"),
+                ([[1, 1]], {"faults_matrix": [[1]]}, "faults matrix has 1 columns")):
+            with self.subTest(matrix=matrix), self.assertRaisesRegex(blossom.GraphError, said):
+                blossom.Decoder(matrix, **words)
+        with self.assertRaisesRegex(blossom.GraphError, "those of a check matrix"):
+            blossom.Decoder(weights=[1, 2])
+
+    def test_weights_of_probabilities(self):
+        decoder = blossom.Decoder(STEANE, error_probabilities=[0.1, 0.2, 0.3, 0.4])
+        for edge, chance in zip(decoder.edges(), (0.1, 0.2, 0.3, 0.4)):
+            self.assertAlmostEqual(edge[2]["weight"], math.log((1 - chance) / chance))
+            self.assertEqual(edge[2]["error_probability"], chance)
+        prediction, weight = decoder.decode([1, 0, 0], return_weight=True)
+        likely = math.log(4) + math.log(7 / 3) + math.log(1.5)
+        self.assertEqual(prediction, [1, 0, 0, 0])
+        self.assertAlmostEqual(float(weight), math.log(9), places=7)
+        self.assertGreater(likely, math.log(9))
+        self.assertEqual((decoder.scale, math.log2(decoder.scale) % 1), (2**28, 0))
+
+    def test_the_scale_is_said(self):
+        for scale, found in ((1000, 1000), (None, 2**28), ("finest", 2**28)):
+            decoder = blossom.Decoder(scale=scale, rounding="nearest")
+            decoder.add_boundary_edge(0, error_probability=0.1)
+            self.assertEqual(decoder.scale, found)
+            self.assertAlmostEqual(float(decoder.decode({0}, return_weight=True)[1]), math.log(9),
+                                   places=3)
+        self.assertEqual(blossom.Decoder.from_edges([(0, 1, 3)]).scale, 1)
+        with self.assertRaisesRegex(blossom.WeightError, "no whole number"):
+            blossom.Decoder([[1, 1]], error_probabilities=0.1, scale=1).decode({0})
+
+    def test_what_is_no_probability(self):
+        decoder = blossom.Decoder()
+        for chance in (0, 1, -0.1, 1.5, float("nan"), "likely"):
+            with self.assertRaisesRegex(blossom.WeightError, "error_probability"):
+                decoder.add_edge(0, 1, error_probability=chance)
+        with self.assertRaisesRegex(blossom.WeightError, "and not both"):
+            decoder.add_edge(0, 1, None, 3, 0.1)
+        self.assertEqual(decoder.num_edges, 0)
+        decoder.add_edge(0, 1, error_probability=0.5)
+        decoder.add_edge(1, 2, error_probability=0.75)
+        for edge, weight in zip(decoder.edges(), (0, -math.log(3))):
+            self.assertAlmostEqual(edge[2]["weight"], weight)
+
+
+class Calls(unittest.TestCase):
+    def asked(self, call):
+        """What a decoder asks of the program by a call, where no pool can be made."""
+        stand_in = StandIn(0, b"s OPTIMAL tjoin 1\nx 5 1\n")
+        decoder = blossom.Decoder.from_edges(ring(5), via=stand_in)
+        with mock.patch("concurrent.futures.ThreadPoolExecutor", side_effect=AssertionError):
+            call(decoder)
+        return stand_in.asked
+
+    def test_one_shot_makes_no_pool(self):
+        text = "p edge 5 5\n" + "".join("e %d %d 1\n" % (node + 1, (node + 1) % 5 + 1)
+                                       for node in range(5)) + "n 1 1\nn 5 1\n"
+        for call in (lambda decoder: decoder.decode([1, 0, 0, 0, 1]),
+                     lambda decoder: decoder.decode({4, 0}),
+                     lambda decoder: decoder.decode_to_edges_array([1, 0, 0, 0, 1]),
+                     lambda decoder: decoder.decode_batch([[1, 0, 0, 0, 1]])):
+            self.assertEqual(self.asked(call), [("brief", "tjoin", text.encode(), None)])
+        self.assertEqual(self.asked(lambda decoder: decoder.answer({0, 4})),
+                         [("solve", "tjoin", text.encode(), None)])
+
+    def test_an_answer_is_checked_as_it_was_found(self):
+        stand_in = StandIn(0, b"s OPTIMAL tjoin 1\nx 5 1\n")
+        answer = blossom.Decoder.from_edges(ring(5), via=stand_in, timeout=9).answer({0, 4})
+        stand_in.output = b"s ACCEPTED\n"
+        self.assertTrue(answer.check())
+        self.assertEqual([asked[0] for asked in stand_in.asked], ["solve", "check"])
+        self.assertEqual(stand_in.asked[0][3], 9)
+
+    def test_errors_of_runs(self):
+        decoder = blossom.Decoder.from_edges(ring(5), via=StandIn(8, b""))
+        for call in (decoder.decode, decoder.answer, lambda shot: decoder.decode_batch([shot] * 3)):
+            with self.assertRaisesRegex(blossom.ProgramFailed, "not enough memory"):
+                call({0, 4})
+
+    def test_a_shot_takes_little_time_beside_the_solver(self):
+        rows = [(node, node + 1, 2, node) for node in range(900)]
+        rows += [(node, node + 2, 3) for node in range(900)]
+        stand_in = StandIn(0, b"s OPTIMAL tjoin 9\n" + b"".join(b"x %d 1\n" % edge
+                                                                for edge in range(1, 30)))
+        decoder = blossom.Decoder.from_edges(rows, via=stand_in)
+        decoder.decode({0, 1})
+        least = 1.0
+        for _ in range(20):
+            start = time.process_time()
+            for _ in range(20):
+                decoder.decode({5, 9, 600, 640})
+            least = min(least, (time.process_time() - start) / 20)
+        self.assertLess(least, 400e-6)  # (50 microseconds, on a machine that does nothing else)
 
 
 class Arrays(unittest.TestCase):

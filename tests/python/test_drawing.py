@@ -1,14 +1,18 @@
 """Pictures."""
+import inspect
 import io
 import os
+import re
 import tempfile
+import time
 import unittest
 from xml.etree import ElementTree
 
 import blossom
 from blossom.drawing.geometry import hull, rounded_hull
 from blossom.drawing.layout import layout
-from support import STAR, TRIANGLES, instances, wanted
+from blossom.drawing.shapes import Area, Disc, Text, frame
+from support import STAR, TOP, TRIANGLES, StandIn, instances, wanted
 
 PLACES = {"a": (0, 0), "b": (0, 2), "c": (1, 1), "d": (3, 1), "e": (4, 2), "f": (4, 0)}
 
@@ -31,6 +35,9 @@ class Pictures(unittest.TestCase):
         answer = blossom.postman([(1, 2, 4), (2, 3, 4), (3, 4, 4), (1, 4, 4), (1, 3, 5)])
         found = parts(answer.draw(duals=False, odd_sets=False))
         self.assertEqual((found["polygon"], found["path"]), (6, 6))
+        steps = [shape for shape in answer.draw().sheet.shapes if type(shape).__name__ == "Curve"]
+        again = [shape.colour == "#e07a2f" for shape in steps]  # the last, over all others
+        self.assertEqual(again, [False] * 5 + [True])
 
     def test_what_excludes_answers_is_red(self):
         with self.assertRaises(blossom.Infeasible) as told:
@@ -43,6 +50,12 @@ class Pictures(unittest.TestCase):
         with self.assertRaises(blossom.Infeasible) as told:
             blossom.postman([(1, 2), (3, 4)])
         self.assertIn("part that no edge leaves", blossom.draw(told.exception).svg())
+
+    def test_components_of_even_size_are_not_marked(self):
+        of = blossom.instance(STAR + [("hub", "p"), ("p", "q")], "perfect")
+        for text, hulls in (("u 1 1", 3), ("u 0", 0), ("u 2 1 5", 4)):
+            certificate = blossom.Certificate(of, b"s INFEASIBLE perfect\n%s\n" % text.encode())
+            self.assertEqual(parts(certificate.draw()).get("polygon", 0), hulls, text)
 
     def test_every_answer_can_be_drawn(self):
         for kind in blossom.KINDS:
@@ -68,8 +81,10 @@ class Pictures(unittest.TestCase):
         self.assertNotIn(">b<", answer.draw(labels=False, weights=False).svg())
 
     def test_a_position_that_is_missing(self):
-        with self.assertRaises(KeyError):
+        with self.assertRaises(KeyError) as told:
             blossom.perfect_matching([("a", "b")]).draw({"a": (0, 0)})
+        self.assertEqual(str(told.exception), "node 'b' has no position, nor have 0 others")
+        self.assertIsInstance(told.exception, blossom.GraphError)
 
     def test_positions_of_a_graph(self):
         networkx = wanted("networkx")
@@ -105,13 +120,182 @@ class Files(unittest.TestCase):
 
         axes = Figure().add_subplot()
         blossom.perfect_matching(TRIANGLES).draw(PLACES, axes=axes)
-        self.assertGreater(len(axes.patches), 10)
+        paths = [path for one in axes.collections for path in one.get_paths()]
+        self.assertEqual((len(axes.patches), len(axes.texts)), (0, 14))
+        self.assertEqual(len(paths), len(blossom.perfect_matching(TRIANGLES).draw(PLACES)
+                                         .sheet.shapes) - 14)
+
+
+def town(rows, columns):
+    """The streets of a town: a grid, whose nodes are their places."""
+    places = {(row, column): (column, row) for row in range(rows) for column in range(columns)}
+    streets = [(here, there) for here in places for there in
+               ((here[0], here[1] + 1), (here[0] + 1, here[1])) if there in places]
+    return places, streets
+
+
+def toured(streets):
+    """A picture's subject without the program: a walk to and fro along each street, by a search in
+    depth."""
+    numbers, near = {}, {}
+    for number, (u, v) in enumerate(streets, 1):
+        for here, there in ((u, v), (v, u)):
+            numbers[here, there] = number
+            near.setdefault(here, []).append(there)
+    walk, seen, stack = [], set(), [streets[0][0]]
+    while stack:
+        here = stack[-1]
+        there = next((one for one in near[here] if numbers[here, one] not in seen), None)
+        if there is None:
+            stack.pop()
+            if stack:
+                walk.append(numbers[here, stack[-1]])
+            continue
+        seen.add(numbers[here, there])
+        walk.append(numbers[here, there])
+        stack.append(there)
+    text = "s OPTIMAL postman %d\nw 1 %d %s\n" % (len(walk), len(walk), " ".join(map(str, walk)))
+    return blossom.postman(streets, via=StandIn(0, text.encode()))
+
+
+class Sizes(unittest.TestCase):
+    def texts(self, picture):
+        return [shape for shape in picture.sheet.shapes if hasattr(shape, "words")]
+
+    def kinds(self, picture, name):
+        return sum(type(shape).__name__ == name for shape in picture.sheet.shapes)
+
+    def test_a_town_of_1500_streets_can_be_read(self):
+        places, streets = town(28, 28)
+        self.assertGreater(len(streets), 1500)
+        picture = toured(streets).draw(places)
+        self.assertEqual([text.words for text in self.texts(picture)], [picture.title])
+        self.assertEqual(self.kinds(picture, "Area"), 0)
+        self.assertGreater(picture.sheet.width, 1200)
+        radii = {shape.radius for shape in picture.sheet.shapes if hasattr(shape, "radius")}
+        apart = 1200 / 28
+        self.assertTrue(all(1 < radius < 0.3 * apart for radius in radii))
+        widths = {shape.width for shape in picture.sheet.shapes if hasattr(shape, "control")}
+        self.assertTrue(all(0.5 < width < 0.2 * apart for width in widths))
+
+    def test_what_the_caller_says_stands(self):
+        places, streets = town(28, 28)
+        answer = toured(streets)
+        picture = answer.draw(places, labels=True, steps=True, width=500, caption=False)
+        self.assertEqual(len(self.texts(picture)), 28 * 28 + len(answer.steps))
+        self.assertEqual(self.kinds(picture, "Area"), len(answer.steps))
+        self.assertLess(picture.sheet.width, 640)
+        self.assertEqual(len(self.texts(answer.draw(places, labels={(0, 0): "here"}))), 2)
+
+    def test_small_pictures_have_everything(self):
+        answer = toured(town(3, 3)[1])
+        picture = answer.draw(town(3, 3)[0])
+        self.assertEqual(len(self.texts(picture)), 9 + len(answer.steps) + 1)
+        self.assertEqual((self.kinds(picture, "Area"), picture.sheet.width >= 640),
+                         (len(answer.steps), True))
+        bare = answer.draw(town(3, 3)[0], labels=False, steps=False)
+        self.assertEqual(len(self.texts(bare)), 1)
+
+    def test_duals_and_sets_of_many_nodes_want_to_be_asked_for(self):
+        nodes = 202
+        edges = [(node, node + 1, 2) for node in range(0, nodes, 2)]
+        document = "s OPTIMAL perfect %d\n" % nodes
+        document += "".join("x %d 1\n" % edge for edge in range(1, nodes // 2 + 1))
+        document += "".join("y %d 2\n" % node for node in range(1, nodes + 1)) + "z 2 3 1 2 3\n"
+        answer = blossom.perfect_matching(edges, via=StandIn(0, document.encode()))
+        places = {node: (node // 2 * 10, node % 2 * 10) for node in range(nodes)}
+        self.assertEqual(self.kinds(answer.draw(places), "Disc"), nodes)
+        self.assertEqual(self.kinds(answer.draw(places), "Area"), 0)
+        picture = answer.draw(places, duals=True, odd_sets=True)
+        self.assertEqual((self.kinds(picture, "Disc"), self.kinds(picture, "Area")), (2 * nodes, 1))
+        self.assertEqual(self.kinds(answer.draw(places, dual_length=1), "Disc"), 2 * nodes)
+
+    def test_a_png_of_a_town_takes_no_more_than_two_seconds(self):
+        wanted("matplotlib")
+        places, streets = town(28, 28)
+        picture = toured(streets).draw(places)
+        picture.save(io.BytesIO(), "png")  # (the first finds fonts)
+        start = time.process_time()
+        picture.save(io.BytesIO(), "png")
+        self.assertLess(time.process_time() - start, 2)
+
+    def test_a_layout_of_many_nodes_has_neighbours_near_each_other(self):
+        for rows, columns in ((12, 12), (14, 30)):
+            places, streets = town(rows, columns)
+            number = {place: node for node, place in enumerate(places)}
+            points = layout(len(places), [(number[u], number[v]) for u, v in streets])
+            lengths = sorted(((points[number[u]][0] - points[number[v]][0]) ** 2 +
+                              (points[number[u]][1] - points[number[v]][1]) ** 2) ** 0.5
+                             for u, v in streets)
+            wide = max(x for x, _ in points) - min(x for x, _ in points)
+            high = max(y for _, y in points) - min(y for _, y in points)
+            self.assertLess(lengths[-1], 0.2 * wide)
+            self.assertLess(lengths[-1], 4 * lengths[0])
+            self.assertTrue(0.15 * wide < high <= wide)
+
+    def test_all_words_are_documented(self):
+        words = [name for name in inspect.signature(blossom.draw).parameters if name != "subject"]
+        with open(os.path.join(TOP, "docs", "PYTHON.md"), encoding="utf-8") as file:
+            page = file.read()
+        for word in words:
+            self.assertRegex(blossom.draw.__doc__, r"\b%s\b" % word)
+            self.assertTrue(re.search(r"`%s(=[^`]*)?`" % word, page), word)
+        for call in (blossom.Answer.draw, blossom.Certificate.draw):
+            self.assertEqual(list(inspect.signature(call).parameters)[1:], words)
+
+
+class Notebooks(unittest.TestCase):
+    def test_small_answers_show_a_picture_and_their_rows(self):
+        answer = toured(town(2, 2)[1])
+        self.assertEqual(answer._repr_svg_(), answer.draw().svg())
+        page = ElementTree.fromstring("<div>%s</div>" % answer._repr_html_())
+        self.assertEqual(len(page.findall(".//tr")), 1 + 8)
+        self.assertEqual([cell.text for cell in page.find(".//tr")], ["step", "u", "v", "weight"])
+        self.assertEqual(len(page.findall("{http://www.w3.org/2000/svg}svg")), 1)
+
+    def test_large_ones_show_their_first_rows(self):
+        answer = toured(town(10, 10)[1])
+        self.assertIsNone(answer._repr_svg_())
+        page = ElementTree.fromstring("<div>%s</div>" % answer._repr_html_())
+        self.assertEqual(len(page.findall(".//tr")), 1 + 20)
+        self.assertEqual(page.findall("p")[-1].text, "and 340 more: ")
+        self.assertIsNone(page.find("{http://www.w3.org/2000/svg}svg"))
+
+    def test_names_are_escaped(self):
+        answer = blossom.perfect_matching([("<b>", "&", 1)], via=StandIn())
+        self.assertIn("<td>&lt;b&gt;</td><td>&amp;</td>", answer._repr_html_())
+        none = blossom.max_weight_matching([], via=StandIn(0, b"s OPTIMAL match 0\n"))
+        self.assertEqual((none._repr_svg_(), none._repr_html_()),
+                         (None, "<p>match answer of weight 0: 0 edges</p>"))
+
+    def test_reprs_are_short(self):
+        answer = toured(town(10, 10)[1])
+        decoder = blossom.Decoder([[1, 1, 0], [0, 1, 1]])
+        for thing, text in (
+                (answer, "<postman answer of weight 360: 360 steps>"),
+                (answer.instance, "<postman instance of 100 nodes and 180 edges>"),
+                (answer.certificate, "<certificate of postman: optimal, 0 duals, 0 odd sets>"),
+                (answer.certificate.document, "<optimal document of postman>"),
+                (answer.draw(), "<picture: Least closed walk along all edges: 360>"),
+                (blossom.read(io.StringIO("a b\n"), "edges"), "<table of 2 nodes and 1 edges>"),
+                (decoder, "<decoder of 2 detectors, 0 boundary nodes, 3 edges, 3 observables>")):
+            self.assertEqual(repr(thing), text)
+        self.assertEqual(repr(blossom.Certificate(answer.instance, b"s INFEASIBLE postman\n")),
+                         "<certificate of postman: infeasible>")
 
 
 class Plane(unittest.TestCase):
     def test_hulls(self):
         self.assertEqual(hull([(0, 0), (1, 1), (2, 0), (1, 3), (1, 1)]), [(0, 0), (2, 0), (1, 3)])
+        self.assertEqual(hull([(0, 0), (1, 0), (2, 0), (1, 3)]), [(0, 0), (2, 0), (1, 3)])
         self.assertTrue(all(abs((x * x + y * y) ** 0.5 - 5) < 1e-9 for x, y in rounded_hull([(0, 0), (0, 0)], [5, 2])))
+
+    def test_a_sheet_reaches_around_all_shapes(self):
+        disc, area = Disc((0, 0), 5, "red"), Area([(3, 3), (20, 4), (4, 9)], "red")
+        self.assertEqual(frame(10, 12, [disc], 1), (-6, -6, 10, 12))
+        self.assertEqual(frame(10, 12, [disc, area], 1), (-6, -6, 21, 12))
+        left, top, right, bottom = frame(10, 12, [Text((5, 20), "a long text", 10, "red")], 1)
+        self.assertTrue(left < -20 and right > 30 and (top, bottom) == (0, 26))
 
     def test_a_layout_is_the_same_each_time(self):
         edges = [(0, 1), (1, 2), (2, 0), (3, 4)]

@@ -60,6 +60,13 @@ class Forms(unittest.TestCase):
         with self.assertRaisesRegex(blossom.GraphError, "to_undirected"):
             text(networkx.DiGraph([(1, 2)]))
 
+    def test_edges_of_networkx_come_in_its_order(self):
+        networkx = wanted("networkx")
+        graph = networkx.gnp_random_graph(40, 0.3, seed=3)
+        for one in (graph, graph.subgraph(range(5, 30)), networkx.MultiGraph(graph)):
+            self.assertEqual(table_of(one).ends, [edge[:2] for edge in one.edges])
+            self.assertEqual(table_of(one).names, list(one.edges))
+
     def test_multigraphs_keep_their_keys(self):
         networkx = wanted("networkx")
         graph = networkx.MultiGraph()

@@ -10,6 +10,8 @@ import unittest
 from unittest import mock
 
 import blossom
+from blossom.checkout import is_present
+from blossom.library import find_library
 from blossom.process import Running, find_program
 from support import TOP
 
@@ -27,26 +29,78 @@ def stand_in(text):
         yield path
 
 
+def write(room, path, text):
+    """Writes a file of this path in a folder."""
+    os.makedirs(os.path.dirname(os.path.join(room, path)), exist_ok=True)
+    with open(os.path.join(room, path), "w", encoding="utf-8") as file:
+        file.write(text)
+
+
+@contextlib.contextmanager
+def small_checkout():
+    """A folder that looks like a checkout of one crate, where nothing is built."""
+    with tempfile.TemporaryDirectory() as room:
+        for path in ("blossom", "crates.txt", "HANDLES", "crates/blossom/src/main.rt", "crates/blossom/out/build.log"):
+            write(room, path, path)
+        yield room
+
+
 class Found(unittest.TestCase):
     def test_the_argument_goes_before_the_environment(self):
         with mock.patch.dict(os.environ, BLOSSOM="/there"):
             self.assertEqual((find_program("/here"), find_program()), ("/here", "/there"))
 
     def test_the_checkout_goes_before_the_path(self):
-        with mock.patch.dict(os.environ), tempfile.TemporaryDirectory() as room:
+        with mock.patch.dict(os.environ):
             os.environ.pop("BLOSSOM", None)
             self.assertIn(find_program(), (os.path.join(TOP, "crates", "blossom", "out", "blossom"), os.path.join(TOP, "blossom")))
-            with mock.patch("blossom.process.checkout", lambda: room):
-                self.assertEqual(find_program(), os.path.join(room, "blossom"))
-                os.makedirs(os.path.join(room, "crates", "blossom", "out"))
-                built = os.path.join(room, "crates", "blossom", "out", "blossom")
-                open(built, "w", encoding="utf-8").close()
-                self.assertEqual(find_program(), built)
             with mock.patch("blossom.process.checkout", lambda: None):
                 with mock.patch("shutil.which", lambda name: "/in/the/path/" + name):
                     self.assertEqual(find_program(), "/in/the/path/blossom")
                 with mock.patch("shutil.which", lambda name: None), self.assertRaisesRegex(blossom.ProgramFailed, "pass program="):
                     find_program()
+
+    def test_a_program_of_other_sources_is_not_taken(self):
+        with mock.patch.dict(os.environ), small_checkout() as room, mock.patch("blossom.process.checkout", lambda: room):
+            os.environ.pop("BLOSSOM", None)
+            launcher, built = os.path.join(room, "blossom"), os.path.join(room, "crates", "blossom", "out", "blossom")
+            self.assertEqual(self.found(), launcher)
+            open(built, "w", encoding="utf-8").close()
+            self.assertEqual(self.found(), launcher)
+            self.look(room, built)
+            self.assertEqual(self.found(), built)
+            for change in (lambda: os.utime(os.path.join(room, "crates", "blossom", "src", "main.rt"), (1, 1)), lambda: write(room, "HANDLES", "more"),
+                           lambda: write(room, "crates.txt", "more"), lambda: write(room, "crates/blossom/src/more.antt", ""),
+                           lambda: os.rename(os.path.join(room, "crates", "blossom", "src", "main.rt"), os.path.join(room, "crates", "blossom", "src", "lib.rt"))):
+                change()
+                self.assertEqual(self.found(), launcher)
+                self.look(room, built)
+                self.assertEqual(self.found(), built)
+            write(room, "crates/blossom/README.md", "no source")
+            write(room, "crates/blossom/must-fail/one.edit", "no source")
+            self.assertEqual(self.found(), built)
+
+    def test_a_release_has_its_own(self):
+        with tempfile.TemporaryDirectory() as room, mock.patch("blossom.checkout.RELEASE", room), mock.patch.dict(os.environ):
+            for name, variable, find in (("blossom", "BLOSSOM", find_program), ("libblossom.so", "BLOSSOM_LIBRARY", find_library)):
+                os.environ.pop(variable, None)
+                write(room, name, "")
+                self.assertEqual(find(), os.path.join(room, name))
+                os.environ[variable] = "/there"
+                self.assertEqual((find("/here"), find()), ("/here", "/there"))
+
+    def found(self):
+        """What is found in a process that hasn't looked yet."""
+        is_present.cache_clear()
+        return find_program()
+
+    def look(self, room, built):
+        """Notes what the sources look like, as the build does."""
+        sys.path.append(os.path.join(TOP, "scripts"))
+        from targets import LOOK
+        sys.path.pop()
+        with open(built + ".look", "wb") as file:
+            subprocess.run(LOOK, cwd=room, stdout=file, check=True)
 
     def test_a_program_that_is_not_there(self):
         with self.assertRaisesRegex(blossom.ProgramFailed, "can't be started"):

@@ -3,20 +3,21 @@ from __future__ import annotations
 
 import os
 from dataclasses import dataclass
-from typing import IO, Any, Hashable, Mapping, Optional, Tuple, Union
+from typing import IO, Any, Mapping, Optional, Tuple, Union
 
 from ..answers import Answer
 from ..certificates import Certificate
-from ..errors import NoBest
+from ..errors import GraphError, NoBest
 from .compose import compose, title
-from .scene import scene_of
+from .scene import Words, scene_of
 from .shapes import Sheet
 from .svg import svg
 
 Position = Tuple[float, float]
+File = Union[str, os.PathLike[str], IO[bytes]]
 
 
-@dataclass
+@dataclass(repr=False)
 class Picture:
     """A picture of an answer. A notebook shows it as it is."""
 
@@ -27,18 +28,21 @@ class Picture:
         """The picture as the text of an SVG file."""
         return svg(self.sheet, self.title)
 
-    def save(self, file: Union[str, os.PathLike, IO[bytes]], format: Optional[str] = None) -> None:
-        """Writes it to a path, or to a file that is open for bytes. format: "svg", or what matplotlib writes ("png", "pdf"); without it
-        what the path's ending says, or svg. ImportError: the format isn't svg, and matplotlib isn't there."""
-        chosen = format or (os.path.splitext(os.fspath(file))[1][1:].lower() if not hasattr(file, "write") else "") or "svg"
+    def save(self, file: File, format: Optional[str] = None) -> None:
+        """Writes it to a path, or to a file that is open for bytes. format: "svg", or what
+        matplotlib writes ("png", "pdf"); without it what the path's ending says, or svg.
+        ImportError: the format isn't svg, and matplotlib isn't there."""
+        target: Any = file
+        ending = "" if hasattr(target, "write") else os.path.splitext(os.fspath(target))[1]
+        chosen = format or ending[1:].lower() or "svg"
         if chosen != "svg":
             from . import raster
 
-            raster.save(self.sheet, file, chosen)
-        elif hasattr(file, "write"):
-            file.write(self.svg().encode("utf-8"))
+            raster.save(self.sheet, target, chosen)
+        elif hasattr(target, "write"):
+            target.write(self.svg().encode("utf-8"))
         else:
-            with open(file, "w", encoding="utf-8") as opened:
+            with open(target, "w", encoding="utf-8") as opened:
                 opened.write(self.svg())
 
     def on_axes(self, axes: Any) -> None:
@@ -47,26 +51,44 @@ class Picture:
 
         raster.on_axes(self.sheet, axes)
 
+    def __repr__(self) -> str:
+        return "<picture: %s>" % self.title
+
     def _repr_svg_(self) -> str:
         return self.svg()
 
 
-def draw(subject: Union[Answer, Certificate, NoBest], positions: Optional[Mapping[Hashable, Position]] = None,
-         file: Union[None, str, os.PathLike, IO[bytes]] = None, *, width: float = 640, height: Optional[float] = None,
-         labels: Union[bool, Mapping[Hashable, str]] = True, weights: Optional[bool] = None, duals: bool = True, odd_sets: bool = True,
-         dual_length: Optional[float] = None, caption: bool = True, axes: Any = None) -> Picture:
-    """A picture of an answer, or of what shows that there is none: used edges are bold, walks are numbered arrows (orange where an edge is
-    walked again), odd sets are shaded hulls, duals are discs (yellow above 0, violet below), a barrier, part or circuit is red.
+def draw(subject: Union[Answer, Certificate, NoBest],
+         positions: Optional[Mapping[Any, Position]] = None, file: Optional[File] = None, *,
+         width: Optional[float] = None, height: Optional[float] = None,
+         labels: Union[None, bool, Mapping[Any, str]] = None, weights: Optional[bool] = None,
+         steps: Optional[bool] = None, duals: Optional[bool] = None,
+         odd_sets: Optional[bool] = None, dual_length: Optional[float] = None,
+         caption: bool = True, axes: Any = None) -> Picture:
+    """A picture of an answer, or of what shows that there is none: used edges are bold, walks are
+    numbered arrows (orange where an edge is walked again), odd sets are shaded hulls, duals are
+    discs (yellow above 0, violet below), a barrier, part or circuit is red.
 
-    positions: where each node stands, y upwards, in any unit; without it, the `pos` (or `x` and `y`) of a networkx graph, or a layout. file: where to
-    write it besides (see `Picture.save`). width, height: in pixels; the height follows from the positions where it isn't said. labels:
-    False, or texts by node, in place of the names. weights: whether weights stand at the edges (for up to 30 edges they do). duals,
-    odd_sets: whether these are drawn. dual_length: the length of a unit of weight, in units of the positions: discs have the duals as
-    their radius then, and the hull of an odd set is as much wider as its dual. axes: axes of matplotlib to draw on besides.
-    Where the kind has duals of its own vertices, a disc shows the mean of those of a node, and a set the nodes of its members."""
+    positions: where each node stands, y upwards, in any unit; without it, the `pos` (or `x` and
+    `y`) of a networkx graph, or a layout. file: where to write it besides (see `Picture.save`).
+    width, height: in pixels; without them 640, and more for more than 200 nodes, and what the
+    positions ask. labels: names of nodes, True or False, or texts by node in their place; without
+    it names up to 80 nodes. weights: whether they stand at the edges; without it up to 30 edges,
+    but not for tours. steps: whether the steps of a walk have numbers; without it up to 100 steps,
+    and from 500 on they are lines without heads. duals, odd_sets: whether these are drawn; without
+    it up to 200 nodes. dual_length: the length of a unit of weight, in units of the positions:
+    discs have the duals as their radius then, and the hull of an odd set is as much wider as its
+    dual. caption: whether a line below says what it is. axes: axes of matplotlib to draw on
+    besides. Nodes and lines are smaller where many nodes share the sheet. Where the kind has duals
+    of its own vertices, a disc shows the mean of those of a node, and a set the nodes of its
+    members. GraphError: what is drawn is no answer, or a node has no position."""
     shown = subject.certificate if isinstance(subject, NoBest) else subject
-    scene = scene_of(shown, positions, width, height, labels, weights, dual_length, caption)
-    picture = Picture(compose(scene, duals, odd_sets, caption), title(scene))
+    if not isinstance(shown, (Answer, Certificate)):
+        raise GraphError("a picture is one of an answer, a certificate or an error that has one,"
+                         " and not of a %s" % type(shown).__name__)
+    scene = scene_of(shown, positions, Words(width, height, labels, weights, steps, duals, odd_sets,
+                                             dual_length, caption))
+    picture = Picture(compose(scene, caption), title(scene))
     if file is not None:
         picture.save(file)
     if axes is not None:

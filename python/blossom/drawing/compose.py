@@ -1,11 +1,13 @@
-"""The shapes of a scene: odd sets as shaded hulls, duals as discs, used edges bold, walks as arrows, what excludes answers in red."""
+"""The shapes of a scene: odd sets as shaded hulls, duals as discs, used edges bold, walks as
+arrows, what excludes answers in red."""
 from __future__ import annotations
 
 from math import atan2, cos, pi, sin
-from typing import Dict, FrozenSet, List, Sequence, Tuple
+from typing import Dict, FrozenSet, List, Sequence, Set, Tuple
 
-from ..kinds import VALUED, WALKED
+from ..kinds import ODD, VALUED, WALKED
 from .geometry import Point, arrow_head, control_point, on_curve, rounded_hull, toward
+from .layout import neighbours_of
 from .scene import CAPTION, Scene
 from .shapes import Area, Curve, Disc, Shape, Sheet, Text, frame
 
@@ -23,13 +25,16 @@ WHITE = "#ffffff"
 APART = 15.0
 #: Pixels between what is drawn and the sides of the sheet.
 RIM = 8.0
-TITLES = {"perfect": "perfect matching of least weight", "match": "matching of greatest weight", "bmatch": "b-matching of least weight",
-          "capmatch": "b-matching of least weight within capacities", "ffactor": "factor of least weight", "tjoin": "join of least weight",
+TITLES = {"perfect": "perfect matching of least weight", "match": "matching of greatest weight",
+          "bmatch": "b-matching of least weight",
+          "capmatch": "b-matching of least weight within capacities",
+          "ffactor": "factor of least weight", "tjoin": "join of least weight",
           "postman": "least closed walk along all edges", "path": "shortest path"}
 
 
-def bends(pairs: Sequence[Tuple[int, int]]) -> List[float]:
-    """How far each edge between two nodes is bent aside, so that none of the same two nodes lie on each other."""
+def bends(pairs: Sequence[Tuple[int, int]], pen: float) -> List[float]:
+    """How far each edge between two nodes is bent aside, so that none of the same two nodes lie on
+    each other."""
     count: Dict[FrozenSet[int], int] = {}
     for pair in pairs:
         count[frozenset(pair)] = count.get(frozenset(pair), 0) + 1
@@ -37,13 +42,14 @@ def bends(pairs: Sequence[Tuple[int, int]]) -> List[float]:
     found = []
     for first, second in pairs:
         both = frozenset((first, second))
-        bend = (seen.get(both, 0) - (count[both] - 1) / 2) * APART
+        bend = (seen.get(both, 0) - (count[both] - 1) / 2) * APART * pen
         seen[both] = seen.get(both, 0) + 1
         found.append(bend if first < second else -bend)
     return found
 
 
-def curve(scene: Scene, pair: Tuple[int, int], bend: float, colour: str, width: float, dashed: bool = False) -> Curve:
+def curve(scene: Scene, pair: Tuple[int, int], bend: float, colour: str, width: float,
+          dashed: bool = False) -> Curve:
     """The curve of an edge from node to node."""
     start, end = scene.points[pair[0]], scene.points[pair[1]]
     return Curve(start, control_point(start, end, bend), end, colour, width, dashed)
@@ -51,16 +57,21 @@ def curve(scene: Scene, pair: Tuple[int, int], bend: float, colour: str, width: 
 
 def arrow(scene: Scene, pair: Tuple[int, int], bend: float, colour: str, label: str) -> List[Shape]:
     """An arrow from node to node, with a label on its way."""
-    line = curve(scene, pair, bend, colour, 2.2)
-    tip = toward(line.end, line.control, scene.radius + 2)
-    head = arrow_head(tip, line.control, 11)
-    line.end = toward(tip, line.control, 7)
-    place = on_curve(line.start, line.control, line.end, 0.5)
-    return [line, Area(head, colour), Text(place, label, 10.5, colour, rim=True, bold=True)]
+    line = curve(scene, pair, bend, colour, 2.2 * scene.pen)
+    shapes: List[Shape] = [line]
+    if scene.heads:
+        tip = toward(line.end, line.control, scene.radius + 2 * scene.pen)
+        shapes.append(Area(arrow_head(tip, line.control, 11 * scene.pen), colour))
+        line.end = toward(tip, line.control, 7 * scene.pen)
+    if scene.steps:
+        place = on_curve(line.start, line.control, line.end, 0.5)
+        shapes.append(Text(place, label, 10.5, colour, rim=True, bold=True))
+    return shapes
 
 
 def odd_sets(scene: Scene, discs: Sequence[float]) -> List[Shape]:
-    """The odd sets, larger ones first, each around the discs of its nodes and what is within it. To scale its rim is as far out as the duals say."""
+    """The odd sets, larger ones first, each around the discs of its nodes and what is within it. To
+    scale its rim is as far out as the duals say."""
     sets, duals = scene.node_sets(), scene.dual_of()
     shapes: List[Shape] = []
     for nodes, _ in sets:
@@ -69,7 +80,9 @@ def odd_sets(scene: Scene, discs: Sequence[float]) -> List[Shape]:
             levels = 1 + max(depth(inner, within) for inner, _ in within)
             margins = [max(discs[node], scene.radius) + 8 * levels - 1 for node in nodes]
         else:
-            margins = [scene.unit * (max(duals[node], 0) + sum(dual for inner, dual in within if node in inner)) for node in nodes]
+            margins = [scene.unit * (max(duals[node], 0) + sum(dual for inner, dual in within
+                                                               if node in inner))
+                       for node in nodes]
         corners = rounded_hull([scene.points[node] for node in nodes], margins)
         shapes.append(Area(corners, SET, 0.16, SET, 1.2))
     return shapes
@@ -81,73 +94,99 @@ def depth(nodes: List[int], sets: List[Tuple[List[int], float]]) -> int:
 
 
 def disc_sizes(scene: Scene) -> List[float]:
-    """The radii of the discs of the duals: to scale the duals themselves, else rings around the nodes that are the wider the greater they are."""
+    """The radii of the discs of the duals: to scale the duals themselves, else rings around the
+    nodes that are the wider the greater they are."""
     duals = scene.dual_of()
     greatest = max([abs(dual) for dual in duals], default=0.0) or 1.0
     ring = min(22.0, max(7.0, 0.4 * scene.nearest() - scene.radius))
-    return [0.0 if not dual else abs(dual) * scene.unit if scene.unit else scene.radius + ring * (0.15 + 0.85 * abs(dual) / greatest) for dual in duals]
+    if scene.unit:
+        return [abs(dual) * scene.unit for dual in duals]
+    return [scene.radius + ring * (0.15 + 0.85 * abs(dual) / greatest) if dual else 0.0
+            for dual in duals]
 
 
 def dual_discs(scene: Scene, sizes: Sequence[float]) -> List[Shape]:
     """The duals of nodes that aren't 0, as discs."""
     colours = [ABOVE if dual > 0 else BELOW for dual in scene.dual_of()]
-    return [Disc(place, size, colour, 0.5, colour, 1.0) for place, size, colour in zip(scene.points, sizes, colours) if size]
+    return [Disc(place, size, colour, 0.5, colour, 1.0)
+            for place, size, colour in zip(scene.points, sizes, colours) if size]
 
 
 def plain_edges(scene: Scene) -> List[Shape]:
-    """The edges of an answer that is no walk, and those that a path leaves: bold where they are used."""
+    """The edges of an answer that is no walk, and those that a path leaves: bold where they are
+    used."""
     indices = range(len(scene.instance.edges))
     pairs = [scene.pair(index) for index in indices]
     counts = scene.answer.counts if scene.answer is not None else [0] * len(pairs)
     walked = scene.instance.kind in WALKED
-    drawn = [(curve(scene, pair, bend, USED, 4.2) if counts[index] and not walked else curve(scene, pair, bend, FAINT, 1.6))
-             for index, (pair, bend) in enumerate(zip(pairs, bends(pairs))) if not (walked and counts[index])]
+    bold, thin = 4.2 * scene.pen, 1.6 * scene.pen
+    drawn = [curve(scene, pair, bend, USED, bold) if counts[index] and not walked
+             else curve(scene, pair, bend, FAINT, thin)
+             for index, (pair, bend) in enumerate(zip(pairs, bends(pairs, scene.pen)))
+             if not (walked and counts[index])]
     drawn.sort(key=lambda line: line.width)
-    texts = [weight_text(scene, index, pair, bend, counts[index]) for index, (pair, bend) in enumerate(zip(pairs, bends(pairs)))]
+    texts = [weight_text(scene, index, pair, bend, counts[index])
+             for index, (pair, bend) in enumerate(zip(pairs, bends(pairs, scene.pen)))]
     return [*drawn, *[text for text in texts if text.words]]
 
 
 def weight_text(scene: Scene, index: int, pair: Tuple[int, int], bend: float, count: int) -> Text:
-    """What stands at an edge: its weight where weights are shown, and how often it is used where that is more than once."""
+    """What stands at an edge: its weight where weights are shown, and how often it is used where
+    that is more than once."""
     line = curve(scene, pair, bend, INK, 1)
     words = str(scene.instance.weight_of(index)) if scene.weights else ""
     if count > 1 and scene.instance.kind not in WALKED:
         words = ("%s \u00d7%d" % (words, count)).strip()
-    return Text(on_curve(line.start, line.control, line.end, 0.5), words, 10.5, USED if count else QUIET, rim=True, bold=count > 0)
+    return Text(on_curve(line.start, line.control, line.end, 0.5), words, 10.5,
+                USED if count else QUIET, rim=True, bold=count > 0)
 
 
 def arrows(scene: Scene) -> List[Shape]:
-    """The steps of a walk in their order, and the circuit that weighs less than 0. A step along an edge that was walked before stands out."""
+    """The steps of a walk in their order, and the circuit that weighs less than 0. A step along an
+    edge that was walked before stands out, and lies over the others."""
     steps = scene.answer.steps if scene.answer is not None else scene.certificate.circuit or []
     edges = scene.answer.step_indices if scene.answer is not None else range(len(steps))
     pairs = [(scene.places[step[0]], scene.places[step[1]]) for step in steps]
-    seen: set = set()
+    seen: Set[int] = set()
     shapes: List[Shape] = []
-    for place, (pair, bend, edge) in enumerate(zip(pairs, bends(pairs), edges), 1):
+    for place, (pair, bend, edge) in enumerate(zip(pairs, bends(pairs, scene.pen), edges), 1):
         colour = BAD if scene.answer is None else AGAIN if edge in seen else USED
         seen.add(edge)
         shapes += arrow(scene, pair, bend, colour, str(place))
-    return sorted(shapes, key=lambda shape: isinstance(shape, Text))
+    return sorted(shapes, key=depth_of_step)
+
+
+def depth_of_step(shape: Shape) -> int:
+    """Which shapes of a walk lie over which: texts over steps along edges that were walked before,
+    and those over the others."""
+    if isinstance(shape, Text):
+        return 2
+    colour = shape.colour if isinstance(shape, Curve) else shape.fill
+    return int(colour == AGAIN)
 
 
 def excluding(scene: Scene) -> List[Shape]:
     """The part that no edge leaves, and the odd components that a barrier of nodes leaves."""
     parts = [scene.marked(scene.certificate.part)] if scene.certificate.part is not None else []
     if scene.certificate.barrier is not None and scene.instance.kind == "perfect":
-        parts = [part for part in components(scene, scene.marked(scene.certificate.barrier)) if len(part) % 2]
-    hulls = [rounded_hull([scene.points[node] for node in part], [scene.radius + 14] * len(part)) for part in parts if part]
+        removed = scene.marked(scene.certificate.barrier)
+        parts = [part for part in components(scene, removed) if len(part) % 2]
+    hulls = [rounded_hull([scene.points[node] for node in part], [scene.radius + 14] * len(part))
+             for part in parts if part]
     return [Area(corners, BAD, 0.12, BAD, 1.2) for corners in hulls]
 
 
 def components(scene: Scene, removed: List[int]) -> List[List[int]]:
     """The components of the graph without these nodes."""
     pairs = [scene.pair(index) for index in range(len(scene.instance.edges))]
+    neighbours = neighbours_of(len(scene.points), pairs)
     left, found = set(range(len(scene.points))) - set(removed), []
     while left:
-        part, front = [], [left.pop()]
+        part: List[int] = []
+        front = [left.pop()]
         while front:
             part.append(front.pop())
-            near = {end for pair in pairs if part[-1] in pair for end in pair} & left
+            near = left.intersection(neighbours[part[-1]])
             left -= near
             front += near
         found.append(part)
@@ -155,16 +194,17 @@ def components(scene: Scene, removed: List[int]) -> List[List[int]]:
 
 
 def nodes(scene: Scene) -> List[Shape]:
-    """The nodes with their names: red in a barrier, dark where they are terminals, and with their values where those ask for something."""
+    """The nodes with their names: red in a barrier, dark where they are terminals, and with their
+    values where those ask for something."""
     barrier = set(scene.marked(scene.certificate.barrier))
-    terminal = [scene.instance.kind in ("tjoin", "path") and value % 2 == 1 for value in scene.instance.values]
+    terminal = [scene.instance.kind in ODD and value % 2 == 1 for value in scene.instance.values]
     inside = scene.inside and scene.instance.kind not in VALUED
     away = free_directions(scene)
     discs: List[Shape] = []
     texts: List[Shape] = []
     for node, (place, name) in enumerate(zip(scene.points, scene.names)):
         fill = BAD if node in barrier else INK if terminal[node] else WHITE
-        discs.append(Disc(place, scene.radius, fill, 1.0, INK, 1.4))
+        discs.append(Disc(place, scene.radius, fill, 1.0, INK, 1.4 * scene.pen))
         if scene.instance.kind in VALUED:
             name = "%s:%d" % (name, scene.instance.values[node])
         if name and inside:
@@ -178,23 +218,28 @@ def beside(place: Point, direction: float, radius: float, name: str) -> Text:
     """A name by its node, in this direction."""
     across, down = cos(direction), sin(direction)
     anchor = "start" if across > 0.4 else "end" if across < -0.4 else "middle"
-    return Text((place[0] + across * (radius + 6), place[1] + down * (radius + 10)), name, 11, INK, rim=True, anchor=anchor)
+    centre = (place[0] + across * (radius + 6), place[1] + down * (radius + 10))
+    return Text(centre, name, 11, INK, rim=True, anchor=anchor)
 
 
 def free_directions(scene: Scene) -> List[float]:
     """For each node the direction that is farthest from all its edges: there its name has room."""
     ways: List[List[float]] = [[] for _ in scene.points]
+    points = scene.points
     for first, second in (scene.pair(index) for index in range(len(scene.instance.edges))):
         for here, there in ((first, second), (second, first)):
-            ways[here].append(atan2(scene.points[there][1] - scene.points[here][1], scene.points[there][0] - scene.points[here][0]))
+            ways[here].append(atan2(points[there][1] - points[here][1],
+                                    points[there][0] - points[here][0]))
     return [free_direction(sorted(angles)) for angles in ways]
 
 
 def free_direction(angles: List[float]) -> float:
-    """The middle of the widest gap between these directions, which ascend; down where there are none."""
+    """The middle of the widest gap between these directions, which ascend; down where there are
+    none."""
     if not angles:
         return pi / 2
-    gaps = [(after - before, before) for before, after in zip(angles, angles[1:] + [angles[0] + 2 * pi])]
+    following = angles[1:] + [angles[0] + 2 * pi]
+    gaps = [(after - before, before) for before, after in zip(angles, following)]
     width, start = max(gaps)
     return start + width / 2
 
@@ -207,18 +252,20 @@ def title(scene: Scene) -> str:
         return "No answer: the %s in red shows it" % what
     if certificate.status == "nonconservative":
         return "No shortest path: the circuit in red weighs less than 0"
-    return "%s: %s" % (TITLES[kind][0].upper() + TITLES[kind][1:], scene.answer.weight if scene.answer else certificate.document.weight)
+    weight = scene.answer.weight if scene.answer else certificate.document.weight
+    return "%s: %s" % (TITLES[kind][0].upper() + TITLES[kind][1:], weight)
 
 
-def compose(scene: Scene, duals: bool, sets: bool, caption: bool) -> Sheet:
+def compose(scene: Scene, caption: bool) -> Sheet:
     """The sheet of a scene."""
-    discs = disc_sizes(scene) if duals else [0.0] * len(scene.points)
-    shapes: List[Shape] = odd_sets(scene, discs) if sets else []
+    discs = disc_sizes(scene) if scene.duals else [0.0] * len(scene.points)
+    shapes: List[Shape] = odd_sets(scene, discs) if scene.sets else []
     shapes += excluding(scene)
     shapes += dual_discs(scene, discs)
     shapes += plain_edges(scene) + arrows(scene) + nodes(scene)
     left, top, right, bottom = frame(scene.width, scene.height, shapes, RIM)
     if caption:
         bottom = max(bottom, frame(scene.width, scene.height, shapes, CAPTION)[3])
-        shapes.append(Text(((left + right) / 2, bottom - CAPTION / 2 - 2), title(scene), 14, INK, rim=True))
+        place = ((left + right) / 2, bottom - CAPTION / 2 - 2)
+        shapes.append(Text(place, title(scene), 14, INK, rim=True))
     return Sheet(left, top, right - left, bottom - top, shapes)

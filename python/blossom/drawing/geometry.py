@@ -10,7 +10,8 @@ CORNERS = 40
 
 def turn(origin: Point, first: Point, second: Point) -> float:
     """Above 0 where the way from the first point to the second turns left around the origin."""
-    return (first[0] - origin[0]) * (second[1] - origin[1]) - (first[1] - origin[1]) * (second[0] - origin[0])
+    return ((first[0] - origin[0]) * (second[1] - origin[1])
+            - (first[1] - origin[1]) * (second[0] - origin[0]))
 
 
 def half_hull(points: Sequence[Point]) -> List[Point]:
@@ -31,21 +32,25 @@ def hull(points: Sequence[Point]) -> List[Point]:
 
 def rounded_hull(points: Sequence[Point], margins: Sequence[float]) -> List[Point]:
     """The hull of discs around the points, each with its own radius."""
-    around = [(cos(2 * pi * corner / CORNERS), sin(2 * pi * corner / CORNERS)) for corner in range(CORNERS)]
-    return hull([(x + margin * dx, y + margin * dy) for (x, y), margin in zip(points, margins) for dx, dy in around])
+    around = [(cos(2 * pi * corner / CORNERS), sin(2 * pi * corner / CORNERS))
+              for corner in range(CORNERS)]
+    return hull([(x + margin * dx, y + margin * dy)
+                 for (x, y), margin in zip(points, margins) for dx, dy in around])
 
 
 def toward(start: Point, end: Point, length: float) -> Point:
     """The point so far from the start in the direction of the end."""
     distance = hypot(end[0] - start[0], end[1] - start[1]) or 1.0
-    return start[0] + (end[0] - start[0]) * length / distance, start[1] + (end[1] - start[1]) * length / distance
+    part = length / distance
+    return start[0] + (end[0] - start[0]) * part, start[1] + (end[1] - start[1]) * part
 
 
 def control_point(start: Point, end: Point, bend: float) -> Point:
     """The control point of a curve that passes so far to the side of the middle."""
     distance = hypot(end[0] - start[0], end[1] - start[1]) or 1.0
     middle = ((start[0] + end[0]) / 2, (start[1] + end[1]) / 2)
-    return middle[0] - (end[1] - start[1]) * 2 * bend / distance, middle[1] + (end[0] - start[0]) * 2 * bend / distance
+    aside = 2 * bend / distance
+    return middle[0] - (end[1] - start[1]) * aside, middle[1] + (end[0] - start[0]) * aside
 
 
 def on_curve(start: Point, control: Point, end: Point, part: float) -> Point:

@@ -1,9 +1,10 @@
-"""What there is to draw of an answer: places on the sheet, and what the certificate says of nodes and sets of nodes."""
+"""What there is to draw of an answer: places on the sheet, and what the certificate says of nodes
+and sets of nodes."""
 from __future__ import annotations
 
 from dataclasses import dataclass
 from functools import cached_property
-from math import hypot
+from math import hypot, sqrt
 from typing import Any, Dict, FrozenSet, Hashable, List, Mapping, Optional, Sequence, Tuple, Union
 
 from ..answers import Answer
@@ -19,14 +20,47 @@ CAPTION = 30.0
 LETTERS = 3
 #: Up to so many edges have their weights beside them, unless the caller says.
 WEIGHTS_SHOWN = 30
+#: Up to so many nodes have their names, unless the caller says.
+LABELS_SHOWN = 80
+#: Up to so many nodes have their duals drawn, and the odd sets around them, unless the caller says.
+DUALS_SHOWN = 200
+#: Up to so many steps of a walk have their numbers, and up to so many are arrows.
+STEPS_SHOWN = 100
+ARROWS_SHOWN = 500
+#: A sheet is so wide; one of many nodes is wider, so that each has some room.
+WIDTH, WIDEST, ROOM_OF_A_NODE = 640.0, 2400.0, 44.0
+
+
+@dataclass(frozen=True)
+class Words:
+    """What the caller says of a picture; None where the number of nodes and edges says it. See
+    `blossom.draw`."""
+
+    width: Optional[float] = None
+    height: Optional[float] = None
+    labels: Union[None, bool, Mapping[Any, str]] = None
+    weights: Optional[bool] = None
+    steps: Optional[bool] = None
+    duals: Optional[bool] = None
+    odd_sets: Optional[bool] = None
+    dual_length: Optional[float] = None
+    caption: bool = True
+
+
+def said(word: Optional[bool], usual: bool) -> bool:
+    """What the caller says, or what is usual."""
+    return usual if word is None else word
 
 
 @dataclass
 class Scene:
     """An answer on its sheet. Nodes are places in `instance.nodes` from here on.
 
-    points: of the nodes, in pixels. radius: of the circles that nodes are. unit: pixels for a unit of weight where duals are drawn to
-    scale, or None. names: of the nodes as texts. inside: names stand in the nodes. weights: those of edges are shown."""
+    points: of the nodes, in pixels. radius: of the circles that nodes are. unit: pixels for a unit
+    of weight where duals are drawn to scale, or None. names: of the nodes as texts. inside: names
+    stand in the nodes. weights, steps, heads, duals, sets: whether these are shown: weights of
+    edges, numbers of steps, heads of arrows, duals, odd sets. pen: how wide lines are beside those
+    of a small picture."""
 
     instance: Instance
     certificate: Certificate
@@ -39,6 +73,11 @@ class Scene:
     names: List[str]
     inside: bool
     weights: bool
+    steps: bool = True
+    heads: bool = True
+    duals: bool = True
+    sets: bool = True
+    pen: float = 1.0
 
     @cached_property
     def places(self) -> Dict[Hashable, int]:
@@ -51,15 +90,18 @@ class Scene:
         for name, dual in self.certificate.duals.items():
             if not isinstance(name, Gate):
                 found.setdefault(node_of(name), []).append(float(dual))
-        return [sum(found.get(node, [])) / max(len(found.get(node, [])), 1) for node in self.instance.nodes]
+        own = [found.get(node, []) for node in self.instance.nodes]
+        return [sum(duals) / max(len(duals), 1) for duals in own]
 
     def node_sets(self) -> List[Tuple[List[int], float]]:
-        """The nodes of each odd set with its dual, the larger sets first; sets of the same nodes are one, with their duals added."""
+        """The nodes of each odd set with its dual, the larger sets first; sets of the same nodes
+        are one, with their duals added."""
         sets: Dict[FrozenSet[int], float] = {}
         for members, dual in self.certificate.odd_sets:
             nodes = frozenset(self.places[node_of(name)] for name in members)
             sets[nodes] = sets.get(nodes, 0.0) + float(dual)
-        return [(sorted(nodes), dual) for nodes, dual in sorted(sets.items(), key=lambda one: (-len(one[0]), sorted(one[0])))]
+        order = sorted(sets.items(), key=lambda one: (-len(one[0]), sorted(one[0])))
+        return [(sorted(nodes), dual) for nodes, dual in order]
 
     def marked(self, names: Optional[Sequence[Any]]) -> List[int]:
         """The nodes that these names belong to."""
@@ -71,13 +113,19 @@ class Scene:
         return self.places[first], self.places[second]
 
     def nearest(self) -> float:
-        """The least distance between two nodes, in pixels."""
-        pairs = ((a, b) for place, a in enumerate(self.points[:400]) for b in self.points[:place])
+        """The least distance between two nodes, in pixels; of many nodes half of what each would
+        have if they stood evenly."""
+        number = len(self.points)
+        if number > 400:
+            return 0.5 * sqrt(self.width * self.height / number)
+        pairs = ((a, b) for place, a in enumerate(self.points) for b in self.points[:place])
         return min((hypot(a[0] - b[0], a[1] - b[1]) for a, b in pairs), default=200.0)
 
 
-def fitted(points: List[Point], width: float, height: Optional[float], caption: float) -> Tuple[List[Point], float, float]:
-    """The points on a sheet of this width, the sheet's height, and the pixels for a unit of length. The y axis turns over."""
+def fitted(points: List[Point], width: float, height: Optional[float],
+           caption: float) -> Tuple[List[Point], float, float]:
+    """The points on a sheet of this width, the sheet's height, and the pixels for a unit of length.
+    The y axis turns over."""
     across = [x for x, _ in points] or [0.0]
     up = [y for _, y in points] or [0.0]
     spans = max(across) - min(across), max(up) - min(up)
@@ -87,22 +135,42 @@ def fitted(points: List[Point], width: float, height: Optional[float], caption: 
     rooms = width - 2 * MARGIN, height - caption - 2 * MARGIN
     scale = min((room / span for room, span in zip(rooms, spans) if span), default=1.0)
     middle = (max(across) + min(across)) / 2, (max(up) + min(up)) / 2
-    placed = [(width / 2 + (x - middle[0]) * scale, (height - caption) / 2 - (y - middle[1]) * scale) for x, y in points]
+    placed = [(width / 2 + (x - middle[0]) * scale,
+               (height - caption) / 2 - (y - middle[1]) * scale) for x, y in points]
     return placed, height, scale
 
 
-def scene_of(subject: Union[Answer, Certificate], positions: Optional[Mapping[Hashable, Point]], width: float, height: Optional[float],
-             labels: Union[bool, Mapping[Hashable, str]], weights: Optional[bool], dual_length: Optional[float], caption: bool) -> Scene:
+def scene_of(subject: Union[Answer, Certificate], positions: Optional[Mapping[Any, Point]],
+             words: Words) -> Scene:
     """The scene of an answer or of a certificate."""
     certificate = subject.certificate if isinstance(subject, Answer) else subject
     answer = subject if isinstance(subject, Answer) else None
     instance = certificate.instance
-    points, sheet_height, scale = fitted(positions_of(instance, positions), width, height, CAPTION if caption else 0.0)
-    texts = labels if isinstance(labels, Mapping) else {node: str(node) for node in instance.nodes} if labels else {}
-    names = [str(texts.get(node, "")) for node in instance.nodes]
-    inside = max(map(len, names), default=0) <= LETTERS and dual_length is None and any(names)
-    shown = len(instance.edges) <= WEIGHTS_SHOWN and instance.kind != "postman" if weights is None else weights
-    scene = Scene(instance, certificate, answer, width, sheet_height, points, 11.0 if inside else 5.0,
-                  None if dual_length is None else dual_length * scale, names, inside, shown)
-    scene.radius = min(scene.radius, max(2.5, 0.3 * scene.nearest()))
+    number = len(instance.nodes)
+    width = words.width or min(max(WIDTH, ROOM_OF_A_NODE * sqrt(number)), WIDEST)
+    points, height, scale = fitted(positions_of(instance, positions), width, words.height,
+                                   CAPTION if words.caption else 0.0)
+    names = names_of(instance, words.labels)
+    to_scale = words.dual_length is not None
+    inside = max(map(len, names), default=0) <= LETTERS and not to_scale and any(names)
+    scene = Scene(instance, certificate, answer, width, height, points, 11.0 if inside else 5.0,
+                  words.dual_length * scale if words.dual_length is not None else None, names,
+                  inside, said(words.weights, len(instance.edges) <= WEIGHTS_SHOWN
+                               and instance.kind != "postman"))
+    walk = len(answer.step_indices if answer is not None else certificate.circuit or ())
+    scene.steps = said(words.steps, walk <= STEPS_SHOWN)
+    scene.heads = words.steps is True or walk <= ARROWS_SHOWN
+    scene.duals = said(words.duals, number <= DUALS_SHOWN or to_scale)
+    scene.sets = said(words.odd_sets, number <= DUALS_SHOWN or to_scale)
+    scene.radius = min(scene.radius, max(2.5 if number <= 400 else 1.5, 0.3 * scene.nearest()))
+    if number > DUALS_SHOWN:
+        scene.pen = min(1.0, max(0.35, 0.02 * scene.nearest()))
     return scene
+
+
+def names_of(instance: Instance, labels: Union[None, bool, Mapping[Any, str]]) -> List[str]:
+    """The text at each node."""
+    if isinstance(labels, Mapping):
+        return [str(labels.get(node, "")) for node in instance.nodes]
+    shown = said(labels, len(instance.nodes) <= LABELS_SHOWN)
+    return [str(node) if shown else "" for node in instance.nodes]

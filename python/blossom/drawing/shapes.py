@@ -1,4 +1,5 @@
-"""What a picture is made of: shapes on a sheet of pixels, whose y axis points down. Lengths are in pixels; colours are as in CSS."""
+"""What a picture is made of: shapes on a sheet of pixels, whose y axis points down. Lengths are in
+pixels; colours are as in CSS."""
 from __future__ import annotations
 
 from dataclasses import dataclass
@@ -47,7 +48,8 @@ class Curve:
 
 @dataclass
 class Text:
-    """A text around a point, with a white rim where `rim` is True. anchor: "middle", "start" or "end"."""
+    """A text around a point, with a white rim where `rim` is True. anchor: "middle", "start" or
+    "end"."""
 
     centre: Point
     words: str
@@ -63,7 +65,8 @@ Shape = Union[Area, Disc, Curve, Text]
 
 @dataclass
 class Sheet:
-    """Shapes, those behind first, and the rectangle of the plane that is shown: its upper left corner, its width and height."""
+    """Shapes, those behind first, and the rectangle of the plane that is shown: its upper left
+    corner, its width and height."""
 
     left: float
     top: float
@@ -73,7 +76,8 @@ class Sheet:
 
 
 def corners_of(shape: Shape) -> List[Point]:
-    """Points that no part of the shape reaches beyond, to all sides; none of curves, whose ends are nodes. How wide a text is can only be guessed."""
+    """Points that no part of the shape reaches beyond, to all sides; none of curves, whose ends are
+    nodes. How wide a text is can only be guessed."""
     if isinstance(shape, Area):
         return shape.corners
     if isinstance(shape, Disc):
@@ -86,8 +90,11 @@ def corners_of(shape: Shape) -> List[Point]:
     return []
 
 
-def frame(width: float, height: float, shapes: List[Shape], rim: float) -> Tuple[float, float, float, float]:
-    """The sides (left, top, right, bottom) of a sheet of this size, moved out where shapes would reach over them or nearer than the rim."""
+def frame(width: float, height: float, shapes: List[Shape],
+          rim: float) -> Tuple[float, float, float, float]:
+    """The sides (left, top, right, bottom) of a sheet of this size, moved out where shapes would
+    reach over them or nearer than the rim."""
     corners = [corner for shape in shapes for corner in corners_of(shape)] or [(rim, rim)]
     across, down = [x for x, _ in corners], [y for _, y in corners]
-    return min(0.0, min(across) - rim), min(0.0, min(down) - rim), max(width, max(across) + rim), max(height, max(down) + rim)
+    return (min(0.0, min(across) - rim), min(0.0, min(down) - rim),
+            max(width, max(across) + rim), max(height, max(down) + rim))

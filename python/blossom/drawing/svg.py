@@ -1,7 +1,7 @@
 """Pictures as SVG, without any other library."""
 from __future__ import annotations
 
-from typing import List
+from typing import List, Tuple
 from xml.sax.saxutils import escape, quoteattr
 
 from .shapes import Area, Curve, Disc, Shape, Sheet, Text
@@ -15,7 +15,8 @@ def short(number: float) -> str:
     return text[:-2] if text.endswith(".0") else text
 
 
-def point(place: tuple) -> str:
+def point(place: Tuple[float, float]) -> str:
+    """A point as SVG has it."""
     return "%s,%s" % (short(place[0]), short(place[1]))
 
 
@@ -24,30 +25,38 @@ def element(shape: Shape) -> str:
     if isinstance(shape, Curve):
         dashes = ' stroke-dasharray="5 4"' if shape.dashed else ""
         return '<path d="M%s Q%s %s" fill="none" stroke="%s" stroke-width="%s"%s/>' % (
-            point(shape.start), point(shape.control), point(shape.end), shape.colour, short(shape.width), dashes)
+            point(shape.start), point(shape.control), point(shape.end), shape.colour,
+            short(shape.width), dashes)
     if isinstance(shape, Text):
         return text_element(shape)
-    line = "" if shape.line == "none" else ' stroke="%s" stroke-width="%s"' % (shape.line, short(shape.line_width))
-    look = ' fill="%s"%s%s/>' % (shape.fill, "" if shape.opacity == 1 else ' fill-opacity="%g"' % shape.opacity, line)
+    line = "" if shape.line == "none" else (
+        ' stroke="%s" stroke-width="%s"' % (shape.line, short(shape.line_width)))
+    opacity = "" if shape.opacity == 1 else ' fill-opacity="%g"' % shape.opacity
+    look = ' fill="%s"%s%s/>' % (shape.fill, opacity, line)
     if isinstance(shape, Area):
         return '<polygon points="%s"' % " ".join(point(corner) for corner in shape.corners) + look
     assert isinstance(shape, Disc)
-    return '<circle cx="%s" cy="%s" r="%s"' % (short(shape.centre[0]), short(shape.centre[1]), short(shape.radius)) + look
+    numbers = (*shape.centre, shape.radius)
+    return '<circle cx="%s" cy="%s" r="%s"' % tuple(map(short, numbers)) + look
 
 
 def text_element(shape: Text) -> str:
-    rim = ' stroke="white" stroke-width="3" stroke-linejoin="round" paint-order="stroke"' if shape.rim else ""
+    """The element of a text."""
+    rim = ""
+    if shape.rim:
+        rim = ' stroke="white" stroke-width="3" stroke-linejoin="round" paint-order="stroke"'
     weight = ' font-weight="bold"' if shape.bold else ""
     return '<text x="%s" y="%s" font-size="%s" text-anchor="%s" fill="%s"%s%s>%s</text>' % (
-        short(shape.centre[0]), short(shape.centre[1] + 0.35 * shape.size), short(shape.size), shape.anchor, shape.colour, weight, rim,
-        escape(shape.words))
+        short(shape.centre[0]), short(shape.centre[1] + 0.35 * shape.size), short(shape.size),
+        shape.anchor, shape.colour, weight, rim, escape(shape.words))
 
 
 def svg(sheet: Sheet, title: str) -> str:
     """The picture as the text of an SVG file; the title is what a reader of the screen says."""
-    size = 'width="%s" height="%s" viewBox="%s %s %s %s"' % tuple(
-        short(side) for side in (sheet.width, sheet.height, sheet.left, sheet.top, sheet.width, sheet.height))
-    lines: List[str] = ['<svg xmlns="http://www.w3.org/2000/svg" %s font-family=%s>' % (size, quoteattr(FONT)),
-                        "<title>%s</title>" % escape(title),
-                        '<rect x="%s" y="%s" width="100%%" height="100%%" fill="white"/>' % (short(sheet.left), short(sheet.top))]
+    left, top, width, height = map(short, (sheet.left, sheet.top, sheet.width, sheet.height))
+    lines: List[str] = [
+        '<svg xmlns="http://www.w3.org/2000/svg" width="%s" height="%s" viewBox="%s %s %s %s"'
+        ' font-family=%s>' % (width, height, left, top, width, height, quoteattr(FONT)),
+        "<title>%s</title>" % escape(title),
+        '<rect x="%s" y="%s" width="100%%" height="100%%" fill="white"/>' % (left, top)]
     return "\n".join(lines + [element(shape) for shape in sheet.shapes] + ["</svg>\n"])

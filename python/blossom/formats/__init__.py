@@ -1,4 +1,5 @@
-"""Graphs from files, and answers to files: CSV, lists of edges, GraphML, and the DIMACS format of matching problems."""
+"""Graphs from files, and answers to files: CSV, lists of edges, GraphML, and the DIMACS format of
+matching problems."""
 from .reading import FORMATS, format_of, read
 from .writing import write_answer, write_instance
 

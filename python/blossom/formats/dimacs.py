@@ -1,17 +1,20 @@
 """Graphs in the DIMACS format of matching problems, as docs/FORMAT.md has it for instances."""
 from __future__ import annotations
 
-from typing import IO, Any, Dict, List
+from typing import IO, Any, Dict, List, Optional
 
 from ..errors import GraphError
-from ..graphs import Table, named
-from .numbers import number
+from ..graphs import USUAL_CAPACITY, USUAL_WEIGHT, Table, named
+from ..numbers_in_text import number
 
 
-def read_dimacs(file: IO[str], weight: str = "weight", capacity: str = "capacity") -> Table:
-    """The graph of an open file with `p edge N M`, `e U V [W [C]]` and `n V B` lines; nodes are the numbers 1 to N. GraphError: a line is no
-    such line, a node isn't among them, or there are not M edges."""
-    lines = [fields for fields in (line.split() for line in file) if fields and not fields[0].startswith("c")]
+def read_dimacs(file: IO[str], weight: Optional[str] = USUAL_WEIGHT,
+                capacity: Optional[str] = USUAL_CAPACITY) -> Table:
+    """The graph of an open file with `p edge N M`, `e U V [W [C]]` and `n V B` lines; nodes are the
+    numbers 1 to N. Each edge weighs 1 with `weight=None`. GraphError: a line is no such line, a
+    node isn't among them, or there are not M edges."""
+    lines = [fields for fields in (line.split() for line in file)
+             if fields and not fields[0].startswith("c")]
     headers = [fields for fields in lines if fields[0] == "p"]
     if len(headers) != 1 or len(headers[0]) != 4:
         raise GraphError("the file has %d lines `p edge N M`, and should have one" % len(headers))
@@ -25,6 +28,9 @@ def read_dimacs(file: IO[str], weight: str = "weight", capacity: str = "capacity
     if len(table.ends) != edges:
         raise GraphError("the header says %d edges, and there are %d" % (edges, len(table.ends)))
     table.names = named(table.ends)
+    table.weight_name, table.capacity_name = "weight", "capacity"
+    if weight is None:
+        table.weights, table.weight_name = [1] * edges, None
     return table
 
 
@@ -32,7 +38,7 @@ def take(table: Table, fields: List[str]) -> None:
     """Adds an `e` or `n` line to the table."""
     numbers = [number(field, "a field of %r" % " ".join(fields)) for field in fields[1:]]
     if fields[0] == "n" and len(numbers) == 2:
-        values: Dict = table.values
+        values: Dict[Any, Any] = table.values
         values[known(table, numbers[0])] = numbers[1]
     elif fields[0] == "e" and 2 <= len(numbers) <= 4:
         table.ends.append((known(table, numbers[0]), known(table, numbers[1])))
@@ -42,7 +48,7 @@ def take(table: Table, fields: List[str]) -> None:
         raise GraphError("the line %r has another number of fields" % " ".join(fields))
 
 
-def known(table: Table, node: Any) -> int:
+def known(table: Table, node: Any) -> Any:
     """The node, where it is one."""
     if node not in range(1, len(table.nodes) + 1):
         raise GraphError("there is no vertex %s: the header says %d" % (node, len(table.nodes)))

@@ -1,43 +1,78 @@
 """Which format a file is of, and the graph that it holds."""
 from __future__ import annotations
 
+import csv
+import io
 import os
-from typing import IO, Any, Callable, Dict, Optional, Union
+from typing import IO, Any, Callable, Dict, Literal, Optional, Union
 
 from ..errors import GraphError
-from ..graphs import Table
+from ..graphs import USUAL_CAPACITY, USUAL_WEIGHT, Table
 from .csv_table import read_csv
 from .dimacs import read_dimacs
 from .edge_list import read_edge_list
 from .graphml import read_graphml
 
-READERS: Dict[str, Callable[..., Table]] = {"csv": read_csv, "edges": read_edge_list, "graphml": read_graphml, "dimacs": read_dimacs}
+Format = Literal["csv", "edges", "graphml", "dimacs"]
+READERS: Dict[str, Callable[[IO[str], Optional[str], Optional[str]], Table]] = {
+    "csv": read_csv, "edges": read_edge_list, "graphml": read_graphml, "dimacs": read_dimacs}
 FORMATS = tuple(READERS)
-ENDINGS = {".csv": "csv", ".tsv": "csv", ".edges": "edges", ".edgelist": "edges", ".txt": "edges", ".graphml": "graphml", ".xml": "graphml",
-           ".dimacs": "dimacs", ".dim": "dimacs", ".col": "dimacs", ".match": "dimacs"}
+ENDINGS = {".csv": "csv", ".tsv": "csv", ".edges": "edges", ".edgelist": "edges", ".txt": "edges",
+           ".graphml": "graphml", ".xml": "graphml", ".dimacs": "dimacs", ".dim": "dimacs",
+           ".col": "dimacs", ".match": "dimacs"}
 
 
 def format_of(path: str) -> str:
     """The format that a file's name says. GraphError: it says none."""
     ending = os.path.splitext(path)[1].lower()
     if ending not in ENDINGS:
-        raise GraphError("the name %r doesn't say the format of the file: name it, as one of %s" % (path, ", ".join(FORMATS)))
+        raise GraphError("the name %r doesn't say the format of the file: name it, as one of %s"
+                         % (path, ", ".join(FORMATS)))
     return ENDINGS[ending]
 
 
-def read(file: Union[str, os.PathLike, IO], format: Optional[str] = None, *, weight: str = "weight", capacity: str = "capacity") -> Table:
-    """The graph of a file, which every call that takes a graph takes. file: a path, or a file that is open for text. format: one of
-    `blossom.formats.FORMATS`; without it the path's ending says it (.csv, .tsv, .edges, .edgelist, .txt, .graphml, .dimacs). weight, capacity:
-    the names of these columns. Numbers are read exactly. GraphError: the file is not of that format."""
-    chosen = format or format_of(str(getattr(file, "name", "")) if hasattr(file, "read") else os.fspath(file))
-    by = reader(chosen)
-    if hasattr(file, "read"):
-        return by(file, weight, capacity)
-    with open(file, "r", encoding="utf-8", newline="" if chosen == "csv" else None) as opened:
-        return by(opened, weight, capacity)
+def read(file: Union[str, os.PathLike[str], IO[str]], format: Optional[Format] = None, *,
+         weight: Optional[str] = USUAL_WEIGHT,
+         capacity: Optional[str] = USUAL_CAPACITY) -> Table:
+    """The graph of a file, which every call that takes a graph takes. file: a path, or a file that
+    is open for text. format: one of `blossom.formats.FORMATS`; without it the path's ending says it
+    (.csv, .tsv, .edges, .edgelist, .txt, .graphml, .dimacs). weight, capacity: the names of these
+    columns; with `weight=None` each edge weighs 1. Numbers are read exactly. GraphError: the file
+    is not of that format, it holds bytes that are no text, or a column that is named isn't
+    there."""
+    given: Any = file
+    if not hasattr(given, "read") and not isinstance(given, (str, os.PathLike)):
+        raise GraphError("a graph is read from a path or an open file, and not from a %s"
+                         % type(given).__name__)
+    name = str(getattr(given, "name", "")) if hasattr(given, "read") else os.fspath(given)
+    chosen = format or format_of(name)
+    by, text = reader(chosen), text_of(given, chosen)
+    try:
+        return by(io.StringIO(text, newline=""), weight, capacity)
+    except csv.Error as error:
+        raise GraphError("%r is no CSV: %s" % (name, error)) from None
 
 
-def reader(format: str) -> Callable[..., Any]:
+def text_of(file: Any, format: str) -> str:
+    """What stands in a file. GraphError: bytes that are no text."""
+    try:
+        newline = "" if format == "csv" else None
+        if hasattr(file, "read"):
+            text = file.read()
+        else:
+            with open(file, "r", encoding="utf-8", newline=newline) as opened:
+                text = opened.read()
+    except UnicodeDecodeError:
+        text = "\0"
+    if not isinstance(text, str):
+        raise GraphError("the file is open for bytes: open it for text")
+    if "\0" in text:
+        raise GraphError("the file holds bytes that are no text: a graph is read from files of %s"
+                         % ", ".join(FORMATS))
+    return text
+
+
+def reader(format: str) -> Callable[[IO[str], Optional[str], Optional[str]], Table]:
     """What reads the format. GraphError: there is none of that name."""
     if format not in READERS:
         raise GraphError("the formats are %s, and not %r" % (", ".join(FORMATS), format))

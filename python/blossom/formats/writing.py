@@ -14,44 +14,42 @@ from ..kinds import WALKED
 from .graphml import write_graphml
 
 ANSWER_FORMATS = ("csv", "graphml")
+#: The types of GraphML for the columns that answers have of their own.
+TYPES = {"step": "int", "key": "string", "weight": "double", "count": "int"}
 
 
 def write_instance(instance: Instance, file: IO[bytes]) -> None:
-    """Writes what `blossom solve` reads, with comments that say which name each number has."""
+    """Writes what `blossom solve` reads, with comments that say which name each number has, and
+    the instance's checksum, by which an answer is known again."""
     file.write(legend(instance) + instance.text)
 
 
-def rows_of(answer: Answer) -> List[Dict[str, Any]]:
-    """A row for each edge that is used, or for each step of a walk."""
-    instance = answer.instance
-    if answer.kind in WALKED:
-        return [{"step": place, "u": step[0], "v": step[1], "key": step[2] if len(step) > 2 else None, "weight": instance.weight_of(index)}
-                for place, (step, index) in enumerate(zip(answer.steps, answer.step_indices), 1)]
-    return [{"u": edge[0], "v": edge[1], "key": edge[2] if len(edge) > 2 else None, "weight": instance.weight_of(index),
-             "count": answer.counts[index]} for index, edge in zip(answer.indices, answer.edges)]
+def names_of(rows: List[Dict[str, Any]], walks: bool) -> List[str]:
+    """The columns of the rows, in order; those of an answer without rows are its own."""
+    return list(rows[0]) if rows else ["step", "u", "v", "weight"] if walks else [
+        "u", "v", "weight", "count"]
 
 
 def write_answer(answer: Answer, file: IO[bytes], format: str = "csv") -> None:
-    """Writes an answer as "csv" or "graphml": the edges that it uses with their weights and how often (`count`), or the steps of a walk in
-    their order (`step`). GraphError: another format."""
-    rows = rows_of(answer)
-    keyed = any(row["key"] is not None for row in rows)
-    first = ["step"] if answer.kind in WALKED else []
-    last = [] if answer.kind in WALKED else ["count"]
-    names = first + ["u", "v"] + (["key"] if keyed else []) + ["weight"] + last
+    """Writes an answer as "csv" or "graphml": the edges that it uses with their weights and how
+    often (`count`), or the steps of a walk in their order (`step`), each with the columns that the
+    edge has in the graph. GraphError: another format."""
+    rows = [{**row, "weight": decimal(row["weight"])} for row in answer.rows]
+    names = names_of(rows, answer.kind in WALKED)
     if format == "csv":
         text = io.StringIO()
-        table = csv.DictWriter(text, names, extrasaction="ignore", lineterminator="\n")
+        table = csv.DictWriter(text, names, lineterminator="\n")
         table.writeheader()
-        table.writerows([{**row, "weight": decimal(row["weight"])} for row in rows])
+        table.writerows(rows)
         file.write(text.getvalue().encode("utf-8"))
     elif format == "graphml":
         whole = all(isinstance(row["weight"], int) for row in rows)
-        types = {"step": "int", "key": "string", "weight": "int" if whole else "double", "count": "int"}
-        edges = [{**row, "weight": decimal(row["weight"])} for row in rows]
-        write_graphml(file, answer.instance.nodes, edges, {name: types[name] for name in names if name in types})
+        types = {name: TYPES.get(name, "string") for name in names if name not in ("u", "v")}
+        types["weight"] = "int" if whole else "double"
+        write_graphml(file, answer.instance.nodes, rows, types)
     else:
-        raise GraphError("answers are written as %s, and not as %r" % (" and ".join(ANSWER_FORMATS), format))
+        raise GraphError("answers are written as %s, and not as %r"
+                         % (" and ".join(ANSWER_FORMATS), format))
 
 
 def decimal(weight: Any) -> Any:

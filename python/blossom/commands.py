@@ -1,0 +1,218 @@
+"""The commands of the package: `python -m blossom solve` from a file of a graph to a file of an
+answer, and `python -m blossom convert` between files of graphs and the program's texts."""
+from __future__ import annotations
+
+import argparse
+import contextlib
+import os
+import sys
+from typing import IO, Any, Dict, Iterator, List, Optional
+
+from .answers import Verdict
+from .errors import BlossomError, GraphError, NoBest, ProgramFailed
+from .fitting import fitted
+from .formats import FORMATS, format_of, read, write_answer, write_instance
+from .formats.reading import Format
+from .formats.writing import ANSWER_FORMATS
+from .graphs import USUAL_CAPACITY, USUAL_WEIGHT, Table
+from .instances import Instance, instance
+from .kinds import KINDS
+from .solving import solve
+from .wording import command_line
+
+SOLVE_EXAMPLES = """examples:
+  python -m blossom solve streets.csv --kind postman -o tour.csv --picture tour.svg
+  python -m blossom solve pairs.edges --kind match
+  python -m blossom solve roads.csv --kind path --source A --target B --weight length --scale 1000
+"""
+CONVERT_EXAMPLES = """examples:
+  python -m blossom convert streets.csv --kind postman -o streets.dimacs
+  blossom solve postman < streets.dimacs > tour.txt
+  python -m blossom convert streets.csv --kind postman --answer tour.txt -o tour.csv
+"""
+#: What each command does besides reading a graph.
+DOES = {"solve": "Reads a graph from a file, and writes the best answer: CSV or GraphML.",
+        "convert": "Writes a graph as the program reads it; or, with --answer, what the program"
+                   " wrote for that as CSV or GraphML."}
+
+
+def parser() -> argparse.ArgumentParser:
+    """What the words are."""
+    words = argparse.ArgumentParser(prog="python -m blossom", description=__doc__,
+                                    epilog="`python -m blossom solve --help` says more.")
+    words.add_argument("--version", action="version", version="blossom " + version())
+    commands = words.add_subparsers(dest="command", metavar="COMMAND", required=True)
+    for name, examples in (("solve", SOLVE_EXAMPLES), ("convert", CONVERT_EXAMPLES)):
+        one = commands.add_parser(name, help=DOES[name], description=DOES[name], epilog=examples,
+                                  formatter_class=argparse.RawDescriptionHelpFormatter)
+        add_graph_words(one)
+        add_output_words(one, name)
+    return words
+
+
+def version() -> str:
+    """The version of the package."""
+    from . import __version__
+
+    return __version__
+
+
+def add_graph_words(words: argparse.ArgumentParser) -> None:
+    """The words that say what the graph is, and what of it is asked."""
+    add = words.add_argument
+    add("graph", help="a file with a graph (- is standard input)")
+    add("--kind", choices=KINDS, default="perfect", help="the kind of problem (perfect)")
+    add("--from", dest="format", choices=FORMATS,
+        help="the format of the graph; without it, what the file's name says")
+    add("--weight", metavar="NAME",
+        help="the column of weights, which has to be there; without it `weight`, where there is"
+             " one; '' counts each edge as 1")
+    add("--capacity", metavar="NAME", help="the column of capacities; without it `capacity`")
+    add("--scale", default="1", help="what weights are multiplied by, or finest (1)")
+    add("--rounding", choices=["nearest"], help="rounds weights that aren't whole then")
+    add("--terminals", metavar="A,B,..",
+        help="for tjoin: the nodes that are met an odd number of times")
+    add("--values", metavar="A=2,..",
+        help="for bmatch, capmatch, ffactor: how often nodes are met; 1 where nothing is said")
+    add("--source", help="for path: where it starts")
+    add("--target", help="for path: where it ends")
+
+
+def add_output_words(words: argparse.ArgumentParser, command: str) -> None:
+    """The words that say what is written."""
+    add = words.add_argument
+    add("-o", "--output", default="-", help="where to write (- is standard output, the default)")
+    add("--to", choices=ANSWER_FORMATS,
+        help="the format of the answer; without it, what the output's name says, or csv")
+    if command == "convert":
+        add("--answer", metavar="FILE",
+            help="what `blossom solve KIND` wrote for this graph: written as CSV or GraphML")
+        return
+    add("--picture", metavar="FILE", help="draws the answer besides: .svg, .png or .pdf")
+    add("--certificate", metavar="FILE",
+        help="writes instance and document besides, as `blossom check KIND` reads them")
+    add("--check", action="store_true", help="has the proved checker judge the answer besides")
+    add("--timeout", type=float, metavar="SECONDS", help="ends the solver after so many seconds")
+    add("--program", metavar="FILE", help="the program; without it, see docs/PYTHON.md")
+
+
+def node_named(table: Table, name: str) -> Any:
+    """The node of that name: nodes of files are texts, but those of DIMACS files numbers."""
+    return next((node for node in table.nodes if str(node) == name), name)
+
+
+def values_in(table: Table, text: str) -> Dict[Any, int]:
+    """The values of a list such as `A=2,B=3`. GraphError: an entry is none."""
+    found: Dict[Any, int] = dict(table.values)
+    for entry in filter(None, text.split(",")):
+        name, equal, value = entry.rpartition("=")
+        if not equal or not value.strip().isdecimal():
+            raise GraphError("--values has the entry %r: write NODE=NUMBER" % entry)
+        found[node_named(table, name)] = int(value)
+    return found
+
+
+def words_of(table: Table, given: argparse.Namespace) -> Dict[str, Any]:
+    """The words of `blossom.instance` that were given."""
+    how: Dict[str, Any] = {"scale": given.scale, "rounding": given.rounding}
+    if given.terminals is not None:
+        names = [name for name in given.terminals.split(",") if name]
+        how["terminals"] = [node_named(table, name) for name in names]
+    if given.values is not None:
+        how["values"] = values_in(table, given.values)
+    for end in ("source", "target"):
+        if getattr(given, end) is not None:
+            how[end] = node_named(table, getattr(given, end))
+    return how
+
+
+def instance_in(given: argparse.Namespace) -> Instance:
+    """The instance of the graph that was given."""
+    source = sys.stdin if given.graph == "-" else given.graph
+    format: Optional[Format] = given.format or (None if given.graph != "-" else "csv")
+    weight = USUAL_WEIGHT if given.weight is None else given.weight or None
+    capacity = USUAL_CAPACITY if given.capacity is None else given.capacity or None
+    table = read(source, format, weight=weight, capacity=capacity)
+    return instance(table, given.kind, weight=USUAL_WEIGHT if weight else None,
+                    **words_of(table, given))
+
+
+@contextlib.contextmanager
+def output(path: str) -> Iterator[IO[bytes]]:
+    """The file to write, or standard output. A file that isn't written whole isn't left there."""
+    if path == "-":
+        yield sys.stdout.buffer
+        return
+    with open(path, "wb") as file:
+        yield file
+
+
+def format_for(given: argparse.Namespace) -> str:
+    """The format that the answer is written in. GraphError: the output's name says none that
+    answers are written in."""
+    if given.to is not None:
+        return str(given.to)
+    if given.output == "-":
+        return "csv"
+    chosen = format_of(given.output)
+    if chosen not in ANSWER_FORMATS:
+        raise GraphError("answers are written as %s, and %r is none: pass --to"
+                         % (" and ".join(ANSWER_FORMATS), given.output))
+    return chosen
+
+
+def convert(given: argparse.Namespace) -> None:
+    """Writes the instance, or the answer that is given."""
+    of = instance_in(given)
+    if given.answer is None:
+        with output(given.output) as file:
+            write_instance(of, file)
+        return
+    format = format_for(given)
+    with open(given.answer, "rb") as file:
+        answer = fitted(of, file.read())
+    with output(given.output) as file:
+        write_answer(answer, file, format)
+
+
+def find(given: argparse.Namespace) -> None:
+    """Solves, and writes what was asked for."""
+    format = format_for(given)
+    of = instance_in(given)
+    answer = solve(of, of.kind, timeout=given.timeout, program=given.program)
+    with output(given.output) as file:
+        write_answer(answer, file, format)
+    if given.picture is not None:
+        answer.draw(file=given.picture)
+    if given.certificate is not None:
+        answer.certificate.write(given.certificate)
+    if given.check:
+        refuse_unproved(answer.check(program=given.program, timeout=given.timeout))
+    accepted = ", accepted by the checker" if given.check else ""
+    print("%s: weight %s%s" % (given.kind, answer.weight, accepted), file=sys.stderr)
+
+
+def refuse_unproved(verdict: Verdict) -> None:
+    """ProgramFailed: the checker doesn't accept the answer."""
+    if not verdict:
+        raise ProgramFailed("the checker refuses the answer: it breaks %s at line %s"
+                            % (verdict.rule, verdict.line))
+
+
+def main(words: Optional[List[str]] = None) -> int:
+    """The commands: 0 where it is done; 1 where there is no best answer, or something isn't as it
+    should be, which is said on standard error; 2 where the words are no command."""
+    given = parser().parse_args(words)
+    try:
+        with command_line():
+            (find if given.command == "solve" else convert)(given)
+    except NoBest as error:
+        print("no answer to write: %s" % error, file=sys.stderr)
+        return 1
+    except BrokenPipeError:
+        os.dup2(os.open(os.devnull, os.O_WRONLY), 1)  # so that the end says nothing of it
+        return 1
+    except (BlossomError, OSError, ValueError, ImportError) as error:
+        print("%s: %s" % (given.command, error), file=sys.stderr)
+        return 1
+    return 0

@@ -1,0 +1,128 @@
+"""Whether an answer that was read from a file is one of the graph that it is put on. A document
+speaks in numbers, so on a graph whose nodes or edges come in another order it says something
+else."""
+from __future__ import annotations
+
+from fractions import Fraction
+from typing import Any, List, Optional
+
+from .answers import Answer, answer_of
+from .certificates import CHECKSUM
+from .errors import GraphError, ProgramFailed
+from .instances import Instance
+from .weights import plain
+
+
+def fitted(of: Instance, text: bytes) -> Answer:
+    """The answer of a file that the program wrote, or that `Certificate.write` did, on this
+    instance. GraphError: the file holds no answer, or one of another graph. Infeasible,
+    NonConservative: what it holds says that there is none."""
+    refuse_other_checksum(of, text)
+    try:
+        answer = answer_of(of, 0, document_in(of, text))
+    except ProgramFailed as error:
+        raise GraphError("the file holds no answer of this graph: %s" % error) from None
+    reason = misfit(answer)
+    if reason is not None:
+        raise GraphError("the answer is one of another graph, or of this one with its nodes or"
+                         " edges in another order: %s" % reason)
+    return answer
+
+
+def refuse_other_checksum(of: Instance, text: bytes) -> None:
+    """GraphError: the file says of which instance it is, and that is another one."""
+    for line in text.splitlines():
+        told = line[len(CHECKSUM):].strip().decode("latin-1")
+        if line.startswith(CHECKSUM) and told != of.checksum:
+            raise GraphError("the answer is one of another graph, or of this one with its nodes or"
+                             " edges in another order: its instance has the checksum %s, and this"
+                             " graph %s" % (told, of.checksum))
+
+
+def is_line_of(line: bytes, letter: bytes) -> bool:
+    """Whether the line's first field is this one."""
+    return line.split()[:1] == [letter]
+
+
+def document_in(of: Instance, text: bytes) -> bytes:
+    """The document of a file: all of it, or what stands behind the instance. GraphError: the
+    instance there is another one, or nothing stands behind it."""
+    lines = text.splitlines(keepends=True)
+    if not any(is_line_of(line, b"p") for line in lines):
+        return text
+    start = next((place for place, line in enumerate(lines) if is_line_of(line, b"s")), len(lines))
+    if start == len(lines):
+        raise GraphError("the file holds an instance and no answer")
+    own = [line.split() for line in lines[:start] if not line.split()[:1] or
+           not line.split()[0].startswith(b"c")]
+    if [line for line in own if line] != [line.split() for line in of.text.splitlines()]:
+        raise GraphError("the answer is one of another graph, or of this one with its nodes or"
+                         " edges in another order: the instance before it is another one")
+    return b"".join(lines[start:])
+
+
+def misfit(answer: Answer) -> Optional[str]:
+    """What of the answer can't be so in its graph, in words; None where nothing is."""
+    of, walk = answer.instance, answer.certificate.document.walk
+    if walk is not None:
+        broken = broken_walk(of, *walk)
+        if broken is not None:
+            return broken
+    weight = sum(of.weights[index] * answer.counts[index] for index in answer.indices)
+    if weight != answer.certificate.document.weight:
+        here = plain(Fraction(weight) / of.scale)
+        return "it weighs %s there, and its edges weigh %s here" % (answer.weight, here)
+    return wrong_walk(answer) if of.kind in ("postman", "path") else wrong_uses(answer)
+
+
+def broken_walk(of: Instance, start: int, edges: List[int]) -> Optional[str]:
+    """The first step of a walk that doesn't begin where the one before it ends, in words."""
+    here: Any = of.nodes[start - 1]
+    for place, number in enumerate(edges, 1):
+        first, second = of.ends[number - 1]
+        if here not in (first, second):
+            return "step %d would go along edge %r, which isn't at %r" % (
+                place, of.edges[number - 1], here)
+        here = second if here == first else first
+    return None
+
+
+def wrong_walk(answer: Answer) -> Optional[str]:
+    """What of a walk isn't as its kind asks, in words."""
+    of, walk = answer.instance, answer.walk
+    if of.kind == "postman":
+        if walk[:1] != walk[-1:]:
+            return "the walk ends at %r, and not where it starts" % (walk[-1],)
+        if 0 in answer.counts:
+            return "it leaves out edge %r" % (of.edges[answer.counts.index(0)],)
+        return None
+    ends = [node for node, value in zip(of.nodes, of.values) if value % 2]
+    if not walk or {walk[0], walk[-1]} != set(ends) or len(set(walk)) < len(walk):
+        return "it is no path from %r to %r" % tuple(ends)
+    return None
+
+
+def wrong_uses(answer: Answer) -> Optional[str]:
+    """What of an answer that is no walk isn't as its kind asks, in words."""
+    of = answer.instance
+    most = of.capacities if of.kind in ("bmatch", "capmatch") else [1] * len(of.edges)
+    met = dict.fromkeys(of.nodes, 0)
+    for index in answer.indices:
+        count, limit = answer.counts[index], most[index]
+        if limit is not None and count > limit:
+            return "it uses edge %r %d times" % (of.edges[index], count)
+        for node in of.ends[index]:
+            met[node] += count
+    for node, value in zip(of.nodes, of.values):
+        if not is_met(of.kind, met[node], value):
+            return "it meets node %r %d times" % (node, met[node])
+    return None
+
+
+def is_met(kind: str, times: int, value: int) -> bool:
+    """Whether a node can be met so often in an answer of the kind."""
+    if kind == "perfect":
+        return times == 1
+    if kind == "match":
+        return times <= 1
+    return (times - value) % 2 == 0 if kind == "tjoin" else times == value

@@ -1,0 +1,87 @@
+"""What is too large for a kind, in the nodes and edges of the caller's graph: the program's limits
+are those of the graph that certificates speak of."""
+from __future__ import annotations
+
+from typing import Any, Dict, List
+
+from .instances import Instance
+from .kinds import MOST_PAIRS, MOST_VERTICES
+from .dual_names import units_of
+
+
+def too_large(of: Instance) -> str:
+    """Which limit this instance passes, in words; "" where it passes none."""
+    if of.kind in ("perfect", "match"):
+        return too_many_nodes(of)
+    if of.kind == "bmatch":
+        return too_much_value(of)
+    if of.kind in ("capmatch", "ffactor"):
+        return too_many_uses(of)
+    return too_many_ends(of)
+
+
+def too_many_nodes(of: Instance) -> str:
+    """For matchings: each node counts once, or twice where it can stay alone."""
+    most = MOST_VERTICES // (2 if of.kind == "match" else 1)
+    if len(of.nodes) <= most:
+        return ""
+    return "the graph has %d nodes; %s takes at most %d" % (len(of.nodes), of.kind, most)
+
+
+def too_much_value(of: Instance) -> str:
+    """For b-matchings: the values, and the ways in which edges can be used."""
+    value_at = dict(zip(of.nodes, of.values))
+    total, ways = sum(of.values), sum(value_at[u] * value_at[v] for u, v in of.ends)
+    if total > MOST_VERTICES:
+        return "the values add up to %d; bmatch takes at most %d" % (total, MOST_VERTICES)
+    if ways > MOST_PAIRS:
+        return ("the products of the values at the two ends of each edge add up to %d; bmatch takes"
+                " at most %d" % (ways, MOST_PAIRS))
+    return ""
+
+
+def too_many_uses(of: Instance) -> str:
+    """For factors and capacities: the values, and how often edges can be used."""
+    value_at, uses = dict(zip(of.nodes, of.values)), units_of(of)
+    size = sum(of.values) + 2 * sum(uses)
+    pairs = sum(use * (value_at[u] + use + value_at[v]) for use, (u, v) in zip(uses, of.ends))
+    if size > MOST_VERTICES:
+        return ("the values add up to %d, and the edges can be used %d times: the first and twice"
+                " the second are %d together; %s takes at most %d"
+                % (sum(of.values), sum(uses), size, of.kind, MOST_VERTICES))
+    if pairs > MOST_PAIRS:
+        return ("the uses of each edge times the values at its ends add up to %d; %s takes at most"
+                " %d" % (pairs, of.kind, MOST_PAIRS))
+    return ""
+
+
+def too_many_ends(of: Instance) -> str:
+    """For joins, tours and paths: the ends of edges, and the pairs of edges that meet at a node. A
+    path is a join twice: first one without terminals, which shows that no circuit weighs less than
+    0."""
+    degree: Dict[Any, int] = dict.fromkeys(of.nodes, 0)
+    for pair in of.ends:
+        for node in pair:
+            degree[node] += 1
+    for values in ([0] * len(of.nodes), of.values) if of.kind == "path" else (of.values,):
+        told = too_many_ports(of, [degree[node] + (of.kind != "postman" and
+                                                   (degree[node] + value) % 2)
+                                   for node, value in zip(of.nodes, values)], degree)
+        if told:
+            return told
+    return ""
+
+
+def too_many_ports(of: Instance, ports: List[int], degree: Dict[Any, int]) -> str:
+    """For a join: where nodes have so many ports."""
+    pairs = sum(one * (one - 1) // 2 for one in ports)
+    if sum(ports) > MOST_VERTICES:
+        beside = "" if of.kind == "postman" else ", and one more for some nodes"
+        return ("the graph has %d edges, with two ends each%s: %d together; %s takes at most %d,"
+                " so at most %d edges" % (len(of.ends), beside, sum(ports), of.kind, MOST_VERTICES,
+                                          MOST_VERTICES // 2))
+    if pairs + len(of.ends) > MOST_PAIRS:
+        largest = of.nodes[max(range(len(ports)), key=ports.__getitem__)]
+        return ("%d pairs of edges meet at nodes, %d edges at %r alone; %s takes at most %d such"
+                " pairs and edges" % (pairs, degree[largest], largest, of.kind, MOST_PAIRS))
+    return ""

@@ -1,0 +1,142 @@
+"""`python -m blossom`: from a file of a graph to a file of an answer, in one command."""
+import csv
+import io
+import os
+import re
+import subprocess
+import sys
+import tempfile
+import unittest
+from xml.etree import ElementTree
+
+import blossom
+from support import TOP, wanted
+
+STREETS = os.path.join(TOP, "examples", "streets.csv")
+ROADS = "from;to;length;name\nA;B;4.5;Mill Lane\nB;C;4;Low Street\nA;C;9;High Street\n"
+
+
+class Command(unittest.TestCase):
+    def setUp(self):
+        self.room = tempfile.TemporaryDirectory()
+        self.addCleanup(self.room.cleanup)
+
+    def path(self, name, text=None):
+        path = os.path.join(self.room.name, name)
+        if text is not None:
+            with open(path, "w", encoding="utf-8") as file:
+                file.write(text)
+        return path
+
+    def call(self, *words, given="", status=0):
+        done = subprocess.run([sys.executable, "-m", "blossom", *words], input=given,
+                              capture_output=True, text=True)
+        self.assertEqual(done.returncode, status, done.stderr)
+        self.assertNotIn("Traceback", done.stderr)
+        return done
+
+    def rows(self, text):
+        return list(csv.DictReader(io.StringIO(text)))
+
+    def test_a_tour_and_its_picture_in_one_command(self):
+        tour, picture, proof = self.path("tour.csv"), self.path("tour.svg"), self.path("tour.txt")
+        done = self.call("solve", STREETS, "--kind", "postman", "-o", tour, "--picture", picture,
+                         "--certificate", proof, "--check")
+        self.assertEqual((done.stdout, done.stderr),
+                         ("", "postman: weight 4130, accepted by the checker\n"))
+        with open(tour, encoding="utf-8") as file:
+            rows = self.rows(file.read())
+        self.assertEqual((len(rows), sum(int(row["weight"]) for row in rows)), (16, 4130))
+        self.assertEqual([row["step"] for row in rows], [str(step) for step in range(1, 17)])
+        self.assertIn("4130", ElementTree.parse(picture).find("{*}title").text)
+        with open(proof, encoding="ascii") as file:
+            self.assertIn("s OPTIMAL postman 4130", file.read())
+
+    def test_other_columns_come_back(self):
+        words = ["solve", self.path("roads.csv", ROADS), "--kind", "path", "--source", "C",
+                 "--target", "A", "--weight", "length", "--scale", "10"]
+        rows = self.rows(self.call(*words).stdout)
+        self.assertEqual([(row["u"], row["v"], row["name"], row["weight"]) for row in rows],
+                         [("C", "B", "Low Street", "4"), ("B", "A", "Mill Lane", "4.5")])
+        found = self.path("found.graphml")
+        self.call(*words, "-o", found)
+        self.assertIn("Mill Lane", [data.text for data in ElementTree.parse(found).iter()])
+
+    def test_messages_name_words_of_the_command_line(self):
+        roads = self.path("roads.csv", ROADS)
+        for words, said in (
+                ([], "pass --weight length, or --weight '' to count each edge as 1"),
+                (["--weight", "metres"], "as --weight metres asks: there are length, name"),
+                (["--weight", "length"], "pass --scale 10, by which all weights are multiplied, or"
+                 " --rounding nearest"),
+                (["--weight", "length", "--scale", "none"], "--scale none is neither a number"),
+                (["--weight", "length", "--scale", "1e9"], "pass a smaller scale, as --scale"),
+                (["--weight", "", "--kind", "bmatch", "--values", "A"], "'A': write NODE=NUMBER"),
+                (["--weight", "", "--kind", "bmatch", "--values", "A=x"], "write NODE=NUMBER"),
+                (["--weight", "", "-o", "answer.txt"], "pass --to")):
+            done = self.call("solve", roads, *words, status=1)
+            with self.subTest(words=words):
+                self.assertIn(said, done.stderr)
+                self.assertNotRegex(done.stderr, r"\b(scale|weight|rounding)=")
+        self.call("solve", roads, "--weight", "", "--kind", "match")
+        with self.assertRaisesRegex(blossom.WeightError, "pass scale=10, .* rounding='nearest'"):
+            blossom.postman([("a", "b", 0.5)])
+
+    def test_what_has_no_answer(self):
+        done = self.call("solve", "-", "--from", "edges", given="a b\nb c\n", status=1)
+        self.assertEqual((done.stdout, done.stderr[:43]),
+                         ("", "no answer to write: there is no perfect mat"))
+
+    def test_help_and_version(self):
+        done = self.call("--version")
+        self.assertEqual(done.stdout, "blossom %s\n" % blossom.__version__)
+        for words in (["--help"], ["solve", "--help"], ["convert", "--help"]):
+            self.assertIn("usage: python -m blossom", self.call(*words).stdout)
+        told = self.call("solve", "--help").stdout
+        for word in ("--kind", "--weight", "--scale", "--picture", "--certificate", "--timeout"):
+            self.assertIn(word, told)
+        for words in ([], ["marry"], ["solve"], ["solve", STREETS, "--timeuot", "3"]):
+            self.assertIn("usage:", self.call(*words, status=2).stderr)
+
+    def test_a_time_limit_and_a_program_that_is_not_there(self):
+        done = self.call("solve", STREETS, "--program", "/nowhere/blossom", status=1)
+        self.assertIn("can't be started", done.stderr)
+        slow = self.path("slow", "#!/bin/sh\nexec sleep 60\n")
+        os.chmod(slow, 0o755)
+        done = self.call("solve", STREETS, "--kind", "postman", "--program", slow, "--timeout",
+                         "0.2", status=1)
+        self.assertIn("stopped after 0.2 seconds", done.stderr)
+
+    def test_an_answer_that_the_checker_refuses(self):
+        wrong = self.path("wrong", "#!/bin/sh\ncat >/dev/null\n"
+                          "if [ $1 = solve ]; then echo s OPTIMAL perfect 3; echo x 1 1; exit 0; fi\n"
+                          "echo s REJECTED DualMissing 3; exit 1\n")
+        os.chmod(wrong, 0o755)
+        words = ["solve", "-", "--from", "edges", "--program", wrong]
+        done = self.call(*words, "--check", given="a b 3\n", status=1)
+        self.assertIn("the checker refuses the answer: it breaks DualMissing at line 3",
+                      done.stderr)
+        done = self.call(*words, given="a b 3\n")
+        self.assertEqual((done.stdout, done.stderr),
+                         ("u,v,weight,count\na,b,3,1\n", "perfect: weight 3\n"))
+
+    def test_pictures_that_want_matplotlib(self):
+        wanted("matplotlib")
+        picture = self.path("tour.png")
+        self.call("solve", STREETS, "--kind", "postman", "--picture", picture, "-o", os.devnull,
+                  "--to", "csv")
+        with open(picture, "rb") as file:
+            self.assertEqual(file.read(4), b"\x89PNG")
+
+    def test_without_matplotlib_it_says_what_to_install(self):
+        code = ("import sys; sys.modules['matplotlib'] = None; import blossom\n"
+                "blossom.max_weight_matching([]).draw(file='nowhere.png')\n")
+        done = subprocess.run([sys.executable, "-c", code], capture_output=True, text=True)
+        self.assertRegex(done.stderr.splitlines()[-1], "^ImportError: pictures .* want matplotlib,"
+                         ".*`pip install matplotlib` gets it$")
+
+    def test_a_checksum_stands_in_what_convert_writes(self):
+        done = self.call("convert", STREETS, "--kind", "postman")
+        of = blossom.instance(blossom.read(STREETS), "postman")
+        self.assertEqual(done.stdout.splitlines()[0], "c instance sha256 " + of.checksum)
+        self.assertTrue(re.search("^p edge 8 13$", done.stdout, re.M))

@@ -1,0 +1,159 @@
+"""Documents as numbers: what is read of each line, and what is no document."""
+import unittest
+
+import blossom
+from blossom.answers import answer_of, verdict_of
+from blossom.documents import read
+from support import StandIn, TRIANGLES
+
+PAIR = [("a", "b", 5)]
+PATH = [("a", "b", 1), ("b", "c", 1)]
+READ = (
+    ("an answer", "s OPTIMAL perfect 12\nx 1 1\nx 5 2\ny 1 -3\ny 2 4\nz 9 3 1 2 3\n",
+     dict(status="optimal", kind="perfect", weight=12, counts={1: 1, 5: 2}, duals={1: -3, 2: 4},
+          sets=[(9, [1, 2, 3])])),
+    ("a walk", "s OPTIMAL postman 4\nw 2 3 1 2 1\n", dict(walk=(2, [1, 2, 1]), weight=4)),
+    ("a barrier", "s INFEASIBLE perfect\nu 1 4\n", dict(status="infeasible", barrier=[4])),
+    ("an empty barrier", "s INFEASIBLE bmatch\nu 0\n", dict(barrier=[])),
+    ("an odd part", "s INFEASIBLE tjoin\nt 2 1 3\n", dict(odd_part=[1, 3], split_part=None)),
+    ("a split part", "s INFEASIBLE postman\nq 2 1 3\n", dict(split_part=[1, 3], odd_part=None)),
+    ("a circuit", "s NONCONSERVATIVE path\nw 1 2 1 2\n", dict(walk=(1, [1, 2]), weight=None)),
+    ("comments, blanks, returns", "c hello\r\n\n  s  OPTIMAL\tmatch 0 \r\ncx 1 1\n",
+     dict(kind="match", counts={})),
+)
+REFUSED = (
+    ("no text", ""), ("comments alone", "c s OPTIMAL perfect 1\n"), ("no first line", "x 1 1\n"),
+    ("a second s line", "s OPTIMAL perfect 5\nx 1 1\ns OPTIMAL perfect 5\n"),
+    ("another status", "s BEST perfect 5\n"), ("no weight", "s OPTIMAL perfect\n"),
+    ("a weight too many", "s INFEASIBLE perfect 5\n"), ("a weight twice", "s OPTIMAL perfect 5 5\n"),
+    ("no number", "s OPTIMAL perfect 5\nx 1 one\n"),
+    ("an unknown letter", "s OPTIMAL perfect 5\nv 1 1\n"),
+    ("two letters", "s OPTIMAL perfect 5\nxy 1 1\n"),
+    ("a barrier of an answer", "s OPTIMAL perfect 5\nu 1 1\n"),
+    ("a walk of a matching", "s OPTIMAL perfect 5\nw 1 1 1\n"),
+    ("uses of a tour", "s OPTIMAL postman 5\nx 1 1\n"),
+    ("duals of a refusal", "s INFEASIBLE perfect\ny 1 1\n"),
+    ("a barrier of a tour", "s INFEASIBLE postman\nu 1 1\n"),
+    ("a part of a matching", "s INFEASIBLE perfect\nt 1 1\n"),
+    ("an edge without a count", "s OPTIMAL perfect 5\nx 1\n"),
+    ("an edge with two", "s OPTIMAL perfect 5\nx 1 1 1\n"),
+    ("a count of 0", "s OPTIMAL bmatch 5\nx 1 0\n"),
+    ("an edge twice", "s OPTIMAL bmatch 5\nx 1 1\nx 1 1\n"),
+    ("a walk twice", "s OPTIMAL path 5\nw 1 1 1\nw 1 1 1\n"),
+    ("a walk that is too short", "s OPTIMAL path 5\nw 1 2 1\n"),
+    ("a set that is too long", "s OPTIMAL perfect 5\nz 9 3 1 2 3 4\n"),
+    ("a set without its size", "s OPTIMAL perfect 5\nz 9\n"),
+    ("a barrier that is too short", "s INFEASIBLE perfect\nu 2 1\n"),
+)
+STRANGE = (
+    ("of another kind", PAIR, "perfect", {}, "s OPTIMAL match 5\nx 1 1\n", "one of match"),
+    ("edge 0", PAIR, "perfect", {}, "s OPTIMAL perfect 5\nx 0 1\n", "edges that aren't in"),
+    ("an edge too many", PAIR, "perfect", {}, "s OPTIMAL perfect 5\nx 2 1\n", "edges that aren't"),
+    ("edge 0 of a walk", PATH, "postman", {}, "s OPTIMAL postman 4\nw 1 2 1 0\n", "edges that"),
+    ("an edge below 0", PATH, "postman", {}, "s OPTIMAL postman 4\nw 1 2 1 -1\n", "edges that"),
+    ("a start too many", PATH, "postman", {}, "s OPTIMAL postman 4\nw 4 2 1 1\n", "nodes that"),
+    ("a start of 0", PATH, "postman", {}, "s OPTIMAL postman 4\nw 0 2 1 1\n", "nodes that"),
+    ("node 0 of a part", PATH, "tjoin", {"terminals": ["a", "b"]}, "s INFEASIBLE tjoin\nt 1 0\n",
+     "nodes that"),
+    ("a node too many of a part", PATH, "postman", {}, "s INFEASIBLE postman\nq 1 4\n",
+     "nodes that"),
+)
+STATUSES = (
+    (1, b"", blossom.ProgramFailed, "status 1: that is no status of its"),
+    (2, b"", blossom.ProgramFailed, "status 2: it knows no such command; is it another version"),
+    (3, b"s MALFORMED Loop 4\n", blossom.BlossomError, "the instance breaks a rule: Loop 4"),
+    (4, b"s TOOLARGE 9000 7\n", blossom.LimitExceeded, "9000 vertices and 7 edges"),
+    (4, b"s TOOLARGE\n", blossom.ProgramFailed, "status 4: that is no status of its"),
+    (5, b"s TOOLONG\n", blossom.LimitExceeded, "more bytes than the program takes"),
+    (6, b"", blossom.ProgramFailed, "status 6: it could not read its input"),
+    (7, b"", blossom.ProgramFailed, "status 7: it could not write its answer"),
+    (8, b"", blossom.ProgramFailed, "status 8: there is not enough memory"),
+    (11, b"", blossom.ProgramFailed, "status 11: that is no status of its"),
+    (-9, b"", blossom.ProgramFailed, "status -9: a signal ended it"),
+)
+VERDICTS = ((0, b"s REJECTED Slack 3\n"), (1, b"s ACCEPTED\n"), (0, b"s ACCEPTED now\n"), (0, b""),
+            (1, b"s REJECTED Slack\n"), (1, b""), (0, b"ACCEPTED\n"))
+NO_ANSWERS = (
+    ("perfect", {}, "s INFEASIBLE perfect\nu 0\n", "there is no perfect matching, since some"
+     " component has an odd number of vertices"),
+    ("perfect", {}, "s INFEASIBLE perfect\nu 1 1\n", "since without 'a' more than 1 components of"
+     " odd size are left"),
+    ("perfect", {}, "s INFEASIBLE perfect\n", "there is no perfect matching$"),
+    ("bmatch", {}, "s INFEASIBLE bmatch\nu 1 1\n", r"no b-matching with these values, .*\('a', 0\)"),
+    ("capmatch", {}, "s INFEASIBLE capmatch\nu 0\n", "no b-matching with these values and capac"),
+    ("ffactor", {}, "s INFEASIBLE ffactor\nu 0\n", "there is no factor with these values"),
+    ("tjoin", {"terminals": ["a"]}, "s INFEASIBLE tjoin\nt 2 1 2\n", "there is no join of these"
+     " terminals, since no edge leaves 'a', 'b', and an odd number of ends is among them"),
+    ("path", {"source": "a", "target": "c"}, "s INFEASIBLE path\nt 1 1\n", "there is no walk"
+     " between the two ends, since no edge leaves 'a'"),
+    ("postman", {}, "s INFEASIBLE postman\nq 1 3\n", "they don't hang together: no edge leaves"
+     " 'c'"),
+    ("path", {"source": "a", "target": "c"}, "s NONCONSERVATIVE path\nw 1 2 1 1\n", r"some circuit"
+     r" weighs less than 0: \('a', 'b'\), \('b', 'a'\)"),
+    ("path", {"source": "a", "target": "c"}, "s NONCONSERVATIVE path\n", "weighs less than 0$"),
+)
+
+
+class Documents(unittest.TestCase):
+    def test_what_is_read_of_each_line(self):
+        for name, text, wanted in READ:
+            document = read(text.encode())
+            with self.subTest(name):
+                self.assertEqual({key: getattr(document, key) for key in wanted}, wanted)
+
+    def test_what_is_no_document(self):
+        for name, text in REFUSED:
+            with self.subTest(name), self.assertRaisesRegex(blossom.ProgramFailed, "document"):
+                read(text.encode())
+
+    def test_documents_of_something_else(self):
+        for name, edges, kind, words, text, said in STRANGE:
+            of = blossom.instance(edges, kind, **words)
+            with self.subTest(name), self.assertRaisesRegex(blossom.ProgramFailed, said):
+                answer_of(of, 0, text.encode())
+
+    def test_the_words_of_each_reason(self):
+        for kind, words, text, said in NO_ANSWERS:
+            of = blossom.instance(PATH, kind, **words)
+            with self.subTest(text), self.assertRaisesRegex(blossom.NoBest, said) as told:
+                answer_of(of, 0, text.encode())
+            nonconservative = isinstance(told.exception, blossom.NonConservative)
+            self.assertEqual(nonconservative, "NONCONSERVATIVE" in text)
+
+    def test_long_lists_are_cut(self):
+        of = blossom.instance([(node, node + 1) for node in range(9)], "postman")
+        with self.assertRaisesRegex(blossom.Infeasible, r"leaves 0, 1, 2, 3, 4, 5 and 3 more$"):
+            answer_of(of, 0, b"s INFEASIBLE postman\nq 9 1 2 3 4 5 6 7 8 9\n")
+
+
+class Statuses(unittest.TestCase):
+    def test_what_each_status_means(self):
+        for status, output, error, said in STATUSES:
+            with self.subTest(status=status), self.assertRaisesRegex(error, said) as told:
+                blossom.perfect_matching(PAIR, via=StandIn(status, output))
+            self.assertIs(type(told.exception), error)
+
+    def test_what_is_no_verdict(self):
+        for status, output in VERDICTS:
+            with self.subTest(output=output), self.assertRaisesRegex(blossom.ProgramFailed,
+                                                                     "no verdict"):
+                blossom.check(PAIR, "perfect", "", via=StandIn(status, output))
+
+    def test_statuses_of_the_checker(self):
+        of = blossom.instance(TRIANGLES, "perfect")
+        self.assertEqual(verdict_of(of, 1, b"s REJECTED Slack 3\n"),
+                         blossom.Verdict(False, "Slack", 3))
+        for status, output, error, said in STATUSES[1:]:
+            with self.subTest(status=status), self.assertRaisesRegex(error, said):
+                blossom.check(PAIR, "perfect", "", via=StandIn(status, output))
+
+    def test_what_the_program_is_asked(self):
+        stand_in = StandIn()
+        answer = blossom.perfect_matching(PAIR, via=stand_in, timeout=3)
+        blossom.perfect_matching(PAIR, via=stand_in, brief=True)
+        stand_in.output = b"s ACCEPTED\n"
+        self.assertTrue(answer.check(timeout=7))
+        text = b"p edge 2 1\ne 1 2 5\n"
+        self.assertEqual(stand_in.asked, [
+            ("solve", "perfect", text, 3), ("brief", "perfect", text, None),
+            ("check", "perfect", text + b"s OPTIMAL perfect 1\nx 1 1\n", 7)])

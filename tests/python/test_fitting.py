@@ -1,0 +1,123 @@
+"""Answers of files: put on a graph only where they can be answers of it."""
+import csv
+import io
+import os
+import subprocess
+import sys
+import tempfile
+import unittest
+
+import blossom
+from blossom.fitting import fitted
+from support import TRIANGLES, instances
+from test_answers import outcome
+
+SQUARE = [("a", "b", 4), ("b", "c", 4), ("c", "d", 4), ("a", "d", 4), ("a", "c", 5)]
+TOUR = "s OPTIMAL postman 26\nw 1 6 1 2 3 4 5 5\n"
+MISFITS = (
+    ("a tour", SQUARE, "postman", {}, TOUR, None),
+    ("a step from elsewhere", SQUARE, "postman", {}, "s OPTIMAL postman 26\nw 1 6 2 1 3 4 5 5\n",
+     r"step 1 would go along edge \('b', 'c'\), which isn't at 'a'"),
+    ("another weight", SQUARE, "postman", {}, TOUR.replace("26", "27"), "weighs 27 there, .* 26"),
+    ("an edge left out", SQUARE, "postman", {}, "s OPTIMAL postman 16\nw 1 4 1 2 3 4\n",
+     r"leaves out edge \('a', 'c'\)"),
+    ("no walk at all", SQUARE, "postman", {}, "s OPTIMAL postman 0\n", "leaves out edge"),
+    ("a tour that ends elsewhere", SQUARE, "postman", {},
+     "s OPTIMAL postman 21\nw 1 5 1 2 3 4 5\n", "the walk ends at 'c', and not where it starts"),
+    ("a matching", SQUARE, "perfect", {}, "s OPTIMAL perfect 8\nx 1 1\nx 3 1\n", None),
+    ("a node met twice", SQUARE, "perfect", {}, "s OPTIMAL perfect 8\nx 1 1\nx 2 1\n",
+     "meets node 'b' 2 times"),
+    ("a node alone", SQUARE, "perfect", {}, "s OPTIMAL perfect 4\nx 1 1\n", "meets node 'c' 0"),
+    ("an edge twice", [("a", "b", 4)], "perfect", {}, "s OPTIMAL perfect 8\nx 1 2\n",
+     r"uses edge \('a', 'b'\) 2 times"),
+    ("some alone", SQUARE, "match", {}, "s OPTIMAL match 5\nx 5 1\n", None),
+    ("met twice", SQUARE, "match", {}, "s OPTIMAL match 9\nx 1 1\nx 5 1\n", "meets node 'a' 2"),
+    ("values", SQUARE, "bmatch", {"values": {"c": 3, "d": 3}},
+     "s OPTIMAL bmatch 16\nx 1 1\nx 3 3\n", None),
+    ("other values", SQUARE, "bmatch", {}, "s OPTIMAL bmatch 16\nx 1 1\nx 3 3\n", "node 'c' 3"),
+    ("over a capacity", [("a", "b", 1, 1)], "capmatch", {"values": {"a": 2, "b": 2}},
+     "s OPTIMAL capmatch 2\nx 1 2\n", "2 times"),
+    ("twice in a factor", [("a", "b", 1)], "ffactor", {"values": {"a": 2, "b": 2}},
+     "s OPTIMAL ffactor 2\nx 1 2\n", "2 times"),
+    ("a join", SQUARE, "tjoin", {"terminals": ["a", "c"]}, "s OPTIMAL tjoin 8\nx 1 1\nx 2 1\n",
+     None),
+    ("a join of others", SQUARE, "tjoin", {"terminals": ["a", "b"]},
+     "s OPTIMAL tjoin 8\nx 1 1\nx 2 1\n", "node 'b' 2 times"),
+    ("a path", SQUARE, "path", {"source": "c", "target": "a"}, "s OPTIMAL path 8\nw 1 2 1 2\n",
+     None),
+    ("a path to elsewhere", SQUARE, "path", {"source": "a", "target": "d"},
+     "s OPTIMAL path 8\nw 1 2 1 2\n", "no path from 'a' to 'd'"),
+    ("a path with a circuit", SQUARE, "path", {"source": "a", "target": "b"},
+     "s OPTIMAL path 17\nw 1 4 4 3 5 1\n", "no path from 'a' to 'b'"),
+    ("another kind", SQUARE, "perfect", {}, TOUR, "one of postman"),
+    ("an edge that isn't there", SQUARE[:2], "match", {}, "s OPTIMAL match 4\nx 3 1\n",
+     "aren't in the graph"),
+    ("a text", SQUARE, "perfect", {}, "dear all,\n", "holds no answer"),
+    ("nothing", SQUARE, "perfect", {}, "", "holds no answer"),
+    ("an instance alone", SQUARE, "perfect", {}, "p edge 4 1\ne 1 2 4\n", "no answer"),
+)
+
+
+class Fits(unittest.TestCase):
+    def test_what_fits_and_what_does_not(self):
+        for name, edges, kind, words, text, said in MISFITS:
+            of = blossom.instance(edges, kind, **words)
+            with self.subTest(name):
+                if said is None:
+                    self.assertEqual(fitted(of, text.encode()).certificate.text, text.encode())
+                    continue
+                with self.assertRaisesRegex(blossom.GraphError, said):
+                    fitted(of, text.encode())
+
+    def test_answers_of_the_program_fit(self):
+        for kind in blossom.KINDS:
+            for edges, words in instances(kind, 10, seed=9):
+                certificate = outcome(edges, kind, words)
+                with self.subTest(kind=kind, edges=edges, words=words):
+                    if certificate.status == "optimal":
+                        answer = fitted(certificate.instance, certificate.text)
+                        self.assertEqual(answer.weight, certificate.document.weight)
+
+    def test_a_file_with_its_instance(self):
+        certificate = blossom.perfect_matching(TRIANGLES).certificate
+        whole = io.BytesIO()
+        certificate.write(whole)
+        self.assertEqual(fitted(certificate.instance, whole.getvalue()).weight, 12)
+        other = blossom.instance(TRIANGLES[::-1], "perfect")
+        with self.assertRaisesRegex(blossom.GraphError, "checksum " + certificate.instance.checksum):
+            fitted(other, whole.getvalue())
+        without = b"\n".join(line for line in whole.getvalue().splitlines()
+                             if not line.startswith(b"c"))
+        self.assertEqual(fitted(certificate.instance, without).weight, 12)
+        with self.assertRaisesRegex(blossom.GraphError, "the instance before it is another one"):
+            fitted(other, without)
+
+    def test_checksums_are_those_of_what_the_program_reads(self):
+        one, other = (blossom.instance([("a", "b", weight)], "perfect") for weight in (1, 2))
+        self.assertEqual(len(one.checksum), 64)
+        self.assertNotEqual(one.checksum, other.checksum)
+        self.assertEqual(one.checksum, blossom.instance([("x", "y")], "match").checksum)
+
+
+class Command(unittest.TestCase):
+    def convert(self, *words):
+        return subprocess.run([sys.executable, "-m", "blossom", "convert", *words],
+                              capture_output=True, text=True)
+
+    def test_streets_in_another_order_get_no_tour(self):
+        lines = ["%s,%s,%d" % street for street in SQUARE]
+        with tempfile.TemporaryDirectory() as room:
+            path = {name: os.path.join(room, name) for name in ("a.csv", "b.csv", "t.txt", "o.csv")}
+            for name, order in (("a.csv", lines), ("b.csv", [lines[1], lines[0], *lines[2:]])):
+                with open(path[name], "w", encoding="utf-8") as file:
+                    file.write("\n".join(["u,v,weight", *order]) + "\n")
+            with open(path["t.txt"], "w", encoding="utf-8") as file:
+                file.write(TOUR)
+            words = ["--kind", "postman", "--answer", path["t.txt"], "-o", path["o.csv"]]
+            done = self.convert(path["b.csv"], *words)
+            self.assertEqual((done.returncode, os.path.exists(path["o.csv"])), (1, False))
+            self.assertIn("edges in another order: step 2 would go along edge", done.stderr)
+            done = self.convert(path["a.csv"], *words)
+            self.assertEqual((done.returncode, done.stderr), (0, ""))
+            with open(path["o.csv"], encoding="utf-8", newline="") as file:
+                self.assertEqual([row["u"] for row in csv.DictReader(file)], list("abcdac"))

@@ -1,0 +1,80 @@
+"""Types: the package passes mypy as strictly as that can be, and mypy finds mistakes of callers."""
+import os
+import re
+import shutil
+import subprocess
+import sys
+import tempfile
+import unittest
+
+from support import TOP
+
+PYTHON = os.path.join(TOP, "python")
+# Lines that are wrong, each with a word of what is said of it; and lines that are right.
+WRONG = (
+    ("blossom.postman(STREETS, timeuot=5)", "timeuot"),
+    ("blossom.solve(STREETS, 'postmann')", "Literal"),
+    ("blossom.postman(5)", 'has incompatible type "int"'),
+    ("blossom.postman(None)", "None"),
+    ("blossom.solve_many('tours', [STREETS])", "solve_many"),
+    ("blossom.solve_many('postman', [STREETS], errors='ignore')", "solve_many"),
+    ("blossom.solve_many('postman', [STREETS])[0].barrier", '"Answer" has no attribute "barrier"'),
+    ("blossom.postman(STREETS).wieght", 'no attribute "wieght"'),
+    ("blossom.postman(STREETS).check().rules", '"Verdict" has no attribute "rules"'),
+    ("blossom.postman(STREETS).check(tiemout=3)", "tiemout"),
+    ("blossom.postman(STREETS, via='telepathy')", "via"),
+    ("blossom.postman(STREETS, rounding='down')", "rounding"),
+    ("blossom.postman(STREETS).draw(colour=3)", "colour"),
+    ("blossom.draw('tour.txt')", "draw"),
+    ("blossom.Decoder(sclae=3)", "sclae"),
+    ("blossom.Decoder().add_edge(0, 1, merge_strategy='merge')", "merge_strategy"),
+    ("blossom.read(5)", "read"),
+    ("blossom.t_join(STREETS)", "terminals"),
+)
+RIGHT = """
+steps: int = len(blossom.postman(STREETS, timeout=5).steps)
+rule: Optional[str] = blossom.postman(STREETS).check(via="library").rule
+text: str = blossom.postman(STREETS).draw(width=300, labels={"a": "A"}).svg()
+answers: List[blossom.Answer] = blossom.solve_many("match", [STREETS, STREETS])
+weights = [one.weight for one in blossom.solve_many("match", [STREETS], errors="return")
+           if isinstance(one, blossom.Answer)]
+blossom.perfect_matching({"u": ["a"], "v": ["b"], "weight": [3]}, scale="finest")
+blossom.perfect_matching(blossom.read("streets.csv", weight="length"), brief=True)
+blossom.solve(blossom.instance([("a", "b")], "tjoin", terminals=["a", "b"]), "tjoin")
+blossom.shortest_path(STREETS, "a", "b", via=blossom.Process("blossom"))
+blossom.Decoder([[1, 1, 0], [0, 1, 1]], error_probabilities=0.1).decode({1})
+"""
+HEAD = ("from typing import List, Optional\nimport blossom\n"
+        "STREETS = [('a', 'b', 3), ('b', 'c', 4), ('a', 'c', 5)]\n")
+
+
+def mypy():
+    """What runs mypy, or a test that is skipped where it isn't installed."""
+    found = shutil.which("mypy") or shutil.which("mypy", path="/usr/bin")
+    if found is None:
+        raise unittest.SkipTest("mypy isn't installed")
+    return [found, "--strict", "--python-executable", sys.executable, "--no-error-summary"]
+
+
+class Types(unittest.TestCase):
+    def run_mypy(self, room, *words):
+        return subprocess.run([*mypy(), "--cache-dir", os.path.join(room, "cache"), *words],
+                              cwd=PYTHON, env=dict(os.environ, MYPYPATH=PYTHON),
+                              capture_output=True, text=True)
+
+    def test_mypy_of_the_package_and_of_what_callers_write(self):
+        with tempfile.TemporaryDirectory() as room:
+            done = self.run_mypy(room, "blossom")
+            self.assertEqual((done.returncode, done.stdout, done.stderr), (0, "", ""))
+            path = os.path.join(room, "callers.py")
+            lines = HEAD.splitlines() + [line for line, _ in WRONG] + RIGHT.splitlines()
+            with open(path, "w", encoding="utf-8") as file:
+                file.write("\n".join(lines) + "\n")
+            done = self.run_mypy(room, path)
+        told = {}
+        for number, words in re.findall(r"callers\.py:(\d+): (?:error|note): (.*)", done.stdout):
+            told.setdefault(lines[int(number) - 1], []).append(words)
+        for line, word in WRONG:
+            with self.subTest(line):
+                self.assertIn(word, " ".join(told.pop(line, [])))
+        self.assertEqual(told, {})
