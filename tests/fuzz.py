@@ -15,9 +15,9 @@ import sys
 import mutate
 import plain_checker
 import plain_instances
+from kinds import KINDS
 
 HERE = os.path.dirname(os.path.abspath(__file__))
-KINDS = ("perfect", "match", "bmatch", "capmatch", "ffactor", "tjoin", "postman", "path")
 SECONDS = 10  # that a run may take
 CHUNK = 500  # inputs of one seed
 CHECKED, SOLVED = 2_000, 150  # edges of the largest graph that the plain checker and the solver are asked about

@@ -59,6 +59,18 @@ def little_memory(program, tests):
     tests.compare("12 MiB of memory for 16 MB of input", given, (8, b"", b""), (done.returncode, done.stdout, done.stderr))
 
 
+def little_memory_for_words(program, tests):
+    """Want of memory for the words of the command line is answered too, whatever they are; where memory is enough for them they are no command."""
+    def limited():
+        resource.setrlimit(resource.RLIMIT_DATA, (1 << 20, 1 << 20))
+
+    for words, status, output in (([], 2, b"s USAGE\n"), (["check", "cover"], 2, b"s USAGE\n"), (["w" * 100_000] * 16, 8, b""), (["check", "perfect"] + ["w" * 100_000] * 16, 8, b"")):
+        done = subprocess.run([program] + words, input=ACCEPTED, capture_output=True, preexec_fn=limited)
+        tests.compare("1 MiB of data for %d words" % len(words), b"", (status, output, b""), (done.returncode, done.stdout, done.stderr))
+    done = subprocess.run([program] + ["w" * 100_000] * 16, input=ACCEPTED, capture_output=True)
+    tests.compare("memory for 16 long words", b"", (2, b"s USAGE\n", b""), (done.returncode, done.stdout, done.stderr))
+
+
 def names_of_bytes(program, tests):
     """The program's name needn't be text; another word that isn't is no command."""
     for words, status, output in (([b"\xff", b"check", b"perfect"], 0, b"s ACCEPTED\n"), ([b"\xff"], 2, b"s USAGE\n"),
@@ -68,5 +80,5 @@ def names_of_bytes(program, tests):
 
 
 def check(program, tests):
-    for part in (full_device, closed_output, unreadable_input, untouched_input, little_memory, names_of_bytes):
+    for part in (full_device, closed_output, unreadable_input, untouched_input, little_memory, little_memory_for_words, names_of_bytes):
         part(program, tests)

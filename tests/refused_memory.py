@@ -2,15 +2,20 @@
 """Memory that is refused at one call: the program answers want of memory with nothing written. For each run below the call of
 number 1, 2, 3 .. is refused, until a run asks for memory less often than that and ends as it does without a refusal.
 
-Usage: refused_memory.py PROGRAM. It stands on the C library of GNU and on `cc`, and isn't part of the gate."""
+Usage: refused_memory.py PROGRAM. It stands on the C library of GNU and on `cc`. The gate makes the first runs, in which
+memory is wanted for the words of the command line and for little else; the others are made by hand. Where words are no command and there are
+more of them, `clap` wants memory for what it would say of them, and a refusal of that is no matter: the answer is usage all the same."""
 import os
+import shutil
 import subprocess
 import sys
 import tempfile
 
 HERE = os.path.dirname(os.path.abspath(__file__))
 TRIANGLES = "p edge 6 7\ne 1 2 1\ne 2 3 1\ne 1 3 1\ne 4 5 1\ne 5 6 1\ne 4 6 1\ne 3 4 10\n"
-RUNS = (
+#: Runs in which memory is wanted for words, and for little else.
+WORDS = (("check cover", ""), ("", ""), ("trial perfect 1 0 0", ""))
+RUNS = WORDS + (
     ("solve perfect --brief", TRIANGLES),
     ("solve perfect", TRIANGLES),
     ("check perfect", TRIANGLES + "s OPTIMAL perfect 12\nx 1 1\nx 5 1\nx 7 1\ny 1 1\ny 2 1\ny 3 1\ny 4 1\ny 5 1\ny 6 1\n"
@@ -33,7 +38,6 @@ RUNS = (
     ("check tjoin", "p edge 2 0\nn 1 1\nn 2 1\ns INFEASIBLE tjoin\nt 1 2\n"),
     ("check perfect", "p edge 2 1\ne 1 9\n"),
     ("solve match", "p edge 4096 0\n"),
-    ("check cover", ""),
     ("trial capmatch 1 4 5", ""),
 )
 
@@ -45,23 +49,23 @@ def refusing(folder):
     return library
 
 
-def run(library, words, given, call):
+def run(program, library, words, given, call):
     """The run where the call of this number is refused: its end, and whether there was such a call."""
     read, write = os.pipe()
     environment = dict(os.environ, LD_PRELOAD=library, REFUSED_CALL=str(call), REFUSED_TO=str(write))
-    done = subprocess.run([PROGRAM] + words, input=given, capture_output=True, env=environment, pass_fds=[write], timeout=60)
+    done = subprocess.run([program] + words, input=given, capture_output=True, env=environment, pass_fds=[write], timeout=60)
     os.close(write)
     refused = os.read(read, 1) != b""
     os.close(read)
     return (done.returncode, done.stdout, done.stderr), refused
 
 
-def calls_that_answer_wrongly(library, words, given):
+def calls_that_answer_wrongly(program, library, words, given):
     """How often the run asks for memory, and the calls whose refusal isn't answered as it should be."""
-    usual, _ = run(library, words, given, 0)
+    usual, _ = run(program, library, words, given, 0)
     call, wrong = 1, []
     while True:
-        end, refused = run(library, words, given, call)
+        end, refused = run(program, library, words, given, call)
         if end != ((8, b"", b"") if refused else usual):
             wrong.append((call, end))
         if not refused:
@@ -69,19 +73,34 @@ def calls_that_answer_wrongly(library, words, given):
         call += 1
 
 
-def main():
+def try_all(program, runs, say=print):
+    """Makes the runs, and says a line for each. Answers how many calls ended as they should, and how many didn't; a run that asks for no memory is a failure."""
     passed = failed = 0
     with tempfile.TemporaryDirectory() as folder:
         library = refusing(folder)
-        for line, text in RUNS:
-            calls, usual, wrong = calls_that_answer_wrongly(library, line.split(), text.encode())
-            print("%-24s %4d calls for memory, else %r" % (line, calls, usual[1].split(b"\n")[0].decode()), flush=True)
-            passed, failed = passed + calls + 1 - len(wrong), failed + len(wrong)
+        for line, text in runs:
+            calls, usual, wrong = calls_that_answer_wrongly(program, library, line.split(), text.encode())
+            say("%-24.24s %4d calls for memory, else %r" % (line, calls, usual[1].split(b"\n")[0].decode()))
+            passed, failed = passed + calls + 1 - len(wrong), failed + len(wrong) + (calls == 0)
             for call, end in wrong:
                 print("FAILED %s %r, call %d: %r" % (line, text, call, end))
+    return passed, failed
+
+
+def check(program, tests):
+    """The runs for words, as a part of the whole run of tests. Without `cc` they are shown as skipped: process_ends has a row for words, too."""
+    if shutil.which("cc") is None:
+        tests.skip("refused_memory.check", "there is no cc")
+        return
+    passed, failed = try_all(program, WORDS, lambda line: None)
+    tests.passed, tests.failed = tests.passed + passed, tests.failed + failed
+
+
+def main():
+    passed, failed = try_all(os.path.abspath(sys.argv[1]), RUNS)
     print("%d passed, %d failed" % (passed, failed))
     sys.exit(0 if failed == 0 and passed > 0 else 1)
 
 
-PROGRAM = os.path.abspath(sys.argv[1])
-main()
+if __name__ == "__main__":
+    main()

@@ -1,25 +1,32 @@
 #!/usr/bin/env python3
 """End-to-end tests of the built program: runs it on the cases of tests/cases and on made inputs.
 
-Usage: run.py PROGRAM. Prints each failure; the last line is 'N passed, M failed'; the status is 1 if a
-test failed or none ran."""
+Usage: run.py PROGRAM [--after-gate]. With --after-gate, what the kit has just proved is kept, and a whole build
+is made over that, too. Prints each failure and each test that is skipped, with the reason; the last line is
+'N passed, M failed, K skipped'; the status is 1 if a test failed or none ran."""
 import glob
 import itertools
 import json
 import os
 import random
+import signal
 import subprocess
 import sys
 
+import builds
 import c_library
 import fuzz
 import launcher
+import library_builds
 import made
 import mutate
 import plain_checker
 import plain_solver
 import process_ends
 import python_package
+import refused_memory
+import release
+import timed_parts
 
 HERE = os.path.dirname(os.path.abspath(__file__))
 USAGE = "s USAGE\n"
@@ -35,6 +42,11 @@ class Tests:
     def __init__(self):
         self.passed = 0
         self.failed = 0
+        self.skipped = 0
+
+    def skip(self, name, reason):
+        self.skipped += 1
+        print("SKIPPED %s: %s" % (name, reason))
 
     def compare(self, name, given, wanted, got):
         if got == wanted:
@@ -295,14 +307,25 @@ def large_trials(tests):
         tests.expect(" ".join(words), words, b"", "\n".join([size, solved.split("\n")[0], "s ACCEPTED"]) + "\n", 0)
 
 
+# A shell has what it runs in the background ignore these, and whatever that starts would too: tests
+# that stop a build want them as they are in the foreground.
+signal.signal(signal.SIGINT, signal.default_int_handler)
+signal.signal(signal.SIGHUP, signal.SIG_DFL)
 PROGRAM = os.path.abspath(sys.argv[1])
 TESTS = Tests()
 for part in (cases, cut_files, hostile_input, hostile_documents, words, examples, documents, changed_documents, changed_inputs, long_input, solved, large_instances,
              trials, worked_trials, large_trials):
     part(TESTS)
 process_ends.check(PROGRAM, TESTS)
+refused_memory.check(PROGRAM, TESTS)
 launcher.check(TESTS)
+timed_parts.check(TESTS)
+builds.check(TESTS)
+if sys.argv[2:] == ["--after-gate"]:
+    builds.by_the_kit(TESTS)
+library_builds.check(TESTS)
 c_library.check(PROGRAM, TESTS)
 python_package.check(PROGRAM, TESTS)
-print("%d passed, %d failed" % (TESTS.passed, TESTS.failed))
+release.check(PROGRAM, TESTS)
+print("%d passed, %d failed, %d skipped" % (TESTS.passed, TESTS.failed, TESTS.skipped))
 sys.exit(0 if TESTS.failed == 0 and TESTS.passed > 0 else 1)

@@ -1,0 +1,224 @@
+"""What `./blossom` hands to the program, what a build is made in, where it goes on, and one whole
+build by the kit. But for this last one the kit is a stand-in, as in tests/launcher.py."""
+import os
+import re
+import shutil
+import signal
+import subprocess
+import tempfile
+
+import launcher
+from made_release import script
+
+TOP = launcher.TOP
+# What a crate has besides sources, for a program that the kit runs.
+RUN_WITH = ("args", "stdin", "stdout", "status")
+# Keeps a copy of the folder in which it is called. It waits in front of the crate that a file
+# `waits` beside it names, once it has proved what comes before, until it is told to end; a proof
+# takes as many seconds as a file `takes` says. The program that it makes shows its words, copies
+# its input, and ends with a status of its own.
+STAND_IN = """#!/bin/sh
+beside=$(dirname "$0")
+if [ "$1" = doc ]; then cat "$beside/page"; exit 0; fi
+cp -r . "$CALLS.folder.$$"
+for name in $(cut -d: -f1 crates.txt | sort -r); do
+  if [ "$(cat "$beside/waits" 2>/dev/null)" = "$name" ]; then
+    sleep 100 &
+    trap "kill $!; exit 1" TERM
+    echo $$ $! >>"$CALLS.processes"
+    wait
+  fi
+  if [ -e "$beside/proved/$name" ]; then
+    echo "rt: $name is kept: an earlier run proved it"
+    continue
+  fi
+  sleep "$(cat "$beside/takes" 2>/dev/null || echo 0)"
+  echo "$1 $name" >>"$CALLS"
+  [ -d "$beside/proved" ] && touch "$beside/proved/$name"
+  echo "rt: $name proved"
+done
+[ -d crates/blossom ] || exit 0
+mkdir -p crates/blossom/out
+cat >crates/blossom/out/blossom <<'END'
+#!/bin/sh
+for word; do printf '[%s]' "$word"; done
+cat
+exit 9
+END
+chmod +x crates/blossom/out/blossom
+"""
+
+
+def repository(room, crates=launcher.CRATES, page=None):
+    """A small repository, whose stand-in for the kit says that its first page is that one, or one
+    beside which something can be kept."""
+    launcher.repository(room, crates)
+    for path, text in (
+        ("bin/rt", STAND_IN),
+        ("bin/page", page or os.path.join(room, "kit", "page")),
+    ):
+        with open(os.path.join(room, path), "w", encoding="utf-8") as file:
+            file.write(text)
+
+
+def call(room, words=(), given=b""):
+    """One call: its status, what it printed, and what was proved in it."""
+    calls = os.path.join(room, "calls")
+    open(calls, "w", encoding="utf-8").close()
+    done = subprocess.run(
+        [os.path.join(room, "blossom"), *words],
+        input=given,
+        capture_output=True,
+        env=launcher.environment(room),
+    )
+    with open(calls, encoding="utf-8") as file:
+        return done.returncode, done.stdout, file.read().splitlines()
+
+
+def words(tests):
+    """The program gets the very words and the input of a call, also where this one builds it, and
+    the call ends with its status."""
+    with tempfile.TemporaryDirectory() as room:
+        repository(room)
+        for line in (
+            [],
+            ["solve", "perfect"],
+            ["two words", "", " ", "*", "-n", "$HOME", "a\nb", "--brief"],
+            [""],
+        ):
+            wanted = (9, "".join("[%s]" % word for word in line).encode() + b"an input\n")
+            tests.compare("the words %r" % line, "", wanted, call(room, line, b"an input\n")[:2])
+
+
+def files(folder):
+    """The files below a folder, by their paths, and what they hold."""
+    found = {}
+    for at, _, names in os.walk(folder):
+        for name in names:
+            with open(os.path.join(at, name), encoding="utf-8") as file:
+                found[os.path.relpath(os.path.join(at, name), folder)] = file.read()
+    return found
+
+
+def folder(tests):
+    """A build is made in a folder that has all sources of the crates that it wants, what their
+    programs are run with, and HANDLES; and no more."""
+    with tempfile.TemporaryDirectory() as room:
+        repository(room)
+        wanted = {"HANDLES": "none", "crates.txt": launcher.CRATES.replace("other: low\n", "")}
+        for name in ("blossom", "low", "left", "right", "other"):
+            for path in (
+                "src/inner/more.rt",
+                "specs/Some.antt",
+                "proofs/inner/Some.antt",
+                "must-fail/one.edit",
+                "out/old",
+                "README.md",
+                *RUN_WITH,
+            ):
+                at = os.path.join("crates", name, path)
+                os.makedirs(os.path.dirname(os.path.join(room, at)), exist_ok=True)
+                with open(os.path.join(room, at), "w", encoding="utf-8") as file:
+                    file.write("%s of %s" % (path, name))
+                if name != "other" and path.split("/")[0] in ("src", "specs", "proofs", *RUN_WITH):
+                    wanted[at] = "%s of %s" % (path, name)
+            if name != "other":
+                wanted[os.path.join("crates", name, "src", "lib.rt")] = "// " + name
+        call(room)
+        copies = [name for name in os.listdir(room) if name.startswith("calls.folder.")]
+        tests.compare("the folders of a build", "", 1, len(copies))
+        found = files(os.path.join(room, copies[0]))
+        found["crates.txt"] = "".join(sorted(found["crates.txt"].splitlines(keepends=True)))
+        wanted["crates.txt"] = "".join(sorted(wanted["crates.txt"].splitlines(keepends=True)))
+        tests.compare("what a build is made of", "", wanted, found)
+
+
+def goes_on(tests):
+    """A build that was interrupted goes on with what isn't kept; where nothing can be kept there is
+    one run, which proves each crate once."""
+    with tempfile.TemporaryDirectory() as room:
+        repository(room)
+        os.makedirs(os.path.join(room, "bin", "proved"))
+        with open(os.path.join(room, "bin", "waits"), "w", encoding="utf-8") as file:
+            file.write("left\n")
+        open(os.path.join(room, "calls"), "w", encoding="utf-8").close()
+        started, numbers = launcher.started(room)
+        started.send_signal(signal.SIGINT)
+        started.communicate()
+        with open(os.path.join(room, "calls"), encoding="utf-8") as file:
+            before = file.read().splitlines()
+        tests.compare(
+            "a build that is interrupted",
+            "",
+            (130, ["ci right", "ci low"], True),
+            (started.returncode, before, launcher.are_gone(numbers)),
+        )
+        os.remove(os.path.join(room, "bin", "waits"))
+        tests.compare("and goes on", "", (9, b"", ["ci left", "ci blossom"]), call(room))
+    with tempfile.TemporaryDirectory() as room:
+        for page, runs in (("/no such folder/kit/page", 1), (None, 2)):
+            inside = os.path.join(room, str(runs))
+            repository(inside, launcher.WITH_SEARCH, page)
+            status, _, proved = call(inside)
+            tests.compare(
+                "runs where nothing can be kept, or something can",
+                "",
+                (9, runs),
+                (status, proved.count("ci under")),
+            )
+
+
+def search_first(tests):
+    """The whole run begins once the search's first crate is proved, and takes it from there."""
+    with tempfile.TemporaryDirectory() as room:
+        repository(room, launcher.WITH_SEARCH)
+        os.makedirs(os.path.join(room, "bin", "proved"))
+        with open(os.path.join(room, "bin", "takes"), "w", encoding="utf-8") as file:
+            file.write("0.5\n")
+        status, _, proved = call(room)
+        tests.compare(
+            "the search's first crate is proved once",
+            "",
+            (9, 1),
+            (status, proved.count("ci under")),
+        )
+
+
+def copied(room):
+    """A copy of what `./blossom` is built from."""
+    for path in ("blossom", "crates.txt", "HANDLES"):
+        shutil.copy(os.path.join(TOP, path), room)
+    for path in ("crates", "scripts"):
+        shutil.copytree(
+            os.path.join(TOP, path),
+            os.path.join(room, path),
+            ignore=shutil.ignore_patterns("out", "__pycache__"),
+        )
+
+
+def by_the_kit(tests):
+    """One whole build by the kit, over what is kept, of a copy of the sources: the program answers,
+    and its crates were said one by one."""
+    if not script("build").keeps():
+        tests.skip("builds.by_the_kit", "nothing can be kept here, so it would prove all anew")
+        return
+    given = b"p edge 2 1\ne 1 2 5\n"
+    with tempfile.TemporaryDirectory() as room:
+        copied(room)
+        words = [os.path.join(room, "blossom"), "solve", "perfect"]
+        done = subprocess.run(words, input=given, capture_output=True)
+        answer = b"s OPTIMAL perfect 5\nx 1 1\ny 1 5\ny 2 5\n"
+        ended = (done.returncode, done.stdout)
+        tests.compare("a build by the kit", given, (0, answer), ended)
+        said = re.findall(r"^blossom: (\d+) of (\d+): \w+, ", done.stderr.decode(), re.M)
+        count = len(script("sources").crates_below("blossom"))
+        wanted = [(str(number), str(count)) for number in range(1, count + 1)]
+        tests.compare("the crates that it says", given, wanted, said)
+        again = subprocess.run(words, input=given, capture_output=True)
+        ended = (again.returncode, again.stdout, again.stderr)
+        tests.compare("a call after that", given, (0, answer, b""), ended)
+
+
+def check(tests):
+    for part in (words, folder, goes_on, search_first):
+        part(tests)

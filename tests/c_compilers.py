@@ -1,0 +1,144 @@
+"""Tests of the library for C and its header by compilers: what the example prints, what the
+header's numbers and types are to them, and which symbols there are. A part that wants a compiler
+that isn't there is shown as skipped."""
+import os
+import re
+import shutil
+import subprocess
+import tempfile
+
+from c_header import CAPI
+from c_parts import OUT, TRIANGLES, Skipped, run
+
+C = ("CC", "cc", ["-std=c99", "-O2", "-Wall", "-Wextra", "-pedantic", "-Werror"])
+C_PLUS_PLUS = ("CXX", "c++", ["-Wall", "-Wextra", "-pedantic", "-Werror"])
+#: Functions by the types that docs/C.md and the header's words give the two calls, and each number
+#: of the header.
+NUMBERS = """#include "blossom.h"
+#include <stdio.h>
+static uint32_t (*const call)(uint32_t, uint32_t, const uint8_t *, size_t, uint8_t *, size_t,
+                              size_t *) = blossom_call;
+static uint32_t (*const version)(void) = blossom_abi;
+int main(void) {
+    size_t used, longest = BLOSSOM_LONGEST_ANSWER;
+    uint8_t byte = 0;
+    printf("%%d %%d\\n", BLOSSOM_ABI, version() == BLOSSOM_ABI);
+    printf("%%zu %%zu\\n", longest, sizeof(BLOSSOM_LONGEST_ANSWER));
+%s    return (int)call(BLOSSOM_SOLVE, BLOSSOM_PERFECT, &byte, 0, &byte, 0, &used);
+}
+"""
+CALL = """#include "blossom.h"
+int main() { return blossom_abi() == BLOSSOM_ABI ? 0 : 1; }
+"""
+
+
+def compiled(tests, what, of, source, library, room):
+    """Compiles a file with the library without a warning. Answers the program, or None where that
+    failed, which is told."""
+    variable, usual, words = of
+    compiler = shutil.which(os.environ.get(variable, usual))
+    if compiler is None:
+        raise Skipped("there is no compiler %s" % os.environ.get(variable, usual))
+    made = os.path.join(room, "made")
+    done = subprocess.run(
+        [compiler]
+        + words
+        + [
+            "-I" + CAPI,
+            source,
+            os.path.join(OUT, library),
+            "-Wl,-rpath," + os.path.abspath(OUT),
+            "-o",
+            made,
+        ],
+        capture_output=True,
+    )
+    tests.compare(
+        "%s compiles with %s" % (what, library), b"", (0, b""), (done.returncode, done.stderr)
+    )
+    return made if done.returncode == 0 else None
+
+
+def written(room, name, text):
+    path = os.path.join(room, name)
+    with open(path, "w", encoding="utf-8") as file:
+        file.write(text)
+    return path
+
+
+def example(program, library, tests):
+    """The example compiles with each library, as C of 1999 without a warning, and runs."""
+    solved = run(program, ["solve", "perfect"], TRIANGLES)[1]
+    wanted = (0, b"16 bytes are too few for %d\n" % len(solved) + solved + b"s ACCEPTED\n", b"")
+    for name in ("libblossom.so", "libblossom.a"):
+        with tempfile.TemporaryDirectory() as room:
+            made = compiled(tests, "the example", C, os.path.join(CAPI, "example.c"), name, room)
+            if made:
+                done = subprocess.run([made], capture_output=True, timeout=60)
+                tests.compare(
+                    "the example with " + name,
+                    b"",
+                    wanted,
+                    (done.returncode, done.stdout, done.stderr),
+                )
+
+
+def numbers_and_types(program, library, tests):
+    """A compiler finds the calls to be of their types, and the numbers that the other tests read in
+    the header."""
+    header = library.header
+    named = {**header.tasks, **header.kinds, **header.statuses}
+    lines = "".join('    printf("%s %%d\\n", BLOSSOM_%s);\n' % (name, name) for name in named)
+    wanted = "%d 1\n%d 8\n" % (header.abi, header.longest_answer) + "".join(
+        "%s %d\n" % one for one in named.items()
+    )
+    with tempfile.TemporaryDirectory() as room:
+        made = compiled(
+            tests,
+            "a call by its types",
+            C,
+            written(room, "numbers.c", NUMBERS % lines),
+            "libblossom.a",
+            room,
+        )
+        if made:
+            done = subprocess.run([made], capture_output=True, text=True, timeout=60)
+            tests.compare(
+                "the numbers of blossom.h to a compiler",
+                b"",
+                (header.statuses["SHORT_BUFFER"], wanted),
+                (done.returncode, done.stdout),
+            )
+
+
+def header_in_c_plus_plus(program, library, tests):
+    with tempfile.TemporaryDirectory() as room:
+        made = compiled(
+            tests,
+            "C++ with the header",
+            C_PLUS_PLUS,
+            written(room, "call.cpp", CALL),
+            "libblossom.a",
+            room,
+        )
+        if made:
+            tests.compare("C++ with the header", b"", 0, subprocess.run([made]).returncode)
+
+
+def symbols(program, library, tests):
+    """The shared object and the static library define two symbols and no others."""
+    if shutil.which("nm") is None:
+        raise Skipped("there is no nm")
+    for name, word in (("libblossom.so", "-D"), ("libblossom.a", "-g")):
+        done = subprocess.run(
+            ["nm", word, "--defined-only", os.path.join(OUT, name)], capture_output=True, text=True
+        )
+        tests.compare(
+            "the symbols of " + name,
+            b"",
+            ["blossom_abi", "blossom_call"],
+            re.findall(r" [A-Z] (\S+)$", done.stdout, re.M),
+        )
+
+
+PARTS = (example, numbers_and_types, header_in_c_plus_plus, symbols)

@@ -1,0 +1,44 @@
+"""What capi/blossom.h declares: its numbers, and the types of its two calls. The tests of the
+library call it by these, so that a number or a type that isn't the library's shows."""
+import ctypes
+import os
+import re
+
+CAPI = os.path.join(os.path.dirname(os.path.abspath(__file__)), "..", "capi")
+#: What ctypes calls the types of the header.
+TYPES = {
+    "uint32_t": ctypes.c_uint32,
+    "size_t": ctypes.c_size_t,
+    "const uint8_t *": ctypes.c_void_p,
+    "uint8_t *": ctypes.c_void_p,
+    "size_t *": ctypes.POINTER(ctypes.c_size_t),
+}
+
+
+class Header:
+    def __init__(self):
+        with open(os.path.join(CAPI, "blossom.h"), encoding="utf-8") as file:
+            text = re.sub(r"/\*.*?\*/", " ", file.read(), flags=re.S)
+        enums = {
+            enum: {name: int(number) for name, number in re.findall(r"BLOSSOM_(\w+) = (\d+)", body)}
+            for enum, body in re.findall(r"enum blossom_(\w+) \{(.*?)\};", text, re.S)
+        }
+        #: The numbers by their names without BLOSSOM_.
+        self.tasks, self.kinds, self.statuses = enums["task"], enums["kind"], enums["status"]
+        self.abi = int(re.search(r"#define BLOSSOM_ABI (\d+)\n", text)[1])
+        size, shift = re.search(
+            r"#define BLOSSOM_LONGEST_ANSWER \(\(size_t\)(\d+) << (\d+)\)\n", text
+        ).groups()
+        self.longest_answer = int(size) << int(shift)
+        #: For each call what it answers and what it takes, as ctypes has it.
+        self.calls = {
+            name: (
+                TYPES[answer],
+                [type_of(one) for one in words.split(",") if one.strip() != "void"],
+            )
+            for answer, name, words in re.findall(r"^(\w+) (blossom_\w+)\((.*?)\);", text, re.M)
+        }
+
+
+def type_of(parameter):
+    return TYPES[re.fullmatch(r"\s*(.*?)\w+\s*", parameter)[1].strip()]

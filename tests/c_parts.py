@@ -1,0 +1,67 @@
+"""What the tests of the library for C share."""
+import ctypes
+import os
+import subprocess
+
+from c_header import Header
+from kinds import KINDS
+
+TOP = os.path.join(os.path.dirname(os.path.abspath(__file__)), "..")
+OUT = os.path.join(os.path.dirname(os.path.abspath(__file__)), "..", "capi", "out")
+EDGE = b"p edge 2 1\ne 1 2 5\n"
+SOLVED = b"s OPTIMAL perfect 5\nx 1 1\ny 1 5\ny 2 5\n"
+TRIANGLES = b"p edge 6 7\ne 1 2 1\ne 2 3 1\ne 1 3 1\ne 4 5 1\ne 5 6 1\ne 4 6 1\ne 3 4 10\n"
+
+#: The words of the program for each task of the header.
+WORDS = {"SOLVE": "solve {}", "SOLVE_BRIEFLY": "solve {} --brief", "CHECK": "check {}"}
+
+
+class Skipped(Exception):
+    """What a part wants isn't there."""
+
+
+def run(program, words, given, limit=None):
+    """A run of the program: its status and what it printed."""
+    done = subprocess.run(
+        [program] + words, input=given, capture_output=True, timeout=300, preexec_fn=limit
+    )
+    return done.returncode, done.stdout
+
+
+def words_of(task, kind):
+    return WORDS[task].format(kind).split()
+
+
+class Library:
+    """The shared object, called by what the header declares: tasks and kinds by the header's names,
+    or by numbers."""
+
+    def __init__(self):
+        self.header = Header()
+        self.object = ctypes.CDLL(os.path.abspath(os.path.join(OUT, "libblossom.so")))
+        for name, (answer, words) in self.header.calls.items():
+            getattr(self.object, name).restype, getattr(self.object, name).argtypes = answer, words
+
+    def numbers(self, task, kind):
+        return self.header.tasks.get(task, task), self.header.kinds.get(str(kind).upper(), kind)
+
+    def call_at(self, task, kind, given, length, buffer, room, function=None):
+        """A call by addresses: the status, and the length that is told; -1 where something beside
+        its place was written."""
+        used = (ctypes.c_size_t * 3)(*[2**64 - 1] * 3)
+        place = ctypes.c_size_t.from_buffer(used, ctypes.sizeof(ctypes.c_size_t))
+        status = (function or self.object.blossom_call)(
+            *self.numbers(task, kind), given, length, buffer, room, ctypes.byref(place)
+        )
+        return status, used[1] if used[0] == used[2] == 2**64 - 1 else -1
+
+    def call(self, task, kind, given, room):
+        """The status, the length that is told, and the whole buffer, which is one byte longer than
+        is said and full of sevens before."""
+        buffer = ctypes.create_string_buffer(b"\7" * (room + 1), room + 1)
+        status, used = self.call_at(task, kind, given, len(given), ctypes.addressof(buffer), room)
+        return status, used, buffer.raw
+
+    def answer(self, task, kind, given):
+        status, used, buffer = self.call(task, kind, given, 1 << 16)
+        return status, buffer[:used]
