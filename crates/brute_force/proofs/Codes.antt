@@ -58,7 +58,8 @@ lists-drop [] k below = absurd (omega arith)
 lists-drop (m ∷ ms) zero below = refl
 lists-drop (m ∷ ms) (suc k) below = let next : suc k + 1 ≡ suc (k + 1) = omega arith in rw next (lists-drop ms k (omega arith))
 
-pub lists-on : (mosts : List ℕ) (k total most : ℕ) → k < length mosts → most ≡ slice_index mosts k → digit_lists (drop k mosts) * total ≡ digit_lists mosts → digit_lists (drop (k + 1) mosts) * (total * (most + 1)) ≡ digit_lists mosts
+pub lists-on : (mosts : List ℕ) (k total most : ℕ) → k < length mosts → most ≡ slice_index mosts k → digit_lists (drop k mosts) * total ≡ digit_lists mosts
+    → digit_lists (drop (k + 1) mosts) * (total * (most + 1)) ≡ digit_lists mosts
 lists-on mosts k total most below is before =
     let step = lists-drop mosts k below in
     let rest = digit_lists (drop (k + 1) mosts) in

@@ -12,7 +12,7 @@ use Rattle.mb_problem.specs.Kinds.{form_of, edge_use_of}
 use Rattle.mb_problem.specs.Network.{Network, IsNetwork, instance_edge_at, no_instance_edge}
 use Rattle.mb_problem.specs.Feasible.{IsFeasible, IsAsGood, weight_of}
 use Rattle.mb_problem.specs.Size.{most_by}
-use Rattle.mb_problem.specs.Measured.{IsInForm}
+use Rattle.mb_problem.proofs.KindLaws.{IsInForm}
 use Rattle.mb_problem.proofs.KindLaws.{feasible-form, feasible-counts, feasible-most}
 use Rattle.brute_force.specs.Digits.{digit_lists}
 use Rattle.brute_force.specs.Best.{is_counts, is_counted, most_in, most_of, mosts, IsBestOrNone}
@@ -39,7 +39,12 @@ counts_most form.Counts often i e k = refl
 counts_most form.Walk often i e k = absurd (cc)
 
 pub counted : (kind : Kind) (i : Network) (answer : Answer) → IsNetwork i → is_counted kind ≡ true → IsFeasible kind i answer → IsCounted kind i answer
-counted kind i (Counts cs) network has f = record { counts = cs; is = refl; one_each = feasible-counts kind i cs f; each = λ k b. subst (λ (m : ℕ). slice_index cs k ≤ m) (counts_most (form_of kind) (edge_use_of kind) i (instance_edge_at i k) has) (feasible-most kind i cs network f k b) }
+counted kind i (Counts cs) network has f = record {
+  counts = cs;
+  is = refl;
+  one_each = feasible-counts kind i cs f;
+  each = λ k b. subst (λ (m : ℕ). slice_index cs k ≤ m) (counts_most (form_of kind) (edge_use_of kind) i (instance_edge_at i k) has) (feasible-most kind i cs network f k b);
+}
 counted kind i (Walk start edges) network k f = absurd (no_walk (form_of kind) start edges k (feasible-form kind i (Walk start edges) f))
 counted kind i Nothing network k f = absurd (no_nothing (form_of kind) k (feasible-form kind i Nothing f))
 
@@ -64,7 +69,8 @@ has_code kind i answer network k f =
       is = c.is ∙ ap (λ (cs : List ℕ). Counts cs) (sym (digits-code_of ms c.counts all));
     }
 
-pub best_or_none : (kind : Kind) (i : Network) (codes : ℕ) (found : Option Answer) → IsNetwork i → is_counted kind ≡ true → codes ≡ digit_lists (mosts kind i) → IsBestBelow kind i (mosts kind i) codes found → IsBestOrNone kind i found
+pub best_or_none : (kind : Kind) (i : Network) (codes : ℕ) (found : Option Answer) → IsNetwork i → is_counted kind ≡ true → codes ≡ digit_lists (mosts kind i)
+    → IsBestBelow kind i (mosts kind i) codes found → IsBestOrNone kind i found
 best_or_none kind i codes None network k all best = λ answer f.
     let c = has_code kind i answer network k f in
     best c.code (rw all c.below) (subst (IsFeasible kind i) c.is f)

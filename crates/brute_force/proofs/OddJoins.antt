@@ -52,7 +52,8 @@ module _ (i j : Network) (edges : j.edges ≡ i.edges) (size : vertices j ≡ ve
   join-odd counts join = record {
     one_each = join.one_each ∙ ap length edges;
     at_most_once = join.at_most_once;
-    degrees = λ v low high. ap (λ (d : ℕ). d % 2) (sym (same_degree counts v)) ∙ (join.degrees v low (let within : v ≤ vertices j = omega (arith, size, high) in within) ∙ odd_value v low high);
+    degrees = λ v low high. ap (λ (d : ℕ). d % 2) (sym (same_degree counts v)) ∙ (join.degrees v low (let within : v ≤ vertices j = omega (arith, size, high) in within)
+        ∙ odd_value v low high);
   }
 
   pub odd-join : (counts : List ℕ) → IsJoinOf OddDegrees i counts → IsJoin j counts
@@ -66,7 +67,8 @@ module _ (i j : Network) (edges : j.edges ≡ i.edges) (size : vertices j ≡ ve
   pub least-odd : (counts : List ℕ) → IsBest TJoin j (Counts counts) → IsLeastOddJoin i counts
   least-odd counts best = record {
     join = join-odd counts best.feasible;
-    least = λ others other. subst (λ z. z ≤ℤ weight (graph_of i) others) (same_weight counts) (subst (λ z. weight (graph_of j) counts ≤ℤ z) (same_weight others) (best.best (Counts others) (odd-join others other)));
+    least = λ others other. subst (λ z. z ≤ℤ weight (graph_of i) others) (same_weight counts) (subst (λ z. weight (graph_of j) counts ≤ℤ z) (same_weight others) (best.best (Counts others)
+        (odd-join others other)));
   }
 
   -- what is found best is such a join

@@ -48,10 +48,12 @@ module _ (kind : Kind) (i : Network) (mosts : List ℕ) (codes : ℕ) where
   }
 
   as_this : (code : ℕ) → code ≡ codes → IsAsGood kind (weight_of kind i (answer_of mosts codes)) (weight_of kind i (answer_of mosts code))
-  as_this code here = subst (λ (n : ℕ). IsAsGood kind (weight_of kind i (answer_of mosts codes)) (weight_of kind i (answer_of mosts n))) (sym here) (as_good-refl kind (weight_of kind i (answer_of mosts codes)))
+  as_this code here = subst (λ (n : ℕ). IsAsGood kind (weight_of kind i (answer_of mosts codes)) (weight_of kind i (answer_of mosts n))) (sym here)
+      (as_good-refl kind (weight_of kind i (answer_of mosts codes)))
 
   -- the answer of this code is as good as the one found before
-  pub taken : (found : Option Answer) → IsBestBelow kind i mosts codes found → IsFeasible kind i (answer_of mosts codes) → IfSome found (λ a. IsAsGood kind (weight_of kind i (answer_of mosts codes)) (weight_of kind i a)) → IsBestBelow kind i mosts (codes + 1) (Some (answer_of mosts codes))
+  pub taken : (found : Option Answer) → IsBestBelow kind i mosts codes found → IsFeasible kind i (answer_of mosts codes)
+      → IfSome found (λ a. IsAsGood kind (weight_of kind i (answer_of mosts codes)) (weight_of kind i a)) → IsBestBelow kind i mosts (codes + 1) (Some (answer_of mosts codes))
   taken None best feasible better = record {
     feasible = feasible;
     best = λ code below f.

@@ -1,4 +1,5 @@
--- What a best answer is where there may be none, the kinds whose answers are counts, and how high these go.
+-- What a best answer is where there may be none, the kinds whose answers are counts, and how high
+-- these go.
 use Rattle.std.specs.Prelude.{ℕ, Bool, true, false, List, map, Option, None, Some}
 use Rattle.mb_problem.specs.declared.kind.Kind.{Kind}
 use Rattle.mb_problem.specs.declared.kind.AnswerForm.{AnswerForm}
@@ -19,8 +20,8 @@ is_counts form.Walk = false
 abbrev pub is_counted : Kind → Bool
 is_counted kind = is_counts (form_of kind)
 
--- how often an edge is tried at most: once, or as the values at its ends and its capacity let it; the edges that a walk
--- takes once more are a set
+-- how often an edge is tried at most: once, or as the values at its ends and its capacity let it;
+-- the edges that a walk takes once more are a set
 abbrev pub most_in : AnswerForm → EdgeUse → Network → InstanceEdge → ℕ
 most_in form.Counts often i e = most_by often i e
 most_in form.Walk often i e = 1

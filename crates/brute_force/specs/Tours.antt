@@ -1,4 +1,5 @@
--- The weight of a least tour by its joins (chapter 29): each edge once, and once more the edges of a least join.
+-- The weight of a least tour by its joins (chapter 29): each edge once, and once more the edges of
+-- a least join.
 use Rattle.std.specs.Prelude.{◌≡◌, ℕ, ◌+◌, ℤ, ◌≤ℤ◌, List, [], map, Option, Some, None}
 use Rattle.graph_theory.specs.Graph.{weight}
 use Rattle.mb_problem.specs.declared.answer.Answer.{Answer}
@@ -10,7 +11,8 @@ use Rattle.mb_problem.specs.Network.{Network, graph_of}
 -- a join at the vertices of odd degree that no such join undercuts
 pub record IsLeastOddJoin (i : Network) (counts : List ℕ) : Type 0 where
   pub join : IsJoinOf OddDegrees i counts
-  pub least : (others : List ℕ) → IsJoinOf OddDegrees i others → weight (graph_of i) counts ≤ℤ weight (graph_of i) others
+  pub least : (others : List ℕ) → IsJoinOf OddDegrees i others
+      → weight (graph_of i) counts ≤ℤ weight (graph_of i) others
 
 -- the edges of a least join used twice and the others once weigh this
 pub record IsLeastTourWeight (i : Network) (total : ℤ) : Type 0 where

@@ -10,7 +10,8 @@ use std::alloc::Global;
 /// How many lists of counts up to these there are, if they are few enough to be tried.
 pub fn lists(mosts: &[u32]) -> Option<u64>
     requires { All (λ most. most ≤ VALUE_LIMIT) mosts.now }
-    ensures { MatchOption result (TRIAL_LIMIT < digit_lists mosts.now) (λ n. (n ≡ digit_lists mosts.now) × (n ≤ TRIAL_LIMIT)) }
+    ensures { MatchOption result (TRIAL_LIMIT < digit_lists mosts.now)
+        (λ n. (n ≡ digit_lists mosts.now) × (n ≤ TRIAL_LIMIT)) }
 {
     let mut total = 1;
     for most in mosts {

@@ -1,4 +1,5 @@
-ghost use Rattle.std.specs.Prelude.{◌≡◌, ◌+◌, ◌≤◌, true, All, IsTrue, ◌↔◌, IfOk, IfSome, MatchBool, MatchOption};
+ghost use Rattle.std.specs.Prelude.{◌≡◌, ◌+◌, ◌≤◌, true, All, IsTrue, ◌↔◌, IfOk, IfSome, MatchBool};
+ghost use Rattle.std.specs.Prelude.{MatchOption};
 ghost use Rattle.mb_problem.specs.Feasible.{IsAsGood, weight_of};
 ghost use Rattle.mb_problem.specs.Measured.{HasPlaces};
 ghost use Rattle.mb_problem.specs.declared.limits.TheConstants.{VALUE_LIMIT};
@@ -28,8 +29,10 @@ fn improves(instance: &Instance, kind: Kind, found: &Option<Answer>, answer: &An
     requires found { IfSome found.now (HasPlaces instance.now) }
     requires answer { HasPlaces instance.now answer.now }
     ensures { MatchBool result
-        (IfSome found.now (λ a. IsAsGood kind (weight_of kind instance.now answer.now) (weight_of kind instance.now a)))
-        (MatchOption found.now ⊥ (λ a. IsAsGood kind (weight_of kind instance.now a) (weight_of kind instance.now answer.now))) }
+        (IfSome found.now (λ a. IsAsGood kind
+        (weight_of kind instance.now answer.now) (weight_of kind instance.now a)))
+        (MatchOption found.now ⊥ (λ a. IsAsGood kind
+        (weight_of kind instance.now a) (weight_of kind instance.now answer.now))) }
 {
     match found {
         Some(before) => is_better(
@@ -74,9 +77,9 @@ fn list_count(mosts: &[u32]) -> u64
     lists(mosts).unwrap_or(0)
 }
 
-/// Whether there are few enough counts for `best` to try: each goes from 0 to 1 or, for b-matchings and
-/// those with capacities, to the least of the values at the edge's ends and its capacity. An error is
-/// want of memory.
+/// Whether there are few enough counts for `best` to try: each goes from 0 to 1 or, for b-matchings
+/// and those with capacities, to the least of the values at the edge's ends and its capacity. An
+/// error is want of memory.
 pub fn is_small(alloc: Global, instance: &Instance, kind: Kind) -> Result<bool, OutOfMemory>
     ensures { IfOk result (λ b. IsTrue b ↔ (digit_lists (mosts kind instance.now) ≤ TRIAL_LIMIT)) }
 {
@@ -87,9 +90,9 @@ pub fn is_small(alloc: Global, instance: &Instance, kind: Kind) -> Result<bool, 
 /// A best answer to a small instance, by trying all counts; nothing where no answer is feasible. It
 /// serves tests, as a plain second opinion on a solver. The kind is one whose answers are counts: a
 /// perfect matching of least weight or a matching of greatest weight (Schrijver, Combinatorial
-/// Optimization, volume A, chapters 24 and 26), a b-matching (31), with capacities (32), a factor (33)
-/// or a T-join (29) of least weight. The only error is want of memory. Each of the counts that are tried
-/// takes time and memory linear in the vertices and edges.
+/// Optimization, volume A, chapters 24 and 26), a b-matching (31), with capacities (32), a factor
+/// (33) or a T-join (29) of least weight. The only error is want of memory. Each of the counts that
+/// are tried takes time and memory linear in the vertices and edges.
 pub fn best(alloc: Global, instance: &Instance, kind: Kind) -> Result<Option<Answer>, OutOfMemory>
     requires kind { is_counted kind ≡ true }
     requires few { digit_lists (mosts kind instance.now) ≤ TRIAL_LIMIT }

@@ -12,7 +12,8 @@ use std::alloc::Global;
 /// The lesser of the values at the ends of an edge.
 fn valued(instance: &Instance, edge: &InstanceEdge) -> u32
     requires { IsEdgeWithin (vertices instance.now) (plain edge.now) }
-    ensures value { result ≡ min (value_of instance.now edge.now.u) (value_of instance.now edge.now.v) }
+    ensures value { result ≡ min (value_of instance.now edge.now.u)
+        (value_of instance.now edge.now.v) }
     ensures small { result ≤ VALUE_LIMIT }
 {
     instance.value(edge.u).min(instance.value(edge.v))

@@ -19,7 +19,8 @@ use std::alloc::Global;
 fn odd_degrees(alloc: Global, instance: &Instance) -> Result<Vec<u32>, OutOfMemory>
     ensures size { IfOk result (λ values. length values.items ≡ vertices instance.now) }
     ensures small { IfOk result (λ values. All (λ b. b ≤ 1) values.items) }
-    ensures each { IfOk result (λ values. (k : ℕ) → k < vertices instance.now → slice_index values.items k ≡ odd_at OddDegrees instance.now (k + 1)) }
+    ensures each { IfOk result (λ values. (k : ℕ) → k < vertices instance.now
+        → slice_index values.items k ≡ odd_at OddDegrees instance.now (k + 1)) }
 {
     let once = vec![in alloc; 1u32; instance.edges() as usize]?;
     let mut values = Vec::new(alloc);
@@ -45,7 +46,8 @@ fn copied_edges(alloc: Global, instance: &Instance) -> Result<Vec<InstanceEdge>,
 fn with_odd_degrees(alloc: Global, instance: &Instance) -> Result<Instance, OutOfMemory>
     ensures edges { IfOk result (λ i. i.edges ≡ instance.now.edges) }
     ensures size { IfOk result (λ i. vertices i ≡ vertices instance.now) }
-    ensures each { IfOk result (λ i. (k : ℕ) → k < vertices instance.now → slice_index i.values k ≡ odd_at OddDegrees instance.now (k + 1)) }
+    ensures each { IfOk result (λ i. (k : ℕ) → k < vertices instance.now → slice_index i.values k
+        ≡ odd_at OddDegrees instance.now (k + 1)) }
 {
     // The prover learns here that the instance is valid.
     let _edges = instance.edges();
@@ -66,8 +68,8 @@ fn counts_in(alloc: Global, found: Option<Answer>) -> Sequence<u32>
     }
 }
 
-/// A least join at the vertices of odd degree, by trying all sets of edges. There always is one, as all
-/// edges are a join.
+/// A least join at the vertices of odd degree, by trying all sets of edges. There always is one, as
+/// all edges are a join.
 fn least_odd_join(alloc: Global, instance: &Instance) -> Result<Sequence<u32>, OutOfMemory>
     requires { digit_lists (mosts Postman instance.now) ≤ TRIAL_LIMIT }
     ensures { IfOk result (IsLeastOddJoin instance.now) }
@@ -89,11 +91,11 @@ fn once_more(alloc: Global, counts: &[u32]) -> Result<Sequence<u32>, OutOfMemory
     Ok(Sequence::from_vec(uses))
 }
 
-/// The weight of a least closed walk through all edges of a small instance, found by its theorem and by
-/// trying all sets of edges: each edge is used once, and once more those of a least join at the vertices
-/// of odd degree (Schrijver, Combinatorial Optimization, volume A, chapter 29). `is_small` says for tours
-/// whether there are few enough sets. Whether such a walk exists, which is whether the edges are
-/// connected, isn't asked. The only error is want of memory.
+/// The weight of a least closed walk through all edges of a small instance, found by its theorem
+/// and by trying all sets of edges: each edge is used once, and once more those of a least join at
+/// the vertices of odd degree (Schrijver, Combinatorial Optimization, volume A, chapter 29).
+/// `is_small` says for tours whether there are few enough sets. Whether such a walk exists, which
+/// is whether the edges are connected, isn't asked. The only error is want of memory.
 pub fn least_tour_weight(alloc: Global, instance: &Instance) -> Result<i128, OutOfMemory>
     requires few { digit_lists (mosts Postman instance.now) ≤ TRIAL_LIMIT }
     ensures { IfOk result (IsLeastTourWeight instance.now) }

@@ -15,44 +15,44 @@ use Rattle.mb_problem.specs.declared.kind.Kind.{Kind}
 use Rattle.mb_problem.specs.declared.limits.TheConstants.{VERTEX_LIMIT, EDGE_LIMIT}
 use Rattle.mb_problem.specs.Kinds.{kind_named}
 use Rattle.command_words.specs.Commands.{check_named, command_of, solve_named, trial, trial_by, natural_within}
-use Rattle.command_words.specs.Form.{has_form, is_plain}
+use Rattle.command_words.specs.Form.{has_form, is_operand}
 use Rattle.command_words.specs.Program.{is_taken}
 use Rattle.command_words.proofs.Taken.{IsPlainWord, plain_word}
 use Rattle.command_words.proofs.Forms.{Gives, brief_first_gives, brief_last_gives, check_gives, solve_gives, trial_gives}
 
-plain : (w : Text) → is_plain w ≡ true → IsPlainWord w
+plain : (w : Text) → is_operand w ≡ true → IsPlainWord w
 plain [] h = record { dashes = refl; long = refl; short = refl }
 plain (x ∷ xs) h = plain_word x xs (not-true (nat_eq x 45) h)
 
 -- a word that a hyphen begins is the name of no kind, and no number
-no_kind : (w : Text) → is_plain w ≡ false → kind_named w ≡ None
+no_kind : (w : Text) → is_operand w ≡ false → kind_named w ≡ None
 no_kind [] h = absurd (false≢true (sym h))
 no_kind (x ∷ xs) h = let e = eqb-true x 45 (not-false (nat_eq x 45) h) in subst (λ (y : ℕ). kind_named (y ∷ xs) ≡ None) (sym e) refl
 
-no_natural : (limit : ℕ) (w : Text) → is_plain w ≡ false → natural_within limit w ≡ None
+no_natural : (limit : ℕ) (w : Text) → is_operand w ≡ false → natural_within limit w ≡ None
 no_natural limit [] h = absurd (false≢true (sym h))
 no_natural limit (x ∷ xs) h = let e = eqb-true x 45 (not-false (nat_eq x 45) h) in subst (λ (y : ℕ). natural_within limit (y ∷ xs) ≡ None) (sym e) refl
 
-no_solve : (brief : Bool) (w : Text) → is_plain w ≡ false → solve_named brief w ≡ None
+no_solve : (brief : Bool) (w : Text) → is_operand w ≡ false → solve_named brief w ≡ None
 no_solve brief w h = rw (no_kind w h) refl
 
-no_check : (w : Text) → is_plain w ≡ false → check_named w ≡ None
+no_check : (w : Text) → is_operand w ≡ false → check_named w ≡ None
 no_check w h = rw (no_kind w h) refl
 
 same : (a b : Text) → bytes_eq a b ≡ true → a ≡ b
 same a b h = (bytes_eq-Decides a b).0 h
 
-not_brief : (w : Text) → is_plain w ≡ true → bytes_eq w (codes "--brief") ≡ false
+not_brief : (w : Text) → is_operand w ≡ true → bytes_eq w (codes "--brief") ≡ false
 not_brief [] h = refl
 not_brief (x ∷ xs) h = rw (not-true (nat_eq x 45) h) refl
 
 -- ---- two words
 
-two_gives : (first a k : Text) → ((bytes_eq a (codes "solve") || bytes_eq a (codes "check")) && is_plain k) ≡ true → Gives (first ∷ a ∷ k ∷ []) (command_of (first ∷ a ∷ k ∷ []))
+two_gives : (first a k : Text) → ((bytes_eq a (codes "solve") || bytes_eq a (codes "check")) && is_operand k) ≡ true → Gives (first ∷ a ∷ k ∷ []) (command_of (first ∷ a ∷ k ∷ []))
 two_gives first a k h =
     let P : Text → Type 0 = λ t. Gives (first ∷ t ∷ k ∷ []) (command_of (first ∷ t ∷ k ∷ [])) in
-    let w = plain k (and_parts (bytes_eq a (codes "solve") || bytes_eq a (codes "check")) (is_plain k) h).1 in
-    elim (or_cases (bytes_eq a (codes "solve")) (bytes_eq a (codes "check")) (and_parts (bytes_eq a (codes "solve") || bytes_eq a (codes "check")) (is_plain k) h).0) [
+    let w = plain k (and_parts (bytes_eq a (codes "solve") || bytes_eq a (codes "check")) (is_operand k) h).1 in
+    elim (or_cases (bytes_eq a (codes "solve")) (bytes_eq a (codes "check")) (and_parts (bytes_eq a (codes "solve") || bytes_eq a (codes "check")) (is_operand k) h).0) [
       | inl e ↦ subst P (sym (same a (codes "solve") e)) (solve_gives first k w)
       | inr e ↦ subst P (sym (same a (codes "check") e)) (check_gives first k w)
     ]
@@ -64,18 +64,18 @@ two_none false false p x y hx hy h = refl
 
 -- ---- three words
 
-three_gives : (first a b d : Text) → (bytes_eq a (codes "solve") && ((is_plain b && bytes_eq d (codes "--brief")) || (bytes_eq b (codes "--brief") && is_plain d))) ≡ true →
+three_gives : (first a b d : Text) → (bytes_eq a (codes "solve") && ((is_operand b && bytes_eq d (codes "--brief")) || (bytes_eq b (codes "--brief") && is_operand d))) ≡ true →
     Gives (first ∷ a ∷ b ∷ d ∷ []) (command_of (first ∷ a ∷ b ∷ d ∷ []))
 three_gives first a b d h =
     let P : Text → Type 0 = λ t. Gives (first ∷ t ∷ b ∷ d ∷ []) (command_of (first ∷ t ∷ b ∷ d ∷ [])) in
     let is_solve = same a (codes "solve") (and_parts (bytes_eq a (codes "solve")) _ h).0 in
-    subst P (sym is_solve) (elim (or_cases (is_plain b && bytes_eq d (codes "--brief")) (bytes_eq b (codes "--brief") && is_plain d) (and_parts (bytes_eq a (codes "solve")) _ h).1) [
+    subst P (sym is_solve) (elim (or_cases (is_operand b && bytes_eq d (codes "--brief")) (bytes_eq b (codes "--brief") && is_operand d) (and_parts (bytes_eq a (codes "solve")) _ h).1) [
       | inl e ↦
           let Q : Text → Type 0 = λ t. Gives (first ∷ codes "solve" ∷ b ∷ t ∷ []) (command_of (first ∷ codes "solve" ∷ b ∷ t ∷ [])) in
-          subst Q (sym (same d (codes "--brief") (and_parts (is_plain b) _ e).1)) (brief_last_gives first b (plain b (and_parts (is_plain b) _ e).0))
+          subst Q (sym (same d (codes "--brief") (and_parts (is_operand b) _ e).1)) (brief_last_gives first b (plain b (and_parts (is_operand b) _ e).0))
       | inr e ↦
           let Q : Text → Type 0 = λ t. Gives (first ∷ codes "solve" ∷ t ∷ d ∷ []) (command_of (first ∷ codes "solve" ∷ t ∷ d ∷ [])) in
-          let p = (and_parts (bytes_eq b (codes "--brief")) (is_plain d) e).1 in
+          let p = (and_parts (bytes_eq b (codes "--brief")) (is_operand d) e).1 in
           let R : Bool → Type 0 = λ t. Gives (first ∷ codes "solve" ∷ codes "--brief" ∷ d ∷ []) (cond t (solve_named true (codes "--brief")) (solve_named true d)) in
           subst Q (sym (same b (codes "--brief") (and_parts (bytes_eq b (codes "--brief")) _ e).0)) (subst R (sym (not_brief d p)) (brief_first_gives first d (plain d p)))
     ])
@@ -91,15 +91,16 @@ three_none true false false true dp x y hx hy h = hy h
 
 -- ---- five words
 
-five_gives : (first a k s n m : Text) → (bytes_eq a (codes "trial") && (is_plain k && (is_plain s && (is_plain n && is_plain m)))) ≡ true →
+five_gives : (first a k s n m : Text) → (bytes_eq a (codes "trial") && (is_operand k && (is_operand s && (is_operand n && is_operand m)))) ≡ true →
     Gives (first ∷ a ∷ k ∷ s ∷ n ∷ m ∷ []) (command_of (first ∷ a ∷ k ∷ s ∷ n ∷ m ∷ []))
 five_gives first a k s n m h =
     let P : Text → Type 0 = λ t. Gives (first ∷ t ∷ k ∷ s ∷ n ∷ m ∷ []) (command_of (first ∷ t ∷ k ∷ s ∷ n ∷ m ∷ [])) in
     let ps = (and_parts (bytes_eq a (codes "trial")) _ h).1 in
-    let ps2 = (and_parts (is_plain k) _ ps).1 in
-    let ps3 = (and_parts (is_plain s) _ ps2).1 in
+    let ps2 = (and_parts (is_operand k) _ ps).1 in
+    let ps3 = (and_parts (is_operand s) _ ps2).1 in
     subst P (sym (same a (codes "trial") (and_parts (bytes_eq a (codes "trial")) _ h).0))
-    (trial_gives first k s n m (plain k (and_parts (is_plain k) _ ps).0) (plain s (and_parts (is_plain s) _ ps2).0) (plain n (and_parts (is_plain n) _ ps3).0) (plain m (and_parts (is_plain n) _ ps3).1))
+    (trial_gives first k s n m (plain k (and_parts (is_operand k) _ ps).0) (plain s (and_parts (is_operand s) _ ps2).0) (plain n (and_parts (is_operand n) _ ps3).0)
+    (plain m (and_parts (is_operand n) _ ps3).1))
 
 abbrev chain : Option Kind → Option ℕ → Option ℕ → Option ℕ → Option Command
 chain ok os on om = option_and_then (λ k. option_and_then (λ s. option_and_then (λ n. option_and_then (λ m. trial k s n m) om) on) os) ok
@@ -119,18 +120,18 @@ no_edges (Some k) None on = refl
 no_edges (Some k) (Some s) None = refl
 no_edges (Some k) (Some s) (Some n) = refl
 
-five_none : (a : Bool) (k s n m : Text) → (a && (is_plain k && (is_plain s && (is_plain n && is_plain m)))) ≡ false → cond a (trial_by k s n m) None ≡ None
+five_none : (a : Bool) (k s n m : Text) → (a && (is_operand k && (is_operand s && (is_operand n && is_operand m)))) ≡ false → cond a (trial_by k s n m) None ≡ None
 five_none false k s n m h = refl
 five_none true k s n m h =
     let ok = kind_named k in
     let os = natural_within (2 ^ 64 - 1) s in
     let on = natural_within VERTEX_LIMIT n in
     let om = natural_within EDGE_LIMIT m in
-    elim (and_cases (is_plain k) _ h) [
+    elim (and_cases (is_operand k) _ h) [
       | inl e ↦ ap (λ (o : Option Kind). chain o os on om) (no_kind k e)
-      | inr h2 ↦ elim (and_cases (is_plain s) _ h2) [
+      | inr h2 ↦ elim (and_cases (is_operand s) _ h2) [
         | inl e ↦ ap (λ (o : Option ℕ). chain ok o on om) (no_natural (2 ^ 64 - 1) s e) ∙ no_start ok on om
-        | inr h3 ↦ elim (and_cases (is_plain n) _ h3) [
+        | inr h3 ↦ elim (and_cases (is_operand n) _ h3) [
           | inl e ↦ ap (λ (o : Option ℕ). chain ok os o om) (no_natural VERTEX_LIMIT n e) ∙ no_vertices ok os om
           | inr e ↦ ap (λ (o : Option ℕ). chain ok os on o) (no_natural EDGE_LIMIT m e) ∙ no_edges ok os on
         ]
@@ -153,8 +154,9 @@ pub formless : (ws : List Text) → has_form ws ≡ false → command_of ws ≡ 
 formless [] h = refl
 formless (first ∷ []) h = refl
 formless (first ∷ a ∷ []) h = refl
-formless (first ∷ a ∷ k ∷ []) h = two_none (bytes_eq a (codes "solve")) (bytes_eq a (codes "check")) (is_plain k) (solve_named false k) (check_named k) (no_solve false k) (no_check k) h
-formless (first ∷ a ∷ b ∷ d ∷ []) h = three_none (bytes_eq a (codes "solve")) (is_plain b) (bytes_eq d (codes "--brief")) (bytes_eq b (codes "--brief")) (is_plain d) (solve_named true b) (solve_named true d) (no_solve true b) (no_solve true d) h
+formless (first ∷ a ∷ k ∷ []) h = two_none (bytes_eq a (codes "solve")) (bytes_eq a (codes "check")) (is_operand k) (solve_named false k) (check_named k) (no_solve false k) (no_check k) h
+formless (first ∷ a ∷ b ∷ d ∷ []) h = three_none (bytes_eq a (codes "solve")) (is_operand b) (bytes_eq d (codes "--brief")) (bytes_eq b (codes "--brief")) (is_operand d) (solve_named true b)
+    (solve_named true d) (no_solve true b) (no_solve true d) h
 formless (first ∷ a ∷ b ∷ d ∷ e ∷ []) h = refl
 formless (first ∷ a ∷ k ∷ s ∷ n ∷ m ∷ []) h = five_none (bytes_eq a (codes "trial")) k s n m h
 formless (first ∷ a ∷ b ∷ d ∷ e ∷ f ∷ g ∷ more) h = refl

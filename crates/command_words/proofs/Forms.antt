@@ -28,7 +28,8 @@ solve_end k = steps_to (shape_named (codes "solve")).rules 1 nothing_held k
 
 solve_level : (k : Text) → IsPlainWord k → level_passes (shape_named (codes "solve")) [] nothing_held (k ∷ []) false ≡ true
 unfolding clap_on_literals program
-solve_level k w = level_by (shape_named (codes "solve")) (k ∷ []) (solve_end k) (walked-plain (shape_named (codes "solve")).rules 1 nothing_held k w) (pass (shape_named (codes "solve")) 1 nothing_held k [] w refl refl) refl
+solve_level k w = level_by (shape_named (codes "solve")) (k ∷ []) (solve_end k) (walked-plain (shape_named (codes "solve")).rules 1 nothing_held k w)
+    (pass (shape_named (codes "solve")) 1 nothing_held k [] w refl refl) refl
 
 pub solve_gives : (first k : Text) → IsPlainWord k → Gives (first ∷ codes "solve" ∷ k ∷ []) (solve_named false k)
 unfolding clap_on_literals program
@@ -54,7 +55,8 @@ brief_last_ends k w = ap (λ v. walked (shape_named (codes "solve")).rules [] v 
 
 brief_last_level : (k : Text) → IsPlainWord k → level_passes (shape_named (codes "solve")) [] nothing_held (k ∷ codes "--brief" ∷ []) false ≡ true
 unfolding clap_on_literals program
-brief_last_level k w = level_by (shape_named (codes "solve")) (k ∷ codes "--brief" ∷ []) (brief_last_end k) (brief_last_ends k w) (pass (shape_named (codes "solve")) 1 nothing_held k (codes "--brief" ∷ []) w refl refl) refl
+brief_last_level k w = level_by (shape_named (codes "solve")) (k ∷ codes "--brief" ∷ []) (brief_last_end k) (brief_last_ends k w) (pass (shape_named (codes "solve")) 1 nothing_held k
+    (codes "--brief" ∷ []) w refl refl) refl
 
 pub brief_last_gives : (first k : Text) → IsPlainWord k → Gives (first ∷ codes "solve" ∷ k ∷ codes "--brief" ∷ []) (solve_named true k)
 unfolding clap_on_literals program
@@ -108,7 +110,8 @@ check_end k = steps_to (shape_named (codes "check")).rules 1 nothing_held k
 
 check_level : (k : Text) → IsPlainWord k → level_passes (shape_named (codes "check")) [] nothing_held (k ∷ []) false ≡ true
 unfolding clap_on_literals program
-check_level k w = level_by (shape_named (codes "check")) (k ∷ []) (check_end k) (walked-plain (shape_named (codes "check")).rules 1 nothing_held k w) (pass (shape_named (codes "check")) 1 nothing_held k [] w refl refl) refl
+check_level k w = level_by (shape_named (codes "check")) (k ∷ []) (check_end k) (walked-plain (shape_named (codes "check")).rules 1 nothing_held k w)
+    (pass (shape_named (codes "check")) 1 nothing_held k [] w refl refl) refl
 
 pub check_gives : (first k : Text) → IsPlainWord k → Gives (first ∷ codes "check" ∷ k ∷ []) (check_named k)
 unfolding clap_on_literals program

@@ -72,7 +72,8 @@ command_ranges (name ∷ a ∷ b ∷ d ∷ []) c e =
 command_ranges (name ∷ a ∷ b ∷ d ∷ f ∷ []) c e = no_command c e
 command_ranges (name ∷ a ∷ k ∷ s ∷ n ∷ m ∷ []) c e =
     either (bytes_eq a (codes "trial")) (trial_by k s n m) None c
-    (trial_ranges (kind_named k) (natural_within (2 ^ 64 - 1) s) (natural_within VERTEX_LIMIT n) (natural_within EDGE_LIMIT m) c (within_limit VERTEX_LIMIT (natural n)) (within_limit EDGE_LIMIT (natural m)))
+    (trial_ranges (kind_named k) (natural_within (2 ^ 64 - 1) s) (natural_within VERTEX_LIMIT n) (natural_within EDGE_LIMIT m) c (within_limit VERTEX_LIMIT (natural n))
+    (within_limit EDGE_LIMIT (natural m)))
     (no_command c) e
 command_ranges (name ∷ a ∷ b ∷ d ∷ f ∷ g ∷ h ∷ more) c e = no_command c e
 

@@ -60,7 +60,8 @@ pub level_by : (s : Shape) (words : List Text) (end : Walk) → walk s.rules [] 
     (settle_passes s.rules s.args_override_self end.held && (list_all default_passes s.rules && is_valid s (finished s.rules end.held) false)) ≡ true →
     level_passes s [] nothing_held words false ≡ true
 level_by s words end ends walks last =
-    ap (λ (e : Walk). walk_passes s [] (walk_from nothing_held) words && (settle_passes s.rules s.args_override_self e.held && (list_all default_passes s.rules && is_valid s (finished s.rules e.held) false))) ends
+    ap (λ (e : Walk). walk_passes s [] (walk_from nothing_held) words && (settle_passes s.rules s.args_override_self e.held && (list_all default_passes s.rules
+    && is_valid s (finished s.rules e.held) false))) ends
     ∙ ap₂ ◌&&◌ walks last
 
 -- ---- the program's words

@@ -1,5 +1,6 @@
 -- The command that the words of a command line are.
-use Rattle.std.specs.Prelude.{◌≡◌, ℕ, ◌<◌, ◌≤◌, ◌-◌, ◌^◌, List, [], ◌∷◌, codes, Bool, true, false, not, ◌&&◌, ◌||◌, ◌==◌, nat_le, if◌then◌else◌, Option, None, Some}
+use Rattle.std.specs.Prelude.{◌≡◌, ℕ, ◌<◌, ◌≤◌, ◌-◌, ◌^◌, List, [], ◌∷◌, codes, Bool, true, false}
+use Rattle.std.specs.Prelude.{not, ◌&&◌, ◌||◌, ◌==◌, nat_le, if◌then◌else◌, Option, None, Some}
 use Rattle.std.specs.Option.{option_map, option_and_then}
 use Rattle.std.specs.Str.{bytes_eq}
 use Rattle.mb_base.specs.Text.{natural}
@@ -17,14 +18,16 @@ solve_named brief name = option_map (λ kind. Solve kind brief) (kind_named name
 
 -- the flag of brief answers stands after the kind or before it
 abbrev pub solve_briefly : List ℕ → List ℕ → Option Command
-solve_briefly a b = if bytes_eq b (codes "--brief") then solve_named true a else (if bytes_eq a (codes "--brief") then solve_named true b else None)
+solve_briefly a b = if bytes_eq b (codes "--brief") then solve_named true a
+    else (if bytes_eq a (codes "--brief") then solve_named true b else None)
 
 abbrev pub check_named : List ℕ → Option Command
 check_named name = option_map (λ kind. Check kind) (kind_named name)
 
 -- the number that digits spell, where it is at most the limit
 abbrev pub natural_within : ℕ → List ℕ → Option ℕ
-natural_within limit word = option_and_then (λ n. if nat_le n limit then Some n else None) (natural word)
+natural_within limit word = option_and_then (λ n. if nat_le n limit then Some n
+    else None) (natural word)
 
 -- the values mark two ends
 abbrev pub marks_ends : VertexValue → Bool
@@ -44,11 +47,14 @@ is_made kind n m = is_drawn kind && has_ends kind n m
 abbrev pub trial : Kind → ℕ → ℕ → ℕ → Option Command
 trial kind start n m = if is_made kind n m then Some (Trial kind start n m) else None
 
--- the command that tries a made instance: the name of a kind, a start below 2^64, and numbers of vertices and edges within the limits
+-- the command that tries a made instance: the name of a kind, a start below 2^64, and numbers of
+-- vertices and edges within the limits
 abbrev pub trial_by : List ℕ → List ℕ → List ℕ → List ℕ → Option Command
 trial_by name start n m =
-    option_and_then (λ kind. option_and_then (λ s. option_and_then (λ vertices. option_and_then (λ edges. trial kind s vertices edges)
-    (natural_within EDGE_LIMIT m)) (natural_within VERTEX_LIMIT n)) (natural_within (2 ^ 64 - 1) start)) (kind_named name)
+    option_and_then (λ kind. option_and_then (λ s. option_and_then (λ vertices. option_and_then
+    (λ edges. trial kind s vertices edges)
+    (natural_within EDGE_LIMIT m)) (natural_within VERTEX_LIMIT n))
+    (natural_within (2 ^ 64 - 1) start)) (kind_named name)
 
 -- the command that the words after the program's name are
 abbrev pub after_name : List (List ℕ) → Option Command
@@ -64,7 +70,8 @@ abbrev pub command_of : List (List ℕ) → Option Command
 command_of [] = None
 command_of (name ∷ words) = after_name words
 
--- the numbers of a trial: within the limits of instances, with the ends of an edge, and those that values mark
+-- the numbers of a trial: within the limits of instances, with the ends of an edge, and those that
+-- values mark
 pub record IsTrialSize (kind : Kind) (n m : ℕ) : Type 0 where
   pub vertices : n ≤ VERTEX_LIMIT
   pub edges : m ≤ EDGE_LIMIT

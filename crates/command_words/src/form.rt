@@ -1,9 +1,9 @@
 ghost use Rattle.std.specs.Prelude.{◌≡◌, [], ◌∷◌, map, string_bytes};
-ghost use Rattle.command_words.specs.Form.{is_plain, has_form, after_name_form};
+ghost use Rattle.command_words.specs.Form.{is_operand, has_form, after_name_form};
 
 /// Whether no hyphen stands first.
-fn is_plain(word: &str) -> bool
-    ensures { result ≡ is_plain word.now }
+fn is_operand(word: &str) -> bool
+    ensures { result ≡ is_operand word.now }
 {
     match word.as_bytes() {
         [b'-', ..] => false,
@@ -14,20 +14,20 @@ fn is_plain(word: &str) -> bool
 fn has_form_of_two(a: &str, kind: &str) -> bool
     ensures { result ≡ after_name_form (a.now ∷ kind.now ∷ []) }
 {
-    (a == "solve" || a == "check") && is_plain(kind)
+    (a == "solve" || a == "check") && is_operand(kind)
 }
 
 fn has_form_of_three(a: &str, b: &str, c: &str) -> bool
     ensures { result ≡ after_name_form (a.now ∷ b.now ∷ c.now ∷ []) }
 {
-    a == "solve" && ((is_plain(b) && c == "--brief") || (b == "--brief" && is_plain(c)))
+    a == "solve" && ((is_operand(b) && c == "--brief") || (b == "--brief" && is_operand(c)))
 }
 
 fn has_form_of_five(a: &str, kind: &str, start: &str, n: &str, m: &str) -> bool
     ensures { result
         ≡ after_name_form (a.now ∷ kind.now ∷ start.now ∷ n.now ∷ m.now ∷ []) }
 {
-    a == "trial" && is_plain(kind) && is_plain(start) && is_plain(n) && is_plain(m)
+    a == "trial" && is_operand(kind) && is_operand(start) && is_operand(n) && is_operand(m)
 }
 
 /// Whether the words have the form of a command, by their number and by which begin with a hyphen.

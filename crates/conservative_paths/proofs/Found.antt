@@ -1,8 +1,9 @@
 -- What the searches find: a path where nothing is left at its end, and a circuit where the path comes back.
-use Rattle.std.proofs.Common.{◌≡◌, ◌≢◌, ℕ, ◌+◌, ◌-◌, ◌<◌, ◌≤◌, pos, ◌+ℤ◌, ◌<ℤ◌, cond, eqb, refl, ap, sym, ◌∙◌, subst, inl, inr, arith, List, [], length, slice_index, take, drop, length-drop, take-append-drop, All}
+use Rattle.std.proofs.Common.{◌≡◌, ◌≢◌, ℕ, ◌+◌, ◌-◌, ◌<◌, ◌≤◌, pos, ◌+ℤ◌, ◌<ℤ◌, cond, eqb, refl, ap, sym, ◌∙◌, subst, inl, inr, true, arith, List, [], length, slice_index, take, drop, length-drop, take-append-drop, All}
 use Rattle.std.proofs.lemmas.Int.{ints}
-use Rattle.std.proofs.lemmas.Bool.{cases_Bool}
-use Rattle.graph_theory.specs.Graph.{Multigraph, IsEdgeWithin, weight, CountsNoneAt}
+use Rattle.std.proofs.lemmas.Bool.{cases_Bool, cases_lt}
+use Rattle.graph_theory.specs.Graph.{Multigraph, IsEdgeWithin, IsEdgeNumber, weight, CountsNoneAt, edge_of, touches}
+use Rattle.std.proofs.lemmas.List.Elements.{All-get_or}
 use Rattle.graph_theory.specs.Parts.{holds}
 use Rattle.graph_theory.specs.Walk.{walk_left, walk_weight, AllDiffer}
 use Rattle.graph_theory.proofs.Members.{holds_place}
@@ -103,6 +104,21 @@ drained g total left base t ends even r less settled =
     }
 
 -- where none of the edges of a set is left nothing is
+
+-- where nothing is left at an end of the next edge of the list either, the counts of one edge more are 0
+pub one-more-gone : (g : Multigraph) (join old new : List ℕ) (base n : ℕ) → All (IsEdgeNumber g) join → IsDrained g base old new → n < length join → touches (edge_of g (slice_index join n)) base ≡ true
+    → ((j : ℕ) → j < n → slice_index old (slice_index join j - 1) ≡ 0) → (j : ℕ) → j < n + 1 → slice_index new (slice_index join j - 1) ≡ 0
+one-more-gone g join old new base n numbers drained there touched none j b =
+    let number : IsEdgeNumber g (slice_index join j) = All-get_or (IsEdgeNumber g) join j 0 (omega (arith, b, there)) numbers in
+    let low = number.0 in
+    let high = number.1 in
+    let inside : slice_index join j - 1 < length g.edges = omega (arith, low, high) in
+    elim (cases_lt j n) [
+      | inl before ↦ let was = none j before in let most = drained.fewer (slice_index join j - 1) inside in omega (arith, was, most)
+      | inr past ↦
+          let same : n ≡ j = omega (arith, past, b) in
+          drained.settled (slice_index join j - 1) inside (subst (λ (k : ℕ). touches (edge_of g (slice_index join k)) base ≡ true) same touched)
+    ]
 
 pub all-gone : (i : Network) (join left : List ℕ) → ((k : ℕ) → k < length (graph_of i).edges → slice_index left k ≤ slice_index (listed_counts join (length i.edges)) k) → ((j : ℕ) → j < length join → slice_index left (slice_index join j - 1) ≡ 0) → weight (graph_of i) left ≡ pos 0
 all-gone i join left fewer none =

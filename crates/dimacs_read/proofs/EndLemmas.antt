@@ -149,7 +149,10 @@ module _ (rs : List Row) (h : Option Header) (vs : List (Option ℕ)) (es : List
       by_header : (x : Option Header) → h ≡ x → end_fault_from kind (sizes h) vs (length es) neg (length rs) ≡ end_fault kind (sizes h) rs
       by_header None e = rw e refl
       by_header (Some g) e =
-          rw e (ap₂ (λ (m : ℕ) (o : Option Fault). cond (eqb m g.edges) o (some_fault (record { rule = EdgeCount; place = length rs }))) (ap length all_edges) (kind_same kind g.vertices (header_count g e)))
+          rw e (ap₂ (λ (m : ℕ) (o : Option Fault). cond (eqb m g.edges) o (some_fault (record {
+            rule = EdgeCount;
+            place = length rs;
+          }))) (ap length all_edges) (kind_same kind g.vertices (header_count g e)))
 
   pub network : (kind : Kind) (g : Header) → h ≡ Some g → length es ≡ g.edges → IsNetwork (record { edges = es; values = map (value_or (default_value_of kind)) vs })
   network kind g e count =

@@ -17,7 +17,7 @@ use Rattle.mb_problem.specs.Network.{Network, vertices, value_of}
 use Rattle.dimacs_read.specs.declared.rule.Rule.TheVariants.{EdgeCount, Negative, PathEnds}
 use Rattle.dimacs_read.specs.declared.rule.Fault.{Fault}
 use Rattle.dimacs_read.specs.Rows.{is_edge}
-use Rattle.dimacs_read.specs.Format.{edge_of, edges_of, first_place, is_negative, is_odd, negative_fault, ends_fault, need_fault, kind_fault, HoldsInstance}
+use Rattle.dimacs_read.specs.Format.{row_edge, edges_of, first_place, is_negative, is_odd, negative_fault, ends_fault, need_fault, kind_fault, HoldsInstance}
 
 -- ---- weights
 
@@ -30,12 +30,12 @@ not_below : (z : ℤ) → int_lt z (pos 0) ≡ false → pos 0 ≤ℤ z
 not_below (pos n) e = search rules
 not_below (negsuc n) e = absurd cc
 
-negative_edge : (row : Row) → is_edge row ≡ true → is_negative row ≡ false → int_lt (edge_of row).w (pos 0) ≡ false
-negative_edge row e h = ap (λ (c : Bool). c && int_lt (edge_of row).w (pos 0)) (sym e) ∙ h
+negative_edge : (row : Row) → is_edge row ≡ true → is_negative row ≡ false → int_lt (row_edge row).w (pos 0) ≡ false
+negative_edge row e h = ap (λ (c : Bool). c && int_lt (row_edge row).w (pos 0)) (sym e) ∙ h
 
 weight_grows : (b : Bool) (row : Row) (rs : List Row) → is_edge row ≡ b → is_negative row ≡ false → All (λ e. pos 0 ≤ℤ e.w) (edges_of rs) →
-    All (λ e. pos 0 ≤ℤ e.w) (map edge_of (cond b (row ∷ filter is_edge rs) (filter is_edge rs)))
-weight_grows true row rs e h all = All-cons (λ (d : InstanceEdge). pos 0 ≤ℤ d.w) (edge_of row) (edges_of rs) (not_below (edge_of row).w (negative_edge row e h)) all
+    All (λ e. pos 0 ≤ℤ e.w) (map row_edge (cond b (row ∷ filter is_edge rs) (filter is_edge rs)))
+weight_grows true row rs e h all = All-cons (λ (d : InstanceEdge). pos 0 ≤ℤ d.w) (row_edge row) (edges_of rs) (not_below (row_edge row).w (negative_edge row e h)) all
 weight_grows false row rs e h all = all
 
 weights_ready : (rs : List Row) → first_place is_negative rs ≡ None → All (λ e. pos 0 ≤ℤ e.w) (edges_of rs)

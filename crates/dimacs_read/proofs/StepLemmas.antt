@@ -16,7 +16,7 @@ use Rattle.mb_problem.specs.declared.instance.InstanceEdge.{InstanceEdge}
 use Rattle.mb_base.specs.Rows.{Row, rows, is_skipped}
 use Rattle.mb_base.proofs.RowLemmas.{next_row}
 use Rattle.dimacs_read.specs.Rows.{is_header, is_edge, is_node, is_solution, instance_rows}
-use Rattle.dimacs_read.specs.Format.{value_in, names, natural_at, fault_of, header_at, edge_at, node_at, Sizes, header_of, sizes_in, edges_of, edge_of, fault_at, line_fault, NoFaultBelow}
+use Rattle.dimacs_read.specs.Format.{value_in, names, natural_at, fault_of, header_at, edge_at, node_at, Sizes, header_of, sizes_in, edges_of, row_edge, fault_at, line_fault, NoFaultBelow}
 use Rattle.dimacs_read.specs.Format.{IsFirstFaulty, first_place, is_negative}
 use Rattle.std.specs.Prelude.{Result, Ok, Err}
 use Rattle.std.proofs.lemmas.List.{length-drop, length-replicate, length-set, nil_from_length, get_or-set_same, get_or-set_other}
@@ -107,7 +107,8 @@ marked_nodes (Some g) values earlier row are = node_at-same (sizes_of_header g) 
 same_marks : (h : Option Header) (values : List (Option ℕ)) (earlier : List Row) (row : Row) → ((v : ℕ) → 1 ≤ v → get_or values (v - 1) None ≡ value_in earlier v) →
     line_fault (sizes h) (is_valued values) row ≡ line_fault (sizes h) (named_in earlier) row
 same_marks h values earlier row are =
-    ap (λ (r : Result Node Rule). cond (is_skipped row) None (cond (is_header row) (fault_of (header_at (sizes h) row)) (cond (is_edge row) (fault_of (edge_at (sizes h) row)) (cond (is_node row) (fault_of r) (Some UnknownLine))))) (marked_nodes h values earlier row are)
+    ap (λ (r : Result Node Rule). cond (is_skipped row) None (cond (is_header row) (fault_of (header_at (sizes h) row)) (cond (is_edge row) (fault_of (edge_at (sizes h) row))
+    (cond (is_node row) (fault_of r) (Some UnknownLine))))) (marked_nodes h values earlier row are)
 
 abbrev nothing : Option ℕ
 nothing = None
@@ -126,7 +127,8 @@ module _ (rs : List Row) (k : ℕ) (row : Row) (more : List Row) (at : drop k rs
   no_fault_more : (h : Option Sizes) → h ≡ header_of (take k rs) → line_fault h (named_in (take k rs)) row ≡ None → NoFaultBelow rs k → NoFaultBelow rs (k + 1)
   no_fault_more h e none below =
       let n = next_row rs k row more at in
-      let here : fault_at rs k ≡ None = subst (λ (r : Row). line_fault (header_of (take k rs)) (named_in (take k rs)) r ≡ None) (sym n.1) (subst (λ (s : Option Sizes). line_fault s (named_in (take k rs)) row ≡ None) e none) in
+      let here : fault_at rs k ≡ None = subst (λ (r : Row). line_fault (header_of (take k rs)) (named_in (take k rs)) r ≡ None) (sym n.1) (subst
+      (λ (s : Option Sizes). line_fault s (named_in (take k rs)) row ≡ None) e none) in
       below_more (λ j. fault_at rs j ≡ None) k below here
 
   faulty_here : (h : Option Sizes) (rule : Rule) → h ≡ header_of (take k rs) → line_fault h (named_in (take k rs)) row ≡ Some rule → NoFaultBelow rs k → IsFirstFaulty rs rule k
@@ -134,7 +136,8 @@ module _ (rs : List Row) (k : ℕ) (row : Row) (more : List Row) (at : drop k rs
       let n = next_row rs k row more at in
       record {
         there = n.0;
-        fault = subst (λ (r : Row). line_fault (header_of (take k rs)) (named_in (take k rs)) r ≡ Some rule) (sym n.1) (subst (λ (s : Option Sizes). line_fault s (named_in (take k rs)) row ≡ Some rule) e some);
+        fault = subst (λ (r : Row). line_fault (header_of (take k rs)) (named_in (take k rs)) r ≡ Some rule) (sym n.1) (subst (λ (s : Option Sizes). line_fault s (named_in (take k rs)) row
+            ≡ Some rule) e some);
         least = below;
       }
 
@@ -156,10 +159,10 @@ module _ (rs : List Row) (k : ℕ) (row : Row) (more : List Row) (at : drop k rs
   header_stays h = ap header_of took ∙ ap sizes_in (find_push-no is_header (take k rs) row h)
 
   edges_stay : is_edge row ≡ false → edges_of (take (k + 1) rs) ≡ edges_of (take k rs)
-  edges_stay h = ap edges_of took ∙ ap (map edge_of) (filter_push-no is_edge (take k rs) row h)
+  edges_stay h = ap edges_of took ∙ ap (map row_edge) (filter_push-no is_edge (take k rs) row h)
 
-  edges_grow : is_edge row ≡ true → edges_of (take (k + 1) rs) ≡ edges_of (take k rs) ++ edge_of row ∷ []
-  edges_grow h = ap edges_of took ∙ ap (map edge_of) (filter_push-yes is_edge (take k rs) row h) ∙ map_push edge_of (filter is_edge (take k rs)) row
+  edges_grow : is_edge row ≡ true → edges_of (take (k + 1) rs) ≡ edges_of (take k rs) ++ row_edge row ∷ []
+  edges_grow h = ap edges_of took ∙ ap (map row_edge) (filter_push-yes is_edge (take k rs) row h) ∙ map_push row_edge (filter is_edge (take k rs)) row
 
 six_fault : (h : Option Sizes) (named : ℕ → Bool) (row : Row) → line_fault h named (take 6 row) ≡ line_fault h named row
 six_fault h named row =
@@ -221,19 +224,21 @@ after_edge : (neg : Option ℕ) (e : InstanceEdge) (k : ℕ) → negative_after 
 after_edge (Some j) e k = refl
 after_edge None e k = refl
 
-edge_negative : (row : Row) (e : InstanceEdge) → is_edge row ≡ true → edge_of row ≡ e → is_negative row ≡ int_lt e.w (pos 0)
+edge_negative : (row : Row) (e : InstanceEdge) → is_edge row ≡ true → row_edge row ≡ e → is_negative row ≡ int_lt e.w (pos 0)
 edge_negative row e h is = rw h (ap (λ (x : InstanceEdge). int_lt x.w (pos 0)) is)
 
 module _ (rs : List Row) (k : ℕ) (row : Row) (more : List Row) (at : drop k rs ≡ row ∷ more) where
   faultless_more : (h : Option Header) (vs : List (Option ℕ)) (es : List InstanceEdge) (neg : Option ℕ) → IsRead rs k h vs es neg → line_fault (sizes h) (is_valued vs) (take 6 row) ≡ None →
       NoFaultBelow rs (k + 1)
-  faultless_more h vs es neg so_far none = no_fault_more rs k row more at (sizes h) so_far.header_is (sym (same_marks h vs (take k rs) row so_far.values_are) ∙ sym (six_fault (sizes h) (is_valued vs) row) ∙ none) so_far.faultless
+  faultless_more h vs es neg so_far none = no_fault_more rs k row more at (sizes h) so_far.header_is (sym (same_marks h vs (take k rs) row so_far.values_are)
+      ∙ sym (six_fault (sizes h) (is_valued vs) row) ∙ none) so_far.faultless
 
   negative_more : (neg : Option ℕ) → neg ≡ first_place is_negative (take k rs) → first_place is_negative (take (k + 1) rs) ≡ or_here neg (is_negative row) k
   negative_more neg e =
       let n = next_row rs k row more at in
       let len : length (take k rs) ≡ k = length-take k rs ∙ omega (arith, n.0) in
-      ap (first_place is_negative) (took rs k row more at) ∙ first_place-push is_negative (take k rs) row ∙ ap (λ (o : Option ℕ). or_here o (is_negative row) (length (take k rs))) (sym e) ∙ ap (or_here neg (is_negative row)) len
+      ap (first_place is_negative) (took rs k row more at) ∙ first_place-push is_negative (take k rs) row ∙ ap (λ (o : Option ℕ). or_here o (is_negative row) (length (take k rs))) (sym e)
+      ∙ ap (or_here neg (is_negative row)) len
 
   negative_stays : (neg : Option ℕ) → neg ≡ first_place is_negative (take k rs) → is_edge row ≡ false → neg ≡ first_place is_negative (take (k + 1) rs)
   negative_stays neg e h = sym (negative_more neg e ∙ ap (λ (b : Bool). or_here neg b k) (no_edge_negative row h) ∙ negative_no neg k)
@@ -263,7 +268,8 @@ module _ (rs : List Row) (k : ℕ) (row : Row) (more : List Row) (at : drop k rs
       record {
         faultless = faultless_more h vs es neg so_far given.0;
         header_is = sym (ap header_of (took rs k row more at) ∙ ap sizes_in (find_push-yes is_header (take k rs) row yes_header none) ∙ ap (λ (s : Sizes). Some s) value.1);
-        values_are = λ v low. get_or-nones found.vertices (v - 1) ∙ sym (ap (λ (l : List (Option ℕ)). get_or l (v - 1) None) empty) ∙ so_far.values_are v low ∙ sym (values_stay rs k row more at kind.1 v);
+        values_are = λ v low. get_or-nones found.vertices (v - 1) ∙ sym (ap (λ (l : List (Option ℕ)). get_or l (v - 1) None) empty) ∙ so_far.values_are v low
+            ∙ sym (values_stay rs k row more at kind.1 v);
         edges_are = so_far.edges_are ∙ sym (edges_stay rs k row more at kind.0);
         negative_is = after_header neg found k ∙ negative_stays neg so_far.negative_is kind.0;
         room = length-replicate found.vertices None;
@@ -278,7 +284,8 @@ module _ (rs : List Row) (k : ℕ) (row : Row) (more : List Row) (at : drop k rs
         faultless = faultless_more h vs es neg so_far given.0;
         header_is = so_far.header_is ∙ sym (header_stays rs k row more at (sym (is_header-six row) ∙ given.1.1));
         values_are = λ v low. so_far.values_are v low ∙ sym (values_stay rs k row more at (edge_kind row is_one) v);
-        edges_are = ap (λ (l : List InstanceEdge). l ++ e ∷ []) so_far.edges_are ∙ ap (λ (x : InstanceEdge). edges_of (take k rs) ++ x ∷ []) (sym value) ∙ sym (edges_grow rs k row more at is_one);
+        edges_are = ap (λ (l : List InstanceEdge). l ++ e ∷ []) so_far.edges_are ∙ ap (λ (x : InstanceEdge). edges_of (take k rs) ++ x ∷ []) (sym value)
+            ∙ sym (edges_grow rs k row more at is_one);
         negative_is = after_edge neg e k ∙ ap (λ (b : Bool). or_here neg b k) (sym (edge_negative row e is_one value)) ∙ sym (negative_more neg so_far.negative_is);
         room = so_far.room;
         few = so_far.few;
@@ -292,13 +299,15 @@ module _ (rs : List Row) (k : ℕ) (row : Row) (more : List Row) (at : drop k rs
       let value = node_is (sizes h) (is_valued vs) row node at_row in
       let unmarked : get_or vs (node.vertex - 1) None ≡ None = not_some _ (node_unnamed (sizes h) (is_valued vs) row node at_row) in
       let before : value_in (take k rs) (natural_at row 1) ≡ None = ap (value_in (take k rs)) value.0 ∙ sym (so_far.values_are node.vertex given.1.4) ∙ unmarked in
-      let after : value_in (take (k + 1) rs) node.vertex ≡ Some node.value = ap (value_in (take (k + 1) rs)) (sym value.0) ∙ values_here rs k row more at is_one before ∙ ap (λ (n : ℕ). Some n) value.1 in
+      let after : value_in (take (k + 1) rs) node.vertex ≡ Some node.value = ap (value_in (take (k + 1) rs)) (sym value.0) ∙ values_here rs k row more at is_one before
+      ∙ ap (λ (n : ℕ). Some n) value.1 in
       record {
         faultless = faultless_more h vs es neg so_far given.0;
         header_is = so_far.header_is ∙ sym (header_stays rs k row more at (sym (is_header-six row) ∙ given.1.0));
         values_are = λ v low. elim (cases_eq v node.vertex) [
           | inl same ↦ rw same (get_or-set_same vs (node.vertex - 1) (Some node.value) None (omega (arith, given.1.4, given.1.5)) ∙ sym after)
-          | inr other ↦ get_or-set_other vs (node.vertex - 1) (v - 1) (Some node.value) None (λ e. other (omega (arith, given.1.4))) ∙ so_far.values_are v low ∙ sym (values_other rs k row more at v (λ e. other (sym e ∙ value.0)))
+          | inr other ↦ get_or-set_other vs (node.vertex - 1) (v - 1) (Some node.value) None (λ e. other (omega (arith, given.1.4))) ∙ so_far.values_are v low
+              ∙ sym (values_other rs k row more at v (λ e. other (sym e ∙ value.0)))
         ];
         edges_are = so_far.edges_are ∙ sym (edges_stay rs k row more at no_edge);
         negative_is = after_node neg node k ∙ negative_stays neg so_far.negative_is no_edge;
@@ -310,7 +319,8 @@ module _ (rs : List Row) (k : ℕ) (row : Row) (more : List Row) (at : drop k rs
 
   pub stops : (h : Option Header) (vs : List (Option ℕ)) (es : List InstanceEdge) (neg : Option ℕ) (rule : Rule) → IsRead rs k h vs es neg →
       GivesLine h (is_valued vs) (length vs) (take 6 row) (Err rule) → IsFirstFaulty rs rule k
-  stops h vs es neg rule so_far given = faulty_here rs k row more at (sizes h) rule so_far.header_is (sym (same_marks h vs (take k rs) row so_far.values_are) ∙ sym (six_fault (sizes h) (is_valued vs) row) ∙ given) so_far.faultless
+  stops h vs es neg rule so_far given = faulty_here rs k row more at (sizes h) rule so_far.header_is (sym (same_marks h vs (take k rs) row so_far.values_are)
+      ∙ sym (six_fault (sizes h) (is_valued vs) row) ∙ given) so_far.faultless
 
   pub within_more : k + 1 ≤ length rs
   within_more = let n = next_row rs k row more at in omega (arith, n.0)

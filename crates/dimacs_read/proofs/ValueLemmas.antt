@@ -12,7 +12,7 @@ use Rattle.std.proofs.lemmas.Bool.{leb-true}
 use Rattle.dimacs_read.specs.declared.rule.Rule.{Rule}
 use Rattle.dimacs_read.specs.declared.rule.Rule.TheVariants.{HeaderForm, FieldCount, Loop, NodeTwice, Range}
 use Rattle.mb_base.specs.Rows.{Row, field_at}
-use Rattle.dimacs_read.specs.Format.{◌>>=◌, Sizes, ranged, number_in, natural_in, number_at, natural_at, sizes_at, header_at, weight_at, capacity_at, edge_at, node_at, edge_of, sizes_of}
+use Rattle.dimacs_read.specs.Format.{◌>>=◌, Sizes, ranged, number_in, natural_in, number_at, natural_at, sizes_at, header_at, row_weight, row_capacity, edge_at, node_at, row_edge, sizes_of}
 
 bind_ok : {A B : Type 0} (r : Result A Rule) (f : A → Result B Rule) (y : B) → (r >>= f) ≡ Ok y → (x : A) × (r ≡ Ok x) × (f x ≡ Ok y)
 bind_ok (Ok x) f y e = (x, refl, e)
@@ -73,22 +73,22 @@ capacity_is false row c e =
     let b = bind_ok (natural_in 0 VALUE_LIMIT (field_at row 4)) (λ n. Ok (Some n)) c e in
     ap (λ (n : ℕ). Some n) (natural_is 0 VALUE_LIMIT row 4 b.0 b.1) ∙ ok_is (Some b.0) c b.2
 
-pub edge_is : (h : Option Sizes) (row : Row) (e : InstanceEdge) → edge_at h row ≡ Ok e → edge_of row ≡ e
+pub edge_is : (h : Option Sizes) (row : Row) (e : InstanceEdge) → edge_at h row ≡ Ok e → row_edge row ≡ e
 unfolding edge_at
 edge_is None row e h = absurd cc
 edge_is (Some s) row e h =
     let r0 = guard_ok (ltb (length row) 3 || ltb 5 (length row)) FieldCount _ e h in
     let u = bind_ok (natural_in 1 s.vertices (field_at row 1)) _ e r0 in
     let v = bind_ok (natural_in 1 s.vertices (field_at row 2)) _ e u.2 in
-    let w = bind_ok (weight_at row) _ e v.2 in
-    let c = bind_ok (capacity_at row) _ e w.2 in
+    let w = bind_ok (row_weight row) _ e v.2 in
+    let c = bind_ok (row_capacity row) _ e w.2 in
     let last = guard_ok (eqb u.0 v.0) Loop _ e c.2 in
     let made : InstanceEdge = record { u = u.0; v = v.0; w = w.0; capacity = c.0 } in
     let ue = natural_is 1 s.vertices row 1 u.0 u.1 in
     let ve = natural_is 1 s.vertices row 2 v.0 v.1 in
     let we = weight_is (ltb (length row) 4) row w.0 w.1 in
     let ce = capacity_is (ltb (length row) 5) row c.0 c.1 in
-    let e1 : edge_of row ≡ made = cc in
+    let e1 : row_edge row ≡ made = cc in
     e1 ∙ ok_is made e last
 
 pub node_is : (h : Option Sizes) (named : ℕ → Bool) (row : Row) (node : Node) → node_at h named row ≡ Ok node → (natural_at row 1 ≡ node.vertex) × (natural_at row 2 ≡ node.value)

@@ -1,6 +1,9 @@
 -- Which line of an instance is at fault, by which rule, and what instance the lines hold.
-use Rattle.std.specs.Prelude.{Bool, ◌≡◌, ℕ, suc, ◌∷◌, ◌+◌, ◌%◌, ◌<◌, ◌⊎◌, is_some, List, [], length, take, map, filter, count_by, not, ◌&&◌, ◌||◌, ◌==◌, nat_lt, if◌then◌else◌, Option, None}
-use Rattle.std.specs.Prelude.{Some, Result, Ok, Err, ℤ, pos, neg_ℤ, nat_abs, int_le, int_lt, unwrap_or, codes, slice_index_or}
+use Rattle.std.specs.Prelude.{Bool, ◌≡◌, ℕ, suc, ◌∷◌, ◌+◌, ◌%◌, ◌<◌, ◌⊎◌, is_some, List, [], length}
+use Rattle.std.specs.Prelude.{take, map, filter, count_by, not, ◌&&◌, ◌||◌, ◌==◌, nat_lt}
+use Rattle.std.specs.Prelude.{if◌then◌else◌, Option, None}
+use Rattle.std.specs.Prelude.{Some, Result, Ok, Err, ℤ, pos, neg_ℤ, nat_abs, int_le, int_lt}
+use Rattle.std.specs.Prelude.{unwrap_or, codes, slice_index_or}
 use Rattle.std.specs.List.{find, range_with_len}
 use Rattle.std.specs.Option.{option_map, option_or}
 use Rattle.std.specs.Str.{bytes_eq}
@@ -8,14 +11,18 @@ use Rattle.mb_base.specs.Text.{numeral}
 use Rattle.mb_base.specs.Rows.{Row, field_at, is_skipped}
 use Rattle.mb_problem.specs.declared.kind.Kind.{Kind}
 use Rattle.mb_problem.specs.declared.kind.Need.{Need}
-use Rattle.mb_problem.specs.declared.kind.Need.TheVariants.{Unrestricted, WeightsFromZero, Ends, EndsAndWeightsFromZero}
+use Rattle.mb_problem.specs.declared.kind.Need.TheVariants.{Unrestricted, WeightsFromZero, Ends}
+use Rattle.mb_problem.specs.declared.kind.Need.TheVariants.{EndsAndWeightsFromZero}
 use Rattle.mb_problem.specs.declared.instance.InstanceEdge.{InstanceEdge}
 use Rattle.graph_theory.specs.declared.limits.TheConstants.{WEIGHT_LIMIT}
 use Rattle.mb_problem.specs.declared.limits.TheConstants.{VERTEX_LIMIT, EDGE_LIMIT, VALUE_LIMIT}
 use Rattle.mb_problem.specs.Kinds.{default_value_of, need_of}
 use Rattle.mb_problem.specs.Network.{Network}
 use Rattle.dimacs_read.specs.declared.rule.Rule.{Rule}
-use Rattle.dimacs_read.specs.declared.rule.Rule.TheVariants.{UnknownLine, HeaderMissing, HeaderTwice, HeaderForm, FieldCount, Number, Range, Loop, NodeTwice, EdgeCount, Negative, PathEnds}
+use Rattle.dimacs_read.specs.declared.rule.Rule.TheVariants.{UnknownLine, HeaderMissing}
+use Rattle.dimacs_read.specs.declared.rule.Rule.TheVariants.{HeaderTwice, HeaderForm, FieldCount}
+use Rattle.dimacs_read.specs.declared.rule.Rule.TheVariants.{Number, Range, Loop, NodeTwice}
+use Rattle.dimacs_read.specs.declared.rule.Rule.TheVariants.{EdgeCount, Negative, PathEnds}
 use Rattle.dimacs_read.specs.declared.rule.Fault.{Fault}
 use Rattle.dimacs_read.specs.declared.line.Node.{Node}
 use Rattle.dimacs_read.specs.Rows.{is_header, is_edge, is_node}
@@ -47,22 +54,26 @@ pub record Sizes : Type 0 where
   pub edges : ℕ
 
 abbrev pub sizes_at : Row → Result Sizes Rule
-sizes_at row = natural_in 0 VERTEX_LIMIT (field_at row 2) >>= λ n. natural_in 0 EDGE_LIMIT (field_at row 3) >>= λ m. Ok (record { vertices = n; edges = m })
+sizes_at row = natural_in 0 VERTEX_LIMIT (field_at row 2) >>= λ n. natural_in 0 EDGE_LIMIT
+    (field_at row 3) >>= λ m. Ok (record { vertices = n; edges = m })
 
 -- a header line, after a header or none
 abbrev pub header_at : Option Sizes → Row → Result Sizes Rule
 header_at (Some s) row = Err HeaderTwice
 header_at None row =
     if not (length row == 4) then Err HeaderForm else
-    (if not (bytes_eq (field_at row 1) (codes "edge") || bytes_eq (field_at row 1) (codes "col")) then Err HeaderForm else
+    (if not (bytes_eq (field_at row 1) (codes "edge") || bytes_eq (field_at row 1) (codes "col"))
+    then Err HeaderForm else
     sizes_at row)
 
 -- the weight of an edge line that has one, and else 1
-abbrev pub weight_at : Row → Result ℤ Rule
-weight_at row = if nat_lt (length row) 4 then Ok (pos 1) else number_in (neg_ℤ WEIGHT_LIMIT) WEIGHT_LIMIT (field_at row 3)
+abbrev pub row_weight : Row → Result ℤ Rule
+row_weight row = if nat_lt (length row) 4 then Ok (pos 1)
+    else number_in (neg_ℤ WEIGHT_LIMIT) WEIGHT_LIMIT (field_at row 3)
 
-abbrev pub capacity_at : Row → Result (Option ℕ) Rule
-capacity_at row = if nat_lt (length row) 5 then Ok None else (natural_in 0 VALUE_LIMIT (field_at row 4) >>= λ c. Ok (Some c))
+abbrev pub row_capacity : Row → Result (Option ℕ) Rule
+row_capacity row = if nat_lt (length row) 5 then Ok None
+    else (natural_in 0 VALUE_LIMIT (field_at row 4) >>= λ c. Ok (Some c))
 
 -- an edge line, after a header or none
 unfoldable pub edge_at : Option Sizes → Row → Result InstanceEdge Rule
@@ -71,8 +82,8 @@ edge_at (Some s) row =
     if nat_lt (length row) 3 || nat_lt 5 (length row) then Err FieldCount else
     (natural_in 1 s.vertices (field_at row 1) >>= λ u.
     natural_in 1 s.vertices (field_at row 2) >>= λ v.
-    weight_at row >>= λ w.
-    capacity_at row >>= λ c.
+    row_weight row >>= λ w.
+    row_capacity row >>= λ c.
     (if u == v then Err Loop else Ok (record { u = u; v = v; w = w; capacity = c })))
 
 -- A value line, after a header or none. `named` tells the vertices of earlier value lines.
@@ -126,15 +137,16 @@ value_in rs v = option_map (λ row. natural_at row 2) (find (names v) rs)
 
 -- the rule that line number k, from 0, breaks: some earlier line is a header, or names a vertex
 abbrev pub fault_at : List Row → ℕ → Option Rule
-fault_at rs k = let earlier = take k rs in line_fault (header_of earlier) (λ v. is_some (value_in earlier v)) (slice_index_or rs k [])
+fault_at rs k = let earlier = take k rs in line_fault (header_of earlier)
+    (λ v. is_some (value_in earlier v)) (slice_index_or rs k [])
 
 abbrev pub NoFaultBelow : List Row → ℕ → Type 0
 NoFaultBelow rs k = (j : ℕ) → j < k → fault_at rs j ≡ None
 
 -- ---- what the lines hold
 
-abbrev pub edge_of : Row → InstanceEdge
-edge_of row = record {
+abbrev pub row_edge : Row → InstanceEdge
+row_edge row = record {
   u = natural_at row 1;
   v = natural_at row 2;
   w = if nat_lt (length row) 4 then pos 1 else number_at row 3;
@@ -142,7 +154,7 @@ edge_of row = record {
 }
 
 abbrev pub edges_of : List Row → List InstanceEdge
-edges_of rs = map edge_of (filter is_edge rs)
+edges_of rs = map row_edge (filter is_edge rs)
 
 abbrev pub value_or : ℕ → Option ℕ → ℕ
 value_or default o = unwrap_or o default
@@ -163,7 +175,7 @@ first_place p (row ∷ rs) = if p row then Some 0 else option_map (λ k. suc k) 
 
 -- the first edge line of a weight below 0
 abbrev pub is_negative : Row → Bool
-is_negative row = is_edge row && int_lt (edge_of row).w (pos 0)
+is_negative row = is_edge row && int_lt (row_edge row).w (pos 0)
 
 -- an edge that weighs less than 0, the first of which stands at this place
 abbrev pub negative_fault : Option ℕ → Option Fault
@@ -171,18 +183,22 @@ negative_fault first = option_map (λ k. record { rule = Negative; place = k }) 
 
 -- other than two odd values, which only the end of the lines shows
 abbrev pub ends_fault : List ℕ → ℕ → Option Fault
-ends_fault values lines = if count_by is_odd values == 2 then None else Some (record { rule = PathEnds; place = lines })
+ends_fault values lines = if count_by is_odd values == 2 then None
+    else Some (record { rule = PathEnds; place = lines })
 
--- what an instance of these values lacks, whose first edge below 0 stands at this place, if there is one, and which has so many lines
+-- what an instance of these values lacks, whose first edge below 0 stands at this place, if there
+-- is one, and which has so many lines
 abbrev pub need_fault : Need → List ℕ → Option ℕ → ℕ → Option Fault
 need_fault Unrestricted values first lines = None
 need_fault WeightsFromZero values first lines = negative_fault first
 need_fault Ends values first lines = ends_fault values lines
-need_fault EndsAndWeightsFromZero values first lines = option_or (negative_fault first) (ends_fault values lines)
+need_fault EndsAndWeightsFromZero values first lines =
+    option_or (negative_fault first) (ends_fault values lines)
 
 -- what a kind asks besides
 abbrev pub kind_fault : Kind → ℕ → List Row → Option Fault
-kind_fault kind n rs = need_fault (need_of kind) (values_of (default_value_of kind) n rs) (first_place is_negative rs) (length rs)
+kind_fault kind n rs = need_fault (need_of kind) (values_of (default_value_of kind) n rs)
+    (first_place is_negative rs) (length rs)
 
 abbrev pub end_fault : Kind → Option Sizes → List Row → Option Fault
 end_fault kind None rs = Some (record { rule = HeaderMissing; place = length rs })
@@ -205,7 +221,8 @@ pub record FailsAtEnd (kind : Kind) (rs : List Row) (rule : Rule) (place : ℕ) 
 
 -- the first fault, on a line counted from 1
 abbrev pub IsFirstFault : Kind → List Row → Rule → ℕ → Type 0
-IsFirstFault kind rs rule line = (k : ℕ) × (line ≡ k + 1) × (IsFirstFaulty rs rule k ⊎ FailsAtEnd kind rs rule k)
+IsFirstFault kind rs rule line = (k : ℕ) × (line ≡ k + 1)
+    × (IsFirstFaulty rs rule k ⊎ FailsAtEnd kind rs rule k)
 
 -- lines without a fault, and the instance that they hold
 pub record HoldsInstance (kind : Kind) (rs : List Row) (i : Network) : Type 0 where

@@ -1,5 +1,6 @@
 -- What the code keeps of earlier lines and of a line.
-use Rattle.std.specs.Prelude.{◌≡◌, ◌-◌, Bool, is_some, slice_index_or, ◌≤◌, ℕ, List, map, All, Option, None, Some, Result, Ok, Err, IfSome}
+use Rattle.std.specs.Prelude.{◌≡◌, ◌-◌, Bool, is_some, slice_index_or, ◌≤◌, ℕ, List, map, All}
+use Rattle.std.specs.Prelude.{Option, None, Some, Result, Ok, Err, IfSome}
 use denote.Ref.{Bor}
 use Rattle.mb_base.specs.Rows.{Row}
 use Rattle.mb_problem.specs.declared.instance.InstanceEdge.{InstanceEdge}

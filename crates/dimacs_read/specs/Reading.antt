@@ -1,5 +1,7 @@
 -- What the code says of one line, and of the whole text.
-use Rattle.std.specs.Prelude.{Bool, ◌≡◌, ◌≤◌, ◌==◌, ℕ, ◌+◌, ◌-◌, pos, int_lt, if◌then◌else◌, take, map, slice_index_or, replicate, slice_set, length, List, [], ◌∷◌, ◌++◌, true, false}
+use Rattle.std.specs.Prelude.{Bool, ◌≡◌, ◌≤◌, ◌==◌, ℕ, ◌+◌, ◌-◌, pos, int_lt, if◌then◌else◌, take}
+use Rattle.std.specs.Prelude.{map, slice_index_or, replicate, slice_set, length, List, [], ◌∷◌}
+use Rattle.std.specs.Prelude.{◌++◌, true, false}
 use Rattle.std.specs.Prelude.{Option, None, Some, Result, Ok, Err}
 use Rattle.mb_base.specs.Rows.{Row, rows, is_skipped}
 use Rattle.mb_problem.specs.declared.kind.Kind.{Kind}
@@ -18,20 +20,28 @@ use Rattle.dimacs_read.specs.declared.keep.Line.TheVariants as line
 use Rattle.dimacs_read.specs.declared.error.InstanceError.{InstanceError}
 use Rattle.dimacs_read.specs.declared.error.InstanceError.TheVariants.{Malformed, OutOfMemory}
 use Rattle.dimacs_read.specs.Rows.{is_header, is_edge, is_node, instance_rows}
-use Rattle.dimacs_read.specs.Format.{Sizes, header_at, edge_at, node_at, line_fault, header_of, value_in, edges_of, first_place, is_negative, need_fault, value_or, NoFaultBelow}
+use Rattle.dimacs_read.specs.Format.{Sizes, header_at, edge_at, node_at, line_fault, header_of}
+use Rattle.dimacs_read.specs.Format.{value_in, edges_of, first_place, is_negative, need_fault}
+use Rattle.dimacs_read.specs.Format.{value_or, NoFaultBelow}
 use Rattle.dimacs_read.specs.Format.{IsFirstFaulty, IsFirstFault, HoldsInstance}
-use Rattle.dimacs_read.specs.Line.{sizes, sizes_of_header, FitsHeader, HasValues, HasFewVertices, IsAnnounced, AllFit, AreSmall}
+use Rattle.dimacs_read.specs.Line.{sizes, sizes_of_header, FitsHeader, HasValues, HasFewVertices}
+use Rattle.dimacs_read.specs.Line.{IsAnnounced, AllFit, AreSmall}
 use Rattle.dimacs_read.specs.Rest.{IsRest, after_lines}
 
 -- a line without a fault is one of the kinds
 abbrev pub IsLine : Option Header → (ℕ → Bool) → ℕ → Row → Line → Type 0
 IsLine header named count row line.Skipped = is_skipped row ≡ true
-IsLine header named count row (line.Header h) = (is_skipped row ≡ false) × (is_header row ≡ true) × (header_at (sizes header) row ≡ Ok (sizes_of_header h)) × IsAnnounced h
-IsLine header named count row (line.Edge e) = (is_skipped row ≡ false) × (is_header row ≡ false) × (is_edge row ≡ true) × (edge_at (sizes header) row ≡ Ok e) × FitsHeader header e
-IsLine header named count row (line.Node node) = (is_header row ≡ false) × (is_edge row ≡ false) × (is_node row ≡ true) × (node_at (sizes header) named row ≡ Ok node) × (1 ≤ node.vertex) × (node.vertex ≤ count) × (node.value ≤ VALUE_LIMIT)
+IsLine header named count row (line.Header h) = (is_skipped row ≡ false) × (is_header row ≡ true)
+    × (header_at (sizes header) row ≡ Ok (sizes_of_header h)) × IsAnnounced h
+IsLine header named count row (line.Edge e) = (is_skipped row ≡ false) × (is_header row ≡ false)
+    × (is_edge row ≡ true) × (edge_at (sizes header) row ≡ Ok e) × FitsHeader header e
+IsLine header named count row (line.Node node) = (is_header row ≡ false) × (is_edge row ≡ false)
+    × (is_node row ≡ true) × (node_at (sizes header) named row ≡ Ok node) × (1 ≤ node.vertex)
+    × (node.vertex ≤ count) × (node.value ≤ VALUE_LIMIT)
 
 abbrev pub GivesLine : Option Header → (ℕ → Bool) → ℕ → Row → Result Line Rule → Type 0
-GivesLine header named count row (Ok l) = (line_fault (sizes header) named row ≡ None) × IsLine header named count row l
+GivesLine header named count row (Ok l) = (line_fault (sizes header) named row ≡ None)
+    × IsLine header named count row l
 GivesLine header named count row (Err rule) = line_fault (sizes header) named row ≡ Some rule
 
 -- there is a place for what a line gives
@@ -67,7 +77,8 @@ negative_after None (line.Edge e) place = if int_lt e.w (pos 0) then Some place 
 negative_after None l place = None
 
 -- the first k lines have been read without a fault
-pub record IsRead (rs : List Row) (k : ℕ) (header : Option Header) (values : List (Option ℕ)) (edges : List InstanceEdge) (negative : Option ℕ) : Type 0 where
+pub record IsRead (rs : List Row) (k : ℕ) (header : Option Header) (values : List (Option ℕ))
+    (edges : List InstanceEdge) (negative : Option ℕ) : Type 0 where
   pub faultless : NoFaultBelow rs k
   pub header_is : sizes header ≡ header_of (take k rs)
   pub values_are : (v : ℕ) → 1 ≤ v → slice_index_or values (v - 1) None ≡ value_in (take k rs) v
@@ -82,29 +93,37 @@ pub record IsRead (rs : List Row) (k : ℕ) (header : Option Header) (values : L
 pub record IsDraft (bytes : List ℕ) (draft : Draft) : Type 0 where
   pub lines : draft.lines ≡ length (instance_rows (rows bytes))
   pub short : draft.lines ≤ length bytes
-  pub so_far : IsRead (instance_rows (rows bytes)) draft.lines draft.header draft.values.items draft.edges.items draft.negative
+  pub so_far : IsRead (instance_rows (rows bytes)) draft.lines draft.header draft.values.items
+      draft.edges.items draft.negative
   pub rest : draft.rest.now ≡ after_lines draft.lines bytes
 
 -- what reading the lines answers
 abbrev pub ReadsLines : List ℕ → Result Draft InstanceError → Type 0
 ReadsLines bytes (Ok draft) = IsDraft bytes draft
-ReadsLines bytes (Err (Malformed rule line)) = (k : ℕ) × (line ≡ k + 1) × IsFirstFaulty (instance_rows (rows bytes)) rule k
+ReadsLines bytes (Err (Malformed rule line)) = (k : ℕ) × (line ≡ k + 1)
+    × IsFirstFaulty (instance_rows (rows bytes)) rule k
 ReadsLines bytes (Err OutOfMemory) = Unit {0}
 
 -- what the tests at the end answer, from what was kept
 abbrev pub kind_fault_from : Kind → List (Option ℕ) → Option ℕ → ℕ → Option Fault
-kind_fault_from kind values negative lines = need_fault (need_of kind) (map (value_or (default_value_of kind)) values) negative lines
+kind_fault_from kind values negative lines =
+    need_fault (need_of kind) (map (value_or (default_value_of kind)) values) negative lines
 
 abbrev pub end_fault_from : Kind → Option Sizes → List (Option ℕ) → ℕ → Option ℕ → ℕ → Option Fault
-end_fault_from kind None values count negative lines = Some (record { rule = HeaderMissing; place = lines })
+end_fault_from kind None values count negative lines = Some (record {
+  rule = HeaderMissing;
+  place = lines;
+})
 end_fault_from kind (Some s) values count negative lines =
     if count == s.edges then kind_fault_from kind values negative lines
     else Some (record { rule = EdgeCount; place = lines })
 
 -- ---- the whole
 
--- What reading a text answers: the instance of its lines up to a document with what follows it, or the first fault.
+-- What reading a text answers: the instance of its lines up to a document with what follows it, or
+-- the first fault.
 abbrev pub Reads : Kind → List ℕ → Result (Network × Rest) InstanceError → Type 0
 Reads kind bytes (Ok r) = HoldsInstance kind (instance_rows (rows bytes)) r.0 × IsRest bytes r.1
-Reads kind bytes (Err (Malformed rule line)) = IsFirstFault kind (instance_rows (rows bytes)) rule line
+Reads kind bytes (Err (Malformed rule line)) =
+    IsFirstFault kind (instance_rows (rows bytes)) rule line
 Reads kind bytes (Err OutOfMemory) = Unit {0}

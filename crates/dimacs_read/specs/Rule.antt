@@ -1,7 +1,10 @@
 -- The names of rules.
 use Rattle.std.specs.Prelude.{ℕ, List, codes}
 use Rattle.dimacs_read.specs.declared.rule.Rule.{Rule}
-use Rattle.dimacs_read.specs.declared.rule.Rule.TheVariants.{UnknownLine, HeaderMissing, HeaderTwice, HeaderForm, FieldCount, Number, Range, Loop, NodeTwice, EdgeCount, Negative, PathEnds}
+use Rattle.dimacs_read.specs.declared.rule.Rule.TheVariants.{UnknownLine, HeaderMissing}
+use Rattle.dimacs_read.specs.declared.rule.Rule.TheVariants.{HeaderTwice, HeaderForm, FieldCount}
+use Rattle.dimacs_read.specs.declared.rule.Rule.TheVariants.{Number, Range, Loop, NodeTwice}
+use Rattle.dimacs_read.specs.declared.rule.Rule.TheVariants.{EdgeCount, Negative, PathEnds}
 
 abbrev pub rule_name : Rule → List ℕ
 rule_name UnknownLine = codes "UnknownLine"

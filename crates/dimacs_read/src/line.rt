@@ -2,7 +2,8 @@ ghost use Rattle.std.specs.Prelude.{◌≡◌, ℕ, ◌<◌, ◌≤◌, ◌^◌,
 ghost use Rattle.std.specs.Prelude.{IfOk, Some, None, Option};
 ghost use Rattle.graph_theory.specs.Graph.{IsWeight};
 ghost use Rattle.mb_problem.specs.Network.{IsInstanceEdge};
-ghost use Rattle.dimacs_read.specs.Format.{number_in, natural_in, weight_at, capacity_at, edge_at};
+ghost use Rattle.dimacs_read.specs.Format.{number_in, natural_in, row_weight, row_capacity};
+ghost use Rattle.dimacs_read.specs.Format.{edge_at};
 ghost use Rattle.dimacs_read.specs.Format.{header_at, node_at, sizes_at, Sizes};
 ghost use Rattle.dimacs_read.specs.Line.{sizes, seen, field_list, HasFewVertices, HasValues};
 ghost use Rattle.dimacs_read.specs.Line.{is_valued, FitsHeader, IsAnnounced, IsSmall};
@@ -54,7 +55,7 @@ fn natural_between(field: &[u8], low: u32, high: u32) -> Result<u32, Rule>
 }
 
 fn weight(row: &[&[u8]]) -> Result<i64, Rule>
-    ensures value { result ≡ weight_at (field_list row.now) }
+    ensures value { result ≡ row_weight (field_list row.now) }
     ensures range { IfOk result IsWeight }
 {
     if row.len() < 4 {
@@ -64,7 +65,7 @@ fn weight(row: &[&[u8]]) -> Result<i64, Rule>
 }
 
 fn capacity(row: &[&[u8]]) -> Result<Option<u32>, Rule>
-    ensures value { result ≡ capacity_at (field_list row.now) }
+    ensures value { result ≡ row_capacity (field_list row.now) }
     ensures range { IfOk result IsSmall }
 {
     if row.len() < 5 {

@@ -1,5 +1,6 @@
 -- Lemmas on what crosses sets.
-use Rattle.std.proofs.Common.{◌≡◌, ◌∙◌, sym, ap, ap₂, subst, refl, arith, ℕ, zero, suc, ◌+◌, ◌-◌, ◌<◌, ◌≤◌, ℤ, pos, neg_ℤ, ◌+ℤ◌, ◌-ℤ◌, ◌*ℤ◌, ◌≤ℤ◌, Bool, true, false, not, cond, eqb, ◌||◌, ◌&&◌, List, length, get_or, take, All}
+use Rattle.std.proofs.Common.{◌≡◌, ◌∙◌, sym, ap, ap₂, subst, refl, arith, ℕ, zero, suc, ◌+◌, ◌-◌, ◌<◌, ◌≤◌, ℤ, pos, neg_ℤ, ◌+ℤ◌, ◌-ℤ◌, ◌*ℤ◌, ◌≤ℤ◌, Bool, true, false, not, cond, eqb, ◌||◌}
+use Rattle.std.proofs.Common.{◌&&◌, List, length, get_or, take, All}
 use Rattle.std.proofs.lemmas.Int.{ints}
 use Rattle.std.proofs.lemmas.Bool.{false≢true, eqb-true}
 use Rattle.std.specs.List.Sorted.{IsStrictlyIncreasing}
@@ -18,7 +19,8 @@ either true a h = h
 either false a h = (omega (arith, ints), omega (arith, ints))
 
 -- the first n sets give an edge at most n times what one may
-pub crossed-within : (sets : List OddSet) (n : ℕ) (e : Edge) → n ≤ length sets → All (λ s. IsNumber s.dual) sets → ((neg_ℤ NUMBER_LIMIT *ℤ pos n) ≤ℤ crossed_by sets n e) × (crossed_by sets n e ≤ℤ (NUMBER_LIMIT *ℤ pos n))
+pub crossed-within : (sets : List OddSet) (n : ℕ) (e : Edge) → n ≤ length sets → All (λ s. IsNumber s.dual) sets → ((neg_ℤ NUMBER_LIMIT *ℤ pos n) ≤ℤ crossed_by sets n e)
+    × (crossed_by sets n e ≤ℤ (NUMBER_LIMIT *ℤ pos n))
 crossed-within sets zero e b small = (omega (arith, ints), omega (arith, ints))
 crossed-within sets (suc n) e b small =
     let r = crossed-within sets n e (omega arith) small in
@@ -70,9 +72,11 @@ next_member s marks i e dual up b marked =
     let u = e.u in
     let v = e.v in
     let more : (w : ℕ) → holds (take (i + 1) s) w ≡ (holds (take i s) w || eqb w x) = λ w. holds-take s i w b ∙ ap (λ t. holds (take i s) w || t) (eqb-turned x w) in
-    let front : given_by s (i + 1) e dual ≡ cond (crosses s e && ((holds (take i s) u || eqb u x) || (holds (take i s) v || eqb v x))) dual (pos 0) = ap₂ (λ p q. cond (crosses s e && (p || q)) dual (pos 0)) (more u) (more v) in
+    let front : given_by s (i + 1) e dual ≡ cond (crosses s e && ((holds (take i s) u || eqb u x) || (holds (take i s) v || eqb v x))) dual (pos 0) =
+    ap₂ (λ p q. cond (crosses s e && (p || q)) dual (pos 0)) (more u) (more v) in
     let other : is_marked marks (other_end e x) ≡ cond (eqb u x) (holds s v) (holds s u) = marked (other_end e x) ∙ end_held s (eqb u x) v u in
-    let back : cond ((eqb u x || eqb v x) && not (cond (eqb u x) (holds s v) (holds s u))) dual (pos 0) ≡ cond (leads_out marks x e) dual (pos 0) = ap (λ t. cond ((eqb u x || eqb v x) && not t) dual (pos 0)) (sym other) in
+    let back : cond ((eqb u x || eqb v x) && not (cond (eqb u x) (holds s v) (holds s u))) dual (pos 0) ≡ cond (leads_out marks x e) dual (pos 0) =
+    ap (λ t. cond ((eqb u x || eqb v x) && not t) dual (pos 0)) (sym other) in
     let step = one_end (holds s u) (holds s v) (holds (take i s) u) (holds (take i s) v) (eqb u x) (eqb v x) dual
     (is_member s i u b) (is_member s i v b) (is_fresh s i u up b) (is_fresh s i v up b) (holds-of_take s i u) (holds-of_take s i v) in
     front ∙ step ∙ ap (λ z. given_by s i e dual +ℤ z) back

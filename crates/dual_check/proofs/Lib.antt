@@ -1,4 +1,5 @@
 pub mod CrossLemmas
+pub mod HolderLemmas
 pub mod AddLemmas
 pub mod ListLemmas
 pub mod ShareLemmas

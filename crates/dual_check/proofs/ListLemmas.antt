@@ -1,5 +1,7 @@
 -- Lemmas on lists by vertex, and on sums over lists.
-use Rattle.std.proofs.Common.{◌≡◌, ◌∙◌, sym, ap, ap₂, subst, inl, inr, arith, ℕ, zero, suc, ◌+◌, ◌<◌, ℤ, pos, ◌+ℤ◌, Bool, true, false, cond, eqb, ◌||◌, List, [], ◌∷◌, ◌++◌, length, get_or, set, take, All, get_or-set_same, get_or-set_other, length-append}
+use Rattle.std.proofs.Common.{append-nil, refl}
+use Rattle.std.proofs.Common.{◌≡◌, ◌∙◌, sym, ap, ap₂, subst, inl, inr, arith, ℕ, zero, suc, ◌+◌, ◌<◌, ℤ, pos, ◌+ℤ◌, Bool, true, false, cond, eqb, ◌||◌, List, [], ◌∷◌, ◌++◌, length, get_or}
+use Rattle.std.proofs.Common.{set, take, All, get_or-set_same, get_or-set_other, length-append}
 use Rattle.std.proofs.Math.Bool.{or-false}
 use Rattle.std.proofs.Math.Seq.{get_or-append_seam}
 use Rattle.std.proofs.lemmas.Bool.{cases_eq, eq-eqb, ne_eqb, or_right}
@@ -9,29 +11,35 @@ use Rattle.std.proofs.lemmas.List.Elements.{All-append, All-weaker, All-from_get
 use Rattle.std.specs.List.Sorted.{IsStrictlyIncreasing}
 use Rattle.graph_theory.specs.Parts.{holds}
 use Rattle.graph_theory.specs.Sums.{int_sum_to}
+use Rattle.weighted_graph.specs.Grouped.{items_of}
+use Rattle.weighted_graph.proofs.Grouping.{items-append}
 use Rattle.dual_check.specs.Shared.{sum_over}
 use Rattle.graph_theory.proofs.Members.{holds-take, not_before}
 use Rattle.graph_theory.proofs.SumLemmas.{int_sum_to-same, int_sum_to-more}
 
 -- one more member x has s at the end of its list
-pub noted_next : (L N : List (List ℕ)) (I : ℕ → List ℕ) (xs : List ℕ) (i x s : ℕ)
-    → IsStrictlyIncreasing xs → i < length xs → x ≡ get_or xs i 0 → x < length L
-    → N ≡ set L x (get_or L x [] ++ s ∷ [])
-    → ((w : ℕ) → get_or L w [] ≡ cond (holds (take i xs) w) (I w ++ s ∷ []) (I w))
-    → (v : ℕ) → get_or N v [] ≡ cond (holds (take (i + 1) xs) v) (I v ++ s ∷ []) (I v)
-noted_next L N I xs i x s up b here within is so v =
-    let Goal : Bool → Type 0 = λ t. get_or N v [] ≡ cond t (I v ++ s ∷ []) (I v) in
+pub noted_next : (L N : List (ℕ × ℕ)) (I : ℕ → List ℕ) (xs : List ℕ) (i x s : ℕ)
+    → IsStrictlyIncreasing xs → i < length xs → x ≡ get_or xs i 0
+    → N ≡ L ++ (x, s) ∷ []
+    → ((w : ℕ) → items_of L w ≡ cond (holds (take i xs) w) (I w ++ s ∷ []) (I w))
+    → (v : ℕ) → items_of N v ≡ cond (holds (take (i + 1) xs) v) (I v ++ s ∷ []) (I v)
+noted_next L N I xs i x s up b here is so v =
+    let Goal : Bool → Type 0 = λ t. items_of N v ≡ cond t (I v ++ s ∷ []) (I v) in
     let more : holds (take (i + 1) xs) v ≡ (holds (take i xs) v || eqb x v) = holds-take xs i v b ∙ ap (λ q. holds (take i xs) v || eqb q v) (sym here) in
+    let parts : (w : ℕ) → items_of N w ≡ items_of L w ++ items_of ((x, s) ∷ []) w = λ w. ap (λ (l : List (ℕ × ℕ)). items_of l w) is ∙ items-append L ((x, s) ∷ []) w in
     subst Goal (sym more) (elim (cases_eq x v) [
       | inl same ↦
           let fresh : holds (take i xs) x ≡ false = ap (λ q. holds (take i xs) q) here ∙ not_before xs i up b in
-          let old : get_or L x [] ≡ I x = so x ∙ ap (λ t. cond t (I x ++ s ∷ []) (I x)) fresh in
-          let new : get_or N x [] ≡ I x ++ s ∷ [] = ap (λ (M : List (List ℕ)). get_or M x []) is ∙ get_or-set_same _ _ _ _ within ∙ ap (λ (ys : List ℕ). ys ++ s ∷ []) old in
+          let old : items_of L x ≡ I x = so x ∙ ap (λ t. cond t (I x ++ s ∷ []) (I x)) fresh in
+          let one : items_of ((x, s) ∷ []) x ≡ s ∷ [] = ap (λ (t : Bool). cond {A = List ℕ} t (s ∷ []) []) (eq-eqb x x refl) in
+          let new : items_of N x ≡ I x ++ s ∷ [] = parts x ∙ ap₂ (λ (a c : List ℕ). a ++ c) old one in
           let held : (holds (take i xs) v || eqb x v) ≡ true = or_right (holds (take i xs) v) (eqb x v) (eq-eqb x v same) in
-          subst Goal (sym held) (subst (λ (q : ℕ). get_or N q [] ≡ I q ++ s ∷ []) same new)
+          subst Goal (sym held) (subst (λ (q : ℕ). items_of N q ≡ I q ++ s ∷ []) same new)
       | inr differ ↦
           let off : (holds (take i xs) v || eqb x v) ≡ holds (take i xs) v = ap (λ t. holds (take i xs) v || t) (ne_eqb x v differ) ∙ or-false (holds (take i xs) v) in
-          subst Goal (sym off) (ap (λ (M : List (List ℕ)). get_or M v []) is ∙ get_or-set_other L x v _ [] (λ eq. differ (sym eq)) ∙ so v)
+          let none : items_of ((x, s) ∷ []) v ≡ [] = ap (λ (t : Bool). cond {A = List ℕ} t (s ∷ []) []) (ne_eqb x v differ) in
+          let new : items_of N v ≡ items_of L v = parts v ∙ ap (λ (c : List ℕ). items_of L v ++ c) none ∙ append-nil (items_of L v) in
+          subst Goal (sym off) (new ∙ so v)
     ])
 
 -- one more item of a list
@@ -39,7 +47,8 @@ pub sum_over-push : (f : ℕ → ℤ) (xs : List ℕ) (j : ℕ) → sum_over f (
 sum_over-push f xs j =
     let ys = xs ++ j ∷ [] in
     let long : length ys ≡ length xs + 1 = length-append xs (j ∷ []) in
-    let front : int_sum_to (λ a. f (get_or ys a 0)) (length xs) ≡ sum_over f xs = int_sum_to-same (λ a. f (get_or ys a 0)) (λ a. f (get_or xs a 0)) (length xs) (λ a b. ap f (get_or_append_left xs (j ∷ []) 0 a b)) in
+    let front : int_sum_to (λ a. f (get_or ys a 0)) (length xs) ≡ sum_over f xs = int_sum_to-same (λ a. f (get_or ys a 0)) (λ a. f (get_or xs a 0)) (length xs)
+    (λ a b. ap f (get_or_append_left xs (j ∷ []) 0 a b)) in
     ap (int_sum_to (λ a. f (get_or ys a 0))) long
     ∙ int_sum_to-more (λ a. f (get_or ys a 0)) (length xs)
     ∙ ap₂ (λ p q. p +ℤ q) front (ap f (get_or-append_seam xs j [] 0))

@@ -1,5 +1,6 @@
 -- Lemmas on the sets that are taken out of all: their part of what an edge crosses, from what they share at its two ends.
-use Rattle.std.proofs.Common.{◌≡◌, ◌≢◌, ◌∙◌, sym, ap, ap₂, refl, inl, inr, arith, ℕ, zero, suc, ◌+◌, ◌<◌, ◌≤◌, ℤ, pos, neg_ℤ, ◌+ℤ◌, ◌-ℤ◌, ◌*ℤ◌, ◌≤ℤ◌, Bool, true, false, not, cond, eqb, ◌||◌, ◌&&◌, List, [], ◌∷◌, length, get_or, All}
+use Rattle.std.proofs.Common.{◌≡◌, ◌≢◌, ◌∙◌, sym, ap, ap₂, refl, inl, inr, arith, ℕ, zero, suc, ◌+◌, ◌<◌, ◌≤◌, ℤ, pos, neg_ℤ, ◌+ℤ◌, ◌-ℤ◌, ◌*ℤ◌, ◌≤ℤ◌, Bool, true, false, not, cond, eqb, ◌||◌}
+use Rattle.std.proofs.Common.{◌&&◌, List, [], ◌∷◌, length, get_or, All}
 use Rattle.std.proofs.lemmas.Int.{ints}
 use Rattle.std.proofs.lemmas.Bool.{ne_eqb, eqb-true, cases_lt}
 use Rattle.graph_theory.specs.declared.edge.Edge.{Edge}
@@ -10,8 +11,8 @@ use Rattle.graph_theory.specs.Graph.{IsEdgeWithin, touches, other_end}
 use Rattle.graph_theory.specs.Parts.{crosses, holds}
 use Rattle.graph_theory.specs.Duals.{IsNumber, set_at, no_set, crossed_by}
 use Rattle.graph_parts.specs.Marks.{is_marked}
-use Rattle.dual_check.specs.Crossed.{total_of}
-use Rattle.dual_check.specs.Shared.{sum_over, dual_at, dual_with, taken_dual, other_dual, is_held, crossed_at, IsHolders, AreShares}
+use Rattle.dual_check.specs.Crossed.{total_at}
+use Rattle.dual_check.specs.Shared.{sum_over, set_dual, dual_with, taken_dual, other_dual, is_held, crossed_at, IsHolders, AreShares}
 use Rattle.dual_check.specs.declared.shares.Shares.{Shares}
 use Rattle.graph_theory.proofs.SumLemmas.{int_sum_to-same, int_sum_to-add, int_sum_to-more, int_sum_to-at_none, int_sum_to-at_one}
 use Rattle.graph_theory.proofs.Edges.{other_end-u}
@@ -25,7 +26,8 @@ parted true false d = omega (arith, ints)
 parted false t d = refl
 
 -- what an edge crosses comes from the sets that are taken and the others
-pub crossed_parted : (sets : List OddSet) (taken : List Bool) (n : ℕ) (e : Edge) → crossed_by sets n e ≡ (crossed_at sets (other_dual sets taken) n e +ℤ crossed_at sets (taken_dual sets taken) n e)
+pub crossed_parted : (sets : List OddSet) (taken : List Bool) (n : ℕ) (e : Edge) → crossed_by sets n e ≡ (crossed_at sets (other_dual sets taken) n e +ℤ crossed_at sets
+    (taken_dual sets taken) n e)
 crossed_parted sets taken n e =
     int_sum_to-same (λ j. cond (crosses (set_at sets j).members e) (set_at sets j).dual (pos 0))
     (λ j. cond (crosses (set_at sets j).members e) (other_dual sets taken j) (pos 0) +ℤ cond (crosses (set_at sets j).members e) (taken_dual sets taken j) (pos 0)) n
@@ -49,7 +51,7 @@ others-within sets taken n e b small = sum-within (λ j. cond (crosses (set_at s
 
 -- the duals of the taken sets that hold u and not w
 abbrev pub left_at : List OddSet → List Bool → ℕ → ℕ → ℤ
-left_at sets taken u w = int_sum_to (λ j. cond (is_held sets taken u j) (dual_at sets j -ℤ dual_with sets w j) (pos 0)) (length sets)
+left_at sets taken u w = int_sum_to (λ j. cond (is_held sets taken u j) (set_dual sets j -ℤ dual_with sets w j) (pos 0)) (length sets)
 
 left_number : (t h : Bool) (d : ℤ) → IsNumber d → IsNumber (cond t (d -ℤ cond h d (pos 0)) (pos 0))
 left_number true true d small = (omega (arith, ints), omega (arith, ints))
@@ -58,7 +60,7 @@ left_number false h d small = (omega (arith, ints), omega (arith, ints))
 
 pub left-within : (sets : List OddSet) (taken : List Bool) (u w : ℕ) → All (λ s. IsNumber s.dual) sets
     → ((neg_ℤ NUMBER_LIMIT *ℤ pos (length sets)) ≤ℤ left_at sets taken u w) × (left_at sets taken u w ≤ℤ (NUMBER_LIMIT *ℤ pos (length sets)))
-left-within sets taken u w small = sum-within (λ j. cond (is_held sets taken u j) (dual_at sets j -ℤ dual_with sets w j) (pos 0)) (length sets)
+left-within sets taken u w small = sum-within (λ j. cond (is_held sets taken u j) (set_dual sets j -ℤ dual_with sets w j) (pos 0)) (length sets)
     (λ j b. left_number (is_held sets taken u j) (holds (set_at sets j).members w) _ (small j no_set b))
 
 sum-minus : (f g : ℕ → ℤ) (n : ℕ) → int_sum_to (λ k. f k -ℤ g k) n ≡ (int_sum_to f n -ℤ int_sum_to g n)
@@ -66,32 +68,37 @@ sum-minus f g zero = omega (arith, ints)
 sum-minus f g (suc n) = let r = sum-minus f g n in omega (arith, ints, r)
 
 -- what the sets that hold u don't share with w
-pub unshared_is : (n m : ℕ) (sets : List OddSet) (taken : List Bool) (lists : List (List ℕ)) (list : List ℕ) (s : Shares) (u w : ℕ) → IsHolders n sets taken lists → list ≡ get_or lists u [] → AreShares m sets list s
-    → (s.whole -ℤ total_of s.with_vertex.items w) ≡ left_at sets taken u w
+pub unshared_is : (n m : ℕ) (sets : List OddSet) (taken : List Bool) (lists : List (List ℕ)) (list : List ℕ) (s : Shares) (u w : ℕ) → IsHolders n sets taken lists → list ≡ get_or lists u []
+    → AreShares m sets list s
+    → (s.whole -ℤ total_at s.with_vertex.items w) ≡ left_at sets taken u w
 unshared_is n m sets taken lists list s u w held is shares =
     ap₂ (λ a b. a -ℤ b) shares.whole (shares.exact w)
-    ∙ sym (sum-minus (λ a. dual_at sets (get_or list a 0)) (λ a. dual_with sets w (get_or list a 0)) (length list))
-    ∙ ap (λ (xs : List ℕ). sum_over (λ j. dual_at sets j -ℤ dual_with sets w j) xs) is
-    ∙ held.exact u (λ j. dual_at sets j -ℤ dual_with sets w j)
+    ∙ sym (sum-minus (λ a. set_dual sets (get_or list a 0)) (λ a. dual_with sets w (get_or list a 0)) (length list))
+    ∙ ap (λ (xs : List ℕ). sum_over (λ j. set_dual sets j -ℤ dual_with sets w j) xs) is
+    ∙ held.exact u (λ j. set_dual sets j -ℤ dual_with sets w j)
 
 pub none_left : (n : ℕ) (sets : List OddSet) (taken : List Bool) (lists : List (List ℕ)) (u w : ℕ) → IsHolders n sets taken lists → get_or lists u [] ≡ [] → left_at sets taken u w ≡ pos 0
 none_left n sets taken lists u w held none =
-    sym (held.exact u (λ j. dual_at sets j -ℤ dual_with sets w j)) ∙ ap (λ (xs : List ℕ). sum_over (λ j. dual_at sets j -ℤ dual_with sets w j) xs) none
+    sym (held.exact u (λ j. set_dual sets j -ℤ dual_with sets w j)) ∙ ap (λ (xs : List ℕ). sum_over (λ j. set_dual sets j -ℤ dual_with sets w j) xs) none
 
-held_within : (n : ℕ) (sets : List OddSet) (taken : List Bool) (lists : List (List ℕ)) (list : List ℕ) (u : ℕ) (f : ℕ → ℤ) → IsHolders n sets taken lists → list ≡ get_or lists u [] → ((j : ℕ) → j < length sets → IsNumber (f j))
+held_within : (n : ℕ) (sets : List OddSet) (taken : List Bool) (lists : List (List ℕ)) (list : List ℕ) (u : ℕ) (f : ℕ → ℤ) → IsHolders n sets taken lists → list ≡ get_or lists u []
+    → ((j : ℕ) → j < length sets → IsNumber (f j))
     → ((neg_ℤ NUMBER_LIMIT *ℤ pos (length sets)) ≤ℤ sum_over f list) × (sum_over f list ≤ℤ (NUMBER_LIMIT *ℤ pos (length sets)))
 held_within n sets taken lists list u f held is small =
     let same : sum_over f list ≡ int_sum_to (λ j. cond (is_held sets taken u j) (f j) (pos 0)) (length sets) = ap (λ (xs : List ℕ). sum_over f xs) is ∙ held.exact u f in
     let r = sum-within (λ j. cond (is_held sets taken u j) (f j) (pos 0)) (length sets) (λ j b. given_or_none (is_held sets taken u j) (f j) (small j b)) in
     (omega (arith, ints, same, r.0), omega (arith, ints, same, r.1))
 
-pub whole-within : (n : ℕ) (sets : List OddSet) (taken : List Bool) (lists : List (List ℕ)) (list : List ℕ) (u : ℕ) → IsHolders n sets taken lists → list ≡ get_or lists u [] → All (λ s. IsNumber s.dual) sets
-    → ((neg_ℤ NUMBER_LIMIT *ℤ pos (length sets)) ≤ℤ sum_over (dual_at sets) list) × (sum_over (dual_at sets) list ≤ℤ (NUMBER_LIMIT *ℤ pos (length sets)))
-whole-within n sets taken lists list u held is small = held_within n sets taken lists list u (dual_at sets) held is (λ j b. small j no_set b)
+pub whole-within : (n : ℕ) (sets : List OddSet) (taken : List Bool) (lists : List (List ℕ)) (list : List ℕ) (u : ℕ) → IsHolders n sets taken lists → list ≡ get_or lists u []
+    → All (λ s. IsNumber s.dual) sets
+    → ((neg_ℤ NUMBER_LIMIT *ℤ pos (length sets)) ≤ℤ sum_over (set_dual sets) list) × (sum_over (set_dual sets) list ≤ℤ (NUMBER_LIMIT *ℤ pos (length sets)))
+whole-within n sets taken lists list u held is small = held_within n sets taken lists list u (set_dual sets) held is (λ j b. small j no_set b)
 
-pub shared-within : (n : ℕ) (sets : List OddSet) (taken : List Bool) (lists : List (List ℕ)) (list : List ℕ) (u w : ℕ) → IsHolders n sets taken lists → list ≡ get_or lists u [] → All (λ s. IsNumber s.dual) sets
+pub shared-within : (n : ℕ) (sets : List OddSet) (taken : List Bool) (lists : List (List ℕ)) (list : List ℕ) (u w : ℕ) → IsHolders n sets taken lists → list ≡ get_or lists u []
+    → All (λ s. IsNumber s.dual) sets
     → ((neg_ℤ NUMBER_LIMIT *ℤ pos (length sets)) ≤ℤ sum_over (dual_with sets w) list) × (sum_over (dual_with sets w) list ≤ℤ (NUMBER_LIMIT *ℤ pos (length sets)))
-shared-within n sets taken lists list u w held is small = held_within n sets taken lists list u (dual_with sets w) held is (λ j b. given_or_none (holds (set_at sets j).members w) (dual_at sets j) (small j no_set b))
+shared-within n sets taken lists list u w held is small = held_within n sets taken lists list u (dual_with sets w) held is (λ j b. given_or_none (holds (set_at sets j).members w)
+    (set_dual sets j) (small j no_set b))
 
 -- both ends of an edge together
 
@@ -108,7 +115,8 @@ both_ends false false false d = refl
 pub crossed_ends : (sets : List OddSet) (taken : List Bool) (e : Edge) → crossed_at sets (taken_dual sets taken) (length sets) e ≡ (left_at sets taken e.u e.v +ℤ left_at sets taken e.v e.u)
 crossed_ends sets taken e =
     int_sum_to-same (λ j. cond (crosses (set_at sets j).members e) (taken_dual sets taken j) (pos 0))
-    (λ j. cond (is_held sets taken e.u j) (dual_at sets j -ℤ dual_with sets e.v j) (pos 0) +ℤ cond (is_held sets taken e.v j) (dual_at sets j -ℤ dual_with sets e.u j) (pos 0)) (length sets)
+    (λ j. cond (is_held sets taken e.u j) (set_dual sets j -ℤ dual_with sets e.v j) (pos 0) +ℤ cond (is_held sets taken e.v j) (set_dual sets j -ℤ dual_with sets e.u j) (pos 0))
+    (length sets)
     (λ j b. both_ends (holds (set_at sets j).members e.u) (holds (set_at sets j).members e.v) (is_marked taken j) (set_at sets j).dual)
     ∙ int_sum_to-add _ _ (length sets)
 
@@ -122,7 +130,8 @@ one_of_two true false z off = omega (arith, ints)
 one_of_two false true z off = omega (arith, ints)
 one_of_two false false z off = refl
 
-given_twice : (e : Edge) (f : ℕ → ℤ) (n : ℕ) → e.u ≢ e.v → given_to e f n ≡ (int_sum_to (λ i. cond (eqb e.u (i + 1)) (f (i + 1)) (pos 0)) n +ℤ int_sum_to (λ i. cond (eqb e.v (i + 1)) (f (i + 1)) (pos 0)) n)
+given_twice : (e : Edge) (f : ℕ → ℤ) (n : ℕ) → e.u ≢ e.v → given_to e f n ≡ (int_sum_to (λ i. cond (eqb e.u (i + 1)) (f (i + 1)) (pos 0)) n +ℤ int_sum_to
+    (λ i. cond (eqb e.v (i + 1)) (f (i + 1)) (pos 0)) n)
 given_twice e f n differ =
     int_sum_to-same (λ i. cond (touches e (i + 1)) (f (i + 1)) (pos 0)) (λ i. cond (eqb e.u (i + 1)) (f (i + 1)) (pos 0) +ℤ cond (eqb e.v (i + 1)) (f (i + 1)) (pos 0)) n
     (λ i b. one_of_two (eqb e.u (i + 1)) (eqb e.v (i + 1)) (f (i + 1)) (λ h. ne_eqb e.v (i + 1) (λ same. differ (eqb-true e.u (i + 1) h ∙ sym same))))
@@ -157,7 +166,8 @@ pub other_of_v : (e : Edge) → e.u ≢ e.v → other_end e e.v ≡ e.u
 other_of_v e differ = ap (λ t. cond t e.v e.u) (ne_eqb e.u e.v differ)
 
 -- all vertices together give an edge what it crosses of the taken sets
-pub all_given : (sets : List OddSet) (taken : List Bool) (e : Edge) (n : ℕ) → IsEdgeWithin n e → given_to e (λ w. left_at sets taken w (other_end e w)) n ≡ crossed_at sets (taken_dual sets taken) (length sets) e
+pub all_given : (sets : List OddSet) (taken : List Bool) (e : Edge) (n : ℕ) → IsEdgeWithin n e → given_to e (λ w. left_at sets taken w (other_end e w)) n
+    ≡ crossed_at sets (taken_dual sets taken) (length sets) e
 all_given sets taken e n within =
     given_whole e (λ w. left_at sets taken w (other_end e w)) n within
     ∙ ap₂ (λ a b. left_at sets taken e.u a +ℤ left_at sets taken e.v b) (other_end-u e) (other_of_v e within.differ)

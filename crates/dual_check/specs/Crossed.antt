@@ -1,5 +1,6 @@
 -- What is added up at each edge, by its number, in a pass over the sets.
-use Rattle.std.specs.Prelude.{◌≡◌, ℕ, ◌+◌, ◌^◌, ℤ, pos, neg_ℤ, ◌+ℤ◌, ◌≤ℤ◌, Bool, not, ◌&&◌, List, length, slice_index_or, if◌then◌else◌}
+use Rattle.std.specs.Prelude.{◌≡◌, ℕ, ◌+◌, ◌^◌, ℤ, pos, neg_ℤ, ◌+ℤ◌, ◌≤ℤ◌, Bool, not, ◌&&◌, List}
+use Rattle.std.specs.Prelude.{length, slice_index_or, if◌then◌else◌}
 use Rattle.graph_theory.specs.declared.edge.Edge.{Edge}
 use Rattle.graph_theory.specs.declared.odd_set.OddSet.{OddSet}
 use Rattle.graph_theory.specs.Graph.{Multigraph, IsEdgeNumber, edge_of, touches, other_end}
@@ -8,28 +9,32 @@ use Rattle.graph_theory.specs.Duals.{crossed_by}
 use Rattle.graph_parts.specs.Marks.{is_marked}
 
 -- the total at the edge of a number
-abbrev pub total_of : List ℤ → ℕ → ℤ
-total_of totals e = slice_index_or totals e (pos 0)
+abbrev pub total_at : List ℤ → ℕ → ℤ
+total_at totals e = slice_index_or totals e (pos 0)
 
 -- the edge leads from v to a vertex that is not marked
 abbrev pub leads_out : List Bool → ℕ → Edge → Bool
 leads_out marks v e = touches e v && not (is_marked marks (other_end e v))
 
 -- at each edge that leads from v out of the marks the dual is added
-pub record AddsFrom (g : Multigraph) (marks : List Bool) (v : ℕ) (dual : ℤ) (old new : List ℤ) : Type 0 where
+pub record AddsFrom (g : Multigraph) (marks : List Bool) (v : ℕ) (dual : ℤ)
+    (old new : List ℤ) : Type 0 where
   pub size : length new ≡ length old
-  pub exact : (e : ℕ) → IsEdgeNumber g e → total_of new e ≡ (total_of old e +ℤ (if leads_out marks v (edge_of g e) then dual else pos 0))
+  pub exact : (e : ℕ) → IsEdgeNumber g e → total_at new e
+      ≡ (total_at old e +ℤ (if leads_out marks v (edge_of g e) then dual else pos 0))
 
 -- at each edge that crosses the set its dual is added
 pub record AddsSet (g : Multigraph) (s : OddSet) (old new : List ℤ) : Type 0 where
   pub size : length new ≡ length old
-  pub exact : (e : ℕ) → IsEdgeNumber g e → total_of new e ≡ (total_of old e +ℤ (if crosses s.members (edge_of g e) then s.dual else pos 0))
+  pub exact : (e : ℕ) → IsEdgeNumber g e → total_at new e
+      ≡ (total_at old e +ℤ (if crosses s.members (edge_of g e) then s.dual else pos 0))
 
 -- at each edge the duals of the sets that it crosses
 pub record AreCrossed (g : Multigraph) (sets : List OddSet) (totals : List ℤ) : Type 0 where
   pub size : length totals ≡ length g.edges + 1
-  pub exact : (e : ℕ) → IsEdgeNumber g e → total_of totals e ≡ crossed_by sets (length sets) (edge_of g e)
+  pub exact : (e : ℕ) → IsEdgeNumber g e → total_at totals e
+      ≡ crossed_by sets (length sets) (edge_of g e)
 
 -- a number that lies between -10 ^ n and 10 ^ n
-abbrev pub IsWithin : ℕ → ℤ → Type 0
-IsWithin n a = (neg_ℤ (pos (10 ^ n)) ≤ℤ a) × (a ≤ℤ pos (10 ^ n))
+abbrev pub IsWithinPower : ℕ → ℤ → Type 0
+IsWithinPower n a = (neg_ℤ (pos (10 ^ n)) ≤ℤ a) × (a ≤ℤ pos (10 ^ n))

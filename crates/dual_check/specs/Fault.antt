@@ -14,13 +14,14 @@ pub record IsFirstSetFault (sets : List OddSet) (number : ℕ) : Type 0 where
   pub before : (j : ℕ) → 1 ≤ j → j < number → HasForm (set_at sets (j - 1)).members
 
 -- all sets have form, the slack of edge e is below 0, and that of no edge before it is
-pub record IsFirstSlackFault (g : Multigraph) (y : List ℤ) (sets : List OddSet) (e : ℕ) : Type 0 where
+pub record IsFirstSlackFault (g : Multigraph) (y : List ℤ) (sets : List OddSet)
+    (e : ℕ) : Type 0 where
   pub forms : All (λ s. HasForm s.members) sets
   pub number : IsEdgeNumber g e
   pub below : slack y sets (edge_of g e) <ℤ pos 0
   pub before : (f : ℕ) → 1 ≤ f → f < e → pos 0 ≤ℤ slack y sets (edge_of g f)
 
-abbrev pub IsFirstFault : Multigraph → List ℤ → List OddSet → DualFault → Type 0
-IsFirstFault g y sets (SetForm number) = IsFirstSetFault sets number
-IsFirstFault g y sets (Slack e) = IsFirstSlackFault g y sets e
-IsFirstFault g y sets OutOfMemory = Unit {0}
+abbrev pub IsFirstDualFault : Multigraph → List ℤ → List OddSet → DualFault → Type 0
+IsFirstDualFault g y sets (SetForm number) = IsFirstSetFault sets number
+IsFirstDualFault g y sets (Slack e) = IsFirstSlackFault g y sets e
+IsFirstDualFault g y sets OutOfMemory = Unit {0}

@@ -15,7 +15,8 @@ pub fn is_barrier(alloc: Global, graph: &Graph, set: &[VertexId]) -> Result<bool
     ensures exact { IfOk result (λ b. IsTrue b ↔ IsBarrier graph.now set.now) }
 
     // A graph with a barrier has no perfect matching.
-    ensures none { IfOk result (λ b. IsTrue b → (counts : List ℕ) → IsPerfect graph.now counts → ⊥) }
+    ensures none { IfOk result (λ b. IsTrue b → (counts : List ℕ) → IsPerfect graph.now counts
+        → ⊥) }
 {
     let odd = odd_components(alloc, graph, set)?;
     Ok((set.len() as u64) < odd)

@@ -4,14 +4,13 @@ ghost use Rattle.graph_theory.specs.Graph.{IsEdgeNumber, edge_of, edges_around};
 ghost use Rattle.graph_theory.specs.Duals.{HasForm, IsNumber, IsSetWithin};
 ghost use Rattle.weighted_graph.specs.Index.{IsIndex};
 ghost use Rattle.graph_parts.specs.Marks.{is_marked};
-ghost use Rattle.dual_check.specs.Crossed.{total_of, AddsFrom, AddsSet, AreCrossed, IsWithin};
+ghost use Rattle.dual_check.specs.Crossed.{total_at, AddsFrom, AddsSet, AreCrossed, IsWithinPower};
 ghost use Rattle.dual_check.specs.Shared.{crossed_at, other_dual};
 
-use crate::holders::Holders;
-use crate::marks::unmark;
+use crate::holders::holders_of;
 use crate::narrow::narrow_sets;
 use crate::shares::add_taken;
-use graph_parts::mark_all;
+use graph_parts::{mark_all, unmark_all};
 use graph_theory::OddSet;
 use mb_base::{EdgeId, OutOfMemory, VertexId};
 use std::alloc::Global;
@@ -29,7 +28,7 @@ fn add_from(
     requires numbers { numbers.now ≡ edges_around graph.now vertex }
     requires marks { length marks.now ≡ graph.now.vertices + 1 }
     requires size { length totals.old ≡ length graph.now.edges + 1 }
-    requires small { (e : ℕ) → IsEdgeNumber graph.now e → IsWithin 36 (total_of totals.old e) }
+    requires small { (e : ℕ) → IsEdgeNumber graph.now e → IsWithinPower 36 (total_at totals.old e) }
     requires dual { IsNumber dual }
     ensures { AddsFrom graph.now marks.now vertex dual totals.old totals.new }
 {
@@ -55,7 +54,7 @@ fn add_set(
     requires marks { length marks.old ≡ graph.now.vertices + 1 }
     requires none { (v : ℕ) → is_marked marks.old v ≡ false }
     requires size { length totals.old ≡ length graph.now.edges + 1 }
-    requires small { (e : ℕ) → IsEdgeNumber graph.now e → IsWithin 35 (total_of totals.old e) }
+    requires small { (e : ℕ) → IsEdgeNumber graph.now e → IsWithinPower 35 (total_at totals.old e) }
     ensures none { (v : ℕ) → is_marked marks.new v ≡ false }
     ensures adds { AddsSet graph.now set.now totals.old totals.new }
 {
@@ -71,7 +70,7 @@ fn add_set(
             totals,
         );
     }
-    unmark(marks, members);
+    unmark_all(marks, members);
 }
 
 /// Adds at each edge the duals of the sets that it crosses and that aren't taken, set by set.
@@ -88,7 +87,9 @@ fn add_others(
     requires forms { All (λ s. HasForm s.members) sets.now }
     requires one_each { length taken.now ≡ length sets.now }
     ensures size { IfOk result (λ totals. length totals.items ≡ length graph.now.edges + 1) }
-    ensures totals { IfOk result (λ totals. (e : ℕ) → IsEdgeNumber graph.now e → total_of totals.items e ≡ crossed_at sets.now (other_dual sets.now taken.now) (length sets.now) (edge_of graph.now e)) }
+    ensures totals { IfOk result (λ totals. (e : ℕ) → IsEdgeNumber graph.now e
+        → total_at totals.items e ≡ crossed_at sets.now (other_dual sets.now taken.now)
+        (length sets.now) (edge_of graph.now e)) }
 {
     let mut marks = vec![in alloc; false; graph.vertices() as usize + 1]?;
     let mut totals = vec![in alloc; 0i128; graph.edges() as usize + 1]?;
@@ -100,8 +101,8 @@ fn add_others(
     Ok(totals)
 }
 
-/// At each edge, by its number, the duals of the sets that it crosses. A set takes the lesser of the
-/// number of edges at its members and the square of the number of its members.
+/// At each edge, by its number, the duals of the sets that it crosses. A set takes the lesser of
+/// the number of edges at its members and the square of the number of its members.
 pub(crate) fn crossed_all(
     alloc: Global,
     graph: &Graph,
@@ -115,7 +116,7 @@ pub(crate) fn crossed_all(
     let incidence = graph.index()?;
     let narrow = narrow_sets(alloc, graph, &incidence, sets)?;
     let mut totals = add_others(alloc, graph, &incidence, sets, &narrow)?;
-    let holders = Holders::of(alloc, graph.vertices(), sets, &narrow)?;
+    let holders = holders_of(alloc, graph.vertices(), sets, &narrow)?;
     add_taken(
         alloc,
         graph,

@@ -1,8 +1,9 @@
-ghost use Rattle.std.specs.Prelude.{◌≡◌, ℕ, List, length, ℤ, pos, neg_ℤ, ◌*ℤ◌, ◌≤ℤ◌, All, IfOk, IfErr, OnOk, slice_index_or};
+ghost use Rattle.std.specs.Prelude.{◌≡◌, ℕ, List, length, ℤ, pos, neg_ℤ, ◌*ℤ◌, ◌≤ℤ◌, All, IfOk};
+ghost use Rattle.std.specs.Prelude.{IfErr, OnOk, slice_index_or};
 ghost use Rattle.graph_theory.specs.Sums.{int_sum_to};
 ghost use Rattle.graph_theory.specs.Graph.{IsPerfect, weight};
 ghost use Rattle.graph_theory.specs.Duals.{AreDuals, IsNumber, IsSetWithin, dual_value};
-ghost use Rattle.dual_check.specs.Fault.{IsFirstFault};
+ghost use Rattle.dual_check.specs.Fault.{IsFirstDualFault};
 
 use crate::crossings::crossed_all;
 use crate::fault::DualFault;
@@ -26,10 +27,11 @@ fn vertex_total(y: &[i64]) -> i128
     total
 }
 
-/// The value of duals: one for each vertex, in `y`, and one for each odd set of vertices. Duals that
-/// are not feasible have none: the answer is their first fault, of the sets first, then of the slacks.
-/// Duals, slacks and the value are in doubled units: an edge counts twice its weight. It takes time
-/// linear in vertices, edges and, for each set, the lesser of the degrees of its members and the square of their number.
+/// The value of duals: one for each vertex, in `y`, and one for each odd set of vertices. Duals
+/// that are not feasible have none: the answer is their first fault, of the sets first, then of the
+/// slacks. Duals, slacks and the value are in doubled units: an edge counts twice its weight. It
+/// takes time linear in vertices, edges and, for each set, the lesser of the degrees of its members
+/// and the square of their number.
 pub fn bound(alloc: Global, graph: &Graph, y: &[i64], sets: &[OddSet]) -> Result<i128, DualFault>
     requires one_each { length y.now ≡ graph.now.vertices }
     requires y_numbers { All IsNumber y.now }
@@ -38,11 +40,12 @@ pub fn bound(alloc: Global, graph: &Graph, y: &[i64], sets: &[OddSet]) -> Result
 
     ensures value { IfOk result (λ value. value ≡ dual_value y.now sets.now) }
     ensures duals { OnOk result (AreDuals graph.now y.now sets.now) }
-    ensures fault { IfErr result (IsFirstFault graph.now y.now sets.now) }
+    ensures fault { IfErr result (IsFirstDualFault graph.now y.now sets.now) }
 
     // Twice the weight of a perfect matching is at least the value.
     ensures below { IfOk result
-        (λ value. (counts : List ℕ) → IsPerfect graph.now counts → value ≤ℤ (pos 2 *ℤ weight graph.now counts)) }
+        (λ value. (counts : List ℕ) → IsPerfect graph.now counts
+        → value ≤ℤ (pos 2 *ℤ weight graph.now counts)) }
 {
     if let Some(number) = first_set_fault(sets) {
         return Err(DualFault::SetForm(number));

@@ -4,8 +4,8 @@ use thiserror::Error;
 /// Why duals prove no bound.
 #[derive(Clone, Copy, PartialEq, Eq, Debug, Error)]
 pub enum DualFault {
-    /// The set of this number, counted from 1, has fewer than three members, an even number of them, or
-    /// members that do not ascend.
+    /// The set of this number, counted from 1, has fewer than three members, an even number of
+    /// them, or members that do not ascend.
     #[error("set {0} is no odd set of at least three ascending vertices")]
     SetForm(u64),
     /// The slack of this edge is below 0.

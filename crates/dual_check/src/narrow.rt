@@ -18,9 +18,10 @@ fn edges_at(incidence: &Incidence, members: &[VertexId]) -> usize
     edges
 }
 
-/// For each set whether it is narrow: whether its pairs of members take less time than the edges at them, an
-/// edge as much as four pairs. None is where all these edges take less time than a table of a number for each two vertices,
-/// in which pairs are added up. It says which of two ways is faster, and either answer is right.
+/// For each set whether it is narrow: whether its pairs of members take less time than the edges at
+/// them, an edge as much as four pairs. None is where all these edges take less time than a table
+/// of a number for each two vertices, in which pairs are added up. It says which of two ways is
+/// faster, and either answer is right.
 pub(crate) fn narrow_sets(
     alloc: Global,
     graph: &Graph,

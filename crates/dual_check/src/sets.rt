@@ -1,4 +1,5 @@
-ghost use Rattle.std.specs.Prelude.{◌≡◌, ◌*ℤ◌, ◌↔◌, length, pos, neg_ℤ, ◌≤ℤ◌, All, IsTrue, MatchOption};
+ghost use Rattle.std.specs.Prelude.{◌≡◌, ◌*ℤ◌, ◌↔◌, length, pos, neg_ℤ, ◌≤ℤ◌, All, IsTrue};
+ghost use Rattle.std.specs.Prelude.{MatchOption};
 ghost use Rattle.std.specs.List.Sorted.{IsStrictlyIncreasing};
 ghost use Rattle.graph_theory.specs.Sums.{int_sum_to};
 ghost use Rattle.graph_theory.specs.Duals.{HasForm, IsNumber, set_at};
@@ -26,7 +27,8 @@ fn has_form(members: &[VertexId]) -> bool
 
 /// The number of the first set that lacks form.
 pub(crate) fn first_set_fault(sets: &[OddSet]) -> Option<u64>
-    ensures { MatchOption result (All (λ s. HasForm s.members) sets.now) (IsFirstSetFault sets.now) }
+    ensures { MatchOption result (All (λ s. HasForm s.members) sets.now)
+        (IsFirstSetFault sets.now) }
 {
     for (k, set) in sets.iter().enumerate() {
         if !has_form(set.members.as_slice()) {

@@ -1,17 +1,18 @@
-ghost use Rattle.std.specs.Prelude.{◌≡◌, ℕ, ◌+◌, ◌<◌, ◌≤◌, ◌+ℤ◌, pos, length, All, IfOk, OnOk, if◌then◌else◌};
+ghost use Rattle.std.specs.Prelude.{◌≡◌, ℕ, ◌+◌, ◌<◌, ◌≤◌, ◌+ℤ◌, pos, length, All, IfOk, OnOk};
+ghost use Rattle.std.specs.Prelude.{if◌then◌else◌};
 ghost use Rattle.std.specs.List.Sorted.{IsStrictlyIncreasing};
 ghost use Rattle.graph_theory.specs.Graph.{IsEdgeNumber, edges_around};
 ghost use Rattle.graph_theory.specs.Parts.{holds};
 ghost use Rattle.graph_theory.specs.Duals.{HasForm, IsNumber, IsSetWithin};
 ghost use Rattle.weighted_graph.specs.Index.{IsIndex};
-ghost use Rattle.dual_check.specs.Crossed.{total_of, IsWithin};
-ghost use Rattle.dual_check.specs.Shared.{IsHolders, AreShares, AddsUnshared, AddsCrossed, taken_dual};
+ghost use Rattle.dual_check.specs.Crossed.{total_at, IsWithinPower};
+ghost use Rattle.dual_check.specs.Shared.{IsHolders, AreShares, AddsUnshared, AddsCrossed};
+ghost use Rattle.dual_check.specs.Shared.{taken_dual};
 
-use crate::holders::Holders;
 use graph_theory::OddSet;
 use mb_base::{EdgeId, OutOfMemory, VertexId};
 use std::alloc::Global;
-use weighted_graph::{Graph, Incidence};
+use weighted_graph::{ByVertex, Graph, Incidence};
 
 /// Duals of some sets, added up: of all, and at each vertex, by its number, of those that hold it.
 #[derive(Drop, Debug)]
@@ -24,9 +25,10 @@ struct Shares {
 fn share(totals: &mut [i128], members: &[VertexId], dual: i64)
     requires in_range { All (λ m. m < length totals.old) members.now }
     requires ascending { IsStrictlyIncreasing members.now }
-    requires small { (v : ℕ) → IsWithin 35 (total_of totals.old v) }
+    requires small { (v : ℕ) → IsWithinPower 35 (total_at totals.old v) }
     requires dual { IsNumber dual }
-    ensures { (v : ℕ) → total_of totals.new v ≡ (total_of totals.old v +ℤ (if holds members.now v then dual else pos 0)) }
+    ensures { (v : ℕ) → total_at totals.new v
+        ≡ (total_at totals.old v +ℤ (if holds members.now v then dual else pos 0)) }
 {
     for vertex in members {
         totals[vertex.number() as usize] += i128::from(dual);
@@ -66,10 +68,10 @@ fn add_unshared(
 )
     requires numbers { numbers.now ≡ edges_around graph.now vertex }
     requires places { length shares.now.with_vertex.items ≡ graph.now.vertices + 1 }
-    requires whole { IsWithin 35 shares.now.whole }
-    requires with_vertex { (v : ℕ) → IsWithin 35 (total_of shares.now.with_vertex.items v) }
+    requires whole { IsWithinPower 35 shares.now.whole }
+    requires with_vertex { (v : ℕ) → IsWithinPower 35 (total_at shares.now.with_vertex.items v) }
     requires size { length totals.old ≡ length graph.now.edges + 1 }
-    requires small { (e : ℕ) → IsEdgeNumber graph.now e → IsWithin 36 (total_of totals.old e) }
+    requires small { (e : ℕ) → IsEdgeNumber graph.now e → IsWithinPower 36 (total_at totals.old e) }
     ensures { AddsUnshared graph.now shares.now vertex totals.old totals.new }
 {
     for number in numbers {
@@ -79,15 +81,15 @@ fn add_unshared(
     }
 }
 
-/// Adds at each edge the duals of the sets that it crosses and that are taken, vertex by vertex. The flags stand
-/// for the contract alone: the holders are theirs.
+/// Adds at each edge the duals of the sets that it crosses and that are taken, vertex by vertex.
+/// The flags stand for the contract alone: the holders are theirs.
 pub(crate) fn add_taken(
     alloc: Global,
     graph: &Graph,
     incidence: &Incidence,
     sets: &[OddSet],
     taken: &[bool],
-    holders: &Holders,
+    holders: &ByVertex<usize>,
     totals: &mut [i128],
 ) -> Result<(), OutOfMemory>
     requires index { IsIndex graph.now incidence.now }
@@ -96,10 +98,10 @@ pub(crate) fn add_taken(
     requires forms { All (λ s. HasForm s.members) sets.now }
     requires holders { IsHolders graph.now.vertices sets.now taken.now holders.now }
     requires size { length totals.old ≡ length graph.now.edges + 1 }
-    requires small { (e : ℕ) → IsEdgeNumber graph.now e → IsWithin 35 (total_of totals.old e) }
-    ensures { OnOk result (AddsCrossed graph.now sets.now (taken_dual sets.now taken.now) totals.old totals.new) }
+    requires small { (e : ℕ) → IsEdgeNumber graph.now e → IsWithinPower 35 (total_at totals.old e) }
+    ensures { OnOk result (AddsCrossed graph.now sets.now
+        (taken_dual sets.now taken.now) totals.old totals.new) }
 {
-    let _ = taken;
     for k in 0..graph.vertices() {
         let vertex = VertexId::new(k + 1);
         let list = holders.at(vertex);

@@ -1,7 +1,7 @@
 ghost use Rattle.std.specs.Prelude.{◌≡◌, ◌+◌, ◌≤◌, length, pos, ◌*ℤ◌, ◌-ℤ◌, ◌≤ℤ◌, All, MatchOption};
 ghost use Rattle.graph_theory.specs.Graph.{IsGraph, IsEdgeWithin, IsWeight};
 ghost use Rattle.graph_theory.specs.Duals.{HasForm, IsNumber, dual_of, slack};
-ghost use Rattle.dual_check.specs.Crossed.{AreCrossed, IsWithin};
+ghost use Rattle.dual_check.specs.Crossed.{AreCrossed, IsWithinPower};
 ghost use Rattle.dual_check.specs.Fault.{IsFirstSlackFault};
 
 use graph_theory::{Edge, OddSet};
@@ -9,7 +9,7 @@ use mb_base::{EdgeId, VertexId};
 use weighted_graph::Graph;
 
 /// The dual of a vertex.
-fn dual_at(y: &[i64], vertex: VertexId) -> i64
+fn set_dual(y: &[i64], vertex: VertexId) -> i64
     requires low { 1 ≤ vertex }
     requires high { vertex ≤ length y.now }
     ensures { result ≡ dual_of y.now vertex }
@@ -17,20 +17,22 @@ fn dual_at(y: &[i64], vertex: VertexId) -> i64
     y[vertex.number() as usize - 1]
 }
 
-/// Twice the weight of an edge, without the duals of its ends and what is given for the sets that it crosses.
+/// Twice the weight of an edge, without the duals of its ends and what is given for the sets that
+/// it crosses.
 fn slack_of(y: &[i64], edge: &Edge, crossed: i128) -> i128
     requires ends { IsEdgeWithin (length y.now) edge.now }
     requires y_numbers { All IsNumber y.now }
-    requires small { IsWithin 36 crossed }
-    ensures { result ≡ pos 2 *ℤ edge.now.w -ℤ dual_of y.now edge.now.u -ℤ dual_of y.now edge.now.v -ℤ crossed }
+    requires small { IsWithinPower 36 crossed }
+    ensures { result
+        ≡ pos 2 *ℤ edge.now.w -ℤ dual_of y.now edge.now.u -ℤ dual_of y.now edge.now.v -ℤ crossed }
 {
     let doubled = 2 * i128::from(edge.w);
-    let at_ends = i128::from(dual_at(y, edge.u)) + i128::from(dual_at(y, edge.v));
+    let at_ends = i128::from(set_dual(y, edge.u)) + i128::from(set_dual(y, edge.v));
     doubled - at_ends - crossed
 }
 
-/// The first edge with a slack below 0, from the totals at each edge. The sets stand for the contract
-/// alone: the totals are theirs.
+/// The first edge with a slack below 0, from the totals at each edge. The sets stand for the
+/// contract alone: the totals are theirs.
 pub(crate) fn first_slack_fault(
     graph: &Graph,
     y: &[i64],
@@ -47,7 +49,6 @@ pub(crate) fn first_slack_fault(
         (All (λ e. pos 0 ≤ℤ slack y.now sets.now e) graph.now.edges)
         (IsFirstSlackFault graph.now y.now sets.now) }
 {
-    let _ = sets;
     for (k, edge) in graph.edge_list().iter().enumerate() {
         if slack_of(y, edge, totals[k + 1]) < 0 {
             return Some(EdgeId::new(k as u32 + 1));

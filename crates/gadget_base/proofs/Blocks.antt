@@ -1,5 +1,6 @@
 -- Lemmas on lists made of blocks: how long they are, what stands at a place, what all their elements are, and one block more.
-use Rattle.std.proofs.Common.{◌≡◌, ℕ, zero, suc, ◌+◌, ◌*◌, ◌<◌, ◌≤◌, ℤ, refl, ap, sym, ◌∙◌, inl, inr, arith, add-one, List, [], ◌∷◌, ◌++◌, length, slice_index, slice_index_or, take, All, length-append}
+use Rattle.std.proofs.Common.{◌≡◌, ℕ, zero, suc, ◌+◌, ◌*◌, ◌<◌, ◌≤◌, ℤ, refl, ap, sym, ◌∙◌, inl, inr, arith, add-one, List, [], ◌∷◌, ◌++◌, length, slice_index, slice_index_or, take, All}
+use Rattle.std.proofs.Common.{length-append}
 use Rattle.std.proofs.lemmas.Bool.{cases_eq}
 use Rattle.std.proofs.lemmas.List.{get_or_append_left, get_or-append-add, append_assoc, append-nil, ext_get_or, take_all, take-append-le}
 use Rattle.std.proofs.Math.Seq.{take-append-add}

@@ -1,5 +1,6 @@
 -- The degree at a vertex of counts on a row, a rectangle or a clique, as sums over the counts.
-use Rattle.std.proofs.Common.{◌≡◌, ◌≢◌, ℕ, zero, suc, ◌+◌, ◌-◌, ◌*◌, ◌<◌, ◌≤◌, ℤ, pos, ◌*ℤ◌, Bool, true, false, cond, eqb, ltb, refl, ap, sym, ◌∙◌, inl, inr, arith, List, length, slice_index, slice_index_or, All}
+use Rattle.std.proofs.Common.{◌≡◌, ◌≢◌, ℕ, zero, suc, ◌+◌, ◌-◌, ◌*◌, ◌<◌, ◌≤◌, ℤ, pos, ◌*ℤ◌, Bool, true, false, cond, eqb, ltb, refl, ap, sym, ◌∙◌, inl, inr, arith, List, length}
+use Rattle.std.proofs.Common.{slice_index, slice_index_or, All}
 use Rattle.std.proofs.lemmas.Int.{ints}
 use Rattle.std.proofs.lemmas.Bool.{cases_lt, ne_eqb, lt-ltb, le-ltb}
 use Rattle.std.proofs.lemmas.Bool.Decides.{nat_tests}
@@ -28,7 +29,8 @@ once-second true c = omega arith
 once-second false c = omega arith
 
 -- at a vertex after `first` that is none of those after `second`, the sum of its row
-pub rectangle-first : (N : ℕ → ℕ → ℕ) (first m second n : ℕ) (w : ℤ) (c : ℕ) → c < m → ((j : ℕ) → j < n → second + j + 1 ≢ first + c + 1) → over (at_vertex (first + c + 1)) (rectangle first m second n w) (table N m n) ≡ sum_to (N c) n
+pub rectangle-first : (N : ℕ → ℕ → ℕ) (first m second n : ℕ) (w : ℤ) (c : ℕ) → c < m → ((j : ℕ) → j < n → second + j + 1 ≢ first + c + 1) → over (at_vertex (first + c + 1))
+    (rectangle first m second n w) (table N m n) ≡ sum_to (N c) n
 rectangle-first N first m second n w c h apart =
     let v = first + c + 1 in
     over-rectangle (at_vertex v) N first m second n w
@@ -43,7 +45,8 @@ rectangle-first N first m second n w c h apart =
     ∙ sum_to-hit (λ a. sum_to (N a) n) c m h
 
 -- at a vertex after `second` that is none of those after `first`, the sum of its column
-pub rectangle-second : (N : ℕ → ℕ → ℕ) (first m second n : ℕ) (w : ℤ) (c : ℕ) → c < n → ((a : ℕ) → a < m → first + a + 1 ≢ second + c + 1) → over (at_vertex (second + c + 1)) (rectangle first m second n w) (table N m n) ≡ sum_to (λ a. N a c) m
+pub rectangle-second : (N : ℕ → ℕ → ℕ) (first m second n : ℕ) (w : ℤ) (c : ℕ) → c < n → ((a : ℕ) → a < m → first + a + 1 ≢ second + c + 1) → over (at_vertex (second + c + 1))
+    (rectangle first m second n w) (table N m n) ≡ sum_to (λ a. N a c) m
 rectangle-second N first m second n w c h apart =
     let v = second + c + 1 in
     over-rectangle (at_vertex v) N first m second n w
@@ -57,7 +60,8 @@ rectangle-second N first m second n w c h apart =
     ∙ sum_to-hit (N a) c n h)
 
 -- at any other vertex
-pub rectangle-none : (N : ℕ → ℕ → ℕ) (first m second n : ℕ) (w : ℤ) (v : ℕ) → ((a : ℕ) → a < m → first + a + 1 ≢ v) → ((j : ℕ) → j < n → second + j + 1 ≢ v) → over (at_vertex v) (rectangle first m second n w) (table N m n) ≡ 0
+pub rectangle-none : (N : ℕ → ℕ → ℕ) (first m second n : ℕ) (w : ℤ) (v : ℕ) → ((a : ℕ) → a < m → first + a + 1 ≢ v) → ((j : ℕ) → j < n → second + j + 1 ≢ v)
+    → over (at_vertex v) (rectangle first m second n w) (table N m n) ≡ 0
 rectangle-none N first m second n w v apart apart' =
     over-rectangle (at_vertex v) N first m second n w
     ∙ sum_to-none (λ a. sum_to (λ j. N a j * (cond (eqb (first + a + 1) v) 1 0 + cond (eqb (second + j + 1) v) 1 0)) n) m
@@ -96,14 +100,23 @@ clique_table M n = blocks (λ a. tabled (λ d. M a (a + d + 1)) (n - 1 - a)) n
 pub clique-table : (M : ℕ → ℕ → ℕ) (before n a : ℕ) → length (row (before + a + 1) (before + a + 1) (n - 1 - a) (pos 0)) ≡ length (tabled (λ d. M a (a + d + 1)) (n - 1 - a))
 clique-table M before n a = row-length (before + a + 1) (before + a + 1) (n - 1 - a) (pos 0) ∙ sym (tabled-length (λ d. M a (a + d + 1)) (n - 1 - a))
 
-pub over-clique : (F : Edge → ℕ → ℕ) (M : ℕ → ℕ → ℕ) (before n : ℕ) → over F (clique before n) (clique_table M n) ≡ sum_to (λ a. sum_to (λ d. F (record { u = before + a + 1; v = before + a + 1 + d + 1; w = pos 0 }) (M a (a + d + 1))) (n - 1 - a)) n
+pub over-clique : (F : Edge → ℕ → ℕ) (M : ℕ → ℕ → ℕ) (before n : ℕ) → over F (clique before n) (clique_table M n) ≡ sum_to (λ a. sum_to (λ d. F (record {
+  u = before + a + 1;
+  v = before + a + 1 + d + 1;
+  w = pos 0;
+}) (M a (a + d + 1))) (n - 1 - a)) n
 over-clique F M before n =
     over-blocks F (λ a. row (before + a + 1) (before + a + 1) (n - 1 - a) (pos 0)) (λ a. tabled (λ d. M a (a + d + 1)) (n - 1 - a)) n (λ a _. clique-table M before n a)
-    ∙ sum_to-same (λ a. over F (row (before + a + 1) (before + a + 1) (n - 1 - a) (pos 0)) (tabled (λ d. M a (a + d + 1)) (n - 1 - a))) (λ a. sum_to (λ d. F (record { u = before + a + 1; v = before + a + 1 + d + 1; w = pos 0 }) (M a (a + d + 1))) (n - 1 - a)) n
+    ∙ sum_to-same (λ a. over F (row (before + a + 1) (before + a + 1) (n - 1 - a) (pos 0)) (tabled (λ d. M a (a + d + 1)) (n - 1 - a))) (λ a. sum_to (λ d. F (record {
+      u = before + a + 1;
+      v = before + a + 1 + d + 1;
+      w = pos 0;
+    }) (M a (a + d + 1))) (n - 1 - a)) n
     (λ a _. over-tabled F (λ d. record { u = before + a + 1; v = before + a + 1 + d + 1; w = pos 0 }) (λ d. M a (a + d + 1)) (n - 1 - a))
 
 -- the terms at the vertex of place c in the row of the vertex of place a
-clique_row : (M : ℕ → ℕ → ℕ) (before n c a : ℕ) → c < n → sum_to (λ d. M a (a + d + 1) * (cond (eqb (before + a + 1) (before + c + 1)) 1 0 + cond (eqb (before + a + 1 + d + 1) (before + c + 1)) 1 0)) (n - 1 - a) ≡ cond (eqb a c) (sum_to (λ d. M a (a + d + 1)) (n - 1 - a)) 0 + cond (ltb a c) (M a c) 0
+clique_row : (M : ℕ → ℕ → ℕ) (before n c a : ℕ) → c < n → sum_to (λ d. M a (a + d + 1) * (cond (eqb (before + a + 1) (before + c + 1)) 1 0 + cond (eqb (before + a + 1 + d + 1)
+    (before + c + 1)) 1 0)) (n - 1 - a) ≡ cond (eqb a c) (sum_to (λ d. M a (a + d + 1)) (n - 1 - a)) 0 + cond (ltb a c) (M a c) 0
 clique_row M before n c a h =
     let on = eqb-past before a c in
     let size = n - 1 - a in
@@ -112,7 +125,8 @@ clique_row M before n c a h =
           let below : ltb a c ≡ true = lt-ltb a c less in
           let off : eqb a c ≡ false = ne_eqb a c (λ e. omega arith) in
           let here : a + (c - 1 - a) + 1 ≡ c = omega arith in
-          let one = sum_to-same (λ d. M a (a + d + 1) * (cond (eqb (before + a + 1) (before + c + 1)) 1 0 + cond (eqb (before + a + 1 + d + 1) (before + c + 1)) 1 0)) (λ d. cond (eqb d (c - 1 - a)) (M a (a + d + 1)) 0) size
+          let one = sum_to-same (λ d. M a (a + d + 1) * (cond (eqb (before + a + 1) (before + c + 1)) 1 0 + cond (eqb (before + a + 1 + d + 1) (before + c + 1)) 1 0))
+          (λ d. cond (eqb d (c - 1 - a)) (M a (a + d + 1)) 0) size
           (λ d _.
           let same : eqb (before + a + 1 + d + 1) (before + c + 1) ≡ eqb d (c - 1 - a) = past_test before a c d less in
           rw (on, off, same) (once-second (eqb d (c - 1 - a)) (M a (a + d + 1)))) in
@@ -121,7 +135,8 @@ clique_row M before n c a h =
           rw (off, below) (omega (arith, one, hit, at))
       | inr more ↦
           let below : ltb a c ≡ false = le-ltb a c more in
-          let one = sum_to-same (λ d. M a (a + d + 1) * (cond (eqb (before + a + 1) (before + c + 1)) 1 0 + cond (eqb (before + a + 1 + d + 1) (before + c + 1)) 1 0)) (λ d. cond (eqb a c) (M a (a + d + 1)) 0) size
+          let one = sum_to-same (λ d. M a (a + d + 1) * (cond (eqb (before + a + 1) (before + c + 1)) 1 0 + cond (eqb (before + a + 1 + d + 1) (before + c + 1)) 1 0))
+          (λ d. cond (eqb a c) (M a (a + d + 1)) 0) size
           (λ d _.
           let off : eqb (before + a + 1 + d + 1) (before + c + 1) ≡ false = ne_eqb _ _ (λ e. omega arith) in
           rw (on, off) (once (eqb a c) (M a (a + d + 1)))) in
@@ -130,11 +145,13 @@ clique_row M before n c a h =
     ]
 
 -- at the vertex of place c
-pub clique-at : (M : ℕ → ℕ → ℕ) (before n c : ℕ) → c < n → over (at_vertex (before + c + 1)) (clique before n) (clique_table M n) ≡ sum_to (λ a. M a c) c + sum_to (λ d. M c (c + d + 1)) (n - 1 - c)
+pub clique-at : (M : ℕ → ℕ → ℕ) (before n c : ℕ) → c < n → over (at_vertex (before + c + 1)) (clique before n) (clique_table M n) ≡ sum_to (λ a. M a c) c + sum_to (λ d. M c (c + d + 1))
+    (n - 1 - c)
 clique-at M before n c h =
     let rows : ℕ → ℕ = λ a. sum_to (λ d. M a (a + d + 1)) (n - 1 - a) in
     let each = over-clique (at_vertex (before + c + 1)) M before n
-    ∙ sum_to-same (λ a. sum_to (λ d. M a (a + d + 1) * (cond (eqb (before + a + 1) (before + c + 1)) 1 0 + cond (eqb (before + a + 1 + d + 1) (before + c + 1)) 1 0)) (n - 1 - a)) (λ a. cond (eqb a c) (rows a) 0 + cond (ltb a c) (M a c) 0) n (λ a _. clique_row M before n c a h) in
+    ∙ sum_to-same (λ a. sum_to (λ d. M a (a + d + 1) * (cond (eqb (before + a + 1) (before + c + 1)) 1 0 + cond (eqb (before + a + 1 + d + 1) (before + c + 1)) 1 0)) (n - 1 - a))
+    (λ a. cond (eqb a c) (rows a) 0 + cond (ltb a c) (M a c) 0) n (λ a _. clique_row M before n c a h) in
     let both = sum_to-add (λ a. cond (eqb a c) (rows a) 0) (λ a. cond (ltb a c) (M a c) 0) n in
     let hit = sum_to-hit rows c n h in
     let below = sum_to-below (λ a. M a c) c n (omega arith) in

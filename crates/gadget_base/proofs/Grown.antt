@@ -16,16 +16,19 @@ pub grown-none : (g : Multigraph) → g ≡ record g { edges = g.edges ++ [] }
 grown-none g = ap (λ (es : List Edge). record g { edges = es }) (sym (append-nil g.edges))
 
 -- first one list and then another
-pub grown-twice : (old mid new : Multigraph) (es fs : List Edge) → mid ≡ record old { edges = old.edges ++ es } → new ≡ record mid { edges = mid.edges ++ fs } → new ≡ record old { edges = old.edges ++ (es ++ fs) }
+pub grown-twice : (old mid new : Multigraph) (es fs : List Edge) → mid ≡ record old { edges = old.edges ++ es } → new ≡ record mid { edges = mid.edges ++ fs } → new
+    ≡ record old { edges = old.edges ++ (es ++ fs) }
 grown-twice old mid new es fs one two =
     two ∙ ap (λ (g : Multigraph). record g { edges = g.edges ++ fs }) one ∙ ap (λ (xs : List Edge). record old { edges = xs }) (append_assoc old.edges es fs)
 
 -- one block more
-pub grown-block : (old mid new : Multigraph) (f : ℕ → List Edge) (k : ℕ) → mid ≡ record old { edges = old.edges ++ blocks f k } → new ≡ record mid { edges = mid.edges ++ f k } → new ≡ record old { edges = old.edges ++ blocks f (k + 1) }
+pub grown-block : (old mid new : Multigraph) (f : ℕ → List Edge) (k : ℕ) → mid ≡ record old { edges = old.edges ++ blocks f k } → new ≡ record mid { edges = mid.edges ++ f k } → new
+    ≡ record old { edges = old.edges ++ blocks f (k + 1) }
 grown-block old mid new f k one two = grown-twice old mid new (blocks f k) (f k) one two ∙ ap (λ (xs : List Edge). record old { edges = old.edges ++ xs }) (sym (blocks-more f k))
 
 -- one edge more
-pub grown-one : (old mid new : Multigraph) (f : ℕ → Edge) (k : ℕ) → mid ≡ record old { edges = old.edges ++ tabled f k } → new ≡ record mid { edges = mid.edges ++ f k ∷ [] } → new ≡ record old { edges = old.edges ++ tabled f (k + 1) }
+pub grown-one : (old mid new : Multigraph) (f : ℕ → Edge) (k : ℕ) → mid ≡ record old { edges = old.edges ++ tabled f k } → new ≡ record mid { edges = mid.edges ++ f k ∷ [] } → new
+    ≡ record old { edges = old.edges ++ tabled f (k + 1) }
 grown-one old mid new f k one two = grown-twice old mid new (tabled f k) (f k ∷ []) one two ∙ ap (λ (xs : List Edge). record old { edges = old.edges ++ xs }) (sym (tabled-more f k))
 
 -- what holds in any case
@@ -42,13 +45,15 @@ cut-row old new f k n b now = record {
 }
 
 -- want of memory within block number k + 1 of n
-pub cut-block : (old mid new : Multigraph) (f : ℕ → List Edge) (k n : ℕ) → k < n → mid ≡ record old { edges = old.edges ++ blocks f k } → AddsFirst mid new (f k) → AddsFirst old new (blocks f n)
+pub cut-block : (old mid new : Multigraph) (f : ℕ → List Edge) (k n : ℕ) → k < n → mid ≡ record old { edges = old.edges ++ blocks f k } → AddsFirst mid new (f k)
+    → AddsFirst old new (blocks f n)
 cut-block old mid new f k n b whole part =
     let fewer = part.fewer in
     record {
       count = length (blocks f k) + part.count;
       fewer = omega (arith, fewer, blocks-length f k, blocks-length f n, sum_to-grows (λ j. length (f j)) k n b);
-      added = grown-twice old mid new (blocks f k) (take part.count (f k)) whole part.added ∙ ap (λ (xs : List Edge). record old { edges = old.edges ++ xs }) (sym (take-blocks f k n part.count b (omega arith)));
+      added = grown-twice old mid new (blocks f k) (take part.count (f k)) whole part.added ∙ ap (λ (xs : List Edge). record old { edges = old.edges ++ xs })
+          (sym (take-blocks f k n part.count b (omega arith)));
     }
 
 -- how many edges there are

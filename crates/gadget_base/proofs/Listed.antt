@@ -1,5 +1,6 @@
 -- A perfect matching as a list of numbers of edges, and as counts.
-use Rattle.std.proofs.Common.{◌≡◌, ℕ, ◌+◌, ◌-◌, ◌*◌, ◌<◌, ◌≤◌, ℤ, pos, ◌+ℤ◌, ◌*ℤ◌, Bool, true, false, cond, eqb, refl, ap, sym, ◌∙◌, subst, inl, inr, arith, List, [], ◌∷◌, length, slice_index, All, count_by}
+use Rattle.std.proofs.Common.{◌≡◌, ℕ, ◌+◌, ◌-◌, ◌*◌, ◌<◌, ◌≤◌, ℤ, pos, ◌+ℤ◌, ◌*ℤ◌, Bool, true, false, cond, eqb, refl, ap, sym, ◌∙◌, subst, inl, inr, arith, List, [], ◌∷◌, length}
+use Rattle.std.proofs.Common.{slice_index, All, count_by}
 use Rattle.std.proofs.lemmas.Int.{ints}
 use Rattle.std.proofs.lemmas.Bool.{eq-eqb, ne_eqb, cases_eq}
 use Rattle.std.proofs.lemmas.List.{get_or_default}
@@ -9,7 +10,8 @@ use Rattle.graph_theory.specs.Sums.{sum_to, int_sum_to}
 use Rattle.graph_theory.specs.declared.edge.Edge.{Edge}
 use Rattle.graph_theory.specs.Graph.{Multigraph, IsEdgeWithin, IsEdgeNumber, edge_at, edge_of, touches, no_edge, degree, weight, IsPerfect}
 use Rattle.graph_theory.specs.Walk.{walk_weight}
-use Rattle.graph_theory.proofs.SumLemmas.{sum_to-same, sum_to-add, sum_to-has, int_sum_to-same, int_sum_to-add, int_sum_to-zero, int_sum_to-one, int_sum_to-pos, plus-times, times-one_if, int_sum_to-at_one}
+use Rattle.graph_theory.proofs.SumLemmas.{sum_to-same, sum_to-add, sum_to-has, int_sum_to-same, int_sum_to-add, int_sum_to-zero, int_sum_to-one, int_sum_to-pos, plus-times, times-one_if}
+use Rattle.graph_theory.proofs.SumLemmas.{int_sum_to-at_one}
 use Rattle.graph_theory.proofs.Edges.{degree-touches, touches-u, edge_of-place}
 use Rattle.graph_theory.proofs.Handshake.{handshake-perfect}
 use Rattle.gadget_base.specs.Certified.{IsPerfectList}
@@ -65,7 +67,8 @@ times_each-length g es = tabled-length (λ k. times es (k + 1)) (length g.edges)
 pub times_each-at : (g : Multigraph) (es : List ℕ) (k : ℕ) → k < length g.edges → slice_index (times_each g es) k ≡ times es (k + 1)
 times_each-at g es k b = tabled-at (λ k. times es (k + 1)) (length g.edges) k 0 b
 
-pub times_each-degree : (g : Multigraph) (es : List ℕ) (v : ℕ) → All (IsEdgeWithin g.vertices) g.edges → All (IsEdgeNumber g) es → degree g (times_each g es) v ≡ count_by (λ e. touches (edge_of g e) v) es
+pub times_each-degree : (g : Multigraph) (es : List ℕ) (v : ℕ) → All (IsEdgeWithin g.vertices) g.edges → All (IsEdgeNumber g) es → degree g (times_each g es) v
+    ≡ count_by (λ e. touches (edge_of g e) v) es
 times_each-degree g es v ends numbers =
     let t : ℕ → Bool = λ e. touches (edge_of g e) v in
     degree-touches g (times_each g es) v ends
@@ -76,7 +79,8 @@ times_each-degree g es v ends numbers =
     ∙ times-sum t es (length g.edges) numbers
 
 -- where each vertex has degree 1, no edge counts more than once: it would count more at an end
-pub at_most_one_from_degrees : (g : Multigraph) (counts : List ℕ) → All (IsEdgeWithin g.vertices) g.edges → ((v : ℕ) → 1 ≤ v → v ≤ g.vertices → degree g counts v ≡ 1) → (k : ℕ) → k < length g.edges → slice_index counts k ≤ 1
+pub at_most_one_from_degrees : (g : Multigraph) (counts : List ℕ) → All (IsEdgeWithin g.vertices) g.edges → ((v : ℕ) → 1 ≤ v → v ≤ g.vertices → degree g counts v ≡ 1) → (k : ℕ)
+    → k < length g.edges → slice_index counts k ≤ 1
 at_most_one_from_degrees g counts ends degrees k b =
     let e = edge_at g k in
     let within : IsEdgeWithin g.vertices e = ends k no_edge b in
@@ -86,7 +90,8 @@ at_most_one_from_degrees g counts ends degrees k b =
     let on : cond (touches e e.u) (slice_index counts k) 0 ≡ slice_index counts k = ap (λ (t : Bool). cond t (slice_index counts k) 0) (touches-u e) in
     omega (arith, one, sum, term, on)
 
-pub perfect_from_degrees : (g : Multigraph) (counts : List ℕ) → All (IsEdgeWithin g.vertices) g.edges → length counts ≡ length g.edges → ((v : ℕ) → 1 ≤ v → v ≤ g.vertices → degree g counts v ≡ 1) → IsPerfect g counts
+pub perfect_from_degrees : (g : Multigraph) (counts : List ℕ) → All (IsEdgeWithin g.vertices) g.edges → length counts ≡ length g.edges → ((v : ℕ) → 1 ≤ v → v ≤ g.vertices → degree g counts v
+    ≡ 1) → IsPerfect g counts
 perfect_from_degrees g counts ends size degrees = record {
   one_each = size;
   at_most_one = λ k d b. subst (λ (c : ℕ). c ≤ 1) (get_or_default counts k 0 d b) (at_most_one_from_degrees g counts ends degrees k (omega (arith, size, b)));
@@ -94,7 +99,8 @@ perfect_from_degrees g counts ends size degrees = record {
 }
 
 pub perfect_from_list : (g : Multigraph) (es : List ℕ) → All (IsEdgeWithin g.vertices) g.edges → IsPerfectList g es → IsPerfect g (times_each g es)
-perfect_from_list g es ends list = perfect_from_degrees g (times_each g es) ends (times_each-length g es) (λ v low high. times_each-degree g es v ends list.numbers ∙ list.one_each v low high)
+perfect_from_list g es ends list = perfect_from_degrees g (times_each g es) ends (times_each-length g es) (λ v low high. times_each-degree g es v ends list.numbers
+    ∙ list.one_each v low high)
 
 -- no edge is listed twice
 pub times-small : (g : Multigraph) (es : List ℕ) (k : ℕ) → All (IsEdgeWithin g.vertices) g.edges → IsPerfectList g es → k < length g.edges → times es (k + 1) ≤ 1

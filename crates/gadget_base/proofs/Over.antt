@@ -85,14 +85,16 @@ int_over-tabled F e c n =
 pub blocks-lengths : (es : ℕ → List Edge) (cs : ℕ → List ℕ) (n : ℕ) → ((k : ℕ) → k < n → length (es k) ≡ length (cs k)) → length (blocks es n) ≡ length (blocks cs n)
 blocks-lengths es cs n h = blocks-length es n ∙ sum_to-same (λ k. length (es k)) (λ k. length (cs k)) n h ∙ sym (blocks-length cs n)
 
-pub over-blocks : (F : Edge → ℕ → ℕ) (es : ℕ → List Edge) (cs : ℕ → List ℕ) (n : ℕ) → ((k : ℕ) → k < n → length (es k) ≡ length (cs k)) → over F (blocks es n) (blocks cs n) ≡ sum_to (λ k. over F (es k) (cs k)) n
+pub over-blocks : (F : Edge → ℕ → ℕ) (es : ℕ → List Edge) (cs : ℕ → List ℕ) (n : ℕ) → ((k : ℕ) → k < n → length (es k) ≡ length (cs k)) → over F (blocks es n) (blocks cs n)
+    ≡ sum_to (λ k. over F (es k) (cs k)) n
 over-blocks F es cs zero h = refl
 over-blocks F es cs (suc n) h =
     let front = over-blocks F es cs n (λ k b. h k (omega arith)) in
     let split = over-append F (blocks es n) (es n) (blocks cs n) (cs n) (blocks-lengths es cs n (λ k b. h k (omega arith))) in
     omega (arith, front, split)
 
-pub int_over-blocks : (F : Edge → ℕ → ℤ) (es : ℕ → List Edge) (cs : ℕ → List ℕ) (n : ℕ) → ((k : ℕ) → k < n → length (es k) ≡ length (cs k)) → int_over F (blocks es n) (blocks cs n) ≡ int_sum_to (λ k. int_over F (es k) (cs k)) n
+pub int_over-blocks : (F : Edge → ℕ → ℤ) (es : ℕ → List Edge) (cs : ℕ → List ℕ) (n : ℕ) → ((k : ℕ) → k < n → length (es k) ≡ length (cs k)) → int_over F (blocks es n) (blocks cs n)
+    ≡ int_sum_to (λ k. int_over F (es k) (cs k)) n
 int_over-blocks F es cs zero h = refl
 int_over-blocks F es cs (suc n) h =
     let front = int_over-blocks F es cs n (λ k b. h k (omega arith)) in
@@ -111,13 +113,18 @@ table-length f (suc m) n = omega (arith, length-append (table f m n) (tabled (f 
 pub rectangle-table : (N : ℕ → ℕ → ℕ) (first m second n : ℕ) (w : ℤ) (a : ℕ) → length (row (first + a + 1) second n w) ≡ length (tabled (N a) n)
 rectangle-table N first m second n w a = row-length (first + a + 1) second n w ∙ sym (tabled-length (N a) n)
 
-pub over-rectangle : (F : Edge → ℕ → ℕ) (N : ℕ → ℕ → ℕ) (first m second n : ℕ) (w : ℤ) → over F (rectangle first m second n w) (table N m n) ≡ sum_to (λ a. sum_to (λ j. F (record { u = first + a + 1; v = second + j + 1; w = w }) (N a j)) n) m
+pub over-rectangle : (F : Edge → ℕ → ℕ) (N : ℕ → ℕ → ℕ) (first m second n : ℕ) (w : ℤ) → over F (rectangle first m second n w) (table N m n) ≡ sum_to (λ a. sum_to (λ j. F (record {
+  u = first + a + 1;
+  v = second + j + 1;
+  w = w;
+}) (N a j)) n) m
 over-rectangle F N first m second n w =
     over-blocks F (λ a. row (first + a + 1) second n w) (λ a. tabled (N a) n) m (λ a _. rectangle-table N first m second n w a)
     ∙ sum_to-same (λ a. over F (row (first + a + 1) second n w) (tabled (N a) n)) (λ a. sum_to (λ j. F (record { u = first + a + 1; v = second + j + 1; w = w }) (N a j)) n) m
     (λ a _. over-tabled F (λ j. record { u = first + a + 1; v = second + j + 1; w = w }) (N a) n)
 
-pub int_over-rectangle : (F : Edge → ℕ → ℤ) (N : ℕ → ℕ → ℕ) (first m second n : ℕ) (w : ℤ) → int_over F (rectangle first m second n w) (table N m n) ≡ int_sum_to (λ a. int_sum_to (λ j. F (record { u = first + a + 1; v = second + j + 1; w = w }) (N a j)) n) m
+pub int_over-rectangle : (F : Edge → ℕ → ℤ) (N : ℕ → ℕ → ℕ) (first m second n : ℕ) (w : ℤ) → int_over F (rectangle first m second n w) (table N m n)
+    ≡ int_sum_to (λ a. int_sum_to (λ j. F (record { u = first + a + 1; v = second + j + 1; w = w }) (N a j)) n) m
 int_over-rectangle F N first m second n w =
     int_over-blocks F (λ a. row (first + a + 1) second n w) (λ a. tabled (N a) n) m (λ a _. rectangle-table N first m second n w a)
     ∙ int_sum_to-same (λ a. int_over F (row (first + a + 1) second n w) (tabled (N a) n)) (λ a. int_sum_to (λ j. F (record { u = first + a + 1; v = second + j + 1; w = w }) (N a j)) n) m

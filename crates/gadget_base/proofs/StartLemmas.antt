@@ -3,7 +3,8 @@ use Rattle.std.proofs.Common.{◌≡◌, ℕ, ◌+◌, ◌<◌, ap, ◌∙◌, a
 use Rattle.graph_theory.proofs.SumLemmas.{sum_to-same}
 use Rattle.gadget_base.specs.Starts.{AreStarts}
 
-pub starts_of : (f : ℕ → ℕ) (n : ℕ) (sizes read starts : List ℕ) → read ≡ sizes → length sizes ≡ n → ((k : ℕ) → k < n → slice_index sizes k ≡ f k) → AreStarts (λ k. slice_index read k) (length read) starts → AreStarts f n starts
+pub starts_of : (f : ℕ → ℕ) (n : ℕ) (sizes read starts : List ℕ) → read ≡ sizes → length sizes ≡ n → ((k : ℕ) → k < n → slice_index sizes k ≡ f k) → AreStarts (λ k. slice_index read k)
+    (length read) starts → AreStarts f n starts
 starts_of f n sizes read starts same size each are =
     let one : length read ≡ n = ap (λ (xs : List ℕ). length xs) same ∙ size in
     record {

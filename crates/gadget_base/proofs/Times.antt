@@ -1,5 +1,6 @@
 -- How often a number is listed, and whether it is.
-use Rattle.std.proofs.Common.{◌≡◌, ℕ, zero, suc, ◌+◌, ◌<◌, ◌≤◌, Bool, true, false, cond, eqb, refl, ap, sym, ◌∙◌, subst, inl, inr, arith, List, [], ◌∷◌, ◌++◌, length, take, get_or, slice_index, count_by}
+use Rattle.std.proofs.Common.{◌≡◌, ℕ, zero, suc, ◌+◌, ◌<◌, ◌≤◌, Bool, true, false, cond, eqb, refl, ap, sym, ◌∙◌, subst, inl, inr, arith, List, [], ◌∷◌, ◌++◌, length, take, get_or}
+use Rattle.std.proofs.Common.{slice_index, count_by}
 use Rattle.std.specs.List.Sorted.{IsStrictlyIncreasing}
 use Rattle.std.proofs.lemmas.Bool.{cases_eq, cases_Bool, eq-eqb, ne_eqb, or_left, or_right, true≢false}
 use Rattle.std.proofs.lemmas.Grind.{common_steps}
@@ -29,7 +30,8 @@ pub times-more : (es : List ℕ) (i e : ℕ) → i < length es → times (take (
 times-more es i e b =
     elim (cases_eq (slice_index es i) e) [
       | inl h ↦ let on : eqb (slice_index es i) e ≡ true = eq-eqb _ _ h in rw on (count_by_more_yes (λ x. eqb x e) es i 0 b on)
-      | inr d ↦ let off : eqb (slice_index es i) e ≡ false = ne_eqb _ _ d in rw off (count_by_more_no (λ x. eqb x e) es i 0 b off ∙ (let z : times (take i es) e ≡ times (take i es) e + 0 = omega arith in z))
+      | inr d ↦ let off : eqb (slice_index es i) e ≡ false = ne_eqb _ _ d in rw off (count_by_more_no (λ x. eqb x e) es i 0 b off ∙ (let z : times (take i es) e
+          ≡ times (take i es) e + 0 = omega arith in z))
     ]
 
 pub times-take : (es : List ℕ) (i e : ℕ) → i < length es → times (take i es) e ≤ i

@@ -36,11 +36,13 @@ weight-used i counts =
 
 pub use_at-u : (i : Network) (counts : List ℕ) (k : ℕ) → IsNetwork i → k < length i.edges → use_at i counts (instance_edge_at i k).u k ≡ slice_index counts k
 use_at-u i counts k network b =
-    ap (λ x. slice_index counts k * x) (ends_at-u (vertices i) (plain (instance_edge_at i k)) (edge-ends i k network b)) ∙ (let z : slice_index counts k * 1 ≡ slice_index counts k = omega arith in z)
+    ap (λ x. slice_index counts k * x) (ends_at-u (vertices i) (plain (instance_edge_at i k)) (edge-ends i k network b)) ∙ (let z : slice_index counts k * 1
+    ≡ slice_index counts k = omega arith in z)
 
 pub use_at-v : (i : Network) (counts : List ℕ) (k : ℕ) → IsNetwork i → k < length i.edges → use_at i counts (instance_edge_at i k).v k ≡ slice_index counts k
 use_at-v i counts k network b =
-    ap (λ x. slice_index counts k * x) (ends_at-v (vertices i) (plain (instance_edge_at i k)) (edge-ends i k network b)) ∙ (let z : slice_index counts k * 1 ≡ slice_index counts k = omega arith in z)
+    ap (λ x. slice_index counts k * x) (ends_at-v (vertices i) (plain (instance_edge_at i k)) (edge-ends i k network b)) ∙ (let z : slice_index counts k * 1
+    ≡ slice_index counts k = omega arith in z)
 
 -- there are copies for the next edge
 
@@ -51,14 +53,16 @@ used-within i counts t k feasible low high b =
     let same = degree-used i counts t in
     omega (arith, grows, degree, same)
 
-pub used-within_u : (i : Network) (counts : List ℕ) (k : ℕ) → IsNetwork i → IsBMatching i counts → k < length i.edges → (used i counts (instance_edge_at i k).u k + slice_index counts k) ≤ value_of i (instance_edge_at i k).u
+pub used-within_u : (i : Network) (counts : List ℕ) (k : ℕ) → IsNetwork i → IsBMatching i counts → k < length i.edges → (used i counts (instance_edge_at i k).u k + slice_index counts k)
+    ≤ value_of i (instance_edge_at i k).u
 used-within_u i counts k network feasible b =
     let ends : IsEdgeWithin (vertices i) (plain (instance_edge_at i k)) = edge-ends i k network b in
     let within = used-within i counts (instance_edge_at i k).u k feasible ends.u_low ends.u_high b in
     let at = use_at-u i counts k network b in
     omega (arith, within, at)
 
-pub used-within_v : (i : Network) (counts : List ℕ) (k : ℕ) → IsNetwork i → IsBMatching i counts → k < length i.edges → (used i counts (instance_edge_at i k).v k + slice_index counts k) ≤ value_of i (instance_edge_at i k).v
+pub used-within_v : (i : Network) (counts : List ℕ) (k : ℕ) → IsNetwork i → IsBMatching i counts → k < length i.edges → (used i counts (instance_edge_at i k).v k + slice_index counts k)
+    ≤ value_of i (instance_edge_at i k).v
 used-within_v i counts k network feasible b =
     let ends : IsEdgeWithin (vertices i) (plain (instance_edge_at i k)) = edge-ends i k network b in
     let within = used-within i counts (instance_edge_at i k).v k feasible ends.v_low ends.v_high b in

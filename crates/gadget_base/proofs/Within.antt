@@ -1,5 +1,6 @@
 -- Edges of rows, rectangles, cliques and of the graphs for matchings and b-matchings lie within their graph, with weights in range.
-use Rattle.std.proofs.Common.{◌≡◌, ◌≢◌, ℕ, ◌+◌, ◌-◌, ◌*◌, ◌<◌, ◌≤◌, ◌⊎◌, ℤ, pos, neg_ℤ, refl, ap, subst, ◌∙◌, inl, inr, arith, List, [], ◌∷◌, length, slice_index, slice_index_or, All, length-append}
+use Rattle.std.proofs.Common.{◌≡◌, ◌≢◌, ℕ, ◌+◌, ◌-◌, ◌*◌, ◌<◌, ◌≤◌, ◌⊎◌, ℤ, pos, neg_ℤ, refl, ap, subst, ◌∙◌, inl, inr, arith, List, [], ◌∷◌, length, slice_index, slice_index_or, All}
+use Rattle.std.proofs.Common.{length-append}
 use Rattle.std.proofs.lemmas.Int.{ints}
 use Rattle.std.proofs.lemmas.Bool.{cases_lt}
 use Rattle.std.proofs.lemmas.List.{get_or_read}
@@ -58,7 +59,8 @@ row-within total u before n w low high inside apart =
 pub row-weights : (u before n : ℕ) (w : ℤ) → IsWeight w → All (λ e. IsWeight e.w) (row u before n w)
 row-weights u before n w is = All-tabled (λ e. IsWeight e.w) (λ j. record { u = u; v = before + j + 1; w = w }) n (λ j _. is)
 
-pub rectangle-within : (total first m second n : ℕ) (w : ℤ) → first + m ≤ total → second + n ≤ total → (first + m ≤ second) ⊎ (second + n ≤ first) → All (IsEdgeWithin total) (rectangle first m second n w)
+pub rectangle-within : (total first m second n : ℕ) (w : ℤ) → first + m ≤ total → second + n ≤ total → (first + m ≤ second) ⊎ (second + n ≤ first)
+    → All (IsEdgeWithin total) (rectangle first m second n w)
 rectangle-within total first m second n w inside inside' apart =
     All-blocks (IsEdgeWithin total) (λ a. row (first + a + 1) second n w) m
     (λ a b. row-within total (first + a + 1) second n w (omega arith) (omega arith) inside' (elim apart [ inl x ↦ inl (omega arith) | inr x ↦ inr (omega arith) ]))
@@ -75,7 +77,8 @@ clique-within total before n inside =
     (λ a b. row-within total (before + a + 1) (before + a + 1) (n - 1 - a) (pos 0) (omega arith) (omega arith) (omega arith) (inl (omega arith)))
 
 pub clique-weights : (before n : ℕ) → All (λ e. IsWeight e.w) (clique before n)
-clique-weights before n = All-blocks (λ e. IsWeight e.w) (λ a. row (before + a + 1) (before + a + 1) (n - 1 - a) (pos 0)) n (λ a _. row-weights (before + a + 1) (before + a + 1) (n - 1 - a) (pos 0) no_weight)
+clique-weights before n = All-blocks (λ e. IsWeight e.w) (λ a. row (before + a + 1) (before + a + 1) (n - 1 - a) (pos 0)) n (λ a _. row-weights (before + a + 1) (before + a + 1) (n - 1 - a)
+    (pos 0) no_weight)
 
 -- a graph of a size within the limits
 
@@ -112,7 +115,13 @@ doubled-within i network =
     let one : Edge = record { u = e.u; v = e.v; w = neg_ℤ e.w } in
     let two : Edge = record { u = e.u + n; v = e.v + n; w = neg_ℤ e.w } in
     let first : IsEdgeWithin (2 * n) one = record { u_low = u_low; u_high = omega (arith, u_high); v_low = v_low; v_high = omega (arith, v_high); differ = ends.differ } in
-    let second : IsEdgeWithin (2 * n) two = record { u_low = omega (arith, u_low); u_high = omega (arith, u_high); v_low = omega (arith, v_low); v_high = omega (arith, v_high); differ = λ same. ends.differ (omega (arith, same)) } in
+    let second : IsEdgeWithin (2 * n) two = record {
+      u_low = omega (arith, u_low);
+      u_high = omega (arith, u_high);
+      v_low = omega (arith, v_low);
+      v_high = omega (arith, v_high);
+      differ = λ same. ends.differ (omega (arith, same));
+    } in
     All-two (IsEdgeWithin (2 * n)) one two first second))
     (All-tabled (IsEdgeWithin (2 * n)) (to_copy i) n
     (λ k b. record { u_low = omega arith; u_high = omega arith; v_low = omega arith; v_high = omega arith; differ = λ same. omega (arith, same) }))
@@ -172,7 +181,8 @@ pairs_of_copies-length i k = rectangle-length (values_below i (instance_edge_at 
 pub copies-size : (i : Network) → HasSize (size_of BMatch i) (copies_graph i)
 copies-size i = record {
   vertices = refl;
-  edges = blocks-length (pairs_of_copies i) (length i.edges) ∙ sum_to-same (λ k. length (pairs_of_copies i k)) (λ k. value_u i k * value_v i k) (length i.edges) (λ k _. pairs_of_copies-length i k);
+  edges = blocks-length (pairs_of_copies i) (length i.edges) ∙ sum_to-same (λ k. length (pairs_of_copies i k)) (λ k. value_u i k * value_v i k) (length i.edges)
+      (λ k _. pairs_of_copies-length i k);
 }
 
 pub copies-graph : (i : Network) → IsNetwork i → IsWithinLimits (size_of BMatch i) → IsGraph (copies_graph i)

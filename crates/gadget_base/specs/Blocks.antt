@@ -16,10 +16,12 @@ tabled f (suc n) = tabled f n ++ f n ∷ []
 abbrev pub row : ℕ → ℕ → ℕ → ℤ → List Edge
 row u before n w = tabled (λ j. record { u = u; v = before + j + 1; w = w }) n
 
--- an edge of weight w from each of the m vertices after `first` to each of the n vertices after `second`, row by row
+-- an edge of weight w from each of the m vertices after `first` to each of the n vertices after
+-- `second`, row by row
 abbrev pub rectangle : ℕ → ℕ → ℕ → ℕ → ℤ → List Edge
 rectangle first m second n w = blocks (λ a. row (first + a + 1) second n w) m
 
--- an edge of weight 0 between any two of the n vertices after `before`, the lesser end first and slowest
+-- an edge of weight 0 between any two of the n vertices after `before`, the lesser end first and
+-- slowest
 abbrev pub clique : ℕ → ℕ → List Edge
 clique before n = blocks (λ a. row (before + a + 1) (before + a + 1) (n - 1 - a) (pos 0)) n

@@ -1,11 +1,13 @@
--- The graph that the certificates of a kind speak of, and what its perfect matchings say of the instance.
+-- The graph that the certificates of a kind speak of, and what its perfect matchings say of the
+-- instance.
 use Rattle.std.specs.Prelude.{◌≡◌, ℕ, ◌≤◌, pos, ◌*ℤ◌, ◌≤ℤ◌, List, All, count_by}
 use Rattle.graph_theory.specs.Graph.{Multigraph, weight, IsPerfect, IsEdgeNumber, edge_of, touches}
 use Rattle.mb_problem.specs.declared.kind.Kind.{Kind}
 use Rattle.mb_problem.specs.declared.answer.Answer.{Answer}
 use Rattle.mb_problem.specs.declared.answer.Parity.TheVariants.{Values}
 use Rattle.mb_problem.specs.declared.gadget.GadgetForm.{GadgetForm}
-use Rattle.mb_problem.specs.declared.gadget.GadgetForm.TheVariants.{Itself, Doubled, Copies, Capped, Ports, PathPorts}
+use Rattle.mb_problem.specs.declared.gadget.GadgetForm.TheVariants.{Itself, Doubled, Copies, Capped}
+use Rattle.mb_problem.specs.declared.gadget.GadgetForm.TheVariants.{Ports, PathPorts}
 use Rattle.mb_problem.specs.Network.{Network, graph_of}
 use Rattle.mb_problem.specs.Kinds.{gadget_of}
 use Rattle.mb_problem.specs.Feasible.{IsFeasible, weight_of}
@@ -13,7 +15,8 @@ use Rattle.mb_problem.specs.Size.{room_by, odd_at}
 use Rattle.mb_problem.specs.Values.{value_for}
 use Rattle.gadget_base.specs.Gadgets.{doubled_graph, copies_graph, capped_graph, ports_graph}
 
--- the graph that is built so; a path's duals speak of the graph for joins that are odd at its two ends
+-- the graph that is built so; a path's duals speak of the graph for joins that are odd at its two
+-- ends
 abbrev pub graph_by : GadgetForm → Network → Multigraph
 graph_by Itself i = graph_of i
 graph_by Doubled i = doubled_graph i
@@ -25,17 +28,21 @@ graph_by PathPorts i = ports_graph i (odd_at Values i)
 abbrev pub gadget_graph : Kind → Network → Multigraph
 gadget_graph kind i = graph_by (gadget_of kind) i
 
--- a perfect matching of the kind's graph whose weight, doubled, is at most the value for this answer
+-- a perfect matching of the kind's graph whose weight, doubled, is at most the value for this
+-- answer
 pub record IsReached (kind : Kind) (i : Network) (answer : Answer) : Type 0 where
   pub counts : List ℕ
   pub perfect : IsPerfect (gadget_graph kind i) counts
-  pub weighs : (pos 2 *ℤ weight (gadget_graph kind i) counts) ≤ℤ value_for kind i (weight_of kind i answer)
+  pub weighs : (pos 2 *ℤ weight (gadget_graph kind i) counts) ≤ℤ value_for kind i
+      (weight_of kind i answer)
 
 -- each feasible answer has such a perfect matching
 abbrev pub ReachesAll : Kind → Network → Type 0
 ReachesAll kind i = (answer : Answer) → IsFeasible kind i answer → IsReached kind i answer
 
--- a perfect matching (chapter 24) as a list of numbers of edges: each vertex is an end of exactly one of them
+-- a perfect matching (chapter 24) as a list of numbers of edges: each vertex is an end of exactly
+-- one of them
 pub record IsPerfectList (g : Multigraph) (edges : List ℕ) : Type 0 where
   pub numbers : All (IsEdgeNumber g) edges
-  pub one_each : (v : ℕ) → 1 ≤ v → v ≤ g.vertices → count_by (λ e. touches (edge_of g e) v) edges ≡ 1
+  pub one_each : (v : ℕ) → 1 ≤ v → v ≤ g.vertices → count_by (λ e. touches (edge_of g e) v) edges
+      ≡ 1

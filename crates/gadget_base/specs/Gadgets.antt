@@ -1,7 +1,8 @@
 -- The graphs that certificates speak of: each feasible answer of an instance is a perfect matching
--- there (Schrijver, Combinatorial Optimization, volume A, chapter 26 for matchings, 29 for joins, 31
--- for b-matchings, 32 for capacities, 33 for factors).
-use Rattle.std.specs.Prelude.{ℕ, ◌+◌, ◌-◌, ◌*◌, pos, neg_ℤ, List, [], ◌∷◌, ◌++◌, length, slice_index}
+-- there (Schrijver, Combinatorial Optimization, volume A, chapter 26 for matchings, 29 for joins,
+-- 31 for b-matchings, 32 for capacities, 33 for factors).
+use Rattle.std.specs.Prelude.{ℕ, ◌+◌, ◌-◌, ◌*◌, pos, neg_ℤ, List, [], ◌∷◌, ◌++◌, length}
+use Rattle.std.specs.Prelude.{slice_index}
 use Rattle.graph_theory.specs.declared.edge.Edge.{Edge}
 use Rattle.graph_theory.specs.Sums.{sum_to}
 use Rattle.graph_theory.specs.Graph.{Multigraph, ends_at}
@@ -9,11 +10,20 @@ use Rattle.mb_problem.specs.Network.{Network, vertices, plain, instance_edge_at}
 use Rattle.mb_problem.specs.Size.{value_total, value_u, value_v, port_count}
 use Rattle.gadget_base.specs.Blocks.{blocks, tabled, rectangle, clique}
 
--- two copies of edge number k + 1 with its weight turned round: between its ends, and between the copies of these
+-- two copies of edge number k + 1 with its weight turned round: between its ends, and between the
+-- copies of these
 abbrev pub two_copies : Network → ℕ → List Edge
 two_copies i k =
-    record { u = (instance_edge_at i k).u; v = (instance_edge_at i k).v; w = neg_ℤ (instance_edge_at i k).w }
-    ∷ record { u = (instance_edge_at i k).u + vertices i; v = (instance_edge_at i k).v + vertices i; w = neg_ℤ (instance_edge_at i k).w }
+    record {
+      u = (instance_edge_at i k).u;
+      v = (instance_edge_at i k).v;
+      w = neg_ℤ (instance_edge_at i k).w;
+    }
+    ∷ record {
+      u = (instance_edge_at i k).u + vertices i;
+      v = (instance_edge_at i k).v + vertices i;
+      w = neg_ℤ (instance_edge_at i k).w;
+    }
     ∷ []
 
 -- vertex k + 1 joined to its copy at weight 0
@@ -33,7 +43,8 @@ values_below i t = sum_to (λ k. slice_index i.values k) (t - 1)
 
 -- each copy of the one end of edge number k + 1 joined to each copy of the other
 abbrev pub pairs_of_copies : Network → ℕ → List Edge
-pairs_of_copies i k = rectangle (values_below i (instance_edge_at i k).u) (value_u i k) (values_below i (instance_edge_at i k).v) (value_v i k) (instance_edge_at i k).w
+pairs_of_copies i k = rectangle (values_below i (instance_edge_at i k).u) (value_u i k)
+    (values_below i (instance_edge_at i k).v) (value_v i k) (instance_edge_at i k).w
 
 -- each vertex as often as its value says, and all pairs of copies of the ends of each edge
 abbrev pub copies_graph : Network → Multigraph
@@ -46,13 +57,16 @@ copies_graph i = record {
 abbrev pub before_gates : Network → (ℕ → ℕ) → ℕ → ℕ
 before_gates i room k = value_total i + 2 * sum_to room k
 
--- the edges that stand for edge number k + 1: from the copies of its first end to the vertices of its first gate,
--- from there to those of its second gate, and from there to the copies of its second end
+-- the edges that stand for edge number k + 1: from the copies of its first end to the vertices of
+-- its first gate, from there to those of its second gate, and from there to the copies of its
+-- second end
 abbrev pub gated : Network → (ℕ → ℕ) → ℕ → List Edge
 gated i room k =
-    rectangle (values_below i (instance_edge_at i k).u) (value_u i k) (before_gates i room k) (room k) (instance_edge_at i k).w
+    rectangle (values_below i (instance_edge_at i k).u) (value_u i k) (before_gates i room k)
+    (room k) (instance_edge_at i k).w
     ++ (rectangle (before_gates i room k) (room k) (before_gates i room k + room k) (room k) (pos 0)
-    ++ rectangle (before_gates i room k + room k) (room k) (values_below i (instance_edge_at i k).v) (value_v i k) (pos 0))
+    ++ rectangle (before_gates i room k + room k) (room k) (values_below i (instance_edge_at i k).v)
+    (value_v i k) (pos 0))
 
 -- copies of the vertices, and for each edge two gates of as many vertices as the edge has room
 abbrev pub capped_graph : Network → (ℕ → ℕ) → Multigraph
@@ -81,10 +95,11 @@ between_ports i odd k = record {
   w = (instance_edge_at i k).w;
 }
 
--- for each vertex a port for each edge at it, and a spare where the number of these and `odd` differ in parity; each
--- edge between its ports, and those of a vertex all joined
+-- for each vertex a port for each edge at it, and a spare where the number of these and `odd`
+-- differ in parity; each edge between its ports, and those of a vertex all joined
 abbrev pub ports_graph : Network → (ℕ → ℕ) → Multigraph
 ports_graph i odd = record {
   vertices = ports_below i odd (vertices i + 1);
-  edges = tabled (between_ports i odd) (length i.edges) ++ blocks (λ k. clique (ports_below i odd (k + 1)) (port_count i odd (k + 1))) (vertices i);
+  edges = tabled (between_ports i odd) (length i.edges) ++ blocks
+      (λ k. clique (ports_below i odd (k + 1)) (port_count i odd (k + 1))) (vertices i);
 }

@@ -5,11 +5,12 @@ ghost use Rattle.gadget_base.specs.Starts.{AreStarts};
 use mb_base::OutOfMemory;
 use std::alloc::Global;
 
-/// Where each block starts, where blocks of these sizes follow one another from 0 on, and at last the
-/// size of all. It takes time linear in the sizes. `OutOfMemory` is its one error.
+/// Where each block starts, where blocks of these sizes follow one another from 0 on, and at last
+/// the size of all. It takes time linear in the sizes. `OutOfMemory` is its one error.
 pub fn starts(alloc: Global, sizes: &[u32]) -> Result<Vec<u32>, OutOfMemory>
     requires { sum_to (λ k. slice_index sizes.now k) (length sizes.now) < 2 ^ 32 }
-    ensures { IfOk result (λ starts. AreStarts (λ k. slice_index sizes.now k) (length sizes.now) starts.items) }
+    ensures { IfOk result (λ starts. AreStarts (λ k. slice_index sizes.now k)
+        (length sizes.now) starts.items) }
 {
     let mut starts = Vec::with_capacity(alloc, sizes.len() + 1)?;
     starts.push(0)?;
@@ -24,7 +25,8 @@ pub fn starts(alloc: Global, sizes: &[u32]) -> Result<Vec<u32>, OutOfMemory>
 /// The same where the size of all may pass 32 bits.
 pub fn wide_starts(alloc: Global, sizes: &[u32]) -> Result<Vec<u64>, OutOfMemory>
     requires { length sizes.now < 2 ^ 32 }
-    ensures { IfOk result (λ starts. AreStarts (λ k. slice_index sizes.now k) (length sizes.now) starts.items) }
+    ensures { IfOk result (λ starts. AreStarts (λ k. slice_index sizes.now k)
+        (length sizes.now) starts.items) }
 {
     let mut starts = Vec::with_capacity(alloc, sizes.len() + 1)?;
     starts.push(0)?;

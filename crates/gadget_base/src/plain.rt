@@ -1,4 +1,5 @@
-ghost use Rattle.std.specs.Prelude.{◌≡◌, ◌+◌, ◌-◌, ◌<◌, ◌≤◌, ◌^◌, ◌==◌, ℕ, if◌then◌else◌, length, slice_index, All, IfOk};
+ghost use Rattle.std.specs.Prelude.{◌≡◌, ◌+◌, ◌-◌, ◌<◌, ◌≤◌, ◌^◌, ◌==◌, ℕ, if◌then◌else◌, length};
+ghost use Rattle.std.specs.Prelude.{slice_index, All, IfOk};
 ghost use Rattle.graph_theory.specs.Graph.{IsEdgeNumber};
 ghost use Rattle.graph_theory.specs.Walk.{walk_weight};
 ghost use Rattle.mb_problem.specs.declared.kind.Kind.TheVariants.{Perfect};
@@ -19,7 +20,8 @@ fn add_one(counts: &mut [u32], e: EdgeId)
     requires high { e ≤ length counts.old }
     requires small { slice_index counts.old (e - 1) < 2 ^ 31 }
     ensures size { length counts.new ≡ length counts.old }
-    ensures each { (k : ℕ) → k < length counts.old → slice_index counts.new k ≡ slice_index counts.old k + (if e == k + 1 then 1 else 0) }
+    ensures each { (k : ℕ) → k < length counts.old → slice_index counts.new k
+        ≡ slice_index counts.old k + (if e == k + 1 then 1 else 0) }
 {
     counts[e.number() as usize - 1] += 1;
 }
@@ -51,9 +53,9 @@ pub fn count_listed(
     Ok(counts)
 }
 
-/// A perfect matching of the instance's own graph, given as the numbers of its edges, as an answer that
-/// counts each edge as often as it is listed. It takes time linear in the edges. `OutOfMemory` is its one
-/// error.
+/// A perfect matching of the instance's own graph, given as the numbers of its edges, as an answer
+/// that counts each edge as often as it is listed. It takes time linear in the edges. `OutOfMemory`
+/// is its one error.
 pub fn extract_plain(
     alloc: Global,
     instance: &Instance,
@@ -62,7 +64,8 @@ pub fn extract_plain(
     requires perfect { IsPerfectList (graph_of instance.now) edges.now }
     ensures counted { IfOk result (λ a. a ≡ Counts (times_each (graph_of instance.now) edges.now)) }
     ensures feasible { IfOk result (IsFeasible Perfect instance.now) }
-    ensures weighs { IfOk result (λ a. weight_of Perfect instance.now a ≡ walk_weight (graph_of instance.now) edges.now) }
+    ensures weighs { IfOk result (λ a. weight_of Perfect instance.now a
+        ≡ walk_weight (graph_of instance.now) edges.now) }
 {
     // The prover learns here that the instance is valid.
     let _edges = instance.edges();

@@ -1,4 +1,5 @@
-ghost use Rattle.std.specs.Prelude.{◌≡◌, ℕ, ◌+◌, ◌-◌, ◌*◌, ◌/◌, ◌<◌, ◌≤◌, ◌⊎◌, ◌^◌, ◌++◌, length, OnOk, OnErr, pos};
+ghost use Rattle.std.specs.Prelude.{◌≡◌, ℕ, ◌+◌, ◌-◌, ◌*◌, ◌/◌, ◌<◌, ◌≤◌, ◌⊎◌, ◌^◌, ◌++◌, length};
+ghost use Rattle.std.specs.Prelude.{OnOk, OnErr, pos};
 ghost use Rattle.graph_theory.specs.Graph.{IsGraph, IsWeight};
 ghost use Rattle.gadget_base.specs.Added.{AddsFirst};
 ghost use Rattle.gadget_base.specs.Blocks.{row, rectangle, clique};
@@ -6,9 +7,9 @@ ghost use Rattle.gadget_base.specs.Blocks.{row, rectangle, clique};
 use mb_base::{OutOfMemory, VertexId};
 use weighted_graph::Graph;
 
-/// Adds an edge of weight `w` from vertex `u` to each of the `count` vertices after `before`, which are
-/// the numbers from `before + 1` on. After `OutOfMemory` the
-/// first of these edges have been added, fewer than all.
+/// Adds an edge of weight `w` from vertex `u` to each of the `count` vertices after `before`, which
+/// are the numbers from `before + 1` on. After `OutOfMemory` the first of these edges have been
+/// added, fewer than all.
 pub fn add_row(
     graph: &mut Graph,
     u: u32,
@@ -22,7 +23,10 @@ pub fn add_row(
     requires apart { (u ≤ before) ⊎ (before + count < u) }
     requires room { length graph.old.edges + count < 2 ^ 32 }
     requires weight { IsWeight w }
-    ensures added { OnOk result (graph.new ≡ record graph.old { edges = graph.old.edges ++ row u before count w }) }
+    ensures added { OnOk result (graph.new ≡ record graph.old {
+      edges = graph.old.edges
+          ++ row u before count w;
+    }) }
     ensures cut_short { OnErr result (AddsFirst graph.old graph.new (row u before count w)) }
     ensures graph { IsGraph graph.new }
 {
@@ -34,9 +38,9 @@ pub fn add_row(
     Ok(())
 }
 
-/// Adds an edge of weight `w` from each of the `m` vertices after `first` to each of the `n` vertices
-/// after `second`, row by row. After `OutOfMemory` the
-/// first of these edges have been added, fewer than all.
+/// Adds an edge of weight `w` from each of the `m` vertices after `first` to each of the `n`
+/// vertices after `second`, row by row. After `OutOfMemory` the first of these edges have been
+/// added, fewer than all.
 pub fn add_rectangle(
     graph: &mut Graph,
     first: u32,
@@ -50,8 +54,12 @@ pub fn add_rectangle(
     requires apart { (first + m ≤ second) ⊎ (second + n ≤ first) }
     requires room { length graph.old.edges + m * n < 2 ^ 32 }
     requires weight { IsWeight w }
-    ensures added { OnOk result (graph.new ≡ record graph.old { edges = graph.old.edges ++ rectangle first m second n w }) }
-    ensures cut_short { OnErr result (AddsFirst graph.old graph.new (rectangle first m second n w)) }
+    ensures added { OnOk result (graph.new ≡ record graph.old {
+      edges = graph.old.edges
+          ++ rectangle first m second n w;
+    }) }
+    ensures cut_short { OnErr result
+        (AddsFirst graph.old graph.new (rectangle first m second n w)) }
     ensures graph { IsGraph graph.new }
 {
     // The prover learns here that the graph is valid.
@@ -62,13 +70,15 @@ pub fn add_rectangle(
     Ok(())
 }
 
-/// Adds an edge of weight 0 between any two of the `n` vertices after `before`, the lesser end first
-/// and slowest. After `OutOfMemory` the
-/// first of these edges have been added, fewer than all.
+/// Adds an edge of weight 0 between any two of the `n` vertices after `before`, the lesser end
+/// first and slowest. After `OutOfMemory` the first of these edges have been added, fewer than all.
 pub fn add_clique(graph: &mut Graph, before: u32, n: u32) -> Result<(), OutOfMemory>
     requires inside { before + n ≤ graph.old.vertices }
     requires room { length graph.old.edges + n * (n - 1) / 2 < 2 ^ 32 }
-    ensures added { OnOk result (graph.new ≡ record graph.old { edges = graph.old.edges ++ clique before n }) }
+    ensures added { OnOk result (graph.new ≡ record graph.old {
+      edges = graph.old.edges
+          ++ clique before n;
+    }) }
     ensures cut_short { OnErr result (AddsFirst graph.old graph.new (clique before n)) }
     ensures graph { IsGraph graph.new }
 {

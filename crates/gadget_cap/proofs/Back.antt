@@ -96,7 +96,8 @@ pub passed-at : (i : Network) (room : ℕ → ℕ) (p : Passage) (k : ℕ) → k
 passed-at i room p k b = tabled-at (entered i room p) (length i.edges) k 0 b
 
 -- the copies of vertex t + 1 that an edge takes
-edge-copies : (i : Network) (room : ℕ → ℕ) (p : Passage) (t k : ℕ) → IsNetwork i → AreOnes i room p → k < length i.edges → sum_to (λ c. cond (eqb ((instance_edge_at i k).u - 1) t) (sum_to (p.enter k c) (room k)) 0 + cond (eqb ((instance_edge_at i k).v - 1) t) (sum_to (λ l. p.leave k l c) (room k)) 0) (value i t) ≡ use_at i (passed i room p) (t + 1) k
+edge-copies : (i : Network) (room : ℕ → ℕ) (p : Passage) (t k : ℕ) → IsNetwork i → AreOnes i room p → k < length i.edges → sum_to (λ c. cond (eqb ((instance_edge_at i k).u - 1) t)
+    (sum_to (p.enter k c) (room k)) 0 + cond (eqb ((instance_edge_at i k).v - 1) t) (sum_to (λ l. p.leave k l c) (room k)) 0) (value i t) ≡ use_at i (passed i room p) (t + 1) k
 edge-copies i room p t k net ones b =
     let u = (instance_edge_at i k).u in
     let v = (instance_edge_at i k).v in
@@ -139,7 +140,8 @@ edge-copies i room p t k net ones b =
 
 passed-degree : (i : Network) (room : ℕ → ℕ) (p : Passage) (t : ℕ) → IsNetwork i → AreOnes i room p → t < vertices i → degree (graph_of i) (passed i room p) (t + 1) ≡ value i t
 passed-degree i room p t net ones b =
-    let T : ℕ → ℕ → ℕ = λ c k. cond (eqb ((instance_edge_at i k).u - 1) t) (sum_to (p.enter k c) (room k)) 0 + cond (eqb ((instance_edge_at i k).v - 1) t) (sum_to (λ l. p.leave k l c) (room k)) 0 in
+    let T : ℕ → ℕ → ℕ = λ c k. cond (eqb ((instance_edge_at i k).u - 1) t) (sum_to (p.enter k c) (room k)) 0 + cond (eqb ((instance_edge_at i k).v - 1) t) (sum_to (λ l. p.leave k l c)
+    (room k)) 0 in
     let each = sum_to-ones (λ c. sum_to (T c) (length i.edges)) (value i t)
     (λ c l.
     let under = copies-below i t c b l in
@@ -166,5 +168,6 @@ passed-answer i room p net ones = record {
 pub passed-weight : (i : Network) (room : ℕ → ℕ) (p : Passage) → weight (graph_of i) (passed i room p) ≡ weight (capped_graph i room) (all_counts i room p)
 passed-weight i room p =
     weight-used i (passed i room p)
-    ∙ int_sum_to-same (λ k. pos (slice_index (passed i room p) k) *ℤ (instance_edge_at i k).w) (λ k. pos (entered i room p k) *ℤ (instance_edge_at i k).w) (length i.edges) (λ k b. ap (λ y. pos y *ℤ (instance_edge_at i k).w) (passed-at i room p k b))
+    ∙ int_sum_to-same (λ k. pos (slice_index (passed i room p) k) *ℤ (instance_edge_at i k).w) (λ k. pos (entered i room p k) *ℤ (instance_edge_at i k).w) (length i.edges)
+    (λ k b. ap (λ y. pos y *ℤ (instance_edge_at i k).w) (passed-at i room p k b))
     ∙ sym (weight-by_entered i room p)

@@ -59,5 +59,7 @@ pub capped-weights : (i : Network) (room : ℕ → ℕ) → IsNetwork i → All 
 capped-weights i room net = All-blocks (λ e. IsWeight e.w) (gated i room) (length i.edges) (λ k b. gated-weights i room k net b)
 
 pub capped-graph : (unit : Bool) (i : Network) → IsNetwork i → IsWithinLimits (size_of (capped_kind unit) i) → IsGraph (gadget_graph (capped_kind unit) i)
-capped-graph true i net limits = graph_within_limits (size_of FFactor i) (gadget_graph FFactor i) (has_size true i) limits (capped-within i (unit_room_of i) net) (capped-weights i (unit_room_of i) net)
-capped-graph false i net limits = graph_within_limits (size_of CapMatch i) (gadget_graph CapMatch i) (has_size false i) limits (capped-within i (room_of i) net) (capped-weights i (room_of i) net)
+capped-graph true i net limits = graph_within_limits (size_of FFactor i) (gadget_graph FFactor i) (has_size true i) limits (capped-within i (unit_room_of i) net)
+    (capped-weights i (unit_room_of i) net)
+capped-graph false i net limits = graph_within_limits (size_of CapMatch i) (gadget_graph CapMatch i) (has_size false i) limits (capped-within i (room_of i) net)
+    (capped-weights i (room_of i) net)

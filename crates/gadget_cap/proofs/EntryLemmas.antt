@@ -40,7 +40,8 @@ enters-other i room k o e low high differ =
     ]
 
 -- .. nor its own first gate where it comes after those that do
-pub enters-none : (i : Network) (room : ℕ → ℕ) (k o e : ℕ) → gates_before i room k < e → e ≤ gates_before i room k + gate_size i room k → gates_before i room k + value_u i k * room k < e → enters i room o e ≡ false
+pub enters-none : (i : Network) (room : ℕ → ℕ) (k o e : ℕ) → gates_before i room k < e → e ≤ gates_before i room k + gate_size i room k → gates_before i room k + value_u i k * room k < e
+    → enters i room o e ≡ false
 enters-none i room k o e low high past =
     elim (cases_eq o k) [
       | inl h ↦ let P : ℕ → Type 0 = λ y. enters i room y e ≡ false in subst P (sym h) (not_between (gates_before i room k) (gates_before i room k + value_u i k * room k) e (λ _. past))
@@ -52,22 +53,26 @@ enters-none i room k o e low high past =
 shifted : (s n r : ℕ) → (nat_lt s (s + r + 1) && nat_le (s + r + 1) (s + n)) ≡ ltb r n
 shifted s n r = grind (arith, nat_tests)
 
-own-block : (i : Network) (room : ℕ → ℕ) (f : ℕ → ℕ) (k : ℕ) → sum_to (λ r. cond (enters i room k (gates_before i room k + r + 1)) (f (gates_before i room k + r)) 0) (gate_size i room k) ≡ entered i room (passage_of i room f) k
+own-block : (i : Network) (room : ℕ → ℕ) (f : ℕ → ℕ) (k : ℕ) → sum_to (λ r. cond (enters i room k (gates_before i room k + r + 1)) (f (gates_before i room k + r)) 0) (gate_size i room k)
+    ≡ entered i room (passage_of i room f) k
 own-block i room f k =
     let s = gates_before i room k in
     let n = value_u i k * room k in
-    sum_to-same (λ r. cond (enters i room k (s + r + 1)) (f (s + r)) 0) (λ r. cond (ltb r n) (f (s + r)) 0) (gate_size i room k) (λ r _. ap (λ (b : Bool). cond b (f (s + r)) 0) (shifted s n r))
+    sum_to-same (λ r. cond (enters i room k (s + r + 1)) (f (s + r)) 0) (λ r. cond (ltb r n) (f (s + r)) 0) (gate_size i room k) (λ r _. ap (λ (b : Bool). cond b (f (s + r)) 0)
+    (shifted s n r))
     ∙ sum_to-below (λ r. f (s + r)) n (gate_size i room k) (omega arith)
     ∙ sum_to-rows (λ r. f (s + r)) (value_u i k) (room k)
 
-other-block : (i : Network) (room : ℕ → ℕ) (f : ℕ → ℕ) (k o : ℕ) → o ≢ k → sum_to (λ r. cond (enters i room k (gates_before i room o + r + 1)) (f (gates_before i room o + r)) 0) (gate_size i room o) ≡ 0
+other-block : (i : Network) (room : ℕ → ℕ) (f : ℕ → ℕ) (k o : ℕ) → o ≢ k → sum_to (λ r. cond (enters i room k (gates_before i room o + r + 1)) (f (gates_before i room o + r)) 0)
+    (gate_size i room o) ≡ 0
 other-block i room f k o d =
     sum_to-none (λ r. cond (enters i room k (gates_before i room o + r + 1)) (f (gates_before i room o + r)) 0) (gate_size i room o)
     (λ r b.
     let off = enters-other i room o k (gates_before i room o + r + 1) (omega arith) (omega arith) (λ h. d (sym h)) in
     ap (λ (t : Bool). cond t (f (gates_before i room o + r)) 0) off)
 
-pub entries-count : (i : Network) (room : ℕ → ℕ) (es : List ℕ) (k : ℕ) → All (λ e. (1 ≤ e) × (e ≤ gates_before i room (length i.edges))) es → k < length i.edges → count_by (enters i room k) es ≡ entered i room (passage_of i room (λ y. times es (y + 1))) k
+pub entries-count : (i : Network) (room : ℕ → ℕ) (es : List ℕ) (k : ℕ) → All (λ e. (1 ≤ e) × (e ≤ gates_before i room (length i.edges))) es → k < length i.edges
+    → count_by (enters i room k) es ≡ entered i room (passage_of i room (λ y. times es (y + 1))) k
 entries-count i room es k all b =
     let f : ℕ → ℕ = λ y. times es (y + 1) in
     let blocks : ℕ → ℕ = λ o. sum_to (λ r. cond (enters i room k (gates_before i room o + r + 1)) (f (gates_before i room o + r)) 0) (gate_size i room o) in

@@ -1,5 +1,6 @@
 -- The answer that a perfect matching stands for, from the counts of the listed edges that enter each first gate.
-use Rattle.std.proofs.Common.{◌≡◌, ℕ, ◌+◌, ◌-◌, ◌<◌, ◌≤◌, min, Bool, true, false, cond, ap, refl, sym, ◌∙◌, subst, arith, List, length, take, get_or, slice_index, slice_index_or, All, Option, None, Some, count_by}
+use Rattle.std.proofs.Common.{◌≡◌, ℕ, ◌+◌, ◌-◌, ◌<◌, ◌≤◌, min, Bool, true, false, cond, ap, refl, sym, ◌∙◌, subst, arith, List, length, take, get_or, slice_index, slice_index_or, All}
+use Rattle.std.proofs.Common.{Option, None, Some, count_by}
 use Rattle.std.proofs.lemmas.List.{ext_get_or}
 use Rattle.std.proofs.lemmas.List.Sums.{sum_by-take-le, count_by_more_yes}
 use Rattle.graph_theory.specs.Graph.{weight, IsPerfect}
@@ -31,7 +32,8 @@ listed-all i room es = passage-all i room (λ y. times es (y + 1))
 
 pub listed-ones : (i : Network) (room : ℕ → ℕ) (es : List ℕ) → IsNetwork i → IsPerfectList (capped_graph i room) es → AreOnes i room (listed i room es)
 listed-ones i room es net perfect =
-    let counts : IsPerfect (capped_graph i room) (all_counts i room (listed i room es)) = subst (IsPerfect (capped_graph i room)) (listed-all i room es) (perfect_from_list (capped_graph i room) es (capped-within i room net) perfect) in
+    let counts : IsPerfect (capped_graph i room) (all_counts i room (listed i room es)) = subst (IsPerfect (capped_graph i room)) (listed-all i room es)
+    (perfect_from_list (capped_graph i room) es (capped-within i room net) perfect) in
     counts.degrees
 
 pub listed-numbers : (i : Network) (room : ℕ → ℕ) (es : List ℕ) → IsPerfectList (capped_graph i room) es → All (λ e. (1 ≤ e) × (e ≤ gates_before i room (length i.edges))) es
@@ -50,7 +52,8 @@ entries-few i room es k net perfect b =
     omega (arith, count, gate)
 
 -- .. also where one more is seen
-pub entries-more : (i : Network) (room : ℕ → ℕ) (es : List ℕ) (k p d : ℕ) → IsNetwork i → IsPerfectList (capped_graph i room) es → k < length i.edges → p < length es → enters i room k (get_or es p d) ≡ true → count_by (enters i room k) (take p es) + 1 ≤ room k
+pub entries-more : (i : Network) (room : ℕ → ℕ) (es : List ℕ) (k p d : ℕ) → IsNetwork i → IsPerfectList (capped_graph i room) es → k < length i.edges → p < length es
+    → enters i room k (get_or es p d) ≡ true → count_by (enters i room k) (take p es) + 1 ≤ room k
 entries-more i room es k p d net perfect b l on =
     let few = entries-few i room es k net perfect b in
     let more = count_by_more_yes (enters i room k) es p d l on in
@@ -78,7 +81,8 @@ room-small unit i k net b =
 
 -- the answer
 
-same-counts : (i : Network) (room : ℕ → ℕ) (es counts : List ℕ) → IsPerfectList (capped_graph i room) es → length counts ≡ length i.edges → ((k : ℕ) → k < length i.edges → slice_index counts k ≡ count_by (enters i room k) es) → passed i room (listed i room es) ≡ counts
+same-counts : (i : Network) (room : ℕ → ℕ) (es counts : List ℕ) → IsPerfectList (capped_graph i room) es → length counts ≡ length i.edges → ((k : ℕ) → k < length i.edges
+    → slice_index counts k ≡ count_by (enters i room k) es) → passed i room (listed i room es) ≡ counts
 same-counts i room es counts perfect size each =
     let many = tabled-length (entered i room (listed i room es)) (length i.edges) in
     ext_get_or 0 (passed i room (listed i room es)) counts (many ∙ sym size)
@@ -86,13 +90,16 @@ same-counts i room es counts perfect size each =
     let below : k < length i.edges = omega (arith, many, b) in
     passed-at i room (listed i room es) k below ∙ sym (entries-count i room es k (listed-numbers i room es perfect) below) ∙ sym (each k below))
 
-pub extracted-feasible : (unit : Bool) (i : Network) (es counts : List ℕ) → IsNetwork i → IsPerfectList (capped_graph i (capped_room unit i)) es → length counts ≡ length i.edges → ((k : ℕ) → k < length i.edges → slice_index counts k ≡ count_by (enters i (capped_room unit i) k) es) → IsFeasible (capped_kind unit) i (Counts counts)
+pub extracted-feasible : (unit : Bool) (i : Network) (es counts : List ℕ) → IsNetwork i → IsPerfectList (capped_graph i (capped_room unit i)) es → length counts ≡ length i.edges
+    → ((k : ℕ) → k < length i.edges → slice_index counts k ≡ count_by (enters i (capped_room unit i) k) es) → IsFeasible (capped_kind unit) i (Counts counts)
 extracted-feasible unit i es counts net perfect size each =
     let room = capped_room unit i in
     subst (λ xs. IsFeasible (capped_kind unit) i (Counts xs)) (same-counts i room es counts perfect size each)
     (feasible_within unit i (passed i room (listed i room es)) (passed-answer i room (listed i room es) net (listed-ones i room es net perfect)))
 
-pub extracted-weight : (unit : Bool) (i : Network) (es counts : List ℕ) → IsPerfectList (capped_graph i (capped_room unit i)) es → length counts ≡ length i.edges → ((k : ℕ) → k < length i.edges → slice_index counts k ≡ count_by (enters i (capped_room unit i) k) es) → weight (graph_of i) counts ≡ walk_weight (capped_graph i (capped_room unit i)) es
+pub extracted-weight : (unit : Bool) (i : Network) (es counts : List ℕ) → IsPerfectList (capped_graph i (capped_room unit i)) es → length counts ≡ length i.edges
+    → ((k : ℕ) → k < length i.edges → slice_index counts k ≡ count_by (enters i (capped_room unit i) k) es) → weight (graph_of i) counts
+    ≡ walk_weight (capped_graph i (capped_room unit i)) es
 extracted-weight unit i es counts perfect size each =
     let room = capped_room unit i in
     ap (weight (graph_of i)) (sym (same-counts i room es counts perfect size each))

@@ -53,7 +53,15 @@ gate_counts-length i room p k =
     let one = table (p.enter k) (value_u i k) (room k) in
     let two = table (p.cross k) (room k) (room k) in
     let three = table (p.leave k) (room k) (value_v i k) in
-    omega (arith, length-append one (two ++ three), length-append two three, table-length (p.enter k) (value_u i k) (room k), table-length (p.cross k) (room k) (room k), table-length (p.leave k) (room k) (value_v i k))
+    omega (
+      arith,
+      length-append one (two ++ three),
+      length-append two three,
+      table-length (p.enter k) (value_u i k) (room k),
+      table-length (p.cross k) (room k) (room k),
+      table-length
+          (p.leave k) (room k) (value_v i k),
+    )
 
 pub gate-one_each : (i : Network) (room : ℕ → ℕ) (p : Passage) (k : ℕ) → length (gated i room k) ≡ length (gate_counts i room p k)
 gate-one_each i room p k = gated-length i room k ∙ sym (gate_counts-length i room p k)
@@ -83,9 +91,19 @@ gate-terms i room p q k =
     let one = rectangle us m before r w in
     let two = rectangle before r (before + r) r (pos 0) in
     let three = rectangle (before + r) r vs n (pos 0) in
-    let split = over-append (at_vertex (q + 1)) one (two ++ three) (table (p.enter k) m r) (table (p.cross k) r r ++ table (p.leave k) r n) (rectangle-length us m before r w ∙ sym (table-length (p.enter k) m r)) in
-    let rest = over-append (at_vertex (q + 1)) two three (table (p.cross k) r r) (table (p.leave k) r n) (rectangle-length before r (before + r) r (pos 0) ∙ sym (table-length (p.cross k) r r)) in
-    omega (arith, split, rest, rectangle-picks us m before r w (p.enter k) q, rectangle-picks before r (before + r) r (pos 0) (p.cross k) q, rectangle-picks (before + r) r vs n (pos 0) (p.leave k) q)
+    let split = over-append (at_vertex (q + 1)) one (two ++ three) (table (p.enter k) m r) (table (p.cross k) r r ++ table (p.leave k) r n) (rectangle-length us m before r w
+    ∙ sym (table-length (p.enter k) m r)) in
+    let rest = over-append (at_vertex (q + 1)) two three (table (p.cross k) r r) (table (p.leave k) r n) (rectangle-length before r (before + r) r (pos 0)
+    ∙ sym (table-length (p.cross k) r r)) in
+    omega (
+      arith,
+      split,
+      rest,
+      rectangle-picks us m before r w (p.enter k) q,
+      rectangle-picks before r (before + r) r (pos 0) (p.cross k) q,
+      rectangle-picks (before + r) r vs n (pos 0)
+          (p.leave k) q,
+    )
 
 degree-by_edges : (i : Network) (room : ℕ → ℕ) (p : Passage) (q : ℕ) → degree (capped_graph i room) (all_counts i room p) (q + 1) ≡ sum_to (gate_terms i room p q) (length i.edges)
 degree-by_edges i room p q =
@@ -106,10 +124,13 @@ copies-below i t c b l =
     omega arith
 
 -- the degree of copy c of vertex t + 1
-pub degree-copy : (i : Network) (room : ℕ → ℕ) (p : Passage) (t c : ℕ) → t < vertices i → c < value i t → degree (capped_graph i room) (all_counts i room p) (below i t + c + 1) ≡ sum_to (λ k. cond (eqb ((instance_edge_at i k).u - 1) t) (sum_to (p.enter k c) (room k)) 0 + cond (eqb ((instance_edge_at i k).v - 1) t) (sum_to (λ l. p.leave k l c) (room k)) 0) (length i.edges)
+pub degree-copy : (i : Network) (room : ℕ → ℕ) (p : Passage) (t c : ℕ) → t < vertices i → c < value i t → degree (capped_graph i room) (all_counts i room p) (below i t + c + 1)
+    ≡ sum_to (λ k. cond (eqb ((instance_edge_at i k).u - 1) t) (sum_to (p.enter k c) (room k)) 0 + cond (eqb ((instance_edge_at i k).v - 1) t) (sum_to (λ l. p.leave k l c) (room k)) 0)
+    (length i.edges)
 degree-copy i room p t c b l =
     degree-by_edges i room p (below i t + c)
-    ∙ sum_to-same (gate_terms i room p (below i t + c)) (λ k. cond (eqb ((instance_edge_at i k).u - 1) t) (sum_to (p.enter k c) (room k)) 0 + cond (eqb ((instance_edge_at i k).v - 1) t) (sum_to (λ l. p.leave k l c) (room k)) 0) (length i.edges)
+    ∙ sum_to-same (gate_terms i room p (below i t + c)) (λ k. cond (eqb ((instance_edge_at i k).u - 1) t) (sum_to (p.enter k c) (room k)) 0 + cond (eqb ((instance_edge_at i k).v - 1) t)
+    (sum_to (λ l. p.leave k l c) (room k)) 0) (length i.edges)
     (λ k _.
     let q = below i t + c in
     let r = room k in
@@ -163,7 +184,8 @@ other_gates i room p k x o net b l d =
     omega (arith, first, second, third, fourth, fifth, sixth)
 
 -- the degree of vertex j of the first gate of edge number k + 1
-pub degree-first : (i : Network) (room : ℕ → ℕ) (p : Passage) (k j : ℕ) → IsNetwork i → k < length i.edges → j < room k → degree (capped_graph i room) (all_counts i room p) (before_gates i room k + j + 1) ≡ sum_to (λ a. p.enter k a j) (value_u i k) + sum_to (p.cross k j) (room k)
+pub degree-first : (i : Network) (room : ℕ → ℕ) (p : Passage) (k j : ℕ) → IsNetwork i → k < length i.edges → j < room k → degree (capped_graph i room) (all_counts i room p)
+    (before_gates i room k + j + 1) ≡ sum_to (λ a. p.enter k a j) (value_u i k) + sum_to (p.cross k j) (room k)
 degree-first i room p k j net l b =
     let r = room k in
     let before = before_gates i room k in
@@ -179,7 +201,8 @@ degree-first i room p k j net l b =
     omega (arith, whole, single, first, second, third, fourth, fifth, sixth)
 
 -- the degree of vertex l of the second gate of edge number k + 1
-pub degree-second : (i : Network) (room : ℕ → ℕ) (p : Passage) (k y : ℕ) → IsNetwork i → k < length i.edges → y < room k → degree (capped_graph i room) (all_counts i room p) (before_gates i room k + room k + y + 1) ≡ sum_to (λ j. p.cross k j y) (room k) + sum_to (p.leave k y) (value_v i k)
+pub degree-second : (i : Network) (room : ℕ → ℕ) (p : Passage) (k y : ℕ) → IsNetwork i → k < length i.edges → y < room k → degree (capped_graph i room) (all_counts i room p)
+    (before_gates i room k + room k + y + 1) ≡ sum_to (λ j. p.cross k j y) (room k) + sum_to (p.leave k y) (value_v i k)
 degree-second i room p k y net l b =
     let r = room k in
     let before = before_gates i room k in
@@ -212,11 +235,23 @@ gate-weight i room p k =
     let one = rectangle us m before r w in
     let two = rectangle before r (before + r) r (pos 0) in
     let three = rectangle (before + r) r vs n (pos 0) in
-    let split = int_over-append weighing one (two ++ three) (table (p.enter k) m r) (table (p.cross k) r r ++ table (p.leave k) r n) (rectangle-length us m before r w ∙ sym (table-length (p.enter k) m r)) in
+    let split = int_over-append weighing one (two ++ three) (table (p.enter k) m r) (table (p.cross k) r r ++ table (p.leave k) r n) (rectangle-length us m before r w
+    ∙ sym (table-length (p.enter k) m r)) in
     let rest = int_over-append weighing two three (table (p.cross k) r r) (table (p.leave k) r n) (rectangle-length before r (before + r) r (pos 0) ∙ sym (table-length (p.cross k) r r)) in
-    omega (arith, ints, split, rest, rectangle-weight (p.enter k) us m before r w, rectangle-weight (p.cross k) before r (before + r) r (pos 0), rectangle-weight (p.leave k) (before + r) r vs n (pos 0))
+    omega (
+      arith,
+      ints,
+      split,
+      rest,
+      rectangle-weight (p.enter k) us m before r w,
+      rectangle-weight (p.cross k) before r (before + r) r (pos 0),
+      rectangle-weight (p.leave k)
+          (before + r) r vs n (pos 0),
+    )
 
-pub weight-by_entered : (i : Network) (room : ℕ → ℕ) (p : Passage) → weight (capped_graph i room) (all_counts i room p) ≡ int_sum_to (λ k. pos (entered i room p k) *ℤ (instance_edge_at i k).w) (length i.edges)
+pub weight-by_entered : (i : Network) (room : ℕ → ℕ) (p : Passage) → weight (capped_graph i room) (all_counts i room p)
+    ≡ int_sum_to (λ k. pos (entered i room p k) *ℤ (instance_edge_at i k).w) (length i.edges)
 weight-by_entered i room p =
     int_over-blocks weighing (gated i room) (gate_counts i room p) (length i.edges) (λ k _. gate-one_each i room p k)
-    ∙ int_sum_to-same (λ k. int_over weighing (gated i room k) (gate_counts i room p k)) (λ k. pos (entered i room p k) *ℤ (instance_edge_at i k).w) (length i.edges) (λ k _. gate-weight i room p k)
+    ∙ int_sum_to-same (λ k. int_over weighing (gated i room k) (gate_counts i room p k)) (λ k. pos (entered i room p k) *ℤ (instance_edge_at i k).w) (length i.edges)
+    (λ k _. gate-weight i room p k)

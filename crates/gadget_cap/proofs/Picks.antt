@@ -56,7 +56,8 @@ times_two_tests false true c = omega arith
 times_two_tests false false c = omega arith
 
 -- the degree in a rectangle: the sum of row a at the place `first + a`, and that of column j at the place `second + j`
-pub rectangle-picks : (first m second n : ℕ) (w : ℤ) (f : ℕ → ℕ → ℕ) (q : ℕ) → over (at_vertex (q + 1)) (rectangle first m second n w) (table f m n) ≡ pick first m (λ a. sum_to (f a) n) q + pick second n (λ j. sum_to (λ a. f a j) m) q
+pub rectangle-picks : (first m second n : ℕ) (w : ℤ) (f : ℕ → ℕ → ℕ) (q : ℕ) → over (at_vertex (q + 1)) (rectangle first m second n w) (table f m n)
+    ≡ pick first m (λ a. sum_to (f a) n) q + pick second n (λ j. sum_to (λ a. f a j) m) q
 rectangle-picks first m second n w f q =
     let at_u : ℕ → ℕ → ℕ = λ a j. cond (eqb (first + a) q) (f a j) 0 in
     let at_v : ℕ → ℕ → ℕ = λ a j. cond (eqb (second + j) q) (f a j) 0 in
@@ -71,5 +72,6 @@ rectangle-picks first m second n w f q =
     ∙ sum_to-add (at_u a) (at_v a) n) in
     let parts = sum_to-add (λ a. sum_to (at_u a) n) (λ a. sum_to (at_v a) n) m in
     let ones = sum_to-same (λ a. sum_to (at_u a) n) (λ a. cond (eqb (first + a) q) (sum_to (f a) n) 0) m (λ a _. sum_to-cond (eqb (first + a) q) (f a) n) in
-    let others = sum_to-swap at_v m n ∙ sum_to-same (λ j. sum_to (λ a. at_v a j) m) (λ j. cond (eqb (second + j) q) (sum_to (λ a. f a j) m) 0) n (λ j _. sum_to-cond (eqb (second + j) q) (λ a. f a j) m) in
+    let others = sum_to-swap at_v m n ∙ sum_to-same (λ j. sum_to (λ a. at_v a j) m) (λ j. cond (eqb (second + j) q) (sum_to (λ a. f a j) m) 0) n (λ j _. sum_to-cond (eqb (second + j) q)
+    (λ a. f a j) m) in
     omega (arith, whole, rows, parts, ones, others)

@@ -29,7 +29,8 @@ in_turn : (r u v : ℕ) → u * r + (r * r + r * v) ≡ r * (u + r + v)
 in_turn r u v = grind arith
 
 edges-are : (i : Network) (room : ℕ → ℕ) → length (capped_graph i room).edges ≡ (capped_size i room).edges
-edges-are i room = all-edges i room ∙ sum_to-same (gate_size i room) (λ k. room k * (value_u i k + room k + value_v i k)) (length i.edges) (λ k _. in_turn (room k) (value_u i k) (value_v i k))
+edges-are i room = all-edges i room ∙ sum_to-same (gate_size i room) (λ k. room k * (value_u i k + room k + value_v i k)) (length i.edges)
+    (λ k _. in_turn (room k) (value_u i k) (value_v i k))
 
 pub has_size : (unit : Bool) (i : Network) → HasSize (size_of (capped_kind unit) i) (gadget_graph (capped_kind unit) i)
 has_size true i = record { vertices = refl; edges = edges-are i (capped_room true i) }

@@ -61,7 +61,9 @@ cond_cond false true s f h none = omega arith
 cond_cond false false s f h none = sym none
 
 -- the copies of vertex t + 1 that an edge takes are the next ones of it
-copy-term : (i : Network) (room : ℕ → ℕ) (counts : List ℕ) (t c k : ℕ) → IsNetwork i → IsWithinRooms i room counts → k < length i.edges → cond (eqb ((instance_edge_at i k).u - 1) t) (sum_to ((through i room counts).enter k c) (room k)) 0 + cond (eqb ((instance_edge_at i k).v - 1) t) (sum_to (λ l. (through i room counts).leave k l c) (room k)) 0 ≡ taken (used i counts (t + 1) k) (use_at i counts (t + 1) k) c
+copy-term : (i : Network) (room : ℕ → ℕ) (counts : List ℕ) (t c k : ℕ) → IsNetwork i → IsWithinRooms i room counts → k < length i.edges → cond (eqb ((instance_edge_at i k).u - 1) t)
+    (sum_to ((through i room counts).enter k c) (room k)) 0 + cond (eqb ((instance_edge_at i k).v - 1) t) (sum_to (λ l. (through i room counts).leave k l c) (room k)) 0
+    ≡ taken (used i counts (t + 1) k) (use_at i counts (t + 1) k) c
 copy-term i room counts t c k net answer b =
     let u = (instance_edge_at i k).u in
     let v = (instance_edge_at i k).v in
@@ -83,7 +85,8 @@ copy-term i room counts t c k net answer b =
           let on : eqb (u - 1) t ≡ true = eq-eqb (u - 1) t e in
           let off : eqb (v - 1) t ≡ false = ne_eqb (v - 1) t (λ h. differ (omega arith)) in
           let all : use_at i counts (t + 1) k ≡ x = here ∙ rw on refl in
-          let same : taken (used i counts u k) x c ≡ taken (used i counts (t + 1) k) (use_at i counts (t + 1) k) c = ap (λ s. taken (used i counts s k) x c) at ∙ ap (λ y. taken (used i counts (t + 1) k) y c) (sym all) in
+          let same : taken (used i counts u k) x c ≡ taken (used i counts (t + 1) k) (use_at i counts (t + 1) k) c = ap (λ s. taken (used i counts s k) x c) at
+          ∙ ap (λ y. taken (used i counts (t + 1) k) y c) (sym all) in
           rw (on, off) (omega (arith, same))
       | inr d ↦
           let off : eqb (u - 1) t ≡ false = ne_eqb (u - 1) t d in
@@ -92,7 +95,8 @@ copy-term i room counts t c k net answer b =
                 let at : v ≡ t + 1 = omega arith in
                 let on : eqb (v - 1) t ≡ true = eq-eqb (v - 1) t e in
                 let all : use_at i counts (t + 1) k ≡ x = here ∙ rw (off, on) refl in
-                let same : taken (used i counts v k) x c ≡ taken (used i counts (t + 1) k) (use_at i counts (t + 1) k) c = ap (λ s. taken (used i counts s k) x c) at ∙ ap (λ y. taken (used i counts (t + 1) k) y c) (sym all) in
+                let same : taken (used i counts v k) x c ≡ taken (used i counts (t + 1) k) (use_at i counts (t + 1) k) c = ap (λ s. taken (used i counts s k) x c) at
+                ∙ ap (λ y. taken (used i counts (t + 1) k) y c) (sym all) in
                 rw (off, on) (omega (arith, same))
             | inr d' ↦
                 let off' : eqb (v - 1) t ≡ false = ne_eqb (v - 1) t d' in
@@ -102,17 +106,20 @@ copy-term i room counts t c k net answer b =
           ]
     ]
 
-through-copy : (i : Network) (room : ℕ → ℕ) (counts : List ℕ) (t c : ℕ) → IsNetwork i → IsWithinRooms i room counts → t < vertices i → c < value i t → degree (capped_graph i room) (all_counts i room (through i room counts)) (below i t + c + 1) ≡ 1
+through-copy : (i : Network) (room : ℕ → ℕ) (counts : List ℕ) (t c : ℕ) → IsNetwork i → IsWithinRooms i room counts → t < vertices i → c < value i t
+    → degree (capped_graph i room) (all_counts i room (through i room counts)) (below i t + c + 1) ≡ 1
 through-copy i room counts t c net answer b l =
     let p = through i room counts in
     let degree : degree (graph_of i) counts (t + 1) ≡ value i (t + 1 - 1) = answer.matching.degrees (t + 1) (omega arith) (omega arith) in
     let back : value i (t + 1 - 1) ≡ value i t = ap (value i) (let e : t + 1 - 1 ≡ t = omega arith in e) in
     let all = degree-used i counts (t + 1) in
     degree-copy i room p t c b l
-    ∙ sum_to-same (λ k. cond (eqb ((instance_edge_at i k).u - 1) t) (sum_to (p.enter k c) (room k)) 0 + cond (eqb ((instance_edge_at i k).v - 1) t) (sum_to (λ l. p.leave k l c) (room k)) 0) (λ k. taken (used i counts (t + 1) k) (use_at i counts (t + 1) k) c) (length i.edges) (λ k h. copy-term i room counts t c k net answer h)
+    ∙ sum_to-same (λ k. cond (eqb ((instance_edge_at i k).u - 1) t) (sum_to (p.enter k c) (room k)) 0 + cond (eqb ((instance_edge_at i k).v - 1) t) (sum_to (λ l. p.leave k l c) (room k)) 0)
+    (λ k. taken (used i counts (t + 1) k) (use_at i counts (t + 1) k) c) (length i.edges) (λ k h. copy-term i room counts t c k net answer h)
     ∙ taken-each (use_at i counts (t + 1)) (length i.edges) c (omega (arith, all, degree, back, l))
 
-through-first : (i : Network) (room : ℕ → ℕ) (counts : List ℕ) (k j : ℕ) → IsNetwork i → IsWithinRooms i room counts → k < length i.edges → j < room k → degree (capped_graph i room) (all_counts i room (through i room counts)) (before_gates i room k + j + 1) ≡ 1
+through-first : (i : Network) (room : ℕ → ℕ) (counts : List ℕ) (k j : ℕ) → IsNetwork i → IsWithinRooms i room counts → k < length i.edges → j < room k
+    → degree (capped_graph i room) (all_counts i room (through i room counts)) (before_gates i room k + j + 1) ≡ 1
 through-first i room counts k j net answer b l =
     let x = slice_index counts k in
     let r = room k in
@@ -124,7 +131,8 @@ through-first i room counts k j net answer b l =
     let both = taken-two x (r - x) j (omega arith) in
     omega (arith, split, one, two, both)
 
-through-second : (i : Network) (room : ℕ → ℕ) (counts : List ℕ) (k j : ℕ) → IsNetwork i → IsWithinRooms i room counts → k < length i.edges → j < room k → degree (capped_graph i room) (all_counts i room (through i room counts)) (before_gates i room k + room k + j + 1) ≡ 1
+through-second : (i : Network) (room : ℕ → ℕ) (counts : List ℕ) (k j : ℕ) → IsNetwork i → IsWithinRooms i room counts → k < length i.edges → j < room k
+    → degree (capped_graph i room) (all_counts i room (through i room counts)) (before_gates i room k + room k + j + 1) ≡ 1
 through-second i room counts k j net answer b l =
     let x = slice_index counts k in
     let r = room k in
@@ -136,13 +144,16 @@ through-second i room counts k j net answer b l =
     let both = taken-two x (r - x) j (omega arith) in
     omega (arith, split, one, two, both)
 
-through-copy_place : (i : Network) (room : ℕ → ℕ) (counts : List ℕ) (v : ℕ) → IsNetwork i → IsWithinRooms i room counts → 1 ≤ v → IsIn (value i) (vertices i) (v - 1) → degree (capped_graph i room) (all_counts i room (through i room counts)) v ≡ 1
+through-copy_place : (i : Network) (room : ℕ → ℕ) (counts : List ℕ) (v : ℕ) → IsNetwork i → IsWithinRooms i room counts → 1 ≤ v → IsIn (value i) (vertices i) (v - 1)
+    → degree (capped_graph i room) (all_counts i room (through i room counts)) v ≡ 1
 through-copy_place i room counts v net answer low found =
     let is : below i found.block + found.place ≡ v - 1 = found.is in
     let at : below i found.block + found.place + 1 ≡ v = omega arith in
-    subst (λ y. degree (capped_graph i room) (all_counts i room (through i room counts)) y ≡ 1) at (through-copy i room counts found.block found.place net answer found.block_low found.place_low)
+    subst (λ y. degree (capped_graph i room) (all_counts i room (through i room counts)) y ≡ 1) at (through-copy i room counts found.block found.place net answer found.block_low
+    found.place_low)
 
-through-gate_place : (i : Network) (room : ℕ → ℕ) (counts : List ℕ) (v : ℕ) → IsNetwork i → IsWithinRooms i room counts → 1 ≤ v → value_total i ≤ v - 1 → IsIn (λ k. 2 * room k) (length i.edges) (v - 1 - value_total i) → degree (capped_graph i room) (all_counts i room (through i room counts)) v ≡ 1
+through-gate_place : (i : Network) (room : ℕ → ℕ) (counts : List ℕ) (v : ℕ) → IsNetwork i → IsWithinRooms i room counts → 1 ≤ v → value_total i ≤ v - 1
+    → IsIn (λ k. 2 * room k) (length i.edges) (v - 1 - value_total i) → degree (capped_graph i room) (all_counts i room (through i room counts)) v ≡ 1
 through-gate_place i room counts v net answer low gate found =
     let P : ℕ → Type 0 = λ y. degree (capped_graph i room) (all_counts i room (through i room counts)) y ≡ 1 in
     let k = found.block in
@@ -158,7 +169,8 @@ through-gate_place i room counts v net answer low gate found =
           subst P at (through-second i room counts k (found.place - room k) net answer found.block_low (omega arith))
     ]
 
-through-degrees : (i : Network) (room : ℕ → ℕ) (counts : List ℕ) (v : ℕ) → IsNetwork i → IsWithinRooms i room counts → 1 ≤ v → v ≤ before_gates i room (length i.edges) → degree (capped_graph i room) (all_counts i room (through i room counts)) v ≡ 1
+through-degrees : (i : Network) (room : ℕ → ℕ) (counts : List ℕ) (v : ℕ) → IsNetwork i → IsWithinRooms i room counts → 1 ≤ v → v ≤ before_gates i room (length i.edges)
+    → degree (capped_graph i room) (all_counts i room (through i room counts)) v ≡ 1
 through-degrees i room counts v net answer low high =
     elim (cases_lt (v - 1) (value_total i)) [
       | inl copy ↦ through-copy_place i room counts v net answer low (find_block (value i) (vertices i) (v - 1) copy)
@@ -174,11 +186,13 @@ through-perfect i room counts net answer = record {
   degrees = λ v low high. through-degrees i room counts v net answer low high;
 }
 
-pub through-weight : (i : Network) (room : ℕ → ℕ) (counts : List ℕ) → IsNetwork i → IsWithinRooms i room counts → weight (capped_graph i room) (all_counts i room (through i room counts)) ≡ weight (graph_of i) counts
+pub through-weight : (i : Network) (room : ℕ → ℕ) (counts : List ℕ) → IsNetwork i → IsWithinRooms i room counts → weight (capped_graph i room) (all_counts i room (through i room counts))
+    ≡ weight (graph_of i) counts
 through-weight i room counts net answer =
     weight-by_entered i room (through i room counts)
     ∙ int_sum_to-same (λ k. pos (entered i room (through i room counts) k) *ℤ (instance_edge_at i k).w) (λ k. pos (slice_index counts k) *ℤ (instance_edge_at i k).w) (length i.edges)
     (λ k b.
     let small : slice_index counts k ≤ room k = answer.rooms k b in
-    ap (λ y. pos y *ℤ (instance_edge_at i k).w) (units-total (used i counts (instance_edge_at i k).u k) 0 (slice_index counts k) (value_u i k) (room k) (used-within_u i counts k net answer.matching b) (omega arith)))
+    ap (λ y. pos y *ℤ (instance_edge_at i k).w) (units-total (used i counts (instance_edge_at i k).u k) 0 (slice_index counts k) (value_u i k) (room k)
+    (used-within_u i counts k net answer.matching b) (omega arith)))
     ∙ sym (weight-used i counts)

@@ -16,7 +16,8 @@ share-cond false true c h = omega arith
 share-cond false false c h = omega arith
 
 -- an edge adds its count at each of its ends
-pub use-at : (i : Network) (counts : List ℕ) (t k : ℕ) → IsNetwork i → k < length i.edges → use_at i counts (t + 1) k ≡ cond (eqb ((instance_edge_at i k).u - 1) t) (slice_index counts k) (cond (eqb ((instance_edge_at i k).v - 1) t) (slice_index counts k) 0)
+pub use-at : (i : Network) (counts : List ℕ) (t k : ℕ) → IsNetwork i → k < length i.edges → use_at i counts (t + 1) k ≡ cond (eqb ((instance_edge_at i k).u - 1) t) (slice_index counts k)
+    (cond (eqb ((instance_edge_at i k).v - 1) t) (slice_index counts k) 0)
 use-at i counts t k net b =
     let u = (instance_edge_at i k).u in
     let v = (instance_edge_at i k).v in

@@ -1,5 +1,6 @@
 -- Where the edges stand that stand for an edge of the instance.
-use Rattle.std.specs.Prelude.{◌≡◌, ℕ, ◌+◌, ◌*◌, ◌<◌, nat_lt, nat_le, pos, Bool, true, false, ◌&&◌, List, ◌++◌, length, slice_index, count_by, Option, None, Some}
+use Rattle.std.specs.Prelude.{◌≡◌, ℕ, ◌+◌, ◌*◌, ◌<◌, nat_lt, nat_le, pos, Bool, true, false, ◌&&◌}
+use Rattle.std.specs.Prelude.{List, ◌++◌, length, slice_index, count_by, Option, None, Some}
 use Rattle.graph_theory.specs.declared.edge.Edge.{Edge}
 use Rattle.graph_theory.specs.Sums.{sum_to}
 use Rattle.mb_problem.specs.declared.answer.Answer.{Answer}
@@ -25,16 +26,20 @@ gate_size i room k = value_u i k * room k + (room k * room k + room k * value_v 
 abbrev pub gates_before : Network → (ℕ → ℕ) → ℕ → ℕ
 gates_before i room k = sum_to (gate_size i room) k
 
--- edge number e of the graph leads from a copy of the first end of edge number k + 1 to its first gate
+-- edge number e of the graph leads from a copy of the first end of edge number k + 1 to its first
+-- gate
 abbrev pub enters : Network → (ℕ → ℕ) → ℕ → ℕ → Bool
-enters i room k e = nat_lt (gates_before i room k) e && nat_le e (gates_before i room k + value_u i k * room k)
+enters i room k e = nat_lt (gates_before i room k) e
+    && nat_le e (gates_before i room k + value_u i k * room k)
 
 -- the edge, by its place, whose first gate edge number e of the graph leads to, if there is one
 abbrev pub IsEntry : Network → (ℕ → ℕ) → ℕ → Option ℕ → Type 0
 IsEntry i room e (Some k) = (k < length i.edges) × (enters i room k e ≡ true)
 IsEntry i room e None = (k : ℕ) → k < length i.edges → enters i room k e ≡ false
 
--- each edge is counted as often as a listed edge of the graph leads from a copy of its first end to its first gate
+-- each edge is counted as often as a listed edge of the graph leads from a copy of its first end to
+-- its first gate
 abbrev pub CountsEntries : Network → (ℕ → ℕ) → List ℕ → Answer → Type 0
-CountsEntries i room es (Counts counts) = (k : ℕ) → k < length i.edges → slice_index counts k ≡ count_by (enters i room k) es
+CountsEntries i room es (Counts counts) = (k : ℕ) → k < length i.edges → slice_index counts k
+    ≡ count_by (enters i room k) es
 CountsEntries i room es answer = ⊥

@@ -18,8 +18,11 @@ use std::alloc::Global;
 /// How many edges of the graph lead to the first gate of an edge, and how many stand for it in all.
 fn gate_sizes(instance: &Instance, unit: bool, edge: &InstanceEdge) -> (u32, u32)
     requires { IsEdgeWithin (vertices instance.now) (plain edge.now) }
-    ensures entries { result.0 ≡ value_of instance.now edge.now.u * room_at unit instance.now edge.now }
-    ensures all { result.1 ≡ value_of instance.now edge.now.u * room_at unit instance.now edge.now + (room_at unit instance.now edge.now * room_at unit instance.now edge.now + room_at unit instance.now edge.now * value_of instance.now edge.now.v) }
+    ensures entries { result.0
+        ≡ value_of instance.now edge.now.u * room_at unit instance.now edge.now }
+    ensures all { result.1 ≡ value_of instance.now edge.now.u * room_at unit instance.now edge.now +
+        (room_at unit instance.now edge.now * room_at unit instance.now edge.now + room_at unit
+        instance.now edge.now * value_of instance.now edge.now.v) }
 {
     let room = room_at(instance, unit, edge);
     let entries = instance.value(edge.u) * room;
@@ -30,7 +33,8 @@ fn gate_sizes(instance: &Instance, unit: bool, edge: &InstanceEdge) -> (u32, u32
 /// How many edges of the graph stand for each edge.
 fn all_gate_sizes(alloc: Global, instance: &Instance, unit: bool) -> Result<Vec<u32>, OutOfMemory>
     ensures size { IfOk result (λ sizes. length sizes.items ≡ length instance.now.edges) }
-    ensures each { IfOk result (λ sizes. (k : ℕ) → k < length instance.now.edges → slice_index sizes.items k ≡ gate_size instance.now (capped_room unit instance.now) k) }
+    ensures each { IfOk result (λ sizes. (k : ℕ) → k < length instance.now.edges
+        → slice_index sizes.items k ≡ gate_size instance.now (capped_room unit instance.now) k) }
     ensures few { length instance.now.edges ≤ EDGE_LIMIT }
 {
     let mut sizes = Vec::with_capacity(alloc, instance.edges() as usize)?;
@@ -42,18 +46,23 @@ fn all_gate_sizes(alloc: Global, instance: &Instance, unit: bool) -> Result<Vec<
 
 /// How many edges of the graph stand before those of each edge, and at last all.
 fn gate_starts(alloc: Global, instance: &Instance, unit: bool) -> Result<Vec<u64>, OutOfMemory>
-    ensures { IfOk result (λ starts. AreStarts (gate_size instance.now (capped_room unit instance.now)) (length instance.now.edges) starts.items) }
+    ensures { IfOk result
+        (λ starts. AreStarts (gate_size instance.now (capped_room unit instance.now))
+        (length instance.now.edges) starts.items) }
 {
     let sizes = all_gate_sizes(alloc, instance, unit)?;
     let starts = wide_starts(alloc, &sizes)?;
     Ok(starts)
 }
 
-/// The edge, by its place, to whose first gate an edge of the graph leads from a copy, if there is one.
+/// The edge, by its place, to whose first gate an edge of the graph leads from a copy, if there is
+/// one.
 fn entered_by(instance: &Instance, unit: bool, starts: &[u64], edge: EdgeId) -> Option<usize>
-    requires starts { AreStarts (gate_size instance.now (capped_room unit instance.now)) (length instance.now.edges) starts.now }
+    requires starts { AreStarts (gate_size instance.now (capped_room unit instance.now))
+        (length instance.now.edges) starts.now }
     requires low { 1 ≤ edge }
-    requires high { edge ≤ gates_before instance.now (capped_room unit instance.now) (length instance.now.edges) }
+    requires high { edge ≤ gates_before instance.now (capped_room unit instance.now)
+        (length instance.now.edges) }
     ensures { IsEntry instance.now (capped_room unit instance.now) edge result }
 {
     let place = u64::from(edge.number()) - 1;
@@ -66,11 +75,11 @@ fn entered_by(instance: &Instance, unit: bool, starts: &[u64], edge: EdgeId) -> 
     }
 }
 
-/// The answer that a perfect matching of the graph of `capped` stands for, given as the numbers of its
-/// edges: each edge of the instance is used as often as its first gate is entered from copies of its
-/// end (Schrijver, Combinatorial Optimization A, chapters 32 and 33). It takes time linear in the
-/// instance, and for each edge of the matching the logarithm of the number of the instance's edges.
-/// `OutOfMemory` is its one error.
+/// The answer that a perfect matching of the graph of `capped` stands for, given as the numbers of
+/// its edges: each edge of the instance is used as often as its first gate is entered from copies
+/// of its end (Schrijver, Combinatorial Optimization A, chapters 32 and 33). It takes time linear
+/// in the instance, and for each edge of the matching the logarithm of the number of the instance's
+/// edges. `OutOfMemory` is its one error.
 pub fn extract(
     alloc: Global,
     instance: &Instance,
@@ -78,9 +87,11 @@ pub fn extract(
     edges: &[EdgeId],
 ) -> Result<Answer, OutOfMemory>
     requires perfect { IsPerfectList (gadget_graph (capped_kind unit) instance.now) edges.now }
-    ensures counts { IfOk result (CountsEntries instance.now (capped_room unit instance.now) edges.now) }
+    ensures counts { IfOk result (CountsEntries instance.now
+        (capped_room unit instance.now) edges.now) }
     ensures feasible { IfOk result (IsFeasible (capped_kind unit) instance.now) }
-    ensures weighs { IfOk result (λ a. weight_of (capped_kind unit) instance.now a ≡ walk_weight (gadget_graph (capped_kind unit) instance.now) edges.now) }
+    ensures weighs { IfOk result (λ a. weight_of (capped_kind unit) instance.now a
+        ≡ walk_weight (gadget_graph (capped_kind unit) instance.now) edges.now) }
 {
     let starts = gate_starts(alloc, instance, unit)?;
     let mut counts = vec![in alloc; 0u32; instance.edges() as usize]?;

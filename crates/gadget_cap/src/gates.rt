@@ -1,4 +1,5 @@
-ghost use Rattle.std.specs.Prelude.{◌≡◌, ℕ, ◌+◌, ◌*◌, ◌<◌, ◌≤◌, ◌^◌, ◌++◌, length, slice_index, OnOk, IfOk, pos};
+ghost use Rattle.std.specs.Prelude.{◌≡◌, ℕ, ◌+◌, ◌*◌, ◌<◌, ◌≤◌, ◌^◌, ◌++◌, length, slice_index};
+ghost use Rattle.std.specs.Prelude.{OnOk, IfOk, pos};
 ghost use Rattle.graph_theory.specs.Graph.{IsGraph};
 ghost use Rattle.mb_problem.specs.Network.{vertices, IsInstanceEdge};
 ghost use Rattle.mb_problem.specs.Size.{size_of, value_total};
@@ -20,7 +21,10 @@ use weighted_graph::Graph;
 fn add_crossing(graph: &mut Graph, before: u32, room: u32) -> Result<(), OutOfMemory>
     requires vertices { before + 2 * room ≤ graph.old.vertices }
     requires room { length graph.old.edges + room * room < 2 ^ 32 }
-    ensures added { OnOk result (graph.new ≡ record graph.old { edges = graph.old.edges ++ rectangle before room (before + room) room (pos 0) }) }
+    ensures added { OnOk result (graph.new ≡ record graph.old {
+      edges = graph.old.edges
+          ++ rectangle before room (before + room) room (pos 0);
+    }) }
     ensures graph { IsGraph graph.new }
 {
     let _vertices = graph.vertices();
@@ -37,12 +41,17 @@ fn add_gates(
     before: u32,
     room: u32,
 ) -> Result<(), OutOfMemory>
-    requires starts { AreStarts (λ k. slice_index instance.now.values k) (vertices instance.now) starts.now }
+    requires starts { AreStarts (λ k. slice_index instance.now.values k)
+        (vertices instance.now) starts.now }
     requires edge { IsInstanceEdge (vertices instance.now) edge.now }
     requires copies { value_total instance.now ≤ before }
     requires vertices { before + 2 * room ≤ graph.old.vertices }
-    requires room { length graph.old.edges + length (gates_of instance.now edge.now before room) < 2 ^ 32 }
-    ensures added { OnOk result (graph.new ≡ record graph.old { edges = graph.old.edges ++ gates_of instance.now edge.now before room }) }
+    requires room { length graph.old.edges + length
+        (gates_of instance.now edge.now before room) < 2 ^ 32 }
+    ensures added { OnOk result (graph.new ≡ record graph.old {
+      edges = graph.old.edges
+          ++ gates_of instance.now edge.now before room;
+    }) }
     ensures graph { IsGraph graph.new }
 {
     let _vertices = graph.vertices();
@@ -56,16 +65,17 @@ fn add_gates(
 
 /// The graph whose perfect matchings are the matchings of an instance with a degree for each vertex
 /// and a limit on each edge: the capacities, or, where `unit` is set, 1 for each edge (Schrijver,
-/// Combinatorial Optimization A, chapters 32 and 33). Each vertex has as many copies as its value says.
-/// Each edge has two gates, with a vertex for each time that it can be used: the copies of its first
-/// end are joined to the first gate at the edge's weight, the first gate to the second at weight 0, and
-/// the second to the copies of the other end at weight 0. It takes time linear in the instance and the
-/// graph. `OutOfMemory` is its one error.
+/// Combinatorial Optimization A, chapters 32 and 33). Each vertex has as many copies as its value
+/// says. Each edge has two gates, with a vertex for each time that it can be used: the copies of
+/// its first end are joined to the first gate at the edge's weight, the first gate to the second at
+/// weight 0, and the second to the copies of the other end at weight 0. It takes time linear in the
+/// instance and the graph. `OutOfMemory` is its one error.
 #[tactic(auto, using(crate::proofs::Sizes::has_size, crate::proofs::Reached::reached))]
 pub fn capped(alloc: Global, instance: &Instance, unit: bool) -> Result<Graph, OutOfMemory>
     requires limits { IsWithinLimits (size_of (capped_kind unit) instance.now) }
     ensures graph { IfOk result (λ h. h ≡ gadget_graph (capped_kind unit) instance.now) }
-    ensures size { HasSize (size_of (capped_kind unit) instance.now) (gadget_graph (capped_kind unit) instance.now) }
+    ensures size { HasSize (size_of (capped_kind unit) instance.now)
+        (gadget_graph (capped_kind unit) instance.now) }
     ensures reached { ReachesAll (capped_kind unit) instance.now }
 {
     let (vertices, _) = gadget_size(instance, kind_of(unit));

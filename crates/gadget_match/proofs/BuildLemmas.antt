@@ -17,14 +17,20 @@ use Rattle.gadget_base.proofs.Blocks.{blocks-length}
 use Rattle.gadget_base.proofs.Within.{pairs-length, pairs_of_copies-length}
 
 -- there is room for two copies of one edge more
-pub room-twice : (i : Network) (g : Multigraph) (k : ℕ) → IsWithinLimits (size_of Match i) → g ≡ record { vertices = 2 * vertices i; edges = blocks (two_copies i) k } → k < length i.edges → (length g.edges + 2) < 2 ^ 32
+pub room-twice : (i : Network) (g : Multigraph) (k : ℕ) → IsWithinLimits (size_of Match i) → g ≡ record {
+  vertices = 2 * vertices i;
+  edges = blocks (two_copies i) k;
+} → k < length i.edges → (length g.edges + 2) < 2 ^ 32
 room-twice i g k limits is b =
     let size : length g.edges ≡ 2 * k = ap (λ (h : Multigraph). length h.edges) is ∙ pairs-length i k in
     let few : 2 * length i.edges + vertices i ≤ 1048576 = limits.edges in
     omega (arith, size, few)
 
 -- there is room for the edges between the vertices and their copies
-pub room-join : (i : Network) (g : Multigraph) (n : ℕ) → IsWithinLimits (size_of Match i) → g ≡ record { vertices = 2 * vertices i; edges = blocks (two_copies i) (length i.edges) } → n ≡ vertices i → (length g.edges + n) < 2 ^ 32
+pub room-join : (i : Network) (g : Multigraph) (n : ℕ) → IsWithinLimits (size_of Match i) → g ≡ record {
+  vertices = 2 * vertices i;
+  edges = blocks (two_copies i) (length i.edges);
+} → n ≡ vertices i → (length g.edges + n) < 2 ^ 32
 room-join i g n limits is same =
     let size : length g.edges ≡ 2 * length i.edges = ap (λ (h : Multigraph). length h.edges) is ∙ pairs-length i (length i.edges) in
     let few : 2 * length i.edges + vertices i ≤ 1048576 = limits.edges in
@@ -34,7 +40,10 @@ pub copies-length : (i : Network) (k : ℕ) → length (blocks (pairs_of_copies 
 copies-length i k = blocks-length (pairs_of_copies i) k ∙ sum_to-same (λ j. length (pairs_of_copies i j)) (λ j. value_u i j * value_v i j) k (λ j _. pairs_of_copies-length i j)
 
 -- there is room for the pairs of copies of one edge more
-pub room-pairs : (i : Network) (g : Multigraph) (k : ℕ) (e : InstanceEdge) → IsWithinLimits (size_of BMatch i) → g ≡ record { vertices = value_total i; edges = blocks (pairs_of_copies i) k } → k < length i.edges → e ≡ instance_edge_at i k → (length g.edges + value_of i e.u * value_of i e.v) < 2 ^ 32
+pub room-pairs : (i : Network) (g : Multigraph) (k : ℕ) (e : InstanceEdge) → IsWithinLimits (size_of BMatch i) → g ≡ record {
+  vertices = value_total i;
+  edges = blocks (pairs_of_copies i) k;
+} → k < length i.edges → e ≡ instance_edge_at i k → (length g.edges + value_of i e.u * value_of i e.v) < 2 ^ 32
 room-pairs i g k e limits is b here =
     let size : length g.edges ≡ sum_to (λ j. value_u i j * value_v i j) k = ap (λ (h : Multigraph). length h.edges) is ∙ copies-length i k in
     let at : value_of i e.u * value_of i e.v ≡ value_u i k * value_v i k = ap (λ (f : InstanceEdge). value_of i f.u * value_of i f.v) here in
@@ -43,7 +52,8 @@ room-pairs i g k e limits is b here =
     omega (arith, size, at, grows, few)
 
 -- the copies of all vertices end where those after the last would start
-pub start-total : (i : Network) (values starts : List ℕ) (n x : ℕ) → values ≡ i.values → AreStarts (λ k. slice_index values k) (length values) starts → n ≡ vertices i → x ≡ slice_index_or starts n x → x ≡ value_total i
+pub start-total : (i : Network) (values starts : List ℕ) (n x : ℕ) → values ≡ i.values → AreStarts (λ k. slice_index values k) (length values) starts → n ≡ vertices i → x
+    ≡ slice_index_or starts n x → x ≡ value_total i
 start-total i values starts n x same are count is =
     let size : length values ≡ vertices i = ap length same in
     let more : length starts ≡ length values + 1 = are.one_more in

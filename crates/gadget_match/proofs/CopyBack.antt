@@ -42,7 +42,8 @@ pub listed_pairs-rows : (i : Network) (edges : List ℕ) (k : ℕ) → listed_pa
 listed_pairs-rows i edges k = sum_to-rows (λ r. times edges (pairs_before i k + r + 1)) (value_u i k) (value_v i k)
 
 -- over all copies of a vertex, all pairs of the edges at it
-at_copies : (i : Network) (N : ℕ → ℕ → ℕ → ℕ) (t k : ℕ) → IsNetwork i → k < length i.edges → sum_to (λ c. at_copy i N t c k) (value_of i t) ≡ all_pairs i N k * ends_at (plain (instance_edge_at i k)) t
+at_copies : (i : Network) (N : ℕ → ℕ → ℕ → ℕ) (t k : ℕ) → IsNetwork i → k < length i.edges → sum_to (λ c. at_copy i N t c k) (value_of i t)
+    ≡ all_pairs i N k * ends_at (plain (instance_edge_at i k)) t
 at_copies i N t k network b =
     let e = instance_edge_at i k in
     let ends : IsEdgeWithin (vertices i) (plain e) = edge-ends i k network b in
@@ -54,7 +55,8 @@ at_copies i N t k network b =
     let both = sum_to-add (λ c. cond (eqb e.u t) (row c) 0) (λ c. cond (eqb e.v t) (column c) 0) (value_of i t) in
     let first = sum_to-cond (eqb e.u t) row (value_of i t) in
     let second = sum_to-cond (eqb e.v t) column (value_of i t) in
-    let whole : sum_to (λ c. at_copy i N t c k) (value_of i t) ≡ cond (eqb e.u t) (sum_to row (value_of i t)) 0 + cond (eqb e.v t) (sum_to column (value_of i t)) 0 = omega (arith, both, first, second) in
+    let whole : sum_to (λ c. at_copy i N t c k) (value_of i t) ≡ cond (eqb e.u t) (sum_to row (value_of i t)) 0 + cond (eqb e.v t) (sum_to column (value_of i t)) 0 =
+    omega (arith, both, first, second) in
     let once : total * 1 ≡ total = omega arith in
     let none : total * 0 ≡ 0 = omega arith in
     elim (cases_eq e.u t) [
@@ -86,7 +88,8 @@ at_copies i N t k network b =
 pub gathered-at : (i : Network) (edges : List ℕ) (k : ℕ) → k < length i.edges → slice_index (gathered i edges) k ≡ all_pairs i (pair_listed i edges) k
 gathered-at i edges k b = tabled-at (listed_pairs i edges) (length i.edges) k 0 b ∙ listed_pairs-rows i edges k
 
-gathered-degree : (i : Network) (edges : List ℕ) (t : ℕ) → IsNetwork i → IsPerfectList (copies_graph i) edges → 1 ≤ t → t ≤ vertices i → degree (graph_of i) (gathered i edges) t ≡ value_of i t
+gathered-degree : (i : Network) (edges : List ℕ) (t : ℕ) → IsNetwork i → IsPerfectList (copies_graph i) edges → 1 ≤ t → t ≤ vertices i → degree (graph_of i) (gathered i edges) t
+    ≡ value_of i t
 gathered-degree i edges t network perfect low high =
     let m = length i.edges in
     let N = pair_listed i edges in

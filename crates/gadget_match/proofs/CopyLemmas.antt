@@ -42,7 +42,8 @@ copies-differ i u t a c low low' differ b b' =
 abbrev pub at_copy : Network → (ℕ → ℕ → ℕ → ℕ) → ℕ → ℕ → ℕ → ℕ
 at_copy i N t c k = cond (eqb (instance_edge_at i k).u t) (sum_to (N k c) (value_v i k)) 0 + cond (eqb (instance_edge_at i k).v t) (sum_to (λ a. N k a c) (value_u i k)) 0
 
-pairs-at : (i : Network) (N : ℕ → ℕ → ℕ → ℕ) (t c k : ℕ) → IsNetwork i → 1 ≤ t → c < value_of i t → k < length i.edges → over (at_vertex (values_below i t + c + 1)) (pairs_of_copies i k) (table (N k) (value_u i k) (value_v i k)) ≡ at_copy i N t c k
+pairs-at : (i : Network) (N : ℕ → ℕ → ℕ → ℕ) (t c k : ℕ) → IsNetwork i → 1 ≤ t → c < value_of i t → k < length i.edges → over (at_vertex (values_below i t + c + 1)) (pairs_of_copies i k)
+    (table (N k) (value_u i k) (value_v i k)) ≡ at_copy i N t c k
 pairs-at i N t c k network low h b =
     let e = instance_edge_at i k in
     let ends : IsEdgeWithin (vertices i) (plain e) = edge-ends i k network b in
@@ -81,10 +82,12 @@ pairs-at i N t c k network low h b =
     ]
 
 -- the degree at copy c of vertex t
-pub degree_copy : (i : Network) (N : ℕ → ℕ → ℕ → ℕ) (t c : ℕ) → IsNetwork i → 1 ≤ t → c < value_of i t → degree (copies_graph i) (on_pairs i N) (values_below i t + c + 1) ≡ sum_to (at_copy i N t c) (length i.edges)
+pub degree_copy : (i : Network) (N : ℕ → ℕ → ℕ → ℕ) (t c : ℕ) → IsNetwork i → 1 ≤ t → c < value_of i t → degree (copies_graph i) (on_pairs i N) (values_below i t + c + 1)
+    ≡ sum_to (at_copy i N t c) (length i.edges)
 degree_copy i N t c network low h =
     over-blocks (at_vertex (values_below i t + c + 1)) (pairs_of_copies i) (λ k. table (N k) (value_u i k) (value_v i k)) (length i.edges) (λ k _. pairs-table i N k)
-    ∙ sum_to-same (λ k. over (at_vertex (values_below i t + c + 1)) (pairs_of_copies i k) (table (N k) (value_u i k) (value_v i k))) (at_copy i N t c) (length i.edges) (λ k b. pairs-at i N t c k network low h b)
+    ∙ sum_to-same (λ k. over (at_vertex (values_below i t + c + 1)) (pairs_of_copies i k) (table (N k) (value_u i k) (value_v i k))) (at_copy i N t c) (length i.edges)
+    (λ k b. pairs-at i N t c k network low h b)
 
 -- the counts of edge k + 1, all together
 abbrev pub all_pairs : Network → (ℕ → ℕ → ℕ → ℕ) → ℕ → ℕ
@@ -101,7 +104,8 @@ copies-weight i N =
 abbrev pub unit_pairs : Network → List ℕ → ℕ → ℕ → ℕ → ℕ
 unit_pairs i counts k = units (used i counts (instance_edge_at i k).u k) (used i counts (instance_edge_at i k).v k) (slice_index counts k)
 
-unit-at : (i : Network) (counts : List ℕ) (t c k : ℕ) → IsNetwork i → IsBMatching i counts → k < length i.edges → at_copy i (unit_pairs i counts) t c k ≡ taken (used i counts t k) (use_at i counts t k) c
+unit-at : (i : Network) (counts : List ℕ) (t c k : ℕ) → IsNetwork i → IsBMatching i counts → k < length i.edges → at_copy i (unit_pairs i counts) t c k
+    ≡ taken (used i counts t k) (use_at i counts t k) c
 unit-at i counts t c k network feasible b =
     let e = instance_edge_at i k in
     let ends : IsEdgeWithin (vertices i) (plain e) = edge-ends i k network b in
@@ -114,7 +118,8 @@ unit-at i counts t c k network feasible b =
           let on : eqb e.u t ≡ true = eq-eqb e.u t is in
           let off : eqb e.v t ≡ false = ne_eqb e.v t (λ z. differ (is ∙ sym z)) in
           let row = units-row s s' x (value_v i k) c (used-within_v i counts k network feasible b) in
-          let same : taken s x c ≡ taken (used i counts t k) (use_at i counts t k) c = ap (λ y. taken s y c) (sym (use_at-u i counts k network b)) ∙ ap (λ v. taken (used i counts v k) (use_at i counts v k) c) is in
+          let same : taken s x c ≡ taken (used i counts t k) (use_at i counts t k) c = ap (λ y. taken s y c) (sym (use_at-u i counts k network b))
+          ∙ ap (λ v. taken (used i counts v k) (use_at i counts v k) c) is in
           let left : at_copy i (unit_pairs i counts) t c k ≡ sum_to (unit_pairs i counts k c) (value_v i k) + 0 = rw (on, off) refl in
           omega (arith, left, row, same)
       | inr d ↦
@@ -123,7 +128,8 @@ unit-at i counts t c k network feasible b =
             | inl is ↦
                 let on : eqb e.v t ≡ true = eq-eqb e.v t is in
                 let column = units-column s s' x (value_u i k) c (used-within_u i counts k network feasible b) in
-                let same : taken s' x c ≡ taken (used i counts t k) (use_at i counts t k) c = ap (λ y. taken s' y c) (sym (use_at-v i counts k network b)) ∙ ap (λ v. taken (used i counts v k) (use_at i counts v k) c) is in
+                let same : taken s' x c ≡ taken (used i counts t k) (use_at i counts t k) c = ap (λ y. taken s' y c) (sym (use_at-v i counts k network b))
+                ∙ ap (λ v. taken (used i counts v k) (use_at i counts v k) c) is in
                 let left : at_copy i (unit_pairs i counts) t c k ≡ 0 + sum_to (λ a. unit_pairs i counts k a c) (value_u i k) = rw (off, on) refl in
                 omega (arith, left, column, same)
             | inr d' ↦
@@ -134,7 +140,8 @@ unit-at i counts t c k network feasible b =
           ]
     ]
 
-unit-degree : (i : Network) (counts : List ℕ) (t c : ℕ) → IsNetwork i → IsBMatching i counts → 1 ≤ t → t ≤ vertices i → c < value_of i t → degree (copies_graph i) (on_pairs i (unit_pairs i counts)) (values_below i t + c + 1) ≡ 1
+unit-degree : (i : Network) (counts : List ℕ) (t c : ℕ) → IsNetwork i → IsBMatching i counts → 1 ≤ t → t ≤ vertices i → c < value_of i t
+    → degree (copies_graph i) (on_pairs i (unit_pairs i counts)) (values_below i t + c + 1) ≡ 1
 unit-degree i counts t c network feasible low high h =
     let all : degree (graph_of i) counts t ≡ value_of i t = feasible.degrees t low high in
     let same = degree-used i counts t in
@@ -184,7 +191,8 @@ unit-weight i counts network feasible =
     ∙ int_sum_to-same (λ k. pos (all_pairs i (unit_pairs i counts) k) *ℤ (instance_edge_at i k).w) (λ k. pos (slice_index counts k) *ℤ (instance_edge_at i k).w) (length i.edges)
     (λ k b.
     ap (λ x. pos x *ℤ (instance_edge_at i k).w)
-    (units-total (used i counts (instance_edge_at i k).u k) (used i counts (instance_edge_at i k).v k) (slice_index counts k) (value_u i k) (value_v i k) (used-within_u i counts k network feasible b) (used-within_v i counts k network feasible b)))
+    (units-total (used i counts (instance_edge_at i k).u k) (used i counts (instance_edge_at i k).v k) (slice_index counts k) (value_u i k) (value_v i k)
+    (used-within_u i counts k network feasible b) (used-within_v i counts k network feasible b)))
     ∙ sym (weight-used i counts)
 
 pub copies-reach : (i : Network) → IsNetwork i → ReachesAll BMatch i

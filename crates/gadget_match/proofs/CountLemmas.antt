@@ -25,8 +25,10 @@ in_block size p k e low begun ends =
           (sum_to-same (λ r. cond (eqb e (sum_to size k + r + 1)) 1 0) (λ r. cond (eqb r place) 1 0) (size k)
           (λ r _.
           elim (cases_eq r place) [
-            | inl h ↦ let a : eqb r place ≡ true = eq-eqb _ _ h in let b : eqb e (sum_to size k + r + 1) ≡ true = eq-eqb _ _ (let z : e ≡ sum_to size k + r + 1 = omega (arith, from, h) in z) in rw (a, b) refl
-            | inr d ↦ let a : eqb r place ≡ false = ne_eqb _ _ d in let b : eqb e (sum_to size k + r + 1) ≡ false = ne_eqb _ _ (λ h. d (let z : r ≡ place = omega (arith, h) in z)) in rw (a, b) refl
+            | inl h ↦ let a : eqb r place ≡ true = eq-eqb _ _ h in let b : eqb e (sum_to size k + r + 1) ≡ true = eq-eqb _ _ (let z : e ≡ sum_to size k + r + 1 = omega (arith, from, h) in
+                z) in rw (a, b) refl
+            | inr d ↦ let a : eqb r place ≡ false = ne_eqb _ _ d in let b : eqb e (sum_to size k + r + 1) ≡ false = ne_eqb _ _ (λ h. d (let z : r ≡ place = omega (arith, h) in z)) in rw
+                (a, b) refl
           ])
           ∙ sum_to-hit (λ _. 1) place (size k) (omega (arith, from, many)))
       | inr d ↦
@@ -42,7 +44,9 @@ in_block size p k e low begun ends =
     ]
 
 -- one edge more is counted once, in its block
-pub listed-more : (i : Network) (starts edges : List ℕ) (n p k : ℕ) → AreStarts (pair_count i) (length i.edges) starts → n < length edges → 1 ≤ slice_index edges n → p < length i.edges → slice_index starts p ≤ slice_index edges n - 1 → slice_index edges n - 1 < slice_index starts (p + 1) → listed_pairs i (take (n + 1) edges) k ≡ listed_pairs i (take n edges) k + cond (eqb p k) 1 0
+pub listed-more : (i : Network) (starts edges : List ℕ) (n p k : ℕ) → AreStarts (pair_count i) (length i.edges) starts → n < length edges → 1 ≤ slice_index edges n → p < length i.edges
+    → slice_index starts p ≤ slice_index edges n - 1 → slice_index edges n - 1 < slice_index starts (p + 1) → listed_pairs i (take (n + 1) edges) k ≡ listed_pairs i (take n edges) k + cond
+    (eqb p k) 1 0
 listed-more i starts edges n p k are b low inside begun ends =
     let size : ℕ → ℕ = pair_count i in
     let e = slice_index edges n in
@@ -57,7 +61,8 @@ pub listed-none : (i : Network) (k : ℕ) → listed_pairs i [] k ≡ 0
 listed-none i k = sum_to-none (λ r. times [] (pairs_before i k + r + 1)) (value_u i k * value_v i k) (λ r _. refl)
 
 -- a list of the values of f with one more at the end
-pub pushed-each : (old new : List ℕ) (x n : ℕ) (f : ℕ → ℕ) → new ≡ old ++ x ∷ [] → length old ≡ n → ((k : ℕ) → k < n → slice_index old k ≡ f k) → x ≡ f n → (k : ℕ) → k < n + 1 → slice_index new k ≡ f k
+pub pushed-each : (old new : List ℕ) (x n : ℕ) (f : ℕ → ℕ) → new ≡ old ++ x ∷ [] → length old ≡ n → ((k : ℕ) → k < n → slice_index old k ≡ f k) → x ≡ f n → (k : ℕ) → k < n + 1
+    → slice_index new k ≡ f k
 pushed-each old new x n f is size each next k b =
     ap (λ (xs : List ℕ). slice_index xs k) is
     ∙ elim (cases_eq k n) [

@@ -27,7 +27,8 @@ blocks-next edges m =
     (λ k _. ap (λ e. times edges (2 * k + 1) ∷ times edges e ∷ []) (let z : 2 * k + 1 + 1 ≡ 2 * k + 2 = omega arith in z))
 
 -- the counts of the list, copy by copy
-pub listed-in_copies : (i : Network) (edges : List ℕ) → times_each (doubled_graph i) edges ≡ on_copies (λ k. times edges (2 * k + 1)) (λ k. times edges (2 * k + 2)) (left_by i edges) (length i.edges) (vertices i)
+pub listed-in_copies : (i : Network) (edges : List ℕ) → times_each (doubled_graph i) edges ≡ on_copies (λ k. times edges (2 * k + 1)) (λ k. times edges (2 * k + 2)) (left_by i edges)
+    (length i.edges) (vertices i)
 listed-in_copies i edges =
     let m = length i.edges in
     let n = vertices i in
@@ -37,13 +38,15 @@ listed-in_copies i edges =
     ∙ tabled-append f (2 * m) n
     ∙ ap (λ (xs : List ℕ). xs ++ tabled (left_by i edges) n) (tabled-pairs f m ∙ blocks-next edges m)
 
-pub copy-degree : (i : Network) (edges : List ℕ) (c v : ℕ) → degree (graph_of i) (copy_counts i edges c) v ≡ sum_to (λ k. times edges (2 * k + c) * ends_at (plain (instance_edge_at i k)) v) (length i.edges)
+pub copy-degree : (i : Network) (edges : List ℕ) (c v : ℕ) → degree (graph_of i) (copy_counts i edges c) v ≡ sum_to (λ k. times edges (2 * k + c) * ends_at (plain (instance_edge_at i k)) v)
+    (length i.edges)
 copy-degree i edges c v =
     degree-used i (copy_counts i edges c) v
     ∙ sum_to-same (use_at i (copy_counts i edges c) v) (λ k. times edges (2 * k + c) * ends_at (plain (instance_edge_at i k)) v) (length i.edges)
     (λ k b. ap (λ x. x * ends_at (plain (instance_edge_at i k)) v) (tabled-at (λ k. times edges (2 * k + c)) (length i.edges) k 0 b))
 
-pub copy-weight : (i : Network) (edges : List ℕ) (c : ℕ) → weight (graph_of i) (copy_counts i edges c) ≡ int_sum_to (λ k. pos (times edges (2 * k + c)) *ℤ (instance_edge_at i k).w) (length i.edges)
+pub copy-weight : (i : Network) (edges : List ℕ) (c : ℕ) → weight (graph_of i) (copy_counts i edges c) ≡ int_sum_to (λ k. pos (times edges (2 * k + c)) *ℤ (instance_edge_at i k).w)
+    (length i.edges)
 copy-weight i edges c =
     weight-used i (copy_counts i edges c)
     ∙ int_sum_to-same (λ k. pos (slice_index (copy_counts i edges c) k) *ℤ (instance_edge_at i k).w) (λ k. pos (times edges (2 * k + c)) *ℤ (instance_edge_at i k).w) (length i.edges)
@@ -90,7 +93,8 @@ second-matching i edges network perfect = record {
 }
 
 -- the copies together weigh minus the perfect matching
-pub copies-weigh : (i : Network) (edges : List ℕ) → IsPerfectList (doubled_graph i) edges → walk_weight (doubled_graph i) edges +ℤ (weight (graph_of i) (copy_counts i edges 1) +ℤ weight (graph_of i) (copy_counts i edges 2)) ≡ pos 0
+pub copies-weigh : (i : Network) (edges : List ℕ) → IsPerfectList (doubled_graph i) edges → walk_weight (doubled_graph i) edges +ℤ (weight (graph_of i) (copy_counts i edges 1) +ℤ weight
+    (graph_of i) (copy_counts i edges 2)) ≡ pos 0
 copies-weigh i edges perfect =
     let x : ℕ → ℕ = λ k. times edges (2 * k + 1) in
     let y : ℕ → ℕ = λ k. times edges (2 * k + 2) in

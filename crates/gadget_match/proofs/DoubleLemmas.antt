@@ -1,5 +1,6 @@
 -- Degrees and weights of counts on the doubled graph, and the perfect matching there that each matching has.
-use Rattle.std.proofs.Common.{◌≡◌, ℕ, ◌+◌, ◌-◌, ◌*◌, ◌≤◌, ℤ, pos, neg_ℤ, ◌+ℤ◌, ◌*ℤ◌, false, cond, eqb, refl, ap, sym, ◌∙◌, inl, inr, arith, List, [], ◌∷◌, ◌++◌, length, slice_index, length-append}
+use Rattle.std.proofs.Common.{◌≡◌, ℕ, ◌+◌, ◌-◌, ◌*◌, ◌≤◌, ℤ, pos, neg_ℤ, ◌+ℤ◌, ◌*ℤ◌, false, cond, eqb, refl, ap, sym, ◌∙◌, inl, inr, arith, List, [], ◌∷◌, ◌++◌, length, slice_index}
+use Rattle.std.proofs.Common.{length-append}
 use Rattle.std.proofs.lemmas.Int.{ints}
 use Rattle.std.proofs.lemmas.Bool.{cases_lt, ne_eqb}
 use Rattle.std.proofs.lemmas.Bool.Decides.{nat_tests}
@@ -44,7 +45,8 @@ on_two_counts-length x y z m n =
     omega (arith, both, front, back)
 
 -- a sum over the doubled graph, in parts
-over-doubled : (F : Edge → ℕ → ℕ) (i : Network) (x y z : ℕ → ℕ) → over F (doubled_graph i).edges (on_copies x y z (length i.edges) (vertices i)) ≡ sum_to (λ k. over F (two_copies i k) (x k ∷ y k ∷ [])) (length i.edges) + sum_to (λ k. F (to_copy i k) (z k)) (vertices i)
+over-doubled : (F : Edge → ℕ → ℕ) (i : Network) (x y z : ℕ → ℕ) → over F (doubled_graph i).edges (on_copies x y z (length i.edges) (vertices i))
+    ≡ sum_to (λ k. over F (two_copies i k) (x k ∷ y k ∷ [])) (length i.edges) + sum_to (λ k. F (to_copy i k) (z k)) (vertices i)
 over-doubled F i x y z =
     let m = length i.edges in
     let n = vertices i in
@@ -66,7 +68,8 @@ none-first : (a b c : ℕ) → b ≡ 0 → c * b + a ≡ a
 none-first a b c is = rw is (omega arith)
 
 -- at a vertex of the graph only first copies count
-pub doubled-low : (i : Network) (x y z : ℕ → ℕ) (v : ℕ) → IsNetwork i → 1 ≤ v → v ≤ vertices i → degree (doubled_graph i) (on_copies x y z (length i.edges) (vertices i)) v ≡ sum_to (λ k. x k * ends_at (plain (instance_edge_at i k)) v) (length i.edges) + z (v - 1)
+pub doubled-low : (i : Network) (x y z : ℕ → ℕ) (v : ℕ) → IsNetwork i → 1 ≤ v → v ≤ vertices i → degree (doubled_graph i) (on_copies x y z (length i.edges) (vertices i)) v
+    ≡ sum_to (λ k. x k * ends_at (plain (instance_edge_at i k)) v) (length i.edges) + z (v - 1)
 doubled-low i x y z v network low high =
     let m = length i.edges in
     let n = vertices i in
@@ -91,7 +94,8 @@ doubled-low i x y z v network low high =
     omega (arith, parts, front, back, hit)
 
 -- at the copy of a vertex only second copies count
-pub doubled-high : (i : Network) (x y z : ℕ → ℕ) (v : ℕ) → IsNetwork i → 1 ≤ v → v ≤ vertices i → degree (doubled_graph i) (on_copies x y z (length i.edges) (vertices i)) (v + vertices i) ≡ sum_to (λ k. y k * ends_at (plain (instance_edge_at i k)) v) (length i.edges) + z (v - 1)
+pub doubled-high : (i : Network) (x y z : ℕ → ℕ) (v : ℕ) → IsNetwork i → 1 ≤ v → v ≤ vertices i → degree (doubled_graph i) (on_copies x y z (length i.edges) (vertices i)) (v + vertices i)
+    ≡ sum_to (λ k. y k * ends_at (plain (instance_edge_at i k)) v) (length i.edges) + z (v - 1)
 doubled-high i x y z v network low high =
     let m = length i.edges in
     let n = vertices i in
@@ -121,7 +125,8 @@ doubled-high i x y z v network low high =
     omega (arith, parts, front, back, hit)
 
 -- the weights of both copies, turned round
-pub doubled-weight : (i : Network) (x y z : ℕ → ℕ) → weight (doubled_graph i) (on_copies x y z (length i.edges) (vertices i)) +ℤ (int_sum_to (λ k. pos (x k) *ℤ (instance_edge_at i k).w) (length i.edges) +ℤ int_sum_to (λ k. pos (y k) *ℤ (instance_edge_at i k).w) (length i.edges)) ≡ pos 0
+pub doubled-weight : (i : Network) (x y z : ℕ → ℕ) → weight (doubled_graph i) (on_copies x y z (length i.edges) (vertices i)) +ℤ (int_sum_to (λ k. pos (x k) *ℤ (instance_edge_at i k).w)
+    (length i.edges) +ℤ int_sum_to (λ k. pos (y k) *ℤ (instance_edge_at i k).w) (length i.edges)) ≡ pos 0
 doubled-weight i x y z =
     let m = length i.edges in
     let n = vertices i in
@@ -146,7 +151,8 @@ doubled-weight i x y z =
 abbrev pub twice : Network → List ℕ → List ℕ
 twice i counts = on_copies (λ k. slice_index counts k) (λ k. slice_index counts k) (λ k. 1 - degree (graph_of i) counts (k + 1)) (length i.edges) (vertices i)
 
-left-one : (i : Network) (counts : List ℕ) (v d : ℕ) → IsMatching i counts → 1 ≤ v → v ≤ vertices i → d ≡ used i counts v (length i.edges) + (1 - degree (graph_of i) counts (v - 1 + 1)) → d ≡ 1
+left-one : (i : Network) (counts : List ℕ) (v d : ℕ) → IsMatching i counts → 1 ≤ v → v ≤ vertices i → d ≡ used i counts v (length i.edges) + (1 - degree (graph_of i) counts (v - 1 + 1)) → d
+    ≡ 1
 left-one i counts v d matching low high is =
     let back : v - 1 + 1 ≡ v = omega arith in
     let same : degree (graph_of i) counts (v - 1 + 1) ≡ degree (graph_of i) counts v = ap (degree (graph_of i) counts) back in

@@ -7,14 +7,16 @@ use Rattle.mb_problem.specs.Size.{value_u, value_v}
 use Rattle.gadget_base.specs.Blocks.{tabled}
 use Rattle.gadget_base.specs.Listed.{times}
 
--- how often copy number c of each edge is listed: 1 is the copy between the ends, 2 that between their copies
+-- how often copy number c of each edge is listed: 1 is the copy between the ends, 2 that between
+-- their copies
 abbrev pub copy_counts : Network → List ℕ → ℕ → List ℕ
 copy_counts i edges c = tabled (λ k. times edges (2 * k + c)) (length i.edges)
 
 -- the copy that weighs more, and the first where both weigh the same
 abbrev pub heavier_copy : Network → List ℕ → List ℕ
 heavier_copy i edges =
-    if int_lt (weight (graph_of i) (copy_counts i edges 1)) (weight (graph_of i) (copy_counts i edges 2)) then copy_counts i edges 2 else copy_counts i edges 1
+    if int_lt (weight (graph_of i) (copy_counts i edges 1)) (weight (graph_of i)
+    (copy_counts i edges 2)) then copy_counts i edges 2 else copy_counts i edges 1
 
 -- how many edges there are between copies of the ends of edge number k + 1
 abbrev pub pair_count : Network → ℕ → ℕ

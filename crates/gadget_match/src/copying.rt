@@ -1,4 +1,5 @@
-ghost use Rattle.std.specs.Prelude.{◌≡◌, ℕ, ◌+◌, ◌-◌, ◌*◌, ◌<◌, ◌≤◌, ◌^◌, ◌++◌, length, slice_index, OnOk, IfOk};
+ghost use Rattle.std.specs.Prelude.{◌≡◌, ℕ, ◌+◌, ◌-◌, ◌*◌, ◌<◌, ◌≤◌, ◌^◌, ◌++◌, length};
+ghost use Rattle.std.specs.Prelude.{slice_index, OnOk, IfOk};
 ghost use Rattle.graph_theory.specs.Graph.{IsGraph};
 ghost use Rattle.mb_problem.specs.declared.kind.Kind.TheVariants.{BMatch};
 ghost use Rattle.mb_problem.specs.Network.{IsInstanceEdge, vertices, value_of};
@@ -22,11 +23,17 @@ fn add_pairs(
     starts: &[u32],
     edge: &InstanceEdge,
 ) -> Result<(), OutOfMemory>
-    requires starts { AreStarts (λ k. slice_index instance.now.values k) (vertices instance.now) starts.now }
+    requires starts { AreStarts (λ k. slice_index instance.now.values k)
+        (vertices instance.now) starts.now }
     requires vertices { graph.old.vertices ≡ value_total instance.now }
     requires edge { IsInstanceEdge (vertices instance.now) edge.now }
-    requires room { length graph.old.edges + value_of instance.now edge.now.u * value_of instance.now edge.now.v < 2 ^ 32 }
-    ensures added { OnOk result (graph.new ≡ record graph.old { edges = graph.old.edges ++ rectangle (values_below instance.now edge.now.u) (value_of instance.now edge.now.u) (values_below instance.now edge.now.v) (value_of instance.now edge.now.v) edge.now.w }) }
+    requires room { length graph.old.edges + value_of instance.now edge.now.u * value_of
+        instance.now edge.now.v < 2 ^ 32 }
+    ensures added { OnOk result (graph.new ≡ record graph.old {
+      edges = graph.old.edges ++ rectangle
+          (values_below instance.now edge.now.u) (value_of instance.now edge.now.u)
+          (values_below instance.now edge.now.v) (value_of instance.now edge.now.v) edge.now.w;
+    }) }
     ensures graph { IsGraph graph.new }
 {
     let (first, m) = copies_of(instance, starts, edge.u);
@@ -35,9 +42,10 @@ fn add_pairs(
 }
 
 /// The graph in which a b-matching, which has the value of each vertex as its degree, is a perfect
-/// matching of the same weight: each vertex as often as its value says, and each edge between any two
-/// copies of its ends (Schrijver, Combinatorial Optimization, volume A, chapter 31). `gadget_size` says
-/// whether it is within the limits. It takes time linear in the graph. `OutOfMemory` is its one error.
+/// matching of the same weight: each vertex as often as its value says, and each edge between any
+/// two copies of its ends (Schrijver, Combinatorial Optimization, volume A, chapter 31).
+/// `gadget_size` says whether it is within the limits. It takes time linear in the graph.
+/// `OutOfMemory` is its one error.
 pub fn copies(alloc: Global, instance: &Instance) -> Result<Graph, OutOfMemory>
     requires limits { IsWithinLimits (size_of BMatch instance.now) }
     ensures graph { IfOk result (λ h. h ≡ copies_graph instance.now) }

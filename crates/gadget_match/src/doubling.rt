@@ -1,4 +1,5 @@
-ghost use Rattle.std.specs.Prelude.{◌≡◌, ℕ, ◌+◌, ◌-◌, ◌*◌, ◌<◌, ◌≤◌, ◌^◌, ◌++◌, ◌∷◌, [], length, OnOk, IfOk, pos, neg_ℤ};
+ghost use Rattle.std.specs.Prelude.{◌≡◌, ℕ, ◌+◌, ◌-◌, ◌*◌, ◌<◌, ◌≤◌, ◌^◌, ◌++◌, ◌∷◌, [], length};
+ghost use Rattle.std.specs.Prelude.{OnOk, IfOk, pos, neg_ℤ};
 ghost use Rattle.graph_theory.specs.Graph.{IsGraph};
 ghost use Rattle.mb_problem.specs.declared.kind.Kind.TheVariants.{Match};
 ghost use Rattle.mb_problem.specs.Network.{IsInstanceEdge, vertices};
@@ -18,7 +19,13 @@ fn add_twice(graph: &mut Graph, edge: &InstanceEdge, n: u32) -> Result<(), OutOf
     requires vertices { graph.old.vertices ≡ 2 * n }
     requires room { length graph.old.edges + 2 < 2 ^ 32 }
     requires edge { IsInstanceEdge n edge.now }
-    ensures added { OnOk result (graph.new ≡ record graph.old { edges = graph.old.edges ++ (record { u = edge.now.u; v = edge.now.v; w = neg_ℤ edge.now.w } ∷ record { u = edge.now.u + n; v = edge.now.v + n; w = neg_ℤ edge.now.w } ∷ []) }) }
+    ensures added { OnOk result (graph.new ≡ record graph.old {
+      edges = graph.old.edges ++ (record {
+        u = edge.now.u;
+        v = edge.now.v;
+        w = neg_ℤ edge.now.w;
+      } ∷ record { u = edge.now.u + n; v = edge.now.v + n; w = neg_ℤ edge.now.w } ∷ []);
+    }) }
     ensures graph { IsGraph graph.new }
 {
     // The prover learns here that the graph is valid.
@@ -34,7 +41,10 @@ fn add_twice(graph: &mut Graph, edge: &InstanceEdge, n: u32) -> Result<(), OutOf
 fn add_edges_twice(graph: &mut Graph, instance: &Instance) -> Result<(), OutOfMemory>
     requires limits { IsWithinLimits (size_of Match instance.now) }
     requires start { graph.old ≡ record { vertices = 2 * vertices instance.now; edges = [] } }
-    ensures added { OnOk result (graph.new ≡ record { vertices = 2 * vertices instance.now; edges = blocks (two_copies instance.now) (length instance.now.edges) }) }
+    ensures added { OnOk result (graph.new ≡ record {
+      vertices = 2 * vertices instance.now;
+      edges = blocks (two_copies instance.now) (length instance.now.edges);
+    }) }
     ensures graph { IsGraph graph.new }
 {
     let n = instance.vertices();
@@ -50,7 +60,9 @@ fn add_edges_twice(graph: &mut Graph, instance: &Instance) -> Result<(), OutOfMe
 fn join_copies(graph: &mut Graph, n: u32) -> Result<(), OutOfMemory>
     requires vertices { graph.old.vertices ≡ 2 * n }
     requires room { length graph.old.edges + n < 2 ^ 32 }
-    ensures added { OnOk result (graph.new ≡ record graph.old { edges = graph.old.edges ++ tabled (λ k. record { u = k + 1; v = k + 1 + n; w = pos 0 }) n }) }
+    ensures added { OnOk result (graph.new ≡ record graph.old {
+      edges = graph.old.edges ++ tabled (λ k. record { u = k + 1; v = k + 1 + n; w = pos 0 }) n;
+    }) }
     ensures graph { IsGraph graph.new }
 {
     // The prover learns here that the graph is valid.
@@ -61,10 +73,11 @@ fn join_copies(graph: &mut Graph, n: u32) -> Result<(), OutOfMemory>
     Ok(())
 }
 
-/// The graph in which a matching of greatest weight is a perfect matching of least weight: the graph
-/// of the instance twice with the weights turned round, and each vertex joined to its copy at weight 0
-/// (Schrijver, Combinatorial Optimization, volume A, chapter 26). `gadget_size` says whether it is
-/// within the limits. It takes time linear in the instance. `OutOfMemory` is its one error.
+/// The graph in which a matching of greatest weight is a perfect matching of least weight: the
+/// graph of the instance twice with the weights turned round, and each vertex joined to its copy at
+/// weight 0 (Schrijver, Combinatorial Optimization, volume A, chapter 26). `gadget_size` says
+/// whether it is within the limits. It takes time linear in the instance. `OutOfMemory` is its one
+/// error.
 pub fn double(alloc: Global, instance: &Instance) -> Result<Graph, OutOfMemory>
     requires limits { IsWithinLimits (size_of Match instance.now) }
     ensures graph { IfOk result (λ h. h ≡ doubled_graph instance.now) }

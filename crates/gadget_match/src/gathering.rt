@@ -1,4 +1,5 @@
-ghost use Rattle.std.specs.Prelude.{◌≡◌, ℕ, ◌+◌, ◌-◌, ◌*◌, ◌<◌, ◌≤◌, ◌^◌, ◌==◌, if◌then◌else◌, length, slice_index, All, IfOk};
+ghost use Rattle.std.specs.Prelude.{◌≡◌, ℕ, ◌+◌, ◌-◌, ◌*◌, ◌<◌, ◌≤◌, ◌^◌, ◌==◌, if◌then◌else◌};
+ghost use Rattle.std.specs.Prelude.{length, slice_index, All, IfOk};
 ghost use Rattle.graph_theory.specs.Walk.{walk_weight};
 ghost use Rattle.mb_problem.specs.declared.limits.TheConstants.{EDGE_LIMIT};
 ghost use Rattle.mb_problem.specs.declared.kind.Kind.TheVariants.{BMatch};
@@ -17,7 +18,8 @@ use std::alloc::Global;
 /// How many edges of the graph stand for each edge of the instance.
 fn pair_counts(alloc: Global, instance: &Instance) -> Result<Vec<u32>, OutOfMemory>
     ensures size { IfOk result (λ counts. length counts.items ≡ length instance.now.edges) }
-    ensures each { IfOk result (λ counts. (k : ℕ) → k < length instance.now.edges → slice_index counts.items k ≡ pair_count instance.now k) }
+    ensures each { IfOk result (λ counts. (k : ℕ) → k < length instance.now.edges
+        → slice_index counts.items k ≡ pair_count instance.now k) }
     ensures few { length instance.now.edges ≤ EDGE_LIMIT }
 {
     let mut counts = Vec::with_capacity(alloc, instance.edges() as usize)?;
@@ -29,7 +31,8 @@ fn pair_counts(alloc: Global, instance: &Instance) -> Result<Vec<u32>, OutOfMemo
 
 /// How many edges of the graph stand before those of each edge of the instance, and at last all.
 fn pair_starts(alloc: Global, instance: &Instance) -> Result<Vec<u64>, OutOfMemory>
-    ensures { IfOk result (λ starts. AreStarts (pair_count instance.now) (length instance.now.edges) starts.items) }
+    ensures { IfOk result (λ starts. AreStarts (pair_count instance.now)
+        (length instance.now.edges) starts.items) }
 {
     let counts = pair_counts(alloc, instance)?;
     let starts = wide_starts(alloc, &counts)?;
@@ -41,7 +44,8 @@ fn add_one(counts: &mut [u32], place: usize)
     requires inside { place < length counts.old }
     requires small { slice_index counts.old place < 2 ^ 31 }
     ensures size { length counts.new ≡ length counts.old }
-    ensures each { (k : ℕ) → k < length counts.old → slice_index counts.new k ≡ slice_index counts.old k + (if place == k then 1 else 0) }
+    ensures each { (k : ℕ) → k < length counts.old → slice_index counts.new k
+        ≡ slice_index counts.old k + (if place == k then 1 else 0) }
 {
     counts[place] += 1;
 }
@@ -50,7 +54,8 @@ fn add_one(counts: &mut [u32], place: usize)
 /// start all counts are 0.
 fn add_pairs(counts: &mut [u32], instance: &Instance, starts: &[u64], edges: &[EdgeId])
     requires starts { AreStarts (pair_count instance.now) (length instance.now.edges) starts.now }
-    requires numbers { All (λ e. (1 ≤ e) × (e ≤ pairs_before instance.now (length instance.now.edges))) edges.now }
+    requires numbers { All (λ e. (1 ≤ e)
+        × (e ≤ pairs_before instance.now (length instance.now.edges))) edges.now }
     requires few { length edges.now < 2 ^ 31 }
     requires size { length counts.old ≡ length instance.now.edges }
     requires start { (k : ℕ) → k < length counts.old → slice_index counts.old k ≡ 0 }
@@ -70,7 +75,8 @@ fn count_pairs(
     edges: &[EdgeId],
 ) -> Result<Vec<u32>, OutOfMemory>
     requires starts { AreStarts (pair_count instance.now) (length instance.now.edges) starts.now }
-    requires numbers { All (λ e. (1 ≤ e) × (e ≤ pairs_before instance.now (length instance.now.edges))) edges.now }
+    requires numbers { All (λ e. (1 ≤ e)
+        × (e ≤ pairs_before instance.now (length instance.now.edges))) edges.now }
     requires few { length edges.now < 2 ^ 31 }
     ensures counts { IfOk result (λ counts. counts.items ≡ gathered instance.now edges.now) }
 {
@@ -79,11 +85,11 @@ fn count_pairs(
     Ok(counts)
 }
 
-/// The b-matching that a perfect matching of the graph of `copies` stands for, given as the numbers of
-/// its edges: each edge of the instance is used as often as copies of its ends are joined (Schrijver,
-/// Combinatorial Optimization, volume A, chapter 31). It takes time linear in the instance, and for
-/// each edge of the matching the logarithm of the number of the instance's edges. `OutOfMemory` is its
-/// one error.
+/// The b-matching that a perfect matching of the graph of `copies` stands for, given as the numbers
+/// of its edges: each edge of the instance is used as often as copies of its ends are joined
+/// (Schrijver, Combinatorial Optimization, volume A, chapter 31). It takes time linear in the
+/// instance, and for each edge of the matching the logarithm of the number of the instance's edges.
+/// `OutOfMemory` is its one error.
 pub fn extract_copies(
     alloc: Global,
     instance: &Instance,
@@ -91,7 +97,8 @@ pub fn extract_copies(
 ) -> Result<Answer, OutOfMemory>
     requires perfect { IsPerfectList (copies_graph instance.now) edges.now }
     ensures feasible { IfOk result (IsFeasible BMatch instance.now) }
-    ensures weighs { IfOk result (λ a. weight_of BMatch instance.now a ≡ walk_weight (copies_graph instance.now) edges.now) }
+    ensures weighs { IfOk result (λ a. weight_of BMatch instance.now a
+        ≡ walk_weight (copies_graph instance.now) edges.now) }
     ensures answer { IfOk result (λ a. a ≡ Counts (gathered instance.now edges.now)) }
 {
     // The prover learns here that the instance is valid.

@@ -1,4 +1,5 @@
-ghost use Rattle.std.specs.Prelude.{◌≡◌, ℕ, ◌+◌, ◌-◌, ◌*◌, ◌<◌, ◌≤◌, ◌^◌, ◌==◌, if◌then◌else◌, length, slice_index, All, IfOk, pos, neg_ℤ, ◌*ℤ◌, ◌≤ℤ◌, int_lt};
+ghost use Rattle.std.specs.Prelude.{◌≡◌, ℕ, ◌+◌, ◌-◌, ◌*◌, ◌<◌, ◌≤◌, ◌^◌, ◌==◌, if◌then◌else◌};
+ghost use Rattle.std.specs.Prelude.{length, slice_index, All, IfOk, pos, neg_ℤ, ◌*ℤ◌, ◌≤ℤ◌, int_lt};
 ghost use Rattle.graph_theory.specs.Walk.{walk_weight};
 ghost use Rattle.mb_problem.specs.declared.kind.Kind.TheVariants.{Match};
 ghost use Rattle.mb_problem.specs.declared.answer.Answer.TheVariants.{Counts};
@@ -21,7 +22,8 @@ fn add_copy(counts: &mut [u32], edge: EdgeId, copy: u32)
     requires number { 1 ≤ edge }
     requires small { (k : ℕ) → k < length counts.old → slice_index counts.old k < 2 ^ 31 }
     ensures size { length counts.new ≡ length counts.old }
-    ensures each { (k : ℕ) → k < length counts.old → slice_index counts.new k ≡ slice_index counts.old k + (if edge == 2 * k + copy then 1 else 0) }
+    ensures each { (k : ℕ) → k < length counts.old → slice_index counts.new k
+        ≡ slice_index counts.old k + (if edge == 2 * k + copy then 1 else 0) }
 {
     let place = edge.number() - 1;
     let k = (place / 2) as usize;
@@ -30,7 +32,8 @@ fn add_copy(counts: &mut [u32], edge: EdgeId, copy: u32)
     }
 }
 
-/// Counts how often copy number `copy`, 1 or 2, of each edge is listed. At the start all counts are 0.
+/// Counts how often copy number `copy`, 1 or 2, of each edge is listed. At the start all counts are
+/// 0.
 fn add_copies(counts: &mut [u32], edges: &[EdgeId], copy: u32)
     requires first { 1 ≤ copy }
     requires last { copy ≤ 2 }
@@ -55,7 +58,8 @@ fn count_copies(
     requires last { copy ≤ 2 }
     requires numbers { All (λ e. 1 ≤ e) edges.now }
     requires few { length edges.now < 2 ^ 31 }
-    ensures { IfOk result (λ counts. counts.items ≡ tabled (λ k. times edges.now (2 * k + copy)) m) }
+    ensures { IfOk result (λ counts. counts.items
+        ≡ tabled (λ k. times edges.now (2 * k + copy)) m) }
 {
     let mut counts = vec![in alloc; 0u32; m]?;
     add_copies(&mut counts, edges, copy);
@@ -66,15 +70,16 @@ fn count_copies(
 fn weighs_less(instance: &Instance, one: &Answer, other: &Answer) -> bool
     requires one { HasPlaces instance.now one.now }
     requires other { HasPlaces instance.now other.now }
-    ensures { result ≡ int_lt (weight_of Match instance.now one.now) (weight_of Match instance.now other.now) }
+    ensures { result ≡ int_lt (weight_of Match instance.now one.now)
+        (weight_of Match instance.now other.now) }
 {
     weight(instance, Kind::Match, one) < weight(instance, Kind::Match, other)
 }
 
-/// The matching that a perfect matching of the graph of `double` stands for, given as the numbers of
-/// its edges: what it is on the copy of the graph where it weighs more, and on the first where both
-/// weigh the same (Schrijver, Combinatorial Optimization, volume A, chapter 26). It takes time linear
-/// in the instance. `OutOfMemory` is its one error.
+/// The matching that a perfect matching of the graph of `double` stands for, given as the numbers
+/// of its edges: what it is on the copy of the graph where it weighs more, and on the first where
+/// both weigh the same (Schrijver, Combinatorial Optimization, volume A, chapter 26). It takes time
+/// linear in the instance. `OutOfMemory` is its one error.
 pub fn extract_double(
     alloc: Global,
     instance: &Instance,
@@ -82,7 +87,9 @@ pub fn extract_double(
 ) -> Result<Answer, OutOfMemory>
     requires perfect { IsPerfectList (doubled_graph instance.now) edges.now }
     ensures feasible { IfOk result (IsFeasible Match instance.now) }
-    ensures heavier { IfOk result (λ a. neg_ℤ (walk_weight (doubled_graph instance.now) edges.now) ≤ℤ (pos 2 *ℤ weight_of Match instance.now a)) }
+    ensures heavier { IfOk result
+        (λ a. neg_ℤ (walk_weight (doubled_graph instance.now) edges.now) ≤ℤ
+        (pos 2 *ℤ weight_of Match instance.now a)) }
     ensures answer { IfOk result (λ a. a ≡ Counts (heavier_copy instance.now edges.now)) }
 {
     let m = instance.edges() as usize;

@@ -54,7 +54,8 @@ clique-even i odd t =
     ]))
 
 -- the degree of the edges of the instance and the number of ports have the same parity
-pub back-parity : (i : Network) (odd : ℕ → ℕ) (counts : List ℕ) (t : ℕ) → IsNetwork i → IsPerfect (ports_graph i odd) counts → t < vertices i → degree (graph_of i) counts (t + 1) % 2 ≡ group_size i odd t % 2
+pub back-parity : (i : Network) (odd : ℕ → ℕ) (counts : List ℕ) (t : ℕ) → IsNetwork i → IsPerfect (ports_graph i odd) counts → t < vertices i → degree (graph_of i) counts (t + 1) % 2
+    ≡ group_size i odd t % 2
 back-parity i odd counts t ok perfect b =
     let g = ports_graph i odd in
     let m = length i.edges in
@@ -68,7 +69,8 @@ back-parity i odd counts t ok perfect b =
     (λ x l. ap (sum_to (inner x)) (sym (edges-size i odd)) ∙ perfect.degrees (before + x + 1) (omega arith) (omega (arith, next, l))) in
     let swapped = sum_to-swap inner n (m + rest) in
     let split = sum_to-append outer m rest in
-    let gathered : (k : ℕ) → outer k ≡ slice_index counts k * meets_group before n (edge_at g k) = λ k. sym (times-sum_to (slice_index counts k) (λ x. ends_at (edge_at g k) (before + x + 1)) n) in
+    let gathered : (k : ℕ) → outer k ≡ slice_index counts k * meets_group before n (edge_at g k) = λ k. sym (times-sum_to (slice_index counts k)
+    (λ x. ends_at (edge_at g k) (before + x + 1)) n) in
     let own = sum_to-same outer (λ k. slice_index counts k * ends_at (here i k) (t + 1)) m
     (λ k l. gathered k ∙ ap (λ (e : Edge). slice_index counts k * meets_group before n e) (link-here i odd k l) ∙ ap (λ (y : ℕ). slice_index counts k * y) (link-meets i odd k t ok l)) in
     let even = sum_to-even (λ k. outer (m + k)) rest
@@ -78,7 +80,8 @@ back-parity i odd counts t ok perfect b =
     omega (arith, ones, swapped, split, own, even, degree-here i counts (t + 1))
 
 -- the join of a perfect matching
-pub back-join : (i : Network) (odd : ℕ → ℕ) (front counts : List ℕ) → IsNetwork i → ((v : ℕ) → odd v ≤ 1) → IsPerfect (ports_graph i odd) counts → length front ≡ length i.edges → All (λ c. c ≤ 1) front → ((k : ℕ) → k < length i.edges → slice_index counts k ≡ slice_index front k) → IsOddAt i odd front
+pub back-join : (i : Network) (odd : ℕ → ℕ) (front counts : List ℕ) → IsNetwork i → ((v : ℕ) → odd v ≤ 1) → IsPerfect (ports_graph i odd) counts → length front ≡ length i.edges
+    → All (λ c. c ≤ 1) front → ((k : ℕ) → k < length i.edges → slice_index counts k ≡ slice_index front k) → IsOddAt i odd front
 back-join i odd front counts ok bit perfect size small same = record {
   one_each = size;
   small = small;
@@ -102,14 +105,16 @@ pub record AreOwn (m : ℕ) (join matching : List ℕ) : Type 0 where
   pub exact : (k : ℕ) → k < m → holds join (k + 1) ≡ holds matching (k + 1)
 
 -- each is counted as often there
-own-times : (i : Network) (odd : ℕ → ℕ) (join matching : List ℕ) (k : ℕ) → IsNetwork i → AreOwn (length i.edges) join matching → IsPerfectList (ports_graph i odd) matching → k < length i.edges → times matching (k + 1) ≡ times join (k + 1)
+own-times : (i : Network) (odd : ℕ → ℕ) (join matching : List ℕ) (k : ℕ) → IsNetwork i → AreOwn (length i.edges) join matching → IsPerfectList (ports_graph i odd) matching
+    → k < length i.edges → times matching (k + 1) ≡ times join (k + 1)
 own-times i odd join matching k ok own perfect b =
     let few = times-small (ports_graph i odd) matching k (ports-within i odd ok) perfect (omega (arith, edges-size i odd)) in
     times-holds matching (k + 1) few
     ∙ ap (λ (t : Bool). cond {A = ℕ} t 1 0) (sym (own.exact k b))
     ∙ sym (ascending-times join (k + 1) own.ascending)
 
-pub own-join : (i : Network) (odd : ℕ → ℕ) (join matching : List ℕ) → IsNetwork i → ((v : ℕ) → odd v ≤ 1) → AreOwn (length i.edges) join matching → IsPerfectList (ports_graph i odd) matching → IsOddAt i odd (listed_counts join (length i.edges))
+pub own-join : (i : Network) (odd : ℕ → ℕ) (join matching : List ℕ) → IsNetwork i → ((v : ℕ) → odd v ≤ 1) → AreOwn (length i.edges) join matching → IsPerfectList (ports_graph i odd) matching
+    → IsOddAt i odd (listed_counts join (length i.edges))
 own-join i odd join matching ok bit own perfect =
     let m = length i.edges in
     let g = ports_graph i odd in
@@ -122,7 +127,8 @@ own-join i odd join matching ok bit own perfect =
     ∙ ascending-times join (k + 1) own.ascending
     ∙ sym (listed-at join m k 0 b))
 
-pub own-weight : (i : Network) (odd : ℕ → ℕ) (join matching : List ℕ) → IsNetwork i → AreOwn (length i.edges) join matching → IsPerfectList (ports_graph i odd) matching → walk_weight (graph_of i) join ≡ walk_weight (ports_graph i odd) matching
+pub own-weight : (i : Network) (odd : ℕ → ℕ) (join matching : List ℕ) → IsNetwork i → AreOwn (length i.edges) join matching → IsPerfectList (ports_graph i odd) matching
+    → walk_weight (graph_of i) join ≡ walk_weight (ports_graph i odd) matching
 own-weight i odd join matching ok own perfect =
     let g = ports_graph i odd in
     let size = length-map i.edges plain in

@@ -41,7 +41,8 @@ row-pairs before a n = tabled-same (λ j. record { u = before + a + 1; v = befor
     (λ j b. ap (λ (x : ℕ). record { u = before + a + 1; v = x; w = pos 0 }) (let e : before + a + 1 + j + 1 ≡ before + (a + 1 + j) + 1 = omega arith in e))
 
 clique-pairs : (before n : ℕ) → clique before n ≡ blocks (λ a. tabled (λ j. pair before a (a + 1 + j)) (n - 1 - a)) n
-clique-pairs before n = blocks-same (λ a. row (before + a + 1) (before + a + 1) (n - 1 - a) (pos 0)) (λ a. tabled (λ j. pair before a (a + 1 + j)) (n - 1 - a)) n (λ a b. row-pairs before a (n - 1 - a))
+clique-pairs before n = blocks-same (λ a. row (before + a + 1) (before + a + 1) (n - 1 - a) (pos 0)) (λ a. tabled (λ j. pair before a (a + 1 + j)) (n - 1 - a)) n
+    (λ a b. row-pairs before a (n - 1 - a))
 
 -- what holds of each pair
 pub all_clique : (P : Edge → Type 0) (before n : ℕ) → ((a b : ℕ) → a < b → b < n → P (pair before a b)) → All P (clique before n)

@@ -46,5 +46,6 @@ tjoins-reached i ok Nothing join = absurd join
 pub reaches-tjoins : (parity : Parity) (i : Network) → IsNetwork i → parity ≡ Values → ReachesAll TJoin i
 reaches-tjoins parity i ok is = tjoins-reached i ok
 
-pub own-join_of : (parity : Parity) (i : Network) (join matching : List ℕ) → IsNetwork i → AreOwn (length i.edges) join matching → IsPerfectList (ports_graph i (odd_at parity i)) matching → IsJoinOf parity i (listed_counts join (length i.edges))
+pub own-join_of : (parity : Parity) (i : Network) (join matching : List ℕ) → IsNetwork i → AreOwn (length i.edges) join matching → IsPerfectList (ports_graph i (odd_at parity i)) matching
+    → IsJoinOf parity i (listed_counts join (length i.edges))
 own-join_of parity i join matching ok own perfect = as_join parity i (listed_counts join (length i.edges)) (own-join i (odd_at parity i) join matching ok (odd_at-bit parity i) own perfect)

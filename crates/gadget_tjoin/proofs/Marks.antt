@@ -20,7 +20,8 @@ wider n es all = λ k d b. let e = all k d b in (e.0, let high = e.1 in omega (a
 marked-on : (marks : List Bool) (n : ℕ) (es : List ℕ) → AreMarked marks n es → slice_index_or marks n false ≡ true → AreMarked marks (n + 1) (es ++ (n + 1) ∷ [])
 marked-on marks n es are on = record {
   ascending = increasing-push es (n + 1) are.ascending (λ k d b. let e = are.in_range k d b in let high = e.1 in omega (arith, high));
-  in_range = All-append (λ e. (1 ≤ e) × (e ≤ n + 1)) es ((n + 1) ∷ []) (wider n es are.in_range) (All-cons (λ e. (1 ≤ e) × (e ≤ n + 1)) (n + 1) [] (omega arith, omega arith) (All-nil (λ e. (1 ≤ e) × (e ≤ n + 1))));
+  in_range = All-append (λ e. (1 ≤ e) × (e ≤ n + 1)) es ((n + 1) ∷ []) (wider n es are.in_range) (All-cons (λ e. (1 ≤ e) × (e ≤ n + 1)) (n + 1) [] (omega arith, omega arith) (All-nil
+      (λ e. (1 ≤ e) × (e ≤ n + 1))));
   exact = λ k b.
       holds-push es (n + 1) (k + 1)
       ∙ elim (cases_eq k n) [
@@ -37,13 +38,15 @@ marked-off marks n es are off = record {
   exact = λ k b.
       elim (cases_eq k n) [
         | inl e ↦
-            let none : holds es (n + 1) ≡ false = false_from_ne_true (holds es (n + 1)) (λ h. let r = holds_all (λ e. (1 ≤ e) × (e ≤ n)) es (n + 1) are.in_range h in let high = r.1 in omega (arith, high)) in
+            let none : holds es (n + 1) ≡ false = false_from_ne_true (holds es (n + 1)) (λ h. let r = holds_all (λ e. (1 ≤ e) × (e ≤ n)) es (n + 1) are.in_range h in let high = r.1 in omega
+            (arith, high)) in
             ap (λ (j : ℕ). holds es (j + 1)) e ∙ none ∙ sym off ∙ ap (λ (j : ℕ). slice_index_or marks j false) (sym e)
         | inr d ↦ are.exact k (omega (arith, b, d))
       ];
 }
 
-pub marked-step : (marks : List Bool) (n : ℕ) (es new : List ℕ) (mark : Bool) → AreMarked marks n es → mark ≡ slice_index_or marks n false → new ≡ cond mark (es ++ (n + 1) ∷ []) es → AreMarked marks (n + 1) new
+pub marked-step : (marks : List Bool) (n : ℕ) (es new : List ℕ) (mark : Bool) → AreMarked marks n es → mark ≡ slice_index_or marks n false → new ≡ cond mark (es ++ (n + 1) ∷ []) es
+    → AreMarked marks (n + 1) new
 marked-step marks n es new mark are is now =
     let P : List ℕ → Type 0 = AreMarked marks (n + 1) in
     elim (cases_Bool mark) [

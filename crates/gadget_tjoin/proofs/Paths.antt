@@ -67,7 +67,11 @@ paths-reached i ok (Counts counts) h = absurd h
 paths-reached i ok (Walk start edges) path =
     let r = reaches-joins Values i ok (times_each (graph_of i) edges) (path-join i start edges ok path) in
     let same = weight_of_list (graph_of i) edges (walk-numbers (graph_of i) start edges path.walk) in
-    record { counts = r.counts; perfect = r.perfect; weighs = twice-same (weight (ports_graph i (odd_at Values i)) r.counts) (weight (graph_of i) (times_each (graph_of i) edges)) (walk_weight (graph_of i) edges) r.weighs same }
+    record {
+      counts = r.counts;
+      perfect = r.perfect;
+      weighs = twice-same (weight (ports_graph i (odd_at Values i)) r.counts) (weight (graph_of i) (times_each (graph_of i) edges)) (walk_weight (graph_of i) edges) r.weighs same;
+    }
 paths-reached i ok Nothing h = absurd h
 
 pub reaches-paths : (parity : Parity) (i : Network) → IsNetwork i → parity ≡ Values → ReachesAll Path i

@@ -64,7 +64,8 @@ before-is i odd t = ap (sum_to (group_size i odd)) (let e : t + 1 - 1 ≡ t = om
 pub groups-apart : (i : Network) (odd : ℕ → ℕ) (s t : ℕ) → s < t → ports_below i odd (s + 1) + group_size i odd s ≤ ports_below i odd (t + 1)
 groups-apart i odd s t b = omega (arith, sum_to-grows (group_size i odd) s t b, before-is i odd s, before-is i odd t)
 
-pub groups-before_or_after : (i : Network) (odd : ℕ → ℕ) (s t : ℕ) → (s ≡ t → ⊥) → (ports_below i odd (t + 1) + group_size i odd t ≤ ports_below i odd (s + 1)) ⊎ (ports_below i odd (s + 1) + group_size i odd s ≤ ports_below i odd (t + 1))
+pub groups-before_or_after : (i : Network) (odd : ℕ → ℕ) (s t : ℕ) → (s ≡ t → ⊥) → (ports_below i odd (t + 1) + group_size i odd t ≤ ports_below i odd (s + 1)) ⊎
+    (ports_below i odd (s + 1) + group_size i odd s ≤ ports_below i odd (t + 1))
 groups-before_or_after i odd s t d =
     elim (cases_order s t) [
       | inl e ↦ absurd (d e)
@@ -73,13 +74,15 @@ groups-before_or_after i odd s t d =
     ]
 
 -- each vertex of the graph of ports is a place of a group
-pub group-of : (i : Network) (odd : ℕ → ℕ) (n v : ℕ) → 1 ≤ v → v ≤ ports_below i odd (n + 1) → (t : ℕ) × (x : ℕ) × (t < n) × (x < group_size i odd t) × (v ≡ ports_below i odd (t + 1) + x + 1)
+pub group-of : (i : Network) (odd : ℕ → ℕ) (n v : ℕ) → 1 ≤ v → v ≤ ports_below i odd (n + 1) → (t : ℕ) × (x : ℕ) × (t < n) × (x < group_size i odd t)
+    × (v ≡ ports_below i odd (t + 1) + x + 1)
 group-of i odd n v low high =
     let r = find_block (group_size i odd) n (v - 1) (let e = before-is i odd n in omega (arith, e, low, high)) in
     (r.block, r.place, r.block_low, r.place_low, let e = before-is i odd r.block in let p = r.is in omega (arith, e, p, low))
 
 -- whether a port is the place x of the group of vertex t + 1
-port-is : (i : Network) (odd : ℕ → ℕ) (k w t x : ℕ) → 1 ≤ w → met_below i w k < port_count i odd w → x < group_size i odd t → one_if (eqb (port_of i odd k w) (ports_below i odd (t + 1) + x + 1)) ≡ cond (eqb w (t + 1)) (one_if (eqb (met_below i (t + 1) k) x)) 0
+port-is : (i : Network) (odd : ℕ → ℕ) (k w t x : ℕ) → 1 ≤ w → met_below i w k < port_count i odd w → x < group_size i odd t
+    → one_if (eqb (port_of i odd k w) (ports_below i odd (t + 1) + x + 1)) ≡ cond (eqb w (t + 1)) (one_if (eqb (met_below i (t + 1) k) x)) 0
 port-is i odd k w t x low room in_group =
     let B = ports_below i odd (t + 1) in
     let m = met_below i (t + 1) k in
@@ -110,7 +113,8 @@ either false true a = omega arith
 either false false a = omega arith
 
 -- an edge between ports is at the place x where the edge is at the vertex and x others came before it
-pub link-at : (i : Network) (odd : ℕ → ℕ) (k t x : ℕ) → IsNetwork i → k < length i.edges → x < group_size i odd t → ends_at (between_ports i odd k) (ports_below i odd (t + 1) + x + 1) ≡ ends_at (here i k) (t + 1) * one_if (eqb (met_below i (t + 1) k) x)
+pub link-at : (i : Network) (odd : ℕ → ℕ) (k t x : ℕ) → IsNetwork i → k < length i.edges → x < group_size i odd t → ends_at (between_ports i odd k) (ports_below i odd (t + 1) + x + 1)
+    ≡ ends_at (here i k) (t + 1) * one_if (eqb (met_below i (t + 1) k) x)
 link-at i odd k t x ok b in_group =
     let e = here i k in
     let ends = within i k ok b in
@@ -120,7 +124,8 @@ link-at i odd k t x ok b in_group =
     omega (arith, one, other, sum)
 
 -- it meets the group of a vertex as often as the edge meets the vertex
-pub link-meets : (i : Network) (odd : ℕ → ℕ) (k t : ℕ) → IsNetwork i → k < length i.edges → meets_group (ports_below i odd (t + 1)) (group_size i odd t) (between_ports i odd k) ≡ ends_at (here i k) (t + 1)
+pub link-meets : (i : Network) (odd : ℕ → ℕ) (k t : ℕ) → IsNetwork i → k < length i.edges → meets_group (ports_below i odd (t + 1)) (group_size i odd t) (between_ports i odd k)
+    ≡ ends_at (here i k) (t + 1)
 link-meets i odd k t ok b =
     let n = group_size i odd t in
     let a = ends_at (here i k) (t + 1) in

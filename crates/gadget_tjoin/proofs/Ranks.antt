@@ -114,7 +114,8 @@ one_partner f x n small even b held =
 pub partners-each : (f : ℕ → ℕ) (x n : ℕ) → ((k : ℕ) → k < n → f k ≤ 1) → sum_to f n % 2 ≡ 0 → x < n → to_others (partners f) x n ≡ f x
 partners-each f x n small even b =
     elim (zero_or_one (f x) (small x b)) [
-      | inl off ↦ sum_to-none (λ k. cond (eqb k x) 0 (partners f x k)) n (λ k l. cond_zero (eqb k x) (partners f x k) (none_if_zero (f x) (f k * one_if (eqb (sum_to f x / 2) (sum_to f k / 2))) off)) ∙ sym off
+      | inl off ↦ sum_to-none (λ k. cond (eqb k x) 0 (partners f x k)) n (λ k l. cond_zero (eqb k x) (partners f x k)
+          (none_if_zero (f x) (f k * one_if (eqb (sum_to f x / 2) (sum_to f k / 2))) off)) ∙ sym off
       | inr held ↦ one_partner f x n small even b held ∙ sym held
     ]
 

@@ -74,7 +74,8 @@ ends-small i k v ok b =
     let two = ends_at-touches (vertices i) e v ends in
     omega (arith, two, test-small (touches e v))
 
-used-small : (i : Network) (odd : ℕ → ℕ) (counts : List ℕ) (t x : ℕ) → IsNetwork i → length counts ≡ length i.edges → All (λ c. c ≤ 1) counts → x < group_size i odd t → used i odd counts t x ≤ 1
+used-small : (i : Network) (odd : ℕ → ℕ) (counts : List ℕ) (t x : ℕ) → IsNetwork i → length counts ≡ length i.edges → All (λ c. c ≤ 1) counts → x < group_size i odd t → used i odd counts t x
+    ≤ 1
 used-small i odd counts t x ok size small in_group =
     let m = length i.edges in
     let a : ℕ → ℕ = λ k. ends_at (here i k) (t + 1) in
@@ -97,7 +98,8 @@ used-total i odd counts t ok =
 free-total : (i : Network) (odd : ℕ → ℕ) (counts : List ℕ) (t : ℕ) → IsNetwork i → IsOddAt i odd counts → t < vertices i → sum_to (free i odd counts t) (group_size i odd t) % 2 ≡ 0
 free-total i odd counts t ok join b =
     let n = group_size i odd t in
-    let parts = sum_to-same (λ x. free i odd counts t x + used i odd counts t x) (λ _. 1) n (λ x l. let small = used-small i odd counts t x ok join.one_each join.small l in omega (arith, small)) in
+    let parts = sum_to-same (λ x. free i odd counts t x + used i odd counts t x) (λ _. 1) n (λ x l. let small = used-small i odd counts t x ok join.one_each join.small l in omega
+    (arith, small)) in
     let both = sum_to-add (free i odd counts t) (used i odd counts t) n in
     let ones = sum_to-one n in
     let all = used-total i odd counts t ok in
@@ -105,7 +107,8 @@ free-total i odd counts t ok join b =
     omega (arith, parts, both, ones, all, parity)
 
 -- the degree at the place x of the group of vertex t + 1
-paired-degree : (i : Network) (odd : ℕ → ℕ) (counts : List ℕ) (t x : ℕ) → IsNetwork i → IsOddAt i odd counts → t < vertices i → x < group_size i odd t → degree (ports_graph i odd) (paired i odd counts) (ports_below i odd (t + 1) + x + 1) ≡ 1
+paired-degree : (i : Network) (odd : ℕ → ℕ) (counts : List ℕ) (t x : ℕ) → IsNetwork i → IsOddAt i odd counts → t < vertices i → x < group_size i odd t
+    → degree (ports_graph i odd) (paired i odd counts) (ports_below i odd (t + 1) + x + 1) ≡ 1
 paired-degree i odd counts t x ok join b in_group =
     let m = length i.edges in
     let v = ports_below i odd (t + 1) + x + 1 in
@@ -129,7 +132,8 @@ paired-degree i odd counts t x ok join b in_group =
     omega (arith, split, front, back, rest, small)
 
 all_counts : (c : ℕ → ℕ → ℕ) (n : ℕ) → ((a b : ℕ) → c a b ≤ 1) → All (λ q. q ≤ 1) (clique_table c n)
-all_counts c n small = All-blocks (λ q. q ≤ 1) (λ a. tabled (λ d. c a (a + d + 1)) (n - 1 - a)) n (λ a b. All-tabled (λ q. q ≤ 1) (λ d. c a (a + d + 1)) (n - 1 - a) (λ j b'. small a (a + j + 1)))
+all_counts c n small = All-blocks (λ q. q ≤ 1) (λ a. tabled (λ d. c a (a + d + 1)) (n - 1 - a)) n (λ a b. All-tabled (λ q. q ≤ 1) (λ d. c a (a + d + 1)) (n - 1 - a)
+    (λ j b'. small a (a + j + 1)))
 
 -- the perfect matching of a join
 pub paired-perfect : (i : Network) (odd : ℕ → ℕ) (counts : List ℕ) → IsNetwork i → IsOddAt i odd counts → IsPerfect (ports_graph i odd) (paired i odd counts)
@@ -137,7 +141,8 @@ paired-perfect i odd counts ok join =
     let size : ℕ → ℕ = group_size i odd in
     let c : ℕ → ℕ → ℕ → ℕ = λ s. partners (free i odd counts s) in
     let h : ℕ → List ℕ = λ s. clique_table (c s) (size s) in
-    let same : length (cliques i odd) ≡ length (blocks h (vertices i)) = blocks-lengths (λ s. clique (ports_below i odd (s + 1)) (size s)) h (vertices i) (λ s _. clique-size (c s) (ports_below i odd (s + 1)) (size s)) in
+    let same : length (cliques i odd) ≡ length (blocks h (vertices i)) = blocks-lengths (λ s. clique (ports_below i odd (s + 1)) (size s)) h (vertices i)
+    (λ s _. clique-size (c s) (ports_below i odd (s + 1)) (size s)) in
     record {
       one_each = length-append counts (blocks h (vertices i)) ∙ (let one = join.one_each in let all = edges-size i odd in omega (arith, one, all, same));
       at_most_one = All-append (λ q. q ≤ 1) counts (blocks h (vertices i)) join.small
@@ -151,7 +156,8 @@ times_none : (a : ℕ) (w : ℤ) → w ≡ pos 0 → pos a *ℤ w ≡ pos 0
 times_none a w e = rw e (omega (arith, ints))
 
 -- the pairs weigh nothing
-pub ports-weight : (i : Network) (odd : ℕ → ℕ) (front counts : List ℕ) → ((k : ℕ) → k < length i.edges → slice_index counts k ≡ slice_index front k) → weight (ports_graph i odd) counts ≡ weight (graph_of i) front
+pub ports-weight : (i : Network) (odd : ℕ → ℕ) (front counts : List ℕ) → ((k : ℕ) → k < length i.edges → slice_index counts k ≡ slice_index front k) → weight (ports_graph i odd) counts
+    ≡ weight (graph_of i) front
 ports-weight i odd front counts same =
     let m = length i.edges in
     let g = ports_graph i odd in

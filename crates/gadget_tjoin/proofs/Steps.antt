@@ -18,18 +18,21 @@ use Rattle.gadget_tjoin.specs.Groups.{AreGroups}
 use Rattle.gadget_tjoin.proofs.Places.{here, within, group_size, before-is, groups-apart}
 use Rattle.gadget_tjoin.proofs.PortEdges.{link-within}
 
-sizes-sum : (i : Network) (odd : ℕ → ℕ) (sizes : List ℕ) (n : ℕ) → ((k : ℕ) → k < vertices i → slice_index sizes k ≡ port_count i odd (k + 1)) → n ≤ vertices i → sum_to (λ k. slice_index sizes k) n ≡ sum_to (group_size i odd) n
+sizes-sum : (i : Network) (odd : ℕ → ℕ) (sizes : List ℕ) (n : ℕ) → ((k : ℕ) → k < vertices i → slice_index sizes k ≡ port_count i odd (k + 1)) → n ≤ vertices i
+    → sum_to (λ k. slice_index sizes k) n ≡ sum_to (group_size i odd) n
 sizes-sum i odd sizes n are b = sum_to-same (λ k. slice_index sizes k) (group_size i odd) n (λ k l. are k (omega arith))
 
 -- all sizes together fit
-pub sizes-fit : (i : Network) (odd : ℕ → ℕ) (sizes : List ℕ) → IsWithinLimits (ports_size i odd) → length sizes ≡ vertices i → ((k : ℕ) → k < vertices i → slice_index sizes k ≡ port_count i odd (k + 1)) → sum_to (λ k. slice_index sizes k) (length sizes) < 2 ^ 32
+pub sizes-fit : (i : Network) (odd : ℕ → ℕ) (sizes : List ℕ) → IsWithinLimits (ports_size i odd) → length sizes ≡ vertices i → ((k : ℕ) → k < vertices i → slice_index sizes k
+    ≡ port_count i odd (k + 1)) → sum_to (λ k. slice_index sizes k) (length sizes) < 2 ^ 32
 sizes-fit i odd sizes limits one_each are =
     let most : sum_to (group_size i odd) (vertices i) ≤ 4096 = limits.vertices in
     let whole : sum_to (λ k. slice_index sizes k) (length sizes) ≡ sum_to (λ k. slice_index sizes k) (vertices i) = ap (sum_to (λ k. slice_index sizes k)) one_each in
     omega (arith, most, whole, sizes-sum i odd sizes (vertices i) are (omega arith))
 
 -- sizes and where they start are the groups
-pub groups-are : (i : Network) (odd : ℕ → ℕ) (before sizes : List ℕ) → length sizes ≡ vertices i → ((k : ℕ) → k < vertices i → slice_index sizes k ≡ port_count i odd (k + 1)) → AreStarts (λ k. slice_index sizes k) (length sizes) before → AreGroups i odd before sizes
+pub groups-are : (i : Network) (odd : ℕ → ℕ) (before sizes : List ℕ) → length sizes ≡ vertices i → ((k : ℕ) → k < vertices i → slice_index sizes k ≡ port_count i odd (k + 1))
+    → AreStarts (λ k. slice_index sizes k) (length sizes) before → AreGroups i odd before sizes
 groups-are i odd before sizes one_each are starts = record {
   one_size_each = one_each;
   one_more = let more = starts.one_more in omega (arith, more, one_each);
@@ -39,7 +42,8 @@ groups-are i odd before sizes one_each are starts = record {
 
 -- the ports that are left
 
-pub next-at : (i : Network) (odd : ℕ → ℕ) (next : List ℕ) (k w : ℕ) → 1 ≤ w → w ≤ vertices i → ((t : ℕ) → t < vertices i → slice_index next t ≡ ports_below i odd (t + 1) + met_below i (t + 1) k) → slice_index next (w - 1) ≡ ports_below i odd w + met_below i w k
+pub next-at : (i : Network) (odd : ℕ → ℕ) (next : List ℕ) (k w : ℕ) → 1 ≤ w → w ≤ vertices i → ((t : ℕ) → t < vertices i → slice_index next t ≡ ports_below i odd (t + 1) + met_below i
+    (t + 1) k) → slice_index next (w - 1) ≡ ports_below i odd w + met_below i w k
 next-at i odd next k w low high each =
     let back : w - 1 + 1 ≡ w = omega arith in
     each (w - 1) (omega arith) ∙ ap (λ (x : ℕ). ports_below i odd x + met_below i x k) back
@@ -55,7 +59,9 @@ links-fit i odd g n k is = ap (λ (h : Multigraph). length h.edges) is ∙ table
 
 -- the cliques
 
-pub cliques-fit : (g h : Multigraph) (before sizes : List ℕ) (k : ℕ) → length g.edges + sum_to (λ k. slice_index sizes k * (slice_index sizes k - 1) / 2) (length sizes) < 2 ^ 32 → k < length sizes → h ≡ record g { edges = g.edges ++ blocks (λ j. clique (slice_index before j) (slice_index sizes j)) k } → length h.edges + slice_index sizes k * (slice_index sizes k - 1) / 2 < 2 ^ 32
+pub cliques-fit : (g h : Multigraph) (before sizes : List ℕ) (k : ℕ) → length g.edges + sum_to (λ k. slice_index sizes k * (slice_index sizes k - 1) / 2) (length sizes) < 2 ^ 32
+    → k < length sizes → h ≡ record g { edges = g.edges ++ blocks (λ j. clique (slice_index before j) (slice_index sizes j)) k } → length h.edges + slice_index sizes k *
+    (slice_index sizes k - 1) / 2 < 2 ^ 32
 cliques-fit g h before sizes k room b is =
     let f : ℕ → List Edge = λ j. clique (slice_index before j) (slice_index sizes j) in
     let count : ℕ → ℕ = λ j. slice_index sizes j * (slice_index sizes j - 1) / 2 in
@@ -64,7 +70,8 @@ cliques-fit g h before sizes k room b is =
     let grows = sum_to-grows count k (length sizes) b in
     omega (arith, so_far, now, grows, room)
 
-pub groups-inside : (i : Network) (odd : ℕ → ℕ) (before sizes : List ℕ) (k : ℕ) → AreGroups i odd before sizes → k < length sizes → slice_index before k + slice_index sizes k ≤ ports_below i odd (vertices i + 1)
+pub groups-inside : (i : Network) (odd : ℕ → ℕ) (before sizes : List ℕ) (k : ℕ) → AreGroups i odd before sizes → k < length sizes → slice_index before k + slice_index sizes k
+    ≤ ports_below i odd (vertices i + 1)
 groups-inside i odd before sizes k groups b =
     let size = groups.one_size_each in
     let one = groups.sizes_are k (omega (arith, size, b)) in
@@ -72,7 +79,8 @@ groups-inside i odd before sizes k groups b =
     let next = groups-apart i odd k (vertices i) (omega (arith, size, b)) in
     omega (arith, one, two, next)
 
-pub groups-room : (i : Network) (odd : ℕ → ℕ) (before sizes : List ℕ) → IsWithinLimits (ports_size i odd) → AreGroups i odd before sizes → length i.edges + sum_to (λ k. slice_index sizes k * (slice_index sizes k - 1) / 2) (length sizes) < 2 ^ 32
+pub groups-room : (i : Network) (odd : ℕ → ℕ) (before sizes : List ℕ) → IsWithinLimits (ports_size i odd) → AreGroups i odd before sizes → length i.edges + sum_to
+    (λ k. slice_index sizes k * (slice_index sizes k - 1) / 2) (length sizes) < 2 ^ 32
 groups-room i odd before sizes limits groups =
     let most : length i.edges + sum_to (λ k. port_count i odd (k + 1) * (port_count i odd (k + 1) - 1) / 2) (vertices i) ≤ 1048576 = limits.edges in
     let count : ℕ → ℕ = λ k. slice_index sizes k * (slice_index sizes k - 1) / 2 in
@@ -80,7 +88,8 @@ groups-room i odd before sizes limits groups =
     let same = sum_to-same count (λ k. port_count i odd (k + 1) * (port_count i odd (k + 1) - 1) / 2) (vertices i) (λ k b. ap (λ (n : ℕ). n * (n - 1) / 2) (groups.sizes_are k b)) in
     omega (arith, most, whole, same)
 
-pub groups-cliques : (i : Network) (odd : ℕ → ℕ) (before sizes : List ℕ) → AreGroups i odd before sizes → blocks (λ k. clique (slice_index before k) (slice_index sizes k)) (length sizes) ≡ blocks (λ k. clique (ports_below i odd (k + 1)) (port_count i odd (k + 1))) (vertices i)
+pub groups-cliques : (i : Network) (odd : ℕ → ℕ) (before sizes : List ℕ) → AreGroups i odd before sizes → blocks (λ k. clique (slice_index before k) (slice_index sizes k)) (length sizes)
+    ≡ blocks (λ k. clique (ports_below i odd (k + 1)) (port_count i odd (k + 1))) (vertices i)
 groups-cliques i odd before sizes groups =
     let f : ℕ → List Edge = λ k. clique (slice_index before k) (slice_index sizes k) in
     ap (blocks f) groups.one_size_each
@@ -90,7 +99,9 @@ groups-cliques i odd before sizes groups =
 -- the step of the loop over the edges
 
 -- the next ports of an edge that was read
-pub next-ports : (i : Network) (odd : ℕ → ℕ) (next : List ℕ) (k : ℕ) (e : InstanceEdge) → IsNetwork i → k < length i.edges → e ≡ instance_edge_at i k → ((t : ℕ) → t < vertices i → slice_index next t ≡ ports_below i odd (t + 1) + met_below i (t + 1) k) → (slice_index next (e.u - 1) + 1 ≡ (between_ports i odd k).u) × (slice_index next (e.v - 1) + 1 ≡ (between_ports i odd k).v)
+pub next-ports : (i : Network) (odd : ℕ → ℕ) (next : List ℕ) (k : ℕ) (e : InstanceEdge) → IsNetwork i → k < length i.edges → e ≡ instance_edge_at i k → ((t : ℕ) → t < vertices i
+    → slice_index next t ≡ ports_below i odd (t + 1) + met_below i (t + 1) k) → (slice_index next (e.u - 1) + 1 ≡ (between_ports i odd k).u) × (slice_index next (e.v - 1) + 1
+    ≡ (between_ports i odd k).v)
 next-ports i odd next k e ok b is each =
     let ends = within i k ok b in
     let port : ℕ → ℕ = λ w. slice_index next (w - 1) + 1 in
@@ -98,21 +109,26 @@ next-ports i odd next k e ok b is each =
     let at_v = next-at i odd next k (here i k).v ends.v_low ends.v_high each in
     (ap (λ (x : InstanceEdge). port x.u) is ∙ ap (λ (y : ℕ). y + 1) at_u, ap (λ (x : InstanceEdge). port x.v) is ∙ ap (λ (y : ℕ). y + 1) at_v)
 
-pub link-ends : (i : Network) (odd : ℕ → ℕ) (k : ℕ) → IsNetwork i → k < length i.edges → IsWithinLimits (ports_size i odd) → ((between_ports i odd k).u ≤ 4096) × ((between_ports i odd k).v ≤ 4096)
+pub link-ends : (i : Network) (odd : ℕ → ℕ) (k : ℕ) → IsNetwork i → k < length i.edges → IsWithinLimits (ports_size i odd) → ((between_ports i odd k).u ≤ 4096)
+    × ((between_ports i odd k).v ≤ 4096)
 link-ends i odd k ok b limits =
     let ends = link-within i odd k ok b in
     let few = few-ports i odd limits in
     (let high = ends.u_high in omega (arith, high, few), let high = ends.v_high in omega (arith, high, few))
 
 -- the edge that is added
-pub added-link : (i : Network) (odd : ℕ → ℕ) (next : List ℕ) (k : ℕ) (e : InstanceEdge) → e ≡ instance_edge_at i k → (slice_index next (e.u - 1) + 1 ≡ (between_ports i odd k).u) × (slice_index next (e.v - 1) + 1 ≡ (between_ports i odd k).v) → record { u = slice_index next (e.u - 1) + 1; v = slice_index next (e.v - 1) + 1; w = e.w } ≡ between_ports i odd k
+pub added-link : (i : Network) (odd : ℕ → ℕ) (next : List ℕ) (k : ℕ) (e : InstanceEdge) → e ≡ instance_edge_at i k → (slice_index next (e.u - 1) + 1 ≡ (between_ports i odd k).u)
+    × (slice_index next (e.v - 1) + 1 ≡ (between_ports i odd k).v) → record { u = slice_index next (e.u - 1) + 1; v = slice_index next (e.v - 1) + 1; w = e.w } ≡ between_ports i odd k
 added-link i odd next k e is at =
     let make : ℕ → ℕ → ℤ → Edge = λ u v w. record { u = u; v = v; w = w } in
     ap (λ (x : ℕ). make x (slice_index next (e.v - 1) + 1) e.w) at.0
     ∙ ap (λ (x : ℕ). make (between_ports i odd k).u x e.w) at.1
     ∙ ap (make (between_ports i odd k).u (between_ports i odd k).v) (ap (λ (x : InstanceEdge). x.w) is)
 
-pub grown-link : (f : ℕ → Edge) (h new : Multigraph) (n k : ℕ) (e : Edge) → h ≡ record { vertices = n; edges = tabled f k } → new ≡ record { vertices = h.vertices; edges = h.edges ++ e ∷ [] } → e ≡ f k → new ≡ record { vertices = n; edges = tabled f (k + 1) }
+pub grown-link : (f : ℕ → Edge) (h new : Multigraph) (n k : ℕ) (e : Edge) → h ≡ record { vertices = n; edges = tabled f k } → new ≡ record {
+  vertices = h.vertices;
+  edges = h.edges ++ e ∷ [];
+} → e ≡ f k → new ≡ record { vertices = n; edges = tabled f (k + 1) }
 grown-link f h new n k e old is here =
     let make : List Edge → Multigraph = λ es. record { vertices = n; edges = es } in
     is
@@ -121,14 +137,18 @@ grown-link f h new n k e old is here =
     ∙ ap make (sym (tabled-more f k))
 
 -- both ends have one port less
-pub next-step : (i : Network) (odd : ℕ → ℕ) (k t x y : ℕ) (e : InstanceEdge) → e ≡ instance_edge_at i k → x ≡ ports_below i odd (t + 1) + met_below i (t + 1) k → y ≡ x + ends_at (plain e) (t + 1) → y ≡ ports_below i odd (t + 1) + met_below i (t + 1) (k + 1)
+pub next-step : (i : Network) (odd : ℕ → ℕ) (k t x y : ℕ) (e : InstanceEdge) → e ≡ instance_edge_at i k → x ≡ ports_below i odd (t + 1) + met_below i (t + 1) k → y
+    ≡ x + ends_at (plain e) (t + 1) → y ≡ ports_below i odd (t + 1) + met_below i (t + 1) (k + 1)
 next-step i odd k t x y e is old new =
     let more = sum_to-more (λ j. ends_at (here i j) (t + 1)) k in
     let same : ends_at (plain e) (t + 1) ≡ ends_at (here i k) (t + 1) = ap (λ (z : InstanceEdge). ends_at (plain z) (t + 1)) is in
     omega (arith, more, same, old, new)
 
 -- the graph of ports, of its two parts
-pub filled-graph : (i : Network) (odd : ℕ → ℕ) (before sizes : List ℕ) (n : ℕ) (g h : Multigraph) → AreGroups i odd before sizes → n ≡ ports_below i odd (vertices i + 1) → g ≡ record { vertices = n; edges = tabled (between_ports i odd) (length i.edges) } → h ≡ record { vertices = g.vertices; edges = g.edges ++ blocks (λ k. clique (slice_index before k) (slice_index sizes k)) (length sizes) } → h ≡ ports_graph i odd
+pub filled-graph : (i : Network) (odd : ℕ → ℕ) (before sizes : List ℕ) (n : ℕ) (g h : Multigraph) → AreGroups i odd before sizes → n ≡ ports_below i odd (vertices i + 1) → g ≡ record {
+  vertices = n;
+  edges = tabled (between_ports i odd) (length i.edges);
+} → h ≡ record { vertices = g.vertices; edges = g.edges ++ blocks (λ k. clique (slice_index before k) (slice_index sizes k)) (length sizes) } → h ≡ ports_graph i odd
 filled-graph i odd before sizes n g h groups size first second =
     let f : ℕ → List Edge = λ k. clique (slice_index before k) (slice_index sizes k) in
     let make : ℕ → List Edge → Multigraph = λ n es. record { vertices = n; edges = es } in

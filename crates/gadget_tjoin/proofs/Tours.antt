@@ -91,7 +91,8 @@ at_least t w some low =
     omega (arith, ints, whole, split, again, more, none)
 
 -- a walk that uses each edge weighs at least all edges and that join
-pub evenly-weight : (i : Network) (es : List ℕ) → All (IsEdgeNumber (graph_of i)) es → ((e : ℕ) → 1 ≤ e → e ≤ length i.edges → holds es e ≡ true) → HasWeightsFromZero i → (weight (graph_of i) (evenly i es) +ℤ total_weight i) ≤ℤ walk_weight (graph_of i) es
+pub evenly-weight : (i : Network) (es : List ℕ) → All (IsEdgeNumber (graph_of i)) es → ((e : ℕ) → 1 ≤ e → e ≤ length i.edges → holds es e ≡ true) → HasWeightsFromZero i
+    → (weight (graph_of i) (evenly i es) +ℤ total_weight i) ≤ℤ walk_weight (graph_of i) es
 evenly-weight i es numbers all low =
     let g = graph_of i in
     let m = length g.edges in
@@ -103,7 +104,8 @@ evenly-weight i es numbers all low =
     let place : k < length i.edges = omega (arith, size, b) in
     let a = evenly-at i es k place in
     let one : slice_index (replicate (length i.edges) 1) k ≡ 1 = get_or-replicate (length i.edges) k 1 0 place in
-    let heavy : pos 0 ≤ℤ w k = let e = edge_at-graph_of i k in let h : pos 0 ≤ℤ (instance_edge_at i k).w = low k no_instance_edge place in let same : w k ≡ (instance_edge_at i k).w = ap (λ (x : Edge). x.w) e in omega (arith, ints, h, same) in
+    let heavy : pos 0 ≤ℤ w k = let e = edge_at-graph_of i k in let h : pos 0 ≤ℤ (instance_edge_at i k).w = low k no_instance_edge place in let same : w k ≡ (instance_edge_at i k).w =
+    ap (λ (x : Edge). x.w) e in omega (arith, ints, h, same) in
     let some = held-times es (k + 1) (all (k + 1) (omega arith) (omega (arith, place))) in
     rw (a, one) (at_least (times es (k + 1)) (w k) some heavy)) in
     omega (arith, ints, both, below, times-weight g es numbers)
@@ -124,10 +126,18 @@ tours-reached i ok low (Counts counts) h = absurd h
 tours-reached i ok low (Walk start edges) tour =
     let r = reaches-joins OddDegrees i ok (evenly i edges) (evenly-join i start edges ok tour.closed) in
     let less = evenly-weight i edges (walk-numbers (graph_of i) start edges tour.closed.0) tour.all low in
-    record { counts = r.counts; perfect = r.perfect; weighs = twice-less (weight (ports_graph i (odd_at OddDegrees i)) r.counts) (weight (graph_of i) (evenly i edges)) (total_weight i) (walk_weight (graph_of i) edges) r.weighs less }
+    record {
+      counts = r.counts;
+      perfect = r.perfect;
+      weighs = twice-less (weight (ports_graph i (odd_at OddDegrees i)) r.counts) (weight (graph_of i) (evenly i edges)) (total_weight i) (walk_weight (graph_of i) edges) r.weighs less;
+    }
 tours-reached i ok low Nothing none =
     let r = reaches-joins OddDegrees i ok (evenly i []) (evenly-join i 0 [] ok (tt, refl)) in
-    record { counts = r.counts; perfect = r.perfect; weighs = twice-less (weight (ports_graph i (odd_at OddDegrees i)) r.counts) (weight (graph_of i) (evenly i [])) (total_weight i) (pos 0) r.weighs (nothing-used i none) }
+    record {
+      counts = r.counts;
+      perfect = r.perfect;
+      weighs = twice-less (weight (ports_graph i (odd_at OddDegrees i)) r.counts) (weight (graph_of i) (evenly i [])) (total_weight i) (pos 0) r.weighs (nothing-used i none);
+    }
 
 pub reaches-tours : (parity : Parity) (i : Network) → IsNetwork i → parity ≡ OddDegrees → HasWeightsFromZero i → ReachesAll Postman i
 reaches-tours parity i ok is low = tours-reached i ok low

@@ -1,7 +1,8 @@
 -- Walks and parity, in any graph: a walk is at its start and at its end an odd number of times where they
 -- differ, and else an even number; and a count that changes by an odd number turns the parity of the degrees
 -- at the two ends of its edge.
-use Rattle.std.proofs.Common.{◌≡◌, ℕ, ◌+◌, ◌*◌, ◌/◌, ◌%◌, ◌<◌, ◌≤◌, Bool, true, false, cond, eqb, ◌||◌, refl, ap, sym, ◌∙◌, subst, inl, inr, arith, List, [], ◌∷◌, length, slice_index, All, count_by}
+use Rattle.std.proofs.Common.{◌≡◌, ℕ, ◌+◌, ◌*◌, ◌/◌, ◌%◌, ◌<◌, ◌≤◌, Bool, true, false, cond, eqb, ◌||◌, refl, ap, sym, ◌∙◌, subst, inl, inr, arith, List, [], ◌∷◌, length, slice_index, All}
+use Rattle.std.proofs.Common.{count_by}
 use Rattle.std.proofs.lemmas.Bool.{cases_eq, cases_Bool, eq-eqb, ne_eqb, eqb-true, or_cases, or_left, or_right, false≢true, true≢false, false_from_ne_true}
 use Rattle.std.proofs.lemmas.List.Sums.{sum_by-cons}
 use Rattle.graph_theory.specs.declared.edge.Edge.{Edge}
@@ -34,7 +35,8 @@ ends_of_step n e v x within meets =
 count_by-cons : (p : ℕ → Bool) (e : ℕ) (es : List ℕ) → count_by p (e ∷ es) ≡ one_if (p e) + count_by p es
 count_by-cons p e es = sum_by-cons (λ x. cond (p x) 1 0) e es
 
-count-parity : (g : Multigraph) (v x : ℕ) (es : List ℕ) → All (IsEdgeWithin g.vertices) g.edges → IsWalk g v es → (count_by (λ e. touches (edge_of g e) x) es + one_if (eqb v x) + one_if (eqb (walk_end g v es) x)) % 2 ≡ 0
+count-parity : (g : Multigraph) (v x : ℕ) (es : List ℕ) → All (IsEdgeWithin g.vertices) g.edges → IsWalk g v es → (count_by (λ e. touches (edge_of g e) x) es + one_if (eqb v x) + one_if
+    (eqb (walk_end g v es) x)) % 2 ≡ 0
 count-parity g v x [] ends walk = let twice : (0 + one_if (eqb v x) + one_if (eqb v x)) % 2 ≡ 0 = omega arith in twice
 count-parity g v x (e ∷ es) ends walk =
     let edge = edge_of g e in
@@ -46,7 +48,8 @@ count-parity g v x (e ∷ es) ends walk =
     omega (arith, rest, more, both, here)
 
 -- a walk's degree at x, with 1 where x is its start and 1 where x is its end, is even
-pub walk-parity : (g : Multigraph) (v x : ℕ) (es : List ℕ) → All (IsEdgeWithin g.vertices) g.edges → IsWalk g v es → (degree g (times_each g es) x + one_if (eqb v x) + one_if (eqb (walk_end g v es) x)) % 2 ≡ 0
+pub walk-parity : (g : Multigraph) (v x : ℕ) (es : List ℕ) → All (IsEdgeWithin g.vertices) g.edges → IsWalk g v es → (degree g (times_each g es) x + one_if (eqb v x) + one_if
+    (eqb (walk_end g v es) x)) % 2 ≡ 0
 walk-parity g v x es ends walk =
     let same = times_each-degree g es x ends (walk-numbers g v es walk) in
     omega (arith, same, count-parity g v x es ends walk)
@@ -65,12 +68,14 @@ product-parity a b c e =
     omega (arith, first, second, x, y)
 
 -- counts of the same parity have degrees of the same parity
-pub degree-parity : (g : Multigraph) (one other : List ℕ) (x : ℕ) → ((k : ℕ) → k < length g.edges → slice_index one k % 2 ≡ slice_index other k % 2) → degree g one x % 2 ≡ degree g other x % 2
+pub degree-parity : (g : Multigraph) (one other : List ℕ) (x : ℕ) → ((k : ℕ) → k < length g.edges → slice_index one k % 2 ≡ slice_index other k % 2) → degree g one x % 2
+    ≡ degree g other x % 2
 degree-parity g one other x same = sum_to-parity (λ k. slice_index one k * ends_at (edge_at g k) x) (λ k. slice_index other k * ends_at (edge_at g k) x) (length g.edges)
     (λ k b. product-parity (slice_index one k) (slice_index other k) (ends_at (edge_at g k) x) (same k b))
 
 -- where the counts of edge j alone differ in parity, the degrees do at its two ends alone
-pub flip-step : (g : Multigraph) (old new : List ℕ) (j v x : ℕ) → All (IsEdgeWithin g.vertices) g.edges → j < length g.edges → touches (edge_at g j) v ≡ true → ((k : ℕ) → k < length g.edges → (slice_index old k + slice_index new k) % 2 ≡ one_if (eqb k j)) → (degree g old x + degree g new x) % 2 ≡ (one_if (eqb v x) + one_if (eqb (other_end (edge_at g j) v) x)) % 2
+pub flip-step : (g : Multigraph) (old new : List ℕ) (j v x : ℕ) → All (IsEdgeWithin g.vertices) g.edges → j < length g.edges → touches (edge_at g j) v ≡ true → ((k : ℕ) → k < length g.edges
+    → (slice_index old k + slice_index new k) % 2 ≡ one_if (eqb k j)) → (degree g old x + degree g new x) % 2 ≡ (one_if (eqb v x) + one_if (eqb (other_end (edge_at g j) v) x)) % 2
 flip-step g old new j v x ends b meets differ =
     let m = length g.edges in
     let at : ℕ → ℕ = λ k. ends_at (edge_at g k) x in
@@ -78,7 +83,8 @@ flip-step g old new j v x ends b meets differ =
     let agree = sum_to-parity (λ k. slice_index old k * at k + slice_index new k * at k) (λ k. cond (eqb k j) (at k) 0) m
     (λ k l.
     let sum : slice_index old k * at k + slice_index new k * at k ≡ (slice_index old k + slice_index new k) * at k = grind arith in
-    let parity = product-parity (slice_index old k + slice_index new k) (one_if (eqb k j)) (at k) (let d = differ k l in let small : one_if (eqb k j) ≤ 1 = elim (cases_Bool (eqb k j)) [ inl h ↦ rw h (omega arith) | inr h ↦ rw h (omega arith) ] in omega (arith, d, small)) in
+    let parity = product-parity (slice_index old k + slice_index new k) (one_if (eqb k j)) (at k) (let d = differ k l in let small : one_if (eqb k j)
+    ≤ 1 = elim (cases_Bool (eqb k j)) [ inl h ↦ rw h (omega arith) | inr h ↦ rw h (omega arith) ] in omega (arith, d, small)) in
     let test : one_if (eqb k j) * at k ≡ cond (eqb k j) (at k) 0 = elim (cases_Bool (eqb k j)) [ inl h ↦ rw h (omega arith) | inr h ↦ rw h (omega arith) ] in
     omega (arith, sum, parity, test)) in
     let hit = sum_to-hit at j m b in
@@ -97,7 +103,8 @@ one_of v w x some =
       ]
     ]
 
-pub used_ends : (g : Multigraph) (v e x : ℕ) (es : List ℕ) → All (IsEdgeWithin g.vertices) g.edges → IsWalk g v es → holds es e ≡ true → touches (edge_of g e) x ≡ true → holds (walk_vertices g v es) x ≡ true
+pub used_ends : (g : Multigraph) (v e x : ℕ) (es : List ℕ) → All (IsEdgeWithin g.vertices) g.edges → IsWalk g v es → holds es e ≡ true → touches (edge_of g e) x ≡ true
+    → holds (walk_vertices g v es) x ≡ true
 used_ends g v e x [] ends walk used meets = absurd (true≢false (sym used))
 used_ends g v e x (f ∷ fs) ends walk used meets =
     let w = other_end (edge_of g f) v in

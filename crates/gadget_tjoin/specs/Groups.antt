@@ -4,8 +4,8 @@ use Rattle.mb_problem.specs.Network.{Network, vertices}
 use Rattle.mb_problem.specs.Size.{port_count}
 use Rattle.gadget_base.specs.Gadgets.{ports_below}
 
--- at place k how many ports and spares stand before those of vertex k + 1, and how many it has; at the end of
--- `before` how many there are in all
+-- at place k how many ports and spares stand before those of vertex k + 1, and how many it has; at
+-- the end of `before` how many there are in all
 pub record AreGroups (i : Network) (odd : ℕ → ℕ) (before sizes : List ℕ) : Type 0 where
   pub one_size_each : length sizes ≡ vertices i
   pub one_more : length before ≡ vertices i + 1

@@ -16,4 +16,5 @@ pub record HasPerfect (g : Multigraph) (w : ℤ) : Type 0 where
 
 -- each join has a perfect matching of the graph of ports with its weight
 abbrev pub ReachesJoins : Parity → Network → Type 0
-ReachesJoins parity i = (counts : List ℕ) → IsJoinOf parity i counts → HasPerfect (ports_graph i (odd_at parity i)) (weight (graph_of i) counts)
+ReachesJoins parity i = (counts : List ℕ) → IsJoinOf parity i counts
+    → HasPerfect (ports_graph i (odd_at parity i)) (weight (graph_of i) counts)

@@ -1,4 +1,5 @@
-ghost use Rattle.std.specs.Prelude.{◌≡◌, ℕ, ◌+◌, ◌-◌, ◌*◌, ◌/◌, ◌%◌, ◌<◌, ◌≤◌, ◌^◌, ◌++◌, ◌==◌, if◌then◌else◌, length, slice_index, IfOk, OnOk};
+ghost use Rattle.std.specs.Prelude.{◌≡◌, ℕ, ◌+◌, ◌-◌, ◌*◌, ◌/◌, ◌%◌, ◌<◌, ◌≤◌, ◌^◌, ◌++◌, ◌==◌};
+ghost use Rattle.std.specs.Prelude.{if◌then◌else◌, length, slice_index, IfOk, OnOk};
 ghost use Rattle.graph_theory.specs.Sums.{sum_to};
 ghost use Rattle.mb_problem.specs.declared.limits.TheConstants.{EDGE_LIMIT};
 ghost use Rattle.mb_problem.specs.Network.{vertices};
@@ -18,8 +19,10 @@ fn count_edges(counts: &mut [u32], instance: &Instance)
     requires one_each { length counts.old ≡ vertices instance.now }
     requires start { (k : ℕ) → k < length counts.old → slice_index counts.old k ≡ 0 }
     ensures size { length counts.new ≡ length counts.old }
-    ensures each { (k : ℕ) → k < vertices instance.now → slice_index counts.new k ≡ edge_count_at instance.now (k + 1) }
-    ensures small { (k : ℕ) → k < vertices instance.now → slice_index counts.new k ≤ 2 * EDGE_LIMIT }
+    ensures each { (k : ℕ) → k < vertices instance.now → slice_index counts.new k
+        ≡ edge_count_at instance.now (k + 1) }
+    ensures small { (k : ℕ) → k < vertices instance.now → slice_index counts.new k
+        ≤ 2 * EDGE_LIMIT }
 {
     for edge in instance.edge_list() {
         take_ports(counts, edge);
@@ -29,8 +32,10 @@ fn count_edges(counts: &mut [u32], instance: &Instance)
 /// How many edges meet each vertex.
 fn edge_counts(alloc: Global, instance: &Instance) -> Result<Vec<u32>, OutOfMemory>
     ensures size { IfOk result (λ counts. length counts.items ≡ vertices instance.now) }
-    ensures each { IfOk result (λ counts. (k : ℕ) → k < vertices instance.now → slice_index counts.items k ≡ edge_count_at instance.now (k + 1)) }
-    ensures small { IfOk result (λ counts. (k : ℕ) → k < vertices instance.now → slice_index counts.items k ≤ 2 * EDGE_LIMIT) }
+    ensures each { IfOk result (λ counts. (k : ℕ) → k < vertices instance.now
+        → slice_index counts.items k ≡ edge_count_at instance.now (k + 1)) }
+    ensures small { IfOk result (λ counts. (k : ℕ) → k < vertices instance.now
+        → slice_index counts.items k ≤ 2 * EDGE_LIMIT) }
 {
     let mut counts = vec![in alloc; 0u32; instance.vertices() as usize]?;
     count_edges(&mut counts, instance);
@@ -57,7 +62,9 @@ pub fn group_sizes(
     parity: Parity,
 ) -> Result<Vec<u32>, OutOfMemory>
     ensures size { IfOk result (λ sizes. length sizes.items ≡ vertices instance.now) }
-    ensures each { IfOk result (λ sizes. (k : ℕ) → k < vertices instance.now → slice_index sizes.items k ≡ port_count instance.now (odd_at parity instance.now) (k + 1)) }
+    ensures each { IfOk result (λ sizes. (k : ℕ) → k < vertices instance.now
+        → slice_index sizes.items k ≡ port_count instance.now (odd_at parity instance.now)
+        (k + 1)) }
 {
     let counts = edge_counts(alloc, instance)?;
     let mut sizes = Vec::with_capacity(alloc, counts.len())?;
@@ -70,9 +77,15 @@ pub fn group_sizes(
 /// Joins all vertices of each group: group k has `sizes[k]` vertices, after the first `before[k]`.
 pub fn add_cliques(graph: &mut Graph, before: &[u32], sizes: &[u32]) -> Result<(), OutOfMemory>
     requires one_each { length sizes.now ≤ length before.now }
-    requires inside { (k : ℕ) → k < length sizes.now → slice_index before.now k + slice_index sizes.now k ≤ graph.old.vertices }
-    requires room { length graph.old.edges + sum_to (λ k. slice_index sizes.now k * (slice_index sizes.now k - 1) / 2) (length sizes.now) < 2 ^ 32 }
-    ensures added { OnOk result (graph.new ≡ record graph.old { edges = graph.old.edges ++ blocks (λ k. clique (slice_index before.now k) (slice_index sizes.now k)) (length sizes.now) }) }
+    requires inside { (k : ℕ) → k < length sizes.now
+        → slice_index before.now k + slice_index sizes.now k ≤ graph.old.vertices }
+    requires room { length graph.old.edges + sum_to
+        (λ k. slice_index sizes.now k * (slice_index sizes.now k - 1) / 2)
+        (length sizes.now) < 2 ^ 32 }
+    ensures added { OnOk result (graph.new ≡ record graph.old {
+      edges = graph.old.edges ++ blocks
+          (λ k. clique (slice_index before.now k) (slice_index sizes.now k)) (length sizes.now);
+    }) }
 {
     let _vertices = graph.vertices();
     for (k, size) in sizes.iter().enumerate() {

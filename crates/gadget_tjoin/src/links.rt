@@ -1,4 +1,5 @@
-ghost use Rattle.std.specs.Prelude.{◌≡◌, ◌≢◌, ℕ, ◌+◌, ◌-◌, ◌<◌, ◌≤◌, ◌^◌, ◌==◌, if◌then◌else◌, [], ◌∷◌, ◌++◌, length, slice_index, OnOk};
+ghost use Rattle.std.specs.Prelude.{◌≡◌, ◌≢◌, ℕ, ◌+◌, ◌-◌, ◌<◌, ◌≤◌, ◌^◌, ◌==◌, if◌then◌else◌, []};
+ghost use Rattle.std.specs.Prelude.{◌∷◌, ◌++◌, length, slice_index, OnOk};
 ghost use Rattle.graph_theory.specs.Graph.{IsEdgeWithin, IsWeight, ends_at};
 ghost use Rattle.mb_problem.specs.Network.{vertices, plain};
 ghost use Rattle.mb_problem.specs.Size.{ports_size};
@@ -18,7 +19,8 @@ fn take_port(next: &mut [u32], v: VertexId) -> VertexId
     requires small { slice_index next.old (v - 1) < 2 ^ 31 }
     ensures port { result ≡ slice_index next.old (v - 1) + 1 }
     ensures size { length next.new ≡ length next.old }
-    ensures each { (k : ℕ) → k < length next.old → slice_index next.new k ≡ slice_index next.old k + (if v == k + 1 then 1 else 0) }
+    ensures each { (k : ℕ) → k < length next.old → slice_index next.new k
+        ≡ slice_index next.old k + (if v == k + 1 then 1 else 0) }
 {
     let place = v.number() as usize - 1;
     next[place] += 1;
@@ -37,7 +39,8 @@ pub fn take_ports(next: &mut [u32], edge: &InstanceEdge) -> (VertexId, VertexId)
     ensures u { result.0 ≡ slice_index next.old (edge.now.u - 1) + 1 }
     ensures v { result.1 ≡ slice_index next.old (edge.now.v - 1) + 1 }
     ensures size { length next.new ≡ length next.old }
-    ensures each { (k : ℕ) → k < length next.old → slice_index next.new k ≡ slice_index next.old k + ends_at (plain edge.now) (k + 1) }
+    ensures each { (k : ℕ) → k < length next.old → slice_index next.new k
+        ≡ slice_index next.old k + ends_at (plain edge.now) (k + 1) }
 {
     let u = take_port(next, edge.u);
     let v = take_port(next, edge.v);
@@ -54,11 +57,22 @@ fn add_link(graph: &mut Graph, edge: &InstanceEdge, next: &mut [u32]) -> Result<
     requires small_u { slice_index next.old (edge.now.u - 1) < 2 ^ 31 }
     requires small_v { slice_index next.old (edge.now.v - 1) < 2 ^ 31 }
     requires room { length graph.old.edges < 2 ^ 32 - 1 }
-    requires ends { IsEdgeWithin graph.old.vertices (record { u = slice_index next.old (edge.now.u - 1) + 1; v = slice_index next.old (edge.now.v - 1) + 1; w = edge.now.w }) }
+    requires ends { IsEdgeWithin graph.old.vertices (record {
+      u = slice_index next.old (edge.now.u - 1) + 1;
+      v = slice_index next.old (edge.now.v - 1) + 1;
+      w = edge.now.w;
+    }) }
     requires weight { IsWeight edge.now.w }
-    ensures added { OnOk result (graph.new ≡ record graph.old { edges = graph.old.edges ++ record { u = slice_index next.old (edge.now.u - 1) + 1; v = slice_index next.old (edge.now.v - 1) + 1; w = edge.now.w } ∷ [] }) }
+    ensures added { OnOk result (graph.new ≡ record graph.old {
+      edges = graph.old.edges ++ record {
+        u = slice_index next.old (edge.now.u - 1) + 1;
+        v = slice_index next.old (edge.now.v - 1) + 1;
+        w = edge.now.w;
+      } ∷ [];
+    }) }
     ensures size { length next.new ≡ length next.old }
-    ensures each { (k : ℕ) → k < length next.old → slice_index next.new k ≡ slice_index next.old k + ends_at (plain edge.now) (k + 1) }
+    ensures each { (k : ℕ) → k < length next.old → slice_index next.new k
+        ≡ slice_index next.old k + ends_at (plain edge.now) (k + 1) }
 {
     let (u, v) = take_ports(next, edge);
     graph.add(u, v, edge.w)?;
@@ -74,10 +88,18 @@ pub fn add_links(
     next: &mut [u32],
 ) -> Result<(), OutOfMemory>
     requires limits { IsWithinLimits (ports_size instance.now (odd_at parity instance.now)) }
-    requires start { graph.old ≡ record { vertices = (ports_graph instance.now (odd_at parity instance.now)).vertices; edges = [] } }
+    requires start { graph.old ≡ record {
+      vertices = (ports_graph instance.now (odd_at parity instance.now)).vertices;
+      edges = [];
+    } }
     requires size { vertices instance.now ≤ length next.old }
-    requires before { (k : ℕ) → k < vertices instance.now → slice_index next.old k ≡ ports_below instance.now (odd_at parity instance.now) (k + 1) }
-    ensures added { OnOk result (graph.new ≡ record graph.old { edges = tabled (between_ports instance.now (odd_at parity instance.now)) (length instance.now.edges) }) }
+    requires before { (k : ℕ) → k < vertices instance.now → slice_index next.old k
+        ≡ ports_below instance.now (odd_at parity instance.now) (k + 1) }
+    ensures added { OnOk result (graph.new
+        ≡ record graph.old {
+          edges = tabled (between_ports instance.now
+              (odd_at parity instance.now)) (length instance.now.edges);
+        }) }
 {
     let _ = parity;
     for edge in instance.edge_list() {

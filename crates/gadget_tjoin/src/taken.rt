@@ -1,4 +1,5 @@
-ghost use Rattle.std.specs.Prelude.{◌≡◌, ℕ, ◌+◌, ◌<◌, ◌≤◌, ◌++◌, ◌∷◌, [], Bool, true, false, if◌then◌else◌, List, length, slice_index_or, All, IfOk, OnOk};
+ghost use Rattle.std.specs.Prelude.{◌≡◌, ℕ, ◌+◌, ◌<◌, ◌≤◌, ◌++◌, ◌∷◌, [], Bool, true, false};
+ghost use Rattle.std.specs.Prelude.{if◌then◌else◌, List, length, slice_index_or, All, IfOk, OnOk};
 ghost use Rattle.std.specs.List.Sorted.{IsStrictlyIncreasing};
 ghost use Rattle.graph_theory.specs.Graph.{IsEdgeNumber};
 ghost use Rattle.graph_theory.specs.Parts.{holds};
@@ -18,7 +19,8 @@ use std::alloc::Global;
 fn marks_of(alloc: Global, instance: &Instance, edges: &[EdgeId]) -> Result<Vec<bool>, OutOfMemory>
     requires numbers { All (λ e. 1 ≤ e) edges.now }
     ensures size { IfOk result (λ marks. length marks.items ≡ length instance.now.edges) }
-    ensures each { IfOk result (λ marks. (k : ℕ) → k < length instance.now.edges → slice_index_or marks.items k false ≡ holds edges.now (k + 1)) }
+    ensures each { IfOk result (λ marks. (k : ℕ) → k < length instance.now.edges
+        → slice_index_or marks.items k false ≡ holds edges.now (k + 1)) }
     ensures network { IsNetwork instance.now }
 {
     let count = instance.edges() as usize;
@@ -35,7 +37,8 @@ fn marks_of(alloc: Global, instance: &Instance, edges: &[EdgeId]) -> Result<Vec<
 /// Puts the number after a place at the end where the place is marked.
 fn note(edges: &mut Vec<EdgeId>, place: usize, marked: bool) -> Result<(), OutOfMemory>
     requires { place < EDGE_LIMIT }
-    ensures { OnOk result (edges.new.items ≡ (if marked then edges.old.items ++ (place + 1) ∷ [] else edges.old.items)) }
+    ensures { OnOk result (edges.new.items ≡ (if marked then edges.old.items ++ (place + 1) ∷ []
+        else edges.old.items)) }
 {
     if marked {
         edges.push(EdgeId::new(place as u32 + 1))?;
@@ -47,8 +50,10 @@ fn note(edges: &mut Vec<EdgeId>, place: usize, marked: bool) -> Result<(), OutOf
 fn marked(alloc: Global, marks: &[bool]) -> Result<Vec<EdgeId>, OutOfMemory>
     requires few { length marks.now ≤ EDGE_LIMIT }
     ensures ascending { IfOk result (λ edges. IsStrictlyIncreasing edges.items) }
-    ensures in_range { IfOk result (λ edges. All (λ e. (1 ≤ e) × (e ≤ length marks.now)) edges.items) }
-    ensures exact { IfOk result (λ edges. (k : ℕ) → k < length marks.now → holds edges.items (k + 1) ≡ slice_index_or marks.now k false) }
+    ensures in_range { IfOk result
+        (λ edges. All (λ e. (1 ≤ e) × (e ≤ length marks.now)) edges.items) }
+    ensures exact { IfOk result (λ edges. (k : ℕ) → k < length marks.now → holds edges.items (k + 1)
+        ≡ slice_index_or marks.now k false) }
 {
     let mut edges = Vec::new(alloc);
     for (place, mark) in marks.iter().enumerate() {
@@ -59,20 +64,24 @@ fn marked(alloc: Global, marks: &[bool]) -> Result<Vec<EdgeId>, OutOfMemory>
 
 /// The join that a perfect matching of the graph of `ports` stands for, given as the numbers of its
 /// edges: exactly those of them that are the instance's own, which have the same numbers there,
-/// ascending (Schrijver, Combinatorial Optimization, volume A, chapter 29). It takes time linear in the
-/// instance and the matching. `OutOfMemory` is its one error.
+/// ascending (Schrijver, Combinatorial Optimization, volume A, chapter 29). It takes time linear in
+/// the instance and the matching. `OutOfMemory` is its one error.
 pub fn extract(
     alloc: Global,
     instance: &Instance,
     parity: &Parity,
     edges: &[EdgeId],
 ) -> Result<Join, OutOfMemory>
-    requires perfect { IsPerfectList (ports_graph instance.now (odd_at parity.now instance.now)) edges.now }
+    requires perfect { IsPerfectList (ports_graph instance.now (odd_at parity.now instance.now))
+        edges.now }
     ensures ascending { IfOk result (λ join. IsStrictlyIncreasing join.edges) }
     ensures in_range { IfOk result (λ join. All (IsEdgeNumber (graph_of instance.now)) join.edges) }
-    ensures exact { IfOk result (λ join. (k : ℕ) → k < length instance.now.edges → holds join.edges (k + 1) ≡ holds edges.now (k + 1)) }
-    ensures join { IfOk result (λ join. IsJoinOf parity.now instance.now (listed_counts join.edges (length instance.now.edges))) }
-    ensures weighs { IfOk result (λ join. walk_weight (graph_of instance.now) join.edges ≡ walk_weight (ports_graph instance.now (odd_at parity.now instance.now)) edges.now) }
+    ensures exact { IfOk result (λ join. (k : ℕ) → k < length instance.now.edges
+        → holds join.edges (k + 1) ≡ holds edges.now (k + 1)) }
+    ensures join { IfOk result (λ join. IsJoinOf parity.now instance.now (listed_counts join.edges
+        (length instance.now.edges))) }
+    ensures weighs { IfOk result (λ join. walk_weight (graph_of instance.now) join.edges
+        ≡ walk_weight (ports_graph instance.now (odd_at parity.now instance.now)) edges.now) }
 {
     let _ = parity;
     let marks = marks_of(alloc, instance, edges)?;

@@ -12,11 +12,14 @@ use Rattle.graph_parts.specs.Search.{Finds}
 use Rattle.graph_parts.proofs.Once.{members_to, to-is, to-has, to-set}
 
 -- the vertices together with a start, as an ascending list, are a component
-component_of : (g : Multigraph) (removed component : List ℕ) (start : ℕ) → IsGraph g → 1 ≤ start → start ≤ g.vertices → holds removed start ≡ false → IsVertexSet g.vertices component → ((w : ℕ) → (holds component w ≡ true) ↔ AreTogether g removed start w) → IsComponent g removed component
-component_of g removed component start ok low high free set exact = component_from g removed component start ok.ends set ((exact start).1 (together-refl g removed start free)) (λ w h. (exact w).0 h) (λ w a. (exact w).1 a)
+component_of : (g : Multigraph) (removed component : List ℕ) (start : ℕ) → IsGraph g → 1 ≤ start → start ≤ g.vertices → holds removed start ≡ false → IsVertexSet g.vertices component
+    → ((w : ℕ) → (holds component w ≡ true) ↔ AreTogether g removed start w) → IsComponent g removed component
+component_of g removed component start ok low high free set exact = component_from g removed component start ok.ends set ((exact start).1 (together-refl g removed start free))
+    (λ w h. (exact w).0 h) (λ w a. (exact w).1 a)
 
 -- .. of what is reached
-pub found_component : (g : Multigraph) (removed reached : List ℕ) (start : ℕ) → IsGraph g → 1 ≤ start → start ≤ g.vertices → holds removed start ≡ false → ((w : ℕ) → (holds reached w ≡ true) ↔ AreTogether g removed start w) → IsComponent g removed (members_to reached g.vertices)
+pub found_component : (g : Multigraph) (removed reached : List ℕ) (start : ℕ) → IsGraph g → 1 ≤ start → start ≤ g.vertices → holds removed start ≡ false → ((w : ℕ) → (holds reached w ≡ true)
+    ↔ AreTogether g removed start w) → IsComponent g removed (members_to reached g.vertices)
 found_component g removed reached start ok low high free exact =
     component_of g removed (members_to reached g.vertices) start ok low high free (to-set reached g.vertices)
     (λ w. (
@@ -25,14 +28,16 @@ found_component g removed reached start ok low high free exact =
     ))
 
 -- what is marked, where nothing was and no vertex is removed
-pub marked_exact : (g : Multigraph) (out : List Bool) (start : ℕ) (old new : List Bool) (reached : List ℕ) → ((w : ℕ) → is_marked out w ≡ false) → ((w : ℕ) → is_marked old w ≡ false) → Finds g out start old new reached → (w : ℕ) → (is_marked new w ≡ true) ↔ AreTogether g [] start w
+pub marked_exact : (g : Multigraph) (out : List Bool) (start : ℕ) (old new : List Bool) (reached : List ℕ) → ((w : ℕ) → is_marked out w ≡ false) → ((w : ℕ) → is_marked old w ≡ false)
+    → Finds g out start old new reached → (w : ℕ) → (is_marked new w ≡ true) ↔ AreTogether g [] start w
 marked_exact g out start old new reached none_out none_old found w =
     let exact = found.exact [] none_out (λ x h a. false≢true (sym (none_old x) ∙ h)) w in
     let now : is_marked new w ≡ holds reached w = found.marked w ∙ ap (λ t. t || holds reached w) (none_old w) in
     (λ h. exact.0 (sym now ∙ h), λ a. now ∙ exact.1 a)
 
 -- .. is a component, as an ascending list
-pub marks_component : (g : Multigraph) (start : ℕ) (marks : List Bool) (component : List ℕ) → IsGraph g → 1 ≤ start → start ≤ g.vertices → ((w : ℕ) → (is_marked marks w ≡ true) ↔ AreTogether g [] start w) → ListsMarked marks component → IsComponent g [] component × (holds component start ≡ true)
+pub marks_component : (g : Multigraph) (start : ℕ) (marks : List Bool) (component : List ℕ) → IsGraph g → 1 ≤ start → start ≤ g.vertices → ((w : ℕ) → (is_marked marks w ≡ true)
+    ↔ AreTogether g [] start w) → ListsMarked marks component → IsComponent g [] component × (holds component start ≡ true)
 marks_component g start marks component ok low high marked lists =
     let exact : (w : ℕ) → (holds component w ≡ true) ↔ AreTogether g [] start w = λ w. (
       λ h. (marked w).0 ((lists.exact w).0 h).1,

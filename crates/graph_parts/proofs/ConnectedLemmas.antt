@@ -11,7 +11,8 @@ pub connected-none : (g : Multigraph) → length g.edges ≡ 0 → HasConnectedE
 connected-none g none = λ j k a b. absurd (omega (arith, a, none))
 
 -- where the component of the first edge is marked, all edges are marked or not all lie in one component
-pub connected-marks : (g : Multigraph) (marks : List Bool) → IsGraph g → 0 < length g.edges → ((w : ℕ) → (is_marked marks w ≡ true) ↔ AreTogether g [] (edge_at g 0).u w) → ((k : ℕ) → k < length g.edges → is_marked marks (edge_at g k).u ≡ true) ↔ HasConnectedEdges g
+pub connected-marks : (g : Multigraph) (marks : List Bool) → IsGraph g → 0 < length g.edges → ((w : ℕ) → (is_marked marks w ≡ true) ↔ AreTogether g [] (edge_at g 0).u w)
+    → ((k : ℕ) → k < length g.edges → is_marked marks (edge_at g k).u ≡ true) ↔ HasConnectedEdges g
 connected-marks g marks ok some exact = (
   λ all j k a b.
       let first = (edge_at g 0).u in

@@ -1,5 +1,6 @@
 -- Lemmas on flags that are carried along links, and on the parity of the edges that are taken.
-use Rattle.std.proofs.Common.{◌≡◌, ◌≢◌, ◌⊎◌, ℕ, ◌+◌, ◌*◌, ◌%◌, ◌<◌, ◌≤◌, Bool, true, false, not, cond, ◌||◌, eqb, refl, ap, sym, ◌∙◌, inl, inr, arith, List, [], ◌∷◌, ◌++◌, length, slice_index}
+use Rattle.std.proofs.Common.{◌≡◌, ◌≢◌, ◌⊎◌, ℕ, ◌+◌, ◌*◌, ◌%◌, ◌<◌, ◌≤◌, Bool, true, false, not, cond, ◌||◌, eqb, refl, ap, sym, ◌∙◌, inl, inr, arith, List, [], ◌∷◌, ◌++◌, length}
+use Rattle.std.proofs.Common.{slice_index}
 use Rattle.std.proofs.lemmas.Bool.{cases_eq, cases_lt, cases_Bool, eqb-true, eq-eqb, ne_eqb, false≢true, or_cases}
 use Rattle.std.proofs.lemmas.List.{get_or_past}
 use Rattle.std.proofs.lemmas.List.FromFn.{get_or-map-range_with_len}
@@ -12,8 +13,8 @@ use Rattle.graph_theory.proofs.Edges.{edge_of-place}
 use Rattle.graph_parts.specs.declared.links.Link.{Link}
 use Rattle.graph_parts.specs.Marks.{is_marked}
 use Rattle.graph_parts.specs.Links.{tos, from_of, IsTree}
-use Rattle.graph_parts.specs.Forests.{IsLeast, IsSpanningForest}
-use Rattle.graph_parts.specs.Flags.{IsTurned, taken_counts, IsBalanced}
+use Rattle.graph_parts.specs.Forests.{IsLeastTogether, IsSpanningForest}
+use Rattle.graph_parts.specs.Flags.{IsToggled, taken_counts, IsBalanced}
 use Rattle.graph_parts.proofs.LinkLemmas.{tos-push, tree-pop}
 
 -- 1 where the test passes
@@ -36,7 +37,8 @@ one_if-times : (t : Bool) (x : ℕ) → one_if t * x ≡ cond t x 0
 one_if-times true x = omega arith
 one_if-times false x = omega arith
 
-pub taken-degree : (g : Multigraph) (taken : List Bool) (v : ℕ) → degree g (taken_counts taken (length g.edges)) v ≡ sum_to (λ k. cond (is_marked taken (k + 1)) (ends_at (edge_at g k) v) 0) (length g.edges)
+pub taken-degree : (g : Multigraph) (taken : List Bool) (v : ℕ) → degree g (taken_counts taken (length g.edges)) v ≡ sum_to (λ k. cond (is_marked taken (k + 1)) (ends_at (edge_at g k) v) 0)
+    (length g.edges)
 taken-degree g taken v =
     let m = length g.edges in
     sum_to-same (λ k. slice_index (taken_counts taken m) k * ends_at (edge_at g k) v) (λ k. cond (is_marked taken (k + 1)) (ends_at (edge_at g k) v) 0) m
@@ -51,7 +53,8 @@ turned-term false true x = omega arith
 turned-term false false x = refl
 
 -- the degrees change by an odd number where the edge that is turned has one end
-pub turned-degree : (g : Multigraph) (e v : ℕ) (old new : List Bool) → IsEdgeNumber g e → IsTurned e old new → (degree g (taken_counts old (length g.edges)) v + degree g (taken_counts new (length g.edges)) v) % 2 ≡ ends_at (edge_of g e) v % 2
+pub turned-degree : (g : Multigraph) (e v : ℕ) (old new : List Bool) → IsEdgeNumber g e → IsToggled e old new → (degree g (taken_counts old (length g.edges)) v + degree g
+    (taken_counts new (length g.edges)) v) % 2 ≡ ends_at (edge_of g e) v % 2
 turned-degree g e v old new number turned =
     let m = length g.edges in
     let at : ℕ → ℕ = λ k. ends_at (edge_at g k) v in
@@ -73,20 +76,22 @@ turned-test true false = refl
 turned-test false true = refl
 turned-test false false = refl
 
-turned-flag : (place v : ℕ) (old new : List Bool) → IsTurned place old new → (one_if (is_marked old v) + one_if (is_marked new v)) % 2 ≡ one_if (eqb place v)
+turned-flag : (place v : ℕ) (old new : List Bool) → IsToggled place old new → (one_if (is_marked old v) + one_if (is_marked new v)) % 2 ≡ one_if (eqb place v)
 turned-flag place v old new turned = ap (λ (b : Bool). (one_if (is_marked old v) + one_if b) % 2) (turned v) ∙ turned-test (eqb place v) (is_marked old v)
 
 balance : (d e f h i p q o : ℕ) → (d + f) % 2 ≡ o → (d + e) % 2 ≡ (p + q) % 2 → (f + h) % 2 ≡ p → (h + i) % 2 ≡ q → (e + i) % 2 ≡ o
 balance d e f h i p q o a b c k = omega (arith, a, b, c, k)
 
 -- an edge and the flags at its ends are turned
-pub balanced-switch : (g : Multigraph) (e u v : ℕ) (odd : ℕ → ℕ) (taken after flags middle last : List Bool) → IsEdgeNumber g e → u ≡ (edge_of g e).u → v ≡ (edge_of g e).v → IsTurned u flags middle → IsTurned v middle last → IsTurned e taken after → IsBalanced g odd taken flags → IsBalanced g odd after last
+pub balanced-switch : (g : Multigraph) (e u v : ℕ) (odd : ℕ → ℕ) (taken after flags middle last : List Bool) → IsEdgeNumber g e → u ≡ (edge_of g e).u → v ≡ (edge_of g e).v
+    → IsToggled u flags middle → IsToggled v middle last → IsToggled e taken after → IsBalanced g odd taken flags → IsBalanced g odd after last
 balanced-switch g e u v odd taken after flags middle last number at_u at_v one two three even = λ x low high.
     let m = length g.edges in
     let changed = turned-degree g e x taken after number three in
     let p : one_if (eqb u x) ≡ one_if (eqb (edge_of g e).u x) = ap (λ (y : ℕ). one_if (eqb y x)) at_u in
     let q : one_if (eqb v x) ≡ one_if (eqb (edge_of g e).v x) = ap (λ (y : ℕ). one_if (eqb y x)) at_v in
-    balance (degree g (taken_counts taken m) x) (degree g (taken_counts after m) x) (one_if (is_marked flags x)) (one_if (is_marked middle x)) (one_if (is_marked last x)) (one_if (eqb (edge_of g e).u x)) (one_if (eqb (edge_of g e).v x)) (odd x)
+    balance (degree g (taken_counts taken m) x) (degree g (taken_counts after m) x) (one_if (is_marked flags x)) (one_if (is_marked middle x)) (one_if (is_marked last x))
+    (one_if (eqb (edge_of g e).u x)) (one_if (eqb (edge_of g e).v x)) (odd x)
     (even x low high) changed (turned-flag u x flags middle one ∙ p) (turned-flag v x middle last two ∙ q)
 
 twice-test : (p q b : Bool) → (p ≡ true → q ≡ true → ⊥) → cond q (not (cond p (not b) b)) (cond p (not b) b) ≡ cond (p || q) (not b) b
@@ -95,7 +100,8 @@ twice-test true false b h = refl
 twice-test false true b h = refl
 twice-test false false b h = refl
 
-pub turned-switch : (n : ℕ) (e : Edge) (u v x : ℕ) (flags middle last : List Bool) → IsEdgeWithin n e → u ≡ e.u → v ≡ e.v → IsTurned u flags middle → IsTurned v middle last → is_marked last x ≡ cond (touches e x) (not (is_marked flags x)) (is_marked flags x)
+pub turned-switch : (n : ℕ) (e : Edge) (u v x : ℕ) (flags middle last : List Bool) → IsEdgeWithin n e → u ≡ e.u → v ≡ e.v → IsToggled u flags middle → IsToggled v middle last
+    → is_marked last x ≡ cond (touches e x) (not (is_marked flags x)) (is_marked flags x)
 turned-switch n e u v x flags middle last within at_u at_v one two =
     let b = is_marked flags x in
     let differ : eqb u x ≡ true → eqb v x ≡ true → ⊥ = λ p q. within.differ (sym at_u ∙ eqb-true u x p ∙ sym (eqb-true v x q) ∙ at_v) in
@@ -123,12 +129,14 @@ one_end e to v at_to at_v =
           ]
     ]
 
-pub cleared-switch : (e : Edge) (to v : ℕ) (flags last : List Bool) → touches e to ≡ true → is_marked flags to ≡ true → ((x : ℕ) → is_marked last x ≡ cond (touches e x) (not (is_marked flags x)) (is_marked flags x)) → is_marked last v ≡ true → (v ≡ other_end e to) ⊎ ((v ≢ to) × (is_marked flags v ≡ true))
+pub cleared-switch : (e : Edge) (to v : ℕ) (flags last : List Bool) → touches e to ≡ true → is_marked flags to ≡ true → ((x : ℕ) → is_marked last x
+    ≡ cond (touches e x) (not (is_marked flags x)) (is_marked flags x)) → is_marked last v ≡ true → (v ≡ other_end e to) ⊎ ((v ≢ to) × (is_marked flags v ≡ true))
 cleared-switch e to v flags last meets on turned h =
     elim (cases_Bool (touches e v)) [
       | inl at ↦ elim (one_end e to v meets at) [
         | inl same ↦
-            let off : is_marked last v ≡ false = turned v ∙ ap (λ (t : Bool). cond t (not (is_marked flags v)) (is_marked flags v)) at ∙ ap (λ (y : ℕ). not (is_marked flags y)) same ∙ ap not on in
+            let off : is_marked last v ≡ false = turned v ∙ ap (λ (t : Bool). cond t (not (is_marked flags v)) (is_marked flags v)) at ∙ ap (λ (y : ℕ). not (is_marked flags y)) same
+            ∙ ap not on in
             absurd (false≢true (sym off ∙ h))
         | inr there ↦ inl there
       ]
@@ -141,7 +149,8 @@ cleared-switch e to v flags last meets on turned h =
 abbrev pub IsLive : List ℕ → List Link → List Bool → Type 0
 IsLive roots left flags = (v : ℕ) → is_marked flags v ≡ true → (holds roots v ≡ true) ⊎ (holds (tos left) v ≡ true)
 
-pub live-step : (g : Multigraph) (roots : List ℕ) (front : List Link) (l : Link) (old new : List Bool) → IsTree g roots (front ++ l ∷ []) → ((v : ℕ) → is_marked new v ≡ true → (v ≡ from_of g l) ⊎ ((v ≢ l.to) × (is_marked old v ≡ true))) → IsLive roots (front ++ l ∷ []) old → IsLive roots front new
+pub live-step : (g : Multigraph) (roots : List ℕ) (front : List Link) (l : Link) (old new : List Bool) → IsTree g roots (front ++ l ∷ []) → ((v : ℕ) → is_marked new v ≡ true
+    → (v ≡ from_of g l) ⊎ ((v ≢ l.to) × (is_marked old v ≡ true))) → IsLive roots (front ++ l ∷ []) old → IsLive roots front new
 live-step g roots front l old new tree cleared live = λ v h.
     elim (cleared v h) [
       | inl e ↦ elim (tree-pop g roots front l tree).from [
@@ -160,7 +169,7 @@ live-step g roots front l old new tree cleared live = λ v h.
 -- the links of a forest that are left, and flags that they lead to the roots
 pub record IsCarried (g : Multigraph) (left : List Link) (flags : List Bool) : Type 0 where
   pub roots : List ℕ
-  pub least : (v : ℕ) → holds roots v ≡ true → IsLeast g [] v
+  pub least : (v : ℕ) → holds roots v ≡ true → IsLeastTogether g [] v
   pub tree : IsTree g roots left
   pub live : IsLive roots left flags
 
@@ -182,7 +191,8 @@ carried-start g links flags size none forest = record {
       forest.covered v (elim (cases_eq v 0) [ inl e ↦ absurd (false≢true (sym none ∙ ap (is_marked flags) (sym e) ∙ h)) | inr d ↦ omega (arith, d) ]) (omega (arith, within, size));
 }
 
-pub carried-step : (g : Multigraph) (front : List Link) (l : Link) (old new : List Bool) → IsCarried g (front ++ l ∷ []) old → ((v : ℕ) → is_marked new v ≡ true → (v ≡ from_of g l) ⊎ ((v ≢ l.to) × (is_marked old v ≡ true))) → IsCarried g front new
+pub carried-step : (g : Multigraph) (front : List Link) (l : Link) (old new : List Bool) → IsCarried g (front ++ l ∷ []) old → ((v : ℕ) → is_marked new v ≡ true
+    → (v ≡ from_of g l) ⊎ ((v ≢ l.to) × (is_marked old v ≡ true))) → IsCarried g front new
 carried-step g front l old new is cleared = record {
   roots = is.roots;
   least = is.least;
@@ -191,7 +201,7 @@ carried-step g front l old new is cleared = record {
 }
 
 -- no link is left
-pub carried-all : (g : Multigraph) (flags : List Bool) → IsCarried g [] flags → (v : ℕ) → is_marked flags v ≡ true → IsLeast g [] v
+pub carried-all : (g : Multigraph) (flags : List Bool) → IsCarried g [] flags → (v : ℕ) → is_marked flags v ≡ true → IsLeastTogether g [] v
 carried-all g flags is v h = elim (is.live v h) [ inl e ↦ is.least v e | inr e ↦ absurd (false≢true e) ]
 
 -- no edge is taken

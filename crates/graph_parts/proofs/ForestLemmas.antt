@@ -8,11 +8,12 @@ use Rattle.graph_parts.specs.declared.links.Link.{Link}
 use Rattle.graph_parts.specs.Marks.{is_marked}
 use Rattle.graph_parts.specs.Links.{LinksAll}
 use Rattle.graph_parts.specs.Heads.{SeenBelow}
-use Rattle.graph_parts.specs.Forests.{IsLeast, IsForest, IsSpanningForest}
+use Rattle.graph_parts.specs.Forests.{IsLeastTogether, IsForest, IsSpanningForest}
 use Rattle.graph_parts.proofs.LinkLemmas.{tree-wider}
 
 -- a vertex that isn't marked is the least of those that are together with it
-pub new-least : (g : Multigraph) (removed : List ℕ) (v : ℕ) (marks : List Bool) → IsGraph g → 1 ≤ v → v ≤ g.vertices → SeenBelow g removed v marks → is_marked marks v ≡ false → IsLeast g removed v
+pub new-least : (g : Multigraph) (removed : List ℕ) (v : ℕ) (marks : List Bool) → IsGraph g → 1 ≤ v → v ≤ g.vertices → SeenBelow g removed v marks → is_marked marks v ≡ false
+    → IsLeastTogether g removed v
 new-least g removed v marks ok low high seen off = (
   low,
   λ w a. elim (cases_lt w v) [
@@ -32,12 +33,14 @@ forest-none g removed marks off = record {
 }
 
 -- a tree more, from a new vertex
-pub forest-more : (g : Multigraph) (removed : List ℕ) (start : ℕ) (old new : List Bool) (reached : List ℕ) (before links : List Link) → IsLeast g removed start → ((w : ℕ) → is_marked new w ≡ (is_marked old w || holds reached w)) → LinksAll g start before reached links → IsForest g removed old before → IsForest g removed new links
+pub forest-more : (g : Multigraph) (removed : List ℕ) (start : ℕ) (old new : List Bool) (reached : List ℕ) (before links : List Link) → IsLeastTogether g removed start
+    → ((w : ℕ) → is_marked new w
+    ≡ (is_marked old w || holds reached w)) → LinksAll g start before reached links → IsForest g removed old before → IsForest g removed new links
 forest-more g removed start old new reached before links least marked all forest =
     let roots = forest.roots in record {
       roots = start ∷ roots;
       least = λ v h. elim (or_cases (eqb start v) (holds roots v) h) [
-        | inl e ↦ let P : ℕ → Type 0 = IsLeast g removed in subst P (eqb-true start v e) least
+        | inl e ↦ let P : ℕ → Type 0 = IsLeastTogether g removed in subst P (eqb-true start v e) least
         | inr e ↦ forest.least v e
       ];
       tree = all.tree (start ∷ roots) (or_left (eqb start start) (holds roots start) (eq-eqb start start refl))

@@ -42,7 +42,8 @@ lesser_head g removed u v ok less a head =
     absurd (omega arith)
 
 -- a vertex that is removed or marked adds no marks
-pub seen-same : (g : Multigraph) (removed : List ℕ) (v : ℕ) (marks : List Bool) → IsGraph g → SeenBelow g removed v marks → (is_marked marks v ≡ true) ⊎ (holds removed v ≡ true) → SeenBelow g removed (v + 1) marks
+pub seen-same : (g : Multigraph) (removed : List ℕ) (v : ℕ) (marks : List Bool) → IsGraph g → SeenBelow g removed v marks → (is_marked marks v ≡ true) ⊎ (holds removed v ≡ true)
+    → SeenBelow g removed (v + 1) marks
 seen-same g removed v marks ok seen why = λ w. (
   λ h. let s = (seen w).0 h in (s.0, s.1, omega arith, s.3),
   λ s. elim (cases_eq s.0 v) [
@@ -58,7 +59,8 @@ seen-same g removed v marks ok seen why = λ w. (
 )
 
 -- the component of the vertex is marked
-pub seen-more : (g : Multigraph) (removed reached : List ℕ) (v : ℕ) (old new : List Bool) → 1 ≤ v → SeenBelow g removed v old → ((w : ℕ) → (holds reached w ≡ true) ↔ AreTogether g removed v w) → ((w : ℕ) → is_marked new w ≡ (is_marked old w || holds reached w)) → SeenBelow g removed (v + 1) new
+pub seen-more : (g : Multigraph) (removed reached : List ℕ) (v : ℕ) (old new : List Bool) → 1 ≤ v → SeenBelow g removed v old → ((w : ℕ) → (holds reached w ≡ true)
+    ↔ AreTogether g removed v w) → ((w : ℕ) → is_marked new w ≡ (is_marked old w || holds reached w)) → SeenBelow g removed (v + 1) new
 seen-more g removed reached v old new low seen exact now = λ w. (
   λ h. elim (or_cases (is_marked old w) (holds reached w) (sym (now w) ∙ h)) [
     | inl before ↦ let s = (seen w).0 before in (s.0, s.1, omega arith, s.3)
@@ -73,13 +75,15 @@ seen-more g removed reached v old new low seen exact now = λ w. (
 )
 
 -- nothing marked is together with a vertex that is not
-pub seen-apart : (g : Multigraph) (removed : List ℕ) (v : ℕ) (marks : List Bool) → IsGraph g → SeenBelow g removed v marks → is_marked marks v ≡ false → (w : ℕ) → is_marked marks w ≡ true → AreTogether g removed v w → ⊥
+pub seen-apart : (g : Multigraph) (removed : List ℕ) (v : ℕ) (marks : List Bool) → IsGraph g → SeenBelow g removed v marks → is_marked marks v ≡ false → (w : ℕ) → is_marked marks w ≡ true
+    → AreTogether g removed v w → ⊥
 seen-apart g removed v marks ok seen off w h a =
     let s = (seen w).0 h in
     let home = together-trans g removed s.0 w v s.3 (together-sym g removed v w ok.ends a) in
     false≢true (sym off ∙ (seen v).1 (s.0, s.1, s.2, home))
 
-first_is : (g : Multigraph) (removed component : List ℕ) (v : ℕ) (marks : List Bool) → SeenBelow g removed v marks → is_marked marks v ≡ false → IsComponent g removed component → holds component v ≡ true → slice_index component 0 ≡ v
+first_is : (g : Multigraph) (removed component : List ℕ) (v : ℕ) (marks : List Bool) → SeenBelow g removed v marks → is_marked marks v ≡ false → IsComponent g removed component
+    → holds component v ≡ true → slice_index component 0 ≡ v
 first_is g removed component v marks seen off is here =
     let low : slice_index component 0 ≤ v = least_first component v is.vertices.ascending here in
     elim (cases_eq (slice_index component 0) v) [
@@ -92,7 +96,8 @@ first_is g removed component v marks seen off is here =
     ]
 
 -- a vertex that is not marked yet is the least of its component
-pub odd_head : (g : Multigraph) (removed component : List ℕ) (v : ℕ) (marks : List Bool) → SeenBelow g removed v marks → is_marked marks v ≡ false → IsComponent g removed component → holds component v ≡ true → (length component % 2 ≡ 1) ↔ IsOddHead g removed v
+pub odd_head : (g : Multigraph) (removed component : List ℕ) (v : ℕ) (marks : List Bool) → SeenBelow g removed v marks → is_marked marks v ≡ false → IsComponent g removed component
+    → holds component v ≡ true → (length component % 2 ≡ 1) ↔ IsOddHead g removed v
 odd_head g removed component v marks seen off is here = (
   λ odd. (component, is, odd, first_is g removed component v marks seen off is here),
   λ head.
@@ -101,10 +106,13 @@ odd_head g removed component v marks seen off is here = (
 )
 
 -- what the visit of a vertex finds, that is neither marked nor removed
-pub visit-seen : (g : Multigraph) (out : List Bool) (removed reached : List ℕ) (v : ℕ) (old new : List Bool) → IsGraph g → 1 ≤ v → MarksSet out removed → SeenBelow g removed v old → is_marked old v ≡ false → Finds g out v old new reached → SeenBelow g removed (v + 1) new
-visit-seen g out removed reached v old new ok low is seen off found = seen-more g removed reached v old new low seen (found.exact removed is (seen-apart g removed v old ok seen off)) found.marked
+pub visit-seen : (g : Multigraph) (out : List Bool) (removed reached : List ℕ) (v : ℕ) (old new : List Bool) → IsGraph g → 1 ≤ v → MarksSet out removed → SeenBelow g removed v old
+    → is_marked old v ≡ false → Finds g out v old new reached → SeenBelow g removed (v + 1) new
+visit-seen g out removed reached v old new ok low is seen off found = seen-more g removed reached v old new low seen (found.exact removed is (seen-apart g removed v old ok seen off))
+    found.marked
 
-pub visit-head : (g : Multigraph) (out : List Bool) (removed reached : List ℕ) (v : ℕ) (old new : List Bool) → IsGraph g → 1 ≤ v → v ≤ g.vertices → MarksSet out removed → SeenBelow g removed v old → is_marked old v ≡ false → is_marked out v ≡ false → Finds g out v old new reached → (length reached % 2 ≡ 1) ↔ IsOddHead g removed v
+pub visit-head : (g : Multigraph) (out : List Bool) (removed reached : List ℕ) (v : ℕ) (old new : List Bool) → IsGraph g → 1 ≤ v → v ≤ g.vertices → MarksSet out removed
+    → SeenBelow g removed v old → is_marked old v ≡ false → is_marked out v ≡ false → Finds g out v old new reached → (length reached % 2 ≡ 1) ↔ IsOddHead g removed v
 visit-head g out removed reached v old new ok low high is seen off free found =
     let component = members_to reached g.vertices in
     let exact = found.exact removed is (seen-apart g removed v old ok seen off) in

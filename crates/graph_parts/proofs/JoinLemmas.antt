@@ -21,7 +21,8 @@ use Rattle.graph_parts.specs.OddParts.{is_terminal}
 use Rattle.graph_parts.proofs.FlagLemmas.{one_if, bit-test, flag-within, taken-at}
 
 -- flags at the vertices of this parity
-pub balanced-flags : (g : Multigraph) (odd : ℕ → ℕ) (taken first flags : List Bool) → ((v : ℕ) → odd v ≤ 1) → ((v : ℕ) → 1 ≤ v → v ≤ g.vertices → is_marked first v ≡ eqb (odd v) 1) → IsBalanced g (λ v. one_if (is_marked first v)) taken flags → IsBalanced g odd taken flags
+pub balanced-flags : (g : Multigraph) (odd : ℕ → ℕ) (taken first flags : List Bool) → ((v : ℕ) → odd v ≤ 1) → ((v : ℕ) → 1 ≤ v → v ≤ g.vertices → is_marked first v ≡ eqb (odd v) 1)
+    → IsBalanced g (λ v. one_if (is_marked first v)) taken flags → IsBalanced g odd taken flags
 balanced-flags g odd taken first flags small are even = λ v low high. even v low high ∙ ap one_if (are v low high) ∙ bit-test (odd v) (small v)
 
 -- as many edges are listed at a vertex as it has
@@ -38,7 +39,8 @@ around-count i v ok =
 
 -- the taken edges are a join where no flag is left
 
-listed-degree : (g : Multigraph) (edges : List ℕ) (taken : List Bool) (m v : ℕ) → length g.edges ≡ m → ListsMarked taken edges → degree g (listed_counts edges m) v ≡ degree g (taken_counts taken (length g.edges)) v
+listed-degree : (g : Multigraph) (edges : List ℕ) (taken : List Bool) (m v : ℕ) → length g.edges ≡ m → ListsMarked taken edges → degree g (listed_counts edges m) v
+    ≡ degree g (taken_counts taken (length g.edges)) v
 listed-degree g edges taken m v count lists =
     sum_to-same (λ k. slice_index (listed_counts edges m) k * ends_at (edge_at g k) v) (λ k. slice_index (taken_counts taken (length g.edges)) k * ends_at (edge_at g k) v) (length g.edges)
     (λ k b.
@@ -46,7 +48,8 @@ listed-degree g edges taken m v count lists =
     let same : holds edges (k + 1) ≡ is_marked taken (k + 1) = same_tests (holds edges (k + 1)) (is_marked taken (k + 1)) (λ h. (exact.0 h).1) (λ h. exact.1 (omega arith, h)) in
     ap (λ (x : ℕ). x * ends_at (edge_at g k) v) (listed-at edges m k 0 (omega (arith, count, b)) ∙ ap one_if same ∙ sym (taken-at taken (length g.edges) k b)))
 
-pub taken-join : (i : Network) (odd : ℕ → ℕ) (taken flags : List Bool) (edges : List ℕ) → length taken ≡ length (graph_of i).edges + 1 → ListsMarked taken edges → IsBalanced (graph_of i) odd taken flags → ((v : ℕ) → is_marked flags v ≡ false) → ListsJoin i odd edges
+pub taken-join : (i : Network) (odd : ℕ → ℕ) (taken flags : List Bool) (edges : List ℕ) → length taken ≡ length (graph_of i).edges + 1 → ListsMarked taken edges
+    → IsBalanced (graph_of i) odd taken flags → ((v : ℕ) → is_marked flags v ≡ false) → ListsJoin i odd edges
 taken-join i odd taken flags edges size lists even off =
     let g = graph_of i in
     let m = length i.edges in

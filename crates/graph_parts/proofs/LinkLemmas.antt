@@ -54,7 +54,8 @@ tree-pop g roots (x ∷ xs) l t =
     }
 
 -- a link more
-pub tree-push : (g : Multigraph) (roots : List ℕ) (ls : List Link) (l : Link) → IsTree g roots ls → IsLink g l → (holds roots (from_of g l) ≡ true) ⊎ (holds (tos ls) (from_of g l) ≡ true) → IsTree g roots (ls ++ l ∷ [])
+pub tree-push : (g : Multigraph) (roots : List ℕ) (ls : List Link) (l : Link) → IsTree g roots ls → IsLink g l → (holds roots (from_of g l) ≡ true) ⊎ (holds (tos ls) (from_of g l) ≡ true)
+    → IsTree g roots (ls ++ l ∷ [])
 tree-push g roots [] l t link (inl h) = (link, h, tt)
 tree-push g roots [] l t link (inr h) = absurd (false≢true h)
 tree-push g roots (x ∷ xs) l t link from =
@@ -70,7 +71,8 @@ tree-push g roots (x ∷ xs) l t link from =
 -- what a search adds
 
 -- the edge at v leads from there
-pub link-from : (g : Multigraph) (e v to : ℕ) → IsGraph g → IsEdgeNumber g e → touches (edge_of g e) v ≡ true → to ≡ other_end (edge_of g e) v → IsLink g (record { edge = e; to = to }) × (from_of g (record { edge = e; to = to }) ≡ v)
+pub link-from : (g : Multigraph) (e v to : ℕ) → IsGraph g → IsEdgeNumber g e → touches (edge_of g e) v ≡ true → to ≡ other_end (edge_of g e) v → IsLink g (record { edge = e; to = to })
+    × (from_of g (record { edge = e; to = to }) ≡ v)
 link-from g e v to ok number meets leads =
     let back = edge_back g.vertices (edge_of g e) v (edge_of_within g e ok.ends number) meets in
     (record { number = number; meets = ap (touches (edge_of g e)) leads ∙ back.0 }, ap (other_end (edge_of g e)) leads ∙ back.1)
@@ -78,7 +80,8 @@ link-from g e v to ok number meets leads =
 pub from-none : (g : Multigraph) (v : ℕ) (before : List ℕ) (old : List Link) → LinksFrom g v before old before old
 from-none g v before old = record { kept = λ w h. h; tree = λ roots h t. t; linked = λ start h. h }
 
-pub from-next : (g : Multigraph) (v : ℕ) (before : List ℕ) (old : List Link) (some : List ℕ) (mid : List Link) (l : Link) (reached : List ℕ) (new : List Link) → IsLink g l → from_of g l ≡ v → LinksFrom g v before old some mid → AddsLink l some mid reached new → LinksFrom g v before old reached new
+pub from-next : (g : Multigraph) (v : ℕ) (before : List ℕ) (old : List Link) (some : List ℕ) (mid : List Link) (l : Link) (reached : List ℕ) (new : List Link) → IsLink g l → from_of g l ≡ v
+    → LinksFrom g v before old some mid → AddsLink l some mid reached new → LinksFrom g v before old reached new
 from-next g v before old some mid l reached new link leaves so_far adds =
     elim adds [
       | inl same ↦
@@ -113,7 +116,8 @@ all-none g start old = record {
 }
 
 -- .. from one reached vertex more
-pub all-next : (g : Multigraph) (start v : ℕ) (old : List Link) (some : List ℕ) (mid : List Link) (reached : List ℕ) (new : List Link) → holds some v ≡ true → LinksAll g start old some mid → LinksFrom g v some mid reached new → LinksAll g start old reached new
+pub all-next : (g : Multigraph) (start v : ℕ) (old : List Link) (some : List ℕ) (mid : List Link) (reached : List ℕ) (new : List Link) → holds some v ≡ true → LinksAll g start old some mid
+    → LinksFrom g v some mid reached new → LinksAll g start old reached new
 all-next g start v old some mid reached new held so_far more = record {
   kept = λ w h. more.kept w (so_far.kept w h);
   tree = λ roots h t. more.tree roots (elim (so_far.linked v held) [ inl e ↦ inl (ap (holds roots) e ∙ h) | inr e ↦ inr e ]) (so_far.tree roots h t);

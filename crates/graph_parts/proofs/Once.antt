@@ -1,5 +1,6 @@
 -- Lemmas on lists that hold each member once, and on the ascending list of the same members.
-use Rattle.std.proofs.Common.{◌≡◌, ℕ, zero, suc, ◌+◌, ◌<◌, ◌≤◌, pos, ◌+ℤ◌, ◌≤ℤ◌, Bool, true, false, cond, ◌||◌, eqb, refl, ap, sym, ◌∙◌, subst, inl, inr, arith, List, [], ◌∷◌, ◌++◌, length, length-append}
+use Rattle.std.proofs.Common.{◌≡◌, ℕ, zero, suc, ◌+◌, ◌<◌, ◌≤◌, pos, ◌+ℤ◌, ◌≤ℤ◌, Bool, true, false, cond, ◌||◌, eqb, refl, ap, sym, ◌∙◌, subst, inl, inr, arith, List, [], ◌∷◌, ◌++◌, length}
+use Rattle.std.proofs.Common.{length-append}
 use Rattle.std.specs.List.Sorted.{IsStrictlyIncreasing}
 use Rattle.std.proofs.lemmas.Int.{ints}
 use Rattle.std.proofs.lemmas.Bool.{cases_Bool, cases_eq, eqb-true, eq-eqb, false≢true, or_cases, or_left, or_right}
@@ -93,7 +94,8 @@ to_ascending xs zero = grind (arith, common_steps)
 to_ascending xs (suc n) =
     let P : Bool → Type 0 = λ c. IsStrictlyIncreasing (cond c (members_to xs n ++ suc n ∷ []) (members_to xs n)) in
     elim (cases_Bool (holds xs (suc n))) [
-      | inl h ↦ subst P (sym h) (increasing-push (members_to xs n) (suc n) (to_ascending xs n) (all_holds (λ x. x < suc n) (members_to xs n) (λ x m. let r = to-is xs n x m in let high : x ≤ n = r.1 in omega arith)))
+      | inl h ↦ subst P (sym h) (increasing-push (members_to xs n) (suc n) (to_ascending xs n) (all_holds (λ x. x < suc n) (members_to xs n) (λ x m. let r = to-is xs n x m in let high : x
+          ≤ n = r.1 in omega arith)))
       | inr h ↦ subst P (sym h) (to_ascending xs n)
     ]
 
@@ -118,6 +120,7 @@ to_same_at xs n w low high =
 pub to-length : (xs : List ℕ) (n : ℕ) → HoldsOnce n xs → length (members_to xs n) ≡ length xs
 to-length xs n once =
     let counted = members_counted n (members_to xs n) (to-set xs n).ascending (to-set xs n).in_range in
-    let same = int_sum_to-same (λ i. cond (holds (members_to xs n) (i + 1)) (pos 1) (pos 0)) (λ i. cond (holds xs (i + 1)) (pos 1) (pos 0)) n (λ i b. ap (λ t. cond t (pos 1) (pos 0)) (to_same_at xs n (i + 1) (omega arith) (omega arith))) in
+    let same = int_sum_to-same (λ i. cond (holds (members_to xs n) (i + 1)) (pos 1) (pos 0)) (λ i. cond (holds xs (i + 1)) (pos 1) (pos 0)) n (λ i b. ap (λ t. cond t (pos 1) (pos 0))
+    (to_same_at xs n (i + 1) (omega arith) (omega arith))) in
     let size : int_sum_to (λ i. cond (holds xs (i + 1)) (pos 1) (pos 0)) n ≡ pos (length xs) = once in
     omega (arith, ints, counted, same, size)

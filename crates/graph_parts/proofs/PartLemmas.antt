@@ -13,7 +13,7 @@ use Rattle.graph_theory.proofs.Members.{holds_first, least_first, members_sum}
 use Rattle.graph_theory.proofs.Components.{together-edge, together-sym, component-within}
 use Rattle.graph_theory.proofs.OddParts.{leaves_none-even}
 use Rattle.graph_parts.specs.Marks.{is_marked}
-use Rattle.graph_parts.specs.Forests.{IsLeast}
+use Rattle.graph_parts.specs.Forests.{IsLeastTogether}
 use Rattle.graph_parts.specs.Flags.{taken_counts, IsBalanced}
 use Rattle.graph_parts.specs.OddParts.{IsFirstOddPart}
 use Rattle.graph_parts.proofs.FlagLemmas.{one_if, bit-test}
@@ -55,7 +55,8 @@ member-term false f d o h small = refl
 abbrev pub flags_in : Multigraph → List Bool → List ℕ → ℕ
 flags_in g flags part = sum_to (λ i. cond (holds part (i + 1)) (one_if (is_marked flags (i + 1))) 0) g.vertices
 
-pub terminals-parity : (g : Multigraph) (odd : ℕ → ℕ) (taken flags : List Bool) (part : List ℕ) → IsGraph g → ((v : ℕ) → odd v ≤ 1) → IsBalanced g odd taken flags → IsVertexSet g.vertices part → LeavesNone g part → count_by (λ v. eqb (odd v) 1) part % 2 ≡ flags_in g flags part % 2
+pub terminals-parity : (g : Multigraph) (odd : ℕ → ℕ) (taken flags : List Bool) (part : List ℕ) → IsGraph g → ((v : ℕ) → odd v ≤ 1) → IsBalanced g odd taken flags
+    → IsVertexSet g.vertices part → LeavesNone g part → count_by (λ v. eqb (odd v) 1) part % 2 ≡ flags_in g flags part % 2
 terminals-parity g odd taken flags part ok bit even set closed =
     let n = g.vertices in
     let counts = taken_counts taken (length g.edges) in
@@ -64,7 +65,8 @@ terminals-parity g odd taken flags part ok bit even set closed =
     let o : ℕ → ℕ = λ i. cond (holds part (i + 1)) (one_if (eqb (odd (i + 1)) 1)) 0 in
     let degrees : sum_to d n % 2 ≡ 0 = leaves_none-even g counts part ok.ends closed in
     let both = sum_to-add d f n in
-    let agree = sum_to-parity (λ i. d i + f i) o n (λ i b. member-term (holds part (i + 1)) (is_marked flags (i + 1)) (degree g counts (i + 1)) (odd (i + 1)) (even (i + 1) (omega arith) (omega arith)) (bit (i + 1))) in
+    let agree = sum_to-parity (λ i. d i + f i) o n (λ i b. member-term (holds part (i + 1)) (is_marked flags (i + 1)) (degree g counts (i + 1)) (odd (i + 1)) (even (i + 1) (omega arith)
+    (omega arith)) (bit (i + 1))) in
     let listed : sum_to o n ≡ count_by (λ v. eqb (odd v) 1) part = members_sum (λ v. one_if (eqb (odd v) 1)) n part set.ascending set.in_range in
     omega (arith, degrees, both, agree, listed)
 
@@ -79,7 +81,8 @@ flags-none g flags part off =
     ∙ sum_to-zero g.vertices
 
 -- one flag in a part
-pub flags-one : (g : Multigraph) (flags : List Bool) (part : List ℕ) (root : ℕ) → 1 ≤ root → root ≤ g.vertices → holds part root ≡ true → is_marked flags root ≡ true → ((v : ℕ) → holds part v ≡ true → is_marked flags v ≡ true → root ≡ v) → flags_in g flags part ≡ 1
+pub flags-one : (g : Multigraph) (flags : List Bool) (part : List ℕ) (root : ℕ) → 1 ≤ root → root ≤ g.vertices → holds part root ≡ true → is_marked flags root ≡ true
+    → ((v : ℕ) → holds part v ≡ true → is_marked flags v ≡ true → root ≡ v) → flags_in g flags part ≡ 1
 flags-one g flags part root low high here on only =
     sum_to-same (λ i. cond (holds part (i + 1)) (one_if (is_marked flags (i + 1))) 0) (λ i. cond (eqb root (i + 1)) 1 0) g.vertices
     (λ i b. elim (cases_eq root (i + 1)) [
@@ -94,7 +97,10 @@ flags-one g flags part root low high here on only =
     ∙ sum_to-at_one (λ _. 1) root g.vertices low high
 
 -- the component of the first flag, where flags are at the least vertices of components alone
-pub first-odd : (g : Multigraph) (odd : ℕ → ℕ) (taken flags : List Bool) (part : List ℕ) (root : ℕ) → IsGraph g → ((v : ℕ) → odd v ≤ 1) → IsBalanced g odd taken flags → ((v : ℕ) → is_marked flags v ≡ true → IsLeast g [] v) → is_marked flags root ≡ true → ((w : ℕ) → w < root → is_marked flags w ≡ false) → IsComponent g [] part → holds part root ≡ true → IsFirstOddPart g (λ v. eqb (odd v) 1) part
+pub first-odd : (g : Multigraph) (odd : ℕ → ℕ) (taken flags : List Bool) (part : List ℕ) (root : ℕ) → IsGraph g → ((v : ℕ) → odd v ≤ 1) → IsBalanced g odd taken flags
+    → ((v : ℕ) → is_marked flags v ≡ true → IsLeastTogether g [] v) → is_marked flags root ≡ true → ((w : ℕ) → w < root → is_marked flags w ≡ false) → IsComponent g [] part → holds part root
+    ≡ true
+    → IsFirstOddPart g (λ v. eqb (odd v) 1) part
 first-odd g odd taken flags part root ok bit even least on first is here =
     let closed = component-closed g part ok.ends is in
     let range = component-within g [] part root is here in

@@ -1,5 +1,6 @@
 -- Lemmas on a search: one vertex more, all neighbours of a vertex, and what is found in the end.
-use Rattle.std.proofs.Common.{◌≡◌, ℕ, ◌+◌, ◌<◌, ◌≤◌, Bool, true, false, ◌||◌, eqb, refl, ap, sym, ◌∙◌, subst, inl, inr, arith, List, [], ◌∷◌, ◌++◌, length, get_or, set, take, length-set, length-append}
+use Rattle.std.proofs.Common.{◌≡◌, ℕ, ◌+◌, ◌<◌, ◌≤◌, Bool, true, false, ◌||◌, eqb, refl, ap, sym, ◌∙◌, subst, inl, inr, arith, List, [], ◌∷◌, ◌++◌, length, get_or, set, take, length-set}
+use Rattle.std.proofs.Common.{length-append}
 use Rattle.std.proofs.Math.Bool.{or-false, or_assoc}
 use Rattle.std.proofs.lemmas.Bool.{cases_eq, eqb-true, eq-eqb, ne_eqb, false≢true, or_cases, or_parts, or_left, or_right}
 use Rattle.std.proofs.lemmas.List.{get_or-set_same, get_or-set_other, get_or_read, take-append-le, take_all, append-nil, append_assoc}
@@ -11,7 +12,7 @@ use Rattle.graph_theory.proofs.Edges.{edge_of_within, other_end-within}
 use Rattle.graph_theory.proofs.Around.{around-has, number_at}
 use Rattle.graph_theory.proofs.Components.{together-refl, together-free, together-push, closed_has}
 use Rattle.graph_parts.specs.Marks.{is_marked}
-use Rattle.graph_parts.specs.Search.{HoldsOnce, ReachesOne, Grows, IsReached, IsSettled, ReachesFrom, Finds}
+use Rattle.graph_parts.specs.Search.{HoldsOnce, ReachesOne, Grows, AreReached, IsSettled, ReachesFrom, Finds}
 use Rattle.graph_parts.proofs.Once.{once-none, once-push}
 
 -- marks that stay
@@ -35,7 +36,8 @@ marked_now old v w b =
       | inr d ↦ get_or-set_other old v w true false d ∙ sym (ap (λ t. is_marked old w || t) (ne_eqb v w (λ e. d (sym e))) ∙ or-false (is_marked old w))
     ]
 
-pub grows-one : (out : List Bool) (v : ℕ) (old : List Bool) (before : List ℕ) (new : List Bool) (reached : List ℕ) → v < length old → ReachesOne out v old before new reached → Grows old before new reached
+pub grows-one : (out : List Bool) (v : ℕ) (old : List Bool) (before : List ℕ) (new : List Bool) (reached : List ℕ) → v < length old → ReachesOne out v old before new reached
+    → Grows old before new reached
 grows-one out v old before new reached b one =
     elim one.step [
       | inl same ↦
@@ -55,13 +57,15 @@ grows-one out v old before new reached b one =
 or_false_right : (a b : Bool) → (a || b) ≡ false → b ≡ false
 or_false_right a b h = (or_parts a b h).1
 
-pub reached-more : (g : Multigraph) (out : List Bool) (start : ℕ) (first old : List Bool) (before : List ℕ) (new : List Bool) (reached : List ℕ) (e v : ℕ) → IsGraph g → holds before v ≡ true → IsEdgeNumber g e → touches (edge_of g e) v ≡ true → other_end (edge_of g e) v < length old → IsReached g out start first old before → ReachesOne out (other_end (edge_of g e) v) old before new reached → IsReached g out start first new reached
+pub reached-more : (g : Multigraph) (out : List Bool) (start : ℕ) (first old : List Bool) (before : List ℕ) (new : List Bool) (reached : List ℕ) (e v : ℕ) → IsGraph g → holds before v ≡ true
+    → IsEdgeNumber g e → touches (edge_of g e) v ≡ true → other_end (edge_of g e) v < length old → AreReached g out start first old before
+    → ReachesOne out (other_end (edge_of g e) v) old before new reached → AreReached g out start first new reached
 reached-more g out start first old before new reached e v ok here number meets b so_far one =
     let to = other_end (edge_of g e) v in
     elim one.step [
       | inl same ↦
-          let P : List Bool → Type 0 = λ m. IsReached g out start first m reached in
-          let Q : List ℕ → Type 0 = λ xs. IsReached g out start first old xs in
+          let P : List Bool → Type 0 = λ m. AreReached g out start first m reached in
+          let Q : List ℕ → Type 0 = λ xs. AreReached g out start first old xs in
           subst P (sym same.0) (subst Q (sym same.1) so_far)
       | inr more ↦
           let range : (1 ≤ to) × (to ≤ g.vertices) = other_end-within g.vertices (edge_of g e) v (edge_of_within g e ok.ends number) in
@@ -94,10 +98,12 @@ reached-more g out start first old before new reached e v ok here number meets b
 
 -- the start is reached
 
-pub reaches-start : (out : List Bool) (start : ℕ) (old : List Bool) → start < length old → is_marked out start ≡ false → is_marked old start ≡ false → ReachesOne out start old [] (set old start true) (start ∷ [])
+pub reaches-start : (out : List Bool) (start : ℕ) (old : List Bool) → start < length old → is_marked out start ≡ false → is_marked old start ≡ false
+    → ReachesOne out start old [] (set old start true) (start ∷ [])
 reaches-start out start old b free off = record { settled = λ h. get_or-set_same old start true false b; step = inr (free, off, refl, refl) }
 
-pub reached-start : (g : Multigraph) (out : List Bool) (start : ℕ) (old new : List Bool) (reached : List ℕ) → 1 ≤ start → start ≤ g.vertices → start < length old → is_marked out start ≡ false → is_marked old start ≡ false → ReachesOne out start old [] new reached → IsReached g out start old new reached × (reached ≡ start ∷ [])
+pub reached-start : (g : Multigraph) (out : List Bool) (start : ℕ) (old new : List Bool) (reached : List ℕ) → 1 ≤ start → start ≤ g.vertices → start < length old → is_marked out start
+    ≡ false → is_marked old start ≡ false → ReachesOne out start old [] new reached → AreReached g out start old new reached × (reached ≡ start ∷ [])
 reached-start g out start old new reached low high b free off one =
     elim one.step [
       | inl same ↦ absurd (false≢true (sym off ∙ ap (λ (m : List Bool). is_marked m start) (sym same.0) ∙ one.settled free))
@@ -121,13 +127,15 @@ reached-start g out start old new reached low high b free off one =
 
 pub record ReachesSome (g : Multigraph) (out : List Bool) (v : ℕ) (numbers : List ℕ) (i : ℕ) (old : List Bool) (before : List ℕ) (new : List Bool) (reached : List ℕ) : Type 0 where
   pub grows : Grows old before new reached
-  pub keeps : (start : ℕ) (first : List Bool) → holds before v ≡ true → IsReached g out start first old before → IsReached g out start first new reached
+  pub keeps : (start : ℕ) (first : List Bool) → holds before v ≡ true → AreReached g out start first old before → AreReached g out start first new reached
   pub settled : (e : ℕ) → holds (take i numbers) e ≡ true → is_marked out (other_end (edge_of g e) v) ≡ false → is_marked new (other_end (edge_of g e) v) ≡ true
 
 pub reaches-none : (g : Multigraph) (out : List Bool) (v : ℕ) (numbers : List ℕ) (old : List Bool) (before : List ℕ) → ReachesSome g out v numbers 0 old before old before
 reaches-none g out v numbers old before = record { grows = grows-refl old before; keeps = λ start first h so_far. so_far; settled = λ e h free. absurd (false≢true h) }
 
-pub reaches-next : (g : Multigraph) (out : List Bool) (v : ℕ) (numbers : List ℕ) (i p to : ℕ) (old : List Bool) (before : List ℕ) (mid : List Bool) (some : List ℕ) (new : List Bool) (reached : List ℕ) → IsGraph g → numbers ≡ edges_around g v → i < length numbers → p ≡ get_or numbers i p → to ≡ other_end (edge_of g p) v → to < length mid → ReachesSome g out v numbers i old before mid some → ReachesOne out to mid some new reached → ReachesSome g out v numbers (i + 1) old before new reached
+pub reaches-next : (g : Multigraph) (out : List Bool) (v : ℕ) (numbers : List ℕ) (i p to : ℕ) (old : List Bool) (before : List ℕ) (mid : List Bool) (some : List ℕ) (new : List Bool)
+    (reached : List ℕ) → IsGraph g → numbers ≡ edges_around g v → i < length numbers → p ≡ get_or numbers i p → to ≡ other_end (edge_of g p) v → to < length mid
+    → ReachesSome g out v numbers i old before mid some → ReachesOne out to mid some new reached → ReachesSome g out v numbers (i + 1) old before new reached
 reaches-next g out v numbers i p to old before mid some new reached ok is b at leads inside so_far one =
     let number = number_at g v numbers i p is b at in
     let step = grows-one out to mid some new reached inside one in
@@ -136,7 +144,8 @@ reaches-next g out v numbers i p to old before mid some new reached ok is b at l
     record {
       grows = grows-trans old mid new before some reached so_far.grows step;
       keeps = λ start first h was.
-          let held : holds some v ≡ true = ap (λ (xs : List ℕ). holds xs v) so_far.grows.list ∙ holds-append before so_far.grows.more v ∙ or_left (holds before v) (holds so_far.grows.more v) h in
+          let held : holds some v ≡ true = ap (λ (xs : List ℕ). holds xs v) so_far.grows.list ∙ holds-append before so_far.grows.more v
+          ∙ or_left (holds before v) (holds so_far.grows.more v) h in
           reached-more g out start first mid some new reached p v ok held number.0 number.1 (subst B leads inside) (so_far.keeps start first h was) (subst R leads one);
       settled = λ e h free.
           elim (or_cases (holds (take i numbers) e) (eqb (get_or numbers i 0) e) (sym (holds-take numbers i e b) ∙ h)) [
@@ -149,7 +158,8 @@ reaches-next g out v numbers i p to old before mid some new reached ok is b at l
           ];
     }
 
-pub reaches-all : (g : Multigraph) (out : List Bool) (v : ℕ) (numbers : List ℕ) (old : List Bool) (before : List ℕ) (new : List Bool) (reached : List ℕ) → numbers ≡ edges_around g v → ReachesSome g out v numbers (length numbers) old before new reached → ReachesFrom g out v old before new reached
+pub reaches-all : (g : Multigraph) (out : List Bool) (v : ℕ) (numbers : List ℕ) (old : List Bool) (before : List ℕ) (new : List Bool) (reached : List ℕ) → numbers ≡ edges_around g v
+    → ReachesSome g out v numbers (length numbers) old before new reached → ReachesFrom g out v old before new reached
 reaches-all g out v numbers old before new reached is so_far = record {
   grows = so_far.grows;
   keeps = so_far.keeps;
@@ -162,14 +172,15 @@ reaches-all g out v numbers old before new reached is so_far = record {
 
 pub record IsDone (g : Multigraph) (out : List Bool) (start : ℕ) (old marks : List Bool) (reached : List ℕ) (done : ℕ) : Type 0 where
   pub size : length marks ≡ length old
-  pub so_far : IsReached g out start old marks reached
+  pub so_far : AreReached g out start old marks reached
   pub begun : holds reached start ≡ true
   pub settled : (v : ℕ) → holds (take done reached) v ≡ true → IsSettled g out marks v
 
 eq_start : (v : ℕ) → holds (v ∷ []) v ≡ true
 eq_start v = or_left (eqb v v) false (eq-eqb v v refl)
 
-pub done-none : (g : Multigraph) (out : List Bool) (start : ℕ) (old marks : List Bool) (reached : List ℕ) → start < length old → 1 ≤ start → start ≤ g.vertices → is_marked out start ≡ false → is_marked old start ≡ false → ReachesOne out start old [] marks reached → IsDone g out start old marks reached 0
+pub done-none : (g : Multigraph) (out : List Bool) (start : ℕ) (old marks : List Bool) (reached : List ℕ) → start < length old → 1 ≤ start → start ≤ g.vertices → is_marked out start ≡ false
+    → is_marked old start ≡ false → ReachesOne out start old [] marks reached → IsDone g out start old marks reached 0
 done-none g out start old marks reached b low high free off one =
     let first = reached-start g out start old marks reached low high b free off one in
     record {
@@ -179,7 +190,8 @@ done-none g out start old marks reached b low high free off one =
       settled = λ v h. absurd (false≢true h);
     }
 
-pub done-next : (g : Multigraph) (out : List Bool) (start v done : ℕ) (old mid : List Bool) (some : List ℕ) (new : List Bool) (reached : List ℕ) → done < length some → v ≡ get_or some done v → IsDone g out start old mid some done → ReachesFrom g out v mid some new reached → IsDone g out start old new reached (done + 1)
+pub done-next : (g : Multigraph) (out : List Bool) (start v done : ℕ) (old mid : List Bool) (some : List ℕ) (new : List Bool) (reached : List ℕ) → done < length some → v ≡ get_or some done v
+    → IsDone g out start old mid some done → ReachesFrom g out v mid some new reached → IsDone g out start old new reached (done + 1)
 done-next g out start v done old mid some new reached b at is more =
     let Q : ℕ → Type 0 = λ x. holds some x ≡ true in
     let held : holds some v ≡ true = subst Q (sym at) (holds_at some done v b) in
@@ -200,13 +212,15 @@ done-next g out start v done old mid some new reached b at is more =
     }
 
 -- more is reached than is done
-pub done-most : (g : Multigraph) (out : List Bool) (v done : ℕ) (mid : List Bool) (some : List ℕ) (new : List Bool) (reached : List ℕ) → done < length some → ReachesFrom g out v mid some new reached → done + 1 ≤ length reached
+pub done-most : (g : Multigraph) (out : List Bool) (v done : ℕ) (mid : List Bool) (some : List ℕ) (new : List Bool) (reached : List ℕ) → done < length some
+    → ReachesFrom g out v mid some new reached → done + 1 ≤ length reached
 done-most g out v done mid some new reached b more =
     let size : length reached ≡ length some + length more.grows.more = ap length more.grows.list ∙ length-append some more.grows.more in
     omega (arith, size)
 
 -- .. of all of them: what is reached is all that is together with the start
-pub done-all : (g : Multigraph) (out : List Bool) (start : ℕ) (old marks : List Bool) (reached : List ℕ) → IsDone g out start old marks reached (length reached) → Finds g out start old marks reached
+pub done-all : (g : Multigraph) (out : List Bool) (start : ℕ) (old marks : List Bool) (reached : List ℕ) → IsDone g out start old marks reached (length reached)
+    → Finds g out start old marks reached
 done-all g out start old marks reached is =
     let P : List ℕ → (w : ℕ) → Type 0 = λ xs w. holds xs w ≡ true in
     record {
@@ -216,7 +230,8 @@ done-all g out start old marks reached is =
         λ a. closed_has g removed (holds reached) start w
             (λ e v number meets h free.
             let to = other_end (edge_of g e) v in
-            let marked : is_marked marks to ≡ true = is.settled v (subst (λ (xs : List ℕ). P xs v) (sym (take_all (length reached) reached (omega arith))) h) e number meets (out_is to ∙ free) in
+            let marked : is_marked marks to ≡ true = is.settled v (subst (λ (xs : List ℕ). P xs v) (sym (take_all (length reached) reached (omega arith))) h) e number meets (out_is to
+            ∙ free) in
             let near = is.so_far.sound removed out_is v h in
             elim (or_cases (is_marked old to) (holds reached to) (sym (is.so_far.marked to) ∙ marked)) [
               | inl was ↦ absurd (apart to was (together-push g removed e start v near number meets (together-free g removed start v near) free))

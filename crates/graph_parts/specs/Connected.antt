@@ -5,4 +5,5 @@ use Rattle.graph_theory.specs.Barrier.{AreTogether}
 
 -- all edges lie in one component
 abbrev pub HasConnectedEdges : Multigraph → Type 0
-HasConnectedEdges g = (j k : ℕ) → j < length g.edges → k < length g.edges → AreTogether g [] (edge_at g j).u (edge_at g k).u
+HasConnectedEdges g = (j k : ℕ) → j < length g.edges → k < length g.edges
+    → AreTogether g [] (edge_at g j).u (edge_at g k).u

@@ -6,4 +6,5 @@ use Rattle.graph_parts.specs.Marks.{is_marked}
 
 -- exactly what is together with a vertex below n is marked
 abbrev pub SeenBelow : Multigraph → List ℕ → ℕ → List Bool → Type 0
-SeenBelow g removed n marks = (w : ℕ) → (is_marked marks w ≡ true) ↔ ((u : ℕ) × (1 ≤ u) × (u < n) × AreTogether g removed u w)
+SeenBelow g removed n marks = (w : ℕ) → (is_marked marks w ≡ true) ↔ ((u : ℕ) × (1 ≤ u) × (u < n)
+    × AreTogether g removed u w)

@@ -1,4 +1,5 @@
--- Joins, and the components that exclude them (Schrijver, Combinatorial Optimization, volume A, chapter 29).
+-- Joins, and the components that exclude them (Schrijver, Combinatorial Optimization, volume A,
+-- chapter 29).
 use Rattle.std.specs.Prelude.{◌≡◌, ℕ, ◌%◌, ◌≤◌, ◌==◌, Bool, List, [], count_by, slice_index}
 use Rattle.graph_theory.specs.Graph.{Multigraph}
 use Rattle.graph_theory.specs.Parts.{IsOddPart}
@@ -18,9 +19,11 @@ is_terminal parity i v = odd_at parity i v == 1
 pub record IsFirstOddPart (g : Multigraph) (terminal : ℕ → Bool) (set : List ℕ) : Type 0 where
   pub part : IsOddPart g terminal set
   pub component : IsComponent g [] set
-  pub least : (other : List ℕ) → IsComponent g [] other → count_by terminal other % 2 ≡ 1 → slice_index set 0 ≤ slice_index other 0
+  pub least : (other : List ℕ) → IsComponent g [] other → count_by terminal other % 2 ≡ 1
+      → slice_index set 0 ≤ slice_index other 0
 
 -- a join; or the first odd part, and then there is no join
 abbrev pub IsJoinOrOdd : Parity → Network → JoinOrOdd → Type 0
 IsJoinOrOdd parity i (Join join) = ListsJoin i (odd_at parity i) join.edges
-IsJoinOrOdd parity i (OddSet part) = IsFirstOddPart (graph_of i) (is_terminal parity i) part × ((counts : List ℕ) → IsJoinOf parity i counts → ⊥)
+IsJoinOrOdd parity i (OddSet part) = IsFirstOddPart (graph_of i) (is_terminal parity i) part
+    × ((counts : List ℕ) → IsJoinOf parity i counts → ⊥)

@@ -19,7 +19,8 @@ pub(crate) fn mark_component(
     requires low { 1 ≤ v }
     requires high { v ≤ graph.now.vertices }
     ensures size { IfOk result (λ marks. length marks.items ≡ graph.now.vertices + 1) }
-    ensures exact { IfOk result (λ marks. (w : ℕ) → (is_marked marks.items w ≡ true) ↔ AreTogether graph.now [] v w) }
+    ensures exact { IfOk result (λ marks. (w : ℕ) → (is_marked marks.items w ≡ true)
+        ↔ AreTogether graph.now [] v w) }
     ensures graph { IsGraph graph.now }
 {
     let index = graph.index()?;

@@ -11,7 +11,8 @@ use weighted_graph::Graph;
 /// Whether each edge has a marked end `u`.
 fn are_marked(graph: &Graph, marks: &[bool]) -> bool
     requires { length marks.now ≡ graph.now.vertices + 1 }
-    ensures { IsTrue result ↔ ((k : ℕ) → k < length graph.now.edges → is_marked marks.now (edge_at graph.now k).u ≡ true) }
+    ensures { IsTrue result ↔ ((k : ℕ) → k < length graph.now.edges
+        → is_marked marks.now (edge_at graph.now k).u ≡ true) }
 {
     for edge in graph.edge_list() {
         if !marks[edge.u.number() as usize] {

@@ -34,7 +34,8 @@ pub(crate) fn odd_flags(
     requires { IsIndex (graph_of instance.now) index.now }
     ensures size { IfOk result (λ flags. length flags.items ≡ vertices instance.now + 1) }
     ensures vertices { IfOk result (λ flags. is_marked flags.items 0 ≡ false) }
-    ensures each { IfOk result (λ flags. (v : ℕ) → 1 ≤ v → v ≤ vertices instance.now → is_marked flags.items v ≡ is_terminal parity.now instance.now v) }
+    ensures each { IfOk result (λ flags. (v : ℕ) → 1 ≤ v → v ≤ vertices instance.now
+        → is_marked flags.items v ≡ is_terminal parity.now instance.now v) }
     ensures network { IsNetwork instance.now }
 {
     let count = instance.vertices();

@@ -1,15 +1,16 @@
-ghost use Rattle.std.specs.Prelude.{◌≡◌, ℕ, ◌+◌, true, false, [], length, if◌then◌else◌, IfOk, OnOk};
+ghost use Rattle.std.specs.Prelude.{◌≡◌, ℕ, ◌+◌, true, false, [], length, if◌then◌else◌, IfOk};
+ghost use Rattle.std.specs.Prelude.{OnOk};
 ghost use Rattle.weighted_graph.specs.Index.{IsIndex};
 ghost use Rattle.graph_parts.specs.Marks.{is_marked};
-ghost use Rattle.graph_parts.specs.Forests.{IsLeast};
+ghost use Rattle.graph_parts.specs.Forests.{IsLeastTogether};
 ghost use Rattle.graph_parts.specs.Flags.{IsBalanced};
 ghost use Rattle.graph_parts.specs.OddParts.{IsJoinOrOdd};
 
+use crate::carrying::carry_all;
 use crate::components::component;
 use crate::flags::odd_flags;
 use crate::forest::spanning_forest;
 use crate::marks::{first_marked, list_taken};
-use crate::settle::settle;
 use mb_base::{OutOfMemory, Sequence, VertexId};
 use mb_problem::{Instance, Join, Parity};
 use std::alloc::Global;
@@ -36,19 +37,22 @@ fn take_edges(
     requires vertices { is_marked flags.old 0 ≡ false }
     ensures flags { OnOk result (length flags.new ≡ graph.now.vertices + 1) }
     ensures taken { IfOk result (λ taken. length taken.items ≡ length graph.now.edges + 1) }
-    ensures roots { OnOk result ((v : ℕ) → is_marked flags.new v ≡ true → IsLeast graph.now [] v) }
-    ensures balanced { IfOk result (λ taken. IsBalanced graph.now (λ v. if is_marked flags.old v then 1 else 0) taken.items flags.new) }
+    ensures roots { OnOk result ((v : ℕ) → is_marked flags.new v ≡ true
+        → IsLeastTogether graph.now [] v) }
+    ensures balanced { IfOk result (λ taken. IsBalanced graph.now
+        (λ v. if is_marked flags.old v then 1 else 0) taken.items flags.new) }
 {
     let links = spanning_forest(alloc, graph, index)?;
     let mut taken = vec![in alloc; false; graph.edges() as usize + 1]?;
-    settle(graph, links, flags, &mut taken);
+    carry_all(graph, links, flags, &mut taken);
     Ok(taken)
 }
 
-/// A join of this parity: a set of edges whose degree is odd exactly where the parity asks for it; or,
-/// where there is none, the first component that holds an odd number of these vertices (Schrijver,
-/// Combinatorial Optimization, volume A, chapter 29). Flags at these vertices are carried to the roots
-/// of a spanning forest. It takes time linear in vertices and edges. `OutOfMemory` is its one error.
+/// A join of this parity: a set of edges whose degree is odd exactly where the parity asks for it;
+/// or, where there is none, the first component that holds an odd number of these vertices
+/// (Schrijver, Combinatorial Optimization, volume A, chapter 29). Flags at these vertices are
+/// carried to the roots of a spanning forest. It takes time linear in vertices and edges.
+/// `OutOfMemory` is its one error.
 pub fn join_or_odd(
     alloc: Global,
     instance: &Instance,

@@ -1,9 +1,11 @@
-//! The components that a graph falls into where a set of vertices is removed, and joins along trees that span them.
-//! It stands on `mb_base`, `graph_theory`, `weighted_graph` and `mb_problem`. It promises the component
-//! of a vertex, ascending; the number of components of odd size; whether all edges lie in one component;
-//! and for each parity a join, or the first component that excludes one.
+//! The components that a graph falls into where a set of vertices is removed, and joins along trees
+//! that span them. It stands on `mb_base`, `graph_theory`, `weighted_graph` and `mb_problem`. It
+//! promises the component of a vertex, ascending; the number of components of odd size; whether all
+//! edges lie in one component; and for each parity a join, or the first component that excludes
+//! one.
 #![tactic(auto)]
 
+mod carrying;
 mod components;
 mod connected;
 mod flags;
@@ -13,10 +15,9 @@ mod links;
 mod marks;
 mod odd;
 mod search;
-mod settle;
 
 pub use components::component;
 pub use connected::edge_connected;
 pub use joins::{JoinOrOdd, join_or_odd};
-pub use marks::mark_all;
+pub use marks::{mark_all, unmark_all};
 pub use odd::odd_components;

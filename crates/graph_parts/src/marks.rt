@@ -1,4 +1,4 @@
-ghost use Rattle.std.specs.Prelude.{◌≡◌, ℕ, ◌<◌, ◌≤◌, ◌^◌, ◌||◌, length, All, IfOk};
+ghost use Rattle.std.specs.Prelude.{◌≡◌, ℕ, ◌<◌, ◌≤◌, ◌^◌, ◌||◌, ◌&&◌, not, length, All, IfOk};
 ghost use Rattle.graph_theory.specs.Parts.{holds};
 ghost use Rattle.graph_parts.specs.Marks.{is_marked, ListsMarked};
 ghost use Rattle.graph_parts.specs.Flags.{IsFirstMarked};
@@ -13,6 +13,17 @@ pub fn mark_all(marks: &mut [bool], members: &[VertexId])
 {
     for vertex in members {
         marks[vertex.number() as usize] = true;
+    }
+}
+
+/// Takes the marks off all members.
+pub fn unmark_all(marks: &mut [bool], members: &[VertexId])
+    requires { All (λ v. v < length marks.old) members.now }
+    ensures { (w : ℕ) → is_marked marks.new w
+        ≡ (is_marked marks.old w && not (holds members.now w)) }
+{
+    for vertex in members {
+        marks[vertex.number() as usize] = false;
     }
 }
 

@@ -37,12 +37,16 @@ pub(crate) fn visit(
     requires high { vertex ≤ graph.now.vertices }
     requires removed { length removed.now ≡ graph.now.vertices + 1 }
     requires size { length seen.old ≡ graph.now.vertices + 1 }
-    ensures seen { IfOk result (λ _. (set : List ℕ) → MarksSet removed.now set → SeenBelow graph.now set vertex seen.old
+    ensures seen { IfOk result (λ _. (set : List ℕ) → MarksSet removed.now set
+        → SeenBelow graph.now set vertex seen.old
         → SeenBelow graph.now set (vertex + 1) seen.new) }
-    ensures head { IfOk result (λ odd. (set : List ℕ) → MarksSet removed.now set → SeenBelow graph.now set vertex seen.old
+    ensures head { IfOk result (λ odd. (set : List ℕ) → MarksSet removed.now set
+        → SeenBelow graph.now set vertex seen.old
         → IsTrue odd ↔ IsOddHead graph.now set vertex) }
-    ensures forest { IfOk result (λ _. (set : List ℕ) → MarksSet removed.now set → SeenBelow graph.now set vertex seen.old
-        → IsForest graph.now set seen.old links.old.items → IsForest graph.now set seen.new links.new.items) }
+    ensures forest { IfOk result (λ _. (set : List ℕ) → MarksSet removed.now set
+        → SeenBelow graph.now set vertex seen.old
+        → IsForest graph.now set seen.old links.old.items
+        → IsForest graph.now set seen.new links.new.items) }
 {
     let place = vertex.number() as usize;
     if seen[place] {
@@ -55,8 +59,8 @@ pub(crate) fn visit(
     Ok(is_odd(reached))
 }
 
-/// How many components have an odd number of vertices where the set is removed. It takes time linear
-/// in vertices and edges.
+/// How many components have an odd number of vertices where the set is removed. It takes time
+/// linear in vertices and edges.
 pub fn odd_components(
     alloc: Global,
     graph: &Graph,

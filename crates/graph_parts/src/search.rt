@@ -19,8 +19,10 @@ fn reach(
 ) -> Result<(), OutOfMemory>
     requires removed { link.to < length removed.now }
     requires marks { link.to < length marks.old }
-    ensures reached { OnOk result (ReachesOne removed.now link.to marks.old reached.old.items marks.new reached.new.items) }
-    ensures links { OnOk result (AddsLink link reached.old.items links.old.items reached.new.items links.new.items) }
+    ensures reached { OnOk result
+        (ReachesOne removed.now link.to marks.old reached.old.items marks.new reached.new.items) }
+    ensures links { OnOk result
+        (AddsLink link reached.old.items links.old.items reached.new.items links.new.items) }
 {
     let place = link.to.number() as usize;
     if removed[place] {
@@ -48,8 +50,12 @@ fn reach_from(
     requires numbers { numbers.now ≡ edges_around graph.now vertex }
     requires removed { length removed.now ≡ graph.now.vertices + 1 }
     requires marks { length marks.old ≡ graph.now.vertices + 1 }
-    ensures reached { OnOk result (ReachesFrom graph.now removed.now vertex marks.old reached.old.items marks.new reached.new.items) }
-    ensures links { OnOk result (LinksFrom graph.now vertex reached.old.items links.old.items reached.new.items links.new.items) }
+    ensures reached { OnOk result
+        (ReachesFrom graph.now removed.now vertex marks.old reached.old.items marks.new
+        reached.new.items) }
+    ensures links { OnOk result
+        (LinksFrom graph.now vertex reached.old.items links.old.items reached.new.items
+        links.new.items) }
 {
     for number in numbers {
         let to = graph.other_end(*number, vertex);
@@ -60,8 +66,8 @@ fn reach_from(
 }
 
 /// Reaches and marks the component of the start, breadth first, in time linear in its vertices and
-/// their edges. What was reached before is forgotten. To each vertex but the start a link is added, in
-/// the order in which they are found: a tree that spans the component.
+/// their edges. What was reached before is forgotten. To each vertex but the start a link is added,
+/// in the order in which they are found: a tree that spans the component.
 pub(crate) fn search(
     graph: &Graph,
     index: &Incidence,
@@ -78,8 +84,10 @@ pub(crate) fn search(
     requires high { start ≤ graph.now.vertices }
     requires free { is_marked removed.now start ≡ false }
     requires new { is_marked marks.old start ≡ false }
-    ensures finds { OnOk result (Finds graph.now removed.now start marks.old marks.new reached.new.items) }
-    ensures links { OnOk result (LinksAll graph.now start links.old.items reached.new.items links.new.items) }
+    ensures finds { OnOk result
+        (Finds graph.now removed.now start marks.old marks.new reached.new.items) }
+    ensures links { OnOk result
+        (LinksAll graph.now start links.old.items reached.new.items links.new.items) }
 {
     reached.clear();
     marks[start.number() as usize] = true;

@@ -1,5 +1,6 @@
 -- Lemmas on the lists of the edges at a vertex: what they list, in which order, and how one edge more changes them.
-use Rattle.std.proofs.Common.{◌≡◌, ℕ, zero, suc, ◌+◌, ◌-◌, ◌<◌, ◌≤◌, Bool, true, false, cond, eqb, ◌||◌, ◌↔◌, refl, ap, sym, ◌∙◌, subst, inl, inr, arith, add-one, [], ◌∷◌, ◌++◌, length, length-append, get_or, All, List}
+use Rattle.std.proofs.Common.{◌≡◌, ℕ, zero, suc, ◌+◌, ◌-◌, ◌<◌, ◌≤◌, Bool, true, false, cond, eqb, ◌||◌, ◌↔◌, refl, ap, sym, ◌∙◌, subst, inl, inr, arith, add-one, [], ◌∷◌, ◌++◌, length}
+use Rattle.std.proofs.Common.{length-append, get_or, All, List}
 use Rattle.std.specs.List.Sorted.{IsStrictlyIncreasing}
 use Rattle.std.proofs.lemmas.Bool.{false≢true, cases_Bool, or_cases, or_left, or_right, eqb-true, eq-eqb, cases_eq, cond-true, cond-false}
 use Rattle.std.proofs.lemmas.Grind.{common_steps}
@@ -100,7 +101,8 @@ pub around-at : (g : Multigraph) (v i d : ℕ) → i < length (edges_around g v)
 around-at g v i d b = around-is g v (get_or (edges_around g v) i d) (holds_at (edges_around g v) i d b)
 
 -- a number that stands in the list of the edges at a vertex
-pub number_at : (g : Multigraph) (v : ℕ) (numbers : List ℕ) (i p : ℕ) → numbers ≡ edges_around g v → i < length numbers → p ≡ get_or numbers i p → IsEdgeNumber g p × (touches (edge_of g p) v ≡ true)
+pub number_at : (g : Multigraph) (v : ℕ) (numbers : List ℕ) (i p : ℕ) → numbers ≡ edges_around g v → i < length numbers → p ≡ get_or numbers i p → IsEdgeNumber g p × (touches (edge_of g p) v
+    ≡ true)
 number_at g v numbers i p is b at =
     let P : List ℕ → Type 0 = λ xs. holds xs p ≡ true in
     let Q : ℕ → Type 0 = λ x. holds numbers x ≡ true in
@@ -116,7 +118,8 @@ below-ascending g v zero = grind (arith, common_steps)
 below-ascending g v (suc k) =
     let P : Bool → Type 0 = λ c. IsStrictlyIncreasing (cond c (edges_below g v k ++ suc k ∷ []) (edges_below g v k)) in
     elim (cases_Bool (touches (edge_at g k) v)) [
-      | inl h ↦ subst P (sym h) (increasing-push (edges_below g v k) (suc k) (below-ascending g v k) (all_holds (λ x. x < suc k) (edges_below g v k) (λ x m. let r = below-is g v k x m in let high : x ≤ k = r.1 in omega arith)))
+      | inl h ↦ subst P (sym h) (increasing-push (edges_below g v k) (suc k) (below-ascending g v k) (all_holds (λ x. x < suc k) (edges_below g v k)
+          (λ x m. let r = below-is g v k x m in let high : x ≤ k = r.1 in omega arith)))
       | inr h ↦ subst P (sym h) (below-ascending g v k)
     ]
 

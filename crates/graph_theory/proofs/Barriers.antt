@@ -1,5 +1,6 @@
 -- The easy direction of Tutte's theorem: a graph with a barrier has no perfect matching.
-use Rattle.std.proofs.Common.{◌≡◌, ℕ, zero, suc, ◌+◌, ◌<◌, ◌≤◌, ◌%◌, ℤ, pos, ◌+ℤ◌, ◌*ℤ◌, ◌≤ℤ◌, Bool, true, false, cond, not, eqb, refl, sym, ◌∙◌, subst, inl, inr, arith, List, [], ◌∷◌, length, get_or, slice_index, slice_index_or, All, AllPairs}
+use Rattle.std.proofs.Common.{◌≡◌, ℕ, zero, suc, ◌+◌, ◌<◌, ◌≤◌, ◌%◌, ℤ, pos, ◌+ℤ◌, ◌*ℤ◌, ◌≤ℤ◌, Bool, true, false, cond, not, eqb, refl, sym, ◌∙◌, subst, inl, inr, arith, List, [], ◌∷◌}
+use Rattle.std.proofs.Common.{length, get_or, slice_index, slice_index_or, All, AllPairs}
 use Rattle.std.proofs.lemmas.Int.{ints}
 use Rattle.std.proofs.lemmas.Bool.{cases_Bool, or_right, false≢true}
 use Rattle.std.proofs.lemmas.List.{get_or_default}
@@ -44,7 +45,8 @@ held_once cs v (suc n) apart b =
     ]
 
 -- an edge that leaves a component has its other end in the removed set
-cross_cases : (p q ru rv : Bool) → (p ≡ true → q ≡ false → rv ≡ true) → (q ≡ true → p ≡ false → ru ≡ true) → cond (cond p (not q) q) (pos 1) (pos 0) ≤ℤ (cond rv (cond p (pos 1) (pos 0)) (pos 0) +ℤ cond ru (cond q (pos 1) (pos 0)) (pos 0))
+cross_cases : (p q ru rv : Bool) → (p ≡ true → q ≡ false → rv ≡ true) → (q ≡ true → p ≡ false → ru ≡ true) → cond (cond p (not q) q) (pos 1) (pos 0) ≤ℤ (cond rv (cond p (pos 1) (pos 0))
+    (pos 0) +ℤ cond ru (cond q (pos 1) (pos 0)) (pos 0))
 cross_cases p q ru rv f h = grind (arith, ints)
 
 cond-le : (t : Bool) (a : ℤ) → a ≤ℤ pos 1 → cond t a (pos 0) ≤ℤ cond t (pos 1) (pos 0)
@@ -52,7 +54,8 @@ cond-le true a h = h
 cond-le false a h = omega (arith, ints)
 
 -- the same for the edge at a place, from either end
-border_u : (g : Multigraph) (removed c : List ℕ) (k : ℕ) → IsComponent g removed c → k < length g.edges → holds c (edge_at g k).u ≡ true → holds c (edge_at g k).v ≡ false → holds removed (edge_at g k).v ≡ true
+border_u : (g : Multigraph) (removed c : List ℕ) (k : ℕ) → IsComponent g removed c → k < length g.edges → holds c (edge_at g k).u ≡ true → holds c (edge_at g k).v ≡ false
+    → holds removed (edge_at g k).v ≡ true
 border_u g removed c k is b inside outside =
     let e = edge_at g k in
     let P : Edge → Type 0 = λ x. touches x e.u ≡ true in
@@ -60,7 +63,8 @@ border_u g removed c k is b inside outside =
     let here = sym (edge_of-place g k) in
     component-border g removed c (k + 1) e.u e.v is (number_of-place g k b) (subst P here (touches-u e)) (subst Q here (other_end-u e)) inside outside
 
-border_v : (g : Multigraph) (removed c : List ℕ) (k : ℕ) → All (IsEdgeWithin g.vertices) g.edges → IsComponent g removed c → k < length g.edges → holds c (edge_at g k).v ≡ true → holds c (edge_at g k).u ≡ false → holds removed (edge_at g k).u ≡ true
+border_v : (g : Multigraph) (removed c : List ℕ) (k : ℕ) → All (IsEdgeWithin g.vertices) g.edges → IsComponent g removed c → k < length g.edges → holds c (edge_at g k).v ≡ true
+    → holds c (edge_at g k).u ≡ false → holds removed (edge_at g k).u ≡ true
 border_v g removed c k ends is b inside outside =
     let e = edge_at g k in
     let P : Edge → Type 0 = λ x. touches x e.v ≡ true in
@@ -69,7 +73,9 @@ border_v g removed c k ends is b inside outside =
     component-border g removed c (k + 1) e.v e.u is (number_of-place g k b) (subst P here (touches-v e)) (subst Q here (other_end-v g.vertices e (ends k no_edge b))) inside outside
 
 -- an edge crosses no more components than it has ends in the removed set
-crossed-le : (g : Multigraph) (removed : List ℕ) (cs : List (List ℕ)) (k : ℕ) → All (IsEdgeWithin g.vertices) g.edges → All (IsOddComponent g removed) cs → AllPairs AreApart cs → k < length g.edges → int_sum_to (λ i. cond (crosses (component_at cs i) (edge_at g k)) (pos 1) (pos 0)) (length cs) ≤ℤ (one_if removed (edge_at g k).u +ℤ one_if removed (edge_at g k).v)
+crossed-le : (g : Multigraph) (removed : List ℕ) (cs : List (List ℕ)) (k : ℕ) → All (IsEdgeWithin g.vertices) g.edges → All (IsOddComponent g removed) cs → AllPairs AreApart cs
+    → k < length g.edges → int_sum_to (λ i. cond (crosses (component_at cs i) (edge_at g k)) (pos 1) (pos 0)) (length cs) ≤ℤ (one_if removed (edge_at g k).u +ℤ one_if removed
+    (edge_at g k).v)
 crossed-le g removed cs k ends odd apart b =
     let e = edge_at g k in
     let p = length cs in
@@ -89,7 +95,8 @@ crossed-le g removed cs k ends odd apart b =
     omega (arith, ints, each, both, one, other, once_u, once_v)
 
 -- where there is a perfect matching, no more components of odd size are apart than the removed set has members
-few_odd_components : (g : Multigraph) (removed counts : List ℕ) (cs : List (List ℕ)) → All (IsEdgeWithin g.vertices) g.edges → All (IsOddComponent g removed) cs → AllPairs AreApart cs → IsPerfect g counts → length cs ≤ length removed
+few_odd_components : (g : Multigraph) (removed counts : List ℕ) (cs : List (List ℕ)) → All (IsEdgeWithin g.vertices) g.edges → All (IsOddComponent g removed) cs → AllPairs AreApart cs
+    → IsPerfect g counts → length cs ≤ length removed
 few_odd_components g removed counts cs ends odd apart perfect =
     let p = length cs in
     let m = length g.edges in
@@ -100,7 +107,8 @@ few_odd_components g removed counts cs ends odd apart perfect =
     let crossed = crosses_odd g counts (component_at cs i) ends perfect (odd i [] b).1 is.vertices.ascending is.vertices.in_range in
     omega (arith, ints, crossed)) in
     let gathered = crossing_sums g counts (component_at cs) (λ _. pos 1) p in
-    let below = int_sum_to-le (λ k. pos (c k) *ℤ int_sum_to (λ i. cond (crosses (component_at cs i) (edge_at g k)) (pos 1) (pos 0)) p) (λ k. pos (c k) *ℤ (one_if removed (edge_at g k).u +ℤ one_if removed (edge_at g k).v)) m
+    let below = int_sum_to-le (λ k. pos (c k) *ℤ int_sum_to (λ i. cond (crosses (component_at cs i) (edge_at g k)) (pos 1) (pos 0)) p)
+    (λ k. pos (c k) *ℤ (one_if removed (edge_at g k).u +ℤ one_if removed (edge_at g k).v)) m
     (λ k b. times-le (c k) _ _ (crossed-le g removed cs k ends odd apart b)) in
     let by_vertex = handshake-perfect g counts (one_if removed) ends perfect in
     let size = members_at_most g.vertices removed in
@@ -114,7 +122,8 @@ record HaveHeads (g : Multigraph) (removed heads : List ℕ) : Type 0 where
   odd : All (IsOddComponent g removed) components
   first : (k : ℕ) → k < length heads → slice_index (component_at components k) 0 ≡ slice_index heads k
 
-firsts : (v : ℕ) (vs c : List ℕ) (cs : List (List ℕ)) → slice_index c 0 ≡ v → ((k : ℕ) → k < length vs → slice_index (component_at cs k) 0 ≡ slice_index vs k) → (k : ℕ) → k < length (v ∷ vs) → slice_index (component_at (c ∷ cs) k) 0 ≡ slice_index (v ∷ vs) k
+firsts : (v : ℕ) (vs c : List ℕ) (cs : List (List ℕ)) → slice_index c 0 ≡ v → ((k : ℕ) → k < length vs → slice_index (component_at cs k) 0 ≡ slice_index vs k) → (k : ℕ) → k < length (v ∷ vs)
+    → slice_index (component_at (c ∷ cs) k) 0 ≡ slice_index (v ∷ vs) k
 firsts v vs c cs e rest zero b = e
 firsts v vs c cs e rest (suc k) b = rest k (omega arith)
 
@@ -169,7 +178,8 @@ heads_within g removed n count = λ k d b.
 -- there is one number of components of odd size
 pub odd_count-unique : (g : Multigraph) (removed : List ℕ) (n m : ℕ) → IsOddCount g removed n → IsOddCount g removed m → n ≡ m
 odd_count-unique g removed n m a b =
-    let same = same_length g.vertices a.heads b.heads a.ascending b.ascending (heads_within g removed n a) (heads_within g removed m b) (λ v h. (b.exact v).1 ((a.exact v).0 h)) (λ v h. (a.exact v).1 ((b.exact v).0 h)) in
+    let same = same_length g.vertices a.heads b.heads a.ascending b.ascending (heads_within g removed n a) (heads_within g removed m b) (λ v h. (b.exact v).1 ((a.exact v).0 h))
+    (λ v h. (a.exact v).1 ((b.exact v).0 h)) in
     let size_a = a.size in
     let size_b = b.size in
     omega (arith, same, size_a, size_b)

@@ -31,7 +31,8 @@ together-trans g removed u v w a b =
     }
 
 -- by one edge outside the removed set
-pub together-edge : (g : Multigraph) (removed : List ℕ) (e v w : ℕ) → IsEdgeNumber g e → touches (edge_of g e) v ≡ true → other_end (edge_of g e) v ≡ w → holds removed v ≡ false → holds removed w ≡ false → AreTogether g removed v w
+pub together-edge : (g : Multigraph) (removed : List ℕ) (e v w : ℕ) → IsEdgeNumber g e → touches (edge_of g e) v ≡ true → other_end (edge_of g e) v ≡ w → holds removed v ≡ false
+    → holds removed w ≡ false → AreTogether g removed v w
 together-edge g removed e v w is meets leads free_v free_w =
     let free : holds removed (other_end (edge_of g e) v) ≡ false = ap (holds removed) leads ∙ free_w in
     record {
@@ -42,10 +43,13 @@ together-edge g removed e v w is meets leads free_v free_w =
     }
 
 -- one edge further
-pub together-push : (g : Multigraph) (removed : List ℕ) (e u v : ℕ) → AreTogether g removed u v → IsEdgeNumber g e → touches (edge_of g e) v ≡ true → holds removed v ≡ false → holds removed (other_end (edge_of g e) v) ≡ false → AreTogether g removed u (other_end (edge_of g e) v)
-together-push g removed e u v so_far is meets free_v free_w = together-trans g removed u v (other_end (edge_of g e) v) so_far (together-edge g removed e v (other_end (edge_of g e) v) is meets refl free_v free_w)
+pub together-push : (g : Multigraph) (removed : List ℕ) (e u v : ℕ) → AreTogether g removed u v → IsEdgeNumber g e → touches (edge_of g e) v ≡ true → holds removed v ≡ false
+    → holds removed (other_end (edge_of g e) v) ≡ false → AreTogether g removed u (other_end (edge_of g e) v)
+together-push g removed e u v so_far is meets free_v free_w = together-trans g removed u v (other_end (edge_of g e) v) so_far (together-edge g removed e v
+    (other_end (edge_of g e) v) is meets refl free_v free_w)
 
-back_along : (g : Multigraph) (removed : List ℕ) (v : ℕ) (es : List ℕ) → All (IsEdgeWithin g.vertices) g.edges → IsWalk g v es → All (IsFree removed) (walk_vertices g v es) → AreTogether g removed (walk_end g v es) v
+back_along : (g : Multigraph) (removed : List ℕ) (v : ℕ) (es : List ℕ) → All (IsEdgeWithin g.vertices) g.edges → IsWalk g v es → All (IsFree removed) (walk_vertices g v es)
+    → AreTogether g removed (walk_end g v es) v
 back_along g removed v [] ends walk free = together-refl g removed v (All-head (IsFree removed) v [] free)
 back_along g removed v (e ∷ es) ends walk free =
     let w = other_end (edge_of g e) v in
@@ -66,7 +70,8 @@ together-free g removed v w a = subst (IsFree removed) a.ends (end_has (IsFree r
 pub together-free_start : (g : Multigraph) (removed : List ℕ) (v w : ℕ) → AreTogether g removed v w → holds removed v ≡ false
 together-free_start g removed v w a = start_has (IsFree removed) g v a.by a.avoids
 
-pub together-within : (g : Multigraph) (removed : List ℕ) (v w : ℕ) → All (IsEdgeWithin g.vertices) g.edges → (1 ≤ v) × (v ≤ g.vertices) → AreTogether g removed v w → (1 ≤ w) × (w ≤ g.vertices)
+pub together-within : (g : Multigraph) (removed : List ℕ) (v w : ℕ) → All (IsEdgeWithin g.vertices) g.edges → (1 ≤ v) × (v ≤ g.vertices) → AreTogether g removed v w → (1 ≤ w)
+    × (w ≤ g.vertices)
 together-within g removed v w ends within a =
     let P : ℕ → Type 0 = λ x. (1 ≤ x) × (x ≤ g.vertices) in
     subst P a.ends (walk-within g v a.by ends within a.walk)
@@ -74,9 +79,11 @@ together-within g removed v w ends within a =
 -- a set that no edge leaves, but into the removed set
 
 abbrev pub IsClosedBut : Multigraph → List ℕ → (ℕ → Bool) → Type 0
-IsClosedBut g removed marked = (e v : ℕ) → IsEdgeNumber g e → touches (edge_of g e) v ≡ true → marked v ≡ true → holds removed (other_end (edge_of g e) v) ≡ false → marked (other_end (edge_of g e) v) ≡ true
+IsClosedBut g removed marked = (e v : ℕ) → IsEdgeNumber g e → touches (edge_of g e) v ≡ true → marked v ≡ true → holds removed (other_end (edge_of g e) v) ≡ false
+    → marked (other_end (edge_of g e) v) ≡ true
 
-stays_marked : (g : Multigraph) (removed : List ℕ) (marked : ℕ → Bool) (v : ℕ) (es : List ℕ) → IsClosedBut g removed marked → IsWalk g v es → All (IsFree removed) (walk_vertices g v es) → marked v ≡ true → marked (walk_end g v es) ≡ true
+stays_marked : (g : Multigraph) (removed : List ℕ) (marked : ℕ → Bool) (v : ℕ) (es : List ℕ) → IsClosedBut g removed marked → IsWalk g v es → All (IsFree removed) (walk_vertices g v es)
+    → marked v ≡ true → marked (walk_end g v es) ≡ true
 stays_marked g removed marked v [] closed walk free h = h
 stays_marked g removed marked v (e ∷ es) closed walk free h =
     let w = other_end (edge_of g e) v in
@@ -91,7 +98,8 @@ closed_has g removed marked v w closed h a =
 -- components
 
 -- an ascending list of all that is together with a vertex
-pub component_from : (g : Multigraph) (removed component : List ℕ) (start : ℕ) → All (IsEdgeWithin g.vertices) g.edges → IsVertexSet g.vertices component → holds component start ≡ true → ((w : ℕ) → holds component w ≡ true → AreTogether g removed start w) → ((w : ℕ) → AreTogether g removed start w → holds component w ≡ true) → IsComponent g removed component
+pub component_from : (g : Multigraph) (removed component : List ℕ) (start : ℕ) → All (IsEdgeWithin g.vertices) g.edges → IsVertexSet g.vertices component → holds component start ≡ true
+    → ((w : ℕ) → holds component w ≡ true → AreTogether g removed start w) → ((w : ℕ) → AreTogether g removed start w → holds component w ≡ true) → IsComponent g removed component
 component_from g removed component start ends set first sound whole = record {
   vertices = set;
   outside = λ k d b. together-free g removed start (get_or component k d) (sound (get_or component k d) (holds_at component k d b));
@@ -107,7 +115,8 @@ pub component-within : (g : Multigraph) (removed component : List ℕ) (v : ℕ)
 component-within g removed component v is h = holds_all (λ x. (1 ≤ x) × (x ≤ g.vertices)) component v is.vertices.in_range h
 
 -- an edge that leaves a component leads to the removed set
-pub component-border : (g : Multigraph) (removed component : List ℕ) (e v w : ℕ) → IsComponent g removed component → IsEdgeNumber g e → touches (edge_of g e) v ≡ true → other_end (edge_of g e) v ≡ w → holds component v ≡ true → holds component w ≡ false → holds removed w ≡ true
+pub component-border : (g : Multigraph) (removed component : List ℕ) (e v w : ℕ) → IsComponent g removed component → IsEdgeNumber g e → touches (edge_of g e) v ≡ true
+    → other_end (edge_of g e) v ≡ w → holds component v ≡ true → holds component w ≡ false → holds removed w ≡ true
 component-border g removed component e v w is number meets leads inside outside =
     elim (cases_Bool (holds removed w)) [
       | inl h ↦ h
@@ -121,10 +130,12 @@ shared g removed c d v w is other hc hd h = other.whole v w hd (is.joined v w hc
 
 -- .. and so they are equal
 pub component-unique : (g : Multigraph) (removed c d : List ℕ) (v : ℕ) → IsComponent g removed c → IsComponent g removed d → holds c v ≡ true → holds d v ≡ true → c ≡ d
-component-unique g removed c d v is other hc hd = same_list c d is.vertices.ascending other.vertices.ascending (λ w h. shared g removed c d v w is other hc hd h) (λ w h. shared g removed d c v w other is hd hc h)
+component-unique g removed c d v is other hc hd = same_list c d is.vertices.ascending other.vertices.ascending (λ w h. shared g removed c d v w is other hc hd h)
+    (λ w h. shared g removed d c v w other is hd hc h)
 
 -- vertices of one component have one component
-pub component-together : (g : Multigraph) (removed c d : List ℕ) (v w : ℕ) → IsComponent g removed c → IsComponent g removed d → holds c v ≡ true → holds d w ≡ true → AreTogether g removed v w → c ≡ d
+pub component-together : (g : Multigraph) (removed c d : List ℕ) (v w : ℕ) → IsComponent g removed c → IsComponent g removed d → holds c v ≡ true → holds d w ≡ true
+    → AreTogether g removed v w → c ≡ d
 component-together g removed c d v w is other hc hd a = component-unique g removed c d w is other (is.whole v w hc a) hd
 
 -- no vertex is in both
@@ -146,7 +157,8 @@ heads-equal g removed c d is other same =
     component-unique g removed c d (slice_index c 0) is other (holds_first c is.some) (subst P (sym same) (holds_first d other.some))
 
 -- different components have different least vertices
-pub heads-differ : (g : Multigraph) (removed c d : List ℕ) (v : ℕ) → IsComponent g removed c → IsComponent g removed d → holds c v ≡ true → holds d v ≡ false → slice_index c 0 ≡ slice_index d 0 → ⊥
+pub heads-differ : (g : Multigraph) (removed c d : List ℕ) (v : ℕ) → IsComponent g removed c → IsComponent g removed d → holds c v ≡ true → holds d v ≡ false → slice_index c 0
+    ≡ slice_index d 0 → ⊥
 heads-differ g removed c d v is other hc hd same =
     let P : List ℕ → Type 0 = λ xs. holds xs v ≡ true in
     absurd (false≢true (sym hd ∙ subst P (heads-equal g removed c d is other same) hc))

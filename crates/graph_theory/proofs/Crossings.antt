@@ -28,7 +28,8 @@ abbrev pub degree_sum : Multigraph → List ℕ → List ℕ → ℕ
 degree_sum g counts s = sum_to (λ i. cond (holds s (i + 1)) (degree g counts (i + 1)) 0) g.vertices
 
 -- an edge counts once for each end in the set
-cross_or_within : (p q : Bool) (c : ℕ) → pos c *ℤ (cond p (pos 1) (pos 0) +ℤ cond q (pos 1) (pos 0)) ≡ pos (cond (cond p (not q) q) c 0) +ℤ (pos (cond p (cond q c 0) 0) +ℤ pos (cond p (cond q c 0) 0))
+cross_or_within : (p q : Bool) (c : ℕ) → pos c *ℤ (cond p (pos 1) (pos 0) +ℤ cond q (pos 1) (pos 0)) ≡ pos (cond (cond p (not q) q) c 0) +ℤ (pos (cond p (cond q c 0) 0) +ℤ pos
+    (cond p (cond q c 0) 0))
 cross_or_within true true c = omega (arith, ints)
 cross_or_within true false c = omega (arith, ints)
 cross_or_within false true c = omega (arith, ints)
@@ -73,22 +74,26 @@ degree_sum-perfect g counts s perfect ascending within =
     omega (arith, ints, same, whole, counted, terms)
 
 -- a perfect matching crosses a set of odd size at least once
-pub crosses_odd : (g : Multigraph) (counts s : List ℕ) → All (IsEdgeWithin g.vertices) g.edges → IsPerfect g counts → length s % 2 ≡ 1 → IsStrictlyIncreasing s → All (λ m. (1 ≤ m) × (m ≤ g.vertices)) s → 1 ≤ crossings g counts s
+pub crosses_odd : (g : Multigraph) (counts s : List ℕ) → All (IsEdgeWithin g.vertices) g.edges → IsPerfect g counts → length s % 2 ≡ 1 → IsStrictlyIncreasing s
+    → All (λ m. (1 ≤ m) × (m ≤ g.vertices)) s → 1 ≤ crossings g counts s
 crosses_odd g counts s ends perfect odd ascending within =
     let sum = degrees_in_set g counts s ends in
     let size = degree_sum-perfect g counts s perfect ascending within in
     omega (arith, sum, size, odd)
 
 -- what the counted edges cross, set by set
-pub crossing_sums : (g : Multigraph) (counts : List ℕ) (members : ℕ → List ℕ) (z : ℕ → ℤ) (p : ℕ) → int_sum_to (λ k. pos (slice_index counts k) *ℤ int_sum_to (λ j. cond (crosses (members j) (edge_at g k)) (z j) (pos 0)) p) (length g.edges) ≡ int_sum_to (λ j. pos (crossings g counts (members j)) *ℤ z j) p
+pub crossing_sums : (g : Multigraph) (counts : List ℕ) (members : ℕ → List ℕ) (z : ℕ → ℤ) (p : ℕ) → int_sum_to (λ k. pos (slice_index counts k) *ℤ int_sum_to
+    (λ j. cond (crosses (members j) (edge_at g k)) (z j) (pos 0)) p) (length g.edges) ≡ int_sum_to (λ j. pos (crossings g counts (members j)) *ℤ z j) p
 crossing_sums g counts members z p =
     let m = length g.edges in
     let c : ℕ → ℕ = λ k. slice_index counts k in
     let cross : ℕ → ℕ → Bool = λ k j. crosses (members j) (edge_at g k) in
     let term : ℕ → ℕ → ℤ = λ k j. cond (cross k j) (pos (c k) *ℤ z j) (pos 0) in
     let spread = int_sum_to-same (λ k. pos (c k) *ℤ int_sum_to (λ j. cond (cross k j) (z j) (pos 0)) p) (λ k. int_sum_to (term k) p) m
-    (λ k b. times-int_sum_to (c k) (λ j. cond (cross k j) (z j) (pos 0)) p ∙ int_sum_to-same (λ j. pos (c k) *ℤ cond (cross k j) (z j) (pos 0)) (term k) p (λ j b'. times-cond (cross k j) (c k) (z j))) in
+    (λ k b. times-int_sum_to (c k) (λ j. cond (cross k j) (z j) (pos 0)) p ∙ int_sum_to-same (λ j. pos (c k) *ℤ cond (cross k j) (z j) (pos 0)) (term k) p
+    (λ j b'. times-cond (cross k j) (c k) (z j))) in
     let swapped = int_sum_to-swap term m p in
     let gathered = int_sum_to-same (λ j. pos (crossings g counts (members j)) *ℤ z j) (λ j. int_sum_to (λ k. term k j) m) p
-    (λ j b. sum_to-times (λ k. cond (cross k j) (c k) 0) (z j) m ∙ int_sum_to-same (λ k. pos (cond (cross k j) (c k) 0) *ℤ z j) (λ k. term k j) m (λ k b'. cond-times (cross k j) (c k) (z j))) in
+    (λ j b. sum_to-times (λ k. cond (cross k j) (c k) 0) (z j) m ∙ int_sum_to-same (λ k. pos (cond (cross k j) (c k) 0) *ℤ z j) (λ k. term k j) m
+    (λ k b'. cond-times (cross k j) (c k) (z j))) in
     spread ∙ swapped ∙ sym gathered

@@ -15,7 +15,9 @@ use Rattle.graph_theory.proofs.Crossings.{crossings, crosses_odd, crossing_sums}
 
 -- Twice the weight is the slacks of the matching's edges, the duals of all vertices, and the dual of each set as often
 -- as the matching crosses it.
-pub weight_by_slacks : (g : Multigraph) (y : List ℤ) (sets : List OddSet) (counts : List ℕ) → IsGraph g → length y ≡ g.vertices → IsPerfect g counts → pos 2 *ℤ weight g counts ≡ int_sum_to (λ k. pos (slice_index counts k) *ℤ slack y sets (edge_at g k)) (length g.edges) +ℤ (int_sum_to (λ i. slice_index_or y i (pos 0)) (length y) +ℤ int_sum_to (λ j. pos (crossings g counts (set_at sets j).members) *ℤ (set_at sets j).dual) (length sets))
+pub weight_by_slacks : (g : Multigraph) (y : List ℤ) (sets : List OddSet) (counts : List ℕ) → IsGraph g → length y ≡ g.vertices → IsPerfect g counts → pos 2 *ℤ weight g counts ≡ int_sum_to
+    (λ k. pos (slice_index counts k) *ℤ slack y sets (edge_at g k)) (length g.edges) +ℤ (int_sum_to (λ i. slice_index_or y i (pos 0)) (length y) +ℤ int_sum_to
+    (λ j. pos (crossings g counts (set_at sets j).members) *ℤ (set_at sets j).dual) (length sets))
 weight_by_slacks g y sets counts ok size perfect =
     let m = length g.edges in
     let n = g.vertices in
@@ -37,7 +39,8 @@ weight_by_slacks g y sets counts ok size perfect =
     rw size (omega (arith, ints, each, doubled, split, split_again, by_vertex, vertices, by_set))
 
 -- a perfect matching crosses each set of the duals at least once
-crossed_once : (g : Multigraph) (y : List ℤ) (sets : List OddSet) (counts : List ℕ) (j : ℕ) → IsGraph g → AreDuals g y sets → IsPerfect g counts → j < length sets → 1 ≤ crossings g counts (set_at sets j).members
+crossed_once : (g : Multigraph) (y : List ℤ) (sets : List OddSet) (counts : List ℕ) (j : ℕ) → IsGraph g → AreDuals g y sets → IsPerfect g counts → j < length sets
+    → 1 ≤ crossings g counts (set_at sets j).members
 crossed_once g y sets counts j ok duals perfect b =
     let s : IsSetWithin g.vertices (set_at sets j) = duals.sets_within j no_set b in
     let form : HasForm (set_at sets j).members = duals.forms j no_set b in
@@ -61,18 +64,22 @@ weak_duality g y sets counts ok duals perfect =
     omega (arith, ints, whole, tight, nothing, each)
 
 -- a perfect matching of twice the dual value's weight is best
-pub best_by_duals : (g : Multigraph) (y : List ℤ) (sets : List OddSet) (counts others : List ℕ) → IsGraph g → AreDuals g y sets → dual_value y sets ≡ pos 2 *ℤ weight g counts → IsPerfect g others → weight g counts ≤ℤ weight g others
+pub best_by_duals : (g : Multigraph) (y : List ℤ) (sets : List OddSet) (counts others : List ℕ) → IsGraph g → AreDuals g y sets → dual_value y sets ≡ pos 2 *ℤ weight g counts
+    → IsPerfect g others → weight g counts ≤ℤ weight g others
 best_by_duals g y sets counts others ok duals equal perfect = omega (arith, ints, weak_duality g y sets others ok duals perfect, equal)
 
 -- one set more: the steps of a loop over the sets, where s is the set at i
 
-pub crossed_by-more : (sets : List OddSet) (i : ℕ) (s : OddSet) (e : Edge) → i < length sets → s ≡ slice_index_or sets i s → crossed_by sets (i + 1) e ≡ crossed_by sets i e +ℤ cond (crosses s.members e) s.dual (pos 0)
+pub crossed_by-more : (sets : List OddSet) (i : ℕ) (s : OddSet) (e : Edge) → i < length sets → s ≡ slice_index_or sets i s → crossed_by sets (i + 1) e
+    ≡ crossed_by sets i e +ℤ cond (crosses s.members e) s.dual (pos 0)
 crossed_by-more sets i s e b is =
     int_sum_to-more (λ j. cond (crosses (set_at sets j).members e) (set_at sets j).dual (pos 0)) i
     ∙ ap (λ (t : OddSet). crossed_by sets i e +ℤ cond (crosses t.members e) t.dual (pos 0)) (sym (get_or_read sets i s b is no_set))
 
-pub crossed_by-crossed : (sets : List OddSet) (i : ℕ) (s : OddSet) (e : Edge) → i < length sets → s ≡ slice_index_or sets i s → crosses s.members e ≡ true → crossed_by sets (i + 1) e ≡ crossed_by sets i e +ℤ s.dual
+pub crossed_by-crossed : (sets : List OddSet) (i : ℕ) (s : OddSet) (e : Edge) → i < length sets → s ≡ slice_index_or sets i s → crosses s.members e ≡ true → crossed_by sets (i + 1) e
+    ≡ crossed_by sets i e +ℤ s.dual
 crossed_by-crossed sets i s e b is passes = crossed_by-more sets i s e b is ∙ ap (λ z. crossed_by sets i e +ℤ z) (cond-true (crosses s.members e) s.dual (pos 0) passes)
 
-pub crossed_by-missed : (sets : List OddSet) (i : ℕ) (s : OddSet) (e : Edge) → i < length sets → s ≡ slice_index_or sets i s → crosses s.members e ≡ false → crossed_by sets (i + 1) e ≡ crossed_by sets i e +ℤ pos 0
+pub crossed_by-missed : (sets : List OddSet) (i : ℕ) (s : OddSet) (e : Edge) → i < length sets → s ≡ slice_index_or sets i s → crosses s.members e ≡ false → crossed_by sets (i + 1) e
+    ≡ crossed_by sets i e +ℤ pos 0
 crossed_by-missed sets i s e b is fails = crossed_by-more sets i s e b is ∙ ap (λ z. crossed_by sets i e +ℤ z) (cond-false (crosses s.members e) s.dual (pos 0) fails)

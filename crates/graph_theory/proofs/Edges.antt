@@ -1,5 +1,6 @@
 -- Lemmas on edges: their ends in a valid graph, what one edge counts at a vertex, and a graph with one edge more.
-use Rattle.std.proofs.Common.{◌≡◌, ℕ, ◌+◌, ◌-◌, ◌*◌, ◌<◌, ◌≤◌, Bool, true, false, cond, ◌||◌, eqb, refl, ap, sym, ◌∙◌, subst, inl, inr, arith, List, [], ◌∷◌, ◌++◌, length, get_or, slice_index, slice_index_or, All}
+use Rattle.std.proofs.Common.{◌≡◌, ℕ, ◌+◌, ◌-◌, ◌*◌, ◌<◌, ◌≤◌, Bool, true, false, cond, ◌||◌, eqb, refl, ap, sym, ◌∙◌, subst, inl, inr, arith, List, [], ◌∷◌, ◌++◌, length, get_or}
+use Rattle.std.proofs.Common.{slice_index, slice_index_or, All}
 use Rattle.std.proofs.lemmas.Bool.{cases_Bool, eqb-true, eq-eqb, ne_eqb, or_right, or_cases, false≢true}
 use Rattle.std.proofs.lemmas.List.{get_or_read}
 use Rattle.std.proofs.lemmas.Grind.{common_steps}
@@ -117,7 +118,8 @@ times-cond_one true c = omega arith
 times-cond_one false c = omega arith
 
 -- the degree is the sum of the counts of the edges at the vertex
-pub degree-touches : (g : Multigraph) (counts : List ℕ) (v : ℕ) → All (IsEdgeWithin g.vertices) g.edges → degree g counts v ≡ sum_to (λ k. cond (touches (edge_at g k) v) (slice_index counts k) 0) (length g.edges)
+pub degree-touches : (g : Multigraph) (counts : List ℕ) (v : ℕ) → All (IsEdgeWithin g.vertices) g.edges → degree g counts v
+    ≡ sum_to (λ k. cond (touches (edge_at g k) v) (slice_index counts k) 0) (length g.edges)
 degree-touches g counts v ends = sum_to-same (λ k. slice_index counts k * ends_at (edge_at g k) v) (λ k. cond (touches (edge_at g k) v) (slice_index counts k) 0) (length g.edges)
     (λ k b. ap (λ x. slice_index counts k * x) (ends_at-touches g.vertices (edge_at g k) v (ends k no_edge b)) ∙ times-cond_one (touches (edge_at g k) v) (slice_index counts k))
 

@@ -21,7 +21,8 @@ over_ends f n e within =
     let other = int_sum_to-at_one f e.v n within.v_low within.v_high in
     omega (arith, ints, parts, both, one, other)
 
-pub handshake : (g : Multigraph) (counts : List ℕ) (f : ℕ → ℤ) → All (IsEdgeWithin g.vertices) g.edges → int_sum_to (λ k. pos (slice_index counts k) *ℤ (f (edge_at g k).u +ℤ f (edge_at g k).v)) (length g.edges) ≡ int_sum_to (λ i. pos (degree g counts (i + 1)) *ℤ f (i + 1)) g.vertices
+pub handshake : (g : Multigraph) (counts : List ℕ) (f : ℕ → ℤ) → All (IsEdgeWithin g.vertices) g.edges
+    → int_sum_to (λ k. pos (slice_index counts k) *ℤ (f (edge_at g k).u +ℤ f (edge_at g k).v)) (length g.edges) ≡ int_sum_to (λ i. pos (degree g counts (i + 1)) *ℤ f (i + 1)) g.vertices
 handshake g counts f ends =
     let m = length g.edges in
     let n = g.vertices in
@@ -39,7 +40,8 @@ handshake g counts f ends =
     spread ∙ swapped ∙ sym gathered
 
 -- where each degree is 1, each vertex counts once
-pub handshake-perfect : (g : Multigraph) (counts : List ℕ) (f : ℕ → ℤ) → All (IsEdgeWithin g.vertices) g.edges → IsPerfect g counts → int_sum_to (λ k. pos (slice_index counts k) *ℤ (f (edge_at g k).u +ℤ f (edge_at g k).v)) (length g.edges) ≡ int_sum_to (λ i. f (i + 1)) g.vertices
+pub handshake-perfect : (g : Multigraph) (counts : List ℕ) (f : ℕ → ℤ) → All (IsEdgeWithin g.vertices) g.edges → IsPerfect g counts
+    → int_sum_to (λ k. pos (slice_index counts k) *ℤ (f (edge_at g k).u +ℤ f (edge_at g k).v)) (length g.edges) ≡ int_sum_to (λ i. f (i + 1)) g.vertices
 handshake-perfect g counts f ends perfect =
     handshake g counts f ends
     ∙ int_sum_to-same (λ i. pos (degree g counts (i + 1)) *ℤ f (i + 1)) (λ i. f (i + 1)) g.vertices

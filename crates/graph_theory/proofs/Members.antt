@@ -1,5 +1,6 @@
 -- Lemmas on the members of lists that stand for sets.
-use Rattle.std.proofs.Common.{◌≡◌, ℕ, zero, suc, ◌+◌, ◌<◌, ◌≤◌, ℤ, pos, ◌+ℤ◌, ◌≤ℤ◌, Bool, true, false, cond, ◌||◌, eqb, refl, ap, sym, ◌∙◌, subst, inl, inr, arith, List, [], ◌∷◌, ◌++◌, length, get_or, slice_index, take, sum_by, All, AllPairs, add-one}
+use Rattle.std.proofs.Common.{◌≡◌, ℕ, zero, suc, ◌+◌, ◌<◌, ◌≤◌, ℤ, pos, ◌+ℤ◌, ◌≤ℤ◌, Bool, true, false, cond, ◌||◌, eqb, refl, ap, sym, ◌∙◌, subst, inl, inr, arith, List, [], ◌∷◌, ◌++◌}
+use Rattle.std.proofs.Common.{length, get_or, slice_index, take, sum_by, All, AllPairs, add-one}
 use Rattle.std.specs.List.{range_with_len}
 use Rattle.std.specs.List.Sorted.{IsStrictlyIncreasing}
 use Rattle.std.proofs.lemmas.List.FromFn.{length-range_with_len, get_or-range_with_len}
@@ -15,7 +16,8 @@ use Rattle.std.proofs.lemmas.List.Elements.{All-tail, All-head}
 use Rattle.graph_theory.specs.Sums.{sum_to, int_sum_to}
 use Rattle.graph_theory.specs.Parts.{holds}
 use Rattle.graph_theory.specs.Walk.{AllDiffer}
-use Rattle.graph_theory.proofs.SumLemmas.{sum_to-same, sum_to-zero, sum_to-add, sum_to-at_one, int_sum_to-same, int_sum_to-add, int_sum_to-le, int_sum_to-zero, int_sum_to-at_one, int_sum_to-at_none}
+use Rattle.graph_theory.proofs.SumLemmas.{sum_to-same, sum_to-zero, sum_to-add, sum_to-at_one, int_sum_to-same, int_sum_to-add, int_sum_to-le, int_sum_to-zero, int_sum_to-at_one}
+use Rattle.graph_theory.proofs.SumLemmas.{int_sum_to-at_none}
 
 -- a member stands at some place
 pub holds_place : (ms : List ℕ) (v : ℕ) → holds ms v ≡ true → (k : ℕ) × (k < length ms) × (get_or ms k 0 ≡ v)
@@ -197,7 +199,8 @@ either_at_most false false = omega (arith, ints)
 pub members_at_most : (n : ℕ) (ms : List ℕ) → int_sum_to (λ i. cond (holds ms (i + 1)) (pos 1) (pos 0)) n ≤ℤ pos (length ms)
 members_at_most n [] = omega (arith, ints, int_sum_to-zero n)
 members_at_most n (m ∷ ms) =
-    let parts = int_sum_to-le (λ i. cond (holds (m ∷ ms) (i + 1)) (pos 1) (pos 0)) (λ i. cond (eqb m (i + 1)) (pos 1) (pos 0) +ℤ cond (holds ms (i + 1)) (pos 1) (pos 0)) n (λ i b. either_at_most (eqb m (i + 1)) (holds ms (i + 1))) in
+    let parts = int_sum_to-le (λ i. cond (holds (m ∷ ms) (i + 1)) (pos 1) (pos 0)) (λ i. cond (eqb m (i + 1)) (pos 1) (pos 0) +ℤ cond (holds ms (i + 1)) (pos 1) (pos 0)) n
+    (λ i b. either_at_most (eqb m (i + 1)) (holds ms (i + 1))) in
     let both = int_sum_to-add (λ i. cond (eqb m (i + 1)) (pos 1) (pos 0)) (λ i. cond (holds ms (i + 1)) (pos 1) (pos 0)) n in
     omega (arith, ints, parts, both, one_at_most m n, members_at_most n ms)
 
@@ -205,7 +208,8 @@ pub same_tests : (a b : Bool) → (a ≡ true → b ≡ true) → (b ≡ true �
 same_tests a b f h = grind arith
 
 -- ascending lists of vertices with the same members have the same length
-pub same_length : (n : ℕ) (xs ys : List ℕ) → IsStrictlyIncreasing xs → IsStrictlyIncreasing ys → All (λ m. (1 ≤ m) × (m ≤ n)) xs → All (λ m. (1 ≤ m) × (m ≤ n)) ys → ((v : ℕ) → holds xs v ≡ true → holds ys v ≡ true) → ((v : ℕ) → holds ys v ≡ true → holds xs v ≡ true) → length xs ≡ length ys
+pub same_length : (n : ℕ) (xs ys : List ℕ) → IsStrictlyIncreasing xs → IsStrictlyIncreasing ys → All (λ m. (1 ≤ m) × (m ≤ n)) xs → All (λ m. (1 ≤ m) × (m ≤ n)) ys → ((v : ℕ) → holds xs v
+    ≡ true → holds ys v ≡ true) → ((v : ℕ) → holds ys v ≡ true → holds xs v ≡ true) → length xs ≡ length ys
 same_length n xs ys up_x up_y within_x within_y to from =
     let counted_x = members_counted n xs up_x within_x in
     let counted_y = members_counted n ys up_y within_y in
@@ -234,16 +238,19 @@ later x y xs ys v same up h there =
       | inr r ↦ r
     ]
 
-same_by_pairs : (xs ys : List ℕ) → AllPairs (λ x y. x < y) xs → AllPairs (λ x y. x < y) ys → ((v : ℕ) → holds xs v ≡ true → holds ys v ≡ true) → ((v : ℕ) → holds ys v ≡ true → holds xs v ≡ true) → xs ≡ ys
+same_by_pairs : (xs ys : List ℕ) → AllPairs (λ x y. x < y) xs → AllPairs (λ x y. x < y) ys → ((v : ℕ) → holds xs v ≡ true → holds ys v ≡ true) → ((v : ℕ) → holds ys v ≡ true → holds xs v
+    ≡ true) → xs ≡ ys
 same_by_pairs [] [] up_x up_y to from = refl
 same_by_pairs [] (y ∷ ys) up_x up_y to from = absurd (false≢true (from y (holds_first (y ∷ ys) (omega arith))))
 same_by_pairs (x ∷ xs) [] up_x up_y to from = absurd (false≢true (to x (holds_first (x ∷ xs) (omega arith))))
 same_by_pairs (x ∷ xs) (y ∷ ys) up_x up_y to from =
     let same : x ≡ y = first_equal x y xs ys up_x up_y (to x (holds_first (x ∷ xs) (omega arith))) (from y (holds_first (y ∷ ys) (omega arith))) in
-    let tails : xs ≡ ys = same_by_pairs xs ys (pairs_tail x xs up_x) (pairs_tail y ys up_y) (λ v h. later x y xs ys v same up_x h (to v (or_right (eqb x v) (holds xs v) h))) (λ v h. later y x ys xs v (sym same) up_y h (from v (or_right (eqb y v) (holds ys v) h))) in
+    let tails : xs ≡ ys = same_by_pairs xs ys (pairs_tail x xs up_x) (pairs_tail y ys up_y) (λ v h. later x y xs ys v same up_x h (to v (or_right (eqb x v) (holds xs v) h)))
+    (λ v h. later y x ys xs v (sym same) up_y h (from v (or_right (eqb y v) (holds ys v) h))) in
     ap (λ z. z ∷ xs) same ∙ ap (λ zs. y ∷ zs) tails
 
-pub same_list : (xs ys : List ℕ) → IsStrictlyIncreasing xs → IsStrictlyIncreasing ys → ((v : ℕ) → holds xs v ≡ true → holds ys v ≡ true) → ((v : ℕ) → holds ys v ≡ true → holds xs v ≡ true) → xs ≡ ys
+pub same_list : (xs ys : List ℕ) → IsStrictlyIncreasing xs → IsStrictlyIncreasing ys → ((v : ℕ) → holds xs v ≡ true → holds ys v ≡ true) → ((v : ℕ) → holds ys v ≡ true → holds xs v ≡ true)
+    → xs ≡ ys
 same_list xs ys up_x up_y to from = same_by_pairs xs ys (AllPairs-from_increasing xs up_x) (AllPairs-from_increasing ys up_y) to from
 
 -- the vertices 1 to n

@@ -34,10 +34,12 @@ held_parity true a b h = h
 held_parity false a b h = refl
 
 -- the degrees in a set add up to the parity of its terminals
-pub terminals-parity : (g : Multigraph) (terminal : ℕ → Bool) (set counts : List ℕ) → IsVertexSet g.vertices set → AreOddAt g terminal counts → degree_sum g counts set % 2 ≡ count_by terminal set % 2
+pub terminals-parity : (g : Multigraph) (terminal : ℕ → Bool) (set counts : List ℕ) → IsVertexSet g.vertices set → AreOddAt g terminal counts → degree_sum g counts set % 2
+    ≡ count_by terminal set % 2
 terminals-parity g terminal set counts is odd =
     let same = sum_to-parity (λ i. cond (holds set (i + 1)) (degree g counts (i + 1)) 0) (λ i. cond (holds set (i + 1)) (cond (terminal (i + 1)) 1 0) 0) g.vertices
-    (λ i b. held_parity (holds set (i + 1)) (degree g counts (i + 1)) (cond (terminal (i + 1)) 1 0) (parity_of_test (degree g counts (i + 1)) (terminal (i + 1)) (odd (i + 1) (omega arith) (omega arith)))) in
+    (λ i b. held_parity (holds set (i + 1)) (degree g counts (i + 1)) (cond (terminal (i + 1)) 1 0) (parity_of_test (degree g counts (i + 1)) (terminal (i + 1)) (odd (i + 1) (omega arith)
+    (omega arith)))) in
     let listed = members_sum (λ v. cond (terminal v) 1 0) g.vertices set is.ascending is.in_range in
     same ∙ ap (λ x. x % 2) listed
 

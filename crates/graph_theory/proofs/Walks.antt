@@ -17,15 +17,18 @@ pub walk-numbers : (g : Multigraph) (v : ℕ) (es : List ℕ) → IsWalk g v es 
 walk-numbers g v [] walk = All-nil (IsEdgeNumber g)
 walk-numbers g v (e ∷ es) walk = All-cons (IsEdgeNumber g) e es walk.0 (walk-numbers g (other_end (edge_of g e) v) es walk.2)
 
-pub walk-within : (g : Multigraph) (v : ℕ) (es : List ℕ) → All (IsEdgeWithin g.vertices) g.edges → (1 ≤ v) × (v ≤ g.vertices) → IsWalk g v es → (1 ≤ walk_end g v es) × (walk_end g v es ≤ g.vertices)
+pub walk-within : (g : Multigraph) (v : ℕ) (es : List ℕ) → All (IsEdgeWithin g.vertices) g.edges → (1 ≤ v) × (v ≤ g.vertices) → IsWalk g v es → (1 ≤ walk_end g v es)
+    × (walk_end g v es ≤ g.vertices)
 walk-within g v [] ends within walk = within
 walk-within g v (e ∷ es) ends within walk = walk-within g (other_end (edge_of g e) v) es ends (other_end-within g.vertices (edge_of g e) v (edge_of_within g e ends walk.0)) walk.2
 
-pub vertices-within : (g : Multigraph) (v : ℕ) (es : List ℕ) → All (IsEdgeWithin g.vertices) g.edges → (1 ≤ v) × (v ≤ g.vertices) → IsWalk g v es → All (λ x. (1 ≤ x) × (x ≤ g.vertices)) (walk_vertices g v es)
+pub vertices-within : (g : Multigraph) (v : ℕ) (es : List ℕ) → All (IsEdgeWithin g.vertices) g.edges → (1 ≤ v) × (v ≤ g.vertices) → IsWalk g v es → All (λ x. (1 ≤ x) × (x ≤ g.vertices))
+    (walk_vertices g v es)
 vertices-within g v [] ends within walk = All-cons (λ x. (1 ≤ x) × (x ≤ g.vertices)) v [] within (All-nil (λ x. (1 ≤ x) × (x ≤ g.vertices)))
 vertices-within g v (e ∷ es) ends within walk =
     let w = other_end (edge_of g e) v in
-    All-cons (λ x. (1 ≤ x) × (x ≤ g.vertices)) v (walk_vertices g w es) within (vertices-within g w es ends (other_end-within g.vertices (edge_of g e) v (edge_of_within g e ends walk.0)) walk.2)
+    All-cons (λ x. (1 ≤ x) × (x ≤ g.vertices)) v (walk_vertices g w es) within (vertices-within g w es ends (other_end-within g.vertices (edge_of g e) v (edge_of_within g e ends walk.0))
+    walk.2)
 
 -- the start of a walk of at least one edge is a vertex
 pub start-within : (g : Multigraph) (v e : ℕ) (es : List ℕ) → All (IsEdgeWithin g.vertices) g.edges → IsWalk g v (e ∷ es) → (1 ≤ v) × (v ≤ g.vertices)
@@ -84,7 +87,8 @@ pub weight-append : (g : Multigraph) (es fs : List ℕ) → walk_weight g (es ++
 weight-append g [] fs = omega (arith, ints)
 weight-append g (e ∷ es) fs = omega (arith, ints, weight-append g es fs)
 
-pub all_vertices-append : (P : ℕ → Type 0) (g : Multigraph) (v : ℕ) (es fs : List ℕ) → All P (walk_vertices g v es) → All P (walk_vertices g (walk_end g v es) fs) → All P (walk_vertices g v (es ++ fs))
+pub all_vertices-append : (P : ℕ → Type 0) (g : Multigraph) (v : ℕ) (es fs : List ℕ) → All P (walk_vertices g v es) → All P (walk_vertices g (walk_end g v es) fs)
+    → All P (walk_vertices g v (es ++ fs))
 all_vertices-append P g v [] fs a b = b
 all_vertices-append P g v (e ∷ es) fs a b =
     let w = other_end (edge_of g e) v in

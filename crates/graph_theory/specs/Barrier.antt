@@ -18,12 +18,15 @@ pub record IsComponent (g : Multigraph) (removed component : List ℕ) : Type 0 
   pub vertices : IsVertexSet g.vertices component
   pub outside : All (λ v. holds removed v ≡ false) component
   pub some : 0 < length component
-  pub joined : (v w : ℕ) → holds component v ≡ true → holds component w ≡ true → AreTogether g removed v w
-  pub whole : (v w : ℕ) → holds component v ≡ true → AreTogether g removed v w → holds component w ≡ true
+  pub joined : (v w : ℕ) → holds component v ≡ true → holds component w ≡ true
+      → AreTogether g removed v w
+  pub whole : (v w : ℕ) → holds component v ≡ true → AreTogether g removed v w → holds component w
+      ≡ true
 
 -- v is the least vertex of a component of odd size
 abbrev pub IsOddHead : Multigraph → List ℕ → ℕ → Type 0
-IsOddHead g removed v = (component : List ℕ) × IsComponent g removed component × (length component % 2 ≡ 1) × (slice_index component 0 ≡ v)
+IsOddHead g removed v = (component : List ℕ) × IsComponent g removed component
+    × (length component % 2 ≡ 1) × (slice_index component 0 ≡ v)
 
 -- n components have odd size: n vertices are the least of one
 pub record IsOddCount (g : Multigraph) (removed : List ℕ) (n : ℕ) : Type 0 where

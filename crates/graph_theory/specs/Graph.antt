@@ -1,6 +1,8 @@
 -- Undirected multigraphs with whole weights, and what counts on their edges are (Schrijver,
 -- Combinatorial Optimization, volume A, chapters 3, 24 and 26).
-use Rattle.std.specs.Prelude.{◌≡◌, ◌≢◌, ℕ, zero, suc, ◌+◌, ◌-◌, ◌*◌, ◌≤◌, ◌<◌, ◌^◌, ℤ, pos, neg_ℤ, ◌*ℤ◌, ◌≤ℤ◌, Bool, true, ◌||◌, ◌==◌, List, [], ◌∷◌, ◌++◌, length, All, slice_index, slice_index_or, if◌then◌else◌}
+use Rattle.std.specs.Prelude.{◌≡◌, ◌≢◌, ℕ, zero, suc, ◌+◌, ◌-◌, ◌*◌, ◌≤◌, ◌<◌, ◌^◌, ℤ, pos, neg_ℤ}
+use Rattle.std.specs.Prelude.{◌*ℤ◌, ◌≤ℤ◌, Bool, true, ◌||◌, ◌==◌, List, [], ◌∷◌, ◌++◌, length, All}
+use Rattle.std.specs.Prelude.{slice_index, slice_index_or, if◌then◌else◌}
 use Rattle.graph_theory.specs.Sums.{sum_to, int_sum_to}
 use Rattle.graph_theory.specs.declared.edge.Edge.{Edge}
 use Rattle.graph_theory.specs.declared.limits.TheConstants.{WEIGHT_LIMIT}
@@ -22,7 +24,8 @@ pub record IsEdgeWithin (n : ℕ) (e : Edge) : Type 0 where
 abbrev pub IsWeight : ℤ → Type 0
 IsWeight w = (neg_ℤ WEIGHT_LIMIT ≤ℤ w) × (w ≤ℤ WEIGHT_LIMIT)
 
--- numbers of vertices and of edges that fit 32 bits, ends that are vertices and differ, and weights in range
+-- numbers of vertices and of edges that fit 32 bits, ends that are vertices and differ, and weights
+-- in range
 pub record IsGraph (g : Multigraph) : Type 0 where
   pub few_vertices : g.vertices < 2 ^ 32
   pub few_edges : length g.edges < 2 ^ 32
@@ -59,7 +62,8 @@ ends_at e v = (if e.u == v then 1 else 0) + (if e.v == v then 1 else 0)
 -- the numbers of the edges at v among the first k, ascending
 abbrev pub edges_below : Multigraph → ℕ → ℕ → List ℕ
 edges_below g v zero = []
-edges_below g v (suc k) = if touches (edge_at g k) v then edges_below g v k ++ suc k ∷ [] else edges_below g v k
+edges_below g v (suc k) = if touches (edge_at g k) v then edges_below g v k ++ suc k ∷ []
+    else edges_below g v k
 
 -- the numbers of the edges at v, ascending
 abbrev pub edges_around : Multigraph → ℕ → List ℕ
@@ -71,13 +75,15 @@ degree g counts v = sum_to (λ k. slice_index counts k * ends_at (edge_at g k) v
 
 -- no edge at v is counted
 abbrev pub CountsNoneAt : Multigraph → List ℕ → ℕ → Type 0
-CountsNoneAt g counts v = (k : ℕ) → k < length g.edges → touches (edge_at g k) v ≡ true → slice_index counts k ≡ 0
+CountsNoneAt g counts v = (k : ℕ) → k < length g.edges → touches (edge_at g k) v ≡ true
+    → slice_index counts k ≡ 0
 
 -- the weights of the edges, each as often as it is counted, added up
 abbrev pub weight : Multigraph → List ℕ → ℤ
 weight g counts = int_sum_to (λ k. pos (slice_index counts k) *ℤ (edge_at g k).w) (length g.edges)
 
--- a perfect matching (chapter 24): counts 0 or 1, one for each edge, such that each vertex has degree 1
+-- a perfect matching (chapter 24): counts 0 or 1, one for each edge, such that each vertex has
+-- degree 1
 pub record IsPerfect (g : Multigraph) (counts : List ℕ) : Type 0 where
   pub one_each : length counts ≡ length g.edges
   pub at_most_one : All (λ c. c ≤ 1) counts

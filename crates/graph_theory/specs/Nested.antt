@@ -1,5 +1,5 @@
--- Odd sets that are nested, as the blossoms of a search are (chapters 24 and 26): of any two one holds the other, or they
--- have no vertex in common.
+-- Odd sets that are nested, as the blossoms of a search are (chapters 24 and 26): of any two one
+-- holds the other, or they have no vertex in common.
 use Rattle.std.specs.Prelude.{◌≡◌, ◌⊎◌, ℕ, ◌-◌, ◌/◌, ◌<◌, true, false, List, [], ◌∷◌, length}
 use Rattle.std.specs.List.Sorted.{IsStrictlyIncreasing}
 use Rattle.graph_theory.specs.declared.odd_set.OddSet.{OddSet}
@@ -14,18 +14,24 @@ AreSame xs ys = (v : ℕ) → holds xs v ≡ holds ys v
 abbrev pub AreLaminar : List ℕ → List ℕ → Type 0
 AreLaminar xs ys =
     ((v : ℕ) → holds ys v ≡ true → holds xs v ≡ true)
-    ⊎ (((v : ℕ) → holds xs v ≡ true → holds ys v ≡ true) ⊎ ((v : ℕ) → holds xs v ≡ true → holds ys v ≡ false))
+    ⊎ (((v : ℕ) → holds xs v ≡ true → holds ys v ≡ true) ⊎ ((v : ℕ) → holds xs v ≡ true → holds ys v
+    ≡ false))
 
 -- the sets are all different, and of any two one lies in the other or they have no member in common
 pub record AreNested (sets : List OddSet) : Type 0 where
-  pub different : (i j : ℕ) → i < j → j < length sets → AreSame (set_at sets i).members (set_at sets j).members → ⊥
-  pub laminar : (i j : ℕ) → i < j → j < length sets → AreLaminar (set_at sets i).members (set_at sets j).members
+  pub different : (i j : ℕ) → i < j → j < length sets
+      → AreSame (set_at sets i).members (set_at sets j).members → ⊥
+  pub laminar : (i j : ℕ) → i < j → j < length sets → AreLaminar (set_at sets i).members
+      (set_at sets j).members
 
--- n vertices have at most so many blossoms: nested odd sets of at least three vertices, all different
+-- n vertices have at most so many blossoms: nested odd sets of at least three vertices, all
+-- different
 abbrev pub most_blossoms : ℕ → ℕ
 most_blossoms n = (n - 1) / 2
 
 -- the same sets with the same duals, in the same order, the members of each ascending
 abbrev pub AreAscending : List OddSet → List OddSet → Type 0
 AreAscending [] sets = sets ≡ []
-AreAscending (s ∷ rest) sets = (t : OddSet) × (others : List OddSet) × (sets ≡ t ∷ others) × (t.dual ≡ s.dual) × AreSame t.members s.members × IsStrictlyIncreasing t.members × AreAscending rest others
+AreAscending (s ∷ rest) sets = (t : OddSet) × (others : List OddSet) × (sets ≡ t ∷ others)
+    × (t.dual ≡ s.dual) × AreSame t.members s.members × IsStrictlyIncreasing t.members
+    × AreAscending rest others

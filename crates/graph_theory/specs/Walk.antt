@@ -1,11 +1,13 @@
--- Walks and circuits (chapters 3 and 29): a start, and the numbers of edges, each of which has the vertex reached
--- so far as an end and leads to its other end.
-use Rattle.std.specs.Prelude.{◌≡◌, ◌≢◌, ℕ, ◌≤◌, ◌<◌, ℤ, pos, ◌+ℤ◌, ◌≤ℤ◌, true, List, [], ◌∷◌, length, slice_index}
+-- Walks and circuits (chapters 3 and 29): a start, and the numbers of edges, each of which has the
+-- vertex reached so far as an end and leads to its other end.
+use Rattle.std.specs.Prelude.{◌≡◌, ◌≢◌, ℕ, ◌≤◌, ◌<◌, ℤ, pos, ◌+ℤ◌, ◌≤ℤ◌, true, List, [], ◌∷◌}
+use Rattle.std.specs.Prelude.{length, slice_index}
 use Rattle.graph_theory.specs.Graph.{Multigraph, edge_of, IsEdgeNumber, touches, other_end}
 
 abbrev pub IsWalk : Multigraph → ℕ → List ℕ → Type 0
 IsWalk g v [] = Unit {0}
-IsWalk g v (e ∷ es) = IsEdgeNumber g e × (touches (edge_of g e) v ≡ true) × IsWalk g (other_end (edge_of g e) v) es
+IsWalk g v (e ∷ es) = IsEdgeNumber g e × (touches (edge_of g e) v ≡ true)
+    × IsWalk g (other_end (edge_of g e) v) es
 
 -- the vertex that a walk ends at
 abbrev pub walk_end : Multigraph → ℕ → List ℕ → ℕ
@@ -35,7 +37,8 @@ IsClosedWalk g v es = IsWalk g v es × (walk_end g v es ≡ v)
 abbrev pub AllDiffer : List ℕ → Type 0
 AllDiffer xs = (i j : ℕ) → i < j → j < length xs → slice_index xs i ≢ slice_index xs j
 
--- a circuit: a closed walk of at least two edges, all different, with vertices all different, the start counted once
+-- a circuit: a closed walk of at least two edges, all different, with vertices all different, the
+-- start counted once
 pub record IsCircuit (g : Multigraph) (v : ℕ) (es : List ℕ) : Type 0 where
   pub walk : IsWalk g v es
   pub closed : walk_end g v es ≡ v

@@ -1,4 +1,5 @@
--- A text as rows: for each of its lines the list of its fields. Instances and documents are read so.
+-- A text as rows: for each of its lines the list of its fields. Instances and documents are read
+-- so.
 use Rattle.std.specs.Prelude.{ℕ, List, [], ◌∷◌, map, Bool, true, false, ◌==◌, slice_index_or}
 use Rattle.std.specs.Str.{bytes_eq}
 use Rattle.mb_base.specs.Text.{lines, fields}

@@ -1,5 +1,6 @@
 -- What a source and a sink of bytes do, and what reading all and writing all leave of them.
-use Rattle.std.specs.Prelude.{◌≡◌, ℕ, ◌+◌, ◌<◌, ◌≤◌, List, [], ◌++◌, length, take, ⊤, Option, None, Some, Result, Ok, Err, MatchResult, IsSome}
+use Rattle.std.specs.Prelude.{◌≡◌, ℕ, ◌+◌, ◌<◌, ◌≤◌, List, [], ◌++◌, length, take, ⊤, Option, None}
+use Rattle.std.specs.Prelude.{Some, Result, Ok, Err, MatchResult, IsSome}
 use Rattle.std.specs.Global.{Vec}
 use Rattle.std.specs.Io.KnownBytes.{Consumes, IsAtEnd}
 use Rattle.mb_base.specs.declared.whole.ReadAll.{ReadAll}
@@ -24,11 +25,14 @@ Extends None (Some ys) bytes = ⊥
 Extends (Some xs) (Some ys) bytes = ys ≡ xs ++ bytes
 
 -- A write took k bytes at Ok k, at least one of a piece that has one, and nothing at Err.
-abbrev pub TakesPiece : {E : Type 0} → Option (List ℕ) → Option (List ℕ) → Result ℕ E → List ℕ → Type 0
-TakesPiece old new r piece = MatchResult r (λ k. (k ≤ length piece) × (0 < length piece → 0 < k) × Extends old new (take k piece)) (λ _. Extends old new [])
+abbrev pub TakesPiece : {E : Type 0} → Option (List ℕ) → Option (List ℕ) → Result ℕ E → List ℕ
+    → Type 0
+TakesPiece old new r piece = MatchResult r (λ k. (k ≤ length piece) × (0 < length piece → 0 < k)
+    × Extends old new (take k piece)) (λ _. Extends old new [])
 
 -- While there is room for what was taken, the room shrinks by that and what is told stays told.
-abbrev pub KeepsRoom : {E : Type 0} → ℕ → ℕ → Option (List ℕ) → Option (List ℕ) → Result ℕ E → Type 0
+abbrev pub KeepsRoom : {E : Type 0} → ℕ → ℕ → Option (List ℕ) → Option (List ℕ) → Result ℕ E
+    → Type 0
 KeepsRoom room left old new r = MatchResult r
     (λ k. k ≤ room → (left + k ≡ room) × (IsSome old → IsSome new))
     (λ _. (left ≡ room) × (IsSome old → IsSome new))
@@ -36,9 +40,12 @@ KeepsRoom room left old new r = MatchResult r
 -- What reading all bytes up to a limit leaves of the source, by its answer.
 abbrev pub ReadsAll : ℕ → Option (List ℕ) → Option (List ℕ) → Result (Vec ℕ) ReadAll → Type 0
 ReadsAll limit old new (Ok v) = (length v.items ≤ limit) × Consumes old new v.items × IsAtEnd new
-ReadsAll limit old new (Err ReadFault) = (bytes : List ℕ) × (length bytes ≤ limit) × Consumes old new bytes
-ReadsAll limit old new (Err TooLong) = (bytes : List ℕ) × (length bytes ≡ limit + 1) × Consumes old new bytes
-ReadsAll limit old new (Err OutOfMemory) = (bytes : List ℕ) × (length bytes ≤ limit + 1) × Consumes old new bytes
+ReadsAll limit old new (Err ReadFault) = (bytes : List ℕ) × (length bytes ≤ limit)
+    × Consumes old new bytes
+ReadsAll limit old new (Err TooLong) = (bytes : List ℕ) × (length bytes ≡ limit + 1)
+    × Consumes old new bytes
+ReadsAll limit old new (Err OutOfMemory) = (bytes : List ℕ) × (length bytes ≤ limit + 1)
+    × Consumes old new bytes
 
 -- How many bytes were taken where all of so many were to be written.
 abbrev pub count_taken : ℕ → Result Unit WriteFault → ℕ
@@ -56,4 +63,5 @@ StaysTold room old new taken = taken ≤ room → IsSome old → IsSome new
 -- What writing all bytes leaves of the sink, by its answer.
 abbrev pub WritesAll : Option (List ℕ) → Option (List ℕ) → List ℕ → Result Unit WriteFault → Type 0
 WritesAll old new bytes (Ok _) = Extends old new bytes
-WritesAll old new bytes (Err fault) = (fault.done < length bytes) × Extends old new (take fault.done bytes)
+WritesAll old new bytes (Err fault) = (fault.done < length bytes)
+    × Extends old new (take fault.done bytes)

@@ -1,5 +1,7 @@
 -- The lines of a text, the fields of a line, and the numbers that fields spell.
-use Rattle.std.specs.Prelude.{ℕ, ◌+◌, ◌-◌, ◌*◌, List, [], ◌∷◌, length, map, filter, Bool, true, false, ◌&&◌, ◌||◌, ◌==◌, nat_le, if◌then◌else◌, min, Option, None, Some, ℤ, pos, negsuc, neg_ℤ, nat_abs}
+use Rattle.std.specs.Prelude.{ℕ, ◌+◌, ◌-◌, ◌*◌, List, [], ◌∷◌, length, map, filter, Bool, true}
+use Rattle.std.specs.Prelude.{false, ◌&&◌, ◌||◌, ◌==◌, nat_le, if◌then◌else◌, min, Option, None}
+use Rattle.std.specs.Prelude.{Some, ℤ, pos, negsuc, neg_ℤ, nat_abs}
 use Rattle.std.specs.List.{list_all, slice_split}
 use Rattle.std.specs.Str.Lines.{strip_carriage_return}
 use Rattle.std.specs.Option.{option_map}
@@ -53,7 +55,8 @@ natural (d ∷ ds) = if list_all is_digit (d ∷ ds) then Some (value_from 0 (d 
 -- an optional minus and one or more digits, nothing else
 abbrev pub numeral : List ℕ → Option ℤ
 numeral [] = None
-numeral (b ∷ bs) = if b == 45 then option_map (λ n. neg_ℤ (pos n)) (natural bs) else option_map (λ n. pos n) (natural (b ∷ bs))
+numeral (b ∷ bs) = if b == 45 then option_map (λ n. neg_ℤ (pos n)) (natural bs)
+    else option_map (λ n. pos n) (natural (b ∷ bs))
 
 -- a value beyond the bound is the bound and one more, with its sign
 abbrev pub clamped : ℕ → ℤ → ℤ

@@ -1,4 +1,5 @@
-ghost use Rattle.std.specs.Prelude.{◌≡◌, false, ℕ, ◌<◌, [], ◌∷◌, length, IfSome, MatchOption, slice_get, IsTrue};
+ghost use Rattle.std.specs.Prelude.{◌≡◌, false, ℕ, ◌<◌, [], ◌∷◌, length, IfSome, MatchOption};
+ghost use Rattle.std.specs.Prelude.{slice_get, IsTrue};
 ghost use Rattle.std.specs.List.{position};
 ghost use Rattle.std.specs.Iterator.{YieldsFirstRef, item_count};
 ghost use Rattle.mb_base.specs.Text.{fields, is_blank};
@@ -34,7 +35,8 @@ fn skip_blanks(line: &[u8]) -> &[u8]
 
 /// The first field of a line, and what follows it and the blank behind it.
 fn next_field(line: &[u8]) -> Option<(&[u8], &[u8])>
-    ensures { MatchOption result (fields line.now ≡ []) (λ r. fields line.now ≡ r.0.now ∷ fields r.1.now) }
+    ensures { MatchOption result (fields line.now ≡ []) (λ r. fields line.now
+        ≡ r.0.now ∷ fields r.1.now) }
 {
     let rest = skip_blanks(line);
     if rest.is_empty() {

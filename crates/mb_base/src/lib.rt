@@ -24,7 +24,7 @@ pub use lines::next_line;
 pub use memory::OutOfMemory;
 pub use memory_sinks::{MemSink, SureSink};
 pub use memory_sources::{MemSource, SureSource};
-pub use numbers::number;
+pub use numbers::{natural_at_most, number};
 pub use process_streams::{RealIn, RealOut};
 pub use sequence::Sequence;
 pub use steps::Steps;

@@ -1,6 +1,9 @@
-ghost use Rattle.std.specs.Prelude.{◌≡◌, ℕ, ◌+◌, ◌-◌, ◌<◌, ◌≤◌, ◌^◌, [], ◌++◌, true, length, take, IsTrue, ◌↔◌, Some, None, vec_len, vec_capacity, IfOk, IsErr, MatchResult};
+ghost use Rattle.std.specs.Prelude.{◌≡◌, ℕ, ◌+◌, ◌-◌, ◌<◌, ◌≤◌, ◌^◌, [], ◌++◌, true, length, take};
+ghost use Rattle.std.specs.Prelude.{IsTrue, ◌↔◌, Some, None, vec_len, vec_capacity, IfOk, IsErr};
+ghost use Rattle.std.specs.Prelude.{MatchResult};
 ghost use Rattle.mb_base.specs.Streams.{CountsFaults, TakesPiece, KeepsRoom};
-ghost use Rattle.mb_base.specs.MemoryStreams.{MemoryOutput, room_left, told, taken_of, with_more, fails_next, after_call};
+ghost use Rattle.mb_base.specs.MemoryStreams.{MemoryOutput, room_left, told, taken_of, with_more};
+ghost use Rattle.mb_base.specs.MemoryStreams.{fails_next, after_call};
 
 use crate::fault_plan::FaultPlan;
 use crate::memory::OutOfMemory;
@@ -23,8 +26,8 @@ fn keep(kept: &mut Vec<u8>, room: usize, bytes: &[u8]) -> bool
     count == bytes.len()
 }
 
-/// Takes at most `piece` bytes at a time and never fails. It keeps the first `room` bytes; past them
-/// it keeps nothing more and no longer tells what it took.
+/// Takes at most `piece` bytes at a time and never fails. It keeps the first `room` bytes; past
+/// them it keeps nothing more and no longer tells what it took.
 #[derive(Debug, Drop)]
 pub struct SureSink {
     kept: Vec<u8>,
@@ -39,16 +42,27 @@ impl Model for SureSink {
 
     ghost Value = { MemoryOutput };
 
-    ghost view = { λ s. record { kept = s.kept.items; room = s.room; piece = s.piece; is_whole = s.is_whole } };
+    ghost view = { λ s. record {
+      kept = s.kept.items;
+      room = s.room;
+      piece = s.piece;
+      is_whole = s.is_whole;
+    } };
 
-    ghost invariant = { λ s. (s.room ≤ vec_capacity s.kept) × (vec_len s.kept ≤ s.room) × (0 < s.piece) };
+    ghost invariant = { λ s. (s.room ≤ vec_capacity s.kept) × (vec_len s.kept ≤ s.room)
+        × (0 < s.piece) };
 }
 
 impl SureSink {
     /// A sink with memory for `room` bytes.
     pub fn new(alloc: Global, room: usize, piece: usize) -> Result<SureSink, OutOfMemory>
         requires { 0 < piece }
-        ensures { IfOk result (λ s. s ≡ record { kept = []; room = room; piece = piece; is_whole = true }) }
+        ensures { IfOk result (λ s. s ≡ record {
+          kept = [];
+          room = room;
+          piece = piece;
+          is_whole = true;
+        }) }
     {
         let kept = Vec::with_capacity(alloc, room)?;
         Ok(SureSink {
@@ -76,10 +90,12 @@ impl Sink for SureSink {
 
     fn write(&mut self, piece: &[u8]) -> Result<usize, Failed>
         ensures bytes { TakesPiece (told self.old) (told self.new) result piece.now }
-        ensures room { KeepsRoom (room_left self.old) (room_left self.new) (told self.old) (told self.new) result }
+        ensures room { KeepsRoom (room_left self.old) (room_left self.new) (told self.old)
+            (told self.new) result }
         ensures cause { CountsFaults 0 0 result }
         ensures count { IfOk result (λ k. k ≡ taken_of self.old (length piece.now)) }
-        ensures after { self.new ≡ with_more self.old (take (taken_of self.old (length piece.now)) piece.now) }
+        ensures after { self.new
+            ≡ with_more self.old (take (taken_of self.old (length piece.now)) piece.now) }
     {
         let count = piece.len().min(self.piece);
         if !keep(&mut self.kept, self.room, &piece[..count]) {
@@ -89,8 +105,8 @@ impl Sink for SureSink {
     }
 }
 
-/// A `SureSink` that fails as planned: the calls whose number from 1 stands in `fails` take nothing,
-/// fail and are counted.
+/// A `SureSink` that fails as planned: the calls whose number from 1 stands in `fails` take
+/// nothing, fail and are counted.
 #[derive(Debug, Drop)]
 pub struct MemSink {
     sink: SureSink,
@@ -114,8 +130,17 @@ impl MemSink {
         fails: Vec<u64>,
     ) -> Result<MemSink, OutOfMemory>
         requires { 0 < piece }
-        ensures output { IfOk result (λ s. s.output ≡ record { kept = []; room = room; piece = piece; is_whole = true }) }
-        ensures plan { IfOk result (λ s. s.plan ≡ record { fails = fails.items; calls = 0; faults = 0 }) }
+        ensures output { IfOk result (λ s. s.output ≡ record {
+          kept = [];
+          room = room;
+          piece = piece;
+          is_whole = true;
+        }) }
+        ensures plan { IfOk result (λ s. s.plan ≡ record {
+          fails = fails.items;
+          calls = 0;
+          faults = 0;
+        }) }
     {
         let sink = SureSink::new(alloc, room, piece)?;
         Ok(MemSink {
@@ -142,12 +167,15 @@ impl Sink for MemSink {
     fn write(&mut self, piece: &[u8]) -> Result<usize, Failed>
         requires { self.old.plan.faults < 2 ^ 64 - 1 }
         ensures bytes { TakesPiece (told self.old.output) (told self.new.output) result piece.now }
-        ensures room { KeepsRoom (room_left self.old.output) (room_left self.new.output) (told self.old.output) (told self.new.output) result }
+        ensures room { KeepsRoom (room_left self.old.output) (room_left self.new.output)
+            (told self.old.output) (told self.new.output) result }
         ensures cause { CountsFaults self.old.plan.faults self.new.plan.faults result }
         ensures fails { IsErr result ↔ (fails_next self.old.plan ≡ true) }
         ensures plan { self.new.plan ≡ after_call self.old.plan }
         ensures count { IfOk result (λ k. k ≡ taken_of self.old.output (length piece.now)) }
-        ensures after { MatchResult result (λ k. self.new.output ≡ with_more self.old.output (take k piece.now)) (λ _. self.new.output ≡ self.old.output) }
+        ensures after { MatchResult result (λ k. self.new.output
+            ≡ with_more self.old.output (take k piece.now)) (λ _. self.new.output
+            ≡ self.old.output) }
     {
         if self.plan.fails_now() {
             return Err(Failed);

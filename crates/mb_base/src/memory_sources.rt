@@ -1,4 +1,5 @@
-ghost use Rattle.std.specs.Prelude.{◌≡◌, ℕ, ◌<◌, ◌≤◌, ◌-◌, ◌^◌, true, [], length, take, drop, min, Some, vec_len, IfOk, IsErr, ◌↔◌, MatchResult};
+ghost use Rattle.std.specs.Prelude.{◌≡◌, ℕ, ◌<◌, ◌≤◌, ◌-◌, ◌^◌, true, [], length, take, drop, min};
+ghost use Rattle.std.specs.Prelude.{Some, vec_len, IfOk, IsErr, ◌↔◌, MatchResult};
 ghost use Rattle.std.specs.Io.{ReadsAtMost};
 ghost use Rattle.std.specs.Io.KnownBytes.{ReadConsumes};
 ghost use Rattle.mb_base.specs.Streams.{CountsFaults};
@@ -70,8 +71,8 @@ impl Source for SureSource {
     }
 }
 
-/// A `SureSource` that fails as planned: the calls whose number from 1 stands in `fails` give nothing,
-/// fail and are counted.
+/// A `SureSource` that fails as planned: the calls whose number from 1 stands in `fails` give
+/// nothing, fail and are counted.
 #[derive(Debug, Drop)]
 pub struct MemSource {
     source: SureSource,
@@ -108,12 +109,14 @@ impl Source for MemSource {
     fn read(&mut self, buf: &mut [u8]) -> Result<usize, Failed>
         requires { self.old.plan.faults < 2 ^ 64 - 1 }
         ensures bound { ReadsAtMost result buf.new }
-        ensures bytes { ReadConsumes (Some self.old.input.left) (Some self.new.input.left) result buf.new }
+        ensures bytes { ReadConsumes (Some self.old.input.left)
+            (Some self.new.input.left) result buf.new }
         ensures cause { CountsFaults self.old.plan.faults self.new.plan.faults result }
         ensures fails { IsErr result ↔ (fails_next self.old.plan ≡ true) }
         ensures plan { self.new.plan ≡ after_call self.old.plan }
         ensures count { IfOk result (λ k. k ≡ given self.old.input (length buf.old)) }
-        ensures after { MatchResult result (λ k. self.new.input ≡ past self.old.input k) (λ _. self.new.input ≡ self.old.input) }
+        ensures after { MatchResult result (λ k. self.new.input ≡ past self.old.input k)
+            (λ _. self.new.input ≡ self.old.input) }
     {
         if self.plan.fails_now() {
             return Err(Failed);

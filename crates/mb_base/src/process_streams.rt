@@ -58,7 +58,8 @@ impl<W: Write> RealOut<W> {
 /// One write and a flush: how many bytes were taken, or None where either failed.
 fn put<W: Write>(writer: &mut W, piece: &[u8]) -> Option<usize>
     ensures some { IfSome result (λ k. (k ≤ length piece.now) × (0 < length piece.now → 0 < k)) }
-    ensures appended { IfSome result (λ k. Appends (W.contents writer.old) (W.contents writer.new) (take k piece.now)) }
+    ensures appended { IfSome result (λ k. Appends (W.contents writer.old) (W.contents writer.new)
+        (take k piece.now)) }
 {
     let count = writer.write(piece).ok()?;
     writer.flush().ok()?;
@@ -81,7 +82,8 @@ impl<W: Write> Sink for RealOut<W> {
         ensures bytes { TakesPiece None None result piece.now }
         ensures room { KeepsRoom 0 0 None None result }
         ensures cause { CountsFaults self.old.faults self.new.faults result }
-        ensures appended { IfOk result (λ k. Appends (W.contents self.old.writer) (W.contents self.new.writer) (take k piece.now)) }
+        ensures appended { IfOk result (λ k. Appends (W.contents self.old.writer)
+            (W.contents self.new.writer) (take k piece.now)) }
     {
         match put(&mut self.writer, piece) {
             Some(count) => Ok(count),

@@ -43,6 +43,7 @@ pub trait Sink {
     fn write(&mut self, piece: &[u8]) -> Result<usize, Failed>
         requires { faults self.old < 2 ^ 64 - 1 }
         ensures bytes { TakesPiece (taken self.old) (taken self.new) result piece.now }
-        ensures room { KeepsRoom (room self.old) (room self.new) (taken self.old) (taken self.new) result }
+        ensures room { KeepsRoom (room self.old) (room self.new) (taken self.old)
+            (taken self.new) result }
         ensures cause { CountsFaults (faults self.old) (faults self.new) result };
 }

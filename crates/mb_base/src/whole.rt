@@ -1,5 +1,6 @@
 ghost use Rattle.std.specs.Prelude.{◌≡◌, ℕ, ◌<◌, ◌-◌, ◌^◌, ◌↔◌, length, IsErr, IsErrOf};
-ghost use Rattle.mb_base.specs.Streams.{ReadsAll, CountsReadFaults, WritesAll, CountsFaults, UsesRoom, StaysTold, count_taken};
+ghost use Rattle.mb_base.specs.Streams.{ReadsAll, CountsReadFaults, WritesAll, CountsFaults};
+ghost use Rattle.mb_base.specs.Streams.{UsesRoom, StaysTold, count_taken};
 
 use crate::memory::OutOfMemory;
 use crate::streams::{Sink, Source};
@@ -62,13 +63,15 @@ pub fn read_all<S: Source>(alloc: Global, source: &mut S, limit: u64) -> Result<
     Err(ReadAll::TooLong)
 }
 
-/// Has the sink take all the bytes, in as many writes as it wants. Where the sink told what it took and has room for
-/// all of them, it tells them afterwards.
+/// Has the sink take all the bytes, in as many writes as it wants. Where the sink told what it took
+/// and has room for all of them, it tells them afterwards.
 pub fn write_all<K: Sink>(sink: &mut K, bytes: &[u8]) -> Result<(), WriteFault>
     requires { K.faults sink.old < 2 ^ 64 - 1 }
     ensures bytes { WritesAll (K.taken sink.old) (K.taken sink.new) bytes.now result }
-    ensures room { UsesRoom (K.room sink.old) (K.room sink.new) (count_taken (length bytes.now) result) }
-    ensures told { StaysTold (K.room sink.old) (K.taken sink.old) (K.taken sink.new) (count_taken (length bytes.now) result) }
+    ensures room { UsesRoom (K.room sink.old) (K.room sink.new)
+        (count_taken (length bytes.now) result) }
+    ensures told { StaysTold (K.room sink.old) (K.taken sink.old) (K.taken sink.new)
+        (count_taken (length bytes.now) result) }
     ensures fault { IsErr result ↔ (K.faults sink.old < K.faults sink.new) }
     ensures count { CountsFaults (K.faults sink.old) (K.faults sink.new) result }
 {

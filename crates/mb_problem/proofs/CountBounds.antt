@@ -17,7 +17,8 @@ pub once : (i : Network) (counts : List ℕ) → length counts ≡ length i.edge
 once i counts size all k below = all k 0 (omega (arith, size, below))
 
 -- no edge is used more often than the values at its ends say
-pub valued : (i : Network) (counts : List ℕ) → IsNetwork i → IsBMatching i counts → (k : ℕ) → k < length i.edges → slice_index counts k ≤ min (value_of i (instance_edge_at i k).u) (value_of i (instance_edge_at i k).v)
+pub valued : (i : Network) (counts : List ℕ) → IsNetwork i → IsBMatching i counts → (k : ℕ) → k < length i.edges → slice_index counts k ≤ min (value_of i (instance_edge_at i k).u)
+    (value_of i (instance_edge_at i k).v)
 valued i counts network b k below =
     let g = graph_of i in
     let ends = (network-graph i network).ends in

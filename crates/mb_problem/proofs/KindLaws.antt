@@ -1,13 +1,16 @@
 -- What is shown kind by kind, each fact once: a row a kind.
 use Rattle.std.proofs.Common.{◌≡◌, ℕ, ◌≤◌, ◌<◌, ◌⊎◌, inl, inr, max, ◌∙◌, refl, sym, ap, arith, ℤ, ◌≤ℤ◌, Bool, true, false, cond, eqb, List, length, slice_index, Option, Some}
-use Rattle.std.specs.Prelude.{replicate}
+use Rattle.std.specs.Prelude.{replicate, ⊤}
 use Rattle.std.proofs.lemmas.Bool.{eqb-true}
 use Rattle.std.proofs.lemmas.Int.{ints}
+use Rattle.graph_theory.specs.Limits.{Size}
 use Rattle.graph_theory.specs.Walk.{IsWalk}
 use Rattle.graph_theory.specs.Parts.{IsOddPart, IsSplitPart}
 use Rattle.graph_theory.proofs.Walks.{walk-numbers}
 use Rattle.mb_problem.specs.declared.kind.Kind.{Kind}
 use Rattle.mb_problem.specs.declared.kind.Kind.TheVariants.{Perfect, Match, BMatch, CapMatch, FFactor, TJoin, Postman, Path}
+use Rattle.mb_problem.specs.declared.kind.AnswerForm.{AnswerForm}
+use Rattle.mb_problem.specs.declared.kind.AnswerForm.TheVariants as form
 use Rattle.mb_problem.specs.declared.kind.Exclusion.TheVariants.{OddPart, SplitPart, Never}
 use Rattle.mb_problem.specs.declared.kind.VertexValue.TheVariants.{End}
 use Rattle.mb_problem.specs.declared.gadget.GadgetForm.{GadgetForm}
@@ -20,12 +23,26 @@ use Rattle.mb_problem.specs.Words.{IsField}
 use Rattle.mb_problem.specs.Network.{Network, IsNetwork, graph_of, instance_edge_at}
 use Rattle.mb_problem.specs.Feasible.{IsFeasible, IsAsGood}
 use Rattle.mb_problem.specs.Ready.{HasEnds, HasNeededEnds}
-use Rattle.mb_problem.specs.Measured.{HasPlaces, IsInForm}
-use Rattle.mb_problem.specs.Size.{most_by, size_by, size_of, certified_by, certified_size, ports_size, odd_at, IsNoLarger}
+use Rattle.mb_problem.specs.Measured.{HasPlaces}
+use Rattle.mb_problem.specs.Size.{most_by, size_by, size_of, certified_by, certified_size, ports_size, odd_at}
 use Rattle.mb_problem.specs.Values.{total_weight, value_for}
 use Rattle.mb_problem.proofs.EdgeLemmas.{edges-count}
 use Rattle.mb_problem.proofs.CountBounds.{once, valued, within_capacity, empty-matching}
 use Rattle.mb_problem.proofs.PartTruths.{has_odd_value, odd_part-join, odd_part-path, split_part-tour, split_part-none}
+
+-- the one has no more vertices than the other, and no more edges
+pub record IsNoLarger (a b : Size) : Type 0 where
+  pub vertices : a.vertices ≤ b.vertices
+  pub edges : a.edges ≤ b.edges
+
+-- counts, or a walk, which has an edge unless it is the empty one
+abbrev pub IsInForm : AnswerForm → Answer → Type 0
+IsInForm form.Counts (Counts counts) = ⊤
+IsInForm form.Counts (Walk start edges) = ⊥
+IsInForm form.Counts Nothing = ⊥
+IsInForm form.Walk (Counts counts) = ⊥
+IsInForm form.Walk (Walk start edges) = 1 ≤ length edges
+IsInForm form.Walk Nothing = ⊤
 
 -- ---- words and numbers
 
@@ -75,7 +92,8 @@ kind_some kind = Some kind
 some_kind : (a b : Kind) → kind_some a ≡ Some b → a ≡ b
 some_kind a b is = cc
 
-by_test : (b : Bool) (n m : ℕ) (kind this : Kind) (rest : Option Kind) → eqb n m ≡ b → kind_number this ≡ m → (rest ≡ Some kind → kind_number kind ≡ n) → cond b (Some this) rest ≡ Some kind → kind_number kind ≡ n
+by_test : (b : Bool) (n m : ℕ) (kind this : Kind) (rest : Option Kind) → eqb n m ≡ b → kind_number this ≡ m → (rest ≡ Some kind → kind_number kind ≡ n) → cond b (Some this) rest ≡ Some kind
+    → kind_number kind ≡ n
 by_test true n m kind this rest test number later is = ap kind_number (sym (some_kind this kind is)) ∙ number ∙ sym (eqb-true n m test)
 by_test false n m kind this rest test number later is = later is
 
@@ -144,7 +162,8 @@ feasible-counts Postman i counts f = absurd f
 feasible-counts Path i counts f = absurd f
 
 -- and none of them is more than an answer may use the edge
-pub feasible-most : (kind : Kind) (i : Network) (counts : List ℕ) → IsNetwork i → IsFeasible kind i (Counts counts) → (k : ℕ) → k < length i.edges → slice_index counts k ≤ most_by (edge_use_of kind) i (instance_edge_at i k)
+pub feasible-most : (kind : Kind) (i : Network) (counts : List ℕ) → IsNetwork i → IsFeasible kind i (Counts counts) → (k : ℕ) → k < length i.edges → slice_index counts k
+    ≤ most_by (edge_use_of kind) i (instance_edge_at i k)
 feasible-most Perfect i counts network f k below = once i counts (f.one_each ∙ edges-count i) f.at_most_one k below
 feasible-most Match i counts network f k below = once i counts f.one_each f.at_most_once k below
 feasible-most BMatch i counts network f k below = valued i counts network f k below
@@ -185,7 +204,8 @@ never-excluded Postman i is = absurd (cc)
 never-excluded Path i is = absurd (cc)
 
 -- an odd part excludes all answers of a kind that odd parts exclude
-pub odd-excludes : (kind : Kind) (i : Network) (set : List ℕ) (answer : Answer) → exclusion_of kind ≡ OddPart → IsNetwork i → IsOddPart (graph_of i) (has_odd_value i) set → IsFeasible kind i answer → ⊥
+pub odd-excludes : (kind : Kind) (i : Network) (set : List ℕ) (answer : Answer) → exclusion_of kind ≡ OddPart → IsNetwork i → IsOddPart (graph_of i) (has_odd_value i) set
+    → IsFeasible kind i answer → ⊥
 odd-excludes Perfect i set answer is ok part f = absurd (cc)
 odd-excludes Match i set answer is ok part f = absurd (cc)
 odd-excludes BMatch i set answer is ok part f = absurd (cc)

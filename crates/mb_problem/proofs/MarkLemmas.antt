@@ -13,7 +13,8 @@ pub marks-none : (n : ℕ) (xs : List ℕ) → AreMarks n (replicate n false) (t
 marks-none n xs = record { one_each = length-replicate n false; each = λ k b. get_or-replicate n k false false b }
 
 -- one number more
-pub marks-more : (n : ℕ) (marks : List Bool) (xs : List ℕ) (k x : ℕ) → AreMarks n marks (take k xs) → k < length xs → x ≡ get_or xs k 0 → 1 ≤ x → x ≤ n → AreMarks n (set marks (x - 1) true) (take (k + 1) xs)
+pub marks-more : (n : ℕ) (marks : List Bool) (xs : List ℕ) (k x : ℕ) → AreMarks n marks (take k xs) → k < length xs → x ≡ get_or xs k 0 → 1 ≤ x → x ≤ n → AreMarks n (set marks (x - 1) true)
+    (take (k + 1) xs)
 marks-more n marks xs k x are below is low high =
     let size : length marks ≡ n = are.one_each in
     let place : x - 1 < length marks = omega arith in
@@ -23,11 +24,13 @@ marks-more n marks xs k x are below is low high =
         | yes same ↦
             let number : get_or xs k 0 ≡ j + 1 = omega arith in
             let here : eqb (get_or xs k 0) (j + 1) ≡ true = eq-eqb (get_or xs k 0) (j + 1) number in
-            ap (λ (p : ℕ). get_or (set marks (x - 1) true) p false) same ∙ get_or-set_same marks (x - 1) true false place ∙ sym (holds-take xs k (j + 1) below ∙ ap (λ (t : Bool). holds (take k xs) (j + 1) || t) here ∙ or-true (holds (take k xs) (j + 1)))
+            ap (λ (p : ℕ). get_or (set marks (x - 1) true) p false) same ∙ get_or-set_same marks (x - 1) true false place ∙ sym (holds-take xs k (j + 1) below
+            ∙ ap (λ (t : Bool). holds (take k xs) (j + 1) || t) here ∙ or-true (holds (take k xs) (j + 1)))
         | no other ↦
             let number : get_or xs k 0 ≢ j + 1 = (λ (e : get_or xs k 0 ≡ j + 1). other (omega arith)) in
             let here : eqb (get_or xs k 0) (j + 1) ≡ false = ne_eqb (get_or xs k 0) (j + 1) number in
-            get_or-set_other marks (x - 1) j true false other ∙ are.each j b ∙ sym (holds-take xs k (j + 1) below ∙ ap (λ (t : Bool). holds (take k xs) (j + 1) || t) here ∙ or-false (holds (take k xs) (j + 1)))
+            get_or-set_other marks (x - 1) j true false other ∙ are.each j b ∙ sym (holds-take xs k (j + 1) below ∙ ap (λ (t : Bool). holds (take k xs) (j + 1) || t) here
+            ∙ or-false (holds (take k xs) (j + 1)))
       ];
     }
 
@@ -60,7 +63,8 @@ differ-not xs k below had differ =
     differ place.0 k earlier below (sym (get_or-take k xs place.0 0 earlier) ∙ place.2)
 
 -- the mark of the number at a place tells whether an earlier number is the same
-pub marked-here : (n : ℕ) (marks : List Bool) (xs : List ℕ) (k x : ℕ) → AreMarks n marks (take k xs) → x ≡ get_or xs k 0 → 1 ≤ x → x ≤ n → get_or marks (x - 1) false ≡ holds (take k xs) (get_or xs k 0)
+pub marked-here : (n : ℕ) (marks : List Bool) (xs : List ℕ) (k x : ℕ) → AreMarks n marks (take k xs) → x ≡ get_or xs k 0 → 1 ≤ x → x ≤ n → get_or marks (x - 1) false
+    ≡ holds (take k xs) (get_or xs k 0)
 marked-here n marks xs k x are is low high =
     let back : x - 1 + 1 ≡ get_or xs k 0 = omega arith in
     are.each (x - 1) (omega arith) ∙ ap (λ (w : ℕ). holds (take k xs) w) back

@@ -23,7 +23,8 @@ odd_part-join i set counts ok part join = odd_part_excludes (graph_of i) (has_od
 ))
 
 -- a member is a terminal exactly where it is one of two different vertices
-two_tests : (h t a b : Bool) → (t ≡ true → (a ≡ true) ⊎ (b ≡ true)) → (a ≡ true → t ≡ true) → (b ≡ true → t ≡ true) → (a ≡ true → b ≡ true → ⊥) → cond h (cond t 1 0) 0 ≡ cond a (cond h 1 0) 0 + cond b (cond h 1 0) 0
+two_tests : (h t a b : Bool) → (t ≡ true → (a ≡ true) ⊎ (b ≡ true)) → (a ≡ true → t ≡ true) → (b ≡ true → t ≡ true) → (a ≡ true → b ≡ true → ⊥) → cond h (cond t 1 0) 0
+    ≡ cond a (cond h 1 0) 0 + cond b (cond h 1 0) 0
 two_tests h true true true some one other apart = absurd (apart refl refl)
 two_tests true true true false some one other apart = refl
 two_tests false true true false some one other apart = refl
@@ -36,7 +37,8 @@ two_tests true false false false some one other apart = refl
 two_tests false false false false some one other apart = refl
 
 -- the terminals in a set are those of the two ends that it holds
-terminals_held : (i : Network) (s t : ℕ) (set : List ℕ) (k : ℕ) → AreEnds i s t → k < vertices i → cond (holds set (k + 1)) (cond (has_odd_value i (k + 1)) 1 0) 0 ≡ cond (eqb s (k + 1)) (cond (holds set (k + 1)) 1 0) 0 + cond (eqb t (k + 1)) (cond (holds set (k + 1)) 1 0) 0
+terminals_held : (i : Network) (s t : ℕ) (set : List ℕ) (k : ℕ) → AreEnds i s t → k < vertices i → cond (holds set (k + 1)) (cond (has_odd_value i (k + 1)) 1 0) 0
+    ≡ cond (eqb s (k + 1)) (cond (holds set (k + 1)) 1 0) 0 + cond (eqb t (k + 1)) (cond (holds set (k + 1)) 1 0) 0
 terminals_held i s t set k ends below =
     two_tests (holds set (k + 1)) (has_odd_value i (k + 1)) (eqb s (k + 1)) (eqb t (k + 1))
     (λ odd. elim ((ends.exact (k + 1)).0 (omega arith, omega arith, eqb-true (value_of i (k + 1) % 2) 1 odd)) [
@@ -58,8 +60,10 @@ odd_part-path i set start edges ok part path =
     let order : start < t = ends.order in
     let low : 1 ≤ start = ends-low i start t ends in
     let high : t ≤ n = ends-high i start t ends in
-    let listed : sum_to (λ k. cond (holds set (k + 1)) (cond (has_odd_value i (k + 1)) 1 0) 0) n ≡ count_by (has_odd_value i) set = members_sum (λ v. cond (has_odd_value i v) 1 0) n set part.vertices.ascending part.vertices.in_range in
-    let split = sum_to-same (λ k. cond (holds set (k + 1)) (cond (has_odd_value i (k + 1)) 1 0) 0) (λ k. cond (eqb start (k + 1)) (one (k + 1)) 0 + cond (eqb t (k + 1)) (one (k + 1)) 0) n (λ k below. terminals_held i start t set k ends below) in
+    let listed : sum_to (λ k. cond (holds set (k + 1)) (cond (has_odd_value i (k + 1)) 1 0) 0) n ≡ count_by (has_odd_value i) set =
+    members_sum (λ v. cond (has_odd_value i v) 1 0) n set part.vertices.ascending part.vertices.in_range in
+    let split = sum_to-same (λ k. cond (holds set (k + 1)) (cond (has_odd_value i (k + 1)) 1 0) 0) (λ k. cond (eqb start (k + 1)) (one (k + 1)) 0 + cond (eqb t (k + 1)) (one (k + 1)) 0) n
+    (λ k below. terminals_held i start t set k ends below) in
     let parts = sum_to-add (λ k. cond (eqb start (k + 1)) (one (k + 1)) 0) (λ k. cond (eqb t (k + 1)) (one (k + 1)) 0) n in
     let first : sum_to (λ k. cond (eqb start (k + 1)) (one (k + 1)) 0) n ≡ one start = sum_to-at_one one start n low (omega arith) in
     let last : sum_to (λ k. cond (eqb t (k + 1)) (one (k + 1)) 0) n ≡ one t = sum_to-at_one one t n (omega arith) high in

@@ -1,12 +1,15 @@
 -- Which answers are feasible, and which are best, for each kind (Schrijver, volume A,
 -- chapters 24 and 26 for matchings, 29 for joins, walks and paths, 31 for b-matchings, 32 for
 -- capacities, 33 for factors).
-use Rattle.std.specs.Prelude.{◌≡◌, ℕ, ◌%◌, ◌≤◌, ◌<◌, ℤ, pos, ◌≤ℤ◌, true, List, length, All, slice_index, IfSome, ◌↔◌, ◌⊎◌}
+use Rattle.std.specs.Prelude.{◌≡◌, ℕ, ◌%◌, ◌≤◌, ◌<◌, ℤ, pos, ◌≤ℤ◌, true, List, length, All}
+use Rattle.std.specs.Prelude.{slice_index, IfSome, ◌↔◌, ◌⊎◌}
 use Rattle.graph_theory.specs.Graph.{degree, weight, IsPerfect}
 use Rattle.graph_theory.specs.Parts.{holds}
-use Rattle.graph_theory.specs.Walk.{IsWalk, walk_end, walk_vertices, walk_weight, IsClosedWalk, AllDiffer}
+use Rattle.graph_theory.specs.Walk.{IsWalk, walk_end, walk_vertices, walk_weight, IsClosedWalk}
+use Rattle.graph_theory.specs.Walk.{AllDiffer}
 use Rattle.mb_problem.specs.declared.kind.Kind.{Kind}
-use Rattle.mb_problem.specs.declared.kind.Kind.TheVariants.{Perfect, Match, BMatch, CapMatch, FFactor, TJoin, Postman, Path}
+use Rattle.mb_problem.specs.declared.kind.Kind.TheVariants.{Perfect, Match, BMatch, CapMatch}
+use Rattle.mb_problem.specs.declared.kind.Kind.TheVariants.{FFactor, TJoin, Postman, Path}
 use Rattle.mb_problem.specs.declared.kind.Measure.{Measure}
 use Rattle.mb_problem.specs.declared.kind.Measure.TheVariants.{Total}
 use Rattle.mb_problem.specs.declared.kind.Sense.{Sense}
@@ -34,7 +37,8 @@ pub record IsBMatching (i : Network) (counts : List ℕ) : Type 0 where
 
 -- no count passes the capacity of its edge
 abbrev pub WithinCapacities : Network → List ℕ → Type 0
-WithinCapacities i counts = (k : ℕ) → k < length i.edges → IfSome (instance_edge_at i k).capacity (λ c. slice_index counts k ≤ c)
+WithinCapacities i counts = (k : ℕ) → k < length i.edges → IfSome (instance_edge_at i k).capacity
+    (λ c. slice_index counts k ≤ c)
 
 -- counts 0 or 1, with degree at most 1 at each vertex
 pub record IsMatching (i : Network) (counts : List ℕ) : Type 0 where
@@ -74,7 +78,8 @@ AreCounts P (Counts counts) = P counts
 AreCounts P (Walk start edges) = ⊥
 AreCounts P Nothing = ⊥
 
--- the answer is a walk, and the one holds of its start and its edges; or the empty walk, and the other holds
+-- the answer is a walk, and the one holds of its start and its edges; or the empty walk, and the
+-- other holds
 abbrev pub IsWalkWith : (ℕ → List ℕ → Type 0) → Type 0 → Answer → Type 0
 IsWalkWith P E (Counts counts) = ⊥
 IsWalkWith P E (Walk start edges) = P start edges
@@ -85,7 +90,8 @@ abbrev pub IsFeasible : Kind → Network → Answer → Type 0
 IsFeasible Perfect i answer = AreCounts (IsPerfect (graph_of i)) answer
 IsFeasible Match i answer = AreCounts (IsMatching i) answer
 IsFeasible BMatch i answer = AreCounts (IsBMatching i) answer
-IsFeasible CapMatch i answer = AreCounts (λ counts. IsBMatching i counts × WithinCapacities i counts) answer
+IsFeasible CapMatch i answer = AreCounts (λ counts. IsBMatching i counts
+    × WithinCapacities i counts) answer
 IsFeasible FFactor i answer = AreCounts (λ counts. IsBMatching i counts × AtMostOnce counts) answer
 IsFeasible TJoin i answer = AreCounts (IsJoin i) answer
 IsFeasible Postman i answer = IsWalkWith (IsTour i) (length i.edges ≡ 0) answer
@@ -112,4 +118,5 @@ IsAsGood kind one other = IsAsGoodBy (sense_of kind) one other
 -- a best answer: feasible, and as good as every feasible one
 pub record IsBest (kind : Kind) (i : Network) (answer : Answer) : Type 0 where
   pub feasible : IsFeasible kind i answer
-  pub best : (other : Answer) → IsFeasible kind i other → IsAsGood kind (weight_of kind i answer) (weight_of kind i other)
+  pub best : (other : Answer) → IsFeasible kind i other → IsAsGood kind (weight_of kind i answer)
+      (weight_of kind i other)

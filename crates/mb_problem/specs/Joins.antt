@@ -36,4 +36,5 @@ odd_between s t v = if v == s then 1 else (if v == t then 1 else 0)
 
 -- no set of edges with even degrees weighs less than 0
 abbrev pub HasNoNegativeEvenSet : Network → Type 0
-HasNoNegativeEvenSet i = (counts : List ℕ) → IsJoinOf Empty i counts → pos 0 ≤ℤ weight (graph_of i) counts
+HasNoNegativeEvenSet i = (counts : List ℕ) → IsJoinOf Empty i counts
+    → pos 0 ≤ℤ weight (graph_of i) counts

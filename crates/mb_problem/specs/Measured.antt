@@ -1,10 +1,8 @@
 -- Answers that can be measured: each count and each step of a walk belongs to an edge.
-use Rattle.std.specs.Prelude.{◌≡◌, ◌≤◌, length, All, ⊤}
+use Rattle.std.specs.Prelude.{◌≡◌, length, All}
 use Rattle.graph_theory.specs.Graph.{IsEdgeNumber}
 use Rattle.mb_problem.specs.declared.answer.Answer.{Answer}
 use Rattle.mb_problem.specs.declared.answer.Answer.TheVariants.{Counts, Walk, Nothing}
-use Rattle.mb_problem.specs.declared.kind.AnswerForm.{AnswerForm}
-use Rattle.mb_problem.specs.declared.kind.AnswerForm.TheVariants as form
 use Rattle.mb_problem.specs.Network.{Network, graph_of}
 
 -- one count for each edge, or a walk of numbers of edges
@@ -12,12 +10,3 @@ abbrev pub HasPlaces : Network → Answer → Type 0
 HasPlaces i (Counts counts) = length counts ≡ length i.edges
 HasPlaces i (Walk start edges) = All (IsEdgeNumber (graph_of i)) edges
 HasPlaces i Nothing = Unit {0}
-
--- counts, or a walk, which has an edge unless it is the empty one
-abbrev pub IsInForm : AnswerForm → Answer → Type 0
-IsInForm form.Counts (Counts counts) = ⊤
-IsInForm form.Counts (Walk start edges) = ⊥
-IsInForm form.Counts Nothing = ⊥
-IsInForm form.Walk (Counts counts) = ⊥
-IsInForm form.Walk (Walk start edges) = 1 ≤ length edges
-IsInForm form.Walk Nothing = ⊤

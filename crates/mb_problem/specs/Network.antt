@@ -1,5 +1,6 @@
 -- What an instance is: a graph whose edges may have capacities and whose vertices have values.
-use Rattle.std.specs.Prelude.{ℕ, ◌-◌, ◌≤◌, pos, List, length, map, All, slice_index, slice_index_or, None, IfSome}
+use Rattle.std.specs.Prelude.{ℕ, ◌-◌, ◌≤◌, pos, List, length, map, All, slice_index, slice_index_or}
+use Rattle.std.specs.Prelude.{None, IfSome}
 use Rattle.graph_theory.specs.declared.edge.Edge.{Edge}
 use Rattle.graph_theory.specs.Graph.{Multigraph, IsEdgeWithin, IsWeight}
 use Rattle.mb_problem.specs.declared.instance.InstanceEdge.{InstanceEdge}
@@ -36,7 +37,8 @@ instance_edge_of i e = instance_edge_at i (e - 1)
 abbrev pub value_of : Network → ℕ → ℕ
 value_of i v = slice_index i.values (v - 1)
 
--- different ends among the vertices, a weight in range, and a capacity within the limit where there is one
+-- different ends among the vertices, a weight in range, and a capacity within the limit where there
+-- is one
 pub record IsInstanceEdge (n : ℕ) (e : InstanceEdge) : Type 0 where
   pub ends : IsEdgeWithin n (plain e)
   pub weight : IsWeight e.w

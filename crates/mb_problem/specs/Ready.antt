@@ -2,7 +2,8 @@
 use Rattle.std.specs.Prelude.{ℕ, pos, ◌≤ℤ◌, All, ⊤}
 use Rattle.mb_problem.specs.declared.kind.Kind.{Kind}
 use Rattle.mb_problem.specs.declared.kind.Need.{Need}
-use Rattle.mb_problem.specs.declared.kind.Need.TheVariants.{Unrestricted, WeightsFromZero, Ends, EndsAndWeightsFromZero}
+use Rattle.mb_problem.specs.declared.kind.Need.TheVariants.{Unrestricted, WeightsFromZero, Ends}
+use Rattle.mb_problem.specs.declared.kind.Need.TheVariants.{EndsAndWeightsFromZero}
 use Rattle.mb_problem.specs.declared.instance.InstanceEdge.{InstanceEdge}
 use Rattle.mb_problem.specs.Kinds.{need_of}
 use Rattle.mb_problem.specs.Network.{Network}

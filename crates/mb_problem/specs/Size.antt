@@ -1,5 +1,6 @@
 -- The size of the graph that certificates speak of, its vertices and edges.
-use Rattle.std.specs.Prelude.{ℕ, ◌≤◌, ◌+◌, ◌-◌, ◌*◌, ◌/◌, ◌%◌, min, max, length, Option, None, Some, slice_index, replicate}
+use Rattle.std.specs.Prelude.{ℕ, ◌≤◌, ◌+◌, ◌-◌, ◌*◌, ◌/◌, ◌%◌, min, max, length, Option, None, Some}
+use Rattle.std.specs.Prelude.{slice_index, replicate}
 use Rattle.graph_theory.specs.Sums.{sum_to}
 use Rattle.graph_theory.specs.Graph.{degree}
 use Rattle.graph_theory.specs.Limits.{Size}
@@ -11,7 +12,8 @@ use Rattle.mb_problem.specs.declared.answer.Parity.TheVariants.{Empty, Values, O
 use Rattle.mb_problem.specs.declared.gadget.Capacities.{Capacities}
 use Rattle.mb_problem.specs.declared.gadget.Capacities.TheVariants.{Own, Unit as Once}
 use Rattle.mb_problem.specs.declared.gadget.GadgetForm.{GadgetForm}
-use Rattle.mb_problem.specs.declared.gadget.GadgetForm.TheVariants.{Itself, Doubled, Copies, Capped, Ports, PathPorts}
+use Rattle.mb_problem.specs.declared.gadget.GadgetForm.TheVariants.{Itself, Doubled, Copies, Capped}
+use Rattle.mb_problem.specs.declared.gadget.GadgetForm.TheVariants.{Ports, PathPorts}
 use Rattle.mb_problem.specs.declared.instance.InstanceEdge.{InstanceEdge}
 use Rattle.mb_problem.specs.Network.{Network, vertices, graph_of, instance_edge_at, value_of}
 use Rattle.mb_problem.specs.Kinds.{gadget_of}
@@ -38,7 +40,8 @@ limit_by Once e = Some 1
 
 -- how often the edge at a place can be used
 abbrev pub room_by : Capacities → Network → ℕ → ℕ
-room_by capacities i k = bounded (limit_by capacities (instance_edge_at i k)) (min (value_u i k) (value_v i k))
+room_by capacities i k = bounded (limit_by capacities (instance_edge_at i k))
+    (min (value_u i k) (value_v i k))
 
 abbrev pub room_of : Network → ℕ → ℕ
 room_of i = room_by Own i
@@ -46,7 +49,8 @@ room_of i = room_by Own i
 abbrev pub unit_room_of : Network → ℕ → ℕ
 unit_room_of i = room_by Once i
 
--- how often an answer may use an edge: once, or as often as the values at its ends and its capacity let it
+-- how often an answer may use an edge: once, or as often as the values at its ends and its capacity
+-- let it
 abbrev pub most_by : EdgeUse → Network → InstanceEdge → ℕ
 most_by use_of.Once i e = 1
 most_by use_of.AnyNumber i e = min (value_of i e.u) (value_of i e.v)
@@ -70,7 +74,8 @@ port_count i odd v = edge_count_at i v + (edge_count_at i v + odd v) % 2
 abbrev pub ports_size : Network → (ℕ → ℕ) → Size
 ports_size i odd = record {
   vertices = sum_to (λ k. port_count i odd (k + 1)) (vertices i);
-  edges = length i.edges + sum_to (λ k. port_count i odd (k + 1) * (port_count i odd (k + 1) - 1) / 2) (vertices i);
+  edges = length i.edges + sum_to
+      (λ k. port_count i odd (k + 1) * (port_count i odd (k + 1) - 1) / 2) (vertices i);
 }
 
 -- the greater number of vertices, and the greater number of edges
@@ -91,7 +96,10 @@ odd_at parity i v = odd_by parity (edge_count_at i v) (value_of i v)
 abbrev pub size_by : GadgetForm → Network → Size
 size_by Itself i = record { vertices = vertices i; edges = length i.edges }
 size_by Doubled i = record { vertices = 2 * vertices i; edges = 2 * length i.edges + vertices i }
-size_by Copies i = record { vertices = value_total i; edges = sum_to (λ k. value_u i k * value_v i k) (length i.edges) }
+size_by Copies i = record {
+  vertices = value_total i;
+  edges = sum_to (λ k. value_u i k * value_v i k) (length i.edges);
+}
 size_by (Capped capacities) i = capped_size i (room_by capacities i)
 size_by (Ports parity) i = ports_size i (odd_at parity i)
 size_by PathPorts i = greater (ports_size i (odd_at Values i)) (ports_size i (odd_at Empty i))
@@ -110,8 +118,3 @@ certified_by PathPorts i = size_by (Ports Values) i
 
 abbrev pub certified_size : Kind → Network → Size
 certified_size kind i = certified_by (gadget_of kind) i
-
--- the one has no more vertices than the other, and no more edges
-pub record IsNoLarger (a b : Size) : Type 0 where
-  pub vertices : a.vertices ≤ b.vertices
-  pub edges : a.edges ≤ b.edges

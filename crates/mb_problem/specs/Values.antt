@@ -1,4 +1,5 @@
--- The value that duals have beside a best answer: twice the weight of the perfect matching that stands for it.
+-- The value that duals have beside a best answer: twice the weight of the perfect matching that
+-- stands for it.
 use Rattle.std.specs.Prelude.{ℤ, pos, neg_ℤ, ◌*ℤ◌, ◌-ℤ◌, length, replicate}
 use Rattle.graph_theory.specs.Graph.{weight}
 use Rattle.mb_problem.specs.declared.kind.Kind.{Kind}
@@ -13,8 +14,8 @@ use Rattle.mb_problem.specs.Kinds.{proof_of}
 abbrev pub total_weight : Network → ℤ
 total_weight i = weight (graph_of i) (replicate (length i.edges) 1)
 
--- Weights are turned round where an answer of greatest weight stands twice in a doubled graph. A tour uses
--- each edge once beside those of the join at the vertices of odd degree.
+-- Weights are turned round where an answer of greatest weight stands twice in a doubled graph. A
+-- tour uses each edge once beside those of the join at the vertices of odd degree.
 abbrev pub value_by : DualValue → Network → ℤ → ℤ
 value_by Twice i w = pos 2 *ℤ w
 value_by Opposite i w = neg_ℤ (pos 4 *ℤ w)

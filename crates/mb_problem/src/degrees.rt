@@ -1,4 +1,5 @@
-ghost use Rattle.std.specs.Prelude.{◌≡◌, ℕ, ◌+◌, ◌-◌, ◌*◌, ◌<◌, ◌≤◌, ◌^◌, ◌==◌, if◌then◌else◌, length, slice_index, IfOk};
+ghost use Rattle.std.specs.Prelude.{◌≡◌, ℕ, ◌+◌, ◌-◌, ◌*◌, ◌<◌, ◌≤◌, ◌^◌, ◌==◌, if◌then◌else◌};
+ghost use Rattle.std.specs.Prelude.{length, slice_index, IfOk};
 ghost use Rattle.graph_theory.specs.Graph.{ends_at, IsEdgeWithin};
 ghost use Rattle.mb_problem.specs.Network.{Network, IsNetwork, plain, vertices};
 ghost use Rattle.mb_problem.specs.Size.{edge_count_at};
@@ -15,7 +16,8 @@ fn add_at(degrees: &mut [u64], v: VertexId, count: u32)
     requires high { v ≤ length degrees.old }
     requires small { slice_index degrees.old (v - 1) < 2 ^ 63 }
     ensures size { length degrees.new ≡ length degrees.old }
-    ensures each { (k : ℕ) → k < length degrees.old → slice_index degrees.new k ≡ slice_index degrees.old k + (if v == k + 1 then count else 0) }
+    ensures each { (k : ℕ) → k < length degrees.old → slice_index degrees.new k
+        ≡ slice_index degrees.old k + (if v == k + 1 then count else 0) }
 {
     degrees[v.number() as usize - 1] += u64::from(count);
 }
@@ -25,7 +27,8 @@ fn add_edge(degrees: &mut [u64], edge: &InstanceEdge, count: u32)
     requires ends { IsEdgeWithin (length degrees.old) (plain edge.now) }
     requires small { (k : ℕ) → k < length degrees.old → slice_index degrees.old k < 2 ^ 62 }
     ensures size { length degrees.new ≡ length degrees.old }
-    ensures each { (k : ℕ) → k < length degrees.old → slice_index degrees.new k ≡ slice_index degrees.old k + count * ends_at (plain edge.now) (k + 1) }
+    ensures each { (k : ℕ) → k < length degrees.old → slice_index degrees.new k
+        ≡ slice_index degrees.old k + count * ends_at (plain edge.now) (k + 1) }
 {
     add_at(degrees, edge.u, count);
     add_at(degrees, edge.v, count);
@@ -62,8 +65,10 @@ pub fn count_edges(degrees: &mut [u64], instance: &Instance)
     requires room { vertices instance.now ≤ length degrees.old }
     requires start { (k : ℕ) → k < length degrees.old → slice_index degrees.old k ≡ 0 }
     ensures size { length degrees.new ≡ length degrees.old }
-    ensures counts { (k : ℕ) → k < vertices instance.now → slice_index degrees.new k ≡ edge_count_at instance.now (k + 1) }
-    ensures small { (k : ℕ) → k < vertices instance.now → slice_index degrees.new k ≤ 2 * EDGE_LIMIT }
+    ensures counts { (k : ℕ) → k < vertices instance.now → slice_index degrees.new k
+        ≡ edge_count_at instance.now (k + 1) }
+    ensures small { (k : ℕ) → k < vertices instance.now → slice_index degrees.new k
+        ≤ 2 * EDGE_LIMIT }
 {
     for edge in instance.edge_list() {
         add_edge(degrees, edge, 1);

@@ -1,7 +1,9 @@
-ghost use Rattle.std.specs.Prelude.{◌≡◌, ℕ, ◌+◌, ◌-◌, ◌*◌, ◌%◌, ◌<◌, ◌≤◌, ◌↔◌, length, All, List, slice_index, IsTrue, IfOk, IfSome};
+ghost use Rattle.std.specs.Prelude.{◌≡◌, ℕ, ◌+◌, ◌-◌, ◌*◌, ◌%◌, ◌<◌, ◌≤◌, ◌↔◌, length, All, List};
+ghost use Rattle.std.specs.Prelude.{slice_index, IsTrue, IfOk, IfSome};
 ghost use Rattle.graph_theory.specs.Graph.{IsPerfect};
 ghost use Rattle.mb_problem.specs.Network.{Network, graph_of, instance_edge_at};
-ghost use Rattle.mb_problem.specs.Feasible.{IsFeasible, IsMatching, IsBMatching, IsJoin, HasCounts, AtMostOnce, WithinCapacities};
+ghost use Rattle.mb_problem.specs.Feasible.{IsFeasible, IsMatching, IsBMatching, IsJoin, HasCounts};
+ghost use Rattle.mb_problem.specs.Feasible.{AtMostOnce, WithinCapacities};
 
 use crate::answer::Answer;
 use crate::degrees::degrees_of;
@@ -67,7 +69,8 @@ fn are_at_most_one(degrees: &[u64]) -> bool
 /// Whether each degree is the value of its vertex.
 fn are_values(degrees: &[u64], values: &[u32]) -> bool
     requires { length degrees.now ≡ length values.now }
-    ensures { IsTrue result ↔ ((k : ℕ) → k < length values.now → slice_index degrees.now k ≡ slice_index values.now k) }
+    ensures { IsTrue result ↔ ((k : ℕ) → k < length values.now → slice_index degrees.now k
+        ≡ slice_index values.now k) }
 {
     for (k, value) in values.iter().enumerate() {
         if degrees[k] != u64::from(*value) {
@@ -80,7 +83,8 @@ fn are_values(degrees: &[u64], values: &[u32]) -> bool
 /// Whether each degree is odd where the value of its vertex is, and only there.
 fn have_parities(degrees: &[u64], values: &[u32]) -> bool
     requires { length degrees.now ≡ length values.now }
-    ensures { IsTrue result ↔ ((k : ℕ) → k < length values.now → slice_index degrees.now k % 2 ≡ slice_index values.now k % 2) }
+    ensures { IsTrue result ↔ ((k : ℕ) → k < length values.now → slice_index degrees.now k % 2
+        ≡ slice_index values.now k % 2) }
 {
     for (k, value) in values.iter().enumerate() {
         if degrees[k] % 2 != u64::from(*value % 2) {
@@ -131,7 +135,8 @@ fn is_b_matching(alloc: Global, instance: &Instance, counts: &[u32]) -> Result<b
 
 /// Whether the degree of each vertex is its value, within the capacities.
 fn is_capacitated(alloc: Global, instance: &Instance, counts: &[u32]) -> Result<bool, OutOfMemory>
-    ensures { IfOk result (λ b. IsTrue b ↔ (IsBMatching instance.now counts.now × WithinCapacities instance.now counts.now)) }
+    ensures { IfOk result (λ b. IsTrue b ↔ (IsBMatching instance.now counts.now
+        × WithinCapacities instance.now counts.now)) }
 {
     if !is_b_matching(alloc, instance, counts)? {
         return Ok(false);
@@ -141,7 +146,8 @@ fn is_capacitated(alloc: Global, instance: &Instance, counts: &[u32]) -> Result<
 
 /// Whether the degree of each vertex is its value, with no edge used twice.
 fn is_factor(alloc: Global, instance: &Instance, counts: &[u32]) -> Result<bool, OutOfMemory>
-    ensures { IfOk result (λ b. IsTrue b ↔ (IsBMatching instance.now counts.now × AtMostOnce counts.now)) }
+    ensures { IfOk result (λ b. IsTrue b ↔ (IsBMatching instance.now counts.now
+        × AtMostOnce counts.now)) }
 {
     if !is_at_most_once(counts) {
         return Ok(false);
@@ -170,7 +176,8 @@ fn are_feasible(
     kind: Kind,
     counts: &[u32],
 ) -> Result<bool, OutOfMemory>
-    ensures { IfOk result (λ b. IsTrue b ↔ IsFeasible kind instance.now (Answer.Counts counts.now)) }
+    ensures { IfOk result (λ b. IsTrue b
+        ↔ IsFeasible kind instance.now (Answer.Counts counts.now)) }
 {
     match kind {
         Kind::Perfect => is_perfect(alloc, instance, counts),
@@ -191,7 +198,8 @@ fn is_feasible_walk(
     start: VertexId,
     edges: &[EdgeId],
 ) -> Result<bool, OutOfMemory>
-    ensures { IfOk result (λ b. IsTrue b ↔ IsFeasible kind instance.now (Answer.Walk start edges.now)) }
+    ensures { IfOk result (λ b. IsTrue b
+        ↔ IsFeasible kind instance.now (Answer.Walk start edges.now)) }
 {
     match kind {
         Kind::Postman => is_tour(alloc, instance, start, edges),
@@ -217,9 +225,10 @@ fn is_nothing_feasible(instance: &Instance, kind: Kind) -> bool
     }
 }
 
-/// Whether an answer is feasible for a kind, in time linear in the answer and in vertices and edges.
-/// Any answer may be asked about: counts aren't feasible where walks are wanted, or walks where counts
-/// are, nor is a list with another number of counts than edges or a walk with a number out of range.
+/// Whether an answer is feasible for a kind, in time linear in the answer and in vertices and
+/// edges. Any answer may be asked about: counts aren't feasible where walks are wanted, or walks
+/// where counts are, nor is a list with another number of counts than edges or a walk with a number
+/// out of range.
 pub fn feasible(
     alloc: Global,
     instance: &Instance,

@@ -1,4 +1,5 @@
-ghost use Rattle.std.specs.Prelude.{◌≡◌, ℕ, ◌+◌, ◌-◌, ◌<◌, ◌≤◌, ◌^◌, length, [], ◌∷◌, ◌++◌, replicate};
+ghost use Rattle.std.specs.Prelude.{◌≡◌, ℕ, ◌+◌, ◌-◌, ◌<◌, ◌≤◌, ◌^◌, length, [], ◌∷◌, ◌++◌};
+ghost use Rattle.std.specs.Prelude.{replicate};
 
 use crate::limits::{EDGE_LIMIT, VALUE_LIMIT, VERTEX_LIMIT};
 use mb_base::{EdgeId, OutOfMemory, VertexId};
@@ -16,8 +17,8 @@ pub struct InstanceEdge {
 }
 
 /// An instance: vertices 1 to n with a value each, and edges numbered from 1. It has at most
-/// `VERTEX_LIMIT` vertices and `EDGE_LIMIT` edges; weights are within `WEIGHT_LIMIT` of `graph_theory`, and
-/// values and capacities at most `VALUE_LIMIT`.
+/// `VERTEX_LIMIT` vertices and `EDGE_LIMIT` edges; weights are within `WEIGHT_LIMIT` of
+/// `graph_theory`, and values and capacities at most `VALUE_LIMIT`.
 #[derive(Drop, Debug)]
 pub struct Instance {
     alloc: Global,
@@ -33,13 +34,18 @@ impl Model for Instance {
 
     ghost view = { λ i. record { edges = i.edges.items; values = i.values.items } };
 
-    ghost invariant = { λ i. IsNetwork (record { edges = i.edges.items; values = i.values.items }) };
+    ghost invariant = { λ i. IsNetwork (record {
+      edges = i.edges.items;
+      values = i.values.items;
+    }) };
 }
 
 impl Instance {
-    ghost use Rattle.std.specs.Prelude.{◌≡◌, ◌≢◌, ℕ, ◌+◌, ◌-◌, ◌<◌, ◌≤◌, ◌^◌, length, [], ◌∷◌, ◌++◌, OnOk, OnErr, IfOk, ℤ, pos, replicate, slice_set};
+    ghost use Rattle.std.specs.Prelude.{◌≡◌, ◌≢◌, ℕ, ◌+◌, ◌-◌, ◌<◌, ◌≤◌, ◌^◌, length, [], ◌∷◌};
+    ghost use Rattle.std.specs.Prelude.{◌++◌, OnOk, OnErr, IfOk, ℤ, pos, replicate, slice_set};
     ghost use Rattle.graph_theory.specs.Graph.{IsWeight};
-    ghost use Rattle.mb_problem.specs.Network.{Network, IsNetwork, IsInstanceEdge, instance_edge_of, value_of, graph_of, vertices};
+    ghost use Rattle.mb_problem.specs.Network.{Network, IsNetwork, IsInstanceEdge};
+    ghost use Rattle.mb_problem.specs.Network.{instance_edge_of, value_of, graph_of, vertices};
 
     /// An instance of n vertices, each of this value, and no edges.
     pub fn new(alloc: Global, n: u32, value: u32) -> Result<Instance, OutOfMemory>
@@ -71,7 +77,9 @@ impl Instance {
     fn push(&mut self, edge: InstanceEdge) -> Result<EdgeId, OutOfMemory>
         requires room { length self.old.edges < EDGE_LIMIT }
         requires edge { IsInstanceEdge (vertices self.old) edge }
-        ensures added { OnOk result (self.new ≡ record self.old { edges = self.old.edges ++ edge ∷ [] }) }
+        ensures added { OnOk result (self.new ≡ record self.old {
+          edges = self.old.edges ++ edge ∷ [];
+        }) }
         ensures number { IfOk result (λ e. e ≡ length self.old.edges + 1) }
         ensures unchanged { OnErr result (self.new ≡ self.old) }
         ensures network { IsNetwork self.new }
@@ -89,8 +97,15 @@ impl Instance {
         capacity: Option<u32>,
     ) -> Result<EdgeId, OutOfMemory>
         requires room { length self.old.edges < EDGE_LIMIT }
-        requires edge { IsInstanceEdge (vertices self.old) (record { u = u; v = v; w = w; capacity = capacity }) }
-        ensures added { OnOk result (self.new ≡ record self.old { edges = self.old.edges ++ record { u = u; v = v; w = w; capacity = capacity } ∷ [] }) }
+        requires edge { IsInstanceEdge (vertices self.old) (record {
+          u = u;
+          v = v;
+          w = w;
+          capacity = capacity;
+        }) }
+        ensures added { OnOk result (self.new ≡ record self.old {
+          edges = self.old.edges ++ record { u = u; v = v; w = w; capacity = capacity } ∷ [];
+        }) }
         ensures number { IfOk result (λ e. e ≡ length self.old.edges + 1) }
         ensures unchanged { OnErr result (self.new ≡ self.old) }
         ensures network { IsNetwork self.new }
@@ -103,7 +118,8 @@ impl Instance {
         requires low { 1 ≤ v }
         requires high { v ≤ vertices self.old }
         requires small { value ≤ VALUE_LIMIT }
-        ensures set { self.new ≡ record self.old { values = slice_set self.old.values (v - 1) value } }
+        ensures set { self.new
+            ≡ record self.old { values = slice_set self.old.values (v - 1) value } }
         ensures network { IsNetwork self.new }
     {
         self.values[v.number() as usize - 1] = value;

@@ -1,6 +1,10 @@
 ghost use Rattle.std.specs.Prelude.{◌≡◌, ◌≤◌, length, Some};
 ghost use Rattle.mb_problem.specs.Words.{IsField};
-ghost use Rattle.mb_problem.specs.Kinds.{kind_text, kind_named, kind_number, kind_numbered, form_of, exclusion_of, sense_of, measure_of, proof_of, gadget_of, need_of, vertex_value_of, default_value_of, edge_use_of, start_of, asks_conservative, searches_of, is_drawn};
+ghost use Rattle.mb_problem.specs.Kinds.{kind_text, kind_named, kind_number, kind_numbered};
+ghost use Rattle.mb_problem.specs.Kinds.{form_of, exclusion_of, sense_of, measure_of, proof_of};
+ghost use Rattle.mb_problem.specs.Kinds.{gadget_of, need_of, vertex_value_of, default_value_of};
+ghost use Rattle.mb_problem.specs.Kinds.{edge_use_of, start_of, asks_conservative, searches_of};
+ghost use Rattle.mb_problem.specs.Kinds.{is_drawn};
 
 use crate::answer::Parity;
 use crate::gadget::{Capacities, GadgetForm};
@@ -357,8 +361,8 @@ impl Kind {
         }
     }
 
-    /// Whether answers are asked for only where no circuit weighs less than 0. A document of such a kind
-    /// may state that one does, in place of an answer.
+    /// Whether answers are asked for only where no circuit weighs less than 0. A document of such a
+    /// kind may state that one does, in place of an answer.
     pub fn asks_conservative(self) -> bool
         ensures { result ≡ asks_conservative self }
     {

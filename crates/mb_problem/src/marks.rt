@@ -1,4 +1,5 @@
-ghost use Rattle.std.specs.Prelude.{◌≡◌, ℕ, ◌-◌, ◌<◌, ◌≤◌, ◌↔◌, Bool, true, false, length, All, IsTrue, IfOk, slice_index_or, slice_set};
+ghost use Rattle.std.specs.Prelude.{◌≡◌, ℕ, ◌-◌, ◌<◌, ◌≤◌, ◌↔◌, Bool, true, false, length, All};
+ghost use Rattle.std.specs.Prelude.{IsTrue, IfOk, slice_index_or, slice_set};
 ghost use Rattle.graph_theory.specs.Walk.{AllDiffer};
 ghost use Rattle.mb_problem.specs.Marks.{AreMarks};
 
@@ -20,7 +21,8 @@ pub fn mark(marks: &mut [bool], number: u32) -> bool
 
 /// Whether there is no number without a mark.
 pub fn are_all_marked(marks: &[bool]) -> bool
-    ensures { IsTrue result ↔ ((k : ℕ) → k < length marks.now → slice_index_or marks.now k false ≡ true) }
+    ensures { IsTrue result ↔ ((k : ℕ) → k < length marks.now → slice_index_or marks.now k false
+        ≡ true) }
 {
     for marked in marks {
         if !*marked {

@@ -1,8 +1,11 @@
-ghost use Rattle.std.specs.Prelude.{◌≡◌, ℕ, ◌+◌, ◌-◌, ◌*◌, ◌/◌, ◌%◌, ◌<◌, ◌≤◌, min, max, length, slice_index};
+ghost use Rattle.std.specs.Prelude.{◌≡◌, ℕ, ◌+◌, ◌-◌, ◌*◌, ◌/◌, ◌%◌, ◌<◌, ◌≤◌, min, max, length};
+ghost use Rattle.std.specs.Prelude.{slice_index};
 ghost use Rattle.graph_theory.specs.Graph.{IsEdgeWithin};
 ghost use Rattle.graph_theory.specs.Sums.{sum_to};
 ghost use Rattle.mb_problem.specs.Network.{Network, IsNetwork, vertices, plain, value_of};
-ghost use Rattle.mb_problem.specs.Size.{size_by, size_of, capped_size, ports_size, bounded, limit_by, room_by, odd_by, odd_at, value_total, value_u, value_v, edge_count_at, port_count};
+ghost use Rattle.mb_problem.specs.Size.{size_by, size_of, capped_size, ports_size, bounded};
+ghost use Rattle.mb_problem.specs.Size.{limit_by, room_by, odd_by, odd_at, value_total, value_u};
+ghost use Rattle.mb_problem.specs.Size.{value_v, edge_count_at, port_count};
 
 use crate::answer::Parity;
 use crate::degrees::count_edges;
@@ -39,7 +42,8 @@ fn end_values(instance: &Instance, edge: &InstanceEdge) -> (u64, u64)
 
 /// The edges between copies of the ends of each edge.
 fn copied_edges(instance: &Instance) -> u64
-    ensures { result ≡ sum_to (λ k. value_u instance.now k * value_v instance.now k) (length instance.now.edges) }
+    ensures { result ≡ sum_to (λ k. value_u instance.now k * value_v instance.now k)
+        (length instance.now.edges) }
 {
     let mut total = 0;
     for edge in instance.edge_list() {
@@ -74,8 +78,11 @@ fn room(limit: Option<u32>, a: u64, b: u64) -> u64
 /// How often an edge can be used, and the edges of its gadget.
 fn edge_gadget(instance: &Instance, capacities: Capacities, edge: &InstanceEdge) -> (u64, u64)
     requires { IsEdgeWithin (vertices instance.now) (plain edge.now) }
-    ensures room { result.0 ≡ bounded (limit_by capacities edge.now) (min (value_of instance.now edge.now.u) (value_of instance.now edge.now.v)) }
-    ensures edges { result.1 ≡ result.0 * (value_of instance.now edge.now.u + result.0 + value_of instance.now edge.now.v) }
+    ensures room { result.0 ≡ bounded (limit_by capacities edge.now)
+        (min (value_of instance.now edge.now.u) (value_of instance.now edge.now.v)) }
+    ensures edges { result.1
+        ≡ result.0 *
+        (value_of instance.now edge.now.u + result.0 + value_of instance.now edge.now.v) }
     ensures few_rooms { result.0 ≤ VALUE_LIMIT }
     ensures few_edges { result.1 ≤ VALUE_LIMIT * (3 * VALUE_LIMIT) }
 {
@@ -86,7 +93,8 @@ fn edge_gadget(instance: &Instance, capacities: Capacities, edge: &InstanceEdge)
 
 /// The vertices and edges of the graph for edges with limits.
 fn capped_size(instance: &Instance, capacities: Capacities) -> (u64, u64)
-    ensures vertices { result.0 ≡ (capped_size instance.now (room_by capacities instance.now)).vertices }
+    ensures vertices { result.0
+        ≡ (capped_size instance.now (room_by capacities instance.now)).vertices }
     ensures edges { result.1 ≡ (capped_size instance.now (room_by capacities instance.now)).edges }
 {
     let mut rooms = 0;
@@ -133,10 +141,15 @@ fn pairs_of(count: u64) -> u64
 /// each vertex.
 fn all_ports(instance: &Instance, parity: Parity, degrees: &[u64]) -> (u64, u64)
     requires room { vertices instance.now ≤ length degrees.now }
-    requires counts { (k : ℕ) → k < vertices instance.now → slice_index degrees.now k ≡ edge_count_at instance.now (k + 1) }
-    requires small { (k : ℕ) → k < vertices instance.now → slice_index degrees.now k ≤ 2 * EDGE_LIMIT }
-    ensures ports { result.0 ≡ sum_to (λ k. port_count instance.now (odd_at parity instance.now) (k + 1)) (vertices instance.now) }
-    ensures pairs { result.1 ≡ sum_to (λ k. port_count instance.now (odd_at parity instance.now) (k + 1) * (port_count instance.now (odd_at parity instance.now) (k + 1) - 1) / 2) (vertices instance.now) }
+    requires counts { (k : ℕ) → k < vertices instance.now → slice_index degrees.now k
+        ≡ edge_count_at instance.now (k + 1) }
+    requires small { (k : ℕ) → k < vertices instance.now → slice_index degrees.now k
+        ≤ 2 * EDGE_LIMIT }
+    ensures ports { result.0 ≡ sum_to (λ k. port_count instance.now (odd_at parity instance.now)
+        (k + 1)) (vertices instance.now) }
+    ensures pairs { result.1 ≡ sum_to (λ k. port_count instance.now (odd_at parity instance.now)
+        (k + 1) * (port_count instance.now (odd_at parity instance.now) (k + 1) - 1) / 2)
+        (vertices instance.now) }
     ensures few_ports { result.0 ≤ (2 * EDGE_LIMIT + 1) * VERTEX_LIMIT }
     ensures few_pairs { result.1 ≤ (2 * EDGE_LIMIT + 1) * (2 * EDGE_LIMIT + 1) * VERTEX_LIMIT }
 {
@@ -171,7 +184,8 @@ fn greater(one: (u64, u64), other: (u64, u64)) -> (u64, u64)
 }
 
 /// How many vertices and edges the graph has that is built so from an instance; for the ports of a
-/// path the greater numbers of two graphs. It takes no memory, and time linear in vertices and edges.
+/// path the greater numbers of two graphs. It takes no memory, and time linear in vertices and
+/// edges.
 pub fn size_by(instance: &Instance, gadget: GadgetForm) -> (u64, u64)
     ensures vertices { result.0 ≡ (size_by gadget instance.now).vertices }
     ensures edges { result.1 ≡ (size_by gadget instance.now).edges }
@@ -192,8 +206,8 @@ pub fn size_by(instance: &Instance, gadget: GadgetForm) -> (u64, u64)
 }
 
 /// How many vertices and edges the graph has that certificates for an instance of this kind speak
-/// of, and searches for it; for a path the greater numbers of two graphs. It takes no memory, and time
-/// linear in vertices and edges.
+/// of, and searches for it; for a path the greater numbers of two graphs. It takes no memory, and
+/// time linear in vertices and edges.
 pub fn gadget_size(instance: &Instance, kind: Kind) -> (u64, u64)
     ensures vertices { result.0 ≡ (size_of kind instance.now).vertices }
     ensures edges { result.1 ≡ (size_of kind instance.now).edges }

@@ -1,4 +1,5 @@
-ghost use Rattle.std.specs.Prelude.{◌≡◌, ℕ, ◌+◌, ◌-◌, ◌<◌, ◌≤◌, ◌↔◌, ◌⊎◌, ◌%◌, true, length, All, IsTrue, IsSome, IfSome, IfOk, MatchOption};
+ghost use Rattle.std.specs.Prelude.{◌≡◌, ℕ, ◌+◌, ◌-◌, ◌<◌, ◌≤◌, ◌↔◌, ◌⊎◌, ◌%◌, true, length, All};
+ghost use Rattle.std.specs.Prelude.{IsTrue, IsSome, IfSome, IfOk, MatchOption};
 ghost use Rattle.graph_theory.specs.Graph.{IsEdgeNumber, edge_of, touches, other_end};
 ghost use Rattle.graph_theory.specs.Parts.{holds};
 ghost use Rattle.graph_theory.specs.Walk.{IsWalk, walk_end, walk_vertices, AllDiffer, IsCircuit};
@@ -13,8 +14,11 @@ use std::alloc::Global;
 /// Where an edge leads to from a vertex, if that is one of its ends.
 fn step(instance: &Instance, at: VertexId, e: EdgeId) -> Option<VertexId>
     ensures { MatchOption result
-        (¬ (IsEdgeNumber (graph_of instance.now) e × (touches (edge_of (graph_of instance.now) e) at ≡ true)))
-        (λ to. IsEdgeNumber (graph_of instance.now) e × (touches (edge_of (graph_of instance.now) e) at ≡ true) × (to ≡ other_end (edge_of (graph_of instance.now) e) at)) }
+        (¬ (IsEdgeNumber (graph_of instance.now) e
+        × (touches (edge_of (graph_of instance.now) e) at ≡ true)))
+        (λ to. IsEdgeNumber (graph_of instance.now) e
+        × (touches (edge_of (graph_of instance.now) e) at ≡ true)
+        × (to ≡ other_end (edge_of (graph_of instance.now) e) at)) }
 {
     if e.number() == 0 {
         return None;
@@ -46,7 +50,8 @@ fn walk_end(instance: &Instance, start: VertexId, edges: &[EdgeId]) -> Option<Ve
 
 /// Whether the edges are a walk from the start back to it.
 fn is_closed(instance: &Instance, start: VertexId, edges: &[EdgeId]) -> bool
-    ensures { IsTrue result ↔ (IsWalk (graph_of instance.now) start edges.now × (walk_end (graph_of instance.now) start edges.now ≡ start)) }
+    ensures { IsTrue result ↔ (IsWalk (graph_of instance.now) start edges.now
+        × (walk_end (graph_of instance.now) start edges.now ≡ start)) }
 {
     match walk_end(instance, start, edges) {
         Some(end) => end == start,
@@ -57,7 +62,8 @@ fn is_closed(instance: &Instance, start: VertexId, edges: &[EdgeId]) -> bool
 /// Whether each edge is listed.
 fn uses_all(alloc: Global, instance: &Instance, edges: &[EdgeId]) -> Result<bool, OutOfMemory>
     requires { All (IsEdgeNumber (graph_of instance.now)) edges.now }
-    ensures { IfOk result (λ b. IsTrue b ↔ ((e : ℕ) → 1 ≤ e → e ≤ length instance.now.edges → holds edges.now e ≡ true)) }
+    ensures { IfOk result (λ b. IsTrue b ↔ ((e : ℕ) → 1 ≤ e → e ≤ length instance.now.edges
+        → holds edges.now e ≡ true)) }
 {
     let marks = marks_of(alloc, instance.edges(), edges)?;
     Ok(are_all_marked(&marks))
@@ -73,7 +79,8 @@ fn vertices_differ(
     requires low { 1 ≤ start }
     requires high { start ≤ vertices instance.now }
     requires walk { IsWalk (graph_of instance.now) start edges.now }
-    ensures { IfOk result (λ b. IsTrue b ↔ AllDiffer (walk_vertices (graph_of instance.now) start edges.now)) }
+    ensures { IfOk result (λ b. IsTrue b
+        ↔ AllDiffer (walk_vertices (graph_of instance.now) start edges.now)) }
 {
     let mut marks = vec![in alloc; false; instance.vertices() as usize]?;
     mark(&mut marks, start.number());
@@ -158,9 +165,9 @@ pub fn is_path(
     vertices_differ(alloc, instance, start, edges)
 }
 
-/// Whether the edges are a circuit from this vertex: a closed walk of at least two edges that uses no
-/// edge and comes to no vertex twice, its start counted once (chapter 3). It takes time linear in the
-/// walk, the vertices and the edges.
+/// Whether the edges are a circuit from this vertex: a closed walk of at least two edges that uses
+/// no edge and comes to no vertex twice, its start counted once (chapter 3). It takes time linear
+/// in the walk, the vertices and the edges.
 pub fn is_circuit(
     alloc: Global,
     instance: &Instance,

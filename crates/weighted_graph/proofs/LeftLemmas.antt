@@ -11,7 +11,8 @@ use Rattle.graph_theory.proofs.Around.{around-has}
 use Rattle.graph_theory.proofs.Members.{holds_place}
 use Rattle.weighted_graph.specs.Left.{NoneLeft, ArePassed, IsTaken, TakesOne}
 
-pub takes-one : (g : Multigraph) (old : List ℕ) (v e x : ℕ) → IsEdgeNumber g e → touches (edge_of g e) v ≡ true → length old ≡ length g.edges → x ≡ slice_index old (e - 1) → 0 < x → TakesOne g old (slice_set old (e - 1) (x - 1)) v e
+pub takes-one : (g : Multigraph) (old : List ℕ) (v e x : ℕ) → IsEdgeNumber g e → touches (edge_of g e) v ≡ true → length old ≡ length g.edges → x ≡ slice_index old (e - 1) → 0 < x
+    → TakesOne g old (slice_set old (e - 1) (x - 1)) v e
 takes-one g old v e x number meets size is some = record {
   number = number;
   meets = meets;
@@ -58,7 +59,8 @@ degree-taken g old new v e x takes =
     let at : ℕ → ℕ = λ k. ends_at (edge_at g k) x in
     let one : ℕ → ℕ = λ k. cond (eqb e (k + 1)) (ends_at (edge_of g (k + 1)) x) 0 in
     let parts = sum_to-same (λ k. slice_index old k * at k) (λ k. slice_index new k * at k + one k) m
-    (λ k b. one_less (eqb e (k + 1)) (slice_index new k) (slice_index old k) (at k) (takes.taken k) ∙ ap (λ (d : Edge). slice_index new k * at k + cond (eqb e (k + 1)) (ends_at d x) 0) (sym (edge_of-place g k))) in
+    (λ k b. one_less (eqb e (k + 1)) (slice_index new k) (slice_index old k) (at k) (takes.taken k) ∙ ap (λ (d : Edge). slice_index new k * at k + cond (eqb e (k + 1)) (ends_at d x) 0)
+    (sym (edge_of-place g k))) in
     let both = sum_to-add (λ k. slice_index new k * at k) one m in
     let hit = sum_to-at_one (λ n. ends_at (edge_of g n) x) e m low high in
     omega (arith, parts, both, hit)

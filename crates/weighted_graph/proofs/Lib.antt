@@ -1,1 +1,3 @@
+pub mod Grouping
+pub mod IndexLemmas
 pub mod LeftLemmas

@@ -1,4 +1,5 @@
-ghost use Rattle.std.specs.Prelude.{◌≡◌, ℕ, ◌+◌, ◌<◌, ◌≤◌, ◌^◌, length, [], ◌∷◌, ◌++◌, ℤ, pos, ◌≤ℤ◌};
+ghost use Rattle.std.specs.Prelude.{◌≡◌, ℕ, ◌+◌, ◌<◌, ◌≤◌, ◌^◌, length, [], ◌∷◌, ◌++◌, ℤ, pos};
+ghost use Rattle.std.specs.Prelude.{◌≤ℤ◌};
 
 use crate::incidence::Incidence;
 use graph_theory::Edge;
@@ -28,8 +29,10 @@ impl Model for Graph {
 }
 
 impl Graph {
-    ghost use Rattle.std.specs.Prelude.{◌≡◌, ◌≢◌, ℕ, ◌+◌, ◌<◌, ◌≤◌, ◌^◌, length, [], ◌∷◌, ◌++◌, OnOk, OnErr, IfOk, ℤ, pos, ◌-◌};
-    ghost use Rattle.graph_theory.specs.Graph.{Multigraph, IsGraph, IsEdgeWithin, IsWeight, IsEdgeNumber, edge_of, other_end};
+    ghost use Rattle.std.specs.Prelude.{◌≡◌, ◌≢◌, ℕ, ◌+◌, ◌<◌, ◌≤◌, ◌^◌, length, [], ◌∷◌, ◌++◌};
+    ghost use Rattle.std.specs.Prelude.{OnOk, OnErr, IfOk, ℤ, pos, ◌-◌};
+    ghost use Rattle.graph_theory.specs.Graph.{Multigraph, IsGraph, IsEdgeWithin, IsWeight};
+    ghost use Rattle.graph_theory.specs.Graph.{IsEdgeNumber, edge_of, other_end};
     ghost use Rattle.weighted_graph.specs.Index.{IsIndex};
 
     /// A graph with n vertices and no edges. It takes no memory.
@@ -48,7 +51,9 @@ impl Graph {
         requires room { length self.old.edges < 2 ^ 32 - 1 }
         requires ends { IsEdgeWithin self.old.vertices edge }
         requires weight { IsWeight edge.w }
-        ensures added { OnOk result (self.new ≡ record self.old { edges = self.old.edges ++ edge ∷ [] }) }
+        ensures added { OnOk result (self.new ≡ record self.old {
+          edges = self.old.edges ++ edge ∷ [];
+        }) }
         ensures number { IfOk result (λ e. e ≡ length self.old.edges + 1) }
         ensures unchanged { OnErr result (self.new ≡ self.old) }
         ensures graph { IsGraph self.new }
@@ -62,7 +67,9 @@ impl Graph {
         requires room { length self.old.edges < 2 ^ 32 - 1 }
         requires ends { IsEdgeWithin self.old.vertices (record { u = u; v = v; w = w }) }
         requires weight { IsWeight w }
-        ensures added { OnOk result (self.new ≡ record self.old { edges = self.old.edges ++ record { u = u; v = v; w = w } ∷ [] }) }
+        ensures added { OnOk result (self.new ≡ record self.old {
+          edges = self.old.edges ++ record { u = u; v = v; w = w } ∷ [];
+        }) }
         ensures number { IfOk result (λ e. e ≡ length self.old.edges + 1) }
         ensures unchanged { OnErr result (self.new ≡ self.old) }
         ensures graph { IsGraph self.new }

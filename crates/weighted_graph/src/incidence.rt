@@ -1,50 +1,54 @@
-ghost use Rattle.std.specs.Prelude.{◌≡◌, ℕ, ◌+◌, ◌<◌, ◌≤◌, List, [], ◌∷◌, ◌++◌, length, map, slice_index_or, slice_set, OnOk, OnErr, IfOk};
+ghost use Rattle.std.specs.Prelude.{◌≡◌, ℕ, ◌*◌, ◌<◌, ◌≤◌, ◌^◌, length, All, IfOk};
+ghost use Rattle.graph_theory.specs.Graph.{Multigraph, IsEdgeWithin, edges_around};
+ghost use Rattle.weighted_graph.specs.Grouped.{items_of};
 
+use crate::by_vertex::ByVertex;
 use graph_theory::Edge;
 use mb_base::{EdgeId, OutOfMemory, VertexId};
 use std::alloc::Global;
 use std::marker::Model;
 
+/// The numbers of the edges beside their ends, in their order.
+fn ends_of(
+    alloc: Global,
+    vertices: u32,
+    edges: &[Edge],
+) -> Result<Vec<(VertexId, EdgeId)>, OutOfMemory>
+    requires few { length edges.now < 2 ^ 32 }
+    requires ends { All (IsEdgeWithin vertices) edges.now }
+    ensures size { IfOk result (λ entries. length entries.items ≡ 2 * length edges.now) }
+    ensures within { IfOk result (λ entries. All (λ e. e.0 ≤ vertices) entries.items) }
+    ensures exact { IfOk result (λ entries. (v : ℕ) → items_of entries.items v
+        ≡ edges_around (record { vertices = vertices; edges = edges.now }) v) }
+{
+    let mut entries = Vec::with_capacity(alloc, 2 * edges.len())?;
+    for (place, edge) in edges.iter().enumerate() {
+        let number = EdgeId::new(place as u32 + 1);
+        entries.push((edge.u, number))?;
+        entries.push((edge.v, number))?;
+    }
+    Ok(entries)
+}
+
 /// For each vertex of a graph the numbers of its edges, ascending. Contracts see the list of these
 /// lists, with an empty one at place 0, which is no vertex.
 #[derive(Drop, Debug)]
 pub struct Incidence {
-    lists: Vec<Vec<EdgeId>>,
+    lists: ByVertex<EdgeId>,
 }
 
 impl Model for Incidence {
-    ghost use Rattle.std.specs.Prelude.{ℕ, List, map};
+    ghost use Rattle.std.specs.Prelude.{ℕ, List};
 
     ghost Value = { List (List ℕ) };
 
-    ghost view = { λ i. map (λ l. l.items) i.lists.items };
+    ghost view = { λ i. i.lists };
 }
 
 impl Incidence {
-    ghost use Rattle.std.specs.Prelude.{◌≡◌, ℕ, ◌+◌, ◌<◌, ◌≤◌, ◌^◌, List, [], ◌∷◌, ◌++◌, length, slice_index_or, slice_set, OnOk, OnErr, IfOk, All};
+    ghost use Rattle.std.specs.Prelude.{◌≡◌, ◌<◌, ◌^◌, [], length, slice_index_or, IfOk, All};
     ghost use Rattle.graph_theory.specs.Graph.{Multigraph, IsEdgeWithin};
     ghost use Rattle.weighted_graph.specs.Index.{IsIndex};
-
-    /// Lists with nothing in them.
-    fn empty(alloc: Global, size: usize) -> Result<Self, OutOfMemory>
-        ensures size { IfOk result (λ i. length i ≡ size) }
-        ensures empty { IfOk result (λ i. (v : ℕ) → slice_index_or i v [] ≡ []) }
-    {
-        let mut lists: Vec<Vec<EdgeId>> = Vec::new(alloc);
-        for _ in 0..size {
-            lists.push(Vec::new(alloc))?;
-        }
-        Ok(Incidence { lists })
-    }
-
-    /// Puts an edge at the end of a vertex's list.
-    fn note(&mut self, vertex: VertexId, edge: EdgeId) -> Result<(), OutOfMemory>
-        requires { vertex < length self.old }
-        ensures { OnOk result (self.new ≡ slice_set self.old vertex (slice_index_or self.old vertex [] ++ edge ∷ [])) }
-    {
-        self.lists[vertex.number() as usize].push(edge)?;
-        Ok(())
-    }
 
     /// The index of a graph with this many vertices and these edges.
     pub fn of(alloc: Global, vertices: u32, edges: &[Edge]) -> Result<Self, OutOfMemory>
@@ -53,13 +57,9 @@ impl Incidence {
         requires ends { All (IsEdgeWithin vertices) edges.now }
         ensures { IfOk result (IsIndex (record { vertices = vertices; edges = edges.now })) }
     {
-        let mut incidence = Incidence::empty(alloc, vertices as usize + 1)?;
-        for (place, edge) in edges.iter().enumerate() {
-            let number = EdgeId::new(place as u32 + 1);
-            incidence.note(edge.u, number)?;
-            incidence.note(edge.v, number)?;
-        }
-        Ok(incidence)
+        let entries = ends_of(alloc, vertices, edges)?;
+        let lists = ByVertex::of(alloc, vertices, &entries)?;
+        Ok(Incidence { lists })
     }
 
     /// The numbers of the edges at a vertex, ascending, in constant time.
@@ -67,6 +67,6 @@ impl Incidence {
         requires { v < length self.now }
         ensures { result.now ≡ slice_index_or self.now v [] }
     {
-        &self.lists[v.number() as usize]
+        self.lists.at(v)
     }
 }

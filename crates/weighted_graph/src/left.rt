@@ -14,7 +14,8 @@ fn next_left(numbers: &[EdgeId], from: usize, left: &[u32]) -> usize
     requires passed { NoneLeft left.now numbers.now from }
     ensures high { result ≤ length numbers.now }
     ensures passed { NoneLeft left.now numbers.now result }
-    ensures left { result < length numbers.now → 0 < slice_index left.now (slice_index numbers.now result - 1) }
+    ensures left { result < length numbers.now
+        → 0 < slice_index left.now (slice_index numbers.now result - 1) }
 {
     for place in from..numbers.len() {
         if left[numbers[place].number() as usize - 1] > 0 {
@@ -24,9 +25,9 @@ fn next_left(numbers: &[EdgeId], from: usize, left: &[u32]) -> usize
     numbers.len()
 }
 
-/// Takes an edge at the vertex of which some count is left, and one off its count; `None` where none is
-/// left there. The cursor of the vertex passes the edges that are used up, so that all calls together
-/// take time linear in the edges and the counts.
+/// Takes an edge at the vertex of which some count is left, and one off its count; `None` where
+/// none is left there. The cursor of the vertex passes the edges that are used up, so that all
+/// calls together take time linear in the edges and the counts.
 pub fn take_left(
     graph: &Graph,
     index: &Incidence,

@@ -34,7 +34,8 @@ fn edges_and_their_index(rt: HostRuntime) -> Result<(), Fail> {
     Ok(())
 }
 
-// Two vertices in the middle, each with two rays, as the gates of an edge with capacity 1 between vertices of value 2.
+// Two vertices in the middle, each with two rays, as the gates of an edge with capacity 1 between
+// vertices of value 2.
 #[test]
 fn odd_parts_of_two_stars(rt: HostRuntime) -> Result<(), Fail> {
     let of = VertexId::new;

@@ -64,7 +64,8 @@ fn parity_at(v: u32, s: u32, t: u32) -> u64
 /// Whether the degree of each vertex is odd where it is `s` or `t`, and only there.
 fn have_parities(instance: &Instance, counts: &[u32], s: u32, t: u32) -> bool
     requires { length counts.now ≡ length instance.now.edges }
-    ensures { result ≡ true → ((v : ℕ) → 1 ≤ v → v ≤ vertices instance.now → degree (graph_of instance.now) counts.now v % 2 ≡ odd_between s t v) }
+    ensures { result ≡ true → ((v : ℕ) → 1 ≤ v → v ≤ vertices instance.now
+        → degree (graph_of instance.now) counts.now v % 2 ≡ odd_between s t v) }
 {
     for k in 0..instance.vertices() {
         if degree(instance, counts, VertexId::new(k + 1)) % 2 != parity_at(k + 1, s, t) {
@@ -82,7 +83,8 @@ pub fn joined(
     s: u32,
     t: u32,
 ) -> Result<Option<Join>, OutOfMemory>
-    ensures { IfOk result (λ found. IfSome found (λ join. ListsJoin instance.now (odd_between s t) join.edges)) }
+    ensures { IfOk result (λ found. IfSome found
+        (λ join. ListsJoin instance.now (odd_between s t) join.edges)) }
 {
     let mut edges = Vec::new(alloc);
     for number in numbers {

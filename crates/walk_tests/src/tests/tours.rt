@@ -46,7 +46,8 @@ const TOURS: [(&[u8], u32, usize, i128); 9] = [
     // Parallel edges: two, and three, of which the join has the first.
     (b"p edge 2 2\ne 1 2 3\ne 2 1 4\n", 1, 2, 7),
     (b"p edge 2 3\ne 2 1 5\ne 1 2 1\ne 2 1 1\n", 1, 4, 12),
-    // Trees, where each edge lies in the join of the odd vertices: a star of three, and a path of four.
+    // Trees, where each edge lies in the join of the odd vertices: a star of three, and a path of
+    // four.
     (b"p edge 4 3\ne 4 2 1\ne 4 3 2\ne 1 4 4\n", 1, 6, 14),
     (
         b"p edge 5 4\ne 5 2 1\ne 2 3 1\ne 3 4 0\ne 4 1 3\n",

@@ -12,5 +12,6 @@ returns c =
     let same : c.in_ok-mosts.mosts.items ≡ mosts kind i = c.in_ok-mosts.ensures.mosts in
     let last : c.loop-code.code ≡ c.list_count-count.result = omega arith in
     let all : c.loop-code.code ≡ digit_lists (mosts kind i) = last ∙ (c.list_count-count.ensures ∙ ap digit_lists (c.deref.ensures.value ∙ same)) in
-    let best : IsBestBelow kind i (mosts kind i) c.loop-code.code c.loop-code.found = subst (λ (ms : List ℕ). IsBestBelow kind i ms c.loop-code.code c.loop-code.found) same c.loop-code.invariant in
+    let best : IsBestBelow kind i (mosts kind i) c.loop-code.code c.loop-code.found = subst (λ (ms : List ℕ). IsBestBelow kind i ms c.loop-code.code c.loop-code.found) same
+    c.loop-code.invariant in
     best_or_none kind i c.loop-code.code c.loop-code.found c.edges-edges.ensures.network c.requires.kind all best

@@ -5,14 +5,16 @@ use Rattle.command_words.proofs.form.has_form.Goals as goal
 
 pub returns-in-len4 : goal.returns-in-len4
 returns-in-len4 c =
-    let same = four_words string_bytes c.args.words.now c.a-item-then-words-lt5.result c.b-item-then-words-lt5.result c.c-item.result (omega arith) c.a-item-then-words-lt5.is c.b-item-then-words-lt5.is c.c-item.is in
+    let same = four_words string_bytes c.args.words.now c.a-item-then-words-lt5.result c.b-item-then-words-lt5.result c.c-item.result
+    (omega arith) c.a-item-then-words-lt5.is c.b-item-then-words-lt5.is c.c-item.is in
     c.has_form_of_three.ensures
     ∙ ap₂ (λ a r. after_name_form (a ∷ r)) c.as_str-in-len4.ensures.value (ap₂ (λ b d. b ∷ d ∷ []) c.as_str-in-len4-2.ensures.value c.as_str-in-len4-3.ensures.value)
     ∙ sym (ap has_form same)
 
 pub returns-in-len6 : goal.returns-in-len6
 returns-in-len6 c =
-    let same = six_words string_bytes c.args.words.now c.a-item-then-words-lt7.result c.b-item-then-words-lt7.result c.c-item-then-words-lt7.result c.d-item.result c.e-item.result (omega arith) c.a-item-then-words-lt7.is c.b-item-then-words-lt7.is c.c-item-then-words-lt7.is c.d-item.is c.e-item.is in
+    let same = six_words string_bytes c.args.words.now c.a-item-then-words-lt7.result c.b-item-then-words-lt7.result c.c-item-then-words-lt7.result c.d-item.result c.e-item.result
+    (omega arith) c.a-item-then-words-lt7.is c.b-item-then-words-lt7.is c.c-item-then-words-lt7.is c.d-item.is c.e-item.is in
     c.has_form_of_five.ensures
     ∙ ap₂ (λ a r. after_name_form (a ∷ r)) c.as_str-in-len6.ensures.value
     (ap₂ (λ b r. b ∷ r) c.as_str-in-len6-2.ensures.value

@@ -1,11 +1,13 @@
-use Rattle.std.proofs.Common.{◌≡◌, ℕ, ◌+◌, List, length, slice_index, drop, Option, MatchOption, subst, sym, ap, ◌∙◌, arith}
+use Rattle.std.proofs.Common.{◌≡◌, true, ℕ, ◌+◌, List, length, slice_index, drop, Option, MatchOption, subst, sym, ap, ◌∙◌, arith}
 use Rattle.std.proofs.lemmas.Int.{ints}
-use Rattle.graph_theory.specs.Graph.{Multigraph}
+use Rattle.std.proofs.lemmas.List.{get_or_read}
+use Rattle.graph_theory.specs.Graph.{Multigraph, edge_of, touches}
+use Rattle.graph_theory.proofs.Edges.{touches-u}
 use Rattle.mb_problem.specs.Network.{graph_of}
 use Rattle.mb_problem.specs.Joins.{listed_counts}
-use Rattle.conservative_paths.specs.Trails.{IsNegativeEven, IsDrained, IsNegativeOver}
+use Rattle.conservative_paths.specs.Trails.{IsLeft, IsNegativeEven, IsDrained, IsNegativeOver}
 use Rattle.conservative_paths.specs.Within.{IsNegativeCircuitWithin}
-use Rattle.conservative_paths.proofs.Found.{join-even, circuit-within, all-gone}
+use Rattle.conservative_paths.proofs.Found.{one-more-gone, join-even, circuit-within, all-gone}
 use Rattle.conservative_paths.proofs.circuit.negative_circuit.Goals as goal
 
 pub loop-edge-init : goal.loop-edge-init
@@ -18,6 +20,29 @@ loop-edge-init c =
       even = subst (IsNegativeEven (graph_of i)) (sym counts) (join-even i c.args.join.now.edges c.requires.even c.requires.negative);
       fewer = λ k b. let same = ap (λ (xs : List ℕ). slice_index xs k) counts in omega (arith, same);
       none = λ j b. absurd (omega (arith, b));
+    }
+
+pub loop-edge-preserved : goal.loop-edge-preserved
+loop-edge-preserved c =
+    let i = c.args.instance.now in
+    let old = c.loop-edge.left.counts.items in
+    let new = c.close_from.new.left.counts.items in
+    let base = c.edge-base.result.0 in
+    let M : Option ℕ → Type 0 = λ found. MatchOption found (IsDrained c.in_ok-graph.graph base old new) (λ place. IsNegativeOver c.in_ok-graph.graph old c.close_from.new.trail.here (drop place c.close_from.new.trail.edges.items)) in
+    let found : IsDrained c.in_ok-graph.graph base old new = subst M c.in_default.is c.in_ok-place.ensures.found in
+    let drained : IsDrained (graph_of i) base old new = subst (λ (g : Multigraph). IsDrained g base old new) c.in_ok-graph.ensures found in
+    let join = c.args.join.now.edges in
+    let size : length c.as_slice-edge-items.result.now ≡ length join = ap length c.as_slice-edge-items.ensures in
+    let below = c.loop-edge-test.true in
+    let edge : c.edge-item.result ≡ slice_index join c.loop-edge.edge-index = get_or_read c.as_slice-edge-items.result.now c.loop-edge.edge-index c.edge-item.result below c.edge-item.is 0 ∙ ap (λ (es : List ℕ). slice_index es c.loop-edge.edge-index) c.as_slice-edge-items.ensures in
+    let from : base ≡ (edge_of (graph_of i) (slice_index join c.loop-edge.edge-index)).u = c.edge-base.ensures.from ∙ ap (λ (g : Multigraph). (edge_of g c.edge-item.result).u) c.in_ok-graph.ensures ∙ ap (λ (e : ℕ). (edge_of (graph_of i) e).u) edge in
+    let touched : touches (edge_of (graph_of i) (slice_index join c.loop-edge.edge-index)) base ≡ true = subst (λ (v : ℕ). touches (edge_of (graph_of i) (slice_index join c.loop-edge.edge-index)) v ≡ true) (sym from) (touches-u (edge_of (graph_of i) (slice_index join c.loop-edge.edge-index))) in
+    record {
+      left = subst (λ (g : Multigraph). IsLeft g c.close_from.new.left) c.in_ok-graph.ensures c.in_ok-place.ensures.left;
+      room = c.in_ok-place.ensures.room ∙ ap (λ (g : Multigraph). g.vertices + 1) c.in_ok-graph.ensures;
+      even = drained.even;
+      fewer = λ k b. let now = drained.fewer k b in let before = c.loop-edge.invariant.fewer k b in omega (arith, now, before);
+      none = one-more-gone (graph_of i) join old new base c.loop-edge.edge-index c.requires.even.in_range drained (omega (arith, size, below)) touched c.loop-edge.invariant.none;
     }
 
 pub returns-in-Some : goal.returns-in-Some

@@ -15,8 +15,10 @@ overflow_add-result c =
     let rs = instance_rows (rows c.args.bytes.now) in
     let d = c.in_ok-draft.draft in
     let draft = c.in_ok-draft.ensures in
-    let so_far : IsRead rs (length rs) d.header d.values.items d.edges.items d.negative = subst (λ (n : ℕ). IsRead rs n d.header d.values.items d.edges.items d.negative) draft.lines draft.so_far in
-    let within : (k : ℕ) → d.negative ≡ Some k → k ≤ d.lines = λ k e. let le = negative_within rs d.header d.values.items d.edges.items d.negative so_far k e in omega (arith, le, draft.lines) in
+    let so_far : IsRead rs (length rs) d.header d.values.items d.edges.items d.negative = subst (λ (n : ℕ). IsRead rs n d.header d.values.items d.edges.items d.negative) draft.lines
+    draft.so_far in
+    let within : (k : ℕ) → d.negative ≡ Some k → k ≤ d.lines = λ k e. let le = negative_within rs d.header d.values.items d.edges.items d.negative so_far k e in omega
+    (arith, le, draft.lines) in
     let place = end_place c.args.kind (sizes d.header) c.deref.result.now (length c.deref-2.result.now) d.negative d.lines c.in-Some.fault within (sym c.in-Some.ensures) in
     omega (arith, place, draft.short)
 
@@ -25,7 +27,8 @@ returns-in-Some-clause-reading c =
     let rs = instance_rows (rows c.args.bytes.now) in
     let d = c.in_ok-draft.draft in
     let draft = c.in_ok-draft.ensures in
-    let so_far : IsRead rs (length rs) d.header d.values.items d.edges.items d.negative = subst (λ (n : ℕ). IsRead rs n d.header d.values.items d.edges.items d.negative) draft.lines draft.so_far in
+    let so_far : IsRead rs (length rs) d.header d.values.items d.edges.items d.negative = subst (λ (n : ℕ). IsRead rs n d.header d.values.items d.edges.items d.negative) draft.lines
+    draft.so_far in
     let from : Some c.in-Some.fault ≡ end_fault_from c.args.kind (sizes d.header) d.values.items (length d.edges.items) d.negative (length rs) =
     rw (← c.deref.ensures.value, ← c.deref-2.ensures.value, ← draft.lines) c.in-Some.ensures in
     (c.in-Some.fault.place, refl, inr (record { faultless = so_far.faultless; fault = sym (end_same rs d.header d.values.items d.edges.items d.negative so_far c.args.kind) ∙ sym from }))
@@ -35,7 +38,8 @@ build-requires c =
     let rs = instance_rows (rows c.args.bytes.now) in
     let d = c.in_ok-draft.draft in
     let draft = c.in_ok-draft.ensures in
-    let so_far : IsRead rs (length rs) d.header d.values.items d.edges.items d.negative = subst (λ (n : ℕ). IsRead rs n d.header d.values.items d.edges.items d.negative) draft.lines draft.so_far in
+    let so_far : IsRead rs (length rs) d.header d.values.items d.edges.items d.negative = subst (λ (n : ℕ). IsRead rs n d.header d.values.items d.edges.items d.negative) draft.lines
+    draft.so_far in
     let whole = end_whole c.args.kind d.header c.deref.result.now (length c.deref-2.result.now) d.negative d.lines (sym c.in_default.ensures) in
     rw c.deref-3.ensures.value (network rs d.header d.values.items d.edges.items d.negative so_far c.args.kind whole.0 whole.1 (ap length (sym c.deref-2.ensures.value) ∙ whole.2))
 
@@ -44,7 +48,8 @@ returns-clause-reading c =
     let rs = instance_rows (rows c.args.bytes.now) in
     let d = c.in_ok-draft.draft in
     let draft = c.in_ok-draft.ensures in
-    let so_far : IsRead rs (length rs) d.header d.values.items d.edges.items d.negative = subst (λ (n : ℕ). IsRead rs n d.header d.values.items d.edges.items d.negative) draft.lines draft.so_far in
+    let so_far : IsRead rs (length rs) d.header d.values.items d.edges.items d.negative = subst (λ (n : ℕ). IsRead rs n d.header d.values.items d.edges.items d.negative) draft.lines
+    draft.so_far in
     let whole = end_whole c.args.kind d.header c.deref.result.now (length c.deref-2.result.now) d.negative d.lines (sym c.in_default.ensures) in
     let none : end_fault_from c.args.kind (sizes d.header) d.values.items (length d.edges.items) d.negative (length rs) ≡ None =
     rw (← c.deref.ensures.value, ← c.deref-2.ensures.value, ← draft.lines) (sym c.in_default.ensures) in

@@ -13,4 +13,5 @@ returns-clause-exact c = (
 )
 
 pub returns-clause-none : goal.returns-clause-none
-returns-clause-none c = λ t counts perfect. barrier_excludes c.args.graph.now c.args.set.now counts c.odd_components.ensures.graph (c.in_ok-odd.odd, c.in_ok-odd.ensures.count, ltb-true _ _ t) perfect
+returns-clause-none c = λ t counts perfect. barrier_excludes c.args.graph.now c.args.set.now counts c.odd_components.ensures.graph
+    (c.in_ok-odd.odd, c.in_ok-odd.ensures.count, ltb-true _ _ t) perfect

@@ -3,7 +3,7 @@ use Rattle.std.proofs.lemmas.List.{take_all}
 use Rattle.graph_theory.specs.Graph.{edge_of}
 use Rattle.graph_theory.specs.Parts.{holds}
 use Rattle.graph_parts.specs.Marks.{is_marked}
-use Rattle.dual_check.specs.Crossed.{total_of, leads_out}
+use Rattle.dual_check.specs.Crossed.{total_at, leads_out}
 use Rattle.std.proofs.lemmas.Int.{ints}
 use Rattle.dual_check.proofs.AddLemmas.{next_edge, all_edges, written_next, passed_next}
 use Rattle.dual_check.proofs.crossings.add_from.Goals as goal
@@ -34,10 +34,10 @@ overflow_add-totals c =
     let q = c.number-then-not-marks-number.result in
     let next = next_edge g v xs i p c.requires.numbers (omega arith) c.number-item.is in
     let so_far = c.loop-number.invariant.exact p (next.low, next.high) in
-    let none = ap (λ t. total_of c.args.totals.now p +ℤ cond (t && leads_out c.args.marks.now v (edge_of g p)) (to_z w64 (of_z w64 c.args.dual)) (pos 0)) next.new in
+    let none = ap (λ t. total_at c.args.totals.now p +ℤ cond (t && leads_out c.args.marks.now v (edge_of g p)) (to_z w64 (of_z w64 c.args.dual)) (pos 0)) next.new in
     let small = c.requires.small p (next.low, next.high) in
     let same : to_z w64 (of_z w64 c.args.dual) ≡ c.args.dual = search rules in
-    let place = ap (λ e. total_of c.loop-number.totals e) c.number-then-not-marks-number.ensures in
+    let place = ap (λ e. total_at c.loop-number.totals e) c.number-then-not-marks-number.ensures in
     omega (arith, ints, same, place, so_far, none, small.0, small.1, c.requires.dual.0, c.requires.dual.1, c.from.ensures)
 
 pub loop-number-preserved : goal.loop-number-preserved
@@ -56,10 +56,10 @@ loop-number-preserved c =
           let q = w.number-then-not-marks-number.result in
           let same = w.number-then-not-marks-number.ensures in
           let so_far = c.loop-number.invariant.exact p (next.low, next.high) in
-          let none = ap (λ t. total_of c.args.totals.now p +ℤ cond (t && leads_out marks v (edge_of g p)) dual (pos 0)) next.new in
+          let none = ap (λ t. total_at c.args.totals.now p +ℤ cond (t && leads_out marks v (edge_of g p)) dual (pos 0)) next.new in
           let small = c.requires.small p (next.low, next.high) in
           let number : to_z w64 (of_z w64 c.args.dual) ≡ c.args.dual = search rules in
-          let place = ap (λ e. total_of c.loop-number.totals e) same in
+          let place = ap (λ e. total_at c.loop-number.totals e) same in
           written_next g marks v xs i p q dual _ c.args.totals.now c.loop-number.totals c.if-not-marks-number.totals next (omega arith)
           (sym end ∙ w.if-not-marks-number.true) w.totals-is same (omega (arith, next.high, c.loop-number.invariant.size, c.requires.size))
           (omega (arith, ints, number, place, so_far, none, small.0, small.1, c.requires.dual.0, c.requires.dual.1, w.from.ensures)) c.loop-number.invariant
@@ -75,7 +75,9 @@ returns c =
       size = c.loop-number.invariant.size;
       exact = λ e b.
           c.loop-number.invariant.exact e b
-          ∙ ap (λ (ys : List ℕ). total_of c.args.totals.now e +ℤ cond (holds ys e && leads_out c.args.marks.now c.args.vertex (edge_of c.args.graph.now e)) (to_z w64 (of_z w64 c.args.dual)) (pos 0)) (take_all c.loop-number.number-index c.args.numbers.now (omega arith))
-          ∙ ap (λ t. total_of c.args.totals.now e +ℤ cond t (to_z w64 (of_z w64 c.args.dual)) (pos 0)) (all_edges c.args.graph.now c.args.marks.now c.args.vertex c.args.numbers.now e c.requires.numbers b)
-          ∙ ap (λ (z : ℤ). total_of c.args.totals.now e +ℤ cond (leads_out c.args.marks.now c.args.vertex (edge_of c.args.graph.now e)) z (pos 0)) same;
+          ∙ ap (λ (ys : List ℕ). total_at c.args.totals.now e +ℤ cond (holds ys e && leads_out c.args.marks.now c.args.vertex (edge_of c.args.graph.now e)) (to_z w64 (of_z w64 c.args.dual))
+          (pos 0)) (take_all c.loop-number.number-index c.args.numbers.now (omega arith))
+          ∙ ap (λ t. total_at c.args.totals.now e +ℤ cond t (to_z w64 (of_z w64 c.args.dual)) (pos 0)) (all_edges c.args.graph.now c.args.marks.now c.args.vertex c.args.numbers.now e
+          c.requires.numbers b)
+          ∙ ap (λ (z : ℤ). total_at c.args.totals.now e +ℤ cond (leads_out c.args.marks.now c.args.vertex (edge_of c.args.graph.now e)) z (pos 0)) same;
     }

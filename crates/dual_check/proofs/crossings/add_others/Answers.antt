@@ -7,7 +7,7 @@ use Rattle.graph_theory.specs.Parts.{crosses}
 use Rattle.graph_theory.specs.Duals.{set_at, no_set}
 use Rattle.graph_theory.proofs.SumLemmas.{int_sum_to-more}
 use Rattle.graph_parts.specs.Marks.{is_marked}
-use Rattle.dual_check.specs.Crossed.{total_of}
+use Rattle.dual_check.specs.Crossed.{total_at}
 use Rattle.dual_check.specs.Shared.{crossed_at, other_dual}
 use Rattle.dual_check.proofs.TakenLemmas.{others-within, none_more}
 use Rattle.dual_check.proofs.crossings.add_others.Goals as goal
@@ -17,7 +17,7 @@ pub add_set-requires-clause-small : goal.add_set-requires-clause-small
 add_set-requires-clause-small c = λ e b.
     let same = c.loop-k.invariant.exact e b in
     let r = others-within c.args.sets.now c.args.taken.now c.loop-k.k (edge_of c.args.graph.now e) (omega arith) c.requires.numbers in
-    let here = ap (λ (m : List ℤ). total_of m e) c.deref_mut-then-not-taken-k.ensures.value in
+    let here = ap (λ (m : List ℤ). total_at m e) c.deref_mut-then-not-taken-k.ensures.value in
     (omega (arith, ints, r.0, same, here), omega (arith, ints, r.1, same, here))
 
 pub loop-k-preserved : goal.loop-k-preserved
@@ -34,18 +34,21 @@ loop-k-preserved c =
           let old_marks = w.deref_mut.ensures.value in
           let long_totals = w.add_set.ensures.adds.size ∙ ap length old_totals in
           let long_marks = w.add_set.auto.marks ∙ ap length old_marks in
-          let totals : c.if-not-taken-k.totals.items ≡ w.add_set.new.totals = ap (λ x. x.items) w.totals-is ∙ with_items_is c.loop-k.totals w.add_set.new.totals (long_totals ∙ sym c.loop-k.totals.ok.0) in
-          let marks : c.if-not-taken-k.marks.items ≡ w.add_set.new.marks = ap (λ x. x.items) w.marks-is ∙ with_items_is c.loop-k.marks w.add_set.new.marks (long_marks ∙ sym c.loop-k.marks.ok.0) in
+          let totals : c.if-not-taken-k.totals.items ≡ w.add_set.new.totals = ap (λ x. x.items) w.totals-is ∙ with_items_is c.loop-k.totals w.add_set.new.totals (long_totals
+          ∙ sym c.loop-k.totals.ok.0) in
+          let marks : c.if-not-taken-k.marks.items ≡ w.add_set.new.marks = ap (λ x. x.items) w.marks-is ∙ with_items_is c.loop-k.marks w.add_set.new.marks (long_marks
+          ∙ sym c.loop-k.marks.ok.0) in
           record {
             size = ap length totals ∙ long_totals ∙ c.loop-k.invariant.size;
             marks = ap length marks ∙ long_marks ∙ c.loop-k.invariant.marks;
             none = λ v. ap (λ (m : List Bool). is_marked m v) marks ∙ w.add_set.ensures.none v;
             exact = λ e b.
                 let edge = edge_of g e in
-                ap (λ (m : List ℤ). total_of m e) totals ∙ w.add_set.ensures.adds.exact e b
-                ∙ ap (λ (z : OddSet). total_of w.deref_mut-then-not-taken-k.result.now e +ℤ cond (crosses z.members edge) z.dual (pos 0)) here
-                ∙ ap (λ z. z +ℤ cond (crosses (set_at sets k).members edge) (set_at sets k).dual (pos 0)) (ap (λ (m : List ℤ). total_of m e) old_totals ∙ c.loop-k.invariant.exact e b)
-                ∙ ap (λ t. crossed_at sets (other_dual sets taken) k edge +ℤ cond (crosses (set_at sets k).members edge) (cond t (pos 0) (set_at sets k).dual) (pos 0)) (sym w.if-not-taken-k.true)
+                ap (λ (m : List ℤ). total_at m e) totals ∙ w.add_set.ensures.adds.exact e b
+                ∙ ap (λ (z : OddSet). total_at w.deref_mut-then-not-taken-k.result.now e +ℤ cond (crosses z.members edge) z.dual (pos 0)) here
+                ∙ ap (λ z. z +ℤ cond (crosses (set_at sets k).members edge) (set_at sets k).dual (pos 0)) (ap (λ (m : List ℤ). total_at m e) old_totals ∙ c.loop-k.invariant.exact e b)
+                ∙ ap (λ t. crossed_at sets (other_dual sets taken) k edge +ℤ cond (crosses (set_at sets k).members edge) (cond t (pos 0) (set_at sets k).dual) (pos 0))
+                (sym w.if-not-taken-k.true)
                 ∙ sym (int_sum_to-more (λ j. cond (crosses (set_at sets j).members edge) (other_dual sets taken j) (pos 0)) k);
           }
       | else-not-taken-k w ↦
@@ -57,7 +60,7 @@ loop-k-preserved c =
             none = λ v. ap (λ (m : List Bool). is_marked m v) marks ∙ c.loop-k.invariant.none v;
             exact = λ e b.
                 let edge = edge_of g e in
-                ap (λ (m : List ℤ). total_of m e) totals ∙ c.loop-k.invariant.exact e b
+                ap (λ (m : List ℤ). total_at m e) totals ∙ c.loop-k.invariant.exact e b
                 ∙ none_more (crosses (set_at sets k).members edge) (is_marked taken k) (crossed_at sets (other_dual sets taken) k edge) (set_at sets k).dual w.if-not-taken-k.false
                 ∙ sym (int_sum_to-more (λ j. cond (crosses (set_at sets j).members edge) (other_dual sets taken j) (pos 0)) k);
           }

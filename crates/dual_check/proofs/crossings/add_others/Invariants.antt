@@ -1,7 +1,7 @@
 use Rattle.std.proofs.Common.{◌≡◌, ℕ, ◌+◌, false, length}
 use Rattle.graph_theory.specs.Graph.{IsEdgeNumber, edge_of}
 use Rattle.graph_parts.specs.Marks.{is_marked}
-use Rattle.dual_check.specs.Crossed.{total_of}
+use Rattle.dual_check.specs.Crossed.{total_at}
 use Rattle.dual_check.specs.Shared.{crossed_at, other_dual}
 use Rattle.dual_check.proofs.crossings.add_others.Given as goal
 
@@ -10,5 +10,5 @@ invariant-loop-k l = record {
   size : length l.totals.items ≡ length l.graph.edges + 1;
   marks : length l.marks.items ≡ l.graph.vertices + 1;
   none : (v : ℕ) → is_marked l.marks.items v ≡ false;
-  exact : (e : ℕ) → IsEdgeNumber l.graph e → total_of l.totals.items e ≡ crossed_at l.sets (other_dual l.sets l.taken) l.k (edge_of l.graph e);
+  exact : (e : ℕ) → IsEdgeNumber l.graph e → total_at l.totals.items e ≡ crossed_at l.sets (other_dual l.sets l.taken) l.k (edge_of l.graph e);
 }

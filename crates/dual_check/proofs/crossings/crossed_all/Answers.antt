@@ -3,7 +3,7 @@ use Rattle.std.proofs.lemmas.Int.{ints}
 use Rattle.std.proofs.lemmas.List.{with_items_is}
 use Rattle.std.specs.Vec.{with_items}
 use Rattle.graph_theory.specs.Graph.{edge_of}
-use Rattle.dual_check.specs.Crossed.{total_of}
+use Rattle.dual_check.specs.Crossed.{total_at}
 use Rattle.dual_check.specs.Shared.{crossed_at, other_dual, taken_dual}
 use Rattle.dual_check.proofs.TakenLemmas.{others-within, crossed_parted}
 use Rattle.dual_check.proofs.crossings.crossed_all.Goals as goal
@@ -12,7 +12,7 @@ pub add_taken-requires-clause-small : goal.add_taken-requires-clause-small
 add_taken-requires-clause-small c = λ e b.
     let r = others-within c.args.sets.now c.deref.result.now (length c.args.sets.now) (edge_of c.args.graph.now e) (omega arith) c.requires.numbers in
     let same = c.in_ok-totals.ensures.totals e b in
-    let here = ap (λ (m : List ℤ). total_of m e) c.deref_mut.ensures.value in
+    let here = ap (λ (m : List ℤ). total_at m e) c.deref_mut.ensures.value in
     (omega (arith, ints, r.0, same, here), omega (arith, ints, r.1, same, here))
 
 pub returns : goal.returns
@@ -21,15 +21,16 @@ returns c =
     let sets = c.args.sets.now in
     let narrow = c.in_ok-narrow.narrow.items in
     let long = c.in_ok-add_taken.ensures.size ∙ ap length c.deref_mut.ensures.value in
-    let totals : (with_items c.in_ok-totals.totals c.add_taken.new.totals).items ≡ c.add_taken.new.totals = with_items_is c.in_ok-totals.totals c.add_taken.new.totals (long ∙ sym c.in_ok-totals.totals.ok.0) in
+    let totals : (with_items c.in_ok-totals.totals c.add_taken.new.totals).items ≡ c.add_taken.new.totals = with_items_is c.in_ok-totals.totals c.add_taken.new.totals (long
+    ∙ sym c.in_ok-totals.totals.ok.0) in
     record {
       totals = record {
         size = ap length totals ∙ long ∙ c.in_ok-totals.ensures.size;
         exact = λ e b.
             let edge = edge_of g e in
-            let others = ap (λ (m : List ℤ). total_of m e) c.deref_mut.ensures.value ∙ c.in_ok-totals.ensures.totals e b
+            let others = ap (λ (m : List ℤ). total_at m e) c.deref_mut.ensures.value ∙ c.in_ok-totals.ensures.totals e b
             ∙ ap (λ (t : List Bool). crossed_at sets (other_dual sets t) (length sets) edge) c.deref.ensures.value in
             let taken = ap (λ (t : List Bool). crossed_at sets (taken_dual sets t) (length sets) edge) c.deref-3.ensures.value in
-            ap (λ (m : List ℤ). total_of m e) totals ∙ c.in_ok-add_taken.ensures.exact e b ∙ ap₂ (λ p q. p +ℤ q) others taken ∙ sym (crossed_parted sets narrow (length sets) edge);
+            ap (λ (m : List ℤ). total_at m e) totals ∙ c.in_ok-add_taken.ensures.exact e b ∙ ap₂ (λ p q. p +ℤ q) others taken ∙ sym (crossed_parted sets narrow (length sets) edge);
       };
     }

@@ -2,7 +2,7 @@ use Rattle.std.proofs.Common.{arith, ◌≡◌, ◌∙◌, ap, sym, ℕ, ℤ, �
 use Rattle.std.proofs.lemmas.Int.{ints}
 use Rattle.std.proofs.lemmas.Bool.{eqb-true}
 use Rattle.graph_theory.specs.Graph.{IsEdgeWithin, edge_of, other_end, touches, no_edge}
-use Rattle.dual_check.specs.Crossed.{total_of}
+use Rattle.dual_check.specs.Crossed.{total_at}
 use Rattle.dual_check.proofs.TakenLemmas.{left_at, left-within, given_to, given-within, given_more, all_given, unshared_is, none_left, whole-within, shared-within, no_items, nothing_given}
 use Rattle.dual_check.proofs.shares.add_taken.Goals as goal
 use Rattle.dual_check.proofs.shares.add_taken.Goals.{then-not-is_empty+in_ok-shares, else-not-is_empty}
@@ -28,7 +28,8 @@ add_unshared-requires-clause-small c = λ e b.
     let within : IsEdgeWithin g.vertices edge = c.vertices.ensures.graph.ends (e - 1) no_edge (omega arith) in
     let u = left-within sets taken edge.u (other_end edge edge.u) c.requires.numbers in
     let v = left-within sets taken edge.v (other_end edge edge.v) c.requires.numbers in
-    let r = given-within edge (λ w. left_at sets taken w (other_end edge w)) g.vertices c.loop-k.k (10 ^ 35) within (omega (arith, ints, u.0), omega (arith, ints, u.1)) (omega (arith, ints, v.0), omega (arith, ints, v.1)) in
+    let r = given-within edge (λ w. left_at sets taken w (other_end edge w)) g.vertices c.loop-k.k (10 ^ 35) within (omega (arith, ints, u.0), omega (arith, ints, u.1))
+    (omega (arith, ints, v.0), omega (arith, ints, v.1)) in
     let same = c.loop-k.invariant.exact e b in
     let small = c.requires.small e b in
     (omega (arith, ints, r.0, same, small.0), omega (arith, ints, r.1, same, small.1))
@@ -48,14 +49,15 @@ loop-k-preserved c =
           let edge = edge_of g e in
           let left = left_at sets taken in
           let given = λ (w : ℕ). left_at sets taken w (other_end edge w) in
-          let step : total_of c.if-not-is_empty.totals e ≡ (total_of c.loop-k.totals e +ℤ cond (touches edge u) (given u) (pos 0)) =
+          let step : total_at c.if-not-is_empty.totals e ≡ (total_at c.loop-k.totals e +ℤ cond (touches edge u) (given u) (pos 0)) =
           elim c.if-not-is_empty.branch [
             | then-not-is_empty+in_ok-shares w ↦
-                ap (λ (m : List ℤ). total_of m e) w.totals-is ∙ w.add_unshared.ensures.exact e b
-                ∙ ap (λ z. total_of c.loop-k.totals e +ℤ cond (touches edge u) z (pos 0)) (unshared_is _ _ sets taken lists list w.in_ok-shares.shares u (other_end edge u) c.requires.holders c.at-list.ensures w.in_ok-shares.ensures)
+                ap (λ (m : List ℤ). total_at m e) w.totals-is ∙ w.add_unshared.ensures.exact e b
+                ∙ ap (λ z. total_at c.loop-k.totals e +ℤ cond (touches edge u) z (pos 0)) (unshared_is _ _ sets taken lists list w.in_ok-shares.shares u
+                (other_end edge u) c.requires.holders c.at-list.ensures w.in_ok-shares.ensures)
             | else-not-is_empty w ↦
                 let none : get_or lists u [] ≡ [] = sym c.at-list.ensures ∙ no_items list (eqb-true (length list) 0 (sym c.is_empty.ensures ∙ w.if-not-is_empty.false)) in
-                ap (λ (m : List ℤ). total_of m e) w.totals-is ∙ nothing_given (touches edge u) _ _ (none_left _ sets taken lists u (other_end edge u) c.requires.holders none)
+                ap (λ (m : List ℤ). total_at m e) w.totals-is ∙ nothing_given (touches edge u) _ _ (none_left _ sets taken lists u (other_end edge u) c.requires.holders none)
           ] in
           let next = ap (λ v. cond (touches edge v) (given v) (pos 0)) c.new-vertex.ensures in
           let more = given_more edge given k in
@@ -73,5 +75,6 @@ returns c =
           let within : IsEdgeWithin g.vertices edge = c.vertices-k-end.ensures.graph.ends (e - 1) no_edge (omega arith) in
           let last : c.loop-k.k ≡ g.vertices = omega (arith, c.vertices-k-end.ensures.count) in
           c.loop-k.invariant.exact e b
-          ∙ ap (λ z. total_of c.args.totals.now e +ℤ z) (ap (λ n. given_to edge (λ w. left_at c.args.sets.now c.args.taken.now w (other_end edge w)) n) last ∙ all_given c.args.sets.now c.args.taken.now edge g.vertices within);
+          ∙ ap (λ z. total_at c.args.totals.now e +ℤ z) (ap (λ n. given_to edge (λ w. left_at c.args.sets.now c.args.taken.now w (other_end edge w)) n) last
+          ∙ all_given c.args.sets.now c.args.taken.now edge g.vertices within);
     }

@@ -4,7 +4,7 @@ use Rattle.std.proofs.lemmas.Int.{ints}
 use Rattle.std.proofs.lemmas.List.{get_or_read}
 use Rattle.graph_theory.specs.Parts.{holds}
 use Rattle.graph_theory.proofs.Members.{not_before}
-use Rattle.dual_check.specs.Crossed.{total_of}
+use Rattle.dual_check.specs.Crossed.{total_at}
 use Rattle.dual_check.proofs.ShareLemmas.{given_at}
 use Rattle.dual_check.proofs.shares.share.Goals as goal
 
@@ -20,8 +20,8 @@ loop-vertex-preserved c =
     let fresh : holds (take i xs) q ≡ false = ap (λ v. holds (take i xs) v) place ∙ not_before xs i c.requires.ascending (omega arith) in
     let low : x < length c.args.totals.now = search rules in
     let within : q < length c.loop-vertex.totals = omega (arith, low, c.number.ensures, c.loop-vertex.invariant.size) in
-    let now = total_of c.loop-vertex.totals q in
-    let before : now ≡ (total_of c.args.totals.now q +ℤ pos 0) = c.loop-vertex.invariant.exact q ∙ ap (λ t. total_of c.args.totals.now q +ℤ cond t dual (pos 0)) fresh in
+    let now = total_at c.loop-vertex.totals q in
+    let before : now ≡ (total_at c.args.totals.now q +ℤ pos 0) = c.loop-vertex.invariant.exact q ∙ ap (λ t. total_at c.args.totals.now q +ℤ cond t dual (pos 0)) fresh in
     let small = c.requires.small q in
     let same : dual ≡ c.args.dual = search rules in
     let value : to_z w128 (of_z w128 (to_z w128 (of_z w128 now) +ℤ to_z w128 (of_z w128 c.from.result))) ≡ (now +ℤ dual) =

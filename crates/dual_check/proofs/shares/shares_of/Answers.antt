@@ -6,8 +6,8 @@ use Rattle.graph_theory.specs.declared.odd_set.OddSet.{OddSet}
 use Rattle.graph_theory.specs.Parts.{holds}
 use Rattle.graph_theory.specs.Duals.{set_at, no_set, IsNumber}
 use Rattle.graph_theory.proofs.SumLemmas.{int_sum_to-more}
-use Rattle.dual_check.specs.Crossed.{total_of}
-use Rattle.dual_check.specs.Shared.{dual_at, dual_with}
+use Rattle.dual_check.specs.Crossed.{total_at}
+use Rattle.dual_check.specs.Shared.{set_dual, dual_with}
 use Rattle.dual_check.proofs.ShareLemmas.{sum-within, listed_dual, listed_with}
 use Rattle.dual_check.proofs.shares.shares_of.Goals as goal
 
@@ -16,7 +16,7 @@ overflow_add-whole c =
     let i = c.loop-number.number-index in
     let sets = c.args.sets.now in
     let list = c.args.list.now in
-    let r = sum-within (λ a. dual_at sets (get_or list a 0)) i (λ a b. listed_dual sets list a c.requires.numbers c.requires.list (omega arith)) in
+    let r = sum-within (λ a. set_dual sets (get_or list a 0)) i (λ a b. listed_dual sets list a c.requires.numbers c.requires.list (omega arith)) in
     let s = c.index-sets-number.result in
     let here : s ≡ set_at sets (get_or list i 0) = get_or_read sets (get_or list i 0) s (c.requires.list i 0 (omega arith)) c.index-sets-number.is no_set in
     let small : IsNumber s.dual = subst (λ (z : OddSet). IsNumber z.dual) (sym here) (listed_dual sets list i c.requires.numbers c.requires.list (omega arith)) in
@@ -29,7 +29,7 @@ share-requires-clause-small c = λ v.
     let list = c.args.list.now in
     let r = sum-within (λ a. dual_with sets v (get_or list a 0)) i (λ a b. listed_with sets list v a c.requires.numbers c.requires.list (omega arith)) in
     let same = c.loop-number.invariant.exact v in
-    let here = ap (λ (m : List ℤ). total_of m v) c.deref_mut.ensures.value in
+    let here = ap (λ (m : List ℤ). total_at m v) c.deref_mut.ensures.value in
     (omega (arith, ints, r.0, same, here), omega (arith, ints, r.1, same, here))
 
 pub loop-number-preserved : goal.loop-number-preserved
@@ -40,21 +40,22 @@ loop-number-preserved c =
     let j = get_or list i 0 in
     let s = c.index-sets-number.result in
     let here : s ≡ set_at sets j = get_or_read sets j s (c.requires.list i 0 (omega arith)) c.index-sets-number.is no_set in
-    let dual : s.dual ≡ dual_at sets j = ap (λ (z : OddSet). z.dual) here in
-    let small : IsNumber (dual_at sets j) = listed_dual sets list i c.requires.numbers c.requires.list (omega arith) in
-    let r = sum-within (λ a. dual_at sets (get_or list a 0)) i (λ a b. listed_dual sets list a c.requires.numbers c.requires.list (omega arith)) in
-    let more = int_sum_to-more (λ a. dual_at sets (get_or list a 0)) i in
+    let dual : s.dual ≡ set_dual sets j = ap (λ (z : OddSet). z.dual) here in
+    let small : IsNumber (set_dual sets j) = listed_dual sets list i c.requires.numbers c.requires.list (omega arith) in
+    let r = sum-within (λ a. set_dual sets (get_or list a 0)) i (λ a b. listed_dual sets list a c.requires.numbers c.requires.list (omega arith)) in
+    let more = int_sum_to-more (λ a. set_dual sets (get_or list a 0)) i in
     let long = c.share.auto.totals ∙ ap length c.deref_mut.ensures.value in
-    let totals : (with_items c.loop-number.with_vertex c.share.new.totals).items ≡ c.share.new.totals = with_items_is c.loop-number.with_vertex c.share.new.totals (long ∙ sym c.loop-number.with_vertex.ok.0) in
-    let same : to_z w64 (of_z w64 s.dual) ≡ dual_at sets j = omega (arith, ints, small.0, small.1, dual) in
+    let totals : (with_items c.loop-number.with_vertex c.share.new.totals).items ≡ c.share.new.totals = with_items_is c.loop-number.with_vertex c.share.new.totals (long
+    ∙ sym c.loop-number.with_vertex.ok.0) in
+    let same : to_z w64 (of_z w64 s.dual) ≡ set_dual sets j = omega (arith, ints, small.0, small.1, dual) in
     record {
       size = ap length totals ∙ long ∙ c.loop-number.invariant.size;
       whole = omega (arith, ints, r.0, r.1, c.loop-number.invariant.whole, c.loop-number.whole-is, small.0, small.1, c.from-whole.ensures, dual, more);
       exact = λ v.
           let members = ap (λ (xs : List ℕ). holds xs v) (c.as_slice.ensures ∙ ap (λ (z : OddSet). z.members) here) in
-          ap (λ (m : List ℤ). total_of m v) totals ∙ c.share.ensures v
-          ∙ ap (λ t. total_of c.deref_mut.result.now v +ℤ cond t (to_z w64 (of_z w64 s.dual)) (pos 0)) members
-          ∙ ap (λ (z : ℤ). total_of c.deref_mut.result.now v +ℤ cond (holds (set_at sets j).members v) z (pos 0)) same
-          ∙ ap (λ (z : ℤ). z +ℤ dual_with sets v j) (ap (λ (m : List ℤ). total_of m v) c.deref_mut.ensures.value ∙ c.loop-number.invariant.exact v)
+          ap (λ (m : List ℤ). total_at m v) totals ∙ c.share.ensures v
+          ∙ ap (λ t. total_at c.deref_mut.result.now v +ℤ cond t (to_z w64 (of_z w64 s.dual)) (pos 0)) members
+          ∙ ap (λ (z : ℤ). total_at c.deref_mut.result.now v +ℤ cond (holds (set_at sets j).members v) z (pos 0)) same
+          ∙ ap (λ (z : ℤ). z +ℤ dual_with sets v j) (ap (λ (m : List ℤ). total_at m v) c.deref_mut.ensures.value ∙ c.loop-number.invariant.exact v)
           ∙ sym (int_sum_to-more (λ a. dual_with sets v (get_or list a 0)) i);
     }

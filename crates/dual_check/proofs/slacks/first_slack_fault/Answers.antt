@@ -6,7 +6,7 @@ use mir.Syntax.{w128}
 use Rattle.graph_theory.specs.declared.edge.Edge.{Edge}
 use Rattle.graph_theory.specs.Duals.{slack}
 use Rattle.graph_theory.specs.Graph.{edge_at, edge_of, no_edge}
-use Rattle.dual_check.specs.Crossed.{total_of}
+use Rattle.dual_check.specs.Crossed.{total_at}
 use Rattle.dual_check.proofs.CrossLemmas.{crossed-within, slack_is}
 use Rattle.dual_check.proofs.slacks.first_slack_fault.Goals as goal
 
@@ -23,10 +23,11 @@ loop-k-preserved c =
     let k = c.loop-k.k in
     let e = c.edge-item.result in
     let whole : length c.edge_list-edge-items.result.now ≡ length g.edges = ap length c.edge_list-edge-items.ensures.list in
-    let here : edge_at g k ≡ e = ap (λ (es : List Edge). slice_index_or es k no_edge) (sym c.edge_list-edge-items.ensures.list) ∙ sym (get_or_read _ k e c.loop-k-test.true c.edge-item.is no_edge) in
+    let here : edge_at g k ≡ e = ap (λ (es : List Edge). slice_index_or es k no_edge) (sym c.edge_list-edge-items.ensures.list)
+    ∙ sym (get_or_read _ k e c.loop-k-test.true c.edge-item.is no_edge) in
     let exact = c.requires.totals.exact (k + 1) (omega arith, omega arith) in
     let r = crossed-within c.args.sets.now (length c.args.sets.now) (edge_of g (k + 1)) (omega arith) c.requires.set_numbers in
-    let back : to_z w128 (of_z w128 (total_of c.args.totals.now (k + 1))) ≡ total_of c.args.totals.now (k + 1) = search rules in
+    let back : to_z w128 (of_z w128 (total_at c.args.totals.now (k + 1))) ≡ total_at c.args.totals.now (k + 1) = search rules in
     let same = slack_is g c.args.y.now c.args.sets.now k e _ _ here (back ∙ exact) c.slack_of.ensures in
     let low : pos 0 ≤ℤ c.slack_of.result = grind (arith, ints) in
     let P : ℤ → Type 0 = λ z. pos 0 ≤ℤ z in
@@ -43,9 +44,10 @@ returns-then-slack_of-lt0-clause-slacks c =
     let k = c.loop-k.k in
     let e = c.edge-item.result in
     let whole : length c.edge_list-edge-items.result.now ≡ length g.edges = ap length c.edge_list-edge-items.ensures.list in
-    let here : edge_at g k ≡ e = ap (λ (es : List Edge). slice_index_or es k no_edge) (sym c.edge_list-edge-items.ensures.list) ∙ sym (get_or_read _ k e c.loop-k-test.true c.edge-item.is no_edge) in
+    let here : edge_at g k ≡ e = ap (λ (es : List Edge). slice_index_or es k no_edge) (sym c.edge_list-edge-items.ensures.list)
+    ∙ sym (get_or_read _ k e c.loop-k-test.true c.edge-item.is no_edge) in
     let exact = c.requires.totals.exact (k + 1) (omega arith, omega arith) in
-    let back : to_z w128 (of_z w128 (total_of c.args.totals.now (k + 1))) ≡ total_of c.args.totals.now (k + 1) = search rules in
+    let back : to_z w128 (of_z w128 (total_at c.args.totals.now (k + 1))) ≡ total_at c.args.totals.now (k + 1) = search rules in
     let same = slack_is g c.args.y.now c.args.sets.now k e _ _ here (back ∙ exact) c.slack_of.ensures in
     let number : c.new.result ≡ k + 1 = omega (arith, c.new.ensures, c.edge_list-edge-items.ensures.graph.few_edges) in
     let place : c.new.result - 1 ≡ k = omega arith in

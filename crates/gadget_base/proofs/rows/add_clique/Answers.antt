@@ -24,4 +24,5 @@ returns-in_err-add_row-clause-cut_short c =
     let n = c.args.n in
     let before = c.args.before in
     on_err c.from_residual.result
-    (cut-block c.args.graph.now c.loop-a.graph c.add_row.new.graph (λ a. row (before + a + 1) (before + a + 1) (n - 1 - a) (pos 0)) c.loop-a.a n (omega arith) c.loop-a.invariant.added c.in_err-add_row.ensures.cut_short)
+    (cut-block c.args.graph.now c.loop-a.graph c.add_row.new.graph (λ a. row (before + a + 1) (before + a + 1) (n - 1 - a) (pos 0)) c.loop-a.a n
+    (omega arith) c.loop-a.invariant.added c.in_err-add_row.ensures.cut_short)

@@ -25,4 +25,5 @@ returns-in_err-add_row-clause-cut_short c =
     let old = c.args.graph.now in
     let new = c.add_row.new.graph in
     let P : ℤ → Type 0 = λ z. AddsFirst old new (rectangle c.args.first c.args.m c.args.second c.args.n z) in
-    on_err c.from_residual.result (subst P same (cut-block old c.loop-a.graph new (λ a. row (c.args.first + a + 1) c.args.second c.args.n w) c.loop-a.a c.args.m (omega arith) c.loop-a.invariant.added c.in_err-add_row.ensures.cut_short))
+    on_err c.from_residual.result (subst P same (cut-block old c.loop-a.graph new (λ a. row (c.args.first + a + 1) c.args.second c.args.n w) c.loop-a.a c.args.m
+    (omega arith) c.loop-a.invariant.added c.in_err-add_row.ensures.cut_short))

@@ -18,5 +18,9 @@ returns-in_err-add-clause-cut_short c =
     let same : w ≡ c.args.w = search rules in
     let old = c.args.graph.now in
     let new = c.add.new.self in
-    let cut = cut-row old new (λ j. record { u = c.args.u; v = c.args.before + j + 1; w = w }) c.loop-j.j c.args.count (omega arith) (c.in_err-add.ensures.unchanged ∙ c.loop-j.invariant.added) in
+    let cut = cut-row old new (λ j. record {
+      u = c.args.u;
+      v = c.args.before + j + 1;
+      w = w;
+    }) c.loop-j.j c.args.count (omega arith) (c.in_err-add.ensures.unchanged ∙ c.loop-j.invariant.added) in
     on_err c.from_residual.result (subst (λ (z : ℤ). AddsFirst old new (row c.args.u c.args.before c.args.count z)) same cut)

@@ -28,6 +28,8 @@ returns-else-place-starts c = λ o _.
     let e : InstanceEdge = c.index-edge_list-k.result in
     let there : k < length c.edge_list.result.now = rw c.edge_list.ensures.list (omega arith) in
     let here : e ≡ instance_edge_at i k = edge_here i c.edge_list.result.now k e c.edge_list.ensures.list there c.index-edge_list-k.is in
-    let entries : c.gate_sizes-entries.result.0 ≡ value_u i k * room k = c.gate_sizes-entries.ensures.entries ∙ ap (λ (t : InstanceEdge). value_of i t.u * room_at c.args.unit i t) here ∙ ap (λ (r : ℕ). value_u i k * r) (room-is c.args.unit i k) in
+    let entries : c.gate_sizes-entries.result.0 ≡ value_u i k * room k = c.gate_sizes-entries.ensures.entries ∙ ap (λ (t : InstanceEdge). value_of i t.u * room_at c.args.unit i t) here
+    ∙ ap (λ (r : ℕ). value_u i k * r) (room-is c.args.unit i k) in
     let past = c.if-place-starts.false in
-    enters-none i room k o c.args.edge (omega (arith, start, begun, number, wide, low)) (omega (arith, next, more, ended, number, wide, low)) (omega (arith, past, start, entries, number, wide, low))
+    enters-none i room k o c.args.edge (omega (arith, start, begun, number, wide, low)) (omega (arith, next, more, ended, number, wide, low))
+    (omega (arith, past, start, entries, number, wide, low))

@@ -37,7 +37,8 @@ overflow_add-index_mut c =
     let perfect : IsPerfectList (capped_graph i room) es = subst (λ (g : Multigraph). IsPerfectList g es) (graph-is unit i) c.requires.perfect in
     let some : (k < length i.edges) × (enters i room k e ≡ true) = subst (IsEntry i room e) c.in-Some.is c.entered_by.ensures in
     let read : e ≡ slice_index_or es p e = c.edge-item.is in
-    let count : c.index_mut.result.now ≡ slice_index c.loop-edge.counts.items k = get_or_read c.loop-edge.counts.items k c.index_mut.result.now (omega (arith, c.loop-edge.invariant.size, some.0)) c.index_mut.ensures.value 0 in
+    let count : c.index_mut.result.now ≡ slice_index c.loop-edge.counts.items k = get_or_read c.loop-edge.counts.items k c.index_mut.result.now
+    (omega (arith, c.loop-edge.invariant.size, some.0)) c.index_mut.ensures.value 0 in
     let old = c.loop-edge.invariant.each k some.0 in
     let more = entries-more i room es k p e net perfect some.0 c.loop-edge-test.true (subst (λ x. enters i room k x ≡ true) read some.1) in
     let small = room-small unit i k net some.0 in
@@ -90,7 +91,8 @@ returns-clause-feasible c =
     let past = c.loop-edge-test.false in
     let whole : take c.loop-edge.edge-index es ≡ es = take_all c.loop-edge.edge-index es (omega (arith, past)) in
     let items : c.from_vec.result ≡ c.loop-edge.counts.items = c.from_vec.ensures in
-    let each : (k : ℕ) → k < length i.edges → slice_index c.loop-edge.counts.items k ≡ count_by (enters i (capped_room unit i) k) es = λ k b. c.loop-edge.invariant.each k b ∙ ap (λ xs. count_by (enters i (capped_room unit i) k) xs) whole in
+    let each : (k : ℕ) → k < length i.edges → slice_index c.loop-edge.counts.items k ≡ count_by (enters i (capped_room unit i) k) es = λ k b. c.loop-edge.invariant.each k b
+    ∙ ap (λ xs. count_by (enters i (capped_room unit i) k) xs) whole in
     rw items (extracted-feasible unit i es c.loop-edge.counts.items c.edges.ensures.network perfect c.loop-edge.invariant.size each)
 
 pub returns-clause-weighs : goal.returns-clause-weighs
@@ -102,7 +104,8 @@ returns-clause-weighs c =
     let past = c.loop-edge-test.false in
     let whole : take c.loop-edge.edge-index es ≡ es = take_all c.loop-edge.edge-index es (omega (arith, past)) in
     let items : c.from_vec.result ≡ c.loop-edge.counts.items = c.from_vec.ensures in
-    let each : (k : ℕ) → k < length i.edges → slice_index c.loop-edge.counts.items k ≡ count_by (enters i (capped_room unit i) k) es = λ k b. c.loop-edge.invariant.each k b ∙ ap (λ xs. count_by (enters i (capped_room unit i) k) xs) whole in
+    let each : (k : ℕ) → k < length i.edges → slice_index c.loop-edge.counts.items k ≡ count_by (enters i (capped_room unit i) k) es = λ k b. c.loop-edge.invariant.each k b
+    ∙ ap (λ xs. count_by (enters i (capped_room unit i) k) xs) whole in
     counts-weight unit i c.from_vec.result
     ∙ ap (weight (graph_of i)) items
     ∙ extracted-weight unit i es c.loop-edge.counts.items perfect c.loop-edge.invariant.size each

@@ -35,7 +35,8 @@ add_crossing-requires-clause-room c =
     let r = c.args.room in
     let all = gates_of-length i e c.args.before r in
     let us : c.copies_of-u_before.result.1 * r ≡ value_of i e.u * r = ap (λ x. x * r) c.copies_of-u_before.ensures.count in
-    let one = grown c.args.graph.now c.add_rectangle.new.graph c.copies_of-u_before.result.0 c.copies_of-u_before.result.1 c.args.before r (to_z w64 (of_z w64 e.w)) c.in_ok-add_rectangle.ensures.added in
+    let one = grown c.args.graph.now c.add_rectangle.new.graph c.copies_of-u_before.result.0 c.copies_of-u_before.result.1 c.args.before r
+    (to_z w64 (of_z w64 e.w)) c.in_ok-add_rectangle.ensures.added in
     let room = c.requires.room in
     omega (arith, all, us, one, room)
 
@@ -47,7 +48,8 @@ add_rectangle-requires-2-clause-room c =
     let all = gates_of-length i e c.args.before r in
     let us : c.copies_of-u_before.result.1 * r ≡ value_of i e.u * r = ap (λ x. x * r) c.copies_of-u_before.ensures.count in
     let vs : c.copies_of-v_before.result.1 * r ≡ value_of i e.v * r = ap (λ x. x * r) c.copies_of-v_before.ensures.count in
-    let one = grown c.args.graph.now c.add_rectangle.new.graph c.copies_of-u_before.result.0 c.copies_of-u_before.result.1 c.args.before r (to_z w64 (of_z w64 e.w)) c.in_ok-add_rectangle.ensures.added in
+    let one = grown c.args.graph.now c.add_rectangle.new.graph c.copies_of-u_before.result.0 c.copies_of-u_before.result.1 c.args.before r
+    (to_z w64 (of_z w64 e.w)) c.in_ok-add_rectangle.ensures.added in
     let two = grown c.add_rectangle.new.graph c.add_crossing.new.graph c.args.before r (c.args.before + r) r (pos 0) c.in_ok-add_crossing.ensures.added in
     let room = c.requires.room in
     omega (arith, all, us, vs, turned r (value_of i e.v), turned r c.copies_of-v_before.result.1, turned r c.copies_of-u_before.result.1, one, two, room)

@@ -44,7 +44,8 @@ add_gates-requires-clause-room c =
     let room : c.room_at-room.result ≡ capped_room unit i k = c.room_at-room.ensures.room ∙ ap (room_at unit i) here ∙ room-is unit i k in
     let below : k < length i.edges = place_here i c.edge_list-edge-items.result.now k c.edge_list-edge-items.ensures.list c.loop-edge-test.true in
     let before : c.loop-edge.before ≡ before_gates i (capped_room unit i) k = c.loop-edge.invariant.before in
-    let same : gates_of i e c.loop-edge.before c.room_at-room.result ≡ gated i (capped_room unit i) k = ap (λ (x : InstanceEdge). gates_of i x c.loop-edge.before c.room_at-room.result) here ∙ ap (λ x. gates_of i (instance_edge_at i k) x c.room_at-room.result) before ∙ ap (gates_of i (instance_edge_at i k) (before_gates i (capped_room unit i) k)) room in
+    let same : gates_of i e c.loop-edge.before c.room_at-room.result ≡ gated i (capped_room unit i) k = ap (λ (x : InstanceEdge). gates_of i x c.loop-edge.before c.room_at-room.result) here
+    ∙ ap (λ x. gates_of i (instance_edge_at i k) x c.room_at-room.result) before ∙ ap (gates_of i (instance_edge_at i k) (before_gates i (capped_room unit i) k)) room in
     let size : length (gates_of i e c.loop-edge.before c.room_at-room.result) ≡ length (gated i (capped_room unit i) k) = ap (λ (es : List Edge). length es) same in
     let front : length c.loop-edge.graph.edges ≡ length (blocks (gated i (capped_room unit i)) k) = ap (λ (es : List Edge). length es) c.loop-edge.invariant.edges in
     let limits : IsWithinLimits (capped_size i (capped_room unit i)) = subst IsWithinLimits (size-is unit i) c.requires.limits in

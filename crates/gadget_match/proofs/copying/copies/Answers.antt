@@ -17,7 +17,8 @@ returns-clause-size c = copies-size c.args.instance.now
 pub loop-edge-init : goal.loop-edge-init
 loop-edge-init c =
     let i = c.args.instance.now in
-    let total : c.index.result.now ≡ value_total i = start-total i c.value_list.result.now c.in_ok-starts.starts.items c.vertices.result c.index.result.now c.value_list.ensures.list c.in_ok-starts.ensures c.vertices.ensures.count c.index.ensures in
+    let total : c.index.result.now ≡ value_total i = start-total i c.value_list.result.now c.in_ok-starts.starts.items c.vertices.result c.index.result.now c.value_list.ensures.list
+    c.in_ok-starts.ensures c.vertices.ensures.count c.index.ensures in
     c.new-graph.ensures ∙ ap (λ (n : ℕ). record { vertices = n; edges = [] }) total
 
 pub add_pairs-requires-clause-room : goal.add_pairs-requires-clause-room
@@ -26,7 +27,8 @@ add_pairs-requires-clause-room c =
     let k = c.loop-edge.edge-index in
     let list = c.edge_list-edge-items.ensures.list in
     let below : k < length i.edges = omega (arith, ap length list) in
-    room-pairs i c.loop-edge.graph k c.edge-item.result c.requires.limits c.loop-edge.invariant below (edge_here i c.edge_list-edge-items.result.now k c.edge-item.result list c.loop-edge-test.true c.edge-item.is)
+    room-pairs i c.loop-edge.graph k c.edge-item.result c.requires.limits c.loop-edge.invariant below
+    (edge_here i c.edge_list-edge-items.result.now k c.edge-item.result list c.loop-edge-test.true c.edge-item.is)
 
 pub returns-in_err-starts-clause-reached : goal.returns-in_err-starts-clause-reached
 returns-in_err-starts-clause-reached c = copies-reach c.args.instance.now c.value_list.ensures.network

@@ -9,8 +9,10 @@ use Rattle.gadget_match.proofs.gathering.add_pairs.Goals as goal
 pub loop-edge-init : goal.loop-edge-init
 loop-edge-init c = record {
   size = c.requires.size;
-  small = λ k b. let size : length c.args.counts.now ≡ length c.args.instance.now.edges = c.requires.size in let none : slice_index c.args.counts.now k ≡ 0 = c.requires.start k (omega (arith, size, b)) in omega (arith, none);
-  each = λ k b. let size : length c.args.counts.now ≡ length c.args.instance.now.edges = c.requires.size in c.requires.start k (omega (arith, size, b)) ∙ sym (listed-none c.args.instance.now k);
+  small = λ k b. let size : length c.args.counts.now ≡ length c.args.instance.now.edges = c.requires.size in let none : slice_index c.args.counts.now k ≡ 0 =
+      c.requires.start k (omega (arith, size, b)) in omega (arith, none);
+  each = λ k b. let size : length c.args.counts.now ≡ length c.args.instance.now.edges = c.requires.size in c.requires.start k (omega (arith, size, b))
+      ∙ sym (listed-none c.args.instance.now k);
 }
 
 pub add_one-requires-clause-small : goal.add_one-requires-clause-small

@@ -27,4 +27,7 @@ pub returns : goal.returns
 returns c =
     let i = c.args.instance.now in
     let start : c.new-graph.result.vertices ≡ ports_below i (odd_at c.args.parity i) (vertices i + 1) = search rules in
-    record { graph = filled-graph i (odd_at c.args.parity i) c.args.before.now c.args.sizes.now c.new-graph.result.vertices c.add_links.new.graph c.add_cliques.new.graph c.requires.groups start c.in_ok-add_links.ensures.added c.in_ok-add_cliques.ensures.added }
+    record {
+      graph = filled-graph i (odd_at c.args.parity i) c.args.before.now c.args.sizes.now c.new-graph.result.vertices c.add_links.new.graph c.add_cliques.new.graph c.requires.groups
+          start c.in_ok-add_links.ensures.added c.in_ok-add_cliques.ensures.added;
+    }

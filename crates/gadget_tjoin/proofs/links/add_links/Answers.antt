@@ -49,7 +49,8 @@ add_link-requires-clause-ends c =
     let b = place_here i items.result.now k items.ensures.list c.loop-edge-test.true in
     let is = edge_here i items.result.now k e items.ensures.list c.loop-edge-test.true c.edge-item.is in
     let edge = added-link i odd c.loop-edge.next k e is (next-ports i odd c.loop-edge.next k e items.ensures.network b is c.loop-edge.invariant.each) in
-    let size : c.loop-edge.graph.vertices ≡ ports_below i odd (vertices i + 1) = ap (λ (g : Multigraph). g.vertices) c.loop-edge.invariant.graph ∙ ap (λ (g : Multigraph). g.vertices) c.requires.start in
+    let size : c.loop-edge.graph.vertices ≡ ports_below i odd (vertices i + 1) = ap (λ (g : Multigraph). g.vertices) c.loop-edge.invariant.graph
+    ∙ ap (λ (g : Multigraph). g.vertices) c.requires.start in
     subst (λ (n : ℕ). IsEdgeWithin n (record { u = slice_index c.loop-edge.next (e.u - 1) + 1; v = slice_index c.loop-edge.next (e.v - 1) + 1; w = e.w })) (sym size)
     (subst (IsEdgeWithin (ports_below i odd (vertices i + 1))) (sym edge) (link-within i odd k items.ensures.network b))
 
@@ -64,10 +65,15 @@ loop-edge-preserved c =
     let is = edge_here i items.result.now k e items.ensures.list c.loop-edge-test.true c.edge-item.is in
     let edge = added-link i odd c.loop-edge.next k e is (next-ports i odd c.loop-edge.next k e items.ensures.network b is c.loop-edge.invariant.each) in
     record {
-      graph = grown-link (between_ports i odd) c.loop-edge.graph c.add_link.new.graph c.args.graph.now.vertices k (record { u = slice_index c.loop-edge.next (e.u - 1) + 1; v = slice_index c.loop-edge.next (e.v - 1) + 1; w = e.w }) c.loop-edge.invariant.graph c.in_ok-add_link.ensures.added edge;
+      graph = grown-link (between_ports i odd) c.loop-edge.graph c.add_link.new.graph c.args.graph.now.vertices k (record {
+        u = slice_index c.loop-edge.next (e.u - 1) + 1;
+        v = slice_index c.loop-edge.next (e.v - 1) + 1;
+        w = e.w;
+      }) c.loop-edge.invariant.graph c.in_ok-add_link.ensures.added edge;
       size = c.in_ok-add_link.ensures.size ∙ c.loop-edge.invariant.size;
       each = λ t below.
           let long = c.requires.size in
           let same = c.loop-edge.invariant.size in
-          next-step i odd k t (slice_index c.loop-edge.next t) (slice_index c.add_link.new.next t) e is (c.loop-edge.invariant.each t below) (c.in_ok-add_link.ensures.each t (omega (arith, below, long, same)));
+          next-step i odd k t (slice_index c.loop-edge.next t) (slice_index c.add_link.new.next t) e is (c.loop-edge.invariant.each t below) (c.in_ok-add_link.ensures.each t
+          (omega (arith, below, long, same)));
     }

@@ -10,7 +10,8 @@ use Rattle.gadget_tjoin.proofs.Laws.{own-join_of}
 use Rattle.gadget_tjoin.proofs.taken.extract.Goals as goal
 
 -- the numbers of the marked edges are those of the join
-own : (m : ℕ) (es matching : List ℕ) (marks read : List Bool) → read ≡ marks → length marks ≡ m → ((k : ℕ) → k < m → slice_index_or marks k false ≡ holds matching (k + 1)) → IsStrictlyIncreasing es → All (λ e. (1 ≤ e) × (e ≤ length read)) es → ((k : ℕ) → k < length read → holds es (k + 1) ≡ slice_index_or read k false) → AreOwn m es matching
+own : (m : ℕ) (es matching : List ℕ) (marks read : List Bool) → read ≡ marks → length marks ≡ m → ((k : ℕ) → k < m → slice_index_or marks k false ≡ holds matching (k + 1))
+    → IsStrictlyIncreasing es → All (λ e. (1 ≤ e) × (e ≤ length read)) es → ((k : ℕ) → k < length read → holds es (k + 1) ≡ slice_index_or read k false) → AreOwn m es matching
 own m es matching marks read same size marked ascending in_range exact =
     let long : length read ≡ m = ap (λ (xs : List Bool). length xs) same ∙ size in
     record {
@@ -22,17 +23,22 @@ own m es matching marks read same size marked ascending in_range exact =
 pub returns-clause-exact : goal.returns-clause-exact
 returns-clause-exact c =
     let i = c.args.instance.now in
-    let is = own (length i.edges) c.in_ok-marked.field-0.items c.args.edges.now c.in_ok-marks.marks.items c.deref.result.now c.deref.ensures.value c.in_ok-marks.ensures.size c.in_ok-marks.ensures.each c.in_ok-marked.ensures.ascending c.in_ok-marked.ensures.in_range c.in_ok-marked.ensures.exact in
+    let is = own (length i.edges) c.in_ok-marked.field-0.items c.args.edges.now c.in_ok-marks.marks.items c.deref.result.now c.deref.ensures.value c.in_ok-marks.ensures.size
+    c.in_ok-marks.ensures.each c.in_ok-marked.ensures.ascending c.in_ok-marked.ensures.in_range c.in_ok-marked.ensures.exact in
     λ k b. ap (λ (es : List ℕ). holds es (k + 1)) c.from_vec-edges.ensures ∙ is.exact k b
 
 pub returns-clause-join : goal.returns-clause-join
 returns-clause-join c =
     let i = c.args.instance.now in
-    let is = own (length i.edges) c.in_ok-marked.field-0.items c.args.edges.now c.in_ok-marks.marks.items c.deref.result.now c.deref.ensures.value c.in_ok-marks.ensures.size c.in_ok-marks.ensures.each c.in_ok-marked.ensures.ascending c.in_ok-marked.ensures.in_range c.in_ok-marked.ensures.exact in
-    subst (λ (es : List ℕ). IsJoinOf c.args.parity.now i (listed_counts es (length i.edges))) (sym c.from_vec-edges.ensures) (own-join_of c.args.parity.now i c.in_ok-marked.field-0.items c.args.edges.now c.marks_of.ensures.network is c.requires.perfect)
+    let is = own (length i.edges) c.in_ok-marked.field-0.items c.args.edges.now c.in_ok-marks.marks.items c.deref.result.now c.deref.ensures.value c.in_ok-marks.ensures.size
+    c.in_ok-marks.ensures.each c.in_ok-marked.ensures.ascending c.in_ok-marked.ensures.in_range c.in_ok-marked.ensures.exact in
+    subst (λ (es : List ℕ). IsJoinOf c.args.parity.now i (listed_counts es (length i.edges))) (sym c.from_vec-edges.ensures)
+    (own-join_of c.args.parity.now i c.in_ok-marked.field-0.items c.args.edges.now c.marks_of.ensures.network is c.requires.perfect)
 
 pub returns-clause-weighs : goal.returns-clause-weighs
 returns-clause-weighs c =
     let i = c.args.instance.now in
-    let is = own (length i.edges) c.in_ok-marked.field-0.items c.args.edges.now c.in_ok-marks.marks.items c.deref.result.now c.deref.ensures.value c.in_ok-marks.ensures.size c.in_ok-marks.ensures.each c.in_ok-marked.ensures.ascending c.in_ok-marked.ensures.in_range c.in_ok-marked.ensures.exact in
-    ap (walk_weight (graph_of i)) c.from_vec-edges.ensures ∙ own-weight i (odd_at c.args.parity.now i) c.in_ok-marked.field-0.items c.args.edges.now c.marks_of.ensures.network is c.requires.perfect
+    let is = own (length i.edges) c.in_ok-marked.field-0.items c.args.edges.now c.in_ok-marks.marks.items c.deref.result.now c.deref.ensures.value c.in_ok-marks.ensures.size
+    c.in_ok-marks.ensures.each c.in_ok-marked.ensures.ascending c.in_ok-marked.ensures.in_range c.in_ok-marked.ensures.exact in
+    ap (walk_weight (graph_of i)) c.from_vec-edges.ensures ∙ own-weight i (odd_at c.args.parity.now i) c.in_ok-marked.field-0.items c.args.edges.now c.marks_of.ensures.network is
+    c.requires.perfect

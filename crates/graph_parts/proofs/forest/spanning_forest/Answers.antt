@@ -47,4 +47,5 @@ loop-number-preserved c =
     }
 
 pub returns : goal.returns
-returns c = forest-all c.args.graph.now (c.loop-number.number + 1) c.loop-number.seen.items c.loop-number.links.items (omega arith) c.loop-number.invariant.seen c.loop-number.invariant.forest
+returns c = forest-all c.args.graph.now (c.loop-number.number + 1) c.loop-number.seen.items c.loop-number.links.items
+    (omega arith) c.loop-number.invariant.seen c.loop-number.invariant.forest

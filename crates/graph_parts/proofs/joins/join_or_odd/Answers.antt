@@ -37,7 +37,10 @@ returns-in-Some c =
       balanced = c.in_ok-taken.ensures.balanced;
       least = c.in_ok-taken.ensures.roots;
     } in
-    record { outcome = subst O (sym c.from_vec-part.ensures) (part-outcome parity i g first flags taken part c.in-Some.root settled marked c.in_ok-component-in-Some.ensures.component c.in_ok-component-in-Some.ensures.start) }
+    record {
+      outcome = subst O (sym c.from_vec-part.ensures) (part-outcome parity i g first flags taken part c.in-Some.root settled marked c.in_ok-component-in-Some.ensures.component
+          c.in_ok-component-in-Some.ensures.start);
+    }
 
 pub returns : goal.returns
 returns c =
@@ -61,4 +64,7 @@ returns c =
       balanced = c.in_ok-taken.ensures.balanced;
       least = c.in_ok-taken.ensures.roots;
     } in
-    record { outcome = subst J (sym c.from_vec-edges.ensures) (join-outcome parity i g first flags taken edges settled c.in_ok-taken.ensures.taken unmarked (subst L c.deref-in-None.ensures.value c.in_ok-list_taken-in-None.ensures)) }
+    record {
+      outcome = subst J (sym c.from_vec-edges.ensures) (join-outcome parity i g first flags taken edges settled c.in_ok-taken.ensures.taken unmarked
+          (subst L c.deref-in-None.ensures.value c.in_ok-list_taken-in-None.ensures));
+    }

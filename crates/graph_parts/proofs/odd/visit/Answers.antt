@@ -27,13 +27,15 @@ returns-then-removed-place-clause-seen c = λ set is seen.
 pub returns-clause-seen : goal.returns-clause-seen
 returns-clause-seen c = λ set is seen.
     let off : is_marked c.args.seen.now c.args.vertex ≡ false = ap (is_marked c.args.seen.now) (sym c.number-place.ensures) ∙ c.if-seen-place.false in
-    visit-seen c.args.graph.now c.args.removed.now set c.search.new.reached.items c.args.vertex c.args.seen.now c.search.new.marks c.requires.graph c.requires.low is seen off c.in_ok-search.ensures.finds
+    visit-seen c.args.graph.now c.args.removed.now set c.search.new.reached.items c.args.vertex c.args.seen.now c.search.new.marks c.requires.graph c.requires.low is seen off
+    c.in_ok-search.ensures.finds
 
 pub returns-clause-head : goal.returns-clause-head
 returns-clause-head c = λ set is seen.
     let off : is_marked c.args.seen.now c.args.vertex ≡ false = ap (is_marked c.args.seen.now) (sym c.number-place.ensures) ∙ c.if-seen-place.false in
     let free : is_marked c.args.removed.now c.args.vertex ≡ false = ap (is_marked c.args.removed.now) (sym c.number-place.ensures) ∙ c.if-removed-place.false in
-    let head = visit-head c.args.graph.now c.args.removed.now set c.search.new.reached.items c.args.vertex c.args.seen.now c.search.new.marks c.requires.graph c.requires.low c.requires.high is seen off free c.in_ok-search.ensures.finds in
+    let head = visit-head c.args.graph.now c.args.removed.now set c.search.new.reached.items c.args.vertex c.args.seen.now c.search.new.marks c.requires.graph c.requires.low c.requires.high
+    is seen off free c.in_ok-search.ensures.finds in
     let size : length c.deref.result.now % 2 ≡ length c.search.new.reached.items % 2 = ap (λ (ms : List ℕ). length ms % 2) c.deref.ensures.value in
     (λ t. head.0 (sym size ∙ c.is_odd.ensures.0 t), λ h. c.is_odd.ensures.1 (size ∙ head.1 h))
 
@@ -47,4 +49,5 @@ pub returns-clause-forest : goal.returns-clause-forest
 returns-clause-forest c = λ set is seen forest.
     let off : is_marked c.args.seen.now c.args.vertex ≡ false = ap (is_marked c.args.seen.now) (sym c.number-place.ensures) ∙ c.if-seen-place.false in
     let least = new-least c.args.graph.now set c.args.vertex c.args.seen.now c.requires.graph c.requires.low c.requires.high seen off in
-    forest-more c.args.graph.now set c.args.vertex c.args.seen.now c.search.new.marks c.search.new.reached.items c.args.links.now.items c.search.new.links.items least c.in_ok-search.ensures.finds.marked c.in_ok-search.ensures.links forest
+    forest-more c.args.graph.now set c.args.vertex c.args.seen.now c.search.new.marks c.search.new.reached.items c.args.links.now.items c.search.new.links.items least
+    c.in_ok-search.ensures.finds.marked c.in_ok-search.ensures.links forest

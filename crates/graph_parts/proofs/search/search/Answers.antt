@@ -15,7 +15,8 @@ loop-done-init c =
     let first = reaches-start c.args.removed.now start old (omega arith) c.requires.free c.requires.new in
     let D : List Bool → List ℕ → Type 0 = λ m xs. IsDone g c.args.removed.now start old m xs 0 in
     let L : List ℕ → Type 0 = λ xs. LinksAll g start c.args.links.now.items xs c.args.links.now.items in
-    let is : D (set old start true) (start ∷ []) = done-none g c.args.removed.now start old (set old start true) (start ∷ []) (omega arith) c.requires.low c.requires.high c.requires.free c.requires.new first in
+    let is : D (set old start true) (start ∷ []) = done-none g c.args.removed.now start old (set old start true) (start ∷ []) (omega arith) c.requires.low c.requires.high c.requires.free
+    c.requires.new first in
     let list : c.push.new.self.items ≡ start ∷ [] = c.in_ok-push.ensures.items ∙ ap (λ (xs : List ℕ). xs ++ start ∷ []) c.clear.ensures.items in
     let marks : set old c.number.result true ≡ set old start true = ap (λ (x : ℕ). set old x true) c.number.ensures in
     record {
@@ -31,10 +32,17 @@ pub loop-done-preserved : goal.loop-done-preserved
 loop-done-preserved c =
     let some = c.loop-done.reached.items in
     let b : c.loop-done.done < length some = omega arith in
-    let next = done-next c.args.graph.now c.args.removed.now c.args.start c.index-vertex.result.now c.loop-done.done c.args.marks.now c.loop-done.marks some c.reach_from.new.marks c.reach_from.new.reached.items b c.index-vertex.ensures c.loop-done.invariant.is c.in_ok-reach_from.ensures.reached in
+    let next = done-next c.args.graph.now c.args.removed.now c.args.start c.index-vertex.result.now c.loop-done.done c.args.marks.now c.loop-done.marks some c.reach_from.new.marks
+    c.reach_from.new.reached.items b c.index-vertex.ensures c.loop-done.invariant.is c.in_ok-reach_from.ensures.reached in
     let H : ℕ → Type 0 = λ x. holds some x ≡ true in
     let held = subst H (sym c.index-vertex.ensures) (holds_at some c.loop-done.done c.index-vertex.result.now b) in
-    record { most = done-most c.args.graph.now c.args.removed.now c.index-vertex.result.now c.loop-done.done c.loop-done.marks some c.reach_from.new.marks c.reach_from.new.reached.items b c.in_ok-reach_from.ensures.reached; is = next; links = all-next c.args.graph.now c.args.start c.index-vertex.result.now c.args.links.now.items some c.loop-done.links.items c.reach_from.new.reached.items c.reach_from.new.links.items held c.loop-done.invariant.links c.in_ok-reach_from.ensures.links }
+    record {
+      most = done-most c.args.graph.now c.args.removed.now c.index-vertex.result.now c.loop-done.done c.loop-done.marks some c.reach_from.new.marks c.reach_from.new.reached.items b
+          c.in_ok-reach_from.ensures.reached;
+      is = next;
+      links = all-next c.args.graph.now c.args.start c.index-vertex.result.now c.args.links.now.items some c.loop-done.links.items
+          c.reach_from.new.reached.items c.reach_from.new.links.items held c.loop-done.invariant.links c.in_ok-reach_from.ensures.links;
+    }
 
 pub returns-clause-finds : goal.returns-clause-finds
 returns-clause-finds c =

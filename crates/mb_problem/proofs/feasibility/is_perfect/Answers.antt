@@ -15,6 +15,10 @@ returns c =
     let are : AreDegrees i counts c.in_ok-degrees.degrees.items = search rules in
     let list : c.deref.result.now ≡ c.in_ok-degrees.degrees.items = c.deref.ensures.value in
     let these : AreDegrees i counts c.deref.result.now = rw list are in (
-      (λ t. record { one_each = one_each ∙ sym (length-map i.edges plain); at_most_one = once; degrees = degrees-meet i counts c.deref.result.now (λ (d : ℕ). d ≡ 1) these (c.are_all_one.ensures.0 t) }),
+      (λ t. record {
+        one_each = one_each ∙ sym (length-map i.edges plain);
+        at_most_one = once;
+        degrees = degrees-meet i counts c.deref.result.now (λ (d : ℕ). d ≡ 1) these (c.are_all_one.ensures.0 t);
+      }),
       (λ p. c.are_all_one.ensures.1 (meet-degrees i counts c.deref.result.now (λ (d : ℕ). d ≡ 1) these p.degrees)),
     )

@@ -15,7 +15,8 @@ returns-then-not-mark c =
     let range = c.requires k 0 c.loop-e-test.true in
     let low : 1 ≤ get_or es k 0 = range.0 in
     let high : get_or es k 0 ≤ c.args.m = range.1 in
-    let marks : AreMarks c.args.m c.deref_mut.result.now (take k es) = subst (λ (ms : List Bool). AreMarks c.args.m ms (take k es)) (sym c.deref_mut.ensures.value) c.loop-e.invariant.marks in
+    let marks : AreMarks c.args.m c.deref_mut.result.now (take k es) = subst (λ (ms : List Bool). AreMarks c.args.m ms (take k es)) (sym c.deref_mut.ensures.value) c.loop-e.invariant.marks
+    in
     let here = marked-here c.args.m c.deref_mut.result.now es k x marks number (omega arith) (omega arith) in
     let had : get_or c.deref_mut.result.now (x - 1) false ≡ true = true_from_ne_false _ (λ new. false≢true (c.if-not-mark.ensures.new.1 new)) in (
       (λ t. absurd (cc)),

@@ -15,11 +15,13 @@ loop-k-preserved c =
     let counts = c.args.counts.now in
     let k = c.loop-k.k in
     let e : InstanceEdge = c.edge-item.result in
-    let here : e ≡ instance_edge_at i k = get_or_read _ k e c.loop-k-test.true c.edge-item.is no_instance_edge ∙ ap (λ (es : List InstanceEdge). slice_index_or es k no_instance_edge) c.edge_list-edge-items.ensures.list in
+    let here : e ≡ instance_edge_at i k = get_or_read _ k e c.loop-k-test.true c.edge-item.is no_instance_edge
+    ∙ ap (λ (es : List InstanceEdge). slice_index_or es k no_instance_edge) c.edge_list-edge-items.ensures.list in
     let whole : length c.edge_list-edge-items.result.now ≡ length i.edges = ap length c.edge_list-edge-items.ensures.list in
     let few : length i.edges ≤ 65536 = c.edge_list-edge-items.ensures.network.few_edges in
     let step = int_sum_to-more (λ j. pos (slice_index counts j) *ℤ (edge_at (graph_of i) j).w) k in
     let same : to_z w64 (of_z w64 e.w) ≡ e.w = search rules in
     let there : plain e ≡ edge_at (graph_of i) k = ap plain here ∙ sym (edge_at-graph_of i k) in
-    let value : c.used_weight-total.result ≡ pos (slice_index counts k) *ℤ (edge_at (graph_of i) k).w = c.used_weight-total.ensures.value ∙ ap (λ (z : ℤ). pos (slice_index counts k) *ℤ z) same ∙ ap (λ (t : Edge). pos (slice_index counts k) *ℤ t.w) there in
+    let value : c.used_weight-total.result ≡ pos (slice_index counts k) *ℤ (edge_at (graph_of i) k).w = c.used_weight-total.ensures.value
+    ∙ ap (λ (z : ℤ). pos (slice_index counts k) *ℤ z) same ∙ ap (λ (t : Edge). pos (slice_index counts k) *ℤ t.w) there in
     record { sum = omega (arith, ints); low = omega (arith, ints); high = omega (arith, ints) }

@@ -16,5 +16,6 @@ loop-edge-preserved c =
     let k = c.loop-edge.edge-index in
     let rest : walk_weight g (drop k ks) ≡ (edge_of g (get_or ks k 0)).w +ℤ walk_weight g (drop (k + 1) ks) = at_drop_more (walk_weight g) ks k 0 c.loop-edge-test.true in
     let here : c.edge-item.result ≡ get_or ks k 0 = get_or_read ks k c.edge-item.result c.loop-edge-test.true c.edge-item.is 0 in
-    let weight : c.edge.result.2 ≡ (edge_of g (get_or ks k 0)).w = c.edge.ensures.weight ∙ ap (λ (t : Edge). t.w) (sym (edge_at-graph_of i (c.edge-item.result - 1))) ∙ ap (λ (e : ℕ). (edge_of g e).w) here in
+    let weight : c.edge.result.2 ≡ (edge_of g (get_or ks k 0)).w = c.edge.ensures.weight ∙ ap (λ (t : Edge). t.w) (sym (edge_at-graph_of i (c.edge-item.result - 1)))
+    ∙ ap (λ (e : ℕ). (edge_of g e).w) here in
     record { sum = omega (arith, ints); low = omega (arith, ints); high = omega (arith, ints) }

@@ -14,7 +14,8 @@ returns-then-number-eq0 c = (
 pub returns-then-number-vertices : goal.returns-then-number-vertices
 returns-then-number-vertices c = (
   (λ t. absurd (cc)),
-  (λ (ends : AreEnds c.args.instance.now c.args.s c.args.t). (let high : c.args.t ≤ vertices c.args.instance.now = ends-high c.args.instance.now c.args.s c.args.t ends in absurd (omega arith))),
+  (λ (ends : AreEnds c.args.instance.now c.args.s c.args.t). (let high : c.args.t ≤ vertices c.args.instance.now = ends-high c.args.instance.now c.args.s c.args.t ends in absurd
+      (omega arith))),
 )
 
 pub returns-then-is_odd-is_one_of : goal.returns-then-is_odd-is_one_of
@@ -29,6 +30,7 @@ returns-then-is_odd-is_one_of c =
       (λ t. absurd (cc)),
       (λ (ends : AreEnds i s t).
           (let each : (get_or i.values k 0 % 2 ≡ 1) ↔ ((k + 1 ≡ s) ⊎ (k + 1 ≡ t)) = ends-there i s t k ends below in
-          let there : (get_or c.value_list-value-items.result.now k 0 % 2 ≡ 1) ↔ ((k + 1 ≡ s) ⊎ (k + 1 ≡ t)) = subst (λ (vs : List ℕ). (get_or vs k 0 % 2 ≡ 1) ↔ ((k + 1 ≡ s) ⊎ (k + 1 ≡ t))) (sym items) each in
+          let there : (get_or c.value_list-value-items.result.now k 0 % 2 ≡ 1) ↔ ((k + 1 ≡ s) ⊎ (k + 1 ≡ t)) = subst (λ (vs : List ℕ). (get_or vs k 0 % 2 ≡ 1) ↔ ((k + 1 ≡ s) ⊎ (k + 1 ≡ t)))
+          (sym items) each in
           absurd (same_flags _ _ (λ h. c.is_one_of.ensures.1 (there.0 (eqb-true _ 1 h))) (λ h. eq-eqb _ 1 (there.1 (c.is_one_of.ensures.0 h))) c.if-is_odd-is_one_of.true))),
     )

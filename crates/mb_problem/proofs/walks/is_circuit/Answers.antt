@@ -11,7 +11,8 @@ use Rattle.mb_problem.proofs.WalkPlaces.{left-front}
 use Rattle.mb_problem.proofs.WalkSteps.{walk-start}
 use Rattle.mb_problem.proofs.walks.is_circuit.Goals as goal
 
-circuit-by_parts : (g : Multigraph) (v : ℕ) (es : List ℕ) (r : Result Bool AllocError) → IsWalk g v es → walk_end g v es ≡ v → 2 ≤ length es → AllDiffer es → IfOk r (λ b. IsTrue b ↔ AllDiffer (walk_left g v es)) → IfOk r (λ b. IsTrue b ↔ IsCircuit g v es)
+circuit-by_parts : (g : Multigraph) (v : ℕ) (es : List ℕ) (r : Result Bool AllocError) → IsWalk g v es → walk_end g v es ≡ v → 2 ≤ length es → AllDiffer es → IfOk r (λ b. IsTrue b
+    ↔ AllDiffer (walk_left g v es)) → IfOk r (λ b. IsTrue b ↔ IsCircuit g v es)
 circuit-by_parts g v es (Ok b) walk closed two edges differ = (
   (λ t. record { walk = walk; closed = closed; two = two; edges_differ = edges; vertices_differ = differ.0 t }),
   (λ is. differ.1 is.vertices_differ),
@@ -52,4 +53,5 @@ returns c =
     let size : suc (length es - 1) ≡ length es = omega arith in
     let left : walk_left g v es ≡ walk_vertices g v (take (length es - 1) es) = left-front g v es (length es - 1) size in
     let edges : AllDiffer es = c.in_ok-edges_differ.ensures.0 c.if-not-branch.false in
-    circuit-by_parts g v es c.vertices_differ.result closed.0 closed.1 two edges (subst (λ (vs : List ℕ). IfOk c.vertices_differ.result (λ b. IsTrue b ↔ AllDiffer vs)) (sym left) c.vertices_differ.ensures)
+    circuit-by_parts g v es c.vertices_differ.result closed.0 closed.1 two edges (subst (λ (vs : List ℕ). IfOk c.vertices_differ.result (λ b. IsTrue b ↔ AllDiffer vs))
+    (sym left) c.vertices_differ.ensures)

@@ -9,7 +9,8 @@ returns c =
     let m = length c.args.instance.now.edges in
     let items : c.deref.result.now ≡ c.in_ok-marks.marks.items = c.deref.ensures.value in
     let marked : AreMarks c.edges.result c.in_ok-marks.marks.items es = c.in_ok-marks.ensures in
-    let are : AreMarks m c.deref.result.now es = subst (λ (n : ℕ). AreMarks n c.deref.result.now es) c.edges.ensures.count (subst (λ (ms : List Bool). AreMarks c.edges.result ms es) (sym items) marked) in
+    let are : AreMarks m c.deref.result.now es = subst (λ (n : ℕ). AreMarks n c.deref.result.now es) c.edges.ensures.count (subst (λ (ms : List Bool). AreMarks c.edges.result ms es)
+    (sym items) marked) in
     let size : length c.deref.result.now ≡ m = are.one_each in (
       (λ t e low high.
           (let back : e - 1 + 1 ≡ e = omega arith in

@@ -28,7 +28,8 @@ loop-e-init c =
     let off : c.deref_mut.result.now ≡ replicate n false = c.deref_mut.ensures.value ∙ fresh ∙ ap (λ (k : ℕ). replicate k false) count in
     let none : AreMarks n c.deref_mut.result.now (take 0 vs) = subst (λ (ms : List Bool). AreMarks n ms (take 0 vs)) (sym off) (marks-none n vs) in
     let one = marks-more n c.deref_mut.result.now vs 0 x none below number low high in
-    let size : length c.mark.new.marks ≡ length c.in_ok-marks.marks.items = ap length c.mark.ensures.marked ∙ length-set c.deref_mut.result.now (x - 1) true ∙ ap length c.deref_mut.ensures.value in
+    let size : length c.mark.new.marks ≡ length c.in_ok-marks.marks.items = ap length c.mark.ensures.marked ∙ length-set c.deref_mut.result.now (x - 1) true
+    ∙ ap length c.deref_mut.ensures.value in
     let items = with_items_is c.in_ok-marks.marks c.mark.new.marks (size ∙ sym c.in_ok-marks.marks.ok.0) in
     record {
       here = sym first;
@@ -55,7 +56,8 @@ mark-requires-in-loop-e-clause-low c =
     let k = c.loop-e.e-index in
     let e : c.e-item.result ≡ get_or es k 0 = get_or_read es k c.e-item.result c.loop-e-test.true c.e-item.is 0 in
     let to = c.number-in-loop-e.ensures ∙ c.in-Some.ensures.2 in
-    let next = step-facts i c.args.start es k c.loop-e.at c.e-item.result c.number-in-loop-e.result c.vertices.ensures.network c.loop-e-test.true c.loop-e.invariant.here e c.in-Some.ensures.0 to in
+    let next = step-facts i c.args.start es k c.loop-e.at c.e-item.result c.number-in-loop-e.result c.vertices.ensures.network c.loop-e-test.true c.loop-e.invariant.here e
+    c.in-Some.ensures.0 to in
     next.1
 
 pub mark-requires-in-loop-e-clause-high : goal.mark-requires-in-loop-e-clause-high
@@ -65,7 +67,8 @@ mark-requires-in-loop-e-clause-high c =
     let k = c.loop-e.e-index in
     let e : c.e-item.result ≡ get_or es k 0 = get_or_read es k c.e-item.result c.loop-e-test.true c.e-item.is 0 in
     let to = c.number-in-loop-e.ensures ∙ c.in-Some.ensures.2 in
-    let next = step-facts i c.args.start es k c.loop-e.at c.e-item.result c.number-in-loop-e.result c.vertices.ensures.network c.loop-e-test.true c.loop-e.invariant.here e c.in-Some.ensures.0 to in
+    let next = step-facts i c.args.start es k c.loop-e.at c.e-item.result c.number-in-loop-e.result c.vertices.ensures.network c.loop-e-test.true c.loop-e.invariant.here e
+    c.in-Some.ensures.0 to in
     let high : c.number-in-loop-e.result ≤ vertices i = next.2 in
     let size : length c.loop-e.marks.items ≡ vertices i = c.loop-e.invariant.marks.one_each in
     let long : length c.deref_mut-in-loop-e.result.now ≡ length c.loop-e.marks.items = ap length c.deref_mut-in-loop-e.ensures.value in
@@ -78,7 +81,8 @@ returns-then-not-mark c =
     let k = c.loop-e.e-index in
     let e : c.e-item.result ≡ get_or es k 0 = get_or_read es k c.e-item.result c.loop-e-test.true c.e-item.is 0 in
     let to = c.number-in-loop-e.ensures ∙ c.in-Some.ensures.2 in
-    let next = step-facts i c.args.start es k c.loop-e.at c.e-item.result c.number-in-loop-e.result c.vertices.ensures.network c.loop-e-test.true c.loop-e.invariant.here e c.in-Some.ensures.0 to in
+    let next = step-facts i c.args.start es k c.loop-e.at c.e-item.result c.number-in-loop-e.result c.vertices.ensures.network c.loop-e-test.true c.loop-e.invariant.here e
+    c.in-Some.ensures.0 to in
     let n = vertices i in
     let vs = walk_vertices (graph_of i) c.args.start es in
     let x = c.number-in-loop-e.result in
@@ -103,7 +107,8 @@ loop-e-preserved c =
     let k = c.loop-e.e-index in
     let e : c.e-item.result ≡ get_or es k 0 = get_or_read es k c.e-item.result c.loop-e-test.true c.e-item.is 0 in
     let to = c.number-in-loop-e.ensures ∙ c.in-Some.ensures.2 in
-    let next = step-facts i c.args.start es k c.loop-e.at c.e-item.result c.number-in-loop-e.result c.vertices.ensures.network c.loop-e-test.true c.loop-e.invariant.here e c.in-Some.ensures.0 to in
+    let next = step-facts i c.args.start es k c.loop-e.at c.e-item.result c.number-in-loop-e.result c.vertices.ensures.network c.loop-e-test.true c.loop-e.invariant.here e
+    c.in-Some.ensures.0 to in
     let n = vertices i in
     let vs = walk_vertices (graph_of i) c.args.start es in
     let x = c.number-in-loop-e.result in

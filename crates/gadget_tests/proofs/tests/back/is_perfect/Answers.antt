@@ -3,7 +3,8 @@ use Rattle.std.proofs.lemmas.Bool.{cases_eq}
 use Rattle.graph_theory.specs.Graph.{Multigraph, IsEdgeNumber, edge_of, touches}
 use Rattle.gadget_tests.proofs.tests.back.is_perfect.Goals as goal
 
-one_more : (g : Multigraph) (es : List ℕ) (k : ℕ) → ((v : ℕ) → 1 ≤ v → v ≤ k → count_by (λ e. touches (edge_of g e) v) es ≡ 1) → count_by (λ e. touches (edge_of g e) (k + 1)) es ≡ 1 → (v : ℕ) → 1 ≤ v → v ≤ k + 1 → count_by (λ e. touches (edge_of g e) v) es ≡ 1
+one_more : (g : Multigraph) (es : List ℕ) (k : ℕ) → ((v : ℕ) → 1 ≤ v → v ≤ k → count_by (λ e. touches (edge_of g e) v) es ≡ 1) → count_by (λ e. touches (edge_of g e) (k + 1)) es ≡ 1
+    → (v : ℕ) → 1 ≤ v → v ≤ k + 1 → count_by (λ e. touches (edge_of g e) v) es ≡ 1
 one_more g es k before here v low high =
     elim (cases_eq v (k + 1)) [
       | inl h ↦ ap (λ (x : ℕ). count_by (λ e. touches (edge_of g e) x) es) h ∙ here

@@ -18,7 +18,8 @@ returns c =
     let m = length i.edges in
     let own = sym c.from_vec-edges.ensures in
     let N : List ℕ → Type 0 = All (IsEdgeNumber (graph_of i)) in
-    let counts : c.deref-4.result.now ≡ listed_counts es m = c.deref-4.ensures.value ∙ c.in_ok-counts.ensures ∙ ap (listed_counts c.deref-3.result.now) c.edges.ensures.count ∙ ap (λ (xs : List ℕ). listed_counts xs m) (c.deref-3.ensures.value ∙ own) in
+    let counts : c.deref-4.result.now ≡ listed_counts es m = c.deref-4.ensures.value ∙ c.in_ok-counts.ensures ∙ ap (listed_counts c.deref-3.result.now) c.edges.ensures.count
+    ∙ ap (λ (xs : List ℕ). listed_counts xs m) (c.deref-3.ensures.value ∙ own) in
     let small : ℕ → Type 0 = λ x. x ≤ 1 in
     record {
       ascending = subst IsStrictlyIncreasing (c.deref.ensures.value ∙ own) (c.if-not-ascend.ensures refl);

@@ -1,7 +1,0 @@
-use Rattle.std.proofs.Common.{◌≡◌, ℕ, ◌&&◌, not, take}
-use Rattle.graph_theory.specs.Parts.{holds}
-use Rattle.graph_parts.specs.Marks.{is_marked}
-use Rattle.dual_check.proofs.marks.unmark.Given as goal
-
-abbrev pub invariant-loop-vertex : goal.invariant-loop-vertex
-invariant-loop-vertex l = (w : ℕ) → is_marked l.marks w ≡ (is_marked l.initial.marks w && not (holds (take l.vertex-index l.members) w))
