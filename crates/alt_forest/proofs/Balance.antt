@@ -42,7 +42,8 @@ module _ (s : State) (depth : ℕ → ℕ) (root : ℕ) (nested : IsNested s.gra
       let range = node_range s.graph.vertices s.blossoms a nested (outermost_parts s.graph.vertices s.blossoms a h.outermost).0 in
       holds-picked (node_limit s.graph.vertices) (in_tree l) a
       ∙ and_from (is_vertex (node_limit s.graph.vertices) a) (in_tree l a) (range_vertex (node_limit s.graph.vertices) a range.0 range.1)
-      (and_from (is_outermost s.graph.vertices s.blossoms a) (is_label (s.label a) l && eqb (root_of s a) root) h.outermost (and_from (is_label (s.label a) l) (eqb (root_of s a) root) h.label (eq-eqb (root_of s a) root h.same_root)))
+      (and_from (is_outermost s.graph.vertices s.blossoms a) (is_label (s.label a) l && eqb (root_of s a) root) h.outermost
+      (and_from (is_label (s.label a) l) (eqb (root_of s a) root) h.label (eq-eqb (root_of s a) root h.same_root)))
 
   different : (l : Label) → AllNew (tree_nodes l)
   different l = new_from_ascending (tree_nodes l) (picked_ascends (node_limit s.graph.vertices) (in_tree l))
@@ -67,7 +68,11 @@ module _ (s : State) (depth : ℕ → ℕ) (root : ℕ) (nested : IsNested s.gra
       record {
         edge = c.edge;
         mate = c.mate;
-        child = record { outermost = c.mate.outer; label = ap (λ l. is_label l Outer) c.outer; same_root = root_up s depth nested st b a c.mate.outer t.outermost (outer_up b c.outer ∙ back) ∙ t.same_root };
+        child = record {
+          outermost = c.mate.outermost;
+          label = ap (λ l. is_label l Outer) c.outer;
+          same_root = root_up s depth nested st b a c.mate.outermost t.outermost (outer_up b c.outer ∙ back) ∙ t.same_root;
+        };
         turned = back;
       }
 
@@ -106,8 +111,8 @@ module _ (s : State) (depth : ℕ → ℕ) (root : ℕ) (nested : IsNested s.gra
           let lab = is_outer (s.label x) t.label in
           let c = mate_inner s nested depth st x e t.outermost lab has in
           let b : ℕ = mate_node s x in
-          let up : root_of s x ≡ root_of s b = root_up s depth nested st x b t.outermost c.0.outer (outer_up x lab) in
-          let inner : holds (tree_nodes Inner) b ≡ true = in_nodes Inner b (record { outermost = c.0.outer; label = ap (λ l. is_label l Inner) c.1; same_root = sym up ∙ t.same_root }) in
+          let up : root_of s x ≡ root_of s b = root_up s depth nested st x b t.outermost c.0.outermost (outer_up x lab) in
+          let inner : holds (tree_nodes Inner) b ≡ true = in_nodes Inner b (record { outermost = c.0.outermost; label = ap (λ l. is_label l Inner) c.1; same_root = sym up ∙ t.same_root }) in
           or_right (eqb root x) (holds (map (mate_node s) (tree_nodes Inner)) x)
           (subst (λ y. holds (map (mate_node s) (tree_nodes Inner)) y ≡ true) (turned_mate s x e b c.0) (map-holds (mate_node s) (tree_nodes Inner) b inner))
 

@@ -115,7 +115,9 @@ one_more s v nested x was_out =
         (λ e. let same : v ≡ a = eqb-true v a e in
         let now : one_if (is_root (with_labels s (put s.label v Outer)) a) ≡ 1 = ap (λ k. one_if (is_root (with_labels s (put s.label v Outer)) k)) (sym same)
         ∙ ap one_if (root_passes (with_labels s (put s.label v Outer)) v (record { outermost = x.0; outer = put_here s.label v Outer; exposed = x.1 })) in
-        let before : one_if (is_root s a) ≡ 0 = ap (λ k. one_if (is_root s k)) (sym same) ∙ ap (λ l. one_if (is_outermost s.graph.vertices s.blossoms v && (is_label l Outer && not (is_some (s.mate v))))) was_out ∙ ap one_if (and-false (is_outermost s.graph.vertices s.blossoms v)) in
+        let before : one_if (is_root s a) ≡ 0 = ap (λ k. one_if (is_root s k)) (sym same) ∙ ap
+        (λ l. one_if (is_outermost s.graph.vertices s.blossoms v && (is_label l Outer && not (is_some (s.mate v))))) was_out
+        ∙ ap one_if (and-false (is_outermost s.graph.vertices s.blossoms v)) in
         let one : one_if (eqb v a) ≡ 1 = ap one_if e in
         omega (arith, now, before, one))
         (λ e. let zero_v : one_if (eqb v a) ≡ 0 = ap one_if e in
@@ -125,7 +127,8 @@ one_more s v nested x was_out =
 
 -- no root where no node is in a tree
 pub no_roots : (s : State) → ((a : ℕ) → s.label a ≡ Out) → tree_count s ≡ 0
-no_roots s out = none_pass (is_root s) (node_limit s.graph.vertices) (λ a. ap (λ l. is_outermost s.graph.vertices s.blossoms a && (is_label l Outer && not (is_some (s.mate a)))) (out a) ∙ and-false (is_outermost s.graph.vertices s.blossoms a))
+no_roots s out = none_pass (is_root s) (node_limit s.graph.vertices) (λ a. ap (λ l. is_outermost s.graph.vertices s.blossoms a && (is_label l Outer && not (is_some (s.mate a)))) (out a)
+    ∙ and-false (is_outermost s.graph.vertices s.blossoms a))
 
 -- where there is no blossom and no mate, each vertex is exposed
 pub all_exposed : (s : State) → s.blossoms ≡ [] → ((a : ℕ) → s.mate a ≡ None) → exposed_count s ≡ s.graph.vertices

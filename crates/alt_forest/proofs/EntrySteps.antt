@@ -1,5 +1,5 @@
 -- Edges are given their moments one by one: those at a vertex, and those at each of some vertices.
-use Rattle.std.proofs.Common.{◌≡◌, ◌≢◌, ℕ, ◌+◌, ◌<◌, Bool, true, false, ◌||◌, eqb, List, ◌∷◌, length, get_or, Option, refl, sym, ap, ap₂, ◌∙◌, subst, arith}
+use Rattle.std.proofs.Common.{◌≡◌, ◌≢◌, ℕ, ◌+◌, ◌<◌, ◌≤◌, Bool, true, false, ◌||◌, cond, eqb, List, [], ◌∷◌, length, get_or, Option, refl, sym, ap, ap₂, ◌∙◌, subst, arith}
 use Rattle.std.specs.Prelude.{ℤ}
 use Rattle.std.proofs.lemmas.Bool.{eqb-true, eqb-false, ne_eqb, or_parts, both_ways}
 use Rattle.graph_theory.specs.declared.edge.Edge.{Edge as GraphEdge}
@@ -8,12 +8,17 @@ use Rattle.graph_theory.specs.Graph.{Multigraph, IsEdgeNumber, edge_of, edges_ar
 use Rattle.graph_theory.proofs.Around.{around-has}
 use Rattle.graph_theory.proofs.Members.{holds_at, holds_place, eqb-turned}
 use Rattle.blossom_arena.proofs.Lists.{by_test}
+use Rattle.blossom_arena.specs.Family.{outermost}
+use Rattle.blossom_arena.specs.declared.label.Label.{Label}
+use Rattle.blossom_arena.specs.declared.label.Label.TheVariants.{Outer, Inner, Out}
 use Rattle.edge_queue.specs.declared.item.Item.TheVariants.{Edge}
 use Rattle.edge_queue.specs.Moments.{Moments, moment_of, entry}
 use Rattle.alt_forest.specs.declared.search.Search.{Search}
 use Rattle.alt_forest.specs.State.{State}
 use Rattle.alt_forest.specs.Searches.{state_of}
-use Rattle.alt_forest.specs.Entries.{NeedsMoment, IsEntered, IsQueuedBut, touches_any}
+use Rattle.alt_forest.specs.Entries.{NeedsMoment, IsEntered, IsQueuedBut, ends_looked, touches_any}
+use Rattle.alt_forest.specs.Trees.{is_label}
+use Rattle.alt_forest.proofs.Relabelled.{outer_not_inner, inner_not_out}
 
 -- a queue that has the same for an edge gives it what it needs just so
 pub entered_same : (s : State) (clock : ℤ) (q r : Moments) (e : ℕ) → moment_of r (Edge e) ≡ moment_of q (Edge e) → IsEntered s clock q e → IsEntered s clock r e
@@ -32,10 +37,12 @@ entered_next s clock q r xs k e is before here others i low = by_test (eqb (get_
 pub others_next : (g : Multigraph) (v : ℕ) (first q r : Moments) (e : ℕ) → touches (edge_of g e) v ≡ true
     → ((d : ℕ) → IsEdgeNumber g d → touches (edge_of g d) v ≡ false → moment_of q (Edge d) ≡ moment_of first (Edge d)) → ((d : ℕ) → d ≢ e → moment_of r (Edge d) ≡ moment_of q (Edge d))
     → (d : ℕ) → IsEdgeNumber g d → touches (edge_of g d) v ≡ false → moment_of r (Edge d) ≡ moment_of first (Edge d)
-others_next g v first q r e touched before others d is missed = others d (λ p. both_ways (touches (edge_of g e) v) (ap (λ x. touches (edge_of g x) v) (sym p) ∙ missed) touched) ∙ before d is missed
+others_next g v first q r e touched before others d is missed = others d (λ p. both_ways (touches (edge_of g e) v) (ap (λ x. touches (edge_of g x) v) (sym p) ∙ missed) touched)
+    ∙ before d is missed
 
 -- what holds of the edges at a vertex by their places holds of them all
-pub by_places : (P : ℕ → Type 0) (g : Multigraph) (v : ℕ) → ((i : ℕ) → i < length (edges_around g v) → P (get_or (edges_around g v) i 0)) → (e : ℕ) → IsEdgeNumber g e → touches (edge_of g e) v ≡ true → P e
+pub by_places : (P : ℕ → Type 0) (g : Multigraph) (v : ℕ) → ((i : ℕ) → i < length (edges_around g v) → P (get_or (edges_around g v) i 0)) → (e : ℕ) → IsEdgeNumber g e
+    → touches (edge_of g e) v ≡ true → P e
 by_places P g v h e is touched =
     let at = holds_place (edges_around g v) e (around-has g v e is touched) in
     subst P at.2 (h at.0 at.1)
@@ -62,6 +69,31 @@ missed_at vs k e low none =
     ap₂ (λ (a b : Bool). a || b)
     (ne_eqb e.u v (λ p. both_ways (holds vs e.u) parts.0 (ap (holds vs) p ∙ holds_at vs k 0 low)))
     (ne_eqb e.v v (λ p. both_ways (holds vs e.v) parts.1 (ap (holds vs) p ∙ holds_at vs k 0 low)))
+
+-- how many edges are looked at from one vertex: none where an inner node holds it
+pub looked_inner : (s : State) (v : ℕ) → s.label (outermost s.blossoms v) ≡ Inner → ends_looked s (v ∷ []) ≡ 0
+looked_inner s v inner = ap (λ l. cond (is_label l Inner) 0 (length (edges_around s.graph v)) + 0) inner
+
+pub looked_else : (s : State) (v : ℕ) → s.label (outermost s.blossoms v) ≢ Inner → ends_looked s (v ∷ []) ≡ length (edges_around s.graph v)
+looked_else s v other = by_label (s.label (outermost s.blossoms v)) refl
+  where
+    by_label : (l : Label) → s.label (outermost s.blossoms v) ≡ l → ends_looked s (v ∷ []) ≡ length (edges_around s.graph v)
+    by_label Inner e = absurd (other e)
+    by_label Outer e = ap (λ l. cond (is_label l Inner) 0 (length (edges_around s.graph v)) + 0) e
+        ∙ (let n : length (edges_around s.graph v) + 0 ≡ length (edges_around s.graph v) = omega arith in n)
+    by_label Out e = ap (λ l. cond (is_label l Inner) 0 (length (edges_around s.graph v)) + 0) e
+        ∙ (let n : length (edges_around s.graph v) + 0 ≡ length (edges_around s.graph v) = omega arith in n)
+
+pub looked_most : (s : State) (v : ℕ) → ends_looked s (v ∷ []) ≤ length (edges_around s.graph v)
+looked_most s v = by_label (s.label (outermost s.blossoms v)) refl
+  where
+    by_label : (l : Label) → s.label (outermost s.blossoms v) ≡ l → ends_looked s (v ∷ []) ≤ length (edges_around s.graph v)
+    by_label Inner e = omega (arith, looked_inner s v e)
+    by_label Outer e = omega (arith, looked_else s v (λ q. outer_not_inner (sym e ∙ q)))
+    by_label Out e = omega (arith, looked_else s v (λ q. inner_not_out (sym q ∙ e)))
+
+pub looked_next : (s : State) (v : ℕ) (vs : List ℕ) → ends_looked s (v ∷ vs) ≡ ends_looked s (v ∷ []) + ends_looked s vs
+looked_next s v vs = omega arith
 
 -- the edges at a vertex more are entered
 pub vertex_entered : (s r : Search) (v : ℕ) (vs : List ℕ) → r ≡ record s { queue = r.queue } → IsQueuedBut s (v ∷ vs)

@@ -13,13 +13,14 @@ use Rattle.blossom_arena.proofs.Lists.{by_test}
 use Rattle.blossom_arena.specs.declared.label.Label.TheVariants.{Out}
 use Rattle.alt_forest.specs.declared.weights.Weights.{Weights}
 use Rattle.alt_forest.specs.declared.weights.Weights.TheVariants.{Zero, Given}
-use Rattle.alt_forest.specs.State.{State, IsTight, slack_of, slack_with, HasRings, SameParity, held_by, cover, IsSearchState}
+use Rattle.alt_forest.specs.State.{State, IsTight, slack_of, slack_with, HasRings, SameParity, held_by, dual_sum, IsSearchState}
 use Rattle.alt_forest.specs.Searches.{IsStart, is_given}
 use Rattle.alt_forest.proofs.Relabelled.{outer_not_out, inner_not_out, some_not_none}
 use Rattle.blossom_arena.proofs.Ends.{u_vertex, v_vertex}
 
 -- an edge feels twice the start
-slack_from : (g : Multigraph) (w : Weights) (y : ℕ → ℤ) (start : ℤ) (e : ℕ) → y (edge_of g e).u ≡ start → y (edge_of g e).v ≡ start → IsStart g w start → IsEdgeNumber g e → pos 0 ≤ℤ slack_with g (is_given w) y [] e
+slack_from : (g : Multigraph) (w : Weights) (y : ℕ → ℤ) (start : ℤ) (e : ℕ) → y (edge_of g e).u ≡ start → y (edge_of g e).v ≡ start → IsStart g w start → IsEdgeNumber g e
+    → pos 0 ≤ℤ slack_with g (is_given w) y [] e
 slack_from g Zero y start e u v is number =
     let zero : start ≡ pos 0 = is in
     subst (λ t. pos 0 ≤ℤ (pos 0 -ℤ t)) (sym (ap₂ (λ (a b : ℤ). a +ℤ b) (u ∙ zero) (v ∙ zero))) (omega (arith, ints))
@@ -30,15 +31,16 @@ slack_from g Given y start e u v is number =
     plain : (w s : ℤ) → s ≤ℤ w → pos 0 ≤ℤ (pos 2 *ℤ w -ℤ (s +ℤ s))
     plain w s low = omega (arith, ints)
 
-pub fresh_slack : (g : Multigraph) (w : Weights) (y : ℕ → ℤ) (start : ℤ) (bs : List Blossom) → IsGraph g → bs ≡ [] → ((v : ℕ) → is_vertex g.vertices v ≡ true → y v ≡ start) → IsStart g w start
+pub fresh_slack : (g : Multigraph) (w : Weights) (y : ℕ → ℤ) (start : ℤ) (bs : List Blossom) → IsGraph g → bs ≡ [] → ((v : ℕ) → is_vertex g.vertices v ≡ true → y v ≡ start)
+    → IsStart g w start
     → (e : ℕ) → IsEdgeNumber g e → pos 0 ≤ℤ slack_with g (is_given w) y bs e
 fresh_slack g w y start bs graph none duals is e number =
     subst (λ (xs : List Blossom). pos 0 ≤ℤ slack_with g (is_given w) y xs e) (sym none)
     (slack_from g w y start e (duals _ (u_vertex g e graph.ends number)) (duals _ (v_vertex g e graph.ends number)) is number)
 
--- where there is no blossom, and all vertices have one dual, that alone covers each
-pub alone_covered : (s : State) (start : ℤ) (v : ℕ) → s.blossoms ≡ [] → s.dual v ≡ start → cover s v ≡ start +ℤ pos 0
-alone_covered s start v none dual = ap (λ (bs : List Blossom). s.dual v +ℤ held_by s.dual bs v) none ∙ ap (λ (x : ℤ). x +ℤ pos 0) dual
+-- where there is no blossom, and all vertices have one dual, that alone is the dual sum of each
+pub alone_dual_sum : (s : State) (start : ℤ) (v : ℕ) → s.blossoms ≡ [] → s.dual v ≡ start → dual_sum s v ≡ start +ℤ pos 0
+alone_dual_sum s start v none dual = ap (λ (bs : List Blossom). s.dual v +ℤ held_by s.dual bs v) none ∙ ap (λ (x : ℤ). x +ℤ pos 0) dual
 
 one_parity : (x y start : ℤ) → x ≡ start +ℤ pos 0 → y ≡ start +ℤ pos 0 → SameParity x y
 one_parity x y start e f = (pos 0, omega (arith, ints))
@@ -52,7 +54,7 @@ fresh s start none out free same slacks = record {
   slacks = slacks;
   duals = subst (AllByRecursion (λ (b : Blossom). pos 0 ≤ℤ s.dual b.node)) (sym none) tt;
   mates = λ a e is has. some_not_none e (sym has ∙ free a);
-  parity = λ v w iv iw v_free w_free. one_parity (cover s v) (cover s w) start (alone_covered s start v none (same v iv)) (alone_covered s start w none (same w iw));
+  parity = λ v w iv iw v_free w_free. one_parity (dual_sum s v) (dual_sum s w) start (alone_dual_sum s start v none (same v iv)) (alone_dual_sum s start w none (same w iw));
   labels = λ a is. record {
     outer = λ l. outer_not_out (sym l ∙ out a);
     inner = λ l. inner_not_out (sym l ∙ out a);

@@ -1,21 +1,50 @@
 -- A hop: from an outer node by its mate, and by that one's parent, to the next outer node above. Each outer node with a
 -- mate has one, and what is read there is that hop.
-use Rattle.std.proofs.Common.{◌≡◌, ℕ, ◌<◌, ◌∷◌, length, Some, sym, ap, ◌∙◌, arith}
+use Rattle.std.proofs.Common.{◌≡◌, ℕ, ◌<◌, pos, List, [], ◌∷◌, length, Some, sym, ap, ◌∙◌, arith}
 use Rattle.std.proofs.lemmas.Option.{same_Some}
+use Rattle.graph_theory.specs.Graph.{IsEdgeNumber}
+use Rattle.blossom_arena.specs.declared.links.Link.{Link}
 use Rattle.alt_forest.specs.declared.hop.Hop.{Hop}
 use Rattle.blossom_arena.specs.Family.{IsNested}
-use Rattle.blossom_arena.specs.declared.label.Label.TheVariants.{Outer}
-use Rattle.alt_forest.specs.State.{State, IsOutermost, IsSearchState}
+use Rattle.blossom_arena.specs.declared.label.Label.TheVariants.{Outer, Inner}
+use Rattle.alt_forest.specs.State.{State, IsMate, IsOutermost, IsSearchState, Joins, slack_of}
 use Rattle.alt_forest.specs.Trees.{other_node, far_end, up_edge_by, up_of, path_of, root_of}
-use Rattle.alt_forest.specs.Ways.{HasHop, IsRead, IsHop}
+use Rattle.alt_forest.specs.Ways.{HasHop, IsRead}
 use Rattle.alt_forest.proofs.Roots.{path_up, root_up}
 use Rattle.alt_forest.proofs.Walk.{deeper_differs, other_node_joins}
+
+-- from an outer node by its mate to an inner node, and by that one's parent to an outer node, by tight edges and ever
+-- nearer to the root
+pub record IsHop (s : State) (depth : ℕ → ℕ) (a : ℕ) (h : Hop) : Type 0 where
+  pub is : IsOutermost s a
+  pub label : s.label a ≡ Outer
+  pub mate : s.mate a ≡ Some h.mate
+  pub is_mate : IsMate s a h.mate h.inner
+  pub inner_label : s.label h.inner ≡ Inner
+  pub parent : s.parent h.inner ≡ Some h.parent
+  pub lower : depth h.inner < depth a
+  pub edge : IsEdgeNumber s.graph h.parent
+  pub joins : Joins s.graph s.blossoms h.parent h.inner h.outer
+  pub tight : slack_of s h.parent ≡ pos 0
+  pub up_is : IsOutermost s h.outer
+  pub up_outer : s.label h.outer ≡ Outer
+  pub lowest : depth h.outer < depth h.inner
+
+-- hops from one outer node up to another
+abbrev pub AreHops : State → (ℕ → ℕ) → ℕ → List Hop → ℕ → Type 0
+AreHops s depth a [] top = a ≡ top
+AreHops s depth a (h ∷ hs) top = IsHop s depth a h × AreHops s depth h.outer hs top
+
+-- the links of these hops, the last node left out
+abbrev pub links_up : ℕ → List Hop → List Link
+links_up a [] = []
+links_up a (h ∷ hs) = record { node = a; edge = h.mate } ∷ (record { node = h.inner; edge = h.parent } ∷ links_up h.outer hs)
 
 pub hop_above : (s : State) (depth : ℕ → ℕ) (a e : ℕ) → IsSearchState s depth → IsOutermost s a → s.label a ≡ Outer → s.mate a ≡ Some e → (h : Hop) × IsHop s depth a h
 hop_above s depth a e st is outer has =
     let w = st.mates a e is has in
     let says = (st.labels a is).outer outer e w.0 has w.1 in
-    let i = (st.labels w.0 w.1.outer).inner says.0 in (
+    let i = (st.labels w.0 w.1.outermost).inner says.0 in (
       record { mate = e; inner = w.0; parent = i.edge; outer = i.up },
       record {
         is = is;
@@ -62,10 +91,10 @@ module _ (s : State) (depth : ℕ → ℕ) (a : ℕ) (h : Hop) (is : IsHop s dep
   module _ (rank : ℕ → ℕ) (nested : IsNested s.graph.vertices s.blossoms) (st : IsSearchState s rank) where
     -- it leaves two nodes of the path behind
     pub hop_path : path_of s a ≡ a ∷ (h.inner ∷ path_of s h.outer)
-    hop_path = path_up s rank nested st a h.inner is.is up_to_inner ∙ ap (λ xs. a ∷ xs) (path_up s rank nested st h.inner h.outer is.is_mate.outer up_to_outer)
+    hop_path = path_up s rank nested st a h.inner is.is up_to_inner ∙ ap (λ xs. a ∷ xs) (path_up s rank nested st h.inner h.outer is.is_mate.outermost up_to_outer)
 
     pub hop_shorter : length (path_of s h.outer) < length (path_of s a)
     hop_shorter = omega (arith, ap length hop_path)
 
     pub hop_root : root_of s a ≡ root_of s h.outer
-    hop_root = root_up s rank nested st a h.inner is.is is.is_mate.outer up_to_inner ∙ root_up s rank nested st h.inner h.outer is.is_mate.outer is.up_is up_to_outer
+    hop_root = root_up s rank nested st a h.inner is.is is.is_mate.outermost up_to_inner ∙ root_up s rank nested st h.inner h.outer is.is_mate.outermost is.up_is up_to_outer

@@ -7,10 +7,11 @@ use Rattle.blossom_arena.specs.Family.{Blossom, is_vertex, outermost}
 use Rattle.blossom_arena.proofs.Ends.{u_vertex, v_vertex}
 use Rattle.blossom_arena.proofs.Lists.{by_test}
 use Rattle.alt_forest.specs.State.{Joins}
-use Rattle.alt_forest.specs.Spokes.{LeadsTo}
+use Rattle.alt_forest.specs.IncidentEdges.{LeadsTo}
 
 -- an edge at a vertex leads to its other end
-pub leads : (g : Multigraph) (e v x : ℕ) (w : ℤ) → IsEdgeNumber g e → touches (edge_of g e) v ≡ true → x ≡ cond (eqb (edge_of g e).u v) (edge_of g e).v (edge_of g e).u → w ≡ (edge_of g e).w → LeadsTo g e v x w
+pub leads : (g : Multigraph) (e v x : ℕ) (w : ℤ) → IsEdgeNumber g e → touches (edge_of g e) v ≡ true → x ≡ cond (eqb (edge_of g e).u v) (edge_of g e).v (edge_of g e).u
+    → w ≡ (edge_of g e).w → LeadsTo g e v x w
 leads g e v x w is touched far weight = record {
   number = is;
   ends = by_test (eqb (edge_of g e).u v)

@@ -1,5 +1,6 @@
 pub mod Places
 pub mod Tight
+pub mod Updates
 pub mod Relabelled
 pub mod Fresh
 pub mod Walk
@@ -7,7 +8,7 @@ pub mod Mates
 pub mod Paths
 pub mod Routes
 pub mod Forks
-pub mod Covers
+pub mod DualSums
 pub mod Leads
 pub mod Totals
 pub mod Certified
@@ -22,12 +23,15 @@ pub mod Counted
 pub mod Puts
 pub mod Moving
 pub mod Listed
+pub mod LinkedBoth
+pub mod Kept
+pub mod KeptSteps
 pub mod Queues
 pub mod Needs
 pub mod NoTree
 pub mod Looks
 pub mod Duals
-pub mod SpokeLists
+pub mod IncidenceLists
 pub mod EntrySteps
 pub mod Planted
 pub mod Seeds

@@ -25,7 +25,8 @@ term_le false true x h = omega arith
 term_le false false x h = omega arith
 
 weigh_le : (p q : ℕ → Bool) (w : ℕ → ℕ) (n : ℕ) → ((a : ℕ) → 1 ≤ a → a ≤ n → q a ≡ true → p a ≡ true) → weigh q w n ≤ weigh p w n
-weigh_le p q w n within = sum_to-le (λ i. cond (q (i + 1)) (w (i + 1)) 0) (λ i. cond (p (i + 1)) (w (i + 1)) 0) n (λ k b. term_le (q (k + 1)) (p (k + 1)) (w (k + 1)) (within (k + 1) (omega arith) (omega arith)))
+weigh_le p q w n within = sum_to-le (λ i. cond (q (i + 1)) (w (i + 1)) 0) (λ i. cond (p (i + 1)) (w (i + 1)) 0) n
+    (λ k b. term_le (q (k + 1)) (p (k + 1)) (w (k + 1)) (within (k + 1) (omega arith) (omega arith)))
 
 -- the same test but for one number
 abbrev pub but : (ℕ → Bool) → ℕ → ℕ → Bool
@@ -48,13 +49,15 @@ weigh_but p w x n low high passes =
     omega (arith, parts, both, one)
 
 -- different vertices that pass one test and not a narrower one
-pub weigh_less : (g : Multigraph) (p q : ℕ → Bool) (n : ℕ) (vs : List ℕ) → AllNew vs → ((v : ℕ) → holds vs v ≡ true → is_vertex n v ≡ true) → ((v : ℕ) → holds vs v ≡ true → p v ≡ true) → ((v : ℕ) → holds vs v ≡ true → q v ≡ false)
+pub weigh_less : (g : Multigraph) (p q : ℕ → Bool) (n : ℕ) (vs : List ℕ) → AllNew vs → ((v : ℕ) → holds vs v ≡ true → is_vertex n v ≡ true) → ((v : ℕ) → holds vs v ≡ true → p v ≡ true)
+    → ((v : ℕ) → holds vs v ≡ true → q v ≡ false)
     → ((a : ℕ) → is_vertex n a ≡ true → q a ≡ true → p a ≡ true) → weigh q (λ v. length (edges_around g v)) n + ends_around g vs ≤ weigh p (λ v. length (edges_around g v)) n
 weigh_less g p q n [] new vertex passes fails within = omega (arith, weigh_le p q (λ v. length (edges_around g v)) n (λ a low high e. within a (range_vertex n a low high) e))
 weigh_less g p q n (x ∷ xs) new vertex passes fails within =
     let range = vertex_range n x (vertex x (first_in x xs)) in
     let differs : (v : ℕ) → holds xs v ≡ true → x ≢ v = λ v h e. both_ways (holds xs x) new.0 (ap (holds xs) e ∙ h) in
-    let rest = weigh_less g (but p x) q n xs new.1 (λ v h. vertex v (later_in x xs v h)) (λ v h. but_else p x v (differs v h) ∙ passes v (later_in x xs v h)) (λ v h. fails v (later_in x xs v h))
+    let rest = weigh_less g (but p x) q n xs new.1 (λ v h. vertex v (later_in x xs v h)) (λ v h. but_else p x v (differs v h) ∙ passes v (later_in x xs v h))
+    (λ v h. fails v (later_in x xs v h))
     (λ a is e. but_else p x a (λ same. both_ways (q x) (fails x (first_in x xs)) (ap q same ∙ e)) ∙ within a is e) in
     let one = weigh_but p (λ v. length (edges_around g v)) x n range.0 range.1 (passes x (first_in x xs)) in
     omega (arith, rest, one)
@@ -85,14 +88,17 @@ all_ends g ends =
     omega (arith, spread, turned, most)
 
 -- so different vertices have no more
-pub ends_most : (g : Multigraph) (vs : List ℕ) → All (IsEdgeWithin g.vertices) g.edges → AllNew vs → ((v : ℕ) → holds vs v ≡ true → is_vertex g.vertices v ≡ true) → ends_around g vs ≤ 2 * length g.edges
+pub ends_most : (g : Multigraph) (vs : List ℕ) → All (IsEdgeWithin g.vertices) g.edges → AllNew vs → ((v : ℕ) → holds vs v ≡ true → is_vertex g.vertices v ≡ true)
+    → ends_around g vs ≤ 2 * length g.edges
 ends_most g vs ends new vertex =
     let less = weigh_less g (λ _. true) (λ _. false) g.vertices vs new vertex (λ v h. refl) (λ v h. refl) (λ a is e. refl) in
     omega (arith, less, all_ends g ends)
 
 -- different vertices come into outer nodes, and none leaves them: so many looks fewer are left for vertices
-pub outside_ends_fall : (s t : State) (vs : List ℕ) → t.graph ≡ s.graph → AllNew vs → ((v : ℕ) → holds vs v ≡ true → is_vertex s.graph.vertices v ≡ true) → ((v : ℕ) → holds vs v ≡ true → is_outside s v ≡ true) → ((v : ℕ) → holds vs v ≡ true → is_outside t v ≡ false)
+pub outside_ends_fall : (s t : State) (vs : List ℕ) → t.graph ≡ s.graph → AllNew vs → ((v : ℕ) → holds vs v ≡ true → is_vertex s.graph.vertices v ≡ true)
+    → ((v : ℕ) → holds vs v ≡ true → is_outside s v ≡ true) → ((v : ℕ) → holds vs v ≡ true → is_outside t v ≡ false)
     → ((a : ℕ) → is_vertex s.graph.vertices a ≡ true → is_outside t a ≡ true → is_outside s a ≡ true) → outside_ends t + ends_around s.graph vs ≤ outside_ends s
 outside_ends_fall s t vs same new vertex was now within =
-    let moved : outside_ends t ≡ weigh (is_outside t) (λ v. length (edges_around s.graph v)) s.graph.vertices = ap (λ (g : Multigraph). weigh (is_outside t) (λ v. length (edges_around g v)) g.vertices) same in
+    let moved : outside_ends t ≡ weigh (is_outside t) (λ v. length (edges_around s.graph v)) s.graph.vertices = ap
+    (λ (g : Multigraph). weigh (is_outside t) (λ v. length (edges_around g v)) g.vertices) same in
     omega (arith, moved, weigh_less s.graph (is_outside s) (is_outside t) s.graph.vertices vs new vertex was now within)

@@ -18,7 +18,14 @@ joins_turned g bs e a c j = ⊎_elim (λ p. inr p) (λ p. inl p) j
 
 -- a mate is the mate of both
 pub mate_turned : (s : State) (a e c : ℕ) → IsOutermost s a → s.mate a ≡ Some e → IsMate s a e c → IsMate s c e a
-mate_turned s a e c is has w = record { edge = w.edge; joins = joins_turned s.graph s.blossoms e a c w.joins; different = λ q. w.different (sym q); tight = w.tight; outer = is; back = has }
+mate_turned s a e c is has w = record {
+  edge = w.edge;
+  joins = joins_turned s.graph s.blossoms e a c w.joins;
+  different = λ q. w.different (sym q);
+  tight = w.tight;
+  outermost = is;
+  back = has;
+}
 
 -- a node has one mate
 pub mate_unique : (s : State) (a f b h c : ℕ) → s.mate a ≡ Some f → s.mate a ≡ Some h → IsMate s a f b → IsMate s a h c → b ≡ c

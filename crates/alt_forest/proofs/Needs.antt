@@ -51,7 +51,8 @@ needs_by s clock e m h = record {
 }
 
 -- and what it needs is what is asked
-pub asked_by : (s : State) (clock : ℤ) (e : ℕ) (m : Option ℤ) (a b : ℕ) → NeedsMoment s clock e m → Joins s.graph s.blossoms e a b → a ≢ b → MomentBy (s.label a) (s.label b) clock (slack_of s e) m
+pub asked_by : (s : State) (clock : ℤ) (e : ℕ) (m : Option ℤ) (a b : ℕ) → NeedsMoment s clock e m → Joins s.graph s.blossoms e a b → a ≢ b
+    → MomentBy (s.label a) (s.label b) clock (slack_of s e) m
 asked_by s clock e m a b h j ne = of_labels (s.label a) (s.label b) refl refl
   where
     of_labels : (one other : Label) → s.label a ≡ one → s.label b ≡ other → MomentBy one other clock (slack_of s e) m
@@ -75,7 +76,8 @@ needs_none_inner s clock e a b m j inner = record {
   between = λ c d half k ne lc ld twice. absurd (at_ends c d k (λ q. outer_not_inner (sym lc ∙ q)) (λ q. outer_not_inner (sym ld ∙ q)));
 }
   where
-    same_node : (c d : ℕ) → Joins s.graph s.blossoms e c d → (s.label c ≡ Inner → ⊥) → (s.label d ≡ Inner → ⊥) → (x : ℕ) → s.label x ≡ Inner → ((x ≡ node_u s.graph s.blossoms e → ⊥) × (x ≡ node_v s.graph s.blossoms e → ⊥))
+    same_node : (c d : ℕ) → Joins s.graph s.blossoms e c d → (s.label c ≡ Inner → ⊥) → (s.label d ≡ Inner → ⊥) → (x : ℕ) → s.label x ≡ Inner
+        → ((x ≡ node_u s.graph s.blossoms e → ⊥) × (x ≡ node_v s.graph s.blossoms e → ⊥))
     same_node c d k nc nd x lx = ⊎_elim
         (λ p. (λ q. nc (ap s.label (sym p.0 ∙ sym q) ∙ lx), λ q. nd (ap s.label (sym p.1 ∙ sym q) ∙ lx)))
         (λ p. (λ q. nd (ap s.label (sym p.0 ∙ sym q) ∙ lx), λ q. nc (ap s.label (sym p.1 ∙ sym q) ∙ lx)))
@@ -88,13 +90,15 @@ needs_none_inner s clock e a b m j inner = record {
         j
 
 -- an edge has what it needs where it has what is asked by the labels of the nodes at its ends
-pub needs_of : (s : State) (clock : ℤ) (e : ℕ) (m : Option ℤ) (one other : Label) → s.label (node_u s.graph s.blossoms e) ≡ one → s.label (node_v s.graph s.blossoms e) ≡ other → MomentBy one other clock (slack_of s e) m → NeedsMoment s clock e m
+pub needs_of : (s : State) (clock : ℤ) (e : ℕ) (m : Option ℤ) (one other : Label) → s.label (node_u s.graph s.blossoms e) ≡ one → s.label (node_v s.graph s.blossoms e) ≡ other
+    → MomentBy one other clock (slack_of s e) m → NeedsMoment s clock e m
 needs_of s clock e m one other lu lv by = needs_by s clock e m (λ ne.
     subst (λ l. MomentBy (s.label (node_u s.graph s.blossoms e)) l clock (slack_of s e) m) (sym lv)
     (subst (λ l. MomentBy l other clock (slack_of s e) m) (sym lu) by))
 
 -- the same of any two nodes that it joins, in either order
-pub needs_between : (s : State) (clock : ℤ) (e : ℕ) (m : Option ℤ) (a b : ℕ) (one other : Label) → Joins s.graph s.blossoms e a b → s.label a ≡ one → s.label b ≡ other → MomentBy one other clock (slack_of s e) m → NeedsMoment s clock e m
+pub needs_between : (s : State) (clock : ℤ) (e : ℕ) (m : Option ℤ) (a b : ℕ) (one other : Label) → Joins s.graph s.blossoms e a b → s.label a ≡ one → s.label b ≡ other
+    → MomentBy one other clock (slack_of s e) m → NeedsMoment s clock e m
 needs_between s clock e m a b one other j la lb by = ⊎_elim
     (λ p. needs_of s clock e m one other (ap s.label p.0 ∙ la) (ap s.label p.1 ∙ lb) by)
     (λ p. needs_of s clock e m other one (ap s.label p.0 ∙ lb) (ap s.label p.1 ∙ la) (turned one other clock (slack_of s e) m by))

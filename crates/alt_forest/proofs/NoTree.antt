@@ -1,5 +1,5 @@
 -- A search where no node is in a tree: nothing has a moment, and nothing need be listed.
-use Rattle.std.proofs.Common.{◌≡◌, ℕ, ℤ, pos, ◌≤ℤ◌, Option, None, length, vec_len, sym, ap, ◌∙◌, subst, arith}
+use Rattle.std.proofs.Common.{◌≡◌, ℕ, ℤ, pos, ◌≤ℤ◌, Option, None, length, sym, ap, ◌∙◌, subst, arith}
 use Rattle.std.specs.Vec.{vec_capacity}
 use Rattle.std.proofs.lemmas.List.{length-replicate}
 use Rattle.std.proofs.lemmas.Int.{ints}
@@ -29,16 +29,23 @@ none_queued s out clock none = record {
   empty = λ no item. none item;
 }
 
-pub none_standing : (s : Search) → ((a : ℕ) → label_at s.labels.items a ≡ Out) → ((a : ℕ) → label_at s.arena.motions a ≡ Out) → AreListed s.graph.vertices s.standing.items s.seeds.items → IsStanding s
-none_standing s out rest listed = record { listed = listed; trees = λ a is ne. absurd (ne (out a)); moves = λ a is. rest a ∙ sym (out a) }
+pub none_standing : (s : Search) → ((a : ℕ) → label_at s.labels.items a ≡ Out) → ((a : ℕ) → label_at s.arena.motions a ≡ Out) → AreListed s.graph.vertices s.standing.nodes s.standing.seeds
+    → IsStanding s
+none_standing s out rest listed = record {
+  listed = listed;
+  trees = λ a is ne. absurd (ne (out a));
+  same = λ a b is also ne ne_b roots. absurd (ne (out a));
+  moves = λ a is. rest a
+      ∙ sym (out a);
+}
 
 -- a queue that is cleared has its places
-pub room_cleared : (s : Search) (q : Moments) → q ≡ no_moments (length s.queue.edges) (length s.queue.blossoms) → HasShape s → HasRoom s.graph s.spokes q (vec_capacity s.standing) (vec_len s.seeds) (vec_capacity s.scanned)
+pub room_cleared : (s : Search) (q : Moments) → q ≡ no_moments (length s.queue.edges) (length s.queue.blossoms) → HasShape s
+    → HasRoom s.graph s.incidence q (length s.standing.seeds) (vec_capacity s.scanned)
 room_cleared s q is h = record {
   index = h.room.index;
   edges = ap (λ (r : Moments). length r.edges) is ∙ length-replicate (length s.queue.edges) (let none : Option ℤ = None in none) ∙ h.room.edges;
   nodes = ap (λ (r : Moments). length r.blossoms) is ∙ length-replicate (length s.queue.blossoms) (let none : Option ℤ = None in none) ∙ h.room.nodes;
-  standing = h.room.standing;
   seeds = h.room.seeds;
   scanned = h.room.scanned;
 }

@@ -34,7 +34,8 @@ module _ (s : State) (nested : IsNested s.graph.vertices s.blossoms) where
   -- whether an outermost node has a label
   pub in_labelled : (l : Label) (a : ℕ) → holds (nodes_labelled s l) a ≡ true → IsOutermost s a × (is_label (s.label a) l ≡ true)
   in_labelled l a h =
-      let p = and_parts (holds (outer_nodes s.graph.vertices s.blossoms) a) (is_label (s.label a) l) (sym (holds-filter (λ x. is_label (s.label x) l) (outer_nodes s.graph.vertices s.blossoms) a) ∙ h) in
+      let p = and_parts (holds (outer_nodes s.graph.vertices s.blossoms) a) (is_label (s.label a) l)
+      (sym (holds-filter (λ x. is_label (s.label x) l) (outer_nodes s.graph.vertices s.blossoms) a) ∙ h) in
       (sym (holds-outer_nodes s.graph.vertices s.blossoms a nested) ∙ p.0, p.1)
 
   pub of_labelled : (l : Label) (a : ℕ) → IsOutermost s a → is_label (s.label a) l ≡ true → holds (nodes_labelled s l) a ≡ true
@@ -88,13 +89,14 @@ module _ (s : State) (nested : IsNested s.graph.vertices s.blossoms) (depth : �
             let p = holds-map (mate_node s) inns root m in
             let c = child_is p.0 p.1 in
             some_not_none c.edge (sym (sym r.exposed ∙ ap s.mate (sym p.2) ∙ c.mate.back))),
-        new-map (mate_node s) inns (new_labelled s nested Inner) (λ a b ha hb same. mates_differ s a b (child_is a ha).edge (child_is b hb).edge (child_is a ha).mate (child_is b hb).mate same),
+        new-map (mate_node s) inns (new_labelled s nested Inner) (λ a b ha hb same. mates_differ s a b (child_is a ha).edge (child_is b hb).edge (child_is a ha).mate
+            (child_is b hb).mate same),
       )
       (λ x m. ⊎_elim
       (λ here. subst (λ y. holds (nodes_labelled s Outer) y ≡ true) (eqb-true root x here) (of_labelled s nested Outer root r.outermost (ap (λ l. is_label l Outer) r.outer)))
       (λ more.
       let p = holds-map (mate_node s) inns x more in
       let c = child_is p.0 p.1 in
-      subst (λ y. holds (nodes_labelled s Outer) y ≡ true) p.2 (of_labelled s nested Outer (mate_node s p.0) c.mate.outer (ap (λ l. is_label l Outer) c.outer)))
+      subst (λ y. holds (nodes_labelled s Outer) y ≡ true) p.2 (of_labelled s nested Outer (mate_node s p.0) c.mate.outermost (ap (λ l. is_label l Outer) c.outer)))
       (or_cases (eqb root x) (holds (map (mate_node s) inns) x) m)) in
       omega (arith, few, length-map inns (mate_node s))

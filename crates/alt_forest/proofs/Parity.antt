@@ -13,7 +13,7 @@ use Rattle.blossom_arena.proofs.Lists.{first_in}
 use Rattle.blossom_arena.proofs.Ends.{u_vertex, v_vertex}
 use Rattle.blossom_arena.proofs.Sets.{member_by_ring, outermost_node, members_some, member_vertex}
 use Rattle.alt_forest.specs.State.{State, Joins, IsTight, slack_of, next_node, IsChainTo, IsRing, HasRings, IsSearchState}
-use Rattle.alt_forest.specs.Trees.{SameParity, cover, held_by}
+use Rattle.alt_forest.specs.Trees.{SameParity, dual_sum, held_by}
 
 pub parity_refl : (x : ℤ) → SameParity x x
 parity_refl x = (pos 0, omega (arith, ints))
@@ -44,26 +44,27 @@ even : (w : Bool) (x : ℤ) → SameParity (cond w (pos 2 *ℤ x) (pos 0)) (pos 
 even true x = (x, omega (arith, ints))
 even false x = (pos 0, omega (arith, ints))
 
--- slack has the parity of what covers its two ends
-pub slack_parity : (s : State) (e : ℕ) → SameParity (slack_of s e) (cover s (edge_of s.graph e).u +ℤ cover s (edge_of s.graph e).v)
+-- slack has the parity of the dual sums of its two ends
+pub slack_parity : (s : State) (e : ℕ) → SameParity (slack_of s e) (dual_sum s (edge_of s.graph e).u +ℤ dual_sum s (edge_of s.graph e).v)
 slack_parity s e =
     let p = across_parity s.dual s.blossoms (edge_of s.graph e) in
     let d = even s.weighted (edge_of s.graph e).w in
-    plain (cond s.weighted (pos 2 *ℤ (edge_of s.graph e).w) (pos 0)) (duals_across s.dual s.blossoms (edge_of s.graph e)) (cover s (edge_of s.graph e).u) (cover s (edge_of s.graph e).v) p.0 d.0 p.1 d.1
+    plain (cond s.weighted (pos 2 *ℤ (edge_of s.graph e).w) (pos 0)) (duals_across s.dual s.blossoms (edge_of s.graph e)) (dual_sum s (edge_of s.graph e).u)
+    (dual_sum s (edge_of s.graph e).v) p.0 d.0 p.1 d.1
   where
     plain : (w p c d k l : ℤ) → p ≡ (c +ℤ d) +ℤ (k +ℤ k) → w ≡ pos 0 +ℤ (l +ℤ l) → SameParity (w -ℤ p) (c +ℤ d)
     plain w p c d k l e f = ((l -ℤ k) -ℤ (c +ℤ d), omega (arith, ints))
 
 -- a tight edge joins vertices of one parity
-pub tight_parity : (s : State) (e : ℕ) → slack_of s e ≡ pos 0 → SameParity (cover s (edge_of s.graph e).u) (cover s (edge_of s.graph e).v)
-tight_parity s e t = let p = slack_parity s e in plain (slack_of s e) (cover s (edge_of s.graph e).u) (cover s (edge_of s.graph e).v) p.0 p.1 t
+pub tight_parity : (s : State) (e : ℕ) → slack_of s e ≡ pos 0 → SameParity (dual_sum s (edge_of s.graph e).u) (dual_sum s (edge_of s.graph e).v)
+tight_parity s e t = let p = slack_parity s e in plain (slack_of s e) (dual_sum s (edge_of s.graph e).u) (dual_sum s (edge_of s.graph e).v) p.0 p.1 t
   where
     plain : (x c d k : ℤ) → x ≡ (c +ℤ d) +ℤ (k +ℤ k) → x ≡ pos 0 → SameParity c d
     plain x c d k e f = ((pos 0 -ℤ k) -ℤ d, omega (arith, ints))
 
 -- an edge whose ends are of one parity has even slack
-pub even_slack : (s : State) (e : ℕ) → SameParity (cover s (edge_of s.graph e).u) (cover s (edge_of s.graph e).v) → SameParity (slack_of s e) (pos 0)
-even_slack s e q = let p = slack_parity s e in plain (slack_of s e) (cover s (edge_of s.graph e).u) (cover s (edge_of s.graph e).v) p.0 q.0 p.1 q.1
+pub even_slack : (s : State) (e : ℕ) → SameParity (dual_sum s (edge_of s.graph e).u) (dual_sum s (edge_of s.graph e).v) → SameParity (slack_of s e) (pos 0)
+even_slack s e q = let p = slack_parity s e in plain (slack_of s e) (dual_sum s (edge_of s.graph e).u) (dual_sum s (edge_of s.graph e).v) p.0 q.0 p.1 q.1
   where
     plain : (x c d k l : ℤ) → x ≡ (c +ℤ d) +ℤ (k +ℤ k) → c ≡ d +ℤ (l +ℤ l) → SameParity x (pos 0)
     plain x c d k l e f = ((d +ℤ l) +ℤ k, omega (arith, ints))
@@ -82,7 +83,8 @@ module _ (g : Multigraph) (R : ℕ → ℕ → Type 0) (same : (u : ℕ) → R u
   hop bs e a b one is j r u v iu iv eu ev =
       ⊎_elim
       (λ p. join u _ v (one u (edge_of g e).u iu (u_vertex g e graph.ends is) (eu ∙ sym p.0)) (join _ _ v r (one (edge_of g e).v v (v_vertex g e graph.ends is) iv (p.1 ∙ sym ev))))
-      (λ p. join u _ v (one u (edge_of g e).v iu (v_vertex g e graph.ends is) (eu ∙ sym p.1)) (join _ _ v (turn _ _ r) (one (edge_of g e).u v (u_vertex g e graph.ends is) iv (p.0 ∙ sym ev))))
+      (λ p. join u _ v (one u (edge_of g e).v iu (v_vertex g e graph.ends is) (eu ∙ sym p.1))
+      (join _ _ v (turn _ _ r) (one (edge_of g e).u v (u_vertex g e graph.ends is) iv (p.0 ∙ sym ev))))
       j
 
   at_next : (bs : List Blossom) (z x : ℕ) → IsOneClass bs → is_vertex g.vertices x ≡ true → outermost bs x ≡ z → (ks : List Link)
@@ -99,8 +101,10 @@ module _ (g : Multigraph) (R : ℕ → ℕ → Type 0) (same : (u : ℕ) → R u
       (λ here.
       let at : outermost bs v ≡ l.node = sym (eqb-true l.node (outermost bs v) here) in
       ⊎_elim
-      (λ p. join v _ x (one v (edge_of g l.edge).u iv (u_vertex g l.edge graph.ends chain.0) (at ∙ sym p.0)) (join _ _ x keeps.0 (at_next bs z x one ix ex rest later (edge_of g l.edge).v (v_vertex g l.edge graph.ends chain.0) p.1)))
-      (λ p. join v _ x (one v (edge_of g l.edge).v iv (v_vertex g l.edge graph.ends chain.0) (at ∙ sym p.1)) (join _ _ x (turn _ _ keeps.0) (at_next bs z x one ix ex rest later (edge_of g l.edge).u (u_vertex g l.edge graph.ends chain.0) p.0)))
+      (λ p. join v _ x (one v (edge_of g l.edge).u iv (u_vertex g l.edge graph.ends chain.0) (at ∙ sym p.0))
+      (join _ _ x keeps.0 (at_next bs z x one ix ex rest later (edge_of g l.edge).v (v_vertex g l.edge graph.ends chain.0) p.1)))
+      (λ p. join v _ x (one v (edge_of g l.edge).v iv (v_vertex g l.edge graph.ends chain.0) (at ∙ sym p.1))
+      (join _ _ x (turn _ _ keeps.0) (at_next bs z x one ix ex rest later (edge_of g l.edge).u (u_vertex g l.edge graph.ends chain.0) p.0)))
       chain.1)
       (λ more. later v iv more)
       (or_cases (eqb l.node (outermost bs v)) (in_ring rest (outermost bs v)) r)
@@ -123,8 +127,10 @@ module _ (g : Multigraph) (R : ℕ → ℕ → Type 0) (same : (u : ℕ) → R u
       → (u v : ℕ) → is_vertex g.vertices u ≡ true → is_vertex g.vertices v ≡ true → (p q : Bool) → in_ring b.ring (outermost older u) ≡ p → in_ring b.ring (outermost older v) ≡ q
       → cond p b.node (outermost older u) ≡ cond q b.node (outermost older v) → R u v
   class_step b older h rings keeps before u v iu iv true true ru rv e = round older before b.ring rings.0 keeps u v iu iv ru rv
-  class_step b older h rings keeps before u v iu iv true false ru rv e = absurd (both_ways (is_node g.vertices older b.node) h.0.fresh (ap (is_node g.vertices older) e ∙ outermost_node g.vertices older v iv))
-  class_step b older h rings keeps before u v iu iv false true ru rv e = absurd (both_ways (is_node g.vertices older b.node) h.0.fresh (ap (is_node g.vertices older) (sym e) ∙ outermost_node g.vertices older u iu))
+  class_step b older h rings keeps before u v iu iv true false ru rv e = absurd (both_ways (is_node g.vertices older b.node) h.0.fresh
+      (ap (is_node g.vertices older) e ∙ outermost_node g.vertices older v iv))
+  class_step b older h rings keeps before u v iu iv false true ru rv e = absurd (both_ways (is_node g.vertices older b.node) h.0.fresh
+      (ap (is_node g.vertices older) (sym e) ∙ outermost_node g.vertices older u iu))
   class_step b older h rings keeps before u v iu iv false false ru rv e = before u v iu iv e
 
   pub one_class : (bs : List Blossom) → IsNested g.vertices bs → HasRings g bs → AllByRecursion (λ (b : Blossom). AllByRecursion Keeps b.ring) bs → IsOneClass bs
@@ -135,11 +141,12 @@ module _ (g : Multigraph) (R : ℕ → ℕ → Type 0) (same : (u : ℕ) → R u
 
 -- the vertices of two nodes have one parity
 abbrev pub NodesAgree : State → ℕ → ℕ → Type 0
-NodesAgree s a b = (u v : ℕ) → is_vertex s.graph.vertices u ≡ true → is_vertex s.graph.vertices v ≡ true → outermost s.blossoms u ≡ a → outermost s.blossoms v ≡ b → SameParity (cover s u) (cover s v)
+NodesAgree s a b = (u v : ℕ) → is_vertex s.graph.vertices u ≡ true → is_vertex s.graph.vertices v ≡ true → outermost s.blossoms u ≡ a → outermost s.blossoms v ≡ b
+    → SameParity (dual_sum s u) (dual_sum s v)
 
 module _ (s : State) (depth : ℕ → ℕ) (nested : IsNested s.graph.vertices s.blossoms) (graph : IsGraph s.graph) (st : IsSearchState s depth) where
   abbrev Agree : ℕ → ℕ → Type 0
-  Agree u v = SameParity (cover s u) (cover s v)
+  Agree u v = SameParity (dual_sum s u) (dual_sum s v)
 
   tight_ring : (ring : List Link) → AllByRecursion (λ (l : Link). IsTight s l.edge) ring → AllByRecursion (λ (l : Link). Agree (edge_of s.graph l.edge).u (edge_of s.graph l.edge).v) ring
   tight_ring [] t = tt
@@ -151,20 +158,22 @@ module _ (s : State) (depth : ℕ → ℕ) (nested : IsNested s.graph.vertices s
   tight_all (b ∷ bs) t = (tight_ring b.ring t.0, tight_all bs t.1)
 
   pub node_parity : (u v : ℕ) → is_vertex s.graph.vertices u ≡ true → is_vertex s.graph.vertices v ≡ true → outermost s.blossoms u ≡ outermost s.blossoms v → Agree u v
-  node_parity = one_class s.graph Agree (λ u. parity_refl (cover s u)) (λ u v. parity_sym (cover s u) (cover s v)) (λ u v w. parity_trans (cover s u) (cover s v) (cover s w)) graph
+  node_parity = one_class s.graph Agree (λ u. parity_refl (dual_sum s u)) (λ u v. parity_sym (dual_sum s u) (dual_sum s v))
+      (λ u v w. parity_trans (dual_sum s u) (dual_sum s v) (dual_sum s w)) graph
       s.blossoms nested st.rings (tight_all s.blossoms st.tight_rings)
 
   -- a tight edge between two nodes: all their vertices have one parity
   pub edge_parity : (e a b : ℕ) → IsEdgeNumber s.graph e → Joins s.graph s.blossoms e a b → slack_of s e ≡ pos 0 → NodesAgree s a b
   edge_parity e a b is j t =
-      hop s.graph Agree (λ u. parity_refl (cover s u)) (λ u v. parity_sym (cover s u) (cover s v)) (λ u v w. parity_trans (cover s u) (cover s v) (cover s w)) graph
+      hop s.graph Agree (λ u. parity_refl (dual_sum s u)) (λ u v. parity_sym (dual_sum s u) (dual_sum s v)) (λ u v w. parity_trans (dual_sum s u) (dual_sum s v) (dual_sum s w)) graph
       s.blossoms e a b node_parity is j (tight_parity s e t)
 
 pub agree_trans : (s : State) (a b c w : ℕ) → is_vertex s.graph.vertices w ≡ true → outermost s.blossoms w ≡ b → NodesAgree s a b → NodesAgree s b c → NodesAgree s a c
-agree_trans s a b c w iw ew p q u v iu iv eu ev = parity_trans (cover s u) (cover s w) (cover s v) (p u w iu iw eu ew) (q w v iw iv ew ev)
+agree_trans s a b c w iw ew p q u v iu iv eu ev = parity_trans (dual_sum s u) (dual_sum s w) (dual_sum s v) (p u w iu iw eu ew) (q w v iw iv ew ev)
 
 -- each outermost node has a vertex
-pub vertex_of : (n : ℕ) (bs : List Blossom) (a : ℕ) → IsNested n bs → is_node n bs a ≡ true → ((v : ℕ) → holds (members_of bs a) v ≡ true → outermost bs v ≡ a) → (v : ℕ) × (is_vertex n v ≡ true) × (outermost bs v ≡ a)
+pub vertex_of : (n : ℕ) (bs : List Blossom) (a : ℕ) → IsNested n bs → is_node n bs a ≡ true → ((v : ℕ) → holds (members_of bs a) v ≡ true → outermost bs v ≡ a)
+    → (v : ℕ) × (is_vertex n v ≡ true) × (outermost bs v ≡ a)
 vertex_of n bs a nested node back = by_members (members_of bs a) refl (members_some n bs a nested node)
   where
     by_members : (ms : List ℕ) → members_of bs a ≡ ms → 1 ≤ length ms → (v : ℕ) × (is_vertex n v ≡ true) × (outermost bs v ≡ a)

@@ -12,16 +12,17 @@ use Rattle.alt_forest.proofs.Walk.{up_falls, path_step, path_none}
 
 -- a node on a path: outermost, and not deeper than this
 pub record IsPassed (s : State) (depth : ℕ → ℕ) (most a : ℕ) : Type 0 where
-  pub outer : IsOutermost s a
+  pub outermost : IsOutermost s a
   pub shallow : depth a ≤ most
 
 weaker : (s : State) (depth : ℕ → ℕ) (m n : ℕ) (xs : List ℕ) → m ≤ n → AllByRecursion (IsPassed s depth m) xs → AllByRecursion (IsPassed s depth n) xs
 weaker s depth m n [] h each = tt
-weaker s depth m n (x ∷ xs) h each = (record { outer = each.0.outer; shallow = omega (arith, each.0.shallow) }, weaker s depth m n xs h each.1)
+weaker s depth m n (x ∷ xs) h each = (record { outermost = each.0.outermost; shallow = omega (arith, each.0.shallow) }, weaker s depth m n xs h each.1)
 
 others : (s : State) (depth : ℕ → ℕ) (a m : ℕ) (xs : List ℕ) → m < depth a → AllByRecursion (IsPassed s depth m) xs → holds xs a ≡ false
 others s depth a m [] h each = refl
-others s depth a m (x ∷ xs) h each = or_from (eqb x a) (holds xs a) (ne_eqb x a (λ e. let same : depth x ≡ depth a = ap depth e in absurd (omega (arith, each.0.shallow)))) (others s depth a m xs h each.1)
+others s depth a m (x ∷ xs) h each = or_from (eqb x a) (holds xs a) (ne_eqb x a (λ e. let same : depth x ≡ depth a = ap depth e in absurd (omega (arith, each.0.shallow))))
+    (others s depth a m xs h each.1)
 
 -- each node on the path is outermost, and no deeper than the first, and none is there twice
 pub record Descends (s : State) (depth : ℕ → ℕ) (a : ℕ) (xs : List ℕ) : Type 0 where
@@ -33,7 +34,7 @@ descends zero s depth a h is = record { passed = tt; different = tt }
 descends (suc k) s depth a h is = by_test (eqb a 0)
     (λ none. subst (Descends s depth a) (sym (ap (λ t. cond t [] (a ∷ path_within k s (up_of s a))) none)) (record { passed = tt; different = tt }))
     (λ some. subst (Descends s depth a) (sym (ap (λ t. cond t [] (a ∷ path_within k s (up_of s a))) some))
-    (let here : IsPassed s depth (depth a) a = record { outer = is; shallow = omega arith } in
+    (let here : IsPassed s depth (depth a) a = record { outermost = is; shallow = omega arith } in
     ⊎_elim
     (λ none. let empty : path_within k s (up_of s a) ≡ [] = ap (path_within k s) none ∙ path_none k s in
     subst (λ xs. Descends s depth a (a ∷ xs)) (sym empty) (record { passed = (here, tt); different = (refl, tt) }))
@@ -53,12 +54,14 @@ passed_at s depth m (x ∷ xs) q each e =
     (or_cases (eqb x q) (holds xs q) e)
 
 -- a path is no longer than there are nodes
-pub path_short : (k : ℕ) (s : State) (depth : ℕ → ℕ) (a : ℕ) → IsNested s.graph.vertices s.blossoms → IsSearchState s depth → IsOutermost s a → length (path_within k s a) ≤ node_limit s.graph.vertices
+pub path_short : (k : ℕ) (s : State) (depth : ℕ → ℕ) (a : ℕ) → IsNested s.graph.vertices s.blossoms → IsSearchState s depth → IsOutermost s a
+    → length (path_within k s a) ≤ node_limit s.graph.vertices
 path_short k s depth a nested h is =
     let d = descends k s depth a h is in
     let most : ℕ = node_limit s.graph.vertices in
     let fits : length (path_within k s a) ≤ length (vertices most) = length-within (path_within k s a) (vertices most) d.different
-    (λ q e. holds-vertices most q ∙ (let range = node_range s.graph.vertices s.blossoms q nested (outermost_parts s.graph.vertices s.blossoms q (passed_at s depth (depth a) (path_within k s a) q d.passed e).outer).0 in range_vertex most q range.0 range.1)) in
+    (λ q e. holds-vertices most q ∙ (let range = node_range s.graph.vertices s.blossoms q nested
+    (outermost_parts s.graph.vertices s.blossoms q (passed_at s depth (depth a) (path_within k s a) q d.passed e).outermost).0 in range_vertex most q range.0 range.1)) in
     omega (arith, fits, length-vertices most)
 
 -- where steps are left over, more change nothing

@@ -2,7 +2,7 @@
 use Rattle.std.proofs.Common.{◌≡◌, ◌≢◌, ℕ, ◌+◌, ◌*◌, ◌≤◌, Bool, true, false, not, eqb, cond, List, [], ◌∷◌, length, refl, sym, ap, ◌∙◌, subst, arith, ⊎_elim}
 use Rattle.std.specs.Prelude.{ℤ, Option, Some, None}
 use Rattle.std.specs.List.{list_any}
-use Rattle.std.proofs.lemmas.Bool.{eqb-true, eqb-false, eq-eqb, ne_eqb, both_ways, or_cases, or_left, or_right}
+use Rattle.std.proofs.lemmas.Bool.{cases_eq, eqb-true, eqb-false, eq-eqb, ne_eqb, both_ways, or_cases, or_left, or_right}
 use Rattle.std.proofs.Math.Nat.{mul-le-mul_left}
 use Rattle.graph_theory.specs.Graph.{IsGraph, IsEdgeNumber, edge_of}
 use Rattle.graph_theory.specs.Parts.{holds}
@@ -20,12 +20,12 @@ use Rattle.alt_forest.specs.State.{State, IsOutermost, IsExposed, Joins, node_u,
 use Rattle.alt_forest.specs.Counts.{is_outside, outside_among}
 use Rattle.alt_forest.specs.Trees.{is_label, root_of, up_edge, up_edge_by, far_end}
 use Rattle.alt_forest.specs.Searches.{IsSound, state_of, label_at, put}
-use Rattle.alt_forest.specs.Entries.{NeedsMoment, IsQueued, IsQueuedBut, touches_any, ends_around, looks_left}
+use Rattle.alt_forest.specs.Entries.{NeedsMoment, IsQueued, IsQueuedBut, touches_any, ends_around, looks_left, outside_ends}
 use Rattle.alt_forest.specs.Standing.{AreListed, IsStanding, seed_at}
 use Rattle.alt_forest.proofs.Places.{nested_of}
 use Rattle.alt_forest.proofs.Relabelled.{with_labels, put_here, put_other, outer_not_inner, outer_not_out, some_not_none, planted}
 use Rattle.alt_forest.proofs.Looks.{outside_ends_fall}
-use Rattle.alt_forest.proofs.Roots.{up_or_root}
+use Rattle.alt_forest.proofs.Roots.{up_or_root, ways_lead}
 use Rattle.alt_forest.proofs.Seeds.{AreTrees, roots_are_trees, tree_root}
 use Rattle.alt_forest.proofs.Walk.{other_node_joins}
 
@@ -35,8 +35,10 @@ pub past_node : (s : State) (v e : ℕ) → IsGraph s.graph → IsNested s.graph
 past_node s v e graph nested is none =
     let u = outermost_has s.graph.vertices s.blossoms (edge_of s.graph e).u nested (u_vertex s.graph e graph.ends is) in
     let w = outermost_has s.graph.vertices s.blossoms (edge_of s.graph e).v nested (v_vertex s.graph e graph.ends is) in (
-      λ q. both_ways (touches_any (members_of s.blossoms v) (edge_of s.graph e)) none (or_left (holds (members_of s.blossoms v) (edge_of s.graph e).u) (holds (members_of s.blossoms v) (edge_of s.graph e).v) (subst (λ x. holds (members_of s.blossoms x) (edge_of s.graph e).u ≡ true) q u.1)),
-      λ q. both_ways (touches_any (members_of s.blossoms v) (edge_of s.graph e)) none (or_right (holds (members_of s.blossoms v) (edge_of s.graph e).u) (holds (members_of s.blossoms v) (edge_of s.graph e).v) (subst (λ x. holds (members_of s.blossoms x) (edge_of s.graph e).v ≡ true) q w.1)),
+      λ q. both_ways (touches_any (members_of s.blossoms v) (edge_of s.graph e)) none (or_left (holds (members_of s.blossoms v) (edge_of s.graph e).u)
+          (holds (members_of s.blossoms v) (edge_of s.graph e).v) (subst (λ x. holds (members_of s.blossoms x) (edge_of s.graph e).u ≡ true) q u.1)),
+      λ q. both_ways (touches_any (members_of s.blossoms v) (edge_of s.graph e)) none (or_right (holds (members_of s.blossoms v) (edge_of s.graph e).u)
+          (holds (members_of s.blossoms v) (edge_of s.graph e).v) (subst (λ x. holds (members_of s.blossoms x) (edge_of s.graph e).v ≡ true) q w.1)),
     )
 
 pub joins_past : (s : State) (v e a b : ℕ) → (node_u s.graph s.blossoms e ≢ v) × (node_v s.graph s.blossoms e ≢ v) → Joins s.graph s.blossoms e a b → (a ≢ v) × (b ≢ v)
@@ -46,7 +48,8 @@ joins_past s v e a b past j = ⊎_elim
     j
 
 -- such an edge needs the moment that it needed
-pub needs_past : (s : State) (clock : ℤ) (v e : ℕ) (m : Option ℤ) → (node_u s.graph s.blossoms e ≢ v) × (node_v s.graph s.blossoms e ≢ v) → NeedsMoment s clock e m → NeedsMoment (with_labels s (put s.label v Outer)) clock e m
+pub needs_past : (s : State) (clock : ℤ) (v e : ℕ) (m : Option ℤ) → (node_u s.graph s.blossoms e ≢ v) × (node_v s.graph s.blossoms e ≢ v) → NeedsMoment s clock e m
+    → NeedsMoment (with_labels s (put s.label v Outer)) clock e m
 needs_past s clock v e m past h = record {
   to_out = λ a b j la lb.
       let ne = joins_past s v e a b past j in
@@ -80,7 +83,8 @@ one_within false false h = omega arith
 pub among_within : (s t : State) (bs : List Blossom) → ((w : ℕ) → is_outside t w ≡ true → is_outside s w ≡ true) → outside_among t bs ≤ outside_among s bs
 among_within s t [] within = omega arith
 among_within s t (b ∷ older) within =
-    let here : cond (list_any (is_outside t) b.members) 1 0 ≤ cond (list_any (is_outside s) b.members) 1 0 = one_within (list_any (is_outside s) b.members) (list_any (is_outside t) b.members) (any_within (is_outside s) (is_outside t) b.members within) in
+    let here : cond (list_any (is_outside t) b.members) 1 0 ≤ cond (list_any (is_outside s) b.members) 1 0 = one_within (list_any (is_outside s) b.members)
+    (list_any (is_outside t) b.members) (any_within (is_outside s) (is_outside t) b.members within) in
     let rest = among_within s t older within in
     omega (arith, here, rest)
 
@@ -88,20 +92,27 @@ among_within s t (b ∷ older) within =
 module _ (s : State) (v : ℕ) (nested : IsNested s.graph.vertices s.blossoms) (is : IsOutermost s v) (out : s.label v ≡ Out) where
   pub root_inside : (w : ℕ) → is_outside (with_labels s (put s.label v Outer)) w ≡ true → is_outside s w ≡ true
   root_inside w e = by_test (eqb (outermost s.blossoms w) v)
-      (λ t. let no : not true ≡ true = sym (ap (λ l. not (is_label l Outer)) (ap (put s.label v Outer) (eqb-true (outermost s.blossoms w) v t) ∙ put_here s.label v Outer)) ∙ e in absurd (both_ways false refl no))
+      (λ t. let no : not true ≡ true = sym (ap (λ l. not (is_label l Outer)) (ap (put s.label v Outer) (eqb-true (outermost s.blossoms w) v t) ∙ put_here s.label v Outer)) ∙ e in
+      absurd (both_ways false refl no))
       (λ t. ap (λ l. not (is_label l Outer)) (sym (put_other s.label v Outer (outermost s.blossoms w) (eqb-false (outermost s.blossoms w) v t))) ∙ e)
 
-  pub root_looks : looks_left (with_labels s (put s.label v Outer)) + ends_around s.graph (members_of s.blossoms v) ≤ looks_left s
-  root_looks =
+  -- so many ends of edges are left outside
+  pub root_ends : outside_ends (with_labels s (put s.label v Outer)) + ends_around s.graph (members_of s.blossoms v) ≤ outside_ends s
+  root_ends =
       let n : ℕ = s.graph.vertices in
       let t : State = with_labels s (put s.label v Outer) in
       let node = (outermost_parts n s.blossoms v is).0 in
       let at : (w : ℕ) → holds (members_of s.blossoms v) w ≡ true → outermost s.blossoms w ≡ v = λ w h. outermost_by_member n s.blossoms v w nested is h in
-      let ends = outside_ends_fall s t (members_of s.blossoms v) refl (members_new n s.blossoms v nested node)
+      outside_ends_fall s t (members_of s.blossoms v) refl (members_new n s.blossoms v nested node)
       (λ w h. member_vertex n s.blossoms v w nested node h)
       (λ w h. ap (λ l. not (is_label l Outer)) (ap s.label (at w h) ∙ out))
       (λ w h. ap (λ l. not (is_label l Outer)) (ap (put s.label v Outer) (at w h) ∙ put_here s.label v Outer))
-      (λ w iv e. root_inside w e) in
+      (λ w iv e. root_inside w e)
+
+  pub root_looks : looks_left (with_labels s (put s.label v Outer)) + ends_around s.graph (members_of s.blossoms v) ≤ looks_left s
+  root_looks =
+      let t : State = with_labels s (put s.label v Outer) in
+      let ends = root_ends in
       let among : outside_among t s.blossoms ≤ outside_among s s.blossoms = among_within s t s.blossoms root_inside in
       by_product (2 * length s.graph.edges) _ _ _ _ _ ends among
     where
@@ -165,13 +176,14 @@ module _ (s : State) (depth : ℕ → ℕ) (v : ℕ) (nested : IsNested s.graph.
   grown_root x outer in_it = tree_root grown depth nested (planted s depth v exposed out st) said said_trees x outer in_it
 
 -- what its calls leave, at once
-pub whole : (s l a t : Search) → l ≡ record s { labels = l.labels } → a ≡ record l { arena = record l.arena { motions = a.arena.motions }; standing = a.standing; seeds = a.seeds } → t ≡ record a { scanned = t.scanned } → t ≡ record s { arena = record s.arena { motions = a.arena.motions }; labels = l.labels; standing = a.standing; seeds = a.seeds; scanned = t.scanned }
+pub whole : (s l a t : Search) → l ≡ record s { labels = l.labels } → a ≡ record l { arena = record l.arena { motions = a.arena.motions }; standing = a.standing }
+    → t ≡ record a { scanned = t.scanned } → t ≡ record s { arena = record s.arena { motions = a.arena.motions }; labels = l.labels; standing = a.standing; scanned = t.scanned }
 whole s l a t one two three = three
     ∙ ap (λ (x : Search). let y : Search = record x { scanned = t.scanned } in y) two
-    ∙ ap (λ (x : Search). let y : Search = record x { arena = record x.arena { motions = a.arena.motions }; standing = a.standing; seeds = a.seeds; scanned = t.scanned } in y) one
+    ∙ ap (λ (x : Search). let y : Search = record x { arena = record x.arena { motions = a.arena.motions }; standing = a.standing; scanned = t.scanned } in y) one
 
 -- the search, whose labels, list of nodes and list of vertices are new
-module _ (s l a t : Search) (v : ℕ) (is : t ≡ record s { arena = record s.arena { motions = a.arena.motions }; labels = l.labels; standing = a.standing; seeds = a.seeds; scanned = t.scanned })
+module _ (s l a t : Search) (v : ℕ) (is : t ≡ record s { arena = record s.arena { motions = a.arena.motions }; labels = l.labels; standing = a.standing; scanned = t.scanned })
     (labels : label_at l.labels.items ≡ put (label_at s.labels.items) v Outer) (sound : IsSound s) (exposed : IsExposed (state_of s) v) (out : label_at s.labels.items v ≡ Out) where
   pub planted_state : state_of t ≡ with_labels (state_of s) (put (label_at s.labels.items) v Outer)
   planted_state = ap state_of is ∙ ap (with_labels (state_of s)) labels
@@ -189,15 +201,16 @@ module _ (s l a t : Search) (v : ℕ) (is : t ≡ record s { arena = record s.ar
     tree = λ no. outer_not_out (sym (put_here (label_at s.labels.items) v Outer) ∙ sym (ap (λ f. f v) labels) ∙ no v exposed.0);
   })
 
-  pub planted_standing : (w : ℕ) → is_vertex s.graph.vertices w ≡ true → outermost s.arena.blossoms w ≡ v → AreListed s.graph.vertices a.standing.items a.seeds.items
-      → seed_at a.seeds.items ≡ put (seed_at s.seeds.items) v (Some w) → label_at a.arena.motions ≡ put (label_at s.arena.motions) v (label_at l.labels.items v) → IsStanding s → IsStanding t
+  pub planted_standing : (w : ℕ) → is_vertex s.graph.vertices w ≡ true → outermost s.arena.blossoms w ≡ v → AreListed s.graph.vertices a.standing.nodes a.standing.seeds
+      → seed_at a.standing.seeds ≡ put (seed_at s.standing.seeds) v (Some w) → label_at a.arena.motions ≡ put (label_at s.arena.motions) v (label_at l.labels.items v) → IsStanding s
+      → IsStanding t
   planted_standing w vertex within listed seeds motions h = subst IsStanding (sym is) (record {
     listed = listed;
     trees = λ x outer ne. by_test (eqb x v)
         (λ q.
         let same : x ≡ v = eqb-true x v q in (
           w,
-          ap (λ (f : ℕ → Option ℕ). f x) seeds ∙ ap (put (seed_at s.seeds.items) v (Some w)) same ∙ put_here (seed_at s.seeds.items) v (Some w),
+          ap (λ (f : ℕ → Option ℕ). f x) seeds ∙ ap (put (seed_at s.standing.seeds) v (Some w)) same ∙ put_here (seed_at s.standing.seeds) v (Some w),
           record { vertex = vertex; root = within ∙ sym (root_now x outer ne ∙ said_here old depth v nested sound.state exposed.1 out x same) },
         ))
         (λ q.
@@ -205,16 +218,39 @@ module _ (s l a t : Search) (v : ℕ) (is : t ≡ record s { arena = record s.ar
         let lab : label_at s.labels.items x ≢ Out = λ p. ne (ap (λ f. f x) labels ∙ put_other (label_at s.labels.items) v Outer x other ∙ p) in
         let r = h.trees x outer lab in (
           r.0,
-          ap (λ (f : ℕ → Option ℕ). f x) seeds ∙ put_other (seed_at s.seeds.items) v (Some w) x other ∙ r.1,
+          ap (λ (f : ℕ → Option ℕ). f x) seeds ∙ put_other (seed_at s.standing.seeds) v (Some w) x other ∙ r.1,
           record { vertex = r.2.vertex; root = r.2.root ∙ sym (root_now x outer ne ∙ said_else old depth v nested sound.state exposed.1 out x other) },
         ));
+    same = λ x y x_is y_is x_in y_in roots.
+        let lab : (z : ℕ) → z ≢ v → label_at l.labels.items z ≢ Out → label_at s.labels.items z ≢ Out = λ z other ne p. ne
+        (ap (λ f. f z) labels ∙ put_other (label_at s.labels.items) v Outer z other ∙ p) in
+        let tree : (z : ℕ) → z ≢ v → IsOutermost old z → label_at l.labels.items z ≢ Out → root_of (with_labels old (label_at l.labels.items)) z ≡ root_of old z =
+        λ z other is ne. root_now z is ne ∙ said_else old depth v nested sound.state exposed.1 out z other in
+        let away : (z : ℕ) → z ≢ v → IsOutermost old z → label_at l.labels.items z ≢ Out → root_of old z ≢ v =
+        λ z other is ne q. outer_not_out (sym (ways_lead old depth z nested sound.state is (lab z other ne)).root.outer ∙ ap (label_at s.labels.items) q ∙ out) in
+        let kept : (z : ℕ) → z ≢ v → seed_at a.standing.seeds z ≡ seed_at s.standing.seeds z = λ z other. ap (λ (f : ℕ → Option ℕ). f z) seeds
+        ∙ put_other (seed_at s.standing.seeds) v (Some w) z other in
+        let own : (z : ℕ) → z ≡ v → IsOutermost old z → label_at l.labels.items z ≢ Out → root_of (with_labels old (label_at l.labels.items)) z ≡ v =
+        λ z here is ne. root_now z is ne ∙ said_here old depth v nested sound.state exposed.1 out z here in
+        ⊎_elim
+        (λ x_here. ⊎_elim
+        (λ y_here. ap (seed_at a.standing.seeds) (x_here ∙ sym y_here))
+        (λ y_other. absurd (away y y_other y_is y_in (sym (tree y y_other y_is y_in) ∙ sym roots ∙ own x x_here x_is x_in)))
+        (cases_eq y v))
+        (λ x_other. ⊎_elim
+        (λ y_here. absurd (away x x_other x_is x_in (sym (tree x x_other x_is x_in) ∙ roots ∙ own y y_here y_is y_in)))
+        (λ y_other. kept x x_other ∙ h.same x y x_is y_is (lab x x_other x_in) (lab y y_other y_in) (sym (tree x x_other x_is x_in) ∙ roots ∙ tree y y_other y_is y_in)
+        ∙ sym (kept y y_other))
+        (cases_eq y v))
+        (cases_eq x v);
     moves = λ x outer. ap (λ (f : ℕ → Label). f x) motions ∙ by_test (eqb x v)
         (λ q.
         let same : x ≡ v = eqb-true x v q in
         ap (put (label_at s.arena.motions) v (label_at l.labels.items v)) same ∙ put_here (label_at s.arena.motions) v (label_at l.labels.items v) ∙ sym (ap (label_at l.labels.items) same))
         (λ q.
         let other : x ≢ v = eqb-false x v q in
-        put_other (label_at s.arena.motions) v (label_at l.labels.items v) x other ∙ h.moves x outer ∙ sym (ap (λ (f : ℕ → Label). f x) labels ∙ put_other (label_at s.labels.items) v Outer x other));
+        put_other (label_at s.arena.motions) v (label_at l.labels.items v) x other ∙ h.moves x outer
+        ∙ sym (ap (λ (f : ℕ → Label). f x) labels ∙ put_other (label_at s.labels.items) v Outer x other));
   })
     where
       old : State

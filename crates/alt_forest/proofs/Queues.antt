@@ -89,7 +89,7 @@ room_with s q edges blossoms h = record {
   parents = h.parents;
   mates = h.mates;
   circuit = h.circuit;
-  room = record { index = h.room.index; edges = edges ∙ h.room.edges; nodes = blossoms ∙ h.room.nodes; standing = h.room.standing; seeds = h.room.seeds; scanned = h.room.scanned };
+  room = record { index = h.room.index; edges = edges ∙ h.room.edges; nodes = blossoms ∙ h.room.nodes; seeds = h.room.seeds; scanned = h.room.scanned };
 }
 
 pub sound_with : (s : Search) (q : Moments) → length q.edges ≡ length s.queue.edges → length q.blossoms ≡ length s.queue.blossoms → IsSound s → IsSound (record s { queue = q })
@@ -100,4 +100,4 @@ sound_set s item m h = let same = places_stay s.queue item m in sound_with s (wi
 
 -- what is listed has nothing to do with the queue
 pub standing_with : (s : Search) (q : Moments) → IsStanding s → IsStanding (record s { queue = q })
-standing_with s q h = record { listed = h.listed; trees = h.trees; moves = h.moves }
+standing_with s q h = record { listed = h.listed; trees = h.trees; same = h.same; moves = h.moves }

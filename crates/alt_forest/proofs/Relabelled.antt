@@ -1,6 +1,6 @@
 -- A state with other labels: a new root is planted, or all trees are cleared away.
-use Rattle.std.proofs.Common.{◌≡◌, ◌≢◌, ◌⊎◌, ◌↔◌, ℕ, eqb, cond, Option, Some, None, refl, sym, ap, ◌∙◌, subst, ⊎_elim, inl, inr}
-use Rattle.std.proofs.lemmas.Bool.{eqb-true, eqb-false, eq-eqb, ne_eqb}
+use Rattle.std.proofs.Common.{◌≡◌, ◌≢◌, ◌⊎◌, ◌↔◌, ℕ, eqb, cond, Option, Some, None, sym, ap, ◌∙◌, subst, ⊎_elim, inl, inr}
+use Rattle.std.proofs.lemmas.Bool.{eqb-true, eqb-false}
 use Rattle.blossom_arena.proofs.Lists.{by_test}
 use Rattle.blossom_arena.specs.declared.label.Label.{Label}
 use Rattle.blossom_arena.specs.declared.label.Label.TheVariants.{Outer, Inner, Out}
@@ -8,6 +8,7 @@ use Rattle.alt_forest.specs.State.{State, IsOutermost, IsMate, IsInner, FitsLabe
 use Rattle.alt_forest.specs.Trees.{IsRoot}
 use Rattle.alt_forest.specs.Searches.{put}
 use Rattle.alt_forest.proofs.Tight.{tight_rings}
+pub use Rattle.alt_forest.proofs.Updates.{put_here, put_other}
 
 abbrev pub with_labels : State → (ℕ → Label) → State
 with_labels s label = record s { label = label }
@@ -39,18 +40,12 @@ some_not_none e p = absurd (subst is_there p tt)
     is_there None = ⊥
     is_there (Some x) = Unit {0}
 
-pub put_here : {A : Type 0} (f : ℕ → A) (a : ℕ) (x : A) → put f a x a ≡ x
-put_here f a x = ap (λ t. cond t x (f a)) (eq-eqb a a refl)
-
-pub put_other : {A : Type 0} (f : ℕ → A) (a : ℕ) (x : A) (c : ℕ) → c ≢ a → put f a x c ≡ f c
-put_other f a x c ne = ap (λ t. cond t x (f c)) (ne_eqb c a ne)
-
 -- mates don't speak of labels
 pub mate_with : (s : State) (label : ℕ → Label) (a e b : ℕ) → IsMate s a e b → IsMate (with_labels s label) a e b
-mate_with s label a e b m = record { edge = m.edge; joins = m.joins; different = m.different; tight = m.tight; outer = m.outer; back = m.back }
+mate_with s label a e b m = record { edge = m.edge; joins = m.joins; different = m.different; tight = m.tight; outermost = m.outermost; back = m.back }
 
 pub mate_without : (s : State) (label : ℕ → Label) (a e b : ℕ) → IsMate (with_labels s label) a e b → IsMate s a e b
-mate_without s label a e b m = record { edge = m.edge; joins = m.joins; different = m.different; tight = m.tight; outer = m.outer; back = m.back }
+mate_without s label a e b m = record { edge = m.edge; joins = m.joins; different = m.different; tight = m.tight; outermost = m.outermost; back = m.back }
 
 pub inner_with : (s : State) (label : ℕ → Label) (depth : ℕ → ℕ) (a : ℕ) → (i : IsInner s depth a) → label i.up ≡ Outer → label i.child ≡ Outer → IsInner (with_labels s label) depth a
 inner_with s label depth a i up child = record {
@@ -73,7 +68,8 @@ inner_with s label depth a i up child = record {
 
 -- edges that are tight stay so
 -- labels matter to the trees alone
-pub relabelled : (s : State) (label : ℕ → Label) (depth : ℕ → ℕ) → IsSearchState s depth → ((a : ℕ) → IsOutermost s a → FitsLabel (with_labels s label) depth a) → IsSearchState (with_labels s label) depth
+pub relabelled : (s : State) (label : ℕ → Label) (depth : ℕ → ℕ) → IsSearchState s depth → ((a : ℕ) → IsOutermost s a → FitsLabel (with_labels s label) depth a)
+    → IsSearchState (with_labels s label) depth
 relabelled s label depth st fits = record {
   rings = st.rings;
   tight_rings = tight_rings s (with_labels s label) (λ e t. record { edge = t.edge; tight = t.tight }) s.blossoms st.tight_rings;

@@ -9,7 +9,7 @@ use Rattle.blossom_arena.proofs.Sets.{outermost_has, outermost_by_member}
 use Rattle.blossom_arena.specs.declared.label.Label.{Label}
 use Rattle.blossom_arena.specs.declared.label.Label.TheVariants.{Outer, Inner, Out}
 use Rattle.alt_forest.specs.State.{State, IsOutermost, Joins, slack_of, IsSearchState}
-use Rattle.alt_forest.specs.Trees.{node_limit, far_end, up_edge, up_edge_by, up_of, path_of, last_of, root_of, IsRoot, cover, SameParity}
+use Rattle.alt_forest.specs.Trees.{node_limit, far_end, up_edge, up_edge_by, up_of, path_of, last_of, root_of, IsRoot, dual_sum, SameParity}
 use Rattle.alt_forest.specs.Laws.{LeadsToRoot, WaysLeadToRoots, TreesHaveParity, IsReached, ForestsHaveParity}
 use Rattle.alt_forest.proofs.Relabelled.{outer_not_out, inner_not_out}
 use Rattle.alt_forest.proofs.Walk.{other_node_joins, path_none, deeper_differs}
@@ -28,7 +28,7 @@ module _ (s : State) (depth : ℕ → ℕ) (nested : IsNested s.graph.vertices s
     pub tight : slack_of s edge ≡ pos 0
     pub way : up_edge s a ≡ Some edge
     pub up : up_of s a ≡ b
-    pub outer : IsOutermost s b
+    pub outermost : IsOutermost s b
     pub in_tree : s.label b ≢ Out
     pub falls : depth b < depth a
 
@@ -49,7 +49,7 @@ module _ (s : State) (depth : ℕ → ℕ) (nested : IsNested s.graph.vertices s
               tight = m.1.tight;
               way = ap (λ l. up_edge_by s l a) lab ∙ has;
               up = ap (λ l. far_end s (up_edge_by s l a) a) lab ∙ ap (λ o. far_end s o a) has ∙ other_node_joins s.graph s.blossoms e a m.0 m.1.joins m.1.different;
-              outer = m.1.outer;
+              outermost = m.1.outermost;
               in_tree = λ out. inner_not_out (sym says.0 ∙ out);
               falls = says.1;
             },
@@ -67,8 +67,9 @@ module _ (s : State) (depth : ℕ → ℕ) (nested : IsNested s.graph.vertices s
               joins = i.joins;
               tight = i.tight;
               way = ap (λ l. up_edge_by s l a) lab ∙ i.parent;
-              up = ap (λ l. far_end s (up_edge_by s l a) a) lab ∙ ap (λ o. far_end s o a) i.parent ∙ other_node_joins s.graph s.blossoms i.edge a i.up i.joins (deeper_differs depth a i.up i.falls);
-              outer = i.up_is;
+              up = ap (λ l. far_end s (up_edge_by s l a) a) lab ∙ ap (λ o. far_end s o a) i.parent
+                  ∙ other_node_joins s.graph s.blossoms i.edge a i.up i.joins (deeper_differs depth a i.up i.falls);
+              outermost = i.up_is;
               in_tree = λ out. outer_not_out (sym i.up_outer ∙ out);
               falls = i.falls;
             },
@@ -97,22 +98,23 @@ module _ (s : State) (depth : ℕ → ℕ) (nested : IsNested s.graph.vertices s
   leads (suc k) a low is in_it = ⊎_elim
       (λ r. record {
         root = subst (IsRoot s) (sym (root_self a r)) r;
-        outer = λ x e. alone r x e (IsOutermost s) is;
+        outermost = λ x e. alone r x e (IsOutermost s) is;
         in_tree = λ x e. alone r x e (λ y. s.label y ≢ Out) in_it;
       })
       (λ p.
       let b : ℕ = p.0 in
       let u = p.1 in
-      let rest = leads k b (omega (arith, u.falls, low)) u.outer u.in_tree in
+      let rest = leads k b (omega (arith, u.falls, low)) u.outermost u.in_tree in
       record {
-        root = subst (IsRoot s) (sym (root_up a b is u.outer u.up)) rest.root;
-        outer = λ x e. along u.up x e (IsOutermost s) is (rest.outer x);
+        root = subst (IsRoot s) (sym (root_up a b is u.outermost u.up)) rest.root;
+        outermost = λ x e. along u.up x e (IsOutermost s) is (rest.outermost x);
         in_tree = λ x e. along u.up x e (λ y. s.label y ≢ Out) in_it (rest.in_tree x);
       })
       (up_or_root a is in_it)
     where
       alone : IsRoot s a → (x : ℕ) → holds (path_of s a) x ≡ true → (P : ℕ → Type 0) → P a → P x
-      alone r x e P pa = ⊎_elim (λ here. subst P (eqb-true a x here) pa) (λ none. absurd (both_ways false refl none)) (or_cases (eqb a x) false (sym (ap (λ xs. holds xs x) (path_root a r)) ∙ e))
+      alone r x e P pa = ⊎_elim (λ here. subst P (eqb-true a x here) pa) (λ none. absurd (both_ways false refl none))
+          (or_cases (eqb a x) false (sym (ap (λ xs. holds xs x) (path_root a r)) ∙ e))
 
       along : {b : ℕ} → up_of s a ≡ b → (x : ℕ) → holds (path_of s a) x ≡ true → (P : ℕ → Type 0) → P a → (holds (path_of s b) x ≡ true → P x) → P x
       along {b} up x e P pa rest = ⊎_elim (λ here. subst P (eqb-true a x here) pa) rest (or_cases (eqb a x) (holds (path_of s b) x) (sym (ap (λ xs. holds xs x) (path_up a b is up)) ∙ e))
@@ -125,9 +127,11 @@ module _ (s : State) (depth : ℕ → ℕ) (nested : IsNested s.graph.vertices s
       (λ p.
       let b : ℕ = p.0 in
       let u = p.1 in
-      let w = vertex_of s.graph.vertices s.blossoms b nested (outermost_parts s.graph.vertices s.blossoms b u.outer).0 (λ v e. outermost_by_member s.graph.vertices s.blossoms b v nested u.outer e) in
-      subst (NodesAgree s a) (sym (root_up a b is u.outer u.up))
-      (agree_trans s a b (root_of s b) w.0 w.1 w.2 (edge_parity s depth nested graph st u.edge a b u.is_edge u.joins u.tight) (root_parity graph k b (omega (arith, u.falls, low)) u.outer u.in_tree)))
+      let w = vertex_of s.graph.vertices s.blossoms b nested (outermost_parts s.graph.vertices s.blossoms b u.outermost).0
+      (λ v e. outermost_by_member s.graph.vertices s.blossoms b v nested u.outermost e) in
+      subst (NodesAgree s a) (sym (root_up a b is u.outermost u.up))
+      (agree_trans s a b (root_of s b) w.0 w.1 w.2 (edge_parity s depth nested graph st u.edge a b u.is_edge u.joins u.tight)
+      (root_parity graph k b (omega (arith, u.falls, low)) u.outermost u.in_tree)))
       (up_or_root a is in_it)
 
 pub ways_lead : WaysLeadToRoots
@@ -140,32 +144,35 @@ trees_have_parity s depth v w graph nested st iv iw v_in w_in same =
     let a_is : IsOutermost s a = (outermost_has s.graph.vertices s.blossoms v nested iv).0 in
     let b_is : IsOutermost s b = (outermost_has s.graph.vertices s.blossoms w nested iw).0 in
     let r = (ways_lead s depth a nested st a_is v_in).root in
-    let x = vertex_of s.graph.vertices s.blossoms (root_of s a) nested (outermost_parts s.graph.vertices s.blossoms (root_of s a) r.outermost).0 (λ u e. outermost_by_member s.graph.vertices s.blossoms (root_of s a) u nested r.outermost e) in
+    let x = vertex_of s.graph.vertices s.blossoms (root_of s a) nested (outermost_parts s.graph.vertices s.blossoms (root_of s a) r.outermost).0
+    (λ u e. outermost_by_member s.graph.vertices s.blossoms (root_of s a) u nested r.outermost e) in
     let left = root_parity s depth nested st graph (depth a + 1) a (omega arith) a_is v_in v x.0 iv x.1 refl x.2 in
     let right = root_parity s depth nested st graph (depth b + 1) b (omega arith) b_is w_in w x.0 iw x.1 refl (x.2 ∙ same) in
-    parity_trans (cover s v) (cover s x.0) (cover s w) left (parity_sym (cover s w) (cover s x.0) right)
+    parity_trans (dual_sum s v) (dual_sum s x.0) (dual_sum s w) left (parity_sym (dual_sum s w) (dual_sum s x.0) right)
 
 -- A vertex of a tree, or of an exposed node, has the parity of a vertex of an exposed node.
 record AgreesExposed (s : State) (v : ℕ) : Type 0 where
   pub at : ℕ
   pub vertex : is_vertex s.graph.vertices at ≡ true
   pub exposed : s.mate (outermost s.blossoms at) ≡ None
-  pub agree : SameParity (cover s v) (cover s at)
+  pub agree : SameParity (dual_sum s v) (dual_sum s at)
 
-agrees_exposed : (s : State) (depth : ℕ → ℕ) (v : ℕ) → IsGraph s.graph → IsNested s.graph.vertices s.blossoms → IsSearchState s depth → is_vertex s.graph.vertices v ≡ true → IsReached s (outermost s.blossoms v) → AgreesExposed s v
+agrees_exposed : (s : State) (depth : ℕ → ℕ) (v : ℕ) → IsGraph s.graph → IsNested s.graph.vertices s.blossoms → IsSearchState s depth → is_vertex s.graph.vertices v ≡ true
+    → IsReached s (outermost s.blossoms v) → AgreesExposed s v
 agrees_exposed s depth v graph nested st iv reached = ⊎_elim
     (λ in_it.
     let a : ℕ = outermost s.blossoms v in
     let a_is : IsOutermost s a = (outermost_has s.graph.vertices s.blossoms v nested iv).0 in
     let r = (ways_lead s depth a nested st a_is in_it).root in
-    let x = vertex_of s.graph.vertices s.blossoms (root_of s a) nested (outermost_parts s.graph.vertices s.blossoms (root_of s a) r.outermost).0 (λ u e. outermost_by_member s.graph.vertices s.blossoms (root_of s a) u nested r.outermost e) in
+    let x = vertex_of s.graph.vertices s.blossoms (root_of s a) nested (outermost_parts s.graph.vertices s.blossoms (root_of s a) r.outermost).0
+    (λ u e. outermost_by_member s.graph.vertices s.blossoms (root_of s a) u nested r.outermost e) in
     record { at = x.0; vertex = x.1; exposed = ap s.mate x.2 ∙ r.exposed; agree = root_parity s depth nested st graph (depth a + 1) a (omega arith) a_is in_it v x.0 iv x.1 refl x.2 })
-    (λ free. record { at = v; vertex = iv; exposed = free; agree = parity_refl (cover s v) })
+    (λ free. record { at = v; vertex = iv; exposed = free; agree = parity_refl (dual_sum s v) })
     reached
 
 pub forests_have_parity : ForestsHaveParity
 forests_have_parity s depth v w graph nested st iv iw v_in w_in =
     let x = agrees_exposed s depth v graph nested st iv v_in in
     let y = agrees_exposed s depth w graph nested st iw w_in in
-    parity_trans (cover s v) (cover s x.at) (cover s w) x.agree
-    (parity_trans (cover s x.at) (cover s y.at) (cover s w) (st.parity x.at y.at x.vertex y.vertex x.exposed y.exposed) (parity_sym (cover s w) (cover s y.at) y.agree))
+    parity_trans (dual_sum s v) (dual_sum s x.at) (dual_sum s w) x.agree
+    (parity_trans (dual_sum s x.at) (dual_sum s y.at) (dual_sum s w) (st.parity x.at y.at x.vertex y.vertex x.exposed y.exposed) (parity_sym (dual_sum s w) (dual_sum s y.at) y.agree))

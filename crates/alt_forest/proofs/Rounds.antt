@@ -50,7 +50,8 @@ module _ (ring front : List Link) (base : Link) (behind : List Link) (split : ri
       let parts = new_parts (nodes_of front) (nodes_of (base ∷ behind)) (subst AllNew (ap nodes_of split ∙ nodes_of-append front (base ∷ behind)) new) in
       let front_not : in_ring front base.node ≡ false = parts.apart base.node (first_in base.node (nodes_of behind)) in
       record {
-        different = subst AllNew (sym (nodes_of-append behind front)) (new-append (nodes_of behind) (nodes_of front) parts.right.1 parts.left (λ v e. parts.apart v (later_in base.node (nodes_of behind) v e)));
+        different = subst AllNew (sym (nodes_of-append behind front)) (new-append (nodes_of behind) (nodes_of front) parts.right.1 parts.left
+            (λ v e. parts.apart v (later_in base.node (nodes_of behind) v e)));
         base_in = ring_in base.node ∙ or_right (in_ring front base.node) (in_ring (base ∷ behind) base.node) (first_in base.node (nodes_of behind));
         base_apart = round_in base.node ∙ or_from (in_ring behind base.node) (in_ring front base.node) parts.right.0 front_not;
         inside = λ c e. ring_in c ∙ ⊎_elim

@@ -1,5 +1,6 @@
 -- Two ways to roots: once they have come together they stay together, so two that are as long come together at one place.
-use Rattle.std.proofs.Common.{◌≡◌, ◌≢◌, ◌↔◌, ℕ, zero, suc, ◌+◌, ◌-◌, ◌<◌, ◌≤◌, true, false, ◌||◌, eqb, leb, cond, List, [], ◌∷◌, length, drop, Option, Some, None, refl, sym, ap, ap₂, ◌∙◌, subst, arith, ⊎_elim}
+use Rattle.std.proofs.Common.{◌≡◌, ◌≢◌, ◌↔◌, ℕ, zero, suc, ◌+◌, ◌-◌, ◌<◌, ◌≤◌, true, false, ◌||◌, eqb, leb, cond, List, [], ◌∷◌, length, drop, Option, Some, None, refl, sym, ap, ap₂}
+use Rattle.std.proofs.Common.{◌∙◌, subst, arith, ⊎_elim}
 use Rattle.std.specs.Prelude.{MatchOption}
 use Rattle.std.proofs.lemmas.List.{drop-drop}
 use Rattle.std.proofs.lemmas.Bool.{leb-true, leb-false, or_cases, or_from, or_left, or_right, both_ways, eqb-true, eqb-false, eq-eqb, ne_eqb, false_from_ne_true}
@@ -9,11 +10,16 @@ use Rattle.blossom_arena.specs.Family.{IsNested}
 use Rattle.blossom_arena.proofs.Tails.{last_cons_in}
 use Rattle.alt_forest.specs.State.{State, IsOutermost, IsSearchState}
 use Rattle.alt_forest.specs.Trees.{first_common, last_of, path_of, up_of, node_limit}
-use Rattle.alt_forest.specs.Routes.{IsRoute, AreLevel}
+use Rattle.alt_forest.specs.Routes.{AreLevel}
 use Rattle.alt_forest.proofs.Relabelled.{some_not_none}
 use Rattle.alt_forest.proofs.Walk.{path_none, up_falls}
 use Rattle.alt_forest.proofs.Paths.{path_of-step}
 use Rattle.std.proofs.lemmas.Option.{same_Some}
+
+-- from each of its numbers on, the list is the route of that number
+abbrev pub IsRoute : (ℕ → List ℕ) → List ℕ → Type 0
+IsRoute route [] = Unit {0}
+IsRoute route (x ∷ xs) = (x ∷ xs ≡ route x) × IsRoute route xs
 
 module _ (route : ℕ → List ℕ) where
   -- the route of a number on the list is a rest of the list
@@ -118,7 +124,8 @@ common_none (z ∷ zs) ys x e h = by_test (holds ys z)
     (or_cases (eqb z x) (holds zs x) h))
 
 -- two routes have nothing in common exactly if they end apart
-pub common_ends : (route : ℕ → List ℕ) (x : ℕ) (xs : List ℕ) (y : ℕ) (ys : List ℕ) → IsRoute route (x ∷ xs) → IsRoute route (y ∷ ys) → (first_common (x ∷ xs) (y ∷ ys) ≡ None) ↔ (last_of 0 (x ∷ xs) ≢ last_of 0 (y ∷ ys))
+pub common_ends : (route : ℕ → List ℕ) (x : ℕ) (xs : List ℕ) (y : ℕ) (ys : List ℕ) → IsRoute route (x ∷ xs) → IsRoute route (y ∷ ys)
+    → (first_common (x ∷ xs) (y ∷ ys) ≡ None) ↔ (last_of 0 (x ∷ xs) ≢ last_of 0 (y ∷ ys))
 common_ends route x xs y ys rx ry = (
   λ none same. both_ways (holds (y ∷ ys) (last_of x xs)) (common_none (x ∷ xs) (y ∷ ys) (last_of x xs) none (last_cons_in x xs)) (ap (holds (y ∷ ys)) same ∙ last_cons_in y ys),
   λ apart. by_found (first_common (x ∷ xs) (y ∷ ys)) refl apart,
@@ -141,20 +148,23 @@ pub record IsSearched (xs ys : List ℕ) (found : Option ℕ) : Type 0 where
   pub level : AreLevel xs ys
   pub same : first_common xs ys ≡ found
 
-pub shared_step : (o : Option ℕ) (x : ℕ) (xs ys zs rest : List ℕ) (found : Option ℕ) → xs ≡ x ∷ rest → MatchOption o ((ys ≡ []) × (zs ≡ [])) (λ y. ys ≡ y ∷ zs) → o ≢ Some x → IsSearched xs ys found → IsSearched rest zs found
+pub shared_step : (o : Option ℕ) (x : ℕ) (xs ys zs rest : List ℕ) (found : Option ℕ) → xs ≡ x ∷ rest → MatchOption o ((ys ≡ []) × (zs ≡ [])) (λ y. ys ≡ y ∷ zs) → o ≢ Some x
+    → IsSearched xs ys found → IsSearched rest zs found
 shared_step None x xs ys zs rest found e f ne s = absurd (subst (λ k. AreLevel k []) e (subst (AreLevel xs) f.0 s.level))
 shared_step (Some y) x xs ys zs rest found e f ne s =
     let level : AreLevel (x ∷ rest) (y ∷ zs) = subst (λ k. AreLevel k (y ∷ zs)) e (subst (AreLevel xs) f s.level) in
     record { level = level.1; same = sym (level_step x rest y zs level (λ t. ne (ap Some (sym t)))) ∙ sym (ap₂ first_common e f) ∙ s.same }
 
-pub shared_end : (o : Option ℕ) (x : ℕ) (xs ys zs rest : List ℕ) (found : Option ℕ) → xs ≡ x ∷ rest → MatchOption o ((ys ≡ []) × (zs ≡ [])) (λ y. ys ≡ y ∷ zs) → o ≡ Some x → IsSearched xs ys found → Some x ≡ found
+pub shared_end : (o : Option ℕ) (x : ℕ) (xs ys zs rest : List ℕ) (found : Option ℕ) → xs ≡ x ∷ rest → MatchOption o ((ys ≡ []) × (zs ≡ [])) (λ y. ys ≡ y ∷ zs) → o ≡ Some x
+    → IsSearched xs ys found → Some x ≡ found
 shared_end None x xs ys zs rest found e f same s = some_not_none x (sym same)
 shared_end (Some y) x xs ys zs rest found e f same s =
     let at : y ≡ x = same_Some y x same in
     sym (ap₂ first_common e (f ∙ ap (λ k. k ∷ zs) at) ∙ level_meet x rest zs) ∙ s.same
 
 -- the route of each number on it is the rest of the list
-pub path_route : (s : State) (depth : ℕ → ℕ) → IsNested s.graph.vertices s.blossoms → IsSearchState s depth → (k a : ℕ) → depth a < k → (a ≢ 0 → IsOutermost s a) → IsRoute (path_of s) (path_of s a)
+pub path_route : (s : State) (depth : ℕ → ℕ) → IsNested s.graph.vertices s.blossoms → IsSearchState s depth → (k a : ℕ) → depth a < k → (a ≢ 0 → IsOutermost s a)
+    → IsRoute (path_of s) (path_of s a)
 path_route s depth nested h zero a low is = absurd (omega (arith, low))
 path_route s depth nested h (suc k) a low is = by_test (eqb a 0)
     (λ none. subst (IsRoute (path_of s)) (sym (ap (path_of s) (eqb-true a 0 none) ∙ path_none (node_limit s.graph.vertices + 1) s)) tt)

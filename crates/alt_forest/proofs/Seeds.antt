@@ -11,7 +11,8 @@ use Rattle.alt_forest.proofs.Roots.{up_or_root, root_self, root_up}
 -- a root has itself, and a step up in a tree keeps what is said
 pub record AreTrees (s : State) (tree : ℕ → ℕ) : Type 0 where
   pub root : (a : ℕ) → IsRoot s a → tree a ≡ a
-  pub step : (a e b : ℕ) → IsOutermost s a → s.label a ≢ Out → IsOutermost s b → s.label b ≢ Out → up_edge s a ≡ Some e → IsEdgeNumber s.graph e → Joins s.graph s.blossoms e a b → a ≢ b → tree a ≡ tree b
+  pub step : (a e b : ℕ) → IsOutermost s a → s.label a ≢ Out → IsOutermost s b → s.label b ≢ Out → up_edge s a ≡ Some e → IsEdgeNumber s.graph e → Joins s.graph s.blossoms e a b → a ≢ b
+      → tree a ≡ tree b
 
 module _ (s : State) (depth : ℕ → ℕ) (nested : IsNested s.graph.vertices s.blossoms) (st : IsSearchState s depth) where
   climb : (tree : ℕ → ℕ) → AreTrees s tree → (k a : ℕ) → depth a < k → IsOutermost s a → s.label a ≢ Out → root_of s a ≡ tree a
@@ -20,9 +21,9 @@ module _ (s : State) (depth : ℕ → ℕ) (nested : IsNested s.graph.vertices s
       (λ r. root_self s depth nested st a r ∙ sym (t.root a r))
       (λ p.
       let u = p.1 in
-      root_up s depth nested st a p.0 is u.outer u.up
-      ∙ climb tree t k p.0 (omega (arith, u.falls, low)) u.outer u.in_tree
-      ∙ sym (t.step a u.edge p.0 is in_it u.outer u.in_tree u.way u.is_edge u.joins (deeper_differs depth a p.0 u.falls)))
+      root_up s depth nested st a p.0 is u.outermost u.up
+      ∙ climb tree t k p.0 (omega (arith, u.falls, low)) u.outermost u.in_tree
+      ∙ sym (t.step a u.edge p.0 is in_it u.outermost u.in_tree u.way u.is_edge u.joins (deeper_differs depth a p.0 u.falls)))
       (up_or_root s depth nested st a is in_it)
 
   -- what is said locally is the root

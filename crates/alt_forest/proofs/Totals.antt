@@ -13,7 +13,8 @@ take_none : (k : ℕ) → take {A = ℕ} k [] ≡ []
 take_none zero = refl
 take_none (suc k) = refl
 
-total_first : (y : ℕ → ℤ) (o : Option ℕ) (xs ys : List ℕ) (k : ℕ) → MatchOption o ((xs ≡ []) × (ys ≡ [])) (λ x. xs ≡ x ∷ ys) → dual_of y o +ℤ total_of y (take k ys) ≡ total_of y (take (suc k) xs)
+total_first : (y : ℕ → ℤ) (o : Option ℕ) (xs ys : List ℕ) (k : ℕ) → MatchOption o ((xs ≡ []) × (ys ≡ [])) (λ x. xs ≡ x ∷ ys)
+    → dual_of y o +ℤ total_of y (take k ys) ≡ total_of y (take (suc k) xs)
 total_first y None xs ys k e =
     let left : total_of y (take k ys) ≡ pos 0 = ap (λ zs. total_of y (take k zs)) e.1 ∙ ap (total_of y) (take_none k) in
     let right : total_of y (take (suc k) xs) ≡ pos 0 = ap (λ zs. total_of y (take (suc k) zs)) e.0 in
@@ -21,7 +22,8 @@ total_first y None xs ys k e =
 total_first y (Some x) xs ys k e = sym (ap (λ zs. total_of y (take (suc k) zs)) e)
 
 -- one step: what is added is no longer to come
-pub total_step : (y : ℕ → ℤ) (o : Option ℕ) (xs ys : List ℕ) (n k : ℕ) (sum next dual whole : ℤ) → MatchOption o ((xs ≡ []) × (ys ≡ [])) (λ x. xs ≡ x ∷ ys) → k < n → dual ≡ dual_of y o → next ≡ sum +ℤ dual
+pub total_step : (y : ℕ → ℤ) (o : Option ℕ) (xs ys : List ℕ) (n k : ℕ) (sum next dual whole : ℤ) → MatchOption o ((xs ≡ []) × (ys ≡ [])) (λ x. xs ≡ x ∷ ys) → k < n → dual ≡ dual_of y o
+    → next ≡ sum +ℤ dual
     → sum +ℤ total_of y (take (n - k) xs) ≡ whole → next +ℤ total_of y (take (n - (k + 1)) ys) ≡ whole
 total_step y o xs ys n k sum next dual whole e low d s so =
     let one : suc (n - (k + 1)) ≡ n - k = omega (arith, low) in

@@ -26,7 +26,7 @@ other_node_joins g bs e a b j ne =
 pub record IsStep (s : State) (depth : ℕ → ℕ) (a e b : ℕ) : Type 0 where
   pub edge : IsEdgeNumber s.graph e
   pub up : up_of s a ≡ b
-  pub outer : IsOutermost s b
+  pub outermost : IsOutermost s b
   pub falls : depth b < depth a
 
 pub up_step : (s : State) (depth : ℕ → ℕ) (a e : ℕ) → IsSearchState s depth → IsOutermost s a → up_edge s a ≡ Some e → (b : ℕ) × IsStep s depth a e b
@@ -39,11 +39,18 @@ up_step s depth a e h is has = by_label (s.label a) refl has
     by_label Outer lab there =
         let m = h.mates a e is there in
         let low = ((h.labels a is).outer lab e m.0 there m.1).1 in
-        (m.0, record { edge = m.1.edge; up = leads m.0 m.1.joins low; outer = m.1.outer; falls = low })
+        (m.0, record { edge = m.1.edge; up = leads m.0 m.1.joins low; outermost = m.1.outermost; falls = low })
     by_label Inner lab there =
         let i = (h.labels a is).inner lab in
-        let same : i.edge ≡ e = same_Some i.edge e (sym i.parent ∙ there) in
-        (i.up, record { edge = subst (IsEdgeNumber s.graph) same i.is_edge; up = leads i.up (subst (λ x. Joins s.graph s.blossoms x a i.up) same i.joins) i.falls; outer = i.up_is; falls = i.falls })
+        let same : i.edge ≡ e = same_Some i.edge e (sym i.parent ∙ there) in (
+          i.up,
+          record {
+            edge = subst (IsEdgeNumber s.graph) same i.is_edge;
+            up = leads i.up (subst (λ x. Joins s.graph s.blossoms x a i.up) same i.joins) i.falls;
+            outermost = i.up_is;
+            falls = i.falls;
+          },
+        )
     by_label Out lab there = some_not_none e (sym there)
 
 -- the next node towards the root, if there is one, is outermost and of less depth
@@ -54,7 +61,7 @@ up_falls s depth a h is = by_edge (up_edge s a) refl
     by_edge None none = inl (ap (λ o. far_end s o a) none)
     by_edge (Some e) has =
         let w = up_step s depth a e h is has in
-        inr (subst (λ x. IsOutermost s x × (depth x < depth a)) (sym w.1.up) (w.1.outer, w.1.falls))
+        inr (subst (λ x. IsOutermost s x × (depth x < depth a)) (sym w.1.up) (w.1.outermost, w.1.falls))
 
 -- a path goes on from the next node
 pub path_step : (k : ℕ) (s : State) (a : ℕ) → k ≢ 0 → a ≢ 0 → path_within k s a ≡ a ∷ path_within (k - 1) s (up_of s a)

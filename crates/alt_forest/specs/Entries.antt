@@ -8,7 +8,7 @@ use Rattle.graph_theory.specs.declared.limits.TheConstants.{NUMBER_LIMIT}
 use Rattle.graph_theory.specs.Graph.{Multigraph, IsEdgeNumber, edge_of, edges_around}
 use Rattle.graph_theory.specs.Parts.{holds}
 use Rattle.graph_theory.specs.Sums.{sum_to}
-use Rattle.blossom_arena.specs.Family.{names_of}
+use Rattle.blossom_arena.specs.Family.{names_of, outermost}
 use Rattle.edge_queue.specs.declared.item.Item.{Item}
 use Rattle.edge_queue.specs.declared.item.Item.TheVariants.{Edge as OfEdge, Blossom as OfBlossom}
 use Rattle.edge_queue.specs.Moments.{Moments, moment_of}
@@ -16,6 +16,7 @@ use Rattle.blossom_arena.specs.declared.label.Label.TheVariants.{Outer, Inner, O
 use Rattle.alt_forest.specs.declared.search.Search.{Search}
 use Rattle.alt_forest.specs.State.{State, IsOutermost, Joins, slack_of}
 use Rattle.alt_forest.specs.Counts.{is_outside, outside_among}
+use Rattle.alt_forest.specs.Trees.{is_label}
 use Rattle.alt_forest.specs.Searches.{state_of}
 
 -- The moment that an edge needs: clock + slack between an outer node and one labelled out, and clock + half its slack
@@ -76,6 +77,15 @@ ends_around g (v ∷ vs) = length (edges_around g v) + ends_around g vs
 -- how many ends of edges there are at the vertices that lie in no outer node
 abbrev pub outside_ends : State → ℕ
 outside_ends s = sum_to (λ i. if is_outside s (i + 1) then length (edges_around s.graph (i + 1)) else 0) s.graph.vertices
+
+-- how many ends of edges there are at the vertices whose outermost node is labelled out
+abbrev pub out_ends : State → ℕ
+out_ends s = sum_to (λ i. if is_label (s.label (outermost s.blossoms (i + 1))) Out then length (edges_around s.graph (i + 1)) else 0) s.graph.vertices
+
+-- how many ends of edges there are at those of these vertices that lie in no inner node
+abbrev pub ends_looked : State → List ℕ → ℕ
+ends_looked s [] = 0
+ends_looked s (v ∷ vs) = (if is_label (s.label (outermost s.blossoms v)) Inner then 0 else length (edges_around s.graph v)) + ends_looked s vs
 
 -- how many looks are left at most while the trees grow: one for each end of an edge at a vertex that lies in no outer node,
 -- and one for each end of any edge with each blossom that neither is an outer node nor lies in one

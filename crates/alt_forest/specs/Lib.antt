@@ -1,8 +1,11 @@
+pub mod Updates
+pub mod Listing
+pub mod Linked
 pub mod State
 pub mod Trees
 pub mod Events
 pub mod Counts
-pub mod Spokes
+pub mod IncidentEdges
 pub mod Searches
 pub mod Routes
 pub mod Chains

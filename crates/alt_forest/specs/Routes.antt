@@ -8,12 +8,7 @@ use Rattle.alt_forest.specs.Searches.{IsSound, state_of}
 -- the search is sound, and the next node of a path, if there is one, is outermost
 pub record CanWalk (s : Search) (at : ℕ) : Type 0 where
   pub sound : IsSound s
-  pub outer : at ≢ 0 → IsOutermost (state_of s) at
-
--- from each of its numbers on, the list is the route of that number
-abbrev pub IsRoute : (ℕ → List ℕ) → List ℕ → Type 0
-IsRoute route [] = Unit {0}
-IsRoute route (x ∷ xs) = (x ∷ xs ≡ route x) × IsRoute route xs
+  pub outermost : at ≢ 0 → IsOutermost (state_of s) at
 
 -- two lists of one length: where they differ at a place, what stands there comes in neither of their rests
 abbrev pub AreLevel : List ℕ → List ℕ → Type 0

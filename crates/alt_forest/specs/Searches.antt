@@ -1,16 +1,17 @@
 -- A search as the calls see it.
-use Rattle.std.specs.Prelude.{◌≡◌, ℕ, ◌+◌, ◌≤◌, ℤ, pos, ◌≤ℤ◌, Bool, true, false, ◌==◌, if◌then◌else◌, List, length, slice_index_or, Option, None, vec_len}
+use Rattle.std.specs.Prelude.{◌≡◌, ℕ, ◌+◌, ◌≤◌, ℤ, pos, ◌≤ℤ◌, Bool, true, false, List, length, slice_index_or, Option, None, vec_len}
 use Rattle.std.specs.Vec.{vec_capacity}
 use Rattle.graph_theory.specs.Limits.{IsWithinLimits}
 use Rattle.graph_theory.specs.Graph.{Multigraph, IsGraph, IsWeight, edge_of, IsEdgeNumber}
 pub use Rattle.blossom_arena.specs.Changes.{label_at}
+pub use Rattle.alt_forest.specs.Updates.{put}
 use Rattle.blossom_arena.specs.Family.{dual_at, IsFamily}
 use Rattle.edge_queue.specs.Moments.{Moments}
 use Rattle.alt_forest.specs.declared.weights.Weights.{Weights}
 use Rattle.alt_forest.specs.declared.weights.Weights.TheVariants.{Zero, Given}
 use Rattle.alt_forest.specs.declared.search.Search.{Search}
-use Rattle.alt_forest.specs.declared.spokes.Spoke.{Spoke}
-use Rattle.alt_forest.specs.Spokes.{AreSpokes}
+use Rattle.alt_forest.specs.declared.incident_edges.IncidentEdge.{IncidentEdge}
+use Rattle.alt_forest.specs.IncidentEdges.{AreIncidentEdges}
 use Rattle.alt_forest.specs.State.{State, IsSearchState}
 use Rattle.alt_forest.specs.Trees.{node_limit}
 
@@ -20,10 +21,6 @@ is_given Given = true
 
 abbrev pub edge_in : List (Option ℕ) → ℕ → Option ℕ
 edge_in edges a = slice_index_or edges a None
-
--- the table with another entry at one place
-abbrev pub put : {A : Type 0} → (ℕ → A) → ℕ → A → ℕ → A
-put table a entry x = if x == a then entry else table x
 
 abbrev pub state_of : Search → State
 state_of s = record {
@@ -41,13 +38,12 @@ pub record IsSearchGraph (g : Multigraph) : Type 0 where
   pub graph : IsGraph g
   pub limits : IsWithinLimits (record { vertices = g.vertices; edges = length g.edges })
 
--- the spokes are those of the graph, the queue has a place for each edge and each node, and the lists that joins and
--- looks run over have room for all nodes and for all vertices
-pub record HasRoom (g : Multigraph) (spokes : List (List Spoke)) (queue : Moments) (standing_room seeds_len scanned_room : ℕ) : Type 0 where
-  pub index : AreSpokes g spokes
+-- the edges by vertex are those of the graph, the queue has a place for each edge and each node, seeds have one for each
+-- node and one before them, and the list of vertices to look from has room for all
+pub record HasRoom (g : Multigraph) (incidence : List (List IncidentEdge)) (queue : Moments) (seeds_len scanned_room : ℕ) : Type 0 where
+  pub index : AreIncidentEdges g incidence
   pub edges : length queue.edges ≡ length g.edges
   pub nodes : length queue.blossoms ≡ node_limit g.vertices
-  pub standing : node_limit g.vertices ≤ standing_room
   pub seeds : seeds_len ≡ node_limit g.vertices + 1
   pub scanned : g.vertices ≤ scanned_room
 
@@ -61,7 +57,7 @@ pub record HasShape (s : Search) : Type 0 where
   pub parents : vec_len s.parents ≡ node_limit s.graph.vertices + 1
   pub mates : vec_len s.mates ≡ node_limit s.graph.vertices + 1
   pub circuit : s.graph.vertices ≤ vec_capacity s.circuit
-  pub room : HasRoom s.graph s.spokes s.queue (vec_capacity s.standing) (vec_len s.seeds) (vec_capacity s.scanned)
+  pub room : HasRoom s.graph s.incidence s.queue (length s.standing.seeds) (vec_capacity s.scanned)
 
 -- the search has its shape and is in the state of a search
 pub record IsSound (s : Search) : Type 0 where

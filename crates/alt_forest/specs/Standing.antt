@@ -1,18 +1,15 @@
 -- The nodes in trees, each with a vertex of the root of its tree, and how their duals move. What is listed is at least the
 -- outermost nodes in trees.
-use Rattle.std.specs.Prelude.{◌≡◌, ◌≢◌, ℕ, ◌≤◌, true, nat_eq, List, All, slice_index_or, Option, Some, None, is_some}
+use Rattle.std.specs.Prelude.{◌≡◌, ◌≢◌, ℕ, ◌≤◌, true, nat_eq, List, All, Option, Some, is_some}
 use Rattle.std.specs.List.{IsDistinct}
 use Rattle.graph_theory.specs.Parts.{holds}
 use Rattle.blossom_arena.specs.Family.{is_vertex, outermost}
 use Rattle.blossom_arena.specs.declared.label.Label.TheVariants.{Out}
 use Rattle.alt_forest.specs.declared.search.Search.{Search}
+pub use Rattle.alt_forest.specs.Listing.{seed_at}
 use Rattle.alt_forest.specs.State.{State, IsOutermost}
 use Rattle.alt_forest.specs.Searches.{label_at, state_of}
 use Rattle.alt_forest.specs.Trees.{node_limit, root_of}
-
--- the seed of a node: a vertex that is kept for it, if it is listed
-abbrev pub seed_at : List (Option ℕ) → ℕ → Option ℕ
-seed_at seeds a = slice_index_or seeds a None
 
 -- different nodes of a graph with n vertices, and exactly these have a seed
 pub record AreListed (n : ℕ) (nodes : List ℕ) (seeds : List (Option ℕ)) : Type 0 where
@@ -29,9 +26,11 @@ pub record IsSeed (s : State) (a v : ℕ) : Type 0 where
 abbrev pub AreMoving : Search → Type 0
 AreMoving s = (a : ℕ) → IsOutermost (state_of s) a → label_at s.arena.motions a ≡ label_at s.labels.items a
 
--- each outermost node of a tree is listed, with a vertex of its root; others may be listed, until no tree stands; and each
--- outermost node moves as its label says
+-- each outermost node of a tree is listed, with a vertex of its root, and all those of one tree with the same one; others may
+-- be listed, until no tree stands; and each outermost node moves as its label says
 pub record IsStanding (s : Search) : Type 0 where
-  pub listed : AreListed s.graph.vertices s.standing.items s.seeds.items
-  pub trees : (a : ℕ) → IsOutermost (state_of s) a → (state_of s).label a ≢ Out → (v : ℕ) × (seed_at s.seeds.items a ≡ Some v) × IsSeed (state_of s) a v
+  pub listed : AreListed s.graph.vertices s.standing.nodes s.standing.seeds
+  pub trees : (a : ℕ) → IsOutermost (state_of s) a → (state_of s).label a ≢ Out → (v : ℕ) × (seed_at s.standing.seeds a ≡ Some v) × IsSeed (state_of s) a v
+  pub same : (a b : ℕ) → IsOutermost (state_of s) a → IsOutermost (state_of s) b → (state_of s).label a ≢ Out → (state_of s).label b ≢ Out
+      → root_of (state_of s) a ≡ root_of (state_of s) b → seed_at s.standing.seeds a ≡ seed_at s.standing.seeds b
   pub moves : AreMoving s

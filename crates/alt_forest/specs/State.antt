@@ -83,7 +83,7 @@ pub record IsMate (s : State) (a e b : ℕ) : Type 0 where
   pub joins : Joins s.graph s.blossoms e a b
   pub different : a ≢ b
   pub tight : slack_of s e ≡ pos 0
-  pub outer : IsOutermost s b
+  pub outermost : IsOutermost s b
   pub back : s.mate b ≡ Some e
 
 -- an inner node hangs by a tight edge, its parent, under an outer node that is nearer to the root; its one child is
@@ -113,16 +113,17 @@ pub record FitsLabel (s : State) (depth : ℕ → ℕ) (a : ℕ) : Type 0 where
   pub out : s.label a ≡ Out → (e b : ℕ) → s.mate a ≡ Some e → IsMate s a e b → s.label b ≡ Out
 
 -- the duals of all nodes that hold v, added up
-abbrev pub cover : State → ℕ → ℤ
-cover s v = s.dual v +ℤ held_by s.dual s.blossoms v
+abbrev pub dual_sum : State → ℕ → ℤ
+dual_sum s v = s.dual v +ℤ held_by s.dual s.blossoms v
 
 -- two numbers that differ by an even one
 abbrev pub SameParity : ℤ → ℤ → Type 0
 SameParity x y = (half : ℤ) × (x ≡ y +ℤ (half +ℤ half))
 
--- any two vertices in exposed outermost nodes have covers of one parity
+-- any two vertices in exposed outermost nodes have dual sums of one parity
 abbrev pub ExposedAgree : State → Type 0
-ExposedAgree s = (v w : ℕ) → is_vertex s.graph.vertices v ≡ true → is_vertex s.graph.vertices w ≡ true → s.mate (outermost s.blossoms v) ≡ None → s.mate (outermost s.blossoms w) ≡ None → SameParity (cover s v) (cover s w)
+ExposedAgree s = (v w : ℕ) → is_vertex s.graph.vertices v ≡ true → is_vertex s.graph.vertices w ≡ true → s.mate (outermost s.blossoms v) ≡ None → s.mate (outermost s.blossoms w) ≡ None
+    → SameParity (dual_sum s v) (dual_sum s w)
 
 -- The state of a search. `depth` ranks the nodes of the trees: it falls on the way to a root, so each node reaches
 -- one.
@@ -135,7 +136,7 @@ pub record IsSearchState (s : State) (depth : ℕ → ℕ) : Type 0 where
   pub duals : AllByRecursion (λ (b : Blossom). pos 0 ≤ℤ s.dual b.node) s.blossoms
   -- mates pair outermost nodes by tight edges, each the mate of both its nodes
   pub mates : (a e : ℕ) → IsOutermost s a → s.mate a ≡ Some e → (b : ℕ) × IsMate s a e b
-  -- the duals that cover the vertices of exposed nodes have one parity, whatever trees stand, so that the slack of an edge
+  -- the dual sums of the vertices of exposed nodes have one parity, whatever trees stand, so that the slack of an edge
   -- between two trees is even
   pub parity : ExposedAgree s
   -- the trees, and the nodes in none

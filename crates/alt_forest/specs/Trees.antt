@@ -9,7 +9,7 @@ use Rattle.blossom_arena.specs.Family.{Blossom, is_outermost}
 use Rattle.blossom_arena.specs.declared.label.Label.{Label}
 use Rattle.blossom_arena.specs.declared.label.Label.TheVariants.{Outer, Inner, Out}
 use Rattle.alt_forest.specs.State.{State, IsOutermost, node_u, node_v}
-pub use Rattle.alt_forest.specs.State.{held_by, cover, SameParity}
+pub use Rattle.alt_forest.specs.State.{held_by, dual_sum, SameParity}
 
 -- the greatest number that a node of a graph with n vertices can have
 abbrev pub node_limit : ℕ → ℕ
@@ -68,4 +68,5 @@ is_label one other = false
 
 -- how many nodes of the tree of this root have a label
 abbrev pub labelled : State → ℕ → Label → ℕ
-labelled s root label = length (filter (λ a. is_outermost s.graph.vertices s.blossoms a && (is_label (s.label a) label && (root_of s a == root))) (range_with_len 1 (node_limit s.graph.vertices)))
+labelled s root label = length (filter (λ a. is_outermost s.graph.vertices s.blossoms a && (is_label (s.label a) label && (root_of s a == root)))
+    (range_with_len 1 (node_limit s.graph.vertices)))

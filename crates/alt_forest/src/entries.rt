@@ -1,4 +1,4 @@
-ghost use Rattle.std.specs.Prelude.{◌≡◌, ◌≢◌, ◌⊎◌, ◌+◌, ◌*◌, ◌≤◌, ◌++◌, ℕ, ℤ, pos, ◌+ℤ◌, ◌*ℤ◌, ◌≤ℤ◌, true, false, ◌==◌, if◌then◌else◌, All, Option, length, vec_len};
+ghost use Rattle.std.specs.Prelude.{◌≡◌, ◌≢◌, ◌⊎◌, ◌+◌, ◌*◌, ◌≤◌, ◌++◌, ◌∷◌, [], ℕ, ℤ, pos, ◌+ℤ◌, ◌*ℤ◌, ◌≤ℤ◌, true, false, ◌==◌, if◌then◌else◌, All, Option, length, vec_len};
 ghost use Rattle.std.specs.Vec.{vec_capacity};
 ghost use Rattle.graph_theory.specs.Graph.{IsEdgeNumber, edge_of, edges_around, touches};
 ghost use Rattle.graph_theory.specs.Parts.{holds};
@@ -8,14 +8,14 @@ ghost use Rattle.edge_queue.specs.declared.item.Item.TheVariants.{Edge as OfEdge
 ghost use Rattle.edge_queue.specs.Moments.{moment_of};
 ghost use Rattle.blossom_arena.specs.declared.label.Label.TheVariants.{Inner};
 ghost use Rattle.alt_forest.specs.State.{IsOutermost, slack_of};
-ghost use Rattle.alt_forest.specs.Spokes.{LeadsTo, IsSpoke};
+ghost use Rattle.alt_forest.specs.IncidentEdges.{LeadsTo, IsIncidentEdge};
 ghost use Rattle.alt_forest.specs.Ends.{IsNear};
 ghost use Rattle.alt_forest.specs.Searches.{HasShape, IsSound, state_of, label_at};
-ghost use Rattle.alt_forest.specs.Entries.{NeedsMoment, IsEntered, IsBlossomEntered, IsQueued, IsQueuedBut, entry_count, ends_around, touches_any};
+ghost use Rattle.alt_forest.specs.Entries.{NeedsMoment, IsEntered, IsBlossomEntered, IsQueued, IsQueuedBut, entry_count, ends_around, ends_looked, touches_any};
 
+use crate::incident_edges::IncidentEdge;
 use crate::search::Search;
 use crate::slack::doubled;
-use crate::spokes::Spoke;
 use blossom_arena::{Label, Members, NodeId};
 use edge_queue::{Item, Turn};
 use graph_theory::{GRAPH_VERTEX_LIMIT, NUMBER_LIMIT};
@@ -23,16 +23,16 @@ use mb_base::{Steps, VertexId};
 use std::sync::ledger::Ledger;
 use weighted_graph::Graph;
 
-/// What is at hand of a vertex while the edges at it are looked at: the outermost node that holds it, how
-/// that one is labelled, the vertex that is kept for it, or 0, and the duals of all nodes that hold the
-/// vertex, added up.
+/// What is at hand of a vertex while the edges at it are looked at: the outermost node that holds
+/// it, how that one is labelled, the vertex that is kept for it, or 0, and the duals of all nodes
+/// that hold the vertex, added up.
 #[derive(Clone, Copy)]
 struct Near {
     vertex: VertexId,
     node: NodeId,
     label: Label,
     seed: u32,
-    cover: i64,
+    dual_sum: i64,
 }
 
 /// Half of an even number that is not below 0.
@@ -56,26 +56,26 @@ fn moment_after(clock: i64, left: i64) -> i64
     clock + left
 }
 
-/// The slack of an edge to another outermost node: no blossom holds both its ends, so the duals of all nodes
-/// that hold either of them count.
-fn slack_to(search: &Search, near: &Near, spoke: &Spoke) -> i64
+/// The slack of an edge to another outermost node: no blossom holds both its ends, so the duals of
+/// all nodes that hold either of them count.
+fn slack_to(search: &Search, near: &Near, incident: &IncidentEdge) -> i64
     requires sound { IsSound search.now }
     requires near { IsNear (state_of search.now) near.now }
-    requires spoke { IsSpoke search.now.graph near.now.vertex spoke.now }
-    requires apart { outermost search.now.arena.blossoms spoke.now.far ≢ near.now.node }
-    ensures slack { result ≡ slack_of (state_of search.now) spoke.now.edge }
+    requires incident { IsIncidentEdge search.now.graph near.now.vertex incident.now }
+    requires apart { outermost search.now.arena.blossoms incident.now.far ≢ near.now.node }
+    ensures slack { result ≡ slack_of (state_of search.now) incident.now.edge }
     ensures low { pos 0 ≤ℤ result }
     ensures high { result ≤ℤ (NUMBER_LIMIT *ℤ pos (2 * GRAPH_VERTEX_LIMIT + 1)) }
 {
-    doubled(search.weights, spoke.weight) - (near.cover + search.arena.cover(spoke.far))
+    doubled(search.weights, incident.weight) - (near.dual_sum + search.arena.dual_sum(incident.far))
 }
 
-/// The moment that an edge needs in the queue, if it needs one, where the outermost node at its far end and
-/// the label of that one are known. Where it needs none its slack isn't taken.
+/// The moment that an edge needs in the queue, if it needs one, where the outermost node at its far
+/// end and the label of that one are known. Where it needs none its slack isn't taken.
 fn moment_for(
     search: &Search,
     near: &Near,
-    spoke: &Spoke,
+    incident: &IncidentEdge,
     node: NodeId,
     label: Label,
 ) -> Option<i64>
@@ -83,10 +83,10 @@ fn moment_for(
     requires low { pos 0 ≤ℤ search.now.clock }
     requires high { search.now.clock ≤ℤ NUMBER_LIMIT }
     requires near { IsNear (state_of search.now) near.now }
-    requires spoke { IsSpoke search.now.graph near.now.vertex spoke.now }
-    requires node { node ≡ outermost search.now.arena.blossoms spoke.now.far }
+    requires incident { IsIncidentEdge search.now.graph near.now.vertex incident.now }
+    requires node { node ≡ outermost search.now.arena.blossoms incident.now.far }
     requires label { label ≡ label_at search.now.labels.items node }
-    ensures moment { NeedsMoment (state_of search.now) search.now.clock spoke.now.edge result }
+    ensures moment { NeedsMoment (state_of search.now) search.now.clock incident.now.edge result }
 {
     if node.number() == near.node.number() {
         return None;
@@ -94,24 +94,25 @@ fn moment_for(
     let clock = search.clock;
     match (near.label, label) {
         (Label::Outer, Label::Outer) => {
-            Some(moment_after(clock, half(slack_to(search, near, spoke))))
+            Some(moment_after(clock, half(slack_to(search, near, incident))))
         }
-        (Label::Outer, Label::Out) => Some(moment_after(clock, slack_to(search, near, spoke))),
-        (Label::Out, Label::Outer) => Some(moment_after(clock, slack_to(search, near, spoke))),
+        (Label::Outer, Label::Out) => Some(moment_after(clock, slack_to(search, near, incident))),
+        (Label::Out, Label::Outer) => Some(moment_after(clock, slack_to(search, near, incident))),
         _ => None,
     }
 }
 
 /// The vertex that is kept for a node, or 0.
 fn seed_number(search: &Search, node: NodeId) -> u32 {
-    match search.seeds.get(node.number() as usize) {
-        Some(Some(v)) => v.number(),
-        _ => 0,
+    match search.seed(node) {
+        Some(v) => v.number(),
+        None => 0,
     }
 }
 
-/// When an edge to a node with this label comes up among those of the same moment: one that joins two trees
-/// early, since it ends both. Only one between outer nodes can, so at others no seed is read.
+/// When an edge to a node with this label comes up among those of the same moment: one that joins
+/// two trees early, since it ends both. Only one between outer nodes can, so at others no seed is
+/// read.
 fn turn_to(search: &Search, near: &Near, node: NodeId, label: Label) -> Turn {
     if near.label != Label::Outer || label != Label::Outer {
         return Turn::Late;
@@ -123,32 +124,29 @@ fn turn_to(search: &Search, near: &Near, node: NodeId, label: Label) -> Turn {
     Turn::Late
 }
 
-/// Gives an edge at a vertex the moment that it needs, by one look at it.
-fn enter_edge<L: Ledger>(search: &mut Search, near: &Near, spoke: &Spoke, steps: &mut Steps<L>)
+/// Gives an edge at a vertex the moment that it needs.
+fn enter_edge(search: &mut Search, near: &Near, incident: &IncidentEdge)
     requires sound { IsSound search.old }
     requires low { pos 0 ≤ℤ search.old.clock }
     requires high { search.old.clock ≤ℤ NUMBER_LIMIT }
     requires near { IsNear (state_of search.old) near.now }
-    requires spoke { IsSpoke search.old.graph near.now.vertex spoke.now }
+    requires incident { IsIncidentEdge search.old.graph near.now.vertex incident.now }
     ensures rest { search.new ≡ record search.old { queue = search.new.queue } }
     ensures sound { IsSound search.new }
-    ensures entered { IsEntered (state_of search.old) search.old.clock search.new.queue spoke.now.edge }
-    ensures others { (d : ℕ) → d ≢ spoke.now.edge → moment_of search.new.queue (OfEdge d) ≡ moment_of search.old.queue (OfEdge d) }
+    ensures entered { IsEntered (state_of search.old) search.old.clock search.new.queue incident.now.edge }
+    ensures others { (d : ℕ) → d ≢ incident.now.edge → moment_of search.new.queue (OfEdge d) ≡ moment_of search.old.queue (OfEdge d) }
     ensures blossoms { search.new.queue.blossoms ≡ search.old.queue.blossoms }
     ensures count { entry_count search.new.queue ≤ entry_count search.old.queue + 1 }
-    ensures step { steps.new ≡ steps.old + 1 }
 {
-    steps.tick();
-    let node = search.arena.outermost(spoke.far);
+    let node = search.arena.outermost(incident.far);
     let label = search.label(node);
-    if let Some(moment) = moment_for(search, near, spoke, node, label) {
+    if let Some(moment) = moment_for(search, near, incident, node, label) {
         let turn = turn_to(search, near, node, label);
-        search.queue.set(Item::Edge(spoke.edge), moment, turn);
+        search.queue.set(Item::Edge(incident.edge), moment, turn);
     }
 }
 
-/// What is at hand of a vertex whose outermost node and its label are known, in one walk along the nodes
-/// that hold the vertex.
+/// What is at hand of a vertex whose outermost node and its label are known, in constant time.
 fn near_of(search: &Search, vertex: VertexId, node: NodeId, label: Label) -> Near
     requires sound { IsSound search.now }
     requires vertex { is_vertex search.now.graph.vertices vertex ≡ true }
@@ -162,12 +160,12 @@ fn near_of(search: &Search, vertex: VertexId, node: NodeId, label: Label) -> Nea
         node,
         label,
         seed: seed_number(search, node),
-        cover: search.arena.cover(vertex),
+        dual_sum: search.arena.dual_sum(vertex),
     }
 }
 
-/// Gives each edge at a vertex the moment that it needs. At a vertex of an inner node none needs one, and
-/// none is looked at.
+/// Gives each edge at a vertex the moment that it needs. At a vertex of an inner node none needs
+/// one, and none is looked at.
 fn enter_around<L: Ledger>(search: &mut Search, v: VertexId, steps: &mut Steps<L>)
     requires sound { IsSound search.old }
     requires low { pos 0 ≤ℤ search.old.clock }
@@ -178,7 +176,7 @@ fn enter_around<L: Ledger>(search: &mut Search, v: VertexId, steps: &mut Steps<L
     ensures entered { (e : ℕ) → IsEdgeNumber search.old.graph e → touches (edge_of search.old.graph e) v ≡ true → IsEntered (state_of search.old) search.old.clock search.new.queue e }
     ensures others { (e : ℕ) → IsEdgeNumber search.old.graph e → touches (edge_of search.old.graph e) v ≡ false → moment_of search.new.queue (OfEdge e) ≡ moment_of search.old.queue (OfEdge e) }
     ensures blossoms { search.new.queue.blossoms ≡ search.old.queue.blossoms }
-    ensures looks { steps.new ≤ steps.old + length (edges_around search.old.graph v) }
+    ensures looks { steps.new ≡ steps.old + ends_looked (state_of search.old) (v ∷ []) }
     ensures count { entry_count search.new.queue + steps.old ≤ entry_count search.old.queue + steps.new }
 {
     let node = search.arena.outermost(v);
@@ -187,9 +185,10 @@ fn enter_around<L: Ledger>(search: &mut Search, v: VertexId, steps: &mut Steps<L
         return;
     }
     let near = near_of(search, v, node, label);
-    for place in 0..search.spokes.at(v).len() {
-        let spoke = search.spokes.at(v)[place];
-        enter_edge(search, &near, &spoke, steps);
+    let count = search.incidence.at(v, steps).len();
+    for place in 0..count {
+        let incident = search.incidence.edge_at(v, place);
+        enter_edge(search, &near, &incident);
     }
 }
 
@@ -205,10 +204,10 @@ fn append(list: &mut Vec<VertexId>, vertices: Members<'_>)
 }
 
 impl Search {
-    /// Looks at the edges at each of the vertices in `scanned` and gives them the moments that they need
-    /// (chapter 26), but for those at vertices of inner nodes, which need none. All other edges and each
-    /// blossom keep what they have. Each end of an edge at these vertices costs one look at most. It takes no
-    /// memory.
+    /// Looks at the edges at each of the vertices in `scanned` and gives them the moments that they
+    /// need (chapter 26), but for those at vertices of inner nodes, which need none. All other
+    /// edges and each blossom keep what they have. Each end of an edge at these vertices costs one
+    /// look at most. It takes no memory.
     pub fn enter_scanned<L: Ledger>(&mut self, graph: &Graph, steps: &mut Steps<L>)
         requires sound { IsSound self.old }
         requires same { graph.now ≡ self.old.graph }
@@ -218,11 +217,11 @@ impl Search {
         ensures sound { IsSound self.new }
         ensures queued { IsQueued self.new }
         ensures looks { steps.new ≤ steps.old + ends_around graph.now self.old.scanned.items }
+        ensures around { steps.new ≡ steps.old + ends_looked (state_of self.old) self.old.scanned.items }
         ensures others { (e : ℕ) → IsEdgeNumber graph.now e → touches_any self.old.scanned.items (edge_of graph.now e) ≡ false → moment_of self.new.queue (OfEdge e) ≡ moment_of self.old.queue (OfEdge e) }
         ensures blossoms { self.new.queue.blossoms ≡ self.old.queue.blossoms }
         ensures count { entry_count self.new.queue + steps.old ≤ entry_count self.old.queue + steps.new }
     {
-        let _ = graph;
         for place in 0..self.scanned.len() {
             let v = self.scanned[place];
             enter_around(self, v, steps);
@@ -246,7 +245,7 @@ impl Search {
         requires sound { IsSound self.old }
         requires low { pos 0 ≤ℤ self.old.clock }
         requires high { self.old.clock ≤ℤ NUMBER_LIMIT }
-        requires outer { IsOutermost (state_of self.old) node }
+        requires outermost { IsOutermost (state_of self.old) node }
         ensures rest { self.new ≡ record self.old { queue = self.new.queue } }
         ensures sound { IsSound self.new }
         ensures entered { holds (names_of self.old.arena.blossoms) node ≡ true → IsBlossomEntered (state_of self.old) self.old.clock self.new.queue node }

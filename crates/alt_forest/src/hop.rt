@@ -9,8 +9,8 @@ use crate::search::Search;
 use blossom_arena::NodeId;
 use mb_base::EdgeId;
 
-/// The way up from an outer node that is no root to the next outer one: by its mate to an inner node,
-/// and from that one by its parent.
+/// The way up from an outer node that is no root to the next outer one: by its mate to an inner
+/// node, and from that one by its parent.
 #[derive(Clone, Copy)]
 pub struct Hop {
     pub mate: EdgeId,
@@ -31,11 +31,11 @@ fn kept(edge: Option<EdgeId>) -> EdgeId
 }
 
 impl Search {
-    /// The way up by a node's mate and by the parent of that mate (chapter 24). The lists may be those
-    /// of a search whose mates are being changed. It counts no step and takes no memory.
+    /// The way up by a node's mate and by the parent of that mate (chapter 24). The lists may be
+    /// those of a search whose mates are being changed. It counts no step and takes no memory.
     pub fn hop(&self, node: NodeId) -> Hop
         requires shape { HasShape self.now }
-        requires outer { IsOutermost (state_of self.now) node }
+        requires outermost { IsOutermost (state_of self.now) node }
         requires hop { HasHop (state_of self.now) node }
         ensures hop { IsRead (state_of self.now) node result }
     {

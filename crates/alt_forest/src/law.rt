@@ -1,11 +1,11 @@
 //! What holds of all states of a search, for those who cite this crate's contracts alone.
 ghost use Rattle.alt_forest.specs.Laws.{WaysLeadToRoots, TreesHaveParity, ForestsHaveParity, TreesBalance, RootsCounted, ExposedCounted};
 
-/// The way from each node in a tree leads to a root. The duals of the nodes that hold a vertex, added
-/// up, have one parity in one tree, and over all trees and exposed nodes, so that the slack of an edge
-/// within these is even. A tree has one outer node more than inner ones. Where there is a tree by count
-/// there is a root, and where no node is exposed by count each outermost node has a mate (chapters 24
-/// and 26).
+/// The way from each node in a tree leads to a root. The duals of the nodes that hold a vertex,
+/// added up, have one parity in one tree, and over all trees and exposed nodes, so that the slack
+/// of an edge within these is even. A tree has one outer node more than inner ones. Where there is
+/// a tree by count there is a root, and where no node is exposed by count each outermost node has a
+/// mate (chapters 24 and 26).
 pub fn laws()
     ensures roots { WaysLeadToRoots }
     ensures parity { TreesHaveParity }

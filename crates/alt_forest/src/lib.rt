@@ -1,16 +1,19 @@
-//! The state of a search for a perfect matching: alternating trees over the outermost nodes of an arena.
-//! It stands on `mb_base`, `graph_theory`, `weighted_graph` and `blossom_arena`.
+//! The state of a search for a perfect matching: alternating trees over the outermost nodes of an
+//! arena. It stands on `mb_base`, `graph_theory`, `weighted_graph`, `blossom_arena` and
+//! `edge_queue`.
 #![tactic(auto)]
 
+mod circular;
 mod entries;
 mod hop;
+mod incident_edges;
 mod law;
+mod listing;
 mod meet;
 mod motions;
 mod path;
 mod search;
 mod slack;
-mod spokes;
 mod standing;
 mod starts;
 mod tables;
@@ -19,9 +22,10 @@ mod weights;
 pub use blossom_arena::Label;
 pub use edge_queue::{EdgeQueue, Item};
 pub use hop::Hop;
+pub use incident_edges::{IncidentEdge, IncidentEdges};
 pub use law::laws;
 pub use path::RootPath;
 pub use search::Search;
-pub use spokes::{Spoke, Spokes};
+pub use standing::Standing;
 pub use tables::{set_edge, set_label};
 pub use weights::Weights;

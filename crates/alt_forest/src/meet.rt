@@ -57,12 +57,13 @@ fn first_shared(left: RootPath<'_>, right: RootPath<'_>) -> Option<NodeId>
 }
 
 impl Search {
-    /// The first node on the way from `a` to its root that is also on the way from `b`: none where the
-    /// two lie in different trees (chapter 24). It takes time linear in the two paths and no memory.
+    /// The first node on the way from `a` to its root that is also on the way from `b`: none where
+    /// the two lie in different trees (chapter 24). It takes time linear in the two paths and no
+    /// memory.
     pub fn meet(&self, a: NodeId, b: NodeId) -> Option<NodeId>
         requires sound { IsSound self.now }
-        requires a_outer { IsOutermost (state_of self.now) a }
-        requires b_outer { IsOutermost (state_of self.now) b }
+        requires a_outermost { IsOutermost (state_of self.now) a }
+        requires b_outermost { IsOutermost (state_of self.now) b }
         requires a_in_tree { label_at self.now.labels.items a ≢ Out }
         requires b_in_tree { label_at self.now.labels.items b ≢ Out }
         ensures meet { result ≡ first_common (path_of (state_of self.now) a) (path_of (state_of self.now) b) }

@@ -8,7 +8,7 @@ use blossom_arena::{Arena, Label, NodeId};
 /// Lets an outermost node move as a label says.
 pub(crate) fn set_motion(arena: &mut Arena, node: NodeId, label: Label)
     requires good { IsFamily arena.old }
-    requires outer { is_outermost arena.old.vertex_count arena.old.blossoms node ≡ true }
+    requires outermost { is_outermost arena.old.vertex_count arena.old.blossoms node ≡ true }
     ensures motions { label_at arena.new.motions ≡ put (label_at arena.old.motions) node label }
     ensures rest { arena.new ≡ record arena.old { motions = arena.new.motions } }
     ensures good { IsFamily arena.new }

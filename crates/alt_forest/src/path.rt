@@ -16,7 +16,7 @@ use std::marker::Model;
 /// The label of an outermost node.
 pub(crate) fn label_at(search: &Search, node: u32) -> Label
     requires shape { HasShape search.now }
-    requires outer { IsOutermost (state_of search.now) node }
+    requires outermost { IsOutermost (state_of search.now) node }
     ensures { result ≡ label_at search.now.labels.items node }
 {
     label_of(&search.labels, node)
@@ -25,7 +25,7 @@ pub(crate) fn label_at(search: &Search, node: u32) -> Label
 /// The edge to the parent of an outermost node.
 pub(crate) fn parent_of(search: &Search, node: u32) -> Option<EdgeId>
     requires shape { HasShape search.now }
-    requires outer { IsOutermost (state_of search.now) node }
+    requires outermost { IsOutermost (state_of search.now) node }
     ensures { result ≡ edge_in search.now.parents.items node }
 {
     edge_for(&search.parents, node)
@@ -34,7 +34,7 @@ pub(crate) fn parent_of(search: &Search, node: u32) -> Option<EdgeId>
 /// The edge to the mate of an outermost node.
 pub(crate) fn mate_of(search: &Search, node: u32) -> Option<EdgeId>
     requires shape { HasShape search.now }
-    requires outer { IsOutermost (state_of search.now) node }
+    requires outermost { IsOutermost (state_of search.now) node }
     ensures { result ≡ edge_in search.now.mates.items node }
 {
     edge_for(&search.mates, node)
@@ -45,7 +45,7 @@ pub(crate) fn other_node(search: &Search, e: EdgeId, node: u32) -> u32
     requires shape { HasShape search.now }
     requires edge { IsEdgeNumber search.now.graph e }
     ensures node { result ≡ other_node search.now.graph search.now.arena.blossoms e node }
-    ensures outer { IsOutermost (state_of search.now) result }
+    ensures outermost { IsOutermost (state_of search.now) result }
 {
     let (u, v, _) = search.graph.edge(e);
     let near = search.arena.outermost(u).number();
@@ -71,7 +71,7 @@ fn far_end(search: &Search, edge: Option<EdgeId>, node: u32) -> u32
 /// The edge from an outermost node towards its root.
 fn up_edge(search: &Search, node: u32) -> Option<EdgeId>
     requires shape { HasShape search.now }
-    requires outer { IsOutermost (state_of search.now) node }
+    requires outermost { IsOutermost (state_of search.now) node }
     ensures { result ≡ up_edge (state_of search.now) node }
 {
     match label_at(search, node) {
@@ -84,14 +84,15 @@ fn up_edge(search: &Search, node: u32) -> Option<EdgeId>
 /// The next node towards the root, or 0.
 pub(crate) fn up(search: &Search, node: u32) -> u32
     requires shape { HasShape search.now }
-    requires outer { IsOutermost (state_of search.now) node }
+    requires outermost { IsOutermost (state_of search.now) node }
     requires edge { ForSome (up_edge (state_of search.now) node) (IsEdgeNumber search.now.graph) }
     ensures { result ≡ up_of (state_of search.now) node }
 {
     far_end(search, up_edge(search, node), node)
 }
 
-/// The nodes from one to the root of its tree, both included. Contracts see the list of those to come.
+/// The nodes from one to the root of its tree, both included. Contracts see the list of those to
+/// come.
 #[derive(Drop)]
 pub struct RootPath<'a> {
     search: &'a Search,
@@ -139,7 +140,7 @@ impl Search {
     /// The edge to the mate of an outermost node, if it has one.
     pub fn mate(&self, node: NodeId) -> Option<EdgeId>
         requires shape { HasShape self.now }
-        requires outer { IsOutermost (state_of self.now) node }
+        requires outermost { IsOutermost (state_of self.now) node }
         ensures mate { result ≡ edge_in self.now.mates.items node }
     {
         mate_of(self, node.number())
@@ -148,7 +149,7 @@ impl Search {
     /// The edge to the parent of an outermost node, which means something for inner nodes alone.
     pub fn parent(&self, node: NodeId) -> Option<EdgeId>
         requires shape { HasShape self.now }
-        requires outer { IsOutermost (state_of self.now) node }
+        requires outermost { IsOutermost (state_of self.now) node }
         ensures parent { result ≡ edge_in self.now.parents.items node }
     {
         parent_of(self, node.number())
@@ -159,16 +160,16 @@ impl Search {
         requires shape { HasShape self.now }
         requires edge { IsEdgeNumber self.now.graph e }
         ensures node { result ≡ other_node self.now.graph self.now.arena.blossoms e node }
-        ensures outer { IsOutermost (state_of self.now) result }
+        ensures outermost { IsOutermost (state_of self.now) result }
     {
         NodeId::new(other_node(self, e, node.number()))
     }
 
-    /// The nodes from one in a tree to the root of that tree, both included (chapter 24). It takes no
-    /// memory.
+    /// The nodes from one in a tree to the root of that tree, both included (chapter 24). It takes
+    /// no memory.
     pub fn path_to_root(&self, node: NodeId) -> RootPath<'_>
         requires sound { IsSound self.now }
-        requires outer { IsOutermost (state_of self.now) node }
+        requires outermost { IsOutermost (state_of self.now) node }
         requires in_tree { label_at self.now.labels.items node ≢ Out }
         ensures path { result ≡ path_of (state_of self.now) node }
     {

@@ -6,11 +6,12 @@ ghost use Rattle.alt_forest.specs.Searches.{IsSearchGraph, HasShape, IsSound, Is
 ghost use Rattle.alt_forest.specs.State.{IsOutermost, IsExposed};
 ghost use Rattle.alt_forest.specs.Trees.{IsRoot};
 ghost use Rattle.alt_forest.specs.Counts.{exposed_count, tree_count, is_outside};
-ghost use Rattle.alt_forest.specs.Entries.{IsQueued, entry_count, looks_left};
+ghost use Rattle.alt_forest.specs.Entries.{IsQueued, entry_count, looks_left, outside_ends};
 ghost use Rattle.alt_forest.specs.Standing.{IsStanding};
 
-use crate::spokes::Spokes;
-use crate::standing::vertex_within;
+use crate::incident_edges::IncidentEdges;
+use crate::listing::vertex_within;
+use crate::standing::Standing;
 use crate::starts::{NodeLists, RoomLists, copied, give_duals, node_lists, room_lists};
 use crate::tables::{label_of, set_label, wipe_edges, wipe_labels};
 use crate::weights::Weights;
@@ -21,15 +22,16 @@ use std::alloc::Global;
 use std::sync::ledger::Ledger;
 use weighted_graph::Graph;
 
-/// A search over one graph: blossoms with their duals, a matching of the outermost nodes, and trees.
-/// A step of a search is a look at an edge of the graph that it was made for, also one by `spokes`, or a
-/// change of the duals; the ends of its mates and parents are read from its own copy, which counts none.
-/// `labels`, `parents` and `mates` stand by node number, with place 0 unused; a parent or a mate is
-/// given by the edge to it. `circuit` has room for n links. `graph` is a copy of the graph that the
-/// search was made for, and `spokes` its edges by vertex, which no call changes. `queue` has the
-/// moment of each event that can come, by `clock`, the sum of the changes of duals since no tree stood.
-/// `standing` lists the nodes in trees, `seeds` has for each of them, by node number, a vertex of the root
-/// of its tree, and `scanned` has the vertices whose edges are looked at after a step.
+/// A search over one graph: blossoms with their duals, a matching of the outermost nodes, and
+/// trees. A step of a search is a look at an edge of the graph that it was made for, also one from a
+/// vertex by `incidence`; an event (a grow, a shrink, an expand, an augment); or a change of the
+/// duals. The ends of its mates and parents are read from its own copy, which counts none. `labels`,
+/// `parents` and `mates` stand by node number, with place 0 unused; a parent or a mate is given by
+/// the edge to it. `circuit` has room for n links. `graph` is a copy of the graph that the search
+/// was made for, and `incidence` its edges by vertex, which no call changes. `queue` has the moment
+/// of each event that can come, by `clock`, the sum of the changes of duals since no tree stood.
+/// `standing` lists the nodes in trees by tree, each with a vertex of the root of its tree, and
+/// `scanned` has the vertices whose edges are looked at after a step.
 #[derive(Drop)]
 pub struct Search {
     pub arena: Arena,
@@ -41,10 +43,9 @@ pub struct Search {
     pub weights: Weights,
     pub start: i64,
     pub queue: EdgeQueue,
-    pub spokes: Spokes,
+    pub incidence: IncidentEdges,
     pub clock: i64,
-    pub standing: Vec<NodeId>,
-    pub seeds: Vec<Option<VertexId>>,
+    pub standing: Standing,
     pub scanned: Vec<VertexId>,
 }
 
@@ -64,9 +65,9 @@ fn make_root(search: &mut Search, v: NodeId)
 }
 
 impl Search {
-    /// A search over a graph, with no blossom, no mate and no tree, all duals 0 and weights that count
-    /// as 0. All memory that its calls want is taken here. Its one pass over the edges, which copies the
-    /// graph, counts no step.
+    /// A search over a graph, with no blossom, no mate and no tree, all duals 0 and weights that
+    /// count as 0. All memory that its calls want is taken here. Its one pass over the edges, which
+    /// copies the graph, counts no step.
     pub fn new(alloc: Global, graph: &Graph) -> Result<Search, OutOfMemory>
         requires graph { IsSearchGraph graph.now }
         ensures shape { IfOk result HasShape }
@@ -83,7 +84,7 @@ impl Search {
         ensures standing { IfOk result IsStanding }
     {
         let copy = copied(alloc, graph)?;
-        let spokes = Spokes::of(alloc, &copy)?;
+        let incidence = IncidentEdges::of(alloc, &copy)?;
         let arena = Arena::new(alloc, graph.vertices())?;
         let limit = arena.node_limit();
         let queue = EdgeQueue::new(alloc, graph.edges(), limit)?;
@@ -91,13 +92,9 @@ impl Search {
             labels,
             parents,
             mates,
-            seeds,
         } = node_lists(alloc, limit as usize + 1)?;
-        let RoomLists {
-            circuit,
-            standing,
-            scanned,
-        } = room_lists(alloc, graph.vertices() as usize, limit as usize)?;
+        let standing = Standing::new(alloc, limit)?;
+        let RoomLists { circuit, scanned } = room_lists(alloc, graph.vertices() as usize)?;
         Ok(Search {
             arena,
             labels,
@@ -108,17 +105,16 @@ impl Search {
             weights: Weights::Zero,
             start: 0,
             queue,
-            spokes,
+            incidence,
             clock: 0,
             standing,
-            seeds,
             scanned,
         })
     }
 
-    /// Begins a pass over the graph anew: no blossom, no mate, no tree, and each vertex has the dual
-    /// `start`, which is 0 where weights count as 0 and else at most the weight of each edge (chapter
-    /// 26). The graph is the one that the search was made for. It takes no memory.
+    /// Begins a pass over the graph anew: no blossom, no mate, no tree, and each vertex has the
+    /// dual `start`, which is 0 where weights count as 0 and else at most the weight of each edge
+    /// (chapter 26). The graph is the one that the search was made for. It takes no memory.
     pub fn reset(&mut self, graph: &Graph, weights: Weights, start: i64)
         requires shape { HasShape self.old }
         requires graph { graph.now ≡ self.old.graph }
@@ -134,13 +130,12 @@ impl Search {
         ensures circuit { self.new.circuit ≡ self.old.circuit }
         ensures trees { tree_count (state_of self.new) ≡ 0 }
         ensures exposed { exposed_count (state_of self.new) ≡ self.new.graph.vertices }
-        ensures spokes { self.new.spokes ≡ self.old.spokes }
+        ensures incidence { self.new.incidence ≡ self.old.incidence }
         ensures clock { self.new.clock ≡ pos 0 }
         ensures sound { IsSound self.new }
         ensures queued { IsQueued self.new }
         ensures standing { IsStanding self.new }
     {
-        let _ = graph;
         self.arena.clear();
         give_duals(&mut self.arena, start);
         wipe_labels(&mut self.labels);
@@ -153,8 +148,8 @@ impl Search {
         self.dismiss();
     }
 
-    /// Makes an exposed node the root of a tree of its own (chapter 24), and looks at the edges at its
-    /// vertices, which get their moments. It takes no memory.
+    /// Makes an exposed node the root of a tree of its own (chapter 24), and looks at the edges at
+    /// its vertices, which get their moments. It takes no memory.
     pub fn plant<L: Ledger>(&mut self, graph: &Graph, v: NodeId, steps: &mut Steps<L>)
         requires sound { IsSound self.old }
         requires queued { IsQueued self.old }
@@ -163,7 +158,7 @@ impl Search {
         requires exposed { IsExposed (state_of self.old) v }
         requires out { label_at self.old.labels.items v ≡ Out }
         ensures labels { label_at self.new.labels.items ≡ put (label_at self.old.labels.items) v Outer }
-        ensures rest { self.new ≡ record self.old { arena = record self.old.arena { motions = self.new.arena.motions }; labels = self.new.labels; queue = self.new.queue; standing = self.new.standing; seeds = self.new.seeds; scanned = self.new.scanned } }
+        ensures rest { self.new ≡ record self.old { arena = record self.old.arena { motions = self.new.arena.motions }; labels = self.new.labels; queue = self.new.queue; standing = self.new.standing; scanned = self.new.scanned } }
         ensures roots { (a : ℕ) → IsRoot (state_of self.new) a ↔ (IsRoot (state_of self.old) a ⊎ (a ≡ v)) }
         ensures trees { tree_count (state_of self.new) ≡ tree_count (state_of self.old) + 1 }
         ensures exposed { exposed_count (state_of self.new) ≡ exposed_count (state_of self.old) }
@@ -172,6 +167,7 @@ impl Search {
         ensures standing { IsStanding self.new }
         ensures inside { (w : ℕ) → is_outside (state_of self.new) w ≡ true → is_outside (state_of self.old) w ≡ true }
         ensures looks { steps.new + looks_left (state_of self.new) ≤ steps.old + looks_left (state_of self.old) }
+        ensures around { steps.new + outside_ends (state_of self.new) ≤ steps.old + outside_ends (state_of self.old) }
         ensures count { entry_count self.new.queue + steps.old ≤ entry_count self.old.queue + steps.new }
     {
         make_root(self, v);
@@ -185,7 +181,7 @@ impl Search {
     /// How an outermost node stands in the trees.
     pub fn label(&self, node: NodeId) -> Label
         requires shape { HasShape self.now }
-        requires outer { IsOutermost (state_of self.now) node }
+        requires outermost { IsOutermost (state_of self.now) node }
         ensures label { result ≡ label_at self.now.labels.items node }
     {
         label_of(&self.labels, node.number())
@@ -195,7 +191,7 @@ impl Search {
     pub fn clear(&mut self)
         requires sound { IsSound self.old }
         ensures labels { (a : ℕ) → label_at self.new.labels.items a ≡ Out }
-        ensures rest { self.new ≡ record self.old { arena = record self.old.arena { motions = self.new.arena.motions }; labels = self.new.labels; queue = self.new.queue; clock = pos 0; standing = self.new.standing; seeds = self.new.seeds } }
+        ensures rest { self.new ≡ record self.old { arena = record self.old.arena { motions = self.new.arena.motions }; labels = self.new.labels; queue = self.new.queue; clock = pos 0; standing = self.new.standing } }
         ensures trees { tree_count (state_of self.new) ≡ 0 }
         ensures exposed { exposed_count (state_of self.new) ≡ exposed_count (state_of self.old) }
         ensures sound { IsSound self.new }

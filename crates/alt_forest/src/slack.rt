@@ -107,7 +107,8 @@ fn holder_counts(arena: &Arena, edge: &Edge) -> (u32, u32)
     (more + both, less + both)
 }
 
-/// The duals of the nodes that hold exactly one end of an edge, added up along the chains of its two ends.
+/// The duals of the nodes that hold exactly one end of an edge, added up along the chains of its
+/// two ends.
 fn duals_along(arena: &Arena, edge: &Edge) -> i64
     requires { IsEdgeWithin arena.now.vertex_count edge.now }
     ensures duals_across { result ≡ duals_across (dual_at arena.now.duals) arena.now.blossoms edge.now }
@@ -118,8 +119,8 @@ fn duals_along(arena: &Arena, edge: &Edge) -> i64
     total(arena, arena.chain(edge.u), u) + total(arena, arena.chain(edge.v), v)
 }
 
-/// The duals of the nodes that hold exactly one end of an edge, added up: where no blossom holds both ends,
-/// all that hold either, in constant time.
+/// The duals of the nodes that hold exactly one end of an edge, added up: where no blossom holds
+/// both ends, all that hold either, in constant time.
 fn duals_across(arena: &Arena, edge: &Edge) -> i64
     requires { IsEdgeWithin arena.now.vertex_count edge.now }
     ensures duals_across { result ≡ duals_across (dual_at arena.now.duals) arena.now.blossoms edge.now }
@@ -129,7 +130,7 @@ fn duals_across(arena: &Arena, edge: &Edge) -> i64
     if arena.outermost(edge.u).number() == arena.outermost(edge.v).number() {
         return duals_along(arena, edge);
     }
-    arena.cover(edge.u) + arena.cover(edge.v)
+    arena.dual_sum(edge.u) + arena.dual_sum(edge.v)
 }
 
 /// Twice a weight, or 0 in the pass without weights.
@@ -146,9 +147,10 @@ pub(crate) fn doubled(weights: Weights, w: i64) -> i64
 }
 
 impl Search {
-    /// The slack of an edge whose ends and weight are at hand (chapter 26): twice its weight, or 0 in
-    /// the pass without weights, less the duals of the nodes that hold exactly one of its ends. It
-    /// looks at no edge, and takes time linear in the nodes that hold the two ends and no memory.
+    /// The slack of an edge whose ends and weight are at hand (chapter 26): twice its weight, or 0
+    /// in the pass without weights, less the duals of the nodes that hold exactly one of its ends.
+    /// It looks at no edge, and takes time linear in the nodes that hold the two ends and no
+    /// memory.
     pub fn slack_by(&self, edge: &Edge) -> i64
         requires shape { HasShape self.now }
         requires ends { IsEdgeWithin self.now.graph.vertices edge.now }
@@ -160,8 +162,8 @@ impl Search {
         doubled(self.weights, edge.w) - duals_across(&self.arena, edge)
     }
 
-    /// The slack of an edge, by one look at it. It takes time linear in the nodes that hold the two ends
-    /// and no memory.
+    /// The slack of an edge, by one look at it. It takes time linear in the nodes that hold the two
+    /// ends and no memory.
     pub fn slack<L: Ledger>(&self, graph: &Graph, e: EdgeId, steps: &mut Steps<L>) -> i64
         requires sound { IsSound self.now }
         requires graph { graph.now ≡ self.now.graph }

@@ -5,7 +5,6 @@ ghost use Rattle.graph_theory.specs.Graph.{IsGraph, IsWeight};
 ghost use Rattle.blossom_arena.specs.Family.{IsFamily, empty_family, is_vertex, dual_at};
 ghost use Rattle.blossom_arena.specs.declared.label.Label.TheVariants.{Out};
 ghost use Rattle.alt_forest.specs.Searches.{IsSearchGraph, edge_in, label_at};
-ghost use Rattle.alt_forest.specs.Standing.{seed_at};
 
 use blossom_arena::{Arena, Label, Link, NodeId};
 use graph_theory::GRAPH_VERTEX_LIMIT;
@@ -51,29 +50,24 @@ pub(crate) struct NodeLists {
     pub(crate) labels: Vec<Label>,
     pub(crate) parents: Vec<Option<EdgeId>>,
     pub(crate) mates: Vec<Option<EdgeId>>,
-    pub(crate) seeds: Vec<Option<VertexId>>,
 }
 
-/// Lists with so many places each, where no node is in a tree, has a mate or is listed.
+/// Lists with so many places each, where no node is in a tree or has a mate.
 pub(crate) fn node_lists(alloc: Global, places: usize) -> Result<NodeLists, OutOfMemory>
     ensures labels { IfOk result (λ l. (a : ℕ) → label_at l.labels.items a ≡ Out) }
     ensures parents { IfOk result (λ l. (a : ℕ) → edge_in l.parents.items a ≡ None) }
     ensures mates { IfOk result (λ l. (a : ℕ) → edge_in l.mates.items a ≡ None) }
-    ensures seeds { IfOk result (λ l. (a : ℕ) → seed_at l.seeds.items a ≡ None) }
     ensures label_places { IfOk result (λ l. vec_len l.labels ≡ places) }
     ensures parent_places { IfOk result (λ l. vec_len l.parents ≡ places) }
     ensures mate_places { IfOk result (λ l. vec_len l.mates ≡ places) }
-    ensures seed_places { IfOk result (λ l. vec_len l.seeds ≡ places) }
 {
     let labels = vec![in alloc; Label::Out; places]?;
     let parents = no_edges(alloc, places)?;
     let mates = no_edges(alloc, places)?;
-    let seeds = vec![in alloc; None; places]?;
     Ok(NodeLists {
         labels,
         parents,
         mates,
-        seeds,
     })
 }
 
@@ -81,29 +75,17 @@ pub(crate) fn node_lists(alloc: Global, places: usize) -> Result<NodeLists, OutO
 #[derive(Drop)]
 pub(crate) struct RoomLists {
     pub(crate) circuit: Vec<Link>,
-    pub(crate) standing: Vec<NodeId>,
     pub(crate) scanned: Vec<VertexId>,
 }
 
-/// Empty lists with room for so many links and vertices, and for so many nodes.
-pub(crate) fn room_lists(
-    alloc: Global,
-    vertices: usize,
-    nodes: usize,
-) -> Result<RoomLists, OutOfMemory>
+/// Empty lists with room for so many links and vertices.
+pub(crate) fn room_lists(alloc: Global, vertices: usize) -> Result<RoomLists, OutOfMemory>
     ensures circuit { IfOk result (λ r. vertices ≤ vec_capacity r.circuit) }
-    ensures standing { IfOk result (λ r. nodes ≤ vec_capacity r.standing) }
     ensures scanned { IfOk result (λ r. vertices ≤ vec_capacity r.scanned) }
-    ensures none { IfOk result (λ r. r.standing.items ≡ []) }
 {
     let circuit = room_for(alloc, vertices)?;
-    let standing = room_for(alloc, nodes)?;
     let scanned = room_for(alloc, vertices)?;
-    Ok(RoomLists {
-        circuit,
-        standing,
-        scanned,
-    })
+    Ok(RoomLists { circuit, scanned })
 }
 
 /// Gives each vertex of an arena with no blossom and all duals 0 the same dual.

@@ -1,10 +1,9 @@
 ghost use Rattle.std.specs.Prelude.{◌≡◌, ◌<◌, ℕ, None, length, vec_len};
 ghost use Rattle.blossom_arena.specs.declared.label.Label.TheVariants.{Out};
 ghost use Rattle.alt_forest.specs.Searches.{label_at, edge_in, put};
-ghost use Rattle.alt_forest.specs.Standing.{seed_at};
 
 use blossom_arena::{Label, NodeId};
-use mb_base::{EdgeId, VertexId};
+use mb_base::EdgeId;
 
 /// The label of a node.
 pub(crate) fn label_of(labels: &[Label], node: u32) -> Label
@@ -54,12 +53,4 @@ pub(crate) fn wipe_edges(edges: &mut Vec<Option<EdgeId>>)
     ensures len { vec_len edges.new ≡ vec_len edges.old }
 {
     edges.fill(None);
-}
-
-/// Keeps no vertex for any node.
-pub(crate) fn wipe_seeds(seeds: &mut Vec<Option<VertexId>>)
-    ensures none { (node : ℕ) → seed_at seeds.new.items node ≡ None }
-    ensures len { vec_len seeds.new ≡ vec_len seeds.old }
-{
-    seeds.fill(None);
 }

@@ -31,7 +31,8 @@ before_not (c ∷ cs) b rest e =
     ap (λ q. cond q [] (c ∷ up_to (cs ++ (b ∷ rest)) b)) p.0 ∙ ap (λ t. c ∷ t) (before_not cs b rest p.1)
 
 -- the nodes that hold a vertex within a blossom
-pub within : (n : ℕ) (bs : List Blossom) (b v : ℕ) → IsNested n bs → is_vertex n v ≡ true → holds (names_of bs) b ≡ true → holds (members_of bs b) v ≡ true → up_to (chain_of bs v) b ≡ chain_of (older_than bs b) v
+pub within : (n : ℕ) (bs : List Blossom) (b v : ℕ) → IsNested n bs → is_vertex n v ≡ true → holds (names_of bs) b ≡ true → holds (members_of bs b) v ≡ true
+    → up_to (chain_of bs v) b ≡ chain_of (older_than bs b) v
 within n bs b v h iv k m =
     let r = chain_through bs b v k m in
     ap (λ c. up_to c b) r.1 ∙ before_not (chain_of (older_than bs b) v) b r.0
@@ -67,13 +68,15 @@ module _ (g : Multigraph) (f : Family) (m : ℕ → Option ℕ) (b : ℕ) (can :
   parted = parted_at ring base base_in
 
   round : GoesRound ring base (links_after ring base ++ links_before ring base)
-  round = subst (λ x. GoesRound ring x (links_after ring base ++ links_before ring base)) parted.base_is (goes_round ring (links_before ring base) parted.base (links_after ring base) parted.split different)
+  round = subst (λ x. GoesRound ring x (links_after ring base ++ links_before ring base)) parted.base_is
+      (goes_round ring (links_before ring base) parted.base (links_after ring base) parted.split different)
 
   pub each_edge : AllByRecursion (λ (l : Link). IsEdgeNumber g l.edge) ring
   each_edge = chain_edges g older ring (next_node ring 0) can.ring
 
   pub behind_edges : AllByRecursion (λ (l : Link). IsEdgeNumber g l.edge) (links_after ring base)
-  behind_edges = (each_parts (λ (l : Link). IsEdgeNumber g l.edge) (links_before ring base) (parted.base ∷ links_after ring base) (subst (λ (x : List Link). AllByRecursion (λ (l : Link). IsEdgeNumber g l.edge) x) parted.split each_edge)).1.1
+  behind_edges = (each_parts (λ (l : Link). IsEdgeNumber g l.edge) (links_before ring base) (parted.base ∷ links_after ring base)
+      (subst (λ (x : List Link). AllByRecursion (λ (l : Link). IsEdgeNumber g l.edge) x) parted.split each_edge)).1.1
 
   pub ring_places : (k : ℕ) → g.vertices + most_blossoms g.vertices < k → AllByRecursion (λ (l : Link). l.node < k) ring
   ring_places k low = each_link (λ c. c < k) ring (λ c r. omega (arith, low, (node_range g.vertices bs c nested (child_is_node g.vertices bs c nested (ring_child bs b c r))).1))
@@ -82,7 +85,8 @@ module _ (g : Multigraph) (f : Family) (m : ℕ → Option ℕ) (b : ℕ) (can :
   chained = (leads_round ring (links_before ring base) parted.base (links_after ring base) parted.split g older can.ring).chain
 
   -- an edge that joins nodes of the ring is spread within the blossom alone
-  same_spread : (l : Link) → IsEdgeNumber g l.edge → (c d : ℕ) → Joins g older l.edge c d → in_ring ring c ≡ true → in_ring ring d ≡ true → (n : ℕ → Option ℕ) → spread_in g bs b n l.edge ≡ spread g older n l.edge
+  same_spread : (l : Link) → IsEdgeNumber g l.edge → (c d : ℕ) → Joins g older l.edge c d → in_ring ring c ≡ true → in_ring ring d ≡ true → (n : ℕ → Option ℕ)
+      → spread_in g bs b n l.edge ≡ spread g older n l.edge
   same_spread l is c d j rc rd n =
       let u : ℕ = (edge_of g l.edge).u in
       let v : ℕ = (edge_of g l.edge).v in
@@ -94,10 +98,12 @@ module _ (g : Multigraph) (f : Family) (m : ℕ → Option ℕ) (b : ℕ) (can :
       let wv = within g.vertices bs b v nested iv can.blossom (held g.vertices bs b nested can.blossom v iv at_v) in
       ap (λ cs. marked (marked n cs l.edge) (up_to (chain_of bs v) b) l.edge) wu ∙ ap (λ cs. marked (marked n (chain_of older u) l.edge) cs l.edge) wv
 
-  all_same : (ls : List Link) (z : ℕ) → IsChainTo g older ls z → ((c : ℕ) → in_ring ls c ≡ true → in_ring ring c ≡ true) → in_ring ring z ≡ true → AllByRecursion (λ (l : Link). (n : ℕ → Option ℕ) → spread_in g bs b n l.edge ≡ spread g older n l.edge) ls
+  all_same : (ls : List Link) (z : ℕ) → IsChainTo g older ls z → ((c : ℕ) → in_ring ls c ≡ true → in_ring ring c ≡ true) → in_ring ring z ≡ true
+      → AllByRecursion (λ (l : Link). (n : ℕ → Option ℕ) → spread_in g bs b n l.edge ≡ spread g older n l.edge) ls
   all_same [] z chain inside end = tt
   all_same (l ∷ ls) z chain inside end = (
-    same_spread l chain.0 l.node (next_node ls z) chain.1 (inside l.node (or_left (eqb l.node l.node) (in_ring ls l.node) (eq-eqb l.node l.node refl))) (next_in ls (λ c e. inside c (or_right (eqb l.node c) (in_ring ls c) e))),
+    same_spread l chain.0 l.node (next_node ls z) chain.1 (inside l.node (or_left (eqb l.node l.node) (in_ring ls l.node) (eq-eqb l.node l.node refl)))
+        (next_in ls (λ c e. inside c (or_right (eqb l.node c) (in_ring ls c) e))),
     all_same ls z chain.2 (λ c e. inside c (or_right (eqb l.node c) (in_ring ls c) e)) end,
   )
     where
@@ -111,7 +117,8 @@ module _ (g : Multigraph) (f : Family) (m : ℕ → Option ℕ) (b : ℕ) (can :
     pub bare : IsBare g older n
     pub spread : (a : ℕ) → IsSpread g older n a
 
-  pub opened : (second third : ℕ → Option ℕ) (w : Option Link) → second ≡ paired (spread_in g bs b) m None (links_before (links_after ring base) base) → w ≡ waiting_after None (links_before (links_after ring base) base)
+  pub opened : (second third : ℕ → Option ℕ) (w : Option Link) → second ≡ paired (spread_in g bs b) m None (links_before (links_after ring base) base)
+      → w ≡ waiting_after None (links_before (links_after ring base) base)
       → third ≡ paired (spread_in g bs b) second w (links_before ring base) → IsOpened third
   opened second third w is2 then is3 =
       let behind : List Link = links_after ring base in
@@ -121,12 +128,14 @@ module _ (g : Multigraph) (f : Family) (m : ℕ → Option ℕ) (b : ℕ) (can :
       let sizes : length ring ≡ length (behind ++ before) + 1 = sized in
       let even : length (behind ++ before) % 2 ≡ 0 = omega (arith, sizes, ring_odd g.vertices bs b nested can.blossom) in
       let free : (c : ℕ) → in_ring ring c ≡ true → is_child older c ≡ false = (has_ring g.vertices bs b nested can.blossom).free in
-      let not_base : (c : ℕ) → in_ring (behind ++ before) c ≡ true → c ≢ base = λ c r q. both_ways (in_ring (behind ++ before) base) round.base_apart (ap (in_ring (behind ++ before)) (sym q) ∙ r) in
+      let not_base : (c : ℕ) → in_ring (behind ++ before) c ≡ true → c ≢ base = λ c r q. both_ways (in_ring (behind ++ before) base) round.base_apart
+      (ap (in_ring (behind ++ before)) (sym q) ∙ r) in
       let is : third ≡ paired (spread g older) m None (behind ++ before) =
       is3 ∙ ap (λ (x : ℕ → Option ℕ). paired (spread_in g bs b) x w before) (is2 ∙ ap (paired (spread_in g bs b) m None) whole)
       ∙ ap (λ x. paired (spread_in g bs b) (paired (spread_in g bs b) m None behind) x before) (then ∙ ap (waiting_after None) whole)
       ∙ sym (paired_append (spread_in g bs b) m None behind before)
-      ∙ paired_same (spread_in g bs b) (spread g older) m (behind ++ before) (all_same (behind ++ before) parted.base.node chained round.inside (ap (in_ring ring) parted.base_is ∙ base_in)) in
+      ∙ paired_same (spread_in g bs b) (spread g older) m (behind ++ before) (all_same (behind ++ before) parted.base.node chained round.inside
+      (ap (in_ring ring) parted.base_is ∙ base_in)) in
       let r = pairs_up g older m (behind ++ before) parted.base.node (nested_older g.vertices bs b nested) can.ends chained round.different even
       (λ c i. free c (round.inside c i)) (λ c i. can.only c (round.inside c i) (not_base c i)) can.bare can.spread in
       subst IsOpened (sym is) (record {
@@ -154,8 +163,10 @@ module _ (g : Multigraph) (f : Family) (m : ℕ → Option ℕ) (b : ℕ) (can :
           let a : length ring ≡ length (links_before ring base ++ (parted.base ∷ links_after ring base)) = ap length parted.split in
           omega (arith, a, length-append (links_before ring base) (parted.base ∷ links_after ring base), length-append (links_after ring base) (links_before ring base))
 
-  pub opened_at : (at : ℕ) → at ≡ base → (second third : ℕ → Option ℕ) (w : Option Link) → second ≡ paired (spread_in g bs b) m None (links_before (links_after ring at) at) → w ≡ waiting_after None (links_before (links_after ring at) at)
+  pub opened_at : (at : ℕ) → at ≡ base → (second third : ℕ → Option ℕ) (w : Option Link) → second ≡ paired (spread_in g bs b) m None (links_before (links_after ring at) at)
+      → w ≡ waiting_after None (links_before (links_after ring at) at)
       → third ≡ paired (spread_in g bs b) second w (links_before ring at) → IsOpened third
   opened_at at same second third w is2 then is3 =
-      opened second third w (subst (λ x. second ≡ paired (spread_in g bs b) m None (links_before (links_after ring x) x)) same is2) (subst (λ x. w ≡ waiting_after None (links_before (links_after ring x) x)) same then)
+      opened second third w (subst (λ x. second ≡ paired (spread_in g bs b) m None (links_before (links_after ring x) x)) same is2)
+      (subst (λ x. w ≡ waiting_after None (links_before (links_after ring x) x)) same then)
       (subst (λ x. third ≡ paired (spread_in g bs b) second w (links_before ring x)) same is3)

@@ -32,7 +32,8 @@ pub chain_has_top : (bs : List Blossom) (v : ℕ) → holds (chain_of bs v) (out
 chain_has_top [] v = or_left (eqb v v) false (eq-eqb v v refl)
 chain_has_top (b ∷ older) v = by_test (holds b.members v)
     (λ m. ap (λ q. holds q (outermost (b ∷ older) v)) (chain_in b older v m) ∙ ap (holds (chain_of older v ++ b.node ∷ [])) (ap (λ q. cond q b.node (outermost older v)) m)
-    ∙ holds-append (chain_of older v) (b.node ∷ []) b.node ∙ or_right (holds (chain_of older v) b.node) (holds (b.node ∷ []) b.node) (or_left (eqb b.node b.node) false (eq-eqb b.node b.node refl)))
+    ∙ holds-append (chain_of older v) (b.node ∷ []) b.node ∙ or_right (holds (chain_of older v) b.node) (holds (b.node ∷ []) b.node)
+    (or_left (eqb b.node b.node) false (eq-eqb b.node b.node refl)))
     (λ m. ap (λ q. holds q (outermost (b ∷ older) v)) (chain_out b older v m) ∙ ap (holds (chain_of older v)) (ap (λ q. cond q b.node (outermost older v)) m) ∙ chain_has_top older v)
 
 outer_in : (b : Blossom) (older : List Blossom) (v : ℕ) → holds b.members v ≡ true → outermost (b ∷ older) v ≡ b.node
@@ -57,7 +58,8 @@ chain_top n (b ∷ older) v c h iv e free = by_test (holds b.members v)
     free_before f = by_test (is_child older c) (λ t. absurd (both_ways (is_child (b ∷ older) c) f (or_right (in_ring b.ring c) (is_child older c) t))) (λ t. t)
 
 -- two ways up that share a node end at one
-pub same_top : (n : ℕ) (bs : List Blossom) (u v c : ℕ) → IsNested n bs → is_vertex n u ≡ true → is_vertex n v ≡ true → holds (chain_of bs u) c ≡ true → holds (chain_of bs v) c ≡ true → outermost bs u ≡ outermost bs v
+pub same_top : (n : ℕ) (bs : List Blossom) (u v c : ℕ) → IsNested n bs → is_vertex n u ≡ true → is_vertex n v ≡ true → holds (chain_of bs u) c ≡ true
+    → holds (chain_of bs v) c ≡ true → outermost bs u ≡ outermost bs v
 same_top n [] u v c h iu iv eu ev = only_one u c eu ∙ sym (only_one v c ev)
 same_top n (b ∷ older) u v c h iu iv eu ev = by_test (holds b.members u)
     (λ mu. by_test (holds b.members v)
@@ -65,9 +67,12 @@ same_top n (b ∷ older) u v c h iu iv eu ev = by_test (holds b.members u)
     (λ mv. absurd (mixed (λ x y ix iy ex ey. same_top n older x y c h.1 ix iy ex ey) u v iu iv eu ev mu mv)))
     (λ mu. by_test (holds b.members v)
     (λ mv. absurd (mixed (λ x y ix iy ex ey. same_top n older x y c h.1 ix iy ex ey) v u iv iu ev eu mv mu))
-    (λ mv. outer_out b older u mu ∙ same_top n older u v c h.1 iu iv (sym (ap (λ q. holds q c) (chain_out b older u mu)) ∙ eu) (sym (ap (λ q. holds q c) (chain_out b older v mv)) ∙ ev) ∙ sym (outer_out b older v mv)))
+    (λ mv. outer_out b older u mu ∙ same_top n older u v c h.1 iu iv (sym (ap (λ q. holds q c) (chain_out b older u mu)) ∙ eu)
+    (sym (ap (λ q. holds q c) (chain_out b older v mv)) ∙ ev) ∙ sym (outer_out b older v mv)))
   where
-    mixed : ((x y : ℕ) → is_vertex n x ≡ true → is_vertex n y ≡ true → holds (chain_of older x) c ≡ true → holds (chain_of older y) c ≡ true → outermost older x ≡ outermost older y) → (x y : ℕ) → is_vertex n x ≡ true → is_vertex n y ≡ true → holds (chain_of (b ∷ older) x) c ≡ true → holds (chain_of (b ∷ older) y) c ≡ true → holds b.members x ≡ true → holds b.members y ≡ false → ⊥
+    mixed : ((x y : ℕ) → is_vertex n x ≡ true → is_vertex n y ≡ true → holds (chain_of older x) c ≡ true → holds (chain_of older y) c ≡ true
+        → outermost older x ≡ outermost older y) → (x y : ℕ) → is_vertex n x ≡ true → is_vertex n y ≡ true → holds (chain_of (b ∷ older) x) c ≡ true
+        → holds (chain_of (b ∷ older) y) c ≡ true → holds b.members x ≡ true → holds b.members y ≡ false → ⊥
     mixed by_older x y ix iy ex ey mx my =
         let dy : holds (chain_of older y) c ≡ true = sym (ap (λ q. holds q c) (chain_out b older y my)) ∙ ey in
         let ne : b.node ≢ c = λ s. both_ways (is_node n older b.node) h.0.fresh (ap (is_node n older) s ∙ chain_node n older y c iy dy) in

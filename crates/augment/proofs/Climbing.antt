@@ -1,5 +1,6 @@
 -- Mates change along a way up to a root, one pair after the other.
-use Rattle.std.proofs.Common.{◌≡◌, ◌≢◌, ◌⊎◌, ℕ, zero, suc, ◌+◌, ◌<◌, ◌≤◌, true, false, not, eqb, cond, ◌∷◌, [], length, Option, Some, None, refl, sym, ap, ◌∙◌, subst, arith, ⊎_elim, inl, inr}
+use Rattle.std.proofs.Common.{◌≡◌, ◌≢◌, ◌⊎◌, ℕ, zero, suc, ◌+◌, ◌<◌, ◌≤◌, true, false, not, eqb, cond, ◌∷◌, [], length, Option, Some, None, refl, sym}
+use Rattle.std.proofs.Common.{ap, ◌∙◌, subst, arith, ⊎_elim, inl, inr}
 use Rattle.std.specs.Prelude.{is_some}
 use Rattle.std.proofs.lemmas.Bool.{cases_eq, both_ways, eq-eqb, or_left, or_right}
 use Rattle.std.proofs.lemmas.Option.{same_Some}
@@ -11,9 +12,9 @@ use Rattle.blossom_arena.specs.declared.label.Label.TheVariants.{Outer, Inner, O
 use Rattle.alt_forest.specs.State.{State, IsOutermost, Joins, IsMate, IsSearchState}
 use Rattle.alt_forest.specs.Trees.{node_limit, far_end, up_edge_by, up_of, path_within, path_of, root_of, IsRoot}
 use Rattle.alt_forest.specs.Searches.{put}
-use Rattle.alt_forest.specs.Ways.{HasHop, IsRead, IsHop}
+use Rattle.alt_forest.specs.Ways.{HasHop, IsRead}
 use Rattle.alt_forest.proofs.Counted.{no_entry}
-use Rattle.alt_forest.proofs.Hops.{hop_above, has_hop, read_is, hop_path, hop_root, hop_shorter, up_to_inner}
+use Rattle.alt_forest.proofs.Hops.{IsHop, hop_above, has_hop, read_is, hop_path, hop_root, hop_shorter, up_to_inner}
 use Rattle.alt_forest.proofs.Mates.{joins_turned, joins_unique}
 use Rattle.alt_forest.proofs.Relabelled.{outer_not_out, some_not_none, put_here, put_other}
 use Rattle.alt_forest.proofs.Roots.{up_or_root, path_root, root_self, root_up}
@@ -22,9 +23,10 @@ use Rattle.augment.specs.Turns.{HasMates, with_mates, IsLoose, CanClimb, IsClimb
 
 -- a mate stays one where the node's own mate stays
 pub moved : (s : State) (m n : ℕ → Option ℕ) (a f b : ℕ) → IsMate (with_mates s m) a f b → n b ≡ m b → IsMate (with_mates s n) a f b
-moved s m n a f b w same = record { edge = w.edge; joins = w.joins; different = w.different; tight = w.tight; outer = w.outer; back = same ∙ w.back }
+moved s m n a f b w same = record { edge = w.edge; joins = w.joins; different = w.different; tight = w.tight; outermost = w.outermost; back = same ∙ w.back }
 
-module _ (s : State) (depth : ℕ → ℕ) (nested : IsNested s.graph.vertices s.blossoms) (st : IsSearchState s depth) (base m : ℕ → Option ℕ) (low e high : ℕ) (h : IsLoose s depth base m low e high) where
+module _ (s : State) (depth : ℕ → ℕ) (nested : IsNested s.graph.vertices s.blossoms) (st : IsSearchState s depth) (base m : ℕ → Option ℕ) (low e high : ℕ)
+    (h : IsLoose s depth base m low e high) where
   pub as_before : m high ≡ s.mate high
   as_before = h.untouched high h.high_is refl (omega arith)
 
@@ -32,15 +34,16 @@ module _ (s : State) (depth : ℕ → ℕ) (nested : IsNested s.graph.vertices s
   low_mate : (n : ℕ → Option ℕ) → n high ≡ Some e → (f : ℕ) → n low ≡ Some f → n low ≡ Some e → IsMate (with_mates s n) low f high
   low_mate n high_has f has low_has =
       subst (λ k. IsMate (with_mates s n) low k high) (same_Some e f (sym low_has ∙ has))
-      (record { edge = h.edge; joins = h.joins; different = h.different; tight = h.tight; outer = h.high_is; back = high_has })
+      (record { edge = h.edge; joins = h.joins; different = h.different; tight = h.tight; outermost = h.high_is; back = high_has })
 
   high_mate : (n : ℕ → Option ℕ) → n low ≡ Some e → (f : ℕ) → n high ≡ Some f → n high ≡ Some e → IsMate (with_mates s n) high f low
   high_mate n low_has f has high_has =
       subst (λ k. IsMate (with_mates s n) high k low) (same_Some e f (sym high_has ∙ has))
-      (record { edge = h.edge; joins = joins_turned s.graph s.blossoms e low high h.joins; different = λ q. h.different (sym q); tight = h.tight; outer = h.low_is; back = low_has })
+      (record { edge = h.edge; joins = joins_turned s.graph s.blossoms e low high h.joins; different = λ q. h.different (sym q); tight = h.tight; outermost = h.low_is; back = low_has })
 
   -- mates where the two have each other and the rest is as it was
-  tied : (n : ℕ → Option ℕ) → n low ≡ Some e → n high ≡ Some e → (a f : ℕ) → n a ≡ Some f → (a ≢ low → a ≢ high → (b : ℕ) × IsMate (with_mates s n) a f b) → (b : ℕ) × IsMate (with_mates s n) a f b
+  tied : (n : ℕ → Option ℕ) → n low ≡ Some e → n high ≡ Some e → (a f : ℕ) → n a ≡ Some f → (a ≢ low → a ≢ high → (b : ℕ) × IsMate (with_mates s n) a f b)
+      → (b : ℕ) × IsMate (with_mates s n) a f b
   tied n low_has high_has a f has rest =
       ⊎_elim (λ q. (high, subst (λ c. IsMate (with_mates s n) c f high) (sym q) (low_mate n high_has f (ap n (sym q) ∙ has) low_has)))
       (λ not_low. ⊎_elim (λ q. (low, subst (λ c. IsMate (with_mates s n) c f low) (sym q) (high_mate n low_has f (ap n (sym q) ∙ has) high_has)))
@@ -67,30 +70,32 @@ module _ (s : State) (depth : ℕ → ℕ) (nested : IsNested s.graph.vertices s
       let n : ℕ → Option ℕ = put (put m high (Some e)) q (Some k.parent) in
       let q_low : depth q < depth high = hop.lower in
       let up_low : depth k.outer < depth q = hop.lowest in
-      let q_root : root_of s q ≡ root_of s high = sym (root_up s depth nested st high q h.high_is w.outer (up_to_inner s depth high k hop)) in
+      let q_root : root_of s q ≡ root_of s high = sym (root_up s depth nested st high q h.high_is w.outermost (up_to_inner s depth high k hop)) in
       let low_not_q : low ≢ q = λ p. ⊎_elim (λ o. o (ap s.label p ∙ hop.inner_label)) (λ d. let same : depth low ≡ depth q = ap depth p in absurd (omega (arith, d, same, q_low))) h.below in
       let n_high : n high ≡ Some e = put_other (put m high (Some e)) q (Some k.parent) high w.different ∙ put_here m high (Some e) in
       let n_low : n low ≡ Some e = put_other (put m high (Some e)) q (Some k.parent) low low_not_q ∙ put_other m high (Some e) low h.different ∙ h.taken in
       let m_high : m high ≡ Some f = as_before ∙ hop.mate in
-      let m_q : m q ≡ Some f = h.untouched q w.outer q_root (omega (arith, q_low)) ∙ w.back in
+      let m_q : m q ≡ Some f = h.untouched q w.outermost q_root (omega (arith, q_low)) ∙ w.back in
       let others : (c : ℕ) → c ≢ q → c ≢ high → n c ≡ m c = λ c not_q not_high. put_other (put m high (Some e)) q (Some k.parent) c not_q ∙ put_other m high (Some e) c not_high in
       record {
         edge = hop.edge;
         joins = hop.joins;
         different = deeper_differs depth q k.outer up_low;
         tight = hop.tight;
-        low_is = w.outer;
+        low_is = w.outermost;
         high_is = hop.up_is;
         high_outer = hop.up_outer;
         taken = put_here (put m high (Some e)) q (Some k.parent);
         untouched = λ c is root under.
-            others c (λ p. let same : depth c ≡ depth q = ap depth p in absurd (omega (arith, same, under, up_low))) (λ p. let same : depth c ≡ depth high = ap depth p in absurd (omega (arith, same, under, up_low, q_low)))
+            others c (λ p. let same : depth c ≡ depth q = ap depth p in absurd (omega (arith, same, under, up_low)))
+            (λ p. let same : depth c ≡ depth high = ap depth p in absurd (omega (arith, same, under, up_low, q_low)))
             ∙ h.untouched c is (root ∙ sym (hop_root s depth high k hop depth nested st)) (omega (arith, under, up_low, q_low));
         below = inr up_low;
         mates = λ a j is not_q has. tied n n_low n_high a j has
             (λ not_low not_high.
             let was = h.mates a j is not_low (sym (others a not_q not_high) ∙ has) in
-            let b_not_high : was.0 ≢ high = λ p. not_q (partner_by a j high q (subst (IsMate (with_mates s m) a j) p was.1) f (ap m (sym p) ∙ was.1.back) m_high (joins_turned s.graph s.blossoms f high q w.joins) (λ r. w.different (sym r))) in
+            let b_not_high : was.0 ≢ high = λ p. not_q (partner_by a j high q (subst (IsMate (with_mates s m) a j) p was.1) f (ap m (sym p) ∙ was.1.back) m_high
+            (joins_turned s.graph s.blossoms f high q w.joins) (λ r. w.different (sym r))) in
             let b_not_q : was.0 ≢ q = λ p. not_high (partner_by a j q high (subst (IsMate (with_mates s m) a j) p was.1) f (ap m (sym p) ∙ was.1.back) m_q w.joins w.different) in
             (was.0, moved s m n a j was.0 was.1 (others was.0 b_not_q b_not_high)));
         seen = λ c. keeps m_q c (h.seen c);
@@ -100,14 +105,17 @@ module _ (s : State) (depth : ℕ → ℕ) (nested : IsNested s.graph.vertices s
       partner_by : (a k b c : ℕ) → IsMate (with_mates s m) a k b → (f : ℕ) → m b ≡ Some k → m b ≡ Some f → Joins s.graph s.blossoms f c b → c ≢ b → a ≡ c
       partner_by a k b c v f hk hf j ne =
           let same : f ≡ k = same_Some f k (sym hf ∙ hk) in
-          joins_unique s.graph s.blossoms k b a c (joins_turned s.graph s.blossoms k a b v.joins) (joins_turned s.graph s.blossoms k c b (subst (λ t. Joins s.graph s.blossoms t c b) same j)) (λ r. v.different (sym r))
+          joins_unique s.graph s.blossoms k b a c (joins_turned s.graph s.blossoms k a b v.joins)
+          (joins_turned s.graph s.blossoms k c b (subst (λ t. Joins s.graph s.blossoms t c b) same j)) (λ r. v.different (sym r))
 
       -- both nodes had mates
       keeps : m k.inner ≡ Some k.mate → (c : ℕ) → is_some (m c) ≡ is_some (base c) → is_some (put (put m high (Some e)) k.inner (Some k.parent) c) ≡ is_some (base c)
       keeps m_q c same =
-          ⊎_elim (λ p. ap (λ (o : Option ℕ). is_some o) (ap (put (put m high (Some e)) k.inner (Some k.parent)) p ∙ put_here (put m high (Some e)) k.inner (Some k.parent)) ∙ sym (ap (λ (o : Option ℕ). is_some o) (ap m p ∙ m_q)) ∙ same)
+          ⊎_elim (λ p. ap (λ (o : Option ℕ). is_some o) (ap (put (put m high (Some e)) k.inner (Some k.parent)) p ∙ put_here (put m high (Some e)) k.inner (Some k.parent))
+          ∙ sym (ap (λ (o : Option ℕ). is_some o) (ap m p ∙ m_q)) ∙ same)
           (λ not_inner. ⊎_elim
-          (λ p. ap (λ (o : Option ℕ). is_some o) (put_other (put m high (Some e)) k.inner (Some k.parent) c not_inner ∙ ap (put m high (Some e)) p ∙ put_here m high (Some e)) ∙ sym (ap (λ (o : Option ℕ). is_some o) (ap m p ∙ as_before ∙ hop.mate)) ∙ same)
+          (λ p. ap (λ (o : Option ℕ). is_some o) (put_other (put m high (Some e)) k.inner (Some k.parent) c not_inner ∙ ap (put m high (Some e)) p ∙ put_here m high (Some e))
+          ∙ sym (ap (λ (o : Option ℕ). is_some o) (ap m p ∙ as_before ∙ hop.mate)) ∙ same)
           (λ not_high. ap (λ (o : Option ℕ). is_some o) (put_other (put m high (Some e)) k.inner (Some k.parent) c not_inner ∙ put_other m high (Some e) c not_high) ∙ same)
           (cases_eq c high))
           (cases_eq c k.inner)
@@ -126,15 +134,18 @@ changed_first s depth m e start = record { has = inl (refl, refl); keeps = λ a 
 pub no_deeper : (s : State) (depth : ℕ → ℕ) (before : ℕ → Option ℕ) (e start : ℕ) (m : ℕ → Option ℕ) (by node : ℕ) → IsChanged s depth before e start m by node → depth node ≤ depth start
 no_deeper s depth before e start m by node h = ⊎_elim (λ p. let same : depth start ≡ depth node = ap depth p.0 in omega (arith, same)) (λ p. omega (arith, p.1)) h.has
 
-module _ (s : State) (depth : ℕ → ℕ) (nested : IsNested s.graph.vertices s.blossoms) (st : IsSearchState s depth) (before : ℕ → Option ℕ) (e start : ℕ) (m : ℕ → Option ℕ) (by node : ℕ) (h : IsChanged s depth before e start m by node) where
+module _ (s : State) (depth : ℕ → ℕ) (nested : IsNested s.graph.vertices s.blossoms) (st : IsSearchState s depth) (before : ℕ → Option ℕ) (e start : ℕ) (m : ℕ → Option ℕ)
+    (by node : ℕ) (h : IsChanged s depth before e start m by node) where
   -- it goes on from the outer node of the hop
   pub changed_on : (k : Hop) → IsHop s depth node k → IsChanged s depth before e start (put (put m node (Some by)) k.inner (Some k.parent)) k.parent k.outer
   changed_on k hop =
       let n : ℕ → Option ℕ = put (put m node (Some by)) k.inner (Some k.parent) in
       let up : ℕ = k.outer in
-      let there : (a : ℕ) → holds (node ∷ (k.inner ∷ path_of s up)) a ≡ true → holds (path_of s start) a ≡ true = λ a r. h.on_path a (ap (λ xs. holds xs a) (hop_path s depth node k hop depth nested st) ∙ r) in
+      let there : (a : ℕ) → holds (node ∷ (k.inner ∷ path_of s up)) a ≡ true → holds (path_of s start) a ≡ true = λ a r. h.on_path a
+      (ap (λ xs. holds xs a) (hop_path s depth node k hop depth nested st) ∙ r) in
       let node_there : holds (path_of s start) node ≡ true = there node (or_left (eqb node node) (holds (k.inner ∷ path_of s up) node) (eq-eqb node node refl)) in
-      let inner_there : holds (path_of s start) k.inner ≡ true = there k.inner (or_right (eqb node k.inner) (holds (k.inner ∷ path_of s up) k.inner) (or_left (eqb k.inner k.inner) (holds (path_of s up) k.inner) (eq-eqb k.inner k.inner refl))) in
+      let inner_there : holds (path_of s start) k.inner ≡ true = there k.inner (or_right (eqb node k.inner) (holds (k.inner ∷ path_of s up) k.inner)
+      (or_left (eqb k.inner k.inner) (holds (path_of s up) k.inner) (eq-eqb k.inner k.inner refl))) in
       let same : (a : ℕ) → a ≢ node → a ≢ k.inner → n a ≡ m a = λ a p q. put_other (put m node (Some by)) k.inner (Some k.parent) a q ∙ put_other m node (Some by) a p in
       record {
         has = inr
@@ -147,7 +158,8 @@ module _ (s : State) (depth : ℕ → ℕ) (nested : IsNested s.graph.vertices s
             (λ p. (same start (deeper_differs depth start node p.1) (deeper_differs depth start k.inner (omega (arith, p.1, hop.lower))) ∙ p.0, omega (arith, hop.lower, hop.lowest, p.1)))
             h.has);
         keeps = λ a off.
-            same a (λ q. both_ways (holds (path_of s start) a) off (ap (holds (path_of s start)) q ∙ node_there)) (λ q. both_ways (holds (path_of s start) a) off (ap (holds (path_of s start)) q ∙ inner_there))
+            same a (λ q. both_ways (holds (path_of s start) a) off (ap (holds (path_of s start)) q ∙ node_there))
+            (λ q. both_ways (holds (path_of s start) a) off (ap (holds (path_of s start)) q ∙ inner_there))
             ∙ h.keeps a off;
         on_path = λ a r. there a (or_right (eqb node a) (holds (k.inner ∷ path_of s up) a) (or_right (eqb k.inner a) (holds (path_of s up) a) r));
         one_root = h.one_root ∙ hop_root s depth node k hop depth nested st;
@@ -159,7 +171,8 @@ module _ (s : State) (depth : ℕ → ℕ) (nested : IsNested s.graph.vertices s
       let free : s.mate node ≡ None = sym (as_before s depth nested st base m low by node loose) ∙ none in
       let root : IsRoot s node = record { outermost = loose.high_is; outer = loose.high_outer; exposed = free } in
       let top : root_of s start ≡ node = h.one_root ∙ root_self s depth nested st node root in
-      let node_there : holds (path_of s start) node ≡ true = h.on_path node (ap (λ xs. holds xs node) (path_root s depth nested st node root) ∙ or_left (eqb node node) false (eq-eqb node node refl)) in
+      let node_there : holds (path_of s start) node ≡ true = h.on_path node (ap (λ xs. holds xs node) (path_root s depth nested st node root)
+      ∙ or_left (eqb node node) false (eq-eqb node node refl)) in
       record {
         mates = ends s depth nested st base m low by node loose free;
         has = ⊎_elim
@@ -172,7 +185,8 @@ module _ (s : State) (depth : ℕ → ℕ) (nested : IsNested s.graph.vertices s
       }
 
 -- The way up is the same by other mates that are as before so far down in this tree.
-module _ (s : State) (depth : ℕ → ℕ) (nested : IsNested s.graph.vertices s.blossoms) (st : IsSearchState s depth) (m : ℕ → Option ℕ) (top : ℕ) (untouched : (c : ℕ) → IsOutermost s c → root_of s c ≡ root_of s top → depth c ≤ depth top → m c ≡ s.mate c) where
+module _ (s : State) (depth : ℕ → ℕ) (nested : IsNested s.graph.vertices s.blossoms) (st : IsSearchState s depth) (m : ℕ → Option ℕ) (top : ℕ)
+    (untouched : (c : ℕ) → IsOutermost s c → root_of s c ≡ root_of s top → depth c ≤ depth top → m c ≡ s.mate c) where
   same_up : (c : ℕ) → m c ≡ s.mate c → up_of (with_mates s m) c ≡ up_of s c
   same_up c same = by_label (s.label c) refl
     where
@@ -193,7 +207,7 @@ module _ (s : State) (depth : ℕ → ℕ) (nested : IsNested s.graph.vertices s
       (λ p.
       let u = p.1 in
       ap (path_within k (with_mates s m)) u.up
-      ∙ same_within k p.0 u.outer u.in_tree (sym (root_up s depth nested st c p.0 is u.outer u.up) ∙ root) (omega (arith, u.falls, low))
+      ∙ same_within k p.0 u.outermost u.in_tree (sym (root_up s depth nested st c p.0 is u.outermost u.up) ∙ root) (omega (arith, u.falls, low))
       ∙ ap (path_within k s) (sym u.up))
       (up_or_root s depth nested st c is in_it))
 
@@ -228,7 +242,8 @@ module _ (t : State) (e start : ℕ) (h : CanClimb t e start) where
     can_hop has =
         let k = above has in
         let r = has_hop h.was h.depth node k.0 k.1 in
-        subst (λ (x : State). HasHop x node) (sym state_is) (record { mate = r.mate; mate_is = r.mate_is; mate_kept = same ∙ r.mate_kept; parent = r.parent; parent_is = r.parent_is; parent_kept = r.parent_kept })
+        subst (λ (x : State). HasHop x node) (sym state_is)
+        (record { mate = r.mate; mate_is = r.mate_is; mate_kept = same ∙ r.mate_kept; parent = r.parent; parent_is = r.parent_is; parent_kept = r.parent_kept })
 
     pub is_hop : is_some (m node) ≡ true → (k : Hop) → IsRead (with_mates t m) node k → IsHop h.was h.depth node k
     is_hop has k read =
@@ -250,9 +265,11 @@ module _ (t : State) (e start : ℕ) (h : CanClimb t e start) where
         let hop = is_hop has k read in
         let on = climbing_on has k read in
         let here : path_of t node ≡ path_of h.was node = ap (λ (x : State). path_of x node) h.is
-        ∙ same_path h.was h.depth h.nested h.state t.mate start h.loose.untouched node v.loose.high_is (λ q. outer_not_out (sym v.loose.high_outer ∙ q)) (sym v.changed.one_root) (no_deeper h.was h.depth t.mate e start m by node v.changed) in
+        ∙ same_path h.was h.depth h.nested h.state t.mate start h.loose.untouched node v.loose.high_is (λ q. outer_not_out (sym v.loose.high_outer ∙ q)) (sym v.changed.one_root)
+        (no_deeper h.was h.depth t.mate e start m by node v.changed) in
         let there : path_of t k.outer ≡ path_of h.was k.outer = ap (λ (x : State). path_of x k.outer) h.is
-        ∙ same_path h.was h.depth h.nested h.state t.mate start h.loose.untouched k.outer hop.up_is (λ q. outer_not_out (sym hop.up_outer ∙ q)) (sym on.changed.one_root) (no_deeper h.was h.depth t.mate e start (put (put m node (Some by)) k.inner (Some k.parent)) k.parent k.outer on.changed) in
+        ∙ same_path h.was h.depth h.nested h.state t.mate start h.loose.untouched k.outer hop.up_is (λ q. outer_not_out (sym hop.up_outer ∙ q)) (sym on.changed.one_root)
+        (no_deeper h.was h.depth t.mate e start (put (put m node (Some by)) k.inner (Some k.parent)) k.parent k.outer on.changed) in
         let shorter = hop_shorter h.was h.depth node k hop h.depth h.nested h.state in
         omega (arith, shorter, ap length here, ap length there)
 

@@ -159,6 +159,7 @@ module _ (g : Multigraph) (m : ℕ → Option ℕ) (ends : All (IsEdgeWithin g.v
           ∙ sym s)
           (λ s. false_from_ne_true (is_edge (m (edge_at g k).u) (k + 1) && crosses set (edge_at g k)) (λ t.
           let p = and_parts (is_edge (m (edge_at g k).u) (k + 1)) (crosses set (edge_at g k)) t in
-          eqb-false l.edge (k + 1) s (sym (taken_at (λ v. holds set v) l (k + 1) number (ap (λ (y : Edge). is_edge (m y.u) (k + 1)) place ∙ p.0) (ap (λ (y : Edge). crosses set y) place ∙ p.1))))
+          eqb-false l.edge (k + 1) s (sym (taken_at (λ v. holds set v) l (k + 1) number (ap (λ (y : Edge). is_edge (m y.u) (k + 1)) place ∙ p.0)
+          (ap (λ (y : Edge). crosses set y) place ∙ p.1))))
           ∙ sym s) in
           ap (λ c. c * cond (crosses set (edge_at g k)) 1 0) (count_at k low) ∙ product (is_edge (m (edge_at g k).u) (k + 1)) (crosses set (edge_at g k)) (eqb l.edge (k + 1)) both

@@ -41,7 +41,8 @@ step s m x y h a =
     let before : is_exposed s a ≡ true = ap (is_exposed s) (sym same) ∙ was y h.y_is h.y_had in
     let after : is_exposed (with_mates s m) a ≡ false = ap (is_exposed (with_mates s m)) (sym same) ∙ now y h.y_has in
     rw (before, after, e, f) refl)
-    (λ f. let same : is_exposed (with_mates s m) a ≡ is_exposed s a = ap (λ t. is_outermost s.graph.vertices s.blossoms a && not t) (h.others a (λ q. eqb-false x a e (sym q)) (λ q. eqb-false y a f (sym q))) in
+    (λ f. let same : is_exposed (with_mates s m) a ≡ is_exposed s a = ap (λ t. is_outermost s.graph.vertices s.blossoms a && not t)
+    (h.others a (λ q. eqb-false x a e (sym q)) (λ q. eqb-false y a f (sym q))) in
     let keeps : one_if (is_exposed (with_mates s m) a) ≡ one_if (is_exposed s a) = ap one_if same in
     let none_x : one_if (eqb x a) ≡ 0 = ap one_if e in
     let none_y : one_if (eqb y a) ≡ 0 = ap one_if f in
@@ -57,7 +58,8 @@ pub two_fewer : (s : State) (m : ℕ → Option ℕ) (x y : ℕ) → HasTwoMore 
 two_fewer s m x y h =
     let n : ℕ = node_limit s.graph.vertices in
     let all : exposed_count s ≡ sum_to (λ i. one_if (is_exposed (with_mates s m) (i + 1)) + (one_if (eqb x (i + 1)) + one_if (eqb y (i + 1)))) n =
-    sum_to-same (λ i. one_if (is_exposed s (i + 1))) (λ i. one_if (is_exposed (with_mates s m) (i + 1)) + (one_if (eqb x (i + 1)) + one_if (eqb y (i + 1)))) n (λ i _. step s m x y h (i + 1)) in
+    sum_to-same (λ i. one_if (is_exposed s (i + 1))) (λ i. one_if (is_exposed (with_mates s m) (i + 1)) + (one_if (eqb x (i + 1)) + one_if (eqb y (i + 1)))) n
+    (λ i _. step s m x y h (i + 1)) in
     let first = sum_to-add (λ i. one_if (is_exposed (with_mates s m) (i + 1))) (λ i. one_if (eqb x (i + 1)) + one_if (eqb y (i + 1))) n in
     let second = sum_to-add (λ i. one_if (eqb x (i + 1))) (λ i. one_if (eqb y (i + 1))) n in
     let at_x : sum_to (λ i. one_if (eqb x (i + 1))) n ≡ 1 = sum_to-at_one (λ _. 1) x n h.x_low h.x_high in

@@ -20,9 +20,9 @@ use Rattle.alt_forest.proofs.Counted.{one_if, root_passes, passing_root, roots_c
 use Rattle.alt_forest.proofs.Relabelled.{some_not_none}
 use Rattle.alt_forest.proofs.Roots.{root_self}
 use Rattle.augment.specs.Exchange.{IsExchanged}
-use Rattle.augment.specs.Turns.{with_both, IsRemoved}
+use Rattle.augment.specs.Turns.{IsRemoved}
 use Rattle.augment.proofs.Exposure.{HasTwoMore, two_fewer, exposed_after}
-use Rattle.augment.proofs.Removed.{where_is}
+use Rattle.augment.proofs.Removed.{with_both, where_is}
 
 -- a root is counted
 pub root_counted : (s : State) (r : ℕ) → IsNested s.graph.vertices s.blossoms → IsRoot s r → tree_count s ≢ 0
@@ -37,7 +37,8 @@ root_counted s r nested root none =
 pub none_counted : (s : State) → ((r : ℕ) → IsRoot s r → ⊥) → tree_count s ≡ 0
 none_counted s none = ⊎_elim (λ q. q) (λ some. let r = roots_counted s some in absurd (none r.0 r.1)) (cases_eq (tree_count s) 0)
 
-module _ (s : State) (depth : ℕ → ℕ) (nested : IsNested s.graph.vertices s.blossoms) (st : IsSearchState s depth) (m : ℕ → Option ℕ) (l : ℕ → Label) (one other : ℕ) (h : IsRemoved s m l one other) where
+module _ (s : State) (depth : ℕ → ℕ) (nested : IsNested s.graph.vertices s.blossoms) (st : IsSearchState s depth) (m : ℕ → Option ℕ) (l : ℕ → Label) (one other : ℕ)
+    (h : IsRemoved s m l one other) where
   pub has_two : HasTwoMore s m one other
   has_two =
       let one_range = node_range s.graph.vertices s.blossoms one nested (outermost_parts s.graph.vertices s.blossoms one h.one_is.outermost).0 in
@@ -68,7 +69,8 @@ module _ (s : State) (depth : ℕ → ℕ) (nested : IsNested s.graph.vertices s
 
   -- a mated node is no root
   mated : (a : ℕ) → is_some (m a) ≡ true → is_root new a ≡ false
-  mated a has = ap (λ t. is_outermost s.graph.vertices s.blossoms a && (is_label (l a) Outer && not t)) has ∙ ap (λ t. is_outermost s.graph.vertices s.blossoms a && t) (and-false (is_label (l a) Outer)) ∙ and-false (is_outermost s.graph.vertices s.blossoms a)
+  mated a has = ap (λ t. is_outermost s.graph.vertices s.blossoms a && (is_label (l a) Outer && not t)) has
+      ∙ ap (λ t. is_outermost s.graph.vertices s.blossoms a && t) (and-false (is_label (l a) Outer)) ∙ and-false (is_outermost s.graph.vertices s.blossoms a)
 
   labelled_out : (a : ℕ) → l a ≡ Out → is_root new a ≡ false
   labelled_out a out = ap (λ k. is_outermost s.graph.vertices s.blossoms a && (is_label k Outer && not (is_some (m a)))) out ∙ and-false (is_outermost s.graph.vertices s.blossoms a)
@@ -132,22 +134,51 @@ module _ (s : State) (depth : ℕ → ℕ) (nested : IsNested s.graph.vertices s
       (where_is s one other a)
 
 -- what is left of the mates of a search
-pub exposed_in : (s t : Search) (e one other : ℕ) → IsSound s → t ≡ record s { arena = record s.arena { motions = t.arena.motions }; labels = t.labels; mates = t.mates; standing = t.standing; seeds = t.seeds; scanned = t.scanned } → IsExchanged s t e one other
+pub exposed_in : (s t : Search) (e one other : ℕ) → IsSound s → t ≡ record s {
+  arena = record s.arena { motions = t.arena.motions };
+  labels = t.labels;
+  mates = t.mates;
+  standing = t.standing;
+  scanned = t.scanned;
+} → IsExchanged s t e one other
     → (a : ℕ) → IsExposed (state_of t) a ↔ (IsExposed (state_of s) a × (a ≢ root_of (state_of s) one) × (a ≢ root_of (state_of s) other))
-exposed_in s t e one other sound rest h a = subst (λ (u : Search). IsExposed (state_of u) a ↔ (IsExposed (state_of s) a × (a ≢ root_of (state_of s) one) × (a ≢ root_of (state_of s) other))) (sym rest)
-    (exposed_now (state_of s) sound.depth (nested_of s sound.shape) sound.state (edge_in t.mates.items) (label_at t.labels.items) (root_of (state_of s) one) (root_of (state_of s) other) h.removed a)
+exposed_in s t e one other sound rest h a = subst (λ (u : Search). IsExposed (state_of u) a ↔
+    (IsExposed (state_of s) a × (a ≢ root_of (state_of s) one) × (a ≢ root_of (state_of s) other))) (sym rest)
+    (exposed_now (state_of s) sound.depth (nested_of s sound.shape) sound.state (edge_in t.mates.items) (label_at t.labels.items) (root_of (state_of s) one)
+    (root_of (state_of s) other) h.removed a)
 
-pub fewer_in : (s t : Search) (e one other : ℕ) → IsSound s → t ≡ record s { arena = record s.arena { motions = t.arena.motions }; labels = t.labels; mates = t.mates; standing = t.standing; seeds = t.seeds; scanned = t.scanned } → IsExchanged s t e one other
+pub fewer_in : (s t : Search) (e one other : ℕ) → IsSound s → t ≡ record s {
+  arena = record s.arena { motions = t.arena.motions };
+  labels = t.labels;
+  mates = t.mates;
+  standing = t.standing;
+  scanned = t.scanned;
+} → IsExchanged s t e one other
     → exposed_count (state_of t) + 2 ≡ exposed_count (state_of s)
 fewer_in s t e one other sound rest h = ap (λ (u : Search). exposed_count (state_of u) + 2) rest
-    ∙ exposed_fewer (state_of s) sound.depth (nested_of s sound.shape) sound.state (edge_in t.mates.items) (label_at t.labels.items) (root_of (state_of s) one) (root_of (state_of s) other) h.removed
+    ∙ exposed_fewer (state_of s) sound.depth (nested_of s sound.shape) sound.state (edge_in t.mates.items) (label_at t.labels.items) (root_of (state_of s) one)
+    (root_of (state_of s) other) h.removed
 
-pub trees_in : (s t : Search) (e one other : ℕ) → IsSound s → t ≡ record s { arena = record s.arena { motions = t.arena.motions }; labels = t.labels; mates = t.mates; standing = t.standing; seeds = t.seeds; scanned = t.scanned } → IsExchanged s t e one other
+pub trees_in : (s t : Search) (e one other : ℕ) → IsSound s → t ≡ record s {
+  arena = record s.arena { motions = t.arena.motions };
+  labels = t.labels;
+  mates = t.mates;
+  standing = t.standing;
+  scanned = t.scanned;
+} → IsExchanged s t e one other
     → tree_count (state_of t) + 2 ≡ tree_count (state_of s)
 trees_in s t e one other sound rest h = ap (λ (u : Search). tree_count (state_of u) + 2) rest
-    ∙ trees_fewer (state_of s) sound.depth (nested_of s sound.shape) sound.state (edge_in t.mates.items) (label_at t.labels.items) (root_of (state_of s) one) (root_of (state_of s) other) h.removed
+    ∙ trees_fewer (state_of s) sound.depth (nested_of s sound.shape) sound.state (edge_in t.mates.items) (label_at t.labels.items) (root_of (state_of s) one)
+    (root_of (state_of s) other) h.removed
 
-pub planted_in : (s t : Search) (e one other : ℕ) → IsSound s → t ≡ record s { arena = record s.arena { motions = t.arena.motions }; labels = t.labels; mates = t.mates; standing = t.standing; seeds = t.seeds; scanned = t.scanned } → IsExchanged s t e one other
+pub planted_in : (s t : Search) (e one other : ℕ) → IsSound s → t ≡ record s {
+  arena = record s.arena { motions = t.arena.motions };
+  labels = t.labels;
+  mates = t.mates;
+  standing = t.standing;
+  scanned = t.scanned;
+} → IsExchanged s t e one other
     → IsPlanted (state_of s) → IsPlanted (state_of t)
 planted_in s t e one other sound rest h planted = subst (λ (u : Search). IsPlanted (state_of u)) (sym rest)
-    (still_planted (state_of s) sound.depth (nested_of s sound.shape) sound.state (edge_in t.mates.items) (label_at t.labels.items) (root_of (state_of s) one) (root_of (state_of s) other) h.removed planted)
+    (still_planted (state_of s) sound.depth (nested_of s sound.shape) sound.state (edge_in t.mates.items) (label_at t.labels.items) (root_of (state_of s) one)
+    (root_of (state_of s) other) h.removed planted)

@@ -24,10 +24,10 @@ use Rattle.augment.proofs.Ready.{all_opened}
 -- mates of nodes that aren't outermost mean nothing
 module _ (s : State) (depth : ℕ → ℕ) (m : ℕ → Option ℕ) (same : (a : ℕ) → IsOutermost s a → m a ≡ s.mate a) (st : IsSearchState s depth) where
   forth : (a e b : ℕ) → IsMate s a e b → IsMate (with_mates s m) a e b
-  forth a e b w = record { edge = w.edge; joins = w.joins; different = w.different; tight = w.tight; outer = w.outer; back = same b w.outer ∙ w.back }
+  forth a e b w = record { edge = w.edge; joins = w.joins; different = w.different; tight = w.tight; outermost = w.outermost; back = same b w.outermost ∙ w.back }
 
   back : (a e b : ℕ) → IsMate (with_mates s m) a e b → IsMate s a e b
-  back a e b w = record { edge = w.edge; joins = w.joins; different = w.different; tight = w.tight; outer = w.outer; back = sym (same b w.outer) ∙ w.back }
+  back a e b w = record { edge = w.edge; joins = w.joins; different = w.different; tight = w.tight; outermost = w.outermost; back = sym (same b w.outermost) ∙ w.back }
 
   pub still_tight : (e : ℕ) → IsTight s e → IsTight (with_mates s m) e
   still_tight e t = record { edge = t.edge; tight = t.tight }
@@ -96,7 +96,8 @@ module _ (s : Search) (h : IsSound s) (matched : IsMatched (state_of s)) (m : �
 module _ (s : Search) (h : IsSound s) (matched : IsMatched (state_of s)) (m final : ℕ → Option ℕ) (same : (a : ℕ) → is_child s.arena.blossoms a ≡ false → m a ≡ edge_in s.mates.items a)
     (u : Unpacks s.graph s.arena.blossoms m final) where
   pub v : AreOpened (state_of s) s.arena.blossoms [] final
-  v = all_opened (state_of s) h.depth (nested_of s h.shape) h.shape.graph.graph.ends h.state [] s.arena.blossoms m final (none_opened (state_of s) h.depth m (same_outer s h matched m same) h.state matched) u
+  v = all_opened (state_of s) h.depth (nested_of s h.shape) h.shape.graph.graph.ends h.state [] s.arena.blossoms m final
+      (none_opened (state_of s) h.depth m (same_outer s h matched m same) h.state matched) u
 
   pub outer_kept : (a : ℕ) → IsOutermost (state_of s) a → final a ≡ edge_in s.mates.items a
   outer_kept = v.kept
@@ -113,7 +114,8 @@ module _ (s : Search) (h : IsSound s) (matched : IsMatched (state_of s)) (m fina
   pub each_left : AllByRecursion (λ (b : Blossom). leaving s.graph (mate_counts s.graph final) b.members ≡ 1) s.arena.blossoms
   each_left = all s.arena.blossoms v.once
     where
-      all : (bs : List Blossom) → AllByRecursion (λ (b : Blossom). IsLeftOnce s.graph [] final (λ x. holds b.members x)) bs → AllByRecursion (λ (b : Blossom). leaving s.graph (mate_counts s.graph final) b.members ≡ 1) bs
+      all : (bs : List Blossom) → AllByRecursion (λ (b : Blossom). IsLeftOnce s.graph [] final (λ x. holds b.members x)) bs
+          → AllByRecursion (λ (b : Blossom). leaving s.graph (mate_counts s.graph final) b.members ≡ 1) bs
       all [] each = tt
       all (b ∷ bs) each = (left_once s.graph final h.shape.graph.graph.ends v.mated b.members each.0, all bs each.1)
 

@@ -20,8 +20,10 @@ up_to_here c cs stop e = ap (λ q. cond q [] (c ∷ up_to cs stop)) (eq-eqb c st
 up_to_past : (c : ℕ) (cs : List ℕ) (stop : ℕ) → c ≢ stop → up_to (c ∷ cs) stop ≡ c ∷ up_to cs stop
 up_to_past c cs stop ne = ap (λ q. cond q [] (c ∷ up_to cs stop)) (ne_eqb c stop ne)
 
-pub mark_step : (m n : ℕ → Option ℕ) (c : ℕ) (it cs : List ℕ) (stop e : ℕ) (target : ℕ → Option ℕ) → it ≡ c ∷ cs → c ≢ stop → n ≡ put m c (Some e) → marked m (up_to it stop) e ≡ target → marked n (up_to cs stop) e ≡ target
-mark_step m n c it cs stop e target step ne is h = ap (λ f. marked f (up_to cs stop) e) is ∙ sym (ap (λ x. marked m (up_to x stop) e) step ∙ ap (λ x. marked m x e) (up_to_past c cs stop ne)) ∙ h
+pub mark_step : (m n : ℕ → Option ℕ) (c : ℕ) (it cs : List ℕ) (stop e : ℕ) (target : ℕ → Option ℕ) → it ≡ c ∷ cs → c ≢ stop → n ≡ put m c (Some e)
+    → marked m (up_to it stop) e ≡ target → marked n (up_to cs stop) e ≡ target
+mark_step m n c it cs stop e target step ne is h = ap (λ f. marked f (up_to cs stop) e) is
+    ∙ sym (ap (λ x. marked m (up_to x stop) e) step ∙ ap (λ x. marked m x e) (up_to_past c cs stop ne)) ∙ h
 
 pub mark_here : (m : ℕ → Option ℕ) (c : ℕ) (it cs : List ℕ) (stop e : ℕ) (target : ℕ → Option ℕ) → it ≡ c ∷ cs → c ≡ stop → marked m (up_to it stop) e ≡ target → m ≡ target
 mark_here m c it cs stop e target step here h = sym (ap (λ x. marked m (up_to x stop) e) step ∙ ap (λ x. marked m x e) (up_to_here c cs stop here)) ∙ h
@@ -37,7 +39,8 @@ up_to_none [] stop h = refl
 up_to_none (c ∷ cs) stop h = up_to_past c cs stop h.0 ∙ ap (λ t. c ∷ t) (up_to_none cs stop h.1)
 
 -- 0 is no node
-pub spread_whole : (g : Multigraph) (bs : List Blossom) (m : ℕ → Option ℕ) (stop e : ℕ) → IsNested g.vertices bs → All (IsEdgeWithin g.vertices) g.edges → IsEdgeNumber g e → stop ≡ 0 → spread_in g bs stop m e ≡ spread g bs m e
+pub spread_whole : (g : Multigraph) (bs : List Blossom) (m : ℕ → Option ℕ) (stop e : ℕ) → IsNested g.vertices bs → All (IsEdgeWithin g.vertices) g.edges → IsEdgeNumber g e
+    → stop ≡ 0 → spread_in g bs stop m e ≡ spread g bs m e
 spread_whole g bs m stop e nested ends is none =
     let u : ℕ = (edge_of g e).u in
     let v : ℕ = (edge_of g e).v in

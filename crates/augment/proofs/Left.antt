@@ -43,7 +43,8 @@ one_true p q e h = rw (e, h) refl
 one_false : (p q : Bool) → p ≡ false → q ≡ true → (if p then not q else q) ≡ true
 one_false p q e h = rw (e, h) refl
 
-module _ (g : Multigraph) (b : Blossom) (older : List Blossom) (m m' : ℕ → Option ℕ) (nested : IsNested g.vertices (b ∷ older)) (ends : All (IsEdgeWithin g.vertices) g.edges) (ring : IsRing g older b.ring)
+module _ (g : Multigraph) (b : Blossom) (older : List Blossom) (m m' : ℕ → Option ℕ) (nested : IsNested g.vertices (b ∷ older)) (ends : All (IsEdgeWithin g.vertices) g.edges)
+    (ring : IsRing g older b.ring)
     (mated : AreMated g (b ∷ older) m) (h : Opens g older b.node b.ring b.members m m') where
   abbrev n : ℕ
   n = g.vertices
@@ -71,14 +72,23 @@ module _ (g : Multigraph) (b : Blossom) (older : List Blossom) (m m' : ℕ → O
     u_in : outermost bs (edge_of g e).u ≡ b.node
     v_in : outermost bs (edge_of g e).v ≡ b.node
 
-  ring_ends : (ls : List Link) (z : ℕ) → in_ring b.ring z ≡ true → AllByRecursion (λ (l : Link). in_ring b.ring l.node ≡ true) ls → IsChainTo g older ls z → AllByRecursion (λ (l : Link). IsWithin l.edge) ls
+  ring_ends : (ls : List Link) (z : ℕ) → in_ring b.ring z ≡ true → AllByRecursion (λ (l : Link). in_ring b.ring l.node ≡ true) ls → IsChainTo g older ls z
+      → AllByRecursion (λ (l : Link). IsWithin l.edge) ls
   ring_ends [] z rz inside chain = tt
   ring_ends (l ∷ ls) z rz inside chain =
       let next : in_ring b.ring (next_node ls z) ≡ true = next_in ls inside.1 in
       let e = edge_of g l.edge in (
         ⊎_elim
-            (λ p. record { number = chain.0; u_in = came_in e.u (iu l.edge chain.0) (ap (in_ring b.ring) p.0 ∙ inside.0); v_in = came_in e.v (iv l.edge chain.0) (ap (in_ring b.ring) p.1 ∙ next) })
-            (λ p. record { number = chain.0; u_in = came_in e.u (iu l.edge chain.0) (ap (in_ring b.ring) p.0 ∙ next); v_in = came_in e.v (iv l.edge chain.0) (ap (in_ring b.ring) p.1 ∙ inside.0) })
+            (λ p. record {
+              number = chain.0;
+              u_in = came_in e.u (iu l.edge chain.0) (ap (in_ring b.ring) p.0 ∙ inside.0);
+              v_in = came_in e.v (iv l.edge chain.0) (ap (in_ring b.ring) p.1 ∙ next);
+            })
+            (λ p. record {
+              number = chain.0;
+              u_in = came_in e.u (iu l.edge chain.0) (ap (in_ring b.ring) p.0 ∙ next);
+              v_in = came_in e.v (iv l.edge chain.0) (ap (in_ring b.ring) p.1 ∙ inside.0);
+            })
             chain.1,
         ring_ends ls z rz inside.1 chain.2,
       )
@@ -90,7 +100,8 @@ module _ (g : Multigraph) (b : Blossom) (older : List Blossom) (m m' : ℕ → O
   all_within : AllByRecursion (λ (l : Link). IsWithin l.edge) b.ring
   all_within = by_ring b.ring (all_inside b.ring) nested.0.circuit.at_least_three ring
     where
-      by_ring : (ls : List Link) → AllByRecursion (λ (l : Link). in_ring b.ring l.node ≡ true) ls → 3 ≤ length ls → IsChainTo g older ls (next_node ls 0) → AllByRecursion (λ (l : Link). IsWithin l.edge) ls
+      by_ring : (ls : List Link) → AllByRecursion (λ (l : Link). in_ring b.ring l.node ≡ true) ls → 3 ≤ length ls → IsChainTo g older ls (next_node ls 0)
+          → AllByRecursion (λ (l : Link). IsWithin l.edge) ls
       by_ring [] inside len chain = absurd (omega (arith, len))
       by_ring (l ∷ ls) inside len chain = ring_ends (l ∷ ls) l.node inside.0 inside chain
 

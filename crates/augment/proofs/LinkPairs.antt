@@ -16,7 +16,8 @@ pub waiting_none : (w : Option Link) → waiting_after w [] ≡ w
 waiting_none None = refl
 waiting_none (Some k) = refl
 
-pub paired_step : (step : (ℕ → Option ℕ) → ℕ → ℕ → Option ℕ) (m : ℕ → Option ℕ) (w : Option Link) (l : Link) (ls : List Link) → paired step m w (l ∷ ls) ≡ paired step (paired step m w (l ∷ [])) (waiting_after w (l ∷ [])) ls
+pub paired_step : (step : (ℕ → Option ℕ) → ℕ → ℕ → Option ℕ) (m : ℕ → Option ℕ) (w : Option Link) (l : Link) (ls : List Link)
+    → paired step m w (l ∷ ls) ≡ paired step (paired step m w (l ∷ [])) (waiting_after w (l ∷ [])) ls
 paired_step step m None l ls = refl
 paired_step step m (Some k) l ls = refl
 
@@ -24,19 +25,22 @@ pub waiting_step : (w : Option Link) (l : Link) (ls : List Link) → waiting_aft
 waiting_step None l ls = refl
 waiting_step (Some k) l ls = refl
 
-pub paired_append : (step : (ℕ → Option ℕ) → ℕ → ℕ → Option ℕ) (m : ℕ → Option ℕ) (w : Option Link) (xs ys : List Link) → paired step m w (xs ++ ys) ≡ paired step (paired step m w xs) (waiting_after w xs) ys
+pub paired_append : (step : (ℕ → Option ℕ) → ℕ → ℕ → Option ℕ) (m : ℕ → Option ℕ) (w : Option Link) (xs ys : List Link)
+    → paired step m w (xs ++ ys) ≡ paired step (paired step m w xs) (waiting_after w xs) ys
 paired_append step m w [] ys = sym (ap (λ n. paired step n (waiting_after w []) ys) (paired_none step m w) ∙ ap (λ v. paired step m v ys) (waiting_none w))
 paired_append step m None (l ∷ xs) ys = paired_append step m (Some l) xs ys
 paired_append step m (Some k) (l ∷ xs) ys = paired_append step (step m k.edge) None xs ys
 
 -- two steps that agree at the edges of the links come to the same mates
-pub paired_same : (step other : (ℕ → Option ℕ) → ℕ → ℕ → Option ℕ) (m : ℕ → Option ℕ) (ls : List Link) → AllByRecursion (λ (l : Link). (n : ℕ → Option ℕ) → step n l.edge ≡ other n l.edge) ls → paired step m None ls ≡ paired other m None ls
+pub paired_same : (step other : (ℕ → Option ℕ) → ℕ → ℕ → Option ℕ) (m : ℕ → Option ℕ) (ls : List Link)
+    → AllByRecursion (λ (l : Link). (n : ℕ → Option ℕ) → step n l.edge ≡ other n l.edge) ls → paired step m None ls ≡ paired other m None ls
 paired_same step other m [] each = refl
 paired_same step other m (l ∷ []) each = refl
 paired_same step other m (l ∷ (k ∷ ls)) each = paired_same step other (step m l.edge) ls each.1.1 ∙ ap (λ n. paired other n None ls) (each.0 m)
 
 -- the one node of the links that has a mate is the first one
-pub first_is : (m : ℕ → Option ℕ) (ls : List Link) (base e : ℕ) → in_ring ls base ≡ true → m base ≡ Some e → ((c : ℕ) → in_ring ls c ≡ true → c ≢ base → m c ≡ None) → first_matched m ls ≡ base
+pub first_is : (m : ℕ → Option ℕ) (ls : List Link) (base e : ℕ) → in_ring ls base ≡ true → m base ≡ Some e → ((c : ℕ) → in_ring ls c ≡ true → c ≢ base → m c ≡ None)
+    → first_matched m ls ≡ base
 first_is m [] base e r has only = absurd (both_ways false refl r)
 first_is m (l ∷ ls) base e r has only = by_test (eqb l.node base)
     (λ t. let same : l.node ≡ base = eqb-true l.node base t in
@@ -78,17 +82,20 @@ parted_at (l ∷ ls) a e = by_test (eqb l.node a)
     record {
       base = r.base;
       base_is = r.base_is;
-      split = ap (λ x. l ∷ x) r.split ∙ sym (ap (λ x. x ++ (r.base ∷ links_after (l ∷ ls) a)) (before_past l ls a ne) ∙ ap (λ x. l ∷ (links_before ls a ++ (r.base ∷ x))) (after_past l ls a ne));
+      split = ap (λ x. l ∷ x) r.split ∙ sym (ap (λ x. x ++ (r.base ∷ links_after (l ∷ ls) a)) (before_past l ls a ne)
+          ∙ ap (λ x. l ∷ (links_before ls a ++ (r.base ∷ x))) (after_past l ls a ne));
     })
 
 -- one link more is paired
-pub pair_next : (pairs : (ℕ → Option ℕ) → ℕ → ℕ → Option ℕ) (m n : ℕ → Option ℕ) (w w' : Option Link) (l : Link) (it ls : List Link) (a : ℕ) (target : ℕ → Option ℕ) → it ≡ l ∷ ls → l.node ≢ a → n ≡ paired pairs m w (l ∷ []) → w' ≡ waiting_after w (l ∷ [])
+pub pair_next : (pairs : (ℕ → Option ℕ) → ℕ → ℕ → Option ℕ) (m n : ℕ → Option ℕ) (w w' : Option Link) (l : Link) (it ls : List Link) (a : ℕ) (target : ℕ → Option ℕ) → it ≡ l ∷ ls
+    → l.node ≢ a → n ≡ paired pairs m w (l ∷ []) → w' ≡ waiting_after w (l ∷ [])
     → paired pairs m w (links_before it a) ≡ target → paired pairs n w' (links_before ls a) ≡ target
 pair_next pairs m n w w' l it ls a target step ne is then h =
     ap (λ f. paired pairs f w' (links_before ls a)) is ∙ ap (λ v. paired pairs (paired pairs m w (l ∷ [])) v (links_before ls a)) then
     ∙ sym (ap (λ x. paired pairs m w (links_before x a)) step ∙ ap (paired pairs m w) (before_past l ls a ne) ∙ paired_step pairs m w l (links_before ls a)) ∙ h
 
-pub wait : (w w' : Option Link) (l : Link) (it ls : List Link) (a : ℕ) (target : Option Link) → it ≡ l ∷ ls → l.node ≢ a → w' ≡ waiting_after w (l ∷ []) → waiting_after w (links_before it a) ≡ target → waiting_after w' (links_before ls a) ≡ target
+pub wait : (w w' : Option Link) (l : Link) (it ls : List Link) (a : ℕ) (target : Option Link) → it ≡ l ∷ ls → l.node ≢ a → w' ≡ waiting_after w (l ∷ [])
+    → waiting_after w (links_before it a) ≡ target → waiting_after w' (links_before ls a) ≡ target
 wait w w' l it ls a target step ne then h =
     ap (λ v. waiting_after v (links_before ls a)) then
     ∙ sym (ap (λ x. waiting_after w (links_before x a)) step ∙ ap (waiting_after w) (before_past l ls a ne) ∙ waiting_step w l (links_before ls a)) ∙ h
@@ -107,8 +114,10 @@ waits P (Some k) w' l x h then is = absurd (subst there (sym is ∙ then) tt)
     there (Some y) = Unit {0}
 
 -- where the links stop
-pub stop_here : (pairs : (ℕ → Option ℕ) → ℕ → ℕ → Option ℕ) (m : ℕ → Option ℕ) (w : Option Link) (l : Link) (it ls : List Link) (a : ℕ) (target : ℕ → Option ℕ) → it ≡ l ∷ ls → l.node ≡ a → paired pairs m w (links_before it a) ≡ target → m ≡ target
+pub stop_here : (pairs : (ℕ → Option ℕ) → ℕ → ℕ → Option ℕ) (m : ℕ → Option ℕ) (w : Option Link) (l : Link) (it ls : List Link) (a : ℕ) (target : ℕ → Option ℕ) → it ≡ l ∷ ls
+    → l.node ≡ a → paired pairs m w (links_before it a) ≡ target → m ≡ target
 stop_here pairs m w l it ls a target step here h = sym (ap (λ x. paired pairs m w (links_before x a)) step ∙ ap (paired pairs m w) (before_here l ls a here) ∙ paired_none pairs m w) ∙ h
 
-pub stop_end : (pairs : (ℕ → Option ℕ) → ℕ → ℕ → Option ℕ) (m : ℕ → Option ℕ) (w : Option Link) (it : List Link) (a : ℕ) (target : ℕ → Option ℕ) → it ≡ [] → paired pairs m w (links_before it a) ≡ target → m ≡ target
+pub stop_end : (pairs : (ℕ → Option ℕ) → ℕ → ℕ → Option ℕ) (m : ℕ → Option ℕ) (w : Option Link) (it : List Link) (a : ℕ) (target : ℕ → Option ℕ) → it ≡ []
+    → paired pairs m w (links_before it a) ≡ target → m ≡ target
 stop_end pairs m w it a target none h = sym (ap (λ x. paired pairs m w (links_before x a)) none ∙ paired_none pairs m w) ∙ h

@@ -21,7 +21,8 @@ pub record IsMarked (g : Multigraph) (f : Family) (m n : ℕ → Option ℕ) (a 
 pub nested_of : (g : Multigraph) (f : Family) (m : ℕ → Option ℕ) → CanMark g f m → IsNested g.vertices f.blossoms
 nested_of g f m can = subst (λ n. IsNested n f.blossoms) can.vertices can.family.nested
 
-pub marked_mate : (g : Multigraph) (f : Family) (m : ℕ → Option ℕ) (a e : ℕ) → CanMark g f m → is_outermost f.vertex_count f.blossoms a ≡ true → Some e ≡ m a → IsMarked g f m (spread g f.blossoms m e) a
+pub marked_mate : (g : Multigraph) (f : Family) (m : ℕ → Option ℕ) (a e : ℕ) → CanMark g f m → is_outermost f.vertex_count f.blossoms a ≡ true → Some e ≡ m a
+    → IsMarked g f m (spread g f.blossoms m e) a
 marked_mate g f m a e can is has =
     let nested = nested_of g f m can in
     let r = can.mated a (subst (λ n. is_outermost n f.blossoms a ≡ true) can.vertices is) in
@@ -51,16 +52,18 @@ still_can g f m n can bare outer =
       mated = λ a is.
           let r = can.mated a is in
           let p = r.3 in
-          (r.0, r.1, same a is ∙ r.2, record { edge = p.edge; joins = p.joins; different = p.different; outer = p.outer; back = same r.1 p.outer ∙ p.back });
+          (r.0, r.1, same a is ∙ r.2, record { edge = p.edge; joins = p.joins; different = p.different; outermost = p.outermost; back = same r.1 p.outermost ∙ p.back });
       bare = bare;
     }
 
 -- a number that isn't an outermost node's has nothing to be spread
 pub none_spread : (g : Multigraph) (f : Family) (m n : ℕ → Option ℕ) (a : ℕ) → CanMark g f m → (is_outermost f.vertex_count f.blossoms a ≡ false) → IsSpread g f.blossoms n a
 none_spread g f m n a can none k v c has end o on =
-    absurd (both_ways (is_outermost f.vertex_count f.blossoms a) none (subst (λ x. is_outermost x f.blossoms a ≡ true) (sym can.vertices) (ap (is_outermost g.vertices f.blossoms) (sym o) ∙ (outermost_has g.vertices f.blossoms v (nested_of g f m can) end.vertex).0)))
+    absurd (both_ways (is_outermost f.vertex_count f.blossoms a) none (subst (λ x. is_outermost x f.blossoms a ≡ true) (sym can.vertices)
+    (ap (is_outermost g.vertices f.blossoms) (sym o) ∙ (outermost_has g.vertices f.blossoms v (nested_of g f m can) end.vertex).0)))
 
-pub far_spread : (g : Multigraph) (f : Family) (m n : ℕ → Option ℕ) (a : ℕ) → CanMark g f m → ((1 ≤ a) → (a ≤ f.vertex_count + most_blossoms f.vertex_count) → IsSpread g f.blossoms n a) → IsSpread g f.blossoms n a
+pub far_spread : (g : Multigraph) (f : Family) (m n : ℕ → Option ℕ) (a : ℕ) → CanMark g f m
+    → ((1 ≤ a) → (a ≤ f.vertex_count + most_blossoms f.vertex_count) → IsSpread g f.blossoms n a) → IsSpread g f.blossoms n a
 far_spread g f m n a can near = by_test (is_outermost f.vertex_count f.blossoms a)
     (λ t. let r = node_range f.vertex_count f.blossoms a can.family.nested (outermost_parts f.vertex_count f.blossoms a t).0 in near r.0 r.1)
     (λ t. none_spread g f m n a can t)

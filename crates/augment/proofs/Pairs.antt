@@ -17,7 +17,8 @@ use Rattle.blossom_arena.proofs.LinkLists.{each_parts, each_whole}
 use Rattle.alt_forest.proofs.Rounds.{GoesRound, goes_round, leads_round}
 use Rattle.std.proofs.lemmas.Option.{same_Some}
 
-paired_some : (P : ℕ → Type 0) (m : ℕ → Option ℕ) (ls : List Link) (c : ℕ) → ArePaired m ls → AllByRecursion (λ (l : Link). P l.edge) ls → in_ring ls c ≡ true → (f : ℕ) × (m c ≡ Some f) × P f
+paired_some : (P : ℕ → Type 0) (m : ℕ → Option ℕ) (ls : List Link) (c : ℕ) → ArePaired m ls → AllByRecursion (λ (l : Link). P l.edge) ls → in_ring ls c ≡ true
+    → (f : ℕ) × (m c ≡ Some f) × P f
 paired_some P m [] c h p r = absurd (both_ways false refl r)
 paired_some P m (l ∷ []) c h p r = absurd h
 paired_some P m (l ∷ (k ∷ ls)) c h p r =
@@ -29,7 +30,8 @@ each_unit : (ls : List Link) → AllByRecursion (λ (l : Link). Unit {0}) ls
 each_unit [] = tt
 each_unit (l ∷ ls) = (tt, each_unit ls)
 
-module _ (g : Multigraph) (b : Blossom) (older : List Blossom) (m m' : ℕ → Option ℕ) (nested : IsNested g.vertices (b ∷ older)) (ends : All (IsEdgeWithin g.vertices) g.edges) (ring : IsRing g older b.ring)
+module _ (g : Multigraph) (b : Blossom) (older : List Blossom) (m m' : ℕ → Option ℕ) (nested : IsNested g.vertices (b ∷ older)) (ends : All (IsEdgeWithin g.vertices) g.edges)
+    (ring : IsRing g older b.ring)
     (mated : AreMated g (b ∷ older) m) (h : Opens g older b.node b.ring b.members m m') where
   abbrev n : ℕ
   n = g.vertices
@@ -98,10 +100,17 @@ module _ (g : Multigraph) (b : Blossom) (older : List Blossom) (m m' : ℕ → O
   in_pairs (l ∷ []) z chain inside new pairs c f r has = absurd pairs
   in_pairs (l ∷ (k ∷ ls)) z chain inside new pairs c f r has =
       let l_in : in_ring b.ring l.node ≡ true = inside l.node (or_left (eqb l.node l.node) (in_ring (k ∷ ls) l.node) (eq-eqb l.node l.node refl)) in
-      let k_in : in_ring b.ring k.node ≡ true = inside k.node (or_right (eqb l.node k.node) (in_ring (k ∷ ls) k.node) (or_left (eqb k.node k.node) (in_ring ls k.node) (eq-eqb k.node k.node refl))) in
+      let k_in : in_ring b.ring k.node ≡ true = inside k.node (or_right (eqb l.node k.node) (in_ring (k ∷ ls) k.node)
+      (or_left (eqb k.node k.node) (in_ring ls k.node) (eq-eqb k.node k.node refl))) in
       let k_not_l : k.node ≢ l.node = eqb-false k.node l.node (or_parts (eqb k.node l.node) (in_ring ls l.node) new.0).0 in
-      let left : IsPair g older m' l.node l.edge k.node = record { edge = chain.0; joins = chain.1; different = λ q. k_not_l (sym q); outer = ring_outer k.node k_in; back = pairs.1 } in
-      let right : IsPair g older m' k.node l.edge l.node = record { edge = chain.0; joins = joins_turned g older l.edge l.node k.node chain.1; different = k_not_l; outer = ring_outer l.node l_in; back = pairs.0 } in
+      let left : IsPair g older m' l.node l.edge k.node = record { edge = chain.0; joins = chain.1; different = λ q. k_not_l (sym q); outermost = ring_outer k.node k_in; back = pairs.1 } in
+      let right : IsPair g older m' k.node l.edge l.node = record {
+        edge = chain.0;
+        joins = joins_turned g older l.edge l.node k.node chain.1;
+        different = k_not_l;
+        outermost = ring_outer l.node l_in;
+        back = pairs.0;
+      } in
       ⊎_elim
       (λ here. let same : l.node ≡ c = eqb-true l.node c here in
       let edge : l.edge ≡ f = same_Some l.edge f (sym pairs.0 ∙ ap m' same ∙ has) in
@@ -133,14 +142,24 @@ module _ (g : Multigraph) (b : Blossom) (older : List Blossom) (m m' : ℕ → O
           edge = w.edge;
           joins = subst (λ x. Joins g older x c h.base.node) (sym edge) (base_joins c old ne);
           different = λ q. both_ways (in_ring b.ring c) out (ap (in_ring b.ring) q ∙ t.base_in);
-          outer = ring_outer h.base.node t.base_in;
+          outermost = ring_outer h.base.node t.base_in;
           back = h.new_base ∙ ap (λ x. Some x) (sym edge);
         },
       ))
       (λ s.
       let other : r.1 ≢ b.node = λ q. eqb-false b.node r.1 s (sym q) in
-      let p = outermost_before n b older r.1 s w.outer in
-      (r.0, r.1, has, record { edge = w.edge; joins = joins_below r.0 c r.1 w.joins ne other; different = w.different; outer = p.0; back = h.others r.1 p.1 (outermost_parts n older r.1 p.0).1 ∙ w.back }))
+      let p = outermost_before n b older r.1 s w.outermost in (
+        r.0,
+        r.1,
+        has,
+        record {
+          edge = w.edge;
+          joins = joins_below r.0 c r.1 w.joins ne other;
+          different = w.different;
+          outermost = p.0;
+          back = h.others r.1 p.1 (outermost_parts n older r.1 p.0).1 ∙ w.back;
+        },
+      ))
 
   -- the child that took the blossom's mate
   at_base : (e : ℕ) × (d : ℕ) × (m' h.base.node ≡ Some e) × IsPair g older m' h.base.node e d
@@ -148,7 +167,7 @@ module _ (g : Multigraph) (b : Blossom) (older : List Blossom) (m m' : ℕ → O
       let r = old_pair b.node h.edge first_outer h.mate in
       let w = r.1 in
       let other : r.0 ≢ b.node = λ q. w.different (sym q) in
-      let p = outermost_before n b older r.0 (ne_eqb b.node r.0 w.different) w.outer in (
+      let p = outermost_before n b older r.0 (ne_eqb b.node r.0 w.different) w.outermost in (
         h.edge,
         r.0,
         h.new_base,
@@ -156,7 +175,7 @@ module _ (g : Multigraph) (b : Blossom) (older : List Blossom) (m m' : ℕ → O
           edge = w.edge;
           joins = joins_turned g older h.edge r.0 h.base.node (base_joins r.0 (joins_turned g bs h.edge b.node r.0 w.joins) other);
           different = λ q. both_ways (in_ring b.ring r.0) p.1 (ap (in_ring b.ring) (sym q) ∙ t.base_in);
-          outer = p.0;
+          outermost = p.0;
           back = h.others r.0 p.1 (outermost_parts n older r.0 p.0).1 ∙ w.back;
         },
       )
@@ -173,7 +192,8 @@ module _ (g : Multigraph) (b : Blossom) (older : List Blossom) (m m' : ℕ → O
       (cases_outer c is)
 
   -- what holds of each edge of the ring, and of each mate, holds of each mate after
-  pub used_stays : (P : ℕ → Type 0) → AllByRecursion (λ (l : Link). P l.edge) b.ring → ((c f : ℕ) → is_outermost n bs c ≡ true → m c ≡ Some f → P f) → (c f : ℕ) → is_outermost n older c ≡ true → m' c ≡ Some f → P f
+  pub used_stays : (P : ℕ → Type 0) → AllByRecursion (λ (l : Link). P l.edge) b.ring → ((c f : ℕ) → is_outermost n bs c ≡ true → m c ≡ Some f → P f) → (c f : ℕ)
+      → is_outermost n older c ≡ true → m' c ≡ Some f → P f
   used_stays P each old c f is has = ⊎_elim
       (λ was. old c f was.0 (sym (h.others c was.1 (outermost_parts n older c is).1) ∙ has))
       (λ in_it. ⊎_elim

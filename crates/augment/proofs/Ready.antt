@@ -75,7 +75,8 @@ pub record IsNextStep (g : Multigraph) (f : Family) (m0 : ℕ → Option ℕ) (r
   pub spread : (a : ℕ) → IsSpread g left n a
   pub unpacks : (final : ℕ → Option ℕ) → Unpacks g left n final → Unpacks g f.blossoms m0 final
 
-module _ (g : Multigraph) (f : Family) (m0 m : ℕ → Option ℕ) (can : CanUnpack g f m0) (opened left : List Blossom) (split : f.blossoms ≡ opened ++ left) (mated : AreMated g left m) (bare : IsBare g left m) (all : (a : ℕ) → IsSpread g left m a) (b : ℕ) (rest : List ℕ) (names : b ∷ rest ≡ names_of left) where
+module _ (g : Multigraph) (f : Family) (m0 m : ℕ → Option ℕ) (can : CanUnpack g f m0) (opened left : List Blossom) (split : f.blossoms ≡ opened ++ left) (mated : AreMated g left m)
+    (bare : IsBare g left m) (all : (a : ℕ) → IsSpread g left m a) (b : ℕ) (rest : List ℕ) (names : b ∷ rest ≡ names_of left) where
   w : BeginsWith left b rest
   w = begins_with left b rest names
 
@@ -95,13 +96,15 @@ module _ (g : Multigraph) (f : Family) (m0 m : ℕ → Option ℕ) (can : CanUnp
   rings = rings_tail g opened here (subst (HasRings g) split_here can.rings)
 
   at : IsAt f.blossoms w.first w.older
-  at = subst (λ (bs : List Blossom). IsAt bs w.first w.older) (sym split_here) (found_at opened w.first w.older (names_new g.vertices (opened ++ here) (subst (IsNested g.vertices) split_here nested_all)))
+  at = subst (λ (bs : List Blossom). IsAt bs w.first w.older) (sym split_here) (found_at opened w.first w.older
+      (names_new g.vertices (opened ++ here) (subst (IsNested g.vertices) split_here nested_all)))
 
   mated_here : AreMated g here m
   mated_here = subst (λ (bs : List Blossom). AreMated g bs m) w.left_is mated
 
   outer : is_outermost g.vertices here w.first.node ≡ true
-  outer = and_from (is_node g.vertices here w.first.node) (not (is_child here w.first.node)) (new_is_node g.vertices w.first w.older) (ap not (new_no_child g.vertices w.first w.older nested))
+  outer = and_from (is_node g.vertices here w.first.node) (not (is_child here w.first.node)) (new_is_node g.vertices w.first w.older)
+      (ap not (new_no_child g.vertices w.first w.older nested))
 
   pub named : holds (names_of f.blossoms) b ≡ true
   named = ap (holds (names_of f.blossoms)) (sym w.node) ∙ at.named
@@ -109,7 +112,8 @@ module _ (g : Multigraph) (f : Family) (m0 m : ℕ → Option ℕ) (can : CanUnp
   -- a vertex whose outermost node is the first is in it
   by_node : (v : ℕ) → is_vertex g.vertices v ≡ true → outermost here v ≡ w.first.node → holds (members_of f.blossoms b) v ≡ true
   by_node v iv e = ap (λ x. holds (members_of f.blossoms x) v) (sym w.node) ∙ ap (λ ms. holds ms v) at.members ∙ by_test (holds w.first.members v) (λ t. t)
-      (λ out. absurd (both_ways (is_node g.vertices w.older w.first.node) nested.0.fresh (ap (is_node g.vertices w.older) (sym e ∙ ap (λ q. cond q w.first.node (outermost w.older v)) out) ∙ outermost_node g.vertices w.older v iv)))
+      (λ out. absurd (both_ways (is_node g.vertices w.older w.first.node) nested.0.fresh
+      (ap (is_node g.vertices w.older) (sym e ∙ ap (λ q. cond q w.first.node (outermost w.older v)) out) ∙ outermost_node g.vertices w.older v iv)))
 
   bare_here : IsBare g here m
   bare_here = subst (λ (bs : List Blossom). IsBare g bs m) w.left_is bare
@@ -151,7 +155,13 @@ module _ (g : Multigraph) (f : Family) (m0 m : ℕ → Option ℕ) (can : CanUnp
         edge = r.0;
         mate = ap m (sym w.node) ∙ r.2;
         base = base;
-        is_base = record { end = v; end_vertex = i.end.vertex; end_of_edge = i.end.end; end_in = by_node v i.end.vertex i.top; base_holds = ap (λ (bs : List Blossom). outermost bs v) older_is };
+        is_base = record {
+          end = v;
+          end_vertex = i.end.vertex;
+          end_of_edge = i.end.end;
+          end_in = by_node v i.end.vertex i.top;
+          base_holds = ap (λ (bs : List Blossom). outermost bs v) older_is;
+        };
         base_mate = all_here w.first.node r.0 v base r.2 i.end i.top (chain_grows w.first w.older v base (chain_has_top w.older v));
         only = λ c in_it ne. no_mate (m c) (λ k has.
             let ring : in_ring w.first.ring c ≡ true = ap (λ (x : List Link). in_ring x c) (sym ring_is) ∙ in_it in
@@ -163,7 +173,8 @@ module _ (g : Multigraph) (f : Family) (m0 m : ℕ → Option ℕ) (can : CanUnp
         spread = subst (λ (bs : List Blossom). (a : ℕ) → IsSpread g bs m a) (sym older_is) (older_spread g w.first w.older nested m bare_here all_here);
       }
 
-  pub next_step : (n : ℕ → Option ℕ) → Opens g (older_than f.blossoms b) b (ring_of f.blossoms b) (members_of f.blossoms b) m n → IsBare g (older_than f.blossoms b) n → ((a : ℕ) → IsSpread g (older_than f.blossoms b) n a)
+  pub next_step : (n : ℕ → Option ℕ) → Opens g (older_than f.blossoms b) b (ring_of f.blossoms b) (members_of f.blossoms b) m n → IsBare g (older_than f.blossoms b) n
+      → ((a : ℕ) → IsSpread g (older_than f.blossoms b) n a)
       → ((final : ℕ → Option ℕ) → Unpacks g left m final → Unpacks g f.blossoms m0 final) → IsNextStep g f m0 rest n
   next_step n o bare_n all_n unpacks =
       let o1 = subst (λ x. Opens g (older_than f.blossoms x) x (ring_of f.blossoms x) (members_of f.blossoms x) m n) (sym w.node) o in
@@ -182,7 +193,8 @@ module _ (g : Multigraph) (f : Family) (m0 m : ℕ → Option ℕ) (can : CanUnp
       }
 
 -- where all are opened
-pub all_opened : (s : State) (depth : ℕ → ℕ) → IsNested s.graph.vertices s.blossoms → All (IsEdgeWithin s.graph.vertices) s.graph.edges → IsSearchState s depth → (opened left : List Blossom) (m final : ℕ → Option ℕ)
+pub all_opened : (s : State) (depth : ℕ → ℕ) → IsNested s.graph.vertices s.blossoms → All (IsEdgeWithin s.graph.vertices) s.graph.edges → IsSearchState s depth
+    → (opened left : List Blossom) (m final : ℕ → Option ℕ)
     → AreOpened s opened left m → Unpacks s.graph left m final → AreOpened s s.blossoms [] final
 all_opened s depth nest ends st opened [] m final v u =
     subst (λ (x : ℕ → Option ℕ). AreOpened s s.blossoms [] x) (sym u) (subst (λ (bs : List Blossom). AreOpened s bs [] m) (sym (v.split ∙ append-nil opened)) v)

@@ -15,7 +15,11 @@ use Rattle.alt_forest.proofs.Roots.{root_self, root_up}
 use Rattle.alt_forest.proofs.Seeds.{AreTrees, roots_are_trees, tree_root}
 use Rattle.alt_forest.proofs.Tight.{tight_rings}
 use Rattle.alt_forest.proofs.Walk.{other_node_joins, deeper_differs}
-use Rattle.augment.specs.Turns.{with_both, IsElsewhere, IsRemoved}
+use Rattle.augment.specs.Turns.{IsElsewhere, IsRemoved}
+
+-- the state with other mates and labels
+abbrev pub with_both : State → (ℕ → Option ℕ) → (ℕ → Label) → State
+with_both s m l = record s { mate = m; label = l }
 
 pub where_is : (s : State) (one other a : ℕ) → ((root_of s a ≡ one) ⊎ (root_of s a ≡ other)) ⊎ IsElsewhere s one other a
 where_is s one other a = ⊎_elim
@@ -34,7 +38,7 @@ module _ (s : State) (depth : ℕ → ℕ) (nested : IsNested s.graph.vertices s
   outer_up : (a e b : ℕ) → IsOutermost s a → s.label a ≡ Outer → s.mate a ≡ Some e → IsMate s a e b → root_of s a ≡ root_of s b
   outer_up a e b is lab has w =
       let up : up_of s a ≡ b = ap (λ l. far_end s (up_edge_by s l a) a) lab ∙ ap (λ o. far_end s o a) has ∙ other_node_joins s.graph s.blossoms e a b w.joins w.different in
-      root_up s depth nested st a b is w.outer up
+      root_up s depth nested st a b is w.outermost up
 
   -- what mates in a tree are: of that tree both
   pub record AreTogether (a b : ℕ) : Type 0 where
@@ -51,7 +55,8 @@ module _ (s : State) (depth : ℕ → ℕ) (nested : IsNested s.graph.vertices s
           let child : b ≡ i.child = mate_unique s a e b i.child_edge i.child has i.mate w i.is_mate in
           let outer : s.label b ≡ Outer = ap s.label child ∙ i.child_outer in
           record {
-            same = sym (outer_up b e a w.outer outer w.back (record { edge = w.edge; joins = joins_turned s.graph s.blossoms e a b w.joins; different = λ q. w.different (sym q); tight = w.tight; outer = is; back = has }));
+            same = sym (outer_up b e a w.outermost outer w.back
+                (record { edge = w.edge; joins = joins_turned s.graph s.blossoms e a b w.joins; different = λ q. w.different (sym q); tight = w.tight; outermost = is; back = has }));
             in_tree = λ out. outer_not_out (sym outer ∙ out);
           }
       by_label Out lab = absurd (in_it lab)
@@ -68,7 +73,7 @@ module _ (s : State) (depth : ℕ → ℕ) (nested : IsNested s.graph.vertices s
         subst (IsMate s a e) (joins_unique s.graph s.blossoms e a r.0 b r.1.joins w.joins r.1.different) r.1
 
     new_mate : (a e b : ℕ) → IsElsewhere s one other b → IsMate s a e b → IsMate new a e b
-    new_mate a e b away w = record { edge = w.edge; joins = w.joins; different = w.different; tight = w.tight; outer = w.outer; back = h.kept b w.outer away ∙ w.back }
+    new_mate a e b away w = record { edge = w.edge; joins = w.joins; different = w.different; tight = w.tight; outermost = w.outermost; back = h.kept b w.outermost away ∙ w.back }
 
     -- a label other than out is an old one, of a node elsewhere
     pub away_of : (a : ℕ) → IsOutermost s a → l a ≢ Out → IsElsewhere s one other a
@@ -83,14 +88,15 @@ module _ (s : State) (depth : ℕ → ℕ) (nested : IsNested s.graph.vertices s
         let mate : s.mate a ≡ Some e = sym (h.kept a is away) ∙ has in
         let says = (st.labels a is).outer was e b mate old in
         let b_away = elsewhere_too s one other a b (outer_up a e b is was mate old) away in
-        (h.stays b w.outer b_away ∙ says.0, says.1)
+        (h.stays b w.outermost b_away ∙ says.0, says.1)
 
     inner_fits : (a : ℕ) → IsOutermost s a → l a ≡ Inner → IsInner new depth a
     inner_fits a is lab =
         let away = away_of a is (λ q. inner_not_out (sym lab ∙ q)) in
         let was : s.label a ≡ Inner = sym (h.stays a is away) ∙ lab in
         let i = (st.labels a is).inner was in
-        let up : up_of s a ≡ i.up = ap (λ k. far_end s (up_edge_by s k a) a) was ∙ ap (λ o. far_end s o a) i.parent ∙ other_node_joins s.graph s.blossoms i.edge a i.up i.joins (deeper_differs depth a i.up i.falls) in
+        let up : up_of s a ≡ i.up = ap (λ k. far_end s (up_edge_by s k a) a) was ∙ ap (λ o. far_end s o a) i.parent
+        ∙ other_node_joins s.graph s.blossoms i.edge a i.up i.joins (deeper_differs depth a i.up i.falls) in
         let up_away = elsewhere_too s one other a i.up (root_up s depth nested st a i.up is i.up_is up) away in
         let child_away = elsewhere_too s one other a i.child (mates_together a i.child_edge i.child is (λ q. inner_not_out (sym was ∙ q)) i.mate i.is_mate).same away in
         record {
@@ -107,24 +113,24 @@ module _ (s : State) (depth : ℕ → ℕ) (nested : IsNested s.graph.vertices s
           child = i.child;
           mate = h.kept a is away ∙ i.mate;
           is_mate = new_mate a i.child_edge i.child child_away i.is_mate;
-          child_outer = h.stays i.child i.is_mate.outer child_away ∙ i.child_outer;
+          child_outer = h.stays i.child i.is_mate.outermost child_away ∙ i.child_outer;
           rises = i.rises;
         }
 
     -- the mate of a node elsewhere is elsewhere
     out_fits : (a : ℕ) → IsOutermost s a → l a ≡ Out → (e b : ℕ) → m a ≡ Some e → IsMate new a e b → l b ≡ Out
     out_fits a is lab e b has w = ⊎_elim
-        (λ p. h.gone b w.outer p)
-        (λ away. h.stays b w.outer away ∙ by_label away (s.label b) refl)
+        (λ p. h.gone b w.outermost p)
+        (λ away. h.stays b w.outermost away ∙ by_label away (s.label b) refl)
         (where_is s one other b)
       where
         turned : IsMate new b e a
-        turned = record { edge = w.edge; joins = joins_turned s.graph s.blossoms e a b w.joins; different = λ q. w.different (sym q); tight = w.tight; outer = is; back = has }
+        turned = record { edge = w.edge; joins = joins_turned s.graph s.blossoms e a b w.joins; different = λ q. w.different (sym q); tight = w.tight; outermost = is; back = has }
 
         together : IsElsewhere s one other b → s.label b ≢ Out → ⊥
         together away in_it =
-            let old = old_mate b e a w.outer away w.back turned in
-            let both = mates_together b e a w.outer in_it (sym (h.kept b w.outer away) ∙ w.back) old in
+            let old = old_mate b e a w.outermost away w.back turned in
+            let both = mates_together b e a w.outermost in_it (sym (h.kept b w.outermost away) ∙ w.back) old in
             both.in_tree (sym (h.stays a is (elsewhere_too s one other b a both.same away)) ∙ lab)
 
         by_label : IsElsewhere s one other b → (k : Label) → s.label b ≡ k → k ≡ Out
@@ -146,7 +152,8 @@ module _ (s : State) (depth : ℕ → ℕ) (nested : IsNested s.graph.vertices s
       tight_rings = tight_rings s new (λ e t. record { edge = t.edge; tight = t.tight }) s.blossoms st.tight_rings;
       slacks = st.slacks;
       duals = st.duals;
-      mates = λ a e is has. let r = h.mates a e is has in (r.0, record { edge = r.1.edge; joins = r.1.joins; different = r.1.different; tight = r.1.tight; outer = r.1.outer; back = r.1.back });
+      mates = λ a e is has. let r = h.mates a e is has in
+          (r.0, record { edge = r.1.edge; joins = r.1.joins; different = r.1.different; tight = r.1.tight; outermost = r.1.outermost; back = r.1.back });
       parity = λ v w iv iw ev ew. st.parity v w iv iw (was_exposed (outermost s.blossoms v) ev) (was_exposed (outermost s.blossoms w) ew);
       labels = λ a is. record { outer = outer_fits a is; inner = inner_fits a is; out = out_fits a is };
     }

@@ -35,7 +35,8 @@ marked_out m (x ∷ cs) e c h =
 
 pub spread_has : (g : Multigraph) (bs : List Blossom) (m : ℕ → Option ℕ) (e v c : ℕ) → IsEnd g e v → holds (chain_of bs v) c ≡ true → spread g bs m e c ≡ Some e
 spread_has g bs m e v c end on = ⊎_elim
-    (λ q. marked_in (marked m (chain_of bs (edge_of g e).u) e) (chain_of bs (edge_of g e).v) e c (inl (marked_in m (chain_of bs (edge_of g e).u) e c (inr (ap (λ x. holds (chain_of bs x) c) (sym q) ∙ on)))))
+    (λ q. marked_in (marked m (chain_of bs (edge_of g e).u) e) (chain_of bs (edge_of g e).v) e c
+    (inl (marked_in m (chain_of bs (edge_of g e).u) e c (inr (ap (λ x. holds (chain_of bs x) c) (sym q) ∙ on)))))
     (λ q. marked_in (marked m (chain_of bs (edge_of g e).u) e) (chain_of bs (edge_of g e).v) e c (inr (ap (λ x. holds (chain_of bs x) c) (sym q) ∙ on)))
     end.end
 
@@ -52,7 +53,8 @@ spread_cases g bs m e c ends is =
     (λ s. inr (marked_out (marked m (chain_of bs u) e) (chain_of bs v) e c s ∙ marked_out m (chain_of bs u) e c t)))
 
 -- an edge between two outermost nodes that have no other mate
-module _ (g : Multigraph) (bs : List Blossom) (nested : IsNested g.vertices bs) (ends : All (IsEdgeWithin g.vertices) g.edges) (m : ℕ → Option ℕ) (e x y : ℕ) (is : IsEdgeNumber g e) (j : Joins g bs e x y)
+module _ (g : Multigraph) (bs : List Blossom) (nested : IsNested g.vertices bs) (ends : All (IsEdgeWithin g.vertices) g.edges) (m : ℕ → Option ℕ) (e x y : ℕ)
+    (is : IsEdgeNumber g e) (j : Joins g bs e x y)
     (at_x : (f : ℕ) → m x ≡ Some f → f ≡ e) (at_y : (f : ℕ) → m y ≡ Some f → f ≡ e) where
   abbrev m' : ℕ → Option ℕ
   m' = spread g bs m e
@@ -130,8 +132,10 @@ pub record PairsUp (g : Multigraph) (bs : List Blossom) (m n : ℕ → Option �
   pub bare : IsBare g bs n
   pub spread : (a : ℕ) → IsSpread g bs n a
 
-pub pairs_up : (g : Multigraph) (bs : List Blossom) (m : ℕ → Option ℕ) (ls : List Link) (z : ℕ) → IsNested g.vertices bs → All (IsEdgeWithin g.vertices) g.edges → IsChainTo g bs ls z → AllNew (nodes_of ls) → length ls % 2 ≡ 0
-    → ((c : ℕ) → in_ring ls c ≡ true → is_child bs c ≡ false) → ((c : ℕ) → in_ring ls c ≡ true → m c ≡ None) → IsBare g bs m → ((a : ℕ) → IsSpread g bs m a) → PairsUp g bs m (paired (spread g bs) m None ls) ls
+pub pairs_up : (g : Multigraph) (bs : List Blossom) (m : ℕ → Option ℕ) (ls : List Link) (z : ℕ) → IsNested g.vertices bs → All (IsEdgeWithin g.vertices) g.edges
+    → IsChainTo g bs ls z → AllNew (nodes_of ls) → length ls % 2 ≡ 0
+    → ((c : ℕ) → in_ring ls c ≡ true → is_child bs c ≡ false) → ((c : ℕ) → in_ring ls c ≡ true → m c ≡ None) → IsBare g bs m → ((a : ℕ) → IsSpread g bs m a)
+    → PairsUp g bs m (paired (spread g bs) m None ls) ls
 pairs_up g bs m [] z nested ends chain new even free none bare all = record { pairs = tt; others = λ c out f. refl; bare = bare; spread = all }
 pairs_up g bs m (l ∷ []) z nested ends chain new even free none bare all = absurd (omega (arith, even))
 pairs_up g bs m (l ∷ (k ∷ ls)) z nested ends chain new even free none bare all =
@@ -146,7 +150,8 @@ pairs_up g bs m (l ∷ (k ∷ ls)) z nested ends chain new even free none bare a
     let keep : (c : ℕ) → is_child bs c ≡ false → c ≢ l.node → c ≢ k.node → m1 c ≡ m c = others_keep g bs nested ends m e l.node k.node chain.0 chain.1 at_l at_k in
     let not_l : (c : ℕ) → in_ring ls c ≡ true → c ≢ l.node = λ c r q. both_ways (in_ring ls l.node) p.1 (ap (in_ring ls) (sym q) ∙ r) in
     let not_k : (c : ℕ) → in_ring ls c ≡ true → c ≢ k.node = λ c r q. both_ways (in_ring ls k.node) new.1.0 (ap (in_ring ls) (sym q) ∙ r) in
-    let r = pairs_up g bs m1 ls z nested ends chain.2.2 new.1.1 (omega (arith, even)) (λ c i. free c (later c i)) (λ c i. keep c (free c (later c i)) (not_l c i) (not_k c i) ∙ none c (later c i))
+    let r = pairs_up g bs m1 ls z nested ends chain.2.2 new.1.1 (omega (arith, even)) (λ c i. free c (later c i))
+    (λ c i. keep c (free c (later c i)) (not_l c i) (not_k c i) ∙ none c (later c i))
     (still_bare g bs nested ends m e l.node k.node chain.0 chain.1 at_l at_k bare) (λ a. still_spread g bs nested ends m e l.node k.node chain.0 chain.1 at_l at_k a (all a)) in
     record {
       pairs = (
@@ -163,7 +168,8 @@ pairs_up g bs m (l ∷ (k ∷ ls)) z nested ends chain new even free none bare a
     }
 
 -- without the newest blossom its child has the mate, and what is within has the child's
-module _ (g : Multigraph) (b : Blossom) (older : List Blossom) (nested : IsNested g.vertices (b ∷ older)) (m : ℕ → Option ℕ) (bare : IsBare g (b ∷ older) m) (all : (a : ℕ) → IsSpread g (b ∷ older) m a) where
+module _ (g : Multigraph) (b : Blossom) (older : List Blossom) (nested : IsNested g.vertices (b ∷ older)) (m : ℕ → Option ℕ) (bare : IsBare g (b ∷ older) m)
+    (all : (a : ℕ) → IsSpread g (b ∷ older) m a) where
   pub older_bare : IsBare g older m
   older_bare c f child has =
       let s = bare c f (or_right (in_ring b.ring c) (is_child older c) child) has in
@@ -172,7 +178,8 @@ module _ (g : Multigraph) (b : Blossom) (older : List Blossom) (nested : IsNeste
         vertex = s.vertex;
         end = s.end;
         holder = chain_before b older s.vertex c ne s.holder;
-        mate = all (outermost (b ∷ older) s.vertex) f s.vertex (outermost older s.vertex) s.mate s.end refl (chain_grows b older s.vertex (outermost older s.vertex) (chain_has_top older s.vertex));
+        mate = all (outermost (b ∷ older) s.vertex) f s.vertex (outermost older s.vertex) s.mate s.end refl
+            (chain_grows b older s.vertex (outermost older s.vertex) (chain_has_top older s.vertex));
       }
 
   pub older_spread : (a : ℕ) → IsSpread g older m a

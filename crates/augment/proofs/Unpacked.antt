@@ -77,16 +77,18 @@ none_opened s depth m same st matched = record {
     by_mate a is None none = absurd (matched a (is, none))
     by_mate a is (Some e) has =
         let r = st.mates a e is has in
-        (e, r.0, same a is ∙ has, record { edge = r.1.edge; joins = r.1.joins; different = r.1.different; outer = r.1.outer; back = same r.0 r.1.outer ∙ r.1.back })
+        (e, r.0, same a is ∙ has, record { edge = r.1.edge; joins = r.1.joins; different = r.1.different; outermost = r.1.outermost; back = same r.0 r.1.outermost ∙ r.1.back })
 
 -- one more
-pub one_opened : (s : State) (depth : ℕ → ℕ) (opened : List Blossom) (b : Blossom) (older : List Blossom) (m m' : ℕ → Option ℕ) → IsNested s.graph.vertices s.blossoms → All (IsEdgeWithin s.graph.vertices) s.graph.edges → IsSearchState s depth
+pub one_opened : (s : State) (depth : ℕ → ℕ) (opened : List Blossom) (b : Blossom) (older : List Blossom) (m m' : ℕ → Option ℕ) → IsNested s.graph.vertices s.blossoms
+    → All (IsEdgeWithin s.graph.vertices) s.graph.edges → IsSearchState s depth
     → AreOpened s opened (b ∷ older) m → Opens s.graph older b.node b.ring b.members m m' → AreOpened s (opened ++ (b ∷ [])) older m'
 one_opened s depth opened b older m m' nested ends st v h =
     let g : Multigraph = s.graph in
     let nest : IsNested g.vertices (b ∷ older) = nested_tail g.vertices opened (b ∷ older) (subst (IsNested g.vertices) v.split nested) in
     let rings : HasRings g (b ∷ older) = rings_tail g opened (b ∷ older) (subst (HasRings g) v.split st.rings) in
-    let tight = (each_parts (λ (x : Blossom). AllByRecursion (λ (l : Link). IsTight s l.edge) x.ring) opened (b ∷ older) (subst (AllByRecursion (λ (x : Blossom). AllByRecursion (λ (l : Link). IsTight s l.edge) x.ring)) v.split st.tight_rings)).1 in
+    let tight = (each_parts (λ (x : Blossom). AllByRecursion (λ (l : Link). IsTight s l.edge) x.ring) opened (b ∷ older)
+    (subst (AllByRecursion (λ (x : Blossom). AllByRecursion (λ (l : Link). IsTight s l.edge) x.ring)) v.split st.tight_rings)).1 in
     record {
       split = v.split ∙ sym (append_assoc opened (b ∷ []) older);
       mated = all_mated g b older m m' nest ends rings.0 v.mated h;
@@ -96,6 +98,8 @@ one_opened s depth opened b older m m' nested ends st v h =
       kept = λ a is. let p = child_tail opened b older a (ap (λ bs. is_child bs a) (sym v.split) ∙ (outermost_parts g.vertices s.blossoms a is).1) in h.others a p.0 p.1 ∙ v.kept a is;
     }
   where
-    stay : IsNested s.graph.vertices (b ∷ older) → HasRings s.graph (b ∷ older) → (xs : List Blossom) → AllByRecursion (λ (x : Blossom). IsLeftOnce s.graph (b ∷ older) m (λ u. holds x.members u)) xs → AllByRecursion (λ (x : Blossom). IsLeftOnce s.graph older m' (λ u. holds x.members u)) xs
+    stay : IsNested s.graph.vertices (b ∷ older) → HasRings s.graph (b ∷ older) → (xs : List Blossom)
+        → AllByRecursion (λ (x : Blossom). IsLeftOnce s.graph (b ∷ older) m (λ u. holds x.members u)) xs
+        → AllByRecursion (λ (x : Blossom). IsLeftOnce s.graph older m' (λ u. holds x.members u)) xs
     stay nest rings [] each = tt
     stay nest rings (x ∷ xs) each = (left_stays s.graph b older m m' nest ends rings.0 v.mated h (λ u. holds x.members u) each.0, stay nest rings xs each.1)

@@ -9,8 +9,8 @@ use Rattle.blossom_arena.specs.declared.label.Label.TheVariants.{Outer, Out}
 use Rattle.alt_forest.specs.State.{State, IsOutermost, IsMate, IsSearchState}
 use Rattle.alt_forest.specs.Trees.{node_limit, path_of, root_of, IsRoot}
 use Rattle.alt_forest.specs.Searches.{put}
-use Rattle.alt_forest.specs.Ways.{HasHop, IsRead, IsHop}
-use Rattle.alt_forest.proofs.Hops.{hop_above, has_hop, read_is, hop_path, hop_root}
+use Rattle.alt_forest.specs.Ways.{HasHop, IsRead}
+use Rattle.alt_forest.proofs.Hops.{IsHop, hop_above, has_hop, read_is, hop_path, hop_root}
 use Rattle.alt_forest.proofs.Mates.{joins_turned, mate_turned, partner_unique}
 use Rattle.alt_forest.proofs.Paths.{descends, passed_at}
 use Rattle.alt_forest.proofs.Relabelled.{outer_not_out, outer_not_inner, some_not_none, put_here, put_other}
@@ -23,13 +23,14 @@ module _ (s : State) (depth : ℕ → ℕ) (nested : IsNested s.graph.vertices s
   pub on_way : (k a x : ℕ) → depth a < k → IsOutermost s a → s.label a ≢ Out → holds (path_of s a) x ≡ true → root_of s x ≡ root_of s a
   on_way zero a x low is in_it on = absurd (omega (arith, low))
   on_way (suc k) a x low is in_it on = ⊎_elim
-      (λ r. ⊎_elim (λ here. ap (root_of s) (sym (eqb-true a x here))) (λ none. absurd (both_ways false refl none)) (or_cases (eqb a x) false (sym (ap (λ xs. holds xs x) (path_root s depth nested st a r)) ∙ on)))
+      (λ r. ⊎_elim (λ here. ap (root_of s) (sym (eqb-true a x here))) (λ none. absurd (both_ways false refl none))
+      (or_cases (eqb a x) false (sym (ap (λ xs. holds xs x) (path_root s depth nested st a r)) ∙ on)))
       (λ p.
       let b : ℕ = p.0 in
       let u = p.1 in
       ⊎_elim
       (λ here. ap (root_of s) (sym (eqb-true a x here)))
-      (λ more. on_way k b x (omega (arith, u.falls, low)) u.outer u.in_tree more ∙ sym (root_up s depth nested st a b is u.outer u.up))
+      (λ more. on_way k b x (omega (arith, u.falls, low)) u.outermost u.in_tree more ∙ sym (root_up s depth nested st a b is u.outermost u.up))
       (or_cases (eqb a x) (holds (path_of s b) x) (sym (ap (λ xs. holds xs x) (path_up s depth nested st a b is u.up)) ∙ on)))
       (up_or_root s depth nested st a is in_it)
 
@@ -47,7 +48,8 @@ module _ (s : State) (depth : ℕ → ℕ) (nested : IsNested s.graph.vertices s
   -- a root has no mate to lose
   pub uprooted_root : (far : ℕ) → IsRoot s far → IsUprooted s s.mate far
   uprooted_root far r = record {
-    mates = λ a e is has. let w = st.mates a e is has in (w.0, record { edge = w.1.edge; joins = w.1.joins; different = w.1.different; tight = w.1.tight; outer = w.1.outer; back = w.1.back });
+    mates = λ a e is has. let w = st.mates a e is has in
+        (w.0, record { edge = w.1.edge; joins = w.1.joins; different = w.1.different; tight = w.1.tight; outermost = w.1.outermost; back = w.1.back });
     free = r.exposed;
     keeps = λ a off. refl;
     root_has = λ ne. absurd (ne (root_self s depth nested st far r));
@@ -90,7 +92,7 @@ module _ (s : State) (depth : ℕ → ℕ) (nested : IsNested s.graph.vertices s
           joins = hop.joins;
           different = deeper_differs depth k.inner k.outer hop.lowest;
           tight = hop.tight;
-          low_is = w.outer;
+          low_is = w.outermost;
           high_is = hop.up_is;
           high_outer = hop.up_outer;
           taken = put_here base k.inner (Some k.parent);
@@ -105,10 +107,19 @@ module _ (s : State) (depth : ℕ → ℕ) (nested : IsNested s.graph.vertices s
               let b_not_far : r.0 ≢ far = λ q. not_inner (partner_unique s a f k.inner k.mate far (subst (IsMate s a f) q r.1) (mate_turned s far k.mate k.inner hop.is hop.mate w)) in
               let b_not_inner : r.0 ≢ k.inner = λ q. not_far (partner_unique s a f far k.mate k.inner (subst (IsMate s a f) q r.1) w) in (
                 r.0,
-                record { edge = r.1.edge; joins = r.1.joins; different = r.1.different; tight = r.1.tight; outer = r.1.outer; back = begun_else r.0 b_not_inner b_not_far ∙ r.1.back },
+                record {
+                  edge = r.1.edge;
+                  joins = r.1.joins;
+                  different = r.1.different;
+                  tight = r.1.tight;
+                  outermost = r.1.outermost;
+                  back = begun_else r.0 b_not_inner b_not_far
+                      ∙ r.1.back;
+                },
               );
           seen = λ c. ⊎_elim
-              (λ p. ap (λ (o : Option ℕ). is_some o) (ap begun p ∙ put_here base k.inner (Some k.parent)) ∙ sym (ap (λ (o : Option ℕ). is_some o) (ap base p ∙ put_other s.mate far None k.inner (λ q. w.different (sym q)) ∙ w.back)))
+              (λ p. ap (λ (o : Option ℕ). is_some o) (ap begun p ∙ put_here base k.inner (Some k.parent))
+              ∙ sym (ap (λ (o : Option ℕ). is_some o) (ap base p ∙ put_other s.mate far None k.inner (λ q. w.different (sym q)) ∙ w.back)))
               (λ p. ap (λ (o : Option ℕ). is_some o) (put_other base k.inner (Some k.parent) c p))
               (cases_eq c k.inner);
         }
@@ -125,9 +136,13 @@ module _ (s : State) (depth : ℕ → ℕ) (nested : IsNested s.graph.vertices s
           free = c.keeps far far_off ∙ begun_free;
           keeps = λ a off.
               let out : holds (far ∷ (k.inner ∷ path_of s k.outer)) a ≡ false = ap (λ xs. holds xs a) (sym way) ∙ off in
-              let not_far : a ≢ far = λ q. both_ways (holds (far ∷ (k.inner ∷ path_of s k.outer)) a) out (or_left (eqb far a) (holds (k.inner ∷ path_of s k.outer) a) (eq-eqb far a (sym q))) in
-              let not_inner : a ≢ k.inner = λ q. both_ways (holds (far ∷ (k.inner ∷ path_of s k.outer)) a) out (or_right (eqb far a) (holds (k.inner ∷ path_of s k.outer) a) (or_left (eqb k.inner a) (holds (path_of s k.outer) a) (eq-eqb k.inner a (sym q)))) in
-              let past : holds (path_of s k.outer) a ≡ false = false_from_ne_true (holds (path_of s k.outer) a) (λ on. both_ways (holds (far ∷ (k.inner ∷ path_of s k.outer)) a) out (or_right (eqb far a) (holds (k.inner ∷ path_of s k.outer) a) (or_right (eqb k.inner a) (holds (path_of s k.outer) a) on))) in
+              let not_far : a ≢ far = λ q. both_ways (holds (far ∷ (k.inner ∷ path_of s k.outer)) a) out
+              (or_left (eqb far a) (holds (k.inner ∷ path_of s k.outer) a) (eq-eqb far a (sym q))) in
+              let not_inner : a ≢ k.inner = λ q. both_ways (holds (far ∷ (k.inner ∷ path_of s k.outer)) a) out
+              (or_right (eqb far a) (holds (k.inner ∷ path_of s k.outer) a) (or_left (eqb k.inner a) (holds (path_of s k.outer) a) (eq-eqb k.inner a (sym q)))) in
+              let past : holds (path_of s k.outer) a ≡ false = false_from_ne_true (holds (path_of s k.outer) a)
+              (λ on. both_ways (holds (far ∷ (k.inner ∷ path_of s k.outer)) a) out
+              (or_right (eqb far a) (holds (k.inner ∷ path_of s k.outer) a) (or_right (eqb k.inner a) (holds (path_of s k.outer) a) on))) in
               c.keeps a past ∙ begun_else a not_inner not_far;
           root_has = λ _. ap (λ x. is_some (m x)) root ∙ c.root_has;
           seen = λ x not_far not_root. c.seen x (λ q. not_root (q ∙ sym root)) ∙ ap (λ (o : Option ℕ). is_some o) (put_other s.mate far None x not_far);
@@ -163,8 +178,18 @@ module _ (s : State) (depth : ℕ → ℕ) (nested : IsNested s.graph.vertices s
       below = inl (λ q. outer_not_inner (sym h.far_outer ∙ q));
       mates = λ a f is not_far has.
           let r = u.mates a f is (sym (put_other m far (Some e) a not_far) ∙ has) in
-          let b_not_far : r.0 ≢ far = λ q. some_not_none f (sym r.1.back ∙ ap m q ∙ u.free) in
-          (r.0, record { edge = r.1.edge; joins = r.1.joins; different = r.1.different; tight = r.1.tight; outer = r.1.outer; back = put_other m far (Some e) r.0 b_not_far ∙ r.1.back });
+          let b_not_far : r.0 ≢ far = λ q. some_not_none f (sym r.1.back ∙ ap m q ∙ u.free) in (
+            r.0,
+            record {
+              edge = r.1.edge;
+              joins = r.1.joins;
+              different = r.1.different;
+              tight = r.1.tight;
+              outermost = r.1.outermost;
+              back = put_other m far (Some e) r.0 b_not_far
+                  ∙ r.1.back;
+            },
+          );
       seen = λ c. refl;
     }
 

@@ -59,7 +59,7 @@ pub record IsPair (g : Multigraph) (bs : List Blossom) (m : ℕ → Option ℕ) 
   pub edge : IsEdgeNumber g e
   pub joins : Joins g bs e a b
   pub different : a ≢ b
-  pub outer : is_outermost g.vertices bs b ≡ true
+  pub outermost : is_outermost g.vertices bs b ≡ true
   pub back : m b ≡ Some e
 
 -- each outermost node has a mate

@@ -12,12 +12,9 @@ use Rattle.alt_forest.specs.Trees.{path_of, root_of, IsRoot}
 abbrev pub HasMates : State → Type 0
 HasMates s = (a e : ℕ) → IsOutermost s a → s.mate a ≡ Some e → (b : ℕ) × IsMate s a e b
 
--- the state with other mates, and with other labels too
+-- the state with other mates
 abbrev pub with_mates : State → (ℕ → Option ℕ) → State
 with_mates s m = record s { mate = m }
-
-abbrev pub with_both : State → (ℕ → Option ℕ) → (ℕ → Label) → State
-with_both s m l = record s { mate = m; label = l }
 
 -- the edge is tight and joins outer nodes of two trees
 pub record AreEnds (s : State) (e near far : ℕ) : Type 0 where

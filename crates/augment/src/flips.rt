@@ -24,16 +24,16 @@ pub(crate) fn exchange(search: &mut Search, e: EdgeId)
     requires standing { IsStanding search.old }
     requires can { CanAugment (state_of search.old) e }
     ensures sound { IsSound search.new }
-    ensures rest { search.new ≡ record search.old { arena = record search.old.arena { motions = search.new.arena.motions }; labels = search.new.labels; mates = search.new.mates; standing = search.new.standing; seeds = search.new.seeds; scanned = search.new.scanned } }
+    ensures rest { search.new ≡ record search.old { arena = record search.old.arena { motions = search.new.arena.motions }; labels = search.new.labels; mates = search.new.mates; standing = search.new.standing; scanned = search.new.scanned } }
     ensures exchanged { (c : CanAugment (state_of search.old) e) → IsExchanged search.old search.new e c.one c.other }
 {
     let (u, v, _) = search.graph.edge(e);
     let one = search.arena.outermost(u);
     let other = search.arena.outermost(v);
-    let one_root = search.root(one);
-    let other_root = search.root(other);
+    let one_seed = search.root_vertex(one);
+    let other_seed = search.root_vertex(other);
     turn(search, e, one, other);
-    fell(search, one_root, other_root);
+    fell(search, one_seed, other_seed);
 }
 
 /// Flips the path between the roots of the two trees that the tight edge `e` joins, so that both are matched
@@ -50,7 +50,7 @@ pub fn flip<L: Ledger>(search: &mut Search, graph: &Graph, e: EdgeId, steps: &mu
     ensures queued { IsQueued search.new }
     ensures standing { IsStanding search.new }
     ensures labels { (a : ℕ) → label_at search.new.labels.items a ≡ Out }
-    ensures rest { search.new ≡ record search.old { arena = record search.old.arena { motions = search.new.arena.motions }; labels = search.new.labels; mates = search.new.mates; queue = search.new.queue; clock = pos 0; standing = search.new.standing; seeds = search.new.seeds; scanned = search.new.scanned } }
+    ensures rest { search.new ≡ record search.old { arena = record search.old.arena { motions = search.new.arena.motions }; labels = search.new.labels; mates = search.new.mates; queue = search.new.queue; clock = pos 0; standing = search.new.standing; scanned = search.new.scanned } }
     ensures one { (c : CanAugment (state_of search.old) e) → edge_in search.new.mates.items c.one ≡ Some e }
     ensures other { (c : CanAugment (state_of search.old) e) → edge_in search.new.mates.items c.other ≡ Some e }
     ensures keeps { (c : CanAugment (state_of search.old) e) (a : ℕ) → holds (path_of (state_of search.old) c.one) a ≡ false → holds (path_of (state_of search.old) c.other) a ≡ false → edge_in search.new.mates.items a ≡ edge_in search.old.mates.items a }

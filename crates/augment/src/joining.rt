@@ -1,4 +1,4 @@
-ghost use Rattle.std.specs.Prelude.{◌≡◌, ◌≢◌, ◌⊎◌, ◌↔◌, ◌+◌, ◌*◌, ◌≤◌, ℕ, pos, false, Some, length, if◌then◌else◌};
+ghost use Rattle.std.specs.Prelude.{◌≡◌, ◌≢◌, ◌⊎◌, ◌↔◌, ◌+◌, ◌*◌, ◌≤◌, ℕ, pos, true, false, Some, [], length, if◌then◌else◌};
 ghost use Rattle.graph_theory.specs.Parts.{holds};
 ghost use Rattle.blossom_arena.specs.declared.label.Label.TheVariants.{Out};
 ghost use Rattle.alt_forest.specs.State.{IsOutermost, IsExposed};
@@ -6,7 +6,7 @@ ghost use Rattle.alt_forest.specs.Trees.{path_of, root_of};
 ghost use Rattle.alt_forest.specs.Events.{CanAugment};
 ghost use Rattle.alt_forest.specs.Searches.{IsSound, state_of, label_at, edge_in};
 ghost use Rattle.alt_forest.specs.Counts.{exposed_count, tree_count, IsPlanted};
-ghost use Rattle.alt_forest.specs.Entries.{IsQueued, entry_count};
+ghost use Rattle.alt_forest.specs.Entries.{IsQueued, entry_count, out_ends};
 ghost use Rattle.alt_forest.specs.Standing.{IsStanding};
 
 use crate::flips::exchange;
@@ -16,12 +16,20 @@ use mb_base::{EdgeId, Steps};
 use std::sync::ledger::Ledger;
 use weighted_graph::Graph;
 
+/// Whether no node is listed.
+fn lists_none(search: &Search) -> bool
+    ensures { (result ≡ true) ↔ (search.now.standing.nodes ≡ []) }
+{
+    search.standing.nodes().is_empty()
+}
+
 /// Flips the path between the roots of the two trees that the tight edge `e` joins, so that both are matched,
 /// and takes these two trees away: exactly their nodes are labelled out (chapters 24 and 26). Every other tree
-/// stays as it is, with its moments, and so do blossoms and duals. It counts one step for itself and looks once
-/// at most for each end of an edge at a vertex of the two trees, or of the outer nodes of the trees that stay
-/// where these are few; an edge that leads from an outer node to a node of the two trees gets its moment. It
-/// answers whether a tree is left, and where none is it ends as `clear` does. It takes no memory.
+/// stays as it is, with its moments, and so do blossoms and duals. It counts one step for itself and looks at
+/// most once for each end of an edge at a vertex of the two trees, whose nodes are labelled out then: at the
+/// edges there, or at those at the outer nodes of the trees that stay, where these are no more. An edge that
+/// leads from an outer node to a node of the two trees gets its moment. It answers whether a tree is left, and
+/// where none is it ends as `clear` does. It takes time linear in the edges at the two trees, and no memory.
 pub fn join<L: Ledger>(search: &mut Search, graph: &Graph, e: EdgeId, steps: &mut Steps<L>) -> bool
     requires sound { IsSound search.old }
     requires queued { IsQueued search.old }
@@ -33,7 +41,7 @@ pub fn join<L: Ledger>(search: &mut Search, graph: &Graph, e: EdgeId, steps: &mu
     ensures standing { IsStanding search.new }
     ensures cleared { (c : CanAugment (state_of search.old) e) (a : ℕ) → IsOutermost (state_of search.old) a → (root_of (state_of search.old) a ≡ root_of (state_of search.old) c.one) ⊎ (root_of (state_of search.old) a ≡ root_of (state_of search.old) c.other) → label_at search.new.labels.items a ≡ Out }
     ensures stays { (c : CanAugment (state_of search.old) e) (a : ℕ) → IsOutermost (state_of search.old) a → root_of (state_of search.old) a ≢ root_of (state_of search.old) c.one → root_of (state_of search.old) a ≢ root_of (state_of search.old) c.other → label_at search.new.labels.items a ≡ label_at search.old.labels.items a }
-    ensures rest { search.new ≡ record search.old { arena = record search.old.arena { motions = search.new.arena.motions }; labels = search.new.labels; mates = search.new.mates; queue = search.new.queue; clock = search.new.clock; standing = search.new.standing; seeds = search.new.seeds; scanned = search.new.scanned } }
+    ensures rest { search.new ≡ record search.old { arena = record search.old.arena { motions = search.new.arena.motions }; labels = search.new.labels; mates = search.new.mates; queue = search.new.queue; clock = search.new.clock; standing = search.new.standing; scanned = search.new.scanned } }
     ensures clock { search.new.clock ≡ (if result then search.old.clock else pos 0) }
     ensures one { (c : CanAugment (state_of search.old) e) → edge_in search.new.mates.items c.one ≡ Some e }
     ensures other { (c : CanAugment (state_of search.old) e) → edge_in search.new.mates.items c.other ≡ Some e }
@@ -43,12 +51,14 @@ pub fn join<L: Ledger>(search: &mut Search, graph: &Graph, e: EdgeId, steps: &mu
     ensures trees { tree_count (state_of search.new) + 2 ≡ tree_count (state_of search.old) }
     ensures left { (result ≡ false) ↔ (tree_count (state_of search.new) ≡ 0) }
     ensures planted { IsPlanted (state_of search.old) → IsPlanted (state_of search.new) }
+    ensures step { steps.old + 1 ≤ steps.new }
+    ensures around { steps.new + out_ends (state_of search.old) ≤ steps.old + 1 + out_ends (state_of search.new) }
     ensures looks { steps.new ≤ steps.old + 1 + 2 * length search.old.graph.edges }
     ensures count { entry_count search.new.queue + steps.old ≤ entry_count search.old.queue + steps.new }
 {
     steps.tick();
     exchange(search, e);
-    if search.standing.is_empty() {
+    if lists_none(search) {
         search.clear();
         return false;
     }

@@ -129,9 +129,10 @@ fn open_all(arena: &Arena, graph: &Graph, mates: &mut Vec<Option<EdgeId>>)
 
 /// Gives each vertex its edge of a perfect matching, where each outermost node has a mate: the blossoms
 /// are opened, the newest first, and the circuit of each is matched round the child that holds the end
-/// of the blossom's mate (chapters 24 and 26). The blossoms and all else stay. It takes time linear in
-/// the vertices and the circuits, since an edge of the matching is kept for all nodes that hold its ends
-/// as soon as it is known, and the nodes on each way up are those of no other; and it takes no memory.
+/// of the blossom's mate (chapters 24 and 26). The blossoms, the moments and all else stay. It takes time
+/// linear in the vertices and the circuits, since an edge of the matching is kept for all nodes that hold
+/// its ends as soon as it is known, and the nodes on each way up are those of no other; and it takes no
+/// memory.
 pub fn unpack(search: &mut Search)
     requires sound { IsSound search.old }
     requires matched { IsMatched (state_of search.old) }
@@ -140,7 +141,8 @@ pub fn unpack(search: &mut Search)
     ensures perfect { IsPerfect search.old.graph (mate_counts search.old.graph (edge_in search.new.mates.items)) }
     ensures tight { (v e : ℕ) → is_vertex search.old.graph.vertices v ≡ true → edge_in search.new.mates.items v ≡ Some e → IsTight (state_of search.new) e }
     ensures leaves { AllByRecursion (λ (b : Blossom). leaving search.old.graph (mate_counts search.old.graph (edge_in search.new.mates.items)) b.members ≡ 1) search.old.arena.blossoms }
-    ensures outer { (a : ℕ) → IsOutermost (state_of search.old) a → edge_in search.new.mates.items a ≡ edge_in search.old.mates.items a }
+    ensures outermost { (a : ℕ) → IsOutermost (state_of search.old) a → edge_in search.new.mates.items a ≡ edge_in search.old.mates.items a }
+    ensures queue { search.new.queue ≡ search.old.queue }
     ensures rest { search.new ≡ record search.old { mates = search.new.mates } }
 {
     clear_children(&search.arena, &mut search.mates);

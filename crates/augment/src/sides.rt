@@ -1,52 +1,98 @@
-ghost use Rattle.std.specs.Prelude.{◌≡◌, ◌↔◌, ◌<◌, ◌≤◌, ◌+◌, ◌*◌, ◌++◌, ℕ, true, Some, None, nat_eq, length, vec_len};
-ghost use Rattle.std.specs.List.{IsDistinct};
+ghost use Rattle.std.specs.Prelude.{◌≡◌, ◌⊎◌, ◌≤◌, ◌+◌, ◌*◌, ◌++◌, ◌&&◌, ℕ, true, Some, nat_eq, length, vec_len, All};
+ghost use Rattle.std.specs.List.{AllByRecursion, IsDistinct};
 ghost use Rattle.std.specs.Vec.{vec_capacity};
-ghost use Rattle.alt_forest.specs.State.{IsOutermost};
-ghost use Rattle.alt_forest.specs.Searches.{HasShape, state_of};
-ghost use Rattle.augment.specs.Sides.{AreOutermost, outer_part, outer_vertices};
+ghost use Rattle.graph_theory.specs.Graph.{edges_around};
+ghost use Rattle.blossom_arena.specs.Family.{is_node, is_vertex};
+ghost use Rattle.alt_forest.specs.Entries.{ends_around};
+ghost use Rattle.alt_forest.specs.Searches.{HasShape};
+ghost use Rattle.augment.specs.Sides.{is_outer, outer_part, outer_vertices};
 
 use alt_forest::{Label, Search};
 use blossom_arena::{Members, NodeId};
+use mb_base::VertexId;
 
-/// What is left of a number once one is taken away for each of these vertices, or `None` where they are more.
-/// It passes at most one vertex more than that number.
-fn left_of(most: usize, vertices: Members<'_>) -> Option<usize>
-    ensures enough { (left : ℕ) → result ≡ Some left → left + length vertices.entry ≡ most }
-    ensures more { result ≡ None → most < length vertices.entry }
+/// How many edges there are at a vertex.
+fn degree(search: &Search, v: VertexId) -> usize
+    requires shape { HasShape search.now }
+    requires vertex { is_vertex search.now.graph.vertices v ≡ true }
+    ensures { result ≡ length (edges_around search.now.graph v) }
+{
+    search.incidence.degree(v)
+}
+
+/// How many ends of edges there are at these vertices, where no edge has more than its two there.
+fn ends_at(search: &Search, vertices: &[VertexId]) -> usize
+    requires shape { HasShape search.now }
+    requires vertices { All (λ v. is_vertex search.now.graph.vertices v ≡ true) vertices.now }
+    requires few { ends_around search.now.graph vertices.now ≤ 2 * length search.now.graph.edges }
+    ensures { result ≡ ends_around search.now.graph vertices.now }
+{
+    let mut ends = 0;
+    for v in vertices {
+        ends += degree(search, *v);
+    }
+    ends
+}
+
+/// What is left of a number once it is lowered by another one, or `None` where that one is more.
+fn without(most: usize, some: usize) -> Option<usize>
+    ensures { (left : ℕ) → result ≡ Some left → left + some ≡ most }
+{
+    if most < some {
+        return None;
+    }
+    Some(most - some)
+}
+
+/// What is left of a number once the ends of edges at these vertices are taken away, but one at least for each
+/// vertex, or `None` where they are more. It passes at most one vertex more than that number.
+fn left_of(search: &Search, most: usize, vertices: Members<'_>) -> Option<usize>
+    requires shape { HasShape search.now }
+    requires vertices { AllByRecursion (λ v. is_vertex search.now.graph.vertices v ≡ true) vertices }
+    ensures { (left : ℕ) → result ≡ Some left → left + ends_around search.now.graph vertices.entry ≤ most }
 {
     let mut left = most;
-    for _ in vertices {
-        if left == 0 {
-            return None;
+    for v in vertices {
+        let ends = degree(search, v);
+        match without(left, if ends == 0 { 1 } else { ends }) {
+            Some(fewer) => left = fewer,
+            None => return None,
         }
-        left -= 1;
     }
     Some(left)
 }
 
-/// The same for the vertices of a node, where those of one that isn't outer don't count.
-fn left_after(search: &Search, node: NodeId, most: usize) -> Option<usize>
+/// Whether a node is outermost and outer. Any number may be asked for.
+fn is_outer(search: &Search, node: NodeId) -> bool
     requires shape { HasShape search.now }
-    requires outermost { IsOutermost (state_of search.now) node }
-    ensures enough { (left : ℕ) → result ≡ Some left → left + length (outer_part search.now node) ≡ most }
-    ensures more { result ≡ None → most < length (outer_part search.now node) }
+    ensures { result ≡ is_outer search.now node }
 {
-    if search.label(node) != Label::Outer {
-        return Some(most);
+    if !search.arena.is_outermost(node) {
+        return false;
     }
-    left_of(most, search.arena.members(node))
+    search.label(node) == Label::Outer
 }
 
-/// Whether the outer nodes that are listed have at most so many vertices. It passes at most one vertex more
-/// than that.
-fn outer_within(search: &Search, most: usize) -> bool
+/// The same for the vertices of a node, where one that isn't outer takes away 1.
+fn left_after(search: &Search, node: NodeId, most: usize) -> Option<usize>
     requires shape { HasShape search.now }
-    requires outermost { AreOutermost search.now }
-    ensures { (result ≡ true) ↔ (length (outer_vertices search.now) ≤ most) }
+    ensures { (left : ℕ) → result ≡ Some left → left + ends_around search.now.graph (outer_part search.now node) ≤ most }
+{
+    if !is_outer(search, node) {
+        return without(most, 1);
+    }
+    left_of(search, most, search.arena.members(node))
+}
+
+/// Whether it is seen by passing so many nodes and vertices, and one more, that there are at most so many ends
+/// of edges at the outer nodes that are listed.
+fn is_outer_within(search: &Search, most: usize) -> bool
+    requires shape { HasShape search.now }
+    ensures { result ≡ true → ends_around search.now.graph (outer_vertices search.now) ≤ most }
 {
     let mut left = most;
-    for place in 0..search.standing.len() {
-        let node = search.standing[place];
+    for place in 0..search.standing.nodes().len() {
+        let node = search.standing.nodes()[place];
         match left_after(search, node, left) {
             Some(fewer) => left = fewer,
             None => return false,
@@ -58,13 +104,12 @@ fn outer_within(search: &Search, most: usize) -> bool
 /// Keeps the vertices of a node, if it is outer, for looks too.
 fn scan_part(search: &mut Search, node: NodeId)
     requires shape { HasShape search.old }
-    requires outermost { IsOutermost (state_of search.old) node }
     requires room { vec_len search.old.scanned + length (outer_part search.old node) ≤ vec_capacity search.old.scanned }
     ensures scanned { search.new.scanned.items ≡ search.old.scanned.items ++ outer_part search.old node }
     ensures rest { search.new ≡ record search.old { scanned = search.new.scanned } }
     ensures shape { HasShape search.new }
 {
-    if search.label(node) != Label::Outer {
+    if !is_outer(search, node) {
         return;
     }
     search.scan(node);
@@ -73,31 +118,32 @@ fn scan_part(search: &mut Search, node: NodeId)
 /// Keeps just the vertices of the outer nodes that are listed for looks.
 fn scan_outer(search: &mut Search)
     requires shape { HasShape search.old }
-    requires outermost { AreOutermost search.old }
-    requires different { IsDistinct nat_eq search.old.standing.items }
+    requires different { IsDistinct nat_eq search.old.standing.nodes }
     ensures scanned { search.new.scanned.items ≡ outer_vertices search.old }
     ensures rest { search.new ≡ record search.old { scanned = search.new.scanned } }
     ensures shape { HasShape search.new }
 {
     search.scanned.clear();
-    for place in 0..search.standing.len() {
-        let node = search.standing[place];
+    for place in 0..search.standing.nodes().len() {
+        let node = search.standing.nodes()[place];
         scan_part(search, node);
     }
 }
 
-/// Keeps the vertices of the outer nodes that are listed for looks instead of those that are kept, where they
-/// are at most half as many.
+/// Keeps the vertices of the outer nodes that are listed for looks instead of those that are kept, where there
+/// are no more ends of edges at them.
 pub(crate) fn take_smaller_side(search: &mut Search)
     requires shape { HasShape search.old }
-    requires outermost { AreOutermost search.old }
-    requires different { IsDistinct nat_eq search.old.standing.items }
-    ensures few { 2 * length (outer_vertices search.old) ≤ length search.old.scanned.items → search.new.scanned.items ≡ outer_vertices search.old }
-    ensures many { length search.old.scanned.items < 2 * length (outer_vertices search.old) → search.new.scanned.items ≡ search.old.scanned.items }
+    requires different { IsDistinct nat_eq search.old.standing.nodes }
+    requires vertices { All (λ v. is_vertex search.old.graph.vertices v ≡ true) search.old.scanned.items }
+    requires few { ends_around search.old.graph search.old.scanned.items ≤ 2 * length search.old.graph.edges }
+    ensures side { (search.new.scanned.items ≡ outer_vertices search.old) ⊎ (search.new.scanned.items ≡ search.old.scanned.items) }
+    ensures fewer { ends_around search.old.graph search.new.scanned.items ≤ ends_around search.old.graph search.old.scanned.items }
     ensures rest { search.new ≡ record search.old { scanned = search.new.scanned } }
     ensures shape { HasShape search.new }
 {
-    if outer_within(search, search.scanned.len() / 2) {
+    let ends = ends_at(search, &search.scanned);
+    if is_outer_within(search, ends) {
         scan_outer(search);
     }
 }

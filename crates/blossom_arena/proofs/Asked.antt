@@ -15,7 +15,7 @@ use Rattle.blossom_arena.proofs.Parents.{free_parent}
 use Rattle.blossom_arena.proofs.Opened.{child_parent}
 use Rattle.blossom_arena.proofs.Sound.{order_names}
 use Rattle.blossom_arena.proofs.Marks.{entry_node, entry_none}
-use Rattle.blossom_arena.proofs.Shrunk.{each_some}
+use Rattle.blossom_arena.proofs.Stays.{each_some}
 
 -- no blossom has the number of a vertex, or 0
 pub name_low : (n : ℕ) (bs : List Blossom) (x : ℕ) → IsNested n bs → x ≤ n → false ≡ holds (names_of bs) x

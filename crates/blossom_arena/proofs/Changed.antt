@@ -13,12 +13,14 @@ use Rattle.blossom_arena.specs.declared.label.Label.TheVariants.{Out}
 use Rattle.blossom_arena.specs.Changes.{label_at, share, gain}
 use Rattle.blossom_arena.specs.Family.{Blossom, Family, IsNested, HasDuals, HasMotions, dual_at, in_ring, is_child, is_node, is_outermost, is_vertex, names_of, outermost}
 use Rattle.blossom_arena.specs.Moving.{DualTable}
-use Rattle.blossom_arena.specs.Fields.{IsSound, blossoms_of, family_of, inner_of}
+use Rattle.blossom_arena.specs.Fields.{IsPlacement, IsSound, blossoms_of, core_at, family_of, inner_of}
+use Rattle.blossom_arena.specs.Placement.{placement_of}
 use Rattle.blossom_arena.specs.Slack.{held_by}
 use Rattle.blossom_arena.proofs.Duals.{sound_with_duals}
 use Rattle.blossom_arena.proofs.Held.{dual_number}
 use Rattle.blossom_arena.proofs.Lists.{by_test, first_in, later_in}
-use Rattle.blossom_arena.proofs.Nested.{name_range, vertex_range}
+use Rattle.blossom_arena.proofs.Nested.{name_range}
+use Rattle.blossom_arena.proofs.RaisedSums.{placement_same}
 use Rattle.blossom_arena.proofs.Sets.{member_by_ring}
 
 -- the sums of what holds a vertex
@@ -31,12 +33,12 @@ held-sum y z (b ∷ older) v =
       | false ↦ omega (arith, ints)
     ]
 
--- of numbers at outermost nodes alone that of its own node covers a vertex
-pub covered_outer : (n : ℕ) (z : ℕ → ℤ) (bs : List Blossom) (v : ℕ) → is_vertex n v ≡ true → IsNested n bs → ((a : ℕ) → is_child bs a ≡ true → z a ≡ pos 0) → z v +ℤ held_by z bs v ≡ z (outermost bs v)
-covered_outer n z [] v iv h none = omega (arith, ints)
-covered_outer n z (b ∷ older) v iv h none =
+-- of numbers at outermost nodes alone that of its own node is the sum at a vertex
+pub outer_sum : (n : ℕ) (z : ℕ → ℤ) (bs : List Blossom) (v : ℕ) → is_vertex n v ≡ true → IsNested n bs → ((a : ℕ) → is_child bs a ≡ true → z a ≡ pos 0) → z v +ℤ held_by z bs v ≡ z (outermost bs v)
+outer_sum n z [] v iv h none = omega (arith, ints)
+outer_sum n z (b ∷ older) v iv h none =
     let x : ℕ = outermost older v in
-    let before : z v +ℤ held_by z older v ≡ z x = covered_outer n z older v iv h.1 (λ a c. none a (or_right (in_ring b.ring a) (is_child older a) c)) in
+    let before : z v +ℤ held_by z older v ≡ z x = outer_sum n z older v iv h.1 (λ a c. none a (or_right (in_ring b.ring a) (is_child older a) c)) in
     let v_in : holds b.members v ≡ in_ring b.ring x = member_by_ring n older b v h iv in
     one_more (z v) (z b.node) (held_by z older v) (z x) (holds b.members v) before (λ t. none x (or_left (in_ring b.ring x) (is_child older x) (sym v_in ∙ t)))
     ∙ by_holder (holds b.members v)
@@ -53,7 +55,7 @@ covered_outer n z (b ∷ older) v iv h none =
 pub inner_stays : (n : ℕ) (y z : ℕ → ℤ) (bs : List Blossom) (v : ℕ) → is_vertex n v ≡ true → IsNested n bs → ((a : ℕ) → is_child bs a ≡ true → z a ≡ pos 0) → inner_of (λ a. y a +ℤ z a) bs v ≡ inner_of y bs v
 inner_stays n y z bs v iv h none =
     let sum = held-sum y z bs v in
-    let own = covered_outer n z bs v iv h none in
+    let own = outer_sum n z bs v iv h none in
     omega (arith, ints, sum, own)
 
 no_child : (p q : Bool) → q ≡ true → (p && not q) ≡ false
@@ -133,9 +135,9 @@ module _ (a : Inside) (d : ℤ) (s : IsSound a) (c : IsChange (family_of a) d) w
     pub advance_sound : IsSound (record a { duals = t })
     advance_sound =
         let all : dual_at t.values ≡ (λ x. dual_at ys x +ℤ here x) = λ i x. advanced_at x i in
-        sound_with_duals a t a.inner s advanced_duals (subst (λ (ls : List Label). HasMotions n ls bs) (sym same) s.family.motions) s.places.inner
-        (λ v iv. let r = vertex_range n v iv in
-        s.inner v r.0 r.1 ∙ sym (inner_stays n (dual_at ys) here bs v iv s.family.nested child_none) ∙ ap (λ y. inner_of y bs v) (sym all))
+        sound_with_duals a t a.partition s advanced_duals (subst (λ (ls : List Label). HasMotions n ls bs) (sym same) s.family.motions) s.places.partition
+        (placement_same n (core_at n a.kept) bs (dual_at ys) (dual_at t.values) (placement_of a.partition)
+        (λ v iv. ap (λ y. inner_of y bs v) all ∙ inner_stays n (dual_at ys) here bs v iv s.family.nested child_none) s.partition)
 
 -- motions that change, and the duals as they were
 module _ (a : Inside) (s : IsSound a) (t : DualTable) (same : t.values ≡ a.duals.values) where
@@ -144,8 +146,8 @@ module _ (a : Inside) (s : IsSound a) (t : DualTable) (same : t.values ≡ a.dua
 
   pub motions_sound : HasMotions a.vertex_count t.motions (blossoms_of a) → IsSound (record a { duals = t })
   motions_sound h =
-      sound_with_duals a t a.inner s still_duals h s.places.inner
-      (λ v iv. let r = vertex_range a.vertex_count v iv in s.inner v r.0 r.1 ∙ ap (λ (ys : List ℤ). inner_of (dual_at ys) (blossoms_of a) v) (sym same))
+      sound_with_duals a t a.partition s still_duals h s.places.partition
+      (subst (λ (ys : List ℤ). IsPlacement a.vertex_count (core_at a.vertex_count a.kept) (blossoms_of a) (dual_at ys) (placement_of a.partition)) (sym same) s.partition)
 
 -- an outermost node that moves
 pub motions_with : (n : ℕ) (bs : List Blossom) (ms : List Label) (node : ℕ) (l : Label) → is_outermost n bs node ≡ true → HasMotions n ms bs → HasMotions n (slice_set ms node l) bs

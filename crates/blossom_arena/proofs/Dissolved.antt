@@ -1,9 +1,9 @@
 -- What a dissolve leaves: the blossoms that stood, without one.
-use Rattle.std.proofs.Common.{◌≡◌, ℕ, ◌+◌, ◌<◌, true, false, not, eqb, leb, cond, List, length, sym, ap, ap₂, ◌∙◌, subst, arith, ⊎_elim, None}
-use Rattle.std.specs.Prelude.{slice_set, slice_index, IsSome, is_some, ℤ, pos, neg_ℤ, ◌+ℤ◌, ◌≤ℤ◌}
+use Rattle.std.proofs.Common.{◌≡◌, ℕ, ◌+◌, ◌<◌, true, false, eqb, leb, cond, List, length, sym, ap, ◌∙◌, subst, arith, ⊎_elim, None}
+use Rattle.std.specs.Prelude.{slice_set, slice_index, IsSome, is_some, pos, ◌-ℤ◌, ◌≤ℤ◌}
 use Rattle.std.specs.List.{AllByRecursion}
 use Rattle.std.specs.Global.{Vec}
-use Rattle.std.proofs.lemmas.Bool.{eqb-true, eqb-false, ne_eqb, or_cases, both_ways, and_from}
+use Rattle.std.proofs.lemmas.Bool.{eqb-true, eqb-false, ne_eqb, or_cases, both_ways, lt-leb}
 use Rattle.std.proofs.lemmas.Bool.Decides.{nat_tests}
 use Rattle.std.proofs.lemmas.List.{length-set}
 use Rattle.slab.specs.Slab.{Slab, get, Updates, slab_len}
@@ -11,25 +11,34 @@ use Rattle.graph_theory.specs.Parts.{holds}
 use Rattle.blossom_arena.specs.declared.runs.Kept.{Kept}
 use Rattle.blossom_arena.specs.declared.arena.Arena.TheInside.{Inside}
 use Rattle.blossom_arena.specs.Tables.{walk, links_of, filled}
-use Rattle.blossom_arena.specs.Family.{Blossom, nodes_of, in_ring, is_vertex, is_node, is_child, members_of, ring_of, without, dual_at, HasDuals, HasMotions, IsNested, outermost}
+use Rattle.blossom_arena.specs.Family.{Blossom, nodes_of, names_of, is_node, is_child, members_of, ring_of, without, dual_at, HasDuals, HasMotions, IsNested}
 use Rattle.blossom_arena.specs.declared.label.Label.TheVariants.{Out}
 use Rattle.blossom_arena.specs.Moving.{DualTable}
 use Rattle.blossom_arena.proofs.Rested.{motions_dissolved}
-use Rattle.blossom_arena.specs.Fields.{IsSound, blossoms_of, order_of, key_of, kept_of, kept_or_none, run_of, vertices_of, IsRun, lowered, parent_entry, build, IsOrder, sum_at, added, outer_dual, inner_of}
+use Rattle.blossom_arena.specs.declared.links.Link.{Link}
+use Rattle.blossom_arena.specs.declared.runs.Run.{Run}
+use Rattle.blossom_arena.specs.Fields.{IsOrder, IsPlacement, IsRun, IsSound, blossoms_of, build, core_at, kept_of, kept_or_none, key_of, order_of, own_run, parent_entry, run_of, vertices_of}
+use Rattle.blossom_arena.specs.Placement.{Placement, SetTables, given, heir_of, letting_out, placement_of, released}
 use Rattle.blossom_arena.proofs.Lists.{by_test, each_from}
-use Rattle.blossom_arena.proofs.Nested.{vertex_range, range_vertex, child_is_node, name_is_node}
-use Rattle.blossom_arena.proofs.Sets.{members_new}
+use Rattle.blossom_arena.proofs.Nested.{child_is_node, name_is_node}
 use Rattle.blossom_arena.proofs.Parents.{ring_child}
 use Rattle.blossom_arena.proofs.Taken.{members_without, nested_without, each_without}
-use Rattle.blossom_arena.proofs.Opened.{outermost_lowered, ring_other}
-use Rattle.blossom_arena.proofs.Writes.{length-filled, length-lowered}
+use Rattle.blossom_arena.proofs.Opened.{ring_other}
+use Rattle.blossom_arena.proofs.Writes.{length-filled}
 use Rattle.blossom_arena.proofs.Marks.{dissolved_entry}
 use Rattle.blossom_arena.proofs.Orders.{removed, length-removed, removed_sub, removed_has, removed_not, take_out_order, walk_order}
 use Rattle.blossom_arena.proofs.Builds.{build-same, build-without}
 use Rattle.blossom_arena.proofs.Sound.{rings, order_names, order_len, order_new, order_range, order_no_zero, node_run}
-use Rattle.blossom_arena.proofs.Shrunk.{each_some}
-use Rattle.blossom_arena.proofs.Held.{inner_dissolved}
-use Rattle.blossom_arena.proofs.Added.{length-added, added_at}
+use Rattle.blossom_arena.proofs.Stays.{each_some}
+use Rattle.blossom_arena.proofs.GivenBack.{placement_dissolved}
+use Rattle.blossom_arena.proofs.Spreads.{spread_places}
+
+-- the sets once the nodes of a ring have got theirs back
+abbrev pub without_ring : Inside → Slab Kept → List Link → ℕ → Placement
+without_ring a kept ring core =
+    given
+    (released (λ x. vertices_of a.followers.items (run_of a.vertex_count kept x)) (core_at a.vertex_count kept) (dual_at a.duals.values) core (placement_of a.partition) (nodes_of ring))
+    core (heir_of (core_at a.vertex_count kept) core 0 (nodes_of ring)) (pos 0 -ℤ dual_at a.duals.values (heir_of (core_at a.vertex_count kept) core 0 (nodes_of ring)))
 
 -- how the fields change in a dissolve
 pub record Dissolves (a b : Inside) (node : ℕ) : Type 0 where
@@ -39,8 +48,7 @@ pub record Dissolves (a b : Inside) (node : ℕ) : Type 0 where
   pub older : b.older.items ≡ slice_set a.older.items (slice_index a.newer.items node) (slice_index a.older.items node)
   pub newer : b.newer.items ≡ slice_set a.newer.items (slice_index a.older.items node) (slice_index a.newer.items node)
   pub parents : b.parents.items ≡ slice_set (filled a.parents.items (nodes_of (ring_of (blossoms_of a) node)) 0) node 1
-  pub outer : b.outer.items ≡ lowered a.outer.items (λ x. vertices_of a.followers.items (run_of a.vertex_count b.kept x)) (nodes_of (ring_of (blossoms_of a) node))
-  pub inner : b.inner.items ≡ added a.inner.items (λ v. neg_ℤ (outer_dual b.outer.items a.duals.values v)) (members_of (blossoms_of a) node)
+  pub partition : placement_of b.partition ≡ without_ring a b.kept (ring_of (blossoms_of a) node) (kept_of a.vertex_count a.kept node).run.core
   pub none : dual_at a.duals.values node ≡ pos 0
   pub duals : b.duals ≡ record { values = a.duals.values; motions = slice_set a.duals.motions node Out }
 
@@ -52,32 +60,17 @@ other_kept n kept kept' node x updates low_node low ne = updates.others (key_of 
 pub other_run : (n : ℕ) (kept kept' : Slab Kept) (node x : ℕ) → Updates kept kept' (key_of n node) None → n < node → eqb node x ≡ false → run_of n kept' x ≡ run_of n kept x
 other_run n kept kept' node x updates low_node ne =
     by_test (leb x n)
-    (λ e. ap (λ q. cond q (record { head = x; tail = x; size = 1 }) (kept_of n kept' x).run) e ∙ sym (ap (λ q. cond q (record { head = x; tail = x; size = 1 }) (kept_of n kept x).run) e))
-    (λ e. ap (λ q. cond q (record { head = x; tail = x; size = 1 }) (kept_of n kept' x).run) e
+    (λ e. ap (λ q. cond q (own_run x) (kept_of n kept' x).run) e ∙ sym (ap (λ q. cond q (own_run x) (kept_of n kept x).run) e))
+    (λ e. ap (λ q. cond q (own_run x) (kept_of n kept' x).run) e
     ∙ ap (λ o. (kept_or_none o).run) (other_kept n kept kept' node x updates low_node (high e) ne)
-    ∙ sym (ap (λ q. cond q (record { head = x; tail = x; size = 1 }) (kept_of n kept x).run) e))
+    ∙ sym (ap (λ q. cond q (own_run x) (kept_of n kept x).run) e))
   where
     high : leb x n ≡ false → n < x
     high e = grind (arith, nat_tests)
 
--- the outermost nodes once each child is put at its vertices
-pub outer_after : (a : Inside) (kept : Slab Kept) (outer : List ℕ) (node v : ℕ) → IsSound a → holds (order_of a) node ≡ true → is_child (blossoms_of a) node ≡ false → Updates a.kept kept (key_of a.vertex_count node) None
-    → outer ≡ lowered a.outer.items (λ x. vertices_of a.followers.items (run_of a.vertex_count kept x)) (nodes_of (ring_of (blossoms_of a) node))
-    → is_vertex a.vertex_count v ≡ true → slice_index outer v ≡ outermost (without (blossoms_of a) node) v
-outer_after a kept outer node v s there free updates written iv =
-    let n : ℕ = a.vertex_count in
-    let bs : List Blossom = blossoms_of a in
-    let range = vertex_range n v iv in
-    let run_is : (x : ℕ) → in_ring (ring_of bs node) x ≡ true → vertices_of a.followers.items (run_of n kept x) ≡ members_of bs x = λ x r.
-    ap (vertices_of a.followers.items) (other_run n a.kept kept node x updates (order_range a s node there).0 (ring_other bs node x free r))
-    ∙ (node_run a s x (child_is_node n bs x s.family.nested (ring_child bs node x r))).vertices in
-    ap (λ t. slice_index t v) written
-    ∙ outermost_lowered n bs node v a.outer.items (λ x. vertices_of a.followers.items (run_of n kept x)) s.family.nested (ap (λ ys. holds ys node) (order_names a) ∙ there) free iv
-    (omega (arith, range.1, s.places.outer)) run_is (s.outer v range.0 range.1)
-
-module _ (a : Inside) (duals : DualTable) (inner : Vec ℤ) (parents outer older newer : Vec ℕ) (kept : Slab Kept) (node : ℕ) where
+module _ (a : Inside) (duals : DualTable) (partition : SetTables) (parents older newer : Vec ℕ) (kept : Slab Kept) (node : ℕ) where
   abbrev pub after : Inside
-  after = record { vertex_count = a.vertex_count; duals = duals; inner = inner; parents = parents; nexts = a.nexts; edges = a.edges; outer = outer; followers = a.followers; older = older; newer = newer; kept = kept }
+  after = record { vertex_count = a.vertex_count; duals = duals; partition = partition; parents = parents; nexts = a.nexts; edges = a.edges; followers = a.followers; older = older; newer = newer; kept = kept }
 
   module _ (s : IsSound a) (there : holds (order_of a) node ≡ true) (free : is_child (blossoms_of a) node ≡ false) (h : Dissolves a after node) where
     abbrev n : ℕ
@@ -126,8 +119,25 @@ module _ (a : Inside) (duals : DualTable) (inner : Vec ℤ) (parents outer older
     nested_after : IsNested n (without bs node)
     nested_after = nested_without n bs node s.family.nested free
 
-    now_outer : (v : ℕ) → is_vertex n v ≡ true → slice_index outer.items v ≡ outermost (without bs node) v
-    now_outer v iv = outer_after a kept outer.items node v s there free h.updates h.outer iv
+    -- the sets
+    places_stay : (without_ring a kept (ring_of bs node) (kept_of n a.kept node).run.core).places ≡ length a.partition.sets
+    places_stay =
+        spread_places (letting_out (λ x. vertices_of a.followers.items (run_of n kept x)) (core_at n kept) (dual_at a.duals.values) (kept_of n a.kept node).run.core)
+        (placement_of a.partition) (nodes_of (ring_of bs node))
+
+    named : holds (names_of bs) node ≡ true
+    named = ap (λ ys. holds ys node) (order_names a) ∙ there
+
+    placement_after : IsPlacement n (core_at n kept) (without bs node) (dual_at a.duals.values) (placement_of partition)
+    placement_after =
+        subst (IsPlacement n (core_at n kept) (without bs node) (dual_at a.duals.values)) (sym h.partition)
+        (placement_dissolved n bs (core_at n a.kept) (core_at n kept) a.duals.values (placement_of a.partition) node (kept_of n a.kept node).run.core
+        (λ x. vertices_of a.followers.items (run_of n kept x)) s.family.few s.family.nested (λ x is. (node_run a s x is).core) s.family.duals.in_range named free s.partition
+        (λ x r.
+        ap (vertices_of a.followers.items) (other_run n a.kept kept node x h.updates above (ring_other bs node x free r))
+        ∙ (node_run a s x (child_is_node n bs x s.family.nested (ring_child bs node x r))).vertices)
+        (λ x ne. ap (λ (r : Run). r.core) (other_run n a.kept kept node x h.updates above ne))
+        (sym (ap (λ q. (cond q (own_run node) (kept_of n a.kept node).run).core) (lt-leb node n above))) h.none)
 
     pub sound_after : IsSound after
     sound_after = record {
@@ -147,19 +157,11 @@ module _ (a : Inside) (duals : DualTable) (inner : Vec ℤ) (parents outer older
         edges = s.places.edges;
         older = ap length h.older ∙ length-set a.older.items (slice_index a.newer.items node) (slice_index a.older.items node) ∙ s.places.older;
         newer = ap length h.newer ∙ length-set a.newer.items (slice_index a.older.items node) (slice_index a.newer.items node) ∙ s.places.newer;
-        outer = ap length h.outer ∙ length-lowered a.outer.items (λ x. vertices_of a.followers.items (run_of n kept x)) (nodes_of (ring_of bs node)) ∙ s.places.outer;
-        inner = ap length h.inner ∙ length-added a.inner.items (λ v. neg_ℤ (outer_dual outer.items a.duals.values v)) (members_of bs node) ∙ s.places.inner;
+        partition = ap (λ (p : Placement). p.places) h.partition ∙ places_stay ∙ s.places.partition;
         followers = s.places.followers;
       };
-      outer = λ v low high.
-          now_outer v (range_vertex n v low high) ∙ ap (λ us. outermost us v) (sym blossoms_after);
-      inner = λ v low high.
-          ap (λ (t : List ℤ). sum_at t v) h.inner
-          ∙ added_at a.inner.items (λ x. neg_ℤ (outer_dual outer.items a.duals.values x)) (members_of bs node) v (members_new n bs node s.family.nested is) (omega (arith, high, s.places.inner))
-          ∙ ap₂ (λ (z : ℤ) (o : ℕ). z +ℤ cond (holds (members_of bs node) v) (neg_ℤ (dual_at a.duals.values o)) (pos 0)) (s.inner v low high) (now_outer v (range_vertex n v low high))
-          ∙ sym (inner_dissolved n bs v s.family.nested (range_vertex n v low high) (dual_at a.duals.values) node (and_from (is_node n bs node) (not (is_child bs node)) is (ap not free)) h.none)
-          ∙ ap (λ (us : List Blossom). inner_of (dual_at a.duals.values) us v) (sym blossoms_after)
-          ∙ ap (λ (t : DualTable). inner_of (dual_at t.values) (blossoms_of after) v) (sym h.duals);
+      partition = subst (λ (t : DualTable). IsPlacement n (core_at n kept) (blossoms_of after) (dual_at t.values) (placement_of partition)) (sym h.duals)
+          (subst (λ (us : List Blossom). IsPlacement n (core_at n kept) us (dual_at a.duals.values) (placement_of partition)) (sym blossoms_after) placement_after);
       parents = λ x high.
           ap (λ t. slice_index t x) h.parents
           ∙ dissolved_entry n bs node a.parents.items x s.family.nested (ap (λ ys. holds ys node) (order_names a) ∙ there)

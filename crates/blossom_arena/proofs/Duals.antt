@@ -1,23 +1,21 @@
 -- What a change of one dual keeps.
-use Rattle.std.proofs.Common.{◌≡◌, ℕ, ◌+◌, ◌<◌, true, eqb, cond, List, [], ◌∷◌, length, sym, ap, ap₂, ◌∙◌, subst, arith}
-use Rattle.std.specs.Prelude.{ℤ, pos, ◌+ℤ◌, ◌≤ℤ◌, slice_set}
+use Rattle.std.proofs.Common.{◌≡◌, ℕ, ◌+◌, ◌<◌, true, eqb, List, [], ◌∷◌, length, sym, ap, ap₂, ◌∙◌, subst, arith}
+use Rattle.std.specs.Prelude.{ℤ, pos, ◌+ℤ◌, ◌≤ℤ◌, slice_set, All}
 use Rattle.std.specs.List.{AllByRecursion}
-use Rattle.std.specs.Global.{Vec}
 use Rattle.std.proofs.lemmas.Bool.{eqb-true, eqb-false}
 use Rattle.std.proofs.lemmas.List.{get_or-set_other, get_or-set_same, length-set}
 use Rattle.std.proofs.lemmas.List.Elements.{All-set}
 use Rattle.blossom_arena.specs.declared.arena.Arena.TheInside.{Inside}
 use Rattle.graph_theory.specs.Duals.{IsNumber}
-use Rattle.graph_theory.specs.Parts.{holds}
-use Rattle.blossom_arena.specs.Family.{Blossom, Family, is_vertex, is_node, is_child, is_outermost, members_of, IsNested, HasDuals, HasMotions, dual_at}
+use Rattle.blossom_arena.specs.Family.{Blossom, Family, is_node, is_child, is_outermost, members_of, IsNested, HasDuals, HasMotions, dual_at}
 use Rattle.blossom_arena.specs.declared.label.Label.{Label}
 use Rattle.blossom_arena.specs.Moving.{DualTable}
-use Rattle.blossom_arena.specs.Fields.{IsSound, blossoms_of, family_of, sum_at, added, inner_of}
+use Rattle.blossom_arena.specs.Fields.{IsPlacement, IsSound, blossoms_of, core_at, family_of}
+use Rattle.blossom_arena.specs.Placement.{Placement, SetTables, all_added, placement_of}
 use Rattle.blossom_arena.proofs.Lists.{by_test}
-use Rattle.blossom_arena.proofs.Nested.{vertex_range, range_vertex, node_range}
-use Rattle.blossom_arena.proofs.Sets.{members_new}
-use Rattle.blossom_arena.proofs.Held.{inner_outer, inner_child}
-use Rattle.blossom_arena.proofs.Added.{length-added, added_at}
+use Rattle.blossom_arena.proofs.Nested.{node_range}
+use Rattle.blossom_arena.proofs.RaisedSums.{placement_child, placement_outer}
+use Rattle.blossom_arena.proofs.Spreads.{all_added_places}
 
 each_dual : (n : ℕ) (bs : List Blossom) (ys : List ℤ) (node : ℕ) (y : ℤ) → IsNested n bs → node < length ys → (n < node → pos 0 ≤ℤ y)
     → AllByRecursion (λ (b : Blossom). pos 0 ≤ℤ dual_at ys b.node) bs → AllByRecursion (λ (b : Blossom). pos 0 ≤ℤ dual_at (slice_set ys node y) b.node) bs
@@ -54,13 +52,21 @@ duals_after a f x y d ys s view is same in_range not_below written =
     (duals_set a.vertex_count (blossoms_of a) a.duals.values y (dual_at a.duals.values y +ℤ d) s.family.nested (omega (arith, range.1, s.family.duals.one_each)) number fine s.family.duals)
 
 -- other duals and their sums leave the rest as it was
-pub sound_with_duals : (a : Inside) (duals : DualTable) (inner : Vec ℤ) → IsSound a → HasDuals a.vertex_count duals.values (blossoms_of a) → HasMotions a.vertex_count duals.motions (blossoms_of a) → length inner.items ≡ a.vertex_count + 1
-    → ((v : ℕ) → is_vertex a.vertex_count v ≡ true → sum_at inner.items v ≡ inner_of (dual_at duals.values) (blossoms_of a) v) → IsSound (record a { duals = duals; inner = inner })
-sound_with_duals a duals inner s h m len sums = record {
+pub sound_with_duals : (a : Inside) (duals : DualTable) (p : SetTables) → IsSound a → HasDuals a.vertex_count duals.values (blossoms_of a)
+    → HasMotions a.vertex_count duals.motions (blossoms_of a) → length p.sets ≡ a.vertex_count + 1
+    → IsPlacement a.vertex_count (core_at a.vertex_count a.kept) (blossoms_of a) (dual_at duals.values) (placement_of p) → IsSound (record a { duals = duals; partition = p })
+sound_with_duals a duals p s h m len placement = record {
   family = record { few = s.family.few; nested = s.family.nested; duals = h; motions = m };
-  places = record { parents = s.places.parents; nexts = s.places.nexts; edges = s.places.edges; older = s.places.older; newer = s.places.newer; outer = s.places.outer; inner = len; followers = s.places.followers };
-  outer = s.outer;
-  inner = λ v low high. sums v (range_vertex a.vertex_count v low high);
+  places = record {
+    parents = s.places.parents;
+    nexts = s.places.nexts;
+    edges = s.places.edges;
+    older = s.places.older;
+    newer = s.places.newer;
+    partition = len;
+    followers = s.places.followers;
+  };
+  partition = placement;
   parents = s.parents;
   order = s.order;
   runs = s.runs;
@@ -84,18 +90,16 @@ module _ (a : Inside) (duals : DualTable) (node : ℕ) (d : ℤ) (s : IsSound a)
   motions : HasMotions n duals.motions bs
   motions = subst (λ (ms : List Label). HasMotions n ms bs) (sym still) s.family.motions
 
-  pub raised_outer : is_outermost n bs node ≡ true → IsSound (record a { duals = duals; inner = a.inner })
+  pub raised_outer : is_outermost n bs node ≡ true → IsSound (record a { duals = duals; partition = a.partition })
   raised_outer outer =
-      sound_with_duals a duals a.inner s h motions s.places.inner
-      (λ v iv. let r = vertex_range n v iv in
-      s.inner v r.0 r.1 ∙ sym (inner_outer n bs v s.family.nested iv a.duals.values node d outer place) ∙ ap (λ (ys : List ℤ). inner_of (dual_at ys) bs v) (sym written))
+      sound_with_duals a duals a.partition s h motions s.places.partition
+      (subst (λ (ys : List ℤ). IsPlacement n (core_at n a.kept) bs (dual_at ys) (placement_of a.partition)) (sym written)
+      (placement_outer n bs (core_at n a.kept) a.duals.values (placement_of a.partition) node d s.family.nested place s.partition outer))
 
-  pub raised_child : (inner : Vec ℤ) → is_child bs node ≡ true → inner.items ≡ added a.inner.items (λ v. d) (members_of bs node) → IsSound (record a { duals = duals; inner = inner })
-  raised_child inner child sums =
-      sound_with_duals a duals inner s h motions (ap length sums ∙ length-added a.inner.items (λ v. d) (members_of bs node) ∙ s.places.inner)
-      (λ v iv. let r = vertex_range n v iv in
-      ap (λ (t : List ℤ). sum_at t v) sums
-      ∙ added_at a.inner.items (λ v. d) (members_of bs node) v (members_new n bs node s.family.nested node_is) (omega (arith, r.1, s.places.inner))
-      ∙ ap (λ z. z +ℤ cond (holds (members_of bs node) v) d (pos 0)) (s.inner v r.0 r.1)
-      ∙ sym (inner_child n bs v s.family.nested iv a.duals.values node d node_is child place)
-      ∙ ap (λ (ys : List ℤ). inner_of (dual_at ys) bs v) (sym written))
+  pub raised_child : (p : SetTables) → is_child bs node ≡ true → placement_of p ≡ all_added (placement_of a.partition) (members_of bs node) d → IsSound (record a { duals = duals; partition = p })
+  raised_child p child sums =
+      sound_with_duals a duals p s h motions (ap (λ (q : Placement). q.places) sums ∙ all_added_places (placement_of a.partition) (members_of bs node) d ∙ s.places.partition)
+      (subst (λ (ys : List ℤ). IsPlacement n (core_at n a.kept) bs (dual_at ys) (placement_of p)) (sym written)
+      (subst (IsPlacement n (core_at n a.kept) bs (dual_at (slice_set a.duals.values node (dual_at a.duals.values node +ℤ d)))) (sym sums)
+      (placement_child n bs (core_at n a.kept) a.duals.values (placement_of a.partition) node d s.family.nested place s.partition s.family.few
+      (subst (λ (ys : List ℤ). All IsNumber ys) written h.in_range) node_is child)))

@@ -1,8 +1,8 @@
 -- The fields of an arena without blossoms.
-use Rattle.std.proofs.Common.{◌≡◌, ◌∙◌, ℕ, ◌+◌, ◌≤◌, ◌<◌, false, List, [], length, refl, sym, ap, subst, arith, get_or, Option, None, ⊎_elim}
+use Rattle.std.proofs.Common.{◌≡◌, ◌∙◌, ℕ, ◌+◌, ◌≤◌, ◌<◌, true, false, cond, List, [], length, refl, sym, ap, subst, arith, get_or, Option, None, ⊎_elim}
 use Rattle.std.specs.Prelude.{ℤ, pos, ◌+ℤ◌, ◌-ℤ◌, replicate, slice_index, count_by, is_some}
 use Rattle.std.specs.List.{AllByRecursion}
-use Rattle.std.proofs.lemmas.Bool.{both_ways, cases_lt}
+use Rattle.std.proofs.lemmas.Bool.{both_ways, cases_lt, le-leb}
 use Rattle.std.proofs.lemmas.Int.{ints}
 use Rattle.std.proofs.lemmas.List.{length-replicate, get_or-replicate, get_or_past}
 use Rattle.slab.specs.Slab.{get}
@@ -12,11 +12,13 @@ use Rattle.blossom_arena.specs.declared.arena.Arena.TheInside.{Inside}
 use Rattle.blossom_arena.specs.Tables.{walk}
 use Rattle.graph_theory.specs.Nested.{most_blossoms}
 use Rattle.graph_theory.specs.Duals.{IsNumber}
-use Rattle.blossom_arena.specs.Family.{IsNested, HasDuals, HasMotions, empty_family, outermost, dual_at}
+use Rattle.blossom_arena.specs.Family.{Blossom, IsNested, HasDuals, HasMotions, empty_family, is_vertex, dual_at}
 use Rattle.blossom_arena.specs.declared.label.Label.{Label}
 use Rattle.blossom_arena.specs.declared.label.Label.TheVariants.{Out}
 use Rattle.blossom_arena.specs.Moving.{DualTable, empty_table}
-use Rattle.blossom_arena.specs.Fields.{IsSound, blossoms_of, order_of, family_of, key_of, build, parent_entry, IsOrder, sum_at, inner_of}
+use Rattle.blossom_arena.specs.Fields.{IsPlacement, IsSound, blossoms_of, build, core_at, family_of, kept_of, key_of, order_of, own_run, parent_entry, IsOrder}
+use Rattle.blossom_arena.specs.Placement.{AreAlone, placement_of}
+use Rattle.blossom_arena.proofs.Nested.{vertex_range}
 use Rattle.blossom_arena.proofs.Sound.{rings}
 
 pub record IsFresh (a : Inside) : Type 0 where
@@ -30,9 +32,7 @@ pub record IsFresh (a : Inside) : Type 0 where
   pub edges : length a.edges.items ≡ a.vertex_count + most_blossoms a.vertex_count + 1
   pub older : a.older.items ≡ replicate (a.vertex_count + most_blossoms a.vertex_count + 1) 0
   pub newer : a.newer.items ≡ replicate (a.vertex_count + most_blossoms a.vertex_count + 1) 0
-  pub outer_len : length a.outer.items ≡ a.vertex_count + 1
-  pub outer : (v : ℕ) → v ≤ a.vertex_count → slice_index a.outer.items v ≡ v
-  pub inner : a.inner.items ≡ replicate (a.vertex_count + 1) (pos 0)
+  pub partition : AreAlone (placement_of a.partition) (a.vertex_count + 1)
   pub followers : length a.followers.items ≡ a.vertex_count + 1
 
 module _ (a : Inside) (h : IsFresh a) where
@@ -51,11 +51,16 @@ module _ (a : Inside) (h : IsFresh a) where
   zero_at : (t : List ℕ) (x : ℕ) → t ≡ replicate places 0 → x < places → get_or t x 0 ≡ 0
   zero_at t x e low = ap (λ s. get_or s x 0) e ∙ get_or-replicate places x 0 0 low
 
-  no_sum : (v : ℕ) → v ≤ n → sum_at a.inner.items v ≡ inner_of (dual_at a.duals.values) (blossoms_of a) v
-  no_sum v high =
-      ap (λ (t : List ℤ). sum_at t v) h.inner ∙ get_or-replicate (n + 1) v (pos 0) (pos 0) (omega (arith, high))
-      ∙ nothing (dual_at a.duals.values v) ∙ ap (λ bs. inner_of (dual_at a.duals.values) bs v) (sym no_blossoms)
+  alone : IsPlacement n (core_at n a.kept) [] (dual_at a.duals.values) (placement_of a.partition)
+  alone = record {
+    outer = λ v iv. ap (placement_of a.partition).top (h.partition.set v (low v iv)) ∙ h.partition.top v (low v iv);
+    inner = λ v iv. h.partition.inner v (low v iv) ∙ nothing (dual_at a.duals.values v);
+    sets = λ v iv. h.partition.set v (low v iv) ∙ sym (ap (λ q. (cond q (own_run v) (kept_of n a.kept v).run).core) (le-leb v n (vertex_range n v iv).1));
+  }
     where
+      low : (v : ℕ) → is_vertex n v ≡ true → v < n + 1
+      low v iv = omega (arith, (vertex_range n v iv).1)
+
       nothing : (y : ℤ) → pos 0 ≡ (y +ℤ pos 0) -ℤ y
       nothing y = omega (arith, ints)
 
@@ -92,12 +97,10 @@ module _ (a : Inside) (h : IsFresh a) where
       edges = h.edges;
       older = ap length h.older ∙ length-replicate places 0;
       newer = ap length h.newer ∙ length-replicate places 0;
-      outer = h.outer_len;
-      inner = ap length h.inner ∙ length-replicate (n + 1) (pos 0);
+      partition = h.partition.places;
       followers = h.followers;
     };
-    outer = λ v low high. h.outer v high ∙ ap (λ bs. outermost bs v) (sym no_blossoms);
-    inner = λ v low high. no_sum v high;
+    partition = subst (λ (bs : List Blossom). IsPlacement n (core_at n a.kept) bs (dual_at a.duals.values) (placement_of a.partition)) (sym no_blossoms) alone;
     parents = λ x high. h.parents x high ∙ ap (λ bs. parent_entry n bs x) (sym no_blossoms);
     order = subst (IsOrder a.older.items a.newer.items 0) (sym no_order) (zero_at a.older.items 0 h.older (omega arith), zero_at a.newer.items 0 h.newer (omega arith));
     runs = λ x e. absurd (both_ways false refl (ap (λ xs. holds xs x) (sym no_order) ∙ e));

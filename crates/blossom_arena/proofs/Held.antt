@@ -1,6 +1,7 @@
 -- The duals of the nodes that hold a vertex, where a dual changes and where a blossom comes or goes.
-use Rattle.std.proofs.Common.{◌≡◌, ℕ, suc, ◌*◌, ◌≤◌, ◌<◌, Bool, true, false, ◌||◌, ◌&&◌, eqb, cond, List, [], ◌∷◌, length, refl, sym, ap, ◌∙◌, subst, arith, ⊎_elim}
+use Rattle.std.proofs.Common.{◌≡◌, ℕ, suc, ◌*◌, ◌≤◌, ◌<◌, Bool, true, false, ◌||◌, ◌&&◌, eqb, cond, List, [], ◌∷◌, length, refl, sym, ap, ◌∙◌, subst, arith, ⊎_elim, FitsSigned}
 use Rattle.std.specs.Prelude.{ℤ, pos, neg_ℤ, ◌+ℤ◌, ◌-ℤ◌, ◌*ℤ◌, ◌≤ℤ◌, slice_set, All}
+use Rattle.std.specs.Int.{w64}
 use Rattle.std.specs.List.{AllByRecursion}
 use Rattle.std.proofs.Math.IntN.{+ℤ_idl}
 use Rattle.std.proofs.lemmas.Bool.{eqb-true, eqb-false, ne_eqb, or_parts, or_cases, both_ways, cases_lt}
@@ -11,7 +12,7 @@ use Rattle.graph_theory.specs.Duals.{IsNumber}
 use Rattle.graph_theory.specs.Parts.{holds}
 use Rattle.blossom_arena.specs.declared.links.Link.{Link}
 use Rattle.blossom_arena.specs.Family.{Blossom, names_of, is_vertex, is_node, is_child, is_outermost, outermost, members_of, union_of, made_of, without, dual_at, IsNested}
-use Rattle.blossom_arena.specs.Slack.{IsCover, held_by}
+use Rattle.blossom_arena.specs.Slack.{IsDualSum, held_by}
 use Rattle.blossom_arena.specs.Fields.{inner_of}
 use Rattle.blossom_arena.proofs.Lists.{by_test, AllNew}
 use Rattle.blossom_arena.proofs.Nested.{vertex_range, name_range, names_new, not_new, outermost_parts, blossoms_few}
@@ -59,22 +60,19 @@ held_within : (ys : List ℤ) (bs : List Blossom) (v : ℕ) → All IsNumber ys 
 held_within ys [] v all = record { low = omega (arith, ints); high = omega (arith, ints) }
 held_within ys (b ∷ older) v all = one_more (holds b.members v) (dual_at ys b.node) (held_by (dual_at ys) older v) (length older) (dual_number ys b.node all) (held_within ys older v all)
 
-pub cover_range : (n : ℕ) (ys : List ℤ) (bs : List Blossom) (v : ℕ) → n ≤ GRAPH_VERTEX_LIMIT → IsNested n bs → All IsNumber ys → IsCover (dual_at ys v +ℤ held_by (dual_at ys) bs v)
-cover_range n ys bs v few nested all =
+pub dual_sum_range : (n : ℕ) (ys : List ℤ) (bs : List Blossom) (v : ℕ) → n ≤ GRAPH_VERTEX_LIMIT → IsNested n bs → All IsNumber ys → IsDualSum (dual_at ys v +ℤ held_by (dual_at ys) bs v)
+dual_sum_range n ys bs v few nested all =
     let most : 2 * length bs ≤ n = blossoms_few n bs nested in
     let held = held_within ys bs v all in
     let own = dual_number ys v all in
     (omega (arith, ints, most, few, held.low, held.high, own.0, own.1), omega (arith, ints, most, few, held.low, held.high, own.0, own.1))
 
--- and with a number added that is no farther from 0 than two duals
-pub inner_range : (n : ℕ) (ys : List ℤ) (bs : List Blossom) (v : ℕ) (x z : ℤ) → n ≤ GRAPH_VERTEX_LIMIT → IsNested n bs → All IsNumber ys → x ≡ inner_of (dual_at ys) bs v
-    → neg_ℤ (pos 2 *ℤ NUMBER_LIMIT) ≤ℤ z → z ≤ℤ (pos 2 *ℤ NUMBER_LIMIT) → IsCover (x +ℤ z)
-inner_range n ys bs v x z few nested all is low high =
-    let most : 2 * length bs ≤ n = blossoms_few n bs nested in
-    let held = held_within ys bs v all in
-    let own = dual_number ys v all in
+-- without the dual of the outermost node they fit into 64 bits
+pub inner_fits : (n : ℕ) (ys : List ℤ) (bs : List Blossom) (v : ℕ) → n ≤ GRAPH_VERTEX_LIMIT → IsNested n bs → All IsNumber ys → FitsSigned w64 (inner_of (dual_at ys) bs v)
+inner_fits n ys bs v few nested all =
+    let sum = dual_sum_range n ys bs v few nested all in
     let out = dual_number ys (outermost bs v) all in
-    (omega (arith, ints, is, most, few, held.low, held.high, own.0, own.1, out.0, out.1, low, high), omega (arith, ints, is, most, few, held.low, held.high, own.0, own.1, out.0, out.1, low, high))
+    omega (arith, ints, sum.0, sum.1, out.0, out.1)
 
 -- a dual that changes is that of no other node
 held_past : (ys : List ℤ) (bs : List Blossom) (node v : ℕ) (z : ℤ) → holds (names_of bs) node ≡ false → held_by (dual_at (slice_set ys node z)) bs v ≡ held_by (dual_at ys) bs v
@@ -135,10 +133,10 @@ counts_once own true false p d vertex blossom = rw (blossom refl) (omega (arith,
 counts_once own false has p d vertex blossom = rw (vertex refl) (omega (arith, ints))
 
 module _ (n : ℕ) (bs : List Blossom) (v : ℕ) (nested : IsNested n bs) (iv : is_vertex n v ≡ true) where
-  cover_raised : (ys : List ℤ) (node : ℕ) (d : ℤ) → is_node n bs node ≡ true → node < length ys
+  dual_sum_raised : (ys : List ℤ) (node : ℕ) (d : ℤ) → is_node n bs node ≡ true → node < length ys
       → dual_at (slice_set ys node (dual_at ys node +ℤ d)) v +ℤ held_by (dual_at (slice_set ys node (dual_at ys node +ℤ d))) bs v
       ≡ (dual_at ys v +ℤ held_by (dual_at ys) bs v) +ℤ cond (holds (members_of bs node) v) d (pos 0)
-  cover_raised ys node d is h =
+  dual_sum_raised ys node d is h =
       let own = dual_raised ys node v d h in
       let held = held_raised ys bs node v d (names_new n bs nested) h in
       let once = counts_once (eqb node v) (holds (names_of bs) node) (holds (members_of bs node) v) true d
@@ -154,7 +152,7 @@ module _ (n : ℕ) (bs : List Blossom) (v : ℕ) (nested : IsNested n bs) (iv : 
   pub inner_outer : (ys : List ℤ) (node : ℕ) (d : ℤ) → is_outermost n bs node ≡ true → node < length ys
       → inner_of (dual_at (slice_set ys node (dual_at ys node +ℤ d))) bs v ≡ inner_of (dual_at ys) bs v
   inner_outer ys node d outer h =
-      let all = cover_raised ys node d (outermost_parts n bs node outer).0 h in
+      let all = dual_sum_raised ys node d (outermost_parts n bs node outer).0 h in
       let out = dual_raised ys node (outermost bs v) d h in
       let same = ap (λ q. cond q d (pos 0)) (outer_member n bs v nested iv node outer) in
       omega (arith, ints, all, out, same)
@@ -162,7 +160,7 @@ module _ (n : ℕ) (bs : List Blossom) (v : ℕ) (nested : IsNested n bs) (iv : 
   pub inner_child : (ys : List ℤ) (node : ℕ) (d : ℤ) → is_node n bs node ≡ true → is_child bs node ≡ true → node < length ys
       → inner_of (dual_at (slice_set ys node (dual_at ys node +ℤ d))) bs v ≡ inner_of (dual_at ys) bs v +ℤ cond (holds (members_of bs node) v) d (pos 0)
   inner_child ys node d is child h =
-      let all = cover_raised ys node d is h in
+      let all = dual_sum_raised ys node d is h in
       let out = dual_raised ys node (outermost bs v) d h in
       let other : eqb node (outermost bs v) ≡ false = ne_eqb node (outermost bs v) (λ s. both_ways (is_child bs node) (ap (is_child bs) s ∙ outermost_free n bs v nested iv) child) in
       let none = ap (λ q. cond q d (pos 0)) other in

@@ -33,6 +33,7 @@ pub run_keeps : (f f' : List ℕ) (r : Run) (xs : List ℕ) → IsRun f r xs →
 run_keeps f f' r xs h same = record {
   vertices = walk_front r.size f f' r.head (λ y e. same y (ap (λ zs. holds (front zs) y) (sym h.vertices) ∙ e)) ∙ h.vertices;
   tail = h.tail;
+  core = h.core;
 }
 
 heads : (x y : ℕ) (xs ys : List ℕ) → x ∷ xs ≡ y ∷ ys → x ≡ y

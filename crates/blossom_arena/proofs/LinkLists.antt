@@ -1,5 +1,5 @@
 -- Lists of links in two parts, and lists of different numbers in two parts.
-use Rattle.std.proofs.Common.{◌≡◌, ℕ, true, false, ◌||◌, eqb, List, [], ◌∷◌, ◌++◌, refl, sym, ap, ◌∙◌}
+use Rattle.std.proofs.Common.{◌≡◌, ℕ, zero, suc, ◌+◌, ◌<◌, true, false, ◌||◌, eqb, List, [], ◌∷◌, ◌++◌, drop, length, refl, sym, ap, ◌∙◌, arith, get_or}
 use Rattle.std.specs.List.{AllByRecursion}
 use Rattle.std.proofs.lemmas.Bool.{eqb-true, or_parts, or_from, both_ways, false_from_ne_true}
 use Rattle.graph_theory.specs.Parts.{holds}
@@ -48,3 +48,11 @@ each_link P (l ∷ links) h = (h l.node (first_in l.node (nodes_of links)), each
 
 pub all_inside : (ring : List Link) → AllByRecursion (λ (l : Link). in_ring ring l.node ≡ true) ring
 all_inside ring = each_link (λ x. in_ring ring x ≡ true) ring (λ x e. e)
+
+-- what is left of a list begins with the one that is read
+pub drop_next : (xs : List Link) (i : ℕ) (d x : Link) → i < length xs → x ≡ get_or xs i d → drop i xs ≡ x ∷ drop (i + 1) xs
+drop_next [] i d x low e = absurd (omega arith)
+drop_next (y ∷ ys) zero d x low e = ap (λ z. z ∷ ys) (sym e)
+drop_next (y ∷ ys) (suc i) d x low e =
+    let more : suc i + 1 ≡ suc (i + 1) = omega arith in
+    drop_next ys i d x (omega arith) e ∙ ap (λ k. x ∷ drop k (y ∷ ys)) (sym more)

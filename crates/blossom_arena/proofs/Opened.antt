@@ -1,17 +1,16 @@
 -- The nodes of a ring come out as outermost nodes where their blossom is taken away.
-use Rattle.std.proofs.Common.{◌≡◌, ℕ, ◌<◌, ◌≢◌, true, false, not, eqb, cond, List, [], ◌∷◌, ◌++◌, length, refl, sym, ap, ◌∙◌, subst, arith, ⊎_elim, get_or}
+use Rattle.std.proofs.Common.{◌≡◌, ℕ, ◌≢◌, true, false, not, eqb, cond, List, [], ◌∷◌, ◌++◌, refl, sym, ap, ◌∙◌, subst, arith, ⊎_elim}
 use Rattle.std.proofs.lemmas.Bool.{eqb-false, ne_eqb, false_from_ne_true, or_cases, or_parts, both_ways, and_from}
 use Rattle.std.proofs.lemmas.List.Concat.{flat_map-cons}
 use Rattle.graph_theory.specs.Parts.{holds}
 use Rattle.blossom_arena.specs.declared.links.Link.{Link}
 use Rattle.blossom_arena.specs.Family.{Blossom, nodes_of, in_ring, names_of, is_vertex, is_node, is_child, is_outermost, outermost, members_of, union_of, ring_of, without, IsNested}
-use Rattle.blossom_arena.specs.Fields.{parent_of, lowered}
-use Rattle.blossom_arena.proofs.Lists.{by_test}
+use Rattle.blossom_arena.specs.Fields.{parent_of}
+use Rattle.blossom_arena.proofs.Lists.{by_test, AllNew, new_from_distinct}
 use Rattle.blossom_arena.proofs.Nested.{new_free, child_is_node, older_name}
-use Rattle.blossom_arena.proofs.Sets.{members_here, members_past, in_union, of_union, outermost_has, outermost_by_member}
+use Rattle.blossom_arena.proofs.Sets.{members_here, members_past, outermost_has, outermost_by_member}
 use Rattle.blossom_arena.proofs.Parents.{ring_child}
 use Rattle.blossom_arena.proofs.Taken.{node_without, members_without, nested_without, outermost_stays, parent_without}
-use Rattle.blossom_arena.proofs.Writes.{lowered_out, lowered_in}
 
 union_past : (b : Blossom) (older : List Blossom) (ring : List Link) → in_ring ring b.node ≡ false → union_of (b ∷ older) ring ≡ union_of older ring
 union_past b older [] out = refl
@@ -59,25 +58,10 @@ outermost_without n bs a v h free iv m =
     let ne : eqb a o ≡ false = ne_eqb a o (λ s. both_ways (holds (members_of bs a) v) m (ap (λ x. holds (members_of bs x) v) s ∙ has.1)) in
     outermost_by_member n (without bs a) o v (nested_without n bs a h free) (outermost_stays n bs a o ne has.0) (ap (λ ms. holds ms v) (members_without bs a o ne) ∙ has.1)
 
--- the table of outermost nodes once each child is put at its vertices
-pub outermost_lowered : (n : ℕ) (bs : List Blossom) (a v : ℕ) (t : List ℕ) (run : ℕ → List ℕ) → IsNested n bs → holds (names_of bs) a ≡ true → is_child bs a ≡ false → is_vertex n v ≡ true → v < length t
-    → ((c : ℕ) → in_ring (ring_of bs a) c ≡ true → run c ≡ members_of bs c) → get_or t v 0 ≡ outermost bs v
-    → get_or (lowered t run (nodes_of (ring_of bs a))) v 0 ≡ outermost (without bs a) v
-outermost_lowered n bs a v t run h k free iv low runs was =
-    let ring : List Link = ring_of bs a in
-    let nested = nested_without n bs a h free in
-    let tells : (c : ℕ) → in_ring ring c ≡ true → holds (members_of bs c) v ≡ true → outermost (without bs a) v ≡ c = λ c r m.
-    outermost_by_member n (without bs a) c v nested (child_outer n bs a c h free r) (ap (λ ms. holds ms v) (members_without bs a c (ring_other bs a c free r)) ∙ m) in
-    by_test (holds (members_of bs a) v)
-    (λ m.
-    let found = of_union bs ring v (sym (ap (λ ms. holds ms v) (ring_members n bs a h k)) ∙ m) in
-    let is : outermost (without bs a) v ≡ found.node = tells found.node found.within found.has in
-    lowered_in t run (nodes_of ring) v found.node low found.within (ap (λ ms. holds ms v) (runs found.node found.within) ∙ found.has)
-    (λ c r e. sym (tells c r (sym (ap (λ ms. holds ms v) (runs c r)) ∙ e)) ∙ is)
-    ∙ sym is)
-    (λ m.
-    lowered_out t run (nodes_of ring) v low
-    (λ c r. false_from_ne_true (holds (run c) v) (λ e. both_ways (holds (members_of bs a) v) m
-    (ap (λ ms. holds ms v) (ring_members n bs a h k) ∙ in_union bs ring c v r (sym (ap (λ ms. holds ms v) (runs c r)) ∙ e))))
-    ∙ was
-    ∙ sym (outermost_without n bs a v h free iv m))
+-- the nodes of a ring are different
+pub ring_different : (n : ℕ) (bs : List Blossom) (a : ℕ) → IsNested n bs → holds (names_of bs) a ≡ true → AllNew (nodes_of (ring_of bs a))
+ring_different n [] a h k = absurd (both_ways false refl k)
+ring_different n (b ∷ older) a h k =
+    by_test (eqb b.node a)
+    (λ e. subst (λ q. AllNew (nodes_of (cond q b.ring (ring_of older a)))) (sym e) (new_from_distinct (nodes_of b.ring) h.0.circuit.different))
+    (λ e. subst (λ q. AllNew (nodes_of (cond q b.ring (ring_of older a)))) (sym e) (ring_different n older a h.1 (older_name b older a e k)))

@@ -1,6 +1,6 @@
 -- What a shrink leaves: one blossom more before those that stood.
-use Rattle.std.proofs.Common.{◌≡◌, ℕ, ◌+◌, ◌≤◌, ◌<◌, ◌≢◌, true, false, eqb, leb, cond, List, [], ◌∷◌, length, refl, sym, ap, ap₂, ◌∙◌, subst, arith, ⊎_elim, Some, None}
-use Rattle.std.specs.Prelude.{slice_set, slice_index, IsSome, is_some, ℤ, pos, ◌+ℤ◌, ◌≤ℤ◌}
+use Rattle.std.proofs.Common.{◌≡◌, ℕ, ◌+◌, ◌≤◌, ◌<◌, true, false, eqb, leb, cond, List, [], ◌∷◌, length, refl, sym, ap, ◌∙◌, subst, arith, ⊎_elim, Some, None}
+use Rattle.std.specs.Prelude.{slice_set, slice_index, IsSome, is_some, ℤ, pos, ◌≤ℤ◌, All}
 use Rattle.std.specs.List.{AllByRecursion}
 use Rattle.std.specs.Global.{Vec}
 use Rattle.std.proofs.lemmas.Bool.{eqb-true, eqb-false, eq-eqb, or_cases, or_parts, or_from, or_left, both_ways, false_from_ne_true, lt-leb, and_right}
@@ -16,31 +16,30 @@ use Rattle.blossom_arena.specs.declared.arena.Arena.TheInside.{Inside}
 use Rattle.blossom_arena.specs.Tables.{walk, links_of, filled, next_node, threaded, noted}
 use Rattle.graph_theory.specs.Nested.{most_blossoms}
 use Rattle.graph_theory.specs.Duals.{IsNumber}
-use Rattle.blossom_arena.specs.Family.{Blossom, nodes_of, in_ring, names_of, is_vertex, is_node, is_child, members_of, union_of, made_of, dual_at, rested, HasDuals, HasMotions, IsCircuit, IsNext, IsNested, outermost}
-use Rattle.blossom_arena.specs.Tables.{last_of}
+use Rattle.blossom_arena.specs.Family.{Blossom, nodes_of, in_ring, names_of, is_vertex, is_node, is_child, members_of, union_of, made_of, dual_at, rested, HasDuals, HasMotions, IsCircuit, IsNext, IsNested}
 use Rattle.blossom_arena.specs.declared.label.Label.TheVariants.{Out}
 use Rattle.blossom_arena.specs.Moving.{DualTable}
 use Rattle.blossom_arena.proofs.Rested.{motions_shrunk}
-use Rattle.blossom_arena.specs.Fields.{IsSound, blossoms_of, order_of, key_of, kept_of, kept_or_none, runs_of, IsRun, joined, parent_entry, build, IsOrder, sum_at, added, outer_dual, inner_of}
+use Rattle.blossom_arena.specs.Fields.{IsOrder, IsPlacement, IsRun, IsSound, blossoms_of, build, core_at, joined, kept_of, kept_or_none, key_of, order_of, parent_entry, run_of, runs_of, vertices_of}
+use Rattle.blossom_arena.specs.Placement.{Placement, SetTables, absorbed, given, placement_of, taking_in}
 use Rattle.blossom_arena.proofs.Lists.{by_test, AllNew, new_from_distinct, first_in, later_in, each_from}
-use Rattle.blossom_arena.proofs.Nested.{circuit_outer, circuit_node, outermost_parts, node_range, vertex_range, range_vertex, name_is_node}
-use Rattle.blossom_arena.proofs.Sets.{members_past, member_vertex}
-use Rattle.blossom_arena.proofs.Tails.{front, front_sub, tails_apart}
-use Rattle.blossom_arena.proofs.Writes.{length-filled, filled_at, length-threaded, threaded_out, threaded_walk, length-noted, noted_out, noted_links, walk_same, links_same}
+use Rattle.blossom_arena.proofs.Nested.{circuit_outer, circuit_node, outermost_parts, node_range}
+use Rattle.blossom_arena.proofs.Sets.{members_past}
+use Rattle.blossom_arena.proofs.Writes.{length-filled, length-threaded, threaded_out, threaded_walk, length-noted, noted_out, noted_links, walk_same, links_same}
 use Rattle.blossom_arena.proofs.Orders.{put_first_order, walk_order}
 use Rattle.blossom_arena.proofs.Builds.{build-same}
-use Rattle.blossom_arena.proofs.Joins.{length-joined, joined_out, run_keeps}
-use Rattle.blossom_arena.proofs.Sound.{rings, order_names, order_len, order_new, order_range, order_no_zero, node_run, ring_walk_child, circuit_joins, joined_run, circuit_union_new}
+use Rattle.blossom_arena.proofs.Joins.{length-joined}
+use Rattle.blossom_arena.proofs.Sound.{rings, order_names, order_len, order_new, order_range, order_no_zero, node_run, ring_walk_child, circuit_joins, core_in, joined_run}
 use Rattle.blossom_arena.proofs.Marks.{shrunk_entry}
-use Rattle.blossom_arena.proofs.Held.{inner_shrunk}
-use Rattle.blossom_arena.proofs.Added.{length-added, added_at}
+use Rattle.blossom_arena.proofs.TakenIn.{placement_shrunk}
+use Rattle.blossom_arena.proofs.Spreads.{spread_places}
+use Rattle.blossom_arena.proofs.Stays.{AddsKept, each_some, kept_stays, kept_there, new_kept, node_stays, not_there, run_new, run_same, run_stays}
 
-key_of_node : (n key : ℕ) → key_of n (n + 1 + key) ≡ key
-key_of_node n key = omega arith
-
--- what a shrink keeps of its circuit
-abbrev pub new_kept : Inside → List Link → Kept
-new_kept a ring = record { first = next_node ring 0; links = length ring; run = joined_run a ring }
+-- the sets once the new node has taken over its circuit's
+abbrev pub with_circuit : Inside → List Link → Slab Kept → List ℕ → ℕ → Placement
+with_circuit a ring kept followers node =
+    absorbed (λ x. vertices_of followers (run_of a.vertex_count kept x)) (core_at a.vertex_count kept) (dual_at a.duals.values) (joined_run a ring).core node
+    (given (placement_of a.partition) (joined_run a ring).core node (dual_at a.duals.values ((placement_of a.partition).top ((placement_of a.partition).set (joined_run a ring).core)))) (nodes_of ring)
 
 -- how the fields change in a shrink
 pub record Shrinks (a b : Inside) (ring : List Link) (node key : ℕ) : Type 0 where
@@ -56,8 +55,7 @@ pub record Shrinks (a b : Inside) (ring : List Link) (node key : ℕ) : Type 0 w
   pub nexts : b.nexts.items ≡ threaded a.nexts.items ring (next_node ring 0)
   pub edges : b.edges.items ≡ noted a.edges.items ring
   pub parents : b.parents.items ≡ slice_set (filled a.parents.items (nodes_of ring) node) node 0
-  pub outer : b.outer.items ≡ filled a.outer.items (union_of (blossoms_of a) ring) node
-  pub inner : b.inner.items ≡ added a.inner.items (outer_dual a.outer.items a.duals.values) (union_of (blossoms_of a) ring)
+  pub partition : placement_of b.partition ≡ with_circuit a ring b.kept b.followers.items node
   pub older : b.older.items ≡ slice_set (slice_set a.older.items node (slice_index a.older.items 0)) 0 node
   pub newer : b.newer.items ≡ slice_set (slice_set a.newer.items (slice_index a.older.items 0) node) node 0
 
@@ -76,14 +74,6 @@ ring_written nexts edges [] new in_nexts in_edges = refl
 ring_written nexts edges (l ∷ rest) new in_nexts in_edges =
     ap (links_of (noted edges (l ∷ rest))) (threaded_walk nexts (l ∷ rest) l.node new in_nexts) ∙ noted_links edges (l ∷ rest) new in_edges
 
--- a key that is empty is none of these
-other_key : (n : ℕ) (kept : Slab Kept) (x key : ℕ) → IsSome (get kept (key_of n x)) → get kept key ≡ None → key_of n x ≢ key
-other_key n kept x key some none same = both_ways (is_some (get kept key)) (ap (λ o. is_some o) none) (ap (λ k. is_some (get kept k)) (sym same) ∙ some)
-
-pub each_some : (n : ℕ) (kept : Slab Kept) (xs : List ℕ) (x : ℕ) → AllByRecursion (λ y. IsSome (get kept (key_of n y))) xs → holds xs x ≡ true → IsSome (get kept (key_of n x))
-each_some n kept [] x h e = absurd (both_ways false refl e)
-each_some n kept (y ∷ ys) x h e = ⊎_elim (λ s. subst (λ z. IsSome (get kept (key_of n z))) (eqb-true y x s) h.0) (λ m. each_some n kept ys x h.1 m) (or_cases (eqb y x) (holds ys x) e)
-
 -- a new blossom's dual changes no older one's
 other_duals : (n : ℕ) (bs : List Blossom) (ys : List ℤ) (node : ℕ) → holds (names_of bs) node ≡ false → AllByRecursion (λ (b : Blossom). pos 0 ≤ℤ dual_at ys b.node) bs → AllByRecursion (λ (b : Blossom). pos 0 ≤ℤ dual_at (slice_set ys node (pos 0)) b.node) bs
 other_duals n [] ys node new each = tt
@@ -91,9 +81,9 @@ other_duals n (b ∷ older) ys node new each =
     let p = or_parts (eqb b.node node) (holds (names_of older) node) new in
     (rw (get_or-set_other ys node b.node (pos 0) (pos 0) (eqb-false b.node node p.0)) each.0, other_duals n older ys node p.1 each.1)
 
-module _ (a : Inside) (duals : DualTable) (inner : Vec ℤ) (parents nexts edges outer followers older newer : Vec ℕ) (kept : Slab Kept) (ring : List Link) (node key : ℕ) where
+module _ (a : Inside) (duals : DualTable) (partition : SetTables) (parents nexts edges followers older newer : Vec ℕ) (kept : Slab Kept) (ring : List Link) (node key : ℕ) where
   abbrev pub after : Inside
-  after = record { vertex_count = a.vertex_count; duals = duals; inner = inner; parents = parents; nexts = nexts; edges = edges; outer = outer; followers = followers; older = older; newer = newer; kept = kept }
+  after = record { vertex_count = a.vertex_count; duals = duals; partition = partition; parents = parents; nexts = nexts; edges = edges; followers = followers; older = older; newer = newer; kept = kept }
 
   module _ (s : IsSound a) (c : IsCircuit a.vertex_count (blossoms_of a) ring) (h : Shrinks a after ring node key) where
     abbrev n : ℕ
@@ -112,29 +102,26 @@ module _ (a : Inside) (duals : DualTable) (inner : Vec ℤ) (parents nexts edges
     within : node ≤ n + most_blossoms n
     within = omega (arith, h.number, h.in_range, h.capacity, s.room)
 
-    node_key : key_of n node ≡ key
-    node_key = ap (key_of n) h.number ∙ key_of_node n key
-
-    alive : (x : ℕ) → holds xs x ≡ true → IsSome (get a.kept (key_of n x))
-    alive x e = each_some n a.kept xs x s.kept e
+    more : AddsKept a ring kept followers.items node key
+    more = record { number = h.number; vacant = h.vacant; updates = h.updates; joins = h.followers }
 
     not_in_order : holds xs node ≡ false
-    not_in_order = false_from_ne_true (holds xs node) (λ e. other_key n a.kept node key (alive node e) h.vacant node_key)
+    not_in_order = not_there a ring kept followers.items node key s c more
 
     pub fresh : is_node n bs node ≡ false
     fresh = or_from (is_vertex n node) (holds (names_of bs) node) (and_right (leb 1 node) (leb node n) (lt-leb node n above)) (ap (λ ys. holds ys node) (order_names a) ∙ not_in_order)
 
     same_kept : (x : ℕ) → holds xs x ≡ true → get kept (key_of n x) ≡ get a.kept (key_of n x)
-    same_kept x e = h.updates.others (key_of n x) (other_key n a.kept x key (alive x e) h.vacant)
-
-    at_new : get kept (key_of n node) ≡ Some (new_kept a ring)
-    at_new = ap (get kept) node_key ∙ h.updates.changed
-
-    kept_new : kept_of n kept node ≡ new_kept a ring
-    kept_new = ap kept_or_none at_new
+    same_kept = kept_stays a ring kept followers.items node key s c more
 
     kept_same : (x : ℕ) → holds xs x ≡ true → kept_of n kept x ≡ kept_of n a.kept x
     kept_same x e = ap kept_or_none (same_kept x e)
+
+    at_new : get kept (key_of n node) ≡ Some (new_kept a ring)
+    at_new = kept_there a ring kept followers.items node key s c more
+
+    kept_new : kept_of n kept node ≡ new_kept a ring
+    kept_new = ap kept_or_none at_new
 
     new : AllNew (nodes_of ring)
     new = new_from_distinct (nodes_of ring) c.different
@@ -206,26 +193,6 @@ module _ (a : Inside) (duals : DualTable) (inner : Vec ℤ) (parents nexts edges
     joins : IsRun (joined a.followers.items 0 (runs_of n a.kept ring)) (joined_run a ring) (union_of bs ring)
     joins = (circuit_joins a ring s c).0
 
-    tails_differ : (x y : ℕ) → is_node n bs x ≡ true → holds (front (members_of bs x)) y ≡ true → (ls : List Link) → ((z : ℕ) → in_ring ls z ≡ true → in_ring ring z ≡ true) → AllByRecursion (λ (r : Run). y ≢ r.tail) (runs_of n a.kept ls)
-    tails_differ x y k e [] sub = tt
-    tails_differ x y k e (l ∷ ls) sub =
-        let in_it : in_ring ring l.node ≡ true = sub l.node (first_in l.node (nodes_of ls)) in
-        let outer_is = circuit_outer n bs ring l.node c in_it in
-        let last = (node_run a s l.node (circuit_node n bs ring l.node c in_it)).tail in (
-          (λ same. both_ways (holds (front (members_of bs x)) (last_of 0 (members_of bs l.node))) (tails_apart n bs l.node x s.family.nested outer_is k)
-              (subst (λ z. holds (front (members_of bs x)) z ≡ true) (same ∙ sym last) e)),
-          tails_differ x y k e ls (λ z m. sub z (later_in l.node (nodes_of ls) z m)),
-        )
-
-    run_stays : (x : ℕ) → holds xs x ≡ true → IsRun followers.items (kept_of n a.kept x).run (members_of bs x)
-    run_stays x e =
-        let k : is_node n bs x ≡ true = name_is_node n bs x (ap (λ ys. holds ys x) (order_names a) ∙ e) in
-        subst (λ f. IsRun f (kept_of n a.kept x).run (members_of bs x)) (sym h.followers)
-        (run_keeps a.followers.items (joined a.followers.items 0 (runs_of n a.kept ring)) (kept_of n a.kept x).run (members_of bs x) (s.runs x e)
-        (λ y m. joined_out a.followers.items 0 (runs_of n a.kept ring) y
-        (λ z. absurd (omega (arith, z, (vertex_range n y (member_vertex n bs x y s.family.nested k (front_sub (members_of bs x) y m))).0)))
-        (tails_differ x y k m ring (λ z r. r))))
-
     runs_after : (x : ℕ) → holds (node ∷ xs) x ≡ true → IsRun followers.items (kept_of n kept x).run (members_of (made_of bs ring node ∷ bs) x)
     runs_after x e =
         by_test (eqb node x)
@@ -236,7 +203,26 @@ module _ (a : Inside) (duals : DualTable) (inner : Vec ℤ) (parents nexts edges
         (λ other.
         let there : holds xs x ≡ true = ⊎_elim (λ t. absurd (both_ways (eqb node x) other t)) (λ m. m) (or_cases (eqb node x) (holds xs x) e) in
         subst (λ ms. IsRun followers.items (kept_of n kept x).run ms) (sym (members_past (made_of bs ring node) bs x other))
-        (subst (λ (k : Kept). IsRun followers.items k.run (members_of bs x)) (sym (kept_same x there)) (run_stays x there)))
+        (subst (λ (k : Kept). IsRun followers.items k.run (members_of bs x)) (sym (kept_same x there)) (run_stays a ring kept followers.items node key s c more x there)))
+
+    -- the sets
+    places_stay : (with_circuit a ring kept followers.items node).places ≡ length a.partition.sets
+    places_stay =
+        spread_places
+        (taking_in (λ x. vertices_of followers.items (run_of n kept x)) (core_at n kept) (dual_at a.duals.values) (joined_run a ring).core node)
+        (given (placement_of a.partition) (joined_run a ring).core node (dual_at a.duals.values ((placement_of a.partition).top ((placement_of a.partition).set (joined_run a ring).core)))) (nodes_of ring)
+
+    placement_after : IsPlacement n (core_at n kept) (made_of bs ring node ∷ bs) (dual_at duals.values) (placement_of partition)
+    placement_after =
+        let core = core_in a ring s c in
+        subst (λ (ys : List ℤ). IsPlacement n (core_at n kept) (made_of bs ring node ∷ bs) (dual_at ys) (placement_of partition)) (sym h.duals)
+        (subst (IsPlacement n (core_at n kept) (made_of bs ring node ∷ bs) (dual_at (slice_set a.duals.values node (pos 0)))) (sym h.partition)
+        (placement_shrunk n bs (core_at n a.kept) (core_at n kept) a.duals.values (placement_of a.partition) ring node core.node (joined_run a ring).core
+        (λ x. vertices_of followers.items (run_of n kept x)) s.family.few (next, s.family.nested) (λ x is. (node_run a s x is).core)
+        (subst (λ (ys : List ℤ). All IsNumber ys) h.duals duals_after.in_range) (omega (arith, within, s.family.duals.one_each)) s.partition
+        (λ x r. (node_stays a ring kept followers.items node key s c more x (circuit_node n bs ring x c r)).vertices)
+        (λ x is. ap (λ (r : Run). r.core) (run_same a ring kept followers.items node key s c more x is))
+        (ap (λ (r : Run). r.core) (run_new a ring kept followers.items node key s c more)) core.within (core.is ∙ core.core_of)))
 
     pub sound_after : IsSound after
     sound_after = record {
@@ -252,19 +238,10 @@ module _ (a : Inside) (duals : DualTable) (inner : Vec ℤ) (parents nexts edges
         edges = ap length h.edges ∙ length-noted a.edges.items ring ∙ s.places.edges;
         older = ap length h.older ∙ length-set (slice_set a.older.items node (slice_index a.older.items 0)) 0 node ∙ length-set a.older.items node (slice_index a.older.items 0) ∙ s.places.older;
         newer = ap length h.newer ∙ length-set (slice_set a.newer.items (slice_index a.older.items 0) node) node 0 ∙ length-set a.newer.items (slice_index a.older.items 0) node ∙ s.places.newer;
-        outer = ap length h.outer ∙ length-filled a.outer.items (union_of bs ring) node ∙ s.places.outer;
-        inner = ap length h.inner ∙ length-added a.inner.items (outer_dual a.outer.items a.duals.values) (union_of bs ring) ∙ s.places.inner;
+        partition = ap (λ (p : Placement). p.places) h.partition ∙ places_stay ∙ s.places.partition;
         followers = ap length h.followers ∙ length-joined a.followers.items 0 (runs_of n a.kept ring) ∙ s.places.followers;
       };
-      outer = λ v low high.
-          ap (λ t. slice_index t v) h.outer ∙ filled_at a.outer.items (union_of bs ring) node v (omega (arith, high, s.places.outer))
-          ∙ ap (λ o. cond (holds (union_of bs ring) v) node o) (s.outer v low high) ∙ ap (λ us. outermost us v) (sym blossoms_after);
-      inner = λ v low high.
-          ap (λ (t : List ℤ). sum_at t v) h.inner
-          ∙ added_at a.inner.items (outer_dual a.outer.items a.duals.values) (union_of bs ring) v (circuit_union_new n bs ring s.family.nested c) (omega (arith, high, s.places.inner))
-          ∙ ap₂ (λ (z : ℤ) (o : ℕ). z +ℤ cond (holds (union_of bs ring) v) (dual_at a.duals.values o) (pos 0)) (s.inner v low high) (s.outer v low high)
-          ∙ sym (inner_shrunk n bs v s.family.nested (range_vertex n v low high) a.duals.values ring node fresh above (omega (arith, within, s.family.duals.one_each)))
-          ∙ ap₂ (λ (ys : List ℤ) (us : List Blossom). inner_of (dual_at ys) us v) (sym h.duals) (sym blossoms_after);
+      partition = subst (λ (us : List Blossom). IsPlacement n (core_at n kept) us (dual_at duals.values) (placement_of partition)) (sym blossoms_after) placement_after;
       parents = λ x high.
           ap (λ t. slice_index t x) h.parents
           ∙ shrunk_entry n bs ring node a.parents.items x (next, s.family.nested) (omega (arith, within, s.places.parents)) (omega (arith, high, s.places.parents)) (s.parents x high)
@@ -272,7 +249,7 @@ module _ (a : Inside) (duals : DualTable) (inner : Vec ℤ) (parents nexts edges
       order = subst (IsOrder older.items newer.items 0) (sym order_after) order;
       runs = λ x e. subst (λ us. IsRun followers.items (kept_of n kept x).run (members_of us x)) (sym blossoms_after) (runs_after x (ap (λ ys. holds ys x) (sym order_after) ∙ e));
       kept = subst (AllByRecursion (λ x. IsSome (get kept (key_of n x)))) (sym order_after)
-          (ap (λ o. is_some o) at_new, each_from (λ x. IsSome (get kept (key_of n x))) xs (λ x e. ap (λ o. is_some o) (same_kept x e) ∙ alive x e));
+          (ap (λ o. is_some o) at_new, each_from (λ x. IsSome (get kept (key_of n x))) xs (λ x e. ap (λ o. is_some o) (same_kept x e) ∙ each_some n a.kept xs x s.kept e));
       only = λ x low some. ap (λ ys. holds ys x) order_after ∙ by_test (eqb node x)
           (λ same. or_left (eqb node x) (holds xs x) same)
           (λ other. later_in node xs x (s.only x low (ap (λ o. is_some o) (sym (h.updates.others (key_of n x) (λ e. eqb-false node x other (omega (arith, e, h.number, low))))) ∙ some)));

@@ -1,5 +1,5 @@
 -- What the fields of an arena keep, read off.
-use Rattle.std.proofs.Common.{◌≡◌, ℕ, ◌+◌, ◌≤◌, ◌<◌, true, false, eqb, leb, cond, List, [], ◌∷◌, length, refl, sym, ap, ◌∙◌, subst, arith, ⊎_elim}
+use Rattle.std.proofs.Common.{◌≡◌, ℕ, ◌+◌, ◌≤◌, ◌<◌, true, false, eqb, leb, cond, List, [], ◌∷◌, length, refl, sym, ap, ◌∙◌, subst, arith, ⊎_elim, ◌⊎◌, inl, inr, Bool, map}
 use Rattle.std.specs.Prelude.{slice_index}
 use Rattle.std.specs.List.{AllByRecursion}
 use Rattle.std.proofs.lemmas.Bool.{eqb-true, or_cases, false_from_ne_true, le-leb, lt-leb}
@@ -12,15 +12,15 @@ use Rattle.blossom_arena.specs.Tables.{walk}
 use Rattle.graph_theory.specs.Nested.{most_blossoms}
 use Rattle.blossom_arena.specs.Family.{Blossom, nodes_of, in_ring, names_of, is_vertex, is_node, is_child, members_of, union_of, ring_of, IsCircuit, IsNested}
 use Rattle.blossom_arena.specs.Tables.{last_of}
-use Rattle.blossom_arena.specs.Fields.{IsSound, blossoms_of, order_of, ring_at, kept_of, run_of, runs_of, vertices_of, IsRun, joined, joined_tail, joined_size}
+use Rattle.blossom_arena.specs.Fields.{IsRun, IsSound, blossoms_of, empty_run, joined, joined_size, joined_tail, kept_of, longer_of, longest_of, order_of, own_run, ring_at, run_of, runs_of, vertices_of}
 use Rattle.blossom_arena.proofs.Lists.{tails, AllNew, each_from, first_in, later_in, new_from_distinct, length-within, vertices, holds-vertices, length-vertices}
 use Rattle.blossom_arena.proofs.Nested.{names_new, name_range, node_range, vertex_range, child_is_node, circuit_outer, circuit_node}
-use Rattle.blossom_arena.proofs.Sets.{members_of_vertex, member_vertex, members_some, members_new, of_union, union_new}
+use Rattle.blossom_arena.proofs.Sets.{in_union, members_of_vertex, member_vertex, members_some, members_new, of_union, union_new}
 use Rattle.blossom_arena.proofs.Tails.{last_in}
 use Rattle.blossom_arena.proofs.Parents.{ring_child}
 use Rattle.blossom_arena.proofs.Writes.{length-walk, nodes-links}
 use Rattle.blossom_arena.proofs.Builds.{names-build, ring-build, length-build}
-use Rattle.blossom_arena.proofs.Joins.{IsJoined, join_is}
+use Rattle.blossom_arena.proofs.Joins.{IsJoined, join_is, run_size}
 
 -- the rings by the fields
 abbrev pub rings : Inside → ℕ → List Link
@@ -50,14 +50,14 @@ node_run a s x k = ⊎_elim
     (λ iv.
     let low : leb x a.vertex_count ≡ true = le-leb x a.vertex_count (vertex_range a.vertex_count x iv).1 in
     let members : members_of (blossoms_of a) x ≡ x ∷ [] = members_of_vertex a.vertex_count (blossoms_of a) x s.family.nested iv in
-    let one : Run = record { head = x; tail = x; size = 1 } in
-    let alone : IsRun a.followers.items one (x ∷ []) = record { vertices = refl; tail = refl } in
+    let one : Run = own_run x in
+    let alone : IsRun a.followers.items one (x ∷ []) = record { vertices = refl; tail = refl; core = first_in x [] } in
     subst (λ q. IsRun a.followers.items (cond q one (kept_of a.vertex_count a.kept x).run) (members_of (blossoms_of a) x)) (sym low)
     (subst (λ xs. IsRun a.followers.items one xs) (sym members) alone))
     (λ m.
     let there : holds (order_of a) x ≡ true = sym (ap (λ xs. holds xs x) (order_names a)) ∙ m in
     let high : leb x a.vertex_count ≡ false = lt-leb x a.vertex_count (order_range a s x there).0 in
-    subst (λ q. IsRun a.followers.items (cond q (record { head = x; tail = x; size = 1 }) (kept_of a.vertex_count a.kept x).run) (members_of (blossoms_of a) x)) (sym high)
+    subst (λ q. IsRun a.followers.items (cond q (own_run x) (kept_of a.vertex_count a.kept x).run) (members_of (blossoms_of a) x)) (sym high)
     (s.runs x there))
     (or_cases (is_vertex a.vertex_count x) (holds (names_of (blossoms_of a)) x) k)
 
@@ -103,7 +103,50 @@ joined_run a ring = record {
   head = slice_index (joined a.followers.items 0 (runs_of a.vertex_count a.kept ring)) 0;
   tail = joined_tail 0 (runs_of a.vertex_count a.kept ring);
   size = joined_size (runs_of a.vertex_count a.kept ring);
+  core = (longest_of empty_run (runs_of a.vertex_count a.kept ring)).core;
 }
+
+-- the node of a circuit whose run is the longest
+pub record HasCore (a : Inside) (ring : List Link) : Type 0 where
+  pub node : ℕ
+  pub within : in_ring ring node ≡ true
+  pub core : ℕ
+  pub core_of : core ≡ (run_of a.vertex_count a.kept node).core
+  pub is : (joined_run a ring).core ≡ core
+  pub has : holds (members_of (blossoms_of a) node) core ≡ true
+
+-- the longest of runs that aren't empty is one of them
+abbrev IsLongest : (ℕ → Run) → ℕ → List Link → Run → Type 0
+IsLongest run best ring first = (x : ℕ) × ((best ≡ x) ⊎ (in_ring ring x ≡ true)) × (longest_of first (map (λ (l : Link). run l.node) ring) ≡ run x)
+
+longest_next : (run : ℕ → Run) (best : ℕ) (l : Link) (ring : List Link) (t : Bool) → IsLongest run best ring (run best) → IsLongest run l.node ring (run l.node)
+    → (x : ℕ) × ((best ≡ x) ⊎ (in_ring (l ∷ ring) x ≡ true)) × (longest_of (cond t (run best) (run l.node)) (map (λ (k : Link). run k.node) ring) ≡ run x)
+longest_next run best l ring true r q = (r.0, ⊎_elim (λ s. inl s) (λ m. inr (later_in l.node (nodes_of ring) r.0 m)) r.1, r.2)
+longest_next run best l ring false r q =
+    (q.0, inr (⊎_elim (λ s. subst (λ y. in_ring (l ∷ ring) y ≡ true) s (first_in l.node (nodes_of ring))) (λ m. later_in l.node (nodes_of ring) q.0 m) q.1), q.2)
+
+longest_in : (run : ℕ → Run) (best : ℕ) (ring : List Link) → IsLongest run best ring (run best)
+longest_in run best [] = (best, inl refl, refl)
+longest_in run best (l ∷ ring) = longest_next run best l ring (leb (run l.node).size (run best).size) (longest_in run best ring) (longest_in run l.node ring)
+
+pub core_in : (a : Inside) (ring : List Link) → IsSound a → IsCircuit a.vertex_count (blossoms_of a) ring → HasCore a ring
+core_in a [] s c = absurd (omega (arith, c.at_least_three))
+core_in a (l ∷ ring) s c =
+    let n : ℕ = a.vertex_count in
+    let bs : List Blossom = blossoms_of a in
+    let k = circuit_node n bs (l ∷ ring) l.node c (first_in l.node (nodes_of ring)) in
+    let some : 1 ≤ (run_of n a.kept l.node).size = omega (arith, run_size a.followers.items (run_of n a.kept l.node) (members_of bs l.node) (node_run a s l.node k), members_some n bs l.node s.family.nested k) in
+    let r = longest_in (run_of n a.kept) l.node ring in
+    let within : in_ring (l ∷ ring) r.0 ≡ true = ⊎_elim (λ e. subst (λ z. in_ring (l ∷ ring) z ≡ true) e (first_in l.node (nodes_of ring))) (λ m. later_in l.node (nodes_of ring) r.0 m) r.1 in
+    let first : longer_of empty_run (run_of n a.kept l.node) ≡ run_of n a.kept l.node = ap (λ q. cond q empty_run (run_of n a.kept l.node)) (lt-leb (run_of n a.kept l.node).size 0 some) in
+    record {
+      node = r.0;
+      within = within;
+      core = (run_of n a.kept r.0).core;
+      core_of = refl;
+      is = ap (λ (q : Run). (longest_of q (runs_of n a.kept ring)).core) first ∙ ap (λ (q : Run). q.core) r.2;
+      has = (node_run a s r.0 (circuit_node n bs (l ∷ ring) r.0 c within)).core;
+    }
 
 pub circuit_joins : (a : Inside) (ring : List Link) → IsSound a → IsCircuit a.vertex_count (blossoms_of a) ring
     → IsRun (joined a.followers.items 0 (runs_of a.vertex_count a.kept ring)) (joined_run a ring) (union_of (blossoms_of a) ring)
@@ -124,10 +167,12 @@ circuit_joins a ring s c =
           (or_cases (eqb 0 v) (holds U v) e);
     } in
     let all = join_is f 0 0 [] bs (run_of n a.kept) ring start (λ x r. let k = circuit_node n bs ring x c r in (node_run a s x k, members_some n bs x s.family.nested k)) in
+    let core = core_in a ring s c in
     let walked : walk (length U) F (slice_index F 0) ≡ U = tails 0 0 (walk (length U) F (slice_index F 0)) U all.0 in (
       record {
         vertices = ap (λ k. walk k F (slice_index F 0)) all.2 ∙ walked;
         tail = sym all.1;
+        core = subst (λ z. holds U z ≡ true) (sym core.is) (in_union bs ring core.node core.core core.within core.has);
       },
       all.2,
     )

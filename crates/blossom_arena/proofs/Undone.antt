@@ -1,6 +1,6 @@
 -- What the steps of a dissolve need.
-use Rattle.std.proofs.Common.{◌≡◌, ℕ, ◌+◌, ◌<◌, true, false, List, length, refl, sym, ap, ap₂, ◌∙◌, subst, arith, Some, None}
-use Rattle.std.specs.Prelude.{ℤ, neg_ℤ, slice_index, All}
+use Rattle.std.proofs.Common.{◌≡◌, ℕ, ◌+◌, ◌<◌, true, false, List, length, sym, ap, ap₂, ◌∙◌, subst, arith, Some, None}
+use Rattle.std.specs.Prelude.{slice_index}
 use Rattle.std.specs.List.{AllByRecursion}
 use Rattle.slab.specs.Slab.{Slab, get, Updates}
 use Rattle.graph_theory.specs.Parts.{holds}
@@ -10,20 +10,16 @@ use Rattle.blossom_arena.specs.declared.runs.Kept.{Kept}
 use Rattle.blossom_arena.specs.declared.arena.Arena.TheInside.{Inside}
 use Rattle.blossom_arena.specs.Tables.{walk, links_of}
 use Rattle.graph_theory.specs.Nested.{most_blossoms}
-use Rattle.graph_theory.specs.Duals.{IsNumber}
-use Rattle.blossom_arena.specs.Family.{in_ring, nodes_of, ring_of, is_child, is_node, members_of, union_of, without, outermost, dual_at}
-use Rattle.blossom_arena.specs.Fields.{IsSound, blossoms_of, order_of, key_of, kept_of, kept_or_none, run_of, vertices_of, lowered, added, taken, AreTaken, AreSums, outer_dual}
-use Rattle.blossom_arena.proofs.Nested.{node_range, child_is_node, name_is_node}
-use Rattle.blossom_arena.proofs.Sets.{member_vertex, outermost_by_member}
-use Rattle.blossom_arena.proofs.Taken.{nested_without, members_without}
+use Rattle.blossom_arena.specs.Family.{in_ring, is_child, is_node, ring_of}
+use Rattle.blossom_arena.specs.Fields.{IsSound, blossoms_of, kept_of, kept_or_none, key_of, order_of, run_of, vertices_of}
+use Rattle.blossom_arena.proofs.Nested.{child_is_node, name_is_node, node_range, vertex_range}
+use Rattle.blossom_arena.proofs.Sets.{member_vertex}
 use Rattle.blossom_arena.proofs.Parents.{ring_child}
-use Rattle.blossom_arena.proofs.Opened.{ring_other, ring_members, child_outer}
+use Rattle.blossom_arena.proofs.Opened.{ring_other}
 use Rattle.blossom_arena.proofs.Orders.{neighbours_within}
 use Rattle.blossom_arena.proofs.Sound.{order_names, order_range, node_run, ring_within, ring_is, members_within}
-use Rattle.blossom_arena.proofs.Dissolved.{other_run, outer_after}
-use Rattle.blossom_arena.proofs.Summed.{outer_step, taken_step, members_fit}
+use Rattle.blossom_arena.proofs.Dissolved.{other_run}
 use Rattle.blossom_arena.proofs.LinkLists.{each_link}
-use Rattle.blossom_arena.proofs.Lost.{AreTold, taken_is, taken_fits}
 
 module _ (a : Inside) (node : ℕ) (s : IsSound a) (there : holds (order_of a) node ≡ true) where
   abbrev n : ℕ
@@ -65,55 +61,18 @@ module _ (a : Inside) (node : ℕ) (s : IsSound a) (there : holds (order_of a) n
   pub children_within : (m : ℕ) → n + most_blossoms n < m → AllByRecursion (λ (l : Link). l.node < m) (ring_of (blossoms_of a) node)
   children_within m enough = each_link (λ x. x < m) (ring_of (blossoms_of a) node) (λ x r. omega (arith, (node_range n (blossoms_of a) x s.family.nested (child_node x r)).1, enough))
 
+  -- what a release needs
+  pub core_low : (kept_of n a.kept node).run.core < n + 1
+  core_low = omega (arith, (vertex_range n (kept_of n a.kept node).run.core (member_vertex n (blossoms_of a) node (kept_of n a.kept node).run.core s.family.nested is (s.runs node there).core)).1)
+
   pub runs_within : (kept : Slab Kept) (fs : List ℕ) → is_child (blossoms_of a) node ≡ false → Updates a.kept kept (key_of n node) None → fs ≡ a.followers.items
-      → AllByRecursion (λ (l : Link). AllByRecursion (λ v. v < length fs) (vertices_of fs (run_of n kept l.node))) (ring_of (blossoms_of a) node)
+      → AllByRecursion (λ (l : Link). AllByRecursion (λ v. v < length fs) (vertices_of fs (run_of n kept l.node)) × ((run_of n kept l.node).core < length fs)) (ring_of (blossoms_of a) node)
   runs_within kept fs free updates same =
-      each_link (λ x. AllByRecursion (λ v. v < length fs) (vertices_of fs (run_of n kept x))) (ring_of (blossoms_of a) node)
+      each_link (λ x. AllByRecursion (λ v. v < length fs) (vertices_of fs (run_of n kept x)) × ((run_of n kept x).core < length fs)) (ring_of (blossoms_of a) node)
       (λ x r.
-      subst (λ (t : List ℕ). AllByRecursion (λ v. v < length t) (vertices_of t (run_of n kept x))) (sym same)
-      (subst (λ (q : Run). AllByRecursion (λ v. v < length a.followers.items) (vertices_of a.followers.items q)) (sym (other_run n a.kept kept node x updates (order_range a s node there).0 (ring_other (blossoms_of a) node x free r)))
-      (members_within a s x (child_node x r))))
-
-  -- the dual that each vertex loses is that of its outermost node once the blossom is gone
-  module _ (kept : Slab Kept) (free : is_child (blossoms_of a) node ≡ false) (updates : Updates a.kept kept (key_of n node) None) where
-    abbrev run : ℕ → List ℕ
-    run x = vertices_of a.followers.items (run_of n kept x)
-
-    abbrev ring : List Link
-    ring = ring_of (blossoms_of a) node
-
-    abbrev outer : List ℕ
-    outer = lowered a.outer.items run (nodes_of ring)
-
-    child_run : (c : ℕ) → in_ring ring c ≡ true → run c ≡ members_of (blossoms_of a) c
-    child_run c r =
-        ap (vertices_of a.followers.items) (other_run n a.kept kept node c updates (order_range a s node there).0 (ring_other (blossoms_of a) node c free r))
-        ∙ (node_run a s c (child_node c r)).vertices
-
-    abbrev loses : List ℤ → ℕ → ℤ
-    loses ys v = neg_ℤ (outer_dual outer ys v)
-
-    lost : (ys : List ℤ) (c v : ℕ) → in_ring ring c ≡ true → holds (members_of (blossoms_of a) c) v ≡ true → neg_ℤ (dual_at ys c) ≡ loses ys v
-    lost ys c v r m =
-        let iv = member_vertex n (blossoms_of a) c v s.family.nested (child_node c r) m in
-        let at : slice_index outer v ≡ outermost (without (blossoms_of a) node) v = outer_after a kept outer node v s there free updates refl iv in
-        let is : outermost (without (blossoms_of a) node) v ≡ c =
-        outermost_by_member n (without (blossoms_of a) node) c v (nested_without n (blossoms_of a) node s.family.nested free) (child_outer n (blossoms_of a) node c s.family.nested free r)
-        (ap (λ ms. holds ms v) (members_without (blossoms_of a) node c (ring_other (blossoms_of a) node c free r)) ∙ m) in
-        sym (ap (λ x. neg_ℤ (dual_at ys x)) (at ∙ is))
-
-    union : members_of (blossoms_of a) node ≡ union_of (blossoms_of a) ring
-    union = ring_members n (blossoms_of a) node s.family.nested (ap (λ xs. holds xs node) (order_names a) ∙ there)
-
-    told : (ys : List ℤ) → AreTold run (dual_at ys) (loses ys) (blossoms_of a) ring
-    told ys = record { runs = child_run; lost = lost ys }
-
-    pub all_taken : (ys : List ℤ) → taken a.inner.items run (dual_at ys) (nodes_of ring) ≡ added a.inner.items (loses ys) (members_of (blossoms_of a) node)
-    all_taken ys = taken_is run (dual_at ys) (loses ys) (blossoms_of a) a.inner.items ring (told ys) ∙ ap (added a.inner.items (loses ys)) (sym union)
-
-    pub taken_low : (ys : List ℤ) → ys ≡ a.duals.values → AreTaken a.inner.items run (dual_at ys) (nodes_of ring)
-    taken_low ys duals =
-        taken_fits run (dual_at ys) (loses ys) (blossoms_of a) a.inner.items ring (told ys)
-        (subst (AreSums a.inner.items (loses ys)) union
-        (members_fit a s node (loses ys) is
-        (λ v. taken_step (outer_dual outer ys v) (outer_step outer ys v (subst (λ (zs : List ℤ). All IsNumber zs) (sym duals) s.family.duals.in_range)))))
+      subst (λ (t : List ℕ). AllByRecursion (λ v. v < length t) (vertices_of t (run_of n kept x)) × ((run_of n kept x).core < length t)) (sym same)
+      (subst (λ (q : Run). AllByRecursion (λ v. v < length a.followers.items) (vertices_of a.followers.items q) × (q.core < length a.followers.items))
+      (sym (other_run n a.kept kept node x updates (order_range a s node there).0 (ring_other (blossoms_of a) node x free r))) (
+        members_within a s x (child_node x r),
+        omega (arith, s.places.followers, (vertex_range n (run_of n a.kept x).core (member_vertex n (blossoms_of a) x (run_of n a.kept x).core s.family.nested (child_node x r) (node_run a s x (child_node x r)).core)).1),
+      )))

@@ -1,13 +1,12 @@
 -- What writes to tables leave, and what walks by a table give.
-use Rattle.std.proofs.Common.{◌≡◌, ℕ, zero, suc, ◌<◌, Bool, true, false, ◌||◌, eqb, cond, List, [], ◌∷◌, length, refl, sym, ap, ap₂, ◌∙◌, subst, arith, ⊎_elim, get_or, set}
+use Rattle.std.proofs.Common.{◌≡◌, ℕ, zero, suc, ◌<◌, Bool, true, false, ◌||◌, eqb, cond, List, [], ◌∷◌, length, refl, sym, ap, ap₂, ◌∙◌, subst, arith, get_or, set}
 use Rattle.std.specs.List.{AllByRecursion}
-use Rattle.std.proofs.lemmas.Bool.{eqb-true, eqb-false, or_cases, or_parts, both_ways}
+use Rattle.std.proofs.lemmas.Bool.{eqb-true, eqb-false, or_parts}
 use Rattle.std.proofs.lemmas.List.{get_or-set_other, get_or-set_same, length-set}
 use Rattle.graph_theory.specs.Parts.{holds}
 use Rattle.blossom_arena.specs.declared.links.Link.{Link}
 use Rattle.blossom_arena.specs.Tables.{walk, links_of, filled, next_node, threaded, noted}
 use Rattle.blossom_arena.specs.Family.{nodes_of}
-use Rattle.blossom_arena.specs.Fields.{lowered}
 use Rattle.blossom_arena.proofs.Lists.{by_test, AllNew, first_in, later_in}
 use Rattle.blossom_arena.proofs.Tails.{front, front_sub}
 
@@ -32,28 +31,6 @@ pub same_past : (t was : List ℕ) (x e : ℕ) (xs : List ℕ) → holds xs x �
 same_past t was x e [] out h = tt
 same_past t was x e (y ∷ ys) out h =
     let p = or_parts (eqb y x) (holds ys x) out in (get_or-set_other t x y e 0 (λ s. eqb-false y x p.0 s) ∙ h.0, same_past t was x e ys p.1 h.1)
-
--- a table that is filled with each of some nodes at its run
-pub length-lowered : (t : List ℕ) (run : ℕ → List ℕ) (cs : List ℕ) → length (lowered t run cs) ≡ length t
-length-lowered t run [] = refl
-length-lowered t run (c ∷ cs) = length-lowered (filled t (run c) c) run cs ∙ length-filled t (run c) c
-
-pub lowered_out : (t : List ℕ) (run : ℕ → List ℕ) (cs : List ℕ) (v : ℕ) → v < length t → ((c : ℕ) → holds cs c ≡ true → holds (run c) v ≡ false) → get_or (lowered t run cs) v 0 ≡ get_or t v 0
-lowered_out t run [] v h out = refl
-lowered_out t run (c ∷ cs) v h out =
-    lowered_out (filled t (run c) c) run cs v (omega (arith, h, length-filled t (run c) c)) (λ d e. out d (later_in c cs d e))
-    ∙ filled_at t (run c) c v h ∙ ap (λ q. cond q c (get_or t v 0)) (out c (first_in c cs))
-
-pub lowered_in : (t : List ℕ) (run : ℕ → List ℕ) (cs : List ℕ) (v a : ℕ) → v < length t → holds cs a ≡ true → holds (run a) v ≡ true → ((c : ℕ) → holds cs c ≡ true → holds (run c) v ≡ true → c ≡ a) → get_or (lowered t run cs) v 0 ≡ a
-lowered_in t run [] v a h k m one = absurd (both_ways false refl k)
-lowered_in t run (c ∷ cs) v a h k m one =
-    by_test (holds cs a)
-    (λ later. lowered_in (filled t (run c) c) run cs v a (omega (arith, h, length-filled t (run c) c)) later m (λ d e. one d (later_in c cs d e)))
-    (λ none.
-    let same : c ≡ a = ⊎_elim (λ s. eqb-true c a s) (λ s. absurd (both_ways (holds cs a) none s)) (or_cases (eqb c a) (holds cs a) k) in
-    lowered_out (filled t (run c) c) run cs v (omega (arith, h, length-filled t (run c) c))
-    (λ d e. by_test (holds (run d) v) (λ w. absurd (both_ways (holds cs a) none (subst (λ x. holds cs x ≡ true) (one d (later_in c cs d e) w) e))) (λ w. w))
-    ∙ filled_at t (run c) c v h ∙ ap (λ q. cond q c (get_or t v 0)) (subst (λ x. holds (run x) v ≡ true) (sym same) m) ∙ same)
 
 -- walks
 pub length-walk : (k : ℕ) (next : List ℕ) (x : ℕ) → length (walk k next x) ≡ k

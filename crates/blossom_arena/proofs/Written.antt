@@ -1,29 +1,29 @@
 -- What the steps of a shrink need, and what they have written.
 use Rattle.std.proofs.Common.{◌≡◌, ℕ, ◌+◌, ◌≤◌, ◌<◌, true, List, [], ◌∷◌, length, refl, sym, ap, ap₂, ◌∙◌, subst, arith}
-use Rattle.std.specs.Prelude.{ℤ, slice_index, All}
+use Rattle.std.specs.Prelude.{slice_index}
 use Rattle.std.specs.List.{AllByRecursion}
-use Rattle.slab.specs.Slab.{slab_len}
+use Rattle.slab.specs.Slab.{Slab, slab_len}
 use Rattle.graph_theory.specs.Parts.{holds}
 use Rattle.blossom_arena.specs.declared.links.Link.{Link}
 use Rattle.blossom_arena.specs.declared.runs.Run.{Run}
+use Rattle.blossom_arena.specs.declared.runs.Kept.{Kept}
 use Rattle.blossom_arena.specs.declared.arena.Arena.TheInside.{Inside}
 use Rattle.blossom_arena.specs.Tables.{walk, links_of, next_node, threaded, noted}
 use Rattle.graph_theory.specs.Nested.{most_blossoms}
-use Rattle.graph_theory.specs.Duals.{IsNumber}
-use Rattle.blossom_arena.specs.Family.{Blossom, nodes_of, union_of, IsCircuit}
-use Rattle.blossom_arena.specs.Fields.{IsSound, blossoms_of, order_of, runs_of, vertices_of, IsOrder, joined, joined_tail, joined_size, AreSums, outer_dual}
+use Rattle.blossom_arena.specs.Family.{Blossom, nodes_of, is_node, is_vertex, members_of, outermost, IsCircuit}
+use Rattle.blossom_arena.specs.Fields.{IsOrder, IsSound, blossoms_of, empty_run, joined, joined_size, joined_tail, longest_of, order_of, run_of, runs_of, vertices_of}
 use Rattle.blossom_arena.proofs.Lists.{AllNew, new_from_distinct, each_from, first_in}
 use Rattle.blossom_arena.proofs.Nested.{vertex_range, node_range, circuit_node, room_for_circuit}
 use Rattle.blossom_arena.proofs.Writes.{threaded_walk, length-threaded, length-noted}
-use Rattle.blossom_arena.proofs.Sound.{order_range, blossoms_len, union_vertex, union_few, joined_run, circuit_joins}
+use Rattle.blossom_arena.proofs.Sound.{blossoms_len, circuit_joins, core_in, joined_run, order_range, union_few}
+use Rattle.blossom_arena.proofs.Sets.{member_vertex, outermost_node}
 use Rattle.blossom_arena.proofs.Shrunk.{circuit_places, ring_written}
-use Rattle.blossom_arena.proofs.Summed.{outer_places, outer_step, union_fits}
+use Rattle.blossom_arena.specs.Placement.{placement_of}
+use Rattle.blossom_arena.proofs.LinkLists.{each_link}
+use Rattle.blossom_arena.proofs.Stays.{AddsKept, node_stays}
 
-same_run : (r : Run) (h t z : ℕ) → r.head ≡ h → r.tail ≡ t → r.size ≡ z → r ≡ record { head = h; tail = t; size = z }
-same_run r h t z eh et ez = by_parts eh ∙ ap₂ (λ (y x : ℕ). record { head = h; tail = y; size = x }) et ez
-  where
-    by_parts : r.head ≡ h → r ≡ record { head = h; tail = r.tail; size = r.size }
-    by_parts e = ap (λ (x : ℕ). record { head = x; tail = r.tail; size = r.size }) e
+same_run : (r : Run) (h t z k : ℕ) → r.head ≡ h → r.tail ≡ t → r.size ≡ z → r.core ≡ k → r ≡ record { head = h; tail = t; size = z; core = k }
+same_run r h t z k eh et ez ek = λ i. record { head = eh i; tail = et i; size = ez i; core = ek i }
 
 walk_nodes : (old ns : List ℕ) (ring : List Link) (first : ℕ) → first ≡ next_node ring 0 → ns ≡ threaded old ring first → AllNew (nodes_of ring) → AllByRecursion (λ (l : Link). l.node < length old) ring → walk (length ring) ns first ≡ nodes_of ring
 walk_nodes old ns [] first at nexts new within = refl
@@ -50,9 +50,6 @@ module _ (a : Inside) (ring : List Link) (s : IsSound a) (c : IsCircuit a.vertex
   pub nodes_within : (m : ℕ) → n + most_blossoms n < m → AllByRecursion (λ (l : Link). l.node < m) ring
   nodes_within m enough = circuit_places n m bs ring s.family.nested c enough
 
-  pub union_within : (m : ℕ) → n < m → AllByRecursion (λ v. v < m) (union_of bs ring)
-  union_within m enough = each_from (λ v. v < m) (union_of bs ring) (λ v e. omega (arith, enough, (vertex_range n v (union_vertex n bs ring v s.family.nested c e)).1))
-
   pub newest_within : slice_index a.older.items 0 < length a.newer.items
   newest_within = go (order_of a) s.order (λ x e. (order_range a s x e).1)
     where
@@ -60,23 +57,33 @@ module _ (a : Inside) (ring : List Link) (s : IsSound a) (c : IsCircuit a.vertex
       go [] h each = omega (arith, h.0, s.places.newer)
       go (x ∷ xs) h each = omega (arith, h.0, each x (first_in x xs), s.places.newer)
 
-  -- the sums of its vertices
-  pub outer_low : (os : List ℕ) (ys : List ℤ) → os ≡ a.outer.items → ys ≡ a.duals.values → AllByRecursion (λ v. (v < length os) × (slice_index os v < length ys)) (union_of bs ring)
-  outer_low os ys outer duals =
-      let len : length os ≡ length a.outer.items = ap length outer in
-      let duals_len : length ys ≡ length a.duals.values = ap length duals in
-      outer_places n bs os ys (union_of bs ring) s.family.nested (omega (arith, len, s.places.outer)) (omega (arith, duals_len, s.family.duals.one_each))
-      (λ v iv. let r = vertex_range n v iv in ap (λ (t : List ℕ). slice_index t v) outer ∙ s.outer v r.0 r.1) (λ v e. union_vertex n bs ring v s.family.nested c e)
-
-  pub sums_low : (os : List ℕ) (ys : List ℤ) → ys ≡ a.duals.values → AreSums a.inner.items (outer_dual os ys) (union_of bs ring)
-  sums_low os ys duals = union_fits a s ring (outer_dual os ys) c (λ v. outer_step os ys v (subst (λ (zs : List ℤ). All IsNumber zs) (sym duals) s.family.duals.in_range))
-
   -- the run that is joined
-  pub run_is : (fs : List ℕ) (r : Run) → fs ≡ joined a.followers.items 0 (runs_of n a.kept ring) → r.head ≡ slice_index fs 0 → r.tail ≡ joined_tail 0 (runs_of n a.kept ring) → r.size ≡ joined_size (runs_of n a.kept ring) → r ≡ joined_run a ring
-  run_is fs r items head tail size = same_run r _ _ _ (head ∙ ap (λ (t : List ℕ). slice_index t 0) items) tail size
+  pub run_is : (fs : List ℕ) (r : Run) → fs ≡ joined a.followers.items 0 (runs_of n a.kept ring) → r.head ≡ slice_index fs 0 → r.tail ≡ joined_tail 0 (runs_of n a.kept ring)
+      → r.size ≡ joined_size (runs_of n a.kept ring) → r.core ≡ (longest_of empty_run (runs_of n a.kept ring)).core → r ≡ joined_run a ring
+  run_is fs r items head tail size core = same_run r _ _ _ _ (head ∙ ap (λ (t : List ℕ). slice_index t 0) items) tail size core
 
-  pub run_vertices : (fs : List ℕ) (r : Run) → fs ≡ joined a.followers.items 0 (runs_of n a.kept ring) → r ≡ joined_run a ring → vertices_of fs r ≡ union_of bs ring
-  run_vertices fs r items same = ap₂ vertices_of items same ∙ (circuit_joins a ring s c).0.vertices
+  -- its core, and the node whose core it is
+  pub core_low : (joined_run a ring).core < n + 1
+  core_low =
+      let core = core_in a ring s c in
+      omega (arith, core.is, (vertex_range n core.core (member_vertex n bs core.node core.core s.family.nested (circuit_node n bs ring core.node c core.within) core.has)).1)
+
+  pub top_low : (m : ℕ) → n + most_blossoms n < m → (placement_of a.partition).top ((placement_of a.partition).set (joined_run a ring).core) < m
+  top_low m enough =
+      let core = core_in a ring s c in
+      let iv : is_vertex n (joined_run a ring).core ≡ true =
+      ap (is_vertex n) core.is ∙ member_vertex n bs core.node core.core s.family.nested (circuit_node n bs ring core.node c core.within) core.has in
+      omega (arith, enough, s.partition.outer (joined_run a ring).core iv, (node_range n bs (outermost bs (joined_run a ring).core) s.family.nested (outermost_node n bs (joined_run a ring).core iv)).1)
+
+  -- the circuit's runs once they are joined
+  pub runs_then : (kept : Slab Kept) (fs : List ℕ) (node key : ℕ) → AddsKept a ring kept fs node key → length fs ≡ n + 1
+      → AllByRecursion (λ (l : Link). AllByRecursion (λ v. v < length fs) (vertices_of fs (run_of n kept l.node))) ring
+  runs_then kept fs node key h len =
+      each_link (λ x. AllByRecursion (λ v. v < length fs) (vertices_of fs (run_of n kept x))) ring
+      (λ x r.
+      let k : is_node n bs x ≡ true = circuit_node n bs ring x c r in
+      subst (AllByRecursion (λ v. v < length fs)) (sym (node_stays a ring kept fs node key s c h x k).vertices)
+      (each_from (λ v. v < length fs) (members_of bs x) (λ v e. omega (arith, len, (vertex_range n v (member_vertex n bs x v s.family.nested k e)).1))))
 
   -- the ring that is written
   pub ring_walk : (ns es : List ℕ) (first : ℕ) → first ≡ next_node ring 0 → ns ≡ threaded a.nexts.items ring first → es ≡ noted a.edges.items ring → links_of es (walk (length ring) ns first) ≡ ring

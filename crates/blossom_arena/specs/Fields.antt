@@ -1,5 +1,5 @@
 -- How an arena keeps its family. No public clause cites this module.
-use Rattle.std.specs.Prelude.{◌≡◌, ℕ, zero, suc, ◌+◌, ◌-◌, ◌<◌, ◌≤◌, ℤ, pos, ◌+ℤ◌, ◌-ℤ◌, neg_ℤ, true, ◌==◌, nat_le, if◌then◌else◌, List, [], ◌∷◌, length, map, Option, Some, None, IsSome, slice_index, slice_index_or, slice_set}
+use Rattle.std.specs.Prelude.{◌≡◌, ℕ, zero, suc, ◌+◌, ◌-◌, ◌<◌, ◌≤◌, ℤ, ◌+ℤ◌, ◌-ℤ◌, true, ◌==◌, nat_le, if◌then◌else◌, List, [], ◌∷◌, length, map, Option, Some, None, IsSome, slice_index, slice_set}
 use Rattle.std.specs.List.{AllByRecursion}
 use Rattle.slab.specs.Slab.{Slab, get, slab_len}
 use Rattle.graph_theory.specs.Parts.{holds}
@@ -7,34 +7,44 @@ use Rattle.blossom_arena.specs.declared.links.Link.{Link}
 use Rattle.blossom_arena.specs.declared.runs.Run.{Run}
 use Rattle.blossom_arena.specs.declared.runs.Kept.{Kept}
 use Rattle.blossom_arena.specs.declared.arena.Arena.TheInside.{Inside}
-use Rattle.blossom_arena.specs.Tables.{last_of, walk, links_of, filled}
+use Rattle.blossom_arena.specs.Tables.{last_of, walk, links_of}
+use Rattle.blossom_arena.specs.Placement.{Placement, placement_of}
 use Rattle.graph_theory.specs.Nested.{most_blossoms}
-use Rattle.blossom_arena.specs.Family.{Blossom, Family, IsFamily, is_node, outermost, made_of, in_ring, members_of, dual_at}
-use Rattle.blossom_arena.specs.Slack.{IsCover, held_by}
+use Rattle.blossom_arena.specs.Family.{Blossom, Family, IsFamily, is_vertex, is_node, outermost, made_of, in_ring, members_of, dual_at}
+use Rattle.blossom_arena.specs.Slack.{held_by}
 
 -- the key of a blossom's node
 abbrev pub key_of : ℕ → ℕ → ℕ
 key_of n node = node - (n + 1)
 
+-- the run of no vertex
+abbrev pub empty_run : Run
+empty_run = record { head = 0; tail = 0; size = 0; core = 0 }
+
 abbrev pub kept_or_none : Option Kept → Kept
-kept_or_none None = record { first = 0; links = 0; run = record { head = 0; tail = 0; size = 0 } }
+kept_or_none None = record { first = 0; links = 0; run = empty_run }
 kept_or_none (Some k) = k
 
 abbrev pub kept_of : ℕ → Slab Kept → ℕ → Kept
 kept_of n kept node = kept_or_none (get kept (key_of n node))
 
+-- the run of a vertex
+abbrev pub own_run : ℕ → Run
+own_run v = record { head = v; tail = v; size = 1; core = v }
+
 -- where the vertices of a node stand
 abbrev pub run_of : ℕ → Slab Kept → ℕ → Run
-run_of n kept node = if nat_le node n then record { head = node; tail = node; size = 1 } else (kept_of n kept node).run
+run_of n kept node = if nat_le node n then own_run node else (kept_of n kept node).run
 
 -- the vertices of a run
 abbrev pub vertices_of : List ℕ → Run → List ℕ
 vertices_of followers r = walk r.size followers r.head
 
--- a run gives these vertices
+-- a run gives these vertices, and names their set by one of them
 pub record IsRun (followers : List ℕ) (r : Run) (xs : List ℕ) : Type 0 where
   pub vertices : vertices_of followers r ≡ xs
   pub tail : last_of 0 xs ≡ r.tail
+  pub core : holds xs r.core ≡ true
 
 -- the runs of the nodes of a circuit
 abbrev pub runs_of : ℕ → Slab Kept → List Link → List Run
@@ -53,42 +63,31 @@ abbrev pub joined_size : List Run → ℕ
 joined_size [] = 0
 joined_size (r ∷ rest) = r.size + joined_size rest
 
--- each of these nodes for each vertex of its run
-abbrev pub lowered : List ℕ → (ℕ → List ℕ) → List ℕ → List ℕ
-lowered outer run [] = outer
-lowered outer run (c ∷ cs) = lowered (filled outer (run c) c) run cs
+-- the longer of two runs, and the longest of some
+abbrev pub longer_of : Run → Run → Run
+longer_of r s = if nat_le s.size r.size then r else s
 
--- the sum at a vertex
-abbrev pub sum_at : List ℤ → ℕ → ℤ
-sum_at sums v = slice_index_or sums v (pos 0)
-
--- the sums with these numbers added at these vertices, one after the other
-abbrev pub added : List ℤ → (ℕ → ℤ) → List ℕ → List ℤ
-added sums f [] = sums
-added sums f (v ∷ vs) = added (slice_set sums v (sum_at sums v +ℤ f v)) f vs
-
--- each of these additions stays in range
-abbrev pub AreSums : List ℤ → (ℕ → ℤ) → List ℕ → Type 0
-AreSums sums f [] = Unit {0}
-AreSums sums f (v ∷ vs) = IsCover (sum_at sums v +ℤ f v) × AreSums (slice_set sums v (sum_at sums v +ℤ f v)) f vs
-
--- the sums without the dual of each of these nodes at each vertex of its run
-abbrev pub taken : List ℤ → (ℕ → List ℕ) → (ℕ → ℤ) → List ℕ → List ℤ
-taken sums run y [] = sums
-taken sums run y (c ∷ cs) = taken (added sums (λ v. neg_ℤ (y c)) (run c)) run y cs
-
--- each of these differences stays in range
-abbrev pub AreTaken : List ℤ → (ℕ → List ℕ) → (ℕ → ℤ) → List ℕ → Type 0
-AreTaken sums run y [] = Unit {0}
-AreTaken sums run y (c ∷ cs) = AreSums sums (λ v. neg_ℤ (y c)) (run c) × AreTaken (added sums (λ v. neg_ℤ (y c)) (run c)) run y cs
-
--- the dual of the outermost node of a vertex, by the tables
-abbrev pub outer_dual : List ℕ → List ℤ → ℕ → ℤ
-outer_dual outer duals v = dual_at duals (slice_index outer v)
+abbrev pub longest_of : Run → List Run → Run
+longest_of r [] = r
+longest_of r (s ∷ rest) = longest_of (longer_of r s) rest
 
 -- the duals of the nodes that hold v without its outermost one, added up
 abbrev pub inner_of : (ℕ → ℤ) → List Blossom → ℕ → ℤ
 inner_of y bs v = (y v +ℤ held_by y bs v) -ℤ y (outermost bs v)
+
+-- the vertices of a node, and the one that names their set while the node is outermost
+abbrev pub vertices_at : List ℕ → ℕ → Slab Kept → ℕ → List ℕ
+vertices_at followers n kept node = vertices_of followers (run_of n kept node)
+
+abbrev pub core_at : ℕ → Slab Kept → ℕ → ℕ
+core_at n kept node = (run_of n kept node).core
+
+-- each vertex has its outermost node and the sum of the duals of all other nodes that hold it; the vertices of an outermost
+-- node form a set
+pub record IsPlacement (n : ℕ) (core_of : ℕ → ℕ) (bs : List Blossom) (y : ℕ → ℤ) (p : Placement) : Type 0 where
+  pub outer : (v : ℕ) → is_vertex n v ≡ true → p.top (p.set v) ≡ outermost bs v
+  pub inner : (v : ℕ) → is_vertex n v ≡ true → p.inner v ≡ inner_of y bs v
+  pub sets : (v : ℕ) → is_vertex n v ≡ true → p.set v ≡ core_of (outermost bs v)
 
 -- up by a table of parents, at most so many numbers, until there is none
 abbrev pub climb : ℕ → List ℕ → ℕ → List ℕ
@@ -144,15 +143,13 @@ pub record HasPlaces (a : Inside) : Type 0 where
   pub edges : length a.edges.items ≡ a.vertex_count + most_blossoms a.vertex_count + 1
   pub older : length a.older.items ≡ a.vertex_count + most_blossoms a.vertex_count + 1
   pub newer : length a.newer.items ≡ a.vertex_count + most_blossoms a.vertex_count + 1
-  pub outer : length a.outer.items ≡ a.vertex_count + 1
-  pub inner : length a.inner.items ≡ a.vertex_count + 1
+  pub partition : length a.partition.sets ≡ a.vertex_count + 1
   pub followers : length a.followers.items ≡ a.vertex_count + 1
 
 pub record IsSound (a : Inside) : Type 0 where
   pub family : IsFamily (family_of a)
   pub places : HasPlaces a
-  pub outer : (v : ℕ) → 1 ≤ v → v ≤ a.vertex_count → slice_index a.outer.items v ≡ outermost (blossoms_of a) v
-  pub inner : (v : ℕ) → 1 ≤ v → v ≤ a.vertex_count → sum_at a.inner.items v ≡ inner_of (dual_at a.duals.values) (blossoms_of a) v
+  pub partition : IsPlacement a.vertex_count (core_at a.vertex_count a.kept) (blossoms_of a) (dual_at a.duals.values) (placement_of a.partition)
   pub parents : (x : ℕ) → x ≤ a.vertex_count + most_blossoms a.vertex_count → slice_index a.parents.items x ≡ parent_entry a.vertex_count (blossoms_of a) x
   pub order : IsOrder a.older.items a.newer.items 0 (order_of a)
   pub runs : (x : ℕ) → holds (order_of a) x ≡ true → IsRun a.followers.items (kept_of a.vertex_count a.kept x).run (members_of (blossoms_of a) x)

@@ -3,6 +3,7 @@ pub mod Family
 pub mod Changes
 pub mod Shares
 pub mod Moving
+pub mod Placement
 pub mod Fields
 pub mod Slack
 pub mod Laws

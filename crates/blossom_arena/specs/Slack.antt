@@ -18,8 +18,8 @@ held_by y [] v = pos 0
 held_by y (b ∷ older) v = (if holds b.members v then y b.node else pos 0) +ℤ held_by y older v
 
 -- a number that the duals of all nodes that hold a vertex can add up to
-abbrev pub IsCover : ℤ → Type 0
-IsCover x = (neg_ℤ (NUMBER_LIMIT *ℤ pos GRAPH_VERTEX_LIMIT) ≤ℤ x) × (x ≤ℤ (NUMBER_LIMIT *ℤ pos GRAPH_VERTEX_LIMIT))
+abbrev pub IsDualSum : ℤ → Type 0
+IsDualSum x = (neg_ℤ (NUMBER_LIMIT *ℤ pos GRAPH_VERTEX_LIMIT) ≤ℤ x) × (x ≤ℤ (NUMBER_LIMIT *ℤ pos GRAPH_VERTEX_LIMIT))
 
 -- the duals of the vertices 1 to n
 abbrev pub vertex_duals : ℕ → List ℤ → List ℤ

@@ -6,7 +6,7 @@ ghost use Rattle.graph_theory.specs.Duals.{IsNumber};
 ghost use Rattle.blossom_arena.specs.Family.{Family, IsFamily, IsCircuit, empty_family, is_vertex, is_node, is_outermost, shrunk, dissolved, raised, moving, dual_at, outermost, child_holding, ring_of, members_of, chain_of, names_of};
 ghost use Rattle.blossom_arena.specs.Changes.{gain, label_at, share};
 ghost use Rattle.blossom_arena.specs.declared.label.Label.TheVariants.{Out};
-ghost use Rattle.blossom_arena.specs.Slack.{IsCover, held_by};
+ghost use Rattle.blossom_arena.specs.Slack.{IsDualSum, held_by};
 
 use crate::blossoms::Blossoms;
 use crate::chain::{Chain, child_below};
@@ -16,10 +16,10 @@ use crate::links::{Link, node_at};
 use crate::members::Members;
 use crate::nodes::NodeId;
 use crate::order::{put_first, take_out};
+use crate::partition::Partition;
 use crate::ring::Ring;
-use crate::runs::{Kept, find_kept, find_run, has_kept, join, lower};
-use crate::sums::{absorb, add_each, wipe_sums};
-use crate::tables::{NO_NODE, bare, hang, note, numbered, renumber, set_entry, thread, wipe};
+use crate::runs::{Kept, absorb, find_kept, find_run, has_kept, join, release};
+use crate::tables::{NO_NODE, bare, hang, note, set_entry, thread, wipe};
 use graph_theory::GRAPH_VERTEX_LIMIT;
 use mb_base::{EdgeId, OutOfMemory, VertexId};
 use slab::Slab;
@@ -41,10 +41,9 @@ pub struct Arena {
     parents: Vec<u32>,
     nexts: Vec<u32>,
     edges: Vec<EdgeId>,
-    // By vertex: its outermost node, the duals of all other nodes that hold it, added up, and the vertex
+    // By vertex: its outermost node and the duals of all other nodes that hold it, added up, and the vertex
     // after it in the blossoms that hold both.
-    outer: Vec<u32>,
-    inner: Vec<i64>,
+    partition: Partition,
     followers: Vec<u32>,
     // By node number: the next older and the next newer blossom. Place 0 stands between the two ends.
     older: Vec<u32>,
@@ -87,11 +86,10 @@ impl Arena {
             parents,
             nexts: vec![in alloc; 0u32; places]?,
             edges: vec![in alloc; EdgeId::new(0); places]?,
-            outer: numbered(alloc, n)?,
+            partition: Partition::new(alloc, n)?,
             followers: vec![in alloc; 0u32; count + 1]?,
             older: vec![in alloc; 0u32; places]?,
             newer: vec![in alloc; 0u32; places]?,
-            inner: vec![in alloc; 0i64; count + 1]?,
             kept,
         })
     }
@@ -155,7 +153,7 @@ impl Arena {
         ensures node { result ≡ outermost self.now.blossoms v }
         ensures good { IsFamily self.now }
     {
-        NodeId::new(self.outer[v.number() as usize])
+        NodeId::new(self.partition.outermost(v.number()))
     }
 
     /// The dual of a node, in doubled units.
@@ -168,13 +166,13 @@ impl Arena {
     }
 
     /// The duals of all nodes that hold a vertex, added up, in constant time.
-    pub fn cover(&self, v: VertexId) -> i64
+    pub fn dual_sum(&self, v: VertexId) -> i64
         requires { is_vertex self.now.vertex_count v ≡ true }
-        ensures cover { result ≡ dual_at self.now.duals v +ℤ held_by (dual_at self.now.duals) self.now.blossoms v }
-        ensures in_range { IsCover result }
+        ensures dual_sum { result ≡ dual_at self.now.duals v +ℤ held_by (dual_at self.now.duals) self.now.blossoms v }
+        ensures in_range { IsDualSum result }
         ensures good { IsFamily self.now }
     {
-        self.inner[v.number() as usize] + self.dual(self.outermost(v))
+        self.partition.inner(v.number()) + self.dual(self.outermost(v))
     }
 
     /// Adds d, in doubled units, to the dual of a node. The sum lies within 10^15, and is not below 0 for
@@ -191,8 +189,7 @@ impl Arena {
         if self.parents[number as usize] == 0 {
             return;
         }
-        add_each(
-            &mut self.inner,
+        self.partition.add_each(
             Members::of(
                 &self.followers,
                 find_run(&self.kept, self.vertex_count, number),
@@ -286,8 +283,8 @@ impl Arena {
         Blossoms::of(&self.older, self.older[0], self.kept.len() as u32)
     }
 
-    /// Makes one node of a circuit of outermost nodes, of dual 0, and answers it, in time linear in its
-    /// vertices. The circuit has an odd number of at least three nodes, all different. It rests, and so do
+    /// Makes one node of a circuit of outermost nodes, of dual 0, and answers it, in time linear in the
+    /// circuit and in the vertices of all its nodes but the largest. The circuit has an odd number of at least three nodes, all different. It rests, and so do
     /// they.
     pub fn shrink(&mut self, circuit: &[Link]) -> NodeId
         requires { IsCircuit self.old.vertex_count self.old.blossoms circuit.now }
@@ -311,10 +308,13 @@ impl Arena {
         );
         set_entry(&mut self.parents, node, 0);
         absorb(
-            &mut self.inner,
-            &mut self.outer,
-            Members::of(&self.followers, run),
+            &mut self.partition,
+            circuit,
+            &self.followers,
+            &self.kept,
+            self.vertex_count,
             &self.duals,
+            run.core,
             node,
         );
         self.duals.rest_each(circuit);
@@ -323,8 +323,8 @@ impl Arena {
         NodeId::new(node)
     }
 
-    /// Takes away an outermost blossom of dual 0, in time linear in its vertices. The nodes of its circuit
-    /// rest.
+    /// Takes away an outermost blossom of dual 0, in time linear in its circuit and in the vertices of all
+    /// nodes of the circuit but the largest. They rest.
     pub fn dissolve(&mut self, b: NodeId)
         requires blossom { holds (names_of self.old.blossoms) b ≡ true }
         requires outer { is_outermost self.old.vertex_count self.old.blossoms b ≡ true }
@@ -341,14 +341,14 @@ impl Arena {
             0,
         );
         set_entry(&mut self.parents, node, NO_NODE);
-        lower(
-            &mut self.inner,
-            &mut self.outer,
+        release(
+            &mut self.partition,
             Ring::of(&self.nexts, &self.edges, kept.first, kept.links),
             &self.followers,
             &self.kept,
             self.vertex_count,
             &self.duals,
+            kept.run.core,
         );
         self.duals.move_as(node as usize, Label::Out);
     }
@@ -360,10 +360,9 @@ impl Arena {
     {
         self.kept.clear();
         self.duals.wipe();
-        wipe_sums(&mut self.inner);
+        self.partition.reset();
         bare(&mut self.parents, self.vertex_count);
         wipe(&mut self.older);
         wipe(&mut self.newer);
-        renumber(&mut self.outer);
     }
 }

@@ -13,10 +13,10 @@ mod links;
 mod members;
 mod nodes;
 mod order;
+mod partition;
 mod ring;
 mod runs;
 mod shares;
-mod sums;
 mod tables;
 
 pub use arena::Arena;

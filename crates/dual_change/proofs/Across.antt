@@ -15,7 +15,8 @@ pub across-sum : (y z : ℕ → ℤ) (bs : List Blossom) (e : Edge) → duals_ac
 across-sum y z [] e = omega (arith, ints)
 across-sum y z (b ∷ older) e =
     let rest : duals_across (λ a. y a +ℤ z a) older e ≡ duals_across y older e +ℤ duals_across z older e = across-sum y z older e in
-    elim (crosses b.members e) as (λ t. cond t (y b.node +ℤ z b.node) (pos 0) +ℤ duals_across (λ a. y a +ℤ z a) older e ≡ (cond t (y b.node) (pos 0) +ℤ duals_across y older e) +ℤ (cond t (z b.node) (pos 0) +ℤ duals_across z older e)) [
+    elim (crosses b.members e) as (λ t. cond t (y b.node +ℤ z b.node) (pos 0) +ℤ duals_across (λ a. y a +ℤ z a) older e ≡ (cond t (y b.node) (pos 0) +ℤ duals_across y older e) +ℤ
+    (cond t (z b.node) (pos 0) +ℤ duals_across z older e)) [
       | true ↦ omega (arith, ints)
       | false ↦ omega (arith, ints)
     ]

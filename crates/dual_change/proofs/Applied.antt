@@ -13,12 +13,12 @@ use Rattle.blossom_arena.proofs.Lists.{by_test, first_in, later_in}
 use Rattle.blossom_arena.proofs.Sets.{outermost_has}
 use Rattle.blossom_arena.specs.declared.label.Label.{Label}
 use Rattle.blossom_arena.specs.declared.label.Label.TheVariants.{Outer, Inner, Out}
-use Rattle.alt_forest.specs.State.{State, IsOutermost, node_u, node_v, Joins, slack_of, IsTight, IsMate, IsInner, cover, held_by, SameParity, ExposedAgree, IsSearchState}
+use Rattle.alt_forest.specs.State.{State, IsOutermost, node_u, node_v, Joins, slack_of, IsTight, IsMate, IsInner, dual_sum, held_by, SameParity, ExposedAgree, IsSearchState}
 use Rattle.alt_forest.specs.Counts.{IsPlanted}
 use Rattle.alt_forest.proofs.Relabelled.{outer_not_inner, some_not_none}
 use Rattle.alt_forest.proofs.Walk.{other_node_joins}
 use Rattle.dual_change.specs.Changes.{share, change, applied, IsWithin}
-use Rattle.blossom_arena.proofs.Changed.{held-sum, covered_outer}
+use Rattle.blossom_arena.proofs.Changed.{held-sum, outer_sum}
 use Rattle.dual_change.proofs.Across.{across-sum, FeelsOuter, feels_outer}
 use Rattle.dual_change.proofs.Inside.{LiesWithin, rings_within}
 use Rattle.std.proofs.lemmas.Option.{same_Some}
@@ -59,13 +59,15 @@ module _ (s : State) (d : ℤ) (graph : IsGraph s.graph) (nested : IsNested s.gr
       let sum = across-sum s.dual (change s d) s.blossoms (edge_of s.graph e) in
       omega (arith, ints, sum, f)
 
-  -- what covers a vertex grows by the share of its node
-  cover_grows : (v : ℕ) → is_vertex s.graph.vertices v ≡ true → cover (applied s d) v ≡ cover s v +ℤ share d (s.label (outermost s.blossoms v))
-  cover_grows v iv =
+  -- the dual sum of a vertex grows by the share of its node
+  dual_sum_grows : (v : ℕ) → is_vertex s.graph.vertices v ≡ true → dual_sum (applied s d) v ≡ dual_sum s v +ℤ share d (s.label (outermost s.blossoms v))
+  dual_sum_grows v iv =
       let sum : held_by (λ a. s.dual a +ℤ change s d a) s.blossoms v ≡ held_by s.dual s.blossoms v +ℤ held_by (change s d) s.blossoms v = held-sum s.dual (change s d) s.blossoms v in
-      let own : change s d v +ℤ held_by (change s d) s.blossoms v ≡ change s d (outermost s.blossoms v) = covered_outer s.graph.vertices (change s d) s.blossoms v iv nested (change_child s d) in
-      let given : change s d (outermost s.blossoms v) ≡ share d (s.label (outermost s.blossoms v)) = change_outer s d (outermost s.blossoms v) (outermost_has s.graph.vertices s.blossoms v nested iv).0 in
-      plain (s.dual v) (change s d v) (held_by s.dual s.blossoms v) (held_by (change s d) s.blossoms v) (held_by (applied s d).dual s.blossoms v) (share d (s.label (outermost s.blossoms v))) sum (own ∙ given)
+      let own : change s d v +ℤ held_by (change s d) s.blossoms v ≡ change s d (outermost s.blossoms v) = outer_sum s.graph.vertices (change s d) s.blossoms v iv nested (change_child s d) in
+      let given : change s d (outermost s.blossoms v) ≡ share d (s.label (outermost s.blossoms v)) = change_outer s d (outermost s.blossoms v)
+      (outermost_has s.graph.vertices s.blossoms v nested iv).0 in
+      plain (s.dual v) (change s d v) (held_by s.dual s.blossoms v) (held_by (change s d) s.blossoms v) (held_by (applied s d).dual s.blossoms v)
+      (share d (s.label (outermost s.blossoms v))) sum (own ∙ given)
     where
       plain : (y z h k both more : ℤ) → both ≡ h +ℤ k → z +ℤ k ≡ more → (y +ℤ z) +ℤ both ≡ (y +ℤ h) +ℤ more
       plain y z h k both more e f = omega (arith, ints)
@@ -92,7 +94,8 @@ module _ (s : State) (d : ℤ) (graph : IsGraph s.graph) (nested : IsNested s.gr
       swap x y = omega (arith, ints)
 
   -- by the labels of its two nodes
-  pub slack_labels : (e a b : ℕ) (k l : Label) → IsEdgeNumber s.graph e → Joins s.graph s.blossoms e a b → a ≢ b → s.label a ≡ k → s.label b ≡ l → slack_of (applied s d) e ≡ slack_of s e -ℤ (share d k +ℤ share d l)
+  pub slack_labels : (e a b : ℕ) (k l : Label) → IsEdgeNumber s.graph e → Joins s.graph s.blossoms e a b → a ≢ b → s.label a ≡ k → s.label b ≡ l
+      → slack_of (applied s d) e ≡ slack_of s e -ℤ (share d k +ℤ share d l)
   slack_labels e a b k l is j ne la lb = slack_between e a b is j ne ∙ ap₂ (λ x y. slack_of s e -ℤ (share d x +ℤ share d y)) la lb
 
   -- tight edges of trees stay tight
@@ -150,7 +153,8 @@ module _ (s : State) (d : ℤ) (graph : IsGraph s.graph) (nested : IsNested s.gr
   duals_stay : IsWithin s d → AllByRecursion (λ (b : Blossom). pos 0 ≤ℤ s.dual b.node) s.blossoms → AllByRecursion (λ (b : Blossom). pos 0 ≤ℤ (applied s d).dual b.node) s.blossoms
   duals_stay within low = each s.blossoms (λ b name. name) low
     where
-      each : (bs : List Blossom) → ((b : ℕ) → holds (names_of bs) b ≡ true → holds (names_of s.blossoms) b ≡ true) → AllByRecursion (λ (b : Blossom). pos 0 ≤ℤ s.dual b.node) bs → AllByRecursion (λ (b : Blossom). pos 0 ≤ℤ (applied s d).dual b.node) bs
+      each : (bs : List Blossom) → ((b : ℕ) → holds (names_of bs) b ≡ true → holds (names_of s.blossoms) b ≡ true) → AllByRecursion (λ (b : Blossom). pos 0 ≤ℤ s.dual b.node) bs
+          → AllByRecursion (λ (b : Blossom). pos 0 ≤ℤ (applied s d).dual b.node) bs
       each [] all low = tt
       each (b ∷ bs) all low = (
         dual_stays within b.node (all b.node (first_in b.node (names_of bs))) low.0,
@@ -158,12 +162,14 @@ module _ (s : State) (d : ℤ) (graph : IsGraph s.graph) (nested : IsNested s.gr
       )
 
   -- circuits stay tight
-  ring_stays : (ring : List Link) → AllByRecursion (LiesWithin s.graph s.blossoms) ring → AllByRecursion (λ (l : Link). IsTight s l.edge) ring → AllByRecursion (λ (l : Link). IsTight (applied s d) l.edge) ring
+  ring_stays : (ring : List Link) → AllByRecursion (LiesWithin s.graph s.blossoms) ring → AllByRecursion (λ (l : Link). IsTight s l.edge) ring
+      → AllByRecursion (λ (l : Link). IsTight (applied s d) l.edge) ring
   ring_stays [] w t = tt
   ring_stays (l ∷ ring) w t = (record { edge = w.0.edge; tight = slack_within l.edge w.0.edge w.0.one_node ∙ t.0.tight }, ring_stays ring w.1 t.1)
 
   rings_stay : (bs : List Blossom) → AllByRecursion (λ (b : Blossom). AllByRecursion (LiesWithin s.graph s.blossoms) b.ring) bs
-      → AllByRecursion (λ (b : Blossom). AllByRecursion (λ (l : Link). IsTight s l.edge) b.ring) bs → AllByRecursion (λ (b : Blossom). AllByRecursion (λ (l : Link). IsTight (applied s d) l.edge) b.ring) bs
+      → AllByRecursion (λ (b : Blossom). AllByRecursion (λ (l : Link). IsTight s l.edge) b.ring) bs
+      → AllByRecursion (λ (b : Blossom). AllByRecursion (λ (l : Link). IsTight (applied s d) l.edge) b.ring) bs
   rings_stay [] w t = tt
   rings_stay (b ∷ bs) w t = (ring_stays b.ring w.0 t.0, rings_stay bs w.1 t.1)
 
@@ -178,7 +184,7 @@ module _ (s : State) (d : ℤ) (graph : IsGraph s.graph) (nested : IsNested s.gr
         subst (IsMate s a e) (one_mate a e old.0 b old.1.joins old.1.different m.joins m.different) old.1
 
     mate_after : (a e b : ℕ) → IsOutermost s a → s.mate a ≡ Some e → IsMate s a e b → IsMate (applied s d) a e b
-    mate_after a e b is has m = record { edge = m.edge; joins = m.joins; different = m.different; tight = by_label (s.label a) refl ∙ m.tight; outer = m.outer; back = m.back }
+    mate_after a e b is has m = record { edge = m.edge; joins = m.joins; different = m.different; tight = by_label (s.label a) refl ∙ m.tight; outermost = m.outermost; back = m.back }
       where
         by_label : (l : Label) → s.label a ≡ l → slack_of (applied s d) e ≡ slack_of s e
         by_label Outer lab = stays_outer_inner e a b m.edge m.joins m.different lab ((st.labels a is).outer lab e b has m).0
@@ -208,20 +214,25 @@ module _ (s : State) (d : ℤ) (graph : IsGraph s.graph) (nested : IsNested s.gr
       rises = i.rises;
     }
 
-    -- the duals that cover vertices of exposed nodes keep one parity, since all of these nodes are outer
+    -- the dual sums of vertices of exposed nodes keep one parity, since all of these nodes are outer
     exposed_agree : IsPlanted s → ExposedAgree (applied s d)
     exposed_agree planted v w iv iw ev ew =
         let lv : s.label (outermost s.blossoms v) ≡ Outer = by_label v iv ev (s.label (outermost s.blossoms v)) refl in
         let lw : s.label (outermost s.blossoms w) ≡ Outer = by_label w iw ew (s.label (outermost s.blossoms w)) refl in
-        let before : SameParity (cover s v) (cover s w) = st.parity v w iv iw ev ew in
-        (before.0, plain (cover s v) (cover s w) (cover (applied s d) v) (cover (applied s d) w) before.0 before.1 (cover_grows v iv ∙ ap (λ l. cover s v +ℤ share d l) lv) (cover_grows w iw ∙ ap (λ l. cover s w +ℤ share d l) lw))
+        let before : SameParity (dual_sum s v) (dual_sum s w) = st.parity v w iv iw ev ew in (
+          before.0,
+          plain (dual_sum s v) (dual_sum s w) (dual_sum (applied s d) v) (dual_sum (applied s d) w) before.0 before.1
+              (dual_sum_grows v iv ∙ ap (λ l. dual_sum s v +ℤ share d l) lv) (dual_sum_grows w iw ∙ ap (λ l. dual_sum s w +ℤ share d l) lw),
+        )
       where
         plain : (x y x_new y_new half : ℤ) → x ≡ y +ℤ (half +ℤ half) → x_new ≡ x +ℤ d → y_new ≡ y +ℤ d → x_new ≡ y_new +ℤ (half +ℤ half)
         plain x y x_new y_new half e f g = omega (arith, ints)
 
-        by_label : (u : ℕ) → is_vertex s.graph.vertices u ≡ true → s.mate (outermost s.blossoms u) ≡ None → (l : Label) → s.label (outermost s.blossoms u) ≡ l → s.label (outermost s.blossoms u) ≡ Outer
+        by_label : (u : ℕ) → is_vertex s.graph.vertices u ≡ true → s.mate (outermost s.blossoms u) ≡ None → (l : Label) → s.label (outermost s.blossoms u) ≡ l
+            → s.label (outermost s.blossoms u) ≡ Outer
         by_label u iu none Outer lab = lab
-        by_label u iu none Inner lab = let i = (st.labels (outermost s.blossoms u) (outermost_has s.graph.vertices s.blossoms u nested iu).0).inner lab in some_not_none i.child_edge (sym i.mate ∙ none)
+        by_label u iu none Inner lab = let i = (st.labels (outermost s.blossoms u)
+            (outermost_has s.graph.vertices s.blossoms u nested iu).0).inner lab in some_not_none i.child_edge (sym i.mate ∙ none)
         by_label u iu none Out lab = absurd (planted (outermost s.blossoms u) ((outermost_has s.graph.vertices s.blossoms u nested iu).0, none) lab)
 
     pub applied_state : IsPlanted s → IsWithin s d → IsSearchState (applied s d) depth

@@ -71,7 +71,8 @@ module _ (s : State) (depth : ℕ → ℕ) (graph : IsGraph s.graph) (nested : I
       link_ring ring w.1,
     )
 
-    link_rings : (bs : List Blossom) → AllByRecursion (λ (b : Blossom). AllByRecursion (LiesWithin s.graph s.blossoms) b.ring) bs → AllByRecursion (λ (b : Blossom). AllByRecursion (λ (l : Link). Linked (edge_of s.graph l.edge).u (edge_of s.graph l.edge).v) b.ring) bs
+    link_rings : (bs : List Blossom) → AllByRecursion (λ (b : Blossom). AllByRecursion (LiesWithin s.graph s.blossoms) b.ring) bs
+        → AllByRecursion (λ (b : Blossom). AllByRecursion (λ (l : Link). Linked (edge_of s.graph l.edge).u (edge_of s.graph l.edge).v) b.ring) bs
     link_rings [] w = tt
     link_rings (b ∷ bs) w = (link_ring b.ring w.0, link_rings bs w.1)
 
@@ -88,7 +89,8 @@ module _ (s : State) (depth : ℕ → ℕ) (graph : IsGraph s.graph) (nested : I
     abbrev Alike : ℕ → ℕ → Type 0
     Alike u v = (label_of u ≡ Outer) ⊎ (label_of v ≡ Outer) → outermost s.blossoms u ≡ outermost s.blossoms v
 
-    alike_edge : (e : ℕ) → IsEdgeNumber s.graph e → holds removed (edge_of s.graph e).u ≡ false → holds removed (edge_of s.graph e).v ≡ false → Alike (edge_of s.graph e).u (edge_of s.graph e).v
+    alike_edge : (e : ℕ) → IsEdgeNumber s.graph e → holds removed (edge_of s.graph e).u ≡ false → holds removed (edge_of s.graph e).v ≡ false
+        → Alike (edge_of s.graph e).u (edge_of s.graph e).v
     alike_edge e is fu fv o = ⊎_elim
         (λ same. same)
         (λ ne. ⊎_elim
@@ -97,12 +99,14 @@ module _ (s : State) (depth : ℕ → ℕ) (graph : IsGraph s.graph) (nested : I
         o)
         (cases_eq (outermost s.blossoms (edge_of s.graph e).u) (outermost s.blossoms (edge_of s.graph e).v))
       where
-        by_v : outermost s.blossoms (edge_of s.graph e).u ≢ outermost s.blossoms (edge_of s.graph e).v → label_of (edge_of s.graph e).u ≡ Outer → (l : Label) → label_of (edge_of s.graph e).v ≡ l → outermost s.blossoms (edge_of s.graph e).u ≡ outermost s.blossoms (edge_of s.graph e).v
+        by_v : outermost s.blossoms (edge_of s.graph e).u ≢ outermost s.blossoms (edge_of s.graph e).v → label_of (edge_of s.graph e).u ≡ Outer → (l : Label)
+            → label_of (edge_of s.graph e).v ≡ l → outermost s.blossoms (edge_of s.graph e).u ≡ outermost s.blossoms (edge_of s.graph e).v
         by_v ne lu Outer lv = absurd (bound.between e (outermost s.blossoms (edge_of s.graph e).u) (outermost s.blossoms (edge_of s.graph e).v) is (inl (refl, refl)) ne lu lv)
         by_v ne lu Out lv = absurd (bound.to_out e (outermost s.blossoms (edge_of s.graph e).u) (outermost s.blossoms (edge_of s.graph e).v) is (inl (refl, refl)) lu lv)
         by_v ne lu Inner lv = absurd (free_not_inner (edge_of s.graph e).v (v_vertex s.graph e graph.ends is) fv lv)
 
-        by_u : outermost s.blossoms (edge_of s.graph e).u ≢ outermost s.blossoms (edge_of s.graph e).v → label_of (edge_of s.graph e).v ≡ Outer → (l : Label) → label_of (edge_of s.graph e).u ≡ l → outermost s.blossoms (edge_of s.graph e).u ≡ outermost s.blossoms (edge_of s.graph e).v
+        by_u : outermost s.blossoms (edge_of s.graph e).u ≢ outermost s.blossoms (edge_of s.graph e).v → label_of (edge_of s.graph e).v ≡ Outer → (l : Label)
+            → label_of (edge_of s.graph e).u ≡ l → outermost s.blossoms (edge_of s.graph e).u ≡ outermost s.blossoms (edge_of s.graph e).v
         by_u ne lv Outer lu = absurd (bound.between e (outermost s.blossoms (edge_of s.graph e).u) (outermost s.blossoms (edge_of s.graph e).v) is (inl (refl, refl)) ne lu lv)
         by_u ne lv Out lu = absurd (bound.to_out e (outermost s.blossoms (edge_of s.graph e).v) (outermost s.blossoms (edge_of s.graph e).u) is (inr (refl, refl)) lv lu)
         by_u ne lv Inner lu = absurd (free_not_inner (edge_of s.graph e).u (u_vertex s.graph e graph.ends is) fu lu)

@@ -11,6 +11,7 @@ use Rattle.alt_forest.specs.State.{State, slack_of}
 use Rattle.alt_forest.specs.Searches.{IsSound, state_of}
 use Rattle.alt_forest.specs.Entries.{NeedsMoment, IsBlossomEntered, HasNoTree, IsQueued}
 use Rattle.alt_forest.specs.Standing.{IsSeed, IsStanding}
+use Rattle.alt_forest.specs.Trees.{root_of}
 use Rattle.alt_forest.proofs.Places.{nested_of}
 use Rattle.dual_change.specs.Changes.{applied}
 use Rattle.dual_change.proofs.Raised.{with_duals}
@@ -46,7 +47,8 @@ seed_later s d a v h = record { vertex = h.vertex; root = h.root ∙ sym (root_a
 
 -- the search after a change, whose clock has gone on
 module _ (s t : Search) (d x : ℤ) (rest : t ≡ with_duals s t.arena.duals) (is : x ≡ s.clock +ℤ d) where
-  pub queued_later : state_of t ≡ applied (state_of s) d → IsSound s → IsQueued s → (HasNoTree (state_of s) → ⊥) → pos 0 ≤ℤ d → (s.clock +ℤ d) ≤ℤ NUMBER_LIMIT → IsQueued (record t { clock = x })
+  pub queued_later : state_of t ≡ applied (state_of s) d → IsSound s → IsQueued s → (HasNoTree (state_of s) → ⊥) → pos 0 ≤ℤ d → (s.clock +ℤ d) ≤ℤ NUMBER_LIMIT
+      → IsQueued (record t { clock = x })
   queued_later state sound h tree low high =
       let now : state_of (with_duals s t.arena.duals) ≡ applied (state_of s) d = sym (ap state_of rest) ∙ state in
       let graph = sound.shape.graph.graph in
@@ -71,5 +73,10 @@ module _ (s t : Search) (d x : ℤ) (rest : t ≡ with_duals s t.arena.duals) (i
         trees = λ a outer in_it.
             let seed = h.trees a outer in_it in
             (seed.0, seed.1, subst (λ y. IsSeed y a seed.0) (sym now) (seed_later (state_of s) d a seed.0 seed.2));
+        same = λ a b a_outer b_outer a_in b_in q.
+            h.same a b a_outer b_outer a_in b_in (sym (root_now a) ∙ q ∙ root_now b);
         moves = h.moves;
       })
+    where
+      root_now : (a : ℕ) → root_of (state_of (with_duals s t.arena.duals)) a ≡ root_of (state_of s) a
+      root_now a = ap (λ y. root_of y a) (sym (ap state_of rest) ∙ state) ∙ root_applied (state_of s) d a

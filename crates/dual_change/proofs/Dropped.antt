@@ -44,7 +44,8 @@ dropped s (Edge e) is stale h = record {
   low = h.low;
   high = h.high;
   edges = λ d number. by_test (eqb d e)
-      (λ t. subst (IsEntered (state_of s) s.clock (with_moment s.queue (Edge e) None)) (sym (eqb-true d e t)) (subst (NeedsMoment (state_of s) s.clock e) (sym (edge_set s.queue e None is)) stale))
+      (λ t. subst (IsEntered (state_of s) s.clock (with_moment s.queue (Edge e) None)) (sym (eqb-true d e t))
+      (subst (NeedsMoment (state_of s) s.clock e) (sym (edge_set s.queue e None is)) stale))
       (λ t. entered_same (state_of s) s.clock s.queue (with_moment s.queue (Edge e) None) d (edge_other s.queue e d None is (eqb-false d e t)) (h.edges d number));
   blossoms = h.blossoms;
   still = h.still;
@@ -74,4 +75,4 @@ looks_dropped q (Blossom b) m has = omega arith
 
 -- what stands in trees is not in the queue
 pub still_standing : (s t : Search) → t ≡ record s { queue = t.queue } → IsStanding s → IsStanding t
-still_standing s t rest h = subst IsStanding (sym rest) (record { listed = h.listed; trees = h.trees; moves = h.moves })
+still_standing s t rest h = subst IsStanding (sym rest) (record { listed = h.listed; trees = h.trees; same = h.same; moves = h.moves })

@@ -1,49 +1,40 @@
 -- The nodes that the code finds at the ends of an edge.
-use Rattle.std.proofs.Common.{◌≡◌, ℕ, ap, ◌∙◌, sym, inl, subst}
-use Rattle.graph_theory.specs.Graph.{Multigraph, IsEdgeNumber, IsEdgeWithin, IsWeight, edge_of}
-use Rattle.graph_theory.specs.declared.edge.Edge.{Edge}
-use Rattle.graph_theory.proofs.Edges.{edge_of_within, edge_of-weight}
-use Rattle.alt_forest.proofs.Certified.{same_edge}
+use Rattle.std.proofs.Common.{◌≡◌, ◌≢◌, ℕ, ap, ◌∙◌, sym, inl, subst, ⊎_elim}
+use Rattle.graph_theory.specs.Graph.{Multigraph, IsEdgeNumber, edge_of}
 use Rattle.blossom_arena.specs.Family.{outermost}
 use Rattle.alt_forest.specs.declared.search.Search.{Search}
-use Rattle.alt_forest.specs.State.{IsOutermost, Joins, node_u, node_v}
-use Rattle.alt_forest.specs.Searches.{HasShape, state_of}
+use Rattle.alt_forest.specs.State.{node_u, node_v}
+use Rattle.alt_forest.specs.Searches.{HasShape}
+use Rattle.alt_forest.proofs.Mates.{joins_turned}
 use Rattle.alt_forest.proofs.Places.{u_outer, v_outer}
+use Rattle.dual_change.specs.Candidates.{AreEnds}
 
--- the code's edge e of g, its ends u and v, and their nodes
-pub record AreEnds (s : Search) (g : Multigraph) (e u v one other : ℕ) : Type 0 where
-  pub graph : g ≡ s.graph
-  pub edge : IsEdgeNumber g e
-  pub from : u ≡ (edge_of g e).u
-  pub to : v ≡ (edge_of g e).v
-  pub one_is : one ≡ outermost s.arena.blossoms u
-  pub other_is : other ≡ outermost s.arena.blossoms v
+-- edge e of g has its ends u and v in these nodes
+pub ends_by : (s : Search) (g : Multigraph) (e u v one other : ℕ) → HasShape s → g ≡ s.graph → IsEdgeNumber g e
+    → u ≡ (edge_of g e).u → v ≡ (edge_of g e).v
+    → one ≡ outermost s.arena.blossoms u → other ≡ outermost s.arena.blossoms v → AreEnds s e one other
+ends_by s g e u v one other h graph edge from to one_is other_is =
+    let number = subst (λ x. IsEdgeNumber x e) graph edge in
+    let at_u : one ≡ node_u s.graph s.arena.blossoms e =
+    one_is ∙ ap (outermost s.arena.blossoms) from ∙ ap (λ x. node_u x s.arena.blossoms e) graph in
+    let at_v : other ≡ node_v s.graph s.arena.blossoms e =
+    other_is ∙ ap (outermost s.arena.blossoms) to ∙ ap (λ x. node_v x s.arena.blossoms e) graph in
+    record {
+      number = number;
+      joins = inl (sym at_u, sym at_v);
+      one_is = u_outer s e one h number at_u;
+      other_is = v_outer s e other h number at_v;
+    }
 
-module _ (s : Search) (g : Multigraph) (e u v one other : ℕ) (h : HasShape s) (ends : AreEnds s g e u v one other) where
-  pub is_edge : IsEdgeNumber s.graph e
-  is_edge = subst (λ x. IsEdgeNumber x e) ends.graph ends.edge
+-- both ends are in one node
+pub same_ends : (s : Search) (e one other : ℕ) → AreEnds s e one other → one ≡ other
+    → node_u s.graph s.arena.blossoms e ≢ node_v s.graph s.arena.blossoms e → ⊥
+same_ends s e one other ends same ne = ⊎_elim
+    (λ p. ne (p.0 ∙ same ∙ sym p.1))
+    (λ p. ne (p.0 ∙ sym same ∙ sym p.1))
+    ends.joins
 
-  pub at_u : one ≡ node_u s.graph s.arena.blossoms e
-  at_u = ends.one_is ∙ ap (outermost s.arena.blossoms) ends.from ∙ ap (λ x. node_u x s.arena.blossoms e) ends.graph
-
-  pub at_v : other ≡ node_v s.graph s.arena.blossoms e
-  at_v = ends.other_is ∙ ap (outermost s.arena.blossoms) ends.to ∙ ap (λ x. node_v x s.arena.blossoms e) ends.graph
-
-  pub one_outer : IsOutermost (state_of s) one
-  one_outer = u_outer s e one h is_edge at_u
-
-  pub other_outer : IsOutermost (state_of s) other
-  other_outer = v_outer s e other h is_edge at_v
-
-  pub they_join : Joins s.graph s.arena.blossoms e one other
-  they_join = inl (sym at_u, sym at_v)
-
--- the edge that is found by its ends and its weight
-pub edge_found : (s : Search) (g : Multigraph) (e : ℕ) (x : Edge) → g ≡ s.graph → x.u ≡ (edge_of g e).u → x.v ≡ (edge_of g e).v → x.w ≡ (edge_of g e).w → edge_of s.graph e ≡ x
-edge_found s g e x graph u v w = ap (λ k. edge_of k e) (sym graph) ∙ sym (same_edge x (edge_of g e) u v w)
-
-pub edge_within : (s : Search) (e : ℕ) (x : Edge) → HasShape s → IsEdgeNumber s.graph e → edge_of s.graph e ≡ x → IsEdgeWithin s.graph.vertices x
-edge_within s e x h is same = subst (λ (k : Edge). IsEdgeWithin s.graph.vertices k) same (edge_of_within s.graph e h.graph.graph.ends is)
-
-pub edge_weighs : (s : Search) (e : ℕ) (x : Edge) → HasShape s → IsEdgeNumber s.graph e → edge_of s.graph e ≡ x → IsWeight x.w
-edge_weighs s e x h is same = subst (λ (k : Edge). IsWeight k.w) same (edge_of-weight s.graph e h.graph.graph is)
+-- it doesn't matter which of the two comes first
+pub ends_turned : (s : Search) (e one other : ℕ) → AreEnds s e one other → AreEnds s e other one
+ends_turned s e one other h =
+    record { number = h.number; joins = joins_turned s.graph s.arena.blossoms e one other h.joins; one_is = h.other_is; other_is = h.one_is }

@@ -12,7 +12,8 @@ use Rattle.alt_forest.specs.Searches.{state_of}
 use Rattle.alt_forest.specs.Entries.{IsQueued}
 use Rattle.dual_change.specs.declared.event.Next.{Next}
 use Rattle.dual_change.specs.declared.event.Next.TheVariants.{Grow as NextGrow, Shrink as NextShrink, Augment as NextAugment, Expand as NextExpand, Stuck}
-use Rattle.dual_change.specs.Candidates.{ComesBy, ComesAt, MindsEdge, MindsBlossom}
+use Rattle.dual_change.specs.Candidates.{ComesAt}
+use Rattle.dual_change.proofs.Sooner.{ComesBy, MindsEdge, MindsBlossom}
 
 -- it comes no later than what has a moment x ahead of the clock
 abbrev pub IsFirst : Moments → ℤ → Next → Type 0

@@ -7,7 +7,8 @@ use Rattle.graph_theory.specs.Parts.{holds}
 use Rattle.graph_theory.specs.Barrier.{AreTogether, IsOddHead, IsOddCount}
 use Rattle.graph_theory.proofs.Members.{holds_place, holds_first, least_first, same_length}
 use Rattle.graph_theory.proofs.Edges.{touches-u, other_end-u}
-use Rattle.graph_theory.proofs.Components.{together-refl, together-trans, together-sym, together-edge, together-free, together-free_start, together-within, closed_has, component_from, component-outside, component-within}
+use Rattle.graph_theory.proofs.Components.{together-refl, together-trans, together-sym, together-edge, together-free, together-free_start, together-within}
+use Rattle.graph_theory.proofs.Components.{closed_has, component_from, component-outside, component-within}
 use Rattle.blossom_arena.specs.Family.{is_vertex}
 use Rattle.blossom_arena.proofs.Lists.{by_test}
 use Rattle.blossom_arena.proofs.Nested.{vertex_range, range_vertex}
@@ -38,9 +39,11 @@ module _ (g : Multigraph) (removed : List ℕ) (graph : IsGraph g) where
   same_head v w a =
       let marked : ℕ → Bool = λ x. not (holds removed x) && eqb (head_of x) (head_of v) in
       eqb-true (head_of w) (head_of v) (and_parts (not (holds removed w)) (eqb (head_of w) (head_of v))
-      (closed_has g removed marked v w closed (and_from (not (holds removed v)) (eqb (head_of v) (head_of v)) (not_from_false (holds removed v) (together-free_start g removed v w a)) (eq-eqb (head_of v) (head_of v) refl)) a)).1
+      (closed_has g removed marked v w closed (and_from (not (holds removed v)) (eqb (head_of v) (head_of v))
+      (not_from_false (holds removed v) (together-free_start g removed v w a)) (eq-eqb (head_of v) (head_of v) refl)) a)).1
     where
-      by_end : (e x : ℕ) → IsEdgeNumber g e → touches (edge_of g e) x ≡ true → holds removed x ≡ false → holds removed (other_end (edge_of g e) x) ≡ false → head_of (other_end (edge_of g e) x) ≡ head_of x
+      by_end : (e x : ℕ) → IsEdgeNumber g e → touches (edge_of g e) x ≡ true → holds removed x ≡ false → holds removed (other_end (edge_of g e) x) ≡ false
+          → head_of (other_end (edge_of g e) x) ≡ head_of x
       by_end e x is meets fx fo = ⊎_elim
           (λ here.
           let at : (edge_of g e).u ≡ x = eqb-true (edge_of g e).u x here in
@@ -57,7 +60,8 @@ module _ (g : Multigraph) (removed : List ℕ) (graph : IsGraph g) where
           ap head_of far ∙ rep_edge g (holds removed) e is (ap (holds removed) (sym far) ∙ fo) (ap (holds removed) at ∙ fx) ∙ ap head_of at))
           (or_cases (eqb (edge_of g e).u x) (eqb (edge_of g e).v x) meets)
 
-      closed : (e x : ℕ) → IsEdgeNumber g e → touches (edge_of g e) x ≡ true → (not (holds removed x) && eqb (head_of x) (head_of v)) ≡ true → holds removed (other_end (edge_of g e) x) ≡ false
+      closed : (e x : ℕ) → IsEdgeNumber g e → touches (edge_of g e) x ≡ true → (not (holds removed x) && eqb (head_of x) (head_of v)) ≡ true
+          → holds removed (other_end (edge_of g e) x) ≡ false
           → (not (holds removed (other_end (edge_of g e) x)) && eqb (head_of (other_end (edge_of g e) x)) (head_of v)) ≡ true
       closed e x is meets m fo =
           let p = and_parts (not (holds removed x)) (eqb (head_of x) (head_of v)) m in

@@ -24,7 +24,8 @@ module _ (g : Multigraph) (graph : IsGraph g) where
     next_in z [] zin all = zin
     next_in z (k ∷ ks) zin all = all k.node (first_in k.node (nodes_of ks))
 
-    chain_within : (z : ℕ) (ring : List Link) → in_ring b.ring z ≡ true → ((a : ℕ) → in_ring ring a ≡ true → in_ring b.ring a ≡ true) → IsChainTo g older ring z → AllByRecursion (LiesWithin g (b ∷ older)) ring
+    chain_within : (z : ℕ) (ring : List Link) → in_ring b.ring z ≡ true → ((a : ℕ) → in_ring ring a ≡ true → in_ring b.ring a ≡ true) → IsChainTo g older ring z
+        → AllByRecursion (LiesWithin g (b ∷ older)) ring
     chain_within z [] zin all chain = tt
     chain_within z (l ∷ rest) zin all chain =
         let here : in_ring b.ring l.node ≡ true = all l.node (first_in l.node (nodes_of rest)) in
@@ -46,7 +47,8 @@ module _ (g : Multigraph) (graph : IsGraph g) where
       where
         by_links : (ks : List Link) → b.ring ≡ ks → AllByRecursion (LiesWithin g (b ∷ older)) b.ring
         by_links [] e = absurd (omega (arith, h.0.circuit.at_least_three, ap (λ (r : List Link). length r) e))
-        by_links (k ∷ ks) e = chain_within (next_node b.ring 0) b.ring (ap (λ r. in_ring b.ring (next_node r 0)) e ∙ ap (λ r. in_ring r k.node) e ∙ first_in k.node (nodes_of ks)) (λ a r. r) ring
+        by_links (k ∷ ks) e = chain_within (next_node b.ring 0) b.ring (ap (λ r. in_ring b.ring (next_node r 0)) e ∙ ap (λ r. in_ring r k.node) e ∙ first_in k.node (nodes_of ks))
+            (λ a r. r) ring
 
     -- what lay in one node lies in one node
     still_within : (l : Link) → LiesWithin g older l → LiesWithin g (b ∷ older) l
@@ -64,7 +66,8 @@ module _ (g : Multigraph) (graph : IsGraph g) where
     ring_still [] t = tt
     ring_still (l ∷ ring) t = (still_within l t.0, ring_still ring t.1)
 
-    rings_still : (bs : List Blossom) → AllByRecursion (λ (c : Blossom). AllByRecursion (LiesWithin g older) c.ring) bs → AllByRecursion (λ (c : Blossom). AllByRecursion (LiesWithin g (b ∷ older)) c.ring) bs
+    rings_still : (bs : List Blossom) → AllByRecursion (λ (c : Blossom). AllByRecursion (LiesWithin g older) c.ring) bs
+        → AllByRecursion (λ (c : Blossom). AllByRecursion (LiesWithin g (b ∷ older)) c.ring) bs
     rings_still [] t = tt
     rings_still (c ∷ bs) t = (ring_still c.ring t.0, rings_still bs t.1)
 

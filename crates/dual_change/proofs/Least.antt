@@ -9,7 +9,7 @@ use Rattle.alt_forest.proofs.Duals.{low_at}
 use Rattle.blossom_arena.specs.declared.label.Label.{Label}
 use Rattle.blossom_arena.specs.declared.label.Label.TheVariants.{Outer, Inner, Out}
 use Rattle.alt_forest.specs.State.{State, IsOutermost, Joins, slack_of, IsSearchState}
-use Rattle.alt_forest.specs.Trees.{far_end, up_edge_by, up_of, node_limit, path_within, last_of, root_of, cover, SameParity}
+use Rattle.alt_forest.specs.Trees.{far_end, up_edge_by, up_of, node_limit, path_within, last_of, root_of, dual_sum, SameParity}
 use Rattle.alt_forest.proofs.Relabelled.{outer_not_out}
 use Rattle.alt_forest.proofs.Parity.{even_slack}
 use Rattle.alt_forest.proofs.Roots.{forests_have_parity}
@@ -20,7 +20,8 @@ use Rattle.dual_change.specs.declared.event.Next.TheVariants.{Grow as NextGrow, 
 use Rattle.alt_forest.specs.Counts.{IsPlanted}
 use Rattle.dual_change.specs.Changes.{share, applied, IsWithin, IsPossible, IsLeast, IsStuck, IsNext, IsNextWithin}
 use Rattle.dual_change.specs.Laws.{OuterSlackIsEven}
-use Rattle.dual_change.specs.Candidates.{change_of, IsAtMost, Leads, IsCandidate, MindsEdge, MindsBlossom}
+use Rattle.dual_change.specs.Candidates.{Leads, IsCandidate}
+use Rattle.dual_change.proofs.Sooner.{change_of, IsAtMost, MindsEdge, MindsBlossom}
 use Rattle.dual_change.proofs.Applied.{change_outer, slack_labels, u_outer, v_outer}
 use Rattle.blossom_arena.proofs.Ends.{u_vertex, v_vertex}
 
@@ -32,7 +33,7 @@ outer_slack_even s depth e a b graph nested st is j la lb =
     let labels : (s.label (outermost s.blossoms u) ≡ Outer) × (s.label (outermost s.blossoms v) ≡ Outer) = ⊎_elim
     (λ p. (ap s.label p.0 ∙ la, ap s.label p.1 ∙ lb))
     (λ p. (ap s.label p.0 ∙ lb, ap s.label p.1 ∙ la)) j in
-    let same : SameParity (cover s u) (cover s v) = forests_have_parity s depth u v graph nested st (u_vertex s.graph e graph.ends is) (v_vertex s.graph e graph.ends is)
+    let same : SameParity (dual_sum s u) (dual_sum s v) = forests_have_parity s depth u v graph nested st (u_vertex s.graph e graph.ends is) (v_vertex s.graph e graph.ends is)
     (inl (λ q. outer_not_out (sym labels.0 ∙ q))) (inl (λ q. outer_not_out (sym labels.1 ∙ q))) in
     let half = even_slack s e same in
     (half.0, plain (slack_of s e) half.0 half.1)
@@ -65,7 +66,8 @@ module _ (s : State) (depth : ℕ → ℕ) (graph : IsGraph s.graph) (nested : I
       plain : (x y : ℤ) → x -ℤ (y +ℤ pos 0) ≡ x -ℤ y
       plain x y = omega (arith, ints)
 
-  pub left_between : (c : ℤ) (e a b : ℕ) → IsEdgeNumber s.graph e → Joins s.graph s.blossoms e a b → a ≢ b → s.label a ≡ Outer → s.label b ≡ Outer → slack_of (applied s c) e ≡ slack_of s e -ℤ (c +ℤ c)
+  pub left_between : (c : ℤ) (e a b : ℕ) → IsEdgeNumber s.graph e → Joins s.graph s.blossoms e a b → a ≢ b → s.label a ≡ Outer → s.label b ≡ Outer
+      → slack_of (applied s c) e ≡ slack_of s e -ℤ (c +ℤ c)
   left_between c e a b is j ne la lb = slack_labels s c graph nested e a b Outer Outer is j ne la lb
 
   pub left_inner : (c : ℤ) (a : ℕ) → IsOutermost s a → s.label a ≡ Inner → (applied s c).dual a ≡ s.dual a -ℤ c
@@ -86,11 +88,14 @@ module _ (s : State) (depth : ℕ → ℕ) (graph : IsGraph s.graph) (nested : I
 
   -- a change within the bounds comes no later than any event
   no_later : (d : ℤ) → IsWithin s d → (c : ℤ) (event : Event) → IsPossible (applied s c) event → d ≤ℤ c
-  no_later d w c (Grow e) p = by_slack d c (slack_of s e) (slack_of (applied s c) e) p.tight.tight (left_to_out c e p.near p.far p.tight.edge p.joins p.near_outer p.far_out) (w.to_out e p.near p.far p.tight.edge p.joins p.near_outer p.far_out)
+  no_later d w c (Grow e) p = by_slack d c (slack_of s e) (slack_of (applied s c) e) p.tight.tight (left_to_out c e p.near p.far p.tight.edge p.joins p.near_outer p.far_out)
+      (w.to_out e p.near p.far p.tight.edge p.joins p.near_outer p.far_out)
   no_later d w c (Augment e) p =
       let ne : p.one ≢ p.other = two_nodes c p.one p.other p.two_trees in
-      by_half d c (slack_of s e) (slack_of (applied s c) e) p.tight.tight (left_between c e p.one p.other p.tight.edge p.joins ne p.one_outer p.other_outer) (w.between e p.one p.other p.tight.edge p.joins ne p.one_outer p.other_outer)
-  no_later d w c (Shrink e) p = by_half d c (slack_of s e) (slack_of (applied s c) e) p.tight.tight (left_between c e p.one p.other p.tight.edge p.joins p.different p.one_outer p.other_outer) (w.between e p.one p.other p.tight.edge p.joins p.different p.one_outer p.other_outer)
+      by_half d c (slack_of s e) (slack_of (applied s c) e) p.tight.tight (left_between c e p.one p.other p.tight.edge p.joins ne p.one_outer p.other_outer)
+      (w.between e p.one p.other p.tight.edge p.joins ne p.one_outer p.other_outer)
+  no_later d w c (Shrink e) p = by_half d c (slack_of s e) (slack_of (applied s c) e) p.tight.tight
+      (left_between c e p.one p.other p.tight.edge p.joins p.different p.one_outer p.other_outer) (w.between e p.one p.other p.tight.edge p.joins p.different p.one_outer p.other_outer)
   no_later d w c (Expand b) p = by_slack d c (s.dual b) ((applied s c).dual b) p.empty (left_inner c b p.outermost p.inner) (w.inner b p.blossom p.outermost p.inner)
 
   pub is_least : (d : ℤ) (event : Event) → IsWithin s d → IsPossible (applied s d) event → IsLeast s d event
@@ -135,11 +140,23 @@ module _ (s : State) (depth : ℕ → ℕ) (graph : IsGraph s.graph) (nested : I
             let both = joined_outer e a b is j in
             record {
               low = st.slacks e is;
-              possible = record { near = a; far = b; tight = record { edge = is; tight = left_to_out (slack_of s e) e a b is j la lb ∙ none_left (slack_of s e) }; joins = j; near_is = both.0; far_is = both.1; near_outer = la; far_out = lb; mate_edge = f; has_mate = has };
+              possible = record {
+                near = a;
+                far = b;
+                tight = record { edge = is; tight = left_to_out (slack_of s e) e a b is j la lb ∙ none_left (slack_of s e) };
+                joins = j;
+                near_is = both.0;
+                far_is = both.1;
+                near_outer = la;
+                far_out = lb;
+                mate_edge = f;
+                has_mate = has;
+              };
             }
 
     -- a change by half of its slack makes an edge between two outer nodes tight: within a tree a blossom can be shrunk then
-    pub leads_shrink : (e a b : ℕ) (half : ℤ) → IsEdgeNumber s.graph e → Joins s.graph s.blossoms e a b → a ≢ b → s.label a ≡ Outer → s.label b ≡ Outer → slack_of s e ≡ half +ℤ half → root_of s a ≡ root_of s b → Leads s half (Shrink e)
+    pub leads_shrink : (e a b : ℕ) (half : ℤ) → IsEdgeNumber s.graph e → Joins s.graph s.blossoms e a b → a ≢ b → s.label a ≡ Outer → s.label b ≡ Outer
+        → slack_of s e ≡ half +ℤ half → root_of s a ≡ root_of s b → Leads s half (Shrink e)
     leads_shrink e a b half is j ne la lb twice one_tree =
         let both = joined_outer e a b is j in
         let low : pos 0 ≤ℤ slack_of s e = st.slacks e is in
@@ -160,7 +177,8 @@ module _ (s : State) (depth : ℕ → ℕ) (graph : IsGraph s.graph) (nested : I
         }
 
     -- and between two trees the matching can be augmented
-    pub leads_augment : (e a b : ℕ) (half : ℤ) → IsEdgeNumber s.graph e → Joins s.graph s.blossoms e a b → a ≢ b → s.label a ≡ Outer → s.label b ≡ Outer → slack_of s e ≡ half +ℤ half → root_of s a ≢ root_of s b → Leads s half (Augment e)
+    pub leads_augment : (e a b : ℕ) (half : ℤ) → IsEdgeNumber s.graph e → Joins s.graph s.blossoms e a b → a ≢ b → s.label a ≡ Outer → s.label b ≡ Outer
+        → slack_of s e ≡ half +ℤ half → root_of s a ≢ root_of s b → Leads s half (Augment e)
     leads_augment e a b half is j ne la lb twice two_trees =
         let both = joined_outer e a b is j in
         let low : pos 0 ≤ℤ slack_of s e = st.slacks e is in

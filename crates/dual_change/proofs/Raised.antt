@@ -27,7 +27,8 @@ outer_by s a b h e same = subst (λ x. is_outermost s.graph.vertices s.arena.blo
 
 module _ (s : Search) (d : ℤ) (h : HasShape s) where
   -- no blossom's dual falls below 0
-  pub raised_low : IsSound s → IsStanding s → IsWithin (state_of s) d → (a : ℕ) → is_outermost s.arena.vertex_count s.arena.blossoms a ≡ true → s.arena.vertex_count < a → pos 0 ≤ℤ (dual_at s.arena.duals a +ℤ share d (label_at s.arena.motions a))
+  pub raised_low : IsSound s → IsStanding s → IsWithin (state_of s) d → (a : ℕ) → is_outermost s.arena.vertex_count s.arena.blossoms a ≡ true → s.arena.vertex_count < a
+      → pos 0 ≤ℤ (dual_at s.arena.duals a +ℤ share d (label_at s.arena.motions a))
   raised_low sound standing within a e above =
       let is : IsOutermost (state_of s) a = outer_by s a a h e refl in
       let node : is_node s.graph.vertices s.arena.blossoms a ≡ true = (outermost_parts s.graph.vertices s.arena.blossoms a is).0 in
@@ -39,7 +40,8 @@ module _ (s : Search) (d : ℤ) (h : HasShape s) where
       (dual_stays (state_of s) d h.graph.graph (nested_of s h) within a name (low_at (dual_at s.arena.duals) s.arena.blossoms a sound.state.duals name))
 
   -- and each lies in range
-  pub raised_range : IsStanding s → StaysInRange (state_of s) d → (a : ℕ) → is_outermost s.arena.vertex_count s.arena.blossoms a ≡ true → IsNumber (dual_at s.arena.duals a +ℤ share d (label_at s.arena.motions a))
+  pub raised_range : IsStanding s → StaysInRange (state_of s) d → (a : ℕ) → is_outermost s.arena.vertex_count s.arena.blossoms a ≡ true
+      → IsNumber (dual_at s.arena.duals a +ℤ share d (label_at s.arena.motions a))
   raised_range standing in_range a e =
       let is : IsOutermost (state_of s) a = outer_by s a a h e refl in
       subst (λ x. IsNumber (dual_at s.arena.duals a +ℤ x)) (change_outer (state_of s) d a is ∙ sym (ap (share d) (standing.moves a is))) (in_range a is)
@@ -64,7 +66,16 @@ module _ (s : Search) (d : ℤ) (h : HasShape s) where
 
     pub raised_sound : IsFamily f → (sound : IsSound s) → IsPlanted (state_of s) → IsWithin (state_of s) d → IsSound (record s { arena = f })
     raised_sound good sound planted within = record {
-      shape = record { graph = h.graph; family = good; arena = ap (λ (g : Family). g.vertex_count) rest ∙ h.arena; labels = h.labels; parents = h.parents; mates = h.mates; circuit = h.circuit; room = h.room };
+      shape = record {
+        graph = h.graph;
+        family = good;
+        arena = ap (λ (g : Family). g.vertex_count) rest ∙ h.arena;
+        labels = h.labels;
+        parents = h.parents;
+        mates = h.mates;
+        circuit = h.circuit;
+        room = h.room;
+      };
       depth = sound.depth;
       state = subst (λ x. IsSearchState x sound.depth) (sym raised_state) (applied_state (state_of s) d h.graph.graph (nested_of s h) sound.depth sound.state planted within);
     }

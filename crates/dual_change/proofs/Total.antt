@@ -1,5 +1,6 @@
 -- A change of d raises the sum of all duals by d for each tree.
-use Rattle.std.proofs.Common.{◌≡◌, ℕ, zero, suc, ◌+◌, ◌≤◌, ℤ, pos, ◌+ℤ◌, ◌-ℤ◌, ◌*ℤ◌, Bool, true, false, not, ◌&&◌, cond, List, [], ◌∷◌, length, map, Option, Some, None, refl, sym, ap, ◌∙◌, subst, arith}
+use Rattle.std.proofs.Common.{◌≡◌, ℕ, zero, suc, ◌+◌, ◌≤◌, ℤ, pos, ◌+ℤ◌, ◌-ℤ◌, ◌*ℤ◌, Bool, true, false, not, ◌&&◌, cond, List, [], ◌∷◌, length, map}
+use Rattle.std.proofs.Common.{Option, Some, None, refl, sym, ap, ◌∙◌, subst, arith}
 use Rattle.std.specs.Prelude.{is_some}
 use Rattle.std.specs.List.{filter}
 use Rattle.std.proofs.lemmas.Int.{ints}
@@ -18,34 +19,34 @@ use Rattle.alt_forest.specs.State.{State, IsMate, IsSearchState}
 use Rattle.alt_forest.specs.Trees.{is_label, node_limit}
 use Rattle.alt_forest.specs.Counts.{is_root, tree_count}
 use Rattle.dual_change.specs.Changes.{share, change, applied}
-use Rattle.dual_change.specs.Laws.{dual_sum, dual_total, ChangeRaisesTotal}
+use Rattle.dual_change.specs.Laws.{duals_over, dual_total, ChangeRaisesTotal}
 use Rattle.dual_change.proofs.Applied.{change_outer, change_child}
 use Rattle.alt_forest.proofs.Ascending.{holds-map, new-map}
 use Rattle.alt_forest.proofs.Pairs.{is_outer, nodes_labelled, in_labelled, of_labelled, new_labelled, mate_node, mates_differ, child_is, mate_inner}
 use Rattle.alt_forest.proofs.Counted.{one_if}
 
 -- sums
-sum_add : (y z : ℕ → ℤ) (xs : List ℕ) → dual_sum (λ a. y a +ℤ z a) xs ≡ dual_sum y xs +ℤ dual_sum z xs
+sum_add : (y z : ℕ → ℤ) (xs : List ℕ) → duals_over (λ a. y a +ℤ z a) xs ≡ duals_over y xs +ℤ duals_over z xs
 sum_add y z [] = omega (arith, ints)
-sum_add y z (x ∷ xs) = let r : dual_sum (λ a. y a +ℤ z a) xs ≡ dual_sum y xs +ℤ dual_sum z xs = sum_add y z xs in omega (arith, ints)
+sum_add y z (x ∷ xs) = let r : duals_over (λ a. y a +ℤ z a) xs ≡ duals_over y xs +ℤ duals_over z xs = sum_add y z xs in omega (arith, ints)
 
 -- where nothing stands outside the test
-sum_filter : (z : ℕ → ℤ) (p : ℕ → Bool) (xs : List ℕ) → ((a : ℕ) → p a ≡ false → z a ≡ pos 0) → dual_sum z (filter p xs) ≡ dual_sum z xs
+sum_filter : (z : ℕ → ℤ) (p : ℕ → Bool) (xs : List ℕ) → ((a : ℕ) → p a ≡ false → z a ≡ pos 0) → duals_over z (filter p xs) ≡ duals_over z xs
 sum_filter z p [] h = refl
 sum_filter z p (x ∷ xs) h =
-    let r : dual_sum z (filter p xs) ≡ dual_sum z xs = sum_filter z p xs h in
+    let r : duals_over z (filter p xs) ≡ duals_over z xs = sum_filter z p xs h in
     by_test (p x)
-    (λ t. ap (λ q. dual_sum z (cond q (x ∷ filter p xs) (filter p xs))) t ∙ ap (λ s. z x +ℤ s) r)
-    (λ t. ap (λ q. dual_sum z (cond q (x ∷ filter p xs) (filter p xs))) t ∙ (let none : z x ≡ pos 0 = h x t in omega (arith, ints, r, none)))
+    (λ t. ap (λ q. duals_over z (cond q (x ∷ filter p xs) (filter p xs))) t ∙ ap (λ s. z x +ℤ s) r)
+    (λ t. ap (λ q. duals_over z (cond q (x ∷ filter p xs) (filter p xs))) t ∙ (let none : z x ≡ pos 0 = h x t in omega (arith, ints, r, none)))
 
-sum_same : (f g : ℕ → ℤ) (xs : List ℕ) → ((a : ℕ) → holds xs a ≡ true → f a ≡ g a) → dual_sum f xs ≡ dual_sum g xs
+sum_same : (f g : ℕ → ℤ) (xs : List ℕ) → ((a : ℕ) → holds xs a ≡ true → f a ≡ g a) → duals_over f xs ≡ duals_over g xs
 sum_same f g [] h = refl
-sum_same f g (x ∷ xs) h = ap (λ t. t +ℤ dual_sum f xs) (h x (first_in x xs)) ∙ ap (λ t. g x +ℤ t) (sum_same f g xs (λ a e. h a (later_in x xs a e)))
+sum_same f g (x ∷ xs) h = ap (λ t. t +ℤ duals_over f xs) (h x (first_in x xs)) ∙ ap (λ t. g x +ℤ t) (sum_same f g xs (λ a e. h a (later_in x xs a e)))
 
-sum_vertices : (z : ℕ → ℤ) (n : ℕ) → int_sum_to (λ i. z (i + 1)) n ≡ dual_sum z (vertices n)
+sum_vertices : (z : ℕ → ℤ) (n : ℕ) → int_sum_to (λ i. z (i + 1)) n ≡ duals_over z (vertices n)
 sum_vertices z zero = refl
 sum_vertices z (suc n) =
-    let r : int_sum_to (λ i. z (i + 1)) n ≡ dual_sum z (vertices n) = sum_vertices z n in
+    let r : int_sum_to (λ i. z (i + 1)) n ≡ duals_over z (vertices n) = sum_vertices z n in
     let one : n + 1 ≡ suc n = omega arith in
     let last : z (n + 1) ≡ z (suc n) = ap z one in
     omega (arith, ints, r, last)
@@ -71,11 +72,12 @@ holds-roots : (n : ℕ) (p : ℕ → Bool) (v : ℕ) → holds (filter p (vertic
 holds-roots n p v = holds-filter p (vertices n) v ∙ ap (λ t. t && p v) (holds-vertices n v)
 
 -- numbers that stand at outermost nodes alone
-sum_outer : (n : ℕ) (z : ℕ → ℤ) (bs : List Blossom) → ((a : ℕ) → is_child bs a ≡ true → z a ≡ pos 0) → dual_sum z (vertices n) +ℤ dual_sum z (names_of bs) ≡ dual_sum z (outer_nodes n bs)
+sum_outer : (n : ℕ) (z : ℕ → ℤ) (bs : List Blossom) → ((a : ℕ) → is_child bs a ≡ true → z a ≡ pos 0)
+    → duals_over z (vertices n) +ℤ duals_over z (names_of bs) ≡ duals_over z (outer_nodes n bs)
 sum_outer n z [] none = omega (arith, ints)
 sum_outer n z (b ∷ older) none =
     let r = sum_outer n z older (λ a c. none a (or_right (in_ring b.ring a) (is_child older a) c)) in
-    let f : dual_sum z (filter (λ a. not (in_ring b.ring a)) (outer_nodes n older)) ≡ dual_sum z (outer_nodes n older) =
+    let f : duals_over z (filter (λ a. not (in_ring b.ring a)) (outer_nodes n older)) ≡ duals_over z (outer_nodes n older) =
     sum_filter z (λ a. not (in_ring b.ring a)) (outer_nodes n older) (λ a c. none a (or_left (in_ring b.ring a) (is_child older a) (turned (in_ring b.ring a) c))) in
     omega (arith, ints, r, f)
   where
@@ -84,13 +86,14 @@ sum_outer n z (b ∷ older) none =
     turned false e = sym e
 
 -- d for each outer node, less d for each inner node
-shares : (d : ℤ) (label : ℕ → Label) (xs : List ℕ) → dual_sum (λ a. share d (label a)) xs ≡ (pos (length (filter (λ a. is_label (label a) Outer) xs)) *ℤ d) -ℤ (pos (length (filter (λ a. is_label (label a) Inner) xs)) *ℤ d)
+shares : (d : ℤ) (label : ℕ → Label) (xs : List ℕ) → duals_over (λ a. share d (label a)) xs ≡ (pos (length (filter (λ a. is_label (label a) Outer) xs)) *ℤ d) -ℤ
+    (pos (length (filter (λ a. is_label (label a) Inner) xs)) *ℤ d)
 shares d label [] = omega (arith, ints)
 shares d label (x ∷ xs) =
     let outs : List ℕ = filter (λ a. is_label (label a) Outer) xs in
     let inns : List ℕ = filter (λ a. is_label (label a) Inner) xs in
-    let r : dual_sum (λ a. share d (label a)) xs ≡ (pos (length outs) *ℤ d) -ℤ (pos (length inns) *ℤ d) = shares d label xs in
-    elim (label x) as (λ l. share d l +ℤ dual_sum (λ a. share d (label a)) xs
+    let r : duals_over (λ a. share d (label a)) xs ≡ (pos (length outs) *ℤ d) -ℤ (pos (length inns) *ℤ d) = shares d label xs in
+    elim (label x) as (λ l. share d l +ℤ duals_over (λ a. share d (label a)) xs
     ≡ (pos (length (cond (is_label l Outer) (x ∷ outs) outs)) *ℤ d) -ℤ (pos (length (cond (is_label l Inner) (x ∷ inns) inns)) *ℤ d)) [
       | Outer ↦ omega (arith, ints, r, times-suc (length outs) d)
       | Inner ↦ omega (arith, ints, r, times-suc (length inns) d)
@@ -120,7 +123,7 @@ module _ (s : State) (depth : ℕ → ℕ) (nested : IsNested s.graph.vertices s
       (λ x m.
       let p = holds-map (mate_node s) outs x m in
       let q = mated_outer p.0 p.1 in
-      subst (λ y. holds inns y ≡ true) p.2 (of_labelled s nested Inner (mate_node s p.0) q.1.outer (ap (λ l. is_label l Inner) q.2))) in
+      subst (λ y. holds inns y ≡ true) p.2 (of_labelled s nested Inner (mate_node s p.0) q.1.outermost (ap (λ l. is_label l Inner) q.2))) in
       let fewest : length (map (mate_node s) inns) ≤ length outs = length-within (map (mate_node s) inns) outs
       (new-map (mate_node s) inns (new_labelled s nested Inner) (λ a b ha hb same.
       let pa = child_is s nested depth st a ha in
@@ -132,7 +135,7 @@ module _ (s : State) (depth : ℕ → ℕ) (nested : IsNested s.graph.vertices s
       subst (λ y. holds outs y ≡ true) p.2
       (holds-filter has_mate (nodes_labelled s Outer) (mate_node s p.0)
       ∙ and_from (holds (nodes_labelled s Outer) (mate_node s p.0)) (has_mate (mate_node s p.0))
-      (of_labelled s nested Outer (mate_node s p.0) c.mate.outer (ap (λ l. is_label l Outer) c.outer)) (ap (λ o. is_some o) c.mate.back))) in
+      (of_labelled s nested Outer (mate_node s p.0) c.mate.outermost (ap (λ l. is_label l Outer) c.outer)) (ap (λ o. is_some o) c.mate.back))) in
       omega (arith, most, fewest, length-map outs (mate_node s), length-map inns (mate_node s))
     where
       mated_outer : (a : ℕ) → holds (filter has_mate (nodes_labelled s Outer)) a ≡ true → (e : ℕ) × IsMate s a e (mate_node s a) × (s.label (mate_node s a) ≡ Inner)
@@ -169,7 +172,8 @@ module _ (s : State) (depth : ℕ → ℕ) (nested : IsNested s.graph.vertices s
   -- as many outer nodes as inner ones and roots
   balance : length (nodes_labelled s Outer) ≡ length (nodes_labelled s Inner) + tree_count s
   balance =
-      let both : length (filter has_mate (nodes_labelled s Outer)) + length (filter free (nodes_labelled s Outer)) ≡ length (nodes_labelled s Outer) = length-filter_both has_mate free (λ a. refl) (nodes_labelled s Outer) in
+      let both : length (filter has_mate (nodes_labelled s Outer)) + length (filter free (nodes_labelled s Outer)) ≡ length
+      (nodes_labelled s Outer) = length-filter_both has_mate free (λ a. refl) (nodes_labelled s Outer) in
       omega (arith, both, pairs, roots_free, length-picked (is_root s) (node_limit s.graph.vertices))
 
   raised : (d : ℤ) → dual_total (applied s d) ≡ dual_total s +ℤ (pos (tree_count s) *ℤ d)
@@ -177,19 +181,20 @@ module _ (s : State) (depth : ℕ → ℕ) (nested : IsNested s.graph.vertices s
       let n : ℕ = s.graph.vertices in
       let names : List ℕ = names_of s.blossoms in
       let outer : List ℕ = outer_nodes n s.blossoms in
-      let new : int_sum_to (λ i. s.dual (i + 1) +ℤ change s d (i + 1)) n ≡ dual_sum (λ a. s.dual a +ℤ change s d a) (vertices n) = sum_vertices (λ a. s.dual a +ℤ change s d a) n in
-      let old : int_sum_to (λ i. s.dual (i + 1)) n ≡ dual_sum s.dual (vertices n) = sum_vertices s.dual n in
-      let one : dual_sum (λ a. s.dual a +ℤ change s d a) (vertices n) ≡ dual_sum s.dual (vertices n) +ℤ dual_sum (change s d) (vertices n) = sum_add s.dual (change s d) (vertices n) in
-      let two : dual_sum (λ a. s.dual a +ℤ change s d a) names ≡ dual_sum s.dual names +ℤ dual_sum (change s d) names = sum_add s.dual (change s d) names in
-      let all : dual_sum (change s d) (vertices n) +ℤ dual_sum (change s d) names ≡ dual_sum (change s d) outer = sum_outer n (change s d) s.blossoms (change_child s d) in
-      let given : dual_sum (change s d) outer ≡ dual_sum (λ a. share d (s.label a)) outer = sum_same (change s d) (λ a. share d (s.label a)) outer
+      let new : int_sum_to (λ i. s.dual (i + 1) +ℤ change s d (i + 1)) n ≡ duals_over (λ a. s.dual a +ℤ change s d a) (vertices n) = sum_vertices (λ a. s.dual a +ℤ change s d a) n in
+      let old : int_sum_to (λ i. s.dual (i + 1)) n ≡ duals_over s.dual (vertices n) = sum_vertices s.dual n in
+      let one : duals_over (λ a. s.dual a +ℤ change s d a) (vertices n) ≡ duals_over s.dual (vertices n) +ℤ duals_over (change s d) (vertices n) = sum_add s.dual (change s d) (vertices n) in
+      let two : duals_over (λ a. s.dual a +ℤ change s d a) names ≡ duals_over s.dual names +ℤ duals_over (change s d) names = sum_add s.dual (change s d) names in
+      let all : duals_over (change s d) (vertices n) +ℤ duals_over (change s d) names ≡ duals_over (change s d) outer = sum_outer n (change s d) s.blossoms (change_child s d) in
+      let given : duals_over (change s d) outer ≡ duals_over (λ a. share d (s.label a)) outer = sum_same (change s d) (λ a. share d (s.label a)) outer
       (λ a h. change_outer s d a (sym (holds-outer_nodes n s.blossoms a nested) ∙ h)) in
-      let split : dual_sum (λ a. share d (s.label a)) outer ≡ (pos (length (nodes_labelled s Outer)) *ℤ d) -ℤ (pos (length (nodes_labelled s Inner)) *ℤ d) = shares d s.label outer in
+      let split : duals_over (λ a. share d (s.label a)) outer ≡ (pos (length (nodes_labelled s Outer)) *ℤ d) -ℤ (pos (length (nodes_labelled s Inner)) *ℤ d) = shares d s.label outer in
       let more : pos (length (nodes_labelled s Outer)) *ℤ d ≡ (pos (length (nodes_labelled s Inner)) *ℤ d) +ℤ (pos (tree_count s) *ℤ d) =
       ap (λ k. pos k *ℤ d) balance ∙ plus-times (length (nodes_labelled s Inner)) (tree_count s) d in
       plain _ _ _ _ _ _ _ _ _ _ _ _ _ new old one two all given split more
     where
-      plain : (nv ov dn dv cv dnn dnames cn co sh x y z : ℤ) → nv ≡ dn → ov ≡ dv → dn ≡ dv +ℤ cv → dnn ≡ dnames +ℤ cn → cv +ℤ cn ≡ co → co ≡ sh → sh ≡ x -ℤ y → x ≡ y +ℤ z → nv +ℤ dnn ≡ (ov +ℤ dnames) +ℤ z
+      plain : (nv ov dn dv cv dnn dnames cn co sh x y z : ℤ) → nv ≡ dn → ov ≡ dv → dn ≡ dv +ℤ cv → dnn ≡ dnames +ℤ cn → cv +ℤ cn ≡ co → co ≡ sh → sh ≡ x -ℤ y → x ≡ y +ℤ z
+          → nv +ℤ dnn ≡ (ov +ℤ dnames) +ℤ z
       plain nv ov dn dv cv dnn dnames cn co sh x y z a b c d e f g h = omega (arith, ints)
 
 pub change_raises : ChangeRaisesTotal

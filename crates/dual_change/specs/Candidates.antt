@@ -1,34 +1,28 @@
 -- What `find` keeps while it looks. Only clauses of private calls cite this module.
-use Rattle.std.specs.Prelude.{◌≡◌, ◌≢◌, ℕ, ◌+◌, ℤ, pos, ◌+ℤ◌, ◌≤ℤ◌, true, Option, Some, None}
-use Rattle.blossom_arena.specs.declared.label.Label.TheVariants.{Outer, Inner, Out}
+use Rattle.std.specs.Prelude.{◌≡◌, ◌≢◌, ℕ, ◌+◌, ℤ, pos, ◌+ℤ◌, ◌≤ℤ◌, true, None}
+use Rattle.blossom_arena.specs.declared.label.Label.TheVariants.{Inner}
+use Rattle.graph_theory.specs.Graph.{IsEdgeNumber}
 use Rattle.graph_theory.specs.Parts.{holds}
 use Rattle.blossom_arena.specs.Family.{names_of}
 use Rattle.edge_queue.specs.declared.item.Item.{Item}
 use Rattle.edge_queue.specs.declared.item.Item.TheVariants.{Edge as OfEdge, Blossom as OfBlossom}
 use Rattle.edge_queue.specs.Moments.{Moments}
+use Rattle.alt_forest.specs.declared.search.Search.{Search}
+use Rattle.alt_forest.specs.Searches.{state_of}
 use Rattle.alt_forest.specs.Entries.{NeedsMoment, entered_among}
-use Rattle.alt_forest.specs.State.{State, IsOutermost, Joins, slack_of}
+use Rattle.alt_forest.specs.State.{State, IsOutermost, Joins}
 use Rattle.dual_change.specs.declared.event.Event.{Event}
 use Rattle.dual_change.specs.declared.event.Event.TheVariants.{Grow, Shrink, Augment, Expand}
 use Rattle.dual_change.specs.declared.event.Next.{Next}
 use Rattle.dual_change.specs.declared.event.Next.TheVariants.{Grow as NextGrow, Shrink as NextShrink, Augment as NextAugment, Expand as NextExpand, Stuck}
 use Rattle.dual_change.specs.Changes.{applied, IsPossible}
 
--- the change that leads to what comes next
-abbrev pub change_of : Next → Option ℤ
-change_of (NextGrow e d) = Some d
-change_of (NextShrink e d) = Some d
-change_of (NextAugment e d) = Some d
-change_of (NextExpand b d) = Some d
-change_of Stuck = None
-
-abbrev pub IsAtMost : Option ℤ → ℤ → Type 0
-IsAtMost None x = ⊥
-IsAtMost (Some d) x = d ≤ℤ x
-
--- something is known that comes with a change of x or sooner
-abbrev pub ComesBy : Next → ℤ → Type 0
-ComesBy next x = IsAtMost (change_of next) x
+-- the outermost nodes that hold the two ends of an edge
+pub record AreEnds (s : Search) (e one other : ℕ) : Type 0 where
+  pub number : IsEdgeNumber s.graph e
+  pub joins : Joins s.graph s.arena.blossoms e one other
+  pub one_is : IsOutermost (state_of s) one
+  pub other_is : IsOutermost (state_of s) other
 
 -- what comes does so when the clock has reached this moment
 abbrev pub ComesAt : ℤ → ℤ → Next → Type 0
@@ -64,12 +58,3 @@ IsCandidate s (NextShrink e d) = Leads s d (Shrink e)
 IsCandidate s (NextAugment e d) = Leads s d (Augment e)
 IsCandidate s (NextExpand b d) = Leads s d (Expand b)
 IsCandidate s Stuck = Unit {0}
-
--- it comes no later than an edge lets it
-pub record MindsEdge (s : State) (next : Next) (e : ℕ) : Type 0 where
-  pub to_out : (a b : ℕ) → Joins s.graph s.blossoms e a b → s.label a ≡ Outer → s.label b ≡ Out → ComesBy next (slack_of s e)
-  pub between : (a b : ℕ) (half : ℤ) → Joins s.graph s.blossoms e a b → a ≢ b → s.label a ≡ Outer → s.label b ≡ Outer → slack_of s e ≡ half +ℤ half → ComesBy next half
-
--- it comes no later than a blossom lets it
-abbrev pub MindsBlossom : State → Next → ℕ → Type 0
-MindsBlossom s next b = IsOutermost s b → s.label b ≡ Inner → ComesBy next (s.dual b)

@@ -32,13 +32,13 @@ OuterSlackIsEven = (s : State) (depth : ℕ → ℕ) (e a b : ℕ) → IsGraph s
     → s.label a ≡ Outer → s.label b ≡ Outer → (half : ℤ) × (slack_of s e ≡ half +ℤ half)
 
 -- the duals of some nodes, added up
-abbrev pub dual_sum : (ℕ → ℤ) → List ℕ → ℤ
-dual_sum y [] = pos 0
-dual_sum y (a ∷ rest) = y a +ℤ dual_sum y rest
+abbrev pub duals_over : (ℕ → ℤ) → List ℕ → ℤ
+duals_over y [] = pos 0
+duals_over y (a ∷ rest) = y a +ℤ duals_over y rest
 
 -- the duals of all vertices and blossoms, added up
 abbrev pub dual_total : State → ℤ
-dual_total s = int_sum_to (λ i. s.dual (i + 1)) s.graph.vertices +ℤ dual_sum s.dual (names_of s.blossoms)
+dual_total s = int_sum_to (λ i. s.dual (i + 1)) s.graph.vertices +ℤ duals_over s.dual (names_of s.blossoms)
 
 -- a change raises the sum of all duals once for each tree
 abbrev pub ChangeRaisesTotal : Type 0

@@ -6,14 +6,14 @@ ghost use Rattle.edge_queue.specs.declared.item.Item.{Item};
 ghost use Rattle.edge_queue.specs.declared.item.Item.TheVariants.{Blossom as OfBlossom};
 ghost use Rattle.edge_queue.specs.Moments.{moment_of, IsLeast};
 ghost use Rattle.blossom_arena.specs.declared.label.Label.TheVariants.{Outer, Inner, Out};
-ghost use Rattle.alt_forest.specs.Searches.{IsSound, state_of, label_at};
-ghost use Rattle.alt_forest.specs.State.{IsOutermost, Joins, slack_of};
+ghost use Rattle.alt_forest.specs.Searches.{HasShape, IsSound, state_of, label_at};
+ghost use Rattle.alt_forest.specs.State.{IsOutermost};
 ghost use Rattle.alt_forest.specs.Counts.{IsPlanted};
 ghost use Rattle.alt_forest.specs.Entries.{NeedsMoment, IsQueued, entry_count};
 ghost use Rattle.alt_forest.specs.Standing.{IsStanding};
 ghost use Rattle.dual_change.specs.declared.event.Next.TheVariants.{Stuck};
 ghost use Rattle.dual_change.specs.Changes.{IsNext, IsNextWithin, edge_looks};
-ghost use Rattle.dual_change.specs.Candidates.{IsCandidate, ComesAt, IsStale, item_looks, entries_left};
+ghost use Rattle.dual_change.specs.Candidates.{AreEnds, IsCandidate, ComesAt, IsStale, item_looks, entries_left};
 
 use crate::event::Next;
 use alt_forest::{Item, Label, Search};
@@ -41,28 +41,61 @@ fn comes(next: &Next) -> bool
     }
 }
 
-/// What a tight edge between two different outer nodes lets come, after a change: a blossom is shrunk
-/// where both are in one tree, else the matching is augmented.
-fn between(search: &Search, e: EdgeId, one: NodeId, other: NodeId, d: i64) -> Next
+/// What an edge between two different outer nodes lets come at its moment: a blossom is shrunk where both
+/// are in one tree, else the matching is augmented.
+fn between(search: &Search, e: EdgeId, one: NodeId, other: NodeId, moment: i64) -> Next
     requires sound { IsSound search.now }
     requires standing { IsStanding search.now }
-    requires number { IsEdgeNumber search.now.graph e }
-    requires joins { Joins search.now.graph search.now.arena.blossoms e one other }
+    requires ends { AreEnds search.now e one other }
     requires different { one ≢ other }
-    requires one_is { IsOutermost (state_of search.now) one }
-    requires other_is { IsOutermost (state_of search.now) other }
     requires one_outer { label_at search.now.labels.items one ≡ Outer }
     requires other_outer { label_at search.now.labels.items other ≡ Outer }
-    requires slack { slack_of (state_of search.now) e ≡ d +ℤ d }
+    requires low { pos 0 ≤ℤ search.now.clock }
+    requires entered { NeedsMoment (state_of search.now) search.now.clock e (Some moment) }
     ensures candidate { IsCandidate (state_of search.now) result }
-    ensures comes { (clock : ℤ) (moment : ℤ) → moment ≡ clock +ℤ d → ComesAt clock moment result }
+    ensures comes { ComesAt search.now.clock moment result }
     ensures there { result ≢ Stuck }
     ensures looks { edge_looks result ≡ 1 }
 {
+    let d = ahead(search.clock, moment);
     if search.root(one).number() == search.root(other).number() {
         return Next::Shrink(e, d);
     }
     Next::Augment(e, d)
+}
+
+/// What an edge from an outer node to one labelled out lets come at its moment: the tree grows.
+fn outward(search: &Search, e: EdgeId, near: NodeId, far: NodeId, moment: i64) -> Next
+    requires sound { IsSound search.now }
+    requires planted { IsPlanted (state_of search.now) }
+    requires ends { AreEnds search.now e near far }
+    requires outer { label_at search.now.labels.items near ≡ Outer }
+    requires out { label_at search.now.labels.items far ≡ Out }
+    requires low { pos 0 ≤ℤ search.now.clock }
+    requires entered { NeedsMoment (state_of search.now) search.now.clock e (Some moment) }
+    ensures candidate { IsCandidate (state_of search.now) result }
+    ensures comes { ComesAt search.now.clock moment result }
+    ensures there { result ≢ Stuck }
+    ensures looks { edge_looks result ≡ 1 }
+{
+    Next::Grow(e, ahead(search.clock, moment))
+}
+
+/// The outermost nodes that hold the two ends of an edge, by one look at it.
+fn nodes_at<L: Ledger>(
+    search: &Search,
+    graph: &Graph,
+    e: EdgeId,
+    steps: &mut Steps<L>,
+) -> (NodeId, NodeId)
+    requires shape { HasShape search.now }
+    requires same { graph.now ≡ search.now.graph }
+    requires edge { IsEdgeNumber graph.now e }
+    ensures ends { AreEnds search.now e result.0 result.1 }
+    ensures step { steps.new ≡ steps.old + 1 }
+{
+    let (u, v, _) = graph.look(e, steps);
+    (search.arena.outermost(u), search.arena.outermost(v))
 }
 
 /// What an edge lets come at its moment, by one look at it. Where its ends are such that it needs no
@@ -87,18 +120,14 @@ fn by_edge<L: Ledger>(
     ensures looks { result ≢ Stuck → edge_looks result ≡ 1 }
     ensures step { steps.new ≡ steps.old + 1 }
 {
-    let (u, v, _) = graph.look(e, steps);
-    let one = search.arena.outermost(u);
-    let other = search.arena.outermost(v);
+    let (one, other) = nodes_at(search, graph, e, steps);
     if one.number() == other.number() {
         return Next::Stuck;
     }
     match (search.label(one), search.label(other)) {
-        (Label::Outer, Label::Outer) => {
-            between(search, e, one, other, ahead(search.clock, moment))
-        }
-        (Label::Outer, Label::Out) => Next::Grow(e, ahead(search.clock, moment)),
-        (Label::Out, Label::Outer) => Next::Grow(e, ahead(search.clock, moment)),
+        (Label::Outer, Label::Outer) => between(search, e, one, other, moment),
+        (Label::Outer, Label::Out) => outward(search, e, one, other, moment),
+        (Label::Out, Label::Outer) => outward(search, e, other, one, moment),
         _ => Next::Stuck,
     }
 }
@@ -198,6 +227,7 @@ pub fn find<L: Ledger>(search: &mut Search, graph: &Graph, steps: &mut Steps<L>)
     ensures standing { IsStanding search.new }
     ensures planted { IsPlanted (state_of search.new) }
     ensures count { entry_count search.new.queue + steps.new ≤ entry_count search.old.queue + steps.old + edge_looks result }
+    ensures look { steps.old + edge_looks result ≤ steps.new }
 {
     while let Some((item, moment)) = earliest(search) {
         let next = by_item(search, graph, &item, moment, steps);

@@ -5,7 +5,8 @@ use Rattle.std.proofs.lemmas.Bool.{cases_eq, cases_lt, cases_Bool, ltb-true}
 use Rattle.std.proofs.lemmas.List.{get_or-set_same, get_or-set_other, get_or-map, length-map, length-set, get_or_past, set-get_or}
 use Rattle.edge_queue.specs.declared.entry.Entry.{Entry}
 use Rattle.edge_queue.specs.declared.heap.IndexedHeap.TheInside.{Inside}
-use Rattle.edge_queue.specs.Heaps.{blank, absent, entry_at, slot_at, key, held, AreTables, IsPlaceOf, IsHeap, IsHeapBut, IsMended}
+use Rattle.edge_queue.specs.Heaps.{blank, absent, slot_at, key, held, AreTables, IsPlaceOf, IsHeap, IsHeapBut, IsMended}
+use Rattle.edge_queue.proofs.EntryAt.{entry_at}
 use Rattle.edge_queue.specs.Slots.{IsLeastSlot}
 use Rattle.edge_queue.specs.Fields.{entries_of, IsSound}
 use Rattle.edge_queue.proofs.Orders.{le_by, le_chain, root_least}

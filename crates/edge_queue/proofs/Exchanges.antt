@@ -4,7 +4,8 @@ use Rattle.std.specs.Prelude.{ℤ}
 use Rattle.std.proofs.lemmas.Bool.{cases_eq, lt-ltb, le-ltb}
 use Rattle.std.proofs.lemmas.List.{get_or-set_same, get_or-set_other, length-set}
 use Rattle.edge_queue.specs.declared.entry.Entry.{Entry}
-use Rattle.edge_queue.specs.Heaps.{entry_at, slot_at, key, held, IsInverse}
+use Rattle.edge_queue.specs.Heaps.{slot_at, key, held, IsInverse}
+use Rattle.edge_queue.proofs.EntryAt.{entry_at}
 
 -- one write after another
 pub first_of_two : {A : Type 0} (d : A) (xs : List A) (a b : ℕ) (x y : A) → a < length xs → (a ≡ b → x ≡ y) → get_or (set (set xs a x) b y) a d ≡ x

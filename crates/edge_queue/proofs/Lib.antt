@@ -1,3 +1,4 @@
+pub mod EntryAt
 pub mod Orders
 pub mod Pigeonholes
 pub mod Exchanges

@@ -3,7 +3,8 @@ use Rattle.std.proofs.Common.{◌≡◌, ℕ, ◌+◌, ◌*◌, ◌<◌, ◌≤�
 use Rattle.std.proofs.lemmas.Bool.{cases_eq}
 use Rattle.std.proofs.lemmas.List.{get_or-set_same, length-set}
 use Rattle.edge_queue.specs.declared.entry.Entry.{Entry}
-use Rattle.edge_queue.specs.Heaps.{blank, entry_at, key, IsRising, IsSinking, IsLaterParent, IsHeap, IsLeastOf, IsEarlierChild, NoEarlierChild}
+use Rattle.edge_queue.specs.Heaps.{blank, key, IsRising, IsSinking, IsLaterParent, IsHeap, IsLeastOf, IsEarlierChild, NoEarlierChild}
+use Rattle.edge_queue.proofs.EntryAt.{entry_at}
 use Rattle.edge_queue.proofs.Orders.{le_by, rise_steps, sink_steps}
 use Rattle.edge_queue.proofs.Exchanges.{key_by, slot_by}
 use Rattle.edge_queue.proofs.Sifts.{IsSifting, sift_steps, keys_swapped, key_there, other_in, places_long}

@@ -2,7 +2,8 @@
 use Rattle.std.proofs.Common.{◌≡◌, ℕ, ◌<◌, ◌≢◌, List, length, get_or, set, refl, sym, ap, ◌∙◌, subst, arith}
 use Rattle.std.proofs.lemmas.List.{get_or-set_same, get_or-set_other, length-set}
 use Rattle.edge_queue.specs.declared.entry.Entry.{Entry}
-use Rattle.edge_queue.specs.Heaps.{blank, entry_at, slot_at, key, held, IsInverse, AreTables, IsHeap, IsMended}
+use Rattle.edge_queue.specs.Heaps.{blank, slot_at, key, held, IsInverse, AreTables, IsHeap, IsMended}
+use Rattle.edge_queue.proofs.EntryAt.{entry_at}
 use Rattle.edge_queue.proofs.Orders.{IsSwapped}
 use Rattle.edge_queue.proofs.Exchanges.{slot_by, key_by, IsExchanged, first_of_two, second_of_two, none_of_two, one_place, inverse_exchanged, same_exchanged}
 

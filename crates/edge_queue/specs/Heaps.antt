@@ -6,9 +6,6 @@ use Rattle.edge_queue.specs.declared.entry.Entry.{Entry}
 abbrev pub blank : Entry
 blank = record { moment = pos 0; age = 0; slot = 0 }
 
-abbrev pub entry_at : List Entry → ℕ → Entry
-entry_at heap i = slice_index_or heap i blank
-
 -- what stands for the place of a slot that has none
 abbrev pub absent : ℕ
 absent = 2 ^ 32 - 1

@@ -10,7 +10,8 @@ use Rattle.mwpm_engine.specs.Bounds.{IsBounded}
 use Rattle.mwpm_engine.proofs.BoundedZero.{no_duals_in_range}
 use Rattle.mwpm_engine.proofs.BoundedRaised.{raised_in_range}
 
-pub in_range : (s : State) (start : ℤ) (depth : ℕ → ℕ) → IsGraph s.graph → s.graph.vertices ≤ 4096 → IsNested s.graph.vertices s.blossoms → IsSearchState s depth → IsBounded s start → IsPlanted s → tree_count s ≢ 0
+pub in_range : (s : State) (start : ℤ) (depth : ℕ → ℕ) → IsGraph s.graph → s.graph.vertices ≤ 4096 → IsNested s.graph.vertices s.blossoms → IsSearchState s depth → IsBounded s start
+    → IsPlanted s → tree_count s ≢ 0
     → (d : ℤ) (event : Event) → IsWithin s d → IsPossible (applied s d) event → StaysInRange s d × IsBounded (applied s d) start
 in_range s start depth graph few nested st bounded planted some d event within can = ⊎_elim
     (λ h. let r = no_duals_in_range s graph h d event within can in (r.0, inl r.1))

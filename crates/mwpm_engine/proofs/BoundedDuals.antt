@@ -19,7 +19,8 @@ use Rattle.mwpm_engine.proofs.BoundedRaised.{duals_bounded}
 zero_within : (n : ℕ) → IsWithinBound n (pos 0)
 zero_within n = (omega (arith, ints), omega (arith, ints))
 
-node_within : (s : State) (start : ℤ) (depth : ℕ → ℕ) → IsGraph s.graph → IsNested s.graph.vertices s.blossoms → IsSearchState s depth → IsBounded s start → (a : ℕ) → is_node s.graph.vertices s.blossoms a ≡ true → IsWithinBound s.graph.vertices (s.dual a)
+node_within : (s : State) (start : ℤ) (depth : ℕ → ℕ) → IsGraph s.graph → IsNested s.graph.vertices s.blossoms → IsSearchState s depth → IsBounded s start → (a : ℕ)
+    → is_node s.graph.vertices s.blossoms a ≡ true → IsWithinBound s.graph.vertices (s.dual a)
 node_within s start depth graph nested st bounded a is = ⊎_elim
     (λ none. subst (IsWithinBound s.graph.vertices) (sym (none.zero a is)) (zero_within s.graph.vertices))
     (λ raised. duals_bounded s start depth graph nested st raised a is)

@@ -43,7 +43,8 @@ times_some (suc k) d some low =
     omega (arith, ints, more, rest, none)
 
 -- a change moves no bound by less than itself, where there is some tree
-raised_more : (s : State) (start : ℤ) (depth : ℕ → ℕ) (d : ℤ) → IsNested s.graph.vertices s.blossoms → IsSearchState s depth → tree_count s ≢ 0 → pos 0 ≤ℤ d → IsRaised s start → IsRaised (applied s d) start
+raised_more : (s : State) (start : ℤ) (depth : ℕ → ℕ) (d : ℤ) → IsNested s.graph.vertices s.blossoms → IsSearchState s depth → tree_count s ≢ 0 → pos 0 ≤ℤ d → IsRaised s start
+    → IsRaised (applied s d) start
 raised_more s start depth d nested st some low h =
     let more : d ≤ℤ (pos (tree_count s) *ℤ d) = times_some (tree_count s) d some low in
     record {
@@ -70,16 +71,19 @@ raised_more s start depth d nested st some low h =
     within y c r t more b m = omega (arith, ints, more, b, m)
 
 -- the sum of all duals rises by at most 2 * 10^9 for each vertex
-pub raised_at_most : (s : State) (start : ℤ) (depth : ℕ → ℕ) → IsGraph s.graph → IsNested s.graph.vertices s.blossoms → IsSearchState s depth → (h : IsRaised s start) → h.raised ≤ℤ pos (2 * s.graph.vertices * 10 ^ 9)
+pub raised_at_most : (s : State) (start : ℤ) (depth : ℕ → ℕ) → IsGraph s.graph → IsNested s.graph.vertices s.blossoms → IsSearchState s depth → (h : IsRaised s start)
+    → h.raised ≤ℤ pos (2 * s.graph.vertices * 10 ^ 9)
 raised_at_most s start depth graph nested st h =
     let n : ℕ = s.graph.vertices in
     let counts = h.perfect.0 in
-    let total : dual_total s ≤ℤ _ = total_bound s.graph counts graph h.perfect.1 s.dual s.blossoms nested st.duals (λ e is. subst (λ t. pos 0 ≤ℤ slack_with s.graph t s.dual s.blossoms e) h.weighted (st.slacks e is)) in
+    let total : dual_total s ≤ℤ _ = total_bound s.graph counts graph h.perfect.1 s.dual s.blossoms nested st.duals
+    (λ e is. subst (λ t. pos 0 ≤ℤ slack_with s.graph t s.dual s.blossoms e) h.weighted (st.slacks e is)) in
     let most = weight_bound s.graph counts graph h.perfect.1 in
     let least : (pos n *ℤ neg_ℤ (pos (10 ^ 9))) ≤ℤ (pos n *ℤ start) = times-le n (neg_ℤ (pos (10 ^ 9))) start h.start_weight.0 in
     plain n (dual_total s) _ (pos n *ℤ start) h.raised total most least (times-neg n (pos (10 ^ 9))) h.total
   where
-    plain : (n : ℕ) (t w x r : ℤ) → t ≤ℤ w → w ≤ℤ (pos n *ℤ pos (10 ^ 9)) → (pos n *ℤ neg_ℤ (pos (10 ^ 9))) ≤ℤ x → pos n *ℤ neg_ℤ (pos (10 ^ 9)) ≡ neg_ℤ (pos n *ℤ pos (10 ^ 9)) → t ≡ x +ℤ r → r ≤ℤ pos (2 * n * 10 ^ 9)
+    plain : (n : ℕ) (t w x r : ℤ) → t ≤ℤ w → w ≤ℤ (pos n *ℤ pos (10 ^ 9)) → (pos n *ℤ neg_ℤ (pos (10 ^ 9))) ≤ℤ x → pos n *ℤ neg_ℤ (pos (10 ^ 9)) ≡ neg_ℤ (pos n *ℤ pos (10 ^ 9))
+        → t ≡ x +ℤ r → r ≤ℤ pos (2 * n * 10 ^ 9)
     plain n t w x r a b c e f = omega (arith, ints, a, b, c, e, f)
 
 -- with n vertices no dual is farther from 0 than (2n + 1) * 10^9: 10^9 for the start, and the rest for the changes
@@ -97,7 +101,8 @@ duals_bounded s start depth graph nested st h a is =
     named false q e h = h
     named true q e h = absurd (both_ways true e refl)
 
-    vertex : (n : ℕ) (x r y : ℤ) → neg_ℤ (pos (10 ^ 9)) ≤ℤ x → x ≤ℤ pos (10 ^ 9) → r ≤ℤ pos (2 * n * 10 ^ 9) → (x -ℤ r) ≤ℤ y → y ≤ℤ (x +ℤ r) → (neg_ℤ (pos ((2 * n + 1) * 10 ^ 9)) ≤ℤ y) × (y ≤ℤ pos ((2 * n + 1) * 10 ^ 9))
+    vertex : (n : ℕ) (x r y : ℤ) → neg_ℤ (pos (10 ^ 9)) ≤ℤ x → x ≤ℤ pos (10 ^ 9) → r ≤ℤ pos (2 * n * 10 ^ 9) → (x -ℤ r) ≤ℤ y → y ≤ℤ (x +ℤ r)
+        → (neg_ℤ (pos ((2 * n + 1) * 10 ^ 9)) ≤ℤ y) × (y ≤ℤ pos ((2 * n + 1) * 10 ^ 9))
     vertex n x r y a b c e f = (omega (arith, ints, a, b, c, e, f), omega (arith, ints, a, b, c, e, f))
 
     blossom : (n : ℕ) (r y : ℤ) → r ≤ℤ pos (2 * n * 10 ^ 9) → pos 0 ≤ℤ y → y ≤ℤ r → (neg_ℤ (pos ((2 * n + 1) * 10 ^ 9)) ≤ℤ y) × (y ≤ℤ pos ((2 * n + 1) * 10 ^ 9))
@@ -108,8 +113,12 @@ in_room : (n : ℕ) (y : ℤ) → n ≤ 4096 → (neg_ℤ (pos ((2 * n + 1) * 10
 in_room n y few b = (omega (arith, ints, few, b.0), omega (arith, ints, few, b.1))
 
 -- a change in the pass with weights
-pub raised_in_range : (s : State) (start : ℤ) (depth : ℕ → ℕ) (d : ℤ) → IsGraph s.graph → s.graph.vertices ≤ 4096 → IsNested s.graph.vertices s.blossoms → IsSearchState s depth → IsPlanted s → tree_count s ≢ 0 → IsWithin s d → IsRaised s start → StaysInRange s d × IsRaised (applied s d) start
+pub raised_in_range : (s : State) (start : ℤ) (depth : ℕ → ℕ) (d : ℤ) → IsGraph s.graph → s.graph.vertices ≤ 4096 → IsNested s.graph.vertices s.blossoms → IsSearchState s depth
+    → IsPlanted s → tree_count s ≢ 0 → IsWithin s d → IsRaised s start → StaysInRange s d × IsRaised (applied s d) start
 raised_in_range s start depth d graph few nested st planted some within h =
     let new : IsRaised (applied s d) start = raised_more s start depth d nested st some within.low h in
-    let state : IsSearchState (applied s d) depth = applied_state s d graph nested depth st planted within in
-    (λ a outer. in_room s.graph.vertices ((applied s d).dual a) few (duals_bounded (applied s d) start depth graph nested state new a (outermost_parts s.graph.vertices s.blossoms a outer).0), new)
+    let state : IsSearchState (applied s d) depth = applied_state s d graph nested depth st planted within in (
+      λ a outer. in_room s.graph.vertices ((applied s d).dual a) few
+          (duals_bounded (applied s d) start depth graph nested state new a (outermost_parts s.graph.vertices s.blossoms a outer).0),
+      new,
+    )

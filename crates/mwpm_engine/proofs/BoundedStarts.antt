@@ -9,7 +9,7 @@ use Rattle.blossom_arena.specs.Family.{Blossom, is_node, is_vertex, names_of}
 use Rattle.blossom_arena.proofs.Lists.{by_test}
 use Rattle.blossom_arena.proofs.Nested.{range_vertex, vertex_range}
 use Rattle.alt_forest.specs.State.{State}
-use Rattle.dual_change.specs.Laws.{dual_sum, dual_total}
+use Rattle.dual_change.specs.Laws.{duals_over, dual_total}
 use Rattle.mwpm_engine.specs.Solutions.{HasPerfect}
 use Rattle.mwpm_engine.specs.Bounds.{IsBounded}
 use Rattle.mwpm_engine.specs.Starts.{IsBegun}
@@ -36,7 +36,7 @@ module _ (s : State) (start : ℤ) (h : IsBegun s start) where
       ⊎_elim (λ v. v) (λ f. absurd (both_ways false refl f)) (or_cases (is_vertex s.graph.vertices a) false here)
 
   total : dual_total s ≡ int_sum_to (λ i. s.dual (i + 1)) s.graph.vertices
-  total = let more : dual_sum s.dual (names_of s.blossoms) ≡ pos 0 = ap (λ (bs : List Blossom). dual_sum s.dual (names_of bs)) h.alone in omega (arith, ints, more)
+  total = let more : duals_over s.dual (names_of s.blossoms) ≡ pos 0 = ap (λ (bs : List Blossom). duals_over s.dual (names_of bs)) h.alone in omega (arith, ints, more)
 
   each_low : (k : ℕ) → k < s.graph.vertices → start ≤ℤ s.dual (k + 1)
   each_low k b = h.low (k + 1) (range_vertex s.graph.vertices (k + 1) (omega arith) (omega (arith, b)))

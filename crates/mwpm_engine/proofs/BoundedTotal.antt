@@ -8,7 +8,8 @@ use Rattle.graph_theory.specs.Sums.{int_sum_to}
 use Rattle.graph_theory.specs.declared.edge.Edge.{Edge}
 use Rattle.graph_theory.specs.Graph.{Multigraph, IsGraph, IsEdgeNumber, edge_at, weight, IsPerfect}
 use Rattle.graph_theory.specs.Parts.{holds, crosses}
-use Rattle.graph_theory.proofs.SumLemmas.{sum_to-same, int_sum_to-same, int_sum_to-le, int_sum_to-add, times-add, times-le, times-two, times-int_sum_to, at_least_once, sum_to-times, cond-times, times-cond, int_sum_to-constant}
+use Rattle.graph_theory.proofs.SumLemmas.{sum_to-same, int_sum_to-same, int_sum_to-le, int_sum_to-add, times-add, times-le, times-two, times-int_sum_to, at_least_once}
+use Rattle.graph_theory.proofs.SumLemmas.{sum_to-times, cond-times, times-cond, int_sum_to-constant}
 use Rattle.graph_theory.proofs.Edges.{edge_of-place, edge_at-weight, number_of-place}
 use Rattle.graph_theory.proofs.Handshake.{handshake-perfect}
 use Rattle.graph_theory.proofs.Members.{holds_all}
@@ -21,7 +22,7 @@ use Rattle.blossom_arena.proofs.Sets.{members_here}
 use Rattle.blossom_arena.proofs.Forms.{members_form, sorted_form}
 use Rattle.alt_forest.specs.State.{slack_with}
 use Rattle.alt_forest.proofs.Ascending.{picked_ascends, holds-picked}
-use Rattle.dual_change.specs.Laws.{dual_sum}
+use Rattle.dual_change.specs.Laws.{duals_over}
 use Rattle.std.proofs.Math.Bool.{and-false}
 
 -- the dual of each blossom as often as the counted edges cross it
@@ -41,7 +42,8 @@ module _ (g : Multigraph) (counts : List ℕ) (graph : IsGraph g) (perfect : IsP
       ∙ sym (sum_to-times (λ k. cond (crosses set (edge_at g k)) (count k) 0) z (length g.edges))
 
   -- what the edges of the matching feel: each vertex once, and each blossom as often as they cross it
-  sums : (y : ℕ → ℤ) (bs : List Blossom) → int_sum_to (λ k. pos (count k) *ℤ duals_across y bs (edge_at g k)) (length g.edges) ≡ int_sum_to (λ i. y (i + 1)) g.vertices +ℤ crossed_sum g counts y bs
+  sums : (y : ℕ → ℤ) (bs : List Blossom)
+      → int_sum_to (λ k. pos (count k) *ℤ duals_across y bs (edge_at g k)) (length g.edges) ≡ int_sum_to (λ i. y (i + 1)) g.vertices +ℤ crossed_sum g counts y bs
   sums y [] = let each = handshake-perfect g counts y graph.ends perfect in omega (arith, ints, each)
   sums y (b ∷ older) =
       let m : ℕ = length g.edges in
@@ -60,33 +62,37 @@ module _ (g : Multigraph) (counts : List ℕ) (graph : IsGraph g) (perfect : IsP
   crossed_once b older nested =
       let n : ℕ = g.vertices in
       let set : List ℕ = filter (holds b.members) (range_with_len 1 n) in
-      let odd : IsOddSet n b.members = subst (IsOddSet n) (members_here b older b.node (eq-eqb b.node b.node refl)) (members_form n (b ∷ older) b.node nested (first_in b.node (names_of older))) in
+      let odd : IsOddSet n b.members = subst (IsOddSet n) (members_here b older b.node (eq-eqb b.node b.node refl))
+      (members_form n (b ∷ older) b.node nested (first_in b.node (names_of older))) in
       let same : (v : ℕ) → holds set v ≡ holds b.members v = λ v. holds-picked n (holds b.members) v ∙ by_test (holds b.members v)
       (λ t. let range = holds_all (λ w. (1 ≤ w) × (w ≤ n)) b.members v odd.in_range t in ap (λ q. q && holds b.members v) (range_vertex n v range.0 range.1))
       (λ t. ap (λ q. is_vertex n v && q) t ∙ and-false (is_vertex n v) ∙ sym t) in
       let form = sorted_form n b.members set odd (picked_ascends n (holds b.members)) same in
-      let alike : crossings g counts set ≡ crossings g counts b.members = sum_to-same (λ k. cond (crosses set (edge_at g k)) (count k) 0) (λ k. cond (crosses b.members (edge_at g k)) (count k) 0) (length g.edges)
+      let alike : crossings g counts set ≡ crossings g counts b.members = sum_to-same (λ k. cond (crosses set (edge_at g k)) (count k) 0)
+      (λ k. cond (crosses b.members (edge_at g k)) (count k) 0) (length g.edges)
       (λ k low. ap₂ (λ p q. cond (cond p (not q) q) (count k) 0) (same (edge_at g k).u) (same (edge_at g k).v)) in
       let once : 1 ≤ crossings g counts set = crosses_odd g counts set graph.ends perfect form.0.odd form.0.ascending form.1 in
       omega (arith, alike, once)
 
-  crossed_least : (y : ℕ → ℤ) (bs : List Blossom) → IsNested g.vertices bs → AllByRecursion (λ (b : Blossom). pos 0 ≤ℤ y b.node) bs → dual_sum y (names_of bs) ≤ℤ crossed_sum g counts y bs
+  crossed_least : (y : ℕ → ℤ) (bs : List Blossom) → IsNested g.vertices bs → AllByRecursion (λ (b : Blossom). pos 0 ≤ℤ y b.node) bs → duals_over y (names_of bs) ≤ℤ crossed_sum g counts y bs
   crossed_least y [] nested low = omega (arith, ints)
   crossed_least y (b ∷ older) nested low =
-      let rest : dual_sum y (names_of older) ≤ℤ crossed_sum g counts y older = crossed_least y older nested.1 low.1 in
+      let rest : duals_over y (names_of older) ≤ℤ crossed_sum g counts y older = crossed_least y older nested.1 low.1 in
       let here : y b.node ≤ℤ (pos (crossings g counts b.members) *ℤ y b.node) = at_least_once (crossings g counts b.members) (y b.node) (crossed_once b older nested) low.0 in
       omega (arith, ints, rest, here)
 
   -- weak duality for the duals of a search
-  pub total_bound : (y : ℕ → ℤ) (bs : List Blossom) → IsNested g.vertices bs → AllByRecursion (λ (b : Blossom). pos 0 ≤ℤ y b.node) bs → ((e : ℕ) → IsEdgeNumber g e → pos 0 ≤ℤ slack_with g true y bs e)
-      → (int_sum_to (λ i. y (i + 1)) g.vertices +ℤ dual_sum y (names_of bs)) ≤ℤ (pos 2 *ℤ weight g counts)
+  pub total_bound : (y : ℕ → ℤ) (bs : List Blossom) → IsNested g.vertices bs → AllByRecursion (λ (b : Blossom). pos 0 ≤ℤ y b.node) bs
+      → ((e : ℕ) → IsEdgeNumber g e → pos 0 ≤ℤ slack_with g true y bs e)
+      → (int_sum_to (λ i. y (i + 1)) g.vertices +ℤ duals_over y (names_of bs)) ≤ℤ (pos 2 *ℤ weight g counts)
   total_bound y bs nested low slacks =
       let m : ℕ = length g.edges in
       let felt : int_sum_to (λ k. pos (count k) *ℤ duals_across y bs (edge_at g k)) m ≤ℤ int_sum_to (λ k. pos 2 *ℤ (pos (count k) *ℤ (edge_at g k).w)) m =
       int_sum_to-le (λ k. pos (count k) *ℤ duals_across y bs (edge_at g k)) (λ k. pos 2 *ℤ (pos (count k) *ℤ (edge_at g k).w)) m
       (λ k b.
       let free : pos 0 ≤ℤ slack_with g true y bs (k + 1) = slacks (k + 1) (number_of-place g k b) in
-      let here : (pos 2 *ℤ (edge_at g k).w) -ℤ duals_across y bs (edge_at g k) ≡ slack_with g true y bs (k + 1) = ap (λ (e : Edge). (pos 2 *ℤ e.w) -ℤ duals_across y bs e) (sym (edge_of-place g k)) in
+      let here : (pos 2 *ℤ (edge_at g k).w) -ℤ duals_across y bs (edge_at g k) ≡ slack_with g true y bs (k + 1) = ap (λ (e : Edge). (pos 2 *ℤ e.w) -ℤ duals_across y bs e)
+      (sym (edge_of-place g k)) in
       let scaled = times-le (count k) (duals_across y bs (edge_at g k)) (pos 2 *ℤ (edge_at g k).w) (omega (arith, ints, free, here)) in
       omega (arith, ints, scaled, times-two (count k) (edge_at g k).w)) in
       let doubled = times-int_sum_to 2 (λ k. pos (count k) *ℤ (edge_at g k).w) m in

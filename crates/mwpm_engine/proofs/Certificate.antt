@@ -1,5 +1,6 @@
 -- A finished search is a certificate: its matching is perfect, and its duals prove that none weighs less.
-use Rattle.std.proofs.Common.{◌≡◌, ℕ, ◌+◌, ◌<◌, ◌≤◌, ℤ, pos, ◌-ℤ◌, ◌*ℤ◌, ◌≤ℤ◌, Bool, true, false, cond, List, length, drop, refl, sym, ap, ◌∙◌, subst, arith, Option, All, slice_index, get_or}
+use Rattle.std.proofs.Common.{◌≡◌, ℕ, ◌+◌, ◌<◌, ◌≤◌, ℤ, pos, ◌-ℤ◌, ◌*ℤ◌, ◌≤ℤ◌, Bool, true, false, cond, List, length, drop, refl, sym, ap, ◌∙◌, subst, arith, Option, All}
+use Rattle.std.proofs.Common.{slice_index, get_or}
 use Rattle.std.specs.List.{AllByRecursion}
 use Rattle.std.proofs.lemmas.Int.{ints}
 use Rattle.std.proofs.lemmas.List.{length-take-le, length-drop}
@@ -10,7 +11,7 @@ use Rattle.graph_theory.specs.Graph.{IsPerfect, IsEdgeNumber, no_edge, edge_at, 
 use Rattle.graph_theory.specs.Duals.{AreDuals, IsSetWithin, HasForm, IsNumber, no_set, set_at, slack, dual_value}
 use Rattle.graph_theory.proofs.Edges.{edge_of_within, edge_of-place, number_of-place}
 use Rattle.graph_theory.proofs.Crossings.{crossings}
-use Rattle.blossom_arena.specs.Family.{Blossom, IsNested, HasDuals, is_node, dual_at, members_of}
+use Rattle.blossom_arena.specs.Family.{Blossom, IsNested, HasDuals, is_node, dual_at, members_of, names_of}
 use Rattle.blossom_arena.specs.Slack.{AreListed, duals_across, vertex_duals}
 use Rattle.blossom_arena.proofs.Nested.{name_range, name_is_node, range_vertex, vertex_is_node}
 use Rattle.blossom_arena.proofs.Forms.{members_form, sorted_form}
@@ -21,7 +22,7 @@ use Rattle.alt_forest.specs.Searches.{IsSound, state_of, edge_in}
 use Rattle.augment.specs.Matching.{is_edge, mate_counts}
 use Rattle.mwpm_engine.specs.declared.outcome.Outcome.{Outcome}
 use Rattle.mwpm_engine.specs.Solutions.{IsSolved, IsWithinBound}
-use Rattle.mwpm_engine.specs.Solving.{sets_at, solution_of, AreProvingSets, CountsWeights, HasBoundedDuals, IsUnpacked}
+use Rattle.mwpm_engine.specs.Solving.{sets_at, solution_of, AreProving, CountsWeights, HasBoundedDuals, IsUnpacked}
 use Rattle.mwpm_engine.proofs.BoundedDuals.{each_vertex_dual}
 use Rattle.mwpm_engine.proofs.CertificateMates.{length-mate_numbers, mate_kept, matching_same, count_at}
 use Rattle.mwpm_engine.proofs.CertificateSets.{IsKnown, all_known, IsProving, each_proving, set_of, few_sets, nested_sets, IsOf, each_of, sets_listed}
@@ -52,7 +53,8 @@ number_of_dual y h = (h.0, h.1)
 vertex_duals_in_range : (n : ℕ) (ys : List ℤ) → All IsNumber ys → All IsNumber (vertex_duals n ys)
 vertex_duals_in_range n ys each = All-take IsNumber n (drop 1 ys) (All-drop IsNumber 1 ys (λ k d low. number_of_dual (get_or ys k d) (each k d low)))
 
-set_duals_in_range : (n : ℕ) (ys : List ℤ) (bs : List Blossom) (nodes : List ℕ) → IsNested n bs → HasDuals n ys bs → AllByRecursion (IsProving ys bs) nodes → All (λ (t : OddSet). IsNumber t.dual) (sets_at ys bs nodes)
+set_duals_in_range : (n : ℕ) (ys : List ℤ) (bs : List Blossom) (nodes : List ℕ) → IsNested n bs → HasDuals n ys bs → AllByRecursion (IsProving ys bs) nodes
+    → All (λ (t : OddSet). IsNumber t.dual) (sets_at ys bs nodes)
 set_duals_in_range n ys bs nodes nested duals each =
     All-map (λ (t : OddSet). IsNumber t.dual) (set_of ys bs) nodes (λ k d low.
     let is = All-from_recursion (IsProving ys bs) nodes each k d low in
@@ -60,13 +62,15 @@ set_duals_in_range n ys bs nodes nested duals each =
     number_of_dual (dual_at ys (get_or nodes k d)) (duals.in_range (get_or nodes k d) (pos 0) (omega (arith, range.1, duals.one_each))))
 
 -- they are within their bound where each node's dual is
-set_duals_bounded : (n : ℕ) (ys : List ℤ) (bs : List Blossom) (nodes : List ℕ) → ((a : ℕ) → is_node n bs a ≡ true → IsWithinBound n (dual_at ys a)) → AllByRecursion (IsProving ys bs) nodes → All (λ (t : OddSet). IsWithinBound n t.dual) (sets_at ys bs nodes)
+set_duals_bounded : (n : ℕ) (ys : List ℤ) (bs : List Blossom) (nodes : List ℕ) → ((a : ℕ) → is_node n bs a ≡ true → IsWithinBound n (dual_at ys a))
+    → AllByRecursion (IsProving ys bs) nodes → All (λ (t : OddSet). IsWithinBound n t.dual) (sets_at ys bs nodes)
 set_duals_bounded n ys bs nodes bounded each =
     All-map (λ (t : OddSet). IsWithinBound n t.dual) (set_of ys bs) nodes (λ k d low.
     bounded (get_or nodes k d) (name_is_node n bs (get_or nodes k d) (All-from_recursion (IsProving ys bs) nodes each k d low).named))
 
 -- a slack of the certificate is one of the search
-slack_same : (s : Search) (sets : List OddSet) (e : ℕ) → IsSound s → CountsWeights s → AreListed s.arena.duals s.arena.blossoms sets → IsEdgeNumber s.graph e → slack (vertex_duals s.graph.vertices s.arena.duals) sets (edge_of s.graph e) ≡ slack_of (state_of s) e
+slack_same : (s : Search) (sets : List OddSet) (e : ℕ) → IsSound s → CountsWeights s → AreListed s.arena.duals s.arena.blossoms sets → IsEdgeNumber s.graph e
+    → slack (vertex_duals s.graph.vertices s.arena.duals) sets (edge_of s.graph e) ≡ slack_of (state_of s) e
 slack_same s sets e sound counts listed is =
     slack_listed s.graph.vertices s.arena.duals s.arena.blossoms sets (edge_of s.graph e) (edge_of_within s.graph e sound.shape.graph.graph.ends is) listed
     ∙ ap (λ d. d -ℤ duals_across (dual_at s.arena.duals) s.arena.blossoms (edge_of s.graph e)) (sym (counts e is))
@@ -77,7 +81,8 @@ set_form n ys bs t nested is =
     (form.0, record { positive = is.positive; in_range = form.1 })
 
 -- the certificate's duals are feasible
-feasible : (s : Search) (sets : List OddSet) → IsSound s → CountsWeights s → AreListed s.arena.duals s.arena.blossoms sets → AllByRecursion (IsOf s.arena.duals s.arena.blossoms) sets → AreDuals s.graph (vertex_duals s.graph.vertices s.arena.duals) sets
+feasible : (s : Search) (sets : List OddSet) → IsSound s → CountsWeights s → AreListed s.arena.duals s.arena.blossoms sets → AllByRecursion (IsOf s.arena.duals s.arena.blossoms) sets
+    → AreDuals s.graph (vertex_duals s.graph.vertices s.arena.duals) sets
 feasible s sets sound counts listed each =
     let n = s.graph.vertices in
     let all = All-from_recursion (IsOf s.arena.duals s.arena.blossoms) sets each in
@@ -108,7 +113,8 @@ no_slack s sets k done counts listed low =
     (λ h. slack_same s sets (k + 1) done.sound counts listed is ∙ (done.tight u (k + 1) (range_vertex s.graph.vertices u within.u_low within.u_high) (is_edge-true (m u) (k + 1) h)).tight)
 
 -- the matching leaves each set once
-each_once : (s : Search) (sets : List OddSet) (j : ℕ) → IsUnpacked s → AllByRecursion (IsOf s.arena.duals s.arena.blossoms) sets → j < length sets → crossings s.graph (mate_counts s.graph (edge_in s.mates.items)) (set_at sets j).members ≡ 1
+each_once : (s : Search) (sets : List OddSet) (j : ℕ) → IsUnpacked s → AllByRecursion (IsOf s.arena.duals s.arena.blossoms) sets → j < length sets
+    → crossings s.graph (mate_counts s.graph (edge_in s.mates.items)) (set_at sets j).members ≡ 1
 each_once s sets j done each low =
     let counts = mate_counts s.graph (edge_in s.mates.items) in
     let is = All-from_recursion (IsOf s.arena.duals s.arena.blossoms) sets each j no_set low in
@@ -121,6 +127,10 @@ value_is s sets done counts listed each =
     value_met s.graph (vertex_duals s.graph.vertices s.arena.duals) sets (mate_counts s.graph (edge_in s.mates.items)) done.sound.shape.graph.graph (one_dual_each s done.sound) done.perfect
     (λ k low. no_slack s sets k done counts listed low)
     (λ j low. each_once s sets j done each low)
+
+-- the blossoms of dual at least 1, newest first
+abbrev pub AreProvingSets : Search → List ℕ → Type 0
+AreProvingSets s nodes = AreProving s.arena.duals (names_of s.arena.blossoms) nodes
 
 -- what an engine keeps of a search whose blossoms have been opened proves its matching least
 pub solved : (s : Search) (outcome : Option Outcome) (nodes : List ℕ) → IsUnpacked s → CountsWeights s → HasBoundedDuals s → AreProvingSets s nodes → IsSolved (solution_of s outcome nodes)

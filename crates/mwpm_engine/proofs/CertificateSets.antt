@@ -59,7 +59,8 @@ pub record IsProving (ys : List ℤ) (bs : List Blossom) (a : ℕ) : Type 0 wher
   pub named : holds (names_of bs) a ≡ true
   pub positive : pos 1 ≤ℤ dual_at ys a
 
-pub each_proving : (ys : List ℤ) (bs left : List Blossom) (nodes : List ℕ) → AllByRecursion (IsKnown ys bs) left → AreProving ys (names_of left) nodes → AllByRecursion (IsProving ys bs) nodes
+pub each_proving : (ys : List ℤ) (bs left : List Blossom) (nodes : List ℕ) → AllByRecursion (IsKnown ys bs) left → AreProving ys (names_of left) nodes
+    → AllByRecursion (IsProving ys bs) nodes
 each_proving ys bs [] nodes each list = subst (AllByRecursion (IsProving ys bs)) (sym list) tt
 each_proving ys bs (b ∷ older) nodes each list = ⊎_elim
     (λ out. each_proving ys bs older nodes each.1 out.1)
@@ -117,7 +118,8 @@ proving_at : (ys : List ℤ) (bs : List Blossom) (nodes : List ℕ) (i : ℕ) �
 proving_at ys bs nodes i each low = All-from_recursion (IsProving ys bs) nodes each i 0 low
 
 -- the sets are different, and of any two one holds the other or they have no vertex in common
-pub nested_sets : (n : ℕ) (ys : List ℤ) (bs : List Blossom) (nodes : List ℕ) → IsNested n bs → AllByRecursion (IsKnown ys bs) bs → AreProving ys (names_of bs) nodes → AreNested (sets_at ys bs nodes)
+pub nested_sets : (n : ℕ) (ys : List ℤ) (bs : List Blossom) (nodes : List ℕ) → IsNested n bs → AllByRecursion (IsKnown ys bs) bs → AreProving ys (names_of bs) nodes
+    → AreNested (sets_at ys bs nodes)
 nested_sets n ys bs nodes nested each list =
     let proving = each_proving ys bs bs nodes each list in
     let size = length-map nodes (set_of ys bs) in
@@ -148,7 +150,8 @@ pub record IsOf (ys : List ℤ) (bs : List Blossom) (t : OddSet) : Type 0 where
   pub members : AreSame t.members (members_of bs node)
   pub ascending : IsStrictlyIncreasing t.members
 
-pub each_of : (ys : List ℤ) (bs : List Blossom) (nodes : List ℕ) (sets : List OddSet) → AllByRecursion (IsProving ys bs) nodes → AreAscending (sets_at ys bs nodes) sets → AllByRecursion (IsOf ys bs) sets
+pub each_of : (ys : List ℤ) (bs : List Blossom) (nodes : List ℕ) (sets : List OddSet) → AllByRecursion (IsProving ys bs) nodes → AreAscending (sets_at ys bs nodes) sets
+    → AllByRecursion (IsOf ys bs) sets
 each_of ys bs [] sets each same = subst (AllByRecursion (IsOf ys bs)) (sym same) tt
 each_of ys bs (a ∷ nodes) sets each same = subst (AllByRecursion (IsOf ys bs)) (sym same.2) (
   record {
@@ -162,7 +165,8 @@ each_of ys bs (a ∷ nodes) sets each same = subst (AllByRecursion (IsOf ys bs))
 )
 
 -- the sets with their members in ascending order are those of the blossoms, without those of dual 0
-pub sets_listed : (ys : List ℤ) (bs left : List Blossom) (nodes : List ℕ) (sets : List OddSet) → AllByRecursion (IsKnown ys bs) left → AreProving ys (names_of left) nodes → AreAscending (sets_at ys bs nodes) sets → AreListed ys left sets
+pub sets_listed : (ys : List ℤ) (bs left : List Blossom) (nodes : List ℕ) (sets : List OddSet) → AllByRecursion (IsKnown ys bs) left → AreProving ys (names_of left) nodes
+    → AreAscending (sets_at ys bs nodes) sets → AreListed ys left sets
 sets_listed ys bs [] nodes sets each list same = subst (λ ns. AreAscending (sets_at ys bs ns) sets) list same
 sets_listed ys bs (b ∷ older) nodes sets each list same = ⊎_elim
     (λ out.

@@ -18,7 +18,8 @@ use Rattle.augment.specs.Matching.{leaving}
 use Rattle.blossom_arena.proofs.Nested.{older_name}
 
 -- the edges that leave a blossom, by its node
-pub left_once : (g : Multigraph) (counts : List ℕ) (bs : List Blossom) (a : ℕ) → AllByRecursion (λ (b : Blossom). leaving g counts b.members ≡ 1) bs → holds (names_of bs) a ≡ true → leaving g counts (members_of bs a) ≡ 1
+pub left_once : (g : Multigraph) (counts : List ℕ) (bs : List Blossom) (a : ℕ) → AllByRecursion (λ (b : Blossom). leaving g counts b.members ≡ 1) bs → holds (names_of bs) a ≡ true
+    → leaving g counts (members_of bs a) ≡ 1
 left_once g counts [] a each h = absurd (both_ways false refl h)
 left_once g counts (b ∷ older) a each h = by_test (eqb b.node a)
     (λ s. ap (leaving g counts) (members_here b older a s) ∙ each.0)

@@ -16,10 +16,10 @@ use Rattle.dual_change.specs.Laws.{inner_vertices}
 use Rattle.mwpm_engine.specs.declared.outcome.Outcome.{Outcome}
 use Rattle.mwpm_engine.specs.declared.outcome.Outcome.TheVariants.{Matched, Barrier}
 use Rattle.mwpm_engine.specs.Solutions.{Ends, HasPerfect}
-use Rattle.mwpm_engine.specs.Solving.{solution_of, AreProvingSets}
+use Rattle.mwpm_engine.specs.Solving.{solution_of}
 use Rattle.mwpm_engine.specs.Passes.{Concludes, HasStuckForest}
 use Rattle.dual_change.proofs.Barrier.{barrier}
-use Rattle.mwpm_engine.proofs.Certificate.{solved}
+use Rattle.mwpm_engine.proofs.Certificate.{AreProvingSets, solved}
 
 -- the inner vertices of a stuck search are a barrier
 stuck_barrier : (s : Search) → HasStuckForest s → IsBarrier s.graph (inner_vertices (state_of s))

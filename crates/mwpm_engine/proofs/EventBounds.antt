@@ -34,11 +34,13 @@ shrunk_bounded : (s t : Search) (node : ℕ) → HasShape t → IsSamePass s t �
 shrunk_bounded s t node shape same shrunk bounded = with_start s t same (bounded_shrunk (state_of s) (state_of t) node s.start (nested_of t shape) shrunk bounded)
 
 -- after an expand
-expanded_bounded : (s t : Search) (node : ℕ) → IsSamePass s t → CanExpand (state_of s) node → IsExpanded (state_of s) (state_of t) node → IsBounded (state_of s) s.start → IsBounded (state_of t) t.start
+expanded_bounded : (s t : Search) (node : ℕ) → IsSamePass s t → CanExpand (state_of s) node → IsExpanded (state_of s) (state_of t) node → IsBounded (state_of s) s.start
+    → IsBounded (state_of t) t.start
 expanded_bounded s t node same can expanded bounded = with_start s t same (bounded_expanded (state_of s) (state_of t) node s.start can expanded bounded)
 
 -- where a step keeps some tree and the sum of all duals, the forest grows on
-pub grows_still : (s t : Search) → IsGrowing s → IsSound t → IsQueued t → IsStanding t → IsPlanted (state_of t) → tree_count (state_of t) ≢ 0 → IsBounded (state_of t) t.start → dual_total (state_of t) ≡ dual_total (state_of s) → IsSamePass s t → t.clock ≡ s.clock → IsGrowing t
+pub grows_still : (s t : Search) → IsGrowing s → IsSound t → IsQueued t → IsStanding t → IsPlanted (state_of t) → tree_count (state_of t) ≢ 0 → IsBounded (state_of t) t.start
+    → dual_total (state_of t) ≡ dual_total (state_of s) → IsSamePass s t → t.clock ≡ s.clock → IsGrowing t
 grows_still s t h sound queued standing planted some bounded total same clock = record {
   sound = sound;
   queued = queued;
@@ -46,21 +48,27 @@ grows_still s t h sound queued standing planted some bounded total same clock = 
   planted = planted;
   trees = some;
   bounded = bounded;
-  timed = subst (λ y. IsTimed (state_of t) y t.clock) (sym same.start) (subst (λ y. IsTimed (state_of t) s.start y) (sym clock) (timed_same (state_of s) (state_of t) s.start s.clock same.graph (ap is_given same.weights) total h.timed));
+  timed = subst (λ y. IsTimed (state_of t) y t.clock) (sym same.start)
+      (subst (λ y. IsTimed (state_of t) s.start y) (sym clock) (timed_same (state_of s) (state_of t) s.start s.clock same.graph (ap is_given same.weights) total h.timed));
 }
 
 -- after a grow
-pub grown_on : (s t : Search) → IsGrowing s → IsSound t → IsQueued t → IsStanding t → (IsPlanted (state_of s) → IsPlanted (state_of t)) → tree_count (state_of t) ≡ tree_count (state_of s) → t.arena ≡ record s.arena { motions = t.arena.motions } → IsSamePass s t → t.clock ≡ s.clock → IsGrowing t
+pub grown_on : (s t : Search) → IsGrowing s → IsSound t → IsQueued t → IsStanding t → (IsPlanted (state_of s) → IsPlanted (state_of t))
+    → tree_count (state_of t) ≡ tree_count (state_of s) → t.arena ≡ record s.arena { motions = t.arena.motions } → IsSamePass s t → t.clock ≡ s.clock → IsGrowing t
 grown_on s t h sound queued standing planted trees arena same clock =
     grows_still s t h sound queued standing (planted h.planted) (λ none. h.trees (sym trees ∙ none)) (still_bounded s t arena same h.bounded)
     (total_kept (state_of s) (state_of t) same.graph (ap (λ (f : Family). f.blossoms) arena) (ap (λ (f : Family). dual_at f.duals) arena)) same clock
 
 -- after a shrink
-pub shrunk_on : (s t : Search) (node : ℕ) → IsGrowing s → IsSound t → IsQueued t → IsStanding t → (IsPlanted (state_of s) → IsPlanted (state_of t)) → tree_count (state_of t) ≡ tree_count (state_of s) → IsShrunk (state_of s) (state_of t) node → IsSamePass s t → t.clock ≡ s.clock → IsGrowing t
+pub shrunk_on : (s t : Search) (node : ℕ) → IsGrowing s → IsSound t → IsQueued t → IsStanding t → (IsPlanted (state_of s) → IsPlanted (state_of t))
+    → tree_count (state_of t) ≡ tree_count (state_of s) → IsShrunk (state_of s) (state_of t) node → IsSamePass s t → t.clock ≡ s.clock → IsGrowing t
 shrunk_on s t node h sound queued standing planted trees shrunk same clock =
-    grows_still s t h sound queued standing (planted h.planted) (λ none. h.trees (sym trees ∙ none)) (shrunk_bounded s t node sound.shape same shrunk h.bounded) (total_shrunk (state_of s) (state_of t) node (nested_of t sound.shape) shrunk) same clock
+    grows_still s t h sound queued standing (planted h.planted) (λ none. h.trees (sym trees ∙ none)) (shrunk_bounded s t node sound.shape same shrunk h.bounded)
+    (total_shrunk (state_of s) (state_of t) node (nested_of t sound.shape) shrunk) same clock
 
 -- after an expand
-pub expanded_on : (s t : Search) (node : ℕ) → IsGrowing s → IsSound t → IsQueued t → IsStanding t → (IsPlanted (state_of s) → IsPlanted (state_of t)) → tree_count (state_of t) ≡ tree_count (state_of s) → CanExpand (state_of s) node → IsExpanded (state_of s) (state_of t) node → IsSamePass s t → t.clock ≡ s.clock → IsGrowing t
+pub expanded_on : (s t : Search) (node : ℕ) → IsGrowing s → IsSound t → IsQueued t → IsStanding t → (IsPlanted (state_of s) → IsPlanted (state_of t))
+    → tree_count (state_of t) ≡ tree_count (state_of s) → CanExpand (state_of s) node → IsExpanded (state_of s) (state_of t) node → IsSamePass s t → t.clock ≡ s.clock → IsGrowing t
 expanded_on s t node h sound queued standing planted trees can expanded same clock =
-    grows_still s t h sound queued standing (planted h.planted) (λ none. h.trees (sym trees ∙ none)) (expanded_bounded s t node same can expanded h.bounded) (total_expanded (state_of s) (state_of t) node can expanded) same clock
+    grows_still s t h sound queued standing (planted h.planted) (λ none. h.trees (sym trees ∙ none)) (expanded_bounded s t node same can expanded h.bounded)
+    (total_expanded (state_of s) (state_of t) node can expanded) same clock

@@ -8,7 +8,7 @@ use Rattle.blossom_arena.specs.declared.links.Link.{Link}
 use Rattle.blossom_arena.specs.Family.{Blossom, is_vertex, is_node, is_outermost}
 use Rattle.blossom_arena.proofs.Nested.{outermost_parts}
 use Rattle.alt_forest.specs.State.{State, IsOutermost, Joins, IsMate, IsTight, HasRings, ExposedAgree, IsSearchState, doubled, slack_of, slack_with}
-use Rattle.alt_forest.specs.Trees.{SameParity, held_by, cover}
+use Rattle.alt_forest.specs.Trees.{SameParity, held_by, dual_sum}
 use Rattle.alt_forest.proofs.Parity.{parity_sym, parity_trans}
 use Rattle.alt_forest.proofs.Relabelled.{outer_not_out, inner_not_out}
 use Rattle.mwpm_engine.specs.Starts.{IsBegun}
@@ -47,15 +47,16 @@ module _ (s : State) (alone : s.blossoms ≡ []) where
       (λ p. ⊎_elim (λ q. inr (sym p.0 ∙ u_is q)) (λ q. inl (sym p.1 ∙ v_is q)) (or_cases (eqb (edge_of s.graph e).u v) (eqb (edge_of s.graph e).v v) t))
       (ends_flat e a b j)
 
-  -- what covers a vertex is its own dual
-  cover_flat : (v : ℕ) → cover s v ≡ s.dual v
-  cover_flat v = ap (λ (bs : List Blossom). s.dual v +ℤ held_by s.dual bs v) alone ∙ plain (s.dual v)
+  -- the dual sum of a vertex is its own dual
+  dual_sum_flat : (v : ℕ) → dual_sum s v ≡ s.dual v
+  dual_sum_flat v = ap (λ (bs : List Blossom). s.dual v +ℤ held_by s.dual bs v) alone ∙ plain (s.dual v)
     where
       plain : (x : ℤ) → x +ℤ pos 0 ≡ x
       plain x = omega (arith, ints)
 
   agree_flat : (start : ℤ) → IsBegun s start → ExposedAgree s
-  agree_flat start h v w iv iw ev ew = subst (λ x. SameParity x (cover s w)) (sym (cover_flat v)) (subst (SameParity (s.dual v)) (sym (cover_flat w)) (parity_trans (s.dual v) start (s.dual w) (h.parity v iv) (parity_sym (s.dual w) start (h.parity w iw))))
+  agree_flat start h v w iv iw ev ew = subst (λ x. SameParity x (dual_sum s w)) (sym (dual_sum_flat v))
+      (subst (SameParity (s.dual v)) (sym (dual_sum_flat w)) (parity_trans (s.dual v) start (s.dual w) (h.parity v iv) (parity_sym (s.dual w) start (h.parity w iw))))
 
   -- with no tree either, duals of one parity, feasible slacks and pairs of mates are all that there is to a search
   pub flat_state : (start : ℤ) (depth : ℕ → ℕ) → IsBegun s start → ((e : ℕ) → IsEdgeNumber s.graph e → pos 0 ≤ℤ slack_of s e)

@@ -61,19 +61,21 @@ module _ (s : State) (e : ℕ) where
         let x_not_b : x ≢ b = λ q. other (some_same f e (sym m.back ∙ ap s.mate q ∙ mate_of_b)) in
         put_other (put s.mate a None) b None x x_not_b ∙ put_other s.mate a None x x_not_a ∙ m.back
 
-    mates : ((c f : ℕ) → IsOutermost s c → s.mate c ≡ Some f → (x : ℕ) × IsMate s c f x) → (c f : ℕ) → IsOutermost s c → (freed_by s e).mate c ≡ Some f → (x : ℕ) × IsMate (freed_by s e) c f x
+    mates : ((c f : ℕ) → IsOutermost s c → s.mate c ≡ Some f → (x : ℕ) × IsMate s c f x) → (c f : ℕ) → IsOutermost s c → (freed_by s e).mate c ≡ Some f
+        → (x : ℕ) × IsMate (freed_by s e) c f x
     mates old c f is here = ⊎_elim
         (λ q. some_not_none f (sym here ∙ q))
         (λ q.
         let m = old c f is (sym q.2 ∙ here) in
-        (m.0, record { edge = m.1.edge; joins = m.1.joins; different = m.1.different; tight = m.1.tight; outer = m.1.outer; back = back c f m.0 q.0 q.1 m.1 }))
+        (m.0, record { edge = m.1.edge; joins = m.1.joins; different = m.1.different; tight = m.1.tight; outermost = m.1.outermost; back = back c f m.0 q.0 q.1 m.1 }))
         (mate_cases c)
 
     pub freed_state : (start : ℤ) (depth : ℕ → ℕ) → IsBegun s start → IsSearchState s depth → IsSearchState (freed_by s e) depth
     freed_state start depth h st = flat_state (freed_by s e) alone start depth (freed_begun s start e h) st.slacks (mates st.mates)
 
 -- the mate of a vertex that has one
-pub matched_at : (s : Search) (v e : ℕ) → IsSound s → IsBegun (state_of s) s.start → is_vertex s.graph.vertices v ≡ true → edge_in s.mates.items v ≡ Some e → (y : ℕ) × IsMate (state_of s) v e y
+pub matched_at : (s : Search) (v e : ℕ) → IsSound s → IsBegun (state_of s) s.start → is_vertex s.graph.vertices v ≡ true → edge_in s.mates.items v ≡ Some e
+    → (y : ℕ) × IsMate (state_of s) v e y
 matched_at s v e h begun vertex has = h.state.mates v e (outer_flat (state_of s) begun.alone v vertex) has
 
 -- the search with an edge taken out of the matching

@@ -13,16 +13,19 @@ use Rattle.graph_theory.proofs.Members.{holds_all}
 abbrev pub IsBelow : (ℕ → ℤ) → List ℕ → ℕ → ℤ → Type 0
 IsBelow f xs i least = (k : ℕ) → k < i → least ≤ℤ f (get_or xs k 0)
 
-pub below_one : (f : ℕ → ℤ) (xs : List ℕ) (i x : ℕ) (old new here : ℤ) → i < length xs → x ≡ get_or xs i x → here ≡ f x → new ≤ℤ old → new ≤ℤ here → IsBelow f xs i old → IsBelow f xs (i + 1) new
+pub below_one : (f : ℕ → ℤ) (xs : List ℕ) (i x : ℕ) (old new here : ℤ) → i < length xs → x ≡ get_or xs i x → here ≡ f x → new ≤ℤ old → new ≤ℤ here → IsBelow f xs i old
+    → IsBelow f xs (i + 1) new
 below_one f xs i x old new here low is value less less_here below =
     let same : f x ≡ f (get_or xs i 0) = ap f (is ∙ get_or_default_zero xs i x low) in
     below_more (λ k. new ≤ℤ f (get_or xs k 0)) i (λ k b. let was = below k b in omega (arith, ints, was, less)) (omega (arith, ints, same, value, less_here))
 
 pub below_all : (f : ℕ → ℤ) (xs : List ℕ) (i : ℕ) (least : ℤ) → length xs ≤ i → IsBelow f xs i least → (e : ℕ) → holds xs e ≡ true → least ≤ℤ f e
-below_all f xs i least all below e there = holds_all (λ x. least ≤ℤ f x) xs e (λ k d low. subst (λ x. least ≤ℤ f x) (sym (get_or_default_zero xs k d low)) (below k (omega (arith, low, all)))) there
+below_all f xs i least all below e there = holds_all (λ x. least ≤ℤ f x) xs e
+    (λ k d low. subst (λ x. least ≤ℤ f x) (sym (get_or_default_zero xs k d low)) (below k (omega (arith, low, all)))) there
 
 -- what is the least at all its places is so at each edge at the vertex
-pub below_around : (g : Multigraph) (v : ℕ) (xs : List ℕ) (f : ℕ → ℤ) (i : ℕ) (least : ℤ) → xs ≡ edges_around g v → length xs ≤ i → IsBelow f xs i least → (e : ℕ) → IsEdgeNumber g e → touches (edge_of g e) v ≡ true → least ≤ℤ f e
+pub below_around : (g : Multigraph) (v : ℕ) (xs : List ℕ) (f : ℕ → ℤ) (i : ℕ) (least : ℤ) → xs ≡ edges_around g v → length xs ≤ i → IsBelow f xs i least → (e : ℕ) → IsEdgeNumber g e
+    → touches (edge_of g e) v ≡ true → least ≤ℤ f e
 below_around g v xs f i least same all below e is t = below_all f xs i least all below e (ap (λ (ys : List ℕ). holds ys e) same ∙ around-has g v e is t)
 
 pub below_first : (f : ℕ → ℤ) (xs : List ℕ) (x : ℕ) (least : ℤ) → 0 < length xs → x ≡ get_or xs 0 x → least ≡ f x → IsBelow f xs 1 least

@@ -26,7 +26,7 @@ pub mod StartDuals
 pub mod StartMates
 pub mod StartLifted
 pub mod StartSearch
-pub mod StartSpokes
+pub mod StartIncidence
 pub mod StartPass
 pub mod Settled
 pub mod Freed

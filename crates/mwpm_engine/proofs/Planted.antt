@@ -16,10 +16,14 @@ use Rattle.mwpm_engine.proofs.Forest.{exposed_root, none_left}
 use Rattle.mwpm_engine.proofs.Timed.{timed_first}
 
 -- a search whose exposed nodes are those of another one
-pub exposed_before : (s t : Search) (a : ℕ) → t ≡ record s { arena = record s.arena { motions = t.arena.motions }; labels = t.labels; queue = t.queue; standing = t.standing; seeds = t.seeds; scanned = t.scanned } → IsExposed (state_of t) a → IsExposed (state_of s) a
+pub exposed_before : (s t : Search) (a : ℕ)
+    → t ≡ record s { arena = record s.arena { motions = t.arena.motions }; labels = t.labels; queue = t.queue; standing = t.standing; scanned = t.scanned } → IsExposed (state_of t) a
+    → IsExposed (state_of s) a
 exposed_before s t a rest x = subst (λ (y : Search). IsExposed (state_of y) a) rest x
 
-pub exposed_after : (s t : Search) (a : ℕ) → t ≡ record s { arena = record s.arena { motions = t.arena.motions }; labels = t.labels; queue = t.queue; standing = t.standing; seeds = t.seeds; scanned = t.scanned } → IsExposed (state_of s) a → IsExposed (state_of t) a
+pub exposed_after : (s t : Search) (a : ℕ)
+    → t ≡ record s { arena = record s.arena { motions = t.arena.motions }; labels = t.labels; queue = t.queue; standing = t.standing; scanned = t.scanned } → IsExposed (state_of s) a
+    → IsExposed (state_of t) a
 exposed_after s t a rest x = subst (λ (y : Search). IsExposed (state_of y) a) (sym rest) x
 
 -- each exposed node up to this number is planted, and no node above it is in a tree
@@ -33,8 +37,10 @@ planted_none s h out = record {
   out = λ a low. out a;
 }
 
-pub planted_one : (s t : Search) (k node : ℕ) → node ≡ k + 1 → t ≡ record s { arena = record s.arena { motions = t.arena.motions }; labels = t.labels; queue = t.queue; standing = t.standing; seeds = t.seeds; scanned = t.scanned }
-    → (IsExposed (state_of s) node → label_at t.labels.items node ≢ Out) → ((a : ℕ) → a ≢ node → label_at t.labels.items a ≡ label_at s.labels.items a) → ArePlanted s k → ArePlanted t (k + 1)
+pub planted_one : (s t : Search) (k node : ℕ) → node ≡ k + 1
+    → t ≡ record s { arena = record s.arena { motions = t.arena.motions }; labels = t.labels; queue = t.queue; standing = t.standing; scanned = t.scanned }
+    → (IsExposed (state_of s) node → label_at t.labels.items node ≢ Out) → ((a : ℕ) → a ≢ node → label_at t.labels.items a ≡ label_at s.labels.items a) → ArePlanted s k
+    → ArePlanted t (k + 1)
 planted_one s t k node is rest here others h = record {
   planted = λ a low x. ⊎_elim
       (λ q. subst (λ b. label_at t.labels.items b ≢ Out) (sym q) (here (subst (IsExposed (state_of s)) q (exposed_before s t a rest x))))
@@ -47,9 +53,18 @@ pub planted_all : (s : Search) (k end : ℕ) → HasShape s → end ≤ k → ((
 planted_all s k end h last within are a x = let low = within a x in are.planted a (omega (arith, low, last)) x
 
 -- what stays through two of them
-pub kept_planting : (s u t : Search) → u ≡ record s { arena = record s.arena { motions = u.arena.motions }; labels = u.labels; queue = u.queue; standing = u.standing; seeds = u.seeds; scanned = u.scanned } → t ≡ record u { arena = record u.arena { motions = t.arena.motions }; labels = t.labels; queue = t.queue; standing = t.standing; seeds = t.seeds; scanned = t.scanned }
-    → t ≡ record s { arena = record s.arena { motions = t.arena.motions }; labels = t.labels; queue = t.queue; standing = t.standing; seeds = t.seeds; scanned = t.scanned }
-kept_planting s u t first second = second ∙ ap (λ (x : Search). let y : Search = record x { arena = record x.arena { motions = t.arena.motions }; labels = t.labels; queue = t.queue; standing = t.standing; seeds = t.seeds; scanned = t.scanned } in y) first
+pub kept_planting : (s u t : Search)
+    → u ≡ record s { arena = record s.arena { motions = u.arena.motions }; labels = u.labels; queue = u.queue; standing = u.standing; scanned = u.scanned }
+    → t ≡ record u { arena = record u.arena { motions = t.arena.motions }; labels = t.labels; queue = t.queue; standing = t.standing; scanned = t.scanned }
+    → t ≡ record s { arena = record s.arena { motions = t.arena.motions }; labels = t.labels; queue = t.queue; standing = t.standing; scanned = t.scanned }
+kept_planting s u t first second = second
+    ∙ ap (λ (x : Search). let y : Search = record x {
+      arena = record x.arena { motions = t.arena.motions };
+      labels = t.labels;
+      queue = t.queue;
+      standing = t.standing;
+      scanned = t.scanned;
+    } in y) first
 
 -- whether there is a tree by now
 pub some_planted : (one : Bool) (old new : ℕ) → one ≡ true → MatchBool one (new ≢ 0) (new ≡ old) → MatchBool true (new ≢ 0) (new ≡ 0)
@@ -61,10 +76,12 @@ none_planted one some old new is trees before =
     subst (λ k. MatchBool some (k ≢ 0) (k ≡ 0)) (sym same) before
 
 -- what is so once every exposed node is planted, where there is a tree by then
-pub planted_pass : (s t : Search) → t ≡ record s { arena = record s.arena { motions = t.arena.motions }; labels = t.labels; queue = t.queue; standing = t.standing; seeds = t.seeds; scanned = t.scanned } → IsSamePass s t
+pub planted_pass : (s t : Search) → t ≡ record s { arena = record s.arena { motions = t.arena.motions }; labels = t.labels; queue = t.queue; standing = t.standing; scanned = t.scanned }
+    → IsSamePass s t
 planted_pass s t rest = record { graph = ap (λ (x : Search). x.graph) rest; weights = ap (λ (x : Search). x.weights) rest; start = ap (λ (x : Search). x.start) rest }
 
-pub planted_on : (s t : Search) → t ≡ record s { arena = record s.arena { motions = t.arena.motions }; labels = t.labels; queue = t.queue; standing = t.standing; seeds = t.seeds; scanned = t.scanned } → IsReady s → IsSound t → IsQueued t → IsStanding t → IsPlanted (state_of t) → tree_count (state_of t) ≢ 0 → IsGrowing t
+pub planted_on : (s t : Search) → t ≡ record s { arena = record s.arena { motions = t.arena.motions }; labels = t.labels; queue = t.queue; standing = t.standing; scanned = t.scanned }
+    → IsReady s → IsSound t → IsQueued t → IsStanding t → IsPlanted (state_of t) → tree_count (state_of t) ≢ 0 → IsGrowing t
 planted_on s t rest ready sound queued standing planted some =
     let bounded = still_bounded s t (ap (λ (x : Search). x.arena) rest) (planted_pass s t rest) ready.bounded in
     record {
@@ -78,11 +95,15 @@ planted_on s t rest ready sound queued standing planted some =
     }
 
 -- where some node is exposed there is one
-pub exposed_planted : (s t : Search) (a : ℕ) → t ≡ record s { arena = record s.arena { motions = t.arena.motions }; labels = t.labels; queue = t.queue; standing = t.standing; seeds = t.seeds; scanned = t.scanned } → IsSound t → IsPlanted (state_of t) → IsExposed (state_of s) a → tree_count (state_of t) ≢ 0
+pub exposed_planted : (s t : Search) (a : ℕ)
+    → t ≡ record s { arena = record s.arena { motions = t.arena.motions }; labels = t.labels; queue = t.queue; standing = t.standing; scanned = t.scanned } → IsSound t
+    → IsPlanted (state_of t) → IsExposed (state_of s) a → tree_count (state_of t) ≢ 0
 exposed_planted s t a rest sound planted x = root_counted (state_of t) a (nested_of t sound.shape) (exposed_root (state_of t) sound.depth a sound.state planted (exposed_after s t a rest x))
 
 -- and where there is none no node is exposed
-pub planted_none_left : (s t : Search) → t ≡ record s { arena = record s.arena { motions = t.arena.motions }; labels = t.labels; queue = t.queue; standing = t.standing; seeds = t.seeds; scanned = t.scanned } → IsReady s → IsSound t → IsPlanted (state_of t) → tree_count (state_of t) ≡ 0 → IsComplete t
+pub planted_none_left : (s t : Search)
+    → t ≡ record s { arena = record s.arena { motions = t.arena.motions }; labels = t.labels; queue = t.queue; standing = t.standing; scanned = t.scanned } → IsReady s → IsSound t
+    → IsPlanted (state_of t) → tree_count (state_of t) ≡ 0 → IsComplete t
 planted_none_left s t rest ready sound planted none = record {
   sound = sound;
   matched = none_left (state_of t) sound.depth (nested_of t sound.shape) sound.state planted none;

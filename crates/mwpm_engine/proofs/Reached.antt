@@ -64,7 +64,8 @@ growing_found s u rest sound queued standing planted h =
       planted = planted;
       trees = λ none. h.trees (sym (ap tree_count state) ∙ none);
       bounded = subst (λ y. IsBounded (state_of u) y) (sym start) (subst (λ (x : State). IsBounded x s.start) (sym state) h.bounded);
-      timed = subst (λ y. IsTimed (state_of u) y u.clock) (sym start) (subst (λ y. IsTimed (state_of u) s.start y) (sym clock) (subst (λ (x : State). IsTimed x s.start s.clock) (sym state) h.timed));
+      timed = subst (λ y. IsTimed (state_of u) y u.clock) (sym start)
+          (subst (λ y. IsTimed (state_of u) s.start y) (sym clock) (subst (λ (x : State). IsTimed x s.start s.clock) (sym state) h.timed));
     }
 
 -- what a change that leads to an event leaves
@@ -85,11 +86,13 @@ stays s d event h within can =
       in_range = range.0;
       bounded = range.1;
       timed = timed;
-      clock_fits = clock_fits (applied (state_of s) d) s.start (s.clock +ℤ d) h.sound.depth graph.graph graph.limits.vertices nested (applied_state (state_of s) d graph.graph nested h.sound.depth h.sound.state h.planted within) range.1 timed;
+      clock_fits = clock_fits (applied (state_of s) d) s.start (s.clock +ℤ d) h.sound.depth graph.graph graph.limits.vertices nested
+          (applied_state (state_of s) d graph.graph nested h.sound.depth h.sound.state h.planted within) range.1 timed;
     }
 
 -- a search whose state is that after the change grows on
-pub grows_on : (s t : Search) (d : ℤ) → IsGrowing s → IsSound t → IsQueued t → IsStanding t → IsPlanted (state_of t) → state_of t ≡ applied (state_of s) d → t.start ≡ s.start → t.clock ≡ s.clock +ℤ d → Stays (state_of s) s.start s.clock d → IsGrowing t
+pub grows_on : (s t : Search) (d : ℤ) → IsGrowing s → IsSound t → IsQueued t → IsStanding t → IsPlanted (state_of t) → state_of t ≡ applied (state_of s) d → t.start ≡ s.start
+    → t.clock ≡ s.clock +ℤ d → Stays (state_of s) s.start s.clock d → IsGrowing t
 grows_on s t d h sound queued standing planted is start clock left = record {
   sound = sound;
   queued = queued;
@@ -97,7 +100,8 @@ grows_on s t d h sound queued standing planted is start clock left = record {
   planted = planted;
   trees = λ none. h.trees (sym (ap tree_count is) ∙ none);
   bounded = subst (λ y. IsBounded (state_of t) y) (sym start) (subst (λ (x : State). IsBounded x s.start) (sym is) left.bounded);
-  timed = subst (λ y. IsTimed (state_of t) y t.clock) (sym start) (subst (λ y. IsTimed (state_of t) s.start y) (sym clock) (subst (λ (x : State). IsTimed x s.start (s.clock +ℤ d)) (sym is) left.timed));
+  timed = subst (λ y. IsTimed (state_of t) y t.clock) (sym start)
+      (subst (λ y. IsTimed (state_of t) s.start y) (sym clock) (subst (λ (x : State). IsTimed x s.start (s.clock +ℤ d)) (sym is) left.timed));
 }
 
 -- where nothing comes next the forest is stuck
@@ -111,7 +115,8 @@ pub record IsFound (u : Search) (event : Event) (d : ℤ) : Type 0 where
   pub within : IsWithin (state_of u) d
   pub left : Stays (state_of u) u.start u.clock d
 
-pub found : (s u : Search) (next : Next) (event : Event) (d : ℤ) → u ≡ record s { queue = u.queue } → IsSound u → IsQueued u → IsStanding u → IsPlanted (state_of u) → IsNext (state_of u) next → IsNextWithin (state_of u) next → event_of next ≡ Some (event, d) → IsGrowing s → IsFound u event d
+pub found : (s u : Search) (next : Next) (event : Event) (d : ℤ) → u ≡ record s { queue = u.queue } → IsSound u → IsQueued u → IsStanding u → IsPlanted (state_of u)
+    → IsNext (state_of u) next → IsNextWithin (state_of u) next → event_of next ≡ Some (event, d) → IsGrowing s → IsFound u event d
 found s u next event d rest sound queued standing planted is within same h =
     let growing = growing_found s u rest sound queued standing planted h in
     let all : Comes (state_of u) (Some (event, d)) = subst (Comes (state_of u)) same (comes (state_of u) next is within) in

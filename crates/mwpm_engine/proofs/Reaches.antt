@@ -12,8 +12,8 @@ use Rattle.graph_theory.proofs.Around.{around-has}
 use Rattle.graph_theory.proofs.Members.{holds_all}
 use Rattle.blossom_arena.specs.Family.{dual_at, is_vertex}
 use Rattle.blossom_arena.proofs.Ends.{u_vertex, v_vertex}
-use Rattle.alt_forest.specs.declared.spokes.Spoke.{Spoke}
-use Rattle.alt_forest.specs.Spokes.{IsSpoke}
+use Rattle.alt_forest.specs.declared.incident_edges.IncidentEdge.{IncidentEdge}
+use Rattle.alt_forest.specs.IncidentEdges.{IsIncidentEdge}
 use Rattle.alt_forest.specs.declared.search.Search.{Search}
 use Rattle.alt_forest.specs.State.{State, IsExposed, slack_by, slack_of}
 use Rattle.alt_forest.specs.Searches.{is_given, state_of}
@@ -26,20 +26,22 @@ use Rattle.mwpm_engine.proofs.FarEnds.{far_vertex}
 use Rattle.mwpm_engine.proofs.Flat.{slack_flat}
 use Rattle.mwpm_engine.proofs.LeastSeen.{IsBelow}
 use Rattle.mwpm_engine.proofs.StartDuals.{doubled_most, rise_high, rise_still, slack_even}
-use Rattle.mwpm_engine.proofs.StartSpokes.{slack_seen}
+use Rattle.mwpm_engine.proofs.StartIncidence.{slack_seen}
 
 -- what holds of what an option has holds of all that it has
 pub told : {T : Type 0} (P : T → Type 0) (x : T) → P x → (y : T) → Some x ≡ Some y → P y
 told P x h y q = let same : x ≡ y = cc in subst P same h
 
 -- the slack that is worked out from what is at hand is that of the edge
-pub slack_told : (s : Search) (v : ℕ) (p : Spoke) (w x y : ℤ) → s.arena.blossoms ≡ [] → IsSpoke s.graph v p → w ≡ p.weight → x ≡ slack_by (is_given s.weights) (dual_at s.arena.duals) s.arena.blossoms (record { u = v; v = p.far; w = w }) → y ≡ x → y ≡ slack_of (state_of s) p.edge
+pub slack_told : (s : Search) (v : ℕ) (p : IncidentEdge) (w x y : ℤ) → s.arena.blossoms ≡ [] → IsIncidentEdge s.graph v p → w ≡ p.weight
+    → x ≡ slack_by (is_given s.weights) (dual_at s.arena.duals) s.arena.blossoms (record { u = v; v = p.far; w = w }) → y ≡ x → y ≡ slack_of (state_of s) p.edge
 slack_told s v p w x y alone to kept is back =
     back ∙ is ∙ ap (λ (z : ℤ). slack_by (is_given s.weights) (dual_at s.arena.duals) s.arena.blossoms (record { u = v; v = p.far; w = z })) kept
     ∙ slack_seen (state_of s) p.edge v p.far p.weight alone to
 
 -- the slack of an edge at a vertex is even, and in range
-module _ (s : State) (start : ℤ) (v : ℕ) (r : Reach) (graph : IsGraph s.graph) (h : IsBegun s start) (slacks : (e : ℕ) → IsEdgeNumber s.graph e → pos 0 ≤ℤ slack_of s e) (reach : IsReach s v r) where
+module _ (s : State) (start : ℤ) (v : ℕ) (r : Reach) (graph : IsGraph s.graph) (h : IsBegun s start) (slacks : (e : ℕ) → IsEdgeNumber s.graph e → pos 0 ≤ℤ slack_of s e)
+    (reach : IsReach s v r) where
   pub reach_low : pos 0 ≤ℤ r.by
   reach_low = subst (λ x. pos 0 ≤ℤ x) reach.slack_is (slacks r.edge reach.is_edge)
 
@@ -60,7 +62,8 @@ module _ (s : State) (start : ℤ) (v : ℕ) (r : Reach) (graph : IsGraph s.grap
   reach_fits = let low = reach_low in let high = reach_high in omega (arith, ints, low, high)
 
 -- what the two edges of least slack let a vertex do
-module _ (s : State) (start : ℤ) (v : ℕ) (l : Lead) (graph : IsGraph s.graph) (h : IsBegun s start) (slacks : (e : ℕ) → IsEdgeNumber s.graph e → pos 0 ≤ℤ slack_of s e) (vertex : is_vertex s.graph.vertices v ≡ true) (lead : IsLead s v l) where
+module _ (s : State) (start : ℤ) (v : ℕ) (l : Lead) (graph : IsGraph s.graph) (h : IsBegun s start) (slacks : (e : ℕ) → IsEdgeNumber s.graph e → pos 0 ≤ℤ slack_of s e)
+    (vertex : is_vertex s.graph.vertices v ≡ true) (lead : IsLead s v l) where
   pub partner_here : is_vertex s.graph.vertices l.least.far ≡ true
   partner_here = subst (λ x. is_vertex s.graph.vertices x ≡ true) lead.least.far_is (far_vertex s.graph l.least.edge v graph.ends lead.least.is_edge)
 
@@ -76,7 +79,8 @@ module _ (s : State) (start : ℤ) (v : ℕ) (l : Lead) (graph : IsGraph s.graph
   }
     where
       none : edges_around s.graph v ≡ [] → l.least.by ≡ pos 0
-      none empty = absurd (both_ways (holds (edges_around s.graph v) l.least.edge) (ap (λ xs. holds xs l.least.edge) empty) (around-has s.graph v l.least.edge lead.least.is_edge lead.least.at_vertex))
+      none empty = absurd
+          (both_ways (holds (edges_around s.graph v) l.least.edge) (ap (λ xs. holds xs l.least.edge) empty) (around-has s.graph v l.least.edge lead.least.is_edge lead.least.at_vertex))
 
   -- and it can take the far end of the least edge, where the dual falls by 0, by all that it can, or by the difference of the two slacks
   pub takes_none : CanTake s start l (pos 0)
@@ -162,7 +166,8 @@ module _ (s : State) (start : ℤ) (v : ℕ) (l : Lead) (graph : IsGraph s.graph
 abbrev pub AreBehind : Search → ℕ → List ℕ → ℕ → Lead → Type 0
 AreBehind s v xs i l = (k : ℕ) → k < i → IsBehind l (other_end (edge_of s.graph (get_or xs k 0)) v) (slack_of (state_of s) (get_or xs k 0))
 
-pub behind_one : (s : Search) (v : ℕ) (xs : List ℕ) (i : ℕ) (old new : Lead) (r : Reach) → i < length xs → r.edge ≡ get_or xs i r.edge → IsReach (state_of s) v r → IsBelow (slack_of (state_of s)) xs i old.least.by → IsBehind new r.far r.by
+pub behind_one : (s : Search) (v : ℕ) (xs : List ℕ) (i : ℕ) (old new : Lead) (r : Reach) → i < length xs → r.edge ≡ get_or xs i r.edge → IsReach (state_of s) v r
+    → IsBelow (slack_of (state_of s)) xs i old.least.by → IsBehind new r.far r.by
     → ((far : ℕ) → (slack : ℤ) → old.least.by ≤ℤ slack → IsBehind old far slack → IsBehind new far slack) → AreBehind s v xs i old → AreBehind s v xs (i + 1) new
 behind_one s v xs i old new r low is reach below seen kept has =
     below_more (λ k. IsBehind new (other_end (edge_of s.graph (get_or xs k 0)) v) (slack_of (state_of s) (get_or xs k 0))) i
@@ -170,12 +175,15 @@ behind_one s v xs i old new r low is reach below seen kept has =
     (subst (λ x. IsBehind new (other_end (edge_of s.graph x) v) (slack_of (state_of s) x)) (is ∙ get_or_default_zero xs i r.edge low)
     (subst (λ f. IsBehind new f (slack_of (state_of s) r.edge)) (sym reach.far_is) (subst (λ y. IsBehind new r.far y) (sym reach.slack_is) seen)))
 
-pub behind_first : (s : Search) (v : ℕ) (xs : List ℕ) (r : Reach) → 0 < length xs → r.edge ≡ get_or xs 0 r.edge → IsReach (state_of s) v r → AreBehind s v xs 1 (record { least = r; next = r })
+pub behind_first : (s : Search) (v : ℕ) (xs : List ℕ) (r : Reach) → 0 < length xs → r.edge ≡ get_or xs 0 r.edge → IsReach (state_of s) v r
+    → AreBehind s v xs 1 (record { least = r; next = r })
 behind_first s v xs r low is reach =
-    behind_one s v xs 0 (record { least = r; next = r }) (record { least = r; next = r }) r low is reach (λ k b. absurd {0} (omega (arith, b))) (λ ne. absurd {0} (ne refl)) (λ far slack less h. h) (λ k b. absurd {0} (omega (arith, b)))
+    behind_one s v xs 0 (record { least = r; next = r }) (record { least = r; next = r }) r low is reach (λ k b. absurd {0} (omega (arith, b))) (λ ne. absurd {0} (ne refl))
+    (λ far slack less h. h) (λ k b. absurd {0} (omega (arith, b)))
 
 -- and so has each edge at the vertex, once all are seen
-pub behind_around : (s : Search) (v : ℕ) (xs : List ℕ) (i : ℕ) (l : Lead) → xs ≡ edges_around s.graph v → length xs ≤ i → AreBehind s v xs i l → (e : ℕ) → IsEdgeNumber s.graph e → touches (edge_of s.graph e) v ≡ true
+pub behind_around : (s : Search) (v : ℕ) (xs : List ℕ) (i : ℕ) (l : Lead) → xs ≡ edges_around s.graph v → length xs ≤ i → AreBehind s v xs i l → (e : ℕ) → IsEdgeNumber s.graph e
+    → touches (edge_of s.graph e) v ≡ true
     → IsBehind l (other_end (edge_of s.graph e) v) (slack_of (state_of s) e)
 behind_around s v xs i l same all has e is at =
     holds_all (λ x. IsBehind l (other_end (edge_of s.graph x) v) (slack_of (state_of s) x)) xs e

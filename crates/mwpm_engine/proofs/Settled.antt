@@ -14,7 +14,8 @@ use Rattle.mwpm_engine.proofs.StartSearch.{end_exposed}
 -- once the dual of a vertex has risen
 module _ (s u : Search) (g : Multigraph) (v e : ℕ) (d : ℤ) (graph : g ≡ s.graph) (same : state_of u ≡ raised_at (state_of s) v d) (h : IsSound s) (begun : IsBegun (state_of s) s.start) where
   pub raised_settled : touches (edge_of g e) v ≡ true → JoinsExposed (state_of u) e → CanPair (state_of s) v d e
-  raised_settled t j = joins_here (state_of s) v d e h.shape.graph.graph.ends begun.alone (subst (λ (k : Multigraph). touches (edge_of k e) v ≡ true) graph t) (subst (λ (x : State). JoinsExposed x e) same j)
+  raised_settled t j = joins_here (state_of s) v d e h.shape.graph.graph.ends begun.alone (subst (λ (k : Multigraph). touches (edge_of k e) v ≡ true) graph t)
+      (subst (λ (x : State). JoinsExposed x e) same j)
 
   pub raised_others : touches (edge_of g e) v ≡ false → JoinsExposed (state_of u) e → JoinsExposed (state_of s) e
   raised_others t j = joins_there (state_of s) v d e begun.alone (subst (λ (k : Multigraph). touches (edge_of k e) v ≡ false) graph t) (subst (λ (x : State). JoinsExposed x e) same j)
@@ -27,7 +28,8 @@ no_end g e v t not_u not_v = ⊎_elim
     (or_cases (eqb (edge_of g e).u v) (eqb (edge_of g e).v v) t)
 
 -- once it has been matched it isn't exposed
-pub matched_settled : (s t : Search) (g k : Multigraph) (v e mate : ℕ) (d : ℤ) → g ≡ t.graph → k ≡ s.graph → CanPair (state_of s) v d mate → (IsExposed (state_of t) v → (v ≢ (edge_of k mate).u) × (v ≢ (edge_of k mate).v)) → touches (edge_of g e) v ≡ true → JoinsExposed (state_of t) e → ⊥
+pub matched_settled : (s t : Search) (g k : Multigraph) (v e mate : ℕ) (d : ℤ) → g ≡ t.graph → k ≡ s.graph → CanPair (state_of s) v d mate
+    → (IsExposed (state_of t) v → (v ≢ (edge_of k mate).u) × (v ≢ (edge_of k mate).v)) → touches (edge_of g e) v ≡ true → JoinsExposed (state_of t) e → ⊥
 matched_settled s t g k v e mate d graph own can free at j =
     let differs = free (end_exposed (state_of t) v e (subst (λ (x : Multigraph). touches (edge_of x e) v ≡ true) graph at) j) in
     no_end k mate v (subst (λ (x : Multigraph). touches (edge_of x mate) v ≡ true) (sym own) can.at_vertex) differs.0 differs.1
@@ -36,7 +38,8 @@ matched_settled s t g k v e mate d graph own can free at j =
 abbrev pub AreSettled : Multigraph → State → ℕ → Type 0
 AreSettled g s n = (v e : ℕ) → v ≤ n → touches (edge_of g e) v ≡ true → JoinsExposed s e → ⊥
 
-pub settled_one : (g : Multigraph) (s t : State) (k v : ℕ) → v ≡ k + 1 → ((e : ℕ) → touches (edge_of g e) v ≡ true → JoinsExposed t e → ⊥) → ((e : ℕ) → touches (edge_of g e) v ≡ false → JoinsExposed t e → JoinsExposed s e) → AreSettled g s k → AreSettled g t (k + 1)
+pub settled_one : (g : Multigraph) (s t : State) (k v : ℕ) → v ≡ k + 1 → ((e : ℕ) → touches (edge_of g e) v ≡ true → JoinsExposed t e → ⊥)
+    → ((e : ℕ) → touches (edge_of g e) v ≡ false → JoinsExposed t e → JoinsExposed s e) → AreSettled g s k → AreSettled g t (k + 1)
 settled_one g s t k v is here others before w e low at j = by_test (touches (edge_of g e) v)
     (λ q. here e q j)
     (λ q.

@@ -1,5 +1,6 @@
 -- The dual of an exposed vertex is raised before there is any blossom or tree.
-use Rattle.std.proofs.Common.{◌≡◌, ◌⊎◌, ◌∙◌, ℕ, ℤ, pos, ◌+ℤ◌, ◌-ℤ◌, ◌*ℤ◌, ◌≤ℤ◌, neg_ℤ, Bool, true, false, eqb, cond, List, [], ◌∷◌, Some, None, refl, sym, ap, ap₂, subst, ⊎_elim, inl, inr, arith, All}
+use Rattle.std.proofs.Common.{◌≡◌, ◌⊎◌, ◌∙◌, ℕ, ℤ, pos, ◌+ℤ◌, ◌-ℤ◌, ◌*ℤ◌, ◌≤ℤ◌, neg_ℤ, Bool, true, false, eqb, cond, List, [], ◌∷◌, Some, None, refl, sym, ap, ap₂, subst, ⊎_elim}
+use Rattle.std.proofs.Common.{inl, inr, arith, All}
 use Rattle.std.proofs.lemmas.Int.{ints}
 use Rattle.std.proofs.lemmas.Bool.{eqb-true, or_cases, or_parts}
 use Rattle.graph_theory.specs.Graph.{Multigraph, IsGraph, IsEdgeWithin, IsEdgeNumber, edge_of, edges_around, touches}
@@ -99,12 +100,13 @@ module _ (s : State) (start : ℤ) (v : ℕ) (d : ℤ) (ends : All (IsEdgeWithin
     joins = m.joins;
     different = m.different;
     tight = slack_there s v d e alone (mate_misses s v a e b alone can.exposed.1 has m) ∙ m.tight;
-    outer = m.outer;
+    outermost = m.outermost;
     back = m.back;
   }
 
   pub raised_state : (depth : ℕ → ℕ) → is_vertex s.graph.vertices v ≡ true → IsBegun s start → IsSearchState s depth → IsSearchState (raised_at s v d) depth
-  raised_state depth vertex h st = flat_state (raised_at s v d) alone start depth (raised_begun s start v d vertex can h) (raised_slacks st.slacks) (λ a e is has. let m = st.mates a e is has in (m.0, raised_mate a e m.0 has m.1))
+  raised_state depth vertex h st = flat_state (raised_at s v d) alone start depth (raised_begun s start v d vertex can h) (raised_slacks st.slacks)
+      (λ a e is has. let m = st.mates a e is has in (m.0, raised_mate a e m.0 has m.1))
 
 -- the raised dual lies in range
 pub raised_number : (s : State) (start : ℤ) (v : ℕ) (d : ℤ) → is_vertex s.graph.vertices v ≡ true → CanMove s start v d → IsBegun s start → IsNumber (s.dual v +ℤ d)
@@ -142,7 +144,8 @@ module _ (s : State) (start : ℤ) (v : ℕ) (d : ℤ) (graph : IsGraph s.graph)
       (λ q. let same : s.dual b ≡ s.dual v = ap s.dual (eqb-true b v q) in omega (arith, ints, was, low_a, low_b, most, same))
       (or_cases (eqb a v) (eqb b v) t)
 
-  pub rise_high : ((e : ℕ) → IsEdgeNumber s.graph e → touches (edge_of s.graph e) v ≡ true → d ≤ℤ slack_of s e) → (edges_around s.graph v ≡ [] → d ≡ pos 0) → (s.dual v +ℤ d) ≤ℤ (pos 3 *ℤ WEIGHT_LIMIT)
+  pub rise_high : ((e : ℕ) → IsEdgeNumber s.graph e → touches (edge_of s.graph e) v ≡ true → d ≤ℤ slack_of s e) → (edges_around s.graph v ≡ [] → d ≡ pos 0)
+      → (s.dual v +ℤ d) ≤ℤ (pos 3 *ℤ WEIGHT_LIMIT)
   rise_high each none = ⊎_elim
       (λ q. let zero = none q in let was = h.high v vertex in omega (arith, ints, zero, was))
       (λ (e, is, t).
@@ -153,7 +156,8 @@ module _ (s : State) (start : ℤ) (v : ℕ) (d : ℤ) (graph : IsGraph s.graph)
       (some_around s.graph v)
 
   -- where weights aren't used it can't rise at all
-  pub rise_still : pos 0 ≤ℤ d → ((e : ℕ) → IsEdgeNumber s.graph e → touches (edge_of s.graph e) v ≡ true → d ≤ℤ slack_of s e) → (edges_around s.graph v ≡ [] → d ≡ pos 0) → s.weighted ≡ false → d ≡ pos 0
+  pub rise_still : pos 0 ≤ℤ d → ((e : ℕ) → IsEdgeNumber s.graph e → touches (edge_of s.graph e) v ≡ true → d ≤ℤ slack_of s e) → (edges_around s.graph v ≡ [] → d ≡ pos 0)
+      → s.weighted ≡ false → d ≡ pos 0
   rise_still low each none zero = ⊎_elim
       none
       (λ (e, is, t).
@@ -181,7 +185,8 @@ slack_even s start e ends h is =
     plain t w x y k a b e f g i = (((k -ℤ start) -ℤ a) -ℤ b, omega (arith, ints, e, f, g, i))
 
 -- an edge at the raised vertex that joins exposed vertices now had the slack by which the dual rose
-pub joins_here : (s : State) (v : ℕ) (d : ℤ) (e : ℕ) → All (IsEdgeWithin s.graph.vertices) s.graph.edges → s.blossoms ≡ [] → touches (edge_of s.graph e) v ≡ true → JoinsExposed (raised_at s v d) e → CanPair s v d e
+pub joins_here : (s : State) (v : ℕ) (d : ℤ) (e : ℕ) → All (IsEdgeWithin s.graph.vertices) s.graph.edges → s.blossoms ≡ [] → touches (edge_of s.graph e) v ≡ true
+    → JoinsExposed (raised_at s v d) e → CanPair s v d e
 joins_here s v d e ends alone t j =
     let is : IsEdgeNumber s.graph e = j.tight.edge in
     let now = slack_here s v d e alone (edge_of_within s.graph e ends is) t in

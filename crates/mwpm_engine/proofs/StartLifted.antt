@@ -17,7 +17,8 @@ use Rattle.mwpm_engine.specs.Starts.{CanMove, IsLifted}
 use Rattle.mwpm_engine.proofs.Flat.{slack_flat, outer_flat}
 use Rattle.mwpm_engine.proofs.StartDuals.{raised_at, raised_here, raised_there, raised_begun}
 
-module _ (s : State) (start : ℤ) (v : ℕ) (d : ℤ) (graph : IsGraph s.graph) (h : IsLifted s start (v - 1)) (vertex : is_vertex s.graph.vertices v ≡ true) (low : pos 0 ≤ℤ d) (even : SameParity d (pos 0)) (high : (start +ℤ d) ≤ℤ WEIGHT_LIMIT)
+module _ (s : State) (start : ℤ) (v : ℕ) (d : ℤ) (graph : IsGraph s.graph) (h : IsLifted s start (v - 1)) (vertex : is_vertex s.graph.vertices v ≡ true) (low : pos 0 ≤ℤ d)
+    (even : SameParity d (pos 0)) (high : (start +ℤ d) ≤ℤ WEIGHT_LIMIT)
     (each : (e : ℕ) → IsEdgeNumber s.graph e → touches (edge_of s.graph e) v ≡ true → (start +ℤ d) ≤ℤ (edge_of s.graph e).w) where
   begins : s.dual v ≡ start
   begins = h.waiting v vertex (omega (arith, (vertex_range s.graph.vertices v vertex).0))
@@ -65,12 +66,14 @@ module _ (s : State) (start : ℤ) (v : ℕ) (d : ℤ) (graph : IsGraph s.graph)
   }
 
 -- a dual may rise by what is at most the room below the least weight at its vertex, in the graph that a call is lent
-pub lifts : (s : Search) (g : Multigraph) (v : ℕ) (least d : ℤ) → g ≡ s.graph → IsGraph s.graph → IsLifted (state_of s) s.start (v - 1) → is_vertex g.vertices v ≡ true → pos 0 ≤ℤ d → (s.start +ℤ d) ≤ℤ least → SameParity d (pos 0) → IsWeight least
+pub lifts : (s : Search) (g : Multigraph) (v : ℕ) (least d : ℤ) → g ≡ s.graph → IsGraph s.graph → IsLifted (state_of s) s.start (v - 1) → is_vertex g.vertices v ≡ true → pos 0 ≤ℤ d
+    → (s.start +ℤ d) ≤ℤ least → SameParity d (pos 0) → IsWeight least
     → ((e : ℕ) → IsEdgeNumber g e → touches (edge_of g e) v ≡ true → least ≤ℤ (edge_of g e).w) → CanMove (state_of s) s.start v d × IsLifted (raised_at (state_of s) v d) s.start v
 lifts s g v least d same graph h vertex low less even weight each =
     let here : is_vertex s.graph.vertices v ≡ true = subst (λ (k : Multigraph). is_vertex k.vertices v ≡ true) same vertex in
     let room : (e : ℕ) → IsEdgeNumber s.graph e → touches (edge_of s.graph e) v ≡ true → (s.start +ℤ d) ≤ℤ (edge_of s.graph e).w =
-    subst (λ (k : Multigraph). (e : ℕ) → IsEdgeNumber k e → touches (edge_of k e) v ≡ true → (s.start +ℤ d) ≤ℤ (edge_of k e).w) same (λ e is t. let all = each e is t in omega (arith, ints, all, less)) in
+    subst (λ (k : Multigraph). (e : ℕ) → IsEdgeNumber k e → touches (edge_of k e) v ≡ true → (s.start +ℤ d) ≤ℤ (edge_of k e).w) same
+    (λ e is t. let all = each e is t in omega (arith, ints, all, less)) in
     let most : least ≤ℤ WEIGHT_LIMIT = weight.1 in
     let top : (s.start +ℤ d) ≤ℤ WEIGHT_LIMIT = omega (arith, ints, most, less) in
     (lift_rises (state_of s) s.start v d graph h here low even top room, lifted_next (state_of s) s.start v d graph h here low even top room)

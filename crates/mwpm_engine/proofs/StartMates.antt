@@ -58,7 +58,8 @@ module _ (s : State) (e : ℕ) where
       each : (c : ℕ) → one_if (is_exposed (paired_by s e) c) ≤ one_if (is_exposed s c)
       each c = ⊎_elim
           (λ q.
-          let none : is_exposed (paired_by s e) c ≡ false = ap (λ (o : Option ℕ). is_outermost s.graph.vertices s.blossoms c && not (is_some o)) q ∙ and-false (is_outermost s.graph.vertices s.blossoms c) in
+          let none : is_exposed (paired_by s e) c ≡ false = ap (λ (o : Option ℕ). is_outermost s.graph.vertices s.blossoms c && not (is_some o)) q
+          ∙ and-false (is_outermost s.graph.vertices s.blossoms c) in
           let zero : one_if (is_exposed (paired_by s e) c) ≡ 0 = ap one_if none in
           omega (arith, zero))
           (λ q.
@@ -83,15 +84,23 @@ module _ (s : State) (e : ℕ) where
     kept c f has = there c (λ q. some_not_none f (sym has ∙ ap s.mate q ∙ a_free.1)) (λ q. some_not_none f (sym has ∙ ap s.mate q ∙ b_free.1)) ∙ has
 
     old_mate : (c f x : ℕ) → IsMate s c f x → IsMate (paired_by s e) c f x
-    old_mate c f x m = record { edge = m.edge; joins = m.joins; different = m.different; tight = m.tight; outer = m.outer; back = kept x f m.back }
+    old_mate c f x m = record { edge = m.edge; joins = m.joins; different = m.different; tight = m.tight; outermost = m.outermost; back = kept x f m.back }
 
     mate_of_a : IsMate (paired_by s e) a e b
-    mate_of_a = record { edge = tight.edge; joins = joins_flat s alone e a b (inl (refl, refl)); different = differ; tight = tight.tight; outer = b_free.0; back = at_b }
+    mate_of_a = record { edge = tight.edge; joins = joins_flat s alone e a b (inl (refl, refl)); different = differ; tight = tight.tight; outermost = b_free.0; back = at_b }
 
     mate_of_b : IsMate (paired_by s e) b e a
-    mate_of_b = record { edge = tight.edge; joins = joins_flat s alone e b a (inr (refl, refl)); different = λ q. differ (sym q); tight = tight.tight; outer = a_free.0; back = at_a differ }
+    mate_of_b = record {
+      edge = tight.edge;
+      joins = joins_flat s alone e b a (inr (refl, refl));
+      different = λ q. differ (sym q);
+      tight = tight.tight;
+      outermost = a_free.0;
+      back = at_a differ;
+    }
 
-    mates : ((c f : ℕ) → IsOutermost s c → s.mate c ≡ Some f → (x : ℕ) × IsMate s c f x) → (c f : ℕ) → IsOutermost s c → (paired_by s e).mate c ≡ Some f → (x : ℕ) × IsMate (paired_by s e) c f x
+    mates : ((c f : ℕ) → IsOutermost s c → s.mate c ≡ Some f → (x : ℕ) × IsMate s c f x) → (c f : ℕ) → IsOutermost s c → (paired_by s e).mate c ≡ Some f
+        → (x : ℕ) × IsMate (paired_by s e) c f x
     mates old c f is has = by_test (eqb c b)
         (λ t.
         let here : c ≡ b = eqb-true c b t in

@@ -38,7 +38,8 @@ given Zero t = cc
 given Given t = refl
 
 -- a pass that has just been reset
-pub begun_anew : (s : State) (g : Multigraph) (w : Weights) (start : ℤ) → s.graph ≡ g → s.weighted ≡ is_given w → s.blossoms ≡ [] → ((a : ℕ) → s.label a ≡ Out) → IsStart g w start → ((v : ℕ) → is_vertex g.vertices v ≡ true → s.dual v ≡ start) → IsBegun s start
+pub begun_anew : (s : State) (g : Multigraph) (w : Weights) (start : ℤ) → s.graph ≡ g → s.weighted ≡ is_given w → s.blossoms ≡ [] → ((a : ℕ) → s.label a ≡ Out) → IsStart g w start
+    → ((v : ℕ) → is_vertex g.vertices v ≡ true → s.dual v ≡ start) → IsBegun s start
 begun_anew s g w start same weights alone out is duals =
     let each : (v : ℕ) → is_vertex s.graph.vertices v ≡ true → s.dual v ≡ start = λ v vertex. duals v (ap (λ (k : Multigraph). is_vertex k.vertices v) (sym same) ∙ vertex) in
     let range = start_weight g w start is in
@@ -53,7 +54,8 @@ begun_anew s g w start same weights alone out is duals =
     }
 
 -- no dual has been raised yet
-pub lifted_none : (s : State) (g : Multigraph) (start : ℤ) → s.graph ≡ g → IsGraph g → s.weighted ≡ true → IsBegun s start → IsStart g Given start → ((v : ℕ) → is_vertex g.vertices v ≡ true → s.dual v ≡ start) → ((a : ℕ) → s.mate a ≡ None) → IsLifted s start 0
+pub lifted_none : (s : State) (g : Multigraph) (start : ℤ) → s.graph ≡ g → IsGraph g → s.weighted ≡ true → IsBegun s start → IsStart g Given start
+    → ((v : ℕ) → is_vertex g.vertices v ≡ true → s.dual v ≡ start) → ((a : ℕ) → s.mate a ≡ None) → IsLifted s start 0
 lifted_none s g start same graph weighted begun is duals free = record {
   weighted = weighted;
   begun = begun;
@@ -88,25 +90,30 @@ module _ (s t : Search) (rest : t ≡ record s { arena = t.arena; mates = t.mate
 
   pub still_standing : t.arena ≡ record s.arena { duals = t.arena.duals } → IsStanding s → IsStanding t
   still_standing arena h = record {
-    listed = subst (λ (x : Search). AreListed x.graph.vertices x.standing.items x.seeds.items) (sym rest) h.listed;
+    listed = subst (λ (x : Search). AreListed x.graph.vertices x.standing.nodes x.standing.seeds) (sym rest) h.listed;
     trees = λ a is ne. absurd (ne (still_out a));
+    same = λ a b is also ne ne_b roots. absurd (ne (still_out a));
     moves = λ a is.
         let graph : t.graph ≡ s.graph = ap (λ (x : Search). x.graph) rest in
-        let was : IsOutermost (state_of s) a = subst (λ (f : Family). is_outermost s.graph.vertices f.blossoms a ≡ true) arena (subst (λ (g : Multigraph). is_outermost g.vertices t.arena.blossoms a ≡ true) graph is) in
+        let was : IsOutermost (state_of s) a = subst (λ (f : Family). is_outermost s.graph.vertices f.blossoms a ≡ true) arena
+        (subst (λ (g : Multigraph). is_outermost g.vertices t.arena.blossoms a ≡ true) graph is) in
         ap (λ (f : Family). label_at f.motions a) arena ∙ h.moves a was ∙ out a ∙ sym (still_out a);
   }
 
 -- what the two rounds of the start of a pass leave alone together
-pub kept_through : (s u t : Search) → u ≡ record s { arena = record s.arena { duals = u.arena.duals } } → t ≡ record u { arena = record u.arena { duals = t.arena.duals }; mates = t.mates } → t ≡ record s { arena = t.arena; mates = t.mates }
+pub kept_through : (s u t : Search) → u ≡ record s { arena = record s.arena { duals = u.arena.duals } }
+    → t ≡ record u { arena = record u.arena { duals = t.arena.duals }; mates = t.mates } → t ≡ record s { arena = t.arena; mates = t.mates }
 kept_through s u t first second =
     let arena : t.arena ≡ record u.arena { duals = t.arena.duals } = ap (λ (x : Search). x.arena) second in
     second ∙ sym (ap (λ (f : Family). record u { arena = f; mates = t.mates }) arena) ∙ ap (λ (x : Search). record x { arena = t.arena; mates = t.mates }) first
 
-pub arena_through : (s u t : Search) → u ≡ record s { arena = record s.arena { duals = u.arena.duals } } → t ≡ record u { arena = record u.arena { duals = t.arena.duals }; mates = t.mates } → t.arena ≡ record s.arena { duals = t.arena.duals }
+pub arena_through : (s u t : Search) → u ≡ record s { arena = record s.arena { duals = u.arena.duals } }
+    → t ≡ record u { arena = record u.arena { duals = t.arena.duals }; mates = t.mates } → t.arena ≡ record s.arena { duals = t.arena.duals }
 arena_through s u t first second = ap (λ (x : Search). x.arena) second ∙ ap (λ (x : Search). let f : Family = record x.arena { duals = t.arena.duals } in f) first
 
 -- all looks of one round over the vertices
-pub round_looks : (g : Multigraph) (place end old new : ℕ) → IsGraph g → end ≡ g.vertices → end ≤ place → place ≤ end → new ≤ old + sum_to (λ i. length (edges_around g (i + 1))) place → new ≤ old + 2 * length g.edges
+pub round_looks : (g : Multigraph) (place end old new : ℕ) → IsGraph g → end ≡ g.vertices → end ≤ place → place ≤ end → new ≤ old + sum_to (λ i. length (edges_around g (i + 1))) place
+    → new ≤ old + 2 * length g.edges
 round_looks g place end old new graph last low high looks =
     let all = all_ends g graph.ends in
     let same : place ≡ g.vertices = omega (arith, low, high, last) in
@@ -114,14 +121,16 @@ round_looks g place end old new graph last low high looks =
     omega (arith, looks, all, here)
 
 -- one vertex more
-pub round_more : (g : Multigraph) (k v start old new : ℕ) → v ≡ k + 1 → old ≤ start + sum_to (λ i. length (edges_around g (i + 1))) k → new ≤ old + length (edges_around g v) → new ≤ start + sum_to (λ i. length (edges_around g (i + 1))) (k + 1)
+pub round_more : (g : Multigraph) (k v start old new : ℕ) → v ≡ k + 1 → old ≤ start + sum_to (λ i. length (edges_around g (i + 1))) k → new ≤ old + length (edges_around g v)
+    → new ≤ start + sum_to (λ i. length (edges_around g (i + 1))) (k + 1)
 round_more g k v start old new is paid looks =
     let here : length (edges_around g v) ≡ length (edges_around g (k + 1)) = ap (λ x. length (edges_around g x)) is in
     let more = sum_to-more (λ i. length (edges_around g (i + 1))) k in
     omega (arith, paid, looks, here, more)
 
 -- what stays through the turns of two vertices
-pub kept_on : (s u t : Search) → u ≡ record s { arena = record s.arena { duals = u.arena.duals }; mates = u.mates } → t ≡ record u { arena = record u.arena { duals = t.arena.duals }; mates = t.mates } → t ≡ record s { arena = record s.arena { duals = t.arena.duals }; mates = t.mates }
+pub kept_on : (s u t : Search) → u ≡ record s { arena = record s.arena { duals = u.arena.duals }; mates = u.mates }
+    → t ≡ record u { arena = record u.arena { duals = t.arena.duals }; mates = t.mates } → t ≡ record s { arena = record s.arena { duals = t.arena.duals }; mates = t.mates }
 kept_on s u t first second = second ∙ ap (λ (x : Search). record x { arena = record x.arena { duals = t.arena.duals }; mates = t.mates }) first
 
 -- a node without a mate is exposed where it is outermost, so none can be exposed besides
@@ -130,7 +139,8 @@ none_more true free = one_if-most free
 none_more false free = omega arith
 
 -- where no node has a mate at first, no more are exposed in the end
-pub exposed_most : (s t : Search) → t ≡ record s { arena = record s.arena { duals = t.arena.duals }; mates = t.mates } → ((a : ℕ) → edge_in s.mates.items a ≡ None) → exposed_count (state_of t) ≤ exposed_count (state_of s)
+pub exposed_most : (s t : Search) → t ≡ record s { arena = record s.arena { duals = t.arena.duals }; mates = t.mates } → ((a : ℕ) → edge_in s.mates.items a ≡ None)
+    → exposed_count (state_of t) ≤ exposed_count (state_of s)
 exposed_most s t rest free = subst (λ (x : Search). exposed_count (state_of x) ≤ exposed_count (state_of s)) (sym rest) (sum_to-le
     (λ i. one_if (is_outermost s.graph.vertices s.arena.blossoms (i + 1) && not (is_some (edge_in t.mates.items (i + 1)))))
     (λ i. one_if (is_exposed (state_of s) (i + 1)))

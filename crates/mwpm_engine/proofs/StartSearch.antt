@@ -63,7 +63,8 @@ module _ (s t : Search) (e : ℕ) (rest : t ≡ record s { mates = t.mates }) (m
   pub paired_frees : HasShape s → IsTight (state_of s) e → (a : ℕ) → IsExposed (state_of t) a → IsExposed (state_of s) a × (a ≢ (edge_of s.graph e).u) × (a ≢ (edge_of s.graph e).v)
   paired_frees h tight a x = paired_free (state_of s) e (edge_of_within s.graph e h.graph.graph.ends tight.edge).differ a (subst (λ (y : State). IsExposed y a) paired_is x)
 
-  pub paired_sound : vec_len t.mates ≡ vec_len s.mates → IsSound s → IsBegun (state_of s) s.start → IsTight (state_of s) e → IsExposed (state_of s) (edge_of s.graph e).u → IsExposed (state_of s) (edge_of s.graph e).v → IsSound t
+  pub paired_sound : vec_len t.mates ≡ vec_len s.mates → IsSound s → IsBegun (state_of s) s.start → IsTight (state_of s) e → IsExposed (state_of s) (edge_of s.graph e).u
+      → IsExposed (state_of s) (edge_of s.graph e).v → IsSound t
   paired_sound len h begun tight u v = record {
     shape = subst HasShape (sym rest) (record {
       graph = h.shape.graph;
@@ -98,7 +99,8 @@ module _ (s : Search) (v e : ℕ) (x : ℤ) (h : IsSound s) (begun : IsBegun (st
   }
 
 -- what the least slack at an exposed vertex lets it do
-pub least_rises : (s : Search) (v : ℕ) (x : ℤ) (mate : Option ℕ) → IsSound s → IsBegun (state_of s) s.start → is_vertex s.graph.vertices v ≡ true → IsExposed (state_of s) v → IsRise (state_of s) v x mate
+pub least_rises : (s : Search) (v : ℕ) (x : ℤ) (mate : Option ℕ) → IsSound s → IsBegun (state_of s) s.start → is_vertex s.graph.vertices v ≡ true → IsExposed (state_of s) v
+    → IsRise (state_of s) v x mate
     → ((e : ℕ) → IsEdgeNumber s.graph e → touches (edge_of s.graph e) v ≡ true → x ≤ℤ slack_of (state_of s) e) → (edges_around s.graph v ≡ [] → x ≡ pos 0) → CanMove (state_of s) s.start v x
 least_rises s v x mate h begun vertex exposed rise each none = record {
   exposed = exposed;
@@ -110,7 +112,8 @@ least_rises s v x mate h begun vertex exposed rise each none = record {
 }
 
 -- an edge of the least slack is tight once the dual of its end has risen by it, and its two ends are exposed
-module _ (s t : Search) (v e : ℕ) (x : ℤ) (same : state_of t ≡ raised_at (state_of s) v x) (h : IsSound s) (begun : IsBegun (state_of s) s.start) (exposed : IsExposed (state_of s) v) (can : CanPair (state_of s) v x e) where
+module _ (s t : Search) (v e : ℕ) (x : ℤ) (same : state_of t ≡ raised_at (state_of s) v x) (h : IsSound s) (begun : IsBegun (state_of s) s.start) (exposed : IsExposed (state_of s) v)
+    (can : CanPair (state_of s) v x e) where
   pair_tight : IsTight (state_of t) e
   pair_tight = subst (λ (y : State). IsTight y e) (sym same) (record {
     edge = can.is_edge;
@@ -140,7 +143,8 @@ module _ (s t : Search) (v e : ℕ) (x : ℤ) (same : state_of t ≡ raised_at (
   )
 
 -- the state of a search of which a dual has risen
-pub state_raised : (s t : Search) (v : ℕ) (d : ℤ) → t ≡ record s { arena = record s.arena { duals = t.arena.duals } } → dual_at t.arena.duals ≡ put (dual_at s.arena.duals) v (dual_at s.arena.duals v +ℤ d) → state_of t ≡ raised_at (state_of s) v d
+pub state_raised : (s t : Search) (v : ℕ) (d : ℤ) → t ≡ record s { arena = record s.arena { duals = t.arena.duals } }
+    → dual_at t.arena.duals ≡ put (dual_at s.arena.duals) v (dual_at s.arena.duals v +ℤ d) → state_of t ≡ raised_at (state_of s) v d
 state_raised s t v d rest duals = ap state_of rest ∙ ap (λ (y : ℕ → ℤ). record (state_of s) { dual = y }) duals
 
 -- an end of an edge that joins exposed vertices is exposed
@@ -151,7 +155,8 @@ end_exposed s v e t j = ⊎_elim
     (or_cases (eqb (edge_of s.graph e).u v) (eqb (edge_of s.graph e).v v) t)
 
 -- where two more vertices are matched, what joins exposed vertices still did so before
-pub joins_before : (u t : Search) (e : ℕ) → t ≡ record u { mates = t.mates } → ((a : ℕ) → IsExposed (state_of t) a → IsExposed (state_of u) a) → JoinsExposed (state_of t) e → JoinsExposed (state_of u) e
+pub joins_before : (u t : Search) (e : ℕ) → t ≡ record u { mates = t.mates } → ((a : ℕ) → IsExposed (state_of t) a → IsExposed (state_of u) a) → JoinsExposed (state_of t) e
+    → JoinsExposed (state_of u) e
 joins_before u t e rest free j =
     let graph : t.graph ≡ u.graph = ap (λ (x : Search). x.graph) rest in
     let tight = subst (λ (x : Search). IsTight (state_of x) e) rest j.tight in

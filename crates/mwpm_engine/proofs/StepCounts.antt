@@ -3,6 +3,7 @@ use Rattle.std.proofs.Common.{◌≡◌, ◌≢◌, ◌⊎◌, ℕ, zero, suc, �
 use Rattle.std.specs.List.{list_any}
 use Rattle.std.proofs.lemmas.Nat.{mul-le}
 use Rattle.std.proofs.lemmas.Bool.{eqb-true, eqb-false, ltb-false}
+use Rattle.std.proofs.lemmas.Bool.Decides.{nat_tests}
 use Rattle.graph_theory.specs.Limits.{Size}
 use Rattle.graph_theory.specs.Graph.{Multigraph, IsGraph, IsEdgeWithin, edge_of, edges_around}
 use Rattle.graph_theory.proofs.Edges.{edge_of_within}
@@ -20,7 +21,7 @@ use Rattle.alt_forest.proofs.Places.{nested_of, outer_range}
 use Rattle.dual_change.specs.declared.event.Event.{Event}
 use Rattle.dual_change.specs.declared.event.Event.TheVariants.{Grow, Shrink, Augment, Expand}
 use Rattle.augment.proofs.Joined.{none_entered}
-use Rattle.mwpm_engine.specs.Solutions.{size_of_graph, most_steps}
+use Rattle.mwpm_engine.specs.Solutions.{close_steps, most_steps, size_of_graph}
 use Rattle.mwpm_engine.specs.Sweeps.{start_looks}
 use Rattle.mwpm_engine.specs.Passes.{IsReady, KeepsCounts, account, steps_to, phase_steps, augment_account, pass_steps}
 
@@ -51,7 +52,8 @@ one_of false x = omega arith
 
 pub looks_most : (s : State) → All (IsEdgeWithin s.graph.vertices) s.graph.edges → looks_left s ≤ 2 * length s.graph.edges + 2 * length s.graph.edges * length s.blossoms
 looks_most s ends =
-    let some = sum_to-le (λ i. cond (is_outside s (i + 1)) (length (edges_around s.graph (i + 1))) 0) (λ i. length (edges_around s.graph (i + 1))) s.graph.vertices (λ i low. one_of (is_outside s (i + 1)) (length (edges_around s.graph (i + 1)))) in
+    let some = sum_to-le (λ i. cond (is_outside s (i + 1)) (length (edges_around s.graph (i + 1))) 0) (λ i. length (edges_around s.graph (i + 1))) s.graph.vertices
+    (λ i low. one_of (is_outside s (i + 1)) (length (edges_around s.graph (i + 1)))) in
     let all = all_ends s.graph ends in
     let rest = times_le (outside_among s s.blossoms) (length s.blossoms) (2 * length s.graph.edges) (among_most s s.blossoms) in
     plain (outside_ends s) (length s.graph.edges) (outside_among s s.blossoms) (length s.blossoms) (omega (arith, some, all)) rest
@@ -65,17 +67,21 @@ looks_most s ends =
 abbrev pub phase_account : Multigraph → ℕ → ℕ
 phase_account g blossoms = 2 * (2 * length g.edges + 2 * length g.edges * blossoms) + 2 * (g.vertices + blossoms)
 
-begins_paid : (old new first entries begin looks left most ends : ℕ) → first ≡ 0 → new + looks ≤ old + begin → entries + old ≤ first + new → left ≤ most → begin ≤ ends → new + entries + 2 * looks + 2 * left ≤ old + (2 * ends + 2 * most)
+begins_paid : (old new first entries begin looks left most ends : ℕ) → first ≡ 0 → new + looks ≤ old + begin → entries + old ≤ first + new → left ≤ most → begin ≤ ends
+    → new + entries + 2 * looks + 2 * left ≤ old + (2 * ends + 2 * most)
 begins_paid old new first entries begin looks left most ends none look count small few = omega (arith, none, look, count, small, few)
 
 -- once the forest is planted
-pub planted_paid : (s t : Search) (old new : ℕ) → IsReady s → t.arena ≡ record s.arena { motions = t.arena.motions } → t.graph ≡ s.graph → new + looks_left (state_of t) ≤ old + looks_left (state_of s) → entry_count t.queue + old ≤ entry_count s.queue + new
+pub planted_paid : (s t : Search) (old new : ℕ) → IsReady s → t.arena ≡ record s.arena { motions = t.arena.motions } → t.graph ≡ s.graph
+    → new + looks_left (state_of t) ≤ old + looks_left (state_of s) → entry_count t.queue + old ≤ entry_count s.queue + new
     → account t new ≤ old + phase_account s.graph (length s.arena.blossoms)
 planted_paid s t old new ready arena graph look count =
     let none : entry_count s.queue ≡ 0 = none_entered s.queue (ready.queued.empty (λ a is. ready.labels a)) in
     let left : measure (state_of t) ≤ s.graph.vertices + length s.arena.blossoms =
-    subst (λ (g : Multigraph). measure (state_of t) ≤ g.vertices + length s.arena.blossoms) graph (subst (λ (f : Family). measure (state_of t) ≤ t.graph.vertices + length f.blossoms) arena (left_most (state_of t))) in
-    begins_paid old new (entry_count s.queue) (entry_count t.queue) (looks_left (state_of s)) (looks_left (state_of t)) (measure (state_of t)) (s.graph.vertices + length s.arena.blossoms) _ none look count left (looks_most (state_of s) ready.sound.shape.graph.graph.ends)
+    subst (λ (g : Multigraph). measure (state_of t) ≤ g.vertices + length s.arena.blossoms) graph
+    (subst (λ (f : Family). measure (state_of t) ≤ t.graph.vertices + length f.blossoms) arena (left_most (state_of t))) in
+    begins_paid old new (entry_count s.queue) (entry_count t.queue) (looks_left (state_of s)) (looks_left (state_of t)) (measure (state_of t))
+    (s.graph.vertices + length s.arena.blossoms) _ none look count left (looks_most (state_of s) ready.sound.shape.graph.graph.ends)
 
 -- once what comes next is reached
 pub reached_paid : (s t : Search) (old new by : ℕ) → KeepsCounts (state_of s) (state_of t) → entry_count t.queue + new ≤ entry_count s.queue + old + by → account t new ≤ account s old + by
@@ -136,13 +142,15 @@ pub less_left : (n after before new old : ℕ) → after ≡ before → new < ol
 less_left n after before new old same less = let here : after * (2 * n + 1) ≡ before * (2 * n + 1) = ap (λ x. x * (2 * n + 1)) same in omega (arith, here, less)
 
 -- a round of a pass
-pub round_paid : (k start old reached new before between after by : ℕ) → 2 * old + before * k ≤ start → reached ≤ old + by → between ≡ before → 2 * new + after * k + 2 * by ≤ 2 * reached + between * k → 2 * new + after * k ≤ start
+pub round_paid : (k start old reached new before between after by : ℕ) → 2 * old + before * k ≤ start → reached ≤ old + by → between ≡ before
+    → 2 * new + after * k + 2 * by ≤ 2 * reached + between * k → 2 * new + after * k ≤ start
 round_paid k start old reached new before between after by paid reach same event =
     let here : between * k ≡ before * k = ap (λ x. x * k) same in
     omega (arith, paid, reach, event, here)
 
 -- once every exposed node is planted, before there is any blossom
-pub pass_begun : (g : Multigraph) (k blossoms start new all exposed : ℕ) → blossoms ≡ 0 → new ≤ start + phase_account g blossoms → exposed ≡ all → 2 * new + exposed * k ≤ 2 * start + (all * k + 8 * length g.edges + 4 * g.vertices)
+pub pass_begun : (g : Multigraph) (k blossoms start new all exposed : ℕ) → blossoms ≡ 0 → new ≤ start + phase_account g blossoms → exposed ≡ all
+    → 2 * new + exposed * k ≤ 2 * start + (all * k + 8 * length g.edges + 4 * g.vertices)
 pass_begun g k blossoms start new all exposed none paid same =
     let here : exposed * k ≡ all * k = ap (λ x. x * k) same in
     let begin : phase_account g blossoms ≡ phase_account g 0 = ap (phase_account g) none in
@@ -157,7 +165,8 @@ last_two k (suc (suc a)) x y paid =
     subst (λ b. x ≤ y + b * k) (sym back) (omega (arith, paid))
 
 -- the last augment of a pass
-pub pass_matched : (n m k start all old before reached between new by : ℕ) → 2 * old + before * k ≤ 2 * start + (all * k + 8 * m + 4 * n) → reached ≤ old + by → by ≤ 2 → between ≡ before → 2 ≤ between → new ≤ reached + 1 + 2 * m → 2 ≤ n
+pub pass_matched : (n m k start all old before reached between new by : ℕ) → 2 * old + before * k ≤ 2 * start + (all * k + 8 * m + 4 * n) → reached ≤ old + by → by ≤ 2
+    → between ≡ before → 2 ≤ between → new ≤ reached + 1 + 2 * m → 2 ≤ n
     → 2 * new ≤ 2 * start + ((all - 2) * k + 12 * m + 7 * n)
 pass_matched n m k start all old before reached between new by paid reach two same some last vertices =
     let here : 2 * k ≤ before * k = times_le 2 before k (omega (arith, same, some)) in
@@ -165,7 +174,8 @@ pass_matched n m k start all old before reached between new by paid reach two sa
     omega (arith, most)
 
 -- a pass in which no node is exposed
-pub pass_idle : (g : Multigraph) (blossoms all old new looks before : ℕ) → blossoms ≡ 0 → new + looks ≤ old + before → before ≤ 2 * length g.edges + 2 * length g.edges * blossoms → 2 * new ≤ 2 * old + pass_steps (size_of_graph g) all true
+pub pass_idle : (g : Multigraph) (blossoms all old new looks before : ℕ) → blossoms ≡ 0 → new + looks ≤ old + before → before ≤ 2 * length g.edges + 2 * length g.edges * blossoms
+    → 2 * new ≤ 2 * old + pass_steps (size_of_graph g) all true
 pass_idle g blossoms all old new looks before none looked most =
     let begin : 2 * length g.edges * blossoms ≡ 2 * length g.edges * 0 = ap (λ b. 2 * length g.edges * b) none in
     idle (length g.edges) g.vertices ((all - 2) * augment_account (size_of_graph g)) (omega (arith, looked, most, begin))
@@ -179,9 +189,11 @@ steps_le : (size : Size) (ends : Bool) (a b : ℕ) → a ≤ b → pass_steps si
 steps_le size true a b low = let more = times_le (a - 2) (b - 2) (augment_account size) (omega (arith, low)) in omega (arith, more)
 steps_le size false a b low = let more = times_le a b (augment_account size) low in omega (arith, more)
 
-pub pass_paid : (g : Multigraph) (ends : Bool) (exposed old begun new : ℕ) → exposed ≤ g.vertices → begun ≤ old + start_looks g.vertices * length g.edges → 2 * new ≤ 2 * begun + pass_steps (size_of_graph g) exposed ends
+pub pass_paid : (g : Multigraph) (ends : Bool) (exposed old begun new : ℕ) → exposed ≤ g.vertices → begun ≤ old + start_looks g.vertices * length g.edges
+    → 2 * new ≤ 2 * begun + pass_steps (size_of_graph g) exposed ends
     → 2 * new ≤ 2 * old + pass_steps (size_of_graph g) g.vertices ends + 2 * start_looks g.vertices * length g.edges
-pass_paid g ends exposed old begun new few looks paid = plain (pass_steps (size_of_graph g) exposed ends) (pass_steps (size_of_graph g) g.vertices ends) (start_looks g.vertices) (length g.edges) (steps_le (size_of_graph g) ends exposed g.vertices few) looks paid
+pass_paid g ends exposed old begun new few looks paid = plain (pass_steps (size_of_graph g) exposed ends) (pass_steps (size_of_graph g) g.vertices ends) (start_looks g.vertices)
+    (length g.edges) (steps_le (size_of_graph g) ends exposed g.vertices few) looks paid
   where
     plain : (x y k m : ℕ) → x ≤ y → begun ≤ old + k * m → 2 * new ≤ 2 * begun + x → 2 * new ≤ 2 * old + y + 2 * k * m
     plain x y k m a b c = omega (arith, a, b, c)
@@ -209,7 +221,8 @@ matched_many n k m is =
 matched_most : (n m : ℕ) → (2 ≤ n) ⊎ (m ≡ 0) → (n - 2) * (2 * m * (n + 3) + 3 * n + 3) + (14 + 2 * start_looks n) * m + 7 * n ≤ (n + 1) * (3 * n + 2) * (m + 1)
 matched_most n m some = ⊎_elim
     (λ four. subst (λ k. (n - 2) * (2 * m * (n + 3) + 3 * n + 3) + (14 + 2 * k) * m + 7 * n ≤ (n + 1) * (3 * n + 2) * (m + 1)) (sym four) (matched_few n m some))
-    (λ (many, ten). subst (λ k. (n - 2) * (2 * m * (n + 3) + 3 * n + 3) + (14 + 2 * k) * m + 7 * n ≤ (n + 1) * (3 * n + 2) * (m + 1)) (sym ten) (matched_many n (n - 4) m (omega (arith, many))))
+    (λ (many, ten). subst (λ k. (n - 2) * (2 * m * (n + 3) + 3 * n + 3) + (14 + 2 * k) * m + 7 * n ≤ (n + 1) * (3 * n + 2) * (m + 1)) (sym ten)
+    (matched_many n (n - 4) m (omega (arith, many))))
     (few_looks n)
 
 -- and twice what a pass counts that ends stuck
@@ -228,30 +241,100 @@ stuck_most n m some = ⊎_elim
     (λ (many, ten). subst (λ k. n * (2 * m * (n + 3) + 3 * n + 3) + (8 + 2 * k) * m + 4 * n ≤ 2 * ((n + 1) * (3 * n + 2) * (m + 1))) (sym ten) (stuck_many n (n - 4) m (omega (arith, many))))
     (few_looks n)
 
+-- what a pass counts twice, with two looks at each edge if it isn't stuck
+abbrev stuck_twice : ℕ → ℕ → ℕ
+stuck_twice n m = n * (2 * m * (n + 3) + 3 * n + 3) + (8 + 2 * start_looks n) * m + 4 * n
+
+abbrev matched_twice : ℕ → ℕ → ℕ
+matched_twice n m = (n - 2) * (2 * m * (n + 3) + 3 * n + 3) + (14 + 2 * start_looks n) * m + 7 * n
+
 -- a pass that ends stuck
-pub stuck_paid : (g : Multigraph) (old new : ℕ) → IsGraph g → 2 * new ≤ 2 * old + pass_steps (size_of_graph g) g.vertices false + 2 * start_looks g.vertices * length g.edges → new ≤ old + most_steps (size_of_graph g)
-stuck_paid g old new graph paid = plain g.vertices (length g.edges) (start_looks g.vertices) (stuck_most g.vertices (length g.edges) (some_or_none g graph)) paid
+stuck_within : (g : Multigraph) (old new most : ℕ) → stuck_twice g.vertices (length g.edges) ≤ 2 * most
+    → 2 * new ≤ 2 * old + pass_steps (size_of_graph g) g.vertices false + 2 * start_looks g.vertices * length g.edges → new ≤ old + most
+stuck_within g old new most = plain g.vertices (length g.edges) (start_looks g.vertices)
   where
-    plain : (n m k : ℕ) → n * (2 * m * (n + 3) + 3 * n + 3) + (8 + 2 * k) * m + 4 * n ≤ 2 * ((n + 1) * (3 * n + 2) * (m + 1)) → 2 * new ≤ 2 * old + (n * (2 * m * (n + 3) + 3 * n + 3) + 8 * m + 4 * n) + 2 * k * m → new ≤ old + (n + 1) * (3 * n + 2) * (m + 1)
-    plain n m k most all = omega (arith, most, all)
+    plain : (n m k : ℕ) → n * (2 * m * (n + 3) + 3 * n + 3) + (8 + 2 * k) * m + 4 * n ≤ 2 * most
+        → 2 * new ≤ 2 * old + (n * (2 * m * (n + 3) + 3 * n + 3) + 8 * m + 4 * n) + 2 * k * m → new ≤ old + most
+    plain n m k few all = omega (arith, few, all)
 
 -- a pass that doesn't, and a look at each edge
-pub looked_through : (g : Multigraph) (old between new : ℕ) → IsGraph g → 2 * between ≤ 2 * old + pass_steps (size_of_graph g) g.vertices true + 2 * start_looks g.vertices * length g.edges → new ≤ between + length g.edges → new ≤ old + most_steps (size_of_graph g)
-looked_through g old between new graph first looks = plain g.vertices (length g.edges) (start_looks g.vertices) (matched_most g.vertices (length g.edges) (some_or_none g graph)) first looks
+looked_within : (g : Multigraph) (old between new most : ℕ) → matched_twice g.vertices (length g.edges) ≤ most
+    → 2 * between ≤ 2 * old + pass_steps (size_of_graph g) g.vertices true + 2 * start_looks g.vertices * length g.edges → new ≤ between + length g.edges → new ≤ old + most
+looked_within g old between new most = plain g.vertices (length g.edges) (start_looks g.vertices)
   where
-    plain : (n m k : ℕ) → (n - 2) * (2 * m * (n + 3) + 3 * n + 3) + (14 + 2 * k) * m + 7 * n ≤ (n + 1) * (3 * n + 2) * (m + 1) → 2 * between ≤ 2 * old + ((n - 2) * (2 * m * (n + 3) + 3 * n + 3) + 12 * m + 7 * n) + 2 * k * m → new ≤ between + m
-        → new ≤ old + (n + 1) * (3 * n + 2) * (m + 1)
-    plain n m k most one two = omega (arith, most, one, two)
+    plain : (n m k : ℕ) → (n - 2) * (2 * m * (n + 3) + 3 * n + 3) + (14 + 2 * k) * m + 7 * n ≤ most
+        → 2 * between ≤ 2 * old + ((n - 2) * (2 * m * (n + 3) + 3 * n + 3) + 12 * m + 7 * n) + 2 * k * m → new ≤ between + m → new ≤ old + most
+    plain n m k few one two = omega (arith, few, one, two)
 
 -- two passes of which neither is stuck, with two looks at each edge between them
-pub two_passes_paid : (g : Multigraph) (old first looked found new : ℕ) → IsGraph g → 2 * first ≤ 2 * old + pass_steps (size_of_graph g) g.vertices true + 2 * start_looks g.vertices * length g.edges → looked ≤ first + length g.edges → found ≤ looked + length g.edges
-    → 2 * new ≤ 2 * found + pass_steps (size_of_graph g) g.vertices true + 2 * start_looks g.vertices * length g.edges → new ≤ old + most_steps (size_of_graph g)
-two_passes_paid g old first looked found new graph one looks more other = plain g.vertices (length g.edges) (start_looks g.vertices) (matched_most g.vertices (length g.edges) (some_or_none g graph)) one looks more other
+two_passes_within : (g : Multigraph) (old first looked found new most : ℕ) → matched_twice g.vertices (length g.edges) ≤ most
+    → 2 * first ≤ 2 * old + pass_steps (size_of_graph g) g.vertices true + 2 * start_looks g.vertices * length g.edges → looked ≤ first + length g.edges → found ≤ looked + length g.edges
+    → 2 * new ≤ 2 * found + pass_steps (size_of_graph g) g.vertices true + 2 * start_looks g.vertices * length g.edges → new ≤ old + most
+two_passes_within g old first looked found new most = plain g.vertices (length g.edges) (start_looks g.vertices)
   where
-    plain : (n m k : ℕ) → (n - 2) * (2 * m * (n + 3) + 3 * n + 3) + (14 + 2 * k) * m + 7 * n ≤ (n + 1) * (3 * n + 2) * (m + 1) → 2 * first ≤ 2 * old + ((n - 2) * (2 * m * (n + 3) + 3 * n + 3) + 12 * m + 7 * n) + 2 * k * m → looked ≤ first + m → found ≤ looked + m
-        → 2 * new ≤ 2 * found + ((n - 2) * (2 * m * (n + 3) + 3 * n + 3) + 12 * m + 7 * n) + 2 * k * m → new ≤ old + (n + 1) * (3 * n + 2) * (m + 1)
-    plain n m k most a b c d = omega (arith, most, a, b, c, d)
+    plain : (n m k : ℕ) → (n - 2) * (2 * m * (n + 3) + 3 * n + 3) + (14 + 2 * k) * m + 7 * n ≤ most
+        → 2 * first ≤ 2 * old + ((n - 2) * (2 * m * (n + 3) + 3 * n + 3) + 12 * m + 7 * n) + 2 * k * m → looked ≤ first + m → found ≤ looked + m
+        → 2 * new ≤ 2 * found + ((n - 2) * (2 * m * (n + 3) + 3 * n + 3) + 12 * m + 7 * n) + 2 * k * m → new ≤ old + most
+    plain n m k few a b c d = omega (arith, few, a, b, c, d)
+
+-- all of it is within what a run may count
+pub stuck_paid : (g : Multigraph) (old new : ℕ) → IsGraph g
+    → 2 * new ≤ 2 * old + pass_steps (size_of_graph g) g.vertices false + 2 * start_looks g.vertices * length g.edges → new ≤ old + most_steps (size_of_graph g)
+stuck_paid g old new graph = stuck_within g old new (most_steps (size_of_graph g)) (stuck_most g.vertices (length g.edges) (some_or_none g graph))
+
+pub looked_through : (g : Multigraph) (old between new : ℕ) → IsGraph g
+    → 2 * between ≤ 2 * old + pass_steps (size_of_graph g) g.vertices true + 2 * start_looks g.vertices * length g.edges → new ≤ between + length g.edges
+    → new ≤ old + most_steps (size_of_graph g)
+looked_through g old between new graph = looked_within g old between new (most_steps (size_of_graph g)) (matched_most g.vertices (length g.edges) (some_or_none g graph))
+
+pub two_passes_paid : (g : Multigraph) (old first looked found new : ℕ) → IsGraph g
+    → 2 * first ≤ 2 * old + pass_steps (size_of_graph g) g.vertices true + 2 * start_looks g.vertices * length g.edges → looked ≤ first + length g.edges → found ≤ looked + length g.edges
+    → 2 * new ≤ 2 * found + pass_steps (size_of_graph g) g.vertices true + 2 * start_looks g.vertices * length g.edges → new ≤ old + most_steps (size_of_graph g)
+two_passes_paid g old first looked found new graph =
+    two_passes_within g old first looked found new (most_steps (size_of_graph g)) (matched_most g.vertices (length g.edges) (some_or_none g graph))
+
+-- and of a closer bound, where there are ten vertices at least
+low : (n : ℕ) → ltb n 4 ≡ true → n < 4
+low n t = grind (arith, nat_tests)
+
+many_looks : (n : ℕ) → 10 ≤ n → start_looks n ≡ 10
+many_looks n ten = by_test (ltb n 4) (λ t. absurd (omega (arith, ten, low n t))) (λ t. ap (λ b. 4 + cond b 0 6) t)
+
+close_matched : (n k m : ℕ) → n ≡ k + 10 → (n - 2) * (2 * m * (n + 3) + 3 * n + 3) + 34 * m + 7 * n ≤ 2 * m * (n + 1) * (n + 1) + (n + 1) * (3 * n + 2)
+close_matched n k m is =
+    let back : k + 10 - 2 ≡ k + 8 = omega arith in
+    subst (λ x. (x - 2) * (2 * m * (x + 3) + 3 * x + 3) + 34 * m + 7 * x ≤ 2 * m * (x + 1) * (x + 1) + (x + 1) * (3 * x + 2)) (sym is)
+    (subst (λ b. b * (2 * m * (k + 10 + 3) + 3 * (k + 10) + 3) + 34 * m + 7 * (k + 10) ≤ 2 * m * (k + 10 + 1) * (k + 10 + 1) + (k + 10 + 1) * (3 * (k + 10) + 2)) (sym back) (omega arith))
+
+close_stuck : (n k m : ℕ) → n ≡ k + 10 → n * (2 * m * (n + 3) + 3 * n + 3) + 28 * m + 4 * n ≤ 2 * (2 * m * (n + 1) * (n + 1) + (n + 1) * (3 * n + 2))
+close_stuck n k m is = subst (λ x. x * (2 * m * (x + 3) + 3 * x + 3) + 28 * m + 4 * x ≤ 2 * (2 * m * (x + 1) * (x + 1) + (x + 1) * (3 * x + 2))) (sym is) (omega arith)
+
+matched_close : (n m : ℕ) → 10 ≤ n → matched_twice n m ≤ 2 * m * (n + 1) * (n + 1) + (n + 1) * (3 * n + 2)
+matched_close n m ten =
+    subst (λ k. (n - 2) * (2 * m * (n + 3) + 3 * n + 3) + (14 + 2 * k) * m + 7 * n ≤ 2 * m * (n + 1) * (n + 1) + (n + 1) * (3 * n + 2)) (sym (many_looks n ten))
+    (close_matched n (n - 10) m (omega (arith, ten)))
+
+stuck_close : (n m : ℕ) → 10 ≤ n → stuck_twice n m ≤ 2 * (2 * m * (n + 1) * (n + 1) + (n + 1) * (3 * n + 2))
+stuck_close n m ten =
+    subst (λ k. n * (2 * m * (n + 3) + 3 * n + 3) + (8 + 2 * k) * m + 4 * n ≤ 2 * (2 * m * (n + 1) * (n + 1) + (n + 1) * (3 * n + 2))) (sym (many_looks n ten))
+    (close_stuck n (n - 10) m (omega (arith, ten)))
+
+pub stuck_closely : (g : Multigraph) (old new : ℕ) → 10 ≤ g.vertices
+    → 2 * new ≤ 2 * old + pass_steps (size_of_graph g) g.vertices false + 2 * start_looks g.vertices * length g.edges → new ≤ old + close_steps (size_of_graph g)
+stuck_closely g old new ten = stuck_within g old new (close_steps (size_of_graph g)) (stuck_close g.vertices (length g.edges) ten)
+
+pub looked_closely : (g : Multigraph) (old between new : ℕ) → 10 ≤ g.vertices
+    → 2 * between ≤ 2 * old + pass_steps (size_of_graph g) g.vertices true + 2 * start_looks g.vertices * length g.edges → new ≤ between + length g.edges
+    → new ≤ old + close_steps (size_of_graph g)
+looked_closely g old between new ten = looked_within g old between new (close_steps (size_of_graph g)) (matched_close g.vertices (length g.edges) ten)
+
+pub two_passes_closely : (g : Multigraph) (old first looked found new : ℕ) → 10 ≤ g.vertices
+    → 2 * first ≤ 2 * old + pass_steps (size_of_graph g) g.vertices true + 2 * start_looks g.vertices * length g.edges → looked ≤ first + length g.edges → found ≤ looked + length g.edges
+    → 2 * new ≤ 2 * found + pass_steps (size_of_graph g) g.vertices true + 2 * start_looks g.vertices * length g.edges → new ≤ old + close_steps (size_of_graph g)
+two_passes_closely g old first looked found new ten =
+    two_passes_within g old first looked found new (close_steps (size_of_graph g)) (matched_close g.vertices (length g.edges) ten)
 
 -- a pass that has just been reset has as many exposed nodes as vertices, and its start leaves no more
-pub exposed_few : (s t : Search) (g : Multigraph) → exposed_count (state_of t) ≤ exposed_count (state_of s) → exposed_count (state_of s) ≡ s.graph.vertices → s.graph ≡ g → exposed_count (state_of t) ≤ g.vertices
+pub exposed_few : (s t : Search) (g : Multigraph) → exposed_count (state_of t) ≤ exposed_count (state_of s) → exposed_count (state_of s) ≡ s.graph.vertices → s.graph ≡ g
+    → exposed_count (state_of t) ≤ g.vertices
 exposed_few s t g less all same = let vertices = ap (λ (k : Multigraph). k.vertices) same in omega (arith, less, all, vertices)

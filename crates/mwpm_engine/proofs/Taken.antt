@@ -29,7 +29,8 @@ lead_kept s m v l h = record {
   behind = h.behind;
 }
 
-module _ (s : State) (start : ℤ) (v : ℕ) (l : Lead) (fall : ℤ) (graph : IsGraph s.graph) (h : IsBegun s start) (weighted : s.weighted ≡ true) (slacks : (e : ℕ) → IsEdgeNumber s.graph e → pos 0 ≤ℤ slack_of s e)
+module _ (s : State) (start : ℤ) (v : ℕ) (l : Lead) (fall : ℤ) (graph : IsGraph s.graph) (h : IsBegun s start) (weighted : s.weighted ≡ true)
+    (slacks : (e : ℕ) → IsEdgeNumber s.graph e → pos 0 ≤ℤ slack_of s e)
     (vertex : is_vertex s.graph.vertices v ≡ true) (lead : IsLead s v l) (can : CanTake s start l fall) where
   abbrev e : ℕ
   e = l.least.edge
@@ -97,7 +98,8 @@ module _ (s : State) (start : ℤ) (v : ℕ) (l : Lead) (fall : ℤ) (graph : Is
   taker_rises exposed begun = record {
     exposed = exposed;
     low = let was = begun.low v vertex in let by = slacks e lead.least.is_edge in let is = lead.least.slack_is in omega (arith, ints, was, by, is, low);
-    even = let k = even.0 in let j = least_even.0 in let same : fall ≡ pos 0 +ℤ (k +ℤ k) = even.1 in let by : l.least.by ≡ pos 0 +ℤ (j +ℤ j) = least_even.1 in (j +ℤ k, omega (arith, ints, same, by));
+    even = let k = even.0 in let j = least_even.0 in let same : fall ≡ pos 0 +ℤ (k +ℤ k) = even.1 in let by : l.least.by ≡ pos 0 +ℤ (j +ℤ j) = least_even.1 in
+        (j +ℤ k, omega (arith, ints, same, by));
     each = rise_each;
     high = rise_high fallen start v (l.least.by +ℤ fall) graph begun vertex rise_each none;
     still = λ zero. absurd (unweighted zero);
@@ -118,7 +120,8 @@ module _ (s : State) (start : ℤ) (v : ℕ) (l : Lead) (fall : ℤ) (graph : Is
   }
 
 -- the same of searches: once the far end has been taken from its mate
-module _ (s t : Search) (v : ℕ) (l : Lead) (fall : ℤ) (rest : t ≡ record s { mates = t.mates }) (sound : IsSound t) (begun : IsBegun (state_of t) t.start) (given : s.weights ≡ Given) (vertex : is_vertex s.graph.vertices v ≡ true) (lead : IsLead (state_of s) v l)
+module _ (s t : Search) (v : ℕ) (l : Lead) (fall : ℤ) (rest : t ≡ record s { mates = t.mates }) (sound : IsSound t) (begun : IsBegun (state_of t) t.start) (given : s.weights ≡ Given)
+    (vertex : is_vertex s.graph.vertices v ≡ true) (lead : IsLead (state_of s) v l)
     (can : CanTake (state_of s) s.start l fall) where
   lead_there : IsLead (state_of t) v l
   lead_there = subst (λ (x : Search). IsLead (state_of x) v l) (sym rest) (lead_kept (state_of s) (edge_in t.mates.items) v l lead)
@@ -144,9 +147,11 @@ module _ (s t : Search) (v : ℕ) (l : Lead) (fall : ℤ) (rest : t ≡ record s
         (subst (λ (x : State). IsBegun x t.start) fallen_is (subst (IsBegun (state_of u)) start u_begun))))
 
     -- and the edge can join the matching
-    pub taken_pairs : (w : Search) → state_of w ≡ raised_at (state_of u) v (l.least.by +ℤ fall) → IsExposed (state_of t) l.least.far → IsTight (state_of w) l.least.edge × IsExposed (state_of w) (edge_of w.graph l.least.edge).u × IsExposed (state_of w) (edge_of w.graph l.least.edge).v
+    pub taken_pairs : (w : Search) → state_of w ≡ raised_at (state_of u) v (l.least.by +ℤ fall) → IsExposed (state_of t) l.least.far
+        → IsTight (state_of w) l.least.edge × IsExposed (state_of w) (edge_of w.graph l.least.edge).u × IsExposed (state_of w) (edge_of w.graph l.least.edge).v
     taken_pairs w risen_is far =
         let same = risen_is ∙ ap (λ (x : State). raised_at x v (l.least.by +ℤ fall)) fallen_is in
-        let ends = both_ends t.graph l.least.edge v sound.shape.graph.graph.ends lead_there.least.is_edge (IsExposed (state_of t)) lead_there.least.at_vertex exposed (subst (IsExposed (state_of t)) (sym lead_there.least.far_is) far) in
+        let ends = both_ends t.graph l.least.edge v sound.shape.graph.graph.ends lead_there.least.is_edge (IsExposed (state_of t)) lead_there.least.at_vertex exposed
+        (subst (IsExposed (state_of t)) (sym lead_there.least.far_is) far) in
         subst (λ (x : State). IsTight x l.least.edge × IsExposed x (edge_of x.graph l.least.edge).u × IsExposed x (edge_of x.graph l.least.edge).v) (sym same)
         (taken_tight (state_of t) t.start v l fall sound.shape.graph.graph begun weighted_there sound.state.slacks vertex_there lead_there can_there, ends.0, ends.1)

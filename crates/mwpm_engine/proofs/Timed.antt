@@ -37,7 +37,8 @@ timed_same s t start clock graph weighted total h = record {
 }
 
 -- a change of the duals that leads to an event moves the clock by no more than it raises the sum of all duals
-pub timed_applied : (s : State) (start clock d : ℤ) (depth : ℕ → ℕ) (event : Event) → IsGraph s.graph → IsNested s.graph.vertices s.blossoms → IsSearchState s depth → tree_count s ≢ 0 → IsBounded s start → IsWithin s d → IsPossible (applied s d) event
+pub timed_applied : (s : State) (start clock d : ℤ) (depth : ℕ → ℕ) (event : Event) → IsGraph s.graph → IsNested s.graph.vertices s.blossoms → IsSearchState s depth → tree_count s ≢ 0
+    → IsBounded s start → IsWithin s d → IsPossible (applied s d) event
     → IsTimed s start clock → IsTimed (applied s d) start (clock +ℤ d)
 timed_applied s start clock d depth event graph nested st some bounded within can h = record {
   unweighted = λ u. ⊎_elim
@@ -54,7 +55,8 @@ timed_applied s start clock d depth event graph nested st some bounded within ca
     plain new old t c x e f g = omega (arith, ints, e, f, g)
 
 -- the clock stays in range
-pub clock_fits : (s : State) (start clock : ℤ) (depth : ℕ → ℕ) → IsGraph s.graph → s.graph.vertices ≤ 4096 → IsNested s.graph.vertices s.blossoms → IsSearchState s depth → IsBounded s start → IsTimed s start clock → clock ≤ℤ NUMBER_LIMIT
+pub clock_fits : (s : State) (start clock : ℤ) (depth : ℕ → ℕ) → IsGraph s.graph → s.graph.vertices ≤ 4096 → IsNested s.graph.vertices s.blossoms → IsSearchState s depth
+    → IsBounded s start → IsTimed s start clock → clock ≤ℤ NUMBER_LIMIT
 clock_fits s start clock depth graph few nested st bounded h = ⊎_elim
     (λ none. let zero = h.unweighted none.unweighted in omega (arith, ints, zero))
     (λ raised.

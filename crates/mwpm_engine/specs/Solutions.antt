@@ -73,3 +73,7 @@ size_of_graph g = record { vertices = g.vertices; edges = length g.edges }
 -- how many steps a run on a graph of this size counts at most
 abbrev pub most_steps : Size → ℕ
 most_steps size = (size.vertices + 1) * (3 * size.vertices + 2) * (size.edges + 1)
+
+-- and how many where there are ten vertices at least, so that the looks of the two starts are few beside the others
+abbrev pub close_steps : Size → ℕ
+close_steps size = 2 * size.edges * (size.vertices + 1) * (size.vertices + 1) + (size.vertices + 1) * (3 * size.vertices + 2)

@@ -45,10 +45,6 @@ AreProving ys (a ∷ others) nodes =
     ((dual_at ys a ≤ℤ pos 0) × AreProving ys others nodes)
     ⊎ ((rest : List ℕ) × (nodes ≡ a ∷ rest) × (pos 1 ≤ℤ dual_at ys a) × AreProving ys others rest)
 
--- the blossoms of dual at least 1, newest first
-abbrev pub AreProvingSets : Search → List ℕ → Type 0
-AreProvingSets s nodes = AreProving s.arena.duals (names_of s.arena.blossoms) nodes
-
 -- a slack counts twice the weight of its edge: weights are used, or all are 0
 abbrev pub CountsWeights : Search → Type 0
 CountsWeights s = (e : ℕ) → IsEdgeNumber s.graph e → doubled s.graph (is_given s.weights) e ≡ pos 2 *ℤ (edge_of s.graph e).w

@@ -6,7 +6,7 @@ ghost use Rattle.graph_theory.specs.Limits.{IsWithinLimits};
 ghost use Rattle.blossom_arena.specs.declared.label.Label.TheVariants.{Inner};
 ghost use Rattle.alt_forest.specs.Searches.{edge_in, label_at};
 ghost use Rattle.alt_forest.specs.Trees.{is_label};
-ghost use Rattle.mwpm_engine.specs.Solutions.{Solution, Ends, mate_at, size_of_graph, most_steps};
+ghost use Rattle.mwpm_engine.specs.Solutions.{Solution, Ends, close_steps, mate_at, most_steps, size_of_graph};
 ghost use Rattle.mwpm_engine.specs.Solving.{number_or_none};
 ghost use Rattle.mwpm_engine.specs.declared.outcome.Outcome.TheVariants.{Matched, Barrier};
 
@@ -101,7 +101,8 @@ impl Engine {
 
     /// Runs the search (chapters 24 and 26): it ends with a perfect matching of least weight or with a
     /// barrier. The graph is the one that the engine was made for. `steps` counts its looks at edges, its
-    /// changes of duals and its events: with n vertices and m edges at most (n + 1)(3n + 2)(m + 1). There
+    /// changes of duals and its events: with n vertices and m edges at most (n + 1)(3n + 2)(m + 1), and
+    /// where n is at least 10 at most 2m(n + 1)^2 + (n + 1)(3n + 2). There
     /// are two passes, or one that ends stuck. A pass makes every exposed node the root of a tree and augments
     /// at most n / 2 times; an augment takes the two trees away that it joins, and all others stay. With no
     /// augment a pass counts at most 4m + 2n steps. An augment adds at most 2m(n + 3) + 3n + 3 to that, or
@@ -115,6 +116,7 @@ impl Engine {
         ensures graph { self.new.graph ≡ self.old.graph }
         ensures ends { Ends self.new result }
         ensures steps { steps.new ≤ steps.old + most_steps (size_of_graph self.old.graph) }
+        ensures close { 10 ≤ self.old.graph.vertices → steps.new ≤ steps.old + close_steps (size_of_graph self.old.graph) }
     {
         let outcome = solve(&mut self.search, graph, steps);
         list_sets(&self.search.arena, &mut self.sets);

@@ -8,19 +8,10 @@ ghost use Rattle.mwpm_engine.specs.Starts.{IsBegun, IsLifted};
 
 use crate::moving::move_dual;
 use crate::weights::lesser;
-use alt_forest::{Search, Spoke, Weights};
+use alt_forest::{Search, Weights};
 use mb_base::{Steps, VertexId};
 use std::sync::ledger::Ledger;
 use weighted_graph::Graph;
-
-/// The weight of an edge that is looked at from a vertex, at one counted look.
-fn weight_at<L: Ledger>(spoke: &Spoke, steps: &mut Steps<L>) -> i64
-    ensures weight { result ≡ spoke.now.weight }
-    ensures step { steps.new ≡ steps.old + 1 }
-{
-    steps.tick();
-    spoke.weight
-}
 
 /// The least weight of an edge at a vertex, at one look for each; the start of the pass where it has no edge.
 fn least_around<L: Ledger>(search: &Search, v: VertexId, steps: &mut Steps<L>) -> i64
@@ -32,13 +23,15 @@ fn least_around<L: Ledger>(search: &Search, v: VertexId, steps: &mut Steps<L>) -
     ensures each { (e : ℕ) → IsEdgeNumber search.now.graph e → touches (edge_of search.now.graph e) v ≡ true → result ≤ℤ (edge_of search.now.graph e).w }
     ensures looks { steps.new ≡ steps.old + length (edges_around search.now.graph v) }
 {
-    let spokes = search.spokes.at(v);
-    if spokes.is_empty() {
+    let incidence = search.incidence.at(v, steps);
+    if incidence.is_empty() {
         return search.start;
     }
-    let mut least = weight_at(&spokes[0], steps);
-    for place in 1..spokes.len() {
-        least = lesser(least, weight_at(&spokes[place], steps));
+    let first = incidence[0];
+    let mut least = first.weight;
+    for place in 1..incidence.len() {
+        let incident = incidence[place];
+        least = lesser(least, incident.weight);
     }
     least
 }

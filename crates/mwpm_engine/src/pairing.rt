@@ -3,13 +3,13 @@ ghost use Rattle.graph_theory.specs.Graph.{IsEdgeNumber, edge_of, edges_around, 
 ghost use Rattle.blossom_arena.specs.Family.{is_vertex};
 ghost use Rattle.alt_forest.specs.State.{IsExposed, IsTight, slack_of};
 ghost use Rattle.alt_forest.specs.Searches.{IsSound, state_of};
-ghost use Rattle.alt_forest.specs.Spokes.{IsSpoke};
+ghost use Rattle.alt_forest.specs.IncidentEdges.{IsIncidentEdge};
 ghost use Rattle.alt_forest.specs.Counts.{exposed_count};
 ghost use Rattle.mwpm_engine.specs.Starts.{IsBegun, CanPair, IsRise, JoinsExposed};
 
 use crate::exposed::is_exposed;
 use crate::moving::move_dual;
-use alt_forest::{Search, Spoke, set_edge};
+use alt_forest::{IncidentEdge, Search, set_edge};
 use blossom_arena::NodeId;
 use graph_theory::Edge;
 use mb_base::{EdgeId, Steps, VertexId};
@@ -23,26 +23,24 @@ struct Rise {
     mate: Option<EdgeId>,
 }
 
-/// The slack of an edge at a vertex, by one look at it, and the edge itself if it leads to an exposed vertex.
-fn rise_by<L: Ledger>(search: &Search, v: VertexId, spoke: &Spoke, steps: &mut Steps<L>) -> Rise
+/// The slack of an edge at a vertex, and the edge itself if it leads to an exposed vertex.
+fn rise_by(search: &Search, v: VertexId, incident: &IncidentEdge) -> Rise
     requires sound { IsSound search.now }
     requires begun { IsBegun (state_of search.now) search.now.start }
-    requires spoke { IsSpoke search.now.graph v spoke.now }
+    requires incident { IsIncidentEdge search.now.graph v incident.now }
     ensures rise { IsRise (state_of search.now) v result.by result.mate }
-    ensures slack { result.by ≡ slack_of (state_of search.now) spoke.now.edge }
-    ensures found { IsExposed (state_of search.now) (other_end (edge_of search.now.graph spoke.now.edge) v) → is_some result.mate ≡ true }
-    ensures step { steps.new ≡ steps.old + 1 }
+    ensures slack { result.by ≡ slack_of (state_of search.now) incident.now.edge }
+    ensures found { IsExposed (state_of search.now) (other_end (edge_of search.now.graph incident.now.edge) v) → is_some result.mate ≡ true }
 {
-    steps.tick();
     let by = search.slack_by(&Edge {
         u: v,
-        v: spoke.far,
-        w: spoke.weight,
+        v: incident.far,
+        w: incident.weight,
     });
-    if is_exposed(search, NodeId::new(spoke.far.number())) {
+    if is_exposed(search, NodeId::new(incident.far.number())) {
         return Rise {
             by,
-            mate: Some(spoke.edge),
+            mate: Some(incident.edge),
         };
     }
     Rise { by, mate: None }
@@ -77,8 +75,8 @@ fn is_last(rise: &Rise) -> bool
 }
 
 /// The least slack of an edge at a vertex, with an edge of this slack to an exposed vertex, if there
-/// is one; 0 where the vertex has no edge. It looks at each edge once at most, and at none after a
-/// tight one to an exposed vertex.
+/// is one; 0 where the vertex has no edge. Each edge there counts as one look, though none is read
+/// after a tight one to an exposed vertex.
 fn least_rise<L: Ledger>(search: &Search, v: VertexId, steps: &mut Steps<L>) -> Rise
     requires sound { IsSound search.now }
     requires begun { IsBegun (state_of search.now) search.now.start }
@@ -89,16 +87,16 @@ fn least_rise<L: Ledger>(search: &Search, v: VertexId, steps: &mut Steps<L>) -> 
     ensures found { (e : ℕ) → CanPair (state_of search.now) v result.by e → is_some result.mate ≡ true }
     ensures looks { steps.new ≤ steps.old + length (edges_around search.now.graph v) }
 {
-    let spokes = search.spokes.at(v);
-    if spokes.is_empty() {
+    let incidence = search.incidence.at(v, steps);
+    if incidence.is_empty() {
         return Rise { by: 0, mate: None };
     }
-    let mut least = rise_by(search, v, &spokes[0], steps);
-    for place in 1..spokes.len() {
+    let mut least = rise_by(search, v, &incidence[0]);
+    for place in 1..incidence.len() {
         if is_last(&least) {
             return least;
         }
-        least = lesser(least, rise_by(search, v, &spokes[place], steps));
+        least = lesser(least, rise_by(search, v, &incidence[place]));
     }
     least
 }

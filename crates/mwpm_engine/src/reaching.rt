@@ -3,11 +3,11 @@ ghost use Rattle.std.specs.Option.{ForSome};
 ghost use Rattle.graph_theory.specs.Graph.{edges_around};
 ghost use Rattle.blossom_arena.specs.Family.{is_vertex};
 ghost use Rattle.alt_forest.specs.Searches.{IsSound, state_of};
-ghost use Rattle.alt_forest.specs.Spokes.{IsSpoke};
+ghost use Rattle.alt_forest.specs.IncidentEdges.{IsIncidentEdge};
 ghost use Rattle.mwpm_engine.specs.Starts.{IsBegun};
 ghost use Rattle.mwpm_engine.specs.Sweeps.{IsReach, IsBehind, IsLead};
 
-use alt_forest::{Search, Spoke};
+use alt_forest::{IncidentEdge, Search};
 use graph_theory::Edge;
 use mb_base::{EdgeId, Steps, VertexId};
 use std::sync::ledger::Ledger;
@@ -28,25 +28,23 @@ pub(crate) struct Lead {
     pub(crate) next: Reach,
 }
 
-/// An edge with its slack, by one look at it from a vertex.
-fn reach_by<L: Ledger>(search: &Search, v: VertexId, spoke: &Spoke, steps: &mut Steps<L>) -> Reach
+/// An edge at a vertex with its slack.
+fn reach_by(search: &Search, v: VertexId, incident: &IncidentEdge) -> Reach
     requires sound { IsSound search.now }
     requires begun { IsBegun (state_of search.now) search.now.start }
-    requires spoke { IsSpoke search.now.graph v spoke.now }
+    requires incident { IsIncidentEdge search.now.graph v incident.now }
     ensures reach { IsReach (state_of search.now) v result }
-    ensures edge { result.edge ≡ spoke.now.edge }
-    ensures step { steps.new ≡ steps.old + 1 }
+    ensures edge { result.edge ≡ incident.now.edge }
 {
-    steps.tick();
     let by = search.slack_by(&Edge {
         u: v,
-        v: spoke.far,
-        w: spoke.weight,
+        v: incident.far,
+        w: incident.weight,
     });
     Reach {
         by,
-        edge: spoke.edge,
-        far: spoke.far,
+        edge: incident.edge,
+        far: incident.far,
     }
 }
 
@@ -101,15 +99,15 @@ pub(crate) fn lead_at<L: Ledger>(search: &Search, v: VertexId, steps: &mut Steps
     ensures lead { ForSome result (IsLead (state_of search.now) v) }
     ensures looks { steps.new ≡ steps.old + length (edges_around search.now.graph v) }
 {
-    let spokes = search.spokes.at(v);
-    if spokes.is_empty() {
+    let incidence = search.incidence.at(v, steps);
+    if incidence.is_empty() {
         return None;
     }
-    let least = reach_by(search, v, &spokes[0], steps);
+    let least = reach_by(search, v, &incidence[0]);
     let next = least;
     let mut lead = Lead { least, next };
-    for place in 1..spokes.len() {
-        let reach = reach_by(search, v, &spokes[place], steps);
+    for place in 1..incidence.len() {
+        let reach = reach_by(search, v, &incidence[place]);
         lead = with_one(&lead, &reach);
     }
     Some(lead)

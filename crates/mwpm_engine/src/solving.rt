@@ -1,7 +1,7 @@
 ghost use Rattle.std.specs.Prelude.{◌≡◌, ◌≤◌, ◌+◌, ◌*◌, ℕ, true, length, MatchBool};
 ghost use Rattle.alt_forest.specs.declared.weights.Weights.TheVariants.{Given};
 ghost use Rattle.alt_forest.specs.Searches.{HasShape, IsStart};
-ghost use Rattle.mwpm_engine.specs.Solutions.{HasPerfect, size_of_graph, most_steps};
+ghost use Rattle.mwpm_engine.specs.Solutions.{HasPerfect, close_steps, most_steps, size_of_graph};
 ghost use Rattle.mwpm_engine.specs.Solving.{IsUnpacked, HasBoundedDuals};
 ghost use Rattle.mwpm_engine.specs.Sweeps.{start_looks};
 ghost use Rattle.mwpm_engine.specs.Passes.{HasStuckForest, Concludes, pass_steps};
@@ -55,6 +55,7 @@ pub(crate) fn solve<L: Ledger>(search: &mut Search, graph: &Graph, steps: &mut S
     ensures shape { HasShape search.new }
     ensures graph { search.new.graph ≡ search.old.graph }
     ensures steps { steps.new ≤ steps.old + most_steps (size_of_graph graph.now) }
+    ensures close { 10 ≤ graph.now.vertices → steps.new ≤ steps.old + close_steps (size_of_graph graph.now) }
 {
     if !pass_anew(search, graph, Weights::Zero, 0, steps) {
         return Outcome::Barrier;

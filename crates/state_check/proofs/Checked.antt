@@ -43,7 +43,10 @@ all_rings s (b ∷ older) new each =
       tight = subst (AllByRecursion (λ (l : Link). IsTight s l.edge)) later.ring_is r.tight;
     }) in
     record {
-      rings = (subst (λ (k : List Link). IsRing s.graph older k) at.ring_is (subst (λ (bs : List Blossom). IsRing s.graph bs (ring_of (b ∷ older) b.node)) at.older_is newest.ring), rest.rings);
+      rings = (
+        subst (λ (k : List Link). IsRing s.graph older k) at.ring_is (subst (λ (bs : List Blossom). IsRing s.graph bs (ring_of (b ∷ older) b.node)) at.older_is newest.ring),
+        rest.rings,
+      );
       tight = (subst (AllByRecursion (λ (l : Link). IsTight s l.edge)) at.ring_is newest.tight, rest.tight);
     }
 
@@ -96,7 +99,7 @@ fits_label s h a is = record {
       let c : ℕ = other_node s.graph s.blossoms f a in
       let up : ℕ = other_node s.graph s.blossoms i.hangs.edge a in
       let child_outer : s.label c ≡ Outer = i.child_outer f i.mated.1 in
-      let back : IsMate s c f (other_node s.graph s.blossoms f c) = h.mates c m.outer f m.back in
+      let back : IsMate s c f (other_node s.graph s.blossoms f c) = h.mates c m.outermost f m.back in
       let turned : Joins s.graph s.blossoms f c a = ⊎_elim (λ p. inr p) (λ p. inl p) m.joins in
       record {
         edge = i.hangs.edge;
@@ -113,8 +116,8 @@ fits_label s h a is = record {
         mate = i.mated.1;
         is_mate = m;
         child_outer = child_outer;
-        rises = way_falls s c a (h.some c m.outer) (ap (λ l. far_end s (up_edge_by s l c) c) child_outer ∙ ap (λ o. far_end s o c) m.back
-            ∙ other_node_joins s.graph s.blossoms f c a turned (λ e. m.different (sym e))) (h.ends c m.outer);
+        rises = way_falls s c a (h.some c m.outermost) (ap (λ l. far_end s (up_edge_by s l c) c) child_outer ∙ ap (λ o. far_end s o c) m.back
+            ∙ other_node_joins s.graph s.blossoms f c a turned (λ e. m.different (sym e))) (h.ends c m.outermost);
       };
   out = λ l e b has m. sym (ap s.label (far_unique s a e b m)) ∙ (h.labels a is).out l e has;
 }
@@ -150,7 +153,8 @@ pub climb_step : (s : State) (a node next c : ℕ) → node ≢ 0 → next ≡ u
 climb_step s a node next c ne up far k =
     let more : c + (k + 1) ≡ c + 1 + k = omega arith in
     let one : (k + 1) - 1 ≡ k = omega arith in
-    let step : path_within (k + 1) s node ≡ node ∷ path_within k s (up_of s node) = path_step (k + 1) s node (λ e. absurd (omega (arith, e))) ne ∙ ap (λ j. node ∷ path_within j s (up_of s node)) one in
+    let step : path_within (k + 1) s node ≡ node ∷ path_within k s (up_of s node) = path_step (k + 1) s node (λ e. absurd (omega (arith, e))) ne
+    ∙ ap (λ j. node ∷ path_within j s (up_of s node)) one in
     let size : length (path_within (k + 1) s node) ≡ suc (length (path_within k s next)) = ap length step ∙ ap (λ x. suc (length (path_within k s x))) (sym up) in
     let whole : length (path_within (c + (k + 1)) s a) ≡ c + length (path_within (k + 1) s node) = far (k + 1) in
     let same : length (path_within (c + (k + 1)) s a) ≡ length (path_within (c + 1 + k) s a) = ap (λ j. length (path_within j s a)) more in
@@ -177,7 +181,8 @@ pub one_further : (P : ℕ → Type 0) (k : ℕ) → P k → ((a : ℕ) → a < 
 one_further P k here before a low = by_test (eqb a k) (λ t. subst P (sym (eqb-true a k t)) here) (λ t. before a (omega (arith, low, eqb-false a k t)))
 
 -- the next node up, if there is one, is outermost
-pub up_outer : (s : State) (a next : ℕ) → ((e b : ℕ) → IsEdgeNumber s.graph e → IsOutermost s (other_node s.graph s.blossoms e b)) → MateHolds s a → FitsHere s a → next ≡ up_of s a → next ≢ 0 → IsOutermost s next
+pub up_outer : (s : State) (a next : ℕ) → ((e b : ℕ) → IsEdgeNumber s.graph e → IsOutermost s (other_node s.graph s.blossoms e b)) → MateHolds s a → FitsHere s a → next ≡ up_of s a
+    → next ≢ 0 → IsOutermost s next
 up_outer s a next far mate fits up ne = by_edge (up_edge s a) refl
   where
     by_edge : (o : Option ℕ) → up_edge s a ≡ o → IsOutermost s next
@@ -197,7 +202,8 @@ rings_at s (b ∷ older) x name r = by_test (eqb b.node x)
     let more : holds (names_of older) x ≡ true = older_name b older x e name in
     let rest = rings_at s older x more (record { rings = r.rings.1; tight = r.tight.1 }) in
     record {
-      ring = subst (λ (k : List Link). IsRing s.graph (older_than (b ∷ older) x) k) (sym later.ring_is) (subst (λ (bs : List Blossom). IsRing s.graph bs (ring_of older x)) (sym later.older_is) rest.ring);
+      ring = subst (λ (k : List Link). IsRing s.graph (older_than (b ∷ older) x) k) (sym later.ring_is)
+          (subst (λ (bs : List Blossom). IsRing s.graph bs (ring_of older x)) (sym later.older_is) rest.ring);
       tight = subst (AllByRecursion (λ (l : Link). IsTight s l.edge)) (sym later.ring_is) rest.tight;
     })
 

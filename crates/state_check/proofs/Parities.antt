@@ -1,24 +1,25 @@
--- Parities of sums, and of the covers of all vertices whose nodes are exposed.
+-- Parities of sums, and of the dual sums of all vertices whose nodes are exposed.
 use Rattle.std.proofs.Common.{◌≡◌, ◌≢◌, ℕ, zero, suc, ℤ, pos, negsuc, ◌+ℤ◌, ◌-ℤ◌, Bool, true, false, not, cond, List, [], ◌∷◌, ◌++◌, refl, sym, ap, ◌∙◌, subst, arith, ⊎_elim, inl, inr, ◌⊎◌}
 use Rattle.std.specs.Prelude.{◌≤ℤ◌}
 use Rattle.std.proofs.lemmas.Int.{ints}
 use Rattle.graph_theory.specs.Parts.{holds}
 use Rattle.blossom_arena.specs.Family.{Blossom, chain_of}
-use Rattle.alt_forest.specs.State.{State, held_by, cover, ExposedAgree}
+use Rattle.alt_forest.specs.State.{State, held_by, dual_sum, ExposedAgree}
 use Rattle.alt_forest.specs.Chains.{total_of}
 use Rattle.alt_forest.proofs.Parity.{parity_sym, parity_trans}
-use Rattle.state_check.specs.Checks.{HasParity, CoversHave}
+use Rattle.state_check.specs.Checks.{HasParity, DualSumsHave}
 
 pushed : (y : ℕ → ℤ) (xs : List ℕ) (a : ℕ) → total_of y (xs ++ a ∷ []) ≡ total_of y xs +ℤ y a
 pushed y [] a = omega (arith, ints)
 pushed y (x ∷ xs) a = let rest : total_of y (xs ++ a ∷ []) ≡ total_of y xs +ℤ y a = pushed y xs a in omega (arith, ints)
 
--- the duals of a chain, added up, are the cover
+-- the duals of a chain, added up, are the dual sum
 pub chain_total : (y : ℕ → ℤ) (bs : List Blossom) (v : ℕ) → y v +ℤ held_by y bs v ≡ total_of y (chain_of bs v)
 chain_total y [] v = refl
 chain_total y (b ∷ older) v = by_test (chain_total y older v) (holds b.members v)
   where
-    by_test : y v +ℤ held_by y older v ≡ total_of y (chain_of older v) → (t : Bool) → y v +ℤ (cond t (y b.node) (pos 0) +ℤ held_by y older v) ≡ total_of y (cond t (chain_of older v ++ b.node ∷ []) (chain_of older v))
+    by_test : y v +ℤ held_by y older v ≡ total_of y (chain_of older v) → (t : Bool) → y v +ℤ (cond t (y b.node) (pos 0) +ℤ held_by y older v) ≡ total_of y
+        (cond t (chain_of older v ++ b.node ∷ []) (chain_of older v))
     by_test rest true = omega (arith, ints, pushed y (chain_of older v) b.node, rest)
     by_test rest false = omega (arith, ints, rest)
 
@@ -53,7 +54,7 @@ pub even_more : (y x : ℤ) → HasParity y false → (q : Bool) → HasParity x
 even_more y x h true k = let a : ℤ = h.0 in let b : ℤ = k.0 in let e : y ≡ pos 0 +ℤ (a +ℤ a) = h.1 in let f : x ≡ pos 1 +ℤ (b +ℤ b) = k.1 in (a +ℤ b, omega (arith, ints))
 even_more y x h false k = let a : ℤ = h.0 in let b : ℤ = k.0 in let e : y ≡ pos 0 +ℤ (a +ℤ a) = h.1 in let f : x ≡ pos 0 +ℤ (b +ℤ b) = k.1 in (a +ℤ b, omega (arith, ints))
 
--- what is left of a chain: the cover is the sum so far, of this parity, and the rest
+-- what is left of a chain: the dual sum is the sum so far, of this parity, and the rest
 pub record IsSummed (y : ℕ → ℤ) (all : ℤ) (odd : Bool) (rest : List ℕ) : Type 0 where
   pub sum : ℤ
   pub parity : HasParity sum odd
@@ -96,13 +97,14 @@ left_some x left half is low high some = ⊎_elim
     (λ even. let k : ℤ = even.0 in let e : x ≡ pos 0 +ℤ (k +ℤ k) = even.1 in let none : left ≡ pos 0 = omega (arith, ints) in absurd (some none))
     (odd_or_even x)
 
--- covers of one parity agree
-pub agree_by : (s : State) (odd : Bool) → CoversHave s odd → ExposedAgree s
-agree_by s odd have v w iv iw v_free w_free = parity_trans (cover s v) (cond odd (pos 1) (pos 0)) (cover s w) (have v iv v_free) (parity_sym (cover s w) (cond odd (pos 1) (pos 0)) (have w iw w_free))
+-- dual sums of one parity agree
+pub agree_by : (s : State) (odd : Bool) → DualSumsHave s odd → ExposedAgree s
+agree_by s odd have v w iv iw v_free w_free = parity_trans (dual_sum s v) (cond odd (pos 1) (pos 0)) (dual_sum s w) (have v iv v_free)
+    (parity_sym (dual_sum s w) (cond odd (pos 1) (pos 0)) (have w iw w_free))
 
--- and covers that agree are even, if they aren't odd
-pub agree_even : (s : State) → ExposedAgree s → (CoversHave s true → ⊥) → CoversHave s false
+-- and dual sums that agree are even, if they aren't odd
+pub agree_even : (s : State) → ExposedAgree s → (DualSumsHave s true → ⊥) → DualSumsHave s false
 agree_even s agree not_odd v iv v_free = ⊎_elim
-    (λ odd. absurd (not_odd (λ w iw w_free. parity_trans (cover s w) (cover s v) (pos 1) (agree w v iw iv w_free v_free) odd)))
+    (λ odd. absurd (not_odd (λ w iw w_free. parity_trans (dual_sum s w) (dual_sum s v) (pos 1) (agree w v iw iv w_free v_free) odd)))
     (λ even. even)
-    (odd_or_even (cover s v))
+    (odd_or_even (dual_sum s v))

@@ -29,7 +29,8 @@ left_after (Some l) links left e = sym (ap (drop 1) e)
 
 -- a link of a ring leads within the blossom
 pub link_in_ring : (s : State) (b next : ℕ) (l : Link) → IsGraph s.graph → IsNested s.graph.vertices s.blossoms → holds (names_of s.blossoms) b ≡ true
-    → in_ring (ring_of s.blossoms b) l.node ≡ true → in_ring (ring_of s.blossoms b) next ≡ true → Joins s.graph (older_than s.blossoms b) l.edge l.node next → IsTight s l.edge → LinkHolds s b l next
+    → in_ring (ring_of s.blossoms b) l.node ≡ true → in_ring (ring_of s.blossoms b) next ≡ true → Joins s.graph (older_than s.blossoms b) l.edge l.node next → IsTight s l.edge
+    → LinkHolds s b l next
 link_in_ring s b next l graph nested name here there joins t =
     let ring : List Link = ring_of s.blossoms b in
     let older : List Blossom = older_than s.blossoms b in
@@ -43,12 +44,14 @@ link_in_ring s b next l graph nested name here there joins t =
       tight = t.tight;
     }
 
-pub next_inside : (ring links : List Link) (first : ℕ) → AllByRecursion (λ (l : Link). in_ring ring l.node ≡ true) links → in_ring ring first ≡ true → in_ring ring (next_node links first) ≡ true
+pub next_inside : (ring links : List Link) (first : ℕ) → AllByRecursion (λ (l : Link). in_ring ring l.node ≡ true) links → in_ring ring first ≡ true
+    → in_ring ring (next_node links first) ≡ true
 next_inside ring [] first each there = there
 next_inside ring (l ∷ links) first each there = each.0
 
 -- what a round of the check finds, where the whole ring holds
-pub link_holds : (s : State) (b first next : ℕ) (l : Link) (o : Option Link) (links rest following left : List Link) → IsGraph s.graph → IsNested s.graph.vertices s.blossoms → holds (names_of s.blossoms) b ≡ true
+pub link_holds : (s : State) (b first next : ℕ) (l : Link) (o : Option Link) (links rest following left : List Link) → IsGraph s.graph → IsNested s.graph.vertices s.blossoms
+    → holds (names_of s.blossoms) b ≡ true
     → links ≡ l ∷ rest → following ≡ drop 1 links → MatchOption o ((following ≡ []) × (left ≡ [])) (λ x. following ≡ x ∷ left) → next ≡ node_or o first
     → AllByRecursion (λ (k : Link). in_ring (ring_of s.blossoms b) k.node ≡ true) links → in_ring (ring_of s.blossoms b) first ≡ true
     → IsChainTo s.graph (older_than s.blossoms b) links first → AllByRecursion (λ (k : Link). IsTight s k.edge) links → LinkHolds s b l next
@@ -67,7 +70,8 @@ pub record IsAtStart (s : State) (b first : ℕ) (links next_ones : List Link) :
   pub rest : RingHolds s b ↔ (IsChainTo s.graph (older_than s.blossoms b) links first × AllByRecursion (λ (k : Link). IsTight s k.edge) links)
 
 pub ring_start : (s : State) (b first : ℕ) (o : Option Link) (links ring following : List Link) → IsNested s.graph.vertices s.blossoms → holds (names_of s.blossoms) b ≡ true
-    → links ≡ ring_of s.blossoms b → ring ≡ ring_of s.blossoms b → MatchOption o ((ring ≡ []) × (following ≡ [])) (λ x. ring ≡ x ∷ following) → first ≡ node_or o 0 → IsAtStart s b first links following
+    → links ≡ ring_of s.blossoms b → ring ≡ ring_of s.blossoms b → MatchOption o ((ring ≡ []) × (following ≡ [])) (λ x. ring ≡ x ∷ following) → first ≡ node_or o 0
+    → IsAtStart s b first links following
 ring_start s b first o links ring following nested name all whole e is =
     let same : first ≡ next_node (ring_of s.blossoms b) 0 = is ∙ next_is o ring following 0 e ∙ ap (λ ls. next_node ls 0) whole in
     let left : following ≡ drop 1 ring = left_after o ring following e in

@@ -7,7 +7,7 @@ use Rattle.blossom_arena.specs.declared.links.Link.{Link}
 use Rattle.blossom_arena.specs.Family.{members_of, ring_of, older_than, outermost, is_vertex}
 use Rattle.blossom_arena.specs.declared.label.Label.{Label}
 use Rattle.blossom_arena.specs.declared.label.Label.TheVariants.{Outer, Inner, Out}
-use Rattle.alt_forest.specs.State.{State, Joins, slack_of, IsTight, IsRing, IsMate, cover, SameParity}
+use Rattle.alt_forest.specs.State.{State, Joins, slack_of, IsTight, IsRing, IsMate, dual_sum, SameParity}
 use Rattle.alt_forest.specs.Trees.{other_node}
 
 -- the two nodes are these, in either order
@@ -69,10 +69,10 @@ pub record FitsHere (s : State) (a : ℕ) : Type 0 where
 abbrev pub HasParity : ℤ → Bool → Type 0
 HasParity x odd = SameParity x (if odd then pos 1 else pos 0)
 
--- the cover of a vertex, if its node is exposed, is odd, or it is even
-abbrev pub CoverHas : State → Bool → ℕ → Type 0
-CoverHas s odd v = s.mate (outermost s.blossoms v) ≡ None → HasParity (cover s v) odd
+-- the dual sum of a vertex, if its node is exposed, is odd, or it is even
+abbrev pub DualSumHas : State → Bool → ℕ → Type 0
+DualSumHas s odd v = s.mate (outermost s.blossoms v) ≡ None → HasParity (dual_sum s v) odd
 
 -- and so are those of all vertices
-abbrev pub CoversHave : State → Bool → Type 0
-CoversHave s odd = (v : ℕ) → is_vertex s.graph.vertices v ≡ true → CoverHas s odd v
+abbrev pub DualSumsHave : State → Bool → Type 0
+DualSumsHave s odd = (v : ℕ) → is_vertex s.graph.vertices v ≡ true → DualSumHas s odd v

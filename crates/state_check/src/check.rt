@@ -1,4 +1,4 @@
-ghost use Rattle.std.specs.Prelude.{◌≡◌, ◌↔◌, true, vec_len};
+ghost use Rattle.std.specs.Prelude.{◌≡◌, ◌↔◌, true, length};
 ghost use Rattle.std.specs.Vec.{vec_capacity};
 ghost use Rattle.alt_forest.specs.Searches.{IsSearchGraph, HasRoom, HasShape, IsSound};
 
@@ -24,7 +24,7 @@ fn is_small(graph: &Graph) -> bool
 
 /// Whether the lists of a search by node have their lengths, and its arena is one for its graph.
 fn has_shape(search: &Search) -> bool
-    requires room { HasRoom search.now.graph search.now.spokes search.now.queue (vec_capacity search.now.standing) (vec_len search.now.seeds) (vec_capacity search.now.scanned) }
+    requires room { HasRoom search.now.graph search.now.incidence search.now.queue (length search.now.standing.seeds) (vec_capacity search.now.scanned) }
     ensures { (result ≡ true) ↔ HasShape search.now }
 {
     if !is_small(&search.graph) {
@@ -46,13 +46,13 @@ fn has_shape(search: &Search) -> bool
     search.circuit.capacity() >= search.graph.vertices() as usize
 }
 
-/// Whether a search is in the state of a search (chapters 24 and 26), exactly: it recomputes each part
-/// from the lists. It is for tests of searches whose fields were written by hand, and slow: for n
-/// vertices and m edges its time is at most linear in n (n + m). It counts no step and takes no memory.
-/// What the spokes hold and what the queue has places for are the caller's to know: `Search::new` makes
-/// them fit the graph, and no call changes that.
+/// Whether a search is in the state of a search (chapters 24 and 26), exactly: it recomputes each
+/// part from the lists. It is for tests of searches whose fields were written by hand, and slow:
+/// for n vertices and m edges its time is at most linear in n (n + m). It counts no step and takes
+/// no memory. Which edges are listed by vertex, and what the queue and the seeds have places for,
+/// is the caller's to know: `Search::new` makes them fit the graph, and no call changes that.
 pub fn check_search(search: &Search) -> bool
-    requires room { HasRoom search.now.graph search.now.spokes search.now.queue (vec_capacity search.now.standing) (vec_len search.now.seeds) (vec_capacity search.now.scanned) }
+    requires room { HasRoom search.now.graph search.now.incidence search.now.queue (length search.now.standing.seeds) (vec_capacity search.now.scanned) }
     ensures exact { (result ≡ true) ↔ IsSound search.now }
 {
     if !has_shape(search) {

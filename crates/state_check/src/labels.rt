@@ -30,7 +30,7 @@ fn leads_to_outer(search: &Search, a: u32, e: EdgeId) -> bool
 /// Whether an outermost node hangs by its parent under an outer one.
 fn hangs(search: &Search, a: u32) -> bool
     requires shape { HasShape search.now }
-    requires outer { IsOutermost (state_of search.now) a }
+    requires outermost { IsOutermost (state_of search.now) a }
     ensures { (result ≡ true) ↔ Hangs (state_of search.now) a }
 {
     match search.parent(NodeId::new(a)) {
@@ -42,7 +42,7 @@ fn hangs(search: &Search, a: u32) -> bool
 /// Whether a node has a mate.
 fn is_mated(search: &Search, a: u32) -> bool
     requires shape { HasShape search.now }
-    requires outer { IsOutermost (state_of search.now) a }
+    requires outermost { IsOutermost (state_of search.now) a }
     ensures { (result ≡ true) ↔ ((e : ℕ) × (edge_in search.now.mates.items a ≡ Some e)) }
 {
     match search.mate(NodeId::new(a)) {
@@ -54,7 +54,7 @@ fn is_mated(search: &Search, a: u32) -> bool
 /// Whether an inner node hangs by its parent, and its mate is outer.
 fn fits_inner(search: &Search, a: u32) -> bool
     requires shape { HasShape search.now }
-    requires outer { IsOutermost (state_of search.now) a }
+    requires outermost { IsOutermost (state_of search.now) a }
     requires mate { MateHolds (state_of search.now) a }
     ensures { (result ≡ true) ↔ IsHung (state_of search.now) a }
 {
@@ -70,7 +70,7 @@ fn fits_inner(search: &Search, a: u32) -> bool
 /// Whether the label of an outermost node fits those of the nodes beside it.
 fn fits_here(search: &Search, a: u32) -> bool
     requires shape { HasShape search.now }
-    requires outer { IsOutermost (state_of search.now) a }
+    requires outermost { IsOutermost (state_of search.now) a }
     requires mate { MateHolds (state_of search.now) a }
     ensures { (result ≡ true) ↔ FitsHere (state_of search.now) a }
 {

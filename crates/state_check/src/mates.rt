@@ -70,7 +70,7 @@ pub(crate) fn mates_hold(search: &Search) -> bool
 /// Whether the mate of an outermost node, if it has one, has a label.
 pub(crate) fn mate_has(search: &Search, a: u32, label: Label) -> bool
     requires shape { HasShape search.now }
-    requires outer { IsOutermost (state_of search.now) a }
+    requires outermost { IsOutermost (state_of search.now) a }
     requires mate { MateHolds (state_of search.now) a }
     ensures { (result ≡ true) ↔ MateHas (state_of search.now) a label }
 {

@@ -1,8 +1,8 @@
 ghost use Rattle.std.specs.Prelude.{◌≡◌, ◌↔◌, ℕ, ℤ, pos, negsuc, ◌+ℤ◌, ◌≤ℤ◌, true};
 ghost use Rattle.blossom_arena.specs.Family.{is_vertex};
-ghost use Rattle.alt_forest.specs.State.{ExposedAgree, cover};
+ghost use Rattle.alt_forest.specs.State.{ExposedAgree, dual_sum};
 ghost use Rattle.alt_forest.specs.Searches.{HasShape, state_of};
-ghost use Rattle.state_check.specs.Checks.{HasParity, CoverHas, CoversHave};
+ghost use Rattle.state_check.specs.Checks.{HasParity, DualSumHas, DualSumsHave};
 
 use alt_forest::Search;
 use mb_base::VertexId;
@@ -37,10 +37,10 @@ fn is_odd_sum(odd: bool, x: i64) -> bool
 }
 
 /// Whether the duals of all nodes that hold a vertex, added up, are odd.
-fn has_odd_cover(search: &Search, v: VertexId) -> bool
+fn has_odd_dual_sum(search: &Search, v: VertexId) -> bool
     requires shape { HasShape search.now }
     requires vertex { is_vertex search.now.graph.vertices v ≡ true }
-    ensures { HasParity (cover (state_of search.now) v) result }
+    ensures { HasParity (dual_sum (state_of search.now) v) result }
 {
     let mut odd = false;
     for node in search.arena.chain(v) {
@@ -49,38 +49,38 @@ fn has_odd_cover(search: &Search, v: VertexId) -> bool
     odd
 }
 
-/// Whether the cover of a vertex, if its node is exposed, has a parity.
-fn cover_has(search: &Search, odd: bool, v: VertexId) -> bool
+/// Whether the dual sum of a vertex, if its node is exposed, has a parity.
+fn dual_sum_has(search: &Search, odd: bool, v: VertexId) -> bool
     requires shape { HasShape search.now }
     requires vertex { is_vertex search.now.graph.vertices v ≡ true }
-    ensures { (result ≡ true) ↔ CoverHas (state_of search.now) odd v }
+    ensures { (result ≡ true) ↔ DualSumHas (state_of search.now) odd v }
 {
     match search.mate(search.arena.outermost(v)) {
         Some(_) => true,
-        None => has_odd_cover(search, v) == odd,
+        None => has_odd_dual_sum(search, v) == odd,
     }
 }
 
-/// Whether the covers of all vertices whose nodes are exposed have this parity.
-fn covers_have(search: &Search, odd: bool) -> bool
+/// Whether the dual sums of all vertices whose nodes are exposed have this parity.
+fn dual_sums_have(search: &Search, odd: bool) -> bool
     requires shape { HasShape search.now }
-    ensures { (result ≡ true) ↔ CoversHave (state_of search.now) odd }
+    ensures { (result ≡ true) ↔ DualSumsHave (state_of search.now) odd }
 {
     for place in 0..search.graph.vertices() {
-        if !cover_has(search, odd, VertexId::new(place + 1)) {
+        if !dual_sum_has(search, odd, VertexId::new(place + 1)) {
             return false;
         }
     }
     true
 }
 
-/// Whether the covers of all vertices whose nodes are exposed have one parity.
+/// Whether the dual sums of all vertices whose nodes are exposed have one parity.
 pub(crate) fn exposed_agree(search: &Search) -> bool
     requires shape { HasShape search.now }
     ensures { (result ≡ true) ↔ ExposedAgree (state_of search.now) }
 {
-    if covers_have(search, true) {
+    if dual_sums_have(search, true) {
         return true;
     }
-    covers_have(search, false)
+    dual_sums_have(search, false)
 }

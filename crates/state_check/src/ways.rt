@@ -14,7 +14,7 @@ use mb_base::EdgeId;
 /// The edge from an outermost node towards its root.
 fn up_edge(search: &Search, node: NodeId) -> Option<EdgeId>
     requires shape { HasShape search.now }
-    requires outer { IsOutermost (state_of search.now) node }
+    requires outermost { IsOutermost (state_of search.now) node }
     ensures { result ≡ up_edge (state_of search.now) node }
 {
     match search.label(node) {
@@ -27,7 +27,7 @@ fn up_edge(search: &Search, node: NodeId) -> Option<EdgeId>
 /// The next node towards the root, or 0.
 fn up(search: &Search, node: u32) -> u32
     requires shape { HasShape search.now }
-    requires outer { IsOutermost (state_of search.now) node }
+    requires outermost { IsOutermost (state_of search.now) node }
     requires edge { ForSome (up_edge (state_of search.now) node) (IsEdgeNumber search.now.graph) }
     ensures { result ≡ up_of (state_of search.now) node }
 {
@@ -41,7 +41,7 @@ fn up(search: &Search, node: u32) -> u32
 /// there can be.
 fn comes_to_end(search: &Search, a: u32) -> bool
     requires shape { HasShape search.now }
-    requires outer { IsOutermost (state_of search.now) a }
+    requires outermost { IsOutermost (state_of search.now) a }
     requires mates { (a : ℕ) → IsOutermost (state_of search.now) a → MateHolds (state_of search.now) a }
     requires labels { (a : ℕ) → IsOutermost (state_of search.now) a → FitsHere (state_of search.now) a }
     ensures { (result ≡ true) ↔ (length (path_of (state_of search.now) a) ≤ node_limit search.now.graph.vertices) }

@@ -7,12 +7,10 @@ use Rattle.graph_theory.proofs.Members.{all_holds}
 use Rattle.blossom_arena.specs.Family.{names_of, is_vertex}
 use Rattle.edge_queue.specs.declared.item.Item.TheVariants.{Edge as OfEdge, Blossom as OfBlossom}
 use Rattle.edge_queue.specs.Moments.{Moments, entry, moment_of, with_moment, IsItem}
-use Rattle.blossom_arena.specs.declared.label.Label.TheVariants.{Out}
 use Rattle.alt_forest.specs.declared.search.Search.{Search}
-use Rattle.alt_forest.specs.State.{State, IsOutermost}
+use Rattle.alt_forest.specs.State.{State}
 use Rattle.alt_forest.specs.Entries.{IsEntered, IsBlossomEntered, IsQueued, IsQueuedBut, HasNoTree, touches_any, entered_among, entry_count}
-use Rattle.alt_forest.specs.Searches.{label_at, state_of}
-use Rattle.alt_forest.specs.Standing.{AreListed, IsSeed, IsStanding, seed_at}
+use Rattle.alt_forest.specs.Searches.{state_of}
 use Rattle.alt_forest.proofs.Queues.{edge_set, edge_other, count_removed}
 
 -- the moments of all other edges and of the blossoms are what they have to be
@@ -32,21 +30,6 @@ queued_but f k t vs q state clock graph edges blossoms tree = record {
       (subst (λ (s : State). IsBlossomEntered s f.clock k.queue b) (sym state)
       (blossoms b (ap (λ (s : State). holds (names_of s.blossoms) b) (sym state) ∙ name)));
   tree = λ none. tree (subst HasNoTree state none);
-}
-
--- a vertex of the root of its tree is kept for a node
-abbrev pub HasSeed : List (Option ℕ) → State → ℕ → Type 0
-HasSeed seeds t a = (v : ℕ) × (seed_at seeds a ≡ Some v) × IsSeed t a v
-
--- the nodes in trees are listed, with vertices of their roots
-pub standing_after : (f k : Search) (t : State) → state_of k ≡ t → k.graph ≡ f.graph → AreListed f.graph.vertices k.standing.items k.seeds.items
-    → ((a : ℕ) → IsOutermost t a → t.label a ≢ Out → HasSeed k.seeds.items t a) → ((a : ℕ) → IsOutermost t a → label_at k.arena.motions a ≡ t.label a) → IsStanding k
-standing_after f k t state graph listed trees moves = record {
-  listed = subst (λ (g : Multigraph). AreListed g.vertices k.standing.items k.seeds.items) (sym graph) listed;
-  trees = λ a is labelled.
-      subst (λ (s : State). HasSeed k.seeds.items s a) (sym state)
-      (trees a (subst (λ (s : State). IsOutermost s a) state is) (λ out. labelled (ap (λ (s : State). s.label a) state ∙ out)));
-  moves = λ a is. moves a (subst (λ (s : State). IsOutermost s a) state is) ∙ sym (ap (λ (s : State). s.label a) state);
 }
 
 -- a test of each of a list's numbers

@@ -24,8 +24,25 @@ fit_scaled s depth gap k p st a is =
     let old = st a is in
     record {
       outer = λ lab f c has w. let says = old.outer lab f c has w in (says.0, below_scaled (depth c) (depth a) k p says.1);
-      child = λ lab. let i = old.child lab in record { edge = i.edge; child = i.child; mate = i.mate; is_mate = i.is_mate; outer = i.outer; rises = below_scaled (depth a) (depth i.child) k p i.rises };
-      up = λ lab closed. let i = old.up lab closed in record { edge = i.edge; up = i.up; parent = i.parent; is_edge = i.is_edge; joins = i.joins; tight = i.tight; up_is = i.up_is; outer = i.outer; falls = below_scaled (depth i.up) (depth a) k p i.falls };
+      child = λ lab. let i = old.child lab in record {
+        edge = i.edge;
+        child = i.child;
+        mate = i.mate;
+        is_mate = i.is_mate;
+        outer = i.outer;
+        rises = below_scaled (depth a) (depth i.child) k p i.rises;
+      };
+      up = λ lab closed. let i = old.up lab closed in record {
+        edge = i.edge;
+        up = i.up;
+        parent = i.parent;
+        is_edge = i.is_edge;
+        joins = i.joins;
+        tight = i.tight;
+        up_is = i.up_is;
+        outer = i.outer;
+        falls = below_scaled (depth i.up) (depth a) k p i.falls;
+      };
       out = old.out;
     }
 
@@ -101,7 +118,7 @@ module _ (s : State) (depth : ℕ → ℕ) (x : ℕ) (h : IsOpenAt s depth x) (q
       let a = pair_taken s depth (λ c. eqb c x) h.fits q r g pair.inner_is pair.mate pair.is_mate pair.out level labels_now q_now r_now others_now in
       let at_x : a.0 x ≡ depth x = a.1.old x x_labelled in
       let hung = gap_hung mid a.0 (λ c. eqb c q || eqb c x) a.1.fit x by r (put s.parent x (Some by)) (put_here s.parent x (Some by)) (put_other s.parent x (Some by))
-      tight.edge joins tight.tight pair.is_mate.outer r_now (omega (arith, at_x, a.1.outer, deep)) in (
+      tight.edge joins tight.tight pair.is_mate.outermost r_now (omega (arith, at_x, a.1.outer, deep)) in (
         a.0,
         record {
           open_at = record {
@@ -150,7 +167,8 @@ pub closes : (s : State) (depth : ℕ → ℕ) (x by up : ℕ) → IsOpenAt s de
     → FitBut (record s { parent = put s.parent x (Some by) }) depth (λ c. false)
 closes s depth x by up h tight joins up_is up_outer falls =
     fit_wider (record s { parent = put s.parent x (Some by) }) depth (λ c. not (eqb c x) && eqb c x) (λ c. false) (λ c e. none (eqb c x))
-    (gap_hung s depth (λ c. eqb c x) h.fits x by up (put s.parent x (Some by)) (put_here s.parent x (Some by)) (put_other s.parent x (Some by)) tight.edge joins tight.tight up_is up_outer falls)
+    (gap_hung s depth (λ c. eqb c x) h.fits x by up (put s.parent x (Some by)) (put_here s.parent x (Some by)) (put_other s.parent x (Some by))
+    tight.edge joins tight.tight up_is up_outer falls)
   where
     none : (p : Bool) → (not p && p) ≡ false
     none true = refl

@@ -10,8 +10,7 @@ use Rattle.alt_forest.specs.Trees.{up_of, up_edge_by, path_of, first_common}
 use Rattle.alt_forest.proofs.Paths.{path_of-step}
 use Rattle.alt_forest.proofs.Roots.{some_node}
 use Rattle.alt_forest.specs.declared.hop.Hop.{Hop}
-use Rattle.alt_forest.specs.Ways.{AreHops, links_up}
-use Rattle.alt_forest.proofs.Hops.{hop_path}
+use Rattle.alt_forest.proofs.Hops.{AreHops, links_up, hop_path}
 use Rattle.tree_steps.specs.Circuits.{before, circuit_of, or_zero, links_above, base_of, closed_by}
 use Rattle.alt_forest.specs.Events.{CanShrink}
 use Rattle.tree_steps.specs.Shrinkable.{IsShrinkable}
@@ -22,7 +21,8 @@ use Rattle.tree_steps.proofs.Ends.{ends_of}
 use Rattle.tree_steps.proofs.Meeting.{common_first, meets_from}
 
 -- the links of a way are those of the path before its end
-pub links_are : (s : State) (depth : ℕ → ℕ) (x : ℕ) (hs : List Hop) (base : ℕ) → IsNested s.graph.vertices s.blossoms → IsSearchState s depth → IsOutermost s base → AreHops s depth x hs base → links_up x hs ≡ links_above s (before (path_of s x) base)
+pub links_are : (s : State) (depth : ℕ → ℕ) (x : ℕ) (hs : List Hop) (base : ℕ) → IsNested s.graph.vertices s.blossoms → IsSearchState s depth → IsOutermost s base → AreHops s depth x hs base
+    → links_up x hs ≡ links_above s (before (path_of s x) base)
 links_are s depth x [] base nested st is way =
     let here : IsOutermost s x = subst (IsOutermost s) (sym way) is in
     sym
@@ -47,7 +47,8 @@ links_are s depth x (h ∷ hs) base nested st is way =
 -- the two first nodes are on the circuit
 first_on : (s : State) (depth : ℕ → ℕ) (x : ℕ) (hs : List Hop) (base : ℕ) → AreHops s depth x hs base → (eqb base x || in_ring (links_up x hs) x) ≡ true
 first_on s depth x [] base way = or_left (eqb base x) false (eq-eqb base x (sym way))
-first_on s depth x (h ∷ hs) base way = or_right (eqb base x) (eqb x x || (eqb h.inner x || in_ring (links_up h.outer hs) x)) (or_left (eqb x x) (eqb h.inner x || in_ring (links_up h.outer hs) x) (eq-eqb x x refl))
+first_on s depth x (h ∷ hs) base way = or_right (eqb base x) (eqb x x || (eqb h.inner x || in_ring (links_up h.outer hs) x))
+    (or_left (eqb x x) (eqb h.inner x || in_ring (links_up h.outer hs) x) (eq-eqb x x refl))
 
 record HasFirst (base e a b : ℕ) (ls ks : List Link) : Type 0 where
   pub left : in_ring (circuit_of base e ls ks) a ≡ true
@@ -88,7 +89,8 @@ pub record Closes (s : State) (depth : ℕ → ℕ) (e a b base : ℕ) : Type 0 
   pub room : length (before (path_of s a) base) + length (before (path_of s b) base) + 1 ≤ s.graph.vertices
   pub is : circuit_of base e (links_above s (before (path_of s a) base)) (links_above s (before (path_of s b) base)) ≡ closed_by s e
 
-pub closes : (s : State) (depth : ℕ → ℕ) (e a b base : ℕ) → IsNested s.graph.vertices s.blossoms → IsSearchState s depth → CanShrink s e → a ≡ node_u s.graph s.blossoms e → b ≡ node_v s.graph s.blossoms e
+pub closes : (s : State) (depth : ℕ → ℕ) (e a b base : ℕ) → IsNested s.graph.vertices s.blossoms → IsSearchState s depth → CanShrink s e → a ≡ node_u s.graph s.blossoms e
+    → b ≡ node_v s.graph s.blossoms e
     → first_common (path_of s a) (path_of s b) ≡ Some base → Closes s depth e a b base
 closes s depth e a b base nested st can u v meets =
     let m = meets_from s depth e a b base st can u v meets in
@@ -98,11 +100,13 @@ closes s depth e a b base nested st can u v meets =
     let xs : List ℕ = before (path_of s a) base in
     let ys : List ℕ = before (path_of s b) base in
     let same : circuit_of base e (links_up a m.left) (links_up b m.right) ≡ circuit_of base e (links_above s xs) (links_above s ys) =
-    ap (λ ls. circuit_of base e ls (links_up b m.right)) (links_are s depth a m.left base nested st base_is m.left_way) ∙ ap (circuit_of base e (links_above s xs)) (links_are s depth b m.right base nested st base_is m.right_way) in
+    ap (λ ls. circuit_of base e ls (links_up b m.right)) (links_are s depth a m.left base nested st base_is m.left_way)
+    ∙ ap (circuit_of base e (links_above s xs)) (links_are s depth b m.right base nested st base_is m.right_way) in
     let on = firsts_on s depth e a b base m.left m.right m.left_way m.right_way in
     let shrinks : IsShrinkable s depth (circuit_of base e (links_above s xs) (links_above s ys)) base = subst (λ (ls : List Link). IsShrinkable s depth ls base) same m.shrinks in
     let fits = (room_for_circuit s.graph.vertices s.blossoms (circuit_of base e (links_above s xs) (links_above s ys)) nested shrinks.circuit).1 in
-    let found : base ≡ base_of s e = sym (ap or_zero (sym (ap (λ x. first_common (path_of s x) (path_of s b)) u ∙ ap (λ x. first_common (path_of s (node_u s.graph s.blossoms e)) (path_of s x)) v) ∙ meets)) in
+    let found : base ≡ base_of s e = sym (ap or_zero (sym (ap (λ x. first_common (path_of s x) (path_of s b)) u
+    ∙ ap (λ x. first_common (path_of s (node_u s.graph s.blossoms e)) (path_of s x)) v) ∙ meets)) in
     record {
       a_is = ends.0.a_is;
       b_is = ends.0.b_is;

@@ -59,7 +59,8 @@ counted_but p x zero low high = absurd (omega arith)
 counted_but p x (suc n) low high =
     ⊎_elim
     (λ here.
-    let front = sum_to-same (λ i. one_if (p (i + 1))) (λ i. one_if (but p x (i + 1))) n (λ k b. one_same (p (k + 1)) (but p x (k + 1)) (sym (but_else p x (k + 1) (λ e. absurd (omega (arith, e, here)))))) in
+    let front = sum_to-same (λ i. one_if (p (i + 1))) (λ i. one_if (but p x (i + 1))) n
+    (λ k b. one_same (p (k + 1)) (but p x (k + 1)) (sym (but_else p x (k + 1) (λ e. absurd (omega (arith, e, here)))))) in
     let none = one_same (but p x (n + 1)) false (but_here p x (n + 1) (let e : n + 1 ≡ x = omega (arith, here) in e)) in
     let one = one_same (p (n + 1)) (p x) (ap p (let e : n + 1 ≡ x = omega (arith, here) in e)) in
     omega (arith, front, none, one))
@@ -145,7 +146,8 @@ outside_before n s t v keeps is e = outside_yes s v (λ o. both_ways (is_outside
 pub vertices_le : (n : ℕ) (s t : State) → KeepsOuter n s t → counted (is_outside t) n ≤ counted (is_outside s) n
 vertices_le n s t keeps = counted_le (is_outside t) (is_outside s) n (λ v low high e. outside_before n s t v keeps (range_vertex n v low high) e)
 
-pub vertices_less : (n : ℕ) (s t : State) (v : ℕ) → KeepsOuter n s t → is_vertex n v ≡ true → s.label (outermost s.blossoms v) ≢ Outer → t.label (outermost t.blossoms v) ≡ Outer → counted (is_outside t) n < counted (is_outside s) n
+pub vertices_less : (n : ℕ) (s t : State) (v : ℕ) → KeepsOuter n s t → is_vertex n v ≡ true → s.label (outermost s.blossoms v) ≢ Outer → t.label (outermost t.blossoms v) ≡ Outer
+    → counted (is_outside t) n < counted (is_outside s) n
 vertices_less n s t v keeps is was now =
     let range = vertex_range n v is in
     counted_less (is_outside t) (is_outside s) v n range.0 range.1 (outside_no t v now) (outside_yes s v was) (λ a low high e. outside_before n s t a keeps (range_vertex n a low high) e)
@@ -154,7 +156,8 @@ vertices_less n s t v keeps is was now =
 pub newest_vertex : (n : ℕ) (b : Blossom) (older : List Blossom) (v : ℕ) → IsNested n (b ∷ older) → holds b.members v ≡ true → is_vertex n v ≡ true
 newest_vertex n b older v h m = member_vertex n (b ∷ older) b.node v h (new_is_node n b older) (ap (λ ms. holds ms v) (members_here b older b.node (eq-eqb b.node b.node refl)) ∙ m)
 
-newest_le : (n : ℕ) (s t : State) (b : Blossom) (older : List Blossom) → IsNested n (b ∷ older) → KeepsOuter n s t → one_if (list_any (is_outside t) b.members) ≤ one_if (list_any (is_outside s) b.members)
+newest_le : (n : ℕ) (s t : State) (b : Blossom) (older : List Blossom) → IsNested n (b ∷ older) → KeepsOuter n s t
+    → one_if (list_any (is_outside t) b.members) ≤ one_if (list_any (is_outside s) b.members)
 newest_le n s t b older h keeps = one_le (list_any (is_outside t) b.members) (list_any (is_outside s) b.members)
     (any_more (is_outside t) (is_outside s) b.members (λ v m e. outside_before n s t v keeps (newest_vertex n b older v h m) e))
 
@@ -165,7 +168,8 @@ among_le n s t (b ∷ older) h keeps =
     omega (arith, rest, newest_le n s t b older h keeps)
 
 -- without a blossom that has a member outside they are fewer
-pub among_without : (n : ℕ) (s t : State) (bs : List Blossom) (a : ℕ) → IsNested n bs → KeepsOuter n s t → holds (names_of bs) a ≡ true → list_any (is_outside s) (members_of bs a) ≡ true → outside_among t (without bs a) < outside_among s bs
+pub among_without : (n : ℕ) (s t : State) (bs : List Blossom) (a : ℕ) → IsNested n bs → KeepsOuter n s t → holds (names_of bs) a ≡ true → list_any (is_outside s) (members_of bs a) ≡ true
+    → outside_among t (without bs a) < outside_among s bs
 among_without n s t [] a h keeps there some = absurd (both_ways false refl there)
 among_without n s t (b ∷ older) a h keeps there some =
     by_test (eqb b.node a)
@@ -175,7 +179,9 @@ among_without n s t (b ∷ older) a h keeps there some =
     let one = one_same (list_any (is_outside s) b.members) true (sym (ap (list_any (is_outside s)) (members_here b older a e)) ∙ some) in
     omega (arith, same, rest, one))
     (λ e.
-    let same : outside_among t (without (b ∷ older) a) ≡ one_if (list_any (is_outside t) b.members) + outside_among t (without older a) = ap (λ q. outside_among t (cond q older (b ∷ without older a))) e in
+    let same : outside_among t (without (b ∷ older) a) ≡ one_if (list_any (is_outside t) b.members) + outside_among t (without older a) =
+    ap (λ q. outside_among t (cond q older (b ∷ without older a))) e in
     let later : holds (names_of older) a ≡ true = older_name b older a e there in
-    let rest : outside_among t (without older a) < outside_among s older = among_without n s t older a h.1 keeps later (sym (ap (list_any (is_outside s)) (members_past b older a e)) ∙ some) in
+    let rest : outside_among t (without older a) < outside_among s older = among_without n s t older a h.1 keeps later
+    (sym (ap (list_any (is_outside s)) (members_past b older a e)) ∙ some) in
     omega (arith, same, rest, newest_le n s t b older h keeps))

@@ -1,21 +1,25 @@
 -- An expand leaves roots and exposed nodes as they are, since the nodes of the circuit are mated and so was the blossom,
 -- and a blossom outside the outer nodes is gone.
-use Rattle.std.proofs.Common.{◌≡◌, ◌≢◌, ℕ, ◌+◌, ◌≤◌, ◌<◌, Bool, true, false, not, ◌&&◌, List, [], refl, sym, ap, ◌∙◌, arith, ⊎_elim}
+use Rattle.std.proofs.Common.{◌≡◌, ◌≢◌, ℕ, ◌+◌, ◌≤◌, ◌<◌, Bool, true, false, not, ◌&&◌, cond, List, [], length, refl, sym, ap, ◌∙◌, arith, ⊎_elim}
 use Rattle.std.specs.List.{list_any}
 use Rattle.std.specs.Option.{is_some}
 use Rattle.std.specs.Cmp.{both_ways as same_tests}
 use Rattle.std.proofs.lemmas.Bool.{cases_eq, ne_eqb, and_left, and_right, both_ways, false_from_ne_true}
-use Rattle.graph_theory.specs.Graph.{IsGraph}
-use Rattle.blossom_arena.specs.Family.{Blossom, IsNested, is_node, is_child, is_outermost, members_of, in_ring, ring_of, outermost, without}
+use Rattle.graph_theory.specs.Graph.{IsGraph, edges_around}
+use Rattle.graph_theory.specs.Parts.{holds}
+use Rattle.graph_theory.specs.Sums.{sum_to}
+use Rattle.graph_theory.proofs.SumLemmas.{sum_to-same, sum_to-add}
+use Rattle.blossom_arena.specs.Family.{Blossom, IsNested, is_vertex, is_node, is_child, is_outermost, members_of, in_ring, ring_of, outermost, without}
 use Rattle.blossom_arena.proofs.Lists.{by_test}
-use Rattle.blossom_arena.proofs.Nested.{name_range, outermost_parts}
-use Rattle.blossom_arena.proofs.Sets.{outermost_free, member_vertex, members_new}
+use Rattle.blossom_arena.proofs.Nested.{name_range, range_vertex, outermost_parts}
+use Rattle.blossom_arena.proofs.Older.{end_member}
+use Rattle.blossom_arena.proofs.Sets.{outermost_free, member_vertex, members_new, outermost_by_member}
 use Rattle.blossom_arena.proofs.Taken.{outermost_stays}
-use Rattle.blossom_arena.specs.declared.label.Label.TheVariants.{Outer}
+use Rattle.blossom_arena.specs.declared.label.Label.TheVariants.{Outer, Inner, Out}
 use Rattle.alt_forest.specs.State.{State, IsSearchState}
 use Rattle.alt_forest.specs.Trees.{is_label, node_limit}
 use Rattle.alt_forest.specs.Counts.{is_outside, outside_among, exposed_count, tree_count, measure}
-use Rattle.alt_forest.specs.Entries.{ends_around, looks_left}
+use Rattle.alt_forest.specs.Entries.{ends_around, ends_looked, outside_ends, out_ends, looks_left}
 use Rattle.alt_forest.specs.Events.{CanExpand}
 use Rattle.alt_forest.proofs.Looks.{ends_most, outside_ends_fall}
 use Rattle.alt_forest.proofs.Relabelled.{outer_not_inner}
@@ -23,6 +27,7 @@ use Rattle.tree_steps.specs.Expanded.{IsExpanded}
 use Rattle.tree_steps.proofs.Opened.{outermost_elsewhere, outer_opened, gone}
 use Rattle.tree_steps.proofs.Counted.{counted_same, has_vertex, any_here, outside_yes, outside_before, KeepsOuter, vertices_le, among_without}
 use Rattle.tree_steps.proofs.LooksLeft.{looks_fall_by_blossom}
+use Rattle.tree_steps.proofs.LookedEnds.{looked_sum, looked_term}
 use Rattle.blossom_arena.proofs.Parents.{ring_child}
 use Rattle.alt_forest.proofs.Counted.{counted}
 
@@ -51,7 +56,8 @@ module _ (s t : State) (depth : ℕ → ℕ) (node : ℕ) (h : IsNested s.graph.
   opened_test p q was on off a = by_test (in_ring (ring_of bs node) a)
       (λ r. and_right (is_outermost n (without bs node) a) (q a) (on a r) ∙ sym (and_left (is_outermost n bs a) (p a) (child_before a r)))
       (λ r. ⊎_elim
-      (λ at. and_left (is_outermost n (without bs node) a) (q a) (ap (is_outermost n (without bs node)) at ∙ and_left (is_node n (without bs node) node) (not (is_child (without bs node) node)) (gone n bs node h above))
+      (λ at. and_left (is_outermost n (without bs node) a) (q a) (ap (is_outermost n (without bs node)) at
+      ∙ and_left (is_node n (without bs node) node) (not (is_child (without bs node) node)) (gone n bs node h above))
       ∙ sym (and_right (is_outermost n bs a) (p a) (ap p at ∙ was)))
       (λ ne. ap (λ u. u && q a) (as_before a r ne) ∙ ap (λ u. is_outermost n bs a && u) (off a r))
       (cases_eq a node))
@@ -75,13 +81,17 @@ module _ (s t : State) (depth : ℕ → ℕ) (node : ℕ) (h : IsNested s.graph.
       (λ a r. and_right (is_label (t.label a) Outer) (not (is_some (t.mate a))) (ap (λ o. not (is_some o)) (x.mated a r).1))
       (λ a r. ap (λ l. is_label l Outer && not (is_some (t.mate a))) (x.labels a r) ∙ ap (λ o. is_label (s.label a) Outer && not (is_some o)) (x.mates a r))
 
+  -- the label of a vertex's node stays, unless that is the blossom
+  elsewhere : (v : ℕ) → is_vertex n v ≡ true → outermost bs v ≢ node → t.label (outermost t.blossoms v) ≡ s.label (outermost bs v)
+  elsewhere v is ne =
+      let o : ℕ = outermost bs v in
+      let off : in_ring (ring_of bs node) o ≡ false = false_from_ne_true (in_ring (ring_of bs node) o)
+      (λ r. both_ways (is_child bs o) (outermost_free n bs v h is) (ring_child bs node o r)) in
+      ap (λ (cs : List Blossom). t.label (outermost cs v)) x.blossoms ∙ ap t.label (outermost_elsewhere bs node v ne) ∙ x.labels o off
+
   -- a vertex in an outer node is in another node than the blossom
   pub expand_inside : KeepsOuter n s t
-  expand_inside v is lab =
-      let o : ℕ = outermost bs v in
-      let off : in_ring (ring_of bs node) o ≡ false = false_from_ne_true (in_ring (ring_of bs node) o) (λ r. both_ways (is_child bs o) (outermost_free n bs v h is) (ring_child bs node o r)) in
-      let ne : o ≢ node = λ e. outer_not_inner (sym lab ∙ ap s.label e ∙ can.inner) in
-      ap (λ (cs : List Blossom). t.label (outermost cs v)) x.blossoms ∙ ap t.label (outermost_elsewhere bs node v ne) ∙ x.labels o off ∙ lab
+  expand_inside v is lab = elsewhere v is (λ e. outer_not_inner (sym lab ∙ ap s.label e ∙ can.inner)) ∙ lab
 
   -- the vertices of the blossom lay outside
   some_outside : list_any (is_outside s) (members_of bs node) ≡ true
@@ -105,6 +115,37 @@ module _ (s t : State) (depth : ℕ → ℕ) (node : ℕ) (h : IsNested s.graph.
   pub expand_looks : IsGraph s.graph → ends_around s.graph (members_of bs node) + looks_left t ≤ looks_left s
   expand_looks graph =
       let is : is_node n bs node ≡ true = (outermost_parts n bs node can.outermost).0 in
-      let ends = outside_ends_fall s t [] x.graph tt (λ v m. absurd (both_ways false refl m)) (λ v m. absurd (both_ways false refl m)) (λ v m. absurd (both_ways false refl m)) (λ a v e. outside_before n s t a expand_inside v e) in
+      let ends = outside_ends_fall s t [] x.graph tt (λ v m. absurd (both_ways false refl m)) (λ v m. absurd (both_ways false refl m)) (λ v m. absurd (both_ways false refl m))
+      (λ a v e. outside_before n s t a expand_inside v e) in
       let most = ends_most s.graph (members_of bs node) graph.ends (members_new n bs node h is) (λ v m. member_vertex n bs node v h is m) in
       looks_fall_by_blossom s t (ends_around s.graph (members_of bs node)) x.graph most (omega (arith, ends)) expand_blossoms
+
+  -- looks at the blossom's vertices, but for those in inner nodes: each comes into an outer node or is labelled out
+  pub expand_around : ends_looked t (members_of bs node) + outside_ends t + out_ends s ≡ outside_ends s + out_ends t
+  expand_around =
+      let is : is_node n bs node ≡ true = (outermost_parts n bs node can.outermost).0 in
+      let around : ℕ → ℕ = λ v. length (edges_around s.graph v) in
+      let looks : ends_looked t (members_of bs node) ≡ sum_to (λ i. cond (holds (members_of bs node) (i + 1))
+      (cond (is_label (t.label (outermost t.blossoms (i + 1))) Inner) 0 (length (edges_around s.graph (i + 1)))) 0) n =
+      looked_sum t n (members_of bs node) (members_new n bs node h is) (λ v m. member_vertex n bs node v h is m)
+      ∙ ap (λ g. sum_to (λ i. cond (holds (members_of bs node) (i + 1)) (cond (is_label (t.label (outermost t.blossoms (i + 1))) Inner) 0 (length (edges_around g (i + 1)))) 0) n) x.graph in
+      let outside : outside_ends t ≡ sum_to (λ i. cond (is_outside t (i + 1)) (length (edges_around s.graph (i + 1))) 0) n =
+      ap (λ g. sum_to (λ i. cond (is_outside t (i + 1)) (length (edges_around g (i + 1))) 0) g.vertices) x.graph in
+      let out : out_ends t ≡ sum_to (λ i. cond (is_label (t.label (outermost t.blossoms (i + 1))) Out) (length (edges_around s.graph (i + 1))) 0) n =
+      ap (λ g. sum_to (λ i. cond (is_label (t.label (outermost t.blossoms (i + 1))) Out) (length (edges_around g (i + 1))) 0) g.vertices) x.graph in
+      let left = sum_to-add (λ i. cond (is_outside t (i + 1)) (length (edges_around s.graph (i + 1))) 0)
+      (λ i. cond (is_label (s.label (outermost bs (i + 1))) Out) (length (edges_around s.graph (i + 1))) 0) n in
+      let all = sum_to-add (λ i. cond (holds (members_of bs node) (i + 1)) (cond (is_label (t.label (outermost t.blossoms (i + 1))) Inner) 0 (length (edges_around s.graph (i + 1)))) 0)
+      (λ i. cond (is_outside t (i + 1)) (length (edges_around s.graph (i + 1))) 0 + cond (is_label (s.label (outermost bs (i + 1))) Out) (length (edges_around s.graph (i + 1))) 0) n in
+      let right = sum_to-add (λ i. cond (is_outside s (i + 1)) (length (edges_around s.graph (i + 1))) 0)
+      (λ i. cond (is_label (t.label (outermost t.blossoms (i + 1))) Out) (length (edges_around s.graph (i + 1))) 0) n in
+      let same = sum_to-same
+      (λ i. cond (holds (members_of bs node) (i + 1)) (cond (is_label (t.label (outermost t.blossoms (i + 1))) Inner) 0 (length (edges_around s.graph (i + 1)))) 0
+      + (cond (is_outside t (i + 1)) (length (edges_around s.graph (i + 1))) 0 + cond (is_label (s.label (outermost bs (i + 1))) Out) (length (edges_around s.graph (i + 1))) 0))
+      (λ i. cond (is_outside s (i + 1)) (length (edges_around s.graph (i + 1))) 0 + cond (is_label (t.label (outermost t.blossoms (i + 1))) Out) (length (edges_around s.graph (i + 1))) 0) n
+      (λ k b.
+      let v_is = range_vertex n (k + 1) (omega arith) (omega (arith, b)) in
+      looked_term (s.label (outermost bs (k + 1))) (t.label (outermost t.blossoms (k + 1))) (holds (members_of bs node) (k + 1)) (length (edges_around s.graph (k + 1)))
+      (λ m. ap s.label (outermost_by_member n bs node (k + 1) h can.outermost m) ∙ can.inner)
+      (λ m. elsewhere (k + 1) v_is (λ e. both_ways (holds (members_of bs node) (k + 1)) m (end_member n bs node (k + 1) h v_is e)))) in
+      omega (arith, looks, outside, out, left, all, right, same)

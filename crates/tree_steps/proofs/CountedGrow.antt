@@ -10,14 +10,13 @@ use Rattle.blossom_arena.specs.declared.label.Label.TheVariants.{Outer, Inner, O
 use Rattle.alt_forest.specs.State.{State, IsMate, IsSearchState}
 use Rattle.alt_forest.specs.Trees.{is_label, node_limit}
 use Rattle.alt_forest.specs.Counts.{is_root, is_outside, outside_among, tree_count, exposed_count, measure}
-use Rattle.alt_forest.specs.Entries.{ends_around, looks_left}
+use Rattle.alt_forest.specs.Entries.{ends_around, outside_ends}
 use Rattle.alt_forest.proofs.Looks.{outside_ends_fall}
 use Rattle.alt_forest.specs.Events.{CanGrow}
 use Rattle.alt_forest.specs.Searches.{put}
 use Rattle.alt_forest.proofs.Relabelled.{put_here, put_other, outer_not_out}
 use Rattle.tree_steps.specs.Grown.{grown}
 use Rattle.tree_steps.proofs.Counted.{counted_same, has_vertex, outside_no, outside_yes, outside_before, KeepsOuter, vertices_less, among_le}
-use Rattle.tree_steps.proofs.LooksLeft.{looks_fall}
 
 -- what is mated is no root
 pub mated_no_root : (s : State) (a f : ℕ) → s.mate a ≡ Some f → is_root s a ≡ false
@@ -30,7 +29,8 @@ grow_trees s e far mate f h far_has mate_has = counted_same (is_root (grown s e 
     (λ at_mate. mated_no_root (grown s e far mate) a h (ap s.mate at_mate ∙ mate_has) ∙ sym (mated_no_root s a h (ap s.mate at_mate ∙ mate_has)))
     (λ off_mate. ⊎_elim
     (λ at_far. mated_no_root (grown s e far mate) a f (ap s.mate at_far ∙ far_has) ∙ sym (mated_no_root s a f (ap s.mate at_far ∙ far_has)))
-    (λ off_far. ap (λ l. is_outermost s.graph.vertices s.blossoms a && (is_label l Outer && not (is_some (s.mate a)))) (put_other (put s.label far Inner) mate Outer a off_mate ∙ put_other s.label far Inner a off_far))
+    (λ off_far. ap (λ l. is_outermost s.graph.vertices s.blossoms a && (is_label l Outer && not (is_some (s.mate a))))
+    (put_other (put s.label far Inner) mate Outer a off_mate ∙ put_other s.label far Inner a off_far))
     (cases_eq a far))
     (cases_eq a mate))
 
@@ -67,7 +67,7 @@ module _ (s : State) (depth : ℕ → ℕ) (e mate : ℕ) (h : IsNested s.graph.
 
   pub grow_falls : measure t < measure s
   grow_falls =
-      let x = has_vertex n s.blossoms mate h pair.outer in
+      let x = has_vertex n s.blossoms mate h pair.outermost in
       omega (
         arith,
         vertices_less n s t x.vertex keeps x.is (λ o. outer_not_out (sym o ∙ ap s.label x.node ∙ mate_was)) (ap t.label x.node ∙ mate_now),
@@ -76,16 +76,16 @@ module _ (s : State) (depth : ℕ → ℕ) (e mate : ℕ) (h : IsNested s.graph.
 
   -- the mate's vertices come into an outer node
   was_outside : (v : ℕ) → holds (members_of s.blossoms mate) v ≡ true → is_outside s v ≡ true
-  was_outside v m = outside_yes s v (λ o. outer_not_out (sym o ∙ ap s.label (outermost_by_member n s.blossoms mate v h pair.outer m) ∙ mate_was))
+  was_outside v m = outside_yes s v (λ o. outer_not_out (sym o ∙ ap s.label (outermost_by_member n s.blossoms mate v h pair.outermost m) ∙ mate_was))
 
   now_inside : (v : ℕ) → holds (members_of s.blossoms mate) v ≡ true → is_outside t v ≡ false
-  now_inside v m = outside_no t v (ap t.label (outermost_by_member n s.blossoms mate v h pair.outer m) ∙ mate_now)
+  now_inside v m = outside_no t v (ap t.label (outermost_by_member n s.blossoms mate v h pair.outermost m) ∙ mate_now)
 
   pub grow_blossoms : outside_among t t.blossoms ≤ outside_among s s.blossoms
   grow_blossoms = among_le n s t s.blossoms h keeps
 
-  pub grow_looks : ends_around s.graph (members_of s.blossoms mate) + looks_left t ≤ looks_left s
-  grow_looks =
-      let is : is_node n s.blossoms mate ≡ true = (outermost_parts n s.blossoms mate pair.outer).0 in
-      let ends = outside_ends_fall s t (members_of s.blossoms mate) refl (members_new n s.blossoms mate h is) (λ v m. member_vertex n s.blossoms mate v h is m) was_outside now_inside (λ a v e. outside_before n s t a keeps v e) in
-      looks_fall s t (members_of s.blossoms mate) refl ends grow_blossoms
+  pub grow_ends : outside_ends t + ends_around s.graph (members_of s.blossoms mate) ≤ outside_ends s
+  grow_ends =
+      let is : is_node n s.blossoms mate ≡ true = (outermost_parts n s.blossoms mate pair.outermost).0 in
+      outside_ends_fall s t (members_of s.blossoms mate) refl (members_new n s.blossoms mate h is) (λ v m. member_vertex n s.blossoms mate v h is m) was_outside now_inside
+      (λ a v e. outside_before n s t a keeps v e)

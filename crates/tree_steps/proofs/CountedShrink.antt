@@ -14,14 +14,13 @@ use Rattle.blossom_arena.specs.declared.label.Label.TheVariants.{Outer, Inner, O
 use Rattle.alt_forest.specs.State.{State, IsSearchState}
 use Rattle.alt_forest.specs.Trees.{is_label, node_limit}
 use Rattle.alt_forest.specs.Counts.{is_outside, outside_among, tree_count, exposed_count, measure}
-use Rattle.alt_forest.specs.Entries.{ends_around, looks_left}
+use Rattle.alt_forest.specs.Entries.{ends_around, outside_ends}
 use Rattle.alt_forest.proofs.Looks.{outside_ends_fall}
 use Rattle.alt_forest.proofs.Relabelled.{put_here, put_other, outer_not_inner, outer_not_out}
 use Rattle.tree_steps.specs.Shrunk.{shrunk_state}
 use Rattle.tree_steps.specs.Shrinkable.{IsShrinkable, IsShrunk}
 use Rattle.tree_steps.proofs.Counted.{counted_moved, has_vertex, outside_no, outside_before, KeepsOuter, none_outside, vertices_less, among_le}
 use Rattle.tree_steps.specs.Scanned.{newly_outer}
-use Rattle.tree_steps.proofs.LooksLeft.{looks_fall}
 use Rattle.tree_steps.proofs.NewlyOuter.{of_newly, newly_new, newly_vertex}
 use Rattle.alt_forest.proofs.Counted.{counted}
 
@@ -49,7 +48,8 @@ pub record HasLow (s : State) (ring : List Link) : Type 0 where
   pub within : in_ring ring node ≡ true
   pub low : s.label node ≢ Outer
 
-module _ (s : State) (depth : ℕ → ℕ) (ring : List Link) (node base : ℕ) (h : IsNested s.graph.vertices (made_of s.blossoms ring node ∷ s.blossoms)) (can : IsShrinkable s depth ring base) where
+module _ (s : State) (depth : ℕ → ℕ) (ring : List Link) (node base : ℕ) (h : IsNested s.graph.vertices (made_of s.blossoms ring node ∷ s.blossoms))
+    (can : IsShrinkable s depth ring base) where
   abbrev n : ℕ
   n = s.graph.vertices
 
@@ -102,7 +102,8 @@ module _ (s : State) (depth : ℕ → ℕ) (ring : List Link) (node base : ℕ) 
   shrink_trees = counted_shrunk (λ a. is_label (s.label a) Outer && not (is_some (s.mate a))) (λ a. is_label (t.label a) Outer && not (is_some (t.mate a)))
       (ap (λ l. is_label l Outer && not (is_some (t.mate node))) (put_here s.label node Outer) ∙ ap (λ o. not (is_some o)) (put_here s.mate node (s.mate base))
       ∙ sym (ap (λ l. is_label l Outer && not (is_some (s.mate base))) can.base_outer))
-      (λ a ne. ap (λ l. is_label l Outer && not (is_some (t.mate a))) (put_other s.label node Outer a ne) ∙ ap (λ o. is_label (s.label a) Outer && not (is_some o)) (put_other s.mate node (s.mate base) a ne))
+      (λ a ne. ap (λ l. is_label l Outer && not (is_some (t.mate a))) (put_other s.label node Outer a ne)
+      ∙ ap (λ o. is_label (s.label a) Outer && not (is_some o)) (put_other s.mate node (s.mate base) a ne))
       (λ a r ne. and_right (is_label (s.label a) Outer) (not (is_some (s.mate a))) (ap (λ o. not (is_some o)) (can.mated a r ne).1))
 
   -- a vertex of the new node, and any other
@@ -132,11 +133,9 @@ module _ (s : State) (depth : ℕ → ℕ) (ring : List Link) (node base : ℕ) 
       let at : outermost bs v ≡ r.node = outermost_by_member n bs r.node v h.1 (circuit_outer n bs ring r.node can.circuit r.within) r.has in
       outside_no t v (here v (member_by_ring n bs b v h (newly_vertex s ring h.1 can.circuit v m) ∙ ap (in_ring ring) at ∙ r.within))
 
-  pub shrink_looks : ends_around s.graph (newly_outer s ring) + looks_left t ≤ looks_left s
-  shrink_looks =
-      looks_fall s t (newly_outer s ring) refl
-      (outside_ends_fall s t (newly_outer s ring) refl (newly_new s ring h.1 can.circuit) (newly_vertex s ring h.1 can.circuit) was_outside now_inside (λ a v e. outside_before n s t a keeps v e))
-      shrink_blossoms
+  pub shrink_ends : outside_ends t + ends_around s.graph (newly_outer s ring) ≤ outside_ends s
+  shrink_ends = outside_ends_fall s t (newly_outer s ring) refl (newly_new s ring h.1 can.circuit) (newly_vertex s ring h.1 can.circuit) was_outside now_inside
+      (λ a v e. outside_before n s t a keeps v e)
 
   module _ (st : IsSearchState s depth) where
     -- of a node and its mate on the circuit one is not outer
@@ -187,9 +186,11 @@ shrunk_inside before after node x h =
 
 pub shrunk_blossoms : (before after : State) (node : ℕ) → IsShrunk before after node → IsNestedState after → outside_among after after.blossoms ≤ outside_among before before.blossoms
 shrunk_blossoms before after node x h =
-    subst (λ (s : State). outside_among s s.blossoms ≤ outside_among before before.blossoms) (sym x.state) (shrink_blossoms before x.can.depth x.ring node x.base (subst IsNestedState x.state h) x.can.shrinkable)
+    subst (λ (s : State). outside_among s s.blossoms ≤ outside_among before before.blossoms) (sym x.state)
+    (shrink_blossoms before x.can.depth x.ring node x.base (subst IsNestedState x.state h) x.can.shrinkable)
 
-pub shrunk_looks : (before after : State) (node : ℕ) (x : IsShrunk before after node) → IsNestedState after → ends_around before.graph (newly_outer before x.ring) + looks_left after ≤ looks_left before
-shrunk_looks before after node x h =
-    subst (λ (s : State). ends_around before.graph (newly_outer before x.ring) + looks_left s ≤ looks_left before) (sym x.state)
-    (shrink_looks before x.can.depth x.ring node x.base (subst IsNestedState x.state h) x.can.shrinkable)
+pub shrunk_ends : (before after : State) (node : ℕ) (x : IsShrunk before after node) → IsNestedState after
+    → outside_ends after + ends_around before.graph (newly_outer before x.ring) ≤ outside_ends before
+shrunk_ends before after node x h =
+    subst (λ (s : State). outside_ends s + ends_around before.graph (newly_outer before x.ring) ≤ outside_ends before) (sym x.state)
+    (shrink_ends before x.can.depth x.ring node x.base (subst IsNestedState x.state h) x.can.shrinkable)

@@ -32,7 +32,8 @@ module _ (f : Search) (h : IsSound f) (a : ℕ) (can : CanExpand (state_of f) a)
   parent_is o parent read found = found inner.edge (read ∙ inner.parent)
 
   pub parent_end : (o : Option ℕ) (parent : ℕ) → o ≡ s.parent a → ((e : ℕ) → o ≡ Some e → parent ≡ e) → (node_u s.graph s.blossoms parent ≡ a) ⊎ (node_v s.graph s.blossoms parent ≡ a)
-  parent_end o parent read found = subst (λ e. (node_u s.graph s.blossoms e ≡ a) ⊎ (node_v s.graph s.blossoms e ≡ a)) (sym (parent_is o parent read found)) (parent_leaves s h.depth a graph nested h.state can)
+  parent_end o parent read found = subst (λ e. (node_u s.graph s.blossoms e ≡ a) ⊎ (node_v s.graph s.blossoms e ≡ a)) (sym (parent_is o parent read found))
+      (parent_leaves s h.depth a graph nested h.state can)
 
   pub parent_edge : (o : Option ℕ) (parent : ℕ) → o ≡ s.parent a → ((e : ℕ) → o ≡ Some e → parent ≡ e) → IsEdgeNumber s.graph parent
   parent_edge o parent read found = subst (IsEdgeNumber s.graph) (sym (parent_is o parent read found)) inner.is_edge

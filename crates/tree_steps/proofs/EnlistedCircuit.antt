@@ -1,5 +1,6 @@
 -- A node and the first nodes of a circuit are listed, one after another.
-use Rattle.std.proofs.Common.{◌≡◌, ◌≢◌, ◌⊎◌, ℕ, suc, ◌+◌, ◌<◌, ◌≤◌, true, false, ◌||◌, eqb, List, [], ◌∷◌, ◌++◌, length, take, drop, drop-cons, get_or, Some, refl, sym, ap, ◌∙◌, subst, ⊎_elim, inl, inr}
+use Rattle.std.proofs.Common.{◌≡◌, ◌≢◌, ◌⊎◌, ℕ, suc, ◌+◌, ◌<◌, ◌≤◌, true, false, ◌||◌, eqb, List, [], ◌∷◌, ◌++◌, length, take, drop, drop-cons, get_or, Some, refl, sym, ap, ◌∙◌, subst}
+use Rattle.std.proofs.Common.{⊎_elim, inl, inr}
 use Rattle.std.proofs.lemmas.List.{take_more, take_all, take-append-drop}
 use Rattle.std.proofs.lemmas.Bool.{cases_eq, eq-eqb, eqb-true, or_right, or_parts, or_cases, both_ways}
 use Rattle.graph_theory.specs.Parts.{holds}
@@ -22,26 +23,26 @@ IsAmong ring base count a = (a ≡ base) ⊎ (in_ring (take count ring) a ≡ tr
 
 -- what has become of the search f once these are listed
 pub record AreEnlisted (f k : Search) (base seed count : ℕ) : Type 0 where
-  pub rest : k ≡ record f { arena = record f.arena { motions = k.arena.motions }; queue = k.queue; standing = k.standing; seeds = k.seeds }
+  pub rest : k ≡ record f { arena = record f.arena { motions = k.arena.motions }; queue = k.queue; standing = k.standing }
   pub sound : IsSound k
-  pub listed : AreListed f.graph.vertices k.standing.items k.seeds.items
-  pub there : (a : ℕ) → IsAmong f.circuit.items base count a → label_at f.labels.items a ≢ Out → seed_at k.seeds.items a ≡ Some seed
+  pub listed : AreListed f.graph.vertices k.standing.nodes k.standing.seeds
+  pub there : (a : ℕ) → IsAmong f.circuit.items base count a → label_at f.labels.items a ≢ Out → seed_at k.standing.seeds a ≡ Some seed
   pub moves : (a : ℕ) → IsAmong f.circuit.items base count a → label_at f.labels.items a ≢ Out → IsMoving k a
   pub still : (a : ℕ) → IsMoving f a → IsMoving k a
-  pub keeps : (a : ℕ) → a ≢ base → in_ring (take count f.circuit.items) a ≡ false → seed_at k.seeds.items a ≡ seed_at f.seeds.items a
+  pub keeps : (a : ℕ) → a ≢ base → in_ring (take count f.circuit.items) a ≡ false → seed_at k.standing.seeds a ≡ seed_at f.standing.seeds a
   pub entered : (a : ℕ) → IsAmong f.circuit.items base count a → holds (names_of f.arena.blossoms) a ≡ true → IsBlossomEntered (state_of f) f.clock k.queue a
   pub others : (a : ℕ) → a ≢ base → in_ring (take count f.circuit.items) a ≡ false → moment_of k.queue (OfBlossom a) ≡ moment_of f.queue (OfBlossom a)
   pub edges : k.queue.edges ≡ f.queue.edges
 
 -- what listing one node makes of a search
 pub record IsEnlisted (k t : Search) (node seed : ℕ) : Type 0 where
-  pub rest : t ≡ record k { arena = record k.arena { motions = t.arena.motions }; queue = t.queue; standing = t.standing; seeds = t.seeds }
+  pub rest : t ≡ record k { arena = record k.arena { motions = t.arena.motions }; queue = t.queue; standing = t.standing }
   pub sound : IsSound t
-  pub listed : AreListed k.graph.vertices t.standing.items t.seeds.items
-  pub there : label_at k.labels.items node ≢ Out → seed_at t.seeds.items node ≡ Some seed
+  pub listed : AreListed k.graph.vertices t.standing.nodes t.standing.seeds
+  pub there : label_at k.labels.items node ≢ Out → seed_at t.standing.seeds node ≡ Some seed
   pub moves : label_at k.labels.items node ≢ Out → IsMoving t node
   pub still : (a : ℕ) → IsMoving k a → IsMoving t a
-  pub keeps : (a : ℕ) → a ≢ node → seed_at t.seeds.items a ≡ seed_at k.seeds.items a
+  pub keeps : (a : ℕ) → a ≢ node → seed_at t.standing.seeds a ≡ seed_at k.standing.seeds a
   pub entered : holds (names_of k.arena.blossoms) node ≡ true → IsBlossomEntered (state_of k) k.clock t.queue node
   pub others : (b : ℕ) → b ≢ node → moment_of t.queue (OfBlossom b) ≡ moment_of k.queue (OfBlossom b)
   pub edges : t.queue.edges ≡ k.queue.edges
@@ -56,7 +57,7 @@ enlisted_base f k base seed h = record {
   sound = h.sound;
   listed = h.listed;
   there = λ a among labelled. let at = none_first f.circuit.items base a among in
-      ap (seed_at k.seeds.items) at ∙ h.there (λ out. labelled (ap (label_at f.labels.items) at ∙ out));
+      ap (seed_at k.standing.seeds) at ∙ h.there (λ out. labelled (ap (label_at f.labels.items) at ∙ out));
   moves = λ a among labelled. let at = none_first f.circuit.items base a among in
       subst (IsMoving k) (sym at) (h.moves (λ out. labelled (ap (label_at f.labels.items) at ∙ out)));
   still = h.still;
@@ -68,7 +69,8 @@ enlisted_base f k base seed h = record {
 }
 
 -- one node more
-module _ (f k t : Search) (base seed count : ℕ) (l : Link) (h : AreEnlisted f k base seed count) (b : count < length f.circuit.items) (is : get_or f.circuit.items count l ≡ l) (e : IsEnlisted k t l.node seed) where
+module _ (f k t : Search) (base seed count : ℕ) (l : Link) (h : AreEnlisted f k base seed count) (b : count < length f.circuit.items) (is : get_or f.circuit.items count l ≡ l)
+    (e : IsEnlisted k t l.node seed) where
   ring_more : (a : ℕ) → in_ring (take (count + 1) f.circuit.items) a ≡ (in_ring (take count f.circuit.items) a || (eqb l.node a || false))
   ring_more a =
       ap (λ ls. in_ring ls a) (take_more f.circuit.items count l b ∙ ap (λ x. take count f.circuit.items ++ x ∷ []) is)
@@ -96,11 +98,11 @@ module _ (f k t : Search) (base seed count : ℕ) (l : Link) (h : AreEnlisted f 
 
   pub enlisted_more : AreEnlisted f t base seed (count + 1)
   enlisted_more = record {
-    rest = e.rest ∙ ap (λ (x : Search). let y : Search = record x { arena = record x.arena { motions = t.arena.motions }; queue = t.queue; standing = t.standing; seeds = t.seeds } in y) h.rest;
+    rest = e.rest ∙ ap (λ (x : Search). let y : Search = record x { arena = record x.arena { motions = t.arena.motions }; queue = t.queue; standing = t.standing } in y) h.rest;
     sound = e.sound;
-    listed = subst (λ (x : Search). AreListed x.graph.vertices t.standing.items t.seeds.items) h.rest e.listed;
+    listed = subst (λ (x : Search). AreListed x.graph.vertices t.standing.nodes t.standing.seeds) h.rest e.listed;
     there = λ a among labelled. ⊎_elim
-        (λ at. ap (seed_at t.seeds.items) at ∙ e.there (λ out. labelled (ap (label_at f.labels.items) at ∙ ap (λ v. label_at v.items l.node) (sym labels) ∙ out)))
+        (λ at. ap (seed_at t.standing.seeds) at ∙ e.there (λ out. labelled (ap (label_at f.labels.items) at ∙ ap (λ v. label_at v.items l.node) (sym labels) ∙ out)))
         (λ ne. e.keeps a ne ∙ h.there a (among_before a among ne) labelled)
         (cases_eq a l.node);
     moves = λ a among labelled. ⊎_elim

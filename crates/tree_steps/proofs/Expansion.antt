@@ -1,5 +1,6 @@
 -- An expand keeps the state of a search.
-use Rattle.std.proofs.Common.{◌≡◌, ◌≢◌, ◌⊎◌, ℕ, ◌+◌, ◌*◌, ◌<◌, ◌≤◌, pos, ◌+ℤ◌, ◌-ℤ◌, ◌≤ℤ◌, Bool, true, false, ◌||◌, eqb, cond, List, [], ◌∷◌, ◌++◌, length, Option, Some, None, refl, sym, ap, ◌∙◌, subst, arith, ⊎_elim, inl, inr}
+use Rattle.std.proofs.Common.{◌≡◌, ◌≢◌, ◌⊎◌, ℕ, ◌+◌, ◌*◌, ◌<◌, ◌≤◌, pos, ◌+ℤ◌, ◌-ℤ◌, ◌≤ℤ◌, Bool, true, false, ◌||◌, eqb, cond, List, [], ◌∷◌, ◌++◌, length, Option, Some, None, refl, sym, ap}
+use Rattle.std.proofs.Common.{◌∙◌, subst, arith, ⊎_elim, inl, inr}
 use Rattle.std.specs.List.{AllByRecursion}
 use Rattle.std.proofs.lemmas.List.{length-append}
 use Rattle.std.proofs.lemmas.Bool.{eq-eqb, ne_eqb, eqb-true, eqb-false, or_parts, or_left, or_right, or_cases, both_ways, false_from_ne_true}
@@ -14,17 +15,18 @@ use Rattle.blossom_arena.proofs.Sets.{outermost_has}
 use Rattle.blossom_arena.proofs.Taken.{outermost_stays, each_without}
 use Rattle.blossom_arena.specs.declared.label.Label.{Label}
 use Rattle.blossom_arena.specs.declared.label.Label.TheVariants.{Outer, Inner, Out}
-use Rattle.alt_forest.specs.State.{State, IsOutermost, Joins, doubled, slack_of, IsTight, IsMate, IsInner, IsSearchState, cover, next_node, node_u, node_v, IsChainTo}
+use Rattle.alt_forest.specs.State.{State, IsOutermost, Joins, doubled, slack_of, IsTight, IsMate, IsInner, IsSearchState, dual_sum, next_node, node_u, node_v, IsChainTo}
 use Rattle.alt_forest.specs.Trees.{up_edge, up_edge_by}
 use Rattle.alt_forest.specs.Searches.{put}
 use Rattle.alt_forest.proofs.Relabelled.{put_here, put_other, outer_not_inner, outer_not_out, inner_not_out, some_not_none}
 use Rattle.alt_forest.proofs.Parity.{parity_refl}
-use Rattle.tree_steps.specs.Expanded.{opened, mated, labelled_out, labels_up, labels_down, parents_up, parents_down, end_of}
+use Rattle.tree_steps.specs.Expanded.{opened, mated, labelled_out, labels_up, labels_down, parents_up, parents_down}
+use Rattle.tree_steps.proofs.Elsewhere.{end_of}
 use Rattle.tree_steps.proofs.Gap.{FitsBut, FitBut, fits_all}
 use Rattle.tree_steps.proofs.Grown.{rehung}
 use Rattle.alt_forest.proofs.Mates.{joins_unique, joins_turned, mate_turned, mate_unique, partner_unique}
 use Rattle.tree_steps.proofs.Opened.{across_without, outermost_elsewhere, outermost_opened, outermost_by_ring, joins_opened, joins_elsewhere, outer_opened, gone, rings_without}
-use Rattle.tree_steps.proofs.Covers.{WasExposed, agree_after}
+use Rattle.tree_steps.proofs.DualSums.{WasExposed, agree_after}
 use Rattle.blossom_arena.proofs.Ends.{u_vertex, v_vertex}
 use Rattle.tree_steps.proofs.Hung.{IsHungBy, up_hung, down_hung}
 use Rattle.tree_steps.proofs.Climbed.{IsOpenAt, Keeps, fit_scaled, room_between}
@@ -44,7 +46,7 @@ pub record Opens (s : State) (depth : ℕ → ℕ) (a base edge : ℕ) (rest : L
   pub nested : IsNested s.graph.vertices s.blossoms
   pub state : IsSearchState s depth
   pub blossom : holds (names_of s.blossoms) a ≡ true
-  pub outer : IsOutermost s a
+  pub outermost : IsOutermost s a
   pub inner : s.label a ≡ Inner
   pub empty : s.dual a ≡ pos 0
   pub mate : s.mate a ≡ Some e
@@ -72,7 +74,7 @@ module _ (s : State) (depth : ℕ → ℕ) (a base edge : ℕ) (rest : List Link
   above = (name_range s.graph.vertices bs a h.nested h.blossom).0
 
   free : is_child bs a ≡ false
-  free = (outermost_parts s.graph.vertices bs a h.outer).1
+  free = (outermost_parts s.graph.vertices bs a h.outermost).1
 
   slack_now : (f : ℕ) → slack_of t f ≡ slack_of s f
   slack_now f = ap (λ z. doubled s.graph s.weighted f -ℤ z) (across_without s.dual bs a (edge_of s.graph f) h.empty)
@@ -86,7 +88,8 @@ module _ (s : State) (depth : ℕ → ℕ) (a base edge : ℕ) (rest : List Link
     where
       go : (ls : List Link) → AllByRecursion (λ (l : Link). in_ring (ring_of bs a) l.node ≡ true) ls → in_ring ls c ≡ true → in_ring (ring_of bs a) c ≡ true
       go [] each r = absurd (both_ways false refl r)
-      go (l ∷ ls) each r = ⊎_elim (λ here. subst (λ x. in_ring (ring_of bs a) x ≡ true) (eqb-true l.node c here) each.0) (λ more. go ls each.1 more) (or_cases (eqb l.node c) (in_ring ls c) r)
+      go (l ∷ ls) each r = ⊎_elim (λ here. subst (λ x. in_ring (ring_of bs a) x ≡ true) (eqb-true l.node c here) each.0) (λ more. go ls each.1 more)
+          (or_cases (eqb l.node c) (in_ring ls c) r)
 
   rest_no_outer : (c : ℕ) → IsOutermost s c → in_ring rest c ≡ false
   rest_no_outer c is = false_from_ne_true (in_ring rest c) (λ r. both_ways (in_ring (ring_of bs a) c) (ring_no_outer c is) (rest_in c r))
@@ -101,7 +104,8 @@ module _ (s : State) (depth : ℕ → ℕ) (a base edge : ℕ) (rest : List Link
   stays_outer c is ne = outermost_stays s.graph.vertices bs a c (ne_eqb a c (λ q. ne (sym q))) is
 
   not_gone : (c : ℕ) → IsOutermost t c → c ≢ a
-  not_gone c is q = both_ways (is_node s.graph.vertices (without bs a) a) (gone s.graph.vertices bs a h.nested above) (ap (is_node s.graph.vertices (without bs a)) (sym q) ∙ (outermost_parts s.graph.vertices (without bs a) c is).0)
+  not_gone c is q = both_ways (is_node s.graph.vertices (without bs a) a) (gone s.graph.vertices bs a h.nested above)
+      (ap (is_node s.graph.vertices (without bs a)) (sym q) ∙ (outermost_parts s.graph.vertices (without bs a) c is).0)
 
   -- the mates and labels of the others stay
   mate_old : (c : ℕ) → IsOutermost s c → t.mate c ≡ s.mate c
@@ -127,13 +131,15 @@ module _ (s : State) (depth : ℕ → ℕ) (a base edge : ℕ) (rest : List Link
   next_inside [] each = h.base_in
   next_inside (l ∷ ls) each = each.0
 
-  joins_now : (f x y : ℕ) → IsEdgeNumber s.graph f → in_ring (ring_of bs a) x ≡ true → in_ring (ring_of bs a) y ≡ true → Joins s.graph (older_than bs a) f x y → Joins s.graph (without bs a) f x y
+  joins_now : (f x y : ℕ) → IsEdgeNumber s.graph f → in_ring (ring_of bs a) x ≡ true → in_ring (ring_of bs a) y ≡ true → Joins s.graph (older_than bs a) f x y
+      → Joins s.graph (without bs a) f x y
   joins_now f x y is rx ry j = joins_opened s.graph bs a f x y h.graph h.nested above free is rx ry j
 
   tight_now : (f : ℕ) → IsTight s f → IsTight t f
   tight_now f q = record { edge = q.edge; tight = slack_now f ∙ q.tight }
 
-  ladder_from : (ls : List Link) → IsChainTo s.graph (older_than bs a) ls base → AllByRecursion (λ (l : Link). IsTight s l.edge) ls → AllByRecursion (λ (l : Link). in_ring (ring_of bs a) l.node ≡ true) ls
+  ladder_from : (ls : List Link) → IsChainTo s.graph (older_than bs a) ls base → AllByRecursion (λ (l : Link). IsTight s l.edge) ls
+      → AllByRecursion (λ (l : Link). in_ring (ring_of bs a) l.node ≡ true) ls
       → AllNew (nodes_of ls) → ArePaired t.mate ls → IsLadder t ls base
   ladder_from [] chain tight inside new paired = tt
   ladder_from (x ∷ []) chain tight inside new paired = absurd paired
@@ -143,8 +149,19 @@ module _ (s : State) (depth : ℕ → ℕ) (a base edge : ℕ) (rest : List Link
       let x_is : IsOutermost t x.node = child_outer s.graph.vertices bs a x.node h.nested free inside.0 in
       let y_is : IsOutermost t y.node = child_outer s.graph.vertices bs a y.node h.nested free inside.1.0 in
       let flat = slack_now x.edge ∙ tight.0.tight in (
-        record { is = x_is; mate = paired.0; is_mate = record { edge = chain.0; joins = joins; different = differ; tight = flat; outer = y_is; back = paired.1 } },
-        record { is = y_is; mate = paired.1; is_mate = record { edge = chain.0; joins = joins_turned s.graph (without bs a) x.edge x.node y.node joins; different = λ q. differ (sym q); tight = flat; outer = x_is; back = paired.0 } },
+        record { is = x_is; mate = paired.0; is_mate = record { edge = chain.0; joins = joins; different = differ; tight = flat; outermost = y_is; back = paired.1 } },
+        record {
+          is = y_is;
+          mate = paired.1;
+          is_mate = record {
+            edge = chain.0;
+            joins = joins_turned s.graph (without bs a) x.edge x.node y.node joins;
+            different = λ q. differ (sym q);
+            tight = flat;
+            outermost = x_is;
+            back = paired.0;
+          };
+        },
         tight_now y.edge tight.1.0,
         joins_now y.edge y.node (next_node ls base) chain.2.0 inside.1.0 (next_inside ls inside.1.1) chain.2.1,
         ladder_from ls chain.2.2 tight.1.1 inside.1.1 new.1.1 paired.2,
@@ -186,10 +203,10 @@ module _ (s : State) (depth : ℕ → ℕ) (a base edge : ℕ) (rest : List Link
   base_mate = record {
     edge = h.is_mate.edge;
     joins = h.base_joins;
-    different = λ q. not_base w h.is_mate.outer (sym q);
+    different = λ q. not_base w h.is_mate.outermost (sym q);
     tight = slack_now e ∙ h.is_mate.tight;
-    outer = stays_outer w h.is_mate.outer w_apart;
-    back = mate_old w h.is_mate.outer ∙ h.is_mate.back;
+    outermost = stays_outer w h.is_mate.outermost w_apart;
+    back = mate_old w h.is_mate.outermost ∙ h.is_mate.back;
   }
 
   mate_after : (c f d : ℕ) → IsOutermost s c → c ≢ a → s.mate c ≡ Some f → IsMate s c f d → IsMate t c f (lift d)
@@ -199,7 +216,7 @@ module _ (s : State) (depth : ℕ → ℕ) (a base edge : ℕ) (rest : List Link
       let same : d ≡ a = eqb-true d a q in
       let here : IsMate s c f a = subst (IsMate s c f) same v in
       let it : e ≡ f = same_Some e f (sym h.mate ∙ here.back) in
-      let from : w ≡ c = partner_unique s w e c f a (mate_turned s a e w h.outer h.mate h.is_mate) here in
+      let from : w ≡ c = partner_unique s w e c f a (mate_turned s a e w h.outermost h.mate h.is_mate) here in
       subst (IsMate t c f) (sym (lift_here d same))
       (subst (λ g. IsMate t c g base) it (subst (λ x. IsMate t x e base) from (mate_turned t base e w base_is base_mate_is base_mate))))
       (λ q.
@@ -210,8 +227,8 @@ module _ (s : State) (depth : ℕ → ℕ) (a base edge : ℕ) (rest : List Link
         joins = joins_elsewhere s.graph bs a f c d nc other v.joins;
         different = v.different;
         tight = slack_now f ∙ v.tight;
-        outer = stays_outer d v.outer other;
-        back = mate_old d v.outer ∙ v.back;
+        outermost = stays_outer d v.outermost other;
+        back = mate_old d v.outermost ∙ v.back;
       }))
 
   -- what is outermost now was so before, or is the base, or lies on the rest of the circuit
@@ -228,7 +245,7 @@ module _ (s : State) (depth : ℕ → ℕ) (a base edge : ℕ) (rest : List Link
 
   -- the blossom hung and has a child
   abbrev pub says : IsInner s depth a
-  says = (h.state.labels a h.outer).inner h.inner
+  says = (h.state.labels a h.outermost).inner h.inner
 
   child_is : says.child ≡ w
   child_is = mate_unique s a says.child_edge says.child e w says.mate h.mate says.is_mate h.is_mate
@@ -244,10 +261,10 @@ module _ (s : State) (depth : ℕ → ℕ) (a base edge : ℕ) (rest : List Link
       child = w;
       mate = base_mate_is;
       is_mate = base_mate;
-      outer = label_old w h.is_mate.outer ∙ ap s.label (sym child_is) ∙ says.child_outer;
+      outer = label_old w h.is_mate.outermost ∙ ap s.label (sym child_is) ∙ says.child_outer;
       rises =
           let same : depth says.child ≡ depth w = ap depth child_is in
-          omega (arith, put_here depth base (depth a), rank_old w h.is_mate.outer, says.rises, same);
+          omega (arith, put_here depth base (depth a), rank_old w h.is_mate.outermost, says.rises, same);
     };
     up = λ lab closed. absurd (both_ways (eqb base base) closed (eq-eqb base base refl));
     out = λ lab. inner_not_out (sym base_inner ∙ lab);
@@ -274,7 +291,7 @@ module _ (s : State) (depth : ℕ → ℕ) (a base edge : ℕ) (rest : List Link
             let said = old.outer (sym (label_old c is) ∙ lab) f m.0 has_s m.1 in
             let now = mate_after c f m.0 is nc has_s m.1 in
             let it : lift m.0 ≡ b = joins_unique s.graph (without bs a) f c (lift m.0) b now.joins v.joins now.different in
-            subst (λ x. (t.label x ≡ Inner) × (ranks x < ranks c)) it (lift_label m.0 m.1.outer ∙ said.0, omega (arith, lift_rank m.0 m.1.outer, rank_old c is, said.1));
+            subst (λ x. (t.label x ≡ Inner) × (ranks x < ranks c)) it (lift_label m.0 m.1.outermost ∙ said.0, omega (arith, lift_rank m.0 m.1.outermost, rank_old c is, said.1));
         child = λ lab.
             let i = old.inner (sym (label_old c is) ∙ lab) in
             record {
@@ -282,8 +299,8 @@ module _ (s : State) (depth : ℕ → ℕ) (a base edge : ℕ) (rest : List Link
               child = lift i.child;
               mate = mate_old c is ∙ i.mate;
               is_mate = mate_after c i.child_edge i.child is nc i.mate i.is_mate;
-              outer = lift_label i.child i.is_mate.outer ∙ i.child_outer;
-              rises = omega (arith, lift_rank i.child i.is_mate.outer, rank_old c is, i.rises);
+              outer = lift_label i.child i.is_mate.outermost ∙ i.child_outer;
+              rises = omega (arith, lift_rank i.child i.is_mate.outermost, rank_old c is, i.rises);
             };
         up = λ lab closed.
             let i = old.inner (sym (label_old c is) ∙ lab) in
@@ -305,7 +322,7 @@ module _ (s : State) (depth : ℕ → ℕ) (a base edge : ℕ) (rest : List Link
             let said = old.out (sym (label_old c is) ∙ lab) f m.0 has_s m.1 in
             let now = mate_after c f m.0 is nc has_s m.1 in
             let it : lift m.0 ≡ b = joins_unique s.graph (without bs a) f c (lift m.0) b now.joins v.joins now.different in
-            ap t.label (sym it) ∙ lift_label m.0 m.1.outer ∙ said;
+            ap t.label (sym it) ∙ lift_label m.0 m.1.outermost ∙ said;
       }
 
   -- once the blossom is open, all inner nodes but the base hang
@@ -356,7 +373,8 @@ module _ (s : State) (depth : ℕ → ℕ) (a base edge : ℕ) (rest : List Link
       (λ p. (end_within (edge_of s.graph f).u y u_is ry p.0, end_within (edge_of s.graph f).v x v_is rx p.1))
       j
 
-  chain_within : (ls : List Link) → IsChainTo s.graph (older_than bs a) ls base → AllByRecursion (λ (l : Link). in_ring (ring_of bs a) l.node ≡ true) ls → AllByRecursion (λ (l : Link). MayHang l.edge) ls
+  chain_within : (ls : List Link) → IsChainTo s.graph (older_than bs a) ls base → AllByRecursion (λ (l : Link). in_ring (ring_of bs a) l.node ≡ true) ls
+      → AllByRecursion (λ (l : Link). MayHang l.edge) ls
   chain_within [] chain inside = tt
   chain_within (l ∷ ls) chain inside = (inl (within l.edge l.node (next_node ls base) chain.0 inside.0 (next_inside ls inside.1) chain.1), chain_within ls chain.2 inside.1)
 
@@ -384,7 +402,8 @@ module _ (s : State) (depth : ℕ → ℕ) (a base edge : ℕ) (rest : List Link
 
   -- the edge up from a node of the circuit stays on it, or is the one by which the blossom hung
   abbrev pub LeadsOut : State → Type 0
-  LeadsOut u = (c f d : ℕ) → in_ring (ring_of bs a) c ≡ true → up_edge u c ≡ Some f → IsEdgeNumber s.graph f → Joins s.graph (without bs a) f c d → (in_ring (ring_of bs a) d ≡ true) ⊎ (s.parent a ≡ Some f)
+  LeadsOut u = (c f d : ℕ) → in_ring (ring_of bs a) c ≡ true → up_edge u c ≡ Some f → IsEdgeNumber s.graph f → Joins s.graph (without bs a) f c d
+      → (in_ring (ring_of bs a) d ≡ true) ⊎ (s.parent a ≡ Some f)
 
   leads_out : (l : ℕ → Label) (p : ℕ → Option ℕ) → l base ≡ Inner → ((c f : ℕ) → in_ring (ring_of bs a) c ≡ true → l c ≡ Inner → p c ≡ Some f → MayHang f) → LeadsOut (rehung t l p)
   leads_out l p at_base hung c f d r way is j = by_label (l c) refl
@@ -404,9 +423,9 @@ module _ (s : State) (depth : ℕ → ℕ) (a base edge : ℕ) (rest : List Link
           (hung c f r lab (sym (ap (λ x. up_edge_by (rehung t l p) x c) lab) ∙ way))
       by_label Out lab = some_not_none f (sym way ∙ ap (λ x. up_edge_by (rehung t l p) x c) lab)
 
-  -- what covers a vertex stays, and so does what is exposed, since all nodes of the circuit have mates
-  cover_now : (v : ℕ) → is_vertex s.graph.vertices v ≡ true → cover t v ≡ cover s v
-  cover_now v iv = ap (λ z. s.dual v +ℤ z) (held_without s.dual bs a v h.empty)
+  -- the dual sum of a vertex stays, and so does what is exposed, since all nodes of the circuit have mates
+  dual_sum_now : (v : ℕ) → is_vertex s.graph.vertices v ≡ true → dual_sum t v ≡ dual_sum s v
+  dual_sum_now v iv = ap (λ z. s.dual v +ℤ z) (held_without s.dual bs a v h.empty)
 
   child_mated : (c : ℕ) → in_ring (ring_of bs a) c ≡ true → t.mate c ≡ None → ⊥
   child_mated c r none = ⊎_elim
@@ -421,7 +440,12 @@ module _ (s : State) (depth : ℕ → ℕ) (a base edge : ℕ) (rest : List Link
       absurd (child_mated (outermost (without bs a) v) (opened_end v iv at) none))
       (λ q.
       let stays : outermost (without bs a) v ≡ outermost bs v = outermost_elsewhere bs a v (eqb-false (outermost bs v) a q) in
-      record { at = v; vertex = iv; exposed = sym (mate_old (outermost bs v) (outermost_has s.graph.vertices bs v h.nested iv).0) ∙ ap t.mate (sym stays) ∙ none; agree = parity_refl (cover s v) })
+      record {
+        at = v;
+        vertex = iv;
+        exposed = sym (mate_old (outermost bs v) (outermost_has s.graph.vertices bs v h.nested iv).0) ∙ ap t.mate (sym stays) ∙ none;
+        agree = parity_refl (dual_sum s v);
+      })
 
   -- the whole of it, where all inner nodes hang
   whole : (l : ℕ → Label) (p : ℕ → Option ℕ) (after : ℕ → ℕ) → FitBut (rehung t l p) after (λ c. false) → IsSearchState (rehung t l p) after
@@ -431,8 +455,8 @@ module _ (s : State) (depth : ℕ → ℕ) (a base edge : ℕ) (rest : List Link
     slacks = λ f is. subst (λ z. pos 0 ≤ℤ z) (sym (slack_now f)) (h.state.slacks f is);
     duals = each_without _ bs a h.state.duals;
     mates = λ c f is has. let m = mates_now c f is has in
-        (m.0, record { edge = m.1.edge; joins = m.1.joins; different = m.1.different; tight = m.1.tight; outer = m.1.outer; back = m.1.back });
-    parity = agree_after s (rehung t l p) refl h.state.parity cover_now was_exposed;
+        (m.0, record { edge = m.1.edge; joins = m.1.joins; different = m.1.different; tight = m.1.tight; outermost = m.1.outermost; back = m.1.back });
+    parity = agree_after s (rehung t l p) refl h.state.parity dual_sum_now was_exposed;
     labels = λ c is. fits_all (rehung t l p) after (λ x. false) c refl (fits c is);
   }
 
@@ -449,7 +473,8 @@ module _ (s : State) (depth : ℕ → ℕ) (a base edge : ℕ) (rest : List Link
   base_stays : (u : State) (d f : ℕ → ℕ) → Keeps t u d f → u.label base ≡ Inner
   base_stays u d f k = k.labels base (λ q. inner_not_out (sym base_inner ∙ q)) ∙ base_inner
 
-  each_parts : (xs ys : List Link) → AllByRecursion (λ (k : Link). MayHang k.edge) (xs ++ ys) → AllByRecursion (λ (k : Link). MayHang k.edge) xs × AllByRecursion (λ (k : Link). MayHang k.edge) ys
+  each_parts : (xs ys : List Link) → AllByRecursion (λ (k : Link). MayHang k.edge) (xs ++ ys)
+      → AllByRecursion (λ (k : Link). MayHang k.edge) xs × AllByRecursion (λ (k : Link). MayHang k.edge) ys
   each_parts [] ys each = (tt, each)
   each_parts (x ∷ xs) ys each = let r = each_parts xs ys each.1 in ((each.0, r.0), r.1)
 
@@ -468,7 +493,8 @@ module _ (s : State) (depth : ℕ → ℕ) (a base edge : ℕ) (rest : List Link
 
   in_front : (xs ys : List Link) (c : ℕ) → in_ring xs c ≡ true → in_ring (xs ++ ys) c ≡ true
   in_front [] ys c r = absurd (both_ways false refl r)
-  in_front (x ∷ xs) ys c r = ⊎_elim (λ here. or_left (eqb x.node c) (in_ring (xs ++ ys) c) here) (λ more. or_right (eqb x.node c) (in_ring (xs ++ ys) c) (in_front xs ys c more)) (or_cases (eqb x.node c) (in_ring xs c) r)
+  in_front (x ∷ xs) ys c r = ⊎_elim (λ here. or_left (eqb x.node c) (in_ring (xs ++ ys) c) here) (λ more. or_right (eqb x.node c) (in_ring (xs ++ ys) c) (in_front xs ys c more))
+      (or_cases (eqb x.node c) (in_ring xs c) r)
 
   in_back : (xs ys : List Link) (c : ℕ) → in_ring ys c ≡ true → in_ring (xs ++ ys) c ≡ true
   in_back [] ys c r = r
@@ -480,7 +506,8 @@ module _ (s : State) (depth : ℕ → ℕ) (a base edge : ℕ) (rest : List Link
   expanded_up xs ys split even joins =
       let parts = ladder_parts t xs ys base even (subst (λ ls. IsLadder t ls base) split ladder) in
       let all_within = each_parts xs ys (subst (λ ls. AllByRecursion (λ (k : Link). MayHang k.edge) ls) split (chain_within rest h.chain h.inside)) in
-      let first : Joins s.graph (without bs a) edge base (next_node xs (next_node ys base)) = subst (Joins s.graph (without bs a) edge base) (ap (λ ls. next_node ls base) split ∙ next_node-append xs ys base)
+      let first : Joins s.graph (without bs a) edge base (next_node xs (next_node ys base)) =
+      subst (Joins s.graph (without bs a) edge base) (ap (λ ls. next_node ls base) split ∙ next_node-append xs ys base)
       (joins_now edge base (next_node rest base) h.base_edge.edge h.base_in (next_inside rest h.inside) h.base_next) in
       let r = climb_up t (next_node ys base) xs t.label t.parent scaled base edge says.edge says.up opened_at parts.0 (tight_now edge h.base_edge) first
       (out_all t.label xs (λ c q. rest_out c (subst (λ ls. in_ring ls c ≡ true) (sym split) (in_front xs ys c q)))) (new_parts xs ys (subst (λ ls. AllNew (nodes_of ls)) split h.different)).0
@@ -489,7 +516,8 @@ module _ (s : State) (depth : ℕ → ℕ) (a base edge : ℕ) (rest : List Link
         after = r.0;
         state = whole (labels_up t.label xs) (parents_up t.parent base edge says.edge xs) r.0 r.1.fits;
         stays = outer_stays (rehung t (labels_up t.label xs) (parents_up t.parent base edge says.edge xs)) scaled r.0 r.1.keeps;
-        ways = leads_out (labels_up t.label xs) (parents_up t.parent base edge says.edge xs) (base_stays (rehung t (labels_up t.label xs) (parents_up t.parent base edge says.edge xs)) scaled r.0 r.1.keeps)
+        ways = leads_out (labels_up t.label xs) (parents_up t.parent base edge says.edge xs)
+            (base_stays (rehung t (labels_up t.label xs) (parents_up t.parent base edge says.edge xs)) scaled r.0 r.1.keeps)
             (up_hung MayHang (λ c. in_ring (ring_of bs a) c ≡ true) t.label t.parent base edge says.edge xs even first_within (inr refl) all_within.0 none_hangs);
       }
 
@@ -506,6 +534,8 @@ module _ (s : State) (depth : ℕ → ℕ) (a base edge : ℕ) (rest : List Link
         after = r.0;
         state = whole (labels_down t.label ys) (parents_down t.parent says.edge base ys) r.0 r.1.fits;
         stays = outer_stays (rehung t (labels_down t.label ys) (parents_down t.parent says.edge base ys)) scaled r.0 r.1.keeps;
-        ways = leads_out (labels_down t.label ys) (parents_down t.parent says.edge base ys) (base_stays (rehung t (labels_down t.label ys) (parents_down t.parent says.edge base ys)) scaled r.0 r.1.keeps)
-            (down_hung MayHang (λ c. in_ring (ring_of bs a) c ≡ true) t.label t.parent says.edge base ys (pairs_behind xs ys even (subst ArePairs split h.pairs)) (inr refl) all_within.1 none_hangs);
+        ways = leads_out (labels_down t.label ys) (parents_down t.parent says.edge base ys)
+            (base_stays (rehung t (labels_down t.label ys) (parents_down t.parent says.edge base ys)) scaled r.0 r.1.keeps)
+            (down_hung MayHang (λ c. in_ring (ring_of bs a) c ≡ true) t.label t.parent says.edge base ys (pairs_behind xs ys even (subst ArePairs split h.pairs)) (inr refl)
+            all_within.1 none_hangs);
       }

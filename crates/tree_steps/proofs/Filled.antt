@@ -12,7 +12,8 @@ mirror_reverse e (l ∷ ls) rest =
     mirror_reverse l.edge ls (x ∷ rest)
     ∙ sym (ap (λ (ys : List Link). ys ++ rest) (reverse-append (x ∷ []) (shifted l.edge ls)) ∙ append_assoc (reverse (shifted l.edge ls)) (x ∷ []) rest)
 
-pub filled : (base e last : ℕ) (ls ks none one two three four : List Link) → none ≡ [] → one ≡ none ++ shifted e ls → last ≡ last_edge e ls → two ≡ one ++ record { node = base; edge = last } ∷ [] → three ≡ reverse two → four ≡ three ++ ks
+pub filled : (base e last : ℕ) (ls ks none one two three four : List Link) → none ≡ [] → one ≡ none ++ shifted e ls → last ≡ last_edge e ls
+    → two ≡ one ++ record { node = base; edge = last } ∷ [] → three ≡ reverse two → four ≡ three ++ ks
     → four ≡ circuit_of base e ls ks
 filled base e last ls ks none one two three four a b c d f g =
     let t : Link = record { node = base; edge = last } in

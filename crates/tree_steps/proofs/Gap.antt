@@ -44,7 +44,17 @@ pub fits_but : (s : State) (depth : ℕ → ℕ) (gap : ℕ → Bool) (a : ℕ) 
 fits_but s depth gap a f = record {
   outer = f.outer;
   child = λ l. let i = f.inner l in record { edge = i.child_edge; child = i.child; mate = i.mate; is_mate = i.is_mate; outer = i.child_outer; rises = i.rises };
-  up = λ l closed. let i = f.inner l in record { edge = i.edge; up = i.up; parent = i.parent; is_edge = i.is_edge; joins = i.joins; tight = i.tight; up_is = i.up_is; outer = i.up_outer; falls = i.falls };
+  up = λ l closed. let i = f.inner l in record {
+    edge = i.edge;
+    up = i.up;
+    parent = i.parent;
+    is_edge = i.is_edge;
+    joins = i.joins;
+    tight = i.tight;
+    up_is = i.up_is;
+    outer = i.up_outer;
+    falls = i.falls;
+  };
   out = f.out;
 }
 
@@ -82,10 +92,10 @@ module _ (s : State) (depth : ℕ → ℕ) (gap : ℕ → Bool) (st : FitBut s d
   t = record s { label = l }
 
   same_mate : (a f c : ℕ) → IsMate s a f c → IsMate t a f c
-  same_mate a f c w = record { edge = w.edge; joins = w.joins; different = w.different; tight = w.tight; outer = w.outer; back = w.back }
+  same_mate a f c w = record { edge = w.edge; joins = w.joins; different = w.different; tight = w.tight; outermost = w.outermost; back = w.back }
 
   mate_before : (a f c : ℕ) → IsMate t a f c → IsMate s a f c
-  mate_before a f c w = record { edge = w.edge; joins = w.joins; different = w.different; tight = w.tight; outer = w.outer; back = w.back }
+  mate_before a f c w = record { edge = w.edge; joins = w.joins; different = w.different; tight = w.tight; outermost = w.outermost; back = w.back }
 
   r_out : s.label r ≡ Out
   r_out = (st q q_is).out q_out h r q_mate pair
@@ -152,11 +162,28 @@ module _ (s : State) (depth : ℕ → ℕ) (gap : ℕ → Bool) (st : FitBut s d
         child = λ lab.
             let i = old.child (sym same ∙ lab) in
             let k = kept i.child Outer i.outer not_out in
-            record { edge = i.edge; child = i.child; mate = i.mate; is_mate = same_mate a i.edge i.child i.is_mate; outer = k.2; rises = omega (arith, deeper_old i.child k.0 k.1, here, i.rises) };
+            record {
+              edge = i.edge;
+              child = i.child;
+              mate = i.mate;
+              is_mate = same_mate a i.edge i.child i.is_mate;
+              outer = k.2;
+              rises = omega (arith, deeper_old i.child k.0 k.1, here, i.rises);
+            };
         up = λ lab closed.
             let i = old.up (sym same ∙ lab) (or_parts (eqb a q) (gap a) closed).1 in
             let k = kept i.up Outer i.outer not_out in
-            record { edge = i.edge; up = i.up; parent = i.parent; is_edge = i.is_edge; joins = i.joins; tight = i.tight; up_is = i.up_is; outer = k.2; falls = omega (arith, deeper_old i.up k.0 k.1, here, i.falls) };
+            record {
+              edge = i.edge;
+              up = i.up;
+              parent = i.parent;
+              is_edge = i.is_edge;
+              joins = i.joins;
+              tight = i.tight;
+              up_is = i.up_is;
+              outer = k.2;
+              falls = omega (arith, deeper_old i.up k.0 k.1, here, i.falls);
+            };
         out = λ lab f c has w.
             let says : s.label c ≡ Out = old.out (sym same ∙ lab) f c has (mate_before a f c w) in
             labels c (λ e. nr (partner_unique s a f r h q (subst (IsMate s a f) e (mate_before a f c w)) (mate_turned s q h r q_is q_mate pair)))
@@ -177,7 +204,8 @@ module _ (s : State) (depth : ℕ → ℕ) (gap : ℕ → Bool) (st : FitBut s d
       inner = deeper_q;
       outer = deeper_r;
       old = λ a lab. let k = kept a (s.label a) refl lab in deeper_old a k.0 k.1;
-      fit = λ a is. ⊎_elim (λ e. subst (FitsBut t deeper wider) (sym e) q_fits) (λ nq. ⊎_elim (λ e. subst (FitsBut t deeper wider) (sym e) r_fits) (λ nr. old_fits a is nq nr) (cases_eq a r)) (cases_eq a q);
+      fit = λ a is. ⊎_elim (λ e. subst (FitsBut t deeper wider) (sym e) q_fits) (λ nq. ⊎_elim (λ e. subst (FitsBut t deeper wider) (sym e) r_fits) (λ nr. old_fits a is nq nr)
+          (cases_eq a r)) (cases_eq a q);
     },
   )
 
@@ -189,10 +217,10 @@ module _ (s : State) (depth : ℕ → ℕ) (gap : ℕ → Bool) (st : FitBut s d
   hung = record s { parent = p }
 
   hung_mate : (a f c : ℕ) → IsMate s a f c → IsMate hung a f c
-  hung_mate a f c w = record { edge = w.edge; joins = w.joins; different = w.different; tight = w.tight; outer = w.outer; back = w.back }
+  hung_mate a f c w = record { edge = w.edge; joins = w.joins; different = w.different; tight = w.tight; outermost = w.outermost; back = w.back }
 
   mate_free : (a f c : ℕ) → IsMate hung a f c → IsMate s a f c
-  mate_free a f c w = record { edge = w.edge; joins = w.joins; different = w.different; tight = w.tight; outer = w.outer; back = w.back }
+  mate_free a f c w = record { edge = w.edge; joins = w.joins; different = w.different; tight = w.tight; outermost = w.outermost; back = w.back }
 
   pub gap_hung : FitBut hung depth (λ a. not (eqb a q) && gap a)
   gap_hung a is =
@@ -202,9 +230,29 @@ module _ (s : State) (depth : ℕ → ℕ) (gap : ℕ → Bool) (st : FitBut s d
         child = λ lab. let i = old.child lab in record { edge = i.edge; child = i.child; mate = i.mate; is_mate = hung_mate a i.edge i.child i.is_mate; outer = i.outer; rises = i.rises };
         up = λ lab. elim (eqb a q) as (λ t. (eqb a q ≡ t) → (not t && gap a) ≡ false → HasUp hung depth a) [
           | true ↦ λ same closed. let at : a ≡ q = eqb-true a q same in
-              subst (HasUp hung depth) (sym at) (record { edge = e; up = up; parent = parent; is_edge = is_edge; joins = joins; tight = tight; up_is = up_is; outer = up_outer; falls = falls })
+              subst (HasUp hung depth) (sym at) (record {
+                edge = e;
+                up = up;
+                parent = parent;
+                is_edge = is_edge;
+                joins = joins;
+                tight = tight;
+                up_is = up_is;
+                outer = up_outer;
+                falls = falls;
+              })
           | false ↦ λ other closed. let i = old.up lab closed in
-              record { edge = i.edge; up = i.up; parent = parents a (eqb-false a q other) ∙ i.parent; is_edge = i.is_edge; joins = i.joins; tight = i.tight; up_is = i.up_is; outer = i.outer; falls = i.falls }
+              record {
+                edge = i.edge;
+                up = i.up;
+                parent = parents a (eqb-false a q other) ∙ i.parent;
+                is_edge = i.is_edge;
+                joins = i.joins;
+                tight = i.tight;
+                up_is = i.up_is;
+                outer = i.outer;
+                falls = i.falls;
+              }
         ] refl;
         out = λ lab f c has w. old.out lab f c has (mate_free a f c w);
       }

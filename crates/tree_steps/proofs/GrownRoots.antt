@@ -8,7 +8,6 @@ use Rattle.alt_forest.specs.State.{State, IsOutermost, Joins, IsMate, IsSearchSt
 use Rattle.alt_forest.specs.Counts.{IsPlanted}
 use Rattle.alt_forest.specs.Events.{CanGrow}
 use Rattle.alt_forest.specs.Searches.{put}
-use Rattle.alt_forest.specs.Standing.{IsSeed}
 use Rattle.alt_forest.specs.Trees.{up_edge, up_edge_by, root_of}
 use Rattle.alt_forest.proofs.Mates.{joins_unique, joins_turned}
 use Rattle.alt_forest.proofs.Relabelled.{put_here, put_other, outer_not_out, inner_not_out, some_not_none}
@@ -19,7 +18,8 @@ use Rattle.tree_steps.proofs.CountedGrow.{mate_was}
 use Rattle.tree_steps.proofs.OneTree.{up_edge_same, edge_above}
 use Rattle.tree_steps.proofs.QueuedGrow.{far_now, mate_now, others_now}
 
-module _ (s : State) (depth after : ℕ → ℕ) (e mate : ℕ) (nested : IsNested s.graph.vertices s.blossoms) (st : IsSearchState s depth) (g : CanGrow s e) (pair : IsMate s g.far g.mate_edge mate)
+module _ (s : State) (depth after : ℕ → ℕ) (e mate : ℕ) (nested : IsNested s.graph.vertices s.blossoms) (st : IsSearchState s depth) (g : CanGrow s e)
+    (pair : IsMate s g.far g.mate_edge mate)
     (now : IsSearchState (grown s e g.far mate) after) where
   abbrev t : State
   t = grown s e g.far mate
@@ -71,29 +71,28 @@ module _ (s : State) (depth after : ℕ → ℕ) (e mate : ℕ) (nested : IsNest
     root = λ a r.
         let off_far : a ≢ g.far = λ q. some_not_none g.mate_edge (sym g.has_mate ∙ ap s.mate (sym q) ∙ r.exposed) in
         let off_mate : a ≢ mate = λ q. some_not_none g.mate_edge (sym pair.back ∙ ap s.mate (sym q) ∙ r.exposed) in
-        tree_old a off_far off_mate ∙ root_self s depth nested st a (record { outermost = r.outermost; outer = sym (others_now s e mate g pair a off_far off_mate) ∙ r.outer; exposed = r.exposed });
+        tree_old a off_far off_mate ∙ root_self s depth nested st a (record {
+          outermost = r.outermost;
+          outer = sym (others_now s e mate g pair a off_far off_mate)
+              ∙ r.outer;
+          exposed = r.exposed;
+        });
     step = λ a f b is in_it b_is b_in way number joins ne. ⊎_elim
         (λ at. from_mate a f b at way joins ne)
         (λ off_mate. ⊎_elim (λ at. from_far a f b at way joins ne) (λ off_far. from_other a f b off_far off_mate is in_it way joins) (cases_eq a g.far))
         (cases_eq a mate);
   }
 
-  -- a vertex of the root above them is kept for both nodes
-  pub far_seed : (v : ℕ) → IsSeed s g.near v → IsSeed t g.far v
-  far_seed v seed = record {
-    vertex = seed.vertex;
-    root = seed.root ∙ sym tree_far ∙ sym (tree_root t after nested now tree trees g.far g.far_is (λ out. inner_not_out (sym (far_now s e mate g pair) ∙ out)));
-  }
+  -- both nodes have the root above them
+  pub far_root : root_of t g.far ≡ root_of s g.near
+  far_root = tree_root t after nested now tree trees g.far g.far_is (λ out. inner_not_out (sym (far_now s e mate g pair) ∙ out)) ∙ tree_far
 
-  pub mate_seed : (v : ℕ) → IsSeed s g.near v → IsSeed t mate v
-  mate_seed v seed = record {
-    vertex = seed.vertex;
-    root = seed.root ∙ sym tree_mate ∙ sym (tree_root t after nested now tree trees mate pair.outer (λ out. outer_not_out (sym (mate_now s e mate g pair) ∙ out)));
-  }
+  pub mate_root : root_of t mate ≡ root_of s g.near
+  mate_root = tree_root t after nested now tree trees mate pair.outermost (λ out. outer_not_out (sym (mate_now s e mate g pair) ∙ out)) ∙ tree_mate
 
   -- and those of the other nodes stay
-  pub other_seed : (a v : ℕ) → IsOutermost s a → t.label a ≢ Out → a ≢ g.far → a ≢ mate → IsSeed s a v → IsSeed t a v
-  other_seed a v is in_it off_far off_mate seed = record { vertex = seed.vertex; root = seed.root ∙ sym (tree_old a off_far off_mate) ∙ sym (tree_root t after nested now tree trees a is in_it) }
+  pub other_root : (a : ℕ) → IsOutermost s a → t.label a ≢ Out → a ≢ g.far → a ≢ mate → root_of t a ≡ root_of s a
+  other_root a is in_it off_far off_mate = tree_root t after nested now tree trees a is in_it ∙ tree_old a off_far off_mate
 
 -- an exposed node is no other than before
 pub grown_planted : (s : State) (e mate : ℕ) (g : CanGrow s e) (pair : IsMate s g.far g.mate_edge mate) → IsPlanted s → IsPlanted (grown s e g.far mate)

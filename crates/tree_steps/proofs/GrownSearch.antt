@@ -1,160 +1,216 @@
 -- What the parts of a grow make of a search.
-use Rattle.std.proofs.Common.{◌≡◌, ◌≢◌, ℕ, ℤ, ◌+◌, ◌+ℤ◌, true, false, List, Some, None, sym, ap, ◌∙◌, subst, ⊎_elim}
+use Rattle.std.proofs.Common.{◌≡◌, ◌≢◌, ℕ, ℤ, ◌+◌, ◌+ℤ◌, true, false, ◌≤◌, List, All, Some, None, refl, arith, sym, ap, ◌∙◌, subst, ⊎_elim}
 use Rattle.std.proofs.lemmas.Bool.{cases_eq}
 use Rattle.graph_theory.specs.Graph.{Multigraph, IsEdgeNumber, edge_of}
 use Rattle.graph_theory.specs.Parts.{holds}
-use Rattle.blossom_arena.specs.Family.{Blossom, is_node, members_of, names_of}
+use Rattle.blossom_arena.specs.Family.{Blossom, IsNested, is_vertex, members_of, names_of}
 use Rattle.blossom_arena.proofs.Nested.{outermost_parts}
+use Rattle.blossom_arena.proofs.Sets.{member_vertex}
 use Rattle.edge_queue.specs.declared.item.Item.TheVariants.{Edge as OfEdge, Blossom as OfBlossom}
 use Rattle.edge_queue.specs.Moments.{Moments, moment_of, with_moment, IsItem}
 use Rattle.alt_forest.specs.declared.search.Search.{Search}
 use Rattle.blossom_arena.specs.declared.label.Label.TheVariants.{Out}
+use Rattle.alt_forest.specs.Listing.{Listing}
 use Rattle.alt_forest.specs.State.{State, IsOutermost, IsMate, IsSearchState}
-use Rattle.alt_forest.specs.Entries.{IsBlossomEntered, IsQueued, IsQueuedBut, entry_count, touches_any}
+use Rattle.alt_forest.specs.Entries.{IsBlossomEntered, IsQueued, IsQueuedBut, ends_around, entry_count, outside_ends, touches_any}
 use Rattle.alt_forest.specs.Events.{CanGrow}
 use Rattle.alt_forest.specs.Searches.{IsSound, state_of, label_at}
-use Rattle.alt_forest.specs.Standing.{AreListed, IsSeed, IsStanding, seed_at}
+use Rattle.alt_forest.specs.Standing.{AreListed, IsStanding, seed_at}
+use Rattle.alt_forest.specs.Trees.{root_of}
 use Rattle.alt_forest.proofs.Places.{nested_of}
 use Rattle.alt_forest.proofs.Queues.{edge_item}
 use Rattle.alt_forest.proofs.Relabelled.{inner_not_out, outer_not_out}
 use Rattle.tree_steps.specs.Grown.{grown}
 use Rattle.tree_steps.specs.Moving.{IsMoving}
-use Rattle.tree_steps.proofs.Awaited.{queued_but, HasSeed, standing_after, edges_stay, edge_gone, blossoms_stay, one_less}
-use Rattle.tree_steps.proofs.GrownRoots.{far_seed, mate_seed, other_seed}
+use Rattle.tree_steps.proofs.Awaited.{each_vertex, queued_but, edges_stay, edge_gone, blossoms_stay, one_less}
+use Rattle.tree_steps.proofs.CountedGrow.{grow_ends}
+use Rattle.tree_steps.proofs.GrownRoots.{far_root, mate_root, other_root}
+use Rattle.tree_steps.proofs.Handed.{ComesFrom, standing_after}
 use Rattle.tree_steps.proofs.QueuedGrow.{far_now, mate_now, others_now, grown_tree, grown_missed, grown_entered, grown_blossom, grown_trees}
 
 -- f is the search before, f1 where the labels are written, f2 and f3 where the node and its mate are listed, f4 where the
 -- edge's moment is gone, and k where the mate's vertices are noted
-module _ (f f1 f2 f3 f4 k : Search) (h : IsSound f) (e mate : ℕ) (can : CanGrow (state_of f) e) (pair : IsMate (state_of f) can.far can.mate_edge mate)
-    (r1 : f1 ≡ record f { labels = f1.labels; parents = f1.parents })
-    (r2 : f2 ≡ record f1 { arena = record f1.arena { motions = f2.arena.motions }; queue = f2.queue; standing = f2.standing; seeds = f2.seeds })
-    (r3 : f3 ≡ record f2 { arena = record f2.arena { motions = f3.arena.motions }; queue = f3.queue; standing = f3.standing; seeds = f3.seeds })
-    (r4 : f4 ≡ record f3 { queue = f4.queue })
-    (r5 : k ≡ record f4 { scanned = k.scanned })
-    (state : state_of f1 ≡ grown (state_of f) e can.far mate) where
+pub record IsGrowing (f f1 f2 f3 f4 k : Search) (e mate seed : ℕ) (can : CanGrow (state_of f) e) : Type 0 where
+  pub sound : IsSound f
+  pub pair : IsMate (state_of f) can.far can.mate_edge mate
+  pub kept : seed_at f.standing.seeds can.near ≡ Some seed
+  -- the two are labelled
+  pub rest1 : f1 ≡ record f { labels = f1.labels; parents = f1.parents }
+  pub sound1 : IsSound f1
+  pub state : state_of f1 ≡ grown (state_of f) e can.far mate
+  -- the node is listed
+  pub rest2 : f2 ≡ record f1 { arena = record f1.arena { motions = f2.arena.motions }; queue = f2.queue; standing = f2.standing }
+  pub there2 : label_at f1.labels.items can.far ≢ Out → seed_at f2.standing.seeds can.far ≡ Some seed
+  pub keeps2 : (a : ℕ) → a ≢ can.far → seed_at f2.standing.seeds a ≡ seed_at f1.standing.seeds a
+  pub moves2 : label_at f1.labels.items can.far ≢ Out → IsMoving f2 can.far
+  pub still2 : (a : ℕ) → IsMoving f1 a → IsMoving f2 a
+  pub entered2 : holds (names_of f1.arena.blossoms) can.far ≡ true → IsBlossomEntered (state_of f1) f1.clock f2.queue can.far
+  pub others2 : (b : ℕ) → b ≢ can.far → moment_of f2.queue (OfBlossom b) ≡ moment_of f1.queue (OfBlossom b)
+  pub edges2 : f2.queue.edges ≡ f1.queue.edges
+  -- and its mate
+  pub rest3 : f3 ≡ record f2 { arena = record f2.arena { motions = f3.arena.motions }; queue = f3.queue; standing = f3.standing }
+  pub sound3 : IsSound f3
+  pub listed3 : AreListed f2.graph.vertices f3.standing.nodes f3.standing.seeds
+  pub there3 : label_at f2.labels.items mate ≢ Out → seed_at f3.standing.seeds mate ≡ Some seed
+  pub keeps3 : (a : ℕ) → a ≢ mate → seed_at f3.standing.seeds a ≡ seed_at f2.standing.seeds a
+  pub moves3 : label_at f2.labels.items mate ≢ Out → IsMoving f3 mate
+  pub still3 : (a : ℕ) → IsMoving f2 a → IsMoving f3 a
+  pub others3 : (b : ℕ) → b ≢ mate → moment_of f3.queue (OfBlossom b) ≡ moment_of f2.queue (OfBlossom b)
+  pub edges3 : f3.queue.edges ≡ f2.queue.edges
+  -- the edge's moment is gone, and the mate's vertices are noted
+  pub rest4 : f4 ≡ record f3 { queue = f4.queue }
+  pub removed : f4.queue ≡ with_moment f3.queue (OfEdge e) None
+  pub rest5 : k ≡ record f4 { scanned = k.scanned }
+  pub scanned : k.scanned.items ≡ members_of f4.arena.blossoms mate
+
+module _ {f f1 f2 f3 f4 k : Search} {e mate seed : ℕ} {can : CanGrow (state_of f) e} (x : IsGrowing f f1 f2 f3 f4 k e mate seed can) where
+  abbrev s : State
+  s = state_of f
+
+  abbrev far : ℕ
+  far = can.far
+
   abbrev t : State
-  t = grown (state_of f) e can.far mate
+  t = grown s e far mate
+
+  nested : IsNested f.graph.vertices f.arena.blossoms
+  nested = nested_of f x.sound.shape
+
+  -- what stays all the while
+  graph2 : f2.graph ≡ f.graph
+  graph2 = ap (λ (y : Search). y.graph) x.rest2 ∙ ap (λ (y : Search). y.graph) x.rest1
+
+  graph3 : f3.graph ≡ f.graph
+  graph3 = ap (λ (y : Search). y.graph) x.rest3 ∙ graph2
+
+  graph_same : k.graph ≡ f.graph
+  graph_same = ap (λ (y : Search). y.graph) x.rest5 ∙ ap (λ (y : Search). y.graph) x.rest4 ∙ graph3
+
+  clock1 : f1.clock ≡ f.clock
+  clock1 = ap (λ (y : Search). y.clock) x.rest1
+
+  clock_same : k.clock ≡ f.clock
+  clock_same = ap (λ (y : Search). y.clock) x.rest5 ∙ ap (λ (y : Search). y.clock) x.rest4 ∙ ap (λ (y : Search). y.clock) x.rest3 ∙ ap (λ (y : Search). y.clock) x.rest2 ∙ clock1
+
+  blossoms1 : f1.arena.blossoms ≡ f.arena.blossoms
+  blossoms1 = ap (λ (y : Search). y.arena.blossoms) x.rest1
+
+  blossoms4 : f4.arena.blossoms ≡ f.arena.blossoms
+  blossoms4 = ap (λ (y : Search). y.arena.blossoms) x.rest4 ∙ ap (λ (y : Search). y.arena.blossoms) x.rest3 ∙ ap (λ (y : Search). y.arena.blossoms) x.rest2 ∙ blossoms1
 
   pub grown_state : state_of k ≡ t
-  grown_state = ap state_of r5 ∙ ap state_of r4 ∙ ap state_of r3 ∙ ap state_of r2 ∙ state
+  grown_state = ap state_of x.rest5 ∙ ap state_of x.rest4 ∙ ap state_of x.rest3 ∙ ap state_of x.rest2 ∙ x.state
 
-  pub clock_same : k.clock ≡ f.clock
-  clock_same = cc
+  pub grown_scanned : k.scanned.items ≡ members_of f.arena.blossoms mate
+  grown_scanned = x.scanned ∙ ap (λ (bs : List Blossom). members_of bs mate) blossoms4
 
-  pub graph_same : k.graph ≡ f.graph
-  graph_same = cc
+  -- the mate's vertices are vertices
+  pub grown_vertices : (g : Multigraph) → g ≡ f.graph → All (λ v. is_vertex g.vertices v ≡ true) k.scanned.items
+  grown_vertices g same =
+      subst (λ vs. All (λ v. is_vertex g.vertices v ≡ true) vs) (sym grown_scanned)
+      (each_vertex g.vertices (members_of f.arena.blossoms mate) (λ v m.
+      ap (λ (d : Multigraph). is_vertex d.vertices v) same
+      ∙ member_vertex f.graph.vertices f.arena.blossoms mate v nested (outermost_parts f.graph.vertices f.arena.blossoms mate x.pair.outermost).0 m))
 
-  blossoms_same : f4.arena.blossoms ≡ f.arena.blossoms
-  blossoms_same = ap (λ (x : Search). x.arena.blossoms) r4 ∙ ap (λ (x : Search). x.arena.blossoms) r3 ∙ ap (λ (x : Search). x.arena.blossoms) r2 ∙ ap (λ (x : Search). x.arena.blossoms) r1
+  -- so many ends fewer are outside
+  pub grown_ends : (g : Multigraph) → g ≡ f.graph → outside_ends t + ends_around g k.scanned.items ≤ outside_ends s
+  grown_ends g same =
+      let ends : ends_around g k.scanned.items ≡ ends_around f.graph (members_of f.arena.blossoms mate) = ap (λ (d : Multigraph). ends_around d k.scanned.items) same
+      ∙ ap (ends_around f.graph) grown_scanned in
+      omega (arith, ends, grow_ends s x.sound.depth e mate nested x.sound.state can x.pair)
 
-  -- the mate is a node all the while
-  pub grown_node : is_node f4.graph.vertices f4.arena.blossoms mate ≡ true
-  grown_node =
-      let graph : f4.graph ≡ f.graph = cc in
-      let bs : f4.arena.blossoms ≡ f.arena.blossoms = blossoms_same in
-      ap (λ (g : Multigraph). is_node g.vertices f4.arena.blossoms mate) graph ∙ ap (λ (xs : List Blossom). is_node f.graph.vertices xs mate) bs
-      ∙ (outermost_parts f.graph.vertices f.arena.blossoms mate pair.outer).0
+  item : IsItem f3.queue (OfEdge e)
+  item = edge_item f3 e x.sound3.shape (subst (λ (g : Multigraph). IsEdgeNumber g e) (sym graph3) can.tight.edge)
 
-  pub grown_scanned : k.scanned.items ≡ members_of f4.arena.blossoms mate → k.scanned.items ≡ members_of f.arena.blossoms mate
-  grown_scanned scanned = let bs : f4.arena.blossoms ≡ f.arena.blossoms = blossoms_same in scanned ∙ ap (λ (xs : List Blossom). members_of xs mate) bs
+  before : f3.queue.edges ≡ f.queue.edges
+  before = x.edges3 ∙ x.edges2 ∙ ap (λ (y : Search). y.queue.edges) x.rest1
 
-  module _ (h3 : IsSound f3) (queued : IsQueued f) (queue4 : f4.queue ≡ with_moment f3.queue (OfEdge e) None) (edges2 : f2.queue.edges ≡ f1.queue.edges) (edges3 : f3.queue.edges ≡ f2.queue.edges) where
-    place : IsEdgeNumber f3.graph e
-    place = let same : f3.graph ≡ f.graph = cc in subst (λ (g : Multigraph). IsEdgeNumber g e) (sym same) can.tight.edge
+  removed : k.queue ≡ with_moment f3.queue (OfEdge e) None
+  removed = ap (λ (y : Search). y.queue) x.rest5 ∙ x.removed
 
-    item : IsItem f3.queue (OfEdge e)
-    item = edge_item f3 e h3.shape place
+  -- the edge had a moment
+  pub grown_count : IsQueued f → entry_count k.queue + 1 ≡ entry_count f.queue
+  grown_count queued = one_less f.queue f3.queue k.queue e item before removed _ ((queued.edges e can.tight.edge).to_out can.near far can.joins can.near_outer can.far_out)
 
-    before : f3.queue.edges ≡ f.queue.edges
-    before = edges3 ∙ edges2 ∙ ap (λ (s : Search). s.queue.edges) r1
+  -- it has none any more after the mate's edges are looked at
+  pub grown_taken : (g : Multigraph) (q : Moments) → g ≡ f.graph
+      → ((a : ℕ) → IsEdgeNumber g a → touches_any k.scanned.items (edge_of g a) ≡ false → moment_of q (OfEdge a) ≡ moment_of k.queue (OfEdge a)) → moment_of q (OfEdge e) ≡ None
+  grown_taken g q same others =
+      others e (subst (λ (d : Multigraph). IsEdgeNumber d e) (sym same) can.tight.edge)
+      (ap (λ (d : Multigraph). touches_any k.scanned.items (edge_of d e)) same ∙ ap (λ vs. touches_any vs (edge_of f.graph e)) grown_scanned
+      ∙ grown_missed s e mate can x.pair x.sound.shape.graph.graph nested x.sound.depth x.sound.state)
+      ∙ edge_gone f.queue f3.queue k.queue e item before removed
 
-    removed : k.queue ≡ with_moment f3.queue (OfEdge e) None
-    removed = ap (λ (s : Search). s.queue) r5 ∙ queue4
+  far_entered : holds (names_of f.arena.blossoms) far ≡ true → IsBlossomEntered t f.clock k.queue far
+  far_entered name is inner =
+      let now = x.entered2 (ap (λ bs. holds (names_of bs) far) blossoms1 ∙ name) (subst (λ (y : State). IsOutermost y far) (sym x.state) is)
+      (ap (λ (y : State). y.label far) x.state ∙ inner) in
+      blossoms_stay f.queue f3.queue k.queue e item before removed far ∙ x.others3 far x.pair.different ∙ now
+      ∙ ap (λ (c : ℤ). Some (c +ℤ (state_of f1).dual far)) clock1 ∙ ap (λ (y : State). Some (f.clock +ℤ y.dual far)) x.state
 
-    -- the edge had a moment
-    pub grown_count : entry_count k.queue + 1 ≡ entry_count f.queue
-    grown_count = one_less f.queue f3.queue k.queue e item before removed _ ((queued.edges e can.tight.edge).to_out can.near can.far can.joins can.near_outer can.far_out)
+  pub grown_queued : IsQueued f → IsQueuedBut k k.scanned.items
+  grown_queued queued =
+      subst (IsQueuedBut k) (sym grown_scanned)
+      (queued_but f k t (members_of f.arena.blossoms mate) queued grown_state clock_same graph_same
+      (grown_entered s e mate can x.pair x.sound.shape.graph.graph nested f.clock f.queue k.queue queued.edges (edges_stay f.queue f3.queue k.queue e item before removed))
+      (λ b name. ⊎_elim
+      (λ at. subst (IsBlossomEntered t f.clock k.queue) (sym at) (far_entered (subst (λ a. holds (names_of f.arena.blossoms) a ≡ true) at name)))
+      (λ off. grown_blossom s e mate can x.pair f.clock f.queue k.queue b off (queued.blossoms b name)
+      (λ off_mate. blossoms_stay f.queue f3.queue k.queue e item before removed b ∙ x.others3 b off_mate ∙ x.others2 b off ∙ ap (λ (y : Search). moment_of y.queue (OfBlossom b)) x.rest1))
+      (cases_eq b far))
+      (grown_tree s e mate can x.pair))
 
-    -- it has none any more after the mate's edges are looked at
-    pub grown_taken : (d : Multigraph) (q : Moments) → d ≡ f.graph → k.scanned.items ≡ members_of f4.arena.blossoms mate
-        → ((a : ℕ) → IsEdgeNumber d a → touches_any k.scanned.items (edge_of d a) ≡ false → moment_of q (OfEdge a) ≡ moment_of k.queue (OfEdge a)) → moment_of q (OfEdge e) ≡ None
-    grown_taken d q same scanned others =
-        others e (subst (λ (g : Multigraph). IsEdgeNumber g e) (sym same) can.tight.edge)
-        (ap (λ (g : Multigraph). touches_any k.scanned.items (edge_of g e)) same ∙ ap (λ vs. touches_any vs (edge_of f.graph e)) (grown_scanned scanned)
-        ∙ grown_missed (state_of f) e mate can pair h.shape.graph.graph (nested_of f h.shape) h.depth h.state)
-        ∙ edge_gone f.queue f3.queue k.queue e item before removed
+  now : IsSearchState t x.sound1.depth
+  now = subst (λ (y : State). IsSearchState y x.sound1.depth) x.state x.sound1.state
 
-    pub grown_queued : (entered : holds (names_of f1.arena.blossoms) can.far ≡ true → IsBlossomEntered (state_of f1) f1.clock f2.queue can.far)
-        → ((b : ℕ) → b ≢ can.far → moment_of f2.queue (OfBlossom b) ≡ moment_of f1.queue (OfBlossom b))
-        → ((b : ℕ) → b ≢ mate → moment_of f3.queue (OfBlossom b) ≡ moment_of f2.queue (OfBlossom b))
-        → k.scanned.items ≡ members_of f4.arena.blossoms mate → IsQueuedBut k k.scanned.items
-    grown_queued entered others2 others3 scanned =
-        let s : State = state_of f in
-        let same_clock : f1.clock ≡ f.clock = cc in
-        let same_names : f1.arena.blossoms ≡ f.arena.blossoms = cc in
-        subst (IsQueuedBut k) (sym (grown_scanned scanned))
-        (queued_but f k t (members_of s.blossoms mate) queued grown_state clock_same graph_same
-        (grown_entered s e mate can pair h.shape.graph.graph (nested_of f h.shape) f.clock f.queue k.queue queued.edges (edges_stay f.queue f3.queue k.queue e item before removed))
-        (λ b name. ⊎_elim
-        (λ at. subst (IsBlossomEntered t f.clock k.queue) (sym at) (at_far entered others3 same_clock same_names (subst (λ a. holds (names_of s.blossoms) a ≡ true) at name)))
-        (λ off. grown_blossom s e mate can pair f.clock f.queue k.queue b off (queued.blossoms b name)
-        (λ off_mate. blossoms_stay f.queue f3.queue k.queue e item before removed b ∙ others3 b off_mate ∙ others2 b off ∙ ap (λ (x : Search). moment_of x.queue (OfBlossom b)) r1))
-        (cases_eq b can.far))
-        (grown_tree s e mate can pair))
-      where
-        at_far : (holds (names_of f1.arena.blossoms) can.far ≡ true → IsBlossomEntered (state_of f1) f1.clock f2.queue can.far)
-            → ((b : ℕ) → b ≢ mate → moment_of f3.queue (OfBlossom b) ≡ moment_of f2.queue (OfBlossom b))
-            → f1.clock ≡ f.clock → f1.arena.blossoms ≡ f.arena.blossoms → holds (names_of f.arena.blossoms) can.far ≡ true → IsBlossomEntered t f.clock k.queue can.far
-        at_far entered others3 same_clock same_names name is inner =
-            let now = entered (ap (λ bs. holds (names_of bs) can.far) same_names ∙ name) (subst (λ (x : State). IsOutermost x can.far) (sym state) is) (ap (λ (x : State). x.label can.far) state ∙ inner) in
-            blossoms_stay f.queue f3.queue k.queue e item before removed can.far ∙ others3 can.far pair.different ∙ now
-            ∙ ap (λ (c : ℤ). Some (c +ℤ (state_of f1).dual can.far)) same_clock ∙ ap (λ (x : State). Some (f.clock +ℤ x.dual can.far)) state
+  -- the two are in the tree
+  far_in : label_at f1.labels.items far ≢ Out
+  far_in out = inner_not_out (sym (far_now s e mate can x.pair) ∙ sym (ap (λ (y : State). y.label far) x.state) ∙ out)
 
-  -- the two nodes that came into the tree are listed, with a vertex of its root
-  pub grown_standing : (h1 : IsSound f1) (seed : ℕ) → IsSeed (state_of f) can.near seed → IsStanding f → AreListed f2.graph.vertices f3.standing.items f3.seeds.items
-      → ((a : ℕ) → a ≢ can.far → seed_at f2.seeds.items a ≡ seed_at f1.seeds.items a) → ((a : ℕ) → a ≢ mate → seed_at f3.seeds.items a ≡ seed_at f2.seeds.items a)
-      → (label_at f1.labels.items can.far ≢ Out → seed_at f2.seeds.items can.far ≡ Some seed) → (label_at f2.labels.items mate ≢ Out → seed_at f3.seeds.items mate ≡ Some seed)
-      → (label_at f1.labels.items can.far ≢ Out → IsMoving f2 can.far) → ((a : ℕ) → IsMoving f1 a → IsMoving f2 a) → (label_at f2.labels.items mate ≢ Out → IsMoving f3 mate) → ((a : ℕ) → IsMoving f2 a → IsMoving f3 a) → IsStanding k
-  grown_standing h1 seed is_seed standing listed keeps2 keeps3 far_there mate_there far_moves still2 mate_moves still3 =
-      let graph : f2.graph ≡ f.graph = cc in
-      let list : k.standing ≡ f3.standing = cc in
-      let seeds : k.seeds ≡ f3.seeds = cc in
-      let first : f1.seeds ≡ f.seeds = cc in
-      let nested = nested_of f h.shape in
-      let now : IsSearchState t h1.depth = subst (λ (x : State). IsSearchState x h1.depth) state h1.state in
-      let labels : label_at f2.labels.items mate ≡ t.label mate = ap (λ (x : Search). label_at x.labels.items mate) r2 ∙ ap (λ (x : State). x.label mate) state in
-      let read : (a : ℕ) → seed_at k.seeds.items a ≡ seed_at f3.seeds.items a = λ a. ap (λ v. seed_at v.items a) seeds in
-      standing_after f k t grown_state graph_same
-      (subst (λ (g : Multigraph). AreListed g.vertices k.standing.items k.seeds.items) graph
-      (subst (λ v. AreListed f2.graph.vertices v.items k.seeds.items) (sym list) (subst (λ v. AreListed f2.graph.vertices f3.standing.items v.items) (sym seeds) listed)))
-      (λ a is labelled. ⊎_elim
-      (λ at. subst (HasSeed k.seeds.items t) (sym at) (
-        seed,
-        read can.far ∙ keeps3 can.far pair.different ∙ far_there (λ out. inner_not_out (sym (far_now (state_of f) e mate can pair) ∙ sym (ap (λ (x : State). x.label can.far) state) ∙ out)),
-        far_seed (state_of f) h.depth h1.depth e mate nested h.state can pair now seed is_seed,
-      ))
+  mate_in : label_at f2.labels.items mate ≢ Out
+  mate_in out = outer_not_out (sym (mate_now s e mate can x.pair) ∙ sym (ap (λ (y : Search). label_at y.labels.items mate) x.rest2 ∙ ap (λ (y : State). y.label mate) x.state) ∙ out)
+
+  abbrev Comes : ℕ → Type 0
+  Comes = ComesFrom s t (λ r. r) f.standing.seeds k.standing.seeds
+
+  read : (a : ℕ) → seed_at k.standing.seeds a ≡ seed_at f3.standing.seeds a
+  read a = ap (λ (y : Search). seed_at y.standing.seeds a) x.rest5 ∙ ap (λ (y : Search). seed_at y.standing.seeds a) x.rest4
+
+  -- they have the seed of the node that they hang under
+  hangs : (a : ℕ) → root_of t a ≡ root_of s can.near → seed_at k.standing.seeds a ≡ Some seed → Comes a
+  hangs a root has = record { from = can.near; outermost = can.near_is; in_tree = λ out. outer_not_out (sym can.near_outer ∙ out); root = root; seed = has ∙ sym x.kept }
+
+  comes : (a : ℕ) → IsOutermost t a → t.label a ≢ Out → Comes a
+  comes a is labelled = ⊎_elim
+      (λ at. subst Comes (sym at) (hangs far (far_root s x.sound.depth x.sound1.depth e mate nested x.sound.state can x.pair now)
+      (read far ∙ x.keeps3 far x.pair.different ∙ x.there2 far_in)))
       (λ off_far. ⊎_elim
-      (λ at. subst (HasSeed k.seeds.items t) (sym at) (
-        seed,
-        read mate ∙ mate_there (λ out. outer_not_out (sym (mate_now (state_of f) e mate can pair) ∙ sym labels ∙ out)),
-        mate_seed (state_of f) h.depth h1.depth e mate nested h.state can pair now seed is_seed,
-      ))
-      (λ off_mate.
-      let old = standing.trees a is (grown_trees (state_of f) e mate can pair a is labelled off_far off_mate) in (
-        old.0,
-        read a ∙ keeps3 a off_mate ∙ keeps2 a off_far ∙ ap (λ v. seed_at v.items a) first ∙ old.1,
-        other_seed (state_of f) h.depth h1.depth e mate nested h.state can pair now a old.0 is labelled off_far off_mate old.2,
-      ))
+      (λ at. subst Comes (sym at) (hangs mate (mate_root s x.sound.depth x.sound1.depth e mate nested x.sound.state can x.pair now) (read mate ∙ x.there3 mate_in)))
+      (λ off_mate. record {
+        from = a;
+        outermost = is;
+        in_tree = grown_trees s e mate can x.pair a is labelled off_far off_mate;
+        root = other_root s x.sound.depth x.sound1.depth e mate nested x.sound.state can x.pair now a is labelled off_far off_mate;
+        seed = read a ∙ x.keeps3 a off_mate ∙ x.keeps2 a off_far ∙ ap (λ (y : Search). seed_at y.standing.seeds a) x.rest1;
+      })
       (cases_eq a mate))
-      (cases_eq a can.far))
-      (λ a is. ap (λ (x : Search). label_at x.arena.motions a) r5 ∙ ap (λ (x : Search). label_at x.arena.motions a) r4
-      ∙ ⊎_elim
-      (λ at. subst (IsMoving f3) (sym at) (still3 can.far (far_moves (λ out. inner_not_out (sym (far_now (state_of f) e mate can pair) ∙ sym (ap (λ (x : State). x.label can.far) state) ∙ out)))))
+      (cases_eq a far)
+
+  -- each outermost node moves as its label says
+  moving : IsStanding f → (a : ℕ) → IsOutermost t a → IsMoving f3 a
+  moving standing a is = ⊎_elim
+      (λ at. subst (IsMoving f3) (sym at) (x.still3 far (x.moves2 far_in)))
       (λ off_far. ⊎_elim
-      (λ at. subst (IsMoving f3) (sym at) (mate_moves (λ out. outer_not_out (sym (mate_now (state_of f) e mate can pair) ∙ sym labels ∙ out))))
-      (λ off_mate.
-      let old : IsMoving f1 a = ap (λ (x : Search). label_at x.arena.motions a) r1 ∙ standing.moves a is ∙ sym (ap (λ (x : State). x.label a) state ∙ others_now (state_of f) e mate can pair a off_far off_mate) in
-      still3 a (still2 a old))
+      (λ at. subst (IsMoving f3) (sym at) (x.moves3 mate_in))
+      (λ off_mate. x.still3 a (x.still2 a (ap (λ (y : Search). label_at y.arena.motions a) x.rest1 ∙ standing.moves a is
+      ∙ sym (ap (λ (y : State). y.label a) x.state ∙ others_now s e mate can x.pair a off_far off_mate))))
       (cases_eq a mate))
-      (cases_eq a can.far)
-      ∙ ap (λ (x : Search). label_at x.labels.items a) r3 ∙ ap (λ (x : Search). label_at x.labels.items a) r2 ∙ ap (λ (x : State). x.label a) state)
+      (cases_eq a far)
+
+  pub grown_standing : IsStanding f → IsStanding k
+  grown_standing standing =
+      standing_after f k t (λ r. r) x.sound (record { graph = refl; vertex = λ v is root. refl; apart = λ r q r_is q_is one. one }) standing comes grown_state graph_same
+      (subst (λ (g : Multigraph). AreListed g.vertices k.standing.nodes k.standing.seeds) graph2
+      (subst (λ (y : Listing). AreListed f2.graph.vertices y.nodes y.seeds) (sym (ap (λ (y : Search). y.standing) x.rest5 ∙ ap (λ (y : Search). y.standing) x.rest4)) x.listed3))
+      (λ a is. ap (λ (y : Search). label_at y.arena.motions a) x.rest5 ∙ ap (λ (y : Search). label_at y.arena.motions a) x.rest4 ∙ moving standing a is
+      ∙ ap (λ (y : Search). label_at y.labels.items a) x.rest3 ∙ ap (λ (y : Search). label_at y.labels.items a) x.rest2 ∙ ap (λ (y : State). y.label a) x.state)

@@ -12,7 +12,8 @@ use Rattle.blossom_arena.specs.declared.label.Label.TheVariants.{Outer, Inner, O
 use Rattle.alt_forest.specs.State.{State, IsOutermost, IsTight, Joins, IsMate, next_node}
 use Rattle.alt_forest.specs.Searches.{put}
 use Rattle.alt_forest.proofs.Relabelled.{put_other, outer_not_out, inner_not_out}
-use Rattle.tree_steps.specs.Expanded.{labels_up, labels_down, parents_up, parents_down, end_of}
+use Rattle.tree_steps.specs.Expanded.{labels_up, labels_down, parents_up, parents_down}
+use Rattle.tree_steps.proofs.Elsewhere.{end_of}
 use Rattle.tree_steps.proofs.Gap.{FitBut}
 use Rattle.tree_steps.proofs.Grown.{rehung}
 use Rattle.alt_forest.proofs.Mates.{joins_turned}
@@ -28,7 +29,8 @@ pub record IsRung (s : State) (a edge b : ℕ) : Type 0 where
 abbrev pub IsLadder : State → List Link → ℕ → Type 0
 IsLadder s [] z = Unit {0}
 IsLadder s (a ∷ []) z = ⊥
-IsLadder s (a ∷ (b ∷ rest)) z = IsRung s a.node a.edge b.node × IsRung s b.node a.edge a.node × IsTight s b.edge × Joins s.graph s.blossoms b.edge b.node (next_node rest z) × IsLadder s rest z
+IsLadder s (a ∷ (b ∷ rest)) z = IsRung s a.node a.edge b.node × IsRung s b.node a.edge a.node × IsTight s b.edge × Joins s.graph s.blossoms b.edge b.node
+    (next_node rest z) × IsLadder s rest z
 
 -- the links are labelled out
 abbrev pub AllOut : (ℕ → Label) → List Link → Type 0
@@ -47,7 +49,19 @@ tight_as s l p e t = record { edge = t.edge; tight = t.tight }
 pair_as : (s : State) (l : ℕ → Label) (p : ℕ → Option ℕ) (a e b : ℕ) → IsRung s a e b → l a ≡ Out → IsPair (rehung s l p) a e b
 pair_as s l p a e b r out =
     let w = r.is_mate in
-    record { inner_is = r.is; mate = r.mate; is_mate = record { edge = w.edge; joins = w.joins; different = w.different; tight = w.tight; outer = w.outer; back = w.back }; out = out }
+    record {
+      inner_is = r.is;
+      mate = r.mate;
+      is_mate = record {
+        edge = w.edge;
+        joins = w.joins;
+        different = w.different;
+        tight = w.tight;
+        outermost = w.outermost;
+        back = w.back;
+      };
+      out = out;
+    }
 
 -- all inner nodes hang
 pub record IsHung (s t : State) (depth after : ℕ → ℕ) : Type 0 where
@@ -67,14 +81,21 @@ climb_up s z [] l p depth x g u up h ladder g_tight g_joins outs new u_tight u_j
 )
 climb_up s z (a ∷ []) l p depth x g u up h ladder g_tight g_joins outs new u_tight u_joins up_is up_outer low = absurd ladder
 climb_up s z (a ∷ (b ∷ rest)) l p depth x g u up h ladder g_tight g_joins outs new u_tight u_joins up_is up_outer low =
-    let first = step_up (rehung s l p) depth x h b.node a.edge a.node (pair_as s l p b.node a.edge a.node ladder.1 outs.1.0) (depth x - 2) g (tight_as s l p g g_tight) g_joins (omega (arith, low)) in
+    let first = step_up (rehung s l p) depth x h b.node a.edge a.node (pair_as s l p b.node a.edge a.node ladder.1 outs.1.0) (depth x - 2) g (tight_as s l p g g_tight)
+    g_joins (omega (arith, low)) in
     let now : ℕ → Label = put (put l a.node Outer) b.node Inner in
     let up_in : l up ≢ Out = λ e. outer_not_out (sym up_outer ∙ e) in
     let ranked : first.0 up ≡ depth up = first.1.keeps.ranks up up_in in
     let more = climb_up s z rest now (put p x (Some g)) first.0 b.node b.edge u up first.1.open_at ladder.4 ladder.2 ladder.3
     (still_out l a.node b.node Outer Inner rest (or_parts (eqb b.node a.node) (holds (nodes_of rest) a.node) new.0).1 new.1.0 outs.1.1) new.1.1
-    u_tight u_joins up_is (first.1.keeps.labels up up_in ∙ up_outer) (omega (arith, low, ranked, first.1.rank)) in
-    (more.0, record { fits = more.1.fits; keeps = keeps_all (rehung s l p) (rehung s now (put p x (Some g))) (rehung s (labels_up now rest) (parents_up (put p x (Some g)) b.node b.edge u rest)) depth first.0 more.0 first.1.keeps more.1.keeps })
+    u_tight u_joins up_is (first.1.keeps.labels up up_in ∙ up_outer) (omega (arith, low, ranked, first.1.rank)) in (
+      more.0,
+      record {
+        fits = more.1.fits;
+        keeps = keeps_all (rehung s l p) (rehung s now (put p x (Some g)))
+            (rehung s (labels_up now rest) (parents_up (put p x (Some g)) b.node b.edge u rest)) depth first.0 more.0 first.1.keeps more.1.keeps;
+      },
+    )
 
 pub climb_down : (s : State) (z : ℕ) (ls : List Link) (l : ℕ → Label) (p : ℕ → Option ℕ) (depth : ℕ → ℕ) (g up : ℕ) → IsOpenAt (rehung s l p) depth z → IsLadder s ls z
     → IsTight s g → Joins s.graph s.blossoms g (next_node ls z) up → AllOut l ls → AllNew (nodes_of ls) → IsOutermost s up → l up ≡ Outer → depth up + length ls < depth z
@@ -88,11 +109,19 @@ climb_down s z [] l p depth g up h ladder g_tight g_joins outs new up_is up_oute
 )
 climb_down s z (a ∷ []) l p depth g up h ladder g_tight g_joins outs new up_is up_outer low = absurd ladder
 climb_down s z (a ∷ (b ∷ rest)) l p depth g up h ladder g_tight g_joins outs new up_is up_outer low =
-    let first = step_down (rehung s l p) depth z h a.node a.edge b.node (pair_as s l p a.node a.edge b.node ladder.0 outs.0) (depth up + 1) g up (tight_as s l p g g_tight) g_joins up_is up_outer (omega arith) in
+    let first = step_down (rehung s l p) depth z h a.node a.edge b.node (pair_as s l p a.node a.edge b.node ladder.0 outs.0) (depth up + 1) g up (tight_as s l p g g_tight)
+    g_joins up_is up_outer (omega arith) in
     let now : ℕ → Label = put (put l b.node Outer) a.node Inner in
     let z_in : l z ≢ Out = λ e. inner_not_out (sym h.inner ∙ e) in
     let ranked : first.0 z ≡ depth z = first.1.keeps.ranks z z_in in
-    let more = climb_down s z rest now (put p a.node (Some g)) first.0 b.edge b.node first.1.open_at ladder.4 ladder.2 (joins_turned s.graph s.blossoms b.edge b.node (next_node rest z) ladder.3)
+    let more = climb_down s z rest now (put p a.node (Some g)) first.0 b.edge b.node first.1.open_at ladder.4 ladder.2
+    (joins_turned s.graph s.blossoms b.edge b.node (next_node rest z) ladder.3)
     (still_out l b.node a.node Outer Inner rest new.1.0 (or_parts (eqb b.node a.node) (holds (nodes_of rest) a.node) new.0).1 outs.1.1) new.1.1
-    ladder.1.is first.1.outer (omega (arith, low, ranked, first.1.rank)) in
-    (more.0, record { fits = more.1.fits; keeps = keeps_all (rehung s l p) (rehung s now (put p a.node (Some g))) (rehung s (labels_down now rest) (parents_down (put p a.node (Some g)) b.edge z rest)) depth first.0 more.0 first.1.keeps more.1.keeps })
+    ladder.1.is first.1.outer (omega (arith, low, ranked, first.1.rank)) in (
+      more.0,
+      record {
+        fits = more.1.fits;
+        keeps = keeps_all (rehung s l p) (rehung s now (put p a.node (Some g)))
+            (rehung s (labels_down now rest) (parents_down (put p a.node (Some g)) b.edge z rest)) depth first.0 more.0 first.1.keeps more.1.keeps;
+      },
+    )

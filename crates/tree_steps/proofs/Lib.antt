@@ -1,4 +1,4 @@
-pub mod Covers
+pub mod DualSums
 pub mod OneTree
 pub mod Gap
 pub mod Grown
@@ -30,11 +30,13 @@ pub mod CountedExpand
 pub mod ClosedBy
 pub mod Needs
 pub mod LooksLeft
+pub mod LookedEnds
 pub mod QueuedGrow
 pub mod NewlyOuter
 pub mod QueuedShrink
 pub mod QueuedExpand
 pub mod Awaited
+pub mod Handed
 pub mod GrownRoots
 pub mod ShrunkRoots
 pub mod ExpandedRoots

@@ -11,13 +11,12 @@ use Rattle.alt_forest.proofs.Relabelled.{outer_not_inner, some_not_none}
 use Rattle.tree_steps.specs.Circuits.{before, circuit_of}
 use Rattle.alt_forest.proofs.Mates.{partner_unique}
 use Rattle.alt_forest.specs.declared.hop.Hop.{Hop}
-use Rattle.alt_forest.specs.Ways.{AreHops, links_up}
 use Rattle.tree_steps.specs.Shrinkable.{IsShrinkable}
 use Rattle.alt_forest.specs.Events.{CanShrink}
 use Rattle.tree_steps.proofs.Ends.{ends_of}
 use Rattle.tree_steps.proofs.Ways.{circuit_shrinks}
 use Rattle.std.proofs.lemmas.Option.{same_Some}
-use Rattle.alt_forest.proofs.Hops.{hop_above, up_to_inner, up_to_outer}
+use Rattle.alt_forest.proofs.Hops.{AreHops, links_up, hop_above, up_to_inner, up_to_outer}
 
 -- nodes one above the other
 abbrev pub IsTrace : State → ℕ → List ℕ → Type 0
@@ -57,7 +56,13 @@ pub record FoundInner (s : State) (xs : List ℕ) (base : ℕ) : Type 0 where
   pub passed : holds (before xs base) under ≡ true
 
 at_start : (s : State) (depth : ℕ → ℕ) (x : ℕ) (xs : List ℕ) (base : ℕ) → IsOutermost s x → s.label x ≡ Outer → base ≡ x → FoundOuter s depth x xs base
-at_start s depth x xs base is outer here = record { hops = []; way = sym here; outer = ap s.label here ∙ outer; is = subst (IsOutermost s) (sym here) is; passed = λ c r. absurd (both_ways false refl r) }
+at_start s depth x xs base is outer here = record {
+  hops = [];
+  way = sym here;
+  outer = ap s.label here ∙ outer;
+  is = subst (IsOutermost s) (sym here) is;
+  passed = λ c r. absurd (both_ways false refl r);
+}
 
 pub found : (s : State) (depth : ℕ → ℕ) (x : ℕ) (xs : List ℕ) (base : ℕ) → IsSearchState s depth → IsTrace s x xs → IsOutermost s x → s.label x ≡ Outer → holds xs base ≡ true
     → FoundOuter s depth x xs base ⊎ FoundInner s xs base
@@ -103,7 +108,8 @@ found s depth x (y ∷ (z ∷ zs)) base st trace is outer there =
           passed = λ c in_it. ⊎_elim
               (λ here. before_goes y base c (z ∷ zs) y_not (or_left (eqb y c) (holds (before (z ∷ zs) base) c) (eq-eqb y c (trace.0 ∙ eqb-true x c here))))
               (λ more. ⊎_elim
-              (λ here. before_goes y base c (z ∷ zs) y_not (or_right (eqb y c) (holds (before (z ∷ zs) base) c) (before_goes z base c zs z_not (or_left (eqb z c) (holds (before zs base) c) (eq-eqb z c (z_is ∙ eqb-true hop.inner c here))))))
+              (λ here. before_goes y base c (z ∷ zs) y_not (or_right (eqb y c) (holds (before (z ∷ zs) base) c)
+              (before_goes z base c zs z_not (or_left (eqb z c) (holds (before zs base) c) (eq-eqb z c (z_is ∙ eqb-true hop.inner c here))))))
               (λ farther. goes c (r.passed c farther))
               (or_cases (eqb hop.inner c) (in_ring (links_up hop.outer r.hops) c) more))
               (or_cases (eqb x c) (eqb hop.inner c || in_ring (links_up hop.outer r.hops) c) in_it);
@@ -173,5 +179,6 @@ meeting s depth a b e base st a_is b_is a_outer b_outer tight joins ne meets =
     (found s depth a (path_of s a) base st ta a_is a_outer f.on_first)
 
 -- from the edge of a shrink, and where the paths of its two nodes meet
-pub meets_from : (s : State) (depth : ℕ → ℕ) (e a b base : ℕ) → IsSearchState s depth → (c : CanShrink s e) → a ≡ node_u s.graph s.blossoms e → b ≡ node_v s.graph s.blossoms e → first_common (path_of s a) (path_of s b) ≡ Some base → AreMeeting s depth a b e base
+pub meets_from : (s : State) (depth : ℕ → ℕ) (e a b base : ℕ) → IsSearchState s depth → (c : CanShrink s e) → a ≡ node_u s.graph s.blossoms e → b ≡ node_v s.graph s.blossoms e
+    → first_common (path_of s a) (path_of s b) ≡ Some base → AreMeeting s depth a b e base
 meets_from s depth e a b base st c u v meets = let p = ends_of s e a b c u v in meeting s depth a b e base st p.0.a_is p.0.b_is p.0.a_outer p.0.b_outer c.tight p.1 p.0.different meets

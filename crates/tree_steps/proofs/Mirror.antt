@@ -17,18 +17,21 @@ pub record IsTurned (g : Multigraph) (bs : List Blossom) (edge : ℕ) (ls rest :
   pub last : IsEdgeNumber g (last_edge edge ls)
   pub joins : Joins g bs (last_edge edge ls) z (next_node (mirror edge ls rest) z)
 
-pub mirror_chain : (g : Multigraph) (bs : List Blossom) (edge : ℕ) (ls rest : List Link) (z : ℕ) → IsEdgeNumber g edge → Joins g bs edge (next_node rest z) (next_node ls z) → IsChainTo g bs ls z → IsChainTo g bs rest z → IsTurned g bs edge ls rest z
+pub mirror_chain : (g : Multigraph) (bs : List Blossom) (edge : ℕ) (ls rest : List Link) (z : ℕ) → IsEdgeNumber g edge → Joins g bs edge (next_node rest z) (next_node ls z)
+    → IsChainTo g bs ls z → IsChainTo g bs rest z → IsTurned g bs edge ls rest z
 mirror_chain g bs edge [] rest z is joins chain back = record { chain = back; last = is; joins = joins_turned g bs edge (next_node rest z) z joins }
 mirror_chain g bs edge (l ∷ ls) rest z is joins chain back =
     let r = mirror_chain g bs l.edge ls (record { node = l.node; edge = edge } ∷ rest) z chain.0 chain.1 chain.2 (is, joins_turned g bs edge (next_node rest z) l.node joins, back) in
     record { chain = r.chain; last = r.last; joins = r.joins }
 
 -- what holds of all nodes, and of all edges
-pub mirror_nodes : (P : ℕ → Type 0) (edge : ℕ) (ls rest : List Link) → AllByRecursion (λ (l : Link). P l.node) ls → AllByRecursion (λ (l : Link). P l.node) rest → AllByRecursion (λ (l : Link). P l.node) (mirror edge ls rest)
+pub mirror_nodes : (P : ℕ → Type 0) (edge : ℕ) (ls rest : List Link) → AllByRecursion (λ (l : Link). P l.node) ls → AllByRecursion (λ (l : Link). P l.node) rest
+    → AllByRecursion (λ (l : Link). P l.node) (mirror edge ls rest)
 mirror_nodes P edge [] rest h k = k
 mirror_nodes P edge (l ∷ ls) rest h k = mirror_nodes P l.edge ls (record { node = l.node; edge = edge } ∷ rest) h.1 (h.0, k)
 
-pub mirror_edges : (P : ℕ → Type 0) (edge : ℕ) (ls rest : List Link) → P edge → AllByRecursion (λ (l : Link). P l.edge) ls → AllByRecursion (λ (l : Link). P l.edge) rest → AllByRecursion (λ (l : Link). P l.edge) (mirror edge ls rest) × P (last_edge edge ls)
+pub mirror_edges : (P : ℕ → Type 0) (edge : ℕ) (ls rest : List Link) → P edge → AllByRecursion (λ (l : Link). P l.edge) ls → AllByRecursion (λ (l : Link). P l.edge) rest
+    → AllByRecursion (λ (l : Link). P l.edge) (mirror edge ls rest) × P (last_edge edge ls)
 mirror_edges P edge [] rest p h k = (k, p)
 mirror_edges P edge (l ∷ ls) rest p h k = mirror_edges P l.edge ls (record { node = l.node; edge = edge } ∷ rest) h.0 h.1 (p, k)
 
@@ -47,7 +50,8 @@ mirror_has edge (l ∷ ls) rest c = mirror_has l.edge ls (record { node = l.node
     turn false false r = refl
 
 -- nodes of two lists with none in common
-pub mirror_new : (edge : ℕ) (ls rest : List Link) → AllNew (nodes_of ls) → AllNew (nodes_of rest) → ((c : ℕ) → in_ring ls c ≡ true → in_ring rest c ≡ false) → AllNew (nodes_of (mirror edge ls rest))
+pub mirror_new : (edge : ℕ) (ls rest : List Link) → AllNew (nodes_of ls) → AllNew (nodes_of rest) → ((c : ℕ) → in_ring ls c ≡ true → in_ring rest c ≡ false)
+    → AllNew (nodes_of (mirror edge ls rest))
 mirror_new edge [] rest h k apart = k
 mirror_new edge (l ∷ ls) rest h k apart =
     mirror_new l.edge ls (record { node = l.node; edge = edge } ∷ rest) h.1 (apart l.node (or_left (eqb l.node l.node) (in_ring ls l.node) (eq-eqb l.node l.node refl)), k)

@@ -38,10 +38,12 @@ of_newly s (l ∷ ring) v m = ⊎_elim
     (λ more. let r = of_newly s ring v more in record { node = r.node; within = later_in l.node (nodes_of ring) r.node r.within; low = r.low; has = r.has })
     (or_cases (holds (unless_outer s l.node) v) (holds (newly_outer s ring) v) (sym (holds-append (unless_outer s l.node) (newly_outer s ring) v) ∙ m))
 
-pub in_newly : (s : State) (ring : List Link) (a v : ℕ) → in_ring ring a ≡ true → is_label (s.label a) Outer ≡ false → holds (members_of s.blossoms a) v ≡ true → holds (newly_outer s ring) v ≡ true
+pub in_newly : (s : State) (ring : List Link) (a v : ℕ) → in_ring ring a ≡ true → is_label (s.label a) Outer ≡ false → holds (members_of s.blossoms a) v ≡ true
+    → holds (newly_outer s ring) v ≡ true
 in_newly s [] a v r low m = absurd (both_ways false refl r)
 in_newly s (l ∷ ring) a v r low m = holds-append (unless_outer s l.node) (newly_outer s ring) v ∙ ⊎_elim
-    (λ e. or_left (holds (unless_outer s l.node) v) (holds (newly_outer s ring) v) (ap (λ x. holds (unless_outer s x) v) (eqb-true l.node a e) ∙ ap (λ ms. holds ms v) (unless_here s a low) ∙ m))
+    (λ e. or_left (holds (unless_outer s l.node) v) (holds (newly_outer s ring) v) (ap (λ x. holds (unless_outer s x) v) (eqb-true l.node a e)
+    ∙ ap (λ ms. holds ms v) (unless_here s a low) ∙ m))
     (λ t. or_right (holds (unless_outer s l.node) v) (holds (newly_outer s ring) v) (in_newly s ring a v t low m))
     (or_cases (eqb l.node a) (in_ring ring a) r)
 
@@ -52,7 +54,8 @@ unless_new s a h is = elim (is_label (s.label a) Outer) as (λ t. AllNew (cond t
 ]
 
 -- they are different
-newly_new_of : (s : State) (ring : List Link) → IsNested s.graph.vertices s.blossoms → AllNew (nodes_of ring) → ((a : ℕ) → in_ring ring a ≡ true → is_outermost s.graph.vertices s.blossoms a ≡ true) → AllNew (newly_outer s ring)
+newly_new_of : (s : State) (ring : List Link) → IsNested s.graph.vertices s.blossoms → AllNew (nodes_of ring)
+    → ((a : ℕ) → in_ring ring a ≡ true → is_outermost s.graph.vertices s.blossoms a ≡ true) → AllNew (newly_outer s ring)
 newly_new_of s [] h d each = tt
 newly_new_of s (l ∷ ring) h d each =
     let here : is_outermost s.graph.vertices s.blossoms l.node ≡ true = each l.node (first_in l.node (nodes_of ring)) in
@@ -80,14 +83,20 @@ module _ (s : State) (ring : List Link) (h : IsNested s.graph.vertices s.blossom
       both_ways (is_label (s.label r.node) Outer) r.low (ap (λ a. is_label (s.label a) Outer) (sym at) ∙ ap (λ l. is_label l Outer) outer))
 
   pub newly_vertex : (v : ℕ) → holds (newly_outer s ring) v ≡ true → is_vertex s.graph.vertices v ≡ true
-  newly_vertex v m = let r = of_newly s ring v m in member_vertex s.graph.vertices s.blossoms r.node v h (outermost_parts s.graph.vertices s.blossoms r.node (outer_in r.node r.within)).0 r.has
+  newly_vertex v m = let r = of_newly s ring v m in member_vertex s.graph.vertices s.blossoms r.node v h
+      (outermost_parts s.graph.vertices s.blossoms r.node (outer_in r.node r.within)).0 r.has
 
   -- so there are no more of them than vertices
   pub newly_few : length (newly_outer s ring) ≤ s.graph.vertices
-  newly_few = omega (arith, length-within (newly_outer s ring) (vertices s.graph.vertices) newly_new (λ v m. holds-vertices s.graph.vertices v ∙ newly_vertex v m), length-vertices s.graph.vertices)
+  newly_few = omega (
+    arith,
+    length-within (newly_outer s ring) (vertices s.graph.vertices) newly_new (λ v m. holds-vertices s.graph.vertices v ∙ newly_vertex v m),
+    length-vertices s.graph.vertices,
+  )
 
 -- the first nodes have room besides what came before them
-pub newly_at : (s : State) (ring : List Link) (place : ℕ) (l : Link) → place < length ring → get_or ring place l ≡ l → length (unless_outer s l.node) ≤ length (newly_outer s (drop place ring))
+pub newly_at : (s : State) (ring : List Link) (place : ℕ) (l : Link) → place < length ring → get_or ring place l ≡ l
+    → length (unless_outer s l.node) ≤ length (newly_outer s (drop place ring))
 newly_at s ring place l b is =
     let split : drop place ring ≡ l ∷ drop (suc place) ring = drop-cons ring place l b ∙ ap (λ k. k ∷ drop (suc place) ring) is in
     let sizes : length (newly_outer s (drop place ring)) ≡ length (unless_outer s l.node) + length (newly_outer s (drop (suc place) ring)) =

@@ -48,9 +48,9 @@ module _ (s : State) (depth : ℕ → ℕ) (nested : IsNested s.graph.vertices s
           number = subst (IsEdgeNumber s.graph) same u.is_edge;
           joins = subst (λ f. Joins s.graph s.blossoms f a p.0) same u.joins;
           different = deeper_differs depth a p.0 u.falls;
-          outermost = u.outer;
+          outermost = u.outermost;
           in_tree = u.in_tree;
-          root = root_up s depth nested st a p.0 is u.outer u.up;
+          root = root_up s depth nested st a p.0 is u.outermost u.up;
         },
       ))
       (up_or_root s depth nested st a is in_it)
@@ -73,7 +73,7 @@ module _ (s : State) (depth : ℕ → ℕ) (nested : IsNested s.graph.vertices s
       let u = p.1 in
       ⊎_elim
       (λ here. ap (root_of s) (sym (eqb-true a x here)))
-      (λ later. along k p.0 (omega (arith, u.falls, low)) u.outer u.in_tree x later ∙ sym (root_up s depth nested st a p.0 is u.outer u.up))
+      (λ later. along k p.0 (omega (arith, u.falls, low)) u.outermost u.in_tree x later ∙ sym (root_up s depth nested st a p.0 is u.outermost u.up))
       (or_cases (eqb a x) (holds (path_of s p.0) x) (sym (ap (λ xs. holds xs x) (path_up s depth nested st a p.0 is u.up)) ∙ on)))
       (up_or_root s depth nested st a is in_it)
 
@@ -86,12 +86,15 @@ links_held s [] base c r = absurd (both_ways false refl r)
 links_held s (x ∷ xs) base c r =
     elim (eqb x base) as (λ t. in_ring (links_above s (cond t [] (x ∷ before xs base))) c ≡ true → holds (x ∷ xs) c ≡ true) [
       | true ↦ λ q. absurd (both_ways false refl q)
-      | false ↦ λ q. ⊎_elim (λ here. or_left (eqb x c) (holds xs c) here) (λ later. or_right (eqb x c) (holds xs c) (links_held s xs base c later)) (or_cases (eqb x c) (in_ring (links_above s (before xs base)) c) q)
+      | false ↦ λ q. ⊎_elim (λ here. or_left (eqb x c) (holds xs c) here) (λ later. or_right (eqb x c) (holds xs c) (links_held s xs base c later))
+          (or_cases (eqb x c) (in_ring (links_above s (before xs base)) c) q)
     ] r
 
 -- a circuit of two ways up from nodes of one tree lies in that tree
-pub circuit_root : (s : State) (depth : ℕ → ℕ) (a b base e : ℕ) → IsNested s.graph.vertices s.blossoms → IsSearchState s depth → IsOutermost s a → s.label a ≢ Out → IsOutermost s b → s.label b ≢ Out → root_of s a ≡ root_of s b
-    → holds (path_of s a) base ≡ true → (c : ℕ) → in_ring (circuit_of base e (links_above s (before (path_of s a) base)) (links_above s (before (path_of s b) base))) c ≡ true → root_of s c ≡ root_of s a
+pub circuit_root : (s : State) (depth : ℕ → ℕ) (a b base e : ℕ) → IsNested s.graph.vertices s.blossoms → IsSearchState s depth → IsOutermost s a → s.label a ≢ Out → IsOutermost s b
+    → s.label b ≢ Out → root_of s a ≡ root_of s b
+    → holds (path_of s a) base ≡ true → (c : ℕ) → in_ring (circuit_of base e (links_above s (before (path_of s a) base)) (links_above s (before (path_of s b) base))) c ≡ true
+    → root_of s c ≡ root_of s a
 circuit_root s depth a b base e nested st a_is a_in b_is b_in one there c on =
     let ls : List Link = links_above s (before (path_of s a) base) in
     let ks : List Link = links_above s (before (path_of s b) base) in

@@ -69,19 +69,23 @@ outermost_opened (b ∷ older) a v e ne =
     ∙ ap (λ bs. outermost bs v) (sym (older_later b older a s)))
 
 -- a vertex whose node before lay on its circuit is in the blossom
-pub outermost_by_ring : (n : ℕ) (bs : List Blossom) (a v : ℕ) → IsNested n bs → is_vertex n v ≡ true → is_child bs a ≡ false → in_ring (ring_of bs a) (outermost (older_than bs a) v) ≡ true → outermost bs v ≡ a
+pub outermost_by_ring : (n : ℕ) (bs : List Blossom) (a v : ℕ) → IsNested n bs → is_vertex n v ≡ true → is_child bs a ≡ false
+    → in_ring (ring_of bs a) (outermost (older_than bs a) v) ≡ true → outermost bs v ≡ a
 outermost_by_ring n [] a v h iv out r = absurd (both_ways false refl r)
 outermost_by_ring n (b ∷ older) a v h iv out r =
     let parts = or_parts (in_ring b.ring a) (is_child older a) out in
     by_test (eqb b.node a)
-    (λ s. let there : in_ring b.ring (outermost older v) ≡ true = sym (ap (λ bs. in_ring b.ring (outermost bs v)) (older_here b older a s)) ∙ sym (ap (λ ls. in_ring ls (outermost (older_than (b ∷ older) a) v)) (ring_here b older a s)) ∙ r in
+    (λ s. let there : in_ring b.ring (outermost older v) ≡ true = sym (ap (λ bs. in_ring b.ring (outermost bs v)) (older_here b older a s))
+    ∙ sym (ap (λ ls. in_ring ls (outermost (older_than (b ∷ older) a) v)) (ring_here b older a s)) ∙ r in
     ap (λ q. cond q b.node (outermost older v)) (member_by_ring n older b v h iv ∙ there) ∙ eqb-true b.node a s)
-    (λ s. let there : in_ring (ring_of older a) (outermost (older_than older a) v) ≡ true = sym (ap (λ bs. in_ring (ring_of older a) (outermost bs v)) (older_later b older a s)) ∙ sym (ap (λ ls. in_ring ls (outermost (older_than (b ∷ older) a) v)) (ring_later b older a s)) ∙ r in
+    (λ s. let there : in_ring (ring_of older a) (outermost (older_than older a) v) ≡ true = sym (ap (λ bs. in_ring (ring_of older a) (outermost bs v)) (older_later b older a s))
+    ∙ sym (ap (λ ls. in_ring ls (outermost (older_than (b ∷ older) a) v)) (ring_later b older a s)) ∙ r in
     let rest : outermost older v ≡ a = outermost_by_ring n older a v h.1 iv parts.1 there in
     ap (λ q. cond q b.node (outermost older v)) (member_by_ring n older b v h iv ∙ ap (in_ring b.ring) rest ∙ parts.0) ∙ rest)
 
 -- an end that came into a child of the blossom's circuit is in that child
-end_opened : (n : ℕ) (bs : List Blossom) (a v x : ℕ) → IsNested n bs → n < a → is_child bs a ≡ false → is_vertex n v ≡ true → in_ring (ring_of bs a) x ≡ true → outermost (older_than bs a) v ≡ x → outermost (without bs a) v ≡ x
+end_opened : (n : ℕ) (bs : List Blossom) (a v x : ℕ) → IsNested n bs → n < a → is_child bs a ≡ false → is_vertex n v ≡ true → in_ring (ring_of bs a) x ≡ true
+    → outermost (older_than bs a) v ≡ x → outermost (without bs a) v ≡ x
 end_opened n bs a v x h above out iv r e =
     let range = vertex_range n v iv in
     outermost_opened bs a v (outermost_by_ring n bs a v h iv out (ap (in_ring (ring_of bs a)) e ∙ r)) (λ q. absurd (omega (arith, q, range.1, above))) ∙ e
@@ -131,7 +135,8 @@ child_opened : (bs : List Blossom) (a c : ℕ) → is_child bs c ≡ true → (i
 child_opened [] a c e = absurd (both_ways false refl e)
 child_opened (b ∷ older) a c e =
     by_test (eqb b.node a)
-    (λ s. ⊎_elim (λ r. inr (ap (λ ls. in_ring ls c) (ring_here b older a s) ∙ r)) (λ r. inl (taken_here (λ bs. is_child bs c) b older a s ∙ r)) (or_cases (in_ring b.ring c) (is_child older c) e))
+    (λ s. ⊎_elim (λ r. inr (ap (λ ls. in_ring ls c) (ring_here b older a s) ∙ r)) (λ r. inl (taken_here (λ bs. is_child bs c) b older a s ∙ r))
+    (or_cases (in_ring b.ring c) (is_child older c) e))
     (λ s. ⊎_elim
     (λ r. inl (taken_later (λ bs. is_child bs c) b older a s ∙ or_left (in_ring b.ring c) (is_child (without older a) c) r))
     (λ r. ⊎_elim
@@ -160,7 +165,8 @@ gone n bs a h above = ap (λ t. t || holds (names_of (without bs a)) a) low ∙ 
     no_name [] h = refl
     no_name (b ∷ older) h =
         by_test (eqb b.node a)
-        (λ s. taken_here (λ bs. holds (names_of bs) a) b older a s ∙ ap (holds (names_of older)) (sym (eqb-true b.node a s)) ∙ (or_parts (is_vertex n b.node) (holds (names_of older) b.node) h.0.fresh).1)
+        (λ s. taken_here (λ bs. holds (names_of bs) a) b older a s ∙ ap (holds (names_of older)) (sym (eqb-true b.node a s))
+        ∙ (or_parts (is_vertex n b.node) (holds (names_of older) b.node) h.0.fresh).1)
         (λ s. taken_later (λ bs. holds (names_of bs) a) b older a s ∙ ap (λ t. t || holds (names_of (without older a)) a) s ∙ no_name older h.1)
 
 -- the circuits of the other blossoms are rings as before
@@ -194,7 +200,8 @@ rings_without g (b ∷ older) a low out rings =
 pub ring_chain : (g : Multigraph) (bs : List Blossom) (a : ℕ) → HasRings g bs → IsChainTo g (older_than bs a) (ring_of bs a) (next_node (ring_of bs a) 0)
 ring_chain g [] a h = tt
 ring_chain g (b ∷ older) a h =
-    elim (eqb b.node a) as (λ q. IsChainTo g (cond q older (older_than older a)) (cond q b.ring (ring_of older a)) (next_node (cond q b.ring (ring_of older a)) 0)) [ true ↦ h.0 | false ↦ ring_chain g older a h.1 ]
+    elim (eqb b.node a) as (λ q. IsChainTo g (cond q older (older_than older a)) (cond q b.ring (ring_of older a)) (next_node (cond q b.ring (ring_of older a)) 0))
+    [ true ↦ h.0 | false ↦ ring_chain g older a h.1 ]
 
 pub ring_each_link : (P : Link → Type 0) (bs : List Blossom) (a : ℕ) → AllByRecursion (λ (b : Blossom). AllByRecursion P b.ring) bs → AllByRecursion P (ring_of bs a)
 ring_each_link P [] a h = tt

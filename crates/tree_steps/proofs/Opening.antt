@@ -1,5 +1,6 @@
 -- An inner blossom of dual 0 is opened at the node that holds the end of its mate.
-use Rattle.std.proofs.Common.{◌≡◌, ◌≢◌, ◌⊎◌, ℕ, ◌+◌, ◌<◌, ◌≤◌, ◌%◌, true, false, eqb, List, [], ◌∷◌, ◌++◌, length, take, drop, Option, Some, refl, sym, ap, ◌∙◌, subst, arith, append_assoc, length-append, ⊎_elim, inl, inr}
+use Rattle.std.proofs.Common.{◌≡◌, ◌≢◌, ◌⊎◌, ℕ, ◌+◌, ◌<◌, ◌≤◌, ◌%◌, true, false, eqb, List, [], ◌∷◌, ◌++◌, length, take, drop, Option, Some, refl, sym, ap, ◌∙◌, subst, arith, append_assoc}
+use Rattle.std.proofs.Common.{length-append, ⊎_elim, inl, inr}
 use Rattle.std.specs.List.{AllByRecursion}
 use Rattle.std.proofs.lemmas.List.{take_at, drop_all, take-append-drop, length-take-le}
 use Rattle.std.proofs.lemmas.Bool.{or_parts, both_ways, eqb-true, eqb-false, false_from_ne_true}
@@ -16,7 +17,7 @@ use Rattle.alt_forest.specs.Trees.{node_limit, up_edge}
 use Rattle.alt_forest.specs.Events.{CanExpand}
 use Rattle.alt_forest.proofs.Relabelled.{put_here, put_other, outer_not_inner}
 use Rattle.tree_steps.specs.Circuits.{before}
-use Rattle.tree_steps.specs.Expanded.{child_at, mated, labelled_out, opened, labels_up, labels_down, parents_up, parents_down, end_of, hung_up, hung_down, IsRound, IsExpanded}
+use Rattle.tree_steps.specs.Expanded.{child_at, mated, labelled_out, opened, labels_up, labels_down, parents_up, parents_down, hung_up, hung_down, IsRound, IsExpanded}
 use Rattle.tree_steps.proofs.Grown.{rehung}
 use Rattle.tree_steps.proofs.Opened.{joins_child, ring_chain, ring_each_link}
 use Rattle.tree_steps.proofs.Rungs.{out_other, mated_other, rung_at}
@@ -26,7 +27,7 @@ use Rattle.blossom_arena.proofs.LinkLists.{in_ring-append, each_link}
 use Rattle.blossom_arena.proofs.Older.{HasRing, has_ring}
 use Rattle.alt_forest.proofs.Rounds.{GoesRound}
 use Rattle.tree_steps.proofs.Holders.{child_in}
-use Rattle.tree_steps.proofs.Elsewhere.{labels_up_other, labels_down_other, parents_up_other, parents_down_other, end_of_last, next_dropped}
+use Rattle.tree_steps.proofs.Elsewhere.{end_of, labels_up_other, labels_down_other, parents_up_other, parents_down_other, end_of_last, next_dropped}
 
 -- The state after an expand is the state of a search.
 pub record Expands (s t : State) (a : ℕ) : Type 0 where
@@ -101,7 +102,7 @@ module _ (s : State) (depth : ℕ → ℕ) (a : ℕ) (graph : IsGraph s.graph) (
           nested = nested;
           state = st;
           blossom = can.blossom;
-          outer = can.outermost;
+          outermost = can.outermost;
           inner = can.inner;
           empty = can.empty;
           mate = hangs.mate;
@@ -158,7 +159,8 @@ module _ (s : State) (depth : ℕ → ℕ) (a : ℕ) (graph : IsGraph s.graph) (
       entry_here = ap (in_ring ring) entry_is ∙ entry_in
 
       entry_joins : Joins s.graph (without bs a) hangs.edge entry hangs.up
-      entry_joins = subst (λ x. Joins s.graph (without bs a) hangs.edge x hangs.up) (sym entry_is) (joins_child s.graph bs a hangs.edge hangs.up graph above hangs.is_edge up_apart hangs.joins)
+      entry_joins = subst (λ x. Joins s.graph (without bs a) hangs.edge x hangs.up) (sym entry_is)
+          (joins_child s.graph bs a hangs.edge hangs.up graph above hangs.is_edge up_apart hangs.joins)
 
       -- behind all links where the entry is the base
       at_end : in_ring round entry ≡ false → (place ≡ length round) × (entry ≡ base)
@@ -189,7 +191,8 @@ module _ (s : State) (depth : ℕ → ℕ) (a : ℕ) (graph : IsGraph s.graph) (
           first_is : next_node (drop place round) base ≡ entry
           first_is = by_test (in_ring round entry)
               (λ i. let p = parted_at round entry place i place_is in
-              ap (λ (ls : List Link). next_node (drop place ls) base) p.split ∙ ap (λ n. next_node (drop n (p.front ++ (p.link ∷ p.behind))) base) (sym p.place) ∙ next_dropped p.front p.link p.behind base ∙ p.node)
+              ap (λ (ls : List Link). next_node (drop place ls) base) p.split ∙ ap (λ n. next_node (drop n (p.front ++ (p.link ∷ p.behind))) base) (sym p.place)
+              ∙ next_dropped p.front p.link p.behind base ∙ p.node)
               (λ o. ap (λ (ls : List Link). next_node ls base) (drop_all place round (omega (arith, (at_end o).0))) ∙ sym (at_end o).1)
 
       pub goes_up : place % 2 ≡ 1 → Expands s (hung_up t base edge hangs.edge (take (place + 1) round)) a
@@ -222,7 +225,8 @@ module _ (s : State) (depth : ℕ → ℕ) (a : ℕ) (graph : IsGraph s.graph) (
               (λ o. absurd (omega (arith, (at_end o).0, odd, round_even)))
 
       -- either way
-      pub goes_even_way : (u : State) → (place % 2 ≡ 0 → u ≡ hung_down t base hangs.edge (drop place round)) → (place % 2 ≡ 1 → u ≡ hung_up t base edge hangs.edge (take (place + 1) round)) → Expands s u a
+      pub goes_even_way : (u : State) → (place % 2 ≡ 0 → u ≡ hung_down t base hangs.edge (drop place round))
+          → (place % 2 ≡ 1 → u ≡ hung_up t base edge hangs.edge (take (place + 1) round)) → Expands s u a
       goes_even_way u down up =
           by_test (eqb (place % 2) 0)
           (λ q. let even = eqb-true (place % 2) 0 q in subst (λ x. Expands s x a) (sym (down even)) (goes_down even))

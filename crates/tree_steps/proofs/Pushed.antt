@@ -1,5 +1,6 @@
 -- How far the links of a way up are pushed.
-use Rattle.std.proofs.Common.{◌≡◌, ◌≢◌, ℕ, ◌+◌, ◌<◌, ◌≤◌, true, eqb, cond, List, [], ◌∷◌, ◌++◌, length, length-append, append_assoc, Option, Some, None, refl, sym, ap, ◌∙◌, subst, arith, ⊎_elim, append-nil}
+use Rattle.std.proofs.Common.{◌≡◌, ◌≢◌, ℕ, ◌+◌, ◌<◌, ◌≤◌, true, eqb, cond, List, [], ◌∷◌, ◌++◌, length, length-append, append_assoc, Option, Some, None, refl, sym, ap, ◌∙◌, subst, arith}
+use Rattle.std.proofs.Common.{⊎_elim, append-nil}
 use Rattle.std.specs.Vec.{vec_capacity}
 use Rattle.std.proofs.lemmas.Bool.{both_ways, eqb-true, eq-eqb, ne_eqb, or_cases}
 use Rattle.graph_theory.specs.Graph.{IsEdgeNumber}
@@ -18,7 +19,7 @@ use Rattle.alt_forest.proofs.Places.{nested_of}
 
 -- the way up from this node leads to the base, and its links are still to come
 pub record IsPushed (s : State) (node base : ℕ) (now start : List Link) (from : ℕ) : Type 0 where
-  pub outer : IsOutermost s node
+  pub outermost : IsOutermost s node
   pub there : holds (path_of s node) base ≡ true
   pub links : now ++ links_above s (before (path_of s node) base) ≡ start ++ links_above s (before (path_of s from) base)
 
@@ -26,13 +27,15 @@ pub links_length : (s : State) (xs : List ℕ) → length (links_above s xs) ≡
 links_length s [] = refl
 links_length s (x ∷ xs) = omega (arith, links_length s xs)
 
-module _ (s : State) (depth : ℕ → ℕ) (nested : IsNested s.graph.vertices s.blossoms) (st : IsSearchState s depth) (node base : ℕ) (now start : List Link) (from : ℕ) (p : IsPushed s node base now start from) where
+module _ (s : State) (depth : ℕ → ℕ) (nested : IsNested s.graph.vertices s.blossoms) (st : IsSearchState s depth) (node base : ℕ) (now start : List Link) (from : ℕ)
+    (p : IsPushed s node base now start from) where
   path : path_of s node ≡ node ∷ path_of s (up_of s node)
-  path = path_of-step s depth node nested st p.outer (some_node s depth nested st node p.outer)
+  path = path_of-step s depth node nested st p.outermost (some_node s depth nested st node p.outermost)
 
   -- the base comes later
   later : node ≢ base → holds (path_of s (up_of s node)) base ≡ true
-  later ne = ⊎_elim (λ here. absurd (ne (eqb-true node base here))) (λ more. more) (or_cases (eqb node base) (holds (path_of s (up_of s node)) base) (sym (ap (λ xs. holds xs base) path) ∙ p.there))
+  later ne = ⊎_elim (λ here. absurd (ne (eqb-true node base here))) (λ more. more) (or_cases (eqb node base) (holds (path_of s (up_of s node)) base)
+      (sym (ap (λ xs. holds xs base) path) ∙ p.there))
 
   -- so the node has an edge towards the root
   pub record GoesOn : Type 0 where
@@ -47,23 +50,26 @@ module _ (s : State) (depth : ℕ → ℕ) (nested : IsNested s.graph.vertices s
       by_edge : (o : Option ℕ) → up_edge s node ≡ o → GoesOn
       by_edge None none =
           let end : up_of s node ≡ 0 = ap (λ o. far_end s o node) none in
-          absurd (both_ways (holds (path_of s (up_of s node)) base) (ap (λ x. holds (path_of s x) base) end ∙ ap (λ xs. holds xs base) (path_none (node_limit s.graph.vertices + 1) s)) (later ne))
+          absurd (both_ways (holds (path_of s (up_of s node)) base) (ap (λ x. holds (path_of s x) base) end
+          ∙ ap (λ xs. holds xs base) (path_none (node_limit s.graph.vertices + 1) s)) (later ne))
       by_edge (Some e) has =
-          let w = up_step s depth node e st p.outer has in
-          record { edge = e; has = has; is_edge = w.1.edge; up_is = subst (IsOutermost s) (sym w.1.up) w.1.outer }
+          let w = up_step s depth node e st p.outermost has in
+          record { edge = e; has = has; is_edge = w.1.edge; up_is = subst (IsOutermost s) (sym w.1.up) w.1.outermost }
 
-  links_now : (ne : node ≢ base) → (e : ℕ) → up_edge s node ≡ Some e → links_above s (before (path_of s node) base) ≡ record { node = node; edge = e } ∷ links_above s (before (path_of s (up_of s node)) base)
+  links_now : (ne : node ≢ base) → (e : ℕ) → up_edge s node ≡ Some e → links_above s (before (path_of s node) base) ≡ record { node = node; edge = e } ∷ links_above s
+      (before (path_of s (up_of s node)) base)
   links_now ne e has =
       ap (λ xs. links_above s (before xs base)) path
       ∙ ap (λ t. links_above s (cond t [] (node ∷ before (path_of s (up_of s node)) base))) (ne_eqb node base ne)
       ∙ ap (λ o. record { node = node; edge = or_zero o } ∷ links_above s (before (path_of s (up_of s node)) base)) has
 
   -- one link more is pushed
-  pub pushed_on : node ≢ base → (e up : ℕ) (more : List Link) → up_edge s node ≡ Some e → up ≡ up_of s node → more ≡ now ++ record { node = node; edge = e } ∷ [] → IsPushed s up base more start from
+  pub pushed_on : node ≢ base → (e up : ℕ) (more : List Link) → up_edge s node ≡ Some e → up ≡ up_of s node → more ≡ now ++ record { node = node; edge = e } ∷ []
+      → IsPushed s up base more start from
   pushed_on ne e up more has up_is pushed =
       let a : Link = record { node = node; edge = e } in
       subst (λ x. IsPushed s x base more start from) (sym up_is) (record {
-        outer = (goes_on ne).up_is;
+        outermost = (goes_on ne).up_is;
         there = later ne;
         links = ap (λ (xs : List Link). xs ++ links_above s (before (path_of s (up_of s node)) base)) pushed
             ∙ append_assoc now (a ∷ []) (links_above s (before (path_of s (up_of s node)) base))
@@ -85,11 +91,13 @@ module _ (s : State) (depth : ℕ → ℕ) (nested : IsNested s.graph.vertices s
   -- the end
   pub pushed_all : node ≡ base → now ≡ start ++ links_above s (before (path_of s from) base)
   pushed_all same =
-      let none : links_above s (before (path_of s node) base) ≡ [] = ap (λ xs. links_above s (before xs base)) path ∙ ap (λ t. links_above s (cond t [] (node ∷ before (path_of s (up_of s node)) base))) (eq-eqb node base same) in
+      let none : links_above s (before (path_of s node) base) ≡ [] = ap (λ xs. links_above s (before xs base)) path
+      ∙ ap (λ t. links_above s (cond t [] (node ∷ before (path_of s (up_of s node)) base))) (eq-eqb node base same) in
       sym (append-nil now) ∙ ap (λ (xs : List Link). now ++ xs) (sym none) ∙ p.links
 
 -- what is read above a node of the way that isn't the base, once some links are pushed
-module _ (s t : Search) (rest : t ≡ record s { circuit = t.circuit }) (h : IsSound s) (node base : ℕ) (now start : List Link) (from : ℕ) (p : IsPushed (state_of s) node base now start from) (ne : node ≢ base) (e : ℕ) (read : (k : ℕ) → up_edge (state_of t) node ≡ Some k → e ≡ k) where
+module _ (s t : Search) (rest : t ≡ record s { circuit = t.circuit }) (h : IsSound s) (node base : ℕ) (now start : List Link) (from : ℕ) (p : IsPushed (state_of s) node base now start from)
+    (ne : node ≢ base) (e : ℕ) (read : (k : ℕ) → up_edge (state_of t) node ≡ Some k → e ≡ k) where
   on : GoesOn (state_of s) h.depth (nested_of s h.shape) h.state node base now start from p
   on = goes_on (state_of s) h.depth (nested_of s h.shape) h.state node base now start from p ne
 

@@ -23,7 +23,8 @@ use Rattle.tree_steps.specs.Expanded.{IsExpanded}
 use Rattle.tree_steps.proofs.Needs.{EndStays, needs_still}
 use Rattle.tree_steps.proofs.Opened.{across_without, outermost_elsewhere, outer_opened, gone}
 
-module _ (s t : State) (depth : ℕ → ℕ) (node : ℕ) (graph : IsGraph s.graph) (h : IsNested s.graph.vertices s.blossoms) (st : IsSearchState s depth) (can : CanExpand s node) (x : IsExpanded s t node) where
+module _ (s t : State) (depth : ℕ → ℕ) (node : ℕ) (graph : IsGraph s.graph) (h : IsNested s.graph.vertices s.blossoms) (st : IsSearchState s depth) (can : CanExpand s node)
+    (x : IsExpanded s t node) where
   abbrev n : ℕ
   n = s.graph.vertices
 
@@ -38,7 +39,8 @@ module _ (s t : State) (depth : ℕ → ℕ) (node : ℕ) (graph : IsGraph s.gra
   stays_in v is out = ap (λ (cs : List Blossom). outermost cs v) x.blossoms ∙ outermost_elsewhere bs node v (elsewhere v is out)
 
   off_ring : (v : ℕ) → is_vertex n v ≡ true → in_ring (ring_of bs node) (outermost bs v) ≡ false
-  off_ring v is = false_from_ne_true (in_ring (ring_of bs node) (outermost bs v)) (λ r. both_ways (is_child bs (outermost bs v)) (outermost_free n bs v h is) (ring_child bs node (outermost bs v) r))
+  off_ring v is = false_from_ne_true (in_ring (ring_of bs node) (outermost bs v)) (λ r. both_ways (is_child bs (outermost bs v)) (outermost_free n bs v h is)
+      (ring_child bs node (outermost bs v) r))
 
   end_stays : (v : ℕ) → is_vertex n v ≡ true → holds (members_of bs node) v ≡ false → EndStays s t v
   end_stays v is out = inr (ap t.label (stays_in v is out) ∙ x.labels (outermost bs v) (off_ring v is))
@@ -88,7 +90,8 @@ module _ (s t : State) (depth : ℕ → ℕ) (node : ℕ) (graph : IsGraph s.gra
       ⊎_elim (λ was. was) (λ r. absurd (both_ways (in_ring (ring_of bs node) c) off r)) (outer_opened n bs node c now (not_gone c is))
 
   -- an inner blossom that was not on the circuit was one before
-  pub expanded_blossom : (clock : ℤ) (q r : Moments) (c : ℕ) → ((a : ℕ) → holds (names_of bs) a ≡ true → IsBlossomEntered s clock q a) → holds (names_of t.blossoms) c ≡ true → in_ring (ring_of bs node) c ≡ false
+  pub expanded_blossom : (clock : ℤ) (q r : Moments) (c : ℕ) → ((a : ℕ) → holds (names_of bs) a ≡ true → IsBlossomEntered s clock q a) → holds (names_of t.blossoms) c ≡ true
+      → in_ring (ring_of bs node) c ≡ false
       → (c ≢ node → moment_of r (OfBlossom c) ≡ moment_of q (OfBlossom c)) → IsBlossomEntered t clock r c
   expanded_blossom clock q r c was there off same is inner =
       let ne : c ≢ node = not_gone c is in
@@ -106,5 +109,5 @@ module _ (s t : State) (depth : ℕ → ℕ) (node : ℕ) (graph : IsGraph s.gra
       let ne : hangs.child ≢ node = λ e. hangs.is_mate.different (sym e) in
       let now : IsOutermost t hangs.child =
       ap (λ g. is_outermost g.vertices t.blossoms hangs.child) x.graph ∙ ap (λ (cs : List Blossom). is_outermost n cs hangs.child) x.blossoms
-      ∙ outermost_stays n bs node hangs.child (ne_eqb node hangs.child (λ e. ne (sym e))) hangs.is_mate.outer in
-      outer_not_out (sym (x.outer hangs.child hangs.is_mate.outer hangs.child_outer) ∙ none hangs.child now)
+      ∙ outermost_stays n bs node hangs.child (ne_eqb node hangs.child (λ e. ne (sym e))) hangs.is_mate.outermost in
+      outer_not_out (sym (x.outer hangs.child hangs.is_mate.outermost hangs.child_outer) ∙ none hangs.child now)

@@ -35,7 +35,7 @@ module _ (s : State) (e mate : ℕ) (g : CanGrow s e) (pair : IsMate s g.far g.m
 
   -- some tree stands
   pub grown_tree : HasNoTree t → ⊥
-  grown_tree none = outer_not_out (sym mate_now ∙ none mate pair.outer)
+  grown_tree none = outer_not_out (sym mate_now ∙ none mate pair.outermost)
 
   module _ (graph : IsGraph s.graph) (h : IsNested s.graph.vertices s.blossoms) where
     end_stays : (v : ℕ) → is_vertex s.graph.vertices v ≡ true → holds (members_of s.blossoms mate) v ≡ false → EndStays s t v
@@ -44,14 +44,15 @@ module _ (s : State) (e mate : ℕ) (g : CanGrow s e) (pair : IsMate s g.far g.m
         ⊎_elim
         (λ at_far. inl (ap t.label at_far ∙ far_now))
         (λ off_far. ⊎_elim
-        (λ at_mate. absurd (both_ways (holds (members_of s.blossoms mate) v) out (subst (λ x. holds (members_of s.blossoms x) v ≡ true) at_mate (outermost_has s.graph.vertices s.blossoms v h is).1)))
+        (λ at_mate. absurd (both_ways (holds (members_of s.blossoms mate) v) out (subst (λ x. holds (members_of s.blossoms x) v ≡ true) at_mate
+        (outermost_has s.graph.vertices s.blossoms v h is).1)))
         (λ off_mate. inr (others_now o off_far off_mate))
         (cases_eq o mate))
         (cases_eq o g.far)
 
     -- an end in a node that is not the mate is no vertex of the mate
     not_of_mate : (v x : ℕ) → outermost s.blossoms v ≡ x → x ≢ mate → holds (members_of s.blossoms mate) v ≡ false
-    not_of_mate v x is off = false_from_ne_true (holds (members_of s.blossoms mate) v) (λ m. off (sym is ∙ outermost_by_member s.graph.vertices s.blossoms mate v h pair.outer m))
+    not_of_mate v x is off = false_from_ne_true (holds (members_of s.blossoms mate) v) (λ m. off (sym is ∙ outermost_by_member s.graph.vertices s.blossoms mate v h pair.outermost m))
 
     -- no end of the edge is a vertex of the mate
     pub grown_missed : (depth : ℕ → ℕ) → IsSearchState s depth → touches_any (members_of s.blossoms mate) (edge_of s.graph e) ≡ false
@@ -67,7 +68,8 @@ module _ (s : State) (e mate : ℕ) (g : CanGrow s e) (pair : IsMate s g.far g.m
     grown_entered clock q r was same d is out =
         let parts = or_parts (holds (members_of s.blossoms mate) (edge_of s.graph d).u) (holds (members_of s.blossoms mate) (edge_of s.graph d).v) out in
         ⊎_elim
-        (λ here. needs_none_inner t clock d g.far g.near (moment_of r (OfEdge d)) (subst (λ k. Joins s.graph s.blossoms k g.far g.near) (sym here) (joins_turned s.graph s.blossoms e g.near g.far g.joins)) far_now)
+        (λ here. needs_none_inner t clock d g.far g.near (moment_of r (OfEdge d)) (subst (λ k. Joins s.graph s.blossoms k g.far g.near) (sym here)
+        (joins_turned s.graph s.blossoms e g.near g.far g.joins)) far_now)
         (λ other. subst (NeedsMoment t clock d) (sym (same d other)) (needs_still s t clock d (moment_of q (OfEdge d)) (record {
           graph = refl;
           slack = refl;
@@ -78,7 +80,8 @@ module _ (s : State) (e mate : ℕ) (g : CanGrow s e) (pair : IsMate s g.far g.m
         (cases_eq d e)
 
   -- an inner node was one before, or is the one that has become it
-  pub grown_blossom : (clock : ℤ) (q r : Moments) (b : ℕ) → b ≢ g.far → IsBlossomEntered s clock q b → (b ≢ mate → moment_of r (OfBlossom b) ≡ moment_of q (OfBlossom b)) → IsBlossomEntered t clock r b
+  pub grown_blossom : (clock : ℤ) (q r : Moments) (b : ℕ) → b ≢ g.far → IsBlossomEntered s clock q b → (b ≢ mate → moment_of r (OfBlossom b) ≡ moment_of q (OfBlossom b))
+      → IsBlossomEntered t clock r b
   grown_blossom clock q r b off was same is inner = ⊎_elim
       (λ at. outer_not_inner (sym mate_now ∙ ap t.label (sym at) ∙ inner))
       (λ ne. same ne ∙ was is (sym (others_now b off ne) ∙ inner))

@@ -28,7 +28,8 @@ use Rattle.tree_steps.proofs.Needs.{EndStays, needs_still}
 use Rattle.tree_steps.proofs.NewlyOuter.{in_newly}
 use Rattle.tree_steps.proofs.Shrunk.{slack_after}
 
-module _ (s : State) (depth : ℕ → ℕ) (ring : List Link) (node base : ℕ) (graph : IsGraph s.graph) (h : IsNested s.graph.vertices (made_of s.blossoms ring node ∷ s.blossoms)) (can : IsShrinkable s depth ring base) where
+module _ (s : State) (depth : ℕ → ℕ) (ring : List Link) (node base : ℕ) (graph : IsGraph s.graph) (h : IsNested s.graph.vertices (made_of s.blossoms ring node ∷ s.blossoms))
+    (can : IsShrinkable s depth ring base) where
   abbrev b : Blossom
   b = made_of s.blossoms ring node
 
@@ -61,7 +62,8 @@ module _ (s : State) (depth : ℕ → ℕ) (ring : List Link) (node base : ℕ) 
       (λ off. inr (ap t.label same ∙ label_else o off))
       (cases_eq o node))
 
-  entered : (clock : ℤ) (q r : Moments) (e : ℕ) → Joins t.graph t.blossoms e node node → ((d : ℕ) → IsEdgeNumber s.graph d → IsEntered s clock q d) → ((d : ℕ) → d ≢ e → moment_of r (OfEdge d) ≡ moment_of q (OfEdge d))
+  entered : (clock : ℤ) (q r : Moments) (e : ℕ) → Joins t.graph t.blossoms e node node → ((d : ℕ) → IsEdgeNumber s.graph d → IsEntered s clock q d)
+      → ((d : ℕ) → d ≢ e → moment_of r (OfEdge d) ≡ moment_of q (OfEdge d))
       → (d : ℕ) → IsEdgeNumber s.graph d → touches_any (newly_outer s ring) (edge_of s.graph d) ≡ false → IsEntered t clock r d
   entered clock q r e joins was same d is out =
       let u_is = u_vertex s.graph d graph.ends is in
@@ -102,13 +104,15 @@ module _ (before after : State) (node : ℕ) (x : IsShrunk before after node) (g
   pub shrunk_tree : HasNoTree after → ⊥
   shrunk_tree = subst (λ (s : State). HasNoTree s → ⊥) (sym x.state) (tree before x.can.depth x.ring node x.base graph nested x.can.shrinkable)
 
-  pub shrunk_entered : (clock : ℤ) (q r : Moments) (e : ℕ) → Joins after.graph after.blossoms e node node → ((d : ℕ) → IsEdgeNumber before.graph d → IsEntered before clock q d) → ((d : ℕ) → d ≢ e → moment_of r (OfEdge d) ≡ moment_of q (OfEdge d))
+  pub shrunk_entered : (clock : ℤ) (q r : Moments) (e : ℕ) → Joins after.graph after.blossoms e node node → ((d : ℕ) → IsEdgeNumber before.graph d → IsEntered before clock q d)
+      → ((d : ℕ) → d ≢ e → moment_of r (OfEdge d) ≡ moment_of q (OfEdge d))
       → (d : ℕ) → IsEdgeNumber before.graph d → touches_any (newly_outer before x.ring) (edge_of before.graph d) ≡ false → IsEntered after clock r d
   shrunk_entered clock q r e joins was same d is out =
       subst (λ (s : State). IsEntered s clock r d) (sym x.state)
       (entered before x.can.depth x.ring node x.base graph nested x.can.shrinkable clock q r e (subst (λ (s : State). Joins s.graph s.blossoms e node node) x.state joins) was same d is out)
 
-  pub shrunk_blossom : (clock : ℤ) (q r : Moments) (c : ℕ) → ((a : ℕ) → holds (names_of before.blossoms) a ≡ true → IsBlossomEntered before clock q a) → holds (names_of after.blossoms) c ≡ true
+  pub shrunk_blossom : (clock : ℤ) (q r : Moments) (c : ℕ) → ((a : ℕ) → holds (names_of before.blossoms) a ≡ true → IsBlossomEntered before clock q a)
+      → holds (names_of after.blossoms) c ≡ true
       → (c ≢ node → moment_of r (OfBlossom c) ≡ moment_of q (OfBlossom c)) → IsBlossomEntered after clock r c
   shrunk_blossom clock q r c was there same =
       subst (λ (s : State). IsBlossomEntered s clock r c) (sym x.state)
@@ -116,12 +120,14 @@ module _ (before after : State) (node : ℕ) (x : IsShrunk before after node) (g
 
   pub shrunk_in_tree : (a : ℕ) → IsOutermost after a → after.label a ≢ Out → a ≢ node → IsOutermost before a × (before.label a ≢ Out)
   shrunk_in_tree a is labelled ne =
-      in_tree before x.can.depth x.ring node x.base graph nested x.can.shrinkable a (subst (λ (s : State). IsOutermost s a) x.state is) (λ e. labelled (ap (λ (s : State). s.label a) x.state ∙ e)) ne
+      in_tree before x.can.depth x.ring node x.base graph nested x.can.shrinkable a (subst (λ (s : State). IsOutermost s a) x.state is)
+      (λ e. labelled (ap (λ (s : State). s.label a) x.state ∙ e)) ne
 
   -- any other outermost node was one before, none of the circuit, with its label
   pub shrunk_other : (a : ℕ) → IsOutermost after a → a ≢ node → IsOutermost before a × (in_ring x.ring a ≡ false) × (after.label a ≡ before.label a)
   shrunk_other a is ne =
-      let p = outermost_before before.graph.vertices (made_of before.blossoms x.ring node) before.blossoms a (ne_eqb node a (λ e. ne (sym e))) (subst (λ (s : State). IsOutermost s a) x.state is) in
+      let p = outermost_before before.graph.vertices (made_of before.blossoms x.ring node) before.blossoms a (ne_eqb node a (λ e. ne (sym e)))
+      (subst (λ (s : State). IsOutermost s a) x.state is) in
       (p.0, p.1, ap (λ (s : State). s.label a) x.state ∙ put_other before.label node Outer a ne)
 
   -- the new node is outermost

@@ -1,5 +1,6 @@
 -- The circuit of a blossom from behind one of its nodes, the base, round to it.
-use Rattle.std.proofs.Common.{◌≡◌, ℕ, suc, ◌+◌, ◌≤◌, ◌%◌, true, false, ◌||◌, eqb, cond, List, [], ◌∷◌, ◌++◌, length, get_or, take, drop, refl, sym, ap, ◌∙◌, subst, arith, append_assoc, length-append}
+use Rattle.std.proofs.Common.{◌≡◌, ℕ, suc, ◌+◌, ◌≤◌, ◌%◌, true, false, ◌||◌, eqb, cond, List, [], ◌∷◌, ◌++◌, length, get_or, take, drop, refl, sym, ap, ◌∙◌, subst, arith, append_assoc}
+use Rattle.std.proofs.Common.{length-append}
 use Rattle.std.specs.List.{AllByRecursion}
 use Rattle.std.proofs.lemmas.List.{take_at, drop_at, get_or_push}
 use Rattle.std.proofs.lemmas.Bool.{eqb-true, or_parts, both_ways}
@@ -46,7 +47,8 @@ place_none (l ∷ ls) a r =
     ap (λ q. length (cond q [] (l.node ∷ before (nodes_of ls) a))) p.0 ∙ ap suc (place_none ls a p.1)
 
 -- the links are turned, and the last one is taken away
-pub turned_round : (ring was turned final : List Link) (base k : ℕ) (link : Link) → in_ring ring base ≡ true → was ≡ ring → k ≡ length (before (nodes_of was) base) → turned ≡ drop (k + 1) was ++ take (k + 1) was
+pub turned_round : (ring was turned final : List Link) (base k : ℕ) (link : Link) → in_ring ring base ≡ true → was ≡ ring → k ≡ length (before (nodes_of was) base)
+    → turned ≡ drop (k + 1) was ++ take (k + 1) was
     → turned ≡ final ++ link ∷ [] → IsRound ring base link.edge final
 turned_round ring was turned final base k link r same place turn ends =
     let p = parted_at ring base k r (place ∙ ap (λ (ls : List Link). length (before (nodes_of ls) base)) same) in
@@ -60,7 +62,8 @@ turned_round ring was turned final base k link r same place turn ends =
     let whole : length turned ≡ n + 1 = ap length is ∙ length-append (p.behind ++ p.front) one in
     let ended : length turned ≡ length final + 1 = ap length ends ∙ length-append final (link ∷ []) in
     let size : length final ≡ n = omega (arith, whole, ended) in
-    let found : link ≡ p.link = sym (get_or_push final link p.link n size) ∙ ap (λ (ls : List Link). get_or ls n p.link) (sym ends ∙ is) ∙ get_or_push (p.behind ++ p.front) p.link p.link n refl in
+    let found : link ≡ p.link = sym (get_or_push final link p.link n size) ∙ ap (λ (ls : List Link). get_or ls n p.link) (sym ends ∙ is)
+    ∙ get_or_push (p.behind ++ p.front) p.link p.link n refl in
     record {
       front = p.front;
       behind = p.behind;

@@ -29,7 +29,8 @@ mated_other m (a ∷ []) c out = refl
 mated_other m (a ∷ (b ∷ rest)) c out =
     let p = apart_first a (b ∷ rest) c out in
     let q = apart_first b rest c p.1 in
-    mated_other (put (put m a.node (Some a.edge)) b.node (Some a.edge)) rest c q.1 ∙ put_other (put m a.node (Some a.edge)) b.node (Some a.edge) c q.0 ∙ put_other m a.node (Some a.edge) c p.0
+    mated_other (put (put m a.node (Some a.edge)) b.node (Some a.edge)) rest c q.1 ∙ put_other (put m a.node (Some a.edge)) b.node (Some a.edge) c q.0
+    ∙ put_other m a.node (Some a.edge) c p.0
 
 pub mated_paired : (m : ℕ → Option ℕ) (ls : List Link) → ArePairs ls → AllNew (nodes_of ls) → ArePaired (mated m ls) ls
 mated_paired m [] even new = tt
@@ -60,7 +61,8 @@ out_there l [] c r = absurd (both_ways false refl r)
 out_there l (a ∷ rest) c r =
     by_test (in_ring rest c)
     (λ later. out_there (put l a.node Out) rest c later)
-    (λ none. ⊎_elim (λ here. out_other (put l a.node Out) rest c none ∙ ap (put l a.node Out) (sym (eqb-true a.node c here)) ∙ put_here l a.node Out) (λ later. absurd (both_ways (in_ring rest c) none later)) (or_cases (eqb a.node c) (in_ring rest c) r))
+    (λ none. ⊎_elim (λ here. out_other (put l a.node Out) rest c none ∙ ap (put l a.node Out) (sym (eqb-true a.node c here)) ∙ put_here l a.node Out)
+    (λ later. absurd (both_ways (in_ring rest c) none later)) (or_cases (eqb a.node c) (in_ring rest c) r))
 
 pub out_all : (l : ℕ → Label) (ls : List Link) → ((c : ℕ) → in_ring ls c ≡ true → l c ≡ Out) → AllOut l ls
 out_all l [] h = tt

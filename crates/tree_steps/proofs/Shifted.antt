@@ -45,7 +45,8 @@ has_next first old now place edge h low = by_left h.left h.whole h.is
     by_left (l ∷ ls) whole is = record { front = h.front; link = l; left = ls; whole = whole; is = is; count = h.count; carried = h.carried }
 
 -- one link more has its new edge
-pub shifted_next : (first : ℕ) (old now : List Link) (place edge : ℕ) (l : Link) → IsShifted first old now place edge → place < length now → l ≡ slice_index_or now place l → IsShifted first old (slice_set now place (record { node = l.node; edge = edge })) (place + 1) l.edge
+pub shifted_next : (first : ℕ) (old now : List Link) (place edge : ℕ) (l : Link) → IsShifted first old now place edge → place < length now → l ≡ slice_index_or now place l
+    → IsShifted first old (slice_set now place (record { node = l.node; edge = edge })) (place + 1) l.edge
 shifted_next first old now place edge l h low read =
     let n = has_next first old now place edge h low in
     let done : List Link = shifted first n.front in

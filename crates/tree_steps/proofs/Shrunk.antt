@@ -1,5 +1,6 @@
 -- A shrink keeps the state of a search.
-use Rattle.std.proofs.Common.{◌≡◌, ◌≢◌, ◌⊎◌, ℕ, ◌<◌, ◌≤◌, ℤ, pos, ◌+ℤ◌, ◌-ℤ◌, ◌≤ℤ◌, true, false, not, eqb, cond, List, [], ◌∷◌, Some, None, refl, sym, ap, ◌∙◌, subst, arith, ⊎_elim, inl, inr}
+use Rattle.std.proofs.Common.{◌≡◌, ◌≢◌, ◌⊎◌, ℕ, ◌<◌, ◌≤◌, ℤ, pos, ◌+ℤ◌, ◌-ℤ◌, ◌≤ℤ◌, true, false, not, eqb, cond, List, [], ◌∷◌, Some, None, refl, sym, ap, ◌∙◌, subst, arith, ⊎_elim, inl}
+use Rattle.std.proofs.Common.{inr}
 use Rattle.std.specs.List.{AllByRecursion}
 use Rattle.std.proofs.Math.IntN.{+ℤ_idl}
 use Rattle.std.proofs.lemmas.Int.{ints}
@@ -15,7 +16,7 @@ use Rattle.blossom_arena.proofs.Nested.{outermost_parts, outermost_before, node_
 use Rattle.blossom_arena.proofs.Sets.{member_by_ring, outermost_has}
 use Rattle.blossom_arena.proofs.Held.{held_same, held_zero}
 use Rattle.blossom_arena.specs.declared.label.Label.TheVariants.{Outer, Inner}
-use Rattle.alt_forest.specs.State.{State, IsOutermost, Joins, node_u, node_v, doubled, slack_of, IsTight, IsRing, IsMate, FitsLabel, IsSearchState, held_by, cover}
+use Rattle.alt_forest.specs.State.{State, IsOutermost, Joins, node_u, node_v, doubled, slack_of, IsTight, IsRing, IsMate, FitsLabel, IsSearchState, held_by, dual_sum}
 use Rattle.alt_forest.specs.Searches.{put}
 use Rattle.alt_forest.proofs.Relabelled.{put_here, put_other, outer_not_inner, outer_not_out}
 use Rattle.tree_steps.specs.Shrunk.{shrunk_state}
@@ -23,11 +24,12 @@ use Rattle.alt_forest.proofs.Mates.{joins_unique, mate_turned}
 use Rattle.alt_forest.proofs.Tight.{tight_ring, tight_rings}
 use Rattle.alt_forest.proofs.Parity.{one_class, parity_refl, parity_sym, parity_trans}
 use Rattle.tree_steps.proofs.Counted.{has_vertex}
-use Rattle.tree_steps.proofs.Covers.{Agree, WasExposed, agree_after, ring_agrees, rings_agree}
+use Rattle.tree_steps.proofs.DualSums.{Agree, WasExposed, agree_after, ring_agrees, rings_agree}
 use Rattle.blossom_arena.proofs.Ends.{u_vertex, v_vertex}
 
 -- duals that agree at the nodes that an edge can feel
-pub across_same : (y z : ℕ → ℤ) (bs : List Blossom) (e : Edge) → y e.u ≡ z e.u → y e.v ≡ z e.v → AllByRecursion (λ (b : Blossom). y b.node ≡ z b.node) bs → duals_across y bs e ≡ duals_across z bs e
+pub across_same : (y z : ℕ → ℤ) (bs : List Blossom) (e : Edge) → y e.u ≡ z e.u → y e.v ≡ z e.v → AllByRecursion (λ (b : Blossom). y b.node ≡ z b.node) bs
+    → duals_across y bs e ≡ duals_across z bs e
 across_same y z [] e eu ev each = ap (λ t. t +ℤ y e.v) eu ∙ ap (λ t. z e.u +ℤ t) ev
 across_same y z (b ∷ older) e eu ev each =
     ap (λ t. cond (crosses b.members e) t (pos 0) +ℤ duals_across y older e) each.0
@@ -46,7 +48,8 @@ pub agrees_at : (bs : List Blossom) (y : ℕ → ℤ) (x : ℕ) (z : ℤ) → ho
 agrees_at [] y x z new = tt
 agrees_at (b ∷ older) y x z new = let p = or_parts (eqb b.node x) (holds (names_of older) x) new in (put_other y x z b.node (eqb-false b.node x p.0), agrees_at older y x z p.1)
 
-low_at : (bs : List Blossom) (y : ℕ → ℤ) (x : ℕ) (z : ℤ) → holds (names_of bs) x ≡ false → AllByRecursion (λ (c : Blossom). pos 0 ≤ℤ y c.node) bs → AllByRecursion (λ (c : Blossom). pos 0 ≤ℤ put y x z c.node) bs
+low_at : (bs : List Blossom) (y : ℕ → ℤ) (x : ℕ) (z : ℤ) → holds (names_of bs) x ≡ false → AllByRecursion (λ (c : Blossom). pos 0 ≤ℤ y c.node) bs
+    → AllByRecursion (λ (c : Blossom). pos 0 ≤ℤ put y x z c.node) bs
 low_at [] y x z new low = tt
 low_at (b ∷ older) y x z new low =
     let p = or_parts (eqb b.node x) (holds (names_of older) x) new in
@@ -102,7 +105,8 @@ module _ (s : State) (b : Blossom) (base : ℕ) (depth : ℕ → ℕ) (h : Shrin
   pub slack_after : (e : ℕ) → IsEdgeNumber s.graph e → slack_of t e ≡ slack_of s e
   slack_after e is =
       let y : ℕ → ℤ = put s.dual b.node (pos 0) in
-      let far : (v : ℕ) → is_vertex s.graph.vertices v ≡ true → y v ≡ s.dual v = λ v iv. put_other s.dual b.node (pos 0) v (node_differs v (vertex_is_node s.graph.vertices s.blossoms v iv)) in
+      let far : (v : ℕ) → is_vertex s.graph.vertices v ≡ true → y v ≡ s.dual v = λ v iv. put_other s.dual b.node (pos 0) v
+      (node_differs v (vertex_is_node s.graph.vertices s.blossoms v iv)) in
       ap (λ z. doubled s.graph s.weighted e -ℤ z)
       (across_zero y b s.blossoms (edge_of s.graph e) (put_here s.dual b.node (pos 0))
       ∙ across_same y s.dual s.blossoms (edge_of s.graph e)
@@ -110,9 +114,9 @@ module _ (s : State) (b : Blossom) (base : ℕ) (depth : ℕ → ℕ) (h : Shrin
       (far (edge_of s.graph e).v (v_vertex s.graph e h.graph.ends is))
       (agrees_at s.blossoms s.dual b.node (pos 0) new_name))
 
-  -- and nothing that covers a vertex
-  cover_after : (v : ℕ) → is_vertex s.graph.vertices v ≡ true → cover t v ≡ cover s v
-  cover_after v iv =
+  -- and no dual sum of a vertex
+  dual_sum_after : (v : ℕ) → is_vertex s.graph.vertices v ≡ true → dual_sum t v ≡ dual_sum s v
+  dual_sum_after v iv =
       let y : ℕ → ℤ = put s.dual b.node (pos 0) in
       ap (λ z. z +ℤ held_by y (b ∷ s.blossoms) v) (put_other s.dual b.node (pos 0) v (node_differs v (vertex_is_node s.graph.vertices s.blossoms v iv)))
       ∙ ap (λ z. s.dual v +ℤ z)
@@ -123,12 +127,14 @@ module _ (s : State) (b : Blossom) (base : ℕ) (depth : ℕ → ℕ) (h : Shrin
 
   -- the new node is outermost, and so stays what is in no ring
   pub new_outer : IsOutermost t b.node
-  new_outer = and_from (is_node s.graph.vertices (b ∷ s.blossoms) b.node) (not (is_child (b ∷ s.blossoms) b.node)) (new_is_node s.graph.vertices b s.blossoms) (ap not (new_no_child s.graph.vertices b s.blossoms h.nested))
+  new_outer = and_from (is_node s.graph.vertices (b ∷ s.blossoms) b.node) (not (is_child (b ∷ s.blossoms) b.node)) (new_is_node s.graph.vertices b s.blossoms)
+      (ap not (new_no_child s.graph.vertices b s.blossoms h.nested))
 
   still_outer : (a : ℕ) → IsOutermost s a → in_ring b.ring a ≡ false → IsOutermost t a
   still_outer a is out =
       let parts = outermost_parts s.graph.vertices s.blossoms a is in
-      and_from (is_node s.graph.vertices (b ∷ s.blossoms) a) (not (is_child (b ∷ s.blossoms) a)) (node_grows s.graph.vertices b s.blossoms a parts.0) (ap not (or_from (in_ring b.ring a) (is_child s.blossoms a) out parts.1))
+      and_from (is_node s.graph.vertices (b ∷ s.blossoms) a) (not (is_child (b ∷ s.blossoms) a)) (node_grows s.graph.vertices b s.blossoms a parts.0)
+      (ap not (or_from (in_ring b.ring a) (is_child s.blossoms a) out parts.1))
 
   outer_after : (a : ℕ) → IsOutermost s a → IsOutermost t (lift a)
   outer_after a is = by_test (in_ring b.ring a)
@@ -165,10 +171,10 @@ module _ (s : State) (b : Blossom) (base : ℕ) (depth : ℕ → ℕ) (h : Shrin
     joins = subst (λ x. Joins s.graph (b ∷ s.blossoms) e x (lift c)) (lift_out a out) (joins_lift e a c w.edge w.joins);
     different = lift_differs a c is w.different;
     tight = slack_after e w.edge ∙ w.tight;
-    outer = outer_after c w.outer;
+    outermost = outer_after c w.outermost;
     back = by_test (in_ring b.ring c)
         (λ r. ap t.mate (lift_in c r) ∙ mate_here ∙ ap s.mate (sym (only_base a e c is out has w r)) ∙ w.back)
-        (λ r. ap t.mate (lift_out c r) ∙ mate_else c (outer_differs c w.outer) ∙ w.back);
+        (λ r. ap t.mate (lift_out c r) ∙ mate_else c (outer_differs c w.outermost) ∙ w.back);
   }
 
   -- the mate of the base becomes the new node's
@@ -177,11 +183,12 @@ module _ (s : State) (b : Blossom) (base : ℕ) (depth : ℕ → ℕ) (h : Shrin
       let out : in_ring b.ring c ≡ false = h.base_mated_outside e c has w in
       record {
         edge = w.edge;
-        joins = subst (λ x. Joins s.graph (b ∷ s.blossoms) e b.node x) (lift_out c out) (subst (λ x. Joins s.graph (b ∷ s.blossoms) e x (lift c)) (lift_in base h.base_in) (joins_lift e base c w.edge w.joins));
-        different = λ q. outer_differs c w.outer (sym q);
+        joins = subst (λ x. Joins s.graph (b ∷ s.blossoms) e b.node x) (lift_out c out) (subst (λ x. Joins s.graph (b ∷ s.blossoms) e x (lift c)) (lift_in base h.base_in)
+            (joins_lift e base c w.edge w.joins));
+        different = λ q. outer_differs c w.outermost (sym q);
         tight = slack_after e w.edge ∙ w.tight;
-        outer = still_outer c w.outer out;
-        back = mate_else c (outer_differs c w.outer) ∙ w.back;
+        outermost = still_outer c w.outermost out;
+        back = mate_else c (outer_differs c w.outermost) ∙ w.back;
       }
 
   -- the new node has the rank of the base
@@ -204,8 +211,9 @@ module _ (s : State) (b : Blossom) (base : ℕ) (depth : ℕ → ℕ) (h : Shrin
 
   rises_after : (a e c : ℕ) → IsOutermost s a → in_ring b.ring a ≡ false → s.mate a ≡ Some e → IsMate s a e c → depth a < depth c → deeper a < deeper (lift c)
   rises_after a e c is out has w lower = by_test (in_ring b.ring c)
-      (λ r. let same : deeper (lift c) ≡ depth c = ap deeper (lift_in c r) ∙ deeper_new ∙ ap depth (sym (only_base a e c is out has w r)) in omega (arith, same, deeper_old a (outer_differs a is), lower))
-      (λ r. let same : deeper (lift c) ≡ depth c = ap deeper (lift_out c r) ∙ deeper_old c (outer_differs c w.outer) in omega (arith, same, deeper_old a (outer_differs a is), lower))
+      (λ r. let same : deeper (lift c) ≡ depth c = ap deeper (lift_in c r) ∙ deeper_new
+      ∙ ap depth (sym (only_base a e c is out has w r)) in omega (arith, same, deeper_old a (outer_differs a is), lower))
+      (λ r. let same : deeper (lift c) ≡ depth c = ap deeper (lift_out c r) ∙ deeper_old c (outer_differs c w.outermost) in omega (arith, same, deeper_old a (outer_differs a is), lower))
 
   -- a mate of another label than outer is not the base
   outside : (a e c : ℕ) → IsOutermost s a → in_ring b.ring a ≡ false → s.mate a ≡ Some e → IsMate s a e c → s.label c ≢ Outer → in_ring b.ring c ≡ false
@@ -226,7 +234,7 @@ module _ (s : State) (b : Blossom) (base : ℕ) (depth : ℕ → ℕ) (h : Shrin
               let says = old.outer (sym (label_else a ne) ∙ lab) e was.0 has was.1 in
               let away = outside a e was.0 is out has was.1 (λ q. outer_not_inner (sym q ∙ says.0)) in
               let same : was.0 ≡ c = sym (lift_out was.0 away) ∙ it in
-              let other : was.0 ≢ b.node = outer_differs was.0 was.1.outer in
+              let other : was.0 ≢ b.node = outer_differs was.0 was.1.outermost in
               subst (λ x. (t.label x ≡ Inner) × (deeper x < deeper a)) same (label_else was.0 other ∙ says.0, omega (arith, deeper_old was.0 other, deeper_old a ne, says.1));
           inner = λ lab.
               let i = old.inner (sym (label_else a ne) ∙ lab) in
@@ -244,7 +252,7 @@ module _ (s : State) (b : Blossom) (base : ℕ) (depth : ℕ → ℕ) (h : Shrin
                 child = lift i.child;
                 mate = mate_else a ne ∙ i.mate;
                 is_mate = mate_after a i.child_edge i.child is out i.mate i.is_mate;
-                child_outer = label_lift i.child i.is_mate.outer i.child_outer;
+                child_outer = label_lift i.child i.is_mate.outermost i.child_outer;
                 rises = rises_after a i.child_edge i.child is out i.mate i.is_mate i.rises;
               };
           out = λ lab e c has_mate w.
@@ -254,7 +262,7 @@ module _ (s : State) (b : Blossom) (base : ℕ) (depth : ℕ → ℕ) (h : Shrin
               let it : lift was.0 ≡ c = joins_unique s.graph (b ∷ s.blossoms) e a (lift was.0) c now.joins w.joins now.different in
               let says = old.out (sym (label_else a ne) ∙ lab) e was.0 has was.1 in
               let away = outside a e was.0 is out has was.1 (λ q. outer_not_out (sym q ∙ says)) in
-              ap t.label (sym it ∙ lift_out was.0 away) ∙ label_else was.0 (outer_differs was.0 was.1.outer) ∙ says;
+              ap t.label (sym it ∙ lift_out was.0 away) ∙ label_else was.0 (outer_differs was.0 was.1.outermost) ∙ says;
         }
 
     new_label : IsOutermost s base → FitsLabel t deeper b.node
@@ -265,7 +273,7 @@ module _ (s : State) (b : Blossom) (base : ℕ) (depth : ℕ → ℕ) (h : Shrin
           let now = base_mate_after e was.0 has was.1 in
           let same : was.0 ≡ c = joins_unique s.graph (b ∷ s.blossoms) e b.node was.0 c now.joins w.joins now.different in
           let says = (st.labels base is).outer h.base_outer e was.0 has was.1 in
-          let other : was.0 ≢ b.node = outer_differs was.0 was.1.outer in
+          let other : was.0 ≢ b.node = outer_differs was.0 was.1.outermost in
           subst (λ x. (t.label x ≡ Inner) × (deeper x < deeper b.node)) same (label_else was.0 other ∙ says.0, omega (arith, deeper_old was.0 other, deeper_new, says.1));
       inner = λ lab. outer_not_inner (sym label_here ∙ lab);
       out = λ lab. outer_not_out (sym label_here ∙ lab);
@@ -273,7 +281,8 @@ module _ (s : State) (b : Blossom) (base : ℕ) (depth : ℕ → ℕ) (h : Shrin
 
     -- all vertices of the new node agree
     one_parity : (u v : ℕ) → is_vertex s.graph.vertices u ≡ true → is_vertex s.graph.vertices v ≡ true → outermost (b ∷ s.blossoms) u ≡ outermost (b ∷ s.blossoms) v → Agree s u v
-    one_parity = one_class s.graph (Agree s) (λ u. parity_refl (cover s u)) (λ u v. parity_sym (cover s u) (cover s v)) (λ u v w. parity_trans (cover s u) (cover s v) (cover s w)) h.graph
+    one_parity = one_class s.graph (Agree s) (λ u. parity_refl (dual_sum s u)) (λ u v. parity_sym (dual_sum s u) (dual_sum s v))
+        (λ u v w. parity_trans (dual_sum s u) (dual_sum s v) (dual_sum s w)) h.graph
         (b ∷ s.blossoms) h.nested (h.ring, st.rings) (ring_agrees s b.ring h.tight, rings_agree s s.blossoms st.tight_rings)
 
     -- an exposed node was so, or is the new one, and then its base was
@@ -288,7 +297,12 @@ module _ (s : State) (b : Blossom) (base : ℕ) (depth : ℕ → ℕ) (h : Shrin
         record { at = x.vertex; vertex = x.is; exposed = ap s.mate x.node ∙ sym mate_here ∙ ap t.mate (sym at) ∙ none; agree = one_parity v x.vertex iv x.is (at ∙ sym base_at) })
         (λ r.
         let at : outermost (b ∷ s.blossoms) v ≡ o = outermost_lift v iv ∙ lift_out o r in
-        record { at = v; vertex = iv; exposed = sym (mate_else o (outer_differs o (outermost_has s.graph.vertices s.blossoms v h.nested.1 iv).0)) ∙ ap t.mate (sym at) ∙ none; agree = parity_refl (cover s v) })
+        record {
+          at = v;
+          vertex = iv;
+          exposed = sym (mate_else o (outer_differs o (outermost_has s.graph.vertices s.blossoms v h.nested.1 iv).0)) ∙ ap t.mate (sym at) ∙ none;
+          agree = parity_refl (dual_sum s v);
+        })
 
     pub shrink_keeps : IsSearchState t deeper
     shrink_keeps =
@@ -308,7 +322,7 @@ module _ (s : State) (b : Blossom) (base : ℕ) (depth : ℕ → ℕ) (h : Shrin
               let was = st.mates a e old.0 has in
               (lift was.0, mate_after a e was.0 old.0 old.1 has was.1))
               (outer_before a is);
-          parity = agree_after s t refl st.parity cover_after was_exposed;
+          parity = agree_after s t refl st.parity dual_sum_after was_exposed;
           labels = λ a is. ⊎_elim
               (λ new. subst (FitsLabel t deeper) (sym new) (new_label base_is))
               (λ old. old_label a old.0 old.1)

@@ -1,15 +1,15 @@
 -- The roots after a shrink: a root on the circuit gives way to the new node, and the new node is in the tree of its base.
 use Rattle.std.proofs.Common.{◌≡◌, ◌≢◌, ℕ, true, false, cond, List, ◌∷◌, Some, refl, sym, ap, ◌∙◌, subst, ⊎_elim}
+use Rattle.std.proofs.lemmas.Bool.{both_ways}
 use Rattle.graph_theory.specs.Graph.{IsGraph}
 use Rattle.blossom_arena.specs.declared.links.Link.{Link}
-use Rattle.blossom_arena.specs.Family.{Blossom, IsNested, in_ring, made_of, outermost}
+use Rattle.blossom_arena.specs.Family.{Blossom, IsNested, in_ring, made_of}
 use Rattle.blossom_arena.proofs.Lists.{by_test}
 use Rattle.blossom_arena.proofs.Nested.{circuit_outer}
 use Rattle.blossom_arena.specs.declared.label.Label.TheVariants.{Out}
 use Rattle.alt_forest.specs.State.{State, IsOutermost, Joins, IsSearchState}
 use Rattle.alt_forest.specs.Counts.{IsPlanted}
 use Rattle.alt_forest.specs.Searches.{put}
-use Rattle.alt_forest.specs.Standing.{IsSeed}
 use Rattle.alt_forest.specs.Trees.{up_edge, up_edge_by, root_of, IsRoot}
 use Rattle.alt_forest.proofs.Mates.{joins_unique}
 use Rattle.alt_forest.proofs.Relabelled.{put_here, put_other, outer_not_out}
@@ -19,10 +19,12 @@ use Rattle.tree_steps.specs.Shrunk.{shrunk_state}
 use Rattle.tree_steps.specs.Shrinkable.{IsShrinkable, IsShrunk}
 use Rattle.tree_steps.proofs.Closed.{shrinks_from}
 use Rattle.tree_steps.proofs.CountedShrink.{IsNestedState}
+use Rattle.tree_steps.proofs.Handed.{AreRootsKept}
 use Rattle.tree_steps.proofs.OneTree.{up_edge_same, above}
 use Rattle.tree_steps.proofs.Shrunk.{Shrinks, lift_in, lift_out, joins_lift, outermost_lift, outer_differs, outer_before, new_outer, mate_here, mate_else, label_here, label_else}
 
-module _ (s : State) (depth : ℕ → ℕ) (ring : List Link) (node base : ℕ) (graph : IsGraph s.graph) (nested : IsNested s.graph.vertices (made_of s.blossoms ring node ∷ s.blossoms)) (can : IsShrinkable s depth ring base) where
+module _ (s : State) (depth : ℕ → ℕ) (ring : List Link) (node base : ℕ) (graph : IsGraph s.graph) (nested : IsNested s.graph.vertices (made_of s.blossoms ring node ∷ s.blossoms))
+    (can : IsShrinkable s depth ring base) where
   abbrev b : Blossom
   b = made_of s.blossoms ring node
 
@@ -92,11 +94,16 @@ module _ (s : State) (depth : ℕ → ℕ) (ring : List Link) (node base : ℕ) 
     root_kept a r = ⊎_elim
         (λ at.
         let exposed = sym (mate_here s b base depth h) ∙ ap t.mate (sym at) ∙ r.exposed in
-        ap tree at ∙ tree_new ∙ ap lift (root_self s depth nested.1 st base (record { outermost = base_is; outer = can.base_outer; exposed = exposed })) ∙ lift_in s b base depth h base can.base_in ∙ sym at)
+        ap tree at ∙ tree_new ∙ ap lift (root_self s depth nested.1 st base (record { outermost = base_is; outer = can.base_outer; exposed = exposed }))
+        ∙ lift_in s b base depth h base can.base_in ∙ sym at)
         (λ old.
         let other : a ≢ node = outer_differs s b base depth h a old.0 in
         tree_old a other
-        ∙ ap lift (root_self s depth nested.1 st a (record { outermost = old.0; outer = sym (label_else s b base depth h a other) ∙ r.outer; exposed = sym (mate_else s b base depth h a other) ∙ r.exposed }))
+        ∙ ap lift (root_self s depth nested.1 st a (record {
+          outermost = old.0;
+          outer = sym (label_else s b base depth h a other) ∙ r.outer;
+          exposed = sym (mate_else s b base depth h a other) ∙ r.exposed;
+        }))
         ∙ lift_out s b base depth h a old.1)
         (outer_before s b base depth h a r.outermost)
 
@@ -109,18 +116,29 @@ module _ (s : State) (depth : ℕ → ℕ) (ring : List Link) (node base : ℕ) 
           (outer_before s b base depth h a is);
     }
 
-    -- a vertex of a root comes where the root comes
-    lifted : (a v : ℕ) → IsSeed s a v → outermost t.blossoms v ≡ lift (root_of s a)
-    lifted a v seed = outermost_lift s b base depth h v seed.vertex ∙ ap lift seed.root
+    new_root : root_of t node ≡ lift (root_of s base)
+    new_root = tree_root t after nested now tree trees node (new_outer s b base depth h) (λ out. outer_not_out (sym (label_here s b base depth h) ∙ out)) ∙ tree_new
 
-    new_seed : (v : ℕ) → IsSeed s base v → IsSeed t node v
-    new_seed v seed = record {
-      vertex = seed.vertex;
-      root = lifted base v seed ∙ sym tree_new ∙ sym (tree_root t after nested now tree trees node (new_outer s b base depth h) (λ out. outer_not_out (sym (label_here s b base depth h) ∙ out)));
+    other_root : (a : ℕ) → IsOutermost t a → t.label a ≢ Out → a ≢ node → root_of t a ≡ lift (root_of s a)
+    other_root a is in_it ne = tree_root t after nested now tree trees a is in_it ∙ tree_old a ne
+
+    -- a circuit has one root at most, so roots stay apart
+    on_circuit : (r : ℕ) → IsRoot s r → in_ring ring r ≡ true → r ≡ root_of s base
+    on_circuit r root on = sym (root_self s depth nested.1 st r root) ∙ one r on
+
+    not_new : (r : ℕ) → IsRoot s r → lift r ≡ node → in_ring ring r ≡ true
+    not_new r root at = by_test (in_ring ring r) (λ on. on) (λ off. absurd (outer_differs s b base depth h r root.outermost (sym (lift_out s b base depth h r off) ∙ at)))
+
+    roots_kept : AreRootsKept s t lift
+    roots_kept = record {
+      graph = refl;
+      vertex = λ v is root. outermost_lift s b base depth h v is;
+      apart = λ r q r_is q_is same. by_test (in_ring ring r)
+          (λ on. on_circuit r r_is on ∙ sym (on_circuit q q_is (not_new q q_is (sym same ∙ lift_in s b base depth h r on))))
+          (λ off. by_test (in_ring ring q)
+          (λ on. absurd (both_ways (in_ring ring r) off (not_new r r_is (same ∙ lift_in s b base depth h q on))))
+          (λ other. sym (lift_out s b base depth h r off) ∙ same ∙ lift_out s b base depth h q other));
     }
-
-    other_seed : (a v : ℕ) → IsOutermost t a → t.label a ≢ Out → a ≢ node → IsSeed s a v → IsSeed t a v
-    other_seed a v is in_it ne seed = record { vertex = seed.vertex; root = lifted a v seed ∙ sym (tree_old a ne) ∙ sym (tree_root t after nested now tree trees a is in_it) }
 
 -- the same of the state after a shrink
 module _ (before after : State) (node : ℕ) (x : IsShrunk before after node) (graph : IsGraph before.graph) (h : IsNestedState after) where
@@ -134,12 +152,19 @@ module _ (before after : State) (node : ℕ) (x : IsShrunk before after node) (g
     shrunk_now : IsSearchState (shrunk_state before (made_of before.blossoms x.ring node) x.base) depth
     shrunk_now = subst (λ (s : State). IsSearchState s depth) x.state now
 
-    pub shrunk_new_seed : (v : ℕ) → IsSeed before x.base v → IsSeed after node v
-    shrunk_new_seed v seed =
-        subst (λ (s : State). IsSeed s node v) (sym x.state) (new_seed before x.can.depth x.ring node x.base graph there x.can.shrinkable depth x.can.state shrunk_now one v seed)
+    -- where a node comes by the shrink
+    abbrev pub shrunk_into : ℕ → ℕ
+    shrunk_into a = cond (in_ring x.ring a) node a
 
-    pub shrunk_other_seed : (a v : ℕ) → IsOutermost after a → after.label a ≢ Out → a ≢ node → IsSeed before a v → IsSeed after a v
-    shrunk_other_seed a v is in_it ne seed =
-        subst (λ (s : State). IsSeed s a v) (sym x.state)
-        (other_seed before x.can.depth x.ring node x.base graph there x.can.shrinkable depth x.can.state shrunk_now one a v
-        (subst (λ (s : State). IsOutermost s a) x.state is) (λ out. in_it (ap (λ (s : State). s.label a) x.state ∙ out)) ne seed)
+    pub shrunk_new_root : root_of after node ≡ shrunk_into (root_of before x.base)
+    shrunk_new_root = ap (λ (s : State). root_of s node) x.state ∙ new_root before x.can.depth x.ring node x.base graph there x.can.shrinkable depth x.can.state shrunk_now one
+
+    pub shrunk_other_root : (a : ℕ) → IsOutermost after a → after.label a ≢ Out → a ≢ node → root_of after a ≡ shrunk_into (root_of before a)
+    shrunk_other_root a is in_it ne =
+        ap (λ (s : State). root_of s a) x.state
+        ∙ other_root before x.can.depth x.ring node x.base graph there x.can.shrinkable depth x.can.state shrunk_now one a
+        (subst (λ (s : State). IsOutermost s a) x.state is) (λ out. in_it (ap (λ (s : State). s.label a) x.state ∙ out)) ne
+
+    pub shrunk_roots_kept : AreRootsKept before after shrunk_into
+    shrunk_roots_kept = subst (λ (s : State). AreRootsKept before s shrunk_into) (sym x.state)
+        (roots_kept before x.can.depth x.ring node x.base graph there x.can.shrinkable depth x.can.state shrunk_now one)

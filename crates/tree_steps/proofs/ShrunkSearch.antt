@@ -2,19 +2,20 @@
 use Rattle.std.proofs.Common.{◌≡◌, ◌≢◌, ℕ, ◌+◌, ◌≤◌, ◌||◌, pos, ◌+ℤ◌, Bool, true, false, List, All, Some, None, sym, ap, ap₂, ◌∙◌, subst, ⊎_elim, inl, arith}
 use Rattle.std.proofs.lemmas.Bool.{cases_eq}
 use Rattle.std.proofs.lemmas.Int.{ints}
-use Rattle.graph_theory.specs.Graph.{Multigraph, IsEdgeNumber, edge_of}
+use Rattle.graph_theory.specs.Graph.{Multigraph, IsGraph, IsEdgeNumber, edge_of}
 use Rattle.blossom_arena.specs.Family.{IsNested, is_vertex, in_ring, outermost, ring_of}
 use Rattle.edge_queue.specs.declared.item.Item.TheVariants.{Edge as OfEdge, Blossom as OfBlossom}
 use Rattle.edge_queue.specs.Moments.{Moments, moment_of, with_moment, IsItem}
 use Rattle.blossom_arena.specs.declared.label.Label.TheVariants.{Outer, Out}
 use Rattle.alt_forest.specs.declared.search.Search.{Search}
-use Rattle.alt_forest.specs.State.{State, Joins, node_u, node_v}
+use Rattle.alt_forest.specs.Listing.{Listing}
+use Rattle.alt_forest.specs.State.{State, IsOutermost, Joins, node_u, node_v}
 use Rattle.alt_forest.specs.Trees.{root_of}
 use Rattle.blossom_arena.specs.declared.links.Link.{Link}
-use Rattle.alt_forest.specs.Entries.{IsQueued, IsQueuedBut, ends_around, entry_count, looks_left, touches_any}
+use Rattle.alt_forest.specs.Entries.{IsQueued, IsQueuedBut, ends_around, entry_count, outside_ends, touches_any}
 use Rattle.alt_forest.specs.Events.{CanShrink}
 use Rattle.alt_forest.specs.Searches.{IsSound, state_of, label_at}
-use Rattle.alt_forest.specs.Standing.{AreListed, IsSeed, IsStanding, seed_at}
+use Rattle.alt_forest.specs.Standing.{AreListed, IsStanding, seed_at}
 use Rattle.alt_forest.proofs.Places.{nested_of}
 use Rattle.alt_forest.proofs.Queues.{edge_item}
 use Rattle.alt_forest.proofs.Relabelled.{outer_not_out}
@@ -22,139 +23,199 @@ use Rattle.tree_steps.specs.Circuits.{closed_by}
 use Rattle.tree_steps.specs.Moving.{IsMoving}
 use Rattle.tree_steps.specs.Scanned.{newly_outer}
 use Rattle.tree_steps.specs.Shrinkable.{IsShrunk}
-use Rattle.tree_steps.proofs.Awaited.{queued_but, HasSeed, standing_after, edges_stay, edge_gone, blossoms_stay, one_less, each_vertex}
-use Rattle.tree_steps.proofs.CountedShrink.{shrunk_looks}
+use Rattle.tree_steps.proofs.Awaited.{queued_but, edges_stay, edge_gone, blossoms_stay, one_less, each_vertex}
+use Rattle.tree_steps.proofs.CountedShrink.{shrunk_ends}
 use Rattle.tree_steps.proofs.NewlyOuter.{newly_misses, newly_vertex}
-use Rattle.tree_steps.proofs.ShrunkRoots.{shrunk_new_seed, shrunk_other_seed}
+use Rattle.tree_steps.proofs.Handed.{ComesFrom, standing_after}
+use Rattle.tree_steps.proofs.ShrunkRoots.{shrunk_into, shrunk_new_root, shrunk_other_root, shrunk_roots_kept}
 use Rattle.tree_steps.proofs.QueuedShrink.{shrunk_other, shrunk_tree, shrunk_entered, shrunk_blossom, shrunk_in_tree, shrunk_label, shrunk_ring}
 
 -- f is the search before, f1 where the circuit is one node, f2 where that is listed, and k where the edge's moment is gone
-module _ (f f1 f2 k : Search) (h : IsSound f) (h1 : IsSound f1) (h2 : IsSound f2) (e node : ℕ) (can : CanShrink (state_of f) e) (x : IsShrunk (state_of f) (state_of f1) node)
-    (r1 : f1 ≡ record f { arena = f1.arena; labels = f1.labels; mates = f1.mates; circuit = f1.circuit; scanned = f1.scanned })
-    (r2 : f2 ≡ record f1 { arena = record f1.arena { motions = f2.arena.motions }; queue = f2.queue; standing = f2.standing; seeds = f2.seeds })
-    (r3 : k ≡ record f2 { queue = k.queue }) where
-  pub shrunk_same : state_of k ≡ state_of f1
-  shrunk_same = ap state_of r3 ∙ ap state_of r2
+pub record IsShrinking (f f1 f2 k : Search) (e node seed : ℕ) (can : CanShrink (state_of f) e) : Type 0 where
+  pub sound : IsSound f
+  pub kept : seed_at f.standing.seeds (node_u f.graph f.arena.blossoms e) ≡ Some seed
+  -- the circuit is one node
+  pub rest1 : f1 ≡ record f { arena = f1.arena; labels = f1.labels; mates = f1.mates; circuit = f1.circuit; scanned = f1.scanned }
+  pub sound1 : IsSound f1
+  pub shrunk : IsShrunk (state_of f) (state_of f1) node
+  pub circuit : ring_of f1.arena.blossoms node ≡ closed_by (state_of f) e
+  pub holds_u : outermost f1.arena.blossoms (edge_of f.graph e).u ≡ node
+  pub holds_v : outermost f1.arena.blossoms (edge_of f.graph e).v ≡ node
+  pub scanned : f1.scanned.items ≡ newly_outer (state_of f) (closed_by (state_of f) e)
+  pub one_tree : (a : ℕ) → in_ring (closed_by (state_of f) e) a ≡ true → root_of (state_of f) a ≡ root_of (state_of f) (node_u f.graph f.arena.blossoms e)
+  pub still1 : (a : ℕ) → a ≢ node → in_ring (closed_by (state_of f) e) a ≡ false → label_at f1.arena.motions a ≡ label_at f.arena.motions a
+  -- it is listed
+  pub rest2 : f2 ≡ record f1 { arena = record f1.arena { motions = f2.arena.motions }; queue = f2.queue; standing = f2.standing }
+  pub sound2 : IsSound f2
+  pub listed2 : AreListed f1.graph.vertices f2.standing.nodes f2.standing.seeds
+  pub there2 : label_at f1.labels.items node ≢ Out → seed_at f2.standing.seeds node ≡ Some seed
+  pub keeps2 : (a : ℕ) → a ≢ node → seed_at f2.standing.seeds a ≡ seed_at f1.standing.seeds a
+  pub moves2 : label_at f1.labels.items node ≢ Out → IsMoving f2 node
+  pub still2 : (a : ℕ) → IsMoving f1 a → IsMoving f2 a
+  pub others2 : (b : ℕ) → b ≢ node → moment_of f2.queue (OfBlossom b) ≡ moment_of f1.queue (OfBlossom b)
+  pub edges2 : f2.queue.edges ≡ f1.queue.edges
+  -- the edge's moment is gone
+  pub rest3 : k ≡ record f2 { queue = k.queue }
+  pub removed : k.queue ≡ with_moment f2.queue (OfEdge e) None
 
-  clock_same : k.clock ≡ f.clock
-  clock_same = cc
+module _ {f f1 f2 k : Search} {e node seed : ℕ} {can : CanShrink (state_of f) e} (x : IsShrinking f f1 f2 k e node seed can) where
+  abbrev s : State
+  s = state_of f
 
-  pub graph_same : k.graph ≡ f.graph
-  graph_same = cc
+  abbrev t : State
+  t = state_of f1
+
+  abbrev u : ℕ
+  u = node_u f.graph f.arena.blossoms e
+
+  abbrev ring : List Link
+  ring = x.shrunk.ring
+
+  graph : IsGraph f.graph
+  graph = x.sound.shape.graph.graph
+
+  before : IsNested f.graph.vertices f.arena.blossoms
+  before = nested_of f x.sound.shape
 
   nested : IsNested f1.graph.vertices f1.arena.blossoms
-  nested = nested_of f1 h1.shape
+  nested = nested_of f1 x.sound1.shape
 
-  module _ (circuit : ring_of f1.arena.blossoms node ≡ closed_by (state_of f) e) (scanned : f1.scanned.items ≡ newly_outer (state_of f) (closed_by (state_of f) e)) where
-    pub vertices_are : k.scanned.items ≡ newly_outer (state_of f) x.ring
-    vertices_are =
-        let list : k.scanned ≡ f1.scanned = cc in
-        let ring : closed_by (state_of f) e ≡ x.ring = sym circuit ∙ shrunk_ring (state_of f) (state_of f1) node x h.shape.graph.graph nested in
-        ap (λ v. v.items) list ∙ scanned ∙ ap (newly_outer (state_of f)) ring
+  -- what stays all the while
+  graph1 : f1.graph ≡ f.graph
+  graph1 = ap (λ (y : Search). y.graph) x.rest1
 
-    pub shrunk_vertices : (g : Multigraph) → g ≡ f.graph → All (λ v. is_vertex g.vertices v ≡ true) k.scanned.items
-    shrunk_vertices g same =
-        subst (λ (d : Multigraph). All (λ v. is_vertex d.vertices v ≡ true) k.scanned.items) (sym same)
-        (subst (λ vs. All (λ v. is_vertex f.graph.vertices v ≡ true) vs) (sym vertices_are)
-        (each_vertex f.graph.vertices (newly_outer (state_of f) x.ring) (newly_vertex (state_of f) x.ring (nested_of f h.shape) x.can.shrinkable.circuit)))
+  graph2 : f2.graph ≡ f.graph
+  graph2 = ap (λ (y : Search). y.graph) x.rest2 ∙ graph1
 
-    -- no end of the edge is one of these
-    missed : touches_any k.scanned.items (edge_of f.graph e) ≡ false
-    missed =
-        let s : State = state_of f in
-        let u_outer : s.label (node_u f.graph f.arena.blossoms e) ≡ Outer = ⊎_elim (λ p. ap s.label p.0 ∙ can.one_outer) (λ p. ap s.label p.0 ∙ can.other_outer) can.joins in
-        let v_outer : s.label (node_v f.graph f.arena.blossoms e) ≡ Outer = ⊎_elim (λ p. ap s.label p.1 ∙ can.other_outer) (λ p. ap s.label p.1 ∙ can.one_outer) can.joins in
-        ap (λ vs. touches_any vs (edge_of f.graph e)) vertices_are
-        ∙ ap₂ (λ (a b : Bool). a || b)
-        (newly_misses s x.ring (nested_of f h.shape) x.can.shrinkable.circuit (edge_of f.graph e).u u_outer)
-        (newly_misses s x.ring (nested_of f h.shape) x.can.shrinkable.circuit (edge_of f.graph e).v v_outer)
+  graph_same : k.graph ≡ f.graph
+  graph_same = ap (λ (y : Search). y.graph) x.rest3 ∙ graph2
 
-    pub shrunk_ends : (g : Multigraph) → g ≡ f.graph → ends_around g k.scanned.items + looks_left (state_of f1) ≤ looks_left (state_of f)
-    shrunk_ends g same =
-        let ends : ends_around g k.scanned.items ≡ ends_around f.graph (newly_outer (state_of f) x.ring) = ap (λ (d : Multigraph). ends_around d k.scanned.items) same ∙ ap (ends_around f.graph) vertices_are in
-        omega (arith, ends, shrunk_looks (state_of f) (state_of f1) node x nested)
+  clock_same : k.clock ≡ f.clock
+  clock_same = ap (λ (y : Search). y.clock) x.rest3 ∙ ap (λ (y : Search). y.clock) x.rest2 ∙ ap (λ (y : Search). y.clock) x.rest1
 
-    module _ (queued : IsQueued f) (queue3 : k.queue ≡ with_moment f2.queue (OfEdge e) None) (edges2 : f2.queue.edges ≡ f1.queue.edges) where
-      place : IsEdgeNumber f2.graph e
-      place = let same : f2.graph ≡ f.graph = cc in subst (λ (g : Multigraph). IsEdgeNumber g e) (sym same) can.tight.edge
+  pub shrunk_same : state_of k ≡ t
+  shrunk_same = ap state_of x.rest3 ∙ ap state_of x.rest2
 
-      item : IsItem f2.queue (OfEdge e)
-      item = edge_item f2 e h2.shape place
+  closed : closed_by s e ≡ ring
+  closed = sym x.circuit ∙ shrunk_ring s t node x.shrunk graph nested
 
-      before : f2.queue.edges ≡ f.queue.edges
-      before = edges2 ∙ ap (λ (s : Search). s.queue.edges) r1
+  -- the ends of the edge lie in outer nodes
+  u_outer : s.label u ≡ Outer
+  u_outer = ⊎_elim (λ p. ap s.label p.0 ∙ can.one_outer) (λ p. ap s.label p.0 ∙ can.other_outer) can.joins
 
-      -- the edge had a moment
-      pub shrunk_count : entry_count k.queue + 1 ≡ entry_count f.queue
-      shrunk_count =
-          let twice : pos 0 ≡ pos 0 +ℤ pos 0 = omega (arith, ints) in
-          one_less f.queue f2.queue k.queue e item before queue3 _
-          ((queued.edges e can.tight.edge).between can.one can.other (pos 0) can.joins can.different can.one_outer can.other_outer (can.tight.tight ∙ twice))
+  v_outer : s.label (node_v f.graph f.arena.blossoms e) ≡ Outer
+  v_outer = ⊎_elim (λ p. ap s.label p.1 ∙ can.other_outer) (λ p. ap s.label p.1 ∙ can.one_outer) can.joins
 
-      -- it has none any more after the edges are looked at
-      pub shrunk_taken : (d : Multigraph) (q : Moments) → d ≡ f.graph
-          → ((a : ℕ) → IsEdgeNumber d a → touches_any k.scanned.items (edge_of d a) ≡ false → moment_of q (OfEdge a) ≡ moment_of k.queue (OfEdge a)) → moment_of q (OfEdge e) ≡ None
-      shrunk_taken d q same others =
-          others e (subst (λ (g : Multigraph). IsEdgeNumber g e) (sym same) can.tight.edge) (ap (λ (g : Multigraph). touches_any k.scanned.items (edge_of g e)) same ∙ missed)
-          ∙ edge_gone f.queue f2.queue k.queue e item before queue3
+  vertices_are : k.scanned.items ≡ newly_outer s ring
+  vertices_are = ap (λ (y : Search). y.scanned.items) x.rest3 ∙ ap (λ (y : Search). y.scanned.items) x.rest2 ∙ x.scanned ∙ ap (newly_outer s) closed
 
-      pub shrunk_queued : outermost f1.arena.blossoms (edge_of f.graph e).u ≡ node → outermost f1.arena.blossoms (edge_of f.graph e).v ≡ node
-          → ((b : ℕ) → b ≢ node → moment_of f2.queue (OfBlossom b) ≡ moment_of f1.queue (OfBlossom b)) → IsQueuedBut k k.scanned.items
-      shrunk_queued holds_u holds_v others2 =
-          let s : State = state_of f in
-          let t : State = state_of f1 in
-          let graph : f1.graph ≡ f.graph = cc in
-          let joins : Joins t.graph t.blossoms e node node =
-          inl (ap (λ (g : Multigraph). outermost f1.arena.blossoms (edge_of g e).u) graph ∙ holds_u, ap (λ (g : Multigraph). outermost f1.arena.blossoms (edge_of g e).v) graph ∙ holds_v) in
-          subst (IsQueuedBut k) (sym vertices_are)
-          (queued_but f k t (newly_outer s x.ring) queued shrunk_same clock_same graph_same
-          (shrunk_entered s t node x h.shape.graph.graph nested f.clock f.queue k.queue e joins queued.edges (edges_stay f.queue f2.queue k.queue e item before queue3))
-          (λ b name. shrunk_blossom s t node x h.shape.graph.graph nested f.clock f.queue k.queue b queued.blossoms name
-          (λ ne. blossoms_stay f.queue f2.queue k.queue e item before queue3 b ∙ others2 b ne ∙ ap (λ (y : Search). moment_of y.queue (OfBlossom b)) r1))
-          (shrunk_tree s t node x h.shape.graph.graph nested))
+  pub shrunk_vertices : (g : Multigraph) → g ≡ f.graph → All (λ v. is_vertex g.vertices v ≡ true) k.scanned.items
+  shrunk_vertices g same =
+      subst (λ (d : Multigraph). All (λ v. is_vertex d.vertices v ≡ true) k.scanned.items) (sym same)
+      (subst (λ vs. All (λ v. is_vertex f.graph.vertices v ≡ true) vs) (sym vertices_are)
+      (each_vertex f.graph.vertices (newly_outer s ring) (newly_vertex s ring before x.shrunk.can.shrinkable.circuit)))
 
-  -- the new node is listed, with a vertex of the root of its base
-  pub shrunk_standing : (seed : ℕ) → IsSeed (state_of f) (node_u f.graph f.arena.blossoms e) seed → ring_of f1.arena.blossoms node ≡ closed_by (state_of f) e
-      → ((a : ℕ) → in_ring (closed_by (state_of f) e) a ≡ true → root_of (state_of f) a ≡ root_of (state_of f) (node_u f.graph f.arena.blossoms e))
-      → IsStanding f → AreListed f1.graph.vertices f2.standing.items f2.seeds.items
-      → ((a : ℕ) → a ≢ node → seed_at f2.seeds.items a ≡ seed_at f1.seeds.items a)
-      → (label_at f1.labels.items node ≢ Out → seed_at f2.seeds.items node ≡ Some seed)
-      → ((a : ℕ) → a ≢ node → in_ring (closed_by (state_of f) e) a ≡ false → label_at f1.arena.motions a ≡ label_at f.arena.motions a)
-      → (label_at f1.labels.items node ≢ Out → IsMoving f2 node) → ((a : ℕ) → IsMoving f1 a → IsMoving f2 a) → IsStanding k
-  shrunk_standing seed is_seed circuit one_tree standing listed keeps there still1 moves2 still2 =
-      let s : State = state_of f in
-      let t : State = state_of f1 in
-      let graph : f1.graph ≡ f.graph = cc in
-      let list : k.standing ≡ f2.standing = cc in
-      let seeds : k.seeds ≡ f2.seeds = cc in
-      let first : f1.seeds ≡ f.seeds = cc in
-      let closed : closed_by s e ≡ x.ring = sym circuit ∙ shrunk_ring s t node x h.shape.graph.graph nested in
-      let one : (c : ℕ) → in_ring x.ring c ≡ true → root_of s c ≡ root_of s (node_u f.graph f.arena.blossoms e) = λ c r. one_tree c (ap (λ (ls : List Link). in_ring ls c) closed ∙ r) in
-      let at_base = one x.base x.can.shrinkable.base_in in
-      let read : (a : ℕ) → seed_at k.seeds.items a ≡ seed_at f2.seeds.items a = λ a. ap (λ v. seed_at v.items a) seeds in
-      standing_after f k t shrunk_same graph_same
-      (subst (λ (g : Multigraph). AreListed g.vertices k.standing.items k.seeds.items) graph
-      (subst (λ v. AreListed f1.graph.vertices v.items k.seeds.items) (sym list) (subst (λ v. AreListed f1.graph.vertices f2.standing.items v.items) (sym seeds) listed)))
-      (λ a is labelled. ⊎_elim
-      (λ at. subst (HasSeed k.seeds.items t) (sym at) (
-        seed,
-        read node ∙ there (λ out. outer_not_out (sym (shrunk_label s t node x h.shape.graph.graph nested) ∙ out)),
-        shrunk_new_seed s t node x h.shape.graph.graph nested h1.depth h1.state (λ c r. one c r ∙ sym at_base) seed (record { vertex = is_seed.vertex; root = is_seed.root ∙ sym at_base }),
-      ))
+  -- no end of the edge is one of these
+  missed : touches_any k.scanned.items (edge_of f.graph e) ≡ false
+  missed =
+      ap (λ vs. touches_any vs (edge_of f.graph e)) vertices_are
+      ∙ ap₂ (λ (a b : Bool). a || b)
+      (newly_misses s ring before x.shrunk.can.shrinkable.circuit (edge_of f.graph e).u u_outer)
+      (newly_misses s ring before x.shrunk.can.shrinkable.circuit (edge_of f.graph e).v v_outer)
+
+  -- so many ends fewer are outside
+  pub scanned_ends : (g : Multigraph) → g ≡ f.graph → outside_ends t + ends_around g k.scanned.items ≤ outside_ends s
+  scanned_ends g same =
+      let ends : ends_around g k.scanned.items ≡ ends_around f.graph (newly_outer s ring) = ap (λ (d : Multigraph). ends_around d k.scanned.items) same
+      ∙ ap (ends_around f.graph) vertices_are in
+      omega (arith, ends, shrunk_ends s t node x.shrunk nested)
+
+  item : IsItem f2.queue (OfEdge e)
+  item = edge_item f2 e x.sound2.shape (subst (λ (g : Multigraph). IsEdgeNumber g e) (sym graph2) can.tight.edge)
+
+  edges_before : f2.queue.edges ≡ f.queue.edges
+  edges_before = x.edges2 ∙ ap (λ (y : Search). y.queue.edges) x.rest1
+
+  -- the edge had a moment
+  pub shrunk_count : IsQueued f → entry_count k.queue + 1 ≡ entry_count f.queue
+  shrunk_count queued =
+      let twice : pos 0 ≡ pos 0 +ℤ pos 0 = omega (arith, ints) in
+      one_less f.queue f2.queue k.queue e item edges_before x.removed _
+      ((queued.edges e can.tight.edge).between can.one can.other (pos 0) can.joins can.different can.one_outer can.other_outer (can.tight.tight ∙ twice))
+
+  -- it has none any more after the edges are looked at
+  pub shrunk_taken : (g : Multigraph) (q : Moments) → g ≡ f.graph
+      → ((a : ℕ) → IsEdgeNumber g a → touches_any k.scanned.items (edge_of g a) ≡ false → moment_of q (OfEdge a) ≡ moment_of k.queue (OfEdge a)) → moment_of q (OfEdge e) ≡ None
+  shrunk_taken g q same others =
+      others e (subst (λ (d : Multigraph). IsEdgeNumber d e) (sym same) can.tight.edge) (ap (λ (d : Multigraph). touches_any k.scanned.items (edge_of d e)) same ∙ missed)
+      ∙ edge_gone f.queue f2.queue k.queue e item edges_before x.removed
+
+  pub shrunk_queued : IsQueued f → IsQueuedBut k k.scanned.items
+  shrunk_queued queued =
+      let joins : Joins t.graph t.blossoms e node node =
+      inl (
+        ap (λ (g : Multigraph). outermost f1.arena.blossoms (edge_of g e).u) graph1 ∙ x.holds_u,
+        ap
+            (λ (g : Multigraph). outermost f1.arena.blossoms (edge_of g e).v) graph1 ∙ x.holds_v,
+      ) in
+      subst (IsQueuedBut k) (sym vertices_are)
+      (queued_but f k t (newly_outer s ring) queued shrunk_same clock_same graph_same
+      (shrunk_entered s t node x.shrunk graph nested f.clock f.queue k.queue e joins queued.edges (edges_stay f.queue f2.queue k.queue e item edges_before x.removed))
+      (λ b name. shrunk_blossom s t node x.shrunk graph nested f.clock f.queue k.queue b queued.blossoms name
+      (λ ne. blossoms_stay f.queue f2.queue k.queue e item edges_before x.removed b ∙ x.others2 b ne ∙ ap (λ (y : Search). moment_of y.queue (OfBlossom b)) x.rest1))
+      (shrunk_tree s t node x.shrunk graph nested))
+
+  -- the circuit lies in one tree
+  at_base : root_of s x.shrunk.base ≡ root_of s u
+  at_base = x.one_tree x.shrunk.base (ap (λ (ls : List Link). in_ring ls x.shrunk.base) closed ∙ x.shrunk.can.shrinkable.base_in)
+
+  one : (c : ℕ) → in_ring ring c ≡ true → root_of s c ≡ root_of s x.shrunk.base
+  one c r = x.one_tree c (ap (λ (ls : List Link). in_ring ls c) closed ∙ r) ∙ sym at_base
+
+  abbrev into : ℕ → ℕ
+  into = shrunk_into s t node x.shrunk graph nested x.sound1.depth x.sound1.state one
+
+  node_in : label_at f1.labels.items node ≢ Out
+  node_in out = outer_not_out (sym (shrunk_label s t node x.shrunk graph nested) ∙ out)
+
+  abbrev Comes : ℕ → Type 0
+  Comes = ComesFrom s t into f.standing.seeds k.standing.seeds
+
+  read : (a : ℕ) → seed_at k.standing.seeds a ≡ seed_at f2.standing.seeds a
+  read a = ap (λ (y : Search). seed_at y.standing.seeds a) x.rest3
+
+  -- the new node has the seed of its tree, and all others have theirs
+  comes : (a : ℕ) → IsOutermost t a → t.label a ≢ Out → Comes a
+  comes a is labelled = ⊎_elim
+      (λ at. subst Comes (sym at) (record {
+        from = u;
+        outermost = ⊎_elim (λ p. subst (IsOutermost s) (sym p.0) can.one_is) (λ p. subst (IsOutermost s) (sym p.0) can.other_is) can.joins;
+        in_tree = λ out. outer_not_out (sym u_outer ∙ out);
+        root = shrunk_new_root s t node x.shrunk graph nested x.sound1.depth x.sound1.state one ∙ ap into at_base;
+        seed = read node ∙ x.there2 node_in ∙ sym x.kept;
+      }))
       (λ off.
-      let was = shrunk_in_tree s t node x h.shape.graph.graph nested a is labelled off in
-      let old = standing.trees a was.0 was.1 in (
-        old.0,
-        read a ∙ keeps a off ∙ ap (λ v. seed_at v.items a) first ∙ old.1,
-        shrunk_other_seed s t node x h.shape.graph.graph nested h1.depth h1.state (λ c r. one c r ∙ sym at_base) a old.0 is labelled off old.2,
-      ))
-      (cases_eq a node))
-      (λ a is. ap (λ (y : Search). label_at y.arena.motions a) r3
-      ∙ ⊎_elim
-      (λ at. subst (IsMoving f2) (sym at) (moves2 (λ out. outer_not_out (sym (shrunk_label s t node x h.shape.graph.graph nested) ∙ out))))
-      (λ off.
-      let was = shrunk_other s t node x h.shape.graph.graph nested a is off in
-      let now : IsMoving f1 a = still1 a off (ap (λ (ls : List Link). in_ring ls a) closed ∙ was.1) ∙ standing.moves a was.0 ∙ sym was.2 in
-      still2 a now)
+      let was = shrunk_in_tree s t node x.shrunk graph nested a is labelled off in
+      record {
+        from = a;
+        outermost = was.0;
+        in_tree = was.1;
+        root = shrunk_other_root s t node x.shrunk graph nested x.sound1.depth x.sound1.state one a is labelled off;
+        seed = read a ∙ x.keeps2 a off ∙ ap (λ (y : Search). seed_at y.standing.seeds a) x.rest1;
+      })
       (cases_eq a node)
-      ∙ ap (λ (y : Search). label_at y.labels.items a) r2)
+
+  moving : IsStanding f → (a : ℕ) → IsOutermost t a → IsMoving f2 a
+  moving standing a is = ⊎_elim
+      (λ at. subst (IsMoving f2) (sym at) (x.moves2 node_in))
+      (λ off.
+      let was = shrunk_other s t node x.shrunk graph nested a is off in
+      x.still2 a (x.still1 a off (ap (λ (ls : List Link). in_ring ls a) closed ∙ was.1) ∙ standing.moves a was.0 ∙ sym was.2))
+      (cases_eq a node)
+
+  pub shrunk_standing : IsStanding f → IsStanding k
+  shrunk_standing standing =
+      standing_after f k t into x.sound (shrunk_roots_kept s t node x.shrunk graph nested x.sound1.depth x.sound1.state one) standing comes shrunk_same graph_same
+      (subst (λ (g : Multigraph). AreListed g.vertices k.standing.nodes k.standing.seeds) graph1
+      (subst (λ (y : Listing). AreListed f1.graph.vertices y.nodes y.seeds) (sym (ap (λ (y : Search). y.standing) x.rest3)) x.listed2))
+      (λ a is. ap (λ (y : Search). label_at y.arena.motions a) x.rest3 ∙ moving standing a is ∙ ap (λ (y : Search). label_at y.labels.items a) x.rest2)

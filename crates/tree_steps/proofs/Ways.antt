@@ -9,17 +9,17 @@ use Rattle.blossom_arena.proofs.Lists.{AllNew, distinct_from_new}
 use Rattle.blossom_arena.specs.declared.label.Label.TheVariants.{Outer}
 use Rattle.alt_forest.specs.State.{State, IsOutermost, Joins, IsTight, next_node, IsChainTo, IsMate, IsSearchState}
 use Rattle.alt_forest.specs.declared.hop.Hop.{Hop}
-use Rattle.alt_forest.specs.Ways.{AreHops, links_up}
 use Rattle.tree_steps.specs.Shrinkable.{IsShrinkable}
 use Rattle.tree_steps.specs.Circuits.{mirror, circuit_of}
 use Rattle.alt_forest.proofs.Mates.{joins_turned, mate_turned, mate_unique}
 use Rattle.tree_steps.proofs.Mirror.{mirror_chain, mirror_nodes, mirror_edges, mirror_length, mirror_has, mirror_new}
+use Rattle.alt_forest.proofs.Hops.{AreHops, links_up}
 
 pub record WayLinks (s : State) (depth : ℕ → ℕ) (x : ℕ) (ls : List Link) (base k : ℕ) : Type 0 where
   pub chain : IsChainTo s.graph s.blossoms ls base
   pub first : next_node ls base ≡ x
   pub tight : AllByRecursion (λ (l : Link). IsTight s l.edge) ls
-  pub outer : AllByRecursion (λ (l : Link). IsOutermost s l.node) ls
+  pub outermost : AllByRecursion (λ (l : Link). IsOutermost s l.node) ls
   pub deep : AllByRecursion (λ (l : Link). depth base < depth l.node) ls
   pub shallow : AllByRecursion (λ (l : Link). depth l.node ≤ depth x) ls
   pub low : depth base ≤ depth x
@@ -30,7 +30,8 @@ pub record WayLinks (s : State) (depth : ℕ → ℕ) (x : ℕ) (ls : List Link)
 
 deeper_others : (depth : ℕ → ℕ) (x y : ℕ) (ls : List Link) → depth y < depth x → AllByRecursion (λ (l : Link). depth l.node ≤ depth y) ls → in_ring ls x ≡ false
 deeper_others depth x y [] low each = refl
-deeper_others depth x y (l ∷ ls) low each = or_from (eqb l.node x) (in_ring ls x) (ne_eqb l.node x (λ e. let same : depth l.node ≡ depth x = ap depth e in absurd (omega (arith, each.0, low)))) (deeper_others depth x y ls low each.1)
+deeper_others depth x y (l ∷ ls) low each = or_from (eqb l.node x) (in_ring ls x)
+    (ne_eqb l.node x (λ e. let same : depth l.node ≡ depth x = ap depth e in absurd (omega (arith, each.0, low)))) (deeper_others depth x y ls low each.1)
 
 weaker : (depth : ℕ → ℕ) (m n : ℕ) (ls : List Link) → m ≤ n → AllByRecursion (λ (l : Link). depth l.node ≤ m) ls → AllByRecursion (λ (l : Link). depth l.node ≤ n) ls
 weaker depth m n [] h each = tt
@@ -41,7 +42,19 @@ pair_mated : (s : State) (x f y c k d : ℕ) → IsOutermost s x → s.mate x �
 pair_mated s x f y c k d is mate w same has v = mate_unique s x f y k d mate (ap s.mate (sym same) ∙ has) w (subst (λ z. IsMate s z k d) same v)
 
 pub way_links : (s : State) (depth : ℕ → ℕ) (x : ℕ) (hs : List Hop) (base : ℕ) → AreHops s depth x hs base → WayLinks s depth x (links_up x hs) base (length hs)
-way_links s depth x [] base w = record { chain = tt; first = sym w; tight = tt; outer = tt; deep = tt; shallow = tt; low = subst (λ y. depth y ≤ depth x) w (omega arith); different = tt; has = λ c r. absurd (both_ways false refl r); mated = λ c f d r. absurd (both_ways false refl r); even = omega arith }
+way_links s depth x [] base w = record {
+  chain = tt;
+  first = sym w;
+  tight = tt;
+  outermost = tt;
+  deep = tt;
+  shallow = tt;
+  low = subst (λ y. depth y ≤ depth x) w (omega arith);
+  different = tt;
+  has = λ c r. absurd (both_ways false refl r);
+  mated = λ c f d r. absurd (both_ways false refl r);
+  even = omega arith;
+}
 way_links s depth x (h ∷ hs) base w =
     let hop = w.0 in
     let rest = way_links s depth h.outer hs base w.1 in
@@ -54,11 +67,14 @@ way_links s depth x (h ∷ hs) base w =
       chain = (hop.is_mate.edge, hop.is_mate.joins, (hop.edge, subst (λ y. Joins s.graph s.blossoms h.parent h.inner y) (sym rest.first) hop.joins, rest.chain));
       first = refl;
       tight = (record { edge = hop.is_mate.edge; tight = hop.is_mate.tight }, (record { edge = hop.edge; tight = hop.tight }, rest.tight));
-      outer = (hop.is, (hop.is_mate.outer, rest.outer));
+      outermost = (hop.is, (hop.is_mate.outermost, rest.outermost));
       deep = (omega arith, (omega arith, rest.deep));
       shallow = (omega arith, (omega arith, weaker depth (depth h.outer) (depth x) ls (omega arith) rest.shallow));
       low = omega arith;
-      different = (or_from (eqb h.inner x) (in_ring ls x) x_inner (deeper_others depth x h.outer ls (omega arith) rest.shallow), (deeper_others depth h.inner h.outer ls l2 rest.shallow, rest.different));
+      different = (
+        or_from (eqb h.inner x) (in_ring ls x) x_inner (deeper_others depth x h.outer ls (omega arith) rest.shallow),
+        (deeper_others depth h.inner h.outer ls l2 rest.shallow, rest.different),
+      );
       has = λ c r. ⊎_elim
           (λ here. (h.mate, ap s.mate (sym (eqb-true x c here)) ∙ hop.mate))
           (λ more. ⊎_elim
@@ -72,7 +88,8 @@ way_links s depth x (h ∷ hs) base w =
           or_right (eqb x d) (eqb h.inner d || in_ring ls d) (or_left (eqb h.inner d) (in_ring ls d) (eq-eqb h.inner d it)))
           (λ more. ⊎_elim
           (λ here.
-          let it = pair_mated s h.inner h.mate x c f d hop.is_mate.outer hop.is_mate.back (mate_turned s x h.mate h.inner hop.is hop.mate hop.is_mate) (sym (eqb-true h.inner c here)) has v in
+          let it = pair_mated s h.inner h.mate x c f d hop.is_mate.outermost hop.is_mate.back (mate_turned s x h.mate h.inner hop.is hop.mate hop.is_mate)
+          (sym (eqb-true h.inner c here)) has v in
           or_left (eqb x d) (eqb h.inner d || in_ring ls d) (eq-eqb x d it))
           (λ later. or_right (eqb x d) (eqb h.inner d || in_ring ls d) (or_right (eqb h.inner d) (in_ring ls d) (rest.mated c f d later has v)))
           (or_cases (eqb h.inner c) (in_ring ls c) more))
@@ -82,11 +99,13 @@ way_links s depth x (h ∷ hs) base w =
 
 base_apart : (depth : ℕ → ℕ) (base : ℕ) (ls : List Link) → AllByRecursion (λ (l : Link). depth base < depth l.node) ls → in_ring ls base ≡ false
 base_apart depth base [] each = refl
-base_apart depth base (l ∷ ls) each = or_from (eqb l.node base) (in_ring ls base) (ne_eqb l.node base (λ e. let same : depth l.node ≡ depth base = ap depth e in absurd (omega (arith, each.0)))) (base_apart depth base ls each.1)
+base_apart depth base (l ∷ ls) each = or_from (eqb l.node base) (in_ring ls base)
+    (ne_eqb l.node base (λ e. let same : depth l.node ≡ depth base = ap depth e in absurd (omega (arith, each.0)))) (base_apart depth base ls each.1)
 
 least : (depth : ℕ → ℕ) (base c : ℕ) (ls : List Link) → AllByRecursion (λ (l : Link). depth base < depth l.node) ls → in_ring ls c ≡ true → depth base < depth c
 least depth base c [] each r = absurd (both_ways false refl r)
-least depth base c (l ∷ ls) each r = ⊎_elim (λ here. subst (λ y. depth base < depth y) (eqb-true l.node c here) each.0) (λ more. least depth base c ls each.1 more) (or_cases (eqb l.node c) (in_ring ls c) r)
+least depth base c (l ∷ ls) each r = ⊎_elim (λ here. subst (λ y. depth base < depth y) (eqb-true l.node c here) each.0) (λ more. least depth base c ls each.1 more)
+    (or_cases (eqb l.node c) (in_ring ls c) r)
 
 some_hop : (s : State) (depth : ℕ → ℕ) (a b base : ℕ) (hs ks : List Hop) → a ≢ b → AreHops s depth a hs base → AreHops s depth b ks base → 1 ≤ length hs + length ks
 some_hop s depth a b base [] [] ne wa wb = absurd (ne (wa ∙ sym wb))
@@ -102,7 +121,8 @@ circuit_shrinks s depth a b e base hs ks st wa wb tight joins ne base_is base_ou
     let js : List Link = links_up b ks in
     let la = way_links s depth a hs base wa in
     let lb = way_links s depth b ks base wb in
-    let turned = mirror_chain s.graph s.blossoms e ls js base tight.edge (subst (λ x. Joins s.graph s.blossoms e x (next_node ls base)) (sym lb.first) (subst (λ x. Joins s.graph s.blossoms e b x) (sym la.first) (joins_turned s.graph s.blossoms e a b joins))) la.chain lb.chain in
+    let turned = mirror_chain s.graph s.blossoms e ls js base tight.edge (subst (λ x. Joins s.graph s.blossoms e x (next_node ls base)) (sym lb.first)
+    (subst (λ x. Joins s.graph s.blossoms e b x) (sym la.first) (joins_turned s.graph s.blossoms e a b joins))) la.chain lb.chain in
     let edges = mirror_edges (IsTight s) e ls js tight la.tight lb.tight in
     let deep : AllByRecursion (λ (l : Link). depth base < depth l.node) (mirror e ls js) = mirror_nodes (λ x. depth base < depth x) e ls js la.deep lb.deep in
     let len : length (mirror e ls js) ≡ length ls + length js = mirror_length e ls js in
@@ -111,7 +131,8 @@ circuit_shrinks s depth a b e base hs ks st wa wb tight joins ne base_is base_ou
       circuit = record {
         at_least_three = omega (arith, la.even, lb.even);
         odd = omega (arith, la.even, lb.even);
-        outer = All-from_recursion (λ (l : Link). is_outermost s.graph.vertices s.blossoms l.node ≡ true) (circuit_of base e ls js) (base_is, mirror_nodes (IsOutermost s) e ls js la.outer lb.outer);
+        outer = All-from_recursion (λ (l : Link). is_outermost s.graph.vertices s.blossoms l.node ≡ true) (circuit_of base e ls js)
+            (base_is, mirror_nodes (IsOutermost s) e ls js la.outermost lb.outermost);
         different = distinct_from_new (nodes_of (circuit_of base e ls js)) (base_apart depth base (mirror e ls js) deep, mirror_new e ls js la.different lb.different apart);
       };
       ring = (turned.last, turned.joins, turned.chain);
@@ -123,12 +144,15 @@ circuit_shrinks s depth a b e base hs ks st wa wb tight joins ne base_is base_ou
           (λ more. let low : depth base < depth c = least depth base c (mirror e ls js) deep more in omega arith)
           (or_cases (eqb base c) (in_ring (mirror e ls js) c) r);
       mated = λ c r other.
-          let inside : (in_ring ls c || in_ring js c) ≡ true = ⊎_elim (λ here. absurd (other (sym (eqb-true base c here)))) (λ more. sym (mirror_has e ls js c) ∙ more) (or_cases (eqb base c) (in_ring (mirror e ls js) c) r) in
+          let inside : (in_ring ls c || in_ring js c) ≡ true = ⊎_elim (λ here. absurd (other (sym (eqb-true base c here)))) (λ more. sym (mirror_has e ls js c) ∙ more)
+          (or_cases (eqb base c) (in_ring (mirror e ls js) c) r) in
           ⊎_elim (λ r1. la.has c r1) (λ r2. lb.has c r2) (or_cases (in_ring ls c) (in_ring js c) inside);
       mated_inside = λ c f d r other has v.
-          let inside : (in_ring ls c || in_ring js c) ≡ true = ⊎_elim (λ here. absurd (other (sym (eqb-true base c here)))) (λ more. sym (mirror_has e ls js c) ∙ more) (or_cases (eqb base c) (in_ring (mirror e ls js) c) r) in
+          let inside : (in_ring ls c || in_ring js c) ≡ true = ⊎_elim (λ here. absurd (other (sym (eqb-true base c here)))) (λ more. sym (mirror_has e ls js c) ∙ more)
+          (or_cases (eqb base c) (in_ring (mirror e ls js) c) r) in
           or_right (eqb base d) (in_ring (mirror e ls js) d) (mirror_has e ls js d
-          ∙ ⊎_elim (λ r1. or_left (in_ring ls d) (in_ring js d) (la.mated c f d r1 has v)) (λ r2. or_right (in_ring ls d) (in_ring js d) (lb.mated c f d r2 has v)) (or_cases (in_ring ls c) (in_ring js c) inside));
+          ∙ ⊎_elim (λ r1. or_left (in_ring ls d) (in_ring js d) (la.mated c f d r1 has v)) (λ r2. or_right (in_ring ls d) (in_ring js d) (lb.mated c f d r2 has v))
+          (or_cases (in_ring ls c) (in_ring js c) inside));
       base_mated_outside = λ f d has v.
           let says = (st.labels base base_is).outer base_outer f d has v in
           let low : depth d < depth base = says.1 in

@@ -50,12 +50,6 @@ parents_up p x edge parent [] = put p x (Some parent)
 parents_up p x edge parent (a ∷ []) = p
 parents_up p x edge parent (a ∷ (b ∷ rest)) = parents_up (put p x (Some edge)) b.node b.edge parent rest
 
--- where the way up ends
-abbrev pub end_of : ℕ → List Link → ℕ
-end_of x [] = x
-end_of x (a ∷ []) = x
-end_of x (a ∷ (b ∷ rest)) = end_of b.node rest
-
 -- the way down to an inner node, by pairs: the first of each is inner, the second one outer
 abbrev pub labels_down : (ℕ → Label) → List Link → ℕ → Label
 labels_down l [] = l

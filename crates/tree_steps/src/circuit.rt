@@ -36,8 +36,8 @@ fn shift_edges(links: &mut Vec<Link>, first: EdgeId) -> EdgeId
 /// an edge between the two.
 pub(crate) fn fill_circuit(search: &mut Search, a: NodeId, b: NodeId, base: NodeId, e: EdgeId)
     requires sound { IsSound search.old }
-    requires a_outer { IsOutermost (state_of search.old) a }
-    requires b_outer { IsOutermost (state_of search.old) b }
+    requires a_outermost { IsOutermost (state_of search.old) a }
+    requires b_outermost { IsOutermost (state_of search.old) b }
     requires a_there { holds (path_of (state_of search.old) a) base ≡ true }
     requires b_there { holds (path_of (state_of search.old) b) base ≡ true }
     requires room { length (before (path_of (state_of search.old) a) base) + length (before (path_of (state_of search.old) b) base) + 1 ≤ vec_capacity search.old.circuit }

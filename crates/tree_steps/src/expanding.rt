@@ -9,7 +9,7 @@ ghost use Rattle.edge_queue.specs.Moments.{moment_of};
 ghost use Rattle.alt_forest.specs.State.{node_u, node_v};
 ghost use Rattle.alt_forest.specs.Trees.{node_limit};
 ghost use Rattle.alt_forest.specs.Counts.{is_outside, outside_among, tree_count, exposed_count, measure, IsPlanted};
-ghost use Rattle.alt_forest.specs.Entries.{IsQueued, ends_around, entry_count, looks_left};
+ghost use Rattle.alt_forest.specs.Entries.{IsQueued, ends_around, entry_count, looks_left, out_ends, outside_ends};
 ghost use Rattle.alt_forest.specs.Events.{CanExpand};
 ghost use Rattle.alt_forest.specs.Searches.{HasShape, IsSound, label_at, state_of};
 ghost use Rattle.alt_forest.specs.Standing.{IsStanding};
@@ -133,7 +133,7 @@ pub fn expand<L: Ledger>(search: &mut Search, graph: &Graph, b: NodeId, steps: &
     requires same { graph.now ≡ search.old.graph }
     requires can { CanExpand (state_of search.old) b }
     ensures expanded { IsExpanded (state_of search.old) (state_of search.new) b }
-    ensures rest { search.new ≡ record search.old { arena = record search.old.arena { motions = search.new.arena.motions; blossoms = search.new.arena.blossoms }; labels = search.new.labels; parents = search.new.parents; mates = search.new.mates; circuit = search.new.circuit; queue = search.new.queue; standing = search.new.standing; seeds = search.new.seeds; scanned = search.new.scanned } }
+    ensures rest { search.new ≡ record search.old { arena = record search.old.arena { motions = search.new.arena.motions; blossoms = search.new.arena.blossoms }; labels = search.new.labels; parents = search.new.parents; mates = search.new.mates; circuit = search.new.circuit; queue = search.new.queue; standing = search.new.standing; scanned = search.new.scanned } }
     ensures sound { IsSound search.new }
     ensures queued { IsQueued search.new }
     ensures taken { moment_of search.new.queue (OfBlossom b) ≡ None }
@@ -146,6 +146,7 @@ pub fn expand<L: Ledger>(search: &mut Search, graph: &Graph, b: NodeId, steps: &
     ensures blossoms { outside_among (state_of search.new) search.new.arena.blossoms < outside_among (state_of search.old) search.old.arena.blossoms }
     ensures looks { steps.new + looks_left (state_of search.new) ≤ steps.old + 1 + looks_left (state_of search.old) }
     ensures ends { steps.new ≤ steps.old + 1 + ends_around graph.now (members_of search.old.arena.blossoms b) }
+    ensures around { steps.new + outside_ends (state_of search.new) + out_ends (state_of search.old) ≤ steps.old + 1 + outside_ends (state_of search.old) + out_ends (state_of search.new) }
     ensures count { entry_count search.new.queue + steps.old + 1 ≤ entry_count search.old.queue + steps.new }
 {
     steps.tick();

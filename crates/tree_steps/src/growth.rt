@@ -5,10 +5,10 @@ ghost use Rattle.edge_queue.specs.Moments.{moment_of};
 ghost use Rattle.blossom_arena.specs.declared.label.Label.TheVariants.{Outer, Inner};
 ghost use Rattle.alt_forest.specs.State.{IsOutermost, IsMate};
 ghost use Rattle.alt_forest.specs.Counts.{is_outside, outside_among, tree_count, exposed_count, measure, IsPlanted};
-ghost use Rattle.alt_forest.specs.Entries.{IsQueued, entry_count, looks_left};
+ghost use Rattle.alt_forest.specs.Entries.{IsQueued, entry_count, looks_left, outside_ends};
 ghost use Rattle.alt_forest.specs.Events.{CanGrow};
 ghost use Rattle.alt_forest.specs.Searches.{IsSound, state_of, label_at, edge_in, put};
-ghost use Rattle.alt_forest.specs.Standing.{IsSeed, IsStanding};
+ghost use Rattle.alt_forest.specs.Standing.{IsStanding, seed_at};
 ghost use Rattle.tree_steps.specs.Grown.{grown};
 
 use crate::listing::{drop_entry, enlist};
@@ -34,12 +34,13 @@ fn far_node(search: &Search, e: EdgeId) -> NodeId
     near
 }
 
-/// A vertex of the root of the tree that a grow takes nodes into.
+/// The vertex that is kept for the node that a grow's two nodes hang under.
 fn near_seed(search: &Search, e: EdgeId) -> VertexId
     requires sound { IsSound search.now }
     requires standing { IsStanding search.now }
     requires can { CanGrow (state_of search.now) e }
-    ensures { (g : CanGrow (state_of search.now) e) → IsSeed (state_of search.now) g.near result }
+    ensures vertex { is_vertex search.now.graph.vertices result ≡ true }
+    ensures kept { (g : CanGrow (state_of search.now) e) → seed_at search.now.standing.seeds g.near ≡ Some result }
 {
     let (u, v, _) = search.graph.edge(e);
     let node = search.arena.outermost(u);
@@ -53,7 +54,7 @@ fn near_seed(search: &Search, e: EdgeId) -> VertexId
 /// The node at the other end of a node's mate; the node itself where it has none.
 fn mate_node(search: &Search, node: NodeId) -> NodeId
     requires sound { IsSound search.now }
-    requires outer { IsOutermost (state_of search.now) node }
+    requires outermost { IsOutermost (state_of search.now) node }
     ensures { (f mate : ℕ) → edge_in search.now.mates.items node ≡ Some f → IsMate (state_of search.now) node f mate → result ≡ mate }
 {
     match search.mate(node) {
@@ -95,7 +96,7 @@ pub fn grow<L: Ledger>(search: &mut Search, graph: &Graph, e: EdgeId, steps: &mu
     requires same { graph.now ≡ search.old.graph }
     requires can { CanGrow (state_of search.old) e }
     ensures grown { (g : CanGrow (state_of search.old) e) (mate : ℕ) → IsMate (state_of search.old) g.far g.mate_edge mate → state_of search.new ≡ grown (state_of search.old) e g.far mate }
-    ensures rest { search.new ≡ record search.old { arena = record search.old.arena { motions = search.new.arena.motions }; labels = search.new.labels; parents = search.new.parents; queue = search.new.queue; standing = search.new.standing; seeds = search.new.seeds; scanned = search.new.scanned } }
+    ensures rest { search.new ≡ record search.old { arena = record search.old.arena { motions = search.new.arena.motions }; labels = search.new.labels; parents = search.new.parents; queue = search.new.queue; standing = search.new.standing; scanned = search.new.scanned } }
     ensures sound { IsSound search.new }
     ensures queued { IsQueued search.new }
     ensures taken { moment_of search.new.queue (OfEdge e) ≡ None }
@@ -107,6 +108,7 @@ pub fn grow<L: Ledger>(search: &mut Search, graph: &Graph, e: EdgeId, steps: &mu
     ensures inside { (w : ℕ) → is_vertex search.old.graph.vertices w ≡ true → is_outside (state_of search.new) w ≡ true → is_outside (state_of search.old) w ≡ true }
     ensures blossoms { outside_among (state_of search.new) search.new.arena.blossoms ≤ outside_among (state_of search.old) search.old.arena.blossoms }
     ensures looks { steps.new + looks_left (state_of search.new) ≤ steps.old + 1 + looks_left (state_of search.old) }
+    ensures around { steps.new + outside_ends (state_of search.new) ≤ steps.old + 1 + outside_ends (state_of search.old) }
     ensures count { entry_count search.new.queue + steps.old + 2 ≤ entry_count search.old.queue + steps.new }
 {
     steps.tick();

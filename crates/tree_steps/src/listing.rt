@@ -1,7 +1,7 @@
 ghost use Rattle.std.specs.Prelude.{◌≡◌, ◌≢◌, ◌⊎◌, ℕ, pos, ◌≤ℤ◌, true, false, Some, None};
 ghost use Rattle.graph_theory.specs.Parts.{holds};
 ghost use Rattle.graph_theory.specs.declared.limits.TheConstants.{NUMBER_LIMIT};
-ghost use Rattle.blossom_arena.specs.Family.{in_ring, names_of};
+ghost use Rattle.blossom_arena.specs.Family.{in_ring, is_vertex, names_of};
 ghost use Rattle.edge_queue.specs.declared.item.Item.TheVariants.{Blossom as OfBlossom};
 ghost use Rattle.edge_queue.specs.Moments.{moment_of, with_moment, IsItem};
 ghost use Rattle.blossom_arena.specs.declared.label.Label.TheVariants.{Out};
@@ -19,17 +19,18 @@ use mb_base::VertexId;
 /// of that tree for it, and gives an inner blossom its moment. For a node labelled out nothing is done.
 pub(crate) fn enlist(search: &mut Search, node: NodeId, seed: VertexId)
     requires sound { IsSound search.old }
-    requires listed { AreListed search.old.graph.vertices search.old.standing.items search.old.seeds.items }
+    requires listed { AreListed search.old.graph.vertices search.old.standing.nodes search.old.standing.seeds }
     requires low { pos 0 ≤ℤ search.old.clock }
     requires high { search.old.clock ≤ℤ NUMBER_LIMIT }
-    requires outer { IsOutermost (state_of search.old) node }
-    ensures rest { search.new ≡ record search.old { arena = record search.old.arena { motions = search.new.arena.motions }; queue = search.new.queue; standing = search.new.standing; seeds = search.new.seeds } }
+    requires outermost { IsOutermost (state_of search.old) node }
+    requires vertex { is_vertex search.old.graph.vertices seed ≡ true }
+    ensures rest { search.new ≡ record search.old { arena = record search.old.arena { motions = search.new.arena.motions }; queue = search.new.queue; standing = search.new.standing } }
     ensures sound { IsSound search.new }
-    ensures listed { AreListed search.old.graph.vertices search.new.standing.items search.new.seeds.items }
-    ensures there { label_at search.old.labels.items node ≢ Out → seed_at search.new.seeds.items node ≡ Some seed }
+    ensures listed { AreListed search.old.graph.vertices search.new.standing.nodes search.new.standing.seeds }
+    ensures there { label_at search.old.labels.items node ≢ Out → seed_at search.new.standing.seeds node ≡ Some seed }
     ensures moves { label_at search.old.labels.items node ≢ Out → IsMoving search.new node }
     ensures still { (a : ℕ) → IsMoving search.old a → IsMoving search.new a }
-    ensures keeps { (a : ℕ) → a ≢ node → seed_at search.new.seeds.items a ≡ seed_at search.old.seeds.items a }
+    ensures keeps { (a : ℕ) → a ≢ node → seed_at search.new.standing.seeds a ≡ seed_at search.old.standing.seeds a }
     ensures entered { holds (names_of search.old.arena.blossoms) node ≡ true → IsBlossomEntered (state_of search.old) search.old.clock search.new.queue node }
     ensures others { (b : ℕ) → b ≢ node → moment_of search.new.queue (OfBlossom b) ≡ moment_of search.old.queue (OfBlossom b) }
     ensures edges { search.new.queue.edges ≡ search.old.queue.edges }
@@ -44,18 +45,19 @@ pub(crate) fn enlist(search: &mut Search, node: NodeId, seed: VertexId)
 /// The same for a node and all those of the circuit.
 pub(crate) fn enlist_circuit(search: &mut Search, base: NodeId, seed: VertexId)
     requires sound { IsSound search.old }
-    requires listed { AreListed search.old.graph.vertices search.old.standing.items search.old.seeds.items }
+    requires listed { AreListed search.old.graph.vertices search.old.standing.nodes search.old.standing.seeds }
     requires low { pos 0 ≤ℤ search.old.clock }
     requires high { search.old.clock ≤ℤ NUMBER_LIMIT }
     requires base { IsOutermost (state_of search.old) base }
     requires circuit { (a : ℕ) → in_ring search.old.circuit.items a ≡ true → IsOutermost (state_of search.old) a }
-    ensures rest { search.new ≡ record search.old { arena = record search.old.arena { motions = search.new.arena.motions }; queue = search.new.queue; standing = search.new.standing; seeds = search.new.seeds } }
+    requires vertex { is_vertex search.old.graph.vertices seed ≡ true }
+    ensures rest { search.new ≡ record search.old { arena = record search.old.arena { motions = search.new.arena.motions }; queue = search.new.queue; standing = search.new.standing } }
     ensures sound { IsSound search.new }
-    ensures listed { AreListed search.old.graph.vertices search.new.standing.items search.new.seeds.items }
-    ensures there { (a : ℕ) → (a ≡ base) ⊎ (in_ring search.old.circuit.items a ≡ true) → label_at search.old.labels.items a ≢ Out → seed_at search.new.seeds.items a ≡ Some seed }
+    ensures listed { AreListed search.old.graph.vertices search.new.standing.nodes search.new.standing.seeds }
+    ensures there { (a : ℕ) → (a ≡ base) ⊎ (in_ring search.old.circuit.items a ≡ true) → label_at search.old.labels.items a ≢ Out → seed_at search.new.standing.seeds a ≡ Some seed }
     ensures moves { (a : ℕ) → (a ≡ base) ⊎ (in_ring search.old.circuit.items a ≡ true) → label_at search.old.labels.items a ≢ Out → IsMoving search.new a }
     ensures still { (a : ℕ) → IsMoving search.old a → IsMoving search.new a }
-    ensures keeps { (a : ℕ) → a ≢ base → in_ring search.old.circuit.items a ≡ false → seed_at search.new.seeds.items a ≡ seed_at search.old.seeds.items a }
+    ensures keeps { (a : ℕ) → a ≢ base → in_ring search.old.circuit.items a ≡ false → seed_at search.new.standing.seeds a ≡ seed_at search.old.standing.seeds a }
     ensures entered { (a : ℕ) → (a ≡ base) ⊎ (in_ring search.old.circuit.items a ≡ true) → holds (names_of search.old.arena.blossoms) a ≡ true → IsBlossomEntered (state_of search.old) search.old.clock search.new.queue a }
     ensures others { (a : ℕ) → a ≢ base → in_ring search.old.circuit.items a ≡ false → moment_of search.new.queue (OfBlossom a) ≡ moment_of search.old.queue (OfBlossom a) }
     ensures edges { search.new.queue.edges ≡ search.old.queue.edges }

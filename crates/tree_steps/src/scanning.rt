@@ -23,7 +23,7 @@ pub(crate) fn scan_node(search: &mut Search, node: NodeId)
 /// Notes the vertices of a node besides, unless it is outer.
 fn scan_unless_outer(search: &mut Search, node: NodeId)
     requires sound { IsSound search.old }
-    requires outer { IsOutermost (state_of search.old) node }
+    requires outermost { IsOutermost (state_of search.old) node }
     requires room { vec_len search.old.scanned + length (unless_outer (state_of search.old) node) ≤ vec_capacity search.old.scanned }
     ensures scanned { search.new.scanned.items ≡ search.old.scanned.items ++ unless_outer (state_of search.old) node }
     ensures capacity { vec_capacity search.new.scanned ≡ vec_capacity search.old.scanned }

@@ -7,10 +7,10 @@ ghost use Rattle.blossom_arena.specs.declared.label.Label.TheVariants.{Outer, Ou
 ghost use Rattle.alt_forest.specs.State.{IsOutermost, node_u};
 ghost use Rattle.alt_forest.specs.Trees.{path_of, root_of, first_common};
 ghost use Rattle.alt_forest.specs.Counts.{is_outside, outside_among, tree_count, exposed_count, measure, IsPlanted};
-ghost use Rattle.alt_forest.specs.Entries.{IsQueued, entry_count, looks_left};
+ghost use Rattle.alt_forest.specs.Entries.{IsQueued, entry_count, looks_left, outside_ends};
 ghost use Rattle.alt_forest.specs.Events.{CanShrink};
 ghost use Rattle.alt_forest.specs.Searches.{IsSound, state_of, label_at};
-ghost use Rattle.alt_forest.specs.Standing.{IsSeed, IsStanding};
+ghost use Rattle.alt_forest.specs.Standing.{IsStanding, seed_at};
 ghost use Rattle.tree_steps.specs.Circuits.{closed_by};
 ghost use Rattle.tree_steps.specs.Scanned.{newly_outer};
 ghost use Rattle.tree_steps.specs.Shrunk.{shrunk_state};
@@ -53,12 +53,13 @@ fn meeting_node(search: &Search, a: NodeId, b: NodeId) -> NodeId
     }
 }
 
-/// A vertex of the root of the tree that a shrink's edge lies in.
+/// The vertex that is kept for the nodes of the tree that a shrink's edge lies in.
 fn tree_seed(search: &Search, e: EdgeId) -> VertexId
     requires sound { IsSound search.now }
     requires standing { IsStanding search.now }
     requires can { CanShrink (state_of search.now) e }
-    ensures { IsSeed (state_of search.now) (node_u search.now.graph search.now.arena.blossoms e) result }
+    ensures vertex { is_vertex search.now.graph.vertices result ≡ true }
+    ensures kept { seed_at search.now.standing.seeds (node_u search.now.graph search.now.arena.blossoms e) ≡ Some result }
 {
     let (u, _, _) = search.graph.edge(e);
     let node = search.arena.outermost(u);
@@ -111,7 +112,7 @@ pub fn shrink<L: Ledger>(
     ensures circuit { ring_of search.new.arena.blossoms result ≡ closed_by (state_of search.old) e }
     ensures holds_u { outermost search.new.arena.blossoms (edge_of graph.now e).u ≡ result }
     ensures holds_v { outermost search.new.arena.blossoms (edge_of graph.now e).v ≡ result }
-    ensures rest { search.new ≡ record search.old { arena = search.new.arena; labels = search.new.labels; mates = search.new.mates; circuit = search.new.circuit; queue = search.new.queue; standing = search.new.standing; seeds = search.new.seeds; scanned = search.new.scanned } }
+    ensures rest { search.new ≡ record search.old { arena = search.new.arena; labels = search.new.labels; mates = search.new.mates; circuit = search.new.circuit; queue = search.new.queue; standing = search.new.standing; scanned = search.new.scanned } }
     ensures sound { IsSound search.new }
     ensures queued { IsQueued search.new }
     ensures taken { moment_of search.new.queue (OfEdge e) ≡ None }
@@ -123,6 +124,7 @@ pub fn shrink<L: Ledger>(
     ensures inside { (w : ℕ) → is_vertex search.old.graph.vertices w ≡ true → is_outside (state_of search.new) w ≡ true → is_outside (state_of search.old) w ≡ true }
     ensures blossoms { outside_among (state_of search.new) search.new.arena.blossoms ≤ outside_among (state_of search.old) search.old.arena.blossoms }
     ensures looks { steps.new + looks_left (state_of search.new) ≤ steps.old + 1 + looks_left (state_of search.old) }
+    ensures around { steps.new + outside_ends (state_of search.new) ≤ steps.old + 1 + outside_ends (state_of search.old) }
     ensures count { entry_count search.new.queue + steps.old + 2 ≤ entry_count search.old.queue + steps.new }
 {
     steps.tick();

@@ -22,7 +22,7 @@ pub(crate) fn or_none(edge: Option<EdgeId>) -> EdgeId
 /// The edge from a node in a tree towards the root, where it has one.
 fn edge_above(search: &Search, node: NodeId) -> EdgeId
     requires sound { IsSound search.now }
-    requires outer { IsOutermost (state_of search.now) node }
+    requires outermost { IsOutermost (state_of search.now) node }
     ensures { (e : ℕ) → up_edge (state_of search.now) node ≡ Some e → result ≡ e }
 {
     match search.label(node) {
@@ -36,7 +36,7 @@ fn edge_above(search: &Search, node: NodeId) -> EdgeId
 /// with its edge towards the root.
 pub(crate) fn push_way(search: &mut Search, from: NodeId, base: NodeId)
     requires sound { IsSound search.old }
-    requires outer { IsOutermost (state_of search.old) from }
+    requires outermost { IsOutermost (state_of search.old) from }
     requires there { holds (path_of (state_of search.old) from) base ≡ true }
     requires room { vec_len search.old.circuit + length (before (path_of (state_of search.old) from) base) ≤ vec_capacity search.old.circuit }
     ensures circuit { search.new.circuit.items ≡ search.old.circuit.items ++ links_above (state_of search.old) (before (path_of (state_of search.old) from) base) }

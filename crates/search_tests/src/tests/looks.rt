@@ -9,7 +9,7 @@ use alt_forest::{Label, Search};
 use blossom_arena::NodeId;
 
 /// Whether this is an outermost node. Any number may be asked for.
-pub fn is_outer(search: &Search, node: NodeId) -> bool
+pub fn is_outermost(search: &Search, node: NodeId) -> bool
     requires shape { HasShape search.now }
     ensures { (result ≡ true) ↔ IsOutermost (state_of search.now) node }
 {
@@ -24,7 +24,7 @@ fn is_exposed(search: &Search, node: NodeId) -> bool
     requires sound { IsSound search.now }
     ensures { (result ≡ true) ↔ IsExposed (state_of search.now) node }
 {
-    if !is_outer(search, node) {
+    if !is_outermost(search, node) {
         return false;
     }
     search.mate(node).is_none()
@@ -79,7 +79,7 @@ fn has_root(search: &Search, node: NodeId) -> bool
     requires sound { IsSound search.now }
     requires standing { IsStanding search.now }
 {
-    if !is_outer(search, node) {
+    if !is_outermost(search, node) {
         return true;
     }
     if search.label(node) == Label::Out {

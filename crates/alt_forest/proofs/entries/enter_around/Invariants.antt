@@ -13,6 +13,5 @@ invariant-loop-place g l = record {
   entered : (i : ℕ) → i < l.place → IsEntered (state_of l.fn.search) l.fn.search.clock l.search.queue (get_or (edges_around l.fn.search.graph l.fn.v) i 0);
   others : (e : ℕ) → IsEdgeNumber l.fn.search.graph e → touches (edge_of l.fn.search.graph e) l.fn.v ≡ false → moment_of l.search.queue (Edge e) ≡ moment_of l.fn.search.queue (Edge e);
   blossoms : l.search.queue.blossoms ≡ l.fn.search.queue.blossoms;
-  looks : l.steps ≡ l.fn.steps + l.place;
-  count : entry_count l.search.queue + l.fn.steps ≤ entry_count l.fn.search.queue + l.steps;
+  count : entry_count l.search.queue ≤ entry_count l.fn.search.queue + l.place;
 }

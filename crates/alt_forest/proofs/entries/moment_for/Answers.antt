@@ -17,8 +17,9 @@ returns-in-Outer-Outer c = record {
       let whole : to_z w64 (of_z w64 c.slack_to.result) ≡ c.slack_to.result = search rules in
       let now : to_z w64 (of_z w64 s.clock) ≡ s.clock = search rules in
       let halved : to_z w64 (of_z w64 c.half.result) ≡ c.half.result = search rules in
-      needs_between (state_of s) s.clock c.args.spoke.now.edge _ c.args.near.now.node c.args.node Outer Outer
-      (leads_joins s.graph s.arena.blossoms c.args.spoke.now.edge c.args.near.now.vertex c.args.spoke.now.far c.args.near.now.node c.args.node c.args.spoke.now.weight c.requires.spoke near.node c.requires.node) one other
+      needs_between (state_of s) s.clock c.args.incident.now.edge _ c.args.near.now.node c.args.node Outer Outer
+      (leads_joins s.graph s.arena.blossoms c.args.incident.now.edge c.args.near.now.vertex c.args.incident.now.far c.args.near.now.node c.args.node c.args.incident.now.weight
+      c.requires.incident near.node c.requires.node) one other
       (λ h twice. ap (λ (x : ℤ). let o : Option ℤ = Some x in o)
       (back ∙ c.moment_after.ensures ∙ ap₂ ◌+ℤ◌ now (halved ∙ c.half.ensures.half h (whole ∙ c.slack_to.ensures.slack ∙ twice))));
 }
@@ -33,8 +34,9 @@ returns-in-Outer-Out c = record {
       let back : to_z w64 (of_z w64 c.moment_after-in-Outer-Out.result) ≡ c.moment_after-in-Outer-Out.result = search rules in
       let whole : to_z w64 (of_z w64 c.slack_to-in-Outer-Out.result) ≡ c.slack_to-in-Outer-Out.result = search rules in
       let now : to_z w64 (of_z w64 s.clock) ≡ s.clock = search rules in
-      needs_between (state_of s) s.clock c.args.spoke.now.edge _ c.args.near.now.node c.args.node Outer Out
-      (leads_joins s.graph s.arena.blossoms c.args.spoke.now.edge c.args.near.now.vertex c.args.spoke.now.far c.args.near.now.node c.args.node c.args.spoke.now.weight c.requires.spoke near.node c.requires.node) one other
+      needs_between (state_of s) s.clock c.args.incident.now.edge _ c.args.near.now.node c.args.node Outer Out
+      (leads_joins s.graph s.arena.blossoms c.args.incident.now.edge c.args.near.now.vertex c.args.incident.now.far c.args.near.now.node c.args.node c.args.incident.now.weight
+      c.requires.incident near.node c.requires.node) one other
       (ap (λ (x : ℤ). let o : Option ℤ = Some x in o)
       (back ∙ c.moment_after-in-Outer-Out.ensures ∙ ap₂ ◌+ℤ◌ now (whole ∙ c.slack_to-in-Outer-Out.ensures.slack)));
 }
@@ -49,8 +51,9 @@ returns-in-Out-Outer c = record {
       let back : to_z w64 (of_z w64 c.moment_after-in-Out-Outer.result) ≡ c.moment_after-in-Out-Outer.result = search rules in
       let whole : to_z w64 (of_z w64 c.slack_to-in-Out-Outer.result) ≡ c.slack_to-in-Out-Outer.result = search rules in
       let now : to_z w64 (of_z w64 s.clock) ≡ s.clock = search rules in
-      needs_between (state_of s) s.clock c.args.spoke.now.edge _ c.args.near.now.node c.args.node Out Outer
-      (leads_joins s.graph s.arena.blossoms c.args.spoke.now.edge c.args.near.now.vertex c.args.spoke.now.far c.args.near.now.node c.args.node c.args.spoke.now.weight c.requires.spoke near.node c.requires.node) one other
+      needs_between (state_of s) s.clock c.args.incident.now.edge _ c.args.near.now.node c.args.node Out Outer
+      (leads_joins s.graph s.arena.blossoms c.args.incident.now.edge c.args.near.now.vertex c.args.incident.now.far c.args.near.now.node c.args.node c.args.incident.now.weight
+      c.requires.incident near.node c.requires.node) one other
       (ap (λ (x : ℤ). let o : Option ℤ = Some x in o)
       (back ∙ c.moment_after-in-Out-Outer.ensures ∙ ap₂ ◌+ℤ◌ now (whole ∙ c.slack_to-in-Out-Outer.ensures.slack)));
 }
@@ -61,8 +64,9 @@ returns-then-number c = record {
       let s = c.args.search.now in
       let near = c.requires.near in
       let same : c.args.near.now.node ≡ c.args.node = sym c.number-2.ensures ∙ sym c.if-number.true ∙ c.number.ensures in
-      needs_none_within (state_of s) s.clock c.args.spoke.now.edge c.args.near.now.node None
-      (leads_joins s.graph s.arena.blossoms c.args.spoke.now.edge c.args.near.now.vertex c.args.spoke.now.far c.args.near.now.node c.args.near.now.node c.args.spoke.now.weight c.requires.spoke near.node (same ∙ c.requires.node));
+      needs_none_within (state_of s) s.clock c.args.incident.now.edge c.args.near.now.node None
+      (leads_joins s.graph s.arena.blossoms c.args.incident.now.edge c.args.near.now.vertex c.args.incident.now.far c.args.near.now.node c.args.near.now.node c.args.incident.now.weight
+      c.requires.incident near.node (same ∙ c.requires.node));
 }
 
 pub returns-in_default : goal.returns-in_default
@@ -70,8 +74,9 @@ returns-in_default c = record {
   moment =
       let s = c.args.search.now in
       let near = c.requires.near in
-      needs_between (state_of s) s.clock c.args.spoke.now.edge None c.args.near.now.node c.args.node Outer Inner
-      (leads_joins s.graph s.arena.blossoms c.args.spoke.now.edge c.args.near.now.vertex c.args.spoke.now.far c.args.near.now.node c.args.node c.args.spoke.now.weight c.requires.spoke near.node c.requires.node)
+      needs_between (state_of s) s.clock c.args.incident.now.edge None c.args.near.now.node c.args.node Outer Inner
+      (leads_joins s.graph s.arena.blossoms c.args.incident.now.edge c.args.near.now.vertex c.args.incident.now.far c.args.near.now.node c.args.node c.args.incident.now.weight
+      c.requires.incident near.node c.requires.node)
       (sym near.label ∙ c.in_default.is-0) (sym c.requires.label ∙ c.in_default.is-1) tt;
 }
 
@@ -80,8 +85,9 @@ returns-in_default-2 c = record {
   moment =
       let s = c.args.search.now in
       let near = c.requires.near in
-      needs_none_out (state_of s) s.clock c.args.spoke.now.edge c.args.near.now.node c.args.node None
-      (leads_joins s.graph s.arena.blossoms c.args.spoke.now.edge c.args.near.now.vertex c.args.spoke.now.far c.args.near.now.node c.args.node c.args.spoke.now.weight c.requires.spoke near.node c.requires.node)
+      needs_none_out (state_of s) s.clock c.args.incident.now.edge c.args.near.now.node c.args.node None
+      (leads_joins s.graph s.arena.blossoms c.args.incident.now.edge c.args.near.now.vertex c.args.incident.now.far c.args.near.now.node c.args.node c.args.incident.now.weight
+      c.requires.incident near.node c.requires.node)
       (sym near.label ∙ c.in_default.is-0) (λ p. c.in_default.not-Outer-1 (c.requires.label ∙ p));
 }
 
@@ -90,7 +96,8 @@ returns-in_default-3 c = record {
   moment =
       let s = c.args.search.now in
       let near = c.requires.near in
-      needs_none_inner (state_of s) s.clock c.args.spoke.now.edge c.args.near.now.node c.args.node None
-      (leads_joins s.graph s.arena.blossoms c.args.spoke.now.edge c.args.near.now.vertex c.args.spoke.now.far c.args.near.now.node c.args.node c.args.spoke.now.weight c.requires.spoke near.node c.requires.node)
+      needs_none_inner (state_of s) s.clock c.args.incident.now.edge c.args.near.now.node c.args.node None
+      (leads_joins s.graph s.arena.blossoms c.args.incident.now.edge c.args.near.now.vertex c.args.incident.now.far c.args.near.now.node c.args.node c.args.incident.now.weight
+      c.requires.incident near.node c.requires.node)
       (sym near.label ∙ c.in_default.is-0);
 }

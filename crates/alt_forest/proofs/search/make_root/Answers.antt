@@ -24,7 +24,16 @@ returns-clause-sound c =
     let h = c.requires.sound in
     let s = state_of c.args.search.now in
     record {
-      shape = record { graph = h.shape.graph; family = h.shape.family; arena = h.shape.arena; labels = c.set_label.ensures.len ∙ h.shape.labels; parents = h.shape.parents; mates = h.shape.mates; circuit = h.shape.circuit; room = h.shape.room };
+      shape = record {
+        graph = h.shape.graph;
+        family = h.shape.family;
+        arena = h.shape.arena;
+        labels = c.set_label.ensures.len ∙ h.shape.labels;
+        parents = h.shape.parents;
+        mates = h.shape.mates;
+        circuit = h.shape.circuit;
+        room = h.shape.room;
+      };
       depth = h.depth;
       state = subst (λ (l : ℕ → Label). IsSearchState (with_labels s l) h.depth) (sym c.set_label.ensures.labels) (planted s h.depth c.args.v c.requires.exposed.1 c.requires.out h.state);
     }
@@ -33,4 +42,5 @@ pub returns-clause-trees : goal.returns-clause-trees
 returns-clause-trees c =
     let s = state_of c.args.search.now in
     let h = c.requires.sound in
-    subst (λ (l : ℕ → Label). tree_count (with_labels s l) ≡ tree_count s + 1) (sym c.set_label.ensures.labels) (one_more s c.args.v (nested_of c.args.search.now h.shape) c.requires.exposed c.requires.out)
+    subst (λ (l : ℕ → Label). tree_count (with_labels s l) ≡ tree_count s + 1) (sym c.set_label.ensures.labels)
+    (one_more s c.args.v (nested_of c.args.search.now h.shape) c.requires.exposed c.requires.out)

@@ -8,18 +8,21 @@ use Rattle.alt_forest.proofs.Forks.{IsEnds, ends_of, ends_turned, chain_nodes, f
 use Rattle.alt_forest.proofs.slack.duals_along.Goals as goal
 
 -- what is added up over the first nodes of a chain
-first_total : (n : ℕ) (bs : List Blossom) (u v k : ℕ) (y : ℕ → ℤ) (xs : List ℕ) (sum : ℤ) → IsEnds n bs u v → sum ≡ total_of y (take k xs) → k ≡ length (holders bs u v) → xs ≡ chain_of bs u → sum ≡ total_of y (holders bs u v)
+first_total : (n : ℕ) (bs : List Blossom) (u v k : ℕ) (y : ℕ → ℤ) (xs : List ℕ) (sum : ℤ) → IsEnds n bs u v → sum ≡ total_of y (take k xs) → k ≡ length (holders bs u v)
+    → xs ≡ chain_of bs u → sum ≡ total_of y (holders bs u v)
 first_total n bs u v k y xs sum h is size chain = is ∙ ap₂ (λ (j : ℕ) (zs : List ℕ). total_of y (take j zs)) size chain ∙ ap (total_of y) (first_holders n bs u v h)
 
 pub total-requires-clause-nodes : goal.total-requires-clause-nodes
 total-requires-clause-nodes c =
     let h = ends_of c.args.arena.now.vertex_count c.args.arena.now.blossoms c.args.edge.now c.chain.ensures.good.nested c.chain.ensures.good.few c.requires in
-    subst (AllByRecursion (λ a. is_node c.args.arena.now.vertex_count c.args.arena.now.blossoms a ≡ true)) (sym c.chain.ensures.chain) (chain_nodes c.args.arena.now.vertex_count c.args.arena.now.blossoms c.args.edge.now.u h.u_is)
+    subst (AllByRecursion (λ a. is_node c.args.arena.now.vertex_count c.args.arena.now.blossoms a ≡ true)) (sym c.chain.ensures.chain)
+    (chain_nodes c.args.arena.now.vertex_count c.args.arena.now.blossoms c.args.edge.now.u h.u_is)
 
 pub total-requires-2-clause-nodes : goal.total-requires-2-clause-nodes
 total-requires-2-clause-nodes c =
     let h = ends_of c.args.arena.now.vertex_count c.args.arena.now.blossoms c.args.edge.now c.chain.ensures.good.nested c.chain.ensures.good.few c.requires in
-    subst (AllByRecursion (λ a. is_node c.args.arena.now.vertex_count c.args.arena.now.blossoms a ≡ true)) (sym c.chain-2.ensures.chain) (chain_nodes c.args.arena.now.vertex_count c.args.arena.now.blossoms c.args.edge.now.v h.v_is)
+    subst (AllByRecursion (λ a. is_node c.args.arena.now.vertex_count c.args.arena.now.blossoms a ≡ true)) (sym c.chain-2.ensures.chain)
+    (chain_nodes c.args.arena.now.vertex_count c.args.arena.now.blossoms c.args.edge.now.v h.v_is)
 
 pub returns-clause-duals_across : goal.returns-clause-duals_across
 returns-clause-duals_across c =

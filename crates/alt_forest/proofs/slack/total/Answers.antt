@@ -10,7 +10,8 @@ pub loop-preserved : goal.loop-preserved
 loop-preserved c =
     let back : to_z w64 (of_z w64 (to_z w64 c.loop.sum-bits +ℤ to_z w64 (of_z w64 c.dual_or_zero-sum.result))) ≡ to_z w64 c.loop.sum-bits +ℤ c.dual_or_zero-sum.result = search rules in
     record {
-      sum = total_step (dual_at c.args.arena.now.duals) c.next.result c.loop.rest c.next.new.self c.args.nodes c.loop.counter _ _ c.dual_or_zero-sum.result _ c.next.ensures.steps c.loop-test.true c.dual_or_zero-sum.ensures.dual back c.loop.invariant.sum;
+      sum = total_step (dual_at c.args.arena.now.duals) c.next.result c.loop.rest c.next.new.self c.args.nodes c.loop.counter _ _ c.dual_or_zero-sum.result _ c.next.ensures.steps
+          c.loop-test.true c.dual_or_zero-sum.ensures.dual back c.loop.invariant.sum;
       nodes = each_left (λ a. is_node c.args.arena.now.vertex_count c.args.arena.now.blossoms a ≡ true) c.next.result c.loop.rest c.next.new.self c.next.ensures.steps c.loop.invariant.nodes;
       low = omega (arith, ints, back, c.loop.invariant.low, c.dual_or_zero-sum.ensures.in_range.0);
       high = omega (arith, ints, back, c.loop.invariant.high, c.dual_or_zero-sum.ensures.in_range.1);

@@ -1,31 +1,30 @@
-use Rattle.std.proofs.Common.{◌≡◌, ◌∙◌, ◌<◌, ℕ, true, sym, ap, subst, arith, length, get_or}
-use Rattle.std.proofs.lemmas.List.{get_or_read}
+use Rattle.std.proofs.Common.{◌≡◌, ◌∙◌, true, false, sym, ap, subst, arith}
+use Rattle.blossom_arena.specs.Family.{is_vertex}
 use Rattle.alt_forest.specs.declared.search.Search.{Search}
-use Rattle.alt_forest.specs.Searches.{label_at}
-use Rattle.alt_forest.specs.Standing.{AreListed, seed_at}
+use Rattle.alt_forest.specs.Standing.{AreListed}
 use Rattle.alt_forest.proofs.Places.{nested_of}
 use Rattle.augment.specs.Felling.{stands}
-use Rattle.augment.proofs.Felled.{still_moving, felled_moving, IsFelling, leads_on, seeded_still, stays_on, drops_off, room_here, takes_off, felled}
+use Rattle.augment.proofs.Felled.{still_moving, felled_moving, drops_off, room_here, takes_off, felled}
 use Rattle.augment.proofs.felling.fell.Goals as goal
 
 -- what is left after a node is taken off the list
-unlisted_rest : (s t u : Search) → t ≡ record s { arena = record s.arena { motions = t.arena.motions }; labels = t.labels; standing = t.standing; seeds = t.seeds; scanned = t.scanned } → u ≡ record t { arena = record t.arena { motions = u.arena.motions }; standing = u.standing; seeds = u.seeds } → u ≡ record s { arena = record s.arena { motions = u.arena.motions }; labels = u.labels; standing = u.standing; seeds = u.seeds; scanned = u.scanned }
-unlisted_rest s t u rest now = subst (λ (x : Search). x ≡ record s { arena = record s.arena { motions = x.arena.motions }; labels = x.labels; standing = x.standing; seeds = x.seeds; scanned = x.scanned }) (sym now) (ap (λ (x : Search). record x { arena = record x.arena { motions = u.arena.motions }; standing = u.standing; seeds = u.seeds }) rest)
+unlisted_rest : (s t u : Search) → t ≡ record s { arena = record s.arena { motions = t.arena.motions }; labels = t.labels; standing = t.standing; scanned = t.scanned }
+    → u ≡ record t { arena = record t.arena { motions = u.arena.motions }; standing = u.standing }
+    → u ≡ record s { arena = record s.arena { motions = u.arena.motions }; labels = u.labels; standing = u.standing; scanned = u.scanned }
+unlisted_rest s t u rest now =
+    subst (λ (x : Search). x ≡ record s { arena = record s.arena { motions = x.arena.motions }; labels = x.labels; standing = x.standing; scanned = x.scanned }) (sym now)
+    (ap (λ (x : Search). record x { arena = record x.arena { motions = u.arena.motions }; standing = u.standing }) rest)
 
-pub next_leaving-place-requires-clause-seeded : goal.next_leaving-place-requires-clause-seeded
-next_leaving-place-requires-clause-seeded c =
-    let v = c.list.invariant in
-    seeded_still c.args.search.now c.list.search c.args.one c.args.other c.list.place v.rest v.felling c.requires.seeded
+pub next_leaving-requires-clause-one : goal.next_leaving-requires-clause-one
+next_leaving-requires-clause-one c = ap (λ (x : Search). is_vertex x.graph.vertices c.args.one) c.list.invariant.rest ∙ c.requires.one
 
-pub returns-then-place-len-clause-felled : goal.returns-then-place-len-clause-felled
-returns-then-place-len-clause-felled c =
+pub next_leaving-requires-clause-other : goal.next_leaving-requires-clause-other
+next_leaving-requires-clause-other c = ap (λ (x : Search). is_vertex x.graph.vertices c.args.other) c.list.invariant.rest ∙ c.requires.other
+
+pub returns-clause-felled : goal.returns-clause-felled
+returns-clause-felled c =
     let v = c.list.invariant in
-    let s : Search = c.args.search.now in
-    let t : Search = c.list.search in
-    let n = c.next_leaving-place.ensures in
-    let place : ℕ = c.next_leaving-place.result in
-    let felling : IsFelling s c.args.one c.args.other (label_at t.labels.items) (seed_at t.seeds.items) t.standing.items t.scanned.items place = stays_on s t c.args.one c.args.other c.list.place v.rest v.felling v.listed place n.high n.stays in
-    felled s t c.args.one c.args.other place (ap (λ (u : Search). u.graph) v.rest) v.listed felling (omega (arith, c.if-place-len.true, c.len.ensures))
+    felled c.args.search.now c.list.search c.args.one c.args.other v.rest v.felling v.listed (c.next_leaving.ensures.none c.in_default.is)
 
 pub list-preserved-then-not-stands : goal.list-preserved-then-not-stands
 list-preserved-then-not-stands c =
@@ -33,33 +32,24 @@ list-preserved-then-not-stands c =
     let s : Search = c.args.search.now in
     let t : Search = c.list.search in
     let u : Search = c.unlist.new.self in
-    let n = c.next_leaving-place.ensures in
-    let place : ℕ = c.next_leaving-place.result in
-    let low : place < length t.standing.items = omega (arith, c.if-place-len.false, c.len.ensures) in
-    let at : c.index.result.now ≡ get_or t.standing.items place 0 = get_or_read t.standing.items place c.index.result.now low c.index.ensures 0 in
-    let felling : IsFelling s c.args.one c.args.other (label_at t.labels.items) (seed_at t.seeds.items) t.standing.items t.scanned.items place = stays_on s t c.args.one c.args.other c.list.place v.rest v.felling v.listed place n.high n.stays in
+    let leaves = c.next_leaving.ensures.found c.in-Some.node c.in-Some.is in
+    let none : stands t c.in-Some.node ≡ false = sym c.stands.ensures ∙ c.if-not-stands.true in
     record {
       rest = unlisted_rest s t u v.rest c.unlist.ensures.rest;
       shape = c.unlist.ensures.shape;
-      listed = subst (λ (x : Search). AreListed x.graph.vertices u.standing.items u.seeds.items) (sym c.unlist.ensures.rest) c.unlist.ensures.listed;
-      place = omega (arith, low, c.unlist.ensures.fewer);
-      moving = still_moving t u (get_or t.standing.items place 0) c.unlist.ensures.rest c.unlist.ensures.motions (ap (stands t) (sym at) ∙ sym c.stands.ensures ∙ c.if-not-stands.true) v.moving;
-      felling = drops_off s t c.args.one c.args.other place v.rest v.listed felling low u (ap (stands t) (sym at) ∙ sym c.stands.ensures ∙ c.if-not-stands.true) c.unlist.ensures.rest c.unlist.ensures.seeds c.unlist.ensures.before;
+      listed = subst (λ (x : Search). AreListed x.graph.vertices u.standing.nodes u.standing.seeds) (sym c.unlist.ensures.rest) c.unlist.ensures.listed;
+      moving = still_moving t u c.in-Some.node c.unlist.ensures.rest c.unlist.ensures.motions none v.moving;
+      felling = drops_off s t c.args.one c.args.other v.rest v.felling c.in-Some.node leaves.listed u none c.unlist.ensures.rest c.unlist.ensures.seeds;
     }
 
-pub fell_at-requires-clause-room : goal.fell_at-requires-clause-room
-fell_at-requires-clause-room c =
+pub fell_node-requires-clause-room : goal.fell_node-requires-clause-room
+fell_node-requires-clause-room c =
     let v = c.list.invariant in
     let s : Search = c.args.search.now in
     let t : Search = c.list.search in
-    let n = c.next_leaving-place.ensures in
-    let place : ℕ = c.next_leaving-place.result in
-    let low : place < length t.standing.items = omega (arith, c.if-place-len.false, c.len.ensures) in
-    let at : c.index.result.now ≡ get_or t.standing.items place 0 = get_or_read t.standing.items place c.index.result.now low c.index.ensures 0 in
-    let felling : IsFelling s c.args.one c.args.other (label_at t.labels.items) (seed_at t.seeds.items) t.standing.items t.scanned.items place = stays_on s t c.args.one c.args.other c.list.place v.rest v.felling v.listed place n.high n.stays in
-    let st : stands t (get_or t.standing.items place 0) ≡ true = ap (stands t) (sym at) ∙ sym c.stands.ensures ∙ c.if-not-stands.false in
-    let leads = leads_on t c.args.one c.args.other (get_or t.standing.items place 0) (n.leaves (omega (arith, c.if-place-len.false, c.len.ensures))) st in
-    let room = room_here s t c.args.one c.args.other place v.rest v.listed felling low (nested_of s c.requires.shape) st leads in
+    let leaves = c.next_leaving.ensures.found c.in-Some.node c.in-Some.is in
+    let st : stands t c.in-Some.node ≡ true = sym c.stands.ensures ∙ c.if-not-stands.false in
+    let room = room_here s t c.args.one c.args.other v.rest v.felling c.in-Some.node leaves.listed (nested_of s c.requires.shape) st (leaves.seed st) in
     let same = ap (λ (u : Search). u.graph.vertices) v.rest in
     omega (arith, room, same, v.shape.room.scanned)
 
@@ -68,20 +58,19 @@ list-preserved c =
     let v = c.list.invariant in
     let s : Search = c.args.search.now in
     let t : Search = c.list.search in
-    let u : Search = c.fell_at.new.search in
-    let n = c.next_leaving-place.ensures in
-    let place : ℕ = c.next_leaving-place.result in
-    let low : place < length t.standing.items = omega (arith, c.if-place-len.false, c.len.ensures) in
-    let at : c.index.result.now ≡ get_or t.standing.items place 0 = get_or_read t.standing.items place c.index.result.now low c.index.ensures 0 in
-    let felling : IsFelling s c.args.one c.args.other (label_at t.labels.items) (seed_at t.seeds.items) t.standing.items t.scanned.items place = stays_on s t c.args.one c.args.other c.list.place v.rest v.felling v.listed place n.high n.stays in
-    let st : stands t (get_or t.standing.items place 0) ≡ true = ap (stands t) (sym at) ∙ sym c.stands.ensures ∙ c.if-not-stands.false in
-    let leads = leads_on t c.args.one c.args.other (get_or t.standing.items place 0) (n.leaves (omega (arith, c.if-place-len.false, c.len.ensures))) st in
+    let u : Search = c.fell_node.new.search in
+    let leaves = c.next_leaving.ensures.found c.in-Some.node c.in-Some.is in
+    let st : stands t c.in-Some.node ≡ true = sym c.stands.ensures ∙ c.if-not-stands.false in
     record {
-      rest = c.fell_at.ensures.rest ∙ ap (λ (x : Search). record x { arena = record x.arena { motions = u.arena.motions }; labels = u.labels; standing = u.standing; seeds = u.seeds; scanned = u.scanned }) v.rest;
-      shape = c.fell_at.ensures.shape;
-      listed = subst (λ (x : Search). AreListed x.graph.vertices u.standing.items u.seeds.items) (sym c.fell_at.ensures.rest) c.fell_at.ensures.listed;
-      place = omega (arith, low, c.fell_at.ensures.fewer);
-      moving = felled_moving t u (get_or t.standing.items place 0) c.fell_at.ensures.rest c.fell_at.ensures.motions c.fell_at.ensures.labels v.moving;
-      felling = takes_off s t c.args.one c.args.other place v.rest v.listed felling low (nested_of s c.requires.shape) st leads
-          u c.fell_at.ensures.labels c.fell_at.ensures.scanned c.fell_at.ensures.seeds c.fell_at.ensures.before;
+      rest = c.fell_node.ensures.rest ∙ ap (λ (x : Search). record x {
+        arena = record x.arena { motions = u.arena.motions };
+        labels = u.labels;
+        standing = u.standing;
+        scanned = u.scanned;
+      }) v.rest;
+      shape = c.fell_node.ensures.shape;
+      listed = subst (λ (x : Search). AreListed x.graph.vertices u.standing.nodes u.standing.seeds) (sym c.fell_node.ensures.rest) c.fell_node.ensures.listed;
+      moving = felled_moving t u c.in-Some.node c.fell_node.ensures.rest c.fell_node.ensures.motions c.fell_node.ensures.labels v.moving;
+      felling = takes_off s t c.args.one c.args.other v.rest v.felling c.in-Some.node leaves.listed (nested_of s c.requires.shape) st (leaves.seed st)
+          u c.fell_node.ensures.labels c.fell_node.ensures.scanned c.fell_node.ensures.seeds;
     }

@@ -1,4 +1,4 @@
-use Rattle.std.proofs.Common.{◌≡◌, ◌≤◌, vec_len}
+use Rattle.std.proofs.Common.{◌≡◌, length}
 use Rattle.alt_forest.specs.Searches.{HasShape, label_at}
 use Rattle.alt_forest.specs.Standing.{AreListed, AreMoving, seed_at}
 use Rattle.augment.proofs.Felled.{IsFelling}
@@ -6,13 +6,17 @@ use Rattle.augment.proofs.felling.fell.Given as goal
 
 abbrev pub invariant-list : goal.invariant-list
 invariant-list l = record {
-  rest : l.search ≡ record l.fn.search { arena = record l.fn.search.arena { motions = l.search.arena.motions }; labels = l.search.labels; standing = l.search.standing; seeds = l.search.seeds; scanned = l.search.scanned };
+  rest : l.search ≡ record l.fn.search {
+    arena = record l.fn.search.arena { motions = l.search.arena.motions };
+    labels = l.search.labels;
+    standing = l.search.standing;
+    scanned = l.search.scanned;
+  };
   shape : HasShape l.search;
-  listed : AreListed l.search.graph.vertices l.search.standing.items l.search.seeds.items;
-  place : l.place ≤ vec_len l.search.standing;
+  listed : AreListed l.search.graph.vertices l.search.standing.nodes l.search.standing.seeds;
   moving : AreMoving l.search;
-  felling : IsFelling l.fn.search l.one l.other (label_at l.search.labels.items) (seed_at l.search.seeds.items) l.search.standing.items l.search.scanned.items l.place;
+  felling : IsFelling l.fn.search l.one l.other (label_at l.search.labels.items) (seed_at l.search.standing.seeds) l.search.scanned.items;
 }
 
 abbrev pub decreases-list : goal.decreases-list
-decreases-list l = vec_len l.search.standing
+decreases-list l = length l.search.standing.nodes

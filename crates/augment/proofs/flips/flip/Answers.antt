@@ -18,4 +18,5 @@ returns-clause-exposed g c can a =
 pub returns-clause-fewer : goal.returns-clause-fewer
 returns-clause-fewer g c =
     let can = c.requires.can in
-    ap (λ n. n + 2) c.clear.ensures.exposed ∙ fewer_in c.args.search.now c.exchange.new.search c.args.e can.one can.other c.requires.sound c.exchange.ensures.rest (c.exchange.ensures.exchanged can)
+    ap (λ n. n + 2) c.clear.ensures.exposed ∙ fewer_in c.args.search.now c.exchange.new.search c.args.e can.one can.other c.requires.sound c.exchange.ensures.rest
+    (c.exchange.ensures.exchanged can)

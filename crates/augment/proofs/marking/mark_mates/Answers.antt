@@ -30,7 +30,8 @@ returns c =
     let limit = c.node_limit-number-end.ensures.limit in
     record {
       bare = v.can.bare;
-      spread = λ a. far_spread c.args.graph.now c.args.arena.now (edge_in c.loop-number.mates.items) (edge_in c.loop-number.mates.items) a v.can (λ low high. v.spread a low (omega (arith, high, limit, c.loop-number-test.false)));
+      spread = λ a. far_spread c.args.graph.now c.args.arena.now (edge_in c.loop-number.mates.items) (edge_in c.loop-number.mates.items) a v.can
+          (λ low high. v.spread a low (omega (arith, high, limit, c.loop-number-test.false)));
       outer = v.outer;
       len = v.len;
     }

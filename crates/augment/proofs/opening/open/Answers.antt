@@ -20,13 +20,16 @@ pair_until-waiting-requires-clause-each c =
     let g = c.args.graph.now in
     let f = c.args.arena.now in
     let m = edge_in c.args.mates.now.items in
-    let same = c.matched_node-base.ensures ∙ ap (λ xs. first_matched (edge_in xs) c.ring.result) c.deref.ensures.value ∙ ap (first_matched m) c.ring.ensures.ring ∙ found g f m c.args.b c.requires.can in
-    subst (AllByRecursion (λ (l : Link). IsEdgeNumber g l.edge)) (sym (c.links_behind-behind.ensures ∙ ap (λ r. links_after r c.matched_node-base.result) c.ring-2.ensures.ring ∙ ap (links_after (ring_of f.blossoms c.args.b)) same))
+    let same = c.matched_node-base.ensures ∙ ap (λ xs. first_matched (edge_in xs) c.ring.result) c.deref.ensures.value ∙ ap (first_matched m) c.ring.ensures.ring
+    ∙ found g f m c.args.b c.requires.can in
+    subst (AllByRecursion (λ (l : Link). IsEdgeNumber g l.edge)) (sym
+    (c.links_behind-behind.ensures ∙ ap (λ r. links_after r c.matched_node-base.result) c.ring-2.ensures.ring ∙ ap (links_after (ring_of f.blossoms c.args.b)) same))
     (behind_edges g f m c.args.b c.requires.can)
 
 pub pair_until-requires-clause-each : goal.pair_until-requires-clause-each
 pair_until-requires-clause-each c =
-    subst (AllByRecursion (λ (l : Link). IsEdgeNumber c.args.graph.now l.edge)) (sym c.ring-3.ensures.ring) (each_edge c.args.graph.now c.args.arena.now (edge_in c.args.mates.now.items) c.args.b c.requires.can)
+    subst (AllByRecursion (λ (l : Link). IsEdgeNumber c.args.graph.now l.edge)) (sym c.ring-3.ensures.ring)
+    (each_edge c.args.graph.now c.args.arena.now (edge_in c.args.mates.now.items) c.args.b c.requires.can)
 
 pub returns : goal.returns
 returns c =
@@ -35,10 +38,12 @@ returns c =
     let b = c.args.b in
     let m = edge_in c.args.mates.now.items in
     let at = c.matched_node-base.result in
-    let same = c.matched_node-base.ensures ∙ ap (λ xs. first_matched (edge_in xs) c.ring.result) c.deref.ensures.value ∙ ap (first_matched m) c.ring.ensures.ring ∙ found g f m b c.requires.can in
+    let same = c.matched_node-base.ensures ∙ ap (λ xs. first_matched (edge_in xs) c.ring.result) c.deref.ensures.value ∙ ap (first_matched m) c.ring.ensures.ring
+    ∙ found g f m b c.requires.can in
     let behind = c.links_behind-behind.ensures ∙ ap (λ r. links_after r at) c.ring-2.ensures.ring in
     let r = opened_at g f m b c.requires.can at same (edge_in c.pair_until-waiting.new.mates.items) (edge_in c.pair_until.new.mates.items) c.pair_until-waiting.result
     (c.pair_until-waiting.ensures.mates ∙ ap (λ r. paired (spread_in g f.blossoms b) m None (links_before r at)) behind)
     (c.pair_until-waiting.ensures.waiting ∙ ap (λ r. waiting_after None (links_before r at)) behind)
-    (c.pair_until.ensures.mates ∙ ap (λ r. paired (spread_in g f.blossoms b) (edge_in c.pair_until-waiting.new.mates.items) c.pair_until-waiting.result (links_before r at)) c.ring-3.ensures.ring) in
+    (c.pair_until.ensures.mates ∙ ap (λ r. paired (spread_in g f.blossoms b) (edge_in c.pair_until-waiting.new.mates.items) c.pair_until-waiting.result
+    (links_before r at)) c.ring-3.ensures.ring) in
     record { opens = r.opens; bare = r.bare; spread = r.spread; len = c.pair_until.ensures.len ∙ c.pair_until-waiting.ensures.len }

@@ -1,4 +1,4 @@
-use Rattle.std.proofs.Common.{◌≡◌, ◌<◌, ◌∙◌, length, get_or, take, ap, arith}
+use Rattle.std.proofs.Common.{subst, ◌≡◌, ◌<◌, ◌∙◌, length, get_or, take, ap, arith}
 use Rattle.std.specs.List.{flat_map}
 use Rattle.std.proofs.lemmas.List.{get_or_read}
 use Rattle.alt_forest.specs.declared.search.Search.{Search}
@@ -12,13 +12,15 @@ scan_part-requires-clause-room c =
     let s : Search = c.args.search.now in
     let t : Search = c.loop-place.search in
     let v = c.loop-place.invariant in
-    let same : t.standing.items ≡ s.standing.items = ap (λ (x : Search). x.standing.items) v.rest in
-    let low : c.loop-place.place < length s.standing.items = omega (arith, c.loop-place-test.true, c.len-place-end.ensures) in
-    let at : c.index-node.result.now ≡ get_or s.standing.items c.loop-place.place 0 =
-    get_or_read s.standing.items c.loop-place.place c.index-node.result.now low (c.index-node.ensures ∙ ap (λ xs. get_or xs c.loop-place.place c.index-node.result.now) same) 0 in
-    let part : outer_part t c.index-node.result.now ≡ outer_part s (get_or s.standing.items c.loop-place.place 0) = ap (λ (x : Search). outer_part x c.index-node.result.now) v.rest ∙ ap (outer_part s) at in
-    let longer : length t.scanned.items ≡ length (flat_map (outer_part s) (take c.loop-place.place s.standing.items)) = ap length v.scanned in
-    let few = room_more s (nested_of s c.requires.shape) c.requires.outermost c.requires.different c.loop-place.place low in
+    let same : t.standing.nodes ≡ s.standing.nodes = ap (λ (x : Search). x.standing.nodes) v.rest in
+    let low : c.loop-place.place < length s.standing.nodes = subst (λ xs. c.loop-place.place < length xs) c.nodes-place-end.ensures c.loop-place-test.true in
+    let at : c.index-nodes-place.result ≡ get_or s.standing.nodes c.loop-place.place 0 =
+    get_or_read s.standing.nodes c.loop-place.place c.index-nodes-place.result low
+    (c.index-nodes-place.is ∙ ap (λ xs. get_or xs c.loop-place.place c.index-nodes-place.result) (c.nodes.ensures ∙ same)) 0 in
+    let part : outer_part t c.index-nodes-place.result ≡ outer_part s (get_or s.standing.nodes c.loop-place.place 0) = ap
+    (λ (x : Search). outer_part x c.index-nodes-place.result) v.rest ∙ ap (outer_part s) at in
+    let longer : length t.scanned.items ≡ length (flat_map (outer_part s) (take c.loop-place.place s.standing.nodes)) = ap length v.scanned in
+    let few = room_more s (nested_of s c.requires.shape) c.requires.different c.loop-place.place low in
     let vertices : t.graph.vertices ≡ s.graph.vertices = ap (λ (x : Search). x.graph.vertices) v.rest in
     let as_long = ap length part in
     omega (arith, few, longer, as_long, vertices, v.shape.room.scanned)

@@ -8,5 +8,5 @@ abbrev pub invariant-loop-place : goal.invariant-loop-place
 invariant-loop-place l = record {
   rest : l.search ≡ record l.fn.search { scanned = l.search.scanned };
   shape : HasShape l.search;
-  scanned : l.search.scanned.items ≡ flat_map (outer_part l.fn.search) (take l.place l.fn.search.standing.items);
+  scanned : l.search.scanned.items ≡ flat_map (outer_part l.fn.search) (take l.place l.fn.search.standing.nodes);
 }

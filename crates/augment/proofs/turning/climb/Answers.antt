@@ -26,7 +26,8 @@ hop-hop-requires-clause-hop c =
     let v = c.path.invariant in
     let s : Search = c.args.search.now in
     let has = sym (ap (λ o. is_some o) c.mate.ensures.mate) ∙ sym c.is_some.ensures ∙ c.path-test.true in
-    subst (λ (x : Search). HasHop (state_of x) c.path.node) (sym v.rest) (can_hop (state_of s) c.args.e c.args.start c.requires.can (edge_in c.path.search.mates.items) c.path.edge c.path.node (v.climbing c.requires.can) has)
+    subst (λ (x : Search). HasHop (state_of x) c.path.node) (sym v.rest) (can_hop (state_of s) c.args.e c.args.start c.requires.can
+    (edge_in c.path.search.mates.items) c.path.edge c.path.node (v.climbing c.requires.can) has)
 
 pub path-smaller : goal.path-smaller
 path-smaller c =
@@ -47,14 +48,24 @@ path-preserved c =
     let has = sym (ap (λ o. is_some o) c.mate.ensures.mate) ∙ sym c.is_some.ensures ∙ c.path-test.true in
     let read = subst (λ (x : Search). IsRead (state_of x) c.path.node k) v.rest c.hop-hop.ensures.hop in
     let m : ℕ → Option ℕ = edge_in c.set_edge-in-path.new.edges.items in
-    let now : m ≡ put (put (edge_in t.mates.items) c.path.node (Some c.path.edge)) k.inner (Some k.parent) = c.set_edge-in-path.ensures.edges ∙ ap (λ n. put n k.inner (Some k.parent)) c.set_edge.ensures.edges in
+    let now : m ≡ put (put (edge_in t.mates.items) c.path.node (Some c.path.edge)) k.inner (Some k.parent) = c.set_edge-in-path.ensures.edges
+    ∙ ap (λ n. put n k.inner (Some k.parent)) c.set_edge.ensures.edges in
     let on = λ (h : CanClimb (state_of s) c.args.e c.args.start). subst (λ (n : ℕ → Option ℕ). IsClimbing (state_of s) c.args.e c.args.start h n k.parent k.outer) (sym now)
     (climbing_on (state_of s) c.args.e c.args.start h (edge_in t.mates.items) c.path.edge c.path.node (v.climbing h) has k read) in
     let can = c.requires.can in
     let is : IsOutermost (state_of s) k.outer = subst (λ (x : State). IsOutermost x k.outer) (sym can.is) (on can).loose.high_is in
     record {
       rest = ap (λ (u : Search). record u { mates = c.set_edge-in-path.new.edges }) v.rest;
-      shape = record { graph = v.shape.graph; family = v.shape.family; arena = v.shape.arena; labels = v.shape.labels; parents = v.shape.parents; mates = c.set_edge-in-path.ensures.len ∙ c.set_edge.ensures.len ∙ v.shape.mates; circuit = v.shape.circuit; room = v.shape.room };
+      shape = record {
+        graph = v.shape.graph;
+        family = v.shape.family;
+        arena = v.shape.arena;
+        labels = v.shape.labels;
+        parents = v.shape.parents;
+        mates = c.set_edge-in-path.ensures.len ∙ c.set_edge.ensures.len ∙ v.shape.mates;
+        circuit = v.shape.circuit;
+        room = v.shape.room;
+      };
       is = subst (λ (x : Search). IsOutermost (state_of x) k.outer) (sym (ap (λ (u : Search). record u { mates = c.set_edge-in-path.new.edges }) v.rest)) is;
       climbing = on;
     }

@@ -31,7 +31,8 @@ climb-requires-clause-can c =
     let has = sym (ap (λ o. is_some o) c.mate.ensures.mate) ∙ c.is_none.ensures ∙ ap not c.if-is_none.false in
     let k : Hop = c.hop-hop.result in
     let hop = read_hop s sound.depth nested sound.state c.args.far c.requires.is c.requires.outer has k c.hop-hop.ensures.hop in
-    let now : edge_in c.set_edge-2.new.edges.items ≡ put (put s.mate c.args.far None) k.inner (Some k.parent) = c.set_edge-2.ensures.edges ∙ ap (λ n. put n k.inner (Some k.parent)) c.set_edge.ensures.edges in
+    let now : edge_in c.set_edge-2.new.edges.items ≡ put (put s.mate c.args.far None) k.inner (Some k.parent) = c.set_edge-2.ensures.edges
+    ∙ ap (λ n. put n k.inner (Some k.parent)) c.set_edge.ensures.edges in
     record {
       was = s;
       depth = sound.depth;
@@ -40,7 +41,8 @@ climb-requires-clause-can c =
       base = put s.mate c.args.far None;
       low = k.inner;
       is = refl;
-      loose = subst (λ (n : ℕ → Option ℕ). IsLoose s sound.depth (put s.mate c.args.far None) n k.inner k.parent k.outer) (sym now) (uproots s sound.depth nested sound.state c.args.far k hop);
+      loose = subst (λ (n : ℕ → Option ℕ). IsLoose s sound.depth (put s.mate c.args.far None) n k.inner k.parent k.outer) (sym now)
+          (uproots s sound.depth nested sound.state c.args.far k hop);
     }
 
 pub returns-clause-uprooted : goal.returns-clause-uprooted
@@ -51,7 +53,8 @@ returns-clause-uprooted c =
     let has = sym (ap (λ o. is_some o) c.mate.ensures.mate) ∙ c.is_none.ensures ∙ ap not c.if-is_none.false in
     let k : Hop = c.hop-hop.result in
     let hop = read_hop s sound.depth nested sound.state c.args.far c.requires.is c.requires.outer has k c.hop-hop.ensures.hop in
-    let now : edge_in c.set_edge-2.new.edges.items ≡ put (put s.mate c.args.far None) k.inner (Some k.parent) = c.set_edge-2.ensures.edges ∙ ap (λ n. put n k.inner (Some k.parent)) c.set_edge.ensures.edges in
+    let now : edge_in c.set_edge-2.new.edges.items ≡ put (put s.mate c.args.far None) k.inner (Some k.parent) = c.set_edge-2.ensures.edges
+    ∙ ap (λ n. put n k.inner (Some k.parent)) c.set_edge.ensures.edges in
     let m : ℕ → Option ℕ = edge_in c.climb.new.search.mates.items in
     let done = c.climb.ensures.climbed (record {
       was = s;
@@ -61,6 +64,7 @@ returns-clause-uprooted c =
       base = put s.mate c.args.far None;
       low = k.inner;
       is = refl;
-      loose = subst (λ (n : ℕ → Option ℕ). IsLoose s sound.depth (put s.mate c.args.far None) n k.inner k.parent k.outer) (sym now) (uproots s sound.depth nested sound.state c.args.far k hop);
+      loose = subst (λ (n : ℕ → Option ℕ). IsLoose s sound.depth (put s.mate c.args.far None) n k.inner k.parent k.outer) (sym now)
+          (uproots s sound.depth nested sound.state c.args.far k hop);
     }) in
     uprooted s sound.depth nested sound.state c.args.far k hop m (subst (λ (n : ℕ → Option ℕ). IsClimbed s (put s.mate c.args.far None) n m k.parent k.outer) now done)

@@ -15,7 +15,8 @@ use Rattle.dual_change.proofs.Dropped.{still_standing}
 use Rattle.dual_change.proofs.look.find.Goals as goal
 
 -- what comes is first, where the earliest moment lets something come
-first : (q : Moments) (clock : ℤ) (least : Option (Item × ℤ)) (item : Item) (moment given : ℤ) (next : Next) → IsLeast q least → least ≡ Some (item, moment) → next ≢ Stuck → given ≡ moment → ComesAt clock given next → IsFirst q clock next
+first : (q : Moments) (clock : ℤ) (least : Option (Item × ℤ)) (item : Item) (moment given : ℤ) (next : Next) → IsLeast q least → least ≡ Some (item, moment) → next ≢ Stuck
+    → given ≡ moment → ComesAt clock given next → IsFirst q clock next
 first q clock least item moment given next h is there back comes = first_by_least q clock moment item next (subst (IsLeast q) is h) there (subst (λ (m : ℤ). ComesAt clock m next) back comes)
 
 pub returns-then-comes-clause-found : goal.returns-then-comes-clause-found
@@ -24,7 +25,8 @@ returns-then-comes-clause-found g c =
     let i = c.loop-item.invariant in
     let there : c.by_item-next.result ≢ Stuck = λ q. both_ways c.comes.result (c.comes.ensures.1 q) c.if-comes.true in
     let back : to_z w64 (of_z w64 c.in-Some.moment) ≡ c.in-Some.moment = search rules in
-    let earlier = first s.queue s.clock c.earliest.result c.in-Some.item c.in-Some.moment (to_z w64 (of_z w64 c.in-Some.moment)) c.by_item-next.result c.earliest.ensures c.in-Some.is there back c.by_item-next.ensures.comes in
+    let earlier = first s.queue s.clock c.earliest.result c.in-Some.item c.in-Some.moment
+    (to_z w64 (of_z w64 c.in-Some.moment)) c.by_item-next.result c.earliest.ensures c.in-Some.is there back c.by_item-next.ensures.comes in
     next_is (state_of s) i.sound.depth i.sound.shape.graph.graph (nested_of s i.sound.shape) i.sound.state c.by_item-next.result c.by_item-next.ensures.candidate
     (record { edges = minds_edge s c.by_item-next.result i.queued earlier; blossoms = minds_blossom s c.by_item-next.result i.queued earlier })
 
@@ -34,7 +36,8 @@ returns-then-comes-clause-within g c =
     let i = c.loop-item.invariant in
     let there : c.by_item-next.result ≢ Stuck = λ q. both_ways c.comes.result (c.comes.ensures.1 q) c.if-comes.true in
     let back : to_z w64 (of_z w64 c.in-Some.moment) ≡ c.in-Some.moment = search rules in
-    let earlier = first s.queue s.clock c.earliest.result c.in-Some.item c.in-Some.moment (to_z w64 (of_z w64 c.in-Some.moment)) c.by_item-next.result c.earliest.ensures c.in-Some.is there back c.by_item-next.ensures.comes in
+    let earlier = first s.queue s.clock c.earliest.result c.in-Some.item c.in-Some.moment
+    (to_z w64 (of_z w64 c.in-Some.moment)) c.by_item-next.result c.earliest.ensures c.in-Some.is there back c.by_item-next.ensures.comes in
     next_within (state_of s) i.sound.depth i.sound.shape.graph.graph (nested_of s i.sound.shape) i.sound.state c.by_item-next.result c.by_item-next.ensures.candidate
     (record { edges = minds_edge s c.by_item-next.result i.queued earlier; blossoms = minds_blossom s c.by_item-next.result i.queued earlier })
 

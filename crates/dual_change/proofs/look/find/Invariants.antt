@@ -12,6 +12,7 @@ invariant-loop-item g l = record {
   queued : IsQueued l.search;
   drops : Drops l.fn.search.queue l.search.queue;
   count : entry_count l.search.queue + l.steps ≤ entry_count l.fn.search.queue + l.fn.steps;
+  look : l.fn.steps ≤ l.steps;
 }
 
 abbrev pub decreases-loop-item : goal.decreases-loop-item

@@ -26,7 +26,8 @@ returns-clause-state c =
     let d : to_z w64 (of_z w64 c.args.d) ≡ c.args.d = search rules in
     let each : (a : ℕ) → dual_at c.advance.new.self.duals a ≡ dual_at s.arena.duals a +ℤ gain s.arena c.args.d a = λ a.
     c.advance.ensures.duals a ∙ ap (λ (x : ℤ). dual_at s.arena.duals a +ℤ gain s.arena x a) d in
-    raised_state s c.args.d c.requires.sound.shape c.requires.standing c.advance.new.self each c.advance.ensures.rest
+    raised_state s c.args.d c.requires.sound.shape c.requires.standing c.advance.new.self each
+    c.advance.ensures.rest
 
 pub returns-clause-sound : goal.returns-clause-sound
 returns-clause-sound c =
@@ -34,4 +35,5 @@ returns-clause-sound c =
     let d : to_z w64 (of_z w64 c.args.d) ≡ c.args.d = search rules in
     let each : (a : ℕ) → dual_at c.advance.new.self.duals a ≡ dual_at s.arena.duals a +ℤ gain s.arena c.args.d a = λ a.
     c.advance.ensures.duals a ∙ ap (λ (x : ℤ). dual_at s.arena.duals a +ℤ gain s.arena x a) d in
-    raised_sound s c.args.d c.requires.sound.shape c.requires.standing c.advance.new.self each c.advance.ensures.rest c.advance.ensures.good c.requires.sound c.requires.planted c.requires.within
+    raised_sound s c.args.d c.requires.sound.shape c.requires.standing c.advance.new.self each
+    c.advance.ensures.rest c.advance.ensures.good c.requires.sound c.requires.planted c.requires.within

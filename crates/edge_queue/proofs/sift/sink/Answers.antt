@@ -1,6 +1,7 @@
 use Rattle.std.proofs.Common.{◌≡◌, subst, arith, length, set, ◌<◌}
 use Rattle.std.proofs.lemmas.List.{get_or_read, length-set}
-use Rattle.edge_queue.specs.Heaps.{blank, entry_at, key, IsEarlierChild, NoEarlierChild}
+use Rattle.edge_queue.specs.Heaps.{blank, key, IsEarlierChild, NoEarlierChild}
+use Rattle.edge_queue.proofs.EntryAt.{entry_at}
 use Rattle.edge_queue.proofs.Moves.{sink_moves, sink_ends, other_slot_in}
 use Rattle.edge_queue.proofs.Sifts.{sift_starts, sift_ends}
 use Rattle.edge_queue.proofs.sift.sink.Goals as goal

@@ -26,13 +26,17 @@ pub returns-clause-sound : goal.returns-clause-sound
 returns-clause-sound c =
     let s = c.args.search.now in
     let own = matched_at s c.args.v c.in-Some.e c.requires.sound c.requires.begun c.requires.vertex (held c) in
-    freed_sound s (record s { mates = c.set_edge-2.new.edges }) c.in-Some.e refl (mates c) c.args.v own.0 (c.set_edge-2.ensures.len ∙ c.set_edge.ensures.len) c.requires.sound c.requires.begun (held c) own.1
+    freed_sound s (record s { mates = c.set_edge-2.new.edges }) c.in-Some.e refl (mates c) c.args.v own.0
+    (c.set_edge-2.ensures.len ∙ c.set_edge.ensures.len) c.requires.sound c.requires.begun (held c) own.1
 
 pub returns-clause-exposed : goal.returns-clause-exposed
 returns-clause-exposed c =
     let s = c.args.search.now in
-    let own = matched_at s c.args.v c.in-Some.e c.requires.sound c.requires.begun c.requires.vertex (held c) in
-    (outer_flat (state_of s) c.requires.begun.alone c.args.v c.requires.vertex, ap (λ (f : ℕ → Option ℕ). f c.args.v) (mates c) ∙ freed_mate (state_of s) c.in-Some.e c.args.v own.0 c.requires.begun.alone own.1)
+    let own = matched_at s c.args.v c.in-Some.e c.requires.sound c.requires.begun c.requires.vertex (held c) in (
+      outer_flat (state_of s) c.requires.begun.alone c.args.v c.requires.vertex,
+      ap (λ (f : ℕ → Option ℕ). f c.args.v) (mates c)
+          ∙ freed_mate (state_of s) c.in-Some.e c.args.v own.0 c.requires.begun.alone own.1,
+    )
 
 pub returns-clause-others : goal.returns-clause-others
 returns-clause-others c a x =

@@ -1,6 +1,6 @@
 use Rattle.std.proofs.Common.{◌≡◌, ◌+◌, ◌≤ℤ◌}
 use Rattle.graph_theory.specs.Graph.{IsWeight, edge_of}
-use Rattle.alt_forest.specs.Spokes.{numbers_of}
+use Rattle.alt_forest.specs.IncidentEdges.{numbers_of}
 use Rattle.mwpm_engine.proofs.LeastSeen.{IsBelow}
 use Rattle.mwpm_engine.proofs.lifting.least_around.Given as goal
 
@@ -8,6 +8,5 @@ abbrev pub invariant-loop-place : goal.invariant-loop-place
 invariant-loop-place g l = record {
   weight : IsWeight l.least;
   low : l.search.start ≤ℤ l.least;
-  each : IsBelow (λ e. (edge_of l.search.graph e).w) (numbers_of l.spokes) l.place l.least;
-  looks : l.steps ≡ l.fn.steps + l.place;
+  each : IsBelow (λ e. (edge_of l.search.graph e).w) (numbers_of l.incidence) l.place l.least;
 }

@@ -21,7 +21,8 @@ move_dual-requires-clause-can g c =
     let most : (s.start +ℤ c.even_room-more.result) ≤ℤ c.least_around-least.result = omega (arith, ints, high, from, to) in
     let back : to_z w64 (of_z w64 c.even_room-more.result) ≡ c.even_room-more.result = search rules in
     subst (CanMove (state_of s) s.start c.args.v) (sym back)
-    (lifts s s.graph c.args.v c.least_around-least.result c.even_room-more.result refl c.requires.sound.shape.graph.graph c.requires.lifted c.requires.vertex e.low most e.even m.weight m.each).0
+    (lifts s s.graph c.args.v c.least_around-least.result c.even_room-more.result refl c.requires.sound.shape.graph.graph c.requires.lifted c.requires.vertex e.low most e.even m.weight
+    m.each).0
 
 pub returns-clause-lifted : goal.returns-clause-lifted
 returns-clause-lifted g c =
@@ -34,6 +35,8 @@ returns-clause-lifted g c =
     let high = e.high in
     let most : (s.start +ℤ c.even_room-more.result) ≤ℤ c.least_around-least.result = omega (arith, ints, high, from, to) in
     let back : to_z w64 (of_z w64 c.even_room-more.result) ≡ c.even_room-more.result = search rules in
-    let state = state_raised s t c.args.v c.even_room-more.result c.move_dual.ensures.rest (c.move_dual.ensures.duals ∙ ap (λ d. put (dual_at s.arena.duals) c.args.v (dual_at s.arena.duals c.args.v +ℤ d)) back) in
+    let state = state_raised s t c.args.v c.even_room-more.result c.move_dual.ensures.rest
+    (c.move_dual.ensures.duals ∙ ap (λ d. put (dual_at s.arena.duals) c.args.v (dual_at s.arena.duals c.args.v +ℤ d)) back) in
     subst (λ x. IsLifted (state_of t) x c.args.v) (sym (ap (λ (x : Search). x.start) c.move_dual.ensures.rest)) (subst (λ (x : State). IsLifted x s.start c.args.v) (sym state)
-    (lifts s s.graph c.args.v c.least_around-least.result c.even_room-more.result refl c.requires.sound.shape.graph.graph c.requires.lifted c.requires.vertex e.low most e.even m.weight m.each).1)
+    (lifts s s.graph c.args.v c.least_around-least.result c.even_room-more.result refl c.requires.sound.shape.graph.graph c.requires.lifted c.requires.vertex e.low most e.even m.weight
+    m.each).1)

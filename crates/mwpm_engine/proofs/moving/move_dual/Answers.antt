@@ -10,7 +10,8 @@ use Rattle.mwpm_engine.proofs.moving.move_dual.Goals as goal
 family : (c : goal.After-add_dual) → c.add_dual.new.self ≡ raised c.args.search.now.arena c.args.v c.args.d
 family c =
     let back : to_z w64 (of_z w64 c.args.d) ≡ c.args.d = search rules in
-    c.add_dual.ensures.family ∙ ap (λ x. raised c.args.search.now.arena x (to_z w64 (of_z w64 c.args.d))) (c.new.ensures ∙ c.number.ensures) ∙ ap (raised c.args.search.now.arena c.args.v) back
+    c.add_dual.ensures.family ∙ ap (λ x. raised c.args.search.now.arena x (to_z w64 (of_z w64 c.args.d))) (c.new.ensures ∙ c.number.ensures)
+    ∙ ap (raised c.args.search.now.arena c.args.v) back
 
 pub add_dual-requires-clause-in_range : goal.add_dual-requires-clause-in_range
 add_dual-requires-clause-in_range c =
@@ -20,7 +21,8 @@ add_dual-requires-clause-in_range c =
     (subst (λ x. IsNumber (dual_at s.arena.duals c.args.v +ℤ x)) (sym back) (raised_number (state_of s) s.start c.args.v c.args.d c.requires.vertex c.requires.can c.requires.begun))
 
 pub returns-clause-sound : goal.returns-clause-sound
-returns-clause-sound c = raised_sound c.args.search.now c.add_dual.new.self c.args.v c.args.d (family c) c.requires.sound c.requires.vertex c.requires.begun c.requires.can c.add_dual.ensures.good
+returns-clause-sound c = raised_sound c.args.search.now c.add_dual.new.self c.args.v c.args.d
+    (family c) c.requires.sound c.requires.vertex c.requires.begun c.requires.can c.add_dual.ensures.good
 
 pub returns-clause-begun : goal.returns-clause-begun
 returns-clause-begun c = raised_begins c.args.search.now c.add_dual.new.self c.args.v c.args.d (family c) c.requires.sound c.requires.vertex c.requires.begun c.requires.can

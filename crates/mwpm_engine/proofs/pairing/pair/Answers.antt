@@ -15,7 +15,8 @@ mates c =
 pub returns-clause-sound : goal.returns-clause-sound
 returns-clause-sound c =
     let s = c.args.search.now in
-    paired_sound s (record s { mates = c.set_edge-2.new.edges }) c.args.e refl (mates c) (c.set_edge-2.ensures.len ∙ c.set_edge.ensures.len) c.requires.sound c.requires.begun c.requires.tight c.requires.u c.requires.v
+    paired_sound s (record s { mates = c.set_edge-2.new.edges }) c.args.e refl (mates c)
+    (c.set_edge-2.ensures.len ∙ c.set_edge.ensures.len) c.requires.sound c.requires.begun c.requires.tight c.requires.u c.requires.v
 
 pub returns-clause-exposed : goal.returns-clause-exposed
 returns-clause-exposed c = let s = c.args.search.now in paired_few s (record s { mates = c.set_edge-2.new.edges }) c.args.e refl (mates c)

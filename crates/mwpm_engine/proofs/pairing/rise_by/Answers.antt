@@ -1,60 +1,65 @@
 use Rattle.std.proofs.Common.{◌≡◌, ◌∙◌, ℤ, sym, subst, rules, to_z, of_z}
 use mir.Syntax.{w64}
 use Rattle.graph_theory.specs.Graph.{IsWeight, IsEdgeWithin, edge_of, other_end}
-use Rattle.alt_forest.specs.declared.spokes.Spoke.{Spoke}
+use Rattle.alt_forest.specs.declared.incident_edges.IncidentEdge.{IncidentEdge}
 use Rattle.alt_forest.specs.State.{IsExposed}
 use Rattle.alt_forest.specs.Searches.{state_of}
 use Rattle.alt_forest.proofs.Leads.{leads_weight}
 use Rattle.mwpm_engine.proofs.StartSearch.{rise_alone, rise_paired}
-use Rattle.mwpm_engine.proofs.StartSpokes.{leads_touches, leads_other, leads_within}
+use Rattle.mwpm_engine.proofs.StartIncidence.{leads_touches, leads_other, leads_within}
 use Rattle.mwpm_engine.proofs.Reaches.{slack_told}
 use Rattle.mwpm_engine.proofs.pairing.rise_by.Goals as goal
 
 pub slack_by-by-requires-clause-ends : goal.slack_by-by-requires-clause-ends
-slack_by-by-requires-clause-ends g c =
+slack_by-by-requires-clause-ends c =
     let s = c.args.search.now in
-    let p : Spoke = c.args.spoke.now in
+    let p : IncidentEdge = c.args.incident.now in
     let kept : to_z w64 (of_z w64 p.weight) ≡ p.weight = search rules in
-    subst (λ (w : ℤ). IsEdgeWithin s.graph.vertices (record { u = c.args.v; v = p.far; w = w })) (sym kept) (leads_within s.graph p.edge c.args.v p.far p.weight c.requires.sound.shape.graph.graph c.requires.spoke)
+    subst (λ (w : ℤ). IsEdgeWithin s.graph.vertices (record { u = c.args.v; v = p.far; w = w })) (sym kept)
+    (leads_within s.graph p.edge c.args.v p.far p.weight c.requires.sound.shape.graph.graph c.requires.incident)
 
 pub slack_by-by-requires-clause-weight : goal.slack_by-by-requires-clause-weight
-slack_by-by-requires-clause-weight g c =
+slack_by-by-requires-clause-weight c =
     let s = c.args.search.now in
-    let p : Spoke = c.args.spoke.now in
+    let p : IncidentEdge = c.args.incident.now in
     let kept : to_z w64 (of_z w64 p.weight) ≡ p.weight = search rules in
-    subst IsWeight (sym kept) (leads_weight s.graph p.edge c.args.v p.far p.weight c.requires.sound.shape.graph.graph c.requires.spoke)
+    subst IsWeight (sym kept) (leads_weight s.graph p.edge c.args.v p.far p.weight c.requires.sound.shape.graph.graph c.requires.incident)
 
 pub returns-then-is_exposed-clause-slack : goal.returns-then-is_exposed-clause-slack
-returns-then-is_exposed-clause-slack g c =
-    let p : Spoke = c.args.spoke.now in
+returns-then-is_exposed-clause-slack c =
+    let p : IncidentEdge = c.args.incident.now in
     let kept : to_z w64 (of_z w64 p.weight) ≡ p.weight = search rules in
     let back : to_z w64 (of_z w64 c.slack_by-by.result) ≡ c.slack_by-by.result = search rules in
-    slack_told c.args.search.now c.args.v p (to_z w64 (of_z w64 p.weight)) c.slack_by-by.result (to_z w64 (of_z w64 c.slack_by-by.result)) c.requires.begun.alone c.requires.spoke kept c.slack_by-by.ensures.slack back
+    slack_told c.args.search.now c.args.v p (to_z w64 (of_z w64 p.weight)) c.slack_by-by.result
+    (to_z w64 (of_z w64 c.slack_by-by.result)) c.requires.begun.alone c.requires.incident kept c.slack_by-by.ensures.slack back
 
 pub returns-clause-slack : goal.returns-clause-slack
-returns-clause-slack g c =
-    let p : Spoke = c.args.spoke.now in
+returns-clause-slack c =
+    let p : IncidentEdge = c.args.incident.now in
     let kept : to_z w64 (of_z w64 p.weight) ≡ p.weight = search rules in
     let back : to_z w64 (of_z w64 c.slack_by-by.result) ≡ c.slack_by-by.result = search rules in
-    slack_told c.args.search.now c.args.v p (to_z w64 (of_z w64 p.weight)) c.slack_by-by.result (to_z w64 (of_z w64 c.slack_by-by.result)) c.requires.begun.alone c.requires.spoke kept c.slack_by-by.ensures.slack back
+    slack_told c.args.search.now c.args.v p (to_z w64 (of_z w64 p.weight)) c.slack_by-by.result
+    (to_z w64 (of_z w64 c.slack_by-by.result)) c.requires.begun.alone c.requires.incident kept c.slack_by-by.ensures.slack back
 
 pub returns-then-is_exposed-clause-rise : goal.returns-then-is_exposed-clause-rise
-returns-then-is_exposed-clause-rise g c =
+returns-then-is_exposed-clause-rise c =
     let s = c.args.search.now in
-    let p : Spoke = c.args.spoke.now in
-    let far : c.new.result ≡ other_end (edge_of s.graph p.edge) c.args.v = c.new.ensures ∙ c.number.ensures ∙ sym (leads_other s.graph p.edge c.args.v p.far p.weight c.requires.sound.shape.graph.graph c.requires.spoke) in
-    rise_paired s c.args.v p.edge (to_z w64 (of_z w64 c.slack_by-by.result)) c.requires.sound c.requires.begun c.requires.spoke.number (returns-then-is_exposed-clause-slack g c)
-    (leads_touches s.graph p.edge c.args.v p.far p.weight c.requires.spoke)
+    let p : IncidentEdge = c.args.incident.now in
+    let far : c.new.result ≡ other_end (edge_of s.graph p.edge) c.args.v = c.new.ensures ∙ c.number.ensures
+    ∙ sym (leads_other s.graph p.edge c.args.v p.far p.weight c.requires.sound.shape.graph.graph c.requires.incident) in
+    rise_paired s c.args.v p.edge (to_z w64 (of_z w64 c.slack_by-by.result)) c.requires.sound c.requires.begun c.requires.incident.number (returns-then-is_exposed-clause-slack c)
+    (leads_touches s.graph p.edge c.args.v p.far p.weight c.requires.incident)
     (subst (IsExposed (state_of s)) far (c.is_exposed.ensures.0 c.if-is_exposed.true))
 
 pub returns-clause-rise : goal.returns-clause-rise
-returns-clause-rise g c =
+returns-clause-rise c =
     let s = c.args.search.now in
-    rise_alone s c.args.v c.args.spoke.now.edge (to_z w64 (of_z w64 c.slack_by-by.result)) c.requires.sound c.requires.begun c.requires.spoke.number (returns-clause-slack g c)
+    rise_alone s c.args.v c.args.incident.now.edge (to_z w64 (of_z w64 c.slack_by-by.result)) c.requires.sound c.requires.begun c.requires.incident.number (returns-clause-slack c)
 
 pub returns-clause-found : goal.returns-clause-found
-returns-clause-found g c = λ exposed.
+returns-clause-found c = λ exposed.
     let s = c.args.search.now in
-    let p : Spoke = c.args.spoke.now in
-    let far : c.new.result ≡ other_end (edge_of s.graph p.edge) c.args.v = c.new.ensures ∙ c.number.ensures ∙ sym (leads_other s.graph p.edge c.args.v p.far p.weight c.requires.sound.shape.graph.graph c.requires.spoke) in
+    let p : IncidentEdge = c.args.incident.now in
+    let far : c.new.result ≡ other_end (edge_of s.graph p.edge) c.args.v = c.new.ensures ∙ c.number.ensures
+    ∙ sym (leads_other s.graph p.edge c.args.v p.far p.weight c.requires.sound.shape.graph.graph c.requires.incident) in
     sym c.if-is_exposed.false ∙ c.is_exposed.ensures.1 (subst (IsExposed (state_of s)) (sym far) exposed)

@@ -34,14 +34,17 @@ loop-place-preserved g c =
       begun = e.begun;
       rest = kept_on c.args.search.now c.loop-place.search c.start_at.new.search i.rest e.rest;
       settled = settled_one graph (state_of c.loop-place.search) (state_of c.start_at.new.search) c.loop-place.place c.new.result c.new.ensures
-          (λ d t. e.settled d (sym (ap (λ (k : Multigraph). touches (edge_of k d) c.new.result) same) ∙ t)) (λ d t. e.others d (sym (ap (λ (k : Multigraph). touches (edge_of k d) c.new.result) same) ∙ t)) i.settled;
+          (λ d t. e.settled d (sym (ap (λ (k : Multigraph). touches (edge_of k d) c.new.result) same) ∙ t))
+          (λ d t. e.others d (sym (ap (λ (k : Multigraph). touches (edge_of k d) c.new.result) same) ∙ t)) i.settled;
       exposed = omega (arith, e.exposed, i.exposed);
-      looks = round_more graph c.loop-place.place c.new.result c.args.steps.now c.loop-place.steps c.start_at.new.steps c.new.ensures i.looks (omega (arith, e.looks, ap (λ (k : Multigraph). length (edges_around k c.new.result)) same));
+      looks = round_more graph c.loop-place.place c.new.result c.args.steps.now c.loop-place.steps c.start_at.new.steps c.new.ensures i.looks
+          (omega (arith, e.looks, ap (λ (k : Multigraph). length (edges_around k c.new.result)) same));
     }
 
 pub returns-clause-maximal : goal.returns-clause-maximal
 returns-clause-maximal g c =
     let graph : Multigraph = c.args.graph.now in
     let last : Search = c.loop-place.search in
-    settled_all graph (state_of last) c.loop-place.place (ap (λ (x : Search). x.graph) c.loop-place.invariant.rest ∙ sym c.requires.same) (subst IsGraph (sym c.requires.same) c.requires.sound.shape.graph.graph)
+    settled_all graph (state_of last) c.loop-place.place (ap (λ (x : Search). x.graph) c.loop-place.invariant.rest ∙ sym c.requires.same)
+    (subst IsGraph (sym c.requires.same) c.requires.sound.shape.graph.graph)
     (omega (arith, c.vertices-place-end.ensures.count, c.loop-place-test.false)) c.loop-place.invariant.settled

@@ -24,11 +24,14 @@ move_dual-requires-clause-can g c =
     (least_rises s c.args.v c.least_rise-rise.result.by c.least_rise-rise.result.mate c.requires.sound c.requires.begun c.requires.vertex exposed r.rise r.each r.none)
 
 -- the edge is tight now, and joins two exposed vertices
-ready : (g : Over) (c : goal.After-pair-arg-1 g) → IsTight (state_of c.move_dual.new.search) c.in-Some.e × IsExposed (state_of c.move_dual.new.search) (edge_of c.move_dual.new.search.graph c.in-Some.e).u × IsExposed (state_of c.move_dual.new.search) (edge_of c.move_dual.new.search.graph c.in-Some.e).v
+ready : (g : Over) (c : goal.After-pair-arg-1 g)
+    → IsTight (state_of c.move_dual.new.search) c.in-Some.e × IsExposed (state_of c.move_dual.new.search) (edge_of c.move_dual.new.search.graph c.in-Some.e).u × IsExposed
+    (state_of c.move_dual.new.search) (edge_of c.move_dual.new.search.graph c.in-Some.e).v
 ready g c =
     let s = c.args.search.now in
     let back : to_z w64 (of_z w64 c.least_rise-rise.result.by) ≡ c.least_rise-rise.result.by = search rules in
-    let state = state_raised s c.move_dual.new.search c.args.v c.least_rise-rise.result.by c.move_dual.ensures.rest (c.move_dual.ensures.duals ∙ ap (λ d. put (dual_at s.arena.duals) c.args.v (dual_at s.arena.duals c.args.v +ℤ d)) back) in
+    let state = state_raised s c.move_dual.new.search c.args.v c.least_rise-rise.result.by c.move_dual.ensures.rest
+    (c.move_dual.ensures.duals ∙ ap (λ d. put (dual_at s.arena.duals) c.args.v (dual_at s.arena.duals c.args.v +ℤ d)) back) in
     let exposed : IsExposed (state_of s) c.args.v = subst (IsExposed (state_of s)) (c.new.ensures ∙ c.number.ensures) (c.is_exposed.ensures.0 c.if-not-is_exposed.false) in
     let can : CanPair (state_of s) c.args.v c.least_rise-rise.result.by c.in-Some.e = c.least_rise-rise.ensures.rise.mate_pairs c.in-Some.e c.in-Some.is in
     can_be_paired s c.move_dual.new.search c.args.v c.in-Some.e c.least_rise-rise.result.by state c.requires.sound c.requires.begun exposed can
@@ -59,14 +62,16 @@ returns-in-Some-clause-settled g c e at j =
     let first = ap (λ (x : Search). x.graph) c.move_dual.ensures.rest in
     let graph = sym (ap (λ (x : Search). x.graph) c.pair.ensures.rest ∙ first) in
     let can : CanPair (state_of s) c.args.v c.least_rise-rise.result.by c.in-Some.e = c.least_rise-rise.ensures.rise.mate_pairs c.in-Some.e c.in-Some.is in
-    matched_settled s c.pair.new.search s.graph c.move_dual.new.search.graph c.args.v e c.in-Some.e c.least_rise-rise.result.by graph first can (λ x. let f = c.pair.ensures.free c.args.v x in (f.1, f.2)) at j
+    matched_settled s c.pair.new.search s.graph c.move_dual.new.search.graph c.args.v e c.in-Some.e c.least_rise-rise.result.by graph first can
+    (λ x. let f = c.pair.ensures.free c.args.v x in (f.1, f.2)) at j
 
 pub returns-in-Some-clause-others : goal.returns-in-Some-clause-others
 returns-in-Some-clause-others g c e at j =
     let s : Search = c.args.search.now in
     let u : Search = c.move_dual.new.search in
     let back : to_z w64 (of_z w64 c.least_rise-rise.result.by) ≡ c.least_rise-rise.result.by = search rules in
-    let state = state_raised s u c.args.v c.least_rise-rise.result.by c.move_dual.ensures.rest (c.move_dual.ensures.duals ∙ ap (λ d. put (dual_at s.arena.duals) c.args.v (dual_at s.arena.duals c.args.v +ℤ d)) back) in
+    let state = state_raised s u c.args.v c.least_rise-rise.result.by c.move_dual.ensures.rest
+    (c.move_dual.ensures.duals ∙ ap (λ d. put (dual_at s.arena.duals) c.args.v (dual_at s.arena.duals c.args.v +ℤ d)) back) in
     raised_others s u s.graph c.args.v e c.least_rise-rise.result.by refl state c.requires.sound c.requires.begun at
     (joins_before u c.pair.new.search e c.pair.ensures.rest (λ a x. (c.pair.ensures.free a x).0) j)
 
@@ -75,7 +80,8 @@ returns-in_default-clause-settled g c e at j =
     let s : Search = c.args.search.now in
     let u : Search = c.move_dual.new.search in
     let back : to_z w64 (of_z w64 c.least_rise-rise.result.by) ≡ c.least_rise-rise.result.by = search rules in
-    let state = state_raised s u c.args.v c.least_rise-rise.result.by c.move_dual.ensures.rest (c.move_dual.ensures.duals ∙ ap (λ d. put (dual_at s.arena.duals) c.args.v (dual_at s.arena.duals c.args.v +ℤ d)) back) in
+    let state = state_raised s u c.args.v c.least_rise-rise.result.by c.move_dual.ensures.rest
+    (c.move_dual.ensures.duals ∙ ap (λ d. put (dual_at s.arena.duals) c.args.v (dual_at s.arena.duals c.args.v +ℤ d)) back) in
     let can = raised_settled s u s.graph c.args.v e c.least_rise-rise.result.by refl state c.requires.sound c.requires.begun at j in
     both_ways (is_some c.least_rise-rise.result.mate) (ap (λ (o : Option ℕ). is_some o) c.in_default.is) (c.least_rise-rise.ensures.found e can)
 
@@ -84,5 +90,6 @@ returns-in_default-clause-others g c e at j =
     let s : Search = c.args.search.now in
     let u : Search = c.move_dual.new.search in
     let back : to_z w64 (of_z w64 c.least_rise-rise.result.by) ≡ c.least_rise-rise.result.by = search rules in
-    let state = state_raised s u c.args.v c.least_rise-rise.result.by c.move_dual.ensures.rest (c.move_dual.ensures.duals ∙ ap (λ d. put (dual_at s.arena.duals) c.args.v (dual_at s.arena.duals c.args.v +ℤ d)) back) in
+    let state = state_raised s u c.args.v c.least_rise-rise.result.by c.move_dual.ensures.rest
+    (c.move_dual.ensures.duals ∙ ap (λ d. put (dual_at s.arena.duals) c.args.v (dual_at s.arena.duals c.args.v +ℤ d)) back) in
     raised_others s u s.graph c.args.v e c.least_rise-rise.result.by refl state c.requires.sound c.requires.begun at j

@@ -15,4 +15,5 @@ returns-in-Some-clause-happens g c =
     let can = subst (λ (x : Search). IsPossible (state_of x) c.args.event) (sym put.search) c.requires.possible in
     let e = c.join.ensures in
     put_happens s u c.join.new.search c.args.steps.now c.take_in.new.steps c.join.new.steps c.args.event c.in-Some.e c.join.result put
-    (joined u c.join.new.search c.in-Some.e c.take_in.new.steps c.join.new.steps growing (subst (IsPossible (state_of u)) put.augment can) e.rest e.sound e.fewer e.planted c.join.result e.queued e.standing e.left e.clock e.looks e.count)
+    (joined u c.join.new.search c.in-Some.e c.take_in.new.steps c.join.new.steps growing
+    (subst (IsPossible (state_of u)) put.augment can) e.rest e.sound e.fewer e.planted c.join.result e.queued e.standing e.left e.clock e.looks e.count)

@@ -38,7 +38,8 @@ loop-event-preserved g c =
     let here = reached_paid c.loop-event.search c.reach.new.search c.loop-event.steps c.reach.new.steps (steps_to c.in-Some.event) r.keeps c.in-Some.ensures.count in
     record {
       growing = e.growing;
-      same = same_through c.args.search.now c.reach.new.search c.take_in.new.search (same_through c.args.search.now c.loop-event.search c.reach.new.search i.same r.pass) c.take_in.ensures.pass;
+      same = same_through c.args.search.now c.reach.new.search c.take_in.new.search
+          (same_through c.args.search.now c.loop-event.search c.reach.new.search i.same r.pass) c.take_in.ensures.pass;
       exposed = e.exposed ∙ r.keeps.exposed ∙ i.exposed;
       steps = omega (arith, here, i.steps, e.paid);
     }
@@ -47,10 +48,13 @@ pub returns-clause-steps : goal.returns-clause-steps
 returns-clause-steps g c =
     let s : Search = c.args.search.now in
     let graph : Multigraph = c.args.graph.now in
-    let count = subst (λ (o : Option Event). entry_count c.reach.new.search.queue + c.reach.new.steps ≤ entry_count c.loop-event.search.queue + c.loop-event.steps + steps_reached o) c.in_default.is c.reach.ensures.count in
+    let count = subst
+    (λ (o : Option Event). entry_count c.reach.new.search.queue + c.reach.new.steps ≤ entry_count c.loop-event.search.queue + c.loop-event.steps + steps_reached o) c.in_default.is
+    c.reach.ensures.count in
     let here = reached_paid c.loop-event.search c.reach.new.search c.loop-event.steps c.reach.new.steps 0 c.reach.ensures.keeps count in
     let paid = c.loop-event.invariant.steps in
-    let many = subst (λ (k : Multigraph). 2 * length s.arena.blossoms + 1 ≤ k.vertices) (sym c.requires.same) (few_blossoms s c.requires.exposed.0 c.requires.sound.shape c.requires.exposed.1.0) in
+    let many = subst (λ (k : Multigraph). 2 * length s.arena.blossoms + 1 ≤ k.vertices) (sym c.requires.same)
+    (few_blossoms s c.requires.exposed.0 c.requires.sound.shape c.requires.exposed.1.0) in
     phase_paid graph (length s.arena.blossoms) c.args.steps.now c.reach.new.steps many (omega (arith, here, paid))
 
 pub returns-clause-ends : goal.returns-clause-ends
@@ -62,7 +66,8 @@ returns-in-Some-take_in-clause-bounded g c =
     let t : Search = c.flip.new.search in
     let r = c.flip.ensures.rest in
     let growing = subst IsGrowing (sym c.in-Some-take_in.ensures.takes.search) c.reach.ensures.growing in
-    still_bounded u t (ap (λ (x : Search). x.arena) r) (record { graph = ap (λ (x : Search). x.graph) r; weights = ap (λ (x : Search). x.weights) r; start = ap (λ (x : Search). x.start) r }) growing.bounded
+    still_bounded u t (ap (λ (x : Search). x.arena) r)
+    (record { graph = ap (λ (x : Search). x.graph) r; weights = ap (λ (x : Search). x.weights) r; start = ap (λ (x : Search). x.start) r }) growing.bounded
 
 pub returns-in-Some-take_in-clause-steps : goal.returns-in-Some-take_in-clause-steps
 returns-in-Some-take_in-clause-steps g c =
@@ -73,5 +78,6 @@ returns-in-Some-take_in-clause-steps g c =
     let put : c.take_in.new.steps ≡ c.reach.new.steps = c.in-Some-take_in.ensures.takes.steps in
     let paid = c.loop-event.invariant.steps in
     let two = steps_few c.in-Some.event in
-    let many = subst (λ (k : Multigraph). 2 * length s.arena.blossoms + 1 ≤ k.vertices) (sym c.requires.same) (few_blossoms s c.requires.exposed.0 c.requires.sound.shape c.requires.exposed.1.0) in
+    let many = subst (λ (k : Multigraph). 2 * length s.arena.blossoms + 1 ≤ k.vertices) (sym c.requires.same)
+    (few_blossoms s c.requires.exposed.0 c.requires.sound.shape c.requires.exposed.1.0) in
     phase_paid graph (length s.arena.blossoms) c.args.steps.now c.flip.new.steps many (omega (arith, here, last, put, paid, two))

@@ -38,8 +38,10 @@ loop-place-preserved g c =
       rest = kept_planting c.args.search.now u t i.rest e.rest;
       planted = planted_one u t c.loop-place.place c.new.result c.new.ensures e.rest e.planted e.others i.planted;
       trees = elim c.if-planted.branch [
-        | then-planted w ↦ subst (λ b. MatchBool b (tree_count (state_of t) ≢ 0) (tree_count (state_of t) ≡ 0)) (sym w.some-is) (some_planted c.plant_at-planted.result (tree_count (state_of u)) (tree_count (state_of t)) w.if-planted.true e.trees)
-        | else-planted w ↦ subst (λ b. MatchBool b (tree_count (state_of t) ≢ 0) (tree_count (state_of t) ≡ 0)) (sym w.some-is) (none_planted c.plant_at-planted.result c.loop-place.some (tree_count (state_of u)) (tree_count (state_of t)) w.if-planted.false e.trees i.trees)
+        | then-planted w ↦ subst (λ b. MatchBool b (tree_count (state_of t) ≢ 0) (tree_count (state_of t) ≡ 0)) (sym w.some-is)
+            (some_planted c.plant_at-planted.result (tree_count (state_of u)) (tree_count (state_of t)) w.if-planted.true e.trees)
+        | else-planted w ↦ subst (λ b. MatchBool b (tree_count (state_of t) ≢ 0) (tree_count (state_of t) ≡ 0)) (sym w.some-is)
+            (none_planted c.plant_at-planted.result c.loop-place.some (tree_count (state_of u)) (tree_count (state_of t)) w.if-planted.false e.trees i.trees)
       ];
       exposed = e.exposed ∙ i.exposed;
       looks = omega (arith, e.looks, i.looks);

@@ -11,7 +11,13 @@ invariant-loop-place g l = record {
   sound : IsSound l.search;
   queued : IsQueued l.search;
   standing : IsStanding l.search;
-  rest : l.search ≡ record l.fn.search { arena = record l.fn.search.arena { motions = l.search.arena.motions }; labels = l.search.labels; queue = l.search.queue; standing = l.search.standing; seeds = l.search.seeds; scanned = l.search.scanned };
+  rest : l.search ≡ record l.fn.search {
+    arena = record l.fn.search.arena { motions = l.search.arena.motions };
+    labels = l.search.labels;
+    queue = l.search.queue;
+    standing = l.search.standing;
+    scanned = l.search.scanned;
+  };
   planted : ArePlanted l.search l.place;
   trees : MatchBool l.some (tree_count (state_of l.search) ≢ 0) (tree_count (state_of l.search) ≡ 0);
   exposed : exposed_count (state_of l.search) ≡ exposed_count (state_of l.fn.search);

@@ -1,7 +1,7 @@
 use Rattle.std.proofs.Common.{◌≡◌, ◌+◌, ◌≤ℤ◌}
 use Rattle.alt_forest.specs.State.{slack_of}
 use Rattle.alt_forest.specs.Searches.{state_of}
-use Rattle.alt_forest.specs.Spokes.{numbers_of}
+use Rattle.alt_forest.specs.IncidentEdges.{numbers_of}
 use Rattle.mwpm_engine.specs.Sweeps.{IsReach}
 use Rattle.mwpm_engine.proofs.LeastSeen.{IsBelow}
 use Rattle.mwpm_engine.proofs.Reaches.{AreBehind}
@@ -12,7 +12,6 @@ invariant-loop-place g l = record {
   least : IsReach (state_of l.search) l.v l.lead.least;
   next : IsReach (state_of l.search) l.v l.lead.next;
   order : l.lead.least.by ≤ℤ l.lead.next.by;
-  each : IsBelow (slack_of (state_of l.search)) (numbers_of l.spokes) l.place l.lead.least.by;
-  behind : AreBehind l.search l.v (numbers_of l.spokes) l.place l.lead;
-  looks : l.steps ≡ l.fn.steps + l.place;
+  each : IsBelow (slack_of (state_of l.search)) (numbers_of l.incidence) l.place l.lead.least.by;
+  behind : AreBehind l.search l.v (numbers_of l.incidence) l.place l.lead;
 }

@@ -44,13 +44,15 @@ pub returns-then-not-pass-clause-steps : goal.returns-then-not-pass-clause-steps
 returns-then-not-pass-clause-steps g c =
     let graph : Multigraph = c.args.graph.now in
     let few = exposed_few c.reset.new.self c.start_duals.new.search graph c.start_duals.ensures.exposed c.reset.ensures.exposed (c.reset.ensures.graph ∙ sym c.requires.same) in
-    pass_paid graph false (exposed_count (state_of c.start_duals.new.search)) c.args.steps.now c.start_duals.new.steps c.pass.new.steps few c.start_duals.ensures.steps c.if-not-pass.ensures.steps
+    pass_paid graph false
+    (exposed_count (state_of c.start_duals.new.search)) c.args.steps.now c.start_duals.new.steps c.pass.new.steps few c.start_duals.ensures.steps c.if-not-pass.ensures.steps
 
 pub returns-clause-steps : goal.returns-clause-steps
 returns-clause-steps g c =
     let graph : Multigraph = c.args.graph.now in
     let few = exposed_few c.reset.new.self c.start_duals.new.search graph c.start_duals.ensures.exposed c.reset.ensures.exposed (c.reset.ensures.graph ∙ sym c.requires.same) in
-    pass_paid graph true (exposed_count (state_of c.start_duals.new.search)) c.args.steps.now c.start_duals.new.steps c.pass.new.steps few c.start_duals.ensures.steps c.if-not-pass.ensures.steps
+    pass_paid graph true
+    (exposed_count (state_of c.start_duals.new.search)) c.args.steps.now c.start_duals.new.steps c.pass.new.steps few c.start_duals.ensures.steps c.if-not-pass.ensures.steps
 
 pub returns-then-not-pass-clause-sure : goal.returns-then-not-pass-clause-sure
 returns-then-not-pass-clause-sure g c given =

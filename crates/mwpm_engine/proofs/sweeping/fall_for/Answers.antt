@@ -15,7 +15,10 @@ pub returns-then-is_exposed : goal.returns-then-is_exposed
 returns-then-is_exposed c =
     let s = c.args.search.now in
     let l : Lead = c.args.lead.now in
-    record { fall = told (CanTake (state_of s) s.start l) (pos 0) (takes_none (state_of s) s.start c.args.v l c.requires.sound.shape.graph.graph c.requires.begun c.requires.sound.state.slacks c.requires.vertex c.requires.lead) }
+    record {
+      fall = told (CanTake (state_of s) s.start l) (pos 0)
+          (takes_none (state_of s) s.start c.args.v l c.requires.sound.shape.graph.graph c.requires.begun c.requires.sound.state.slacks c.requires.vertex c.requires.lead);
+    }
 
 -- the two numbers that are compared
 module _ (s : Search) (v : ℕ) (l : Lead) (sound : IsSound s) (begun : IsBegun (state_of s) s.start) (vertex : is_vertex s.graph.vertices v ≡ true) (lead : IsLead (state_of s) v l) where
@@ -32,7 +35,8 @@ module _ (s : Search) (v : ℕ) (l : Lead) (sound : IsSound s) (begun : IsBegun 
   gap_is = difference_kept l.next.by l.least.by next_fits least_fits (gap_fits (state_of s) s.start v l sound.shape.graph.graph begun sound.state.slacks vertex lead)
 
   gap_told : FitsSigned w64 (to_z w64 (of_z w64 l.next.by) -ℤ to_z w64 (of_z w64 l.least.by))
-  gap_told = subst (FitsSigned w64) (sym (ap₂ ◌-ℤ◌ (kept l.next.by next_fits) (kept l.least.by least_fits))) (gap_fits (state_of s) s.start v l sound.shape.graph.graph begun sound.state.slacks vertex lead)
+  gap_told = subst (FitsSigned w64) (sym (ap₂ ◌-ℤ◌ (kept l.next.by next_fits) (kept l.least.by least_fits)))
+      (gap_fits (state_of s) s.start v l sound.shape.graph.graph begun sound.state.slacks vertex lead)
 
   module _ (dual : ℤ) (is : dual ≡ dual_at s.arena.duals l.least.far) where
     far_fits : FitsSigned w64 dual
@@ -51,17 +55,21 @@ pub overflow_sub-gap : goal.overflow_sub-gap
 overflow_sub-gap c = gap_told c.args.search.now c.args.v c.args.lead.now c.requires.sound c.requires.begun c.requires.vertex c.requires.lead
 
 pub overflow_sub-room : goal.overflow_sub-room
-overflow_sub-room c = room_told c.args.search.now c.args.v c.args.lead.now c.requires.sound c.requires.begun c.requires.vertex c.requires.lead c.dual.result (c.dual.ensures.dual ∙ ap (dual_at c.args.search.now.arena.duals) (c.new-far.ensures ∙ c.number.ensures))
+overflow_sub-room c = room_told c.args.search.now c.args.v c.args.lead.now c.requires.sound c.requires.begun c.requires.vertex c.requires.lead c.dual.result
+    (c.dual.ensures.dual ∙ ap (dual_at c.args.search.now.arena.duals) (c.new-far.ensures ∙ c.number.ensures))
 
 pub returns-then-room-gap : goal.returns-then-room-gap
 returns-then-room-gap c =
     let s : Search = c.args.search.now in
     let l : Lead = c.args.lead.now in
     let gap = gap_is s c.args.v l c.requires.sound c.requires.begun c.requires.vertex c.requires.lead in
-    let room = room_is s c.args.v l c.requires.sound c.requires.begun c.requires.vertex c.requires.lead c.dual.result (c.dual.ensures.dual ∙ ap (dual_at s.arena.duals) (c.new-far.ensures ∙ c.number.ensures)) in
+    let room = room_is s c.args.v l c.requires.sound c.requires.begun c.requires.vertex c.requires.lead c.dual.result
+    (c.dual.ensures.dual ∙ ap (dual_at s.arena.duals) (c.new-far.ensures ∙ c.number.ensures)) in
     let less = c.if-room-gap.true in
     record {
-      fall = told (CanTake (state_of s) s.start l) _ (takes_room (state_of s) s.start c.args.v l c.requires.sound.shape.graph.graph c.requires.begun c.requires.sound.state.slacks c.requires.vertex c.requires.lead _ room (omega (arith, ints, gap, less)));
+      fall = told (CanTake (state_of s) s.start l) _
+          (takes_room (state_of s) s.start c.args.v l c.requires.sound.shape.graph.graph c.requires.begun c.requires.sound.state.slacks c.requires.vertex c.requires.lead _ room
+          (omega (arith, ints, gap, less)));
     }
 
 pub returns : goal.returns
@@ -69,8 +77,11 @@ returns c =
     let s : Search = c.args.search.now in
     let l : Lead = c.args.lead.now in
     let gap = gap_is s c.args.v l c.requires.sound c.requires.begun c.requires.vertex c.requires.lead in
-    let room = room_is s c.args.v l c.requires.sound c.requires.begun c.requires.vertex c.requires.lead c.dual.result (c.dual.ensures.dual ∙ ap (dual_at s.arena.duals) (c.new-far.ensures ∙ c.number.ensures)) in
+    let room = room_is s c.args.v l c.requires.sound c.requires.begun c.requires.vertex c.requires.lead c.dual.result
+    (c.dual.ensures.dual ∙ ap (dual_at s.arena.duals) (c.new-far.ensures ∙ c.number.ensures)) in
     let most = c.if-room-gap.false in
     record {
-      fall = told (CanTake (state_of s) s.start l) _ (takes_gap (state_of s) s.start c.args.v l c.requires.sound.shape.graph.graph c.requires.begun c.requires.sound.state.slacks c.requires.vertex c.requires.lead _ gap (omega (arith, ints, room, most)));
+      fall = told (CanTake (state_of s) s.start l) _
+          (takes_gap (state_of s) s.start c.args.v l c.requires.sound.shape.graph.graph c.requires.begun c.requires.sound.state.slacks c.requires.vertex c.requires.lead _ gap
+          (omega (arith, ints, room, most)));
     }

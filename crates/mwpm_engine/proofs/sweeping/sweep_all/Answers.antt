@@ -20,7 +20,8 @@ loop-place-preserved g c =
       sound = e.sound;
       begun = e.begun;
       rest = kept_on c.args.search.now c.loop-place.search c.sweep_at.new.search i.rest e.rest;
-      looks = round_more graph c.loop-place.place c.new.result c.args.steps.now c.loop-place.steps c.sweep_at.new.steps c.new.ensures i.looks (omega (arith, e.looks, ap (λ (k : Multigraph). length (edges_around k c.new.result)) same));
+      looks = round_more graph c.loop-place.place c.new.result c.args.steps.now c.loop-place.steps c.sweep_at.new.steps c.new.ensures i.looks
+          (omega (arith, e.looks, ap (λ (k : Multigraph). length (edges_around k c.new.result)) same));
     }
 
 pub returns-clause-looks : goal.returns-clause-looks

@@ -20,4 +20,5 @@ move_dual-requires-clause-can g c =
     let back : to_z w64 (of_z w64 l.least.by) ≡ l.least.by = search rules in
     let exposed : IsExposed (state_of s) c.args.v = subst (IsExposed (state_of s)) (c.new.ensures ∙ c.number.ensures) (c.is_exposed.ensures.0 c.if-not-is_exposed.false) in
     subst (CanMove (state_of s) s.start c.args.v) (sym back)
-    (lead_rises (state_of s) s.start c.args.v l c.requires.sound.shape.graph.graph c.requires.begun c.requires.sound.state.slacks c.requires.vertex (c.lead_at.ensures.lead l c.in-Some.is) exposed)
+    (lead_rises (state_of s) s.start c.args.v l c.requires.sound.shape.graph.graph c.requires.begun c.requires.sound.state.slacks c.requires.vertex
+    (c.lead_at.ensures.lead l c.in-Some.is) exposed)

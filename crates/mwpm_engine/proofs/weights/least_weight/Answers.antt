@@ -15,7 +15,8 @@ loop-place-preserved g c =
       weight = subst IsWeight (sym now) l.weight;
       below = λ e low high. ⊎_elim
           (λ last.
-          let here : (edge_of c.args.graph.now c.new-in-loop-place.result).w ≡ (edge_of c.args.graph.now e).w = ap (λ k. (edge_of c.args.graph.now k).w) (c.new-in-loop-place.ensures ∙ sym last) in
+          let here : (edge_of c.args.graph.now c.new-in-loop-place.result).w ≡ (edge_of c.args.graph.now e).w = ap (λ k. (edge_of c.args.graph.now k).w)
+          (c.new-in-loop-place.ensures ∙ sym last) in
           let most = l.edge in
           omega (arith, ints, now, here, most))
           (λ other. let most = i.below e low (omega (arith, high, other)) in let less = l.least in omega (arith, ints, now, most, less))

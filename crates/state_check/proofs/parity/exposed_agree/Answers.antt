@@ -4,14 +4,14 @@ use Rattle.alt_forest.specs.Searches.{state_of}
 use Rattle.state_check.proofs.Parities.{agree_by, agree_even}
 use Rattle.state_check.proofs.parity.exposed_agree.Goals as goal
 
-pub returns-then-covers_have : goal.returns-then-covers_have
-returns-then-covers_have c = (
-  λ _. agree_by (state_of c.args.search.now) true (c.covers_have.ensures.0 c.if-covers_have.true),
+pub returns-then-dual_sums_have : goal.returns-then-dual_sums_have
+returns-then-dual_sums_have c = (
+  λ _. agree_by (state_of c.args.search.now) true (c.dual_sums_have.ensures.0 c.if-dual_sums_have.true),
   λ _. refl,
 )
 
 pub returns : goal.returns
 returns c = (
-  λ e. agree_by (state_of c.args.search.now) false (c.covers_have-2.ensures.0 e),
-  λ agree. c.covers_have-2.ensures.1 (agree_even (state_of c.args.search.now) agree (λ odd. both_ways c.covers_have.result c.if-covers_have.false (c.covers_have.ensures.1 odd))),
+  λ e. agree_by (state_of c.args.search.now) false (c.dual_sums_have-2.ensures.0 e),
+  λ agree. c.dual_sums_have-2.ensures.1 (agree_even (state_of c.args.search.now) agree (λ odd. both_ways c.dual_sums_have.result c.if-dual_sums_have.false (c.dual_sums_have.ensures.1 odd))),
 )

@@ -6,6 +6,6 @@ use Rattle.state_check.proofs.ways.comes_to_end.Given as goal
 
 abbrev pub invariant-loop : goal.invariant-loop
 invariant-loop l = record {
-  outer : l.node ≢ 0 → IsOutermost (state_of l.search) l.node;
+  outermost : l.node ≢ 0 → IsOutermost (state_of l.search) l.node;
   climbed : HasClimbed (state_of l.search) l.fn.a l.counter l.node;
 }

@@ -21,42 +21,51 @@ pub child_at-base-requires-clause-leaves : goal.child_at-base-requires-clause-le
 child_at-base-requires-clause-leaves c = mate_end c.args.search.now c.requires.sound c.args.b c.requires.can c.mate.result c.or_none-mate.result c.mate.ensures.mate c.or_none-mate.ensures
 
 pub child_at-entry-requires-clause-edge : goal.child_at-entry-requires-clause-edge
-child_at-entry-requires-clause-edge c = parent_edge c.args.search.now c.requires.sound c.args.b c.requires.can c.parent.result c.or_none-parent.result c.parent.ensures.parent c.or_none-parent.ensures
+child_at-entry-requires-clause-edge c = parent_edge c.args.search.now c.requires.sound c.args.b c.requires.can c.parent.result c.or_none-parent.result c.parent.ensures.parent
+    c.or_none-parent.ensures
 
 pub child_at-entry-requires-clause-leaves : goal.child_at-entry-requires-clause-leaves
-child_at-entry-requires-clause-leaves c = parent_end c.args.search.now c.requires.sound c.args.b c.requires.can c.parent.result c.or_none-parent.result c.parent.ensures.parent c.or_none-parent.ensures
+child_at-entry-requires-clause-leaves c =
+    parent_end c.args.search.now c.requires.sound c.args.b c.requires.can c.parent.result c.or_none-parent.result c.parent.ensures.parent c.or_none-parent.ensures
 
 pub fill_round-first-requires-clause-base : goal.fill_round-first-requires-clause-base
-fill_round-first-requires-clause-base c = base_found c.args.search.now c.requires.sound c.args.b c.requires.can c.mate.result c.or_none-mate.result c.child_at-base.result c.mate.ensures.mate c.or_none-mate.ensures c.child_at-base.ensures.child
+fill_round-first-requires-clause-base c =
+    base_found c.args.search.now c.requires.sound c.args.b c.requires.can c.mate.result c.or_none-mate.result c.child_at-base.result c.mate.ensures.mate c.or_none-mate.ensures
+    c.child_at-base.ensures.child
 
 pub open_at-requires-clause-nodes : goal.open_at-requires-clause-nodes
 open_at-requires-clause-nodes c =
     let round = c.fill_round-first.new.search.circuit.items in
     subst (λ (f : Search). AllByRecursion (λ (l : Link). l.node ≤ node_limit f.graph.vertices) round) (sym c.fill_round-first.ensures.rest)
-    (round_low c.args.search.now c.requires.sound c.args.b c.requires.can c.mate.result c.or_none-mate.result c.child_at-base.result c.mate.ensures.mate c.or_none-mate.ensures c.child_at-base.ensures.child c.fill_round-first.result round c.fill_round-first.ensures.round)
+    (round_low c.args.search.now c.requires.sound c.args.b c.requires.can c.mate.result c.or_none-mate.result c.child_at-base.result c.mate.ensures.mate c.or_none-mate.ensures
+    c.child_at-base.ensures.child c.fill_round-first.result round c.fill_round-first.ensures.round)
 
 pub open_at-requires-clause-base : goal.open_at-requires-clause-base
 open_at-requires-clause-base c =
     subst (λ (f : Search). c.child_at-base.result ≤ node_limit f.graph.vertices) (sym c.fill_round-first.ensures.rest)
-    (base_low c.args.search.now c.requires.sound c.args.b c.requires.can c.mate.result c.or_none-mate.result c.child_at-base.result c.mate.ensures.mate c.or_none-mate.ensures c.child_at-base.ensures.child)
+    (base_low c.args.search.now c.requires.sound c.args.b c.requires.can c.mate.result c.or_none-mate.result c.child_at-base.result c.mate.ensures.mate c.or_none-mate.ensures
+    c.child_at-base.ensures.child)
 
 pub take_even_way-requires-clause-even : goal.take_even_way-requires-clause-even
 take_even_way-requires-clause-even c =
     ap (λ (f : Search). length f.circuit.items % 2) c.open_at.ensures.rest
-    ∙ round_pairs c.args.search.now c.requires.sound c.args.b c.requires.can c.mate.result c.or_none-mate.result c.child_at-base.result c.mate.ensures.mate c.or_none-mate.ensures c.child_at-base.ensures.child c.fill_round-first.result c.fill_round-first.new.search.circuit.items c.fill_round-first.ensures.round
+    ∙ round_pairs c.args.search.now c.requires.sound c.args.b c.requires.can c.mate.result c.or_none-mate.result c.child_at-base.result c.mate.ensures.mate c.or_none-mate.ensures
+    c.child_at-base.ensures.child c.fill_round-first.result c.fill_round-first.new.search.circuit.items c.fill_round-first.ensures.round
 
 pub take_even_way-requires-clause-nodes : goal.take_even_way-requires-clause-nodes
 take_even_way-requires-clause-nodes c =
     let round = c.fill_round-first.new.search.circuit.items in
     subst (λ (f : Search). AllByRecursion (λ (l : Link). l.node ≤ node_limit f.graph.vertices) f.circuit.items) (sym c.open_at.ensures.rest)
     (subst (λ (f : Search). AllByRecursion (λ (l : Link). l.node ≤ node_limit f.graph.vertices) round) (sym c.fill_round-first.ensures.rest)
-    (round_low c.args.search.now c.requires.sound c.args.b c.requires.can c.mate.result c.or_none-mate.result c.child_at-base.result c.mate.ensures.mate c.or_none-mate.ensures c.child_at-base.ensures.child c.fill_round-first.result round c.fill_round-first.ensures.round))
+    (round_low c.args.search.now c.requires.sound c.args.b c.requires.can c.mate.result c.or_none-mate.result c.child_at-base.result c.mate.ensures.mate c.or_none-mate.ensures
+    c.child_at-base.ensures.child c.fill_round-first.result round c.fill_round-first.ensures.round))
 
 pub take_even_way-requires-clause-base : goal.take_even_way-requires-clause-base
 take_even_way-requires-clause-base c =
     subst (λ (f : Search). c.child_at-base.result ≤ node_limit f.graph.vertices) (sym c.open_at.ensures.rest)
     (subst (λ (f : Search). c.child_at-base.result ≤ node_limit f.graph.vertices) (sym c.fill_round-first.ensures.rest)
-    (base_low c.args.search.now c.requires.sound c.args.b c.requires.can c.mate.result c.or_none-mate.result c.child_at-base.result c.mate.ensures.mate c.or_none-mate.ensures c.child_at-base.ensures.child))
+    (base_low c.args.search.now c.requires.sound c.args.b c.requires.can c.mate.result c.or_none-mate.result c.child_at-base.result c.mate.ensures.mate c.or_none-mate.ensures
+    c.child_at-base.ensures.child))
 
 made : (c : goal.After-take_even_way) → Expands (state_of c.args.search.now) (state_of c.take_even_way.new.search) c.args.b
 made c =
@@ -66,11 +75,15 @@ made c =
     let parent = c.or_none-parent.result in
     let entry = c.child_at-entry.result in
     let same : c.open_at.new.search.circuit.items ≡ round = ap (λ (f : Search). f.circuit.items) c.open_at.ensures.rest in
-    let opens : state_of c.open_at.new.search ≡ opened (state_of c.args.search.now) c.args.b base round mate = c.open_at.ensures.state ∙ ap (λ (f : Search). opened (state_of f) c.args.b base round mate) c.fill_round-first.ensures.rest in
-    written c.args.search.now c.requires.sound c.args.b c.requires.can c.mate.result mate base c.mate.ensures.mate c.or_none-mate.ensures c.child_at-base.ensures.child c.fill_round-first.result round c.fill_round-first.ensures.round
+    let opens : state_of c.open_at.new.search ≡ opened (state_of c.args.search.now) c.args.b base round mate = c.open_at.ensures.state
+    ∙ ap (λ (f : Search). opened (state_of f) c.args.b base round mate) c.fill_round-first.ensures.rest in
+    written c.args.search.now c.requires.sound c.args.b c.requires.can c.mate.result mate base c.mate.ensures.mate c.or_none-mate.ensures c.child_at-base.ensures.child
+    c.fill_round-first.result round c.fill_round-first.ensures.round
     c.parent.result parent entry c.parent.ensures.parent c.or_none-parent.ensures c.child_at-entry.ensures.child (state_of c.open_at.new.search) (state_of c.take_even_way.new.search) opens
-    (λ place is even. c.take_even_way.ensures.down place (is ∙ sym (ap (λ (ls : List Link). length (before (nodes_of ls) entry)) same)) even ∙ ap (λ (ls : List Link). hung_down (state_of c.open_at.new.search) base parent (drop place ls)) same)
-    (λ place is odd. c.take_even_way.ensures.up place (is ∙ sym (ap (λ (ls : List Link). length (before (nodes_of ls) entry)) same)) odd ∙ ap (λ (ls : List Link). hung_up (state_of c.open_at.new.search) base c.fill_round-first.result parent (take (place + 1) ls)) same)
+    (λ place is even. c.take_even_way.ensures.down place (is ∙ sym (ap (λ (ls : List Link). length (before (nodes_of ls) entry)) same)) even
+    ∙ ap (λ (ls : List Link). hung_down (state_of c.open_at.new.search) base parent (drop place ls)) same)
+    (λ place is odd. c.take_even_way.ensures.up place (is ∙ sym (ap (λ (ls : List Link). length (before (nodes_of ls) entry)) same)) odd
+    ∙ ap (λ (ls : List Link). hung_up (state_of c.open_at.new.search) base c.fill_round-first.result parent (take (place + 1) ls)) same)
 
 pub returns-clause-expanded : goal.returns-clause-expanded
 returns-clause-expanded c = (made c).is
@@ -86,7 +99,8 @@ returns-clause-trees c =
 pub returns-clause-exposed : goal.returns-clause-exposed
 returns-clause-exposed c =
     let h = c.requires.sound in
-    expand_exposed (state_of c.args.search.now) (state_of c.take_even_way.new.search) h.depth c.args.b (nested_of c.args.search.now h.shape) h.state c.requires.can (returns-clause-expanded c)
+    expand_exposed (state_of c.args.search.now) (state_of c.take_even_way.new.search) h.depth c.args.b (nested_of c.args.search.now h.shape) h.state c.requires.can
+    (returns-clause-expanded c)
 
 pub returns-clause-falls : goal.returns-clause-falls
 returns-clause-falls c =
@@ -97,7 +111,8 @@ pub returns-clause-circuit : goal.returns-clause-circuit
 returns-clause-circuit c = λ a on.
     let same : c.take_even_way.new.search.circuit.items ≡ c.fill_round-first.new.search.circuit.items =
     ap (λ (f : Search). f.circuit.items) c.take_even_way.ensures.rest ∙ ap (λ (f : Search). f.circuit.items) c.open_at.ensures.rest in
-    round_inside c.args.search.now c.requires.sound c.args.b c.requires.can c.mate.result c.or_none-mate.result c.child_at-base.result c.mate.ensures.mate c.or_none-mate.ensures c.child_at-base.ensures.child c.fill_round-first.result c.fill_round-first.new.search.circuit.items c.fill_round-first.ensures.round a
+    round_inside c.args.search.now c.requires.sound c.args.b c.requires.can c.mate.result c.or_none-mate.result c.child_at-base.result c.mate.ensures.mate c.or_none-mate.ensures
+    c.child_at-base.ensures.child c.fill_round-first.result c.fill_round-first.new.search.circuit.items c.fill_round-first.ensures.round a
     (ap (λ (ls : List Link). in_ring ls a) (sym same) ∙ on)
 
 pub returns-clause-all : goal.returns-clause-all
@@ -105,13 +120,15 @@ returns-clause-all c = λ a on.
     let same : c.take_even_way.new.search.circuit.items ≡ c.fill_round-first.new.search.circuit.items =
     ap (λ (f : Search). f.circuit.items) c.take_even_way.ensures.rest ∙ ap (λ (f : Search). f.circuit.items) c.open_at.ensures.rest in
     ⊎_elim (λ at. inl at) (λ r. inr (ap (λ (ls : List Link). in_ring ls a) same ∙ r))
-    (round_all c.args.search.now c.requires.sound c.args.b c.requires.can c.mate.result c.or_none-mate.result c.child_at-base.result c.mate.ensures.mate c.or_none-mate.ensures c.child_at-base.ensures.child c.fill_round-first.result c.fill_round-first.new.search.circuit.items c.fill_round-first.ensures.round a on)
+    (round_all c.args.search.now c.requires.sound c.args.b c.requires.can c.mate.result c.or_none-mate.result c.child_at-base.result c.mate.ensures.mate c.or_none-mate.ensures
+    c.child_at-base.ensures.child c.fill_round-first.result c.fill_round-first.new.search.circuit.items c.fill_round-first.ensures.round a on)
 
 pub open_at-requires-clause-shape : goal.open_at-requires-clause-shape
 open_at-requires-clause-shape c = shape_with c.args.search.now c.fill_round-first.new.search c.requires.sound.shape c.fill_round-first.ensures.rest c.fill_round-first.ensures.capacity
 
 pub returns-clause-base : goal.returns-clause-base
-returns-clause-base c = base_found c.args.search.now c.requires.sound c.args.b c.requires.can c.mate.result c.or_none-mate.result c.child_at-base.result c.mate.ensures.mate c.or_none-mate.ensures c.child_at-base.ensures.child
+returns-clause-base c = base_found c.args.search.now c.requires.sound c.args.b c.requires.can c.mate.result c.or_none-mate.result c.child_at-base.result c.mate.ensures.mate
+    c.or_none-mate.ensures c.child_at-base.ensures.child
 
 pub returns-clause-roots : goal.returns-clause-roots
 returns-clause-roots c =

@@ -10,17 +10,29 @@ use Rattle.tree_steps.proofs.listing.enlist_circuit.Goals as goal
 
 pub loop-place-init : goal.loop-place-init
 loop-place-init c = let e = c.enlist.ensures in
-    enlisted_base c.args.search.now c.enlist.new.search c.args.base c.args.seed (record { rest = e.rest; sound = e.sound; listed = e.listed; there = e.there; moves = e.moves; still = e.still; keeps = e.keeps; entered = e.entered; others = e.others; edges = e.edges })
+    enlisted_base c.args.search.now c.enlist.new.search c.args.base c.args.seed (record {
+      rest = e.rest;
+      sound = e.sound;
+      listed = e.listed;
+      there = e.there;
+      moves = e.moves;
+      still = e.still;
+      keeps = e.keeps;
+      entered = e.entered;
+      others = e.others;
+      edges = e.edges;
+    })
 
-pub enlist-requires-in-loop-place-clause-outer : goal.enlist-requires-in-loop-place-clause-outer
-enlist-requires-in-loop-place-clause-outer c =
+pub enlist-requires-in-loop-place-clause-outermost : goal.enlist-requires-in-loop-place-clause-outermost
+enlist-requires-in-loop-place-clause-outermost c =
     let f = c.args.search.now in
     let now = c.loop-place.search in
     let l : Link = c.index-link.result.now in
     let i = c.loop-place.invariant in
     let items : now.circuit.items ≡ f.circuit.items = ap (λ (x : Search). x.circuit.items) i.rest in
     let first : c.enlist.new.search.circuit.items ≡ f.circuit.items = ap (λ (x : Search). x.circuit.items) c.enlist.ensures.rest in
-    let on = in_ring_at f.circuit.items c.loop-place.place l (omega (arith, c.loop-place-test.true, c.len-place-end.ensures, ap length first)) (c.index-link.ensures ∙ ap (λ (ls : List Link). get_or ls c.loop-place.place l) items) in
+    let on = in_ring_at f.circuit.items c.loop-place.place l (omega (arith, c.loop-place-test.true, c.len-place-end.ensures, ap length first))
+    (c.index-link.ensures ∙ ap (λ (ls : List Link). get_or ls c.loop-place.place l) items) in
     let is : IsOutermost (state_of now) l.node = subst (λ (x : Search). IsOutermost (state_of x) l.node) (sym i.rest) (c.requires.circuit l.node on) in
     is
 
@@ -35,7 +47,18 @@ loop-place-preserved c =
     let first : c.enlist.new.search.circuit.items ≡ f.circuit.items = ap (λ (x : Search). x.circuit.items) c.enlist.ensures.rest in
     enlisted_more f now c.enlist-in-loop-place.new.search c.args.base c.args.seed c.loop-place.place l i (omega (arith, c.loop-place-test.true, c.len-place-end.ensures, ap length first))
     (sym (c.index-link.ensures ∙ ap (λ (ls : List Link). get_or ls c.loop-place.place l) items))
-    (record { rest = e.rest; sound = e.sound; listed = e.listed; there = e.there; moves = e.moves; still = e.still; keeps = e.keeps; entered = e.entered; others = e.others; edges = e.edges })
+    (record {
+      rest = e.rest;
+      sound = e.sound;
+      listed = e.listed;
+      there = e.there;
+      moves = e.moves;
+      still = e.still;
+      keeps = e.keeps;
+      entered = e.entered;
+      others = e.others;
+      edges = e.edges;
+    })
 
 pub returns-clause-there : goal.returns-clause-there
 returns-clause-there c = λ a among.

@@ -19,7 +19,8 @@ loop-left-preserved c =
     record {
       even = even_rest left rest a b split v.even;
       labels = ap (λ l. labels_down l rest) c.label_pair.ensures.labels ∙ sym (ap (labels_down (label_at c.loop-left.labels.items)) split) ∙ v.labels;
-      parents = ap (λ p. parents_down p b.edge c.args.base rest) c.set_edge.ensures.edges ∙ sym (ap (parents_down (edge_in c.loop-left.parents.items) c.loop-left.edge c.args.base) split) ∙ v.parents;
+      parents = ap (λ p. parents_down p b.edge c.args.base rest) c.set_edge.ensures.edges
+          ∙ sym (ap (parents_down (edge_in c.loop-left.parents.items) c.loop-left.edge c.args.base) split) ∙ v.parents;
       label_places = subst (λ n. AllByRecursion (λ (k : Link). k.node < n) rest) (sym c.label_pair.ensures.len) labelled.1.1;
       parent_places = subst (λ n. AllByRecursion (λ (k : Link). k.node < n) rest) (sym c.set_edge.ensures.len) hung.1.1;
       labels_len = c.label_pair.ensures.len ∙ v.labels_len;

@@ -19,7 +19,8 @@ loop-left-preserved c =
     record {
       even = even_rest left rest a b split v.even;
       labels = ap (λ l. labels_up l rest) c.label_pair.ensures.labels ∙ sym (ap (labels_up (label_at c.loop-left.labels.items)) split) ∙ v.labels;
-      parents = ap (λ p. parents_up p b.node b.edge c.args.parent rest) c.set_edge.ensures.edges ∙ sym (ap (parents_up (edge_in c.loop-left.parents.items) c.loop-left.node c.loop-left.edge c.args.parent) split) ∙ v.parents;
+      parents = ap (λ p. parents_up p b.node b.edge c.args.parent rest) c.set_edge.ensures.edges
+          ∙ sym (ap (parents_up (edge_in c.loop-left.parents.items) c.loop-left.node c.loop-left.edge c.args.parent) split) ∙ v.parents;
       label_places = subst (λ n. AllByRecursion (λ (k : Link). k.node < n) rest) (sym c.label_pair.ensures.len) labelled.1.1;
       parent_places = subst (λ n. AllByRecursion (λ (k : Link). k.node < n) rest) (sym c.set_edge.ensures.len) hung.1.1;
       place = subst (λ n. b.node < n) (sym c.set_edge.ensures.len) hung.1.0;
@@ -33,4 +34,5 @@ returns-clause-labels c = sym (labels_up_end (label_at c.loop-left.labels.items)
 pub returns-clause-parents : goal.returns-clause-parents
 returns-clause-parents c =
     let v = c.loop-left.invariant in
-    c.set_edge-2.ensures.edges ∙ sym (parents_up_end (edge_in c.loop-left.parents.items) c.loop-left.node c.loop-left.edge c.args.parent c.loop-left.left.now c.in_default.len_below v.even) ∙ v.parents
+    c.set_edge-2.ensures.edges ∙ sym (parents_up_end (edge_in c.loop-left.parents.items)
+    c.loop-left.node c.loop-left.edge c.args.parent c.loop-left.left.now c.in_default.len_below v.even) ∙ v.parents

@@ -20,8 +20,11 @@ scan_unless_outer-requires-clause-room c =
     let same : state_of now ≡ s = ap state_of i.rest in
     let items : now.circuit.items ≡ ring = ap (λ (x : Search). x.circuit.items) i.rest in
     let one : length (unless_outer (state_of now) l.node) ≡ length (unless_outer s l.node) = ap (λ (x : State). length (unless_outer x l.node)) same in
-    let at = newly_at s ring c.loop-place.place l (omega (arith, c.loop-place-test.true, c.len-place-end.ensures)) (sym (c.index-link.ensures ∙ ap (λ (ls : List Link). get_or ls c.loop-place.place l) items)) in
-    let all : length now.scanned.items + length (newly_outer s (drop c.loop-place.place ring)) ≡ length (newly_outer s ring) = sym (length-append now.scanned.items (newly_outer s (drop c.loop-place.place ring))) ∙ ap length i.scanned in
+    let at = newly_at s ring c.loop-place.place l (omega (arith, c.loop-place-test.true, c.len-place-end.ensures))
+    (sym (c.index-link.ensures ∙ ap (λ (ls : List Link). get_or ls c.loop-place.place l) items)) in
+    let all : length now.scanned.items + length (newly_outer s (drop c.loop-place.place ring)) ≡ length (newly_outer s ring) =
+    sym (length-append now.scanned.items (newly_outer s (drop c.loop-place.place ring))) ∙ ap length i.scanned in
     let few = newly_few s ring (nested_of f c.requires.sound.shape) c.requires.circuit in
-    let fact : vec_len now.scanned + length (unless_outer (state_of now) l.node) ≤ vec_capacity now.scanned = omega (arith, one, at, all, few, i.capacity, c.clear.ensures.capacity, c.requires.sound.shape.room.scanned) in
+    let fact : vec_len now.scanned + length (unless_outer (state_of now) l.node) ≤ vec_capacity now.scanned =
+    omega (arith, one, at, all, few, i.capacity, c.clear.ensures.capacity, c.requires.sound.shape.room.scanned) in
     fact

@@ -12,8 +12,8 @@ use Rattle.tree_steps.proofs.Shrunk.{shrink_keeps}
 use Rattle.tree_steps.proofs.Closed.{closed_is, nested_after, shrinks_from}
 use Rattle.tree_steps.proofs.shrinking.close.Goals as goal
 
-pub mate-mate-requires-clause-outer : goal.mate-mate-requires-clause-outer
-mate-mate-requires-clause-outer c =
+pub mate-mate-requires-clause-outermost : goal.mate-mate-requires-clause-outermost
+mate-mate-requires-clause-outermost c =
     let h = c.requires.can.shrinkable in
     circuit_outer c.args.search.now.graph.vertices c.args.search.now.arena.blossoms c.args.search.now.circuit.items c.args.base h.circuit h.base_in
 

@@ -8,13 +8,13 @@ use Rattle.tree_steps.proofs.Pushed.{leads_on, pushed_on, way_shorter, pushed_ro
 use Rattle.tree_steps.proofs.way_up.push_way.Goals as goal
 
 pub loop-base-init : goal.loop-base-init
-loop-base-init c = record { rest = refl; capacity = refl; pushed = record { outer = c.requires.outer; there = c.requires.there; links = refl } }
+loop-base-init c = record { rest = refl; capacity = refl; pushed = record { outermost = c.requires.outermost; there = c.requires.there; links = refl } }
 
 pub edge_above-edge-requires-clause-sound : goal.edge_above-edge-requires-clause-sound
 edge_above-edge-requires-clause-sound c = sound_with c.args.search.now c.loop-base.search c.requires.sound c.loop-base.invariant.rest c.loop-base.invariant.capacity
 
-pub edge_above-edge-requires-clause-outer : goal.edge_above-edge-requires-clause-outer
-edge_above-edge-requires-clause-outer c = subst (λ (f : Search). IsOutermost (state_of f) c.loop-base.node) (sym c.loop-base.invariant.rest) c.loop-base.invariant.pushed.outer
+pub edge_above-edge-requires-clause-outermost : goal.edge_above-edge-requires-clause-outermost
+edge_above-edge-requires-clause-outermost c = subst (λ (f : Search). IsOutermost (state_of f) c.loop-base.node) (sym c.loop-base.invariant.rest) c.loop-base.invariant.pushed.outermost
 
 pub push_reserved-requires : goal.push_reserved-requires
 push_reserved-requires c =
@@ -22,7 +22,8 @@ push_reserved-requires c =
     let h = c.requires.sound in
     let i = c.loop-base.invariant in
     let ne : c.loop-base.node ≢ c.args.base = λ e. c.loop-base-test.true (c.number.ensures ∙ e ∙ sym c.number-in-loop-base.ensures) in
-    let room = pushed_room (state_of s) h.depth (nested_of s h.shape) h.state c.loop-base.node c.args.base c.loop-base.search.circuit.items s.circuit.items c.args.from i.pushed ne (vec_capacity s.circuit) (omega (arith, c.requires.room)) in
+    let room = pushed_room (state_of s) h.depth (nested_of s h.shape) h.state c.loop-base.node c.args.base c.loop-base.search.circuit.items s.circuit.items c.args.from i.pushed ne
+    (vec_capacity s.circuit) (omega (arith, c.requires.room)) in
     omega (arith, room, i.capacity)
 
 pub other_node-node-requires-clause-edge : goal.other_node-node-requires-clause-edge
@@ -31,7 +32,8 @@ other_node-node-requires-clause-edge c =
     let h = c.requires.sound in
     let i = c.loop-base.invariant in
     let ne : c.loop-base.node ≢ c.args.base = λ e. c.loop-base-test.true (c.number.ensures ∙ e ∙ sym c.number-in-loop-base.ensures) in
-    (leads_on s c.loop-base.search i.rest h c.loop-base.node c.args.base c.loop-base.search.circuit.items s.circuit.items c.args.from i.pushed ne c.edge_above-edge.result c.edge_above-edge.ensures).number
+    (leads_on s c.loop-base.search i.rest h c.loop-base.node c.args.base c.loop-base.search.circuit.items s.circuit.items c.args.from i.pushed ne c.edge_above-edge.result
+    c.edge_above-edge.ensures).number
 
 pub loop-base-smaller : goal.loop-base-smaller
 loop-base-smaller c =
@@ -39,8 +41,10 @@ loop-base-smaller c =
     let h = c.requires.sound in
     let i = c.loop-base.invariant in
     let ne : c.loop-base.node ≢ c.args.base = λ e. c.loop-base-test.true (c.number.ensures ∙ e ∙ sym c.number-in-loop-base.ensures) in
-    let on = leads_on s c.loop-base.search i.rest h c.loop-base.node c.args.base c.loop-base.search.circuit.items s.circuit.items c.args.from i.pushed ne c.edge_above-edge.result c.edge_above-edge.ensures in
-    way_shorter (state_of s) h.depth (nested_of s h.shape) h.state c.loop-base.node c.args.base c.loop-base.search.circuit.items s.circuit.items c.args.from i.pushed ne c.other_node-node.result
+    let on = leads_on s c.loop-base.search i.rest h c.loop-base.node c.args.base c.loop-base.search.circuit.items s.circuit.items c.args.from i.pushed ne c.edge_above-edge.result
+    c.edge_above-edge.ensures in
+    way_shorter (state_of s) h.depth (nested_of s h.shape)
+    h.state c.loop-base.node c.args.base c.loop-base.search.circuit.items s.circuit.items c.args.from i.pushed ne c.other_node-node.result
     (on.up c.other_node-node.result c.other_node-node.ensures.node)
 
 pub loop-base-preserved : goal.loop-base-preserved
@@ -49,11 +53,14 @@ loop-base-preserved c =
     let h = c.requires.sound in
     let i = c.loop-base.invariant in
     let ne : c.loop-base.node ≢ c.args.base = λ e. c.loop-base-test.true (c.number.ensures ∙ e ∙ sym c.number-in-loop-base.ensures) in
-    let on = leads_on s c.loop-base.search i.rest h c.loop-base.node c.args.base c.loop-base.search.circuit.items s.circuit.items c.args.from i.pushed ne c.edge_above-edge.result c.edge_above-edge.ensures in
+    let on = leads_on s c.loop-base.search i.rest h c.loop-base.node c.args.base c.loop-base.search.circuit.items s.circuit.items c.args.from i.pushed ne c.edge_above-edge.result
+    c.edge_above-edge.ensures in
     record {
       rest = ap {A = Search} (λ f. record f { circuit = c.push_reserved.new.self }) i.rest;
       capacity = c.push_reserved.ensures.capacity ∙ i.capacity;
-      pushed = pushed_on (state_of s) h.depth (nested_of s h.shape) h.state c.loop-base.node c.args.base c.loop-base.search.circuit.items s.circuit.items c.args.from i.pushed ne c.edge_above-edge.result c.other_node-node.result c.push_reserved.new.self.items on.has (on.up c.other_node-node.result c.other_node-node.ensures.node) c.push_reserved.ensures.items;
+      pushed = pushed_on (state_of s) h.depth (nested_of s h.shape)
+          h.state c.loop-base.node c.args.base c.loop-base.search.circuit.items s.circuit.items c.args.from i.pushed ne c.edge_above-edge.result c.other_node-node.result
+          c.push_reserved.new.self.items on.has (on.up c.other_node-node.result c.other_node-node.ensures.node) c.push_reserved.ensures.items;
     }
 
 pub returns-clause-circuit : goal.returns-clause-circuit

@@ -11,8 +11,8 @@ invariant_of-self c =
     let s = state_of c.self.inside.search.now in
     record {
       sound = h;
-      outer = λ ne. subst (IsOutermost s) (sym c.up-self-inside.ensures)
-          (⊎_elim (λ none. absurd (ne (c.up-self-inside.ensures ∙ none))) (λ p. p.0) (up_falls s h.depth c.self.inside.at h.state (c.self.invariant.outer c.if-self-eq0-2.false)));
+      outermost = λ ne. subst (IsOutermost s) (sym c.up-self-inside.ensures)
+          (⊎_elim (λ none. absurd (ne (c.up-self-inside.ensures ∙ none))) (λ p. p.0) (up_falls s h.depth c.self.inside.at h.state (c.self.invariant.outermost c.if-self-eq0-2.false)));
     }
 
 pub returns-clause-goes : goal.returns-clause-goes
@@ -21,7 +21,8 @@ returns-clause-goes c =
     let a : ℕ = c.self.inside.at in
     let left : ℕ = c.self.inside.left in
     let step : length (path_within left s a) ≡ length (a ∷ path_within (left - 1) s (up_of s a)) = ap length (path_step left s a c.if-self-eq0.false c.if-self-eq0-2.false) in
-    let next : length (path_within (left - 1) s (up_of s a)) ≡ length (path_within (left - 1) s c.up-self-inside.result) = ap (λ x. length (path_within (left - 1) s x)) (sym c.up-self-inside.ensures) in
+    let next : length (path_within (left - 1) s (up_of s a)) ≡ length (path_within (left - 1) s c.up-self-inside.result) = ap (λ x. length (path_within (left - 1) s x))
+    (sym c.up-self-inside.ensures) in
     let old : length (path_within left s a) ≡ length c.args.self.now = ap length c.self.view_is in
     record { on = λ fin. (tt, tt, omega arith); keeps = tt; rests = λ fin. tt }
 

@@ -6,4 +6,4 @@ use Rattle.alt_forest.proofs.search.Search.dismiss.Goals as goal
 pub returns-clause-listed : goal.returns-clause-listed
 returns-clause-listed c =
     let n : ℕ = c.args.self.now.graph.vertices in
-    subst (λ (xs : List ℕ). AreListed n xs c.wipe_seeds.new.seeds.items) (sym c.clear.ensures.items) (none_listed n c.wipe_seeds.new.seeds.items c.wipe_seeds.ensures.none)
+    subst (λ (xs : List ℕ). AreListed n xs c.clear.new.self.seeds) (sym c.clear.ensures.nodes) (none_listed n c.clear.new.self.seeds c.clear.ensures.seeds)

@@ -30,7 +30,7 @@ moment_after-moment-requires-clause-left_high c =
 
 pub set-requires : goal.set-requires
 set-requires c =
-    let range = outer_range c.args.self.now c.args.node c.requires.sound.shape c.requires.outer in
+    let range = outer_range c.args.self.now c.args.node c.requires.sound.shape c.requires.outermost in
     node_item c.args.self.now c.args.node c.requires.sound.shape range.0 range.1
 
 pub returns-then-eq-clause-sound : goal.returns-then-eq-clause-sound
@@ -41,11 +41,12 @@ returns-then-eq-clause-sound c =
 pub returns-then-eq-clause-entered : goal.returns-then-eq-clause-entered
 returns-then-eq-clause-entered c = λ name is lab.
     let s = c.args.self.now in
-    let range = outer_range s c.args.node c.requires.sound.shape c.requires.outer in
+    let range = outer_range s c.args.node c.requires.sound.shape c.requires.outermost in
     let back : to_z w64 (of_z w64 c.dual.result) ≡ c.dual.result = search rules in
     let now : to_z w64 (of_z w64 s.clock) ≡ s.clock = search rules in
     let moment : to_z w64 (of_z w64 c.moment_after-moment.result) ≡ c.moment_after-moment.result = search rules in
-    let value : to_z w64 (of_z w64 c.moment_after-moment.result) ≡ s.clock +ℤ dual_at s.arena.duals c.args.node = moment ∙ c.moment_after-moment.ensures ∙ ap₂ ◌+ℤ◌ now (back ∙ c.dual.ensures.dual) in
+    let value : to_z w64 (of_z w64 c.moment_after-moment.result) ≡ s.clock +ℤ dual_at s.arena.duals c.args.node = moment ∙ c.moment_after-moment.ensures
+    ∙ ap₂ ◌+ℤ◌ now (back ∙ c.dual.ensures.dual) in
     ap (λ (q : Moments). moment_of q (Blossom c.args.node)) c.set.ensures
     ∙ blossom_set s.queue c.args.node _ (node_item s c.args.node c.requires.sound.shape range.0 range.1)
     ∙ ap (λ (x : ℤ). let o : Option ℤ = Some x in o) value
@@ -53,6 +54,6 @@ returns-then-eq-clause-entered c = λ name is lab.
 pub returns-then-eq-clause-others : goal.returns-then-eq-clause-others
 returns-then-eq-clause-others c = λ b ne.
     let s = c.args.self.now in
-    let range = outer_range s c.args.node c.requires.sound.shape c.requires.outer in
+    let range = outer_range s c.args.node c.requires.sound.shape c.requires.outermost in
     ap (λ (q : Moments). moment_of q (Blossom b)) c.set.ensures
     ∙ blossom_other s.queue c.args.node b _ (node_item s c.args.node c.requires.sound.shape range.0 range.1) ne

@@ -1,12 +1,13 @@
-use Rattle.std.proofs.Common.{◌≡◌, ◌∙◌, ℕ, ◌+◌, ◌<◌, false, List, ◌∷◌, length, get_or, drop, add-one, sym, ap, ap₂, subst, arith}
+use Rattle.std.proofs.Common.{◌≡◌, ◌∙◌, ℕ, ◌+◌, ◌<◌, false, List, [], ◌∷◌, length, get_or, drop, add-one, sym, ap, ap₂, subst, arith}
 use Rattle.std.proofs.lemmas.List.{get_or_read}
 use Rattle.std.proofs.Math.Seq.{drop-cons}
 use Rattle.graph_theory.specs.Graph.{Multigraph, IsEdgeNumber, edge_of, edges_around, touches}
 use Rattle.edge_queue.specs.declared.item.Item.TheVariants.{Edge}
 use Rattle.edge_queue.specs.Moments.{Moments, moment_of}
 use Rattle.alt_forest.specs.declared.search.Search.{Search}
-use Rattle.alt_forest.specs.Entries.{IsQueuedBut, ends_around}
-use Rattle.alt_forest.proofs.EntrySteps.{missed_at, vertex_entered}
+use Rattle.alt_forest.specs.Entries.{IsQueuedBut, ends_around, ends_looked}
+use Rattle.alt_forest.specs.Searches.{state_of}
+use Rattle.alt_forest.proofs.EntrySteps.{looked_most, looked_next, missed_at, vertex_entered}
 use Rattle.alt_forest.proofs.search.Search.enter_scanned.Goals as goal
 
 pub loop-place-preserved : goal.loop-place-preserved
@@ -31,7 +32,15 @@ loop-place-preserved g c =
       sound = call.sound;
       queued = vertex_entered l c.enter_around.new.search v (drop (place + 1) items) call.rest (subst (IsQueuedBut l) step i.queued)
           call.entered call.others call.blossoms;
-      looks = omega (arith, call.looks, i.looks, ap (λ (k : Multigraph). length (edges_around k v)) graph, ap (ends_around c.args.graph.now) step);
+      looks = omega (arith, call.looks, looked_most (state_of l) v, i.looks, ap (λ (k : Multigraph). length (edges_around k v)) graph, ap (ends_around c.args.graph.now) step);
+      around = omega (
+        arith,
+        call.looks,
+        i.around,
+        ap (λ (x : Search). ends_looked (state_of x) (v ∷ [])) i.rest,
+        ap (ends_looked (state_of s)) step,
+        looked_next (state_of s) v (drop (place + 1) items),
+      );
       others = λ e number none. others e number (ap (touches (edge_of c.args.graph.now e)) is ∙ missed_at items place (edge_of c.args.graph.now e) low none) ∙ i.others e number none;
       blossoms = call.blossoms ∙ i.blossoms;
       count = omega (arith, call.count, i.count);

@@ -36,11 +36,10 @@ returns-clause-shape c =
       mates = c.in_ok-labels.ensures.mate_places ∙ ap (λ (n : ℕ). n + 1) limit;
       circuit = omega (arith, c.in_ok-circuit.ensures.circuit, vertices);
       room = record {
-        index = c.in_ok-spokes.ensures;
+        index = c.in_ok-incidence.ensures;
         edges = ap (λ (q : Moments). length q.edges) c.in_ok-queue.ensures ∙ length-replicate c.edges.result none ∙ edges;
         nodes = ap (λ (q : Moments). length q.blossoms) c.in_ok-queue.ensures ∙ length-replicate c.node_limit-limit.result none ∙ limit;
-        standing = omega (arith, c.in_ok-circuit.ensures.standing, limit);
-        seeds = c.in_ok-labels.ensures.seed_places ∙ ap (λ (n : ℕ). n + 1) limit;
+        seeds = c.in_ok-standing.ensures.places ∙ ap (λ (n : ℕ). n + 1) limit;
         scanned = omega (arith, c.in_ok-circuit.ensures.scanned, vertices);
       };
     }
@@ -67,4 +66,5 @@ pub returns-clause-standing : goal.returns-clause-standing
 returns-clause-standing c =
     let n : ℕ = c.in_ok-copy.copy.vertices in
     none_standing _ c.in_ok-labels.ensures.labels (λ a. ap (λ (f : Family). label_at f.motions a) c.in_ok-arena.ensures.family ∙ none_move _ a)
-    (subst (λ (xs : List ℕ). AreListed n xs c.in_ok-labels.field-0.seeds.items) (sym c.in_ok-circuit.ensures.none) (none_listed n c.in_ok-labels.field-0.seeds.items c.in_ok-labels.ensures.seeds))
+    (subst (λ (xs : List ℕ). AreListed n xs c.in_ok-standing.standing.seeds) (sym c.in_ok-standing.ensures.nodes)
+    (none_listed n c.in_ok-standing.standing.seeds c.in_ok-standing.ensures.seeds))

@@ -65,4 +65,5 @@ returns-clause-standing c =
     none_standing c.dismiss.new.self
     (λ a. ap (λ (s : Search). label_at s.labels.items a) c.dismiss.ensures.rest ∙ c.wipe_labels.ensures.out a)
     c.dismiss.ensures.motions
-    (subst (λ (n : ℕ). AreListed n c.dismiss.new.self.standing.items c.dismiss.new.self.seeds.items) (sym (ap (λ (s : Search). s.graph.vertices) c.dismiss.ensures.rest)) c.dismiss.ensures.listed)
+    (subst (λ (n : ℕ). AreListed n c.dismiss.new.self.standing.nodes c.dismiss.new.self.standing.seeds)
+    (sym (ap (λ (s : Search). s.graph.vertices) c.dismiss.ensures.rest)) c.dismiss.ensures.listed)

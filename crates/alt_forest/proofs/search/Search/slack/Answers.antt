@@ -18,4 +18,5 @@ returns-clause-certificate g c =
     let found : Edge = record { u = c.look-u.result.0; v = c.look-u.result.1; w = to_z w64 (of_z w64 c.look-u.result.2) } in
     let same : found ≡ e = same_edge found e c.look-u.ensures.from c.look-u.ensures.to (kept ∙ c.look-u.ensures.weight) in
     let felt : Edge → ℤ = λ x. cond (is_given s.weights) (pos 2 *ℤ x.w) (pos 0) -ℤ duals_across (dual_at s.arena.duals) s.arena.blossoms x in
-    back ∙ c.slack_by.ensures.slack ∙ ap felt same ∙ certified c.args.graph.now.vertices s.arena.duals s.arena.blossoms s.weights e (edge_of_within c.args.graph.now c.args.e c.look-u.ensures.graph.ends c.requires.edge)
+    back ∙ c.slack_by.ensures.slack ∙ ap felt same ∙ certified c.args.graph.now.vertices s.arena.duals s.arena.blossoms s.weights e
+    (edge_of_within c.args.graph.now c.args.e c.look-u.ensures.graph.ends c.requires.edge)

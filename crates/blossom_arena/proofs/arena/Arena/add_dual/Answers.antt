@@ -1,27 +1,23 @@
-use Rattle.std.proofs.Common.{◌≡◌, ◌≢◌, ◌∙◌, ℕ, ◌<◌, List, true, sym, ap, subst, length, arith, rules, to_z, of_z}
-use Rattle.std.specs.Prelude.{ℤ, ◌+ℤ◌, slice_index, slice_set, vec_len, All}
+use Rattle.std.proofs.Common.{◌≡◌, ◌≢◌, ◌∙◌, ℕ, ◌<◌, List, true, sym, ap, ap₂, subst, length, arith, rules, to_z, of_z}
+use Rattle.std.specs.Prelude.{◌+ℤ◌, slice_index, slice_set}
 use Rattle.std.specs.List.{AllByRecursion}
 use mir.Syntax.{w64}
 use Rattle.std.proofs.lemmas.Bool.{eq-eqb}
-use Rattle.std.proofs.lemmas.Int.{ints}
 use Rattle.std.proofs.lemmas.List.{get_or_default}
-use Rattle.graph_theory.specs.Duals.{IsNumber}
 use Rattle.blossom_arena.specs.declared.runs.Run.{Run}
 use Rattle.blossom_arena.specs.declared.arena.Arena.TheInside.{Inside}
 use Rattle.blossom_arena.specs.Family.{is_node, is_child, is_outermost, members_of, dual_at}
-use Rattle.blossom_arena.specs.Fields.{IsSound, blossoms_of, parent_of, vertices_of, added, AreSums}
-use Rattle.blossom_arena.proofs.Nested.{node_range}
+use Rattle.blossom_arena.specs.Fields.{IsSound, blossoms_of, parent_of, vertices_of}
+use Rattle.blossom_arena.specs.Placement.{all_added, placement_of}
+use Rattle.blossom_arena.proofs.Nested.{node_range, vertex_range}
 use Rattle.blossom_arena.proofs.Parents.{parent_child}
 use Rattle.blossom_arena.proofs.Asked.{outer_test}
 use Rattle.blossom_arena.proofs.Sound.{members_within, node_run}
-use Rattle.blossom_arena.proofs.Held.{dual_number}
-use Rattle.blossom_arena.proofs.Summed.{IsStep, members_fit, members_in_sums}
+use Rattle.blossom_arena.proofs.Lists.{each_from}
+use Rattle.blossom_arena.proofs.Sets.{member_vertex}
 use Rattle.blossom_arena.proofs.Duals.{node_is, duals_after, raised_outer, raised_child}
 use Rattle.blossom_arena.proofs.Marks.{parent_at}
 use Rattle.blossom_arena.proofs.arena.Arena.add_dual.Goals as goal
-
-step : (ys : List ℤ) (x : ℕ) (d : ℤ) (v : ℕ) → All IsNumber ys → IsNumber (dual_at ys x +ℤ d) → IsStep d
-step ys x d v all is = let was = dual_number ys x all in record { low = omega (arith, ints, is.0, is.1, was.0, was.1); high = omega (arith, ints, is.0, is.1, was.0, was.1) }
 
 outer_from : (a : Inside) (x p : ℕ) → IsSound a → is_node a.vertex_count (blossoms_of a) x ≡ true → p ≡ slice_index a.parents.items x → p ≡ 0 → is_outermost a.vertex_count (blossoms_of a) x ≡ true
 outer_from a x p s is read zero =
@@ -67,25 +63,14 @@ of-requires c =
     (subst (λ (r : Run). AllByRecursion (λ v. v < length c.self.inside.followers.items) (vertices_of c.self.inside.followers.items r)) (sym c.find_run.ensures)
     (members_within c.self.inside c.self.invariant c.number-number.result is))
 
-pub add_each-requires-clause-places : goal.add_each-requires-clause-places
-add_each-requires-clause-places c =
+pub add_each-requires : goal.add_each-requires
+add_each-requires c =
     let is = node_is c.self.inside _ c.args.node c.number-number.result c.self.view_is c.requires.node c.number-number.ensures in
     let members : c.of.result ≡ members_of (blossoms_of c.self.inside) c.number-number.result =
     c.of.ensures ∙ ap (λ (fs : List ℕ). vertices_of fs c.find_run.result) c.deref.ensures.value ∙ ap (vertices_of c.self.inside.followers.items) c.find_run.ensures ∙ (node_run c.self.inside c.self.invariant c.number-number.result is).vertices in
-    let len : vec_len c.self.inside.inner ≡ length c.self.inside.inner.items = omega arith in
-    subst (λ m. AllByRecursion (λ v. v < m) c.of.result) (sym len)
-    (subst (λ (vs : List ℕ). AllByRecursion (λ v. v < length c.self.inside.inner.items) vs) (sym members) (members_in_sums c.self.inside c.self.invariant c.number-number.result is))
-
-pub add_each-requires-clause-in_range : goal.add_each-requires-clause-in_range
-add_each-requires-clause-in_range c =
-    let is = node_is c.self.inside _ c.args.node c.number-number.result c.self.view_is c.requires.node c.number-number.ensures in
-    let members : c.of.result ≡ members_of (blossoms_of c.self.inside) c.number-number.result =
-    c.of.ensures ∙ ap (λ (fs : List ℕ). vertices_of fs c.find_run.result) c.deref.ensures.value ∙ ap (vertices_of c.self.inside.followers.items) c.find_run.ensures ∙ (node_run c.self.inside c.self.invariant c.number-number.result is).vertices in
-    let in_range = subst (λ f. IsNumber (dual_at f.duals c.args.node +ℤ c.args.d)) (sym c.self.view_is) c.requires.in_range in
-    let back : to_z w64 (of_z w64 c.args.d) ≡ c.args.d = search rules in
-    subst (λ (z : ℤ). AreSums c.self.inside.inner.items (λ v. z) c.of.result) (sym back)
-    (subst (λ (vs : List ℕ). AreSums c.self.inside.inner.items (λ v. c.args.d) vs) (sym members)
-    (members_fit c.self.inside c.self.invariant c.number-number.result (λ v. c.args.d) is (λ v. step c.self.inside.duals.values c.args.node c.args.d v c.self.invariant.family.duals.in_range in_range)))
+    subst (AllByRecursion (λ v. v < length c.self.inside.partition.sets)) (sym members)
+    (each_from (λ v. v < length c.self.inside.partition.sets) (members_of (blossoms_of c.self.inside) c.number-number.result)
+    (λ v m. omega (arith, c.self.invariant.places.partition, (vertex_range c.self.inside.vertex_count v (member_vertex c.self.inside.vertex_count (blossoms_of c.self.inside) c.number-number.result v c.self.invariant.family.nested is m)).1)))
 
 pub invariant_of-self-2 : goal.invariant_of-self-2
 invariant_of-self-2 c =
@@ -98,7 +83,7 @@ invariant_of-self-2 c =
     let back : to_z w64 (of_z w64 c.args.d) ≡ c.args.d = search rules in
     let members : c.of.result ≡ members_of (blossoms_of c.self.inside) c.number-number.result =
     c.of.ensures ∙ ap (λ (fs : List ℕ). vertices_of fs c.find_run.result) c.deref.ensures.value ∙ ap (vertices_of c.self.inside.followers.items) c.find_run.ensures ∙ (node_run c.self.inside c.self.invariant c.number-number.result is).vertices in
-    raised_child c.self.inside c.raise.new.self c.number-number.result c.args.d c.self.invariant duals c.raise.ensures.motions is written c.add_each.new.sums (child_from c.self.inside c.number-number.result c.index.result.now c.self.invariant is read c.if-index-eq0.false) (c.add_each.ensures.items ∙ ap (λ (z : ℤ). added c.self.inside.inner.items (λ v. z) c.of.result) back ∙ ap (added c.self.inside.inner.items (λ v. c.args.d)) members)
+    raised_child c.self.inside c.raise.new.self c.number-number.result c.args.d c.self.invariant duals c.raise.ensures.motions is written c.add_each.new.self (child_from c.self.inside c.number-number.result c.index.result.now c.self.invariant is read c.if-index-eq0.false) (c.add_each.ensures.placement ∙ ap₂ (all_added (placement_of c.self.inside.partition)) members back)
 
 pub returns-clause-good : goal.returns-clause-good
 returns-clause-good c =
@@ -111,4 +96,4 @@ returns-clause-good c =
     let back : to_z w64 (of_z w64 c.args.d) ≡ c.args.d = search rules in
     let members : c.of.result ≡ members_of (blossoms_of c.self.inside) c.number-number.result =
     c.of.ensures ∙ ap (λ (fs : List ℕ). vertices_of fs c.find_run.result) c.deref.ensures.value ∙ ap (vertices_of c.self.inside.followers.items) c.find_run.ensures ∙ (node_run c.self.inside c.self.invariant c.number-number.result is).vertices in
-    (raised_child c.self.inside c.raise.new.self c.number-number.result c.args.d c.self.invariant duals c.raise.ensures.motions is written c.add_each.new.sums (child_from c.self.inside c.number-number.result c.index.result.now c.self.invariant is read c.if-index-eq0.false) (c.add_each.ensures.items ∙ ap (λ (z : ℤ). added c.self.inside.inner.items (λ v. z) c.of.result) back ∙ ap (added c.self.inside.inner.items (λ v. c.args.d)) members)).family
+    (raised_child c.self.inside c.raise.new.self c.number-number.result c.args.d c.self.invariant duals c.raise.ensures.motions is written c.add_each.new.self (child_from c.self.inside c.number-number.result c.index.result.now c.self.invariant is read c.if-index-eq0.false) (c.add_each.ensures.placement ∙ ap₂ (all_added (placement_of c.self.inside.partition)) members back)).family

@@ -1,35 +1,34 @@
-use Rattle.std.proofs.Common.{◌≡◌, ◌∙◌, ℕ, pos, ◌+◌, ap, arith, replicate}
+use Rattle.std.proofs.Common.{◌≡◌, ◌∙◌, ℕ, ◌+◌, ap, arith, replicate, subst}
 use Rattle.std.specs.Prelude.{vec_len}
 use Rattle.blossom_arena.specs.declared.arena.Arena.TheInside.{Inside}
 use Rattle.graph_theory.specs.Nested.{most_blossoms}
 use Rattle.blossom_arena.specs.Family.{Family, empty_family}
 use Rattle.blossom_arena.specs.Moving.{empty_table}
+use Rattle.blossom_arena.specs.Placement.{AreAlone, placement_of}
 use Rattle.blossom_arena.proofs.Fresh.{IsFresh, fresh_sound, fresh_family}
 use Rattle.blossom_arena.proofs.arena.Arena.clear.Goals as goal
 
-abbrev after : goal.After-renumber → Inside
+abbrev after : goal.After-wipe-3 → Inside
 after c = record {
   vertex_count = c.self.inside.vertex_count;
   duals = c.wipe.new.self;
-  inner = c.wipe_sums.new.sums;
+  partition = c.reset.new.self;
   parents = c.bare.new.table;
   nexts = c.self.inside.nexts;
   edges = c.self.inside.edges;
-  outer = c.renumber.new.table;
   followers = c.self.inside.followers;
   older = c.wipe-2.new.table;
   newer = c.wipe-3.new.table;
   kept = c.clear.new.self;
 }
 
-is_fresh : (c : goal.After-renumber) → IsFresh (after c)
+is_fresh : (c : goal.After-wipe-3) → IsFresh (after c)
 is_fresh c =
     let a : Inside = c.self.inside in
     let places : ℕ = a.vertex_count + most_blossoms a.vertex_count + 1 in
     let parents_len : vec_len a.parents ≡ places = omega (arith, c.self.invariant.places.parents) in
     let older_len : vec_len a.older ≡ places = omega (arith, c.self.invariant.places.older) in
     let newer_len : vec_len a.newer ≡ places = omega (arith, c.self.invariant.places.newer) in
-    let inner_len : vec_len a.inner ≡ a.vertex_count + 1 = omega (arith, c.self.invariant.places.inner) in
     record {
       few = c.self.invariant.family.few;
       slots = c.clear.ensures.empty;
@@ -41,9 +40,7 @@ is_fresh c =
       edges = c.self.invariant.places.edges;
       older = c.wipe-2.ensures ∙ ap (λ (k : ℕ). replicate k 0) older_len;
       newer = c.wipe-3.ensures ∙ ap (λ (k : ℕ). replicate k 0) newer_len;
-      outer_len = omega (arith, c.renumber.ensures.len, c.self.invariant.places.outer);
-      outer = λ v low. c.renumber.ensures.each v (omega (arith, low, c.self.invariant.places.outer));
-      inner = c.wipe_sums.ensures ∙ ap (λ (k : ℕ). replicate k (pos 0)) inner_len;
+      partition = subst (AreAlone (placement_of c.reset.new.self)) c.self.invariant.places.partition c.reset.ensures;
       followers = c.self.invariant.places.followers;
     }
 

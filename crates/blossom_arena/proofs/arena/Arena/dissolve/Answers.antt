@@ -1,5 +1,5 @@
-use Rattle.std.proofs.Common.{◌≡◌, ◌∙◌, ℕ, ◌<◌, ◌+◌, List, true, false, refl, sym, ap, ap₂, subst, length, arith}
-use Rattle.std.specs.Prelude.{ℤ, neg_ℤ, slice_set, vec_len}
+use Rattle.std.proofs.Common.{◌≡◌, ◌∙◌, ℕ, ◌<◌, ◌+◌, List, true, false, sym, ap, ap₂, subst, length, arith}
+use Rattle.std.specs.Prelude.{ℤ, pos, ◌-ℤ◌, slice_set, vec_len}
 use Rattle.std.specs.List.{AllByRecursion}
 use Rattle.graph_theory.specs.Parts.{holds}
 use Rattle.slab.specs.Slab.{Slab}
@@ -8,23 +8,23 @@ use Rattle.blossom_arena.specs.declared.runs.Kept.{Kept}
 use Rattle.blossom_arena.specs.declared.arena.Arena.TheInside.{Inside}
 use Rattle.blossom_arena.specs.Tables.{filled}
 use Rattle.graph_theory.specs.Nested.{most_blossoms}
-use Rattle.blossom_arena.specs.Family.{Blossom, Family, names_of, nodes_of, ring_of, members_of, is_child, is_outermost, dissolved, dual_at}
+use Rattle.blossom_arena.specs.Family.{Blossom, Family, names_of, nodes_of, ring_of, is_child, is_outermost, dissolved, dual_at}
 use Rattle.blossom_arena.specs.declared.label.Label.{Label}
 use Rattle.blossom_arena.specs.Moving.{DualTable}
-use Rattle.blossom_arena.specs.Fields.{blossoms_of, family_of, order_of, vertices_of, run_of, lowered, added, taken, AreTaken, outer_dual}
+use Rattle.blossom_arena.specs.Fields.{blossoms_of, core_at, family_of, kept_or_none, order_of, run_of, vertices_of}
+use Rattle.blossom_arena.specs.Placement.{Placement, given, heir_of, placement_of, released}
 use Rattle.blossom_arena.proofs.Nested.{outermost_parts}
 use Rattle.blossom_arena.proofs.Sound.{order_names, order_range}
-use Rattle.blossom_arena.proofs.Shrunk.{each_some}
-use Rattle.blossom_arena.proofs.Dissolved.{Dissolves, sound_after, blossoms_after}
-use Rattle.blossom_arena.proofs.Undone.{older_place, newer_place, next_place, before_place, walk_kept, ring_kept, children_within, runs_within, all_taken, taken_low}
+use Rattle.blossom_arena.proofs.Stays.{each_some}
+use Rattle.blossom_arena.proofs.Dissolved.{Dissolves, blossoms_after, sound_after, without_ring}
+use Rattle.blossom_arena.proofs.Undone.{older_place, newer_place, next_place, before_place, walk_kept, ring_kept, children_within, core_low, runs_within}
 use Rattle.blossom_arena.proofs.arena.Arena.dissolve.Goals as goal
 
--- the table as the children's runs leave it
-lowered_is : (a : Inside) (kept : Slab Kept) (outer fs : List ℕ) (ls : List Link) (node : ℕ)
-    → outer ≡ lowered a.outer.items (λ x. vertices_of fs (run_of a.vertex_count kept x)) (nodes_of ls) → fs ≡ a.followers.items → ls ≡ ring_of (blossoms_of a) node
-    → outer ≡ lowered a.outer.items (λ x. vertices_of a.followers.items (run_of a.vertex_count kept x)) (nodes_of (ring_of (blossoms_of a) node))
-lowered_is a kept outer fs ls node items followers ring =
-    items ∙ ap₂ (λ (t : List ℕ) (us : List Link). lowered a.outer.items (λ x. vertices_of t (run_of a.vertex_count kept x)) (nodes_of us)) followers ring
+-- the sets by lists that are read
+abbrev let_out : Inside → Slab Kept → List ℕ → List Link → ℕ → Placement
+let_out a kept fs ls core =
+    given (released (λ x. vertices_of fs (run_of a.vertex_count kept x)) (core_at a.vertex_count kept) (dual_at a.duals.values) core (placement_of a.partition) (nodes_of ls))
+    core (heir_of (core_at a.vertex_count kept) core 0 (nodes_of ls)) (pos 0 -ℤ dual_at a.duals.values (heir_of (core_at a.vertex_count kept) core 0 (nodes_of ls)))
 
 -- the node stands in the order, and in no ring
 in_order : (a : Inside) (f : Family) (b x : ℕ) → family_of a ≡ f → holds (names_of f.blossoms) b ≡ true → x ≡ b → holds (order_of a) x ≡ true
@@ -87,35 +87,33 @@ of-requires-2 c =
     let there = in_order c.self.inside _ c.args.b c.number-node.result c.self.view_is c.requires.blossom c.number-node.ensures in
     walk_kept c.self.inside c.number-node.result c.self.invariant there c.remove-kept.result c.remove-kept.ensures.value c.deref-3.result.now c.deref-4.result.now c.deref-3.ensures.value c.deref-4.ensures.value
 
-pub lower-requires-clause-within : goal.lower-requires-clause-within
-lower-requires-clause-within c =
+pub release-requires-clause-within : goal.release-requires-clause-within
+release-requires-clause-within c =
     let there = in_order c.self.inside _ c.args.b c.number-node.result c.self.view_is c.requires.blossom c.number-node.ensures in
     let free = is_free c.self.inside _ c.args.b c.number-node.result c.self.view_is c.requires.outer c.number-node.ensures in
     let ring : c.of-2.result ≡ ring_of (blossoms_of c.self.inside) c.number-node.result =
     c.of-2.ensures ∙ ring_kept c.self.inside c.number-node.result c.self.invariant there c.remove-kept.result c.remove-kept.ensures.value c.deref-3.result.now c.deref-4.result.now c.deref-3.ensures.value c.deref-4.ensures.value in
-    subst (λ (ls : List Link). AllByRecursion (λ (l : Link). AllByRecursion (λ v. v < length c.deref-5.result.now) (vertices_of c.deref-5.result.now (run_of c.self.inside.vertex_count c.remove-kept.new.self l.node))) ls) (sym ring)
+    subst (λ (ls : List Link). AllByRecursion (λ (l : Link). AllByRecursion (λ v. v < length c.deref-5.result.now) (vertices_of c.deref-5.result.now (run_of c.self.inside.vertex_count c.remove-kept.new.self l.node)) × ((run_of c.self.inside.vertex_count c.remove-kept.new.self l.node).core < length c.deref-5.result.now)) ls) (sym ring)
     (runs_within c.self.inside c.number-node.result c.self.invariant there c.remove-kept.new.self c.deref-5.result.now free c.remove-kept.ensures.updates c.deref-5.ensures.value)
 
-pub lower-requires-clause-nodes : goal.lower-requires-clause-nodes
-lower-requires-clause-nodes c =
+pub release-requires-clause-nodes : goal.release-requires-clause-nodes
+release-requires-clause-nodes c =
     let there = in_order c.self.inside _ c.args.b c.number-node.result c.self.view_is c.requires.blossom c.number-node.ensures in
     let ring : c.of-2.result ≡ ring_of (blossoms_of c.self.inside) c.number-node.result =
     c.of-2.ensures ∙ ring_kept c.self.inside c.number-node.result c.self.invariant there c.remove-kept.result c.remove-kept.ensures.value c.deref-3.result.now c.deref-4.result.now c.deref-3.ensures.value c.deref-4.ensures.value in
     subst (λ (ls : List Link). AllByRecursion (λ (l : Link). l.node < length c.self.inside.duals.values) ls) (sym ring)
     (children_within c.self.inside c.number-node.result c.self.invariant there (length c.self.inside.duals.values) (omega (arith, c.self.invariant.family.duals.one_each)))
 
-pub lower-requires-clause-in_range : goal.lower-requires-clause-in_range
-lower-requires-clause-in_range c =
-    let a : Inside = c.self.inside in
-    let kept : Slab Kept = c.remove-kept.new.self in
-    let ys : List ℤ = c.self.inside.duals.values in
-    let there = in_order a _ c.args.b c.number-node.result c.self.view_is c.requires.blossom c.number-node.ensures in
-    let free = is_free a _ c.args.b c.number-node.result c.self.view_is c.requires.outer c.number-node.ensures in
-    let ring : c.of-2.result ≡ ring_of (blossoms_of a) c.number-node.result =
-    c.of-2.ensures ∙ ring_kept a c.number-node.result c.self.invariant there c.remove-kept.result c.remove-kept.ensures.value c.deref-3.result.now c.deref-4.result.now c.deref-3.ensures.value c.deref-4.ensures.value in
-    subst (λ (fs : List ℕ). AreTaken a.inner.items (λ x. vertices_of fs (run_of a.vertex_count kept x)) (dual_at ys) (nodes_of c.of-2.result)) (sym c.deref-5.ensures.value)
-    (subst (λ (ls : List Link). AreTaken a.inner.items (λ x. vertices_of a.followers.items (run_of a.vertex_count kept x)) (dual_at ys) (nodes_of ls)) (sym ring)
-    (taken_low a c.number-node.result c.self.invariant there kept free c.remove-kept.ensures.updates ys refl))
+pub release-requires-clause-places : goal.release-requires-clause-places
+release-requires-clause-places c = omega (arith, c.self.invariant.places.partition, c.self.invariant.places.followers, ap length c.deref-5.ensures.value)
+
+pub release-requires-clause-core : goal.release-requires-clause-core
+release-requires-clause-core c =
+    let there = in_order c.self.inside _ c.args.b c.number-node.result c.self.view_is c.requires.blossom c.number-node.ensures in
+    omega (arith, core_low c.self.inside c.number-node.result c.self.invariant there, ap (λ o. (kept_or_none o).run.core) c.remove-kept.ensures.value, c.self.invariant.places.followers, ap length c.deref-5.ensures.value)
+
+pub release-requires-clause-some : goal.release-requires-clause-some
+release-requires-clause-some c = omega (arith, c.self.invariant.family.duals.one_each)
 
 pub move_as-requires : goal.move_as-requires
 move_as-requires c =
@@ -126,11 +124,10 @@ abbrev after : goal.After-move_as → Inside
 after c = record {
   vertex_count = c.self.inside.vertex_count;
   duals = c.move_as.new.self;
-  inner = c.lower.new.sums;
+  partition = c.release.new.partition;
   parents = c.set_entry.new.table;
   nexts = c.self.inside.nexts;
   edges = c.self.inside.edges;
-  outer = c.lower.new.outer;
   followers = c.self.inside.followers;
   older = c.take_out.new.older;
   newer = c.take_out.new.newer;
@@ -146,7 +143,6 @@ changes c there free =
     c.of.ensures ∙ ring_kept a node c.self.invariant there c.remove-kept.result c.remove-kept.ensures.value c.deref.result.now c.deref-2.result.now c.deref.ensures.value c.deref-2.ensures.value in
     let ring2 : c.of-2.result ≡ ring_of (blossoms_of a) node =
     c.of-2.ensures ∙ ring_kept a node c.self.invariant there c.remove-kept.result c.remove-kept.ensures.value c.deref-3.result.now c.deref-4.result.now c.deref-3.ensures.value c.deref-4.ensures.value in
-    let outer = lowered_is a kept c.lower.new.outer.items c.deref-5.result.now c.of-2.result node c.lower.ensures.outer c.deref-5.ensures.value ring2 in
     record {
       updates = c.remove-kept.ensures.updates;
       len = c.remove-kept.ensures.len;
@@ -154,11 +150,9 @@ changes c there free =
       older = c.take_out.ensures.older;
       newer = c.take_out.ensures.newer;
       parents = c.set_entry.ensures.items ∙ ap (λ (t : List ℕ). slice_set t node 1) (c.hang.ensures.items ∙ ap (λ (ls : List Link). filled a.parents.items (nodes_of ls) 0) ring);
-      outer = outer;
-      inner = c.lower.ensures.sums
-          ∙ ap₂ (λ (fs : List ℕ) (ls : List Link). taken a.inner.items (λ x. vertices_of fs (run_of a.vertex_count kept x)) (dual_at c.self.inside.duals.values) (nodes_of ls)) c.deref-5.ensures.value ring2
-          ∙ all_taken a node c.self.invariant there kept free c.remove-kept.ensures.updates a.duals.values
-          ∙ ap (λ (os : List ℕ). added a.inner.items (λ v. neg_ℤ (outer_dual os a.duals.values v)) (members_of (blossoms_of a) node)) (sym outer);
+      partition = c.release.ensures.placement
+          ∙ ap₂ (λ (fs : List ℕ) (ls : List Link). let_out a kept fs ls c.remove-kept.result.run.core) c.deref-5.ensures.value ring2
+          ∙ ap (without_ring a kept (ring_of (blossoms_of a) node)) (sym (ap (λ o. (kept_or_none o).run.core) c.remove-kept.ensures.value));
       none = ap₂ (λ (f : Family) (x : ℕ). dual_at f.duals x) c.self.view_is c.number-node.ensures ∙ c.requires.dual;
       duals = ap₂ (λ (ys : List ℤ) (ms : List Label). record { values = ys; motions = ms }) c.move_as.ensures.values c.move_as.ensures.motions;
     }
@@ -167,18 +161,18 @@ pub invariant_of-self : goal.invariant_of-self
 invariant_of-self c =
     let there = in_order c.self.inside _ c.args.b c.number-node.result c.self.view_is c.requires.blossom c.number-node.ensures in
     let free = is_free c.self.inside _ c.args.b c.number-node.result c.self.view_is c.requires.outer c.number-node.ensures in
-    sound_after c.self.inside _ _ _ _ _ _ _ c.number-node.result c.self.invariant there free (changes c there free)
+    sound_after c.self.inside _ _ _ _ _ _ c.number-node.result c.self.invariant there free (changes c there free)
 
 pub returns-clause-family : goal.returns-clause-family
 returns-clause-family c =
     let a : Inside = c.self.inside in
     let there = in_order a _ c.args.b c.number-node.result c.self.view_is c.requires.blossom c.number-node.ensures in
     let free = is_free a _ c.args.b c.number-node.result c.self.view_is c.requires.outer c.number-node.ensures in
-    ap₂ (λ (t : DualTable) (bs : List Blossom). record { vertex_count = a.vertex_count; duals = t.values; motions = t.motions; blossoms = bs }) (changes c there free).duals (blossoms_after a _ _ _ _ _ _ _ c.number-node.result c.self.invariant there free (changes c there free))
+    ap₂ (λ (t : DualTable) (bs : List Blossom). record { vertex_count = a.vertex_count; duals = t.values; motions = t.motions; blossoms = bs }) (changes c there free).duals (blossoms_after a _ _ _ _ _ _ c.number-node.result c.self.invariant there free (changes c there free))
     ∙ ap₂ (λ (f : Family) (x : ℕ). dissolved f x) c.self.view_is c.number-node.ensures
 
 pub returns-clause-good : goal.returns-clause-good
 returns-clause-good c =
     let there = in_order c.self.inside _ c.args.b c.number-node.result c.self.view_is c.requires.blossom c.number-node.ensures in
     let free = is_free c.self.inside _ c.args.b c.number-node.result c.self.view_is c.requires.outer c.number-node.ensures in
-    (sound_after c.self.inside _ _ _ _ _ _ _ c.number-node.result c.self.invariant there free (changes c there free)).family
+    (sound_after c.self.inside _ _ _ _ _ _ c.number-node.result c.self.invariant there free (changes c there free)).family

@@ -17,9 +17,7 @@ invariant_of-result c =
       edges = omega (arith, c.in_ok-vec-2.ensures.len, c.saturating_sub.ensures);
       older = search rules;
       newer = search rules;
-      outer_len = omega (arith, c.in_ok-numbered.ensures.len);
-      outer = c.in_ok-numbered.ensures.each;
-      inner = search rules;
+      partition = c.in_ok-new-2.ensures;
       followers = omega (arith, c.in_ok-vec-3.ensures.len);
     })
 

@@ -3,7 +3,8 @@ use Rattle.std.proofs.lemmas.List.{get_or_read}
 use Rattle.std.proofs.lemmas.Int.{to_z-of_z}
 use mir.Val.{SFits}
 use mir.Syntax.{w64}
-use Rattle.edge_queue.specs.Heaps.{blank, entry_at, slot_at, key}
+use Rattle.edge_queue.specs.Heaps.{blank, slot_at, key}
+use Rattle.edge_queue.proofs.EntryAt.{entry_at}
 use Rattle.edge_queue.specs.Slots.{IsLeastSlot}
 use Rattle.edge_queue.proofs.Changes.{no_least, root_is_least}
 use Rattle.edge_queue.proofs.heap.IndexedHeap.least.Goals as goal

@@ -1,7 +1,8 @@
 use Rattle.std.proofs.Common.{◌≡◌, ◌+◌, ◌-◌, ◌<◌, ◌≤◌, List, length, get_or, set, map, sym, ap, ◌∙◌, subst, arith, Option, None}
 use Rattle.std.specs.Prelude.{ℤ}
 use Rattle.std.proofs.lemmas.List.{get_or_read}
-use Rattle.edge_queue.specs.Heaps.{blank, entry_at, held, AreTables, IsPlaceOf, IsMended}
+use Rattle.edge_queue.specs.Heaps.{blank, held, AreTables, IsPlaceOf, IsMended}
+use Rattle.edge_queue.proofs.EntryAt.{entry_at}
 use Rattle.edge_queue.proofs.Changes.{slot_within, absent_entries, dropped_tables, dropped_order, dropped_entries, left_tables, left_order, left_entries}
 use Rattle.edge_queue.proofs.heap.IndexedHeap.remove.Goals as goal
 use Rattle.edge_queue.proofs.heap.IndexedHeap.remove.Goals.{After-wipe_place, After-index-last}

@@ -5,7 +5,8 @@ use Rattle.std.proofs.lemmas.Int.{to_z-of_z}
 use mir.Val.{to_z, of_z}
 use mir.Syntax.{w64}
 use Rattle.edge_queue.specs.declared.entry.Entry.{Entry}
-use Rattle.edge_queue.specs.Heaps.{blank, entry_at, key, IsPlaceOf}
+use Rattle.edge_queue.specs.Heaps.{blank, key, IsPlaceOf}
+use Rattle.edge_queue.proofs.EntryAt.{entry_at}
 use Rattle.edge_queue.proofs.Exchanges.{key_by}
 use Rattle.edge_queue.proofs.Changes.{slot_within, kept_entries, given_tables, given_order, given_entries, added_tables, added_entries}
 use Rattle.edge_queue.proofs.heap.IndexedHeap.set.Goals as goal

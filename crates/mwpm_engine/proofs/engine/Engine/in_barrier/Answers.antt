@@ -18,7 +18,8 @@ label_of-requires c =
     let shape = c.self.invariant.shape in
     let v = c.args.v in
     let vertex : is_vertex s.graph.vertices v ≡ true = range_vertex s.graph.vertices v c.requires.low (subst (λ (t : Solution). v ≤ t.graph.vertices) (sym c.self.view_is) c.requires.high) in
-    let outer : IsOutermost (state_of s) c.outermost-node.result = subst (IsOutermost (state_of s)) (sym c.outermost-node.ensures.node) (outermost_has s.graph.vertices s.arena.blossoms v (nested_of s shape) vertex).0 in
+    let outer : IsOutermost (state_of s) c.outermost-node.result = subst (IsOutermost (state_of s)) (sym c.outermost-node.ensures.node)
+    (outermost_has s.graph.vertices s.arena.blossoms v (nested_of s shape) vertex).0 in
     omega (arith, label_place s c.outermost-node.result shape outer, c.deref.ensures.len)
 
 pub returns : goal.returns
@@ -26,5 +27,6 @@ returns c =
     let s = c.self.inside.search in
     let v = c.args.v in
     let vertex : is_vertex s.graph.vertices v ≡ true = range_vertex s.graph.vertices v c.requires.low (subst (λ (t : Solution). v ≤ t.graph.vertices) (sym c.self.view_is) c.requires.high) in
-    c.is_inner.ensures ∙ ap (λ l. is_label l Inner) (c.label_of.ensures ∙ ap (λ xs. label_at xs c.outermost-node.result) c.deref.ensures.value ∙ ap (label_at s.labels.items) c.outermost-node.ensures.node)
+    c.is_inner.ensures
+    ∙ ap (λ l. is_label l Inner) (c.label_of.ensures ∙ ap (λ xs. label_at xs c.outermost-node.result) c.deref.ensures.value ∙ ap (label_at s.labels.items) c.outermost-node.ensures.node)
     ∙ sym (inner_test (state_of s) v vertex) ∙ ap (λ (t : Solution). holds t.barrier v) c.self.view_is

@@ -1,0 +1,6 @@
+use Rattle.std.proofs.Common.{arith}
+use Rattle.std.proofs.lemmas.List.Sorted.{length_permutation}
+use Rattle.alt_forest.proofs.standing.Standing.clear.Goals as goal
+
+pub loop-node-smaller : goal.loop-node-smaller
+loop-node-smaller c = omega (arith, length_permutation _ _ c.unlist.ensures.nodes)

@@ -1,0 +1,25 @@
+use Rattle.std.proofs.Common.{◌≡◌, ◌∙◌, ◌+◌, length, is_some, ap, subst, arith, rules}
+use Rattle.std.proofs.lemmas.List.{length-set}
+use Rattle.alt_forest.specs.Listing.{Listing, seed_at}
+use Rattle.alt_forest.specs.Linked.{HasLinks, link_at}
+use Rattle.alt_forest.proofs.KeptSteps.{owned_less}
+use Rattle.alt_forest.proofs.standing.Standing.unlist.Goals as goal
+
+pub invariant_of-self : goal.invariant_of-self
+invariant_of-self c =
+    let s = c.self.inside in
+    let k = c.self.invariant in
+    let seeds : s.seeds.items ≡ c.args.self.now.seeds = ap (λ (l : Listing). l.seeds) c.self.view_is in
+    let count : length c.take_placed.new.seeds.items ≡ length s.seeds.items = ap length c.take_placed.ensures.seeds ∙ length-set s.seeds.items c.args.node _ in
+    record {
+      room = omega (arith, k.room, count, c.take_placed.ensures.capacity);
+      places = omega (arith, k.places, count, c.take_placed.ensures.places);
+      links = subst (HasLinks c.take_off.new.lists)
+          (k.links.nexts ∙ (let e : length s.seeds.items + length s.seeds.items ≡ length c.take_placed.new.seeds.items + length c.take_placed.new.seeds.items = omega (arith, count) in
+          e)) c.take_off.ensures.links;
+      placed = c.take_placed.ensures.placed;
+      owned = owned_less s.seeds.items c.take_placed.new.seeds.items (link_at s.lists.next.items)
+          (link_at s.lists.previous.items) c.take_off.new.lists.next.items c.take_off.new.lists.previous.items
+          c.args.node _ k.links.linked k.owned (ap (λ (xs : _). is_some (seed_at xs c.args.node)) seeds ∙ c.requires)
+          (search rules) c.take_placed.ensures.seeds c.take_off.ensures.next c.take_off.ensures.previous;
+    }

@@ -1,0 +1,6 @@
+use Rattle.std.proofs.Common.{◌≡◌, ◌+◌, drop}
+use Rattle.alt_forest.specs.Entries.{ends_around}
+use Rattle.augment.proofs.sides.ends_at.Given as goal
+
+abbrev pub invariant-loop-v : goal.invariant-loop-v
+invariant-loop-v l = l.ends + ends_around l.search.graph (drop l.v-index l.fn.vertices) ≡ ends_around l.search.graph l.fn.vertices

@@ -1,0 +1,35 @@
+-- The vertices that name the sets of outermost nodes.
+use Rattle.std.proofs.Common.{◌≡◌, ℕ, true, List, sym, ap, ◌∙◌, FitsSigned}
+use Rattle.std.specs.Prelude.{ℤ, ◌+ℤ◌}
+use Rattle.std.specs.Int.{w64, int_wrap}
+use Rattle.std.proofs.lemmas.Int.{int_wrap_fits}
+use Rattle.graph_theory.specs.Parts.{holds}
+use Rattle.blossom_arena.specs.Family.{Blossom, is_node, is_outermost, is_vertex, members_of, outermost, IsNested}
+use Rattle.blossom_arena.specs.Fields.{IsPlacement}
+use Rattle.blossom_arena.specs.Placement.{Placement}
+use Rattle.blossom_arena.proofs.Nested.{outermost_parts}
+use Rattle.blossom_arena.proofs.Sets.{member_vertex, outermost_by_member, outermost_has}
+
+-- a core of each node among its vertices
+abbrev pub HasCores : ℕ → List Blossom → (ℕ → ℕ) → Type 0
+HasCores n bs core_of = (x : ℕ) → is_node n bs x ≡ true → holds (members_of bs x) (core_of x) ≡ true
+
+module _ (n : ℕ) (bs : List Blossom) (core_of : ℕ → ℕ) (nested : IsNested n bs) (cores : HasCores n bs core_of) where
+  pub core_outer : (x : ℕ) → is_outermost n bs x ≡ true → outermost bs (core_of x) ≡ x
+  core_outer x o = outermost_by_member n bs x (core_of x) nested o (cores x (outermost_parts n bs x o).0)
+
+  module _ (y : ℕ → ℤ) (p : Placement) (h : IsPlacement n core_of bs y p) where
+    -- the vertices of a set have one outermost node
+    pub set_of : (x v : ℕ) → is_outermost n bs x ≡ true → is_vertex n v ≡ true → p.set v ≡ core_of x → outermost bs v ≡ x
+    set_of x v o iv e =
+        let own = outermost_has n bs v nested iv in
+        sym (core_outer (outermost bs v) own.0) ∙ ap (outermost bs) (sym (h.sets v iv) ∙ e) ∙ core_outer x o
+
+    pub set_core : (x : ℕ) → is_outermost n bs x ≡ true → p.top (p.set (core_of x)) ≡ x
+    set_core x o =
+        let is = (outermost_parts n bs x o).0 in
+        h.outer (core_of x) (member_vertex n bs x (core_of x) nested is (cores x is)) ∙ core_outer x o
+
+-- a sum that fits is what wraps around to it
+pub wrapped : (x z sum : ℤ) → FitsSigned w64 sum → x +ℤ z ≡ sum → int_wrap w64 (x +ℤ z) ≡ sum
+wrapped x z sum fits e = ap (int_wrap w64) e ∙ int_wrap_fits w64 sum fits

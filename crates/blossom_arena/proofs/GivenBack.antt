@@ -1,0 +1,200 @@
+-- The sets of vertices where a node gives those of its ring back.
+use Rattle.std.proofs.Common.{◌≡◌, ℕ, ◌≤◌, true, false, not, eqb, cond, List, refl, sym, ap, ap₂, ◌∙◌, subst, arith, FitsSigned}
+use Rattle.std.specs.Prelude.{ℤ, pos, neg_ℤ, ◌+ℤ◌, ◌-ℤ◌, All}
+use Rattle.std.specs.Int.{w64, int_wrap}
+use Rattle.std.proofs.lemmas.Int.{ints}
+use Rattle.std.proofs.lemmas.Bool.{eqb-true, eqb-false, eq-eqb, ne_eqb, both_ways, and_from}
+use Rattle.graph_theory.specs.declared.limits.TheConstants.{GRAPH_VERTEX_LIMIT}
+use Rattle.graph_theory.specs.Duals.{IsNumber}
+use Rattle.graph_theory.specs.Parts.{holds}
+use Rattle.blossom_arena.specs.declared.links.Link.{Link}
+use Rattle.blossom_arena.specs.Family.{Blossom, dual_at, in_ring, is_child, is_node, is_outermost, is_vertex, members_of, names_of, nodes_of, outermost, ring_of, union_of, without, IsNested}
+use Rattle.blossom_arena.specs.Fields.{inner_of, IsPlacement}
+use Rattle.blossom_arena.specs.Placement.{Placement, Spread, given, heir_of, letting_out, released}
+use Rattle.blossom_arena.proofs.Held.{inner_dissolved, inner_fits}
+use Rattle.blossom_arena.proofs.Lists.{by_test, AllNew}
+use Rattle.blossom_arena.proofs.Nested.{child_is_node, name_is_node}
+use Rattle.blossom_arena.proofs.Opened.{child_outer, outermost_without, ring_different, ring_members, ring_other}
+use Rattle.blossom_arena.proofs.Parents.{ring_child}
+use Rattle.blossom_arena.proofs.Sets.{in_union, members_new, of_union, outermost_by_member, outermost_has, outermost_node}
+use Rattle.blossom_arena.proofs.Spreads.{HasAt, heir_is, in_at, out_at, top_in, top_is}
+use Rattle.blossom_arena.proofs.Taken.{members_without, nested_without}
+use Rattle.blossom_arena.proofs.Cores.{HasCores, set_of, wrapped}
+
+-- a node of dual 0 gives the nodes of its ring their vertices back: that of its own core keeps the set
+module _ (n : ℕ) (bs : List Blossom) (core_of now : ℕ → ℕ) (ys : List ℤ) (p : Placement) (node core : ℕ) (vertices : ℕ → List ℕ)
+    (few : n ≤ GRAPH_VERTEX_LIMIT) (nested : IsNested n bs) (cores : HasCores n bs core_of) (numbers : All IsNumber ys) (named : holds (names_of bs) node ≡ true) (free : is_child bs node ≡ false)
+    (h : IsPlacement n core_of bs (dual_at ys) p) (lists : (x : ℕ) → in_ring (ring_of bs node) x ≡ true → vertices x ≡ members_of bs x)
+    (same : (x : ℕ) → eqb node x ≡ false → now x ≡ core_of x) (is : core ≡ core_of node) (none : dual_at ys node ≡ pos 0) where
+  abbrev y : ℕ → ℤ
+  y = dual_at ys
+
+  abbrev ring : List Link
+  ring = ring_of bs node
+
+  abbrev left : List Blossom
+  left = without bs node
+
+  abbrev w : Spread
+  w = letting_out vertices now y core
+
+  abbrev parted : Placement
+  parted = released vertices now y core p (nodes_of ring)
+
+  abbrev heir : ℕ
+  heir = heir_of now core 0 (nodes_of ring)
+
+  abbrev let_go : Placement
+  let_go = given parted core heir (pos 0 -ℤ y heir)
+
+  is_outer : is_outermost n bs node ≡ true
+  is_outer = and_from (is_node n bs node) (not (is_child bs node)) (name_is_node n bs node named) (ap not free)
+
+  nested_left : IsNested n left
+  nested_left = nested_without n bs node nested free
+
+  is_a_node : (x : ℕ) → in_ring ring x ≡ true → is_node n bs x ≡ true
+  is_a_node x r = child_is_node n bs x nested (ring_child bs node x r)
+
+  outer : (x : ℕ) → in_ring ring x ≡ true → is_outermost n left x ≡ true
+  outer x r = child_outer n bs node x nested free r
+
+  core_now : (x : ℕ) → in_ring ring x ≡ true → now x ≡ core_of x
+  core_now x r = same x (ring_other bs node x free r)
+
+  has_left : (x v : ℕ) → in_ring ring x ≡ true → holds (members_of bs x) v ≡ true → holds (members_of left x) v ≡ true
+  has_left x v r m = ap (λ ms. holds ms v) (members_without bs node x (ring_other bs node x free r)) ∙ m
+
+  -- a core tells the child
+  by_core : (x v : ℕ) → in_ring ring x ≡ true → now x ≡ v → outermost left v ≡ x
+  by_core x v r e =
+      outermost_by_member n left x v nested_left (outer x r)
+      (has_left x v r (ap (holds (members_of bs x)) (sym e ∙ core_now x r) ∙ cores x (is_a_node x r)))
+
+  one_core : (x z : ℕ) → in_ring ring x ≡ true → in_ring ring z ≡ true → now x ≡ now z → x ≡ z
+  one_core x z r t e = sym (by_core x (now z) r e) ∙ by_core z (now z) t refl
+
+  module _ (v : ℕ) (iv : is_vertex n v ≡ true) where
+    abbrev o : ℕ
+    o = outermost left v
+
+    holder : (x : ℕ) → in_ring ring x ≡ true → holds (vertices x) v ≡ true → o ≡ x
+    holder x r m = outermost_by_member n left x v nested_left (outer x r) (has_left x v r (ap (λ vs. holds vs v) (sym (lists x r)) ∙ m))
+
+    union : holds (members_of bs node) v ≡ holds (union_of bs ring) v
+    union = ap (λ ms. holds ms v) (ring_members n bs node nested named)
+
+    fits : FitsSigned w64 (inner_of y left v)
+    fits = inner_fits n ys left v few nested_left numbers
+
+    sums : inner_of y left v ≡ inner_of y bs v +ℤ cond (holds (members_of bs node) v) (neg_ℤ (y o)) (pos 0)
+    sums = inner_dissolved n bs v nested iv y node is_outer none
+
+    -- a vertex of a child
+    module _ (m : holds (members_of bs node) v ≡ true) where
+      child_here : (in_ring ring o ≡ true) × (holds (vertices o) v ≡ true)
+      child_here =
+          let found = of_union bs ring v (sym union ∙ m) in
+          let has : holds (vertices found.node) v ≡ true = ap (λ vs. holds vs v) (lists found.node found.within) ∙ found.has in
+          subst (λ x. (in_ring ring x ≡ true) × (holds (vertices x) v ≡ true)) (sym (holder found.node found.within has)) (found.within, has)
+
+      old_set : p.set v ≡ core
+      old_set = h.sets v iv ∙ ap core_of (outermost_by_member n bs node v nested is_outer m) ∙ sym is
+
+      kept_at : eqb (now o) core ≡ true → HasAt parted v core (p.inner v)
+      kept_at keeps =
+          let stays = out_at w p (nodes_of ring) v (λ c r moves. by_test (holds (vertices c) v)
+          (λ t. absurd (both_ways (eqb (now c) core) moves (ap (λ x. eqb (now x) core) (sym (holder c r t)) ∙ keeps))) (λ f. f)) in
+          record { set = stays.set ∙ old_set; inner = stays.inner }
+
+      gone_at : eqb (now o) core ≡ false → HasAt parted v (now o) (int_wrap w64 (p.inner v +ℤ (pos 0 -ℤ y o)))
+      gone_at moves =
+          in_at w p (nodes_of ring) v o (ring_different n bs node nested named) child_here.0 moves child_here.1
+          (subst AllNew (sym (lists o child_here.0)) (members_new n bs o nested (is_a_node o child_here.0))) (λ c r t. sym (holder c r t))
+
+      own_heir : eqb (now o) core ≡ true → heir ≡ o
+      own_heir keeps = heir_is now core 0 o (nodes_of ring) child_here.0 keeps
+          (λ c r e. one_core c o r child_here.0 (eqb-true (now c) core e ∙ sym (eqb-true (now o) core keeps)))
+
+      sum_here : p.inner v +ℤ (pos 0 -ℤ y o) ≡ inner_of y left v
+      sum_here = let was = h.inner v iv in let is_now = sums ∙ ap (λ q. inner_of y bs v +ℤ cond q (neg_ℤ (y o)) (pos 0)) m in omega (arith, ints, was, is_now)
+
+      back_outer : let_go.top (let_go.set v) ≡ o
+      back_outer = by_test (eqb (now o) core)
+          (λ keeps. ap let_go.top (kept_at keeps).set ∙ ap (λ q. cond q heir (parted.top core)) (eq-eqb core core refl) ∙ own_heir keeps)
+          (λ moves. ap let_go.top (gone_at moves).set
+          ∙ ap (λ q. cond q heir (parted.top (now o))) (ne_eqb core (now o) (λ e. eqb-false (now o) core moves (sym e)))
+          ∙ top_in w p (nodes_of ring) o child_here.0 moves (λ c r away e. one_core c o r child_here.0 (eqb-true (now c) (now o) e)))
+
+      back_inner : let_go.inner v ≡ inner_of y left v
+      back_inner = by_test (eqb (now o) core)
+          (λ keeps.
+          ap (λ q. cond q (int_wrap w64 (parted.inner v +ℤ (pos 0 -ℤ y heir))) (parted.inner v)) (eq-eqb core (parted.set v) (sym (kept_at keeps).set))
+          ∙ ap₂ (λ (x : ℤ) (c : ℕ). int_wrap w64 (x +ℤ (pos 0 -ℤ y c))) (kept_at keeps).inner (own_heir keeps)
+          ∙ wrapped (p.inner v) (pos 0 -ℤ y o) (inner_of y left v) fits sum_here)
+          (λ moves.
+          ap (λ q. cond q (int_wrap w64 (parted.inner v +ℤ (pos 0 -ℤ y heir))) (parted.inner v))
+          (ne_eqb core (parted.set v) (λ e. eqb-false (now o) core moves (sym (gone_at moves).set ∙ sym e)))
+          ∙ (gone_at moves).inner ∙ wrapped (p.inner v) (pos 0 -ℤ y o) (inner_of y left v) fits sum_here)
+
+      back_set : let_go.set v ≡ now o
+      back_set = by_test (eqb (now o) core)
+          (λ keeps. (kept_at keeps).set ∙ sym (eqb-true (now o) core keeps))
+          (λ moves. (gone_at moves).set)
+
+    -- any other vertex
+    module _ (m : holds (members_of bs node) v ≡ false) where
+      outside : (c : ℕ) → in_ring ring c ≡ true → holds (members_of bs c) v ≡ false
+      outside c r = by_test (holds (members_of bs c) v) (λ t. absurd (both_ways (holds (members_of bs node) v) m (union ∙ in_union bs ring c v r t))) (λ f. f)
+
+      same_outer : o ≡ outermost bs v
+      same_outer = outermost_without n bs node v nested free iv m
+
+      stays_at : HasAt parted v (p.set v) (p.inner v)
+      stays_at = out_at w p (nodes_of ring) v (λ c r moves. ap (λ vs. holds vs v) (lists c r) ∙ outside c r)
+
+      other_set : eqb core (p.set v) ≡ false
+      other_set = ne_eqb core (p.set v) (λ e.
+          let at : outermost bs v ≡ node = set_of n bs core_of nested cores y p h node v is_outer iv (sym e ∙ is) in
+          both_ways (holds (members_of bs node) v) m (ap (λ x. holds (members_of bs x) v) (sym at) ∙ (outermost_has n bs v nested iv).1))
+
+      other_node : eqb node (outermost bs v) ≡ false
+      other_node = ne_eqb node (outermost bs v) (λ e.
+          both_ways (holds (members_of bs node) v) m (ap (λ x. holds (members_of bs x) v) e ∙ (outermost_has n bs v nested iv).1))
+
+      core_same : now o ≡ core_of (outermost bs v)
+      core_same = ap now same_outer ∙ same (outermost bs v) other_node
+
+      other_core : (c : ℕ) → in_ring ring c ≡ true → eqb (now c) (p.set v) ≡ false
+      other_core c r = ne_eqb (now c) (p.set v) (λ e.
+          let has = outermost_has n left v nested_left iv in
+          let own : holds (members_of left o) (p.set v) ≡ true =
+          ap (λ ms. holds ms (p.set v)) (ap (members_of left) same_outer ∙ members_without bs node (outermost bs v) other_node)
+          ∙ ap (holds (members_of bs (outermost bs v))) (h.sets v iv) ∙ cores (outermost bs v) (outermost_node n bs v iv) in
+          let at : c ≡ o = sym (by_core c (p.set v) r e) ∙ outermost_by_member n left o (p.set v) nested_left has.0 own in
+          both_ways (holds (members_of bs c) v) (outside c r)
+          (sym (ap (λ ms. holds ms v) (members_without bs node c (ring_other bs node c free r))) ∙ ap (λ x. holds (members_of left x) v) at ∙ has.1))
+
+      kept_outer : let_go.top (let_go.set v) ≡ o
+      kept_outer =
+          ap let_go.top stays_at.set ∙ ap (λ q. cond q heir (parted.top (p.set v))) other_set
+          ∙ top_is w p (nodes_of ring) (p.set v) (outermost bs v) (h.outer v iv) (λ c r moves e. absurd (both_ways (eqb (now c) (p.set v)) (other_core c r) e))
+          ∙ sym same_outer
+
+      kept_inner : let_go.inner v ≡ inner_of y left v
+      kept_inner =
+          ap (λ q. cond q (int_wrap w64 (parted.inner v +ℤ (pos 0 -ℤ y heir))) (parted.inner v)) (ap (eqb core) stays_at.set ∙ other_set)
+          ∙ stays_at.inner ∙ h.inner v iv ∙ alone (inner_of y bs v) ∙ sym (sums ∙ ap (λ q. inner_of y bs v +ℤ cond q (neg_ℤ (y o)) (pos 0)) m)
+        where
+          alone : (x : ℤ) → x ≡ x +ℤ pos 0
+          alone x = omega (arith, ints)
+
+      kept_set : let_go.set v ≡ now o
+      kept_set = stays_at.set ∙ h.sets v iv ∙ sym core_same
+
+  pub placement_dissolved : IsPlacement n now left y let_go
+  placement_dissolved = record {
+    outer = λ v iv. by_test (holds (members_of bs node) v) (back_outer v iv) (kept_outer v iv);
+    inner = λ v iv. by_test (holds (members_of bs node) v) (back_inner v iv) (kept_inner v iv);
+    sets = λ v iv. by_test (holds (members_of bs node) v) (back_set v iv) (kept_set v iv);
+  }

@@ -1,0 +1,43 @@
+use Rattle.std.proofs.Common.{◌≡◌, ◌∙◌, ◌+◌, ◌<◌, eqb, cond, List, ◌∷◌, drop, length, sym, ap, ap₂, subst, arith, rules, to_z, of_z}
+use mir.Syntax.{w64}
+use Rattle.std.specs.Prelude.{ℤ}
+use Rattle.std.specs.List.{AllByRecursion}
+use Rattle.std.proofs.lemmas.List.{get_or_read}
+use Rattle.blossom_arena.specs.declared.links.Link.{Link}
+use Rattle.blossom_arena.specs.declared.runs.Run.{Run}
+use Rattle.blossom_arena.specs.Family.{dual_at, nodes_of}
+use Rattle.blossom_arena.specs.Fields.{core_at, run_of, vertices_at, vertices_of}
+use Rattle.blossom_arena.specs.Placement.{Placement, absorbed, placed, placement_of}
+use Rattle.blossom_arena.proofs.LinkLists.{drop_next}
+use Rattle.blossom_arena.proofs.runs.absorb.Goals as goal
+
+next : (c : goal.After-take_in) → drop c.loop-link.link-index c.args.circuit.now ≡ c.link-item.result ∷ drop (c.loop-link.link-index + 1) c.args.circuit.now
+next c =
+    let none : Link = record { node = 0; edge = 0 } in
+    drop_next c.args.circuit.now c.loop-link.link-index none c.link-item.result (omega (arith, c.loop-link-test.true))
+    (get_or_read c.args.circuit.now c.loop-link.link-index c.link-item.result (omega (arith, c.loop-link-test.true)) c.link-item.is none)
+
+taken : (c : goal.After-take_in) → placement_of c.take_in.new.partition
+    ≡ cond (eqb (core_at c.args.count c.args.kept.now c.link-item.result.node) c.args.core) (placement_of c.loop-link.partition)
+    (placed (placement_of c.loop-link.partition) (vertices_at c.args.followers.now c.args.count c.args.kept.now c.link-item.result.node) c.args.core c.args.node (dual_at c.args.duals.now.values c.link-item.result.node))
+taken c =
+    let p : Placement = placement_of c.loop-link.partition in
+    let run : c.find_run-run.result ≡ run_of c.args.count c.args.kept.now c.link-item.result.node = c.find_run-run.ensures ∙ ap (run_of c.args.count c.args.kept.now) c.number-child.ensures in
+    let back : to_z w64 (of_z w64 c.get-in-loop-link.result) ≡ c.get-in-loop-link.result = search rules in
+    let dual = back ∙ c.get-in-loop-link.ensures.dual ∙ ap (dual_at c.args.duals.now.values) c.number-child.ensures in
+    c.take_in.ensures.placement
+    ∙ ap₂ (λ (r : Run) (y : ℤ). cond (eqb r.core c.args.core) p (placed p (vertices_of c.args.followers.now r) c.args.core c.args.node y)) run dual
+
+pub loop-link-preserved : goal.loop-link-preserved
+loop-link-preserved c =
+    let left : List Link = drop (c.loop-link.link-index + 1) c.args.circuit.now in
+    let within = subst (AllByRecursion (λ (k : Link). AllByRecursion (λ v. v < length c.args.followers.now) (vertices_at c.args.followers.now c.args.count c.args.kept.now k.node))) (next c) c.loop-link.invariant.within in
+    let nodes = subst (AllByRecursion (λ (k : Link). k.node < length c.args.duals.now.values)) (next c) c.loop-link.invariant.nodes in
+    record {
+      rest = ap (λ (q : Placement). absorbed (vertices_at c.args.followers.now c.args.count c.args.kept.now) (core_at c.args.count c.args.kept.now) (dual_at c.args.duals.now.values) c.args.core c.args.node q (nodes_of left)) (taken c)
+          ∙ sym (ap (λ (ls : List Link). absorbed (vertices_at c.args.followers.now c.args.count c.args.kept.now) (core_at c.args.count c.args.kept.now) (dual_at c.args.duals.now.values) c.args.core c.args.node (placement_of c.loop-link.partition) (nodes_of ls)) (next c))
+          ∙ c.loop-link.invariant.rest;
+      len = c.take_in.ensures.len ∙ c.loop-link.invariant.len;
+      within = within.1;
+      nodes = nodes.1;
+    }

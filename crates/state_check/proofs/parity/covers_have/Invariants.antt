@@ -1,7 +1,0 @@
-use Rattle.std.proofs.Common.{ℕ, ◌≤◌}
-use Rattle.alt_forest.specs.Searches.{state_of}
-use Rattle.state_check.specs.Checks.{CoverHas}
-use Rattle.state_check.proofs.parity.covers_have.Given as goal
-
-abbrev pub invariant-loop-place : goal.invariant-loop-place
-invariant-loop-place l = (v : ℕ) → 1 ≤ v → v ≤ l.place → CoverHas (state_of l.search) l.odd v

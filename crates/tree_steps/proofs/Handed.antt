@@ -1,0 +1,72 @@
+-- What a step hands on of the vertices that are kept for the nodes in trees: each node in a tree comes from one that was in
+-- a tree, and has the vertex that was kept for that one.
+use Rattle.std.proofs.Common.{◌≡◌, ◌≢◌, ℕ, true, List, Option, Some, sym, ap, ◌∙◌, subst}
+use Rattle.graph_theory.specs.Graph.{Multigraph}
+use Rattle.blossom_arena.specs.Family.{is_vertex, outermost}
+use Rattle.blossom_arena.specs.declared.label.Label.TheVariants.{Out}
+use Rattle.alt_forest.specs.declared.search.Search.{Search}
+use Rattle.alt_forest.specs.State.{State, IsOutermost}
+use Rattle.alt_forest.specs.Searches.{IsSound, label_at, state_of}
+use Rattle.alt_forest.specs.Standing.{AreListed, IsSeed, IsStanding, seed_at}
+use Rattle.alt_forest.specs.Trees.{root_of, IsRoot}
+use Rattle.alt_forest.proofs.Places.{nested_of}
+use Rattle.alt_forest.proofs.Roots.{ways_lead}
+
+-- the roots of s come into the nodes that `to` says, different ones into different ones
+pub record AreRootsKept (s t : State) (to : ℕ → ℕ) : Type 0 where
+  pub graph : t.graph ≡ s.graph
+  pub vertex : (v : ℕ) → is_vertex s.graph.vertices v ≡ true → IsRoot s (outermost s.blossoms v) → outermost t.blossoms v ≡ to (outermost s.blossoms v)
+  pub apart : (r q : ℕ) → IsRoot s r → IsRoot s q → to r ≡ to q → r ≡ q
+
+-- a node in a tree comes from one that was in a tree, whose root came into its root and whose seed it has
+pub record ComesFrom (s t : State) (to : ℕ → ℕ) (old new : List (Option ℕ)) (a : ℕ) : Type 0 where
+  pub from : ℕ
+  pub outermost : IsOutermost s from
+  pub in_tree : s.label from ≢ Out
+  pub root : root_of t a ≡ to (root_of s from)
+  pub seed : seed_at new a ≡ seed_at old from
+
+-- a vertex of the root of its tree is kept for a node
+abbrev HasSeed : List (Option ℕ) → State → ℕ → Type 0
+HasSeed seeds t a = (v : ℕ) × (seed_at seeds a ≡ Some v) × IsSeed t a v
+
+module _ (f k : Search) (t : State) (to : ℕ → ℕ) (h : IsSound f) (kept : AreRootsKept (state_of f) t to) (old : IsStanding f)
+    (comes : (a : ℕ) → IsOutermost t a → t.label a ≢ Out → ComesFrom (state_of f) t to f.standing.seeds k.standing.seeds a) where
+  abbrev s : State
+  s = state_of f
+
+  root_was : (c : ℕ) → IsOutermost s c → s.label c ≢ Out → IsRoot s (root_of s c)
+  root_was c is in_it = (ways_lead s h.depth c (nested_of f h.shape) h.state is in_it).root
+
+  seeds : (a : ℕ) → IsOutermost t a → t.label a ≢ Out → HasSeed k.standing.seeds t a
+  seeds a is in_it =
+      let x = comes a is in_it in
+      let y = old.trees x.from x.outermost x.in_tree in (
+        y.0,
+        x.seed ∙ y.1,
+        record {
+          vertex = ap (λ (g : Multigraph). is_vertex g.vertices y.0) kept.graph ∙ y.2.vertex;
+          root = kept.vertex y.0 y.2.vertex (subst (IsRoot s) (sym y.2.root) (root_was x.from x.outermost x.in_tree)) ∙ ap to y.2.root ∙ sym x.root;
+        },
+      )
+
+  same : (a b : ℕ) → IsOutermost t a → IsOutermost t b → t.label a ≢ Out → t.label b ≢ Out → root_of t a ≡ root_of t b → seed_at k.standing.seeds a ≡ seed_at k.standing.seeds b
+  same a b a_is b_is a_in b_in one =
+      let x = comes a a_is a_in in
+      let y = comes b b_is b_in in
+      let roots = kept.apart (root_of s x.from) (root_of s y.from) (root_was x.from x.outermost x.in_tree) (root_was y.from y.outermost y.in_tree) (sym x.root ∙ one ∙ y.root) in
+      x.seed ∙ old.same x.from y.from x.outermost y.outermost x.in_tree y.in_tree roots ∙ sym y.seed
+
+  -- so the nodes in trees are listed, with vertices of their roots, those of one tree with one
+  pub standing_after : state_of k ≡ t → k.graph ≡ f.graph → AreListed f.graph.vertices k.standing.nodes k.standing.seeds
+      → ((a : ℕ) → IsOutermost t a → label_at k.arena.motions a ≡ t.label a) → IsStanding k
+  standing_after state graph listed moves =
+      let outermost : (a : ℕ) → IsOutermost (state_of k) a → IsOutermost t a = λ a. subst (λ (x : State). IsOutermost x a) state in
+      let in_tree : (a : ℕ) → (state_of k).label a ≢ Out → t.label a ≢ Out = λ a labelled out. labelled (ap (λ (x : State). x.label a) state ∙ out) in
+      record {
+        listed = subst (λ (g : Multigraph). AreListed g.vertices k.standing.nodes k.standing.seeds) (sym graph) listed;
+        trees = λ a is labelled. subst (λ (x : State). HasSeed k.standing.seeds x a) (sym state) (seeds a (outermost a is) (in_tree a labelled));
+        moves = λ a is. moves a (outermost a is) ∙ sym (ap (λ (x : State). x.label a) state);
+        same = λ a b a_is b_is a_in b_in one. same a b (outermost a a_is) (outermost b b_is) (in_tree a a_in) (in_tree b b_in)
+            (ap (λ (x : State). root_of x a) (sym state) ∙ one ∙ ap (λ (x : State). root_of x b) state);
+      }
