@@ -1,5 +1,6 @@
 -- The counts that the lines give to edges.
-use Rattle.std.proofs.Common.{◌≡◌, ℕ, suc, ◌+◌, ◌-◌, ◌<◌, ℤ, pos, ◌≤ℤ◌, true, false, cond, List, [], ◌∷◌, ◌++◌, length, get_or, map, take, slice_index, slice_set, refl, sym, ap, ◌∙◌, arith, int_eq, nat_abs}
+use Rattle.std.proofs.Common.{◌≡◌, ℕ, suc, ◌+◌, ◌-◌, ◌<◌, ℤ, pos, ◌≤ℤ◌, true, false, cond, List, [], ◌∷◌, ◌++◌, length, get_or, map, take, slice_index, slice_set, refl, sym}
+use Rattle.std.proofs.Common.{ap, ◌∙◌, arith, int_eq, nat_abs}
 use Rattle.std.proofs.Math.Decide.{ℕ_discrete}
 use Rattle.std.proofs.lemmas.Int.{ints}
 use Rattle.std.proofs.lemmas.Bool.{false_from_ne_true}
@@ -21,14 +22,16 @@ count_of-other : (xs : List CountLine) (x : CountLine) (e : ℕ) → int_eq x.ed
 count_of-other [] x e other = rw other refl
 count_of-other (y ∷ ys) x e other = ap (λ (r : ℕ). cond (int_eq y.edge (pos e)) (nat_abs y.count) r) (count_of-other ys x e other)
 
-count_of-last : (xs : List CountLine) (d x : CountLine) (e : ℕ) → ((k : ℕ) → k < length xs → int_eq (get_or xs k d).edge (pos e) ≡ false) → int_eq x.edge (pos e) ≡ true → count_of (xs ++ x ∷ []) e ≡ nat_abs x.count
+count_of-last : (xs : List CountLine) (d x : CountLine) (e : ℕ) → ((k : ℕ) → k < length xs → int_eq (get_or xs k d).edge (pos e) ≡ false) → int_eq x.edge (pos e) ≡ true →
+    count_of (xs ++ x ∷ []) e ≡ nat_abs x.count
 count_of-last [] d x e others here = rw here refl
 count_of-last (y ∷ ys) d x e others here =
     let first : int_eq y.edge (pos e) ≡ false = others 0 (omega arith) in
     rw first (count_of-last ys d x e (λ k below. others (suc k) (omega arith)) here)
 
 -- the edge of a line is that of no earlier line
-none_before : (xs : List CountLine) (d x : CountLine) (k e : ℕ) → AscendsBy (λ x. x.edge) xs → k < length xs → x ≡ get_or xs k d → x.edge ≡ pos e → (j : ℕ) → j < length (take k xs) → int_eq (get_or (take k xs) j d).edge (pos e) ≡ false
+none_before : (xs : List CountLine) (d x : CountLine) (k e : ℕ) → AscendsBy (λ x. x.edge) xs → k < length xs → x ≡ get_or xs k d → x.edge ≡ pos e → (j : ℕ) → j < length (take k xs) →
+    int_eq (get_or (take k xs) j d).edge (pos e) ≡ false
 none_before xs d x k e ascending below there edge j earlier =
     let size : length (take k xs) ≡ k = length-take-le k xs (omega arith) in
     let as_before : get_or (take k xs) j d ≡ get_or xs j d = get_or-take k xs j d (omega arith) in

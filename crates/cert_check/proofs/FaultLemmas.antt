@@ -25,7 +25,8 @@ first_formless d number z fault is =
       there = here;
       set = z;
       is = is;
-      lacks = λ (form : HasForm (numbers z.members)). fault.lacks (subst (λ (s : OddSet). HasForm s.members) (sym (get_or-map set_of d.sets (number - 1) z no_set here ∙ ap set_of (sym is))) form);
+      lacks = λ (form : HasForm (numbers z.members)). fault.lacks
+          (subst (λ (s : OddSet). HasForm s.members) (sym (get_or-map set_of d.sets (number - 1) z no_set here ∙ ap set_of (sym is))) form);
       line_is = refl;
       before = λ j other earlier other_is.
           (let below : j < length d.sets = omega arith in

@@ -31,35 +31,45 @@ agree-leaves i marks set ok are =
           (let below : k < length i.edges = omega arith in
           let ends = edge-ends i k ok below in
           let same : holds set (instance_edge_at i k).u ≡ holds set (instance_edge_at i k).v =
-          sym (mark-holds (vertices i) marks set (instance_edge_at i k).u are ends.u_low ends.u_high) ∙ at_ends k below ∙ mark-holds (vertices i) marks set (instance_edge_at i k).v are ends.v_low ends.v_high in
+          sym (mark-holds (vertices i) marks set (instance_edge_at i k).u are ends.u_low ends.u_high) ∙ at_ends k below
+          ∙ mark-holds (vertices i) marks set (instance_edge_at i k).v are ends.v_low ends.v_high in
           subst (λ (e : Edge). crosses set e ≡ false) (sym (edge_at-graph_of i k)) (stays (holds set (instance_edge_at i k).u) (holds set (instance_edge_at i k).v) same)))),
       (λ closed k below.
           (let b : k < length (graph_of i).edges = omega arith in
           let ends = edge-ends i k ok below in
-          let here : crosses set (plain (instance_edge_at i k)) ≡ false = subst (λ (e : Edge). crosses set e ≡ false) (edge_at-graph_of i k) (All-get_or (λ (e : Edge). crosses set e ≡ false) (graph_of i).edges k no_edge b closed) in
-          mark-holds (vertices i) marks set (instance_edge_at i k).u are ends.u_low ends.u_high ∙ same_side (holds set (instance_edge_at i k).u) (holds set (instance_edge_at i k).v) here ∙ sym (mark-holds (vertices i) marks set (instance_edge_at i k).v are ends.v_low ends.v_high))),
+          let here : crosses set (plain (instance_edge_at i k)) ≡ false =
+          subst (λ (e : Edge). crosses set e ≡ false) (edge_at-graph_of i k) (All-get_or (λ (e : Edge). crosses set e ≡ false) (graph_of i).edges k no_edge b closed) in
+          mark-holds (vertices i) marks set (instance_edge_at i k).u are ends.u_low ends.u_high ∙ same_side (holds set (instance_edge_at i k).u) (holds set (instance_edge_at i k).v) here
+          ∙ sym (mark-holds (vertices i) marks set (instance_edge_at i k).v are ends.v_low ends.v_high))),
     )
 
 -- an edge whose first end is marked as wanted
-pub marked-edge : (i : Network) (marks : List Bool) (set : List ℕ) (wanted : Bool) → IsNetwork i → AreMarks (vertices i) marks set → HasEdgeMarked i marks wanted ↔ ((k : ℕ) × (k < length (graph_of i).edges) × (holds set (edge_at (graph_of i) k).u ≡ wanted))
+pub marked-edge : (i : Network) (marks : List Bool) (set : List ℕ) (wanted : Bool) → IsNetwork i → AreMarks (vertices i) marks set →
+    HasEdgeMarked i marks wanted ↔ ((k : ℕ) × (k < length (graph_of i).edges) × (holds set (edge_at (graph_of i) k).u ≡ wanted))
 marked-edge i marks set wanted ok are =
     let size : length (graph_of i).edges ≡ length i.edges = edges-count i in (
       (λ h. (let below : h.0 < length i.edges = h.1 in
-          let ends = edge-ends i h.0 ok below in
-          (h.0, omega arith, ap (λ (e : Edge). holds set e.u) (edge_at-graph_of i h.0) ∙ sym (mark-holds (vertices i) marks set (instance_edge_at i h.0).u are ends.u_low ends.u_high) ∙ h.2))),
+          let ends = edge-ends i h.0 ok below in (
+            h.0,
+            omega arith,
+            ap (λ (e : Edge). holds set e.u) (edge_at-graph_of i h.0) ∙ sym (mark-holds (vertices i) marks set (instance_edge_at i h.0).u are ends.u_low ends.u_high)
+                ∙ h.2,
+          ))),
       (λ h. (let b : h.0 < length (graph_of i).edges = h.1 in
           let below : h.0 < length i.edges = omega arith in
           let ends = edge-ends i h.0 ok below in
           (h.0, below, mark-holds (vertices i) marks set (instance_edge_at i h.0).u are ends.u_low ends.u_high ∙ ap (λ (e : Edge). holds set e.u) (sym (edge_at-graph_of i h.0)) ∙ h.2))),
     )
 
-pub odd-by_marks : (i : Network) (marks : List Bool) (set : List ℕ) (b : Bool) → IsNetwork i → AreMarks (vertices i) marks set → IsVertexSet (vertices i) set → count_by (λ v. value_of i v % 2 == 1) set % 2 ≡ 1 → IsTrue b ↔ AgreeAtEnds i marks → IsTrue b ↔ IsOddPart (graph_of i) (λ v. value_of i v % 2 == 1) set
+pub odd-by_marks : (i : Network) (marks : List Bool) (set : List ℕ) (b : Bool) → IsNetwork i → AreMarks (vertices i) marks set → IsVertexSet (vertices i) set →
+    count_by (λ v. value_of i v % 2 == 1) set % 2 ≡ 1 → IsTrue b ↔ AgreeAtEnds i marks → IsTrue b ↔ IsOddPart (graph_of i) (λ v. value_of i v % 2 == 1) set
 odd-by_marks i marks set b ok are vertex_set odd test = (
   (λ t. record { vertices = vertex_set; closed = (agree-leaves i marks set ok are).0 (test.0 t); odd = odd }),
   (λ part. test.1 ((agree-leaves i marks set ok are).1 part.closed)),
 )
 
-pub split-by_marks : (i : Network) (marks : List Bool) (set : List ℕ) (b : Bool) → IsNetwork i → AreMarks (vertices i) marks set → IsVertexSet (vertices i) set → HasEdgeMarked i marks true → HasEdgeMarked i marks false → IsTrue b ↔ AgreeAtEnds i marks → IsTrue b ↔ IsSplitPart (graph_of i) set
+pub split-by_marks : (i : Network) (marks : List Bool) (set : List ℕ) (b : Bool) → IsNetwork i → AreMarks (vertices i) marks set → IsVertexSet (vertices i) set → HasEdgeMarked i marks true →
+    HasEdgeMarked i marks false → IsTrue b ↔ AgreeAtEnds i marks → IsTrue b ↔ IsSplitPart (graph_of i) set
 split-by_marks i marks set b ok are vertex_set inside outside test = (
   (λ t. record {
     vertices = vertex_set;

@@ -6,13 +6,17 @@ use Rattle.mb_problem.specs.Network.{Network}
 use Rattle.doc_format.specs.declared.document.Document.{Document}
 use Rattle.doc_format.specs.declared.status.DocStatus.TheVariants.{Optimal, Infeasible, NonConservative}
 use Rattle.cert_check.specs.declared.rule.DocRule.{DocRule}
-use Rattle.cert_check.specs.declared.rule.DocRule.TheVariants.{DocForm, KindDiffers, DocRange, NotFeasible, WeightDiffers, DualMissing, SetForm, Slack, ValueDiffers, NotBarrier, NotClosed, NotCircuit}
+use Rattle.cert_check.specs.declared.rule.DocRule.TheVariants.{DocForm, KindDiffers, DocRange, NotFeasible, WeightDiffers, DualMissing, SetForm, Slack, ValueDiffers}
+use Rattle.cert_check.specs.declared.rule.DocRule.TheVariants.{NotBarrier, NotClosed, NotCircuit}
 use Rattle.certificates.specs.Ranges.{first_out_of_range}
 use Rattle.certificates.specs.Certificates.{HaveForm, HasValue}
 use Rattle.cert_check.specs.Verdicts.{Keeps, KeepsBefore, rank}
 
 rule_at : ℕ → DocRule
-rule_at n = cond (n == 1) DocForm (cond (n == 2) KindDiffers (cond (n == 3) DocRange (cond (n == 4) NotFeasible (cond (n == 5) WeightDiffers (cond (n == 6) DualMissing (cond (n == 7) SetForm (cond (n == 8) Slack (cond (n == 9) ValueDiffers (cond (n == 10) NotBarrier (cond (n == 11) NotClosed NotCircuit))))))))))
+rule_at n = cond (n == 1) DocForm
+    (cond (n == 2) KindDiffers (cond (n == 3) DocRange
+    (cond (n == 4) NotFeasible (cond (n == 5) WeightDiffers
+    (cond (n == 6) DualMissing (cond (n == 7) SetForm (cond (n == 8) Slack (cond (n == 9) ValueDiffers (cond (n == 10) NotBarrier (cond (n == 11) NotClosed NotCircuit))))))))))
 
 rule_at-rank : (rule : DocRule) → rule_at (rank rule) ≡ rule
 unfolding rule_at
@@ -76,7 +80,8 @@ infeasible-before kind i d same in_range forms status NotClosed low = absurd (om
 infeasible-before kind i d same in_range forms status NotCircuit low = absurd (omega arith)
 
 -- a document of the kind in range that states that some circuit weighs less than 0: all rules before the circuit's are kept
-pub circuit-before : (kind : Kind) (i : Network) (d : Document) → d.kind ≡ kind → first_out_of_range kind i d ≡ None → HaveForm d → d.status ≡ NonConservative → KeepsBefore kind i d NotCircuit
+pub circuit-before : (kind : Kind) (i : Network) (d : Document) → d.kind ≡ kind → first_out_of_range kind i d ≡ None → HaveForm d → d.status ≡ NonConservative →
+    KeepsBefore kind i d NotCircuit
 circuit-before kind i d same in_range forms status DocForm low = tt
 circuit-before kind i d same in_range forms status KindDiffers low = same
 circuit-before kind i d same in_range forms status DocRange low = in_range

@@ -1,10 +1,10 @@
 -- A verdict accepts exactly what is proved.
-use Rattle.std.proofs.Common.{◌≡◌, ◌↔◌, ℕ, None, Some, Result, Ok, Err, IfOk, refl, sym, ◌∙◌, subst}
+use Rattle.std.proofs.Common.{◌≡◌, ◌↔◌, ℕ, None, Some, Result, Ok, Err, IfOk, length, refl, sym, ap, ◌∙◌, subst}
 use Rattle.std.proofs.lemmas.List.{length-map}
 use Rattle.std.proofs.lemmas.List.Elements.{All-get_or}
 use Rattle.graph_theory.specs.Duals.{HasForm, AreDuals}
 use Rattle.mb_problem.specs.declared.kind.Kind.{Kind}
-use Rattle.mb_problem.specs.Network.{Network}
+use Rattle.mb_problem.specs.Network.{Network, vertices}
 use Rattle.gadget_base.specs.Certified.{gadget_graph}
 use Rattle.doc_format.specs.declared.document.Document.{Document}
 use Rattle.doc_format.specs.declared.status.DocStatus.{DocStatus}
@@ -13,16 +13,27 @@ use Rattle.doc_format.specs.declared.part.DualLine.{DualLine}
 use Rattle.doc_format.specs.declared.part.SetLine.{SetLine}
 use Rattle.doc_format.specs.Form.{AscendsBy}
 use Rattle.cert_check.specs.declared.rule.DocRule.{DocRule}
-use Rattle.cert_check.specs.declared.rule.DocRule.TheVariants.{DocForm, KindDiffers, DocRange, NotFeasible, WeightDiffers, DualMissing, SetForm, Slack, ValueDiffers, NotBarrier, NotClosed, NotCircuit}
+use Rattle.cert_check.specs.declared.rule.DocRule.TheVariants.{DocForm, KindDiffers, DocRange, NotFeasible, WeightDiffers, DualMissing, SetForm, Slack, ValueDiffers}
+use Rattle.cert_check.specs.declared.rule.DocRule.TheVariants.{NotBarrier, NotClosed, NotCircuit}
 use Rattle.cert_check.specs.declared.rule.Verdict.{Verdict}
 use Rattle.cert_check.specs.declared.rule.Verdict.TheVariants.{Accepted, Rejected}
 use Rattle.certificates.specs.Claims.{numbers, duals_of, sets_of}
-use Rattle.certificates.specs.Ranges.{first_out_of_range}
+use Rattle.certificates.specs.Ranges.{first_outside, first_out_of_range}
 use Rattle.certificates.specs.Certificates.{HaveForm}
+use Rattle.cert_check.specs.declared.extent.Extent.{Extent}
+use Rattle.cert_check.specs.Extents.{IsExtent}
 use Rattle.cert_check.specs.Verdicts.{Keeps, Breaks, IsVerdict}
 use Rattle.certificates.specs.Proved.{IsProved, ProvesOptimal, ProvesByStatus}
 use Rattle.certificates.proofs.WithinLemmas.{are-within, sets-in}
 use Rattle.certificates.proofs.DualLemmas.{has_duals, duals_size, sets-within, forms-of_lines, lines-forms}
+
+-- the first line out of range, by the extent of the instance
+pub outside_is : (kind : Kind) (i : Network) (d : Document) (extent : Extent) → IsExtent kind i extent →
+    first_outside extent.vertices extent.edges extent.certified d ≡ first_out_of_range kind i d
+outside_is kind i d extent is =
+    ap (λ (n : ℕ). first_outside n extent.edges extent.certified d) is.vertices
+    ∙ ap (λ (m : ℕ). first_outside (vertices i) m extent.certified d) is.edges
+    ∙ ap (λ (p : ℕ). first_outside (vertices i) (length i.edges) p d) is.certified
 
 -- what the type of a document keeps, as far as it counts here
 pub record IsFormed (d : Document) : Type 0 where
@@ -80,7 +91,8 @@ not_both kind i d NotFeasible line breaks keeps = breaks.1 (keeps breaks.0)
 not_both kind i d WeightDiffers line breaks keeps = breaks.1 (keeps breaks.0)
 not_both kind i d DualMissing line breaks keeps = breaks.1 (keeps breaks.0)
 not_both kind i d SetForm line breaks keeps =
-    breaks.lacks (subst (λ (z : SetLine). HasForm (numbers z.members)) (sym breaks.is) (All-get_or (λ (z : SetLine). HasForm (numbers z.members)) d.sets breaks.at breaks.set breaks.there keeps))
+    breaks.lacks (subst (λ (z : SetLine). HasForm (numbers z.members)) (sym breaks.is)
+    (All-get_or (λ (z : SetLine). HasForm (numbers z.members)) d.sets breaks.at breaks.set breaks.there keeps))
 not_both kind i d Slack line breaks keeps = breaks.1 (keeps breaks.0)
 not_both kind i d ValueDiffers line breaks keeps = breaks.1 (keeps breaks.0)
 not_both kind i d NotBarrier line breaks keeps = breaks.1 (keeps breaks.0)

@@ -1,3 +1,4 @@
 pub mod Rules
 pub mod Verdicts
 pub mod Marked
+pub mod Extents

@@ -18,7 +18,8 @@ fn has_negative_circuit(
     instance: &Instance,
     document: &Document,
 ) -> Result<bool, OutOfMemory>
-    requires { IfSome document.now.walk (IsWalkWithin (vertices instance.now) (length instance.now.edges)) }
+    requires { IfSome document.now.walk
+        (IsWalkWithin (vertices instance.now) (length instance.now.edges)) }
     ensures { IfOk result (λ b. IsTrue b ↔ HasNegativeCircuit instance.now document.now) }
 {
     let walk = walk_of(alloc, instance, &document.walk)?;
@@ -42,7 +43,8 @@ pub fn judge_conservative(
     requires within { AreWithin kind instance.now document.now }
     requires before { KeepsBefore kind instance.now document.now DocRule.NotCircuit }
     ensures verdict { IfOk result (IsVerdict kind instance.now document.now) }
-    ensures sound { IfOk result (λ v. v ≡ Verdict.Accepted → StatesTruth kind instance.now document.now) }
+    ensures sound { IfOk result
+        (λ v. v ≡ Verdict.Accepted → StatesTruth kind instance.now document.now) }
 {
     if !has_negative_circuit(alloc, instance, document)? {
         let rule = DocRule::NotCircuit;

@@ -1,8 +1,10 @@
-ghost use Rattle.std.specs.Prelude.{◌≡◌, ℕ, ◌<◌, ◌≤◌, ◌^◌, ℤ, pos, ◌≤ℤ◌, ◌<ℤ◌, nat_abs, map, length, All, IfOk, IfSome};
+ghost use Rattle.std.specs.Prelude.{◌≡◌, ℕ, ◌<◌, ◌≤◌, ◌^◌, ℤ, pos, ◌≤ℤ◌, ◌<ℤ◌, nat_abs, map};
+ghost use Rattle.std.specs.Prelude.{length, All, IfOk, IfSome};
 ghost use Rattle.mb_problem.specs.Network.{Network, vertices};
 ghost use Rattle.doc_format.specs.Form.{AscendsBy};
 ghost use Rattle.certificates.specs.Claims.{numbers, counts_of, walk_of, answer_of, set_of};
-ghost use Rattle.certificates.specs.Within.{IsUpTo, IsCountWithin, IsWalkWithin, IsSetLineWithin, AreWithin};
+ghost use Rattle.certificates.specs.Within.{IsUpTo, IsCountWithin, IsWalkWithin, IsSetLineWithin};
+ghost use Rattle.certificates.specs.Within.{AreWithin};
 
 use doc_format::{CountLine, Document, DualLine, SetLine, WalkLine};
 use graph_theory::{GRAPH_VERTEX_LIMIT, OddSet};

@@ -1,8 +1,6 @@
 ghost use Rattle.std.specs.Prelude.{◌≡◌, ◌↔◌, IsTrue, IfOk};
-ghost use Rattle.mb_problem.specs.Ready.{HasNeededWeights};
-ghost use Rattle.mb_problem.specs.Size.{size_of};
-ghost use Rattle.graph_theory.specs.Limits.{IsWithinLimits};
 ghost use Rattle.certificates.specs.Within.{AreWithin};
+ghost use Rattle.cert_check.specs.Extents.{MayBeJudged};
 ghost use Rattle.cert_check.specs.Verdicts.{IsVerdict, KeepsBefore};
 ghost use Rattle.certificates.specs.Certificates.{HasBarrier, HasWantedBarrier};
 ghost use Rattle.certificates.specs.Excluded.{HasNoAnswer, IsExcludedByBarrier};
@@ -25,8 +23,7 @@ fn has_barrier(
     kind: Kind,
     document: &Document,
 ) -> Result<bool, OutOfMemory>
-    requires limits { IsWithinLimits (size_of kind instance.now) }
-    requires weights { HasNeededWeights kind instance.now }
+    requires judged { MayBeJudged kind instance.now }
     requires within { AreWithin kind instance.now document.now }
     ensures exact { IfOk result (λ b. IsTrue b ↔ HasBarrier kind instance.now document.now) }
     ensures none { IfOk result (λ b. IsTrue b → HasNoAnswer kind instance.now) }
@@ -46,8 +43,7 @@ fn has_wanted_barrier(
     kind: Kind,
     document: &Document,
 ) -> Result<bool, OutOfMemory>
-    requires limits { IsWithinLimits (size_of kind instance.now) }
-    requires weights { HasNeededWeights kind instance.now }
+    requires judged { MayBeJudged kind instance.now }
     requires within { AreWithin kind instance.now document.now }
     ensures exact { IfOk result (λ b. IsTrue b ↔ HasWantedBarrier kind instance.now document.now) }
     ensures none { IfOk result (λ b. IsTrue b → IsExcludedByBarrier kind instance.now) }
@@ -66,13 +62,13 @@ pub fn judge_infeasible(
     kind: Kind,
     document: &Document,
 ) -> Result<Verdict, OutOfMemory>
-    requires limits { IsWithinLimits (size_of kind instance.now) }
-    requires weights { HasNeededWeights kind instance.now }
+    requires judged { MayBeJudged kind instance.now }
     requires status { document.now.status ≡ DocStatus.Infeasible }
     requires within { AreWithin kind instance.now document.now }
     requires before { KeepsBefore kind instance.now document.now DocRule.NotBarrier }
     ensures verdict { IfOk result (IsVerdict kind instance.now document.now) }
-    ensures sound { IfOk result (λ v. v ≡ Verdict.Accepted → StatesTruth kind instance.now document.now) }
+    ensures sound { IfOk result
+        (λ v. v ≡ Verdict.Accepted → StatesTruth kind instance.now document.now) }
 {
     let line = document.line;
     if !has_wanted_barrier(alloc, instance, kind, document)? {

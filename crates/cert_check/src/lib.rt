@@ -1,10 +1,12 @@
-//! The judge of documents: whether one proves what it states of an instance.
-//! It stands on `certificates`, which says what proves what, and on `dual_check`. It promises that the verdict names
-//! the first rule that a document breaks, that an accepted one proves what it states, and that this is true.
+//! The judge of documents: whether one proves what it states of an instance. It stands on
+//! `certificates`, which says what proves what, and on `dual_check`. It promises that the verdict
+//! names the first rule that a document breaks, that an accepted one proves what it states, and
+//! that this is true.
 #![tactic(auto)]
 
 mod circuit;
 mod claims;
+mod extent;
 mod infeasible;
 mod judging;
 mod numbers;

@@ -1,33 +1,34 @@
 ghost use Rattle.std.specs.Prelude.{◌≡◌, ◌≢◌, ℕ, pos, ◌*ℤ◌, ◌≤ℤ◌, List, IfOk};
 ghost use Rattle.graph_theory.specs.Graph.{IsPerfect, weight};
 ghost use Rattle.graph_theory.specs.Duals.{dual_value};
-ghost use Rattle.mb_problem.specs.Ready.{HasNeededWeights};
-ghost use Rattle.mb_problem.specs.Size.{size_of};
-ghost use Rattle.graph_theory.specs.Limits.{IsWithinLimits};
 ghost use Rattle.gadget_base.specs.Certified.{gadget_graph, ReachesAll};
 ghost use Rattle.dual_check.specs.Fault.{IsFirstSetFault};
 ghost use Rattle.certificates.specs.Claims.{duals_of, sets_of};
 ghost use Rattle.certificates.specs.Within.{AreWithin};
+ghost use Rattle.cert_check.specs.Extents.{MayBeJudged, IsExtent};
 ghost use Rattle.cert_check.specs.Verdicts.{IsVerdict, KeepsBefore};
 ghost use Rattle.certificates.specs.Proved.{StatesTruth};
 
 use crate::claims::{answer_of, duals_of, sets_of};
+use crate::extent::Extent;
 use crate::rule::{DocRule, Verdict};
 use crate::set_form::first_formless;
-use certificates::{certified, certified_vertices, value_for};
+use certificates::{certified, value_for};
 use doc_format::{DocStatus, Document};
 use dual_check::{DualFault, bound};
 use mb_base::OutOfMemory;
 use mb_problem::{Instance, Kind, feasible, weight};
 use std::alloc::{AllocError, Global};
 
-/// The verdict on a document that states a best answer, whose duals are feasible and have this value.
+/// The verdict on a document that states a best answer, whose duals are feasible and have this
+/// value.
 fn judge_value(instance: &Instance, kind: Kind, document: &Document, value: i128) -> Verdict
     requires status { document.now.status ≡ DocStatus.Optimal }
     requires within { AreWithin kind instance.now document.now }
     requires value { value ≡ dual_value (duals_of document.now) (sets_of document.now) }
     requires before { KeepsBefore kind instance.now document.now DocRule.ValueDiffers }
-    requires below { (counts : List ℕ) → IsPerfect (gadget_graph kind instance.now) counts → value ≤ℤ (pos 2 *ℤ weight (gadget_graph kind instance.now) counts) }
+    requires below { (counts : List ℕ) → IsPerfect (gadget_graph kind instance.now) counts →
+        value ≤ℤ (pos 2 *ℤ weight (gadget_graph kind instance.now) counts) }
     requires reached { ReachesAll kind instance.now }
     ensures verdict { IsVerdict kind instance.now document.now result }
     ensures sound { result ≡ Verdict.Accepted → StatesTruth kind instance.now document.now }
@@ -60,17 +61,19 @@ fn judge_duals(
     instance: &Instance,
     kind: Kind,
     document: &Document,
+    extent: Extent,
 ) -> Result<Verdict, OutOfMemory>
-    requires limits { IsWithinLimits (size_of kind instance.now) }
-    requires weights { HasNeededWeights kind instance.now }
+    requires judged { MayBeJudged kind instance.now }
+    requires extent { IsExtent kind instance.now extent }
     requires status { document.now.status ≡ DocStatus.Optimal }
     requires within { AreWithin kind instance.now document.now }
     requires before { KeepsBefore kind instance.now document.now DocRule.DualMissing }
     ensures verdict { IfOk result (IsVerdict kind instance.now document.now) }
-    ensures sound { IfOk result (λ v. v ≡ Verdict.Accepted → StatesTruth kind instance.now document.now) }
+    ensures sound { IfOk result
+        (λ v. v ≡ Verdict.Accepted → StatesTruth kind instance.now document.now) }
 {
     let line = document.line;
-    if document.duals.len() != certified_vertices(instance, kind) as usize {
+    if document.duals.len() != extent.certified as usize {
         let rule = DocRule::DualMissing;
         return Ok(Verdict::Rejected { rule, line });
     }
@@ -99,14 +102,16 @@ pub fn judge_optimal(
     instance: &Instance,
     kind: Kind,
     document: &Document,
+    extent: Extent,
 ) -> Result<Verdict, OutOfMemory>
-    requires limits { IsWithinLimits (size_of kind instance.now) }
-    requires weights { HasNeededWeights kind instance.now }
+    requires judged { MayBeJudged kind instance.now }
+    requires extent { IsExtent kind instance.now extent }
     requires status { document.now.status ≡ DocStatus.Optimal }
     requires within { AreWithin kind instance.now document.now }
     requires before { KeepsBefore kind instance.now document.now DocRule.NotFeasible }
     ensures verdict { IfOk result (IsVerdict kind instance.now document.now) }
-    ensures sound { IfOk result (λ v. v ≡ Verdict.Accepted → StatesTruth kind instance.now document.now) }
+    ensures sound { IfOk result
+        (λ v. v ≡ Verdict.Accepted → StatesTruth kind instance.now document.now) }
 {
     let line = document.line;
     let answer = answer_of(alloc, instance, kind, document)?;
@@ -118,5 +123,5 @@ pub fn judge_optimal(
         let rule = DocRule::WeightDiffers;
         return Ok(Verdict::Rejected { rule, line });
     }
-    judge_duals(alloc, instance, kind, document)
+    judge_duals(alloc, instance, kind, document, extent)
 }

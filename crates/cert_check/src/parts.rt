@@ -1,4 +1,5 @@
-ghost use Rattle.std.specs.Prelude.{◌≡◌, ◌≤◌, ◌%◌, ◌==◌, ◌↔◌, length, All, IsTrue, IfOk, IfSome, count_by};
+ghost use Rattle.std.specs.Prelude.{◌≡◌, ◌≤◌, ◌%◌, ◌==◌, ◌↔◌, length, All, IsTrue, IfOk, IfSome};
+ghost use Rattle.std.specs.Prelude.{count_by};
 ghost use Rattle.graph_theory.specs.Parts.{IsVertexSet, IsOddPart, IsSplitPart};
 ghost use Rattle.mb_problem.specs.Network.{Network, IsNetwork, vertices, graph_of, value_of};
 ghost use Rattle.mb_problem.specs.Marks.{AreMarks};
@@ -62,7 +63,8 @@ fn has_edge(instance: &Instance, marks: &[bool], wanted: bool) -> bool
 /// Whether an odd number of these vertices have an odd value.
 fn holds_odd(instance: &Instance, members: &[VertexId]) -> bool
     requires { All (λ v. (1 ≤ v) × (v ≤ vertices instance.now)) members.now }
-    ensures { IsTrue result ↔ (count_by (λ v. value_of instance.now v % 2 == 1) members.now % 2 ≡ 1) }
+    ensures { IsTrue result
+        ↔ (count_by (λ v. value_of instance.now v % 2 == 1) members.now % 2 ≡ 1) }
 {
     let mut count = 0usize;
     for v in members {
@@ -80,7 +82,9 @@ fn is_odd_part(
     members: &[VertexId],
 ) -> Result<bool, OutOfMemory>
     requires { IsVertexSet (vertices instance.now) members.now }
-    ensures { IfOk result (λ b. IsTrue b ↔ IsOddPart (graph_of instance.now) (λ v. value_of instance.now v % 2 == 1) members.now) }
+    ensures { IfOk result
+        (λ b. IsTrue b ↔ IsOddPart (graph_of instance.now)
+        (λ v. value_of instance.now v % 2 == 1) members.now) }
 {
     let n = instance.vertices();
     if !holds_odd(instance, members) {
@@ -90,7 +94,8 @@ fn is_odd_part(
     Ok(leaves_none(instance, &marks))
 }
 
-/// Whether these vertices are a split part: no edge leaves them, some edge lies inside and some outside.
+/// Whether these vertices are a split part: no edge leaves them, some edge lies inside and some
+/// outside.
 fn is_split_part(
     alloc: Global,
     instance: &Instance,

@@ -15,7 +15,8 @@ pub enum DocRule {
     WeightDiffers,
     /// A vertex has no dual.
     DualMissing,
-    /// A set with a dual has fewer than three members, an even number, or members that don't ascend.
+    /// A set with a dual has fewer than three members, an even number, or members that don't
+    /// ascend.
     SetForm,
     /// An edge has a slack below 0.
     Slack,

@@ -45,7 +45,8 @@ at_most zs n ascending high (suc j) k place =
     omega (arith, ints)
 
 -- as many as n: each number is at its place
-pub at_place : (zs : List ℤ) (n : ℕ) → ascends zs ≡ true → ((k : ℕ) → k < length zs → pos 1 ≤ℤ get_or zs k (pos 0)) → ((k : ℕ) → k < length zs → get_or zs k (pos 0) ≤ℤ pos n) → length zs ≡ n → (k : ℕ) → k < n → get_or zs k (pos 0) ≡ pos (k + 1)
+pub at_place : (zs : List ℤ) (n : ℕ) → ascends zs ≡ true → ((k : ℕ) → k < length zs → pos 1 ≤ℤ get_or zs k (pos 0)) → ((k : ℕ) → k < length zs → get_or zs k (pos 0) ≤ℤ pos n) →
+    length zs ≡ n → (k : ℕ) → k < n → get_or zs k (pos 0) ≡ pos (k + 1)
 at_place zs n ascending low high size k below =
     let from : pos (k + 1) ≤ℤ get_or zs k (pos 0) = at_least zs ascending low k (omega arith) in
     let to : (get_or zs k (pos 0) +ℤ pos (n - suc k)) ≤ℤ pos n = at_most zs n ascending high (n - suc k) k (omega arith) in
@@ -60,7 +61,8 @@ few (z ∷ zs) n ascending low high =
     omega (arith, ints)
 
 -- where all numbers from 1 to v are there, v is at most the place of v, from 1
-far : (zs : List ℤ) (n : ℕ) → ascends zs ≡ true → ((v : ℕ) → 1 ≤ v → v ≤ n → (k : ℕ) × (k < length zs) × (get_or zs k (pos 0) ≡ pos v)) → (v k : ℕ) → v ≤ n → k < length zs → get_or zs k (pos 0) ≡ pos v → v ≤ k + 1
+far : (zs : List ℤ) (n : ℕ) → ascends zs ≡ true → ((v : ℕ) → 1 ≤ v → v ≤ n → (k : ℕ) × (k < length zs) × (get_or zs k (pos 0) ≡ pos v)) → (v k : ℕ) → v ≤ n → k < length zs →
+    get_or zs k (pos 0) ≡ pos v → v ≤ k + 1
 far zs n ascending there zero k high below is = omega arith
 far zs n ascending there (suc zero) k high below is = omega arith
 far zs n ascending there (suc (suc v)) k high below is =
@@ -72,12 +74,14 @@ far zs n ascending there (suc (suc v)) k high below is =
       | yes h ↦ omega arith
       | no h ↦ elim (dec_lt k other.0) [
         | yes g ↦ (let more : get_or zs k (pos 0) <ℤ get_or zs other.0 (pos 0) = ascends-below zs ascending k other.0 g one in absurd (omega (arith, ints)))
-        | no g ↦ (let same : k ≡ other.0 = omega arith in let equal : get_or zs k (pos 0) ≡ get_or zs other.0 (pos 0) = ap (λ (p : ℕ). get_or zs p (pos 0)) same in absurd (omega (arith, ints)))
+        | no g ↦ (let same : k ≡ other.0 = omega arith in let equal : get_or zs k (pos 0) ≡ get_or zs other.0 (pos 0) =
+            ap (λ (p : ℕ). get_or zs p (pos 0)) same in absurd (omega (arith, ints)))
       ]
     ]
 
 -- all numbers from 1 to n, ascending: there are n
-pub as_many : (zs : List ℤ) (n : ℕ) → ascends zs ≡ true → ((k : ℕ) → k < length zs → pos 1 ≤ℤ get_or zs k (pos 0)) → ((k : ℕ) → k < length zs → get_or zs k (pos 0) ≤ℤ pos n) → ((v : ℕ) → 1 ≤ v → v ≤ n → (k : ℕ) × (k < length zs) × (get_or zs k (pos 0) ≡ pos v)) → length zs ≡ n
+pub as_many : (zs : List ℤ) (n : ℕ) → ascends zs ≡ true → ((k : ℕ) → k < length zs → pos 1 ≤ℤ get_or zs k (pos 0)) → ((k : ℕ) → k < length zs → get_or zs k (pos 0) ≤ℤ pos n) →
+    ((v : ℕ) → 1 ≤ v → v ≤ n → (k : ℕ) × (k < length zs) × (get_or zs k (pos 0) ≡ pos v)) → length zs ≡ n
 as_many zs zero ascending low high there =
     let most : length zs ≤ 0 = few zs 0 ascending low high in
     omega arith

@@ -1,10 +1,12 @@
 -- Barriers of documents, and what stands in documents that state no answer.
-use Rattle.std.proofs.Common.{◌≡◌, ℕ, ◌+◌, ◌<◌, ◌≤◌, ℤ, pos, ◌<ℤ◌, ◌≤ℤ◌, true, false, List, [], length, map, All, get_or, nat_abs, refl, sym, subst, arith}
+use Rattle.std.proofs.Common.{◌≡◌, ℕ, suc, ◌+◌, ◌<◌, ◌≤◌, ℤ, pos, ◌<ℤ◌, ◌≤ℤ◌, true, false, List, [], ◌∷◌, length, map, All, get_or, nat_abs, refl, sym, subst, arith}
+use Rattle.std.specs.Prelude.{int_lt}
 use Rattle.std.specs.List.{list_all}
 use Rattle.std.specs.List.Sorted.{IsStrictlyIncreasing}
+use Rattle.std.proofs.lemmas.Bool.{and_from}
 use Rattle.std.proofs.lemmas.Int.{ints}
 use Rattle.std.proofs.lemmas.List.{get_or-map, length-map}
-use Rattle.std.proofs.lemmas.List.Elements.{All-nil, All-get_or, All-weaker}
+use Rattle.std.proofs.lemmas.List.Elements.{All-nil, All-head, All-tail, All-get_or, All-weaker}
 use Rattle.graph_theory.specs.Duals.{HasForm}
 use Rattle.graph_theory.specs.Parts.{IsVertexSet}
 use Rattle.mb_problem.specs.declared.kind.Kind.{Kind}
@@ -19,7 +21,7 @@ use Rattle.certificates.specs.Within.{IsUpTo, IsSetLineWithin}
 use Rattle.certificates.proofs.AscentLemmas.{ascends-below}
 use Rattle.certificates.proofs.DualLemmas.{members-within}
 
-numbers-ascend : (n : ℕ) (zs : List ℤ) → ascends zs ≡ true → All (IsUpTo n) zs → IsStrictlyIncreasing (numbers zs)
+pub numbers-ascend : (n : ℕ) (zs : List ℤ) → ascends zs ≡ true → All (IsUpTo n) zs → IsStrictlyIncreasing (numbers zs)
 numbers-ascend n zs ascending within k below =
     let long : length (map nat_abs zs) ≡ length zs = length-map zs nat_abs in
     let here : k < length zs = omega arith in
@@ -29,6 +31,23 @@ numbers-ascend n zs ascending within k below =
     let low : pos 1 ≤ℤ get_or zs k (pos 0) = (All-get_or (IsUpTo n) zs k (pos 0) here within).low in
     let order : get_or zs k (pos 0) <ℤ get_or zs (k + 1) (pos 0) = ascends-below zs ascending k (k + 1) (omega arith) next in
     omega (arith, ints)
+
+int_lt-yes : (y z : ℤ) → y <ℤ z → int_lt y z ≡ true
+int_lt-yes y z h = grind (arith, ints)
+
+-- and only such numbers do
+pub ascends-from : (n : ℕ) (zs : List ℤ) → All (IsUpTo n) zs → IsStrictlyIncreasing (numbers zs) → ascends zs ≡ true
+ascends-from n [] within up = refl
+ascends-from n (z ∷ []) within up = refl
+ascends-from n (y ∷ z ∷ zs) within up =
+    let rest : All (IsUpTo n) (z ∷ zs) = All-tail (IsUpTo n) y (z ∷ zs) within in
+    let low : pos 1 ≤ℤ y = (All-head (IsUpTo n) y (z ∷ zs) within).low in
+    let next : pos 1 ≤ℤ z = (All-head (IsUpTo n) z zs rest).low in
+    let step : nat_abs y < nat_abs z = up 0 (omega arith) in
+    let above : y <ℤ z = omega (arith, ints) in
+    and_from (int_lt y z) (ascends (z ∷ zs)) (int_lt-yes y z above) (ascends-from n (z ∷ zs) rest (λ k below.
+    (let next_place : suc k + 1 ≡ suc (k + 1) = omega arith in
+    subst (λ (j : ℕ). get_or (numbers (z ∷ zs)) k 0 < get_or (numbers (y ∷ z ∷ zs)) j 0) next_place (up (suc k) (omega arith)))))
 
 -- ascending numbers from 1 to n are a set of vertices
 pub vertex_set : (n : ℕ) (zs : List ℤ) → ascends zs ≡ true → All (IsUpTo n) zs → IsVertexSet n (numbers zs)
@@ -40,7 +59,8 @@ no_set Infeasible kind z h = refl
 no_set NonConservative kind z h = refl
 
 -- a document that states no answer has no set without form, as it has none
-pub forms-where_none : (status : DocStatus) (kind : Kind) (b : Body) → list_all (admits status kind) (parts_of b) ≡ true → (status ≡ Optimal → ⊥) → All (λ z. HasForm (numbers z.members)) b.sets
+pub forms-where_none : (status : DocStatus) (kind : Kind) (b : Body) → list_all (admits status kind) (parts_of b) ≡ true → (status ≡ Optimal → ⊥) →
+    All (λ z. HasForm (numbers z.members)) b.sets
 forms-where_none status kind b letters other =
     let p = admits status kind in
     let none : b.sets ≡ [] = no_items p Set b.sets (λ z. no_set status kind z other) (part_by_part p b letters).sets in
@@ -48,7 +68,8 @@ forms-where_none status kind b letters other =
 
 -- numbers up to n are numbers up to a greater one
 pub up_to-more : (n m : ℕ) (zs : List ℤ) → n ≤ m → All (IsUpTo n) zs → All (IsUpTo m) zs
-up_to-more n m zs more within = All-weaker (IsUpTo n) (IsUpTo m) (λ z h. (let low : pos 1 ≤ℤ z = h.low in let high : z ≤ℤ pos n = h.high in record { low = low; high = omega (arith, ints) })) zs within
+up_to-more n m zs more within = All-weaker (IsUpTo n) (IsUpTo m)
+    (λ z h. (let low : pos 1 ≤ℤ z = h.low in let high : z ≤ℤ pos n = h.high in record { low = low; high = omega (arith, ints) })) zs within
 
 -- and so are those of sets
 pub set_lines-more : (n m : ℕ) (zs : List SetLine) → n ≤ m → All (IsSetLineWithin n) zs → All (IsSetLineWithin m) zs

@@ -14,11 +14,13 @@ use Rattle.certificates.specs.Claims.{numbers}
 use Rattle.certificates.specs.Certificates.{HasPartFor, HasWantedPart}
 use Rattle.certificates.specs.Excluded.{HasNoAnswer, IsExcludedFor, IsExcludedByBarrier}
 
-by_odd : (kind : Kind) (i : Network) (line : Option MemberLine) → exclusion_of kind ≡ OddPart → IsNetwork i → MatchOption line ⊥ (λ t. IsOddPart (graph_of i) (has_odd_value i) (numbers t.members)) → HasNoAnswer kind i
+by_odd : (kind : Kind) (i : Network) (line : Option MemberLine) → exclusion_of kind ≡ OddPart → IsNetwork i →
+    MatchOption line ⊥ (λ t. IsOddPart (graph_of i) (has_odd_value i) (numbers t.members)) → HasNoAnswer kind i
 by_odd kind i None is ok part answer feasible = part
 by_odd kind i (Some t) is ok part answer feasible = odd-excludes kind i (numbers t.members) answer is ok part feasible
 
-by_split : (kind : Kind) (i : Network) (line : Option MemberLine) → exclusion_of kind ≡ SplitPart → MatchOption line ⊥ (λ q. IsSplitPart (graph_of i) (numbers q.members)) → HasNoAnswer kind i
+by_split : (kind : Kind) (i : Network) (line : Option MemberLine) → exclusion_of kind ≡ SplitPart → MatchOption line ⊥ (λ q. IsSplitPart (graph_of i) (numbers q.members)) →
+    HasNoAnswer kind i
 by_split kind i None is part answer feasible = part
 by_split kind i (Some q) is part answer feasible = split-excludes kind i (numbers q.members) answer is part feasible
 

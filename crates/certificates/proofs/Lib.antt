@@ -7,3 +7,4 @@ pub mod GadgetLemmas
 pub mod KindLemmas
 pub mod TruthLemmas
 pub mod ProvedTruth
+pub mod SameClaims

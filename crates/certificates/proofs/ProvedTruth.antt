@@ -28,14 +28,16 @@ none_perfect : (g : Multigraph) (line : Option MemberLine) → IsGraph g → Mat
 none_perfect g None ok barrier counts perfect = barrier
 none_perfect g (Some u) ok barrier counts perfect = barrier_excludes g (numbers u.members) counts ok barrier perfect
 
-by_barrier : (exclusion : Exclusion) (kind : Kind) (i : Network) (d : Document) → IsGraph (gadget_graph kind i) → ReachesAll kind i → HasBarrierFor exclusion kind i d → IsExcludedFor exclusion kind i
+by_barrier : (exclusion : Exclusion) (kind : Kind) (i : Network) (d : Document) → IsGraph (gadget_graph kind i) → ReachesAll kind i → HasBarrierFor exclusion kind i d →
+    IsExcludedFor exclusion kind i
 by_barrier Barrier kind i d graph reached barrier = no_answer kind i reached (none_perfect (gadget_graph kind i) d.barrier graph barrier)
 by_barrier OddPart kind i d graph reached barrier = tt
 by_barrier SplitPart kind i d graph reached barrier = tt
 by_barrier Never kind i d graph reached barrier = barrier
 
 -- by the status that the document has
-pub truth_of : (status : DocStatus) (kind : Kind) (i : Network) (d : Document) → IsNetwork i → IsGraph (gadget_graph kind i) → ReachesAll kind i → ProvesByStatus status kind i d → StatesTruthBy status kind i d
+pub truth_of : (status : DocStatus) (kind : Kind) (i : Network) (d : Document) → IsNetwork i → IsGraph (gadget_graph kind i) → ReachesAll kind i → ProvesByStatus status kind i d →
+    StatesTruthBy status kind i d
 truth_of Optimal kind i d ok graph reached p =
     best-by_value kind i d (dual_value (duals_of d) (sets_of d)) p.feasible p.weighs p.value
     (λ counts perfect. weak_duality (gadget_graph kind i) (duals_of d) (sets_of d) counts graph p.duals perfect)

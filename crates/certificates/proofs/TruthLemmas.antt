@@ -18,7 +18,8 @@ use Rattle.certificates.specs.Excluded.{HasNoAnswer}
 use Rattle.certificates.specs.Proved.{StatesTruthBy}
 
 -- no perfect matching of the graph weighs less than half the value, and each answer has one: so the stated answer is best
-pub best-by_value : (kind : Kind) (i : Network) (d : Document) (value : ℤ) → HasFeasibleAnswer kind i d → HasStatedWeight kind i d → value ≡ value_for kind i d.weight → ((counts : List ℕ) → IsPerfect (gadget_graph kind i) counts → value ≤ℤ (pos 2 *ℤ weight (gadget_graph kind i) counts)) → ReachesAll kind i → StatesTruthBy Optimal kind i d
+pub best-by_value : (kind : Kind) (i : Network) (d : Document) (value : ℤ) → HasFeasibleAnswer kind i d → HasStatedWeight kind i d → value ≡ value_for kind i d.weight →
+    ((counts : List ℕ) → IsPerfect (gadget_graph kind i) counts → value ≤ℤ (pos 2 *ℤ weight (gadget_graph kind i) counts)) → ReachesAll kind i → StatesTruthBy Optimal kind i d
 best-by_value kind i d value feasible weighs is below reached = (
   record {
     feasible = feasible;
@@ -37,7 +38,8 @@ pub no_answer : (kind : Kind) (i : Network) → ReachesAll kind i → ((counts :
 no_answer kind i reached none answer feasible = (let r : IsReached kind i answer = reached answer feasible in none r.counts r.perfect)
 
 -- a circuit that weighs less than 0 makes weights that aren't conservative
-negative : (i : Network) (line : Option WalkLine) → MatchOption line ⊥ (λ w. IsCircuit (graph_of i) (nat_abs w.start) (numbers w.edges) × (walk_weight (graph_of i) (numbers w.edges) <ℤ pos 0)) → IsConservative (graph_of i) → ⊥
+negative : (i : Network) (line : Option WalkLine) →
+    MatchOption line ⊥ (λ w. IsCircuit (graph_of i) (nat_abs w.start) (numbers w.edges) × (walk_weight (graph_of i) (numbers w.edges) <ℤ pos 0)) → IsConservative (graph_of i) → ⊥
 negative i None circuit conservative = circuit
 negative i (Some w) circuit conservative =
     let low : pos 0 ≤ℤ walk_weight (graph_of i) (numbers w.edges) = conservative (nat_abs w.start) (numbers w.edges) circuit.0 in

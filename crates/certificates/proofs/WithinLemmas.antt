@@ -1,5 +1,6 @@
 -- Where no line is at fault every number is in its range.
-use Rattle.std.proofs.Common.{◌≡◌, ℕ, ℤ, pos, neg_ℤ, nat_abs, ◌≤ℤ◌, Bool, true, false, not, cond, ◌&&◌, List, [], ◌∷◌, length, map, All, Option, None, Some, IfSome, MatchOption, refl, sym, ◌∙◌, arith}
+use Rattle.std.proofs.Common.{◌≡◌, ℕ, ℤ, pos, neg_ℤ, nat_abs, ◌≤ℤ◌, Bool, true, false, not, cond, List, [], ◌∷◌, length, map, All, Option, None, Some, IfSome}
+use Rattle.std.proofs.Common.{MatchOption, refl, sym, arith}
 use Rattle.std.specs.Prelude.{int_le, ⊤}
 use Rattle.std.specs.Option.{option_map}
 use Rattle.std.specs.List.{list_all, find}
@@ -17,7 +18,6 @@ use Rattle.doc_format.specs.declared.part.CountLine.{CountLine}
 use Rattle.doc_format.specs.declared.part.WalkLine.{WalkLine}
 use Rattle.doc_format.specs.declared.part.DualLine.{DualLine}
 use Rattle.doc_format.specs.declared.part.SetLine.{SetLine}
-use Rattle.doc_format.specs.declared.part.MemberLine.{MemberLine}
 use Rattle.doc_format.specs.declared.part.Part.{Part}
 use Rattle.doc_format.specs.declared.part.Part.TheVariants.{Count, Walk, Dual, Set, Barrier, Odd, Split}
 use Rattle.doc_format.specs.Parts.{at_most_one, parts_of}
@@ -26,7 +26,8 @@ use Rattle.doc_format.proofs.PartLaws.{AllParts, part_by_part}
 use Rattle.certificates.specs.Ranges.{Checked, first_fault, first_out_of_range, is_between, is_up_to, is_dual, is_set_dual, in_range, in_range_for, checked}
 use Rattle.certificates.specs.Within.{IsUpTo, IsSetDual, IsCountWithin, IsWalkWithin, IsDualWithin, IsSetLineWithin, AreWithin}
 
-pub one_in_range : (b : Bool) (c : Checked) (rest : Option Checked) → option_map (λ (l : Checked). l.line) (cond (not b) (Some c) rest) ≡ None → (b ≡ true) × (option_map (λ (l : Checked). l.line) rest ≡ None)
+pub one_in_range : (b : Bool) (c : Checked) (rest : Option Checked) → option_map (λ (l : Checked). l.line) (cond (not b) (Some c) rest) ≡ None →
+    (b ≡ true) × (option_map (λ (l : Checked). l.line) rest ≡ None)
 one_in_range true c rest h = (refl, h)
 one_in_range false c rest h = (absurd (cc), absurd (cc))
 

@@ -9,7 +9,7 @@ use Rattle.doc_format.specs.declared.status.DocStatus.{DocStatus}
 use Rattle.doc_format.specs.declared.part.Part.{Part}
 use Rattle.doc_format.specs.Parts.{on_line}
 use Rattle.doc_format.specs.Form.{ascends, may_follow, in_order, takes, admits, is_formed}
-use Rattle.doc_format.proofs.PartLaws.{letter-line, key-line, form-line}
+use Rattle.doc_format.proofs.PartLaws.{line_laws}
 use Rattle.doc_format.proofs.PartsBack.{on_lines}
 
 pub all_joined : {A : Type 0} (p : A → Bool) (xs ys : List A) → list_all p xs ≡ true → list_all p ys ≡ true → list_all p (xs ++ ys) ≡ true
@@ -40,17 +40,19 @@ in_order_at [] k none h lt = absurd (omega arith)
 in_order_at (p ∷ ps) zero none h lt = refl
 in_order_at (p ∷ ps) (suc k) none h lt =
     let b = and_parts (list_all (may_follow p) ps) (in_order ps) h in
-    and_from (may_follow p (get_or ps k none)) (list_all (λ earlier. may_follow earlier (get_or ps k none)) (take k ps)) (passes (may_follow p) ps k none b.0 (omega arith)) (in_order_at ps k none b.1 (omega arith))
+    and_from (may_follow p (get_or ps k none)) (list_all (λ earlier. may_follow earlier (get_or ps k none)) (take k ps)) (passes (may_follow p) ps k none b.0 (omega arith))
+    (in_order_at ps k none b.1 (omega arith))
 
 -- ---- the line of a part doesn't matter
 
 pub admits-line : (status : DocStatus) (kind : Kind) (n : ℕ) (part : Part) → admits status kind (on_line n part) ≡ admits status kind part
-admits-line status kind n part = ap (takes status kind) (letter-line n part)
+admits-line status kind n part = ap (takes status kind) (line_laws n part).same_letter
 
 may_follow-line : (n m : ℕ) (p q : Part) → may_follow (on_line n p) (on_line m q) ≡ may_follow p q
-may_follow-line n m p q = rw (letter-line n p, letter-line m q, key-line n p, key-line m q) refl
+may_follow-line n m p q = rw ((line_laws n p).same_letter, (line_laws m q).same_letter, (line_laws n p).same_key, (line_laws m q).same_key) refl
 
-pub follow-lines : (n m : ℕ) (parts : List Part) (part : Part) → list_all (λ earlier. may_follow earlier (on_line m part)) (on_lines n parts) ≡ list_all (λ earlier. may_follow earlier part) parts
+pub follow-lines : (n m : ℕ) (parts : List Part) (part : Part) →
+    list_all (λ earlier. may_follow earlier (on_line m part)) (on_lines n parts) ≡ list_all (λ earlier. may_follow earlier part) parts
 follow-lines n m [] part = refl
 follow-lines n m (p ∷ ps) part = rw (may_follow-line n m p part, follow-lines (n + 1) m ps part) refl
 
@@ -68,4 +70,4 @@ order-lines n (part ∷ parts) = rw (follows-lines n (n + 1) part parts, order-l
 
 pub formed-lines : (n : ℕ) (parts : List Part) → list_all is_formed (on_lines n parts) ≡ list_all is_formed parts
 formed-lines n [] = refl
-formed-lines n (part ∷ parts) = rw (form-line n part, formed-lines (n + 1) parts) refl
+formed-lines n (part ∷ parts) = rw ((line_laws n part).same_form, formed-lines (n + 1) parts) refl

@@ -1,3 +1,5 @@
+pub mod Fields
+pub mod SoFar
 pub mod PartLaws
 pub mod OnePartMore
 pub mod Following

@@ -1,5 +1,6 @@
 -- One line of a text more.
-use Rattle.std.proofs.Common.{◌≡◌, ℕ, zero, suc, ◌+◌, ◌<◌, ◌≤◌, not, Bool, true, false, cond, List, [], ◌∷◌, ◌++◌, length, take, get_or, map, Option, None, Some, refl, sym, ap, subst, ◌∙◌, arith, inl, inr}
+use Rattle.std.proofs.Common.{◌≡◌, ℕ, zero, suc, ◌+◌, ◌<◌, ◌≤◌, not, Bool, true, false, cond, List, [], ◌∷◌, ◌++◌, length, take, get_or, map, Option, None, Some, refl, sym}
+use Rattle.std.proofs.Common.{ap, subst, ◌∙◌, arith, inl, inr}
 use Rattle.std.specs.Prelude.{codes, bytes_eq, Err}
 use Rattle.std.specs.List.{list_all}
 use Rattle.std.proofs.lemmas.Bool.{and_parts, eqb-true}
@@ -20,7 +21,8 @@ use Rattle.doc_format.specs.Parts.{part_in}
 use Rattle.doc_format.specs.Reading.{head_from, onto, parts_from, may_stand, stands, refuses, is_refused_at, NoneRefusedBelow, body_of, head_of, HoldsDocument, ReadsRows}
 use Rattle.doc_format.specs.declared.error.DocError.{DocError}
 use Rattle.doc_format.specs.declared.error.DocError.TheVariants.{DocForm, OutOfMemory}
-use Rattle.doc_format.specs.Steps.{with_part, taken, Takes, Skips, IsOpening, IsFault, IsRead}
+use Rattle.doc_format.specs.Steps.{with_part, taken, Takes, Skips, IsOpening, IsFault}
+use Rattle.doc_format.proofs.SoFar.{IsRead}
 
 -- ---- a row more
 
@@ -112,7 +114,8 @@ no_line n rs number s =
     (s.count, s.number_is, record { least = skipped_below n rs s.count s.skipped s.within; fault = inr (e, sym (ap (list_all is_skipped) all) ∙ s.skipped) })
 
 -- whether line k is refused, by what its look-backs give
-pub refusal : (n : ℕ) (rs : List Row) (k number : ℕ) (row : Row) (head : Option Head) (parts : List Part) → k ≤ length rs → number ≡ n + k → get_or rs k [] ≡ row → head_from n (take k rs) ≡ head → parts_from n (take k rs) ≡ parts → is_refused_at n rs k ≡ cond (is_skipped row) false (refuses head parts number row)
+pub refusal : (n : ℕ) (rs : List Row) (k number : ℕ) (row : Row) (head : Option Head) (parts : List Part) → k ≤ length rs → number ≡ n + k → get_or rs k [] ≡ row →
+    head_from n (take k rs) ≡ head → parts_from n (take k rs) ≡ parts → is_refused_at n rs k ≡ cond (is_skipped row) false (refuses head parts number row)
 refusal n rs k number row head parts le e r h p =
     let f : n + length (take k rs) ≡ number = omega (arith, length-take-le k rs le) in
     rw (r, h, p, f) refl
@@ -137,7 +140,8 @@ opened n rs left head d o hd ps =
       left_is = m.2;
       none_refused = below_more (λ j. is_refused_at n rs j ≡ false) s.count (skipped_below n rs s.count s.skipped s.within) (r ∙ rw (o.there, o.says) refl);
       head = ap (head_from n) t ∙ head_from-here n head.line (take s.count rs) o.row s.skipped o.there len ∙ o.says ∙ ap (λ (x : Head). Some x) (sym hd);
-      parts = ps ∙ sym (ap (parts_from n) t ∙ parts_from-push n head.line (take s.count rs) o.row len ∙ rw (parts_from-skipped n (take s.count rs) s.skipped, head_no_part head.line head.line o.row head o.says) refl);
+      parts = ps ∙ sym (ap (parts_from n) t ∙ parts_from-push n head.line (take s.count rs) o.row len
+          ∙ rw (parts_from-skipped n (take s.count rs) s.skipped, head_no_part head.line head.line o.row head o.says) refl);
     }
 
 -- ---- the other lines
@@ -158,10 +162,12 @@ stands-refused head parts (Some part) h = tested (may_stand head parts part) h
     tested true h = absurd cc
     tested false h = refl
 
-taken-is : (head : Head) (parts : List Part) (number : ℕ) (row : Row) (after : List Part) → taken head parts number row ≡ Some after → (cond (is_skipped row) false (refuses (Some head) parts number row) ≡ false) × (after ≡ parts ++ onto (part_at number row) [])
+taken-is : (head : Head) (parts : List Part) (number : ℕ) (row : Row) (after : List Part) → taken head parts number row ≡ Some after →
+    (cond (is_skipped row) false (refuses (Some head) parts number row) ≡ false) × (after ≡ parts ++ onto (part_at number row) [])
 taken-is head parts number row after h = tested (is_skipped row) refl h
   where
-    tested : (b : Bool) → is_skipped row ≡ b → cond b (Some parts) (with_part head parts (part_at number row)) ≡ Some after → (cond b false (not (stands head parts (part_at number row))) ≡ false) × (after ≡ parts ++ onto (part_at number row) [])
+    tested : (b : Bool) → is_skipped row ≡ b → cond b (Some parts) (with_part head parts (part_at number row)) ≡ Some after →
+        (cond b false (not (stands head parts (part_at number row))) ≡ false) × (after ≡ parts ++ onto (part_at number row) [])
     tested true e h = let n = skipped_no_part number row e in (refl, rw n (sym (same_Some parts after h) ∙ sym (append-nil parts)))
     tested false e h = let s = stands-taken head parts (part_at number row) after h in (ap not s.0, s.1)
 
@@ -172,7 +178,8 @@ taken-none head parts number row h = tested (is_skipped row) h
     tested true h = absurd cc
     tested false h = ap not (stands-refused head parts (part_at number row) h)
 
-pub read_more : (n : ℕ) (rs : List Row) (number : ℕ) (row : Row) (left : List Row) (d e : Document) → IsRead n rs number (row ∷ left) d → head_of e ≡ head_of d → taken (head_of d) (parts_of (body_of d)) number row ≡ Some (parts_of (body_of e)) → IsRead n rs (number + 1) left e
+pub read_more : (n : ℕ) (rs : List Row) (number : ℕ) (row : Row) (left : List Row) (d e : Document) → IsRead n rs number (row ∷ left) d → head_of e ≡ head_of d →
+    taken (head_of d) (parts_of (body_of d)) number row ≡ Some (parts_of (body_of e)) → IsRead n rs (number + 1) left e
 read_more n rs number row left d e s hd h =
     let m = next_row rs s.count row left s.left_is in
     let t : take (s.count + 1) rs ≡ take s.count rs ++ row ∷ [] = take_more rs s.count [] m.0 ∙ ap (λ (r : Row). take s.count rs ++ r ∷ []) m.1 in
@@ -189,7 +196,8 @@ read_more n rs number row left d e s hd h =
       parts = k.1 ∙ ap (λ (ps : List Part). ps ++ onto (part_at number row) []) s.parts ∙ sym (ap (parts_from n) t ∙ parts_from-push n number (take s.count rs) row len);
     }
 
-pub read_refused : (n : ℕ) (rs : List Row) (number : ℕ) (row : Row) (left : List Row) (d : Document) → IsRead n rs number (row ∷ left) d → taken (head_of d) (parts_of (body_of d)) number row ≡ None → IsFault n rs number
+pub read_refused : (n : ℕ) (rs : List Row) (number : ℕ) (row : Row) (left : List Row) (d : Document) → IsRead n rs number (row ∷ left) d →
+    taken (head_of d) (parts_of (body_of d)) number row ≡ None → IsFault n rs number
 read_refused n rs number row left d s h =
     let m = next_row rs s.count row left s.left_is in
     let r = refusal n rs s.count number row (Some (head_of d)) (parts_of (body_of d)) s.within s.number_is m.1 s.head (sym s.parts) in
@@ -211,6 +219,7 @@ skips_at n rs number left after e s = subst (Skips n rs number) e s
 pub read_at : (n : ℕ) (rs : List Row) (number : ℕ) (left after : List Row) (d : Document) → left ≡ after → IsRead n rs number left d → IsRead n rs number after d
 read_at n rs number left after d e s = subst (λ (l : List Row). IsRead n rs number l d) e s
 
-pub refused_by : (n : ℕ) (rs : List Row) (number : ℕ) (row : Row) (left : List Row) (old new : Document) (error : DocError) → IsRead n rs number (row ∷ left) old → Takes old new number row (Err error) → ReadsRows n rs (Err error)
+pub refused_by : (n : ℕ) (rs : List Row) (number : ℕ) (row : Row) (left : List Row) (old new : Document) (error : DocError) → IsRead n rs number (row ∷ left) old →
+    Takes old new number row (Err error) → ReadsRows n rs (Err error)
 refused_by n rs number row left old new (DocForm line) s h = let f = read_refused n rs number row left old s h.1 in (f.0, h.0 ∙ f.1, f.2)
 refused_by n rs number row left old new OutOfMemory s h = tt

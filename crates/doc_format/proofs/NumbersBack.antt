@@ -1,5 +1,6 @@
 -- Numbers that are written are the numbers that are kept.
-use Rattle.std.proofs.Common.{nat_abs, ◌≡◌, ℕ, suc, ◌+◌, ◌-◌, ◌*◌, ◌%◌, ◌<◌, ◌≤◌, ◌^◌, Bool, true, false, ◌&&◌, eqb, min, List, [], ◌∷◌, ◌++◌, length, map, Some, ℤ, pos, negsuc, neg_ℤ, refl, ap, ◌∙◌, arith}
+use Rattle.std.proofs.Common.{nat_abs, ◌≡◌, ℕ, suc, ◌+◌, ◌-◌, ◌*◌, ◌%◌, ◌<◌, ◌≤◌, ◌^◌, Bool, true, false, ◌&&◌, eqb, min, List, [], ◌∷◌, ◌++◌, length, map, Some, ℤ, pos}
+use Rattle.std.proofs.Common.{negsuc, neg_ℤ, refl, ap, ◌∙◌, arith}
 use Rattle.std.specs.Option.{option_map}
 use Rattle.std.specs.Ordering.{int_eq}
 use Rattle.std.specs.List.{list_all, AllByRecursion}
@@ -9,7 +10,8 @@ use Rattle.std.proofs.lemmas.Bool.Decides.{nat_tests, Decides-int_eq}
 use Rattle.std.proofs.lemmas.Fmt.{decimal_by_steps}
 use Rattle.std.proofs.lemmas.List.{length_push}
 use Rattle.mb_base.specs.Text.{is_digit, value_from, natural, numeral, clamped}
-use Rattle.doc_format.specs.Plain.{is_plain, IsField, HasFields}
+use Rattle.mb_problem.specs.Words.{is_plain, IsField}
+use Rattle.doc_format.proofs.Fields.{HasFields}
 use Rattle.graph_theory.specs.declared.limits.TheConstants.{NUMBER_LIMIT}
 use Rattle.doc_format.specs.Law.{IsKept}
 use Rattle.doc_format.specs.Numbers.{kept, numbers, counted, with_count}
@@ -35,7 +37,12 @@ digit_passes d h = grind (arith, nat_tests)
 decimal_is : (n : ℕ) → n < 2 ^ 64 → IsDecimal n (decimal n)
 decimal_is = decimal_by_steps IsDecimal
     (λ n h. (omega arith, rw (digit_passes n h) refl, omega arith))
-    (λ n ds le h. (omega (arith, length_push ds (48 + n % 10)), list_all-push ds (48 + n % 10) h.1 (digit_passes (n % 10) (omega arith)), value_from-push 0 ds (48 + n % 10) ∙ omega (arith, h.2)))
+    (λ n ds le h. (
+      omega (arith, length_push ds (48 + n % 10)),
+      list_all-push ds (48 + n % 10) h.1 (digit_passes (n % 10) (omega arith)),
+      value_from-push 0 ds (48 + n % 10)
+          ∙ omega (arith, h.2),
+    ))
 
 natural-digits : (n : ℕ) (ds : List ℕ) → IsDecimal n ds → natural ds ≡ Some n
 natural-digits n [] h = absurd (omega (arith, h.0))

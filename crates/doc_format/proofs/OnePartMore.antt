@@ -43,6 +43,7 @@ module _ (d : Document) (part given : Part) (is : given ≡ part) (may : may_sta
   given_kept formed = subst (λ (p : Part). IsDocument d.status d.kind d.weight (with_part (body_of d) p)) is (form_kept (head_of d) (body_of d) given may formed d.form)
 
 -- what holds of a list before a push and of the longer one holds after it, whether it went well or not
-pub after_push : {A V E : Type 0} (P : List A → Type 0) (r : Result V E) (old : List A) (x : A) (new : List A) → OnOk r (new ≡ old ++ x ∷ []) → OnErr r (new ≡ old) → P old → P (old ++ x ∷ []) → P new
+pub after_push : {A V E : Type 0} (P : List A → Type 0) (r : Result V E) (old : List A) (x : A) (new : List A) → OnOk r (new ≡ old ++ x ∷ []) → OnErr r (new ≡ old) → P old →
+    P (old ++ x ∷ []) → P new
 after_push P (Ok v) old x new ok err before more = subst P (sym ok) more
 after_push P (Err e) old x new ok err before more = subst P (sym err) before

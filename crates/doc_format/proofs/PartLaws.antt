@@ -1,94 +1,98 @@
 -- The laws of the rows of letters.
-use Rattle.std.proofs.Common.{◌≡◌, ℕ, ◌++◌, ◌∷◌, [], List, map, Bool, true, false, ◌&&◌, eqb, Option, None, Some, ℤ, refl, sym, ap, ◌∙◌, append_assoc, arith}
+use Rattle.std.proofs.Common.{◌≡◌, ℕ, ◌≤◌, ◌++◌, ◌∷◌, [], List, length, map, Bool, true, false, ◌&&◌, eqb, Option, None, Some, ℤ, refl, sym, ap, ◌∙◌, append_assoc, arith, nat_abs}
 use Rattle.std.specs.Prelude.{int_lt}
+use Rattle.std.specs.Option.{option_map}
 use Rattle.std.specs.List.{list_all, AllByRecursion}
 use Rattle.std.proofs.lemmas.Bool.{and_parts, and_from}
 use Rattle.std.proofs.lemmas.List.{append-nil, map_push}
 use Rattle.std.proofs.lemmas.List.Folds.{list_all-append}
+use Rattle.graph_theory.specs.declared.limits.TheConstants.{NUMBER_LIMIT}
 use Rattle.mb_base.specs.Rows.{is_skipped}
 use Rattle.doc_format.specs.declared.part.CountLine.{CountLine}
+use Rattle.doc_format.specs.declared.part.WalkLine.{WalkLine}
 use Rattle.doc_format.specs.declared.part.DualLine.{DualLine}
+use Rattle.doc_format.specs.declared.part.SetLine.{SetLine}
 use Rattle.doc_format.specs.declared.part.MemberLine.{MemberLine}
 use Rattle.doc_format.specs.declared.part.Part.{Part}
 use Rattle.doc_format.specs.declared.part.Part.TheVariants.{Count, Walk, Dual, Set, Barrier, Odd, Split}
 use Rattle.doc_format.specs.declared.letter.Letter.{Letter}
 use Rattle.doc_format.specs.declared.letter.Letter.TheVariants as letter
-use Rattle.doc_format.specs.Parts.{letter_text, rank, repeats, letter_of, key, numbers_of, is_formed, ascends, on_line, Body, at_most_one, parts_of, with_part}
-use Rattle.doc_format.specs.Form.{AscendsBy, may_follow, in_order}
+use Rattle.doc_format.specs.Parts.{letter_text, letter_named, rank, repeats, letter_of, key, numbers_of, is_formed, ascends, on_line}
+use Rattle.doc_format.specs.Parts.{Role, edge_number, use_count, vertex_number, node_number, vertex_dual, set_dual, each_number}
+use Rattle.doc_format.specs.Parts.{Body, at_most_one, parts_of, blank, with_part}
+use Rattle.doc_format.specs.declared.head.Head.{Head}
+use Rattle.doc_format.specs.declared.document.Document.{Document}
+use Rattle.doc_format.specs.Form.{AscendsBy, may_follow, in_order, IsDocument}
 use Rattle.doc_format.specs.Rows.{part_at}
-use Rattle.doc_format.specs.Plain.{IsField}
+use Rattle.mb_problem.specs.Words.{IsField}
 use Rattle.doc_format.specs.Law.{IsKept, unnumbered}
 use Rattle.doc_format.specs.Spelling.{part_row}
 use Rattle.doc_format.proofs.NumbersBack.{kept_back, counted_back}
 
+-- the body as if each line were line 0
+abbrev pub bare : Body → Body
+bare b = record {
+  counts = map (λ (x : CountLine). record x { line = 0 }) b.counts;
+  walk = option_map (λ (w : WalkLine). record w { line = 0 }) b.walk;
+  duals = map (λ (y : DualLine). record y { line = 0 }) b.duals;
+  sets = map (λ (z : SetLine). record z { line = 0 }) b.sets;
+  barrier = option_map (λ (u : MemberLine). record u { line = 0 }) b.barrier;
+  odd = option_map (λ (t : MemberLine). record t { line = 0 }) b.odd;
+  split = option_map (λ (q : MemberLine). record q { line = 0 }) b.split;
+}
+
+-- the document of a head and a body
+abbrev pub document_of : (h : Head) (b : Body) → IsDocument h.status h.kind h.weight b → Document
+document_of h b form = record {
+  status = h.status;
+  kind = h.kind;
+  weight = h.weight;
+  line = h.line;
+  counts = b.counts;
+  walk = b.walk;
+  duals = b.duals;
+  sets = b.sets;
+  barrier = b.barrier;
+  odd = b.odd;
+  split = b.split;
+  form = form;
+}
+
 -- ---- letters
 
--- one letter repeats
-pub repeats_rank : (l : Letter) → repeats l ≡ eqb (rank l) 4
-repeats_rank letter.Count = refl
-repeats_rank letter.Walk = refl
-repeats_rank letter.Dual = refl
-repeats_rank letter.Set = refl
-repeats_rank letter.Barrier = refl
-repeats_rank letter.Odd = refl
-repeats_rank letter.Split = refl
+-- The word is a field that begins no comment and names the letter; sets alone repeat.
+pub record LetterLaws (l : Letter) : Type 0 where
+  pub field : IsField (letter_text l)
+  pub there : (fields : List (List ℕ)) → is_skipped (letter_text l ∷ fields) ≡ false
+  pub back : letter_named (letter_text l) ≡ Some l
+  pub one_repeats : repeats l ≡ eqb (rank l) 4
 
-pub letter_is_field : (l : Letter) → IsField (letter_text l)
-letter_is_field letter.Count = (omega arith, refl)
-letter_is_field letter.Walk = (omega arith, refl)
-letter_is_field letter.Dual = (omega arith, refl)
-letter_is_field letter.Set = (omega arith, refl)
-letter_is_field letter.Barrier = (omega arith, refl)
-letter_is_field letter.Odd = (omega arith, refl)
-letter_is_field letter.Split = (omega arith, refl)
-
--- no letter begins a comment
-pub letter_there : (l : Letter) (fields : List (List ℕ)) → is_skipped (letter_text l ∷ fields) ≡ false
-letter_there letter.Count fields = refl
-letter_there letter.Walk fields = refl
-letter_there letter.Dual fields = refl
-letter_there letter.Set fields = refl
-letter_there letter.Barrier fields = refl
-letter_there letter.Odd fields = refl
-letter_there letter.Split fields = refl
+pub letter_laws : (l : Letter) → LetterLaws l
+letter_laws letter.Count = record { field = (omega arith, refl); there = λ fields. refl; back = refl; one_repeats = refl }
+letter_laws letter.Walk = record { field = (omega arith, refl); there = λ fields. refl; back = refl; one_repeats = refl }
+letter_laws letter.Dual = record { field = (omega arith, refl); there = λ fields. refl; back = refl; one_repeats = refl }
+letter_laws letter.Set = record { field = (omega arith, refl); there = λ fields. refl; back = refl; one_repeats = refl }
+letter_laws letter.Barrier = record { field = (omega arith, refl); there = λ fields. refl; back = refl; one_repeats = refl }
+letter_laws letter.Odd = record { field = (omega arith, refl); there = λ fields. refl; back = refl; one_repeats = refl }
+letter_laws letter.Split = record { field = (omega arith, refl); there = λ fields. refl; back = refl; one_repeats = refl }
 
 -- ---- the line of a part doesn't matter
 
-pub letter-line : (n : ℕ) (part : Part) → letter_of (on_line n part) ≡ letter_of part
-letter-line n (Count x) = refl
-letter-line n (Walk w) = refl
-letter-line n (Dual y) = refl
-letter-line n (Set z) = refl
-letter-line n (Barrier u) = refl
-letter-line n (Odd t) = refl
-letter-line n (Split q) = refl
+pub record LineLaws (n : ℕ) (part : Part) : Type 0 where
+  pub same_letter : letter_of (on_line n part) ≡ letter_of part
+  pub same_key : key (on_line n part) ≡ key part
+  pub same_form : is_formed (on_line n part) ≡ is_formed part
+  pub same_bare : unnumbered (on_line n part) ≡ unnumbered part
+  pub same_numbers : (ok : Role → ℤ → Bool) → each_number ok (on_line n part) ≡ each_number ok part
 
-pub key-line : (n : ℕ) (part : Part) → key (on_line n part) ≡ key part
-key-line n (Count x) = refl
-key-line n (Walk w) = refl
-key-line n (Dual y) = refl
-key-line n (Set z) = refl
-key-line n (Barrier u) = refl
-key-line n (Odd t) = refl
-key-line n (Split q) = refl
-
-pub form-line : (n : ℕ) (part : Part) → is_formed (on_line n part) ≡ is_formed part
-form-line n (Count x) = refl
-form-line n (Walk w) = refl
-form-line n (Dual y) = refl
-form-line n (Set z) = refl
-form-line n (Barrier u) = refl
-form-line n (Odd t) = refl
-form-line n (Split q) = refl
-
-pub unnumbered_back : (n : ℕ) (part : Part) → unnumbered (on_line n part) ≡ unnumbered part
-unnumbered_back n (Count x) = refl
-unnumbered_back n (Walk w) = refl
-unnumbered_back n (Dual y) = refl
-unnumbered_back n (Set z) = refl
-unnumbered_back n (Barrier u) = refl
-unnumbered_back n (Odd t) = refl
-unnumbered_back n (Split q) = refl
+pub line_laws : (n : ℕ) (part : Part) → LineLaws n part
+line_laws n (Count x) = record { same_letter = refl; same_key = refl; same_form = refl; same_bare = refl; same_numbers = λ ok. refl }
+line_laws n (Walk w) = record { same_letter = refl; same_key = refl; same_form = refl; same_bare = refl; same_numbers = λ ok. refl }
+line_laws n (Dual y) = record { same_letter = refl; same_key = refl; same_form = refl; same_bare = refl; same_numbers = λ ok. refl }
+line_laws n (Set z) = record { same_letter = refl; same_key = refl; same_form = refl; same_bare = refl; same_numbers = λ ok. refl }
+line_laws n (Barrier u) = record { same_letter = refl; same_key = refl; same_form = refl; same_bare = refl; same_numbers = λ ok. refl }
+line_laws n (Odd t) = record { same_letter = refl; same_key = refl; same_form = refl; same_bare = refl; same_numbers = λ ok. refl }
+line_laws n (Split q) = record { same_letter = refl; same_key = refl; same_form = refl; same_bare = refl; same_numbers = λ ok. refl }
 
 -- ---- written and read
 
@@ -103,6 +107,31 @@ part_back n (Set z) h f = rw (kept_back z.dual h.0, counted_back z.members h.1) 
 part_back n (Barrier u) h f = rw (counted_back u.members h, f) refl
 part_back n (Odd t) h f = rw (counted_back t.members h, f) refl
 part_back n (Split q) h f = rw (counted_back q.members h, f) refl
+
+-- ---- numbers that pass a test of kept ones are kept
+
+all_kept : (ok : ℤ → Bool) → ((z : ℤ) → ok z ≡ true → IsKept z) → (zs : List ℤ) → list_all ok zs ≡ true → AllByRecursion IsKept zs
+all_kept ok keeps [] h = tt
+all_kept ok keeps (z ∷ zs) h = let both = and_parts (ok z) (list_all ok zs) h in (keeps z both.0, all_kept ok keeps zs both.1)
+
+module _ (ok : Role → ℤ → Bool) (keeps : (r : Role) (z : ℤ) → ok r z ≡ true → IsKept z) where
+  -- and so are the counts of members on a line that isn't too long
+  pub kept_where : (part : Part) → each_number ok part ≡ true → length (numbers_of part) ≤ nat_abs NUMBER_LIMIT → HasKept part
+  kept_where (Count x) h short =
+      let both = and_parts (ok edge_number x.edge) (ok use_count x.count) h in
+      (keeps edge_number x.edge both.0, (keeps use_count x.count both.1, tt))
+  kept_where (Walk w) h short =
+      let both = and_parts (ok vertex_number w.start) (list_all (ok edge_number) w.edges) h in
+      (keeps vertex_number w.start both.0, (omega arith, all_kept (ok edge_number) (keeps edge_number) w.edges both.1))
+  kept_where (Dual y) h short =
+      let both = and_parts (ok node_number y.vertex) (ok vertex_dual y.dual) h in
+      (keeps node_number y.vertex both.0, (keeps vertex_dual y.dual both.1, tt))
+  kept_where (Set z) h short =
+      let both = and_parts (ok set_dual z.dual) (list_all (ok node_number) z.members) h in
+      (keeps set_dual z.dual both.0, (omega arith, all_kept (ok node_number) (keeps node_number) z.members both.1))
+  kept_where (Barrier u) h short = (omega arith, all_kept (ok node_number) (keeps node_number) u.members h)
+  kept_where (Odd t) h short = (omega arith, all_kept (ok vertex_number) (keeps vertex_number) t.members h)
+  kept_where (Split q) h short = (omega arith, all_kept (ok vertex_number) (keeps vertex_number) q.members h)
 
 -- ---- tests on lists
 
@@ -158,15 +187,32 @@ pub added : (b : Body) (part : Part) → MayCome b part → parts_of (with_part 
 added b (Count x) h =
     let p : Part → Bool = λ earlier. may_follow earlier (Count x) in
     let a = part_by_part p b h in
-    rw (no_item p Walk b.walk (λ y. refl) a.walk, no_items p Dual b.duals (λ y. refl) a.duals, no_items p Set b.sets (λ y. refl) a.sets, no_item p Barrier b.barrier (λ y. refl) a.barrier, no_item p Odd b.odd (λ y. refl) a.odd, no_item p Split b.split (λ y. refl) a.split) (simp (append_assoc, map_push, append-nil))
+    rw (
+      no_item p Walk b.walk (λ y. refl) a.walk,
+      no_items p Dual b.duals (λ y. refl) a.duals,
+      no_items p Set b.sets (λ y. refl) a.sets,
+      no_item p Barrier b.barrier
+          (λ y. refl) a.barrier,
+      no_item p Odd b.odd (λ y. refl) a.odd,
+      no_item p Split b.split (λ y. refl) a.split,
+    ) (simp (append_assoc, map_push, append-nil))
 added b (Walk w) h =
     let p : Part → Bool = λ earlier. may_follow earlier (Walk w) in
     let a = part_by_part p b h in
-    rw (no_item p Walk b.walk (λ y. refl) a.walk, no_items p Dual b.duals (λ y. refl) a.duals, no_items p Set b.sets (λ y. refl) a.sets, no_item p Barrier b.barrier (λ y. refl) a.barrier, no_item p Odd b.odd (λ y. refl) a.odd, no_item p Split b.split (λ y. refl) a.split) (simp (append-nil))
+    rw (
+      no_item p Walk b.walk (λ y. refl) a.walk,
+      no_items p Dual b.duals (λ y. refl) a.duals,
+      no_items p Set b.sets (λ y. refl) a.sets,
+      no_item p Barrier b.barrier
+          (λ y. refl) a.barrier,
+      no_item p Odd b.odd (λ y. refl) a.odd,
+      no_item p Split b.split (λ y. refl) a.split,
+    ) (simp (append-nil))
 added b (Dual y) h =
     let p : Part → Bool = λ earlier. may_follow earlier (Dual y) in
     let a = part_by_part p b h in
-    rw (no_items p Set b.sets (λ y. refl) a.sets, no_item p Barrier b.barrier (λ y. refl) a.barrier, no_item p Odd b.odd (λ y. refl) a.odd, no_item p Split b.split (λ y. refl) a.split) (simp (append_assoc, map_push, append-nil))
+    rw (no_items p Set b.sets (λ y. refl) a.sets, no_item p Barrier b.barrier (λ y. refl) a.barrier, no_item p Odd b.odd (λ y. refl) a.odd, no_item p Split b.split (λ y. refl) a.split)
+    (simp (append_assoc, map_push, append-nil))
 added b (Set z) h =
     let p : Part → Bool = λ earlier. may_follow earlier (Set z) in
     let a = part_by_part p b h in
@@ -182,6 +228,45 @@ added b (Odd t) h =
 added b (Split q) h =
     let p : Part → Bool = λ earlier. may_follow earlier (Split q) in
     rw (no_item p Split b.split (λ y. refl) (part_by_part p b h).split) (simp (append_assoc, append-nil))
+
+-- ---- the body that parts build
+
+-- the body with all these parts more
+abbrev pub with_parts : Body → List Part → Body
+with_parts b [] = b
+with_parts b (part ∷ parts) = with_parts (with_part b part) parts
+
+built_many : {A : Type 0} (made : A → Part) (plain : A → A) (put : List A → Body) → ((xs : List A) (x : A) → with_part (put xs) (unnumbered (made x)) ≡ put (xs ++ plain x ∷ [])) →
+    (before xs : List A) (rest : List Part) → with_parts (put before) (map unnumbered (map made xs ++ rest)) ≡ with_parts (put (before ++ map plain xs)) (map unnumbered rest)
+built_many {A} made plain put step before [] rest = ap (λ (l : List A). with_parts (put l) (map unnumbered rest)) (sym (append-nil before))
+built_many {A} made plain put step before (x ∷ xs) rest =
+    ap (λ (b : Body). with_parts b (map unnumbered (map made xs ++ rest))) (step before x)
+    ∙ built_many made plain put step (before ++ plain x ∷ []) xs rest
+    ∙ ap (λ (l : List A). with_parts (put l) (map unnumbered rest)) (append_assoc before (plain x ∷ []) (map plain xs))
+
+built_one : {A : Type 0} (made : A → Part) (plain : A → A) (put : Option A → Body) → ((x : A) → with_part (put None) (unnumbered (made x)) ≡ put (Some (plain x))) →
+    (o : Option A) (rest : List Part) → with_parts (put None) (map unnumbered (at_most_one made o ++ rest)) ≡ with_parts (put (option_map plain o)) (map unnumbered rest)
+built_one made plain put step None rest = refl
+built_one made plain put step (Some x) rest = ap (λ (b : Body). with_parts b (map unnumbered rest)) (step x)
+
+-- the parts determine the body, the numbers of their lines aside
+pub built_bare : (b : Body) → with_parts blank (map unnumbered (parts_of b)) ≡ bare b
+built_bare b =
+    let c = bare b in
+    let to_counts : Body = record blank { counts = c.counts } in
+    let to_walk : Body = record to_counts { walk = c.walk } in
+    let to_duals : Body = record to_walk { duals = c.duals } in
+    let to_sets : Body = record to_duals { sets = c.sets } in
+    let to_barrier : Body = record to_sets { barrier = c.barrier } in
+    let to_odd : Body = record to_barrier { odd = c.odd } in
+    built_many Count (λ (x : CountLine). record x { line = 0 }) (λ xs. record blank { counts = xs }) (λ xs x. refl) [] b.counts _
+    ∙ built_one Walk (λ (w : WalkLine). record w { line = 0 }) (λ o. record to_counts { walk = o }) (λ w. refl) b.walk _
+    ∙ built_many Dual (λ (y : DualLine). record y { line = 0 }) (λ ys. record to_walk { duals = ys }) (λ ys y. refl) [] b.duals _
+    ∙ built_many Set (λ (z : SetLine). record z { line = 0 }) (λ zs. record to_duals { sets = zs }) (λ zs z. refl) [] b.sets _
+    ∙ built_one Barrier (λ (u : MemberLine). record u { line = 0 }) (λ o. record to_sets { barrier = o }) (λ u. refl) b.barrier _
+    ∙ built_one Odd (λ (t : MemberLine). record t { line = 0 }) (λ o. record to_barrier { odd = o }) (λ t. refl) b.odd _
+    ∙ ap (λ (parts : List Part). with_parts to_odd (map unnumbered parts)) (sym (append-nil (at_most_one Split b.split)))
+    ∙ built_one Split (λ (q : MemberLine). record q { line = 0 }) (λ o. record to_odd { split = o }) (λ q. refl) b.split []
 
 -- ---- what the form says of single letters
 

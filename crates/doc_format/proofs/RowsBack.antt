@@ -10,7 +10,8 @@ use Rattle.std.proofs.lemmas.List.{append-nil}
 use Rattle.mb_base.specs.Text.{is_line_feed, closed, raw_lines, is_blank, is_nonempty, fields}
 use Rattle.mb_base.specs.Rows.{Row, rows}
 use Rattle.mb_base.proofs.LineLemmas.{closed-split}
-use Rattle.doc_format.specs.Plain.{is_plain, IsField, HasFields}
+use Rattle.mb_problem.specs.Words.{is_plain, IsField}
+use Rattle.doc_format.proofs.Fields.{HasFields}
 use Rattle.doc_format.specs.Spelling.{after_space, row_text}
 
 -- the bytes of a line before its line feed
@@ -99,7 +100,8 @@ pub rows_back : (rs : List Row) → AllByRecursion HasFields rs → rows (flat_m
 rows_back [] h = refl
 rows_back (row ∷ rs) h =
     let quiet = line_ends_nothing row h.0 in
-    let cut : raw_lines (flat_map row_text (row ∷ rs)) ≡ line_of row ∷ raw_lines (flat_map row_text rs) = ap raw_lines (row_text-is row (flat_map row_text rs)) ∙ raw_lines-line (line_of row) (flat_map row_text rs) quiet in
+    let cut : raw_lines (flat_map row_text (row ∷ rs)) ≡ line_of row ∷ raw_lines (flat_map row_text rs) = ap raw_lines (row_text-is row (flat_map row_text rs))
+    ∙ raw_lines-line (line_of row) (flat_map row_text rs) quiet in
     ap (λ (ls : List (List ℕ)). map fields (map strip_carriage_return ls)) cut
     ∙ ap (λ (l : List ℕ). fields l ∷ rows (flat_map row_text rs)) (strip-line (line_of row) quiet)
     ∙ ap (λ (r : Row). r ∷ rows (flat_map row_text rs)) (fields-line row h.0)

@@ -1,5 +1,5 @@
 -- Parts of one letter behind those of another stand in order.
-use Rattle.std.proofs.Common.{◌≡◌, ℕ, ◌+◌, Bool, true, ◌&&◌, List, [], ◌∷◌, ◌++◌, map, Option, None, Some, ℤ, refl, arith}
+use Rattle.std.proofs.Common.{◌≡◌, ℕ, ◌+◌, Bool, true, List, [], ◌∷◌, ◌++◌, map, Option, None, Some, ℤ, refl, arith}
 use Rattle.std.specs.Prelude.{int_lt, nat_lt, nat_eq}
 use Rattle.std.specs.List.{list_all}
 use Rattle.std.proofs.lemmas.Bool.{and_parts, and_from}
@@ -25,13 +25,18 @@ ascends_all z (y ∷ zs) h =
     let b = and_parts (int_lt z y) (ascends (y ∷ zs)) h in
     and_from (int_lt z y) (list_all (int_lt z) zs) b.0 (all_weaker (int_lt y) (int_lt z) zs (λ x k. int_lt-trans z y x b.0 k) (ascends_all y zs b.1))
 
-keyed_all : {A : Type 0} (made : A → Part) (by : A → ℤ) (x : A) (xs : List A) → ((y : A) → int_lt (by x) (by y) ≡ true → may_follow (made x) (made y) ≡ true) → list_all (int_lt (by x)) (map by xs) ≡ true → list_all (may_follow (made x)) (map made xs) ≡ true
+keyed_all : {A : Type 0} (made : A → Part) (by : A → ℤ) (x : A) (xs : List A) → ((y : A) → int_lt (by x) (by y) ≡ true → may_follow (made x) (made y) ≡ true) →
+    list_all (int_lt (by x)) (map by xs) ≡ true → list_all (may_follow (made x)) (map made xs) ≡ true
 keyed_all made by x [] f h = refl
-keyed_all made by x (y ∷ ys) f h = let b = and_parts (int_lt (by x) (by y)) (list_all (int_lt (by x)) (map by ys)) h in and_from (may_follow (made x) (made y)) (list_all (may_follow (made x)) (map made ys)) (f y b.0) (keyed_all made by x ys f b.1)
+keyed_all made by x (y ∷ ys) f h = let b =
+    and_parts (int_lt (by x) (by y)) (list_all (int_lt (by x)) (map by ys)) h in and_from (may_follow (made x) (made y)) (list_all (may_follow (made x)) (map made ys)) (f y b.0)
+    (keyed_all made by x ys f b.1)
 
-pub keyed : {A : Type 0} (made : A → Part) (by : A → ℤ) (xs : List A) → ((x y : A) → int_lt (by x) (by y) ≡ true → may_follow (made x) (made y) ≡ true) → ascends (map by xs) ≡ true → in_order (map made xs) ≡ true
+pub keyed : {A : Type 0} (made : A → Part) (by : A → ℤ) (xs : List A) → ((x y : A) → int_lt (by x) (by y) ≡ true → may_follow (made x) (made y) ≡ true) → ascends (map by xs) ≡ true →
+    in_order (map made xs) ≡ true
 keyed made by [] f h = refl
-keyed made by (x ∷ xs) f h = and_from (list_all (may_follow (made x)) (map made xs)) (in_order (map made xs)) (keyed_all made by x xs (f x) (ascends_all (by x) (map by xs) h)) (keyed made by xs f (ascends_tail (by x) (map by xs) h))
+keyed made by (x ∷ xs) f h = and_from (list_all (may_follow (made x)) (map made xs)) (in_order (map made xs)) (keyed_all made by x xs (f x) (ascends_all (by x) (map by xs) h))
+    (keyed made by xs f (ascends_tail (by x) (map by xs) h))
 
 pub sets_in_order : (sets : List SetLine) → in_order (map Set sets) ≡ true
 sets_in_order [] = refl
@@ -83,7 +88,8 @@ only r xs h o = record { order = o; beyond = all_weaker (λ p. nat_eq (rank (let
 pub before : (r : ℕ) (xs ys : List Part) → ranked (r + 1) xs ≡ true → in_order xs ≡ true → IsTail (r + 1) ys → IsTail r (xs ++ ys)
 before r xs ys h o t = record {
   order = in_order-append (r + 1) xs ys h o t.beyond t.order;
-  beyond = all_joined (λ p. nat_lt r (rank (letter_of p))) xs ys (only r xs h o).beyond (all_weaker (λ p. nat_lt (r + 1) (rank (letter_of p))) (λ p. nat_lt r (rank (letter_of p))) ys (λ p k. rank_on r (rank (letter_of p)) k) t.beyond);
+  beyond = all_joined (λ p. nat_lt r (rank (letter_of p))) xs ys (only r xs h o).beyond
+      (all_weaker (λ p. nat_lt (r + 1) (rank (letter_of p))) (λ p. nat_lt r (rank (letter_of p))) ys (λ p k. rank_on r (rank (letter_of p)) k) t.beyond);
 }
 
 pub many_ranked : {A : Type 0} (r : ℕ) (made : A → Part) (xs : List A) → ((x : A) → nat_eq (rank (letter_of (made x))) r ≡ true) → ranked r (map made xs) ≡ true

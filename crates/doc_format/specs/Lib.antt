@@ -7,5 +7,4 @@ pub mod Reading
 pub mod Order
 pub mod Steps
 pub mod Spelling
-pub mod Plain
 pub mod Law

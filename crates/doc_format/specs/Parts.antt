@@ -1,5 +1,6 @@
--- The parts of a document: its letters with their rows, what stands on the line of each, and where a document has it.
+-- The letters of a document, a row in each table: what stands on the lines of a letter, and where a document has them.
 use Rattle.std.specs.Prelude.{ℕ, ℤ, pos, int_lt, List, [], ◌∷◌, ◌++◌, map, codes, bytes_eq, Bool, true, false, ◌&&◌, if◌then◌else◌, Option, None, Some}
+use Rattle.std.specs.List.{list_all}
 use Rattle.mb_base.specs.Rows.{Row}
 use Rattle.mb_problem.specs.declared.kind.AnswerForm.{AnswerForm}
 use Rattle.mb_problem.specs.declared.kind.AnswerForm.TheVariants as form
@@ -29,6 +30,17 @@ letter_text letter.Barrier = codes "u"
 letter_text letter.Odd = codes "t"
 letter_text letter.Split = codes "q"
 
+-- the letter of this text, where it is one's
+abbrev pub letter_named : List ℕ → Option Letter
+letter_named word =
+    if bytes_eq word (letter_text letter.Count) then Some letter.Count else
+    (if bytes_eq word (letter_text letter.Walk) then Some letter.Walk else
+    (if bytes_eq word (letter_text letter.Dual) then Some letter.Dual else
+    (if bytes_eq word (letter_text letter.Set) then Some letter.Set else
+    (if bytes_eq word (letter_text letter.Barrier) then Some letter.Barrier else
+    (if bytes_eq word (letter_text letter.Odd) then Some letter.Odd else
+    (if bytes_eq word (letter_text letter.Split) then Some letter.Split else None))))))
+
 -- the place of the letter in the order of lines
 abbrev pub rank : Letter → ℕ
 rank letter.Count = 1
@@ -41,8 +53,13 @@ rank letter.Split = 7
 
 -- any number of its lines may follow one another
 abbrev pub repeats : Letter → Bool
+repeats letter.Count = false
+repeats letter.Walk = false
+repeats letter.Dual = false
 repeats letter.Set = true
-repeats other = false
+repeats letter.Barrier = false
+repeats letter.Odd = false
+repeats letter.Split = false
 
 -- ---- where letters may stand
 
@@ -56,39 +73,61 @@ is_walk form.Walk = true
 
 abbrev pub is_barrier : Exclusion → Bool
 is_barrier exclusion.Barrier = true
-is_barrier other = false
+is_barrier exclusion.OddPart = false
+is_barrier exclusion.SplitPart = false
+is_barrier exclusion.Never = false
 
 abbrev pub is_odd_part : Exclusion → Bool
+is_odd_part exclusion.Barrier = false
 is_odd_part exclusion.OddPart = true
-is_odd_part other = false
+is_odd_part exclusion.SplitPart = false
+is_odd_part exclusion.Never = false
 
 abbrev pub is_split_part : Exclusion → Bool
+is_split_part exclusion.Barrier = false
+is_split_part exclusion.OddPart = false
 is_split_part exclusion.SplitPart = true
-is_split_part other = false
+is_split_part exclusion.Never = false
 
 -- the letters of an answer
 abbrev pub answers : Letter → AnswerForm → Bool
 answers letter.Count f = is_counts f
 answers letter.Walk f = is_walk f
-answers other f = false
+answers letter.Dual f = false
+answers letter.Set f = false
+answers letter.Barrier f = false
+answers letter.Odd f = false
+answers letter.Split f = false
 
 -- the letters of what proves an answer best
 abbrev pub proves_best : Letter → BestProof → Bool
+proves_best letter.Count proof = false
+proves_best letter.Walk proof = false
 proves_best letter.Dual (Duals value) = true
 proves_best letter.Set (Duals value) = true
-proves_best other proof = false
+proves_best letter.Barrier proof = false
+proves_best letter.Odd proof = false
+proves_best letter.Split proof = false
 
 -- the letters of what excludes all answers
 abbrev pub excludes : Letter → Exclusion → Bool
+excludes letter.Count e = false
+excludes letter.Walk e = false
+excludes letter.Dual e = false
+excludes letter.Set e = false
 excludes letter.Barrier e = is_barrier e
 excludes letter.Odd e = is_odd_part e
 excludes letter.Split e = is_split_part e
-excludes other e = false
 
 -- the letter of a circuit that weighs less than 0
 abbrev pub is_circuit : Letter → Bool
+is_circuit letter.Count = false
 is_circuit letter.Walk = true
-is_circuit other = false
+is_circuit letter.Dual = false
+is_circuit letter.Set = false
+is_circuit letter.Barrier = false
+is_circuit letter.Odd = false
+is_circuit letter.Split = false
 
 -- ---- what stands on a line
 
@@ -104,8 +143,12 @@ letter_of (Split q) = letter.Split
 -- what ascends from line to line: edges of x lines and vertices of y lines
 abbrev pub key : Part → ℤ
 key (Count x) = x.edge
+key (Walk w) = pos 0
 key (Dual y) = y.vertex
-key part = pos 0
+key (Set z) = pos 0
+key (Barrier u) = pos 0
+key (Odd t) = pos 0
+key (Split q) = pos 0
 
 -- the numbers after the letter
 abbrev pub numbers_of : Part → List ℤ
@@ -116,6 +159,26 @@ numbers_of (Set z) = z.dual ∷ with_count z.members
 numbers_of (Barrier u) = with_count u.members
 numbers_of (Odd t) = with_count t.members
 numbers_of (Split q) = with_count q.members
+
+-- What a number of a line is: an edge, how often it is used, a vertex of the instance or of the graph that certificates
+-- speak of, the dual of a vertex, or that of a set.
+pub data Role : Type 0 where
+  edge_number : Role
+  use_count : Role
+  vertex_number : Role
+  node_number : Role
+  vertex_dual : Role
+  set_dual : Role
+
+-- each number but the counts of members passes a test, by what it is
+abbrev pub each_number : (Role → ℤ → Bool) → Part → Bool
+each_number ok (Count x) = ok edge_number x.edge && ok use_count x.count
+each_number ok (Walk w) = ok vertex_number w.start && list_all (ok edge_number) w.edges
+each_number ok (Dual y) = ok node_number y.vertex && ok vertex_dual y.dual
+each_number ok (Set z) = ok set_dual z.dual && list_all (ok node_number) z.members
+each_number ok (Barrier u) = list_all (ok node_number) u.members
+each_number ok (Odd t) = list_all (ok vertex_number) t.members
+each_number ok (Split q) = list_all (ok vertex_number) q.members
 
 -- the number of its line
 abbrev pub line_of : Part → ℕ
@@ -139,11 +202,13 @@ has_any (z ∷ zs) = true
 
 -- a walk has an edge, and the members of a set of vertices ascend
 abbrev pub is_formed : Part → Bool
+is_formed (Count x) = true
 is_formed (Walk w) = has_any w.edges
+is_formed (Dual y) = true
+is_formed (Set z) = true
 is_formed (Barrier u) = ascends u.members
 is_formed (Odd t) = ascends t.members
 is_formed (Split q) = ascends q.members
-is_formed part = true
 
 -- the part as if it stood on line n
 abbrev pub on_line : ℕ → Part → Part
@@ -172,16 +237,19 @@ set_in n fields = led fields >>= λ p. Some (Set (record { line = n; dual = p.0;
 abbrev pub members_in : ℕ → Row → Option MemberLine
 members_in n fields = counted fields >>= λ vs. only_if (ascends vs) (record { line = n; members = vs })
 
+-- what the fields after this letter say on line number n
+abbrev pub fields_say : ℕ → Row → Letter → Option Part
+fields_say n fields letter.Count = count_in n fields
+fields_say n fields letter.Walk = walk_in n fields
+fields_say n fields letter.Dual = dual_in n fields
+fields_say n fields letter.Set = set_in n fields
+fields_say n fields letter.Barrier = members_in n fields >>= λ u. Some (Barrier u)
+fields_say n fields letter.Odd = members_in n fields >>= λ t. Some (Odd t)
+fields_say n fields letter.Split = members_in n fields >>= λ q. Some (Split q)
+
 -- what line number n says after its letter, where that is one
 abbrev pub part_in : ℕ → List ℕ → Row → Option Part
-part_in n word fields =
-    if bytes_eq word (letter_text letter.Count) then count_in n fields else
-    (if bytes_eq word (letter_text letter.Walk) then walk_in n fields else
-    (if bytes_eq word (letter_text letter.Dual) then dual_in n fields else
-    (if bytes_eq word (letter_text letter.Set) then set_in n fields else
-    (if bytes_eq word (letter_text letter.Barrier) then (members_in n fields >>= λ u. Some (Barrier u)) else
-    (if bytes_eq word (letter_text letter.Odd) then (members_in n fields >>= λ t. Some (Odd t)) else
-    (if bytes_eq word (letter_text letter.Split) then (members_in n fields >>= λ q. Some (Split q)) else None))))))
+part_in n word fields = letter_named word >>= fields_say n fields
 
 -- ---- where a document has its parts
 

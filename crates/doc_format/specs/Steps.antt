@@ -50,13 +50,3 @@ pub record IsOpening (n : ℕ) (rs left : List Row) (head : Head) : Type 0 where
 -- the first refused line has this number
 abbrev pub IsFault : ℕ → List Row → ℕ → Type 0
 IsFault n rs number = (k : ℕ) × (number ≡ n + k) × IsFirstRefused n rs k
-
--- the first lines are this document
-pub record IsRead (n : ℕ) (rs : List Row) (number : ℕ) (left : List Row) (d : Document) : Type 0 where
-  pub count : ℕ
-  pub number_is : number ≡ n + count
-  pub within : count ≤ length rs
-  pub left_is : drop count rs ≡ left
-  pub none_refused : NoneRefusedBelow n rs count
-  pub head : head_from n (take count rs) ≡ Some (head_of d)
-  pub parts : parts_of (body_of d) ≡ parts_from n (take count rs)

@@ -1,9 +1,13 @@
 ghost use Rattle.doc_format.specs.Form.{IsDocument};
 
-use crate::part::{CountLine, DualLine, MemberLine, SetLine, WalkLine};
+use crate::head::Head;
+use crate::line_writing::{put_duals, put_sets};
+use crate::part::{CountLine, DualLine, MemberLine, Part, SetLine, WalkLine};
+use crate::spelling::{put_members, put_number_and_members};
 use crate::status::DocStatus;
-use mb_base::Sequence;
+use mb_base::{OutOfMemory, Sequence};
 use mb_problem::Kind;
+use std::alloc::Global;
 
 /// What a text claims of an instance, and the answer and certificate that it claims it by. Each
 /// part keeps the number of its line; `line` is that of the first.
@@ -37,4 +41,109 @@ pub struct Document {
       odd = odd;
       split = split;
     }) },
+}
+
+impl Document {
+    ghost use Rattle.std.specs.Prelude.{◌≡◌, ◌∷◌, [], ◌++◌, true, OnOk, OnErr};
+    ghost use Rattle.doc_format.specs.Form.{parts_of, at_most_one, blank, with_part, is_formed};
+    ghost use Rattle.doc_format.specs.Parts.{certificate};
+    ghost use Rattle.doc_format.specs.Rows.{IsTabled};
+    ghost use Rattle.doc_format.specs.Reading.{body_of, head_of, may_stand};
+    ghost use Rattle.doc_format.specs.Spelling.{parts_text};
+
+    /// A document of its first line alone.
+    pub fn new(alloc: Global, head: Head) -> Document
+        requires table { IsTabled head }
+        ensures head { head_of result ≡ head }
+        ensures body { body_of result ≡ blank }
+    {
+        Document {
+            status: head.status,
+            kind: head.kind,
+            weight: head.weight,
+            line: head.line,
+            counts: Sequence::new(alloc),
+            walk: None,
+            duals: Sequence::new(alloc),
+            sets: Sequence::new(alloc),
+            barrier: None,
+            odd: None,
+            split: None,
+        }
+    }
+
+    /// Puts a part at the end of the document.
+    pub fn add(&mut self, part: Part) -> Result<(), OutOfMemory>
+        requires order { may_stand (head_of self.old) (parts_of (body_of self.old)) part ≡ true }
+        requires form { is_formed part ≡ true }
+        ensures head { OnOk result (head_of self.new ≡ head_of self.old) }
+        ensures body { OnOk result (body_of self.new ≡ with_part (body_of self.old) part) }
+        ensures parts { OnOk result
+            (parts_of (body_of self.new) ≡ parts_of (body_of self.old) ++ part ∷ []) }
+        ensures unchanged { OnErr result (self.new ≡ self.old) }
+    {
+        match part {
+            Part::Count(x) => self.counts.push(x)?,
+            Part::Walk(w) => self.walk = Some(w),
+            Part::Dual(y) => self.duals.push(y)?,
+            Part::Set(z) => self.sets.push(z)?,
+            Part::Barrier(u) => self.barrier = Some(u),
+            Part::Odd(t) => self.odd = Some(t),
+            Part::Split(q) => self.split = Some(q),
+        }
+        Ok(())
+    }
+
+    /// The line of a walk.
+    pub(crate) fn put_walk(&self, out: &mut Vec<u8>) -> Result<(), OutOfMemory>
+        ensures { OnOk result (out.new.items ≡ out.old.items
+            ++ parts_text (at_most_one Part.Walk self.now.walk)) }
+    {
+        if let Some(w) = &self.walk {
+            put_number_and_members(out, b'w', w.start, w.edges.as_slice())?;
+        }
+        Ok(())
+    }
+
+    fn put_barrier(&self, out: &mut Vec<u8>) -> Result<(), OutOfMemory>
+        ensures { OnOk result (out.new.items ≡ out.old.items
+            ++ parts_text (at_most_one Part.Barrier self.now.barrier)) }
+    {
+        if let Some(u) = &self.barrier {
+            put_members(out, b'u', u.members.as_slice())?;
+        }
+        Ok(())
+    }
+
+    fn put_odd(&self, out: &mut Vec<u8>) -> Result<(), OutOfMemory>
+        ensures { OnOk result (out.new.items ≡ out.old.items
+            ++ parts_text (at_most_one Part.Odd self.now.odd)) }
+    {
+        if let Some(t) = &self.odd {
+            put_members(out, b't', t.members.as_slice())?;
+        }
+        Ok(())
+    }
+
+    fn put_split(&self, out: &mut Vec<u8>) -> Result<(), OutOfMemory>
+        ensures { OnOk result (out.new.items ≡ out.old.items
+            ++ parts_text (at_most_one Part.Split self.now.split)) }
+    {
+        if let Some(q) = &self.split {
+            put_members(out, b'q', q.members.as_slice())?;
+        }
+        Ok(())
+    }
+
+    /// The lines that are left out in brief: duals and sets of vertices.
+    pub(crate) fn put_certificate(&self, out: &mut Vec<u8>) -> Result<(), OutOfMemory>
+        ensures { OnOk result (out.new.items ≡ out.old.items
+            ++ parts_text (certificate (body_of self.now))) }
+    {
+        put_duals(out, self.duals.as_slice())?;
+        put_sets(out, self.sets.as_slice())?;
+        self.put_barrier(out)?;
+        self.put_odd(out)?;
+        self.put_split(out)
+    }
 }

@@ -11,8 +11,7 @@ use crate::error::DocError;
 use crate::first_field::first_field;
 use crate::head::Head;
 use crate::order::{Place, may_follow, may_have, place_of};
-use crate::part::Part;
-use crate::part_reading::read_part;
+use crate::part::{Part, read_part};
 use std::alloc::Global;
 
 /// What has been read of a document, and the place of its last part.

@@ -1,5 +1,6 @@
 ghost use Rattle.std.specs.Prelude.{◌≡◌};
-ghost use Rattle.doc_format.specs.Parts.{rank, repeats, answers, proves_best, excludes, is_circuit};
+ghost use Rattle.doc_format.specs.Parts.{letter_named, rank, repeats};
+ghost use Rattle.doc_format.specs.Parts.{answers, proves_best, excludes, is_circuit};
 
 use mb_problem::{AnswerForm, BestProof, Exclusion};
 
@@ -23,6 +24,34 @@ pub enum Letter {
 }
 
 impl Letter {
+    /// The letter that a field is, if it is one.
+    pub fn named(word: &[u8]) -> Option<Letter>
+        ensures { result ≡ letter_named word.now }
+    {
+        if word == b"x".as_slice() {
+            return Some(Letter::Count);
+        }
+        if word == b"w".as_slice() {
+            return Some(Letter::Walk);
+        }
+        if word == b"y".as_slice() {
+            return Some(Letter::Dual);
+        }
+        if word == b"z".as_slice() {
+            return Some(Letter::Set);
+        }
+        if word == b"u".as_slice() {
+            return Some(Letter::Barrier);
+        }
+        if word == b"t".as_slice() {
+            return Some(Letter::Odd);
+        }
+        if word == b"q".as_slice() {
+            return Some(Letter::Split);
+        }
+        None
+    }
+
     /// The letter's place in the order of lines.
     pub fn rank(self) -> u8
         ensures { result ≡ rank self }
@@ -43,8 +72,13 @@ impl Letter {
         ensures { result ≡ repeats self }
     {
         match self {
+            Letter::Count => false,
+            Letter::Walk => false,
+            Letter::Dual => false,
             Letter::Set => true,
-            _ => false,
+            Letter::Barrier => false,
+            Letter::Odd => false,
+            Letter::Split => false,
         }
     }
 
@@ -55,7 +89,11 @@ impl Letter {
         match self {
             Letter::Count => form == AnswerForm::Counts,
             Letter::Walk => form == AnswerForm::Walk,
-            _ => false,
+            Letter::Dual => false,
+            Letter::Set => false,
+            Letter::Barrier => false,
+            Letter::Odd => false,
+            Letter::Split => false,
         }
     }
 
@@ -65,9 +103,13 @@ impl Letter {
     {
         let BestProof::Duals(_) = proof;
         match self {
+            Letter::Count => false,
+            Letter::Walk => false,
             Letter::Dual => true,
             Letter::Set => true,
-            _ => false,
+            Letter::Barrier => false,
+            Letter::Odd => false,
+            Letter::Split => false,
         }
     }
 
@@ -76,10 +118,13 @@ impl Letter {
         ensures { result ≡ excludes self exclusion }
     {
         match self {
+            Letter::Count => false,
+            Letter::Walk => false,
+            Letter::Dual => false,
+            Letter::Set => false,
             Letter::Barrier => exclusion == Exclusion::Barrier,
             Letter::Odd => exclusion == Exclusion::OddPart,
             Letter::Split => exclusion == Exclusion::SplitPart,
-            _ => false,
         }
     }
 
@@ -88,8 +133,13 @@ impl Letter {
         ensures { result ≡ is_circuit self }
     {
         match self {
+            Letter::Count => false,
             Letter::Walk => true,
-            _ => false,
+            Letter::Dual => false,
+            Letter::Set => false,
+            Letter::Barrier => false,
+            Letter::Odd => false,
+            Letter::Split => false,
         }
     }
 }

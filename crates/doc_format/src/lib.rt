@@ -4,7 +4,7 @@
 //! first wrong line, and that a document is written as one text, which reads back as it.
 #![tactic(auto)]
 
-mod adding;
+mod ascent;
 mod document;
 mod draft;
 mod error;
@@ -12,16 +12,17 @@ mod first_field;
 mod head;
 mod law;
 mod letter;
+mod line_writing;
 mod numbers;
 mod opening;
 mod order;
 mod part;
-mod part_reading;
 mod reading;
 mod spelling;
 mod status;
 mod writing;
 
+pub use ascent::is_ascending;
 pub use document::Document;
 pub use error::DocError;
 pub use head::Head;

@@ -1,8 +1,13 @@
-ghost use Rattle.std.specs.Prelude.{◌≡◌};
-ghost use Rattle.doc_format.specs.Parts.{letter_of, key};
+ghost use Rattle.std.specs.Prelude.{◌≡◌, true, IfOk, IfSome};
+ghost use Rattle.doc_format.specs.Parts.{letter_of, key, ascends, is_formed};
+ghost use Rattle.doc_format.specs.Parts.{count_in, dual_in, walk_in, set_in, members_in};
+ghost use Rattle.doc_format.specs.Parts.{fields_say, part_in};
 
+use crate::ascent::is_ascending;
 use crate::letter::Letter;
-use mb_base::Sequence;
+use crate::numbers::{counted_numbers, led_numbers, pair};
+use mb_base::{Fields, OutOfMemory, Sequence};
+use std::alloc::Global;
 
 /// An `x` line: an edge and how often the answer uses it.
 #[derive(Clone, Copy, Debug, PartialEq, Eq)]
@@ -83,7 +88,109 @@ pub fn key(part: &Part) -> i64
 {
     match part {
         Part::Count(x) => x.edge,
+        Part::Walk(_) => 0,
         Part::Dual(y) => y.vertex,
-        _ => 0,
+        Part::Set(_) => 0,
+        Part::Barrier(_) => 0,
+        Part::Odd(_) => 0,
+        Part::Split(_) => 0,
     }
+}
+
+fn read_count(line: u64, fields: Fields<'_>) -> Option<Part>
+    ensures value { result ≡ count_in line fields.entry }
+    ensures form { IfSome result (λ p. is_formed p ≡ true) }
+{
+    let (edge, count) = pair(fields)?;
+    Some(Part::Count(CountLine { line, edge, count }))
+}
+
+fn read_dual(line: u64, fields: Fields<'_>) -> Option<Part>
+    ensures value { result ≡ dual_in line fields.entry }
+    ensures form { IfSome result (λ p. is_formed p ≡ true) }
+{
+    let (vertex, dual) = pair(fields)?;
+    Some(Part::Dual(DualLine { line, vertex, dual }))
+}
+
+fn read_walk(alloc: Global, line: u64, fields: Fields<'_>) -> Result<Option<Part>, OutOfMemory>
+    ensures value { IfOk result (λ o. o ≡ walk_in line fields.entry) }
+    ensures form { IfOk result (λ o. IfSome o (λ p. is_formed p ≡ true)) }
+{
+    let Some((start, edges)) = led_numbers(alloc, fields)? else {
+        return Ok(None);
+    };
+    if edges.is_empty() {
+        return Ok(None);
+    }
+    Ok(Some(Part::Walk(WalkLine { line, start, edges })))
+}
+
+fn read_set(alloc: Global, line: u64, fields: Fields<'_>) -> Result<Option<Part>, OutOfMemory>
+    ensures value { IfOk result (λ o. o ≡ set_in line fields.entry) }
+    ensures form { IfOk result (λ o. IfSome o (λ p. is_formed p ≡ true)) }
+{
+    let Some((dual, members)) = led_numbers(alloc, fields)? else {
+        return Ok(None);
+    };
+    Ok(Some(Part::Set(SetLine {
+        line,
+        dual,
+        members,
+    })))
+}
+
+fn read_members(
+    alloc: Global,
+    line: u64,
+    fields: Fields<'_>,
+) -> Result<Option<MemberLine>, OutOfMemory>
+    ensures value { IfOk result (λ o. o ≡ members_in line fields.entry) }
+    ensures form { IfOk result (λ o. IfSome o (λ u. ascends u.members ≡ true)) }
+{
+    let Some(members) = counted_numbers(alloc, fields)? else {
+        return Ok(None);
+    };
+    if !is_ascending(members.as_slice()) {
+        return Ok(None);
+    }
+    Ok(Some(MemberLine { line, members }))
+}
+
+/// What the fields after this letter say on a line of this number.
+fn read_fields(
+    alloc: Global,
+    line: u64,
+    letter: Letter,
+    fields: Fields<'_>,
+) -> Result<Option<Part>, OutOfMemory>
+    ensures value { IfOk result (λ o. o ≡ fields_say line fields.entry letter) }
+    ensures form { IfOk result (λ o. IfSome o (λ p. is_formed p ≡ true)) }
+{
+    match letter {
+        Letter::Count => Ok(read_count(line, fields)),
+        Letter::Walk => read_walk(alloc, line, fields),
+        Letter::Dual => Ok(read_dual(line, fields)),
+        Letter::Set => read_set(alloc, line, fields),
+        Letter::Barrier => Ok(read_members(alloc, line, fields)?.map(Part::Barrier)),
+        Letter::Odd => Ok(read_members(alloc, line, fields)?.map(Part::Odd)),
+        Letter::Split => Ok(read_members(alloc, line, fields)?.map(Part::Split)),
+    }
+}
+
+/// What a line of this number says after the first line of a document, by its first field and the
+/// others.
+pub fn read_part(
+    alloc: Global,
+    line: u64,
+    word: &[u8],
+    fields: Fields<'_>,
+) -> Result<Option<Part>, OutOfMemory>
+    ensures value { IfOk result (λ o. o ≡ part_in line word.now fields.entry) }
+    ensures form { IfOk result (λ o. IfSome o (λ p. is_formed p ≡ true)) }
+{
+    let Some(letter) = Letter::named(word) else {
+        return Ok(None);
+    };
+    read_fields(alloc, line, letter, fields)
 }

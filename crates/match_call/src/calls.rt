@@ -4,7 +4,7 @@ ghost use Rattle.match_cli.specs.Runs.{TellsTrue, IsAcceptedBehind, IsComplete};
 ghost use Rattle.match_call.specs.Calls.{command_for, Calls};
 
 use crate::task::{Task, command_for};
-use match_cli::{Answer, Status, answer_to};
+use match_cli::{Reply, Status, answer_to};
 use mb_base::Steps;
 use mb_problem::Kind;
 use std::alloc::Global;
@@ -18,7 +18,7 @@ pub fn call<L: Ledger>(
     kind: Kind,
     bytes: &[u8],
     steps: &mut Steps<L>,
-) -> Answer
+) -> Reply
     // The whole text and the status; never usage, and never a fault of a read or a write.
     ensures answer { Calls (command_for task kind) bytes.now result.text.items result.status }
 
@@ -41,7 +41,7 @@ pub fn call<L: Ledger>(
 {
     match answer_to(alloc, command_for(task, kind), bytes, steps) {
         Ok(answer) => answer,
-        Err(_) => Answer {
+        Err(_) => Reply {
             text: Vec::new(alloc),
             status: Status::OutOfMemory,
         },

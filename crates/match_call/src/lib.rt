@@ -8,5 +8,5 @@ mod calls;
 mod task;
 
 pub use calls::call;
-pub use match_cli::Answer;
+pub use match_cli::Reply;
 pub use task::Task;

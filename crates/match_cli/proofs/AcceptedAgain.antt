@@ -5,7 +5,7 @@ use Rattle.std.proofs.lemmas.List.{length-append, append_cancel_left}
 use Rattle.std.proofs.lemmas.Option.{same_Some}
 use Rattle.mb_base.specs.Rows.{Row, rows}
 use Rattle.graph_theory.specs.Limits.{IsWithinLimits}
-use Rattle.doc_format.proofs.WholeBack.{text_back}
+use Rattle.doc_format.proofs.WholeBack.{text_back, text_holds, holds_the_same}
 use Rattle.mb_base.specs.Streams.{Extends}
 use Rattle.mb_problem.specs.declared.kind.Kind.{Kind}
 use Rattle.mb_problem.specs.Network.{Network}
@@ -17,8 +17,9 @@ use Rattle.doc_format.specs.declared.document.Document.{Document}
 use Rattle.doc_format.specs.Reading.{body_of, HoldsDocument}
 use Rattle.doc_format.proofs.PartLaws.{vertices_ascend}
 use Rattle.doc_format.specs.Spelling.{document_text}
-use Rattle.doc_format.specs.Law.{HasKeptNumbers}
+use Rattle.doc_format.specs.Law.{HasKeptNumbers, SaysTheSame}
 use Rattle.certificates.proofs.BarrierLemmas.{forms-where_none}
+use Rattle.certificates.proofs.SameClaims.{proved-same, truth-same}
 use Rattle.cert_check.proofs.VerdictLemmas.{IsFormed, proved-keeps}
 use Rattle.match_cli.specs.declared.status.Status.{Status}
 use Rattle.match_cli.specs.declared.status.Status.TheVariants.{Done, Rejected, Usage, Malformed, TooLarge, TooLong, ReadFault, WriteFault, OutOfMemory}
@@ -32,9 +33,7 @@ use Rattle.match_cli.specs.Answers.{instance_part, document_part, document_line,
 use Rattle.match_cli.specs.Runs.{IsAnswer, EndsLine, IsAcceptedBehind, IsAcceptedAgain}
 use Rattle.match_cli.proofs.CommandLines.{check_named}
 use Rattle.match_cli.proofs.InputParts.{rows-both, after-both, instance-alone, instance-before}
-use Rattle.match_cli.proofs.Renumbering.{renumbered, text_holds}
 use Rattle.match_cli.proofs.ProvedAgain.{kept}
-use Rattle.match_cli.proofs.SameClaims.{proved-lines, truth-lines}
 
 formed : (d : Document) → IsFormed d
 formed d = record { vertices_ascend = vertices_ascend (body_of d) d.form.ordered; forms_where_none = λ other. forms-where_none d.status d.kind _ d.form.letters other }
@@ -58,31 +57,41 @@ module _ (kind : Kind) (front : List ℕ) (i : Network) (d : Document) (alone : 
   rest_is : document_part whole ≡ document_text d false
   rest_is = ap (λ (rs : List Row). after_lines (length rs) whole) (same_part ∙ instance-alone (rows input) alone.alone) ∙ after-both front (document_text d false)
 
-  pub states_both : InputStates whole (renumbered (document_line whole) d)
-  states_both = subst (λ (bytes : List ℕ). HoldsDocument (document_line whole) (rows bytes) (renumbered (document_line whole) d)) (sym rest_is) (text_holds d (document_line whole) read)
+  -- the document that the text holds, behind the input
+  written : (e : Document) × HoldsDocument (document_line whole) (rows (document_text d false)) e
+  written = text_holds d (document_line whole) read
 
-  pub accepts_both : IsWithinLimits (size_of kind i) → Solves kind i d → Accepts kind whole i (renumbered (document_line whole) d)
+  same : SaysTheSame d written.0
+  same = holds_the_same d written.0 (document_line whole) read written.1
+
+  states_both : InputStates whole written.0
+  states_both = subst (λ (bytes : List ℕ). HoldsDocument (document_line whole) (rows bytes) written.0) (sym rest_is) written.1
+
+  pub accepts_both : IsWithinLimits (size_of kind i) → Solves kind i d → (e : Document) × Accepts kind whole i e
   accepts_both fits solves =
-      let e = renumbered (document_line whole) d in
-      record {
-        holds = holds_both;
-        fits = fits;
-        states = states_both;
-        accepted = λ rule. proved-keeps kind i e (formed e) (proved-lines kind i (document_line whole) d solves.proved) rule;
-        truth = truth-lines kind i (document_line whole) d solves.truth;
-      }
+      let e = written.0 in (
+        e,
+        record {
+          holds = holds_both;
+          fits = fits;
+          states = states_both;
+          accepted = λ rule. proved-keeps kind i e (formed e) (proved-same kind i d e same solves.proved) rule;
+          truth = truth-same kind i d e same solves.truth;
+        },
+      )
 
 abbrev AcceptsBehind : Kind → List ℕ → List ℕ → Type 0
 AcceptsBehind kind bytes written = Gives (Check kind) (bytes ++ written) (codes "s ACCEPTED\n") Done
 
 -- the answer of `check` to an input that ends its last line, and a full document of its instance behind it
-accepts_text : (kind : Kind) (front : List ℕ) (i : Network) (d : Document) → length (front ++ 10 ∷ []) ≤ SOLVE_BYTE_LIMIT → HoldsAlone kind (front ++ 10 ∷ []) i → IsWithinLimits (size_of kind i) → Solves kind i d → AcceptsBehind kind (front ++ 10 ∷ []) (document_text d false)
+accepts_text : (kind : Kind) (front : List ℕ) (i : Network) (d : Document) → length (front ++ 10 ∷ []) ≤ SOLVE_BYTE_LIMIT → HoldsAlone kind (front ++ 10 ∷ []) i →
+    IsWithinLimits (size_of kind i) → Solves kind i d → AcceptsBehind kind (front ++ 10 ∷ []) (document_text d false)
 accepts_text kind front i d short alone fits solves =
     let input = front ++ 10 ∷ [] in
     let sum = length-append input (document_text d false) in
     let small = solves.small in
     let accepts = accepts_both kind front i d alone (kept kind i d solves.network fits solves.proved solves.small) fits solves in
-    (omega arith, (i, renumbered (document_line (input ++ document_text d false)) d, accepts, refl))
+    (omega arith, (i, accepts.0, accepts.1, refl))
 
 solved_is_accepted : (kind : Kind) (bytes out : List ℕ) → length bytes ≤ SOLVE_BYTE_LIMIT → EndsLine bytes → DecidesSolve kind false bytes out Done → AcceptsBehind kind bytes out
 solved_is_accepted kind bytes out short ends h =
@@ -113,7 +122,8 @@ accepted_behind command bytes out OutOfMemory h = tt
 
 -- ---- of a run
 
-again_of : (words : List (List ℕ)) (before after taken_before taken_after : Option (List ℕ)) (out : List ℕ) → IsAnswer words before after out Done → Extends taken_before taken_after out → IsAcceptedAgain words before taken_before taken_after Done
+again_of : (words : List (List ℕ)) (before after taken_before taken_after : Option (List ℕ)) (out : List ℕ) → IsAnswer words before after out Done → Extends taken_before taken_after out →
+    IsAcceptedAgain words before taken_before taken_after Done
 again_of words None after taken_before taken_after out h extends = tt
 again_of words (Some bytes) after None taken_after out h extends = tt
 again_of words (Some bytes) after (Some xs) None out h extends = tt
@@ -125,7 +135,8 @@ again_of words (Some bytes) after (Some xs) (Some ys) out h extends = λ kind wr
     let accepted : AcceptsBehind kind bytes out = accepted_done says.0 bytes out says.2 kind named ends in
     (Check kind, check_named kind name, subst (λ (o : List ℕ). AcceptsBehind kind bytes o) same accepted))
 
-pub accepted_again : (words : List (List ℕ)) (before after taken_before taken_after : Option (List ℕ)) (out : List ℕ) (status : Status) → IsAnswer words before after out status → Extends taken_before taken_after out → IsAcceptedAgain words before taken_before taken_after status
+pub accepted_again : (words : List (List ℕ)) (before after taken_before taken_after : Option (List ℕ)) (out : List ℕ) (status : Status) → IsAnswer words before after out status →
+    Extends taken_before taken_after out → IsAcceptedAgain words before taken_before taken_after status
 accepted_again words before after taken_before taken_after out Done h extends = again_of words before after taken_before taken_after out h extends
 accepted_again words before after taken_before taken_after out Rejected h extends = tt
 accepted_again words before after taken_before taken_after out Usage h extends = tt

@@ -19,7 +19,7 @@ use Rattle.match_cli.specs.Lines.{rejected_line, verdict_line}
 use Rattle.match_cli.specs.Codes.{status_of}
 use Rattle.match_cli.specs.declared.status.Status.{Status}
 use Rattle.match_cli.specs.declared.status.Status.TheVariants.{Done, Rejected, Usage, Malformed, TooLarge, TooLong, ReadFault, WriteFault, OutOfMemory}
-use Rattle.match_cli.specs.declared.answer.Answer.{Answer}
+use Rattle.match_cli.specs.declared.reply.Reply.{Reply}
 use Rattle.match_cli.specs.Checking.{DocumentAnswer, DecidesDocument, RestAnswer, DecidesRest, InstanceAnswer, DecidesInstance}
 use Rattle.match_cli.specs.Answers.{InputHolds, Decides, document_part, document_line}
 
@@ -68,26 +68,30 @@ pub if_ok-map : {A E : Type 0} (P Q : A → Type 0) (r : Result A E) → ((a : A
 if_ok-map P Q (Ok a) f h = f a h
 if_ok-map P Q (Err e) f h = tt
 
-pub document_answers : (kind : Kind) (i : Network) (d : Document) (v : Verdict) {E : Type 0} (r : Result Answer E) → IsVerdict kind i d v → (v ≡ verdict.Accepted → StatesTruth kind i d) →
+pub document_answers : (kind : Kind) (i : Network) (d : Document) (v : Verdict) {E : Type 0} (r : Result Reply E) → IsVerdict kind i d v → (v ≡ verdict.Accepted → StatesTruth kind i d) →
     IfOk r (λ a. a.text.items ≡ verdict_line v) → IfOk r (λ a. a.status ≡ status_of v) → IfOk r (DecidesDocument kind i d)
-document_answers kind i d v (Ok a) is sound text status = subst (λ (out : List ℕ). DocumentAnswer kind i d out a.status) (sym text) (subst (λ (s : Status). DocumentAnswer kind i d (verdict_line v) s) (sym status) (document_of_verdict kind i d v is sound))
+document_answers kind i d v (Ok a) is sound text status =
+    subst (λ (out : List ℕ). DocumentAnswer kind i d out a.status) (sym text)
+    (subst (λ (s : Status). DocumentAnswer kind i d (verdict_line v) s) (sym status) (document_of_verdict kind i d v is sound))
 document_answers kind i d v (Err e) is sound text status = tt
 
-pub rest_answers : (kind : Kind) (i : Network) (n : ℕ) (bytes : List ℕ) (d : Document) {E : Type 0} (r : Result Answer E) → HoldsDocument n (rows bytes) d →
+pub rest_answers : (kind : Kind) (i : Network) (n : ℕ) (bytes : List ℕ) (d : Document) {E : Type 0} (r : Result Reply E) → HoldsDocument n (rows bytes) d →
     IfOk r (DecidesDocument kind i d) → IfOk r (DecidesRest kind i n bytes)
 rest_answers kind i n bytes d r h = if_ok-map (DecidesDocument kind i d) (DecidesRest kind i n bytes) r (λ a. rest_of_document kind i n bytes d a.text.items a.status h)
 
-pub instance_answers : (kind : Kind) (i : Network) (n : ℕ) (bytes : List ℕ) {E : Type 0} (r : Result Answer E) → IsWithinLimits (size_of kind i) → IfOk r (DecidesRest kind i n bytes) →
+pub instance_answers : (kind : Kind) (i : Network) (n : ℕ) (bytes : List ℕ) {E : Type 0} (r : Result Reply E) → IsWithinLimits (size_of kind i) → IfOk r (DecidesRest kind i n bytes) →
     IfOk r (DecidesInstance kind i n bytes)
 instance_answers kind i n bytes r f = if_ok-map (DecidesRest kind i n bytes) (DecidesInstance kind i n bytes) r (λ a. instance_of_rest kind i n bytes a.text.items a.status f)
 
-pub check_answers : (kind : Kind) (bytes : List ℕ) (i : Network) (rest : Rest) {E : Type 0} (r : Result Answer E) → InputHolds kind bytes i → IsRest bytes rest →
+pub check_answers : (kind : Kind) (bytes : List ℕ) (i : Network) (rest : Rest) {E : Type 0} (r : Result Reply E) → InputHolds kind bytes i → IsRest bytes rest →
     IfOk r (DecidesInstance kind i rest.line rest.bytes) → IfOk r (λ a. Decides kind bytes a.text.items a.status)
 check_answers kind bytes i rest r h is =
     if_ok-map (DecidesInstance kind i rest.line rest.bytes) (λ a. Decides kind bytes a.text.items a.status) r
-    (λ a p. decides_from kind bytes i a.text.items a.status h (subst (λ (n : ℕ). InstanceAnswer kind i n (document_part bytes) a.text.items a.status) is.line_is (subst (λ (b : List ℕ). InstanceAnswer kind i rest.line b a.text.items a.status) is.bytes_are p)))
+    (λ a p. decides_from kind bytes i a.text.items a.status h
+    (subst (λ (n : ℕ). InstanceAnswer kind i n (document_part bytes) a.text.items a.status) is.line_is
+    (subst (λ (b : List ℕ). InstanceAnswer kind i rest.line b a.text.items a.status) is.bytes_are p)))
 
-pub form_answers : (kind : Kind) (i : Network) (n k line : ℕ) (bytes : List ℕ) {E : Type 0} (r : Result Answer E) → line ≡ n + k → IsFirstRefused n (rows bytes) k →
+pub form_answers : (kind : Kind) (i : Network) (n k line : ℕ) (bytes : List ℕ) {E : Type 0} (r : Result Reply E) → line ≡ n + k → IsFirstRefused n (rows bytes) k →
     IfOk r (λ a. a.text.items ≡ rejected_line DocForm line) → IfOk r (λ a. a.status ≡ Rejected) → IfOk r (DecidesRest kind i n bytes)
 form_answers kind i n k line bytes (Ok a) e refused text status =
     subst (λ (s : Status). RestAnswer kind i n bytes a.text.items s) (sym status) (DocForm, line, inl (refl, (k, e, refused)), text)

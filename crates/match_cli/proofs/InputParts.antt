@@ -162,7 +162,9 @@ fewer_rows bytes n some size = (let first = first_row bytes some in let more : l
 
 after_all : (n : ℕ) (bytes : List ℕ) → length (rows bytes) ≡ n → after_lines n bytes ≡ []
 after_all zero [] size = refl
-after_all zero (b ∷ bytes) size = (let first = first_row (b ∷ bytes) (omega arith) in let more : length (rows (b ∷ bytes)) ≡ suc (length (rows (after_first is_line_feed (b ∷ bytes)))) = ap length first.1 in absurd (omega arith))
+after_all zero (b ∷ bytes) size =
+    (let first = first_row (b ∷ bytes) (omega arith) in let more : length (rows (b ∷ bytes)) ≡ suc (length (rows (after_first is_line_feed (b ∷ bytes)))) =
+    ap length first.1 in absurd (omega arith))
 after_all (suc n) [] size = absurd cc
 after_all (suc n) (b ∷ bytes) size = after_all n (after_first is_line_feed (b ∷ bytes)) (fewer_rows (b ∷ bytes) n (omega arith) size)
 
@@ -191,7 +193,9 @@ place_is (row ∷ rs) k h = elim (cases_Bool (is_solution row)) [
 
 rest_at : (bytes : List ℕ) (o : Option ℕ) → first_place is_solution (rows bytes) ≡ o → after_lines (length (instance_rows (rows bytes))) bytes ≡ [] → o ≡ None
 rest_at bytes None at empty = refl
-rest_at bytes (Some k) at empty = absurd (after_some (length (instance_rows (rows bytes))) bytes (let within = first_place-within is_solution (rows bytes) k at in let size = place_is (rows bytes) k at in omega arith) empty)
+rest_at bytes (Some k) at empty =
+    absurd (after_some (length (instance_rows (rows bytes))) bytes
+    (let within = first_place-within is_solution (rows bytes) k at in let size = place_is (rows bytes) k at in omega arith) empty)
 
 pub place_none : (bytes : List ℕ) → after_lines (length (instance_rows (rows bytes))) bytes ≡ [] → first_place is_solution (rows bytes) ≡ None
 place_none bytes empty = rest_at bytes (first_place is_solution (rows bytes)) refl empty

@@ -1,7 +1,4 @@
-pub mod Renumbering
 pub mod KeptNumbers
-pub mod SameClaims
-pub mod OneDocument
 pub mod ProvedAgain
 pub mod Checks
 pub mod CommandLines

@@ -8,7 +8,7 @@ use Rattle.std.proofs.lemmas.Option.{same_Some}
 use Rattle.mb_base.specs.Streams.{ReadsAll}
 use Rattle.mb_base.specs.declared.whole.ReadAll.{ReadAll}
 use Rattle.mb_base.specs.declared.whole.ReadAll.TheVariants as ending
-use Rattle.match_cli.specs.declared.answer.Answer.{Answer}
+use Rattle.match_cli.specs.declared.reply.Reply.{Reply}
 use Rattle.match_cli.specs.declared.top.Stop.{Stop}
 use Rattle.match_cli.specs.declared.top.Stop.TheVariants as stop
 use Rattle.match_cli.specs.Prepared.{Prepares, Readies}
@@ -60,7 +60,8 @@ by_status words command bytes out before after WriteFault h short is = absurd (d
 by_status words command bytes out before after OutOfMemory h short is = absurd (decided command bytes out OutOfMemory h.1)
 
 -- a command that reads: all bytes of the source were read
-module _ (words : List (List ℕ)) (command : Command) (limit : ℕ) (out bytes : List ℕ) (taken : command_of words ≡ Some command) (reads : limit_of command ≡ Some limit) (fits : length bytes ≤ limit) where
+module _ (words : List (List ℕ)) (command : Command) (limit : ℕ) (out bytes : List ℕ) (taken : command_of words ≡ Some command) (reads : limit_of command ≡ Some limit)
+    (fits : length bytes ≤ limit) where
   says : (before after : Option (List ℕ)) (status : Status) → Consumes before after bytes → IsAtEnd after → Gives command bytes out status → IfSome before (λ b. Says words b out status)
   says None after status consumed end h = tt
   says (Some xs) None status consumed end h = absurd consumed
@@ -75,7 +76,8 @@ module _ (words : List (List ℕ)) (command : Command) (limit : ℕ) (out bytes 
   pub is_answer : (before after : Option (List ℕ)) (status : Status) → Consumes before after bytes → IsAtEnd after → Gives command bytes out status →
       IsWritten status × IsAnswer words before after out status
   is_answer before after status consumed end h =
-      let said : IfSome (given (command_of words) before) (λ b. Says words b out status) = subst (λ (o : Option (List ℕ)). IfSome o (λ b. Says words b out status)) (sym (given_source words command limit before taken reads)) (says before after status consumed end h) in
+      let said : IfSome (given (command_of words) before) (λ b. Says words b out status) =
+      subst (λ (o : Option (List ℕ)). IfSome o (λ b. Says words b out status)) (sym (given_source words command limit before taken reads)) (says before after status consumed end h) in
       by_status words command bytes out before after status h (within_limit command limit bytes out reads fits) (said, leaves before after consumed end)
 
 -- a command that reads nothing
@@ -86,19 +88,20 @@ module _ (words : List (List ℕ)) (command : Command) (out : List ℕ) (taken :
 
   pub is_answer_unread : (before : Option (List ℕ)) (status : Status) → Gives command [] out status → IsWritten status × IsAnswer words before before out status
   is_answer_unread before status h =
-      let said : IfSome (given (command_of words) before) (λ b. Says words b out status) = subst (λ (o : Option (List ℕ)). IfSome o (λ b. Says words b out status)) (sym (given_none words command before taken unread)) (command, taken, h) in
+      let said : IfSome (given (command_of words) before) (λ b. Says words b out status) =
+      subst (λ (o : Option (List ℕ)). IfSome o (λ b. Says words b out status)) (sym (given_none words command before taken unread)) (command, taken, h) in
       by_status words command [] out before before status h (without_limit command [] out unread) (said, leaves_all before)
 
 -- a command is decided on, or memory is wanting
 pub answered_reading : (words : List (List ℕ)) (command : Command) (limit : ℕ) (bytes : List ℕ) (before after : Option (List ℕ)) → command_of words ≡ Some command →
-    limit_of command ≡ Some limit → length bytes ≤ limit → Consumes before after bytes → IsAtEnd after → (r : Result Answer Stop) → IfOk r (λ a. Gives command bytes a.text.items a.status) →
+    limit_of command ≡ Some limit → length bytes ≤ limit → Consumes before after bytes → IsAtEnd after → (r : Result Reply Stop) → IfOk r (λ a. Gives command bytes a.text.items a.status) →
     IfErr r (λ s. s ≡ stop.OutOfMemory) → Prepares words before after r
 answered_reading words command limit bytes before after taken reads fits consumed end (Ok a) h memory =
     is_answer words command limit a.text.items bytes taken reads fits before after a.status consumed end h
 answered_reading words command limit bytes before after taken reads fits consumed end (Err stop.ReadFault) h memory = absurd cc
 answered_reading words command limit bytes before after taken reads fits consumed end (Err stop.OutOfMemory) h memory = tt
 
-pub answered_unread : (words : List (List ℕ)) (command : Command) (before : Option (List ℕ)) → command_of words ≡ Some command → limit_of command ≡ None → (r : Result Answer Stop) →
+pub answered_unread : (words : List (List ℕ)) (command : Command) (before : Option (List ℕ)) → command_of words ≡ Some command → limit_of command ≡ None → (r : Result Reply Stop) →
     IfOk r (λ a. Gives command [] a.text.items a.status) → IfErr r (λ s. s ≡ stop.OutOfMemory) → Prepares words before before r
 answered_unread words command before taken unread (Ok a) h memory = is_answer_unread words command a.text.items taken unread before a.status h
 answered_unread words command before taken unread (Err stop.ReadFault) h memory = absurd cc
@@ -138,7 +141,7 @@ long_given words limit before after out reads is h =
     let long = long_answer words limit before after out reads is h in
     (subst (λ (o : Option (List ℕ)). IfSome o (λ bytes. Out words bytes out TooLong)) (sym (given_source words reads.0 limit before reads.1 reads.2)) long.0, long.1)
 
-long_ready : (words : List (List ℕ)) (limit : ℕ) (before after : Option (List ℕ)) → ReadsUpTo words limit → ReadsAll limit before after (Err ending.TooLong) → (r : Result Answer Stop) →
+long_ready : (words : List (List ℕ)) (limit : ℕ) (before after : Option (List ℕ)) → ReadsUpTo words limit → ReadsAll limit before after (Err ending.TooLong) → (r : Result Reply Stop) →
     Readies (codes "s TOOLONG\n") TooLong r → Prepares words before after r
 long_ready words limit before after reads h (Ok a) is =
     (subst IsWritten (sym is.1) tt, subst (λ (s : Status). IsAnswer words before after a.text.items s) (sym is.1) (long_given words limit before after a.text.items reads is.0 h))
@@ -146,7 +149,7 @@ long_ready words limit before after reads h (Err stop.ReadFault) is = absurd is
 long_ready words limit before after reads h (Err stop.OutOfMemory) is = tt
 
 pub too_long : (words : List (List ℕ)) (limit : ℕ) (before after : Option (List ℕ)) → ReadsUpTo words limit → (read : Result (Vec ℕ) ReadAll) (e : ReadAll) → read ≡ Err e →
-    e ≡ ending.TooLong → ReadsAll limit before after read → (r : Result Answer Stop) → Readies (codes "s TOOLONG\n") TooLong r → Prepares words before after r
+    e ≡ ending.TooLong → ReadsAll limit before after read → (r : Result Reply Stop) → Readies (codes "s TOOLONG\n") TooLong r → Prepares words before after r
 too_long words limit before after reads read e fails is h r readied =
     long_ready words limit before after reads (subst (λ (x : Result (Vec ℕ) ReadAll). ReadsAll limit before after x) (fails ∙ ap (λ x. Err x) is) h) r readied
 
@@ -158,7 +161,7 @@ usage_given words None out none is =
 usage_given words (Some xs) out none is =
     (let e : given (command_of words) (Some xs) ≡ Some [] = rw none refl in subst (λ (o : Option (List ℕ)). IfSome o (λ bytes. Out words bytes out Usage)) (sym e) (none, is), refl)
 
-pub usage_ready : (words : List (List ℕ)) (before : Option (List ℕ)) → command_of words ≡ None → (r : Result Answer Stop) → Readies (codes "s USAGE\n") Usage r →
+pub usage_ready : (words : List (List ℕ)) (before : Option (List ℕ)) → command_of words ≡ None → (r : Result Reply Stop) → Readies (codes "s USAGE\n") Usage r →
     Prepares words before before r
 usage_ready words before none (Ok a) is =
     (subst IsWritten (sym is.1) tt, subst (λ (s : Status). IsAnswer words before before a.text.items s) (sym is.1) (usage_given words before a.text.items none is.0))

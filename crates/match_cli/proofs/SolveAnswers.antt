@@ -8,7 +8,7 @@ use Rattle.dimacs_read.specs.declared.rule.Rule.TheVariants.{UnknownLine}
 use Rattle.dimacs_read.specs.Rest.{IsRest}
 use Rattle.doc_format.specs.declared.document.Document.{Document}
 use Rattle.doc_format.specs.Spelling.{document_text}
-use Rattle.match_cli.specs.declared.answer.Answer.{Answer}
+use Rattle.match_cli.specs.declared.reply.Reply.{Reply}
 use Rattle.match_cli.specs.declared.status.Status.{Status}
 use Rattle.match_cli.specs.declared.status.Status.TheVariants.{Done, Rejected, Usage, Malformed, TooLarge, TooLong, ReadFault, WriteFault, OutOfMemory}
 use Rattle.match_cli.specs.Solving.{Solves, SolvedAnswer, DecidesSolved, FollowedAnswer, DecidesFollowed}
@@ -16,7 +16,7 @@ use Rattle.match_cli.specs.Answers.{InputHolds, DecidesSolve}
 use Rattle.match_cli.proofs.Checks.{if_ok-map}
 use Rattle.match_cli.proofs.InputParts.{rest_empty, rest_some}
 
-pub solved_answers : (kind : Kind) (brief : Bool) (i : Network) (d : Document) {E : Type 0} (r : Result Answer E) → Solves kind i d → IfOk r (λ a. a.text.items ≡ document_text d brief) →
+pub solved_answers : (kind : Kind) (brief : Bool) (i : Network) (d : Document) {E : Type 0} (r : Result Reply E) → Solves kind i d → IfOk r (λ a. a.text.items ≡ document_text d brief) →
     IfOk r (λ a. a.status ≡ Done) → IfOk r (DecidesSolved kind brief i)
 solved_answers kind brief i d (Ok a) solves text status = subst (λ (s : Status). SolvedAnswer kind brief i a.text.items s) (sym status) (d, solves, text)
 solved_answers kind brief i d (Err e) solves text status = tt
@@ -33,7 +33,7 @@ decides_from kind brief bytes i rest out ReadFault h is a = absurd a.1.1
 decides_from kind brief bytes i rest out WriteFault h is a = absurd a.1.1
 decides_from kind brief bytes i rest out OutOfMemory h is a = absurd a.1.1
 
-pub solve_answers : (kind : Kind) (brief : Bool) (bytes : List ℕ) (i : Network) (rest : Rest) {E : Type 0} (r : Result Answer E) → InputHolds kind bytes i → IsRest bytes rest →
+pub solve_answers : (kind : Kind) (brief : Bool) (bytes : List ℕ) (i : Network) (rest : Rest) {E : Type 0} (r : Result Reply E) → InputHolds kind bytes i → IsRest bytes rest →
     IfOk r (DecidesFollowed kind brief i rest) → IfOk r (λ a. DecidesSolve kind brief bytes a.text.items a.status)
 solve_answers kind brief bytes i rest r h is =
     if_ok-map (DecidesFollowed kind brief i rest) (λ a. DecidesSolve kind brief bytes a.text.items a.status) r (λ a p. decides_from kind brief bytes i rest a.text.items a.status h is p)

@@ -13,7 +13,7 @@ use Rattle.mb_problem.specs.Kinds.{searches_of}
 use Rattle.dimacs_read.proofs.ReadingLemmas.{one_instance}
 use Rattle.match_cli.specs.declared.status.Status.{Status}
 use Rattle.match_cli.specs.declared.status.Status.TheVariants.{Done, Rejected, Usage, Malformed, TooLarge, TooLong, ReadFault, WriteFault, OutOfMemory}
-use Rattle.match_cli.specs.declared.answer.Answer.{Answer}
+use Rattle.match_cli.specs.declared.reply.Reply.{Reply}
 use Rattle.command_words.specs.declared.command.Command.{Command}
 use Rattle.command_words.specs.declared.command.Command.TheVariants.{Check, Solve, Trial}
 use Rattle.command_words.specs.Commands.{command_of}
@@ -65,14 +65,14 @@ searched kind brief i out before after ReadFault answer counted = absurd answer
 searched kind brief i out before after WriteFault answer counted = absurd answer
 searched kind brief i out before after OutOfMemory answer counted = absurd answer
 
-pub search_counts : (kind : Kind) (brief : Bool) (i : Network) (before after : ℕ) {E : Type 0} (r : Result Answer E) → IsWithinLimits (size_of kind i) →
+pub search_counts : (kind : Kind) (brief : Bool) (i : Network) (before after : ℕ) {E : Type 0} (r : Result Reply E) → IsWithinLimits (size_of kind i) →
     IfOk r (DecidesSolved kind brief i) → after ≤ before + searches_of kind * most_steps (size_of kind i) → CountsAnswer (Solve kind brief) before after r
 search_counts kind brief i before after (Ok a) fits answer counted =
     searched kind brief i a.text.items before after a.status answer (within_limits (size_of kind i) (searches_of kind) before after fits counted)
 search_counts kind brief i before after (Err e) fits answer counted = within_limits (size_of kind i) (searches_of kind) before after fits counted
 
 -- a search that was made counts as its command does
-pub done_counts : (command : Command) (before after : ℕ) {E : Type 0} (r : Result Answer E) → IfOk r (λ a. a.status ≡ Done) → CountsSearch (Some command) before after →
+pub done_counts : (command : Command) (before after : ℕ) {E : Type 0} (r : Result Reply E) → IfOk r (λ a. a.status ≡ Done) → CountsSearch (Some command) before after →
     CountsAnswer command before after r
 done_counts command before after (Ok a) done counted = subst (λ (s : Status). CountsSteps (Some command) before after s) (sym done) counted
 done_counts command before after (Err e) done counted = counted
@@ -91,7 +91,8 @@ pub counted_for : (kind : Kind) (brief : Bool) (bytes : List ℕ) (j : Network) 
 counted_for kind brief bytes j before after held counted c i is holds =
     let same : Solve kind brief ≡ c = same_Some (Solve kind brief) c is in
     let here : InputHolds kind bytes i = subst (λ (c : Command). HasInstance c bytes i) (sym same) holds in
-    subst (λ (c : Command). CountsFor c i before after) same (subst (λ (n : Network). CountsFor (Solve kind brief) n before after) (one_instance kind (instance_part bytes) j i held here) counted)
+    subst (λ (c : Command). CountsFor c i before after) same
+    (subst (λ (n : Network). CountsFor (Solve kind brief) n before after) (one_instance kind (instance_part bytes) j i held here) counted)
 
 -- a trial makes one instance
 pub trial_counted_for : (kind : Kind) (start n m : ℕ) (bytes : List ℕ) (before after : ℕ) → after ≤ before + searches_of kind * most_steps (size_of kind (made kind start n m)) →
@@ -123,7 +124,8 @@ pub source_counted : (words : List (List ℕ)) (command : Command) (limit : ℕ)
     limit_of command ≡ Some limit → Consumes source left bytes → IsAtEnd left → CountsInstance (Some command) bytes before after → CountsSource words source before after
 source_counted words command limit source left bytes before after taken reads consumed end counted =
     let named : CountsInstance (command_of words) bytes before after = subst (λ (o : Option Command). CountsInstance o bytes before after) (sym taken) counted in
-    subst (λ (o : Option (List ℕ)). IfSome o (λ b. CountsInstance (command_of words) b before after)) (sym (given_source words command limit source taken reads)) (all_counted (command_of words) source left bytes before after consumed end named)
+    subst (λ (o : Option (List ℕ)). IfSome o (λ b. CountsInstance (command_of words) b before after)) (sym (given_source words command limit source taken reads))
+    (all_counted (command_of words) source left bytes before after consumed end named)
 
 -- nothing of the source was read
 pub unread_counted : (words : List (List ℕ)) (command : Command) (source : Option (List ℕ)) (before after : ℕ) → command_of words ≡ Some command → limit_of command ≡ None →

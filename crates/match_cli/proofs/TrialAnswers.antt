@@ -5,7 +5,7 @@ use Rattle.graph_theory.specs.Limits.{Size, IsWithinLimits}
 use Rattle.mb_problem.specs.declared.kind.Kind.{Kind}
 use Rattle.mb_problem.specs.Network.{Network}
 use Rattle.mb_problem.specs.Size.{size_of}
-use Rattle.match_cli.specs.declared.answer.Answer.{Answer}
+use Rattle.match_cli.specs.declared.reply.Reply.{Reply}
 use Rattle.match_cli.specs.declared.status.Status.{Status}
 use Rattle.match_cli.specs.declared.status.Status.TheVariants.{Done}
 use Rattle.doc_format.specs.declared.document.Document.{Document}
@@ -19,16 +19,16 @@ same_text : (size : Size) (d : Document) (v : Verdict) (n m : ℕ) → n ≡ siz
     trial_text (record { vertices = n; edges = m }) d v ≡ trial_text size d Accepted
 same_text size d v n m vertices edges accepted = rw (vertices, edges, accepted) refl
 
-pub solved_is_tried : (kind : Kind) (i : Network) (d : Document) (v : Verdict) (n m : ℕ) {E : Type 0} (r : Result Answer E) → Solves kind i d → v ≡ Accepted →
+pub solved_is_tried : (kind : Kind) (i : Network) (d : Document) (v : Verdict) (n m : ℕ) {E : Type 0} (r : Result Reply E) → Solves kind i d → v ≡ Accepted →
     n ≡ (size_of kind i).vertices → m ≡ (size_of kind i).edges → IfOk r (λ a. a.text.items ≡ trial_text (record { vertices = n; edges = m }) d v) → IfOk r (λ a. IsTried kind i a.text.items)
 solved_is_tried kind i d v n m (Ok a) solves accepted vertices edges text = (d, solves, text ∙ same_text (size_of kind i) d v n m vertices edges accepted)
 solved_is_tried kind i d v n m (Err e) solves accepted vertices edges text = tt
 
-pub accepted_is_done : (v : Verdict) {E : Type 0} (r : Result Answer E) → v ≡ Accepted → IfOk r (λ a. a.status ≡ status_of v) → IfOk r (λ a. a.status ≡ Done)
+pub accepted_is_done : (v : Verdict) {E : Type 0} (r : Result Reply E) → v ≡ Accepted → IfOk r (λ a. a.status ≡ status_of v) → IfOk r (λ a. a.status ≡ Done)
 accepted_is_done v (Ok a) accepted status = status ∙ ap status_of accepted
 accepted_is_done v (Err e) accepted status = tt
 
-pub tried_answers : (kind : Kind) (i : Network) {E : Type 0} (r : Result Answer E) → IsWithinLimits (size_of kind i) → IfOk r (λ a. IsTried kind i a.text.items) →
+pub tried_answers : (kind : Kind) (i : Network) {E : Type 0} (r : Result Reply E) → IsWithinLimits (size_of kind i) → IfOk r (λ a. IsTried kind i a.text.items) →
     IfOk r (λ a. a.status ≡ Done) → IfOk r (DecidesTrial kind i)
 tried_answers kind i (Ok a) fits tried done = subst (λ (s : Status). TrialAnswer kind i a.text.items s) (sym done) (fits, tried)
 tried_answers kind i (Err e) fits tried done = tt

@@ -14,7 +14,7 @@ use Rattle.cert_check.specs.Verdicts.{IsVerdict}
 use Rattle.certificates.specs.Proved.{StatesTruth}
 use Rattle.match_cli.specs.declared.status.Status.{Status}
 use Rattle.match_cli.specs.declared.status.Status.TheVariants.{Done, Rejected, TooLarge}
-use Rattle.match_cli.specs.declared.answer.Answer.{Answer}
+use Rattle.match_cli.specs.declared.reply.Reply.{Reply}
 use Rattle.match_cli.specs.Lines.{rejected_line, too_large_line}
 
 -- ---- a document of an instance: accepted and true, or refused by its first rule
@@ -24,7 +24,7 @@ DocumentAnswer kind i d out Done = IsVerdict kind i d verdict.Accepted × States
 DocumentAnswer kind i d out Rejected = (rule : DocRule) × (line : ℕ) × IsVerdict kind i d (verdict.Rejected rule line) × (out ≡ rejected_line rule line)
 DocumentAnswer kind i d out status = ⊥
 
-abbrev pub DecidesDocument : Kind → Network → Document → Answer → Type 0
+abbrev pub DecidesDocument : Kind → Network → Document → Reply → Type 0
 DecidesDocument kind i d a = DocumentAnswer kind i d a.text.items a.status
 
 -- ---- what follows an instance, from line n on
@@ -39,7 +39,7 @@ RestAnswer kind i n bytes out Done = (d : Document) × HoldsDocument n (rows byt
 RestAnswer kind i n bytes out Rejected = (rule : DocRule) × (line : ℕ) × RefusesFirst kind i n (rows bytes) rule line × (out ≡ rejected_line rule line)
 RestAnswer kind i n bytes out status = ⊥
 
-abbrev pub DecidesRest : Kind → Network → ℕ → List ℕ → Answer → Type 0
+abbrev pub DecidesRest : Kind → Network → ℕ → List ℕ → Reply → Type 0
 DecidesRest kind i n bytes a = RestAnswer kind i n bytes a.text.items a.status
 
 -- ---- an instance and what follows it: the graph that certificates speak of is within the limits, or the size is refused
@@ -48,5 +48,5 @@ abbrev pub InstanceAnswer : Kind → Network → ℕ → List ℕ → List ℕ �
 InstanceAnswer kind i n bytes out TooLarge = ¬ IsWithinLimits (size_of kind i) × (out ≡ too_large_line (size_of kind i))
 InstanceAnswer kind i n bytes out status = IsWithinLimits (size_of kind i) × RestAnswer kind i n bytes out status
 
-abbrev pub DecidesInstance : Kind → Network → ℕ → List ℕ → Answer → Type 0
+abbrev pub DecidesInstance : Kind → Network → ℕ → List ℕ → Reply → Type 0
 DecidesInstance kind i n bytes a = InstanceAnswer kind i n bytes a.text.items a.status

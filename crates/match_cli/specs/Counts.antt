@@ -8,7 +8,7 @@ use Rattle.mwpm_engine.specs.Solutions.{most_steps}
 use Rattle.mb_problem.specs.Kinds.{searches_of}
 use Rattle.match_cli.specs.declared.status.Status.{Status}
 use Rattle.match_cli.specs.declared.status.Status.TheVariants.{Done, OutOfMemory}
-use Rattle.match_cli.specs.declared.answer.Answer.{Answer}
+use Rattle.match_cli.specs.declared.reply.Reply.{Reply}
 use Rattle.command_words.specs.declared.command.Command.{Command}
 use Rattle.command_words.specs.declared.command.Command.TheVariants.{Check, Solve, Trial}
 use Rattle.command_words.specs.Commands.{command_of}
@@ -31,7 +31,7 @@ abbrev pub CountsSteps : Option Command → ℕ → ℕ → Status → Type 0
 CountsSteps command before after Done = CountsSearch command before after
 CountsSteps command before after status = after ≡ before
 
-abbrev pub CountsAnswer : {E : Type 0} → Command → ℕ → ℕ → Result Answer E → Type 0
+abbrev pub CountsAnswer : {E : Type 0} → Command → ℕ → ℕ → Result Reply E → Type 0
 CountsAnswer command before after (Ok a) = CountsSteps (Some command) before after a.status
 CountsAnswer command before after (Err e) = CountsSearch (Some command) before after
 

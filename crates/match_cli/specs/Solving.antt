@@ -14,7 +14,7 @@ use Rattle.solve_kinds.specs.Chosen.{IsChosen}
 use Rattle.solve_kinds.specs.Solved.{HasTrueStatus}
 use Rattle.match_cli.specs.declared.status.Status.{Status}
 use Rattle.match_cli.specs.declared.status.Status.TheVariants.{Done, Malformed, TooLarge}
-use Rattle.match_cli.specs.declared.answer.Answer as written
+use Rattle.match_cli.specs.declared.reply.Reply.{Reply}
 use Rattle.match_cli.specs.Lines.{malformed_line, too_large_line}
 
 -- ---- an instance within the limits
@@ -33,7 +33,7 @@ abbrev pub SolvedAnswer : Kind → Bool → Network → List ℕ → Status → 
 SolvedAnswer kind brief i out Done = (d : Document) × Solves kind i d × (out ≡ document_text d brief)
 SolvedAnswer kind brief i out status = ⊥
 
-abbrev pub DecidesSolved : Kind → Bool → Network → written.Answer → Type 0
+abbrev pub DecidesSolved : Kind → Bool → Network → Reply → Type 0
 DecidesSolved kind brief i a = SolvedAnswer kind brief i a.text.items a.status
 
 -- ---- an instance of any size
@@ -42,7 +42,7 @@ abbrev pub SizedAnswer : Kind → Bool → Network → List ℕ → Status → T
 SizedAnswer kind brief i out TooLarge = ¬ IsWithinLimits (size_of kind i) × (out ≡ too_large_line (size_of kind i))
 SizedAnswer kind brief i out status = IsWithinLimits (size_of kind i) × SolvedAnswer kind brief i out status
 
-abbrev pub DecidesSized : Kind → Bool → Network → written.Answer → Type 0
+abbrev pub DecidesSized : Kind → Bool → Network → Reply → Type 0
 DecidesSized kind brief i a = SizedAnswer kind brief i a.text.items a.status
 
 -- ---- an instance and what follows it: nothing should
@@ -51,5 +51,5 @@ abbrev pub FollowedAnswer : Kind → Bool → Network → Rest → List ℕ → 
 FollowedAnswer kind brief i rest out Malformed = (rest.bytes ≢ []) × (out ≡ malformed_line UnknownLine rest.line)
 FollowedAnswer kind brief i rest out status = (rest.bytes ≡ []) × SizedAnswer kind brief i out status
 
-abbrev pub DecidesFollowed : Kind → Bool → Network → Rest → written.Answer → Type 0
+abbrev pub DecidesFollowed : Kind → Bool → Network → Rest → Reply → Type 0
 DecidesFollowed kind brief i rest a = FollowedAnswer kind brief i rest a.text.items a.status

@@ -9,7 +9,7 @@ use Rattle.cert_check.specs.declared.rule.Verdict.{Verdict}
 use Rattle.cert_check.specs.declared.rule.Verdict.TheVariants.{Accepted}
 use Rattle.match_cli.specs.declared.status.Status.{Status}
 use Rattle.match_cli.specs.declared.status.Status.TheVariants.{Done, TooLarge}
-use Rattle.match_cli.specs.declared.answer.Answer as written
+use Rattle.match_cli.specs.declared.reply.Reply.{Reply}
 use Rattle.match_cli.specs.Lines.{graph_line, statement_line, verdict_line, too_large_line}
 use Rattle.match_cli.specs.Solving.{Solves}
 
@@ -27,5 +27,5 @@ TrialAnswer kind i out Done = IsWithinLimits (size_of kind i) × IsTried kind i 
 TrialAnswer kind i out TooLarge = ¬ IsWithinLimits (size_of kind i) × (out ≡ too_large_line (size_of kind i))
 TrialAnswer kind i out status = ⊥
 
-abbrev pub DecidesTrial : Kind → Network → written.Answer → Type 0
+abbrev pub DecidesTrial : Kind → Network → Reply → Type 0
 DecidesTrial kind i a = TrialAnswer kind i a.text.items a.status

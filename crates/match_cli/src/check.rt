@@ -5,8 +5,8 @@ ghost use Rattle.mb_problem.specs.Ready.{IsReady};
 ghost use Rattle.match_cli.specs.Answers.{Decides};
 ghost use Rattle.match_cli.specs.Checking.{DecidesDocument, DecidesRest, DecidesInstance};
 
-use crate::answer::Answer;
 use crate::refusal::{is_within_limits, malformed, too_large};
+use crate::reply::Reply;
 use crate::verdict::{judged, rejected};
 use cert_check::{DocRule, judge};
 use dimacs_read::{InstanceError, Rest, read};
@@ -21,7 +21,7 @@ fn check_document(
     kind: Kind,
     instance: &Instance,
     document: &Document,
-) -> Result<Answer, OutOfMemory>
+) -> Result<Reply, OutOfMemory>
     requires limits { IsWithinLimits (size_of kind instance.now) }
     requires ready { IsReady kind instance.now }
     ensures { IfOk result (DecidesDocument kind instance.now document.now) }
@@ -36,7 +36,7 @@ fn check_rest(
     kind: Kind,
     instance: &Instance,
     rest: &Rest,
-) -> Result<Answer, OutOfMemory>
+) -> Result<Reply, OutOfMemory>
     requires limits { IsWithinLimits (size_of kind instance.now) }
     requires ready { IsReady kind instance.now }
     requires low { 1 ≤ rest.now.line }
@@ -56,7 +56,7 @@ fn check_instance(
     kind: Kind,
     instance: &Instance,
     rest: &Rest,
-) -> Result<Answer, OutOfMemory>
+) -> Result<Reply, OutOfMemory>
     requires ready { IsReady kind instance.now }
     requires low { 1 ≤ rest.now.line }
     requires high { rest.now.line ≤ 2 ^ 62 }
@@ -70,7 +70,7 @@ fn check_instance(
 }
 
 /// What `check` answers to bytes within its limit.
-pub fn check(alloc: Global, kind: Kind, bytes: &[u8]) -> Result<Answer, OutOfMemory>
+pub fn check(alloc: Global, kind: Kind, bytes: &[u8]) -> Result<Reply, OutOfMemory>
     requires { length bytes.now ≤ 2 ^ 32 }
     ensures { IfOk result (λ a. Decides kind bytes.now a.text.items a.status) }
 {

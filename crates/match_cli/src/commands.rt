@@ -5,10 +5,10 @@ ghost use Rattle.match_cli.specs.Answers.{Answers, Gives};
 ghost use Rattle.match_cli.specs.Commands.{limit_of, IsShort};
 ghost use Rattle.match_cli.specs.Counts.{CountsAnswer, CountsInstance};
 
-use crate::answer::Answer;
 use crate::check::check;
 use crate::limits::{CHECK_BYTE_LIMIT, SOLVE_BYTE_LIMIT};
 use crate::refusal::too_long;
+use crate::reply::Reply;
 use crate::solve::solve;
 use crate::trial::trial;
 use command_words::Command;
@@ -44,7 +44,7 @@ fn answer_within<L: Ledger>(
     command: Command,
     bytes: &[u8],
     steps: &mut Steps<L>,
-) -> Result<Answer, OutOfMemory>
+) -> Result<Reply, OutOfMemory>
     requires ranges { HasRanges command }
     requires short { IsShort command bytes.now }
     ensures answer { IfOk result (λ a. Answers command bytes.now a.text.items a.status) }
@@ -67,7 +67,7 @@ pub fn answer_to<L: Ledger>(
     command: Command,
     bytes: &[u8],
     steps: &mut Steps<L>,
-) -> Result<Answer, OutOfMemory>
+) -> Result<Reply, OutOfMemory>
     requires ranges { HasRanges command }
 
     // Which text and status come for which bytes.

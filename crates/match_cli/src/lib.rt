@@ -7,11 +7,11 @@
 //! is written in full is accepted, and what each fault leaves.
 #![tactic(auto)]
 
-mod answer;
 mod check;
 mod commands;
 mod limits;
 mod refusal;
+mod reply;
 mod solve;
 mod status;
 mod top;
@@ -19,8 +19,8 @@ mod trial;
 mod trials;
 mod verdict;
 
-pub use answer::Answer;
 pub use commands::answer_to;
 pub use limits::{CHECK_BYTE_LIMIT, SOLVE_BYTE_LIMIT};
+pub use reply::Reply;
 pub use status::Status;
 pub use top::run;

@@ -2,7 +2,7 @@ ghost use Rattle.std.specs.Prelude.{◌≡◌, ◌↔◌, IsTrue, IfOk, codes};
 ghost use Rattle.graph_theory.specs.Limits.{IsWithinLimits};
 ghost use Rattle.match_cli.specs.Lines.{malformed_line, too_large_line};
 
-use crate::answer::{Answer, line, line_of_size};
+use crate::reply::{Reply, line, line_of_size};
 use crate::status::Status;
 use dimacs_read::Rule;
 use graph_theory::{GRAPH_EDGE_LIMIT, GRAPH_VERTEX_LIMIT};
@@ -10,13 +10,13 @@ use mb_base::OutOfMemory;
 use std::alloc::Global;
 
 /// The answer to an instance that breaks a rule at a line.
-pub fn malformed(alloc: Global, rule: Rule, number: u64) -> Result<Answer, OutOfMemory>
+pub fn malformed(alloc: Global, rule: Rule, number: u64) -> Result<Reply, OutOfMemory>
     ensures text { IfOk result (λ a. a.text.items ≡ malformed_line rule number) }
     ensures status { IfOk result (λ a. a.status ≡ Status.Malformed) }
 {
     let text = line(alloc, b"s MALFORMED ", rule.name().as_bytes(), number)?;
     let status = Status::Malformed;
-    Ok(Answer { text, status })
+    Ok(Reply { text, status })
 }
 
 /// Whether a graph of this size may be searched and certified.
@@ -30,22 +30,22 @@ pub fn is_within_limits(vertices: u64, edges: u64) -> bool
 }
 
 /// The answer to an instance whose certificates speak of a graph past a limit.
-pub fn too_large(alloc: Global, vertices: u64, edges: u64) -> Result<Answer, OutOfMemory>
+pub fn too_large(alloc: Global, vertices: u64, edges: u64) -> Result<Reply, OutOfMemory>
     ensures text { IfOk result (λ a. a.text.items ≡ too_large_line
         (record { vertices = vertices; edges = edges })) }
     ensures status { IfOk result (λ a. a.status ≡ Status.TooLarge) }
 {
     let text = line_of_size(alloc, b"s TOOLARGE ", vertices, edges)?;
     let status = Status::TooLarge;
-    Ok(Answer { text, status })
+    Ok(Reply { text, status })
 }
 
 /// The answer to an input past its command's limit.
-pub fn too_long(alloc: Global) -> Result<Answer, OutOfMemory>
+pub fn too_long(alloc: Global) -> Result<Reply, OutOfMemory>
     ensures text { IfOk result (λ a. a.text.items ≡ codes "s TOOLONG\n") }
     ensures status { IfOk result (λ a. a.status ≡ Status.TooLong) }
 {
     let text = Vec::from_slice(alloc, b"s TOOLONG\n")?;
     let status = Status::TooLong;
-    Ok(Answer { text, status })
+    Ok(Reply { text, status })
 }

@@ -10,8 +10,8 @@ ghost use Rattle.match_cli.specs.Answers.{DecidesSolve};
 ghost use Rattle.match_cli.specs.Counts.{CountsAnswer, CountsInstance};
 ghost use Rattle.match_cli.specs.Solving.{DecidesSolved, DecidesSized, DecidesFollowed};
 
-use crate::answer::Answer;
 use crate::refusal::{is_within_limits, malformed, too_large};
+use crate::reply::Reply;
 use crate::status::Status;
 use command_words::Command;
 use dimacs_read::{InstanceError, Rest, Rule, read};
@@ -21,13 +21,13 @@ use mb_problem::{Instance, Kind, gadget_size};
 use std::alloc::{AllocError, Global};
 use std::sync::ledger::Ledger;
 
-fn solved(alloc: Global, document: &Document, brief: bool) -> Result<Answer, OutOfMemory>
+fn solved(alloc: Global, document: &Document, brief: bool) -> Result<Reply, OutOfMemory>
     ensures text { IfOk result (λ a. a.text.items ≡ document_text document.now brief) }
     ensures status { IfOk result (λ a. a.status ≡ Status.Done) }
 {
     let text = write(alloc, document, brief)?;
     let status = Status::Done;
-    Ok(Answer { text, status })
+    Ok(Reply { text, status })
 }
 
 /// The answer to an instance within the limits.
@@ -37,7 +37,7 @@ fn solve_within<L: Ledger>(
     brief: bool,
     instance: &Instance,
     steps: &mut Steps<L>,
-) -> Result<Answer, OutOfMemory>
+) -> Result<Reply, OutOfMemory>
     requires ready { IsReady kind instance.now }
     requires limits { IsWithinLimits (size_of kind instance.now) }
     requires network { IsNetwork instance.now }
@@ -45,7 +45,7 @@ fn solve_within<L: Ledger>(
     ensures counted { steps.new ≤ steps.old + searches_of kind * most_steps
         (size_of kind instance.now) }
 {
-    match solve_kinds::solve(alloc, instance, kind, steps) {
+    match solve_kinds::solve_written(alloc, instance, kind, brief, steps) {
         Ok(document) => solved(alloc, &document, brief),
         Err(_) => Err(AllocError),
     }
@@ -58,7 +58,7 @@ fn solve_instance<L: Ledger>(
     brief: bool,
     instance: &Instance,
     steps: &mut Steps<L>,
-) -> Result<Answer, OutOfMemory>
+) -> Result<Reply, OutOfMemory>
     requires ready { IsReady kind instance.now }
     requires network { IsNetwork instance.now }
     ensures answer { IfOk result (DecidesSized kind brief instance.now) }
@@ -81,7 +81,7 @@ fn solve_followed<L: Ledger>(
     instance: &Instance,
     rest: &Rest,
     steps: &mut Steps<L>,
-) -> Result<Answer, OutOfMemory>
+) -> Result<Reply, OutOfMemory>
     requires ready { IsReady kind instance.now }
     requires network { IsNetwork instance.now }
     ensures answer { IfOk result (DecidesFollowed kind brief instance.now rest.now) }
@@ -102,7 +102,7 @@ pub fn solve<L: Ledger>(
     brief: bool,
     bytes: &[u8],
     steps: &mut Steps<L>,
-) -> Result<Answer, OutOfMemory>
+) -> Result<Reply, OutOfMemory>
     requires short { length bytes.now ≤ 2 ^ 32 }
     ensures answer { IfOk result (λ a. DecidesSolve kind brief bytes.now a.text.items a.status) }
     ensures steps { CountsAnswer (Command.Solve kind brief) steps.old steps.new result }

@@ -8,8 +8,8 @@ ghost use Rattle.match_cli.specs.Counts.{CountsAnswer, CountsInstance, CountsSou
 ghost use Rattle.match_cli.specs.Prepared.{Prepares, PreparesUsage, CountsPrepared, Readies};
 ghost use Rattle.match_cli.specs.Prepared.{CountsPreparedSteps};
 
-use crate::answer::Answer;
 use crate::commands::{answer_to, limit};
+use crate::reply::Reply;
 use crate::status::Status;
 use command_words::{Command, read_command};
 use mb_base::{OutOfMemory, ReadAll, Sink, Source, Steps, read_all, write_all};
@@ -23,11 +23,11 @@ pub enum Stop {
     OutOfMemory,
 }
 
-fn ready(alloc: Global, text: &[u8], status: Status) -> Result<Answer, Stop>
+fn ready(alloc: Global, text: &[u8], status: Status) -> Result<Reply, Stop>
     ensures { Readies text.now status result }
 {
     match Vec::from_slice(alloc, text) {
-        Ok(text) => Ok(Answer { text, status }),
+        Ok(text) => Ok(Reply { text, status }),
         Err(_) => Err(Stop::OutOfMemory),
     }
 }
@@ -38,7 +38,7 @@ fn decide<L: Ledger>(
     command: Command,
     bytes: &[u8],
     steps: &mut Steps<L>,
-) -> Result<Answer, Stop>
+) -> Result<Reply, Stop>
     requires ranges { HasRanges command }
     ensures answer { IfOk result (λ a. Gives command bytes.now a.text.items a.status) }
     ensures memory { IfErr result (λ stop. stop ≡ Stop.OutOfMemory) }
@@ -57,7 +57,7 @@ fn prepare<I: Source, L: Ledger>(
     words: &Vec<String>,
     source: &mut I,
     steps: &mut Steps<L>,
-) -> Result<Answer, Stop>
+) -> Result<Reply, Stop>
     requires { I.faults source.old < 2 ^ 64 - 1 }
     ensures answer { Prepares (map string_bytes words.now.items) (I.left source.old)
         (I.left source.new) result }

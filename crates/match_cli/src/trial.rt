@@ -12,8 +12,8 @@ ghost use Rattle.match_cli.specs.Codes.{status_of};
 ghost use Rattle.match_cli.specs.Lines.{statement_line};
 ghost use Rattle.match_cli.specs.Trying.{trial_text, IsTried, DecidesTrial};
 
-use crate::answer::{Answer, line_of_size};
 use crate::refusal::{is_within_limits, too_large};
+use crate::reply::{Reply, line_of_size};
 use crate::status::Status;
 use crate::trials::{Trial, try_instance};
 use crate::verdict::judged;
@@ -44,7 +44,7 @@ fn statement(alloc: Global, document: &Document) -> Result<Vec<u8>, OutOfMemory>
 }
 
 /// What is written of a trial on a graph of this size.
-fn told(alloc: Global, vertices: u64, edges: u64, tried: &Trial) -> Result<Answer, OutOfMemory>
+fn told(alloc: Global, vertices: u64, edges: u64, tried: &Trial) -> Result<Reply, OutOfMemory>
     ensures text { IfOk result (λ a. a.text.items
         ≡ trial_text (record { vertices = vertices; edges = edges }) tried.now.document
         tried.now.verdict) }
@@ -56,7 +56,7 @@ fn told(alloc: Global, vertices: u64, edges: u64, tried: &Trial) -> Result<Answe
     text.extend_from_slice(&statement)?;
     text.extend_from_slice(&judged.text)?;
     let status = judged.status;
-    Ok(Answer { text, status })
+    Ok(Reply { text, status })
 }
 
 /// The answer to an instance within the limits: it is solved, and its document judged.
@@ -65,7 +65,7 @@ fn try_within<L: Ledger>(
     kind: Kind,
     instance: &Instance,
     steps: &mut Steps<L>,
-) -> Result<Answer, OutOfMemory>
+) -> Result<Reply, OutOfMemory>
     requires ready { IsReady kind instance.now }
     requires network { IsNetwork instance.now }
     requires limits { IsWithinLimits (size_of kind instance.now) }
@@ -88,7 +88,7 @@ pub fn trial<L: Ledger>(
     n: u32,
     m: u32,
     steps: &mut Steps<L>,
-) -> Result<Answer, OutOfMemory>
+) -> Result<Reply, OutOfMemory>
     requires vertices { n ≤ VERTEX_LIMIT }
     requires edges { m ≤ EDGE_LIMIT }
     requires ends { 0 < m → 2 ≤ n }

@@ -19,7 +19,8 @@ use Rattle.doc_format.proofs.PartLaws.{barrier_ascends}
 use Rattle.certificates.proofs.WithinLemmas.{barrier-in}
 use Rattle.cert_check.proofs.infeasible.has_barrier.Goals as goal
 
-none_of : (kind : Kind) (i : Network) (r : Result Bool AllocError) → ReachesAll kind i → IfOk r (λ b. IsTrue b → (counts : List ℕ) → IsPerfect (gadget_graph kind i) counts → ⊥) → IfOk r (λ b. IsTrue b → HasNoAnswer kind i)
+none_of : (kind : Kind) (i : Network) (r : Result Bool AllocError) → ReachesAll kind i → IfOk r (λ b. IsTrue b → (counts : List ℕ) → IsPerfect (gadget_graph kind i) counts → ⊥) →
+    IfOk r (λ b. IsTrue b → HasNoAnswer kind i)
 none_of kind i (Ok b) reached h = λ t. no_answer kind i reached (h t)
 none_of kind i (Err e) reached h = tt
 
@@ -28,7 +29,7 @@ members_of-requires c =
     let g = gadget_graph c.args.kind c.args.instance.now in
     let u : MemberLine = c.in-Some.u in
     let within : All (IsUpTo g.vertices) u.members = rw c.in-Some.is at (barrier-in c.args.kind c.args.instance.now c.args.document.now c.requires.within) in
-    let few : g.vertices ≤ GRAPH_VERTEX_LIMIT = few_vertices c.args.kind c.args.instance.now c.requires.limits in
+    let few : g.vertices ≤ GRAPH_VERTEX_LIMIT = few_vertices c.args.kind c.args.instance.now c.requires.judged.limits in
     subst (λ (zs : List ℤ). All (IsUpTo GRAPH_VERTEX_LIMIT) zs) (sym c.as_slice.ensures) (up_to-more g.vertices GRAPH_VERTEX_LIMIT u.members few within)
 
 pub is_barrier-requires : goal.is_barrier-requires
@@ -54,4 +55,5 @@ pub returns-clause-none : goal.returns-clause-none
 returns-clause-none c =
     let i = c.args.instance.now in
     let graph : c.in_ok-graph.graph ≡ gadget_graph c.args.kind i = c.in_ok-graph.ensures.graph in
-    none_of c.args.kind i c.is_barrier.result c.in_ok-graph.ensures.reached (subst (λ (g : Multigraph). IfOk c.is_barrier.result (λ b. IsTrue b → (counts : List ℕ) → IsPerfect g counts → ⊥)) graph c.is_barrier.ensures.none)
+    none_of c.args.kind i c.is_barrier.result c.in_ok-graph.ensures.reached
+    (subst (λ (g : Multigraph). IfOk c.is_barrier.result (λ b. IsTrue b → (counts : List ℕ) → IsPerfect g counts → ⊥)) graph c.is_barrier.ensures.none)

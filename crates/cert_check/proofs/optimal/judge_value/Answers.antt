@@ -26,4 +26,5 @@ returns-clause-sound c =
     let d = c.args.document.now in
     let feasible : HasFeasibleAnswer c.args.kind i d = c.requires.before NotFeasible (omega arith) c.requires.status in
     let weighs : HasStatedWeight c.args.kind i d = c.requires.before WeightDiffers (omega arith) c.requires.status in
-    λ _. subst (λ (s : DocStatus). StatesTruthBy s c.args.kind i d) (sym c.requires.status) (best-by_value c.args.kind i d c.args.value feasible weighs (value c) c.requires.below c.requires.reached)
+    λ _. subst (λ (s : DocStatus). StatesTruthBy s c.args.kind i d) (sym c.requires.status)
+    (best-by_value c.args.kind i d c.args.value feasible weighs (value c) c.requires.below c.requires.reached)

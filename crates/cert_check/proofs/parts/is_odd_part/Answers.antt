@@ -12,5 +12,7 @@ returns c =
     let i = c.args.instance.now in
     let set = c.args.members.now in
     let marked : AreMarks c.vertices-n.result c.in_ok-marks.marks.items set = c.in_ok-marks.ensures in
-    let are : AreMarks (vertices i) c.deref.result.now set = subst (λ (n : ℕ). AreMarks n c.deref.result.now set) c.vertices-n.ensures.count (subst (λ (ms : List Bool). AreMarks c.vertices-n.result ms set) (sym c.deref.ensures.value) marked) in
+    let are : AreMarks (vertices i) c.deref.result.now set =
+    subst (λ (n : ℕ). AreMarks n c.deref.result.now set) c.vertices-n.ensures.count
+    (subst (λ (ms : List Bool). AreMarks c.vertices-n.result ms set) (sym c.deref.ensures.value) marked) in
     odd-by_marks i c.deref.result.now set c.leaves_none.result c.vertices-n.ensures.network are c.requires (c.holds_odd.ensures.0 c.if-not-holds_odd.false) c.leaves_none.ensures

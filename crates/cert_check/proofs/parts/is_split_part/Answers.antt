@@ -14,7 +14,9 @@ returns-then-not-has_edge c =
     let i = c.args.instance.now in
     let set = c.args.members.now in
     let marked : AreMarks c.vertices-n.result c.in_ok-marks.marks.items set = c.in_ok-marks.ensures in
-    let are : AreMarks (vertices i) c.deref.result.now set = subst (λ (n : ℕ). AreMarks n c.deref.result.now set) c.vertices-n.ensures.count (subst (λ (ms : List Bool). AreMarks c.vertices-n.result ms set) (sym c.deref.ensures.value) marked) in (
+    let are : AreMarks (vertices i) c.deref.result.now set =
+    subst (λ (n : ℕ). AreMarks n c.deref.result.now set) c.vertices-n.ensures.count
+    (subst (λ (ms : List Bool). AreMarks c.vertices-n.result ms set) (sym c.deref.ensures.value) marked) in (
       (λ t. absurd (false≢true t)),
       (λ part. absurd (false≢true (c.if-not-has_edge.ensures.1 ((marked-edge i c.deref.result.now set true c.vertices-n.ensures.network are).1 part.inside)))),
     )
@@ -24,7 +26,9 @@ returns-then-not-has_edge-2 c =
     let i = c.args.instance.now in
     let set = c.args.members.now in
     let marked : AreMarks c.vertices-n.result c.in_ok-marks.marks.items set = c.in_ok-marks.ensures in
-    let are : AreMarks (vertices i) c.deref-2.result.now set = subst (λ (n : ℕ). AreMarks n c.deref-2.result.now set) c.vertices-n.ensures.count (subst (λ (ms : List Bool). AreMarks c.vertices-n.result ms set) (sym c.deref-2.ensures.value) marked) in (
+    let are : AreMarks (vertices i) c.deref-2.result.now set =
+    subst (λ (n : ℕ). AreMarks n c.deref-2.result.now set) c.vertices-n.ensures.count
+    (subst (λ (ms : List Bool). AreMarks c.vertices-n.result ms set) (sym c.deref-2.ensures.value) marked) in (
       (λ t. absurd (false≢true t)),
       (λ part. absurd (false≢true (c.if-not-has_edge-2.ensures.1 ((marked-edge i c.deref-2.result.now set false c.vertices-n.ensures.network are).1 part.outside)))),
     )
@@ -34,7 +38,9 @@ returns c =
     let i = c.args.instance.now in
     let set = c.args.members.now in
     let marked : AreMarks c.vertices-n.result c.in_ok-marks.marks.items set = c.in_ok-marks.ensures in
-    let are : AreMarks (vertices i) c.deref-3.result.now set = subst (λ (n : ℕ). AreMarks n c.deref-3.result.now set) c.vertices-n.ensures.count (subst (λ (ms : List Bool). AreMarks c.vertices-n.result ms set) (sym c.deref-3.ensures.value) marked) in
+    let are : AreMarks (vertices i) c.deref-3.result.now set =
+    subst (λ (n : ℕ). AreMarks n c.deref-3.result.now set) c.vertices-n.ensures.count
+    (subst (λ (ms : List Bool). AreMarks c.vertices-n.result ms set) (sym c.deref-3.ensures.value) marked) in
     let first : c.deref.result.now ≡ c.deref-3.result.now = c.deref.ensures.value ∙ sym c.deref-3.ensures.value in
     let second : c.deref-2.result.now ≡ c.deref-3.result.now = c.deref-2.ensures.value ∙ sym c.deref-3.ensures.value in
     let inside : HasEdgeMarked i c.deref-3.result.now true = subst (λ (ms : List Bool). HasEdgeMarked i ms true) first (c.has_edge.ensures.0 c.if-not-has_edge.false) in

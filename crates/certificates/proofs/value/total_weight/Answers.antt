@@ -15,7 +15,8 @@ loop-edge-preserved c =
     let m = length i.edges in
     let k = c.loop-edge.edge-index in
     let e : InstanceEdge = c.edge-item.result in
-    let here : e ≡ instance_edge_at i k = get_or_read _ k e c.loop-edge-test.true c.edge-item.is no_instance_edge ∙ ap (λ (es : List InstanceEdge). slice_index_or es k no_instance_edge) c.edge_list-edge-items.ensures.list in
+    let here : e ≡ instance_edge_at i k = get_or_read _ k e c.loop-edge-test.true c.edge-item.is no_instance_edge
+    ∙ ap (λ (es : List InstanceEdge). slice_index_or es k no_instance_edge) c.edge_list-edge-items.ensures.list in
     let whole : length c.edge_list-edge-items.result.now ≡ m = ap length c.edge_list-edge-items.ensures.list in
     let few : m ≤ 65536 = c.edge_list-edge-items.ensures.network.few_edges in
     let step = int_sum_to-more (λ j. pos (slice_index (replicate m 1) j) *ℤ (edge_at (graph_of i) j).w) k in

@@ -41,6 +41,7 @@ lines-preserved c =
     let left = rows c.in-Some.after.now in
     let at = rows_more c.lines.rest.now c.in-Some.text.now c.in-Some.after.now c.in-Some.ensures.line in
     record {
-      skips = skips_more c.args.line rs c.lines.number row left (skips_at c.args.line rs c.lines.number (rows c.lines.rest.now) (row ∷ left) at c.lines.invariant.skips) c.in_default-first_field.ensures;
+      skips = skips_more c.args.line rs c.lines.number row left
+          (skips_at c.args.line rs c.lines.number (rows c.lines.rest.now) (row ∷ left) at c.lines.invariant.skips) c.in_default-first_field.ensures;
       small = omega (arith, c.in-Some.ensures.rest, c.lines.invariant.small);
     }

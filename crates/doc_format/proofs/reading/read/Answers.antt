@@ -2,13 +2,14 @@ use Rattle.std.proofs.Common.{◌≡◌, ◌∷◌, [], refl, ap, arith}
 use Rattle.std.proofs.lemmas.Result.{err_from_is_err_and}
 use Rattle.mb_base.specs.Text.{fields}
 use Rattle.mb_base.specs.Rows.{rows}
-use Rattle.doc_format.specs.Steps.{IsRead}
+use Rattle.doc_format.proofs.SoFar.{IsRead}
 use Rattle.doc_format.proofs.Lines.{rows_more, opened, read_at, read_more, refused_by, read_whole}
 use Rattle.doc_format.proofs.reading.read.Goals as goal
 
 pub lines-init : goal.lines-init
 lines-init c = record {
-  is_read = opened c.args.line (rows c.args.bytes.now) (rows c.in-Ok.opening.1.now) c.in-Ok.opening.0 c.new-draft.result.document c.in-Ok.ensures.opening c.new-draft.ensures.head c.new-draft.ensures.parts;
+  is_read = opened c.args.line (rows c.args.bytes.now)
+      (rows c.in-Ok.opening.1.now) c.in-Ok.opening.0 c.new-draft.result.document c.in-Ok.ensures.opening c.new-draft.ensures.head c.new-draft.ensures.parts;
   last = c.new-draft.ensures.last;
   small = omega (arith, c.in-Ok.ensures.small);
 }
@@ -19,7 +20,8 @@ returns-in_err-take c =
     let row = fields c.in-Some.text.now in
     let left = rows c.in-Some.after.now in
     let at = rows_more c.lines.rest.now c.in-Some.text.now c.in-Some.after.now c.in-Some.ensures.line in
-    let is_read : IsRead c.args.line rs c.lines.number (row ∷ left) c.lines.draft.document = read_at c.args.line rs c.lines.number (rows c.lines.rest.now) (row ∷ left) c.lines.draft.document at c.lines.invariant.is_read in
+    let is_read : IsRead c.args.line rs c.lines.number (row ∷ left) c.lines.draft.document =
+    read_at c.args.line rs c.lines.number (rows c.lines.rest.now) (row ∷ left) c.lines.draft.document at c.lines.invariant.is_read in
     let p = err_from_is_err_and c.from_residual.result c.from_residual.ensures.1 in
     rw (p.1, p.2) (refused_by c.args.line rs c.lines.number row left c.lines.draft.document c.take.new.self.document c.in_err-take.field-0.0 is_read c.in_err-take.ensures.taken)
 
@@ -29,7 +31,8 @@ lines-preserved c =
     let row = fields c.in-Some.text.now in
     let left = rows c.in-Some.after.now in
     let at = rows_more c.lines.rest.now c.in-Some.text.now c.in-Some.after.now c.in-Some.ensures.line in
-    let is_read : IsRead c.args.line rs c.lines.number (row ∷ left) c.lines.draft.document = read_at c.args.line rs c.lines.number (rows c.lines.rest.now) (row ∷ left) c.lines.draft.document at c.lines.invariant.is_read in
+    let is_read : IsRead c.args.line rs c.lines.number (row ∷ left) c.lines.draft.document =
+    read_at c.args.line rs c.lines.number (rows c.lines.rest.now) (row ∷ left) c.lines.draft.document at c.lines.invariant.is_read in
     record {
       is_read = read_more c.args.line rs c.lines.number row left c.lines.draft.document c.take.new.self.document is_read c.in_ok-take.ensures.taken.0 c.in_ok-take.ensures.taken.1;
       last = c.in_ok-take.ensures.last;

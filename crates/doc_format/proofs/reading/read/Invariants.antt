@@ -3,7 +3,7 @@ use Rattle.mb_base.specs.Rows.{rows}
 use Rattle.doc_format.specs.Form.{parts_of}
 use Rattle.doc_format.specs.Reading.{body_of}
 use Rattle.doc_format.specs.Order.{IsLast}
-use Rattle.doc_format.specs.Steps.{IsRead}
+use Rattle.doc_format.proofs.SoFar.{IsRead}
 use Rattle.doc_format.proofs.reading.read.Given as goal
 
 abbrev pub invariant-lines : goal.invariant-lines

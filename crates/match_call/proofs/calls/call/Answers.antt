@@ -15,19 +15,23 @@ answer_to-requires g c = record { ranges = subst HasRanges (sym c.command_for.en
 pub returns-in-Ok-clause-answer : goal.returns-in-Ok-clause-answer
 returns-in-Ok-clause-answer g c =
     let a = c.in-Ok.answer in
-    calls (command_for c.args.task c.args.kind) c.args.bytes.now a.text.items a.status (subst (λ (k : Command). Gives k c.args.bytes.now a.text.items a.status) c.command_for.ensures c.in-Ok.ensures.answer)
+    calls (command_for c.args.task c.args.kind) c.args.bytes.now a.text.items a.status
+    (subst (λ (k : Command). Gives k c.args.bytes.now a.text.items a.status) c.command_for.ensures c.in-Ok.ensures.answer)
 
 pub returns-in-Ok-clause-truth : goal.returns-in-Ok-clause-truth
 returns-in-Ok-clause-truth g c =
     let a = c.in-Ok.answer in
-    tells_true (command_for c.args.task c.args.kind) c.args.bytes.now a.text.items a.status (subst (λ (k : Command). Gives k c.args.bytes.now a.text.items a.status) c.command_for.ensures c.in-Ok.ensures.answer)
+    tells_true (command_for c.args.task c.args.kind) c.args.bytes.now a.text.items a.status
+    (subst (λ (k : Command). Gives k c.args.bytes.now a.text.items a.status) c.command_for.ensures c.in-Ok.ensures.answer)
 
 pub returns-in-Ok-clause-again : goal.returns-in-Ok-clause-again
 returns-in-Ok-clause-again g c =
     let a = c.in-Ok.answer in
-    accepted_behind (command_for c.args.task c.args.kind) c.args.bytes.now a.text.items a.status (subst (λ (k : Command). Gives k c.args.bytes.now a.text.items a.status) c.command_for.ensures c.in-Ok.ensures.answer)
+    accepted_behind (command_for c.args.task c.args.kind) c.args.bytes.now a.text.items a.status
+    (subst (λ (k : Command). Gives k c.args.bytes.now a.text.items a.status) c.command_for.ensures c.in-Ok.ensures.answer)
 
 pub returns-in-Ok-clause-complete : goal.returns-in-Ok-clause-complete
 returns-in-Ok-clause-complete g c =
     let a = c.in-Ok.answer in
-    is_complete (command_for c.args.task c.args.kind) c.args.bytes.now a.text.items a.status (subst (λ (k : Command). Gives k c.args.bytes.now a.text.items a.status) c.command_for.ensures c.in-Ok.ensures.answer)
+    is_complete (command_for c.args.task c.args.kind) c.args.bytes.now a.text.items a.status
+    (subst (λ (k : Command). Gives k c.args.bytes.now a.text.items a.status) c.command_for.ensures c.in-Ok.ensures.answer)

@@ -18,5 +18,7 @@ pub returns-in-Err-DocForm : goal.returns-in-Err-DocForm
 returns-in-Err-DocForm c =
     let n = c.args.rest.now.line in
     let refused = rw c.in-Err-DocForm.field-0-is at c.in-Err-DocForm.ensures in
-    let text : IfOk c.rejected.result (λ a. a.text.items ≡ rejected_line DocForm c.in-Err-DocForm.line) = subst (λ (l : ℕ). IfOk c.rejected.result (λ a. a.text.items ≡ rejected_line DocForm l)) c.in-Err-DocForm.line-is c.rejected.ensures.text in
-    form_answers c.args.kind c.args.instance.now n refused.0 c.in-Err-DocForm.line c.args.rest.now.bytes c.rejected.result refused.1 (subst (λ (b : List ℕ). IsFirstRefused n (rows b) refused.0) c.as_slice.ensures refused.2) text c.rejected.ensures.status
+    let text : IfOk c.rejected.result (λ a. a.text.items ≡ rejected_line DocForm c.in-Err-DocForm.line) =
+    subst (λ (l : ℕ). IfOk c.rejected.result (λ a. a.text.items ≡ rejected_line DocForm l)) c.in-Err-DocForm.line-is c.rejected.ensures.text in
+    form_answers c.args.kind c.args.instance.now n refused.0 c.in-Err-DocForm.line c.args.rest.now.bytes c.rejected.result refused.1
+    (subst (λ (b : List ℕ). IsFirstRefused n (rows b) refused.0) c.as_slice.ensures refused.2) text c.rejected.ensures.status

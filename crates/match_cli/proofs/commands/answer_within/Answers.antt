@@ -11,4 +11,5 @@ returns-in-Solve-clause-counted g c =
 pub returns-in-Trial-clause-counted : goal.returns-in-Trial-clause-counted
 returns-in-Trial-clause-counted g c =
     let t = c.in-Trial in
-    subst (λ (command : Command). CountsInstance (Some command) c.args.bytes.now c.args.steps.now c.trial.new.steps) (sym t.is) (trial_counted_for t.kind t.start t.n t.m c.args.bytes.now c.args.steps.now c.trial.new.steps c.trial.ensures.counted)
+    subst (λ (command : Command). CountsInstance (Some command) c.args.bytes.now c.args.steps.now c.trial.new.steps) (sym t.is)
+    (trial_counted_for t.kind t.start t.n t.m c.args.bytes.now c.args.steps.now c.trial.new.steps c.trial.ensures.counted)

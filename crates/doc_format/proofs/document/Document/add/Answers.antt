@@ -12,7 +12,10 @@ pub invariant_of-self : goal.invariant_of-self
 invariant_of-self c =
     let d = c.args.self.now in
     let kept = given_kept d (Count c.in-Count.x) c.args.part c.in-Count.is c.requires.order c.requires.form in
-    record { form = after_push (λ (l : List CountLine). IsDocument d.status d.kind d.weight (record (body_of d) { counts = l })) c.push.result d.counts c.in-Count.x c.push.new.self c.push.ensures.ok c.push.ensures.err d.form kept }
+    record {
+      form = after_push (λ (l : List CountLine). IsDocument d.status d.kind d.weight
+          (record (body_of d) { counts = l })) c.push.result d.counts c.in-Count.x c.push.new.self c.push.ensures.ok c.push.ensures.err d.form kept;
+    }
 
 pub returns-in_ok-push-in-Count-clause-parts : goal.returns-in_ok-push-in-Count-clause-parts
 returns-in_ok-push-in-Count-clause-parts c =
@@ -29,7 +32,10 @@ pub invariant_of-self-in-Dual : goal.invariant_of-self-in-Dual
 invariant_of-self-in-Dual c =
     let d = c.args.self.now in
     let kept = given_kept d (Dual c.in-Dual.y) c.args.part c.in-Dual.is c.requires.order c.requires.form in
-    record { form = after_push (λ (l : List DualLine). IsDocument d.status d.kind d.weight (record (body_of d) { duals = l })) c.push-in-Dual.result d.duals c.in-Dual.y c.push-in-Dual.new.self c.push-in-Dual.ensures.ok c.push-in-Dual.ensures.err d.form kept }
+    record {
+      form = after_push (λ (l : List DualLine). IsDocument d.status d.kind d.weight
+          (record (body_of d) { duals = l })) c.push-in-Dual.result d.duals c.in-Dual.y c.push-in-Dual.new.self c.push-in-Dual.ensures.ok c.push-in-Dual.ensures.err d.form kept;
+    }
 
 pub returns-in_ok-push-in-Dual-clause-parts : goal.returns-in_ok-push-in-Dual-clause-parts
 returns-in_ok-push-in-Dual-clause-parts c =
@@ -40,7 +46,10 @@ pub invariant_of-self-in-Set : goal.invariant_of-self-in-Set
 invariant_of-self-in-Set c =
     let d = c.args.self.now in
     let kept = given_kept d (Set c.in-Set.z) c.args.part c.in-Set.is c.requires.order c.requires.form in
-    record { form = after_push (λ (l : List SetLine). IsDocument d.status d.kind d.weight (record (body_of d) { sets = l })) c.push-in-Set.result d.sets c.in-Set.z c.push-in-Set.new.self c.push-in-Set.ensures.ok c.push-in-Set.ensures.err d.form kept }
+    record {
+      form = after_push (λ (l : List SetLine). IsDocument d.status d.kind d.weight
+          (record (body_of d) { sets = l })) c.push-in-Set.result d.sets c.in-Set.z c.push-in-Set.new.self c.push-in-Set.ensures.ok c.push-in-Set.ensures.err d.form kept;
+    }
 
 pub returns-in_ok-push-in-Set-clause-parts : goal.returns-in_ok-push-in-Set-clause-parts
 returns-in_ok-push-in-Set-clause-parts c =

@@ -10,4 +10,5 @@ pub returns-clause-last : goal.returns-clause-last
 returns-clause-last c =
     let d = c.args.self.now in
     let may : follows d.last c.args.part ≡ true = grind (arith, common_steps) in
-    last_part d.last (parts_of (body_of d.document)) c.args.part c.place_of-place.result (parts_of (body_of c.add.new.self)) c.requires.last may c.place_of-place.ensures.rank c.place_of-place.ensures.key c.in_ok-add.ensures.parts
+    last_part d.last (parts_of (body_of d.document)) c.args.part c.place_of-place.result
+    (parts_of (body_of c.add.new.self)) c.requires.last may c.place_of-place.ensures.rank c.place_of-place.ensures.key c.in_ok-add.ensures.parts

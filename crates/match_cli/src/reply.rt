@@ -8,7 +8,7 @@ use std::alloc::Global;
 
 /// What is to be written, and the status then.
 #[derive(Drop)]
-pub struct Answer {
+pub struct Reply {
     pub text: Vec<u8>,
     pub status: Status,
 }

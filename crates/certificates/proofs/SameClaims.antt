@@ -1,0 +1,166 @@
+-- A document that says the same as another, on whatever lines, claims the same and proves it as well.
+use Rattle.std.proofs.Common.{◌≡◌, Bool, ℕ, ℤ, ◌%◌, pos, ◌<ℤ◌, cond, eqb, List, [], ◌∷◌, length, map, Option, None, Some, nat_abs, refl, sym, ap, subst, ◌∙◌, MatchOption}
+use Rattle.std.specs.Option.{option_map}
+use Rattle.std.specs.Ordering.{int_eq}
+use Rattle.std.specs.List.{list_all, range_with_len}
+use Rattle.std.proofs.lemmas.Option.{same_Some}
+use Rattle.graph_theory.specs.Barrier.{IsBarrier}
+use Rattle.graph_theory.specs.Parts.{IsOddPart, IsSplitPart}
+use Rattle.graph_theory.specs.Duals.{AreDuals, IsNumber, dual_value}
+use Rattle.graph_theory.specs.Walk.{IsCircuit, walk_weight}
+use Rattle.graph_theory.specs.declared.odd_set.OddSet.{OddSet}
+use Rattle.mb_problem.specs.declared.kind.Kind.{Kind}
+use Rattle.mb_problem.specs.declared.kind.AnswerForm.{AnswerForm}
+use Rattle.mb_problem.specs.declared.kind.AnswerForm.TheVariants as form
+use Rattle.mb_problem.specs.declared.kind.Exclusion.{Exclusion}
+use Rattle.mb_problem.specs.declared.kind.Exclusion.TheVariants.{Barrier, OddPart, SplitPart, Never}
+use Rattle.mb_problem.specs.Kinds.{form_of, exclusion_of}
+use Rattle.mb_problem.specs.declared.answer.Answer.TheVariants.{Counts}
+use Rattle.mb_problem.specs.Network.{Network, vertices, graph_of, value_of}
+use Rattle.mb_problem.specs.Feasible.{IsFeasible, IsBest, weight_of}
+use Rattle.mb_problem.specs.Values.{value_for}
+use Rattle.gadget_base.specs.Certified.{gadget_graph}
+use Rattle.doc_format.specs.declared.status.DocStatus.{DocStatus}
+use Rattle.doc_format.specs.declared.status.DocStatus.TheVariants.{Optimal, Infeasible, NonConservative}
+use Rattle.doc_format.specs.declared.part.CountLine.{CountLine}
+use Rattle.doc_format.specs.declared.part.WalkLine.{WalkLine}
+use Rattle.doc_format.specs.declared.part.DualLine.{DualLine}
+use Rattle.doc_format.specs.declared.part.SetLine.{SetLine}
+use Rattle.doc_format.specs.declared.part.MemberLine.{MemberLine}
+use Rattle.doc_format.specs.declared.part.Part.{Part}
+use Rattle.doc_format.specs.declared.document.Document.{Document}
+use Rattle.doc_format.specs.Parts.{Body, Role, parts_of, each_number}
+use Rattle.doc_format.proofs.PartLaws.{bare}
+use Rattle.doc_format.specs.Reading.{body_of}
+use Rattle.doc_format.specs.Law.{unnumbered, SaysTheSame}
+use Rattle.doc_format.proofs.PartLaws.{line_laws}
+use Rattle.doc_format.proofs.WholeBack.{same_bodies}
+use Rattle.certificates.specs.Claims.{numbers, count_of, walk_of, answer_by, answer_of, duals_of, set_of, sets_of}
+use Rattle.certificates.specs.Ranges.{is_within}
+use Rattle.certificates.specs.Within.{AreWithin}
+use Rattle.certificates.specs.Certificates.{HasBarrierFor, HasPartFor, HasNegativeCircuit}
+use Rattle.certificates.specs.Proved.{ProvesOptimal, ProvesByStatus, IsProved, StatesTruthBy, StatesTruth}
+use Rattle.certificates.proofs.WithinLemmas.{are-within, in-range}
+
+-- ---- what is claimed doesn't hang on the numbers of lines
+
+all-bare : (ok : Role → ℤ → Bool) (parts : List Part) → list_all (each_number ok) (map unnumbered parts) ≡ list_all (each_number ok) parts
+all-bare ok [] = refl
+all-bare ok (part ∷ parts) = rw ((line_laws 0 part).same_numbers ok, all-bare ok parts) refl
+
+count-bare : (xs : List CountLine) (e : ℕ) → count_of (map (λ (x : CountLine). record x { line = 0 }) xs) e ≡ count_of xs e
+count-bare [] e = refl
+count-bare (x ∷ xs) e = ap (λ (k : ℕ). cond (int_eq x.edge (pos e)) (nat_abs x.count) k) (count-bare xs e)
+
+walk-bare : (w : Option WalkLine) → walk_of (option_map (λ (w : WalkLine). record w { line = 0 }) w) ≡ walk_of w
+walk-bare None = refl
+walk-bare (Some w) = refl
+
+duals-bare : (ys : List DualLine) → map (λ y. y.dual) (map (λ (y : DualLine). record y { line = 0 }) ys) ≡ map (λ y. y.dual) ys
+duals-bare [] = refl
+duals-bare (y ∷ ys) = ap (λ (l : List ℤ). y.dual ∷ l) (duals-bare ys)
+
+sets-bare : (zs : List SetLine) → map set_of (map (λ (z : SetLine). record z { line = 0 }) zs) ≡ map set_of zs
+sets-bare [] = refl
+sets-bare (z ∷ zs) = ap (λ (l : List OddSet). set_of z ∷ l) (sets-bare zs)
+
+-- a fact about the one line of a letter
+
+member-fact : (P : List ℕ → Type 0) (o p : Option MemberLine) → option_map (λ (u : MemberLine). record u { line = 0 }) o ≡ option_map (λ (u : MemberLine). record u { line = 0 }) p →
+    MatchOption o ⊥ (λ u. P (numbers u.members)) → MatchOption p ⊥ (λ u. P (numbers u.members))
+member-fact P None p same fact = absurd fact
+member-fact P (Some u) None same fact = absurd cc
+member-fact P (Some u) (Some v) same fact =
+    let lines : Some (record u { line = 0 }) ≡ Some (record v { line = 0 }) = same in
+    let members : u.members ≡ v.members = ap (λ (l : MemberLine). l.members) (same_Some (record u { line = 0 }) (record v { line = 0 }) lines) in
+    subst (λ (ms : List ℤ). P (numbers ms)) members fact
+
+circuit-fact : (P : ℤ → List ℤ → Type 0) (o p : Option WalkLine) → option_map (λ (w : WalkLine). record w { line = 0 }) o ≡ option_map (λ (w : WalkLine). record w { line = 0 }) p →
+    MatchOption o ⊥ (λ w. P w.start w.edges) → MatchOption p ⊥ (λ w. P w.start w.edges)
+circuit-fact P None p same fact = absurd fact
+circuit-fact P (Some w) None same fact = absurd cc
+circuit-fact P (Some w) (Some v) same fact =
+    let lines : record w { line = 0 } ≡ record v { line = 0 } = same_Some (record w { line = 0 }) (record v { line = 0 }) same in
+    let start : w.start ≡ v.start = ap (λ (l : WalkLine). l.start) lines in
+    let edges : w.edges ≡ v.edges = ap (λ (l : WalkLine). l.edges) lines in
+    subst (λ (es : List ℤ). P v.start es) edges (subst (λ (s : ℤ). P s w.edges) start fact)
+
+module _ (kind : Kind) (i : Network) (d e : Document) (same : SaysTheSame d e) where
+  bodies : bare (body_of d) ≡ bare (body_of e)
+  bodies = same_bodies d e same
+
+  -- a claim that the numbers of lines don't change is the same of both
+  claimed : {A : Type 0} (claim : Body → A) → ((b : Body) → claim (bare b) ≡ claim b) → claim (body_of d) ≡ claim (body_of e)
+  claimed claim plain = sym (plain (body_of d)) ∙ ap claim bodies ∙ plain (body_of e)
+
+  within_same : AreWithin kind i d → AreWithin kind i e
+  within_same within =
+      let ok = is_within (vertices i) (length i.edges) (gadget_graph kind i).vertices in
+      record {
+        weight = subst IsNumber same.weight within.weight;
+        parts =
+            sym (all-bare ok (parts_of (body_of e)))
+            ∙ ap (list_all (each_number ok)) (sym same.parts)
+            ∙ all-bare ok (parts_of (body_of d))
+            ∙ within.parts;
+      }
+
+  answers_same : (f : AnswerForm) → answer_by f i d ≡ answer_by f i e
+  answers_same form.Counts =
+      ap (λ (f : ℕ → ℕ). Counts (map f (range_with_len 1 (length i.edges)))) (claimed (λ b. count_of b.counts) (λ b k t. count-bare b.counts t k))
+  answers_same form.Walk = claimed (λ b. walk_of b.walk) (λ b. walk-bare b.walk)
+
+  answer_same : answer_of kind i d ≡ answer_of kind i e
+  answer_same = answers_same (form_of kind)
+
+  duals_same : duals_of d ≡ duals_of e
+  duals_same = claimed (λ b. map (λ y. y.dual) b.duals) (λ b. duals-bare b.duals)
+
+  sets_same : sets_of d ≡ sets_of e
+  sets_same = claimed (λ b. map set_of b.sets) (λ b. sets-bare b.sets)
+
+  barrier_same : (x : Exclusion) → HasBarrierFor x kind i d → HasBarrierFor x kind i e
+  barrier_same Barrier h = member-fact (IsBarrier (gadget_graph kind i)) d.barrier e.barrier (ap (λ (b : Body). b.barrier) bodies) h
+  barrier_same OddPart h = h
+  barrier_same SplitPart h = h
+  barrier_same Never h = h
+
+  part_same : (x : Exclusion) → HasPartFor x i d → HasPartFor x i e
+  part_same Barrier h = h
+  part_same OddPart h = member-fact (IsOddPart (graph_of i) (λ v. eqb (value_of i v % 2) 1)) d.odd e.odd (ap (λ (b : Body). b.odd) bodies) h
+  part_same SplitPart h = member-fact (IsSplitPart (graph_of i)) d.split e.split (ap (λ (b : Body). b.split) bodies) h
+  part_same Never h = h
+
+  circuit_same : HasNegativeCircuit i d → HasNegativeCircuit i e
+  circuit_same h =
+      circuit-fact (λ s es. IsCircuit (graph_of i) (nat_abs s) (numbers es) × (walk_weight (graph_of i) (numbers es) <ℤ pos 0)) d.walk e.walk (ap (λ (b : Body). b.walk) bodies) h
+
+  -- ---- the same proof
+
+  optimal_same : ProvesOptimal kind i d → ProvesOptimal kind i e
+  optimal_same p = record {
+    feasible = subst (IsFeasible kind i) answer_same p.feasible;
+    weighs = ap (weight_of kind i) (sym answer_same) ∙ p.weighs ∙ same.weight;
+    duals = subst (λ (ys : List ℤ). AreDuals (gadget_graph kind i) ys (sets_of e)) duals_same (subst (AreDuals (gadget_graph kind i) (duals_of d)) sets_same p.duals);
+    value = ap (λ (ys : List ℤ). dual_value ys (sets_of e)) (sym duals_same) ∙ ap (dual_value (duals_of d)) (sym sets_same) ∙ p.value ∙ ap (value_for kind i) same.weight;
+  }
+
+  proves_same : (s : DocStatus) → ProvesByStatus s kind i d → ProvesByStatus s kind i e
+  proves_same Optimal p = optimal_same p
+  proves_same Infeasible p = (barrier_same (exclusion_of kind) p.0, part_same (exclusion_of kind) p.1)
+  proves_same NonConservative p = circuit_same p
+
+  pub proved-same : IsProved kind i d → IsProved kind i e
+  proved-same p = record {
+    same_kind = sym same.kind ∙ p.same_kind;
+    in_range = in-range kind i e (within_same (are-within kind i d p.in_range));
+    proves = subst (λ (s : DocStatus). ProvesByStatus s kind i e) same.status (proves_same d.status p.proves);
+  }
+
+  states_same : (s : DocStatus) → StatesTruthBy s kind i d → StatesTruthBy s kind i e
+  states_same Optimal t = (subst (IsBest kind i) answer_same t.0, ap (weight_of kind i) (sym answer_same) ∙ t.1 ∙ same.weight)
+  states_same Infeasible t = t
+  states_same NonConservative t = t
+
+  pub truth-same : StatesTruth kind i d → StatesTruth kind i e
+  truth-same t = subst (λ (s : DocStatus). StatesTruthBy s kind i e) same.status (states_same d.status t)

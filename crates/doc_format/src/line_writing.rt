@@ -1,0 +1,50 @@
+ghost use Rattle.std.specs.Prelude.{◌≡◌, ◌++◌, map, OnOk};
+ghost use Rattle.doc_format.specs.Spelling.{row_text, part_row, parts_text};
+
+use crate::part::{CountLine, DualLine, Part, SetLine};
+use crate::spelling::{put_number_and_members, put_pair};
+use mb_base::OutOfMemory;
+
+fn put_count(out: &mut Vec<u8>, x: &CountLine) -> Result<(), OutOfMemory>
+    ensures { OnOk result (out.new.items ≡ out.old.items
+        ++ row_text (part_row (Part.Count x.now))) }
+{
+    put_pair(out, b'x', x.edge, x.count)
+}
+
+fn put_dual(out: &mut Vec<u8>, y: &DualLine) -> Result<(), OutOfMemory>
+    ensures { OnOk result (out.new.items ≡ out.old.items ++ row_text (part_row (Part.Dual y.now))) }
+{
+    put_pair(out, b'y', y.vertex, y.dual)
+}
+
+/// The lines of how often edges are used.
+pub fn put_counts(out: &mut Vec<u8>, counts: &[CountLine]) -> Result<(), OutOfMemory>
+    ensures { OnOk result (out.new.items ≡ out.old.items
+        ++ parts_text (map Part.Count counts.now)) }
+{
+    for x in counts {
+        put_count(out, x)?;
+    }
+    Ok(())
+}
+
+/// The lines of duals of vertices.
+pub fn put_duals(out: &mut Vec<u8>, duals: &[DualLine]) -> Result<(), OutOfMemory>
+    ensures { OnOk result (out.new.items ≡ out.old.items ++ parts_text (map Part.Dual duals.now)) }
+{
+    for y in duals {
+        put_dual(out, y)?;
+    }
+    Ok(())
+}
+
+/// The lines of duals of sets.
+pub fn put_sets(out: &mut Vec<u8>, sets: &[SetLine]) -> Result<(), OutOfMemory>
+    ensures { OnOk result (out.new.items ≡ out.old.items ++ parts_text (map Part.Set sets.now)) }
+{
+    for z in sets {
+        put_number_and_members(out, b'z', z.dual, z.members.as_slice())?;
+    }
+    Ok(())
+}
