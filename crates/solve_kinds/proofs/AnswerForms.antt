@@ -5,18 +5,20 @@ use Rattle.mb_problem.specs.declared.kind.AnswerForm.TheVariants as form
 use Rattle.mb_problem.specs.declared.answer.Answer.{Answer}
 use Rattle.mb_problem.specs.declared.answer.Answer.TheVariants.{Counts, Walk, Nothing}
 use Rattle.mb_problem.specs.Network.{Network}
-use Rattle.mb_problem.specs.Measured.{HasPlaces, IsInForm}
+use Rattle.mb_problem.specs.Measured.{HasPlaces}
+use Rattle.mb_problem.proofs.KindLaws.{IsInForm}
 use Rattle.doc_format.specs.declared.document.Document.{Document}
 use Rattle.certificates.specs.Claims.{counts_of, walk_of, answer_by}
-use Rattle.solve_kinds.specs.Parts.{ListsAnswer, line_of, walk_line}
-use Rattle.solve_kinds.proofs.Ascents.{numbers-pos}
+use Rattle.outcome_lines.specs.Lines.{ListsAnswer, line_of, walk_line}
+use Rattle.outcome_lines.proofs.Ascents.{numbers-pos}
 
 -- the answer that a document states is the one that its lines list
 
 walk-back : (start : ℕ) (edges : List ℕ) → walk_of (Some (walk_line start edges)) ≡ Walk start edges
 walk-back start edges = ap (Walk start) (numbers-pos edges)
 
-pub stated-by : (f : AnswerForm) (i : Network) (d : Document) (answer : Answer) → IsInForm f answer → HasPlaces i answer → ListsAnswer answer d.counts → d.walk ≡ line_of answer → answer_by f i d ≡ answer
+pub stated-by : (f : AnswerForm) (i : Network) (d : Document) (answer : Answer) → IsInForm f answer → HasPlaces i answer → ListsAnswer answer d.counts → d.walk ≡ line_of answer →
+    answer_by f i d ≡ answer
 stated-by form.Counts i d (Counts counts) has places lists walk = ap (λ (m : ℕ). Counts (counts_of d.counts m)) (sym places) ∙ ap Counts lists
 stated-by form.Counts i d (Walk start edges) has places lists walk = absurd has
 stated-by form.Counts i d Nothing has places lists walk = absurd has

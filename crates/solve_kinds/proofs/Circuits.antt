@@ -1,5 +1,5 @@
 -- A document of a circuit of weight below 0 proves that weights aren't conservative.
-use Rattle.std.proofs.Common.{◌≡◌, ℕ, ◌+◌, ◌*◌, ◌≤◌, pos, ◌<ℤ◌, true, List, [], length, All, Option, None, Some, MatchOption, IfSome, nat_abs, refl, sym, ap, ◌∙◌, subst, arith}
+use Rattle.std.proofs.Common.{◌≡◌, ℕ, ◌+◌, ◌*◌, ◌≤◌, pos, ◌<ℤ◌, true, List, length, Option, Some, MatchOption, nat_abs, sym, ap, ◌∙◌, subst, arith}
 use Rattle.std.specs.List.{list_all}
 use Rattle.std.proofs.lemmas.Int.{ints}
 use Rattle.graph_theory.specs.Walk.{IsCircuit, walk_weight}
@@ -32,11 +32,11 @@ use Rattle.certificates.specs.Proved.{ProvesByStatus, StatesTruthBy}
 use Rattle.certificates.specs.Within.{IsWalkWithin, AreWithin}
 use Rattle.certificates.proofs.TruthLemmas.{not_conservative}
 use Rattle.solve_kinds.specs.Chosen.{IsFirstMetPart}
-use Rattle.solve_kinds.specs.Parts.{line_of, walk_line}
+use Rattle.outcome_lines.specs.Lines.{line_of, walk_line}
 use Rattle.solve_kinds.specs.Settled.{Settles}
 use Rattle.solve_kinds.specs.Solved.{HasTrueStatus}
-use Rattle.mb_problem.specs.Measured.{IsInForm}
-use Rattle.solve_kinds.proofs.Ascents.{numbers-pos}
+use Rattle.mb_problem.proofs.KindLaws.{IsInForm}
+use Rattle.outcome_lines.proofs.Ascents.{numbers-pos}
 use Rattle.solve_kinds.proofs.Forms.{has_edges, some-edges}
 use Rattle.solve_kinds.proofs.InRange.{walk_in}
 use Rattle.solve_kinds.proofs.LineSizes.{head_circuit-size}
@@ -52,30 +52,41 @@ pub record StatesCircuit (kind : Kind) (answer : Answer) (d : Document) : Type 0
   pub weight : d.weight ≡ pos 0
   pub body : body_of d ≡ record blank { walk = line_of answer }
 
-has-circuit : (i : Network) (start : ℕ) (edges : List ℕ) (line : Option WalkLine) → IsCircuit (graph_of i) start edges → walk_weight (graph_of i) edges <ℤ pos 0 → line ≡ Some (walk_line start edges) → MatchOption line ⊥ (λ w. IsCircuit (graph_of i) (nat_abs w.start) (numbers w.edges) × (walk_weight (graph_of i) (numbers w.edges) <ℤ pos 0))
+has-circuit : (i : Network) (start : ℕ) (edges : List ℕ) (line : Option WalkLine) → IsCircuit (graph_of i) start edges → walk_weight (graph_of i) edges <ℤ pos 0 →
+    line ≡ Some (walk_line start edges) → MatchOption line ⊥ (λ w. IsCircuit (graph_of i) (nat_abs w.start) (numbers w.edges) × (walk_weight (graph_of i) (numbers w.edges) <ℤ pos 0))
 has-circuit i start edges line circuit negative is =
     subst (λ (o : Option WalkLine). MatchOption o ⊥ (λ w. IsCircuit (graph_of i) (nat_abs w.start) (numbers w.edges) × (walk_weight (graph_of i) (numbers w.edges) <ℤ pos 0))) (sym is)
     (subst (λ (es : List ℕ). IsCircuit (graph_of i) start es × (walk_weight (graph_of i) es <ℤ pos 0)) (sym (numbers-pos edges)) (circuit, negative))
 
-within-circuit : (kind : Kind) (i : Network) (start : ℕ) (edges : List ℕ) (d : Document) → IsWalkWithin (vertices i) (length i.edges) (walk_line start edges) → StatesCircuit kind (answers.Walk start edges) d → AreWithin kind i d
+within-circuit : (kind : Kind) (i : Network) (start : ℕ) (edges : List ℕ) (d : Document) → IsWalkWithin (vertices i) (length i.edges) (walk_line start edges) →
+    StatesCircuit kind (answers.Walk start edges) d → AreWithin kind i d
 within-circuit kind i start edges d within p =
     record {
       weight = rw p.weight (omega (arith, ints), omega (arith, ints));
-      parts = ap (λ (b : Body). list_all (in_range_for kind i) (parts_of b)) p.body ∙ walk_in (vertices i) (length i.edges) (gadget_graph kind i).vertices (Some (walk_line start edges)) within;
+      parts = ap (λ (b : Body). list_all (in_range_for kind i) (parts_of b)) p.body ∙ walk_in (vertices i) (length i.edges) (gadget_graph kind i).vertices
+          (Some (walk_line start edges)) within;
     }
 
-settles : (kind : Kind) (i : Network) (start : ℕ) (edges : List ℕ) (d : Document) → asks_conservative kind ≡ true → IsNetwork i → IsCircuit (graph_of i) start edges → walk_weight (graph_of i) edges <ℤ pos 0 → StatesCircuit kind (answers.Walk start edges) d → Settles kind i d
+settles : (kind : Kind) (i : Network) (start : ℕ) (edges : List ℕ) (d : Document) → asks_conservative kind ≡ true → IsNetwork i → IsCircuit (graph_of i) start edges →
+    walk_weight (graph_of i) edges <ℤ pos 0 → StatesCircuit kind (answers.Walk start edges) d → Settles kind i d
 settles kind i start edges d asks network circuit negative p =
     let two : 2 ≤ length edges = circuit.two in
     let within = walk-within i start edges network circuit.walk (omega arith) in
     let size : length edges ≤ length i.edges * 1 = few-steps 1 i edges (walk-numbers (graph_of i) start edges circuit.walk) (λ k b. differ-once edges (k + 1) circuit.edges_differ) in
     let walk : d.walk ≡ Some (walk_line start edges) = ap (λ (b : Body). b.walk) p.body in
     let has : HasNegativeCircuit i d = has-circuit i start edges d.walk circuit negative walk in
-    let row : IsShortLine Walk 2400000 (Some (walk_line start edges)) = short-walk (vertices i) (length i.edges) start edges network.few_vertices network.few_edges (omega (arith, size)) within in
+    let row : IsShortLine Walk 2400000 (Some (walk_line start edges)) =
+    short-walk (vertices i) (length i.edges) start edges network.few_vertices network.few_edges (omega (arith, size)) within in
     let text = line-size Walk 2400000 (Some (walk_line start edges)) row in
-    let same : length (parts_text (parts_of (body_of d))) ≡ length (parts_text (at_most_one Walk (Some (walk_line start edges)))) = ap (λ (b : Body). length (parts_text (parts_of b))) p.body in
+    let same : length (parts_text (parts_of (body_of d))) ≡ length (parts_text (at_most_one Walk (Some (walk_line start edges)))) =
+    ap (λ (b : Body). length (parts_text (parts_of b))) p.body in
     record {
-      proved = record { same_kind = p.kind_is; in_range = in-range kind i d (within-circuit kind i start edges d within p); proves = subst (λ (t : DocStatus). ProvesByStatus t kind i d) (sym p.status) has };
+      proved = record {
+        same_kind = p.kind_is;
+        in_range = in-range kind i d (within-circuit kind i start edges d within p);
+        proves = subst (λ (t : DocStatus). ProvesByStatus t kind i d)
+            (sym p.status) has;
+      };
       truth = subst (λ (t : DocStatus). StatesTruthBy t kind i d) (sym p.status) (not_conservative i d has);
       exact = subst (HasTrueStatus kind i) (sym p.status) (asks, not_conservative i d has);
       chosen = record {
@@ -86,7 +97,8 @@ settles kind i start edges d asks network circuit negative p =
       small = short-document d (rw (p.status, p.kind_is) (head_circuit-size kind d.weight)) (omega (arith, text, same));
     }
 
-pub settles-circuit : (kind : Kind) (i : Network) (join : List ℕ) (answer : Answer) (d : Document) → asks_conservative kind ≡ true → IsNetwork i → IsWalkWith (λ start edges. IsNegativeCircuitWithin (graph_of i) join start edges) ⊥ answer → StatesCircuit kind answer d → Settles kind i d
+pub settles-circuit : (kind : Kind) (i : Network) (join : List ℕ) (answer : Answer) (d : Document) → asks_conservative kind ≡ true → IsNetwork i →
+    IsWalkWith (λ start edges. IsNegativeCircuitWithin (graph_of i) join start edges) ⊥ answer → StatesCircuit kind answer d → Settles kind i d
 settles-circuit kind i join (answers.Counts counts) d asks network circuit p = absurd circuit
 settles-circuit kind i join (answers.Walk start edges) d asks network circuit p = settles kind i start edges d asks network circuit.circuit circuit.negative p
 settles-circuit kind i join answers.Nothing d asks network circuit p = absurd circuit
@@ -97,5 +109,6 @@ circuit-form i join (answers.Counts counts) circuit = absurd circuit
 circuit-form i join (answers.Walk start edges) circuit = (let two : 2 ≤ length edges = circuit.circuit.two in omega arith)
 circuit-form i join answers.Nothing circuit = absurd circuit
 
-pub circuit-edges : (i : Network) (join : List ℕ) (answer : Answer) (line : Option WalkLine) → IsWalkWith (λ start edges. IsNegativeCircuitWithin (graph_of i) join start edges) ⊥ answer → line ≡ line_of answer → has_edges line ≡ true
+pub circuit-edges : (i : Network) (join : List ℕ) (answer : Answer) (line : Option WalkLine) → IsWalkWith (λ start edges. IsNegativeCircuitWithin (graph_of i) join start edges) ⊥ answer →
+    line ≡ line_of answer → has_edges line ≡ true
 circuit-edges i join answer line circuit is = ap has_edges is ∙ some-edges form.Walk answer (circuit-form i join answer circuit)

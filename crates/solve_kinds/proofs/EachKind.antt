@@ -1,5 +1,5 @@
 -- What holds of a kind by its traits.
-use Rattle.std.proofs.Common.{◌≡◌, ℕ, zero, suc, ◌-◌, ◌+◌, ◌*◌, ◌<◌, ◌≤◌, min, Bool, true, false, not, ◌&&◌, List, length, slice_index, Option, None, Some, refl, ap, ◌∙◌, subst, arith}
+use Rattle.std.proofs.Common.{◌≡◌, ℕ, zero, suc, ◌-◌, ◌+◌, ◌*◌, ◌<◌, ◌≤◌, min, Bool, true, false, not, ◌&&◌, length, Option, None, Some, refl, ap, ◌∙◌, subst, arith}
 use Rattle.std.proofs.lemmas.List.{get_or_default}
 use Rattle.graph_theory.specs.Graph.{IsEdgeWithin}
 use Rattle.mb_problem.specs.declared.kind.Kind.{Kind}
@@ -17,7 +17,7 @@ use Rattle.mb_problem.proofs.EdgeLemmas.{edge-ends}
 use Rattle.mb_problem.proofs.KindLaws.{feasible-counts, feasible-most, some-search}
 use Rattle.doc_format.specs.Form.{is_barrier}
 use Rattle.solve_kinds.specs.Solved.{is_part, is_tested_first}
-use Rattle.solve_kinds.specs.Parts.{HasSmallCounts}
+use Rattle.outcome_lines.specs.Lines.{HasSmallCounts}
 
 -- how often an edge is used
 

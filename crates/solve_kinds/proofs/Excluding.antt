@@ -1,5 +1,5 @@
 -- A document of a set that excludes all answers proves that none is feasible.
-use Rattle.std.proofs.Common.{◌≡◌, ℕ, ◌≤◌, pos, Bool, true, false, cond, ◌&&◌, List, length, map, All, Option, None, Some, IfSome, MatchOption, refl, sym, ap, ◌∙◌, subst, arith}
+use Rattle.std.proofs.Common.{◌≡◌, ℕ, ◌≤◌, pos, Bool, true, false, cond, List, map, All, Option, None, Some, IfSome, MatchOption, refl, sym, ap, ◌∙◌, subst, arith}
 use Rattle.std.specs.List.{list_all}
 use Rattle.std.proofs.lemmas.Bool.{and_from}
 use Rattle.std.proofs.lemmas.Int.{ints}
@@ -27,13 +27,28 @@ use Rattle.certificates.specs.Proved.{IsProved, ProvesByStatus}
 use Rattle.certificates.specs.Within.{IsUpTo, AreWithin}
 use Rattle.certificates.proofs.KindLemmas.{excluded}
 use Rattle.solve_kinds.specs.Chosen.{IsFirstMetPart, IsChosen}
-use Rattle.solve_kinds.specs.Excluding.{member_line, set_body, StatesSet, ExcludesBy, Excludes}
-use Rattle.solve_kinds.proofs.Ascents.{numbers-pos}
+use Rattle.outcome_lines.specs.Lines.{member_line}
+use Rattle.solve_kinds.specs.Excluding.{set_body, StatesSet}
+use Rattle.outcome_lines.proofs.Ascents.{numbers-pos}
 use Rattle.certificates.proofs.WithinLemmas.{in-range}
 use Rattle.solve_kinds.proofs.InRange.{all_up_to}
 
+-- a barrier of the graph of certificates, or the first part that excludes all answers
+abbrev pub ExcludesBy : Exclusion → Kind → Network → List ℕ → Type 0
+ExcludesBy Barrier kind i set = IsVertexSet (gadget_graph kind i).vertices set
+    × IsBarrier (gadget_graph kind i) set
+ExcludesBy OddPart kind i set = IsFirstOddPart (graph_of i) (is_terminal Values i) set
+ExcludesBy SplitPart kind i set = IsSplitPart (graph_of i) set × IsFirstMetPart (graph_of i) set
+ExcludesBy Never kind i set = ⊥
+
+-- the set excludes all answers of the kind
+abbrev pub Excludes : Kind → Network → List ℕ → Type 0
+Excludes kind i set = ExcludesBy (exclusion_of kind) kind i set
+
 pub up_to-pos : (n : ℕ) (set : List ℕ) → IsVertexSet n set → All (IsUpTo n) (map pos set)
-up_to-pos n set is = All-map (IsUpTo n) pos set (All-weaker (λ v. (1 ≤ v) × (v ≤ n)) (λ v. IsUpTo n (pos v)) (λ v h. (let low : 1 ≤ v = h.0 in let high : v ≤ n = h.1 in record { low = omega (arith, ints); high = omega (arith, ints) })) set is.in_range)
+up_to-pos n set is = All-map (IsUpTo n) pos set
+    (All-weaker (λ v. (1 ≤ v) × (v ≤ n)) (λ v. IsUpTo n (pos v))
+    (λ v h. (let low : 1 ≤ v = h.0 in let high : v ≤ n = h.1 in record { low = omega (arith, ints); high = omega (arith, ints) })) set is.in_range)
 
 -- the line, where it is wanted
 abbrev pub line_if : Bool → List ℕ → Option MemberLine
@@ -46,7 +61,8 @@ line-holds P false set line is h = subst (λ (o : Option MemberLine). IfSome o P
 
 -- what excludes answers, by its letter
 
-as-barrier : (e : Exclusion) (kind : Kind) (i : Network) (set : List ℕ) → is_barrier e ≡ true → ExcludesBy e kind i set → IsVertexSet (gadget_graph kind i).vertices set × IsBarrier (gadget_graph kind i) set
+as-barrier : (e : Exclusion) (kind : Kind) (i : Network) (set : List ℕ) → is_barrier e ≡ true → ExcludesBy e kind i set →
+    IsVertexSet (gadget_graph kind i).vertices set × IsBarrier (gadget_graph kind i) set
 as-barrier Barrier kind i set t x = x
 as-barrier OddPart kind i set t x = absurd (cc)
 as-barrier SplitPart kind i set t x = absurd (cc)
@@ -119,7 +135,8 @@ wanted-barrier OddPart kind i set d x is = tt
 wanted-barrier SplitPart kind i set d x is = tt
 wanted-barrier Never kind i set d x is = x
 
-wanted-part : (e : Exclusion) (kind : Kind) (i : Network) (set : List ℕ) (d : Document) → ExcludesBy e kind i set → d.odd ≡ line_if (is_odd_part e) set → d.split ≡ line_if (is_split_part e) set → HasPartFor e i d
+wanted-part : (e : Exclusion) (kind : Kind) (i : Network) (set : List ℕ) (d : Document) → ExcludesBy e kind i set → d.odd ≡ line_if (is_odd_part e) set →
+    d.split ≡ line_if (is_split_part e) set → HasPartFor e i d
 wanted-part Barrier kind i set d x odd split = tt
 wanted-part OddPart kind i set d x odd split = has-line (IsOddPart (graph_of i) (is_terminal Values i)) set d.odd odd x.part
 wanted-part SplitPart kind i set d x odd split = has-line (IsSplitPart (graph_of i)) set d.split split x.0
@@ -131,7 +148,8 @@ proved-infeasible kind i set d x p =
     record {
       same_kind = p.kind_is;
       in_range = in-range kind i d (are-within kind i set d x p);
-      proves = subst (λ (t : DocStatus). ProvesByStatus t kind i d) (sym p.status) (wanted-barrier e kind i set d x (barrier_is kind set d p), wanted-part e kind i set d x (odd_is kind set d p) (split_is kind set d p));
+      proves = subst (λ (t : DocStatus). ProvesByStatus t kind i d) (sym p.status)
+          (wanted-barrier e kind i set d x (barrier_is kind set d p), wanted-part e kind i set d x (odd_is kind set d p) (split_is kind set d p));
     }
 
 by-barrier : (e : Exclusion) (kind : Kind) (i : Network) → is_never e ≡ false → (is_barrier e ≡ true → HasNoAnswer kind i) → IsExcludedFor e kind i
@@ -141,7 +159,8 @@ by-barrier SplitPart kind i never none = tt
 by-barrier Never kind i never none = absurd (cc)
 
 -- no answer is feasible, where a barrier leaves none
-pub none-feasible : (kind : Kind) (i : Network) (set : List ℕ) (d : Document) → IsNetwork i → is_never (exclusion_of kind) ≡ false → (is_barrier (exclusion_of kind) ≡ true → HasNoAnswer kind i) → Excludes kind i set → StatesSet kind set d → HasNoAnswer kind i
+pub none-feasible : (kind : Kind) (i : Network) (set : List ℕ) (d : Document) → IsNetwork i → is_never (exclusion_of kind) ≡ false →
+    (is_barrier (exclusion_of kind) ≡ true → HasNoAnswer kind i) → Excludes kind i set → StatesSet kind set d → HasNoAnswer kind i
 none-feasible kind i set d network never none x p =
     let e = exclusion_of kind in
     excluded kind i d network (by-barrier e kind i never none) (wanted-part e kind i set d x (odd_is kind set d p) (split_is kind set d p))
@@ -151,8 +170,10 @@ chosen-infeasible kind i set d x p =
     let e = exclusion_of kind in
     record {
       walk = λ best. absurd (let same = sym p.status ∙ best in cc);
-      odd = line-holds (λ u. IsFirstOddPart (graph_of i) (is_terminal Values i) (numbers u.members)) (is_odd_part e) set d.odd (odd_is kind set d p) (λ t. subst (IsFirstOddPart (graph_of i) (is_terminal Values i)) (sym (numbers-pos set)) (as-odd e kind i set t x));
-      split = line-holds (λ u. IsFirstMetPart (graph_of i) (numbers u.members)) (is_split_part e) set d.split (split_is kind set d p) (λ t. subst (IsFirstMetPart (graph_of i)) (sym (numbers-pos set)) (as-split e kind i set t x).1);
+      odd = line-holds (λ u. IsFirstOddPart (graph_of i) (is_terminal Values i) (numbers u.members)) (is_odd_part e) set d.odd (odd_is kind set d p)
+          (λ t. subst (IsFirstOddPart (graph_of i) (is_terminal Values i)) (sym (numbers-pos set)) (as-odd e kind i set t x));
+      split = line-holds (λ u. IsFirstMetPart (graph_of i) (numbers u.members)) (is_split_part e) set d.split (split_is kind set d p)
+          (λ t. subst (IsFirstMetPart (graph_of i)) (sym (numbers-pos set)) (as-split e kind i set t x).1);
     }
 
 -- the set has few members
@@ -161,7 +182,8 @@ pub record IsFewOf (set : List ℕ) : Type 0 where
   pub few : n ≤ 4096
   pub is_set : IsVertexSet n set
 
-pub few-excluding : (e : Exclusion) (kind : Kind) (i : Network) (set : List ℕ) → IsNetwork i → (is_barrier e ≡ true → (gadget_graph kind i).vertices ≤ 4096) → ExcludesBy e kind i set → IsFewOf set
+pub few-excluding : (e : Exclusion) (kind : Kind) (i : Network) (set : List ℕ) → IsNetwork i → (is_barrier e ≡ true → (gadget_graph kind i).vertices ≤ 4096) → ExcludesBy e kind i set →
+    IsFewOf set
 few-excluding Barrier kind i set network few x = record { n = (gadget_graph kind i).vertices; few = few refl; is_set = x.0 }
 few-excluding OddPart kind i set network few x = record { n = vertices i; few = network.few_vertices; is_set = x.part.vertices }
 few-excluding SplitPart kind i set network few x = record { n = vertices i; few = network.few_vertices; is_set = x.0.vertices }

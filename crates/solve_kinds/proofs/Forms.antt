@@ -9,6 +9,9 @@ use Rattle.mb_problem.specs.declared.kind.AnswerForm.TheVariants as form
 use Rattle.mb_problem.specs.declared.answer.Answer.{Answer}
 use Rattle.mb_problem.specs.declared.answer.Answer.TheVariants.{Counts, Walk, Nothing}
 use Rattle.mb_problem.specs.Kinds.{form_of, proof_of}
+use Rattle.mb_problem.specs.Network.{Network}
+use Rattle.mb_problem.specs.Feasible.{IsFeasible}
+use Rattle.mb_problem.proofs.KindLaws.{feasible-form}
 use Rattle.doc_format.specs.declared.status.DocStatus.TheVariants.{Optimal}
 use Rattle.doc_format.specs.declared.part.CountLine.{CountLine}
 use Rattle.doc_format.specs.declared.part.WalkLine.{WalkLine}
@@ -25,8 +28,10 @@ use Rattle.doc_format.specs.Parts.{Body, blank, proves_best, is_counts, is_walk,
 use Rattle.doc_format.specs.Form.{admits, in_order, AscendsBy, IsDocument}
 use Rattle.doc_format.specs.Reading.{body_of, head_of}
 use Rattle.doc_format.proofs.Stretches.{IsTail, before, many_ranked, one_ranked, keyed, sets_in_order, one_in_order}
-use Rattle.solve_kinds.specs.Parts.{ListsAnswer, line_of}
-use Rattle.mb_problem.specs.Measured.{IsInForm}
+use Rattle.mwpm_engine.specs.Solutions.{Solution}
+use Rattle.outcome_lines.specs.Lines.{ListsAnswer, line_of}
+use Rattle.solve_kinds.specs.Presented.{PresentsBriefly}
+use Rattle.mb_problem.proofs.KindLaws.{IsInForm}
 
 letters : {A : Type 0} (p : Part → Bool) (made : A → Part) (xs : List A) → ((x : A) → p (made x) ≡ true) → list_all p (map made xs) ≡ true
 letters p made [] each = refl
@@ -37,13 +42,15 @@ joined p xs ys f h = list_all-append p xs ys ∙ and_from (list_all p xs) (list_
 
 -- the lines of an answer have its letter
 
-count-letters : (f : AnswerForm) (p : Part → Bool) (answer : Answer) (counts : List CountLine) → ((x : CountLine) → p (part.Count x) ≡ is_counts f) → IsInForm f answer → ListsAnswer answer counts → list_all p (map part.Count counts) ≡ true
+count-letters : (f : AnswerForm) (p : Part → Bool) (answer : Answer) (counts : List CountLine) → ((x : CountLine) → p (part.Count x) ≡ is_counts f) → IsInForm f answer →
+    ListsAnswer answer counts → list_all p (map part.Count counts) ≡ true
 count-letters form.Counts p answer counts takes has lists = letters p part.Count counts takes
 count-letters form.Walk p (Counts cs) counts takes has lists = absurd has
 count-letters form.Walk p (Walk start edges) counts takes has lists = ap (λ (xs : List CountLine). list_all p (map part.Count xs)) lists
 count-letters form.Walk p Nothing counts takes has lists = ap (λ (xs : List CountLine). list_all p (map part.Count xs)) lists
 
-walk-letters : (f : AnswerForm) (p : Part → Bool) (answer : Answer) → ((w : WalkLine) → p (part.Walk w) ≡ is_walk f) → IsInForm f answer → list_all p (at_most_one part.Walk (line_of answer)) ≡ true
+walk-letters : (f : AnswerForm) (p : Part → Bool) (answer : Answer) → ((w : WalkLine) → p (part.Walk w) ≡ is_walk f) → IsInForm f answer →
+    list_all p (at_most_one part.Walk (line_of answer)) ≡ true
 walk-letters f p (Counts cs) takes has = refl
 walk-letters f p Nothing takes has = refl
 walk-letters form.Counts p (Walk start edges) takes has = absurd has
@@ -66,7 +73,8 @@ some-edges form.Walk (Walk start edges) has = some-any edges has
 
 -- four letters stand in order
 
-ordered-four : (counts : List CountLine) (walk : Option WalkLine) (duals : List DualLine) (sets : List SetLine) → AscendsBy (λ x. x.edge) counts → AscendsBy (λ y. y.vertex) duals → in_order (map part.Count counts ++ (at_most_one part.Walk walk ++ (map part.Dual duals ++ (map part.Set sets ++ [])))) ≡ true
+ordered-four : (counts : List CountLine) (walk : Option WalkLine) (duals : List DualLine) (sets : List SetLine) → AscendsBy (λ x. x.edge) counts → AscendsBy (λ y. y.vertex) duals →
+    in_order (map part.Count counts ++ (at_most_one part.Walk walk ++ (map part.Dual duals ++ (map part.Set sets ++ [])))) ≡ true
 ordered-four counts walk duals sets edges vertices =
     let none : IsTail 4 [] = record { order = refl; beyond = refl } in
     let three = before 3 (map part.Set sets) [] (many_ranked 4 part.Set sets (λ z. refl)) (sets_in_order sets) none in
@@ -90,21 +98,43 @@ dual-taken (Duals value) = refl
 set-taken : (proof : BestProof) → (proves_best letter.Set proof || false) ≡ true
 set-taken (Duals value) = refl
 
-pub form-optimal : (kind : Kind) (weight : ℤ) (answer : Answer) (counts : List CountLine) (walk : Option WalkLine) (duals : List DualLine) (sets : List SetLine) → IsInForm (form_of kind) answer → ListsAnswer answer counts → walk ≡ line_of answer → AscendsBy (λ x. x.edge) counts → AscendsBy (λ y. y.vertex) duals → IsDocument Optimal kind weight (four counts walk duals sets)
+pub form-optimal : (kind : Kind) (weight : ℤ) (answer : Answer) (counts : List CountLine) (walk : Option WalkLine) (duals : List DualLine) (sets : List SetLine) →
+    IsInForm (form_of kind) answer → ListsAnswer answer counts → walk ≡ line_of answer → AscendsBy (λ x. x.edge) counts → AscendsBy (λ y. y.vertex) duals → IsDocument Optimal kind weight
+    (four counts walk duals sets)
 form-optimal kind weight answer counts walk duals sets has lists line edges vertices =
     let p = admits Optimal kind in
     record {
       headed = refl;
       no_weight = λ h. absurd (cc);
-      letters = joined p (map part.Count counts) (at_most_one part.Walk walk ++ (map part.Dual duals ++ (map part.Set sets ++ []))) (count-letters (form_of kind) p answer counts (λ x. refl) has lists)
-          (joined p (at_most_one part.Walk walk) (map part.Dual duals ++ (map part.Set sets ++ [])) (ap (λ (w : Option WalkLine). list_all p (at_most_one part.Walk w)) line ∙ walk-letters (form_of kind) p answer (λ w. refl) has)
-          (joined p (map part.Dual duals) (map part.Set sets ++ []) (letters p part.Dual duals (λ y. dual-taken (proof_of kind))) (joined p (map part.Set sets) [] (letters p part.Set sets (λ z. set-taken (proof_of kind))) refl)));
+      letters = joined p (map part.Count counts) (at_most_one part.Walk walk ++ (map part.Dual duals ++ (map part.Set sets ++ [])))
+          (count-letters (form_of kind) p answer counts (λ x. refl) has lists)
+          (joined p (at_most_one part.Walk walk) (map part.Dual duals ++ (map part.Set sets ++ []))
+          (ap (λ (w : Option WalkLine). list_all p (at_most_one part.Walk w)) line ∙ walk-letters (form_of kind) p answer (λ w. refl) has)
+          (joined p (map part.Dual duals) (map part.Set sets ++ []) (letters p part.Dual duals (λ y. dual-taken (proof_of kind)))
+          (joined p (map part.Set sets) [] (letters p part.Set sets (λ z. set-taken (proof_of kind))) refl)));
       ordered = ordered-four counts walk duals sets edges vertices;
       formed = joined is_formed (map part.Count counts) (at_most_one part.Walk walk ++ (map part.Dual duals ++ (map part.Set sets ++ []))) (letters is_formed part.Count counts (λ x. refl))
           (joined is_formed (at_most_one part.Walk walk) (map part.Dual duals ++ (map part.Set sets ++ [])) (walk-formed walk (ap has_edges line ∙ some-edges (form_of kind) answer has))
-          (joined is_formed (map part.Dual duals) (map part.Set sets ++ []) (letters is_formed part.Dual duals (λ x. refl)) (joined is_formed (map part.Set sets) [] (letters is_formed part.Set sets (λ x. refl)) refl)));
+          (joined is_formed (map part.Dual duals) (map part.Set sets ++ []) (letters is_formed part.Dual duals (λ x. refl))
+          (joined is_formed (map part.Set sets) [] (letters is_formed part.Set sets (λ x. refl)) refl)));
     }
 
+-- a document of an answer alone, and one with duals and sets besides
+
+pub form-answered : (kind : Kind) (i : Network) (weight : ℤ) (answer : Answer) (counts : List CountLine) (walk : Option WalkLine) → IsFeasible kind i answer →
+    ListsAnswer answer counts → walk ≡ line_of answer → AscendsBy (λ x. x.edge) counts → IsDocument Optimal kind weight (four counts walk [] [])
+form-answered kind i weight answer counts walk feasible lists line edges =
+    form-optimal kind weight answer counts walk [] [] (feasible-form kind i answer feasible) lists line edges refl
+
+pub form-completed : (kind : Kind) (i : Network) (s : Solution) (d : Document) (duals : List DualLine) (sets : List SetLine) → PresentsBriefly kind i s d →
+    AscendsBy (λ y. y.vertex) duals → IsDocument d.status d.kind d.weight (record (body_of d) { duals = duals; sets = sets })
+form-completed kind i s d duals sets p vertices =
+    let a = p.states in
+    let form = form-optimal kind d.weight a.answer d.counts d.walk duals sets (feasible-form kind i a.answer a.feasible) a.lists a.walk a.ascending vertices in
+    subst (λ (b : Body). IsDocument d.status d.kind d.weight (record b { duals = duals; sets = sets })) (sym p.only) (rw (a.status, a.kind_is) form)
+
 -- the form of a document made from another by a change of its parts
-pub formed-as : (d : Document) (h : Head) (b : Body) (change : Body → Body) → head_of d ≡ h → body_of d ≡ b → IsDocument h.status h.kind h.weight (change b) → IsDocument d.status d.kind d.weight (change (body_of d))
-formed-as d h b change head body form = subst (λ (g : Head). IsDocument g.status g.kind g.weight (change (body_of d))) (sym head) (subst (λ (c : Body). IsDocument h.status h.kind h.weight (change c)) (sym body) form)
+pub formed-as : (d : Document) (h : Head) (b : Body) (change : Body → Body) → head_of d ≡ h → body_of d ≡ b → IsDocument h.status h.kind h.weight (change b) →
+    IsDocument d.status d.kind d.weight (change (body_of d))
+formed-as d h b change head body form =
+    subst (λ (g : Head). IsDocument g.status g.kind g.weight (change (body_of d))) (sym head) (subst (λ (c : Body). IsDocument h.status h.kind h.weight (change c)) (sym body) form)

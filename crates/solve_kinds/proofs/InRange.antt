@@ -1,5 +1,5 @@
 -- Lines whose numbers are in their ranges.
-use Rattle.std.proofs.Common.{◌≡◌, ℕ, ℤ, pos, neg_ℤ, ◌≤ℤ◌, Bool, true, ◌&&◌, List, [], ◌∷◌, map, All, Option, None, Some, IfSome, refl, arith}
+use Rattle.std.proofs.Common.{◌≡◌, ℕ, ℤ, pos, neg_ℤ, ◌≤ℤ◌, Bool, true, List, [], ◌∷◌, map, All, Option, None, Some, IfSome, refl, arith}
 use Rattle.std.specs.Prelude.{int_le}
 use Rattle.std.specs.List.{list_all}
 use Rattle.std.proofs.lemmas.Int.{ints}
@@ -53,7 +53,10 @@ module _ (n m p : ℕ) where
   duals_in ys h = every_line (in_range n m p) Dual (IsDualWithin p) ys (λ y w. and_from (is_up_to p y.vertex) (is_dual y.dual) (up_to p y.vertex w.0) (number y.dual w.1)) h
 
   pub sets_in : (zs : List SetLine) → All (IsSetLineWithin p) zs → list_all (in_range n m p) (map Set zs) ≡ true
-  sets_in zs h = every_line (in_range n m p) Set (IsSetLineWithin p) zs (λ z w. and_from (is_up_to 1000000000000000 z.dual) (list_all (is_up_to p) z.members) (up_to 1000000000000000 z.dual w.0) (all_up_to p z.members w.1)) h
+  sets_in zs h =
+      every_line (in_range n m p) Set (IsSetLineWithin p) zs
+      (λ z w. and_from (is_up_to 1000000000000000 z.dual) (list_all (is_up_to p) z.members) (up_to 1000000000000000 z.dual w.0) (all_up_to p z.members w.1)) h
 
   pub walk_in : (line : Option WalkLine) → IfSome line (IsWalkWithin n m) → list_all (in_range n m p) (at_most_one Walk line) ≡ true
-  walk_in line h = some_line (in_range n m p) Walk (IsWalkWithin n m) line (λ w b. and_from (is_up_to n w.start) (list_all (is_up_to m) w.edges) (up_to n w.start b.0) (all_up_to m w.edges b.1)) h
+  walk_in line h =
+      some_line (in_range n m p) Walk (IsWalkWithin n m) line (λ w b. and_from (is_up_to n w.start) (list_all (is_up_to m) w.edges) (up_to n w.start b.0) (all_up_to m w.edges b.1)) h

@@ -11,11 +11,12 @@ use Rattle.mb_problem.specs.Joins.{IsJoinOf, listed_counts}
 use Rattle.mb_problem.specs.Network.{Network, graph_of}
 use Rattle.postman_walk.specs.Tours.{IsLeastMet, UsesOnceAndJoinTwice}
 use Rattle.solve_kinds.specs.Chosen.{IsChosenAnswer}
-use Rattle.solve_kinds.specs.Parts.{HasFewSteps}
+use Rattle.solve_kinds.specs.Presented.{HasFewSteps}
 use Rattle.solve_kinds.proofs.JoinCounts.{value-join}
 use Rattle.solve_kinds.proofs.WalkLines.{few-steps}
 
-pub join-feasible : (i : Network) (es : List ℕ) (answer : Answer) → IsJoinOf Values i (listed_counts es (length i.edges)) → answer ≡ Counts (listed_counts es (length i.edges)) → IsFeasible TJoin i answer
+pub join-feasible : (i : Network) (es : List ℕ) (answer : Answer) → IsJoinOf Values i (listed_counts es (length i.edges)) → answer ≡ Counts (listed_counts es (length i.edges)) →
+    IsFeasible TJoin i answer
 join-feasible i es answer join is = subst (IsFeasible TJoin i) (sym is) (value-join i (listed_counts es (length i.edges)) join)
 
 pub join-few : (i : Network) (counts : List ℕ) (answer : Answer) → answer ≡ Counts counts → HasFewSteps i answer
@@ -28,10 +29,12 @@ at_most_two : (t : Bool) → 1 + cond t 1 0 ≤ 2
 at_most_two true = omega arith
 at_most_two false = omega arith
 
-pub tour-few : (i : Network) (join : List ℕ) (answer : Answer) → IsFeasible Postman i answer → IsWalkWith (λ start edges. UsesOnceAndJoinTwice i join edges) (length i.edges ≡ 0) answer → HasFewSteps i answer
+pub tour-few : (i : Network) (join : List ℕ) (answer : Answer) → IsFeasible Postman i answer → IsWalkWith (λ start edges. UsesOnceAndJoinTwice i join edges) (length i.edges ≡ 0) answer →
+    HasFewSteps i answer
 tour-few i join (Counts counts) f uses = absurd f
 tour-few i join (Walk start es) f uses =
-    let size : length es ≤ length i.edges * 2 = few-steps 2 i es (walk-numbers (graph_of i) start es f.closed.0) (λ k b. (let most = at_most_two (holds join (k + 1)) in omega (arith, uses k b, most))) in
+    let size : length es ≤ length i.edges * 2 =
+    few-steps 2 i es (walk-numbers (graph_of i) start es f.closed.0) (λ k b. (let most = at_most_two (holds join (k + 1)) in omega (arith, uses k b, most))) in
     omega (arith, size)
 tour-few i join Nothing f uses = tt
 

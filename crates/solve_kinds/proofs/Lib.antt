@@ -1,10 +1,4 @@
-mod Ascents
 mod AnswerForms
-mod CountLines
-mod DualLines
-mod Keeping
-mod Marking
-mod SetLines
 mod SolvedSets
 mod WalkLines
 mod JoinCounts

@@ -22,7 +22,7 @@ use Rattle.doc_format.specs.declared.part.Part.TheVariants.{Count, Dual, Set, Wa
 use Rattle.doc_format.specs.Status.{status_text}
 use Rattle.doc_format.specs.Spelling.{after_space, row_text, spaced, with_count, numbers_of, head_row, part_row, parts_text}
 use Rattle.certificates.specs.Within.{IsUpTo, IsCountWithin, IsDualWithin, IsSetLineWithin, IsWalkWithin}
-use Rattle.solve_kinds.specs.Excluding.{member_line}
+use Rattle.outcome_lines.specs.Lines.{member_line}
 use Rattle.least_joins.proofs.Passing.{passing-few, members-passing}
 use Rattle.solve_kinds.proofs.Texts.{short_number, short_vertex, spaced-most, row-length, size-most}
 use Rattle.mb_problem.proofs.KindLaws.{kind-short}
@@ -46,7 +46,9 @@ few_members n ms set = subst (λ (xs : List ℕ). length xs ≤ n) (members-pass
 -- two numbers on a line
 pair-size : (first : List ℕ) (a b : ℤ) → length first ≡ 1 → IsNumber a → IsNumber b → length (row_text (first ∷ map signed_decimal (a ∷ b ∷ []))) ≤ 38
 pair-size first a b one na nb =
-    let fields : length (spaced (a ∷ b ∷ [])) ≤ 2 * (17 + 1) = spaced-most 17 (a ∷ b ∷ []) (All-cons (λ z. length (signed_decimal z) ≤ 17) a (b ∷ []) (short_number a na) (All-cons (λ z. length (signed_decimal z) ≤ 17) b [] (short_number b nb) (All-nil (λ z. length (signed_decimal z) ≤ 17)))) in
+    let fields : length (spaced (a ∷ b ∷ [])) ≤ 2 * (17 + 1) = spaced-most 17 (a ∷ b ∷ [])
+    (All-cons (λ z. length (signed_decimal z) ≤ 17) a (b ∷ []) (short_number a na)
+    (All-cons (λ z. length (signed_decimal z) ≤ 17) b [] (short_number b nb) (All-nil (λ z. length (signed_decimal z) ≤ 17)))) in
     omega (arith, row-length first (map signed_decimal (a ∷ b ∷ [])))
 
 pub count-size : (m : ℕ) (x : CountLine) → m ≤ 65536 → IsCountWithin m x → length (row_text (part_row (Count x))) ≤ 38
@@ -60,15 +62,18 @@ counted-size : (n : ℕ) (zs : List ℤ) → n ≤ 4096 → length zs ≤ n → 
 counted-size n zs few size h =
     let size_number : IsNumber (pos (length zs)) = (omega (arith, ints), omega (arith, ints)) in
     let count : length (signed_decimal (pos (length zs))) ≤ 17 = short_number (pos (length zs)) size_number in
-    let fields : length (spaced zs) ≤ length zs * (4 + 1) = spaced-most 4 zs (All-weaker (IsUpTo n) (λ z. length (signed_decimal z) ≤ 4) (λ z w. short_vertex z (up_to-vertex n z few w)) zs h) in
-    let split : length (spaced (with_count zs)) ≡ suc (length (signed_decimal (pos (length zs)))) + length (spaced zs) = length-append (after_space (signed_decimal (pos (length zs)))) (spaced zs) in
+    let fields : length (spaced zs) ≤ length zs * (4 + 1) =
+    spaced-most 4 zs (All-weaker (IsUpTo n) (λ z. length (signed_decimal z) ≤ 4) (λ z w. short_vertex z (up_to-vertex n z few w)) zs h) in
+    let split : length (spaced (with_count zs)) ≡ suc (length (signed_decimal (pos (length zs)))) + length (spaced zs) =
+    length-append (after_space (signed_decimal (pos (length zs)))) (spaced zs) in
     omega arith
 
 pub set-size : (n : ℕ) (z : SetLine) → n ≤ 4096 → length z.members ≤ n → IsSetLineWithin n z → length (row_text (part_row (Set z))) ≤ 20518
 set-size n z few size h =
     let dual : length (signed_decimal z.dual) ≤ 17 = short_number z.dual (up_to-number 1000000000000000 z.dual (omega arith) h.0) in
     let fields = counted-size n z.members few size h.1 in
-    let split : length (spaced (z.dual ∷ with_count z.members)) ≡ suc (length (signed_decimal z.dual)) + length (spaced (with_count z.members)) = length-append (after_space (signed_decimal z.dual)) (spaced (with_count z.members)) in
+    let split : length (spaced (z.dual ∷ with_count z.members)) ≡ suc (length (signed_decimal z.dual)) + length (spaced (with_count z.members)) =
+    length-append (after_space (signed_decimal z.dual)) (spaced (with_count z.members)) in
     let row : length (row_text (part_row (Set z))) ≡ 1 + length (spaced (z.dual ∷ with_count z.members)) + 1 = row-length (codes "z") (map signed_decimal (numbers_of (Set z))) in
     omega arith
 
@@ -78,30 +83,38 @@ walk-size n m w few many size h =
     let size_number : IsNumber (pos (length w.edges)) = (omega (arith, ints), omega (arith, ints)) in
     let start : length (signed_decimal w.start) ≤ 17 = short_number w.start (up_to-number n w.start (omega arith) h.0) in
     let count : length (signed_decimal (pos (length w.edges))) ≤ 17 = short_number (pos (length w.edges)) size_number in
-    let fields : length (spaced w.edges) ≤ length w.edges * (17 + 1) = spaced-most 17 w.edges (All-weaker (IsUpTo m) (λ z. length (signed_decimal z) ≤ 17) (λ z u. short_number z (up_to-number m z (omega arith) u)) w.edges h.1) in
-    let first : length (spaced (w.start ∷ with_count w.edges)) ≡ suc (length (signed_decimal w.start)) + length (spaced (with_count w.edges)) = length-append (after_space (signed_decimal w.start)) (spaced (with_count w.edges)) in
-    let second : length (spaced (with_count w.edges)) ≡ suc (length (signed_decimal (pos (length w.edges)))) + length (spaced w.edges) = length-append (after_space (signed_decimal (pos (length w.edges)))) (spaced w.edges) in
+    let fields : length (spaced w.edges) ≤ length w.edges * (17 + 1) =
+    spaced-most 17 w.edges (All-weaker (IsUpTo m) (λ z. length (signed_decimal z) ≤ 17) (λ z u. short_number z (up_to-number m z (omega arith) u)) w.edges h.1) in
+    let first : length (spaced (w.start ∷ with_count w.edges)) ≡ suc (length (signed_decimal w.start)) + length (spaced (with_count w.edges)) =
+    length-append (after_space (signed_decimal w.start)) (spaced (with_count w.edges)) in
+    let second : length (spaced (with_count w.edges)) ≡ suc (length (signed_decimal (pos (length w.edges)))) + length (spaced w.edges) =
+    length-append (after_space (signed_decimal (pos (length w.edges)))) (spaced w.edges) in
     let row : length (row_text (part_row (Walk w))) ≡ 1 + length (spaced (w.start ∷ with_count w.edges)) + 1 = row-length (codes "w") (map signed_decimal (numbers_of (Walk w))) in
     omega arith
 
 -- a count and as many vertices after any letter
-pub members-size : (made : MemberLine → Part) (c : List ℕ) (set : List ℕ) (n : ℕ) → ((u : MemberLine) → part_row (made u) ≡ c ∷ map signed_decimal (with_count u.members)) → length c ≡ 1 → n ≤ 4096 → IsVertexSet n set → length (row_text (part_row (made (member_line set)))) ≤ 20500
+pub members-size : (made : MemberLine → Part) (c : List ℕ) (set : List ℕ) (n : ℕ) → ((u : MemberLine) → part_row (made u) ≡ c ∷ map signed_decimal (with_count u.members)) → length c ≡ 1 →
+    n ≤ 4096 → IsVertexSet n set → length (row_text (part_row (made (member_line set)))) ≤ 20500
 members-size made c set n is one few set_of =
     let size : length (map pos set) ≤ n = omega (arith, length-map set pos, few_members n set set_of) in
     let fields = counted-size n (map pos set) few size (up_to-pos n set set_of) in
-    let row : length (row_text (c ∷ map signed_decimal (with_count (map pos set)))) ≡ length c + length (spaced (with_count (map pos set))) + 1 = row-length c (map signed_decimal (with_count (map pos set))) in
-    let same : length (row_text (part_row (made (member_line set)))) ≡ length (row_text (c ∷ map signed_decimal (with_count (map pos set)))) = ap (λ (r : Row). length (row_text r)) (is (member_line set)) in
+    let row : length (row_text (c ∷ map signed_decimal (with_count (map pos set)))) ≡ length c + length (spaced (with_count (map pos set))) + 1 =
+    row-length c (map signed_decimal (with_count (map pos set))) in
+    let same : length (row_text (part_row (made (member_line set)))) ≡ length (row_text (c ∷ map signed_decimal (with_count (map pos set)))) =
+    ap (λ (r : Row). length (row_text r)) (is (member_line set)) in
     omega (arith, fields, row, same, one)
 
 -- all lines of one letter
 pub letters-size : {A : Type 0} (c : ℕ) (made : A → Part) (xs : List A) → All (λ x. length (row_text (part_row (made x))) ≤ c) xs → length (parts_text (map made xs)) ≤ length xs * c
-letters-size c made xs h = subst (λ (k : ℕ). length (parts_text (map made xs)) ≤ k * c) (length-map xs made) (size-most c (map made xs) (All-map (λ p. length (row_text (part_row p)) ≤ c) made xs h))
+letters-size c made xs h =
+    subst (λ (k : ℕ). length (parts_text (map made xs)) ≤ k * c) (length-map xs made) (size-most c (map made xs) (All-map (λ p. length (row_text (part_row p)) ≤ c) made xs h))
 
 -- the first line
 
 three-fields : (a b c : List ℕ) → length (flat_map after_space (a ∷ b ∷ c ∷ [])) ≡ 3 + length a + length b + length c
 three-fields a b c =
-    let first : length (flat_map after_space (a ∷ b ∷ c ∷ [])) ≡ suc (length a) + length (flat_map after_space (b ∷ c ∷ [])) = length-append (after_space a) (flat_map after_space (b ∷ c ∷ [])) in
+    let first : length (flat_map after_space (a ∷ b ∷ c ∷ [])) ≡ suc (length a) + length (flat_map after_space (b ∷ c ∷ [])) =
+    length-append (after_space a) (flat_map after_space (b ∷ c ∷ [])) in
     let second : length (flat_map after_space (b ∷ c ∷ [])) ≡ suc (length b) + length (flat_map after_space (c ∷ [])) = length-append (after_space b) (flat_map after_space (c ∷ [])) in
     let third : length (flat_map after_space (c ∷ [])) ≡ suc (length c) + 0 = length-append (after_space c) [] in
     omega arith
@@ -116,7 +129,8 @@ pub head-size : (kind : Kind) (w : ℤ) → IsNumber w → length (row_text (hea
 head-size kind w h =
     let number = short_number w h in
     let name = kind-short kind in
-    let row : length (row_text (head_row Optimal kind w)) ≡ 1 + length (flat_map after_space (status_text Optimal ∷ kind_text kind ∷ signed_decimal w ∷ [])) + 1 = row-length (codes "s") (status_text Optimal ∷ kind_text kind ∷ signed_decimal w ∷ []) in
+    let row : length (row_text (head_row Optimal kind w)) ≡ 1 + length (flat_map after_space (status_text Optimal ∷ kind_text kind ∷ signed_decimal w ∷ [])) + 1 =
+    row-length (codes "s") (status_text Optimal ∷ kind_text kind ∷ signed_decimal w ∷ []) in
     let fields = three-fields (status_text Optimal) (kind_text kind) (signed_decimal w) in
     let status : length (status_text Optimal) ≡ 7 = refl in
     omega arith
@@ -124,7 +138,8 @@ head-size kind w h =
 pub head_none-size : (kind : Kind) (w : ℤ) → length (row_text (head_row Infeasible kind w)) ≤ 40
 head_none-size kind w =
     let name = kind-short kind in
-    let row : length (row_text (head_row Infeasible kind w)) ≡ 1 + length (flat_map after_space (status_text Infeasible ∷ kind_text kind ∷ [])) + 1 = row-length (codes "s") (status_text Infeasible ∷ kind_text kind ∷ []) in
+    let row : length (row_text (head_row Infeasible kind w)) ≡ 1 + length (flat_map after_space (status_text Infeasible ∷ kind_text kind ∷ [])) + 1 =
+    row-length (codes "s") (status_text Infeasible ∷ kind_text kind ∷ []) in
     let fields = two-fields (status_text Infeasible) (kind_text kind) in
     let status : length (status_text Infeasible) ≡ 10 = refl in
     omega arith
@@ -132,7 +147,8 @@ head_none-size kind w =
 pub head_circuit-size : (kind : Kind) (w : ℤ) → length (row_text (head_row NonConservative kind w)) ≤ 40
 head_circuit-size kind w =
     let name = kind-short kind in
-    let row : length (row_text (head_row NonConservative kind w)) ≡ 1 + length (flat_map after_space (status_text NonConservative ∷ kind_text kind ∷ [])) + 1 = row-length (codes "s") (status_text NonConservative ∷ kind_text kind ∷ []) in
+    let row : length (row_text (head_row NonConservative kind w)) ≡ 1 + length (flat_map after_space (status_text NonConservative ∷ kind_text kind ∷ [])) + 1 =
+    row-length (codes "s") (status_text NonConservative ∷ kind_text kind ∷ []) in
     let fields = two-fields (status_text NonConservative) (kind_text kind) in
     let status : length (status_text NonConservative) ≡ 15 = refl in
     omega arith

@@ -22,10 +22,11 @@ use Rattle.certificates.specs.Excluded.{HasNoAnswer}
 use Rattle.certificates.proofs.TruthLemmas.{no_answer}
 use Rattle.mwpm_engine.specs.Solutions.{HasPerfect}
 use Rattle.solve_kinds.specs.Chosen.{IsFirstMetPart}
-use Rattle.solve_kinds.specs.Excluding.{StatesSet, ExcludesBy}
+use Rattle.solve_kinds.specs.Excluding.{StatesSet}
 use Rattle.solve_kinds.specs.Open.{HasNoPartFor}
 use Rattle.solve_kinds.specs.Settled.{Settles}
 use Rattle.solve_kinds.specs.Solved.{HasFitWeights}
+use Rattle.solve_kinds.proofs.Excluding.{ExcludesBy}
 use Rattle.solve_kinds.proofs.Settling.{settles-infeasible}
 
 -- what is known where no part was found
@@ -42,24 +43,30 @@ no-part kind i e is h = subst (λ (x : Exclusion). HasNoPartFor x i) is h
 
 -- the document of a set that excludes all answers by a part
 
-by-part : (e : Exclusion) (kind : Kind) (i : Network) (set : List ℕ) (d : Document) → exclusion_of kind ≡ e → is_never e ≡ false → is_barrier e ≡ false → IsNetwork i → HasFitWeights kind i → ExcludesBy e kind i set → StatesSet kind set d → Settles kind i d
+by-part : (e : Exclusion) (kind : Kind) (i : Network) (set : List ℕ) (d : Document) → exclusion_of kind ≡ e → is_never e ≡ false → is_barrier e ≡ false → IsNetwork i →
+    HasFitWeights kind i → ExcludesBy e kind i set → StatesSet kind set d → Settles kind i d
 by-part e kind i set d is some plain network fit x p =
     let never : is_never (exclusion_of kind) ≡ false = ap is_never is ∙ some in
     let barrier : is_barrier (exclusion_of kind) ≡ false = ap is_barrier is ∙ plain in
-    settles-infeasible kind i set d network never (λ t. absurd (true≢false (sym t ∙ barrier))) (λ t. absurd (true≢false (sym t ∙ barrier))) fit (subst (λ (y : Exclusion). ExcludesBy y kind i set) (sym is) x) p
+    settles-infeasible kind i set d network never (λ t. absurd (true≢false (sym t ∙ barrier))) (λ t. absurd (true≢false (sym t ∙ barrier))) fit
+    (subst (λ (y : Exclusion). ExcludesBy y kind i set) (sym is) x) p
 
-pub settles-odd : (kind : Kind) (i : Network) (set : List ℕ) (d : Document) → exclusion_of kind ≡ OddPart → IsNetwork i → HasFitWeights kind i → IsFirstOddPart (graph_of i) (is_terminal Values i) set → StatesSet kind set d → Settles kind i d
+pub settles-odd : (kind : Kind) (i : Network) (set : List ℕ) (d : Document) → exclusion_of kind ≡ OddPart → IsNetwork i → HasFitWeights kind i →
+    IsFirstOddPart (graph_of i) (is_terminal Values i) set → StatesSet kind set d → Settles kind i d
 settles-odd kind i set d is network fit x p = by-part OddPart kind i set d is refl refl network fit x p
 
-pub settles-split : (kind : Kind) (i : Network) (set : List ℕ) (d : Document) → exclusion_of kind ≡ SplitPart → IsNetwork i → HasFitWeights kind i → IsSplitPart (graph_of i) set → IsFirstMetPart (graph_of i) set → StatesSet kind set d → Settles kind i d
+pub settles-split : (kind : Kind) (i : Network) (set : List ℕ) (d : Document) → exclusion_of kind ≡ SplitPart → IsNetwork i → HasFitWeights kind i → IsSplitPart (graph_of i) set →
+    IsFirstMetPart (graph_of i) set → StatesSet kind set d → Settles kind i d
 settles-split kind i set d is network fit x y p = by-part SplitPart kind i set d is refl refl network fit (x, y) p
 
 -- .. or by a barrier
 
 pub barred : (kind : Kind) (i : Network) (g : Multigraph) (set : List ℕ) → g ≡ gadget_graph kind i → IsGraph g → ReachesAll kind i → IsBarrier g set → HasNoAnswer kind i
-barred kind i g set is graph reached barrier = no_answer kind i reached (λ counts perfect. barrier_excludes g set counts graph barrier (subst (λ (h : Multigraph). IsPerfect h counts) (sym is) perfect))
+barred kind i g set is graph reached barrier =
+    no_answer kind i reached (λ counts perfect. barrier_excludes g set counts graph barrier (subst (λ (h : Multigraph). IsPerfect h counts) (sym is) perfect))
 
-barrier-there : (e : Exclusion) (kind : Kind) (i : Network) (set : List ℕ) → is_barrier e ≡ true → IsVertexSet (gadget_graph kind i).vertices set → IsBarrier (gadget_graph kind i) set → ExcludesBy e kind i set
+barrier-there : (e : Exclusion) (kind : Kind) (i : Network) (set : List ℕ) → is_barrier e ≡ true → IsVertexSet (gadget_graph kind i).vertices set → IsBarrier (gadget_graph kind i) set →
+    ExcludesBy e kind i set
 barrier-there Barrier kind i set t is barrier = (is, barrier)
 barrier-there OddPart kind i set t is barrier = absurd (cc)
 barrier-there SplitPart kind i set t is barrier = absurd (cc)
@@ -71,13 +78,16 @@ never-no OddPart t = refl
 never-no SplitPart t = refl
 never-no Never t = absurd (cc)
 
-pub settles-barred : (kind : Kind) (i : Network) (g : Multigraph) (set : List ℕ) (d : Document) → g ≡ gadget_graph kind i → IsGraph g → g.vertices ≤ 4096 → ReachesAll kind i → is_barrier (exclusion_of kind) ≡ true → IsNetwork i → HasFitWeights kind i → IsVertexSet g.vertices set → IsBarrier g set → StatesSet kind set d → Settles kind i d
+pub settles-barred : (kind : Kind) (i : Network) (g : Multigraph) (set : List ℕ) (d : Document) → g ≡ gadget_graph kind i → IsGraph g → g.vertices ≤ 4096 → ReachesAll kind i →
+    is_barrier (exclusion_of kind) ≡ true → IsNetwork i → HasFitWeights kind i → IsVertexSet g.vertices set → IsBarrier g set → StatesSet kind set d → Settles kind i d
 settles-barred kind i g set d is graph few reached t network fit in_range barrier p =
-    settles-infeasible kind i set d network (never-no (exclusion_of kind) t) (λ _. subst (λ (h : Multigraph). h.vertices ≤ 4096) is few) (λ _. barred kind i g set is graph reached barrier) fit
+    settles-infeasible kind i set d network (never-no (exclusion_of kind) t) (λ _. subst (λ (h : Multigraph). h.vertices ≤ 4096) is few)
+    (λ _. barred kind i g set is graph reached barrier) fit
     (barrier-there (exclusion_of kind) kind i set t (subst (λ (h : Multigraph). IsVertexSet h.vertices set) is in_range) (subst (λ (h : Multigraph). IsBarrier h set) is barrier)) p
 
 -- a graph with a barrier has no perfect matching
-pub barrier-kind : (kind : Kind) (g : Multigraph) (set : List ℕ) → IsGraph g → (is_barrier (exclusion_of kind) ≡ false → HasPerfect g) → IsBarrier g set → is_barrier (exclusion_of kind) ≡ true
+pub barrier-kind : (kind : Kind) (g : Multigraph) (set : List ℕ) → IsGraph g → (is_barrier (exclusion_of kind) ≡ false → HasPerfect g) → IsBarrier g set →
+    is_barrier (exclusion_of kind) ≡ true
 barrier-kind kind g set graph perfect barrier = elim (cases_Bool (is_barrier (exclusion_of kind))) [
   | inl t ↦ t
   | inr f ↦ (let p = perfect f in absurd (barrier_excludes g set p.0 graph barrier p.1))

@@ -14,7 +14,7 @@ use Rattle.mb_problem.proofs.EdgeLemmas.{network-graph}
 use Rattle.gadget_tjoin.proofs.WalkParity.{used_once}
 use Rattle.conservative_paths.specs.Within.{IsPathWithin}
 use Rattle.solve_kinds.specs.Chosen.{IsChosenAnswer}
-use Rattle.solve_kinds.specs.Parts.{HasFewSteps}
+use Rattle.solve_kinds.specs.Presented.{HasFewSteps}
 use Rattle.solve_kinds.proofs.WalkLines.{few-steps}
 
 value-bit : (v : ℕ) → v % 2 ≢ 1 → v % 2 ≡ 0
@@ -54,12 +54,14 @@ as-path : (i : Network) (s t start : ℕ) (join es : List ℕ) → AreEnds i s t
 as-path i s t start join es ends p = record { finish = t; ends = ends; walk = p.walk; arrives = p.arrives; some = p.some; no_vertex_twice = p.no_vertex_twice }
 
 -- a path within a join on the two ends is feasible
-pub path-feasible : (i : Network) (s t : ℕ) (join : List ℕ) (answer : Answer) → AreEnds i s t → IsWalkWith (λ start edges. IsPathWithin (graph_of i) join s t start edges) ⊥ answer → IsFeasible Path i answer
+pub path-feasible : (i : Network) (s t : ℕ) (join : List ℕ) (answer : Answer) → AreEnds i s t → IsWalkWith (λ start edges. IsPathWithin (graph_of i) join s t start edges) ⊥ answer →
+    IsFeasible Path i answer
 path-feasible i s t join (Counts counts) ends p = absurd p
 path-feasible i s t join (Walk start es) ends p = subst (λ (v : ℕ). IsPath i v es) (sym p.starts) (as-path i s t start join es ends p)
 path-feasible i s t join Nothing ends p = absurd p
 
-pub path-few : (i : Network) (s t : ℕ) (join : List ℕ) (answer : Answer) → IsNetwork i → IsWalkWith (λ start edges. IsPathWithin (graph_of i) join s t start edges) ⊥ answer → HasFewSteps i answer
+pub path-few : (i : Network) (s t : ℕ) (join : List ℕ) (answer : Answer) → IsNetwork i → IsWalkWith (λ start edges. IsPathWithin (graph_of i) join s t start edges) ⊥ answer →
+    HasFewSteps i answer
 path-few i s t join (Counts counts) network p = absurd p
 path-few i s t join (Walk start es) network p =
     let g = graph_of i in
@@ -67,7 +69,8 @@ path-few i s t join (Walk start es) network p =
     omega (arith, size)
 path-few i s t join Nothing network p = absurd p
 
-pub path-chosen : (i : Network) (s t : ℕ) (join : List ℕ) (answer : Answer) → AreEnds i s t → IsWalkWith (λ start edges. IsPathWithin (graph_of i) join s t start edges) ⊥ answer → IsChosenAnswer Path i answer
+pub path-chosen : (i : Network) (s t : ℕ) (join : List ℕ) (answer : Answer) → AreEnds i s t → IsWalkWith (λ start edges. IsPathWithin (graph_of i) join s t start edges) ⊥ answer →
+    IsChosenAnswer Path i answer
 path-chosen i s t join (Counts counts) ends p = absurd p
 path-chosen i s t join (Walk start es) ends p = (t, subst (λ (v : ℕ). AreEnds i v t) (sym p.starts) ends)
 path-chosen i s t join Nothing ends p = absurd p

@@ -30,10 +30,10 @@ use Rattle.certificates.specs.Within.{IsUpTo, IsWalkWithin, IsDualWithin, IsSetL
 use Rattle.mwpm_engine.specs.Solutions.{Solution, matching_of, AreAscending, IsSolved}
 use Rattle.graph_parts.specs.OddParts.{IsFirstOddPart, is_terminal}
 use Rattle.solve_kinds.specs.Chosen.{StartsFirst, IsChosenAnswer, IsFirstMetPart, IsChosen}
-use Rattle.solve_kinds.specs.Parts.{line_of}
+use Rattle.outcome_lines.specs.Lines.{line_of}
 use Rattle.solve_kinds.specs.Presented.{Presents}
 use Rattle.solve_kinds.proofs.AnswerForms.{stated-by}
-use Rattle.solve_kinds.proofs.Ascents.{unmap, both_all}
+use Rattle.outcome_lines.proofs.Ascents.{unmap, both_all}
 use Rattle.certificates.proofs.WithinLemmas.{in-range}
 use Rattle.solve_kinds.proofs.InRange.{counts_in, duals_in, sets_in, walk_in}
 use Rattle.solve_kinds.proofs.WalkLines.{line-within}
@@ -75,7 +75,8 @@ sets-within kind i s d solved p =
     let within : All (λ z. IsSetWithin n (set_of z)) d.sets = unmap (IsSetWithin n) set_of d.sets (are-duals kind i s d solved p).sets_within in
     let number : All (λ z. IsNumber (set_of z).dual) d.sets = unmap (λ (t : OddSet). IsNumber t.dual) set_of d.sets (listed-numbers s.sets (sets_of d) p.sets solved.sets_in_range) in
     both_all (λ z. IsSetWithin n (set_of z) × IsNumber z.dual) (λ z. All (λ m. pos 0 ≤ℤ m) z.members) (IsSetLineWithin n) d.sets
-    (λ z w natural. (let low : pos 1 ≤ℤ z.dual = w.0.positive in let high : z.dual ≤ℤ pos 1000000000000000 = w.1.1 in (record { low = low; high = high }, members-up n z.members natural w.0.in_range)))
+    (λ z w natural.
+    (let low : pos 1 ≤ℤ z.dual = w.0.positive in let high : z.dual ≤ℤ pos 1000000000000000 = w.1.1 in (record { low = low; high = high }, members-up n z.members natural w.0.in_range)))
     (both_all (λ z. IsSetWithin n (set_of z)) (λ z. IsNumber z.dual) (λ z. IsSetWithin n (set_of z) × IsNumber z.dual) d.sets (λ z a b. (a, b)) within number) p.natural
 
 pub all_none : {A : Type 0} (P : A → Type 0) (xs : List A) → xs ≡ [] → All P xs
@@ -90,14 +91,14 @@ are-within kind i s d of p =
     let m = length i.edges in
     let k = (gadget_graph kind i).vertices in
     let same : s.graph.vertices ≡ k = ap (λ (g : Multigraph). g.vertices) of.graph in
-    let walk = subst (λ (line : Option WalkLine). IfSome line (IsWalkWithin n m)) (sym p.walk) (line-within kind i p.answer of.network p.feasible) in
+    let walk = subst (λ (line : Option WalkLine). IfSome line (IsWalkWithin n m)) (sym p.states.walk) (line-within kind i p.states.answer of.network p.states.feasible) in
     let duals = subst (λ (v : ℕ). All (IsDualWithin v) d.duals) same p.duals_within in
     let sets = subst (λ (v : ℕ). All (IsSetLineWithin v) d.sets) same (sets-within kind i s d of.solved p) in
     let r = in_range_for kind i in
     record {
-      weight = p.number;
+      weight = p.states.number;
       parts = ap (λ (b : Body). list_all r (parts_of b)) p.only
-          ∙ all_joined r (map part.Count d.counts) _ (counts_in n m k d.counts p.counts_within)
+          ∙ all_joined r (map part.Count d.counts) _ (counts_in n m k d.counts p.states.counts_within)
           (all_joined r (at_most_one part.Walk d.walk) _ (walk_in n m k d.walk walk)
           (all_joined r (map part.Dual d.duals) _ (duals_in n m k d.duals duals)
           (all_joined r (map part.Set d.sets) [] (sets_in n m k d.sets sets) refl)));
@@ -105,33 +106,37 @@ are-within kind i s d of p =
 
 -- The value lies between those of two perfect matchings, and no perfect matching weighs less than the solution's: so it
 -- is the value of the duals.
-value-met : (kind : Kind) (i : Network) (g : Multigraph) (s : Solution) (d : Document) → g ≡ gadget_graph kind i → s.graph ≡ g → IsGraph g → IsSolved s → ReachesAll kind i → (p : Presents kind i s d) → dual_value (duals_of d) (sets_of d) ≡ value_for kind i (weight_of kind i p.answer)
+value-met : (kind : Kind) (i : Network) (g : Multigraph) (s : Solution) (d : Document) → g ≡ gadget_graph kind i → s.graph ≡ g → IsGraph g → IsSolved s → ReachesAll kind i →
+    (p : Presents kind i s d) → dual_value (duals_of d) (sets_of d) ≡ value_for kind i (weight_of kind i p.states.answer)
 value-met kind i g s d is graph is_graph solved reached p =
-    let r : IsReached kind i p.answer = reached p.answer p.feasible in
-    let there : Multigraph → Type 0 = λ h. (counts : List ℕ) × IsPerfect h counts × ((pos 2 *ℤ weight h counts) ≤ℤ value_for kind i (weight_of kind i p.answer)) in
+    let r : IsReached kind i p.states.answer = reached p.states.answer p.states.feasible in
+    let there : Multigraph → Type 0 = λ h. (counts : List ℕ) × IsPerfect h counts × ((pos 2 *ℤ weight h counts) ≤ℤ value_for kind i (weight_of kind i p.states.answer)) in
     let other : there g = subst there (sym is) (r.counts, r.perfect, r.weighs) in
     let duals : AreDuals g (duals_of d) (sets_of d) = subst (λ (h : Multigraph). AreDuals h (duals_of d) (sets_of d)) graph (are-duals kind i s d solved p) in
     let below : dual_value (duals_of d) (sets_of d) ≤ℤ (pos 2 *ℤ weight g other.0) = weak_duality g (duals_of d) (sets_of d) other.0 is_graph duals other.1 in
-    let most : (pos 2 *ℤ weight g other.0) ≤ℤ value_for kind i (weight_of kind i p.answer) = other.2 in
-    let pays : value_for kind i (weight_of kind i p.answer) ≤ℤ (pos 2 *ℤ weight s.graph (matching_of s.graph s.mates)) = p.pays in
-    let same : dual_value (duals_of d) (sets_of d) ≡ pos 2 *ℤ weight s.graph (matching_of s.graph s.mates) = ap (λ (ys : List ℤ). dual_value ys (sets_of d)) p.duals ∙ solved.value (sets_of d) p.sets in
+    let most : (pos 2 *ℤ weight g other.0) ≤ℤ value_for kind i (weight_of kind i p.states.answer) = other.2 in
+    let pays : value_for kind i (weight_of kind i p.states.answer) ≤ℤ (pos 2 *ℤ weight s.graph (matching_of s.graph s.mates)) = p.states.pays in
+    let same : dual_value (duals_of d) (sets_of d) ≡ pos 2 *ℤ weight s.graph (matching_of s.graph s.mates) =
+    ap (λ (ys : List ℤ). dual_value ys (sets_of d)) p.duals ∙ solved.value (sets_of d) p.sets in
     omega (arith, ints)
 
 proves-optimal : (kind : Kind) (i : Network) (s : Solution) (d : Document) → Solves kind i s → Presents kind i s d → ProvesOptimal kind i d
 proves-optimal kind i s d of p =
-    let is : answer_of kind i d ≡ p.answer = stated-by (form_of kind) i d p.answer (feasible-form kind i p.answer p.feasible) (feasible-places kind i p.answer p.feasible) p.lists p.walk in
+    let is : answer_of kind i d ≡ p.states.answer =
+    stated-by (form_of kind) i d p.states.answer (feasible-form kind i p.states.answer p.states.feasible)
+    (feasible-places kind i p.states.answer p.states.feasible) p.states.lists p.states.walk in
     record {
-      feasible = subst (IsFeasible kind i) (sym is) p.feasible;
-      weighs = ap (weight_of kind i) is ∙ sym p.weight;
+      feasible = subst (IsFeasible kind i) (sym is) p.states.feasible;
+      weighs = ap (weight_of kind i) is ∙ sym p.states.weight;
       duals = subst (λ (h : Multigraph). AreDuals h (duals_of d) (sets_of d)) of.graph (are-duals kind i s d of.solved p);
-      value = value-met kind i (gadget_graph kind i) s d refl of.graph of.is_graph of.solved of.reached p ∙ ap (value_for kind i) (sym p.weight);
+      value = value-met kind i (gadget_graph kind i) s d refl of.graph of.is_graph of.solved of.reached p ∙ ap (value_for kind i) (sym p.states.weight);
     }
 
 pub proved-optimal : (kind : Kind) (i : Network) (s : Solution) (d : Document) → Solves kind i s → Presents kind i s d → IsProved kind i d
 proved-optimal kind i s d of p = record {
-  same_kind = p.kind_is;
+  same_kind = p.states.kind_is;
   in_range = in-range kind i d (are-within kind i s d of p);
-  proves = subst (λ (t : DocStatus). ProvesByStatus t kind i d) (sym p.status) (proves-optimal kind i s d of p);
+  proves = subst (λ (t : DocStatus). ProvesByStatus t kind i d) (sym p.states.status) (proves-optimal kind i s d of p);
 }
 
 started : (kind : Kind) (i : Network) (answer : Answer) → IsChosenAnswer kind i answer → IfSome (line_of answer) (λ w. StartsFirst kind i (nat_abs w.start))
@@ -141,7 +146,7 @@ started kind i Nothing c = tt
 
 pub chosen-optimal : (kind : Kind) (i : Network) (s : Solution) (d : Document) → Presents kind i s d → IsChosen kind i d
 chosen-optimal kind i s d p = record {
-  walk = λ best. subst (λ (line : Option WalkLine). IfSome line (λ w. StartsFirst kind i (nat_abs w.start))) (sym p.walk) (started kind i p.answer p.chosen);
+  walk = λ best. subst (λ (line : Option WalkLine). IfSome line (λ w. StartsFirst kind i (nat_abs w.start))) (sym p.states.walk) (started kind i p.states.answer p.states.chosen);
   odd = none_if (λ t. IsFirstOddPart (graph_of i) (is_terminal Values i) (numbers t.members)) d.odd (ap (λ (b : Body). b.odd) p.only);
   split = none_if (λ q. IsFirstMetPart (graph_of i) (numbers q.members)) d.split (ap (λ (b : Body). b.split) p.only);
 }

@@ -15,7 +15,6 @@ use Rattle.gadget_base.specs.Certified.{graph_by, gadget_graph, IsReached, Reach
 use Rattle.gadget_base.specs.Gadgets.{ports_graph}
 use Rattle.gadget_tjoin.proofs.Laws.{reaches-joins}
 use Rattle.doc_format.specs.Form.{is_barrier}
-use Rattle.least_joins.specs.Least.{HasJoin}
 use Rattle.mwpm_engine.specs.Solutions.{HasPerfect}
 use Rattle.solve_kinds.specs.Open.{HasNoPartFor}
 use Rattle.solve_kinds.proofs.Searches.{join-perfect, all-edges}
@@ -35,11 +34,13 @@ never-perfect kind i is reached =
     let r : IsReached kind i some.0 = reached some.0 some.1 in
     (r.counts, r.perfect)
 
-perfect-by : (e : Exclusion) (kind : Kind) (i : Network) → exclusion_of kind ≡ e → IsNetwork i → ReachesAll kind i → HasNoPartFor e i → is_barrier e ≡ false → HasPerfect (gadget_graph kind i)
+perfect-by : (e : Exclusion) (kind : Kind) (i : Network) → exclusion_of kind ≡ e → IsNetwork i → ReachesAll kind i → HasNoPartFor e i → is_barrier e ≡ false →
+    HasPerfect (gadget_graph kind i)
 perfect-by Barrier kind i is network reached no_part none = absurd (cc)
 perfect-by OddPart kind i is network reached no_part none = odd-perfect kind i is (join-perfect Values i (reaches-joins Values i network) no_part)
 perfect-by SplitPart kind i is network reached no_part none = split-perfect kind i is (join-perfect OddDegrees i (reaches-joins OddDegrees i network) (all-edges i))
 perfect-by Never kind i is network reached no_part none = never-perfect kind i is reached
 
-pub searched-perfect : (kind : Kind) (i : Network) → IsNetwork i → ReachesAll kind i → HasNoPartFor (exclusion_of kind) i → is_barrier (exclusion_of kind) ≡ false → HasPerfect (gadget_graph kind i)
+pub searched-perfect : (kind : Kind) (i : Network) → IsNetwork i → ReachesAll kind i → HasNoPartFor (exclusion_of kind) i → is_barrier (exclusion_of kind) ≡ false →
+    HasPerfect (gadget_graph kind i)
 searched-perfect kind i network reached no_part none = perfect-by (exclusion_of kind) kind i refl network reached no_part none

@@ -15,13 +15,14 @@ use Rattle.mb_problem.specs.declared.kind.Kind.{Kind}
 use Rattle.mb_problem.specs.declared.answer.Answer.{Answer}
 use Rattle.mb_problem.specs.declared.answer.Answer.TheVariants.{Counts}
 use Rattle.mb_problem.specs.declared.answer.Parity.{Parity}
-use Rattle.mb_problem.specs.declared.answer.Parity.TheVariants.{Empty, Values, OddDegrees}
+use Rattle.mb_problem.specs.declared.answer.Parity.TheVariants.{Empty, OddDegrees}
 use Rattle.mb_problem.specs.Kinds.{asks_conservative, searches_of}
 use Rattle.mb_problem.specs.Joins.{HasNoNegativeEvenSet, listed_counts}
 use Rattle.mb_problem.specs.Measured.{HasPlaces}
 use Rattle.conservative_paths.specs.Within.{EvenSetsDecide}
 use Rattle.mb_problem.specs.Network.{Network, IsNetwork, graph_of}
-use Rattle.mb_problem.specs.Size.{ports_size, odd_at, size_of, IsNoLarger}
+use Rattle.mb_problem.specs.Size.{ports_size, odd_at, size_of}
+use Rattle.mb_problem.proofs.KindLaws.{IsNoLarger}
 use Rattle.mb_problem.proofs.CountBounds.{nothing-used}
 use Rattle.mb_problem.proofs.KindLaws.{even-no-larger, two-searches}
 use Rattle.gadget_base.specs.Gadgets.{ports_graph}
@@ -93,7 +94,8 @@ no-edges i = (
 even-sets : (i : Network) (es : List ℕ) → IsLeastJoin Empty i es → pos 0 ≤ℤ walk_weight (graph_of i) es → HasNoNegativeEvenSet i
 even-sets i es least low = λ counts join. (let more : walk_weight (graph_of i) es ≤ℤ weight (graph_of i) counts = least.least counts join in omega (arith, ints, low, more))
 
-pub fit-weights : (kind : Kind) (i : Network) (es : List ℕ) → IsNetwork i → EvenSetsDecide → IsLeastJoin Empty i es → pos 0 ≤ℤ walk_weight (graph_of i) es → HasFitWeights kind i × (asks_conservative kind ≡ true → HasNoNegativeEvenSet i)
+pub fit-weights : (kind : Kind) (i : Network) (es : List ℕ) → IsNetwork i → EvenSetsDecide → IsLeastJoin Empty i es → pos 0 ≤ℤ walk_weight (graph_of i) es →
+    HasFitWeights kind i × (asks_conservative kind ≡ true → HasNoNegativeEvenSet i)
 fit-weights kind i es network decide least low =
     let even = even-sets i es least low in
     (λ asks. decide i network even, λ asks. even)
@@ -114,7 +116,8 @@ steps-within : (before after few m s : ℕ) → after ≤ before + few → few �
 steps-within before after few m s counted less some = (let once = at-least-once s m some in omega (arith, counted, less, once))
 
 -- the steps of the search for an even set that weighs the least
-pub even-steps : (kind : Kind) (i : Network) (before after : ℕ) → asks_conservative kind ≡ true → after ≤ before + most_steps (ports_size i (odd_at Empty i)) → after ≤ before + (searches_of kind - 1) * most_steps (size_of kind i)
+pub even-steps : (kind : Kind) (i : Network) (before after : ℕ) → asks_conservative kind ≡ true → after ≤ before + most_steps (ports_size i (odd_at Empty i)) →
+    after ≤ before + (searches_of kind - 1) * most_steps (size_of kind i)
 even-steps kind i before after asks counted =
     let two : 2 ≤ searches_of kind = two-searches kind asks in
     let one : 1 ≤ searches_of kind - 1 = omega (arith, two) in

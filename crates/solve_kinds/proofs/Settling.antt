@@ -1,21 +1,34 @@
 -- Computed documents settle an instance.
-use Rattle.std.proofs.Common.{◌≡◌, ℕ, ◌≤◌, true, false, List, sym, subst}
+use Rattle.std.proofs.Common.{◌≡◌, ℕ, ◌≤◌, Bool, true, false, List, ◌∷◌, length, map, All, refl, sym, ap, subst}
+use Rattle.std.specs.List.{flat_map}
 use Rattle.mb_problem.specs.declared.kind.Kind.{Kind}
 use Rattle.mb_problem.specs.Kinds.{exclusion_of}
 use Rattle.mb_problem.specs.Network.{Network, IsNetwork}
 use Rattle.gadget_base.specs.Certified.{gadget_graph}
 use Rattle.doc_format.specs.declared.document.Document.{Document}
 use Rattle.doc_format.specs.declared.status.DocStatus.{DocStatus}
-use Rattle.doc_format.specs.Form.{is_barrier, is_never}
+use Rattle.doc_format.specs.declared.status.DocStatus.TheVariants.{Optimal, Infeasible, NonConservative}
+use Rattle.doc_format.specs.declared.part.Part.{Part}
+use Rattle.doc_format.specs.declared.part.DualLine.{DualLine}
+use Rattle.doc_format.specs.declared.part.SetLine.{SetLine}
+use Rattle.doc_format.specs.Form.{IsDocument, is_barrier, is_never}
+use Rattle.doc_format.specs.Parts.{Body}
+use Rattle.doc_format.specs.Reading.{body_of}
+use Rattle.doc_format.specs.Spelling.{answer, row_text, head_row, part_row, document_text}
 use Rattle.certificates.specs.Excluded.{HasNoAnswer}
 use Rattle.certificates.specs.Proved.{StatesTruthBy}
+use Rattle.certificates.specs.Within.{IsDualWithin}
 use Rattle.certificates.proofs.ProvedTruth.{proved_true}
-use Rattle.mwpm_engine.specs.Solutions.{Solution}
-use Rattle.solve_kinds.specs.Excluding.{StatesSet, Excludes}
-use Rattle.solve_kinds.specs.Presented.{Presents}
-use Rattle.solve_kinds.specs.Settled.{Settles}
+use Rattle.mwpm_engine.specs.Solutions.{Solution, AreAscending, IsSolved}
+use Rattle.least_joins.proofs.Listing.{listing}
+use Rattle.outcome_lines.proofs.DualLines.{lines_to, lines-duals, lines-ascend, lines-within}
+use Rattle.outcome_lines.proofs.SetLines.{lines_of, sets-listed, natural-listed}
+use Rattle.solve_kinds.specs.Excluding.{StatesSet}
+use Rattle.solve_kinds.specs.Presented.{StatesAnswer, Presents, PresentsBriefly, PresentsFor}
+use Rattle.solve_kinds.specs.Settled.{Settles, IsWrittenFor, SettlesFor}
 use Rattle.solve_kinds.specs.Solved.{HasTrueStatus, HasFitWeights}
-use Rattle.solve_kinds.proofs.Excluding.{few-excluding, proved-infeasible, none-feasible, chosen-infeasible}
+use Rattle.solve_kinds.proofs.Excluding.{Excludes, few-excluding, proved-infeasible, none-feasible, chosen-infeasible}
+use Rattle.solve_kinds.proofs.Forms.{form-completed}
 use Rattle.solve_kinds.proofs.Presenting.{Solves, proved-optimal, chosen-optimal}
 use Rattle.solve_kinds.proofs.ShortDocuments.{short-optimal, short-infeasible}
 
@@ -25,12 +38,14 @@ settles-optimal kind i s d few fit of p =
     record {
       proved = proved;
       truth = proved_true kind i d of.network of.is_graph of.reached proved;
-      exact = subst (HasTrueStatus kind i) (sym p.status) ((p.answer, p.feasible), fit);
+      exact = subst (HasTrueStatus kind i) (sym p.states.status) ((p.states.answer, p.states.feasible), fit);
       chosen = chosen-optimal kind i s d p;
       small = short-optimal kind i s d of.network few of.solved p;
     }
 
-pub settles-infeasible : (kind : Kind) (i : Network) (set : List ℕ) (d : Document) → IsNetwork i → is_never (exclusion_of kind) ≡ false → (is_barrier (exclusion_of kind) ≡ true → (gadget_graph kind i).vertices ≤ 4096) → (is_barrier (exclusion_of kind) ≡ true → HasNoAnswer kind i) → HasFitWeights kind i → Excludes kind i set → StatesSet kind set d → Settles kind i d
+pub settles-infeasible : (kind : Kind) (i : Network) (set : List ℕ) (d : Document) → IsNetwork i → is_never (exclusion_of kind) ≡ false →
+    (is_barrier (exclusion_of kind) ≡ true → (gadget_graph kind i).vertices ≤ 4096) → (is_barrier (exclusion_of kind) ≡ true → HasNoAnswer kind i) → HasFitWeights kind i →
+    Excludes kind i set → StatesSet kind set d → Settles kind i d
 settles-infeasible kind i set d network never few barred fit x p =
     let none : HasNoAnswer kind i = none-feasible kind i set d network never barred x p in
     record {
@@ -40,3 +55,89 @@ settles-infeasible kind i set d network never few barred fit x p =
       chosen = chosen-infeasible kind i set d x p;
       small = short-infeasible kind set d (few-excluding (exclusion_of kind) kind i set network few x) p;
     }
+
+-- ---- what is written
+
+-- a document that settles the instance is written as itself
+pub settles-for : (brief : Bool) (kind : Kind) (i : Network) (d : Document) → Settles kind i d → SettlesFor brief kind i d
+settles-for false kind i d h = h
+settles-for true kind i d h = record { whole = d; settles = h; status = refl; text = refl }
+
+pub written-for : (brief : Bool) (kind : Kind) (i : Network) (d : Document) → SettlesFor brief kind i d → IsWrittenFor kind i brief d
+written-for false kind i d h = record { whole = d; settles = h; status = refl; text = refl }
+written-for true kind i d h = h
+
+-- in brief the text tells of the answer alone
+
+same-answer : (status : DocStatus) (b c : Body) → b.counts ≡ c.counts → b.walk ≡ c.walk → answer status b ≡ answer status c
+same-answer Optimal b c counts walk = rw (counts, walk) refl
+same-answer Infeasible b c counts walk = rw (counts, walk) refl
+same-answer NonConservative b c counts walk = rw counts refl
+
+-- the answer is the same beside other duals and sets
+pub states-with : (kind : Kind) (i : Network) (s : Solution) (d : Document) (duals : List DualLine) (sets : List SetLine)
+    (form : IsDocument d.status d.kind d.weight (record (body_of d) { duals = duals; sets = sets })) → StatesAnswer kind i s d →
+    StatesAnswer kind i s (record d { duals = duals; sets = sets; form = form })
+states-with kind i s d duals sets form a = record {
+  status = a.status;
+  kind_is = a.kind_is;
+  answer = a.answer;
+  feasible = a.feasible;
+  few_steps = a.few_steps;
+  chosen = a.chosen;
+  lists = a.lists;
+  walk = a.walk;
+  pays = a.pays;
+  weight = a.weight;
+  number = a.number;
+  ascending = a.ascending;
+  counts_within = a.counts_within;
+  few_counts = a.few_counts;
+}
+
+-- the duals and the sets of a solution, as lines
+abbrev duals_in : Solution → List DualLine
+duals_in s = lines_to s.duals (length s.duals)
+
+abbrev sets_in : Solution → List SetLine
+sets_in s = lines_of (listing s.sets).0
+
+form-of : (kind : Kind) (i : Network) (s : Solution) (d : Document) → PresentsBriefly kind i s d →
+    IsDocument d.status d.kind d.weight (record (body_of d) { duals = duals_in s; sets = sets_in s })
+form-of kind i s d p = form-completed kind i s d (duals_in s) (sets_in s) p (lines-ascend s.duals (length s.duals))
+
+-- the document with these
+abbrev completed : (kind : Kind) (i : Network) (s : Solution) (d : Document) → PresentsBriefly kind i s d → Document
+completed kind i s d p = record d { duals = duals_in s; sets = sets_in s; form = form-of kind i s d p }
+
+brief-text : (kind : Kind) (i : Network) (s : Solution) (d : Document) (p : PresentsBriefly kind i s d) → document_text d true ≡ document_text (completed kind i s d p) true
+brief-text kind i s d p =
+    ap (λ (ps : List Part). flat_map row_text (head_row d.status d.kind d.weight ∷ map part_row ps)) (same-answer d.status (body_of d) (body_of (completed kind i s d p)) refl refl)
+
+presents-completed : (kind : Kind) (i : Network) (s : Solution) (d : Document) (p : PresentsBriefly kind i s d) → IsSolved s → Presents kind i s (completed kind i s d p)
+presents-completed kind i s d p solved =
+    let ys = s.duals in
+    let listed = listing s.sets in
+    let one_each : length ys ≡ s.graph.vertices = (solved.duals listed.0 listed.1).one_each in
+    record {
+      states = states-with kind i s d (duals_in s) (sets_in s) (form-of kind i s d p) p.states;
+      duals = lines-duals ys;
+      duals_within = subst (λ (n : ℕ). All (IsDualWithin s.graph.vertices) (lines_to ys n)) (sym one_each) (lines-within ys s.graph.vertices one_each solved.in_range);
+      sets = subst (AreAscending s.sets) (sym (sets-listed listed.0)) listed.1;
+      natural = natural-listed listed.0;
+      only = ap (λ (b : Body). record b { duals = duals_in s; sets = sets_in s }) p.only;
+    }
+
+pub settles-presented : (brief : Bool) (kind : Kind) (i : Network) (s : Solution) (d : Document) → s.graph.vertices ≤ 4096 → HasFitWeights kind i → Solves kind i s →
+    PresentsFor brief kind i s d → SettlesFor brief kind i d
+settles-presented false kind i s d few fit of p = settles-optimal kind i s d few fit of p
+settles-presented true kind i s d few fit of p = record {
+  whole = completed kind i s d p;
+  settles = settles-optimal kind i s (completed kind i s d p) few fit of (presents-completed kind i s d p of.solved);
+  status = refl;
+  text = brief-text kind i s d p;
+}
+
+pub states-for : (brief : Bool) (kind : Kind) (i : Network) (s : Solution) (d : Document) → PresentsFor brief kind i s d → StatesAnswer kind i s d
+states-for false kind i s d p = p.states
+states-for true kind i s d p = p.states

@@ -29,7 +29,8 @@ lines-size made n c lines s =
 pub line-size : {A : Type 0} (made : A → Part) (c : ℕ) (line : Option A) → IsShortLine made c line → length (parts_text (at_most_one made line)) ≤ c
 line-size made c None s = omega arith
 line-size made c (Some x) s =
-    let one : length (parts_text (made x ∷ [])) ≤ 1 * c = size-most c (made x ∷ []) (All-cons (λ p. length (row_text (part_row p)) ≤ c) (made x) [] s (All-nil (λ p. length (row_text (part_row p)) ≤ c))) in
+    let one : length (parts_text (made x ∷ [])) ≤ 1 * c =
+    size-most c (made x ∷ []) (All-cons (λ p. length (row_text (part_row p)) ≤ c) (made x) [] s (All-nil (λ p. length (row_text (part_row p)) ≤ c))) in
     omega (arith, one)
 
 pub four-size : (a b c d : List Part) → length (parts_text (a ++ (b ++ (c ++ (d ++ []))))) ≡ length (parts_text a) + length (parts_text b) + length (parts_text c) + length (parts_text d)
@@ -45,5 +46,6 @@ document-size : (d : Document) → length (document_text d false) ≡ length (ro
 document-size d = length-append (row_text (head_row d.status d.kind d.weight)) (parts_text (parts_of (body_of d)))
 
 -- a first line and parts that are short together
-pub short-document : (d : Document) → length (row_text (head_row d.status d.kind d.weight)) ≤ 40 → length (parts_text (parts_of (body_of d))) ≤ 50000000 → length (document_text d false) ≤ 50331648
+pub short-document : (d : Document) → length (row_text (head_row d.status d.kind d.weight)) ≤ 40 → length (parts_text (parts_of (body_of d))) ≤ 50000000 →
+    length (document_text d false) ≤ 50331648
 short-document d head parts = omega (arith, document-size d, head, parts)

@@ -4,10 +4,9 @@ use Rattle.std.proofs.lemmas.List.Elements.{All-nil, All-cons, All-head, All-tai
 use Rattle.graph_theory.specs.declared.odd_set.OddSet.{OddSet}
 use Rattle.graph_theory.specs.Duals.{IsSetWithin}
 use Rattle.graph_theory.specs.Nested.{AreSame, AreAscending}
-use Rattle.graph_theory.specs.Parts.{holds}
 use Rattle.graph_theory.proofs.Members.{holds_all, all_holds}
 use Rattle.mwpm_engine.specs.Solutions.{Solution, IsSolved}
-use Rattle.solve_kinds.specs.Members.{AreWithin}
+use Rattle.outcome_lines.specs.Members.{AreWithin}
 use Rattle.least_joins.proofs.Listing.{listing}
 
 within-from : (n : ℕ) (sets lines : List OddSet) → AreAscending sets lines → All (IsSetWithin n) lines → AreWithin n sets

@@ -12,7 +12,8 @@ use Rattle.postman_walk.specs.Tours.{IsLeastMet}
 use Rattle.solve_kinds.specs.Chosen.{IsFirstMetPart}
 
 -- the first end of an edge at a member is a member
-first-end : (g : Multigraph) (set : List ℕ) (k v : ℕ) → All (IsEdgeWithin g.vertices) g.edges → IsComponent g [] set → k < length g.edges → touches (edge_at g k) v ≡ true → holds set v ≡ true → holds set (edge_at g k).u ≡ true
+first-end : (g : Multigraph) (set : List ℕ) (k v : ℕ) → All (IsEdgeWithin g.vertices) g.edges → IsComponent g [] set → k < length g.edges → touches (edge_at g k) v ≡ true →
+    holds set v ≡ true → holds set (edge_at g k).u ≡ true
 first-end g set k v ends is b meets held =
     elim (or_cases (eqb (edge_at g k).u v) (eqb (edge_at g k).v v) meets) [
       | inl t ↦ ap (holds set) (eqb-true (edge_at g k).u v t) ∙ held
@@ -33,7 +34,8 @@ fails-or-holds p (suc n) = elim (fails-or-holds p n) [
   ]
 ]
 
-pub split-part : (g : Multigraph) (set : List ℕ) (v : ℕ) → All (IsEdgeWithin g.vertices) g.edges → IsComponent g [] set → IsLeastMet g v → holds set v ≡ true → (HasConnectedEdges g → ⊥) → IsSplitPart g set
+pub split-part : (g : Multigraph) (set : List ℕ) (v : ℕ) → All (IsEdgeWithin g.vertices) g.edges → IsComponent g [] set → IsLeastMet g v → holds set v ≡ true → (HasConnectedEdges g → ⊥) →
+    IsSplitPart g set
 split-part g set v ends is least held apart = record {
   vertices = is.vertices;
   closed = component-closed g set ends is;

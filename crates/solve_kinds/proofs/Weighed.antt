@@ -94,7 +94,8 @@ number-beside : (proof : BestProof) (i : Network) (w : ℤ) → IsNetwork i → 
 number-beside (Duals value) i w network low high = number-by value i w network low high
 
 -- the answer lies between two perfect matchings
-pub number-of_answer : (kind : Kind) (i : Network) (g : Multigraph) (answer : Answer) (counts : List ℕ) → IsNetwork i → g ≡ gadget_graph kind i → IsGraph g → g.vertices ≤ 4096 → ReachesAll kind i → IsFeasible kind i answer → IsPerfect g counts → value_for kind i (weight_of kind i answer) ≤ℤ (pos 2 *ℤ weight g counts) → IsNumber (weight_of kind i answer)
+pub number-of_answer : (kind : Kind) (i : Network) (g : Multigraph) (answer : Answer) (counts : List ℕ) → IsNetwork i → g ≡ gadget_graph kind i → IsGraph g → g.vertices ≤ 4096 →
+    ReachesAll kind i → IsFeasible kind i answer → IsPerfect g counts → value_for kind i (weight_of kind i answer) ≤ℤ (pos 2 *ℤ weight g counts) → IsNumber (weight_of kind i answer)
 number-of_answer kind i g answer counts network is graph few reached feasible perfect pays =
     let r : IsReached kind i answer = reached answer feasible in
     let there : Multigraph → Type 0 = λ h. (counts : List ℕ) × IsPerfect h counts × ((pos 2 *ℤ weight h counts) ≤ℤ value_for kind i (weight_of kind i answer)) in
@@ -107,7 +108,8 @@ number-of_answer kind i g answer counts network is graph few reached feasible pe
     number-beside (proof_of kind) i (weight_of kind i answer) network (omega (arith, ints, low, weighs, few)) (omega (arith, ints, high, pays, few))
 
 -- what an answer pays for the listed edges it pays for the matching that they are
-pub pays-for_matching : (kind : Kind) (i : Network) (g : Multigraph) (counts edges : List ℕ) (w : ℤ) → g ≡ gadget_graph kind i → IsPerfect g counts → ListsCounts g counts edges → value_for kind i w ≤ℤ (pos 2 *ℤ walk_weight (gadget_graph kind i) edges) → value_for kind i w ≤ℤ (pos 2 *ℤ weight g counts)
+pub pays-for_matching : (kind : Kind) (i : Network) (g : Multigraph) (counts edges : List ℕ) (w : ℤ) → g ≡ gadget_graph kind i → IsPerfect g counts → ListsCounts g counts edges →
+    value_for kind i w ≤ℤ (pos 2 *ℤ walk_weight (gadget_graph kind i) edges) → value_for kind i w ≤ℤ (pos 2 *ℤ weight g counts)
 pays-for_matching kind i g counts edges w is perfect lists pays =
     let here : value_for kind i w ≤ℤ (pos 2 *ℤ walk_weight g edges) = subst (λ (h : Multigraph). value_for kind i w ≤ℤ (pos 2 *ℤ walk_weight h edges)) (sym is) pays in
     subst (λ (z : ℤ). value_for kind i w ≤ℤ (pos 2 *ℤ z)) (list-weight g counts edges perfect.one_each lists) here

@@ -42,5 +42,6 @@ IsChosenAnswer kind i Nothing = ⊤
 -- where a walk starts, and which part excludes all answers
 pub record IsChosen (kind : Kind) (i : Network) (d : Document) : Type 0 where
   pub walk : d.status ≡ Optimal → IfSome d.walk (λ w. StartsFirst kind i (nat_abs w.start))
-  pub odd : IfSome d.odd (λ t. IsFirstOddPart (graph_of i) (is_terminal Values i) (numbers t.members))
+  pub odd : IfSome d.odd
+      (λ t. IsFirstOddPart (graph_of i) (is_terminal Values i) (numbers t.members))
   pub split : IfSome d.split (λ q. IsFirstMetPart (graph_of i) (numbers q.members))

@@ -2,7 +2,5 @@ pub mod Solved
 pub mod Open
 pub mod Chosen
 pub mod Settled
-pub mod Parts
 pub mod Presented
 pub mod Excluding
-pub mod Members

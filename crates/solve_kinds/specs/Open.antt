@@ -1,4 +1,5 @@
--- What is known of an instance before a search: nothing that is seen without one excludes all answers.
+-- What is known of an instance before a search: nothing that is seen without one excludes all
+-- answers.
 use Rattle.std.specs.Prelude.{◌≡◌, true, ⊤}
 use Rattle.mb_problem.specs.declared.kind.Kind.{Kind}
 use Rattle.mb_problem.specs.declared.kind.Exclusion.{Exclusion}
@@ -18,8 +19,8 @@ HasNoPartFor OddPart i = HasJoin Values i
 HasNoPartFor SplitPart i = HasConnectedEdges (graph_of i)
 HasNoPartFor Never i = ⊤
 
--- no part excludes all answers; there are ends where they are needed, and no set of edges with even degrees weighs less
--- than 0 where weights have to be conservative
+-- no part excludes all answers; there are ends where they are needed, and no set of edges with even
+-- degrees weighs less than 0 where weights have to be conservative
 pub record IsOpen (kind : Kind) (i : Network) : Type 0 where
   pub no_part : HasNoPartFor (exclusion_of kind) i
   pub ends : HasNeededEnds kind i

@@ -1,24 +1,32 @@
 -- What the document of a perfect matching is made of.
-use Rattle.std.specs.Prelude.{◌≡◌, ◌≤◌, pos, ◌*ℤ◌, ◌≤ℤ◌, length, All}
+use Rattle.std.specs.Prelude.{◌≡◌, ◌*◌, ◌≤◌, pos, ◌*ℤ◌, ◌≤ℤ◌, length, All, Bool, true, false, ⊤}
 use Rattle.graph_theory.specs.Graph.{weight}
 use Rattle.graph_theory.specs.Duals.{IsNumber}
 use Rattle.mb_problem.specs.declared.kind.Kind.{Kind}
 use Rattle.mb_problem.specs.declared.answer.Answer.{Answer}
+use Rattle.mb_problem.specs.declared.answer.Answer.TheVariants.{Counts, Walk, Nothing}
 use Rattle.mb_problem.specs.Network.{Network}
 use Rattle.mb_problem.specs.Feasible.{IsFeasible, weight_of}
 use Rattle.mb_problem.specs.Values.{value_for}
 use Rattle.doc_format.specs.declared.document.Document.{Document}
 use Rattle.doc_format.specs.declared.status.DocStatus.TheVariants.{Optimal}
+use Rattle.doc_format.specs.Form.{AscendsBy}
 use Rattle.doc_format.specs.Parts.{blank}
 use Rattle.doc_format.specs.Reading.{body_of}
 use Rattle.certificates.specs.Claims.{duals_of, sets_of}
 use Rattle.certificates.specs.Within.{IsCountWithin, IsDualWithin}
 use Rattle.mwpm_engine.specs.Solutions.{Solution, matching_of, AreAscending}
+use Rattle.outcome_lines.specs.Lines.{ListsAnswer, line_of}
 use Rattle.solve_kinds.specs.Chosen.{IsChosenAnswer}
-use Rattle.solve_kinds.specs.Parts.{ListsAnswer, HasFewSteps, line_of}
 
--- an answer that pays for the matching, and the duals and sets of the solution, the members of each set ascending
-pub record Presents (kind : Kind) (i : Network) (s : Solution) (d : Document) : Type 0 where
+-- no more steps than twice the edges
+abbrev pub HasFewSteps : Network → Answer → Type 0
+HasFewSteps i (Counts counts) = ⊤
+HasFewSteps i (Walk start edges) = length edges ≤ 2 * length i.edges
+HasFewSteps i Nothing = ⊤
+
+-- an answer that pays for the matching, as a document lists and weighs it
+pub record StatesAnswer (kind : Kind) (i : Network) (s : Solution) (d : Document) : Type 0 where
   pub status : d.status ≡ Optimal
   pub kind_is : d.kind ≡ kind
   pub answer : Answer
@@ -27,13 +35,30 @@ pub record Presents (kind : Kind) (i : Network) (s : Solution) (d : Document) : 
   pub chosen : IsChosenAnswer kind i answer
   pub lists : ListsAnswer answer d.counts
   pub walk : d.walk ≡ line_of answer
-  pub pays : value_for kind i (weight_of kind i answer) ≤ℤ (pos 2 *ℤ weight s.graph (matching_of s.graph s.mates))
+  pub pays : value_for kind i (weight_of kind i answer)
+      ≤ℤ (pos 2 *ℤ weight s.graph (matching_of s.graph s.mates))
   pub weight : d.weight ≡ weight_of kind i answer
   pub number : IsNumber d.weight
+  pub ascending : AscendsBy (λ x. x.edge) d.counts
   pub counts_within : All (IsCountWithin (length i.edges)) d.counts
   pub few_counts : length d.counts ≤ length i.edges
+
+-- .. with the duals and sets of the solution, the members of each set ascending
+pub record Presents (kind : Kind) (i : Network) (s : Solution) (d : Document) : Type 0 where
+  pub states : StatesAnswer kind i s d
   pub duals : duals_of d ≡ s.duals
   pub duals_within : All (IsDualWithin s.graph.vertices) d.duals
   pub sets : AreAscending s.sets (sets_of d)
   pub natural : All (λ z. All (λ m. pos 0 ≤ℤ m) z.members) d.sets
-  pub only : body_of d ≡ record blank { counts = d.counts; walk = d.walk; duals = d.duals; sets = d.sets }
+  pub only : body_of d
+      ≡ record blank { counts = d.counts; walk = d.walk; duals = d.duals; sets = d.sets }
+
+-- .. or without them
+pub record PresentsBriefly (kind : Kind) (i : Network) (s : Solution) (d : Document) : Type 0 where
+  pub states : StatesAnswer kind i s d
+  pub only : body_of d ≡ record blank { counts = d.counts; walk = d.walk }
+
+-- in full, or in brief
+abbrev pub PresentsFor : Bool → Kind → Network → Solution → Document → Type 0
+PresentsFor false kind i s d = Presents kind i s d
+PresentsFor true kind i s d = PresentsBriefly kind i s d

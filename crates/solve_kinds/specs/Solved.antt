@@ -9,7 +9,8 @@ use Rattle.mb_problem.specs.Kinds.{exclusion_of, asks_conservative}
 use Rattle.mb_problem.specs.Network.{Network, graph_of}
 use Rattle.mb_problem.specs.Feasible.{IsFeasible}
 use Rattle.doc_format.specs.declared.status.DocStatus.{DocStatus}
-use Rattle.doc_format.specs.declared.status.DocStatus.TheVariants.{Optimal, Infeasible, NonConservative}
+use Rattle.doc_format.specs.declared.status.DocStatus.TheVariants.{Optimal, Infeasible}
+use Rattle.doc_format.specs.declared.status.DocStatus.TheVariants.{NonConservative}
 use Rattle.certificates.specs.Excluded.{HasNoAnswer}
 
 -- some answer is feasible
@@ -20,12 +21,13 @@ HasAnswer kind i = (answer : Answer) × IsFeasible kind i answer
 abbrev pub HasFitWeights : Kind → Network → Type 0
 HasFitWeights kind i = asks_conservative kind ≡ true → IsConservative (graph_of i)
 
--- optimal where some answer is feasible, infeasible where none is; neither where a kind asks for conservative weights
--- and they aren't
+-- optimal where some answer is feasible, infeasible where none is; neither where a kind asks for
+-- conservative weights and they aren't
 abbrev pub HasTrueStatus : Kind → Network → DocStatus → Type 0
 HasTrueStatus kind i Optimal = HasAnswer kind i × HasFitWeights kind i
 HasTrueStatus kind i Infeasible = HasNoAnswer kind i × HasFitWeights kind i
-HasTrueStatus kind i NonConservative = (asks_conservative kind ≡ true) × (IsConservative (graph_of i) → ⊥)
+HasTrueStatus kind i NonConservative = (asks_conservative kind ≡ true)
+    × (IsConservative (graph_of i) → ⊥)
 
 -- a part that no edge leaves excludes answers: that is seen without a search
 abbrev pub is_part : Exclusion → Bool

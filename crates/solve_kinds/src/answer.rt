@@ -1,11 +1,12 @@
 ghost use Rattle.std.specs.Prelude.{pos, ◌*ℤ◌, ◌≤ℤ◌, IfOk};
 ghost use Rattle.graph_theory.specs.Walk.{walk_weight};
 ghost use Rattle.mb_problem.specs.Feasible.{IsFeasible, weight_of};
+ghost use Rattle.mb_problem.specs.Network.{IsNetwork};
 ghost use Rattle.mb_problem.specs.Values.{value_for};
 ghost use Rattle.gadget_base.specs.Certified.{gadget_graph, IsPerfectList};
 ghost use Rattle.solve_kinds.specs.Chosen.{IsChosenAnswer};
 ghost use Rattle.solve_kinds.specs.Open.{IsOpen};
-ghost use Rattle.solve_kinds.specs.Parts.{HasFewSteps};
+ghost use Rattle.solve_kinds.specs.Presented.{HasFewSteps};
 
 use crate::joins::{extract_join, extract_path, extract_tour};
 use gadget_base::extract_plain;
@@ -15,20 +16,23 @@ use mb_base::{EdgeId, OutOfMemory};
 use mb_problem::{Answer, Instance, Kind};
 use std::alloc::Global;
 
-/// The answer that a perfect matching of the kind's graph stands for, given as the numbers of its edges.
-/// The duals beside this answer would have no greater value than those beside the matching.
+/// The answer that a perfect matching of the kind's graph stands for, given as the numbers of its
+/// edges. The duals beside this answer would have no greater value than those beside the matching.
 pub fn answer(
     alloc: Global,
     instance: &Instance,
     kind: Kind,
     edges: &[EdgeId],
 ) -> Result<Answer, OutOfMemory>
+    requires network { IsNetwork instance.now }
     requires ready { IsOpen kind instance.now }
     requires perfect { IsPerfectList (gadget_graph kind instance.now) edges.now }
     ensures feasible { IfOk result (IsFeasible kind instance.now) }
     ensures few_steps { IfOk result (HasFewSteps instance.now) }
     ensures chosen { IfOk result (IsChosenAnswer kind instance.now) }
-    ensures pays { IfOk result (λ a. value_for kind instance.now (weight_of kind instance.now a) ≤ℤ (pos 2 *ℤ walk_weight (gadget_graph kind instance.now) edges.now)) }
+    ensures pays { IfOk result
+        (λ a. value_for kind instance.now (weight_of kind instance.now a)
+        ≤ℤ (pos 2 *ℤ walk_weight (gadget_graph kind instance.now) edges.now)) }
 {
     match kind {
         Kind::Perfect => extract_plain(alloc, instance, edges),

@@ -4,18 +4,18 @@ ghost use Rattle.graph_theory.specs.Walk.{walk_weight};
 ghost use Rattle.mb_problem.specs.declared.answer.Parity.TheVariants.{Empty};
 ghost use Rattle.mb_problem.specs.Kinds.{asks_conservative, searches_of};
 ghost use Rattle.mb_problem.specs.Joins.{ListsJoin};
-ghost use Rattle.mb_problem.specs.Network.{graph_of};
+ghost use Rattle.mb_problem.specs.Network.{IsNetwork, graph_of};
 ghost use Rattle.mb_problem.specs.Size.{size_of, odd_at};
 ghost use Rattle.mwpm_engine.specs.Solutions.{most_steps};
 ghost use Rattle.solve_kinds.specs.Settled.{Settles, SettlesOrIsFit};
 
 use crate::joins::as_counts;
-use crate::walk::walk;
 use conservative_paths::{laws, negative_circuit};
 use doc_format::{DocStatus, Document, Head};
 use least_joins::least_join;
 use mb_base::{OutOfMemory, Steps};
 use mb_problem::{Instance, Join, Kind, Parity, weight};
+use outcome_lines::walk_line;
 use std::alloc::Global;
 use std::sync::ledger::Ledger;
 
@@ -26,15 +26,14 @@ fn nonconservative(
     kind: Kind,
     even: &Join,
 ) -> Result<Document, OutOfMemory>
+    requires network { IsNetwork instance.now }
     requires kind { asks_conservative kind ≡ true }
     requires even { ListsJoin instance.now (odd_at Empty instance.now) even.now.edges }
     requires negative { walk_weight (graph_of instance.now) even.now.edges <ℤ pos 0 }
     ensures { IfOk result (Settles kind instance.now) }
 {
-    // The prover learns here that the instance is valid.
-    let _edges = instance.edges();
     let circuit = negative_circuit(alloc, instance, even)?;
-    let walk = walk(alloc, &circuit)?;
+    let walk = walk_line(alloc, &circuit)?;
     let head = Head {
         line: 1,
         status: DocStatus::NonConservative,
@@ -46,22 +45,22 @@ fn nonconservative(
     Ok(document)
 }
 
-/// The document of a circuit of weight below 0, where there is one: an even set of edges of least weight
-/// holds one or weighs 0 (chapter 29).
+/// The document of a circuit of weight below 0, where there is one: an even set of edges of least
+/// weight holds one or weighs 0 (chapter 29).
 fn negative<L: Ledger>(
     alloc: Global,
     instance: &Instance,
     kind: Kind,
     steps: &mut Steps<L>,
 ) -> Result<Option<Document>, OutOfMemory>
+    requires network { IsNetwork instance.now }
     requires kind { asks_conservative kind ≡ true }
     requires limits { IsWithinLimits (size_of kind instance.now) }
     ensures settled { IfOk result (SettlesOrIsFit kind instance.now) }
-    ensures steps { steps.new ≤ steps.old + (searches_of kind - 1) * most_steps (size_of kind instance.now) }
+    ensures steps { steps.new ≤ steps.old
+        + (searches_of kind - 1) * most_steps (size_of kind instance.now) }
 {
     laws();
-    // The prover learns here that the instance is valid.
-    let _edges = instance.edges();
     let even = least_join(alloc, instance, &Parity::Empty, steps)?;
     let counts = as_counts(alloc, instance, &even)?;
     if weight(instance, Kind::TJoin, &counts) >= 0 {
@@ -77,10 +76,12 @@ pub fn unfit<L: Ledger>(
     kind: Kind,
     steps: &mut Steps<L>,
 ) -> Result<Option<Document>, OutOfMemory>
+    requires network { IsNetwork instance.now }
     requires limits { IsWithinLimits (size_of kind instance.now) }
     ensures settled { IfOk result (SettlesOrIsFit kind instance.now) }
     ensures idle { asks_conservative kind ≡ false → steps.new ≡ steps.old }
-    ensures steps { steps.new ≤ steps.old + (searches_of kind - 1) * most_steps (size_of kind instance.now) }
+    ensures steps { steps.new ≤ steps.old
+        + (searches_of kind - 1) * most_steps (size_of kind instance.now) }
 {
     if !kind.asks_conservative() {
         return Ok(None);

@@ -8,7 +8,8 @@ use mb_problem::Instance;
 
 /// The first vertex of odd value after this one, or 0 where there is none.
 fn next_odd(instance: &Instance, after: u32) -> u32
-    ensures { (t : ℕ) → after < t → t ≤ vertices instance.now → value_of instance.now t % 2 ≡ 1 → (after < result) × (result ≤ t) × (value_of instance.now result % 2 ≡ 1) }
+    ensures { (t : ℕ) → after < t → t ≤ vertices instance.now → value_of instance.now t % 2 ≡ 1
+        → (after < result) × (result ≤ t) × (value_of instance.now result % 2 ≡ 1) }
 {
     for v in after..instance.vertices() {
         if instance.value(VertexId::new(v + 1)) % 2 == 1 {

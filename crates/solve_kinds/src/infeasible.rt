@@ -1,29 +1,16 @@
-ghost use Rattle.std.specs.Prelude.{◌≡◌, true, false, pos, map, OnOk, IfOk};
+ghost use Rattle.std.specs.Prelude.{◌≡◌, true, false, OnOk, IfOk};
 ghost use Rattle.std.specs.List.Sorted.{IsStrictlyIncreasing};
 ghost use Rattle.mb_problem.specs.Kinds.{exclusion_of};
 ghost use Rattle.doc_format.specs.Parts.{ascends, blank};
 ghost use Rattle.doc_format.specs.Form.{is_never};
 ghost use Rattle.doc_format.specs.Reading.{body_of, head_of};
-ghost use Rattle.solve_kinds.specs.Excluding.{member_line, set_body, StatesLine, StatesSet};
+ghost use Rattle.solve_kinds.specs.Excluding.{set_body, StatesLine, StatesSet};
 
 use doc_format::{DocStatus, Document, Head, MemberLine, Part};
-use mb_base::{OutOfMemory, Sequence, VertexId};
+use mb_base::{OutOfMemory, VertexId};
 use mb_problem::{Exclusion, Kind};
+use outcome_lines::member_line;
 use std::alloc::Global;
-
-/// The line of a set of vertices, in their order.
-fn line_of(alloc: Global, set: &[VertexId]) -> Result<MemberLine, OutOfMemory>
-    ensures { IfOk result (λ u. u ≡ member_line set.now) }
-{
-    let mut members = Vec::new(alloc);
-    for vertex in set {
-        members.push(i64::from(vertex.number()))?;
-    }
-    Ok(MemberLine {
-        line: 1,
-        members: Sequence::from_vec(members),
-    })
-}
 
 /// Puts such a line into a document without one, by the letter of what excludes answers so.
 fn add_line(
@@ -69,6 +56,6 @@ pub fn infeasible(alloc: Global, kind: Kind, set: &[VertexId]) -> Result<Documen
     requires ascending { IsStrictlyIncreasing set.now }
     ensures { IfOk result (StatesSet kind set.now) }
 {
-    let line = line_of(alloc, set)?;
+    let line = member_line(alloc, set)?;
     of_line(alloc, kind, line)
 }

@@ -6,7 +6,7 @@ ghost use Rattle.mb_problem.specs.declared.kind.Kind.TheVariants.{TJoin, Postman
 ghost use Rattle.mb_problem.specs.declared.kind.Measure.TheVariants.{Total};
 ghost use Rattle.mb_problem.specs.declared.answer.Answer.TheVariants.{Counts};
 ghost use Rattle.mb_problem.specs.declared.answer.Parity.TheVariants.{Values, OddDegrees};
-ghost use Rattle.mb_problem.specs.Network.{graph_of};
+ghost use Rattle.mb_problem.specs.Network.{IsNetwork, graph_of};
 ghost use Rattle.mb_problem.specs.Feasible.{IsFeasible, weight_by, weight_of};
 ghost use Rattle.mb_problem.specs.Joins.{HasNoNegativeEvenSet, listed_counts};
 ghost use Rattle.mb_problem.specs.Ready.{HasEnds};
@@ -16,7 +16,7 @@ ghost use Rattle.gadget_base.specs.Certified.{IsPerfectList};
 ghost use Rattle.gadget_base.specs.Gadgets.{ports_graph};
 ghost use Rattle.graph_parts.specs.Connected.{HasConnectedEdges};
 ghost use Rattle.solve_kinds.specs.Chosen.{IsChosenAnswer};
-ghost use Rattle.solve_kinds.specs.Parts.{HasFewSteps};
+ghost use Rattle.solve_kinds.specs.Presented.{HasFewSteps};
 
 use crate::ends::ends;
 use conservative_paths::path_in;
@@ -29,13 +29,14 @@ use std::alloc::Global;
 
 /// A join as counts: 1 for each of its edges.
 pub fn as_counts(alloc: Global, instance: &Instance, join: &Join) -> Result<Answer, OutOfMemory>
+    requires network { IsNetwork instance.now }
     requires ascending { IsStrictlyIncreasing join.now.edges }
     requires in_range { All (IsEdgeNumber (graph_of instance.now)) join.now.edges }
-    ensures counts { IfOk result (λ a. a ≡ Counts (listed_counts join.now.edges (length instance.now.edges))) }
-    ensures weighs { IfOk result (λ a. weight_by Total instance.now a ≡ walk_weight (graph_of instance.now) join.now.edges) }
+    ensures counts { IfOk result
+        (λ a. a ≡ Counts (listed_counts join.now.edges (length instance.now.edges))) }
+    ensures weighs { IfOk result
+        (λ a. weight_by Total instance.now a ≡ walk_weight (graph_of instance.now) join.now.edges) }
 {
-    // The prover learns here that the instance is valid.
-    let _edges = instance.edges();
     let counts = count_listed(alloc, instance, join.edges.as_slice())?;
     Ok(Answer::Counts(Sequence::from_vec(counts)))
 }
@@ -46,34 +47,39 @@ pub fn extract_join(
     instance: &Instance,
     edges: &[EdgeId],
 ) -> Result<Answer, OutOfMemory>
-    requires perfect { IsPerfectList (ports_graph instance.now (odd_at Values instance.now)) edges.now }
+    requires network { IsNetwork instance.now }
+    requires perfect { IsPerfectList
+        (ports_graph instance.now (odd_at Values instance.now)) edges.now }
     ensures feasible { IfOk result (IsFeasible TJoin instance.now) }
     ensures few_steps { IfOk result (HasFewSteps instance.now) }
     ensures chosen { IfOk result (IsChosenAnswer TJoin instance.now) }
-    ensures weighs { IfOk result (λ a. weight_of TJoin instance.now a ≡ walk_weight (ports_graph instance.now (odd_at Values instance.now)) edges.now) }
+    ensures weighs { IfOk result
+        (λ a. weight_of TJoin instance.now a
+        ≡ walk_weight (ports_graph instance.now (odd_at Values instance.now)) edges.now) }
 {
-    // The prover learns here that the instance is valid.
-    let _edges = instance.edges();
     let join = extract(alloc, instance, &Parity::Values, edges)?;
     let answer = as_counts(alloc, instance, &join)?;
     Ok(answer)
 }
 
-/// The tour of all edges and those of the join that a perfect matching of the graph of ports stands for.
+/// The tour of all edges and those of the join that a perfect matching of the graph of ports stands
+/// for.
 pub fn extract_tour(
     alloc: Global,
     instance: &Instance,
     edges: &[EdgeId],
 ) -> Result<Answer, OutOfMemory>
-    requires perfect { IsPerfectList (ports_graph instance.now (odd_at OddDegrees instance.now)) edges.now }
+    requires network { IsNetwork instance.now }
+    requires perfect { IsPerfectList
+        (ports_graph instance.now (odd_at OddDegrees instance.now)) edges.now }
     requires connected { HasConnectedEdges (graph_of instance.now) }
     ensures feasible { IfOk result (IsFeasible Postman instance.now) }
     ensures few_steps { IfOk result (HasFewSteps instance.now) }
     ensures chosen { IfOk result (IsChosenAnswer Postman instance.now) }
-    ensures weighs { IfOk result (λ a. weight_of Postman instance.now a ≡ total_weight instance.now +ℤ walk_weight (ports_graph instance.now (odd_at OddDegrees instance.now)) edges.now) }
+    ensures weighs { IfOk result
+        (λ a. weight_of Postman instance.now a ≡ total_weight instance.now
+        +ℤ walk_weight (ports_graph instance.now (odd_at OddDegrees instance.now)) edges.now) }
 {
-    // The prover learns here that the instance is valid.
-    let _edges = instance.edges();
     let join = extract(alloc, instance, &Parity::OddDegrees, edges)?;
     let answer = closed_walk(alloc, instance, &join)?;
     Ok(answer)
@@ -85,16 +91,18 @@ pub fn extract_path(
     instance: &Instance,
     edges: &[EdgeId],
 ) -> Result<Answer, OutOfMemory>
-    requires perfect { IsPerfectList (ports_graph instance.now (odd_at Values instance.now)) edges.now }
+    requires network { IsNetwork instance.now }
+    requires perfect { IsPerfectList
+        (ports_graph instance.now (odd_at Values instance.now)) edges.now }
     requires ends { HasEnds instance.now }
     requires even_sets { HasNoNegativeEvenSet instance.now }
     ensures feasible { IfOk result (IsFeasible Path instance.now) }
     ensures few_steps { IfOk result (HasFewSteps instance.now) }
     ensures chosen { IfOk result (IsChosenAnswer Path instance.now) }
-    ensures weighs { IfOk result (λ a. weight_of Path instance.now a ≤ℤ walk_weight (ports_graph instance.now (odd_at Values instance.now)) edges.now) }
+    ensures weighs { IfOk result
+        (λ a. weight_of Path instance.now a
+        ≤ℤ walk_weight (ports_graph instance.now (odd_at Values instance.now)) edges.now) }
 {
-    // The prover learns here that the instance is valid.
-    let _edges = instance.edges();
     let join = extract(alloc, instance, &Parity::Values, edges)?;
     let (s, t) = ends(instance);
     let answer = path_in(alloc, instance, &join, s, t)?;

@@ -1,24 +1,23 @@
 ghost use Rattle.std.specs.Prelude.{◌≡◌, ◌≤◌, Some, IfOk};
 ghost use Rattle.graph_theory.specs.Duals.{IsNumber};
+ghost use Rattle.graph_theory.specs.Graph.{IsGraph};
 ghost use Rattle.graph_theory.specs.declared.limits.TheConstants.{GRAPH_VERTEX_LIMIT};
 ghost use Rattle.mb_problem.specs.Feasible.{weight_of};
 ghost use Rattle.mb_problem.specs.Measured.{HasPlaces};
+ghost use Rattle.mb_problem.specs.Network.{IsNetwork};
 ghost use Rattle.gadget_base.specs.Certified.{gadget_graph, ReachesAll};
 ghost use Rattle.mwpm_engine.specs.Solutions.{IsSolved};
 ghost use Rattle.mwpm_engine.specs.declared.outcome.Outcome.TheVariants.{Matched};
 ghost use Rattle.solve_kinds.specs.Open.{IsOpen};
-ghost use Rattle.solve_kinds.specs.Presented.{Presents};
+ghost use Rattle.solve_kinds.specs.Presented.{Presents, PresentsBriefly, PresentsFor};
 
 use crate::answer::answer;
-use crate::counts::counts;
-use crate::duals::duals;
-use crate::sets::sets;
-use crate::walk::walk;
 use doc_format::{DocStatus, Document, Head};
 use least_joins::matching;
 use mb_base::{OutOfMemory, Sequence};
 use mb_problem::{Answer, Instance, Kind, weight};
 use mwpm_engine::Engine;
+use outcome_lines::{count_lines, dual_lines, set_lines, walk_line};
 use std::alloc::Global;
 use weighted_graph::Graph;
 
@@ -31,34 +30,30 @@ fn stated_weight(instance: &Instance, kind: Kind, answer: &Answer) -> i64
     weight(instance, kind, answer) as i64
 }
 
-/// The document of the answer that the engine's perfect matching stands for, with the duals that prove
-/// the matching least.
-pub fn optimal(
+/// The document of the answer that the engine's perfect matching stands for, and of nothing else.
+fn answered(
     alloc: Global,
     instance: &Instance,
     kind: Kind,
     engine: &Engine,
     graph: &Graph,
 ) -> Result<Document, OutOfMemory>
+    requires network { IsNetwork instance.now }
     requires ready { IsOpen kind instance.now }
     requires matched { engine.now.outcome ≡ Some Matched }
     requires same { engine.now.graph ≡ graph.now }
     requires solved { IsSolved engine.now }
+    requires good { IsGraph graph.now }
     requires certified { graph.now ≡ gadget_graph kind instance.now }
     requires few_vertices { graph.now.vertices ≤ GRAPH_VERTEX_LIMIT }
     requires reached { ReachesAll kind instance.now }
-    ensures { IfOk result (Presents kind instance.now engine.now) }
+    ensures { IfOk result (PresentsBriefly kind instance.now engine.now) }
 {
-    // The prover learns here that the instance and the graph are valid.
-    let _edges = instance.edges();
-    let _vertices = graph.vertices();
     let edges = matching(alloc, engine, graph)?;
     let answer = answer(alloc, instance, kind, &edges)?;
     let weight = stated_weight(instance, kind, &answer);
-    let counts = Sequence::from_vec(counts(alloc, instance, &answer)?);
-    let walk = walk(alloc, &answer)?;
-    let sets = Sequence::from_vec(sets(alloc, engine, graph)?);
-    let duals = Sequence::from_vec(duals(alloc, engine, graph)?);
+    let counts = Sequence::from_vec(count_lines(alloc, instance, &answer)?);
+    let walk = walk_line(alloc, &answer)?;
     let head = Head {
         line: 1,
         status: DocStatus::Optimal,
@@ -68,7 +63,56 @@ pub fn optimal(
     let mut document = Document::new(alloc, head);
     document.counts = counts;
     document.walk = walk;
+    Ok(document)
+}
+
+/// Adds the duals and sets that prove the matching least.
+fn certified(
+    alloc: Global,
+    instance: &Instance,
+    kind: Kind,
+    engine: &Engine,
+    graph: &Graph,
+    answered: Document,
+) -> Result<Document, OutOfMemory>
+    requires matched { engine.now.outcome ≡ Some Matched }
+    requires same { engine.now.graph ≡ graph.now }
+    requires solved { IsSolved engine.now }
+    requires answer { PresentsBriefly kind instance.now engine.now answered }
+    ensures { IfOk result (Presents kind instance.now engine.now) }
+{
+    let sets = Sequence::from_vec(set_lines(alloc, engine, graph)?);
+    let duals = Sequence::from_vec(dual_lines(alloc, engine, graph)?);
+    let mut document = answered;
     document.duals = duals;
     document.sets = sets;
     Ok(document)
+}
+
+/// The document of the answer that the engine's perfect matching stands for, with the duals that
+/// prove the matching least, unless it is to be written in brief.
+pub fn optimal(
+    alloc: Global,
+    instance: &Instance,
+    kind: Kind,
+    brief: bool,
+    engine: &Engine,
+    graph: &Graph,
+) -> Result<Document, OutOfMemory>
+    requires network { IsNetwork instance.now }
+    requires ready { IsOpen kind instance.now }
+    requires matched { engine.now.outcome ≡ Some Matched }
+    requires same { engine.now.graph ≡ graph.now }
+    requires solved { IsSolved engine.now }
+    requires good { IsGraph graph.now }
+    requires certified { graph.now ≡ gadget_graph kind instance.now }
+    requires few_vertices { graph.now.vertices ≤ GRAPH_VERTEX_LIMIT }
+    requires reached { ReachesAll kind instance.now }
+    ensures { IfOk result (PresentsFor brief kind instance.now engine.now) }
+{
+    let answered = answered(alloc, instance, kind, engine, graph)?;
+    if brief {
+        return Ok(answered);
+    }
+    certified(alloc, instance, kind, engine, graph, answered)
 }

@@ -1,5 +1,6 @@
 ghost use Rattle.std.specs.Prelude.{◌≡◌, IfOk};
 ghost use Rattle.mb_problem.specs.Kinds.{exclusion_of};
+ghost use Rattle.mb_problem.specs.Network.{IsNetwork};
 ghost use Rattle.mb_problem.specs.declared.kind.Exclusion.TheVariants.{OddPart, SplitPart};
 ghost use Rattle.solve_kinds.specs.Settled.{SettlesOrHasNoPart};
 ghost use Rattle.solve_kinds.specs.Solved.{HasFitWeights};
@@ -15,29 +16,28 @@ use std::alloc::Global;
 /// The document of the first odd part, where there is no join on the vertices of odd value.
 fn odd_part(alloc: Global, instance: &Instance, kind: Kind) -> Result<Option<Document>, OutOfMemory>
     requires kind { exclusion_of kind ≡ OddPart }
+    requires network { IsNetwork instance.now }
     requires weights { HasFitWeights kind instance.now }
     ensures { IfOk result (SettlesOrHasNoPart kind instance.now) }
 {
-    // The prover learns here that the instance is valid.
-    let _edges = instance.edges();
     match join_or_odd(alloc, instance, &Parity::Values)? {
         JoinOrOdd::Join(_) => Ok(None),
         JoinOrOdd::OddSet(part) => Ok(Some(infeasible(alloc, kind, part.as_slice())?)),
     }
 }
 
-/// The document of the component of the least vertex that an edge meets, where some edge lies in another.
+/// The document of the component of the least vertex that an edge meets, where some edge lies in
+/// another.
 fn split_part(
     alloc: Global,
     instance: &Instance,
     kind: Kind,
 ) -> Result<Option<Document>, OutOfMemory>
     requires kind { exclusion_of kind ≡ SplitPart }
+    requires network { IsNetwork instance.now }
     requires weights { HasFitWeights kind instance.now }
     ensures { IfOk result (SettlesOrHasNoPart kind instance.now) }
 {
-    // The prover learns here that the instance is valid.
-    let _edges = instance.edges();
     let graph = instance.graph()?;
     if edge_connected(alloc, &graph)? {
         return Ok(None);
@@ -56,6 +56,7 @@ pub fn excluded(
     instance: &Instance,
     kind: Kind,
 ) -> Result<Option<Document>, OutOfMemory>
+    requires network { IsNetwork instance.now }
     requires weights { HasFitWeights kind instance.now }
     ensures { IfOk result (SettlesOrHasNoPart kind instance.now) }
 {

@@ -1,8 +1,10 @@
 ghost use Rattle.std.specs.Prelude.{◌≡◌, ◌≤◌, ◌+◌, false, IfOk, Some, None};
 ghost use Rattle.graph_theory.specs.declared.limits.TheConstants.{GRAPH_VERTEX_LIMIT};
+ghost use Rattle.graph_theory.specs.Graph.{IsGraph};
 ghost use Rattle.graph_theory.specs.Limits.{IsWithinLimits};
 ghost use Rattle.graph_theory.specs.Parts.{IsVertexSet};
 ghost use Rattle.mb_problem.specs.Kinds.{exclusion_of};
+ghost use Rattle.mb_problem.specs.Network.{IsNetwork};
 ghost use Rattle.mb_problem.specs.Ready.{HasNeededWeights};
 ghost use Rattle.mb_problem.specs.Size.{size_of};
 ghost use Rattle.gadget_base.specs.Certified.{gadget_graph, ReachesAll};
@@ -12,10 +14,9 @@ ghost use Rattle.mwpm_engine.specs.Solutions.{HasPerfect, most_steps, size_of_gr
 ghost use Rattle.mwpm_engine.specs.declared.outcome.Outcome.TheVariants.{Barrier};
 ghost use Rattle.solve_kinds.specs.Excluding.{StatesSet};
 ghost use Rattle.solve_kinds.specs.Open.{IsOpen};
-ghost use Rattle.solve_kinds.specs.Settled.{Settles};
+ghost use Rattle.solve_kinds.specs.Settled.{SettlesFor};
 ghost use Rattle.solve_kinds.specs.Solved.{HasFitWeights};
 
-use crate::barrier::barrier;
 use crate::infeasible::infeasible;
 use crate::optimal::optimal;
 use certificates::certified;
@@ -24,21 +25,25 @@ use graph_theory::GRAPH_VERTEX_LIMIT;
 use mb_base::{OutOfMemory, Steps};
 use mb_problem::{Instance, Kind};
 use mwpm_engine::{Engine, Outcome};
+use outcome_lines::barrier_vertices;
 use std::alloc::Global;
 use std::sync::ledger::Ledger;
 use weighted_graph::Graph;
 
-/// The graph that the certificates of a kind speak of. It has a perfect matching, unless a barrier may
-/// exclude the kind's answers.
+/// The graph that the certificates of a kind speak of. It has a perfect matching, unless a barrier
+/// may exclude the kind's answers.
 fn searched_graph(alloc: Global, instance: &Instance, kind: Kind) -> Result<Graph, OutOfMemory>
     requires limits { IsWithinLimits (size_of kind instance.now) }
     requires weights { HasNeededWeights kind instance.now }
     requires ready { IsOpen kind instance.now }
     ensures graph { IfOk result (λ h. h ≡ gadget_graph kind instance.now) }
     ensures limits { IfOk result (λ h. IsWithinLimits (size_of_graph h)) }
-    ensures steps { IfOk result (λ h. most_steps (size_of_graph h) ≤ most_steps (size_of kind instance.now)) }
+    ensures steps { IfOk result
+        (λ h. most_steps (size_of_graph h) ≤ most_steps (size_of kind instance.now)) }
     ensures reached { IfOk result (λ h. ReachesAll kind instance.now) }
     ensures perfect { IfOk result (λ h. is_barrier (exclusion_of kind) ≡ false → HasPerfect h) }
+    ensures good { IfOk result IsGraph }
+    ensures network { IsNetwork instance.now }
 {
     let graph = certified(alloc, instance, kind)?;
     Ok(graph)
@@ -57,20 +62,23 @@ fn barred(
     requires kind { is_never (exclusion_of kind) ≡ false }
     ensures { IfOk result (StatesSet kind engine.now.barrier) }
 {
-    let set = barrier(alloc, engine, graph)?;
+    let set = barrier_vertices(alloc, engine, graph)?;
     infeasible(alloc, kind, &set)
 }
 
-/// The document of a best answer or of a barrier, by one run of the engine over the graph that the kind's
-/// certificates speak of.
+/// The document of a best answer or of a barrier, by one run of the engine over the graph that the
+/// kind's certificates speak of.
 fn settled<L: Ledger>(
     alloc: Global,
     instance: &Instance,
     kind: Kind,
+    brief: bool,
     engine: &mut Engine,
     graph: &Graph,
     steps: &mut Steps<L>,
 ) -> Result<Document, OutOfMemory>
+    requires network { IsNetwork instance.now }
+    requires good { IsGraph graph.now }
     requires same { engine.old.graph ≡ graph.now }
     requires fresh { engine.old.outcome ≡ None }
     requires ready { IsOpen kind instance.now }
@@ -79,36 +87,34 @@ fn settled<L: Ledger>(
     requires certified { graph.now ≡ gadget_graph kind instance.now }
     requires reached { ReachesAll kind instance.now }
     requires perfect { is_barrier (exclusion_of kind) ≡ false → HasPerfect graph.now }
-    ensures settled { IfOk result (Settles kind instance.now) }
+    ensures settled { IfOk result (SettlesFor brief kind instance.now) }
     ensures best { IfOk result (λ d. is_barrier (exclusion_of kind) ≡ false → d.status ≡ Optimal) }
     ensures steps { steps.new ≤ steps.old + most_steps (size_of_graph graph.now) }
 {
-    // The prover learns here that the instance and the graph are valid.
-    let _edges = instance.edges();
-    let _vertices = graph.vertices();
     match engine.run(graph, steps) {
-        Outcome::Matched => optimal(alloc, instance, kind, engine, graph),
+        Outcome::Matched => optimal(alloc, instance, kind, brief, engine, graph),
         Outcome::Barrier => barred(alloc, kind, engine, graph),
     }
 }
 
-/// The document of a best answer or of a barrier, by one search for a perfect matching of least weight in
-/// the graph that the kind's certificates speak of.
+/// The document of a best answer or of a barrier, by one search for a perfect matching of least
+/// weight in the graph that the kind's certificates speak of. In brief it has no duals and no sets.
 pub fn searched<L: Ledger>(
     alloc: Global,
     instance: &Instance,
     kind: Kind,
+    brief: bool,
     steps: &mut Steps<L>,
 ) -> Result<Document, OutOfMemory>
     requires limits { IsWithinLimits (size_of kind instance.now) }
     requires weights { HasNeededWeights kind instance.now }
     requires ready { IsOpen kind instance.now }
     requires fit { HasFitWeights kind instance.now }
-    ensures settled { IfOk result (Settles kind instance.now) }
+    ensures settled { IfOk result (SettlesFor brief kind instance.now) }
     ensures best { IfOk result (λ d. is_barrier (exclusion_of kind) ≡ false → d.status ≡ Optimal) }
     ensures steps { steps.new ≤ steps.old + most_steps (size_of kind instance.now) }
 {
     let graph = searched_graph(alloc, instance, kind)?;
     let mut engine = Engine::new(alloc, &graph)?;
-    settled(alloc, instance, kind, &mut engine, &graph, steps)
+    settled(alloc, instance, kind, brief, &mut engine, &graph, steps)
 }

@@ -8,6 +8,7 @@ ghost use Rattle.doc_format.specs.declared.status.DocStatus.TheVariants.{Infeasi
 ghost use Rattle.certificates.specs.Proved.{IsProved, StatesTruth};
 ghost use Rattle.mwpm_engine.specs.Solutions.{most_steps};
 ghost use Rattle.solve_kinds.specs.Chosen.{IsChosen};
+ghost use Rattle.solve_kinds.specs.Settled.{IsWrittenFor, SettlesFor};
 ghost use Rattle.solve_kinds.specs.Solved.{HasTrueStatus, is_tested_first};
 
 use crate::conservative::unfit;
@@ -20,17 +21,45 @@ use mb_problem::{Instance, Kind};
 use std::alloc::Global;
 use std::sync::ledger::Ledger;
 
-/// Solves an instance: the document of a best answer, or of what excludes all answers. It proves what it
-/// states, whole: an accepting judge is sure. A perfect matching of least weight is sought in the graph
-/// that the certificates of the kind speak of (Schrijver, Combinatorial Optimization, volume A, chapter
-/// 26 for matchings, 29 for joins, tours and paths, 31 to 33 for b-matchings, capacities and factors).
-/// Where the kind asks for conservative weights an even set of edges of least weight is sought first, to
-/// tell whether they are. The instance has what the kind needs: for a tour no edge weighs less than 0, and
-/// for a path two vertices have odd values, its ends.
+/// The document of a best answer, or of what excludes all answers, with all that proves it or, in
+/// brief, as far as that is written.
+fn solve_for<L: Ledger>(
+    alloc: Global,
+    instance: &Instance,
+    kind: Kind,
+    brief: bool,
+    steps: &mut Steps<L>,
+) -> Result<Document, OutOfMemory>
+    requires limits { IsWithinLimits (size_of kind instance.now) }
+    requires ready { IsReady kind instance.now }
+    ensures settled { IfOk result (SettlesFor brief kind instance.now) }
+    ensures steps { steps.new ≤ steps.old
+        + searches_of kind * most_steps (size_of kind instance.now) }
+    ensures unsearched { IfOk result
+        (λ d. is_tested_first kind ≡ true → d.status ≡ Infeasible → steps.new ≡ steps.old) }
+{
+    // An instance is valid as long as it lives: its calls say so.
+    let _edges = instance.edges();
+    if let Some(document) = unfit(alloc, instance, kind, steps)? {
+        return Ok(document);
+    }
+    if let Some(document) = excluded(alloc, instance, kind)? {
+        return Ok(document);
+    }
+    Ok(searched(alloc, instance, kind, brief, steps)?)
+}
+
+/// Solves an instance: the document of a best answer, or of what excludes all answers. It proves
+/// what it states, whole: an accepting judge is sure. A perfect matching of least weight is sought
+/// in the graph that the certificates of the kind speak of (Schrijver, Combinatorial Optimization,
+/// volume A, chapter 26 for matchings, 29 for joins, tours and paths, 31 to 33 for b-matchings,
+/// capacities and factors). Where the kind asks for conservative weights an even set of edges of
+/// least weight is sought first, to tell whether they are. The instance has what the kind needs:
+/// for a tour no edge weighs less than 0, and for a path two vertices have odd values, its ends.
 ///
-/// The steps of the searches are counted on `steps`: looks at edges and events. What it takes besides
-/// them is linear in that graph and the members of the sets, but for sets of less than a sixteenth of
-/// the vertices, which are sorted. An error is want of memory.
+/// The steps of the searches are counted on `steps`: looks at edges and events. What it takes
+/// besides them is linear in that graph and the members of the sets, but for sets of less than a
+/// sixteenth of the vertices, which are sorted. An error is want of memory.
 pub fn solve<L: Ledger>(
     alloc: Global,
     instance: &Instance,
@@ -44,16 +73,33 @@ pub fn solve<L: Ledger>(
     ensures exact { IfOk result (λ d. HasTrueStatus kind instance.now d.status) }
     ensures chosen { IfOk result (IsChosen kind instance.now) }
     ensures small { IfOk result (λ d. length (document_text d false) ≤ DOCUMENT_BYTE_LIMIT) }
-    ensures steps { steps.new ≤ steps.old + searches_of kind * most_steps (size_of kind instance.now) }
+    ensures steps { steps.new ≤ steps.old
+        + searches_of kind * most_steps (size_of kind instance.now) }
 
     // Where a part that no edge leaves excludes all answers that is seen without a search.
-    ensures unsearched { IfOk result (λ d. is_tested_first kind ≡ true → d.status ≡ Infeasible → steps.new ≡ steps.old) }
+    ensures unsearched { IfOk result
+        (λ d. is_tested_first kind ≡ true → d.status ≡ Infeasible → steps.new ≡ steps.old) }
 {
-    if let Some(document) = unfit(alloc, instance, kind, steps)? {
-        return Ok(document);
-    }
-    if let Some(document) = excluded(alloc, instance, kind)? {
-        return Ok(document);
-    }
-    Ok(searched(alloc, instance, kind, steps)?)
+    solve_for(alloc, instance, kind, false, steps)
+}
+
+/// The same for a document that is to be written, in full or in brief: it has the text of a
+/// document that `solve` could answer. In brief the duals and sets, which are not written then, are
+/// not made.
+pub fn solve_written<L: Ledger>(
+    alloc: Global,
+    instance: &Instance,
+    kind: Kind,
+    brief: bool,
+    steps: &mut Steps<L>,
+) -> Result<Document, OutOfMemory>
+    requires limits { IsWithinLimits (size_of kind instance.now) }
+    requires ready { IsReady kind instance.now }
+    ensures written { IfOk result (IsWrittenFor kind instance.now brief) }
+    ensures steps { steps.new ≤ steps.old
+        + searches_of kind * most_steps (size_of kind instance.now) }
+    ensures unsearched { IfOk result
+        (λ d. is_tested_first kind ≡ true → d.status ≡ Infeasible → steps.new ≡ steps.old) }
+{
+    solve_for(alloc, instance, kind, brief, steps)
 }

@@ -22,7 +22,7 @@ returns-then-weight-ge0-clause-settled g c =
     let is : c.weight.result ≡ weight_by Total i c.in_ok-counts.counts = c.weight.ensures in
     let weighs : weight_by Total i c.in_ok-counts.counts ≡ walk_weight (graph_of i) c.in_ok-even.even.edges = c.in_ok-counts.ensures.weighs in
     let low : pos 0 ≤ℤ walk_weight (graph_of i) c.in_ok-even.even.edges = omega (arith, ints, is, weighs) in
-    fit-weights c.args.kind i c.in_ok-even.even.edges c.edges-edges.ensures.network c.laws.ensures.conservative c.in_ok-even.ensures.least low
+    fit-weights c.args.kind i c.in_ok-even.even.edges c.requires.network c.laws.ensures.conservative c.in_ok-even.ensures.least low
 
 pub returns-then-weight-ge0-clause-steps : goal.returns-then-weight-ge0-clause-steps
 returns-then-weight-ge0-clause-steps g c = even-steps c.args.kind c.args.instance.now c.args.steps.now c.least_join.new.steps c.requires.kind c.least_join.ensures.steps

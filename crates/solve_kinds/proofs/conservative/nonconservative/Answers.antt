@@ -1,4 +1,4 @@
-use Rattle.std.proofs.Common.{ap, refl, ◌∙◌}
+use Rattle.std.proofs.Common.{ap, ◌∙◌}
 use Rattle.doc_format.specs.declared.head.Head.{Head}
 use Rattle.doc_format.specs.Parts.{Body, blank}
 use Rattle.solve_kinds.proofs.Circuits.{circuit-edges, settles-circuit}
@@ -7,10 +7,15 @@ use Rattle.solve_kinds.proofs.SetForms.{form-nonconservative}
 use Rattle.solve_kinds.proofs.conservative.nonconservative.Goals as goal
 
 pub invariant_of-document : goal.invariant_of-document
-invariant_of-document c = record { form = formed-as c.new-document.result _ blank (λ (b : Body). record b { walk = c.in_ok-walk.walk }) c.new-document.ensures.head c.new-document.ensures.body (form-nonconservative c.args.kind c.in_ok-walk.walk c.requires.kind (circuit-edges c.args.instance.now c.args.even.now.edges c.in_ok-circuit.circuit c.in_ok-walk.walk c.in_ok-circuit.ensures.circuit c.in_ok-walk.ensures)) }
+invariant_of-document c =
+    record {
+      form = formed-as c.new-document.result _ blank (λ (b : Body). record b { walk = c.in_ok-walk.walk }) c.new-document.ensures.head c.new-document.ensures.body
+          (form-nonconservative c.args.kind c.in_ok-walk.walk c.requires.kind
+          (circuit-edges c.args.instance.now c.args.even.now.edges c.in_ok-circuit.circuit c.in_ok-walk.walk c.in_ok-circuit.ensures.circuit c.in_ok-walk.ensures));
+    }
 
 pub returns : goal.returns
-returns c = settles-circuit c.args.kind c.args.instance.now c.args.even.now.edges c.in_ok-circuit.circuit _ c.requires.kind c.edges-edges.ensures.network c.in_ok-circuit.ensures.circuit (record {
+returns c = settles-circuit c.args.kind c.args.instance.now c.args.even.now.edges c.in_ok-circuit.circuit _ c.requires.kind c.requires.network c.in_ok-circuit.ensures.circuit (record {
   status = ap (λ (h : Head). h.status) c.new-document.ensures.head;
   kind_is = ap (λ (h : Head). h.kind) c.new-document.ensures.head;
   weight = ap (λ (h : Head). h.weight) c.new-document.ensures.head;

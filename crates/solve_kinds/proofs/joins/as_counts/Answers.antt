@@ -11,7 +11,7 @@ pub count_listed-requires-clause-few : goal.count_listed-requires-clause-few
 count_listed-requires-clause-few c =
     let i = c.args.instance.now in
     let few = few-edges i c.args.join.now.edges c.requires.ascending c.requires.in_range in
-    let most : length i.edges ≤ 65536 = c.edges-edges.ensures.network.few_edges in
+    let most : length i.edges ≤ 65536 = c.requires.network.few_edges in
     let same : length c.as_slice.result.now ≡ length c.args.join.now.edges = ap length c.as_slice.ensures in
     omega (arith, few, most, same)
 

@@ -17,4 +17,4 @@ path_in-requires-clause-t c =
     (omega (arith, low, order), ends-high c.args.instance.now c.ends-s.result.0 c.ends-s.result.1 c.ends-s.ensures)
 
 pub returns-clause-few_steps : goal.returns-clause-few_steps
-returns-clause-few_steps c = path-few c.args.instance.now c.ends-s.result.0 c.ends-s.result.1 c.in_ok-join.join.edges c.in_ok-answer.answer c.edges-edges.ensures.network c.in_ok-answer.ensures.path
+returns-clause-few_steps c = path-few c.args.instance.now c.ends-s.result.0 c.ends-s.result.1 c.in_ok-join.join.edges c.in_ok-answer.answer c.requires.network c.in_ok-answer.ensures.path

@@ -1,4 +1,5 @@
 use Rattle.std.proofs.Common.{sym, subst}
+use Rattle.graph_theory.specs.Graph.{IsGraph}
 use Rattle.mb_problem.specs.Size.{size_of, certified_size}
 use Rattle.mb_problem.proofs.KindLaws.{certified-no-larger}
 use Rattle.mwpm_engine.specs.Solutions.{HasPerfect}
@@ -15,6 +16,8 @@ returns c =
     let larger = certified-no-larger kind i in
     record {
       graph = e.graph;
+      good = subst IsGraph (sym e.graph) e.good;
+      network = e.network;
       limits = graph-limits (certified_size kind i) (size_of kind i) h e.size larger c.requires.limits;
       steps = graph-steps (certified_size kind i) (size_of kind i) h e.size larger;
       reached = e.reached;

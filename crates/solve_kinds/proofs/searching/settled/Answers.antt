@@ -8,11 +8,11 @@ use Rattle.mb_problem.specs.Kinds.{exclusion_of}
 use Rattle.gadget_base.specs.Certified.{gadget_graph}
 use Rattle.doc_format.specs.Form.{is_barrier}
 use Rattle.solve_kinds.proofs.Presenting.{Solves}
-use Rattle.solve_kinds.proofs.Settling.{settles-optimal}
+use Rattle.solve_kinds.proofs.Settling.{settles-for, settles-presented, states-for}
 use Rattle.solve_kinds.proofs.PartDocuments.{barrier-kind, never-no, settles-barred}
 use Rattle.solve_kinds.specs.Excluding.{StatesSet}
-use Rattle.solve_kinds.specs.Presented.{Presents}
-use Rattle.solve_kinds.specs.Settled.{Settles}
+use Rattle.solve_kinds.specs.Presented.{PresentsFor}
+use Rattle.solve_kinds.specs.Settled.{SettlesFor}
 use Rattle.solve_kinds.proofs.searching.settled.Goals as goal
 
 pub returns-in-Matched-clause-settled : goal.returns-in-Matched-clause-settled
@@ -23,11 +23,20 @@ returns-in-Matched-clause-settled g c =
     let here : s.graph ≡ c.args.graph.now = c.in-Matched.ensures.graph ∙ c.requires.same in
     let graph : s.graph ≡ gadget_graph kind i = here ∙ c.requires.certified in
     let few : s.graph.vertices ≤ 4096 = subst (λ (h : Multigraph). h.vertices ≤ 4096) (sym here) c.requires.few in
-    let of : Solves kind i s = record { network = c.edges-edges.ensures.network; graph = graph; is_graph = subst IsGraph c.requires.certified c.vertices-vertices.ensures.graph; reached = c.requires.reached; solved = c.in-Matched.ensures.ends } in
-    IfOk-weaker c.optimal.result (Presents kind i s) (Settles kind i) (λ d p. settles-optimal kind i s d few c.requires.fit of p) c.optimal.ensures
+    let of : Solves kind i s =
+    record {
+      network = c.requires.network;
+      graph = graph;
+      is_graph = subst IsGraph c.requires.certified c.requires.good;
+      reached = c.requires.reached;
+      solved = c.in-Matched.ensures.ends;
+    } in
+    let brief = c.args.brief in
+    IfOk-weaker c.optimal.result (PresentsFor brief kind i s) (SettlesFor brief kind i) (λ d p. settles-presented brief kind i s d few c.requires.fit of p) c.optimal.ensures
 
 pub returns-in-Matched-clause-best : goal.returns-in-Matched-clause-best
-returns-in-Matched-clause-best g c = IfOk-weaker c.optimal.result (Presents c.args.kind c.args.instance.now c.run.new.self) _ (λ d p none. p.status) c.optimal.ensures
+returns-in-Matched-clause-best g c = IfOk-weaker c.optimal.result (PresentsFor c.args.brief c.args.kind c.args.instance.now c.run.new.self) _
+    (λ d p none. (states-for c.args.brief c.args.kind c.args.instance.now c.run.new.self d p).status) c.optimal.ensures
 
 pub barred-requires-clause-kind : goal.barred-requires-clause-kind
 barred-requires-clause-kind g c =
@@ -35,7 +44,7 @@ barred-requires-clause-kind g c =
     let s = c.run.new.self in
     let here : s.graph ≡ c.args.graph.now = c.in-Barrier.ensures.graph ∙ c.requires.same in
     let barrier : IsBarrier c.args.graph.now s.barrier = subst (λ (h : Multigraph). IsBarrier h s.barrier) here c.in-Barrier.ensures.ends.1 in
-    never-no (exclusion_of kind) (barrier-kind kind c.args.graph.now s.barrier c.vertices-vertices.ensures.graph c.requires.perfect barrier)
+    never-no (exclusion_of kind) (barrier-kind kind c.args.graph.now s.barrier c.requires.good c.requires.perfect barrier)
 
 pub returns-in-Barrier-clause-settled : goal.returns-in-Barrier-clause-settled
 returns-in-Barrier-clause-settled g c =
@@ -46,9 +55,10 @@ returns-in-Barrier-clause-settled g c =
     let here : s.graph ≡ h = c.in-Barrier.ensures.graph ∙ c.requires.same in
     let set : IsVertexSet h.vertices s.barrier = subst (λ (k : Multigraph). IsVertexSet k.vertices s.barrier) here c.in-Barrier.ensures.ends.0 in
     let barrier : IsBarrier h s.barrier = subst (λ (k : Multigraph). IsBarrier k s.barrier) here c.in-Barrier.ensures.ends.1 in
-    let t : is_barrier (exclusion_of kind) ≡ true = barrier-kind kind h s.barrier c.vertices-vertices.ensures.graph c.requires.perfect barrier in
-    IfOk-weaker c.barred.result (StatesSet kind s.barrier) (Settles kind i)
-    (λ d p. settles-barred kind i h s.barrier d c.requires.certified c.vertices-vertices.ensures.graph c.requires.few c.requires.reached t c.edges-edges.ensures.network c.requires.fit set barrier p) c.barred.ensures
+    let t : is_barrier (exclusion_of kind) ≡ true = barrier-kind kind h s.barrier c.requires.good c.requires.perfect barrier in
+    IfOk-weaker c.barred.result (StatesSet kind s.barrier) (SettlesFor c.args.brief kind i)
+    (λ d p. settles-for c.args.brief kind i d
+    (settles-barred kind i h s.barrier d c.requires.certified c.requires.good c.requires.few c.requires.reached t c.requires.network c.requires.fit set barrier p)) c.barred.ensures
 
 pub returns-in-Barrier-clause-best : goal.returns-in-Barrier-clause-best
 returns-in-Barrier-clause-best g c =
@@ -57,4 +67,5 @@ returns-in-Barrier-clause-best g c =
     let h : Multigraph = c.args.graph.now in
     let here : s.graph ≡ h = c.in-Barrier.ensures.graph ∙ c.requires.same in
     let barrier : IsBarrier h s.barrier = subst (λ (k : Multigraph). IsBarrier k s.barrier) here c.in-Barrier.ensures.ends.1 in
-    IfOk-weaker c.barred.result (StatesSet kind s.barrier) _ (λ d p none. absurd (true≢false (sym (barrier-kind kind h s.barrier c.vertices-vertices.ensures.graph c.requires.perfect barrier) ∙ none))) c.barred.ensures
+    IfOk-weaker c.barred.result (StatesSet kind s.barrier) _
+    (λ d p none. absurd (true≢false (sym (barrier-kind kind h s.barrier c.requires.good c.requires.perfect barrier) ∙ none))) c.barred.ensures

@@ -1,0 +1,5 @@
+pub mod Ascents
+mod CountLines
+pub mod DualLines
+mod Marking
+pub mod SetLines

@@ -1,0 +1,39 @@
+use Rattle.std.proofs.Common.{◌≡◌, ◌+◌, pos, List, length, map, All, sym, ap, ◌∙◌, subst, arith, rules, to_z, of_z, w64}
+use Rattle.std.proofs.lemmas.Int.{ints}
+use Rattle.graph_theory.specs.Duals.{dual_of}
+use Rattle.doc_format.specs.declared.part.DualLine.{DualLine}
+use Rattle.doc_format.specs.Form.{AscendsBy}
+use Rattle.certificates.specs.Within.{IsDualWithin}
+use Rattle.outcome_lines.proofs.DualLines.{lines_to, lines-push, lines-duals, lines-ascend, lines-within, lines-unread}
+use Rattle.outcome_lines.proofs.duals.dual_lines.Goals as goal
+
+pub loop-place-preserved : goal.loop-place-preserved
+loop-place-preserved c =
+    let ys = c.args.engine.now.duals in
+    let k = c.loop-place.place in
+    let number : c.from.result ≡ pos (k + 1) = omega (arith, ints, c.from.ensures) in
+    let vertex : to_z w64 (of_z w64 c.from.result) ≡ pos (k + 1) = omega (arith, ints) in
+    let same : to_z w64 (of_z w64 c.dual.result) ≡ c.dual.result = search rules in
+    let place : c.new.result ≡ k + 1 = omega arith in
+    let dual : c.dual.result ≡ dual_of ys (k + 1) = c.dual.ensures ∙ ap (dual_of ys) place in
+    lines-push ys k c.loop-place.lines.items c.push.new.self.items _ _ c.loop-place.invariant c.in_ok-push.ensures.items vertex (same ∙ dual)
+
+pub returns-clause-duals : goal.returns-clause-duals
+returns-clause-duals c =
+    let ys = c.args.engine.now.duals in
+    let one_each : length ys ≡ c.args.graph.now.vertices = c.requires.one_each in
+    let all : c.loop-place.place ≡ length ys = omega arith in
+    ap (λ (xs : List DualLine). map (λ (y : DualLine). y.dual) xs) (c.loop-place.invariant ∙ ap (lines_to ys) all) ∙ lines-duals ys
+
+pub returns-clause-ascending : goal.returns-clause-ascending
+returns-clause-ascending c = subst (λ (xs : List DualLine). AscendsBy (λ y. y.vertex) xs) (sym c.loop-place.invariant) (lines-ascend c.args.engine.now.duals c.loop-place.place)
+
+pub returns-clause-in_range : goal.returns-clause-in_range
+returns-clause-in_range c =
+    let ys = c.args.engine.now.duals in
+    let n = c.args.graph.now.vertices in
+    let all : c.loop-place.place ≡ n = omega arith in
+    subst (λ (xs : List DualLine). All (IsDualWithin n) xs) (sym (c.loop-place.invariant ∙ ap (lines_to ys) all)) (lines-within ys n c.requires.one_each c.requires.in_range)
+
+pub returns-clause-unread : goal.returns-clause-unread
+returns-clause-unread c = subst (λ (xs : List DualLine). All (λ y. y.line ≡ 1) xs) (sym c.loop-place.invariant) (lines-unread c.args.engine.now.duals c.loop-place.place)

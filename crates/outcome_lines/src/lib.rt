@@ -1,0 +1,22 @@
+//! The lines of a document out of the outcome of a search and out of an answer: nothing here knows
+//! of kinds. It stands on `mwpm_engine` for the outcome and on `doc_format` for the lines. It
+//! promises that the lines list the counts, the walk, the duals, the sets and the barrier as they
+//! are, ascending, with all numbers in their ranges.
+#![tactic(auto)]
+
+mod barrier;
+mod counts;
+mod duals;
+mod marked;
+mod marks;
+mod members;
+mod sets;
+mod vertex_set;
+mod walk;
+
+pub use barrier::barrier_vertices;
+pub use counts::count_lines;
+pub use duals::dual_lines;
+pub use sets::set_lines;
+pub use vertex_set::member_line;
+pub use walk::walk_line;

@@ -1,7 +1,0 @@
-use Rattle.std.proofs.Common.{◌≡◌}
-use Rattle.graph_theory.specs.Parts.{holds}
-use Rattle.least_joins.proofs.Passing.{passing}
-use Rattle.solve_kinds.proofs.barrier.barrier.Given as goal
-
-abbrev pub invariant-loop-place : goal.invariant-loop-place
-invariant-loop-place l = l.vertices.items ≡ passing (holds l.engine.barrier) l.place
