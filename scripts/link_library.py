@@ -7,7 +7,13 @@ import sys
 
 # How much of what the compiler says is shown where it fails.
 LAST_BYTES = 4000
-SYMBOLS = ("blossom_call", "blossom_abi")
+SYMBOLS = (
+    "blossom_call",
+    "blossom_solve_arrays",
+    "blossom_check_arrays",
+    "blossom_gadget_size",
+    "blossom_abi",
+)
 
 
 def kit():
@@ -49,7 +55,7 @@ def archive(folder, below):
 
 
 def link(made, room):
-    """Links the archive with the kit's calls for memory, and keeps no symbol but the two. Answers
+    """Links the archive with the kit's calls for memory, and keeps no symbol but the calls. Answers
     the paths of the shared object and of the static library."""
     home, symbols, whole = kit(), os.path.join(room, "symbols"), os.path.join(room, "blossom.o")
     shared, static = os.path.join(room, "libblossom.so"), os.path.join(room, "libblossom.a")

@@ -35,6 +35,7 @@ TAG = "py3-none-manylinux_%s_x86_64" % C_LIBRARY["program"].replace(".", "_")
 PAGES = ("docs/FORMAT.md", "docs/C.md", "docs/PROMISES.md", "CHANGELOG.md", "README.md")
 EXAMPLES = (
     "capi/example.c",
+    "capi/example_arrays.c",
     "examples/two-triangles.dimacs",
     "examples/perfect-two-triangles.checked",
     "examples/streets.csv",
@@ -210,7 +211,7 @@ def wheel(folder, notes):
 
 def header():
     """The header, with the number of the release."""
-    text, line = text_of("capi/blossom.h"), "#define BLOSSOM_ABI 1\n"
+    text, line = text_of("capi/blossom.h"), "#define BLOSSOM_ABI 2\n"
     if text.count(line) != 1:
         raise Refused(
             "capi/blossom.h hasn't the one line %r, below which the number of the release stands"
@@ -237,6 +238,7 @@ def tarball_files(notes):
         read("capi/install.sh"),
         read("capi/README.md"),
     )
+    files["include/blossom.hpp"] = read("capi/blossom.hpp")
     for path, name in (
         ("lib/pkgconfig/", "blossom.pc"),
         ("lib/cmake/blossom/", "blossom-config.cmake"),

@@ -12,7 +12,7 @@ from c_parts import OUT, TRIANGLES, Skipped, run
 
 C = ("CC", "cc", ["-std=c99", "-O2", "-Wall", "-Wextra", "-pedantic", "-Werror"])
 C_PLUS_PLUS = ("CXX", "c++", ["-Wall", "-Wextra", "-pedantic", "-Werror"])
-#: Functions by the types that docs/C.md and the header's words give the two calls, and each number
+#: Functions by the types that docs/C.md and the header's words give the calls, and each number
 #: of the header.
 NUMBERS = """#include "blossom.h"
 #include <stdio.h>
@@ -87,7 +87,14 @@ def numbers_and_types(program, library, tests):
     """A compiler finds the calls to be of their types, and the numbers that the other tests read in
     the header."""
     header = library.header
-    named = {**header.tasks, **header.kinds, **header.statuses}
+    named = {
+        **header.tasks,
+        **header.kinds,
+        **header.statuses,
+        **header.rules,
+        **header.outcomes,
+        **header.document_rules,
+    }
     lines = "".join('    printf("%s %%d\\n", BLOSSOM_%s);\n' % (name, name) for name in named)
     wanted = "%d 1\n%d 8\n" % (header.abi, header.longest_answer) + "".join(
         "%s %d\n" % one for one in named.items()
@@ -126,7 +133,7 @@ def header_in_c_plus_plus(program, library, tests):
 
 
 def symbols(program, library, tests):
-    """The shared object and the static library define two symbols and no others."""
+    """The shared object and the static library define the calls and no other symbol."""
     if shutil.which("nm") is None:
         raise Skipped("there is no nm")
     for name, word in (("libblossom.so", "-D"), ("libblossom.a", "-g")):
@@ -136,7 +143,7 @@ def symbols(program, library, tests):
         tests.compare(
             "the symbols of " + name,
             b"",
-            ["blossom_abi", "blossom_call"],
+            sorted(library.header.calls),
             re.findall(r" [A-Z] (\S+)$", done.stdout, re.M),
         )
 

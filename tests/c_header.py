@@ -1,4 +1,4 @@
-"""What capi/blossom.h declares: its numbers, and the types of its two calls. The tests of the
+"""What capi/blossom.h declares: its numbers, and the types of its calls. The tests of the
 library call it by these, so that a number or a type that isn't the library's shows."""
 import ctypes
 import os
@@ -10,6 +10,9 @@ TYPES = {
     "uint32_t": ctypes.c_uint32,
     "size_t": ctypes.c_size_t,
     "const uint8_t *": ctypes.c_void_p,
+    "const uint32_t *": ctypes.POINTER(ctypes.c_uint32),
+    "const int64_t *": ctypes.POINTER(ctypes.c_int64),
+    "int64_t *": ctypes.POINTER(ctypes.c_int64),
     "uint8_t *": ctypes.c_void_p,
     "size_t *": ctypes.POINTER(ctypes.c_size_t),
 }
@@ -25,6 +28,8 @@ class Header:
         }
         #: The numbers by their names without BLOSSOM_.
         self.tasks, self.kinds, self.statuses = enums["task"], enums["kind"], enums["status"]
+        self.rules, self.outcomes = enums["rule"], enums["outcome"]
+        self.document_rules = enums["document_rule"]
         self.abi = int(re.search(r"#define BLOSSOM_ABI (\d+)\n", text)[1])
         size, shift = re.search(
             r"#define BLOSSOM_LONGEST_ANSWER \(\(size_t\)(\d+) << (\d+)\)\n", text
@@ -36,7 +41,9 @@ class Header:
                 TYPES[answer],
                 [type_of(one) for one in words.split(",") if one.strip() != "void"],
             )
-            for answer, name, words in re.findall(r"^(\w+) (blossom_\w+)\((.*?)\);", text, re.M)
+            for answer, name, words in re.findall(
+                r"^(\w+) (blossom_\w+)\((.*?)\);", text, re.M | re.S
+            )
         }
 
 

@@ -1,7 +1,7 @@
 """Tests of the library for C that `capi/build.sh` has built: that it answers as the program does,
 byte for byte, what it leaves in buffers, that equal calls give equal answers, and that calls give
-their memory back; with those of its edge and by compilers. A part that wants what isn't there is
-shown as skipped, and counted."""
+their memory back; with those of its edge, over arrays and by compilers. A part that wants what
+isn't there is shown as skipped, and counted."""
 import concurrent.futures
 import ctypes
 import glob
@@ -10,6 +10,7 @@ import os
 import random
 import subprocess
 
+import c_arrays
 import c_compilers
 import c_edge
 import made
@@ -192,7 +193,7 @@ def check(program, tests):
     passed, failed, skipped = tests.passed, tests.failed, tests.skipped
     is_built = subprocess.run([os.path.join(CAPI, "build.sh"), "--is-built"]).returncode == 0
     library = Library() if is_built else None
-    for part in PARTS + c_edge.PARTS + c_compilers.PARTS:
+    for part in PARTS + c_edge.PARTS + c_arrays.PARTS + c_compilers.PARTS:
         try:
             if library is None:
                 raise Skipped("capi/out isn't of the present sources (capi/build.sh)")

@@ -1,3 +1,4 @@
 pub mod Numbers
 pub mod Buffers
 pub mod Endings
+pub mod ArrayEndings

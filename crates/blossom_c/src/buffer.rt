@@ -10,3 +10,14 @@ pub fn put(text: &[u8], buffer: &mut [u8]) -> bool
     buffer[..text.len()].copy_from_slice(text);
     true
 }
+
+/// Copies numbers to the front of a buffer where they fit, and answers whether they do.
+pub fn put_numbers(numbers: &[i64], buffer: &mut [i64]) -> bool
+    ensures { StandsOrNot numbers.now buffer.old buffer.new result }
+{
+    if numbers.len() > buffer.len() {
+        return false;
+    }
+    buffer[..numbers.len()].copy_from_slice(numbers);
+    true
+}

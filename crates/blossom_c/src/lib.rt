@@ -1,11 +1,15 @@
-//! The calls for C and for languages that call C: `match_call::call` over the caller's buffers.
-//! It stands on `match_call`. It promises of the bytes that it leaves in a buffer what `call`
-//! promises of its text, for every input and every buffer.
+//! The calls for C and for languages that call C, over the caller's buffers: `match_call::call`
+//! over texts, and `array_call::answer_to` over arrays.
+//! It stands on these two. It promises of what it leaves in a buffer what they promise of their
+//! answers, for every input and every buffer.
 #![tactic(auto)]
 
+mod array_border;
+mod array_ending;
 mod border;
 mod buffer;
 mod ending;
 mod numbers;
 
+pub use array_border::{blossom_check_arrays, blossom_gadget_size, blossom_solve_arrays};
 pub use border::{blossom_abi, blossom_call};

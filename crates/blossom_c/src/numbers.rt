@@ -1,4 +1,5 @@
 ghost use Rattle.mb_problem.specs.Kinds.{kind_number};
+ghost use Rattle.blossom_c.specs.ArrayEndings.{number_of_solving};
 ghost use Rattle.blossom_c.specs.Numbers.{number_of_task, IsNumbered};
 
 use match_call::Task;
@@ -21,4 +22,15 @@ pub fn kind_numbered(number: u32) -> Option<Kind>
     ensures { IsNumbered kind_number number result }
 {
     Kind::numbered(number)
+}
+
+/// Whether the task of this number solves in brief, where it is one that solves.
+pub fn solving_numbered(number: u32) -> Option<bool>
+    ensures { IsNumbered number_of_solving number result }
+{
+    match number {
+        1 => Some(false),
+        2 => Some(true),
+        _ => None,
+    }
 }

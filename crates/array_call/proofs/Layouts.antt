@@ -1,0 +1,19 @@
+-- One set more, and one line more.
+use Rattle.std.proofs.Common.{◌≡◌, ℕ, ◌+◌, ◌<◌, ℤ, List, [], ◌∷◌, ◌++◌, length, map, take, get_or, sym, ap, ◌∙◌}
+use Rattle.std.specs.Prelude.{flat_map}
+use Rattle.std.proofs.lemmas.List.{take_more, append-nil, append_assoc, map-append}
+use Rattle.std.proofs.lemmas.Grind.{flat_map-append}
+use Rattle.doc_format.specs.declared.part.SetLine.{SetLine}
+use Rattle.array_call.specs.Layout.{all_members}
+
+pub members-more : (sets : List SetLine) (k : ℕ) (d : SetLine) → k < length sets → all_members (take (k + 1) sets) ≡ all_members (take k sets) ++ (get_or sets k d).members
+members-more sets k d below =
+    ap all_members (take_more sets k d below)
+    ∙ flat_map-append (λ z. z.members) (take k sets) (get_or sets k d ∷ [])
+    ∙ ap (λ (ms : List ℤ). all_members (take k sets) ++ ms) (append-nil (get_or sets k d).members)
+
+pub mapped-more : {A : Type 0} (f : A → ℤ) (front : List ℤ) (xs : List A) (k : ℕ) (d : A) → k < length xs →
+    (front ++ map f (take k xs)) ++ f (get_or xs k d) ∷ [] ≡ front ++ map f (take (k + 1) xs)
+mapped-more f front xs k d below =
+    append_assoc front (map f (take k xs)) (f (get_or xs k d) ∷ [])
+    ∙ ap (λ (zs : List ℤ). front ++ zs) (sym (ap (map f) (take_more xs k d below) ∙ map-append f (take k xs) (get_or xs k d ∷ [])))

@@ -1,0 +1,6 @@
+pub mod Firsts
+pub mod OddValues
+pub mod Instances
+pub mod CountLines
+pub mod Layouts
+pub mod Verdicts

@@ -1,0 +1,83 @@
+-- A document as numbers.
+use Rattle.std.specs.Prelude.{ℕ, ◌+◌, ℤ, pos, List, [], ◌∷◌, ◌++◌, map, length, take, Bool, true, false, Option, None, Some}
+use Rattle.std.specs.List.{flat_map}
+use Rattle.mb_problem.specs.declared.kind.Kind.{Kind}
+use Rattle.mb_problem.specs.declared.kind.AnswerForm.{AnswerForm}
+use Rattle.mb_problem.specs.declared.kind.AnswerForm.TheVariants as form
+use Rattle.mb_problem.specs.Kinds.{form_of}
+use Rattle.gadget_base.specs.Blocks.{tabled}
+use Rattle.doc_format.specs.declared.document.Document.{Document}
+use Rattle.doc_format.specs.declared.status.DocStatus.{DocStatus}
+use Rattle.doc_format.specs.declared.status.DocStatus.TheVariants.{Optimal, Infeasible, NonConservative}
+use Rattle.doc_format.specs.declared.part.DualLine.{DualLine}
+use Rattle.doc_format.specs.declared.part.SetLine.{SetLine}
+use Rattle.doc_format.specs.declared.part.WalkLine.{WalkLine}
+use Rattle.doc_format.specs.declared.part.MemberLine.{MemberLine}
+use Rattle.certificates.specs.Claims.{counts_of}
+
+-- ---- the parts
+
+abbrev pub status_number : DocStatus → ℤ
+status_number Optimal = pos 1
+status_number Infeasible = pos 2
+status_number NonConservative = pos 3
+
+-- where a walk starts; 0 where there is none
+abbrev pub start_number : Option WalkLine → ℤ
+start_number None = pos 0
+start_number (Some w) = w.start
+
+abbrev pub walk_numbers : Option WalkLine → List ℤ
+walk_numbers None = []
+walk_numbers (Some w) = w.edges
+
+-- the count of each of m edges, or the edges of the walk
+abbrev pub answer_numbers : AnswerForm → ℕ → Document → List ℤ
+answer_numbers form.Counts m d = map pos (counts_of d.counts m)
+answer_numbers form.Walk m d = walk_numbers d.walk
+
+-- the members of a set of vertices, where there is one
+abbrev pub listed_members : Option MemberLine → List ℤ
+listed_members None = []
+listed_members (Some u) = u.members
+
+-- the members of what excludes all answers: a barrier, an odd part or a split part
+abbrev pub excluding : Document → List ℤ
+excluding d = listed_members d.barrier ++ (listed_members d.odd ++ listed_members d.split)
+
+-- the members of sets, set by set
+abbrev pub all_members : List SetLine → List ℤ
+all_members sets = flat_map (λ z. z.members) sets
+
+-- how many members the sets before a place have
+abbrev pub offset_at : List SetLine → ℕ → ℤ
+offset_at sets k = pos (length (all_members (take k sets)))
+
+-- where the members of each set begin, and where those of the last end
+abbrev pub offsets : List SetLine → List ℤ
+offsets sets = tabled (offset_at sets) (length sets + 1)
+
+-- ---- the whole
+
+-- the numbers that say what follows: the status, the weight, where the walk starts, and the lengths of the parts
+abbrev pub head : DocStatus → ℤ → ℤ → ℤ → ℤ → ℤ → ℤ → ℤ → List ℤ
+head status weight start answer duals sets all members = status_number status ∷ weight ∷ start ∷ answer ∷ duals ∷ sets ∷ all ∷ members ∷ []
+
+-- duals of vertices, duals of sets, where the members of each set begin, these members, and those of what excludes all answers
+abbrev pub certificate : List DualLine → List SetLine → List ℤ → List ℤ
+certificate duals sets members = map (λ y. y.dual) duals ++ (map (λ z. z.dual) sets ++ (offsets sets ++ (all_members sets ++ members)))
+
+-- a document with this answer and this certificate
+abbrev pub numbers_by : Document → List ℤ → List DualLine → List SetLine → List ℤ → List ℤ
+numbers_by d answer duals sets members =
+    head d.status d.weight (start_number d.walk) (pos (length answer)) (pos (length duals)) (pos (length sets)) (pos (length (all_members sets))) (pos (length members))
+    ++ (answer ++ certificate duals sets members)
+
+-- nothing in brief
+abbrev pub unless : {A : Type 0} → Bool → List A → List A
+unless true xs = []
+unless false xs = xs
+
+-- the numbers of a document, in brief without what proves the answer, for an answer of this form on m edges
+abbrev pub numbers_for : Bool → AnswerForm → ℕ → Document → List ℤ
+numbers_for brief f m d = numbers_by d (answer_numbers f m d) (unless brief d.duals) (unless brief d.sets) (unless brief (excluding d))

@@ -1,0 +1,7 @@
+pub mod Rules
+pub mod Arrays
+pub mod Faults
+pub mod Made
+pub mod Layout
+pub mod Answers
+pub mod Checks

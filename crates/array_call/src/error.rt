@@ -1,0 +1,24 @@
+ghost use Rattle.std.specs.Prelude.{◌≡◌};
+ghost use Rattle.array_call.specs.declared.error.ArrayError.TheVariants.{OutOfMemory};
+
+use crate::rule::ArrayFault;
+use std::alloc::AllocError;
+
+/// Why there is no answer to arrays.
+#[derive(Clone, Copy, Debug, PartialEq, Eq)]
+pub enum ArrayError {
+    /// The arrays are no instance of the kind.
+    Malformed(ArrayFault),
+    /// The graph that certificates speak of, of this size, is past a limit.
+    TooLarge { vertices: u64, edges: u64 },
+    /// There isn't enough memory.
+    OutOfMemory,
+}
+
+impl From<AllocError> for ArrayError {
+    ghost from_gives = { λ _ e. e ≡ OutOfMemory };
+
+    fn from(_error: AllocError) -> ArrayError {
+        ArrayError::OutOfMemory
+    }
+}

@@ -1,0 +1,223 @@
+//! A document as numbers.
+ghost use Rattle.std.specs.Prelude.{◌≡◌, ◌++◌, map, All, IfOk, OnOk};
+ghost use Rattle.mb_problem.specs.Kinds.{form_of};
+ghost use Rattle.certificates.specs.Within.{IsCountWithin};
+ghost use Rattle.array_call.specs.Layout.{status_number, start_number, walk_numbers};
+ghost use Rattle.array_call.specs.Layout.{answer_numbers, listed_members, excluding, all_members};
+ghost use Rattle.array_call.specs.Layout.{offsets, head, certificate, numbers_by, numbers_for};
+
+use crate::counts::counts_of;
+use doc_format::{DocStatus, Document, DualLine, MemberLine, SetLine, WalkLine};
+use mb_base::OutOfMemory;
+use mb_problem::{AnswerForm, Kind};
+use std::alloc::Global;
+
+fn status_number(status: DocStatus) -> i64
+    ensures { result ≡ status_number status }
+{
+    match status {
+        DocStatus::Optimal => 1,
+        DocStatus::Infeasible => 2,
+        DocStatus::NonConservative => 3,
+    }
+}
+
+/// Where a walk starts; 0 where there is none.
+fn start_number(walk: &Option<WalkLine>) -> i64
+    ensures { result ≡ start_number walk.now }
+{
+    match walk {
+        Some(walk) => walk.start,
+        None => 0,
+    }
+}
+
+fn walk_numbers(alloc: Global, walk: &Option<WalkLine>) -> Result<Vec<i64>, OutOfMemory>
+    ensures { IfOk result (λ v. v.items ≡ walk_numbers walk.now) }
+{
+    match walk {
+        Some(walk) => Vec::from_slice(alloc, walk.edges.as_slice()),
+        None => Ok(Vec::new(alloc)),
+    }
+}
+
+/// The count of each edge, or the edges of the walk.
+fn answer_numbers(
+    alloc: Global,
+    form: AnswerForm,
+    m: usize,
+    document: &Document,
+) -> Result<Vec<i64>, OutOfMemory>
+    requires { All (IsCountWithin m) document.now.counts }
+    ensures { IfOk result (λ v. v.items ≡ answer_numbers form m document.now) }
+{
+    match form {
+        AnswerForm::Counts => counts_of(alloc, document.counts.as_slice(), m),
+        AnswerForm::Walk => walk_numbers(alloc, &document.walk),
+    }
+}
+
+/// Puts the members of a set of vertices at the end, where there is one.
+fn push_members(numbers: &mut Vec<i64>, set: &Option<MemberLine>) -> Result<(), OutOfMemory>
+    ensures { OnOk result (numbers.new.items ≡ numbers.old.items ++ listed_members set.now) }
+{
+    if let Some(set) = set {
+        numbers.extend_from_slice(set.members.as_slice())?;
+    }
+    Ok(())
+}
+
+/// The members of what excludes all answers.
+fn excluding(alloc: Global, document: &Document) -> Result<Vec<i64>, OutOfMemory>
+    ensures { IfOk result (λ v. v.items ≡ excluding document.now) }
+{
+    let mut members = Vec::new(alloc);
+    push_members(&mut members, &document.barrier)?;
+    push_members(&mut members, &document.odd)?;
+    push_members(&mut members, &document.split)?;
+    Ok(members)
+}
+
+/// Puts the duals of vertices at the end.
+fn push_duals(numbers: &mut Vec<i64>, duals: &[DualLine]) -> Result<(), OutOfMemory>
+    ensures { OnOk result (numbers.new.items ≡ numbers.old.items ++ map (λ y. y.dual) duals.now) }
+{
+    for y in duals {
+        numbers.push(y.dual)?;
+    }
+    Ok(())
+}
+
+/// Puts the duals of sets at the end.
+fn push_set_duals(numbers: &mut Vec<i64>, sets: &[SetLine]) -> Result<(), OutOfMemory>
+    ensures { OnOk result (numbers.new.items ≡ numbers.old.items ++ map (λ z. z.dual) sets.now) }
+{
+    for z in sets {
+        numbers.push(z.dual)?;
+    }
+    Ok(())
+}
+
+/// The members of sets, set by set, and where those of each set begin and the last end.
+#[derive(Drop)]
+struct Members {
+    offsets: Vec<i64>,
+    all: Vec<i64>,
+}
+
+fn members_of(alloc: Global, sets: &[SetLine]) -> Result<Members, OutOfMemory>
+    ensures offsets { IfOk result (λ m. m.offsets.items ≡ offsets sets.now) }
+    ensures all { IfOk result (λ m. m.all.items ≡ all_members sets.now) }
+{
+    let mut offsets = Vec::new(alloc);
+    let mut all = Vec::new(alloc);
+    for k in 0..sets.len() {
+        offsets.push(all.len() as i64)?;
+        all.extend_from_slice(sets[k].members.as_slice())?;
+    }
+    offsets.push(all.len() as i64)?;
+    Ok(Members { offsets, all })
+}
+
+/// How many numbers there are of each part of a document.
+#[derive(Clone, Copy)]
+struct Lengths {
+    answer: i64,
+    duals: i64,
+    sets: i64,
+    all: i64,
+    members: i64,
+}
+
+/// The numbers that say what follows.
+fn head(alloc: Global, document: &Document, lengths: Lengths) -> Result<Vec<i64>, OutOfMemory>
+    ensures { IfOk result (λ v. v.items
+        ≡ head document.now.status document.now.weight (start_number document.now.walk)
+        lengths.answer lengths.duals lengths.sets lengths.all lengths.members) }
+{
+    let mut numbers = Vec::new(alloc);
+    numbers.push(status_number(document.status))?;
+    numbers.push(document.weight)?;
+    numbers.push(start_number(&document.walk))?;
+    numbers.push(lengths.answer)?;
+    numbers.push(lengths.duals)?;
+    numbers.push(lengths.sets)?;
+    numbers.push(lengths.all)?;
+    numbers.push(lengths.members)?;
+    Ok(numbers)
+}
+
+/// Puts a certificate at the end, where these are the members of its sets.
+fn push_certificate(
+    numbers: &mut Vec<i64>,
+    duals: &[DualLine],
+    sets: &[SetLine],
+    of_sets: &Members,
+    members: &[i64],
+) -> Result<(), OutOfMemory>
+    requires offsets { of_sets.now.offsets.items ≡ offsets sets.now }
+    requires all { of_sets.now.all.items ≡ all_members sets.now }
+    ensures { OnOk result (numbers.new.items
+        ≡ numbers.old.items ++ certificate duals.now sets.now members.now) }
+{
+    push_duals(numbers, duals)?;
+    push_set_duals(numbers, sets)?;
+    numbers.extend_from_slice(&of_sets.offsets)?;
+    numbers.extend_from_slice(&of_sets.all)?;
+    numbers.extend_from_slice(members)?;
+    Ok(())
+}
+
+/// The numbers of a document with this answer and this certificate.
+fn laid(
+    alloc: Global,
+    document: &Document,
+    answer: &[i64],
+    duals: &[DualLine],
+    sets: &[SetLine],
+    members: &[i64],
+) -> Result<Vec<i64>, OutOfMemory>
+    ensures { IfOk result (λ v. v.items ≡ numbers_by document.now answer.now duals.now sets.now
+        members.now) }
+{
+    let of_sets = members_of(alloc, sets)?;
+    let lengths = Lengths {
+        answer: answer.len() as i64,
+        duals: duals.len() as i64,
+        sets: sets.len() as i64,
+        all: of_sets.all.len() as i64,
+        members: members.len() as i64,
+    };
+    let mut numbers = head(alloc, document, lengths)?;
+    numbers.extend_from_slice(answer)?;
+    push_certificate(&mut numbers, duals, sets, &of_sets, members)?;
+    Ok(numbers)
+}
+
+/// The numbers of a document of a kind with `m` edges: eight that say what follows, the answer, and
+/// unless they are asked for in brief what proves it. It takes time linear in them.
+pub fn numbers_of(
+    alloc: Global,
+    kind: Kind,
+    m: usize,
+    brief: bool,
+    document: &Document,
+) -> Result<Vec<i64>, OutOfMemory>
+    requires { All (IsCountWithin m) document.now.counts }
+    ensures { IfOk result (λ v. v.items ≡ numbers_for brief (form_of kind) m document.now) }
+{
+    let answer = answer_numbers(alloc, kind.form(), m, document)?;
+    if brief {
+        return laid(alloc, document, &answer, &[], &[], &[]);
+    }
+    let members = excluding(alloc, document)?;
+    let duals = document.duals.as_slice();
+    laid(
+        alloc,
+        document,
+        &answer,
+        duals,
+        document.sets.as_slice(),
+        &members,
+    )
+}

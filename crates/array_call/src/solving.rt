@@ -1,0 +1,82 @@
+ghost use Rattle.std.specs.Prelude.{◌≡◌, ◌≤◌, ◌↔◌, IsTrue, IfOk};
+ghost use Rattle.graph_theory.specs.Limits.{IsWithinLimits};
+ghost use Rattle.mb_problem.specs.Network.{IsNetwork};
+ghost use Rattle.mb_problem.specs.Ready.{IsReady};
+ghost use Rattle.certificates.specs.Proved.{StatesTruth};
+ghost use Rattle.solve_kinds.specs.Solved.{HasTrueStatus};
+ghost use Rattle.array_call.specs.Arrays.{arrays_of, network_of};
+ghost use Rattle.array_call.specs.Made.{IsFaultless};
+ghost use Rattle.array_call.specs.Answers.{Counts, Solves};
+
+use crate::arrays::InstanceArrays;
+use crate::error::ArrayError;
+use crate::making::instance_of;
+use doc_format::Document;
+use graph_theory::{GRAPH_EDGE_LIMIT, GRAPH_VERTEX_LIMIT};
+use mb_base::Steps;
+use mb_problem::{Instance, Kind, gadget_size};
+use std::alloc::Global;
+use std::sync::ledger::Ledger;
+
+/// Whether a graph of this size may be searched and certified.
+pub fn is_within_limits(vertices: u64, edges: u64) -> bool
+    ensures { IsTrue result ↔ IsWithinLimits (record { vertices = vertices; edges = edges }) }
+{
+    if vertices > u64::from(GRAPH_VERTEX_LIMIT) {
+        return false;
+    }
+    edges <= u64::from(GRAPH_EDGE_LIMIT)
+}
+
+/// Solves the instance that arrays are: its size is tested first.
+fn solve_instance<L: Ledger>(
+    alloc: Global,
+    kind: Kind,
+    arrays: &InstanceArrays<'_>,
+    instance: &Instance,
+    steps: &mut Steps<L>,
+) -> Result<Document, ArrayError>
+    requires same { instance.now ≡ network_of kind (arrays_of arrays.now) }
+    requires faultless { IsFaultless kind (arrays_of arrays.now) }
+    requires ready { IsReady kind instance.now }
+    ensures answer { Solves kind (arrays_of arrays.now) result }
+    ensures steps { Counts kind (arrays_of arrays.now) steps.old steps.new result }
+{
+    let (vertices, edges) = gadget_size(instance, kind);
+    if !is_within_limits(vertices, edges) {
+        return Err(ArrayError::TooLarge { vertices, edges });
+    }
+    match solve_kinds::solve(alloc, instance, kind, steps) {
+        Ok(document) => Ok(document),
+        Err(_) => Err(ArrayError::OutOfMemory),
+    }
+}
+
+/// Solves the instance that arrays are for a kind (Schrijver, Combinatorial Optimization, volume A,
+/// chapters 24 to 33), as `solve_kinds::solve` does: the document of a best answer, or of what
+/// excludes all answers. Edges and vertices count from 1. The steps of the searches are counted on
+/// `steps`.
+pub fn solve_arrays<L: Ledger>(
+    alloc: Global,
+    kind: Kind,
+    arrays: &InstanceArrays<'_>,
+    steps: &mut Steps<L>,
+) -> Result<Document, ArrayError>
+    // The document proves what it states of this instance; or the first fault of the arrays, or the
+    // size of a graph past a limit. So each instance within the limits is answered, but for want of
+    // memory.
+    ensures answer { Solves kind (arrays_of arrays.now) result }
+
+    // What the document states is true of the instance.
+    ensures truth { IfOk result (StatesTruth kind (network_of kind (arrays_of arrays.now))) }
+
+    // It is optimal exactly where an answer is feasible.
+    ensures exact { IfOk result (λ d. HasTrueStatus kind (network_of kind (arrays_of arrays.now))
+        d.status) }
+
+    // A search counts no more than the graph of certificates allows, and a refusal nothing.
+    ensures steps { Counts kind (arrays_of arrays.now) steps.old steps.new result }
+{
+    let instance = instance_of(alloc, kind, arrays)?;
+    solve_instance(alloc, kind, arrays, &instance, steps)
+}

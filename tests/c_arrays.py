@@ -1,0 +1,452 @@
+"""Tests of the calls over arrays of the library for C: that they answer as the call over texts does
+on all stored inputs, what they leave in buffers of each length, which fault of wrong arrays they
+tell, equal calls in several threads, and their header and example by compilers."""
+import concurrent.futures
+import ctypes
+import os
+import subprocess
+import tempfile
+
+import c_compilers
+import made
+import plain_instances
+import plain_solver
+from c_header import CAPI
+from c_parts import KINDS
+from plain_checker import fields_of
+
+WALKS = ("postman", "path")
+EXCLUDING = {"tjoin": "t", "path": "t", "postman": "q"}
+OUTCOMES = {1: "OPTIMAL", 2: "INFEASIBLE", 3: "NONCONSERVATIVE"}
+TASKS = {"SOLVE": False, "SOLVE_BRIEFLY": True}
+#: Two triangles with an edge between them: what capi/example_arrays.c solves.
+EXAMPLE = (6, [1, 2, 1, 4, 5, 4, 3], [2, 3, 3, 5, 6, 6, 4], [1, 1, 1, 1, 1, 1, 10], [], [])
+#: What the example prints.
+PRINTED = """room for 9 is too little for %d
+weight: 12
+counts: %s
+duals: %s
+"""
+
+
+def arrays_of(text):
+    """What the text of an instance in order says: the number of vertices, the ends of edges with
+    weights and capacities where they have some, and the values of vertices."""
+    vertices, edges, values = 0, [], {}
+    for fields in map(fields_of, text.split("\n")):
+        if fields and fields[0] == "p":
+            vertices = int(fields[2])
+        elif fields and fields[0] == "e":
+            edges.append([int(field) for field in fields[1:]])
+        elif fields and fields[0] == "n":
+            values[int(fields[1])] = int(fields[2])
+    return vertices, edges, values
+
+
+def rows(kind, vertices, edges, values):
+    """The same as the calls take them."""
+    default = 1 if kind in ("bmatch", "capmatch", "ffactor") else 0
+    given = [values.get(v, default) for v in range(1, vertices + 1)] if values else []
+    weights = [edge[2] if len(edge) > 2 else 1 for edge in edges]
+    capacities = [edge[3] if len(edge) > 3 else -1 for edge in edges]
+    return (
+        vertices,
+        [edge[0] for edge in edges],
+        [edge[1] for edge in edges],
+        weights if any(len(edge) > 2 for edge in edges) else [],
+        capacities if max(capacities, default=-1) >= 0 else [],
+        given,
+    )
+
+
+def array(kind, numbers):
+    """Numbers in memory, and how many they are; there is an address where there are none."""
+    return (kind * max(1, len(numbers)))(*numbers), len(numbers)
+
+
+class Arrays:
+    """The calls over arrays."""
+
+    def __init__(self, library):
+        self.library = library
+
+    def call(self, name, numbers, given, room, answer=None):
+        """The status, how many numbers there are, and the whole buffer, which is one number longer
+        than is said and full of sevens before."""
+        vertices, *parts = given
+        kinds = [ctypes.c_uint32] * 2 + [ctypes.c_int64] * 2 + [ctypes.c_uint32]
+        held = [array(kind, part) for kind, part in zip(kinds, parts)]
+        if answer is not None:
+            held.append(array(ctypes.c_int64, answer))
+        output, used = (ctypes.c_int64 * (room + 1))(*[7] * (room + 1)), ctypes.c_size_t(2**64 - 1)
+        words = [word for memory, length in held for word in (memory, length)]
+        status = getattr(self.library.object, name)(
+            *numbers, vertices, *words, output, room, ctypes.byref(used)
+        )
+        return status, used.value, list(output)
+
+    def solve(self, task, kind, given, room=1 << 15):
+        return self.call(
+            "blossom_solve_arrays", self.library.numbers(task, kind), given, room
+        )
+
+    def answer(self, task, kind, given):
+        status, used, output = self.solve(task, kind, given)
+        if status == self.library.header.statuses["SHORT_BUFFER"]:
+            status, used, output = self.solve(task, kind, given, used)
+        return status, output[:used]
+
+    def check(self, kind, given, numbers):
+        """The verdict on the numbers of an answer."""
+        number = self.library.numbers("CHECK", kind)[1]
+        status, used, output = self.call("blossom_check_arrays", (number,), given, 2, numbers)
+        return status, output[:used]
+
+    def size(self, kind, given):
+        number = self.library.numbers("SOLVE", kind)[1]
+        status, used, output = self.call("blossom_gadget_size", (number,), given, 2)
+        return status, output[:used]
+
+
+def line(*words):
+    return " ".join(map(str, words)) + "\n"
+
+
+def text_of(kind, brief, numbers):
+    """The text of the document that the numbers are."""
+    outcome, weight, start, a, p, k, t, b = numbers[:8]
+    places = [8, 8 + a, 8 + a + p, 8 + a + p + k, 9 + a + p + 2 * k, 9 + a + p + 2 * k + t]
+    answer, duals, set_duals, offsets, members = (
+        numbers[first:last] for first, last in zip(places, places[1:])
+    )
+    excluding = numbers[places[-1] :]
+    lines = line("s", OUTCOMES[outcome], kind, *([weight] if outcome == 1 else []))
+    if kind not in WALKS:
+        lines += "".join(line("x", e, count) for e, count in enumerate(answer, 1) if count)
+    elif answer and not (brief and outcome == 3):
+        lines += line("w", start, a, *answer)
+    lines += "".join(line("y", v, dual) for v, dual in enumerate(duals, 1))
+    for j, dual in enumerate(set_duals):
+        of_set = members[offsets[j] : offsets[j + 1]]
+        lines += line("z", dual, len(of_set), *of_set)
+    if outcome == 2 and not brief:
+        lines += line(EXCLUDING.get(kind, "u"), b, *excluding)
+    return lines.encode()
+
+
+def agrees(arrays, library, tests, name, task, kind, given):
+    """Both calls answer the same to an instance that breaks no rule."""
+    refused, size = plain_instances.refusal("solve", kind, given.decode("latin-1"))
+    if size is None:
+        return
+    here = rows(kind, *arrays_of(given.decode("latin-1")))
+    status, answer = arrays.answer(task, kind, here)
+    told = (
+        text_of(kind, TASKS[task], answer)
+        if status == 0
+        else b"s TOOLARGE %d %d\n" % tuple(answer)
+        if status == 4
+        else answer
+    )
+    tests.compare(
+        "over arrays, " + name, given, library.answer(task, kind, given), (status, told)
+    )
+    if status == 0 and task == "SOLVE":
+        verdict = arrays.check(kind, here, answer)
+        tests.compare("checked over arrays, " + name, given, (0, []), verdict)
+    tests.compare("the size over arrays, " + name, given, (0, list(size)), arrays.size(kind, here))
+
+
+def same_answers(program, library, tests):
+    """On all stored inputs that hold an instance, and on made ones, both calls say the same."""
+    import c_library
+
+    arrays = Arrays(library)
+    for name, task, kind, given in c_library.inputs():
+        if task in TASKS:
+            agrees(arrays, library, tests, name, task, kind, given)
+    for start, kind in enumerate(KINDS * 4):
+        given = plain_solver.instance(*made.made(kind, start, 12, 26)).encode()
+        for task in TASKS:
+            agrees(arrays, library, tests, "made %d" % start, task, kind, given)
+
+
+def buffers(program, library, tests):
+    """An answer stands at the front of a buffer with room for it, and nothing else is written; a
+    shorter buffer is left as it was, and how many numbers are wanted is told."""
+    arrays, short = Arrays(library), library.header.statuses["SHORT_BUFFER"]
+    for task, kind, given in (
+        ("SOLVE", "perfect", EXAMPLE),
+        ("SOLVE_BRIEFLY", "postman", EXAMPLE),
+        ("SOLVE", "perfect", (1, [], [], [], [], [])),
+        ("SOLVE", "perfect", (1, [1], [2], [], [], [])),
+        ("SOLVE", "match", (4096, [], [], [], [], [])),
+    ):
+        status, answer = arrays.answer(task, kind, given)
+        for room in range(len(answer) + 3):
+            wanted = (
+                (short, len(answer), [7] * (room + 1))
+                if room < len(answer)
+                else (status, len(answer), answer + [7] * (room + 1 - len(answer)))
+            )
+            tests.compare(
+                "over arrays, room for %d of %d" % (room, len(answer)),
+                b"",
+                wanted,
+                arrays.solve(task, kind, given, room),
+            )
+
+
+#: For each rule arrays that break it first, and where.
+FAULTS = (
+    ("LENGTHS", 0, "perfect", (2, [1], [], [], [], [])),
+    ("LENGTHS", 0, "perfect", (2, [1], [2], [1, 1], [], [])),
+    ("LENGTHS", 0, "perfect", (2, [1, 1], [2, 2], [], [1], [])),
+    ("LENGTHS", 0, "bmatch", (2, [1], [2], [], [], [1])),
+    ("LENGTHS", 0, "perfect", (4097, [0], [], [], [], [])),
+    ("VERTICES", 0, "match", (4097, [0], [0], [], [], [])),
+    ("VERTICES", 0, "match", (2**32 - 1, [], [], [], [], [])),
+    ("EDGES", 0, "match", (2, [0] * 65537, [1] * 65537, [], [], [])),
+    ("END", 1, "perfect", (2, [0], [1], [], [], [])),
+    ("END", 2, "perfect", (2, [1, 1], [2, 3], [], [], [])),
+    ("END", 1, "perfect", (2, [3], [3], [10**10], [-2], [])),
+    ("WEIGHT", 1, "perfect", (2, [1, 1], [1, 2], [10**9 + 1, 0], [-2, 1], [])),
+    ("WEIGHT", 2, "perfect", (2, [1, 1], [2, 2], [10**9, -(10**9) - 1], [], [])),
+    ("WEIGHT", 1, "perfect", (2, [1], [2], [-(2**63)], [], [])),
+    ("CAPACITY", 1, "capmatch", (2, [1], [1], [], [-2], [])),
+    ("CAPACITY", 2, "match", (2, [1, 1], [2, 2], [], [-1, 4097], [])),
+    ("LOOP", 2, "perfect", (2, [1, 2, 0], [2, 2, 0], [], [], [])),
+    ("VALUE", 2, "perfect", (2, [1], [2], [], [], [4096, 4097])),
+    ("VALUE", 1, "path", (2, [1], [2], [], [], [2**32 - 1, 0])),
+    ("NEGATIVE", 2, "postman", (3, [1, 1, 2], [2, 3, 3], [0, -1, -1], [], [])),
+    ("PATH_ENDS", 0, "path", (3, [1], [2], [-1], [], [1, 1, 1])),
+    ("PATH_ENDS", 0, "path", (3, [1], [2], [], [], [])),
+)
+
+
+def faults(program, library, tests):
+    """Wrong arrays are told by their first fault; what lies at the limits isn't one."""
+    arrays, header = Arrays(library), library.header
+    for rule, place, kind, given in FAULTS:
+        wanted = (header.statuses["MALFORMED"], [header.rules[rule], place])
+        name = "over arrays, %s at %d" % (rule, place)
+        tests.compare(name, b"", wanted, arrays.answer("SOLVE", kind, given))
+        tests.compare(name + ", size", b"", wanted, arrays.size(kind, given))
+    most = (4096, [1] * 65536, [4096] * 65536, [10**9] * 65536, [4096] * 65536, [0] * 4096)
+    status = arrays.answer("SOLVE_BRIEFLY", "bmatch", most)[0]
+    tests.compare("over arrays, the greatest of all", b"", 0, status)
+    untouched = (header.statuses["NO_SUCH_CALL"], 0, [7] * 21)
+    for task, kind in ((0, 1), (3, 1), (257, 1), (1, 0), (2, 9), (1, 2**32 - 1)):
+        tests.compare(
+            "over arrays, task %d and kind %d" % (task, kind),
+            b"",
+            untouched,
+            arrays.call("blossom_solve_arrays", (task, kind), EXAMPLE, 20),
+        )
+    tests.compare(
+        "the size over arrays of no kind",
+        b"",
+        untouched,
+        arrays.call("blossom_gadget_size", (9,), EXAMPLE, 20),
+    )
+
+
+#: The rules of documents in the order of their numbers.
+DOCUMENT_RULES = (
+    "DocForm KindDiffers DocRange NotFeasible WeightDiffers DualMissing SetForm Slack ValueDiffers"
+    " NotBarrier NotClosed NotCircuit"
+).split()
+
+
+def verdict_of(answer):
+    """A verdict over texts, as one over arrays: without the line."""
+    status, text = answer
+    words = text.decode().split()
+    return status, [DOCUMENT_RULES.index(words[2]) + 1, 0] if words[1] == "REJECTED" else []
+
+
+#: Instances of each kind, some without an answer.
+JUDGED = (
+    ("perfect", EXAMPLE),
+    ("perfect", (3, [1, 2, 1], [2, 3, 3], [1, 1, 1], [], [])),
+    ("match", (3, [1, 2, 1], [2, 3, 3], [4, 5, 6], [], [])),
+    ("bmatch", (3, [1, 2, 1], [2, 3, 3], [4, 5, 6], [], [2, 2, 2])),
+    ("capmatch", (2, [1, 1], [2, 2], [4, 5], [1, 2], [3, 3])),
+    ("ffactor", (3, [1, 2, 1], [2, 3, 3], [4, 5, 6], [], [2, 2, 2])),
+    ("tjoin", (4, [1, 2, 3], [2, 3, 4], [1, 2, 3], [], [1, 0, 0, 1])),
+    ("tjoin", (3, [1], [2], [1], [], [0, 0, 1])),
+    ("postman", (3, [1, 2, 1], [2, 3, 3], [4, 5, 6], [], [])),
+    ("path", (3, [1, 2, 1], [2, 3, 3], [4, 5, 60], [], [1, 0, 1])),
+    ("path", (3, [1, 2, 1], [2, 3, 3], [1, -5, 1], [], [1, 0, 1])),
+)
+
+
+def instance_text(kind, given):
+    """The text of an instance given as arrays."""
+    vertices, ends, others, weights, capacities, values = given
+    text = line("p", "edge", vertices, len(ends))
+    text += "".join(line("n", v, value) for v, value in enumerate(values, 1))
+    marks = capacities or [-1] * len(ends)
+    for u, v, w, c in zip(ends, others, weights, marks):
+        text += line("e", u, v, w, *([] if c < 0 else [c]))
+    return text.encode()
+
+
+def verdicts(program, library, tests):
+    """An answer that was changed in one number gets the verdict that its text gets, and numbers
+    that are laid out otherwise are no document's."""
+    arrays, rejected = Arrays(library), library.header.statuses["REJECTED"]
+    no_document = (rejected, [library.header.document_rules["DOC_FORM"], 0])
+    for kind, given in JUDGED:
+        instance = instance_text(kind, given)
+        _, numbers = arrays.answer("SOLVE", kind, given)
+        behind = 8 + sum(numbers[3:5]) + numbers[5]
+        places = [1, 2, *range(8, behind), *range(behind + numbers[5] + 1, len(numbers))]
+        for place in places:
+            changed = numbers[:place] + [numbers[place] + 1] + numbers[place + 1 :]
+            text = text_of(kind, False, changed)
+            here = arrays.check(kind, given, changed)
+            told = verdict_of(library.answer("CHECK", kind, instance + text))
+            name = "%s over arrays, changed at %d" % (kind, place)
+            if told[0] == 0 or here == no_document:
+                same = text == text_of(kind, False, numbers) or told[0] == rejected
+                tests.compare(name, text, (no_document, True), (here, same))
+            else:
+                tests.compare(name, text, told, here)
+        for other in (numbers[:-1], numbers + [0], numbers[:7], [], [9] + numbers[1:]):
+            told = arrays.check(kind, given, other)
+            tests.compare("%s over arrays, no document" % kind, b"", no_document, told)
+        for place in range(3, 8):
+            for length in (numbers[place] + 1, -1, 2**62, 2**63 - 1, -(2**63)):
+                changed = numbers[:place] + [length] + numbers[place + 1 :]
+                told = arrays.check(kind, given, changed)
+                tests.compare("%s over arrays, a length" % kind, b"", rejected, told[0])
+
+
+def equal_calls(program, library, tests):
+    """Calls in several threads answer as one after another."""
+    arrays, all_rows = Arrays(library), []
+    for start, kind in enumerate(KINDS * 3):
+        edges, values = made.made(kind, start, 30, 70)
+        edges = [[u, v, w] + ([] if c is None else [c]) for u, v, w, c in edges]
+        given = rows(kind, len(values), edges, dict(enumerate(values, 1)))
+        all_rows += [("SOLVE", kind, given), ("SOLVE_BRIEFLY", kind, given)]
+    first = [arrays.answer(*row) for row in all_rows]
+    with concurrent.futures.ThreadPoolExecutor(2) as executor:
+        at_once = list(executor.map(lambda row: arrays.answer(*row), all_rows * 2))
+    for row, one, two, three in zip(all_rows, first, at_once, at_once[len(all_rows) :]):
+        tests.compare("over arrays, equal calls, %s %s" % row[:2], b"", one, two)
+        tests.compare("over arrays, equal calls, %s %s" % row[:2], b"", one, three)
+
+
+def printed(arrays):
+    """What the example prints."""
+    status, numbers = arrays.answer("SOLVE", "perfect", EXAMPLE)
+    _, _, _, a, p, k, t, _ = numbers[:8]
+    at = 8 + a
+    text = PRINTED % (
+        len(numbers),
+        " ".join(map(str, numbers[8:at])),
+        " ".join(map(str, numbers[at : at + p])),
+    )
+    offsets = numbers[at + p + k : at + p + 2 * k + 1]
+    members = numbers[at + p + 2 * k + 1 :]
+    for j, dual in enumerate(numbers[at + p : at + p + k]):
+        of_set = members[offsets[j] : offsets[j + 1]]
+        text += "dual %d, members: %s\n" % (dual, " ".join(map(str, of_set)))
+    text += "checked: status 0, rule 0\nwith another weight: status 1, rule 5\n"
+    return text.encode()
+
+
+def example(program, library, tests):
+    """The example compiles with each library without a warning and runs; so it does with sanitizers
+    on the caller's side, where the compiler has them."""
+    wanted = (0, printed(Arrays(library)), b"")
+    variable, usual, words = c_compilers.C
+    sanitizing = ["-fsanitize=address,undefined", "-fno-sanitize-recover=all", "-g"]
+    for name, more in (
+        ("libblossom.so", []),
+        ("libblossom.a", []),
+        ("libblossom.so", sanitizing),
+    ):
+        with tempfile.TemporaryDirectory() as room:
+            of = (variable, usual, words + more)
+            source = os.path.join(CAPI, "example_arrays.c")
+            what = "the example over arrays" + (", sanitized," if more else "")
+            made_at = c_compilers.compiled(tests, what, of, source, name, room)
+            if made_at:
+                done = subprocess.run([made_at], capture_output=True, timeout=60)
+                tests.compare(
+                    what + " with " + name, b"", wanted, (done.returncode, done.stdout, done.stderr)
+                )
+
+
+C_PLUS_PLUS = """#include "blossom.hpp"
+#include <iostream>
+int main() {
+    const std::vector<std::uint32_t> from{1, 2, 1}, to{2, 3, 3}, ends{1, 2, 9};
+    const std::vector<std::int64_t> weights{4, 5, 6};
+    const blossom::Instance instance{BLOSSOM_MATCH, 3, from, to, weights};
+    const blossom::Answer answer = blossom::solve(instance), brief = blossom::solve(instance, true);
+    std::cout << answer.weight() << ' ' << brief.weight() << ' ' << answer.duals().size() << ' '
+              << brief.duals().size() << ' ' << answer.sets() << '\\n';
+    for (std::size_t set = 0; set < answer.sets(); ++set) {
+        std::cout << answer.set_dual(set);
+        for (std::int64_t member : answer.set_members(set)) std::cout << ' ' << member;
+        std::cout << '\\n';
+    }
+    for (std::int64_t count : answer.answer()) std::cout << count << '\\n';
+    blossom::check(instance, answer);
+    try {
+        blossom::check(instance, brief);
+    } catch (const blossom::Rejected &verdict) {
+        std::cout << verdict.rule << '\\n';
+    }
+    try {
+        blossom::solve({BLOSSOM_MATCH, 3, ends, to});
+    } catch (const blossom::Malformed &fault) {
+        std::cout << fault.rule << ' ' << fault.place << '\\n';
+    }
+    try {
+        blossom::solve({BLOSSOM_MATCH, 3000, {}, {}});
+    } catch (const blossom::TooLarge &size) {
+        std::cout << size.vertices << ' ' << size.edges << '\\n';
+    }
+}
+"""
+
+
+def c_plus_plus(program, library, tests):
+    """The header for C++ compiles by each standard without a warning, and tells what the call
+    does."""
+    arrays = Arrays(library)
+    given = (3, [1, 2, 1], [2, 3, 3], [4, 5, 6], [], [])
+    numbers = arrays.answer("SOLVE", "match", given)[1]
+    _, weight, _, a, p, k, _, _ = numbers[:8]
+    at = 8 + a + p
+    offsets, members = numbers[at + k : at + 2 * k + 1], numbers[at + 2 * k + 1 :]
+    text = "%d %d %d 0 %d\n" % (weight, weight, p, k)
+    for j in range(k):
+        text += line(numbers[at + j], *members[offsets[j] : offsets[j + 1]])
+    text += "".join("%d\n" % count for count in numbers[8 : 8 + a])
+    text += "%d\n" % library.header.document_rules["DUAL_MISSING"]
+    text += "%d 3\n6000 3000\n" % library.header.rules["END"]
+    for standard in ("-std=c++17", "-std=c++20"):
+        with tempfile.TemporaryDirectory() as room:
+            variable, usual, words = c_compilers.C_PLUS_PLUS
+            source = c_compilers.written(room, "arrays.cpp", C_PLUS_PLUS)
+            of = (variable, usual, words + [standard])
+            made_at = c_compilers.compiled(
+                tests, "C++ over arrays, " + standard, of, source, "libblossom.so", room
+            )
+            if made_at:
+                done = subprocess.run([made_at], capture_output=True, timeout=60)
+                tests.compare(
+                    "C++ over arrays, " + standard,
+                    b"",
+                    (0, text.encode(), b""),
+                    (done.returncode, done.stdout, done.stderr),
+                )
+
+
+PARTS = (same_answers, buffers, faults, verdicts, equal_calls, example, c_plus_plus)
