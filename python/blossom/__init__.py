@@ -18,13 +18,13 @@ from .dual_names import Copy, Gate, Port
 from .errors import (BlossomError, GraphError, Infeasible, LimitExceeded, NoBest, NonConservative, ProgramFailed, RoundedWeights,
                      TimeLimit, WeightError)
 from .formats import read
-from .graphs import Table
 from .instances import Instance, instance
 from .kinds import KINDS
 from .library import Library
 from .process import Process
 from .solving import (b_matching, capacitated_b_matching, check, f_factor, max_weight_matching, perfect_matching, postman,
                       shortest_path, solve, t_join)
+from .tables import Table
 
 __version__ = version()
 __all__ = [

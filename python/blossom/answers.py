@@ -8,11 +8,12 @@ from functools import cached_property
 from typing import IO, TYPE_CHECKING, Any, Dict, List, Mapping, Optional, Tuple, Union
 
 from .certificates import Certificate, Number, walked
+from .documents import Document
 from .errors import BlossomError, Infeasible, LimitExceeded, NonConservative, ProgramFailed
-from .graphs import EdgeName, Node
 from .instances import Instance
 from .kinds import WALKED, Kind
 from .limits import too_large
+from .tables import EdgeName, Node
 from .weights import plain
 
 if TYPE_CHECKING:
@@ -46,7 +47,7 @@ class Answer:
         """How often each edge is used, one number for each edge of the graph, in the order in which
         they were given."""
         document = self.certificate.document
-        counts = [0] * len(self.instance.edges)
+        counts = [0] * self.instance.edge_count
         for number, count in document.counts.items():
             counts[number - 1] = count
         for number in document.walk[1] if document.walk else ():
@@ -64,7 +65,7 @@ class Answer:
     @property
     def edges(self) -> List[EdgeName]:
         """The edges that are used, each once, in the order of the graph."""
-        return [self.instance.edges[index] for index in self.indices]
+        return self.instance.table.names_of(self.indices)
 
     @property
     def uses(self) -> Dict[EdgeName, int]:
@@ -190,7 +191,7 @@ OWN_COLUMNS = ("step", "u", "v", "key", "weight", "count")
 class Verdict:
     """What the proved checker says of a document; true where it is accepted. `rule` and `line` are
     the first rule that is broken and the line of the whole input (instance, then document) where
-    that is seen."""
+    that is seen; there is no line where no text was judged."""
 
     accepted: bool
     rule: Optional[str] = None
@@ -231,11 +232,13 @@ def listed(names: List[Any]) -> str:
     return shown + (" and %d more" % (len(names) - 6) if len(names) > 6 else "")
 
 
-def answer_of(instance: Instance, status: int, output: bytes, by: Any = None) -> Answer:
-    """The answer that a run of `solve` wrote; `by` is what ran it. Infeasible, NonConservative:
-    there is none that is best. What `refuse` says: the run did not come to that."""
+def answer_of(instance: Instance, status: int, output: Union[bytes, Document],
+              by: Any = None) -> Answer:
+    """The answer that a run of `solve` came to, as text or as numbers; `by` is what ran it.
+    Infeasible, NonConservative: there is none that is best. What `refuse` says: the run did not
+    come to that."""
     if status != 0:
-        refuse(status, output, instance)
+        refuse(status, output if isinstance(output, bytes) else b"", instance)
     certificate = Certificate(instance, output, by)
     refuse_strange(certificate)
     if certificate.status == "infeasible":
@@ -255,7 +258,7 @@ def refuse_strange(certificate: Certificate) -> None:
         raise ProgramFailed("the document is one of %s, and not of %s"
                             % (document.kind, instance.kind))
     edges = [*document.counts, *(document.walk[1] if document.walk else ())]
-    if edges and not 1 <= min(edges) <= max(edges) <= len(instance.edges):
+    if edges and not 1 <= min(edges) <= max(edges) <= instance.edge_count:
         raise ProgramFailed("the document names edges that aren't in the graph: is it of another"
                             " one?")
     nodes = [*(document.walk[:1] if document.walk else ()), *(document.odd_part or ()),
@@ -273,7 +276,7 @@ def verdict_of(instance: Instance, status: int, output: bytes) -> Verdict:
     if words[:2] == ["s", "ACCEPTED"] and len(words) == 2 and status == 0:
         return Verdict(True)
     if words[:2] == ["s", "REJECTED"] and len(words) == 4 and status == 1:
-        return Verdict(False, words[2], int(words[3]))
+        return Verdict(False, words[2], int(words[3]) or None)
     raise ProgramFailed("the program printed %r, which is no verdict" % output[:80])
 
 

@@ -10,26 +10,28 @@ from typing import (Any, Callable, Dict, Generator, Iterable, Iterator, List, Li
                     Sequence, Tuple, Union, overload)
 
 from .answers import Answer, answer_of
+from .array_library import Asked
 from .errors import BlossomError
-from .graphs import USUAL_CAPACITY, USUAL_WEIGHT, Graph, Node
+from .graphs import USUAL_CAPACITY, USUAL_WEIGHT, Graph
 from .instances import Instance, Values
 from .kinds import Kind
 from .library import Library
 from .process import Running
-from .running import Runner, Via, runner
+from .running import Came, Runner, Via, runner, solved
 from .solving import instance_of
+from .tables import Node
 from .weights import Rounding, Scale
 from .wording import wanted
 
 Progress = Union[None, bool, Callable[[int, int], None]]
 Errors = Literal["raise", "return"]
-#: What a run came to: its status and what it wrote, or an error of this package.
-Run = Union[Tuple[int, bytes], BlossomError]
+#: What a run came to: its status and the document, or an error of this package.
+Run = Union[Came, BlossomError]
 #: What runs came to, as they end, each with the place of its text.
 Ended = Generator[Tuple[int, Run], None, None]
 Future = concurrent.futures.Future
-#: A text of so few bytes is answered by the library before another thread has begun with it.
-SMALL = 2000
+#: A graph of so few edges is answered by the library before another thread has begun with it.
+SMALL = 100
 
 
 def run_text(by: Runner, task: str, kind: str, text: bytes,
@@ -38,7 +40,7 @@ def run_text(by: Runner, task: str, kind: str, text: bytes,
     return by.run(task, kind, text, timeout)
 
 
-def came_to(run: Callable[[], Tuple[int, bytes]]) -> Run:
+def came_to(run: Callable[[], Came]) -> Run:
     """What a run came to."""
     try:
         return run()
@@ -46,7 +48,7 @@ def came_to(run: Callable[[], Tuple[int, bytes]]) -> Run:
         return error
 
 
-def awaited(waiting: Dict[Future[Tuple[int, bytes]], int]) -> Ended:
+def awaited(waiting: Dict[Future[Came], int]) -> Ended:
     """What runs came to, as they end, each with its place. What isn't begun when the caller wants
     no more is cancelled."""
     try:
@@ -58,37 +60,37 @@ def awaited(waiting: Dict[Future[Tuple[int, bytes]], int]) -> Ended:
 
 
 @contextlib.contextmanager
-def threads(by: Runner, jobs: int) -> Iterator[Callable[..., Future[Tuple[int, bytes]]]]:
+def threads(by: Runner, jobs: int) -> Iterator[Callable[..., Future[Came]]]:
     """What hands runs to threads of their own, if there are any; what runs when an error ends it is
     stopped."""
     running = Running()
     workers = min(os.cpu_count() or 1, max(jobs, 1))
     with concurrent.futures.ThreadPoolExecutor(workers) as own:
         try:
-            yield lambda *job: own.submit(functools.partial(by.run, running=running), *job)
+            yield lambda *job: own.submit(functools.partial(solved, by, running=running), *job)
         except BaseException:
             running.stop()
             raise
 
 
-def runs(by: Runner, task: str, kind: str, texts: Sequence[bytes], timeout: Optional[float] = None,
+def runs(by: Runner, task: str, asked: Sequence[Asked], timeout: Optional[float] = None,
          executor: Optional[concurrent.futures.Executor] = None) -> Ended:
-    """What a run on each of the texts came to, with the place of its text, as they end. Without an
-    executor a single run, and a small one by the library, are this thread's."""
+    """What a run on each of these came to, with its place, as they end. Without an executor a
+    single run, and a small one by the library, are this thread's."""
     if executor is not None:
-        yield from awaited({executor.submit(run_text, by, task, kind, text, timeout): place
-                            for place, text in enumerate(texts)})
+        yield from awaited({executor.submit(run_text, by, task, one.kind, one.text, timeout): place
+                            for place, one in enumerate(asked)})
         return
-    apart = [place for place, text in enumerate(texts)
-             if not isinstance(by, Library) or len(text) > SMALL]
+    apart = [place for place, one in enumerate(asked)
+             if not isinstance(by, Library) or len(one.numbers.first) > SMALL]
     if len(apart) < 2:
-        for place, text in enumerate(texts):
-            yield place, came_to(functools.partial(by.run, task, kind, text, timeout))
+        for place, one in enumerate(asked):
+            yield place, came_to(functools.partial(solved, by, task, one, timeout))
         return
     with threads(by, len(apart)) as submit:
-        waiting = {submit(task, kind, texts[place], timeout): place for place in apart}
-        for place in sorted(set(range(len(texts))).difference(apart)):
-            yield place, came_to(functools.partial(by.run, task, kind, texts[place], timeout))
+        waiting = {submit(task, asked[place], timeout): place for place in apart}
+        for place in sorted(set(range(len(asked))).difference(apart)):
+            yield place, came_to(functools.partial(solved, by, task, asked[place], timeout))
         yield from awaited(waiting)
 
 
@@ -173,8 +175,7 @@ def solve_many(kind: Kind, graphs: Iterable[Any], *, errors: Errors = "raise",
     by, task = runner(via, program), "brief" if brief else "solve"
     results: List[Any] = [prepared(graph, kind, how, errors) for graph in graphs]
     places = [place for place, one in enumerate(results) if isinstance(one, Instance)]
-    texts = [results[place].text for place in places]
-    ended = runs(by, task, kind, texts, timeout, executor)
+    ended = runs(by, task, [results[place] for place in places], timeout, executor)
     with contextlib.closing(ended), reporter(progress, len(results)) as report:
         for done, (number, run) in enumerate(ended, 1 + len(results) - len(places)):
             place = places[number]

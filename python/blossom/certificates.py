@@ -2,15 +2,15 @@
 from __future__ import annotations
 
 import os
-from dataclasses import dataclass, field
+from dataclasses import dataclass
 from fractions import Fraction
 from functools import cached_property
 from typing import (IO, TYPE_CHECKING, Any, Dict, List, Mapping, NamedTuple, Optional, Tuple, Union)
 
 from . import documents
 from .dual_names import dual_names
-from .graphs import EdgeName, Node
 from .instances import Instance
+from .tables import EdgeName, Node
 from .weights import plain
 
 if TYPE_CHECKING:
@@ -29,10 +29,11 @@ class OddSet(NamedTuple):
     dual: Number
 
 
-@dataclass(frozen=True, repr=False)
+@dataclass(frozen=True, repr=False, eq=False)
 class Certificate:
     """What proves an answer, or that there is none. `text` is the document that `blossom check`
-    judges behind `instance.text`; `by` is what ran the program, and runs it again for `check`.
+    judges behind `instance.text`, and `document` the same as numbers; `written` is whichever of
+    these the program gave. `by` is what ran the program, and runs it again for `check`.
 
     The duals speak of a graph whose least perfect matchings are the best answers: the graph itself
     for `perfect`, and otherwise one whose vertices have the names that `blossom.dual_names`
@@ -41,13 +42,28 @@ class Certificate:
     together."""
 
     instance: Instance
-    text: bytes
-    by: Any = field(default=None, compare=False)
+    written: Union[bytes, documents.Document]
+    by: Any = None
+
+    @cached_property
+    def text(self) -> bytes:
+        """The document as the program writes it; spelled when it is asked for first, where it came
+        as numbers."""
+        given = self.written
+        return documents.spelled(given) if isinstance(given, documents.Document) else given
 
     @cached_property
     def document(self) -> documents.Document:
         """The document as numbers."""
-        return documents.read(self.text)
+        return documents.of(self.written)
+
+    def __eq__(self, other: object) -> bool:
+        """Whether it is the same document of the same instance, in whichever form they came."""
+        if not isinstance(other, Certificate):
+            return NotImplemented
+        return self.instance == other.instance and self.text == other.text
+
+    __hash__ = None  # type: ignore[assignment]
 
     @property
     def status(self) -> documents.Status:

@@ -14,10 +14,11 @@ from .fitting import fitted
 from .formats import FORMATS, format_of, read, write_answer, write_instance
 from .formats.reading import Format
 from .formats.writing import ANSWER_FORMATS
-from .graphs import USUAL_CAPACITY, USUAL_WEIGHT, Table
+from .graphs import USUAL_CAPACITY, USUAL_WEIGHT
 from .instances import Instance, instance
 from .kinds import KINDS
 from .solving import solve
+from .tables import Table
 from .wording import command_line
 
 SOLVE_EXAMPLES = """examples:

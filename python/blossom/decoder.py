@@ -10,6 +10,7 @@ from __future__ import annotations
 import concurrent.futures
 import contextlib
 import dataclasses
+from array import array
 from dataclasses import dataclass
 from fractions import Fraction
 from itertools import compress
@@ -19,6 +20,7 @@ from typing import (AbstractSet, Any, Dict, FrozenSet, Iterable, List, Literal, 
 from . import documents
 from .answers import Answer, answer_of
 from .batch import Run, runs
+from .buffers import Numbers
 from .certificates import Number
 from .decoder_input import (BOUNDARY, fault_ids_in, for_each, is_boundary, like, node_in, rows_of,
                             weight_of_probability)
@@ -26,8 +28,8 @@ from .decoding_graph import DecodingGraph, decoding_graph
 from .errors import BlossomError, GraphError, LimitExceeded, WeightError
 from .graphs import NetworkxGraph
 from .instances import Instance, instance
-from .kinds import MOST_EDGES
-from .running import Via, runner
+from .kinds import MOST_EDGES, Kind
+from .running import Via, runner, solved
 from .weights import Rounding, Scale, plain, scale_of, whole
 
 Syndrome = Union[Sequence[int], AbstractSet[int], Any]
@@ -251,8 +253,8 @@ class Decoder:
         observables); with `return_weights` a pair of that and the weights."""
         fired = [self._fired(shot) for shot in shots]
         used: List[List[int]] = [[]] * len(fired)
-        texts = [self._text(one) for one in fired]
-        ended = runs(self._by, "brief", "tjoin", texts, self._timeout, executor)
+        shots_asked = [self._shot(one) for one in fired]
+        ended = runs(self._by, "brief", shots_asked, self._timeout, executor)
         with contextlib.closing(ended):
             for place, run in ended:
                 used[place] = self._used(fired[place], run)
@@ -275,7 +277,7 @@ class Decoder:
         are in the order of `add_edge`, with edges of weight 0 among them that join nodes of the
         boundary."""
         of = self.instance(syndrome)
-        return answer_of(of, *self._by.run("solve", of.kind, of.text, self._timeout), self._by)
+        return answer_of(of, *solved(self._by, "solve", of, self._timeout), self._by)
 
     def instance(self, syndrome: Syndrome) -> Instance:
         """The instance of `tjoin` for a syndrome. All but its terminals is made once. ValueError:
@@ -340,25 +342,19 @@ class Decoder:
                              % (self._nodes, len(entries), entries[:9]))
         return fired - self._boundary
 
-    def _text(self, fired: Set[int]) -> bytes:
-        """What the program reads for these detectors."""
+    def _shot(self, fired: Set[int]) -> _Shot:
+        """What is solved for these detectors."""
         plan = self._planned()
-        lines = "".join(map("n %d 1\n".__mod__, sorted(plan.graph.terminals(fired, 1))))
-        return plan.base.text + lines.encode("ascii")
+        return _Shot(plan, sorted(plan.graph.terminals(fired, 1)))
 
     def _instance(self, fired: Set[int]) -> Instance:
         """The instance for these detectors."""
-        plan = self._planned()
-        values = [0] * plan.graph.nodes
-        for number in plan.graph.terminals(fired, 1):
-            values[number - 1] = 1
-        return dataclasses.replace(plan.base, values=values, text=self._text(fired))
+        return dataclasses.replace(self._planned().base, numbers=self._shot(fired).numbers)
 
     def _used_for(self, syndrome: Syndrome) -> List[int]:
         """The edges of a least set of errors."""
         fired = self._fired(syndrome)
-        run = self._by.run("brief", "tjoin", self._text(fired), self._timeout)
-        return self._used(fired, run)
+        return self._used(fired, solved(self._by, "brief", self._shot(fired), self._timeout))
 
     def _used(self, fired: Set[int], run: Run) -> List[int]:
         """The edges that a brief run used. What the run came to besides is raised, with the part
@@ -366,13 +362,14 @@ class Decoder:
         if isinstance(run, BlossomError):
             raise run
         status, output = run
-        if status != 0 or not output.startswith(b"s OPTIMAL tjoin "):
+        document = documents.of(output) if status == 0 else None
+        if document is None or document.status != "optimal":
             of = self._instance(fired)
             if status == 0:
-                status, output = self._by.run("solve", of.kind, of.text, self._timeout)
-            answer_of(of, status, output, self._by)
+                status, output = solved(self._by, "solve", of, self._timeout)
+            document = answer_of(of, status, output, self._by).certificate.document
         graph = self._planned().graph
-        places = [number - 1 for number in documents.read(output).counts]
+        places = [number - 1 for number in document.counts]
         return sorted([graph.origins[place] for place in places if graph.origins[place] >= 0]
                       + graph.always)
 
@@ -385,6 +382,29 @@ class Decoder:
     def _weight(self, used: List[int]) -> Number:
         plan = self._planned()
         return plain(Fraction(sum(plan.weights[edge] for edge in used)) / plan.base.scale)
+
+
+@dataclass(frozen=True)
+class _Shot:
+    """What is solved for one syndrome: the joins of these terminals, which are numbers from 1."""
+
+    plan: _Plan
+    terminals: List[int]
+    kind: Kind = "tjoin"
+
+    @property
+    def text(self) -> bytes:
+        """What the program reads."""
+        lines = "".join(map("n %d 1\n".__mod__, self.terminals))
+        return self.plan.base.text + lines.encode("ascii")
+
+    @property
+    def numbers(self) -> Numbers:
+        """The same as numbers."""
+        values = array("I", bytes(array("I").itemsize * self.plan.graph.nodes))
+        for terminal in self.terminals:
+            values[terminal - 1] = 1
+        return self.plan.base.numbers._replace(values=values)
 
 
 @dataclass

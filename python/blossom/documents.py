@@ -2,7 +2,7 @@
 from __future__ import annotations
 
 from dataclasses import dataclass, field
-from typing import Dict, FrozenSet, List, Literal, Optional, Tuple
+from typing import Dict, FrozenSet, List, Literal, Optional, Tuple, Union
 
 from .errors import ProgramFailed
 
@@ -41,6 +41,39 @@ class Document:
 
     def __repr__(self) -> str:
         return "<%s document of %s>" % (self.status, self.kind)
+
+
+def is_whole(document: Document) -> bool:
+    """Whether the document has what proves what it states."""
+    if document.status == "optimal":
+        return bool(document.duals)
+    return document.status == "nonconservative" or any(
+        one is not None for one in (document.barrier, document.odd_part, document.split_part))
+
+
+def of(given: Union[bytes, Document]) -> Document:
+    """The document that was given, or that of a text. ProgramFailed: the text is none."""
+    return given if isinstance(given, Document) else read(given)
+
+
+def spelled(document: Document) -> bytes:
+    """The document as the program writes it."""
+    word = next(word for word, status in STATES.items() if status == document.status)
+    weight = "" if document.weight is None else " %d" % document.weight
+    lines = ["s %s %s%s" % (word, document.kind, weight)]
+    lines += ["x %d %d" % one for one in document.counts.items()]
+    if document.walk is not None:
+        lines.append(line("w %d" % document.walk[0], document.walk[1]))
+    lines += ["y %d %d" % one for one in document.duals.items()]
+    lines += [line("z %d" % dual, members) for dual, members in document.sets]
+    excluding = (("u", document.barrier), ("t", document.odd_part), ("q", document.split_part))
+    lines += [line(letter, members) for letter, members in excluding if members is not None]
+    return ("\n".join(lines) + "\n").encode("ascii")
+
+
+def line(begin: str, numbers: List[int]) -> str:
+    """A line that begins so, and then counts its numbers and lists them."""
+    return " ".join([begin, str(len(numbers)), *map(str, numbers)])
 
 
 def header(fields: List[str]) -> Document:

@@ -19,20 +19,17 @@ from __future__ import annotations
 
 import re
 from collections.abc import Mapping
-from dataclasses import dataclass, field
 from itertools import chain
 from operator import itemgetter
-from typing import (Any, Dict, Hashable, Iterable, List, Optional, Protocol, Sequence, Tuple,
-                    Union)
+from typing import Any, Dict, Iterable, List, Optional, Protocol, Sequence, Tuple, Union
 
+from .column_tables import ColumnTable, array_of
 from .errors import GraphError
 from .not_graphs import refuse_other_things, refuse_square
 from .numbers_in_text import number
+from .tables import EdgeName, Node, Table, named, plain_list
 from .wording import word
 
-Node = Hashable
-#: The name of an edge: `(u, v)`, or `(u, v, key)`.
-EdgeName = Tuple[Any, ...]
 END_NAMES = (("u", "v"), ("source", "target"), ("from", "to"), ("node1", "node2"))
 #: Words of the names of columns that may well be weights.
 LIKE_WEIGHTS = frozenset({"weight", "weights", "length", "distance", "dist", "cost", "costs",
@@ -83,56 +80,8 @@ class Array(Protocol):
     def tolist(self) -> Any: ...
 
 
-@dataclass(repr=False)
-class Table:
-    """A graph as columns. All lists about edges have one entry an edge.
-
-    nodes: each node once. ends: the two ends of each edge. names: the name of each edge, no two
-    alike: `(u, v)`, or `(u, v, key)` in a graph that can have parallel edges. weights: numbers of
-    any type. capacities: None where an edge has none. values: of the nodes that have one.
-    columns: what else is known of the edges, by the columns' names. weight_name, capacity_name: of
-    which column the weights and the capacities are; None where there is no such column."""
-
-    nodes: List[Node]
-    ends: List[Tuple[Node, Node]]
-    names: List[EdgeName]
-    weights: List[Any]
-    capacities: List[Any]
-    values: Dict[Node, Any] = field(default_factory=dict)
-    columns: Dict[str, List[Any]] = field(default_factory=dict)
-    weight_name: Optional[str] = None
-    capacity_name: Optional[str] = None
-
-    def __repr__(self) -> str:
-        return "<table of %d nodes and %d edges>" % (len(self.nodes), len(self.ends))
-
-
 Graph = Union[Table, NetworkxGraph, Frame, Array, Tuple[Array, ...], "Mapping[str, Any]",
               Iterable[Sequence[Any]]]
-
-
-def named(ends: Sequence[Tuple[Node, Node]]) -> List[EdgeName]:
-    """Names for edges that come without: `(u, v)`, but where some pair is joined more than once all
-    are `(u, v, key)`, with the number of earlier edges of the pair as the key, as networkx counts
-    them."""
-    pairs = set(ends)
-    turned = zip(map(itemgetter(1), ends), map(itemgetter(0), ends))
-    if len(pairs) == len(ends) and pairs.isdisjoint(turned):
-        return list(ends)
-    seen: Dict[Tuple[Node, Node], int] = {}
-    names: List[EdgeName] = []
-    for u, v in ends:
-        both = (v, u) if (v, u) in seen else (u, v)
-        key = seen.get(both, 0)
-        seen[both] = key + 1
-        names.append((u, v, key))
-    return names if len(seen) < len(ends) else list(ends)
-
-
-def plain_list(column: Any) -> List[Any]:
-    """A column as a list of Python's own values."""
-    values: List[Any] = column.tolist() if hasattr(column, "tolist") else list(column)
-    return values
 
 
 def like_weights(names: Iterable[Any]) -> Optional[str]:
@@ -158,11 +107,11 @@ def refuse_absent(named_as: Optional[str], what: str, names: Iterable[Any]) -> N
 
 
 def column_of(columns: Mapping[str, Any], named_as: Optional[str], what: str, length: int,
-              missing: Any) -> List[Any]:
+              missing: Any) -> Any:
     """The column of weights or of capacities, or `missing` for each edge where none was asked for
     and none is there."""
     if named_as is not None and named_as in columns:
-        return plain_list(columns[named_as])
+        return array_of(columns[named_as])
     refuse_absent(named_as, what, columns)
     return [missing] * length
 
@@ -175,27 +124,24 @@ def from_columns(columns: Mapping[str, Any], weight: Optional[str],
     if pair is None:
         raise GraphError("the columns %s name no ends of edges: call them u and v"
                          % ", ".join(map(str, columns)))
-    ends = plain_list(columns[pair[0]]), plain_list(columns[pair[1]])
+    first, second = array_of(columns[pair[0]]), array_of(columns[pair[1]])
     beside = {name: columns[name] for name in columns if name not in pair}
-    weights = column_of(beside, weight, "weight", len(ends[0]), 1)
-    capacities = column_of(beside, capacity, "capacity", len(ends[0]), None)
-    others = {name: plain_list(column) for name, column in beside.items()
-              if name not in (weight, capacity)}
-    return from_lists(*ends, weights, capacities, others, weight if weight in beside else None,
+    weights = column_of(beside, weight, "weight", len(first), 1)
+    capacities = column_of(beside, capacity, "capacity", len(first), None)
+    others = {name: column for name, column in beside.items() if name not in (weight, capacity)}
+    return from_lists(first, second, weights, capacities, others,
+                      weight if weight in beside else None,
                       capacity if capacity in beside else None)
 
 
-def from_lists(first: List[Node], second: List[Node], weights: List[Any], capacities: List[Any],
-               columns: Optional[Dict[str, List[Any]]] = None, weight_name: Optional[str] = None,
+def from_lists(first: Any, second: Any, weights: Any, capacities: Any,
+               columns: Optional[Dict[str, Any]] = None, weight_name: Optional[str] = None,
                capacity_name: Optional[str] = None) -> Table:
-    """The table of these columns. GraphError: they differ in length."""
+    """The table of these columns, lists or arrays of numpy. GraphError: they differ in length."""
     columns = columns or {}
     if len({len(one) for one in (first, second, weights, capacities, *columns.values())}) > 1:
         raise GraphError("the columns of the edges differ in length")
-    ends = list(zip(first, second))
-    nodes = list(dict.fromkeys(chain.from_iterable(ends)))
-    return Table(nodes, ends, named(ends), weights, capacities, columns=columns,
-                 weight_name=weight_name, capacity_name=capacity_name)
+    return ColumnTable(first, second, weights, capacities, columns, weight_name, capacity_name)
 
 
 def from_arrays(arrays: Sequence[Any]) -> Table:
@@ -204,13 +150,13 @@ def from_arrays(arrays: Sequence[Any]) -> Table:
     if not 2 <= len(arrays) <= 4:
         raise GraphError("edges have two ends, a weight and a capacity: two to four columns, not %d"
                          % len(arrays))
-    lists = filled_up([plain_list(array) for array in arrays])
+    lists = filled_up(list(arrays))
     return from_lists(lists[0], lists[1], lists[2], lists[3])
 
 
-def filled_up(lists: List[List[Any]]) -> List[List[Any]]:
+def filled_up(lists: List[Any]) -> List[Any]:
     """Two to four columns, and those that lack: weights of 1, and no capacities."""
-    usual: List[List[Any]] = [[1] * len(lists[0]), [None] * len(lists[0])]
+    usual: List[Any] = [[1] * len(lists[0]), [None] * len(lists[0])]
     return lists + usual[len(lists) - 2:]
 
 
@@ -230,8 +176,7 @@ def from_edges(edges: List[Any], weight: Optional[str], capacity: Optional[str])
         refuse_absent(weight, "weight", ())
     if len(lengths) > 1:
         rows = [row if len(row) == 4 else (*row[:2], *(*row[2:], 1)[:1], None) for row in rows]
-    lists = filled_up([list(map(itemgetter(place), rows))
-                       for place in range(max(map(len, rows[:1]), default=2))])
+    lists = filled_up(list(map(list, zip(*rows))) or [[], []])
     weights = [1] * len(rows) if weight is None else lists[2]
     return from_lists(lists[0], lists[1], weights, lists[3])
 

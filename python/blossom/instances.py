@@ -5,45 +5,88 @@ from __future__ import annotations
 import hashlib
 import math
 import numbers
-from dataclasses import dataclass, field
+from dataclasses import dataclass
 from fractions import Fraction
+from functools import cached_property
 from itertools import chain
 from operator import eq, itemgetter
 from typing import Any, Dict, Iterable, List, Mapping, Optional, Sequence, Tuple, Union
 
 from . import kinds
+from .buffers import NO_CAPACITY, Numbers, is_of_numpy, numbers_of
+from .column_tables import ColumnTable, is_number, within
 from .errors import GraphError, LimitExceeded, WeightError
-from .graphs import USUAL_CAPACITY, USUAL_WEIGHT, EdgeName, Graph, Node, Table, table_of
+from .graphs import USUAL_CAPACITY, USUAL_WEIGHT, Graph, table_of
 from .kinds import Kind
+from .tables import EdgeName, Node, Table
 from .weights import ROUNDINGS, Rounding, Scale, all_whole, plain, scale_of
 from .wording import word
 
 Values = Union[str, Mapping[Any, int], None]
 
 
-@dataclass(frozen=True, repr=False)
+@dataclass(frozen=True, repr=False, eq=False)
 class Instance:
     """A graph as the program reads it. Vertex i + 1 of the program is `nodes[i]`, and its edge
     i + 1 is `edges[i]`.
 
-    kind: one of `KINDS`. nodes, edges: names, in order. ends: the two nodes of each edge.
-    weights: whole numbers, the given ones times `scale`. capacities: whole numbers, or None; only
-    `capmatch` has any. values: one whole number a node. backwards: a path is asked for from its
-    greater end to its lesser, the other way round than the program's. text: what the program reads.
-    graph: what was given. columns: what else is known of the edges, by name."""
+    kind: one of `KINDS`. table: the graph as columns. nodes: names, in order. numbers: the same
+    graph in the program's numbers. scale: what the weights were multiplied by. backwards: a path is
+    asked for from its greater end to its lesser, the other way round than the program's. graph:
+    what was given."""
 
     kind: Kind
+    table: Table
     nodes: List[Node]
-    edges: List[EdgeName]
-    ends: List[Tuple[Node, Node]]
-    weights: List[int]
-    capacities: List[Optional[int]]
-    values: List[int]
+    numbers: Numbers
     scale: Fraction = Fraction(1)
     backwards: bool = False
-    text: bytes = b""
-    graph: Any = field(default=None, compare=False)
-    columns: Dict[str, List[Any]] = field(default_factory=dict, compare=False)
+    graph: Any = None
+
+    @property
+    def edges(self) -> List[EdgeName]:
+        """The names of the edges, in order."""
+        return self.table.names
+
+    @property
+    def ends(self) -> List[Tuple[Node, Node]]:
+        """The two nodes of each edge."""
+        return self.table.ends
+
+    @property
+    def columns(self) -> Dict[str, List[Any]]:
+        """What else is known of the edges, by name."""
+        return self.table.columns
+
+    @cached_property
+    def weights(self) -> List[int]:
+        """The weights as whole numbers: the given ones times `scale`."""
+        return list(self.numbers.weights.tolist())
+
+    @cached_property
+    def capacities(self) -> List[Optional[int]]:
+        """The capacities, or None where an edge has none; only those of `capmatch` have any."""
+        own = self.numbers.capacities.tolist()
+        return ([None if one == NO_CAPACITY else one for one in own]
+                if own else [None] * self.edge_count)
+
+    @cached_property
+    def values(self) -> List[int]:
+        """The value of each node."""
+        own: List[int] = self.numbers.values.tolist()
+        return own or [kinds.default_value(self.kind)] * len(self.nodes)
+
+    @property
+    def edge_count(self) -> int:
+        """How many edges there are."""
+        return len(self.numbers.first)
+
+    @cached_property
+    def text(self) -> bytes:
+        """What the program reads, spelled when it is asked for first."""
+        first, second = self.numbers.first.tolist(), self.numbers.second.tolist()
+        return text_of(len(self.nodes), first, second, self.weights, self.capacities, self.values,
+                       self.kind)
 
     def number_of(self) -> Dict[Node, int]:
         """The program's number of each node."""
@@ -59,9 +102,19 @@ class Instance:
         whose nodes and edges come in one order."""
         return hashlib.sha256(self.text).hexdigest()
 
+    def __eq__(self, other: object) -> bool:
+        """Whether both are the same graph of the same kind, with the same names in order."""
+        if not isinstance(other, Instance):
+            return NotImplemented
+        return ((self.kind, self.scale, self.backwards, self.nodes, self.edges, self.ends)
+                == (other.kind, other.scale, other.backwards, other.nodes, other.edges, other.ends)
+                and self.text == other.text)
+
+    __hash__ = None  # type: ignore[assignment]
+
     def __repr__(self) -> str:
         return "<%s instance of %d nodes and %d edges>" % (self.kind, len(self.nodes),
-                                                           len(self.edges))
+                                                           self.edge_count)
 
 
 def instance(graph: Graph, kind: Kind, *, nodes: Iterable[Node] = (),
@@ -87,21 +140,20 @@ def instance(graph: Graph, kind: Kind, *, nodes: Iterable[Node] = (),
     kind, table = kinds.known(kind), table_of(graph, weight, capacity)
     if rounding not in ROUNDINGS:
         raise ValueError('rounding is None or "nearest", and not %r' % (rounding,))
-    names = list(dict.fromkeys([*nodes, *table.nodes]))
-    refuse_large(len(names), len(table.ends))
+    before = list(nodes)
+    names = list(dict.fromkeys([*before, *table.nodes])) if before else table.nodes
+    refuse_large(len(names), table.edge_count)
     given = asked_values(graph, table, kind, values, terminals, source, target)
     number_of = {node: number for number, node in enumerate(names, 1)}
-    first, second = numbered(table, number_of)
-    factor = scale_of(scale, table.weights)
+    first, second = numbered(table, number_of, not before)
+    factor = scale_of(scale, table.weights if scale == "finest" else ())
     near = "nearest" if scale == "finest" else rounding
-    weights = all_whole(table.weights, factor, near, table.names)
+    weights = weights_of(table, factor, near)
     refuse_negative(kind, weights, table)
-    capacities = capacities_of(table, kind)
-    node_values = all_values(names, given, number_of, kind)
-    text = text_of(len(names), first, second, weights, capacities, node_values, kind)
+    numbers = numbers_of(len(names), first, second, weights, capacities_of(table, kind),
+                         all_values(names, given, number_of, kind), kinds.default_value(kind))
     backwards = kind == "path" and source is not None and number_of[source] > number_of[target]
-    return Instance(kind, names, table.names, table.ends, weights, capacities, node_values, factor,
-                    backwards, text, graph, table.columns)
+    return Instance(kind, table, names, numbers, factor, backwards, graph)
 
 
 def refuse_large(nodes: int, edges: int) -> None:
@@ -111,21 +163,38 @@ def refuse_large(nodes: int, edges: int) -> None:
                             % (nodes, edges, kinds.MOST_NODES, kinds.MOST_EDGES), nodes, edges)
 
 
-def numbered(table: Table, number_of: Mapping[Node, int]) -> Tuple[List[int], List[int]]:
-    """The numbers of the two ends of each edge. GraphError: an edge is a loop."""
-    first, second = (list(map(number_of.__getitem__, map(itemgetter(end), table.ends)))
-                     for end in (0, 1))
-    if any(map(eq, first, second)):
+def numbered(table: Table, number_of: Mapping[Node, int], is_own: bool) -> Tuple[Any, Any]:
+    """The numbers of the two ends of each edge. is_own: the nodes are those that the edges name, in
+    their order. GraphError: an edge is a loop."""
+    if is_own and isinstance(table, ColumnTable):
+        first, second = table.numbering.first, table.numbering.second
+    else:
+        first, second = (list(map(number_of.__getitem__, map(itemgetter(end), table.ends)))
+                         for end in (0, 1))
+    has_loop = (first == second).any() if is_of_numpy(first) else any(map(eq, first, second))
+    if has_loop:
         name = next(name for name, one, other in zip(table.names, first, second) if one == other)
         raise GraphError("edge %r is a loop, and these problems have none: leave it out" % (name,))
     return first, second
 
 
-def refuse_negative(kind: str, weights: List[int], table: Table) -> None:
+def weights_of(table: Table, scale: Fraction, rounding: Optional[str]) -> Any:
+    """The weights as whole numbers: as an array of numpy where they came as one, are whole and
+    within the limit, and aren't scaled. WeightError: see `weights`."""
+    column = table.weight_column if isinstance(table, ColumnTable) and scale == 1 else None
+    if is_number(column) and within(column, kinds.MOST_WEIGHT):
+        rounded = column.astype("int64")
+        if column.dtype.kind != "f" or (rounded == column).all():
+            return rounded
+    return all_whole(table.weights, scale, rounding, table.name)
+
+
+def refuse_negative(kind: str, weights: Any, table: Table) -> None:
     """WeightError: a tour is asked for, and an edge weighs less than 0."""
     if kind == "postman" and min(weights, default=0) < 0:
+        least = list(weights).index(min(weights))
         raise WeightError("edge %r weighs less than 0, and a tour has no such edges"
-                          % (table.names[weights.index(min(weights))],))
+                          % (table.names[least],))
 
 
 def asked_values(graph: Any, table: Table, kind: Kind, values: Values,
@@ -203,7 +272,7 @@ def value_of(node: Node, value: Any) -> int:
 def capacities_of(table: Table, kind: Kind) -> List[Optional[int]]:
     """The capacity of each edge, where the kind asks for them."""
     if kind != "capmatch":
-        return [None] * len(table.ends)
+        return []
     return [capacity_of(one, name) for one, name in zip(table.capacities, table.names)]
 
 

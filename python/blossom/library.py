@@ -8,14 +8,18 @@ import mmap
 import os
 import threading
 from dataclasses import dataclass
-from typing import Dict, Optional, Tuple
+from typing import Dict, Optional, Tuple, Union
 
+from .array_library import (ANSWER_TYPES, DOCUMENT_TYPES, DONE, INSTANCE_TYPES, Asked,
+                            document_of, numbers_of_document, refusal, verdict_line)
+from .buffers import address, parameters
 from .checkout import checkout, is_present, released
+from .documents import Document
 from .errors import ProgramFailed
 from .kinds import KINDS
 
 #: What capi/blossom.h calls BLOSSOM_ABI: the version of the call that is declared here.
-ABI = 1
+ABI = 2
 TASKS = {"solve": 1, "brief": 2, "check": 3}
 KIND_NUMBERS: Dict[str, int] = {kind: number for number, kind in enumerate(KINDS, 1)}
 SHORT_BUFFER = 9
@@ -50,14 +54,21 @@ def loaded(path: str) -> ctypes.CDLL:
         library.blossom_abi.restype = ctypes.c_uint32
         library.blossom_abi.argtypes = []
         library.blossom_call.restype = ctypes.c_uint32
+        version = library.blossom_abi()
+        if version == ABI:
+            library.blossom_solve_arrays, library.blossom_check_arrays
     except (OSError, AttributeError) as error:
         raise ProgramFailed("the library %s can't be used: %s" % (path, error)) from None
-    if library.blossom_abi() != ABI:
+    if version != ABI:
         raise ProgramFailed("the library %s is of version %d, and this package calls version %d"
-                            % (path, library.blossom_abi(), ABI))
+                            % (path, version, ABI))
     library.blossom_call.argtypes = [ctypes.c_uint32, ctypes.c_uint32, ctypes.c_char_p,
                                      ctypes.c_size_t, ctypes.c_void_p, ctypes.c_size_t,
                                      ctypes.POINTER(ctypes.c_size_t)]
+    solve, check = library.blossom_solve_arrays, library.blossom_check_arrays
+    solve.restype = check.restype = ctypes.c_uint32
+    solve.argtypes = [ctypes.c_uint32, *INSTANCE_TYPES, *ANSWER_TYPES]
+    check.argtypes = [*INSTANCE_TYPES, *DOCUMENT_TYPES, *ANSWER_TYPES]
     return library
 
 
@@ -75,6 +86,7 @@ class Room(threading.local):
         # Private, so that the child of a fork has its own.
         self.memory = mmap.mmap(-1, ROOM, flags=mmap.MAP_PRIVATE | mmap.MAP_ANONYMOUS)
         self.address = ctypes.addressof(ctypes.c_ubyte.from_buffer(self.memory))
+        self.numbers = memoryview(self.memory).cast("q")
         self.used = ctypes.c_size_t()
         self.used_at = ctypes.byref(self.used)
 
@@ -96,9 +108,7 @@ class Library:
             running: object = None) -> Tuple[int, bytes]:
         """As `Process.run`. ValueError: a timeout, since a call in this process can't be stopped.
         ProgramFailed: there is no library, or it answers what it never should."""
-        if timeout is not None:
-            raise ValueError("a call by the library can't be stopped: pass no timeout, or"
-                             ' via="process"')
+        refuse_timeout(timeout)
         library, own = found(self.path, os.environ.get("BLOSSOM_LIBRARY")), room()
         status: int = library.blossom_call(TASKS[task], KIND_NUMBERS[kind], text, len(text),
                                            own.address, ROOM, own.used_at)
@@ -106,3 +116,43 @@ class Library:
             raise ProgramFailed("the library ended with status %d on %d bytes"
                                 % (status, len(text)))
         return status, own.memory[:own.used.value]
+
+    def solve(self, task: str, asked: Asked, timeout: Optional[float] = None,
+              running: object = None) -> Tuple[int, Union[bytes, Document]]:
+        """As `run` of "solve" or "brief", but over arrays: nothing is written or read as text on
+        the way. An answer is a `Document`; another status has the line that the program prints."""
+        refuse_timeout(timeout)
+        library, own = found(self.path, os.environ.get("BLOSSOM_LIBRARY")), room()
+        given = asked.numbers  # (which lives until the call has ended)
+        status: int = library.blossom_solve_arrays(
+            TASKS[task], *parameters(KIND_NUMBERS[asked.kind], given), own.address,
+            len(own.numbers), own.used_at)
+        if status in (SHORT_BUFFER, NO_SUCH_CALL):
+            raise ProgramFailed("the library ended with status %d on %d edges"
+                                % (status, len(given.first)))
+        numbers = own.numbers[:own.used.value]
+        if status != DONE:
+            return status, refusal(status, numbers)
+        return status, document_of(asked.kind, numbers, task == "brief")
+
+
+    def judge(self, asked: Asked, document: Document,
+              timeout: Optional[float] = None) -> Tuple[int, bytes]:
+        """As `run` of "check", but over arrays: a verdict names a rule, and the line 0."""
+        refuse_timeout(timeout)
+        library, own = found(self.path, os.environ.get("BLOSSOM_LIBRARY")), room()
+        given, told = asked.numbers, numbers_of_document(document, len(asked.numbers.first))
+        status: int = library.blossom_check_arrays(
+            *parameters(KIND_NUMBERS[asked.kind], given), *address(told), own.address,
+            len(own.numbers), own.used_at)
+        if status in (SHORT_BUFFER, NO_SUCH_CALL):
+            raise ProgramFailed("the library ended with status %d on %d edges"
+                                % (status, len(given.first)))
+        return status, verdict_line(status, own.numbers[:own.used.value])
+
+
+def refuse_timeout(timeout: Optional[float]) -> None:
+    """ValueError: there is a timeout."""
+    if timeout is not None:
+        raise ValueError("a call by the library can't be stopped: pass no timeout, or"
+                         ' via="process"')

@@ -16,9 +16,9 @@ from typing import Any, Dict, Iterator, List, Mapping, Optional, Sequence, Set, 
 
 from .answers import Answer
 from .errors import Infeasible, LimitExceeded, RoundedWeights
-from .graphs import Node
 from .kinds import MOST_EDGES, MOST_NODES, MOST_VERTICES
 from .solving import solve
+from .tables import Node
 from .weights import exact, scale_of, whole
 
 Edges = List[Tuple[Node, Node, int]]

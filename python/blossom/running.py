@@ -3,6 +3,8 @@ from __future__ import annotations
 
 from typing import Any, Literal, Optional, Protocol, Tuple, Union
 
+from .array_library import Asked
+from .documents import Document
 from .library import Library
 from .process import Process
 
@@ -17,6 +19,18 @@ class Runner(Protocol):
 
 
 Via = Union[Literal["process", "library"], Runner]
+#: The status of a run, and the document, as text or as numbers.
+Came = Tuple[int, Union[bytes, Document]]
+
+
+def solved(by: Runner, task: str, asked: Asked, timeout: Optional[float] = None,
+           running: Any = None) -> Came:
+    """What a run of "solve" or "brief" comes to: over arrays where `by` takes them (`Library`),
+    else by text."""
+    if hasattr(by, "solve"):
+        came: Came = by.solve(task, asked, timeout, running)
+        return came
+    return by.run(task, asked.kind, asked.text, timeout, running)
 
 
 def runner(via: Via = "process", program: Optional[str] = None) -> Runner:

@@ -1,15 +1,17 @@
 """Solving and checking: one call for every kind, and one for each kind with its own words."""
 from __future__ import annotations
 
-from typing import Any, Dict, Iterable, Optional, Union
+from typing import Any, Dict, Iterable, Optional, Tuple, Union
 
 from .answers import Answer, Verdict, answer_of, verdict_of
 from .certificates import Certificate
+from .documents import Document, is_whole
 from .errors import GraphError, NoBest
-from .graphs import USUAL_CAPACITY, USUAL_WEIGHT, Graph, Node
+from .graphs import USUAL_CAPACITY, USUAL_WEIGHT, Graph
 from .instances import Instance, Values, instance
 from .kinds import Kind, known
-from .running import Via, runner, runner_again
+from .running import Runner, Via, runner, runner_again, solved
+from .tables import Node
 from .weights import Rounding, Scale
 
 #: What the words of `blossom.instance` are where nobody says anything.
@@ -56,8 +58,7 @@ def solve(graph: Union[Graph, Instance], kind: Kind = "perfect", *, nodes: Itera
                                    "values": values, "terminals": terminals, "source": source,
                                    "target": target, "scale": scale, "rounding": rounding})
     by = runner(via, program)
-    status, output = by.run("brief" if brief else "solve", of.kind, of.text, timeout)
-    return answer_of(of, status, output, by)
+    return answer_of(of, *solved(by, "brief" if brief else "solve", of, timeout), by)
 
 
 def check(graph: Union[Graph, Instance], kind: Kind,
@@ -75,11 +76,23 @@ def check(graph: Union[Graph, Instance], kind: Kind,
     of = instance_of(graph, kind, {"nodes": nodes, "weight": weight, "capacity": capacity,
                                    "values": values, "terminals": terminals, "source": source,
                                    "target": target, "scale": scale, "rounding": rounding})
-    text = document_of(answer)
-    before = text.by if isinstance(text, Certificate) else None
-    whole = text.text if isinstance(text, Certificate) else text
+    document = document_of(answer)
+    before = document.by if isinstance(document, Certificate) else None
     by = runner_again(before, via, program)
-    return verdict_of(of, *by.run("check", of.kind, of.text + whole, timeout))
+    if isinstance(document, Certificate):
+        return verdict_of(of, *judged(by, of, document, timeout))
+    return verdict_of(of, *by.run("check", of.kind, of.text + document, timeout))
+
+
+def judged(by: Runner, of: Instance, certificate: Certificate,
+           timeout: Optional[float]) -> Tuple[int, bytes]:
+    """What the checker says of a certificate for an instance: over arrays where `by` takes them and
+    the certificate came so, in full."""
+    written = certificate.written
+    if hasattr(by, "judge") and isinstance(written, Document) and is_whole(written):
+        told: Tuple[int, bytes] = by.judge(of, written, timeout)
+        return told
+    return by.run("check", of.kind, of.text + certificate.text, timeout)
 
 
 def document_of(answer: Any) -> Union[Certificate, bytes]:

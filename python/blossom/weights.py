@@ -5,7 +5,7 @@ from __future__ import annotations
 import math
 import numbers
 from fractions import Fraction
-from typing import Any, Iterable, List, Literal, Optional, Sequence, Union
+from typing import Any, Callable, Iterable, List, Literal, Optional, Sequence, Union
 
 from .errors import WeightError
 from .kinds import MOST_WEIGHT
@@ -100,14 +100,15 @@ def smaller(scale: Fraction, value: int) -> Scale:
 
 
 def all_whole(weights: List[Any], scale: Fraction, rounding: Optional[str],
-              edges: Sequence[Any]) -> List[int]:
-    """`whole` of each of the weights: those of one type, whole as they are, at once."""
+              name: Callable[[int], Any]) -> List[int]:
+    """`whole` of each of the weights: those of one type, whole as they are, at once. name: that of
+    the edge at a place."""
     types, ready = set(map(type, weights)) if scale is ONE or scale == 1 else set(), weights
     if types == {float} and all(map(float.is_integer, weights)):
         types, ready = {int}, list(map(int, weights))
     if types == {int} and -MOST_WEIGHT <= min(ready) and max(ready) <= MOST_WEIGHT:
         return ready
-    return [whole(one, scale, rounding, edge) for one, edge in zip(weights, edges)]
+    return [whole(one, scale, rounding, name(place)) for place, one in enumerate(weights)]
 
 
 def plain(number: Fraction) -> Union[int, Fraction]:

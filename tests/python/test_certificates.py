@@ -70,6 +70,19 @@ def odd_components(vertices, edges, removed):
     return count
 
 
+class Equal(unittest.TestCase):
+    def test_instances_and_certificates_that_differ(self):
+        one, other = ([("a", "b", weight), ("b", "c", 4)] for weight in (3, 4))
+        self.assertEqual(blossom.instance(one, "match"), blossom.instance(list(one), "match"))
+        self.assertNotEqual(blossom.instance(one, "match"), blossom.instance(other, "match"))
+        self.assertNotEqual(blossom.instance(one, "match"), blossom.instance(one, "tjoin"))
+        of = blossom.instance(one, "match")
+        texts = [b"s OPTIMAL match 4\nx 2 1\n", b"s OPTIMAL match 3\nx 1 1\n"]
+        first, second = (blossom.Certificate(of, text) for text in texts)
+        self.assertNotEqual(first, second)
+        self.assertEqual(first, blossom.Certificate(of, blossom.documents.read(texts[0])))
+
+
 class Named(unittest.TestCase):
     def test_duals_and_barriers_are_right_by_name(self):
         seen = set()

@@ -5,9 +5,11 @@ import os
 import re
 import threading
 import unittest
+from array import array
 from unittest import mock
 
 import blossom
+from blossom import array_library, documents
 from blossom import library as library_module
 from blossom.library import find_library
 from support import TOP, TRIANGLES, instances, library_or_skip
@@ -23,9 +25,20 @@ class Same(unittest.TestCase):
             for edges, words in instances(kind, 8, seed=3):
                 of = blossom.instance(edges, kind, **words)
                 for task in ("solve", "brief"):
-                    self.assertEqual(process.run(task, kind, of.text), library.run(task, kind, of.text))
+                    told = process.run(task, kind, of.text)
+                    self.assertEqual(told, library.run(task, kind, of.text))
+                    self.same_over_arrays(library, task, of, *told)
                 whole = of.text + process.run("solve", kind, of.text)[1]
                 self.assertEqual(process.run("check", kind, whole), library.run("check", kind, whole))
+
+    def same_over_arrays(self, library, task, of, status, text):
+        """The call over arrays comes to the text's document, as numbers and as text."""
+        came, document = library.solve(task, of)
+        self.assertEqual(came, status)
+        if status != 0:
+            self.assertEqual(document, text)
+        else:
+            self.assertEqual((document, documents.spelled(document)), (documents.read(text), text))
 
     def test_the_calls_take_it(self):
         answer = blossom.perfect_matching(TRIANGLES, via="library")
@@ -57,14 +70,24 @@ class Function:
         return self.does(*words)
 
 
+def items(where, length, kind):
+    """The numbers of 32 bits, or of 64, that stand there."""
+    return list((kind * length).from_address(where))
+
+
 class Shared:
     """A stand-in for the shared object: of a version, with a status, and an answer of so many times
-    a byte. `asked` has the numbers and texts of its calls."""
+    a byte, or of numbers. `asked` has the numbers and texts of its calls, `arrays` those of its
+    calls over arrays."""
 
-    def __init__(self, version=1, status=0, answer=b"", times=1):
+    def __init__(self, version=2, status=0, answer=b"", times=1, numbers=()):
         self.asked, self.status, self.answer, self.times = [], status, answer, times
+        self.arrays, self.numbers = [], numbers
         self.blossom_abi = Function(lambda: version)
         self.blossom_call = Function(self.call)
+        self.blossom_solve_arrays = Function(self.solve)
+        self.blossom_check_arrays = Function(self.judge)
+        self.verdict, self.judged = (0, ()), []
 
     def call(self, task, kind, text, length, buffer, room, used):
         self.asked.append((task, kind, text, length, room, threading.get_ident(), buffer))
@@ -75,8 +98,31 @@ class Shared:
         used._obj.value = len(self.answer) * self.times
         return self.status
 
+    def solve(self, task, kind, vertices, *words):
+        lists = [items(*words[place:place + 2], code) for place, code in
+                 zip((0, 2, 4, 6, 8), [ctypes.c_uint32] * 2 + [ctypes.c_int64] * 2
+                     + [ctypes.c_uint32])]
+        output, room, used = words[10:]
+        self.arrays.append((task, kind, vertices, *lists, room))
+        return self.tell(self.status, self.numbers, output, used)
 
-class Called(unittest.TestCase):
+    def judge(self, kind, vertices, *words):
+        self.judged.append((kind, vertices, items(*words[0:2], ctypes.c_uint32),
+                            items(*words[10:12], ctypes.c_int64)))
+        return self.tell(*self.verdict, words[12], words[14])
+
+    def tell(self, status, numbers, output, used):
+        told = (ctypes.c_int64 * len(numbers))(*numbers)
+        ctypes.memmove(output, told, ctypes.sizeof(told))
+        used._obj.value = len(numbers)
+        return status
+
+
+#: The answer that uses the one edge, of weight 1, of a graph of two vertices.
+ONE_EDGE = (1, 1, 0, 1, 2, 0, 0, 0, 1, 1, 1, 0)
+
+
+class StandIn(unittest.TestCase):
     def library(self, shared):
         """What calls the stand-in."""
         for known in (library_module.loaded, library_module.found):
@@ -87,6 +133,8 @@ class Called(unittest.TestCase):
         self.addCleanup(patch.stop)
         return blossom.Library("/anywhere/libblossom.so")
 
+
+class Called(StandIn):
     def header(self):
         with open(os.path.join(TOP, "capi", "blossom.h"), encoding="utf-8") as file:
             return file.read()
@@ -97,9 +145,9 @@ class Called(unittest.TestCase):
         return int(found.group(1))
 
     def test_another_version_is_refused(self):
-        for version in (0, 2):
+        for version in (0, 1, 3):
             with self.assertRaisesRegex(blossom.ProgramFailed, "is of version %d, and this package"
-                                        " calls version 1" % version):
+                                        " calls version 2" % version):
                 self.library(Shared(version)).run("solve", "perfect", b"")
         self.assertEqual(self.number("BLOSSOM_ABI"), library_module.ABI)
 
@@ -159,7 +207,7 @@ class Called(unittest.TestCase):
         self.assertEqual((len(here), len({asked[6] for asked in shared.asked})), (1, 3))
 
     def test_it_is_looked_for_once(self):
-        shared = Shared(answer=b"s OPTIMAL perfect 1\nx 1 1\n")
+        shared = Shared(numbers=ONE_EDGE)
         self.library(shared)
         with mock.patch.dict(os.environ, BLOSSOM_LIBRARY="/there.so"):
             with mock.patch("blossom.library.find_library", side_effect=["/there.so"]) as looked:
@@ -168,23 +216,116 @@ class Called(unittest.TestCase):
         self.assertEqual(([answer.weight for answer in answers], looked.call_count), ([1] * 3, 1))
 
     def test_answers_are_checked_by_it_too(self):
-        shared = Shared(answer=b"s OPTIMAL perfect 1\nx 1 1\n")
+        shared = Shared(numbers=ONE_EDGE)
         answer = blossom.perfect_matching([("a", "b", 1)], via=self.library(shared))
-        shared.answer = b"s ACCEPTED\n"
         with mock.patch("subprocess.Popen", side_effect=AssertionError):
             self.assertTrue(answer.check())
             self.assertTrue(blossom.check([("a", "b", 1)], "perfect", answer))
             self.assertTrue(blossom.check([("a", "b", 1)], "perfect", answer.certificate))
-        self.assertEqual([asked[0] for asked in shared.asked], [1, 3, 3, 3])
+        self.assertEqual(shared.judged, [(1, 2, [1], list(ONE_EDGE))] * 3)
+        for number, rule in enumerate(array_library.DOCUMENT_RULES, 1):
+            shared.verdict = (1, (number, 0))
+            verdict = answer.check()
+            self.assertEqual((bool(verdict), verdict.rule, verdict.line), (False, rule, None))
+        for status, numbers, error in ((3, (4, 1), "breaks a rule: End 1"), (8, (), "memory"),
+                                       (4, (9, 9), "9 vertices|too large|limit"),
+                                       (9, (), "status 9"), (10, (), "status 10")):
+            shared.verdict = (status, numbers)
+            with self.assertRaisesRegex(blossom.BlossomError, error):
+                answer.check()
 
     def test_and_so_is_what_shows_that_there_is_none(self):
-        shared = Shared(answer=b"s INFEASIBLE perfect\nu 0\n")
+        shared = Shared(numbers=(2, 0, 0, 1, 0, 0, 0, 0, 0, 0))
         with self.assertRaises(blossom.Infeasible) as told:
             blossom.perfect_matching([("a", "b")], nodes=["c"], via=self.library(shared))
-        shared.answer = b"s ACCEPTED\n"
+        self.assertEqual(told.exception.certificate.text, b"s INFEASIBLE perfect\nu 0\n")
         with mock.patch("subprocess.Popen", side_effect=AssertionError):
             self.assertTrue(told.exception.certificate.check())
             self.assertTrue(blossom.check([("a", "b")], "perfect", told.exception, nodes=["c"]))
+        self.assertEqual(shared.judged[1:], [(1, 3, [2], [2, 0, 0, 1] + [0] * 6)])
+
+    def test_a_brief_answer_and_a_text_are_judged_as_texts(self):
+        shared = Shared(answer=b"s REJECTED DualMissing 3\n", status=0,
+                        numbers=(1, 1, 0, 1, 0, 0, 0, 0, 1, 0))
+        answer = blossom.perfect_matching([("a", "b", 1)], via=self.library(shared), brief=True)
+        shared.status = 1
+        verdict = answer.check()
+        self.assertEqual((verdict.rule, verdict.line, shared.judged), ("DualMissing", 3, []))
+        self.assertEqual(shared.asked[0][2],
+                         b"p edge 2 1\ne 1 2 1\ns OPTIMAL perfect 1\nx 1 1\n")
+
+
+class OverArrays(StandIn):
+    """What goes to the call over arrays, and what is made of what comes back."""
+
+    def solved(self, numbers, edges, kind, **words):
+        """The stand-in, and the answer or the error that these numbers become."""
+        shared = Shared(numbers=numbers)
+        try:
+            return shared, blossom.solve(edges, kind, via=self.library(shared), **words)
+        except blossom.BlossomError as error:
+            return shared, error
+
+    def test_an_instance_goes_as_numbers(self):
+        shared, _ = self.solved((1, 3, 0, 2, 0, 0, 0, 0, 0, 1, 0),
+                                [("a", "b", 7, 2), ("b", "c", -3)], "capmatch", values={"b": 3},
+                                nodes=["c"], brief=True)
+        self.assertEqual(shared.arrays, [(2, 4, 3, [2, 3], [3, 1], [7, -3], [2, -1], [1, 1, 3],
+                                          library_module.ROOM // 8)])
+
+    def test_what_is_usual_goes_as_nothing(self):
+        for graph in ([("a", "b", 7), ("b", "c", 5)], [("a", "b", 7, 1), ("b", "c", 5, 1)]):
+            shared, _ = self.solved((1, 7, 0, 2, 0, 0, 0, 0, 1, 0, 0), graph, "match")
+            self.assertEqual(shared.arrays[0][:8], (1, 2, 3, [1, 2], [2, 3], [7, 5], [], []))
+
+    def test_each_part_of_an_answer(self):
+        edges = [("a", "b", 2), ("b", "c", 2), ("c", "a", 2), ("c", "d", 1)]
+        numbers = (1, 3, 0, 4, 4, 2, 6, 0, 1, 0, 0, 1, 2, -2, 3, 5, 11, 13, 0, 3, 6,
+                   1, 2, 3, 2, 3, 4)
+        _, answer = self.solved(numbers, edges, "perfect")
+        document = answer.certificate.document
+        self.assertEqual((document.counts, document.weight, document.walk), ({1: 1, 4: 1}, 3, None))
+        self.assertEqual(document.duals, {1: 2, 2: -2, 3: 3, 4: 5})
+        self.assertEqual(document.sets, [(11, [1, 2, 3]), (13, [2, 3, 4])])
+        self.assertEqual(answer.certificate.text,
+                         b"s OPTIMAL perfect 3\nx 1 1\nx 4 1\ny 1 2\ny 2 -2\ny 3 3\ny 4 5\n"
+                         b"z 11 3 1 2 3\nz 13 3 2 3 4\n")
+
+    def test_walks_and_what_excludes_answers(self):
+        edges = [("a", "b", 2), ("b", "c", 2), ("c", "a", 2)]
+        _, tour = self.solved((1, 6, 2, 3, 0, 0, 0, 0, 2, 3, 1, 0), edges, "postman")
+        self.assertEqual((tour.walk, tour.weight), (["b", "c", "a", "b"], 6))
+        ends = {"source": "a", "target": "c"}
+        _, error = self.solved((3, 0, 1, 2, 0, 0, 0, 0, 1, 1, 0), edges, "path", **ends)
+        self.assertIsInstance(error, blossom.NonConservative)
+        self.assertEqual(error.certificate.document.walk, (1, [1, 1]))
+        for kind, name, words in (("perfect", "barrier", {}), ("path", "odd_part", ends),
+                                  ("postman", "split_part", {}),
+                                  ("tjoin", "odd_part", {"terminals": ["a"]})):
+            _, error = self.solved((2, 0, 0, 3, 0, 0, 0, 2, 0, 0, 0, 0, 1, 3), edges, kind, **words)
+            self.assertIsInstance(error, blossom.Infeasible)
+            document = error.certificate.document
+            self.assertEqual((getattr(document, name), document.counts), ([1, 3], {}))
+
+    def test_other_statuses_say_what_the_program_prints(self):
+        for status, numbers, error, words in (
+                (4, (5000, 7), blossom.LimitExceeded, "5000 vertices and 7 edges|too large|limit"),
+                (3, (7, 2), blossom.BlossomError, "breaks a rule: Loop 2"),
+                (8, (), blossom.ProgramFailed, "not enough memory")):
+            shared = Shared(status=status, numbers=numbers)
+            with self.assertRaisesRegex(error, words):
+                blossom.solve([("a", "b", 1)], "perfect", via=self.library(shared))
+
+    def test_a_document_goes_back_as_it_came(self):
+        for numbers, kind, edges in (
+                ((1, 3, 0, 4, 4, 2, 6, 0, 1, 0, 0, 1, 2, -2, 3, 5, 11, 13, 0, 3, 6, 1, 2, 3, 2, 3,
+                  4), "perfect", 4),
+                ((1, 6, 2, 3, 0, 0, 0, 0, 2, 3, 1, 0), "postman", 3),
+                ((1, 8, 0, 2, 0, 0, 0, 0, 3, 1, 0), "bmatch", 2),
+                ((2, 0, 0, 3, 0, 0, 0, 2, 0, 0, 0, 0, 1, 3), "tjoin", 3)):
+            view = memoryview(array("q", numbers))
+            document = array_library.document_of(kind, view)
+            self.assertEqual(tuple(array_library.numbers_of_document(document, edges)), numbers)
 
 
 class Refused(unittest.TestCase):

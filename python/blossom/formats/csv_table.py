@@ -5,9 +5,9 @@ import csv
 from typing import IO, Any, Dict, List, Mapping, Optional, Sequence, Tuple
 
 from ..errors import GraphError
-from ..graphs import (END_NAMES, USUAL_CAPACITY, USUAL_WEIGHT, EdgeName, Table, Usual, named,
-                      refuse_absent)
+from ..graphs import END_NAMES, USUAL_CAPACITY, USUAL_WEIGHT, Usual, refuse_absent
 from ..numbers_in_text import is_blank, number
+from ..tables import EdgeName, Table, named
 from ..wording import word
 
 SEPARATORS = ",;\t"

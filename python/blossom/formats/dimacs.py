@@ -4,8 +4,9 @@ from __future__ import annotations
 from typing import IO, Any, Dict, List, Optional
 
 from ..errors import GraphError
-from ..graphs import USUAL_CAPACITY, USUAL_WEIGHT, Table, named
+from ..graphs import USUAL_CAPACITY, USUAL_WEIGHT
 from ..numbers_in_text import number
+from ..tables import Table, named
 
 
 def read_dimacs(file: IO[str], weight: Optional[str] = USUAL_WEIGHT,

@@ -5,8 +5,9 @@ from __future__ import annotations
 from typing import IO, Optional
 
 from ..errors import GraphError
-from ..graphs import USUAL_CAPACITY, USUAL_WEIGHT, Table
+from ..graphs import USUAL_CAPACITY, USUAL_WEIGHT
 from .csv_table import table_of_rows
+from ..tables import Table
 
 
 def read_edge_list(file: IO[str], weight: Optional[str] = USUAL_WEIGHT,

@@ -5,9 +5,10 @@ from typing import IO, Any, Dict, List, Mapping, Optional
 from xml.etree import ElementTree
 
 from ..errors import GraphError
-from ..graphs import USUAL_CAPACITY, USUAL_WEIGHT, Table, Usual, refuse_absent
+from ..graphs import USUAL_CAPACITY, USUAL_WEIGHT, Usual, refuse_absent
 from ..numbers_in_text import number
 from .csv_table import table_of_rows
+from ..tables import Table
 
 SPACE = "http://graphml.graphdrawing.org/xmlns"
 

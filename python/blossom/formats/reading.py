@@ -7,11 +7,12 @@ import os
 from typing import IO, Any, Callable, Dict, Literal, Optional, Union
 
 from ..errors import GraphError
-from ..graphs import USUAL_CAPACITY, USUAL_WEIGHT, Table
+from ..graphs import USUAL_CAPACITY, USUAL_WEIGHT
 from .csv_table import read_csv
 from .dimacs import read_dimacs
 from .edge_list import read_edge_list
 from .graphml import read_graphml
+from ..tables import Table
 
 Format = Literal["csv", "edges", "graphml", "dimacs"]
 READERS: Dict[str, Callable[[IO[str], Optional[str], Optional[str]], Table]] = {

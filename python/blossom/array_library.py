@@ -1,0 +1,137 @@
+"""A solve by the shared object over arrays: an instance goes there as numbers, and the answer comes
+back as numbers. No text is written or read on the way.
+
+What follows the head of an answer, and how an answer is judged, stands in `capi/blossom.h`."""
+from __future__ import annotations
+
+import ctypes
+import sys
+from array import array
+from itertools import compress
+from typing import Any, Dict, List, Protocol, Sequence, Union
+
+from .buffers import Numbers
+from .documents import Document, Status
+
+#: How an answer begins: its state, weight, start of a walk, and how many numbers each part has.
+HEAD = 8
+STATES: Dict[int, Status] = {1: "optimal", 2: "infeasible", 3: "nonconservative"}
+STATE_NUMBERS: Dict[str, int] = {state: number for number, state in STATES.items()}
+#: What excludes all answers of a kind, of those whose instances have no barrier.
+PARTS = {"tjoin": "odd_part", "path": "odd_part", "postman": "split_part"}
+#: Kinds whose answers are walks.
+WALKED = ("postman", "path")
+#: The rules that arrays can break, by their numbers from 1.
+RULES = ("Lengths", "Vertices", "Edges", "End", "Weight", "Capacity", "Loop", "Value", "Negative",
+         "PathEnds")
+#: The rules that a document can break, by their numbers from 1.
+DOCUMENT_RULES = ("DocForm", "KindDiffers", "DocRange", "NotFeasible", "WeightDiffers",
+                  "DualMissing", "SetForm", "Slack", "ValueDiffers", "NotBarrier", "NotClosed",
+                  "NotCircuit")
+
+DONE, REJECTED, MALFORMED, TOO_LARGE = 0, 1, 3, 4
+#: The types of the parameters that say what the instance is, from the kind on.
+INSTANCE_TYPES: List[Any] = [ctypes.c_uint32, ctypes.c_uint32] + 5 * [ctypes.c_void_p, ctypes.c_size_t]
+DOCUMENT_TYPES: List[Any] = [ctypes.c_void_p, ctypes.c_size_t]
+ANSWER_TYPES: List[Any] = [ctypes.c_void_p, ctypes.c_size_t, ctypes.POINTER(ctypes.c_size_t)]
+
+
+class Asked(Protocol):
+    """What is solved, in either form."""
+
+    @property
+    def kind(self) -> Any: ...
+
+    @property
+    def text(self) -> bytes: ...
+
+    @property
+    def numbers(self) -> Numbers: ...
+
+
+def refusal(status: int, found: Sequence[int]) -> bytes:
+    """What the program prints instead of an answer, where these are the numbers."""
+    if status == MALFORMED:
+        return b"s MALFORMED %s %d\n" % (RULES[found[0] - 1].encode("ascii"), found[1])
+    if status == TOO_LARGE:
+        return b"s TOOLARGE %d %d\n" % (found[0], found[1])
+    return b""
+
+
+def verdict_line(status: int, found: Sequence[int]) -> bytes:
+    """What the program prints of a document that was judged over arrays, which have no lines."""
+    if status == DONE:
+        return b"s ACCEPTED\n"
+    if status == REJECTED:
+        return b"s REJECTED %s 0\n" % DOCUMENT_RULES[found[0] - 1].encode("ascii")
+    return refusal(status, found)
+
+
+def document_of(kind: str, found: Any, brief: bool = False) -> Document:
+    """The document that these numbers of an answer are: see `capi/blossom.h`. brief: it has nothing
+    that proves the answer, or that there is none."""
+    state, weight, start, answers, duals, sets, members, excluding = found[:HEAD].tolist()
+    status = STATES[state]
+    document = Document(status, kind, weight if status == "optimal" else None)
+    numbers = Reader(found, HEAD + answers)
+    if status != "infeasible":
+        take_answer(document, start, found[HEAD:HEAD + answers])
+    document.duals = dict(enumerate(numbers.take(duals), 1))
+    own, offsets = numbers.take(sets), numbers.take(sets + 1)
+    held = numbers.take(members)
+    document.sets = [(dual, held[begin:end]) for dual, begin, end
+                     in zip(own, offsets, offsets[1:])]
+    if status == "infeasible" and not brief:
+        setattr(document, PARTS.get(kind, "barrier"), numbers.take(excluding))
+    return document
+
+
+def take_answer(document: Document, start: int, answer: Any) -> None:
+    """Gives the document its counts, or the edges of its walk."""
+    if document.status == "nonconservative" or document.kind in WALKED:
+        document.walk = (start, answer.tolist())
+    else:
+        document.counts = {place + 1: answer[place] for place in used(answer)}
+
+
+def used(counts: Any) -> List[int]:
+    """The places of the counts that aren't 0."""
+    numpy: Any = sys.modules.get("numpy")
+    if numpy is not None:
+        places: List[int] = numpy.flatnonzero(numpy.frombuffer(counts, "int64")).tolist()
+        return places
+    return list(compress(range(len(counts)), counts))
+
+
+class Reader:
+    """Numbers that are taken one part after the other."""
+
+    def __init__(self, numbers: Any, place: int) -> None:
+        self.numbers, self.place = numbers, place
+
+    def take(self, length: int) -> List[int]:
+        """The next so many numbers."""
+        begin, self.place = self.place, self.place + length
+        taken: List[int] = self.numbers[begin:self.place].tolist()
+        return taken
+
+
+def numbers_of_document(document: Document, edges: int) -> Any:
+    """The numbers of a document on an instance of so many edges, as `document_of` reads them."""
+    if document.walk is not None:
+        start, answer = document.walk
+    else:
+        start, answer = 0, [document.counts.get(edge, 0) for edge in range(1, edges + 1)]
+    duals = [document.duals[vertex] for vertex in range(1, len(document.duals) + 1)]
+    offsets, held = [0], []
+    for _, members in document.sets:
+        held.extend(members)
+        offsets.append(len(held))
+    excluding = document.barrier or document.odd_part or document.split_part or []
+    head = [STATE_NUMBERS[document.status], document.weight or 0, start, len(answer), len(duals),
+            len(document.sets), len(held), len(excluding)]
+    return array("q", [*head, *answer, *duals, *(dual for dual, _ in document.sets), *offsets,
+                       *held, *excluding])
+
+
+Outcome = Union[bytes, Document]

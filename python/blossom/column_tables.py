@@ -1,0 +1,192 @@
+"""Graphs whose edges came as columns. Their nodes are numbered at once, by numpy where the ends are
+arrays of it, and lists of names are made only where somebody asks for them."""
+from __future__ import annotations
+
+from functools import cached_property
+from itertools import chain
+from typing import Any, Dict, List, Mapping, NamedTuple, Optional, Tuple
+
+from .buffers import is_of_numpy
+from .tables import EdgeName, Node, Table, named, plain_list
+
+#: Numbers of nodes that spread over so many times as many places as there are ends are sorted.
+SPREAD = 4
+#: Pairs of nodes that are at most so many times the edges are marked in a table, others sorted.
+DENSE = 128
+
+
+class Numbering(NamedTuple):
+    """The nodes in the order in which the edges name them, and the ends of the edges as numbers
+    from 1 on."""
+
+    nodes: List[Node]
+    first: Any
+    second: Any
+
+
+def array_of(column: Any) -> Any:
+    """A column of a DataFrame as an array of numpy, any other as it is."""
+    return column.to_numpy() if hasattr(column, "to_numpy") else column
+
+
+def is_number(column: Any) -> bool:
+    """Whether a column is a list of numbers in an array of numpy."""
+    return is_of_numpy(column) and column.ndim == 1 and column.dtype.kind in "iuf"
+
+
+def within(column: Any, most: int) -> bool:
+    """Whether all numbers of a column are at most `most`, with either sign."""
+    return bool(((column >= -most) & (column <= most)).all())
+
+
+def is_whole(column: Any) -> bool:
+    """Whether a column is a list of whole numbers in an array of numpy that fit 64 bits with a
+    sign."""
+    return (is_number(column)
+            and (column.dtype.kind == "i" or column.dtype.kind == "u" and column.itemsize < 8))
+
+
+def are_ends(first: Any, second: Any) -> bool:
+    """Whether the ends of edges are whole numbers in arrays of numpy."""
+    return is_whole(first) and is_whole(second)
+
+
+def numbering(first: Any, second: Any) -> Numbering:
+    """The nodes that these ends name, numbered from 1 in the order in which they come, edge by
+    edge."""
+    if are_ends(first, second):
+        return numbering_of_arrays(first, second)
+    ends = plain_list(first), plain_list(second)
+    nodes = list(dict.fromkeys(chain.from_iterable(zip(*ends))))
+    number_of = {node: number for number, node in enumerate(nodes, 1)}
+    return Numbering(nodes, *(list(map(number_of.__getitem__, column)) for column in ends))
+
+
+def numbering_of_arrays(first: Any, second: Any) -> Numbering:
+    """The same of arrays of whole numbers."""
+    import numpy
+
+    ends = numpy.empty(2 * len(first), numpy.int64)
+    ends[0::2], ends[1::2] = first, second
+    if not len(ends):
+        return Numbering([], ends.astype(numpy.uint32), ends.astype(numpy.uint32))
+    least = int(ends.min())
+    spread = int(ends.max()) - least + 1
+    if spread <= SPREAD * len(ends):
+        places, nodes = ends - least, numpy.arange(least, least + spread)
+    else:
+        nodes, places = numpy.unique(ends, return_inverse=True)
+    return numbered_by_places(places, nodes)
+
+
+def numbered_by_places(places: Any, nodes: Any) -> Numbering:
+    """The same of ends that are places among these nodes, of which some may be no ends."""
+    import numpy
+
+    comes = numpy.full(len(nodes), len(places))
+    comes[places[::-1]] = numpy.arange(len(places) - 1, -1, -1)
+    there = numpy.flatnonzero(comes < len(places))
+    there = there[numpy.argsort(comes[there])]
+    number = numpy.zeros(len(nodes), numpy.uint32)
+    number[there] = numpy.arange(1, len(there) + 1)
+    numbers = number[places]
+    return Numbering(nodes[there].tolist(), numbers[0::2].copy(), numbers[1::2].copy())
+
+
+def are_parallel(nodes: int, first: Any, second: Any) -> bool:
+    """Whether some pair of these nodes, numbered from 1, is joined more than once."""
+    if is_of_numpy(first):
+        return are_parallel_arrays(nodes, first, second)
+    past = nodes + 1
+    pairs = {one * past + other for one, other in zip(first, second)}
+    return (len(pairs) < len(first)
+            or not pairs.isdisjoint([other * past + one for one, other in zip(first, second)]))
+
+
+def are_parallel_arrays(nodes: int, first: Any, second: Any) -> bool:
+    """The same of arrays of numpy."""
+    import numpy
+
+    pairs = (numpy.minimum(first, second).astype("int64") * (nodes + 1)
+             + numpy.maximum(first, second))
+    if (nodes + 1) ** 2 <= DENSE * len(first):
+        seen = numpy.zeros((nodes + 1) ** 2, bool)
+        seen[pairs] = True
+        return bool(numpy.count_nonzero(seen) < len(first))
+    pairs.sort()
+    return bool((pairs[1:] == pairs[:-1]).any())
+
+
+def kept(column: Any) -> Any:
+    """A copy of a column, so that the caller may change it afterwards."""
+    return column.copy() if hasattr(column, "copy") else list(column)
+
+
+class ColumnTable(Table):
+    """A graph as columns, which are lists or arrays of numpy: a `Table` whose lists are made when
+    somebody asks for them.
+
+    first, second: the ends. weight_column, capacity_column, other_columns: what else is known."""
+
+    def __init__(self, first: Any, second: Any, weights: Any, capacities: Any,
+                 columns: Mapping[str, Any], weight_name: Optional[str],
+                 capacity_name: Optional[str]) -> None:
+        self.first, self.second = kept(first), kept(second)
+        self.weight_column, self.capacity_column = kept(weights), kept(capacities)
+        self.other_columns = {name: kept(column) for name, column in columns.items()}
+        self.values: Dict[Node, Any] = {}
+        self.weight_name, self.capacity_name = weight_name, capacity_name
+
+    @cached_property
+    def numbering(self) -> Numbering:
+        """Its nodes and its edges as numbers."""
+        return numbering(self.first, self.second)
+
+    @cached_property
+    def nodes(self) -> List[Node]:  # type: ignore[override]
+        return self.numbering.nodes
+
+    @cached_property
+    def ends(self) -> List[Tuple[Node, Node]]:  # type: ignore[override]
+        return list(zip(plain_list(self.first), plain_list(self.second)))
+
+    @cached_property
+    def names(self) -> List[EdgeName]:  # type: ignore[override]
+        return named(self.ends)
+
+    @cached_property
+    def weights(self) -> List[Any]:  # type: ignore[override]
+        return plain_list(self.weight_column)
+
+    @cached_property
+    def capacities(self) -> List[Any]:  # type: ignore[override]
+        return plain_list(self.capacity_column)
+
+    @cached_property
+    def columns(self) -> Dict[str, List[Any]]:  # type: ignore[override]
+        return {name: plain_list(column) for name, column in self.other_columns.items()}
+
+    @property
+    def edge_count(self) -> int:
+        return len(self.first)
+
+    @cached_property
+    def has_parallel_edges(self) -> bool:
+        """Whether some pair of nodes is joined more than once."""
+        first, second = self.numbering.first, self.numbering.second
+        return are_parallel(len(self.numbering.nodes), first, second)
+
+    def name(self, place: int) -> EdgeName:
+        return self.names_of([place])[0]
+
+    def names_of(self, places: List[int]) -> List[EdgeName]:
+        if self.has_parallel_edges:
+            return super().names_of(places)
+        return list(zip(picked(self.first, places), picked(self.second, places)))
+
+
+def picked(column: Any, places: List[int]) -> List[Any]:
+    """The entries of a column at these places, as Python's own values."""
+    if is_of_numpy(column):
+        return plain_list(column[places])
+    return list(map(plain_list(column).__getitem__, places))

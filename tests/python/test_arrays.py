@@ -1,0 +1,151 @@
+"""Graphs whose edges are arrays of numpy: what is made of them is what lists of the same become."""
+import random
+import unittest
+
+import blossom
+from blossom.column_tables import are_ends
+from blossom.graphs import table_of
+from support import wanted
+
+
+def edges(chance, nodes, count):
+    """So many edges by chance, of which some are parallel or turned."""
+    return [(*chance.sample(nodes, 2), chance.randint(-9, 9)) for _ in range(count)]
+
+
+class Same(unittest.TestCase):
+    def setUp(self):
+        self.numpy = wanted("numpy")
+
+    def columns(self, rows, ends="int64", weights="int64"):
+        first, second, weight = zip(*rows)
+        return (self.numpy.array(first, ends), self.numpy.array(second, ends),
+                self.numpy.array(weight, weights))
+
+    def same(self, graph, rows, kind="match", **words):
+        """The instance of the arrays is that of the rows, in all that it says of itself."""
+        one, other = blossom.instance(graph, kind, **words), blossom.instance(rows, kind, **words)
+        self.assertEqual(one, other)
+        for name in ("nodes", "edges", "ends", "weights", "capacities", "values", "text",
+                     "checksum", "edge_count", "scale"):
+            self.assertEqual(getattr(one, name), getattr(other, name), name)
+        self.assertEqual({type(node) for node in one.nodes}, {int})
+        self.assertEqual({type(weight) for weight in one.weights}, {int})
+
+    def test_made_graphs(self):
+        chance = random.Random(5)
+        for nodes in (range(2), range(5), range(-3, 40), range(10**6, 10**6 + 30),
+                      [-2**63, -1, 0, 2**40, 2**63 - 1], [7, 10**12, -10**12]):
+            for count in (1, 2, 9, 60):
+                rows = edges(chance, list(nodes), count)
+                self.assertTrue(are_ends(*self.columns(rows)[:2]))
+                self.same(self.columns(rows), rows)
+
+    def test_names_of_single_edges(self):
+        chance = random.Random(8)
+        for nodes, count in ((range(3), 2), (range(12), 30), (range(300), 60), (range(300), 5000)):
+            rows = edges(chance, nodes, count)
+            for some in (rows, list({frozenset(row[:2]): row for row in rows}.values())):
+                one, other = table_of(self.columns(some)), table_of(some)
+                self.assertEqual([one.name(place) for place in range(len(some))], other.names)
+
+    def test_edges_that_are_turned_are_parallel(self):
+        for far in (3, 10**12):
+            for more in ([], [(place, place + 1, 0) for place in range(5, 400)]):
+                rows = [(1, 2, 4), (2, 1, 5), (2, far, 6), *more]
+                table = table_of(self.columns(rows))
+                self.assertEqual(table.names_of([0, 1, 2]), [(1, 2, 0), (2, 1, 1), (2, far, 0)])
+                self.assertEqual(table.names[:3], table.names_of([0, 1, 2]))
+
+    def test_callers_may_change_their_columns_afterwards(self):
+        pandas = wanted("pandas")
+        rows = [(1, 2, 4), (2, 3, 5), (3, 4, 6)]
+        columns = self.columns(rows)
+        lists = {"u": [1, 2, 3], "v": [2, 3, 4], "weight": [4, 5, 6], "way": ["a", "b", "c"]}
+        frame = pandas.DataFrame(lists)
+        for graph, parts in ((columns, columns), (lists, list(lists.values())),
+                             (frame, [frame.loc])):
+            answer = blossom.max_weight_matching(graph)
+            for part in parts:
+                part[0] = part[2]
+            self.assertEqual((answer.edges, answer.instance.ends, answer.weight),
+                             ([(1, 2), (3, 4)], [(1, 2), (2, 3), (3, 4)], 10))
+            self.assertIn(answer.rows[0].get("way"), (None, "a"))
+            self.assertEqual(answer.instance.weights, [4, 5, 6])
+
+    def test_types_of_numbers(self):
+        rows = edges(random.Random(6), range(20), 30)
+        for ends in ("int8", "uint8", "int16", "uint32", "int64", ">i4"):
+            for weights in ("int8", "int32", "float64", "float32", ">f8"):
+                self.same(self.columns(rows, ends, weights), rows)
+
+    def test_columns_and_rows_of_every_form(self):
+        rows = edges(random.Random(7), range(9), 20)
+        first, second, weight = self.columns(rows)
+        self.same({"u": first, "v": second, "weight": weight}, rows)
+        self.same((first[::-1][::-1], second, weight), rows)
+        bare = [row[:2] for row in rows]
+        self.same((first, second), bare)
+        self.same({"from": first, "to": second, "weight": weight}, rows, nodes=[100, 3])
+        self.same((first, second, weight), rows, "tjoin", terminals=rows[0][:2])
+        capped = [(*row, place % 3) for place, row in enumerate(rows)]
+        self.same((first, second, weight, self.numpy.arange(20) % 3), capped, "capmatch",
+                  values={3: 2})
+
+    def test_scales_and_what_is_not_whole(self):
+        rows = [(1, 2, 0.5), (2, 3, 1.25), (3, 1, -2.0)]
+        graph = self.columns(rows, weights="float64")
+        self.same(graph, rows, scale=4)
+        self.same(graph, rows, scale="finest")
+        self.same(graph, rows, rounding="nearest")
+        for bad, said in ((0.5, "weighs 0.5, which is no whole number"),
+                          (float("nan"), "no finite number"), (float("inf"), "no finite number"),
+                          (1e9 + 1, "outside -10.9 to 10.9"), (-1e9 - 1, "outside")):
+            for form in ([(1, 2, 1.0), (2, 3, bad)], self.columns([(1, 2, 1.0), (2, 3, bad)],
+                                                                  weights="float64")):
+                with self.assertRaisesRegex(blossom.WeightError, said):
+                    blossom.instance(form, "match")
+        for limit in (10**9, -10**9):
+            self.same(self.columns([(1, 2, limit)]), [(1, 2, limit)])
+
+    def test_refusals_name_what_they_name_for_lists(self):
+        for rows, kind, said in (([(1, 2, 1), (4, 4, 2)], "match", r"edge \(4, 4\) is a loop"),
+                                 ([(1, 2, 1), (2, 5, -3)], "postman", r"edge \(2, 5\) weighs less")):
+            for form in (rows, self.columns(rows)):
+                with self.assertRaisesRegex(blossom.BlossomError, said):
+                    blossom.instance(form, kind)
+        with self.assertRaisesRegex(blossom.GraphError, "differ in length"):
+            blossom.instance((self.numpy.array([1, 2]), self.numpy.array([2])), "match")
+        many = self.numpy.arange(5000)
+        with self.assertRaisesRegex(blossom.LimitExceeded, "5001 nodes and 5000 edges"):
+            blossom.instance((many, many + 1), "match")
+
+    def test_no_edges(self):
+        none = self.numpy.array([], "int64")
+        self.assertEqual(blossom.instance((none, none, none), "match").text, b"p edge 0 0\n")
+        self.assertEqual(blossom.instance((none, none), "match", nodes=[4]).nodes, [4])
+
+    def test_what_is_no_array_of_whole_numbers(self):
+        numpy = self.numpy
+        for first, second in ((numpy.array([0.5, 1]), numpy.array([1, 2])),
+                              (numpy.array([2**63], "uint64"), numpy.array([1], "uint64")),
+                              (numpy.array(["a"]), numpy.array(["b"])),
+                              (numpy.array([True]), numpy.array([False]))):
+            self.assertFalse(are_ends(first, second))
+            self.assertEqual(blossom.instance((first, second), "match").ends,
+                             list(zip(first.tolist(), second.tolist())))
+
+    def test_columns_of_a_frame_come_back(self):
+        pandas = wanted("pandas")
+        frame = pandas.DataFrame({"u": [3, 1], "v": [1, 2], "weight": [4, 5],
+                                  "street": ["A", None],
+                                  "seen": pandas.to_datetime(["2020-01-01", "2021-02-03"])})
+        answer = blossom.max_weight_matching(frame)
+        self.assertEqual(answer.edges, [(1, 2)])
+        self.assertEqual(answer.rows[0]["street"], None)
+        self.assertEqual(answer.rows[0]["seen"], frame["seen"].tolist()[1])
+        self.assertEqual(answer.instance.nodes, [3, 1, 2])
+
+
+if __name__ == "__main__":
+    unittest.main()
