@@ -73,15 +73,17 @@ def document_of(kind: str, found: Any, brief: bool = False) -> Document:
     state, weight, start, answers, duals, sets, members, excluding = found[:HEAD].tolist()
     status = STATES[state]
     document = Document(status, kind, weight if status == "optimal" else None)
-    numbers = Reader(found, HEAD + answers)
     if status != "infeasible":
         take_answer(document, start, found[HEAD:HEAD + answers])
+    if brief:
+        return document
+    numbers = Reader(found, HEAD + answers)
     document.duals = dict(enumerate(numbers.take(duals), 1))
     own, offsets = numbers.take(sets), numbers.take(sets + 1)
     held = numbers.take(members)
     document.sets = [(dual, held[begin:end]) for dual, begin, end
                      in zip(own, offsets, offsets[1:])]
-    if status == "infeasible" and not brief:
+    if status == "infeasible":
         setattr(document, PARTS.get(kind, "barrier"), numbers.take(excluding))
     return document
 
@@ -100,7 +102,7 @@ def used(counts: Any) -> List[int]:
     if numpy is not None:
         places: List[int] = numpy.flatnonzero(numpy.frombuffer(counts, "int64")).tolist()
         return places
-    return list(compress(range(len(counts)), counts))
+    return list(compress(range(len(counts)), counts.tolist()))
 
 
 class Reader:
