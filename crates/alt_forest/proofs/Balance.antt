@@ -112,7 +112,8 @@ module _ (s : State) (depth : ℕ → ℕ) (root : ℕ) (nested : IsNested s.gra
           let c = mate_inner s nested depth st x e t.outermost lab has in
           let b : ℕ = mate_node s x in
           let up : root_of s x ≡ root_of s b = root_up s depth nested st x b t.outermost c.0.outermost (outer_up x lab) in
-          let inner : holds (tree_nodes Inner) b ≡ true = in_nodes Inner b (record { outermost = c.0.outermost; label = ap (λ l. is_label l Inner) c.1; same_root = sym up ∙ t.same_root }) in
+          let inner : holds (tree_nodes Inner) b ≡ true =
+          in_nodes Inner b (record { outermost = c.0.outermost; label = ap (λ l. is_label l Inner) c.1; same_root = sym up ∙ t.same_root }) in
           or_right (eqb root x) (holds (map (mate_node s) (tree_nodes Inner)) x)
           (subst (λ y. holds (map (mate_node s) (tree_nodes Inner)) y ≡ true) (turned_mate s x e b c.0) (map-holds (mate_node s) (tree_nodes Inner) b inner))
 

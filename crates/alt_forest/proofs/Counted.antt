@@ -99,7 +99,8 @@ exposed_counted s nested none a x =
     absurd (omega (arith, none, one_passes (is_exposed s) (node_limit s.graph.vertices) a range.0 range.1 passes))
 
 -- a root more
-pub one_more : (s : State) (v : ℕ) → IsNested s.graph.vertices s.blossoms → IsExposed s v → s.label v ≡ Out → tree_count (with_labels s (put s.label v Outer)) ≡ tree_count s + 1
+pub one_more : (s : State) (v : ℕ) → IsNested s.graph.vertices s.blossoms → IsExposed s v → s.label v ≡ Out
+    → tree_count (with_labels s (put s.label v Outer)) ≡ tree_count s + 1
 one_more s v nested x was_out =
     let n : ℕ = node_limit s.graph.vertices in
     let t : State = with_labels s (put s.label v Outer) in

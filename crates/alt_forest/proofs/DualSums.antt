@@ -22,12 +22,14 @@ chain_dual_sum y (b ∷ older) v = elim (holds b.members v) as (λ q. total_of y
     ]
 
 -- all nodes that hold the one vertex miss the other
-apart_chain : (n : ℕ) (bs : List Blossom) (u v : ℕ) → IsNested n bs → is_vertex n u ≡ true → is_vertex n v ≡ true → outermost bs u ≢ outermost bs v → holders bs u v ≡ chain_of bs u
+apart_chain : (n : ℕ) (bs : List Blossom) (u v : ℕ) → IsNested n bs → is_vertex n u ≡ true → is_vertex n v ≡ true → outermost bs u ≢ outermost bs v
+    → holders bs u v ≡ chain_of bs u
 apart_chain n bs u v nested iu iv ne =
     let none : sharers bs u v ≡ [] = ⊎_elim (λ p. p) (λ p. absurd (ne p)) (together n bs u v nested iu iv) in
     sym (chain_split n bs u v nested iu iv ∙ ap (λ xs. holders bs u v ++ xs) none ∙ append_nil (holders bs u v))
 
-pub across_apart : (n : ℕ) (y : ℕ → ℤ) (bs : List Blossom) (e : Edge) → IsNested n bs → is_vertex n e.u ≡ true → is_vertex n e.v ≡ true → outermost bs e.u ≢ outermost bs e.v
+pub across_apart : (n : ℕ) (y : ℕ → ℤ) (bs : List Blossom) (e : Edge) → IsNested n bs → is_vertex n e.u ≡ true → is_vertex n e.v ≡ true
+    → outermost bs e.u ≢ outermost bs e.v
     → duals_across y bs e ≡ (y e.u +ℤ held_by y bs e.u) +ℤ (y e.v +ℤ held_by y bs e.v)
 across_apart n y bs e nested iu iv ne =
     across_split y bs e
@@ -36,14 +38,16 @@ across_apart n y bs e nested iu iv ne =
     (ap (total_of y) (apart_chain n bs e.v e.u nested iv iu (λ p. ne (sym p))) ∙ chain_dual_sum y bs e.v)
 
 -- the slack of an edge between two outermost nodes
-pub slack_apart : (s : State) (e : ℕ) → IsGraph s.graph → IsNested s.graph.vertices s.blossoms → IsEdgeNumber s.graph e → node_u s.graph s.blossoms e ≢ node_v s.graph s.blossoms e
+pub slack_apart : (s : State) (e : ℕ) → IsGraph s.graph → IsNested s.graph.vertices s.blossoms → IsEdgeNumber s.graph e
+    → node_u s.graph s.blossoms e ≢ node_v s.graph s.blossoms e
     → slack_of s e ≡ doubled s.graph s.weighted e -ℤ (dual_sum s (edge_of s.graph e).u +ℤ dual_sum s (edge_of s.graph e).v)
 slack_apart s e graph nested is ne =
     ap (λ t. doubled s.graph s.weighted e -ℤ t)
     (across_apart s.graph.vertices s.dual s.blossoms (edge_of s.graph e) nested (u_vertex s.graph e graph.ends is) (v_vertex s.graph e graph.ends is) ne)
 
 -- the same from one of its ends
-pub slack_leading : (s : State) (e v x : ℕ) (w : ℤ) → IsGraph s.graph → IsNested s.graph.vertices s.blossoms → LeadsTo s.graph e v x w → outermost s.blossoms x ≢ outermost s.blossoms v
+pub slack_leading : (s : State) (e v x : ℕ) (w : ℤ) → IsGraph s.graph → IsNested s.graph.vertices s.blossoms → LeadsTo s.graph e v x w
+    → outermost s.blossoms x ≢ outermost s.blossoms v
     → slack_of s e ≡ cond s.weighted (pos 2 *ℤ w) (pos 0) -ℤ (dual_sum s v +ℤ dual_sum s x)
 slack_leading s e v x w graph nested to ne = ⊎_elim
     (λ p. slack_apart s e graph nested to.number (λ q. ne (sym (ap (outermost s.blossoms) (sym p.0) ∙ q ∙ ap (outermost s.blossoms) p.1)))

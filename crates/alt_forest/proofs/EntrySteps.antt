@@ -35,7 +35,8 @@ entered_next s clock q r xs k e is before here others i low = by_test (eqb (get_
     entered_same s clock q r (get_or xs i 0) (others (get_or xs i 0) ne) (before i (omega (arith, low, earlier))))
 
 pub others_next : (g : Multigraph) (v : ℕ) (first q r : Moments) (e : ℕ) → touches (edge_of g e) v ≡ true
-    → ((d : ℕ) → IsEdgeNumber g d → touches (edge_of g d) v ≡ false → moment_of q (Edge d) ≡ moment_of first (Edge d)) → ((d : ℕ) → d ≢ e → moment_of r (Edge d) ≡ moment_of q (Edge d))
+    → ((d : ℕ) → IsEdgeNumber g d → touches (edge_of g d) v ≡ false → moment_of q (Edge d) ≡ moment_of first (Edge d))
+    → ((d : ℕ) → d ≢ e → moment_of r (Edge d) ≡ moment_of q (Edge d))
     → (d : ℕ) → IsEdgeNumber g d → touches (edge_of g d) v ≡ false → moment_of r (Edge d) ≡ moment_of first (Edge d)
 others_next g v first q r e touched before others d is missed = others d (λ p. both_ways (touches (edge_of g e) v) (ap (λ x. touches (edge_of g x) v) (sym p) ∙ missed) touched)
     ∙ before d is missed

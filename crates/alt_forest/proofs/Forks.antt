@@ -34,7 +34,8 @@ total-append y [] a = refl
 total-append y (x ∷ xs) a = let r : total_of y (xs ++ a ∷ []) ≡ y a +ℤ total_of y xs = total-append y xs a in omega (arith, ints)
 
 -- two vertices that some blossom holds both lie in one outermost node
-pub together : (n : ℕ) (bs : List Blossom) (u v : ℕ) → IsNested n bs → is_vertex n u ≡ true → is_vertex n v ≡ true → (sharers bs u v ≡ []) ⊎ (outermost bs u ≡ outermost bs v)
+pub together : (n : ℕ) (bs : List Blossom) (u v : ℕ) → IsNested n bs → is_vertex n u ≡ true → is_vertex n v ≡ true
+    → (sharers bs u v ≡ []) ⊎ (outermost bs u ≡ outermost bs v)
 together n [] u v h iu iv = inl refl
 together n (b ∷ older) u v h iu iv = by_tests (holds b.members u) (holds b.members v) refl refl (member_by_ring n older b u h iu) (member_by_ring n older b v h iv)
     (together n older u v h.1 iu iv)
@@ -45,7 +46,8 @@ together n (b ∷ older) u v h iu iv = by_tests (holds b.members u) (holds b.mem
     by_tests true true eu ev ru rv ih = inr refl
     by_tests true false eu ev ru rv ih = ⊎_elim (λ none. inl none)
         (λ same. absurd (both_ways (in_ring b.ring (outermost older v)) (sym rv ∙ ev) (ap (in_ring b.ring) (sym same) ∙ sym ru ∙ eu))) ih
-    by_tests false true eu ev ru rv ih = ⊎_elim (λ none. inl none) (λ same. absurd (both_ways (in_ring b.ring (outermost older u)) (sym ru ∙ eu) (ap (in_ring b.ring) same ∙ sym rv ∙ ev))) ih
+    by_tests false true eu ev ru rv ih = ⊎_elim (λ none. inl none)
+        (λ same. absurd (both_ways (in_ring b.ring (outermost older u)) (sym ru ∙ eu) (ap (in_ring b.ring) same ∙ sym rv ∙ ev))) ih
     by_tests false false eu ev ru rv ih = ih
 
 sharers_turned : (bs : List Blossom) (u v : ℕ) → sharers bs u v ≡ sharers bs v u
@@ -65,7 +67,8 @@ chain_split n [] u v h iu iv = refl
 chain_split n (b ∷ older) u v h iu iv = by_tests (chain_split n older u v h.1 iu iv) (holds b.members u) (holds b.members v) refl refl (member_by_ring n older b u h iu)
     (member_by_ring n older b v h iv)
   where
-    alone : chain_of older u ≡ holders older u v ++ sharers older u v → sharers older u v ≡ [] → chain_of older u ++ b.node ∷ [] ≡ (holders older u v ++ b.node ∷ []) ++ sharers older u v
+    alone : chain_of older u ≡ holders older u v ++ sharers older u v → sharers older u v ≡ []
+        → chain_of older u ++ b.node ∷ [] ≡ (holders older u v ++ b.node ∷ []) ++ sharers older u v
     alone ih none = ap (λ xs. xs ++ b.node ∷ []) (ih ∙ ap (λ xs. holders older u v ++ xs) none ∙ append_nil (holders older u v))
         ∙ sym (ap (λ xs. (holders older u v ++ b.node ∷ []) ++ xs) none ∙ append_nil (holders older u v ++ b.node ∷ []))
 
@@ -203,7 +206,8 @@ pub record IsForked (p q xs ys : List ℕ) (k l : ℕ) : Type 0 where
   pub left : k + apart (drop k xs) (drop l ys) ≡ length p
   pub right : l + apart (drop k xs) (drop l ys) ≡ length q
 
-pub forked : (p q s : List ℕ) → ((x : ℕ) → holds p x ≡ true → holds q x ≡ true → ⊥) → (k l : ℕ) → k ≡ length (p ++ s) - length (q ++ s) → l ≡ length (q ++ s) - length (p ++ s)
+pub forked : (p q s : List ℕ) → ((x : ℕ) → holds p x ≡ true → holds q x ≡ true → ⊥) → (k l : ℕ) → k ≡ length (p ++ s) - length (q ++ s)
+    → l ≡ length (q ++ s) - length (p ++ s)
     → IsForked p q (p ++ s) (q ++ s) k l
 forked p q s d k l ek el =
     let sizes : length (p ++ s) ≡ length p + length s = length-append p s in
@@ -252,7 +256,8 @@ chain_few n bs u v h =
 pub holders_few : (n : ℕ) (bs : List Blossom) (u v : ℕ) → IsEnds n bs u v → length (holders bs u v) + length (holders bs v u) ≤ 2050
 holders_few n bs u v h = omega (arith, forks_few bs u v, blossoms_few n bs h.nested, h.few)
 
-pub chains_fork : (n : ℕ) (bs : List Blossom) (u v k l : ℕ) → IsEnds n bs u v → k ≡ length (chain_of bs u) - length (chain_of bs v) → l ≡ length (chain_of bs v) - length (chain_of bs u)
+pub chains_fork : (n : ℕ) (bs : List Blossom) (u v k l : ℕ) → IsEnds n bs u v → k ≡ length (chain_of bs u) - length (chain_of bs v)
+    → l ≡ length (chain_of bs v) - length (chain_of bs u)
     → IsForked (holders bs u v) (holders bs v u) (chain_of bs u) (chain_of bs v) k l
 chains_fork n bs u v k l h ek el =
     let cu : chain_of bs u ≡ holders bs u v ++ sharers bs u v = chain_split n bs u v h.nested h.u_is h.v_is in
@@ -271,7 +276,8 @@ pub record AreSurplus (bs : List Blossom) (u v k l : ℕ) : Type 0 where
   pub left : k ≡ length (chain_of bs u) - length (chain_of bs v)
   pub right : l ≡ length (chain_of bs v) - length (chain_of bs u)
 
-pub surplus : (bs : List Blossom) (u v k l m1 m2 : ℕ) (xs ys : List ℕ) → k ≡ m1 - m2 → l ≡ m2 - m1 → m1 ≡ length xs → xs ≡ chain_of bs u → m2 ≡ length ys → ys ≡ chain_of bs v
+pub surplus : (bs : List Blossom) (u v k l m1 m2 : ℕ) (xs ys : List ℕ) → k ≡ m1 - m2 → l ≡ m2 - m1 → m1 ≡ length xs → xs ≡ chain_of bs u
+    → m2 ≡ length ys → ys ≡ chain_of bs v
     → AreSurplus bs u v k l
 surplus bs u v k l m1 m2 xs ys ek el first first_is second second_is =
     let a : m1 ≡ length (chain_of bs u) = first ∙ ap length first_is in
@@ -283,7 +289,8 @@ pub record AreCut (bs : List Blossom) (u v k l : ℕ) (left right : List ℕ) : 
   pub left_is : left ≡ drop k (chain_of bs u)
   pub right_is : right ≡ drop l (chain_of bs v)
 
-pub cut_chains : (bs : List Blossom) (u v k l : ℕ) (left right xs ys : List ℕ) → left ≡ drop k xs → xs ≡ chain_of bs u → right ≡ drop l ys → ys ≡ chain_of bs v → AreCut bs u v k l left right
+pub cut_chains : (bs : List Blossom) (u v k l : ℕ) (left right xs ys : List ℕ) → left ≡ drop k xs → xs ≡ chain_of bs u → right ≡ drop l ys → ys ≡ chain_of bs v
+    → AreCut bs u v k l left right
 cut_chains bs u v k l left right xs ys a b c d = record { left_is = a ∙ ap (drop k) b; right_is = c ∙ ap (drop l) d }
 
 pub cut_level : (n : ℕ) (bs : List Blossom) (u v k l : ℕ) (left right : List ℕ) → IsEnds n bs u v → AreSurplus bs u v k l → AreCut bs u v k l left right
@@ -303,7 +310,8 @@ pub record AreCounts (bs : List Blossom) (u v a b : ℕ) : Type 0 where
   pub right : b ≡ length (holders bs v u)
   pub few : a + b ≤ 2050
 
-pub counts : (n : ℕ) (bs : List Blossom) (u v k l same : ℕ) (left right : List ℕ) → IsEnds n bs u v → AreSurplus bs u v k l → AreCut bs u v k l left right → same ≡ apart left right
+pub counts : (n : ℕ) (bs : List Blossom) (u v k l same : ℕ) (left right : List ℕ) → IsEnds n bs u v → AreSurplus bs u v k l
+    → AreCut bs u v k l left right → same ≡ apart left right
     → AreCounts bs u v (k + same) (l + same)
 counts n bs u v k l same left right h s c e =
     let f = chains_fork n bs u v k l h s.left s.right in

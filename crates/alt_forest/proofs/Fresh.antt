@@ -19,7 +19,8 @@ use Rattle.alt_forest.proofs.Relabelled.{outer_not_out, inner_not_out, some_not_
 use Rattle.blossom_arena.proofs.Ends.{u_vertex, v_vertex}
 
 -- an edge feels twice the start
-slack_from : (g : Multigraph) (w : Weights) (y : ℕ → ℤ) (start : ℤ) (e : ℕ) → y (edge_of g e).u ≡ start → y (edge_of g e).v ≡ start → IsStart g w start → IsEdgeNumber g e
+slack_from : (g : Multigraph) (w : Weights) (y : ℕ → ℤ) (start : ℤ) (e : ℕ) → y (edge_of g e).u ≡ start → y (edge_of g e).v ≡ start
+    → IsStart g w start → IsEdgeNumber g e
     → pos 0 ≤ℤ slack_with g (is_given w) y [] e
 slack_from g Zero y start e u v is number =
     let zero : start ≡ pos 0 = is in
@@ -31,7 +32,8 @@ slack_from g Given y start e u v is number =
     plain : (w s : ℤ) → s ≤ℤ w → pos 0 ≤ℤ (pos 2 *ℤ w -ℤ (s +ℤ s))
     plain w s low = omega (arith, ints)
 
-pub fresh_slack : (g : Multigraph) (w : Weights) (y : ℕ → ℤ) (start : ℤ) (bs : List Blossom) → IsGraph g → bs ≡ [] → ((v : ℕ) → is_vertex g.vertices v ≡ true → y v ≡ start)
+pub fresh_slack : (g : Multigraph) (w : Weights) (y : ℕ → ℤ) (start : ℤ) (bs : List Blossom) → IsGraph g → bs ≡ []
+    → ((v : ℕ) → is_vertex g.vertices v ≡ true → y v ≡ start)
     → IsStart g w start
     → (e : ℕ) → IsEdgeNumber g e → pos 0 ≤ℤ slack_with g (is_given w) y bs e
 fresh_slack g w y start bs graph none duals is e number =
@@ -46,7 +48,8 @@ one_parity : (x y start : ℤ) → x ≡ start +ℤ pos 0 → y ≡ start +ℤ p
 one_parity x y start e f = (pos 0, omega (arith, ints))
 
 -- no blossom, no mate, no tree, and one dual
-pub fresh : (s : State) (start : ℤ) → s.blossoms ≡ [] → ((a : ℕ) → s.label a ≡ Out) → ((a : ℕ) → s.mate a ≡ None) → ((v : ℕ) → is_vertex s.graph.vertices v ≡ true → s.dual v ≡ start)
+pub fresh : (s : State) (start : ℤ) → s.blossoms ≡ [] → ((a : ℕ) → s.label a ≡ Out) → ((a : ℕ) → s.mate a ≡ None)
+    → ((v : ℕ) → is_vertex s.graph.vertices v ≡ true → s.dual v ≡ start)
     → ((e : ℕ) → IsEdgeNumber s.graph e → pos 0 ≤ℤ slack_of s e) → IsSearchState s (λ a. 0)
 fresh s start none out free same slacks = record {
   rings = subst (HasRings s.graph) (sym none) tt;

@@ -14,12 +14,14 @@ pub some_same : (v w : ℕ) → (let o : Option ℕ = Some v in o) ≡ Some w �
 some_same v w e = cc
 
 -- the first node on the list of v is one with that seed
-pub first_found : (count : ℕ) (seed : ℕ → Option ℕ) (next previous : ℕ → ℕ) (v : ℕ) → AreOwned count seed next previous → next (count + v) < count → seed (next (count + v)) ≡ Some v
+pub first_found : (count : ℕ) (seed : ℕ → Option ℕ) (next previous : ℕ → ℕ) (v : ℕ) → AreOwned count seed next previous → next (count + v) < count
+    → seed (next (count + v)) ≡ Some v
 first_found count seed next previous v h low =
     sym (owner_node count seed (next (count + v)) low) ∙ h.same (count + v) ∙ owner_start count seed (count + v) (omega arith)
     ∙ ap (λ x. let o : Option ℕ = Some x in o) (let e : count + v - count ≡ v = omega arith in e)
 
-module _ (count : ℕ) (seed : ℕ → Option ℕ) (next previous : ℕ → ℕ) (v : ℕ) (linked : AreLinked next previous) (h : AreOwned count seed next previous) (high : count ≤ next (count + v)) where
+module _ (count : ℕ) (seed : ℕ → Option ℕ) (next previous : ℕ → ℕ) (v : ℕ) (linked : AreLinked next previous) (h : AreOwned count seed next previous)
+    (high : count ≤ next (count + v)) where
   -- the list of v has only its beginning
   alone : next (count + v) ≡ count + v
   alone =
@@ -119,7 +121,8 @@ module _ (nodes : List ℕ) (place : ℕ → ℕ) (seed : ℕ → Option ℕ) (a
       at_end k low late = ap (λ j. get_or (nodes ++ a ∷ []) j 0) (let e : k ≡ length nodes = omega (arith, low, late, long) in e) ∙ last_is
 
 -- one node less: the last one takes its place
-module _ (nodes rest : List ℕ) (place now : ℕ → ℕ) (seed : ℕ → Option ℕ) (a : ℕ) (h : ArePlaced nodes place seed) (there : is_some (seed a) ≡ true) (len : length rest + 1 ≡ length nodes)
+module _ (nodes rest : List ℕ) (place now : ℕ → ℕ) (seed : ℕ → Option ℕ) (a : ℕ) (h : ArePlaced nodes place seed) (there : is_some (seed a) ≡ true)
+    (len : length rest + 1 ≡ length nodes)
     (moved : place a < length rest → get_or rest (place a) 0 ≡ get_or nodes (length nodes - 1) 0)
     (kept : (k : ℕ) → k ≢ place a → k < length rest → get_or rest k 0 ≡ get_or nodes k 0)
     (now_moved : place a < length rest → now (get_or nodes (length nodes - 1) 0) ≡ place a)
@@ -150,7 +153,8 @@ module _ (nodes rest : List ℕ) (place now : ℕ → ℕ) (seed : ℕ → Optio
   stays_within : (x : ℕ) → is_some (put seed a None x) ≡ true → x ≢ last → place x < length rest
   stays_within x some ne =
       let low : place x < length nodes = h.within x (was_seeded x some) in
-      let off : place x ≢ length rest = λ q. ne (sym (h.there x (was_seeded x some)) ∙ ap (λ k. get_or nodes k 0) (let e : place x ≡ length nodes - 1 = omega (arith, q, len) in e)) in
+      let off : place x ≢ length rest = λ q. ne (sym (h.there x (was_seeded x some))
+      ∙ ap (λ k. get_or nodes k 0) (let e : place x ≡ length nodes - 1 = omega (arith, q, len) in e)) in
       omega (arith, low, off, len)
 
   keeps_seed : (x : ℕ) → x ≢ a → is_some (seed x) ≡ true → is_some (put seed a None x) ≡ true

@@ -11,7 +11,8 @@ use Rattle.alt_forest.proofs.LinkedBoth.{next_with, previous_with, owned_with, o
 use Rattle.alt_forest.proofs.Kept.{placed_less, put_place, put_seed, seeded_within}
 
 -- owners with one node more on the list of v
-pub owned_more : (seeds now : List (Option ℕ)) (n p : ℕ → ℕ) (n2 p2 : List ℕ) (a v front place : ℕ) → AreLinked n p → AreOwned (length seeds) (seed_at seeds) n p → a < length seeds
+pub owned_more : (seeds now : List (Option ℕ)) (n p : ℕ → ℕ) (n2 p2 : List ℕ) (a v front place : ℕ) → AreLinked n p
+    → AreOwned (length seeds) (seed_at seeds) n p → a < length seeds
     → seed_at seeds a ≡ None
     → front ≡ length seeds + v → place ≡ a → now ≡ slice_set seeds a (Some v)
     → link_at n2 ≡ put (put n front place) place (n front) → link_at p2 ≡ put (put p (n front) place) place front → AreOwned (length now) (seed_at now) (link_at n2) (link_at p2)
@@ -27,8 +28,10 @@ owned_more seeds now n p n2 p2 a v front place linked h low none front_is place_
     (owned_with (length seeds) (seed_at seeds) n p linked h a low v (h.alone a low none)))))
 
 -- and with one node less
-pub owned_less : (seeds now : List (Option ℕ)) (n p : ℕ → ℕ) (n2 p2 : List ℕ) (a place : ℕ) → AreLinked n p → AreOwned (length seeds) (seed_at seeds) n p → is_some (seed_at seeds a) ≡ true
-    → place ≡ a → now ≡ slice_set seeds a None → link_at n2 ≡ links_without n p place → link_at p2 ≡ links_without p n place → AreOwned (length now) (seed_at now) (link_at n2) (link_at p2)
+pub owned_less : (seeds now : List (Option ℕ)) (n p : ℕ → ℕ) (n2 p2 : List ℕ) (a place : ℕ) → AreLinked n p → AreOwned (length seeds) (seed_at seeds) n p
+    → is_some (seed_at seeds a) ≡ true
+    → place ≡ a → now ≡ slice_set seeds a None → link_at n2 ≡ links_without n p place → link_at p2 ≡ links_without p n place
+    → AreOwned (length now) (seed_at now) (link_at n2) (link_at p2)
 owned_less seeds now n p n2 p2 a place linked h there place_is set nexts previouses =
     let low : a < length seeds = seeded_within seeds a there in
     let count : length now ≡ length seeds = ap length set ∙ length-set seeds a None in
@@ -52,7 +55,8 @@ none_owned seeds n p none single = record {
   alone = λ a low e. single a;
 }
 
-pub none_placed : (nodes : List ℕ) (places : List ℕ) (seeds : List (Option ℕ)) → nodes ≡ [] → ((a : ℕ) → seed_at seeds a ≡ None) → ArePlaced nodes (place_at places) (seed_at seeds)
+pub none_placed : (nodes : List ℕ) (places : List ℕ) (seeds : List (Option ℕ)) → nodes ≡ [] → ((a : ℕ) → seed_at seeds a ≡ None)
+    → ArePlaced nodes (place_at places) (seed_at seeds)
 none_placed nodes places seeds empty none = record {
   within = λ a some. let no : true ≡ false = sym some ∙ ap (λ (o : Option ℕ). is_some o) (none a) in absurd (cc);
   there = λ a some. let no : true ≡ false = sym some ∙ ap (λ (o : Option ℕ). is_some o) (none a) in absurd (cc);
@@ -84,7 +88,8 @@ module _ (nodes rest places : List ℕ) (seeds : List (Option ℕ)) (a k m : ℕ
   pub moved_within : m < length places
   moved_within = omega (arith, sizes, seeded_within seeds m (ap (λ x. is_some (seed_at seeds x)) m_last ∙ h.seeded (length nodes - 1) (omega (arith, len))))
 
-  pub taken_moved : ((j : ℕ) → j ≢ k → j + 1 < length nodes → get_or rest j 0 ≡ get_or nodes j 0) → ArePlaced rest (place_at (slice_set places m k)) (seed_at (slice_set seeds a None))
+  pub taken_moved : ((j : ℕ) → j ≢ k → j + 1 < length nodes → get_or rest j 0 ≡ get_or nodes j 0)
+      → ArePlaced rest (place_at (slice_set places m k)) (seed_at (slice_set seeds a None))
   taken_moved kept =
       subst (ArePlaced rest (place_at (slice_set places m k))) (sym (put_seed seeds a None (seeded_within seeds a there)))
       (subst (λ (f : ℕ → ℕ). ArePlaced rest f (put (seed_at seeds) a None)) (sym (put_place places m k moved_within))
@@ -95,7 +100,8 @@ module _ (nodes rest places : List ℕ) (seeds : List (Option ℕ)) (a k m : ℕ
       (λ x ne. put_other (place_at places) m k x (λ q. ne (q ∙ m_last)))))
 
 -- what is taken away, and the rest, are all that there was
-pub parted : (nodes rest : List ℕ) (k x a : ℕ) → k < length nodes → x ≡ slice_index_or nodes k x → get_or nodes k 0 ≡ a → rest ≡ swap_remove nodes k x → IsPermutation nodes (a ∷ rest)
+pub parted : (nodes rest : List ℕ) (k x a : ℕ) → k < length nodes → x ≡ slice_index_or nodes k x → get_or nodes k 0 ≡ a → rest ≡ swap_remove nodes k x
+    → IsPermutation nodes (a ∷ rest)
 parted nodes rest k x a within at here is =
     let same : x ≡ a = get_or_read nodes k x within at 0 ∙ here in
     let one : IsPermutation nodes (x ∷ rest) = subst (λ (xs : List ℕ). IsPermutation nodes (x ∷ xs)) (sym is) (IsPermutation-swap_remove nodes k x within at) in

@@ -240,7 +240,8 @@ module _ (count : ℕ) (seed : ℕ → Option ℕ) (next previous : ℕ → ℕ)
             next_else next previous front a linked differ alone x ne other ∙ h.alone x below (sym (put_other seed a (Some v) x ne) ∙ none)
 
 -- links lead to places within, since a place past them leads to itself
-pub link_within : (next previous : List ℕ) (a : ℕ) → ((x : ℕ) → link_at previous (link_at next x) ≡ x) → length previous ≡ length next → a < length next → link_at next a < length next
+pub link_within : (next previous : List ℕ) (a : ℕ) → ((x : ℕ) → link_at previous (link_at next x) ≡ x) → length previous ≡ length next → a < length next
+    → link_at next a < length next
 link_within next previous a back len low = ⊎_elim
     (λ (within : link_at next a < length next). within)
     (λ (past : length next ≤ link_at next a).

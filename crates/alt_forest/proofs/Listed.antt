@@ -49,7 +49,8 @@ room_left n nodes seeds a h low high free =
         (λ t. let r = holds_all (λ c. (1 ≤ c) × (c ≤ node_limit n)) nodes v h.in_range (sym (or_second (eqb a v) (holds nodes v) t) ∙ e) in is_number (node_limit n) v r.0 r.1)
 
 -- one node more, with its seed
-pub listed_more : (n : ℕ) (nodes : List ℕ) (seeds : List (Option ℕ)) (a w : ℕ) → AreListed n nodes seeds → 1 ≤ a → a ≤ node_limit n → a < length seeds → is_some (seed_at seeds a) ≡ false
+pub listed_more : (n : ℕ) (nodes : List ℕ) (seeds : List (Option ℕ)) (a w : ℕ) → AreListed n nodes seeds → 1 ≤ a → a ≤ node_limit n → a < length seeds
+    → is_some (seed_at seeds a) ≡ false
     → AreListed n (nodes ++ a ∷ []) (slice_set seeds a (Some w))
 listed_more n nodes seeds a w h low high place free = record {
   different = distinct_from_new (nodes ++ a ∷ []) (new-append nodes (a ∷ []) (new_from_distinct nodes h.different) (refl, tt) (λ v e. apart v e));
@@ -73,7 +74,8 @@ listed_more n nodes seeds a w h low high place free = record {
     seeds_of : (c : ℕ) → is_some (seed_at (slice_set seeds a (Some w)) c) ≡ holds (nodes ++ a ∷ []) c
     seeds_of c = by_test (eqb a c)
         (λ t. let same : a ≡ c = eqb-true a c t in
-        ap (λ k. is_some (seed_at (slice_set seeds a (Some w)) k)) (sym same) ∙ ap (λ (o : Option ℕ). is_some o) (get_or-set_same seeds a (Some w) None place) ∙ sym (holds_last nodes a)
+        ap (λ k. is_some (seed_at (slice_set seeds a (Some w)) k)) (sym same)
+        ∙ ap (λ (o : Option ℕ). is_some o) (get_or-set_same seeds a (Some w) None place) ∙ sym (holds_last nodes a)
         ∙ ap (holds (nodes ++ a ∷ [])) same)
         (λ t. ap (λ (o : Option ℕ). is_some o) (get_or-set_other seeds a c (Some w) None (λ q. eqb-false a c t (sym q))) ∙ h.seeded c ∙ sym (holds_else nodes a c t))
 
@@ -99,7 +101,8 @@ listed_less n nodes rest seeds a h same place = record {
       (list_any-IsPermutation (λ m. eqb m v) nodes (a ∷ rest) same ∙ later_in a rest v e));
   seeded = λ c. by_test (eqb a c)
       (λ t. let one : a ≡ c = eqb-true a c t in
-      ap (λ k. is_some (seed_at (slice_set seeds a None) k)) (sym one) ∙ ap (λ (o : Option ℕ). is_some o) (get_or-set_same seeds a None None place) ∙ sym all.0 ∙ ap (holds rest) one)
+      ap (λ k. is_some (seed_at (slice_set seeds a None) k)) (sym one) ∙ ap (λ (o : Option ℕ). is_some o) (get_or-set_same seeds a None None place)
+      ∙ sym all.0 ∙ ap (holds rest) one)
       (λ t. ap (λ (o : Option ℕ). is_some o) (get_or-set_other seeds a c None None (λ q. eqb-false a c t (sym q))) ∙ h.seeded c
       ∙ list_any-IsPermutation (λ m. eqb m c) nodes (a ∷ rest) same ∙ or_second (eqb a c) (holds rest c) t);
 }

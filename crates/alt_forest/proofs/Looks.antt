@@ -49,9 +49,11 @@ weigh_but p w x n low high passes =
     omega (arith, parts, both, one)
 
 -- different vertices that pass one test and not a narrower one
-pub weigh_less : (g : Multigraph) (p q : ℕ → Bool) (n : ℕ) (vs : List ℕ) → AllNew vs → ((v : ℕ) → holds vs v ≡ true → is_vertex n v ≡ true) → ((v : ℕ) → holds vs v ≡ true → p v ≡ true)
+pub weigh_less : (g : Multigraph) (p q : ℕ → Bool) (n : ℕ) (vs : List ℕ) → AllNew vs → ((v : ℕ) → holds vs v ≡ true → is_vertex n v ≡ true)
+    → ((v : ℕ) → holds vs v ≡ true → p v ≡ true)
     → ((v : ℕ) → holds vs v ≡ true → q v ≡ false)
-    → ((a : ℕ) → is_vertex n a ≡ true → q a ≡ true → p a ≡ true) → weigh q (λ v. length (edges_around g v)) n + ends_around g vs ≤ weigh p (λ v. length (edges_around g v)) n
+    → ((a : ℕ) → is_vertex n a ≡ true → q a ≡ true → p a ≡ true)
+    → weigh q (λ v. length (edges_around g v)) n + ends_around g vs ≤ weigh p (λ v. length (edges_around g v)) n
 weigh_less g p q n [] new vertex passes fails within = omega (arith, weigh_le p q (λ v. length (edges_around g v)) n (λ a low high e. within a (range_vertex n a low high) e))
 weigh_less g p q n (x ∷ xs) new vertex passes fails within =
     let range = vertex_range n x (vertex x (first_in x xs)) in

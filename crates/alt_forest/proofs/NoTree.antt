@@ -29,7 +29,8 @@ none_queued s out clock none = record {
   empty = λ no item. none item;
 }
 
-pub none_standing : (s : Search) → ((a : ℕ) → label_at s.labels.items a ≡ Out) → ((a : ℕ) → label_at s.arena.motions a ≡ Out) → AreListed s.graph.vertices s.standing.nodes s.standing.seeds
+pub none_standing : (s : Search) → ((a : ℕ) → label_at s.labels.items a ≡ Out) → ((a : ℕ) → label_at s.arena.motions a ≡ Out)
+    → AreListed s.graph.vertices s.standing.nodes s.standing.seeds
     → IsStanding s
 none_standing s out rest listed = record {
   listed = listed;

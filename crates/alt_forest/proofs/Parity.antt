@@ -70,7 +70,8 @@ even_slack s e q = let p = slack_parity s e in plain (slack_of s e) (dual_sum s 
     plain x c d k l e f = ((d +ℤ l) +ℤ k, omega (arith, ints))
 
 -- A relation of vertices that the edges of rings keep relates all vertices of one node.
-module _ (g : Multigraph) (R : ℕ → ℕ → Type 0) (same : (u : ℕ) → R u u) (turn : (u v : ℕ) → R u v → R v u) (join : (u v w : ℕ) → R u v → R v w → R u w) (graph : IsGraph g) where
+module _ (g : Multigraph) (R : ℕ → ℕ → Type 0) (same : (u : ℕ) → R u u) (turn : (u v : ℕ) → R u v → R v u)
+    (join : (u v w : ℕ) → R u v → R v w → R u w) (graph : IsGraph g) where
   abbrev pub Keeps : Link → Type 0
   Keeps l = R (edge_of g l.edge).u (edge_of g l.edge).v
 
@@ -88,11 +89,13 @@ module _ (g : Multigraph) (R : ℕ → ℕ → Type 0) (same : (u : ℕ) → R u
       j
 
   at_next : (bs : List Blossom) (z x : ℕ) → IsOneClass bs → is_vertex g.vertices x ≡ true → outermost bs x ≡ z → (ks : List Link)
-      → ((w : ℕ) → is_vertex g.vertices w ≡ true → in_ring ks (outermost bs w) ≡ true → R w x) → (w : ℕ) → is_vertex g.vertices w ≡ true → outermost bs w ≡ next_node ks z → R w x
+      → ((w : ℕ) → is_vertex g.vertices w ≡ true → in_ring ks (outermost bs w) ≡ true → R w x) → (w : ℕ) → is_vertex g.vertices w ≡ true
+      → outermost bs w ≡ next_node ks z → R w x
   at_next bs z x one ix ex [] h w iw e = one w x iw ix (e ∙ sym ex)
   at_next bs z x one ix ex (k ∷ ks) h w iw e = h w iw (or_left (eqb k.node (outermost bs w)) (in_ring ks (outermost bs w)) (eq-eqb k.node (outermost bs w) (sym e)))
 
-  along : (bs : List Blossom) (z x : ℕ) → IsOneClass bs → is_vertex g.vertices x ≡ true → outermost bs x ≡ z → (ring : List Link) → IsChainTo g bs ring z → AllByRecursion Keeps ring
+  along : (bs : List Blossom) (z x : ℕ) → IsOneClass bs → is_vertex g.vertices x ≡ true → outermost bs x ≡ z → (ring : List Link)
+      → IsChainTo g bs ring z → AllByRecursion Keeps ring
       → (v : ℕ) → is_vertex g.vertices v ≡ true → in_ring ring (outermost bs v) ≡ true → R v x
   along bs z x one ix ex [] chain keeps v iv r = absurd (both_ways false refl r)
   along bs z x one ix ex (l ∷ rest) chain keeps v iv r =
@@ -124,7 +127,8 @@ module _ (g : Multigraph) (R : ℕ → ℕ → Type 0) (same : (u : ℕ) → R u
           (turn v x (along bs l.node x one ix ex (l ∷ rest) chain keeps v iv rv))
 
   class_step : (b : Blossom) (older : List Blossom) → IsNested g.vertices (b ∷ older) → HasRings g (b ∷ older) → AllByRecursion Keeps b.ring → IsOneClass older
-      → (u v : ℕ) → is_vertex g.vertices u ≡ true → is_vertex g.vertices v ≡ true → (p q : Bool) → in_ring b.ring (outermost older u) ≡ p → in_ring b.ring (outermost older v) ≡ q
+      → (u v : ℕ) → is_vertex g.vertices u ≡ true → is_vertex g.vertices v ≡ true → (p q : Bool) → in_ring b.ring (outermost older u) ≡ p
+      → in_ring b.ring (outermost older v) ≡ q
       → cond p b.node (outermost older u) ≡ cond q b.node (outermost older v) → R u v
   class_step b older h rings keeps before u v iu iv true true ru rv e = round older before b.ring rings.0 keeps u v iu iv ru rv
   class_step b older h rings keeps before u v iu iv true false ru rv e = absurd (both_ways (is_node g.vertices older b.node) h.0.fresh
@@ -148,7 +152,8 @@ module _ (s : State) (depth : ℕ → ℕ) (nested : IsNested s.graph.vertices s
   abbrev Agree : ℕ → ℕ → Type 0
   Agree u v = SameParity (dual_sum s u) (dual_sum s v)
 
-  tight_ring : (ring : List Link) → AllByRecursion (λ (l : Link). IsTight s l.edge) ring → AllByRecursion (λ (l : Link). Agree (edge_of s.graph l.edge).u (edge_of s.graph l.edge).v) ring
+  tight_ring : (ring : List Link) → AllByRecursion (λ (l : Link). IsTight s l.edge) ring
+      → AllByRecursion (λ (l : Link). Agree (edge_of s.graph l.edge).u (edge_of s.graph l.edge).v) ring
   tight_ring [] t = tt
   tight_ring (l ∷ ring) t = (tight_parity s l.edge t.0.tight, tight_ring ring t.1)
 

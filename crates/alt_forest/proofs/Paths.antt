@@ -77,7 +77,8 @@ path_enough (suc k) s a h = ap (λ j. path_within j s a) (add-one (suc k)) ∙ b
     ∙ sym (ap (λ t. cond t [] (a ∷ path_within k s (up_of s a))) some))
 
 -- the path of a node is the node, and the path of the next
-pub path_of-step : (s : State) (depth : ℕ → ℕ) (a : ℕ) → IsNested s.graph.vertices s.blossoms → IsSearchState s depth → IsOutermost s a → a ≢ 0 → path_of s a ≡ a ∷ path_of s (up_of s a)
+pub path_of-step : (s : State) (depth : ℕ → ℕ) (a : ℕ) → IsNested s.graph.vertices s.blossoms → IsSearchState s depth → IsOutermost s a → a ≢ 0
+    → path_of s a ≡ a ∷ path_of s (up_of s a)
 path_of-step s depth a nested h is ne =
     let n : ℕ = node_limit s.graph.vertices in
     let steps : n + 1 ≢ 0 = λ e. absurd (omega (arith, e)) in

@@ -30,7 +30,8 @@ use Rattle.alt_forest.proofs.Seeds.{AreTrees, roots_are_trees, tree_root}
 use Rattle.alt_forest.proofs.Walk.{other_node_joins}
 
 -- an edge with no end among the vertices of an outermost node leads past that node
-pub past_node : (s : State) (v e : ℕ) → IsGraph s.graph → IsNested s.graph.vertices s.blossoms → IsEdgeNumber s.graph e → touches_any (members_of s.blossoms v) (edge_of s.graph e) ≡ false
+pub past_node : (s : State) (v e : ℕ) → IsGraph s.graph → IsNested s.graph.vertices s.blossoms → IsEdgeNumber s.graph e
+    → touches_any (members_of s.blossoms v) (edge_of s.graph e) ≡ false
     → (node_u s.graph s.blossoms e ≢ v) × (node_v s.graph s.blossoms e ≢ v)
 past_node s v e graph nested is none =
     let u = outermost_has s.graph.vertices s.blossoms (edge_of s.graph e).u nested (u_vertex s.graph e graph.ends is) in
@@ -120,7 +121,8 @@ module _ (s : State) (v : ℕ) (nested : IsNested s.graph.vertices s.blossoms) (
       by_product k a b x y z first second = omega (arith, first, mul-le-mul_left k second)
 
 -- a new root has itself, and all other nodes keep their root
-module _ (s : State) (depth : ℕ → ℕ) (v : ℕ) (nested : IsNested s.graph.vertices s.blossoms) (st : IsSearchState s depth) (exposed : s.mate v ≡ None) (out : s.label v ≡ Out) where
+module _ (s : State) (depth : ℕ → ℕ) (v : ℕ) (nested : IsNested s.graph.vertices s.blossoms) (st : IsSearchState s depth) (exposed : s.mate v ≡ None)
+    (out : s.label v ≡ Out) where
   abbrev pub grown : State
   grown = with_labels s (put s.label v Outer)
 
@@ -161,7 +163,8 @@ module _ (s : State) (depth : ℕ → ℕ) (v : ℕ) (nested : IsNested s.graph.
         (λ t. let same : a ≡ v = eqb-true a v t in said_here a same ∙ sym same)
         (λ t.
         let other : a ≢ v = eqb-false a v t in
-        said_else a other ∙ (roots_are_trees s depth nested st).root a (record { outermost = r.outermost; outer = sym (put_other s.label v Outer a other) ∙ r.outer; exposed = r.exposed }));
+        said_else a other ∙ (roots_are_trees s depth nested st).root a
+        (record { outermost = r.outermost; outer = sym (put_other s.label v Outer a other) ∙ r.outer; exposed = r.exposed }));
     step = λ a e b is in_it b_is b_in way number j ne. by_test (eqb a v)
         (λ t. some_not_none e (sym way ∙ edge_here a (eqb-true a v t)))
         (λ t.
@@ -202,7 +205,8 @@ module _ (s l a t : Search) (v : ℕ) (is : t ≡ record s { arena = record s.ar
   })
 
   pub planted_standing : (w : ℕ) → is_vertex s.graph.vertices w ≡ true → outermost s.arena.blossoms w ≡ v → AreListed s.graph.vertices a.standing.nodes a.standing.seeds
-      → seed_at a.standing.seeds ≡ put (seed_at s.standing.seeds) v (Some w) → label_at a.arena.motions ≡ put (label_at s.arena.motions) v (label_at l.labels.items v) → IsStanding s
+      → seed_at a.standing.seeds ≡ put (seed_at s.standing.seeds) v (Some w)
+      → label_at a.arena.motions ≡ put (label_at s.arena.motions) v (label_at l.labels.items v) → IsStanding s
       → IsStanding t
   planted_standing w vertex within listed seeds motions h = subst IsStanding (sym is) (record {
     listed = listed;
@@ -246,7 +250,8 @@ module _ (s l a t : Search) (v : ℕ) (is : t ≡ record s { arena = record s.ar
     moves = λ x outer. ap (λ (f : ℕ → Label). f x) motions ∙ by_test (eqb x v)
         (λ q.
         let same : x ≡ v = eqb-true x v q in
-        ap (put (label_at s.arena.motions) v (label_at l.labels.items v)) same ∙ put_here (label_at s.arena.motions) v (label_at l.labels.items v) ∙ sym (ap (label_at l.labels.items) same))
+        ap (put (label_at s.arena.motions) v (label_at l.labels.items v)) same ∙ put_here (label_at s.arena.motions) v (label_at l.labels.items v)
+        ∙ sym (ap (label_at l.labels.items) same))
         (λ q.
         let other : x ≢ v = eqb-false x v q in
         put_other (label_at s.arena.motions) v (label_at l.labels.items v) x other ∙ h.moves x outer
@@ -262,7 +267,8 @@ module _ (s l a t : Search) (v : ℕ) (is : t ≡ record s { arena = record s.ar
       nested : IsNested s.graph.vertices s.arena.blossoms
       nested = nested_of s sound.shape
 
-      root_now : (x : ℕ) → IsOutermost old x → label_at l.labels.items x ≢ Out → root_of (with_labels old (label_at l.labels.items)) x ≡ said old depth v nested sound.state exposed.1 out x
+      root_now : (x : ℕ) → IsOutermost old x → label_at l.labels.items x ≢ Out
+          → root_of (with_labels old (label_at l.labels.items)) x ≡ said old depth v nested sound.state exposed.1 out x
       root_now x outer ne =
           ap (λ f. root_of (with_labels old f) x) labels
           ∙ grown_root old depth v nested sound.state exposed.1 out x outer (λ p. ne (ap (λ f. f x) labels ∙ p))

@@ -47,7 +47,8 @@ mate_with s label a e b m = record { edge = m.edge; joins = m.joins; different =
 pub mate_without : (s : State) (label : ℕ → Label) (a e b : ℕ) → IsMate (with_labels s label) a e b → IsMate s a e b
 mate_without s label a e b m = record { edge = m.edge; joins = m.joins; different = m.different; tight = m.tight; outermost = m.outermost; back = m.back }
 
-pub inner_with : (s : State) (label : ℕ → Label) (depth : ℕ → ℕ) (a : ℕ) → (i : IsInner s depth a) → label i.up ≡ Outer → label i.child ≡ Outer → IsInner (with_labels s label) depth a
+pub inner_with : (s : State) (label : ℕ → Label) (depth : ℕ → ℕ) (a : ℕ) → (i : IsInner s depth a) → label i.up ≡ Outer → label i.child ≡ Outer
+    → IsInner (with_labels s label) depth a
 inner_with s label depth a i up child = record {
   edge = i.edge;
   up = i.up;

@@ -117,7 +117,8 @@ module _ (s : State) (depth : ℕ → ℕ) (nested : IsNested s.graph.vertices s
           (or_cases (eqb a x) false (sym (ap (λ xs. holds xs x) (path_root a r)) ∙ e))
 
       along : {b : ℕ} → up_of s a ≡ b → (x : ℕ) → holds (path_of s a) x ≡ true → (P : ℕ → Type 0) → P a → (holds (path_of s b) x ≡ true → P x) → P x
-      along {b} up x e P pa rest = ⊎_elim (λ here. subst P (eqb-true a x here) pa) rest (or_cases (eqb a x) (holds (path_of s b) x) (sym (ap (λ xs. holds xs x) (path_up a b is up)) ∙ e))
+      along {b} up x e P pa rest = ⊎_elim (λ here. subst P (eqb-true a x here) pa) rest
+          (or_cases (eqb a x) (holds (path_of s b) x) (sym (ap (λ xs. holds xs x) (path_up a b is up)) ∙ e))
 
   -- the vertices of a node have the parity of its root's
   pub root_parity : IsGraph s.graph → (k a : ℕ) → depth a < k → IsOutermost s a → s.label a ≢ Out → NodesAgree s a (root_of s a)

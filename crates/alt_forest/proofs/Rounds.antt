@@ -60,7 +60,8 @@ module _ (ring front : List Link) (base : Link) (behind : List Link) (split : ri
             (or_cases (in_ring behind c) (in_ring front c) (sym (round_in c) ∙ e));
         all = λ c e. ⊎_elim
             (λ r. inr (round_in c ∙ or_right (in_ring behind c) (in_ring front c) r))
-            (λ r. ⊎_elim (λ q. inl (sym (eqb-true base.node c q))) (λ q. inr (round_in c ∙ or_left (in_ring behind c) (in_ring front c) q)) (or_cases (eqb base.node c) (in_ring behind c) r))
+            (λ r. ⊎_elim (λ q. inl (sym (eqb-true base.node c q))) (λ q. inr (round_in c ∙ or_left (in_ring behind c) (in_ring front c) q))
+            (or_cases (eqb base.node c) (in_ring behind c) r))
             (or_cases (in_ring front c) (in_ring (base ∷ behind) c) (sym (ring_in c) ∙ e));
         size =
             let whole : length ring ≡ length front + length (base ∷ behind) = ap length split ∙ length-append front (base ∷ behind) in

@@ -1,7 +1,7 @@
 -- Two ways to roots: once they have come together they stay together, so two that are as long come together at one place.
-use Rattle.std.proofs.Common.{◌≡◌, ◌≢◌, ◌↔◌, ℕ, zero, suc, ◌+◌, ◌-◌, ◌<◌, ◌≤◌, true, false, ◌||◌, eqb, leb, cond, List, [], ◌∷◌, length, drop, Option, Some, None, refl, sym, ap, ap₂}
-use Rattle.std.proofs.Common.{◌∙◌, subst, arith, ⊎_elim}
-use Rattle.std.specs.Prelude.{MatchOption}
+use Rattle.std.proofs.Common.{◌≡◌, ◌≢◌, ◌↔◌, ℕ, zero, suc, ◌+◌, ◌-◌, ◌<◌, ◌≤◌, true, false, ◌||◌, eqb, leb, cond, List, [], ◌∷◌, length, drop}
+use Rattle.std.proofs.Common.{take, Option, Some, None, refl, sym, ap, ap₂, ◌∙◌, subst, arith, ⊎_elim}
+use Rattle.std.specs.Prelude.{MatchOption, IfSome}
 use Rattle.std.proofs.lemmas.List.{drop-drop}
 use Rattle.std.proofs.lemmas.Bool.{leb-true, leb-false, or_cases, or_from, or_left, or_right, both_ways, eqb-true, eqb-false, eq-eqb, ne_eqb, false_from_ne_true}
 use Rattle.graph_theory.specs.Parts.{holds}
@@ -10,10 +10,13 @@ use Rattle.blossom_arena.specs.Family.{IsNested}
 use Rattle.blossom_arena.proofs.Tails.{last_cons_in}
 use Rattle.alt_forest.specs.State.{State, IsOutermost, IsSearchState}
 use Rattle.alt_forest.specs.Trees.{first_common, last_of, path_of, up_of, node_limit}
-use Rattle.alt_forest.specs.Routes.{AreLevel}
+use Rattle.alt_forest.specs.Routes.{AreLevel, IsAt}
 use Rattle.alt_forest.proofs.Relabelled.{some_not_none}
 use Rattle.alt_forest.proofs.Walk.{path_none, up_falls}
-use Rattle.alt_forest.proofs.Paths.{path_of-step}
+use Rattle.alt_forest.specs.declared.search.Search.{Search}
+use Rattle.alt_forest.specs.Searches.{IsSound, state_of}
+use Rattle.alt_forest.proofs.Places.{nested_of}
+use Rattle.alt_forest.proofs.Paths.{path_short, path_of-step}
 use Rattle.std.proofs.lemmas.Option.{same_Some}
 
 -- from each of its numbers on, the list is the route of that number
@@ -73,14 +76,16 @@ record IsCut (route : ℕ → List ℕ) (whole cut ys : List ℕ) : Type 0 where
   size : length cut ≡ length ys
 
 module _ (route : ℕ → List ℕ) where
-  cut_left : (k : ℕ) (xs ys : List ℕ) → IsRoute route xs → IsRoute route ys → length xs ≡ k + length ys → IsCut route xs (drop k xs) ys × (first_common (drop k xs) ys ≡ first_common xs ys)
+  cut_left : (k : ℕ) (xs ys : List ℕ) → IsRoute route xs → IsRoute route ys → length xs ≡ k + length ys
+      → IsCut route xs (drop k xs) ys × (first_common (drop k xs) ys ≡ first_common xs ys)
   cut_left zero xs ys rx ry e = (record { routes = rx; size = omega (arith, e) }, refl)
   cut_left (suc k) [] ys rx ry e = absurd (omega (arith, e))
   cut_left (suc k) (x ∷ xs) ys rx ry e =
       let rest = cut_left k xs ys rx.1 ry (omega (arith, e)) in
       (record { routes = rest.0.routes; size = rest.0.size }, rest.1 ∙ sym (ap (λ t. cond t (Some x) (first_common xs ys)) (head_apart route x xs ys rx ry (omega (arith, e)))))
 
-  cut_right : (k : ℕ) (xs ys : List ℕ) → IsRoute route xs → IsRoute route ys → length ys ≡ k + length xs → IsCut route ys (drop k ys) xs × (first_common xs (drop k ys) ≡ first_common xs ys)
+  cut_right : (k : ℕ) (xs ys : List ℕ) → IsRoute route xs → IsRoute route ys → length ys ≡ k + length xs
+      → IsCut route ys (drop k ys) xs × (first_common xs (drop k ys) ≡ first_common xs ys)
   cut_right zero xs ys rx ry e = (record { routes = ry; size = omega (arith, e) }, refl)
   cut_right (suc k) xs [] rx ry e = absurd (omega (arith, e))
   cut_right (suc k) xs (y ∷ ys) rx ry e =
@@ -88,7 +93,8 @@ module _ (route : ℕ → List ℕ) where
       (record { routes = rest.0.routes; size = rest.0.size }, rest.1 ∙ sym (common_skip xs ys y (head_apart route y ys xs ry rx (omega (arith, e)))))
 
   pub levelled : (xs ys : List ℕ) → IsRoute route xs → IsRoute route ys
-      → AreLevel (drop (length xs - length ys) xs) (drop (length ys - length xs) ys) × (first_common (drop (length xs - length ys) xs) (drop (length ys - length xs) ys) ≡ first_common xs ys)
+      → AreLevel (drop (length xs - length ys) xs) (drop (length ys - length xs) ys)
+      × (first_common (drop (length xs - length ys) xs) (drop (length ys - length xs) ys) ≡ first_common xs ys)
   levelled xs ys rx ry = by_test (leb (length xs) (length ys))
       (λ t.
       let low : length xs ≤ length ys = leb-true (length xs) (length ys) t in
@@ -143,19 +149,69 @@ left_after (Some x) xs ys e = sym (ap (drop 1) e)
 pub drop_more : (o : Option ℕ) (zs xs ys : List ℕ) (k : ℕ) → MatchOption o ((xs ≡ []) × (ys ≡ [])) (λ x. xs ≡ x ∷ ys) → xs ≡ drop k zs → ys ≡ drop (k + 1) zs
 drop_more o zs xs ys k e at = left_after o xs ys e ∙ ap (drop 1) at ∙ drop-drop 1 k zs
 
+-- what stands at a place
+pub at_drop : (k : ℕ) (xs : List ℕ) (y : ℕ) (ys : List ℕ) → drop k xs ≡ y ∷ ys → IsAt xs k y
+at_drop zero [] y ys e = absurd (omega (arith, ap length e))
+at_drop zero (x ∷ xs) y ys e = cc
+at_drop (suc k) [] y ys e = absurd (omega (arith, ap length e))
+at_drop (suc k) (x ∷ xs) y ys e = at_drop k xs y ys e
+
+pub at_within : (xs : List ℕ) (k x : ℕ) → IsAt xs k x → k < length xs
+at_within [] k x e = absurd e
+at_within (y ∷ ys) zero x e = omega arith
+at_within (y ∷ ys) (suc k) x e = omega (arith, at_within ys k x e)
+
+-- a route from a place on is that of the number there
+pub route_at : (route : ℕ → List ℕ) (xs : List ℕ) (k x : ℕ) → IsRoute route xs → IsAt xs k x → length xs ≡ k + length (route x)
+route_at route [] k x r e = absurd e
+route_at route (y ∷ ys) zero x r e = let same : y ∷ ys ≡ route x = r.0 ∙ ap route e in omega (arith, ap length same)
+route_at route (y ∷ ys) (suc k) x r e = omega (arith, route_at route ys k x r.1 e)
+
+-- a call of an iterator after k others, which it has answered
+pub record IsCounted (zs xs : List ℕ) (k : ℕ) : Type 0 where
+  pub rest : xs ≡ drop k zs
+  pub so_far : k + length xs ≡ length zs
+
+pub counted_on : (zs xs ys : List ℕ) (k x : ℕ) → xs ≡ x ∷ ys → IsCounted zs xs k → IsCounted zs ys (k + 1)
+counted_on zs xs ys k x e c = record { rest = drop_more (Some x) zs xs ys k e c.rest; so_far = omega (arith, c.so_far, ap length e) }
+
+pub counted_next : (o : Option ℕ) (zs xs ys : List ℕ) (k n : ℕ) → MatchOption o ((xs ≡ []) × (ys ≡ [])) (λ y. xs ≡ y ∷ ys) → xs ≡ drop k zs → k ≡ n
+    → IfSome o (λ x. (n ≡ n) × IsAt zs n x)
+counted_next None zs xs ys k n e rest last = tt
+counted_next (Some y) zs xs ys k n e rest last = (refl, subst (λ j. IsAt zs j y) last (at_drop k zs y ys (sym rest ∙ e)))
+
+pub found_at : (o : Option ℕ) (zs xs ys : List ℕ) (k x : ℕ) → MatchOption o ((xs ≡ []) × (ys ≡ [])) (λ y. xs ≡ y ∷ ys) → o ≡ Some x → xs ≡ drop k zs → IsAt zs k x
+found_at None zs xs ys k x e has rest = some_not_none x (sym has)
+found_at (Some y) zs xs ys k x e has rest = at_drop k zs x ys (sym rest ∙ e ∙ ap (λ z. z ∷ ys) (same_Some y x has))
+
+take_none : (n : ℕ) → take {A = ℕ} n [] ≡ []
+take_none zero = refl
+take_none (suc n) = refl
+
+-- among the next numbers is what is sought, if it is not the first of them and comes later
+pub sought_on : (o : Option ℕ) (xs ys : List ℕ) (m n x : ℕ) → MatchOption o ((xs ≡ []) × (ys ≡ [])) (λ y. xs ≡ y ∷ ys) → o ≢ Some x → n ≡ m + 1
+    → holds (take m ys) x ≡ holds (take n xs) x
+sought_on o xs ys m zero x e ne one = absurd (omega (arith, one))
+sought_on None xs ys m (suc n) x e ne one = ap (λ p. holds (take m p) x) e.1 ∙ ap (λ p. holds p x) (take_none m) ∙ sym (ap (λ p. holds (take (suc n) p) x) e.0)
+sought_on (Some y) xs ys m (suc n) x e ne one =
+    let less : m ≡ n = omega (arith, one) in
+    ap (λ k. holds (take k ys) x) less ∙ sym (ap (λ p. holds (take (suc n) p) x) e ∙ ap (λ t. t || holds (take n ys) x) (ne_eqb y x (λ same. ne (ap Some same))))
+
 -- a round of the search for the first common number
 pub record IsSearched (xs ys : List ℕ) (found : Option ℕ) : Type 0 where
   pub level : AreLevel xs ys
   pub same : first_common xs ys ≡ found
 
-pub shared_step : (o : Option ℕ) (x : ℕ) (xs ys zs rest : List ℕ) (found : Option ℕ) → xs ≡ x ∷ rest → MatchOption o ((ys ≡ []) × (zs ≡ [])) (λ y. ys ≡ y ∷ zs) → o ≢ Some x
+pub shared_step : (o : Option ℕ) (x : ℕ) (xs ys zs rest : List ℕ) (found : Option ℕ) → xs ≡ x ∷ rest
+    → MatchOption o ((ys ≡ []) × (zs ≡ [])) (λ y. ys ≡ y ∷ zs) → o ≢ Some x
     → IsSearched xs ys found → IsSearched rest zs found
 shared_step None x xs ys zs rest found e f ne s = absurd (subst (λ k. AreLevel k []) e (subst (AreLevel xs) f.0 s.level))
 shared_step (Some y) x xs ys zs rest found e f ne s =
     let level : AreLevel (x ∷ rest) (y ∷ zs) = subst (λ k. AreLevel k (y ∷ zs)) e (subst (AreLevel xs) f s.level) in
     record { level = level.1; same = sym (level_step x rest y zs level (λ t. ne (ap Some (sym t)))) ∙ sym (ap₂ first_common e f) ∙ s.same }
 
-pub shared_end : (o : Option ℕ) (x : ℕ) (xs ys zs rest : List ℕ) (found : Option ℕ) → xs ≡ x ∷ rest → MatchOption o ((ys ≡ []) × (zs ≡ [])) (λ y. ys ≡ y ∷ zs) → o ≡ Some x
+pub shared_end : (o : Option ℕ) (x : ℕ) (xs ys zs rest : List ℕ) (found : Option ℕ) → xs ≡ x ∷ rest
+    → MatchOption o ((ys ≡ []) × (zs ≡ [])) (λ y. ys ≡ y ∷ zs) → o ≡ Some x
     → IsSearched xs ys found → Some x ≡ found
 shared_end None x xs ys zs rest found e f same s = some_not_none x (sym same)
 shared_end (Some y) x xs ys zs rest found e f same s =
@@ -178,3 +234,17 @@ path_route s depth nested h (suc k) a low is = by_test (eqb a 0)
           (λ p. path_route s depth nested h k (up_of s a) (omega (arith, p.1, low)) (λ ne. p.0))
           (up_falls s depth a h (is ne)),
     ))
+
+-- the way from an outermost node of a search is a route, and has few nodes
+pub way_route : (s : Search) (a : ℕ) → IsSound s → IsOutermost (state_of s) a → IsRoute (path_of (state_of s)) (path_of (state_of s) a)
+way_route s a h is = path_route (state_of s) h.depth (nested_of s h.shape) h.state (h.depth a + 1) a (omega arith) (λ ne. is)
+
+pub way_few : (s : Search) (a : ℕ) → IsSound s → IsOutermost (state_of s) a → length (path_of (state_of s) a) ≤ 8192
+way_few s a h is = omega (arith, path_short (node_limit s.graph.vertices + 1) (state_of s) h.depth a (nested_of s h.shape) h.state is, h.shape.graph.limits.vertices)
+
+-- two ways to one node differ as what is left of them from there on
+pub heights_differ : (s : Search) (a b k l x : ℕ) → IsSound s → IsOutermost (state_of s) a → IsOutermost (state_of s) b → IsAt (path_of (state_of s) a) k x
+    → IsAt (path_of (state_of s) b) l x → k + length (path_of (state_of s) b) ≡ l + length (path_of (state_of s) a)
+heights_differ s a b k l x h a_is b_is at_a at_b =
+    let p = path_of (state_of s) in
+    omega (arith, route_at p (p a) k x (way_route s a h a_is) at_a, route_at p (p b) l x (way_route s b h b_is) at_b)

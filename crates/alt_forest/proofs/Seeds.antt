@@ -11,7 +11,8 @@ use Rattle.alt_forest.proofs.Roots.{up_or_root, root_self, root_up}
 -- a root has itself, and a step up in a tree keeps what is said
 pub record AreTrees (s : State) (tree : ℕ → ℕ) : Type 0 where
   pub root : (a : ℕ) → IsRoot s a → tree a ≡ a
-  pub step : (a e b : ℕ) → IsOutermost s a → s.label a ≢ Out → IsOutermost s b → s.label b ≢ Out → up_edge s a ≡ Some e → IsEdgeNumber s.graph e → Joins s.graph s.blossoms e a b → a ≢ b
+  pub step : (a e b : ℕ) → IsOutermost s a → s.label a ≢ Out → IsOutermost s b → s.label b ≢ Out → up_edge s a ≡ Some e → IsEdgeNumber s.graph e
+      → Joins s.graph s.blossoms e a b → a ≢ b
       → tree a ≡ tree b
 
 module _ (s : State) (depth : ℕ → ℕ) (nested : IsNested s.graph.vertices s.blossoms) (st : IsSearchState s depth) where

@@ -22,7 +22,8 @@ total_first y None xs ys k e =
 total_first y (Some x) xs ys k e = sym (ap (λ zs. total_of y (take (suc k) zs)) e)
 
 -- one step: what is added is no longer to come
-pub total_step : (y : ℕ → ℤ) (o : Option ℕ) (xs ys : List ℕ) (n k : ℕ) (sum next dual whole : ℤ) → MatchOption o ((xs ≡ []) × (ys ≡ [])) (λ x. xs ≡ x ∷ ys) → k < n → dual ≡ dual_of y o
+pub total_step : (y : ℕ → ℤ) (o : Option ℕ) (xs ys : List ℕ) (n k : ℕ) (sum next dual whole : ℤ) → MatchOption o ((xs ≡ []) × (ys ≡ [])) (λ x. xs ≡ x ∷ ys)
+    → k < n → dual ≡ dual_of y o
     → next ≡ sum +ℤ dual
     → sum +ℤ total_of y (take (n - k) xs) ≡ whole → next +ℤ total_of y (take (n - (k + 1)) ys) ≡ whole
 total_step y o xs ys n k sum next dual whole e low d s so =
@@ -30,7 +31,8 @@ total_step y o xs ys n k sum next dual whole e low d s so =
     let first : dual_of y o +ℤ total_of y (take (n - (k + 1)) ys) ≡ total_of y (take (n - k) xs) = total_first y o xs ys (n - (k + 1)) e ∙ ap (λ j. total_of y (take j xs)) one in
     omega (arith, ints, first, d, s, so)
 
-pub each_left : (P : ℕ → Type 0) (o : Option ℕ) (xs ys : List ℕ) → MatchOption o ((xs ≡ []) × (ys ≡ [])) (λ x. xs ≡ x ∷ ys) → AllByRecursion P xs → AllByRecursion P ys
+pub each_left : (P : ℕ → Type 0) (o : Option ℕ) (xs ys : List ℕ) → MatchOption o ((xs ≡ []) × (ys ≡ [])) (λ x. xs ≡ x ∷ ys)
+    → AllByRecursion P xs → AllByRecursion P ys
 each_left P None xs ys e each = subst (AllByRecursion P) (sym e.1) tt
 each_left P (Some x) xs ys e each = (subst (AllByRecursion P) e each).1
 

@@ -54,7 +54,8 @@ up_step s depth a e h is has = by_label (s.label a) refl has
     by_label Out lab there = some_not_none e (sym there)
 
 -- the next node towards the root, if there is one, is outermost and of less depth
-pub up_falls : (s : State) (depth : ℕ → ℕ) (a : ℕ) → IsSearchState s depth → IsOutermost s a → (up_of s a ≡ 0) ⊎ (IsOutermost s (up_of s a) × (depth (up_of s a) < depth a))
+pub up_falls : (s : State) (depth : ℕ → ℕ) (a : ℕ) → IsSearchState s depth → IsOutermost s a
+    → (up_of s a ≡ 0) ⊎ (IsOutermost s (up_of s a) × (depth (up_of s a) < depth a))
 up_falls s depth a h is = by_edge (up_edge s a) refl
   where
     by_edge : (o : Option ℕ) → up_edge s a ≡ o → (up_of s a ≡ 0) ⊎ (IsOutermost s (up_of s a) × (depth (up_of s a) < depth a))
@@ -66,7 +67,8 @@ up_falls s depth a h is = by_edge (up_edge s a) refl
 -- a path goes on from the next node
 pub path_step : (k : ℕ) (s : State) (a : ℕ) → k ≢ 0 → a ≢ 0 → path_within k s a ≡ a ∷ path_within (k - 1) s (up_of s a)
 path_step zero s a some ne = absurd (some refl)
-path_step (suc k) s a some ne = ap (λ t. cond t [] (a ∷ path_within k s (up_of s a))) (ne_eqb a 0 ne) ∙ ap (λ j. a ∷ path_within j s (up_of s a)) (let e : k ≡ suc k - 1 = omega arith in e)
+path_step (suc k) s a some ne = ap (λ t. cond t [] (a ∷ path_within k s (up_of s a))) (ne_eqb a 0 ne)
+    ∙ ap (λ j. a ∷ path_within j s (up_of s a)) (let e : k ≡ suc k - 1 = omega arith in e)
 
 -- the path of no node is empty
 pub path_none : (k : ℕ) (s : State) → path_within k s 0 ≡ []

@@ -23,7 +23,8 @@ use Rattle.alt_forest.specs.Searches.{state_of}
 -- between two different outer nodes. Where it needs none, any or none will do.
 pub record NeedsMoment (s : State) (clock : ℤ) (e : ℕ) (m : Option ℤ) : Type 0 where
   pub to_out : (a b : ℕ) → Joins s.graph s.blossoms e a b → s.label a ≡ Outer → s.label b ≡ Out → m ≡ Some (clock +ℤ slack_of s e)
-  pub between : (a b : ℕ) (half : ℤ) → Joins s.graph s.blossoms e a b → a ≢ b → s.label a ≡ Outer → s.label b ≡ Outer → slack_of s e ≡ half +ℤ half → m ≡ Some (clock +ℤ half)
+  pub between : (a b : ℕ) (half : ℤ) → Joins s.graph s.blossoms e a b → a ≢ b → s.label a ≡ Outer → s.label b ≡ Outer → slack_of s e ≡ half +ℤ half
+      → m ≡ Some (clock +ℤ half)
 
 -- an edge has in the queue the moment that it needs
 abbrev pub IsEntered : State → ℤ → Moments → ℕ → Type 0

@@ -25,7 +25,8 @@ TreesHaveParity = (s : State) (depth : ℕ → ℕ) (v w : ℕ) → IsGraph s.gr
 
 -- a tree has one outer node more than inner ones
 abbrev pub TreesBalance : Type 0
-TreesBalance = (s : State) (depth : ℕ → ℕ) (root : ℕ) → IsNested s.graph.vertices s.blossoms → IsSearchState s depth → IsRoot s root → labelled s root Outer ≡ labelled s root Inner + 1
+TreesBalance = (s : State) (depth : ℕ → ℕ) (root : ℕ) → IsNested s.graph.vertices s.blossoms → IsSearchState s depth → IsRoot s root
+    → labelled s root Outer ≡ labelled s root Inner + 1
 
 -- an outermost node that is in a tree or exposed
 abbrev pub IsReached : State → ℕ → Type 0

@@ -1,5 +1,5 @@
 -- Lists that lead upwards. Only clauses of private calls, and values of iterators, cite this module.
-use Rattle.std.specs.Prelude.{◌≡◌, ◌≢◌, ℕ, false, List, [], ◌∷◌}
+use Rattle.std.specs.Prelude.{◌≡◌, ◌≢◌, ℕ, zero, suc, false, List, [], ◌∷◌}
 use Rattle.graph_theory.specs.Parts.{holds}
 use Rattle.alt_forest.specs.declared.search.Search.{Search}
 use Rattle.alt_forest.specs.State.{IsOutermost}
@@ -16,3 +16,9 @@ AreLevel [] [] = Unit {0}
 AreLevel [] (y ∷ ys) = ⊥
 AreLevel (x ∷ xs) [] = ⊥
 AreLevel (x ∷ xs) (y ∷ ys) = (x ≢ y → (holds ys x ≡ false) × (holds xs y ≡ false)) × AreLevel xs ys
+
+-- the list has this number at this place
+abbrev pub IsAt : List ℕ → ℕ → ℕ → Type 0
+IsAt [] k x = ⊥
+IsAt (y ∷ ys) zero x = y ≡ x
+IsAt (y ∷ ys) (suc k) x = IsAt ys k x

@@ -122,7 +122,8 @@ SameParity x y = (half : ℤ) × (x ≡ y +ℤ (half +ℤ half))
 
 -- any two vertices in exposed outermost nodes have dual sums of one parity
 abbrev pub ExposedAgree : State → Type 0
-ExposedAgree s = (v w : ℕ) → is_vertex s.graph.vertices v ≡ true → is_vertex s.graph.vertices w ≡ true → s.mate (outermost s.blossoms v) ≡ None → s.mate (outermost s.blossoms w) ≡ None
+ExposedAgree s = (v w : ℕ) → is_vertex s.graph.vertices v ≡ true → is_vertex s.graph.vertices w ≡ true → s.mate (outermost s.blossoms v) ≡ None
+    → s.mate (outermost s.blossoms w) ≡ None
     → SameParity (dual_sum s v) (dual_sum s w)
 
 -- The state of a search. `depth` ranks the nodes of the trees: it falls on the way to a root, so each node reaches

@@ -27,5 +27,6 @@ pub use law::laws;
 pub use path::RootPath;
 pub use search::Search;
 pub use standing::Standing;
+pub use starts::room_for;
 pub use tables::{set_edge, set_label};
 pub use weights::Weights;

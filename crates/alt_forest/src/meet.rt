@@ -1,13 +1,18 @@
-ghost use Rattle.std.specs.Prelude.{◌≡◌, ◌≢◌, ◌<◌, ◌^◌, ◌↔◌, ℕ, true, None, Some, drop, length};
+ghost use Rattle.std.specs.Prelude.{◌≡◌, ◌≢◌, ◌<◌, ◌+◌, ◌^◌, ◌↔◌, ℕ, true, false, None, Some, IfNone, IfSome, drop, take, length};
+ghost use Rattle.graph_theory.specs.Parts.{holds};
 ghost use Rattle.blossom_arena.specs.declared.label.Label.TheVariants.{Out};
 ghost use Rattle.alt_forest.specs.State.{IsOutermost};
 ghost use Rattle.alt_forest.specs.Trees.{path_of, root_of, first_common};
 ghost use Rattle.alt_forest.specs.Searches.{IsSound, state_of, label_at};
-ghost use Rattle.alt_forest.specs.Routes.{AreLevel};
+ghost use Rattle.alt_forest.specs.Routes.{AreLevel, IsAt};
 
 use crate::path::RootPath;
 use crate::search::Search;
 use blossom_arena::NodeId;
+
+/// How many nodes deep a path is searched first for the place where it meets another one. Each
+/// search in vain is followed by one that goes twice as deep.
+const FIRST_REACH: u32 = 16;
 
 /// How many nodes a path has.
 fn count(path: RootPath<'_>) -> u32
@@ -30,6 +35,59 @@ fn shortened(path: RootPath<'_>, nodes: u32) -> RootPath<'_>
         rest.next();
     }
     rest
+}
+
+/// How many nodes a path has, where they are no more than `most`. Else it is `most`, and the node
+/// that comes after so many.
+fn counted(path: RootPath<'_>, most: u32) -> (u32, Option<NodeId>)
+    ensures ended { IfNone result.1 (result.0 ≡ length path.entry) }
+    ensures goes_on { IfSome result.1 (λ node. (result.0 ≡ most) × IsAt path.entry most node) }
+{
+    let mut rest = path;
+    for nodes in 0..most {
+        let Some(_) = rest.next() else {
+            return (nodes, None);
+        };
+    }
+    (most, rest.next())
+}
+
+/// How many nodes of a path come before this one, where it is among its first `most`.
+fn place_of(path: RootPath<'_>, node: NodeId, most: u32) -> Option<u32>
+    ensures found { IfSome result (λ place. IsAt path.entry place node) }
+    ensures none { IfNone result (holds (take most path.entry) node ≡ false) }
+{
+    let mut rest = path;
+    for place in 0..most {
+        if is_found(rest.next(), node) {
+            return Some(place);
+        }
+    }
+    None
+}
+
+/// How many nodes the ways of two nodes have below a node of both, or in all: two numbers that
+/// differ as the lengths of the ways do. Above the node where the ways meet it looks at no more
+/// nodes than in proportion to those below.
+fn heights(search: &Search, a: NodeId, b: NodeId) -> (u32, u32)
+    requires sound { IsSound search.now }
+    requires a_outermost { IsOutermost (state_of search.now) a }
+    requires b_outermost { IsOutermost (state_of search.now) b }
+    requires a_in_tree { label_at search.now.labels.items a ≢ Out }
+    requires b_in_tree { label_at search.now.labels.items b ≢ Out }
+    ensures { result.0 + length (path_of (state_of search.now) b) ≡ result.1 + length (path_of (state_of search.now) a) }
+{
+    let mut reach = FIRST_REACH;
+    loop {
+        let (left, next) = counted(search.path_to_root(a), reach);
+        let Some(node) = next else {
+            return (left, count(search.path_to_root(b)));
+        };
+        if let Some(right) = place_of(search.path_to_root(b), node, 2 * reach) {
+            return (left, right);
+        }
+        reach *= 2;
+    }
 }
 
 /// Whether this node was found.
@@ -58,8 +116,8 @@ fn first_shared(left: RootPath<'_>, right: RootPath<'_>) -> Option<NodeId>
 
 impl Search {
     /// The first node on the way from `a` to its root that is also on the way from `b`: none where
-    /// the two lie in different trees (chapter 24). It takes time linear in the two paths and no
-    /// memory.
+    /// the two lie in different trees (chapter 24). It takes time linear in the longer of the two
+    /// ways to that node, or, where there is none, in the two paths, and no memory.
     pub fn meet(&self, a: NodeId, b: NodeId) -> Option<NodeId>
         requires sound { IsSound self.now }
         requires a_outermost { IsOutermost (state_of self.now) a }
@@ -69,8 +127,7 @@ impl Search {
         ensures meet { result ≡ first_common (path_of (state_of self.now) a) (path_of (state_of self.now) b) }
         ensures none { (result ≡ None) ↔ (root_of (state_of self.now) a ≢ root_of (state_of self.now) b) }
     {
-        let left = count(self.path_to_root(a));
-        let right = count(self.path_to_root(b));
+        let (left, right) = heights(self, a, b);
         first_shared(
             shortened(self.path_to_root(a), left.saturating_sub(right)),
             shortened(self.path_to_root(b), right.saturating_sub(left)),

@@ -24,8 +24,8 @@ pub(crate) fn copied(alloc: Global, graph: &Graph) -> Result<Graph, OutOfMemory>
     Ok(copy)
 }
 
-/// An empty list with room for so many entries.
-pub(crate) fn room_for<T: Drop>(alloc: Global, entries: usize) -> Result<Vec<T>, OutOfMemory>
+/// An empty list with room for so many entries. The only error is want of memory.
+pub fn room_for<T: Drop>(alloc: Global, entries: usize) -> Result<Vec<T>, OutOfMemory>
     ensures room { IfOk result (λ list. entries ≤ vec_capacity list) }
     ensures empty { IfOk result (λ list. list.items ≡ []) }
 {

@@ -17,7 +17,7 @@ use Rattle.alt_forest.proofs.Mates.{joins_turned}
 use Rattle.alt_forest.proofs.Places.{nested_of}
 use Rattle.alt_forest.proofs.Relabelled.{outer_not_out, inner_not_out}
 use Rattle.alt_forest.proofs.Roots.{ways_lead}
-use Rattle.augment.specs.Turns.{AreEnds, IsTurned, IsElsewhere, IsRemoved}
+use Rattle.augment.specs.Turns.{JoinsTwoTrees, IsTurned, IsElsewhere, IsRemoved}
 use Rattle.augment.specs.Felling.{stands, is_either, falls, AreSeeded, IsFelled}
 use Rattle.augment.specs.Exchange.{IsExchanged}
 use Rattle.augment.proofs.Removed.{with_both, away_of, removed_state, roots_stay}
@@ -45,7 +45,7 @@ passes_out Inner ne = refl
 passes_out Out ne = absurd (ne refl)
 
 -- the ends of an edge by which the matching can be augmented
-pub ends_here : (s : State) (e : ℕ) → CanAugment s e → AreEnds s e (node_u s.graph s.blossoms e) (node_v s.graph s.blossoms e)
+pub ends_here : (s : State) (e : ℕ) → CanAugment s e → JoinsTwoTrees s e (node_u s.graph s.blossoms e) (node_v s.graph s.blossoms e)
 ends_here s e c = ⊎_elim
     (λ p. of_two (node_u s.graph s.blossoms e) (node_v s.graph s.blossoms e) (sym p.0) (sym p.1)
     (record { tight = c.tight; joins = c.joins; near_is = c.one_is; far_is = c.other_is; near_outer = c.one_outer; far_outer = c.other_outer; two_trees = c.two_trees }))
@@ -61,8 +61,8 @@ ends_here s e c = ⊎_elim
     }))
     c.joins
   where
-    of_two : {a b : ℕ} (x y : ℕ) → a ≡ x → b ≡ y → AreEnds s e a b → AreEnds s e x y
-    of_two {a} {b} x y p q h = subst (λ z. AreEnds s e z y) p (subst (AreEnds s e a) q h)
+    of_two : {a b : ℕ} (x y : ℕ) → a ≡ x → b ≡ y → JoinsTwoTrees s e a b → JoinsTwoTrees s e x y
+    of_two {a} {b} x y p q h = subst (λ z. JoinsTwoTrees s e z y) p (subst (JoinsTwoTrees s e a) q h)
 
 -- it doesn't matter which of the two comes first
 removed_turned : (s : State) (m : ℕ → Option ℕ) (l : ℕ → Label) (one other : ℕ) → IsRemoved s m l one other → IsRemoved s m l other one
@@ -144,7 +144,7 @@ module _ (s : Search) (standing : IsStanding s) (near far one other : ℕ) (near
       (λ t. absurd (⊎_elim (λ q. away.not_one q) (λ q. away.not_other q) (fallen_of a t)))
       (λ t. t)
 
-module _ (s t : Search) (sound : IsSound s) (standing : IsStanding s) (e near far : ℕ) (ends : AreEnds (state_of s) e near far)
+module _ (s t : Search) (sound : IsSound s) (standing : IsStanding s) (e near far : ℕ) (ends : JoinsTwoTrees (state_of s) e near far)
     (is : t ≡ record s { arena = record s.arena { motions = t.arena.motions }; labels = t.labels; mates = t.mates; standing = t.standing; scanned = t.scanned })
     (turned : IsTurned (state_of s) (edge_in t.mates.items) e near far) (v w : ℕ) (seeds : AreSeeds s near far v w) (felled : IsFelled s t v w) (moving : AreMoving t) where
   abbrev x : State

@@ -16,7 +16,7 @@ pub record IsMarked (g : Multigraph) (f : Family) (m n : ℕ → Option ℕ) (a 
   pub bare : IsBare g f.blossoms n
   pub spread : IsSpread g f.blossoms n a
   pub keeps : (c : ℕ) → IsSpread g f.blossoms m c → IsSpread g f.blossoms n c
-  pub outer : (c : ℕ) → is_child f.blossoms c ≡ false → n c ≡ m c
+  pub outermost : (c : ℕ) → is_child f.blossoms c ≡ false → n c ≡ m c
 
 pub nested_of : (g : Multigraph) (f : Family) (m : ℕ → Option ℕ) → CanMark g f m → IsNested g.vertices f.blossoms
 nested_of g f m can = subst (λ n. IsNested n f.blossoms) can.vertices can.family.nested
@@ -34,7 +34,7 @@ marked_mate g f m a e can is has =
       bare = still_bare g f.blossoms nested can.ends m e a d p.edge p.joins at_a at_d can.bare;
       spread = x_spread g f.blossoms nested can.ends m e a d p.edge p.joins at_a at_d;
       keeps = still_spread g f.blossoms nested can.ends m e a d p.edge p.joins at_a at_d;
-      outer = λ c free. by_test (eqb c a)
+      outermost = λ c free. by_test (eqb c a)
           (λ s. let same = eqb-true c a s in ap (spread g f.blossoms m e) same ∙ x_has g f.blossoms nested can.ends m e a d p.edge p.joins at_a at_d ∙ has ∙ ap m (sym same))
           (λ s. by_test (eqb c d)
           (λ t. let same = eqb-true c d t in ap (spread g f.blossoms m e) same ∙ y_has g f.blossoms nested can.ends m e a d p.edge p.joins at_a at_d ∙ sym p.back ∙ ap m (sym same))

@@ -16,7 +16,7 @@ use Rattle.alt_forest.proofs.Paths.{descends, passed_at}
 use Rattle.alt_forest.proofs.Relabelled.{outer_not_out, outer_not_inner, some_not_none, put_here, put_other}
 use Rattle.alt_forest.proofs.Roots.{up_or_root, path_root, path_up, root_self, root_up}
 use Rattle.alt_forest.proofs.Walk.{deeper_differs}
-use Rattle.augment.specs.Turns.{AreEnds, IsLoose, IsClimbed, IsUprooted, IsTurned}
+use Rattle.augment.specs.Turns.{JoinsTwoTrees, IsLoose, IsClimbed, IsUprooted, IsTurned}
 
 module _ (s : State) (depth : ℕ → ℕ) (nested : IsNested s.graph.vertices s.blossoms) (st : IsSearchState s depth) where
   -- a node on the way from another one is of its tree
@@ -149,7 +149,7 @@ module _ (s : State) (depth : ℕ → ℕ) (nested : IsNested s.graph.vertices s
         }
 
   -- the exposed node takes the other end of the edge
-  module _ (e near far : ℕ) (h : AreEnds s e near far) (m : ℕ → Option ℕ) (u : IsUprooted s m far) where
+  module _ (e near far : ℕ) (h : JoinsTwoTrees s e near far) (m : ℕ → Option ℕ) (u : IsUprooted s m far) where
     near_in : s.label near ≢ Out
     near_in q = outer_not_out (sym h.near_outer ∙ q)
 

@@ -17,7 +17,7 @@ abbrev pub with_mates : State → (ℕ → Option ℕ) → State
 with_mates s m = record s { mate = m }
 
 -- the edge is tight and joins outer nodes of two trees
-pub record AreEnds (s : State) (e near far : ℕ) : Type 0 where
+pub record JoinsTwoTrees (s : State) (e near far : ℕ) : Type 0 where
   pub tight : IsTight s e
   pub joins : Joins s.graph s.blossoms e near far
   pub near_is : IsOutermost s near

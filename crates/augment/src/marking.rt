@@ -76,7 +76,7 @@ fn clear_child(arena: &Arena, mates: &mut Vec<Option<EdgeId>>, node: NodeId)
 pub(crate) fn clear_children(arena: &Arena, mates: &mut Vec<Option<EdgeId>>)
     requires places { arena.now.vertex_count + most_blossoms arena.now.vertex_count < vec_len mates.old }
     ensures within { (c : ℕ) → is_child arena.now.blossoms c ≡ true → edge_in mates.new.items c ≡ None }
-    ensures outer { (c : ℕ) → is_child arena.now.blossoms c ≡ false → edge_in mates.new.items c ≡ edge_in mates.old.items c }
+    ensures outermost { (c : ℕ) → is_child arena.now.blossoms c ≡ false → edge_in mates.new.items c ≡ edge_in mates.old.items c }
     ensures len { vec_len mates.new ≡ vec_len mates.old }
 {
     for number in 0..arena.node_limit() {
@@ -103,7 +103,7 @@ fn mark_mate(arena: &Arena, graph: &Graph, mates: &mut Vec<Option<EdgeId>>, node
     ensures bare { IsBare graph.now arena.now.blossoms (edge_in mates.new.items) }
     ensures spread { IsSpread graph.now arena.now.blossoms (edge_in mates.new.items) node }
     ensures keeps { (a : ℕ) → IsSpread graph.now arena.now.blossoms (edge_in mates.old.items) a → IsSpread graph.now arena.now.blossoms (edge_in mates.new.items) a }
-    ensures outer { (c : ℕ) → is_child arena.now.blossoms c ≡ false → edge_in mates.new.items c ≡ edge_in mates.old.items c }
+    ensures outermost { (c : ℕ) → is_child arena.now.blossoms c ≡ false → edge_in mates.new.items c ≡ edge_in mates.old.items c }
     ensures len { vec_len mates.new ≡ vec_len mates.old }
 {
     if !arena.is_outermost(node) {
@@ -119,7 +119,7 @@ pub(crate) fn mark_mates(arena: &Arena, graph: &Graph, mates: &mut Vec<Option<Ed
     requires places { arena.now.vertex_count + most_blossoms arena.now.vertex_count < vec_len mates.old }
     ensures bare { IsBare graph.now arena.now.blossoms (edge_in mates.new.items) }
     ensures spread { (a : ℕ) → IsSpread graph.now arena.now.blossoms (edge_in mates.new.items) a }
-    ensures outer { (c : ℕ) → is_child arena.now.blossoms c ≡ false → edge_in mates.new.items c ≡ edge_in mates.old.items c }
+    ensures outermost { (c : ℕ) → is_child arena.now.blossoms c ≡ false → edge_in mates.new.items c ≡ edge_in mates.old.items c }
     ensures len { vec_len mates.new ≡ vec_len mates.old }
 {
     for number in 0..arena.node_limit() {

@@ -2,7 +2,7 @@ ghost use Rattle.std.specs.Prelude.{◌≡◌, vec_len};
 ghost use Rattle.blossom_arena.specs.declared.label.Label.TheVariants.{Outer};
 ghost use Rattle.alt_forest.specs.State.{IsOutermost};
 ghost use Rattle.alt_forest.specs.Searches.{HasShape, IsSound, state_of, edge_in};
-ghost use Rattle.augment.specs.Turns.{AreEnds, CanClimb, IsClimbed, IsUprooted, IsTurned};
+ghost use Rattle.augment.specs.Turns.{JoinsTwoTrees, CanClimb, IsClimbed, IsUprooted, IsTurned};
 
 use alt_forest::{Search, set_edge};
 use blossom_arena::NodeId;
@@ -51,7 +51,7 @@ fn uproot(search: &mut Search, far: NodeId)
 /// Matches two nodes by the edge, and changes the mates from each of them to the root of its tree.
 pub(crate) fn turn(search: &mut Search, e: EdgeId, near: NodeId, far: NodeId)
     requires sound { IsSound search.old }
-    requires ends { AreEnds (state_of search.old) e near far }
+    requires ends { JoinsTwoTrees (state_of search.old) e near far }
     ensures rest { search.new ≡ record search.old { mates = search.new.mates } }
     ensures len { vec_len search.new.mates ≡ vec_len search.old.mates }
     ensures turned { IsTurned (state_of search.old) (edge_in search.new.mates.items) e near far }

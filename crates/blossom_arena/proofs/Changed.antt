@@ -28,13 +28,15 @@ pub held-sum : (y z : ℕ → ℤ) (bs : List Blossom) (v : ℕ) → held_by (λ
 held-sum y z [] v = omega (arith, ints)
 held-sum y z (b ∷ older) v =
     let rest : held_by (λ a. y a +ℤ z a) older v ≡ held_by y older v +ℤ held_by z older v = held-sum y z older v in
-    elim (holds b.members v) as (λ t. cond t (y b.node +ℤ z b.node) (pos 0) +ℤ held_by (λ a. y a +ℤ z a) older v ≡ (cond t (y b.node) (pos 0) +ℤ held_by y older v) +ℤ (cond t (z b.node) (pos 0) +ℤ held_by z older v)) [
+    elim (holds b.members v) as (λ t. cond t (y b.node +ℤ z b.node) (pos 0) +ℤ held_by (λ a. y a +ℤ z a) older v
+    ≡ (cond t (y b.node) (pos 0) +ℤ held_by y older v) +ℤ (cond t (z b.node) (pos 0) +ℤ held_by z older v)) [
       | true ↦ omega (arith, ints)
       | false ↦ omega (arith, ints)
     ]
 
 -- of numbers at outermost nodes alone that of its own node is the sum at a vertex
-pub outer_sum : (n : ℕ) (z : ℕ → ℤ) (bs : List Blossom) (v : ℕ) → is_vertex n v ≡ true → IsNested n bs → ((a : ℕ) → is_child bs a ≡ true → z a ≡ pos 0) → z v +ℤ held_by z bs v ≡ z (outermost bs v)
+pub outer_sum : (n : ℕ) (z : ℕ → ℤ) (bs : List Blossom) (v : ℕ) → is_vertex n v ≡ true → IsNested n bs → ((a : ℕ) → is_child bs a ≡ true → z a ≡ pos 0)
+    → z v +ℤ held_by z bs v ≡ z (outermost bs v)
 outer_sum n z [] v iv h none = omega (arith, ints)
 outer_sum n z (b ∷ older) v iv h none =
     let x : ℕ = outermost older v in
@@ -52,7 +54,8 @@ outer_sum n z (b ∷ older) v iv h none =
     by_holder false = refl
 
 -- what is added at outermost nodes alone stays out of the sums at vertices
-pub inner_stays : (n : ℕ) (y z : ℕ → ℤ) (bs : List Blossom) (v : ℕ) → is_vertex n v ≡ true → IsNested n bs → ((a : ℕ) → is_child bs a ≡ true → z a ≡ pos 0) → inner_of (λ a. y a +ℤ z a) bs v ≡ inner_of y bs v
+pub inner_stays : (n : ℕ) (y z : ℕ → ℤ) (bs : List Blossom) (v : ℕ) → is_vertex n v ≡ true → IsNested n bs → ((a : ℕ) → is_child bs a ≡ true → z a ≡ pos 0)
+    → inner_of (λ a. y a +ℤ z a) bs v ≡ inner_of y bs v
 inner_stays n y z bs v iv h none =
     let sum = held-sum y z bs v in
     let own = outer_sum n z bs v iv h none in
@@ -64,7 +67,8 @@ no_child false true e = refl
 no_child p false e = absurd (both_ways false refl e)
 
 -- the duals of blossoms stay at least 0 where each of them does
-each_low : (y z : ℕ → ℤ) (us : List Blossom) → AllByRecursion (λ (b : Blossom). pos 0 ≤ℤ y b.node) us → ((x : ℕ) → holds (names_of us) x ≡ true → pos 0 ≤ℤ y x → pos 0 ≤ℤ z x)
+each_low : (y z : ℕ → ℤ) (us : List Blossom) → AllByRecursion (λ (b : Blossom). pos 0 ≤ℤ y b.node) us
+    → ((x : ℕ) → holds (names_of us) x ≡ true → pos 0 ≤ℤ y x → pos 0 ≤ℤ z x)
     → AllByRecursion (λ (b : Blossom). pos 0 ≤ℤ z b.node) us
 each_low y z [] each step = tt
 each_low y z (b ∷ us) each step = (
@@ -107,7 +111,8 @@ module _ (a : Inside) (d : ℤ) (s : IsSound a) (c : IsChange (family_of a) d) w
       (λ t. ap (λ q. cond q (share d (label_at ms x)) (pos 0)) t ∙ sym (ap (share d) (s.family.motions.inside x t)))
 
   -- a property of each sum
-  either : (P : ℤ → Type 0) (x : ℕ) → (is_outermost n bs x ≡ true → P (dual_at ys x +ℤ share d (label_at ms x))) → P (dual_at ys x) → P (dual_at ys x +ℤ share d (label_at ms x))
+  either : (P : ℤ → Type 0) (x : ℕ) → (is_outermost n bs x ≡ true → P (dual_at ys x +ℤ share d (label_at ms x))) → P (dual_at ys x)
+      → P (dual_at ys x +ℤ share d (label_at ms x))
   either P x gains stays = by_test (is_outermost n bs x) gains
       (λ t. subst (λ (l : Label). P (dual_at ys x +ℤ share d l)) (sym (s.family.motions.inside x t)) (subst P (alone (dual_at ys x)) stays))
     where
@@ -150,7 +155,8 @@ module _ (a : Inside) (s : IsSound a) (t : DualTable) (same : t.values ≡ a.dua
       (subst (λ (ys : List ℤ). IsPlacement a.vertex_count (core_at a.vertex_count a.kept) (blossoms_of a) (dual_at ys) (placement_of a.partition)) (sym same) s.partition)
 
 -- an outermost node that moves
-pub motions_with : (n : ℕ) (bs : List Blossom) (ms : List Label) (node : ℕ) (l : Label) → is_outermost n bs node ≡ true → HasMotions n ms bs → HasMotions n (slice_set ms node l) bs
+pub motions_with : (n : ℕ) (bs : List Blossom) (ms : List Label) (node : ℕ) (l : Label) → is_outermost n bs node ≡ true → HasMotions n ms bs
+    → HasMotions n (slice_set ms node l) bs
 motions_with n bs ms node l outer h = record {
   one_each = length-set ms node l ∙ h.one_each;
   inside = λ x e. get_or-set_other ms node x l Out (λ (same : x ≡ node). both_ways (is_outermost n bs x) e (ap (is_outermost n bs) same ∙ outer)) ∙ h.inside x e;

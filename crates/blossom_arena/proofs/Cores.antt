@@ -28,7 +28,7 @@ module _ (n : ℕ) (bs : List Blossom) (core_of : ℕ → ℕ) (nested : IsNeste
     pub set_core : (x : ℕ) → is_outermost n bs x ≡ true → p.top (p.set (core_of x)) ≡ x
     set_core x o =
         let is = (outermost_parts n bs x o).0 in
-        h.outer (core_of x) (member_vertex n bs x (core_of x) nested is (cores x is)) ∙ core_outer x o
+        h.tops (core_of x) (member_vertex n bs x (core_of x) nested is (cores x is)) ∙ core_outer x o
 
 -- a sum that fits is what wraps around to it
 pub wrapped : (x z sum : ℤ) → FitsSigned w64 sum → x +ℤ z ≡ sum → int_wrap w64 (x +ℤ z) ≡ sum

@@ -53,7 +53,8 @@ pub record Dissolves (a b : Inside) (node : ℕ) : Type 0 where
   pub duals : b.duals ≡ record { values = a.duals.values; motions = slice_set a.duals.motions node Out }
 
 -- the kept of another node
-pub other_kept : (n : ℕ) (kept kept' : Slab Kept) (node x : ℕ) → Updates kept kept' (key_of n node) None → n < node → n < x → eqb node x ≡ false → get kept' (key_of n x) ≡ get kept (key_of n x)
+pub other_kept : (n : ℕ) (kept kept' : Slab Kept) (node x : ℕ) → Updates kept kept' (key_of n node) None → n < node → n < x → eqb node x ≡ false
+    → get kept' (key_of n x) ≡ get kept (key_of n x)
 other_kept n kept kept' node x updates low_node low ne = updates.others (key_of n x) (λ s. eqb-false node x ne (omega (arith, s)))
 
 -- and its run
@@ -70,7 +71,19 @@ other_run n kept kept' node x updates low_node ne =
 
 module _ (a : Inside) (duals : DualTable) (partition : SetTables) (parents older newer : Vec ℕ) (kept : Slab Kept) (node : ℕ) where
   abbrev pub after : Inside
-  after = record { vertex_count = a.vertex_count; duals = duals; partition = partition; parents = parents; nexts = a.nexts; edges = a.edges; followers = a.followers; older = older; newer = newer; kept = kept }
+  after =
+      record {
+        vertex_count = a.vertex_count;
+        duals = duals;
+        partition = partition;
+        parents = parents;
+        nexts = a.nexts;
+        edges = a.edges;
+        followers = a.followers;
+        older = older;
+        newer = newer;
+        kept = kept;
+      }
 
   module _ (s : IsSound a) (there : holds (order_of a) node ≡ true) (free : is_child (blossoms_of a) node ≡ false) (h : Dissolves a after node) where
     abbrev n : ℕ
@@ -100,7 +113,8 @@ module _ (a : Inside) (duals : DualTable) (partition : SetTables) (parents older
     order = subst (λ o. IsOrder o newer.items 0 (removed xs node)) (sym h.older)
         (subst (λ w. IsOrder (slice_set a.older.items (slice_index a.newer.items node) (slice_index a.older.items node)) w 0 (removed xs node)) (sym h.newer)
         (take_out_order a.older.items a.newer.items 0 node xs s.order (order_no_zero a s, order_new a s) there (order_no_zero a s)
-        (λ x e. ⊎_elim (λ z. let is_zero : 0 ≡ x = eqb-true 0 x z in omega (arith, is_zero, s.places.older)) (λ m. omega (arith, (order_range a s x m).1, s.places.older)) (or_cases (eqb 0 x) (holds xs x) e))
+        (λ x e. ⊎_elim (λ z. let is_zero : 0 ≡ x = eqb-true 0 x z in omega (arith, is_zero, s.places.older))
+        (λ m. omega (arith, (order_range a s x m).1, s.places.older)) (or_cases (eqb 0 x) (holds xs x) e))
         (λ x e. omega (arith, (order_range a s x e).1, s.places.newer)) (omega (arith, s.places.newer))))
 
     order_after : order_of after ≡ removed xs node
@@ -113,7 +127,8 @@ module _ (a : Inside) (duals : DualTable) (partition : SetTables) (parents older
     pub blossoms_after : blossoms_of after ≡ without bs node
     blossoms_after =
         ap (build (rings after)) order_after
-        ∙ build-same (rings a) (rings after) (removed xs node) (λ x e. ap (λ o. links_of a.edges.items (walk (kept_or_none o).links a.nexts.items (kept_or_none o).first)) (same_kept x e))
+        ∙ build-same (rings a) (rings after) (removed xs node)
+        (λ x e. ap (λ o. links_of a.edges.items (walk (kept_or_none o).links a.nexts.items (kept_or_none o).first)) (same_kept x e))
         ∙ build-without (rings a) xs node free
 
     nested_after : IsNested n (without bs node)
@@ -149,10 +164,12 @@ module _ (a : Inside) (duals : DualTable) (partition : SetTables) (parents older
           in_range = s.family.duals.in_range;
           blossoms = each_without (λ (b : Blossom). pos 0 ≤ℤ dual_at a.duals.values b.node) bs node s.family.duals.blossoms;
         }));
-        motions = subst (λ (t : DualTable). HasMotions n t.motions (blossoms_of after)) (sym h.duals) (subst (HasMotions n (slice_set a.duals.motions node Out)) (sym blossoms_after) (motions_dissolved n bs a.duals.motions node s.family.motions));
+        motions = subst (λ (t : DualTable). HasMotions n t.motions (blossoms_of after)) (sym h.duals)
+            (subst (HasMotions n (slice_set a.duals.motions node Out)) (sym blossoms_after) (motions_dissolved n bs a.duals.motions node s.family.motions));
       };
       places = record {
-        parents = ap length h.parents ∙ length-set (filled a.parents.items (nodes_of (ring_of bs node)) 0) node 1 ∙ length-filled a.parents.items (nodes_of (ring_of bs node)) 0 ∙ s.places.parents;
+        parents = ap length h.parents ∙ length-set (filled a.parents.items (nodes_of (ring_of bs node)) 0) node 1
+            ∙ length-filled a.parents.items (nodes_of (ring_of bs node)) 0 ∙ s.places.parents;
         nexts = s.places.nexts;
         edges = s.places.edges;
         older = ap length h.older ∙ length-set a.older.items (slice_index a.newer.items node) (slice_index a.older.items node) ∙ s.places.older;
@@ -176,7 +193,8 @@ module _ (a : Inside) (duals : DualTable) (partition : SetTables) (parents older
       kept = subst (AllByRecursion (λ x. IsSome (get kept (key_of n x)))) (sym order_after)
           (each_from (λ x. IsSome (get kept (key_of n x))) (removed xs node) (λ x e. ap (λ o. is_some o) (same_kept x e) ∙ each_some n a.kept xs x s.kept (removed_sub xs node x e)));
       only = λ x low some. ap (λ ys. holds ys x) order_after ∙ by_test (eqb node x)
-          (λ same. absurd (both_ways (is_some (get kept (key_of n x))) (ap (λ y. is_some (get kept (key_of n y))) (sym (eqb-true node x same)) ∙ ap (λ o. is_some o) h.updates.changed) some))
+          (λ same. absurd (both_ways (is_some (get kept (key_of n x)))
+          (ap (λ y. is_some (get kept (key_of n y))) (sym (eqb-true node x same)) ∙ ap (λ o. is_some o) h.updates.changed) some))
           (λ differs. removed_has xs node x differs (s.only x low (ap (λ o. is_some o) (sym (other_kept n a.kept kept node x h.updates above low differs)) ∙ some)));
       room = h.capacity ∙ s.room;
     }

@@ -28,7 +28,8 @@ each_dual n (b ∷ older) ys node y nested high fine each = (
   each_dual n older ys node y nested.1 high fine each.1,
 )
 
-pub duals_set : (n : ℕ) (bs : List Blossom) (ys : List ℤ) (node : ℕ) (y : ℤ) → IsNested n bs → node < length ys → IsNumber y → (n < node → pos 0 ≤ℤ y) → HasDuals n ys bs → HasDuals n (slice_set ys node y) bs
+pub duals_set : (n : ℕ) (bs : List Blossom) (ys : List ℤ) (node : ℕ) (y : ℤ) → IsNested n bs → node < length ys → IsNumber y → (n < node → pos 0 ≤ℤ y)
+    → HasDuals n ys bs → HasDuals n (slice_set ys node y) bs
 duals_set n bs ys node y nested high is fine h = record {
   one_each = length-set ys node y ∙ h.one_each;
   in_range = All-set IsNumber ys node y is h.in_range;
@@ -45,9 +46,11 @@ pub duals_after : (a : Inside) (f : Family) (x y : ℕ) (d : ℤ) (ys : List ℤ
     → HasDuals a.vertex_count ys (blossoms_of a)
 duals_after a f x y d ys s view is same in_range not_below written =
     let range = node_range a.vertex_count (blossoms_of a) y s.family.nested (node_is a f x y view is same) in
-    let number : IsNumber (dual_at a.duals.values y +ℤ d) = subst (λ (z : ℕ). IsNumber (dual_at a.duals.values z +ℤ d)) (sym same) (subst (λ (g : Family). IsNumber (dual_at g.duals x +ℤ d)) (sym view) in_range) in
+    let number : IsNumber (dual_at a.duals.values y +ℤ d) =
+    subst (λ (z : ℕ). IsNumber (dual_at a.duals.values z +ℤ d)) (sym same) (subst (λ (g : Family). IsNumber (dual_at g.duals x +ℤ d)) (sym view) in_range) in
     let fine : a.vertex_count < y → pos 0 ≤ℤ (dual_at a.duals.values y +ℤ d) =
-    subst (λ (z : ℕ). a.vertex_count < z → pos 0 ≤ℤ (dual_at a.duals.values z +ℤ d)) (sym same) (subst (λ (g : Family). g.vertex_count < x → pos 0 ≤ℤ (dual_at g.duals x +ℤ d)) (sym view) not_below) in
+    subst (λ (z : ℕ). a.vertex_count < z → pos 0 ≤ℤ (dual_at a.duals.values z +ℤ d)) (sym same)
+    (subst (λ (g : Family). g.vertex_count < x → pos 0 ≤ℤ (dual_at g.duals x +ℤ d)) (sym view) not_below) in
     subst (λ (zs : List ℤ). HasDuals a.vertex_count zs (blossoms_of a)) (sym written)
     (duals_set a.vertex_count (blossoms_of a) a.duals.values y (dual_at a.duals.values y +ℤ d) s.family.nested (omega (arith, range.1, s.family.duals.one_each)) number fine s.family.duals)
 
@@ -96,7 +99,8 @@ module _ (a : Inside) (duals : DualTable) (node : ℕ) (d : ℤ) (s : IsSound a)
       (subst (λ (ys : List ℤ). IsPlacement n (core_at n a.kept) bs (dual_at ys) (placement_of a.partition)) (sym written)
       (placement_outer n bs (core_at n a.kept) a.duals.values (placement_of a.partition) node d s.family.nested place s.partition outer))
 
-  pub raised_child : (p : SetTables) → is_child bs node ≡ true → placement_of p ≡ all_added (placement_of a.partition) (members_of bs node) d → IsSound (record a { duals = duals; partition = p })
+  pub raised_child : (p : SetTables) → is_child bs node ≡ true → placement_of p ≡ all_added (placement_of a.partition) (members_of bs node) d
+      → IsSound (record a { duals = duals; partition = p })
   raised_child p child sums =
       sound_with_duals a duals p s h motions (ap (λ (q : Placement). q.places) sums ∙ all_added_places (placement_of a.partition) (members_of bs node) d ∙ s.places.partition)
       (subst (λ (ys : List ℤ). IsPlacement n (core_at n a.kept) bs (dual_at ys) (placement_of p)) (sym written)

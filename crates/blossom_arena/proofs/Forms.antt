@@ -28,7 +28,8 @@ new_by_pairs [] up = tt
 new_by_pairs (x ∷ xs) up = (false_from_ne_true (holds xs x) (λ m. absurd (omega (arith, first_less x xs x up m))), new_by_pairs xs (pairs_tail x xs up))
 
 -- and have the form of a certificate's set once they are ascending
-pub sorted_form : (n : ℕ) (xs ys : List ℕ) → IsOddSet n xs → IsStrictlyIncreasing ys → ((v : ℕ) → holds ys v ≡ holds xs v) → HasForm ys × All (λ v. (1 ≤ v) × (v ≤ n)) ys
+pub sorted_form : (n : ℕ) (xs ys : List ℕ) → IsOddSet n xs → IsStrictlyIncreasing ys → ((v : ℕ) → holds ys v ≡ holds xs v)
+    → HasForm ys × All (λ v. (1 ≤ v) × (v ≤ n)) ys
 sorted_form n xs ys odd up same =
     let new : AllNew ys = new_by_pairs ys (AllPairs-from_increasing ys up) in
     let to = length-within ys xs new (λ v m. sym (same v) ∙ m) in
@@ -42,7 +43,8 @@ sorted_form n xs ys odd up same =
     range ms v all m = holds_all (λ w. (1 ≤ w) × (w ≤ n)) ms v all m
 
 -- the vertices of a node have one outermost node
-pub one_outermost : (n : ℕ) (bs : List Blossom) (x v w : ℕ) → IsNested n bs → is_node n bs x ≡ true → holds (members_of bs x) v ≡ true → holds (members_of bs x) w ≡ true → outermost bs v ≡ outermost bs w
+pub one_outermost : (n : ℕ) (bs : List Blossom) (x v w : ℕ) → IsNested n bs → is_node n bs x ≡ true → holds (members_of bs x) v ≡ true → holds (members_of bs x) w ≡ true
+    → outermost bs v ≡ outermost bs w
 one_outermost n [] x v w h k mv mw = sym (only_one x v mv) ∙ only_one x w mw
 one_outermost n (b ∷ older) x v w h k mv mw =
     by_test (eqb b.node x)
@@ -60,9 +62,11 @@ one_outermost n (b ∷ older) x v w h k mv mw =
     ap (λ q. cond q b.node (outermost older v)) same ∙ ap (λ o. cond (holds b.members w) b.node o) below)
 
 -- a newer blossom has all vertices of an older node or none
-one_side : (n : ℕ) (b : Blossom) (older : List Blossom) (y v w : ℕ) → IsNested n (b ∷ older) → is_node n older y ≡ true → holds (members_of older y) v ≡ true → holds (members_of older y) w ≡ true → holds b.members v ≡ holds b.members w
+one_side : (n : ℕ) (b : Blossom) (older : List Blossom) (y v w : ℕ) → IsNested n (b ∷ older) → is_node n older y ≡ true → holds (members_of older y) v ≡ true
+    → holds (members_of older y) w ≡ true → holds b.members v ≡ holds b.members w
 one_side n b older y v w h k mv mw =
-    member_by_ring n older b v h (member_vertex n older y v h.1 k mv) ∙ ap (in_ring b.ring) (one_outermost n older y v w h.1 k mv mw) ∙ sym (member_by_ring n older b w h (member_vertex n older y w h.1 k mw))
+    member_by_ring n older b v h (member_vertex n older y v h.1 k mv) ∙ ap (in_ring b.ring) (one_outermost n older y v w h.1 k mv mw)
+    ∙ sym (member_by_ring n older b w h (member_vertex n older y w h.1 k mw))
 
 turned : (xs ys : List ℕ) → AreLaminar xs ys → AreLaminar ys xs
 turned xs ys h = ⊎_elim
@@ -92,9 +96,12 @@ members_laminar n [] x y h kx ky =
 members_laminar n (b ∷ older) x y h kx ky =
     by_test (eqb b.node x)
     (λ ex. by_test (eqb b.node y)
-    (λ ey. subst (λ ms. AreLaminar ms (members_of (b ∷ older) y)) (sym (members_here b older x ex)) (subst (λ ms. AreLaminar b.members ms) (sym (members_here b older y ey)) (inl (λ v m. m))))
+    (λ ey. subst (λ ms. AreLaminar ms (members_of (b ∷ older) y)) (sym (members_here b older x ex))
+    (subst (λ ms. AreLaminar b.members ms) (sym (members_here b older y ey)) (inl (λ v m. m))))
     (λ ey. subst (λ ms. AreLaminar ms (members_of (b ∷ older) y)) (sym (members_here b older x ex))
     (subst (λ ms. AreLaminar b.members ms) (sym (members_past b older y ey)) (newer_laminar n b older y h (node_before n b older y ey ky)))))
     (λ ex. subst (λ ms. AreLaminar ms (members_of (b ∷ older) y)) (sym (members_past b older x ex)) (by_test (eqb b.node y)
-    (λ ey. subst (λ ms. AreLaminar (members_of older x) ms) (sym (members_here b older y ey)) (turned b.members (members_of older x) (newer_laminar n b older x h (node_before n b older x ex kx))))
-    (λ ey. subst (λ ms. AreLaminar (members_of older x) ms) (sym (members_past b older y ey)) (members_laminar n older x y h.1 (node_before n b older x ex kx) (node_before n b older y ey ky)))))
+    (λ ey. subst (λ ms. AreLaminar (members_of older x) ms) (sym (members_here b older y ey))
+    (turned b.members (members_of older x) (newer_laminar n b older x h (node_before n b older x ex kx))))
+    (λ ey. subst (λ ms. AreLaminar (members_of older x) ms) (sym (members_past b older y ey))
+    (members_laminar n older x y h.1 (node_before n b older x ex kx) (node_before n b older y ey ky)))))

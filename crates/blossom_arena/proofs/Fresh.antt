@@ -53,7 +53,7 @@ module _ (a : Inside) (h : IsFresh a) where
 
   alone : IsPlacement n (core_at n a.kept) [] (dual_at a.duals.values) (placement_of a.partition)
   alone = record {
-    outer = λ v iv. ap (placement_of a.partition).top (h.partition.set v (low v iv)) ∙ h.partition.top v (low v iv);
+    tops = λ v iv. ap (placement_of a.partition).top (h.partition.set v (low v iv)) ∙ h.partition.top v (low v iv);
     inner = λ v iv. h.partition.inner v (low v iv) ∙ nothing (dual_at a.duals.values v);
     sets = λ v iv. h.partition.set v (low v iv) ∙ sym (ap (λ q. (cond q (own_run v) (kept_of n a.kept v).run).core) (le-leb v n (vertex_range n v iv).1));
   }
@@ -67,7 +67,8 @@ module _ (a : Inside) (h : IsFresh a) where
   no_duals : HasDuals n (replicate places (pos 0)) []
   no_duals = record {
     one_each = length-replicate places (pos 0);
-    in_range = λ k d low. subst IsNumber (sym (get_or-replicate places k (pos 0) d (omega (arith, low, length-replicate {A = ℤ} places (pos 0))))) (omega (arith, ints), omega (arith, ints));
+    in_range = λ k d low. subst IsNumber (sym (get_or-replicate places k (pos 0) d (omega (arith, low, length-replicate {A = ℤ} places (pos 0)))))
+        (omega (arith, ints), omega (arith, ints));
     blossoms = tt;
   }
 
@@ -81,7 +82,8 @@ module _ (a : Inside) (h : IsFresh a) where
   }
 
   pub fresh_family : family_of a ≡ empty_family n
-  fresh_family = ap (λ bs. record { vertex_count = n; duals = a.duals.values; motions = a.duals.motions; blossoms = bs }) no_blossoms ∙ ap (λ (t : DualTable). record { vertex_count = n; duals = t.values; motions = t.motions; blossoms = [] }) h.duals
+  fresh_family = ap (λ bs. record { vertex_count = n; duals = a.duals.values; motions = a.duals.motions; blossoms = bs }) no_blossoms
+      ∙ ap (λ (t : DualTable). record { vertex_count = n; duals = t.values; motions = t.motions; blossoms = [] }) h.duals
 
   pub fresh_sound : IsSound a
   fresh_sound = record {

@@ -23,7 +23,8 @@ use Rattle.blossom_arena.proofs.Cores.{HasCores, set_of, wrapped}
 
 -- a node of dual 0 gives the nodes of its ring their vertices back: that of its own core keeps the set
 module _ (n : ℕ) (bs : List Blossom) (core_of now : ℕ → ℕ) (ys : List ℤ) (p : Placement) (node core : ℕ) (vertices : ℕ → List ℕ)
-    (few : n ≤ GRAPH_VERTEX_LIMIT) (nested : IsNested n bs) (cores : HasCores n bs core_of) (numbers : All IsNumber ys) (named : holds (names_of bs) node ≡ true) (free : is_child bs node ≡ false)
+    (few : n ≤ GRAPH_VERTEX_LIMIT) (nested : IsNested n bs) (cores : HasCores n bs core_of) (numbers : All IsNumber ys) (named : holds (names_of bs) node ≡ true)
+    (free : is_child bs node ≡ false)
     (h : IsPlacement n core_of bs (dual_at ys) p) (lists : (x : ℕ) → in_ring (ring_of bs node) x ≡ true → vertices x ≡ members_of bs x)
     (same : (x : ℕ) → eqb node x ≡ false → now x ≡ core_of x) (is : core ≡ core_of node) (none : dual_at ys node ≡ pos 0) where
   abbrev y : ℕ → ℤ
@@ -178,7 +179,7 @@ module _ (n : ℕ) (bs : List Blossom) (core_of now : ℕ → ℕ) (ys : List �
       kept_outer : let_go.top (let_go.set v) ≡ o
       kept_outer =
           ap let_go.top stays_at.set ∙ ap (λ q. cond q heir (parted.top (p.set v))) other_set
-          ∙ top_is w p (nodes_of ring) (p.set v) (outermost bs v) (h.outer v iv) (λ c r moves e. absurd (both_ways (eqb (now c) (p.set v)) (other_core c r) e))
+          ∙ top_is w p (nodes_of ring) (p.set v) (outermost bs v) (h.tops v iv) (λ c r moves e. absurd (both_ways (eqb (now c) (p.set v)) (other_core c r) e))
           ∙ sym same_outer
 
       kept_inner : let_go.inner v ≡ inner_of y left v
@@ -194,7 +195,7 @@ module _ (n : ℕ) (bs : List Blossom) (core_of now : ℕ → ℕ) (ys : List �
 
   pub placement_dissolved : IsPlacement n now left y let_go
   placement_dissolved = record {
-    outer = λ v iv. by_test (holds (members_of bs node) v) (back_outer v iv) (kept_outer v iv);
+    tops = λ v iv. by_test (holds (members_of bs node) v) (back_outer v iv) (kept_outer v iv);
     inner = λ v iv. by_test (holds (members_of bs node) v) (back_inner v iv) (kept_inner v iv);
     sets = λ v iv. by_test (holds (members_of bs node) v) (back_set v iv) (kept_set v iv);
   }

@@ -60,7 +60,8 @@ held_within : (ys : List ℤ) (bs : List Blossom) (v : ℕ) → All IsNumber ys 
 held_within ys [] v all = record { low = omega (arith, ints); high = omega (arith, ints) }
 held_within ys (b ∷ older) v all = one_more (holds b.members v) (dual_at ys b.node) (held_by (dual_at ys) older v) (length older) (dual_number ys b.node all) (held_within ys older v all)
 
-pub dual_sum_range : (n : ℕ) (ys : List ℤ) (bs : List Blossom) (v : ℕ) → n ≤ GRAPH_VERTEX_LIMIT → IsNested n bs → All IsNumber ys → IsDualSum (dual_at ys v +ℤ held_by (dual_at ys) bs v)
+pub dual_sum_range : (n : ℕ) (ys : List ℤ) (bs : List Blossom) (v : ℕ) → n ≤ GRAPH_VERTEX_LIMIT → IsNested n bs → All IsNumber ys
+    → IsDualSum (dual_at ys v +ℤ held_by (dual_at ys) bs v)
 dual_sum_range n ys bs v few nested all =
     let most : 2 * length bs ≤ n = blossoms_few n bs nested in
     let held = held_within ys bs v all in
@@ -127,7 +128,8 @@ held_raised ys (b ∷ older) node v d new h =
     ∙ ap (λ q. (cond (holds b.members v) y (pos 0) +ℤ before) +ℤ cond q d (pos 0)) (sym there))
 
 -- a vertex, or a blossom: its dual counts once at each vertex that it holds
-counts_once : (own named has p : Bool) (d : ℤ) → (named ≡ false → has ≡ own) → (named ≡ true → own ≡ false) → cond own d (pos 0) +ℤ cond (named && has) d (pos 0) ≡ cond has d (pos 0)
+counts_once : (own named has p : Bool) (d : ℤ) → (named ≡ false → has ≡ own) → (named ≡ true → own ≡ false)
+    → cond own d (pos 0) +ℤ cond (named && has) d (pos 0) ≡ cond has d (pos 0)
 counts_once own true true p d vertex blossom = rw (blossom refl) (omega (arith, ints))
 counts_once own true false p d vertex blossom = rw (blossom refl) (omega (arith, ints))
 counts_once own false has p d vertex blossom = rw (vertex refl) (omega (arith, ints))
@@ -140,7 +142,8 @@ module _ (n : ℕ) (bs : List Blossom) (v : ℕ) (nested : IsNested n bs) (iv : 
       let own = dual_raised ys node v d h in
       let held = held_raised ys bs node v d (names_new n bs nested) h in
       let once = counts_once (eqb node v) (holds (names_of bs) node) (holds (members_of bs node) v) true d
-      (λ none. ap (λ ms. holds ms v) (members_of_vertex n bs node nested (⊎_elim (λ w. w) (λ m. absurd (both_ways (holds (names_of bs) node) none m)) (or_cases (is_vertex n node) (holds (names_of bs) node) is))) ∙ alone (eqb node v))
+      (λ none. ap (λ ms. holds ms v) (members_of_vertex n bs node nested
+      (⊎_elim (λ w. w) (λ m. absurd (both_ways (holds (names_of bs) node) none m)) (or_cases (is_vertex n node) (holds (names_of bs) node) is))) ∙ alone (eqb node v))
       (λ named. ne_eqb node v (λ s. absurd (omega (arith, s, (name_range n bs node nested named).0, (vertex_range n v iv).1)))) in
       omega (arith, ints, own, held, once)
     where
@@ -168,17 +171,21 @@ module _ (n : ℕ) (bs : List Blossom) (v : ℕ) (nested : IsNested n bs) (iv : 
 
   -- a new node of dual 0 takes the place of those of its circuit
   pub inner_shrunk : (ys : List ℤ) (ring : List Link) (node : ℕ) → is_node n bs node ≡ false → n < node → node < length ys
-      → inner_of (dual_at (slice_set ys node (pos 0))) (made_of bs ring node ∷ bs) v ≡ inner_of (dual_at ys) bs v +ℤ cond (holds (union_of bs ring) v) (dual_at ys (outermost bs v)) (pos 0)
+      → inner_of (dual_at (slice_set ys node (pos 0))) (made_of bs ring node ∷ bs) v
+      ≡ inner_of (dual_at ys) bs v +ℤ cond (holds (union_of bs ring) v) (dual_at ys (outermost bs v)) (pos 0)
   inner_shrunk ys ring node fresh above h =
       let z : ℕ → ℤ = dual_at (slice_set ys node (pos 0)) in
       let zero_there : z node ≡ pos 0 = get_or-set_same ys node (pos 0) (pos 0) h in
       let own : z v ≡ dual_at ys v = get_or-set_other ys node v (pos 0) (pos 0) (λ s. absurd (omega (arith, s, above, (vertex_range n v iv).1))) in
       let held : held_by z (made_of bs ring node ∷ bs) v ≡ held_by (dual_at ys) bs v =
       held_zero z (made_of bs ring node) bs v zero_there ∙ held_past ys bs node v (pos 0) (or_parts (is_vertex n node) (holds (names_of bs) node) fresh).1 in
-      let out : z (outermost bs v) ≡ dual_at ys (outermost bs v) = get_or-set_other ys node (outermost bs v) (pos 0) (pos 0) (not_new n bs node (outermost bs v) fresh (outermost_node n bs v iv)) in
-      by_outer (holds (union_of bs ring) v) z node (outermost bs v) (z v) (held_by z (made_of bs ring node ∷ bs) v) (dual_at ys v) (held_by (dual_at ys) bs v) (dual_at ys (outermost bs v)) own held zero_there out
+      let out : z (outermost bs v) ≡ dual_at ys (outermost bs v) =
+      get_or-set_other ys node (outermost bs v) (pos 0) (pos 0) (not_new n bs node (outermost bs v) fresh (outermost_node n bs v iv)) in
+      by_outer (holds (union_of bs ring) v) z node (outermost bs v) (z v) (held_by z (made_of bs ring node ∷ bs) v) (dual_at ys v) (held_by (dual_at ys) bs v)
+      (dual_at ys (outermost bs v)) own held zero_there out
     where
-      by_outer : (q : Bool) (z : ℕ → ℤ) (node o : ℕ) (a b c d e : ℤ) → a ≡ c → b ≡ d → z node ≡ pos 0 → z o ≡ e → (a +ℤ b) -ℤ z (cond q node o) ≡ ((c +ℤ d) -ℤ e) +ℤ cond q e (pos 0)
+      by_outer : (q : Bool) (z : ℕ → ℤ) (node o : ℕ) (a b c d e : ℤ) → a ≡ c → b ≡ d → z node ≡ pos 0 → z o ≡ e
+          → (a +ℤ b) -ℤ z (cond q node o) ≡ ((c +ℤ d) -ℤ e) +ℤ cond q e (pos 0)
       by_outer true z node o a b c d e p q r s = omega (arith, ints)
       by_outer false z node o a b c d e p q r s = omega (arith, ints)
 
@@ -189,4 +196,5 @@ module _ (n : ℕ) (bs : List Blossom) (v : ℕ) (nested : IsNested n bs) (iv : 
       let held = held_without y bs a v none in
       by_test (holds (members_of bs a) v)
       (λ m. let out : y (outermost bs v) ≡ pos 0 = ap y (outermost_by_member n bs a v nested outer m) ∙ none in rw m (omega (arith, ints, held, out)))
-      (λ m. let same : y (outermost (without bs a) v) ≡ y (outermost bs v) = ap y (outermost_without n bs a v nested (outermost_parts n bs a outer).1 iv m) in rw m (omega (arith, ints, held, same)))
+      (λ m. let same : y (outermost (without bs a) v) ≡ y (outermost bs v) = ap y (outermost_without n bs a v nested (outermost_parts n bs a outer).1 iv m) in
+      rw m (omega (arith, ints, held, same)))

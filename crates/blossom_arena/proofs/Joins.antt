@@ -40,11 +40,14 @@ heads : (x y : ℕ) (xs ys : List ℕ) → x ∷ xs ≡ y ∷ ys → x ≡ y
 heads x y xs ys e = cc
 
 -- a walk that goes on at its end along another
-walk_join : (f : List ℕ) (t h s : ℕ) (p : ℕ) (ps ms : List ℕ) → walk (length (p ∷ ps)) f p ≡ p ∷ ps → last_of p ps ≡ t → holds (front (p ∷ ps)) t ≡ false → t < length f → walk s f h ≡ ms → holds ms t ≡ false
+walk_join : (f : List ℕ) (t h s : ℕ) (p : ℕ) (ps ms : List ℕ) → walk (length (p ∷ ps)) f p ≡ p ∷ ps → last_of p ps ≡ t → holds (front (p ∷ ps)) t ≡ false
+    → t < length f → walk s f h ≡ ms → holds ms t ≡ false
     → walk (length (p ∷ ps) + s) (set f t h) p ≡ (p ∷ ps) ++ ms
 walk_join f t h s p [] ms w last out low run apart =
     let here : get_or (set f t h) p 0 ≡ h = ap (λ i. get_or (set f t h) i 0) last ∙ get_or-set_same f t h 0 low in
-    let rest : walk s (set f t h) h ≡ ms = walk_front s f (set f t h) h (λ y e. get_or-set_other f t y h 0 (λ same. both_ways (holds ms t) apart (subst (λ z. holds ms z ≡ true) same (ap (λ zs. holds zs y) (sym run) ∙ front_sub (walk s f h) y e)))) ∙ run in
+    let rest : walk s (set f t h) h ≡ ms = walk_front s f (set f t h) h
+    (λ y e. get_or-set_other f t y h 0
+    (λ same. both_ways (holds ms t) apart (subst (λ z. holds ms z ≡ true) same (ap (λ zs. holds zs y) (sym run) ∙ front_sub (walk s f h) y e)))) ∙ run in
     ap (λ k. walk k (set f t h) p) one_more ∙ ap (λ x. p ∷ x) (ap (walk s (set f t h)) here ∙ rest)
   where
     one_more : 1 + s ≡ suc s
@@ -101,7 +104,8 @@ join_is f t p ps bs run (l ∷ ring) j each =
     let t_out : holds (ms ++ union_of bs ring) t ≡ false = new_apart (p ∷ ps) (ms ++ union_of bs ring) t new t_in in
     let t_parts = or_parts (holds ms t) (holds (union_of bs ring) t) (sym (holds-append ms (union_of bs ring) t) ∙ t_out) in
     let t_low : t < length f = j.within t (holds-append (p ∷ ps) (union_of bs (l ∷ ring)) t ∙ or_left (holds (p ∷ ps) t) (holds (union_of bs (l ∷ ring)) t) t_in) in
-    let assoc : ((p ∷ ps) ++ ms) ++ union_of bs ring ≡ (p ∷ ps) ++ union_of bs (l ∷ ring) = append_assoc (p ∷ ps) ms (union_of bs ring) ∙ ap (λ u. (p ∷ ps) ++ u) (sym union) in
+    let assoc : ((p ∷ ps) ++ ms) ++ union_of bs ring ≡ (p ∷ ps) ++ union_of bs (l ∷ ring) = append_assoc (p ∷ ps) ms (union_of bs ring)
+    ∙ ap (λ u. (p ∷ ps) ++ u) (sym union) in
     let size : r.size ≡ length ms = run_size f r ms here.0 in
     let f' : List ℕ = set f t r.head in
     let more : length (p ∷ (ps ++ ms)) ≡ length (p ∷ ps) + r.size = omega (arith, length-append ps ms, size) in
@@ -117,7 +121,8 @@ join_is f t p ps bs run (l ∷ ring) j each =
     let rest = join_is f' r.tail p (ps ++ ms) bs run ring joined_more
     (λ a in_it. let old = each a (later_in l.node (nodes_of ring) a in_it) in (
       run_keeps f f' (run a) (members_of bs a) old.0
-          (λ y e. get_or-set_other f t y r.head 0 (λ s. both_ways (holds (union_of bs ring) t) t_parts.1 (in_it_all ring a t in_it (subst (λ z. holds (members_of bs a) z ≡ true) s (front_sub (members_of bs a) y e))))),
+          (λ y e. get_or-set_other f t y r.head 0
+          (λ s. both_ways (holds (union_of bs ring) t) t_parts.1 (in_it_all ring a t in_it (subst (λ z. holds (members_of bs a) z ≡ true) s (front_sub (members_of bs a) y e))))),
       old.1,
     )) in (
       ap (λ xs. walk (length xs) (joined f' r.tail (runs run ring)) p) (sym assoc) ∙ rest.0 ∙ assoc,

@@ -141,7 +141,8 @@ ring_any [] a = refl
 ring_any (l ∷ ring) a = ap (λ t. eqb l.node a || t) (ring_any ring a)
 
 -- one node more, that no other is
-pub distinct_cons : (l : Link) (ring : List Link) → list_any (λ (k : Link). eqb k.node l.node) ring ≡ false → IsDistinct nat_eq (nodes_of ring) → IsDistinct nat_eq (nodes_of (l ∷ ring))
+pub distinct_cons : (l : Link) (ring : List Link) → list_any (λ (k : Link). eqb k.node l.node) ring ≡ false → IsDistinct nat_eq (nodes_of ring)
+    → IsDistinct nat_eq (nodes_of (l ∷ ring))
 distinct_cons l ring none h = distinct_from_new (nodes_of (l ∷ ring)) (sym (ring_any ring l.node) ∙ none, new_from_distinct (nodes_of ring) h)
 
 pub distinct_none : IsDistinct nat_eq []

@@ -42,7 +42,8 @@ pub none_above : (n : ℕ) (bs : List Blossom) (x : ℕ) → IsNested n bs → n
 none_above n bs x h high = false_from_ne_true (is_outermost n bs x) (λ e. absurd (omega (arith, (node_range n bs x h (outermost_parts n bs x e).0).1, high)))
 
 -- a circuit's nodes get the new blossom as their parent, and the other entries stay
-grown : (n : ℕ) (bs : List Blossom) (ring : List Link) (node x : ℕ) → IsCircuit n bs ring → eqb node x ≡ false → cond (in_ring ring x) node (parent_entry n bs x) ≡ parent_entry n (made_of bs ring node ∷ bs) x
+grown : (n : ℕ) (bs : List Blossom) (ring : List Link) (node x : ℕ) → IsCircuit n bs ring → eqb node x ≡ false
+    → cond (in_ring ring x) node (parent_entry n bs x) ≡ parent_entry n (made_of bs ring node ∷ bs) x
 grown n bs ring node x c ne =
     let same : is_node n (made_of bs ring node ∷ bs) x ≡ is_node n bs x = ap (λ q. is_vertex n x || (q || holds (names_of bs) x)) ne in
     by_test (in_ring ring x)
@@ -75,7 +76,8 @@ gone (b ∷ older) a new =
     (λ e. ap (λ q. holds (names_of (cond q older (b ∷ without older a))) a) e ∙ or_from (eqb b.node a) (holds (names_of (without older a)) a) e (gone older a new.1))
 
 -- its ring's nodes have no parent then, and the other entries stay
-left_over : (n : ℕ) (bs : List Blossom) (node x : ℕ) → IsNested n bs → eqb node x ≡ false → cond (in_ring (ring_of bs node) x) 0 (parent_entry n bs x) ≡ parent_entry n (without bs node) x
+left_over : (n : ℕ) (bs : List Blossom) (node x : ℕ) → IsNested n bs → eqb node x ≡ false
+    → cond (in_ring (ring_of bs node) x) 0 (parent_entry n bs x) ≡ parent_entry n (without bs node) x
 left_over n bs node x h ne =
     let same : is_node n (without bs node) x ≡ is_node n bs x = node_without n bs node x ne in
     let up : parent_of (without bs node) x ≡ cond (in_ring (ring_of bs node) x) 0 (parent_of bs x) = parent_without n bs node x h in
@@ -90,7 +92,8 @@ pub dissolved_entry : (n : ℕ) (bs : List Blossom) (node : ℕ) (t : List ℕ) 
 dissolved_entry n bs node t x h named low high was =
     let ns : List ℕ = nodes_of (ring_of bs node) in
     let u : List ℕ = filled t ns 0 in
-    let none : is_node n (without bs node) node ≡ false = or_from (is_vertex n node) (holds (names_of (without bs node)) node) (name_no_vertex n bs node h named) (gone bs node (names_new n bs h)) in
+    let none : is_node n (without bs node) node ≡ false =
+    or_from (is_vertex n node) (holds (names_of (without bs node)) node) (name_no_vertex n bs node h named) (gone bs node (names_new n bs h)) in
     by_test (eqb node x)
     (λ e. subst (λ y. get_or (set u node 1) y 0 ≡ parent_entry n (without bs node) y) (eqb-true node x e)
     (get_or-set_same u node 1 0 (omega (arith, low, length-filled t ns 0)) ∙ sym (entry_none n (without bs node) node none)))

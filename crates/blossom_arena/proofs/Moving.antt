@@ -43,7 +43,8 @@ moved_at c (y ∷ ys) (m ∷ ms) zero low = refl
 moved_at c (y ∷ ys) (m ∷ ms) (suc a) low = moved_at c ys ms a (omega (arith, low))
 
 -- a base and a motion that are written
-pub moved_set : (c : ℤ) (ys : List ℤ) (ms : List Label) (a : ℕ) (y : ℤ) (m : Label) → length ms ≡ length ys → moved c (slice_set ys a y) (slice_set ms a m) ≡ slice_set (moved c ys ms) a (y +ℤ share c m)
+pub moved_set : (c : ℤ) (ys : List ℤ) (ms : List Label) (a : ℕ) (y : ℤ) (m : Label) → length ms ≡ length ys
+    → moved c (slice_set ys a y) (slice_set ms a m) ≡ slice_set (moved c ys ms) a (y +ℤ share c m)
 moved_set c [] [] a y m len = refl
 moved_set c [] (n ∷ ms) a y m len = absurd (omega (arith, len))
 moved_set c (x ∷ xs) [] a y m len = absurd (omega (arith, len))
@@ -51,7 +52,8 @@ moved_set c (x ∷ xs) (n ∷ ms) zero y m len = refl
 moved_set c (x ∷ xs) (n ∷ ms) (suc a) y m len = ap (λ (zs : List ℤ). (x +ℤ share c n) ∷ zs) (moved_set c xs ms a y m (omega (arith, len)))
 
 -- the base of a number that is written
-pub moved_put : (c : ℤ) (ys : List ℤ) (ms : List Label) (a : ℕ) (y : ℤ) (m : Label) → length ms ≡ length ys → moved c (slice_set ys a (y -ℤ share c m)) (slice_set ms a m) ≡ slice_set (moved c ys ms) a y
+pub moved_put : (c : ℤ) (ys : List ℤ) (ms : List Label) (a : ℕ) (y : ℤ) (m : Label) → length ms ≡ length ys
+    → moved c (slice_set ys a (y -ℤ share c m)) (slice_set ms a m) ≡ slice_set (moved c ys ms) a y
 moved_put c ys ms a y m len = moved_set c ys ms a (y -ℤ share c m) m len ∙ ap (λ (z : ℤ). slice_set (moved c ys ms) a z) (back y (share c m))
   where
     back : (p q : ℤ) → (p -ℤ q) +ℤ q ≡ p
@@ -76,7 +78,8 @@ share_adds c d Outer = refl
 share_adds c d Inner = omega (arith, ints)
 share_adds c d Out = omega (arith, ints)
 
-pub moved_on : (c d : ℤ) (ys : List ℤ) (ms : List Label) (a : ℕ) → length ms ≡ length ys → dual_at (moved (c +ℤ d) ys ms) a ≡ dual_at (moved c ys ms) a +ℤ share d (label_at ms a)
+pub moved_on : (c d : ℤ) (ys : List ℤ) (ms : List Label) (a : ℕ) → length ms ≡ length ys
+    → dual_at (moved (c +ℤ d) ys ms) a ≡ dual_at (moved c ys ms) a +ℤ share d (label_at ms a)
 moved_on c d ys ms a len = ⊎_elim
     (λ (low : a < length ys).
     let before = moved_at c ys ms a low in
@@ -100,7 +103,8 @@ pub base_place : (t : Inside) (v : DualTable) (a : ℕ) → table_of t ≡ v →
 base_place t v a view low = omega (arith, low, ap (λ (x : DualTable). length x.values) view, length-moved t.shares t.bases.items t.motions.items)
 
 -- a base with its share of the clock
-pub sum_is : (t : Inside) (v : DualTable) (a : ℕ) (p q : ℤ) → table_of t ≡ v → a < length v.values → p ≡ dual_at t.bases.items a → q ≡ share t.shares (label_at t.motions.items a) → p +ℤ q ≡ dual_at v.values a
+pub sum_is : (t : Inside) (v : DualTable) (a : ℕ) (p q : ℤ) → table_of t ≡ v → a < length v.values → p ≡ dual_at t.bases.items a
+    → q ≡ share t.shares (label_at t.motions.items a) → p +ℤ q ≡ dual_at v.values a
 sum_is t v a p q view low base more =
     ap₂ (λ (x y : ℤ). x +ℤ y) base more ∙ sym (moved_at t.shares t.bases.items t.motions.items a (base_place t v a view low)) ∙ ap (λ (x : DualTable). dual_at x.values a) view
 
@@ -150,5 +154,6 @@ zero_table t k bases motions clock = record {
     none : (a : ℕ) → IsNumber (dual_at (replicate k (pos 0)) a)
     none a = ⊎_elim
         (λ (low : a < k). subst IsNumber (sym (get_or-replicate k a (pos 0) (pos 0) low)) (omega (arith, ints), omega (arith, ints)))
-        (λ (high : k ≤ a). subst IsNumber (sym (get_or_past (replicate k (pos 0)) a (pos 0) (omega (arith, high, length-replicate {A = ℤ} k (pos 0))))) (omega (arith, ints), omega (arith, ints)))
+        (λ (high : k ≤ a). subst IsNumber (sym (get_or_past (replicate k (pos 0)) a (pos 0) (omega (arith, high, length-replicate {A = ℤ} k (pos 0)))))
+        (omega (arith, ints), omega (arith, ints)))
         (cases_lt a k)

@@ -22,7 +22,7 @@ ring_each P ring a all e = go ring (recursion_from_All _ ring all) e
 
 -- a node of a circuit is outermost
 pub circuit_outer : (n : ℕ) (bs : List Blossom) (ring : List Link) (a : ℕ) → IsCircuit n bs ring → in_ring ring a ≡ true → is_outermost n bs a ≡ true
-circuit_outer n bs ring a c e = ring_each (λ x. is_outermost n bs x ≡ true) ring a c.outer e
+circuit_outer n bs ring a c e = ring_each (λ x. is_outermost n bs x ≡ true) ring a c.outermost e
 
 pub outermost_parts : (n : ℕ) (bs : List Blossom) (a : ℕ) → is_outermost n bs a ≡ true → (is_node n bs a ≡ true) × (is_child bs a ≡ false)
 outermost_parts n bs a e = let p = and_parts (is_node n bs a) (not (is_child bs a)) e in (p.0, not-true (is_child bs a) p.1)
@@ -70,7 +70,8 @@ range_vertex n v low high = and_from (leb 1 v) (leb v n) (le-leb 1 v low) (le-le
 pub name_range : (n : ℕ) (bs : List Blossom) (a : ℕ) → IsNested n bs → holds (names_of bs) a ≡ true → (n < a) × (a ≤ n + most_blossoms n)
 name_range n [] a h e = absurd (both_ways false refl e)
 name_range n (b ∷ older) a h e = ⊎_elim
-    (λ s. let same : b.node ≡ a = eqb-true b.node a s in let low : n < b.node = h.0.after_vertices in let high : b.node ≤ n + most_blossoms n = h.0.within_room in (subst (λ x. n < x) same low, subst (λ x. x ≤ n + most_blossoms n) same high))
+    (λ s. let same : b.node ≡ a = eqb-true b.node a s in let low : n < b.node = h.0.after_vertices in let high : b.node ≤ n + most_blossoms n = h.0.within_room in
+    (subst (λ x. n < x) same low, subst (λ x. x ≤ n + most_blossoms n) same high))
     (λ m. name_range n older a h.1 m)
     (or_cases (eqb b.node a) (holds (names_of older) a) e)
 
@@ -107,7 +108,8 @@ pub child_free : (n : ℕ) (older : List Blossom) (b : Blossom) (x : ℕ) → Is
 child_free n older b x h r = (outermost_parts n older x (circuit_outer n older b.ring x h.circuit r)).1
 
 -- what is outermost and not the newest was outermost before, and is in no newest ring
-pub outermost_before : (n : ℕ) (b : Blossom) (older : List Blossom) (x : ℕ) → eqb b.node x ≡ false → is_outermost n (b ∷ older) x ≡ true → (is_outermost n older x ≡ true) × (in_ring b.ring x ≡ false)
+pub outermost_before : (n : ℕ) (b : Blossom) (older : List Blossom) (x : ℕ) → eqb b.node x ≡ false → is_outermost n (b ∷ older) x ≡ true
+    → (is_outermost n older x ≡ true) × (in_ring b.ring x ≡ false)
 outermost_before n b older x s e =
     let p = outermost_parts n (b ∷ older) x e in
     let q = or_parts (in_ring b.ring x) (is_child older x) p.1 in
@@ -162,7 +164,8 @@ pub new-outer_nodes : (n : ℕ) (bs : List Blossom) → IsNested n bs → AllNew
 new-outer_nodes n [] h = new-vertices n
 new-outer_nodes n (b ∷ older) h = (
   holds-filter (λ a. not (in_ring b.ring a)) (outer_nodes n older) b.node
-      ∙ and_left (holds (outer_nodes n older) b.node) (not (in_ring b.ring b.node)) (holds-outer_nodes n older b.node h.1 ∙ and_left (is_node n older b.node) (not (is_child older b.node)) h.0.fresh),
+      ∙ and_left (holds (outer_nodes n older) b.node) (not (in_ring b.ring b.node))
+      (holds-outer_nodes n older b.node h.1 ∙ and_left (is_node n older b.node) (not (is_child older b.node)) h.0.fresh),
   new-filter (λ a. not (in_ring b.ring a)) (outer_nodes n older) (new-outer_nodes n older h.1),
 )
 
@@ -183,7 +186,8 @@ length-outer_nodes n (b ∷ older) h =
 -- a circuit has at most the outermost nodes
 pub circuit_fits : (n : ℕ) (bs : List Blossom) (ring : List Link) → IsNested n bs → IsCircuit n bs ring → length ring ≤ length (outer_nodes n bs)
 circuit_fits n bs ring h c =
-    let few : length (nodes_of ring) ≤ length (outer_nodes n bs) = length-within (nodes_of ring) (outer_nodes n bs) (new_from_distinct (nodes_of ring) c.different) (λ v e. holds-outer_nodes n bs v h ∙ circuit_outer n bs ring v c e) in
+    let few : length (nodes_of ring) ≤ length (outer_nodes n bs) =
+    length-within (nodes_of ring) (outer_nodes n bs) (new_from_distinct (nodes_of ring) c.different) (λ v e. holds-outer_nodes n bs v h ∙ circuit_outer n bs ring v c e) in
     omega (arith, length-map ring (λ (l : Link). l.node))
 
 -- each ring has three links at least

@@ -29,7 +29,8 @@ pub record HasRing (n : ℕ) (bs : List Blossom) (a : ℕ) : Type 0 where
 
 -- looked up, it is that of these
 found : (n : ℕ) (bs older : List Blossom) (ring : List Link) (a : ℕ) → AreLookedUp bs older ring a → IsNested n older → IsCircuit n older ring
-    → ((v : ℕ) → is_vertex n v ≡ true → holds (members_of bs a) v ≡ in_ring ring (outermost older v)) → ((c : ℕ) → in_ring ring c ≡ true → is_child older c ≡ false) → HasRing n bs a
+    → ((v : ℕ) → is_vertex n v ≡ true → holds (members_of bs a) v ≡ in_ring ring (outermost older v))
+    → ((c : ℕ) → in_ring ring c ≡ true → is_child older c ≡ false) → HasRing n bs a
 found n bs older ring a at nested circuit member free = record {
   nested = subst (IsNested n) (sym at.older_is) nested;
   circuit = subst (λ (os : List Blossom). IsCircuit n os (ring_of bs a)) (sym at.older_is) (subst (IsCircuit n older) (sym at.ring_is) circuit);
@@ -41,10 +42,12 @@ pub has_ring : (n : ℕ) (bs : List Blossom) (a : ℕ) → IsNested n bs → hol
 has_ring n [] a h k = absurd (both_ways false refl k)
 has_ring n (b ∷ older) a h k =
     by_test (eqb b.node a)
-    (λ s. found n (b ∷ older) older b.ring a (here b older a s) h.1 h.0.circuit (λ v iv. ap (λ ms. holds ms v) (members_here b older a s) ∙ member_by_ring n older b v h iv) (λ c r. child_free n older b c h.0 r))
+    (λ s. found n (b ∷ older) older b.ring a (here b older a s) h.1 h.0.circuit (λ v iv. ap (λ ms. holds ms v) (members_here b older a s) ∙ member_by_ring n older b v h iv)
+    (λ c r. child_free n older b c h.0 r))
     (λ s.
     let r = has_ring n older a h.1 (older_name b older a s k) in
-    found n (b ∷ older) (older_than older a) (ring_of older a) a (past b older a s) r.nested r.circuit (λ v iv. ap (λ ms. holds ms v) (members_past b older a s) ∙ r.member v iv) r.free)
+    found n (b ∷ older) (older_than older a) (ring_of older a) a (past b older a s) r.nested r.circuit
+    (λ v iv. ap (λ ms. holds ms v) (members_past b older a s) ∙ r.member v iv) r.free)
 
 module _ (n : ℕ) (bs : List Blossom) (a : ℕ) (nested : IsNested n bs) (name : holds (names_of bs) a ≡ true) where
   pub ring_long : 3 ≤ length (ring_of bs a)

@@ -30,15 +30,18 @@ ring_members n (b ∷ older) a h k =
     (λ e. members_here b older a e ∙ h.0.union ∙ sym (union_past b older b.ring free.0) ∙ ap (λ q. union_of (b ∷ older) (cond q b.ring (ring_of older a))) (sym e))
     (λ e.
     let there : holds (names_of older) a ≡ true = older_name b older a e k in
-    let out : in_ring (ring_of older a) b.node ≡ false = false_from_ne_true (in_ring (ring_of older a) b.node) (λ r. both_ways (is_child older b.node) free.1 (ring_child older a b.node r)) in
-    members_past b older a e ∙ ring_members n older a h.1 there ∙ sym (union_past b older (ring_of older a) out) ∙ ap (λ q. union_of (b ∷ older) (cond q b.ring (ring_of older a))) (sym e))
+    let out : in_ring (ring_of older a) b.node ≡ false =
+    false_from_ne_true (in_ring (ring_of older a) b.node) (λ r. both_ways (is_child older b.node) free.1 (ring_child older a b.node r)) in
+    members_past b older a e ∙ ring_members n older a h.1 there ∙ sym (union_past b older (ring_of older a) out)
+    ∙ ap (λ q. union_of (b ∷ older) (cond q b.ring (ring_of older a))) (sym e))
 
 pub child_parent : (n : ℕ) (bs : List Blossom) (x : ℕ) → IsNested n bs → is_child bs x ≡ true → parent_of bs x ≢ 0
 child_parent n [] x h e z = both_ways false refl e
 child_parent n (b ∷ older) x h e z =
     by_test (in_ring b.ring x)
     (λ r. let top : b.node ≡ 0 = sym (ap (λ q. cond q b.node (parent_of older x)) r) ∙ z in absurd (omega (arith, top, h.0.after_vertices)))
-    (λ r. child_parent n older x h.1 (⊎_elim (λ s. absurd (both_ways (in_ring b.ring x) r s)) (λ m. m) (or_cases (in_ring b.ring x) (is_child older x) e)) (sym (ap (λ q. cond q b.node (parent_of older x)) r) ∙ z))
+    (λ r. child_parent n older x h.1 (⊎_elim (λ s. absurd (both_ways (in_ring b.ring x) r s)) (λ m. m) (or_cases (in_ring b.ring x) (is_child older x) e))
+    (sym (ap (λ q. cond q b.node (parent_of older x)) r) ∙ z))
 
 pub ring_other : (bs : List Blossom) (a c : ℕ) → is_child bs a ≡ false → in_ring (ring_of bs a) c ≡ true → eqb a c ≡ false
 ring_other bs a c free r = ne_eqb a c (λ s. both_ways (is_child bs a) free (subst (λ x. is_child bs x ≡ true) (sym s) (ring_child bs a c r)))
@@ -51,7 +54,8 @@ child_outer n bs a c h free r =
     child_parent n (without bs a) c (nested_without n bs a h free) e (parent_without n bs a c h ∙ ap (λ q. cond q 0 (parent_of bs c)) r))))
 
 -- the other vertices keep their outermost node
-pub outermost_without : (n : ℕ) (bs : List Blossom) (a v : ℕ) → IsNested n bs → is_child bs a ≡ false → is_vertex n v ≡ true → holds (members_of bs a) v ≡ false → outermost (without bs a) v ≡ outermost bs v
+pub outermost_without : (n : ℕ) (bs : List Blossom) (a v : ℕ) → IsNested n bs → is_child bs a ≡ false → is_vertex n v ≡ true → holds (members_of bs a) v ≡ false
+    → outermost (without bs a) v ≡ outermost bs v
 outermost_without n bs a v h free iv m =
     let has = outermost_has n bs v h iv in
     let o : ℕ = outermost bs v in

@@ -35,7 +35,8 @@ removed_has (y ∷ ys) a x ne k =
     (λ e. ap (λ q. holds (cond q ys (y ∷ removed ys a)) x) e
     ∙ ⊎_elim (λ s. absurd (eqb-false a x ne (sym (eqb-true y a e) ∙ eqb-true y x s))) (λ m. m) (or_cases (eqb y x) (holds ys x) k))
     (λ e. ap (λ q. holds (cond q ys (y ∷ removed ys a)) x) e
-    ∙ ⊎_elim (λ s. subst (λ z. holds (y ∷ removed ys a) z ≡ true) (eqb-true y x s) (first_in y (removed ys a))) (λ m. later_in y (removed ys a) x (removed_has ys a x ne m)) (or_cases (eqb y x) (holds ys x) k))
+    ∙ ⊎_elim (λ s. subst (λ z. holds (y ∷ removed ys a) z ≡ true) (eqb-true y x s) (first_in y (removed ys a)))
+    (λ m. later_in y (removed ys a) x (removed_has ys a x ne m)) (or_cases (eqb y x) (holds ys x) k))
 
 pub removed_not : (xs : List ℕ) (a : ℕ) → AllNew xs → holds (removed xs a) a ≡ false
 removed_not [] a h = refl
@@ -49,7 +50,8 @@ pub walk_order : (o w : List ℕ) (p : ℕ) (xs : List ℕ) → IsOrder o w p xs
 walk_order o w p [] h = refl
 walk_order o w p (x ∷ xs) h = ap (walk (suc (length xs)) o) h.0 ∙ ap (λ t. x ∷ t) (walk_order o w x xs h.2)
 
-order_frame : (o w o' w' : List ℕ) (p : ℕ) (xs : List ℕ) → IsOrder o w p xs → ((x : ℕ) → holds (p ∷ xs) x ≡ true → get_or o' x 0 ≡ get_or o x 0) → ((x : ℕ) → holds xs x ≡ true → get_or w' x 0 ≡ get_or w x 0) → get_or w' 0 0 ≡ get_or w 0 0 → IsOrder o' w' p xs
+order_frame : (o w o' w' : List ℕ) (p : ℕ) (xs : List ℕ) → IsOrder o w p xs → ((x : ℕ) → holds (p ∷ xs) x ≡ true → get_or o' x 0 ≡ get_or o x 0)
+    → ((x : ℕ) → holds xs x ≡ true → get_or w' x 0 ≡ get_or w x 0) → get_or w' 0 0 ≡ get_or w 0 0 → IsOrder o' w' p xs
 order_frame o w o' w' p [] h fo fw end = (fo p (first_in p []) ∙ h.0, end ∙ h.1)
 order_frame o w o' w' p (x ∷ xs) h fo fw end = (
   fo p (first_in p (x ∷ xs)) ∙ h.0,
@@ -61,7 +63,8 @@ differ : (xs : List ℕ) (x y : ℕ) → holds xs x ≡ true → holds xs y ≡ 
 differ xs x y e f s = both_ways (holds xs y) f (subst (λ z. holds xs z ≡ true) s e)
 
 -- a new first one
-pub put_first_order : (o w : List ℕ) (node : ℕ) (xs : List ℕ) → IsOrder o w 0 xs → AllNew xs → holds xs node ≡ false → holds xs 0 ≡ false → node ≢ 0 → node < length o → node < length w → ((x : ℕ) → holds xs x ≡ true → x < length w)
+pub put_first_order : (o w : List ℕ) (node : ℕ) (xs : List ℕ) → IsOrder o w 0 xs → AllNew xs → holds xs node ≡ false → holds xs 0 ≡ false → node ≢ 0 → node < length o
+    → node < length w → ((x : ℕ) → holds xs x ≡ true → x < length w)
     → IsOrder (set (set o node (get_or o 0 0)) 0 node) (set (set w (get_or o 0 0) node) node 0) 0 (node ∷ xs)
 put_first_order o w node [] h new out zero_out nz low high places =
     let o1 : List ℕ = set o node (get_or o 0 0) in
@@ -108,14 +111,17 @@ order_after o w p a (x ∷ xs) h k = ⊎_elim
     (or_cases (eqb p a) (holds (x ∷ xs) a) k)
 
 -- where the neighbours lie in the tables
-pub neighbours_within : (o w : List ℕ) (a m : ℕ) (xs : List ℕ) → IsOrder o w 0 xs → holds xs a ≡ true → ((x : ℕ) → holds xs x ≡ true → x < m) → 0 < m → (get_or o a 0 < m) × (get_or w a 0 < m)
+pub neighbours_within : (o w : List ℕ) (a m : ℕ) (xs : List ℕ) → IsOrder o w 0 xs → holds xs a ≡ true → ((x : ℕ) → holds xs x ≡ true → x < m) → 0 < m
+    → (get_or o a 0 < m) × (get_or w a 0 < m)
 neighbours_within o w a m xs h k places some = (
   ⊎_elim (λ z. omega (arith, z)) (λ z. places (get_or o a 0) z) (order_after o w 0 a xs h (later_in 0 xs a k)),
-  ⊎_elim (λ s. let e : 0 ≡ get_or w a 0 = eqb-true 0 (get_or w a 0) s in omega (arith, e)) (λ z. places (get_or w a 0) z) (or_cases (eqb 0 (get_or w a 0)) (holds xs (get_or w a 0)) (order_before o w 0 a xs h k)),
+  ⊎_elim (λ s. let e : 0 ≡ get_or w a 0 = eqb-true 0 (get_or w a 0) s in omega (arith, e))
+      (λ z. places (get_or w a 0) z) (or_cases (eqb 0 (get_or w a 0)) (holds xs (get_or w a 0)) (order_before o w 0 a xs h k)),
 )
 
 -- one is taken out
-pub take_out_order : (o w : List ℕ) (p a : ℕ) (xs : List ℕ) → IsOrder o w p xs → AllNew (p ∷ xs) → holds xs a ≡ true → holds xs 0 ≡ false → ((x : ℕ) → holds (p ∷ xs) x ≡ true → x < length o) → ((x : ℕ) → holds xs x ≡ true → x < length w) → 0 < length w
+pub take_out_order : (o w : List ℕ) (p a : ℕ) (xs : List ℕ) → IsOrder o w p xs → AllNew (p ∷ xs) → holds xs a ≡ true → holds xs 0 ≡ false
+    → ((x : ℕ) → holds (p ∷ xs) x ≡ true → x < length o) → ((x : ℕ) → holds xs x ≡ true → x < length w) → 0 < length w
     → IsOrder (set o (get_or w a 0) (get_or o a 0)) (set w (get_or o a 0) (get_or w a 0)) p (removed xs a)
 take_out_order o w p a [] h new k zero_out places places_w some = absurd (both_ways false refl k)
 take_out_order o w p a (x ∷ xs) h new k zero_out places places_w some =
@@ -140,7 +146,8 @@ take_out_order o w p a (x ∷ xs) h new k zero_out places places_w some =
     subst (λ q. IsOrder o' w' p (cond q xs (x ∷ removed xs a))) (sym e)
     (get_or-set_other o (get_or w a 0) p (get_or o a 0) 0 not_p ∙ h.0, get_or-set_other w (get_or o a 0) x (get_or w a 0) 0 not_x ∙ h.1, rest))
   where
-    joined_up : (ys : List ℕ) → IsOrder o w a ys → get_or w a 0 ≡ p → AllNew ys → holds ys p ≡ false → holds ys 0 ≡ false → ((y : ℕ) → holds ys y ≡ true → y < length w)
+    joined_up : (ys : List ℕ) → IsOrder o w a ys → get_or w a 0 ≡ p → AllNew ys → holds ys p ≡ false → holds ys 0 ≡ false
+        → ((y : ℕ) → holds ys y ≡ true → y < length w)
         → IsOrder (set o (get_or w a 0) (get_or o a 0)) (set w (get_or o a 0) (get_or w a 0)) p ys
     joined_up [] u before n1 out z_out pl = (
       ap (λ i. get_or (set o i (get_or o a 0)) p 0) before ∙ get_or-set_same o p (get_or o a 0) 0 (places p (first_in p (x ∷ xs))) ∙ u.0,

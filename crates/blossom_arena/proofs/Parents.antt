@@ -44,13 +44,15 @@ IsUp p [] = Unit {0}
 IsUp p (x ∷ []) = p x ≡ 0
 IsUp p (x ∷ y ∷ rest) = (p x ≡ y) × IsUp p (y ∷ rest)
 
-up_keep : (p q : ℕ → ℕ) (d : ℕ) (xs : List ℕ) → IsUp p xs → AllByRecursion (λ x. x ≢ 0) xs → ((x : ℕ) → p x ≢ 0 → q x ≡ p x) → q (last_of d xs) ≡ 0 → IsUp q xs
+up_keep : (p q : ℕ → ℕ) (d : ℕ) (xs : List ℕ) → IsUp p xs → AllByRecursion (λ x. x ≢ 0) xs → ((x : ℕ) → p x ≢ 0 → q x ≡ p x)
+    → q (last_of d xs) ≡ 0 → IsUp q xs
 up_keep p q d [] u nz same end = tt
 up_keep p q d (x ∷ []) u nz same end = end
 up_keep p q d (x ∷ y ∷ rest) u nz same end =
     (same x (λ z. nz.1.0 (sym u.0 ∙ z)) ∙ u.0, up_keep p q x (y ∷ rest) u.1 nz.1 same end)
 
-up_more : (p q : ℕ → ℕ) (d b : ℕ) (xs : List ℕ) → 1 ≤ length xs → IsUp p xs → AllByRecursion (λ x. x ≢ 0) xs → ((x : ℕ) → p x ≢ 0 → q x ≡ p x) → q (last_of d xs) ≡ b → q b ≡ 0 → IsUp q (xs ++ b ∷ [])
+up_more : (p q : ℕ → ℕ) (d b : ℕ) (xs : List ℕ) → 1 ≤ length xs → IsUp p xs → AllByRecursion (λ x. x ≢ 0) xs → ((x : ℕ) → p x ≢ 0 → q x ≡ p x)
+    → q (last_of d xs) ≡ b → q b ≡ 0 → IsUp q (xs ++ b ∷ [])
 up_more p q d b [] some u nz same end top = absurd (omega arith)
 up_more p q d b (x ∷ []) some u nz same end top = (end, top)
 up_more p q d b (x ∷ y ∷ rest) some u nz same end top =
@@ -79,12 +81,14 @@ chain_last (b ∷ older) d v = elim (holds b.members v) as (λ q. last_of d (con
 
 -- a chain is of nodes
 pub chain_node : (n : ℕ) (bs : List Blossom) (v x : ℕ) → is_vertex n v ≡ true → holds (chain_of bs v) x ≡ true → is_node n bs x ≡ true
-chain_node n [] v x iv e = ⊎_elim (λ s. or_left (is_vertex n x) false (ap (is_vertex n) (sym (eqb-true v x s)) ∙ iv)) (λ f. absurd (both_ways false refl f)) (or_cases (eqb v x) false e)
+chain_node n [] v x iv e = ⊎_elim (λ s. or_left (is_vertex n x) false (ap (is_vertex n) (sym (eqb-true v x s)) ∙ iv))
+    (λ f. absurd (both_ways false refl f)) (or_cases (eqb v x) false e)
 chain_node n (b ∷ older) v x iv e =
     by_test (holds b.members v)
     (λ m. ⊎_elim
     (λ r. node_grows n b older x (chain_node n older v x iv r))
-    (λ r. ⊎_elim (λ s. subst (λ y. is_node n (b ∷ older) y ≡ true) (eqb-true b.node x s) (new_is_node n b older)) (λ f. absurd (both_ways false refl f)) (or_cases (eqb b.node x) false r))
+    (λ r. ⊎_elim (λ s. subst (λ y. is_node n (b ∷ older) y ≡ true) (eqb-true b.node x s) (new_is_node n b older))
+    (λ f. absurd (both_ways false refl f)) (or_cases (eqb b.node x) false r))
     (or_cases (holds (chain_of older v) x) (holds (b.node ∷ []) x)
     (sym (holds-append (chain_of older v) (b.node ∷ []) x) ∙ sym (ap (λ q. holds (cond q (chain_of older v ++ b.node ∷ []) (chain_of older v)) x) m) ∙ e)))
     (λ m. node_grows n b older x (chain_node n older v x iv (sym (ap (λ q. holds (cond q (chain_of older v ++ b.node ∷ []) (chain_of older v)) x) m) ∙ e)))
@@ -120,14 +124,16 @@ climb_zero : (k : ℕ) (ps : List ℕ) → climb k ps 0 ≡ []
 climb_zero zero ps = refl
 climb_zero (suc k) ps = refl
 
-pub climb_is : (k : ℕ) (ps : List ℕ) (p : ℕ → ℕ) (x : ℕ) (xs : List ℕ) → IsUp p (x ∷ xs) → AllByRecursion (λ y. get_or ps y 0 ≡ p y) (x ∷ xs) → AllByRecursion (λ y. y ≢ 0) (x ∷ xs) → length (x ∷ xs) ≤ k → climb k ps x ≡ x ∷ xs
+pub climb_is : (k : ℕ) (ps : List ℕ) (p : ℕ → ℕ) (x : ℕ) (xs : List ℕ) → IsUp p (x ∷ xs) → AllByRecursion (λ y. get_or ps y 0 ≡ p y) (x ∷ xs)
+    → AllByRecursion (λ y. y ≢ 0) (x ∷ xs) → length (x ∷ xs) ≤ k → climb k ps x ≡ x ∷ xs
 climb_is zero ps p x xs u at nz short = absurd (omega arith)
 climb_is (suc k) ps p x [] u at nz short =
     ap (λ q. cond q [] (x ∷ climb k ps (get_or ps x 0))) (ne_eqb x 0 nz.0) ∙ ap (λ t. x ∷ t) (ap (climb k ps) (at.0 ∙ u) ∙ climb_zero k ps)
 climb_is (suc k) ps p x (y ∷ rest) u at nz short =
     ap (λ q. cond q [] (x ∷ climb k ps (get_or ps x 0))) (ne_eqb x 0 nz.0) ∙ ap (λ t. x ∷ t) (ap (climb k ps) (at.0 ∙ u.0) ∙ climb_is k ps p y rest u.1 at.1 nz.1 (omega arith))
 
-pub climb_to_is : (k : ℕ) (ps : List ℕ) (p : ℕ → ℕ) (a x : ℕ) (xs rest : List ℕ) → IsUp p ((x ∷ xs) ++ (a ∷ rest)) → AllByRecursion (λ y. get_or ps y 0 ≡ p y) (x ∷ xs) → AllByRecursion (λ y. y ≢ a) (x ∷ xs) → length (x ∷ xs) ≤ k → climb_to k ps a x ≡ last_of x xs
+pub climb_to_is : (k : ℕ) (ps : List ℕ) (p : ℕ → ℕ) (a x : ℕ) (xs rest : List ℕ) → IsUp p ((x ∷ xs) ++ (a ∷ rest))
+    → AllByRecursion (λ y. get_or ps y 0 ≡ p y) (x ∷ xs) → AllByRecursion (λ y. y ≢ a) (x ∷ xs) → length (x ∷ xs) ≤ k → climb_to k ps a x ≡ last_of x xs
 climb_to_is zero ps p a x xs rest u at ne short = absurd (omega arith)
 climb_to_is (suc k) ps p a x [] rest u at ne short = ap (λ q. cond q x (climb_to k ps a (get_or ps x 0))) (eq-eqb (get_or ps x 0) a (at.0 ∙ u.0))
 climb_to_is (suc k) ps p a x (y ∷ more) rest u at ne short =
@@ -144,10 +150,12 @@ chain_first (b ∷ older) v =
     (λ m. (r.0, ap (λ q. cond q (chain_of older v ++ b.node ∷ []) (chain_of older v)) m ∙ r.1))
 
 -- the table has the parents of these nodes
-pub at_nodes : (n : ℕ) (bs : List Blossom) (ps xs : List ℕ) → ((x : ℕ) → is_node n bs x ≡ true → get_or ps x 0 ≡ parent_of bs x) → ((x : ℕ) → holds xs x ≡ true → is_node n bs x ≡ true) → AllByRecursion (λ y. get_or ps y 0 ≡ parent_of bs y) xs
+pub at_nodes : (n : ℕ) (bs : List Blossom) (ps xs : List ℕ) → ((x : ℕ) → is_node n bs x ≡ true → get_or ps x 0 ≡ parent_of bs x)
+    → ((x : ℕ) → holds xs x ≡ true → is_node n bs x ≡ true) → AllByRecursion (λ y. get_or ps y 0 ≡ parent_of bs y) xs
 at_nodes n bs ps xs table nodes = each_from (λ y. get_or ps y 0 ≡ parent_of bs y) xs (λ x e. table x (nodes x e))
 
-pub climb_chain : (n k : ℕ) (bs : List Blossom) (ps : List ℕ) (v : ℕ) → IsNested n bs → is_vertex n v ≡ true → ((x : ℕ) → is_node n bs x ≡ true → get_or ps x 0 ≡ parent_of bs x) → length bs + 1 ≤ k → climb k ps v ≡ chain_of bs v
+pub climb_chain : (n k : ℕ) (bs : List Blossom) (ps : List ℕ) (v : ℕ) → IsNested n bs → is_vertex n v ≡ true
+    → ((x : ℕ) → is_node n bs x ≡ true → get_or ps x 0 ≡ parent_of bs x) → length bs + 1 ≤ k → climb k ps v ≡ chain_of bs v
 climb_chain n k bs ps v h iv table short =
     let first = chain_first bs v in
     let is : chain_of bs v ≡ v ∷ first.0 = first.1 in
@@ -158,7 +166,8 @@ climb_chain n k bs ps v h iv table short =
     (omega (arith, chain_short bs v, ap length is))
     ∙ sym is
 
-pub can_climb : (n : ℕ) (bs : List Blossom) (ps : List ℕ) (v : ℕ) → IsNested n bs → is_vertex n v ≡ true → ((x : ℕ) → is_node n bs x ≡ true → get_or ps x 0 ≡ parent_of bs x) → length ps ≡ n + most_blossoms n + 1 → CanClimb ps v
+pub can_climb : (n : ℕ) (bs : List Blossom) (ps : List ℕ) (v : ℕ) → IsNested n bs → is_vertex n v ≡ true
+    → ((x : ℕ) → is_node n bs x ≡ true → get_or ps x 0 ≡ parent_of bs x) → length ps ≡ n + most_blossoms n + 1 → CanClimb ps v
 can_climb n bs ps v h iv table len =
     let few : length bs + 1 ≤ length ps = omega (arith, blossoms_few n bs h, len) in
     let at_len = climb_chain n (length ps) bs ps v h iv table few in
@@ -183,7 +192,8 @@ older_fresh n (b ∷ older) a h k =
 
 pub older_short : (bs : List Blossom) (a : ℕ) → length (older_than bs a) ≤ length bs
 older_short [] a = omega arith
-older_short (b ∷ older) a = elim (eqb b.node a) as (λ q. length (cond q older (older_than older a)) ≤ length (b ∷ older)) [ true ↦ omega arith | false ↦ omega (arith, older_short older a) ]
+older_short (b ∷ older) a = elim (eqb b.node a) as (λ q. length (cond q older (older_than older a)) ≤ length (b ∷ older))
+    [ true ↦ omega arith | false ↦ omega (arith, older_short older a) ]
 
 pub older_node : (n : ℕ) (bs : List Blossom) (a x : ℕ) → is_node n (older_than bs a) x ≡ true → is_node n bs x ≡ true
 older_node n [] a x e = e
@@ -192,14 +202,18 @@ older_node n (b ∷ older) a x e =
     (λ s. node_grows n b older x (sym (ap (λ q. is_node n (cond q older (older_than older a)) x) s) ∙ e))
     (λ s. node_grows n b older x (older_node n older a x (sym (ap (λ q. is_node n (cond q older (older_than older a)) x) s) ∙ e)))
 
-pub chain_through : (bs : List Blossom) (a v : ℕ) → holds (names_of bs) a ≡ true → holds (members_of bs a) v ≡ true → (rest : List ℕ) × (chain_of bs v ≡ chain_of (older_than bs a) v ++ (a ∷ rest))
+pub chain_through : (bs : List Blossom) (a v : ℕ) → holds (names_of bs) a ≡ true → holds (members_of bs a) v ≡ true
+    → (rest : List ℕ) × (chain_of bs v ≡ chain_of (older_than bs a) v ++ (a ∷ rest))
 chain_through [] a v k m = absurd (both_ways false refl k)
 chain_through (b ∷ older) a v k m =
     by_test (eqb b.node a)
     (λ e.
     let held : holds b.members v ≡ true = sym (ap (λ ms. holds ms v) (members_here b older a e)) ∙ m in
-    let below : chain_of (older_than (b ∷ older) a) v ≡ chain_of older v = ap (λ q. chain_of (cond q older (older_than older a)) v) e in
-    ([], ap (λ q. cond q (chain_of older v ++ b.node ∷ []) (chain_of older v)) held ∙ ap (λ c. chain_of older v ++ c ∷ []) (eqb-true b.node a e) ∙ ap (λ c. c ++ a ∷ []) (sym below)))
+    let below : chain_of (older_than (b ∷ older) a) v ≡ chain_of older v = ap (λ q. chain_of (cond q older (older_than older a)) v) e in (
+      [],
+      ap (λ q. cond q (chain_of older v ++ b.node ∷ []) (chain_of older v)) held ∙ ap (λ c. chain_of older v ++ c ∷ []) (eqb-true b.node a e)
+          ∙ ap (λ c. c ++ a ∷ []) (sym below),
+    ))
     (λ e.
     let r = chain_through older a v (older_name b older a e k) (sym (ap (λ ms. holds ms v) (members_past b older a e)) ∙ m) in
     let below : chain_of (older_than (b ∷ older) a) v ≡ chain_of (older_than older a) v = ap (λ q. chain_of (cond q older (older_than older a)) v) e in
@@ -211,7 +225,8 @@ chain_through (b ∷ older) a v k m =
     ))
     (λ held. (r.0, ap (λ q. cond q (chain_of older v ++ b.node ∷ []) (chain_of older v)) held ∙ r.1 ∙ ap (λ c. c ++ (a ∷ r.0)) (sym below))))
 
-pub climb_child : (n : ℕ) (bs : List Blossom) (ps : List ℕ) (a v : ℕ) → IsNested n bs → is_vertex n v ≡ true → holds (names_of bs) a ≡ true → holds (members_of bs a) v ≡ true
+pub climb_child : (n : ℕ) (bs : List Blossom) (ps : List ℕ) (a v : ℕ) → IsNested n bs → is_vertex n v ≡ true → holds (names_of bs) a ≡ true
+    → holds (members_of bs a) v ≡ true
     → ((x : ℕ) → is_node n bs x ≡ true → get_or ps x 0 ≡ parent_of bs x) → length ps ≡ n + most_blossoms n + 1 → climb_to (length ps) ps a v ≡ child_holding bs a v
 climb_child n bs ps a v h iv k m table len =
     let older : List Blossom = older_than bs a in
@@ -221,7 +236,8 @@ climb_child n bs ps a v h iv k m table len =
     let up : IsUp (parent_of bs) ((v ∷ first.0) ++ (a ∷ through.0)) = subst (IsUp (parent_of bs)) (through.1 ∙ ap (λ c. c ++ (a ∷ through.0)) is) (chain_up n bs v h iv) in
     climb_to_is (length ps) ps (parent_of bs) a v first.0 through.0 up
     (subst (AllByRecursion (λ y. get_or ps y 0 ≡ parent_of bs y)) is (at_nodes n bs ps (chain_of older v) table (λ x e. older_node n bs a x (chain_node n older v x iv e))))
-    (subst (AllByRecursion (λ y. y ≢ a)) is (each_from (λ y. y ≢ a) (chain_of older v) (λ x e. λ s. both_ways (is_node n older a) (older_fresh n bs a h k) (subst (λ y. is_node n older y ≡ true) s (chain_node n older v x iv e)))))
+    (subst (AllByRecursion (λ y. y ≢ a)) is (each_from (λ y. y ≢ a) (chain_of older v)
+    (λ x e. λ s. both_ways (is_node n older a) (older_fresh n bs a h k) (subst (λ y. is_node n older y ≡ true) s (chain_node n older v x iv e)))))
     (omega (arith, ap length is, chain_short older v, older_short bs a, blossoms_few n bs h, len))
     ∙ sym (ap (last_of v) is) ∙ chain_last older v v
 
@@ -244,7 +260,8 @@ climb_settled zero ps x e = ⊎_elim
 climb_settled (suc k) ps x e = ⊎_elim
     (λ z. ap (climb (suc (suc k)) ps) z ∙ sym (ap (climb (suc (suc (suc k))) ps) z))
     (λ ne. climb_past (suc k) ps x ne
-    ∙ ap (λ t. x ∷ t) (climb_settled k ps (get_or ps x 0) (tails x x (climb k ps (get_or ps x 0)) (climb (suc k) ps (get_or ps x 0)) (sym (climb_past k ps x ne) ∙ e ∙ climb_past (suc k) ps x ne)))
+    ∙ ap (λ t. x ∷ t) (climb_settled k ps (get_or ps x 0)
+    (tails x x (climb k ps (get_or ps x 0)) (climb (suc k) ps (get_or ps x 0)) (sym (climb_past k ps x ne) ∙ e ∙ climb_past (suc k) ps x ne)))
     ∙ sym (climb_past (suc (suc k)) ps x ne))
     (cases_eq x 0)
 

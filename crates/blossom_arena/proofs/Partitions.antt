@@ -63,9 +63,11 @@ added_is t bases v y low written = λ i. record { places = length t.sets; set = 
 pub given_is : (t : SetTables) (tops : List ℕ) (offsets : List ℤ) (s node : ℕ) (y : ℤ) → s < length t.tops → s < length t.offsets → tops ≡ slice_set t.tops s node
     → offsets ≡ slice_set t.offsets s (int_wrap w64 (sum_at t.offsets s +ℤ y)) → placement_of (record t { tops = tops; offsets = offsets }) ≡ given (placement_of t) s node y
 given_is t tops offsets s node y low_top low named written =
-    λ i. record { places = length t.sets; set = λ w. slice_index t.sets w; top = λ x. (ap (λ xs. slice_index xs x) named ∙ index_set t.tops s node x low_top) i; inner = λ w. each w i }
+    λ i.
+    record { places = length t.sets; set = λ w. slice_index t.sets w; top = λ x. (ap (λ xs. slice_index xs x) named ∙ index_set t.tops s node x low_top) i; inner = λ w. each w i }
   where
-    each : (w : ℕ) → whole_at t.bases offsets t.sets w ≡ cond (eqb s (slice_index t.sets w)) (int_wrap w64 (whole_at t.bases t.offsets t.sets w +ℤ y)) (whole_at t.bases t.offsets t.sets w)
+    each : (w : ℕ) → whole_at t.bases offsets t.sets w
+        ≡ cond (eqb s (slice_index t.sets w)) (int_wrap w64 (whole_at t.bases t.offsets t.sets w +ℤ y)) (whole_at t.bases t.offsets t.sets w)
     each w =
         let c : ℕ = slice_index t.sets w in
         let b : ℤ = sum_at t.bases w in
@@ -80,7 +82,8 @@ given_is t tops offsets s node y low_top low named written =
         ap (λ q. int_wrap w64 (b +ℤ cond q (int_wrap w64 (sum_at t.offsets s +ℤ y)) (sum_at t.offsets c))) e
         ∙ sym (ap (λ q. cond q (int_wrap w64 (whole_at t.bases t.offsets t.sets w +ℤ y)) (whole_at t.bases t.offsets t.sets w)) e))
 
-pub put_is : (t : SetTables) (sets : List ℕ) (bases : List ℤ) (v s : ℕ) (y : ℤ) → v < length t.sets → v < length t.bases → length sets ≡ length t.sets → sets ≡ slice_set t.sets v s
+pub put_is : (t : SetTables) (sets : List ℕ) (bases : List ℤ) (v s : ℕ) (y : ℤ) → v < length t.sets → v < length t.bases → length sets ≡ length t.sets
+    → sets ≡ slice_set t.sets v s
     → bases ≡ slice_set t.bases v (int_wrap w64 (int_wrap w64 (whole_at t.bases t.offsets t.sets v +ℤ y) -ℤ sum_at t.offsets s))
     → placement_of (record t { sets = sets; bases = bases }) ≡ put_in (placement_of t) v s y
 put_is t sets bases v s y low_set low len named written =

@@ -23,14 +23,15 @@ module _ (n : ℕ) (bs : List Blossom) (core_of : ℕ → ℕ) (ys : List ℤ) (
 
   pub placement_outer : is_outermost n bs node ≡ true → IsPlacement n core_of bs (dual_at raised) p
   placement_outer outer = record {
-    outer = h.outer;
+    tops = h.tops;
     inner = λ v iv. h.inner v iv ∙ sym (inner_outer n bs v nested iv ys node d outer place);
     sets = h.sets;
   }
 
-  pub placement_child : n ≤ GRAPH_VERTEX_LIMIT → All IsNumber raised → is_node n bs node ≡ true → is_child bs node ≡ true → IsPlacement n core_of bs (dual_at raised) (all_added p (members_of bs node) d)
+  pub placement_child : n ≤ GRAPH_VERTEX_LIMIT → All IsNumber raised → is_node n bs node ≡ true → is_child bs node ≡ true
+      → IsPlacement n core_of bs (dual_at raised) (all_added p (members_of bs node) d)
   placement_child few numbers is child = record {
-    outer = λ v iv. all_added_top p (members_of bs node) d ((all_added p (members_of bs node) d).set v) ∙ ap p.top (all_added_set p (members_of bs node) d v) ∙ h.outer v iv;
+    tops = λ v iv. all_added_top p (members_of bs node) d ((all_added p (members_of bs node) d).set v) ∙ ap p.top (all_added_set p (members_of bs node) d v) ∙ h.tops v iv;
     inner = λ v iv.
         let sum = inner_child n bs v nested iv ys node d is child place in
         all_added_inner p (members_of bs node) d v (members_new n bs node nested is)
@@ -47,5 +48,6 @@ module _ (n : ℕ) (bs : List Blossom) (core_of : ℕ → ℕ) (ys : List ℤ) (
       alone x = omega (arith, ints)
 
 -- another function of the duals with the same sums
-pub placement_same : (n : ℕ) (core_of : ℕ → ℕ) (bs : List Blossom) (y z : ℕ → ℤ) (p : Placement) → ((v : ℕ) → is_vertex n v ≡ true → inner_of z bs v ≡ inner_of y bs v) → IsPlacement n core_of bs y p → IsPlacement n core_of bs z p
-placement_same n core_of bs y z p sums h = record { outer = h.outer; inner = λ v iv. h.inner v iv ∙ sym (sums v iv); sets = h.sets }
+pub placement_same : (n : ℕ) (core_of : ℕ → ℕ) (bs : List Blossom) (y z : ℕ → ℤ) (p : Placement)
+    → ((v : ℕ) → is_vertex n v ≡ true → inner_of z bs v ≡ inner_of y bs v) → IsPlacement n core_of bs y p → IsPlacement n core_of bs z p
+placement_same n core_of bs y z p sums h = record { tops = h.tops; inner = λ v iv. h.inner v iv ∙ sym (sums v iv); sets = h.sets }

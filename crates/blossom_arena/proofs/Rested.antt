@@ -46,17 +46,20 @@ rested_out ms (x ∷ xs) a e =
     rested_out (slice_set ms x Out) xs a p.1 ∙ get_or-set_other ms x a Out Out (λ s. eqb-false x a p.0 (sym s))
 
 -- a number that is outermost no more, or never was: it is in the new ring, or it wasn't before either
-inside_before : (n : ℕ) (bs : List Blossom) (ring : List Link) (node a : ℕ) → eqb node a ≡ false → in_ring ring a ≡ false → is_outermost n (made_of bs ring node ∷ bs) a ≡ false → is_outermost n bs a ≡ false
+inside_before : (n : ℕ) (bs : List Blossom) (ring : List Link) (node a : ℕ) → eqb node a ≡ false → in_ring ring a ≡ false
+    → is_outermost n (made_of bs ring node ∷ bs) a ≡ false → is_outermost n bs a ≡ false
 inside_before n bs ring node a other out e =
     sym (ap₂ (λ (p q : Bool). (is_vertex n a || (p || holds (names_of bs) a)) && not (q || is_child bs a)) other out) ∙ e
 
-pub motions_shrunk : (n : ℕ) (bs : List Blossom) (ms : List Label) (ring : List Link) (node : ℕ) → is_node n bs node ≡ false → HasMotions n ms bs → HasMotions n (slice_set (rested ms (nodes_of ring)) node Out) (made_of bs ring node ∷ bs)
+pub motions_shrunk : (n : ℕ) (bs : List Blossom) (ms : List Label) (ring : List Link) (node : ℕ) → is_node n bs node ≡ false → HasMotions n ms bs
+    → HasMotions n (slice_set (rested ms (nodes_of ring)) node Out) (made_of bs ring node ∷ bs)
 motions_shrunk n bs ms ring node fresh h = record {
   one_each = length-set (rested ms (nodes_of ring)) node Out ∙ length-rested ms (nodes_of ring) ∙ h.one_each;
   inside = λ a e. rest_stays (rested ms (nodes_of ring)) node a (by_test (in_ring ring a)
       (λ t. rested_in ms (nodes_of ring) a t)
       (λ t. by_test (eqb node a)
-      (λ same. rested_out ms (nodes_of ring) a t ∙ h.inside a (subst (λ (z : ℕ). is_outermost n bs z ≡ false) (eqb-true node a same) (no_node (is_node n bs node) (not (is_child bs node)) fresh)))
+      (λ same. rested_out ms (nodes_of ring) a t
+      ∙ h.inside a (subst (λ (z : ℕ). is_outermost n bs z ≡ false) (eqb-true node a same) (no_node (is_node n bs node) (not (is_child bs node)) fresh)))
       (λ other. rested_out ms (nodes_of ring) a t ∙ h.inside a (inside_before n bs ring node a other t e))));
 }
   where

@@ -68,14 +68,16 @@ outermost_node n (b ∷ older) v iv =
 abbrev TellsOuter : ℕ → List Blossom → ℕ → Type 0
 TellsOuter n bs v = (x : ℕ) → is_outermost n bs x ≡ true → holds (members_of bs x) v ≡ eqb x (outermost bs v)
 
-by_ring : (n : ℕ) (older : List Blossom) (b : Blossom) (v : ℕ) → IsNested n older → IsNext n older b → TellsOuter n older v → holds b.members v ≡ in_ring b.ring (outermost older v)
+by_ring : (n : ℕ) (older : List Blossom) (b : Blossom) (v : ℕ) → IsNested n older → IsNext n older b → TellsOuter n older v
+    → holds b.members v ≡ in_ring b.ring (outermost older v)
 by_ring n older b v h next tells =
     ap (λ ms. holds ms v) next.union
     ∙ same_tests (holds (union_of older b.ring) v) (in_ring b.ring (outermost older v))
     (λ e. let r = of_union older b.ring v e in
     let same : r.node ≡ outermost older v = eqb-true r.node (outermost older v) (sym (tells r.node (circuit_outer n older b.ring r.node next.circuit r.within)) ∙ r.has) in
     subst (λ x. in_ring b.ring x ≡ true) same r.within)
-    (λ e. in_union older b.ring (outermost older v) v e (tells (outermost older v) (circuit_outer n older b.ring (outermost older v) next.circuit e) ∙ eq-eqb (outermost older v) (outermost older v) refl))
+    (λ e. in_union older b.ring (outermost older v) v e (tells (outermost older v) (circuit_outer n older b.ring (outermost older v) next.circuit e)
+    ∙ eq-eqb (outermost older v) (outermost older v) refl))
 
 -- an outermost node has the vertices whose outermost node it is
 pub outer_member : (n : ℕ) (bs : List Blossom) (v : ℕ) → IsNested n bs → is_vertex n v ≡ true → TellsOuter n bs v
@@ -94,7 +96,8 @@ outer_member n (b ∷ older) v h iv x o =
     (λ m. sym (ap (λ q. eqb x (cond q b.node (outermost older v))) m)))
 
 -- a vertex is in a blossom exactly if its outermost node before was in the ring
-pub member_by_ring : (n : ℕ) (older : List Blossom) (b : Blossom) (v : ℕ) → IsNested n (b ∷ older) → is_vertex n v ≡ true → holds b.members v ≡ in_ring b.ring (outermost older v)
+pub member_by_ring : (n : ℕ) (older : List Blossom) (b : Blossom) (v : ℕ) → IsNested n (b ∷ older) → is_vertex n v ≡ true
+    → holds b.members v ≡ in_ring b.ring (outermost older v)
 member_by_ring n older b v h iv = by_ring n older b v h.1 h.0 (outer_member n older v h.1 iv)
 
 -- the outermost node of a vertex is in no ring
@@ -107,9 +110,11 @@ outermost_free n (b ∷ older) v h iv =
     ∙ or_from (in_ring b.ring (outermost older v)) (is_child older (outermost older v)) (sym (member_by_ring n older b v h iv) ∙ m) (outermost_free n older v h.1 iv))
 
 -- and holds it
-pub outermost_has : (n : ℕ) (bs : List Blossom) (v : ℕ) → IsNested n bs → is_vertex n v ≡ true → (is_outermost n bs (outermost bs v) ≡ true) × (holds (members_of bs (outermost bs v)) v ≡ true)
+pub outermost_has : (n : ℕ) (bs : List Blossom) (v : ℕ) → IsNested n bs → is_vertex n v ≡ true
+    → (is_outermost n bs (outermost bs v) ≡ true) × (holds (members_of bs (outermost bs v)) v ≡ true)
 outermost_has n bs v h iv =
-    let outer : is_outermost n bs (outermost bs v) ≡ true = outer_from (is_node n bs (outermost bs v)) (is_child bs (outermost bs v)) (outermost_node n bs v iv) (outermost_free n bs v h iv) in
+    let outer : is_outermost n bs (outermost bs v) ≡ true =
+    outer_from (is_node n bs (outermost bs v)) (is_child bs (outermost bs v)) (outermost_node n bs v iv) (outermost_free n bs v h iv) in
     (outer, outer_member n bs v h iv (outermost bs v) outer ∙ eq-eqb (outermost bs v) (outermost bs v) refl)
   where
     outer_from : (p q : Bool) → p ≡ true → q ≡ false → (p && not q) ≡ true
@@ -124,7 +129,8 @@ outermost_by_member n bs x v h o m =
     sym (eqb-true x (outermost bs v) (sym (outer_member n bs v h iv x o) ∙ m))
 
 -- members are different
-pub union_new : (n : ℕ) (bs : List Blossom) (ring : List Link) → IsNested n bs → AllNew (nodes_of ring) → ((a : ℕ) → in_ring ring a ≡ true → (is_outermost n bs a ≡ true) × AllNew (members_of bs a)) → AllNew (union_of bs ring)
+pub union_new : (n : ℕ) (bs : List Blossom) (ring : List Link) → IsNested n bs → AllNew (nodes_of ring)
+    → ((a : ℕ) → in_ring ring a ≡ true → (is_outermost n bs a ≡ true) × AllNew (members_of bs a)) → AllNew (union_of bs ring)
 union_new n bs [] h d each = tt
 union_new n bs (l ∷ ring) h d each =
     let here = each l.node (first_in l.node (nodes_of ring)) in
@@ -147,12 +153,14 @@ members_new n (b ∷ older) x h k =
     (λ e. subst AllNew (sym (members_past b older x e)) (members_new n older x h.1 (node_before n b older x e k)))
 
 -- an odd number of them
-union_odd : (bs : List Blossom) (ring : List Link) → ((a : ℕ) → in_ring ring a ≡ true → length (members_of bs a) % 2 ≡ 1) → (length (union_of bs ring) % 2 ≡ length ring % 2) × (length ring ≤ length (union_of bs ring))
+union_odd : (bs : List Blossom) (ring : List Link) → ((a : ℕ) → in_ring ring a ≡ true → length (members_of bs a) % 2 ≡ 1)
+    → (length (union_of bs ring) % 2 ≡ length ring % 2) × (length ring ≤ length (union_of bs ring))
 union_odd bs [] each = (refl, omega arith)
 union_odd bs (l ∷ ring) each =
     let rest = union_odd bs ring (λ a r. each a (later_in l.node (nodes_of ring) a r)) in
     let here : length (members_of bs l.node) % 2 ≡ 1 = each l.node (first_in l.node (nodes_of ring)) in
-    let sizes : length (union_of bs (l ∷ ring)) ≡ length (members_of bs l.node) + length (union_of bs ring) = ap length (flat_map-cons (λ (l : Link). members_of bs l.node) l ring) ∙ length-append (members_of bs l.node) (union_of bs ring) in
+    let sizes : length (union_of bs (l ∷ ring)) ≡ length (members_of bs l.node) + length (union_of bs ring) = ap length (flat_map-cons (λ (l : Link). members_of bs l.node) l ring)
+    ∙ length-append (members_of bs l.node) (union_of bs ring) in
     (omega (arith, rest.0, here, sizes), omega (arith, rest.1, here, sizes))
 
 pub members_odd : (n : ℕ) (bs : List Blossom) (x : ℕ) → IsNested n bs → is_node n bs x ≡ true → length (members_of bs x) % 2 ≡ 1

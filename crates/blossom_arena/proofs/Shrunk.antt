@@ -39,7 +39,8 @@ use Rattle.blossom_arena.proofs.Stays.{AddsKept, each_some, kept_stays, kept_the
 abbrev pub with_circuit : Inside → List Link → Slab Kept → List ℕ → ℕ → Placement
 with_circuit a ring kept followers node =
     absorbed (λ x. vertices_of followers (run_of a.vertex_count kept x)) (core_at a.vertex_count kept) (dual_at a.duals.values) (joined_run a ring).core node
-    (given (placement_of a.partition) (joined_run a ring).core node (dual_at a.duals.values ((placement_of a.partition).top ((placement_of a.partition).set (joined_run a ring).core)))) (nodes_of ring)
+    (given (placement_of a.partition) (joined_run a ring).core node (dual_at a.duals.values ((placement_of a.partition).top ((placement_of a.partition).set (joined_run a ring).core))))
+    (nodes_of ring)
 
 -- how the fields change in a shrink
 pub record Shrinks (a b : Inside) (ring : List Link) (node key : ℕ) : Type 0 where
@@ -60,7 +61,8 @@ pub record Shrinks (a b : Inside) (ring : List Link) (node key : ℕ) : Type 0 w
   pub newer : b.newer.items ≡ slice_set (slice_set a.newer.items (slice_index a.older.items 0) node) node 0
 
 -- the places of a circuit's nodes
-pub circuit_places : (n m : ℕ) (bs : List Blossom) (ring : List Link) → IsNested n bs → IsCircuit n bs ring → n + most_blossoms n < m → AllByRecursion (λ (l : Link). l.node < m) ring
+pub circuit_places : (n m : ℕ) (bs : List Blossom) (ring : List Link) → IsNested n bs → IsCircuit n bs ring → n + most_blossoms n < m
+    → AllByRecursion (λ (l : Link). l.node < m) ring
 circuit_places n m bs ring h c enough = go ring (λ x r. circuit_node n bs ring x c r)
   where
     go : (ls : List Link) → ((x : ℕ) → in_ring ls x ≡ true → is_node n bs x ≡ true) → AllByRecursion (λ (l : Link). l.node < m) ls
@@ -68,14 +70,16 @@ circuit_places n m bs ring h c enough = go ring (λ x r. circuit_node n bs ring 
     go (l ∷ ls) nodes = (omega (arith, (node_range n bs l.node h (nodes l.node (first_in l.node (nodes_of ls)))).1), go ls (λ x r. nodes x (later_in l.node (nodes_of ls) x r)))
 
 -- the ring as it is written
-pub ring_written : (nexts edges : List ℕ) (ring : List Link) → AllNew (nodes_of ring) → AllByRecursion (λ (l : Link). l.node < length nexts) ring → AllByRecursion (λ (l : Link). l.node < length edges) ring
+pub ring_written : (nexts edges : List ℕ) (ring : List Link) → AllNew (nodes_of ring) → AllByRecursion (λ (l : Link). l.node < length nexts) ring
+    → AllByRecursion (λ (l : Link). l.node < length edges) ring
     → links_of (noted edges ring) (walk (length ring) (threaded nexts ring (next_node ring 0)) (next_node ring 0)) ≡ ring
 ring_written nexts edges [] new in_nexts in_edges = refl
 ring_written nexts edges (l ∷ rest) new in_nexts in_edges =
     ap (links_of (noted edges (l ∷ rest))) (threaded_walk nexts (l ∷ rest) l.node new in_nexts) ∙ noted_links edges (l ∷ rest) new in_edges
 
 -- a new blossom's dual changes no older one's
-other_duals : (n : ℕ) (bs : List Blossom) (ys : List ℤ) (node : ℕ) → holds (names_of bs) node ≡ false → AllByRecursion (λ (b : Blossom). pos 0 ≤ℤ dual_at ys b.node) bs → AllByRecursion (λ (b : Blossom). pos 0 ≤ℤ dual_at (slice_set ys node (pos 0)) b.node) bs
+other_duals : (n : ℕ) (bs : List Blossom) (ys : List ℤ) (node : ℕ) → holds (names_of bs) node ≡ false → AllByRecursion (λ (b : Blossom). pos 0 ≤ℤ dual_at ys b.node) bs
+    → AllByRecursion (λ (b : Blossom). pos 0 ≤ℤ dual_at (slice_set ys node (pos 0)) b.node) bs
 other_duals n [] ys node new each = tt
 other_duals n (b ∷ older) ys node new each =
     let p = or_parts (eqb b.node node) (holds (names_of older) node) new in
@@ -83,7 +87,19 @@ other_duals n (b ∷ older) ys node new each =
 
 module _ (a : Inside) (duals : DualTable) (partition : SetTables) (parents nexts edges followers older newer : Vec ℕ) (kept : Slab Kept) (ring : List Link) (node key : ℕ) where
   abbrev pub after : Inside
-  after = record { vertex_count = a.vertex_count; duals = duals; partition = partition; parents = parents; nexts = nexts; edges = edges; followers = followers; older = older; newer = newer; kept = kept }
+  after =
+      record {
+        vertex_count = a.vertex_count;
+        duals = duals;
+        partition = partition;
+        parents = parents;
+        nexts = nexts;
+        edges = edges;
+        followers = followers;
+        older = older;
+        newer = newer;
+        kept = kept;
+      }
 
   module _ (s : IsSound a) (c : IsCircuit a.vertex_count (blossoms_of a) ring) (h : Shrinks a after ring node key) where
     abbrev n : ℕ
@@ -146,7 +162,8 @@ module _ (a : Inside) (duals : DualTable) (partition : SetTables) (parents nexts
         let apart : (y : ℕ) → holds (walk old.links a.nexts.items old.first) y ≡ true → holds (nodes_of ring) y ≡ false = λ y m.
         false_from_ne_true (in_ring ring y) (λ r. both_ways (is_child bs y) (outermost_parts n bs y (circuit_outer n bs ring y c r)).1 (ring_walk_child a x y e m)) in
         let walked : walk old.links nexts.items old.first ≡ walk old.links a.nexts.items old.first =
-        ap (λ t. walk old.links t old.first) h.nexts ∙ walk_same old.links a.nexts.items (threaded a.nexts.items ring (next_node ring 0)) old.first (λ y m. threaded_out a.nexts.items ring (next_node ring 0) y (apart y m)) in
+        ap (λ t. walk old.links t old.first) h.nexts ∙ walk_same old.links a.nexts.items (threaded a.nexts.items ring (next_node ring 0)) old.first
+        (λ y m. threaded_out a.nexts.items ring (next_node ring 0) y (apart y m)) in
         ap (λ (k : Kept). links_of edges.items (walk k.links nexts.items k.first)) (kept_same x e)
         ∙ ap (links_of edges.items) walked
         ∙ ap (λ t. links_of t (walk old.links a.nexts.items old.first)) h.edges
@@ -210,7 +227,8 @@ module _ (a : Inside) (duals : DualTable) (partition : SetTables) (parents nexts
     places_stay =
         spread_places
         (taking_in (λ x. vertices_of followers.items (run_of n kept x)) (core_at n kept) (dual_at a.duals.values) (joined_run a ring).core node)
-        (given (placement_of a.partition) (joined_run a ring).core node (dual_at a.duals.values ((placement_of a.partition).top ((placement_of a.partition).set (joined_run a ring).core)))) (nodes_of ring)
+        (given (placement_of a.partition) (joined_run a ring).core node (dual_at a.duals.values ((placement_of a.partition).top ((placement_of a.partition).set (joined_run a ring).core))))
+        (nodes_of ring)
 
     placement_after : IsPlacement n (core_at n kept) (made_of bs ring node ∷ bs) (dual_at duals.values) (placement_of partition)
     placement_after =
@@ -236,8 +254,10 @@ module _ (a : Inside) (duals : DualTable) (partition : SetTables) (parents nexts
         parents = ap length h.parents ∙ length-set (filled a.parents.items (nodes_of ring) node) node 0 ∙ length-filled a.parents.items (nodes_of ring) node ∙ s.places.parents;
         nexts = ap length h.nexts ∙ length-threaded a.nexts.items ring (next_node ring 0) ∙ s.places.nexts;
         edges = ap length h.edges ∙ length-noted a.edges.items ring ∙ s.places.edges;
-        older = ap length h.older ∙ length-set (slice_set a.older.items node (slice_index a.older.items 0)) 0 node ∙ length-set a.older.items node (slice_index a.older.items 0) ∙ s.places.older;
-        newer = ap length h.newer ∙ length-set (slice_set a.newer.items (slice_index a.older.items 0) node) node 0 ∙ length-set a.newer.items (slice_index a.older.items 0) node ∙ s.places.newer;
+        older = ap length h.older ∙ length-set (slice_set a.older.items node (slice_index a.older.items 0)) 0 node
+            ∙ length-set a.older.items node (slice_index a.older.items 0) ∙ s.places.older;
+        newer = ap length h.newer ∙ length-set (slice_set a.newer.items (slice_index a.older.items 0) node) node 0
+            ∙ length-set a.newer.items (slice_index a.older.items 0) node ∙ s.places.newer;
         partition = ap (λ (p : Placement). p.places) h.partition ∙ places_stay ∙ s.places.partition;
         followers = ap length h.followers ∙ length-joined a.followers.items 0 (runs_of n a.kept ring) ∙ s.places.followers;
       };
@@ -252,6 +272,7 @@ module _ (a : Inside) (duals : DualTable) (partition : SetTables) (parents nexts
           (ap (λ o. is_some o) at_new, each_from (λ x. IsSome (get kept (key_of n x))) xs (λ x e. ap (λ o. is_some o) (same_kept x e) ∙ each_some n a.kept xs x s.kept e));
       only = λ x low some. ap (λ ys. holds ys x) order_after ∙ by_test (eqb node x)
           (λ same. or_left (eqb node x) (holds xs x) same)
-          (λ other. later_in node xs x (s.only x low (ap (λ o. is_some o) (sym (h.updates.others (key_of n x) (λ e. eqb-false node x other (omega (arith, e, h.number, low))))) ∙ some)));
+          (λ other. later_in node xs x
+          (s.only x low (ap (λ o. is_some o) (sym (h.updates.others (key_of n x) (λ e. eqb-false node x other (omega (arith, e, h.number, low))))) ∙ some)));
       room = h.capacity ∙ s.room;
     }

@@ -17,10 +17,12 @@ sum_first : (f : ℕ → ℤ) (n : ℕ) → int_sum_to f (suc n) ≡ f 0 +ℤ in
 sum_first f zero = omega (arith, ints)
 sum_first f (suc n) = omega (arith, ints, sum_first f n)
 
-crossed_cons : (s : OddSet) (sets : List OddSet) (e : Edge) → crossed_by (s ∷ sets) (length (s ∷ sets)) e ≡ cond (crosses s.members e) s.dual (pos 0) +ℤ crossed_by sets (length sets) e
+crossed_cons : (s : OddSet) (sets : List OddSet) (e : Edge) → crossed_by (s ∷ sets) (length (s ∷ sets)) e
+    ≡ cond (crosses s.members e) s.dual (pos 0) +ℤ crossed_by sets (length sets) e
 crossed_cons s sets e = sum_first (λ j. cond (crosses (set_at (s ∷ sets) j).members e) (set_at (s ∷ sets) j).dual (pos 0)) (length sets)
 
-across_sets : (ys : List ℤ) (bs : List Blossom) (e : Edge) → duals_across (dual_at ys) bs e ≡ (dual_at ys e.u +ℤ dual_at ys e.v) +ℤ crossed_by (sets_of ys bs) (length (sets_of ys bs)) e
+across_sets : (ys : List ℤ) (bs : List Blossom) (e : Edge) → duals_across (dual_at ys) bs e
+    ≡ (dual_at ys e.u +ℤ dual_at ys e.v) +ℤ crossed_by (sets_of ys bs) (length (sets_of ys bs)) e
 across_sets ys [] e = omega (arith, ints)
 across_sets ys (b ∷ older) e =
     let first : OddSet = record { dual = dual_at ys b.node; members = b.members } in
@@ -33,7 +35,8 @@ vertex_dual n ys v low high =
     get_or-take n (drop 1 ys) (v - 1) (pos 0) (omega arith) ∙ get_or-drop 1 ys (v - 1) (pos 0) ∙ ap (λ i. get_or ys i (pos 0)) one
 
 -- twice the weight, without the duals that the edge feels
-pub slack_across : (n : ℕ) (ys : List ℤ) (bs : List Blossom) (e : Edge) → IsEdgeWithin n e → slack (vertex_duals n ys) (sets_of ys bs) e ≡ (pos 2 *ℤ e.w) -ℤ duals_across (dual_at ys) bs e
+pub slack_across : (n : ℕ) (ys : List ℤ) (bs : List Blossom) (e : Edge) → IsEdgeWithin n e
+    → slack (vertex_duals n ys) (sets_of ys bs) e ≡ (pos 2 *ℤ e.w) -ℤ duals_across (dual_at ys) bs e
 slack_across n ys bs e within =
     let u = vertex_dual n ys e.u within.u_low within.u_high in
     let v = vertex_dual n ys e.v within.v_low within.v_high in
@@ -45,7 +48,8 @@ none_either_way : (q : Bool) (y : ℤ) → y ≡ pos 0 → cond q y (pos 0) ≡ 
 none_either_way true y h = h
 none_either_way false y h = refl
 
-crossed_listed : (ys : List ℤ) (bs : List Blossom) (sets : List OddSet) (e : Edge) → AreListed ys bs sets → crossed_by sets (length sets) e ≡ crossed_by (sets_of ys bs) (length (sets_of ys bs)) e
+crossed_listed : (ys : List ℤ) (bs : List Blossom) (sets : List OddSet) (e : Edge) → AreListed ys bs sets
+    → crossed_by sets (length sets) e ≡ crossed_by (sets_of ys bs) (length (sets_of ys bs)) e
 crossed_listed ys [] sets e listed = ap (λ ss. crossed_by ss (length ss) e) listed
 crossed_listed ys (b ∷ older) sets e listed =
     let first : OddSet = record { dual = dual_at ys b.node; members = b.members } in
@@ -57,11 +61,13 @@ crossed_listed ys (b ∷ older) sets e listed =
     omega (arith, ints, below, cons, none))
     (λ kept. ap (λ ss. crossed_by ss (length ss) e) kept.2
     ∙ crossed_cons kept.0 kept.1 e
-    ∙ ap₂ (λ (z w : ℤ). z +ℤ w) (ap₂ (λ (q : Bool) (y : ℤ). cond q y (pos 0)) (crosses-same kept.0.members b.members e kept.3.members) kept.3.dual) (crossed_listed ys older kept.1 e kept.4)
+    ∙ ap₂ (λ (z w : ℤ). z +ℤ w) (ap₂ (λ (q : Bool) (y : ℤ). cond q y (pos 0)) (crosses-same kept.0.members b.members e kept.3.members) kept.3.dual)
+    (crossed_listed ys older kept.1 e kept.4)
     ∙ sym (crossed_cons first (sets_of ys older) e))
     listed
 
-pub slack_listed : (n : ℕ) (ys : List ℤ) (bs : List Blossom) (sets : List OddSet) (e : Edge) → IsEdgeWithin n e → AreListed ys bs sets → slack (vertex_duals n ys) sets e ≡ (pos 2 *ℤ e.w) -ℤ duals_across (dual_at ys) bs e
+pub slack_listed : (n : ℕ) (ys : List ℤ) (bs : List Blossom) (sets : List OddSet) (e : Edge) → IsEdgeWithin n e → AreListed ys bs sets
+    → slack (vertex_duals n ys) sets e ≡ (pos 2 *ℤ e.w) -ℤ duals_across (dual_at ys) bs e
 slack_listed n ys bs sets e within listed =
     let crossed = crossed_listed ys bs sets e listed in
     let all = slack_across n ys bs e within in

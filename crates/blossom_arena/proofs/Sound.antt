@@ -45,7 +45,8 @@ pub order_no_zero : (a : Inside) → IsSound a → holds (order_of a) 0 ≡ fals
 order_no_zero a s = false_from_ne_true (holds (order_of a) 0) (λ e. absurd (omega (arith, (order_range a s 0 e).0)))
 
 -- each node has its run
-pub node_run : (a : Inside) → IsSound a → (x : ℕ) → is_node a.vertex_count (blossoms_of a) x ≡ true → IsRun a.followers.items (run_of a.vertex_count a.kept x) (members_of (blossoms_of a) x)
+pub node_run : (a : Inside) → IsSound a → (x : ℕ) → is_node a.vertex_count (blossoms_of a) x ≡ true
+    → IsRun a.followers.items (run_of a.vertex_count a.kept x) (members_of (blossoms_of a) x)
 node_run a s x k = ⊎_elim
     (λ iv.
     let low : leb x a.vertex_count ≡ true = le-leb x a.vertex_count (vertex_range a.vertex_count x iv).1 in
@@ -62,22 +63,26 @@ node_run a s x k = ⊎_elim
     (or_cases (is_vertex a.vertex_count x) (holds (names_of (blossoms_of a)) x) k)
 
 -- walks stay within the tables
-pub members_within : (a : Inside) → IsSound a → (x : ℕ) → is_node a.vertex_count (blossoms_of a) x ≡ true → AllByRecursion (λ v. v < length a.followers.items) (vertices_of a.followers.items (run_of a.vertex_count a.kept x))
+pub members_within : (a : Inside) → IsSound a → (x : ℕ) → is_node a.vertex_count (blossoms_of a) x ≡ true
+    → AllByRecursion (λ v. v < length a.followers.items) (vertices_of a.followers.items (run_of a.vertex_count a.kept x))
 members_within a s x k =
     subst (AllByRecursion (λ v. v < length a.followers.items)) (sym (node_run a s x k).vertices)
-    (each_from (λ v. v < length a.followers.items) (members_of (blossoms_of a) x) (λ v e. omega (arith, (vertex_range a.vertex_count v (member_vertex a.vertex_count (blossoms_of a) x v s.family.nested k e)).1, s.places.followers)))
+    (each_from (λ v. v < length a.followers.items) (members_of (blossoms_of a) x)
+    (λ v e. omega (arith, (vertex_range a.vertex_count v (member_vertex a.vertex_count (blossoms_of a) x v s.family.nested k e)).1, s.places.followers)))
 
 pub ring_is : (a : Inside) → (x : ℕ) → holds (order_of a) x ≡ true → ring_of (blossoms_of a) x ≡ rings a x
 ring_is a x e = ring-build (rings a) (order_of a) x e
 
 -- a number of a ring's walk is a node, and a child
-pub ring_walk_child : (a : Inside) → (x y : ℕ) → holds (order_of a) x ≡ true → holds (walk (kept_of a.vertex_count a.kept x).links a.nexts.items (kept_of a.vertex_count a.kept x).first) y ≡ true → is_child (blossoms_of a) y ≡ true
+pub ring_walk_child : (a : Inside) → (x y : ℕ) → holds (order_of a) x ≡ true
+    → holds (walk (kept_of a.vertex_count a.kept x).links a.nexts.items (kept_of a.vertex_count a.kept x).first) y ≡ true → is_child (blossoms_of a) y ≡ true
 ring_walk_child a x y there e =
     ring_child (blossoms_of a) x y
     (ap (λ r. in_ring r y) (ring_is a x there)
     ∙ ap (λ xs. holds xs y) (nodes-links a.edges.items (walk (kept_of a.vertex_count a.kept x).links a.nexts.items (kept_of a.vertex_count a.kept x).first)) ∙ e)
 
-pub ring_within : (a : Inside) → IsSound a → (x : ℕ) → holds (order_of a) x ≡ true → AllByRecursion (λ y. (y < length a.nexts.items) × (y < length a.edges.items)) (walk (kept_of a.vertex_count a.kept x).links a.nexts.items (kept_of a.vertex_count a.kept x).first)
+pub ring_within : (a : Inside) → IsSound a → (x : ℕ) → holds (order_of a) x ≡ true
+    → AllByRecursion (λ y. (y < length a.nexts.items) × (y < length a.edges.items)) (walk (kept_of a.vertex_count a.kept x).links a.nexts.items (kept_of a.vertex_count a.kept x).first)
 ring_within a s x there =
     each_from (λ y. (y < length a.nexts.items) × (y < length a.edges.items)) (walk (kept_of a.vertex_count a.kept x).links a.nexts.items (kept_of a.vertex_count a.kept x).first)
     (λ y e. let r = node_range a.vertex_count (blossoms_of a) y s.family.nested (child_is_node a.vertex_count (blossoms_of a) y s.family.nested (ring_walk_child a x y there e)) in
@@ -95,7 +100,12 @@ circuit_union_new n bs ring h c =
     union_new n bs ring h (new_from_distinct (nodes_of ring) c.different) (λ a r. (circuit_outer n bs ring a c r, members_new n bs a h (circuit_node n bs ring a c r)))
 
 pub union_few : (n : ℕ) (bs : List Blossom) (ring : List Link) → IsNested n bs → IsCircuit n bs ring → length (union_of bs ring) ≤ n
-union_few n bs ring h c = omega (arith, length-vertices n, length-within (union_of bs ring) (vertices n) (circuit_union_new n bs ring h c) (λ v e. holds-vertices n v ∙ union_vertex n bs ring v h c e))
+union_few n bs ring h c = omega (
+  arith,
+  length-vertices n,
+  length-within (union_of bs ring) (vertices n) (circuit_union_new n bs ring h c)
+      (λ v e. holds-vertices n v ∙ union_vertex n bs ring v h c e),
+)
 
 -- the run of a circuit that is joined
 abbrev pub joined_run : Inside → List Link → Run
@@ -135,10 +145,13 @@ core_in a (l ∷ ring) s c =
     let n : ℕ = a.vertex_count in
     let bs : List Blossom = blossoms_of a in
     let k = circuit_node n bs (l ∷ ring) l.node c (first_in l.node (nodes_of ring)) in
-    let some : 1 ≤ (run_of n a.kept l.node).size = omega (arith, run_size a.followers.items (run_of n a.kept l.node) (members_of bs l.node) (node_run a s l.node k), members_some n bs l.node s.family.nested k) in
+    let some : 1 ≤ (run_of n a.kept l.node).size =
+    omega (arith, run_size a.followers.items (run_of n a.kept l.node) (members_of bs l.node) (node_run a s l.node k), members_some n bs l.node s.family.nested k) in
     let r = longest_in (run_of n a.kept) l.node ring in
-    let within : in_ring (l ∷ ring) r.0 ≡ true = ⊎_elim (λ e. subst (λ z. in_ring (l ∷ ring) z ≡ true) e (first_in l.node (nodes_of ring))) (λ m. later_in l.node (nodes_of ring) r.0 m) r.1 in
-    let first : longer_of empty_run (run_of n a.kept l.node) ≡ run_of n a.kept l.node = ap (λ q. cond q empty_run (run_of n a.kept l.node)) (lt-leb (run_of n a.kept l.node).size 0 some) in
+    let within : in_ring (l ∷ ring) r.0 ≡ true = ⊎_elim (λ e. subst (λ z. in_ring (l ∷ ring) z ≡ true) e (first_in l.node (nodes_of ring)))
+    (λ m. later_in l.node (nodes_of ring) r.0 m) r.1 in
+    let first : longer_of empty_run (run_of n a.kept l.node) ≡ run_of n a.kept l.node =
+    ap (λ q. cond q empty_run (run_of n a.kept l.node)) (lt-leb (run_of n a.kept l.node).size 0 some) in
     record {
       node = r.0;
       within = within;
@@ -160,7 +173,10 @@ circuit_joins a ring s c =
     let start : IsJoined f 0 0 [] U = record {
       walked = refl;
       last = refl;
-      new = (false_from_ne_true (holds U 0) (λ e. absurd (omega (arith, (vertex_range n 0 (union_vertex n bs ring 0 s.family.nested c e)).0))), circuit_union_new n bs ring s.family.nested c);
+      new = (
+        false_from_ne_true (holds U 0) (λ e. absurd (omega (arith, (vertex_range n 0 (union_vertex n bs ring 0 s.family.nested c e)).0))),
+        circuit_union_new n bs ring s.family.nested c,
+      );
       within = λ v e. ⊎_elim
           (λ z. let zero_is : 0 ≡ v = eqb-true 0 v z in omega (arith, zero_is, s.places.followers))
           (λ m. omega (arith, (vertex_range n v (union_vertex n bs ring v s.family.nested c m)).1, s.places.followers))
@@ -178,10 +194,12 @@ circuit_joins a ring s c =
     )
 
 -- what a join needs
-pub tails_within : (a : Inside) (ring : List Link) → IsSound a → IsCircuit a.vertex_count (blossoms_of a) ring → AllByRecursion (λ (r : Run). r.tail < length a.followers.items) (runs_of a.vertex_count a.kept ring)
+pub tails_within : (a : Inside) (ring : List Link) → IsSound a → IsCircuit a.vertex_count (blossoms_of a) ring
+    → AllByRecursion (λ (r : Run). r.tail < length a.followers.items) (runs_of a.vertex_count a.kept ring)
 tails_within a ring s c = go ring (λ x r. circuit_node a.vertex_count (blossoms_of a) ring x c r)
   where
-    go : (ls : List Link) → ((x : ℕ) → in_ring ls x ≡ true → is_node a.vertex_count (blossoms_of a) x ≡ true) → AllByRecursion (λ (r : Run). r.tail < length a.followers.items) (runs_of a.vertex_count a.kept ls)
+    go : (ls : List Link) → ((x : ℕ) → in_ring ls x ≡ true → is_node a.vertex_count (blossoms_of a) x ≡ true)
+        → AllByRecursion (λ (r : Run). r.tail < length a.followers.items) (runs_of a.vertex_count a.kept ls)
     go [] nodes = tt
     go (l ∷ ls) nodes =
         let k = nodes l.node (first_in l.node (nodes_of ls)) in

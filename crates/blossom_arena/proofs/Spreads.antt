@@ -25,7 +25,8 @@ pub all_in_set : (p : Placement) (vs : List ℕ) (s : ℕ) (y : ℤ) (w : ℕ) �
 all_in_set p [] s y w = refl
 all_in_set p (v ∷ vs) s y w = all_in_set (put_in p v s y) vs s y w ∙ either (eqb v w) (holds vs w) s (p.set w)
 
-pub all_in_inner : (p : Placement) (vs : List ℕ) (s : ℕ) (y : ℤ) (w : ℕ) → AllNew vs → (all_in p vs s y).inner w ≡ cond (holds vs w) (int_wrap w64 (p.inner w +ℤ y)) (p.inner w)
+pub all_in_inner : (p : Placement) (vs : List ℕ) (s : ℕ) (y : ℤ) (w : ℕ) → AllNew vs
+    → (all_in p vs s y).inner w ≡ cond (holds vs w) (int_wrap w64 (p.inner w +ℤ y)) (p.inner w)
 all_in_inner p [] s y w new = refl
 all_in_inner p (v ∷ vs) s y w new =
     all_in_inner (put_in p v s y) vs s y w new.1 ∙ once (eqb v w) (holds vs w) (λ x. int_wrap w64 (x +ℤ y)) (p.inner w) (apart v w vs new.0)
@@ -93,7 +94,8 @@ module _ (w : Spread) where
               let parts = or_parts (eqb u v) (holds us v) none in
               inner_out (put_in p u (w.set c) (w.more c)) us v parts.1 ∙ ap (λ q. cond q (int_wrap w64 (p.inner v +ℤ w.more c)) (p.inner v)) parts.0
 
-  pub out_at : (p : Placement) (cs : List ℕ) (v : ℕ) → ((c : ℕ) → holds cs c ≡ true → w.keeps c ≡ false → holds (w.vertices c) v ≡ false) → HasAt (spread w p cs) v (p.set v) (p.inner v)
+  pub out_at : (p : Placement) (cs : List ℕ) (v : ℕ) → ((c : ℕ) → holds cs c ≡ true → w.keeps c ≡ false → holds (w.vertices c) v ≡ false)
+      → HasAt (spread w p cs) v (p.set v) (p.inner v)
   out_at p [] v out = record { set = refl; inner = refl }
   out_at p (c ∷ cs) v out =
       let here = step_out p c v (out c (first_in c cs)) in
@@ -117,9 +119,11 @@ module _ (w : Spread) where
       first : holds cs o ≡ false → HasAt (spread w p (o ∷ cs)) v (w.set o) (int_wrap w64 (p.inner v +ℤ w.more o))
       first none =
           let moved : next p o ≡ step p o = ap (λ t. cond t p (step p o)) moves in
-          let rest = out_at (next p o) cs v (λ d t keeps. by_test (holds (w.vertices d) v) (λ has. absurd (both_ways (holds cs o) none (subst (λ x. holds cs x ≡ true) (one d (later_in c cs d t) has) t))) (λ e. e)) in
+          let rest = out_at (next p o) cs v (λ d t keeps. by_test (holds (w.vertices d) v)
+          (λ has. absurd (both_ways (holds cs o) none (subst (λ x. holds cs x ≡ true) (one d (later_in c cs d t) has) t))) (λ e. e)) in
           record {
-            set = rest.set ∙ ap (λ (q : Placement). q.set v) moved ∙ all_in_set (topped p (w.set o) (w.top o)) (w.vertices o) (w.set o) (w.more o) v ∙ ap (λ q. cond q (w.set o) (p.set v)) m;
+            set = rest.set ∙ ap (λ (q : Placement). q.set v) moved ∙ all_in_set (topped p (w.set o) (w.top o)) (w.vertices o) (w.set o) (w.more o) v
+                ∙ ap (λ q. cond q (w.set o) (p.set v)) m;
             inner = rest.inner ∙ ap (λ (q : Placement). q.inner v) moved ∙ all_in_inner (topped p (w.set o) (w.top o)) (w.vertices o) (w.set o) (w.more o) v different
                 ∙ ap (λ q. cond q (int_wrap w64 (p.inner v +ℤ w.more o)) (p.inner v)) m;
           }
@@ -128,7 +132,8 @@ module _ (w : Spread) where
   step_top : (p : Placement) (c t : ℕ) → w.keeps c ≡ false → (next p c).top t ≡ cond (eqb (w.set c) t) (w.top c) (p.top t)
   step_top p c t moves = ap (λ q. (cond q p (step p c)).top t) moves ∙ all_in_top (topped p (w.set c) (w.top c)) (w.vertices c) (w.set c) (w.more c) t
 
-  pub top_is : (p : Placement) (cs : List ℕ) (t o : ℕ) → p.top t ≡ o → ((c : ℕ) → holds cs c ≡ true → w.keeps c ≡ false → eqb (w.set c) t ≡ true → w.top c ≡ o) → (spread w p cs).top t ≡ o
+  pub top_is : (p : Placement) (cs : List ℕ) (t o : ℕ) → p.top t ≡ o → ((c : ℕ) → holds cs c ≡ true → w.keeps c ≡ false → eqb (w.set c) t ≡ true → w.top c ≡ o)
+      → (spread w p cs).top t ≡ o
   top_is p [] t o at same = at
   top_is p (c ∷ cs) t o at same =
       top_is (next p c) cs t o
@@ -153,14 +158,16 @@ module _ (w : Spread) where
       (λ e. top_in (next p c) cs o (⊎_elim (λ t. absurd (both_ways (eqb c o) e t)) (λ t. t) (or_cases (eqb c o) (holds cs o) k)) moves (λ d m. same d (later_in c cs d m)))
 
 -- the only node of a core
-heir_stays : (core_of : ℕ → ℕ) (core heir o : ℕ) (cs : List ℕ) → heir ≡ o → ((c : ℕ) → holds cs c ≡ true → eqb (core_of c) core ≡ true → c ≡ o) → heir_of core_of core heir cs ≡ o
+heir_stays : (core_of : ℕ → ℕ) (core heir o : ℕ) (cs : List ℕ) → heir ≡ o → ((c : ℕ) → holds cs c ≡ true → eqb (core_of c) core ≡ true → c ≡ o)
+    → heir_of core_of core heir cs ≡ o
 heir_stays core_of core heir o [] at one = at
 heir_stays core_of core heir o (c ∷ cs) at one =
     heir_stays core_of core (cond (eqb (core_of c) core) c heir) o cs
     (by_test (eqb (core_of c) core) (λ e. ap (λ q. cond q c heir) e ∙ one c (first_in c cs) e) (λ e. ap (λ q. cond q c heir) e ∙ at))
     (λ d m. one d (later_in c cs d m))
 
-pub heir_is : (core_of : ℕ → ℕ) (core heir o : ℕ) (cs : List ℕ) → holds cs o ≡ true → eqb (core_of o) core ≡ true → ((c : ℕ) → holds cs c ≡ true → eqb (core_of c) core ≡ true → c ≡ o) → heir_of core_of core heir cs ≡ o
+pub heir_is : (core_of : ℕ → ℕ) (core heir o : ℕ) (cs : List ℕ) → holds cs o ≡ true → eqb (core_of o) core ≡ true
+    → ((c : ℕ) → holds cs c ≡ true → eqb (core_of c) core ≡ true → c ≡ o) → heir_of core_of core heir cs ≡ o
 heir_is core_of core heir o [] k has one = absurd (both_ways false refl k)
 heir_is core_of core heir o (c ∷ cs) k has one =
     by_test (eqb c o)
@@ -168,4 +175,5 @@ heir_is core_of core heir o (c ∷ cs) k has one =
     let is : c ≡ o = eqb-true c o e in
     heir_stays core_of core (cond (eqb (core_of c) core) c heir) o cs
     (ap (λ q. cond q c heir) (ap (λ x. eqb (core_of x) core) is ∙ has) ∙ is) (λ d m. one d (later_in c cs d m)))
-    (λ e. heir_is core_of core (cond (eqb (core_of c) core) c heir) o cs (⊎_elim (λ t. absurd (both_ways (eqb c o) e t)) (λ t. t) (or_cases (eqb c o) (holds cs o) k)) has (λ d m. one d (later_in c cs d m)))
+    (λ e. heir_is core_of core (cond (eqb (core_of c) core) c heir) o cs (⊎_elim (λ t. absurd (both_ways (eqb c o) e t)) (λ t. t) (or_cases (eqb c o) (holds cs o) k)) has
+    (λ d m. one d (later_in c cs d m)))

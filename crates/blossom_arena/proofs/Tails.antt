@@ -73,7 +73,8 @@ last_union bs (l ∷ k ∷ ring) h each =
     }
 
 -- in a blossom's run, or in an older node's, the last vertex of an outermost node comes last or not at all
-pub tails_apart : (n : ℕ) (bs : List Blossom) (c x : ℕ) → IsNested n bs → is_outermost n bs c ≡ true → is_node n bs x ≡ true → holds (front (members_of bs x)) (last_of 0 (members_of bs c)) ≡ false
+pub tails_apart : (n : ℕ) (bs : List Blossom) (c x : ℕ) → IsNested n bs → is_outermost n bs c ≡ true → is_node n bs x ≡ true
+    → holds (front (members_of bs x)) (last_of 0 (members_of bs c)) ≡ false
 tails_apart n [] c x h o k = refl
 tails_apart n (b ∷ older) c x h o k =
     by_test (eqb b.node c)

@@ -14,7 +14,8 @@ use Rattle.blossom_arena.proofs.Parents.{free_parent, ring_child}
 -- what holds of each blossom holds of each that is left
 pub each_without : (P : Blossom → Type 0) (bs : List Blossom) (a : ℕ) → AllByRecursion P bs → AllByRecursion P (without bs a)
 each_without P [] a each = tt
-each_without P (b ∷ older) a each = elim (eqb b.node a) as (λ q. AllByRecursion P (cond q older (b ∷ without older a))) [ true ↦ each.1 | false ↦ (each.0, each_without P older a each.1) ]
+each_without P (b ∷ older) a each = elim (eqb b.node a) as
+    (λ q. AllByRecursion P (cond q older (b ∷ without older a))) [ true ↦ each.1 | false ↦ (each.0, each_without P older a each.1) ]
 
 -- other names stay
 pub names_without : (bs : List Blossom) (a c : ℕ) → eqb a c ≡ false → holds (names_of (without bs a)) c ≡ holds (names_of bs) c
@@ -68,9 +69,9 @@ pub circuit_without : (n : ℕ) (bs : List Blossom) (ring : List Link) (a : ℕ)
 circuit_without n bs ring a c out = record {
   at_least_three = c.at_least_three;
   odd = c.odd;
-  outer = λ k d h. outermost_stays n bs a (get_or ring k d).node
+  outermost = λ k d h. outermost_stays n bs a (get_or ring k d).node
       (ne_eqb a (get_or ring k d).node (λ s. both_ways (in_ring ring a) out (ap (in_ring ring) s ∙ in_ring_at ring k d h)))
-      (c.outer k d h);
+      (c.outermost k d h);
   different = c.different;
 }
 
@@ -98,13 +99,15 @@ parent_without n (b ∷ older) a x h =
     by_test (eqb b.node a)
     (λ e. ap (λ q. parent_of (cond q older (b ∷ without older a)) x) e
     ∙ by_test (in_ring b.ring x)
-    (λ r. free_parent older x (child_free n older b x h.0 r) ∙ sym (ap (λ q. cond (in_ring (cond q b.ring (ring_of older a)) x) 0 (parent_of (b ∷ older) x)) e ∙ ap (λ q. cond q 0 (parent_of (b ∷ older) x)) r))
+    (λ r. free_parent older x (child_free n older b x h.0 r)
+    ∙ sym (ap (λ q. cond (in_ring (cond q b.ring (ring_of older a)) x) 0 (parent_of (b ∷ older) x)) e ∙ ap (λ q. cond q 0 (parent_of (b ∷ older) x)) r))
     (λ r. sym (ap (λ q. cond (in_ring (cond q b.ring (ring_of older a)) x) 0 (parent_of (b ∷ older) x)) e ∙ ap (λ q. cond q 0 (cond q b.node (parent_of older x))) r)))
     (λ e. ap (λ q. parent_of (cond q older (b ∷ without older a)) x) e
     ∙ by_test (in_ring b.ring x)
     (λ r. ap (λ q. cond q b.node (parent_of (without older a) x)) r
     ∙ sym (ap (λ q. cond (in_ring (cond q b.ring (ring_of older a)) x) 0 (parent_of (b ∷ older) x)) e
-    ∙ ap (λ q. cond q 0 (parent_of (b ∷ older) x)) (false_from_ne_true (in_ring (ring_of older a) x) (λ s. both_ways (is_child older x) (child_free n older b x h.0 r) (ring_child older a x s)))
+    ∙ ap (λ q. cond q 0 (parent_of (b ∷ older) x)) (false_from_ne_true (in_ring (ring_of older a) x)
+    (λ s. both_ways (is_child older x) (child_free n older b x h.0 r) (ring_child older a x s)))
     ∙ ap (λ q. cond q b.node (parent_of older x)) r))
     (λ r. ap (λ q. cond q b.node (parent_of (without older a) x)) r
     ∙ parent_without n older a x h.1

@@ -20,7 +20,8 @@ use Rattle.blossom_arena.proofs.Cores.{HasCores, set_core, set_of, wrapped}
 
 -- a node takes over a circuit: the set of one of its nodes stays, and the others' vertices come into it
 module _ (n : ℕ) (bs : List Blossom) (core_of now : ℕ → ℕ) (ys : List ℤ) (p : Placement) (ring : List Link) (node big core : ℕ) (vertices : ℕ → List ℕ)
-    (few : n ≤ GRAPH_VERTEX_LIMIT) (nested : IsNested n (made_of bs ring node ∷ bs)) (cores : HasCores n bs core_of) (numbers : All IsNumber (slice_set ys node (pos 0))) (place : node < length ys)
+    (few : n ≤ GRAPH_VERTEX_LIMIT) (nested : IsNested n (made_of bs ring node ∷ bs)) (cores : HasCores n bs core_of)
+    (numbers : All IsNumber (slice_set ys node (pos 0))) (place : node < length ys)
     (h : IsPlacement n core_of bs (dual_at ys) p) (lists : (x : ℕ) → in_ring ring x ≡ true → vertices x ≡ members_of bs x)
     (same : (x : ℕ) → is_node n bs x ≡ true → now x ≡ core_of x) (top : now node ≡ core) (within : in_ring ring big ≡ true) (is : core ≡ core_of big) where
   abbrev y : ℕ → ℤ
@@ -112,9 +113,9 @@ module _ (n : ℕ) (bs : List Blossom) (core_of now : ℕ → ℕ) (ys : List �
 
   pub placement_shrunk : IsPlacement n now after (dual_at (slice_set ys node (pos 0))) taken_in
   placement_shrunk = record {
-    outer = λ v iv. by_test (in_ring ring (outermost bs v))
+    tops = λ v iv. by_test (in_ring ring (outermost bs v))
         (λ r. ap taken_in.top (moved_at v iv r).set ∙ moved_top ∙ sym (now_outermost v iv ∙ ap (λ q. cond q node (outermost bs v)) r))
-        (λ r. ap taken_in.top (stays_at v iv r).set ∙ other_top (p.set v) (apart v iv r) ∙ h.outer v iv ∙ sym (now_outermost v iv ∙ ap (λ q. cond q node (outermost bs v)) r));
+        (λ r. ap taken_in.top (stays_at v iv r).set ∙ other_top (p.set v) (apart v iv r) ∙ h.tops v iv ∙ sym (now_outermost v iv ∙ ap (λ q. cond q node (outermost bs v)) r));
     inner = λ v iv. by_test (in_ring ring (outermost bs v))
         (λ r. (moved_at v iv r).inner ∙ wrapped (p.inner v) (y (outermost bs v)) _ (fits v iv)
         (ap (λ x. x +ℤ y (outermost bs v)) (h.inner v iv) ∙ sym (sums v iv ∙ ap (λ q. inner_of y bs v +ℤ cond q (y (outermost bs v)) (pos 0)) r)))

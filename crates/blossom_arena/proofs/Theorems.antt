@@ -40,7 +40,8 @@ newer_differs n b older y h k same = two_differ b.ring h.0.circuit.at_least_thre
         ∙ outermost_by_member n older c w.0 h.1 (circuit_outer n older b.ring c h.0.circuit rc) w.1
 
 -- two nodes of the same vertices are one
-pub members_differ : (n : ℕ) (bs : List Blossom) (x y : ℕ) → IsNested n bs → is_node n bs x ≡ true → is_node n bs y ≡ true → AreSame (members_of bs x) (members_of bs y) → x ≡ y
+pub members_differ : (n : ℕ) (bs : List Blossom) (x y : ℕ) → IsNested n bs → is_node n bs x ≡ true → is_node n bs y ≡ true
+    → AreSame (members_of bs x) (members_of bs y) → x ≡ y
 members_differ n [] x y h kx ky same = sym (at x (sym (same x) ∙ first_in x []))
   where
     at : (z : ℕ) → holds (y ∷ []) z ≡ true → y ≡ z

@@ -35,10 +35,12 @@ module _ (a : Inside) (node : ℕ) (s : IsSound a) (there : holds (order_of a) n
   newer_place = omega (arith, (order_range a s node there).1, s.places.newer)
 
   pub next_place : slice_index a.older.items node < length a.newer.items
-  next_place = (neighbours_within a.older.items a.newer.items node (length a.newer.items) (order_of a) s.order there (λ x e. omega (arith, (order_range a s x e).1, s.places.newer)) (omega (arith, s.places.newer))).0
+  next_place = (neighbours_within a.older.items a.newer.items node (length a.newer.items) (order_of a) s.order there
+      (λ x e. omega (arith, (order_range a s x e).1, s.places.newer)) (omega (arith, s.places.newer))).0
 
   pub before_place : slice_index a.newer.items node < length a.older.items
-  before_place = (neighbours_within a.older.items a.newer.items node (length a.older.items) (order_of a) s.order there (λ x e. omega (arith, (order_range a s x e).1, s.places.older)) (omega (arith, s.places.older))).1
+  before_place = (neighbours_within a.older.items a.newer.items node (length a.older.items) (order_of a) s.order there
+      (λ x e. omega (arith, (order_range a s x e).1, s.places.older)) (omega (arith, s.places.older))).1
 
   module _ (k : Kept) (found : get a.kept (key_of n node) ≡ Some k) where
     kept_is : kept_of n a.kept node ≡ k
@@ -63,10 +65,12 @@ module _ (a : Inside) (node : ℕ) (s : IsSound a) (there : holds (order_of a) n
 
   -- what a release needs
   pub core_low : (kept_of n a.kept node).run.core < n + 1
-  core_low = omega (arith, (vertex_range n (kept_of n a.kept node).run.core (member_vertex n (blossoms_of a) node (kept_of n a.kept node).run.core s.family.nested is (s.runs node there).core)).1)
+  core_low =
+      omega (arith, (vertex_range n (kept_of n a.kept node).run.core (member_vertex n (blossoms_of a) node (kept_of n a.kept node).run.core s.family.nested is (s.runs node there).core)).1)
 
   pub runs_within : (kept : Slab Kept) (fs : List ℕ) → is_child (blossoms_of a) node ≡ false → Updates a.kept kept (key_of n node) None → fs ≡ a.followers.items
-      → AllByRecursion (λ (l : Link). AllByRecursion (λ v. v < length fs) (vertices_of fs (run_of n kept l.node)) × ((run_of n kept l.node).core < length fs)) (ring_of (blossoms_of a) node)
+      → AllByRecursion (λ (l : Link). AllByRecursion (λ v. v < length fs) (vertices_of fs (run_of n kept l.node)) × ((run_of n kept l.node).core < length fs))
+      (ring_of (blossoms_of a) node)
   runs_within kept fs free updates same =
       each_link (λ x. AllByRecursion (λ v. v < length fs) (vertices_of fs (run_of n kept x)) × ((run_of n kept x).core < length fs)) (ring_of (blossoms_of a) node)
       (λ x r.
@@ -74,5 +78,9 @@ module _ (a : Inside) (node : ℕ) (s : IsSound a) (there : holds (order_of a) n
       (subst (λ (q : Run). AllByRecursion (λ v. v < length a.followers.items) (vertices_of a.followers.items q) × (q.core < length a.followers.items))
       (sym (other_run n a.kept kept node x updates (order_range a s node there).0 (ring_other (blossoms_of a) node x free r))) (
         members_within a s x (child_node x r),
-        omega (arith, s.places.followers, (vertex_range n (run_of n a.kept x).core (member_vertex n (blossoms_of a) x (run_of n a.kept x).core s.family.nested (child_node x r) (node_run a s x (child_node x r)).core)).1),
+        omega (
+          arith,
+          s.places.followers,
+          (vertex_range n (run_of n a.kept x).core (member_vertex n (blossoms_of a) x (run_of n a.kept x).core s.family.nested (child_node x r) (node_run a s x (child_node x r)).core)).1,
+        ),
       )))

@@ -27,7 +27,8 @@ filled_at t (x ∷ xs) e v h =
     (λ s. get_or-set_other t x v e 0 (λ y. eqb-false x v s (sym y)) ∙ sym (ap₂ (λ (p q : Bool). cond (p || q) e (get_or t v 0)) s m)))
 
 -- an entry that is written changes none at other places
-pub same_past : (t was : List ℕ) (x e : ℕ) (xs : List ℕ) → holds xs x ≡ false → AllByRecursion (λ v. get_or t v 0 ≡ get_or was v 0) xs → AllByRecursion (λ v. get_or (set t x e) v 0 ≡ get_or was v 0) xs
+pub same_past : (t was : List ℕ) (x e : ℕ) (xs : List ℕ) → holds xs x ≡ false → AllByRecursion (λ v. get_or t v 0 ≡ get_or was v 0) xs
+    → AllByRecursion (λ v. get_or (set t x e) v 0 ≡ get_or was v 0) xs
 same_past t was x e [] out h = tt
 same_past t was x e (y ∷ ys) out h =
     let p = or_parts (eqb y x) (holds ys x) out in (get_or-set_other t x y e 0 (λ s. eqb-false y x p.0 s) ∙ h.0, same_past t was x e ys p.1 h.1)
@@ -38,7 +39,8 @@ length-walk zero next x = refl
 length-walk (suc k) next x = omega (arith, length-walk k next (get_or next x 0))
 
 -- a walk reads the table at all its numbers but the last
-pub walk_front : (k : ℕ) (next next' : List ℕ) (x : ℕ) → ((y : ℕ) → holds (front (walk k next x)) y ≡ true → get_or next' y 0 ≡ get_or next y 0) → walk k next' x ≡ walk k next x
+pub walk_front : (k : ℕ) (next next' : List ℕ) (x : ℕ) → ((y : ℕ) → holds (front (walk k next x)) y ≡ true → get_or next' y 0 ≡ get_or next y 0)
+    → walk k next' x ≡ walk k next x
 walk_front zero next next' x same = refl
 walk_front (suc zero) next next' x same = refl
 walk_front (suc (suc k)) next next' x same =
@@ -68,7 +70,8 @@ threaded_out nexts (l ∷ rest) z x out =
     let p = or_parts (eqb l.node x) (holds (nodes_of rest) x) out in
     threaded_out (set nexts l.node (next_node rest z)) rest z x p.1 ∙ get_or-set_other nexts l.node x (next_node rest z) 0 (λ s. eqb-false l.node x p.0 (sym s))
 
-pub threaded_walk : (nexts : List ℕ) (circuit : List Link) (z : ℕ) → AllNew (nodes_of circuit) → AllByRecursion (λ (l : Link). l.node < length nexts) circuit → walk (length circuit) (threaded nexts circuit z) (next_node circuit z) ≡ nodes_of circuit
+pub threaded_walk : (nexts : List ℕ) (circuit : List Link) (z : ℕ) → AllNew (nodes_of circuit) → AllByRecursion (λ (l : Link). l.node < length nexts) circuit
+    → walk (length circuit) (threaded nexts circuit z) (next_node circuit z) ≡ nodes_of circuit
 threaded_walk nexts [] z new within = refl
 threaded_walk nexts (l ∷ rest) z new within =
     let nexts' : List ℕ = set nexts l.node (next_node rest z) in
@@ -90,7 +93,8 @@ noted_out edges (l ∷ rest) x out =
     let p = or_parts (eqb l.node x) (holds (nodes_of rest) x) out in
     noted_out (set edges l.node l.edge) rest x p.1 ∙ get_or-set_other edges l.node x l.edge 0 (λ s. eqb-false l.node x p.0 (sym s))
 
-pub noted_links : (edges : List ℕ) (circuit : List Link) → AllNew (nodes_of circuit) → AllByRecursion (λ (l : Link). l.node < length edges) circuit → links_of (noted edges circuit) (nodes_of circuit) ≡ circuit
+pub noted_links : (edges : List ℕ) (circuit : List Link) → AllNew (nodes_of circuit) → AllByRecursion (λ (l : Link). l.node < length edges) circuit
+    → links_of (noted edges circuit) (nodes_of circuit) ≡ circuit
 noted_links edges [] new within = refl
 noted_links edges (l ∷ rest) new within =
     let edges' : List ℕ = set edges l.node l.edge in

@@ -25,7 +25,8 @@ use Rattle.blossom_arena.proofs.Stays.{AddsKept, node_stays}
 same_run : (r : Run) (h t z k : ℕ) → r.head ≡ h → r.tail ≡ t → r.size ≡ z → r.core ≡ k → r ≡ record { head = h; tail = t; size = z; core = k }
 same_run r h t z k eh et ez ek = λ i. record { head = eh i; tail = et i; size = ez i; core = ek i }
 
-walk_nodes : (old ns : List ℕ) (ring : List Link) (first : ℕ) → first ≡ next_node ring 0 → ns ≡ threaded old ring first → AllNew (nodes_of ring) → AllByRecursion (λ (l : Link). l.node < length old) ring → walk (length ring) ns first ≡ nodes_of ring
+walk_nodes : (old ns : List ℕ) (ring : List Link) (first : ℕ) → first ≡ next_node ring 0 → ns ≡ threaded old ring first → AllNew (nodes_of ring)
+    → AllByRecursion (λ (l : Link). l.node < length old) ring → walk (length ring) ns first ≡ nodes_of ring
 walk_nodes old ns [] first at nexts new within = refl
 walk_nodes old ns (l ∷ rest) first at nexts new within =
     ap (walk (length (l ∷ rest)) ns) at ∙ ap (λ (t : List ℕ). walk (length (l ∷ rest)) t l.node) nexts ∙ threaded_walk old (l ∷ rest) first new within
@@ -53,7 +54,8 @@ module _ (a : Inside) (ring : List Link) (s : IsSound a) (c : IsCircuit a.vertex
   pub newest_within : slice_index a.older.items 0 < length a.newer.items
   newest_within = go (order_of a) s.order (λ x e. (order_range a s x e).1)
     where
-      go : (xs : List ℕ) → IsOrder a.older.items a.newer.items 0 xs → ((x : ℕ) → holds xs x ≡ true → x ≤ n + most_blossoms n) → slice_index a.older.items 0 < length a.newer.items
+      go : (xs : List ℕ) → IsOrder a.older.items a.newer.items 0 xs → ((x : ℕ) → holds xs x ≡ true → x ≤ n + most_blossoms n)
+          → slice_index a.older.items 0 < length a.newer.items
       go [] h each = omega (arith, h.0, s.places.newer)
       go (x ∷ xs) h each = omega (arith, h.0, each x (first_in x xs), s.places.newer)
 
@@ -73,7 +75,12 @@ module _ (a : Inside) (ring : List Link) (s : IsSound a) (c : IsCircuit a.vertex
       let core = core_in a ring s c in
       let iv : is_vertex n (joined_run a ring).core ≡ true =
       ap (is_vertex n) core.is ∙ member_vertex n bs core.node core.core s.family.nested (circuit_node n bs ring core.node c core.within) core.has in
-      omega (arith, enough, s.partition.outer (joined_run a ring).core iv, (node_range n bs (outermost bs (joined_run a ring).core) s.family.nested (outermost_node n bs (joined_run a ring).core iv)).1)
+      omega (
+        arith,
+        enough,
+        s.partition.tops (joined_run a ring).core iv,
+        (node_range n bs (outermost bs (joined_run a ring).core) s.family.nested (outermost_node n bs (joined_run a ring).core iv)).1,
+      )
 
   -- the circuit's runs once they are joined
   pub runs_then : (kept : Slab Kept) (fs : List ℕ) (node key : ℕ) → AddsKept a ring kept fs node key → length fs ≡ n + 1
@@ -86,17 +93,21 @@ module _ (a : Inside) (ring : List Link) (s : IsSound a) (c : IsCircuit a.vertex
       (each_from (λ v. v < length fs) (members_of bs x) (λ v e. omega (arith, len, (vertex_range n v (member_vertex n bs x v s.family.nested k e)).1))))
 
   -- the ring that is written
-  pub ring_walk : (ns es : List ℕ) (first : ℕ) → first ≡ next_node ring 0 → ns ≡ threaded a.nexts.items ring first → es ≡ noted a.edges.items ring → links_of es (walk (length ring) ns first) ≡ ring
+  pub ring_walk : (ns es : List ℕ) (first : ℕ) → first ≡ next_node ring 0 → ns ≡ threaded a.nexts.items ring first → es ≡ noted a.edges.items ring
+      → links_of es (walk (length ring) ns first) ≡ ring
   ring_walk ns es first at nexts edges =
       ap₂ (λ (t u : List ℕ). links_of u (walk (length ring) t first)) nexts edges
       ∙ ap (λ z. links_of (noted a.edges.items ring) (walk (length ring) (threaded a.nexts.items ring z) z)) at
-      ∙ ring_written a.nexts.items a.edges.items ring (new_from_distinct (nodes_of ring) c.different) (nodes_within (length a.nexts.items) (omega (arith, s.places.nexts))) (nodes_within (length a.edges.items) (omega (arith, s.places.edges)))
+      ∙ ring_written a.nexts.items a.edges.items ring (new_from_distinct (nodes_of ring) c.different) (nodes_within (length a.nexts.items) (omega (arith, s.places.nexts)))
+      (nodes_within (length a.edges.items) (omega (arith, s.places.edges)))
 
-  pub walk_within : (ns es : List ℕ) (first : ℕ) → first ≡ next_node ring 0 → ns ≡ threaded a.nexts.items ring first → es ≡ noted a.edges.items ring → AllByRecursion (λ y. (y < length ns) × (y < length es)) (walk (length ring) ns first)
+  pub walk_within : (ns es : List ℕ) (first : ℕ) → first ≡ next_node ring 0 → ns ≡ threaded a.nexts.items ring first → es ≡ noted a.edges.items ring
+      → AllByRecursion (λ y. (y < length ns) × (y < length es)) (walk (length ring) ns first)
   walk_within ns es first at nexts edges =
       let len_n : length ns ≡ length a.nexts.items = ap length nexts ∙ length-threaded a.nexts.items ring first in
       let len_e : length es ≡ length a.edges.items = ap length edges ∙ length-noted a.edges.items ring in
-      let walked : walk (length ring) ns first ≡ nodes_of ring = walk_nodes a.nexts.items ns ring first at nexts (new_from_distinct (nodes_of ring) c.different) (nodes_within (length a.nexts.items) (omega (arith, s.places.nexts))) in
+      let walked : walk (length ring) ns first ≡ nodes_of ring =
+      walk_nodes a.nexts.items ns ring first at nexts (new_from_distinct (nodes_of ring) c.different) (nodes_within (length a.nexts.items) (omega (arith, s.places.nexts))) in
       subst (AllByRecursion (λ y. (y < length ns) × (y < length es))) (sym walked)
       (each_from (λ y. (y < length ns) × (y < length es)) (nodes_of ring)
       (λ y e. let r = node_range n bs y s.family.nested (circuit_node n bs ring y c e) in (omega (arith, r.1, len_n, s.places.nexts), omega (arith, r.1, len_e, s.places.edges))))

@@ -66,7 +66,7 @@ outermost (b ∷ older) v = if holds b.members v then b.node else outermost olde
 pub record IsCircuit (n : ℕ) (bs : List Blossom) (ring : List Link) : Type 0 where
   pub at_least_three : 3 ≤ length ring
   pub odd : length ring % 2 ≡ 1
-  pub outer : All (λ (l : Link). is_outermost n bs l.node ≡ true) ring
+  pub outermost : All (λ (l : Link). is_outermost n bs l.node ≡ true) ring
   pub different : IsDistinct nat_eq (nodes_of ring)
 
 -- what a blossom is, over those that are older
@@ -131,7 +131,8 @@ rested ms (a ∷ rest) = rested (slice_set ms a Out) rest
 
 -- the family after a shrink: one set more, of dual 0, which rests, and so do the circuit's nodes inside it
 abbrev pub shrunk : Family → ℕ → List Link → Family
-shrunk f node ring = record f { duals = slice_set f.duals node (pos 0); motions = slice_set (rested f.motions (nodes_of ring)) node Out; blossoms = made_of f.blossoms ring node ∷ f.blossoms }
+shrunk f node ring =
+    record f { duals = slice_set f.duals node (pos 0); motions = slice_set (rested f.motions (nodes_of ring)) node Out; blossoms = made_of f.blossoms ring node ∷ f.blossoms }
 
 -- the blossoms without the one of this node
 abbrev pub without : List Blossom → ℕ → List Blossom

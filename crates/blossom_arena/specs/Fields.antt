@@ -85,7 +85,7 @@ core_at n kept node = (run_of n kept node).core
 -- each vertex has its outermost node and the sum of the duals of all other nodes that hold it; the vertices of an outermost
 -- node form a set
 pub record IsPlacement (n : ℕ) (core_of : ℕ → ℕ) (bs : List Blossom) (y : ℕ → ℤ) (p : Placement) : Type 0 where
-  pub outer : (v : ℕ) → is_vertex n v ≡ true → p.top (p.set v) ≡ outermost bs v
+  pub tops : (v : ℕ) → is_vertex n v ≡ true → p.top (p.set v) ≡ outermost bs v
   pub inner : (v : ℕ) → is_vertex n v ≡ true → p.inner v ≡ inner_of y bs v
   pub sets : (v : ℕ) → is_vertex n v ≡ true → p.set v ≡ core_of (outermost bs v)
 

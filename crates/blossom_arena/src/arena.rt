@@ -26,26 +26,28 @@ use slab::Slab;
 use std::alloc::{AllocError, Global};
 use std::marker::Model;
 
-/// Blossoms over the vertices 1 to n, each of them a node, and a dual for each node, as the weighted
-/// matching algorithm keeps them (chapter 26). Duals are in doubled units, so that they stay whole, and
-/// within 10^15. Outermost nodes move: a change of duals raises the duals of all that move as outer nodes
-/// and lowers those that move as inner ones, in constant time. Contracts see the list of the blossoms,
-/// newest first, and the lists of the duals, as they are now, and of the motions by node number.
+/// Blossoms over the vertices 1 to n, each of them a node, and a dual for each node, as the
+/// weighted matching algorithm keeps them (chapter 26). Duals are in doubled units, so that they
+/// stay whole, and within 10^15. Outermost nodes move: a change of duals raises the duals of all
+/// that move as outer nodes and lowers those that move as inner ones, in constant time. Contracts
+/// see the list of the blossoms, newest first, and the lists of the duals, as they are now, and of
+/// the motions by node number.
 #[derive(Drop)]
 pub struct Arena {
     vertex_count: u32,
-    // By node number, with place 0 unused: its dual and how it moves, the blossom in whose ring it lies or
-    // 0, and in that ring the next node and the edge to it. A number that no node has got has the parent
-    // `NO_NODE`, so that one look tells whether it is an outermost node.
+    // By node number, with place 0 unused: its dual and how it moves, the blossom in whose ring it
+    // lies or 0, and in that ring the next node and the edge to it. A number that no node has got
+    // has the parent `NO_NODE`, so that one look tells whether it is an outermost node.
     duals: Duals,
     parents: Vec<u32>,
     nexts: Vec<u32>,
     edges: Vec<EdgeId>,
-    // By vertex: its outermost node and the duals of all other nodes that hold it, added up, and the vertex
-    // after it in the blossoms that hold both.
+    // By vertex: its outermost node and the duals of all other nodes that hold it, added up, and
+    // the vertex after it in the blossoms that hold both.
     partition: Partition,
     followers: Vec<u32>,
-    // By node number: the next older and the next newer blossom. Place 0 stands between the two ends.
+    // By node number: the next older and the next newer blossom. Place 0 stands between the two
+    // ends.
     older: Vec<u32>,
     newer: Vec<u32>,
     // The blossoms, the one of node n + 1 + k under the key k.
@@ -64,8 +66,8 @@ impl Model for Arena {
 }
 
 impl Arena {
-    /// No blossom, all duals 0, and room for all blossoms that n vertices can have: (n - 1) / 2. No later
-    /// call takes memory. An error is want of memory.
+    /// No blossom, all duals 0, and room for all blossoms that n vertices can have: (n - 1) / 2. No
+    /// later call takes memory. An error is want of memory.
     pub fn new(alloc: Global, n: u32) -> Result<Arena, OutOfMemory>
         requires { n ≤ GRAPH_VERTEX_LIMIT }
         ensures family { IfOk result (λ f. f ≡ empty_family n) }
@@ -134,10 +136,10 @@ impl Arena {
         self.is_blossom(node)
     }
 
-    /// Whether this is a node and no other node holds it, by one look at a table. Any number may be asked
-    /// for.
+    /// Whether this is a node and no other node holds it, by one look at a table. Any number may be
+    /// asked for.
     pub fn is_outermost(&self, node: NodeId) -> bool
-        ensures outer { result ≡ is_outermost self.now.vertex_count self.now.blossoms node }
+        ensures outermost { result ≡ is_outermost self.now.vertex_count self.now.blossoms node }
         ensures good { IsFamily self.now }
     {
         let number = node.number();
@@ -175,8 +177,8 @@ impl Arena {
         self.partition.inner(v.number()) + self.dual(self.outermost(v))
     }
 
-    /// Adds d, in doubled units, to the dual of a node. The sum lies within 10^15, and is not below 0 for
-    /// a blossom.
+    /// Adds d, in doubled units, to the dual of a node. The sum lies within 10^15, and is not below
+    /// 0 for a blossom.
     pub fn add_dual(&mut self, node: NodeId, d: i64)
         requires node { is_node self.old.vertex_count self.old.blossoms node ≡ true }
         requires in_range { IsNumber (dual_at self.old.duals node +ℤ d) }
@@ -198,8 +200,8 @@ impl Arena {
         );
     }
 
-    /// Lets an outermost node move as this label says from now on: with changes of duals where it is outer,
-    /// against them where inner, and not at all where out (chapter 26). No dual changes.
+    /// Lets an outermost node move as this label says from now on: with changes of duals where it
+    /// is outer, against them where inner, and not at all where out (chapter 26). No dual changes.
     pub fn move_as(&mut self, node: NodeId, label: Label)
         requires { is_outermost self.old.vertex_count self.old.blossoms node ≡ true }
         ensures family { self.new ≡ moving self.old node label }
@@ -217,10 +219,10 @@ impl Arena {
         self.duals.rest();
     }
 
-    /// Adds to the dual of each outermost node its share of a change of d, as it moves (chapter 26): d for an
-    /// outer one, -d for an inner one, and nothing for one that is out. It takes constant time, but time
-    /// linear in the nodes once the changes since all duals were 0 add up to more than 10^15. The sums lie
-    /// within 10^15, and are not below 0 for blossoms.
+    /// Adds to the dual of each outermost node its share of a change of d, as it moves (chapter
+    /// 26): d for an outer one, -d for an inner one, and nothing for one that is out. It takes
+    /// constant time, but time linear in the nodes once the changes since all duals were 0 add up
+    /// to more than 10^15. The sums lie within 10^15, and are not below 0 for blossoms.
     pub fn advance(&mut self, d: i64)
         requires low { pos 0 ≤ℤ d }
         requires in_range { (a : ℕ) → is_outermost self.old.vertex_count self.old.blossoms a ≡ true → IsNumber (dual_at self.old.duals a +ℤ share d (label_at self.old.motions a)) }
@@ -242,8 +244,8 @@ impl Arena {
         Ring::of(&self.nexts, &self.edges, kept.first, kept.links)
     }
 
-    /// The vertices of a node, in the order of the circuits that it was made of; those of a vertex are
-    /// itself.
+    /// The vertices of a node, in the order of the circuits that it was made of; those of a vertex
+    /// are itself.
     pub fn members(&self, node: NodeId) -> Members<'_>
         requires { is_node self.now.vertex_count self.now.blossoms node ≡ true }
         ensures members { result ≡ members_of self.now.blossoms node }
@@ -264,8 +266,8 @@ impl Arena {
         Chain::of(&self.parents, v.number())
     }
 
-    /// The node of a blossom's ring that holds a vertex of the blossom, in as many steps as nodes hold
-    /// the vertex.
+    /// The node of a blossom's ring that holds a vertex of the blossom, in as many steps as nodes
+    /// hold the vertex.
     pub fn child_holding(&self, b: NodeId, v: VertexId) -> NodeId
         requires blossom { holds (names_of self.now.blossoms) b ≡ true }
         requires inside { holds (members_of self.now.blossoms b) v ≡ true }
@@ -283,9 +285,9 @@ impl Arena {
         Blossoms::of(&self.older, self.older[0], self.kept.len() as u32)
     }
 
-    /// Makes one node of a circuit of outermost nodes, of dual 0, and answers it, in time linear in the
-    /// circuit and in the vertices of all its nodes but the largest. The circuit has an odd number of at least three nodes, all different. It rests, and so do
-    /// they.
+    /// Makes one node of a circuit of outermost nodes, of dual 0, and answers it, in time linear in
+    /// the circuit and in the vertices of all its nodes but the largest. The circuit has an odd
+    /// number of at least three nodes, all different. It rests, and so do they.
     pub fn shrink(&mut self, circuit: &[Link]) -> NodeId
         requires { IsCircuit self.old.vertex_count self.old.blossoms circuit.now }
         ensures fresh { is_node self.old.vertex_count self.old.blossoms result ≡ false }
@@ -323,11 +325,11 @@ impl Arena {
         NodeId::new(node)
     }
 
-    /// Takes away an outermost blossom of dual 0, in time linear in its circuit and in the vertices of all
-    /// nodes of the circuit but the largest. They rest.
+    /// Takes away an outermost blossom of dual 0, in time linear in its circuit and in the vertices
+    /// of all nodes of the circuit but the largest. They rest.
     pub fn dissolve(&mut self, b: NodeId)
         requires blossom { holds (names_of self.old.blossoms) b ≡ true }
-        requires outer { is_outermost self.old.vertex_count self.old.blossoms b ≡ true }
+        requires outermost { is_outermost self.old.vertex_count self.old.blossoms b ≡ true }
         requires dual { dual_at self.old.duals b ≡ pos 0 }
         ensures family { self.new ≡ dissolved self.old b }
         ensures good { IsFamily self.new }

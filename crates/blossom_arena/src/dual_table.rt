@@ -9,8 +9,8 @@ use mb_base::OutOfMemory;
 use std::alloc::Global;
 use std::marker::Model;
 
-/// The duals by node number, each of which moves as a label says: a change moves all of them at once, by the
-/// clock alone. Contracts see the duals as they are now, and the labels.
+/// The duals by node number, each of which moves as a label says: a change moves all of them at
+/// once, by the clock alone. Contracts see the duals as they are now, and the labels.
 #[derive(Drop)]
 pub(crate) struct Duals {
     // By node number: the dual without its share of the clock, and how it moves.
@@ -152,8 +152,8 @@ impl Duals {
         }
     }
 
-    /// Adds to each dual its share of a change of d, as it moves: by the clock, in constant time. Once the
-    /// clock has come to the limit of numbers, it takes time linear in the nodes.
+    /// Adds to each dual its share of a change of d, as it moves: by the clock, in constant time.
+    /// Once the clock has come to the limit of numbers, it takes time linear in the nodes.
     pub(crate) fn advance(&mut self, d: i64)
         requires low { pos 0 ≤ℤ d }
         requires in_range { (a : ℕ) → IsNumber (dual_at self.old.values a +ℤ share d (label_at self.old.motions a)) }

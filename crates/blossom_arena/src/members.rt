@@ -7,8 +7,8 @@ use crate::runs::Run;
 use mb_base::VertexId;
 use std::marker::Model;
 
-/// The vertices of a node, in the order of the circuits that it was made of. Contracts see the list of
-/// those to come.
+/// The vertices of a node, in the order of the circuits that it was made of. Contracts see the list
+/// of those to come.
 #[derive(Drop)]
 pub struct Members<'a> {
     followers: &'a [u32],

@@ -2,8 +2,8 @@ ghost use Rattle.std.specs.Prelude.{◌≡◌, ℕ, ◌<◌, ◌≤◌, ◌^◌}
 
 use std::marker::Model;
 
-/// The number of a node. The vertices 1 to n are nodes, and the blossoms have the numbers after n, up
-/// to n + (n - 1) / 2.
+/// The number of a node. The vertices 1 to n are nodes, and the blossoms have the numbers after n,
+/// up to n + (n - 1) / 2.
 #[derive(Clone, Copy, PartialEq, Eq, PartialOrd, Ord, Debug)]
 pub struct NodeId(u32);
 

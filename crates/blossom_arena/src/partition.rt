@@ -5,14 +5,14 @@ use mb_base::OutOfMemory;
 use std::alloc::Global;
 use std::marker::Model;
 
-/// The vertices by their outermost nodes, and at each vertex the duals of all other nodes that hold it,
-/// added up. A vertex names a set, and the set its outermost node and what the sums of its vertices have
-/// in common, so that a node takes over a whole set in constant time. A set is named by one of its
-/// vertices. Contracts see the table by vertex and by set.
+/// The vertices by their outermost nodes, and at each vertex the duals of all other nodes that hold
+/// it, added up. A vertex names a set, and the set its outermost node and what the sums of its
+/// vertices have in common, so that a node takes over a whole set in constant time. A set is named
+/// by one of its vertices. Contracts see the table by vertex and by set.
 #[derive(Drop)]
 pub(crate) struct Partition {
-    // By vertex: its set, and its sum without that of the set. Sums wrap around at 64 bits, so that a part
-    // may leave the range in which each whole sum lies.
+    // By vertex: its set, and its sum without that of the set. Sums wrap around at 64 bits, so that
+    // a part may leave the range in which each whole sum lies.
     sets: Vec<u32>,
     bases: Vec<i64>,
     // By set: its outermost node, and its sum.

@@ -8,8 +8,8 @@ use crate::nodes::NodeId;
 use mb_base::EdgeId;
 use std::marker::Model;
 
-/// The links of the circuit that a blossom was made of, in its order. Contracts see the list of those
-/// to come.
+/// The links of the circuit that a blossom was made of, in its order. Contracts see the list of
+/// those to come.
 #[derive(Drop)]
 pub struct Ring<'a> {
     nexts: &'a [u32],

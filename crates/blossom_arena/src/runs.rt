@@ -15,8 +15,8 @@ use crate::partition::Partition;
 use crate::ring::Ring;
 use slab::Slab;
 
-/// The vertices of a node: so many from `head` to `tail`, each the follower of the one before it, and
-/// `core`, the one of them that names their set while the node is outermost.
+/// The vertices of a node: so many from `head` to `tail`, each the follower of the one before it,
+/// and `core`, the one of them that names their set while the node is outermost.
 #[derive(Clone, Copy)]
 pub(crate) struct Run {
     pub(crate) head: u32,
@@ -90,8 +90,8 @@ fn longer(run: Run, other: Run) -> Run
     other
 }
 
-/// Joins the runs of a circuit's nodes to one with the core of the longest. Place 0 of the table takes the
-/// first vertex.
+/// Joins the runs of a circuit's nodes to one with the core of the longest. Place 0 of the table
+/// takes the first vertex.
 pub(crate) fn join(followers: &mut Vec<u32>, kept: &Slab<Kept>, count: u32, circuit: &[Link]) -> Run
     requires some { 0 < vec_len followers.old }
     requires within { AllByRecursion (λ (r : Run). r.tail < vec_len followers.old) (runs_of count kept.now circuit.now) }
@@ -135,9 +135,9 @@ fn take_in(partition: &mut Partition, followers: &[u32], run: Run, core: u32, no
     partition.place(Members::of(followers, run), core, node, y);
 }
 
-/// Makes a node the outermost one of all vertices of a circuit, and adds to the sum at each the dual of the
-/// circuit's node that holds it. The set of the core stays, and only the vertices of all other nodes are
-/// put into it.
+/// Makes a node the outermost one of all vertices of a circuit, and adds to the sum at each the
+/// dual of the circuit's node that holds it. The set of the core stays, and only the vertices of
+/// all other nodes are put into it.
 pub(crate) fn absorb(
     partition: &mut Partition,
     circuit: &[Link],
@@ -205,9 +205,9 @@ fn heir(before: u32, node: u32, own: u32, core: u32) -> u32
     before
 }
 
-/// Makes each node of a ring the outermost one of its vertices, and takes its dual away from the sums
-/// there. The node whose core is that of the whole ring keeps the set, and only the vertices of all others
-/// are put into other ones.
+/// Makes each node of a ring the outermost one of its vertices, and takes its dual away from the
+/// sums there. The node whose core is that of the whole ring keeps the set, and only the vertices
+/// of all others are put into other ones.
 pub(crate) fn release(
     partition: &mut Partition,
     ring: Ring<'_>,

@@ -16,8 +16,8 @@ fn class(label: Label) -> usize
     }
 }
 
-/// The shares of a change in the order of the labels: they are read from a table, since a machine can't
-/// foresee a branch on a label. Contracts see the change.
+/// The shares of a change in the order of the labels: they are read from a table, since a machine
+/// can't foresee a branch on a label. Contracts see the change.
 #[derive(Drop)]
 pub(crate) struct Shares {
     table: [i64; 3],

@@ -15,7 +15,8 @@ pub across-sum : (y z : ℕ → ℤ) (bs : List Blossom) (e : Edge) → duals_ac
 across-sum y z [] e = omega (arith, ints)
 across-sum y z (b ∷ older) e =
     let rest : duals_across (λ a. y a +ℤ z a) older e ≡ duals_across y older e +ℤ duals_across z older e = across-sum y z older e in
-    elim (crosses b.members e) as (λ t. cond t (y b.node +ℤ z b.node) (pos 0) +ℤ duals_across (λ a. y a +ℤ z a) older e ≡ (cond t (y b.node) (pos 0) +ℤ duals_across y older e) +ℤ
+    elim (crosses b.members e) as (λ t. cond t (y b.node +ℤ z b.node) (pos 0) +ℤ duals_across (λ a. y a +ℤ z a) older e
+    ≡ (cond t (y b.node) (pos 0) +ℤ duals_across y older e) +ℤ
     (cond t (z b.node) (pos 0) +ℤ duals_across z older e)) [
       | true ↦ omega (arith, ints)
       | false ↦ omega (arith, ints)
@@ -33,7 +34,8 @@ module _ (z : ℕ → ℤ) (node x y : ℕ) (rest : ℤ) where
       (cond p node x ≢ cond q node y → cond (cond p (not q) q) (z node) (pos 0) +ℤ rest ≡ z (cond p node x) +ℤ z (cond q node y))
       × (cond p node x ≡ cond q node y → cond (cond p (not q) q) (z node) (pos 0) +ℤ rest ≡ pos 0)
 
-  felt : (p q : Bool) → node ≢ x → node ≢ y → (x ≡ y → p ≡ q) → (p ≡ true → z x ≡ pos 0) → (q ≡ true → z y ≡ pos 0) → (x ≢ y → rest ≡ z x +ℤ z y) → (x ≡ y → rest ≡ pos 0) → Felt p q
+  felt : (p q : Bool) → node ≢ x → node ≢ y → (x ≡ y → p ≡ q) → (p ≡ true → z x ≡ pos 0) → (q ≡ true → z y ≡ pos 0) → (x ≢ y → rest ≡ z x +ℤ z y)
+      → (x ≡ y → rest ≡ pos 0) → Felt p q
   felt true true nx ny one zx zy apart within = (
     λ ne. absurd (ne refl),
     λ e. ⊎_elim (λ same. omega (arith, ints, within same)) (λ ne. omega (arith, ints, apart ne, zx refl, zy refl)) (cases_eq x y),
@@ -42,7 +44,8 @@ module _ (z : ℕ → ℤ) (node x y : ℕ) (rest : ℤ) where
   felt false true nx ny one zx zy apart within = (λ ne. omega (arith, ints, apart (λ same. both_ways false refl (one same)), zy refl), λ e. absurd (nx (sym e)))
   felt false false nx ny one zx zy apart within = (λ ne. omega (arith, ints, apart ne), λ e. omega (arith, ints, within e))
 
-pub feels_outer : (n : ℕ) (z : ℕ → ℤ) (bs : List Blossom) (e : Edge) → IsEdgeWithin n e → IsNested n bs → ((a : ℕ) → is_child bs a ≡ true → z a ≡ pos 0) → FeelsOuter z bs e
+pub feels_outer : (n : ℕ) (z : ℕ → ℤ) (bs : List Blossom) (e : Edge) → IsEdgeWithin n e → IsNested n bs
+    → ((a : ℕ) → is_child bs a ≡ true → z a ≡ pos 0) → FeelsOuter z bs e
 feels_outer n z [] e ends h none = record { apart = λ _. refl; within = λ same. absurd (ends.differ same) }
 feels_outer n z (b ∷ older) e ends h none =
     let before = feels_outer n z older e ends h.1 (λ a c. none a (or_right (in_ring b.ring a) (is_child older a) c)) in

@@ -63,7 +63,8 @@ module _ (s : State) (d : ℤ) (graph : IsGraph s.graph) (nested : IsNested s.gr
   dual_sum_grows : (v : ℕ) → is_vertex s.graph.vertices v ≡ true → dual_sum (applied s d) v ≡ dual_sum s v +ℤ share d (s.label (outermost s.blossoms v))
   dual_sum_grows v iv =
       let sum : held_by (λ a. s.dual a +ℤ change s d a) s.blossoms v ≡ held_by s.dual s.blossoms v +ℤ held_by (change s d) s.blossoms v = held-sum s.dual (change s d) s.blossoms v in
-      let own : change s d v +ℤ held_by (change s d) s.blossoms v ≡ change s d (outermost s.blossoms v) = outer_sum s.graph.vertices (change s d) s.blossoms v iv nested (change_child s d) in
+      let own : change s d v +ℤ held_by (change s d) s.blossoms v ≡ change s d (outermost s.blossoms v) =
+      outer_sum s.graph.vertices (change s d) s.blossoms v iv nested (change_child s d) in
       let given : change s d (outermost s.blossoms v) ≡ share d (s.label (outermost s.blossoms v)) = change_outer s d (outermost s.blossoms v)
       (outermost_has s.graph.vertices s.blossoms v nested iv).0 in
       plain (s.dual v) (change s d v) (held_by s.dual s.blossoms v) (held_by (change s d) s.blossoms v) (held_by (applied s d).dual s.blossoms v)
@@ -80,7 +81,8 @@ module _ (s : State) (d : ℤ) (graph : IsGraph s.graph) (nested : IsNested s.gr
       nothing x = omega (arith, ints)
 
   -- an edge between two nodes loses the shares of both
-  pub slack_between : (e a b : ℕ) → IsEdgeNumber s.graph e → Joins s.graph s.blossoms e a b → a ≢ b → slack_of (applied s d) e ≡ slack_of s e -ℤ (share d (s.label a) +ℤ share d (s.label b))
+  pub slack_between : (e a b : ℕ) → IsEdgeNumber s.graph e → Joins s.graph s.blossoms e a b → a ≢ b
+      → slack_of (applied s d) e ≡ slack_of s e -ℤ (share d (s.label a) +ℤ share d (s.label b))
   slack_between e a b is j ne =
       loses e (share d (s.label a) +ℤ share d (s.label b)) (⊎_elim
       (λ p. (felt e is).apart (λ q. ne (sym p.0 ∙ q ∙ p.1)) ∙ ap₂ (λ x y. change s d x +ℤ change s d y) p.0 p.1
@@ -99,19 +101,22 @@ module _ (s : State) (d : ℤ) (graph : IsGraph s.graph) (nested : IsNested s.gr
   slack_labels e a b k l is j ne la lb = slack_between e a b is j ne ∙ ap₂ (λ x y. slack_of s e -ℤ (share d x +ℤ share d y)) la lb
 
   -- tight edges of trees stay tight
-  stays_outer_inner : (e a b : ℕ) → IsEdgeNumber s.graph e → Joins s.graph s.blossoms e a b → a ≢ b → s.label a ≡ Outer → s.label b ≡ Inner → slack_of (applied s d) e ≡ slack_of s e
+  stays_outer_inner : (e a b : ℕ) → IsEdgeNumber s.graph e → Joins s.graph s.blossoms e a b → a ≢ b → s.label a ≡ Outer → s.label b ≡ Inner
+      → slack_of (applied s d) e ≡ slack_of s e
   stays_outer_inner e a b is j ne la lb = slack_labels e a b Outer Inner is j ne la lb ∙ plain (slack_of s e) d
     where
       plain : (x y : ℤ) → x -ℤ (y +ℤ (pos 0 -ℤ y)) ≡ x
       plain x y = omega (arith, ints)
 
-  stays_inner_outer : (e a b : ℕ) → IsEdgeNumber s.graph e → Joins s.graph s.blossoms e a b → a ≢ b → s.label a ≡ Inner → s.label b ≡ Outer → slack_of (applied s d) e ≡ slack_of s e
+  stays_inner_outer : (e a b : ℕ) → IsEdgeNumber s.graph e → Joins s.graph s.blossoms e a b → a ≢ b → s.label a ≡ Inner → s.label b ≡ Outer
+      → slack_of (applied s d) e ≡ slack_of s e
   stays_inner_outer e a b is j ne la lb = slack_labels e a b Inner Outer is j ne la lb ∙ plain (slack_of s e) d
     where
       plain : (x y : ℤ) → x -ℤ ((pos 0 -ℤ y) +ℤ y) ≡ x
       plain x y = omega (arith, ints)
 
-  stays_out_out : (e a b : ℕ) → IsEdgeNumber s.graph e → Joins s.graph s.blossoms e a b → a ≢ b → s.label a ≡ Out → s.label b ≡ Out → slack_of (applied s d) e ≡ slack_of s e
+  stays_out_out : (e a b : ℕ) → IsEdgeNumber s.graph e → Joins s.graph s.blossoms e a b → a ≢ b → s.label a ≡ Out → s.label b ≡ Out
+      → slack_of (applied s d) e ≡ slack_of s e
   stays_out_out e a b is j ne la lb = slack_labels e a b Out Out is j ne la lb ∙ plain (slack_of s e)
     where
       plain : (x : ℤ) → x -ℤ (pos 0 +ℤ pos 0) ≡ x
@@ -119,7 +124,8 @@ module _ (s : State) (d : ℤ) (graph : IsGraph s.graph) (nested : IsNested s.gr
 
   -- no slack falls below 0
   module _ (within : IsWithin s d) (low : (e : ℕ) → IsEdgeNumber s.graph e → pos 0 ≤ℤ slack_of s e) where
-    enough : (e a b : ℕ) (k l : Label) → IsEdgeNumber s.graph e → Joins s.graph s.blossoms e a b → a ≢ b → s.label a ≡ k → s.label b ≡ l → (share d k +ℤ share d l) ≤ℤ slack_of s e
+    enough : (e a b : ℕ) (k l : Label) → IsEdgeNumber s.graph e → Joins s.graph s.blossoms e a b → a ≢ b → s.label a ≡ k → s.label b ≡ l
+        → (share d k +ℤ share d l) ≤ℤ slack_of s e
     enough e a b Outer Outer is j ne la lb = within.between e a b is j ne la lb
     enough e a b Outer Out is j ne la lb = omega (arith, ints, within.to_out e a b is j la lb)
     enough e a b Out Outer is j ne la lb = let turned : Joins s.graph s.blossoms e b a = ⊎_elim (λ p. inr p) (λ p. inl p) j in omega (arith, ints, within.to_out e b a is turned lb la)
@@ -150,10 +156,12 @@ module _ (s : State) (d : ℤ) (graph : IsGraph s.graph) (nested : IsNested s.gr
       by_label is Inner lab = omega (arith, ints, within.inner b name is lab)
       by_label is Out lab = omega (arith, ints, low)
 
-  duals_stay : IsWithin s d → AllByRecursion (λ (b : Blossom). pos 0 ≤ℤ s.dual b.node) s.blossoms → AllByRecursion (λ (b : Blossom). pos 0 ≤ℤ (applied s d).dual b.node) s.blossoms
+  duals_stay : IsWithin s d → AllByRecursion (λ (b : Blossom). pos 0 ≤ℤ s.dual b.node) s.blossoms
+      → AllByRecursion (λ (b : Blossom). pos 0 ≤ℤ (applied s d).dual b.node) s.blossoms
   duals_stay within low = each s.blossoms (λ b name. name) low
     where
-      each : (bs : List Blossom) → ((b : ℕ) → holds (names_of bs) b ≡ true → holds (names_of s.blossoms) b ≡ true) → AllByRecursion (λ (b : Blossom). pos 0 ≤ℤ s.dual b.node) bs
+      each : (bs : List Blossom) → ((b : ℕ) → holds (names_of bs) b ≡ true → holds (names_of s.blossoms) b ≡ true)
+          → AllByRecursion (λ (b : Blossom). pos 0 ≤ℤ s.dual b.node) bs
           → AllByRecursion (λ (b : Blossom). pos 0 ≤ℤ (applied s d).dual b.node) bs
       each [] all low = tt
       each (b ∷ bs) all low = (

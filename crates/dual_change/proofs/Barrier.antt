@@ -60,7 +60,8 @@ module _ (s : State) (depth : ℕ → ℕ) (graph : IsGraph s.graph) (nested : I
     abbrev Linked : ℕ → ℕ → Type 0
     Linked u v = (outermost s.blossoms u ≡ outermost s.blossoms v) × (label_of u ≡ Outer → head_of s.graph removed graph u ≡ head_of s.graph removed graph v)
 
-    link_ring : (ring : List Link) → AllByRecursion (LiesWithin s.graph s.blossoms) ring → AllByRecursion (λ (l : Link). Linked (edge_of s.graph l.edge).u (edge_of s.graph l.edge).v) ring
+    link_ring : (ring : List Link) → AllByRecursion (LiesWithin s.graph s.blossoms) ring
+        → AllByRecursion (λ (l : Link). Linked (edge_of s.graph l.edge).u (edge_of s.graph l.edge).v) ring
     link_ring [] w = tt
     link_ring (l ∷ ring) w = (
       (

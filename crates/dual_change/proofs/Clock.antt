@@ -57,7 +57,8 @@ module _ (s t : Search) (d x : ℤ) (rest : t ≡ with_duals s t.arena.duals) (i
       subst (λ (y : Search). IsQueued (record y { clock = x })) (sym rest) (record {
         low = omega (arith, ints, is, start, low);
         high = omega (arith, ints, is, high);
-        edges = λ e number. subst (λ z. NeedsMoment z x e (moment_of s.queue (Edge e))) (sym now) (subst (λ z. NeedsMoment (applied (state_of s) d) z e (moment_of s.queue (Edge e))) (sym is)
+        edges = λ e number. subst (λ z. NeedsMoment z x e (moment_of s.queue (Edge e))) (sym now)
+            (subst (λ z. NeedsMoment (applied (state_of s) d) z e (moment_of s.queue (Edge e))) (sym is)
             (edge_later (state_of s) sound.depth graph nested s.clock d e (moment_of s.queue (Edge e)) number (h.edges e number)));
         blossoms = λ b name. subst (λ z. IsBlossomEntered z x s.queue b) (sym now) (subst (λ z. IsBlossomEntered (applied (state_of s) d) z s.queue b) (sym is)
             (blossom_later (state_of s) sound.depth graph nested s.clock d s.queue b (h.blossoms b name)));

@@ -13,7 +13,8 @@ pub later : (from to clock moment x : ℤ) → from ≡ clock → to ≡ moment 
 later from to clock moment x a b at low = omega (arith, ints)
 
 -- and comes with this change
-pub change_is : (from to clock moment x given found : ℤ) → from ≡ clock → to ≡ moment → moment ≡ clock +ℤ x → ((d : ℤ) → to ≡ from +ℤ d → found ≡ d) → given ≡ found → given ≡ x
+pub change_is : (from to clock moment x given found : ℤ) → from ≡ clock → to ≡ moment → moment ≡ clock +ℤ x → ((d : ℤ) → to ≡ from +ℤ d → found ≡ d)
+    → given ≡ found → given ≡ x
 change_is from to clock moment x given found a b at ahead back = back ∙ ahead x (b ∙ at ∙ ap (λ (y : ℤ). y +ℤ x) (sym a))
 
 -- the same for its moment
@@ -24,7 +25,8 @@ pub half_low : (x half : ℤ) → x ≡ half +ℤ half → pos 0 ≤ℤ x → po
 half_low x half twice low = omega (arith, ints)
 
 -- an edge between two nodes that aren't outer needs no moment
-pub none_outer : (s : State) (clock : ℤ) (e a b : ℕ) (m : Option ℤ) → Joins s.graph s.blossoms e a b → (s.label a ≡ Outer → ⊥) → (s.label b ≡ Outer → ⊥) → NeedsMoment s clock e m
+pub none_outer : (s : State) (clock : ℤ) (e a b : ℕ) (m : Option ℤ) → Joins s.graph s.blossoms e a b → (s.label a ≡ Outer → ⊥)
+    → (s.label b ≡ Outer → ⊥) → NeedsMoment s clock e m
 none_outer s clock e a b m j na nb = record {
   to_out = λ c d k lc ld. absurd (no_end c d k lc);
   between = λ c d half k ne lc ld twice. absurd (no_end c d k lc);

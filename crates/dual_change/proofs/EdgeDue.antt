@@ -8,7 +8,7 @@ use Rattle.alt_forest.specs.Counts.{IsPlanted}
 use Rattle.alt_forest.specs.Entries.{NeedsMoment}
 use Rattle.alt_forest.proofs.Places.{nested_of}
 use Rattle.dual_change.specs.declared.event.Event.TheVariants.{Grow}
-use Rattle.dual_change.specs.Candidates.{AreEnds, Leads}
+use Rattle.dual_change.specs.Candidates.{IsEdgeBetween, Leads}
 use Rattle.dual_change.proofs.Due.{due, half_low}
 use Rattle.dual_change.proofs.Least.{outer_slack_even, leads_grow}
 
@@ -19,7 +19,7 @@ pub record HalfDue (s : Search) (e : ℕ) (moment : ℤ) : Type 0 where
   pub at : moment ≡ s.clock +ℤ half
   pub low : pos 0 ≤ℤ half
 
-module _ (s : Search) (e one other : ℕ) (sound : IsSound s) (ends : AreEnds s e one other) where
+module _ (s : Search) (e one other : ℕ) (sound : IsSound s) (ends : IsEdgeBetween s e one other) where
   module _ (moment : ℤ) (entered : NeedsMoment (state_of s) s.clock e (Some moment)) where
     pub half_due : one ≢ other → label_at s.labels.items one ≡ Outer → label_at s.labels.items other ≡ Outer → HalfDue s e moment
     half_due ne la lb =

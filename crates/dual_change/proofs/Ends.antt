@@ -7,12 +7,12 @@ use Rattle.alt_forest.specs.State.{node_u, node_v}
 use Rattle.alt_forest.specs.Searches.{HasShape}
 use Rattle.alt_forest.proofs.Mates.{joins_turned}
 use Rattle.alt_forest.proofs.Places.{u_outer, v_outer}
-use Rattle.dual_change.specs.Candidates.{AreEnds}
+use Rattle.dual_change.specs.Candidates.{IsEdgeBetween}
 
 -- edge e of g has its ends u and v in these nodes
 pub ends_by : (s : Search) (g : Multigraph) (e u v one other : ℕ) → HasShape s → g ≡ s.graph → IsEdgeNumber g e
     → u ≡ (edge_of g e).u → v ≡ (edge_of g e).v
-    → one ≡ outermost s.arena.blossoms u → other ≡ outermost s.arena.blossoms v → AreEnds s e one other
+    → one ≡ outermost s.arena.blossoms u → other ≡ outermost s.arena.blossoms v → IsEdgeBetween s e one other
 ends_by s g e u v one other h graph edge from to one_is other_is =
     let number = subst (λ x. IsEdgeNumber x e) graph edge in
     let at_u : one ≡ node_u s.graph s.arena.blossoms e =
@@ -27,7 +27,7 @@ ends_by s g e u v one other h graph edge from to one_is other_is =
     }
 
 -- both ends are in one node
-pub same_ends : (s : Search) (e one other : ℕ) → AreEnds s e one other → one ≡ other
+pub same_ends : (s : Search) (e one other : ℕ) → IsEdgeBetween s e one other → one ≡ other
     → node_u s.graph s.arena.blossoms e ≢ node_v s.graph s.arena.blossoms e → ⊥
 same_ends s e one other ends same ne = ⊎_elim
     (λ p. ne (p.0 ∙ same ∙ sym p.1))
@@ -35,6 +35,6 @@ same_ends s e one other ends same ne = ⊎_elim
     ends.joins
 
 -- it doesn't matter which of the two comes first
-pub ends_turned : (s : Search) (e one other : ℕ) → AreEnds s e one other → AreEnds s e other one
+pub ends_turned : (s : Search) (e one other : ℕ) → IsEdgeBetween s e one other → IsEdgeBetween s e other one
 ends_turned s e one other h =
     record { number = h.number; joins = joins_turned s.graph s.arena.blossoms e one other h.joins; one_is = h.other_is; other_is = h.one_is }

@@ -40,5 +40,6 @@ minds_edge s next h first e is = record {
   between = λ a b half j ne la lb twice. first (Edge e) half ((h.edges e is).between a b half j ne la lb twice);
 }
 
-pub minds_blossom : (s : Search) (next : Next) → IsQueued s → IsFirst s.queue s.clock next → (b : ℕ) → holds (names_of s.arena.blossoms) b ≡ true → MindsBlossom (state_of s) next b
+pub minds_blossom : (s : Search) (next : Next) → IsQueued s → IsFirst s.queue s.clock next → (b : ℕ) → holds (names_of s.arena.blossoms) b ≡ true
+    → MindsBlossom (state_of s) next b
 minds_blossom s next h first b name is lab = first (Blossom b) _ (h.blossoms b name is lab)

@@ -60,7 +60,8 @@ root_applied s d a = ap (last_of 0) (path_applied s d (node_limit s.graph.vertic
 
 module _ (s : State) (depth : ℕ → ℕ) (graph : IsGraph s.graph) (nested : IsNested s.graph.vertices s.blossoms) where
   -- what edges and inner nodes have left after a change of c
-  pub left_to_out : (c : ℤ) (e a b : ℕ) → IsEdgeNumber s.graph e → Joins s.graph s.blossoms e a b → s.label a ≡ Outer → s.label b ≡ Out → slack_of (applied s c) e ≡ slack_of s e -ℤ c
+  pub left_to_out : (c : ℤ) (e a b : ℕ) → IsEdgeNumber s.graph e → Joins s.graph s.blossoms e a b → s.label a ≡ Outer → s.label b ≡ Out
+      → slack_of (applied s c) e ≡ slack_of s e -ℤ c
   left_to_out c e a b is j la lb = slack_labels s c graph nested e a b Outer Out is j (λ q. outer_not_out (sym la ∙ ap s.label q ∙ lb)) la lb ∙ plain (slack_of s e) c
     where
       plain : (x y : ℤ) → x -ℤ (y +ℤ pos 0) ≡ x -ℤ y
@@ -131,7 +132,8 @@ module _ (s : State) (depth : ℕ → ℕ) (graph : IsGraph s.graph) (nested : I
 
   module _ (st : IsSearchState s depth) where
     -- an edge to a node labelled out, which has a mate in a forest that has every exposed node as a root
-    pub leads_grow : IsPlanted s → (e a b : ℕ) → IsEdgeNumber s.graph e → Joins s.graph s.blossoms e a b → s.label a ≡ Outer → s.label b ≡ Out → Leads s (slack_of s e) (Grow e)
+    pub leads_grow : IsPlanted s → (e a b : ℕ) → IsEdgeNumber s.graph e → Joins s.graph s.blossoms e a b → s.label a ≡ Outer → s.label b ≡ Out
+        → Leads s (slack_of s e) (Grow e)
     leads_grow planted e a b is j la lb = by_mate (s.mate b) refl
       where
         by_mate : (o : Option ℕ) → s.mate b ≡ o → Leads s (slack_of s e) (Grow e)

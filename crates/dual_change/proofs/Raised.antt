@@ -55,7 +55,8 @@ module _ (s : Search) (d : ℤ) (h : HasShape s) where
       (λ o. ap (λ q. cond q (share d (label_at s.arena.motions a)) (pos 0)) o ∙ sym (ap (λ q. cond q (share d (label_at s.labels.items a)) (pos 0)) o))
 
   -- an arena where they have gained it
-  module _ (standing : IsStanding s) (f : Family) (each : (a : ℕ) → dual_at f.duals a ≡ dual_at s.arena.duals a +ℤ gain s.arena d a) (rest : f ≡ record s.arena { duals = f.duals }) where
+  module _ (standing : IsStanding s) (f : Family) (each : (a : ℕ) → dual_at f.duals a ≡ dual_at s.arena.duals a +ℤ gain s.arena d a)
+      (rest : f ≡ record s.arena { duals = f.duals }) where
     abbrev with_dual : State → (ℕ → ℤ) → State
     with_dual x y = record x { dual = y }
 

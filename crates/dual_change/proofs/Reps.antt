@@ -80,7 +80,8 @@ module _ (R : ℕ → ℕ → Type 0) (same : (u : ℕ) → R u u) (turn : (u v 
 abbrev pub Keeps : (ℕ → Bool) → (ℕ → ℕ) → Edge → Type 0
 Keeps r f e = r e.u ≡ false → r e.v ≡ false → f e.u ≡ f e.v
 
-keeps_more : (r : ℕ → Bool) (f g : ℕ → ℕ) (es : List Edge) → ((u v : ℕ) → f u ≡ f v → g u ≡ g v) → AllByRecursion (λ e. Keeps r f e) es → AllByRecursion (λ e. Keeps r g e) es
+keeps_more : (r : ℕ → Bool) (f g : ℕ → ℕ) (es : List Edge) → ((u v : ℕ) → f u ≡ f v → g u ≡ g v) → AllByRecursion (λ e. Keeps r f e) es
+    → AllByRecursion (λ e. Keeps r g e) es
 keeps_more r f g [] h each = tt
 keeps_more r f g (e ∷ es) h each = (λ fu fv. h e.u e.v (each.0 fu fv), keeps_more r f g es h each.1)
 
@@ -115,4 +116,5 @@ module _ (g : Multigraph) (r : ℕ → Bool) where
       → ((e : ℕ) → IsEdgeNumber g e → r (edge_of g e).u ≡ false → r (edge_of g e).v ≡ false → R (edge_of g e).u (edge_of g e).v) → (v : ℕ) → R (rep r g.edges v) v
   rep_related R same turn join each v =
       rep_in R same turn join r g.edges
-      (recursion_from_All (λ (e : Edge). r e.u ≡ false → r e.v ≡ false → R e.u e.v) g.edges (all_numbers g (λ (e : Edge). r e.u ≡ false → r e.v ≡ false → R e.u e.v) each)) v
+      (recursion_from_All (λ (e : Edge). r e.u ≡ false → r e.v ≡ false → R e.u e.v) g.edges (all_numbers g (λ (e : Edge). r e.u ≡ false → r e.v ≡ false → R e.u e.v) each))
+      v

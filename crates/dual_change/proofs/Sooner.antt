@@ -24,7 +24,8 @@ ComesBy next x = IsAtMost (change_of next) x
 -- it comes no later than an edge lets it
 pub record MindsEdge (s : State) (next : Next) (e : ℕ) : Type 0 where
   pub to_out : (a b : ℕ) → Joins s.graph s.blossoms e a b → s.label a ≡ Outer → s.label b ≡ Out → ComesBy next (slack_of s e)
-  pub between : (a b : ℕ) (half : ℤ) → Joins s.graph s.blossoms e a b → a ≢ b → s.label a ≡ Outer → s.label b ≡ Outer → slack_of s e ≡ half +ℤ half → ComesBy next half
+  pub between : (a b : ℕ) (half : ℤ) → Joins s.graph s.blossoms e a b → a ≢ b → s.label a ≡ Outer → s.label b ≡ Outer
+      → slack_of s e ≡ half +ℤ half → ComesBy next half
 
 -- it comes no later than a blossom lets it
 abbrev pub MindsBlossom : State → Next → ℕ → Type 0

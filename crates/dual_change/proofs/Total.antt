@@ -181,19 +181,23 @@ module _ (s : State) (depth : ℕ → ℕ) (nested : IsNested s.graph.vertices s
       let n : ℕ = s.graph.vertices in
       let names : List ℕ = names_of s.blossoms in
       let outer : List ℕ = outer_nodes n s.blossoms in
-      let new : int_sum_to (λ i. s.dual (i + 1) +ℤ change s d (i + 1)) n ≡ duals_over (λ a. s.dual a +ℤ change s d a) (vertices n) = sum_vertices (λ a. s.dual a +ℤ change s d a) n in
+      let new : int_sum_to (λ i. s.dual (i + 1) +ℤ change s d (i + 1)) n ≡ duals_over (λ a. s.dual a +ℤ change s d a) (vertices n) =
+      sum_vertices (λ a. s.dual a +ℤ change s d a) n in
       let old : int_sum_to (λ i. s.dual (i + 1)) n ≡ duals_over s.dual (vertices n) = sum_vertices s.dual n in
-      let one : duals_over (λ a. s.dual a +ℤ change s d a) (vertices n) ≡ duals_over s.dual (vertices n) +ℤ duals_over (change s d) (vertices n) = sum_add s.dual (change s d) (vertices n) in
+      let one : duals_over (λ a. s.dual a +ℤ change s d a) (vertices n) ≡ duals_over s.dual (vertices n) +ℤ duals_over (change s d) (vertices n) =
+      sum_add s.dual (change s d) (vertices n) in
       let two : duals_over (λ a. s.dual a +ℤ change s d a) names ≡ duals_over s.dual names +ℤ duals_over (change s d) names = sum_add s.dual (change s d) names in
       let all : duals_over (change s d) (vertices n) +ℤ duals_over (change s d) names ≡ duals_over (change s d) outer = sum_outer n (change s d) s.blossoms (change_child s d) in
       let given : duals_over (change s d) outer ≡ duals_over (λ a. share d (s.label a)) outer = sum_same (change s d) (λ a. share d (s.label a)) outer
       (λ a h. change_outer s d a (sym (holds-outer_nodes n s.blossoms a nested) ∙ h)) in
-      let split : duals_over (λ a. share d (s.label a)) outer ≡ (pos (length (nodes_labelled s Outer)) *ℤ d) -ℤ (pos (length (nodes_labelled s Inner)) *ℤ d) = shares d s.label outer in
+      let split : duals_over (λ a. share d (s.label a)) outer ≡ (pos (length (nodes_labelled s Outer)) *ℤ d) -ℤ (pos (length (nodes_labelled s Inner)) *ℤ d) =
+      shares d s.label outer in
       let more : pos (length (nodes_labelled s Outer)) *ℤ d ≡ (pos (length (nodes_labelled s Inner)) *ℤ d) +ℤ (pos (tree_count s) *ℤ d) =
       ap (λ k. pos k *ℤ d) balance ∙ plus-times (length (nodes_labelled s Inner)) (tree_count s) d in
       plain _ _ _ _ _ _ _ _ _ _ _ _ _ new old one two all given split more
     where
-      plain : (nv ov dn dv cv dnn dnames cn co sh x y z : ℤ) → nv ≡ dn → ov ≡ dv → dn ≡ dv +ℤ cv → dnn ≡ dnames +ℤ cn → cv +ℤ cn ≡ co → co ≡ sh → sh ≡ x -ℤ y → x ≡ y +ℤ z
+      plain : (nv ov dn dv cv dnn dnames cn co sh x y z : ℤ) → nv ≡ dn → ov ≡ dv → dn ≡ dv +ℤ cv → dnn ≡ dnames +ℤ cn → cv +ℤ cn ≡ co → co ≡ sh
+          → sh ≡ x -ℤ y → x ≡ y +ℤ z
           → nv +ℤ dnn ≡ (ov +ℤ dnames) +ℤ z
       plain nv ov dn dv cv dnn dnames cn co sh x y z a b c d e f g h = omega (arith, ints)
 

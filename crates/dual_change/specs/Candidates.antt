@@ -18,7 +18,7 @@ use Rattle.dual_change.specs.declared.event.Next.TheVariants.{Grow as NextGrow, 
 use Rattle.dual_change.specs.Changes.{applied, IsPossible}
 
 -- the outermost nodes that hold the two ends of an edge
-pub record AreEnds (s : Search) (e one other : ℕ) : Type 0 where
+pub record IsEdgeBetween (s : Search) (e one other : ℕ) : Type 0 where
   pub number : IsEdgeNumber s.graph e
   pub joins : Joins s.graph s.arena.blossoms e one other
   pub one_is : IsOutermost (state_of s) one

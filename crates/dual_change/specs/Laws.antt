@@ -23,12 +23,14 @@ StuckInnerAreVertices = (s : State) (depth : ℕ → ℕ) (a : ℕ) → IsGraph 
 -- where a forest of all exposed nodes is stuck, its inner vertices are a barrier: each outer node is an odd component of what
 -- is left without them, and there is one outer node more than inner ones in each tree
 abbrev pub StuckHasBarrier : Type 0
-StuckHasBarrier = (s : State) (depth : ℕ → ℕ) (root : ℕ) → IsGraph s.graph → IsNested s.graph.vertices s.blossoms → IsSearchState s depth → IsPlanted s → IsRoot s root → IsStuck s → IsBarrier s.graph (inner_vertices s)
+StuckHasBarrier = (s : State) (depth : ℕ → ℕ) (root : ℕ) → IsGraph s.graph → IsNested s.graph.vertices s.blossoms → IsSearchState s depth → IsPlanted s → IsRoot s root
+    → IsStuck s → IsBarrier s.graph (inner_vertices s)
 
 -- the slack between two outer nodes is even, so the change that lets them be shrunk, or the matching be augmented, is a
 -- whole number
 abbrev pub OuterSlackIsEven : Type 0
-OuterSlackIsEven = (s : State) (depth : ℕ → ℕ) (e a b : ℕ) → IsGraph s.graph → IsNested s.graph.vertices s.blossoms → IsSearchState s depth → IsEdgeNumber s.graph e → Joins s.graph s.blossoms e a b
+OuterSlackIsEven = (s : State) (depth : ℕ → ℕ) (e a b : ℕ) → IsGraph s.graph → IsNested s.graph.vertices s.blossoms → IsSearchState s depth → IsEdgeNumber s.graph e
+    → Joins s.graph s.blossoms e a b
     → s.label a ≡ Outer → s.label b ≡ Outer → (half : ℤ) × (slack_of s e ≡ half +ℤ half)
 
 -- the duals of some nodes, added up
@@ -42,4 +44,5 @@ dual_total s = int_sum_to (λ i. s.dual (i + 1)) s.graph.vertices +ℤ duals_ove
 
 -- a change raises the sum of all duals once for each tree
 abbrev pub ChangeRaisesTotal : Type 0
-ChangeRaisesTotal = (s : State) (depth : ℕ → ℕ) (d : ℤ) → IsNested s.graph.vertices s.blossoms → IsSearchState s depth → dual_total (applied s d) ≡ dual_total s +ℤ (pos (tree_count s) *ℤ d)
+ChangeRaisesTotal = (s : State) (depth : ℕ → ℕ) (d : ℤ) → IsNested s.graph.vertices s.blossoms → IsSearchState s depth
+    → dual_total (applied s d) ≡ dual_total s +ℤ (pos (tree_count s) *ℤ d)

@@ -13,7 +13,7 @@ ghost use Rattle.alt_forest.specs.Entries.{NeedsMoment, IsQueued, entry_count};
 ghost use Rattle.alt_forest.specs.Standing.{IsStanding};
 ghost use Rattle.dual_change.specs.declared.event.Next.TheVariants.{Stuck};
 ghost use Rattle.dual_change.specs.Changes.{IsNext, IsNextWithin, edge_looks};
-ghost use Rattle.dual_change.specs.Candidates.{AreEnds, IsCandidate, ComesAt, IsStale, item_looks, entries_left};
+ghost use Rattle.dual_change.specs.Candidates.{IsEdgeBetween, IsCandidate, ComesAt, IsStale, item_looks, entries_left};
 
 use crate::event::Next;
 use alt_forest::{Item, Label, Search};
@@ -46,7 +46,7 @@ fn comes(next: &Next) -> bool
 fn between(search: &Search, e: EdgeId, one: NodeId, other: NodeId, moment: i64) -> Next
     requires sound { IsSound search.now }
     requires standing { IsStanding search.now }
-    requires ends { AreEnds search.now e one other }
+    requires ends { IsEdgeBetween search.now e one other }
     requires different { one ≢ other }
     requires one_outer { label_at search.now.labels.items one ≡ Outer }
     requires other_outer { label_at search.now.labels.items other ≡ Outer }
@@ -68,7 +68,7 @@ fn between(search: &Search, e: EdgeId, one: NodeId, other: NodeId, moment: i64) 
 fn outward(search: &Search, e: EdgeId, near: NodeId, far: NodeId, moment: i64) -> Next
     requires sound { IsSound search.now }
     requires planted { IsPlanted (state_of search.now) }
-    requires ends { AreEnds search.now e near far }
+    requires ends { IsEdgeBetween search.now e near far }
     requires outer { label_at search.now.labels.items near ≡ Outer }
     requires out { label_at search.now.labels.items far ≡ Out }
     requires low { pos 0 ≤ℤ search.now.clock }
@@ -91,7 +91,7 @@ fn nodes_at<L: Ledger>(
     requires shape { HasShape search.now }
     requires same { graph.now ≡ search.now.graph }
     requires edge { IsEdgeNumber graph.now e }
-    ensures ends { AreEnds search.now e result.0 result.1 }
+    ensures ends { IsEdgeBetween search.now e result.0 result.1 }
     ensures step { steps.new ≡ steps.old + 1 }
 {
     let (u, v, _) = graph.look(e, steps);

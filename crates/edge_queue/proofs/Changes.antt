@@ -42,7 +42,8 @@ held_less last count heap p one_less ne =
     (cases_lt p last)
 
 -- a slot that gets another moment: an entry is put at its place
-module _ (heap : List Entry) (places : List ℕ) (count p : ℕ) (entry : Entry) (t : AreTables heap places count) (slot_in : entry.slot < length heap) (here : IsPlaceOf places count entry.slot p) where
+module _ (heap : List Entry) (places : List ℕ) (count p : ℕ) (entry : Entry) (t : AreTables heap places count) (slot_in : entry.slot < length heap)
+    (here : IsPlaceOf places count entry.slot p) where
   p_in : p < length heap
   p_in = omega (arith, here.within, t.few)
 
@@ -58,7 +59,8 @@ module _ (heap : List Entry) (places : List ℕ) (count p : ℕ) (entry : Entry)
   same_slot : (i : ℕ) → slot_at (set heap p entry) i ≡ slot_at heap i
   same_slot i =
       ⊎_elim
-      (λ (e : i ≡ p). ap (λ k. slot_at (set heap p entry) k) e ∙ slot_by (entry_at (set heap p entry) p) entry (get_or-set_same heap p entry blank p_in) ∙ own ∙ ap (λ k. slot_at heap k) (sym e))
+      (λ (e : i ≡ p). ap (λ k. slot_at (set heap p entry) k) e ∙ slot_by (entry_at (set heap p entry) p) entry (get_or-set_same heap p entry blank p_in) ∙ own
+      ∙ ap (λ k. slot_at heap k) (sym e))
       (λ (ne : i ≢ p). slot_by (entry_at (set heap p entry) i) (entry_at heap i) (get_or-set_other heap p i entry blank ne))
       (cases_eq i p)
 
@@ -74,11 +76,6 @@ module _ (heap : List Entry) (places : List ℕ) (count p : ℕ) (entry : Entry)
     few = omega (arith, size, t.few);
     small = omega (arith, size, t.small);
   })
-
-  pub given_order : IsHeap (key heap) count → IsHeapBut (key (set heap p entry)) p count
-  given_order h = heap_but (key heap) (key (set heap p entry)) p count count
-      (λ i l ne. (l, key_by (entry_at (set heap p entry) i) (entry_at heap i) (get_or-set_other heap p i entry blank ne)))
-      h
 
   pub given_entries : (last_heap : List Entry) (last_places : List ℕ) → IsMended (set heap p entry) (set places entry.slot p) last_heap last_places count
       → map (held count last_heap) last_places ≡ set (map (held count heap) places) entry.slot (Some entry.moment)
@@ -97,7 +94,8 @@ module _ (heap : List Entry) (places : List ℕ) (count p : ℕ) (entry : Entry)
       ∙ held_by count heap (set heap p entry) (get_or places s 0) (get_or-set_other heap p (get_or places s 0) entry blank elsewhere))
 
 -- a slot that gets a moment and had none: its entry is put behind the others
-module _ (heap : List Entry) (places : List ℕ) (count : ℕ) (entry : Entry) (t : AreTables heap places count) (slot_in : entry.slot < length heap) (behind : count ≤ get_or places entry.slot 0) where
+module _ (heap : List Entry) (places : List ℕ) (count : ℕ) (entry : Entry) (t : AreTables heap places count) (slot_in : entry.slot < length heap)
+    (behind : count ≤ get_or places entry.slot 0) where
   other_slots : (i : ℕ) → i < count → slot_at heap i ≢ entry.slot
   other_slots i p q = absurd (omega (arith, p, behind, t.inverse.there i p, ap (λ k. get_or places k 0) q))
 
@@ -203,7 +201,8 @@ module _ (heap : List Entry) (places : List ℕ) (count : ℕ) (entry : Entry) (
       (cases_lt (get_or places s 0) count))
 
 -- a slot whose moment is taken away
-module _ (heap : List Entry) (places : List ℕ) (count last slot p : ℕ) (t : AreTables heap places count) (one_less : last + 1 ≡ count) (slot_in : slot < length heap) (here : IsPlaceOf places count slot p) where
+module _ (heap : List Entry) (places : List ℕ) (count last slot p : ℕ) (t : AreTables heap places count) (one_less : last + 1 ≡ count) (slot_in : slot < length heap)
+    (here : IsPlaceOf places count slot p) where
   slot_there : slot_at heap p ≡ slot
   slot_there = ap (λ k. slot_at heap k) here.place ∙ t.inverse.back slot slot_in (omega (arith, here.place, here.within))
 
@@ -315,7 +314,8 @@ module _ (heap : List Entry) (places : List ℕ) (count last slot p : ℕ) (t : 
     left_slots : (i : ℕ) → i < last → slot_at (set heap p entry) i < length heap
     left_slots i l =
         ⊎_elim
-        (λ (e : i ≡ p). let is : slot_at (set heap p entry) i ≡ entry.slot = ap (λ k. slot_at (set heap p entry) k) e ∙ slot_by (entry_at (set heap p entry) p) entry moved_entry in omega (arith, is, moved_in))
+        (λ (e : i ≡ p). let is : slot_at (set heap p entry) i ≡ entry.slot = ap (λ k. slot_at (set heap p entry) k) e
+        ∙ slot_by (entry_at (set heap p entry) p) entry moved_entry in omega (arith, is, moved_in))
         (λ (ne : i ≢ p). omega (arith, kept_slot i ne, t.inverse.slots i (omega (arith, l, last_in))))
         (cases_eq i p)
 
@@ -344,7 +344,8 @@ module _ (heap : List Entry) (places : List ℕ) (count last slot p : ℕ) (t : 
         (cases_eq s slot))
         (cases_eq s entry.slot)
 
-    left_back : (s : ℕ) → s < length heap → get_or (set (set places slot absent) entry.slot p) s 0 < last → slot_at (set heap p entry) (get_or (set (set places slot absent) entry.slot p) s 0) ≡ s
+    left_back : (s : ℕ) → s < length heap → get_or (set (set places slot absent) entry.slot p) s 0 < last
+        → slot_at (set heap p entry) (get_or (set (set places slot absent) entry.slot p) s 0) ≡ s
     left_back s l h =
         ⊎_elim
         (λ (e : s ≡ entry.slot). ap (λ k. slot_at (set heap p entry) k) (moved_place s e) ∙ slot_by (entry_at (set heap p entry) p) entry moved_entry ∙ sym e)
@@ -402,13 +403,15 @@ module _ (heap : List Entry) (places : List ℕ) (count last slot p : ℕ) (t : 
         (cases_eq s entry.slot))
 
 -- a slot that isn't there
-pub absent_entries : (heap : List Entry) (places : List ℕ) (count slot : ℕ) → slot < length places → count ≤ get_or places slot 0 → map (held count heap) places ≡ set (map (held count heap) places) slot None
+pub absent_entries : (heap : List Entry) (places : List ℕ) (count slot : ℕ) → slot < length places → count ≤ get_or places slot 0
+    → map (held count heap) places ≡ set (map (held count heap) places) slot None
 absent_entries heap places count slot h over =
     let none : get_or (map (held count heap) places) slot None ≡ None = get_or-map (held count heap) places slot 0 None h ∙ held_absent count heap (get_or places slot 0) over in
     sym (ap (λ k. set (map (held count heap) places) slot k) (sym none) ∙ set-get_or (map (held count heap) places) slot None)
 
 -- a slot that has this moment already
-pub kept_entries : (heap : List Entry) (places : List ℕ) (count slot p : ℕ) (m : ℤ) → slot < length places → IsPlaceOf places count slot p → key heap p ≡ m → map (held count heap) places ≡ set (map (held count heap) places) slot (Some m)
+pub kept_entries : (heap : List Entry) (places : List ℕ) (count slot p : ℕ) (m : ℤ) → slot < length places → IsPlaceOf places count slot p → key heap p ≡ m
+    → map (held count heap) places ≡ set (map (held count heap) places) slot (Some m)
 kept_entries heap places count slot p m h here is =
     let there : get_or (map (held count heap) places) slot None ≡ Some m =
     get_or-map (held count heap) places slot 0 None h ∙ ap (λ k. held count heap k) (sym here.place) ∙ held_there count heap p here.within ∙ ap (λ (z : ℤ). Some z) is in
@@ -433,7 +436,8 @@ no_least heap places count z = λ s.
     (λ (high : length places ≤ s). get_or_past (map (held count heap) places) s None (omega (arith, high, length-map places (held count heap))))
     (cases_lt s (length places))
 
-pub root_is_least : (heap : List Entry) (places : List ℕ) (count : ℕ) → AreTables heap places count → IsHeap (key heap) count → 0 < count → IsLeastSlot (map (held count heap) places) (Some (slot_at heap 0, key heap 0))
+pub root_is_least : (heap : List Entry) (places : List ℕ) (count : ℕ) → AreTables heap places count → IsHeap (key heap) count → 0 < count
+    → IsLeastSlot (map (held count heap) places) (Some (slot_at heap 0, key heap 0))
 root_is_least heap places count t h some =
     let slot_in : slot_at heap 0 < length places = omega (arith, t.inverse.slots 0 some, t.inverse.sizes) in (
       get_or-map (held count heap) places (slot_at heap 0) 0 None slot_in ∙ ap (λ k. held count heap k) (t.inverse.there 0 some) ∙ held_there count heap 0 some,

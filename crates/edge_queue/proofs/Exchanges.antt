@@ -58,7 +58,8 @@ pub not_at : (heap : List Entry) (places : List ℕ) (n s i : ℕ) → IsInverse
 not_at heap places n s i v low p ne e = ne (sym (v.back s p (omega (arith, e, low))) ∙ ap (λ k. slot_at heap k) e)
 
 -- two places of a heap of n entries
-module _ (heap : List Entry) (places : List ℕ) (new_heap : List Entry) (new_places : List ℕ) (n a b : ℕ) (v : IsInverse heap places n) (a_in : a < n) (b_in : b < n) (x : IsExchanged heap places new_heap new_places a b) where
+module _ (heap : List Entry) (places : List ℕ) (new_heap : List Entry) (new_places : List ℕ) (n a b : ℕ) (v : IsInverse heap places n) (a_in : a < n) (b_in : b < n)
+    (x : IsExchanged heap places new_heap new_places a b) where
   first_slot : slot_at new_heap a ≡ slot_at heap b
   first_slot = slot_by (entry_at new_heap a) (entry_at heap b) x.first
 
@@ -128,7 +129,8 @@ module _ (heap : List Entry) (places : List ℕ) (new_heap : List Entry) (new_pl
   -- each slot keeps what it has
   pub same_exchanged : (s : ℕ) → s < length heap → held n new_heap (get_or new_places s 0) ≡ held n heap (get_or places s 0)
   same_exchanged s h =
-      let moved : (to was : ℕ) → to < n → was < n → s ≡ slot_at heap was → get_or new_places (slot_at heap was) 0 ≡ to → entry_at new_heap to ≡ entry_at heap was → held n new_heap (get_or new_places s 0) ≡ held n heap (get_or places s 0) =
+      let moved : (to was : ℕ) → to < n → was < n → s ≡ slot_at heap was → get_or new_places (slot_at heap was) 0 ≡ to → entry_at new_heap to ≡ entry_at heap was
+      → held n new_heap (get_or new_places s 0) ≡ held n heap (get_or places s 0) =
       λ to was to_in was_in e is same.
       ap (λ k. held n new_heap k) (ap (λ k. get_or new_places k 0) e ∙ is) ∙ held_there n new_heap to to_in
       ∙ ap (λ (m : ℤ). Some m) (key_by (entry_at new_heap to) (entry_at heap was) same)

@@ -19,7 +19,8 @@ pub numbered : (n nodes : ℕ) (xs : List (Option ℤ)) (item : Item) → length
 numbered n nodes xs (Edge e) long h = (h.0, omega (arith, h.1, long, length-take-le n xs))
 numbered n nodes xs (Blossom b) long h = (h.0, omega (arith, h.1, long, length-drop n xs))
 
-pub by_item_set : (n nodes : ℕ) (xs : List (Option ℤ)) (item : Item) (m : Option ℤ) → length xs ≡ n + nodes → IsNumbered n nodes item → by_item n (set xs (slot_of n item) m) ≡ with_moment (by_item n xs) item m
+pub by_item_set : (n nodes : ℕ) (xs : List (Option ℤ)) (item : Item) (m : Option ℤ) → length xs ≡ n + nodes → IsNumbered n nodes item
+    → by_item n (set xs (slot_of n item) m) ≡ with_moment (by_item n xs) item m
 by_item_set n nodes xs (Edge e) m long h =
     let low : e - 1 < n = omega (arith, h.0, h.1) in
     ap₂ (λ (a b : List (Option ℤ)). let q : Moments = record { edges = a; blossoms = b } in q) (take_set n xs (e - 1) m low) (drop-set-lt n xs (e - 1) m low)
@@ -27,7 +28,8 @@ by_item_set n nodes xs (Blossom b) m long h =
     ap₂ (λ (c d : List (Option ℤ)). let q : Moments = record { edges = c; blossoms = d } in q) (take-set-le n xs (n + (b - 1)) m (omega arith)) (drop-set-add n xs (b - 1) m)
 
 -- what an item has is what its slot has
-pub moment_cases : (n : ℕ) (xs : List (Option ℤ)) (item : Item) → n ≤ length xs → (moment_of (by_item n xs) item ≡ None) ⊎ (moment_of (by_item n xs) item ≡ get_or xs (slot_of n item) None)
+pub moment_cases : (n : ℕ) (xs : List (Option ℤ)) (item : Item) → n ≤ length xs
+    → (moment_of (by_item n xs) item ≡ None) ⊎ (moment_of (by_item n xs) item ≡ get_or xs (slot_of n item) None)
 moment_cases n xs (Edge zero) few = inl refl
 moment_cases n xs (Edge (suc k)) few =
     ⊎_elim
@@ -66,7 +68,8 @@ by_item_none n nodes =
     (take-replicate n (n + nodes) None (omega arith))
     (drop-replicate n (n + nodes) None ∙ ap (λ k. let l : List (Option ℤ) = replicate k None in l) rest)
 
-pub by_item_cleared : (n nodes : ℕ) (xs ys : List (Option ℤ)) → length xs ≡ n + nodes → ys ≡ replicate (length xs) None → by_item n ys ≡ no_moments (length (take n xs)) (length (drop n xs))
+pub by_item_cleared : (n nodes : ℕ) (xs ys : List (Option ℤ)) → length xs ≡ n + nodes → ys ≡ replicate (length xs) None
+    → by_item n ys ≡ no_moments (length (take n xs)) (length (drop n xs))
 by_item_cleared n nodes xs ys long is =
     let first : length (take n xs) ≡ n = length-take-le n xs (omega (arith, long)) in
     let second : length (drop n xs) ≡ nodes = omega (arith, long, length-drop n xs) in

@@ -7,4 +7,5 @@ pub mod Entries
 pub mod Items
 pub mod Changes
 pub mod Moves
+pub mod Fours
 pub mod Maps

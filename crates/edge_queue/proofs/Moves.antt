@@ -9,14 +9,16 @@ use Rattle.edge_queue.proofs.Orders.{le_by, rise_steps, sink_steps}
 use Rattle.edge_queue.proofs.Exchanges.{key_by, slot_by}
 use Rattle.edge_queue.proofs.Sifts.{IsSifting, sift_steps, keys_swapped, key_there, other_in, places_long}
 
-module _ (old_heap : List Entry) (old_places : List ℕ) (heap : List Entry) (places : List ℕ) (count j : ℕ) (entry : Entry) (s : IsSifting old_heap old_places heap places count j entry) where
+module _ (old_heap : List Entry) (old_places : List ℕ) (heap : List Entry) (places : List ℕ) (count j : ℕ) (entry : Entry)
+    (s : IsSifting old_heap old_places heap places count j entry) where
   own_key : key (set heap j entry) j ≡ entry.moment
   own_key = key_by (entry_at (set heap j entry) j) entry (get_or-set_same heap j entry blank (omega (arith, length-set heap j entry, s.place, s.tables.few)))
 
   there : (k : ℕ) → k < count → k ≢ j → key (set heap j entry) k ≡ key heap k
   there k p ne = key_there old_heap old_places heap places count j k entry s p ne
 
-  pub rise_moves : (p : ℕ) (above : Entry) (new_heap : List Entry) (new_places : List ℕ) → IsLaterParent (key heap) entry.moment j p → above ≡ entry_at heap p → new_heap ≡ set heap j above → new_places ≡ set places above.slot j
+  pub rise_moves : (p : ℕ) (above : Entry) (new_heap : List Entry) (new_places : List ℕ) → IsLaterParent (key heap) entry.moment j p → above ≡ entry_at heap p
+      → new_heap ≡ set heap j above → new_places ≡ set places above.slot j
       → IsRising (key (set heap j entry)) j count → IsSifting old_heap old_places new_heap new_places count p entry × IsRising (key (set new_heap p entry)) p count
   rise_moves p above new_heap new_places later a h q r =
       let below : p < j = omega (arith, later.parent, later.below) in
@@ -28,7 +30,8 @@ module _ (old_heap : List Entry) (old_places : List ℕ) (heap : List Entry) (pl
             (keys_swapped old_heap old_places heap places count j p entry s p_in ne above new_heap a h) r,
       )
 
-  pub sink_moves : (c : ℕ) (below : Entry) (new_heap : List Entry) (new_places : List ℕ) → IsEarlierChild (key heap) entry.moment count j c → below ≡ entry_at heap c → new_heap ≡ set heap j below → new_places ≡ set places below.slot j
+  pub sink_moves : (c : ℕ) (below : Entry) (new_heap : List Entry) (new_places : List ℕ) → IsEarlierChild (key heap) entry.moment count j c → below ≡ entry_at heap c
+      → new_heap ≡ set heap j below → new_places ≡ set places below.slot j
       → IsSinking (key (set heap j entry)) j count → IsSifting old_heap old_places new_heap new_places count c entry × IsSinking (key (set new_heap c entry)) c count
   sink_moves c below new_heap new_places earlier a h q r =
       let low : j * 4 + 1 ≤ c = earlier.child.low in
@@ -60,4 +63,9 @@ module _ (old_heap : List Entry) (old_places : List ℕ) (heap : List Entry) (pl
   -- the slot read at another place
   pub other_slot_in : (p : ℕ) (above : Entry) → p < count → p ≢ j → above ≡ entry_at heap p → above.slot < length places
   other_slot_in p above within ne is =
-      omega (arith, slot_by above (entry_at heap p) is, other_in old_heap old_places heap places count j p entry s within ne, places_long old_heap old_places heap places count j p entry s within ne)
+      omega (
+        arith,
+        slot_by above (entry_at heap p) is,
+        other_in old_heap old_places heap places count j p entry s within ne,
+        places_long old_heap old_places heap places count j p entry s within ne,
+      )

@@ -14,7 +14,8 @@ pub record IsSifting (old_heap : List Entry) (old_places : List ℕ) (heap : Lis
   pub size : length heap ≡ length old_heap
   pub same : (s : ℕ) → s < length heap → held count (set heap j entry) (get_or (set places entry.slot j) s 0) ≡ held count old_heap (get_or old_places s 0)
 
-module _ (old_heap : List Entry) (old_places : List ℕ) (heap : List Entry) (places : List ℕ) (count j p : ℕ) (entry : Entry) (s : IsSifting old_heap old_places heap places count j entry) (within : p < count) (ne : p ≢ j) where
+module _ (old_heap : List Entry) (old_places : List ℕ) (heap : List Entry) (places : List ℕ) (count j p : ℕ) (entry : Entry)
+    (s : IsSifting old_heap old_places heap places count j entry) (within : p < count) (ne : p ≢ j) where
   long : length (set heap j entry) ≡ length heap
   long = length-set heap j entry
 
@@ -69,8 +70,10 @@ module _ (old_heap : List Entry) (old_places : List ℕ) (heap : List Entry) (pl
       let new_long : length new_heap ≡ length heap = ap length heap_is ∙ length-set heap j (entry_at heap p) in
       record {
         tables = record {
-          inverse = subst (λ l. IsInverse (set l p entry) (set new_places entry.slot p) count) (sym heap_is) (subst (λ l. IsInverse (set (set heap j (entry_at heap p)) p entry) (set l entry.slot p) count) (sym places_is)
-              (inverse_exchanged (set heap j entry) (set places entry.slot j) (set (set heap j (entry_at heap p)) p entry) (set (set places (slot_at heap p) j) entry.slot p) count j p s.tables.inverse s.place within sift_exchanges));
+          inverse = subst (λ l. IsInverse (set l p entry) (set new_places entry.slot p) count) (sym heap_is)
+              (subst (λ l. IsInverse (set (set heap j (entry_at heap p)) p entry) (set l entry.slot p) count) (sym places_is)
+              (inverse_exchanged (set heap j entry) (set places entry.slot j) (set (set heap j (entry_at heap p)) p entry)
+              (set (set places (slot_at heap p) j) entry.slot p) count j p s.tables.inverse s.place within sift_exchanges));
           few = omega (arith, size, s.tables.few);
           small = omega (arith, size, s.tables.small);
         };
@@ -81,7 +84,8 @@ module _ (old_heap : List Entry) (old_places : List ℕ) (heap : List Entry) (pl
             let i_in : i < length heap = omega (arith, low, new_long) in
             ap (λ l. held count (set l p entry) (get_or (set new_places entry.slot p) i 0)) heap_is
             ∙ ap (λ l. held count (set (set heap j (entry_at heap p)) p entry) (get_or (set l entry.slot p) i 0)) places_is
-            ∙ same_exchanged (set heap j entry) (set places entry.slot j) (set (set heap j (entry_at heap p)) p entry) (set (set places (slot_at heap p) j) entry.slot p) count j p s.tables.inverse s.place within sift_exchanges i (omega (arith, i_in, long))
+            ∙ same_exchanged (set heap j entry) (set places entry.slot j) (set (set heap j (entry_at heap p)) p entry)
+            (set (set places (slot_at heap p) j) entry.slot p) count j p s.tables.inverse s.place within sift_exchanges i (omega (arith, i_in, long))
             ∙ s.same i i_in;
       }
 
@@ -102,7 +106,8 @@ module _ (old_heap : List Entry) (old_places : List ℕ) (heap : List Entry) (pl
   key_there = key_by (entry_at (set heap j entry) p) (entry_at heap p) at_p
 
 -- an entry that sets out
-pub sift_starts : (heap : List Entry) (places : List ℕ) (count j : ℕ) (entry : Entry) → AreTables (set heap j entry) (set places entry.slot j) count → j < count → IsSifting (set heap j entry) (set places entry.slot j) heap places count j entry
+pub sift_starts : (heap : List Entry) (places : List ℕ) (count j : ℕ) (entry : Entry) → AreTables (set heap j entry) (set places entry.slot j) count → j < count
+    → IsSifting (set heap j entry) (set places entry.slot j) heap places count j entry
 sift_starts heap places count j entry t within =
     let long : length (set heap j entry) ≡ length heap = length-set heap j entry in
     let at_start : entry_at (set heap j entry) j ≡ entry = get_or-set_same heap j entry blank (omega (arith, long, within, t.few)) in
@@ -115,7 +120,8 @@ sift_starts heap places count j entry t within =
     }
 
 -- an entry that has arrived
-pub sift_ends : (old_heap : List Entry) (old_places : List ℕ) (heap : List Entry) (places : List ℕ) (count j : ℕ) (entry : Entry) (new_heap : List Entry) (new_places : List ℕ) → IsSifting old_heap old_places heap places count j entry
+pub sift_ends : (old_heap : List Entry) (old_places : List ℕ) (heap : List Entry) (places : List ℕ) (count j : ℕ) (entry : Entry) (new_heap : List Entry) (new_places : List ℕ)
+    → IsSifting old_heap old_places heap places count j entry
     → new_heap ≡ set heap j entry → new_places ≡ set places entry.slot j → IsHeap (key (set heap j entry)) count → IsMended old_heap old_places new_heap new_places count
 sift_ends old_heap old_places heap places count j entry new_heap new_places s h p order =
     let long : length (set heap j entry) ≡ length heap = length-set heap j entry in

@@ -1,5 +1,5 @@
 -- Entries in heap order. No public clause cites this module.
-use Rattle.std.specs.Prelude.{◌≡◌, ◌≢◌, ℕ, ◌+◌, ◌-◌, ◌*◌, ◌/◌, ◌<◌, ◌≤◌, ◌^◌, ℤ, pos, ◌≤ℤ◌, nat_lt, if◌then◌else◌, List, length, slice_index, slice_index_or, Option, Some, None}
+use Rattle.std.specs.Prelude.{◌≡◌, ◌≢◌, ℕ, ◌+◌, ◌-◌, ◌*◌, ◌/◌, ◌<◌, ◌≤◌, ◌^◌, ℤ, pos, ◌+ℤ◌, ◌*ℤ◌, ◌≤ℤ◌, nat_lt, if◌then◌else◌, List, length, slice_index, slice_index_or, Option, Some, None}
 use Rattle.edge_queue.specs.declared.entry.Entry.{Entry}
 
 -- what stands past the end of a list of entries
@@ -9,6 +9,10 @@ blank = record { moment = pos 0; age = 0; slot = 0 }
 -- what stands for the place of a slot that has none
 abbrev pub absent : ℕ
 absent = 2 ^ 32 - 1
+
+-- the moment of an entry and its age, which is below 2 ^ 32, in one number
+abbrev pub ranked : Entry → ℤ
+ranked e = (pos 18446744073709551616 *ℤ e.moment) +ℤ pos e.age
 
 -- the slot and the moment at a place of the heap
 abbrev pub slot_at : List Entry → ℕ → ℕ

@@ -1,5 +1,5 @@
-/// A slot in the heap, beside what it is ordered by: its moment, and of equal ones its age, which grows with
-/// the number of those set before it. Four of them fill 64 bytes.
+/// A slot in the heap, beside what it is ordered by: its moment, and of equal ones its age, which
+/// grows with the number of those set before it. Four of them fill 64 bytes.
 #[derive(Clone, Copy)]
 pub(crate) struct Entry {
     pub(crate) moment: i64,

@@ -2,7 +2,7 @@ ghost use Rattle.std.specs.Prelude.{◌≡◌, ◌<◌, IfOk, Some, None, length
 ghost use Rattle.edge_queue.specs.Slots.{IsLeastSlot};
 
 use crate::entry::Entry;
-use crate::sift::{rise, settle};
+use crate::sift::{renew, rise, settle};
 use crate::tables::{fresh_entries, no_places, place_of, wipe_place, wipe_places};
 use crate::turn::Turn;
 use mb_base::OutOfMemory;
@@ -12,8 +12,8 @@ use std::marker::Model;
 /// The least age of an entry that wasn't set early.
 const LATE: u32 = 1 << 31;
 
-/// The age of an entry that so many were set before: each early one is less than all others. Past 2^31 the count
-/// begins anew, and only the order of equal moments is another one.
+/// The age of an entry that so many were set before: each early one is less than all others. Past
+/// 2^31 the count begins anew, and only the order of equal moments is another one.
 fn age_of(before: u32, turn: Turn) -> u32 {
     match turn {
         Turn::Early => before & !LATE,
@@ -38,14 +38,15 @@ fn keeps(entry: &Entry, moment: i64, turn: Turn) -> bool
     }
 }
 
-/// An indexed heap of slots by their moments, in which an entry has up to four children; of equal moments
-/// those set early stand before all others, and then the one that was set first. Each entry has its moment and
-/// age with it, since the slots of entries that are compared lie far apart. Contracts see the list of the
-/// moments by slot.
+/// An indexed heap of slots by their moments, in which an entry has up to four children; of equal
+/// moments those set early stand before all others, and then the one that was set first. Each entry
+/// has its moment and age with it, since the slots of entries that are compared lie far apart.
+/// Contracts see the list of the moments by slot.
 #[derive(Drop)]
 pub(crate) struct IndexedHeap {
-    // The first so many entries are those of the slots that have a moment, in heap order; behind them is room for
-    // the others. By slot there is the place of its entry, or a number past all places.
+    // The first so many entries are those of the slots that have a moment, in heap order; behind
+    // them is room for the others. By slot there is the place of its entry, or a number past all
+    // places.
     heap: Vec<Entry>,
     places: Vec<u32>,
     count: usize,
@@ -98,7 +99,8 @@ impl IndexedHeap {
         Some((entry.slot, entry.moment))
     }
 
-    /// Gives a slot this moment. Where it has it already it keeps its age, unless it is to come early and doesn't.
+    /// Gives a slot this moment. Where it has it already it keeps its age, unless it is to come
+    /// early and doesn't.
     pub(crate) fn set(&mut self, slot: u32, moment: i64, turn: Turn)
         requires { slot < length self.old }
         ensures { self.new ≡ slice_set self.old slot (Some moment) }
@@ -116,7 +118,7 @@ impl IndexedHeap {
         }
         let age = take_age(&mut self.next_age, turn);
         let entry = Entry { moment, age, slot };
-        settle(&mut self.heap, &mut self.places, self.count, place, entry);
+        renew(&mut self.heap, &mut self.places, self.count, place, entry);
     }
 
     /// Takes the moment of a slot away.

@@ -9,9 +9,9 @@ use mb_base::OutOfMemory;
 use std::alloc::{AllocError, Global};
 use std::marker::Model;
 
-/// The moments at which edges and blossoms have their next event: an indexed heap in which an entry has up to
-/// four children (chapter 26 asks for the least of all slacks and duals at each step). Contracts see the moment
-/// of each item that has one.
+/// The moments at which edges and blossoms have their next event: an indexed heap in which an entry
+/// has up to four children (chapter 26 asks for the least of all slacks and duals at each step).
+/// Contracts see the moment of each item that has one.
 #[derive(Drop)]
 pub struct EdgeQueue {
     edges: u32,
@@ -32,8 +32,9 @@ impl Model for EdgeQueue {
 }
 
 impl EdgeQueue {
-    /// A queue for the edges 1 to `edges` and the nodes 1 to `nodes`, none of which has a moment. No later
-    /// call takes memory. An error is want of memory, and there never is enough for 2^32 items.
+    /// A queue for the edges 1 to `edges` and the nodes 1 to `nodes`, none of which has a moment.
+    /// No later call takes memory. An error is want of memory, and there never is enough for 2^32
+    /// items.
     pub fn new(alloc: Global, edges: u32, nodes: u32) -> Result<EdgeQueue, OutOfMemory>
         ensures { IfOk result (λ q. q ≡ no_moments edges nodes) }
     {
@@ -54,8 +55,9 @@ impl EdgeQueue {
         self.heap.moment(slot_of(self.edges, &item))
     }
 
-    /// An item whose moment is least, and its moment, in constant time. Of equal moments any may be given;
-    /// it is an early one if there is one, and of those the one that was given its moment first.
+    /// An item whose moment is least, and its moment, in constant time. Of equal moments any may be
+    /// given; it is an early one if there is one, and of those the one that was given its moment
+    /// first.
     pub fn least(&self) -> Option<(Item, i64)>
         ensures { IsLeast self.now result }
     {
@@ -63,8 +65,9 @@ impl EdgeQueue {
         Some((item_of(self.edges, slot), moment))
     }
 
-    /// Gives an item this moment, whether it had one or not, in time logarithmic in the number of moments,
-    /// and in constant time where it has it already. `turn` only says which of equal moments `least` answers.
+    /// Gives an item this moment, whether it had one or not, in time logarithmic in the number of
+    /// moments, and in constant time where it has it already. `turn` only says which of equal
+    /// moments `least` answers.
     pub fn set(&mut self, item: Item, moment: i64, turn: Turn)
         requires { IsItem self.old item }
         ensures { self.new ≡ with_moment self.old item (Some moment) }
@@ -73,8 +76,8 @@ impl EdgeQueue {
         self.heap.set(slot, moment, turn);
     }
 
-    /// Takes the moment of an item away, in time logarithmic in the number of moments. Where it had none,
-    /// nothing happens.
+    /// Takes the moment of an item away, in time logarithmic in the number of moments. Where it had
+    /// none, nothing happens.
     pub fn remove(&mut self, item: Item)
         requires { IsItem self.old item }
         ensures { self.new ≡ with_moment self.old item None }

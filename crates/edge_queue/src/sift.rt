@@ -1,5 +1,5 @@
 ghost use Rattle.std.specs.Prelude.{◌<◌, slice_set};
-ghost use Rattle.edge_queue.specs.Heaps.{key, AreTables, IsHeapBut, IsRising, IsSinking, IsMended};
+ghost use Rattle.edge_queue.specs.Heaps.{key, AreTables, IsHeap, IsHeapBut, IsRising, IsSinking, IsMended};
 
 use crate::entry::Entry;
 use crate::order::{earlier_child, later_parent};
@@ -43,7 +43,8 @@ fn sink(heap: &mut Vec<Entry>, places: &mut Vec<u32>, count: usize, start: usize
     put(heap, places, place, entry);
 }
 
-/// Puts an entry where it belongs: at a place that is free, above or below it, where all others are in order.
+/// Puts an entry where it belongs: at a place that is free, above or below it, where all others are
+/// in order.
 pub(crate) fn settle(
     heap: &mut Vec<Entry>,
     places: &mut Vec<u32>,
@@ -61,4 +62,24 @@ pub(crate) fn settle(
         return;
     }
     sink(heap, places, count, place, entry);
+}
+
+/// Gives the entry at a place another moment: it rises where that is no later, and else it sinks.
+pub(crate) fn renew(
+    heap: &mut Vec<Entry>,
+    places: &mut Vec<u32>,
+    count: usize,
+    place: usize,
+    entry: Entry,
+)
+    requires tables { AreTables (slice_set heap.old.items place entry) (slice_set places.old.items entry.slot place) count }
+    requires place { place < count }
+    requires order { IsHeap (key heap.old.items) count }
+    ensures { IsMended (slice_set heap.old.items place entry) (slice_set places.old.items entry.slot place) heap.new.items places.new.items count }
+{
+    if heap[place].moment < entry.moment {
+        sink(heap, places, count, place, entry);
+        return;
+    }
+    rise(heap, places, count, place, entry);
 }

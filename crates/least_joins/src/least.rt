@@ -1,4 +1,5 @@
 ghost use Rattle.std.specs.Prelude.{◌+◌, ◌≤◌, ◌≡◌, None, Some, IfOk};
+ghost use Rattle.graph_theory.specs.Graph.{IsGraph};
 ghost use Rattle.graph_theory.specs.Limits.{IsWithinLimits};
 ghost use Rattle.mb_problem.specs.Size.{ports_size, odd_at};
 ghost use Rattle.gadget_base.specs.Certified.{IsPerfectList};
@@ -11,6 +12,7 @@ ghost use Rattle.least_joins.specs.Least.{HasJoin, IsLeastJoin};
 
 use crate::matched::matching;
 use gadget_tjoin::{extract, ports};
+use graph_theory::GRAPH_VERTEX_LIMIT;
 use mb_base::{OutOfMemory, Steps};
 use mb_problem::{Instance, Join, Parity};
 use mwpm_engine::Engine;
@@ -27,6 +29,7 @@ fn matched_join<L: Ledger>(
     graph: &Graph,
     steps: &mut Steps<L>,
 ) -> Result<Join, OutOfMemory>
+    requires graph { IsGraph graph.now }
     requires same { engine.old.graph ≡ graph.now }
     requires fresh { engine.old.outcome ≡ None }
     requires ports { graph.now ≡ ports_graph instance.now (odd_at parity.now instance.now) }
@@ -35,9 +38,7 @@ fn matched_join<L: Ledger>(
     ensures least { IfOk result (λ join. IsLeastJoin parity.now instance.now join.edges) }
     ensures steps { steps.new ≤ steps.old + most_steps (size_of_graph graph.now) }
 {
-    // The prover learns here that the graph is valid.
-    let _vertices = graph.vertices();
-    let _matched = engine.run(graph, steps);
+    engine.run(graph, steps);
     let edges = matching(alloc, engine, graph)?;
     let join = extract(alloc, instance, parity, &edges)?;
     Ok(join)
@@ -60,6 +61,7 @@ pub fn least_join<L: Ledger>(
     ensures steps { steps.new ≤ steps.old + most_steps (ports_size instance.now (odd_at parity.now instance.now)) }
 {
     let graph = ports(alloc, instance, parity)?;
+    prove!(graph.vertices() <= GRAPH_VERTEX_LIMIT);
     let mut engine = Engine::new(alloc, &graph)?;
     matched_join(alloc, instance, parity, &mut engine, &graph, steps)
 }

@@ -34,3 +34,5 @@ pub mod FarEnds
 pub mod Taken
 pub mod Reaches
 pub mod Wrapped
+pub mod Lesser
+mod Bare

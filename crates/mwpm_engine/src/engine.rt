@@ -1,5 +1,4 @@
-ghost use Rattle.std.specs.Prelude.{◌≡◌, ◌<◌, ◌≤◌, ◌+◌, ℕ, true, [], Some, None, IfOk, length, slice_index_or, pos};
-ghost use Rattle.std.specs.Vec.{vec_capacity};
+ghost use Rattle.std.specs.Prelude.{◌≡◌, ◌<◌, ◌≤◌, ◌+◌, ℕ, true, Some, None, IfOk, length, slice_index_or, pos};
 ghost use Rattle.graph_theory.specs.Parts.{holds};
 ghost use Rattle.graph_theory.specs.Duals.{dual_of, set_at};
 ghost use Rattle.graph_theory.specs.Limits.{IsWithinLimits};
@@ -13,10 +12,10 @@ ghost use Rattle.mwpm_engine.specs.declared.outcome.Outcome.TheVariants.{Matched
 use crate::listing::list_sets;
 use crate::outcome::Outcome;
 use crate::solving::solve;
-use alt_forest::{Label, Search};
+use alt_forest::{Label, Search, room_for};
 use blossom_arena::{Members, NodeId};
 use mb_base::{EdgeId, OutOfMemory, Steps, VertexId};
-use std::alloc::{AllocError, Global};
+use std::alloc::Global;
 use std::marker::Model;
 use std::sync::ledger::Ledger;
 use weighted_graph::Graph;
@@ -39,18 +38,6 @@ impl Model for Engine {
     ghost view = { seen };
 
     ghost invariant = { IsKept };
-}
-
-/// A list with room for so many nodes.
-fn room_for(alloc: Global, nodes: usize) -> Result<Vec<NodeId>, OutOfMemory>
-    ensures room { IfOk result (λ list. nodes ≤ vec_capacity list) }
-    ensures empty { IfOk result (λ list. list.items ≡ []) }
-{
-    let list = Vec::with_capacity(alloc, nodes)?;
-    if list.capacity() < nodes {
-        return Err(AllocError);
-    }
-    Ok(list)
 }
 
 /// The number of the edge that is kept for a node, or 0 where there is none.

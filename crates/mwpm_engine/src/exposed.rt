@@ -1,9 +1,12 @@
 ghost use Rattle.std.specs.Prelude.{◌≡◌, ◌↔◌, true};
+ghost use Rattle.blossom_arena.specs.Family.{is_vertex};
 ghost use Rattle.alt_forest.specs.State.{IsExposed};
 ghost use Rattle.alt_forest.specs.Searches.{IsSound, state_of};
+ghost use Rattle.mwpm_engine.specs.Starts.{IsBegun};
 
 use alt_forest::Search;
 use blossom_arena::NodeId;
+use mb_base::VertexId;
 
 /// Whether this is an outermost node without a mate. Any number may be asked for.
 pub(crate) fn is_exposed(search: &Search, node: NodeId) -> bool
@@ -17,4 +20,14 @@ pub(crate) fn is_exposed(search: &Search, node: NodeId) -> bool
         return false;
     }
     search.mate(node).is_none()
+}
+
+/// Whether a vertex has no mate, where no blossom stands: it is outermost.
+pub(crate) fn is_free(search: &Search, v: VertexId) -> bool
+    requires sound { IsSound search.now }
+    requires begun { IsBegun (state_of search.now) search.now.start }
+    requires vertex { is_vertex search.now.graph.vertices v ≡ true }
+    ensures { (result ≡ true) ↔ IsExposed (state_of search.now) v }
+{
+    search.mate(NodeId::new(v.number())).is_none()
 }

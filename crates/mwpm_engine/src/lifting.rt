@@ -7,7 +7,6 @@ ghost use Rattle.alt_forest.specs.Trees.{SameParity};
 ghost use Rattle.mwpm_engine.specs.Starts.{IsBegun, IsLifted};
 
 use crate::moving::move_dual;
-use crate::weights::lesser;
 use alt_forest::{Search, Weights};
 use mb_base::{Steps, VertexId};
 use std::sync::ledger::Ledger;
@@ -31,7 +30,7 @@ fn least_around<L: Ledger>(search: &Search, v: VertexId, steps: &mut Steps<L>) -
     let mut least = first.weight;
     for place in 1..incidence.len() {
         let incident = incidence[place];
-        least = lesser(least, incident.weight);
+        least = least.min(incident.weight);
     }
     least
 }

@@ -7,8 +7,9 @@ ghost use Rattle.alt_forest.specs.IncidentEdges.{IsIncidentEdge};
 ghost use Rattle.alt_forest.specs.Counts.{exposed_count};
 ghost use Rattle.mwpm_engine.specs.Starts.{IsBegun, CanPair, IsRise, JoinsExposed};
 
-use crate::exposed::is_exposed;
+use crate::exposed::{is_exposed, is_free};
 use crate::moving::move_dual;
+use crate::slacks::bare_slack;
 use alt_forest::{IncidentEdge, Search, set_edge};
 use blossom_arena::NodeId;
 use graph_theory::Edge;
@@ -32,12 +33,13 @@ fn rise_by(search: &Search, v: VertexId, incident: &IncidentEdge) -> Rise
     ensures slack { result.by ≡ slack_of (state_of search.now) incident.now.edge }
     ensures found { IsExposed (state_of search.now) (other_end (edge_of search.now.graph incident.now.edge) v) → is_some result.mate ≡ true }
 {
-    let by = search.slack_by(&Edge {
+    let edge = Edge {
         u: v,
         v: incident.far,
         w: incident.weight,
-    });
-    if is_exposed(search, NodeId::new(incident.far.number())) {
+    };
+    let by = bare_slack(search, &edge);
+    if is_free(search, incident.far) {
         return Rise {
             by,
             mate: Some(incident.edge),

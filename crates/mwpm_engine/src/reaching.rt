@@ -7,6 +7,7 @@ ghost use Rattle.alt_forest.specs.IncidentEdges.{IsIncidentEdge};
 ghost use Rattle.mwpm_engine.specs.Starts.{IsBegun};
 ghost use Rattle.mwpm_engine.specs.Sweeps.{IsReach, IsBehind, IsLead};
 
+use crate::slacks::bare_slack;
 use alt_forest::{IncidentEdge, Search};
 use graph_theory::Edge;
 use mb_base::{EdgeId, Steps, VertexId};
@@ -36,11 +37,12 @@ fn reach_by(search: &Search, v: VertexId, incident: &IncidentEdge) -> Reach
     ensures reach { IsReach (state_of search.now) v result }
     ensures edge { result.edge ≡ incident.now.edge }
 {
-    let by = search.slack_by(&Edge {
+    let edge = Edge {
         u: v,
         v: incident.far,
         w: incident.weight,
-    });
+    };
+    let by = bare_slack(search, &edge);
     Reach {
         by,
         edge: incident.edge,

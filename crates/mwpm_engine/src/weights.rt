@@ -19,21 +19,6 @@ fn weight_of<L: Ledger>(graph: &Graph, e: EdgeId, steps: &mut Steps<L>) -> i64
     w
 }
 
-/// The lesser of two weights.
-pub(crate) fn lesser(one: i64, other: i64) -> i64
-    requires one { IsWeight one }
-    requires other { IsWeight other }
-    ensures weight { IsWeight result }
-    ensures one { result ≤ℤ one }
-    ensures other { result ≤ℤ other }
-    ensures low { (x : ℤ) → x ≤ℤ one → x ≤ℤ other → x ≤ℤ result }
-{
-    if one < other {
-        return one;
-    }
-    other
-}
-
 /// The lesser of a weight and of that of an edge, at one counted look.
 fn lesser_of<L: Ledger>(least: i64, graph: &Graph, e: EdgeId, steps: &mut Steps<L>) -> i64
     requires least { IsWeight least }
@@ -44,7 +29,7 @@ fn lesser_of<L: Ledger>(least: i64, graph: &Graph, e: EdgeId, steps: &mut Steps<
     ensures low { (x : ℤ) → x ≤ℤ least → x ≤ℤ (edge_of graph.now e).w → x ≤ℤ result }
     ensures step { steps.new ≡ steps.old + 1 }
 {
-    lesser(least, weight_of(graph, e, steps))
+    least.min(weight_of(graph, e, steps))
 }
 
 /// The least weight of an edge, or 0 where there is no edge, at one look for each edge.

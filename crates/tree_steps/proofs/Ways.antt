@@ -131,7 +131,7 @@ circuit_shrinks s depth a b e base hs ks st wa wb tight joins ne base_is base_ou
       circuit = record {
         at_least_three = omega (arith, la.even, lb.even);
         odd = omega (arith, la.even, lb.even);
-        outer = All-from_recursion (λ (l : Link). is_outermost s.graph.vertices s.blossoms l.node ≡ true) (circuit_of base e ls js)
+        outermost = All-from_recursion (λ (l : Link). is_outermost s.graph.vertices s.blossoms l.node ≡ true) (circuit_of base e ls js)
             (base_is, mirror_nodes (IsOutermost s) e ls js la.outermost lb.outermost);
         different = distinct_from_new (nodes_of (circuit_of base e ls js)) (base_apart depth base (mirror e ls js) deep, mirror_new e ls js la.different lb.different apart);
       };

@@ -34,7 +34,7 @@ pub record IsShrunk (before after : State) (node : ℕ) : Type 0 where
   pub state : after ≡ shrunk_state before (made_of before.blossoms ring node) base
 
 -- two different outer nodes of one tree
-pub record AreEnds (s : State) (a b : ℕ) : Type 0 where
+pub record AreInOneTree (s : State) (a b : ℕ) : Type 0 where
   pub different : a ≢ b
   pub a_is : IsOutermost s a
   pub b_is : IsOutermost s b

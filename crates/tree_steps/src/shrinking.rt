@@ -14,7 +14,7 @@ ghost use Rattle.alt_forest.specs.Standing.{IsStanding, seed_at};
 ghost use Rattle.tree_steps.specs.Circuits.{closed_by};
 ghost use Rattle.tree_steps.specs.Scanned.{newly_outer};
 ghost use Rattle.tree_steps.specs.Shrunk.{shrunk_state};
-ghost use Rattle.tree_steps.specs.Shrinkable.{AreEnds, CanClose, IsShrunk};
+ghost use Rattle.tree_steps.specs.Shrinkable.{AreInOneTree, CanClose, IsShrunk};
 
 use crate::circuit::fill_circuit;
 use crate::listing::{drop_entry, enlist};
@@ -44,7 +44,7 @@ fn close(search: &mut Search, base: NodeId) -> NodeId
 /// The first node that the ways of two nodes of one tree share.
 fn meeting_node(search: &Search, a: NodeId, b: NodeId) -> NodeId
     requires sound { IsSound search.now }
-    requires ends { AreEnds (state_of search.now) a b }
+    requires ends { AreInOneTree (state_of search.now) a b }
     ensures { first_common (path_of (state_of search.now) a) (path_of (state_of search.now) b) ≡ Some result }
 {
     match search.meet(a, b) {

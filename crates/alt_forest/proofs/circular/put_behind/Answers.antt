@@ -20,7 +20,8 @@ returns-clause-links c =
     let n : ℕ → ℕ = link_at l.next.items in
     let p : ℕ → ℕ = link_at l.previous.items in
     let next : c.index-next.result.now ≡ n front = get_or_read l.next.items front c.index-next.result.now (omega (arith, c.requires.front)) c.index-next.ensures front in
-    let nexts : link_at c.set_link-2.new.links.items ≡ next_with n front place = c.set_link-2.ensures.links ∙ ap₂ (λ (f : ℕ → ℕ) (x : ℕ). put f place x) c.set_link.ensures.links next in
+    let nexts : link_at c.set_link-2.new.links.items ≡ next_with n front place = c.set_link-2.ensures.links
+    ∙ ap₂ (λ (f : ℕ → ℕ) (x : ℕ). put f place x) c.set_link.ensures.links next in
     let previouses : link_at c.set_link-4.new.links.items ≡ previous_with n p front place = c.set_link-4.ensures.links
     ∙ ap (λ (f : ℕ → ℕ). put f place front) (c.set_link-3.ensures.links ∙ ap (λ (x : ℕ). put p x place) next) in
     record {

@@ -11,7 +11,8 @@ invariant-loop-place g l = record {
   rest : l.search ≡ record l.fn.search { queue = l.search.queue };
   sound : IsSound l.search;
   entered : (i : ℕ) → i < l.place → IsEntered (state_of l.fn.search) l.fn.search.clock l.search.queue (get_or (edges_around l.fn.search.graph l.fn.v) i 0);
-  others : (e : ℕ) → IsEdgeNumber l.fn.search.graph e → touches (edge_of l.fn.search.graph e) l.fn.v ≡ false → moment_of l.search.queue (Edge e) ≡ moment_of l.fn.search.queue (Edge e);
+  others : (e : ℕ) → IsEdgeNumber l.fn.search.graph e → touches (edge_of l.fn.search.graph e) l.fn.v ≡ false
+      → moment_of l.search.queue (Edge e) ≡ moment_of l.fn.search.queue (Edge e);
   blossoms : l.search.queue.blossoms ≡ l.fn.search.queue.blossoms;
   count : entry_count l.search.queue ≤ entry_count l.fn.search.queue + l.place;
 }

@@ -26,7 +26,8 @@ pub overflow_sub-result : goal.overflow_sub-result
 overflow_sub-result c =
     let held : to_z w64 (of_z w64 c.args.near.now.dual_sum) ≡ c.args.near.now.dual_sum = search rules in
     let other : to_z w64 (of_z w64 c.dual_sum.result) ≡ c.dual_sum.result = search rules in
-    let both : to_z w64 (of_z w64 (to_z w64 (of_z w64 c.args.near.now.dual_sum) +ℤ to_z w64 (of_z w64 c.dual_sum.result))) ≡ c.args.near.now.dual_sum +ℤ c.dual_sum.result = search rules in
+    let both : to_z w64 (of_z w64 (to_z w64 (of_z w64 c.args.near.now.dual_sum) +ℤ to_z w64 (of_z w64 c.dual_sum.result)))
+    ≡ c.args.near.now.dual_sum +ℤ c.dual_sum.result = search rules in
     let twice : to_z w64 (of_z w64 c.doubled.result) ≡ c.doubled.result = search rules in
     omega (
       arith,
@@ -46,7 +47,8 @@ returns-clause-slack c =
     let s = c.args.search.now in
     let near = c.requires.near in
     let kept : to_z w64 (of_z w64 c.args.incident.now.weight) ≡ c.args.incident.now.weight = search rules in
-    let both : to_z w64 (of_z w64 (to_z w64 (of_z w64 c.args.near.now.dual_sum) +ℤ to_z w64 (of_z w64 c.dual_sum.result))) ≡ c.args.near.now.dual_sum +ℤ c.dual_sum.result = search rules in
+    let both : to_z w64 (of_z w64 (to_z w64 (of_z w64 c.args.near.now.dual_sum) +ℤ to_z w64 (of_z w64 c.dual_sum.result)))
+    ≡ c.args.near.now.dual_sum +ℤ c.dual_sum.result = search rules in
     let twice : to_z w64 (of_z w64 c.doubled.result) ≡ c.doubled.result = search rules in
     let fits : FitsSigned w64 (to_z w64 (of_z w64 c.doubled.result) -ℤ to_z w64 (of_z w64 (to_z w64 (of_z w64 c.args.near.now.dual_sum) +ℤ to_z w64 (of_z w64 c.dual_sum.result)))) =
     overflow_sub-result c in
@@ -54,7 +56,8 @@ returns-clause-slack c =
     ≡ to_z w64 (of_z w64 c.doubled.result) -ℤ to_z w64 (of_z w64 (to_z w64 (of_z w64 c.args.near.now.dual_sum) +ℤ to_z w64 (of_z w64 c.dual_sum.result))) = search rules in
     let ne : outermost s.arena.blossoms c.args.incident.now.far ≢ outermost s.arena.blossoms c.args.near.now.vertex = λ p. c.requires.apart (p ∙ sym near.node) in
     back
-    ∙ ap₂ ◌-ℤ◌ (twice ∙ c.doubled.ensures.doubled ∙ ap (λ (w : ℤ). cond (is_given s.weights) (pos 2 *ℤ w) (pos 0)) kept) (both ∙ ap₂ ◌+ℤ◌ near.dual_sum c.dual_sum.ensures.dual_sum)
+    ∙ ap₂ ◌-ℤ◌ (twice ∙ c.doubled.ensures.doubled ∙ ap (λ (w : ℤ). cond (is_given s.weights) (pos 2 *ℤ w) (pos 0)) kept)
+    (both ∙ ap₂ ◌+ℤ◌ near.dual_sum c.dual_sum.ensures.dual_sum)
     ∙ sym (slack_leading (state_of s) c.args.incident.now.edge c.args.near.now.vertex c.args.incident.now.far c.args.incident.now.weight c.requires.sound.shape.graph.graph
     (nested_of s c.requires.sound.shape) c.requires.incident ne)
 
@@ -63,7 +66,8 @@ returns-clause-low c = subst (λ (x : ℤ). pos 0 ≤ℤ x) (sym (returns-clause
 
 pub returns-clause-high : goal.returns-clause-high
 returns-clause-high c =
-    let both : to_z w64 (of_z w64 (to_z w64 (of_z w64 c.args.near.now.dual_sum) +ℤ to_z w64 (of_z w64 c.dual_sum.result))) ≡ c.args.near.now.dual_sum +ℤ c.dual_sum.result = search rules in
+    let both : to_z w64 (of_z w64 (to_z w64 (of_z w64 c.args.near.now.dual_sum) +ℤ to_z w64 (of_z w64 c.dual_sum.result)))
+    ≡ c.args.near.now.dual_sum +ℤ c.dual_sum.result = search rules in
     let twice : to_z w64 (of_z w64 c.doubled.result) ≡ c.doubled.result = search rules in
     let fits : FitsSigned w64 (to_z w64 (of_z w64 c.doubled.result) -ℤ to_z w64 (of_z w64 (to_z w64 (of_z w64 c.args.near.now.dual_sum) +ℤ to_z w64 (of_z w64 c.dual_sum.result)))) =
     overflow_sub-result c in

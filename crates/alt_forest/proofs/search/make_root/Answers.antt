@@ -35,7 +35,8 @@ returns-clause-sound c =
         room = h.shape.room;
       };
       depth = h.depth;
-      state = subst (λ (l : ℕ → Label). IsSearchState (with_labels s l) h.depth) (sym c.set_label.ensures.labels) (planted s h.depth c.args.v c.requires.exposed.1 c.requires.out h.state);
+      state = subst (λ (l : ℕ → Label). IsSearchState (with_labels s l) h.depth) (sym c.set_label.ensures.labels)
+          (planted s h.depth c.args.v c.requires.exposed.1 c.requires.out h.state);
     }
 
 pub returns-clause-trees : goal.returns-clause-trees

@@ -17,7 +17,8 @@ overflow_add-result c =
     let h = ends_of c.args.arena.now.vertex_count bs e good.nested good.few c.requires in
     let one : to_z w64 (of_z w64 c.dual_sum.result) ≡ c.dual_sum.result = search rules in
     let other : to_z w64 (of_z w64 c.dual_sum-2.result) ≡ c.dual_sum-2.result = search rules in
-    let ne : outermost bs e.u ≢ outermost bs e.v = λ p. c.if-number.false (c.number.ensures ∙ c.outermost.ensures.node ∙ p ∙ sym c.outermost-2.ensures.node ∙ sym c.number-2.ensures) in
+    let ne : outermost bs e.u ≢ outermost bs e.v =
+    λ p. c.if-number.false (c.number.ensures ∙ c.outermost.ensures.node ∙ p ∙ sym c.outermost-2.ensures.node ∙ sym c.number-2.ensures) in
     let is = across_apart c.args.arena.now.vertex_count (dual_at c.args.arena.now.duals) bs e good.nested h.u_is h.v_is ne in
     let parts = across_split (dual_at c.args.arena.now.duals) bs e in
     let left = total_within c.args.arena.now.duals (holders bs e.u e.v) good.duals.in_range in
@@ -45,7 +46,8 @@ returns-clause-duals_across c =
     let good = c.outermost.ensures.good in
     let h = ends_of c.args.arena.now.vertex_count bs e good.nested good.few c.requires in
     let back : to_z w64 (of_z w64 (to_z w64 (of_z w64 c.dual_sum.result) +ℤ to_z w64 (of_z w64 c.dual_sum-2.result))) ≡ c.dual_sum.result +ℤ c.dual_sum-2.result = search rules in
-    let ne : outermost bs e.u ≢ outermost bs e.v = λ p. c.if-number.false (c.number.ensures ∙ c.outermost.ensures.node ∙ p ∙ sym c.outermost-2.ensures.node ∙ sym c.number-2.ensures) in
+    let ne : outermost bs e.u ≢ outermost bs e.v =
+    λ p. c.if-number.false (c.number.ensures ∙ c.outermost.ensures.node ∙ p ∙ sym c.outermost-2.ensures.node ∙ sym c.number-2.ensures) in
     back ∙ ap₂ ◌+ℤ◌ c.dual_sum.ensures.dual_sum c.dual_sum-2.ensures.dual_sum
     ∙ sym (across_apart c.args.arena.now.vertex_count (dual_at c.args.arena.now.duals) bs e good.nested h.u_is h.v_is ne)
 

@@ -8,7 +8,8 @@ use Rattle.alt_forest.proofs.Forks.{IsEnds, ends_of, ends_turned, chain_nodes, f
 use Rattle.alt_forest.proofs.slack.duals_along.Goals as goal
 
 -- what is added up over the first nodes of a chain
-first_total : (n : ℕ) (bs : List Blossom) (u v k : ℕ) (y : ℕ → ℤ) (xs : List ℕ) (sum : ℤ) → IsEnds n bs u v → sum ≡ total_of y (take k xs) → k ≡ length (holders bs u v)
+first_total : (n : ℕ) (bs : List Blossom) (u v k : ℕ) (y : ℕ → ℤ) (xs : List ℕ) (sum : ℤ) → IsEnds n bs u v → sum ≡ total_of y (take k xs)
+    → k ≡ length (holders bs u v)
     → xs ≡ chain_of bs u → sum ≡ total_of y (holders bs u v)
 first_total n bs u v k y xs sum h is size chain = is ∙ ap₂ (λ (j : ℕ) (zs : List ℕ). total_of y (take j zs)) size chain ∙ ap (total_of y) (first_holders n bs u v h)
 

@@ -12,7 +12,8 @@ loop-preserved c =
     record {
       sum = total_step (dual_at c.args.arena.now.duals) c.next.result c.loop.rest c.next.new.self c.args.nodes c.loop.counter _ _ c.dual_or_zero-sum.result _ c.next.ensures.steps
           c.loop-test.true c.dual_or_zero-sum.ensures.dual back c.loop.invariant.sum;
-      nodes = each_left (λ a. is_node c.args.arena.now.vertex_count c.args.arena.now.blossoms a ≡ true) c.next.result c.loop.rest c.next.new.self c.next.ensures.steps c.loop.invariant.nodes;
+      nodes = each_left (λ a. is_node c.args.arena.now.vertex_count c.args.arena.now.blossoms a ≡ true) c.next.result c.loop.rest c.next.new.self
+          c.next.ensures.steps c.loop.invariant.nodes;
       low = omega (arith, ints, back, c.loop.invariant.low, c.dual_or_zero-sum.ensures.in_range.0);
       high = omega (arith, ints, back, c.loop.invariant.high, c.dual_or_zero-sum.ensures.in_range.1);
     }

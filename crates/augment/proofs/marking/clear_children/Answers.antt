@@ -15,7 +15,7 @@ loop-number-preserved c =
           (by_test (eqb a (c.loop-number.number + 1))
           (λ t. inl (eqb-true a (c.loop-number.number + 1) t ∙ sym c.new.ensures))
           (λ t. let ne = eqb-false a (c.loop-number.number + 1) t in inr (v.within a child low (omega (arith, high, ne)))));
-      outer = λ a free. cleared_out bs (edge_in c.loop-number.mates.items) (edge_in c.clear_child.new.mates.items) c.new.result a c.clear_child.ensures.mates free ∙ v.outer a free;
+      outermost = λ a free. cleared_out bs (edge_in c.loop-number.mates.items) (edge_in c.clear_child.new.mates.items) c.new.result a c.clear_child.ensures.mates free ∙ v.outermost a free;
       len = c.clear_child.ensures.len ∙ v.len;
     }
 

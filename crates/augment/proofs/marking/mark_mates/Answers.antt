@@ -7,7 +7,7 @@ use Rattle.augment.proofs.Marks.{still_can, far_spread}
 use Rattle.augment.proofs.marking.mark_mates.Goals as goal
 
 pub loop-number-init : goal.loop-number-init
-loop-number-init c = record { can = c.requires.can; spread = λ a low high. absurd (omega (arith, low, high)); outer = λ a free. refl; len = refl }
+loop-number-init c = record { can = c.requires.can; spread = λ a low high. absurd (omega (arith, low, high)); outermost = λ a free. refl; len = refl }
 
 pub loop-number-preserved : goal.loop-number-preserved
 loop-number-preserved c =
@@ -16,11 +16,11 @@ loop-number-preserved c =
     let g = c.args.graph.now in
     let f = c.args.arena.now in
     record {
-      can = still_can g f (edge_in c.loop-number.mates.items) (edge_in c.mark_mate.new.mates.items) v.can e.bare e.outer;
+      can = still_can g f (edge_in c.loop-number.mates.items) (edge_in c.mark_mate.new.mates.items) v.can e.bare e.outermost;
       spread = λ a low high. by_test (eqb a (c.loop-number.number + 1))
           (λ t. subst (IsSpread g f.blossoms (edge_in c.mark_mate.new.mates.items)) (c.new.ensures ∙ sym (eqb-true a (c.loop-number.number + 1) t)) e.spread)
           (λ t. let ne = eqb-false a (c.loop-number.number + 1) t in e.keeps a (v.spread a low (omega (arith, high, ne))));
-      outer = λ a free. e.outer a free ∙ v.outer a free;
+      outermost = λ a free. e.outermost a free ∙ v.outermost a free;
       len = e.len ∙ v.len;
     }
 
@@ -32,6 +32,6 @@ returns c =
       bare = v.can.bare;
       spread = λ a. far_spread c.args.graph.now c.args.arena.now (edge_in c.loop-number.mates.items) (edge_in c.loop-number.mates.items) a v.can
           (λ low high. v.spread a low (omega (arith, high, limit, c.loop-number-test.false)));
-      outer = v.outer;
+      outermost = v.outermost;
       len = v.len;
     }

@@ -6,12 +6,12 @@ use Rattle.augment.proofs.opening.unpack.Goals as goal
 
 pub mark_mates-requires-clause-can : goal.mark_mates-requires-clause-can
 mark_mates-requires-clause-can c = can_mark c.args.search.now c.requires.sound c.requires.matched
-    (edge_in c.clear_children.new.mates.items) c.clear_children.ensures.outer c.clear_children.ensures.within
+    (edge_in c.clear_children.new.mates.items) c.clear_children.ensures.outermost c.clear_children.ensures.within
 
 pub open_all-requires-clause-can : goal.open_all-requires-clause-can
 open_all-requires-clause-can c =
     can_unpack c.args.search.now c.requires.sound c.requires.matched (edge_in c.mark_mates.new.mates.items)
-    (λ a free. c.mark_mates.ensures.outer a free ∙ c.clear_children.ensures.outer a free) c.mark_mates.ensures.bare c.mark_mates.ensures.spread
+    (λ a free. c.mark_mates.ensures.outermost a free ∙ c.clear_children.ensures.outermost a free) c.mark_mates.ensures.bare c.mark_mates.ensures.spread
 
 pub returns : goal.returns
 returns c =
@@ -20,7 +20,7 @@ returns c =
     let matched = c.requires.matched in
     let marked = edge_in c.mark_mates.new.mates.items in
     let final = edge_in c.open_all.new.mates.items in
-    let same : (a : ℕ) → is_child s.arena.blossoms a ≡ false → marked a ≡ edge_in s.mates.items a = λ a free. c.mark_mates.ensures.outer a free ∙ c.clear_children.ensures.outer a free in
+    let same : (a : ℕ) → is_child s.arena.blossoms a ≡ false → marked a ≡ edge_in s.mates.items a = λ a free. c.mark_mates.ensures.outermost a free ∙ c.clear_children.ensures.outermost a free in
     let unpacks = c.open_all.ensures.unpacks in
     record {
       sound = still_sound s is matched marked final same unpacks (record s { mates = c.open_all.new.mates }) refl

@@ -19,10 +19,12 @@ next c =
 
 taken : (c : goal.After-take_in) → placement_of c.take_in.new.partition
     ≡ cond (eqb (core_at c.args.count c.args.kept.now c.link-item.result.node) c.args.core) (placement_of c.loop-link.partition)
-    (placed (placement_of c.loop-link.partition) (vertices_at c.args.followers.now c.args.count c.args.kept.now c.link-item.result.node) c.args.core c.args.node (dual_at c.args.duals.now.values c.link-item.result.node))
+    (placed (placement_of c.loop-link.partition) (vertices_at c.args.followers.now c.args.count c.args.kept.now c.link-item.result.node) c.args.core c.args.node
+    (dual_at c.args.duals.now.values c.link-item.result.node))
 taken c =
     let p : Placement = placement_of c.loop-link.partition in
-    let run : c.find_run-run.result ≡ run_of c.args.count c.args.kept.now c.link-item.result.node = c.find_run-run.ensures ∙ ap (run_of c.args.count c.args.kept.now) c.number-child.ensures in
+    let run : c.find_run-run.result ≡ run_of c.args.count c.args.kept.now c.link-item.result.node = c.find_run-run.ensures
+    ∙ ap (run_of c.args.count c.args.kept.now) c.number-child.ensures in
     let back : to_z w64 (of_z w64 c.get-in-loop-link.result) ≡ c.get-in-loop-link.result = search rules in
     let dual = back ∙ c.get-in-loop-link.ensures.dual ∙ ap (dual_at c.args.duals.now.values) c.number-child.ensures in
     c.take_in.ensures.placement
@@ -31,11 +33,14 @@ taken c =
 pub loop-link-preserved : goal.loop-link-preserved
 loop-link-preserved c =
     let left : List Link = drop (c.loop-link.link-index + 1) c.args.circuit.now in
-    let within = subst (AllByRecursion (λ (k : Link). AllByRecursion (λ v. v < length c.args.followers.now) (vertices_at c.args.followers.now c.args.count c.args.kept.now k.node))) (next c) c.loop-link.invariant.within in
+    let within = subst (AllByRecursion (λ (k : Link). AllByRecursion (λ v. v < length c.args.followers.now) (vertices_at c.args.followers.now c.args.count c.args.kept.now k.node)))
+    (next c) c.loop-link.invariant.within in
     let nodes = subst (AllByRecursion (λ (k : Link). k.node < length c.args.duals.now.values)) (next c) c.loop-link.invariant.nodes in
     record {
-      rest = ap (λ (q : Placement). absorbed (vertices_at c.args.followers.now c.args.count c.args.kept.now) (core_at c.args.count c.args.kept.now) (dual_at c.args.duals.now.values) c.args.core c.args.node q (nodes_of left)) (taken c)
-          ∙ sym (ap (λ (ls : List Link). absorbed (vertices_at c.args.followers.now c.args.count c.args.kept.now) (core_at c.args.count c.args.kept.now) (dual_at c.args.duals.now.values) c.args.core c.args.node (placement_of c.loop-link.partition) (nodes_of ls)) (next c))
+      rest = ap (λ (q : Placement). absorbed (vertices_at c.args.followers.now c.args.count c.args.kept.now) (core_at c.args.count c.args.kept.now)
+          (dual_at c.args.duals.now.values) c.args.core c.args.node q (nodes_of left)) (taken c)
+          ∙ sym (ap (λ (ls : List Link). absorbed (vertices_at c.args.followers.now c.args.count c.args.kept.now) (core_at c.args.count c.args.kept.now)
+          (dual_at c.args.duals.now.values) c.args.core c.args.node (placement_of c.loop-link.partition) (nodes_of ls)) (next c))
           ∙ c.loop-link.invariant.rest;
       len = c.take_in.ensures.len ∙ c.loop-link.invariant.len;
       within = within.1;

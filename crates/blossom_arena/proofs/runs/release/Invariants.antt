@@ -13,6 +13,7 @@ invariant-loop-link l = record {
   heir : heir_of (core_at l.count l.kept) l.core l.largest (nodes_of l.link-iterator) ≡ heir_of (core_at l.count l.kept) l.core 0 (nodes_of l.fn.ring);
   low : l.largest < length l.duals.values;
   len : length l.partition.sets ≡ length l.fn.partition.sets;
-  within : AllByRecursion (λ (k : Link). AllByRecursion (λ v. v < length l.followers) (vertices_at l.followers l.count l.kept k.node) × (core_at l.count l.kept k.node < length l.followers)) l.link-iterator;
+  within : AllByRecursion (λ (k : Link). AllByRecursion (λ v. v < length l.followers) (vertices_at l.followers l.count l.kept k.node)
+      × (core_at l.count l.kept k.node < length l.followers)) l.link-iterator;
   nodes : AllByRecursion (λ (k : Link). k.node < length l.duals.values) l.link-iterator;
 }

@@ -22,7 +22,7 @@ returns-in-Inner-clause-candidate c =
     let s = c.args.search.now in
     let sound = c.requires.sound in
     let name : holds (names_of s.arena.blossoms) c.args.b ≡ true = sym c.is_blossom.ensures.blossom ∙ c.if-not-is_blossom.false in
-    let is : IsOutermost (state_of s) c.args.b = outer_by s c.args.b c.args.b sound.shape (sym c.is_outermost.ensures.outer ∙ c.if-not-is_outermost.false) refl in
+    let is : IsOutermost (state_of s) c.args.b = outer_by s c.args.b c.args.b sound.shape (sym c.is_outermost.ensures.outermost ∙ c.if-not-is_outermost.false) refl in
     let label : label_at s.labels.items c.args.b ≡ Inner = sym c.label.ensures.label ∙ c.in-Inner.is in
     let back : to_z w64 (of_z w64 c.dual.result) ≡ c.dual.result = search rules in
     subst (λ x. Leads (state_of s) x (Expand c.args.b)) (sym (back ∙ c.dual.ensures.dual))
@@ -33,7 +33,7 @@ pub returns-in-Inner-clause-comes : goal.returns-in-Inner-clause-comes
 returns-in-Inner-clause-comes c = λ moment has.
     let s = c.args.search.now in
     let name : holds (names_of s.arena.blossoms) c.args.b ≡ true = sym c.is_blossom.ensures.blossom ∙ c.if-not-is_blossom.false in
-    let is : IsOutermost (state_of s) c.args.b = outer_by s c.args.b c.args.b c.requires.sound.shape (sym c.is_outermost.ensures.outer ∙ c.if-not-is_outermost.false) refl in
+    let is : IsOutermost (state_of s) c.args.b = outer_by s c.args.b c.args.b c.requires.sound.shape (sym c.is_outermost.ensures.outermost ∙ c.if-not-is_outermost.false) refl in
     let label : label_at s.labels.items c.args.b ≡ Inner = sym c.label.ensures.label ∙ c.in-Inner.is in
     let back : to_z w64 (of_z w64 c.dual.result) ≡ dual_at s.arena.duals c.args.b = (let same : to_z w64 (of_z w64 c.dual.result) ≡ c.dual.result = search rules in same)
     ∙ c.dual.ensures.dual in

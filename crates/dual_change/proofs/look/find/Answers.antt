@@ -17,7 +17,8 @@ use Rattle.dual_change.proofs.look.find.Goals as goal
 -- what comes is first, where the earliest moment lets something come
 first : (q : Moments) (clock : ℤ) (least : Option (Item × ℤ)) (item : Item) (moment given : ℤ) (next : Next) → IsLeast q least → least ≡ Some (item, moment) → next ≢ Stuck
     → given ≡ moment → ComesAt clock given next → IsFirst q clock next
-first q clock least item moment given next h is there back comes = first_by_least q clock moment item next (subst (IsLeast q) is h) there (subst (λ (m : ℤ). ComesAt clock m next) back comes)
+first q clock least item moment given next h is there back comes =
+    first_by_least q clock moment item next (subst (IsLeast q) is h) there (subst (λ (m : ℤ). ComesAt clock m next) back comes)
 
 pub returns-then-comes-clause-found : goal.returns-then-comes-clause-found
 returns-then-comes-clause-found g c =

@@ -13,7 +13,8 @@ loop-parent-preserved c =
     let later = subst (λ h. IsLaterParent (key h) c.args.entry.moment l.place c.in-Some.parent) c.deref.ensures.value c.in-Some.ensures.some in
     let within : c.in-Some.parent < length l.heap.items = omega (arith, later.parent, later.below, s.place, s.tables.few, length-set l.heap.items l.place c.args.entry) in
     let above : c.index-above.result.now ≡ entry_at l.heap.items c.in-Some.parent = get_or_read l.heap.items c.in-Some.parent c.index-above.result.now within c.index-above.ensures blank in
-    let moved = rise_moves (set c.args.heap.now.items c.args.start c.args.entry) (set c.args.places.now.items c.args.entry.slot c.args.start) l.heap.items l.places.items c.args.count l.place c.args.entry s
+    let moved = rise_moves (set c.args.heap.now.items c.args.start c.args.entry)
+    (set c.args.places.now.items c.args.entry.slot c.args.start) l.heap.items l.places.items c.args.count l.place c.args.entry s
     c.in-Some.parent c.index-above.result.now c.put.new.heap.items c.put.new.places.items later above c.put.ensures.heap c.put.ensures.places l.invariant.order in
     record { sifting = moved.0; order = moved.1 }
 
@@ -31,5 +32,11 @@ put-requires-clause-slot c =
     let p = c.in-Some.parent in
     let entry = c.index-above.result.now in
     let p_in : p < c.args.count = omega (arith, later.parent, later.below, s.place) in
-    let read : entry ≡ entry_at l.heap.items p = get_or_read l.heap.items p entry (omega (arith, p_in, s.tables.few, length-set l.heap.items l.place c.args.entry)) c.index-above.ensures blank in
-    omega (arith, other_slot_in (set c.args.heap.now.items c.args.start c.args.entry) (set c.args.places.now.items c.args.entry.slot c.args.start) l.heap.items l.places.items c.args.count l.place c.args.entry s p entry p_in (λ e. absurd (omega (arith, later.parent, later.below))) read)
+    let read : entry ≡ entry_at l.heap.items p =
+    get_or_read l.heap.items p entry (omega (arith, p_in, s.tables.few, length-set l.heap.items l.place c.args.entry)) c.index-above.ensures blank in
+    omega (
+      arith,
+      other_slot_in (set c.args.heap.now.items c.args.start c.args.entry)
+          (set c.args.places.now.items c.args.entry.slot c.args.start) l.heap.items l.places.items c.args.count l.place c.args.entry s p entry p_in
+          (λ e. absurd (omega (arith, later.parent, later.below))) read,
+    )

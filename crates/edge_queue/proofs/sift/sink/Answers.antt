@@ -13,7 +13,8 @@ loop-child-preserved c =
     let earlier = subst (λ h. IsEarlierChild (key h) c.args.entry.moment c.args.count l.place c.in-Some.child) c.deref.ensures.value c.in-Some.ensures.some in
     let within : c.in-Some.child < length l.heap.items = omega (arith, earlier.child.within, s.tables.few, length-set l.heap.items l.place c.args.entry) in
     let below : c.index-below.result.now ≡ entry_at l.heap.items c.in-Some.child = get_or_read l.heap.items c.in-Some.child c.index-below.result.now within c.index-below.ensures blank in
-    let moved = sink_moves (set c.args.heap.now.items c.args.start c.args.entry) (set c.args.places.now.items c.args.entry.slot c.args.start) l.heap.items l.places.items c.args.count l.place c.args.entry s
+    let moved = sink_moves (set c.args.heap.now.items c.args.start c.args.entry)
+    (set c.args.places.now.items c.args.entry.slot c.args.start) l.heap.items l.places.items c.args.count l.place c.args.entry s
     c.in-Some.child c.index-below.result.now c.put.new.heap.items c.put.new.places.items earlier below c.put.ensures.heap c.put.ensures.places l.invariant.order in
     record { sifting = moved.0; order = moved.1 }
 
@@ -31,13 +32,21 @@ put-requires-clause-slot c =
     let p = c.in-Some.child in
     let entry = c.index-below.result.now in
     let p_in : p < c.args.count = earlier.child.within in
-    let read : entry ≡ entry_at l.heap.items p = get_or_read l.heap.items p entry (omega (arith, p_in, s.tables.few, length-set l.heap.items l.place c.args.entry)) c.index-below.ensures blank in
-    omega (arith, other_slot_in (set c.args.heap.now.items c.args.start c.args.entry) (set c.args.places.now.items c.args.entry.slot c.args.start) l.heap.items l.places.items c.args.count l.place c.args.entry s p entry p_in (λ e. absurd (omega (arith, earlier.child.low))) read)
+    let read : entry ≡ entry_at l.heap.items p =
+    get_or_read l.heap.items p entry (omega (arith, p_in, s.tables.few, length-set l.heap.items l.place c.args.entry)) c.index-below.ensures blank in
+    omega (
+      arith,
+      other_slot_in (set c.args.heap.now.items c.args.start c.args.entry)
+          (set c.args.places.now.items c.args.entry.slot c.args.start) l.heap.items l.places.items c.args.count l.place c.args.entry s p entry p_in
+          (λ e. absurd (omega (arith, earlier.child.low))) read,
+    )
 
 pub returns : goal.returns
 returns c =
     let l = c.loop-child in
     let s = l.invariant.sifting in
     let last = subst (λ h. NoEarlierChild (key h) c.args.entry.moment c.args.count l.place) c.deref.ensures.value c.in_default.ensures.none in
-    sift_ends (set c.args.heap.now.items c.args.start c.args.entry) (set c.args.places.now.items c.args.entry.slot c.args.start) l.heap.items l.places.items c.args.count l.place c.args.entry c.put-2.new.heap.items c.put-2.new.places.items s c.put-2.ensures.heap c.put-2.ensures.places
-    (sink_ends (set c.args.heap.now.items c.args.start c.args.entry) (set c.args.places.now.items c.args.entry.slot c.args.start) l.heap.items l.places.items c.args.count l.place c.args.entry s last l.invariant.order)
+    sift_ends (set c.args.heap.now.items c.args.start c.args.entry) (set c.args.places.now.items c.args.entry.slot c.args.start) l.heap.items l.places.items c.args.count l.place c.args.entry
+    c.put-2.new.heap.items c.put-2.new.places.items s c.put-2.ensures.heap c.put-2.ensures.places
+    (sink_ends (set c.args.heap.now.items c.args.start c.args.entry)
+    (set c.args.places.now.items c.args.entry.slot c.args.start) l.heap.items l.places.items c.args.count l.place c.args.entry s last l.invariant.order)

@@ -12,36 +12,37 @@ use Rattle.least_joins.proofs.least.matched_join.Goals as goal
 pub matching-requires-clause-matched : goal.matching-requires-clause-matched
 matching-requires-clause-matched g c =
     let h : Multigraph = c.args.graph.now in
-    let s = c.run-matched.new.self in
-    let same : s.graph ≡ h = c.run-matched.ensures.graph ∙ c.requires.same in
+    let s = c.run.new.self in
+    let same : s.graph ≡ h = c.run.ensures.graph ∙ c.requires.same in
     let r = c.requires.reached c.requires.some.0 c.requires.some.1 in
-    let graph : IsGraph s.graph = subst IsGraph (sym same) c.vertices-vertices.ensures.graph in
+    let graph : IsGraph s.graph = subst IsGraph (sym same) c.requires.graph in
     let perfect : IsPerfect s.graph r.counts = subst (λ (k : Multigraph). IsPerfect k r.counts) (sym (same ∙ c.requires.ports)) r.perfect in
-    c.run-matched.ensures.outcome ∙ ap Some (matched s c.run-matched.result r.counts graph perfect c.run-matched.ensures.ends)
+    c.run.ensures.outcome ∙ ap Some (matched s c.run.result r.counts graph perfect c.run.ensures.ends)
 
 pub extract-requires : goal.extract-requires
 extract-requires g c =
     let h : Multigraph = c.args.graph.now in
-    let s = c.run-matched.new.self in
-    let same : s.graph ≡ h = c.run-matched.ensures.graph ∙ c.requires.same in
+    let s = c.run.new.self in
+    let same : s.graph ≡ h = c.run.ensures.graph ∙ c.requires.same in
     let r = c.requires.reached c.requires.some.0 c.requires.some.1 in
-    let graph : IsGraph s.graph = subst IsGraph (sym same) c.vertices-vertices.ensures.graph in
+    let graph : IsGraph s.graph = subst IsGraph (sym same) c.requires.graph in
     let perfect : IsPerfect s.graph r.counts = subst (λ (k : Multigraph). IsPerfect k r.counts) (sym (same ∙ c.requires.ports)) r.perfect in
-    let is : IsSolved s = solved s c.run-matched.result (matched s c.run-matched.result r.counts graph perfect c.run-matched.ensures.ends) c.run-matched.ensures.ends in
+    let is : IsSolved s = solved s c.run.result (matched s c.run.result r.counts graph perfect c.run.ensures.ends) c.run.ensures.ends in
     let found : IsPerfect h (matching_of h s.mates) = subst (λ (k : Multigraph). IsPerfect k (matching_of k s.mates)) same is.perfect in
     let lists : ListsCounts h (matching_of h s.mates) c.deref.result.now = subst (λ (es : List ℕ). ListsCounts h (matching_of h s.mates) es) (sym c.deref.ensures.value) c.in_ok-edges.ensures.counts in
-    record { perfect = subst (λ (k : Multigraph). IsPerfectList k c.deref.result.now) c.requires.ports (list_from_perfect h (matching_of h s.mates) c.deref.result.now c.vertices-vertices.ensures.graph.ends found lists) }
+    let P : Multigraph → Type 0 = λ k. IsPerfectList k c.deref.result.now in
+    record { perfect = subst P c.requires.ports (list_from_perfect h (matching_of h s.mates) c.deref.result.now c.requires.graph.ends found lists) }
 
 pub returns-clause-least : goal.returns-clause-least
 returns-clause-least g c =
     let i = c.args.instance.now in
     let h : Multigraph = c.args.graph.now in
-    let s = c.run-matched.new.self in
-    let same : s.graph ≡ h = c.run-matched.ensures.graph ∙ c.requires.same in
-    let graph : IsGraph s.graph = subst IsGraph (sym same) c.vertices-vertices.ensures.graph in
+    let s = c.run.new.self in
+    let same : s.graph ≡ h = c.run.ensures.graph ∙ c.requires.same in
+    let graph : IsGraph s.graph = subst IsGraph (sym same) c.requires.graph in
     let r = c.requires.reached c.requires.some.0 c.requires.some.1 in
     let perfect : IsPerfect s.graph r.counts = subst (λ (k : Multigraph). IsPerfect k r.counts) (sym (same ∙ c.requires.ports)) r.perfect in
-    let is : IsSolved s = solved s c.run-matched.result (matched s c.run-matched.result r.counts graph perfect c.run-matched.ensures.ends) c.run-matched.ensures.ends in
+    let is : IsSolved s = solved s c.run.result (matched s c.run.result r.counts graph perfect c.run.ensures.ends) c.run.ensures.ends in
     let found : IsPerfect h (matching_of h s.mates) = subst (λ (k : Multigraph). IsPerfect k (matching_of k s.mates)) same is.perfect in
     let lists : ListsCounts h (matching_of h s.mates) c.deref.result.now = subst (λ (es : List ℕ). ListsCounts h (matching_of h s.mates) es) (sym c.deref.ensures.value) c.in_ok-edges.ensures.counts in
     let listed : walk_weight h c.deref.result.now ≡ weight h (matching_of h s.mates) = list-weight h (matching_of h s.mates) c.deref.result.now found.one_each lists in

@@ -6,6 +6,7 @@ use Rattle.alt_forest.specs.IncidentEdges.{IsIncidentEdge, numbers_of}
 use Rattle.alt_forest.proofs.Leads.{leads_weight}
 use Rattle.alt_forest.proofs.IncidenceLists.{incidence_around, incidence_leads}
 use Rattle.mwpm_engine.proofs.LeastSeen.{IsBelow, below_one, below_first, below_around, some_there}
+use Rattle.mwpm_engine.proofs.Lesser.{min_by}
 use Rattle.mwpm_engine.proofs.StartIncidence.{numbers_count, number_there}
 use Rattle.mwpm_engine.proofs.lifting.least_around.Goals as goal
 
@@ -25,15 +26,6 @@ loop-place-init g c =
       each = below_first f (numbers_of xs) p.edge _ (omega (arith, some, numbers_count xs)) (number_there xs 0 p some c.index-incidence-0.is) is;
     }
 
-pub lesser-least-requires-clause-other : goal.lesser-least-requires-clause-other
-lesser-least-requires-clause-other g c =
-    let s = c.args.search.now in
-    let p : IncidentEdge = c.index-incidence-place.result in
-    let to : IsIncidentEdge s.graph c.args.v p = incidence_leads s c.args.v c.at-incidence.result.now c.loop-place.place p c.requires.shape c.requires.vertex c.at-incidence.ensures.list
-    (omega arith) c.index-incidence-place.is in
-    let back : to_z w64 (of_z w64 p.weight) ≡ p.weight = search rules in
-    subst IsWeight (sym back) (leads_weight s.graph p.edge c.args.v p.far p.weight c.requires.shape.graph.graph to)
-
 pub loop-place-preserved : goal.loop-place-preserved
 loop-place-preserved g c =
     let s = c.args.search.now in
@@ -42,17 +34,20 @@ loop-place-preserved g c =
     let p : IncidentEdge = c.index-incidence-place.result in
     let place : ℕ = c.loop-place.place in
     let i = c.loop-place.invariant in
-    let l = c.lesser-least.ensures in
+    let l = c.min-least.ensures in
     let low : place < length xs = omega arith in
     let to : IsIncidentEdge s.graph c.args.v p = incidence_leads s c.args.v xs place p c.requires.shape c.requires.vertex c.at-incidence.ensures.list low c.index-incidence-place.is in
     let back : to_z w64 (of_z w64 p.weight) ≡ p.weight = search rules in
     let is : to_z w64 (of_z w64 p.weight) ≡ f p.edge = back ∙ sym to.weight in
-    let now : to_z w64 (of_z w64 c.lesser-least.result) ≡ c.lesser-least.result = search rules in
+    let now : to_z w64 (of_z w64 c.min-least.result) ≡ c.min-least.result = search rules in
+    let weight = subst IsWeight (sym back) (leads_weight s.graph p.edge c.args.v p.far p.weight c.requires.shape.graph.graph to) in
+    let start = subst (λ x. s.start ≤ℤ x) (sym is) (c.requires.start.1 p.edge to.number) in
     record {
-      weight = subst IsWeight (sym now) l.weight;
-      low = subst (λ x. s.start ≤ℤ x) (sym now) (l.low s.start i.low (subst (λ x. s.start ≤ℤ x) (sym is) (c.requires.start.1 p.edge to.number)));
+      weight = subst IsWeight (sym now) (subst IsWeight (sym l.value) (min_by IsWeight _ _ i.weight weight));
+      low = subst (λ x. s.start ≤ℤ x) (sym now) (subst (λ x. s.start ≤ℤ x) (sym l.value) (min_by (λ x. s.start ≤ℤ x) _ _ i.low start));
       each = subst (IsBelow f (numbers_of xs) (place + 1)) (sym now)
-          (below_one f (numbers_of xs) place p.edge _ _ _ (omega (arith, low, numbers_count xs)) (number_there xs place p low c.index-incidence-place.is) is l.one l.other i.each);
+          (below_one f (numbers_of xs) place p.edge _ _ _ (omega (arith, low, numbers_count xs))
+          (number_there xs place p low c.index-incidence-place.is) is l.self_bound l.other_bound i.each);
     }
 
 pub returns-clause-each : goal.returns-clause-each

@@ -13,7 +13,8 @@ invariant-loop-place g l = record {
   queued : IsQueuedBut l.self (drop l.place l.fn.self.scanned.items);
   looks : l.steps + ends_around l.fn.graph (drop l.place l.fn.self.scanned.items) ≤ l.fn.steps + ends_around l.fn.graph l.fn.self.scanned.items;
   around : l.steps + ends_looked (state_of l.fn.self) (drop l.place l.fn.self.scanned.items) ≡ l.fn.steps + ends_looked (state_of l.fn.self) l.fn.self.scanned.items;
-  others : (e : ℕ) → IsEdgeNumber l.fn.graph e → touches_any l.fn.self.scanned.items (edge_of l.fn.graph e) ≡ false → moment_of l.self.queue (Edge e) ≡ moment_of l.fn.self.queue (Edge e);
+  others : (e : ℕ) → IsEdgeNumber l.fn.graph e → touches_any l.fn.self.scanned.items (edge_of l.fn.graph e) ≡ false
+      → moment_of l.self.queue (Edge e) ≡ moment_of l.fn.self.queue (Edge e);
   blossoms : l.self.queue.blossoms ≡ l.fn.self.queue.blossoms;
   count : entry_count l.self.queue + l.fn.steps ≤ entry_count l.fn.self.queue + l.steps;
 }

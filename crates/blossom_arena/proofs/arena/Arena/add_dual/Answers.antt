@@ -19,11 +19,13 @@ use Rattle.blossom_arena.proofs.Duals.{node_is, duals_after, raised_outer, raise
 use Rattle.blossom_arena.proofs.Marks.{parent_at}
 use Rattle.blossom_arena.proofs.arena.Arena.add_dual.Goals as goal
 
-outer_from : (a : Inside) (x p : ℕ) → IsSound a → is_node a.vertex_count (blossoms_of a) x ≡ true → p ≡ slice_index a.parents.items x → p ≡ 0 → is_outermost a.vertex_count (blossoms_of a) x ≡ true
+outer_from : (a : Inside) (x p : ℕ) → IsSound a → is_node a.vertex_count (blossoms_of a) x ≡ true → p ≡ slice_index a.parents.items x → p ≡ 0
+    → is_outermost a.vertex_count (blossoms_of a) x ≡ true
 outer_from a x p s is read zero =
     sym (outer_test a.vertex_count (blossoms_of a) x s.family.nested is) ∙ eq-eqb (parent_of (blossoms_of a) x) 0 (sym (read ∙ parent_at a s x is) ∙ zero)
 
-child_from : (a : Inside) (x p : ℕ) → IsSound a → is_node a.vertex_count (blossoms_of a) x ≡ true → p ≡ slice_index a.parents.items x → p ≢ 0 → is_child (blossoms_of a) x ≡ true
+child_from : (a : Inside) (x p : ℕ) → IsSound a → is_node a.vertex_count (blossoms_of a) x ≡ true → p ≡ slice_index a.parents.items x → p ≢ 0
+    → is_child (blossoms_of a) x ≡ true
 child_from a x p s is read ne = parent_child (blossoms_of a) x (λ z. ne (read ∙ parent_at a s x is ∙ z))
 
 pub raise-requires-clause-place : goal.raise-requires-clause-place
@@ -39,22 +41,30 @@ index-requires c =
 pub invariant_of-self : goal.invariant_of-self
 invariant_of-self c =
     let is = node_is c.self.inside _ c.args.node c.number-number.result c.self.view_is c.requires.node c.number-number.ensures in
-    let place : c.number-number.result < length c.self.inside.parents.items = omega (arith, (node_range _ _ c.number-number.result c.self.invariant.family.nested is).1, c.self.invariant.places.parents) in
+    let place : c.number-number.result < length c.self.inside.parents.items =
+    omega (arith, (node_range _ _ c.number-number.result c.self.invariant.family.nested is).1, c.self.invariant.places.parents) in
     let read : c.index.result.now ≡ slice_index c.self.inside.parents.items c.number-number.result =
     c.index.ensures ∙ get_or_default c.self.inside.parents.items c.number-number.result c.index.result.now 0 place in
-    let written : c.raise.new.self.values ≡ slice_set c.self.inside.duals.values c.number-number.result (dual_at c.self.inside.duals.values c.number-number.result +ℤ c.args.d) = search rules in
-    let duals = duals_after c.self.inside _ c.args.node c.number-number.result c.args.d c.raise.new.self.values c.self.invariant c.self.view_is c.requires.node c.number-number.ensures c.requires.in_range c.requires.not_below written in
-    raised_outer c.self.inside c.raise.new.self c.number-number.result c.args.d c.self.invariant duals c.raise.ensures.motions is written (outer_from c.self.inside c.number-number.result c.index.result.now c.self.invariant is read c.if-index-eq0.true)
+    let written : c.raise.new.self.values ≡ slice_set c.self.inside.duals.values c.number-number.result (dual_at c.self.inside.duals.values c.number-number.result +ℤ c.args.d) =
+    search rules in
+    let duals = duals_after c.self.inside _ c.args.node c.number-number.result c.args.d c.raise.new.self.values c.self.invariant c.self.view_is c.requires.node c.number-number.ensures
+    c.requires.in_range c.requires.not_below written in
+    raised_outer c.self.inside c.raise.new.self c.number-number.result c.args.d c.self.invariant duals c.raise.ensures.motions is written
+    (outer_from c.self.inside c.number-number.result c.index.result.now c.self.invariant is read c.if-index-eq0.true)
 
 pub returns-then-index-eq0-clause-good : goal.returns-then-index-eq0-clause-good
 returns-then-index-eq0-clause-good c =
     let is = node_is c.self.inside _ c.args.node c.number-number.result c.self.view_is c.requires.node c.number-number.ensures in
-    let place : c.number-number.result < length c.self.inside.parents.items = omega (arith, (node_range _ _ c.number-number.result c.self.invariant.family.nested is).1, c.self.invariant.places.parents) in
+    let place : c.number-number.result < length c.self.inside.parents.items =
+    omega (arith, (node_range _ _ c.number-number.result c.self.invariant.family.nested is).1, c.self.invariant.places.parents) in
     let read : c.index.result.now ≡ slice_index c.self.inside.parents.items c.number-number.result =
     c.index.ensures ∙ get_or_default c.self.inside.parents.items c.number-number.result c.index.result.now 0 place in
-    let written : c.raise.new.self.values ≡ slice_set c.self.inside.duals.values c.number-number.result (dual_at c.self.inside.duals.values c.number-number.result +ℤ c.args.d) = search rules in
-    let duals = duals_after c.self.inside _ c.args.node c.number-number.result c.args.d c.raise.new.self.values c.self.invariant c.self.view_is c.requires.node c.number-number.ensures c.requires.in_range c.requires.not_below written in
-    (raised_outer c.self.inside c.raise.new.self c.number-number.result c.args.d c.self.invariant duals c.raise.ensures.motions is written (outer_from c.self.inside c.number-number.result c.index.result.now c.self.invariant is read c.if-index-eq0.true)).family
+    let written : c.raise.new.self.values ≡ slice_set c.self.inside.duals.values c.number-number.result (dual_at c.self.inside.duals.values c.number-number.result +ℤ c.args.d) =
+    search rules in
+    let duals = duals_after c.self.inside _ c.args.node c.number-number.result c.args.d c.raise.new.self.values c.self.invariant c.self.view_is c.requires.node c.number-number.ensures
+    c.requires.in_range c.requires.not_below written in
+    (raised_outer c.self.inside c.raise.new.self c.number-number.result c.args.d c.self.invariant duals c.raise.ensures.motions is written
+    (outer_from c.self.inside c.number-number.result c.index.result.now c.self.invariant is read c.if-index-eq0.true)).family
 
 pub of-requires : goal.of-requires
 of-requires c =
@@ -67,33 +77,50 @@ pub add_each-requires : goal.add_each-requires
 add_each-requires c =
     let is = node_is c.self.inside _ c.args.node c.number-number.result c.self.view_is c.requires.node c.number-number.ensures in
     let members : c.of.result ≡ members_of (blossoms_of c.self.inside) c.number-number.result =
-    c.of.ensures ∙ ap (λ (fs : List ℕ). vertices_of fs c.find_run.result) c.deref.ensures.value ∙ ap (vertices_of c.self.inside.followers.items) c.find_run.ensures ∙ (node_run c.self.inside c.self.invariant c.number-number.result is).vertices in
+    c.of.ensures ∙ ap (λ (fs : List ℕ). vertices_of fs c.find_run.result) c.deref.ensures.value ∙ ap (vertices_of c.self.inside.followers.items) c.find_run.ensures
+    ∙ (node_run c.self.inside c.self.invariant c.number-number.result is).vertices in
     subst (AllByRecursion (λ v. v < length c.self.inside.partition.sets)) (sym members)
     (each_from (λ v. v < length c.self.inside.partition.sets) (members_of (blossoms_of c.self.inside) c.number-number.result)
-    (λ v m. omega (arith, c.self.invariant.places.partition, (vertex_range c.self.inside.vertex_count v (member_vertex c.self.inside.vertex_count (blossoms_of c.self.inside) c.number-number.result v c.self.invariant.family.nested is m)).1)))
+    (λ v m. omega (
+      arith,
+      c.self.invariant.places.partition,
+      (vertex_range c.self.inside.vertex_count v (member_vertex c.self.inside.vertex_count (blossoms_of c.self.inside) c.number-number.result v c.self.invariant.family.nested is m)).1,
+    )))
 
 pub invariant_of-self-2 : goal.invariant_of-self-2
 invariant_of-self-2 c =
     let is = node_is c.self.inside _ c.args.node c.number-number.result c.self.view_is c.requires.node c.number-number.ensures in
-    let place : c.number-number.result < length c.self.inside.parents.items = omega (arith, (node_range _ _ c.number-number.result c.self.invariant.family.nested is).1, c.self.invariant.places.parents) in
+    let place : c.number-number.result < length c.self.inside.parents.items =
+    omega (arith, (node_range _ _ c.number-number.result c.self.invariant.family.nested is).1, c.self.invariant.places.parents) in
     let read : c.index.result.now ≡ slice_index c.self.inside.parents.items c.number-number.result =
     c.index.ensures ∙ get_or_default c.self.inside.parents.items c.number-number.result c.index.result.now 0 place in
-    let written : c.raise.new.self.values ≡ slice_set c.self.inside.duals.values c.number-number.result (dual_at c.self.inside.duals.values c.number-number.result +ℤ c.args.d) = search rules in
-    let duals = duals_after c.self.inside _ c.args.node c.number-number.result c.args.d c.raise.new.self.values c.self.invariant c.self.view_is c.requires.node c.number-number.ensures c.requires.in_range c.requires.not_below written in
+    let written : c.raise.new.self.values ≡ slice_set c.self.inside.duals.values c.number-number.result (dual_at c.self.inside.duals.values c.number-number.result +ℤ c.args.d) =
+    search rules in
+    let duals = duals_after c.self.inside _ c.args.node c.number-number.result c.args.d c.raise.new.self.values c.self.invariant c.self.view_is c.requires.node c.number-number.ensures
+    c.requires.in_range c.requires.not_below written in
     let back : to_z w64 (of_z w64 c.args.d) ≡ c.args.d = search rules in
     let members : c.of.result ≡ members_of (blossoms_of c.self.inside) c.number-number.result =
-    c.of.ensures ∙ ap (λ (fs : List ℕ). vertices_of fs c.find_run.result) c.deref.ensures.value ∙ ap (vertices_of c.self.inside.followers.items) c.find_run.ensures ∙ (node_run c.self.inside c.self.invariant c.number-number.result is).vertices in
-    raised_child c.self.inside c.raise.new.self c.number-number.result c.args.d c.self.invariant duals c.raise.ensures.motions is written c.add_each.new.self (child_from c.self.inside c.number-number.result c.index.result.now c.self.invariant is read c.if-index-eq0.false) (c.add_each.ensures.placement ∙ ap₂ (all_added (placement_of c.self.inside.partition)) members back)
+    c.of.ensures ∙ ap (λ (fs : List ℕ). vertices_of fs c.find_run.result) c.deref.ensures.value ∙ ap (vertices_of c.self.inside.followers.items) c.find_run.ensures
+    ∙ (node_run c.self.inside c.self.invariant c.number-number.result is).vertices in
+    raised_child c.self.inside c.raise.new.self c.number-number.result c.args.d c.self.invariant duals c.raise.ensures.motions is written c.add_each.new.self
+    (child_from c.self.inside c.number-number.result c.index.result.now c.self.invariant is read c.if-index-eq0.false)
+    (c.add_each.ensures.placement ∙ ap₂ (all_added (placement_of c.self.inside.partition)) members back)
 
 pub returns-clause-good : goal.returns-clause-good
 returns-clause-good c =
     let is = node_is c.self.inside _ c.args.node c.number-number.result c.self.view_is c.requires.node c.number-number.ensures in
-    let place : c.number-number.result < length c.self.inside.parents.items = omega (arith, (node_range _ _ c.number-number.result c.self.invariant.family.nested is).1, c.self.invariant.places.parents) in
+    let place : c.number-number.result < length c.self.inside.parents.items =
+    omega (arith, (node_range _ _ c.number-number.result c.self.invariant.family.nested is).1, c.self.invariant.places.parents) in
     let read : c.index.result.now ≡ slice_index c.self.inside.parents.items c.number-number.result =
     c.index.ensures ∙ get_or_default c.self.inside.parents.items c.number-number.result c.index.result.now 0 place in
-    let written : c.raise.new.self.values ≡ slice_set c.self.inside.duals.values c.number-number.result (dual_at c.self.inside.duals.values c.number-number.result +ℤ c.args.d) = search rules in
-    let duals = duals_after c.self.inside _ c.args.node c.number-number.result c.args.d c.raise.new.self.values c.self.invariant c.self.view_is c.requires.node c.number-number.ensures c.requires.in_range c.requires.not_below written in
+    let written : c.raise.new.self.values ≡ slice_set c.self.inside.duals.values c.number-number.result (dual_at c.self.inside.duals.values c.number-number.result +ℤ c.args.d) =
+    search rules in
+    let duals = duals_after c.self.inside _ c.args.node c.number-number.result c.args.d c.raise.new.self.values c.self.invariant c.self.view_is c.requires.node c.number-number.ensures
+    c.requires.in_range c.requires.not_below written in
     let back : to_z w64 (of_z w64 c.args.d) ≡ c.args.d = search rules in
     let members : c.of.result ≡ members_of (blossoms_of c.self.inside) c.number-number.result =
-    c.of.ensures ∙ ap (λ (fs : List ℕ). vertices_of fs c.find_run.result) c.deref.ensures.value ∙ ap (vertices_of c.self.inside.followers.items) c.find_run.ensures ∙ (node_run c.self.inside c.self.invariant c.number-number.result is).vertices in
-    (raised_child c.self.inside c.raise.new.self c.number-number.result c.args.d c.self.invariant duals c.raise.ensures.motions is written c.add_each.new.self (child_from c.self.inside c.number-number.result c.index.result.now c.self.invariant is read c.if-index-eq0.false) (c.add_each.ensures.placement ∙ ap₂ (all_added (placement_of c.self.inside.partition)) members back)).family
+    c.of.ensures ∙ ap (λ (fs : List ℕ). vertices_of fs c.find_run.result) c.deref.ensures.value ∙ ap (vertices_of c.self.inside.followers.items) c.find_run.ensures
+    ∙ (node_run c.self.inside c.self.invariant c.number-number.result is).vertices in
+    (raised_child c.self.inside c.raise.new.self c.number-number.result c.args.d c.self.invariant duals c.raise.ensures.motions is written c.add_each.new.self
+    (child_from c.self.inside c.number-number.result c.index.result.now c.self.invariant is read c.if-index-eq0.false)
+    (c.add_each.ensures.placement ∙ ap₂ (all_added (placement_of c.self.inside.partition)) members back)).family

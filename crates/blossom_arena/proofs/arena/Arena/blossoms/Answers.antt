@@ -11,11 +11,18 @@ use Rattle.blossom_arena.proofs.Sound.{order_names, order_within, blossoms_len}
 use Rattle.blossom_arena.proofs.arena.Arena.blossoms.Goals as goal
 
 pub overflow_cast-len : goal.overflow_cast-len
-overflow_cast-len c = omega (arith, c.len.ensures, blossoms_len c.self.inside, blossoms_few c.self.inside.vertex_count (blossoms_of c.self.inside) c.self.invariant.family.nested, c.self.invariant.family.few)
+overflow_cast-len c = omega (
+  arith,
+  c.len.ensures,
+  blossoms_len c.self.inside,
+  blossoms_few c.self.inside.vertex_count (blossoms_of c.self.inside) c.self.invariant.family.nested,
+  c.self.invariant.family.few,
+)
 
 walk_is : (c : goal.After-len) → walk c.len.result c.deref.result.now c.index.result.now ≡ order_of c.self.inside
 walk_is c =
-    let newest : c.index.result.now ≡ slice_index c.self.inside.older.items 0 = c.index.ensures ∙ get_or_default c.self.inside.older.items 0 c.index.result.now 0 (omega (arith, c.self.invariant.places.older)) in
+    let newest : c.index.result.now ≡ slice_index c.self.inside.older.items 0 = c.index.ensures
+    ∙ get_or_default c.self.inside.older.items 0 c.index.result.now 0 (omega (arith, c.self.invariant.places.older)) in
     ap (λ k. walk k c.deref.result.now c.index.result.now) c.len.ensures ∙ ap₂ (walk (slab_len c.self.inside.kept)) c.deref.ensures.value newest
 
 pub of-requires : goal.of-requires
@@ -25,6 +32,7 @@ of-requires c =
 
 pub returns-clause-blossoms : goal.returns-clause-blossoms
 returns-clause-blossoms c =
-    let newest : c.index.result.now ≡ slice_index c.self.inside.older.items 0 = c.index.ensures ∙ get_or_default c.self.inside.older.items 0 c.index.result.now 0 (omega (arith, c.self.invariant.places.older)) in
+    let newest : c.index.result.now ≡ slice_index c.self.inside.older.items 0 = c.index.ensures
+    ∙ get_or_default c.self.inside.older.items 0 c.index.result.now 0 (omega (arith, c.self.invariant.places.older)) in
     c.of.ensures ∙ ap (λ k. walk k c.deref.result.now c.index.result.now) c.len.ensures ∙ ap₂ (walk (slab_len c.self.inside.kept)) c.deref.ensures.value newest
     ∙ sym (order_names c.self.inside) ∙ ap (λ f. names_of f.blossoms) c.self.view_is

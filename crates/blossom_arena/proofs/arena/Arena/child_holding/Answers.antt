@@ -30,7 +30,8 @@ child_below-requires-clause-each c x low =
     let s = c.self.invariant in
     let iv = member_vertex n bs c.args.b c.args.v s.family.nested (name_is_node n bs c.args.b (named c)) (inside c) in
     let range = vertex_range n c.args.v iv in
-    let at : slice_index c.deref.result.now x ≡ parent_entry n bs x = ap (λ (ps : List ℕ). slice_index ps x) c.deref.ensures.value ∙ s.parents x (omega (arith, low, s.places.parents, c.deref.ensures.len)) in
+    let at : slice_index c.deref.result.now x ≡ parent_entry n bs x = ap (λ (ps : List ℕ). slice_index ps x) c.deref.ensures.value
+    ∙ s.parents x (omega (arith, low, s.places.parents, c.deref.ensures.len)) in
     omega (arith, at, entry_low n bs x s.family.nested (omega (arith, range.0, range.1)), s.places.parents, c.deref.ensures.len)
 
 pub returns-clause-child : goal.returns-clause-child

@@ -66,13 +66,15 @@ take_out-requires-clause-before c =
 pub of-requires : goal.of-requires
 of-requires c =
     let there = in_order c.self.inside _ c.args.b c.number-node.result c.self.view_is c.requires.blossom c.number-node.ensures in
-    walk_kept c.self.inside c.number-node.result c.self.invariant there c.remove-kept.result c.remove-kept.ensures.value c.deref.result.now c.deref-2.result.now c.deref.ensures.value c.deref-2.ensures.value
+    walk_kept c.self.inside c.number-node.result c.self.invariant there c.remove-kept.result c.remove-kept.ensures.value c.deref.result.now c.deref-2.result.now
+    c.deref.ensures.value c.deref-2.ensures.value
 
 pub hang-requires : goal.hang-requires
 hang-requires c =
     let there = in_order c.self.inside _ c.args.b c.number-node.result c.self.view_is c.requires.blossom c.number-node.ensures in
     let ring : c.of.result ≡ ring_of (blossoms_of c.self.inside) c.number-node.result =
-    c.of.ensures ∙ ring_kept c.self.inside c.number-node.result c.self.invariant there c.remove-kept.result c.remove-kept.ensures.value c.deref.result.now c.deref-2.result.now c.deref.ensures.value c.deref-2.ensures.value in
+    c.of.ensures ∙ ring_kept c.self.inside c.number-node.result c.self.invariant there c.remove-kept.result c.remove-kept.ensures.value c.deref.result.now c.deref-2.result.now
+    c.deref.ensures.value c.deref-2.ensures.value in
     let enough : c.self.inside.vertex_count + most_blossoms c.self.inside.vertex_count < vec_len c.self.inside.parents = omega (arith, c.self.invariant.places.parents) in
     subst (λ (ls : List Link). AllByRecursion (λ (l : Link). l.node < vec_len c.self.inside.parents) ls) (sym ring)
     (children_within c.self.inside c.number-node.result c.self.invariant there (vec_len c.self.inside.parents) enough)
@@ -85,22 +87,27 @@ set_entry-requires c =
 pub of-requires-2 : goal.of-requires-2
 of-requires-2 c =
     let there = in_order c.self.inside _ c.args.b c.number-node.result c.self.view_is c.requires.blossom c.number-node.ensures in
-    walk_kept c.self.inside c.number-node.result c.self.invariant there c.remove-kept.result c.remove-kept.ensures.value c.deref-3.result.now c.deref-4.result.now c.deref-3.ensures.value c.deref-4.ensures.value
+    walk_kept c.self.inside c.number-node.result c.self.invariant there c.remove-kept.result c.remove-kept.ensures.value c.deref-3.result.now c.deref-4.result.now
+    c.deref-3.ensures.value c.deref-4.ensures.value
 
 pub release-requires-clause-within : goal.release-requires-clause-within
 release-requires-clause-within c =
     let there = in_order c.self.inside _ c.args.b c.number-node.result c.self.view_is c.requires.blossom c.number-node.ensures in
-    let free = is_free c.self.inside _ c.args.b c.number-node.result c.self.view_is c.requires.outer c.number-node.ensures in
+    let free = is_free c.self.inside _ c.args.b c.number-node.result c.self.view_is c.requires.outermost c.number-node.ensures in
     let ring : c.of-2.result ≡ ring_of (blossoms_of c.self.inside) c.number-node.result =
-    c.of-2.ensures ∙ ring_kept c.self.inside c.number-node.result c.self.invariant there c.remove-kept.result c.remove-kept.ensures.value c.deref-3.result.now c.deref-4.result.now c.deref-3.ensures.value c.deref-4.ensures.value in
-    subst (λ (ls : List Link). AllByRecursion (λ (l : Link). AllByRecursion (λ v. v < length c.deref-5.result.now) (vertices_of c.deref-5.result.now (run_of c.self.inside.vertex_count c.remove-kept.new.self l.node)) × ((run_of c.self.inside.vertex_count c.remove-kept.new.self l.node).core < length c.deref-5.result.now)) ls) (sym ring)
+    c.of-2.ensures ∙ ring_kept c.self.inside c.number-node.result c.self.invariant there c.remove-kept.result c.remove-kept.ensures.value c.deref-3.result.now c.deref-4.result.now
+    c.deref-3.ensures.value c.deref-4.ensures.value in
+    subst (λ (ls : List Link). AllByRecursion
+    (λ (l : Link). AllByRecursion (λ v. v < length c.deref-5.result.now) (vertices_of c.deref-5.result.now (run_of c.self.inside.vertex_count c.remove-kept.new.self l.node))
+    × ((run_of c.self.inside.vertex_count c.remove-kept.new.self l.node).core < length c.deref-5.result.now)) ls) (sym ring)
     (runs_within c.self.inside c.number-node.result c.self.invariant there c.remove-kept.new.self c.deref-5.result.now free c.remove-kept.ensures.updates c.deref-5.ensures.value)
 
 pub release-requires-clause-nodes : goal.release-requires-clause-nodes
 release-requires-clause-nodes c =
     let there = in_order c.self.inside _ c.args.b c.number-node.result c.self.view_is c.requires.blossom c.number-node.ensures in
     let ring : c.of-2.result ≡ ring_of (blossoms_of c.self.inside) c.number-node.result =
-    c.of-2.ensures ∙ ring_kept c.self.inside c.number-node.result c.self.invariant there c.remove-kept.result c.remove-kept.ensures.value c.deref-3.result.now c.deref-4.result.now c.deref-3.ensures.value c.deref-4.ensures.value in
+    c.of-2.ensures ∙ ring_kept c.self.inside c.number-node.result c.self.invariant there c.remove-kept.result c.remove-kept.ensures.value c.deref-3.result.now c.deref-4.result.now
+    c.deref-3.ensures.value c.deref-4.ensures.value in
     subst (λ (ls : List Link). AllByRecursion (λ (l : Link). l.node < length c.self.inside.duals.values) ls) (sym ring)
     (children_within c.self.inside c.number-node.result c.self.invariant there (length c.self.inside.duals.values) (omega (arith, c.self.invariant.family.duals.one_each)))
 
@@ -110,7 +117,13 @@ release-requires-clause-places c = omega (arith, c.self.invariant.places.partiti
 pub release-requires-clause-core : goal.release-requires-clause-core
 release-requires-clause-core c =
     let there = in_order c.self.inside _ c.args.b c.number-node.result c.self.view_is c.requires.blossom c.number-node.ensures in
-    omega (arith, core_low c.self.inside c.number-node.result c.self.invariant there, ap (λ o. (kept_or_none o).run.core) c.remove-kept.ensures.value, c.self.invariant.places.followers, ap length c.deref-5.ensures.value)
+    omega (
+      arith,
+      core_low c.self.inside c.number-node.result c.self.invariant there,
+      ap (λ o. (kept_or_none o).run.core) c.remove-kept.ensures.value,
+      c.self.invariant.places.followers,
+      ap length c.deref-5.ensures.value,
+    )
 
 pub release-requires-clause-some : goal.release-requires-clause-some
 release-requires-clause-some c = omega (arith, c.self.invariant.family.duals.one_each)
@@ -134,15 +147,18 @@ after c = record {
   kept = c.remove-kept.new.self;
 }
 
-changes : (c : goal.After-move_as) → holds (order_of c.self.inside) c.number-node.result ≡ true → is_child (blossoms_of c.self.inside) c.number-node.result ≡ false → Dissolves c.self.inside (after c) c.number-node.result
+changes : (c : goal.After-move_as) → holds (order_of c.self.inside) c.number-node.result ≡ true → is_child (blossoms_of c.self.inside) c.number-node.result ≡ false
+    → Dissolves c.self.inside (after c) c.number-node.result
 changes c there free =
     let a : Inside = c.self.inside in
     let node : ℕ = c.number-node.result in
     let kept : Slab Kept = c.remove-kept.new.self in
     let ring : c.of.result ≡ ring_of (blossoms_of a) node =
-    c.of.ensures ∙ ring_kept a node c.self.invariant there c.remove-kept.result c.remove-kept.ensures.value c.deref.result.now c.deref-2.result.now c.deref.ensures.value c.deref-2.ensures.value in
+    c.of.ensures ∙ ring_kept a node c.self.invariant there c.remove-kept.result c.remove-kept.ensures.value c.deref.result.now c.deref-2.result.now
+    c.deref.ensures.value c.deref-2.ensures.value in
     let ring2 : c.of-2.result ≡ ring_of (blossoms_of a) node =
-    c.of-2.ensures ∙ ring_kept a node c.self.invariant there c.remove-kept.result c.remove-kept.ensures.value c.deref-3.result.now c.deref-4.result.now c.deref-3.ensures.value c.deref-4.ensures.value in
+    c.of-2.ensures ∙ ring_kept a node c.self.invariant there c.remove-kept.result c.remove-kept.ensures.value c.deref-3.result.now c.deref-4.result.now
+    c.deref-3.ensures.value c.deref-4.ensures.value in
     record {
       updates = c.remove-kept.ensures.updates;
       len = c.remove-kept.ensures.len;
@@ -160,19 +176,20 @@ changes c there free =
 pub invariant_of-self : goal.invariant_of-self
 invariant_of-self c =
     let there = in_order c.self.inside _ c.args.b c.number-node.result c.self.view_is c.requires.blossom c.number-node.ensures in
-    let free = is_free c.self.inside _ c.args.b c.number-node.result c.self.view_is c.requires.outer c.number-node.ensures in
+    let free = is_free c.self.inside _ c.args.b c.number-node.result c.self.view_is c.requires.outermost c.number-node.ensures in
     sound_after c.self.inside _ _ _ _ _ _ c.number-node.result c.self.invariant there free (changes c there free)
 
 pub returns-clause-family : goal.returns-clause-family
 returns-clause-family c =
     let a : Inside = c.self.inside in
     let there = in_order a _ c.args.b c.number-node.result c.self.view_is c.requires.blossom c.number-node.ensures in
-    let free = is_free a _ c.args.b c.number-node.result c.self.view_is c.requires.outer c.number-node.ensures in
-    ap₂ (λ (t : DualTable) (bs : List Blossom). record { vertex_count = a.vertex_count; duals = t.values; motions = t.motions; blossoms = bs }) (changes c there free).duals (blossoms_after a _ _ _ _ _ _ c.number-node.result c.self.invariant there free (changes c there free))
+    let free = is_free a _ c.args.b c.number-node.result c.self.view_is c.requires.outermost c.number-node.ensures in
+    ap₂ (λ (t : DualTable) (bs : List Blossom). record { vertex_count = a.vertex_count; duals = t.values; motions = t.motions; blossoms = bs }) (changes c there free).duals
+    (blossoms_after a _ _ _ _ _ _ c.number-node.result c.self.invariant there free (changes c there free))
     ∙ ap₂ (λ (f : Family) (x : ℕ). dissolved f x) c.self.view_is c.number-node.ensures
 
 pub returns-clause-good : goal.returns-clause-good
 returns-clause-good c =
     let there = in_order c.self.inside _ c.args.b c.number-node.result c.self.view_is c.requires.blossom c.number-node.ensures in
-    let free = is_free c.self.inside _ c.args.b c.number-node.result c.self.view_is c.requires.outer c.number-node.ensures in
+    let free = is_free c.self.inside _ c.args.b c.number-node.result c.self.view_is c.requires.outermost c.number-node.ensures in
     (sound_after c.self.inside _ _ _ _ _ _ c.number-node.result c.self.invariant there free (changes c there free)).family

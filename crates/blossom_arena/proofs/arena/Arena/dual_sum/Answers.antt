@@ -13,9 +13,11 @@ use Rattle.blossom_arena.proofs.Held.{dual_sum_range}
 use Rattle.blossom_arena.proofs.arena.Arena.dual_sum.Goals as goal
 
 -- the sum that is read
-read : (a : Inside) (f : Family) (v x : ℕ) → IsSound a → family_of a ≡ f → is_vertex f.vertex_count v ≡ true → x ≡ v → (placement_of a.partition).inner x ≡ inner_of (dual_at f.duals) f.blossoms v
+read : (a : Inside) (f : Family) (v x : ℕ) → IsSound a → family_of a ≡ f → is_vertex f.vertex_count v ≡ true → x ≡ v
+    → (placement_of a.partition).inner x ≡ inner_of (dual_at f.duals) f.blossoms v
 read a f v x s view is same =
-    ap (placement_of a.partition).inner same ∙ s.partition.inner v (subst (λ (g : Family). is_vertex g.vertex_count v ≡ true) (sym view) is) ∙ ap (λ (g : Family). inner_of (dual_at g.duals) g.blossoms v) view
+    ap (placement_of a.partition).inner same ∙ s.partition.inner v (subst (λ (g : Family). is_vertex g.vertex_count v ≡ true) (sym view) is)
+    ∙ ap (λ (g : Family). inner_of (dual_at g.duals) g.blossoms v) view
 
 pub inner-requires : goal.inner-requires
 inner-requires c =
@@ -49,10 +51,12 @@ returns-clause-dual_sum c =
     let fits : FitsSigned w64 (to_z w64 (of_z w64 c.inner.result) +ℤ to_z w64 (of_z w64 c.dual.result)) = overflow_add-result c in
     let back : to_z w64 (of_z w64 c.inner.result) ≡ c.inner.result = search rules in
     let back_too : to_z w64 (of_z w64 c.dual.result) ≡ c.dual.result = search rules in
-    let whole : to_z w64 (of_z w64 (to_z w64 (of_z w64 c.inner.result) +ℤ to_z w64 (of_z w64 c.dual.result))) ≡ to_z w64 (of_z w64 c.inner.result) +ℤ to_z w64 (of_z w64 c.dual.result) = search rules in
+    let whole : to_z w64 (of_z w64 (to_z w64 (of_z w64 c.inner.result) +ℤ to_z w64 (of_z w64 c.dual.result)))
+    ≡ to_z w64 (of_z w64 c.inner.result) +ℤ to_z w64 (of_z w64 c.dual.result) = search rules in
     omega (arith, ints, inner, outer, whole, back, back_too)
 
 pub returns-clause-in_range : goal.returns-clause-in_range
 returns-clause-in_range c =
     let good = c.outermost.ensures.good in
-    subst IsDualSum (sym (returns-clause-dual_sum c)) (dual_sum_range c.args.self.now.vertex_count c.args.self.now.duals c.args.self.now.blossoms c.args.v good.few good.nested good.duals.in_range)
+    subst IsDualSum (sym (returns-clause-dual_sum c))
+    (dual_sum_range c.args.self.now.vertex_count c.args.self.now.duals c.args.self.now.blossoms c.args.v good.few good.nested good.duals.in_range)

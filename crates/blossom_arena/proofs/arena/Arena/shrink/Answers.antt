@@ -23,7 +23,8 @@ pub join-run-requires-clause-within : goal.join-run-requires-clause-within
 join-run-requires-clause-within c =
     let circuit = subst (λ f. IsCircuit f.vertex_count f.blossoms c.args.circuit.now) (sym c.self.view_is) c.requires in
     let len : vec_len c.self.inside.followers ≡ length c.self.inside.followers.items = omega arith in
-    subst (λ m. AllByRecursion (λ (r : Run). r.tail < m) (runs_of c.self.inside.vertex_count c.self.inside.kept c.args.circuit.now)) (sym len) (tails_within c.self.inside c.args.circuit.now c.self.invariant circuit)
+    subst (λ m. AllByRecursion (λ (r : Run). r.tail < m) (runs_of c.self.inside.vertex_count c.self.inside.kept c.args.circuit.now)) (sym len)
+    (tails_within c.self.inside c.args.circuit.now c.self.invariant circuit)
 
 pub join-run-requires-clause-few : goal.join-run-requires-clause-few
 join-run-requires-clause-few c =
@@ -71,12 +72,14 @@ hang-requires c =
 
 -- what stands once the circuit is joined and its blossom kept
 more : (c : goal.After-absorb-arg-3-1) → IsCircuit c.self.inside.vertex_count (blossoms_of c.self.inside) c.args.circuit.now
-    → AddsKept c.self.inside c.args.circuit.now c.insert_reserved-key.new.self c.deref-3.result.now (c.self.inside.vertex_count + 1 + c.insert_reserved-key.result) c.insert_reserved-key.result
+    → AddsKept c.self.inside c.args.circuit.now c.insert_reserved-key.new.self c.deref-3.result.now
+    (c.self.inside.vertex_count + 1 + c.insert_reserved-key.result) c.insert_reserved-key.result
 more c circuit =
     let a : Inside = c.self.inside in
     let ring : List Link = c.args.circuit.now in
     let run : c.join-run.result ≡ joined_run a ring =
-    run_is a ring c.self.invariant circuit c.join-run.new.followers.items c.join-run.result c.join-run.ensures.items c.join-run.ensures.head c.join-run.ensures.tail c.join-run.ensures.size c.join-run.ensures.core in
+    run_is a ring c.self.invariant circuit c.join-run.new.followers.items c.join-run.result c.join-run.ensures.items c.join-run.ensures.head c.join-run.ensures.tail
+    c.join-run.ensures.size c.join-run.ensures.core in
     record {
       number = refl;
       vacant = c.insert_reserved-key.ensures.was_vacant;
@@ -146,13 +149,18 @@ took_in a ring kept fs core node =
     absorbed (λ x. vertices_of fs (run_of a.vertex_count kept x)) (core_at a.vertex_count kept) (dual_at a.duals.values) core node
     (given (placement_of a.partition) core node (dual_at a.duals.values ((placement_of a.partition).top ((placement_of a.partition).set core)))) (nodes_of ring)
 
-changes : (c : goal.After-new) → IsCircuit c.self.inside.vertex_count (blossoms_of c.self.inside) c.args.circuit.now → Shrinks c.self.inside (after c) c.args.circuit.now (node c) c.insert_reserved-key.result
+changes : (c : goal.After-new) → IsCircuit c.self.inside.vertex_count (blossoms_of c.self.inside) c.args.circuit.now
+    → Shrinks c.self.inside (after c) c.args.circuit.now (node c) c.insert_reserved-key.result
 changes c circuit =
     let a : Inside = c.self.inside in
     let ring : List Link = c.args.circuit.now in
     let first : c.node_at-first.result ≡ next_node ring 0 = c.node_at-first.ensures in
-    let run : c.join-run.result ≡ joined_run a ring = run_is a ring c.self.invariant circuit c.join-run.new.followers.items c.join-run.result c.join-run.ensures.items c.join-run.ensures.head c.join-run.ensures.tail c.join-run.ensures.size c.join-run.ensures.core in
-    let written : c.of.result ≡ ring = c.of.ensures ∙ ring_walk a ring c.self.invariant circuit c.deref.result.now c.deref-2.result.now c.node_at-first.result first (c.deref.ensures.value ∙ c.thread.ensures.items) (c.deref-2.ensures.value ∙ c.note.ensures.items) in
+    let run : c.join-run.result ≡ joined_run a ring =
+    run_is a ring c.self.invariant circuit c.join-run.new.followers.items c.join-run.result c.join-run.ensures.items c.join-run.ensures.head c.join-run.ensures.tail
+    c.join-run.ensures.size c.join-run.ensures.core in
+    let written : c.of.result ≡ ring = c.of.ensures
+    ∙ ring_walk a ring c.self.invariant circuit c.deref.result.now c.deref-2.result.now c.node_at-first.result first (c.deref.ensures.value ∙ c.thread.ensures.items)
+    (c.deref-2.ensures.value ∙ c.note.ensures.items) in
     record {
       number = omega arith;
       duals = c.put.ensures.values ∙ ap (λ (ys : List ℤ). slice_set ys (node c) (pos 0)) c.rest_each.ensures.values;
@@ -166,7 +174,8 @@ changes c circuit =
       followers = c.join-run.ensures.items;
       nexts = c.thread.ensures.items ∙ ap (threaded a.nexts.items ring) first;
       edges = c.note.ensures.items;
-      parents = c.set_entry.ensures.items ∙ ap (λ (t : List ℕ). slice_set t (node c) 0) (c.hang.ensures.items ∙ ap (λ (ls : List Link). filled a.parents.items (nodes_of ls) (node c)) written);
+      parents = c.set_entry.ensures.items ∙ ap (λ (t : List ℕ). slice_set t (node c) 0)
+          (c.hang.ensures.items ∙ ap (λ (ls : List Link). filled a.parents.items (nodes_of ls) (node c)) written);
       partition = c.absorb.ensures.placement
           ∙ ap₂ (λ (fs : List ℕ) (k : ℕ). took_in a ring c.insert_reserved-key.new.self fs k (node c)) c.deref-3.ensures.value c.join-run.ensures.core;
       older = c.put_first.ensures.older;
@@ -185,7 +194,8 @@ returns-clause-family c =
     let blossoms = blossoms_after a _ _ _ _ _ _ _ _ _ c.args.circuit.now (node c) c.insert_reserved-key.result c.self.invariant circuit (changes c circuit) in
     let changed = changes c circuit in
     ap (λ (bs : List Blossom). record { vertex_count = a.vertex_count; duals = c.put.new.self.values; motions = c.put.new.self.motions; blossoms = bs }) blossoms
-    ∙ ap₂ (λ (ys : List ℤ) (ms : List Label). record { vertex_count = a.vertex_count; duals = ys; motions = ms; blossoms = made_of (blossoms_of a) c.args.circuit.now (node c) ∷ blossoms_of a }) changed.duals changed.motions
+    ∙ ap₂ (λ (ys : List ℤ) (ms : List Label).
+    record { vertex_count = a.vertex_count; duals = ys; motions = ms; blossoms = made_of (blossoms_of a) c.args.circuit.now (node c) ∷ blossoms_of a }) changed.duals changed.motions
     ∙ ap₂ (λ (f : Family) (x : ℕ). shrunk f x c.args.circuit.now) c.self.view_is (sym c.new.ensures)
 
 pub returns-clause-fresh : goal.returns-clause-fresh

@@ -11,10 +11,12 @@ use Rattle.blossom_arena.proofs.dual_table.Duals.advance.Goals as goal
 pub invariant_of-self : goal.invariant_of-self
 invariant_of-self c =
     let clock : c.of-self-inside.result ≡ c.self.inside.shares +ℤ c.args.d = search rules in
-    let in_range : (a : ℕ) → IsNumber (dual_at (moved c.self.inside.shares c.self.inside.bases.items c.self.inside.motions.items) a +ℤ share c.args.d (label_at c.self.inside.motions.items a)) =
+    let in_range : (a : ℕ)
+    → IsNumber (dual_at (moved c.self.inside.shares c.self.inside.bases.items c.self.inside.motions.items) a +ℤ share c.args.d (label_at c.self.inside.motions.items a)) =
     subst (λ (t : DualTable). (a : ℕ) → IsNumber (dual_at t.values a +ℤ share c.args.d (label_at t.motions a))) (sym c.self.view_is) c.requires.in_range in
     subst (λ (z : ℤ). IsTable (record c.self.inside { shares = z })) (sym clock)
-    (table_on c.self.inside c.args.d c.self.invariant (omega (arith, ints, c.self.invariant.low, c.requires.low.le)) (omega (arith, ints, c.if-d-clock.false, c.clock-clock.ensures)) in_range)
+    (table_on c.self.inside c.args.d c.self.invariant (omega (arith, ints, c.self.invariant.low, c.requires.low.le))
+    (omega (arith, ints, c.if-d-clock.false, c.clock-clock.ensures)) in_range)
 
 pub returns-clause-values : goal.returns-clause-values
 returns-clause-values c = λ a.
@@ -25,4 +27,9 @@ returns-clause-values c = λ a.
 
 pub returns-clause-len : goal.returns-clause-len
 returns-clause-len c =
-    omega (arith, length-moved c.of-self-inside.result c.self.inside.bases.items c.self.inside.motions.items, length-moved c.self.inside.shares c.self.inside.bases.items c.self.inside.motions.items, ap (λ (t : DualTable). length t.values) c.self.view_is)
+    omega (
+      arith,
+      length-moved c.of-self-inside.result c.self.inside.bases.items c.self.inside.motions.items,
+      length-moved c.self.inside.shares c.self.inside.bases.items c.self.inside.motions.items,
+      ap (λ (t : DualTable). length t.values) c.self.view_is,
+    )

@@ -20,7 +20,8 @@ sum_of-requires c =
     let low : c.args.place < length c.self.inside.bases.items = base_place c.self.inside _ c.args.place c.self.view_is c.requires in
     let back : to_z w64 (of_z w64 c.index-2.result.now) ≡ c.index-2.result.now = search rules in
     let back2 : to_z w64 (of_z w64 c.share-share.result) ≡ c.share-share.result = search rules in
-    let read : c.index-2.result.now ≡ dual_at c.self.inside.bases.items c.args.place = c.index-2.ensures ∙ get_or_default c.self.inside.bases.items c.args.place c.index-2.result.now (pos 0) low in
+    let read : c.index-2.result.now ≡ dual_at c.self.inside.bases.items c.args.place = c.index-2.ensures
+    ∙ get_or_default c.self.inside.bases.items c.args.place c.index-2.result.now (pos 0) low in
     let motion : c.index.result.now ≡ label_at c.self.inside.motions.items c.args.place =
     c.index.ensures ∙ get_or_default c.self.inside.motions.items c.args.place c.index.result.now Out (omega (arith, low, c.self.invariant.motions)) in
     let sum = sum_is c.self.inside _ c.args.place _ _ c.self.view_is c.requires (back ∙ read) (back2 ∙ c.share-share.ensures ∙ ap (share c.self.inside.shares) motion) in
@@ -31,7 +32,8 @@ returns-clause-dual c =
     let low : c.args.place < length c.self.inside.bases.items = base_place c.self.inside _ c.args.place c.self.view_is c.requires in
     let back : to_z w64 (of_z w64 c.index-2.result.now) ≡ c.index-2.result.now = search rules in
     let back2 : to_z w64 (of_z w64 c.share-share.result) ≡ c.share-share.result = search rules in
-    let read : c.index-2.result.now ≡ dual_at c.self.inside.bases.items c.args.place = c.index-2.ensures ∙ get_or_default c.self.inside.bases.items c.args.place c.index-2.result.now (pos 0) low in
+    let read : c.index-2.result.now ≡ dual_at c.self.inside.bases.items c.args.place = c.index-2.ensures
+    ∙ get_or_default c.self.inside.bases.items c.args.place c.index-2.result.now (pos 0) low in
     let motion : c.index.result.now ≡ label_at c.self.inside.motions.items c.args.place =
     c.index.ensures ∙ get_or_default c.self.inside.motions.items c.args.place c.index.result.now Out (omega (arith, low, c.self.invariant.motions)) in
     let sum = sum_is c.self.inside _ c.args.place _ _ c.self.view_is c.requires (back ∙ read) (back2 ∙ c.share-share.ensures ∙ ap (share c.self.inside.shares) motion) in

@@ -11,5 +11,6 @@ index-requires c = omega (arith, base_place c.self.inside _ c.args.place c.self.
 
 pub returns : goal.returns
 returns c =
-    c.index.ensures ∙ get_or_default c.self.inside.motions.items c.args.place c.index.result.now Out (omega (arith, base_place c.self.inside _ c.args.place c.self.view_is c.requires, c.self.invariant.motions))
+    c.index.ensures ∙ get_or_default c.self.inside.motions.items c.args.place c.index.result.now Out
+    (omega (arith, base_place c.self.inside _ c.args.place c.self.view_is c.requires, c.self.invariant.motions))
     ∙ ap (λ (t : DualTable). label_at t.motions c.args.place) c.self.view_is

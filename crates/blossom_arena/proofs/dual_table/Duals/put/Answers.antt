@@ -26,18 +26,21 @@ invariant_of-self c =
     let back : to_z w64 (of_z w64 c.base_of.result) ≡ c.base_of.result = search rules in
     let own : to_z w64 (of_z w64 c.args.y) ≡ c.args.y = search rules in
     let more : to_z w64 (of_z w64 c.share.result) ≡ c.share.result = search rules in
-    let base : to_z w64 (of_z w64 c.base_of.result) ≡ c.args.y -ℤ share c.self.inside.shares c.args.motion = back ∙ c.base_of.ensures ∙ ap₂ (λ (x z : ℤ). x -ℤ z) own (more ∙ c.share.ensures) in
+    let base : to_z w64 (of_z w64 c.base_of.result) ≡ c.args.y -ℤ share c.self.inside.shares c.args.motion = back ∙ c.base_of.ensures
+    ∙ ap₂ (λ (x z : ℤ). x -ℤ z) own (more ∙ c.share.ensures) in
     let bases : Vec ℤ = with_item c.self.inside.bases c.args.place (to_z w64 (of_z w64 c.base_of.result)) in
     let motions : Vec Label = with_item c.self.inside.motions c.args.place c.args.motion in
     let low = base_place c.self.inside _ c.args.place c.self.view_is c.requires.place in
-    table_put c.self.inside bases motions c.args.place c.args.y c.args.motion c.self.invariant low (ap (slice_set c.self.inside.bases.items c.args.place) base) (λ i. motions.items) c.requires.number
+    table_put c.self.inside bases motions c.args.place c.args.y c.args.motion c.self.invariant low (ap (slice_set c.self.inside.bases.items c.args.place) base)
+    (λ i. motions.items) c.requires.number
 
 pub returns-clause-values : goal.returns-clause-values
 returns-clause-values c =
     let back : to_z w64 (of_z w64 c.base_of.result) ≡ c.base_of.result = search rules in
     let own : to_z w64 (of_z w64 c.args.y) ≡ c.args.y = search rules in
     let more : to_z w64 (of_z w64 c.share.result) ≡ c.share.result = search rules in
-    let base : to_z w64 (of_z w64 c.base_of.result) ≡ c.args.y -ℤ share c.self.inside.shares c.args.motion = back ∙ c.base_of.ensures ∙ ap₂ (λ (x z : ℤ). x -ℤ z) own (more ∙ c.share.ensures) in
+    let base : to_z w64 (of_z w64 c.base_of.result) ≡ c.args.y -ℤ share c.self.inside.shares c.args.motion = back ∙ c.base_of.ensures
+    ∙ ap₂ (λ (x z : ℤ). x -ℤ z) own (more ∙ c.share.ensures) in
     let bases : Vec ℤ = with_item c.self.inside.bases c.args.place (to_z w64 (of_z w64 c.base_of.result)) in
     let motions : Vec Label = with_item c.self.inside.motions c.args.place c.args.motion in
     let low = base_place c.self.inside _ c.args.place c.self.view_is c.requires.place in

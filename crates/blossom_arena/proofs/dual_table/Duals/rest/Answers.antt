@@ -7,5 +7,6 @@ use Rattle.blossom_arena.proofs.dual_table.Duals.rest.Goals as goal
 pub returns-clause-motions : goal.returns-clause-motions
 returns-clause-motions c = λ a. ⊎_elim
     (λ (low : a < c.loop-place.place). c.loop-place.invariant.done a low)
-    (λ (high : c.loop-place.place ≤ a). get_or_past c.loop-place.self.motions a Out (omega (arith, high, c.loop-place-test.false, c.len-place-end.ensures.motions, c.loop-place.invariant.len)))
+    (λ (high : c.loop-place.place ≤ a). get_or_past c.loop-place.self.motions a Out
+    (omega (arith, high, c.loop-place-test.false, c.len-place-end.ensures.motions, c.loop-place.invariant.len)))
     (cases_lt a c.loop-place.place)

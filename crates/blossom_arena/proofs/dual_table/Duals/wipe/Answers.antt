@@ -17,4 +17,5 @@ returns c =
     let count : vec_len c.self.inside.bases ≡ length c.args.self.now.values =
     omega (arith, length-moved c.self.inside.shares c.self.inside.bases.items c.self.inside.motions.items, ap (λ (x : DualTable). length x.values) c.self.view_is) in
     let motions : vec_len c.self.inside.motions ≡ length c.args.self.now.values = omega (arith, c.self.invariant.motions, count) in
-    table_zero t (length c.args.self.now.values) (c.fill.ensures.items (λ y e. e) ∙ ap (λ (k : ℕ). replicate k (pos 0)) count) (c.fill-2.ensures.items (λ y e. e) ∙ ap (λ (k : ℕ). replicate k Out) motions) (search rules)
+    table_zero t (length c.args.self.now.values) (c.fill.ensures.items (λ y e. e) ∙ ap (λ (k : ℕ). replicate k (pos 0)) count)
+    (c.fill-2.ensures.items (λ y e. e) ∙ ap (λ (k : ℕ). replicate k Out) motions) (search rules)

@@ -12,12 +12,15 @@ use Rattle.blossom_arena.proofs.partition.Partition.put.Goals as goal
 pub returns-clause-placement : goal.returns-clause-placement
 returns-clause-placement c =
     let low = low_set c.self.inside c.args.self.now c.args.vertex c.self.view_is c.requires.vertex in
-    let low_offset : c.args.set < length c.self.inside.offsets.items = omega (arith, low_set c.self.inside c.args.self.now c.args.set c.self.view_is c.requires.set, c.self.invariant.offsets) in
+    let low_offset : c.args.set < length c.self.inside.offsets.items =
+    omega (arith, low_set c.self.inside c.args.self.now c.args.set c.self.view_is c.requires.set, c.self.invariant.offsets) in
     let sum : c.inner.result ≡ whole_at c.self.inside.bases.items c.self.inside.offsets.items c.self.inside.sets.items c.args.vertex =
     c.inner.ensures ∙ ap (λ (t : SetTables). (placement_of t).inner c.args.vertex) (sym c.self.view_is) in
-    let offset : c.index.result.now ≡ sum_at c.self.inside.offsets.items c.args.set = c.index.ensures ∙ get_or_default c.self.inside.offsets.items c.args.set c.index.result.now (pos 0) low_offset in
+    let offset : c.index.result.now ≡ sum_at c.self.inside.offsets.items c.args.set = c.index.ensures
+    ∙ get_or_default c.self.inside.offsets.items c.args.set c.index.result.now (pos 0) low_offset in
     let left : to_z w64 (((of_z w64 c.inner.result + of_z w64 c.args.y) % 18446744073709551616 + (18446744073709551616 - of_z w64 c.index.result.now)) % 18446744073709551616)
     ≡ int_wrap w64 (int_wrap w64 (c.inner.result +ℤ c.args.y) -ℤ c.index.result.now) = search (rules, wraps) in
-    put_is (tables_of c.self.inside) _ _ c.args.vertex c.args.set c.args.y low (omega (arith, low, c.self.invariant.bases)) (length-set c.self.inside.sets.items c.args.vertex c.args.set) refl
+    put_is (tables_of c.self.inside) _ _ c.args.vertex c.args.set c.args.y low (omega (arith, low, c.self.invariant.bases))
+    (length-set c.self.inside.sets.items c.args.vertex c.args.set) refl
     (ap (slice_set c.self.inside.bases.items c.args.vertex) (left ∙ ap₂ (λ (x z : ℤ). int_wrap w64 (int_wrap w64 (x +ℤ c.args.y) -ℤ z)) sum offset))
     ∙ ap (λ (t : SetTables). put_in (placement_of t) c.args.vertex c.args.set c.args.y) c.self.view_is

@@ -66,7 +66,8 @@ settle-requires-clause-order c =
     let x = (goal.at.settle-requires-clause-order c).After-wipe_place in
     let y = (goal.at.settle-requires-clause-order c).After-index-last in
     let a = c.self.inside in
-    left_order a.heap.items a.places.items a.count (a.count - 1) c.args.slot c.in-Some.place c.self.invariant.tables (one_less x) (slot_in x) (here x) c.index-last.result.now (read y (last_in x)) c.if-place-self.false c.self.invariant.order
+    left_order a.heap.items a.places.items a.count (a.count - 1) c.args.slot c.in-Some.place c.self.invariant.tables (one_less x) (slot_in x) (here x) c.index-last.result.now
+    (read y (last_in x)) c.if-place-self.false c.self.invariant.order
 
 pub returns : goal.returns
 returns c =
@@ -75,7 +76,8 @@ returns c =
     let a = c.self.inside in
     let entry = c.index-last.result.now in
     let p = c.in-Some.place in
-    let mended = subst (λ l. IsMended (set a.heap.items p entry) (set l entry.slot p) c.settle.new.heap.items c.settle.new.places.items (a.count - 1)) c.wipe_place.ensures.items c.settle.ensures in
+    let mended = subst (λ l. IsMended (set a.heap.items p entry) (set l entry.slot p) c.settle.new.heap.items c.settle.new.places.items (a.count - 1))
+    c.wipe_place.ensures.items c.settle.ensures in
     left_entries a.heap.items a.places.items a.count (a.count - 1) c.args.slot p c.self.invariant.tables (one_less x) (slot_in x) (here x) entry (read y (last_in x)) c.if-place-self.false
     c.settle.new.heap.items c.settle.new.places.items mended
     ∙ ap (λ (xs : List (Option ℤ)). set xs c.args.slot None) c.self.view_is

@@ -8,7 +8,7 @@ use Rattle.edge_queue.specs.declared.entry.Entry.{Entry}
 use Rattle.edge_queue.specs.Heaps.{blank, key, IsPlaceOf}
 use Rattle.edge_queue.proofs.EntryAt.{entry_at}
 use Rattle.edge_queue.proofs.Exchanges.{key_by}
-use Rattle.edge_queue.proofs.Changes.{slot_within, kept_entries, given_tables, given_order, given_entries, added_tables, added_entries}
+use Rattle.edge_queue.proofs.Changes.{slot_within, kept_entries, given_tables, given_entries, added_tables, added_entries}
 use Rattle.edge_queue.proofs.heap.IndexedHeap.set.Goals as goal
 use Rattle.edge_queue.proofs.heap.IndexedHeap.set.Goals.{In-Some, In_default}
 
@@ -55,25 +55,18 @@ returns-then-keeps c =
     subst (λ (xs : List (Option ℤ)). xs ≡ set xs c.args.slot (Some c.args.moment)) c.self.view_is
     (kept_entries a.heap.items a.places.items a.count c.args.slot p c.args.moment (omega (arith, slot_there x, t.inverse.sizes)) (here x) moment)
 
-pub settle-requires-clause-tables : goal.settle-requires-clause-tables
-settle-requires-clause-tables c =
-    let x = (goal.at.settle-requires-clause-tables c).In-Some in
+pub renew-requires-clause-tables : goal.renew-requires-clause-tables
+renew-requires-clause-tables c =
+    let x = (goal.at.renew-requires-clause-tables c).In-Some in
     let a = c.self.inside in
     let entry : Entry = record { moment = to_z w64 (of_z w64 c.args.moment); age = c.take_age-age-2.result; slot = c.args.slot } in
     given_tables a.heap.items a.places.items a.count c.in-Some.place entry c.self.invariant.tables (slot_there x) (here x)
-
-pub settle-requires-clause-order : goal.settle-requires-clause-order
-settle-requires-clause-order c =
-    let x = (goal.at.settle-requires-clause-order c).In-Some in
-    let a = c.self.inside in
-    let entry : Entry = record { moment = to_z w64 (of_z w64 c.args.moment); age = c.take_age-age-2.result; slot = c.args.slot } in
-    given_order a.heap.items a.places.items a.count c.in-Some.place entry c.self.invariant.tables (slot_there x) (here x) c.self.invariant.order
 
 pub returns : goal.returns
 returns c =
     let x = (goal.at.returns c).In-Some in
     let a = c.self.inside in
     let entry : Entry = record { moment = to_z w64 (of_z w64 c.args.moment); age = c.take_age-age-2.result; slot = c.args.slot } in
-    given_entries a.heap.items a.places.items a.count c.in-Some.place entry c.self.invariant.tables (slot_there x) (here x) c.settle.new.heap.items c.settle.new.places.items c.settle.ensures
+    given_entries a.heap.items a.places.items a.count c.in-Some.place entry c.self.invariant.tables (slot_there x) (here x) c.renew.new.heap.items c.renew.new.places.items c.renew.ensures
     ∙ ap (λ (xs : List (Option ℤ)). set xs c.args.slot (Some entry.moment)) c.self.view_is
     ∙ ap (λ (z : ℤ). set c.args.self.now c.args.slot (Some z)) (to_z-of_z w64 c.args.moment c.ranges.moment)

@@ -1,0 +1,49 @@
+use Rattle.std.proofs.Common.{◌≡◌, ℕ, ◌-◌, ◌*◌, ◌<◌, List, length, Option, Some, None, sym, subst, arith}
+use Rattle.std.specs.Prelude.{IfSome}
+use Rattle.std.proofs.lemmas.Option.{same_Some}
+use Rattle.alt_forest.specs.Trees.{path_of}
+use Rattle.alt_forest.specs.Searches.{state_of}
+use Rattle.alt_forest.specs.Routes.{IsAt}
+use Rattle.alt_forest.proofs.Relabelled.{some_not_none}
+use Rattle.alt_forest.proofs.Routes.{at_within, heights_differ, way_few}
+use Rattle.alt_forest.proofs.meet.heights.Goals as goal
+
+-- the node that comes after those that were counted
+comes_after : (o : Option ℕ) (xs ys : List ℕ) (k n x : ℕ) → IfSome o (λ y. (k ≡ n) × IsAt xs n y) → o ≡ Some x → xs ≡ ys → (k ≡ n) × IsAt ys k x
+comes_after None xs ys k n x e has same = some_not_none x (sym has)
+comes_after (Some y) xs ys k n x e has same = (e.0, subst (λ zs. IsAt zs k x) same (subst (λ j. IsAt xs j x) (sym e.0) (subst (IsAt xs n) (same_Some y x has) e.1)))
+
+less_left : (n k : ℕ) → k < n → 0 < k → n - k * 2 < n - k
+less_left n k within some = omega (arith, within, some)
+
+pub count-requires : goal.count-requires
+count-requires c =
+    subst (λ (xs : List ℕ). length xs < 4294967296) (sym c.path_to_root-in_default.ensures.path)
+    (omega (arith, way_few c.args.search.now c.args.b c.requires.sound c.requires.b_outermost))
+
+pub returns-in-Some-place_of : goal.returns-in-Some-place_of
+returns-in-Some-place_of c =
+    let s = c.args.search.now in
+    let at_a = comes_after c.counted-left.result.1 _ (path_of (state_of s) c.args.a) c.counted-left.result.0 c.loop-node.reach c.in-Some.node c.counted-left.ensures.goes_on c.in-Some.is
+    c.path_to_root.ensures.path in
+    heights_differ s c.args.a c.args.b c.counted-left.result.0 c.in-Some-place_of.right c.in-Some.node c.requires.sound c.requires.a_outermost c.requires.b_outermost at_a.1
+    (subst (λ (xs : List ℕ). IsAt xs c.in-Some-place_of.right c.in-Some.node) c.path_to_root-in-loop-node.ensures.path c.in-Some-place_of.ensures.found)
+
+pub loop-node-smaller : goal.loop-node-smaller
+loop-node-smaller c =
+    let s = c.args.search.now in
+    let at_a = comes_after c.counted-left.result.1 _ (path_of (state_of s) c.args.a) c.counted-left.result.0 c.loop-node.reach c.in-Some.node c.counted-left.ensures.goes_on c.in-Some.is
+    c.path_to_root.ensures.path in
+    let within = at_within (path_of (state_of s) c.args.a) c.counted-left.result.0 c.in-Some.node at_a.1 in
+    less_left (length (path_of (state_of s) c.args.a)) c.loop-node.reach (omega (arith, within, at_a.0)) c.loop-node.invariant.some
+
+pub loop-node-preserved : goal.loop-node-preserved
+loop-node-preserved c =
+    let s = c.args.search.now in
+    let at_a = comes_after c.counted-left.result.1 _ (path_of (state_of s) c.args.a) c.counted-left.result.0 c.loop-node.reach c.in-Some.node c.counted-left.ensures.goes_on c.in-Some.is
+    c.path_to_root.ensures.path in
+    let within = at_within (path_of (state_of s) c.args.a) c.counted-left.result.0 c.in-Some.node at_a.1 in
+    record {
+      some = omega (arith, c.loop-node.invariant.some);
+      low = omega (arith, within, at_a.0, way_few s c.args.a c.requires.sound c.requires.a_outermost);
+    }
