@@ -4,3 +4,4 @@ pub mod StepLemmas
 pub mod EndLemmas
 pub mod ReadingLemmas
 pub mod ReadyLemmas
+pub mod PlainLemmas

@@ -331,18 +331,10 @@ module _ (rs : List Row) (k : ℕ) (row : Row) (more : List Row) (at : drop k rs
 instance_turn : (row : Row) (more : List Row) → is_solution row ≡ false → instance_rows (row ∷ more) ≡ row ∷ instance_rows more
 instance_turn row more h = rw h refl
 
-instance_end : (row : Row) (more : List Row) → is_solution row ≡ true → instance_rows (row ∷ more) ≡ []
-instance_end row more h = rw h refl
-
 pub turn_at : (rs : List Row) (k : ℕ) (rest text after : List ℕ) (six : Row) → drop k rs ≡ instance_rows (rows rest) → lines rest ≡ text ∷ lines after → six ≡ take 6 (fields text) →
     is_solution six ≡ false → drop k rs ≡ fields text ∷ instance_rows (rows after)
 turn_at rs k rest text after six left e s h =
     left ∙ ap (λ (ls : List (List ℕ)). instance_rows (map fields ls)) e ∙ instance_turn (fields text) (rows after) (sym (is_solution-six (fields text)) ∙ ap is_solution (sym s) ∙ h)
-
-pub end_at : (rs : List Row) (k : ℕ) (rest text after : List ℕ) (six : Row) → drop k rs ≡ instance_rows (rows rest) → lines rest ≡ text ∷ lines after → six ≡ take 6 (fields text) →
-    is_solution six ≡ true → drop k rs ≡ []
-end_at rs k rest text after six left e s h =
-    left ∙ ap (λ (ls : List (List ℕ)). instance_rows (map fields ls)) e ∙ instance_end (fields text) (rows after) (sym (is_solution-six (fields text)) ∙ ap is_solution (sym s) ∙ h)
 
 -- ---- the end of the lines
 

@@ -4,4 +4,6 @@ pub mod Format
 pub mod Rest
 pub mod Line
 pub mod Reading
+pub mod Plain
+pub mod Turn
 pub mod Law

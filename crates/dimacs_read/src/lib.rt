@@ -9,6 +9,7 @@ mod error;
 mod keep;
 mod law;
 mod line;
+mod plain;
 mod reader;
 mod rest;
 mod rule;

@@ -9,12 +9,14 @@ ghost use Rattle.mb_problem.specs.Ready.{IsReady};
 ghost use Rattle.dimacs_read.specs.Rows.{instance_rows, is_header, is_edge, is_solution};
 ghost use Rattle.dimacs_read.specs.Format.{line_fault, value_or};
 ghost use Rattle.dimacs_read.specs.Line.{sizes, field_list, HasFewVertices, HasValues, is_valued};
+ghost use Rattle.dimacs_read.specs.Turn.{GivesTurn};
 ghost use Rattle.dimacs_read.specs.Reading.{GivesLine, Reads, ReadsLines, IsDraft, negative_after};
 
 use crate::end::end_fault;
 use crate::error::InstanceError;
 use crate::keep::{Line, keep_line, with_default};
 use crate::line::{Header, read_edge, read_header, read_node};
+use crate::plain::plain_edge;
 use crate::rest::Rest;
 use crate::rule::Rule;
 use arrayvec::ArrayVec;
@@ -88,6 +90,46 @@ fn first_negative(earlier: Option<u64>, line: &Line, place: u64) -> Option<u64>
     }
 }
 
+/// What the next line of an instance is, and what follows it.
+#[derive(Clone, Copy)]
+pub enum Turn<'a> {
+    /// There is no line more, or the next is the first of a document.
+    Ended,
+    Broken(Rule),
+    Found(Line, &'a [u8]),
+}
+
+/// The next line, whatever it is.
+fn any_turn<'a>(earlier: Option<Header>, values: &[Option<u32>], rest: &'a [u8]) -> Turn<'a>
+    requires few { HasFewVertices earlier }
+    requires room { HasValues earlier (length values.now) }
+    ensures { GivesTurn earlier (is_valued values.now) (length values.now) rest.now result }
+{
+    let Some((text, after)) = next_line(rest) else {
+        return Turn::Ended;
+    };
+    if begins_solution(text) {
+        return Turn::Ended;
+    }
+    let row = some_fields(text);
+    match read_line(earlier, values, &row) {
+        Err(rule) => Turn::Broken(rule),
+        Ok(found) => Turn::Found(found, after),
+    }
+}
+
+/// The next line: in one pass over its bytes where it is a plain edge line.
+fn next_turn<'a>(earlier: Option<Header>, values: &[Option<u32>], rest: &'a [u8]) -> Turn<'a>
+    requires few { HasFewVertices earlier }
+    requires room { HasValues earlier (length values.now) }
+    ensures { GivesTurn earlier (is_valued values.now) (length values.now) rest.now result }
+{
+    match plain_edge(earlier, rest) {
+        Some((edge, after)) => Turn::Found(Line::Edge(edge), after),
+        None => any_turn(earlier, values, rest),
+    }
+}
+
 /// What the lines of an instance say, and what follows them.
 #[derive(Drop)]
 pub struct Draft<'a> {
@@ -109,25 +151,22 @@ fn read_lines<'a>(alloc: Global, bytes: &'a [u8]) -> Result<Draft<'a>, InstanceE
     let mut negative: Option<u64> = None;
     let mut rest = bytes;
     let mut line = 0u64;
-    'lines: while let Some((text, after)) = next_line(rest) {
-        if begins_solution(text) {
-            break;
-        }
-        let row = some_fields(text);
-        match read_line(header, &values, &row) {
-            Err(rule) => {
+    'lines: while !rest.is_empty() {
+        match next_turn(header, &values, rest) {
+            Turn::Ended => break,
+            Turn::Broken(rule) => {
                 return Err(InstanceError::Malformed {
                     rule,
                     line: line + 1,
                 });
             }
-            Ok(found) => {
+            Turn::Found(found, after) => {
                 negative = first_negative(negative, &found, line);
                 keep_line(alloc, &mut header, &mut values, &mut edges, found)?;
+                line += 1;
+                rest = after;
             }
         }
-        line += 1;
-        rest = after;
     }
     Ok(Draft {
         header,

@@ -1,0 +1,8 @@
+use Rattle.std.proofs.Common.{length}
+use Rattle.dimacs_read.specs.Line.{is_valued}
+use Rattle.dimacs_read.proofs.reader.next_turn.Goals as goal
+
+pub returns-in-Some : goal.returns-in-Some
+returns-in-Some c =
+    let plain = c.in-Some.ensures in
+    (plain.text, plain.begins, plain.given (is_valued c.args.values.now) (length c.args.values.now))
