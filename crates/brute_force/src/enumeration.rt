@@ -98,8 +98,6 @@ pub fn best(alloc: Global, instance: &Instance, kind: Kind) -> Result<Option<Ans
     requires few { digit_lists (mosts kind instance.now) ≤ TRIAL_LIMIT }
     ensures { IfOk result (IsBestOrNone kind instance.now) }
 {
-    // The prover learns here that the instance is valid.
-    let _edges = instance.edges();
     let mosts = mosts(alloc, instance, kind)?;
     let count = list_count(&mosts);
     let mut found = None;

@@ -1,6 +1,6 @@
 ghost use Rattle.std.specs.Prelude.{◌≡◌, ◌≤◌, min, All, IfOk};
 ghost use Rattle.graph_theory.specs.Graph.{IsEdgeWithin};
-ghost use Rattle.mb_problem.specs.Network.{vertices, plain, value_of};
+ghost use Rattle.mb_problem.specs.Network.{IsNetwork, vertices, plain, value_of};
 ghost use Rattle.mb_problem.specs.Size.{bounded, most_by};
 ghost use Rattle.mb_problem.specs.declared.limits.TheConstants.{VALUE_LIMIT};
 ghost use Rattle.brute_force.specs.Best.{most_of, mosts};
@@ -59,6 +59,7 @@ fn most_of(instance: &Instance, kind: Kind, edge: &InstanceEdge) -> u32
 pub fn mosts(alloc: Global, instance: &Instance, kind: Kind) -> Result<Vec<u32>, OutOfMemory>
     ensures mosts { IfOk result (λ v. v.items ≡ mosts kind instance.now) }
     ensures small { IfOk result (λ v. All (λ most. most ≤ VALUE_LIMIT) v.items) }
+    ensures network { IsNetwork instance.now }
 {
     let mut list = Vec::new(alloc);
     for edge in instance.edge_list() {

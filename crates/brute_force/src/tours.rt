@@ -3,7 +3,7 @@ ghost use Rattle.graph_theory.specs.Graph.{weight};
 ghost use Rattle.mb_problem.specs.declared.answer.Parity.TheVariants.{OddDegrees};
 ghost use Rattle.mb_problem.specs.declared.kind.Kind.TheVariants.{Postman};
 ghost use Rattle.mb_problem.specs.Feasible.{AtMostOnce};
-ghost use Rattle.mb_problem.specs.Network.{graph_of, vertices};
+ghost use Rattle.mb_problem.specs.Network.{IsNetwork, graph_of, vertices};
 ghost use Rattle.mb_problem.specs.Size.{odd_at};
 ghost use Rattle.brute_force.specs.Best.{mosts};
 ghost use Rattle.brute_force.specs.Digits.{digit_lists};
@@ -33,7 +33,8 @@ fn odd_degrees(alloc: Global, instance: &Instance) -> Result<Vec<u32>, OutOfMemo
 
 /// The edges of an instance, copied.
 fn copied_edges(alloc: Global, instance: &Instance) -> Result<Vec<InstanceEdge>, OutOfMemory>
-    ensures { IfOk result (λ edges. edges.items ≡ instance.now.edges) }
+    ensures edges { IfOk result (λ edges. edges.items ≡ instance.now.edges) }
+    ensures network { IsNetwork instance.now }
 {
     let mut edges = Vec::new(alloc);
     for edge in instance.edge_list() {
@@ -49,8 +50,6 @@ fn with_odd_degrees(alloc: Global, instance: &Instance) -> Result<Instance, OutO
     ensures each { IfOk result (λ i. (k : ℕ) → k < vertices instance.now → slice_index i.values k
         ≡ odd_at OddDegrees instance.now (k + 1)) }
 {
-    // The prover learns here that the instance is valid.
-    let _edges = instance.edges();
     let edges = copied_edges(alloc, instance)?;
     let values = odd_degrees(alloc, instance)?;
     Ok(Instance::from_parts(alloc, edges, values))

@@ -67,10 +67,10 @@ pub fn walk_of(
     requires { IfSome walk.now (IsWalkWithin (vertices instance.now) (length instance.now.edges)) }
     ensures { IfOk result (λ a. a ≡ walk_of walk.now) }
 {
-    let _ = instance.vertices();
     let Some(w) = walk else {
         return Ok(Answer::Nothing);
     };
+    prove!(w.start <= i64::from(instance.vertices()));
     let start = VertexId::new(natural(w.start));
     let edges = Sequence::from_vec(edges_of(alloc, w.edges.as_slice())?);
     Ok(Answer::Walk { start, edges })

@@ -10,7 +10,7 @@ ghost use Rattle.certificates.specs.Certificates.{HasOddPart, HasSplitPart, HasW
 use crate::claims::members_of;
 use doc_format::Document;
 use mb_base::{OutOfMemory, VertexId};
-use mb_problem::{Exclusion, Instance, Kind};
+use mb_problem::{Exclusion, Instance, Kind, VERTEX_LIMIT, mark};
 use std::alloc::Global;
 
 /// Marks for the vertices from 1 to `n`: those that are listed.
@@ -20,7 +20,7 @@ fn marks_of(alloc: Global, n: u32, members: &[VertexId]) -> Result<Vec<bool>, Ou
 {
     let mut marks = vec![in alloc; false; n as usize]?;
     for v in members {
-        marks[v.number() as usize - 1] = true;
+        mark(&mut marks, v.number());
     }
     Ok(marks)
 }
@@ -121,10 +121,11 @@ fn has_odd_part(
     instance: &Instance,
     document: &Document,
 ) -> Result<bool, OutOfMemory>
-    requires { IfSome document.now.odd (λ t. All (IsUpTo (vertices instance.now)) t.members) }
+    requires network { IsNetwork instance.now }
+    requires within { IfSome document.now.odd
+        (λ t. All (IsUpTo (vertices instance.now)) t.members) }
     ensures { IfOk result (λ b. IsTrue b ↔ HasOddPart instance.now document.now) }
 {
-    let _ = instance.vertices();
     let Some(t) = &document.odd else {
         return Ok(false);
     };
@@ -138,10 +139,11 @@ fn has_split_part(
     instance: &Instance,
     document: &Document,
 ) -> Result<bool, OutOfMemory>
-    requires { IfSome document.now.split (λ q. All (IsUpTo (vertices instance.now)) q.members) }
+    requires network { IsNetwork instance.now }
+    requires within { IfSome document.now.split
+        (λ q. All (IsUpTo (vertices instance.now)) q.members) }
     ensures { IfOk result (λ b. IsTrue b ↔ HasSplitPart instance.now document.now) }
 {
-    let _ = instance.vertices();
     let Some(q) = &document.split else {
         return Ok(false);
     };
@@ -160,7 +162,7 @@ pub fn has_wanted_part(
     ensures exact { IfOk result (λ b. IsTrue b ↔ HasWantedPart kind instance.now document.now) }
     ensures network { IsNetwork instance.now }
 {
-    let _ = instance.vertices();
+    prove!(instance.vertices() <= VERTEX_LIMIT);
     match kind.exclusion() {
         Exclusion::OddPart => has_odd_part(alloc, instance, document),
         Exclusion::SplitPart => has_split_part(alloc, instance, document),

@@ -5,6 +5,7 @@ ghost use Rattle.certificates.specs.Claims.{numbers, set_of};
 ghost use Rattle.certificates.specs.Within.{IsUpTo, IsSetLineWithin};
 
 use doc_format::{SetLine, is_ascending};
+use dual_check::is_odd_set_size;
 use graph_theory::GRAPH_VERTEX_LIMIT;
 
 /// Whether the members of a line are an odd number of at least three, ascending.
@@ -12,10 +13,7 @@ fn has_form(members: &[i64]) -> bool
     requires { All (IsUpTo GRAPH_VERTEX_LIMIT) members.now }
     ensures { IsTrue result ↔ HasForm (numbers members.now) }
 {
-    if members.len() < 3 {
-        return false;
-    }
-    if members.len() % 2 != 1 {
+    if !is_odd_set_size(members.len()) {
         return false;
     }
     is_ascending(members)

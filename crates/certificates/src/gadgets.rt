@@ -11,7 +11,7 @@ use gadget_match::{copies, double};
 use gadget_tjoin::ports;
 use graph_theory::GRAPH_VERTEX_LIMIT;
 use mb_base::OutOfMemory;
-use mb_problem::{GadgetForm, Instance, Kind, Parity, size_by};
+use mb_problem::{GadgetForm, Instance, Kind, Parity, VERTEX_LIMIT, size_by};
 use std::alloc::Global;
 use weighted_graph::Graph;
 
@@ -37,7 +37,7 @@ fn build(alloc: Global, instance: &Instance, kind: Kind) -> Result<Graph, OutOfM
     ensures reached { IfOk result (λ h. ReachesAll kind instance.now) }
     ensures network { IsNetwork instance.now }
 {
-    let _ = instance.vertices();
+    prove!(instance.vertices() <= VERTEX_LIMIT);
     match kind {
         Kind::Perfect => instance.graph(),
         Kind::Match => double(alloc, instance),
@@ -64,7 +64,6 @@ pub fn certified(alloc: Global, instance: &Instance, kind: Kind) -> Result<Graph
     ensures network { IsNetwork instance.now }
 {
     let graph = build(alloc, instance, kind)?;
-    // The prover learns here that the graph is one.
-    let _ = graph.vertices();
+    prove!(graph.vertices() <= GRAPH_VERTEX_LIMIT);
     Ok(graph)
 }

@@ -1,5 +1,6 @@
 -- The edges of a circuit are an even set, and so is a join without a path between its two odd vertices.
-use Rattle.std.proofs.Common.{◌≡◌, ◌≢◌, ℕ, ◌+◌, ◌-◌, ◌*◌, ◌%◌, ◌<◌, ◌≤◌, ℤ, pos, ◌+ℤ◌, ◌*ℤ◌, ◌≤ℤ◌, cond, eqb, refl, ap, sym, ◌∙◌, inl, inr, arith, List, length, slice_index}
+use Rattle.std.proofs.Common.{◌≡◌, ◌≢◌, ℕ, ◌+◌, ◌-◌, ◌*◌, ◌%◌, ◌<◌, ◌≤◌, ℤ, pos, ◌+ℤ◌, ◌*ℤ◌, ◌≤ℤ◌, cond, eqb, refl, ap, sym}
+use Rattle.std.proofs.Common.{◌∙◌, inl, inr, arith, List, length, slice_index}
 use Rattle.std.proofs.lemmas.Int.{ints}
 use Rattle.std.proofs.lemmas.Bool.{cases_eq, eq-eqb, ne_eqb}
 use Rattle.graph_theory.specs.Graph.{Multigraph, edge_at, ends_at, degree, weight}
@@ -69,11 +70,13 @@ split g total way below =
     record {
       degrees = λ v.
           let at : ℕ → ℕ = λ k. ends_at (edge_at g k) v in
-          sum_to-same (λ k. slice_index total k * at k) (λ k. rest k * at k + used k * at k) m (λ k b. parts (slice_index total k) (times way (k + 1)) (at k) (rest k) (used k) (below k b) (is k b) (times_each-at g way k b))
+          sum_to-same (λ k. slice_index total k * at k) (λ k. rest k * at k + used k * at k) m
+          (λ k b. parts (slice_index total k) (times way (k + 1)) (at k) (rest k) (used k) (below k b) (is k b) (times_each-at g way k b))
           ∙ sum_to-add (λ k. rest k * at k) (λ k. used k * at k) m;
       weights =
           let w : ℕ → ℤ = λ k. (edge_at g k).w in
-          int_sum_to-same (λ k. pos (slice_index total k) *ℤ w k) (λ k. pos (rest k) *ℤ w k +ℤ pos (used k) *ℤ w k) m (λ k b. int_parts (slice_index total k) (times way (k + 1)) (rest k) (used k) (w k) (below k b) (is k b) (times_each-at g way k b))
+          int_sum_to-same (λ k. pos (slice_index total k) *ℤ w k) (λ k. pos (rest k) *ℤ w k +ℤ pos (used k) *ℤ w k) m
+          (λ k b. int_parts (slice_index total k) (times way (k + 1)) (rest k) (used k) (w k) (below k b) (is k b) (times_each-at g way k b))
           ∙ int_sum_to-add (λ k. pos (rest k) *ℤ w k) (λ k. pos (used k) *ℤ w k) m;
     }
 
@@ -88,7 +91,9 @@ between s t v apart =
       ]
     ]
 
-rest-even : (i : Network) (s t : ℕ) (total way : List ℕ) → IsNetwork i → s ≢ t → IsOddJoin i (odd_between s t) total → ((k : ℕ) → k < length (graph_of i).edges → slice_index total k ≤ 1) → IsWalk (graph_of i) s way → walk_end (graph_of i) s way ≡ t → ((k : ℕ) → k < length (graph_of i).edges → times way (k + 1) ≤ slice_index total k) → IsJoinOf Empty i (without total way (length (graph_of i).edges))
+rest-even : (i : Network) (s t : ℕ) (total way : List ℕ) → IsNetwork i → s ≢ t → IsOddJoin i (odd_between s t) total
+    → ((k : ℕ) → k < length (graph_of i).edges → slice_index total k ≤ 1) → IsWalk (graph_of i) s way → walk_end (graph_of i) s way ≡ t
+    → ((k : ℕ) → k < length (graph_of i).edges → times way (k + 1) ≤ slice_index total k) → IsJoinOf Empty i (without total way (length (graph_of i).edges))
 rest-even i s t total way ok apart join small walk arrives below =
     let g = graph_of i in
     let m = length g.edges in
@@ -104,7 +109,9 @@ rest-even i s t total way ok apart join small walk arrives below =
     }
 
 -- a path within a join weighs no more than the join where no even set weighs less than 0
-pub path-weighs : (i : Network) (s t : ℕ) (join way : List ℕ) → IsNetwork i → s ≢ t → ListsJoin i (odd_between s t) join → IsWalk (graph_of i) s way → walk_end (graph_of i) s way ≡ t → ((k : ℕ) → k < length (graph_of i).edges → times way (k + 1) ≤ slice_index (listed_counts join (length i.edges)) k) → HasNoNegativeEvenSet i → walk_weight (graph_of i) way ≤ℤ walk_weight (graph_of i) join
+pub path-weighs : (i : Network) (s t : ℕ) (join way : List ℕ) → IsNetwork i → s ≢ t → ListsJoin i (odd_between s t) join → IsWalk (graph_of i) s way
+    → walk_end (graph_of i) s way ≡ t → ((k : ℕ) → k < length (graph_of i).edges → times way (k + 1) ≤ slice_index (listed_counts join (length i.edges)) k)
+    → HasNoNegativeEvenSet i → walk_weight (graph_of i) way ≤ℤ walk_weight (graph_of i) join
 path-weighs i s t join way ok apart lists walk arrives below even =
     let g = graph_of i in
     let m = length g.edges in

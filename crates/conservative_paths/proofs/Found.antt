@@ -1,5 +1,6 @@
 -- What the searches find: a path where nothing is left at its end, and a circuit where the path comes back.
-use Rattle.std.proofs.Common.{◌≡◌, ◌≢◌, ℕ, ◌+◌, ◌-◌, ◌<◌, ◌≤◌, pos, ◌+ℤ◌, ◌<ℤ◌, cond, eqb, refl, ap, sym, ◌∙◌, subst, inl, inr, true, arith, List, [], length, slice_index, take, drop, length-drop, take-append-drop, All}
+use Rattle.std.proofs.Common.{◌≡◌, ◌≢◌, ℕ, ◌+◌, ◌-◌, ◌<◌, ◌≤◌, pos, ◌+ℤ◌, ◌<ℤ◌, cond, eqb, refl, ap, sym, ◌∙◌, subst, inl, inr, true, arith}
+use Rattle.std.proofs.Common.{List, [], length, slice_index, take, drop, length-drop, take-append-drop, All}
 use Rattle.std.proofs.lemmas.Int.{ints}
 use Rattle.std.proofs.lemmas.Bool.{cases_Bool, cases_lt}
 use Rattle.graph_theory.specs.Graph.{Multigraph, IsEdgeWithin, IsEdgeNumber, weight, CountsNoneAt, edge_of, touches}
@@ -24,11 +25,13 @@ use Rattle.conservative_paths.proofs.Steps.{places-differ, closed-below, closed-
 
 -- a walk of no edges over a set
 
-pub join-even : (i : Network) (join : List ℕ) → ListsJoin i (odd_at Empty i) join → walk_weight (graph_of i) join <ℤ pos 0 → IsNegativeEven (graph_of i) (listed_counts join (length i.edges))
+pub join-even : (i : Network) (join : List ℕ) → ListsJoin i (odd_at Empty i) join → walk_weight (graph_of i) join <ℤ pos 0
+    → IsNegativeEven (graph_of i) (listed_counts join (length i.edges))
 join-even i join lists negative =
     let g = graph_of i in
     let size = edges-count i in
-    let whole : weight g (listed_counts join (length i.edges)) ≡ walk_weight g join = ap (λ (n : ℕ). weight g (listed_counts join n)) (sym size) ∙ listed-weight g join lists.ascending lists.in_range in
+    let whole : weight g (listed_counts join (length i.edges)) ≡ walk_weight g join =
+    ap (λ (n : ℕ). weight g (listed_counts join n)) (sym size) ∙ listed-weight g join lists.ascending lists.in_range in
     record {
       small = λ k b. listed-small join (length i.edges) k (omega (arith, size, b));
       even = λ v low high. lists.join.degrees v low high;
@@ -37,7 +40,8 @@ join-even i join lists negative =
 
 -- at its end a path between the two odd vertices has come to the other one
 
-pub path-found : (i : Network) (s t : ℕ) (join left : List ℕ) (trail : Trail) → IsNetwork i → s ≢ t → IsOpen (graph_of i) (listed_counts join (length i.edges)) left s t trail → CountsNoneAt (graph_of i) left trail.here → IsPathWithin (graph_of i) join s t s trail.edges.items
+pub path-found : (i : Network) (s t : ℕ) (join left : List ℕ) (trail : Trail) → IsNetwork i → s ≢ t → IsOpen (graph_of i) (listed_counts join (length i.edges)) left s t trail
+    → CountsNoneAt (graph_of i) left trail.here → IsPathWithin (graph_of i) join s t s trail.edges.items
 path-found i s t join left trail ok apart r settled =
     let g = graph_of i in
     let total = listed_counts join (length i.edges) in
@@ -50,12 +54,15 @@ path-found i s t join left trail ok apart r settled =
       arrives = arrives;
       some = apart-some g s t trail.edges.items apart arrives;
       no_vertex_twice = subst AllDiffer r.vertices (places-differ trail.place.items trail.vertices.items r.trail.places);
-      within = within-listed g join trail.edges.items (length i.edges) (sym (edges-count i)) (walk-numbers g s trail.edges.items way.walk) (λ k b. let s = way.shared k b in omega (arith, s));
+      within = within-listed g join trail.edges.items (length i.edges) (sym (edges-count i)) (walk-numbers g s trail.edges.items way.walk)
+          (λ k b. let s = way.shared k b in omega (arith, s));
     }
 
 -- a circuit
 
-pub circuit-found : (g : Multigraph) (total left : List ℕ) (base target place : ℕ) (t : Trail) → All (IsEdgeWithin g.vertices) g.edges → ((k : ℕ) → k < length g.edges → slice_index total k ≤ 1) → IsClosed g total left base target place t → walk_weight g (drop place t.edges.items) <ℤ pos 0 → IsNegativeOver g total t.here (drop place t.edges.items)
+pub circuit-found : (g : Multigraph) (total left : List ℕ) (base target place : ℕ) (t : Trail) → All (IsEdgeWithin g.vertices) g.edges
+    → ((k : ℕ) → k < length g.edges → slice_index total k ≤ 1) → IsClosed g total left base target place t → walk_weight g (drop place t.edges.items) <ℤ pos 0
+    → IsNegativeOver g total t.here (drop place t.edges.items)
 circuit-found g total left base target place t ends small r negative =
     let front = take place t.edges.items in
     let rest = drop place t.edges.items in
@@ -65,23 +72,28 @@ circuit-found g total left base target place t ends small r negative =
     let D : List ℕ → Type 0 = λ es. AllDiffer (walk_left g base es) in
     let differ : AllDiffer (walk_left g base t.edges.items) = subst AllDiffer r.vertices (places-differ t.place.items t.vertices.items r.trail.places) in
     record {
-      circuit = way-circuit g total left base target t.here front rest ends small parts (subst D (sym (take-append-drop place t.edges.items)) differ) home (omega (arith, below, length-drop place t.edges.items));
+      circuit = way-circuit g total left base target t.here front rest ends small parts (subst D (sym (take-append-drop place t.edges.items)) differ) home
+          (omega (arith, below, length-drop place t.edges.items));
       within = way-within g total left base target t.here front rest parts;
       negative = negative;
     }
 
-pub circuit-within : (i : Network) (join counts : List ℕ) (start : ℕ) (edges : List ℕ) → ((k : ℕ) → k < length (graph_of i).edges → slice_index counts k ≤ slice_index (listed_counts join (length i.edges)) k) → IsNegativeOver (graph_of i) counts start edges → IsNegativeCircuitWithin (graph_of i) join start edges
+pub circuit-within : (i : Network) (join counts : List ℕ) (start : ℕ) (edges : List ℕ)
+    → ((k : ℕ) → k < length (graph_of i).edges → slice_index counts k ≤ slice_index (listed_counts join (length i.edges)) k) → IsNegativeOver (graph_of i) counts start edges
+    → IsNegativeCircuitWithin (graph_of i) join start edges
 circuit-within i join counts start edges fewer is =
     let g = graph_of i in
     record {
       circuit = is.circuit;
-      within = within-listed g join edges (length i.edges) (sym (edges-count i)) (walk-numbers g start edges is.circuit.walk) (λ k b. let w = is.within k b in let f = fewer k b in omega (arith, w, f));
+      within = within-listed g join edges (length i.edges) (sym (edges-count i)) (walk-numbers g start edges is.circuit.walk)
+          (λ k b. let w = is.within k b in let f = fewer k b in omega (arith, w, f));
       negative = is.negative;
     }
 
 -- a path that is stuck at its start is empty, and what is left is even and weighs less than 0
 
-pub drained : (g : Multigraph) (total left : List ℕ) (base : ℕ) (t : Trail) → All (IsEdgeWithin g.vertices) g.edges → IsNegativeEven g total → IsOpen g total left base base t → (weight g left +ℤ walk_weight g t.edges.items) <ℤ pos 0 → CountsNoneAt g left t.here → IsDrained g base total left
+pub drained : (g : Multigraph) (total left : List ℕ) (base : ℕ) (t : Trail) → All (IsEdgeWithin g.vertices) g.edges → IsNegativeEven g total → IsOpen g total left base base t
+    → (weight g left +ℤ walk_weight g t.edges.items) <ℤ pos 0 → CountsNoneAt g left t.here → IsDrained g base total left
 drained g total left base t ends even r less settled =
     let way = r.trail.way in
     let home = stuck_at_target g total left base base t.here t.edges.items ends way r.trail.within settled in
@@ -106,7 +118,8 @@ drained g total left base t ends even r less settled =
 -- where none of the edges of a set is left nothing is
 
 -- where nothing is left at an end of the next edge of the list either, the counts of one edge more are 0
-pub one-more-gone : (g : Multigraph) (join old new : List ℕ) (base n : ℕ) → All (IsEdgeNumber g) join → IsDrained g base old new → n < length join → touches (edge_of g (slice_index join n)) base ≡ true
+pub one-more-gone : (g : Multigraph) (join old new : List ℕ) (base n : ℕ) → All (IsEdgeNumber g) join → IsDrained g base old new → n < length join
+    → touches (edge_of g (slice_index join n)) base ≡ true
     → ((j : ℕ) → j < n → slice_index old (slice_index join j - 1) ≡ 0) → (j : ℕ) → j < n + 1 → slice_index new (slice_index join j - 1) ≡ 0
 one-more-gone g join old new base n numbers drained there touched none j b =
     let number : IsEdgeNumber g (slice_index join j) = All-get_or (IsEdgeNumber g) join j 0 (omega (arith, b, there)) numbers in
@@ -120,13 +133,15 @@ one-more-gone g join old new base n numbers drained there touched none j b =
           drained.settled (slice_index join j - 1) inside (subst (λ (k : ℕ). touches (edge_of g (slice_index join k)) base ≡ true) same touched)
     ]
 
-pub all-gone : (i : Network) (join left : List ℕ) → ((k : ℕ) → k < length (graph_of i).edges → slice_index left k ≤ slice_index (listed_counts join (length i.edges)) k) → ((j : ℕ) → j < length join → slice_index left (slice_index join j - 1) ≡ 0) → weight (graph_of i) left ≡ pos 0
+pub all-gone : (i : Network) (join left : List ℕ) → ((k : ℕ) → k < length (graph_of i).edges → slice_index left k ≤ slice_index (listed_counts join (length i.edges)) k)
+    → ((j : ℕ) → j < length join → slice_index left (slice_index join j - 1) ≡ 0) → weight (graph_of i) left ≡ pos 0
 all-gone i join left fewer none =
     let size = edges-count i in
     weight-none (graph_of i) left (λ k b. elim (cases_Bool (holds join (k + 1))) [
       | inl on ↦
           let place = holds_place join (k + 1) on in
-          let at : slice_index left (slice_index join place.0 - 1) ≡ slice_index left k = ap (slice_index left) (let is = place.2 in let z : slice_index join place.0 - 1 ≡ k = omega (arith, is) in z) in
+          let at : slice_index left (slice_index join place.0 - 1) ≡ slice_index left k =
+          ap (slice_index left) (let is = place.2 in let z : slice_index join place.0 - 1 ≡ k = omega (arith, is) in z) in
           sym at ∙ none place.0 place.1
       | inr off ↦
           let f = fewer k b in

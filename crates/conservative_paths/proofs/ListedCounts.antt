@@ -1,5 +1,6 @@
 -- The counts of an ascending list.
-use Rattle.std.proofs.Common.{◌≡◌, ℕ, ◌+◌, ◌-◌, ◌<◌, ◌≤◌, pos, ◌*ℤ◌, Bool, true, cond, ap, sym, ◌∙◌, inl, inr, arith, List, length, get_or, slice_index, All}
+use Rattle.std.proofs.Common.{◌≡◌, ℕ, ◌+◌, ◌-◌, ◌<◌, ◌≤◌, pos, ◌*ℤ◌, Bool, true, cond, ap, sym, ◌∙◌, inl, inr, arith, List, length, get_or, slice_index}
+use Rattle.std.proofs.Common.{All}
 use Rattle.std.specs.List.Sorted.{IsStrictlyIncreasing}
 use Rattle.std.proofs.lemmas.Bool.{cases_Bool}
 use Rattle.std.proofs.lemmas.List.{ext_get_or}
@@ -30,7 +31,8 @@ listed-weight g es up numbers =
     ∙ times-weight g es numbers
 
 -- a walk that uses no edge more often than the list is within it
-pub within-listed : (g : Multigraph) (join way : List ℕ) (m : ℕ) → m ≡ length g.edges → All (IsEdgeNumber g) way → ((k : ℕ) → k < length g.edges → times way (k + 1) ≤ slice_index (listed_counts join m) k) → All (λ e. holds join e ≡ true) way
+pub within-listed : (g : Multigraph) (join way : List ℕ) (m : ℕ) → m ≡ length g.edges → All (IsEdgeNumber g) way
+    → ((k : ℕ) → k < length g.edges → times way (k + 1) ≤ slice_index (listed_counts join m) k) → All (λ e. holds join e ≡ true) way
 within-listed g join way m size numbers below k d b =
     let e = get_or way k d in
     let is : IsEdgeNumber g e = numbers k d b in

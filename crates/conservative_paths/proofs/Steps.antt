@@ -1,5 +1,6 @@
 -- The steps of a path that grows and is cut back.
-use Rattle.std.proofs.Common.{◌≡◌, ◌≢◌, ℕ, ◌+◌, ◌<◌, ◌≤◌, pos, ◌≤ℤ◌, ap, sym, ◌∙◌, subst, inl, inr, arith, List, [], ◌∷◌, ◌++◌, length, slice_index, take, drop, set, take-append-drop, All}
+use Rattle.std.proofs.Common.{◌≡◌, ◌≢◌, ℕ, ◌+◌, ◌<◌, ◌≤◌, pos, ◌≤ℤ◌, ap, sym, ◌∙◌, subst, inl, inr, arith, List, [], ◌∷◌, ◌++◌, length}
+use Rattle.std.proofs.Common.{slice_index, take, drop, set, take-append-drop, All}
 use Rattle.std.proofs.lemmas.Int.{ints}
 use Rattle.std.proofs.lemmas.Bool.{cases_eq}
 use Rattle.std.proofs.lemmas.Grind.{common_steps}
@@ -27,7 +28,8 @@ places-differ place vertices each i j a b same =
     let equal : slice_index place (slice_index vertices i) ≡ slice_index place (slice_index vertices j) = ap (slice_index place) same in
     omega (arith, a, one, other, equal)
 
-pub places-push : (place vertices : List ℕ) (v : ℕ) → v < length place → KnowPlaces place vertices → (slice_index place v < length vertices → slice_index vertices (slice_index place v) ≢ v) → KnowPlaces (set place v (length vertices)) (vertices ++ v ∷ [])
+pub places-push : (place vertices : List ℕ) (v : ℕ) → v < length place → KnowPlaces place vertices
+    → (slice_index place v < length vertices → slice_index vertices (slice_index place v) ≢ v) → KnowPlaces (set place v (length vertices)) (vertices ++ v ∷ [])
 places-push place vertices v b each fresh i low =
     let new = set place v (length vertices) in
     elim (cases_eq i (length vertices)) [
@@ -56,7 +58,9 @@ both_new place place' vertices vertices' p v each =
 
 -- an edge more
 
-way-followed : (g : Multigraph) (total left after : List ℕ) (base target edge there : ℕ) (old new : Trail) → All (IsEdgeWithin g.vertices) g.edges → IsTrail g total left base target old → Takes g old.here edge there left after → new.here ≡ there → new.edges.items ≡ old.edges.items ++ edge ∷ [] → IsWayOver g total after base target new.here new.edges.items
+way-followed : (g : Multigraph) (total left after : List ℕ) (base target edge there : ℕ) (old new : Trail) → All (IsEdgeWithin g.vertices) g.edges
+    → IsTrail g total left base target old → Takes g old.here edge there left after → new.here ≡ there → new.edges.items ≡ old.edges.items ++ edge ∷ []
+    → IsWayOver g total after base target new.here new.edges.items
 way-followed g total left after base target edge there old new ends r takes here edges =
     let next = other_end (edge_of g edge) old.here in
     let W : ℕ → List ℕ → Type 0 = IsWayOver g total after base target in
@@ -64,7 +68,8 @@ way-followed g total left after base target edge there old new ends r takes here
     let way = way-push g total left after base target old.here edge old.edges.items ends r.way takes.number takes.meets takes.taken in
     subst H (sym (here ∙ takes.leads)) (subst (W next) (sym edges) way)
 
-within-followed : (g : Multigraph) (left after : List ℕ) (edge there : ℕ) (old new : Trail) → All (IsEdgeWithin g.vertices) g.edges → Takes g old.here edge there left after → new.here ≡ there → (1 ≤ new.here) × (new.here ≤ g.vertices)
+within-followed : (g : Multigraph) (left after : List ℕ) (edge there : ℕ) (old new : Trail) → All (IsEdgeWithin g.vertices) g.edges → Takes g old.here edge there left after
+    → new.here ≡ there → (1 ≤ new.here) × (new.here ≤ g.vertices)
 within-followed g left after edge there old new ends takes here =
     let R : ℕ → Type 0 = λ h. (1 ≤ h) × (h ≤ g.vertices) in
     subst R (sym (here ∙ takes.leads)) (other_end-within g.vertices (edge_of g edge) old.here (edge_of_within g edge ends takes.number))
@@ -85,7 +90,8 @@ open-goes g edge there old new ends goes total left after base target r takes =
         way = way;
         within = within;
         one_each = ap length goes.table ∙ length-set old.place.items there (length old.vertices.items) ∙ size;
-        places = both_new (set old.place.items there (length old.vertices.items)) new.place.items (old.vertices.items ++ there ∷ []) new.vertices.items goes.table goes.vertices (places-push old.place.items old.vertices.items there (omega (arith, size, high, here)) r.trail.places goes.fresh);
+        places = both_new (set old.place.items there (length old.vertices.items)) new.place.items (old.vertices.items ++ there ∷ []) new.vertices.items goes.table goes.vertices
+            (places-push old.place.items old.vertices.items there (omega (arith, size, high, here)) r.trail.places goes.fresh);
       };
       vertices =
           goes.vertices
@@ -95,7 +101,8 @@ open-goes g edge there old new ends goes total left after base target r takes =
           ∙ ap (walk_vertices g base) (sym goes.edges);
     }
 
-pub closed-comes : (g : Multigraph) (edge there place : ℕ) (old new : Trail) → All (IsEdgeWithin g.vertices) g.edges → ComesBack edge there place old new → (total left after : List ℕ) (base target : ℕ) → IsOpen g total left base target old → Takes g old.here edge there left after → IsClosed g total after base target place new
+pub closed-comes : (g : Multigraph) (edge there place : ℕ) (old new : Trail) → All (IsEdgeWithin g.vertices) g.edges → ComesBack edge there place old new
+    → (total left after : List ℕ) (base target : ℕ) → IsOpen g total left base target old → Takes g old.here edge there left after → IsClosed g total after base target place new
 closed-comes g edge there place old new ends comes total left after base target r takes = record {
   trail = record {
     way = way-followed g total left after base target edge there old new ends r.trail takes comes.here comes.edges;
@@ -116,16 +123,19 @@ closed-below g total left base target place t r =
     let same : length t.vertices.items ≡ length (walk_left g base t.edges.items) = ap length r.vertices in
     omega (arith, b, same, left-length g base t.edges.items)
 
-pub closed-home : (g : Multigraph) (total left : List ℕ) (base target place : ℕ) (t : Trail) → IsClosed g total left base target place t → walk_end g base (take place t.edges.items) ≡ t.here
+pub closed-home : (g : Multigraph) (total left : List ℕ) (base target place : ℕ) (t : Trail) → IsClosed g total left base target place t
+    → walk_end g base (take place t.edges.items) ≡ t.here
 closed-home g total left base target place t r =
     sym (left-at g base t.edges.items place (closed-below g total left base target place t r)) ∙ ap (λ (xs : List ℕ). slice_index xs place) (sym r.vertices) ∙ r.back
 
-pub closed-parts : (g : Multigraph) (total left : List ℕ) (base target place : ℕ) (t : Trail) → IsClosed g total left base target place t → IsWayOver g total left base target t.here (take place t.edges.items ++ drop place t.edges.items)
+pub closed-parts : (g : Multigraph) (total left : List ℕ) (base target place : ℕ) (t : Trail) → IsClosed g total left base target place t
+    → IsWayOver g total left base target t.here (take place t.edges.items ++ drop place t.edges.items)
 closed-parts g total left base target place t r =
     let W : List ℕ → Type 0 = IsWayOver g total left base target t.here in
     subst W (sym (take-append-drop place t.edges.items)) r.trail.way
 
-pub open-cut : (g : Multigraph) (total left : List ℕ) (base target place : ℕ) (mid new : Trail) → IsClosed g total left base target place mid → IsCut place mid new → IsOpen g total left base target new
+pub open-cut : (g : Multigraph) (total left : List ℕ) (base target place : ℕ) (mid new : Trail) → IsClosed g total left base target place mid → IsCut place mid new
+    → IsOpen g total left base target new
 open-cut g total left base target place mid new r cut =
     let home = closed-home g total left base target place mid r in
     let front = way-front g total left base target mid.here (take place mid.edges.items) (drop place mid.edges.items) (closed-parts g total left base target place mid r) home in
@@ -137,7 +147,8 @@ open-cut g total left base target place mid new r cut =
         way = subst H (sym cut.here) (subst (W mid.here) (sym cut.edges) front);
         within = subst R (sym cut.here) r.trail.within;
         one_each = ap length cut.table ∙ r.trail.one_each;
-        places = both_new mid.place.items new.place.items (take (place + 1) mid.vertices.items) new.vertices.items cut.table cut.vertices (places-take mid.place.items mid.vertices.items (place + 1) r.trail.places);
+        places = both_new mid.place.items new.place.items (take (place + 1) mid.vertices.items) new.vertices.items cut.table cut.vertices
+            (places-take mid.place.items mid.vertices.items (place + 1) r.trail.places);
       };
       vertices =
           cut.vertices
@@ -146,7 +157,8 @@ open-cut g total left base target place mid new r cut =
           ∙ ap (walk_vertices g base) (sym cut.edges);
     }
 
-pub open-back : (g : Multigraph) (edge there place : ℕ) (old mid new : Trail) → All (IsEdgeWithin g.vertices) g.edges → ComesBack edge there place old mid → IsCut place mid new → KeepsOpen g edge there old new
+pub open-back : (g : Multigraph) (edge there place : ℕ) (old mid new : Trail) → All (IsEdgeWithin g.vertices) g.edges → ComesBack edge there place old mid → IsCut place mid new
+    → KeepsOpen g edge there old new
 open-back g edge there place old mid new ends comes cut total left after base target r takes =
     open-cut g total after base target place mid new (closed-comes g edge there place old mid ends comes total left after base target r takes) cut
 
@@ -161,7 +173,8 @@ keeps-goes g edge there old new ends goes = record {
       omega (arith, ints, step, same);
 }
 
-pub keeps-back : (g : Multigraph) (edge there place : ℕ) (old mid new : Trail) → All (IsEdgeWithin g.vertices) g.edges → ComesBack edge there place old mid → IsCut place mid new → pos 0 ≤ℤ walk_weight g (drop place mid.edges.items) → KeepsWeight g edge there old new
+pub keeps-back : (g : Multigraph) (edge there place : ℕ) (old mid new : Trail) → All (IsEdgeWithin g.vertices) g.edges → ComesBack edge there place old mid → IsCut place mid new
+    → pos 0 ≤ℤ walk_weight g (drop place mid.edges.items) → KeepsWeight g edge there old new
 keeps-back g edge there place old mid new ends comes cut low = record {
   open_path = open-back g edge there place old mid new ends comes cut;
   weighs = λ left after takes.

@@ -1,5 +1,6 @@
 -- Walks over edges that are taken from a set, and what is left of it.
-use Rattle.std.proofs.Common.{◌≡◌, ◌≢◌, ℕ, zero, suc, ◌+◌, ◌-◌, ◌%◌, ◌<◌, ◌≤◌, Bool, true, false, cond, eqb, refl, ap, sym, ◌∙◌, subst, inl, inr, arith, List, [], ◌∷◌, ◌++◌, length, get_or, slice_index, take, add-one, All}
+use Rattle.std.proofs.Common.{◌≡◌, ◌≢◌, ℕ, zero, suc, ◌+◌, ◌-◌, ◌%◌, ◌<◌, ◌≤◌, Bool, true, false, cond, eqb, refl, ap, sym, ◌∙◌, subst, inl, inr}
+use Rattle.std.proofs.Common.{arith, List, [], ◌∷◌, ◌++◌, length, get_or, slice_index, take, add-one, All}
 use Rattle.std.proofs.lemmas.Bool.{cases_eq, cases_Bool, eq-eqb, ne_eqb, eqb-true, true≢false}
 use Rattle.graph_theory.specs.Sums.{sum_to}
 use Rattle.graph_theory.specs.Graph.{Multigraph, IsEdgeWithin, edge_of, IsEdgeNumber, touches, other_end, degree, CountsNoneAt}
@@ -30,17 +31,22 @@ same_place k e low =
 parity-step : (d e t h w : ℕ) → (d + t + h) % 2 ≡ 0 → (d + e) % 2 ≡ (h + w) % 2 → (e + t + w) % 2 ≡ 0
 parity-step d e t h w a b = omega (arith, a, b)
 
-pub left-parity : (g : Multigraph) (left after : List ℕ) (target here e v : ℕ) → All (IsEdgeWithin g.vertices) g.edges → IsEdgeNumber g e → touches (edge_of g e) here ≡ true → IsTaken e left after → (degree g left v + cond (eqb target v) 1 0 + cond (eqb here v) 1 0) % 2 ≡ 0 → (degree g after v + cond (eqb target v) 1 0 + cond (eqb (other_end (edge_of g e) here) v) 1 0) % 2 ≡ 0
+pub left-parity : (g : Multigraph) (left after : List ℕ) (target here e v : ℕ) → All (IsEdgeWithin g.vertices) g.edges → IsEdgeNumber g e → touches (edge_of g e) here ≡ true
+    → IsTaken e left after → (degree g left v + cond (eqb target v) 1 0 + cond (eqb here v) 1 0) % 2 ≡ 0
+    → (degree g after v + cond (eqb target v) 1 0 + cond (eqb (other_end (edge_of g e) here) v) 1 0) % 2 ≡ 0
 left-parity g left after target here e v ends is meets one even =
     let low : 1 ≤ e = is.0 in
     let high : e ≤ length g.edges = is.1 in
     let step : (degree g left v + degree g after v) % 2 ≡ (cond (eqb here v) 1 0 + cond (eqb (other_end (edge_of g e) here) v) 1 0) % 2 =
-    flip-step g left after (e - 1) here v ends (omega (arith, low, high)) meets (λ k b. taken_parity (slice_index left k) (slice_index after k) (eqb e (k + 1)) (one k) ∙ sym (same_place k e low)) in
+    flip-step g left after (e - 1) here v ends (omega (arith, low, high)) meets
+    (λ k b. taken_parity (slice_index left k) (slice_index after k) (eqb e (k + 1)) (one k) ∙ sym (same_place k e low)) in
     parity-step (degree g left v) (degree g after v) (cond (eqb target v) 1 0) (cond (eqb here v) 1 0) (cond (eqb (other_end (edge_of g e) here) v) 1 0) even step
 
 -- one edge more, and fewer
 
-pub way-push : (g : Multigraph) (total left after : List ℕ) (base target here e : ℕ) (way : List ℕ) → All (IsEdgeWithin g.vertices) g.edges → IsWayOver g total left base target here way → IsEdgeNumber g e → touches (edge_of g e) here ≡ true → IsTaken e left after → IsWayOver g total after base target (other_end (edge_of g e) here) (way ++ e ∷ [])
+pub way-push : (g : Multigraph) (total left after : List ℕ) (base target here e : ℕ) (way : List ℕ) → All (IsEdgeWithin g.vertices) g.edges
+    → IsWayOver g total left base target here way → IsEdgeNumber g e → touches (edge_of g e) here ≡ true → IsTaken e left after
+    → IsWayOver g total after base target (other_end (edge_of g e) here) (way ++ e ∷ [])
 way-push g total left after base target here e way ends r is meets one = record {
   walk = walk-push g base way e r.walk is (ap (touches (edge_of g e)) r.ends ∙ meets);
   ends = end-push g base way e ∙ ap (other_end (edge_of g e)) r.ends;
@@ -48,7 +54,8 @@ way-push g total left after base target here e way ends r is meets one = record 
   parity = λ v low high. left-parity g left after target here e v ends is meets one (r.parity v low high);
 }
 
-pub way-front : (g : Multigraph) (total left : List ℕ) (base target here : ℕ) (front rest : List ℕ) → IsWayOver g total left base target here (front ++ rest) → walk_end g base front ≡ here → IsWayOver g total left base target here front
+pub way-front : (g : Multigraph) (total left : List ℕ) (base target here : ℕ) (front rest : List ℕ) → IsWayOver g total left base target here (front ++ rest)
+    → walk_end g base front ≡ here → IsWayOver g total left base target here front
 way-front g total left base target here front rest r home = record {
   walk = walk-front g base front rest r.walk;
   ends = home;
@@ -97,7 +104,9 @@ differ-back [] ys d = d
 differ-back (x ∷ xs) ys d = differ-back xs ys (λ i j a b. d (suc i) (suc j) (omega arith) (omega arith))
 
 -- the part of a walk that comes back is a circuit
-pub way-circuit : (g : Multigraph) (total left : List ℕ) (base target here : ℕ) (front rest : List ℕ) → All (IsEdgeWithin g.vertices) g.edges → ((k : ℕ) → k < length g.edges → slice_index total k ≤ 1) → IsWayOver g total left base target here (front ++ rest) → AllDiffer (walk_left g base (front ++ rest)) → walk_end g base front ≡ here → 1 ≤ length rest → IsCircuit g here rest
+pub way-circuit : (g : Multigraph) (total left : List ℕ) (base target here : ℕ) (front rest : List ℕ) → All (IsEdgeWithin g.vertices) g.edges
+    → ((k : ℕ) → k < length g.edges → slice_index total k ≤ 1) → IsWayOver g total left base target here (front ++ rest) → AllDiffer (walk_left g base (front ++ rest))
+    → walk_end g base front ≡ here → 1 ≤ length rest → IsCircuit g here rest
 way-circuit g total left base target here front rest ends small r differ home some =
     let W : ℕ → Type 0 = λ v. IsWalk g v rest in
     let D : ℕ → Type 0 = λ v. AllDiffer (walk_left g v rest) in
@@ -122,11 +131,13 @@ way-circuit g total left base target here front rest ends small r differ home so
       vertices_differ = subst D home (differ-back (walk_left g base front) (walk_left g (walk_end g base front) rest) (subst L (left-append g base front rest) differ));
     }
 
-pub way-within : (g : Multigraph) (total left : List ℕ) (base target here : ℕ) (front rest : List ℕ) → IsWayOver g total left base target here (front ++ rest) → (k : ℕ) → k < length g.edges → times rest (k + 1) ≤ slice_index total k
+pub way-within : (g : Multigraph) (total left : List ℕ) (base target here : ℕ) (front rest : List ℕ) → IsWayOver g total left base target here (front ++ rest) → (k : ℕ)
+    → k < length g.edges → times rest (k + 1) ≤ slice_index total k
 way-within g total left base target here front rest r k b = let s = r.shared k b in omega (arith, s, times-append front rest (k + 1))
 
 -- where no edge is left here, this is the target
-pub stuck_at_target : (g : Multigraph) (total left : List ℕ) (base target here : ℕ) (way : List ℕ) → All (IsEdgeWithin g.vertices) g.edges → IsWayOver g total left base target here way → (1 ≤ here) × (here ≤ g.vertices) → CountsNoneAt g left here → here ≡ target
+pub stuck_at_target : (g : Multigraph) (total left : List ℕ) (base target here : ℕ) (way : List ℕ) → All (IsEdgeWithin g.vertices) g.edges
+    → IsWayOver g total left base target here way → (1 ≤ here) × (here ≤ g.vertices) → CountsNoneAt g left here → here ≡ target
 stuck_at_target g total left base target here way ends r within settled =
     let none = degree-none g left here ends settled in
     let even = r.parity here within.0 within.1 in
@@ -152,5 +163,6 @@ home-none g v (e ∷ es) differ home =
     absurd (differ 0 (suc place.0) (omega arith) (let b = place.1 in omega (arith, b)) (sym (place.2 ∙ home)))
 
 -- what is left grows less
-pub taken-less : (g : Multigraph) (left after : List ℕ) (e : ℕ) → IsEdgeNumber g e → IsTaken e left after → sum_to (slice_index after) (length g.edges) < sum_to (slice_index left) (length g.edges)
+pub taken-less : (g : Multigraph) (left after : List ℕ) (e : ℕ) → IsEdgeNumber g e → IsTaken e left after
+    → sum_to (slice_index after) (length g.edges) < sum_to (slice_index left) (length g.edges)
 taken-less g left after e is one = omega (arith, taken-sum left after e (length g.edges) is.0 is.1 one)

@@ -1,5 +1,6 @@
 -- What is left of a set and a walk over edges that were taken from it weigh together.
-use Rattle.std.proofs.Common.{◌≡◌, ℕ, ◌+◌, ◌<◌, ℤ, pos, ◌+ℤ◌, ◌*ℤ◌, ◌≤ℤ◌, cond, eqb, ap, sym, ◌∙◌, arith, List, [], ◌∷◌, ◌++◌, length, slice_index}
+use Rattle.std.proofs.Common.{◌≡◌, ℕ, ◌+◌, ◌<◌, ℤ, pos, ◌+ℤ◌, ◌*ℤ◌, ◌≤ℤ◌, cond, eqb, ap, sym, ◌∙◌, arith, List, [], ◌∷◌, ◌++◌, length}
+use Rattle.std.proofs.Common.{slice_index}
 use Rattle.std.proofs.lemmas.Int.{ints}
 use Rattle.graph_theory.specs.declared.edge.Edge.{Edge}
 use Rattle.graph_theory.specs.Graph.{Multigraph, edge_at, edge_of, IsEdgeNumber, weight}
@@ -19,7 +20,8 @@ weight-taken g left after e is one =
     (λ k b.
     ap (λ (c : ℕ). pos c *ℤ w k) (sym (one k))
     ∙ plus-times (slice_index after k) (cond (eqb e (k + 1)) 1 0) (w k)
-    ∙ ap (λ (x : ℤ). pos (slice_index after k) *ℤ w k +ℤ x) (times-one_if (eqb e (k + 1)) (w k) ∙ ap (λ (f : Edge). cond (eqb e (k + 1)) f.w (pos 0)) (sym (edge_of-place g k)))) in
+    ∙ ap (λ (x : ℤ). pos (slice_index after k) *ℤ w k +ℤ x)
+    (times-one_if (eqb e (k + 1)) (w k) ∙ ap (λ (f : Edge). cond (eqb e (k + 1)) f.w (pos 0)) (sym (edge_of-place g k)))) in
     let both = int_sum_to-add (λ k. pos (slice_index after k) *ℤ w k) here m in
     let hit = int_sum_to-at_one (λ k. (edge_of g k).w) e m is.0 is.1 in
     omega (arith, ints, parts, both, hit)
@@ -28,7 +30,8 @@ one-weight : (g : Multigraph) (e : ℕ) → walk_weight g (e ∷ []) ≡ (edge_o
 one-weight g e = omega (arith, ints)
 
 -- an edge that goes from what is left to the walk
-pub weight-push : (g : Multigraph) (left after way : List ℕ) (e : ℕ) → IsEdgeNumber g e → IsTaken e left after → (weight g after +ℤ walk_weight g (way ++ e ∷ [])) ≡ (weight g left +ℤ walk_weight g way)
+pub weight-push : (g : Multigraph) (left after way : List ℕ) (e : ℕ) → IsEdgeNumber g e → IsTaken e left after
+    → (weight g after +ℤ walk_weight g (way ++ e ∷ [])) ≡ (weight g left +ℤ walk_weight g way)
 weight-push g left after way e is one = omega (arith, ints, weight-taken g left after e is one, weight-append g way (e ∷ []), one-weight g e)
 
 -- a part that weighs at least 0 goes

@@ -1,4 +1,5 @@
-ghost use Rattle.std.specs.Prelude.{◌≡◌, ℕ, ◌+◌, ◌<◌, ◌≤◌, ◌↔◌, pos, ◌<ℤ◌, length, All, IsTrue, IfOk, OnOk};
+ghost use Rattle.std.specs.Prelude.{◌≡◌, ℕ, ◌+◌, ◌<◌, ◌≤◌, ◌↔◌, pos, ◌<ℤ◌, length, All, IsTrue};
+ghost use Rattle.std.specs.Prelude.{IfOk, OnOk};
 ghost use Rattle.graph_theory.specs.Graph.{IsGraph, IsEdgeNumber};
 ghost use Rattle.graph_theory.specs.Walk.{walk_weight};
 ghost use Rattle.conservative_paths.specs.Trails.{KeepsOpen, Advances};
@@ -45,8 +46,8 @@ pub(crate) fn go_on(
     Ok(())
 }
 
-/// Goes on over an edge. Where the path comes to a vertex again it answers the place, if the circuit
-/// from there weighs less than 0, and else cuts it off.
+/// Goes on over an edge. Where the path comes to a vertex again it answers the place, if the
+/// circuit from there weighs less than 0, and else cuts it off.
 pub(crate) fn go_on_or_close(
     graph: &Graph,
     trail: &mut Trail,

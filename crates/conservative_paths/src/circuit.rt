@@ -1,4 +1,5 @@
-ghost use Rattle.std.specs.Prelude.{◌≡◌, ℕ, ◌+◌, ◌<◌, ◌≤◌, pos, ◌<ℤ◌, length, drop, IfOk, MatchOption};
+ghost use Rattle.std.specs.Prelude.{◌≡◌, ℕ, ◌+◌, ◌<◌, ◌≤◌, pos, ◌<ℤ◌, length, drop, IfOk};
+ghost use Rattle.std.specs.Prelude.{MatchOption};
 ghost use Rattle.graph_theory.specs.Graph.{IsGraph};
 ghost use Rattle.graph_theory.specs.Walk.{walk_weight};
 ghost use Rattle.weighted_graph.specs.Index.{IsIndex};
@@ -8,7 +9,8 @@ ghost use Rattle.mb_problem.specs.Size.{odd_at};
 ghost use Rattle.mb_problem.specs.Feasible.{IsWalkWith};
 ghost use Rattle.mb_problem.specs.Joins.{ListsJoin};
 ghost use Rattle.conservative_paths.specs.Within.{IsNegativeCircuitWithin};
-ghost use Rattle.conservative_paths.specs.Trails.{IsLeft, IsNegativeEven, IsDrained, IsNegativeOver};
+ghost use Rattle.conservative_paths.specs.Trails.{IsLeft, IsNegativeEven, IsDrained};
+ghost use Rattle.conservative_paths.specs.Trails.{IsNegativeOver};
 
 use crate::advance::go_on_or_close;
 use crate::edges_left::EdgesLeft;
@@ -37,7 +39,8 @@ fn close_from(
     ensures room { IfOk result (λ _. length trail.new.place.items ≡ graph.now.vertices + 1) }
     ensures found { IfOk result (λ found. MatchOption found
         (IsDrained graph.now base left.old.counts.items left.new.counts.items)
-        (λ place. IsNegativeOver graph.now left.old.counts.items trail.new.here (drop place trail.new.edges.items))) }
+        (λ place. IsNegativeOver graph.now left.old.counts.items trail.new.here
+        (drop place trail.new.edges.items))) }
 {
     trail.begin(base)?;
     while let Some(step) = left.take(graph, index, trail.here) {
@@ -58,7 +61,9 @@ pub fn negative_circuit(
 ) -> Result<Answer, OutOfMemory>
     requires even { ListsJoin instance.now (odd_at Empty instance.now) join.now.edges }
     requires negative { walk_weight (graph_of instance.now) join.now.edges <ℤ pos 0 }
-    ensures circuit { IfOk result (IsWalkWith (λ start edges. IsNegativeCircuitWithin (graph_of instance.now) join.now.edges start edges) ⊥) }
+    ensures circuit { IfOk result
+        (IsWalkWith (λ start edges. IsNegativeCircuitWithin (graph_of instance.now) join.now.edges
+        start edges) ⊥) }
 {
     let graph = instance.graph()?;
     let index = graph.index()?;

@@ -1,4 +1,5 @@
-ghost use Rattle.std.specs.Prelude.{◌≡◌, ℕ, ◌+◌, ◌-◌, ◌<◌, ◌≤◌, length, slice_index, All, IfOk, MatchOption};
+ghost use Rattle.std.specs.Prelude.{◌≡◌, ℕ, ◌+◌, ◌-◌, ◌<◌, ◌≤◌, length, slice_index, All, IfOk};
+ghost use Rattle.std.specs.Prelude.{MatchOption};
 ghost use Rattle.graph_theory.specs.Graph.{IsEdgeNumber, CountsNoneAt};
 ghost use Rattle.weighted_graph.specs.Index.{IsIndex};
 ghost use Rattle.mb_problem.specs.Network.{graph_of};
@@ -29,8 +30,8 @@ pub(crate) struct Step {
     pub(crate) there: VertexId,
 }
 
-/// What is left of a set of edges: how often each edge is, and for each vertex how many of its edges
-/// were looked at, none of which is left.
+/// What is left of a set of edges: how often each edge is, and for each vertex how many of its
+/// edges were looked at, none of which is left.
 #[derive(Drop)]
 pub(crate) struct EdgesLeft {
     pub(crate) counts: Vec<u32>,
@@ -45,7 +46,8 @@ impl EdgesLeft {
         edges: &[EdgeId],
     ) -> Result<Self, OutOfMemory>
         requires { All (IsEdgeNumber (graph_of instance.now)) edges.now }
-        ensures counts { IfOk result (λ left. left.counts.items ≡ listed_counts edges.now (length instance.now.edges)) }
+        ensures counts { IfOk result
+            (λ left. left.counts.items ≡ listed_counts edges.now (length instance.now.edges)) }
         ensures left { IfOk result (IsLeft (graph_of instance.now)) }
     {
         let counts = counts_of(alloc, instance.edges(), edges)?;
@@ -65,8 +67,10 @@ impl EdgesLeft {
         requires left { IsLeft graph.now self.old }
         ensures left { IsLeft graph.now self.new }
         ensures step { MatchOption result
-            ((self.new.counts.items ≡ self.old.counts.items) × CountsNoneAt graph.now self.new.counts.items vertex)
-            (λ step. Takes graph.now vertex step.edge step.there self.old.counts.items self.new.counts.items) }
+            ((self.new.counts.items ≡ self.old.counts.items)
+            × CountsNoneAt graph.now self.new.counts.items vertex)
+            (λ step. Takes graph.now vertex step.edge step.there self.old.counts.items
+            self.new.counts.items) }
     {
         if let Some(edge) = take_left(graph, index, &mut self.looked, &mut self.counts, vertex) {
             let there = graph.other_end(edge, vertex);

@@ -13,10 +13,10 @@ use mb_base::{OutOfMemory, Sequence, VertexId};
 use mb_problem::{Answer, Instance, Join};
 use std::alloc::Global;
 
-/// A path from `s` to `t` over edges of a join whose degree is odd at these two vertices and at no other
-/// one. Where no even set of edges weighs less than 0 it weighs no more than the join, so that a least
-/// join gives a least path (Schrijver, Combinatorial Optimization, volume A, chapter 29). It takes time
-/// linear in the instance. `OutOfMemory` is its one error.
+/// A path from `s` to `t` over edges of a join whose degree is odd at these two vertices and at no
+/// other one. Where no even set of edges weighs less than 0 it weighs no more than the join, so
+/// that a least join gives a least path (Schrijver, Combinatorial Optimization, volume A, chapter
+/// 29). It takes time linear in the instance. `OutOfMemory` is its one error.
 pub fn path_in(
     alloc: Global,
     instance: &Instance,
@@ -28,8 +28,12 @@ pub fn path_in(
     requires s { (1 ≤ s) × (s ≤ vertices instance.now) }
     requires t { (1 ≤ t) × (t ≤ vertices instance.now) }
     requires join { ListsJoin instance.now (odd_between s t) join.now.edges }
-    ensures path { IfOk result (IsWalkWith (λ start edges. IsPathWithin (graph_of instance.now) join.now.edges s t start edges) ⊥) }
-    ensures weighs { HasNoNegativeEvenSet instance.now → IfOk result (λ answer. weight_by Total instance.now answer ≤ℤ walk_weight (graph_of instance.now) join.now.edges) }
+    ensures path { IfOk result
+        (IsWalkWith (λ start edges. IsPathWithin (graph_of instance.now) join.now.edges s t start
+        edges) ⊥) }
+    ensures weighs { HasNoNegativeEvenSet instance.now
+        → IfOk result (λ answer. weight_by Total instance.now answer
+        ≤ℤ walk_weight (graph_of instance.now) join.now.edges) }
 {
     let _ = t;
     let graph = instance.graph()?;

@@ -1,4 +1,5 @@
-ghost use Rattle.std.specs.Prelude.{◌≡◌, ℕ, ◌+◌, ◌<◌, ◌≤◌, [], length, slice_index, drop, IfOk, OnOk, IsTrue, ◌↔◌};
+ghost use Rattle.std.specs.Prelude.{◌≡◌, ℕ, ◌+◌, ◌<◌, ◌≤◌, [], length, slice_index, drop, IfOk};
+ghost use Rattle.std.specs.Prelude.{OnOk, IsTrue, ◌↔◌};
 ghost use Rattle.conservative_paths.specs.Trails.{Begins, Follows, IsCut};
 
 use mb_base::{EdgeId, OutOfMemory, VertexId};
@@ -6,7 +7,8 @@ use std::alloc::Global;
 
 /// Whether the vertex stands at this place.
 fn stands_at(vertices: &[VertexId], place: usize, vertex: VertexId) -> bool
-    ensures { IsTrue result ↔ ((place < length vertices.now) × (slice_index vertices.now place ≡ vertex)) }
+    ensures { IsTrue result ↔
+        ((place < length vertices.now) × (slice_index vertices.now place ≡ vertex)) }
 {
     if place >= vertices.len() {
         return false;
@@ -14,8 +16,8 @@ fn stands_at(vertices: &[VertexId], place: usize, vertex: VertexId) -> bool
     vertices[place] == vertex
 }
 
-/// A path that grows: the vertex that it has come to, its edges and its vertices in order, and for each
-/// vertex the place at which it stands among these, if it does.
+/// A path that grows: the vertex that it has come to, its edges and its vertices in order, and for
+/// each vertex the place at which it stands among these, if it does.
 #[derive(Drop)]
 pub(crate) struct Trail {
     pub(crate) here: VertexId,
@@ -51,8 +53,8 @@ impl Trail {
         Ok(())
     }
 
-    /// Goes on over an edge to its other end. Where the path has come to that vertex before, it answers
-    /// the place, and does not list it again.
+    /// Goes on over an edge to its other end. Where the path has come to that vertex before, it
+    /// answers the place, and does not list it again.
     pub(crate) fn follow(
         &mut self,
         edge: EdgeId,

@@ -1,3 +1,4 @@
+pub mod Ascents
 pub mod Fields
 pub mod SoFar
 pub mod PartLaws

@@ -5,14 +5,5 @@ ghost use Rattle.doc_format.specs.Parts.{ascends};
 pub fn is_ascending(numbers: &[i64]) -> bool
     ensures { result ≡ ascends numbers.now }
 {
-    let mut rest = numbers;
-    'numbers: while let [first, others @ ..] = rest {
-        if let Some(second) = others.first()
-            && *first >= *second
-        {
-            return false;
-        }
-        rest = others;
-    }
-    true
+    numbers.is_sorted_by(|a, b| a < b)
 }

@@ -31,7 +31,7 @@ pub fn pair(fields: Fields<'_>) -> Option<(i64, i64)>
 }
 
 /// Room for so many numbers, but not for more than may well follow: a count may say anything.
-fn room_for(count: i64) -> usize {
+fn likely_room(count: i64) -> usize {
     count.clamp(0, MOST_ROOM) as usize
 }
 
@@ -67,7 +67,7 @@ pub fn counted_numbers(
     let Some(count) = kept_number(field) else {
         return Ok(None);
     };
-    let Some(values) = all_numbers(alloc, room_for(count), fields)? else {
+    let Some(values) = all_numbers(alloc, likely_room(count), fields)? else {
         return Ok(None);
     };
     if count != values.len() as i64 {

@@ -4,7 +4,9 @@ use Rattle.std.proofs.Common.{◌≡◌, ◌∙◌, sym, ap, ap₂, subst, inl, 
 use Rattle.std.proofs.Common.{set, take, All, get_or-set_same, get_or-set_other, length-append}
 use Rattle.std.proofs.Math.Bool.{or-false}
 use Rattle.std.proofs.Math.Seq.{get_or-append_seam}
-use Rattle.std.proofs.lemmas.Bool.{cases_eq, eq-eqb, ne_eqb, or_right}
+use Rattle.std.specs.Prelude.{◌↔◌, IsTrue, nat_lt}
+use Rattle.std.specs.List.{IsAllAdjacentAnswer}
+use Rattle.std.proofs.lemmas.Bool.{cases_eq, eq-eqb, false≢true, lt-ltb, ltb-true, ne_eqb, or_right}
 use Rattle.std.proofs.lemmas.Int.{ints}
 use Rattle.std.proofs.lemmas.List.{get_or_append_left}
 use Rattle.std.proofs.lemmas.List.Elements.{All-append, All-weaker, All-from_get_or}
@@ -69,3 +71,8 @@ below_next xs ys k true is so = subst (λ (zs : List ℕ). All (λ j. j < k + 1)
     one zero b = omega arith
     one (suc a) b = absurd (omega arith)
 below_next xs ys k false is so = subst (λ (zs : List ℕ). All (λ j. j < k + 1) zs) (sym is) (all_below_next xs k so)
+
+-- what a look at each number and the next says: whether they ascend
+pub ascending_by : (xs : List ℕ) (b : Bool) → IsAllAdjacentAnswer (λ x y t. t ≡ nat_lt x y) xs b → IsTrue b ↔ IsStrictlyIncreasing xs
+ascending_by xs true rise = ((λ t k below. ltb-true _ _ (sym (rise k 0 below))), (λ up. refl))
+ascending_by xs false fall = ((λ t. absurd (false≢true t)), (λ up. fall.2 0 ∙ lt-ltb _ _ (up fall.0 fall.1)))

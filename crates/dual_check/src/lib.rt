@@ -18,3 +18,4 @@ pub use barrier::is_barrier;
 pub use duals::bound;
 pub use fault::DualFault;
 pub use graph_theory::OddSet;
+pub use sets::is_odd_set_size;

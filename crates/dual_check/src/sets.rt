@@ -1,5 +1,5 @@
-ghost use Rattle.std.specs.Prelude.{◌≡◌, ◌*ℤ◌, ◌↔◌, length, pos, neg_ℤ, ◌≤ℤ◌, All, IsTrue};
-ghost use Rattle.std.specs.Prelude.{MatchOption};
+ghost use Rattle.std.specs.Prelude.{◌≡◌, ◌*ℤ◌, ◌↔◌, ◌≤◌, ◌%◌, length, pos, neg_ℤ, ◌≤ℤ◌, All};
+ghost use Rattle.std.specs.Prelude.{IsTrue, MatchOption};
 ghost use Rattle.std.specs.List.Sorted.{IsStrictlyIncreasing};
 ghost use Rattle.graph_theory.specs.Sums.{int_sum_to};
 ghost use Rattle.graph_theory.specs.Duals.{HasForm, IsNumber, set_at};
@@ -8,21 +8,23 @@ ghost use Rattle.dual_check.specs.Fault.{IsFirstSetFault};
 use graph_theory::{NUMBER_LIMIT, OddSet};
 use mb_base::VertexId;
 
+/// Whether an odd set may have that many members: an odd number of at least three.
+pub fn is_odd_set_size(size: usize) -> bool
+    ensures { IsTrue result ↔ ((3 ≤ size) × (size % 2 ≡ 1)) }
+{
+    size >= 3 && size % 2 == 1
+}
+
 fn is_ascending(members: &[VertexId]) -> bool
     ensures { IsTrue result ↔ IsStrictlyIncreasing members.now }
 {
-    for k in 1..members.len() {
-        if members[k - 1] >= members[k] {
-            return false;
-        }
-    }
-    true
+    members.is_sorted_by(|a, b| a < b)
 }
 
 fn has_form(members: &[VertexId]) -> bool
     ensures { IsTrue result ↔ HasForm members.now }
 {
-    members.len() >= 3 && members.len() % 2 == 1 && is_ascending(members)
+    is_odd_set_size(members.len()) && is_ascending(members)
 }
 
 /// The number of the first set that lacks form.

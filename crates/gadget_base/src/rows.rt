@@ -30,8 +30,7 @@ pub fn add_row(
     ensures cut_short { OnErr result (AddsFirst graph.old graph.new (row u before count w)) }
     ensures graph { IsGraph graph.new }
 {
-    // The prover learns here that the graph is valid.
-    let _vertices = graph.vertices();
+    prove!(graph.vertices() >= before + count);
     for j in 0..count {
         graph.add(VertexId::new(u), VertexId::new(before + j + 1), w)?;
     }
@@ -62,8 +61,7 @@ pub fn add_rectangle(
         (AddsFirst graph.old graph.new (rectangle first m second n w)) }
     ensures graph { IsGraph graph.new }
 {
-    // The prover learns here that the graph is valid.
-    let _vertices = graph.vertices();
+    prove!(graph.vertices() >= first + m);
     for a in 0..m {
         add_row(graph, first + a + 1, second, n, w)?;
     }
@@ -82,8 +80,7 @@ pub fn add_clique(graph: &mut Graph, before: u32, n: u32) -> Result<(), OutOfMem
     ensures cut_short { OnErr result (AddsFirst graph.old graph.new (clique before n)) }
     ensures graph { IsGraph graph.new }
 {
-    // The prover learns here that the graph is valid.
-    let _vertices = graph.vertices();
+    prove!(graph.vertices() >= before + n);
     for a in 0..n {
         add_row(graph, before + a + 1, before + a + 1, n - 1 - a, 0)?;
     }

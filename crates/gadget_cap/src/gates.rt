@@ -27,7 +27,7 @@ fn add_crossing(graph: &mut Graph, before: u32, room: u32) -> Result<(), OutOfMe
     }) }
     ensures graph { IsGraph graph.new }
 {
-    let _vertices = graph.vertices();
+    prove!(graph.vertices() >= before + 2 * room);
     add_rectangle(graph, before, room, before + room, room, 0)
 }
 
@@ -54,7 +54,6 @@ fn add_gates(
     }) }
     ensures graph { IsGraph graph.new }
 {
-    let _vertices = graph.vertices();
     let (u_before, u_count) = copies_of(instance, starts, edge.u);
     let (v_before, v_count) = copies_of(instance, starts, edge.v);
     add_rectangle(graph, u_before, u_count, before, room, edge.w)?;

@@ -28,11 +28,9 @@ fn add_twice(graph: &mut Graph, edge: &InstanceEdge, n: u32) -> Result<(), OutOf
     }) }
     ensures graph { IsGraph graph.new }
 {
-    // The prover learns here that the graph is valid.
-    let _vertices = graph.vertices();
+    graph.add(edge.u, edge.v, -edge.w)?;
     let u = VertexId::new(edge.u.number() + n);
     let v = VertexId::new(edge.v.number() + n);
-    graph.add(edge.u, edge.v, -edge.w)?;
     graph.add(u, v, -edge.w)?;
     Ok(())
 }
@@ -48,8 +46,7 @@ fn add_edges_twice(graph: &mut Graph, instance: &Instance) -> Result<(), OutOfMe
     ensures graph { IsGraph graph.new }
 {
     let n = instance.vertices();
-    // The prover learns here that the graph is valid.
-    let _vertices = graph.vertices();
+    prove!(graph.vertices() == 2 * n);
     for edge in instance.edge_list() {
         add_twice(graph, edge, n)?;
     }
@@ -65,8 +62,7 @@ fn join_copies(graph: &mut Graph, n: u32) -> Result<(), OutOfMemory>
     }) }
     ensures graph { IsGraph graph.new }
 {
-    // The prover learns here that the graph is valid.
-    let _vertices = graph.vertices();
+    prove!(graph.vertices() == 2 * n);
     for k in 0..n {
         graph.add(VertexId::new(k + 1), VertexId::new(k + 1 + n), 0)?;
     }

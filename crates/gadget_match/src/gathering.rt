@@ -1,10 +1,10 @@
 ghost use Rattle.std.specs.Prelude.{◌≡◌, ℕ, ◌+◌, ◌-◌, ◌*◌, ◌<◌, ◌≤◌, ◌^◌, ◌==◌, if◌then◌else◌};
 ghost use Rattle.std.specs.Prelude.{length, slice_index, All, IfOk};
 ghost use Rattle.graph_theory.specs.Walk.{walk_weight};
-ghost use Rattle.mb_problem.specs.declared.limits.TheConstants.{EDGE_LIMIT};
 ghost use Rattle.mb_problem.specs.declared.kind.Kind.TheVariants.{BMatch};
 ghost use Rattle.mb_problem.specs.declared.answer.Answer.TheVariants.{Counts};
 ghost use Rattle.mb_problem.specs.Feasible.{IsFeasible, weight_of};
+ghost use Rattle.mb_problem.specs.Network.{IsNetwork};
 ghost use Rattle.gadget_base.specs.Gadgets.{copies_graph};
 ghost use Rattle.gadget_base.specs.Certified.{IsPerfectList};
 ghost use Rattle.gadget_base.specs.Starts.{AreStarts};
@@ -20,7 +20,7 @@ fn pair_counts(alloc: Global, instance: &Instance) -> Result<Vec<u32>, OutOfMemo
     ensures size { IfOk result (λ counts. length counts.items ≡ length instance.now.edges) }
     ensures each { IfOk result (λ counts. (k : ℕ) → k < length instance.now.edges
         → slice_index counts.items k ≡ pair_count instance.now k) }
-    ensures few { length instance.now.edges ≤ EDGE_LIMIT }
+    ensures network { IsNetwork instance.now }
 {
     let mut counts = Vec::with_capacity(alloc, instance.edges() as usize)?;
     for edge in instance.edge_list() {
@@ -31,8 +31,9 @@ fn pair_counts(alloc: Global, instance: &Instance) -> Result<Vec<u32>, OutOfMemo
 
 /// How many edges of the graph stand before those of each edge of the instance, and at last all.
 fn pair_starts(alloc: Global, instance: &Instance) -> Result<Vec<u64>, OutOfMemory>
-    ensures { IfOk result (λ starts. AreStarts (pair_count instance.now)
+    ensures starts { IfOk result (λ starts. AreStarts (pair_count instance.now)
         (length instance.now.edges) starts.items) }
+    ensures network { IsNetwork instance.now }
 {
     let counts = pair_counts(alloc, instance)?;
     let starts = wide_starts(alloc, &counts)?;
@@ -101,8 +102,6 @@ pub fn extract_copies(
         ≡ walk_weight (copies_graph instance.now) edges.now) }
     ensures answer { IfOk result (λ a. a ≡ Counts (gathered instance.now edges.now)) }
 {
-    // The prover learns here that the instance is valid.
-    let _edges = instance.edges();
     let starts = pair_starts(alloc, instance)?;
     let counts = count_pairs(alloc, instance, &starts, edges)?;
     Ok(Answer::Counts(Sequence::from_vec(counts)))

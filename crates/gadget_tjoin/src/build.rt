@@ -45,7 +45,6 @@ fn build(alloc: Global, instance: &Instance, parity: Parity) -> Result<Graph, Ou
     ensures graph { IfOk result (λ h. h ≡ ports_graph instance.now (odd_at parity instance.now)) }
     ensures network { IsNetwork instance.now }
 {
-    let _vertices = instance.vertices();
     let sizes = group_sizes(alloc, instance, parity)?;
     let before = starts(alloc, &sizes)?;
     let mut next = Vec::from_slice(alloc, &before)?;

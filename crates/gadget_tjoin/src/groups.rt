@@ -2,15 +2,15 @@ ghost use Rattle.std.specs.Prelude.{◌≡◌, ℕ, ◌+◌, ◌-◌, ◌*◌, �
 ghost use Rattle.std.specs.Prelude.{if◌then◌else◌, length, slice_index, IfOk, OnOk};
 ghost use Rattle.graph_theory.specs.Sums.{sum_to};
 ghost use Rattle.mb_problem.specs.declared.limits.TheConstants.{EDGE_LIMIT};
-ghost use Rattle.mb_problem.specs.Network.{vertices};
+ghost use Rattle.mb_problem.specs.Network.{IsNetwork, vertices};
 ghost use Rattle.mb_problem.specs.Size.{edge_count_at, port_count};
-ghost use Rattle.mb_problem.specs.Size.{odd_by, odd_at};
+ghost use Rattle.mb_problem.specs.Size.{odd_at};
 ghost use Rattle.gadget_base.specs.Blocks.{blocks, clique};
 
 use crate::links::take_ports;
 use gadget_base::add_clique;
 use mb_base::OutOfMemory;
-use mb_problem::{Instance, Parity};
+use mb_problem::{Instance, Parity, ports_by};
 use std::alloc::Global;
 use weighted_graph::Graph;
 
@@ -36,23 +36,11 @@ fn edge_counts(alloc: Global, instance: &Instance) -> Result<Vec<u32>, OutOfMemo
         → slice_index counts.items k ≡ edge_count_at instance.now (k + 1)) }
     ensures small { IfOk result (λ counts. (k : ℕ) → k < vertices instance.now
         → slice_index counts.items k ≤ 2 * EDGE_LIMIT) }
+    ensures network { IsNetwork instance.now }
 {
     let mut counts = vec![in alloc; 0u32; instance.vertices() as usize]?;
     count_edges(&mut counts, instance);
     Ok(counts)
-}
-
-/// How many ports and spares a vertex has.
-fn group_size(parity: Parity, met: u32, value: u32) -> u32
-    requires { met ≤ 2 * EDGE_LIMIT }
-    ensures { result ≡ met + (met + odd_by parity met value) % 2 }
-{
-    let odd = match parity {
-        Parity::Empty => 0,
-        Parity::Values => value % 2,
-        Parity::OddDegrees => met % 2,
-    };
-    met + (met + odd) % 2
 }
 
 /// How many ports and spares each vertex has.
@@ -65,11 +53,13 @@ pub fn group_sizes(
     ensures each { IfOk result (λ sizes. (k : ℕ) → k < vertices instance.now
         → slice_index sizes.items k ≡ port_count instance.now (odd_at parity instance.now)
         (k + 1)) }
+    ensures network { IsNetwork instance.now }
 {
     let counts = edge_counts(alloc, instance)?;
     let mut sizes = Vec::with_capacity(alloc, counts.len())?;
     for (k, value) in instance.value_list().iter().enumerate() {
-        sizes.push(group_size(parity, counts[k], *value))?;
+        let ports = ports_by(parity, u64::from(counts[k]), *value);
+        sizes.push(ports as u32)?;
     }
     Ok(sizes)
 }
@@ -87,7 +77,6 @@ pub fn add_cliques(graph: &mut Graph, before: &[u32], sizes: &[u32]) -> Result<(
           (λ k. clique (slice_index before.now k) (slice_index sizes.now k)) (length sizes.now);
     }) }
 {
-    let _vertices = graph.vertices();
     for (k, size) in sizes.iter().enumerate() {
         add_clique(graph, before[k], *size)?;
     }

@@ -5,34 +5,15 @@ ghost use Rattle.graph_theory.specs.Graph.{IsEdgeNumber};
 ghost use Rattle.graph_theory.specs.Parts.{holds};
 ghost use Rattle.graph_theory.specs.Walk.{walk_weight};
 ghost use Rattle.mb_problem.specs.declared.limits.TheConstants.{EDGE_LIMIT};
-ghost use Rattle.mb_problem.specs.Network.{Network, IsNetwork, graph_of};
+ghost use Rattle.mb_problem.specs.Network.{graph_of};
 ghost use Rattle.mb_problem.specs.Size.{odd_at};
 ghost use Rattle.gadget_base.specs.Gadgets.{ports_graph};
 ghost use Rattle.gadget_base.specs.Certified.{IsPerfectList};
 ghost use Rattle.mb_problem.specs.Joins.{IsJoinOf, listed_counts};
 
 use mb_base::{EdgeId, OutOfMemory, Sequence};
-use mb_problem::{Instance, Join, Parity};
+use mb_problem::{Instance, Join, Parity, marks_of};
 use std::alloc::Global;
-
-/// Which of the instance's edges are listed.
-fn marks_of(alloc: Global, instance: &Instance, edges: &[EdgeId]) -> Result<Vec<bool>, OutOfMemory>
-    requires numbers { All (λ e. 1 ≤ e) edges.now }
-    ensures size { IfOk result (λ marks. length marks.items ≡ length instance.now.edges) }
-    ensures each { IfOk result (λ marks. (k : ℕ) → k < length instance.now.edges
-        → slice_index_or marks.items k false ≡ holds edges.now (k + 1)) }
-    ensures network { IsNetwork instance.now }
-{
-    let count = instance.edges() as usize;
-    let mut marks = vec![in alloc; false; count]?;
-    for edge in edges {
-        let place = edge.number() as usize - 1;
-        if place < count {
-            marks[place] = true;
-        }
-    }
-    Ok(marks)
-}
 
 /// Puts the number after a place at the end where the place is marked.
 fn note(edges: &mut Vec<EdgeId>, place: usize, marked: bool) -> Result<(), OutOfMemory>
@@ -84,7 +65,7 @@ pub fn extract(
         ≡ walk_weight (ports_graph instance.now (odd_at parity.now instance.now)) edges.now) }
 {
     let _ = parity;
-    let marks = marks_of(alloc, instance, edges)?;
+    let marks = marks_of(alloc, instance.edges(), edges)?;
     let edges = Sequence::from_vec(marked(alloc, &marks)?);
     Ok(Join { edges })
 }

@@ -50,7 +50,7 @@ fn carry(graph: &Graph, link: Link, flags: &mut [bool], taken: &mut [bool])
     ensures balanced { (odd : ℕ → ℕ) → IsBalanced graph.now odd taken.old flags.old
         → IsBalanced graph.now odd taken.new flags.new }
 {
-    let _vertices = graph.vertices();
+    prove!(link.to.number() <= graph.vertices());
     if flags[link.to.number() as usize] {
         switch(graph, link.edge, flags, taken);
     }

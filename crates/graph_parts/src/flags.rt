@@ -5,7 +5,7 @@ ghost use Rattle.graph_parts.specs.Marks.{is_marked};
 ghost use Rattle.graph_parts.specs.OddParts.{is_terminal};
 
 use mb_base::{OutOfMemory, VertexId};
-use mb_problem::{Instance, Parity};
+use mb_problem::{Instance, Parity, odd_by};
 use std::alloc::Global;
 use weighted_graph::Incidence;
 
@@ -17,11 +17,8 @@ fn is_odd_at(instance: &Instance, index: &Incidence, parity: &Parity, v: VertexI
     requires high { v ≤ vertices instance.now }
     ensures { result ≡ is_terminal parity.now instance.now v }
 {
-    match parity {
-        Parity::Empty => false,
-        Parity::Values => instance.value(v) % 2 == 1,
-        Parity::OddDegrees => index.at(v).len() % 2 == 1,
-    }
+    let degree = index.at(v).len() as u64;
+    odd_by(*parity, degree, instance.value(v)) == 1
 }
 
 /// A flag at each vertex at which a join of this parity has odd degree. Place 0 is no vertex.

@@ -1,5 +1,6 @@
 -- A made instance has what instances of its kind have besides.
-use Rattle.std.proofs.Common.{◌≡◌, ℕ, zero, suc, ◌+◌, ◌-◌, ◌<◌, ◌≤◌, ◌%◌, ◌||◌, ◌⊎◌, Bool, true, false, cond, eqb, ltb, pos, ◌≤ℤ◌, refl, ap, ap₂, sym, subst, ◌∙◌, inl, inr, arith}
+use Rattle.std.proofs.Common.{◌≡◌, ℕ, zero, suc, ◌+◌, ◌-◌, ◌<◌, ◌≤◌, ◌%◌, ◌||◌, ◌⊎◌, Bool, true, false, cond, eqb, ltb, pos, ◌≤ℤ◌, refl, ap}
+use Rattle.std.proofs.Common.{ap₂, sym, subst, ◌∙◌, inl, inr, arith}
 use Rattle.std.proofs.lemmas.Bool.{eq-eqb, ne_eqb, cases_eq}
 use Rattle.std.proofs.lemmas.Int.{ints}
 use Rattle.mb_problem.specs.declared.kind.Kind.{Kind}
@@ -89,8 +90,12 @@ module _ (kind : Kind) (start n m : ℕ) (two : 2 ≤ n) (marks : vertex_value_o
 
   end_is : (v : ℕ) → (v ≡ 1) ⊎ (v ≡ n) → (1 ≤ v) × (v ≤ vertices (made kind start n m)) × (value_of (made kind start n m) v % 2 ≡ 1)
   end_is v (inl e) =
-      let size = size_is in
-      (omega (arith, e), omega (arith, e, two, size), ap (λ (x : ℕ). x % 2) (value_is v (omega (arith, e)) (omega (arith, e, two)) ∙ ap (end_value n) (let p : v - 1 ≡ 0 = omega (arith, e) in p)))
+      let size = size_is in (
+        omega (arith, e),
+        omega (arith, e, two, size),
+        ap (λ (x : ℕ). x % 2)
+            (value_is v (omega (arith, e)) (omega (arith, e, two)) ∙ ap (end_value n) (let p : v - 1 ≡ 0 = omega (arith, e) in p)),
+      )
   end_is v (inr e) =
       let size = size_is in
       (omega (arith, e, two), omega (arith, e, size), ap (λ (x : ℕ). x % 2) (value_is v (omega (arith, e, two)) (omega (arith, e)) ∙ last_value n two (v - 1) (omega (arith, e, two))))

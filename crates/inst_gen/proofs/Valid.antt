@@ -1,5 +1,6 @@
 -- A made instance is within the ranges that every instance keeps.
-use Rattle.std.proofs.Common.{◌≡◌, ◌≢◌, ℕ, ◌+◌, ◌-◌, ◌*◌, ◌<◌, ◌≤◌, ◌/◌, ◌^◌, ◌||◌, ◌==◌, Bool, true, false, cond, ltb, leb, All, pos, ◌-ℤ◌, refl, sym, subst, arith}
+use Rattle.std.proofs.Common.{◌≡◌, ◌≢◌, ℕ, ◌+◌, ◌-◌, ◌*◌, ◌<◌, ◌≤◌, ◌/◌, ◌^◌, ◌||◌, ◌==◌, Bool, true, false, cond, ltb, leb, All, pos}
+use Rattle.std.proofs.Common.{◌-ℤ◌, refl, sym, subst, arith}
 use Rattle.std.proofs.lemmas.Bool.{ltb-true, leb-true, leb-false}
 use Rattle.std.proofs.lemmas.Int.{ints}
 use Rattle.std.proofs.lemmas.Nat.{mod_below}
@@ -94,6 +95,9 @@ made_is_network kind start n m few_vertices few_edges ends =
     record {
       few_vertices = omega (arith, size, few_vertices);
       few_edges = omega (arith, tabled-length (λ k. edge_at kind (state_after s (edge_draws kind n k)) n k) m, few_edges);
-      edges = subst (λ (v : ℕ). All (IsInstanceEdge v) (edges_from kind s n m)) (sym size) (All-tabled (IsInstanceEdge n) (λ k. edge_at kind (state_after s (edge_draws kind n k)) n k) m (λ k below. edge_fits kind (state_after s (edge_draws kind n k)) n k (ends (omega (arith, below)))));
-      values = All-tabled (λ b. b ≤ VALUE_LIMIT) (λ k. value_at kind (state_after start (value_draws kind k)) n k) n (λ k below. value_small (vertex_value_of kind) (state_after start (value_draws kind k)) n k);
+      edges = subst (λ (v : ℕ). All (IsInstanceEdge v) (edges_from kind s n m)) (sym size)
+          (All-tabled (IsInstanceEdge n) (λ k. edge_at kind (state_after s (edge_draws kind n k)) n k) m
+          (λ k below. edge_fits kind (state_after s (edge_draws kind n k)) n k (ends (omega (arith, below)))));
+      values = All-tabled (λ b. b ≤ VALUE_LIMIT) (λ k. value_at kind (state_after start (value_draws kind k)) n k) n
+          (λ k below. value_small (vertex_value_of kind) (state_after start (value_draws kind k)) n k);
     }

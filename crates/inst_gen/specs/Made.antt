@@ -1,8 +1,10 @@
 -- The made instances: each value and each edge from the state of the generator before it.
-use Rattle.std.specs.Prelude.{ℕ, Bool, true, ◌+◌, ◌-◌, ◌*◌, ◌||◌, ◌==◌, nat_lt, nat_le, if◌then◌else◌, ℤ, pos, ◌-ℤ◌, List, Option, None, Some}
+use Rattle.std.specs.Prelude.{ℕ, Bool, true, ◌+◌, ◌-◌, ◌*◌, ◌||◌, ◌==◌, nat_lt, nat_le}
+use Rattle.std.specs.Prelude.{if◌then◌else◌, ℤ, pos, ◌-ℤ◌, List, Option, None, Some}
 use Rattle.mb_problem.specs.declared.kind.Kind.{Kind}
 use Rattle.mb_problem.specs.declared.kind.Need.{Need}
-use Rattle.mb_problem.specs.declared.kind.Need.TheVariants.{Unrestricted, WeightsFromZero, Ends, EndsAndWeightsFromZero}
+use Rattle.mb_problem.specs.declared.kind.Need.TheVariants.{Unrestricted, WeightsFromZero, Ends}
+use Rattle.mb_problem.specs.declared.kind.Need.TheVariants.{EndsAndWeightsFromZero}
 use Rattle.mb_problem.specs.declared.kind.VertexValue.{VertexValue}
 use Rattle.mb_problem.specs.declared.kind.VertexValue.TheVariants.{Unused, Degree, Parity, End}
 use Rattle.mb_problem.specs.declared.kind.EdgeUse.{EdgeUse}
@@ -26,7 +28,8 @@ value_draws_by End k = 0
 abbrev pub value_draws : Kind → ℕ → ℕ
 value_draws kind k = value_draws_by (vertex_value_of kind) k
 
--- the value of the vertex at place k of n, from 0, in state s; the first vertex and the last are the ends
+-- the value of the vertex at place k of n, from 0, in state s; the first vertex and the last are
+-- the ends
 abbrev pub value_by : VertexValue → ℕ → ℕ → ℕ → ℕ
 value_by Unused s n k = 0
 value_by Degree s n k = 1 + drawn 2 s
@@ -38,7 +41,8 @@ value_at kind s n k = value_by (vertex_value_of kind) s n k
 
 -- ---- edges
 
--- no weight below 0 is drawn where the kind asks for such an instance, or that no circuit weighs less than 0
+-- no weight below 0 is drawn where the kind asks for such an instance, or that no circuit weighs
+-- less than 0
 abbrev pub from_zero_by : Need → Bool → Bool
 from_zero_by Unrestricted conservative = conservative
 from_zero_by WeightsFromZero conservative = true
@@ -74,21 +78,25 @@ label_draws kind = label_draws_by (edge_use_of kind)
 
 -- the edge from u to v, whose weight is drawn in state s, and then its capacity
 abbrev pub edge_between : Kind → ℕ → ℕ → ℕ → InstanceEdge
-edge_between kind s u v = record { u = u; v = v; w = weight_at kind s; capacity = capacity_at kind (next_state s) }
+edge_between kind s u v =
+    record { u = u; v = v; w = weight_at kind s; capacity = capacity_at kind (next_state s) }
 
 -- the other end: a vertex other than u, where r counts those from 0 without u
 abbrev pub other_than : ℕ → ℕ → ℕ
 other_than u r = if nat_le u (1 + r) then 2 + r else 1 + r
 
--- The edge at place k, from 0, in state s. The first edges are those of a path through the n vertices, whose ends aren't drawn
+-- The edge at place k, from 0, in state s. The first edges are those of a path through the n
+-- vertices, whose ends aren't drawn
 abbrev pub edge_at : Kind → ℕ → ℕ → ℕ → InstanceEdge
 edge_at kind s n k =
     if nat_lt (k + 1) n then edge_between kind s (k + 1) (k + 2)
-    else edge_between kind (state_after s 2) (1 + drawn n s) (other_than (1 + drawn n s) (drawn (n - 1) (next_state s)))
+    else edge_between kind (state_after s 2) (1 + drawn n s)
+    (other_than (1 + drawn n s) (drawn (n - 1) (next_state s)))
 
 -- ---- all of them
 
--- how many numbers are drawn for k edges: weights and capacities, and the two ends of each that isn't of the path
+-- how many numbers are drawn for k edges: weights and capacities, and the two ends of each that
+-- isn't of the path
 abbrev pub edge_draws : Kind → ℕ → ℕ → ℕ
 edge_draws kind n k = label_draws kind * k + 2 * (k - (n - 1))
 
@@ -102,4 +110,8 @@ edges_from kind s n m = tabled (λ k. edge_at kind (state_after s (edge_draws ki
 
 -- the instance of n vertices and m edges that the kind and the start determine
 abbrev pub made : Kind → ℕ → ℕ → ℕ → Network
-made kind start n m = record { edges = edges_from kind (state_after start (value_draws kind n)) n m; values = values_from kind start n }
+made kind start n m =
+    record {
+      edges = edges_from kind (state_after start (value_draws kind n)) n m;
+      values = values_from kind start n;
+    }

@@ -26,6 +26,7 @@ pub use kind::{
     VertexValue,
 };
 pub use limits::{EDGE_LIMIT, VALUE_LIMIT, VERTEX_LIMIT};
+pub use marks::{mark, marks_of};
 pub use measure::{degree, weight};
-pub use size::{gadget_size, size_by};
+pub use size::{gadget_size, odd_by, ports_by, size_by};
 pub use walks::is_circuit;

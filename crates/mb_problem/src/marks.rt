@@ -32,14 +32,16 @@ pub fn are_all_marked(marks: &[bool]) -> bool
     true
 }
 
-/// Marks for the numbers of edges from 1 to `m`: those that are listed.
+/// Marks for the numbers of edges from 1 to `m`: those that are listed. Greater ones have none.
 pub fn marks_of(alloc: Global, m: u32, edges: &[EdgeId]) -> Result<Vec<bool>, OutOfMemory>
-    requires { All (λ e. (1 ≤ e) × (e ≤ m)) edges.now }
+    requires { All (λ e. 1 ≤ e) edges.now }
     ensures { IfOk result (λ marks. AreMarks m marks.items edges.now) }
 {
     let mut marks = vec![in alloc; false; m as usize]?;
     for e in edges {
-        mark(&mut marks, e.number());
+        if e.number() <= m {
+            mark(&mut marks, e.number());
+        }
     }
     Ok(marks)
 }

@@ -107,8 +107,8 @@ fn capped_size(instance: &Instance, capacities: Capacities) -> (u64, u64)
     (value_total(instance) + 2 * rooms, edges)
 }
 
-/// The parity that a join has at a vertex.
-fn odd_by(parity: Parity, degree: u64, value: u32) -> u64
+/// 1 where a join of this parity has odd degree at a vertex of this degree and value, else 0.
+pub fn odd_by(parity: Parity, degree: u64, value: u32) -> u64
     ensures odd { result ≡ odd_by parity degree value }
     ensures bit { result ≤ 1 }
 {
@@ -120,7 +120,7 @@ fn odd_by(parity: Parity, degree: u64, value: u32) -> u64
 }
 
 /// A port for each edge at a vertex, and one more where their number hasn't the join's parity.
-fn ports_by(parity: Parity, degree: u64, value: u32) -> u64
+pub fn ports_by(parity: Parity, degree: u64, value: u32) -> u64
     requires { degree ≤ 2 * EDGE_LIMIT }
     ensures ports { result ≡ degree + (degree + odd_by parity degree value) % 2 }
     ensures small { result ≤ 2 * EDGE_LIMIT + 1 }

@@ -1,5 +1,6 @@
 -- A join beside all edges: even degrees, and what they weigh together.
-use Rattle.std.proofs.Common.{◌≡◌, ℕ, ◌+◌, ◌*◌, ◌%◌, ◌<◌, ◌≤◌, ℤ, pos, ◌+ℤ◌, ◌*ℤ◌, cond, ap, ◌∙◌, arith, List, length, slice_index, replicate, All}
+use Rattle.std.proofs.Common.{◌≡◌, ℕ, ◌+◌, ◌*◌, ◌%◌, ◌<◌, ◌≤◌, ℤ, pos, ◌+ℤ◌, ◌*ℤ◌, cond, ap, ◌∙◌, arith, List, length, slice_index}
+use Rattle.std.proofs.Common.{replicate, All}
 use Rattle.std.proofs.lemmas.Int.{ints}
 use Rattle.std.proofs.lemmas.List.{get_or-replicate}
 use Rattle.graph_theory.specs.Graph.{IsEdgeNumber, edge_at, ends_at, degree}
@@ -25,7 +26,9 @@ once_more a b c s t whole one other =
     ap (λ (y : ℕ). y * c) sum ∙ split
 
 -- all edges and the join have even degrees
-pub uses-even : (i : Network) (join uses : List ℕ) → ListsJoin i (odd_at OddDegrees i) join → ((k : ℕ) → k < length i.edges → slice_index uses k ≡ 1 + cond (holds join (k + 1)) 1 0) → (v : ℕ) → 1 ≤ v → v ≤ vertices i → degree (graph_of i) uses v % 2 ≡ 0
+pub uses-even : (i : Network) (join uses : List ℕ) → ListsJoin i (odd_at OddDegrees i) join
+    → ((k : ℕ) → k < length i.edges → slice_index uses k ≡ 1 + cond (holds join (k + 1)) 1 0) → (v : ℕ) → 1 ≤ v → v ≤ vertices i
+    → degree (graph_of i) uses v % 2 ≡ 0
 uses-even i join uses lists each v low high =
     let g = graph_of i in
     let m = length i.edges in
@@ -34,13 +37,15 @@ uses-even i join uses lists each v low high =
     let parts = sum_to-same (λ k. slice_index uses k * at k) (λ k. slice_index (replicate m 1) k * at k + slice_index (listed_counts join m) k * at k) (length g.edges)
     (λ k b.
     let place : k < m = omega (arith, size, b) in
-    once_more (slice_index (replicate m 1) k) (slice_index (listed_counts join m) k) (at k) (slice_index uses k) (cond (holds join (k + 1)) 1 0) (each k place) (get_or-replicate m k 1 0 place) (listed-at join m k 0 place)) in
+    once_more (slice_index (replicate m 1) k) (slice_index (listed_counts join m) k) (at k) (slice_index uses k) (cond (holds join (k + 1)) 1 0) (each k place)
+    (get_or-replicate m k 1 0 place) (listed-at join m k 0 place)) in
     let both = sum_to-add (λ k. slice_index (replicate m 1) k * at k) (λ k. slice_index (listed_counts join m) k * at k) (length g.edges) in
     let odd = lists.join.degrees v low high in
     omega (arith, parts, both, odd)
 
 -- a walk that uses each edge once and the join twice weighs all edges and the join
-pub uses-weigh : (i : Network) (odd : ℕ → ℕ) (join walk : List ℕ) → ListsJoin i odd join → All (IsEdgeNumber (graph_of i)) walk → UsesOnceAndJoinTwice i join walk → walk_weight (graph_of i) walk ≡ total_weight i +ℤ walk_weight (graph_of i) join
+pub uses-weigh : (i : Network) (odd : ℕ → ℕ) (join walk : List ℕ) → ListsJoin i odd join → All (IsEdgeNumber (graph_of i)) walk → UsesOnceAndJoinTwice i join walk
+    → walk_weight (graph_of i) walk ≡ total_weight i +ℤ walk_weight (graph_of i) join
 uses-weigh i odd join walk lists numbers uses =
     let g = graph_of i in
     let m = length g.edges in

@@ -1,5 +1,6 @@
 -- The least vertex that an edge meets, as far as a loop has come.
-use Rattle.std.proofs.Common.{◌≡◌, ◌⊎◌, ℕ, ◌+◌, ◌<◌, ◌≤◌, true, length, inl, inr, subst, arith}
+use Rattle.std.proofs.Common.{◌≡◌, ◌⊎◌, ℕ, ◌+◌, ◌<◌, ◌≤◌, true, length, inl, inr, min, subst, arith, ◌∙◌}
+use Rattle.std.proofs.Math.Nat.{min-le_left, min-le_right, min-eq_left, min_comm}
 use Rattle.std.proofs.lemmas.Bool.{cases_lt}
 use Rattle.graph_theory.specs.Graph.{Multigraph, edge_at, touches}
 use Rattle.graph_theory.proofs.Edges.{touches-u, touches-v}
@@ -15,7 +16,8 @@ end_met g k v b (inl e) = let P : ℕ → Type 0 = λ x. touches (edge_at g k) x
 end_met g k v b (inr e) = let P : ℕ → Type 0 = λ x. touches (edge_at g k) x ≡ true in subst P (let f : (edge_at g k).v ≡ v = omega arith in f) (touches-v (edge_at g k))
 
 -- the lesser of the least vertex so far and of the ends of the next edge
-pub least-next : (g : Multigraph) (v w x n : ℕ) → IsLeastBelow g v n → n < length g.edges → w ≤ (edge_at g n).u → w ≤ (edge_at g n).v → (w ≡ (edge_at g n).u) ⊎ (w ≡ (edge_at g n).v) → x ≤ v → x ≤ w → (x ≡ v) ⊎ (x ≡ w) → IsLeastBelow g x (n + 1)
+pub least-next : (g : Multigraph) (v w x n : ℕ) → IsLeastBelow g v n → n < length g.edges → w ≤ (edge_at g n).u → w ≤ (edge_at g n).v
+    → (w ≡ (edge_at g n).u) ⊎ (w ≡ (edge_at g n).v) → x ≤ v → x ≤ w → (x ≡ v) ⊎ (x ≡ w) → IsLeastBelow g x (n + 1)
 least-next g v w x n so_far b under_u under_v one under_v' under_w which = record {
   met = elim which [
     | inl e ↦ let P : ℕ → Type 0 = λ y. (k : ℕ) × (k < length g.edges) × (touches (edge_at g k) y ≡ true) in subst P (let f : v ≡ x = omega arith in f) so_far.met
@@ -29,3 +31,24 @@ least-next g v w x n so_far b under_u under_v one under_v' under_w which = recor
         subst P same (omega (arith, under_u, under_w), omega (arith, under_v, under_w))
   ];
 }
+
+min_one : (a b : ℕ) → (min a b ≡ a) ⊎ (min a b ≡ b)
+min_one a b = elim (cases_lt a b) [
+  | inl less ↦ inl (min-eq_left (omega (arith, less)))
+  | inr more ↦ inr (min_comm a b ∙ min-eq_left (omega (arith, more)))
+]
+
+-- the least vertex so far, and the lesser of the ends of the next edge
+pub least-more : (g : Multigraph) (v w x n a b : ℕ) → IsLeastBelow g v n → n < length g.edges → a ≡ (edge_at g n).u → b ≡ (edge_at g n).v → w ≡ min a b → x ≡ min v w
+    → IsLeastBelow g x (n + 1)
+least-more g v w x n a b so_far here u_is v_is w_is x_is =
+    let end : (w ≡ (edge_at g n).u) ⊎ (w ≡ (edge_at g n).v) = elim (min_one a b) [
+      | inl e ↦ inl (w_is ∙ e ∙ u_is)
+      | inr e ↦ inr (w_is ∙ e ∙ v_is)
+    ] in
+    let one : (x ≡ v) ⊎ (x ≡ w) = elim (min_one v w) [
+      | inl e ↦ inl (x_is ∙ e)
+      | inr e ↦ inr (x_is ∙ e)
+    ] in
+    least-next g v w x n so_far here (omega (arith, w_is, u_is, min-le_left a b)) (omega (arith, w_is, v_is, min-le_right a b)) end
+    (omega (arith, x_is, min-le_left v w)) (omega (arith, x_is, min-le_right v w)) one

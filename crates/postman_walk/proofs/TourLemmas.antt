@@ -16,7 +16,8 @@ some_held [] e h = absurd (false≢true h)
 some_held (x ∷ es) e h = omega arith
 
 -- a closed walk that uses each edge is a tour, where an edge meets its start
-pub tour-uses : (i : Network) (start : ℕ) (join walk : List ℕ) → IsClosedWalk (graph_of i) start walk → UsesOnceAndJoinTwice i join walk → IsLeastMet (graph_of i) start → IsTour i start walk
+pub tour-uses : (i : Network) (start : ℕ) (join walk : List ℕ) → IsClosedWalk (graph_of i) start walk → UsesOnceAndJoinTwice i join walk → IsLeastMet (graph_of i) start
+    → IsTour i start walk
 tour-uses i start join walk closed uses met =
     let held : (e : ℕ) → 1 ≤ e → e ≤ length i.edges → holds walk e ≡ true = λ e low high.
     let back : e - 1 + 1 ≡ e = omega arith in
@@ -32,11 +33,14 @@ tour-uses i start join walk closed uses met =
     }
 
 -- the uses of each edge, where they were counted for as many edges and the same join
-pub uses-each : (uses join listed : List ℕ) (count m : ℕ) → count ≡ m → listed ≡ join → ((k : ℕ) → k < count → slice_index uses k ≡ 1 + cond (holds listed (k + 1)) 1 0) → (k : ℕ) → k < m → slice_index uses k ≡ 1 + cond (holds join (k + 1)) 1 0
+pub uses-each : (uses join listed : List ℕ) (count m : ℕ) → count ≡ m → listed ≡ join → ((k : ℕ) → k < count → slice_index uses k ≡ 1 + cond (holds listed (k + 1)) 1 0)
+    → (k : ℕ) → k < m → slice_index uses k ≡ 1 + cond (holds join (k + 1)) 1 0
 uses-each uses join listed count m size same each k b = subst (λ (xs : List ℕ). slice_index uses k ≡ 1 + cond (holds xs (k + 1)) 1 0) same (each k (omega (arith, size, b)))
 
 -- a walk that uses each edge so often uses each once and those of the join twice
-pub uses-walked : (i : Network) (g : Multigraph) (uses join walk : List ℕ) → g ≡ graph_of i → ((k : ℕ) → k < length i.edges → slice_index uses k ≡ 1 + cond (holds join (k + 1)) 1 0) → ((k : ℕ) → k < length g.edges → times walk (k + 1) ≡ slice_index uses k) → UsesOnceAndJoinTwice i join walk
+pub uses-walked : (i : Network) (g : Multigraph) (uses join walk : List ℕ) → g ≡ graph_of i
+    → ((k : ℕ) → k < length i.edges → slice_index uses k ≡ 1 + cond (holds join (k + 1)) 1 0) → ((k : ℕ) → k < length g.edges → times walk (k + 1) ≡ slice_index uses k)
+    → UsesOnceAndJoinTwice i join walk
 uses-walked i g uses join walk is each walked k b =
     let size : length g.edges ≡ length i.edges = ap (λ (h : Multigraph). length h.edges) is ∙ edges-count i in
     walked k (omega (arith, size, b)) ∙ each k b

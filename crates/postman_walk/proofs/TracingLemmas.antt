@@ -1,5 +1,6 @@
 -- The steps that make a closed walk which uses each edge as often as it is to.
-use Rattle.std.proofs.Common.{◌≡◌, ℕ, ◌+◌, ◌-◌, ◌<◌, ◌≤◌, Bool, true, cond, eqb, refl, ap, sym, ◌∙◌, subst, inl, inr, arith, List, [], ◌∷◌, ◌++◌, length, slice_index, All}
+use Rattle.std.proofs.Common.{◌≡◌, ℕ, ◌+◌, ◌-◌, ◌<◌, ◌≤◌, Bool, true, cond, eqb, refl, ap, sym, ◌∙◌, subst, inl, inr, arith, List, [], ◌∷◌, ◌++◌}
+use Rattle.std.proofs.Common.{length, slice_index, All}
 use Rattle.std.proofs.lemmas.Bool.{cases_eq, cases_Bool, eq-eqb, ne_eqb}
 use Rattle.graph_theory.specs.declared.edge.Edge.{Edge}
 use Rattle.graph_theory.specs.Graph.{Multigraph, IsEdgeWithin, edge_at, edge_of, touches, other_end, CountsNoneAt, degree}
@@ -28,7 +29,8 @@ pub record IsTracing (g : Multigraph) (uses left : List ℕ) (start here : ℕ) 
   pub settled : (v : ℕ) → holds (walk_left g start finished) v ≡ true → CountsNoneAt g left v
 
 -- one edge more of the open walk
-pub tracing-push : (g : Multigraph) (uses left after : List ℕ) (start here e : ℕ) (opened finished : List ℕ) → All (IsEdgeWithin g.vertices) g.edges → IsTracing g uses left start here opened finished → TakesOne g left after here e → IsTracing g uses after start (other_end (edge_of g e) here) (opened ++ e ∷ []) finished
+pub tracing-push : (g : Multigraph) (uses left after : List ℕ) (start here e : ℕ) (opened finished : List ℕ) → All (IsEdgeWithin g.vertices) g.edges
+    → IsTracing g uses left start here opened finished → TakesOne g left after here e → IsTracing g uses after start (other_end (edge_of g e) here) (opened ++ e ∷ []) finished
 tracing-push g uses left after start here e opened finished ends t takes = record {
   opened_is = walk-push g start opened e t.opened_is takes.number (ap (touches (edge_of g e)) t.opened_end ∙ takes.meets);
   opened_end = end-push g start opened e ∙ ap (other_end (edge_of g e)) t.opened_end;
@@ -45,13 +47,15 @@ tracing-push g uses left after start here e opened finished ends t takes = recor
   settled = λ v h k b meets. still-none left after e k takes.taken (t.settled v h k b meets);
 }
 
-here_within : (g : Multigraph) (uses left : List ℕ) (start here : ℕ) (opened finished : List ℕ) → All (IsEdgeWithin g.vertices) g.edges → (1 ≤ start) × (start ≤ g.vertices) → IsTracing g uses left start here opened finished → (1 ≤ here) × (here ≤ g.vertices)
+here_within : (g : Multigraph) (uses left : List ℕ) (start here : ℕ) (opened finished : List ℕ) → All (IsEdgeWithin g.vertices) g.edges → (1 ≤ start) × (start ≤ g.vertices)
+    → IsTracing g uses left start here opened finished → (1 ≤ here) × (here ≤ g.vertices)
 here_within g uses left start here opened finished ends within t =
     let P : ℕ → Type 0 = λ x. (1 ≤ x) × (x ≤ g.vertices) in
     subst P t.opened_end (walk-within g start opened ends within t.opened_is)
 
 -- where nothing is left at the open end, the finished walk ends there too
-stuck : (g : Multigraph) (uses left : List ℕ) (start here : ℕ) (opened finished : List ℕ) → All (IsEdgeWithin g.vertices) g.edges → (1 ≤ start) × (start ≤ g.vertices) → IsTracing g uses left start here opened finished → CountsNoneAt g left here → walk_end g start finished ≡ here
+stuck : (g : Multigraph) (uses left : List ℕ) (start here : ℕ) (opened finished : List ℕ) → All (IsEdgeWithin g.vertices) g.edges → (1 ≤ start) × (start ≤ g.vertices)
+    → IsTracing g uses left start here opened finished → CountsNoneAt g left here → walk_end g start finished ≡ here
 stuck g uses left start here opened finished ends within t settled =
     let there = here_within g uses left start here opened finished ends within t in
     let even = t.even here there.0 there.1 in
@@ -65,7 +69,9 @@ stuck g uses left start here opened finished ends within t settled =
     ]
 
 -- the last edge of the open walk, where nothing is left at its end, goes over to the finished one
-pub tracing-pop : (g : Multigraph) (uses left : List ℕ) (start here e : ℕ) (front finished : List ℕ) → All (IsEdgeWithin g.vertices) g.edges → (1 ≤ start) × (start ≤ g.vertices) → IsTracing g uses left start here (front ++ e ∷ []) finished → CountsNoneAt g left here → IsTracing g uses left start (other_end (edge_of g e) here) front (finished ++ e ∷ [])
+pub tracing-pop : (g : Multigraph) (uses left : List ℕ) (start here e : ℕ) (front finished : List ℕ) → All (IsEdgeWithin g.vertices) g.edges
+    → (1 ≤ start) × (start ≤ g.vertices) → IsTracing g uses left start here (front ++ e ∷ []) finished → CountsNoneAt g left here
+    → IsTracing g uses left start (other_end (edge_of g e) here) front (finished ++ e ∷ [])
 tracing-pop g uses left start here e front finished ends within t settled =
     let edge = edge_of g e in
     let from = walk_end g start front in
@@ -84,7 +90,8 @@ tracing-pop g uses left start here e front finished ends within t settled =
       even = λ v low high.
           let was = t.even v low high in
           let before : cond {A = ℕ} (eqb (walk_end g start finished) v) 1 0 ≡ cond (eqb here v) 1 0 = ap (λ (x : ℕ). cond {A = ℕ} (eqb x v) 1 0) done in
-          let after : cond {A = ℕ} (eqb (walk_end g start (finished ++ e ∷ [])) v) 1 0 ≡ cond (eqb (other_end edge here) v) 1 0 = ap (λ (x : ℕ). cond {A = ℕ} (eqb x v) 1 0) next in
+          let after : cond {A = ℕ} (eqb (walk_end g start (finished ++ e ∷ [])) v) 1 0 ≡ cond (eqb (other_end edge here) v) 1 0 =
+          ap (λ (x : ℕ). cond {A = ℕ} (eqb x v) 1 0) next in
           omega (arith, was, before, after);
       settled = λ v h. elim (left_before g start v e finished h) [
         | inl a ↦ t.settled v a
@@ -95,7 +102,8 @@ tracing-pop g uses left start here e front finished ends within t settled =
 -- at the end the finished walk is closed, and uses each edge as often as it is to
 
 -- nothing is left at a vertex that the finished walk comes to
-quiet : (g : Multigraph) (uses left : List ℕ) (start here v : ℕ) (opened finished : List ℕ) → walk_end g start finished ≡ here → IsTracing g uses left start here opened finished → CountsNoneAt g left here → holds (walk_vertices g start finished) v ≡ true → CountsNoneAt g left v
+quiet : (g : Multigraph) (uses left : List ℕ) (start here v : ℕ) (opened finished : List ℕ) → walk_end g start finished ≡ here → IsTracing g uses left start here opened finished
+    → CountsNoneAt g left here → holds (walk_vertices g start finished) v ≡ true → CountsNoneAt g left v
 quiet g uses left start here v opened finished done t settled h =
     elim (left_or_end g start v finished h) [
       | inl a ↦ t.settled v a
@@ -103,14 +111,17 @@ quiet g uses left start here v opened finished done t settled h =
     ]
 
 -- an edge at such a vertex is used by the finished walk
-used : (g : Multigraph) (uses left : List ℕ) (start here k v : ℕ) (finished : List ℕ) → IsTracing g uses left start here [] finished → k < length g.edges → 1 ≤ slice_index uses k → CountsNoneAt g left v → touches (edge_at g k) v ≡ true → holds finished (k + 1) ≡ true
+used : (g : Multigraph) (uses left : List ℕ) (start here k v : ℕ) (finished : List ℕ) → IsTracing g uses left start here [] finished → k < length g.edges
+    → 1 ≤ slice_index uses k → CountsNoneAt g left v → touches (edge_at g k) v ≡ true → holds finished (k + 1) ≡ true
 used g uses left start here k v finished t b some settled meets =
     let s = t.shared k b in
     let none : times [] (k + 1) ≡ 0 = refl in
     let gone = settled k b meets in
     times-held finished (k + 1) (omega (arith, s, none, gone, some))
 
-pub tracing-end : (g : Multigraph) (uses left : List ℕ) (start here : ℕ) (finished : List ℕ) → All (IsEdgeWithin g.vertices) g.edges → IsTracing g uses left start here [] finished → CountsNoneAt g left here → ((k : ℕ) → k < length g.edges → 1 ≤ slice_index uses k) → HasConnectedEdges g → (first : ℕ) → first < length g.edges → touches (edge_at g first) start ≡ true → IsClosedWalk g start finished × ((k : ℕ) → k < length g.edges → times finished (k + 1) ≡ slice_index uses k)
+pub tracing-end : (g : Multigraph) (uses left : List ℕ) (start here : ℕ) (finished : List ℕ) → All (IsEdgeWithin g.vertices) g.edges → IsTracing g uses left start here [] finished
+    → CountsNoneAt g left here → ((k : ℕ) → k < length g.edges → 1 ≤ slice_index uses k) → HasConnectedEdges g → (first : ℕ) → first < length g.edges
+    → touches (edge_at g first) start ≡ true → IsClosedWalk g start finished × ((k : ℕ) → k < length g.edges → times finished (k + 1) ≡ slice_index uses k)
 tracing-end g uses left start here finished ends t settled all connected first first_low first_meets =
     let within = touched-within g.vertices (edge_at g first) start (edge_at-within g first ends first_low) first_meets in
     let done = stuck g uses left start here [] finished ends within t settled in
@@ -124,7 +135,8 @@ tracing-end g uses left start here finished ends t settled all connected first f
     let back : e - 1 + 1 ≡ e = omega arith in
     let both = comes_to_ends g start e finished t.finished_is (sym (ap (holds finished) back) ∙ held) in
     elim (cases_Bool (eqb (edge_of g e).u v)) [ inl on ↦ rw on both.1 | inr off ↦ rw off both.0 ] in
-    let first_held = used g uses left start here first start finished t first_low (all first first_low) (quiet g uses left start here start [] finished done t settled (start_held g start finished)) first_meets in
+    let first_held = used g uses left start here first start finished t first_low (all first first_low)
+    (quiet g uses left start here start [] finished done t settled (start_held g start finished)) first_meets in
     let first_ends = comes_to_ends g start (first + 1) finished t.finished_is first_held in
     let first_u : holds vs (edge_at g first).u ≡ true = sym (ap (λ (x : Edge). holds vs x.u) (edge_of-place g first)) ∙ first_ends.0 in (
       (t.finished_is, done ∙ sym home),
@@ -138,7 +150,8 @@ tracing-end g uses left start here finished ends t settled all connected first f
     )
 
 -- the same of equal lists and vertices
-pub tracing-same : (g : Multigraph) (uses left left' : List ℕ) (start here here' : ℕ) (opened opened' finished finished' : List ℕ) → left ≡ left' → here ≡ here' → opened ≡ opened' → finished ≡ finished' → IsTracing g uses left start here opened finished → IsTracing g uses left' start here' opened' finished'
+pub tracing-same : (g : Multigraph) (uses left left' : List ℕ) (start here here' : ℕ) (opened opened' finished finished' : List ℕ) → left ≡ left' → here ≡ here'
+    → opened ≡ opened' → finished ≡ finished' → IsTracing g uses left start here opened finished → IsTracing g uses left' start here' opened' finished'
 tracing-same g uses left left' start here here' opened opened' finished finished' l h o f t =
     let L : List ℕ → Type 0 = λ x. IsTracing g uses x start here opened finished in
     let H : ℕ → Type 0 = λ x. IsTracing g uses left' start x opened finished in

@@ -29,7 +29,8 @@ step-parity n e v x within meets =
 
 pub left_or_end : (g : Multigraph) (v x : ℕ) (es : List ℕ) → holds (walk_vertices g v es) x ≡ true → (holds (walk_left g v es) x ≡ true) ⊎ (walk_end g v es ≡ x)
 left_or_end g v x es h =
-    elim (or_cases (holds (walk_left g v es) x) (eqb (walk_end g v es) x) (sym (holds-push (walk_left g v es) (walk_end g v es) x) ∙ sym (ap (λ (xs : List ℕ). holds xs x) (vertices-left g v es)) ∙ h)) [
+    elim (or_cases (holds (walk_left g v es) x) (eqb (walk_end g v es) x)
+    (sym (holds-push (walk_left g v es) (walk_end g v es) x) ∙ sym (ap (λ (xs : List ℕ). holds xs x) (vertices-left g v es)) ∙ h)) [
       | inl a ↦ inl a
       | inr a ↦ inr (eqb-true (walk_end g v es) x a)
     ]
@@ -37,7 +38,8 @@ left_or_end g v x es h =
 -- a walk with one edge more leaves the vertex where it ended too
 pub left_before : (g : Multigraph) (v x e : ℕ) (es : List ℕ) → holds (walk_left g v (es ++ e ∷ [])) x ≡ true → (holds (walk_left g v es) x ≡ true) ⊎ (walk_end g v es ≡ x)
 left_before g v x e es h =
-    elim (or_cases (holds (walk_left g v es) x) (eqb (walk_end g v es) x) (sym (holds-push (walk_left g v es) (walk_end g v es) x) ∙ sym (ap (λ (xs : List ℕ). holds xs x) (left-append g v es (e ∷ []))) ∙ h)) [
+    elim (or_cases (holds (walk_left g v es) x) (eqb (walk_end g v es) x)
+    (sym (holds-push (walk_left g v es) (walk_end g v es) x) ∙ sym (ap (λ (xs : List ℕ). holds xs x) (left-append g v es (e ∷ []))) ∙ h)) [
       | inl a ↦ inl a
       | inr a ↦ inr (eqb-true (walk_end g v es) x a)
     ]
@@ -64,7 +66,8 @@ first_ends g v e es meets =
     ]
 
 -- a walk comes to both ends of each edge that it uses
-pub comes_to_ends : (g : Multigraph) (v e : ℕ) (es : List ℕ) → IsWalk g v es → holds es e ≡ true → (holds (walk_vertices g v es) (edge_of g e).u ≡ true) × (holds (walk_vertices g v es) (edge_of g e).v ≡ true)
+pub comes_to_ends : (g : Multigraph) (v e : ℕ) (es : List ℕ) → IsWalk g v es → holds es e ≡ true
+    → (holds (walk_vertices g v es) (edge_of g e).u ≡ true) × (holds (walk_vertices g v es) (edge_of g e).v ≡ true)
 comes_to_ends g v e [] walk h = absurd (false≢true h)
 comes_to_ends g v e (f ∷ fs) walk h =
     let to = other_end (edge_of g f) v in

@@ -12,4 +12,5 @@ pub record IsLeastMet (g : Multigraph) (v : ℕ) : Type 0 where
 
 -- each edge once, those of the join twice
 abbrev pub UsesOnceAndJoinTwice : Network → List ℕ → List ℕ → Type 0
-UsesOnceAndJoinTwice i join walk = (k : ℕ) → k < length i.edges → times walk (k + 1) ≡ 1 + (if holds join (k + 1) then 1 else 0)
+UsesOnceAndJoinTwice i join walk =
+    (k : ℕ) → k < length i.edges → times walk (k + 1) ≡ 1 + (if holds join (k + 1) then 1 else 0)

@@ -17,18 +17,25 @@ use mb_base::{OutOfMemory, Sequence};
 use mb_problem::{Answer, Instance, Join};
 use std::alloc::Global;
 
-/// A closed walk for the postman (Schrijver, Combinatorial Optimization, volume A, chapter 29): each edge
-/// of the instance once, and those of the join once more. The join has odd degree where an odd number of
-/// edges meets, and all edges lie in one component. The walk starts at the least vertex that an edge
-/// meets; without edges the answer is `Nothing`. It takes time linear in the vertices and the edges.
+/// A closed walk for the postman (Schrijver, Combinatorial Optimization, volume A, chapter 29):
+/// each edge of the instance once, and those of the join once more. The join has odd degree where
+/// an odd number of edges meets, and all edges lie in one component. The walk starts at the least
+/// vertex that an edge meets; without edges the answer is `Nothing`. It takes time linear in the
+/// vertices and the edges.
 /// `OutOfMemory` is its one error.
 pub fn closed_walk(alloc: Global, instance: &Instance, join: &Join) -> Result<Answer, OutOfMemory>
     requires connected { HasConnectedEdges (graph_of instance.now) }
     requires join { ListsJoin instance.now (odd_at OddDegrees instance.now) join.now.edges }
     ensures feasible { IfOk result (IsFeasible Postman instance.now) }
-    ensures uses { IfOk result (IsWalkWith (λ start edges. UsesOnceAndJoinTwice instance.now join.now.edges edges) (length instance.now.edges ≡ 0)) }
-    ensures start { IfOk result (IsWalkWith (λ start edges. IsLeastMet (graph_of instance.now) start) (length instance.now.edges ≡ 0)) }
-    ensures weighs { IfOk result (λ answer. weight_of Postman instance.now answer ≡ total_weight instance.now +ℤ walk_weight (graph_of instance.now) join.now.edges) }
+    ensures uses { IfOk result
+        (IsWalkWith (λ start edges. UsesOnceAndJoinTwice instance.now join.now.edges edges)
+        (length instance.now.edges ≡ 0)) }
+    ensures start { IfOk result
+        (IsWalkWith (λ start edges. IsLeastMet (graph_of instance.now) start)
+        (length instance.now.edges ≡ 0)) }
+    ensures weighs { IfOk result
+        (λ answer. weight_of Postman instance.now answer
+        ≡ total_weight instance.now +ℤ walk_weight (graph_of instance.now) join.now.edges) }
 {
     let graph = instance.graph()?;
     let Some(start) = least_met(&graph) else {

@@ -1,17 +1,8 @@
-ghost use Rattle.std.specs.Prelude.{◌≡◌, ℕ, ◌≤◌, ◌⊎◌, length, MatchOption};
+ghost use Rattle.std.specs.Prelude.{◌≡◌, length, MatchOption};
 ghost use Rattle.postman_walk.specs.Tours.{IsLeastMet};
 
 use mb_base::VertexId;
 use weighted_graph::Graph;
-
-/// The lesser of two vertices.
-fn lesser(a: VertexId, b: VertexId) -> VertexId
-    ensures first { result ≤ a }
-    ensures second { result ≤ b }
-    ensures one { (result ≡ a) ⊎ (result ≡ b) }
-{
-    if a.number() <= b.number() { a } else { b }
-}
 
 /// The least vertex that an edge meets, where there is an edge. It takes time linear in the edges.
 pub fn least_met(graph: &Graph) -> Option<VertexId>
@@ -21,9 +12,10 @@ pub fn least_met(graph: &Graph) -> Option<VertexId>
     let Some(first) = edges.first() else {
         return None;
     };
-    let mut least = first.u;
+    let mut least = first.u.number();
     for edge in edges {
-        least = lesser(least, lesser(edge.u, edge.v));
+        let end = edge.u.number().min(edge.v.number());
+        least = least.min(end);
     }
-    Some(least)
+    Some(VertexId::new(least))
 }

@@ -8,8 +8,9 @@ use mb_base::{EdgeId, OutOfMemory, VertexId};
 use std::alloc::Global;
 use weighted_graph::{Graph, take_left};
 
-/// A closed walk from the start that uses each edge as often as is left of it (Hierholzer's way): it
-/// goes on along edges that are left, and where none is, the last edge goes over to the finished walk.
+/// A closed walk from the start that uses each edge as often as is left of it (Hierholzer's way):
+/// it goes on along edges that are left, and where none is, the last edge goes over to the finished
+/// walk.
 pub(crate) fn trace(
     alloc: Global,
     graph: &Graph,
@@ -17,12 +18,16 @@ pub(crate) fn trace(
     start: VertexId,
 ) -> Result<Vec<EdgeId>, OutOfMemory>
     requires size { length uses.items ≡ length graph.now.edges }
-    requires even { (v : ℕ) → 1 ≤ v → v ≤ graph.now.vertices → degree graph.now uses.items v % 2 ≡ 0 }
+    requires even { (v : ℕ) → 1 ≤ v → v ≤ graph.now.vertices
+        → degree graph.now uses.items v % 2 ≡ 0 }
     requires all { (k : ℕ) → k < length graph.now.edges → 1 ≤ slice_index uses.items k }
     requires connected { HasConnectedEdges graph.now }
-    requires start { (k : ℕ) × (k < length graph.now.edges) × (touches (edge_at graph.now k) start ≡ true) }
+    requires start { (k : ℕ) × (k < length graph.now.edges)
+        × (touches (edge_at graph.now k) start ≡ true) }
     ensures closed { IfOk result (λ walk. IsClosedWalk graph.now start walk.items) }
-    ensures uses { IfOk result (λ walk. (k : ℕ) → k < length graph.now.edges → times walk.items (k + 1) ≡ slice_index uses.items k) }
+    ensures uses { IfOk result
+        (λ walk. (k : ℕ) → k < length graph.now.edges
+        → times walk.items (k + 1) ≡ slice_index uses.items k) }
 {
     let index = graph.index()?;
     let mut cursors = vec![in alloc; 0usize; graph.vertices() as usize + 1]?;

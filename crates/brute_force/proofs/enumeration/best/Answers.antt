@@ -14,4 +14,4 @@ returns c =
     let all : c.loop-code.code ≡ digit_lists (mosts kind i) = last ∙ (c.list_count-count.ensures ∙ ap digit_lists (c.deref.ensures.value ∙ same)) in
     let best : IsBestBelow kind i (mosts kind i) c.loop-code.code c.loop-code.found = subst (λ (ms : List ℕ). IsBestBelow kind i ms c.loop-code.code c.loop-code.found) same
     c.loop-code.invariant in
-    best_or_none kind i c.loop-code.code c.loop-code.found c.edges-edges.ensures.network c.requires.kind all best
+    best_or_none kind i c.loop-code.code c.loop-code.found c.in_ok-mosts.ensures.network c.requires.kind all best

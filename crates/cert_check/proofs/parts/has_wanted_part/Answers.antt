@@ -7,8 +7,8 @@ returns-in-OddPart-clause-exact c = rw (← c.exclusion.ensures, c.in-OddPart.is
 pub returns-in-SplitPart-clause-exact : goal.returns-in-SplitPart-clause-exact
 returns-in-SplitPart-clause-exact c = rw (← c.exclusion.ensures, c.in-SplitPart.is) c.has_split_part.ensures
 
-pub has_odd_part-requires : goal.has_odd_part-requires
-has_odd_part-requires c = odd-in c.args.kind c.args.instance.now c.args.document.now c.requires
+pub has_odd_part-requires-clause-within : goal.has_odd_part-requires-clause-within
+has_odd_part-requires-clause-within c = odd-in c.args.kind c.args.instance.now c.args.document.now c.requires
 
-pub has_split_part-requires : goal.has_split_part-requires
-has_split_part-requires c = split-in c.args.kind c.args.instance.now c.args.document.now c.requires
+pub has_split_part-requires-clause-within : goal.has_split_part-requires-clause-within
+has_split_part-requires-clause-within c = split-in c.args.kind c.args.instance.now c.args.document.now c.requires

@@ -13,7 +13,8 @@ go_on_or_close-requires-clause-numbers c = walk-numbers c.args.graph.now c.args.
 
 pub go_on_or_close-requires-clause-listed : goal.go_on_or_close-requires-clause-listed
 go_on_or_close-requires-clause-listed c =
-    let size : length c.loop-step.trail.vertices.items ≡ length c.loop-step.trail.edges.items + 1 = ap length c.loop-step.invariant.path.vertices ∙ vertices-length c.args.graph.now c.args.base c.loop-step.trail.edges.items in
+    let size : length c.loop-step.trail.vertices.items ≡ length c.loop-step.trail.edges.items + 1 =
+    ap length c.loop-step.invariant.path.vertices ∙ vertices-length c.args.graph.now c.args.base c.loop-step.trail.edges.items in
     omega (arith, size)
 
 pub returns-in-Some-2-clause-room : goal.returns-in-Some-2-clause-room
@@ -21,7 +22,8 @@ returns-in-Some-2-clause-room c =
     let g = c.args.graph.now in
     let A : Option ℕ → Type 0 = Advances g c.in-Some.step.edge c.in-Some.step.there c.loop-step.trail c.go_on_or_close.new.trail in
     let closes : ClosesBelow g c.in-Some.step.edge c.in-Some.step.there c.in-Some-2.place c.loop-step.trail c.go_on_or_close.new.trail = subst A c.in-Some-2.is c.in_ok-place.ensures in
-    let closed = closes.closed c.args.left.now.counts.items c.loop-step.left.counts.items c.take.new.self.counts.items c.args.base c.args.base c.loop-step.invariant.path c.in-Some.ensures.step in
+    let closed = closes.closed c.args.left.now.counts.items c.loop-step.left.counts.items c.take.new.self.counts.items c.args.base c.args.base c.loop-step.invariant.path
+    c.in-Some.ensures.step in
     closed.trail.one_each
 
 pub returns-in-Some-2-clause-found : goal.returns-in-Some-2-clause-found
@@ -29,8 +31,10 @@ returns-in-Some-2-clause-found c =
     let g = c.args.graph.now in
     let A : Option ℕ → Type 0 = Advances g c.in-Some.step.edge c.in-Some.step.there c.loop-step.trail c.go_on_or_close.new.trail in
     let closes : ClosesBelow g c.in-Some.step.edge c.in-Some.step.there c.in-Some-2.place c.loop-step.trail c.go_on_or_close.new.trail = subst A c.in-Some-2.is c.in_ok-place.ensures in
-    let closed = closes.closed c.args.left.now.counts.items c.loop-step.left.counts.items c.take.new.self.counts.items c.args.base c.args.base c.loop-step.invariant.path c.in-Some.ensures.step in
-    circuit-found g c.args.left.now.counts.items c.take.new.self.counts.items c.args.base c.args.base c.in-Some-2.place c.go_on_or_close.new.trail c.requires.graph.ends c.requires.even.small closed closes.negative
+    let closed = closes.closed c.args.left.now.counts.items c.loop-step.left.counts.items c.take.new.self.counts.items c.args.base c.args.base c.loop-step.invariant.path
+    c.in-Some.ensures.step in
+    circuit-found g c.args.left.now.counts.items c.take.new.self.counts.items c.args.base c.args.base c.in-Some-2.place c.go_on_or_close.new.trail c.requires.graph.ends c.requires.even.small
+    closed closes.negative
 
 pub loop-step-smaller : goal.loop-step-smaller
 loop-step-smaller c = taken-less c.args.graph.now c.loop-step.left.counts.items c.take.new.self.counts.items c.in-Some.step.edge c.in-Some.ensures.step.number c.in-Some.ensures.step.taken
@@ -55,4 +59,5 @@ returns-clause-found c =
     let step = c.in_default.ensures.step in
     let P : List ℕ → Type 0 = λ xs. IsOpen g c.args.left.now.counts.items xs c.args.base c.args.base c.loop-step.trail in
     let L : List ℕ → Type 0 = λ xs. (weight g xs +ℤ walk_weight g c.loop-step.trail.edges.items) <ℤ pos 0 in
-    drained g c.args.left.now.counts.items c.take.new.self.counts.items c.args.base c.loop-step.trail c.requires.graph.ends c.requires.even (subst P (sym step.0) c.loop-step.invariant.path) (subst L (sym step.0) c.loop-step.invariant.less) step.1
+    drained g c.args.left.now.counts.items c.take.new.self.counts.items c.args.base c.loop-step.trail c.requires.graph.ends c.requires.even (subst P (sym step.0) c.loop-step.invariant.path)
+    (subst L (sym step.0) c.loop-step.invariant.less) step.1

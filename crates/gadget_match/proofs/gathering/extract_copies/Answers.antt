@@ -10,14 +10,14 @@ pub count_pairs-requires-clause-numbers : goal.count_pairs-requires-clause-numbe
 count_pairs-requires-clause-numbers c = pair-numbers c.args.instance.now c.args.edges.now c.requires.perfect
 
 pub count_pairs-requires-clause-few : goal.count_pairs-requires-clause-few
-count_pairs-requires-clause-few c = copies-few c.args.instance.now c.args.edges.now c.edges-edges.ensures.network c.requires.perfect
+count_pairs-requires-clause-few c = copies-few c.args.instance.now c.args.edges.now c.in_ok-starts.ensures.network c.requires.perfect
 
 pub returns-clause-feasible : goal.returns-clause-feasible
 returns-clause-feasible c =
     let i = c.args.instance.now in
     let edges = c.args.edges.now in
     let is : c.from_vec.result ≡ gathered i edges = c.from_vec.ensures ∙ c.in_ok-counts.ensures.counts in
-    subst (λ (xs : List ℕ). IsBMatching i xs) (sym is) (gathered-feasible i edges c.edges-edges.ensures.network c.requires.perfect)
+    subst (λ (xs : List ℕ). IsBMatching i xs) (sym is) (gathered-feasible i edges c.in_ok-starts.ensures.network c.requires.perfect)
 
 pub returns-clause-weighs : goal.returns-clause-weighs
 returns-clause-weighs c =

@@ -1,11 +1,15 @@
-use Rattle.std.proofs.Common.{◌∙◌, ℕ, ◌%◌, List, eqb, length, ap, sym}
-use Rattle.mb_problem.specs.declared.answer.Parity.{Parity}
-use Rattle.graph_parts.specs.OddParts.{is_terminal}
+use Rattle.std.proofs.Common.{◌≡◌, ◌∙◌, ℕ, List, eqb, length, ap}
+use Rattle.mb_problem.specs.Size.{odd_by, edge_count_at}
 use Rattle.graph_parts.proofs.JoinLemmas.{around-count}
 use Rattle.graph_parts.proofs.flags.is_odd_at.Goals as goal
 
-pub returns-in-OddDegrees : goal.returns-in-OddDegrees
-returns-in-OddDegrees c =
+pub returns : goal.returns
+returns c =
     let i = c.args.instance.now in
-    let count = ap (λ (xs : List ℕ). length xs) (c.at.ensures ∙ c.requires.index.exact c.args.v c.requires.high) ∙ around-count i c.args.v c.requires.network in
-    ap (λ (n : ℕ). eqb (n % 2) 1) count ∙ ap (λ (p : Parity). is_terminal p i c.args.v) (sym c.in-OddDegrees.is)
+    let parity = c.args.parity.now in
+    let v = c.args.v in
+    let around = c.at.ensures ∙ c.requires.index.exact v c.requires.high in
+    let count : length c.at.result.now ≡ edge_count_at i v = ap (λ (xs : List ℕ). length xs) around ∙ around-count i v c.requires.network in
+    let degree = ap (λ (n : ℕ). odd_by parity n c.value.result) count in
+    let value = ap (λ (n : ℕ). odd_by parity (edge_count_at i v) n) c.value.ensures.value in
+    ap (λ (n : ℕ). eqb n 1) (c.odd_by.ensures.odd ∙ degree ∙ value)

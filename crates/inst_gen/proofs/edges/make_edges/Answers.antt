@@ -17,7 +17,8 @@ loop-k-preserved c =
     let state : c.loop-k.draws.state ≡ state_after s (edge_draws kind n k) = c.loop-k.invariant.state in
     let two : 2 ≤ n = c.requires.ends (omega arith) in
     record {
-      edges = c.in_ok-push.ensures.items ∙ ap₂ (λ (xs : List InstanceEdge) (x : InstanceEdge). xs ++ x ∷ []) c.loop-k.invariant.edges (c.edge.ensures.edge ∙ ap (λ (t : ℕ). edge_at kind t n k) state) ∙ sym (tabled-more f k);
+      edges = c.in_ok-push.ensures.items ∙ ap₂ (λ (xs : List InstanceEdge) (x : InstanceEdge). xs ++ x ∷ []) c.loop-k.invariant.edges
+          (c.edge.ensures.edge ∙ ap (λ (t : ℕ). edge_at kind t n k) state) ∙ sym (tabled-more f k);
       state = c.edge.ensures.state ∙ ap (λ (t : ℕ). state_after t (label_draws kind + cond (ltb (k + 1) n) 0 2)) state ∙ edge_state kind s n k two;
     }
 

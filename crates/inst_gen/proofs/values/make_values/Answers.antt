@@ -14,6 +14,7 @@ loop-k-preserved c =
     let f : ℕ → ℕ = λ j. value_at kind (state_after s (value_draws kind j)) n j in
     let state : c.loop-k.draws.state ≡ state_after s (value_draws kind k) = c.loop-k.invariant.state in
     record {
-      values = c.in_ok-push.ensures.items ∙ ap₂ (λ (xs : List ℕ) (x : ℕ). xs ++ x ∷ []) c.loop-k.invariant.values (c.value.ensures.value ∙ ap (λ (t : ℕ). value_at kind t n k) state) ∙ sym (tabled-more f k);
+      values = c.in_ok-push.ensures.items ∙ ap₂ (λ (xs : List ℕ) (x : ℕ). xs ++ x ∷ []) c.loop-k.invariant.values
+          (c.value.ensures.value ∙ ap (λ (t : ℕ). value_at kind t n k) state) ∙ sym (tabled-more f k);
       state = c.value.ensures.state ∙ ap (λ (t : ℕ). state_after t (value_draws kind 1)) state ∙ value_state kind s k;
     }

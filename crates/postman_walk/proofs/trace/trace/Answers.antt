@@ -34,7 +34,8 @@ walk-preserved-in-Some c =
     let takes = subst (λ (xs : List ℕ). TakesOne g xs after c.walk.here e) was c.in-Some.ensures.taken in
     let items = with_items_is c.walk.left after (takes.size ∙ sym c.walk.left.ok.0) in
     let places = with_items_is c.walk.cursors cursors (c.in-Some.ensures.passed.size ∙ sym c.walk.invariant.passed.size ∙ sym c.walk.cursors.ok.0) in
-    let step = tracing-push g c.args.uses.items c.walk.left.items after start c.walk.here e c.walk.opened.items c.walk.finished.items c.index.ensures.graph.ends c.walk.invariant.tracing takes in
+    let step = tracing-push g c.args.uses.items c.walk.left.items after start c.walk.here e c.walk.opened.items c.walk.finished.items c.index.ensures.graph.ends c.walk.invariant.tracing
+    takes in
     record {
       size = ap length items ∙ takes.size ∙ c.walk.invariant.size;
       here = c.other_end-here.ensures.high;
@@ -87,7 +88,8 @@ returns-in_default-pop-clause-closed c =
     let none : c.walk.opened.items ≡ [] = grind (arith, common_steps) in
     let settled = subst (λ (xs : List ℕ). CountsNoneAt g xs c.walk.here) c.deref_mut-in-walk.ensures.value c.in_default.ensures.taken.1 in
     let P : List ℕ → Type 0 = λ xs. IsTracing g c.args.uses.items c.walk.left.items c.args.start c.walk.here xs c.walk.finished.items in
-    (tracing-end g c.args.uses.items c.walk.left.items c.args.start c.walk.here c.walk.finished.items c.index.ensures.graph.ends (subst P none c.walk.invariant.tracing) settled c.requires.all c.requires.connected first.0 first.1 first.2).0
+    (tracing-end g c.args.uses.items c.walk.left.items c.args.start c.walk.here c.walk.finished.items c.index.ensures.graph.ends (subst P none c.walk.invariant.tracing) settled
+    c.requires.all c.requires.connected first.0 first.1 first.2).0
 
 pub returns-in_default-pop-clause-uses : goal.returns-in_default-pop-clause-uses
 returns-in_default-pop-clause-uses c =
@@ -96,4 +98,5 @@ returns-in_default-pop-clause-uses c =
     let none : c.walk.opened.items ≡ [] = grind (arith, common_steps) in
     let settled = subst (λ (xs : List ℕ). CountsNoneAt g xs c.walk.here) c.deref_mut-in-walk.ensures.value c.in_default.ensures.taken.1 in
     let P : List ℕ → Type 0 = λ xs. IsTracing g c.args.uses.items c.walk.left.items c.args.start c.walk.here xs c.walk.finished.items in
-    (tracing-end g c.args.uses.items c.walk.left.items c.args.start c.walk.here c.walk.finished.items c.index.ensures.graph.ends (subst P none c.walk.invariant.tracing) settled c.requires.all c.requires.connected first.0 first.1 first.2).1
+    (tracing-end g c.args.uses.items c.walk.left.items c.args.start c.walk.here c.walk.finished.items c.index.ensures.graph.ends (subst P none c.walk.invariant.tracing) settled
+    c.requires.all c.requires.connected first.0 first.1 first.2).1

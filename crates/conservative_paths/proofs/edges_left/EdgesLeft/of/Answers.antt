@@ -11,7 +11,8 @@ returns-clause-left c =
     let n = c.vertices.result + 1 in
     let count : c.vertices.result ≡ vertices i = c.vertices.ensures.count in
     let zeros : c.in_ok-looked.looked.items ≡ replicate n 0 = c.in_ok-looked.ensures.items_if_clones_equal (λ y h. h) in
-    let zero : (v : ℕ) → v ≤ vertices i → slice_index c.in_ok-looked.looked.items v ≡ 0 = λ v b. ap (λ (xs : List ℕ). slice_index xs v) zeros ∙ get_or-replicate n v 0 0 (omega (arith, b, count)) in
+    let zero : (v : ℕ) → v ≤ vertices i → slice_index c.in_ok-looked.looked.items v ≡ 0 =
+    λ v b. ap (λ (xs : List ℕ). slice_index xs v) zeros ∙ get_or-replicate n v 0 0 (omega (arith, b, count)) in
     record {
       one_each = ap length c.in_ok-counts.ensures ∙ listed-length c.args.edges.now c.edges.result ∙ c.edges.ensures.count ∙ sym (edges-count i);
       looked = record {
