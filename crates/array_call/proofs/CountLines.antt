@@ -1,5 +1,5 @@
 -- The counts that lines give to edges, from the last line to the first.
-use Rattle.std.proofs.Common.{◌≡◌, ℕ, suc, ◌+◌, ◌-◌, ◌<◌, ℤ, pos, ◌≤ℤ◌, true, false, Bool, cond, List, [], ◌∷◌, length, map, drop, get_or, set, refl, sym, ap, ◌∙◌, arith, int_eq, nat_abs}
+use Rattle.std.proofs.Common.{◌≡◌, ℕ, ◌+◌, ◌-◌, ◌<◌, ℤ, pos, ◌≤ℤ◌, true, false, Bool, cond, List, ◌∷◌, length, map, drop, get_or, set, sym, ap, ◌∙◌, arith, int_eq, nat_abs}
 use Rattle.std.proofs.Math.Decide.{ℕ_discrete}
 use Rattle.std.proofs.lemmas.Int.{ints}
 use Rattle.std.proofs.lemmas.Bool.{false_from_ne_true}

@@ -1,5 +1,5 @@
 -- Faultless arrays are an instance of the kind.
-use Rattle.std.proofs.Common.{◌≡◌, ℕ, ◌+◌, ◌-◌, ◌%◌, ◌<◌, ◌≤◌, ◌⊎◌, Bool, true, false, cond, eqb, ℤ, pos, negsuc, ◌≤ℤ◌, int_lt, List, length, All, Option, None, Some}
+use Rattle.std.proofs.Common.{◌≡◌, ℕ, ◌+◌, ◌-◌, ◌%◌, ◌<◌, ◌≤◌, Bool, true, false, cond, eqb, ℤ, pos, negsuc, ◌≤ℤ◌, int_lt, List, length, All, None, Some}
 use Rattle.std.proofs.Common.{refl, sym, ap, subst, ◌∙◌, arith, rules, inl, inr}
 use Rattle.std.proofs.lemmas.Bool.{eqb-true}
 use Rattle.mb_problem.specs.declared.kind.Kind.{Kind}
@@ -8,7 +8,7 @@ use Rattle.mb_problem.specs.declared.kind.Need.TheVariants.{Unrestricted, Weight
 use Rattle.mb_problem.specs.declared.instance.InstanceEdge.{InstanceEdge}
 use Rattle.mb_problem.specs.Kinds.{need_of}
 use Rattle.mb_problem.specs.declared.limits.TheConstants.{VERTEX_LIMIT, EDGE_LIMIT, VALUE_LIMIT}
-use Rattle.mb_problem.specs.Network.{Network, vertices, value_of, IsInstanceEdge, IsNetwork}
+use Rattle.mb_problem.specs.Network.{vertices, value_of, IsInstanceEdge, IsNetwork}
 use Rattle.mb_problem.specs.Ready.{HasWeightsFromZero, HasEnds, HasWeightsBy, HasEndsBy, IsReady}
 use Rattle.gadget_base.specs.Blocks.{tabled}
 use Rattle.gadget_base.proofs.Blocks.{tabled-length, tabled-at, All-tabled}

@@ -3,4 +3,5 @@ pub mod OddValues
 pub mod Instances
 pub mod CountLines
 pub mod Layouts
-pub mod Verdicts
+pub mod Briefs
+pub mod Sheets

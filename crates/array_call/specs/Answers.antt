@@ -1,12 +1,12 @@
 -- What solving arrays answers.
-use Rattle.std.specs.Prelude.{◌≡◌, ℕ, ◌+◌, ◌-◌, ◌*◌, ◌^◌, ◌≤◌, min, ℤ, pos, List, [], ◌∷◌, Bool, Some, Result, Ok, Err}
+use Rattle.std.specs.Prelude.{◌≡◌, ℕ, ◌+◌, ◌-◌, ◌*◌, ◌^◌, ◌≤◌, min, ℤ, pos, List, [], ◌∷◌, ◌++◌, length, Bool, true, false, Some, Result, Ok, Err}
 use Rattle.graph_theory.specs.Limits.{Size, IsWithinLimits}
 use Rattle.mb_problem.specs.declared.kind.Kind.{Kind}
 use Rattle.mb_problem.specs.Kinds.{form_of, searches_of}
 use Rattle.mb_problem.specs.Size.{size_of}
 use Rattle.doc_format.specs.declared.document.Document.{Document}
 use Rattle.mwpm_engine.specs.Solutions.{most_steps}
-use Rattle.solve_kinds.specs.Settled.{Settles}
+use Rattle.solve_kinds.specs.Settled.{Settles, SettlesFor}
 use Rattle.array_call.specs.declared.error.ArrayError.{ArrayError}
 use Rattle.array_call.specs.declared.error.ArrayError.TheVariants.{Malformed, TooLarge, OutOfMemory}
 use Rattle.array_call.specs.declared.rule.ArrayFault.{ArrayFault}
@@ -35,12 +35,16 @@ pub record IsTooLarge (kind : Kind) (a : Arrays) (size : Size) : Type 0 where
   pub size_is : size ≡ graph_size kind a
 
 -- The document of a best answer, or of what excludes all answers, that proves what it states of the instance that the arrays
--- are; or why there is none: their first fault, or a graph past a limit.
+-- are, in brief one with its answer; or why there is none: their first fault, or a graph past a limit.
+abbrev pub SolvesFor : Bool → Kind → Arrays → Result Document ArrayError → Type 0
+SolvesFor brief kind a (Ok d) = IsAnswerable kind a × SettlesFor brief kind (network_of kind a) d
+SolvesFor brief kind a (Err (Malformed f)) = array_fault kind a ≡ Some f
+SolvesFor brief kind a (Err (TooLarge vertices edges)) = IsTooLarge kind a (record { vertices = vertices; edges = edges })
+SolvesFor brief kind a (Err OutOfMemory) = Unit {0}
+
+-- the same in full: the document settles the instance itself
 abbrev pub Solves : Kind → Arrays → Result Document ArrayError → Type 0
-Solves kind a (Ok d) = IsAnswerable kind a × Settles kind (network_of kind a) d
-Solves kind a (Err (Malformed f)) = array_fault kind a ≡ Some f
-Solves kind a (Err (TooLarge vertices edges)) = IsTooLarge kind a (record { vertices = vertices; edges = edges })
-Solves kind a (Err OutOfMemory) = Unit {0}
+Solves kind a result = SolvesFor false kind a result
 
 -- no more than the searches on the graph that certificates speak of take
 abbrev pub CountsSearches : Kind → Arrays → ℕ → ℕ → Type 0
@@ -74,6 +78,23 @@ Gives brief kind a numbers status.Rejected = ⊥
 Gives brief kind a numbers status.Malformed = (f : ArrayFault) × (array_fault kind a ≡ Some f) × (numbers ≡ fault_numbers f)
 Gives brief kind a numbers status.TooLarge = (size : Size) × IsTooLarge kind a size × (numbers ≡ size_numbers size)
 Gives brief kind a numbers status.OutOfMemory = numbers ≡ []
+
+-- no duals, no sets and no members stand behind the answer, but for the one offset of no set
+pub record HasNoCertificate (numbers : List ℤ) : Type 0 where
+  pub status : ℤ
+  pub weight : ℤ
+  pub start : ℤ
+  pub answer : List ℤ
+  pub whole : numbers ≡ status ∷ weight ∷ start ∷ pos (length answer) ∷ pos 0 ∷ pos 0 ∷ pos 0 ∷ pos 0 ∷ (answer ++ pos 0 ∷ [])
+
+-- the numbers of an answer in brief have no certificate
+abbrev pub IsBriefFor : Bool → List ℤ → ArrayStatus → Type 0
+IsBriefFor false numbers status = Unit {0}
+IsBriefFor true numbers status.Done = HasNoCertificate numbers
+IsBriefFor true numbers status.Rejected = Unit {0}
+IsBriefFor true numbers status.Malformed = Unit {0}
+IsBriefFor true numbers status.TooLarge = Unit {0}
+IsBriefFor true numbers status.OutOfMemory = Unit {0}
 
 -- the same of the size alone, which may be past a limit
 abbrev pub GivesSize : Kind → Arrays → List ℤ → ArrayStatus → Type 0

@@ -1,12 +1,14 @@
 -- What judging an answer in numbers answers.
-use Rattle.std.specs.Prelude.{◌≡◌, false, ℤ, pos, List, [], ◌∷◌, Option, None, Some, Result, Ok, Err}
+use Rattle.std.specs.Prelude.{◌≡◌, ◌⊎◌, ℕ, false, ℤ, pos, List, [], ◌∷◌, Option, None, Some, Result, Ok, Err}
 use Rattle.graph_theory.specs.Limits.{Size}
 use Rattle.mb_problem.specs.declared.kind.Kind.{Kind}
 use Rattle.mb_problem.specs.Kinds.{form_of}
 use Rattle.doc_format.specs.declared.document.Document.{Document}
 use Rattle.certificates.specs.Proved.{IsProved, StatesTruth}
 use Rattle.cert_check.specs.declared.rule.DocRule.{DocRule}
-use Rattle.cert_check.specs.Verdicts.{rank}
+use Rattle.cert_check.specs.declared.rule.DocRule.TheVariants.{DocForm}
+use Rattle.cert_check.specs.declared.rule.Verdict.TheVariants.{Rejected}
+use Rattle.cert_check.specs.Verdicts.{IsVerdict, rank}
 use Rattle.array_call.specs.declared.error.ArrayError.{ArrayError}
 use Rattle.array_call.specs.declared.error.ArrayError.TheVariants.{Malformed, TooLarge, OutOfMemory}
 use Rattle.array_call.specs.declared.rule.ArrayFault.{ArrayFault}
@@ -28,10 +30,22 @@ pub record Accepts (kind : Kind) (a : Arrays) (numbers : List ℤ) : Type 0 wher
   pub proved : IsProved kind (network_of kind a) document
   pub truth : StatesTruth kind (network_of kind a) document
 
--- no rule where the numbers are accepted; or a rule that they break; or why nothing was judged
+-- the numbers are those of a document of the kind that breaks this rule first, for the instance that the arrays are
+pub record BreaksFirst (kind : Kind) (a : Arrays) (numbers : List ℤ) (rule : DocRule) : Type 0 where
+  pub document : Document
+  pub own : IsOfNumbers kind a numbers document
+  pub same_kind : document.kind ≡ kind
+  pub line : ℕ
+  pub broken : IsVerdict kind (network_of kind a) document (Rejected rule line)
+
+-- the numbers are accepted, or no document's, or those of one that breaks this rule first
+abbrev pub HasVerdict : Kind → Arrays → List ℤ → Option DocRule → Type 0
+HasVerdict kind a numbers None = Accepts kind a numbers
+HasVerdict kind a numbers (Some rule) = (rule ≡ DocForm) ⊎ BreaksFirst kind a numbers rule
+
+-- no rule where the numbers are accepted; or the rule that they break; or why nothing was judged
 abbrev pub Checks : Kind → Arrays → List ℤ → Result (Option DocRule) ArrayError → Type 0
-Checks kind a numbers (Ok None) = IsAnswerable kind a × Accepts kind a numbers
-Checks kind a numbers (Ok (Some rule)) = IsAnswerable kind a
+Checks kind a numbers (Ok rule) = IsAnswerable kind a × HasVerdict kind a numbers rule
 Checks kind a numbers (Err (Malformed f)) = array_fault kind a ≡ Some f
 Checks kind a numbers (Err (TooLarge vertices edges)) = IsTooLarge kind a (record { vertices = vertices; edges = edges })
 Checks kind a numbers (Err OutOfMemory) = Unit {0}
@@ -39,7 +53,7 @@ Checks kind a numbers (Err OutOfMemory) = Unit {0}
 -- the same in numbers
 abbrev pub GivesVerdict : Kind → Arrays → List ℤ → List ℤ → ArrayStatus → Type 0
 GivesVerdict kind a numbers told status.Done = IsAnswerable kind a × Accepts kind a numbers × (told ≡ [])
-GivesVerdict kind a numbers told status.Rejected = IsAnswerable kind a × (rule : DocRule) × (told ≡ pos (rank rule) ∷ pos 0 ∷ [])
+GivesVerdict kind a numbers told status.Rejected = IsAnswerable kind a × (rule : DocRule) × HasVerdict kind a numbers (Some rule) × (told ≡ pos (rank rule) ∷ pos 0 ∷ [])
 GivesVerdict kind a numbers told status.Malformed = (f : ArrayFault) × (array_fault kind a ≡ Some f) × (told ≡ fault_numbers f)
 GivesVerdict kind a numbers told status.TooLarge = (size : Size) × IsTooLarge kind a size × (told ≡ size_numbers size)
 GivesVerdict kind a numbers told status.OutOfMemory = told ≡ []

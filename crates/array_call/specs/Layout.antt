@@ -1,10 +1,8 @@
 -- A document as numbers.
 use Rattle.std.specs.Prelude.{ℕ, ◌+◌, ℤ, pos, List, [], ◌∷◌, ◌++◌, map, length, take, Bool, true, false, Option, None, Some}
 use Rattle.std.specs.List.{flat_map}
-use Rattle.mb_problem.specs.declared.kind.Kind.{Kind}
 use Rattle.mb_problem.specs.declared.kind.AnswerForm.{AnswerForm}
 use Rattle.mb_problem.specs.declared.kind.AnswerForm.TheVariants as form
-use Rattle.mb_problem.specs.Kinds.{form_of}
 use Rattle.gadget_base.specs.Blocks.{tabled}
 use Rattle.doc_format.specs.declared.document.Document.{Document}
 use Rattle.doc_format.specs.declared.status.DocStatus.{DocStatus}

@@ -1,9 +1,9 @@
 ghost use Rattle.std.specs.Prelude.{◌≡◌, [], ◌∷◌, pos, IfOk};
 ghost use Rattle.cert_check.specs.Verdicts.{rank};
-ghost use Rattle.solve_kinds.specs.Settled.{Settles};
+ghost use Rattle.solve_kinds.specs.Settled.{SettlesFor};
 ghost use Rattle.array_call.specs.Arrays.{arrays_of, network_of};
 ghost use Rattle.array_call.specs.Answers.{IsAnswerable, counted, fault_numbers, size_numbers};
-ghost use Rattle.array_call.specs.Answers.{Gives, GivesSize, CountsCall, CountsEnded};
+ghost use Rattle.array_call.specs.Answers.{Gives, GivesSize, IsBriefFor, CountsCall, CountsEnded};
 ghost use Rattle.array_call.specs.Checks.{GivesVerdict};
 
 use crate::arrays::InstanceArrays;
@@ -12,7 +12,7 @@ use crate::error::ArrayError;
 use crate::laying::numbers_of;
 use crate::making::instance_of;
 use crate::rule::ArrayFault;
-use crate::solving::solve_arrays;
+use crate::solving::solve_for;
 use cert_check::DocRule;
 use doc_format::Document;
 use mb_base::{OutOfMemory, Steps};
@@ -89,7 +89,7 @@ fn sized(
     Ok(ArrayAnswer { numbers, status })
 }
 
-/// The answer that is a document.
+/// The answer that is a document, in full or in brief.
 fn solved(
     alloc: Global,
     brief: bool,
@@ -98,7 +98,7 @@ fn solved(
     document: &Document,
 ) -> Result<ArrayAnswer, OutOfMemory>
     requires answerable { IsAnswerable kind (arrays_of arrays.now) }
-    requires settles { Settles kind (network_of kind (arrays_of arrays.now)) document.now }
+    requires settles { SettlesFor brief kind (network_of kind (arrays_of arrays.now)) document.now }
     ensures { IfOk result (λ a. Gives brief kind (arrays_of arrays.now) a.numbers.items a.status) }
 {
     let numbers = numbers_of(alloc, kind, arrays.from.len(), brief, document)?;
@@ -118,7 +118,7 @@ fn answer<L: Ledger>(
         a.status) }
     ensures steps { CountsEnded kind (arrays_of arrays.now) steps.old steps.new result }
 {
-    match solve_arrays(alloc, kind, arrays, steps) {
+    match solve_for(alloc, kind, brief, arrays, steps) {
         Ok(document) => solved(alloc, brief, kind, arrays, &document),
         Err(ArrayError::Malformed(fault)) => malformed(alloc, fault),
         Err(ArrayError::TooLarge { vertices, edges }) => {
@@ -141,6 +141,9 @@ pub fn answer_to<L: Ledger>(
 ) -> ArrayAnswer
     // Which numbers and which status.
     ensures answer { Gives brief kind (arrays_of arrays.now) result.numbers.items result.status }
+
+    // In brief nothing that proves the answer stands behind it.
+    ensures brief { IsBriefFor brief result.numbers.items result.status }
 
     // A search counts no more than the graph of certificates allows, and a refusal nothing.
     ensures steps { CountsCall kind (arrays_of arrays.now) steps.old steps.new result.status }

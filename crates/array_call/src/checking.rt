@@ -1,59 +1,84 @@
-ghost use Rattle.std.specs.Prelude.{◌≡◌, length, None, IfOk};
+ghost use Rattle.std.specs.Prelude.{◌≡◌, length, true, false, All, IfOk, IfSome};
 ghost use Rattle.graph_theory.specs.Limits.{IsWithinLimits};
+ghost use Rattle.mb_problem.specs.Kinds.{form_of};
 ghost use Rattle.mb_problem.specs.Ready.{IsReady};
 ghost use Rattle.mb_problem.specs.Size.{size_of};
-ghost use Rattle.certificates.specs.Proved.{IsProved, StatesTruth};
 ghost use Rattle.array_call.specs.Arrays.{arrays_of, network_of};
+ghost use Rattle.array_call.specs.Layout.{numbers_for};
 ghost use Rattle.array_call.specs.Made.{IsFaultless};
-ghost use Rattle.array_call.specs.Checks.{Accepts, Checks};
+ghost use Rattle.array_call.specs.Sheets.{IsCountOn};
+ghost use Rattle.array_call.specs.Checks.{IsOfNumbers, HasVerdict, Checks};
 
 use crate::arrays::InstanceArrays;
+use crate::building::document_of;
 use crate::error::ArrayError;
 use crate::laying::numbers_of;
 use crate::making::instance_of;
+use crate::parting::parted;
 use crate::solving::is_within_limits;
-use crate::spelling::document_of;
 use cert_check::{DocRule, Verdict, judge};
 use doc_format::Document;
 use mb_base::OutOfMemory;
 use mb_problem::{Instance, Kind, gadget_size};
 use std::alloc::Global;
 
-/// The rule that numbers break: none where they are those of a document.
-fn difference(own: &Vec<i64>, numbers: &[i64]) -> Option<DocRule>
-    requires { length own.now.items ≡ length numbers.now }
-    ensures { result ≡ None → own.now.items ≡ numbers.now }
+/// Whether two lists of numbers of the same length are the same.
+fn are_same(own: &[i64], numbers: &[i64]) -> bool
+    requires { length own.now ≡ length numbers.now }
+    ensures { result ≡ true → own.now ≡ numbers.now }
 {
     for k in 0..own.len() {
         if own[k] != numbers[k] {
-            return Some(DocRule::DocForm);
+            return false;
         }
     }
-    None
+    true
 }
 
-/// The rule that a proved document breaks: none where the numbers are its own.
-fn compared(
+/// Whether numbers are those of a document of a kind on `m` edges, in full.
+fn is_laid(
     alloc: Global,
     kind: Kind,
-    arrays: &InstanceArrays<'_>,
+    m: usize,
     document: &Document,
     numbers: &[i64],
-) -> Result<Option<DocRule>, OutOfMemory>
-    requires proved { IsProved kind (network_of kind (arrays_of arrays.now)) document.now }
-    requires truth { StatesTruth kind (network_of kind (arrays_of arrays.now)) document.now }
-    ensures { IfOk result (λ r. r ≡ None → Accepts kind (arrays_of arrays.now) numbers.now) }
+) -> Result<bool, OutOfMemory>
+    requires { All (IsCountOn m) document.now.counts }
+    ensures { IfOk result (λ b. b ≡ true
+        → numbers.now ≡ numbers_for false (form_of kind) m document.now) }
 {
-    let own = numbers_of(alloc, kind, arrays.from.len(), false, document)?;
+    let own = numbers_of(alloc, kind, m, false, document)?;
     if own.len() != numbers.len() {
-        return Ok(Some(DocRule::DocForm));
+        return Ok(false);
     }
-    Ok(difference(&own, numbers))
+    Ok(are_same(&own, numbers))
 }
 
-/// The first rule that a document breaks; none where it proves what it states and is that of the
-/// numbers.
-fn judged(
+/// The document of a kind on `m` edges that has these numbers, where there is one.
+fn document_in(
+    alloc: Global,
+    kind: Kind,
+    m: usize,
+    numbers: &[i64],
+) -> Result<Option<Document>, OutOfMemory>
+    ensures own { IfOk result (λ o. IfSome o
+        (λ d. numbers.now ≡ numbers_for false (form_of kind) m d)) }
+    ensures kind { IfOk result (λ o. IfSome o (λ d. d.kind ≡ kind)) }
+{
+    let Some(parts) = parted(numbers) else {
+        return Ok(None);
+    };
+    let Some(document) = document_of(alloc, kind, m, &parts)? else {
+        return Ok(None);
+    };
+    if !is_laid(alloc, kind, m, &document, numbers)? {
+        return Ok(None);
+    }
+    Ok(Some(document))
+}
+
+/// The first rule that the document of numbers breaks; none where it proves what it states.
+fn verdict_on(
     alloc: Global,
     kind: Kind,
     arrays: &InstanceArrays<'_>,
@@ -61,16 +86,37 @@ fn judged(
     document: &Document,
     numbers: &[i64],
 ) -> Result<Option<DocRule>, OutOfMemory>
+    requires own { IsOfNumbers kind (arrays_of arrays.now) numbers.now document.now }
+    requires kind { document.now.kind ≡ kind }
     requires same { instance.now ≡ network_of kind (arrays_of arrays.now) }
     requires limits { IsWithinLimits (size_of kind instance.now) }
     requires ready { IsReady kind instance.now }
-    ensures { IfOk result (λ r. r ≡ None → Accepts kind (arrays_of arrays.now) numbers.now) }
+    ensures { IfOk result (HasVerdict kind (arrays_of arrays.now) numbers.now) }
 {
     let verdict = judge(alloc, instance, kind, document)?;
     match verdict {
-        Verdict::Accepted => compared(alloc, kind, arrays, document, numbers),
+        Verdict::Accepted => Ok(None),
         Verdict::Rejected { rule, .. } => Ok(Some(rule)),
     }
+}
+
+/// The first rule that numbers break; none where their document proves what it states.
+fn judged(
+    alloc: Global,
+    kind: Kind,
+    arrays: &InstanceArrays<'_>,
+    instance: &Instance,
+    numbers: &[i64],
+) -> Result<Option<DocRule>, OutOfMemory>
+    requires same { instance.now ≡ network_of kind (arrays_of arrays.now) }
+    requires limits { IsWithinLimits (size_of kind instance.now) }
+    requires ready { IsReady kind instance.now }
+    ensures { IfOk result (HasVerdict kind (arrays_of arrays.now) numbers.now) }
+{
+    let Some(document) = document_in(alloc, kind, arrays.from.len(), numbers)? else {
+        return Ok(Some(DocRule::DocForm));
+    };
+    verdict_on(alloc, kind, arrays, instance, &document, numbers)
 }
 
 /// Judges numbers for the instance that arrays are: its size is tested first.
@@ -90,10 +136,7 @@ fn check_instance(
     if !is_within_limits(vertices, edges) {
         return Err(ArrayError::TooLarge { vertices, edges });
     }
-    let Some(document) = document_of(alloc, kind, numbers)? else {
-        return Ok(Some(DocRule::DocForm));
-    };
-    let rule = judged(alloc, kind, arrays, instance, &document, numbers)?;
+    let rule = judged(alloc, kind, arrays, instance, numbers)?;
     Ok(rule)
 }
 
@@ -106,7 +149,8 @@ pub fn check_arrays(
     arrays: &InstanceArrays<'_>,
     numbers: &[i64],
 ) -> Result<Option<DocRule>, ArrayError>
-    // What is accepted proves what it states of this instance, and that is true.
+    // What is accepted proves what it states of this instance, and that is true; what is rejected
+    // are no document's numbers, or those of one that breaks this rule first.
     ensures { Checks kind (arrays_of arrays.now) numbers.now result }
 {
     let instance = instance_of(alloc, kind, arrays)?;

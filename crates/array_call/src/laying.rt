@@ -1,9 +1,9 @@
 //! A document as numbers.
 ghost use Rattle.std.specs.Prelude.{◌≡◌, ◌++◌, map, All, IfOk, OnOk};
 ghost use Rattle.mb_problem.specs.Kinds.{form_of};
-ghost use Rattle.certificates.specs.Within.{IsCountWithin};
 ghost use Rattle.array_call.specs.Layout.{status_number, start_number, walk_numbers};
 ghost use Rattle.array_call.specs.Layout.{answer_numbers, listed_members, excluding, all_members};
+ghost use Rattle.array_call.specs.Sheets.{IsCountOn};
 ghost use Rattle.array_call.specs.Layout.{offsets, head, certificate, numbers_by, numbers_for};
 
 use crate::counts::counts_of;
@@ -48,7 +48,7 @@ fn answer_numbers(
     m: usize,
     document: &Document,
 ) -> Result<Vec<i64>, OutOfMemory>
-    requires { All (IsCountWithin m) document.now.counts }
+    requires { All (IsCountOn m) document.now.counts }
     ensures { IfOk result (λ v. v.items ≡ answer_numbers form m document.now) }
 {
     match form {
@@ -129,13 +129,28 @@ struct Lengths {
     members: i64,
 }
 
-/// The numbers that say what follows.
-fn head(alloc: Global, document: &Document, lengths: Lengths) -> Result<Vec<i64>, OutOfMemory>
+/// Room for the numbers of parts of these lengths, so that they are laid where they stay.
+fn room(answer: usize, duals: usize, sets: usize, members: usize) -> usize {
+    answer
+        .saturating_add(duals)
+        .saturating_add(sets)
+        .saturating_add(sets)
+        .saturating_add(members)
+        .saturating_add(9)
+}
+
+/// The numbers that say what follows, with room for so many.
+fn head(
+    alloc: Global,
+    document: &Document,
+    lengths: Lengths,
+    room: usize,
+) -> Result<Vec<i64>, OutOfMemory>
     ensures { IfOk result (λ v. v.items
         ≡ head document.now.status document.now.weight (start_number document.now.walk)
         lengths.answer lengths.duals lengths.sets lengths.all lengths.members) }
 {
-    let mut numbers = Vec::new(alloc);
+    let mut numbers = Vec::with_capacity(alloc, room)?;
     numbers.push(status_number(document.status))?;
     numbers.push(document.weight)?;
     numbers.push(start_number(&document.walk))?;
@@ -188,7 +203,9 @@ fn laid(
         all: of_sets.all.len() as i64,
         members: members.len() as i64,
     };
-    let mut numbers = head(alloc, document, lengths)?;
+    let others = of_sets.all.len().saturating_add(members.len());
+    let room = room(answer.len(), duals.len(), sets.len(), others);
+    let mut numbers = head(alloc, document, lengths, room)?;
     numbers.extend_from_slice(answer)?;
     push_certificate(&mut numbers, duals, sets, &of_sets, members)?;
     Ok(numbers)
@@ -203,7 +220,7 @@ pub fn numbers_of(
     brief: bool,
     document: &Document,
 ) -> Result<Vec<i64>, OutOfMemory>
-    requires { All (IsCountWithin m) document.now.counts }
+    requires { All (IsCountOn m) document.now.counts }
     ensures { IfOk result (λ v. v.items ≡ numbers_for brief (form_of kind) m document.now) }
 {
     let answer = answer_numbers(alloc, kind.form(), m, document)?;

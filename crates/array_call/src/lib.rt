@@ -6,6 +6,7 @@
 #![tactic(auto)]
 
 mod arrays;
+mod building;
 mod calling;
 mod checking;
 mod counts;
@@ -13,9 +14,9 @@ mod error;
 mod faults;
 mod laying;
 mod making;
+mod parting;
 mod rule;
 mod solving;
-mod spelling;
 
 pub use arrays::InstanceArrays;
 pub use calling::{ArrayAnswer, ArrayStatus, answer_to, check_to, size_to};

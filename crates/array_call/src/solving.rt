@@ -6,7 +6,7 @@ ghost use Rattle.certificates.specs.Proved.{StatesTruth};
 ghost use Rattle.solve_kinds.specs.Solved.{HasTrueStatus};
 ghost use Rattle.array_call.specs.Arrays.{arrays_of, network_of};
 ghost use Rattle.array_call.specs.Made.{IsFaultless};
-ghost use Rattle.array_call.specs.Answers.{Counts, Solves};
+ghost use Rattle.array_call.specs.Answers.{Counts, Solves, SolvesFor};
 
 use crate::arrays::InstanceArrays;
 use crate::error::ArrayError;
@@ -28,10 +28,11 @@ pub fn is_within_limits(vertices: u64, edges: u64) -> bool
     edges <= u64::from(GRAPH_EDGE_LIMIT)
 }
 
-/// Solves the instance that arrays are: its size is tested first.
+/// Solves the instance that arrays are, in full or in brief: its size is tested first.
 fn solve_instance<L: Ledger>(
     alloc: Global,
     kind: Kind,
+    brief: bool,
     arrays: &InstanceArrays<'_>,
     instance: &Instance,
     steps: &mut Steps<L>,
@@ -39,17 +40,33 @@ fn solve_instance<L: Ledger>(
     requires same { instance.now ≡ network_of kind (arrays_of arrays.now) }
     requires faultless { IsFaultless kind (arrays_of arrays.now) }
     requires ready { IsReady kind instance.now }
-    ensures answer { Solves kind (arrays_of arrays.now) result }
+    ensures answer { SolvesFor brief kind (arrays_of arrays.now) result }
     ensures steps { Counts kind (arrays_of arrays.now) steps.old steps.new result }
 {
     let (vertices, edges) = gadget_size(instance, kind);
     if !is_within_limits(vertices, edges) {
         return Err(ArrayError::TooLarge { vertices, edges });
     }
-    match solve_kinds::solve(alloc, instance, kind, steps) {
+    match solve_kinds::solve_written(alloc, instance, kind, brief, steps) {
         Ok(document) => Ok(document),
         Err(_) => Err(ArrayError::OutOfMemory),
     }
+}
+
+/// Solves the instance that arrays are for a kind, with all that proves the answer or, in brief, as
+/// far as that is laid as numbers: no duals and no sets are made then.
+pub(crate) fn solve_for<L: Ledger>(
+    alloc: Global,
+    kind: Kind,
+    brief: bool,
+    arrays: &InstanceArrays<'_>,
+    steps: &mut Steps<L>,
+) -> Result<Document, ArrayError>
+    ensures answer { SolvesFor brief kind (arrays_of arrays.now) result }
+    ensures steps { Counts kind (arrays_of arrays.now) steps.old steps.new result }
+{
+    let instance = instance_of(alloc, kind, arrays)?;
+    solve_instance(alloc, kind, brief, arrays, &instance, steps)
 }
 
 /// Solves the instance that arrays are for a kind (Schrijver, Combinatorial Optimization, volume A,
@@ -77,6 +94,5 @@ pub fn solve_arrays<L: Ledger>(
     // A search counts no more than the graph of certificates allows, and a refusal nothing.
     ensures steps { Counts kind (arrays_of arrays.now) steps.old steps.new result }
 {
-    let instance = instance_of(alloc, kind, arrays)?;
-    solve_instance(alloc, kind, arrays, &instance, steps)
+    solve_for(alloc, kind, false, arrays, steps)
 }

@@ -33,7 +33,7 @@ use Rattle.certificates.specs.Within.{IsWalkWithin, AreWithin}
 use Rattle.certificates.proofs.TruthLemmas.{not_conservative}
 use Rattle.solve_kinds.specs.Chosen.{IsFirstMetPart}
 use Rattle.outcome_lines.specs.Lines.{line_of, walk_line}
-use Rattle.solve_kinds.specs.Settled.{Settles}
+use Rattle.solve_kinds.specs.Settled.{Settles, SettlesBare}
 use Rattle.solve_kinds.specs.Solved.{HasTrueStatus}
 use Rattle.mb_problem.proofs.KindLaws.{IsInForm}
 use Rattle.outcome_lines.proofs.Ascents.{numbers-pos}
@@ -98,9 +98,10 @@ settles kind i start edges d asks network circuit negative p =
     }
 
 pub settles-circuit : (kind : Kind) (i : Network) (join : List ℕ) (answer : Answer) (d : Document) → asks_conservative kind ≡ true → IsNetwork i →
-    IsWalkWith (λ start edges. IsNegativeCircuitWithin (graph_of i) join start edges) ⊥ answer → StatesCircuit kind answer d → Settles kind i d
+    IsWalkWith (λ start edges. IsNegativeCircuitWithin (graph_of i) join start edges) ⊥ answer → StatesCircuit kind answer d → SettlesBare kind i d
 settles-circuit kind i join (answers.Counts counts) d asks network circuit p = absurd circuit
-settles-circuit kind i join (answers.Walk start edges) d asks network circuit p = settles kind i start edges d asks network circuit.circuit circuit.negative p
+settles-circuit kind i join (answers.Walk start edges) d asks network circuit p =
+    (settles kind i start edges d asks network circuit.circuit circuit.negative p, record { duals = ap (λ (b : Body). b.duals) p.body; sets = ap (λ (b : Body). b.sets) p.body })
 settles-circuit kind i join answers.Nothing d asks network circuit p = absurd circuit
 
 -- a circuit has edges

@@ -73,7 +73,7 @@ some-edges form.Walk (Walk start edges) has = some-any edges has
 
 -- four letters stand in order
 
-ordered-four : (counts : List CountLine) (walk : Option WalkLine) (duals : List DualLine) (sets : List SetLine) → AscendsBy (λ x. x.edge) counts → AscendsBy (λ y. y.vertex) duals →
+pub ordered-four : (counts : List CountLine) (walk : Option WalkLine) (duals : List DualLine) (sets : List SetLine) → AscendsBy (λ x. x.edge) counts → AscendsBy (λ y. y.vertex) duals →
     in_order (map part.Count counts ++ (at_most_one part.Walk walk ++ (map part.Dual duals ++ (map part.Set sets ++ [])))) ≡ true
 ordered-four counts walk duals sets edges vertices =
     let none : IsTail 4 [] = record { order = refl; beyond = refl } in
@@ -82,7 +82,7 @@ ordered-four counts walk duals sets edges vertices =
     let one = before 1 (at_most_one part.Walk walk) _ (one_ranked 2 part.Walk walk (λ w. refl)) (one_in_order part.Walk walk) two in
     (before 0 (map part.Count counts) _ (many_ranked 1 part.Count counts (λ x. refl)) (keyed part.Count (λ (x : CountLine). x.edge) counts (λ x y h. h) edges) one).order
 
-walk-formed : (walk : Option WalkLine) → has_edges walk ≡ true → list_all is_formed (at_most_one part.Walk walk) ≡ true
+pub walk-formed : (walk : Option WalkLine) → has_edges walk ≡ true → list_all is_formed (at_most_one part.Walk walk) ≡ true
 walk-formed None h = refl
 walk-formed (Some w) h = and_from (has_any w.edges) true h refl
 
@@ -92,10 +92,10 @@ four counts walk duals sets = record blank { counts = counts; walk = walk; duals
 
 -- y and z lines stand in it
 
-dual-taken : (proof : BestProof) → (proves_best letter.Dual proof || false) ≡ true
+pub dual-taken : (proof : BestProof) → (proves_best letter.Dual proof || false) ≡ true
 dual-taken (Duals value) = refl
 
-set-taken : (proof : BestProof) → (proves_best letter.Set proof || false) ≡ true
+pub set-taken : (proof : BestProof) → (proves_best letter.Set proof || false) ≡ true
 set-taken (Duals value) = refl
 
 pub form-optimal : (kind : Kind) (weight : ℤ) (answer : Answer) (counts : List CountLine) (walk : Option WalkLine) (duals : List DualLine) (sets : List SetLine) →

@@ -1,7 +1,9 @@
 -- Computed documents settle an instance.
-use Rattle.std.proofs.Common.{◌≡◌, ℕ, ◌≤◌, Bool, true, false, List, ◌∷◌, length, map, All, refl, sym, ap, subst}
+use Rattle.std.proofs.Common.{◌≡◌, ℕ, ◌≤◌, Bool, true, false, List, [], ◌∷◌, length, map, All, refl, sym, ap, ◌∙◌, subst}
 use Rattle.std.specs.List.{flat_map}
 use Rattle.mb_problem.specs.declared.kind.Kind.{Kind}
+use Rattle.mb_problem.specs.declared.kind.Exclusion.{Exclusion}
+use Rattle.mb_problem.specs.declared.kind.Exclusion.TheVariants.{Barrier, OddPart, SplitPart, Never}
 use Rattle.mb_problem.specs.Kinds.{exclusion_of}
 use Rattle.mb_problem.specs.Network.{Network, IsNetwork}
 use Rattle.gadget_base.specs.Certified.{gadget_graph}
@@ -10,6 +12,7 @@ use Rattle.doc_format.specs.declared.status.DocStatus.{DocStatus}
 use Rattle.doc_format.specs.declared.status.DocStatus.TheVariants.{Optimal, Infeasible, NonConservative}
 use Rattle.doc_format.specs.declared.part.Part.{Part}
 use Rattle.doc_format.specs.declared.part.DualLine.{DualLine}
+use Rattle.doc_format.specs.declared.part.MemberLine.{MemberLine}
 use Rattle.doc_format.specs.declared.part.SetLine.{SetLine}
 use Rattle.doc_format.specs.Form.{IsDocument, is_barrier, is_never}
 use Rattle.doc_format.specs.Parts.{Body}
@@ -21,11 +24,12 @@ use Rattle.certificates.specs.Within.{IsDualWithin}
 use Rattle.certificates.proofs.ProvedTruth.{proved_true}
 use Rattle.mwpm_engine.specs.Solutions.{Solution, AreAscending, IsSolved}
 use Rattle.least_joins.proofs.Listing.{listing}
+use Rattle.outcome_lines.specs.Lines.{member_line}
 use Rattle.outcome_lines.proofs.DualLines.{lines_to, lines-duals, lines-ascend, lines-within}
 use Rattle.outcome_lines.proofs.SetLines.{lines_of, sets-listed, natural-listed}
-use Rattle.solve_kinds.specs.Excluding.{StatesSet}
+use Rattle.solve_kinds.specs.Excluding.{set_body, StatesSet}
 use Rattle.solve_kinds.specs.Presented.{StatesAnswer, Presents, PresentsBriefly, PresentsFor}
-use Rattle.solve_kinds.specs.Settled.{Settles, IsWrittenFor, SettlesFor}
+use Rattle.solve_kinds.specs.Settled.{Settles, IsBare, SettlesBare, IsWrittenFor, SettlesFor}
 use Rattle.solve_kinds.specs.Solved.{HasTrueStatus, HasFitWeights}
 use Rattle.solve_kinds.proofs.Excluding.{Excludes, few-excluding, proved-infeasible, none-feasible, chosen-infeasible}
 use Rattle.solve_kinds.proofs.Forms.{form-completed}
@@ -58,13 +62,32 @@ settles-infeasible kind i set d network never few barred fit x p =
 
 -- ---- what is written
 
+no-duals : (e : Exclusion) (u : MemberLine) → (set_body e u).duals ≡ []
+no-duals Barrier u = refl
+no-duals OddPart u = refl
+no-duals SplitPart u = refl
+no-duals Never u = refl
+
+no-sets : (e : Exclusion) (u : MemberLine) → (set_body e u).sets ≡ []
+no-sets Barrier u = refl
+no-sets OddPart u = refl
+no-sets SplitPart u = refl
+no-sets Never u = refl
+
+-- a set that excludes all answers stands alone
+pub bare-set : (kind : Kind) (set : List ℕ) (d : Document) → StatesSet kind set d → IsBare d
+bare-set kind set d p = record {
+  duals = ap (λ (b : Body). b.duals) p.body ∙ no-duals (exclusion_of kind) (member_line set);
+  sets = ap (λ (b : Body). b.sets) p.body ∙ no-sets (exclusion_of kind) (member_line set);
+}
+
 -- a document that settles the instance is written as itself
-pub settles-for : (brief : Bool) (kind : Kind) (i : Network) (d : Document) → Settles kind i d → SettlesFor brief kind i d
-settles-for false kind i d h = h
-settles-for true kind i d h = record { whole = d; settles = h; status = refl; text = refl }
+pub settles-for : (brief : Bool) (kind : Kind) (i : Network) (d : Document) → SettlesBare kind i d → SettlesFor brief kind i d
+settles-for false kind i d h = h.0
+settles-for true kind i d h = record { whole = d; settles = h.0; status = refl; weight = refl; counts = refl; walk = refl; text = refl; bare = λ brief. h.1 }
 
 pub written-for : (brief : Bool) (kind : Kind) (i : Network) (d : Document) → SettlesFor brief kind i d → IsWrittenFor kind i brief d
-written-for false kind i d h = record { whole = d; settles = h; status = refl; text = refl }
+written-for false kind i d h = record { whole = d; settles = h; status = refl; weight = refl; counts = refl; walk = refl; text = refl; bare = λ brief. absurd (cc) }
 written-for true kind i d h = h
 
 -- in brief the text tells of the answer alone
@@ -135,7 +158,11 @@ settles-presented true kind i s d few fit of p = record {
   whole = completed kind i s d p;
   settles = settles-optimal kind i s (completed kind i s d p) few fit of (presents-completed kind i s d p of.solved);
   status = refl;
+  weight = refl;
+  counts = refl;
+  walk = refl;
   text = brief-text kind i s d p;
+  bare = λ brief. record { duals = ap (λ (b : Body). b.duals) p.only; sets = ap (λ (b : Body). b.sets) p.only };
 }
 
 pub states-for : (brief : Bool) (kind : Kind) (i : Network) (s : Solution) (d : Document) → PresentsFor brief kind i s d → StatesAnswer kind i s d

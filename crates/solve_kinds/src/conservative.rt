@@ -7,7 +7,7 @@ ghost use Rattle.mb_problem.specs.Joins.{ListsJoin};
 ghost use Rattle.mb_problem.specs.Network.{IsNetwork, graph_of};
 ghost use Rattle.mb_problem.specs.Size.{size_of, odd_at};
 ghost use Rattle.mwpm_engine.specs.Solutions.{most_steps};
-ghost use Rattle.solve_kinds.specs.Settled.{Settles, SettlesOrIsFit};
+ghost use Rattle.solve_kinds.specs.Settled.{SettlesBare, SettlesOrIsFit};
 
 use crate::joins::as_counts;
 use conservative_paths::{laws, negative_circuit};
@@ -30,7 +30,7 @@ fn nonconservative(
     requires kind { asks_conservative kind ≡ true }
     requires even { ListsJoin instance.now (odd_at Empty instance.now) even.now.edges }
     requires negative { walk_weight (graph_of instance.now) even.now.edges <ℤ pos 0 }
-    ensures { IfOk result (Settles kind instance.now) }
+    ensures { IfOk result (SettlesBare kind instance.now) }
 {
     let circuit = negative_circuit(alloc, instance, even)?;
     let walk = walk_line(alloc, &circuit)?;

@@ -34,7 +34,7 @@ fn add_line(
 }
 
 /// The document of a line of vertices, ascending, that excludes all answers of a kind.
-fn of_line(alloc: Global, kind: Kind, line: MemberLine) -> Result<Document, OutOfMemory>
+pub fn infeasible_by(alloc: Global, kind: Kind, line: MemberLine) -> Result<Document, OutOfMemory>
     requires kind { is_never (exclusion_of kind) ≡ false }
     requires ascending { ascends line.members ≡ true }
     ensures { IfOk result (StatesLine kind line) }
@@ -57,5 +57,5 @@ pub fn infeasible(alloc: Global, kind: Kind, set: &[VertexId]) -> Result<Documen
     ensures { IfOk result (StatesSet kind set.now) }
 {
     let line = member_line(alloc, set)?;
-    of_line(alloc, kind, line)
+    infeasible_by(alloc, kind, line)
 }

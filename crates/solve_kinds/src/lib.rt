@@ -17,5 +17,6 @@ mod parts;
 mod searching;
 mod solving;
 
+pub use infeasible::infeasible_by;
 pub use limits::DOCUMENT_BYTE_LIMIT;
 pub use solving::{solve, solve_written};

@@ -17,7 +17,7 @@ use crate::parts::excluded;
 use crate::searching::searched;
 use doc_format::Document;
 use mb_base::{OutOfMemory, Steps};
-use mb_problem::{Instance, Kind};
+use mb_problem::{EDGE_LIMIT, Instance, Kind};
 use std::alloc::Global;
 use std::sync::ledger::Ledger;
 
@@ -38,8 +38,7 @@ fn solve_for<L: Ledger>(
     ensures unsearched { IfOk result
         (λ d. is_tested_first kind ≡ true → d.status ≡ Infeasible → steps.new ≡ steps.old) }
 {
-    // An instance is valid as long as it lives: its calls say so.
-    let _edges = instance.edges();
+    prove!(instance.edges() <= EDGE_LIMIT);
     if let Some(document) = unfit(alloc, instance, kind, steps)? {
         return Ok(document);
     }
@@ -84,8 +83,8 @@ pub fn solve<L: Ledger>(
 }
 
 /// The same for a document that is to be written, in full or in brief: it has the text of a
-/// document that `solve` could answer. In brief the duals and sets, which are not written then, are
-/// not made.
+/// document that `solve` could answer. In brief it has no duals and no sets, which are not written
+/// then.
 pub fn solve_written<L: Ledger>(
     alloc: Global,
     instance: &Instance,
@@ -96,6 +95,9 @@ pub fn solve_written<L: Ledger>(
     requires limits { IsWithinLimits (size_of kind instance.now) }
     requires ready { IsReady kind instance.now }
     ensures written { IfOk result (IsWrittenFor kind instance.now brief) }
+
+    // In full it settles the instance itself.
+    ensures settled { IfOk result (SettlesFor brief kind instance.now) }
     ensures steps { steps.new ≤ steps.old
         + searches_of kind * most_steps (size_of kind instance.now) }
     ensures unsearched { IfOk result

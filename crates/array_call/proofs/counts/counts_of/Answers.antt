@@ -1,10 +1,10 @@
-use Rattle.std.proofs.Common.{◌≡◌, ℕ, ◌+◌, ◌-◌, ◌<◌, ◌≤◌, pos, ℤ, ◌≤ℤ◌, List, length, drop, get_or, nat_abs, refl, sym, ap, ◌∙◌, arith}
+use Rattle.std.proofs.Common.{◌≡◌, ℕ, ◌+◌, ◌-◌, ◌<◌, pos, ℤ, ◌≤ℤ◌, List, length, drop, get_or, nat_abs, refl, ap, ◌∙◌, arith}
 use Rattle.std.proofs.lemmas.Int.{ints}
 use Rattle.std.proofs.lemmas.List.{length-set}
 use Rattle.std.proofs.lemmas.List.Elements.{All-get_or}
 use Rattle.doc_format.specs.declared.part.CountLine.{CountLine}
 use Rattle.certificates.specs.Claims.{count_of}
-use Rattle.certificates.specs.Within.{IsCountWithin}
+use Rattle.array_call.specs.Sheets.{IsCountOn}
 use Rattle.array_call.proofs.CountLines.{next-from_one, count-before, all-counts}
 use Rattle.array_call.proofs.counts.counts_of.Goals as goal
 
@@ -18,7 +18,7 @@ loop-k-preserved c =
     let more : k < length xs = c.loop-k-test.true in
     let below : j < length xs = omega (arith, more) in
     let x : CountLine = get_or xs j d in
-    let within : IsCountWithin c.args.m x = All-get_or (IsCountWithin c.args.m) xs j d below c.requires in
+    let within : IsCountOn c.args.m x = All-get_or (IsCountOn c.args.m) xs j d below c.requires in
     let low : pos 1 ≤ℤ x.edge = within.0.low in
     let high : x.edge ≤ℤ pos c.args.m = within.0.high in
     let p = nat_abs x.edge - 1 in

@@ -1,6 +1,6 @@
-use Rattle.std.proofs.Common.{◌≡◌, ap, sym, ◌∙◌, Some}
+use Rattle.std.proofs.Common.{ap, sym, ◌∙◌, Some}
 use Rattle.array_call.specs.declared.rule.ArrayFault.{ArrayFault}
-use Rattle.array_call.specs.Arrays.{Arrays, arrays_of, edge_count}
+use Rattle.array_call.specs.Arrays.{Arrays, arrays_of}
 use Rattle.array_call.specs.Faults.{value_fault}
 use Rattle.array_call.proofs.Firsts.{none-more, first-found}
 use Rattle.array_call.proofs.faults.values_fault.Goals as goal

@@ -1,8 +1,7 @@
-use Rattle.std.proofs.Common.{◌≡◌, ◌≤◌, ℕ, List, length, ap, ap₂, sym, subst, ◌∙◌}
+use Rattle.std.proofs.Common.{ℕ, List, ap₂, sym, subst, ◌∙◌}
 use Rattle.mb_problem.specs.declared.instance.InstanceEdge.{InstanceEdge}
-use Rattle.mb_problem.specs.Network.{Network, IsInstanceEdge, IsNetwork}
 use Rattle.mb_problem.specs.Ready.{IsReady}
-use Rattle.array_call.specs.Arrays.{Arrays, arrays_of, edge_count, network_of}
+use Rattle.array_call.specs.Arrays.{Arrays, arrays_of}
 use Rattle.array_call.proofs.Instances.{faultless, ready, is_network}
 use Rattle.array_call.proofs.making.build.Goals as goal
 

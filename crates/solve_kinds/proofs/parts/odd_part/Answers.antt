@@ -3,6 +3,7 @@ use Rattle.mb_problem.specs.declared.answer.Parity.TheVariants.{Values}
 use Rattle.mb_problem.specs.Network.{graph_of}
 use Rattle.graph_parts.specs.OddParts.{IsJoinOrOdd, IsFirstOddPart, is_terminal}
 use Rattle.solve_kinds.proofs.PartDocuments.{no-odd_part, settles-odd}
+use Rattle.solve_kinds.proofs.Settling.{bare-set}
 use Rattle.solve_kinds.proofs.parts.odd_part.Goals as goal
 
 pub returns-in-Join : goal.returns-in-Join
@@ -13,5 +14,8 @@ pub returns : goal.returns
 returns c =
     let i = c.args.instance.now in
     let part : IsFirstOddPart (graph_of i) (is_terminal Values i) c.in-OddSet.part = (subst (IsJoinOrOdd Values i) c.in-OddSet.is c.in_ok-join_or_odd.ensures.outcome).0 in
-    settles-odd c.args.kind i c.as_slice.result.now c.in_ok-infeasible-in-OddSet.field-0 c.requires.kind c.requires.network c.requires.weights
-    (subst (IsFirstOddPart (graph_of i) (is_terminal Values i)) (sym c.as_slice.ensures) part) c.in_ok-infeasible-in-OddSet.ensures
+    let d = c.in_ok-infeasible-in-OddSet.field-0 in (
+      settles-odd c.args.kind i c.as_slice.result.now d c.requires.kind c.requires.network c.requires.weights
+          (subst (IsFirstOddPart (graph_of i) (is_terminal Values i)) (sym c.as_slice.ensures) part) c.in_ok-infeasible-in-OddSet.ensures,
+      bare-set c.args.kind c.as_slice.result.now d c.in_ok-infeasible-in-OddSet.ensures,
+    )

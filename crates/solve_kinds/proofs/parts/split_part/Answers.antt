@@ -8,6 +8,7 @@ use Rattle.mb_problem.proofs.EdgeLemmas.{network-graph}
 use Rattle.graph_parts.specs.Connected.{HasConnectedEdges}
 use Rattle.postman_walk.specs.Tours.{IsLeastMet}
 use Rattle.solve_kinds.proofs.PartDocuments.{no-split_part, settles-split}
+use Rattle.solve_kinds.proofs.Settling.{bare-set}
 use Rattle.solve_kinds.proofs.SplitParts.{split-part, first-met}
 use Rattle.solve_kinds.proofs.parts.split_part.Goals as goal
 
@@ -27,5 +28,8 @@ returns c =
     let least : IsLeastMet g c.in-Some.first = subst (λ (h : Multigraph). IsLeastMet h c.in-Some.first) is c.in-Some.ensures in
     let apart : HasConnectedEdges g → ⊥ = λ connected. true≢false (sym (c.in_ok-edge_connected.ensures.exact.1 (subst HasConnectedEdges (sym is) connected)) ∙ c.if-branch.false) in
     let ends = (network-graph i c.requires.network).ends in
-    settles-split c.args.kind i c.deref.result.now c.in_ok-infeasible.field-0 c.requires.kind c.requires.network c.requires.weights
-    (split-part g c.deref.result.now c.in-Some.first ends component least held apart) (first-met g c.deref.result.now c.in-Some.first component least held) c.in_ok-infeasible.ensures
+    let d = c.in_ok-infeasible.field-0 in (
+      settles-split c.args.kind i c.deref.result.now d c.requires.kind c.requires.network c.requires.weights
+          (split-part g c.deref.result.now c.in-Some.first ends component least held apart) (first-met g c.deref.result.now c.in-Some.first component least held) c.in_ok-infeasible.ensures,
+      bare-set c.args.kind c.deref.result.now d c.in_ok-infeasible.ensures,
+    )

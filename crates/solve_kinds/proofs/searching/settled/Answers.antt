@@ -8,7 +8,7 @@ use Rattle.mb_problem.specs.Kinds.{exclusion_of}
 use Rattle.gadget_base.specs.Certified.{gadget_graph}
 use Rattle.doc_format.specs.Form.{is_barrier}
 use Rattle.solve_kinds.proofs.Presenting.{Solves}
-use Rattle.solve_kinds.proofs.Settling.{settles-for, settles-presented, states-for}
+use Rattle.solve_kinds.proofs.Settling.{bare-set, settles-for, settles-presented, states-for}
 use Rattle.solve_kinds.proofs.PartDocuments.{barrier-kind, never-no, settles-barred}
 use Rattle.solve_kinds.specs.Excluding.{StatesSet}
 use Rattle.solve_kinds.specs.Presented.{PresentsFor}
@@ -57,8 +57,10 @@ returns-in-Barrier-clause-settled g c =
     let barrier : IsBarrier h s.barrier = subst (λ (k : Multigraph). IsBarrier k s.barrier) here c.in-Barrier.ensures.ends.1 in
     let t : is_barrier (exclusion_of kind) ≡ true = barrier-kind kind h s.barrier c.requires.good c.requires.perfect barrier in
     IfOk-weaker c.barred.result (StatesSet kind s.barrier) (SettlesFor c.args.brief kind i)
-    (λ d p. settles-for c.args.brief kind i d
-    (settles-barred kind i h s.barrier d c.requires.certified c.requires.good c.requires.few c.requires.reached t c.requires.network c.requires.fit set barrier p)) c.barred.ensures
+    (λ d p. settles-for c.args.brief kind i d (
+      settles-barred kind i h s.barrier d c.requires.certified c.requires.good c.requires.few c.requires.reached t c.requires.network c.requires.fit set barrier p,
+      bare-set kind s.barrier d p,
+    )) c.barred.ensures
 
 pub returns-in-Barrier-clause-best : goal.returns-in-Barrier-clause-best
 returns-in-Barrier-clause-best g c =

@@ -1,0 +1,64 @@
+-- What is laid of a document that was solved in brief.
+use Rattle.std.proofs.Common.{◌≡◌, ℕ, pos, ℤ, List, [], ◌∷◌, ◌++◌, length, map, Bool, true, false, Option, refl, ap, ◌∙◌}
+use Rattle.mb_problem.specs.declared.kind.Kind.{Kind}
+use Rattle.mb_problem.specs.declared.kind.AnswerForm.{AnswerForm}
+use Rattle.mb_problem.specs.declared.kind.AnswerForm.TheVariants as form
+use Rattle.mb_problem.specs.Kinds.{form_of}
+use Rattle.mb_problem.specs.Network.{Network}
+use Rattle.doc_format.specs.declared.document.Document.{Document}
+use Rattle.doc_format.specs.declared.status.DocStatus.{DocStatus}
+use Rattle.doc_format.specs.declared.part.CountLine.{CountLine}
+use Rattle.doc_format.specs.declared.part.WalkLine.{WalkLine}
+use Rattle.certificates.specs.Claims.{counts_of}
+use Rattle.solve_kinds.specs.Settled.{Settles, SettlesFor}
+use Rattle.array_call.specs.declared.calling.ArrayStatus.{ArrayStatus}
+use Rattle.array_call.specs.declared.calling.ArrayStatus.TheVariants as status
+use Rattle.array_call.specs.Arrays.{Arrays, edge_count}
+use Rattle.array_call.specs.Layout.{answer_numbers, walk_numbers, start_number, head, numbers_for}
+use Rattle.array_call.specs.Answers.{Gives, IsBriefFor}
+
+answers-same : (f : AnswerForm) (m : ℕ) (d e : Document) → d.counts ≡ e.counts → d.walk ≡ e.walk → answer_numbers f m d ≡ answer_numbers f m e
+answers-same form.Counts m d e counts walk = ap (λ (xs : List CountLine). map pos (counts_of xs m)) counts
+answers-same form.Walk m d e counts walk = ap walk_numbers walk
+
+-- documents with the same answer are laid alike in brief
+abbrev laid : DocStatus → ℤ → Option WalkLine → List ℤ → List ℤ
+laid s weight walk answer = head s weight (start_number walk) (pos (length answer)) (pos 0) (pos 0) (pos 0) (pos 0) ++ (answer ++ pos 0 ∷ [])
+
+brief-same : (f : AnswerForm) (m : ℕ) (d e : Document) → d.status ≡ e.status → d.weight ≡ e.weight → d.counts ≡ e.counts → d.walk ≡ e.walk →
+    numbers_for true f m d ≡ numbers_for true f m e
+brief-same f m d e status weight counts walk =
+    ap (λ (s : DocStatus). laid s d.weight d.walk (answer_numbers f m d)) status
+    ∙ ap (λ (w : ℤ). laid e.status w d.walk (answer_numbers f m d)) weight
+    ∙ ap (λ (w : Option WalkLine). laid e.status e.weight w (answer_numbers f m d)) walk
+    ∙ ap (laid e.status e.weight e.walk) (answers-same f m d e counts walk)
+
+-- what is laid is what is laid of a document that settles the instance
+pub record LaysSettled (brief : Bool) (kind : Kind) (i : Network) (m : ℕ) (d : Document) : Type 0 where
+  pub whole : Document
+  pub settles : Settles kind i whole
+  pub counts : d.counts ≡ whole.counts
+  pub numbers : numbers_for brief (form_of kind) m d ≡ numbers_for brief (form_of kind) m whole
+
+pub lays-settled : (brief : Bool) (kind : Kind) (i : Network) (m : ℕ) (d : Document) → SettlesFor brief kind i d → LaysSettled brief kind i m d
+lays-settled false kind i m d h = record { whole = d; settles = h; counts = refl; numbers = refl }
+lays-settled true kind i m d h = record { whole = h.whole; settles = h.settles; counts = h.counts; numbers = brief-same (form_of kind) m d h.whole h.status h.weight h.counts h.walk }
+
+-- what is given in brief has no certificate
+pub given-brief : (brief : Bool) (kind : Kind) (a : Arrays) (numbers : List ℤ) (s : ArrayStatus) → Gives brief kind a numbers s → IsBriefFor brief numbers s
+given-brief false kind a numbers s h = tt
+given-brief true kind a numbers status.Done h = record {
+  status = _;
+  weight = _;
+  start = _;
+  answer = answer_numbers (form_of kind) (edge_count a) h.0;
+  whole = h.3;
+}
+given-brief true kind a numbers status.Rejected h = tt
+given-brief true kind a numbers status.Malformed h = tt
+given-brief true kind a numbers status.TooLarge h = tt
+given-brief true kind a numbers status.OutOfMemory h = tt
+
+pub none-brief : (brief : Bool) (numbers : List ℤ) → IsBriefFor brief numbers status.OutOfMemory
+none-brief false numbers = tt
+none-brief true numbers = tt

@@ -1,0 +1,132 @@
+-- The lines of an answer in numbers, and the forms of their documents.
+use Rattle.std.proofs.Common.{◌≡◌, ℕ, ◌≤◌, ℤ, pos, ◌≤ℤ◌, Bool, true, false, ◌||◌, List, [], ◌++◌, map, All, Option, None, Some}
+use Rattle.std.proofs.Common.{refl, sym, ap, subst, ◌∙◌, arith}
+use Rattle.std.specs.List.{list_all}
+use Rattle.std.proofs.lemmas.Int.{ints}
+use Rattle.std.proofs.lemmas.Bool.{and_from}
+use Rattle.std.proofs.lemmas.List.Elements.{All-weaker, All-map, All-nil}
+use Rattle.mb_problem.specs.declared.kind.Kind.{Kind}
+use Rattle.mb_problem.specs.declared.kind.AnswerForm.{AnswerForm}
+use Rattle.mb_problem.specs.declared.kind.AnswerForm.TheVariants as form
+use Rattle.mb_problem.specs.declared.kind.BestProof.{BestProof}
+use Rattle.mb_problem.specs.declared.kind.BestProof.TheVariants.{Duals}
+use Rattle.mb_problem.specs.Kinds.{form_of, proof_of, asks_conservative}
+use Rattle.doc_format.specs.declared.status.DocStatus.TheVariants.{Optimal, NonConservative}
+use Rattle.doc_format.specs.declared.part.CountLine.{CountLine}
+use Rattle.doc_format.specs.declared.part.WalkLine.{WalkLine}
+use Rattle.doc_format.specs.declared.part.DualLine.{DualLine}
+use Rattle.doc_format.specs.declared.part.SetLine.{SetLine}
+use Rattle.doc_format.specs.declared.part.Part.{Part}
+use Rattle.doc_format.specs.declared.part.Part.TheVariants as part
+use Rattle.doc_format.specs.declared.document.Document.{Document}
+use Rattle.doc_format.specs.declared.head.Head.{Head}
+use Rattle.doc_format.specs.declared.letter.Letter.TheVariants as letter
+use Rattle.doc_format.specs.Parts.{Body, blank, at_most_one, has_any, is_counts, is_walk, is_formed, proves_best}
+use Rattle.doc_format.specs.Form.{admits, ascends, in_order, AscendsBy, IsDocument}
+use Rattle.doc_format.specs.Reading.{body_of, head_of}
+use Rattle.doc_format.proofs.Stretches.{IsTail, before, many_ranked, one_ranked, keyed, sets_in_order, one_in_order}
+use Rattle.doc_format.proofs.InOrder.{all_joined, all_mapped}
+use Rattle.certificates.specs.Within.{IsCountWithin}
+use Rattle.least_joins.proofs.Passing.{passing, passing-range, passing-ascends}
+use Rattle.outcome_lines.specs.Lines.{is_used, line_at}
+use Rattle.outcome_lines.proofs.Ascents.{ascends-pos, map-map}
+use Rattle.array_call.specs.Sheets.{IsCountOn, HasEdges, AreIn, HasSizeFor}
+
+-- ---- counts
+
+-- the lines of the edges up to number k
+abbrev pub lines_to : List ℕ → ℕ → List CountLine
+lines_to cs k = map (line_at cs) (passing (is_used cs) k)
+
+pub lines-ascend : (cs : List ℕ) (m : ℕ) → AscendsBy (λ x. x.edge) (lines_to cs m)
+lines-ascend cs m = ap ascends (map-map (λ (x : CountLine). x.edge) (line_at cs) (passing (is_used cs) m)) ∙ ascends-pos (passing (is_used cs) m) (passing-ascends (is_used cs) m)
+
+pub on-edges : (m : ℕ) (x : CountLine) → IsCountWithin m x → IsCountOn m x
+on-edges m x h = (h.0, (let low : pos 1 ≤ℤ x.count = h.1.low in omega (arith, ints, low)))
+
+line-on : (cs : List ℕ) (m v : ℕ) → (1 ≤ v) × (v ≤ m) → IsCountOn m (line_at cs v)
+line-on cs m v h = (let low : 1 ≤ v = h.0 in let high : v ≤ m = h.1 in (record { low = omega (arith, ints, low); high = omega (arith, ints, high) }, omega (arith, ints)))
+
+pub lines-on : (cs : List ℕ) (m : ℕ) → All (IsCountOn m) (lines_to cs m)
+lines-on cs m =
+    All-map (IsCountOn m) (line_at cs) (passing (is_used cs) m)
+    (All-weaker (λ v. (1 ≤ v) × (v ≤ m)) (λ v. IsCountOn m (line_at cs v)) (line-on cs m) (passing (is_used cs) m) (passing-range (is_used cs) m))
+
+pub counts-on : (f : AnswerForm) (n m : ℕ) (counts : List CountLine) (walk : Option WalkLine) → AreIn f n counts walk → HasSizeFor f n m → All (IsCountOn m) counts
+counts-on form.Counts n m counts walk h size = subst (λ (k : ℕ). All (IsCountOn k) counts) size h.1
+counts-on form.Walk n m counts walk h size = subst (All (IsCountOn m)) (sym h.0) (All-nil (IsCountOn m))
+
+-- ---- forms
+
+walk-formed : (walk : Option WalkLine) → HasEdges walk → list_all is_formed (at_most_one part.Walk walk) ≡ true
+walk-formed None h = refl
+walk-formed (Some w) h = and_from (has_any w.edges) true h refl
+
+ascend-in : (f : AnswerForm) (n : ℕ) (counts : List CountLine) (walk : Option WalkLine) → AreIn f n counts walk → AscendsBy (λ x. x.edge) counts
+ascend-in form.Counts n counts walk h = h.0
+ascend-in form.Walk n counts walk h = subst (λ (xs : List CountLine). AscendsBy (λ x. x.edge) xs) (sym h.0) refl
+
+edges-in : (f : AnswerForm) (n : ℕ) (counts : List CountLine) (walk : Option WalkLine) → AreIn f n counts walk → HasEdges walk
+edges-in form.Counts n counts walk h = subst HasEdges (sym h.2) tt
+edges-in form.Walk n counts walk h = h.1
+
+ordered-four : (counts : List CountLine) (walk : Option WalkLine) (duals : List DualLine) (sets : List SetLine) → AscendsBy (λ x. x.edge) counts → AscendsBy (λ y. y.vertex) duals →
+    in_order (map part.Count counts ++ (at_most_one part.Walk walk ++ (map part.Dual duals ++ (map part.Set sets ++ [])))) ≡ true
+ordered-four counts walk duals sets edges vertices =
+    let none : IsTail 4 [] = record { order = refl; beyond = refl } in
+    let three = before 3 (map part.Set sets) [] (many_ranked 4 part.Set sets (λ z. refl)) (sets_in_order sets) none in
+    let two = before 2 (map part.Dual duals) _ (many_ranked 3 part.Dual duals (λ y. refl)) (keyed part.Dual (λ (y : DualLine). y.vertex) duals (λ x y h. h) vertices) three in
+    let one = before 1 (at_most_one part.Walk walk) _ (one_ranked 2 part.Walk walk (λ w. refl)) (one_in_order part.Walk walk) two in
+    (before 0 (map part.Count counts) _ (many_ranked 1 part.Count counts (λ x. refl)) (keyed part.Count (λ (x : CountLine). x.edge) counts (λ x y h. h) edges) one).order
+
+-- a best answer has lines of duals
+
+dual-taken : (proof : BestProof) → (proves_best letter.Dual proof || false) ≡ true
+dual-taken (Duals value) = refl
+
+set-taken : (proof : BestProof) → (proves_best letter.Set proof || false) ≡ true
+set-taken (Duals value) = refl
+
+one-letter : (p : Part → Bool) (walk : Option WalkLine) → ((w : WalkLine) → p (part.Walk w) ≡ true) → list_all p (at_most_one part.Walk walk) ≡ true
+one-letter p None h = refl
+one-letter p (Some w) h = and_from (p (part.Walk w)) true (h w) refl
+
+counts-letters : (f : AnswerForm) (n : ℕ) (p : Part → Bool) (counts : List CountLine) (walk : Option WalkLine) →
+    ((x : CountLine) → p (part.Count x) ≡ is_counts f) → AreIn f n counts walk → list_all p (map part.Count counts) ≡ true
+counts-letters form.Counts n p counts walk takes h = all_mapped p part.Count counts takes
+counts-letters form.Walk n p counts walk takes h = ap (λ (xs : List CountLine). list_all p (map part.Count xs)) h.0
+
+walk-letters : (f : AnswerForm) (n : ℕ) (p : Part → Bool) (counts : List CountLine) (walk : Option WalkLine) →
+    ((w : WalkLine) → p (part.Walk w) ≡ is_walk f) → AreIn f n counts walk → list_all p (at_most_one part.Walk walk) ≡ true
+walk-letters form.Counts n p counts walk takes h = ap (λ (w : Option WalkLine). list_all p (at_most_one part.Walk w)) h.2
+walk-letters form.Walk n p counts walk takes h = one-letter p walk takes
+
+pub form-laid : (kind : Kind) (weight : ℤ) (n : ℕ) (counts : List CountLine) (walk : Option WalkLine) (duals : List DualLine) (sets : List SetLine) →
+    AreIn (form_of kind) n counts walk → AscendsBy (λ y. y.vertex) duals → IsDocument Optimal kind weight (record blank { counts = counts; walk = walk; duals = duals; sets = sets })
+form-laid kind weight n counts walk duals sets has vertices =
+    let p = admits Optimal kind in
+    let f = form_of kind in
+    record {
+      headed = refl;
+      no_weight = λ h. absurd (cc);
+      letters = all_joined p (map part.Count counts) _ (counts-letters f n p counts walk (λ x. refl) has)
+          (all_joined p (at_most_one part.Walk walk) _ (walk-letters f n p counts walk (λ w. refl) has)
+          (all_joined p (map part.Dual duals) _ (all_mapped p part.Dual duals (λ y. dual-taken (proof_of kind)))
+          (all_joined p (map part.Set sets) [] (all_mapped p part.Set sets (λ z. set-taken (proof_of kind))) refl)));
+      ordered = ordered-four counts walk duals sets (ascend-in f n counts walk has) vertices;
+      formed = all_joined is_formed (map part.Count counts) _ (all_mapped is_formed part.Count counts (λ x. refl))
+          (all_joined is_formed (at_most_one part.Walk walk) _ (walk-formed walk (edges-in f n counts walk has))
+          (all_joined is_formed (map part.Dual duals) _ (all_mapped is_formed part.Dual duals (λ x. refl))
+          (all_joined is_formed (map part.Set sets) [] (all_mapped is_formed part.Set sets (λ x. refl)) refl)));
+    }
+
+-- the line of a circuit
+pub form-circuit : (kind : Kind) (walk : Option WalkLine) → asks_conservative kind ≡ true → HasEdges walk → IsDocument NonConservative kind (pos 0) (record blank { walk = walk })
+form-circuit kind None asks some = record { headed = asks; no_weight = λ h. refl; letters = refl; ordered = refl; formed = refl }
+form-circuit kind (Some w) asks some = record { headed = asks; no_weight = λ h. refl; letters = refl; ordered = refl; formed = and_from (has_any w.edges) true some refl }
+
+-- the form of a document made from another by a change of its parts
+pub formed-by : (d : Document) (h : Head) (b : Body) (change : Body → Body) → head_of d ≡ h → body_of d ≡ b → IsDocument h.status h.kind h.weight (change b) →
+    IsDocument d.status d.kind d.weight (change (body_of d))
+formed-by d h b change head body form =
+    subst (λ (g : Head). IsDocument g.status g.kind g.weight (change (body_of d))) (sym head) (subst (λ (c : Body). IsDocument h.status h.kind h.weight (change c)) (sym body) form)

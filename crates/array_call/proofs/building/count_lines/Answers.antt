@@ -1,0 +1,23 @@
+use Rattle.std.proofs.Common.{◌≡◌, ℕ, List, length, All, sym, ap, ◌∙◌, subst, arith}
+use Rattle.doc_format.specs.declared.part.CountLine.{CountLine}
+use Rattle.doc_format.specs.Form.{AscendsBy}
+use Rattle.certificates.specs.Claims.{numbers}
+use Rattle.least_joins.proofs.Passing.{lines-push}
+use Rattle.outcome_lines.specs.Lines.{is_used, line_at}
+use Rattle.array_call.specs.Sheets.{IsCountOn}
+use Rattle.array_call.proofs.Sheets.{lines_to, lines-ascend, lines-on}
+use Rattle.array_call.proofs.building.count_lines.Goals as goal
+
+pub loop-k-preserved : goal.loop-k-preserved
+loop-k-preserved c =
+    let cs : List ℕ = numbers c.args.counts.now in
+    lines-push (line_at cs) (is_used cs) c.loop-k.k c.loop-k.lines.items c.push_used.new.lines.items c.loop-k.invariant c.in_ok-push_used.ensures
+
+pub returns-clause-ascending : goal.returns-clause-ascending
+returns-clause-ascending c = subst (λ (xs : List CountLine). AscendsBy (λ x. x.edge) xs) (sym c.loop-k.invariant) (lines-ascend (numbers c.args.counts.now) c.loop-k.k)
+
+pub returns-clause-within : goal.returns-clause-within
+returns-clause-within c =
+    let cs : List ℕ = numbers c.args.counts.now in
+    let all : c.loop-k.k ≡ length c.args.counts.now = omega arith in
+    subst (λ (xs : List CountLine). All (IsCountOn (length c.args.counts.now)) xs) (sym (c.loop-k.invariant ∙ ap (lines_to cs) all)) (lines-on cs (length c.args.counts.now))

@@ -1,0 +1,7 @@
+use Rattle.std.proofs.Common.{◌≡◌}
+use Rattle.certificates.specs.Claims.{numbers}
+use Rattle.array_call.proofs.Sheets.{lines_to}
+use Rattle.array_call.proofs.building.count_lines.Given as goal
+
+abbrev pub invariant-loop-k : goal.invariant-loop-k
+invariant-loop-k l = l.lines.items ≡ lines_to (numbers l.counts) l.k

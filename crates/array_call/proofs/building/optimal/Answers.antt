@@ -1,0 +1,36 @@
+use Rattle.std.proofs.Common.{List, length, All, sym, subst}
+use Rattle.mb_problem.specs.declared.kind.AnswerForm.{AnswerForm}
+use Rattle.mb_problem.specs.Kinds.{form_of}
+use Rattle.doc_format.specs.declared.part.CountLine.{CountLine}
+use Rattle.doc_format.specs.declared.part.DualLine.{DualLine}
+use Rattle.doc_format.specs.declared.part.SetLine.{SetLine}
+use Rattle.doc_format.specs.Parts.{Body, blank}
+use Rattle.doc_format.specs.Form.{AscendsBy}
+use Rattle.array_call.specs.Sheets.{IsCountOn, AreIn}
+use Rattle.array_call.proofs.Sheets.{form-laid, counts-on, formed-by}
+use Rattle.array_call.proofs.building.optimal.Goals as goal
+
+pub invariant_of-document : goal.invariant_of-document
+invariant_of-document c =
+    let n = length c.args.parts.now.answer.now in
+    let counts : List CountLine = c.from_vec-counts.result in
+    let duals : List DualLine = c.from_vec-duals.result in
+    let sets : List SetLine = c.from_vec-sets.result in
+    let walk = c.in_ok-answer.answer.walk in
+    let laid : AreIn (form_of c.args.kind) n c.in_ok-answer.answer.counts.items walk =
+    subst (λ (f : AnswerForm). AreIn f n c.in_ok-answer.answer.counts.items walk) c.form.ensures c.in_ok-answer.ensures in
+    let has : AreIn (form_of c.args.kind) n counts walk = subst (λ (xs : List CountLine). AreIn (form_of c.args.kind) n xs walk) (sym c.from_vec-counts.ensures) laid in
+    record {
+      form = formed-by c.new-document.result _ blank (λ (b : Body). record b { counts = counts; walk = walk; duals = duals; sets = sets })
+          c.new-document.ensures.head c.new-document.ensures.body
+          (form-laid c.args.kind _ n counts walk duals sets has
+          (subst (λ (ys : List DualLine). AscendsBy (λ y. y.vertex) ys) (sym c.from_vec-duals.ensures) c.in_ok-dual_lines.ensures.ascending));
+    }
+
+pub returns-clause-counts : goal.returns-clause-counts
+returns-clause-counts c =
+    let n = length c.args.parts.now.answer.now in
+    let walk = c.in_ok-answer.answer.walk in
+    let laid : AreIn (form_of c.args.kind) n c.in_ok-answer.answer.counts.items walk =
+    subst (λ (f : AnswerForm). AreIn f n c.in_ok-answer.answer.counts.items walk) c.form.ensures c.in_ok-answer.ensures in
+    subst (All (IsCountOn c.args.m)) (sym c.from_vec-counts.ensures) (counts-on (form_of c.args.kind) n c.args.m c.in_ok-answer.answer.counts.items walk laid c.requires.size)

@@ -1,0 +1,5 @@
+use Rattle.std.proofs.Common.{◌≡◌, map, take}
+use Rattle.array_call.proofs.building.set_lines.Given as goal
+
+abbrev pub invariant-loop-k : goal.invariant-loop-k
+invariant-loop-k l = map (λ z. z.dual) l.lines.items ≡ take l.k l.parts.set_duals.now

@@ -1,0 +1,77 @@
+-- The parts of the numbers of an answer, and the lines that they are.
+use Rattle.std.specs.Prelude.{◌≡◌, ℕ, ◌+◌, ℤ, pos, ◌≤ℤ◌, List, [], ◌++◌, length, take, drop, slice_index_or, true, Option, None, Some, All}
+use Rattle.mb_problem.specs.declared.kind.AnswerForm.{AnswerForm}
+use Rattle.mb_problem.specs.declared.kind.AnswerForm.TheVariants as form
+use Rattle.doc_format.specs.declared.part.CountLine.{CountLine}
+use Rattle.doc_format.specs.declared.part.WalkLine.{WalkLine}
+use Rattle.doc_format.specs.Form.{AscendsBy}
+use Rattle.doc_format.specs.Parts.{has_any}
+use Rattle.certificates.specs.Within.{IsUpTo}
+use Rattle.array_call.specs.declared.parting.Parts.{Parts}
+
+-- ---- the parts
+
+pub record Sheet : Type 0 where
+  pub head : List ℤ
+  pub answer : List ℤ
+  pub duals : List ℤ
+  pub set_duals : List ℤ
+  pub offsets : List ℤ
+  pub members : List ℤ
+  pub excluding : List ℤ
+
+abbrev pub sheet_of : Parts → Sheet
+sheet_of p = record {
+  head = p.head.now;
+  answer = p.answer.now;
+  duals = p.duals.now;
+  set_duals = p.set_duals.now;
+  offsets = p.offsets.now;
+  members = p.members.now;
+  excluding = p.excluding.now;
+}
+
+-- the first number of a part, where it says how long another is
+abbrev pub number_at : List ℤ → ℕ → ℤ
+number_at numbers k = slice_index_or numbers k (pos 0)
+
+-- the numbers begin with these parts, one after another, each as long as the first of them says
+pub record IsParted (numbers : List ℤ) (s : Sheet) : Type 0 where
+  pub head : length s.head ≡ 8
+  pub answer : number_at s.head 3 ≡ pos (length s.answer)
+  pub duals : number_at s.head 4 ≡ pos (length s.duals)
+  pub set_duals : number_at s.head 5 ≡ pos (length s.set_duals)
+  pub offsets : length s.offsets ≡ length s.set_duals + 1
+  pub members : number_at s.head 6 ≡ pos (length s.members)
+  pub excluding : number_at s.head 7 ≡ pos (length s.excluding)
+  pub rest : List ℤ
+  pub whole : numbers ≡ s.head ++ (s.answer ++ (s.duals ++ (s.set_duals ++ (s.offsets ++ (s.members ++ (s.excluding ++ rest))))))
+
+-- ---- the lines
+
+-- a line of one of m edges, with a count that isn't below 0
+abbrev pub IsCountOn : ℕ → CountLine → Type 0
+IsCountOn m x = IsUpTo m x.edge × (pos 0 ≤ℤ x.count)
+
+-- a walk has an edge, where there is one
+abbrev pub HasEdges : Option WalkLine → Type 0
+HasEdges None = Unit {0}
+HasEdges (Some w) = has_any w.edges ≡ true
+
+-- the lines of an answer of a form on m edges: counts with ascending edges, or a walk
+abbrev pub AreIn : AnswerForm → ℕ → List CountLine → Option WalkLine → Type 0
+AreIn form.Counts m counts walk = AscendsBy (λ x. x.edge) counts × All (IsCountOn m) counts × (walk ≡ None)
+AreIn form.Walk m counts walk = (counts ≡ []) × HasEdges walk
+
+-- counts are as many as edges
+abbrev pub HasSizeFor : AnswerForm → ℕ → ℕ → Type 0
+HasSizeFor form.Counts size m = size ≡ m
+HasSizeFor form.Walk size m = Unit {0}
+
+-- the members of a set are those from its offset up to the next
+pub record IsSetAt (offsets members : List ℤ) (k : ℕ) (set : List ℤ) : Type 0 where
+  pub first : ℕ
+  pub size : ℕ
+  pub begins : slice_index_or offsets k (pos 0) ≡ pos first
+  pub ends : slice_index_or offsets (k + 1) (pos 0) ≡ pos (first + size)
+  pub set_is : set ≡ take size (drop first members)

@@ -1,0 +1,290 @@
+//! The document that the parts of numbers are.
+ghost use Rattle.std.specs.Prelude.{◌≡◌, ◌+◌, ◌<◌, ◌++◌, ◌∷◌, pos, ◌≤ℤ◌, length, map, All, []};
+ghost use Rattle.std.specs.Prelude.{if◌then◌else◌, IsTrue, IfOk, IfSome, OnOk};
+ghost use Rattle.mb_problem.specs.Kinds.{form_of};
+ghost use Rattle.doc_format.specs.Form.{AscendsBy};
+ghost use Rattle.certificates.specs.Claims.{numbers};
+ghost use Rattle.outcome_lines.specs.Lines.{is_used, line_at};
+ghost use Rattle.array_call.specs.Sheets.{IsCountOn, HasEdges, AreIn, HasSizeFor, IsSetAt};
+
+use crate::parting::Parts;
+use doc_format::{
+    CountLine, DocStatus, Document, DualLine, Head, MemberLine, SetLine, WalkLine, is_ascending,
+};
+use mb_base::{OutOfMemory, Sequence};
+use mb_problem::{AnswerForm, Exclusion, Kind};
+use solve_kinds::infeasible_by;
+use std::alloc::Global;
+
+/// Whether no number is below 0.
+fn are_natural(numbers: &[i64]) -> bool
+    ensures { IsTrue result → All (λ z. pos 0 ≤ℤ z) numbers.now }
+{
+    numbers.iter().all(|&number| number >= 0)
+}
+
+/// Puts the line of the edge at a place, from 0, at the end where the edge is used.
+fn push_used(lines: &mut Vec<CountLine>, counts: &[i64], k: usize) -> Result<(), OutOfMemory>
+    requires there { k < length counts.now }
+    requires natural { All (λ c. pos 0 ≤ℤ c) counts.now }
+    ensures { OnOk result (lines.new.items ≡ (if is_used (numbers counts.now) (k + 1)
+        then lines.old.items ++ line_at (numbers counts.now) (k + 1) ∷ []
+        else lines.old.items)) }
+{
+    let count = counts[k];
+    if count == 0 {
+        return Ok(());
+    }
+    lines.push(CountLine {
+        line: 1,
+        edge: k as i64 + 1,
+        count,
+    })?;
+    Ok(())
+}
+
+/// The `x` lines of counts.
+fn count_lines(alloc: Global, counts: &[i64]) -> Result<Vec<CountLine>, OutOfMemory>
+    requires natural { All (λ c. pos 0 ≤ℤ c) counts.now }
+    ensures ascending { IfOk result (λ v. AscendsBy (λ x. x.edge) v.items) }
+    ensures within { IfOk result (λ v. All (IsCountOn (length counts.now)) v.items) }
+{
+    let mut lines = Vec::new(alloc);
+    for k in 0..counts.len() {
+        push_used(&mut lines, counts, k)?;
+    }
+    Ok(lines)
+}
+
+/// The `w` line of a walk, where it has an edge.
+fn walk_line(alloc: Global, start: i64, edges: &[i64]) -> Result<Option<WalkLine>, OutOfMemory>
+    ensures { IfOk result HasEdges }
+{
+    if edges.is_empty() {
+        return Ok(None);
+    }
+    let edges = Sequence::from_vec(Vec::from_slice(alloc, edges)?);
+    Ok(Some(WalkLine {
+        line: 1,
+        start,
+        edges,
+    }))
+}
+
+/// The `y` lines of duals of vertices.
+fn dual_lines(alloc: Global, duals: &[i64]) -> Result<Vec<DualLine>, OutOfMemory>
+    ensures ascending { IfOk result (λ v. AscendsBy (λ y. y.vertex) v.items) }
+    ensures duals { IfOk result (λ v. map (λ y. y.dual) v.items ≡ duals.now) }
+{
+    let mut lines = Vec::with_capacity(alloc, duals.len())?;
+    for k in 0..duals.len() {
+        lines.push(DualLine {
+            line: 1,
+            vertex: k as i64 + 1,
+            dual: duals[k],
+        })?;
+    }
+    Ok(lines)
+}
+
+/// The `z` line of a set with this dual.
+fn set_line(alloc: Global, dual: i64, members: &[i64]) -> Result<SetLine, OutOfMemory>
+    ensures dual { IfOk result (λ z. z.dual ≡ dual) }
+    ensures members { IfOk result (λ z. z.members ≡ members.now) }
+{
+    let members = Sequence::from_vec(Vec::from_slice(alloc, members)?);
+    Ok(SetLine {
+        line: 1,
+        dual,
+        members,
+    })
+}
+
+/// The members of the set at a place, where the offsets are some of them.
+fn set_at<'a>(offsets: &[i64], members: &'a [i64], k: usize) -> Option<&'a [i64]>
+    ensures { IfSome result (λ set. IsSetAt offsets.now members.now k set.now) }
+{
+    let first = *offsets.get(k)?;
+    let last = *offsets.get(k + 1)?;
+    if first < 0 {
+        return None;
+    }
+    if last < first {
+        return None;
+    }
+    if last as u64 > members.len() as u64 {
+        return None;
+    }
+    Some(&members[first as usize..last as usize])
+}
+
+/// The `z` lines of sets, where the offsets are some of their members.
+fn set_lines(alloc: Global, parts: &Parts<'_>) -> Result<Option<Vec<SetLine>>, OutOfMemory>
+    ensures { IfOk result (λ o. IfSome o
+        (λ v. map (λ z. z.dual) v.items ≡ parts.now.set_duals.now)) }
+{
+    let mut lines = Vec::with_capacity(alloc, parts.set_duals.len())?;
+    for k in 0..parts.set_duals.len() {
+        let Some(set) = set_at(parts.offsets, parts.members, k) else {
+            return Ok(None);
+        };
+        lines.push(set_line(alloc, parts.set_duals[k], set)?)?;
+    }
+    Ok(Some(lines))
+}
+
+/// The lines of an answer.
+#[derive(Drop)]
+struct AnswerLines {
+    counts: Vec<CountLine>,
+    walk: Option<WalkLine>,
+}
+
+/// The lines of an answer of this form.
+fn answer_lines(
+    alloc: Global,
+    form: AnswerForm,
+    start: i64,
+    answer: &[i64],
+) -> Result<AnswerLines, OutOfMemory>
+    requires natural { All (λ c. pos 0 ≤ℤ c) answer.now }
+    ensures { IfOk result (λ l. AreIn form (length answer.now) l.counts.items l.walk) }
+{
+    match form {
+        AnswerForm::Counts => Ok(AnswerLines {
+            counts: count_lines(alloc, answer)?,
+            walk: None,
+        }),
+        AnswerForm::Walk => Ok(AnswerLines {
+            counts: Vec::new(alloc),
+            walk: walk_line(alloc, start, answer)?,
+        }),
+    }
+}
+
+/// Whether an answer of this form and size is one on `m` edges.
+fn has_size(form: AnswerForm, size: usize, m: usize) -> bool
+    ensures { IsTrue result → HasSizeFor form size m }
+{
+    match form {
+        AnswerForm::Counts => size == m,
+        AnswerForm::Walk => true,
+    }
+}
+
+/// The document of a best answer with these sets.
+fn optimal(
+    alloc: Global,
+    kind: Kind,
+    m: usize,
+    parts: &Parts<'_>,
+    sets: Vec<SetLine>,
+) -> Result<Document, OutOfMemory>
+    requires natural { All (λ c. pos 0 ≤ℤ c) parts.now.answer.now }
+    requires size { HasSizeFor (form_of kind) (length parts.now.answer.now) m }
+    requires head { length parts.now.head.now ≡ 8 }
+    ensures kind { IfOk result (λ d. d.kind ≡ kind) }
+    ensures counts { IfOk result (λ d. All (IsCountOn m) d.counts) }
+{
+    let answer = answer_lines(alloc, kind.form(), parts.head[2], parts.answer)?;
+    let duals = Sequence::from_vec(dual_lines(alloc, parts.duals)?);
+    let AnswerLines { counts, walk } = answer;
+    let counts = Sequence::from_vec(counts);
+    let sets = Sequence::from_vec(sets);
+    let head = Head {
+        line: 1,
+        status: DocStatus::Optimal,
+        kind,
+        weight: parts.head[1],
+    };
+    let mut document = Document::new(alloc, head);
+    document.counts = counts;
+    document.walk = walk;
+    document.duals = duals;
+    document.sets = sets;
+    Ok(document)
+}
+
+/// The document of what excludes all answers, where its members ascend and the kind has one.
+fn infeasible(alloc: Global, kind: Kind, members: &[i64]) -> Result<Option<Document>, OutOfMemory>
+    ensures kind { IfOk result (λ o. IfSome o (λ d. d.kind ≡ kind)) }
+    ensures counts { IfOk result (λ o. IfSome o (λ d. d.counts ≡ [])) }
+{
+    if kind.exclusion() == Exclusion::Never {
+        return Ok(None);
+    }
+    if !is_ascending(members) {
+        return Ok(None);
+    }
+    let members = Sequence::from_vec(Vec::from_slice(alloc, members)?);
+    let line = MemberLine { line: 1, members };
+    Ok(Some(infeasible_by(alloc, kind, line)?))
+}
+
+/// The document of a circuit, where the kind asks for weights without one below 0.
+fn nonconservative(
+    alloc: Global,
+    kind: Kind,
+    start: i64,
+    edges: &[i64],
+) -> Result<Option<Document>, OutOfMemory>
+    ensures kind { IfOk result (λ o. IfSome o (λ d. d.kind ≡ kind)) }
+    ensures counts { IfOk result (λ o. IfSome o (λ d. d.counts ≡ [])) }
+{
+    if !kind.asks_conservative() {
+        return Ok(None);
+    }
+    let walk = walk_line(alloc, start, edges)?;
+    let head = Head {
+        line: 1,
+        status: DocStatus::NonConservative,
+        kind,
+        weight: 0,
+    };
+    let mut document = Document::new(alloc, head);
+    document.walk = walk;
+    Ok(Some(document))
+}
+
+/// The document of a best answer, where its counts are some and its offsets are those of sets.
+fn best(
+    alloc: Global,
+    kind: Kind,
+    m: usize,
+    parts: &Parts<'_>,
+) -> Result<Option<Document>, OutOfMemory>
+    requires head { length parts.now.head.now ≡ 8 }
+    ensures kind { IfOk result (λ o. IfSome o (λ d. d.kind ≡ kind)) }
+    ensures counts { IfOk result (λ o. IfSome o (λ d. All (IsCountOn m) d.counts)) }
+{
+    if !are_natural(parts.answer) {
+        return Ok(None);
+    }
+    if !has_size(kind.form(), parts.answer.len(), m) {
+        return Ok(None);
+    }
+    let Some(sets) = set_lines(alloc, parts)? else {
+        return Ok(None);
+    };
+    Ok(Some(optimal(alloc, kind, m, parts, sets)?))
+}
+
+/// The document of the parts of numbers on `m` edges, where there is one. Whether the numbers are
+/// its own is for the caller to compare.
+pub fn document_of(
+    alloc: Global,
+    kind: Kind,
+    m: usize,
+    parts: &Parts<'_>,
+) -> Result<Option<Document>, OutOfMemory>
+    requires head { length parts.now.head.now ≡ 8 }
+    ensures kind { IfOk result (λ o. IfSome o (λ d. d.kind ≡ kind)) }
+    ensures counts { IfOk result (λ o. IfSome o (λ d. All (IsCountOn m) d.counts)) }
+{
+    match parts.head[0] {
+        1 => best(alloc, kind, m, parts),
+        2 => infeasible(alloc, kind, parts.excluding),
+        3 => nonconservative(alloc, kind, parts.head[2], parts.answer),
+        _ => Ok(None),
+    }
+}
