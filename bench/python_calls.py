@@ -1,11 +1,16 @@
 #!/usr/bin/env python3
-"""Processor times of calls of the Python package beside those of the program itself, as docs/PYTHON.md has them.
+"""Processor times of calls of the Python package beside those of the program itself, as
+docs/PYTHON.md has them.
 
-Usage: python_calls.py [ROUNDS], with the program's path in the environment variable BLOSSOM where it isn't built in this checkout, and
-that of the library in BLOSSOM_LIBRARY. Prints a row for each call: the least time of so many rounds (5 without a number), and how much of
-it the program took, or the call of the library. Forms and pictures that want what isn't installed are left out, and so are rows of the
-library where there is none. It fails where a call by the library that takes columns of numpy and gives the places of the edges takes more
-than 1.3 times what the call for C takes."""
+Usage: python_calls.py [ROUNDS], with the program's path in the environment variable BLOSSOM where
+it isn't built in this checkout, and that of the library in BLOSSOM_LIBRARY. Prints a row for each
+call: the least time of so many rounds (5 without a number; 200 times as many of a shot), and how
+much of it the program took, or the call of the library. Forms and pictures that want what isn't
+installed are left out, and so are rows of the library where there is none. It fails where a call by
+the library that takes columns of numpy and gives the places of the edges takes more than 1.3 times
+what the call for C takes, and where a decoder's shot by the library takes more than 50 microseconds
+beside that on a code of up to 15 rows."""
+import ctypes
 import importlib
 import io
 import os
@@ -15,14 +20,20 @@ import sys
 import time
 
 TOP = os.path.dirname(os.path.dirname(os.path.abspath(__file__)))
-sys.path[0] = os.path.join(TOP, "python")  # in place of this folder, whose queue.py is none of Python's
+# In place of this folder, whose queue.py is none of Python's.
+sys.path[0] = os.path.join(TOP, "python")
 
 import blossom  # noqa: E402
 import blossom.library  # noqa: E402
+from blossom.array_library import most_of_brief  # noqa: E402
+from blossom.buffers import parameters  # noqa: E402
 
 ROUNDS = int(sys.argv[1]) if len(sys.argv) > 1 else 5
 # How much longer than the call for C a call of columns of numpy may take.
 MOST = 1.3
+# How many seconds a shot may take beside the call for C on codes of up to how many rows, and how
+# many rounds it has for each other.
+MOST_BESIDE, BOUND_SIZE, SHOT_ROUNDS = 50e-6, 15, 200
 
 
 def children():
@@ -32,7 +43,8 @@ def children():
 
 
 class Timed:
-    """What runs the program, and notes what that takes: of a process its own time, of the library that of the call."""
+    """What runs the program, and notes what that takes: of a process its own time, of the library
+    that of the call."""
 
     def __init__(self, by):
         self.by, self.seconds = by, 0.0
@@ -69,7 +81,7 @@ def over_arrays():
 
 
 def least(call, by):
-    """The least time of a call of some rounds, and how much of it the program took."""
+    """The least time of a call in all rounds, and how much of it the program took."""
     found = []
     for _ in range(ROUNDS):
         by.seconds, start = 0.0, time.process_time() + children()
@@ -83,9 +95,16 @@ def words(seconds):
     return "%.0f ms" % (1e3 * seconds) if seconds >= 0.01 else "%.0f us" % (1e6 * seconds)
 
 
+def show(name, whole, program):
+    """Prints a row."""
+    times = words(whole), words(program), words(whole - program)
+    print("| %s | %s | %s | %s |" % (name, *times), flush=True)
+
+
 def row(name, call, by, calls=1):
+    """Prints the row of a call that does so many. Its ratio to the program."""
     whole, program = least(call, by)
-    print("| %s | %s | %s | %s |" % (name, words(whole / calls), words(program / calls), words((whole - program) / calls)), flush=True)
+    show(name, whole / calls, program / calls)
     return whole / program if program else 0.0
 
 
@@ -108,16 +127,18 @@ def edges(nodes=2000, count=60000):
 
 
 def large(by, via, how=""):
-    """A perfect matching of least weight on 60,000 edges, in each form. The greatest ratio of a call of columns of numpy to the program."""
+    """A perfect matching of least weight on 60,000 edges, in each form. The greatest ratio of a
+    call of columns of numpy to the program."""
     rows = edges()
     first, second, weight = (list(column) for column in zip(*rows))
-    forms = [("60,000 edges as tuples", rows), ("as columns of lists", {"u": first, "v": second, "weight": weight}),
+    columns = {"u": first, "v": second, "weight": weight}
+    forms = [("60,000 edges as tuples", rows), ("as columns of lists", columns),
              ("with names of streets", [("street %d" % u, "street %d" % v, w) for u, v, w in rows])]
     numpy, pandas, networkx = map(installed, ("numpy", "pandas", "networkx"))
     if numpy:
         forms.append(("as numpy arrays", tuple(map(numpy.array, (first, second, weight)))))
     if pandas:
-        forms.append(("as a DataFrame", pandas.DataFrame({"u": first, "v": second, "weight": weight})))
+        forms.append(("as a DataFrame", pandas.DataFrame(columns)))
     if networkx:
         graph = networkx.Graph()
         graph.add_weighted_edges_from(rows)
@@ -126,23 +147,83 @@ def large(by, via, how=""):
     for name, form in forms:
         row(name + how, lambda form=form: blossom.perfect_matching(form, via=via).edges, by)
         if "numpy" in name or "DataFrame" in name:
-            ratios.append(row("%s, places of edges%s" % (name, how), lambda form=form: blossom.perfect_matching(form, via=via).indices, by))
+            ratios.append(row("%s, places of edges%s" % (name, how), lambda form=form:
+                              blossom.perfect_matching(form, via=via).indices, by))
     return max(ratios, default=0.0)
 
 
-def small(by, via, name):
-    """Graphs of two edges, and shots of a surface code of distance 15."""
-    graphs = [[("a", "b", weight), ("b", "c", 3)] for weight in range(1000)]
-    row("a graph of two edges, %s" % name, lambda: [blossom.max_weight_matching(graph, via=via).edges for graph in graphs[:200]], by, 200)
-    size = 15
+def code(size, via):
+    """The decoder of a code of so many rows and columns, whose boundary is at one side, where an
+    observable is flipped."""
     lines = [(here, here + 1) for here in range(size * size) if here % size < size - 1]
     lines += [(here, here + size) for here in range(size * (size - 1))]
     lines += [(here * size, None) for here in range(size)]
-    decoder = blossom.Decoder.from_edges([(*line, 1, 0) for line in lines], via=via)
-    chance = random.Random(2)
-    shots = [set(chance.sample(range(size * size), 8)) for _ in range(50)]
+    return blossom.Decoder.from_edges([(*line, 1, 0 if line[1] is None else None)
+                                       for line in lines], via=via)
+
+
+def small(by, via, name):
+    """Graphs of two edges, and shots of a code of 15 rows and columns."""
+    graphs = [[("a", "b", weight), ("b", "c", 3)] for weight in range(200)]
+    row("a graph of two edges, %s" % name, lambda:
+        [blossom.max_weight_matching(graph, via=via).edges for graph in graphs], by, len(graphs))
+    decoder, chance = code(15, via), random.Random(2)
+    shots = [set(chance.sample(range(15 * 15), 8)) for _ in range(50)]
     decoder.decode(shots[0])
-    row("a shot of a code of distance 15, %s" % name, lambda: [decoder.decode(shot) for shot in shots], by, len(shots))
+    row("a shot of a code, %s" % name, lambda: [decoder.decode(shot) for shot in shots], by,
+        len(shots))
+
+
+def call_of(decoder, shot):
+    """The call for C that a shot comes to, as one that takes nothing."""
+    function = blossom.library.found(None, os.environ.get("BLOSSOM_LIBRARY")).blossom_solve_arrays
+    numbers = decoder.instance(shot).numbers
+    room, used = (ctypes.c_int64 * most_of_brief(len(numbers.first)))(), ctypes.c_size_t()
+    instance = parameters(blossom.library.KIND_NUMBERS["tjoin"], numbers)
+    given = (blossom.library.TASKS["brief"], *instance, ctypes.addressof(room), len(room),
+             ctypes.byref(used))
+
+    def call():
+        function(*given)
+        return numbers, room  # (what stands at the addresses)
+
+    return call
+
+
+def beside(name, decode, call):
+    """Prints the row of a shot: the least time of many of its calls, and of as many calls for C
+    between them. What the first takes beside the second."""
+    wholes, alone = [], []
+    for _ in range(SHOT_ROUNDS * ROUNDS):
+        start = time.perf_counter()
+        decode()
+        between = time.perf_counter()
+        call()
+        wholes.append(between - start)
+        alone.append(time.perf_counter() - between)
+    show(name, min(wholes), min(alone))
+    return min(wholes) - min(alone)
+
+
+def shots():
+    """Single shots by the library on three codes. The most that one takes beside its call, on
+    codes of up to 15 rows."""
+    numpy, chance, found = installed("numpy"), random.Random(3), []
+    for size in (7, 15, 22):
+        decoder = code(size, blossom.Library())
+        for fired in (2, 8, 24):
+            shot = set(chance.sample(range(size * size), fired))
+            forms = [("as a set", shot), ("as a list", [int(node in shot) for node
+                                                       in range(size * size)])]
+            if numpy:
+                forms.append(("as a numpy array", numpy.array(forms[1][1], "uint8")))
+            for form, given in forms:
+                name = "a shot of %d edges, %d detectors %s" % (decoder.num_edges, fired, form)
+                found.append((size, beside(name, lambda given=given: decoder.decode(given),
+                                           call_of(decoder, shot))))
+    print("a shot by the library takes at most %.0f us beside the call for C"
+          % (1e6 * max(most for _, most in found)), file=sys.stderr)
+    return max(most for size, most in found if size <= BOUND_SIZE)
 
 
 def town():
@@ -165,21 +246,27 @@ def main():
     large(process, process)
     small(process, process, "as a process")
     try:
-        from blossom.library import find_library
-
-        find_library()
+        blossom.library.find_library()
     except blossom.ProgramFailed:
         print("there is no library (capi/build.sh)", file=sys.stderr)
     else:
-        timed = over_arrays()
-        ratio = large(timed, blossom.Library(), ", by the library")
-        print("columns of numpy by the library take at most %.2f times the call for C" % ratio, file=sys.stderr)
-        status = int(ratio > MOST)
-        small(timed, blossom.Library(), "by the library")
-        graphs = [[("a", "b", weight), ("b", "c", 3)] for weight in range(10000)]
-        row("each of 10,000 such graphs, `solve_many`", lambda: blossom.solve_many("match", graphs, via="library"), Timed(None), len(graphs))
+        status = by_the_library()
     town()
     sys.exit(status)
+
+
+def by_the_library():
+    """The rows of the library. Whether a bound is passed."""
+    most = shots()
+    timed = over_arrays()
+    ratio = large(timed, blossom.Library(), ", by the library")
+    print("columns of numpy by the library take at most %.2f times the call for C" % ratio,
+          file=sys.stderr)
+    small(timed, blossom.Library(), "by the library")
+    graphs = [[("a", "b", weight), ("b", "c", 3)] for weight in range(10000)]
+    row("each of 10,000 such graphs, `solve_many`", lambda:
+        blossom.solve_many("match", graphs, via="library"), Timed(None), len(graphs))
+    return int(ratio > MOST or most > MOST_BESIDE)
 
 
 if __name__ == "__main__":

@@ -29,9 +29,12 @@ DOCUMENT_RULES = ("DocForm", "KindDiffers", "DocRange", "NotFeasible", "WeightDi
                   "DualMissing", "SetForm", "Slack", "ValueDiffers", "NotBarrier", "NotClosed",
                   "NotCircuit")
 
+#: So few counts are looked at one by one.
+FEW = 100
 DONE, REJECTED, MALFORMED, TOO_LARGE = 0, 1, 3, 4
 #: The types of the parameters that say what the instance is, from the kind on.
-INSTANCE_TYPES: List[Any] = [ctypes.c_uint32, ctypes.c_uint32] + 5 * [ctypes.c_void_p, ctypes.c_size_t]
+INSTANCE_TYPES: List[Any] = ([ctypes.c_uint32, ctypes.c_uint32]
+                             + 5 * [ctypes.c_void_p, ctypes.c_size_t])
 DOCUMENT_TYPES: List[Any] = [ctypes.c_void_p, ctypes.c_size_t]
 ANSWER_TYPES: List[Any] = [ctypes.c_void_p, ctypes.c_size_t, ctypes.POINTER(ctypes.c_size_t)]
 
@@ -47,6 +50,11 @@ class Asked(Protocol):
 
     @property
     def numbers(self) -> Numbers: ...
+
+
+def most_of_brief(edges: int) -> int:
+    """How many numbers a brief answer has at most, on an instance of so many edges."""
+    return HEAD + 1 + 2 * edges
 
 
 def refusal(status: int, found: Sequence[int]) -> bytes:
@@ -97,8 +105,9 @@ def take_answer(document: Document, start: int, answer: Any) -> None:
 
 
 def used(counts: Any) -> List[int]:
-    """The places of the counts that aren't 0."""
-    numpy: Any = sys.modules.get("numpy")
+    """The places of the counts that aren't 0: by numpy, where it is there already and there are so
+    many counts that it takes less time."""
+    numpy: Any = sys.modules.get("numpy") if len(counts) > FEW else None
     if numpy is not None:
         places: List[int] = numpy.flatnonzero(numpy.frombuffer(counts, "int64")).tolist()
         return places

@@ -7,7 +7,7 @@ import contextlib
 import functools
 import os
 from typing import (Any, Callable, Dict, Generator, Iterable, Iterator, List, Literal, Optional,
-                    Sequence, Tuple, Union, overload)
+                    Sequence, Tuple, TypeVar, Union, overload)
 
 from .answers import Answer, answer_of
 from .array_library import Asked
@@ -30,6 +30,8 @@ Run = Union[Came, BlossomError]
 #: What runs came to, as they end, each with the place of its text.
 Ended = Generator[Tuple[int, Run], None, None]
 Future = concurrent.futures.Future
+Given = TypeVar("Given")
+Found = TypeVar("Found")
 #: A graph of so few edges is answered by the library before another thread has begun with it.
 SMALL = 100
 
@@ -92,6 +94,16 @@ def runs(by: Runner, task: str, asked: Sequence[Asked], timeout: Optional[float]
         for place in sorted(set(range(len(asked))).difference(apart)):
             yield place, came_to(functools.partial(solved, by, task, asked[place], timeout))
         yield from awaited(waiting)
+
+
+def mapped(call: Callable[[Given], Found], given: Sequence[Given], apart: bool) -> List[Found]:
+    """What a call of the library comes to for each of these: in threads where they are to be apart
+    and are several. What isn't begun when an error ends it is cancelled."""
+    if not apart or len(given) < 2:
+        return list(map(call, given))
+    workers = min(os.cpu_count() or 1, len(given))
+    with concurrent.futures.ThreadPoolExecutor(workers) as own:
+        return list(own.map(call, given))
 
 
 def prepared(graph: Any, kind: Kind, how: Dict[str, Any],

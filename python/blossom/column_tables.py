@@ -66,31 +66,43 @@ def numbering_of_arrays(first: Any, second: Any) -> Numbering:
     """The same of arrays of whole numbers."""
     import numpy
 
-    ends = numpy.empty(2 * len(first), numpy.int64)
-    ends[0::2], ends[1::2] = first, second
-    if not len(ends):
-        return Numbering([], ends.astype(numpy.uint32), ends.astype(numpy.uint32))
-    least = int(ends.min())
-    spread = int(ends.max()) - least + 1
-    if spread <= SPREAD * len(ends):
-        places, nodes = ends - least, numpy.arange(least, least + spread)
+    count = len(first)
+    if not count:
+        return Numbering([], numpy.empty(0, numpy.uint32), numpy.empty(0, numpy.uint32))
+    least = min(int(first.min()), int(second.min()))
+    spread = max(int(first.max()), int(second.max())) - least + 1
+    if spread <= SPREAD * 2 * count:
+        nodes = numpy.arange(least, least + spread)
+        places = [ends.astype(numpy.int64, copy=False) - least for ends in (first, second)]
     else:
-        nodes, places = numpy.unique(ends, return_inverse=True)
-    return numbered_by_places(places, nodes)
+        ends = numpy.concatenate((first, second)).astype(numpy.int64, copy=False)
+        nodes, both = numpy.unique(ends, return_inverse=True)
+        places = [both[:count], both[count:]]
+    return numbered_by_places(places[0], places[1], nodes)
 
 
-def numbered_by_places(places: Any, nodes: Any) -> Numbering:
+def numbered_by_places(first: Any, second: Any, nodes: Any) -> Numbering:
     """The same of ends that are places among these nodes, of which some may be no ends."""
     import numpy
 
-    comes = numpy.full(len(nodes), len(places))
-    comes[places[::-1]] = numpy.arange(len(places) - 1, -1, -1)
-    there = numpy.flatnonzero(comes < len(places))
+    past = 2 * len(first)
+    comes = numpy.minimum(comes_first(first, 0, past, len(nodes)),
+                          comes_first(second, 1, past, len(nodes)))
+    there = numpy.flatnonzero(comes < past)
     there = there[numpy.argsort(comes[there])]
     number = numpy.zeros(len(nodes), numpy.uint32)
     number[there] = numpy.arange(1, len(there) + 1)
-    numbers = number[places]
-    return Numbering(nodes[there].tolist(), numbers[0::2].copy(), numbers[1::2].copy())
+    return Numbering(nodes[there].tolist(), number[first], number[second])
+
+
+def comes_first(places: Any, end: int, past: int, nodes: int) -> Any:
+    """Where each node comes first as this end (0 or 1) of an edge, where both ends of all edges
+    stand in a row of the length `past`; that where it never does."""
+    import numpy
+
+    comes = numpy.full(nodes, past)
+    comes[places[::-1]] = numpy.arange(past - 2 + end, -1, -2)  # (the last that is written stays)
+    return comes
 
 
 def are_parallel(nodes: int, first: Any, second: Any) -> bool:
@@ -118,7 +130,9 @@ def are_parallel_arrays(nodes: int, first: Any, second: Any) -> bool:
 
 
 def kept(column: Any) -> Any:
-    """A copy of a column, so that the caller may change it afterwards."""
+    """A copy of a column, so that the caller may change it afterwards; a tuple can't be."""
+    if type(column) is tuple:
+        return column
     return column.copy() if hasattr(column, "copy") else list(column)
 
 

@@ -10,27 +10,24 @@ from __future__ import annotations
 import concurrent.futures
 import contextlib
 import dataclasses
-from array import array
 from dataclasses import dataclass
-from fractions import Fraction
 from itertools import compress
 from typing import (AbstractSet, Any, Dict, FrozenSet, Iterable, List, Literal, Optional, Sequence,
                     Set, Tuple, Union)
 
 from . import documents
 from .answers import Answer, answer_of
-from .batch import Run, runs
-from .buffers import Numbers
+from .batch import SMALL, Run, mapped, runs
 from .certificates import Number
-from .decoder_input import (BOUNDARY, fault_ids_in, for_each, is_boundary, like, node_in, rows_of,
-                            weight_of_probability)
-from .decoding_graph import DecodingGraph, decoding_graph
-from .errors import BlossomError, GraphError, LimitExceeded, WeightError
+from .decoder_input import (BOUNDARY, fault_ids_in, fired_in, flags_like, for_each, is_boundary,
+                            like, node_in, rows_of, weight_of_probability)
+from .decoding_plan import Plan, Shot, plan_of
+from .documents import Document
+from .errors import BlossomError, GraphError, WeightError
 from .graphs import NetworkxGraph
-from .instances import Instance, instance
-from .kinds import MOST_EDGES, Kind
+from .instances import Instance
 from .running import Via, runner, solved
-from .weights import Rounding, Scale, plain, scale_of, whole
+from .weights import Rounding, Scale, plain
 
 Syndrome = Union[Sequence[int], AbstractSet[int], Any]
 FaultIds = Union[None, int, Iterable[int]]
@@ -73,7 +70,7 @@ class Decoder:
         self._nodes = 0
         self._scale, self._rounding = scale, rounding
         self._by, self._timeout = runner(via, program), timeout
-        self._plan: Optional[_Plan] = None
+        self._plan: Optional[Plan] = None
         for_matrices = (weights, error_probabilities, faults_matrix)
         if hasattr(graph, "is_directed") or graph is None:
             if any(one is not None for one in for_matrices):
@@ -242,32 +239,26 @@ class Decoder:
         return_weight: the answer is a pair of that and the weight.
         Infeasible (a ValueError): no set of errors has this syndrome. The other errors are those of
         `solve`."""
-        used = self._used_for(syndrome)
-        prediction = like(syndrome, self._prediction(used), "uint8")
-        return (prediction, self._weight(used)) if return_weight else prediction
+        places, plan = self._places(self._fired(syndrome)), self._planned()
+        prediction = flags_like(syndrome, plan.flipped(places, self._faults))
+        return (prediction, plan.weight(places)) if return_weight else prediction
 
     def decode_batch(self, shots: Sequence[Syndrome], *, return_weights: bool = False,
                      executor: Optional[concurrent.futures.Executor] = None) -> Any:
         """`decode` for each of the syndromes, many at a time (`executor` as for `solve_many`): a
         list of predictions, or for a numpy array of shape (shots, detectors) one of shape (shots,
         observables); with `return_weights` a pair of that and the weights."""
-        fired = [self._fired(shot) for shot in shots]
-        used: List[List[int]] = [[]] * len(fired)
-        shots_asked = [self._shot(one) for one in fired]
-        ended = runs(self._by, "brief", shots_asked, self._timeout, executor)
-        with contextlib.closing(ended):
-            for place, run in ended:
-                used[place] = self._used(fired[place], run)
-        predictions = like(shots, [self._prediction(edges) for edges in used], "uint8",
-                            (len(used), self._faults))
+        joins, plan = self._places_of_all(shots, executor), self._planned()
+        predictions = like(shots, [list(plan.flipped(places, self._faults)) for places in joins],
+                           "uint8", (len(joins), self._faults))
         if not return_weights:
             return predictions
-        return predictions, like(shots, [self._weight(edges) for edges in used], "float64")
+        return predictions, like(shots, [plan.weight(places) for places in joins], "float64")
 
     def decode_to_edges_array(self, syndrome: Syndrome) -> Any:
         """The edges of a least set of errors, as pairs of nodes, of which -1 is the boundary: a
         list, or a numpy array of shape (edges, 2) for a syndrome that is one."""
-        used = self._used_for(syndrome)
+        used = self._planned().used(self._places(self._fired(syndrome)))
         pairs = [(self._edges[edge].node1, self._edges[edge].node2) for edge in used]
         return like(syndrome, pairs, "int64", (len(pairs), 2))
 
@@ -319,15 +310,22 @@ class Decoder:
                                              and edge.weight < self._edges[place].weight):
             self._edges[place] = edge
 
-    def _planned(self) -> _Plan:
+    def _planned(self) -> Plan:
         if self._plan is None:
             likely = any(edge.error_probability is not None for edge in self._edges)
             scale = self._scale if self._scale is not None else "finest" if likely else 1
-            self._plan = _plan(self._nodes, self._edges, self._boundary, scale, self._rounding)
+            self._plan = plan_of(self._nodes, self._edges, self._boundary, scale, self._rounding,
+                                 self._by, self._timeout)
         return self._plan
 
-    def _fired(self, syndrome: Syndrome) -> Set[int]:
+    def _fired(self, syndrome: Syndrome) -> AbstractSet[int]:
         """The detectors that fired. ValueError: the syndrome isn't one of this graph."""
+        plan = self._planned()
+        fired = fired_in(syndrome, plan.detectors, plan.lengths)
+        return self._fired_in_any(syndrome, plan) if fired is None else fired
+
+    def _fired_in_any(self, syndrome: Syndrome, plan: Plan) -> AbstractSet[int]:
+        """The same for a syndrome in any form."""
         if isinstance(syndrome, (set, frozenset)):
             fired = {node_in(node) for node in syndrome}
             if fired and max(fired) >= self._nodes:
@@ -336,99 +334,63 @@ class Decoder:
             return fired - self._boundary
         entries = syndrome.tolist() if hasattr(syndrome, "tolist") else list(syndrome)
         fired = set(compress(range(len(entries)), entries))
-        if (len(entries) not in self._planned().lengths
+        if (len(entries) not in plan.lengths
                 or entries.count(0) + entries.count(1) != len(entries)):
             raise ValueError("a syndrome is %d times 0 or 1 here, and not %d entries such as %r"
                              % (self._nodes, len(entries), entries[:9]))
         return fired - self._boundary
 
-    def _shot(self, fired: Set[int]) -> _Shot:
+    def _shot(self, fired: AbstractSet[int]) -> Shot:
         """What is solved for these detectors."""
         plan = self._planned()
-        return _Shot(plan, sorted(plan.graph.terminals(fired, 1)))
+        return Shot(plan, sorted(node + 1 for node in plan.graph.terminals(fired)))
 
-    def _instance(self, fired: Set[int]) -> Instance:
+    def _instance(self, fired: AbstractSet[int]) -> Instance:
         """The instance for these detectors."""
         return dataclasses.replace(self._planned().base, numbers=self._shot(fired).numbers)
 
-    def _used_for(self, syndrome: Syndrome) -> List[int]:
-        """The edges of a least set of errors."""
-        fired = self._fired(syndrome)
-        return self._used(fired, solved(self._by, "brief", self._shot(fired), self._timeout))
+    def _places(self, fired: AbstractSet[int]) -> List[int]:
+        """The places of the edges of a least join for these detectors."""
+        plan = self._planned()
+        if plan.calls is None:
+            return self._read(fired, solved(self._by, "brief", self._shot(fired), self._timeout))
+        places = plan.calls.used(plan.graph.terminals(fired))
+        return self._in_full(fired) if places is None else places
 
-    def _used(self, fired: Set[int], run: Run) -> List[int]:
-        """The edges that a brief run used. What the run came to besides is raised, with the part
-        of the graph that shows that there is no answer, which a brief run doesn't say."""
+    def _places_of_all(self, shots: Sequence[Syndrome],
+                       executor: Optional[concurrent.futures.Executor]) -> List[List[int]]:
+        """The same for each of these syndromes."""
+        fired, plan = [self._fired(shot) for shot in shots], self._planned()
+        if executor is None and plan.calls is not None:
+            return mapped(self._places, fired, plan.base.edge_count > SMALL)
+        joins: List[List[int]] = [[]] * len(fired)
+        asked = [self._shot(one) for one in fired]
+        with contextlib.closing(runs(self._by, "brief", asked, self._timeout, executor)) as ended:
+            for number, run in ended:
+                joins[number] = self._read(fired[number], run)
+        return joins
+
+    def _read(self, fired: AbstractSet[int], run: Run) -> List[int]:
+        """The places of the edges that a brief run used. What it came to besides is raised."""
         if isinstance(run, BlossomError):
             raise run
         status, output = run
         document = documents.of(output) if status == 0 else None
         if document is None or document.status != "optimal":
-            of = self._instance(fired)
-            if status == 0:
-                status, output = solved(self._by, "solve", of, self._timeout)
-            document = answer_of(of, status, output, self._by).certificate.document
-        graph = self._planned().graph
-        places = [number - 1 for number in document.counts]
-        return sorted([graph.origins[place] for place in places if graph.origins[place] >= 0]
-                      + graph.always)
+            return self._in_full(fired, status, output)
+        return places_in(document)
 
-    def _prediction(self, used: List[int]) -> List[int]:
-        flipped = [0] * self._faults
-        for fault in (fault for edge in used for fault in self._edges[edge].fault_ids):
-            flipped[fault] ^= 1
-        return flipped
-
-    def _weight(self, used: List[int]) -> Number:
-        plan = self._planned()
-        return plain(Fraction(sum(plan.weights[edge] for edge in used)) / plan.base.scale)
+    def _in_full(self, fired: AbstractSet[int], status: int = 0,
+                 output: Union[bytes, Document] = b"") -> List[int]:
+        """The places of the edges that a run in full uses, unless a brief one has ended with a
+        status that isn't 0. What either came to besides is raised, with the part of the graph that
+        shows that there is no answer, which a brief run doesn't say."""
+        of = self._instance(fired)
+        if status == 0:
+            status, output = solved(self._by, "solve", of, self._timeout)
+        return places_in(answer_of(of, status, output, self._by).certificate.document)
 
 
-@dataclass(frozen=True)
-class _Shot:
-    """What is solved for one syndrome: the joins of these terminals, which are numbers from 1."""
-
-    plan: _Plan
-    terminals: List[int]
-    kind: Kind = "tjoin"
-
-    @property
-    def text(self) -> bytes:
-        """What the program reads."""
-        lines = "".join(map("n %d 1\n".__mod__, self.terminals))
-        return self.plan.base.text + lines.encode("ascii")
-
-    @property
-    def numbers(self) -> Numbers:
-        """The same as numbers."""
-        values = array("I", bytes(array("I").itemsize * self.plan.graph.nodes))
-        for terminal in self.terminals:
-            values[terminal - 1] = 1
-        return self.plan.base.numbers._replace(values=values)
-
-
-@dataclass
-class _Plan:
-    """What is made once for all syndromes. weights: of the decoder's edges, as whole numbers. base:
-    the instance without terminals. lengths: those that a syndrome can have."""
-
-    graph: DecodingGraph
-    weights: List[int]
-    base: Instance
-    lengths: Tuple[int, int]
-
-
-def _plan(nodes: int, edges: List[DecoderEdge], boundary: Set[int], scale: Scale,
-          rounding: Optional[str]) -> _Plan:
-    number = scale_of(scale, [edge.weight for edge in edges])
-    near = "nearest" if scale == "finest" else rounding
-    weights = [whole(edge.weight, number, near, (edge.node1, edge.node2)) for edge in edges]
-    graph = decoding_graph(nodes, [(edge.node1, edge.node2) for edge in edges], weights, boundary)
-    if len(graph.ends) > MOST_EDGES:
-        raise LimitExceeded("the decoder has %d edges; at most %d are taken"
-                            % (len(edges), MOST_EDGES), nodes, len(edges))
-    rows = [(*pair, weights[origin] if origin >= 0 else 0)
-            for pair, origin in zip(graph.ends, graph.origins)]
-    base = instance(rows, "tjoin", nodes=range(graph.nodes), terminals=())
-    detectors = 1 + max((node for node in range(nodes) if node not in boundary), default=-1)
-    return _Plan(graph, weights, dataclasses.replace(base, scale=number), (nodes, detectors))
+def places_in(document: Document) -> List[int]:
+    """The places of the edges that a document uses."""
+    return [number - 1 for number in document.counts]

@@ -2,9 +2,11 @@
 from __future__ import annotations
 
 import math
-from typing import Any, FrozenSet, List, Sequence
+import sys
+from typing import AbstractSet, Any, FrozenSet, List, Optional, Sequence, Tuple
 
 from .errors import GraphError, WeightError
+from .prepared import places_of_ones
 from .wording import wanted
 
 #: What stands for the boundary in place of a node.
@@ -40,6 +42,55 @@ def like(given: Any, values: List[Any], dtype: str, shape: Any = None) -> Any:
         return values
     array = wanted("numpy", "arrays").array(values, dtype=dtype)
     return array if shape is None else array.reshape(shape)
+
+
+def flags_like(given: Any, flags: bytearray) -> Any:
+    """Bytes of 0 and 1 as a list, or as a numpy array where what was given is one."""
+    if not hasattr(given, "dtype"):
+        return list(flags)
+    numpy = sys.modules.get("numpy") or wanted("numpy", "arrays")
+    return numpy.array(flags, dtype=numpy.uint8)
+
+
+#: The types of the numbers in a usual set; True is none.
+INTS = frozenset([int])
+
+
+def fired_in(syndrome: Any, detectors: FrozenSet[int],
+             lengths: Tuple[int, int]) -> Optional[AbstractSet[int]]:
+    """The detectors that fired, of a syndrome in one of the usual forms: a set of numbers, or a
+    list or a numpy array of 0 and 1. None: it has another form, isn't one of these detectors, or
+    names nodes of the boundary."""
+    form = type(syndrome)
+    if form is set or form is frozenset:
+        usual = syndrome <= detectors and INTS.issuperset(map(type, syndrome))
+        return syndrome if usual else None
+    flags = flags_in(syndrome, form)
+    if flags is None or len(flags) not in lengths:
+        return None
+    ones = places_of_ones(flags)
+    if flags.count(0) + len(ones) != len(flags):
+        return None
+    fired = set(ones)
+    return fired if len(detectors) == lengths[0] else fired & detectors
+
+
+def flags_in(syndrome: Any, form: type) -> Optional[bytes]:
+    """The entries of a list, or of a numpy array that is one, as bytes. None: it is neither, or an
+    entry isn't a whole number that a byte holds."""
+    if form is not list:
+        numpy: Any = sys.modules.get("numpy")
+        if (numpy is None or form is not numpy.ndarray or syndrome.ndim != 1
+                or syndrome.dtype.kind not in "biu"):
+            return None
+        if syndrome.itemsize == 1:
+            own: bytes = syndrome.tobytes()
+            return own
+        syndrome = syndrome.tolist()
+    try:
+        return bytes(syndrome)
+    except (TypeError, ValueError):
+        return None
 
 
 def is_boundary(node: Any) -> bool:

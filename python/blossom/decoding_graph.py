@@ -8,7 +8,7 @@ two of them are met together for nothing. """
 from __future__ import annotations
 
 from dataclasses import dataclass
-from typing import Dict, List, Sequence, Set, Tuple
+from typing import AbstractSet, Collection, Dict, List, Sequence, Set, Tuple
 
 #: How many of the decoder's edges each node of the boundary has.
 EDGES_A_NODE = 16
@@ -21,23 +21,23 @@ class DecodingGraph:
 
     ends: two nodes for each edge. origins: the decoder's edge that each edge is, or -1. always:
     edges of the decoder with both ends at the boundary that weigh less than 0, and so are used
-    whatever the syndrome is. near: the nodes that hang together with the boundary. first: the first
-    node of the boundary, or -1."""
+    whatever the syndrome is. apart: the nodes that don't hang together with the boundary. first:
+    the first node of the boundary, or -1."""
 
     nodes: int
     ends: List[Tuple[int, int]]
     origins: List[int]
     always: List[int]
-    near: Set[int]
+    apart: Set[int]
     first: int = -1
 
-    def terminals(self, fired: Set[int], first: int = 0) -> List[int]:
-        """The nodes that a join for these detectors meets an odd number of times, counted from
-        `first`. The boundary takes part in pairs that have only one detector on its side."""
-        ends = [node + first for node in fired]
-        if len(fired & self.near) % 2:
-            ends.append(self.first + first)
-        return ends
+    def terminals(self, fired: AbstractSet[int]) -> Collection[int]:
+        """The nodes that a join for these detectors meets an odd number of times. The boundary
+        takes part in pairs that have only one detector on its side."""
+        if self.first < 0:
+            return fired
+        near = len(fired) - len(fired & self.apart)
+        return [*fired, self.first] if near % 2 else fired
 
 
 def decoding_graph(nodes: int, ends: Sequence[Tuple[int, int]], weights: Sequence[int],
@@ -58,7 +58,7 @@ def decoding_graph(nodes: int, ends: Sequence[Tuple[int, int]], weights: Sequenc
             graph.origins.append(edge)
         elif weights[edge] < 0:
             graph.always.append(edge)
-    graph.near = component(graph, graph.first) if graph.first >= 0 else set()
+    graph.apart = set(range(graph.nodes)).difference(component(graph, graph.first))
     return graph
 
 

@@ -113,7 +113,7 @@ def column_of(columns: Mapping[str, Any], named_as: Optional[str], what: str, le
     if named_as is not None and named_as in columns:
         return array_of(columns[named_as])
     refuse_absent(named_as, what, columns)
-    return [missing] * length
+    return (missing,) * length
 
 
 def from_columns(columns: Mapping[str, Any], weight: Optional[str],
@@ -156,8 +156,7 @@ def from_arrays(arrays: Sequence[Any]) -> Table:
 
 def filled_up(lists: List[Any]) -> List[Any]:
     """Two to four columns, and those that lack: weights of 1, and no capacities."""
-    usual: List[Any] = [[1] * len(lists[0]), [None] * len(lists[0])]
-    return lists + usual[len(lists) - 2:]
+    return lists + [(missing,) * len(lists[0]) for missing in (1, None)[len(lists) - 2:]]
 
 
 def from_edges(edges: List[Any], weight: Optional[str], capacity: Optional[str]) -> Table:

@@ -183,7 +183,7 @@ def weights_of(table: Table, scale: Fraction, rounding: Optional[str]) -> Any:
     within the limit, and aren't scaled. WeightError: see `weights`."""
     column = table.weight_column if isinstance(table, ColumnTable) and scale == 1 else None
     if is_number(column) and within(column, kinds.MOST_WEIGHT):
-        rounded = column.astype("int64")
+        rounded = column.astype("int64", copy=False)  # (the column is the table's own)
         if column.dtype.kind != "f" or (rounded == column).all():
             return rounded
     return all_whole(table.weights, scale, rounding, table.name)

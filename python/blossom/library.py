@@ -1,5 +1,6 @@
-"""The same call in this process: the shared object that `capi/build.sh` builds, by ctypes. It saves the start of a process, some
-milliseconds a call, and gives up what a process gives: no call can be stopped before its end."""
+"""The same call in this process: the shared object that `capi/build.sh` builds, by ctypes. It saves
+the start of a process, some milliseconds a call, and gives up what a process gives: no call can be
+stopped before its end."""
 from __future__ import annotations
 
 import ctypes
@@ -12,11 +13,12 @@ from typing import Dict, Optional, Tuple, Union
 
 from .array_library import (ANSWER_TYPES, DOCUMENT_TYPES, DONE, INSTANCE_TYPES, Asked,
                             document_of, numbers_of_document, refusal, verdict_line)
-from .buffers import address, parameters
+from .buffers import Numbers, address, parameters
 from .checkout import checkout, is_present, released
 from .documents import Document
 from .errors import ProgramFailed
 from .kinds import KINDS
+from .prepared import PreparedCall
 
 #: What capi/blossom.h calls BLOSSOM_ABI: the version of the call that is declared here.
 ABI = 2
@@ -24,14 +26,15 @@ TASKS = {"solve": 1, "brief": 2, "check": 3}
 KIND_NUMBERS: Dict[str, int] = {kind: number for number, kind in enumerate(KINDS, 1)}
 SHORT_BUFFER = 9
 NO_SUCH_CALL = 10
-# No answer is longer (48 MiB and a line). Pages that no answer reaches are never touched, so this costs address space alone.
+# No answer is longer (48 MiB and a line). Pages that no answer reaches are never touched, so this
+# costs address space alone.
 ROOM = (48 << 20) + 4096
 PLACE = ("capi", "out", "libblossom.so")
 
 
 def find_library(path: Optional[str] = None) -> str:
-    """The path of the shared object: the argument, the environment variable BLOSSOM_LIBRARY, that of the release that this package is, or what was
-    built in the checkout of the present sources.
+    """The path of the shared object: the argument, the environment variable BLOSSOM_LIBRARY, that
+    of the release that this package is, or what was built in the checkout of the present sources.
     ProgramFailed: there is none."""
     named = path or os.environ.get("BLOSSOM_LIBRARY") or released("libblossom.so")
     if named:
@@ -42,7 +45,8 @@ def find_library(path: Optional[str] = None) -> str:
         if is_present(top, os.path.join(os.path.dirname(built), "blossom.look")):
             return built
         raise ProgramFailed("%s isn't of the present sources: capi/build.sh builds it anew" % built)
-    raise ProgramFailed("there is no libblossom.so: build it with capi/build.sh, or put its path in the environment variable BLOSSOM_LIBRARY")
+    raise ProgramFailed("there is no libblossom.so: build it with capi/build.sh, or put its path in"
+                        " the environment variable BLOSSOM_LIBRARY")
 
 
 @functools.lru_cache(maxsize=None)
@@ -135,6 +139,12 @@ class Library:
             return status, refusal(status, numbers)
         return status, document_of(asked.kind, numbers, task == "brief")
 
+    def prepared(self, kind: str, numbers: Numbers) -> PreparedCall:
+        """What makes one brief call after the other on this instance, with other values of its
+        vertices each time. ProgramFailed: see `run`."""
+        library = found(self.path, os.environ.get("BLOSSOM_LIBRARY"))
+        return PreparedCall(library.blossom_solve_arrays, TASKS["brief"], KIND_NUMBERS[kind],
+                            numbers)
 
     def judge(self, asked: Asked, document: Document,
               timeout: Optional[float] = None) -> Tuple[int, bytes]:

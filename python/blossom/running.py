@@ -1,11 +1,14 @@
 """How the program is run: as a process or by its library."""
 from __future__ import annotations
 
+import functools
 from typing import Any, Literal, Optional, Protocol, Tuple, Union
 
 from .array_library import Asked
+from .buffers import Numbers
 from .documents import Document
 from .library import Library
+from .prepared import PreparedCalls
 from .process import Process
 
 
@@ -31,6 +34,15 @@ def solved(by: Runner, task: str, asked: Asked, timeout: Optional[float] = None,
         came: Came = by.solve(task, asked, timeout, running)
         return came
     return by.run(task, asked.kind, asked.text, timeout, running)
+
+
+def prepared(by: Runner, kind: str, numbers: Numbers,
+             timeout: Optional[float]) -> Optional[PreparedCalls]:
+    """Calls on this instance with other values each time, where `by` makes them (`Library`) and
+    none is to be stopped."""
+    if timeout is not None or not hasattr(by, "prepared"):
+        return None
+    return PreparedCalls(functools.partial(by.prepared, kind, numbers))
 
 
 def runner(via: Via = "process", program: Optional[str] = None) -> Runner:

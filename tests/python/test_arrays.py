@@ -79,6 +79,12 @@ class Same(unittest.TestCase):
             for weights in ("int8", "int32", "float64", "float32", ">f8"):
                 self.same(self.columns(rows, ends, weights), rows)
 
+    def test_numbers_that_span_more_than_half_of_their_type(self):
+        rows = [(node, node + 1, 3) for node in range(-120, 125)]
+        for ends in ("int8", "int16"):
+            self.same(self.columns(rows, ends), rows)
+            self.same(self.columns(rows[::-1], ends), rows[::-1])
+
     def test_columns_and_rows_of_every_form(self):
         rows = edges(random.Random(7), range(9), 20)
         first, second, weight = self.columns(rows)

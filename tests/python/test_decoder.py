@@ -80,7 +80,12 @@ class Decoding(unittest.TestCase):
         decoder = blossom.Decoder.from_edges([(node, None, 5, 0) for node in range(50)] + [(node, node + 1, 1) for node in range(49)])
         self.assertEqual(decoder.decode({0, 49}, return_weight=True), ([0], 10))
         self.assertEqual(decoder.decode({3, 7, 30}, return_weight=True), ([1], 9))
+        self.assertEqual(decoder.decode_to_edges_array({0, 49}), [(0, -1), (49, -1)])
         self.assertTrue(decoder.answer({3, 7, 30}).check())
+        turned = blossom.Decoder.from_edges([(node, node + 1, 1) for node in range(49)]
+                                            + [(node, None, 5, 0) for node in range(50)])
+        self.assertEqual(turned.decode({0, 49}, return_weight=True), ([0], 10))
+        self.assertEqual(turned.decode({0, 20, 49}, return_weight=True), ([1], 15))
         ends = [node for pair in decoder.instance({3}).ends for node in pair if node >= 50]
         self.assertEqual((len(set(ends)), max(map(ends.count, ends))), (4, 18))  # no node has many
 
@@ -107,6 +112,19 @@ class Decoding(unittest.TestCase):
         with self.assertRaises(ValueError) as told:
             decoder.decode([1, 0, 0, 0, 0])
         self.assertEqual(told.exception.part, [0, 1, 2, 3, 4])
+
+    def test_the_boundary_has_no_part_in_what_is_apart_from_it(self):
+        for edges, boundary, apart in (([(0, None), (1, 2)], (), [1, 2]),
+                                       ([(1, 2), (3, 0)], [3], [1, 2]),
+                                       ([(2, None), (0, 1)], (), [0, 1])):
+            decoder = blossom.Decoder.from_edges(edges, boundary=boundary)
+            near = ({0, 1, 2} - set(apart)).pop()
+            self.assertEqual(decoder.decode({near}), [])
+            self.assertEqual(decoder.decode({near, *apart}), [])
+            for fired in ({apart[0]}, {apart[1], near}):
+                with self.assertRaises(blossom.Infeasible) as told:
+                    decoder.decode(fired)
+                self.assertEqual(told.exception.part, apart)
 
 
 class Built(unittest.TestCase):

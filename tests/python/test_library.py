@@ -144,6 +144,12 @@ class Called(StandIn):
         found = re.search(r"\b%s\s*(?:=)?\s*(\d+)" % name, self.header())
         return int(found.group(1))
 
+    def test_counts_that_are_used_few_or_many(self):
+        for many in (0, 1, 7, array_library.FEW, array_library.FEW + 1, 500):
+            counts = [(0, 1, 0, 2, 256)[place % 5] for place in range(many)]
+            self.assertEqual(array_library.used(memoryview(array("q", counts))),
+                             [place for place in range(many) if place % 5 in (1, 3, 4)])
+
     def test_another_version_is_refused(self):
         for version in (0, 1, 3):
             with self.assertRaisesRegex(blossom.ProgramFailed, "is of version %d, and this package"
