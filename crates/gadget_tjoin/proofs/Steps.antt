@@ -2,6 +2,7 @@
 use Rattle.std.proofs.Common.{◌≡◌, ℕ, ◌+◌, ◌-◌, ◌*◌, ◌/◌, ◌<◌, ◌≤◌, ◌^◌, ℤ, ap, sym, ◌∙◌, arith, List, [], ◌∷◌, ◌++◌, length, slice_index}
 use Rattle.graph_theory.specs.Sums.{sum_to}
 use Rattle.graph_theory.specs.declared.edge.Edge.{Edge}
+use Rattle.graph_theory.specs.declared.limits.TheConstants.{GRAPH_VERTEX_LIMIT}
 use Rattle.graph_theory.specs.Graph.{Multigraph, ends_at}
 use Rattle.graph_theory.proofs.SumLemmas.{sum_to-same, sum_to-more}
 use Rattle.mb_problem.specs.declared.instance.InstanceEdge.{InstanceEdge}
@@ -26,7 +27,7 @@ sizes-sum i odd sizes n are b = sum_to-same (λ k. slice_index sizes k) (group_s
 pub sizes-fit : (i : Network) (odd : ℕ → ℕ) (sizes : List ℕ) → IsWithinLimits (ports_size i odd) → length sizes ≡ vertices i → ((k : ℕ) → k < vertices i → slice_index sizes k
     ≡ port_count i odd (k + 1)) → sum_to (λ k. slice_index sizes k) (length sizes) < 2 ^ 32
 sizes-fit i odd sizes limits one_each are =
-    let most : sum_to (group_size i odd) (vertices i) ≤ 4096 = limits.vertices in
+    let most : sum_to (group_size i odd) (vertices i) ≤ GRAPH_VERTEX_LIMIT = limits.vertices in
     let whole : sum_to (λ k. slice_index sizes k) (length sizes) ≡ sum_to (λ k. slice_index sizes k) (vertices i) = ap (sum_to (λ k. slice_index sizes k)) one_each in
     omega (arith, most, whole, sizes-sum i odd sizes (vertices i) are (omega arith))
 
@@ -48,9 +49,9 @@ next-at i odd next k w low high each =
     let back : w - 1 + 1 ≡ w = omega arith in
     each (w - 1) (omega arith) ∙ ap (λ (x : ℕ). ports_below i odd x + met_below i x k) back
 
-pub few-ports : (i : Network) (odd : ℕ → ℕ) → IsWithinLimits (ports_size i odd) → ports_below i odd (vertices i + 1) ≤ 4096
+pub few-ports : (i : Network) (odd : ℕ → ℕ) → IsWithinLimits (ports_size i odd) → ports_below i odd (vertices i + 1) ≤ GRAPH_VERTEX_LIMIT
 few-ports i odd limits =
-    let most : sum_to (group_size i odd) (vertices i) ≤ 4096 = limits.vertices in
+    let most : sum_to (group_size i odd) (vertices i) ≤ GRAPH_VERTEX_LIMIT = limits.vertices in
     omega (arith, most, before-is i odd (vertices i))
 
 -- a graph with the first k edges between ports
@@ -109,8 +110,8 @@ next-ports i odd next k e ok b is each =
     let at_v = next-at i odd next k (here i k).v ends.v_low ends.v_high each in
     (ap (λ (x : InstanceEdge). port x.u) is ∙ ap (λ (y : ℕ). y + 1) at_u, ap (λ (x : InstanceEdge). port x.v) is ∙ ap (λ (y : ℕ). y + 1) at_v)
 
-pub link-ends : (i : Network) (odd : ℕ → ℕ) (k : ℕ) → IsNetwork i → k < length i.edges → IsWithinLimits (ports_size i odd) → ((between_ports i odd k).u ≤ 4096)
-    × ((between_ports i odd k).v ≤ 4096)
+pub link-ends : (i : Network) (odd : ℕ → ℕ) (k : ℕ) → IsNetwork i → k < length i.edges → IsWithinLimits (ports_size i odd) → ((between_ports i odd k).u ≤ GRAPH_VERTEX_LIMIT)
+    × ((between_ports i odd k).v ≤ GRAPH_VERTEX_LIMIT)
 link-ends i odd k ok b limits =
     let ends = link-within i odd k ok b in
     let few = few-ports i odd limits in

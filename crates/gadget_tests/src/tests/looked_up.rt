@@ -3,6 +3,7 @@ ghost use Rattle.graph_theory.specs.Graph.{IsEdgeNumber};
 
 use dual_check::{DualFault, OddSet, bound, is_barrier};
 use graph_parts::{component, odd_components};
+use graph_theory::WEIGHT_LIMIT;
 use mb_base::{EdgeId, Sequence, Steps, VertexId};
 use std::alloc::{AllocError, Global};
 use std::marker::Brand;
@@ -25,9 +26,9 @@ fn edges_and_their_index(rt: HostRuntime) -> Result<(), Fail> {
     let of = VertexId::new;
     let mut graph = Graph::new(rt.alloc(), 3);
     let first = graph.add(of(1), of(2), 5)?;
-    let second = graph.add(of(3), of(2), -1_000_000_000)?;
+    let second = graph.add(of(3), of(2), -WEIGHT_LIMIT)?;
     let looked = look_once::<Brand>(&graph, second, Blank::new(1));
-    assert_eq!(rt; looked, (of(3), of(2), -1_000_000_000));
+    assert_eq!(rt; looked, (of(3), of(2), -WEIGHT_LIMIT));
     let index = graph.index()?;
     assert_eq!(rt; index.at(of(1)), [first].as_slice());
     assert_eq!(rt; index.at(of(2)), [first, second].as_slice());
