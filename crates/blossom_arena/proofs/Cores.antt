@@ -1,7 +1,7 @@
 -- The vertices that name the sets of outermost nodes.
 use Rattle.std.proofs.Common.{◌≡◌, ℕ, true, List, sym, ap, ◌∙◌, FitsSigned}
 use Rattle.std.specs.Prelude.{ℤ, ◌+ℤ◌}
-use Rattle.std.specs.Int.{w64, int_wrap}
+use Rattle.std.specs.Int.{w128, int_wrap}
 use Rattle.std.proofs.lemmas.Int.{int_wrap_fits}
 use Rattle.graph_theory.specs.Parts.{holds}
 use Rattle.blossom_arena.specs.Family.{Blossom, is_node, is_outermost, is_vertex, members_of, outermost, IsNested}
@@ -31,5 +31,5 @@ module _ (n : ℕ) (bs : List Blossom) (core_of : ℕ → ℕ) (nested : IsNeste
         h.tops (core_of x) (member_vertex n bs x (core_of x) nested is (cores x is)) ∙ core_outer x o
 
 -- a sum that fits is what wraps around to it
-pub wrapped : (x z sum : ℤ) → FitsSigned w64 sum → x +ℤ z ≡ sum → int_wrap w64 (x +ℤ z) ≡ sum
-wrapped x z sum fits e = ap (int_wrap w64) e ∙ int_wrap_fits w64 sum fits
+pub wrapped : (x z sum : ℤ) → FitsSigned w128 sum → x +ℤ z ≡ sum → int_wrap w128 (x +ℤ z) ≡ sum
+wrapped x z sum fits e = ap (int_wrap w128) e ∙ int_wrap_fits w128 sum fits

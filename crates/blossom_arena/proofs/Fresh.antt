@@ -6,6 +6,7 @@ use Rattle.std.proofs.lemmas.Bool.{both_ways, cases_lt, le-leb}
 use Rattle.std.proofs.lemmas.Int.{ints}
 use Rattle.std.proofs.lemmas.List.{length-replicate, get_or-replicate, get_or_past}
 use Rattle.slab.specs.Slab.{get}
+use Rattle.graph_theory.specs.declared.limits.TheConstants.{GRAPH_VERTEX_LIMIT}
 use Rattle.graph_theory.specs.Parts.{holds}
 use Rattle.blossom_arena.specs.declared.runs.Kept.{Kept}
 use Rattle.blossom_arena.specs.declared.arena.Arena.TheInside.{Inside}
@@ -22,7 +23,7 @@ use Rattle.blossom_arena.proofs.Nested.{vertex_range}
 use Rattle.blossom_arena.proofs.Sound.{rings}
 
 pub record IsFresh (a : Inside) : Type 0 where
-  pub few : a.vertex_count ≤ 4096
+  pub few : a.vertex_count ≤ GRAPH_VERTEX_LIMIT
   pub slots : a.kept.slots ≡ []
   pub room : a.kept.capacity ≡ most_blossoms a.vertex_count
   pub duals : a.duals ≡ empty_table (a.vertex_count + most_blossoms a.vertex_count + 1)

@@ -1,7 +1,7 @@
 -- The sets of vertices where a node gives those of its ring back.
 use Rattle.std.proofs.Common.{◌≡◌, ℕ, ◌≤◌, true, false, not, eqb, cond, List, refl, sym, ap, ap₂, ◌∙◌, subst, arith, FitsSigned}
 use Rattle.std.specs.Prelude.{ℤ, pos, neg_ℤ, ◌+ℤ◌, ◌-ℤ◌, All}
-use Rattle.std.specs.Int.{w64, int_wrap}
+use Rattle.std.specs.Int.{w128, int_wrap}
 use Rattle.std.proofs.lemmas.Int.{ints}
 use Rattle.std.proofs.lemmas.Bool.{eqb-true, eqb-false, eq-eqb, ne_eqb, both_ways, and_from}
 use Rattle.graph_theory.specs.declared.limits.TheConstants.{GRAPH_VERTEX_LIMIT}
@@ -85,7 +85,7 @@ module _ (n : ℕ) (bs : List Blossom) (core_of now : ℕ → ℕ) (ys : List �
     union : holds (members_of bs node) v ≡ holds (union_of bs ring) v
     union = ap (λ ms. holds ms v) (ring_members n bs node nested named)
 
-    fits : FitsSigned w64 (inner_of y left v)
+    fits : FitsSigned w128 (inner_of y left v)
     fits = inner_fits n ys left v few nested_left numbers
 
     sums : inner_of y left v ≡ inner_of y bs v +ℤ cond (holds (members_of bs node) v) (neg_ℤ (y o)) (pos 0)
@@ -108,7 +108,7 @@ module _ (n : ℕ) (bs : List Blossom) (core_of now : ℕ → ℕ) (ys : List �
           (λ t. absurd (both_ways (eqb (now c) core) moves (ap (λ x. eqb (now x) core) (sym (holder c r t)) ∙ keeps))) (λ f. f)) in
           record { set = stays.set ∙ old_set; inner = stays.inner }
 
-      gone_at : eqb (now o) core ≡ false → HasAt parted v (now o) (int_wrap w64 (p.inner v +ℤ (pos 0 -ℤ y o)))
+      gone_at : eqb (now o) core ≡ false → HasAt parted v (now o) (int_wrap w128 (p.inner v +ℤ (pos 0 -ℤ y o)))
       gone_at moves =
           in_at w p (nodes_of ring) v o (ring_different n bs node nested named) child_here.0 moves child_here.1
           (subst AllNew (sym (lists o child_here.0)) (members_new n bs o nested (is_a_node o child_here.0))) (λ c r t. sym (holder c r t))
@@ -130,11 +130,11 @@ module _ (n : ℕ) (bs : List Blossom) (core_of now : ℕ → ℕ) (ys : List �
       back_inner : let_go.inner v ≡ inner_of y left v
       back_inner = by_test (eqb (now o) core)
           (λ keeps.
-          ap (λ q. cond q (int_wrap w64 (parted.inner v +ℤ (pos 0 -ℤ y heir))) (parted.inner v)) (eq-eqb core (parted.set v) (sym (kept_at keeps).set))
-          ∙ ap₂ (λ (x : ℤ) (c : ℕ). int_wrap w64 (x +ℤ (pos 0 -ℤ y c))) (kept_at keeps).inner (own_heir keeps)
+          ap (λ q. cond q (int_wrap w128 (parted.inner v +ℤ (pos 0 -ℤ y heir))) (parted.inner v)) (eq-eqb core (parted.set v) (sym (kept_at keeps).set))
+          ∙ ap₂ (λ (x : ℤ) (c : ℕ). int_wrap w128 (x +ℤ (pos 0 -ℤ y c))) (kept_at keeps).inner (own_heir keeps)
           ∙ wrapped (p.inner v) (pos 0 -ℤ y o) (inner_of y left v) fits sum_here)
           (λ moves.
-          ap (λ q. cond q (int_wrap w64 (parted.inner v +ℤ (pos 0 -ℤ y heir))) (parted.inner v))
+          ap (λ q. cond q (int_wrap w128 (parted.inner v +ℤ (pos 0 -ℤ y heir))) (parted.inner v))
           (ne_eqb core (parted.set v) (λ e. eqb-false (now o) core moves (sym (gone_at moves).set ∙ sym e)))
           ∙ (gone_at moves).inner ∙ wrapped (p.inner v) (pos 0 -ℤ y o) (inner_of y left v) fits sum_here)
 
@@ -184,7 +184,7 @@ module _ (n : ℕ) (bs : List Blossom) (core_of now : ℕ → ℕ) (ys : List �
 
       kept_inner : let_go.inner v ≡ inner_of y left v
       kept_inner =
-          ap (λ q. cond q (int_wrap w64 (parted.inner v +ℤ (pos 0 -ℤ y heir))) (parted.inner v)) (ap (eqb core) stays_at.set ∙ other_set)
+          ap (λ q. cond q (int_wrap w128 (parted.inner v +ℤ (pos 0 -ℤ y heir))) (parted.inner v)) (ap (eqb core) stays_at.set ∙ other_set)
           ∙ stays_at.inner ∙ h.inner v iv ∙ alone (inner_of y bs v) ∙ sym (sums ∙ ap (λ q. inner_of y bs v +ℤ cond q (neg_ℤ (y o)) (pos 0)) m)
         where
           alone : (x : ℤ) → x ≡ x +ℤ pos 0

@@ -1,7 +1,7 @@
 -- The duals of the nodes that hold a vertex, where a dual changes and where a blossom comes or goes.
 use Rattle.std.proofs.Common.{◌≡◌, ℕ, suc, ◌*◌, ◌≤◌, ◌<◌, Bool, true, false, ◌||◌, ◌&&◌, eqb, cond, List, [], ◌∷◌, length, refl, sym, ap, ◌∙◌, subst, arith, ⊎_elim, FitsSigned}
 use Rattle.std.specs.Prelude.{ℤ, pos, neg_ℤ, ◌+ℤ◌, ◌-ℤ◌, ◌*ℤ◌, ◌≤ℤ◌, slice_set, All}
-use Rattle.std.specs.Int.{w64}
+use Rattle.std.specs.Int.{w128}
 use Rattle.std.specs.List.{AllByRecursion}
 use Rattle.std.proofs.Math.IntN.{+ℤ_idl}
 use Rattle.std.proofs.lemmas.Bool.{eqb-true, eqb-false, ne_eqb, or_parts, or_cases, both_ways, cases_lt}
@@ -68,8 +68,8 @@ dual_sum_range n ys bs v few nested all =
     let own = dual_number ys v all in
     (omega (arith, ints, most, few, held.low, held.high, own.0, own.1), omega (arith, ints, most, few, held.low, held.high, own.0, own.1))
 
--- without the dual of the outermost node they fit into 64 bits
-pub inner_fits : (n : ℕ) (ys : List ℤ) (bs : List Blossom) (v : ℕ) → n ≤ GRAPH_VERTEX_LIMIT → IsNested n bs → All IsNumber ys → FitsSigned w64 (inner_of (dual_at ys) bs v)
+-- without the dual of the outermost node they fit into 128 bits
+pub inner_fits : (n : ℕ) (ys : List ℤ) (bs : List Blossom) (v : ℕ) → n ≤ GRAPH_VERTEX_LIMIT → IsNested n bs → All IsNumber ys → FitsSigned w128 (inner_of (dual_at ys) bs v)
 inner_fits n ys bs v few nested all =
     let sum = dual_sum_range n ys bs v few nested all in
     let out = dual_number ys (outermost bs v) all in

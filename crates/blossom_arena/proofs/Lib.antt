@@ -14,6 +14,7 @@ pub mod Orders
 pub mod Builds
 pub mod Joins
 pub mod Sound
+pub mod MemberCounts
 pub mod Marks
 pub mod Stays
 pub mod Shrunk

@@ -1,7 +1,7 @@
 -- The sums at vertices where a dual changes.
 use Rattle.std.proofs.Common.{◌≡◌, ℕ, ◌<◌, ◌≤◌, true, cond, List, length, sym, ap, ◌∙◌, arith}
 use Rattle.std.specs.Prelude.{ℤ, pos, ◌+ℤ◌, slice_set, All}
-use Rattle.std.specs.Int.{w64, int_wrap}
+use Rattle.std.specs.Int.{w128, int_wrap}
 use Rattle.std.proofs.lemmas.Int.{ints}
 use Rattle.graph_theory.specs.declared.limits.TheConstants.{GRAPH_VERTEX_LIMIT}
 use Rattle.graph_theory.specs.Duals.{IsNumber}
@@ -36,10 +36,10 @@ module _ (n : ℕ) (bs : List Blossom) (core_of : ℕ → ℕ) (ys : List ℤ) (
         let sum = inner_child n bs v nested iv ys node d is child place in
         all_added_inner p (members_of bs node) d v (members_new n bs node nested is)
         ∙ by_test (holds (members_of bs node) v)
-        (λ m. ap (λ q. cond q (int_wrap w64 (p.inner v +ℤ d)) (p.inner v)) m
+        (λ m. ap (λ q. cond q (int_wrap w128 (p.inner v +ℤ d)) (p.inner v)) m
         ∙ wrapped (p.inner v) d (inner_of (dual_at raised) bs v) (inner_fits n raised bs v few nested numbers)
         (ap (λ x. x +ℤ d) (h.inner v iv) ∙ sym (sum ∙ ap (λ q. inner_of (dual_at ys) bs v +ℤ cond q d (pos 0)) m)))
-        (λ m. ap (λ q. cond q (int_wrap w64 (p.inner v +ℤ d)) (p.inner v)) m ∙ h.inner v iv ∙ alone (inner_of (dual_at ys) bs v)
+        (λ m. ap (λ q. cond q (int_wrap w128 (p.inner v +ℤ d)) (p.inner v)) m ∙ h.inner v iv ∙ alone (inner_of (dual_at ys) bs v)
         ∙ sym (sum ∙ ap (λ q. inner_of (dual_at ys) bs v +ℤ cond q d (pos 0)) m));
     sets = λ v iv. all_added_set p (members_of bs node) d v ∙ h.sets v iv;
   }

@@ -1,7 +1,7 @@
 -- What vertices that come into other sets leave at each vertex and at each set.
 use Rattle.std.proofs.Common.{◌≡◌, ℕ, Bool, true, false, ◌||◌, eqb, cond, List, [], ◌∷◌, refl, sym, ap, ◌∙◌, subst, ⊎_elim}
 use Rattle.std.specs.Prelude.{ℤ, ◌+ℤ◌}
-use Rattle.std.specs.Int.{w64, int_wrap}
+use Rattle.std.specs.Int.{w128, int_wrap}
 use Rattle.std.proofs.lemmas.Bool.{eqb-true, eq-eqb, or_cases, or_parts, both_ways}
 use Rattle.graph_theory.specs.Parts.{holds}
 use Rattle.blossom_arena.specs.Placement.{Placement, Spread, added_at, all_added, all_in, heir_of, placed, put_in, spread, topped}
@@ -26,10 +26,10 @@ all_in_set p [] s y w = refl
 all_in_set p (v ∷ vs) s y w = all_in_set (put_in p v s y) vs s y w ∙ either (eqb v w) (holds vs w) s (p.set w)
 
 pub all_in_inner : (p : Placement) (vs : List ℕ) (s : ℕ) (y : ℤ) (w : ℕ) → AllNew vs
-    → (all_in p vs s y).inner w ≡ cond (holds vs w) (int_wrap w64 (p.inner w +ℤ y)) (p.inner w)
+    → (all_in p vs s y).inner w ≡ cond (holds vs w) (int_wrap w128 (p.inner w +ℤ y)) (p.inner w)
 all_in_inner p [] s y w new = refl
 all_in_inner p (v ∷ vs) s y w new =
-    all_in_inner (put_in p v s y) vs s y w new.1 ∙ once (eqb v w) (holds vs w) (λ x. int_wrap w64 (x +ℤ y)) (p.inner w) (apart v w vs new.0)
+    all_in_inner (put_in p v s y) vs s y w new.1 ∙ once (eqb v w) (holds vs w) (λ x. int_wrap w128 (x +ℤ y)) (p.inner w) (apart v w vs new.0)
 
 pub all_in_top : (p : Placement) (vs : List ℕ) (s : ℕ) (y : ℤ) (t : ℕ) → (all_in p vs s y).top t ≡ p.top t
 all_in_top p [] s y t = refl
@@ -40,10 +40,10 @@ all_in_places p [] s y = refl
 all_in_places p (v ∷ vs) s y = all_in_places (put_in p v s y) vs s y
 
 -- more at vertices
-pub all_added_inner : (p : Placement) (vs : List ℕ) (y : ℤ) (w : ℕ) → AllNew vs → (all_added p vs y).inner w ≡ cond (holds vs w) (int_wrap w64 (p.inner w +ℤ y)) (p.inner w)
+pub all_added_inner : (p : Placement) (vs : List ℕ) (y : ℤ) (w : ℕ) → AllNew vs → (all_added p vs y).inner w ≡ cond (holds vs w) (int_wrap w128 (p.inner w +ℤ y)) (p.inner w)
 all_added_inner p [] y w new = refl
 all_added_inner p (v ∷ vs) y w new =
-    all_added_inner (added_at p v y) vs y w new.1 ∙ once (eqb v w) (holds vs w) (λ x. int_wrap w64 (x +ℤ y)) (p.inner w) (apart v w vs new.0)
+    all_added_inner (added_at p v y) vs y w new.1 ∙ once (eqb v w) (holds vs w) (λ x. int_wrap w128 (x +ℤ y)) (p.inner w) (apart v w vs new.0)
 
 pub all_added_set : (p : Placement) (vs : List ℕ) (y : ℤ) (w : ℕ) → (all_added p vs y).set w ≡ p.set w
 all_added_set p [] y w = refl
@@ -92,7 +92,7 @@ module _ (w : Spread) where
           inner_out p [] v none = refl
           inner_out p (u ∷ us) v none =
               let parts = or_parts (eqb u v) (holds us v) none in
-              inner_out (put_in p u (w.set c) (w.more c)) us v parts.1 ∙ ap (λ q. cond q (int_wrap w64 (p.inner v +ℤ w.more c)) (p.inner v)) parts.0
+              inner_out (put_in p u (w.set c) (w.more c)) us v parts.1 ∙ ap (λ q. cond q (int_wrap w128 (p.inner v +ℤ w.more c)) (p.inner v)) parts.0
 
   pub out_at : (p : Placement) (cs : List ℕ) (v : ℕ) → ((c : ℕ) → holds cs c ≡ true → w.keeps c ≡ false → holds (w.vertices c) v ≡ false)
       → HasAt (spread w p cs) v (p.set v) (p.inner v)
@@ -104,19 +104,19 @@ module _ (w : Spread) where
 
   -- a vertex of a node that moves
   pub in_at : (p : Placement) (cs : List ℕ) (v o : ℕ) → AllNew cs → holds cs o ≡ true → w.keeps o ≡ false → holds (w.vertices o) v ≡ true → AllNew (w.vertices o)
-      → ((c : ℕ) → holds cs c ≡ true → holds (w.vertices c) v ≡ true → c ≡ o) → HasAt (spread w p cs) v (w.set o) (int_wrap w64 (p.inner v +ℤ w.more o))
+      → ((c : ℕ) → holds cs c ≡ true → holds (w.vertices c) v ≡ true → c ≡ o) → HasAt (spread w p cs) v (w.set o) (int_wrap w128 (p.inner v +ℤ w.more o))
   in_at p [] v o new k moves m different one = absurd (both_ways false refl k)
   in_at p (c ∷ cs) v o new k moves m different one =
       by_test (eqb c o)
-      (λ e. subst (λ x. HasAt (spread w p (x ∷ cs)) v (w.set o) (int_wrap w64 (p.inner v +ℤ w.more o))) (sym (eqb-true c o e))
+      (λ e. subst (λ x. HasAt (spread w p (x ∷ cs)) v (w.set o) (int_wrap w128 (p.inner v +ℤ w.more o))) (sym (eqb-true c o e))
       (first (subst (λ x. holds cs x ≡ false) (eqb-true c o e) new.0)))
       (λ e.
       let later : holds cs o ≡ true = ⊎_elim (λ t. absurd (both_ways (eqb c o) e t)) (λ t. t) (or_cases (eqb c o) (holds cs o) k) in
       let stays = step_out p c v (λ t. by_test (holds (w.vertices c) v) (λ has. absurd (both_ways (eqb c o) e (eq-eqb c o (one c (first_in c cs) has)))) (λ none. none)) in
       let rest = in_at (next p c) cs v o new.1 later moves m different (λ d t. one d (later_in c cs d t)) in
-      record { set = rest.set; inner = rest.inner ∙ ap (λ x. int_wrap w64 (x +ℤ w.more o)) stays.inner })
+      record { set = rest.set; inner = rest.inner ∙ ap (λ x. int_wrap w128 (x +ℤ w.more o)) stays.inner })
     where
-      first : holds cs o ≡ false → HasAt (spread w p (o ∷ cs)) v (w.set o) (int_wrap w64 (p.inner v +ℤ w.more o))
+      first : holds cs o ≡ false → HasAt (spread w p (o ∷ cs)) v (w.set o) (int_wrap w128 (p.inner v +ℤ w.more o))
       first none =
           let moved : next p o ≡ step p o = ap (λ t. cond t p (step p o)) moves in
           let rest = out_at (next p o) cs v (λ d t keeps. by_test (holds (w.vertices d) v)
@@ -125,7 +125,7 @@ module _ (w : Spread) where
             set = rest.set ∙ ap (λ (q : Placement). q.set v) moved ∙ all_in_set (topped p (w.set o) (w.top o)) (w.vertices o) (w.set o) (w.more o) v
                 ∙ ap (λ q. cond q (w.set o) (p.set v)) m;
             inner = rest.inner ∙ ap (λ (q : Placement). q.inner v) moved ∙ all_in_inner (topped p (w.set o) (w.top o)) (w.vertices o) (w.set o) (w.more o) v different
-                ∙ ap (λ q. cond q (int_wrap w64 (p.inner v +ℤ w.more o)) (p.inner v)) m;
+                ∙ ap (λ q. cond q (int_wrap w128 (p.inner v +ℤ w.more o)) (p.inner v)) m;
           }
 
   -- the outermost node of a set that gets none

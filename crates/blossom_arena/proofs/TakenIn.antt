@@ -1,7 +1,7 @@
 -- The sets of vertices where a node takes over a circuit.
 use Rattle.std.proofs.Common.{◌≡◌, ℕ, ◌<◌, ◌≤◌, true, false, eqb, cond, List, ◌∷◌, length, refl, sym, ap, ◌∙◌, subst, arith, FitsSigned}
 use Rattle.std.specs.Prelude.{ℤ, pos, ◌+ℤ◌, slice_set, All}
-use Rattle.std.specs.Int.{w64, int_wrap}
+use Rattle.std.specs.Int.{w128, int_wrap}
 use Rattle.std.proofs.lemmas.Int.{ints}
 use Rattle.std.proofs.lemmas.Bool.{eqb-true, eqb-false, eq-eqb, ne_eqb, both_ways}
 use Rattle.graph_theory.specs.declared.limits.TheConstants.{GRAPH_VERTEX_LIMIT}
@@ -67,17 +67,17 @@ module _ (n : ℕ) (bs : List Blossom) (core_of now : ℕ → ℕ) (ys : List �
     in_big : p.set v ≡ core → o ≡ big
     in_big e = set_of n bs core_of nested.1 cores y p h big v (outer big within) iv (e ∙ is)
 
-    given_sum : p.set v ≡ core → first.inner v ≡ int_wrap w64 (p.inner v +ℤ y o)
+    given_sum : p.set v ≡ core → first.inner v ≡ int_wrap w128 (p.inner v +ℤ y o)
     given_sum e =
-        ap (λ q. cond q (int_wrap w64 (p.inner v +ℤ y (p.top (p.set core)))) (p.inner v)) (eq-eqb core (p.set v) (sym e))
-        ∙ ap (λ x. int_wrap w64 (p.inner v +ℤ y x))
+        ap (λ q. cond q (int_wrap w128 (p.inner v +ℤ y (p.top (p.set core)))) (p.inner v)) (eq-eqb core (p.set v) (sym e))
+        ∙ ap (λ x. int_wrap w128 (p.inner v +ℤ y x))
         (ap (λ x. p.top (p.set x)) is ∙ set_core n bs core_of nested.1 cores y p h big (outer big within) ∙ sym (in_big e))
 
     kept_sum : eqb core (p.set v) ≡ false → first.inner v ≡ p.inner v
-    kept_sum ne = ap (λ q. cond q (int_wrap w64 (p.inner v +ℤ y (p.top (p.set core)))) (p.inner v)) ne
+    kept_sum ne = ap (λ q. cond q (int_wrap w128 (p.inner v +ℤ y (p.top (p.set core)))) (p.inner v)) ne
 
     -- what it has then
-    moved_at : in_ring ring o ≡ true → HasAt taken_in v core (int_wrap w64 (p.inner v +ℤ y o))
+    moved_at : in_ring ring o ≡ true → HasAt taken_in v core (int_wrap w128 (p.inner v +ℤ y o))
     moved_at r = by_test (eqb (now o) core)
         (λ keeps.
         let set : p.set v ≡ core = h.sets v iv ∙ sym (core_now o r) ∙ eqb-true (now o) core keeps in
@@ -88,7 +88,7 @@ module _ (n : ℕ) (bs : List Blossom) (core_of now : ℕ → ℕ) (ys : List �
         let comes = in_at w first (nodes_of ring) v o (new_from_distinct (nodes_of ring) nested.0.circuit.different) r moves (held r)
         (subst AllNew (sym (lists o r)) (members_new n bs o nested.1 (is_a_node o r))) (λ c m t. sym (holder c m t)) in
         let other : eqb core (p.set v) ≡ false = ne_eqb core (p.set v) (λ e. eqb-false (now o) core moves (core_now o r ∙ sym (h.sets v iv) ∙ sym e)) in
-        record { set = comes.set; inner = comes.inner ∙ ap (λ x. int_wrap w64 (x +ℤ y o)) (kept_sum other) })
+        record { set = comes.set; inner = comes.inner ∙ ap (λ x. int_wrap w128 (x +ℤ y o)) (kept_sum other) })
 
     apart : in_ring ring o ≡ false → eqb core (p.set v) ≡ false
     apart none = ne_eqb core (p.set v) (λ e. both_ways (in_ring ring o) none (ap (in_ring ring) (in_big (sym e)) ∙ within))
@@ -102,7 +102,7 @@ module _ (n : ℕ) (bs : List Blossom) (core_of now : ℕ → ℕ) (ys : List �
     inside : holds (union_of bs ring) v ≡ in_ring ring o
     inside = member_by_ring n bs (made_of bs ring node) v nested iv
 
-    fits : FitsSigned w64 (inner_of (dual_at (slice_set ys node (pos 0))) after v)
+    fits : FitsSigned w128 (inner_of (dual_at (slice_set ys node (pos 0))) after v)
     fits = inner_fits n (slice_set ys node (pos 0)) after v few nested numbers
 
     sums : inner_of (dual_at (slice_set ys node (pos 0))) after v ≡ inner_of y bs v +ℤ cond (in_ring ring o) (y o) (pos 0)

@@ -3,6 +3,7 @@ use Rattle.std.proofs.Common.{◌≡◌, ℕ, ◌+◌, ◌≤◌, ◌<◌, true,
 use Rattle.std.specs.Prelude.{slice_index}
 use Rattle.std.specs.List.{AllByRecursion}
 use Rattle.slab.specs.Slab.{Slab, slab_len}
+use Rattle.graph_theory.specs.declared.limits.TheConstants.{GRAPH_VERTEX_LIMIT}
 use Rattle.graph_theory.specs.Parts.{holds}
 use Rattle.blossom_arena.specs.declared.links.Link.{Link}
 use Rattle.blossom_arena.specs.declared.runs.Run.{Run}
@@ -42,10 +43,10 @@ module _ (a : Inside) (ring : List Link) (s : IsSound a) (c : IsCircuit a.vertex
   pub room_left : slab_len a.kept + 1 ≤ a.kept.capacity
   room_left = omega (arith, (room_for_circuit n bs ring s.family.nested c).0, blossoms_len a, s.room)
 
-  pub circuit_few : length ring ≤ 4096
+  pub circuit_few : length ring ≤ GRAPH_VERTEX_LIMIT
   circuit_few = omega (arith, (room_for_circuit n bs ring s.family.nested c).1, s.family.few)
 
-  pub sizes_few : joined_size (runs_of n a.kept ring) ≤ 4096
+  pub sizes_few : joined_size (runs_of n a.kept ring) ≤ GRAPH_VERTEX_LIMIT
   sizes_few = omega (arith, (circuit_joins a ring s c).1, union_few n bs ring s.family.nested c, s.family.few)
 
   pub nodes_within : (m : ℕ) → n + most_blossoms n < m → AllByRecursion (λ (l : Link). l.node < m) ring

@@ -18,17 +18,19 @@ use crate::nodes::NodeId;
 use crate::order::{put_first, take_out};
 use crate::partition::Partition;
 use crate::ring::Ring;
-use crate::runs::{Kept, absorb, find_kept, find_run, has_kept, join, release};
-use crate::tables::{NO_NODE, bare, hang, note, set_entry, thread, wipe};
+use crate::runs::{Kept, absorb, find_kept, find_run, has_kept, join, release, room_for};
+use crate::tables::{
+    NO_NODE, bare, bare_table, hang, note, order_tables, ring_tables, set_entry, thread, wipe,
+};
 use graph_theory::GRAPH_VERTEX_LIMIT;
 use mb_base::{EdgeId, OutOfMemory, VertexId};
 use slab::Slab;
-use std::alloc::{AllocError, Global};
+use std::alloc::Global;
 use std::marker::Model;
 
 /// Blossoms over the vertices 1 to n, each of them a node, and a dual for each node, as the
 /// weighted matching algorithm keeps them (chapter 26). Duals are in doubled units, so that they
-/// stay whole, and within 10^15. Outermost nodes move: a change of duals raises the duals of all
+/// stay whole, and within 10^18. Outermost nodes move: a change of duals raises the duals of all
 /// that move as outer nodes and lowers those that move as inner ones, in constant time. Contracts
 /// see the list of the blossoms, newest first, and the lists of the duals, as they are now, and of
 /// the motions by node number.
@@ -75,23 +77,20 @@ impl Arena {
     {
         let count = n as usize;
         let room = n.saturating_sub(1) as usize / 2;
-        let kept = Slab::with_capacity(alloc, room)?;
-        if kept.capacity() != room {
-            return Err(AllocError);
-        }
         let places = count + room + 1;
-        let mut parents = vec![in alloc; 0u32; places]?;
-        bare(&mut parents, n);
+        let kept = room_for(alloc, room)?;
+        let (nexts, edges) = ring_tables(alloc, places)?;
+        let (older, newer) = order_tables(alloc, places)?;
         Ok(Arena {
             vertex_count: n,
             duals: Duals::new(alloc, places)?,
-            parents,
-            nexts: vec![in alloc; 0u32; places]?,
-            edges: vec![in alloc; EdgeId::new(0); places]?,
+            parents: bare_table(alloc, n, places)?,
+            nexts,
+            edges,
             partition: Partition::new(alloc, n)?,
             followers: vec![in alloc; 0u32; count + 1]?,
-            older: vec![in alloc; 0u32; places]?,
-            newer: vec![in alloc; 0u32; places]?,
+            older,
+            newer,
             kept,
         })
     }
@@ -168,18 +167,18 @@ impl Arena {
     }
 
     /// The duals of all nodes that hold a vertex, added up, in constant time.
-    pub fn dual_sum(&self, v: VertexId) -> i64
+    pub fn dual_sum(&self, v: VertexId) -> i128
         requires { is_vertex self.now.vertex_count v ≡ true }
         ensures dual_sum { result ≡ dual_at self.now.duals v +ℤ held_by (dual_at self.now.duals) self.now.blossoms v }
         ensures in_range { IsDualSum result }
         ensures good { IsFamily self.now }
     {
-        self.partition.inner(v.number()) + self.dual(self.outermost(v))
+        self.partition.inner(v.number()) + i128::from(self.dual(self.outermost(v)))
     }
 
-    /// Adds d, in doubled units, to the dual of a node. The sum lies within 10^15, and is not below
+    /// Adds d, in doubled units, to the dual of a node. The sum lies within 10^18, and is not below
     /// 0 for a blossom.
-    pub fn add_dual(&mut self, node: NodeId, d: i64)
+    pub fn add_dual(&mut self, node: NodeId, d: i128)
         requires node { is_node self.old.vertex_count self.old.blossoms node ≡ true }
         requires in_range { IsNumber (dual_at self.old.duals node +ℤ d) }
         requires not_below { self.old.vertex_count < node → pos 0 ≤ℤ (dual_at self.old.duals node +ℤ d) }
@@ -222,7 +221,7 @@ impl Arena {
     /// Adds to the dual of each outermost node its share of a change of d, as it moves (chapter
     /// 26): d for an outer one, -d for an inner one, and nothing for one that is out. It takes
     /// constant time, but time linear in the nodes once the changes since all duals were 0 add up
-    /// to more than 10^15. The sums lie within 10^15, and are not below 0 for blossoms.
+    /// to more than 10^18. The sums lie within 10^18, and are not below 0 for blossoms.
     pub fn advance(&mut self, d: i64)
         requires low { pos 0 ≤ℤ d }
         requires in_range { (a : ℕ) → is_outermost self.old.vertex_count self.old.blossoms a ≡ true → IsNumber (dual_at self.old.duals a +ℤ share d (label_at self.old.motions a)) }

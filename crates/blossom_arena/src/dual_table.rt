@@ -47,6 +47,15 @@ fn sum_of(base: i64, share: i64) -> i64
     base + share
 }
 
+/// A dual and what is added to it, where the sum is in range.
+fn raised_by(y: i64, d: i128) -> i64
+    requires number { IsNumber y }
+    requires sum { IsNumber (y +ℤ d) }
+    ensures { result ≡ y +ℤ d }
+{
+    (i128::from(y) + d) as i64
+}
+
 impl Duals {
     ghost use Rattle.std.specs.Prelude.{ℕ, ◌≡◌, ◌<◌, ◌≤ℤ◌, ◌+ℤ◌, pos, IfOk, length, slice_set};
     ghost use Rattle.std.specs.List.{AllByRecursion};
@@ -84,6 +93,15 @@ impl Duals {
     {
         let share = self.shares.share(self.motions[place]);
         sum_of(self.bases[place], share)
+    }
+
+    /// The dual at a place, as sums take it.
+    pub(crate) fn wide(&self, place: usize) -> i128
+        requires { place < length self.now.values }
+        ensures dual { result ≡ dual_at self.now.values place }
+        ensures number { IsNumber result }
+    {
+        i128::from(self.get(place))
     }
 
     /// How the dual at a place moves.
@@ -126,15 +144,36 @@ impl Duals {
         }
     }
 
+    /// Puts a dual at a place, and leaves its motion.
+    fn change(&mut self, place: usize, y: i64)
+        requires place { place < length self.old.values }
+        requires number { IsNumber y }
+        ensures values { self.new.values ≡ slice_set self.old.values place y }
+        ensures motions { self.new.motions ≡ self.old.motions }
+    {
+        self.put(place, y, self.motion(place));
+    }
+
     /// Adds to the dual at a place.
-    pub(crate) fn raise(&mut self, place: usize, d: i64)
+    pub(crate) fn raise(&mut self, place: usize, d: i128)
         requires place { place < length self.old.values }
         requires in_range { IsNumber (dual_at self.old.values place +ℤ d) }
         ensures values { self.new.values ≡ slice_set self.old.values place (dual_at self.old.values place +ℤ d) }
         ensures motions { self.new.motions ≡ self.old.motions }
     {
-        let y = sum_of(self.get(place), d);
-        self.put(place, y, self.motion(place));
+        let y = raised_by(self.get(place), d);
+        self.change(place, y);
+    }
+
+    /// Adds a share to the dual at a place.
+    fn add_share(&mut self, place: usize, more: i64)
+        requires place { place < length self.old.values }
+        requires in_range { IsNumber (dual_at self.old.values place +ℤ more) }
+        ensures values { self.new.values ≡ slice_set self.old.values place (dual_at self.old.values place +ℤ more) }
+        ensures motions { self.new.motions ≡ self.old.motions }
+    {
+        let y = sum_of(self.get(place), more);
+        self.change(place, y);
     }
 
     /// Adds to each dual its share of a change of d, as it moves.
@@ -148,7 +187,7 @@ impl Duals {
         let shares = Shares::of(d);
         for place in 0..self.len() {
             let more = shares.share(self.motion(place));
-            self.raise(place, more);
+            self.add_share(place, more);
         }
     }
 

@@ -1,4 +1,4 @@
-ghost use Rattle.std.specs.Prelude.{◌≡◌, ◌<◌, ◌≤◌, ◌^◌, ◌+◌, ◌-ℤ◌, ◌==◌, if◌then◌else◌, pos, ℕ, map, length, vec_len, slice_index, is_some};
+ghost use Rattle.std.specs.Prelude.{◌≡◌, ◌<◌, ◌≤◌, ◌^◌, ◌+◌, ◌-ℤ◌, ◌==◌, if◌then◌else◌, pos, ℕ, map, length, vec_len, slice_index, is_some, IfOk, []};
 ghost use Rattle.slab.specs.Slab.{get};
 ghost use Rattle.std.specs.List.{AllByRecursion};
 ghost use Rattle.blossom_arena.specs.declared.links.Link.{Link};
@@ -13,7 +13,9 @@ use crate::links::Link;
 use crate::members::Members;
 use crate::partition::Partition;
 use crate::ring::Ring;
+use mb_base::OutOfMemory;
 use slab::Slab;
+use std::alloc::{AllocError, Global};
 
 /// The vertices of a node: so many from `head` to `tail`, each the follower of the one before it,
 /// and `core`, the one of them that names their set while the node is outermost.
@@ -40,6 +42,18 @@ pub(crate) struct Kept {
     pub(crate) first: u32,
     pub(crate) links: u32,
     pub(crate) run: Run,
+}
+
+/// Room for what is kept of so many blossoms. An error is want of memory.
+pub(crate) fn room_for(alloc: Global, room: usize) -> Result<Slab<Kept>, OutOfMemory>
+    ensures empty { IfOk result (λ s. s.slots ≡ []) }
+    ensures room { IfOk result (λ s. s.capacity ≡ room) }
+{
+    let kept = Slab::with_capacity(alloc, room)?;
+    if kept.capacity() != room {
+        return Err(AllocError);
+    }
+    Ok(kept)
 }
 
 /// What is kept of the blossom of this node.
@@ -122,7 +136,7 @@ pub(crate) fn join(followers: &mut Vec<u32>, kept: &Slab<Kept>, count: u32, circ
 }
 
 /// Puts the vertices of a circuit's node into the set of a core, if they aren't in it.
-fn take_in(partition: &mut Partition, followers: &[u32], run: Run, core: u32, node: u32, y: i64)
+fn take_in(partition: &mut Partition, followers: &[u32], run: Run, core: u32, node: u32, y: i128)
     requires within { AllByRecursion (λ v. v < length followers.now) (vertices_of followers.now run) }
     requires places { length partition.old.sets ≡ length followers.now }
     requires core { core < length followers.now }
@@ -157,7 +171,7 @@ pub(crate) fn absorb(
     ensures placement { placement_of partition.new ≡ absorbed (vertices_at followers.now count kept.now) (core_at count kept.now) (dual_at duals.now.values) core node (given (placement_of partition.old) core node (dual_at duals.now.values ((placement_of partition.old).top ((placement_of partition.old).set core)))) (nodes_of circuit.now) }
 {
     let largest = partition.outermost(core);
-    partition.give(core, node, duals.get(largest as usize));
+    partition.give(core, node, duals.wide(largest as usize));
     for link in circuit {
         let child = link.node.number();
         let run = find_run(kept, count, child);
@@ -167,13 +181,13 @@ pub(crate) fn absorb(
             run,
             core,
             node,
-            duals.get(child as usize),
+            duals.wide(child as usize),
         );
     }
 }
 
 /// The number with the other sign.
-fn negated(y: i64) -> i64
+fn negated(y: i128) -> i128
     requires { IsNumber y }
     ensures { result ≡ pos 0 -ℤ y }
 {
@@ -181,7 +195,7 @@ fn negated(y: i64) -> i64
 }
 
 /// Puts the vertices of a ring's node into a set of its own, unless their set is that of its core.
-fn let_out(partition: &mut Partition, followers: &[u32], run: Run, core: u32, node: u32, y: i64)
+fn let_out(partition: &mut Partition, followers: &[u32], run: Run, core: u32, node: u32, y: i128)
     requires within { AllByRecursion (λ v. v < length followers.now) (vertices_of followers.now run) }
     requires places { length partition.old.sets ≡ length followers.now }
     requires core { run.core < length followers.now }
@@ -236,8 +250,8 @@ pub(crate) fn release(
             run,
             core,
             child,
-            duals.get(child as usize),
+            duals.wide(child as usize),
         );
     }
-    partition.give(core, largest, negated(duals.get(largest as usize)));
+    partition.give(core, largest, negated(duals.wide(largest as usize)));
 }

@@ -39,6 +39,41 @@ pub(crate) fn bare(table: &mut Vec<u32>, n: u32)
     }
 }
 
+/// The table of parents of n vertices where there is no blossom, with so many places.
+pub(crate) fn bare_table(alloc: Global, n: u32, places: usize) -> Result<Vec<u32>, OutOfMemory>
+    requires { places < 2 ^ 32 }
+    ensures len { IfOk result (λ v. vec_len v ≡ places) }
+    ensures each { IfOk result (λ v. (x : ℕ) → x < places → slice_index v.items x ≡ parent_entry n [] x) }
+{
+    let mut parents = vec![in alloc; 0u32; places]?;
+    bare(&mut parents, n);
+    Ok(parents)
+}
+
+/// So many places for the next nodes in rings and the edges to them.
+pub(crate) fn ring_tables(
+    alloc: Global,
+    places: usize,
+) -> Result<(Vec<u32>, Vec<EdgeId>), OutOfMemory>
+    ensures nexts { IfOk result (λ t. vec_len t.0 ≡ places) }
+    ensures edges { IfOk result (λ t. vec_len t.1 ≡ places) }
+{
+    let nexts = vec![in alloc; 0u32; places]?;
+    Ok((nexts, vec![in alloc; EdgeId::new(0); places]?))
+}
+
+/// So many places for the next older and the next newer blossoms, where there is none.
+pub(crate) fn order_tables(
+    alloc: Global,
+    places: usize,
+) -> Result<(Vec<u32>, Vec<u32>), OutOfMemory>
+    ensures older { IfOk result (λ t. t.0.items ≡ replicate places 0) }
+    ensures newer { IfOk result (λ t. t.1.items ≡ replicate places 0) }
+{
+    let older = vec![in alloc; 0u32; places]?;
+    Ok((older, vec![in alloc; 0u32; places]?))
+}
+
 /// Puts an entry at a place.
 pub(crate) fn set_entry(table: &mut Vec<u32>, place: u32, entry: u32)
     requires { place < vec_len table.old }
@@ -54,10 +89,8 @@ pub(crate) fn numbered(alloc: Global, n: u32) -> Result<Vec<u32>, OutOfMemory>
     ensures len { IfOk result (λ v. vec_len v ≡ n + 1) }
     ensures each { IfOk result (λ v. (i : ℕ) → i ≤ n → slice_index v.items i ≡ i) }
 {
-    let mut numbers = Vec::with_capacity(alloc, n as usize + 1)?;
-    for number in 0..n + 1 {
-        numbers.push(number)?;
-    }
+    let mut numbers = vec![in alloc; 0u32; n as usize + 1]?;
+    renumber(&mut numbers);
     Ok(numbers)
 }
 

@@ -1,5 +1,5 @@
-use Rattle.std.proofs.Common.{◌≡◌, ◌∙◌, ◌+◌, ◌<◌, eqb, cond, List, ◌∷◌, drop, length, sym, ap, ap₂, subst, arith, rules, to_z, of_z}
-use mir.Syntax.{w64}
+use Rattle.std.proofs.Common.{◌≡◌, ◌∙◌, ℕ, ◌+◌, ◌<◌, eqb, cond, List, ◌∷◌, drop, length, sym, ap, ap₂, subst, arith, rules, to_z, of_z}
+use mir.Syntax.{w128}
 use Rattle.std.specs.Prelude.{ℤ}
 use Rattle.std.specs.List.{AllByRecursion}
 use Rattle.std.proofs.lemmas.List.{get_or_read}
@@ -25,24 +25,25 @@ taken c =
     let p : Placement = placement_of c.loop-link.partition in
     let run : c.find_run-run.result ≡ run_of c.args.count c.args.kept.now c.link-item.result.node = c.find_run-run.ensures
     ∙ ap (run_of c.args.count c.args.kept.now) c.number-child.ensures in
-    let back : to_z w64 (of_z w64 c.get-in-loop-link.result) ≡ c.get-in-loop-link.result = search rules in
-    let dual = back ∙ c.get-in-loop-link.ensures.dual ∙ ap (dual_at c.args.duals.now.values) c.number-child.ensures in
+    let back : to_z w128 (of_z w128 c.wide-in-loop-link.result) ≡ c.wide-in-loop-link.result = search rules in
+    let dual = back ∙ c.wide-in-loop-link.ensures.dual ∙ ap (dual_at c.args.duals.now.values) c.number-child.ensures in
     c.take_in.ensures.placement
     ∙ ap₂ (λ (r : Run) (y : ℤ). cond (eqb r.core c.args.core) p (placed p (vertices_of c.args.followers.now r) c.args.core c.args.node y)) run dual
 
+-- one node further
+step : (vertices : ℕ → List ℕ) (core_of : ℕ → ℕ) (y : ℕ → ℤ) (core node : ℕ) (p q whole : Placement) (l : Link) (left links : List Link) → links ≡ l ∷ left
+    → q ≡ cond (eqb (core_of l.node) core) p (placed p (vertices l.node) core node (y l.node))
+    → absorbed vertices core_of y core node p (nodes_of links) ≡ whole → absorbed vertices core_of y core node q (nodes_of left) ≡ whole
+step vertices core_of y core node p q whole l left links e taken h =
+    ap (λ (z : Placement). absorbed vertices core_of y core node z (nodes_of left)) taken
+    ∙ sym (ap (λ (ls : List Link). absorbed vertices core_of y core node p (nodes_of ls)) e) ∙ h
+
 pub loop-link-preserved : goal.loop-link-preserved
-loop-link-preserved c =
-    let left : List Link = drop (c.loop-link.link-index + 1) c.args.circuit.now in
-    let within = subst (AllByRecursion (λ (k : Link). AllByRecursion (λ v. v < length c.args.followers.now) (vertices_at c.args.followers.now c.args.count c.args.kept.now k.node)))
-    (next c) c.loop-link.invariant.within in
-    let nodes = subst (AllByRecursion (λ (k : Link). k.node < length c.args.duals.now.values)) (next c) c.loop-link.invariant.nodes in
-    record {
-      rest = ap (λ (q : Placement). absorbed (vertices_at c.args.followers.now c.args.count c.args.kept.now) (core_at c.args.count c.args.kept.now)
-          (dual_at c.args.duals.now.values) c.args.core c.args.node q (nodes_of left)) (taken c)
-          ∙ sym (ap (λ (ls : List Link). absorbed (vertices_at c.args.followers.now c.args.count c.args.kept.now) (core_at c.args.count c.args.kept.now)
-          (dual_at c.args.duals.now.values) c.args.core c.args.node (placement_of c.loop-link.partition) (nodes_of ls)) (next c))
-          ∙ c.loop-link.invariant.rest;
-      len = c.take_in.ensures.len ∙ c.loop-link.invariant.len;
-      within = within.1;
-      nodes = nodes.1;
-    }
+loop-link-preserved c = record {
+  rest = step (vertices_at c.args.followers.now c.args.count c.args.kept.now) (core_at c.args.count c.args.kept.now) (dual_at c.args.duals.now.values) c.args.core c.args.node
+      _ _ _ _ _ _ (next c) (taken c) c.loop-link.invariant.rest;
+  len = c.take_in.ensures.len ∙ c.loop-link.invariant.len;
+  within = (subst (AllByRecursion (λ (k : Link). AllByRecursion (λ v. v < length c.args.followers.now) (vertices_at c.args.followers.now c.args.count c.args.kept.now k.node)))
+      (next c) c.loop-link.invariant.within).1;
+  nodes = (subst (AllByRecursion (λ (k : Link). k.node < length c.args.duals.now.values)) (next c) c.loop-link.invariant.nodes).1;
+}

@@ -1,7 +1,7 @@
 use Rattle.std.proofs.Common.{◌≡◌, ◌≢◌, ◌∙◌, ℕ, ◌<◌, List, true, sym, ap, ap₂, subst, length, arith, rules, to_z, of_z}
 use Rattle.std.specs.Prelude.{◌+ℤ◌, slice_index, slice_set}
 use Rattle.std.specs.List.{AllByRecursion}
-use mir.Syntax.{w64}
+use mir.Syntax.{w128}
 use Rattle.std.proofs.lemmas.Bool.{eq-eqb}
 use Rattle.std.proofs.lemmas.List.{get_or_default}
 use Rattle.blossom_arena.specs.declared.runs.Run.{Run}
@@ -53,18 +53,7 @@ invariant_of-self c =
     (outer_from c.self.inside c.number-number.result c.index.result.now c.self.invariant is read c.if-index-eq0.true)
 
 pub returns-then-index-eq0-clause-good : goal.returns-then-index-eq0-clause-good
-returns-then-index-eq0-clause-good c =
-    let is = node_is c.self.inside _ c.args.node c.number-number.result c.self.view_is c.requires.node c.number-number.ensures in
-    let place : c.number-number.result < length c.self.inside.parents.items =
-    omega (arith, (node_range _ _ c.number-number.result c.self.invariant.family.nested is).1, c.self.invariant.places.parents) in
-    let read : c.index.result.now ≡ slice_index c.self.inside.parents.items c.number-number.result =
-    c.index.ensures ∙ get_or_default c.self.inside.parents.items c.number-number.result c.index.result.now 0 place in
-    let written : c.raise.new.self.values ≡ slice_set c.self.inside.duals.values c.number-number.result (dual_at c.self.inside.duals.values c.number-number.result +ℤ c.args.d) =
-    search rules in
-    let duals = duals_after c.self.inside _ c.args.node c.number-number.result c.args.d c.raise.new.self.values c.self.invariant c.self.view_is c.requires.node c.number-number.ensures
-    c.requires.in_range c.requires.not_below written in
-    (raised_outer c.self.inside c.raise.new.self c.number-number.result c.args.d c.self.invariant duals c.raise.ensures.motions is written
-    (outer_from c.self.inside c.number-number.result c.index.result.now c.self.invariant is read c.if-index-eq0.true)).family
+returns-then-index-eq0-clause-good c = (invariant_of-self c).family
 
 pub of-requires : goal.of-requires
 of-requires c =
@@ -98,7 +87,7 @@ invariant_of-self-2 c =
     search rules in
     let duals = duals_after c.self.inside _ c.args.node c.number-number.result c.args.d c.raise.new.self.values c.self.invariant c.self.view_is c.requires.node c.number-number.ensures
     c.requires.in_range c.requires.not_below written in
-    let back : to_z w64 (of_z w64 c.args.d) ≡ c.args.d = search rules in
+    let back : to_z w128 (of_z w128 c.args.d) ≡ c.args.d = search rules in
     let members : c.of.result ≡ members_of (blossoms_of c.self.inside) c.number-number.result =
     c.of.ensures ∙ ap (λ (fs : List ℕ). vertices_of fs c.find_run.result) c.deref.ensures.value ∙ ap (vertices_of c.self.inside.followers.items) c.find_run.ensures
     ∙ (node_run c.self.inside c.self.invariant c.number-number.result is).vertices in
@@ -107,20 +96,4 @@ invariant_of-self-2 c =
     (c.add_each.ensures.placement ∙ ap₂ (all_added (placement_of c.self.inside.partition)) members back)
 
 pub returns-clause-good : goal.returns-clause-good
-returns-clause-good c =
-    let is = node_is c.self.inside _ c.args.node c.number-number.result c.self.view_is c.requires.node c.number-number.ensures in
-    let place : c.number-number.result < length c.self.inside.parents.items =
-    omega (arith, (node_range _ _ c.number-number.result c.self.invariant.family.nested is).1, c.self.invariant.places.parents) in
-    let read : c.index.result.now ≡ slice_index c.self.inside.parents.items c.number-number.result =
-    c.index.ensures ∙ get_or_default c.self.inside.parents.items c.number-number.result c.index.result.now 0 place in
-    let written : c.raise.new.self.values ≡ slice_set c.self.inside.duals.values c.number-number.result (dual_at c.self.inside.duals.values c.number-number.result +ℤ c.args.d) =
-    search rules in
-    let duals = duals_after c.self.inside _ c.args.node c.number-number.result c.args.d c.raise.new.self.values c.self.invariant c.self.view_is c.requires.node c.number-number.ensures
-    c.requires.in_range c.requires.not_below written in
-    let back : to_z w64 (of_z w64 c.args.d) ≡ c.args.d = search rules in
-    let members : c.of.result ≡ members_of (blossoms_of c.self.inside) c.number-number.result =
-    c.of.ensures ∙ ap (λ (fs : List ℕ). vertices_of fs c.find_run.result) c.deref.ensures.value ∙ ap (vertices_of c.self.inside.followers.items) c.find_run.ensures
-    ∙ (node_run c.self.inside c.self.invariant c.number-number.result is).vertices in
-    (raised_child c.self.inside c.raise.new.self c.number-number.result c.args.d c.self.invariant duals c.raise.ensures.motions is written c.add_each.new.self
-    (child_from c.self.inside c.number-number.result c.index.result.now c.self.invariant is read c.if-index-eq0.false)
-    (c.add_each.ensures.placement ∙ ap₂ (all_added (placement_of c.self.inside.partition)) members back)).family
+returns-clause-good c = (invariant_of-self-2 c).family

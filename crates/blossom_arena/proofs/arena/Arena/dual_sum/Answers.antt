@@ -1,12 +1,12 @@
 use Rattle.std.proofs.Common.{◌≡◌, ◌∙◌, ℕ, true, sym, ap, subst, arith, rules, to_z, of_z, FitsSigned}
 use Rattle.std.specs.Prelude.{◌+ℤ◌}
 use Rattle.std.proofs.lemmas.Int.{ints}
-use mir.Syntax.{w64}
+use mir.Syntax.{w128}
 use Rattle.blossom_arena.specs.declared.arena.Arena.TheInside.{Inside}
 use Rattle.blossom_arena.specs.Family.{Family, is_vertex, is_node, outermost, dual_at}
 use Rattle.blossom_arena.specs.Fields.{IsSound, family_of, inner_of}
 use Rattle.blossom_arena.specs.Placement.{placement_of}
-use Rattle.blossom_arena.specs.Slack.{IsDualSum}
+use Rattle.blossom_arena.specs.Slack.{IsDualSum, held_by}
 use Rattle.blossom_arena.proofs.Nested.{vertex_range}
 use Rattle.blossom_arena.proofs.Sets.{outermost_node}
 use Rattle.blossom_arena.proofs.Held.{dual_sum_range}
@@ -29,31 +29,30 @@ dual-requires c =
     subst (λ x. is_node c.args.self.now.vertex_count c.args.self.now.blossoms x ≡ true) (sym c.outermost.ensures.node)
     (outermost_node c.args.self.now.vertex_count c.args.self.now.blossoms c.args.v c.requires)
 
-pub overflow_add-result : goal.overflow_add-result
-overflow_add-result c =
+-- the two parts that are added up
+added : (c : goal.After-from) → to_z w128 (of_z w128 c.inner.result) +ℤ to_z w128 (of_z w128 c.from.result)
+    ≡ dual_at c.args.self.now.duals c.args.v +ℤ held_by (dual_at c.args.self.now.duals) c.args.self.now.blossoms c.args.v
+added c =
     let f : Family = c.args.self.now in
-    let good = c.outermost.ensures.good in
     let inner : c.inner.result ≡ inner_of (dual_at f.duals) f.blossoms c.args.v =
     c.inner.ensures ∙ read c.self.inside f c.args.v c.number.result c.self.invariant c.self.view_is c.requires c.number.ensures in
     let outer : c.dual.result ≡ dual_at f.duals (outermost f.blossoms c.args.v) = c.dual.ensures.dual ∙ ap (dual_at f.duals) c.outermost.ensures.node in
-    let sum = dual_sum_range f.vertex_count f.duals f.blossoms c.args.v good.few good.nested good.duals.in_range in
-    let back : to_z w64 (of_z w64 c.inner.result) ≡ c.inner.result = search rules in
-    let back_too : to_z w64 (of_z w64 c.dual.result) ≡ c.dual.result = search rules in
-    omega (arith, ints, inner, outer, sum.0, sum.1, back, back_too)
+    let back : to_z w128 (of_z w128 c.inner.result) ≡ c.inner.result = search rules in
+    let back_too : to_z w128 (of_z w128 c.from.result) ≡ c.dual.result = search rules in
+    omega (arith, ints, inner, outer, back, back_too)
+
+pub overflow_add-result : goal.overflow_add-result
+overflow_add-result c =
+    let good = c.outermost.ensures.good in
+    let sum = dual_sum_range c.args.self.now.vertex_count c.args.self.now.duals c.args.self.now.blossoms c.args.v good.few good.nested good.duals.in_range in
+    omega (arith, ints, added c, sum.0, sum.1)
 
 pub returns-clause-dual_sum : goal.returns-clause-dual_sum
 returns-clause-dual_sum c =
-    let f : Family = c.args.self.now in
-    let good = c.outermost.ensures.good in
-    let inner : c.inner.result ≡ inner_of (dual_at f.duals) f.blossoms c.args.v =
-    c.inner.ensures ∙ read c.self.inside f c.args.v c.number.result c.self.invariant c.self.view_is c.requires c.number.ensures in
-    let outer : c.dual.result ≡ dual_at f.duals (outermost f.blossoms c.args.v) = c.dual.ensures.dual ∙ ap (dual_at f.duals) c.outermost.ensures.node in
-    let fits : FitsSigned w64 (to_z w64 (of_z w64 c.inner.result) +ℤ to_z w64 (of_z w64 c.dual.result)) = overflow_add-result c in
-    let back : to_z w64 (of_z w64 c.inner.result) ≡ c.inner.result = search rules in
-    let back_too : to_z w64 (of_z w64 c.dual.result) ≡ c.dual.result = search rules in
-    let whole : to_z w64 (of_z w64 (to_z w64 (of_z w64 c.inner.result) +ℤ to_z w64 (of_z w64 c.dual.result)))
-    ≡ to_z w64 (of_z w64 c.inner.result) +ℤ to_z w64 (of_z w64 c.dual.result) = search rules in
-    omega (arith, ints, inner, outer, whole, back, back_too)
+    let fits : FitsSigned w128 (to_z w128 (of_z w128 c.inner.result) +ℤ to_z w128 (of_z w128 c.from.result)) = overflow_add-result c in
+    let whole : to_z w128 (of_z w128 (to_z w128 (of_z w128 c.inner.result) +ℤ to_z w128 (of_z w128 c.from.result)))
+    ≡ to_z w128 (of_z w128 c.inner.result) +ℤ to_z w128 (of_z w128 c.from.result) = search rules in
+    whole ∙ added c
 
 pub returns-clause-in_range : goal.returns-clause-in_range
 returns-clause-in_range c =

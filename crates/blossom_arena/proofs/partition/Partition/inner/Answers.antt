@@ -1,5 +1,5 @@
 use Rattle.std.proofs.Common.{◌≡◌, ◌∙◌, ◌+◌, ◌%◌, ◌<◌, ap, ap₂, length, arith, rules, to_z, of_z}
-use mir.Syntax.{w64}
+use mir.Syntax.{w128}
 use Rattle.std.specs.Prelude.{ℤ, pos, ◌+ℤ◌, slice_index}
 use Rattle.std.specs.Int.{int_wrap}
 use Rattle.std.proofs.lemmas.Int.{wraps}
@@ -18,6 +18,6 @@ returns c =
     let place : c.index-2.result.now < length c.self.inside.offsets.items = omega (arith, set, c.self.invariant.within c.args.vertex low, c.self.invariant.offsets) in
     let offset : c.index-3.result.now ≡ sum_at c.self.inside.offsets.items (slice_index c.self.inside.sets.items c.args.vertex) =
     c.index-3.ensures ∙ get_or_default c.self.inside.offsets.items c.index-2.result.now c.index-3.result.now (pos 0) place ∙ ap (sum_at c.self.inside.offsets.items) set in
-    let more : to_z w64 ((of_z w64 c.index.result.now + of_z w64 c.index-3.result.now) % 18446744073709551616)
-    ≡ int_wrap w64 (c.index.result.now +ℤ c.index-3.result.now) = search (rules, wraps) in
-    more ∙ ap₂ (λ (x z : ℤ). int_wrap w64 (x +ℤ z)) base offset ∙ ap (λ (t : SetTables). (placement_of t).inner c.args.vertex) c.self.view_is
+    let more : to_z w128 ((of_z w128 c.index.result.now + of_z w128 c.index-3.result.now) % 340282366920938463463374607431768211456)
+    ≡ int_wrap w128 (c.index.result.now +ℤ c.index-3.result.now) = search (rules, wraps) in
+    more ∙ ap₂ (λ (x z : ℤ). int_wrap w128 (x +ℤ z)) base offset ∙ ap (λ (t : SetTables). (placement_of t).inner c.args.vertex) c.self.view_is

@@ -1,5 +1,5 @@
 use Rattle.std.proofs.Common.{◌≡◌, ◌∙◌, sym, ◌+◌, ◌-◌, ◌%◌, ◌<◌, ap, ap₂, length, refl, arith, rules, to_z, of_z}
-use mir.Syntax.{w64}
+use mir.Syntax.{w128}
 use Rattle.std.specs.Prelude.{ℤ, pos, ◌+ℤ◌, ◌-ℤ◌, slice_set}
 use Rattle.std.specs.Int.{int_wrap}
 use Rattle.std.proofs.lemmas.Int.{wraps}
@@ -18,9 +18,9 @@ returns-clause-placement c =
     c.inner.ensures ∙ ap (λ (t : SetTables). (placement_of t).inner c.args.vertex) (sym c.self.view_is) in
     let offset : c.index.result.now ≡ sum_at c.self.inside.offsets.items c.args.set = c.index.ensures
     ∙ get_or_default c.self.inside.offsets.items c.args.set c.index.result.now (pos 0) low_offset in
-    let left : to_z w64 (((of_z w64 c.inner.result + of_z w64 c.args.y) % 18446744073709551616 + (18446744073709551616 - of_z w64 c.index.result.now)) % 18446744073709551616)
-    ≡ int_wrap w64 (int_wrap w64 (c.inner.result +ℤ c.args.y) -ℤ c.index.result.now) = search (rules, wraps) in
+    let left : to_z w128 (((of_z w128 c.inner.result + of_z w128 c.args.y) % 340282366920938463463374607431768211456 + (340282366920938463463374607431768211456 - of_z w128 c.index.result.now)) % 340282366920938463463374607431768211456)
+    ≡ int_wrap w128 (int_wrap w128 (c.inner.result +ℤ c.args.y) -ℤ c.index.result.now) = search (rules, wraps) in
     put_is (tables_of c.self.inside) _ _ c.args.vertex c.args.set c.args.y low (omega (arith, low, c.self.invariant.bases))
     (length-set c.self.inside.sets.items c.args.vertex c.args.set) refl
-    (ap (slice_set c.self.inside.bases.items c.args.vertex) (left ∙ ap₂ (λ (x z : ℤ). int_wrap w64 (int_wrap w64 (x +ℤ c.args.y) -ℤ z)) sum offset))
+    (ap (slice_set c.self.inside.bases.items c.args.vertex) (left ∙ ap₂ (λ (x z : ℤ). int_wrap w128 (int_wrap w128 (x +ℤ c.args.y) -ℤ z)) sum offset))
     ∙ ap (λ (t : SetTables). put_in (placement_of t) c.args.vertex c.args.set c.args.y) c.self.view_is
