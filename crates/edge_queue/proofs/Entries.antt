@@ -29,6 +29,6 @@ entries_written f g places new_places slot entry sizes within here others =
     (cases_eq s slot))
 
 -- no slot is there
-pub none_held : (heap : List Entry) (places : List ℕ) → map (held 0 heap) places ≡ replicate (length places) None
-none_held heap [] = refl
-none_held heap (p ∷ ps) = ap₂ (λ (x : Option ℤ) (xs : List (Option ℤ)). x ∷ xs) (held_absent 0 heap p (omega arith)) (none_held heap ps)
+pub none_held : (highs : List ℤ) (heap : List Entry) (places : List ℕ) → map (held highs 0 heap) places ≡ replicate (length places) None
+none_held highs heap [] = refl
+none_held highs heap (p ∷ ps) = ap₂ (λ (x : Option ℤ) (xs : List (Option ℤ)). x ∷ xs) (held_absent highs 0 heap p (omega arith)) (none_held highs heap ps)

@@ -4,7 +4,7 @@ use Rattle.std.specs.Prelude.{ℤ}
 use Rattle.std.proofs.lemmas.Bool.{cases_eq, lt-ltb, le-ltb}
 use Rattle.std.proofs.lemmas.List.{get_or-set_same, get_or-set_other, length-set}
 use Rattle.edge_queue.specs.declared.entry.Entry.{Entry}
-use Rattle.edge_queue.specs.Heaps.{slot_at, key, held, IsInverse}
+use Rattle.edge_queue.specs.Heaps.{joined, moment_in, slot_at, key, held, IsInverse, IsRewritten}
 use Rattle.edge_queue.proofs.EntryAt.{entry_at}
 
 -- one write after another
@@ -26,17 +26,21 @@ none_of_two d xs a b x y i p q = get_or-set_other (set xs a x) b i y d q ∙ get
 pub slot_by : (x y : Entry) → x ≡ y → x.slot ≡ y.slot
 slot_by x y e = ap (λ (z : Entry). z.slot) e
 
-pub key_by : (x y : Entry) → x ≡ y → x.moment ≡ y.moment
-key_by x y e = ap (λ (z : Entry). z.moment) e
+pub key_by : (highs : List ℤ) (x y : Entry) → x ≡ y → moment_in highs x ≡ moment_in highs y
+key_by highs x y e = ap (moment_in highs) e
 
-pub held_there : (count : ℕ) (heap : List Entry) (p : ℕ) → p < count → held count heap p ≡ Some (key heap p)
-held_there count heap p low = ap (λ b. cond b (Some (key heap p)) None) (lt-ltb p count low)
+pub held_there : (highs : List ℤ) (count : ℕ) (heap : List Entry) (p : ℕ) → p < count → held highs count heap p ≡ Some (key highs heap p)
+held_there highs count heap p low = ap (λ b. cond b (Some (key highs heap p)) None) (lt-ltb p count low)
 
-pub held_absent : (count : ℕ) (heap : List Entry) (p : ℕ) → count ≤ p → held count heap p ≡ None
-held_absent count heap p high = ap (λ b. cond b (Some (key heap p)) None) (le-ltb p count high)
+pub held_absent : (highs : List ℤ) (count : ℕ) (heap : List Entry) (p : ℕ) → count ≤ p → held highs count heap p ≡ None
+held_absent highs count heap p high = ap (λ b. cond b (Some (key highs heap p)) None) (le-ltb p count high)
 
-pub held_by : (count : ℕ) (heap new_heap : List Entry) (p : ℕ) → entry_at new_heap p ≡ entry_at heap p → held count new_heap p ≡ held count heap p
-held_by count heap new_heap p e = ap (λ (m : ℤ). cond (nat_lt p count) (Some m) None) (key_by (entry_at new_heap p) (entry_at heap p) e)
+pub held_by : (highs : List ℤ) (count : ℕ) (heap new_heap : List Entry) (p : ℕ) → entry_at new_heap p ≡ entry_at heap p → held highs count new_heap p ≡ held highs count heap p
+held_by highs count heap new_heap p e = ap (λ (m : ℤ). cond (nat_lt p count) (Some m) None) (key_by highs (entry_at new_heap p) (entry_at heap p) e)
+
+-- where the high half of another slot changes
+pub key_kept : (highs new_highs : List ℤ) (slot : ℕ) (heap : List Entry) (i : ℕ) → IsRewritten highs new_highs slot → slot_at heap i ≢ slot → key new_highs heap i ≡ key highs heap i
+key_kept highs new_highs slot heap i w ne = ap (λ z. joined z (entry_at heap i).low) (w.others (slot_at heap i) ne)
 
 -- the entries at places a and b have changed places
 pub record IsExchanged (heap : List Entry) (places : List ℕ) (new_heap : List Entry) (new_places : List ℕ) (a b : ℕ) : Type 0 where
@@ -127,19 +131,19 @@ module _ (heap : List Entry) (places : List ℕ) (new_heap : List Entry) (new_pl
   }
 
   -- each slot keeps what it has
-  pub same_exchanged : (s : ℕ) → s < length heap → held n new_heap (get_or new_places s 0) ≡ held n heap (get_or places s 0)
-  same_exchanged s h =
+  pub same_exchanged : (highs : List ℤ) (s : ℕ) → s < length heap → held highs n new_heap (get_or new_places s 0) ≡ held highs n heap (get_or places s 0)
+  same_exchanged highs s h =
       let moved : (to was : ℕ) → to < n → was < n → s ≡ slot_at heap was → get_or new_places (slot_at heap was) 0 ≡ to → entry_at new_heap to ≡ entry_at heap was
-      → held n new_heap (get_or new_places s 0) ≡ held n heap (get_or places s 0) =
+      → held highs n new_heap (get_or new_places s 0) ≡ held highs n heap (get_or places s 0) =
       λ to was to_in was_in e is same.
-      ap (λ k. held n new_heap k) (ap (λ k. get_or new_places k 0) e ∙ is) ∙ held_there n new_heap to to_in
-      ∙ ap (λ (m : ℤ). Some m) (key_by (entry_at new_heap to) (entry_at heap was) same)
-      ∙ sym (ap (λ k. held n heap k) (ap (λ k. get_or places k 0) e ∙ v.there was was_in) ∙ held_there n heap was was_in) in
+      ap (λ k. held highs n new_heap k) (ap (λ k. get_or new_places k 0) e ∙ is) ∙ held_there highs n new_heap to to_in
+      ∙ ap (λ (m : ℤ). Some m) (key_by highs (entry_at new_heap to) (entry_at heap was) same)
+      ∙ sym (ap (λ k. held highs n heap k) (ap (λ k. get_or places k 0) e ∙ v.there was was_in) ∙ held_there highs n heap was was_in) in
       ⊎_elim
       (λ (e : s ≡ slot_at heap a). moved b a b_in a_in e x.second_place x.second)
       (λ (ne : s ≢ slot_at heap a). ⊎_elim
       (λ (e : s ≡ slot_at heap b). moved a b a_in b_in e x.first_place x.first)
-      (λ (no : s ≢ slot_at heap b). ap (λ k. held n new_heap k) (x.other_places s ne no)
-      ∙ held_by n heap new_heap (get_or places s 0) (x.others (get_or places s 0) (not_at heap places n s a v a_in h ne) (not_at heap places n s b v b_in h no)))
+      (λ (no : s ≢ slot_at heap b). ap (λ k. held highs n new_heap k) (x.other_places s ne no)
+      ∙ held_by highs n heap new_heap (get_or places s 0) (x.others (get_or places s 0) (not_at heap places n s a v a_in h ne) (not_at heap places n s b v b_in h no)))
       (cases_eq s (slot_at heap b)))
       (cases_eq s (slot_at heap a))

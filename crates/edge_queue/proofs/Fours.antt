@@ -1,5 +1,6 @@
 -- Four places side by side as a list of their own.
 use Rattle.std.proofs.Common.{◌≡◌, ◌∙◌, ℕ, ◌+◌, ◌-◌, ◌<◌, List, length, take, drop, sym, ap, arith}
+use Rattle.std.specs.Prelude.{ℤ}
 use Rattle.std.proofs.lemmas.List.{get_or-take, get_or-drop, length-take, length-drop}
 use Rattle.edge_queue.specs.declared.entry.Entry.{Entry}
 use Rattle.edge_queue.specs.Heaps.{blank, key, IsLeastOf}
@@ -7,14 +8,14 @@ use Rattle.edge_queue.proofs.EntryAt.{entry_at}
 use Rattle.edge_queue.proofs.Exchanges.{key_by}
 use Rattle.edge_queue.proofs.Orders.{le_by}
 
-module _ (heap : List Entry) (left : ℕ) (all : left + 3 < length heap) where
+module _ (highs : List ℤ) (heap : List Entry) (left : ℕ) (all : left + 3 < length heap) where
   pub four_long : length (take 4 (drop left heap)) ≡ 4
   four_long = omega (arith, all, length-take 4 (drop left heap), length-drop left heap)
 
-  key_there : (i : ℕ) → i < 4 → key heap (left + i) ≡ key (take 4 (drop left heap)) i
-  key_there i low = sym (key_by (entry_at (take 4 (drop left heap)) i) (entry_at heap (left + i)) (get_or-take 4 (drop left heap) i blank low ∙ get_or-drop left heap i blank))
+  key_there : (i : ℕ) → i < 4 → key highs heap (left + i) ≡ key highs (take 4 (drop left heap)) i
+  key_there i low = sym (key_by highs (entry_at (take 4 (drop left heap)) i) (entry_at heap (left + i)) (get_or-take 4 (drop left heap) i blank low ∙ get_or-drop left heap i blank))
 
-  pub least_there : (c : ℕ) → IsLeastOf (key (take 4 (drop left heap))) (length (take 4 (drop left heap))) 0 4 c → IsLeastOf (key heap) (length heap) left 4 (left + c)
+  pub least_there : (c : ℕ) → IsLeastOf (key highs (take 4 (drop left heap))) (length (take 4 (drop left heap))) 0 4 c → IsLeastOf (key highs heap) (length heap) left 4 (left + c)
   least_there c h = record {
     low = omega arith;
     high = omega (arith, h.high);
@@ -22,7 +23,7 @@ module _ (heap : List Entry) (left : ℕ) (all : left + 3 < length heap) where
     least = λ k a b n.
         let i : ℕ = k - left in
         let is : left + i ≡ k = omega (arith, a) in
-        le_by (key heap (left + c)) (key (take 4 (drop left heap)) c) (key heap k) (key (take 4 (drop left heap)) i)
-        (key_there c (omega (arith, h.high))) (ap (key heap) (sym is) ∙ key_there i (omega (arith, a, b)))
+        le_by (key highs heap (left + c)) (key highs (take 4 (drop left heap)) c) (key highs heap k) (key highs (take 4 (drop left heap)) i)
+        (key_there c (omega (arith, h.high))) (ap (key highs heap) (sym is) ∙ key_there i (omega (arith, a, b)))
         (h.least i (omega arith) (omega (arith, a, b)) (omega (arith, a, b, four_long)));
   }

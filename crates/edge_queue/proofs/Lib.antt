@@ -1,4 +1,5 @@
 pub mod EntryAt
+pub mod Zeros
 pub mod Orders
 pub mod Pigeonholes
 pub mod Exchanges

@@ -1,61 +1,62 @@
 -- The steps of an entry on its way up or down.
 use Rattle.std.proofs.Common.{◌≡◌, ℕ, ◌+◌, ◌*◌, ◌<◌, ◌≤◌, ◌≢◌, List, length, set, ap, ◌∙◌, ⊎_elim, arith}
+use Rattle.std.specs.Prelude.{ℤ}
 use Rattle.std.proofs.lemmas.Bool.{cases_eq}
 use Rattle.std.proofs.lemmas.List.{get_or-set_same, length-set}
 use Rattle.edge_queue.specs.declared.entry.Entry.{Entry}
-use Rattle.edge_queue.specs.Heaps.{blank, key, IsRising, IsSinking, IsLaterParent, IsHeap, IsLeastOf, IsEarlierChild, NoEarlierChild}
+use Rattle.edge_queue.specs.Heaps.{blank, moment_in, key, IsRising, IsSinking, IsLaterParent, IsHeap, IsLeastOf, IsEarlierChild, NoEarlierChild}
 use Rattle.edge_queue.proofs.EntryAt.{entry_at}
 use Rattle.edge_queue.proofs.Orders.{le_by, rise_steps, sink_steps}
 use Rattle.edge_queue.proofs.Exchanges.{key_by, slot_by}
 use Rattle.edge_queue.proofs.Sifts.{IsSifting, sift_steps, keys_swapped, key_there, other_in, places_long}
 
-module _ (old_heap : List Entry) (old_places : List ℕ) (heap : List Entry) (places : List ℕ) (count j : ℕ) (entry : Entry)
-    (s : IsSifting old_heap old_places heap places count j entry) where
-  own_key : key (set heap j entry) j ≡ entry.moment
-  own_key = key_by (entry_at (set heap j entry) j) entry (get_or-set_same heap j entry blank (omega (arith, length-set heap j entry, s.place, s.tables.few)))
+module _ (highs : List ℤ) (old_heap : List Entry) (old_places : List ℕ) (heap : List Entry) (places : List ℕ) (count j : ℕ) (entry : Entry)
+    (s : IsSifting highs old_heap old_places heap places count j entry) where
+  own_key : key highs (set heap j entry) j ≡ moment_in highs entry
+  own_key = key_by highs (entry_at (set heap j entry) j) entry (get_or-set_same heap j entry blank (omega (arith, length-set heap j entry, s.place, s.tables.few)))
 
-  there : (k : ℕ) → k < count → k ≢ j → key (set heap j entry) k ≡ key heap k
-  there k p ne = key_there old_heap old_places heap places count j k entry s p ne
+  there : (k : ℕ) → k < count → k ≢ j → key highs (set heap j entry) k ≡ key highs heap k
+  there k p ne = key_there highs old_heap old_places heap places count j k entry s p ne
 
-  pub rise_moves : (p : ℕ) (above : Entry) (new_heap : List Entry) (new_places : List ℕ) → IsLaterParent (key heap) entry.moment j p → above ≡ entry_at heap p
+  pub rise_moves : (p : ℕ) (above : Entry) (new_heap : List Entry) (new_places : List ℕ) → IsLaterParent (key highs heap) (moment_in highs entry) j p → above ≡ entry_at heap p
       → new_heap ≡ set heap j above → new_places ≡ set places above.slot j
-      → IsRising (key (set heap j entry)) j count → IsSifting old_heap old_places new_heap new_places count p entry × IsRising (key (set new_heap p entry)) p count
+      → IsRising (key highs (set heap j entry)) j count → IsSifting highs old_heap old_places new_heap new_places count p entry × IsRising (key highs (set new_heap p entry)) p count
   rise_moves p above new_heap new_places later a h q r =
       let below : p < j = omega (arith, later.parent, later.below) in
       let p_in : p < count = omega (arith, below, s.place) in
       let ne : p ≢ j = λ e. absurd (omega arith) in (
-        sift_steps old_heap old_places heap places count j p entry s p_in ne above new_heap new_places a h q,
-        rise_steps (key (set heap j entry)) (key (set new_heap p entry)) j p count later.below later.parent s.place
-            (le_by (key (set heap j entry) j) entry.moment (key (set heap j entry) p) (key heap p) own_key (there p p_in ne) later.later)
-            (keys_swapped old_heap old_places heap places count j p entry s p_in ne above new_heap a h) r,
+        sift_steps highs old_heap old_places heap places count j p entry s p_in ne above new_heap new_places a h q,
+        rise_steps (key highs (set heap j entry)) (key highs (set new_heap p entry)) j p count later.below later.parent s.place
+            (le_by (key highs (set heap j entry) j) (moment_in highs entry) (key highs (set heap j entry) p) (key highs heap p) own_key (there p p_in ne) later.later)
+            (keys_swapped highs old_heap old_places heap places count j p entry s p_in ne above new_heap a h) r,
       )
 
-  pub sink_moves : (c : ℕ) (below : Entry) (new_heap : List Entry) (new_places : List ℕ) → IsEarlierChild (key heap) entry.moment count j c → below ≡ entry_at heap c
+  pub sink_moves : (c : ℕ) (below : Entry) (new_heap : List Entry) (new_places : List ℕ) → IsEarlierChild (key highs heap) (moment_in highs entry) count j c → below ≡ entry_at heap c
       → new_heap ≡ set heap j below → new_places ≡ set places below.slot j
-      → IsSinking (key (set heap j entry)) j count → IsSifting old_heap old_places new_heap new_places count c entry × IsSinking (key (set new_heap c entry)) c count
+      → IsSinking (key highs (set heap j entry)) j count → IsSifting highs old_heap old_places new_heap new_places count c entry × IsSinking (key highs (set new_heap c entry)) c count
   sink_moves c below new_heap new_places earlier a h q r =
       let low : j * 4 + 1 ≤ c = earlier.child.low in
       let c_in : c < count = earlier.child.within in
       let ne : c ≢ j = λ e. absurd (omega arith) in
-      let child : IsLeastOf (key (set heap j entry)) count (j * 4 + 1) 4 c = record {
+      let child : IsLeastOf (key highs (set heap j entry)) count (j * 4 + 1) 4 c = record {
         low = low;
         high = earlier.child.high;
         within = c_in;
-        least = λ k m n o. le_by (key (set heap j entry) c) (key heap c) (key (set heap j entry) k) (key heap k)
+        least = λ k m n o. le_by (key highs (set heap j entry) c) (key highs heap c) (key highs (set heap j entry) k) (key highs heap k)
             (there c c_in ne) (there k o (λ e. absurd (omega arith))) (earlier.child.least k m n o);
       } in (
-        sift_steps old_heap old_places heap places count j c entry s c_in ne below new_heap new_places a h q,
-        sink_steps (key (set heap j entry)) (key (set new_heap c entry)) j c count child
-            (le_by (key (set heap j entry) c) (key heap c) (key (set heap j entry) j) entry.moment (there c c_in ne) own_key earlier.earlier)
-            (keys_swapped old_heap old_places heap places count j c entry s c_in ne below new_heap a h) r,
+        sift_steps highs old_heap old_places heap places count j c entry s c_in ne below new_heap new_places a h q,
+        sink_steps (key highs (set heap j entry)) (key highs (set new_heap c entry)) j c count child
+            (le_by (key highs (set heap j entry) c) (key highs heap c) (key highs (set heap j entry) j) (moment_in highs entry) (there c c_in ne) own_key earlier.earlier)
+            (keys_swapped highs old_heap old_places heap places count j c entry s c_in ne below new_heap a h) r,
       )
 
-  pub sink_ends : NoEarlierChild (key heap) entry.moment count j → IsSinking (key (set heap j entry)) j count → IsHeap (key (set heap j entry)) count
+  pub sink_ends : NoEarlierChild (key highs heap) (moment_in highs entry) count j → IsSinking (key highs (set heap j entry)) j count → IsHeap (key highs (set heap j entry)) count
   sink_ends last r = record {
     order = λ p k a b c.
         ⊎_elim
-        (λ (e : p ≡ j). le_by (key (set heap j entry) p) entry.moment (key (set heap j entry) k) (key heap k)
-        (ap (key (set heap j entry)) e ∙ own_key) (there k c (λ q. absurd (omega arith))) (last.none k (omega arith) (omega arith) c))
+        (λ (e : p ≡ j). le_by (key highs (set heap j entry) p) (moment_in highs entry) (key highs (set heap j entry) k) (key highs heap k)
+        (ap (key highs (set heap j entry)) e ∙ own_key) (there k c (λ q. absurd (omega arith))) (last.none k (omega arith) (omega arith) c))
         (λ (ne : p ≢ j). r.others p k a b c ne)
         (cases_eq p j);
   }
@@ -66,6 +67,6 @@ module _ (old_heap : List Entry) (old_places : List ℕ) (heap : List Entry) (pl
       omega (
         arith,
         slot_by above (entry_at heap p) is,
-        other_in old_heap old_places heap places count j p entry s within ne,
-        places_long old_heap old_places heap places count j p entry s within ne,
+        other_in highs old_heap old_places heap places count j p entry s within ne,
+        places_long highs old_heap old_places heap places count j p entry s within ne,
       )

@@ -1,8 +1,8 @@
 -- Keys in heap order, and what one exchange on the way of a slot keeps.
 use Rattle.std.proofs.Common.{◌≡◌, ℕ, zero, suc, ◌+◌, ◌-◌, ◌*◌, ◌/◌, ◌<◌, ◌≤◌, ◌≢◌, sym, refl, ap, ◌∙◌, subst, ⊎_elim, arith}
-use Rattle.std.specs.Prelude.{ℤ, pos, ◌+ℤ◌, ◌*ℤ◌, ◌<ℤ◌, ◌≤ℤ◌}
+use Rattle.std.specs.Prelude.{ℤ, ◌≤ℤ◌}
 use Rattle.std.proofs.lemmas.Bool.{cases_eq, cases_lt}
-use Rattle.std.proofs.lemmas.Int.{ints, by_lt_z}
+use Rattle.std.proofs.lemmas.Int.{ints}
 use Rattle.edge_queue.specs.Heaps.{IsHeap, IsRising, IsSinking, IsEarlierOf, IsLeastOf}
 
 pub le_chain : (x y z : ℤ) → x ≤ℤ y → y ≤ℤ z → x ≤ℤ z
@@ -10,27 +10,6 @@ le_chain x y z a b = omega (arith, ints)
 
 pub le_by : (x x' y y' : ℤ) → x ≡ x' → y ≡ y' → x' ≤ℤ y' → x ≤ℤ y
 le_by x x' y y' a b h = omega (arith, ints)
-
--- a natural factor
-times-suc : (k : ℕ) (x : ℤ) → pos (suc k) *ℤ x ≡ pos k *ℤ x +ℤ x
-times-suc k x = omega (arith, ints)
-
-times-next : (k : ℕ) (x : ℤ) → pos k *ℤ (x +ℤ pos 1) ≡ pos k *ℤ x +ℤ pos k
-times-next zero x = omega (arith, ints)
-times-next (suc k) x = omega (arith, ints, times-next k x, times-suc k x, times-suc k (x +ℤ pos 1))
-
-times-le : (k : ℕ) (x y : ℤ) → x ≤ℤ y → (pos k *ℤ x) ≤ℤ (pos k *ℤ y)
-times-le zero x y h = omega (arith, ints)
-times-le (suc k) x y h = omega (arith, ints, times-le k x y h, times-suc k x, times-suc k y)
-
--- what comes before a remainder that is less than the factor decides
-pub rank_order : (k : ℕ) (x y : ℤ) (s t : ℕ) → t < k → ((pos k *ℤ x) +ℤ pos s) ≤ℤ ((pos k *ℤ y) +ℤ pos t) → x ≤ℤ y
-rank_order k x y s t small h =
-    by_lt_z y x
-    (λ (less : y <ℤ x).
-    let above : (pos k *ℤ (y +ℤ pos 1)) ≤ℤ (pos k *ℤ x) = times-le k (y +ℤ pos 1) x (omega (arith, ints)) in
-    absurd (omega (arith, ints, above, times-next k y)))
-    (λ (order : x ≤ℤ y). order)
 
 -- two keys have changed places
 pub record IsSwapped (f g : ℕ → ℤ) (a b : ℕ) : Type 0 where
@@ -66,35 +45,35 @@ rise_steps f g j p n low is within later s r = record {
 }
 
 -- the parent of a place whose key changes, and its children
-past_changed : (f g : ℕ → ℤ) (j n : ℕ) → j < n → ((i : ℕ) → i ≢ j → g i ≡ f i) → IsHeap f n
+past_changed : (f g : ℕ → ℤ) (j n : ℕ) → j < n → ((i : ℕ) → i < n → i ≢ j → g i ≡ f i) → IsHeap f n
     → (k : ℕ) → 0 < j → j * 4 + 1 ≤ k → k ≤ j * 4 + 4 → k < n → g ((j - 1) / 4) ≤ℤ g k
 past_changed f g j n within like h k low a b c =
     let up : ℕ = (j - 1) / 4 in
     let not_up : up ≢ j = λ e. absurd (omega (arith, low, e)) in
     let not_k : k ≢ j = λ e. absurd (omega (arith, a, e)) in
-    le_by (g up) (f up) (g k) (f k) (like up not_up) (like k not_k)
+    le_by (g up) (f up) (g k) (f k) (like up (omega (arith, within)) not_up) (like k c not_k)
     (le_chain (f up) (f j) (f k) (h.order up j (omega (arith, low)) (omega (arith, low)) within) (h.order j k a b c))
 
 -- a key that becomes less, or stays what it is
-pub lowered : (f g : ℕ → ℤ) (j n : ℕ) → j < n → ((i : ℕ) → i ≢ j → g i ≡ f i) → g j ≤ℤ f j → IsHeap f n → IsRising g j n
+pub lowered : (f g : ℕ → ℤ) (j n : ℕ) → j < n → ((i : ℕ) → i < n → i ≢ j → g i ≡ f i) → g j ≤ℤ f j → IsHeap f n → IsRising g j n
 lowered f g j n within like less h = record {
   others = λ p k a b c kj.
       ⊎_elim
       (λ (pj : p ≡ j). subst (λ (i : ℕ). g i ≤ℤ g k) (sym pj)
-      (le_chain (g j) (f j) (g k) less (le_by (f j) (f j) (g k) (f k) refl (like k kj) (h.order j k (omega (arith, a, pj)) (omega (arith, b, pj)) c))))
-      (λ (pj : p ≢ j). le_by (g p) (f p) (g k) (f k) (like p pj) (like k kj) (h.order p k a b c))
+      (le_chain (g j) (f j) (g k) less (le_by (f j) (f j) (g k) (f k) refl (like k c kj) (h.order j k (omega (arith, a, pj)) (omega (arith, b, pj)) c))))
+      (λ (pj : p ≢ j). le_by (g p) (f p) (g k) (f k) (like p (omega (arith, a, c)) pj) (like k c kj) (h.order p k a b c))
       (cases_eq p j);
   around = λ k low a b c. past_changed f g j n within like h k low a b c;
 }
 
 -- a key that becomes greater, or stays what it is
-pub heightened : (f g : ℕ → ℤ) (j n : ℕ) → j < n → ((i : ℕ) → i ≢ j → g i ≡ f i) → f j ≤ℤ g j → IsHeap f n → IsSinking g j n
+pub heightened : (f g : ℕ → ℤ) (j n : ℕ) → j < n → ((i : ℕ) → i < n → i ≢ j → g i ≡ f i) → f j ≤ℤ g j → IsHeap f n → IsSinking g j n
 heightened f g j n within like more h = record {
   others = λ p k a b c pj.
       ⊎_elim
       (λ (kj : k ≡ j). subst (λ (i : ℕ). g p ≤ℤ g i) (sym kj)
-      (le_chain (g p) (f j) (g j) (le_by (g p) (f p) (f j) (f j) (like p pj) refl (h.order p j (omega (arith, a, kj)) (omega (arith, b, kj)) within)) more))
-      (λ (kj : k ≢ j). le_by (g p) (f p) (g k) (f k) (like p pj) (like k kj) (h.order p k a b c))
+      (le_chain (g p) (f j) (g j) (le_by (g p) (f p) (f j) (f j) (like p (omega (arith, a, c)) pj) refl (h.order p j (omega (arith, a, kj)) (omega (arith, b, kj)) within)) more))
+      (λ (kj : k ≢ j). le_by (g p) (f p) (g k) (f k) (like p (omega (arith, a, c)) pj) (like k c kj) (h.order p k a b c))
       (cases_eq k j);
   around = λ k low a b c. past_changed f g j n within like h k low a b c;
 }

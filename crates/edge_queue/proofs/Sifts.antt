@@ -1,5 +1,6 @@
 -- An entry on its way through a heap: the tables as they are once it is put at place j.
 use Rattle.std.proofs.Common.{◌≡◌, ℕ, ◌<◌, ◌≢◌, List, length, get_or, set, refl, sym, ap, ◌∙◌, subst, arith}
+use Rattle.std.specs.Prelude.{ℤ}
 use Rattle.std.proofs.lemmas.List.{get_or-set_same, get_or-set_other, length-set}
 use Rattle.edge_queue.specs.declared.entry.Entry.{Entry}
 use Rattle.edge_queue.specs.Heaps.{blank, slot_at, key, held, IsInverse, AreTables, IsHeap, IsMended}
@@ -7,15 +8,15 @@ use Rattle.edge_queue.proofs.EntryAt.{entry_at}
 use Rattle.edge_queue.proofs.Orders.{IsSwapped}
 use Rattle.edge_queue.proofs.Exchanges.{slot_by, key_by, IsExchanged, first_of_two, second_of_two, none_of_two, one_place, inverse_exchanged, same_exchanged}
 
-pub record IsSifting (old_heap : List Entry) (old_places : List ℕ) (heap : List Entry) (places : List ℕ) (count j : ℕ) (entry : Entry) : Type 0 where
+pub record IsSifting (highs : List ℤ) (old_heap : List Entry) (old_places : List ℕ) (heap : List Entry) (places : List ℕ) (count j : ℕ) (entry : Entry) : Type 0 where
   pub tables : AreTables (set heap j entry) (set places entry.slot j) count
   pub place : j < count
   pub slot_in : entry.slot < length heap
   pub size : length heap ≡ length old_heap
-  pub same : (s : ℕ) → s < length heap → held count (set heap j entry) (get_or (set places entry.slot j) s 0) ≡ held count old_heap (get_or old_places s 0)
+  pub same : (s : ℕ) → s < length heap → held highs count (set heap j entry) (get_or (set places entry.slot j) s 0) ≡ held highs count old_heap (get_or old_places s 0)
 
-module _ (old_heap : List Entry) (old_places : List ℕ) (heap : List Entry) (places : List ℕ) (count j p : ℕ) (entry : Entry)
-    (s : IsSifting old_heap old_places heap places count j entry) (within : p < count) (ne : p ≢ j) where
+module _ (highs : List ℤ) (old_heap : List Entry) (old_places : List ℕ) (heap : List Entry) (places : List ℕ) (count j p : ℕ) (entry : Entry)
+    (s : IsSifting highs old_heap old_places heap places count j entry) (within : p < count) (ne : p ≢ j) where
   long : length (set heap j entry) ≡ length heap
   long = length-set heap j entry
 
@@ -62,7 +63,7 @@ module _ (old_heap : List Entry) (old_places : List ℕ) (heap : List Entry) (pl
   }
 
   pub sift_steps : (above : Entry) (new_heap : List Entry) (new_places : List ℕ) → above ≡ entry_at heap p → new_heap ≡ set heap j above → new_places ≡ set places above.slot j
-      → IsSifting old_heap old_places new_heap new_places count p entry
+      → IsSifting highs old_heap old_places new_heap new_places count p entry
   sift_steps above new_heap new_places a h q =
       let heap_is : new_heap ≡ set heap j (entry_at heap p) = h ∙ ap (λ k. set heap j k) a in
       let places_is : new_places ≡ set places (slot_at heap p) j = q ∙ ap (λ k. set places k j) (slot_by above (entry_at heap p) a) in
@@ -82,19 +83,19 @@ module _ (old_heap : List Entry) (old_places : List ℕ) (heap : List Entry) (pl
         size = new_long ∙ s.size;
         same = λ i low.
             let i_in : i < length heap = omega (arith, low, new_long) in
-            ap (λ l. held count (set l p entry) (get_or (set new_places entry.slot p) i 0)) heap_is
-            ∙ ap (λ l. held count (set (set heap j (entry_at heap p)) p entry) (get_or (set l entry.slot p) i 0)) places_is
+            ap (λ l. held highs count (set l p entry) (get_or (set new_places entry.slot p) i 0)) heap_is
+            ∙ ap (λ l. held highs count (set (set heap j (entry_at heap p)) p entry) (get_or (set l entry.slot p) i 0)) places_is
             ∙ same_exchanged (set heap j entry) (set places entry.slot j) (set (set heap j (entry_at heap p)) p entry)
-            (set (set places (slot_at heap p) j) entry.slot p) count j p s.tables.inverse s.place within sift_exchanges i (omega (arith, i_in, long))
+            (set (set places (slot_at heap p) j) entry.slot p) count j p s.tables.inverse s.place within sift_exchanges highs i (omega (arith, i_in, long))
             ∙ s.same i i_in;
       }
 
   pub keys_swapped : (above : Entry) (new_heap : List Entry) → above ≡ entry_at heap p → new_heap ≡ set heap j above
-      → IsSwapped (key (set heap j entry)) (key (set new_heap p entry)) j p
+      → IsSwapped (key highs (set heap j entry)) (key highs (set new_heap p entry)) j p
   keys_swapped above new_heap a h =
       let is : set new_heap p entry ≡ set (set heap j (entry_at heap p)) p entry = ap (λ l. set l p entry) (h ∙ ap (λ k. set heap j k) a) in
-      let at : (i k : ℕ) → entry_at (set (set heap j (entry_at heap p)) p entry) i ≡ entry_at (set heap j entry) k → key (set new_heap p entry) i ≡ key (set heap j entry) k =
-      λ i k e. ap (λ l. key l i) is ∙ key_by (entry_at (set (set heap j (entry_at heap p)) p entry) i) (entry_at (set heap j entry) k) e in
+      let at : (i k : ℕ) → entry_at (set (set heap j (entry_at heap p)) p entry) i ≡ entry_at (set heap j entry) k → key highs (set new_heap p entry) i ≡ key highs (set heap j entry) k =
+      λ i k e. ap (λ l. key highs l i) is ∙ key_by highs (entry_at (set (set heap j (entry_at heap p)) p entry) i) (entry_at (set heap j entry) k) e in
       record {
         first = at j p sift_exchanges.first;
         second = at p j sift_exchanges.second;
@@ -102,13 +103,13 @@ module _ (old_heap : List Entry) (old_places : List ℕ) (heap : List Entry) (pl
       }
 
   -- what is read at another place is what stands there in the end
-  pub key_there : key (set heap j entry) p ≡ key heap p
-  key_there = key_by (entry_at (set heap j entry) p) (entry_at heap p) at_p
+  pub key_there : key highs (set heap j entry) p ≡ key highs heap p
+  key_there = key_by highs (entry_at (set heap j entry) p) (entry_at heap p) at_p
 
 -- an entry that sets out
-pub sift_starts : (heap : List Entry) (places : List ℕ) (count j : ℕ) (entry : Entry) → AreTables (set heap j entry) (set places entry.slot j) count → j < count
-    → IsSifting (set heap j entry) (set places entry.slot j) heap places count j entry
-sift_starts heap places count j entry t within =
+pub sift_starts : (highs : List ℤ) (heap : List Entry) (places : List ℕ) (count j : ℕ) (entry : Entry) → AreTables (set heap j entry) (set places entry.slot j) count → j < count
+    → IsSifting highs (set heap j entry) (set places entry.slot j) heap places count j entry
+sift_starts highs heap places count j entry t within =
     let long : length (set heap j entry) ≡ length heap = length-set heap j entry in
     let at_start : entry_at (set heap j entry) j ≡ entry = get_or-set_same heap j entry blank (omega (arith, long, within, t.few)) in
     record {
@@ -120,15 +121,15 @@ sift_starts heap places count j entry t within =
     }
 
 -- an entry that has arrived
-pub sift_ends : (old_heap : List Entry) (old_places : List ℕ) (heap : List Entry) (places : List ℕ) (count j : ℕ) (entry : Entry) (new_heap : List Entry) (new_places : List ℕ)
-    → IsSifting old_heap old_places heap places count j entry
-    → new_heap ≡ set heap j entry → new_places ≡ set places entry.slot j → IsHeap (key (set heap j entry)) count → IsMended old_heap old_places new_heap new_places count
-sift_ends old_heap old_places heap places count j entry new_heap new_places s h p order =
+pub sift_ends : (highs : List ℤ) (old_heap : List Entry) (old_places : List ℕ) (heap : List Entry) (places : List ℕ) (count j : ℕ) (entry : Entry) (new_heap : List Entry) (new_places : List ℕ)
+    → IsSifting highs old_heap old_places heap places count j entry
+    → new_heap ≡ set heap j entry → new_places ≡ set places entry.slot j → IsHeap (key highs (set heap j entry)) count → IsMended highs old_heap old_places new_heap new_places count
+sift_ends highs old_heap old_places heap places count j entry new_heap new_places s h p order =
     let long : length (set heap j entry) ≡ length heap = length-set heap j entry in
-    let mended : IsMended old_heap old_places (set heap j entry) (set places entry.slot j) count = record {
+    let mended : IsMended highs old_heap old_places (set heap j entry) (set places entry.slot j) count = record {
       tables = s.tables;
       order = order;
       size = long ∙ s.size;
       same = λ i low. s.same i (omega (arith, low, long));
     } in
-    subst (λ l. IsMended old_heap old_places l new_places count) (sym h) (subst (λ l. IsMended old_heap old_places (set heap j entry) l count) (sym p) mended)
+    subst (λ l. IsMended highs old_heap old_places l new_places count) (sym h) (subst (λ l. IsMended highs old_heap old_places (set heap j entry) l count) (sym p) mended)

@@ -1,29 +1,46 @@
 -- Entries in heap order. No public clause cites this module.
-use Rattle.std.specs.Prelude.{◌≡◌, ◌≢◌, ℕ, ◌+◌, ◌-◌, ◌*◌, ◌/◌, ◌<◌, ◌≤◌, ◌^◌, ℤ, pos, ◌+ℤ◌, ◌*ℤ◌, ◌≤ℤ◌, nat_lt, if◌then◌else◌, List, length, slice_index, slice_index_or, Option, Some, None}
+use Rattle.std.specs.Prelude.{◌≡◌, ◌≢◌, ℕ, ◌+◌, ◌-◌, ◌*◌, ◌/◌, ◌<◌, ◌≤◌, ◌^◌, ℤ, pos, ◌+ℤ◌, ◌*ℤ◌, ◌≤ℤ◌, nat_lt, if◌then◌else◌, Bool, false, List, length, replicate, slice_index, slice_index_or, Option, Some, None}
 use Rattle.edge_queue.specs.declared.entry.Entry.{Entry}
 
 -- what stands past the end of a list of entries
 abbrev pub blank : Entry
-blank = record { moment = pos 0; age = 0; slot = 0 }
+blank = record { low = 0; age = 0; slot = 0 }
 
 -- what stands for the place of a slot that has none
 abbrev pub absent : ℕ
 absent = 2 ^ 32 - 1
 
--- the moment of an entry and its age, which is below 2 ^ 32, in one number
-abbrev pub ranked : Entry → ℤ
-ranked e = (pos 18446744073709551616 *ℤ e.moment) +ℤ pos e.age
+-- the moment of these halves
+unfoldable pub joined : ℤ → ℕ → ℤ
+joined high low = (pos 18446744073709551616 *ℤ high) +ℤ pos low
+
+-- the moment of an entry, of which it has the low half itself and a table by slot has the high one
+abbrev pub moment_in : List ℤ → Entry → ℤ
+moment_in highs e = joined (slice_index_or highs e.slot (pos 0)) e.low
+
+-- of high halves that all are 0
+abbrev pub IsZeroAt : List ℤ → Type 0
+IsZeroAt highs = (s : ℕ) → slice_index_or highs s (pos 0) ≡ pos 0
+
+-- all of a table is 0 where it isn't marked as wide
+abbrev pub IsNarrow : Bool → List ℤ → Type 0
+IsNarrow wide highs = wide ≡ false → highs ≡ replicate (length highs) (pos 0)
+
+-- but for one slot all have the high halves that they had
+pub record IsRewritten (old new : List ℤ) (slot : ℕ) : Type 0 where
+  pub size : length new ≡ length old
+  pub others : (s : ℕ) → s ≢ slot → slice_index_or new s (pos 0) ≡ slice_index_or old s (pos 0)
 
 -- the slot and the moment at a place of the heap
 abbrev pub slot_at : List Entry → ℕ → ℕ
 slot_at heap i = (slice_index_or heap i blank).slot
 
-abbrev pub key : List Entry → ℕ → ℤ
-key heap i = (slice_index_or heap i blank).moment
+abbrev pub key : List ℤ → List Entry → ℕ → ℤ
+key highs heap i = moment_in highs (slice_index_or heap i blank)
 
 -- the moment at a place, if that is among the first so many
-abbrev pub held : ℕ → List Entry → ℕ → Option ℤ
-held count heap p = if nat_lt p count then Some (key heap p) else None
+abbrev pub held : List ℤ → ℕ → List Entry → ℕ → Option ℤ
+held highs count heap p = if nat_lt p count then Some (key highs heap p) else None
 
 -- each of the first so many entries is that of the slot which has its place there; a slot with none has a number past all places
 pub record IsInverse (heap : List Entry) (places : List ℕ) (count : ℕ) : Type 0 where
@@ -93,8 +110,8 @@ pub record NoEarlierChild (f : ℕ → ℤ) (m : ℤ) (n j : ℕ) : Type 0 where
   pub none : (k : ℕ) → j * 4 + 1 ≤ k → k ≤ j * 4 + 4 → k < n → m ≤ℤ f k
 
 -- the tables are a heap in which each slot has the moment that it had before
-pub record IsMended (old_heap : List Entry) (old_places : List ℕ) (heap : List Entry) (places : List ℕ) (count : ℕ) : Type 0 where
+pub record IsMended (highs : List ℤ) (old_heap : List Entry) (old_places : List ℕ) (heap : List Entry) (places : List ℕ) (count : ℕ) : Type 0 where
   pub tables : AreTables heap places count
-  pub order : IsHeap (key heap) count
+  pub order : IsHeap (key highs heap) count
   pub size : length heap ≡ length old_heap
-  pub same : (s : ℕ) → s < length heap → held count heap (slice_index places s) ≡ held count old_heap (slice_index old_places s)
+  pub same : (s : ℕ) → s < length heap → held highs count heap (slice_index places s) ≡ held highs count old_heap (slice_index old_places s)

@@ -2,6 +2,7 @@ ghost use Rattle.std.specs.Prelude.{◌≡◌, ◌<◌, IfOk, Some, None, length
 ghost use Rattle.edge_queue.specs.Slots.{IsLeastSlot};
 
 use crate::entry::Entry;
+use crate::highs::Highs;
 use crate::sift::{renew, rise, settle};
 use crate::tables::{fresh_entries, no_places, place_of, wipe_place, wipe_places};
 use crate::turn::Turn;
@@ -28,19 +29,21 @@ fn take_age(next_age: &mut u32, turn: Turn) -> u32 {
     age
 }
 
-/// Whether an entry has this moment, and comes among those of the same moment when it is to.
-fn keeps(entry: &Entry, moment: i64, turn: Turn) -> bool
-    ensures { result ≡ true → entry.now.moment ≡ moment }
+/// Whether an entry keeps its age where the first moment becomes the second: they are the same, and
+/// it comes among those of the same moment when it is to.
+fn keeps(was: i128, age: u32, moment: i128, turn: Turn) -> bool
+    ensures { result ≡ true → was ≡ moment }
 {
     match turn {
-        Turn::Early => entry.moment == moment && entry.age < LATE,
-        Turn::Late => entry.moment == moment,
+        Turn::Early => was == moment && age < LATE,
+        Turn::Late => was == moment,
     }
 }
 
 /// An indexed heap of slots by their moments, in which an entry has up to four children; of equal
 /// moments those set early stand before all others, and then the one that was set first. Each entry
-/// has its moment and age with it, since the slots of entries that are compared lie far apart.
+/// has the low half of its moment and its age with it, since the slots of entries that are compared
+/// lie far apart; the high halves stand by slot, and aren't read as long as all of them are 0.
 /// Contracts see the list of the moments by slot.
 #[derive(Drop)]
 pub(crate) struct IndexedHeap {
@@ -49,6 +52,7 @@ pub(crate) struct IndexedHeap {
     // places.
     heap: Vec<Entry>,
     places: Vec<u32>,
+    highs: Highs,
     count: usize,
     next_age: u32,
 }
@@ -71,54 +75,75 @@ impl IndexedHeap {
     {
         let heap = fresh_entries(alloc, size)?;
         let places = no_places(alloc, size)?;
+        let highs = Highs::new(alloc, size)?;
         Ok(IndexedHeap {
             heap,
             places,
+            highs,
             count: 0,
             next_age: 0,
         })
     }
 
     /// The moment of a slot.
-    pub(crate) fn moment(&self, slot: u32) -> Option<i64>
+    pub(crate) fn moment(&self, slot: u32) -> Option<i128>
         requires { slot < length self.now }
         ensures { result ≡ slice_index_or self.now slot None }
     {
         let place = place_of(&self.places, self.count, slot)?;
-        Some(self.heap[place].moment)
+        Some(self.heap[place].moment(&self.highs))
     }
 
     /// A slot whose moment is least, and its moment.
-    pub(crate) fn least(&self) -> Option<(u32, i64)>
+    pub(crate) fn least(&self) -> Option<(u32, i128)>
         ensures { IsLeastSlot self.now result }
     {
         if self.count == 0 {
             return None;
         }
         let entry = self.heap[0];
-        Some((entry.slot, entry.moment))
+        Some((entry.slot, entry.moment(&self.highs)))
     }
 
     /// Gives a slot this moment. Where it has it already it keeps its age, unless it is to come
     /// early and doesn't.
-    pub(crate) fn set(&mut self, slot: u32, moment: i64, turn: Turn)
+    pub(crate) fn set(&mut self, slot: u32, moment: i128, turn: Turn)
         requires { slot < length self.old }
         ensures { self.new ≡ slice_set self.old slot (Some moment) }
     {
         let Some(place) = place_of(&self.places, self.count, slot) else {
             let age = take_age(&mut self.next_age, turn);
-            let entry = Entry { moment, age, slot };
+            let entry = Entry::new(&mut self.highs, moment, age, slot);
             let last = self.count;
             self.count += 1;
-            rise(&mut self.heap, &mut self.places, self.count, last, entry);
+            rise(
+                &self.highs,
+                &mut self.heap,
+                &mut self.places,
+                self.count,
+                last,
+                entry,
+            );
             return;
         };
-        if keeps(&self.heap[place], moment, turn) {
+        let old = self.heap[place];
+        let was = old.moment(&self.highs);
+        if keeps(was, old.age, moment, turn) {
             return;
         }
         let age = take_age(&mut self.next_age, turn);
-        let entry = Entry { moment, age, slot };
-        renew(&mut self.heap, &mut self.places, self.count, place, entry);
+        let entry = Entry::new(&mut self.highs, moment, age, slot);
+        let (heap, places) = (&mut self.heap, &mut self.places);
+        renew(
+            &self.highs,
+            heap,
+            places,
+            self.count,
+            place,
+            entry,
+            was,
+            moment,
+        );
     }
 
     /// Takes the moment of a slot away.
@@ -135,7 +160,14 @@ impl IndexedHeap {
             return;
         }
         let last = self.heap[self.count];
-        settle(&mut self.heap, &mut self.places, self.count, place, last);
+        settle(
+            &self.highs,
+            &mut self.heap,
+            &mut self.places,
+            self.count,
+            place,
+            last,
+        );
     }
 
     /// Takes all moments away, in time linear in the slots.
@@ -143,6 +175,7 @@ impl IndexedHeap {
         ensures { self.new ≡ replicate (length self.old) None }
     {
         wipe_places(&mut self.places);
+        self.highs.wipe();
         self.count = 0;
     }
 }

@@ -6,6 +6,7 @@
 
 mod entry;
 mod heap;
+mod highs;
 mod item;
 mod law;
 mod order;

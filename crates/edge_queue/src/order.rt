@@ -1,99 +1,132 @@
-ghost use Rattle.std.specs.Prelude.{◌≡◌, ℕ, ◌+◌, ◌-◌, ◌*◌, ◌/◌, ◌<◌, ◌≤◌, ◌^◌, ◌≤ℤ◌, IfSome, IfNone, length, true, false};
-ghost use Rattle.edge_queue.specs.Heaps.{key, ranked, IsLaterParent, IsEarlierOf, IsLeastOf, IsEarlierChild, NoEarlierChild};
+ghost use Rattle.std.specs.Prelude.{◌≡◌, ℕ, ◌+◌, ◌-◌, ◌*◌, ◌/◌, ◌<◌, ◌≤◌, ◌^◌, ◌≤ℤ◌, pos, IfSome, IfNone, length, true, false};
+ghost use Rattle.edge_queue.specs.Heaps.{joined, key, moment_in, IsLaterParent, IsEarlierOf, IsLeastOf, IsEarlierChild, NoEarlierChild};
 
 use crate::entry::Entry;
+use crate::highs::Highs;
 
-/// The moment and the age of an entry in one number, so that one comparison orders two entries.
-fn rank(entry: &Entry) -> i128
-    ensures rank { result ≡ ranked entry.now }
+/// The low half of the moment of an entry and its age in one number, so that one comparison orders
+/// two entries whose high halves are the same.
+fn low_rank(entry: &Entry) -> u128
+    ensures rank { result ≡ 18446744073709551616 * entry.now.low + entry.now.age }
+    ensures low { entry.now.low < 2 ^ 64 }
     ensures age { entry.now.age < 2 ^ 32 }
 {
-    18_446_744_073_709_551_616 * i128::from(entry.moment) + i128::from(entry.age)
+    18_446_744_073_709_551_616 * u128::from(entry.low) + u128::from(entry.age)
+}
+
+/// Whether an entry stands before another one, where the high halves of both moments are 0.
+#[tactic(auto, unfolding(crate::specs::Heaps::joined))]
+fn low_before(a: &Entry, b: &Entry) -> bool
+    ensures before { result ≡ true → joined (pos 0) a.now.low ≤ℤ joined (pos 0) b.now.low }
+    ensures after { result ≡ false → joined (pos 0) b.now.low ≤ℤ joined (pos 0) a.now.low }
+{
+    low_rank(a) < low_rank(b)
+}
+
+/// Whether an entry stands before another one, where high halves may differ.
+#[tactic(auto, unfolding(crate::specs::Heaps::joined))]
+fn wide_before(highs: &Highs, a: &Entry, b: &Entry) -> bool
+    ensures before { result ≡ true → moment_in highs.now a.now ≤ℤ moment_in highs.now b.now }
+    ensures after { result ≡ false → moment_in highs.now b.now ≤ℤ moment_in highs.now a.now }
+{
+    let (high, other_high) = (highs.of(a.slot), highs.of(b.slot));
+    let (one, other) = (low_rank(a), low_rank(b));
+    if high == other_high {
+        one < other
+    } else {
+        high < other_high
+    }
 }
 
 /// Whether an entry stands before another one: its moment is less, or it is the same and was set
 /// earlier.
-fn comes_before(a: &Entry, b: &Entry) -> bool
-    ensures before { result ≡ true → a.now.moment ≤ℤ b.now.moment }
-    ensures after { result ≡ false → b.now.moment ≤ℤ a.now.moment }
+fn comes_before(highs: &Highs, a: &Entry, b: &Entry) -> bool
+    ensures before { result ≡ true → moment_in highs.now a.now ≤ℤ moment_in highs.now b.now }
+    ensures after { result ≡ false → moment_in highs.now b.now ≤ℤ moment_in highs.now a.now }
 {
-    if rank(a) < rank(b) {
-        return true;
+    if highs.is_wide() {
+        return wide_before(highs, a, b);
     }
-    false
+    low_before(a, b)
 }
 
 /// The parent of a place, where an entry at this place stands before it.
-pub(crate) fn later_parent(heap: &[Entry], place: usize, entry: &Entry) -> Option<usize>
+pub(crate) fn later_parent(
+    highs: &Highs,
+    heap: &[Entry],
+    place: usize,
+    entry: &Entry,
+) -> Option<usize>
     requires { place < length heap.now }
-    ensures some { IfSome result (IsLaterParent (key heap.now) entry.now.moment place) }
-    ensures none { IfNone result (0 < place → key heap.now ((place - 1) / 4) ≤ℤ entry.now.moment) }
+    ensures some { IfSome result (IsLaterParent (key highs.now heap.now) (moment_in highs.now entry.now) place) }
+    ensures none { IfNone result (0 < place → key highs.now heap.now ((place - 1) / 4) ≤ℤ moment_in highs.now entry.now) }
 {
     if place == 0 {
         return None;
     }
     let parent = (place - 1) / 4;
-    if comes_before(entry, &heap[parent]) {
+    if comes_before(highs, entry, &heap[parent]) {
         return Some(parent);
     }
     None
 }
 
 /// Of a place and a later one, where that is below the count, the one whose entry stands first.
-fn earlier_of(heap: &[Entry], count: usize, first: usize, next: usize) -> usize
+fn earlier_of(highs: &Highs, heap: &[Entry], count: usize, first: usize, next: usize) -> usize
     requires within { first < count }
     requires few { count ≤ length heap.now }
-    ensures { IsEarlierOf (key heap.now) count first next result }
+    ensures { IsEarlierOf (key highs.now heap.now) count first next result }
 {
     if next >= count {
         return first;
     }
-    if comes_before(&heap[next], &heap[first]) {
+    if comes_before(highs, &heap[next], &heap[first]) {
         return next;
     }
     first
 }
 
 /// Of two places the one whose entry stands first.
-fn earlier_within(heap: &[Entry], first: usize, next: usize) -> usize
+fn earlier_within(highs: &Highs, heap: &[Entry], first: usize, next: usize) -> usize
     requires first { first < length heap.now }
     requires next { next < length heap.now }
-    ensures { IsEarlierOf (key heap.now) (length heap.now) first next result }
+    ensures { IsEarlierOf (key highs.now heap.now) (length heap.now) first next result }
 {
-    if comes_before(&heap[next], &heap[first]) {
+    if comes_before(highs, &heap[next], &heap[first]) {
         return next;
     }
     first
 }
 
 /// Of four places side by side the one whose entry stands first, two by two.
-fn least_of_pairs(heap: &[Entry], left: usize) -> usize
+fn least_of_pairs(highs: &Highs, heap: &[Entry], left: usize) -> usize
     requires within { left + 3 < length heap.now }
     requires small { length heap.now < 2 ^ 32 }
-    ensures { IsLeastOf (key heap.now) (length heap.now) left 4 result }
+    ensures { IsLeastOf (key highs.now heap.now) (length heap.now) left 4 result }
 {
     let four = &heap[left..left + 4];
-    let of_first = earlier_within(four, 0, 1);
-    let of_last = earlier_within(four, 2, 3);
-    left + earlier_within(four, of_first, of_last)
+    let of_first = earlier_within(highs, four, 0, 1);
+    let of_last = earlier_within(highs, four, 2, 3);
+    left + earlier_within(highs, four, of_first, of_last)
 }
 
 /// Of four places side by side, those below the count, the one whose entry stands first.
-fn least_of_four(heap: &[Entry], count: usize, left: usize) -> usize
+fn least_of_four(highs: &Highs, heap: &[Entry], count: usize, left: usize) -> usize
     requires within { left < count }
     requires few { count ≤ length heap.now }
     requires small { length heap.now < 2 ^ 32 }
-    ensures { IsLeastOf (key heap.now) count left 4 result }
+    ensures { IsLeastOf (key highs.now heap.now) count left 4 result }
 {
     if left + 3 < count {
-        return least_of_pairs(heap, left);
+        return least_of_pairs(highs, heap, left);
     }
-    let of_two = earlier_of(heap, count, left, left + 1);
-    earlier_of(heap, count, of_two, left + 2)
+    let of_two = earlier_of(highs, heap, count, left, left + 1);
+    earlier_of(highs, heap, count, of_two, left + 2)
 }
 
 /// The child of a place that stands first, where it stands before an entry at this place.
 pub(crate) fn earlier_child(
+    highs: &Highs,
     heap: &[Entry],
     count: usize,
     place: usize,
@@ -102,15 +135,15 @@ pub(crate) fn earlier_child(
     requires within { place < count }
     requires few { count ≤ length heap.now }
     requires small { length heap.now < 2 ^ 32 }
-    ensures some { IfSome result (IsEarlierChild (key heap.now) entry.now.moment count place) }
-    ensures none { IfNone result (NoEarlierChild (key heap.now) entry.now.moment count place) }
+    ensures some { IfSome result (IsEarlierChild (key highs.now heap.now) (moment_in highs.now entry.now) count place) }
+    ensures none { IfNone result (NoEarlierChild (key highs.now heap.now) (moment_in highs.now entry.now) count place) }
 {
     let left = place * 4 + 1;
     if left >= count {
         return None;
     }
-    let child = least_of_four(heap, count, left);
-    if comes_before(&heap[child], entry) {
+    let child = least_of_four(highs, heap, count, left);
+    if comes_before(highs, &heap[child], entry) {
         return Some(child);
     }
     None

@@ -46,7 +46,7 @@ impl EdgeQueue {
     }
 
     /// The moment of an item. Any number may be asked for, in constant time.
-    pub fn moment(&self, item: Item) -> Option<i64>
+    pub fn moment(&self, item: Item) -> Option<i128>
         ensures { result ≡ moment_of self.now item }
     {
         if !is_numbered(self.edges, self.nodes, &item) {
@@ -58,7 +58,7 @@ impl EdgeQueue {
     /// An item whose moment is least, and its moment, in constant time. Of equal moments any may be
     /// given; it is an early one if there is one, and of those the one that was given its moment
     /// first.
-    pub fn least(&self) -> Option<(Item, i64)>
+    pub fn least(&self) -> Option<(Item, i128)>
         ensures { IsLeast self.now result }
     {
         let (slot, moment) = self.heap.least()?;
@@ -68,7 +68,7 @@ impl EdgeQueue {
     /// Gives an item this moment, whether it had one or not, in time logarithmic in the number of
     /// moments, and in constant time where it has it already. `turn` only says which of equal
     /// moments `least` answers.
-    pub fn set(&mut self, item: Item, moment: i64, turn: Turn)
+    pub fn set(&mut self, item: Item, moment: i128, turn: Turn)
         requires { IsItem self.old item }
         ensures { self.new ≡ with_moment self.old item (Some moment) }
     {

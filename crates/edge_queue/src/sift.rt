@@ -1,12 +1,14 @@
-ghost use Rattle.std.specs.Prelude.{◌<◌, slice_set};
-ghost use Rattle.edge_queue.specs.Heaps.{key, AreTables, IsHeap, IsHeapBut, IsRising, IsSinking, IsMended};
+ghost use Rattle.std.specs.Prelude.{◌<◌, ◌≤ℤ◌, slice_set};
+ghost use Rattle.edge_queue.specs.Heaps.{key, AreTables, IsHeapBut, IsRising, IsSinking, IsMended};
 
 use crate::entry::Entry;
+use crate::highs::Highs;
 use crate::order::{earlier_child, later_parent};
 use crate::tables::put;
 
 /// Puts an entry at a place that is free, or above it, where its parent stands before it.
 pub(crate) fn rise(
+    highs: &Highs,
     heap: &mut Vec<Entry>,
     places: &mut Vec<u32>,
     count: usize,
@@ -15,11 +17,11 @@ pub(crate) fn rise(
 )
     requires tables { AreTables (slice_set heap.old.items start entry) (slice_set places.old.items entry.slot start) count }
     requires start { start < count }
-    requires order { IsRising (key (slice_set heap.old.items start entry)) start count }
-    ensures { IsMended (slice_set heap.old.items start entry) (slice_set places.old.items entry.slot start) heap.new.items places.new.items count }
+    requires order { IsRising (key highs.now (slice_set heap.old.items start entry)) start count }
+    ensures { IsMended highs.now (slice_set heap.old.items start entry) (slice_set places.old.items entry.slot start) heap.new.items places.new.items count }
 {
     let mut place = start;
-    while let Some(parent) = later_parent(heap, place, &entry) {
+    while let Some(parent) = later_parent(highs, heap, place, &entry) {
         let above = heap[parent];
         put(heap, places, place, above);
         place = parent;
@@ -28,14 +30,21 @@ pub(crate) fn rise(
 }
 
 /// Puts an entry at a place that is free, or below it, where it stands before its children.
-fn sink(heap: &mut Vec<Entry>, places: &mut Vec<u32>, count: usize, start: usize, entry: Entry)
+fn sink(
+    highs: &Highs,
+    heap: &mut Vec<Entry>,
+    places: &mut Vec<u32>,
+    count: usize,
+    start: usize,
+    entry: Entry,
+)
     requires tables { AreTables (slice_set heap.old.items start entry) (slice_set places.old.items entry.slot start) count }
     requires start { start < count }
-    requires order { IsSinking (key (slice_set heap.old.items start entry)) start count }
-    ensures { IsMended (slice_set heap.old.items start entry) (slice_set places.old.items entry.slot start) heap.new.items places.new.items count }
+    requires order { IsSinking (key highs.now (slice_set heap.old.items start entry)) start count }
+    ensures { IsMended highs.now (slice_set heap.old.items start entry) (slice_set places.old.items entry.slot start) heap.new.items places.new.items count }
 {
     let mut place = start;
-    while let Some(child) = earlier_child(heap, count, place, &entry) {
+    while let Some(child) = earlier_child(highs, heap, count, place, &entry) {
         let below = heap[child];
         put(heap, places, place, below);
         place = child;
@@ -46,6 +55,7 @@ fn sink(heap: &mut Vec<Entry>, places: &mut Vec<u32>, count: usize, start: usize
 /// Puts an entry where it belongs: at a place that is free, above or below it, where all others are
 /// in order.
 pub(crate) fn settle(
+    highs: &Highs,
     heap: &mut Vec<Entry>,
     places: &mut Vec<u32>,
     count: usize,
@@ -54,32 +64,37 @@ pub(crate) fn settle(
 )
     requires tables { AreTables (slice_set heap.old.items place entry) (slice_set places.old.items entry.slot place) count }
     requires place { place < count }
-    requires order { IsHeapBut (key (slice_set heap.old.items place entry)) place count }
-    ensures { IsMended (slice_set heap.old.items place entry) (slice_set places.old.items entry.slot place) heap.new.items places.new.items count }
+    requires order { IsHeapBut (key highs.now (slice_set heap.old.items place entry)) place count }
+    ensures { IsMended highs.now (slice_set heap.old.items place entry) (slice_set places.old.items entry.slot place) heap.new.items places.new.items count }
 {
-    if let Some(_) = later_parent(heap, place, &entry) {
-        rise(heap, places, count, place, entry);
+    if let Some(_) = later_parent(highs, heap, place, &entry) {
+        rise(highs, heap, places, count, place, entry);
         return;
     }
-    sink(heap, places, count, place, entry);
+    sink(highs, heap, places, count, place, entry);
 }
 
-/// Gives the entry at a place another moment: it rises where that is no later, and else it sinks.
+/// Puts an entry at a place where that of the same slot stood: it sinks where its moment is later
+/// than it was, and else it rises.
 pub(crate) fn renew(
+    highs: &Highs,
     heap: &mut Vec<Entry>,
     places: &mut Vec<u32>,
     count: usize,
     place: usize,
     entry: Entry,
+    was: i128,
+    moment: i128,
 )
     requires tables { AreTables (slice_set heap.old.items place entry) (slice_set places.old.items entry.slot place) count }
     requires place { place < count }
-    requires order { IsHeap (key heap.old.items) count }
-    ensures { IsMended (slice_set heap.old.items place entry) (slice_set places.old.items entry.slot place) heap.new.items places.new.items count }
+    requires later { was ≤ℤ moment → IsSinking (key highs.now (slice_set heap.old.items place entry)) place count }
+    requires sooner { moment ≤ℤ was → IsRising (key highs.now (slice_set heap.old.items place entry)) place count }
+    ensures { IsMended highs.now (slice_set heap.old.items place entry) (slice_set places.old.items entry.slot place) heap.new.items places.new.items count }
 {
-    if heap[place].moment < entry.moment {
-        sink(heap, places, count, place, entry);
+    if was < moment {
+        sink(highs, heap, places, count, place, entry);
         return;
     }
-    rise(heap, places, count, place, entry);
+    rise(highs, heap, places, count, place, entry);
 }

@@ -13,7 +13,7 @@ pub(crate) fn fresh_entries(alloc: Global, n: u32) -> Result<Vec<Entry>, OutOfMe
     ensures { IfOk result (λ v. vec_len v ≡ n) }
 {
     let blank = Entry {
-        moment: 0,
+        low: 0,
         age: 0,
         slot: 0,
     };

@@ -30,10 +30,15 @@ fn fill(queue: &mut EdgeQueue, start: u64) -> u64
         state = next(state);
         let edge = ((state >> 33) % u64::from(EDGES)) as u32 + 1;
         state = next(state);
-        let moment = ((state >> 33) % MOMENTS) as i64;
+        let moment = ((state >> 33) % MOMENTS) as i128;
         queue.set(Item::Edge(EdgeId::new(edge)), moment, Turn::Late);
     }
     state
+}
+
+/// The lower 64 bits of a moment.
+fn low_bits(moment: i128) -> u64 {
+    (moment.cast_unsigned() % (1 << 64)) as u64
 }
 
 /// Takes the least moments away until none is left, and answers the checksum with them.
@@ -49,7 +54,7 @@ fn drain(queue: &mut EdgeQueue, start: u64) -> u64
         if let Item::Edge(edge) = item {
             sum = sum.wrapping_mul(31).wrapping_add(u64::from(edge.number()));
         }
-        sum = sum.wrapping_mul(31).wrapping_add(moment.cast_unsigned());
+        sum = sum.wrapping_mul(31).wrapping_add(low_bits(moment));
         queue.remove(item);
     }
     sum

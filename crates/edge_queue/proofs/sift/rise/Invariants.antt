@@ -5,8 +5,8 @@ use Rattle.edge_queue.proofs.sift.rise.Given as goal
 
 abbrev pub invariant-loop-parent : goal.invariant-loop-parent
 invariant-loop-parent l = record {
-  sifting : IsSifting (set l.fn.heap.items l.start l.entry) (set l.fn.places.items l.entry.slot l.start) l.heap.items l.places.items l.count l.place l.entry;
-  order : IsRising (key (set l.heap.items l.place l.entry)) l.place l.count;
+  sifting : IsSifting l.highs (set l.fn.heap.items l.start l.entry) (set l.fn.places.items l.entry.slot l.start) l.heap.items l.places.items l.count l.place l.entry;
+  order : IsRising (key l.highs (set l.heap.items l.place l.entry)) l.place l.count;
 }
 
 abbrev pub decreases-loop-parent : goal.decreases-loop-parent

@@ -5,8 +5,8 @@ use Rattle.edge_queue.proofs.sift.sink.Given as goal
 
 abbrev pub invariant-loop-child : goal.invariant-loop-child
 invariant-loop-child l = record {
-  sifting : IsSifting (set l.fn.heap.items l.start l.entry) (set l.fn.places.items l.entry.slot l.start) l.heap.items l.places.items l.count l.place l.entry;
-  order : IsSinking (key (set l.heap.items l.place l.entry)) l.place l.count;
+  sifting : IsSifting l.highs (set l.fn.heap.items l.start l.entry) (set l.fn.places.items l.entry.slot l.start) l.heap.items l.places.items l.count l.place l.entry;
+  order : IsSinking (key l.highs (set l.heap.items l.place l.entry)) l.place l.count;
 }
 
 abbrev pub decreases-loop-child : goal.decreases-loop-child

@@ -9,5 +9,5 @@ pub returns : goal.returns
 returns c =
     let a = c.self.inside in
     let long : length c.wipe_places.new.places.items ≡ length a.places.items = omega (arith, ap length c.wipe_places.ensures, length-replicate (vec_len a.places) absent, a.places.ok.0) in
-    none_held a.heap.items c.wipe_places.new.places.items
-    ∙ ap (λ n. let l : List (Option ℤ) = replicate n None in l) (long ∙ sym (length-map a.places.items (held a.count a.heap.items)) ∙ ap length c.self.view_is)
+    none_held c.wipe.new.self a.heap.items c.wipe_places.new.places.items
+    ∙ ap (λ n. let l : List (Option ℤ) = replicate n None in l) (long ∙ sym (length-map a.places.items (held a.highs a.count a.heap.items)) ∙ ap length c.self.view_is)

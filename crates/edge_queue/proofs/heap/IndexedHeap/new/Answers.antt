@@ -8,4 +8,4 @@ use Rattle.edge_queue.proofs.heap.IndexedHeap.new.Goals as goal
 pub returns : goal.returns
 returns c =
     let long : length c.in_ok-places.places.items ≡ c.args.size = ap length c.in_ok-places.ensures ∙ length-replicate c.args.size absent in
-    none_held c.in_ok-heap.heap.items c.in_ok-places.places.items ∙ ap (λ n. let l : List (Option ℤ) = replicate n None in l) long
+    none_held c.in_ok-highs.highs c.in_ok-heap.heap.items c.in_ok-places.places.items ∙ ap (λ n. let l : List (Option ℤ) = replicate n None in l) long

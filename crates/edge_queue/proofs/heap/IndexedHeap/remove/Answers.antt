@@ -12,7 +12,7 @@ returns-in_default c =
     let a = c.self.inside in
     let within : c.args.slot < length a.heap.items = slot_within a c.args.self.now c.args.slot c.self.invariant c.self.view_is c.requires in
     subst (λ (xs : List (Option ℤ)). xs ≡ set xs c.args.slot None) c.self.view_is
-    (absent_entries a.heap.items a.places.items a.count c.args.slot (omega (arith, within, c.self.invariant.tables.inverse.sizes))
+    (absent_entries a.highs a.heap.items a.places.items a.count c.args.slot (omega (arith, within, c.self.invariant.tables.inverse.sizes))
     (subst (λ l. a.count ≤ get_or l c.args.slot 0) c.deref.ensures.value c.in_default.ensures.none))
 
 -- the slot and its place
@@ -32,16 +32,17 @@ invariant_of-self c =
     let t = c.self.invariant.tables in
     record {
       tables = subst (λ l. AreTables a.heap.items l (a.count - 1)) (sym c.wipe_place.ensures.items)
-          (dropped_tables a.heap.items a.places.items a.count (a.count - 1) c.args.slot c.in-Some.place t (one_less x) (slot_in x) (here x) c.if-place-self.true);
-      order = dropped_order a.heap.items a.places.items a.count (a.count - 1) c.args.slot c.in-Some.place t (one_less x) (slot_in x) (here x) c.self.invariant.order;
+          (dropped_tables a.highs a.heap.items a.places.items a.count (a.count - 1) c.args.slot c.in-Some.place t (one_less x) (slot_in x) (here x) c.if-place-self.true);
+      order = dropped_order a.highs a.heap.items a.places.items a.count (a.count - 1) c.args.slot c.in-Some.place t (one_less x) (slot_in x) (here x) c.self.invariant.order;
+      halves = c.self.invariant.halves;
     }
 
 pub returns-then-place-self : goal.returns-then-place-self
 returns-then-place-self c =
     let x = (goal.at.returns-then-place-self c).After-wipe_place in
     let a = c.self.inside in
-    ap (λ l. map (held (a.count - 1) a.heap.items) l) c.wipe_place.ensures.items
-    ∙ dropped_entries a.heap.items a.places.items a.count (a.count - 1) c.args.slot c.in-Some.place c.self.invariant.tables (one_less x) (slot_in x) (here x) c.if-place-self.true
+    ap (λ l. map (held a.highs (a.count - 1) a.heap.items) l) c.wipe_place.ensures.items
+    ∙ dropped_entries a.highs a.heap.items a.places.items a.count (a.count - 1) c.args.slot c.in-Some.place c.self.invariant.tables (one_less x) (slot_in x) (here x) c.if-place-self.true
     ∙ ap (λ (xs : List (Option ℤ)). set xs c.args.slot None) c.self.view_is
 
 -- the last entry, which takes that place
@@ -59,14 +60,14 @@ settle-requires-clause-tables c =
     let entry = c.index-last.result.now in
     let p = c.in-Some.place in
     subst (λ l. AreTables (set a.heap.items p entry) (set l entry.slot p) (a.count - 1)) (sym c.wipe_place.ensures.items)
-    (left_tables a.heap.items a.places.items a.count (a.count - 1) c.args.slot p c.self.invariant.tables (one_less x) (slot_in x) (here x) entry (read y (last_in x)) c.if-place-self.false)
+    (left_tables a.highs a.heap.items a.places.items a.count (a.count - 1) c.args.slot p c.self.invariant.tables (one_less x) (slot_in x) (here x) entry (read y (last_in x)) c.if-place-self.false)
 
 pub settle-requires-clause-order : goal.settle-requires-clause-order
 settle-requires-clause-order c =
     let x = (goal.at.settle-requires-clause-order c).After-wipe_place in
     let y = (goal.at.settle-requires-clause-order c).After-index-last in
     let a = c.self.inside in
-    left_order a.heap.items a.places.items a.count (a.count - 1) c.args.slot c.in-Some.place c.self.invariant.tables (one_less x) (slot_in x) (here x) c.index-last.result.now
+    left_order a.highs a.heap.items a.places.items a.count (a.count - 1) c.args.slot c.in-Some.place c.self.invariant.tables (one_less x) (slot_in x) (here x) c.index-last.result.now
     (read y (last_in x)) c.if-place-self.false c.self.invariant.order
 
 pub returns : goal.returns
@@ -76,8 +77,8 @@ returns c =
     let a = c.self.inside in
     let entry = c.index-last.result.now in
     let p = c.in-Some.place in
-    let mended = subst (λ l. IsMended (set a.heap.items p entry) (set l entry.slot p) c.settle.new.heap.items c.settle.new.places.items (a.count - 1))
+    let mended = subst (λ l. IsMended a.highs (set a.heap.items p entry) (set l entry.slot p) c.settle.new.heap.items c.settle.new.places.items (a.count - 1))
     c.wipe_place.ensures.items c.settle.ensures in
-    left_entries a.heap.items a.places.items a.count (a.count - 1) c.args.slot p c.self.invariant.tables (one_less x) (slot_in x) (here x) entry (read y (last_in x)) c.if-place-self.false
+    left_entries a.highs a.heap.items a.places.items a.count (a.count - 1) c.args.slot p c.self.invariant.tables (one_less x) (slot_in x) (here x) entry (read y (last_in x)) c.if-place-self.false
     c.settle.new.heap.items c.settle.new.places.items mended
     ∙ ap (λ (xs : List (Option ℤ)). set xs c.args.slot None) c.self.view_is
