@@ -247,13 +247,13 @@ ends_of n bs e nested few within = record {
 pub ends_turned : (n : ℕ) (bs : List Blossom) (u v : ℕ) → IsEnds n bs u v → IsEnds n bs v u
 ends_turned n bs u v h = record { nested = h.nested; few = h.few; u_is = h.v_is; v_is = h.u_is; differ = λ e. h.differ (sym e) }
 
-pub chain_few : (n : ℕ) (bs : List Blossom) (u v : ℕ) → IsEnds n bs u v → length (chain_of bs u) ≤ 2050
+pub chain_few : (n : ℕ) (bs : List Blossom) (u v : ℕ) → IsEnds n bs u v → length (chain_of bs u) ≤ GRAPH_VERTEX_LIMIT
 chain_few n bs u v h =
     let size : length (chain_of bs u) ≡ length (holders bs u v) + length (sharers bs u v) = ap length (chain_split n bs u v h.nested h.u_is h.v_is)
     ∙ length-append (holders bs u v) (sharers bs u v) in
     omega (arith, size, forks_few bs u v, blossoms_few n bs h.nested, h.few)
 
-pub holders_few : (n : ℕ) (bs : List Blossom) (u v : ℕ) → IsEnds n bs u v → length (holders bs u v) + length (holders bs v u) ≤ 2050
+pub holders_few : (n : ℕ) (bs : List Blossom) (u v : ℕ) → IsEnds n bs u v → length (holders bs u v) + length (holders bs v u) ≤ GRAPH_VERTEX_LIMIT
 holders_few n bs u v h = omega (arith, forks_few bs u v, blossoms_few n bs h.nested, h.few)
 
 pub chains_fork : (n : ℕ) (bs : List Blossom) (u v k l : ℕ) → IsEnds n bs u v → k ≡ length (chain_of bs u) - length (chain_of bs v)
@@ -308,7 +308,7 @@ cut_level n bs u v k l left right h s c =
 pub record AreCounts (bs : List Blossom) (u v a b : ℕ) : Type 0 where
   pub left : a ≡ length (holders bs u v)
   pub right : b ≡ length (holders bs v u)
-  pub few : a + b ≤ 2050
+  pub few : a + b ≤ GRAPH_VERTEX_LIMIT
 
 pub counts : (n : ℕ) (bs : List Blossom) (u v k l same : ℕ) (left right : List ℕ) → IsEnds n bs u v → AreSurplus bs u v k l
     → AreCut bs u v k l left right → same ≡ apart left right

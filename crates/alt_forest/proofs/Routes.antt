@@ -1,9 +1,10 @@
 -- Two ways to roots: once they have come together they stay together, so two that are as long come together at one place.
-use Rattle.std.proofs.Common.{◌≡◌, ◌≢◌, ◌↔◌, ℕ, zero, suc, ◌+◌, ◌-◌, ◌<◌, ◌≤◌, true, false, ◌||◌, eqb, leb, cond, List, [], ◌∷◌, length, drop}
+use Rattle.std.proofs.Common.{◌≡◌, ◌≢◌, ◌↔◌, ℕ, zero, suc, ◌+◌, ◌*◌, ◌-◌, ◌<◌, ◌≤◌, true, false, ◌||◌, eqb, leb, cond, List, [], ◌∷◌, length, drop}
 use Rattle.std.proofs.Common.{take, Option, Some, None, refl, sym, ap, ap₂, ◌∙◌, subst, arith, ⊎_elim}
 use Rattle.std.specs.Prelude.{MatchOption, IfSome}
 use Rattle.std.proofs.lemmas.List.{drop-drop}
 use Rattle.std.proofs.lemmas.Bool.{leb-true, leb-false, or_cases, or_from, or_left, or_right, both_ways, eqb-true, eqb-false, eq-eqb, ne_eqb, false_from_ne_true}
+use Rattle.graph_theory.specs.declared.limits.TheConstants.{GRAPH_VERTEX_LIMIT}
 use Rattle.graph_theory.specs.Parts.{holds}
 use Rattle.blossom_arena.proofs.Lists.{by_test, first_in}
 use Rattle.blossom_arena.specs.Family.{IsNested}
@@ -239,7 +240,7 @@ path_route s depth nested h (suc k) a low is = by_test (eqb a 0)
 pub way_route : (s : Search) (a : ℕ) → IsSound s → IsOutermost (state_of s) a → IsRoute (path_of (state_of s)) (path_of (state_of s) a)
 way_route s a h is = path_route (state_of s) h.depth (nested_of s h.shape) h.state (h.depth a + 1) a (omega arith) (λ ne. is)
 
-pub way_few : (s : Search) (a : ℕ) → IsSound s → IsOutermost (state_of s) a → length (path_of (state_of s) a) ≤ 8192
+pub way_few : (s : Search) (a : ℕ) → IsSound s → IsOutermost (state_of s) a → length (path_of (state_of s) a) ≤ 2 * GRAPH_VERTEX_LIMIT
 way_few s a h is = omega (arith, path_short (node_limit s.graph.vertices + 1) (state_of s) h.depth a (nested_of s h.shape) h.state is, h.shape.graph.limits.vertices)
 
 -- two ways to one node differ as what is left of them from there on

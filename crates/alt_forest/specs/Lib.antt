@@ -7,6 +7,7 @@ pub mod Events
 pub mod Counts
 pub mod IncidentEdges
 pub mod Searches
+pub mod Blank
 pub mod Routes
 pub mod Chains
 pub mod Ends

@@ -32,11 +32,11 @@ struct Near {
     node: NodeId,
     label: Label,
     seed: u32,
-    dual_sum: i64,
+    dual_sum: i128,
 }
 
 /// Half of an even number that is not below 0.
-fn half(twice: i64) -> i64
+fn half(twice: i128) -> i128
     requires low { pos 0 ≤ℤ twice }
     ensures half { (x : ℤ) → twice ≡ x +ℤ x → result ≡ x }
     ensures least { pos 0 ≤ℤ result }
@@ -46,19 +46,19 @@ fn half(twice: i64) -> i64
 }
 
 /// The clock at which so much slack, or so much of a dual, is used up.
-fn moment_after(clock: i64, left: i64) -> i64
+fn moment_after(clock: i64, left: i128) -> i128
     requires low { pos 0 ≤ℤ clock }
     requires high { clock ≤ℤ NUMBER_LIMIT }
     requires left_low { pos 0 ≤ℤ left }
     requires left_high { left ≤ℤ (NUMBER_LIMIT *ℤ pos (2 * GRAPH_VERTEX_LIMIT + 1)) }
     ensures { result ≡ clock +ℤ left }
 {
-    clock + left
+    i128::from(clock) + left
 }
 
 /// The slack of an edge to another outermost node: no blossom holds both its ends, so the duals of
 /// all nodes that hold either of them count.
-fn slack_to(search: &Search, near: &Near, incident: &IncidentEdge) -> i64
+fn slack_to(search: &Search, near: &Near, incident: &IncidentEdge) -> i128
     requires sound { IsSound search.now }
     requires near { IsNear (state_of search.now) near.now }
     requires incident { IsIncidentEdge search.now.graph near.now.vertex incident.now }
@@ -67,7 +67,8 @@ fn slack_to(search: &Search, near: &Near, incident: &IncidentEdge) -> i64
     ensures low { pos 0 ≤ℤ result }
     ensures high { result ≤ℤ (NUMBER_LIMIT *ℤ pos (2 * GRAPH_VERTEX_LIMIT + 1)) }
 {
-    doubled(search.weights, incident.weight) - (near.dual_sum + search.arena.dual_sum(incident.far))
+    i128::from(doubled(search.weights, incident.weight))
+        - (near.dual_sum + search.arena.dual_sum(incident.far))
 }
 
 /// The moment that an edge needs in the queue, if it needs one, where the outermost node at its far
@@ -78,7 +79,7 @@ fn moment_for(
     incident: &IncidentEdge,
     node: NodeId,
     label: Label,
-) -> Option<i64>
+) -> Option<i128>
     requires sound { IsSound search.now }
     requires low { pos 0 ≤ℤ search.now.clock }
     requires high { search.now.clock ≤ℤ NUMBER_LIMIT }
@@ -257,7 +258,7 @@ impl Search {
             return;
         }
         if self.label(node) == Label::Inner {
-            let moment = moment_after(self.clock, self.arena.dual(node));
+            let moment = moment_after(self.clock, i128::from(self.arena.dual(node)));
             self.queue.set(Item::Blossom(node), moment, Turn::Late);
         }
     }

@@ -1,4 +1,4 @@
-ghost use Rattle.std.specs.Prelude.{◌≡◌, ◌≢◌, ◌<◌, ◌+◌, ◌^◌, ◌↔◌, ℕ, true, false, None, Some, IfNone, IfSome, drop, take, length};
+ghost use Rattle.std.specs.Prelude.{◌≡◌, ◌≢◌, ◌+◌, ◌↔◌, ℕ, true, false, None, Some, IfNone, IfSome, drop, take, length};
 ghost use Rattle.graph_theory.specs.Parts.{holds};
 ghost use Rattle.blossom_arena.specs.declared.label.Label.TheVariants.{Out};
 ghost use Rattle.alt_forest.specs.State.{IsOutermost};
@@ -13,18 +13,6 @@ use blossom_arena::NodeId;
 /// How many nodes deep a path is searched first for the place where it meets another one. Each
 /// search in vain is followed by one that goes twice as deep.
 const FIRST_REACH: u32 = 16;
-
-/// How many nodes a path has.
-fn count(path: RootPath<'_>) -> u32
-    requires { length path < 2 ^ 32 }
-    ensures { result ≡ length path.entry }
-{
-    let mut nodes = 0;
-    for _ in path {
-        nodes += 1;
-    }
-    nodes
-}
 
 /// A path without its first nodes.
 fn shortened(path: RootPath<'_>, nodes: u32) -> RootPath<'_>
@@ -81,7 +69,8 @@ fn heights(search: &Search, a: NodeId, b: NodeId) -> (u32, u32)
     loop {
         let (left, next) = counted(search.path_to_root(a), reach);
         let Some(node) = next else {
-            return (left, count(search.path_to_root(b)));
+            let (right, _) = counted(search.path_to_root(b), u32::MAX);
+            return (left, right);
         };
         if let Some(right) = place_of(search.path_to_root(b), node, 2 * reach) {
             return (left, right);

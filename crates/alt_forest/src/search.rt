@@ -12,7 +12,7 @@ ghost use Rattle.alt_forest.specs.Standing.{IsStanding};
 use crate::incident_edges::IncidentEdges;
 use crate::listing::vertex_within;
 use crate::standing::Standing;
-use crate::starts::{NodeLists, RoomLists, copied, give_duals, node_lists, room_lists};
+use crate::starts::{SearchLists, SearchParts, give_duals, search_parts};
 use crate::tables::{label_of, set_label, wipe_edges, wipe_labels};
 use crate::weights::Weights;
 use blossom_arena::{Arena, Label, Link, NodeId};
@@ -83,32 +83,27 @@ impl Search {
         ensures queued { IfOk result IsQueued }
         ensures standing { IfOk result IsStanding }
     {
-        let copy = copied(alloc, graph)?;
-        let incidence = IncidentEdges::of(alloc, &copy)?;
         let arena = Arena::new(alloc, graph.vertices())?;
-        let limit = arena.node_limit();
-        let queue = EdgeQueue::new(alloc, graph.edges(), limit)?;
-        let NodeLists {
-            labels,
-            parents,
-            mates,
-        } = node_lists(alloc, limit as usize + 1)?;
-        let standing = Standing::new(alloc, limit)?;
-        let RoomLists { circuit, scanned } = room_lists(alloc, graph.vertices() as usize)?;
+        let SearchParts { kept, queue, lists } = search_parts(alloc, graph, arena.node_limit())?;
+        let SearchLists {
+            nodes,
+            room,
+            standing,
+        } = lists;
         Ok(Search {
             arena,
-            labels,
-            parents,
-            mates,
-            circuit,
-            graph: copy,
+            labels: nodes.labels,
+            parents: nodes.parents,
+            mates: nodes.mates,
+            circuit: room.circuit,
+            graph: kept.graph,
             weights: Weights::Zero,
             start: 0,
             queue,
-            incidence,
+            incidence: kept.incidence,
             clock: 0,
             standing,
-            scanned,
+            scanned: room.scanned,
         })
     }
 

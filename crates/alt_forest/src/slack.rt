@@ -73,7 +73,7 @@ fn dual_or_zero(arena: &Arena, node: Option<NodeId>) -> i64
 }
 
 /// The duals of the first nodes of a chain, added up.
-fn total(arena: &Arena, chain: Chain<'_>, nodes: u32) -> i64
+fn total(arena: &Arena, chain: Chain<'_>, nodes: u32) -> i128
     requires nodes { AllByRecursion (λ a. is_node arena.now.vertex_count arena.now.blossoms a ≡ true) chain }
     requires few { nodes ≤ GRAPH_VERTEX_LIMIT }
     ensures total { result ≡ total_of (dual_at arena.now.duals) (take nodes chain.entry) }
@@ -81,9 +81,9 @@ fn total(arena: &Arena, chain: Chain<'_>, nodes: u32) -> i64
     ensures high { result ≤ℤ (NUMBER_LIMIT *ℤ pos nodes) }
 {
     let mut rest = chain;
-    let mut sum = 0;
+    let mut sum = 0i128;
     for _ in 0..nodes {
-        sum += dual_or_zero(arena, rest.next());
+        sum += i128::from(dual_or_zero(arena, rest.next()));
     }
     sum
 }
@@ -109,7 +109,7 @@ fn holder_counts(arena: &Arena, edge: &Edge) -> (u32, u32)
 
 /// The duals of the nodes that hold exactly one end of an edge, added up along the chains of its
 /// two ends.
-fn duals_along(arena: &Arena, edge: &Edge) -> i64
+fn duals_along(arena: &Arena, edge: &Edge) -> i128
     requires { IsEdgeWithin arena.now.vertex_count edge.now }
     ensures duals_across { result ≡ duals_across (dual_at arena.now.duals) arena.now.blossoms edge.now }
     ensures low { neg_ℤ (NUMBER_LIMIT *ℤ pos GRAPH_VERTEX_LIMIT) ≤ℤ result }
@@ -121,7 +121,7 @@ fn duals_along(arena: &Arena, edge: &Edge) -> i64
 
 /// The duals of the nodes that hold exactly one end of an edge, added up: where no blossom holds
 /// both ends, all that hold either, in constant time.
-fn duals_across(arena: &Arena, edge: &Edge) -> i64
+fn duals_across(arena: &Arena, edge: &Edge) -> i128
     requires { IsEdgeWithin arena.now.vertex_count edge.now }
     ensures duals_across { result ≡ duals_across (dual_at arena.now.duals) arena.now.blossoms edge.now }
     ensures low { neg_ℤ (NUMBER_LIMIT *ℤ pos GRAPH_VERTEX_LIMIT) ≤ℤ result }
@@ -151,7 +151,7 @@ impl Search {
     /// in the pass without weights, less the duals of the nodes that hold exactly one of its ends.
     /// It looks at no edge, and takes time linear in the nodes that hold the two ends and no
     /// memory.
-    pub fn slack_by(&self, edge: &Edge) -> i64
+    pub fn slack_by(&self, edge: &Edge) -> i128
         requires shape { HasShape self.now }
         requires ends { IsEdgeWithin self.now.graph.vertices edge.now }
         requires weight { IsWeight edge.now.w }
@@ -159,12 +159,12 @@ impl Search {
         ensures same { (e : ℕ) → edge_of self.now.graph e ≡ edge.now → result ≡ slack_of (state_of self.now) e }
         ensures high { result ≤ℤ (NUMBER_LIMIT *ℤ pos (GRAPH_VERTEX_LIMIT + 1)) }
     {
-        doubled(self.weights, edge.w) - duals_across(&self.arena, edge)
+        i128::from(doubled(self.weights, edge.w)) - duals_across(&self.arena, edge)
     }
 
     /// The slack of an edge, by one look at it. It takes time linear in the nodes that hold the two
     /// ends and no memory.
-    pub fn slack<L: Ledger>(&self, graph: &Graph, e: EdgeId, steps: &mut Steps<L>) -> i64
+    pub fn slack<L: Ledger>(&self, graph: &Graph, e: EdgeId, steps: &mut Steps<L>) -> i128
         requires sound { IsSound self.now }
         requires graph { graph.now ≡ self.now.graph }
         requires edge { IsEdgeNumber graph.now e }

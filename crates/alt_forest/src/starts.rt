@@ -1,19 +1,25 @@
-ghost use Rattle.std.specs.Prelude.{◌≡◌, ◌≤◌, ℕ, ℤ, pos, true, None, [], IfOk, vec_len};
+ghost use Rattle.std.specs.Prelude.{◌≡◌, ◌≤◌, ℕ, ℤ, pos, true, None, [], IfOk, length, vec_len};
 ghost use Rattle.std.specs.Vec.{vec_capacity};
 ghost use Rattle.graph_theory.specs.declared.limits.TheConstants.{GRAPH_VERTEX_LIMIT};
 ghost use Rattle.graph_theory.specs.Graph.{IsGraph, IsWeight};
 ghost use Rattle.blossom_arena.specs.Family.{IsFamily, empty_family, is_vertex, dual_at};
 ghost use Rattle.blossom_arena.specs.declared.label.Label.TheVariants.{Out};
+ghost use Rattle.alt_forest.specs.IncidentEdges.{AreIncidentEdges};
+ghost use Rattle.alt_forest.specs.Blank.{AreBlank};
+ghost use Rattle.edge_queue.specs.Moments.{no_moments};
 ghost use Rattle.alt_forest.specs.Searches.{IsSearchGraph, edge_in, label_at};
 
+use crate::incident_edges::IncidentEdges;
+use crate::standing::Standing;
 use blossom_arena::{Arena, Label, Link, NodeId};
+use edge_queue::EdgeQueue;
 use graph_theory::GRAPH_VERTEX_LIMIT;
 use mb_base::{EdgeId, OutOfMemory, VertexId};
 use std::alloc::{AllocError, Global};
 use weighted_graph::Graph;
 
 /// The same graph once more.
-pub(crate) fn copied(alloc: Global, graph: &Graph) -> Result<Graph, OutOfMemory>
+fn copied(alloc: Global, graph: &Graph) -> Result<Graph, OutOfMemory>
     requires few { IsSearchGraph graph.now }
     ensures { IfOk result (λ copy. copy ≡ graph.now) }
 {
@@ -37,7 +43,7 @@ pub fn room_for<T: Drop>(alloc: Global, entries: usize) -> Result<Vec<T>, OutOfM
 }
 
 /// A list with no edge at each of so many places.
-pub(crate) fn no_edges(alloc: Global, places: usize) -> Result<Vec<Option<EdgeId>>, OutOfMemory>
+fn no_edges(alloc: Global, places: usize) -> Result<Vec<Option<EdgeId>>, OutOfMemory>
     ensures none { IfOk result (λ edges. (a : ℕ) → edge_in edges.items a ≡ None) }
     ensures len { IfOk result (λ edges. vec_len edges ≡ places) }
 {
@@ -53,7 +59,7 @@ pub(crate) struct NodeLists {
 }
 
 /// Lists with so many places each, where no node is in a tree or has a mate.
-pub(crate) fn node_lists(alloc: Global, places: usize) -> Result<NodeLists, OutOfMemory>
+fn node_lists(alloc: Global, places: usize) -> Result<NodeLists, OutOfMemory>
     ensures labels { IfOk result (λ l. (a : ℕ) → label_at l.labels.items a ≡ Out) }
     ensures parents { IfOk result (λ l. (a : ℕ) → edge_in l.parents.items a ≡ None) }
     ensures mates { IfOk result (λ l. (a : ℕ) → edge_in l.mates.items a ≡ None) }
@@ -79,13 +85,83 @@ pub(crate) struct RoomLists {
 }
 
 /// Empty lists with room for so many links and vertices.
-pub(crate) fn room_lists(alloc: Global, vertices: usize) -> Result<RoomLists, OutOfMemory>
+fn room_lists(alloc: Global, vertices: usize) -> Result<RoomLists, OutOfMemory>
     ensures circuit { IfOk result (λ r. vertices ≤ vec_capacity r.circuit) }
     ensures scanned { IfOk result (λ r. vertices ≤ vec_capacity r.scanned) }
 {
     let circuit = room_for(alloc, vertices)?;
     let scanned = room_for(alloc, vertices)?;
     Ok(RoomLists { circuit, scanned })
+}
+
+/// The lists of a search.
+#[derive(Drop)]
+pub(crate) struct SearchLists {
+    pub(crate) nodes: NodeLists,
+    pub(crate) room: RoomLists,
+    pub(crate) standing: Standing,
+}
+
+/// The lists of a search with nodes up to a number and so many vertices, where no node is in a tree
+/// or has a mate.
+fn search_lists(alloc: Global, limit: u32, vertices: usize) -> Result<SearchLists, OutOfMemory>
+    ensures { IfOk result (AreBlank limit vertices) }
+{
+    let room = room_lists(alloc, vertices)?;
+    let nodes = node_lists(alloc, limit as usize + 1)?;
+    let standing = Standing::new(alloc, limit)?;
+    Ok(SearchLists {
+        nodes,
+        room,
+        standing,
+    })
+}
+
+/// A copy of a graph, and its edges by vertex.
+#[derive(Drop)]
+pub(crate) struct KeptGraph {
+    pub(crate) graph: Graph,
+    pub(crate) incidence: IncidentEdges,
+}
+
+/// A copy of a graph, and its edges by vertex.
+fn kept_graph(alloc: Global, graph: &Graph) -> Result<KeptGraph, OutOfMemory>
+    requires few { IsSearchGraph graph.now }
+    ensures graph { IfOk result (λ kept. kept.graph ≡ graph.now) }
+    ensures incidence { IfOk result (λ kept. AreIncidentEdges graph.now kept.incidence) }
+{
+    let copy = copied(alloc, graph)?;
+    let incidence = IncidentEdges::of(alloc, graph)?;
+    Ok(KeptGraph {
+        graph: copy,
+        incidence,
+    })
+}
+
+/// All of a search but its arena.
+#[derive(Drop)]
+pub(crate) struct SearchParts {
+    pub(crate) kept: KeptGraph,
+    pub(crate) queue: EdgeQueue,
+    pub(crate) lists: SearchLists,
+}
+
+/// All of a search over a graph but its arena, with nodes up to a number, before there is a tree.
+pub(crate) fn search_parts(
+    alloc: Global,
+    graph: &Graph,
+    limit: u32,
+) -> Result<SearchParts, OutOfMemory>
+    requires graph { IsSearchGraph graph.now }
+    ensures graph { IfOk result (λ parts. parts.kept.graph ≡ graph.now) }
+    ensures incidence { IfOk result (λ parts. AreIncidentEdges graph.now parts.kept.incidence) }
+    ensures queue { IfOk result (λ parts. parts.queue ≡ no_moments (length graph.now.edges) limit) }
+    ensures lists { IfOk result (λ parts. AreBlank limit graph.now.vertices parts.lists) }
+{
+    let kept = kept_graph(alloc, graph)?;
+    let queue = EdgeQueue::new(alloc, graph.edges(), limit)?;
+    let lists = search_lists(alloc, limit, graph.vertices() as usize)?;
+    Ok(SearchParts { kept, queue, lists })
 }
 
 /// Gives each vertex of an arena with no blossom and all duals 0 the same dual.
@@ -99,6 +175,6 @@ pub(crate) fn give_duals(arena: &mut Arena, start: i64)
     ensures good { IsFamily arena.new }
 {
     for number in 0..arena.vertex_count() {
-        arena.add_dual(NodeId::new(number + 1), start);
+        arena.add_dual(NodeId::new(number + 1), i128::from(start));
     }
 }

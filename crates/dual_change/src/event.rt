@@ -15,9 +15,9 @@ pub enum Event {
 /// anything possible.
 #[derive(Clone, Copy, PartialEq, Eq, Debug)]
 pub enum Next {
-    Grow(EdgeId, i64),
-    Shrink(EdgeId, i64),
-    Augment(EdgeId, i64),
-    Expand(NodeId, i64),
+    Grow(EdgeId, i128),
+    Shrink(EdgeId, i128),
+    Augment(EdgeId, i128),
+    Expand(NodeId, i128),
     Stuck,
 }

@@ -23,12 +23,12 @@ use std::sync::ledger::Ledger;
 use weighted_graph::Graph;
 
 /// How far a moment lies ahead of the clock.
-fn ahead(clock: i64, moment: i64) -> i64
+fn ahead(clock: i64, moment: i128) -> i128
     requires low { pos 0 ≤ℤ clock }
     requires later { clock ≤ℤ moment }
     ensures { (d : ℤ) → moment ≡ clock +ℤ d → result ≡ d }
 {
-    moment - clock
+    moment - i128::from(clock)
 }
 
 /// Whether something comes.
@@ -43,7 +43,7 @@ fn comes(next: &Next) -> bool
 
 /// What an edge between two different outer nodes lets come at its moment: a blossom is shrunk where both
 /// are in one tree, else the matching is augmented.
-fn between(search: &Search, e: EdgeId, one: NodeId, other: NodeId, moment: i64) -> Next
+fn between(search: &Search, e: EdgeId, one: NodeId, other: NodeId, moment: i128) -> Next
     requires sound { IsSound search.now }
     requires standing { IsStanding search.now }
     requires ends { IsEdgeBetween search.now e one other }
@@ -65,7 +65,7 @@ fn between(search: &Search, e: EdgeId, one: NodeId, other: NodeId, moment: i64) 
 }
 
 /// What an edge from an outer node to one labelled out lets come at its moment: the tree grows.
-fn outward(search: &Search, e: EdgeId, near: NodeId, far: NodeId, moment: i64) -> Next
+fn outward(search: &Search, e: EdgeId, near: NodeId, far: NodeId, moment: i128) -> Next
     requires sound { IsSound search.now }
     requires planted { IsPlanted (state_of search.now) }
     requires ends { IsEdgeBetween search.now e near far }
@@ -104,7 +104,7 @@ fn by_edge<L: Ledger>(
     search: &Search,
     graph: &Graph,
     e: EdgeId,
-    moment: i64,
+    moment: i128,
     steps: &mut Steps<L>,
 ) -> Next
     requires sound { IsSound search.now }
@@ -149,7 +149,7 @@ fn by_blossom(search: &Search, b: NodeId) -> Next
         return Next::Stuck;
     }
     match search.label(b) {
-        Label::Inner => Next::Expand(b, search.arena.dual(b)),
+        Label::Inner => Next::Expand(b, i128::from(search.arena.dual(b))),
         _ => Next::Stuck,
     }
 }
@@ -159,7 +159,7 @@ fn by_item<L: Ledger>(
     search: &Search,
     graph: &Graph,
     item: &Item,
-    moment: i64,
+    moment: i128,
     steps: &mut Steps<L>,
 ) -> Next
     requires sound { IsSound search.now }
@@ -181,7 +181,7 @@ fn by_item<L: Ledger>(
 }
 
 /// An item whose moment is least, and its moment.
-fn earliest(search: &Search) -> Option<(Item, i64)>
+fn earliest(search: &Search) -> Option<(Item, i128)>
     ensures { IsLeast search.now.queue result }
 {
     search.queue.least()

@@ -25,6 +25,15 @@ fn raise_trees(search: &mut Search, d: i64)
     search.arena.advance(d);
 }
 
+/// A change that the clock has room for.
+fn narrowed(d: i128) -> i64
+    requires low { pos 0 ≤ℤ d }
+    requires high { d ≤ℤ NUMBER_LIMIT }
+    ensures { result ≡ d }
+{
+    d as i64
+}
+
 /// The clock after a change of d.
 fn later(clock: i64, d: i64) -> i64
     requires low { pos 0 ≤ℤ clock }
@@ -38,8 +47,8 @@ fn later(clock: i64, d: i64) -> i64
 /// Changes the duals along the trees by d (chapter 26): the duals of outer nodes rise by d, those of
 /// inner nodes fall by d, and all others stay. The clock goes on by d, so each moment stays what it is. It
 /// counts one step, takes constant time (but time linear in the nodes once the changes of a pass add up to
-/// more than 10^15), and no memory. Every exposed node is the root of a tree, so all these keep one parity.
-pub fn apply<L: Ledger>(search: &mut Search, d: i64, steps: &mut Steps<L>)
+/// more than 10^18), and no memory. Every exposed node is the root of a tree, so all these keep one parity.
+pub fn apply<L: Ledger>(search: &mut Search, d: i128, steps: &mut Steps<L>)
     requires sound { IsSound search.old }
     requires queued { IsQueued search.old }
     requires standing { IsStanding search.old }
@@ -57,6 +66,7 @@ pub fn apply<L: Ledger>(search: &mut Search, d: i64, steps: &mut Steps<L>)
     ensures planted { IsPlanted (state_of search.new) }
     ensures step { steps.new ≡ steps.old + 1 }
 {
+    let d = narrowed(d);
     let clock = later(search.clock, d);
     raise_trees(search, d);
     search.clock = clock;

@@ -51,7 +51,7 @@ pub(crate) fn joins(search: &Search, e: EdgeId, a: u32, b: u32) -> bool
 }
 
 /// The slack of an edge. It counts no step.
-pub(crate) fn slack_at(search: &Search, e: EdgeId) -> i64
+pub(crate) fn slack_at(search: &Search, e: EdgeId) -> i128
     requires shape { HasShape search.now }
     requires edge { IsEdgeNumber search.now.graph e }
     ensures { result ≡ slack_of (state_of search.now) e }

@@ -24,7 +24,7 @@ fn change<L: Ledger>(
     rt: &impl Abort,
     search: &mut Search,
     event: Event,
-    d: i64,
+    d: i128,
     steps: &mut Steps<L>,
 ) -> Event
     requires sound { IsSound search.old }

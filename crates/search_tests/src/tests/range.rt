@@ -23,7 +23,7 @@ fn is_small_dual(y: i64) -> bool
 }
 
 /// Whether the dual of a node is far from the ends of its range.
-fn dual_fits(search: &Search, number: u32, d: i64) -> bool
+fn dual_fits(search: &Search, number: u32, d: i128) -> bool
     requires sound { IsSound search.now }
     requires low { pos 0 ≤ℤ d }
     requires high { d ≤ℤ pos 1000000 }
@@ -37,7 +37,7 @@ fn dual_fits(search: &Search, number: u32, d: i64) -> bool
 }
 
 /// Whether the duals of all nodes are far from the ends of their range.
-fn duals_fit(search: &Search, d: i64) -> bool
+fn duals_fit(search: &Search, d: i128) -> bool
     requires sound { IsSound search.now }
     requires low { pos 0 ≤ℤ d }
     requires high { d ≤ℤ pos 1000000 }
@@ -53,7 +53,7 @@ fn duals_fit(search: &Search, d: i64) -> bool
 
 /// Whether a change leaves all duals and the clock in range; it refuses where a dual, the clock or the
 /// change is beyond 10^6.
-pub fn stays_in_range(search: &Search, d: i64) -> bool
+pub fn stays_in_range(search: &Search, d: i128) -> bool
     requires sound { IsSound search.now }
     ensures duals { result ≡ true → StaysInRange (state_of search.now) d }
     ensures clock { result ≡ true → (search.now.clock +ℤ d) ≤ℤ NUMBER_LIMIT }

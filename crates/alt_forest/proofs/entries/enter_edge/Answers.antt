@@ -1,5 +1,5 @@
 use Rattle.std.proofs.Common.{◌≡◌, ◌∙◌, ℕ, ℤ, true, Option, Some, sym, ap, subst, arith, rules, to_z, of_z}
-use mir.Syntax.{w64}
+use mir.Syntax.{w128}
 use Rattle.graph_theory.specs.Graph.{IsEdgeNumber}
 use Rattle.blossom_arena.specs.Family.{is_vertex}
 use Rattle.blossom_arena.proofs.Sets.{outermost_has}
@@ -37,7 +37,7 @@ pub returns-in-Some-clause-entered : goal.returns-in-Some-clause-entered
 returns-in-Some-clause-entered c =
     let s = c.args.search.now in
     let is : IsEdgeNumber s.graph c.args.incident.now.edge = c.requires.incident.number in
-    let back : to_z w64 (of_z w64 c.in-Some.moment) ≡ c.in-Some.moment = search rules in
+    let back : to_z w128 (of_z w128 c.in-Some.moment) ≡ c.in-Some.moment = search rules in
     subst (NeedsMoment (state_of s) s.clock c.args.incident.now.edge)
     (sym (ap (λ (q : Moments). moment_of q (Edge c.args.incident.now.edge)) c.set.ensures ∙ edge_set s.queue c.args.incident.now.edge _
     (edge_item s c.args.incident.now.edge c.requires.sound.shape is) ∙ ap (λ (x : ℤ). let o : Option ℤ = Some x in o) back))
@@ -50,7 +50,7 @@ returns-in-Some-clause-others c = λ d ne.
     ap (λ (q : Moments). moment_of q (Edge d)) c.set.ensures ∙ edge_other s.queue c.args.incident.now.edge d _ (edge_item s c.args.incident.now.edge c.requires.sound.shape is) ne
 
 pub returns-in-Some-clause-count : goal.returns-in-Some-clause-count
-returns-in-Some-clause-count c = omega (arith, ap entry_count c.set.ensures, count_set c.args.search.now.queue c.args.incident.now.edge (to_z w64 (of_z w64 c.in-Some.moment)))
+returns-in-Some-clause-count c = omega (arith, ap entry_count c.set.ensures, count_set c.args.search.now.queue c.args.incident.now.edge (to_z w128 (of_z w128 c.in-Some.moment)))
 
 pub returns-in_default-clause-entered : goal.returns-in_default-clause-entered
 returns-in_default-clause-entered c =

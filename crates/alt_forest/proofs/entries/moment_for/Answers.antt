@@ -1,5 +1,5 @@
 use Rattle.std.proofs.Common.{◌≡◌, ◌∙◌, ℤ, ◌+ℤ◌, Option, Some, None, sym, ap, ap₂, rules, to_z, of_z}
-use mir.Syntax.{w64}
+use mir.Syntax.{w64, w128}
 use Rattle.blossom_arena.specs.declared.label.Label.TheVariants.{Outer, Inner, Out}
 use Rattle.alt_forest.specs.Searches.{state_of, label_at}
 use Rattle.alt_forest.proofs.Needs.{needs_between, needs_none_inner, needs_none_out, needs_none_within}
@@ -13,10 +13,10 @@ returns-in-Outer-Outer c = record {
       let near = c.requires.near in
       let one : label_at s.labels.items c.args.near.now.node ≡ Outer = sym near.label ∙ c.in-Outer-Outer.is-0 in
       let other : label_at s.labels.items c.args.node ≡ Outer = sym c.requires.label ∙ c.in-Outer-Outer.is-1 in
-      let back : to_z w64 (of_z w64 c.moment_after.result) ≡ c.moment_after.result = search rules in
-      let whole : to_z w64 (of_z w64 c.slack_to.result) ≡ c.slack_to.result = search rules in
+      let back : to_z w128 (of_z w128 c.moment_after.result) ≡ c.moment_after.result = search rules in
+      let whole : to_z w128 (of_z w128 c.slack_to.result) ≡ c.slack_to.result = search rules in
       let now : to_z w64 (of_z w64 s.clock) ≡ s.clock = search rules in
-      let halved : to_z w64 (of_z w64 c.half.result) ≡ c.half.result = search rules in
+      let halved : to_z w128 (of_z w128 c.half.result) ≡ c.half.result = search rules in
       needs_between (state_of s) s.clock c.args.incident.now.edge _ c.args.near.now.node c.args.node Outer Outer
       (leads_joins s.graph s.arena.blossoms c.args.incident.now.edge c.args.near.now.vertex c.args.incident.now.far c.args.near.now.node c.args.node c.args.incident.now.weight
       c.requires.incident near.node c.requires.node) one other
@@ -31,8 +31,8 @@ returns-in-Outer-Out c = record {
       let near = c.requires.near in
       let one : label_at s.labels.items c.args.near.now.node ≡ Outer = sym near.label ∙ c.in-Outer-Out.is-0 in
       let other : label_at s.labels.items c.args.node ≡ Out = sym c.requires.label ∙ c.in-Outer-Out.is-1 in
-      let back : to_z w64 (of_z w64 c.moment_after-in-Outer-Out.result) ≡ c.moment_after-in-Outer-Out.result = search rules in
-      let whole : to_z w64 (of_z w64 c.slack_to-in-Outer-Out.result) ≡ c.slack_to-in-Outer-Out.result = search rules in
+      let back : to_z w128 (of_z w128 c.moment_after-in-Outer-Out.result) ≡ c.moment_after-in-Outer-Out.result = search rules in
+      let whole : to_z w128 (of_z w128 c.slack_to-in-Outer-Out.result) ≡ c.slack_to-in-Outer-Out.result = search rules in
       let now : to_z w64 (of_z w64 s.clock) ≡ s.clock = search rules in
       needs_between (state_of s) s.clock c.args.incident.now.edge _ c.args.near.now.node c.args.node Outer Out
       (leads_joins s.graph s.arena.blossoms c.args.incident.now.edge c.args.near.now.vertex c.args.incident.now.far c.args.near.now.node c.args.node c.args.incident.now.weight
@@ -48,8 +48,8 @@ returns-in-Out-Outer c = record {
       let near = c.requires.near in
       let one : label_at s.labels.items c.args.near.now.node ≡ Out = sym near.label ∙ c.in-Out-Outer.is-0 in
       let other : label_at s.labels.items c.args.node ≡ Outer = sym c.requires.label ∙ c.in-Out-Outer.is-1 in
-      let back : to_z w64 (of_z w64 c.moment_after-in-Out-Outer.result) ≡ c.moment_after-in-Out-Outer.result = search rules in
-      let whole : to_z w64 (of_z w64 c.slack_to-in-Out-Outer.result) ≡ c.slack_to-in-Out-Outer.result = search rules in
+      let back : to_z w128 (of_z w128 c.moment_after-in-Out-Outer.result) ≡ c.moment_after-in-Out-Outer.result = search rules in
+      let whole : to_z w128 (of_z w128 c.slack_to-in-Out-Outer.result) ≡ c.slack_to-in-Out-Outer.result = search rules in
       let now : to_z w64 (of_z w64 s.clock) ≡ s.clock = search rules in
       needs_between (state_of s) s.clock c.args.incident.now.edge _ c.args.near.now.node c.args.node Out Outer
       (leads_joins s.graph s.arena.blossoms c.args.incident.now.edge c.args.near.now.vertex c.args.incident.now.far c.args.near.now.node c.args.node c.args.incident.now.weight

@@ -1,76 +1,30 @@
-use Rattle.std.proofs.Common.{◌≡◌, ◌≢◌, ◌∙◌, ℕ, ℤ, pos, ◌+ℤ◌, ◌-ℤ◌, ◌*ℤ◌, ◌≤ℤ◌, true, cond, sym, ap, ap₂, subst, arith, rules, to_z, of_z, FitsSigned}
+use Rattle.std.proofs.Common.{◌≡◌, ◌≢◌, ◌∙◌, ℤ, pos, ◌+ℤ◌, ◌-ℤ◌, ◌*ℤ◌, ◌≤ℤ◌, cond, sym, ap, ap₂, subst, arith, rules, to_z, of_z, FitsSigned}
 use Rattle.std.proofs.lemmas.Int.{ints}
-use mir.Syntax.{w64}
-use Rattle.graph_theory.specs.Graph.{IsWeight}
-use Rattle.blossom_arena.specs.Family.{is_vertex, outermost}
+use mir.Syntax.{w64, w128}
+use Rattle.blossom_arena.specs.Family.{outermost}
 use Rattle.alt_forest.specs.Searches.{state_of, is_given}
 use Rattle.alt_forest.proofs.Places.{nested_of}
 use Rattle.alt_forest.proofs.DualSums.{slack_leading}
-use Rattle.alt_forest.proofs.Leads.{leads_vertex, leads_weight}
 use Rattle.alt_forest.proofs.entries.slack_to.Goals as goal
-
-pub doubled-requires : goal.doubled-requires
-doubled-requires c =
-    let s = c.args.search.now in
-    let kept : to_z w64 (of_z w64 c.args.incident.now.weight) ≡ c.args.incident.now.weight = search rules in
-    subst IsWeight (sym kept) (leads_weight s.graph c.args.incident.now.edge c.args.near.now.vertex c.args.incident.now.far c.args.incident.now.weight c.requires.sound.shape.graph.graph
-    c.requires.incident)
-
-pub dual_sum-requires : goal.dual_sum-requires
-dual_sum-requires c =
-    let s = c.args.search.now in
-    subst (λ (n : ℕ). is_vertex n c.args.incident.now.far ≡ true) (sym c.requires.sound.shape.arena)
-    (leads_vertex s.graph c.args.incident.now.edge c.args.near.now.vertex c.args.incident.now.far c.args.incident.now.weight c.requires.sound.shape.graph.graph c.requires.incident)
-
-pub overflow_sub-result : goal.overflow_sub-result
-overflow_sub-result c =
-    let held : to_z w64 (of_z w64 c.args.near.now.dual_sum) ≡ c.args.near.now.dual_sum = search rules in
-    let other : to_z w64 (of_z w64 c.dual_sum.result) ≡ c.dual_sum.result = search rules in
-    let both : to_z w64 (of_z w64 (to_z w64 (of_z w64 c.args.near.now.dual_sum) +ℤ to_z w64 (of_z w64 c.dual_sum.result)))
-    ≡ c.args.near.now.dual_sum +ℤ c.dual_sum.result = search rules in
-    let twice : to_z w64 (of_z w64 c.doubled.result) ≡ c.doubled.result = search rules in
-    omega (
-      arith,
-      ints,
-      both,
-      twice,
-      c.doubled.ensures.low,
-      c.doubled.ensures.high,
-      c.requires.near.in_range.0,
-      c.requires.near.in_range.1,
-      c.dual_sum.ensures.in_range.0,
-      c.dual_sum.ensures.in_range.1,
-    )
 
 pub returns-clause-slack : goal.returns-clause-slack
 returns-clause-slack c =
     let s = c.args.search.now in
     let near = c.requires.near in
     let kept : to_z w64 (of_z w64 c.args.incident.now.weight) ≡ c.args.incident.now.weight = search rules in
-    let both : to_z w64 (of_z w64 (to_z w64 (of_z w64 c.args.near.now.dual_sum) +ℤ to_z w64 (of_z w64 c.dual_sum.result)))
+    let twice : c.from.result ≡ c.doubled.result = search rules in
+    let both : to_z w128 (of_z w128 (to_z w128 (of_z w128 c.args.near.now.dual_sum) +ℤ to_z w128 (of_z w128 c.dual_sum.result)))
     ≡ c.args.near.now.dual_sum +ℤ c.dual_sum.result = search rules in
-    let twice : to_z w64 (of_z w64 c.doubled.result) ≡ c.doubled.result = search rules in
-    let fits : FitsSigned w64 (to_z w64 (of_z w64 c.doubled.result) -ℤ to_z w64 (of_z w64 (to_z w64 (of_z w64 c.args.near.now.dual_sum) +ℤ to_z w64 (of_z w64 c.dual_sum.result)))) =
-    overflow_sub-result c in
-    let back : to_z w64 (of_z w64 (to_z w64 (of_z w64 c.doubled.result) -ℤ to_z w64 (of_z w64 (to_z w64 (of_z w64 c.args.near.now.dual_sum) +ℤ to_z w64 (of_z w64 c.dual_sum.result)))))
-    ≡ to_z w64 (of_z w64 c.doubled.result) -ℤ to_z w64 (of_z w64 (to_z w64 (of_z w64 c.args.near.now.dual_sum) +ℤ to_z w64 (of_z w64 c.dual_sum.result))) = search rules in
+    let fits : FitsSigned w128 (c.from.result -ℤ (c.args.near.now.dual_sum +ℤ c.dual_sum.result)) =
+    omega (arith, ints, twice, c.doubled.ensures, near.in_range, c.dual_sum.ensures.in_range) in
+    let back : to_z w128 (of_z w128 (to_z w128 (of_z w128 c.from.result) -ℤ to_z w128 (of_z w128 (to_z w128 (of_z w128 c.args.near.now.dual_sum) +ℤ to_z w128 (of_z w128 c.dual_sum.result)))))
+    ≡ c.from.result -ℤ (c.args.near.now.dual_sum +ℤ c.dual_sum.result) = search rules in
     let ne : outermost s.arena.blossoms c.args.incident.now.far ≢ outermost s.arena.blossoms c.args.near.now.vertex = λ p. c.requires.apart (p ∙ sym near.node) in
     back
     ∙ ap₂ ◌-ℤ◌ (twice ∙ c.doubled.ensures.doubled ∙ ap (λ (w : ℤ). cond (is_given s.weights) (pos 2 *ℤ w) (pos 0)) kept)
-    (both ∙ ap₂ ◌+ℤ◌ near.dual_sum c.dual_sum.ensures.dual_sum)
+    (ap₂ ◌+ℤ◌ near.dual_sum c.dual_sum.ensures.dual_sum)
     ∙ sym (slack_leading (state_of s) c.args.incident.now.edge c.args.near.now.vertex c.args.incident.now.far c.args.incident.now.weight c.requires.sound.shape.graph.graph
     (nested_of s c.requires.sound.shape) c.requires.incident ne)
 
 pub returns-clause-low : goal.returns-clause-low
 returns-clause-low c = subst (λ (x : ℤ). pos 0 ≤ℤ x) (sym (returns-clause-slack c)) (c.requires.sound.state.slacks c.args.incident.now.edge c.requires.incident.number)
-
-pub returns-clause-high : goal.returns-clause-high
-returns-clause-high c =
-    let both : to_z w64 (of_z w64 (to_z w64 (of_z w64 c.args.near.now.dual_sum) +ℤ to_z w64 (of_z w64 c.dual_sum.result)))
-    ≡ c.args.near.now.dual_sum +ℤ c.dual_sum.result = search rules in
-    let twice : to_z w64 (of_z w64 c.doubled.result) ≡ c.doubled.result = search rules in
-    let fits : FitsSigned w64 (to_z w64 (of_z w64 c.doubled.result) -ℤ to_z w64 (of_z w64 (to_z w64 (of_z w64 c.args.near.now.dual_sum) +ℤ to_z w64 (of_z w64 c.dual_sum.result)))) =
-    overflow_sub-result c in
-    let back : to_z w64 (of_z w64 (to_z w64 (of_z w64 c.doubled.result) -ℤ to_z w64 (of_z w64 (to_z w64 (of_z w64 c.args.near.now.dual_sum) +ℤ to_z w64 (of_z w64 c.dual_sum.result)))))
-    ≡ to_z w64 (of_z w64 c.doubled.result) -ℤ to_z w64 (of_z w64 (to_z w64 (of_z w64 c.args.near.now.dual_sum) +ℤ to_z w64 (of_z w64 c.dual_sum.result))) = search rules in
-    omega (arith, ints, back, both, twice, c.doubled.ensures.high, c.requires.near.in_range.0, c.dual_sum.ensures.in_range.0)

@@ -1,5 +1,5 @@
-use Rattle.std.proofs.Common.{◌≡◌, ℕ, ◌-◌, ◌*◌, ◌<◌, List, length, Option, Some, None, sym, subst, arith}
-use Rattle.std.specs.Prelude.{IfSome}
+use Rattle.std.proofs.Common.{◌≡◌, ℕ, ◌-◌, ◌*◌, ◌<◌, ◌≤◌, List, length, Option, Some, None, sym, ap, subst, arith}
+use Rattle.std.specs.Prelude.{IfNone, IfSome}
 use Rattle.std.proofs.lemmas.Option.{same_Some}
 use Rattle.alt_forest.specs.Trees.{path_of}
 use Rattle.alt_forest.specs.Searches.{state_of}
@@ -16,10 +16,21 @@ comes_after (Some y) xs ys k n x e has same = (e.0, subst (λ zs. IsAt zs k x) s
 less_left : (n k : ℕ) → k < n → 0 < k → n - k * 2 < n - k
 less_left n k within some = omega (arith, within, some)
 
-pub count-requires : goal.count-requires
-count-requires c =
-    subst (λ (xs : List ℕ). length xs < 4294967296) (sym c.path_to_root-in_default.ensures.path)
-    (omega (arith, way_few c.args.search.now c.args.b c.requires.sound c.requires.b_outermost))
+-- a path that is shorter than what is counted is counted to its end
+to_end : (o : Option ℕ) (xs : List ℕ) (k n : ℕ) → IfNone o (k ≡ length xs) → IfSome o (λ y. (k ≡ n) × IsAt xs n y) → length xs ≤ n → k ≡ length xs
+to_end None xs k n e on few = e
+to_end (Some y) xs k n e on few = absurd (omega (arith, at_within xs n y on.1, few))
+
+pub returns-in_default : goal.returns-in_default
+returns-in_default c =
+    let s = c.args.search.now in
+    let one : c.path_to_root.result ≡ path_of (state_of s) c.args.a = c.path_to_root.ensures.path in
+    let other : c.path_to_root-in_default.result ≡ path_of (state_of s) c.args.b = c.path_to_root-in_default.ensures.path in
+    let left : c.counted-left.result.0 ≡ length c.path_to_root.result =
+    subst (λ o. IfNone o (c.counted-left.result.0 ≡ length c.path_to_root.result)) c.in_default.is c.counted-left.ensures.ended in
+    let few : length c.path_to_root-in_default.result ≤ 4294967295 = omega (arith, ap length other, way_few s c.args.b c.requires.sound c.requires.b_outermost) in
+    let right = to_end c.counted-right.result.1 c.path_to_root-in_default.result c.counted-right.result.0 4294967295 c.counted-right.ensures.ended c.counted-right.ensures.goes_on few in
+    omega (arith, left, right, ap length one, ap length other)
 
 pub returns-in-Some-place_of : goal.returns-in-Some-place_of
 returns-in-Some-place_of c =

@@ -1,6 +1,6 @@
 use Rattle.std.proofs.Common.{◌≡◌, ◌≢◌, ◌∙◌, ◌+ℤ◌, List, ap₂, arith, rules, to_z, of_z, sym}
 use Rattle.std.proofs.lemmas.Int.{ints}
-use mir.Syntax.{w64}
+use mir.Syntax.{w128}
 use Rattle.graph_theory.specs.declared.edge.Edge.{Edge}
 use Rattle.blossom_arena.specs.Family.{Blossom, dual_at, outermost}
 use Rattle.alt_forest.specs.Chains.{holders}
@@ -15,8 +15,8 @@ overflow_add-result c =
     let bs : List Blossom = c.args.arena.now.blossoms in
     let good = c.outermost.ensures.good in
     let h = ends_of c.args.arena.now.vertex_count bs e good.nested good.few c.requires in
-    let one : to_z w64 (of_z w64 c.dual_sum.result) ≡ c.dual_sum.result = search rules in
-    let other : to_z w64 (of_z w64 c.dual_sum-2.result) ≡ c.dual_sum-2.result = search rules in
+    let one : to_z w128 (of_z w128 c.dual_sum.result) ≡ c.dual_sum.result = search rules in
+    let other : to_z w128 (of_z w128 c.dual_sum-2.result) ≡ c.dual_sum-2.result = search rules in
     let ne : outermost bs e.u ≢ outermost bs e.v =
     λ p. c.if-number.false (c.number.ensures ∙ c.outermost.ensures.node ∙ p ∙ sym c.outermost-2.ensures.node ∙ sym c.number-2.ensures) in
     let is = across_apart c.args.arena.now.vertex_count (dual_at c.args.arena.now.duals) bs e good.nested h.u_is h.v_is ne in
@@ -45,7 +45,7 @@ returns-clause-duals_across c =
     let bs : List Blossom = c.args.arena.now.blossoms in
     let good = c.outermost.ensures.good in
     let h = ends_of c.args.arena.now.vertex_count bs e good.nested good.few c.requires in
-    let back : to_z w64 (of_z w64 (to_z w64 (of_z w64 c.dual_sum.result) +ℤ to_z w64 (of_z w64 c.dual_sum-2.result))) ≡ c.dual_sum.result +ℤ c.dual_sum-2.result = search rules in
+    let back : to_z w128 (of_z w128 (to_z w128 (of_z w128 c.dual_sum.result) +ℤ to_z w128 (of_z w128 c.dual_sum-2.result))) ≡ c.dual_sum.result +ℤ c.dual_sum-2.result = search rules in
     let ne : outermost bs e.u ≢ outermost bs e.v =
     λ p. c.if-number.false (c.number.ensures ∙ c.outermost.ensures.node ∙ p ∙ sym c.outermost-2.ensures.node ∙ sym c.number-2.ensures) in
     back ∙ ap₂ ◌+ℤ◌ c.dual_sum.ensures.dual_sum c.dual_sum-2.ensures.dual_sum

@@ -1,6 +1,6 @@
-use Rattle.std.proofs.Common.{◌≡◌, ◌∙◌, ℕ, ℤ, ◌+ℤ◌, List, length, take, true, ap, ap₂, rules, to_z, of_z, FitsSigned, sym, subst}
+use Rattle.std.proofs.Common.{◌≡◌, ◌∙◌, ℕ, ℤ, ◌+ℤ◌, List, length, take, true, ap, ap₂, rules, to_z, of_z, sym, subst}
 use Rattle.std.specs.List.{AllByRecursion}
-use mir.Syntax.{w64}
+use mir.Syntax.{w128}
 use Rattle.graph_theory.specs.declared.edge.Edge.{Edge}
 use Rattle.blossom_arena.specs.Family.{Blossom, is_node, dual_at, chain_of}
 use Rattle.alt_forest.specs.Chains.{holders, total_of}
@@ -27,8 +27,7 @@ total-requires-2-clause-nodes c =
 
 pub returns-clause-duals_across : goal.returns-clause-duals_across
 returns-clause-duals_across c =
-    let fits : FitsSigned w64 (c.total.result +ℤ c.total-2.result) = search rules in
-    let back : to_z w64 (of_z w64 (to_z w64 (of_z w64 c.total.result) +ℤ to_z w64 (of_z w64 c.total-2.result))) ≡ c.total.result +ℤ c.total-2.result = search rules in
+    let back : to_z w128 (of_z w128 (to_z w128 (of_z w128 c.total.result) +ℤ to_z w128 (of_z w128 c.total-2.result))) ≡ c.total.result +ℤ c.total-2.result = search rules in
     let e : Edge = c.args.edge.now in
     let bs : List Blossom = c.args.arena.now.blossoms in
     let y = dual_at c.args.arena.now.duals in

@@ -1,5 +1,5 @@
 use Rattle.std.proofs.Common.{◌≡◌, ◌∙◌, ℕ, ℤ, None, sym, subst, rules, to_z, of_z}
-use mir.Syntax.{w64}
+use mir.Syntax.{w128}
 use Rattle.alt_forest.specs.declared.search.Search.{Search}
 use Rattle.alt_forest.specs.Searches.{state_of}
 use Rattle.alt_forest.proofs.Relabelled.{outer_not_out}
@@ -16,17 +16,17 @@ outward-requires-in-Out-Outer-clause-ends g c =
 
 pub returns-in-Outer-Outer-clause-comes : goal.returns-in-Outer-Outer-clause-comes
 returns-in-Outer-Outer-clause-comes g c =
-    let back : to_z w64 (of_z w64 c.args.moment) ≡ c.args.moment = search rules in
+    let back : to_z w128 (of_z w128 c.args.moment) ≡ c.args.moment = search rules in
     subst (λ (m : ℤ). ComesAt c.args.search.now.clock m c.between.result) back c.between.ensures.comes
 
 pub returns-in-Outer-Out-clause-comes : goal.returns-in-Outer-Out-clause-comes
 returns-in-Outer-Out-clause-comes g c =
-    let back : to_z w64 (of_z w64 c.args.moment) ≡ c.args.moment = search rules in
+    let back : to_z w128 (of_z w128 c.args.moment) ≡ c.args.moment = search rules in
     subst (λ (m : ℤ). ComesAt c.args.search.now.clock m c.outward.result) back c.outward.ensures.comes
 
 pub returns-in-Out-Outer-clause-comes : goal.returns-in-Out-Outer-clause-comes
 returns-in-Out-Outer-clause-comes g c =
-    let back : to_z w64 (of_z w64 c.args.moment) ≡ c.args.moment = search rules in
+    let back : to_z w128 (of_z w128 c.args.moment) ≡ c.args.moment = search rules in
     subst (λ (m : ℤ). ComesAt c.args.search.now.clock m c.outward-in-Out-Outer.result) back c.outward-in-Out-Outer.ensures.comes
 
 pub returns-in_default-clause-stale : goal.returns-in_default-clause-stale

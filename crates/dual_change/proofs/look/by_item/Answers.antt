@@ -1,5 +1,5 @@
 use Rattle.std.proofs.Common.{◌≡◌, ◌∙◌, ℤ, Option, Some, sym, ap, subst, arith, rules, to_z, of_z}
-use mir.Syntax.{w64}
+use mir.Syntax.{w128}
 use Rattle.graph_theory.specs.Graph.{Multigraph, IsEdgeNumber}
 use Rattle.edge_queue.specs.Moments.{moment_of, IsItem}
 use Rattle.edge_queue.proofs.Maps.{only_items_have}
@@ -11,7 +11,7 @@ use Rattle.dual_change.proofs.look.by_item.Goals as goal
 pub by_edge-requires-clause-entered : goal.by_edge-requires-clause-entered
 by_edge-requires-clause-entered g c =
     let s : Search = c.args.search.now in
-    let back : to_z w64 (of_z w64 c.args.moment) ≡ c.args.moment = search rules in
+    let back : to_z w128 (of_z w128 c.args.moment) ≡ c.args.moment = search rules in
     let place : IsItem s.queue c.args.item.now = only_items_have s.queue c.args.item.now c.args.moment c.requires.has in
     let there = subst (IsItem s.queue) c.in-Edge.is place in
     let number : IsEdgeNumber s.graph c.in-Edge.e = (there.0, omega (arith, there.1, c.requires.sound.shape.room.edges)) in

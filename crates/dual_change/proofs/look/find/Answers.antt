@@ -1,5 +1,5 @@
 use Rattle.std.proofs.Common.{◌≡◌, ◌≢◌, ℤ, Option, Some, subst, rules, to_z, of_z}
-use mir.Syntax.{w64}
+use mir.Syntax.{w128}
 use Rattle.std.proofs.lemmas.Bool.{both_ways}
 use Rattle.edge_queue.specs.declared.item.Item.{Item}
 use Rattle.edge_queue.specs.Moments.{Moments, IsLeast}
@@ -25,9 +25,9 @@ returns-then-comes-clause-found g c =
     let s : Search = c.loop-item.search in
     let i = c.loop-item.invariant in
     let there : c.by_item-next.result ≢ Stuck = λ q. both_ways c.comes.result (c.comes.ensures.1 q) c.if-comes.true in
-    let back : to_z w64 (of_z w64 c.in-Some.moment) ≡ c.in-Some.moment = search rules in
+    let back : to_z w128 (of_z w128 c.in-Some.moment) ≡ c.in-Some.moment = search rules in
     let earlier = first s.queue s.clock c.earliest.result c.in-Some.item c.in-Some.moment
-    (to_z w64 (of_z w64 c.in-Some.moment)) c.by_item-next.result c.earliest.ensures c.in-Some.is there back c.by_item-next.ensures.comes in
+    (to_z w128 (of_z w128 c.in-Some.moment)) c.by_item-next.result c.earliest.ensures c.in-Some.is there back c.by_item-next.ensures.comes in
     next_is (state_of s) i.sound.depth i.sound.shape.graph.graph (nested_of s i.sound.shape) i.sound.state c.by_item-next.result c.by_item-next.ensures.candidate
     (record { edges = minds_edge s c.by_item-next.result i.queued earlier; blossoms = minds_blossom s c.by_item-next.result i.queued earlier })
 
@@ -36,9 +36,9 @@ returns-then-comes-clause-within g c =
     let s : Search = c.loop-item.search in
     let i = c.loop-item.invariant in
     let there : c.by_item-next.result ≢ Stuck = λ q. both_ways c.comes.result (c.comes.ensures.1 q) c.if-comes.true in
-    let back : to_z w64 (of_z w64 c.in-Some.moment) ≡ c.in-Some.moment = search rules in
+    let back : to_z w128 (of_z w128 c.in-Some.moment) ≡ c.in-Some.moment = search rules in
     let earlier = first s.queue s.clock c.earliest.result c.in-Some.item c.in-Some.moment
-    (to_z w64 (of_z w64 c.in-Some.moment)) c.by_item-next.result c.earliest.ensures c.in-Some.is there back c.by_item-next.ensures.comes in
+    (to_z w128 (of_z w128 c.in-Some.moment)) c.by_item-next.result c.earliest.ensures c.in-Some.is there back c.by_item-next.ensures.comes in
     next_within (state_of s) i.sound.depth i.sound.shape.graph.graph (nested_of s i.sound.shape) i.sound.state c.by_item-next.result c.by_item-next.ensures.candidate
     (record { edges = minds_edge s c.by_item-next.result i.queued earlier; blossoms = minds_blossom s c.by_item-next.result i.queued earlier })
 

@@ -12,7 +12,7 @@ returns-clause-rest g c =
     let s : Search = c.args.search.now in
     let t : Search = c.raise_trees.new.search in
     let start : to_z w64 (of_z w64 s.clock) ≡ s.clock = search rules in
-    let d : to_z w64 (of_z w64 c.args.d) ≡ c.args.d = search rules in
+    let d : to_z w64 (of_z w64 c.narrowed-d.result) ≡ c.args.d = search (rules, c.narrowed-d.ensures) in
     let back : to_z w64 (of_z w64 c.later-clock.result) ≡ c.later-clock.result = search rules in
     ap (λ (y : Search). let z : Search = record y { clock = to_z w64 (of_z w64 c.later-clock.result) } in z) c.raise_trees.ensures.rest
     ∙ ap (λ (y : ℤ). let z : Search = record (with_duals s t.arena.duals) { clock = y } in z) (back ∙ c.later-clock.ensures ∙ ap₂ ◌+ℤ◌ start d)
@@ -22,7 +22,7 @@ returns-clause-queued g c =
     let s : Search = c.args.search.now in
     let t : Search = c.raise_trees.new.search in
     let start : to_z w64 (of_z w64 s.clock) ≡ s.clock = search rules in
-    let d : to_z w64 (of_z w64 c.args.d) ≡ c.args.d = search rules in
+    let d : to_z w64 (of_z w64 c.narrowed-d.result) ≡ c.args.d = search (rules, c.narrowed-d.ensures) in
     let back : to_z w64 (of_z w64 c.later-clock.result) ≡ c.later-clock.result = search rules in
     let state : state_of t ≡ applied (state_of s) c.args.d = c.raise_trees.ensures.state ∙ ap (applied (state_of s)) d in
     queued_later s t c.args.d (to_z w64 (of_z w64 c.later-clock.result)) c.raise_trees.ensures.rest (back ∙ c.later-clock.ensures ∙ ap₂ ◌+ℤ◌ start d)
@@ -33,7 +33,7 @@ returns-clause-standing g c =
     let s : Search = c.args.search.now in
     let t : Search = c.raise_trees.new.search in
     let start : to_z w64 (of_z w64 s.clock) ≡ s.clock = search rules in
-    let d : to_z w64 (of_z w64 c.args.d) ≡ c.args.d = search rules in
+    let d : to_z w64 (of_z w64 c.narrowed-d.result) ≡ c.args.d = search (rules, c.narrowed-d.ensures) in
     let back : to_z w64 (of_z w64 c.later-clock.result) ≡ c.later-clock.result = search rules in
     let state : state_of t ≡ applied (state_of s) c.args.d = c.raise_trees.ensures.state ∙ ap (applied (state_of s)) d in
     standing_later s t c.args.d (to_z w64 (of_z w64 c.later-clock.result)) c.raise_trees.ensures.rest (back ∙ c.later-clock.ensures ∙ ap₂ ◌+ℤ◌ start d) state c.requires.standing

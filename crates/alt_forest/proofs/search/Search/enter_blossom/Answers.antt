@@ -1,6 +1,6 @@
 use Rattle.std.proofs.Common.{◌≡◌, ◌∙◌, ℤ, pos, ◌≤ℤ◌, ◌+ℤ◌, Option, Some, true, sym, ap, ap₂, subst, arith, rules, to_z, of_z}
 use Rattle.std.proofs.lemmas.Int.{ints}
-use mir.Syntax.{w64}
+use mir.Syntax.{w64, w128}
 use Rattle.graph_theory.specs.Parts.{holds}
 use Rattle.graph_theory.specs.Duals.{IsNumber}
 use Rattle.blossom_arena.specs.Family.{names_of, dual_at}
@@ -16,17 +16,9 @@ use Rattle.alt_forest.proofs.search.Search.enter_blossom.Goals as goal
 pub moment_after-moment-requires-clause-left_low : goal.moment_after-moment-requires-clause-left_low
 moment_after-moment-requires-clause-left_low c =
     let s = c.args.self.now in
-    let back : to_z w64 (of_z w64 c.dual.result) ≡ c.dual.result = search rules in
+    let back : to_z w128 (of_z w128 c.from.result) ≡ c.dual.result = search rules in
     let name : holds (names_of s.arena.blossoms) c.args.node ≡ true = sym c.is_blossom.ensures.blossom ∙ c.if-not-is_blossom.false in
     subst (λ (x : ℤ). pos 0 ≤ℤ x) (sym (back ∙ c.dual.ensures.dual)) (low_at (dual_at s.arena.duals) s.arena.blossoms c.args.node c.requires.sound.state.duals name)
-
-pub moment_after-moment-requires-clause-left_high : goal.moment_after-moment-requires-clause-left_high
-moment_after-moment-requires-clause-left_high c =
-    let s = c.args.self.now in
-    let back : to_z w64 (of_z w64 c.dual.result) ≡ c.dual.result = search rules in
-    let number : IsNumber (dual_at s.arena.duals c.args.node) = dual_number s.arena.duals c.args.node c.dual.ensures.good.duals.in_range in
-    let value : to_z w64 (of_z w64 c.dual.result) ≡ dual_at s.arena.duals c.args.node = back ∙ c.dual.ensures.dual in
-    omega (arith, ints, number.1, value)
 
 pub set-requires : goal.set-requires
 set-requires c =
@@ -42,10 +34,10 @@ pub returns-then-eq-clause-entered : goal.returns-then-eq-clause-entered
 returns-then-eq-clause-entered c = λ name is lab.
     let s = c.args.self.now in
     let range = outer_range s c.args.node c.requires.sound.shape c.requires.outermost in
-    let back : to_z w64 (of_z w64 c.dual.result) ≡ c.dual.result = search rules in
+    let back : to_z w128 (of_z w128 c.from.result) ≡ c.dual.result = search rules in
     let now : to_z w64 (of_z w64 s.clock) ≡ s.clock = search rules in
-    let moment : to_z w64 (of_z w64 c.moment_after-moment.result) ≡ c.moment_after-moment.result = search rules in
-    let value : to_z w64 (of_z w64 c.moment_after-moment.result) ≡ s.clock +ℤ dual_at s.arena.duals c.args.node = moment ∙ c.moment_after-moment.ensures
+    let moment : to_z w128 (of_z w128 c.moment_after-moment.result) ≡ c.moment_after-moment.result = search rules in
+    let value : to_z w128 (of_z w128 c.moment_after-moment.result) ≡ s.clock +ℤ dual_at s.arena.duals c.args.node = moment ∙ c.moment_after-moment.ensures
     ∙ ap₂ ◌+ℤ◌ now (back ∙ c.dual.ensures.dual) in
     ap (λ (q : Moments). moment_of q (Blossom c.args.node)) c.set.ensures
     ∙ blossom_set s.queue c.args.node _ (node_item s c.args.node c.requires.sound.shape range.0 range.1)

@@ -1,5 +1,5 @@
 use Rattle.std.proofs.Common.{◌≡◌, ◌∙◌, ℤ, pos, ◌-ℤ◌, ◌*ℤ◌, cond, rules, to_z, of_z, ap}
-use mir.Syntax.{w64}
+use mir.Syntax.{w64, w128}
 use Rattle.graph_theory.specs.declared.edge.Edge.{Edge}
 use Rattle.graph_theory.specs.Graph.{edge_of}
 use Rattle.graph_theory.proofs.Edges.{edge_of_within}
@@ -12,7 +12,7 @@ use Rattle.alt_forest.proofs.search.Search.slack.Goals as goal
 pub returns-clause-certificate : goal.returns-clause-certificate
 returns-clause-certificate g c =
     let s = c.args.self.now in
-    let back : to_z w64 (of_z w64 c.slack_by.result) ≡ c.slack_by.result = search rules in
+    let back : to_z w128 (of_z w128 c.slack_by.result) ≡ c.slack_by.result = search rules in
     let kept : to_z w64 (of_z w64 c.look-u.result.2) ≡ c.look-u.result.2 = search rules in
     let e : Edge = edge_of c.args.graph.now c.args.e in
     let found : Edge = record { u = c.look-u.result.0; v = c.look-u.result.1; w = to_z w64 (of_z w64 c.look-u.result.2) } in

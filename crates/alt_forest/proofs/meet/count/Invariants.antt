@@ -1,5 +1,0 @@
-use Rattle.std.proofs.Common.{◌≡◌, ◌+◌, length}
-use Rattle.alt_forest.proofs.meet.count.Given as goal
-
-abbrev pub invariant-loop : goal.invariant-loop
-invariant-loop l = l.nodes + length l.iterator' ≡ length l.fn.path
