@@ -1,8 +1,9 @@
 -- In the pass with weights a change raises the sum of all duals by no less than it moves any of them, and that sum is
 -- bounded, so no dual moves far.
-use Rattle.std.proofs.Common.{◌≡◌, ◌≢◌, ℕ, zero, suc, ◌+◌, ◌*◌, ◌^◌, ◌≤◌, ℤ, pos, neg_ℤ, ◌+ℤ◌, ◌-ℤ◌, ◌*ℤ◌, ◌≤ℤ◌, Bool, true, false, ◌||◌, cond, refl, sym, ap, subst, arith}
+use Rattle.std.proofs.Common.{◌≡◌, ◌≢◌, ℕ, zero, suc, ◌*◌, ◌≤◌, ℤ, pos, neg_ℤ, ◌+ℤ◌, ◌-ℤ◌, ◌*ℤ◌, ◌≤ℤ◌, Bool, true, false, ◌||◌, cond, refl, sym, ap, subst, arith}
 use Rattle.std.proofs.lemmas.Int.{ints}
 use Rattle.std.proofs.lemmas.Bool.{both_ways}
+use Rattle.graph_theory.specs.declared.limits.TheConstants.{GRAPH_VERTEX_LIMIT, WEIGHT_LIMIT}
 use Rattle.graph_theory.specs.Graph.{IsGraph}
 use Rattle.graph_theory.specs.Parts.{holds}
 use Rattle.graph_theory.proofs.SumLemmas.{times-le, times-suc, times-neg}
@@ -19,6 +20,7 @@ use Rattle.dual_change.specs.Laws.{dual_total}
 use Rattle.alt_forest.proofs.Duals.{low_at}
 use Rattle.dual_change.proofs.Total.{change_raises}
 use Rattle.mwpm_engine.specs.Bounds.{IsRaised}
+use Rattle.mwpm_engine.specs.Solutions.{IsWithinBound}
 use Rattle.dual_change.proofs.Applied.{applied_state}
 use Rattle.mwpm_engine.proofs.BoundedTotal.{total_bound, weight_bound}
 
@@ -70,25 +72,25 @@ raised_more s start depth d nested st some low h =
     within : (y c r t : ℤ) → d ≤ℤ t → y ≤ℤ r → c ≤ℤ d → (y +ℤ c) ≤ℤ (r +ℤ t)
     within y c r t more b m = omega (arith, ints, more, b, m)
 
--- the sum of all duals rises by at most 2 * 10^9 for each vertex
+-- the sum of all duals rises by at most twice the limit of weights for each vertex
 pub raised_at_most : (s : State) (start : ℤ) (depth : ℕ → ℕ) → IsGraph s.graph → IsNested s.graph.vertices s.blossoms → IsSearchState s depth → (h : IsRaised s start)
-    → h.raised ≤ℤ pos (2 * s.graph.vertices * 10 ^ 9)
+    → h.raised ≤ℤ (pos (2 * s.graph.vertices) *ℤ WEIGHT_LIMIT)
 raised_at_most s start depth graph nested st h =
     let n : ℕ = s.graph.vertices in
     let counts = h.perfect.0 in
     let total : dual_total s ≤ℤ _ = total_bound s.graph counts graph h.perfect.1 s.dual s.blossoms nested st.duals
     (λ e is. subst (λ t. pos 0 ≤ℤ slack_with s.graph t s.dual s.blossoms e) h.weighted (st.slacks e is)) in
     let most = weight_bound s.graph counts graph h.perfect.1 in
-    let least : (pos n *ℤ neg_ℤ (pos (10 ^ 9))) ≤ℤ (pos n *ℤ start) = times-le n (neg_ℤ (pos (10 ^ 9))) start h.start_weight.0 in
-    plain n (dual_total s) _ (pos n *ℤ start) h.raised total most least (times-neg n (pos (10 ^ 9))) h.total
+    let least : (pos n *ℤ neg_ℤ WEIGHT_LIMIT) ≤ℤ (pos n *ℤ start) = times-le n (neg_ℤ WEIGHT_LIMIT) start h.start_weight.0 in
+    plain n (dual_total s) _ (pos n *ℤ start) h.raised total most least (times-neg n WEIGHT_LIMIT) h.total
   where
-    plain : (n : ℕ) (t w x r : ℤ) → t ≤ℤ w → w ≤ℤ (pos n *ℤ pos (10 ^ 9)) → (pos n *ℤ neg_ℤ (pos (10 ^ 9))) ≤ℤ x → pos n *ℤ neg_ℤ (pos (10 ^ 9)) ≡ neg_ℤ (pos n *ℤ pos (10 ^ 9))
-        → t ≡ x +ℤ r → r ≤ℤ pos (2 * n * 10 ^ 9)
+    plain : (n : ℕ) (t w x r : ℤ) → t ≤ℤ w → w ≤ℤ (pos n *ℤ WEIGHT_LIMIT) → (pos n *ℤ neg_ℤ WEIGHT_LIMIT) ≤ℤ x → pos n *ℤ neg_ℤ WEIGHT_LIMIT ≡ neg_ℤ (pos n *ℤ WEIGHT_LIMIT)
+        → t ≡ x +ℤ r → r ≤ℤ (pos (2 * n) *ℤ WEIGHT_LIMIT)
     plain n t w x r a b c e f = omega (arith, ints, a, b, c, e, f)
 
--- with n vertices no dual is farther from 0 than (2n + 1) * 10^9: 10^9 for the start, and the rest for the changes
+-- with n vertices no dual is farther from 0 than 2n + 1 times the limit of weights: once for the start, and the rest for the changes
 pub duals_bounded : (s : State) (start : ℤ) (depth : ℕ → ℕ) → IsGraph s.graph → IsNested s.graph.vertices s.blossoms → IsSearchState s depth → IsRaised s start
-    → (a : ℕ) → is_node s.graph.vertices s.blossoms a ≡ true → (neg_ℤ (pos ((2 * s.graph.vertices + 1) * 10 ^ 9)) ≤ℤ s.dual a) × (s.dual a ≤ℤ pos ((2 * s.graph.vertices + 1) * 10 ^ 9))
+    → (a : ℕ) → is_node s.graph.vertices s.blossoms a ≡ true → IsWithinBound s.graph.vertices (s.dual a)
 duals_bounded s start depth graph nested st h a is =
     let n : ℕ = s.graph.vertices in
     let most = raised_at_most s start depth graph nested st h in
@@ -101,20 +103,20 @@ duals_bounded s start depth graph nested st h a is =
     named false q e h = h
     named true q e h = absurd (both_ways true e refl)
 
-    vertex : (n : ℕ) (x r y : ℤ) → neg_ℤ (pos (10 ^ 9)) ≤ℤ x → x ≤ℤ pos (10 ^ 9) → r ≤ℤ pos (2 * n * 10 ^ 9) → (x -ℤ r) ≤ℤ y → y ≤ℤ (x +ℤ r)
-        → (neg_ℤ (pos ((2 * n + 1) * 10 ^ 9)) ≤ℤ y) × (y ≤ℤ pos ((2 * n + 1) * 10 ^ 9))
+    vertex : (n : ℕ) (x r y : ℤ) → neg_ℤ WEIGHT_LIMIT ≤ℤ x → x ≤ℤ WEIGHT_LIMIT → r ≤ℤ (pos (2 * n) *ℤ WEIGHT_LIMIT) → (x -ℤ r) ≤ℤ y → y ≤ℤ (x +ℤ r)
+        → IsWithinBound n y
     vertex n x r y a b c e f = (omega (arith, ints, a, b, c, e, f), omega (arith, ints, a, b, c, e, f))
 
-    blossom : (n : ℕ) (r y : ℤ) → r ≤ℤ pos (2 * n * 10 ^ 9) → pos 0 ≤ℤ y → y ≤ℤ r → (neg_ℤ (pos ((2 * n + 1) * 10 ^ 9)) ≤ℤ y) × (y ≤ℤ pos ((2 * n + 1) * 10 ^ 9))
+    blossom : (n : ℕ) (r y : ℤ) → r ≤ℤ (pos (2 * n) *ℤ WEIGHT_LIMIT) → pos 0 ≤ℤ y → y ≤ℤ r → IsWithinBound n y
     blossom n r y a b c = (omega (arith, ints, a, b, c), omega (arith, ints, a, b, c))
 
--- with at most 4,096 vertices that lies well within the range of duals
-in_room : (n : ℕ) (y : ℤ) → n ≤ 4096 → (neg_ℤ (pos ((2 * n + 1) * 10 ^ 9)) ≤ℤ y) × (y ≤ℤ pos ((2 * n + 1) * 10 ^ 9)) → IsNumber y
+-- with at most as many vertices as a graph can have that lies well within the range of duals
+in_room : (n : ℕ) (y : ℤ) → n ≤ GRAPH_VERTEX_LIMIT → IsWithinBound n y → IsNumber y
 in_room n y few b = (omega (arith, ints, few, b.0), omega (arith, ints, few, b.1))
 
 -- a change in the pass with weights
-pub raised_in_range : (s : State) (start : ℤ) (depth : ℕ → ℕ) (d : ℤ) → IsGraph s.graph → s.graph.vertices ≤ 4096 → IsNested s.graph.vertices s.blossoms → IsSearchState s depth
-    → IsPlanted s → tree_count s ≢ 0 → IsWithin s d → IsRaised s start → StaysInRange s d × IsRaised (applied s d) start
+pub raised_in_range : (s : State) (start : ℤ) (depth : ℕ → ℕ) (d : ℤ) → IsGraph s.graph → s.graph.vertices ≤ GRAPH_VERTEX_LIMIT → IsNested s.graph.vertices s.blossoms
+    → IsSearchState s depth → IsPlanted s → tree_count s ≢ 0 → IsWithin s d → IsRaised s start → StaysInRange s d × IsRaised (applied s d) start
 raised_in_range s start depth d graph few nested st planted some within h =
     let new : IsRaised (applied s d) start = raised_more s start depth d nested st some within.low h in
     let state : IsSearchState (applied s d) depth = applied_state s d graph nested depth st planted within in (

@@ -1,9 +1,10 @@
 -- The sum of all duals of a search is at most twice the weight of a perfect matching (weak duality, chapters 25 and 26),
 -- and that weight is bounded by the number of vertices.
-use Rattle.std.proofs.Common.{◌≡◌, ℕ, ◌+◌, ◌^◌, ◌≤◌, ℤ, pos, ◌+ℤ◌, ◌-ℤ◌, ◌*ℤ◌, ◌≤ℤ◌, true, not, ◌&&◌, cond, List, [], ◌∷◌, length, slice_index, refl, sym, ap, ap₂, ◌∙◌, subst, arith}
+use Rattle.std.proofs.Common.{◌≡◌, ℕ, ◌+◌, ◌≤◌, ℤ, pos, ◌+ℤ◌, ◌-ℤ◌, ◌*ℤ◌, ◌≤ℤ◌, true, not, ◌&&◌, cond, List, [], ◌∷◌, length, slice_index, refl, sym, ap, ap₂, ◌∙◌, subst, arith}
 use Rattle.std.specs.List.{AllByRecursion, filter, range_with_len}
 use Rattle.std.proofs.lemmas.Int.{ints}
 use Rattle.std.proofs.lemmas.Bool.{eq-eqb}
+use Rattle.graph_theory.specs.declared.limits.TheConstants.{WEIGHT_LIMIT}
 use Rattle.graph_theory.specs.Sums.{int_sum_to}
 use Rattle.graph_theory.specs.declared.edge.Edge.{Edge}
 use Rattle.graph_theory.specs.Graph.{Multigraph, IsGraph, IsEdgeNumber, edge_at, weight, IsPerfect}
@@ -101,11 +102,11 @@ module _ (g : Multigraph) (counts : List ℕ) (graph : IsGraph g) (perfect : IsP
       plain : (p q w v c z : ℤ) → p ≤ℤ q → w ≡ q → p ≡ v +ℤ c → z ≤ℤ c → (v +ℤ z) ≤ℤ w
       plain p q w v c z e f h i = omega (arith, ints, e, f, h, i)
 
-  -- an edge weighs at most 10^9, so its doubled weight is at most 10^9 for each of its ends
-  pub weight_bound : (pos 2 *ℤ weight g counts) ≤ℤ (pos g.vertices *ℤ pos (10 ^ 9))
+  -- twice the weight of an edge is at most the limit of weights for each of its ends
+  pub weight_bound : (pos 2 *ℤ weight g counts) ≤ℤ (pos g.vertices *ℤ WEIGHT_LIMIT)
   weight_bound =
       let m : ℕ = length g.edges in
-      let most : ℤ = pos (10 ^ 9) in
+      let most : ℤ = WEIGHT_LIMIT in
       let each : int_sum_to (λ k. pos 2 *ℤ (pos (count k) *ℤ (edge_at g k).w)) m ≤ℤ int_sum_to (λ k. pos (count k) *ℤ (most +ℤ most)) m =
       int_sum_to-le (λ k. pos 2 *ℤ (pos (count k) *ℤ (edge_at g k).w)) (λ k. pos (count k) *ℤ (most +ℤ most)) m
       (λ k b.

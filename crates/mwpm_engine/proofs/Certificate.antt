@@ -25,7 +25,7 @@ use Rattle.mwpm_engine.specs.Solutions.{IsSolved, IsWithinBound}
 use Rattle.mwpm_engine.specs.Solving.{sets_at, solution_of, AreProving, CountsWeights, HasBoundedDuals, IsUnpacked}
 use Rattle.mwpm_engine.proofs.BoundedDuals.{each_vertex_dual}
 use Rattle.mwpm_engine.proofs.CertificateMates.{length-mate_numbers, mate_kept, matching_same, count_at}
-use Rattle.mwpm_engine.proofs.CertificateSets.{IsKnown, all_known, IsProving, each_proving, set_of, few_sets, nested_sets, IsOf, each_of, sets_listed}
+use Rattle.mwpm_engine.proofs.CertificateSets.{IsKnown, all_known, IsProving, each_proving, set_of, few_sets, few_members, nested_sets, IsOf, each_of, sets_listed}
 use Rattle.mwpm_engine.proofs.CertificateValue.{left_once, crossings_same, value_met}
 use Rattle.augment.proofs.Counts.{is_edge-true}
 
@@ -153,6 +153,7 @@ solved s outcome nodes done counts bounded list =
           ∙ ap (λ c. pos 2 *ℤ weight s.graph c) (sym matching);
       nested = nested_sets n ys bs nodes nested known list;
       few = few_sets n ys bs nodes nested list;
+      few_members = few_members n ys bs nodes nested known list;
       in_range = vertex_duals_in_range n ys duals.in_range;
       sets_in_range = set_duals_in_range n ys bs nodes nested duals proving;
       bounded = each_vertex_dual (IsWithinBound n) n ys (one_dual_each s done.sound) (λ v low high. bounded v (vertex_is_node n bs v (range_vertex n v low high)));

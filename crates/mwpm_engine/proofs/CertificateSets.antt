@@ -1,10 +1,11 @@
 -- The sets that an engine lists: blossoms of the family, each once.
-use Rattle.std.proofs.Common.{◌≡◌, ℕ, zero, suc, ◌<◌, ◌≤◌, ℤ, pos, ◌≤ℤ◌, true, false, eqb, List, [], ◌∷◌, length, refl, sym, ap, ◌∙◌, subst, arith, ⊎_elim, inl, inr, get_or}
+use Rattle.std.proofs.Common.{◌≡◌, ℕ, zero, suc, ◌+◌, ◌*◌, ◌<◌, ◌≤◌, ℤ, pos, ◌≤ℤ◌, true, false, eqb, List, [], ◌∷◌, length, refl, sym, ap, ◌∙◌, subst, arith, ⊎_elim, inl, inr, get_or}
 use Rattle.std.specs.List.{AllByRecursion}
 use Rattle.std.specs.List.Sorted.{IsStrictlyIncreasing}
 use Rattle.std.proofs.lemmas.Int.{ints}
 use Rattle.std.proofs.lemmas.Bool.{eq-eqb, ne_eqb, both_ways, false_from_ne_true, or_cases, eqb-true}
 use Rattle.std.proofs.lemmas.List.{get_or-map, length-map}
+use Rattle.std.proofs.lemmas.List.Sums.{sum_by-cons}
 use Rattle.std.proofs.lemmas.List.Elements.{All-from_recursion}
 use Rattle.graph_theory.specs.declared.odd_set.OddSet.{OddSet}
 use Rattle.graph_theory.specs.Parts.{holds}
@@ -15,10 +16,11 @@ use Rattle.blossom_arena.specs.Family.{Blossom, IsNested, is_node, names_of, mem
 use Rattle.blossom_arena.specs.Slack.{AreListed}
 use Rattle.blossom_arena.proofs.Lists.{AllNew, first_in, later_in}
 use Rattle.blossom_arena.proofs.Nested.{names_new, name_is_node, blossoms_most}
+use Rattle.blossom_arena.proofs.MemberCounts.{member_sum, members_most}
 use Rattle.blossom_arena.proofs.Sets.{members_here, members_past}
 use Rattle.blossom_arena.proofs.Forms.{members_laminar}
 use Rattle.blossom_arena.proofs.Theorems.{members_differ}
-use Rattle.mwpm_engine.specs.Solutions.{AreAscending, AreNested}
+use Rattle.mwpm_engine.specs.Solutions.{AreAscending, AreNested, member_count}
 use Rattle.mwpm_engine.specs.Solving.{sets_at, AreProving}
 
 -- a blossom of the family, and its dual
@@ -97,12 +99,31 @@ nodes_few ys (b ∷ older) nodes list = ⊎_elim
     (λ kept. omega (arith, nodes_few ys older kept.0 kept.3, ap length kept.1))
     list
 
+-- .. nor are their members more than these blossoms'
+nodes_members : (ys : List ℤ) (bs left : List Blossom) (nodes : List ℕ) → AllByRecursion (IsKnown ys bs) left → AreProving ys (names_of left) nodes
+    → member_count (sets_at ys bs nodes) ≤ member_sum left
+nodes_members ys bs [] nodes each list = omega (arith, ap (λ ns. member_count (sets_at ys bs ns)) list)
+nodes_members ys bs (b ∷ older) nodes each list = ⊎_elim
+    (λ out. omega (arith, nodes_members ys bs older nodes each.1 out.1, sum_by-cons (λ (c : Blossom). length c.members) b older))
+    (λ kept. omega (
+      arith,
+      nodes_members ys bs older kept.0 each.1 kept.3,
+      ap (λ ns. member_count (sets_at ys bs ns)) kept.1,
+      ap length each.0.members,
+      sum_by-cons (λ (c : Blossom). length c.members) b older,
+    ))
+    list
+
 -- a node as a set
 abbrev pub set_of : List ℤ → List Blossom → ℕ → OddSet
 set_of ys bs a = record { dual = dual_at ys a; members = members_of bs a }
 
 pub few_sets : (n : ℕ) (ys : List ℤ) (bs : List Blossom) (nodes : List ℕ) → IsNested n bs → AreProving ys (names_of bs) nodes → length (sets_at ys bs nodes) ≤ most_blossoms n
 few_sets n ys bs nodes nested list = omega (arith, length-map nodes (set_of ys bs), nodes_few ys bs nodes list, blossoms_most n bs nested)
+
+pub few_members : (n : ℕ) (ys : List ℤ) (bs : List Blossom) (nodes : List ℕ) → IsNested n bs → AllByRecursion (IsKnown ys bs) bs → AreProving ys (names_of bs) nodes
+    → 4 * member_count (sets_at ys bs nodes) ≤ n * n + 3 * n
+few_members n ys bs nodes nested each list = omega (arith, nodes_members ys bs bs nodes each list, members_most n bs nested)
 
 pub set_at_place : (ys : List ℤ) (bs : List Blossom) (nodes : List ℕ) (i : ℕ) → i < length nodes → set_at (sets_at ys bs nodes) i ≡ set_of ys bs (get_or nodes i 0)
 set_at_place ys bs nodes i low = get_or-map (set_of ys bs) nodes i 0 no_set low

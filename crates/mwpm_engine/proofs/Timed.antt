@@ -1,8 +1,8 @@
 -- The clock of a pass is at most what the sum of all duals has risen by, which is bounded.
-use Rattle.std.proofs.Common.{◌≡◌, ◌≢◌, ◌∙◌, ℕ, ◌*◌, ◌^◌, ◌≤◌, ℤ, pos, ◌+ℤ◌, ◌*ℤ◌, ◌≤ℤ◌, sym, ap, arith, ⊎_elim}
+use Rattle.std.proofs.Common.{◌≡◌, ◌≢◌, ◌∙◌, ℕ, ◌*◌, ◌≤◌, ℤ, pos, ◌+ℤ◌, ◌*ℤ◌, ◌≤ℤ◌, sym, ap, arith, ⊎_elim}
 use Rattle.std.proofs.lemmas.Int.{ints}
 use Rattle.std.proofs.lemmas.Bool.{both_ways}
-use Rattle.graph_theory.specs.declared.limits.TheConstants.{NUMBER_LIMIT}
+use Rattle.graph_theory.specs.declared.limits.TheConstants.{GRAPH_VERTEX_LIMIT, NUMBER_LIMIT, WEIGHT_LIMIT}
 use Rattle.graph_theory.specs.Graph.{Multigraph, IsGraph}
 use Rattle.blossom_arena.specs.Family.{IsNested}
 use Rattle.alt_forest.specs.State.{State, IsSearchState}
@@ -55,7 +55,7 @@ timed_applied s start clock d depth event graph nested st some bounded within ca
     plain new old t c x e f g = omega (arith, ints, e, f, g)
 
 -- the clock stays in range
-pub clock_fits : (s : State) (start clock : ℤ) (depth : ℕ → ℕ) → IsGraph s.graph → s.graph.vertices ≤ 4096 → IsNested s.graph.vertices s.blossoms → IsSearchState s depth
+pub clock_fits : (s : State) (start clock : ℤ) (depth : ℕ → ℕ) → IsGraph s.graph → s.graph.vertices ≤ GRAPH_VERTEX_LIMIT → IsNested s.graph.vertices s.blossoms → IsSearchState s depth
     → IsBounded s start → IsTimed s start clock → clock ≤ℤ NUMBER_LIMIT
 clock_fits s start clock depth graph few nested st bounded h = ⊎_elim
     (λ none. let zero = h.unweighted none.unweighted in omega (arith, ints, zero))
@@ -66,5 +66,5 @@ clock_fits s start clock depth graph few nested st bounded h = ⊎_elim
     plain s.graph.vertices (dual_total s) (pos s.graph.vertices *ℤ start) raised.raised few most total here)
     bounded
   where
-    plain : (n : ℕ) (t x r : ℤ) → n ≤ 4096 → r ≤ℤ pos (2 * n * 10 ^ 9) → t ≡ x +ℤ r → (clock +ℤ x) ≤ℤ t → clock ≤ℤ NUMBER_LIMIT
+    plain : (n : ℕ) (t x r : ℤ) → n ≤ GRAPH_VERTEX_LIMIT → r ≤ℤ (pos (2 * n) *ℤ WEIGHT_LIMIT) → t ≡ x +ℤ r → (clock +ℤ x) ≤ℤ t → clock ≤ℤ NUMBER_LIMIT
     plain n t x r a b e f = omega (arith, ints, a, b, e, f)

@@ -1,6 +1,6 @@
 -- What an engine keeps after a run: a perfect matching with the duals that prove it least, or a barrier (Schrijver,
 -- Combinatorial Optimization, volume A, chapters 24 to 26).
-use Rattle.std.specs.Prelude.{◌≡◌, ℕ, ◌+◌, ◌-◌, ◌*◌, ◌≤◌, ℤ, pos, neg_ℤ, ◌*ℤ◌, ◌≤ℤ◌, ◌==◌, true, List, length, map, All, slice_index_or, if◌then◌else◌, Option}
+use Rattle.std.specs.Prelude.{◌≡◌, ℕ, ◌+◌, ◌-◌, ◌*◌, ◌≤◌, ℤ, pos, neg_ℤ, ◌*ℤ◌, ◌≤ℤ◌, ◌==◌, true, List, [], ◌∷◌, length, map, All, slice_index_or, if◌then◌else◌, Option}
 use Rattle.std.specs.List.{range_with_len}
 use Rattle.graph_theory.specs.Graph.{Multigraph, IsEdgeNumber, edge_of, touches, other_end, IsPerfect, weight}
 use Rattle.graph_theory.specs.Limits.{Size}
@@ -43,6 +43,11 @@ pub record IsMate (g : Multigraph) (mates : List ℕ) (v : ℕ) : Type 0 where
 abbrev pub IsWithinBound : ℕ → ℤ → Type 0
 IsWithinBound n y = (neg_ℤ (pos (2 * n + 1) *ℤ WEIGHT_LIMIT) ≤ℤ y) × (y ≤ℤ (pos (2 * n + 1) *ℤ WEIGHT_LIMIT))
 
+-- how many members sets have in all
+abbrev pub member_count : List OddSet → ℕ
+member_count [] = 0
+member_count (t ∷ rest) = length t.members + member_count rest
+
 -- A perfect matching, and duals that prove it least: they are feasible, and their value is twice its weight.
 pub record IsSolved (s : Solution) : Type 0 where
   pub one_each : length s.mates ≡ s.graph.vertices
@@ -52,6 +57,7 @@ pub record IsSolved (s : Solution) : Type 0 where
   pub value : (sets : List OddSet) → AreAscending s.sets sets → dual_value s.duals sets ≡ pos 2 *ℤ weight s.graph (matching_of s.graph s.mates)
   pub nested : AreNested s.sets
   pub few : length s.sets ≤ most_blossoms s.graph.vertices
+  pub few_members : 4 * member_count s.sets ≤ s.graph.vertices * s.graph.vertices + 3 * s.graph.vertices
   pub in_range : All IsNumber s.duals
   pub sets_in_range : All (λ (t : OddSet). IsNumber t.dual) s.sets
   pub bounded : All (IsWithinBound s.graph.vertices) s.duals

@@ -4,7 +4,7 @@ use Rattle.std.specs.Prelude.{◌≡◌, ◌≢◌, ◌⊎◌, ℕ, ℤ, pos, �
 use Rattle.std.specs.List.{range_with_len, AllByRecursion}
 use Rattle.graph_theory.specs.Graph.{Multigraph, IsEdgeNumber, IsPerfect, edge_of}
 use Rattle.graph_theory.specs.declared.odd_set.OddSet.{OddSet}
-use Rattle.blossom_arena.specs.Family.{Blossom, is_node, is_vertex, dual_at, names_of, members_of}
+use Rattle.blossom_arena.specs.Family.{Blossom, is_node, is_vertex, dual_at, members_of}
 use Rattle.blossom_arena.specs.Slack.{vertex_duals}
 use Rattle.alt_forest.specs.declared.search.Search.{Search}
 use Rattle.alt_forest.specs.State.{doubled, IsTight}

@@ -18,5 +18,7 @@ pub(crate) fn move_dual(search: &mut Search, v: VertexId, d: i64)
     ensures duals { dual_at search.new.arena.duals ≡ put (dual_at search.old.arena.duals) v (dual_at search.old.arena.duals v +ℤ d) }
     ensures rest { search.new ≡ record search.old { arena = record search.old.arena { duals = search.new.arena.duals } } }
 {
-    search.arena.add_dual(NodeId::new(v.number()), d);
+    search
+        .arena
+        .add_dual(NodeId::new(v.number()), i128::from(d));
 }

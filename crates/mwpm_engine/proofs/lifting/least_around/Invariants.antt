@@ -1,4 +1,4 @@
-use Rattle.std.proofs.Common.{◌≡◌, ◌+◌, ◌≤ℤ◌}
+use Rattle.std.proofs.Common.{◌≤ℤ◌}
 use Rattle.graph_theory.specs.Graph.{IsWeight, edge_of}
 use Rattle.alt_forest.specs.IncidentEdges.{numbers_of}
 use Rattle.mwpm_engine.proofs.LeastSeen.{IsBelow}

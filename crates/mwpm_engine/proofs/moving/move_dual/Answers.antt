@@ -1,5 +1,5 @@
 use Rattle.std.proofs.Common.{◌≡◌, ◌∙◌, ◌+ℤ◌, sym, ap, subst, rules, to_z, of_z}
-use mir.Syntax.{w64}
+use mir.Syntax.{w128}
 use Rattle.graph_theory.specs.Duals.{IsNumber}
 use Rattle.blossom_arena.specs.Family.{dual_at, raised}
 use Rattle.alt_forest.specs.Searches.{state_of}
@@ -9,15 +9,15 @@ use Rattle.mwpm_engine.proofs.moving.move_dual.Goals as goal
 
 family : (c : goal.After-add_dual) → c.add_dual.new.self ≡ raised c.args.search.now.arena c.args.v c.args.d
 family c =
-    let back : to_z w64 (of_z w64 c.args.d) ≡ c.args.d = search rules in
-    c.add_dual.ensures.family ∙ ap (λ x. raised c.args.search.now.arena x (to_z w64 (of_z w64 c.args.d))) (c.new.ensures ∙ c.number.ensures)
+    let back : to_z w128 (of_z w128 c.from.result) ≡ c.args.d = search rules in
+    c.add_dual.ensures.family ∙ ap (λ x. raised c.args.search.now.arena x (to_z w128 (of_z w128 c.from.result))) (c.new.ensures ∙ c.number.ensures)
     ∙ ap (raised c.args.search.now.arena c.args.v) back
 
 pub add_dual-requires-clause-in_range : goal.add_dual-requires-clause-in_range
 add_dual-requires-clause-in_range c =
     let s = c.args.search.now in
-    let back : to_z w64 (of_z w64 c.args.d) ≡ c.args.d = search rules in
-    subst (λ a. IsNumber (dual_at s.arena.duals a +ℤ to_z w64 (of_z w64 c.args.d))) (sym (c.new.ensures ∙ c.number.ensures))
+    let back : to_z w128 (of_z w128 c.from.result) ≡ c.args.d = search rules in
+    subst (λ a. IsNumber (dual_at s.arena.duals a +ℤ to_z w128 (of_z w128 c.from.result))) (sym (c.new.ensures ∙ c.number.ensures))
     (subst (λ x. IsNumber (dual_at s.arena.duals c.args.v +ℤ x)) (sym back) (raised_number (state_of s) s.start c.args.v c.args.d c.requires.vertex c.requires.can c.requires.begun))
 
 pub returns-clause-sound : goal.returns-clause-sound

@@ -1,4 +1,3 @@
-use Rattle.std.proofs.Common.{◌≡◌, ◌+◌}
 use Rattle.alt_forest.specs.State.{slack_of}
 use Rattle.alt_forest.specs.Searches.{state_of}
 use Rattle.alt_forest.specs.IncidentEdges.{numbers_of}

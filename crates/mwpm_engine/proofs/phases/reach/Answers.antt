@@ -1,5 +1,5 @@
 use Rattle.std.proofs.Common.{◌≡◌, ◌∙◌, ◌+ℤ◌, ◌≤ℤ◌, sym, ap, subst, rules, to_z, of_z, pos, arith}
-use mir.Syntax.{w64}
+use mir.Syntax.{w128}
 use Rattle.graph_theory.specs.declared.limits.TheConstants.{NUMBER_LIMIT}
 use Rattle.alt_forest.specs.declared.search.Search.{Search}
 use Rattle.alt_forest.specs.Searches.{state_of}
@@ -21,7 +21,7 @@ pub apply-requires-clause-within : goal.apply-requires-clause-within
 apply-requires-clause-within g c =
     let u : Search = c.find-next.new.search in
     let e = c.find-next.ensures in
-    let back : to_z w64 (of_z w64 c.in_ok-event.d) ≡ c.in_ok-event.d = search rules in
+    let back : to_z w128 (of_z w128 c.in_ok-event.d) ≡ c.in_ok-event.d = search rules in
     subst (IsWithin (state_of u)) (sym back)
     (found c.args.search.now u c.find-next.result c.in_ok-event.event c.in_ok-event.d e.rest e.sound e.queued e.standing e.planted e.found e.within
     (sym c.event_of.ensures ∙ c.in_ok-event.was) c.requires.growing).within
@@ -30,7 +30,7 @@ pub apply-requires-clause-in_range : goal.apply-requires-clause-in_range
 apply-requires-clause-in_range g c =
     let u : Search = c.find-next.new.search in
     let e = c.find-next.ensures in
-    let back : to_z w64 (of_z w64 c.in_ok-event.d) ≡ c.in_ok-event.d = search rules in
+    let back : to_z w128 (of_z w128 c.in_ok-event.d) ≡ c.in_ok-event.d = search rules in
     subst (StaysInRange (state_of u)) (sym back)
     (found c.args.search.now u c.find-next.result c.in_ok-event.event c.in_ok-event.d e.rest e.sound e.queued e.standing e.planted e.found e.within
     (sym c.event_of.ensures ∙ c.in_ok-event.was) c.requires.growing).left.in_range
@@ -39,7 +39,7 @@ pub apply-requires-clause-clock : goal.apply-requires-clause-clock
 apply-requires-clause-clock g c =
     let u : Search = c.find-next.new.search in
     let e = c.find-next.ensures in
-    let back : to_z w64 (of_z w64 c.in_ok-event.d) ≡ c.in_ok-event.d = search rules in
+    let back : to_z w128 (of_z w128 c.in_ok-event.d) ≡ c.in_ok-event.d = search rules in
     subst (λ x. (u.clock +ℤ x) ≤ℤ NUMBER_LIMIT) (sym back)
     (found c.args.search.now u c.find-next.result c.in_ok-event.event c.in_ok-event.d e.rest e.sound e.queued e.standing e.planted e.found e.within
     (sym c.event_of.ensures ∙ c.in_ok-event.was) c.requires.growing).left.clock_fits
@@ -49,7 +49,7 @@ returns-clause-growing g c =
     let u : Search = c.find-next.new.search in
     let e = c.find-next.ensures in
     let a = c.apply.ensures in
-    let back : to_z w64 (of_z w64 c.in_ok-event.d) ≡ c.in_ok-event.d = search rules in
+    let back : to_z w128 (of_z w128 c.in_ok-event.d) ≡ c.in_ok-event.d = search rules in
     let f = found c.args.search.now u c.find-next.result c.in_ok-event.event c.in_ok-event.d e.rest e.sound e.queued e.standing e.planted e.found e.within
     (sym c.event_of.ensures ∙ c.in_ok-event.was) c.requires.growing in
     grows_on u c.apply.new.search c.in_ok-event.d f.growing a.sound a.queued a.standing a.planted (a.state ∙ ap (applied (state_of u)) back) (ap (λ (t : Search). t.start) a.rest)
@@ -59,7 +59,7 @@ pub returns-clause-reached : goal.returns-clause-reached
 returns-clause-reached g c =
     let u : Search = c.find-next.new.search in
     let e = c.find-next.ensures in
-    let back : to_z w64 (of_z w64 c.in_ok-event.d) ≡ c.in_ok-event.d = search rules in
+    let back : to_z w128 (of_z w128 c.in_ok-event.d) ≡ c.in_ok-event.d = search rules in
     let f = found c.args.search.now u c.find-next.result c.in_ok-event.event c.in_ok-event.d e.rest e.sound e.queued e.standing e.planted e.found e.within
     (sym c.event_of.ensures ∙ c.in_ok-event.was) c.requires.growing in
     subst (λ t. IsPossible t c.in_ok-event.event) (sym (c.apply.ensures.state ∙ ap (applied (state_of u)) back)) f.possible
@@ -78,7 +78,7 @@ pub apply-requires-clause-low : goal.apply-requires-clause-low
 apply-requires-clause-low g c =
     let u : Search = c.find-next.new.search in
     let e = c.find-next.ensures in
-    let back : to_z w64 (of_z w64 c.in_ok-event.d) ≡ c.in_ok-event.d = search rules in
+    let back : to_z w128 (of_z w128 c.in_ok-event.d) ≡ c.in_ok-event.d = search rules in
     subst (λ x. pos 0 ≤ℤ x) (sym back)
     (found c.args.search.now u c.find-next.result c.in_ok-event.event c.in_ok-event.d e.rest e.sound e.queued e.standing e.planted e.found e.within
     (sym c.event_of.ensures ∙ c.in_ok-event.was) c.requires.growing).within.low

@@ -1,4 +1,4 @@
-use Rattle.std.proofs.Common.{◌≡◌, ◌+◌, ◌≤ℤ◌}
+use Rattle.std.proofs.Common.{◌≤ℤ◌}
 use Rattle.alt_forest.specs.State.{slack_of}
 use Rattle.alt_forest.specs.Searches.{state_of}
 use Rattle.alt_forest.specs.IncidentEdges.{numbers_of}
