@@ -26,7 +26,7 @@ pub fn members_of(alloc: Global, members: &[i64]) -> Result<Vec<VertexId>, OutOf
     requires { All (IsUpTo GRAPH_VERTEX_LIMIT) members.now }
     ensures { IfOk result (λ v. v.items ≡ numbers members.now) }
 {
-    let mut vertices = Vec::new(alloc);
+    let mut vertices = Vec::with_capacity(alloc, members.len())?;
     for member in members {
         vertices.push(VertexId::new(natural(*member)))?;
     }
@@ -51,7 +51,7 @@ fn edges_of(alloc: Global, line: &[i64]) -> Result<Vec<EdgeId>, OutOfMemory>
     requires { All (IsUpTo EDGE_LIMIT) line.now }
     ensures { IfOk result (λ v. v.items ≡ numbers line.now) }
 {
-    let mut edges = Vec::new(alloc);
+    let mut edges = Vec::with_capacity(alloc, line.len())?;
     for number in line {
         edges.push(EdgeId::new(natural(*number)))?;
     }
@@ -99,7 +99,7 @@ pub fn answer_of(
 pub fn duals_of(alloc: Global, lines: &[DualLine]) -> Result<Vec<i64>, OutOfMemory>
     ensures { IfOk result (λ v. v.items ≡ map (λ y. y.dual) lines.now) }
 {
-    let mut duals = Vec::new(alloc);
+    let mut duals = Vec::with_capacity(alloc, lines.len())?;
     for y in lines {
         duals.push(y.dual)?;
     }
@@ -111,7 +111,7 @@ pub fn sets_of(alloc: Global, lines: &[SetLine]) -> Result<Vec<OddSet>, OutOfMem
     requires { All (IsSetLineWithin GRAPH_VERTEX_LIMIT) lines.now }
     ensures { IfOk result (λ v. v.items ≡ map set_of lines.now) }
 {
-    let mut sets = Vec::new(alloc);
+    let mut sets = Vec::with_capacity(alloc, lines.len())?;
     for z in lines {
         let members = Sequence::from_vec(members_of(alloc, z.members.as_slice())?);
         sets.push(OddSet {

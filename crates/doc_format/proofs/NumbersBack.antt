@@ -66,7 +66,7 @@ min_is : (n m : ℕ) → n ≤ m → min n m ≡ n
 min_is n m h = omega arith
 
 clamped_is : (z : ℤ) → IsKept z → clamped (nat_abs NUMBER_LIMIT) z ≡ z
-clamped_is (pos n) h = ap (λ (k : ℕ). pos k) (min_is n 1000000000000001 (omega arith))
+clamped_is (pos n) h = ap (λ (k : ℕ). pos k) (min_is n (nat_abs NUMBER_LIMIT + 1) (omega arith))
 clamped_is (negsuc n) h = ap (λ (k : ℕ). negsuc k) (min_is n (nat_abs NUMBER_LIMIT) (omega arith))
 
 pub kept_back : (z : ℤ) → IsKept z → kept (signed_decimal z) ≡ Some z

@@ -62,7 +62,9 @@ impl Draft {
         let Some((letter, others)) = first_field(text) else {
             return Ok(());
         };
-        let Some(part) = read_part(alloc, line, letter, others)? else {
+        // A field takes two bytes at least, its blank and one more.
+        let most = text.len() / 2;
+        let Some(part) = read_part(alloc, line, letter, most, others)? else {
             return Err(DocError::DocForm { line });
         };
         self.push(line, part)

@@ -5,9 +5,6 @@ use graph_theory::NUMBER_LIMIT;
 use mb_base::{Fields, OutOfMemory, Sequence, number};
 use std::alloc::Global;
 
-/// So many numbers have their room before the first of them is read.
-const MOST_ROOM: i64 = 64;
-
 /// The number of a field, within the limit and one more.
 pub fn kept_number(field: &[u8]) -> Option<i64>
     ensures { result ≡ kept field.now }
@@ -30,9 +27,9 @@ pub fn pair(fields: Fields<'_>) -> Option<(i64, i64)>
     Some((first, second))
 }
 
-/// Room for so many numbers, but not for more than may well follow: a count may say anything.
-fn likely_room(count: i64) -> usize {
-    count.clamp(0, MOST_ROOM) as usize
+/// Room for so many numbers, but not for more than can follow: a count may say anything.
+fn room_for(count: i64, most: usize) -> usize {
+    (count.max(0) as usize).min(most)
 }
 
 /// All fields as numbers, where they are that.
@@ -53,9 +50,11 @@ fn all_numbers(
     Ok(Some(values))
 }
 
-/// So many numbers as the first field says, where the fields are that.
+/// So many numbers as the first field says, where the fields are that. They have their room at
+/// once, unless that is more than `most`, as many as the line can hold.
 pub fn counted_numbers(
     alloc: Global,
+    most: usize,
     fields: Fields<'_>,
 ) -> Result<Option<Sequence<i64>>, OutOfMemory>
     ensures { IfOk result (λ o. o ≡ counted fields.entry) }
@@ -67,7 +66,7 @@ pub fn counted_numbers(
     let Some(count) = kept_number(field) else {
         return Ok(None);
     };
-    let Some(values) = all_numbers(alloc, likely_room(count), fields)? else {
+    let Some(values) = all_numbers(alloc, room_for(count, most), fields)? else {
         return Ok(None);
     };
     if count != values.len() as i64 {
@@ -76,9 +75,11 @@ pub fn counted_numbers(
     Ok(Some(values))
 }
 
-/// A number, and so many more as the field after it says, where the fields are that.
+/// A number, and so many more as the field after it says, where the fields are that. The line can
+/// hold at most `most`.
 pub fn led_numbers(
     alloc: Global,
+    most: usize,
     fields: Fields<'_>,
 ) -> Result<Option<(i64, Sequence<i64>)>, OutOfMemory>
     ensures { IfOk result (λ o. o ≡ led fields.entry) }
@@ -90,7 +91,7 @@ pub fn led_numbers(
     let Some(first) = kept_number(field) else {
         return Ok(None);
     };
-    let Some(values) = counted_numbers(alloc, fields)? else {
+    let Some(values) = counted_numbers(alloc, most, fields)? else {
         return Ok(None);
     };
     Ok(Some((first, values)))

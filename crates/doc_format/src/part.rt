@@ -113,11 +113,16 @@ fn read_dual(line: u64, fields: Fields<'_>) -> Option<Part>
     Some(Part::Dual(DualLine { line, vertex, dual }))
 }
 
-fn read_walk(alloc: Global, line: u64, fields: Fields<'_>) -> Result<Option<Part>, OutOfMemory>
+fn read_walk(
+    alloc: Global,
+    line: u64,
+    most: usize,
+    fields: Fields<'_>,
+) -> Result<Option<Part>, OutOfMemory>
     ensures value { IfOk result (λ o. o ≡ walk_in line fields.entry) }
     ensures form { IfOk result (λ o. IfSome o (λ p. is_formed p ≡ true)) }
 {
-    let Some((start, edges)) = led_numbers(alloc, fields)? else {
+    let Some((start, edges)) = led_numbers(alloc, most, fields)? else {
         return Ok(None);
     };
     if edges.is_empty() {
@@ -126,11 +131,16 @@ fn read_walk(alloc: Global, line: u64, fields: Fields<'_>) -> Result<Option<Part
     Ok(Some(Part::Walk(WalkLine { line, start, edges })))
 }
 
-fn read_set(alloc: Global, line: u64, fields: Fields<'_>) -> Result<Option<Part>, OutOfMemory>
+fn read_set(
+    alloc: Global,
+    line: u64,
+    most: usize,
+    fields: Fields<'_>,
+) -> Result<Option<Part>, OutOfMemory>
     ensures value { IfOk result (λ o. o ≡ set_in line fields.entry) }
     ensures form { IfOk result (λ o. IfSome o (λ p. is_formed p ≡ true)) }
 {
-    let Some((dual, members)) = led_numbers(alloc, fields)? else {
+    let Some((dual, members)) = led_numbers(alloc, most, fields)? else {
         return Ok(None);
     };
     Ok(Some(Part::Set(SetLine {
@@ -143,12 +153,13 @@ fn read_set(alloc: Global, line: u64, fields: Fields<'_>) -> Result<Option<Part>
 fn read_members(
     alloc: Global,
     line: u64,
+    most: usize,
     fields: Fields<'_>,
 ) -> Result<Option<MemberLine>, OutOfMemory>
     ensures value { IfOk result (λ o. o ≡ members_in line fields.entry) }
     ensures form { IfOk result (λ o. IfSome o (λ u. ascends u.members ≡ true)) }
 {
-    let Some(members) = counted_numbers(alloc, fields)? else {
+    let Some(members) = counted_numbers(alloc, most, fields)? else {
         return Ok(None);
     };
     if !is_ascending(members.as_slice()) {
@@ -157,11 +168,12 @@ fn read_members(
     Ok(Some(MemberLine { line, members }))
 }
 
-/// What the fields after this letter say on a line of this number.
+/// What the fields after this letter say on a line of this number, which can hold at most `most`.
 fn read_fields(
     alloc: Global,
     line: u64,
     letter: Letter,
+    most: usize,
     fields: Fields<'_>,
 ) -> Result<Option<Part>, OutOfMemory>
     ensures value { IfOk result (λ o. o ≡ fields_say line fields.entry letter) }
@@ -169,21 +181,22 @@ fn read_fields(
 {
     match letter {
         Letter::Count => Ok(read_count(line, fields)),
-        Letter::Walk => read_walk(alloc, line, fields),
+        Letter::Walk => read_walk(alloc, line, most, fields),
         Letter::Dual => Ok(read_dual(line, fields)),
-        Letter::Set => read_set(alloc, line, fields),
-        Letter::Barrier => Ok(read_members(alloc, line, fields)?.map(Part::Barrier)),
-        Letter::Odd => Ok(read_members(alloc, line, fields)?.map(Part::Odd)),
-        Letter::Split => Ok(read_members(alloc, line, fields)?.map(Part::Split)),
+        Letter::Set => read_set(alloc, line, most, fields),
+        Letter::Barrier => Ok(read_members(alloc, line, most, fields)?.map(Part::Barrier)),
+        Letter::Odd => Ok(read_members(alloc, line, most, fields)?.map(Part::Odd)),
+        Letter::Split => Ok(read_members(alloc, line, most, fields)?.map(Part::Split)),
     }
 }
 
 /// What a line of this number says after the first line of a document, by its first field and the
-/// others.
+/// others. The line can hold at most `most` fields: no list takes room for more.
 pub fn read_part(
     alloc: Global,
     line: u64,
     word: &[u8],
+    most: usize,
     fields: Fields<'_>,
 ) -> Result<Option<Part>, OutOfMemory>
     ensures value { IfOk result (λ o. o ≡ part_in line word.now fields.entry) }
@@ -192,5 +205,5 @@ pub fn read_part(
     let Some(letter) = Letter::named(word) else {
         return Ok(None);
     };
-    read_fields(alloc, line, letter, fields)
+    read_fields(alloc, line, letter, most, fields)
 }

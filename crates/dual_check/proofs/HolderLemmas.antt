@@ -1,5 +1,5 @@
 -- The numbers of the sets that hold a vertex, one set more, and by vertex.
-use Rattle.std.proofs.Common.{◌≡◌, ◌∙◌, sym, ap, subst, ℕ, ◌+◌, ◌<◌, ◌≤◌, ℤ, pos, Bool, cond, List, [], ◌∷◌, ◌++◌, length, All}
+use Rattle.std.proofs.Common.{◌≡◌, ◌∙◌, sym, ap, subst, ℕ, ◌+◌, ◌<◌, ◌≤◌, pos, Bool, cond, List, [], ◌∷◌, ◌++◌, length, All}
 use Rattle.std.proofs.lemmas.List.Elements.{All-weaker}
 use Rattle.graph_theory.specs.declared.odd_set.OddSet.{OddSet}
 use Rattle.graph_theory.specs.Duals.{IsSetWithin, set_at, no_set}

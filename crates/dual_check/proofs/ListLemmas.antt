@@ -1,7 +1,7 @@
 -- Lemmas on lists by vertex, and on sums over lists.
 use Rattle.std.proofs.Common.{append-nil, refl}
 use Rattle.std.proofs.Common.{◌≡◌, ◌∙◌, sym, ap, ap₂, subst, inl, inr, arith, ℕ, zero, suc, ◌+◌, ◌<◌, ℤ, pos, ◌+ℤ◌, Bool, true, false, cond, eqb, ◌||◌, List, [], ◌∷◌, ◌++◌, length, get_or}
-use Rattle.std.proofs.Common.{set, take, All, get_or-set_same, get_or-set_other, length-append}
+use Rattle.std.proofs.Common.{take, All, length-append}
 use Rattle.std.proofs.Math.Bool.{or-false}
 use Rattle.std.proofs.Math.Seq.{get_or-append_seam}
 use Rattle.std.specs.Prelude.{◌↔◌, IsTrue, nat_lt}

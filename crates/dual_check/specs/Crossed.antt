@@ -1,6 +1,7 @@
 -- What is added up at each edge, by its number, in a pass over the sets.
-use Rattle.std.specs.Prelude.{◌≡◌, ℕ, ◌+◌, ◌^◌, ℤ, pos, neg_ℤ, ◌+ℤ◌, ◌≤ℤ◌, Bool, not, ◌&&◌, List}
-use Rattle.std.specs.Prelude.{length, slice_index_or, if◌then◌else◌}
+use Rattle.std.specs.Prelude.{◌≡◌, ℕ, ◌+◌, ◌*◌, ◌^◌, ℤ, pos, neg_ℤ, ◌+ℤ◌, ◌*ℤ◌, ◌≤ℤ◌, Bool, not}
+use Rattle.std.specs.Prelude.{◌&&◌, List, length, slice_index_or, if◌then◌else◌}
+use Rattle.graph_theory.specs.declared.limits.TheConstants.{NUMBER_LIMIT}
 use Rattle.graph_theory.specs.declared.edge.Edge.{Edge}
 use Rattle.graph_theory.specs.declared.odd_set.OddSet.{OddSet}
 use Rattle.graph_theory.specs.Graph.{Multigraph, IsEdgeNumber, edge_of, touches, other_end}
@@ -35,6 +36,7 @@ pub record AreCrossed (g : Multigraph) (sets : List OddSet) (totals : List ℤ) 
   pub exact : (e : ℕ) → IsEdgeNumber g e → total_at totals e
       ≡ crossed_by sets (length sets) (edge_of g e)
 
--- a number that lies between -10 ^ n and 10 ^ n
-abbrev pub IsWithinPower : ℕ → ℤ → Type 0
-IsWithinPower n a = (neg_ℤ (pos (10 ^ n)) ≤ℤ a) × (a ≤ℤ pos (10 ^ n))
+-- a number that n times 2 ^ 64 duals can add up to
+abbrev pub IsWithin : ℕ → ℤ → Type 0
+IsWithin n a = ((neg_ℤ NUMBER_LIMIT *ℤ pos (n * 2 ^ 64)) ≤ℤ a)
+    × (a ≤ℤ (NUMBER_LIMIT *ℤ pos (n * 2 ^ 64)))

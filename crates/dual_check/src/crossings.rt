@@ -4,7 +4,7 @@ ghost use Rattle.graph_theory.specs.Graph.{IsEdgeNumber, edge_of, edges_around};
 ghost use Rattle.graph_theory.specs.Duals.{HasForm, IsNumber, IsSetWithin};
 ghost use Rattle.weighted_graph.specs.Index.{IsIndex};
 ghost use Rattle.graph_parts.specs.Marks.{is_marked};
-ghost use Rattle.dual_check.specs.Crossed.{total_at, AddsFrom, AddsSet, AreCrossed, IsWithinPower};
+ghost use Rattle.dual_check.specs.Crossed.{total_at, AddsFrom, AddsSet, AreCrossed, IsWithin};
 ghost use Rattle.dual_check.specs.Shared.{crossed_at, other_dual};
 
 use crate::holders::holders_of;
@@ -28,7 +28,7 @@ fn add_from(
     requires numbers { numbers.now ≡ edges_around graph.now vertex }
     requires marks { length marks.now ≡ graph.now.vertices + 1 }
     requires size { length totals.old ≡ length graph.now.edges + 1 }
-    requires small { (e : ℕ) → IsEdgeNumber graph.now e → IsWithinPower 36 (total_at totals.old e) }
+    requires small { (e : ℕ) → IsEdgeNumber graph.now e → IsWithin 3 (total_at totals.old e) }
     requires dual { IsNumber dual }
     ensures { AddsFrom graph.now marks.now vertex dual totals.old totals.new }
 {
@@ -54,7 +54,7 @@ fn add_set(
     requires marks { length marks.old ≡ graph.now.vertices + 1 }
     requires none { (v : ℕ) → is_marked marks.old v ≡ false }
     requires size { length totals.old ≡ length graph.now.edges + 1 }
-    requires small { (e : ℕ) → IsEdgeNumber graph.now e → IsWithinPower 35 (total_at totals.old e) }
+    requires small { (e : ℕ) → IsEdgeNumber graph.now e → IsWithin 1 (total_at totals.old e) }
     ensures none { (v : ℕ) → is_marked marks.new v ≡ false }
     ensures adds { AddsSet graph.now set.now totals.old totals.new }
 {

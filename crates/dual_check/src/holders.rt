@@ -1,10 +1,11 @@
-ghost use Rattle.std.specs.Prelude.{◌≡◌, ℕ, ◌<◌, ◌≤◌, ◌∷◌, ◌++◌, [], pos, length, All, OnOk, IfOk};
-ghost use Rattle.std.specs.Prelude.{if◌then◌else◌, ℤ};
+ghost use Rattle.std.specs.Prelude.{◌≡◌, ℕ, ◌<◌, ◌≤◌, ◌^◌, ◌∷◌, ◌++◌, [], true, pos, length, All};
+ghost use Rattle.std.specs.Prelude.{OnOk, IfOk, if◌then◌else◌, ℤ};
 ghost use Rattle.std.specs.List.Sorted.{IsStrictlyIncreasing};
 ghost use Rattle.graph_theory.specs.Sums.{int_sum_to};
 ghost use Rattle.graph_theory.specs.Parts.{holds};
 ghost use Rattle.graph_theory.specs.Duals.{HasForm, IsSetWithin};
 ghost use Rattle.weighted_graph.specs.Grouped.{items_of};
+ghost use Rattle.graph_parts.specs.Marks.{is_marked};
 ghost use Rattle.dual_check.specs.Shared.{IsHolders, HoldsTaken};
 
 use graph_theory::OddSet;
@@ -14,9 +15,9 @@ use weighted_graph::ByVertex;
 
 /// Puts the number of a set at the end, beside each of its members.
 fn add_members(
-    entries: &mut Vec<(VertexId, usize)>,
+    entries: &mut Vec<(VertexId, u32)>,
     members: &[VertexId],
-    set: usize,
+    set: u32,
 ) -> Result<(), OutOfMemory>
     requires { IsStrictlyIncreasing members.now }
     ensures within { OnOk result ((n : ℕ) → All (λ m. m ≤ n) members.now
@@ -31,23 +32,37 @@ fn add_members(
     Ok(())
 }
 
+/// How many members the taken sets have together.
+fn taken_size(sets: &[OddSet], taken: &[bool]) -> usize
+    requires { length taken.now ≡ length sets.now }
+{
+    let mut size = 0usize;
+    for (k, set) in sets.iter().enumerate() {
+        if taken[k] {
+            size = size.saturating_add(set.members.len());
+        }
+    }
+    size
+}
+
 /// The numbers, from 0, of the taken sets beside their members, set by set.
 fn taken_members(
     alloc: Global,
     sets: &[OddSet],
     taken: &[bool],
-) -> Result<Vec<(VertexId, usize)>, OutOfMemory>
+) -> Result<Vec<(VertexId, u32)>, OutOfMemory>
     requires forms { All (λ s. HasForm s.members) sets.now }
     requires one_each { length taken.now ≡ length sets.now }
+    requires numbered { (k : ℕ) → is_marked taken.now k ≡ true → length sets.now < 2 ^ 32 }
     ensures within { IfOk result (λ entries. (n : ℕ) → All (IsSetWithin n) sets.now
         → All (λ e. e.0 ≤ n) entries.items) }
     ensures holders { IfOk result (λ entries. (v : ℕ)
         → HoldsTaken sets.now taken.now v (length sets.now) (items_of entries.items v)) }
 {
-    let mut entries = Vec::new(alloc);
+    let mut entries = Vec::with_capacity(alloc, taken_size(sets, taken))?;
     for (k, set) in sets.iter().enumerate() {
         if taken[k] {
-            add_members(&mut entries, set.members.as_slice(), k)?;
+            add_members(&mut entries, set.members.as_slice(), k as u32)?;
         }
     }
     Ok(entries)
@@ -59,10 +74,11 @@ pub(crate) fn holders_of(
     vertices: u32,
     sets: &[OddSet],
     taken: &[bool],
-) -> Result<ByVertex<usize>, OutOfMemory>
+) -> Result<ByVertex<u32>, OutOfMemory>
     requires within { All (IsSetWithin vertices) sets.now }
     requires forms { All (λ s. HasForm s.members) sets.now }
     requires one_each { length taken.now ≡ length sets.now }
+    requires numbered { (k : ℕ) → is_marked taken.now k ≡ true → length sets.now < 2 ^ 32 }
     ensures { IfOk result (IsHolders vertices sets.now taken.now) }
 {
     let entries = taken_members(alloc, sets, taken)?;

@@ -1,6 +1,7 @@
-ghost use Rattle.std.specs.Prelude.{◌≡◌, ◌<◌, length, All, IfOk};
+ghost use Rattle.std.specs.Prelude.{◌≡◌, ℕ, ◌<◌, ◌^◌, true, length, All, IfOk};
 ghost use Rattle.graph_theory.specs.Duals.{IsSetWithin};
 ghost use Rattle.weighted_graph.specs.Index.{IsIndex};
+ghost use Rattle.graph_parts.specs.Marks.{is_marked};
 
 use graph_theory::OddSet;
 use mb_base::{OutOfMemory, VertexId};
@@ -20,8 +21,8 @@ fn edges_at(incidence: &Incidence, members: &[VertexId]) -> usize
 
 /// For each set whether it is narrow: whether its pairs of members take less time than the edges at
 /// them, an edge as much as four pairs. None is where all these edges take less time than a table
-/// of a number for each two vertices, in which pairs are added up. It says which of two ways is
-/// faster, and either answer is right.
+/// of a number for each two vertices, in which pairs are added up, or where a set has a number past
+/// 32 bits. It says which of two ways is faster, and either answer is right.
 pub(crate) fn narrow_sets(
     alloc: Global,
     graph: &Graph,
@@ -30,10 +31,15 @@ pub(crate) fn narrow_sets(
 ) -> Result<Vec<bool>, OutOfMemory>
     requires index { IsIndex graph.now incidence.now }
     requires within { All (IsSetWithin graph.now.vertices) sets.now }
-    ensures { IfOk result (λ narrow. length narrow.items ≡ length sets.now) }
+    ensures size { IfOk result (λ narrow. length narrow.items ≡ length sets.now) }
+    ensures numbered { IfOk result (λ narrow. (k : ℕ) → is_marked narrow.items k ≡ true
+        → length sets.now < 2 ^ 32) }
 {
+    if sets.len() > u32::MAX as usize {
+        return Ok(vec![in alloc; false; sets.len()]?);
+    }
     let vertices = graph.vertices() as usize;
-    let mut narrow = Vec::new(alloc);
+    let mut narrow = Vec::with_capacity(alloc, sets.len())?;
     let mut spared = 0usize;
     for set in sets {
         let members = set.members.as_slice();

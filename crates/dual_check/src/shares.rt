@@ -5,7 +5,7 @@ ghost use Rattle.graph_theory.specs.Graph.{IsEdgeNumber, edges_around};
 ghost use Rattle.graph_theory.specs.Parts.{holds};
 ghost use Rattle.graph_theory.specs.Duals.{HasForm, IsNumber, IsSetWithin};
 ghost use Rattle.weighted_graph.specs.Index.{IsIndex};
-ghost use Rattle.dual_check.specs.Crossed.{total_at, IsWithinPower};
+ghost use Rattle.dual_check.specs.Crossed.{total_at, IsWithin};
 ghost use Rattle.dual_check.specs.Shared.{IsHolders, AreShares, AddsUnshared, AddsCrossed};
 ghost use Rattle.dual_check.specs.Shared.{taken_dual};
 
@@ -25,7 +25,7 @@ struct Shares {
 fn share(totals: &mut [i128], members: &[VertexId], dual: i64)
     requires in_range { All (λ m. m < length totals.old) members.now }
     requires ascending { IsStrictlyIncreasing members.now }
-    requires small { (v : ℕ) → IsWithinPower 35 (total_at totals.old v) }
+    requires small { (v : ℕ) → IsWithin 1 (total_at totals.old v) }
     requires dual { IsNumber dual }
     ensures { (v : ℕ) → total_at totals.new v
         ≡ (total_at totals.old v +ℤ (if holds members.now v then dual else pos 0)) }
@@ -40,7 +40,7 @@ fn shares_of(
     alloc: Global,
     vertices: u32,
     sets: &[OddSet],
-    list: &[usize],
+    list: &[u32],
 ) -> Result<Shares, OutOfMemory>
     requires numbers { All (λ s. IsNumber s.dual) sets.now }
     requires within { All (IsSetWithin vertices) sets.now }
@@ -51,7 +51,7 @@ fn shares_of(
     let mut whole = 0i128;
     let mut with_vertex = vec![in alloc; 0i128; vertices as usize + 1]?;
     for number in list {
-        let set = &sets[*number];
+        let set = &sets[*number as usize];
         whole += i128::from(set.dual);
         share(&mut with_vertex, set.members.as_slice(), set.dual);
     }
@@ -68,10 +68,10 @@ fn add_unshared(
 )
     requires numbers { numbers.now ≡ edges_around graph.now vertex }
     requires places { length shares.now.with_vertex.items ≡ graph.now.vertices + 1 }
-    requires whole { IsWithinPower 35 shares.now.whole }
-    requires with_vertex { (v : ℕ) → IsWithinPower 35 (total_at shares.now.with_vertex.items v) }
+    requires whole { IsWithin 1 shares.now.whole }
+    requires with_vertex { (v : ℕ) → IsWithin 1 (total_at shares.now.with_vertex.items v) }
     requires size { length totals.old ≡ length graph.now.edges + 1 }
-    requires small { (e : ℕ) → IsEdgeNumber graph.now e → IsWithinPower 36 (total_at totals.old e) }
+    requires small { (e : ℕ) → IsEdgeNumber graph.now e → IsWithin 3 (total_at totals.old e) }
     ensures { AddsUnshared graph.now shares.now vertex totals.old totals.new }
 {
     for number in numbers {
@@ -89,7 +89,7 @@ pub(crate) fn add_taken(
     incidence: &Incidence,
     sets: &[OddSet],
     taken: &[bool],
-    holders: &ByVertex<usize>,
+    holders: &ByVertex<u32>,
     totals: &mut [i128],
 ) -> Result<(), OutOfMemory>
     requires index { IsIndex graph.now incidence.now }
@@ -98,7 +98,7 @@ pub(crate) fn add_taken(
     requires forms { All (λ s. HasForm s.members) sets.now }
     requires holders { IsHolders graph.now.vertices sets.now taken.now holders.now }
     requires size { length totals.old ≡ length graph.now.edges + 1 }
-    requires small { (e : ℕ) → IsEdgeNumber graph.now e → IsWithinPower 35 (total_at totals.old e) }
+    requires small { (e : ℕ) → IsEdgeNumber graph.now e → IsWithin 1 (total_at totals.old e) }
     ensures { OnOk result (AddsCrossed graph.now sets.now
         (taken_dual sets.now taken.now) totals.old totals.new) }
 {

@@ -1,7 +1,7 @@
 ghost use Rattle.std.specs.Prelude.{◌≡◌, ◌+◌, ◌≤◌, length, pos, ◌*ℤ◌, ◌-ℤ◌, ◌≤ℤ◌, All, MatchOption};
 ghost use Rattle.graph_theory.specs.Graph.{IsGraph, IsEdgeWithin, IsWeight};
 ghost use Rattle.graph_theory.specs.Duals.{HasForm, IsNumber, dual_of, slack};
-ghost use Rattle.dual_check.specs.Crossed.{AreCrossed, IsWithinPower};
+ghost use Rattle.dual_check.specs.Crossed.{AreCrossed, IsWithin};
 ghost use Rattle.dual_check.specs.Fault.{IsFirstSlackFault};
 
 use graph_theory::{Edge, OddSet};
@@ -22,7 +22,7 @@ fn set_dual(y: &[i64], vertex: VertexId) -> i64
 fn slack_of(y: &[i64], edge: &Edge, crossed: i128) -> i128
     requires ends { IsEdgeWithin (length y.now) edge.now }
     requires y_numbers { All IsNumber y.now }
-    requires small { IsWithinPower 36 crossed }
+    requires small { IsWithin 3 crossed }
     ensures { result
         ≡ pos 2 *ℤ edge.now.w -ℤ dual_of y.now edge.now.u -ℤ dual_of y.now edge.now.v -ℤ crossed }
 {

@@ -1,4 +1,4 @@
-use Rattle.std.proofs.Common.{◌≡◌, ◌≤◌, true, List, ℤ, All, sym, ap, ◌∙◌, subst}
+use Rattle.std.proofs.Common.{arith, ◌≡◌, ◌≤◌, true, List, ℤ, All, sym, ap, ◌∙◌, subst}
 use Rattle.graph_theory.specs.declared.limits.TheConstants.{GRAPH_VERTEX_LIMIT}
 use Rattle.graph_theory.specs.Parts.{IsVertexSet}
 use Rattle.mb_problem.specs.Network.{vertices}
@@ -16,7 +16,7 @@ members_of-requires c =
     let n = vertices c.args.instance.now in
     let line : MemberLine = c.in-Some.t in
     let within : All (IsUpTo n) line.members = rw c.in-Some.is at c.requires.within in
-    let few : n ≤ GRAPH_VERTEX_LIMIT = c.requires.network.few_vertices in
+    let few : n ≤ GRAPH_VERTEX_LIMIT = omega (arith, c.requires.network.few_vertices) in
     subst (λ (zs : List ℤ). All (IsUpTo GRAPH_VERTEX_LIMIT) zs) (sym c.as_slice.ensures) (up_to-more n GRAPH_VERTEX_LIMIT line.members few within)
 
 pub is_odd_part-requires : goal.is_odd_part-requires

@@ -1,4 +1,4 @@
-use Rattle.std.proofs.Common.{arith, ℕ, ◌≤◌, ◌≡◌, [], List, All, get_or, subst, sym}
+use Rattle.std.proofs.Common.{arith, ℕ, ◌≤◌, ◌≡◌, All, get_or, subst, sym}
 use Rattle.std.proofs.lemmas.List.{get_or_read}
 use Rattle.std.proofs.lemmas.List.Elements.{All-push}
 use Rattle.weighted_graph.specs.Grouped.{items_of}

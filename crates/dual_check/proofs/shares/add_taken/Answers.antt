@@ -1,6 +1,7 @@
-use Rattle.std.proofs.Common.{arith, ◌≡◌, ◌∙◌, ap, sym, ℕ, ℤ, ◌+ℤ◌, ◌-◌, pos, cond, List, [], get_or, length, ◌^◌}
+use Rattle.std.proofs.Common.{arith, ◌≡◌, ◌∙◌, ap, sym, ℕ, ℤ, ◌+ℤ◌, ◌-◌, pos, cond, List, [], get_or, length, ◌*◌, ◌^◌, nat_abs}
 use Rattle.std.proofs.lemmas.Int.{ints}
 use Rattle.std.proofs.lemmas.Bool.{eqb-true}
+use Rattle.graph_theory.specs.declared.limits.TheConstants.{NUMBER_LIMIT}
 use Rattle.graph_theory.specs.Graph.{IsEdgeWithin, edge_of, other_end, touches, no_edge}
 use Rattle.dual_check.specs.Crossed.{total_at}
 use Rattle.dual_check.proofs.TakenLemmas.{left_at, left-within, given_to, given-within, given_more, all_given, unshared_is, none_left, whole-within, shared-within, no_items, nothing_given}
@@ -28,8 +29,8 @@ add_unshared-requires-clause-small c = λ e b.
     let within : IsEdgeWithin g.vertices edge = c.vertices.ensures.graph.ends (e - 1) no_edge (omega arith) in
     let u = left-within sets taken edge.u (other_end edge edge.u) c.requires.numbers in
     let v = left-within sets taken edge.v (other_end edge edge.v) c.requires.numbers in
-    let r = given-within edge (λ w. left_at sets taken w (other_end edge w)) g.vertices c.loop-k.k (10 ^ 35) within (omega (arith, ints, u.0), omega (arith, ints, u.1))
-    (omega (arith, ints, v.0), omega (arith, ints, v.1)) in
+    let r = given-within edge (λ w. left_at sets taken w (other_end edge w)) g.vertices c.loop-k.k (nat_abs NUMBER_LIMIT * 2 ^ 64) within
+    (omega (arith, ints, u.0), omega (arith, ints, u.1)) (omega (arith, ints, v.0), omega (arith, ints, v.1)) in
     let same = c.loop-k.invariant.exact e b in
     let small = c.requires.small e b in
     (omega (arith, ints, r.0, same, small.0), omega (arith, ints, r.1, same, small.1))
