@@ -75,9 +75,9 @@ settles kind i start edges d asks network circuit negative p =
     let size : length edges ≤ length i.edges * 1 = few-steps 1 i edges (walk-numbers (graph_of i) start edges circuit.walk) (λ k b. differ-once edges (k + 1) circuit.edges_differ) in
     let walk : d.walk ≡ Some (walk_line start edges) = ap (λ (b : Body). b.walk) p.body in
     let has : HasNegativeCircuit i d = has-circuit i start edges d.walk circuit negative walk in
-    let row : IsShortLine Walk 2400000 (Some (walk_line start edges)) =
+    let row : IsShortLine Walk 2800000 (Some (walk_line start edges)) =
     short-walk (vertices i) (length i.edges) start edges network.few_vertices network.few_edges (omega (arith, size)) within in
-    let text = line-size Walk 2400000 (Some (walk_line start edges)) row in
+    let text = line-size Walk 2800000 (Some (walk_line start edges)) row in
     let same : length (parts_text (parts_of (body_of d))) ≡ length (parts_text (at_most_one Walk (Some (walk_line start edges)))) =
     ap (λ (b : Body). length (parts_text (parts_of b))) p.body in
     record {

@@ -4,6 +4,7 @@ use Rattle.std.specs.List.{list_all}
 use Rattle.std.proofs.lemmas.Bool.{and_from}
 use Rattle.std.proofs.lemmas.Int.{ints}
 use Rattle.std.proofs.lemmas.List.Elements.{All-map, All-weaker}
+use Rattle.graph_theory.specs.declared.limits.TheConstants.{GRAPH_VERTEX_LIMIT}
 use Rattle.graph_theory.specs.Barrier.{IsBarrier}
 use Rattle.graph_theory.specs.Parts.{IsVertexSet, IsOddPart, IsSplitPart}
 use Rattle.mb_problem.specs.declared.kind.Kind.{Kind}
@@ -179,12 +180,15 @@ chosen-infeasible kind i set d x p =
 -- the set has few members
 pub record IsFewOf (set : List ℕ) : Type 0 where
   pub n : ℕ
-  pub few : n ≤ 4096
+  pub few : n ≤ GRAPH_VERTEX_LIMIT
   pub is_set : IsVertexSet n set
 
-pub few-excluding : (e : Exclusion) (kind : Kind) (i : Network) (set : List ℕ) → IsNetwork i → (is_barrier e ≡ true → (gadget_graph kind i).vertices ≤ 4096) → ExcludesBy e kind i set →
-    IsFewOf set
+few-vertices : (i : Network) → IsNetwork i → vertices i ≤ GRAPH_VERTEX_LIMIT
+few-vertices i network = let few : vertices i ≤ 4096 = network.few_vertices in omega (arith, few)
+
+pub few-excluding : (e : Exclusion) (kind : Kind) (i : Network) (set : List ℕ) → IsNetwork i → (is_barrier e ≡ true → (gadget_graph kind i).vertices ≤ GRAPH_VERTEX_LIMIT) →
+    ExcludesBy e kind i set → IsFewOf set
 few-excluding Barrier kind i set network few x = record { n = (gadget_graph kind i).vertices; few = few refl; is_set = x.0 }
-few-excluding OddPart kind i set network few x = record { n = vertices i; few = network.few_vertices; is_set = x.part.vertices }
-few-excluding SplitPart kind i set network few x = record { n = vertices i; few = network.few_vertices; is_set = x.0.vertices }
+few-excluding OddPart kind i set network few x = record { n = vertices i; few = few-vertices i network; is_set = x.part.vertices }
+few-excluding SplitPart kind i set network few x = record { n = vertices i; few = few-vertices i network; is_set = x.0.vertices }
 few-excluding Never kind i set network few x = absurd x

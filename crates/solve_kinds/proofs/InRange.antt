@@ -1,11 +1,13 @@
 -- Lines whose numbers are in their ranges.
-use Rattle.std.proofs.Common.{◌≡◌, ℕ, ℤ, pos, neg_ℤ, ◌≤ℤ◌, Bool, true, List, [], ◌∷◌, map, All, Option, None, Some, IfSome, refl, arith}
+use Rattle.std.proofs.Common.{◌≡◌, ℕ, ℤ, pos, neg_ℤ, ◌≤ℤ◌, Bool, true, List, [], ◌∷◌, map, All, Option, None, Some, IfSome, nat_abs, refl, arith}
 use Rattle.std.specs.Prelude.{int_le}
 use Rattle.std.specs.List.{list_all}
 use Rattle.std.proofs.lemmas.Int.{ints}
 use Rattle.std.proofs.lemmas.List.Elements.{All-head, All-tail, All-weaker}
 use Rattle.std.proofs.lemmas.Bool.{and_from}
+use Rattle.graph_theory.specs.declared.limits.TheConstants.{NUMBER_LIMIT}
 use Rattle.graph_theory.specs.Duals.{IsNumber}
+use Rattle.mb_problem.specs.declared.limits.TheConstants.{VALUE_LIMIT}
 use Rattle.doc_format.specs.declared.part.CountLine.{CountLine}
 use Rattle.doc_format.specs.declared.part.WalkLine.{WalkLine}
 use Rattle.doc_format.specs.declared.part.DualLine.{DualLine}
@@ -13,7 +15,7 @@ use Rattle.doc_format.specs.declared.part.SetLine.{SetLine}
 use Rattle.doc_format.specs.declared.part.Part.{Part}
 use Rattle.doc_format.specs.declared.part.Part.TheVariants.{Count, Walk, Dual, Set}
 use Rattle.doc_format.specs.Parts.{at_most_one}
-use Rattle.certificates.specs.Ranges.{is_between, is_up_to, is_dual, in_range}
+use Rattle.certificates.specs.Ranges.{is_between, is_up_to, is_dual, is_set_dual, in_range}
 use Rattle.certificates.specs.Within.{IsUpTo, IsCountWithin, IsWalkWithin, IsDualWithin, IsSetLineWithin}
 
 int_le-yes : (a b : ℤ) → a ≤ℤ b → int_le a b ≡ true
@@ -26,7 +28,7 @@ up_to : (n : ℕ) (z : ℤ) → IsUpTo n z → is_up_to n z ≡ true
 up_to n z h = between (pos 1) (pos n) z h.low h.high
 
 number : (z : ℤ) → IsNumber z → is_dual z ≡ true
-number z h = between (neg_ℤ (pos 1000000000000000)) (pos 1000000000000000) z h.0 h.1
+number z h = between (neg_ℤ NUMBER_LIMIT) NUMBER_LIMIT z h.0 h.1
 
 pub every : {A : Type 0} (p : A → Bool) (xs : List A) → All (λ x. p x ≡ true) xs → list_all p xs ≡ true
 every p [] h = refl
@@ -47,7 +49,8 @@ some_line p made P (Some x) each h = and_from (p (made x)) true (each x h) refl
 
 module _ (n m p : ℕ) where
   pub counts_in : (xs : List CountLine) → All (IsCountWithin m) xs → list_all (in_range n m p) (map Count xs) ≡ true
-  counts_in xs h = every_line (in_range n m p) Count (IsCountWithin m) xs (λ x w. and_from (is_up_to m x.edge) (is_up_to 4096 x.count) (up_to m x.edge w.0) (up_to 4096 x.count w.1)) h
+  counts_in xs h =
+      every_line (in_range n m p) Count (IsCountWithin m) xs (λ x w. and_from (is_up_to m x.edge) (is_up_to VALUE_LIMIT x.count) (up_to m x.edge w.0) (up_to VALUE_LIMIT x.count w.1)) h
 
   pub duals_in : (ys : List DualLine) → All (IsDualWithin p) ys → list_all (in_range n m p) (map Dual ys) ≡ true
   duals_in ys h = every_line (in_range n m p) Dual (IsDualWithin p) ys (λ y w. and_from (is_up_to p y.vertex) (is_dual y.dual) (up_to p y.vertex w.0) (number y.dual w.1)) h
@@ -55,7 +58,7 @@ module _ (n m p : ℕ) where
   pub sets_in : (zs : List SetLine) → All (IsSetLineWithin p) zs → list_all (in_range n m p) (map Set zs) ≡ true
   sets_in zs h =
       every_line (in_range n m p) Set (IsSetLineWithin p) zs
-      (λ z w. and_from (is_up_to 1000000000000000 z.dual) (list_all (is_up_to p) z.members) (up_to 1000000000000000 z.dual w.0) (all_up_to p z.members w.1)) h
+      (λ z w. and_from (is_set_dual z.dual) (list_all (is_up_to p) z.members) (up_to (nat_abs NUMBER_LIMIT) z.dual w.0) (all_up_to p z.members w.1)) h
 
   pub walk_in : (line : Option WalkLine) → IfSome line (IsWalkWithin n m) → list_all (in_range n m p) (at_most_one Walk line) ≡ true
   walk_in line h =

@@ -1,4 +1,4 @@
--- How long the lines of computed documents are: no line but a walk's lists more than 4,096 vertices.
+-- How long the lines of computed documents are, with six bytes for each vertex that a line lists.
 use Rattle.std.proofs.Common.{◌≡◌, ℕ, suc, ◌+◌, ◌*◌, ◌≤◌, ℤ, pos, ◌≤ℤ◌, List, [], ◌∷◌, length, map, All, refl, ap, subst, arith}
 use Rattle.std.specs.Prelude.{codes}
 use Rattle.std.specs.List.{flat_map}
@@ -6,10 +6,12 @@ use Rattle.std.specs.Fmt.{signed_decimal}
 use Rattle.std.proofs.lemmas.Int.{ints}
 use Rattle.std.proofs.lemmas.List.{length-append, length-map}
 use Rattle.std.proofs.lemmas.List.Elements.{All-nil, All-cons, All-map, All-weaker}
+use Rattle.graph_theory.specs.declared.limits.TheConstants.{GRAPH_VERTEX_LIMIT}
 use Rattle.graph_theory.specs.Duals.{IsNumber}
 use Rattle.graph_theory.specs.Parts.{holds, IsVertexSet}
 use Rattle.mb_base.specs.Rows.{Row}
 use Rattle.mb_problem.specs.declared.kind.Kind.{Kind}
+use Rattle.mb_problem.specs.declared.limits.TheConstants.{VALUE_LIMIT}
 use Rattle.mb_problem.specs.Kinds.{kind_text}
 use Rattle.doc_format.specs.declared.status.DocStatus.TheVariants.{Optimal, Infeasible, NonConservative}
 use Rattle.doc_format.specs.declared.part.MemberLine.{MemberLine}
@@ -28,49 +30,44 @@ use Rattle.solve_kinds.proofs.Texts.{short_number, short_vertex, spaced-most, ro
 use Rattle.mb_problem.proofs.KindLaws.{kind-short}
 use Rattle.solve_kinds.proofs.Excluding.{up_to-pos}
 
-pub up_to-number : (n : ℕ) (z : ℤ) → n ≤ 1000000000000000 → IsUpTo n z → IsNumber z
+pub up_to-number : (n : ℕ) (z : ℤ) → n ≤ 1000000000000000000 → IsUpTo n z → IsNumber z
 up_to-number n z few h =
     let low : pos 1 ≤ℤ z = h.low in
     let high : z ≤ℤ pos n = h.high in (omega (arith, ints), omega (arith, ints))
-
-up_to-vertex : (n : ℕ) (z : ℤ) → n ≤ 4096 → IsUpTo n z → IsUpTo 4096 z
-up_to-vertex n z few h =
-    let low : pos 1 ≤ℤ z = h.low in
-    let high : z ≤ℤ pos n = h.high in
-    record { low = low; high = omega (arith, ints) }
 
 -- ascending vertices are no more than there are
 pub few_members : (n : ℕ) (ms : List ℕ) → IsVertexSet n ms → length ms ≤ n
 few_members n ms set = subst (λ (xs : List ℕ). length xs ≤ n) (members-passing n ms set) (passing-few (holds ms) n)
 
 -- two numbers on a line
-pair-size : (first : List ℕ) (a b : ℤ) → length first ≡ 1 → IsNumber a → IsNumber b → length (row_text (first ∷ map signed_decimal (a ∷ b ∷ []))) ≤ 38
+pair-size : (first : List ℕ) (a b : ℤ) → length first ≡ 1 → IsNumber a → IsNumber b → length (row_text (first ∷ map signed_decimal (a ∷ b ∷ []))) ≤ 44
 pair-size first a b one na nb =
-    let fields : length (spaced (a ∷ b ∷ [])) ≤ 2 * (17 + 1) = spaced-most 17 (a ∷ b ∷ [])
-    (All-cons (λ z. length (signed_decimal z) ≤ 17) a (b ∷ []) (short_number a na)
-    (All-cons (λ z. length (signed_decimal z) ≤ 17) b [] (short_number b nb) (All-nil (λ z. length (signed_decimal z) ≤ 17)))) in
+    let fields : length (spaced (a ∷ b ∷ [])) ≤ 2 * (20 + 1) = spaced-most 20 (a ∷ b ∷ [])
+    (All-cons (λ z. length (signed_decimal z) ≤ 20) a (b ∷ []) (short_number a na)
+    (All-cons (λ z. length (signed_decimal z) ≤ 20) b [] (short_number b nb) (All-nil (λ z. length (signed_decimal z) ≤ 20)))) in
     omega (arith, row-length first (map signed_decimal (a ∷ b ∷ [])))
 
-pub count-size : (m : ℕ) (x : CountLine) → m ≤ 65536 → IsCountWithin m x → length (row_text (part_row (Count x))) ≤ 38
-count-size m x few h = pair-size (codes "x") x.edge x.count refl (up_to-number m x.edge (omega arith) h.0) (up_to-number 4096 x.count (omega arith) h.1)
+pub count-size : (m : ℕ) (x : CountLine) → m ≤ 65536 → IsCountWithin m x → length (row_text (part_row (Count x))) ≤ 44
+count-size m x few h = pair-size (codes "x") x.edge x.count refl (up_to-number m x.edge (omega arith) h.0) (up_to-number VALUE_LIMIT x.count (omega arith) h.1)
 
-pub dual-size : (n : ℕ) (y : DualLine) → n ≤ 4096 → IsDualWithin n y → length (row_text (part_row (Dual y))) ≤ 38
+pub dual-size : (n : ℕ) (y : DualLine) → n ≤ GRAPH_VERTEX_LIMIT → IsDualWithin n y → length (row_text (part_row (Dual y))) ≤ 44
 dual-size n y few h = pair-size (codes "y") y.vertex y.dual refl (up_to-number n y.vertex (omega arith) h.0) h.1
 
 -- a count and as many vertices
-counted-size : (n : ℕ) (zs : List ℤ) → n ≤ 4096 → length zs ≤ n → All (IsUpTo n) zs → length (spaced (with_count zs)) ≤ 20498
+counted-size : (n : ℕ) (zs : List ℤ) → n ≤ GRAPH_VERTEX_LIMIT → length zs ≤ n → All (IsUpTo n) zs → length (spaced (with_count zs)) ≤ 6 * length zs + 21
 counted-size n zs few size h =
+    let most : n ≤ 16384 = few in
     let size_number : IsNumber (pos (length zs)) = (omega (arith, ints), omega (arith, ints)) in
-    let count : length (signed_decimal (pos (length zs))) ≤ 17 = short_number (pos (length zs)) size_number in
-    let fields : length (spaced zs) ≤ length zs * (4 + 1) =
-    spaced-most 4 zs (All-weaker (IsUpTo n) (λ z. length (signed_decimal z) ≤ 4) (λ z w. short_vertex z (up_to-vertex n z few w)) zs h) in
+    let count : length (signed_decimal (pos (length zs))) ≤ 20 = short_number (pos (length zs)) size_number in
+    let fields : length (spaced zs) ≤ length zs * (5 + 1) =
+    spaced-most 5 zs (All-weaker (IsUpTo n) (λ z. length (signed_decimal z) ≤ 5) (λ z w. short_vertex n z few w) zs h) in
     let split : length (spaced (with_count zs)) ≡ suc (length (signed_decimal (pos (length zs)))) + length (spaced zs) =
     length-append (after_space (signed_decimal (pos (length zs)))) (spaced zs) in
     omega arith
 
-pub set-size : (n : ℕ) (z : SetLine) → n ≤ 4096 → length z.members ≤ n → IsSetLineWithin n z → length (row_text (part_row (Set z))) ≤ 20518
+pub set-size : (n : ℕ) (z : SetLine) → n ≤ GRAPH_VERTEX_LIMIT → length z.members ≤ n → IsSetLineWithin n z → length (row_text (part_row (Set z))) ≤ 6 * length z.members + 44
 set-size n z few size h =
-    let dual : length (signed_decimal z.dual) ≤ 17 = short_number z.dual (up_to-number 1000000000000000 z.dual (omega arith) h.0) in
+    let dual : length (signed_decimal z.dual) ≤ 20 = short_number z.dual (up_to-number 1000000000000000000 z.dual (omega arith) h.0) in
     let fields = counted-size n z.members few size h.1 in
     let split : length (spaced (z.dual ∷ with_count z.members)) ≡ suc (length (signed_decimal z.dual)) + length (spaced (with_count z.members)) =
     length-append (after_space (signed_decimal z.dual)) (spaced (with_count z.members)) in
@@ -78,13 +75,13 @@ set-size n z few size h =
     omega arith
 
 -- a walk: its start, a count and the edges
-pub walk-size : (n m : ℕ) (w : WalkLine) → n ≤ 4096 → m ≤ 65536 → length w.edges ≤ 2 * m → IsWalkWithin n m w → length (row_text (part_row (Walk w))) ≤ 2400000
+pub walk-size : (n m : ℕ) (w : WalkLine) → n ≤ 4096 → m ≤ 65536 → length w.edges ≤ 2 * m → IsWalkWithin n m w → length (row_text (part_row (Walk w))) ≤ 2800000
 walk-size n m w few many size h =
     let size_number : IsNumber (pos (length w.edges)) = (omega (arith, ints), omega (arith, ints)) in
-    let start : length (signed_decimal w.start) ≤ 17 = short_number w.start (up_to-number n w.start (omega arith) h.0) in
-    let count : length (signed_decimal (pos (length w.edges))) ≤ 17 = short_number (pos (length w.edges)) size_number in
-    let fields : length (spaced w.edges) ≤ length w.edges * (17 + 1) =
-    spaced-most 17 w.edges (All-weaker (IsUpTo m) (λ z. length (signed_decimal z) ≤ 17) (λ z u. short_number z (up_to-number m z (omega arith) u)) w.edges h.1) in
+    let start : length (signed_decimal w.start) ≤ 20 = short_number w.start (up_to-number n w.start (omega arith) h.0) in
+    let count : length (signed_decimal (pos (length w.edges))) ≤ 20 = short_number (pos (length w.edges)) size_number in
+    let fields : length (spaced w.edges) ≤ length w.edges * (20 + 1) =
+    spaced-most 20 w.edges (All-weaker (IsUpTo m) (λ z. length (signed_decimal z) ≤ 20) (λ z u. short_number z (up_to-number m z (omega arith) u)) w.edges h.1) in
     let first : length (spaced (w.start ∷ with_count w.edges)) ≡ suc (length (signed_decimal w.start)) + length (spaced (with_count w.edges)) =
     length-append (after_space (signed_decimal w.start)) (spaced (with_count w.edges)) in
     let second : length (spaced (with_count w.edges)) ≡ suc (length (signed_decimal (pos (length w.edges)))) + length (spaced w.edges) =
@@ -94,15 +91,16 @@ walk-size n m w few many size h =
 
 -- a count and as many vertices after any letter
 pub members-size : (made : MemberLine → Part) (c : List ℕ) (set : List ℕ) (n : ℕ) → ((u : MemberLine) → part_row (made u) ≡ c ∷ map signed_decimal (with_count u.members)) → length c ≡ 1 →
-    n ≤ 4096 → IsVertexSet n set → length (row_text (part_row (made (member_line set)))) ≤ 20500
+    n ≤ GRAPH_VERTEX_LIMIT → IsVertexSet n set → length (row_text (part_row (made (member_line set)))) ≤ 100000
 members-size made c set n is one few set_of =
+    let most : n ≤ 16384 = few in
     let size : length (map pos set) ≤ n = omega (arith, length-map set pos, few_members n set set_of) in
     let fields = counted-size n (map pos set) few size (up_to-pos n set set_of) in
     let row : length (row_text (c ∷ map signed_decimal (with_count (map pos set)))) ≡ length c + length (spaced (with_count (map pos set))) + 1 =
     row-length c (map signed_decimal (with_count (map pos set))) in
     let same : length (row_text (part_row (made (member_line set)))) ≡ length (row_text (c ∷ map signed_decimal (with_count (map pos set)))) =
     ap (λ (r : Row). length (row_text r)) (is (member_line set)) in
-    omega (arith, fields, row, same, one)
+    omega (arith, fields, row, same, one, size, length-map set pos)
 
 -- all lines of one letter
 pub letters-size : {A : Type 0} (c : ℕ) (made : A → Part) (xs : List A) → All (λ x. length (row_text (part_row (made x))) ≤ c) xs → length (parts_text (map made xs)) ≤ length xs * c
@@ -125,7 +123,7 @@ two-fields a b =
     let second : length (flat_map after_space (b ∷ [])) ≡ suc (length b) + 0 = length-append (after_space b) [] in
     omega arith
 
-pub head-size : (kind : Kind) (w : ℤ) → IsNumber w → length (row_text (head_row Optimal kind w)) ≤ 40
+pub head-size : (kind : Kind) (w : ℤ) → IsNumber w → length (row_text (head_row Optimal kind w)) ≤ 50
 head-size kind w h =
     let number = short_number w h in
     let name = kind-short kind in
@@ -135,7 +133,7 @@ head-size kind w h =
     let status : length (status_text Optimal) ≡ 7 = refl in
     omega arith
 
-pub head_none-size : (kind : Kind) (w : ℤ) → length (row_text (head_row Infeasible kind w)) ≤ 40
+pub head_none-size : (kind : Kind) (w : ℤ) → length (row_text (head_row Infeasible kind w)) ≤ 50
 head_none-size kind w =
     let name = kind-short kind in
     let row : length (row_text (head_row Infeasible kind w)) ≡ 1 + length (flat_map after_space (status_text Infeasible ∷ kind_text kind ∷ [])) + 1 =
@@ -144,7 +142,7 @@ head_none-size kind w =
     let status : length (status_text Infeasible) ≡ 10 = refl in
     omega arith
 
-pub head_circuit-size : (kind : Kind) (w : ℤ) → length (row_text (head_row NonConservative kind w)) ≤ 40
+pub head_circuit-size : (kind : Kind) (w : ℤ) → length (row_text (head_row NonConservative kind w)) ≤ 50
 head_circuit-size kind w =
     let name = kind-short kind in
     let row : length (row_text (head_row NonConservative kind w)) ≡ 1 + length (flat_map after_space (status_text NonConservative ∷ kind_text kind ∷ [])) + 1 =

@@ -1,6 +1,7 @@
 -- Parts and barriers that exclude all answers of a kind.
 use Rattle.std.proofs.Common.{◌≡◌, ℕ, ◌≤◌, true, false, List, length, refl, sym, ap, ◌∙◌, inl, inr, subst}
 use Rattle.std.proofs.lemmas.Bool.{cases_Bool, true≢false}
+use Rattle.graph_theory.specs.declared.limits.TheConstants.{GRAPH_VERTEX_LIMIT}
 use Rattle.graph_theory.specs.Graph.{Multigraph, IsGraph, IsPerfect}
 use Rattle.graph_theory.specs.Barrier.{IsBarrier}
 use Rattle.graph_theory.specs.Parts.{IsVertexSet, IsSplitPart}
@@ -78,10 +79,10 @@ never-no OddPart t = refl
 never-no SplitPart t = refl
 never-no Never t = absurd (cc)
 
-pub settles-barred : (kind : Kind) (i : Network) (g : Multigraph) (set : List ℕ) (d : Document) → g ≡ gadget_graph kind i → IsGraph g → g.vertices ≤ 4096 → ReachesAll kind i →
+pub settles-barred : (kind : Kind) (i : Network) (g : Multigraph) (set : List ℕ) (d : Document) → g ≡ gadget_graph kind i → IsGraph g → g.vertices ≤ GRAPH_VERTEX_LIMIT → ReachesAll kind i →
     is_barrier (exclusion_of kind) ≡ true → IsNetwork i → HasFitWeights kind i → IsVertexSet g.vertices set → IsBarrier g set → StatesSet kind set d → Settles kind i d
 settles-barred kind i g set d is graph few reached t network fit in_range barrier p =
-    settles-infeasible kind i set d network (never-no (exclusion_of kind) t) (λ _. subst (λ (h : Multigraph). h.vertices ≤ 4096) is few)
+    settles-infeasible kind i set d network (never-no (exclusion_of kind) t) (λ _. subst (λ (h : Multigraph). h.vertices ≤ GRAPH_VERTEX_LIMIT) is few)
     (λ _. barred kind i g set is graph reached barrier) fit
     (barrier-there (exclusion_of kind) kind i set t (subst (λ (h : Multigraph). IsVertexSet h.vertices set) is in_range) (subst (λ (h : Multigraph). IsBarrier h set) is barrier)) p
 

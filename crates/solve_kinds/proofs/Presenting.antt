@@ -5,6 +5,7 @@ use Rattle.std.proofs.lemmas.Int.{ints}
 use Rattle.std.proofs.lemmas.List.Elements.{All-nil, All-cons, All-head, All-tail}
 use Rattle.graph_theory.specs.declared.odd_set.OddSet.{OddSet}
 use Rattle.graph_theory.specs.Graph.{Multigraph, IsGraph, weight, IsPerfect}
+use Rattle.graph_theory.specs.declared.limits.TheConstants.{NUMBER_LIMIT}
 use Rattle.graph_theory.specs.Duals.{IsNumber, IsSetWithin, AreDuals, dual_value}
 use Rattle.graph_theory.proofs.Duality.{weak_duality}
 use Rattle.mb_problem.specs.declared.kind.Kind.{Kind}
@@ -76,7 +77,7 @@ sets-within kind i s d solved p =
     let number : All (λ z. IsNumber (set_of z).dual) d.sets = unmap (λ (t : OddSet). IsNumber t.dual) set_of d.sets (listed-numbers s.sets (sets_of d) p.sets solved.sets_in_range) in
     both_all (λ z. IsSetWithin n (set_of z) × IsNumber z.dual) (λ z. All (λ m. pos 0 ≤ℤ m) z.members) (IsSetLineWithin n) d.sets
     (λ z w natural.
-    (let low : pos 1 ≤ℤ z.dual = w.0.positive in let high : z.dual ≤ℤ pos 1000000000000000 = w.1.1 in (record { low = low; high = high }, members-up n z.members natural w.0.in_range)))
+    (let low : pos 1 ≤ℤ z.dual = w.0.positive in let high : z.dual ≤ℤ NUMBER_LIMIT = w.1.1 in (record { low = low; high = high }, members-up n z.members natural w.0.in_range)))
     (both_all (λ z. IsSetWithin n (set_of z)) (λ z. IsNumber z.dual) (λ z. IsSetWithin n (set_of z) × IsNumber z.dual) d.sets (λ z a b. (a, b)) within number) p.natural
 
 pub all_none : {A : Type 0} (P : A → Type 0) (xs : List A) → xs ≡ [] → All P xs

@@ -10,6 +10,7 @@ use Rattle.std.proofs.lemmas.List.Elements.{All-replicate}
 use Rattle.graph_theory.specs.Graph.{Multigraph, weight}
 use Rattle.graph_theory.specs.Parts.{holds}
 use Rattle.graph_theory.specs.Walk.{walk_weight}
+use Rattle.graph_theory.specs.declared.limits.TheConstants.{GRAPH_VERTEX_LIMIT, GRAPH_EDGE_LIMIT}
 use Rattle.graph_theory.specs.Limits.{Size, IsWithinLimits, HasSize}
 use Rattle.mb_problem.specs.declared.kind.Kind.{Kind}
 use Rattle.mb_problem.specs.declared.answer.Answer.{Answer}
@@ -48,8 +49,8 @@ within-smaller : (a b : Size) → IsNoLarger a b → IsWithinLimits b → IsWith
 within-smaller a b h limits =
     let vs : a.vertices ≤ b.vertices = h.vertices in
     let es : a.edges ≤ b.edges = h.edges in
-    let few_vs : b.vertices ≤ 4096 = limits.vertices in
-    let few_es : b.edges ≤ 1048576 = limits.edges in
+    let few_vs : b.vertices ≤ GRAPH_VERTEX_LIMIT = limits.vertices in
+    let few_es : b.edges ≤ GRAPH_EDGE_LIMIT = limits.edges in
     record { vertices = omega (arith, vs, few_vs); edges = omega (arith, es, few_es) }
 
 -- a graph that is no larger than the size that is allowed

@@ -1,6 +1,7 @@
 -- Computed documents settle an instance.
 use Rattle.std.proofs.Common.{◌≡◌, ℕ, ◌≤◌, Bool, true, false, List, [], ◌∷◌, length, map, All, refl, sym, ap, ◌∙◌, subst}
 use Rattle.std.specs.List.{flat_map}
+use Rattle.graph_theory.specs.declared.limits.TheConstants.{GRAPH_VERTEX_LIMIT}
 use Rattle.mb_problem.specs.declared.kind.Kind.{Kind}
 use Rattle.mb_problem.specs.declared.kind.Exclusion.{Exclusion}
 use Rattle.mb_problem.specs.declared.kind.Exclusion.TheVariants.{Barrier, OddPart, SplitPart, Never}
@@ -36,7 +37,8 @@ use Rattle.solve_kinds.proofs.Forms.{form-completed}
 use Rattle.solve_kinds.proofs.Presenting.{Solves, proved-optimal, chosen-optimal}
 use Rattle.solve_kinds.proofs.ShortDocuments.{short-optimal, short-infeasible}
 
-pub settles-optimal : (kind : Kind) (i : Network) (s : Solution) (d : Document) → s.graph.vertices ≤ 4096 → HasFitWeights kind i → Solves kind i s → Presents kind i s d → Settles kind i d
+pub settles-optimal : (kind : Kind) (i : Network) (s : Solution) (d : Document) → s.graph.vertices ≤ GRAPH_VERTEX_LIMIT → HasFitWeights kind i → Solves kind i s →
+    Presents kind i s d → Settles kind i d
 settles-optimal kind i s d few fit of p =
     let proved = proved-optimal kind i s d of p in
     record {
@@ -48,7 +50,7 @@ settles-optimal kind i s d few fit of p =
     }
 
 pub settles-infeasible : (kind : Kind) (i : Network) (set : List ℕ) (d : Document) → IsNetwork i → is_never (exclusion_of kind) ≡ false →
-    (is_barrier (exclusion_of kind) ≡ true → (gadget_graph kind i).vertices ≤ 4096) → (is_barrier (exclusion_of kind) ≡ true → HasNoAnswer kind i) → HasFitWeights kind i →
+    (is_barrier (exclusion_of kind) ≡ true → (gadget_graph kind i).vertices ≤ GRAPH_VERTEX_LIMIT) → (is_barrier (exclusion_of kind) ≡ true → HasNoAnswer kind i) → HasFitWeights kind i →
     Excludes kind i set → StatesSet kind set d → Settles kind i d
 settles-infeasible kind i set d network never few barred fit x p =
     let none : HasNoAnswer kind i = none-feasible kind i set d network never barred x p in
@@ -151,7 +153,7 @@ presents-completed kind i s d p solved =
       only = ap (λ (b : Body). record b { duals = duals_in s; sets = sets_in s }) p.only;
     }
 
-pub settles-presented : (brief : Bool) (kind : Kind) (i : Network) (s : Solution) (d : Document) → s.graph.vertices ≤ 4096 → HasFitWeights kind i → Solves kind i s →
+pub settles-presented : (brief : Bool) (kind : Kind) (i : Network) (s : Solution) (d : Document) → s.graph.vertices ≤ GRAPH_VERTEX_LIMIT → HasFitWeights kind i → Solves kind i s →
     PresentsFor brief kind i s d → SettlesFor brief kind i d
 settles-presented false kind i s d few fit of p = settles-optimal kind i s d few fit of p
 settles-presented true kind i s d few fit of p = record {

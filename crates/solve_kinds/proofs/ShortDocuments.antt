@@ -1,10 +1,12 @@
 -- Computed documents are short.
-use Rattle.std.proofs.Common.{◌≡◌, ℕ, ◌-◌, ◌/◌, ◌*◌, ◌≤◌, pos, false, List, [], ◌++◌, length, map, All, Some, IfSome, nat_abs, refl, sym, ap, ◌∙◌, subst, arith}
+use Rattle.std.proofs.Common.{◌≡◌, ℕ, ◌+◌, ◌-◌, ◌/◌, ◌*◌, ◌≤◌, pos, false, List, [], ◌++◌, length, map, All, Some, IfSome, nat_abs, refl, sym, ap, ◌∙◌, subst, arith}
 use Rattle.std.specs.Prelude.{codes}
+use Rattle.std.proofs.Math.Nat.{mul-le-mul}
 use Rattle.std.proofs.lemmas.List.{length-map}
 use Rattle.std.proofs.lemmas.List.Elements.{All-weaker}
 use Rattle.graph_theory.specs.declared.odd_set.OddSet.{OddSet}
 use Rattle.graph_theory.specs.Duals.{IsSetWithin, HasForm}
+use Rattle.graph_theory.specs.declared.limits.TheConstants.{GRAPH_VERTEX_LIMIT}
 use Rattle.mb_problem.specs.declared.kind.Kind.{Kind}
 use Rattle.mb_problem.specs.declared.kind.Exclusion.{Exclusion}
 use Rattle.mb_problem.specs.declared.kind.Exclusion.TheVariants.{Barrier, OddPart, SplitPart, Never}
@@ -22,24 +24,26 @@ use Rattle.doc_format.specs.Reading.{body_of}
 use Rattle.doc_format.specs.Spelling.{row_text, part_row, parts_text, document_text}
 use Rattle.certificates.specs.Claims.{numbers, set_of, sets_of}
 use Rattle.certificates.specs.Within.{IsCountWithin, IsDualWithin, IsSetLineWithin, IsWalkWithin}
-use Rattle.mwpm_engine.specs.Solutions.{Solution, IsSolved}
+use Rattle.mwpm_engine.specs.Solutions.{Solution, IsSolved, member_count}
 use Rattle.outcome_lines.specs.Lines.{line_of, walk_line, member_line}
 use Rattle.solve_kinds.specs.Presented.{HasFewSteps, Presents}
 use Rattle.solve_kinds.specs.Excluding.{set_body, StatesSet}
+use Rattle.solve_kinds.specs.declared.limits.TheConstants.{DOCUMENT_BYTE_LIMIT}
 use Rattle.outcome_lines.proofs.Ascents.{unmap, both_all}
 use Rattle.solve_kinds.proofs.Excluding.{IsFewOf}
 use Rattle.solve_kinds.proofs.LineSizes.{few_members, count-size, dual-size, set-size, walk-size, members-size, head-size, head_none-size}
 use Rattle.solve_kinds.proofs.Presenting.{are-duals, sets-within, listed-length}
-use Rattle.solve_kinds.proofs.Short.{IsShortLine, lines-size, line-size, four-size, short-document}
+use Rattle.solve_kinds.proofs.Short.{IsShortLine, IsSetShort, lines-size, line-size, sets-size, four-size, short-document}
+use Rattle.solve_kinds.proofs.SolvedSets.{listed-members}
 use Rattle.solve_kinds.proofs.WalkLines.{line-within}
 
 -- a walk of few steps
 pub short-walk : (n m : ℕ) (start : ℕ) (edges : List ℕ) → n ≤ 4096 → m ≤ 65536 → length edges ≤ 2 * m → IsWalkWithin n m (walk_line start edges) →
-    length (row_text (part_row (Walk (walk_line start edges)))) ≤ 2400000
+    length (row_text (part_row (Walk (walk_line start edges)))) ≤ 2800000
 short-walk n m start edges few many size within = walk-size n m (walk_line start edges) few many (let same = length-map edges pos in omega (arith, same, size)) within
 
 answer-walk : (i : Network) (answer : Answer) → IsNetwork i → HasFewSteps i answer → IfSome (line_of answer) (IsWalkWithin (vertices i) (length i.edges)) →
-    IsShortLine Walk 2400000 (line_of answer)
+    IsShortLine Walk 2800000 (line_of answer)
 answer-walk i (answers.Counts counts) network few within = tt
 answer-walk i (answers.Walk start edges) network few within = short-walk (vertices i) (length i.edges) start edges network.few_vertices network.few_edges few within
 answer-walk i answers.Nothing network few within = tt
@@ -49,61 +53,67 @@ set-few n z within form =
     let few : length (numbers z.members) ≤ n = few_members n (numbers z.members) (record { ascending = form.ascending; in_range = within.in_range }) in
     omega (arith, length-map z.members nat_abs)
 
-sets-size : (kind : Kind) (i : Network) (s : Solution) (d : Document) → s.graph.vertices ≤ 4096 → IsSolved s → Presents kind i s d →
-    All (λ z. length (row_text (part_row (Set z))) ≤ 20518) d.sets
-sets-size kind i s d few solved p =
+short-sets : (kind : Kind) (i : Network) (s : Solution) (d : Document) → s.graph.vertices ≤ GRAPH_VERTEX_LIMIT → IsSolved s → Presents kind i s d → All IsSetShort d.sets
+short-sets kind i s d few solved p =
     let n = s.graph.vertices in
     let duals = are-duals kind i s d solved p in
     let forms : All (λ z. HasForm (numbers z.members)) d.sets = unmap (λ (t : OddSet). HasForm t.members) set_of d.sets duals.forms in
     let within : All (λ z. IsSetWithin n (set_of z)) d.sets = unmap (IsSetWithin n) set_of d.sets duals.sets_within in
     let short : All (λ z. length z.members ≤ n) d.sets =
     both_all (λ z. IsSetWithin n (set_of z)) (λ z. HasForm (numbers z.members)) (λ z. length z.members ≤ n) d.sets (set-few n) within forms in
-    both_all (λ z. length z.members ≤ n) (IsSetLineWithin n) (λ z. length (row_text (part_row (Set z))) ≤ 20518) d.sets (λ z a b. set-size n z few a b) short
-    (sets-within kind i s d solved p)
+    both_all (λ z. length z.members ≤ n) (IsSetLineWithin n) IsSetShort d.sets (λ z a b. set-size n z few a b) short (sets-within kind i s d solved p)
 
 few_duals : (kind : Kind) (i : Network) (s : Solution) (d : Document) → IsSolved s → Presents kind i s d → length d.duals ≡ s.graph.vertices
 few_duals kind i s d solved p = sym (length-map d.duals (λ (y : DualLine). y.dual)) ∙ (are-duals kind i s d solved p).one_each
 
-few_sets : (kind : Kind) (i : Network) (s : Solution) (d : Document) → s.graph.vertices ≤ 4096 → IsSolved s → Presents kind i s d → length d.sets ≤ 2047
-few_sets kind i s d few solved p =
+-- at most 8,191 sets with 67,121,152 members
+sets-text : (kind : Kind) (i : Network) (s : Solution) (d : Document) → s.graph.vertices ≤ GRAPH_VERTEX_LIMIT → IsSolved s → Presents kind i s d →
+    length (parts_text (map Set d.sets)) ≤ 403087316
+sets-text kind i s d few solved p =
+    let n = s.graph.vertices in
+    let most : n ≤ 16384 = few in
     let as_many : length (sets_of d) ≡ length s.sets = listed-length s.sets (sets_of d) p.sets in
-    let room : length s.sets ≤ (s.graph.vertices - 1) / 2 = solved.few in
-    omega (arith, length-map d.sets set_of)
+    let sets : length s.sets ≤ (n - 1) / 2 = solved.few in
+    let square : n * n ≤ 16384 * 16384 = mul-le-mul most most in
+    let members : 4 * member_count s.sets ≤ n * n + 3 * n = solved.few_members in
+    let listed : member_count (sets_of d) ≤ member_count s.sets = listed-members n s.sets (sets_of d) p.sets (are-duals kind i s d solved p).sets_within in
+    let text : length (parts_text (map Set d.sets)) ≤ 6 * member_count (sets_of d) + 44 * length d.sets = sets-size d.sets (short-sets kind i s d few solved p) in
+    omega (arith, length-map d.sets set_of, as_many, sets, square, members, listed, text, most)
 
-pub short-optimal : (kind : Kind) (i : Network) (s : Solution) (d : Document) → IsNetwork i → s.graph.vertices ≤ 4096 → IsSolved s → Presents kind i s d →
-    length (document_text d false) ≤ 50331648
+pub short-optimal : (kind : Kind) (i : Network) (s : Solution) (d : Document) → IsNetwork i → s.graph.vertices ≤ GRAPH_VERTEX_LIMIT → IsSolved s → Presents kind i s d →
+    length (document_text d false) ≤ DOCUMENT_BYTE_LIMIT
 short-optimal kind i s d network few solved p =
     let m = length i.edges in
     let n = s.graph.vertices in
     let few_edges : m ≤ 65536 = network.few_edges in
+    let few_vertices : n ≤ 16384 = few in
     let few_xs : length d.counts ≤ m = p.states.few_counts in
     let few_ys = few_duals kind i s d solved p in
-    let line : IsShortLine Walk 2400000 (line_of p.states.answer) = answer-walk i p.states.answer network p.states.few_steps (line-within kind i p.states.answer network p.states.feasible) in
-    let counts : length (parts_text (map Count d.counts)) ≤ 65536 * 38 = lines-size Count 65536 38 d.counts
+    let line : IsShortLine Walk 2800000 (line_of p.states.answer) = answer-walk i p.states.answer network p.states.few_steps (line-within kind i p.states.answer network p.states.feasible) in
+    let counts : length (parts_text (map Count d.counts)) ≤ 65536 * 44 = lines-size Count 65536 44 d.counts
     (record {
       few = omega arith;
-      short = All-weaker (IsCountWithin m) (λ x. length (row_text (part_row (Count x))) ≤ 38)
+      short = All-weaker (IsCountWithin m) (λ x. length (row_text (part_row (Count x))) ≤ 44)
           (λ x w. count-size m x few_edges w) d.counts p.states.counts_within;
     }) in
-    let walk = line-size Walk 2400000 d.walk (subst (IsShortLine Walk 2400000) (sym p.states.walk) line) in
-    let duals : length (parts_text (map Dual d.duals)) ≤ 4096 * 38 =
-    lines-size Dual 4096 38 d.duals
-    (record { few = omega arith; short = All-weaker (IsDualWithin n) (λ y. length (row_text (part_row (Dual y))) ≤ 38) (λ y w. dual-size n y few w) d.duals p.duals_within }) in
-    let sets : length (parts_text (map Set d.sets)) ≤ 2047 * 20518 =
-    lines-size Set 2047 20518 d.sets (record { few = few_sets kind i s d few solved p; short = sets-size kind i s d few solved p }) in
+    let walk = line-size Walk 2800000 d.walk (subst (IsShortLine Walk 2800000) (sym p.states.walk) line) in
+    let duals : length (parts_text (map Dual d.duals)) ≤ 16384 * 44 =
+    lines-size Dual 16384 44 d.duals
+    (record { few = omega arith; short = All-weaker (IsDualWithin n) (λ y. length (row_text (part_row (Dual y))) ≤ 44) (λ y w. dual-size n y few w) d.duals p.duals_within }) in
+    let sets = sets-text kind i s d few solved p in
     let all = four-size (map Count d.counts) (at_most_one Walk d.walk) (map Dual d.duals) (map Set d.sets) in
     let same : length (parts_text (parts_of (body_of d))) ≡ length (parts_text (map Count d.counts ++ (at_most_one Walk d.walk ++ (map Dual d.duals ++ (map Set d.sets ++ []))))) =
     ap (λ (b : Body). length (parts_text (parts_of b))) p.only in
     short-document d (rw (p.states.status, p.states.kind_is) (head-size kind d.weight p.states.number)) (omega (arith, same, all, counts, walk, duals, sets))
 
 -- the line of a set
-set-text : (e : Exclusion) (set : List ℕ) → IsFewOf set → length (parts_text (parts_of (set_body e (member_line set)))) ≤ 20500
-set-text Barrier set few = line-size part.Barrier 20500 (Some (member_line set)) (members-size part.Barrier (codes "u") set few.n (λ u. refl) refl few.few few.is_set)
-set-text OddPart set few = line-size part.Odd 20500 (Some (member_line set)) (members-size part.Odd (codes "t") set few.n (λ u. refl) refl few.few few.is_set)
-set-text SplitPart set few = line-size part.Split 20500 (Some (member_line set)) (members-size part.Split (codes "q") set few.n (λ u. refl) refl few.few few.is_set)
+set-text : (e : Exclusion) (set : List ℕ) → IsFewOf set → length (parts_text (parts_of (set_body e (member_line set)))) ≤ 100000
+set-text Barrier set few = line-size part.Barrier 100000 (Some (member_line set)) (members-size part.Barrier (codes "u") set few.n (λ u. refl) refl few.few few.is_set)
+set-text OddPart set few = line-size part.Odd 100000 (Some (member_line set)) (members-size part.Odd (codes "t") set few.n (λ u. refl) refl few.few few.is_set)
+set-text SplitPart set few = line-size part.Split 100000 (Some (member_line set)) (members-size part.Split (codes "q") set few.n (λ u. refl) refl few.few few.is_set)
 set-text Never set few = omega arith
 
-pub short-infeasible : (kind : Kind) (set : List ℕ) (d : Document) → IsFewOf set → StatesSet kind set d → length (document_text d false) ≤ 50331648
+pub short-infeasible : (kind : Kind) (set : List ℕ) (d : Document) → IsFewOf set → StatesSet kind set d → length (document_text d false) ≤ DOCUMENT_BYTE_LIMIT
 short-infeasible kind set d few p =
     let text = set-text (exclusion_of kind) set few in
     let same : length (parts_text (parts_of (body_of d))) ≡ length (parts_text (parts_of (set_body (exclusion_of kind) (member_line set)))) =

@@ -7,6 +7,7 @@ use Rattle.std.proofs.lemmas.Fmt.{length-decimal-le, length_signed_le}
 use Rattle.std.proofs.lemmas.List.{length-append, map-append}
 use Rattle.std.proofs.lemmas.List.Concat.{flat_map-append}
 use Rattle.std.proofs.lemmas.List.Elements.{All-head, All-tail}
+use Rattle.graph_theory.specs.declared.limits.TheConstants.{GRAPH_VERTEX_LIMIT}
 use Rattle.graph_theory.specs.Duals.{IsNumber}
 use Rattle.mb_base.specs.Rows.{Row}
 use Rattle.doc_format.specs.declared.part.Part.{Part}
@@ -15,25 +16,26 @@ use Rattle.certificates.specs.Within.{IsUpTo}
 
 -- numbers
 
-pub short_number : (z : ℤ) → IsNumber z → length (signed_decimal z) ≤ 17
+pub short_number : (z : ℤ) → IsNumber z → length (signed_decimal z) ≤ 20
 short_number (pos n) h =
-    let high : pos n ≤ℤ pos 1000000000000000 = h.1 in
-    let small : n ≤ 1000000000000000 = omega (arith, ints) in
-    length_signed_le 16 (pos n) (omega arith) (omega arith)
+    let high : pos n ≤ℤ pos 1000000000000000000 = h.1 in
+    let small : n ≤ 1000000000000000000 = omega (arith, ints) in
+    length_signed_le 19 (pos n) (omega arith) (omega arith)
 short_number (negsuc n) h =
-    let low : neg_ℤ (pos 1000000000000000) ≤ℤ negsuc n = h.0 in
-    let small : n < 1000000000000000 = omega (arith, ints) in
-    length_signed_le 16 (negsuc n) (omega arith) (omega arith)
+    let low : neg_ℤ (pos 1000000000000000000) ≤ℤ negsuc n = h.0 in
+    let small : n < 1000000000000000000 = omega (arith, ints) in
+    length_signed_le 19 (negsuc n) (omega arith) (omega arith)
 
-short_decimal : (n : ℕ) → n ≤ 4096 → length (decimal n) ≤ 4
-short_decimal n h = length-decimal-le 4 n (omega arith) (omega arith) (omega arith)
+short_decimal : (n : ℕ) → n ≤ 16384 → length (decimal n) ≤ 5
+short_decimal n h = length-decimal-le 5 n (omega arith) (omega arith) (omega arith)
 
-pub short_vertex : (z : ℤ) → IsUpTo 4096 z → length (signed_decimal z) ≤ 4
-short_vertex z h =
+pub short_vertex : (n : ℕ) (z : ℤ) → n ≤ GRAPH_VERTEX_LIMIT → IsUpTo n z → length (signed_decimal z) ≤ 5
+short_vertex n z few h =
     let low : pos 1 ≤ℤ z = h.low in
-    let high : z ≤ℤ pos 4096 = h.high in
+    let high : z ≤ℤ pos n = h.high in
+    let most : n ≤ 16384 = few in
     let is : z ≡ pos (nat_abs z) = omega (arith, ints) in
-    subst (λ (y : ℤ). length (signed_decimal y) ≤ 4) (sym is) (short_decimal (nat_abs z) (omega (arith, ints)))
+    subst (λ (y : ℤ). length (signed_decimal y) ≤ 5) (sym is) (short_decimal (nat_abs z) (omega (arith, ints)))
 
 -- numbers with a space before each, of at most c bytes
 pub spaced-most : (c : ℕ) (zs : List ℤ) → All (λ z. length (signed_decimal z) ≤ c) zs → length (spaced zs) ≤ length zs * (c + 1)

@@ -14,7 +14,7 @@ pub const PERFECT: [Row; 13] = [
     ),
     (
         "the greatest and the least weight",
-        "p edge 4 4\ne 1 2 1000000000\ne 3 4 -1000000000\ne 1 3 -1000000000\ne 2 4 1000000000",
+        "p edge 4 4\ne 1 2 1000000000000\ne 3 4 -1000000000000\ne 1 3 -1000000000000\ne 2 4 1000000000000",
     ),
     ("a star", "p edge 4 3\ne 1 2\ne 1 3\ne 1 4"),
     (
@@ -31,7 +31,7 @@ pub const PERFECT: [Row; 13] = [
     ),
     (
         "an inner edge that is light",
-        "p edge 4 3\ne 1 2 1000000000\ne 2 3 -1000000000\ne 3 4 1000000000",
+        "p edge 4 3\ne 1 2 1000000000000\ne 2 3 -1000000000000\ne 3 4 1000000000000",
     ),
     (
         "a prism",
@@ -46,14 +46,14 @@ pub const MATCH: [Row; 11] = [
     ("no edge", "p edge 3 0"),
     (
         "weights below 0 alone",
-        "p edge 3 3\ne 1 2 -1\ne 2 3 -1000000000\ne 1 3 -5",
+        "p edge 3 3\ne 1 2 -1\ne 2 3 -1000000000000\ne 1 3 -5",
     ),
     ("weights of 0", "p edge 3 2\ne 1 2 0\ne 2 3 0"),
     ("parallel edges", "p edge 2 3\ne 1 2 5\ne 2 1 9\ne 1 2 -4"),
     ("a path of four", "p edge 4 3\ne 1 2 3\ne 2 3 7\ne 3 4 3"),
     (
         "the greatest weights",
-        "p edge 4 4\ne 1 2 1000000000\ne 3 4 1000000000\ne 2 3 -1000000000\ne 1 4 1",
+        "p edge 4 4\ne 1 2 1000000000000\ne 3 4 1000000000000\ne 2 3 -1000000000000\ne 1 4 1",
     ),
     (
         "a triangle with a leaf at each corner",
@@ -100,7 +100,7 @@ pub const BMATCH: [Row; 12] = [
     ),
     (
         "the greatest and the least weight",
-        "p edge 3 3\ne 1 2 1000000000\ne 2 3 -1000000000\ne 1 3 1000000000\nn 1 1\nn 2 2\nn 3 3",
+        "p edge 3 3\ne 1 2 1000000000000\ne 2 3 -1000000000000\ne 1 3 1000000000000\nn 1 1\nn 2 2\nn 3 3",
     ),
     (
         "capacities don't count",
@@ -148,7 +148,7 @@ pub const CAPMATCH: [Row; 12] = [
     ),
     (
         "the greatest and the least weight",
-        "p edge 3 3\ne 1 2 1000000000 1\ne 2 3 -1000000000\ne 1 3 1000000000 2\nn 1 1\nn 2 2\nn 3 3",
+        "p edge 3 3\ne 1 2 1000000000000 1\ne 2 3 -1000000000000\ne 1 3 1000000000000 2\nn 1 1\nn 2 2\nn 3 3",
     ),
 ];
 
@@ -192,7 +192,7 @@ pub const FFACTOR: [Row; 14] = [
     ),
     (
         "the greatest and the least weight",
-        "p edge 4 4\ne 1 2 1000000000\ne 3 4 -1000000000\ne 1 3 -1000000000\ne 2 4 1000000000",
+        "p edge 4 4\ne 1 2 1000000000000\ne 3 4 -1000000000000\ne 1 3 -1000000000000\ne 2 4 1000000000000",
     ),
     ("capacities don't count", "p edge 2 1\ne 1 2 3 0"),
 ];
@@ -230,7 +230,7 @@ pub const TJOIN: [Row; 12] = [
     ),
     (
         "the greatest and the least weight",
-        "p edge 4 5\ne 1 2 1000000000\ne 2 3 -1000000000\ne 3 4 1000000000\ne 4 1 -1000000000\ne 1 3 0\nn 1 1\nn 3 1",
+        "p edge 4 5\ne 1 2 1000000000000\ne 2 3 -1000000000000\ne 3 4 1000000000000\ne 4 1 -1000000000000\ne 1 3 0\nn 1 1\nn 3 1",
     ),
 ];
 
@@ -264,6 +264,6 @@ pub const TOURS: [Row; 12] = [
     ),
     (
         "the greatest weight and 0",
-        "p edge 4 5\ne 1 2 1000000000\ne 2 3 0\ne 3 4 1000000000\ne 4 1 1000000000\ne 1 3 1000000000",
+        "p edge 4 5\ne 1 2 1000000000000\ne 2 3 0\ne 3 4 1000000000000\ne 4 1 1000000000000\ne 1 3 1000000000000",
     ),
 ];

@@ -51,7 +51,7 @@ pub fn document_of<L: Ledger>(
     requires some { 0 < blank.parts }
 {
     let (vertices, edges) = gadget_size(instance, kind);
-    assert!(rt; vertices <= 4096);
+    assert!(rt; vertices <= 16_384);
     assert!(rt; edges <= 1_048_576);
     let mut steps = Steps::<L>::new(blank);
     solve(alloc, instance, kind, &mut steps)

@@ -2,6 +2,7 @@ use Rattle.std.proofs.Common.{◌≡◌, ◌≤◌, true, sym, ◌∙◌, subst}
 use Rattle.std.proofs.lemmas.Result.{IfOk-weaker}
 use Rattle.std.proofs.lemmas.Bool.{true≢false}
 use Rattle.graph_theory.specs.Graph.{Multigraph, IsGraph}
+use Rattle.graph_theory.specs.declared.limits.TheConstants.{GRAPH_VERTEX_LIMIT}
 use Rattle.graph_theory.specs.Barrier.{IsBarrier}
 use Rattle.graph_theory.specs.Parts.{IsVertexSet}
 use Rattle.mb_problem.specs.Kinds.{exclusion_of}
@@ -22,7 +23,7 @@ returns-in-Matched-clause-settled g c =
     let s = c.run.new.self in
     let here : s.graph ≡ c.args.graph.now = c.in-Matched.ensures.graph ∙ c.requires.same in
     let graph : s.graph ≡ gadget_graph kind i = here ∙ c.requires.certified in
-    let few : s.graph.vertices ≤ 4096 = subst (λ (h : Multigraph). h.vertices ≤ 4096) (sym here) c.requires.few in
+    let few : s.graph.vertices ≤ GRAPH_VERTEX_LIMIT = subst (λ (h : Multigraph). h.vertices ≤ GRAPH_VERTEX_LIMIT) (sym here) c.requires.few in
     let of : Solves kind i s =
     record {
       network = c.requires.network;
