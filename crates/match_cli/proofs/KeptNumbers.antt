@@ -22,7 +22,7 @@ use Rattle.certificates.specs.Ranges.{is_up_to, is_dual, is_within, in_range}
 use Rattle.certificates.specs.Within.{AreWithin}
 
 abbrev most : ℕ
-most = 1000000000000000
+most = 1000000000000000000
 
 bound : (a b : ℤ) → int_le a b ≡ true → a ≤ℤ b
 bound a b h = grind (arith, ints)

@@ -1,7 +1,9 @@
-ghost use Rattle.std.specs.Prelude.{◌≡◌, ◌+◌, ◌<◌, ◌≤◌, ◌^◌, length, IfOk};
+ghost use Rattle.std.specs.Prelude.{◌≡◌, ℕ, ◌+◌, ◌<◌, ◌≤◌, ◌^◌, List, length, IfOk};
 ghost use Rattle.graph_theory.specs.Limits.{IsWithinLimits};
 ghost use Rattle.mb_problem.specs.Size.{size_of};
 ghost use Rattle.mb_problem.specs.Ready.{IsReady};
+ghost use Rattle.dimacs_read.specs.Reading.{Reads};
+ghost use Rattle.doc_format.specs.Reading.{Reads as ReadsDocument};
 ghost use Rattle.match_cli.specs.Answers.{Decides};
 ghost use Rattle.match_cli.specs.Checking.{DecidesDocument, DecidesRest, DecidesInstance};
 
@@ -30,20 +32,29 @@ fn check_document(
     judged(alloc, verdict)
 }
 
+/// The document in what follows an instance, whose bytes aren't kept.
+fn read_document(alloc: Global, rest: Rest) -> Result<Document, DocError>
+    requires low { 1 ≤ rest.line }
+    requires high { rest.line ≤ 2 ^ 62 }
+    ensures { ReadsDocument rest.line rest.bytes result }
+{
+    doc_format::read(alloc, rest.bytes.as_slice(), rest.line)
+}
+
 /// The answer to what follows an instance.
 fn check_rest(
     alloc: Global,
     kind: Kind,
     instance: &Instance,
-    rest: &Rest,
+    rest: Rest,
 ) -> Result<Reply, OutOfMemory>
     requires limits { IsWithinLimits (size_of kind instance.now) }
     requires ready { IsReady kind instance.now }
-    requires low { 1 ≤ rest.now.line }
-    requires high { rest.now.line ≤ 2 ^ 62 }
-    ensures { IfOk result (DecidesRest kind instance.now rest.now.line rest.now.bytes) }
+    requires low { 1 ≤ rest.line }
+    requires high { rest.line ≤ 2 ^ 62 }
+    ensures { IfOk result (DecidesRest kind instance.now rest.line rest.bytes) }
 {
-    match doc_format::read(alloc, rest.bytes.as_slice(), rest.line) {
+    match read_document(alloc, rest) {
         Ok(document) => check_document(alloc, kind, instance, &document),
         Err(DocError::DocForm { line }) => rejected(alloc, DocRule::DocForm, line),
         Err(DocError::OutOfMemory) => Err(AllocError),
@@ -55,12 +66,12 @@ fn check_instance(
     alloc: Global,
     kind: Kind,
     instance: &Instance,
-    rest: &Rest,
+    rest: Rest,
 ) -> Result<Reply, OutOfMemory>
     requires ready { IsReady kind instance.now }
-    requires low { 1 ≤ rest.now.line }
-    requires high { rest.now.line ≤ 2 ^ 62 }
-    ensures { IfOk result (DecidesInstance kind instance.now rest.now.line rest.now.bytes) }
+    requires low { 1 ≤ rest.line }
+    requires high { rest.line ≤ 2 ^ 62 }
+    ensures { IfOk result (DecidesInstance kind instance.now rest.line rest.bytes) }
 {
     let (vertices, edges) = gadget_size(instance, kind);
     if !is_within_limits(vertices, edges) {
@@ -69,14 +80,39 @@ fn check_instance(
     check_rest(alloc, kind, instance, rest)
 }
 
+/// The answer to what was read of an input, whatever its bytes are.
+fn check_parts(
+    alloc: Global,
+    kind: Kind,
+    parts: Result<(Instance, Rest), InstanceError>,
+) -> Result<Reply, OutOfMemory>
+    requires ready { IfOk parts (λ p. IsReady kind p.0) }
+    requires lines { IfOk parts (λ p. (1 ≤ p.1.line) × (p.1.line ≤ 2 ^ 62)) }
+    ensures { (bytes : List ℕ) → Reads kind bytes parts
+        → IfOk result (λ a. Decides kind bytes a.text.items a.status) }
+{
+    match parts {
+        Ok((instance, rest)) => check_instance(alloc, kind, &instance, rest),
+        Err(InstanceError::Malformed { rule, line }) => malformed(alloc, rule, line),
+        Err(InstanceError::OutOfMemory) => Err(AllocError),
+    }
+}
+
 /// What `check` answers to bytes within its limit.
 pub fn check(alloc: Global, kind: Kind, bytes: &[u8]) -> Result<Reply, OutOfMemory>
     requires { length bytes.now ≤ 2 ^ 32 }
     ensures { IfOk result (λ a. Decides kind bytes.now a.text.items a.status) }
 {
-    match read(alloc, bytes, kind) {
-        Ok((instance, rest)) => check_instance(alloc, kind, &instance, &rest),
-        Err(InstanceError::Malformed { rule, line }) => malformed(alloc, rule, line),
-        Err(InstanceError::OutOfMemory) => Err(AllocError),
-    }
+    let parts = read(alloc, bytes, kind);
+    check_parts(alloc, kind, parts)
+}
+
+/// The same of an input that isn't kept: its bytes go before the document is read.
+pub fn check_input(alloc: Global, kind: Kind, input: Vec<u8>) -> Result<Reply, OutOfMemory>
+    requires { length input.items ≤ 2 ^ 32 }
+    ensures { IfOk result (λ a. Decides kind input.items a.text.items a.status) }
+{
+    let parts = read(alloc, &input, kind);
+    drop(input);
+    check_parts(alloc, kind, parts)
 }

@@ -5,7 +5,7 @@ ghost use Rattle.match_cli.specs.Answers.{Answers, Gives};
 ghost use Rattle.match_cli.specs.Commands.{limit_of, IsShort};
 ghost use Rattle.match_cli.specs.Counts.{CountsAnswer, CountsInstance};
 
-use crate::check::check;
+use crate::check::{check, check_input};
 use crate::limits::{CHECK_BYTE_LIMIT, SOLVE_BYTE_LIMIT};
 use crate::refusal::too_long;
 use crate::reply::Reply;
@@ -84,4 +84,25 @@ pub fn answer_to<L: Ledger>(
         return too_long(alloc);
     }
     answer_within(alloc, command, bytes, steps)
+}
+
+/// What a command answers to an input that isn't kept: for `check` its bytes go before the document
+/// is read.
+pub fn answer_input<L: Ledger>(
+    alloc: Global,
+    command: Command,
+    input: Vec<u8>,
+    steps: &mut Steps<L>,
+) -> Result<Reply, OutOfMemory>
+    requires ranges { HasRanges command }
+    ensures answer { IfOk result (λ a. Gives command input.items a.text.items a.status) }
+    ensures steps { CountsAnswer command steps.old steps.new result }
+    ensures counted { CountsInstance (Some command) input.items steps.old steps.new }
+{
+    if let Command::Check { kind } = command {
+        if is_short(command, &input) {
+            return check_input(alloc, kind, input);
+        }
+    }
+    answer_to(alloc, command, &input, steps)
 }

@@ -2,4 +2,4 @@
 pub const SOLVE_BYTE_LIMIT: u64 = 16_777_216;
 
 /// The most bytes of an instance and a document that `check` reads.
-pub const CHECK_BYTE_LIMIT: u64 = 67_108_864;
+pub const CHECK_BYTE_LIMIT: u64 = 536_870_912;

@@ -8,7 +8,7 @@ ghost use Rattle.match_cli.specs.Counts.{CountsAnswer, CountsInstance, CountsSou
 ghost use Rattle.match_cli.specs.Prepared.{Prepares, PreparesUsage, CountsPrepared, Readies};
 ghost use Rattle.match_cli.specs.Prepared.{CountsPreparedSteps};
 
-use crate::commands::{answer_to, limit};
+use crate::commands::{answer_input, limit};
 use crate::reply::Reply;
 use crate::status::Status;
 use command_words::{Command, read_command};
@@ -36,16 +36,16 @@ fn ready(alloc: Global, text: &[u8], status: Status) -> Result<Reply, Stop>
 fn decide<L: Ledger>(
     alloc: Global,
     command: Command,
-    bytes: &[u8],
+    input: Vec<u8>,
     steps: &mut Steps<L>,
 ) -> Result<Reply, Stop>
     requires ranges { HasRanges command }
-    ensures answer { IfOk result (λ a. Gives command bytes.now a.text.items a.status) }
+    ensures answer { IfOk result (λ a. Gives command input.items a.text.items a.status) }
     ensures memory { IfErr result (λ stop. stop ≡ Stop.OutOfMemory) }
     ensures steps { CountsAnswer command steps.old steps.new result }
-    ensures counted { CountsInstance (Some command) bytes.now steps.old steps.new }
+    ensures counted { CountsInstance (Some command) input.items steps.old steps.new }
 {
-    match answer_to(alloc, command, bytes, steps) {
+    match answer_input(alloc, command, input, steps) {
         Ok(answer) => Ok(answer),
         Err(_) => Err(Stop::OutOfMemory),
     }
@@ -77,13 +77,13 @@ fn prepare<I: Source, L: Ledger>(
         return ready(alloc, b"s USAGE\n", Status::Usage);
     };
     let Some(limit) = limit(command) else {
-        return decide(alloc, command, b"", steps);
+        return decide(alloc, command, Vec::new(alloc), steps);
     };
     match read_all(alloc, source, limit) {
         Err(ReadAll::ReadFault) => Err(Stop::ReadFault),
         Err(ReadAll::OutOfMemory) => Err(Stop::OutOfMemory),
         Err(ReadAll::TooLong) => ready(alloc, b"s TOOLONG\n", Status::TooLong),
-        Ok(bytes) => decide(alloc, command, &bytes, steps),
+        Ok(bytes) => decide(alloc, command, bytes, steps),
     }
 }
 

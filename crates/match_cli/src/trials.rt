@@ -5,6 +5,7 @@ ghost use Rattle.mb_problem.specs.Network.{IsNetwork};
 ghost use Rattle.mb_problem.specs.Size.{size_of};
 ghost use Rattle.mb_problem.specs.Ready.{IsReady};
 ghost use Rattle.doc_format.specs.Law.{HasKeptNumbers};
+ghost use Rattle.doc_format.specs.Reading.{Reads};
 ghost use Rattle.doc_format.specs.Spelling.{document_text};
 ghost use Rattle.certificates.specs.Proved.{IsProved, StatesTruth};
 ghost use Rattle.mwpm_engine.specs.Solutions.{most_steps};
@@ -26,6 +27,14 @@ pub struct Trial {
     pub verdict: Verdict,
 }
 
+/// The document that reads back from the text of a document, which isn't kept.
+fn read_back(alloc: Global, document: &Document) -> Result<Document, DocError>
+    ensures { Reads 1 (document_text document.now false) result }
+{
+    let text = write(alloc, document, false)?;
+    read(alloc, text.as_slice(), 1)
+}
+
 /// The verdict on a document as it reads back from its text.
 fn judge_text(
     alloc: Global,
@@ -39,8 +48,7 @@ fn judge_text(
     requires kept { HasKeptNumbers document.now }
     ensures { IfOk result (λ v. v ≡ Verdict.Accepted) }
 {
-    let text = write(alloc, document, false)?;
-    match read(alloc, text.as_slice(), 1) {
+    match read_back(alloc, document) {
         Ok(again) => judge(alloc, instance, kind, &again),
         Err(DocError::DocForm { line }) => {
             let rule = DocRule::DocForm;

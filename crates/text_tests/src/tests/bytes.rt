@@ -8,9 +8,9 @@ fn numbers_are_signed_digits(rt: HostRuntime) -> Result<(), Fail> {
         (b"007", Some(7)),
         (b"-0", Some(0)),
         (b"-12", Some(-12)),
-        (b"1000000000", Some(1_000_000_000)),
-        (b"99999999999999999999999999", Some(1_000_000_001)),
-        (b"-99999999999999999999999999", Some(-1_000_000_001)),
+        (b"1000000000000", Some(1_000_000_000_000)),
+        (b"99999999999999999999999999", Some(1_000_000_000_001)),
+        (b"-99999999999999999999999999", Some(-1_000_000_000_001)),
         (b"+1", None),
         (b"1.0", None),
         (b"-", None),
@@ -18,7 +18,7 @@ fn numbers_are_signed_digits(rt: HostRuntime) -> Result<(), Fail> {
         (b"", None),
     ];
     for (field, wanted) in rows {
-        assert_eq!(rt; number(field, 1_000_000_000), wanted);
+        assert_eq!(rt; number(field, 1_000_000_000_000), wanted);
     }
     Ok(())
 }

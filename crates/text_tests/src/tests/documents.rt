@@ -64,8 +64,9 @@ fn holds(document: &Document, counts: &[CountLine], duals: &[DualLine]) -> bool 
 // Numbers beyond the limit are kept as the first beyond it.
 #[test]
 fn parts_keep_their_lines_and_values(rt: HostRuntime) -> Result<(), Fail> {
-    let text = b"\n s\tOPTIMAL ffactor -9999999999999999\r\nc\nx 007 -0\n\ny 1 -9999999999999999\n";
-    let least = -1_000_000_000_000_001;
+    let text =
+        b"\n s\tOPTIMAL ffactor -9999999999999999999\r\nc\nx 007 -0\n\ny 1 -1000000000000000002\n";
+    let least = -1_000_000_000_000_000_001;
     let (line, edge, count) = (13, 7, 0);
     let counts = [CountLine { line, edge, count }];
     let (line, vertex, dual) = (15, 1, least);

@@ -16,9 +16,14 @@ fn refusal(alloc: Global, text: &[u8], kind: Kind) -> Option<(Rule, u64)> {
 fn refusals_by_kind(rt: HostRuntime) -> Result<(), Fail> {
     let below = b"p edge 3 2\n\ne 1 2 0\ne 2 3 -1\n".as_slice();
     let one_end = b"p edge 2 1\nn 1 1\ne 1 2 1\n".as_slice();
-    let rows: [(&[u8], Kind, Option<(Rule, u64)>); 7] = [
+    let rows: [(&[u8], Kind, Option<(Rule, u64)>); 8] = [
         (b"\0\n", Kind::Match, Some((Rule::UnknownLine, 1))),
         (b"p edge 2 0\ne 9 x\n", Kind::BMatch, Some((Rule::Range, 2))),
+        (
+            b"p edge 2 1\ne 1 2 -1000000000001\n",
+            Kind::Match,
+            Some((Rule::Range, 2)),
+        ),
         (below, Kind::Postman, Some((Rule::Negative, 4))),
         (below, Kind::TJoin, None),
         (one_end, Kind::Path, Some((Rule::PathEnds, 4))),
@@ -72,10 +77,10 @@ fn reads_as(alloc: Global, text: &[u8], kind: Kind, held: &Held) -> Result<bool,
 fn an_edge_and_what_follows(rt: HostRuntime) -> Result<(), Fail> {
     let rows: [(&[u8], Kind, Held); 3] = [
         (
-            b"p edge 2 1\ne 1 2 5\n",
+            b"p edge 2 1\ne 1 2 -1000000000000\n",
             Kind::Perfect,
             Held {
-                edge: edge(1, 2, 5, None),
+                edge: edge(1, 2, -1_000_000_000_000, None),
                 values: &[0, 0],
                 follows: b"s OPTIMAL perfect 5\nx 1 1\ny 1 5\ny 2 5\n",
                 line: 3,

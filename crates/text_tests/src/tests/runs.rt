@@ -18,6 +18,13 @@ struct Streams {
     write_fails: u64,
 }
 
+/// All at once, and no call fails.
+const WHOLE: Streams = Streams {
+    piece: 100_000,
+    read_fails: 0,
+    write_fails: 0,
+};
+
 /// What there is to see after a run: its status and what the sink kept.
 #[derive(Drop)]
 struct Seen {
@@ -103,11 +110,14 @@ const SOLVE: Given = (
     b"p edge 6 7\ne 1 2 1\ne 2 3 1\ne 1 3 1\ne 4 5 1\ne 5 6 1\ne 4 6 1\ne 3 4 10\n",
 );
 
-/// One edge, whose weight is the first number drawn. The input isn't for it.
-const TRIAL: Given = (
-    &["trial", "perfect", "2", "2", "1"],
-    b"p edge 2 1\ne 1 2 5\n",
-);
+/// An input that no trial reads.
+const EDGE: &[u8] = b"p edge 2 1\ne 1 2 5\n";
+
+/// One edge, whose weight is the first number drawn.
+const TRIAL: Given = (&["trial", "perfect", "2", "2", "1"], EDGE);
+
+/// 1,100 parallel edges, whose certificates speak of the square of that.
+const LARGE_TRIAL: Given = (&["trial", "postman", "1", "2", "1100"], EDGE);
 
 const ACCEPTED: &[u8] = b"s ACCEPTED\n";
 
@@ -129,15 +139,11 @@ fn runs_in_pieces(rt: HostRuntime) -> Result<(), Fail> {
         ((&[], CHECK.1), Status::Usage, b"s USAGE\n"),
         (
             (&["check", "match"], b"p edge 4096 0\n"),
-            Status::TooLarge,
-            b"s TOOLARGE 8192 4096\n",
+            Status::Rejected,
+            b"s REJECTED DocForm 2\n",
         ),
         (TRIAL, Status::Done, TRIED),
-        (
-            (&["trial", "match", "1", "4096", "0"], TRIAL.1),
-            Status::TooLarge,
-            b"s TOOLARGE 8192 4096\n",
-        ),
+        (LARGE_TRIAL, Status::TooLarge, b"s TOOLARGE 2200 1210000\n"),
     ];
     for (given, status, kept) in rows {
         for piece in [1, 7, 100_000] {
@@ -152,17 +158,89 @@ fn runs_in_pieces(rt: HostRuntime) -> Result<(), Fail> {
     Ok(())
 }
 
+/// Four vertices of the greatest value, and one of value 0.
+const FOUR_GREATEST: &[u8] = b"p edge 5 0\nn 1 4096\nn 2 4096\nn 3 4096\nn 4 4096\nn 5 0\n";
+
+/// The same, but for a value of 1.
+const FOUR_GREATEST_AND_ONE: &[u8] = b"p edge 5 0\nn 1 4096\nn 2 4096\nn 3 4096\nn 4 4096\n";
+
+// The most vertices of an instance, and of the graph that certificates speak of.
+#[test]
+fn largest_graphs(rt: HostRuntime) -> Result<(), Fail> {
+    let rows: [(Given, Status, &[u8]); 4] = [
+        (
+            (&["solve", "match", "--brief"], b"p edge 4096 0\n"),
+            Status::Done,
+            b"s OPTIMAL match 0\n",
+        ),
+        (
+            (&["solve", "bmatch", "--brief"], FOUR_GREATEST),
+            Status::Done,
+            b"s INFEASIBLE bmatch\n",
+        ),
+        (
+            (&["solve", "bmatch"], FOUR_GREATEST_AND_ONE),
+            Status::TooLarge,
+            b"s TOOLARGE 16385 0\n",
+        ),
+        (
+            (&["check", "bmatch"], FOUR_GREATEST_AND_ONE),
+            Status::TooLarge,
+            b"s TOOLARGE 16385 0\n",
+        ),
+    ];
+    for (given, status, kept) in rows {
+        assert!(rt; ends_so(rt.alloc(), given, WHOLE, (status, kept))?);
+    }
+    Ok(())
+}
+
+const GREATEST_DUALS: &[u8] =
+    b"p edge 1 0\ns OPTIMAL match 0\ny 1 1000000000000000000\ny 2 -1000000000000000000\n";
+
+const DUAL_PAST_LIMIT: &[u8] =
+    b"p edge 1 0\ns OPTIMAL match 0\ny 1 1000000000000000001\ny 2 -1000000000000000000\n";
+
+// The greatest weight of an edge and the greatest dual, and one more.
+#[test]
+fn greatest_numbers(rt: HostRuntime) -> Result<(), Fail> {
+    let solve: &[&str] = &["solve", "perfect", "--brief"];
+    let check: &[&str] = &["check", "match"];
+    let rows: [(Given, Status, &[u8]); 4] = [
+        (
+            (solve, b"p edge 2 1\ne 1 2 1000000000000\n"),
+            Status::Done,
+            b"s OPTIMAL perfect 1000000000000\nx 1 1\n",
+        ),
+        (
+            (solve, b"p edge 2 1\ne 1 2 1000000000001\n"),
+            Status::Malformed,
+            b"s MALFORMED Range 2\n",
+        ),
+        ((check, GREATEST_DUALS), Status::Done, ACCEPTED),
+        (
+            (check, DUAL_PAST_LIMIT),
+            Status::Rejected,
+            b"s REJECTED DocRange 3\n",
+        ),
+    ];
+    for (given, status, kept) in rows {
+        assert!(rt; ends_so(rt.alloc(), given, WHOLE, (status, kept))?);
+    }
+    Ok(())
+}
+
 // A trial reads nothing, whatever the answer is, and nor is anything read for words that are no
 // command.
 #[test]
 fn what_is_left(rt: HostRuntime) -> Result<(), Fail> {
-    let whole = TRIAL.1.len();
+    let whole = EDGE.len();
     let rows: [(Given, usize); 5] = [
         (CHECK, 0),
         (SOLVE, 0),
         (TRIAL, whole),
-        ((&["trial", "match", "1", "4096", "0"], TRIAL.1), whole),
-        ((&["trial", "perfect", "2", "2"], TRIAL.1), whole),
+        (LARGE_TRIAL, whole),
+        ((&["trial", "perfect", "2", "2"], EDGE), whole),
     ];
     for (given, left) in rows {
         assert!(rt; leaves(rt.alloc(), given, left)?);

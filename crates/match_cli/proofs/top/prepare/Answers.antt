@@ -1,8 +1,7 @@
-use Rattle.std.proofs.Common.{◌≡◌, ◌∙◌, ℕ, List, Some, map, sym, subst}
-use Rattle.std.specs.Prelude.{string_bytes, IfOk}
+use Rattle.std.proofs.Common.{◌≡◌, ◌∙◌, Some, map, sym}
+use Rattle.std.specs.Prelude.{string_bytes}
 use Rattle.command_words.specs.Commands.{command_of}
 use Rattle.match_cli.specs.Commands.{limit_of, ReadsUpTo}
-use Rattle.match_cli.specs.Answers.{Gives}
 use Rattle.match_cli.proofs.Prepares.{answered_reading, too_long}
 use Rattle.match_cli.proofs.top.prepare.Goals as goal
 
@@ -25,7 +24,5 @@ returns-in-Ok-read_all-clause-answer g c =
     let taken : command_of words ≡ Some command = sym c.in-Ok.ensures.exact ∙ c.in-Some.is in
     let reads : limit_of command ≡ Some limit = sym c.limit.ensures.limit ∙ c.in-Some-limit.is in
     let read = c.in-Ok-read_all.ensures.bytes in
-    let r = c.decide-in-Ok-read_all.result in
     let decided = c.decide-in-Ok-read_all.ensures in
-    let gives : IfOk r (λ a. Gives command bytes a.text.items a.status) = subst (λ (b : List ℕ). IfOk r (λ a. Gives command b a.text.items a.status)) c.deref.ensures.value decided.answer in
-    answered_reading words command limit bytes before after taken reads read.0 read.1 read.2 r gives decided.memory
+    answered_reading words command limit bytes before after taken reads read.0 read.1 read.2 c.decide-in-Ok-read_all.result decided.answer decided.memory
