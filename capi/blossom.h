@@ -43,7 +43,7 @@ extern "C" {
 #endif
 
 /* The version of these declarations. Another number means that a call or a number below means something else. */
-#define BLOSSOM_ABI 2
+#define BLOSSOM_ABI 3
 
 /* The version that the library was built for: compare it with BLOSSOM_ABI where it is loaded at run time. */
 uint32_t blossom_abi(void);
@@ -74,15 +74,15 @@ enum blossom_status {
     BLOSSOM_REJECTED = 1,      /* the document doesn't prove its answer: the answer names a rule and a line */
     BLOSSOM_MALFORMED = 3,     /* the instance breaks a rule: the answer names it, and a line, or an edge or a vertex */
     BLOSSOM_TOO_LARGE = 4,     /* the graph that certificates speak of is too large: the answer is its size */
-    BLOSSOM_TOO_LONG = 5,      /* more than 67,108,864 bytes for a check, 16,777,216 for a solution */
+    BLOSSOM_TOO_LONG = 5,      /* more than 536,870,912 bytes for a check, 16,777,216 for a solution */
     BLOSSOM_OUT_OF_MEMORY = 8, /* there isn't enough memory; the answer is empty */
     BLOSSOM_SHORT_BUFFER = 9,  /* the answer is longer than `room`: `used` is its length, and nothing was written */
     BLOSSOM_NO_SUCH_CALL = 10  /* `task` or `kind` is none of these numbers; nothing was written */
 };
 
-/* No answer is longer than these bytes (what `solve` writes is at most 48 MiB, each other answer a line), so a buffer of as many is never
+/* No answer is longer than these bytes (what `solve` writes is at most 400 MiB, each other answer a line), so a buffer of as many is never
  * too short. */
-#define BLOSSOM_LONGEST_ANSWER ((size_t)48 << 20)
+#define BLOSSOM_LONGEST_ANSWER ((size_t)400 << 20)
 
 /* Does a task (enum blossom_task) for a kind (enum blossom_kind) on `length` bytes at `input`. Writes the answer to `output`, at most `room`
  * bytes, sets `*used` to the answer's length, and answers a status (enum blossom_status). There is no zero byte behind the answer.
@@ -111,7 +111,7 @@ enum blossom_rule {
     BLOSSOM_VERTICES = 2,    /* more than 4,096 vertices */
     BLOSSOM_EDGES = 3,       /* more than 65,536 edges */
     BLOSSOM_END = 4,         /* an end of an edge is 0 or past the number of vertices */
-    BLOSSOM_WEIGHT = 5,      /* a weight is beyond 1,000,000,000 or -1,000,000,000 */
+    BLOSSOM_WEIGHT = 5,      /* a weight is beyond 10^12 or -10^12 */
     BLOSSOM_CAPACITY = 6,    /* a capacity is below -1 or above 4,096 */
     BLOSSOM_LOOP = 7,        /* the two ends of an edge are equal */
     BLOSSOM_VALUE = 8,       /* the value of a vertex is above 4,096 */

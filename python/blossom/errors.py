@@ -18,7 +18,7 @@ class GraphError(BlossomError, ValueError):
 
 
 class WeightError(BlossomError, ValueError):
-    """A weight, once scaled, is no whole number within 10^9."""
+    """A weight, once scaled, is no whole number within 10^12."""
 
 
 class LimitExceeded(BlossomError):

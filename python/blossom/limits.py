@@ -10,22 +10,15 @@ from .dual_names import units_of
 
 
 def too_large(of: Instance) -> str:
-    """Which limit this instance passes, in words; "" where it passes none."""
+    """Which limit this instance passes, in words; "" where it passes none, as for matchings, whose
+    graphs have each node at most twice."""
     if of.kind in ("perfect", "match"):
-        return too_many_nodes(of)
+        return ""
     if of.kind == "bmatch":
         return too_much_value(of)
     if of.kind in ("capmatch", "ffactor"):
         return too_many_uses(of)
     return too_many_ends(of)
-
-
-def too_many_nodes(of: Instance) -> str:
-    """For matchings: each node counts once, or twice where it can stay alone."""
-    most = MOST_VERTICES // (2 if of.kind == "match" else 1)
-    if len(of.nodes) <= most:
-        return ""
-    return "the graph has %d nodes; %s takes at most %d" % (len(of.nodes), of.kind, most)
 
 
 def too_much_value(of: Instance) -> str:

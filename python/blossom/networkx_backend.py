@@ -3,7 +3,7 @@
 installed.
 
 Both answer what networkx's own functions are to answer, exactly. Weights that aren't whole are
-rounded to the finest power of two with which all stay within 10^9, and a `RoundedWeights` warning
+rounded to the finest power of two with which all stay within 10^12, and a `RoundedWeights` warning
 says so: networkx's own functions round too, in the arithmetic of floats. Where networkx may choose
 by itself (`nx.config.backend_priority`), it goes on with its own functions for graphs that are too
 large for the program.
@@ -16,7 +16,7 @@ from typing import Any, Dict, Iterator, List, Mapping, Optional, Sequence, Set, 
 
 from .answers import Answer
 from .errors import Infeasible, LimitExceeded, RoundedWeights
-from .kinds import MOST_EDGES, MOST_NODES, MOST_VERTICES
+from .kinds import MOST_EDGES, MOST_NODES
 from .solving import solve
 from .tables import Node
 from .weights import exact, scale_of, whole
@@ -46,7 +46,7 @@ def whole_edges(graph: Any, weight: Optional[str]) -> Edges:
              for first, second, attributes in graph.edges(data=True) if first != second]
     scale = scale_of("finest", [edge[2] for edge in edges])
     if any((exact(edge[2], edge[:2]) * scale).denominator != 1 for edge in edges):
-        warnings.warn("weights were rounded to multiples of %s, which whole weights within 10^9"
+        warnings.warn("weights were rounded to multiples of %s, which whole weights within 10^12"
                       " allow" % (1 / scale), RoundedWeights, stacklevel=3)
     return [(first, second, whole(one, scale, "nearest", (first, second)))
             for first, second, one in edges]
@@ -119,12 +119,9 @@ def can_run(name: str, args: Sequence[Any], kwargs: Mapping[str, Any]) -> Union[
         return "blossom has matchings of least and greatest weight alone"
     graph = args[0] if args else kwargs.get("G")
     nodes, edges = graph.number_of_nodes(), graph.number_of_edges()
-    asked = bool(args[1]) if len(args) > 1 else bool(kwargs.get("maxcardinality", False))
-    most = name == "min_weight_matching" or asked
-    limit = MOST_NODES if most else MOST_VERTICES // 2
-    if nodes > limit or edges > MOST_EDGES:
-        return ("blossom takes %d nodes and %d edges here, and the graph has %d and %d"
-                % (limit, MOST_EDGES, nodes, edges))
+    if nodes > MOST_NODES or edges > MOST_EDGES:
+        return ("blossom takes %d nodes and %d edges, and the graph has %d and %d"
+                % (MOST_NODES, MOST_EDGES, nodes, edges))
     return True
 
 

@@ -17,7 +17,7 @@ ROUNDINGS = (None, "nearest")
 ONE = Fraction(1)
 # Weights of more decimal places than these get no advice on a scale: times it they would pass the
 # limit.
-MOST_PLACES = 9
+MOST_PLACES = 12
 
 
 def exact(weight: Any, edge: Any) -> Fraction:
@@ -35,7 +35,7 @@ def exact(weight: Any, edge: Any) -> Fraction:
 
 def scale_of(scale: Scale, weights: Iterable[Any]) -> Fraction:
     """The scale as a number. `"finest"` is the greatest power of two by which all weights stay
-    within 10^9, or 1 where all are whole already. WeightError: it isn't above 0."""
+    within 10^12, or 1 where all are whole already. WeightError: it isn't above 0."""
     if type(scale) is int and scale == 1:
         return ONE
     if scale == "finest":
@@ -74,7 +74,7 @@ def advice(number: Fraction) -> str:
 def whole(weight: Any, scale: Fraction, rounding: Optional[str], edge: Any) -> int:
     """The weight times the scale as a whole number. `edge` is what a refusal names.
     WeightError: that is no whole number, and `rounding` isn't "nearest"; or it is outside
-    -10^9 to 10^9."""
+    -10^12 to 10^12."""
     if type(weight) is int and scale == 1:
         value = weight
     else:
@@ -87,8 +87,8 @@ def whole(weight: Any, scale: Fraction, rounding: Optional[str], edge: Any) -> i
         value = round(scaled)
     if not -MOST_WEIGHT <= value <= MOST_WEIGHT:
         times = "" if scale == 1 else " (times the scale %s)" % scale
-        raise WeightError("edge %r weighs %d%s, outside -10^9 to 10^9: pass a smaller scale, as %s"
-                          " and %s" % (edge, value, times, word("scale", smaller(scale, value)),
+        raise WeightError("edge %r weighs %d%s, outside -10^12 to 10^12: pass a smaller scale, as"
+                          " %s and %s" % (edge, value, times, word("scale", smaller(scale, value)),
                                        word("rounding", "nearest")))
     return value
 
