@@ -136,6 +136,14 @@ def ends(given, n):
     return given + b"n 1 1\nn %d 1\n" % n
 
 
+def points_of_value(n, near, value, times, seed=1):
+    """The points of a square and the edges between neighbours, each point with this value; edges weigh so many times their length."""
+    draw = random.Random(seed)
+    points = sorted((draw.randint(0, 10**6), draw.randint(0, 10**6)) for _ in range(n))
+    given = text(n, [(u, v, length * times // 10) for u, v, length in near_pairs(points, near)])
+    return given + "".join("n %d %d\n" % (v, value) for v in range(1, n + 1)).encode()
+
+
 def clusters(n, near, seed=1):
     """Points in clusters of some forty, each joined to those nearest to it, and a path through all of them."""
     draw = random.Random(seed)

@@ -41,7 +41,7 @@ def longest_fields(zeros):
     """65,536 edges, each field as long as it can be, with so many zeros before it."""
     def made(size):
         count = 65536 * size // zeros[1]
-        fields = (4095, 4096, -10**9, 4096)
+        fields = (4095, 4096, -10**12, 4096)
         edge = "e " + " ".join(("-" if f < 0 else "") + "0" * zeros[0] + str(abs(f)) for f in fields) + "\n"
         return ("p edge 4096 %d\n" % count + edge * count).encode(), b"s REJECTED DocForm %d\n" % (count + 2)
     return made
@@ -106,16 +106,16 @@ CASES = [
     ("one field of a document", CHECK, 16 * MIB,
      one_line(b"p edge 0 0\ns OPTIMAL perfect ", b"9", b"\n", b"s REJECTED DocRange 2\n")),
     ("one field of CR", CHECK, 16 * MIB, one_line(b"", b"\r", b"\n", b"s MALFORMED UnknownLine 1\n")),
-    ("65,536 edges, longest fields", CHECK, 65536 * 28, longest_fields((0, 65536 * 28))),
+    ("65,536 edges, longest fields", CHECK, 65536 * 31, longest_fields((0, 65536 * 31))),
     ("65,536 edges, 58 zeros before each", CHECK, 16 * MIB, longest_fields((58, 16 * MIB))),
-    ("sets of three", CHECK, 64 * MIB, sets(SMALL, b"z 1 3 1 2 3\n", b"s REJECTED Slack 4\n")),
-    ("sets of three at parallel edges", CHECK, 64 * MIB, sets(PARALLEL, b"z 1 3 1 2 3\n", b"s REJECTED Slack 65538\n")),
-    ("sets of one", CHECK, 64 * MIB, sets(SMALL, b"z 1 1 1\n", b"s REJECTED SetForm 11\n")),
-    ("sets of none", CHECK, 64 * MIB, sets(SMALL, b"z 1 0\n", b"s REJECTED SetForm 11\n")),
-    ("one set", CHECK, 64 * MIB, one_set),
-    ("one walk", POSTMAN, 64 * MIB, one_walk),
-    ("edges that aren't there", CHECK, 64 * MIB, nothing(b"x", b"s REJECTED DocRange 4\n")),
-    ("vertices that aren't there", CHECK, 64 * MIB, nothing(b"y", b"s REJECTED DocRange 4\n")),
-    ("members that aren't there", CHECK, 64 * MIB,
+    ("sets of three", CHECK, 512 * MIB, sets(SMALL, b"z 1 3 1 2 3\n", b"s REJECTED Slack 4\n")),
+    ("sets of three at parallel edges", CHECK, 512 * MIB, sets(PARALLEL, b"z 1 3 1 2 3\n", b"s REJECTED Slack 65538\n")),
+    ("sets of one", CHECK, 512 * MIB, sets(SMALL, b"z 1 1 1\n", b"s REJECTED SetForm 11\n")),
+    ("sets of none", CHECK, 512 * MIB, sets(SMALL, b"z 1 0\n", b"s REJECTED SetForm 11\n")),
+    ("one set", CHECK, 512 * MIB, one_set),
+    ("one walk", POSTMAN, 512 * MIB, one_walk),
+    ("edges that aren't there", CHECK, 512 * MIB, nothing(b"x", b"s REJECTED DocRange 4\n")),
+    ("vertices that aren't there", CHECK, 512 * MIB, nothing(b"y", b"s REJECTED DocRange 4\n")),
+    ("members that aren't there", CHECK, 512 * MIB,
      sets(SMALL, b"z 1 3 5 6 7\n", b"s REJECTED DocRange 11\n")),
 ]

@@ -11,7 +11,7 @@ from hostile_inputs import CASES, MIB
 from instances import instance, with_document, with_large_copies
 from timing import HERE, PROGRAM
 
-MOST = {"check": (64 * MIB, 24), "solve": (16 * MIB, 24)}  # the greatest input, and how often the peak may be that
+MOST = {"check": (512 * MIB, 15), "solve": (16 * MIB, 24)}  # the greatest input, and how often the peak may be that
 
 
 def alone(n, m):
@@ -22,19 +22,22 @@ def alone(n, m):
 
 
 LARGE = b"p edge 3 1\nn 1 1\nn 2 1024\nn 3 1023\ne 2 3 7\n"  # a graph of 2,048 vertices and 1,047,552 edges
+# the same and copies that meet no edge
+LARGEST = b"p edge 7 1\nn 1 1\nn 2 1024\nn 3 1023\nn 4 4096\nn 5 4096\nn 6 4096\nn 7 2048\ne 2 3 7\n"
 GRAPHS = [
     ("65,536 edges and their document", ["check", "perfect"], lambda: with_document(4096, 65536)),
     ("a graph of 1,048,576 edges", ["check", "bmatch"], with_large_copies),
     ("the same with sets of three", ["check", "bmatch"], lambda: with_sets(with_large_copies(), b"z 1 3 1 2 3\n")),
     ("65,536 edges", ["solve", "perfect"], lambda: alone(4096, 65536)),
     ("a graph of 1,047,552 edges", ["solve", "bmatch"], lambda: LARGE),
+    ("a graph of 16,384 vertices and 1,047,552 edges", ["solve", "bmatch"], lambda: LARGEST),
     ("a graph of 1,047,552 edges after comments", ["solve", "bmatch"], lambda: b"c\n" * (8 * MIB - len(LARGE)) + LARGE),
 ]
 
 
 def with_sets(head, line):
     """A document with as many sets behind it as `check` takes."""
-    return head + line * ((64 * MIB - len(head)) // len(line))
+    return head + line * ((512 * MIB - len(head)) // len(line))
 
 
 # A process counts the size of the one that it was forked from, so a small one starts the program.

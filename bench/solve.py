@@ -9,7 +9,7 @@ fails where two answers differ, or where a family's mean is past RATIO (without 
 
 Some families have a graph and one of four times its size last: for these it says how many times the time of the first the last one takes, and
 fails where that is past the RATIO of `--growth`. With `--before` an older build of the program takes its turn too, and its means
-stand beside.
+stand beside; a graph that it refuses counts for the other two alone, and at the end stands the mean of both on all others.
 
 `solve.py kinds`: a row for each kind but `perfect`: the time of `solve`, and how much of it `check` takes of the instance with the
 answer. `check` builds the same graph, reads the document and adds up its duals, so it takes no less than building the
@@ -28,6 +28,7 @@ sys.path.insert(0, os.path.join(HERE, "..", "tests"))
 import plain_checker
 
 LIMIT = 300
+REFUSED = ("s TOOLARGE", "s MALFORMED")
 # families whose last graph has four times the vertices and edges of their first
 GROWING = ("random, 3 edges a vertex", "neighbours in a plane", "chains of triangles", "grids", "nests of two chains")
 
@@ -50,7 +51,7 @@ def searched_graph(kind, given):
 
 def graphs():
     """Family, kind and instance, those of a family side by side."""
-    big = 10**9
+    big, greatest = 10**9, 10**12
     yield "random, 3 edges a vertex", "perfect", families.random_graph(1024, 3 * 1024, big)
     yield "random, 3 edges a vertex", "perfect", families.random_graph(4096, 3 * 4096, big)
     yield "random", "perfect", families.random_graph(1000, 16 * 1000, big)
@@ -87,14 +88,19 @@ def graphs():
     yield "no perfect matching", "perfect", families.without_matching(4096, 16384, big)
     yield "matchings", "match", families.random_graph(1000, 8000, 10**6)
     yield "matchings", "match", families.random_graph(2048, 30000, 10**6)
+    yield "large matchings", "match", families.random_graph(4096, 65536, greatest)
     yield "joins in toric grids", "tjoin", families.toric_grid(20, 12, 1000)
     yield "joins in toric grids", "tjoin", families.toric_grid(31, 40, 1000)
+    yield "large joins in toric grids", "tjoin", families.toric_grid(45, 40, greatest)
+    yield "large joins in toric grids", "tjoin", families.toric_grid(63, 80, greatest)
     yield "tours of grids", "postman", families.grid(20, 26, 10**6)
     yield "tours of grids", "postman", families.grid(30, 32, 10**6)
+    yield "large tours of grids", "postman", families.grid(44, 45, greatest)
     yield "tours of wheels", "postman", families.wheel(200, 10**6)
     yield "tours of wheels", "postman", families.wheel(500, 10**6)
     yield "b-matchings", "bmatch", families.valued(60, 200, 6, 10**6, False)
     yield "b-matchings", "bmatch", families.valued(200, 800, 5, 10**6, False)
+    yield "large b-matchings in a plane", "bmatch", families.points_of_value(4096, 8, 4, 10**6)
     yield "capacities", "capmatch", families.valued(100, 300, 4, 10**6, True)
     yield "factors", "ffactor", families.valued(300, 1200, 1, 10**6, False)
 
@@ -141,6 +147,9 @@ def compare(kind, given, programs, peer, runs):
             spent, answer = processor_time([program, "solve", kind, "--brief"], own_file)
             if spent is None:
                 return None, None, False
+            if program != programs[0] and answer.startswith(REFUSED):
+                times.append(math.nan)
+                continue
             times.append(spent)
             answers.add(answer)
         spent, matching = processor_time([peer], peer_file)
@@ -153,7 +162,9 @@ def compare(kind, given, programs, peer, runs):
 
 
 def mean(ratios):
-    return math.exp(sum(map(math.log, ratios)) / len(ratios))
+    """The geometric mean of those that are numbers."""
+    ratios = [ratio for ratio in ratios if not math.isnan(ratio)]
+    return math.exp(sum(map(math.log, ratios)) / len(ratios)) if ratios else math.nan
 
 
 def measured(args):
@@ -215,8 +226,10 @@ def beside_lemon(args):
     if not every:
         print("no such family")
         return 1
-    before = ", before %.2f" % mean(ratios_of(every, 1)) if args.before else ""
-    print("mean of all %d graphs %25.2f%s" % (len(every), mean(ratios_of(every)), before))
+    print("mean of all %d graphs %25.2f" % (len(every), mean(ratios_of(every))))
+    both = [times for times in every if args.before and not math.isnan(times[1])]
+    if both:
+        print("mean of the %d that both take %18.2f, before %.2f" % (len(both), mean(ratios_of(both)), mean(ratios_of(both, 1))))
     return 0 if good and not any(late) else 1
 
 

@@ -180,7 +180,7 @@ def buffers(program, library, tests):
         ("SOLVE_BRIEFLY", "postman", EXAMPLE),
         ("SOLVE", "perfect", (1, [], [], [], [], [])),
         ("SOLVE", "perfect", (1, [1], [2], [], [], [])),
-        ("SOLVE", "match", (4096, [], [], [], [], [])),
+        ("SOLVE", "bmatch", (5, [], [], [], [], [4096, 4096, 4096, 4096, 1])),
     ):
         status, answer = arrays.answer(task, kind, given)
         for room in range(len(answer) + 3):
@@ -209,9 +209,9 @@ FAULTS = (
     ("EDGES", 0, "match", (2, [0] * 65537, [1] * 65537, [], [], [])),
     ("END", 1, "perfect", (2, [0], [1], [], [], [])),
     ("END", 2, "perfect", (2, [1, 1], [2, 3], [], [], [])),
-    ("END", 1, "perfect", (2, [3], [3], [10**10], [-2], [])),
-    ("WEIGHT", 1, "perfect", (2, [1, 1], [1, 2], [10**9 + 1, 0], [-2, 1], [])),
-    ("WEIGHT", 2, "perfect", (2, [1, 1], [2, 2], [10**9, -(10**9) - 1], [], [])),
+    ("END", 1, "perfect", (2, [3], [3], [10**13], [-2], [])),
+    ("WEIGHT", 1, "perfect", (2, [1, 1], [1, 2], [10**12 + 1, 0], [-2, 1], [])),
+    ("WEIGHT", 2, "perfect", (2, [1, 1], [2, 2], [10**12, -(10**12) - 1], [], [])),
     ("WEIGHT", 1, "perfect", (2, [1], [2], [-(2**63)], [], [])),
     ("CAPACITY", 1, "capmatch", (2, [1], [1], [], [-2], [])),
     ("CAPACITY", 2, "match", (2, [1, 1], [2, 2], [], [-1, 4097], [])),
@@ -232,7 +232,7 @@ def faults(program, library, tests):
         name = "over arrays, %s at %d" % (rule, place)
         tests.compare(name, b"", wanted, arrays.answer("SOLVE", kind, given))
         tests.compare(name + ", size", b"", wanted, arrays.size(kind, given))
-    most = (4096, [1] * 65536, [4096] * 65536, [10**9] * 65536, [4096] * 65536, [0] * 4096)
+    most = (4096, [1] * 65536, [4096] * 65536, [10**12] * 65536, [4096] * 65536, [0] * 4096)
     status = arrays.answer("SOLVE_BRIEFLY", "bmatch", most)[0]
     tests.compare("over arrays, the greatest of all", b"", 0, status)
     untouched = (header.statuses["NO_SUCH_CALL"], 0, [7] * 21)

@@ -58,6 +58,6 @@ def answer_of(kind, start, n, m):
     """What a trial writes, and its status; for small instances, whose answers are found by trying all."""
     edges, values = made(kind, start, n, m)
     size = graph_size(kind, edges, values)
-    if size[0] > 4096 or size[1] > 1048576:
+    if size[0] > 16384 or size[1] > 1048576:
         return "s TOOLARGE %d %d\n" % size, 4
     return "g %d %d\n%s\ns ACCEPTED\n" % (size + (plain_solver.first_lines(kind, edges, values)[0],)), 0

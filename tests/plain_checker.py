@@ -4,7 +4,7 @@ It is written from docs/FORMAT.md alone, as simply as can be, and shares nothing
 tests compare the two on documents that were changed at random."""
 import re
 
-CEILING = 10 ** 15
+CEILING = 10 ** 18
 LETTERS = {"OPTIMAL": {"perfect": "xyz", "match": "xyz", "bmatch": "xyz", "capmatch": "xyz", "ffactor": "xyz",
                        "tjoin": "xyz", "postman": "wyz", "path": "wyz"},
            "INFEASIBLE": {"perfect": "u", "bmatch": "u", "capmatch": "u", "ffactor": "u", "tjoin": "t", "path": "t",

@@ -4,8 +4,8 @@ It is written from docs/FORMAT.md alone, as simply as can be, and shares nothing
 compare the two on inputs that were changed at random."""
 from plain_checker import fields_of, number
 
-VERTICES, EDGES, VALUE, WEIGHT = 4096, 65536, 4096, 10 ** 9
-GRAPH_VERTICES, GRAPH_EDGES = 4096, 1048576
+VERTICES, EDGES, VALUE, WEIGHT = 4096, 65536, 4096, 10 ** 12
+GRAPH_VERTICES, GRAPH_EDGES = 16384, 1048576
 
 
 class Refused(Exception):

@@ -37,7 +37,7 @@ RUNS = WORDS + (
     ("check capmatch", "p edge 2 1\nn 1 2\nn 2 2\ne 1 2 4 1\ns INFEASIBLE capmatch\nu 2 5 6\n"),
     ("check tjoin", "p edge 2 0\nn 1 1\nn 2 1\ns INFEASIBLE tjoin\nt 1 2\n"),
     ("check perfect", "p edge 2 1\ne 1 9\n"),
-    ("solve match", "p edge 4096 0\n"),
+    ("solve bmatch", "p edge 5 0\nn 1 4096\nn 2 4096\nn 3 4096\nn 4 4096\n"),
     ("trial capmatch 1 4 5", ""),
 )
 

@@ -108,8 +108,8 @@ def hostile_input(tests):
     tests.expect("a carriage return inside a line", check, b"p edge\r 2 1\n", "s MALFORMED HeaderForm 1\n", 3)
     tests.expect("16 MiB without a line end", check, b"x" * 16_777_216, "s MALFORMED UnknownLine 1\n", 3)
     tests.expect("16 MiB of comments", check, b"c no edge\n" * 1_677_721, "s MALFORMED HeaderMissing 1677722\n", 3)
-    tests.expect("the longest input", check, b"\n" * 67_108_864, "s MALFORMED HeaderMissing 67108865\n", 3)
-    tests.expect("one byte more than that", check, b"\n" * 67_108_865, "s TOOLONG\n", 5)
+    tests.expect("the longest input", check, b"\n" * 536_870_912, "s MALFORMED HeaderMissing 536870913\n", 3)
+    tests.expect("one byte more than that", check, b"\n" * 536_870_913, "s TOOLONG\n", 5)
 
 
 def hostile_documents(tests):
@@ -121,7 +121,7 @@ def hostile_documents(tests):
     crossing = "p edge 4 2\ne 1 2 1\ne 3 4 1\ns OPTIMAL perfect 2\nx 1 1\nx 2 1\ny 1 0\ny 2 1\ny 3 1\ny 4 0\nz 1 3 1 2 3\nz 1 3 2 3 4\n"
     tests.expect("ten thousand equal sets", ["check", "perfect"], (crossing + "z 1 3 2 3 4\n" * 10_000).encode(), "s REJECTED Slack 4\n", 1)
     # Their duals add up to more than 2^63: in 64 bits the slack would pass for a great one.
-    tests.expect("sets with great duals", ["check", "perfect"], (crossing + "z 1000000000000000 3 1 2 3\n" * 9_224).encode(),
+    tests.expect("sets with great duals", ["check", "perfect"], (crossing + "z 1000000000000000000 3 1 2 3\n" * 10).encode(),
                  "s REJECTED Slack 4\n", 1)
     parallel = "p edge 4 65536\n" + "e 1 2 1\n" * 65_535 + "e 3 4 1\ns OPTIMAL perfect 2\nx 1 1\nx 65536 1\ny 1 0\ny 2 1\ny 3 1\ny 4 0\n"
     for sets, output, status in (("z 1 3 1 2 3\nz 1 3 2 3 4\n", "s ACCEPTED\n", 0), ("z 1 3 1 2 3\n" * 50_000, "s REJECTED Slack 65538\n", 1)):
@@ -206,12 +206,12 @@ def made_instances():
     chance = random.Random(2)
     for turn in range(160):
         n = chance.choice((2, 4, 6, 8, 8, 10, 10, 12)) - (turn % 16 == 0)
-        yield "perfect", made_edges(chance, n, chance.randint(n // 2, 3 * n), chance.choice((0, 0, 1, 9, 10**9)), 1), [0] * n
+        yield "perfect", made_edges(chance, n, chance.randint(n // 2, 3 * n), chance.choice((0, 0, 1, 9, 10**12)), 1), [0] * n
     for kind in plain_solver.KINDS[1:]:
         for turn in range(80):
             n = chance.choice((0, 1, 2, 3, 4, 5, 6, 7))
             greatest = chance.choice((1, 2, 3))
-            edges = made_edges(chance, n, chance.randint(n // 2, 2 * n), chance.choice((0, 1, 9, 10**9)), greatest)
+            edges = made_edges(chance, n, chance.randint(n // 2, 2 * n), chance.choice((0, 1, 9, 10**12)), greatest)
             values = [chance.randint(0, greatest) for _ in range(n)]
             if turn % 2:  # the degrees of some counts, so that more of the instances have an answer
                 values = [0] * n
@@ -227,7 +227,7 @@ def made_joins():
     for kind in ("tjoin", "postman", "path"):
         for turn in range(120):
             n = chance.choice((0, 1, 2, 3, 4, 5, 6, 7)) if kind != "path" else chance.choice((2, 3, 4, 5, 6, 7))
-            edges = made_edges(chance, n, chance.randint(n // 2, 2 * n), chance.choice((0, 1, 9, 10**9)), 1)
+            edges = made_edges(chance, n, chance.randint(n // 2, 2 * n), chance.choice((0, 1, 9, 10**12)), 1)
             if kind == "postman" or turn % 3 == 0:
                 edges = [(u, v, abs(w), capacity) for u, v, w, capacity in edges]
             if turn % 4 == 1:  # two heaps of vertices, so that more of the instances have no answer
@@ -255,8 +255,8 @@ def solved(tests):
 def large_instances(tests):
     """Documents for larger instances, with nested sets among them, are accepted."""
     chance = random.Random(3)
-    for kind, n, m, most in (("perfect", 60, 200, 10), ("perfect", 100, 300, 10**9), ("perfect", 200, 400, 3),
-                             ("perfect", 300, 3000, 1000), ("match", 101, 400, 10**9), ("bmatch", 40, 120, 100),
+    for kind, n, m, most in (("perfect", 60, 200, 10), ("perfect", 100, 300, 10**12), ("perfect", 200, 400, 3),
+                             ("perfect", 300, 3000, 1000), ("match", 101, 400, 10**12), ("bmatch", 40, 120, 100),
                              ("capmatch", 20, 60, 100), ("ffactor", 40, 120, 100), ("tjoin", 100, 250, 100)):
         order = chance.sample(range(1, n + 1), n)
         pairs = list(zip(order[::2], order[1::2])) + [tuple(chance.sample(range(1, n + 1), 2)) for _ in range(m - n // 2)]

@@ -106,12 +106,12 @@ class Same(unittest.TestCase):
         self.same(graph, rows, rounding="nearest")
         for bad, said in ((0.5, "weighs 0.5, which is no whole number"),
                           (float("nan"), "no finite number"), (float("inf"), "no finite number"),
-                          (1e9 + 1, "outside -10.9 to 10.9"), (-1e9 - 1, "outside")):
+                          (1e12 + 1, "outside -10.12 to 10.12"), (-1e12 - 1, "outside")):
             for form in ([(1, 2, 1.0), (2, 3, bad)], self.columns([(1, 2, 1.0), (2, 3, bad)],
                                                                   weights="float64")):
                 with self.assertRaisesRegex(blossom.WeightError, said):
                     blossom.instance(form, "match")
-        for limit in (10**9, -10**9):
+        for limit in (10**12, -10**12):
             self.same(self.columns([(1, 2, limit)]), [(1, 2, limit)])
 
     def test_refusals_name_what_they_name_for_lists(self):

@@ -232,10 +232,10 @@ class Constructed(unittest.TestCase):
         self.assertEqual(prediction, [1, 0, 0, 0])
         self.assertAlmostEqual(float(weight), math.log(9), places=7)
         self.assertGreater(likely, math.log(9))
-        self.assertEqual((decoder.scale, math.log2(decoder.scale) % 1), (2**28, 0))
+        self.assertEqual((decoder.scale, math.log2(decoder.scale) % 1), (2**38, 0))
 
     def test_the_scale_is_said(self):
-        for scale, found in ((1000, 1000), (None, 2**28), ("finest", 2**28)):
+        for scale, found in ((1000, 1000), (None, 2**38), ("finest", 2**38)):
             decoder = blossom.Decoder(scale=scale, rounding="nearest")
             decoder.add_boundary_edge(0, error_probability=0.1)
             self.assertEqual(decoder.scale, found)

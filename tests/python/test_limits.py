@@ -7,6 +7,7 @@ from blossom.limits import too_large
 from support import StandIn
 
 PAIR = [("a", "b")]
+LONELY = {"a": 4096, "c": 4096, "d": 4096, "e": 4096}
 
 
 def path(nodes):
@@ -24,31 +25,30 @@ def ring(edges):
 # kind, the graph, words of `instance`, and what is said of it: nothing where it isn't too large.
 CASES = (
     ("perfect", path(4096), {}, ""),
-    ("match", path(2048), {}, ""),
-    ("match", path(2049), {}, "the graph has 2049 nodes; match takes at most 2048"),
+    ("match", path(4096), {}, ""),
     ("bmatch", PAIR, {"values": {"a": 1024, "b": 1024}}, ""),
     ("bmatch", PAIR, {"values": {"a": 1024, "b": 1025}},
      "the products of the values at the two ends of each edge add up to 1049600"),
-    ("bmatch", PAIR, {"values": {"a": 4096, "b": 1}},
-     "the values add up to 4097; bmatch takes at most 4096"),
+    ("bmatch", PAIR, {"values": {**LONELY, "b": 1}, "nodes": list(LONELY)}, "the values add up to"
+     " 16385; bmatch takes at most 16384"),
     ("capmatch", PAIR, {"values": {"a": 1024, "b": 1024}},
      "the uses of each edge times the values at its ends add up to 3145728; capmatch"),
-    ("capmatch", PAIR, {"values": {"a": 1500, "b": 1500}},
-     "the values add up to 3000, and the edges can be used 1500 times: .* 6000 together"),
+    ("capmatch", path(3), {"values": {0: 4096, 1: 4096, 2: 4096}},
+     "the values add up to 12288, and the edges can be used 8192 times: .* 28672 together"),
     ("capmatch", [("a", "b", 1, 548)], {"values": {"a": 1500, "b": 1500}},
      "the uses of each edge times"),
     ("capmatch", [("a", "b", 1, 1)], {"values": {"a": 2000, "b": 2000}}, ""),
-    ("ffactor", ring(1365), {}, ""),
-    ("ffactor", ring(1366), {}, "the values add up to 1366, and the edges can be used 1366 times"),
-    ("tjoin", ring(2048), {"terminals": []}, ""),
-    ("tjoin", ring(2049), {"terminals": []}, "2049 edges, with two ends each, and one more for some"
-     " nodes: 4098 together; tjoin takes at most 4096, so at most 2048 edges"),
-    ("tjoin", path(2048), {"terminals": []}, ""),
-    ("path", path(2048), {"source": 0, "target": 2047}, ""),
-    ("path", path(2049), {"source": 0, "target": 2048}, "2048 edges, .* 4098 together"),
-    ("path", ring(2048), {"source": 0, "target": 1}, "2048 edges, .* 4098 together"),
-    ("postman", path(2049), {}, ""),
-    ("postman", path(2050), {}, "2049 edges, with two ends each: 4098 together; postman"),
+    ("ffactor", 8191 * PAIR, {}, ""),
+    ("ffactor", 8192 * PAIR, {}, "the values add up to 2, and the edges can be used 8192 times"),
+    ("tjoin", 2 * ring(4096), {"terminals": []}, ""),
+    ("tjoin", 2 * ring(4096) + [(0, 1)], {"terminals": []}, "8193 edges, with two ends each, and one"
+     " more for some nodes: 16388 together; tjoin takes at most 16384, so at most 8192 edges"),
+    ("tjoin", path(4096), {"terminals": []}, ""),
+    ("path", 2 * ring(4095), {"source": 0, "target": 1}, ""),
+    ("path", 2 * ring(4096), {"source": 0, "target": 1}, "8192 edges, .* 16386 together"),
+    ("postman", 2 * ring(4096), {}, ""),
+    ("postman", 2 * ring(4096) + [(0, 1)], {}, "8193 edges, with two ends each: 16386 together;"
+     " postman"),
     ("postman", star(1447), {}, ""),
     ("postman", star(1448), {}, "1047628 pairs of edges meet at nodes, 1448 edges at 'hub' alone"),
 )
@@ -70,7 +70,7 @@ class Limits(unittest.TestCase):
                 with self.subTest(kind=kind, said=said):
                     with self.assertRaisesRegex(blossom.LimitExceeded, said) as told:
                         blossom.solve(edges, kind, **words)
-                    self.assertTrue(told.exception.vertices > 4096 or
+                    self.assertTrue(told.exception.vertices > 16384 or
                                     told.exception.edges > 1048576)
 
     def test_and_takes_what_is_not(self):
@@ -87,6 +87,6 @@ class Limits(unittest.TestCase):
         for kind, edges, words, said in CASES:
             of = blossom.instance(edges, kind, **words)
             with self.subTest(kind=kind, edges=len(edges)):
-                self.assertTrue(said or len(dual_names(of)) <= 4096)
+                self.assertTrue(said or len(dual_names(of)) <= 16384)
                 larger = "together" in said and kind != "path"
-                self.assertTrue(not larger or len(dual_names(of)) > 4096)
+                self.assertTrue(not larger or len(dual_names(of)) > 16384)

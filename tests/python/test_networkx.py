@@ -76,11 +76,11 @@ class Backend(unittest.TestCase):
                 "    setattr(networkx_backend, name, counted(getattr(networkx_backend, name)))\n"
                 "path, star = networkx.path_graph(41), networkx.star_graph(1500)\n"
                 "with networkx.config(backend_priority=['blossom']):\n"
-                "    networkx_backend.MOST_NODES = networkx_backend.MOST_VERTICES = 40\n"
+                "    networkx_backend.MOST_NODES = 20\n"
                 "    found = networkx.max_weight_matching(path.subgraph(range(21)))\n"
                 "    print(len(found), len(called))\n"
                 "    print(len(networkx.min_weight_matching(path)), len(called))\n"
-                "    networkx_backend.MOST_NODES = networkx_backend.MOST_VERTICES = 4096\n"
+                "    networkx_backend.MOST_NODES = 4096\n"
                 "    print(len(networkx.max_weight_matching(star, True)), len(called))\n"
                 "try:\n"
                 "    networkx.max_weight_matching(star, True, backend='blossom')\n"
@@ -103,9 +103,9 @@ class Limits(unittest.TestCase):
                 self.number_of_nodes, self.number_of_edges = lambda: nodes, lambda: edges
 
         for name, size, words, taken in (
-                ("max_weight_matching", (2048, 65536), {}, True),
-                ("max_weight_matching", (2049, 1), {}, False),
-                ("max_weight_matching", (2048, 65537), {}, False),
+                ("max_weight_matching", (4096, 65536), {}, True),
+                ("max_weight_matching", (4097, 1), {}, False),
+                ("max_weight_matching", (4096, 65537), {}, False),
                 ("max_weight_matching", (4096, 9), {"maxcardinality": True}, True),
                 ("max_weight_matching", (4097, 9), {"maxcardinality": True}, False),
                 ("min_weight_matching", (4096, 65536), {}, True),
@@ -117,8 +117,8 @@ class Limits(unittest.TestCase):
                     self.assertEqual(call(name, (Sized(*size),), words) is True, taken)
                     self.assertEqual(call(name, (), {"G": Sized(*size), **words}) is True, taken)
         self.assertIs(can_run("max_weight_matching", (Sized(4096, 9), True), {}), True)
-        self.assertEqual(can_run("max_weight_matching", (Sized(2049, 9), False), {}), "blossom takes"
-                         " 2048 nodes and 65536 edges here, and the graph has 2049 and 9")
+        self.assertEqual(can_run("max_weight_matching", (Sized(4097, 9), False), {}), "blossom takes"
+                         " 4096 nodes and 65536 edges, and the graph has 4097 and 9")
 
     def test_what_is_too_large_when_it_is_run_is_seen_by_networkx(self):
         from blossom.networkx_backend import TooLarge, within_limits

@@ -28,7 +28,7 @@ class Weights(unittest.TestCase):
 
     def test_scales(self):
         self.assertEqual(weights(0.5, 1, scale=2), [1, 2])
-        self.assertEqual(weights(5 * 10**9, scale=Fraction(1, 5)), [10**9])
+        self.assertEqual(weights(5 * 10**12, scale=Fraction(1, 5)), [10**12])
         self.assertEqual(weights(0.25, scale="4"), [1])
         with self.assertRaisesRegex(blossom.WeightError, "times 10"):
             weights(0.125, scale=10)
@@ -43,16 +43,16 @@ class Weights(unittest.TestCase):
 
     def test_the_finest_scale(self):
         of = blossom.instance([(0, 1, 3.14159265358979), (0, 1, -2.5)], "perfect", scale="finest")
-        self.assertEqual(of.scale, 2**28)
-        self.assertEqual(of.weights[1], -5 * 2**27)
+        self.assertEqual(of.scale, 2**38)
+        self.assertEqual(of.weights[1], -5 * 2**37)
         self.assertEqual(blossom.instance([(0, 1, 7)], "perfect", scale="finest").scale, 1)
-        self.assertEqual(blossom.instance([(0, 1, 4 * 10**9)], "perfect", scale="finest").weights, [10**9])
-        self.assertEqual(blossom.instance([(0, 1, 10**9 + 0.5)], "perfect", scale="finest").scale, Fraction(1, 2))
+        self.assertEqual(blossom.instance([(0, 1, 4 * 10**12)], "perfect", scale="finest").weights, [10**12])
+        self.assertEqual(blossom.instance([(0, 1, 10**12 + 0.5)], "perfect", scale="finest").scale, Fraction(1, 2))
         self.assertEqual(blossom.instance([(0, 1, 0)], "perfect", scale="finest").weights, [0])
 
     def test_the_limit(self):
-        self.assertEqual(weights(10**9, -(10**9)), [10**9, -(10**9)])
-        for weight in (10**9 + 1, -(10**9) - 1, 1e300, 10**400):
+        self.assertEqual(weights(10**12, -(10**12)), [10**12, -(10**12)])
+        for weight in (10**12 + 1, -(10**12) - 1, 1e300, 10**400):
             with self.assertRaisesRegex(blossom.WeightError, "outside"):
                 weights(weight)
 
