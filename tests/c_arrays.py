@@ -384,7 +384,8 @@ def example(program, library, tests):
 C_PLUS_PLUS = """#include "blossom.hpp"
 #include <iostream>
 int main() {
-    const std::vector<std::uint32_t> from{1, 2, 1}, to{2, 3, 3}, ends{1, 2, 9};
+    const std::vector<std::uint32_t> from{1, 2, 1}, to{2, 3, 3}, ends{1, 2, 9},
+        values{4096, 4096, 4096, 4096, 1};
     const std::vector<std::int64_t> weights{4, 5, 6};
     const blossom::Instance instance{BLOSSOM_MATCH, 3, from, to, weights};
     const blossom::Answer answer = blossom::solve(instance), brief = blossom::solve(instance, true);
@@ -408,7 +409,7 @@ int main() {
         std::cout << fault.rule << ' ' << fault.place << '\\n';
     }
     try {
-        blossom::solve({BLOSSOM_MATCH, 3000, {}, {}});
+        blossom::solve({BLOSSOM_BMATCH, 5, {}, {}, {}, {}, values});
     } catch (const blossom::TooLarge &size) {
         std::cout << size.vertices << ' ' << size.edges << '\\n';
     }
@@ -430,7 +431,7 @@ def c_plus_plus(program, library, tests):
         text += line(numbers[at + j], *members[offsets[j] : offsets[j + 1]])
     text += "".join("%d\n" % count for count in numbers[8 : 8 + a])
     text += "%d\n" % library.header.document_rules["DUAL_MISSING"]
-    text += "%d 3\n6000 3000\n" % library.header.rules["END"]
+    text += "%d 3\n16385 0\n" % library.header.rules["END"]
     for standard in ("-std=c++17", "-std=c++20"):
         with tempfile.TemporaryDirectory() as room:
             variable, usual, words = c_compilers.C_PLUS_PLUS

@@ -70,7 +70,7 @@ class Command(unittest.TestCase):
                 (["--weight", "length"], "pass --scale 10, by which all weights are multiplied, or"
                  " --rounding nearest"),
                 (["--weight", "length", "--scale", "none"], "--scale none is neither a number"),
-                (["--weight", "length", "--scale", "1e9"], "pass a smaller scale, as --scale"),
+                (["--weight", "length", "--scale", "1e12"], "pass a smaller scale, as --scale"),
                 (["--weight", "", "--kind", "bmatch", "--values", "A"], "'A': write NODE=NUMBER"),
                 (["--weight", "", "--kind", "bmatch", "--values", "A=x"], "write NODE=NUMBER"),
                 (["--weight", "", "-o", "answer.txt"], "pass --to")):

@@ -80,7 +80,7 @@ class Shared:
     a byte, or of numbers. `asked` has the numbers and texts of its calls, `arrays` those of its
     calls over arrays."""
 
-    def __init__(self, version=2, status=0, answer=b"", times=1, numbers=()):
+    def __init__(self, version=3, status=0, answer=b"", times=1, numbers=()):
         self.asked, self.status, self.answer, self.times = [], status, answer, times
         self.arrays, self.numbers = [], numbers
         self.blossom_abi = Function(lambda: version)
@@ -151,9 +151,9 @@ class Called(StandIn):
                              [place for place in range(many) if place % 5 in (1, 3, 4)])
 
     def test_another_version_is_refused(self):
-        for version in (0, 1, 3):
+        for version in (0, 2, 4):
             with self.assertRaisesRegex(blossom.ProgramFailed, "is of version %d, and this package"
-                                        " calls version 2" % version):
+                                        " calls version 3" % version):
                 self.library(Shared(version)).run("solve", "perfect", b"")
         self.assertEqual(self.number("BLOSSOM_ABI"), library_module.ABI)
 
