@@ -6,7 +6,8 @@ use Rattle.std.proofs.lemmas.List.{get_or_read}
 use Rattle.std.proofs.lemmas.Grind.{common_steps}
 use Rattle.graph_theory.specs.Sums.{sum_to}
 use Rattle.graph_theory.specs.declared.edge.Edge.{Edge}
-use Rattle.graph_theory.specs.Graph.{Multigraph, IsGraph, IsEdgeWithin, IsWeight, no_edge, edge_at, edge_of, IsEdgeNumber, touches, other_end, ends_at, degree, CountsNoneAt}
+use Rattle.graph_theory.specs.Graph.{Multigraph, IsGraph, IsEdgeWithin, IsWeight, no_edge, edge_at, edge_of, IsEdgeNumber, touches, other_end, ends_at, degree, CountsNoneAt, is_loop}
+use Rattle.graph_theory.specs.Graph.{HasNoLoop}
 use Rattle.graph_theory.proofs.SumLemmas.{sum_to-same, sum_to-zero}
 
 -- the edges of a valid graph
@@ -31,7 +32,7 @@ pub other_end-u : (e : Edge) → other_end e e.u ≡ e.v
 other_end-u e = rw (eq-eqb e.u e.u refl) refl
 
 pub other_end-v : (n : ℕ) (e : Edge) → IsEdgeWithin n e → other_end e e.v ≡ e.u
-other_end-v n e within = rw (ne_eqb e.u e.v within.differ) refl
+other_end-v n e within = elim (cases_Bool (eqb e.u e.v)) [ inl h ↦ rw h (sym (eqb-true e.u e.v h)) | inr h ↦ rw h refl ]
 
 pub other_end-within : (n : ℕ) (e : Edge) (v : ℕ) → IsEdgeWithin n e → (1 ≤ other_end e v) × (other_end e v ≤ n)
 other_end-within n e v within =
@@ -54,9 +55,7 @@ pub edge_back : (n : ℕ) (e : Edge) (v : ℕ) → IsEdgeWithin n e → touches 
 edge_back n e v within meets =
     elim (cases_Bool (eqb e.u v)) [
       | inl at_u ↦
-          let same = eqb-true e.u v at_u in
-          let off : eqb e.u e.v ≡ false = ne_eqb e.u e.v within.differ in
-          rw at_u (or_right (eqb e.u e.v) (eqb e.v e.v) (eq-eqb e.v e.v refl), rw off same)
+          rw at_u (or_right (eqb e.u e.v) (eqb e.v e.v) (eq-eqb e.v e.v refl), other_end-v n e within ∙ eqb-true e.u v at_u)
       | inr off ↦
           let at_v : eqb e.v v ≡ true = elim (or_cases (eqb e.u v) (eqb e.v v) meets) [ inl h ↦ absurd (false≢true (sym off ∙ h)) | inr h ↦ h ] in
           let here : eqb e.u e.u ≡ true = eq-eqb e.u e.u refl in
@@ -85,17 +84,16 @@ number_of-place g k b = (omega arith, omega arith)
 
 -- how often an edge counts at a vertex
 
-pub ends_at-u : (n : ℕ) (e : Edge) → IsEdgeWithin n e → ends_at e e.u ≡ 1
-ends_at-u n e within =
+pub ends_at-u : (e : Edge) → is_loop e ≡ false → ends_at e e.u ≡ 1
+ends_at-u e plain =
     let on : eqb e.u e.u ≡ true = eq-eqb e.u e.u refl in
-    let off : eqb e.v e.u ≡ false = ne_eqb e.v e.u (λ h. within.differ (sym h)) in
+    let off : eqb e.v e.u ≡ false = ne_eqb e.v e.u (λ h. false≢true (sym plain ∙ eq-eqb e.u e.v (sym h))) in
     rw (on, off) refl
 
-pub ends_at-v : (n : ℕ) (e : Edge) → IsEdgeWithin n e → ends_at e e.v ≡ 1
-ends_at-v n e within =
+pub ends_at-v : (e : Edge) → is_loop e ≡ false → ends_at e e.v ≡ 1
+ends_at-v e plain =
     let on : eqb e.v e.v ≡ true = eq-eqb e.v e.v refl in
-    let off : eqb e.u e.v ≡ false = ne_eqb e.u e.v within.differ in
-    rw (on, off) refl
+    rw (on, plain) refl
 
 pub ends_at-other : (e : Edge) (v : ℕ) → (e.u ≡ v → ⊥) → (e.v ≡ v → ⊥) → ends_at e v ≡ 0
 ends_at-other e v not_u not_v =
@@ -110,25 +108,44 @@ not_both false true h = refl
 not_both false false h = refl
 
 -- an edge with different ends counts once at each of them
-pub ends_at-touches : (n : ℕ) (e : Edge) (v : ℕ) → IsEdgeWithin n e → ends_at e v ≡ cond (touches e v) 1 0
-ends_at-touches n e v within = not_both (eqb e.u v) (eqb e.v v) (λ p q. within.differ (eqb-true e.u v p ∙ sym (eqb-true e.v v q)))
+pub ends_at-touches : (e : Edge) (v : ℕ) → is_loop e ≡ false → ends_at e v ≡ cond (touches e v) 1 0
+ends_at-touches e v plain = not_both (eqb e.u v) (eqb e.v v) (λ p q. false≢true (sym plain ∙ eq-eqb e.u e.v (eqb-true e.u v p ∙ sym (eqb-true e.v v q))))
+
+some_of : (p q : Bool) → (p || q) ≡ true → 1 ≤ cond p 1 0 + cond q 1 0
+some_of true true h = omega arith
+some_of true false h = omega arith
+some_of false true h = omega arith
+some_of false false h = absurd (false≢true h)
+
+none_of : (p q : Bool) → (p || q) ≡ false → cond p 1 0 + cond q 1 0 ≡ 0
+none_of true q h = absurd (false≢true (sym h))
+none_of false true h = absurd (false≢true (sym h))
+none_of false false h = refl
+
+-- every edge counts at least once at each of its ends, a loop twice, and nowhere else
+pub ends_at-some : (e : Edge) (v : ℕ) → touches e v ≡ true → 1 ≤ ends_at e v
+ends_at-some e v meets = some_of (eqb e.u v) (eqb e.v v) meets
+
+pub ends_at-none : (e : Edge) (v : ℕ) → touches e v ≡ false → ends_at e v ≡ 0
+ends_at-none e v misses = none_of (eqb e.u v) (eqb e.v v) misses
 
 times-cond_one : (t : Bool) (c : ℕ) → c * cond t 1 0 ≡ cond t c 0
 times-cond_one true c = omega arith
 times-cond_one false c = omega arith
 
--- the degree is the sum of the counts of the edges at the vertex
-pub degree-touches : (g : Multigraph) (counts : List ℕ) (v : ℕ) → All (IsEdgeWithin g.vertices) g.edges → degree g counts v
-    ≡ sum_to (λ k. cond (touches (edge_at g k) v) (slice_index counts k) 0) (length g.edges)
-degree-touches g counts v ends = sum_to-same (λ k. slice_index counts k * ends_at (edge_at g k) v) (λ k. cond (touches (edge_at g k) v) (slice_index counts k) 0) (length g.edges)
-    (λ k b. ap (λ x. slice_index counts k * x) (ends_at-touches g.vertices (edge_at g k) v (ends k no_edge b)) ∙ times-cond_one (touches (edge_at g k) v) (slice_index counts k))
+-- in a graph without loops the degree is the sum of the counts of the edges at the vertex
+pub degree-touches : (g : Multigraph) (counts : List ℕ) (v : ℕ) → HasNoLoop g → degree g counts v ≡ sum_to (λ k. cond (touches (edge_at g k) v) (slice_index counts k) 0) (length g.edges)
+degree-touches g counts v plain = sum_to-same (λ k. slice_index counts k * ends_at (edge_at g k) v) (λ k. cond (touches (edge_at g k) v) (slice_index counts k) 0) (length g.edges)
+    (λ k b. ap (λ x. slice_index counts k * x) (ends_at-touches (edge_at g k) v (plain k no_edge b)) ∙ times-cond_one (touches (edge_at g k) v) (slice_index counts k))
 
 -- where no edge at a vertex is counted its degree is 0
-pub degree-none : (g : Multigraph) (counts : List ℕ) (v : ℕ) → All (IsEdgeWithin g.vertices) g.edges → CountsNoneAt g counts v → degree g counts v ≡ 0
-degree-none g counts v ends none =
-    degree-touches g counts v ends
-    ∙ sum_to-same (λ k. cond (touches (edge_at g k) v) (slice_index counts k) 0) (λ _. 0) (length g.edges)
-    (λ k b. elim (cases_Bool (touches (edge_at g k) v)) [ inl h ↦ rw h (none k b h) | inr h ↦ rw h refl ])
+pub degree-none : (g : Multigraph) (counts : List ℕ) (v : ℕ) → CountsNoneAt g counts v → degree g counts v ≡ 0
+degree-none g counts v none =
+    sum_to-same (λ k. slice_index counts k * ends_at (edge_at g k) v) (λ _. 0) (length g.edges)
+    (λ k b. elim (cases_Bool (touches (edge_at g k) v)) [
+      | inl h ↦ rw (none k b h) (omega arith)
+      | inr h ↦ rw (ends_at-none (edge_at g k) v h) (omega arith)
+    ])
     ∙ sum_to-zero (length g.edges)
 
 -- no edge touches what is no vertex

@@ -1,8 +1,8 @@
 -- Undirected multigraphs with whole weights, and what counts on their edges are (Schrijver,
 -- Combinatorial Optimization, volume A, chapters 3, 24 and 26).
-use Rattle.std.specs.Prelude.{◌≡◌, ◌≢◌, ℕ, zero, suc, ◌+◌, ◌-◌, ◌*◌, ◌≤◌, ◌<◌, ◌^◌, ℤ, pos, neg_ℤ}
-use Rattle.std.specs.Prelude.{◌*ℤ◌, ◌≤ℤ◌, Bool, true, ◌||◌, ◌==◌, List, [], ◌∷◌, ◌++◌, length, All}
-use Rattle.std.specs.Prelude.{slice_index, slice_index_or, if◌then◌else◌}
+use Rattle.std.specs.Prelude.{◌≡◌, ℕ, zero, suc, ◌+◌, ◌-◌, ◌*◌, ◌≤◌, ◌<◌, ◌^◌, ℤ, pos, neg_ℤ}
+use Rattle.std.specs.Prelude.{◌*ℤ◌, ◌≤ℤ◌, Bool, true, false, ◌||◌, ◌==◌, List, [], ◌∷◌, ◌++◌, length}
+use Rattle.std.specs.Prelude.{All, slice_index, slice_index_or, if◌then◌else◌}
 use Rattle.graph_theory.specs.Sums.{sum_to, int_sum_to}
 use Rattle.graph_theory.specs.declared.edge.Edge.{Edge}
 use Rattle.graph_theory.specs.declared.limits.TheConstants.{WEIGHT_LIMIT}
@@ -12,20 +12,26 @@ pub record Multigraph : Type 0 where
   pub vertices : ℕ
   pub edges : List Edge
 
--- both ends are vertices, and they differ
+-- both ends are vertices; they may be equal, and the edge is a loop then
 pub record IsEdgeWithin (n : ℕ) (e : Edge) : Type 0 where
   pub u_low : 1 ≤ e.u
   pub u_high : e.u ≤ n
   pub v_low : 1 ≤ e.v
   pub v_high : e.v ≤ n
-  pub differ : e.u ≢ e.v
+
+-- the two ends are equal
+abbrev pub is_loop : Edge → Bool
+is_loop e = e.u == e.v
+
+-- no edge is a loop
+abbrev pub HasNoLoop : Multigraph → Type 0
+HasNoLoop g = All (λ e. is_loop e ≡ false) g.edges
 
 -- a weight of an edge: no farther from 0 than the limit
 abbrev pub IsWeight : ℤ → Type 0
 IsWeight w = (neg_ℤ WEIGHT_LIMIT ≤ℤ w) × (w ≤ℤ WEIGHT_LIMIT)
 
--- numbers of vertices and of edges that fit 32 bits, ends that are vertices and differ, and weights
--- in range
+-- numbers of vertices and of edges that fit 32 bits, ends that are vertices, and weights in range
 pub record IsGraph (g : Multigraph) : Type 0 where
   pub few_vertices : g.vertices < 2 ^ 32
   pub few_edges : length g.edges < 2 ^ 32

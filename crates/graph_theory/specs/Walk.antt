@@ -37,12 +37,12 @@ IsClosedWalk g v es = IsWalk g v es × (walk_end g v es ≡ v)
 abbrev pub AllDiffer : List ℕ → Type 0
 AllDiffer xs = (i j : ℕ) → i < j → j < length xs → slice_index xs i ≢ slice_index xs j
 
--- a circuit: a closed walk of at least two edges, all different, with vertices all different, the
--- start counted once
+-- a circuit: a closed walk of at least one edge, all different, with vertices all different, the
+-- start counted once; so a loop is one
 pub record IsCircuit (g : Multigraph) (v : ℕ) (es : List ℕ) : Type 0 where
   pub walk : IsWalk g v es
   pub closed : walk_end g v es ≡ v
-  pub two : 2 ≤ length es
+  pub some : 1 ≤ length es
   pub edges_differ : AllDiffer es
   pub vertices_differ : AllDiffer (walk_left g v es)
 

@@ -1,12 +1,12 @@
 -- How often feasible answers use an edge, and that nothing used is a matching.
-use Rattle.std.proofs.Common.{◌≡◌, ℕ, ◌+◌, ◌*◌, ◌<◌, ◌≤◌, min, Bool, cond, List, length, slice_index, Option, Some, None, IfSome, All, ap, ◌∙◌, subst, arith}
+use Rattle.std.proofs.Common.{◌≡◌, ℕ, zero, suc, ◌*◌, ◌<◌, ◌≤◌, min, true, List, length, slice_index, Option, Some, None, IfSome, ap, ◌∙◌, subst, arith}
 use Rattle.std.specs.Prelude.{replicate}
 use Rattle.std.proofs.Math.Nat.{le-min}
 use Rattle.std.proofs.lemmas.List.{get_or-replicate, length-replicate}
 use Rattle.std.proofs.lemmas.List.Elements.{All-replicate}
 use Rattle.graph_theory.specs.declared.edge.Edge.{Edge}
-use Rattle.graph_theory.specs.Graph.{IsEdgeWithin, edge_at, ends_at, degree, touches, no_edge}
-use Rattle.graph_theory.proofs.Edges.{degree-touches, touches-u, touches-v}
+use Rattle.graph_theory.specs.Graph.{Multigraph, IsEdgeWithin, edge_at, ends_at, degree, touches, no_edge}
+use Rattle.graph_theory.proofs.Edges.{ends_at-some, touches-u, touches-v}
 use Rattle.graph_theory.proofs.SumLemmas.{sum_to-has, sum_to-same, sum_to-zero}
 use Rattle.mb_problem.specs.Network.{Network, IsNetwork, vertices, value_of, graph_of, instance_edge_at}
 use Rattle.mb_problem.specs.Feasible.{AtMostOnce, IsBMatching, IsMatching}
@@ -15,6 +15,16 @@ use Rattle.mb_problem.proofs.EdgeLemmas.{edges-count, network-graph, edge_at-gra
 
 pub once : (i : Network) (counts : List ℕ) → length counts ≡ length i.edges → AtMostOnce counts → (k : ℕ) → k < length i.edges → slice_index counts k ≤ 1
 once i counts size all k below = all k 0 (omega (arith, size, below))
+
+times-some : (a b : ℕ) → 1 ≤ b → a ≤ a * b
+times-some a zero some = absurd (omega arith)
+times-some a (suc b) some = omega arith
+
+-- an edge is counted at most as often as the degree of an end says
+pub counted-within : (g : Multigraph) (counts : List ℕ) (v k : ℕ) → k < length g.edges → touches (edge_at g k) v ≡ true → slice_index counts k ≤ degree g counts v
+counted-within g counts v k here meets =
+    let term = sum_to-has (λ k. slice_index counts k * ends_at (edge_at g k) v) (length g.edges) k here in
+    omega (arith, term, times-some (slice_index counts k) (ends_at (edge_at g k) v) (ends_at-some (edge_at g k) v meets))
 
 -- no edge is used more often than the values at its ends say
 pub valued : (i : Network) (counts : List ℕ) → IsNetwork i → IsBMatching i counts → (k : ℕ) → k < length i.edges → slice_index counts k ≤ min (value_of i (instance_edge_at i k).u)
@@ -26,16 +36,10 @@ valued i counts network b k below =
     let here : k < length g.edges = omega arith in
     let e = edge_at g k in
     let within : IsEdgeWithin (vertices i) e = ends k no_edge here in
-    let first = degree-touches g counts e.u ends in
-    let first_term = sum_to-has (λ k. cond (touches (edge_at g k) e.u) (slice_index counts k) 0) (length g.edges) k here in
-    let on_first : cond (touches e e.u) (slice_index counts k) 0 ≡ slice_index counts k = ap (λ (t : Bool). cond t (slice_index counts k) 0) (touches-u e) in
     let at_first : degree g counts e.u ≡ value_of i e.u = b.degrees e.u within.u_low within.u_high in
-    let second = degree-touches g counts e.v ends in
-    let second_term = sum_to-has (λ k. cond (touches (edge_at g k) e.v) (slice_index counts k) 0) (length g.edges) k here in
-    let on_second : cond (touches e e.v) (slice_index counts k) 0 ≡ slice_index counts k = ap (λ (t : Bool). cond t (slice_index counts k) 0) (touches-v e) in
     let at_second : degree g counts e.v ≡ value_of i e.v = b.degrees e.v within.v_low within.v_high in
-    let by_u : slice_index counts k ≤ value_of i e.u = omega (arith, first, first_term, on_first, at_first) in
-    let by_v : slice_index counts k ≤ value_of i e.v = omega (arith, second, second_term, on_second, at_second) in
+    let by_u : slice_index counts k ≤ value_of i e.u = omega (arith, counted-within g counts e.u k here (touches-u e), at_first) in
+    let by_v : slice_index counts k ≤ value_of i e.v = omega (arith, counted-within g counts e.v k here (touches-v e), at_second) in
     subst (λ (x : Edge). slice_index counts k ≤ min (value_of i x.u) (value_of i x.v)) (edge_at-graph_of i k) (le-min by_u by_v)
 
 pub within_capacity : (capacity : Option ℕ) (most count : ℕ) → IfSome capacity (λ c. count ≤ c) → count ≤ most → count ≤ bounded capacity most

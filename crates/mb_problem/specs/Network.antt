@@ -1,8 +1,9 @@
 -- What an instance is: a graph whose edges may have capacities and whose vertices have values.
 use Rattle.std.specs.Prelude.{ℕ, ◌-◌, ◌≤◌, pos, List, length, map, All, slice_index, slice_index_or}
-use Rattle.std.specs.Prelude.{None, IfSome}
+use Rattle.std.specs.Prelude.{None, IfSome, not}
+use Rattle.std.specs.List.{filter}
 use Rattle.graph_theory.specs.declared.edge.Edge.{Edge}
-use Rattle.graph_theory.specs.Graph.{Multigraph, IsEdgeWithin, IsWeight}
+use Rattle.graph_theory.specs.Graph.{Multigraph, IsEdgeWithin, IsWeight, is_loop}
 use Rattle.mb_problem.specs.declared.instance.InstanceEdge.{InstanceEdge}
 use Rattle.mb_problem.specs.declared.limits.TheConstants.{VERTEX_LIMIT, EDGE_LIMIT, VALUE_LIMIT}
 
@@ -22,6 +23,13 @@ plain e = record { u = e.u; v = e.v; w = e.w }
 abbrev pub graph_of : Network → Multigraph
 graph_of i = record { vertices = vertices i; edges = map plain i.edges }
 
+-- the graph of an instance without its loops
+abbrev pub plain_graph : Network → Multigraph
+plain_graph i = record {
+  vertices = vertices i;
+  edges = filter (λ e. not (is_loop e)) (map plain i.edges);
+}
+
 abbrev pub no_instance_edge : InstanceEdge
 no_instance_edge = record { u = 0; v = 0; w = pos 0; capacity = None }
 
@@ -37,8 +45,8 @@ instance_edge_of i e = instance_edge_at i (e - 1)
 abbrev pub value_of : Network → ℕ → ℕ
 value_of i v = slice_index i.values (v - 1)
 
--- different ends among the vertices, a weight in range, and a capacity within the limit where there
--- is one
+-- ends among the vertices, which may be equal, a weight in range, and a capacity within the limit
+-- where there is one
 pub record IsInstanceEdge (n : ℕ) (e : InstanceEdge) : Type 0 where
   pub ends : IsEdgeWithin n (plain e)
   pub weight : IsWeight e.w

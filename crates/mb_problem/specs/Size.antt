@@ -1,8 +1,8 @@
 -- The size of the graph that certificates speak of, its vertices and edges.
-use Rattle.std.specs.Prelude.{ℕ, ◌≤◌, ◌+◌, ◌-◌, ◌*◌, ◌/◌, ◌%◌, min, max, length, Option, None, Some}
-use Rattle.std.specs.Prelude.{slice_index, replicate}
+use Rattle.std.specs.Prelude.{ℕ, ◌+◌, ◌-◌, ◌*◌, ◌/◌, ◌%◌, min, max, length, Option, None, Some}
+use Rattle.std.specs.Prelude.{slice_index, replicate, Bool, if◌then◌else◌}
 use Rattle.graph_theory.specs.Sums.{sum_to}
-use Rattle.graph_theory.specs.Graph.{degree}
+use Rattle.graph_theory.specs.Graph.{degree, is_loop}
 use Rattle.graph_theory.specs.Limits.{Size}
 use Rattle.mb_problem.specs.declared.kind.Kind.{Kind}
 use Rattle.mb_problem.specs.declared.kind.EdgeUse.{EdgeUse}
@@ -15,7 +15,7 @@ use Rattle.mb_problem.specs.declared.gadget.GadgetForm.{GadgetForm}
 use Rattle.mb_problem.specs.declared.gadget.GadgetForm.TheVariants.{Itself, Doubled, Copies, Capped}
 use Rattle.mb_problem.specs.declared.gadget.GadgetForm.TheVariants.{Ports, PathPorts}
 use Rattle.mb_problem.specs.declared.instance.InstanceEdge.{InstanceEdge}
-use Rattle.mb_problem.specs.Network.{Network, vertices, graph_of, instance_edge_at, value_of}
+use Rattle.mb_problem.specs.Network.{Network, vertices, graph_of, plain, instance_edge_at, value_of}
 use Rattle.mb_problem.specs.Kinds.{gadget_of}
 
 abbrev pub value_total : Network → ℕ
@@ -27,6 +27,20 @@ value_u i k = value_of i (instance_edge_at i k).u
 
 abbrev pub value_v : Network → ℕ → ℕ
 value_v i k = value_of i (instance_edge_at i k).v
+
+-- the edge at a place has two equal ends
+abbrev pub is_loop_at : Network → ℕ → Bool
+is_loop_at i k = is_loop (plain (instance_edge_at i k))
+
+-- how many edges are no loops
+abbrev pub link_count : Network → ℕ
+link_count i = sum_to (λ k. if is_loop_at i k then 0 else 1) (length i.edges)
+
+-- how many pairs the copies of the ends of the edge at a place have: of a loop, those of two
+-- different copies of its end
+abbrev pub copy_pairs : Network → ℕ → ℕ
+copy_pairs i k = if is_loop_at i k then value_u i k * (value_u i k - 1) / 2
+    else value_u i k * value_v i k
 
 -- how often an edge can be used: at most the values at its ends, and its capacity where it has one
 abbrev pub bounded : Option ℕ → ℕ → ℕ
@@ -94,11 +108,11 @@ odd_at parity i v = odd_by parity (edge_count_at i v) (value_of i v)
 
 -- the size of the graph that is built so
 abbrev pub size_by : GadgetForm → Network → Size
-size_by Itself i = record { vertices = vertices i; edges = length i.edges }
-size_by Doubled i = record { vertices = 2 * vertices i; edges = 2 * length i.edges + vertices i }
+size_by Itself i = record { vertices = vertices i; edges = link_count i }
+size_by Doubled i = record { vertices = 2 * vertices i; edges = 2 * link_count i + vertices i }
 size_by Copies i = record {
   vertices = value_total i;
-  edges = sum_to (λ k. value_u i k * value_v i k) (length i.edges);
+  edges = sum_to (copy_pairs i) (length i.edges);
 }
 size_by (Capped capacities) i = capped_size i (room_by capacities i)
 size_by (Ports parity) i = ports_size i (odd_at parity i)

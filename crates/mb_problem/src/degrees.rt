@@ -60,7 +60,8 @@ pub fn degrees_of(
     Ok(degrees)
 }
 
-/// Counts the edges at each vertex, in one pass over the edges. At the start all are 0.
+/// Counts the edges at each vertex, a loop twice, in one pass over the edges. At the start all are
+/// 0. The count of a vertex stands at the place of its number less 1.
 pub fn count_edges(degrees: &mut [u64], instance: &Instance)
     requires room { vertices instance.now ≤ length degrees.old }
     requires start { (k : ℕ) → k < length degrees.old → slice_index degrees.old k ≡ 0 }

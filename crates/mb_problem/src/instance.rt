@@ -43,9 +43,10 @@ impl Model for Instance {
 impl Instance {
     ghost use Rattle.std.specs.Prelude.{◌≡◌, ◌≢◌, ℕ, ◌+◌, ◌-◌, ◌<◌, ◌≤◌, ◌^◌, length, [], ◌∷◌};
     ghost use Rattle.std.specs.Prelude.{◌++◌, OnOk, OnErr, IfOk, ℤ, pos, replicate, slice_set};
-    ghost use Rattle.graph_theory.specs.Graph.{IsWeight};
+    ghost use Rattle.graph_theory.specs.Graph.{IsWeight, HasNoLoop};
     ghost use Rattle.mb_problem.specs.Network.{Network, IsNetwork, IsInstanceEdge};
-    ghost use Rattle.mb_problem.specs.Network.{instance_edge_of, value_of, graph_of, vertices};
+    ghost use Rattle.mb_problem.specs.Network.{instance_edge_of, value_of, graph_of, plain_graph};
+    ghost use Rattle.mb_problem.specs.Network.{vertices};
 
     /// An instance of n vertices, each of this value, and no edges.
     pub fn new(alloc: Global, n: u32, value: u32) -> Result<Instance, OutOfMemory>
@@ -88,7 +89,7 @@ impl Instance {
         Ok(EdgeId::new(self.edges.len() as u32))
     }
 
-    /// Adds an edge and answers its number.
+    /// Adds an edge, whose ends may be equal, and answers its number.
     pub fn add_edge(
         &mut self,
         u: VertexId,
@@ -188,6 +189,20 @@ impl Instance {
         let mut graph = Graph::new(self.alloc, self.vertices());
         for edge in self.edge_list() {
             graph.add(edge.u, edge.v, edge.w)?;
+        }
+        Ok(graph)
+    }
+
+    /// The graph of the instance without its loops, in the order of their numbers.
+    pub fn plain(&self) -> Result<Graph, OutOfMemory>
+        ensures graph { IfOk result (λ g. g ≡ plain_graph self.now) }
+        ensures plain { IfOk result HasNoLoop }
+    {
+        let mut graph = Graph::new(self.alloc, self.vertices());
+        for edge in self.edge_list() {
+            if edge.u != edge.v {
+                graph.add(edge.u, edge.v, edge.w)?;
+            }
         }
         Ok(graph)
     }

@@ -18,6 +18,7 @@ mod size;
 mod walks;
 
 pub use answer::{Answer, Join, Parity};
+pub use degrees::count_edges;
 pub use feasibility::feasible;
 pub use gadget::{Capacities, GadgetForm};
 pub use instance::{Instance, InstanceEdge};
@@ -28,5 +29,5 @@ pub use kind::{
 pub use limits::{EDGE_LIMIT, VALUE_LIMIT, VERTEX_LIMIT};
 pub use marks::{mark, marks_of};
 pub use measure::{degree, weight};
-pub use size::{gadget_size, odd_by, ports_by, size_by};
+pub use size::{copy_pairs, gadget_size, link_count, odd_by, ports_by, size_by};
 pub use walks::is_circuit;

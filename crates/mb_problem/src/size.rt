@@ -1,11 +1,11 @@
 ghost use Rattle.std.specs.Prelude.{◌≡◌, ℕ, ◌+◌, ◌-◌, ◌*◌, ◌/◌, ◌%◌, ◌<◌, ◌≤◌, min, max, length};
-ghost use Rattle.std.specs.Prelude.{slice_index};
-ghost use Rattle.graph_theory.specs.Graph.{IsEdgeWithin};
+ghost use Rattle.std.specs.Prelude.{slice_index, if◌then◌else◌};
+ghost use Rattle.graph_theory.specs.Graph.{IsEdgeWithin, is_loop};
 ghost use Rattle.graph_theory.specs.Sums.{sum_to};
 ghost use Rattle.mb_problem.specs.Network.{Network, IsNetwork, vertices, plain, value_of};
 ghost use Rattle.mb_problem.specs.Size.{size_by, size_of, capped_size, ports_size, bounded};
-ghost use Rattle.mb_problem.specs.Size.{limit_by, room_by, odd_by, odd_at, value_total, value_u};
-ghost use Rattle.mb_problem.specs.Size.{value_v, edge_count_at, port_count};
+ghost use Rattle.mb_problem.specs.Size.{limit_by, room_by, odd_by, odd_at, value_total};
+ghost use Rattle.mb_problem.specs.Size.{edge_count_at, port_count, link_count, copy_pairs};
 
 use crate::answer::Parity;
 use crate::degrees::count_edges;
@@ -40,17 +40,45 @@ fn end_values(instance: &Instance, edge: &InstanceEdge) -> (u64, u64)
     )
 }
 
+/// How many pairs the copies of the ends of an edge have: of a loop, those of two different copies
+/// of its end.
+pub fn copy_pairs(instance: &Instance, edge: &InstanceEdge) -> u64
+    requires { IsEdgeWithin (vertices instance.now) (plain edge.now) }
+    ensures pairs { result ≡ (if is_loop (plain edge.now) then value_of instance.now edge.now.u
+        * (value_of instance.now edge.now.u - 1) / 2
+        else value_of instance.now edge.now.u * value_of instance.now edge.now.v) }
+    ensures small { result ≤ VALUE_LIMIT * VALUE_LIMIT }
+{
+    let (a, b) = end_values(instance, edge);
+    if edge.u == edge.v {
+        return a * a.saturating_sub(1) / 2;
+    }
+    a * b
+}
+
 /// The edges between copies of the ends of each edge.
 fn copied_edges(instance: &Instance) -> u64
-    ensures { result ≡ sum_to (λ k. value_u instance.now k * value_v instance.now k)
-        (length instance.now.edges) }
+    ensures { result ≡ sum_to (copy_pairs instance.now) (length instance.now.edges) }
 {
     let mut total = 0;
     for edge in instance.edge_list() {
-        let (a, b) = end_values(instance, edge);
-        total += a * b;
+        total += copy_pairs(instance, edge);
     }
     total
+}
+
+/// How many edges are no loops.
+pub fn link_count(instance: &Instance) -> u64
+    ensures count { result ≡ link_count instance.now }
+    ensures few { result ≤ length instance.now.edges }
+{
+    let mut count = 0;
+    for edge in instance.edge_list() {
+        if edge.u != edge.v {
+            count += 1;
+        }
+    }
+    count
 }
 
 /// How often an edge can be used, whatever the values at its ends.
@@ -191,10 +219,10 @@ pub fn size_by(instance: &Instance, gadget: GadgetForm) -> (u64, u64)
     ensures edges { result.1 ≡ (size_by gadget instance.now).edges }
 {
     let vertices = u64::from(instance.vertices());
-    let edges = u64::from(instance.edges());
+    let links = link_count(instance);
     match gadget {
-        GadgetForm::Itself => (vertices, edges),
-        GadgetForm::Doubled => (2 * vertices, 2 * edges + vertices),
+        GadgetForm::Itself => (vertices, links),
+        GadgetForm::Doubled => (2 * vertices, 2 * links + vertices),
         GadgetForm::Copies => (value_total(instance), copied_edges(instance)),
         GadgetForm::Capped(capacities) => capped_size(instance, capacities),
         GadgetForm::Ports(parity) => ports_size(instance, parity),

@@ -2,7 +2,8 @@ ghost use Rattle.std.specs.Prelude.{◌≡◌, ℕ, ◌+◌, ◌-◌, ◌<◌, �
 ghost use Rattle.std.specs.Prelude.{IsTrue, IsSome, IfSome, IfOk, MatchOption};
 ghost use Rattle.graph_theory.specs.Graph.{IsEdgeNumber, edge_of, touches, other_end};
 ghost use Rattle.graph_theory.specs.Parts.{holds};
-ghost use Rattle.graph_theory.specs.Walk.{IsWalk, walk_end, walk_vertices, AllDiffer, IsCircuit};
+ghost use Rattle.graph_theory.specs.Walk.{IsWalk, IsClosedWalk, walk_end, walk_vertices};
+ghost use Rattle.graph_theory.specs.Walk.{AllDiffer, IsCircuit};
 ghost use Rattle.mb_problem.specs.Network.{Network, IsNetwork, vertices, graph_of};
 ghost use Rattle.mb_problem.specs.Feasible.{IsTour, AreEnds, IsPath};
 
@@ -50,13 +51,20 @@ fn walk_end(instance: &Instance, start: VertexId, edges: &[EdgeId]) -> Option<Ve
 
 /// Whether the edges are a walk from the start back to it.
 fn is_closed(instance: &Instance, start: VertexId, edges: &[EdgeId]) -> bool
-    ensures { IsTrue result ↔ (IsWalk (graph_of instance.now) start edges.now
-        × (walk_end (graph_of instance.now) start edges.now ≡ start)) }
+    ensures { IsTrue result ↔ IsClosedWalk (graph_of instance.now) start edges.now }
 {
     match walk_end(instance, start, edges) {
         Some(end) => end == start,
         None => false,
     }
+}
+
+/// Whether the edges are a walk from the start back to it, of at least one edge.
+fn is_round_trip(instance: &Instance, start: VertexId, edges: &[EdgeId]) -> bool
+    ensures { IsTrue result ↔ ((1 ≤ length edges.now)
+        × IsClosedWalk (graph_of instance.now) start edges.now) }
+{
+    !edges.is_empty() && is_closed(instance, start, edges)
 }
 
 /// Whether each edge is listed.
@@ -106,10 +114,7 @@ pub fn is_tour(
 ) -> Result<bool, OutOfMemory>
     ensures { IfOk result (λ b. IsTrue b ↔ IsTour instance.now start edges.now) }
 {
-    if edges.is_empty() {
-        return Ok(false);
-    }
-    if !is_closed(instance, start, edges) {
+    if !is_round_trip(instance, start, edges) {
         return Ok(false);
     }
     uses_all(alloc, instance, edges)
@@ -165,9 +170,9 @@ pub fn is_path(
     vertices_differ(alloc, instance, start, edges)
 }
 
-/// Whether the edges are a circuit from this vertex: a closed walk of at least two edges that uses
-/// no edge and comes to no vertex twice, its start counted once (chapter 3). It takes time linear
-/// in the walk, the vertices and the edges.
+/// Whether the edges are a circuit from this vertex: a closed walk of at least one edge that uses
+/// no edge and comes to no vertex twice, its start counted once (chapter 3); so a loop is one. It
+/// takes time linear in the walk, the vertices and the edges.
 pub fn is_circuit(
     alloc: Global,
     instance: &Instance,
@@ -176,10 +181,7 @@ pub fn is_circuit(
 ) -> Result<bool, OutOfMemory>
     ensures { IfOk result (λ b. IsTrue b ↔ IsCircuit (graph_of instance.now) start edges.now) }
 {
-    if edges.len() < 2 {
-        return Ok(false);
-    }
-    if !is_closed(instance, start, edges) {
+    if !is_round_trip(instance, start, edges) {
         return Ok(false);
     }
     if !edges_differ(alloc, instance.edges(), edges)? {

@@ -1,12 +1,28 @@
-ghost use Rattle.std.specs.Prelude.{◌≡◌, ℕ, ◌*◌, ◌<◌, ◌≤◌, ◌^◌, length, All, IfOk};
+ghost use Rattle.std.specs.Prelude.{◌≡◌, ℕ, ◌*◌, ◌<◌, ◌≤◌, ◌^◌, ◌++◌, length, All, IfOk, OnOk};
 ghost use Rattle.graph_theory.specs.Graph.{Multigraph, IsEdgeWithin, edges_around};
 ghost use Rattle.weighted_graph.specs.Grouped.{items_of};
+ghost use Rattle.weighted_graph.specs.Index.{noted};
 
 use crate::by_vertex::ByVertex;
 use graph_theory::Edge;
 use mb_base::{EdgeId, OutOfMemory, VertexId};
 use std::alloc::Global;
 use std::marker::Model;
+
+/// Puts the number of an edge beside each of its ends, beside that of a loop once.
+fn note(
+    entries: &mut Vec<(VertexId, EdgeId)>,
+    edge: &Edge,
+    number: EdgeId,
+) -> Result<(), OutOfMemory>
+    ensures { OnOk result (entries.new.items ≡ entries.old.items ++ noted edge.now number) }
+{
+    entries.push((edge.u, number))?;
+    if edge.u != edge.v {
+        entries.push((edge.v, number))?;
+    }
+    Ok(())
+}
 
 /// The numbers of the edges beside their ends, in their order.
 fn ends_of(
@@ -16,7 +32,7 @@ fn ends_of(
 ) -> Result<Vec<(VertexId, EdgeId)>, OutOfMemory>
     requires few { length edges.now < 2 ^ 32 }
     requires ends { All (IsEdgeWithin vertices) edges.now }
-    ensures size { IfOk result (λ entries. length entries.items ≡ 2 * length edges.now) }
+    ensures size { IfOk result (λ entries. length entries.items ≤ 2 * length edges.now) }
     ensures within { IfOk result (λ entries. All (λ e. e.0 ≤ vertices) entries.items) }
     ensures exact { IfOk result (λ entries. (v : ℕ) → items_of entries.items v
         ≡ edges_around (record { vertices = vertices; edges = edges.now }) v) }
@@ -24,8 +40,7 @@ fn ends_of(
     let mut entries = Vec::with_capacity(alloc, 2 * edges.len())?;
     for (place, edge) in edges.iter().enumerate() {
         let number = EdgeId::new(place as u32 + 1);
-        entries.push((edge.u, number))?;
-        entries.push((edge.v, number))?;
+        note(&mut entries, edge, number)?;
     }
     Ok(entries)
 }
