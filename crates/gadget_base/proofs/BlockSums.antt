@@ -123,6 +123,11 @@ pub test-small : (t : Bool) → cond {A = ℕ} t 1 0 ≤ 1
 test-small true = omega arith
 test-small false = omega arith
 
+-- 0 whether or not the test passes
+pub cond_off : (t : Bool) → cond {A = ℕ} t 0 0 ≡ 0
+cond_off true = refl
+cond_off false = refl
+
 -- a test that does not depend on the place
 pub sum_to-cond : (t : Bool) (f : ℕ → ℕ) (n : ℕ) → sum_to (λ k. cond t (f k) 0) n ≡ cond t (sum_to f n) 0
 sum_to-cond true f n = refl

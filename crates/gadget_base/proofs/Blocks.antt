@@ -1,10 +1,12 @@
 -- Lemmas on lists made of blocks: how long they are, what stands at a place, what all their elements are, and one block more.
-use Rattle.std.proofs.Common.{◌≡◌, ℕ, zero, suc, ◌+◌, ◌*◌, ◌<◌, ◌≤◌, ℤ, refl, ap, sym, ◌∙◌, inl, inr, arith, add-one, List, [], ◌∷◌, ◌++◌, length, slice_index, slice_index_or, take, All}
+use Rattle.std.proofs.Common.{◌≡◌, ℕ, zero, suc, ◌+◌, ◌*◌, ◌<◌, ◌≤◌, ℤ, Bool, true, false, cond, refl, ap, sym, ◌∙◌, inl, inr, arith, add-one, List, [], ◌∷◌, ◌++◌, length, slice_index}
+use Rattle.std.proofs.Common.{slice_index_or, take, All}
 use Rattle.std.proofs.Common.{length-append}
+use Rattle.std.specs.List.{filter}
 use Rattle.std.proofs.lemmas.Bool.{cases_eq}
 use Rattle.std.proofs.lemmas.List.{get_or_append_left, get_or-append-add, append_assoc, append-nil, ext_get_or, take_all, take-append-le}
 use Rattle.std.proofs.Math.Seq.{take-append-add}
-use Rattle.std.proofs.lemmas.List.Elements.{All-append, All-cons, All-nil}
+use Rattle.std.proofs.lemmas.List.Elements.{All-append, All-cons, All-nil, filter_more}
 use Rattle.graph_theory.specs.Sums.{sum_to}
 use Rattle.graph_theory.proofs.SumLemmas.{sum_to-same}
 use Rattle.gadget_base.specs.Blocks.{blocks, tabled, row, rectangle}
@@ -144,3 +146,26 @@ All-tabled P f (suc n) h = All-append P (tabled f n) (f n ∷ []) (All-tabled P 
 pub All-blocks : {A : Type 0} (P : A → Type 0) (f : ℕ → List A) (n : ℕ) → ((k : ℕ) → k < n → All P (f k)) → All P (blocks f n)
 All-blocks P f zero h = All-nil P
 All-blocks P f (suc n) h = All-append P (blocks f n) (f n) (All-blocks P f n (λ k b. h k (omega arith))) (h n (omega arith))
+
+-- blocks that are none where a test passes
+
+pub length-unless : {A : Type 0} (t : Bool) (xs : List A) → length (cond t [] xs) ≡ cond t 0 (length xs)
+length-unless true xs = refl
+length-unless false xs = refl
+
+pub All-unless : {A : Type 0} (P : A → Type 0) (t : Bool) (xs : List A) → (t ≡ false → All P xs) → All P (cond t [] xs)
+All-unless P true xs h = All-nil P
+All-unless P false xs h = h refl
+
+-- the first n elements of a list without those that don't pass a test, as such blocks
+first_filtered : {A : Type 0} (p : A → Bool) (d : A) (xs : List A) (n : ℕ) → n ≤ length xs
+    → filter p (take n xs) ≡ blocks (λ k. cond (p (slice_index_or xs k d)) (slice_index_or xs k d ∷ []) []) n
+first_filtered p d xs zero h = refl
+first_filtered {A} p d xs (suc n) h =
+    let f : ℕ → List A = λ k. cond (p (slice_index_or xs k d)) (slice_index_or xs k d ∷ []) [] in
+    ap (λ j. filter p (take j xs)) (let e : suc n ≡ n + 1 = omega arith in e)
+    ∙ filter_more p xs n d (omega arith)
+    ∙ ap (λ l. l ++ f n) (first_filtered p d xs n (omega arith))
+
+pub filter-blocks : {A : Type 0} (p : A → Bool) (d : A) (xs : List A) → filter p xs ≡ blocks (λ k. cond (p (slice_index_or xs k d)) (slice_index_or xs k d ∷ []) []) (length xs)
+filter-blocks p d xs = ap (filter p) (sym (take_all (length xs) xs (omega arith))) ∙ first_filtered p d xs (length xs) (omega arith)

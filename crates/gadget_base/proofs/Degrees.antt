@@ -1,17 +1,15 @@
 -- The degree at a vertex of counts on a row, a rectangle or a clique, as sums over the counts.
 use Rattle.std.proofs.Common.{◌≡◌, ◌≢◌, ℕ, zero, suc, ◌+◌, ◌-◌, ◌*◌, ◌<◌, ◌≤◌, ℤ, pos, ◌*ℤ◌, Bool, true, false, cond, eqb, ltb, refl, ap, sym, ◌∙◌, inl, inr, arith, List, length}
-use Rattle.std.proofs.Common.{slice_index, slice_index_or, All}
-use Rattle.std.proofs.lemmas.Int.{ints}
 use Rattle.std.proofs.lemmas.Bool.{cases_lt, ne_eqb, lt-ltb, le-ltb}
 use Rattle.std.proofs.lemmas.Bool.Decides.{nat_tests}
 use Rattle.graph_theory.specs.declared.edge.Edge.{Edge}
 use Rattle.graph_theory.specs.Sums.{sum_to, int_sum_to}
-use Rattle.graph_theory.specs.Graph.{no_edge}
 use Rattle.graph_theory.proofs.SumLemmas.{sum_to-same, sum_to-add, int_sum_to-same, sum_to-times}
 use Rattle.gadget_base.specs.Blocks.{blocks, tabled, row, rectangle, clique}
-use Rattle.gadget_base.proofs.BlockSums.{sum_to-none, int_sum_to-none, sum_to-cond, sum_to-hit}
-use Rattle.gadget_base.proofs.Blocks.{tabled-length, row-length, All-tabled, All-blocks}
-use Rattle.gadget_base.proofs.Over.{over, int_over, at_vertex, weighing, table, over-blocks, over-tabled, over-rectangle, int_over-rectangle}
+use Rattle.gadget_base.proofs.BlockSums.{sum_to-none, sum_to-cond, sum_to-hit}
+use Rattle.gadget_base.proofs.Blocks.{tabled-length, row-length}
+use Rattle.gadget_base.proofs.Over.{over, int_over, at_vertex, weighing, table, blocks-lengths, over-blocks, over-tabled, over-rectangle, int_over-blocks, int_over-tabled}
+use Rattle.gadget_base.proofs.Over.{int_over-rectangle}
 
 pub eqb-past : (b a c : ℕ) → eqb (b + a + 1) (b + c + 1) ≡ eqb a c
 eqb-past b a c = grind (arith, nat_tests)
@@ -97,22 +95,26 @@ sum_to-below f c (suc n) h =
 abbrev pub clique_table : (ℕ → ℕ → ℕ) → ℕ → List ℕ
 clique_table M n = blocks (λ a. tabled (λ d. M a (a + d + 1)) (n - 1 - a)) n
 
-pub clique-table : (M : ℕ → ℕ → ℕ) (before n a : ℕ) → length (row (before + a + 1) (before + a + 1) (n - 1 - a) (pos 0)) ≡ length (tabled (λ d. M a (a + d + 1)) (n - 1 - a))
-clique-table M before n a = row-length (before + a + 1) (before + a + 1) (n - 1 - a) (pos 0) ∙ sym (tabled-length (λ d. M a (a + d + 1)) (n - 1 - a))
+pub clique-table : (M : ℕ → ℕ → ℕ) (before n : ℕ) (w : ℤ) (a : ℕ) → length (row (before + a + 1) (before + a + 1) (n - 1 - a) w) ≡ length (tabled (λ d. M a (a + d + 1)) (n - 1 - a))
+clique-table M before n w a = row-length (before + a + 1) (before + a + 1) (n - 1 - a) w ∙ sym (tabled-length (λ d. M a (a + d + 1)) (n - 1 - a))
 
-pub over-clique : (F : Edge → ℕ → ℕ) (M : ℕ → ℕ → ℕ) (before n : ℕ) → over F (clique before n) (clique_table M n) ≡ sum_to (λ a. sum_to (λ d. F (record {
+pub clique-lengths : (M : ℕ → ℕ → ℕ) (before n : ℕ) (w : ℤ) → length (clique before n w) ≡ length (clique_table M n)
+clique-lengths M before n w =
+    blocks-lengths (λ a. row (before + a + 1) (before + a + 1) (n - 1 - a) w) (λ a. tabled (λ d. M a (a + d + 1)) (n - 1 - a)) n (λ a _. clique-table M before n w a)
+
+pub over-clique : (F : Edge → ℕ → ℕ) (M : ℕ → ℕ → ℕ) (before n : ℕ) (w : ℤ) → over F (clique before n w) (clique_table M n) ≡ sum_to (λ a. sum_to (λ d. F (record {
   u = before + a + 1;
   v = before + a + 1 + d + 1;
-  w = pos 0;
+  w = w;
 }) (M a (a + d + 1))) (n - 1 - a)) n
-over-clique F M before n =
-    over-blocks F (λ a. row (before + a + 1) (before + a + 1) (n - 1 - a) (pos 0)) (λ a. tabled (λ d. M a (a + d + 1)) (n - 1 - a)) n (λ a _. clique-table M before n a)
-    ∙ sum_to-same (λ a. over F (row (before + a + 1) (before + a + 1) (n - 1 - a) (pos 0)) (tabled (λ d. M a (a + d + 1)) (n - 1 - a))) (λ a. sum_to (λ d. F (record {
+over-clique F M before n w =
+    over-blocks F (λ a. row (before + a + 1) (before + a + 1) (n - 1 - a) w) (λ a. tabled (λ d. M a (a + d + 1)) (n - 1 - a)) n (λ a _. clique-table M before n w a)
+    ∙ sum_to-same (λ a. over F (row (before + a + 1) (before + a + 1) (n - 1 - a) w) (tabled (λ d. M a (a + d + 1)) (n - 1 - a))) (λ a. sum_to (λ d. F (record {
       u = before + a + 1;
       v = before + a + 1 + d + 1;
-      w = pos 0;
+      w = w;
     }) (M a (a + d + 1))) (n - 1 - a)) n
-    (λ a _. over-tabled F (λ d. record { u = before + a + 1; v = before + a + 1 + d + 1; w = pos 0 }) (λ d. M a (a + d + 1)) (n - 1 - a))
+    (λ a _. over-tabled F (λ d. record { u = before + a + 1; v = before + a + 1 + d + 1; w = w }) (λ d. M a (a + d + 1)) (n - 1 - a))
 
 -- the terms at the vertex of place c in the row of the vertex of place a
 clique_row : (M : ℕ → ℕ → ℕ) (before n c a : ℕ) → c < n → sum_to (λ d. M a (a + d + 1) * (cond (eqb (before + a + 1) (before + c + 1)) 1 0 + cond (eqb (before + a + 1 + d + 1)
@@ -145,11 +147,11 @@ clique_row M before n c a h =
     ]
 
 -- at the vertex of place c
-pub clique-at : (M : ℕ → ℕ → ℕ) (before n c : ℕ) → c < n → over (at_vertex (before + c + 1)) (clique before n) (clique_table M n) ≡ sum_to (λ a. M a c) c + sum_to (λ d. M c (c + d + 1))
-    (n - 1 - c)
-clique-at M before n c h =
+pub clique-at : (M : ℕ → ℕ → ℕ) (before n : ℕ) (w : ℤ) (c : ℕ) → c < n → over (at_vertex (before + c + 1)) (clique before n w) (clique_table M n) ≡ sum_to (λ a. M a c) c + sum_to
+    (λ d. M c (c + d + 1)) (n - 1 - c)
+clique-at M before n w c h =
     let rows : ℕ → ℕ = λ a. sum_to (λ d. M a (a + d + 1)) (n - 1 - a) in
-    let each = over-clique (at_vertex (before + c + 1)) M before n
+    let each = over-clique (at_vertex (before + c + 1)) M before n w
     ∙ sum_to-same (λ a. sum_to (λ d. M a (a + d + 1) * (cond (eqb (before + a + 1) (before + c + 1)) 1 0 + cond (eqb (before + a + 1 + d + 1) (before + c + 1)) 1 0)) (n - 1 - a))
     (λ a. cond (eqb a c) (rows a) 0 + cond (ltb a c) (M a c) 0) n (λ a _. clique_row M before n c a h) in
     let both = sum_to-add (λ a. cond (eqb a c) (rows a) 0) (λ a. cond (ltb a c) (M a c) 0) n in
@@ -158,9 +160,9 @@ clique-at M before n c h =
     omega (arith, each, both, hit, below)
 
 -- at a vertex that is none of the clique
-pub clique-none : (M : ℕ → ℕ → ℕ) (before n v : ℕ) → ((a : ℕ) → a < n → before + a + 1 ≢ v) → over (at_vertex v) (clique before n) (clique_table M n) ≡ 0
-clique-none M before n v apart =
-    over-clique (at_vertex v) M before n
+pub clique-none : (M : ℕ → ℕ → ℕ) (before n : ℕ) (w : ℤ) (v : ℕ) → ((a : ℕ) → a < n → before + a + 1 ≢ v) → over (at_vertex v) (clique before n w) (clique_table M n) ≡ 0
+clique-none M before n w v apart =
+    over-clique (at_vertex v) M before n w
     ∙ sum_to-none (λ a. sum_to (λ d. M a (a + d + 1) * (cond (eqb (before + a + 1) v) 1 0 + cond (eqb (before + a + 1 + d + 1) v) 1 0)) (n - 1 - a)) n
     (λ a b.
     sum_to-none (λ d. M a (a + d + 1) * (cond (eqb (before + a + 1) v) 1 0 + cond (eqb (before + a + 1 + d + 1) v) 1 0)) (n - 1 - a)
@@ -169,14 +171,13 @@ clique-none M before n v apart =
     let off' : eqb (before + a + 1 + d + 1) v ≡ false = ne_eqb _ _ (λ e. apart (a + d + 1) (omega arith) (omega arith)) in
     rw (off, off') (omega arith)))
 
--- edges of weight 0 weigh nothing
-pub weightless : (es : List Edge) (cs : List ℕ) → All (λ e. e.w ≡ pos 0) es → int_over weighing es cs ≡ pos 0
-weightless es cs all =
-    int_sum_to-none (λ k. pos (slice_index cs k) *ℤ (slice_index_or es k no_edge).w) (length es)
-    (λ k b. ap (λ (w : ℤ). pos (slice_index cs k) *ℤ w) (all k no_edge b) ∙ (let z : pos (slice_index cs k) *ℤ pos 0 ≡ pos 0 = omega (arith, ints) in z))
-
-pub clique-weight : (before n : ℕ) (cs : List ℕ) → int_over weighing (clique before n) cs ≡ pos 0
-clique-weight before n cs =
-    weightless (clique before n) cs
-    (All-blocks (λ e. e.w ≡ pos 0) (λ a. row (before + a + 1) (before + a + 1) (n - 1 - a) (pos 0)) n
-    (λ a _. All-tabled (λ e. e.w ≡ pos 0) (λ d. record { u = before + a + 1; v = before + a + 1 + d + 1; w = pos 0 }) (n - 1 - a) (λ d _. refl)))
+-- the weight of a clique
+pub clique-weight : (M : ℕ → ℕ → ℕ) (before n : ℕ) (w : ℤ) → int_over weighing (clique before n w) (clique_table M n) ≡ pos (sum_to (λ a. sum_to (λ d. M a (a + d + 1)) (n - 1 - a)) n) *ℤ w
+clique-weight M before n w =
+    int_over-blocks weighing (λ a. row (before + a + 1) (before + a + 1) (n - 1 - a) w) (λ a. tabled (λ d. M a (a + d + 1)) (n - 1 - a)) n (λ a _. clique-table M before n w a)
+    ∙ int_sum_to-same (λ a. int_over weighing (row (before + a + 1) (before + a + 1) (n - 1 - a) w) (tabled (λ d. M a (a + d + 1)) (n - 1 - a)))
+    (λ a. pos (sum_to (λ d. M a (a + d + 1)) (n - 1 - a)) *ℤ w) n
+    (λ a _.
+    int_over-tabled weighing (λ d. record { u = before + a + 1; v = before + a + 1 + d + 1; w = w }) (λ d. M a (a + d + 1)) (n - 1 - a)
+    ∙ sym (sum_to-times (λ d. M a (a + d + 1)) w (n - 1 - a)))
+    ∙ sym (sum_to-times (λ a. sum_to (λ d. M a (a + d + 1)) (n - 1 - a)) w n)

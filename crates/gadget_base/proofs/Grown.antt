@@ -1,5 +1,5 @@
 -- Lemmas on graphs whose list of edges grows by a row, a rectangle or a clique.
-use Rattle.std.proofs.Common.{◌≡◌, ℕ, zero, suc, ◌+◌, ◌-◌, ◌*◌, ◌/◌, ◌≤◌, ◌<◌, pos, refl, ap, sym, ◌∙◌, arith, List, [], ◌∷◌, ◌++◌, length, length-append, take}
+use Rattle.std.proofs.Common.{◌≡◌, ℕ, zero, suc, ◌+◌, ◌-◌, ◌*◌, ◌/◌, ◌≤◌, ◌<◌, ℤ, refl, ap, sym, ◌∙◌, arith, List, [], ◌∷◌, ◌++◌, length, length-append, take}
 use Rattle.std.proofs.lemmas.List.{append_assoc, append-nil}
 use Rattle.std.specs.Prelude.{Result, Ok, Err, OnErr}
 use Rattle.graph_theory.specs.declared.edge.Edge.{Edge}
@@ -76,14 +76,14 @@ pub square-less : (n : ℕ) → n * (n - 1) + n ≡ n * n
 square-less zero = refl
 square-less (suc n) = let e : suc n - 1 ≡ n = omega arith in rw e (grind arith)
 
-pub clique-rows : (before n a : ℕ) → length (blocks (λ a. row (before + a + 1) (before + a + 1) (n - 1 - a) (pos 0)) a) ≡ sum_to (λ j. n - 1 - j) a
-clique-rows before n a =
-    blocks-length (λ a. row (before + a + 1) (before + a + 1) (n - 1 - a) (pos 0)) a
-    ∙ sum_to-same (λ a. length (row (before + a + 1) (before + a + 1) (n - 1 - a) (pos 0))) (λ a. n - 1 - a) a (λ a _. row-length (before + a + 1) (before + a + 1) (n - 1 - a) (pos 0))
+pub clique-rows : (before n : ℕ) (w : ℤ) (a : ℕ) → length (blocks (λ a. row (before + a + 1) (before + a + 1) (n - 1 - a) w) a) ≡ sum_to (λ j. n - 1 - j) a
+clique-rows before n w a =
+    blocks-length (λ a. row (before + a + 1) (before + a + 1) (n - 1 - a) w) a
+    ∙ sum_to-same (λ a. length (row (before + a + 1) (before + a + 1) (n - 1 - a) w)) (λ a. n - 1 - a) a (λ a _. row-length (before + a + 1) (before + a + 1) (n - 1 - a) w)
 
-pub clique-length : (before n : ℕ) → length (clique before n) ≡ n * (n - 1) / 2
-clique-length before n =
-    let all = clique-rows before n n in
+pub clique-length : (before n : ℕ) (w : ℤ) → length (clique before n w) ≡ n * (n - 1) / 2
+clique-length before n w =
+    let all = clique-rows before n w n in
     let sum = clique-sum n n (omega arith) in
     let twice = square-less n in
     let double : 2 * n * n ≡ n * n + n * n = grind arith in

@@ -9,3 +9,5 @@ pub mod Degrees
 pub mod Within
 pub mod Units
 pub mod Used
+pub mod NoLoop
+pub mod Links

@@ -1,6 +1,6 @@
 -- A perfect matching as a list of numbers of edges, and as counts.
-use Rattle.std.proofs.Common.{◌≡◌, ℕ, ◌+◌, ◌-◌, ◌*◌, ◌<◌, ◌≤◌, ℤ, pos, ◌+ℤ◌, ◌*ℤ◌, Bool, true, false, cond, eqb, refl, ap, sym, ◌∙◌, subst, inl, inr, arith, List, [], ◌∷◌, length}
-use Rattle.std.proofs.Common.{slice_index, All, count_by}
+use Rattle.std.proofs.Common.{◌≡◌, ℕ, ◌+◌, ◌-◌, ◌*◌, ◌<◌, ◌≤◌, ℤ, pos, ◌+ℤ◌, ◌*ℤ◌, Bool, true, false, cond, eqb, ap, sym, ◌∙◌, subst, inl, inr, arith, List, [], ◌∷◌, length}
+use Rattle.std.proofs.Common.{slice_index, All, sum_by, count_by}
 use Rattle.std.proofs.lemmas.Int.{ints}
 use Rattle.std.proofs.lemmas.Bool.{eq-eqb, ne_eqb, cases_eq}
 use Rattle.std.proofs.lemmas.List.{get_or_default}
@@ -8,58 +8,58 @@ use Rattle.std.proofs.lemmas.List.Sums.{sum_by-cons}
 use Rattle.std.proofs.lemmas.List.Elements.{All-tail, All-head}
 use Rattle.graph_theory.specs.Sums.{sum_to, int_sum_to}
 use Rattle.graph_theory.specs.declared.edge.Edge.{Edge}
-use Rattle.graph_theory.specs.Graph.{Multigraph, IsEdgeWithin, IsEdgeNumber, edge_at, edge_of, touches, no_edge, degree, weight, IsPerfect}
+use Rattle.graph_theory.specs.Graph.{Multigraph, HasNoLoop, IsEdgeWithin, IsEdgeNumber, edge_at, edge_of, touches, ends_at, no_edge, degree, weight, IsPerfect}
 use Rattle.graph_theory.specs.Walk.{walk_weight}
-use Rattle.graph_theory.proofs.SumLemmas.{sum_to-same, sum_to-add, sum_to-has, int_sum_to-same, int_sum_to-add, int_sum_to-zero, int_sum_to-one, int_sum_to-pos, plus-times, times-one_if}
+use Rattle.graph_theory.proofs.SumLemmas.{sum_to-same, sum_to-add, int_sum_to-same, int_sum_to-add, int_sum_to-zero, int_sum_to-one, int_sum_to-pos, plus-times, times-one_if}
 use Rattle.graph_theory.proofs.SumLemmas.{int_sum_to-at_one}
 use Rattle.graph_theory.proofs.Edges.{degree-touches, touches-u, edge_of-place}
 use Rattle.graph_theory.proofs.Handshake.{handshake-perfect}
+use Rattle.mb_problem.proofs.CountBounds.{counted-within}
 use Rattle.gadget_base.specs.Certified.{IsPerfectList}
 use Rattle.gadget_base.specs.Listed.{times, times_each, ListsCounts}
 use Rattle.gadget_base.proofs.BlockSums.{sum_to-none, sum_to-hit}
 use Rattle.gadget_base.proofs.Blocks.{tabled-length, tabled-at, is-tabled}
 use Rattle.gadget_base.proofs.Times.{times-cons, count_all}
 
-cond_off : (t : Bool) → cond {A = ℕ} t 0 0 ≡ 0
-cond_off true = refl
-cond_off false = refl
-
-split : (t : Bool) (x : ℕ) → cond t (1 + x) 0 ≡ cond t 1 0 + cond t x 0
-split true x = refl
-split false x = refl
-
-no_more : (t : Bool) (x : ℕ) → cond t (0 + x) 0 ≡ 0 + cond t x 0
-no_more true x = refl
-no_more false x = refl
-
-turn_test : (e k : ℕ) (t : Bool) (x : ℕ) → 1 ≤ e → cond t (cond (eqb e (k + 1)) 1 0 + x) 0 ≡ cond (eqb k (e - 1)) (cond t 1 0) 0 + cond t x 0
-turn_test e k t x low =
+-- the number e once more
+more_of : (e k a x : ℕ) → 1 ≤ e → (cond (eqb e (k + 1)) 1 0 + x) * a ≡ cond (eqb k (e - 1)) a 0 + x * a
+more_of e k a x low =
     elim (cases_eq e (k + 1)) [
       | inl h ↦
           let on : eqb e (k + 1) ≡ true = eq-eqb _ _ h in
           let on' : eqb k (e - 1) ≡ true = eq-eqb _ _ (let z : k ≡ e - 1 = omega arith in z) in
-          rw (on, on') (split t x)
+          rw (on, on') (let z : (1 + x) * a ≡ a + x * a = grind arith in z)
       | inr d ↦
           let off : eqb e (k + 1) ≡ false = ne_eqb _ _ d in
           let off' : eqb k (e - 1) ≡ false = ne_eqb _ _ (λ h. d (let z : e ≡ k + 1 = omega arith in z)) in
-          rw (off, off') (no_more t x)
+          rw (off, off') (let z : (0 + x) * a ≡ 0 + x * a = grind arith in z)
     ]
 
--- the edges of a list that pass a test, by places
-pub times-sum : (t : ℕ → Bool) (es : List ℕ) (m : ℕ) → All (λ e. (1 ≤ e) × (e ≤ m)) es → sum_to (λ k. cond (t (k + 1)) (times es (k + 1)) 0) m ≡ count_by t es
-times-sum t [] m h = sum_to-none (λ k. cond (t (k + 1)) (times [] (k + 1)) 0) m (λ k _. cond_off (t (k + 1)))
-times-sum t (e ∷ es) m h =
-    let rest = times-sum t es m (All-tail (λ e. (1 ≤ e) × (e ≤ m)) e es h) in
+-- a sum over a list, by places
+pub times-total : (f : ℕ → ℕ) (es : List ℕ) (m : ℕ) → All (λ e. (1 ≤ e) × (e ≤ m)) es → sum_to (λ k. times es (k + 1) * f (k + 1)) m ≡ sum_by f es
+times-total f [] m h = sum_to-none (λ k. times [] (k + 1) * f (k + 1)) m (λ k _. omega arith)
+times-total f (e ∷ es) m h =
+    let rest = times-total f es m (All-tail (λ e. (1 ≤ e) × (e ≤ m)) e es h) in
     let first : (1 ≤ e) × (e ≤ m) = All-head (λ e. (1 ≤ e) × (e ≤ m)) e es h in
     let low : 1 ≤ e = first.0 in
     let high : e ≤ m = first.1 in
-    let here : cond {A = ℕ} (t (e - 1 + 1)) 1 0 ≡ cond (t e) 1 0 = ap (λ x. cond {A = ℕ} (t x) 1 0) (let z : e - 1 + 1 ≡ e = omega arith in z) in
-    sum_to-same (λ k. cond (t (k + 1)) (times (e ∷ es) (k + 1)) 0) (λ k. cond (eqb k (e - 1)) (cond (t (k + 1)) 1 0) 0 + cond (t (k + 1)) (times es (k + 1)) 0) m
-    (λ k _. ap (λ x. cond (t (k + 1)) x 0) (times-cons e es (k + 1)) ∙ turn_test e k (t (k + 1)) (times es (k + 1)) low)
-    ∙ sum_to-add (λ k. cond (eqb k (e - 1)) (cond (t (k + 1)) 1 0) 0) (λ k. cond (t (k + 1)) (times es (k + 1)) 0) m
-    ∙ ap (λ x. x + sum_to (λ k. cond (t (k + 1)) (times es (k + 1)) 0) m) (sum_to-hit (λ k. cond (t (k + 1)) 1 0) (e - 1) m (omega arith) ∙ here)
-    ∙ ap (λ x. cond (t e) 1 0 + x) rest
-    ∙ sym (sum_by-cons (λ y. cond (t y) 1 0) e es)
+    let here : f (e - 1 + 1) ≡ f e = ap f (let z : e - 1 + 1 ≡ e = omega arith in z) in
+    sum_to-same (λ k. times (e ∷ es) (k + 1) * f (k + 1)) (λ k. cond (eqb k (e - 1)) (f (k + 1)) 0 + times es (k + 1) * f (k + 1)) m
+    (λ k _. ap (λ x. x * f (k + 1)) (times-cons e es (k + 1)) ∙ more_of e k (f (k + 1)) (times es (k + 1)) low)
+    ∙ sum_to-add (λ k. cond (eqb k (e - 1)) (f (k + 1)) 0) (λ k. times es (k + 1) * f (k + 1)) m
+    ∙ ap (λ x. x + sum_to (λ k. times es (k + 1) * f (k + 1)) m) (sum_to-hit (λ k. f (k + 1)) (e - 1) m (omega arith) ∙ here)
+    ∙ ap (λ x. f e + x) rest
+    ∙ sym (sum_by-cons f e es)
+
+if_one : (t : Bool) (c : ℕ) → cond t c 0 ≡ c * cond t 1 0
+if_one true c = omega arith
+if_one false c = omega arith
+
+-- the edges of a list that pass a test, by places
+pub times-sum : (t : ℕ → Bool) (es : List ℕ) (m : ℕ) → All (λ e. (1 ≤ e) × (e ≤ m)) es → sum_to (λ k. cond (t (k + 1)) (times es (k + 1)) 0) m ≡ count_by t es
+times-sum t es m h =
+    sum_to-same (λ k. cond (t (k + 1)) (times es (k + 1)) 0) (λ k. times es (k + 1) * cond (t (k + 1)) 1 0) m (λ k _. if_one (t (k + 1)) (times es (k + 1)))
+    ∙ times-total (λ e. cond (t e) 1 0) es m h
 
 pub times_each-length : (g : Multigraph) (es : List ℕ) → length (times_each g es) ≡ length g.edges
 times_each-length g es = tabled-length (λ k. times es (k + 1)) (length g.edges)
@@ -67,11 +67,17 @@ times_each-length g es = tabled-length (λ k. times es (k + 1)) (length g.edges)
 pub times_each-at : (g : Multigraph) (es : List ℕ) (k : ℕ) → k < length g.edges → slice_index (times_each g es) k ≡ times es (k + 1)
 times_each-at g es k b = tabled-at (λ k. times es (k + 1)) (length g.edges) k 0 b
 
-pub times_each-degree : (g : Multigraph) (es : List ℕ) (v : ℕ) → All (IsEdgeWithin g.vertices) g.edges → All (IsEdgeNumber g) es → degree g (times_each g es) v
-    ≡ count_by (λ e. touches (edge_of g e) v) es
-times_each-degree g es v ends numbers =
+-- the degree is how often the edges of the list end there
+pub times_each-ends : (g : Multigraph) (es : List ℕ) (v : ℕ) → All (IsEdgeNumber g) es → degree g (times_each g es) v ≡ sum_by (λ e. ends_at (edge_of g e) v) es
+times_each-ends g es v numbers =
+    sum_to-same (λ k. slice_index (times_each g es) k * ends_at (edge_at g k) v) (λ k. times es (k + 1) * ends_at (edge_of g (k + 1)) v) (length g.edges)
+    (λ k b. ap (λ c. c * ends_at (edge_at g k) v) (times_each-at g es k b) ∙ ap (λ (e : Edge). times es (k + 1) * ends_at e v) (sym (edge_of-place g k)))
+    ∙ times-total (λ e. ends_at (edge_of g e) v) es (length g.edges) numbers
+
+pub times_each-degree : (g : Multigraph) (es : List ℕ) (v : ℕ) → HasNoLoop g → All (IsEdgeNumber g) es → degree g (times_each g es) v ≡ count_by (λ e. touches (edge_of g e) v) es
+times_each-degree g es v plain numbers =
     let t : ℕ → Bool = λ e. touches (edge_of g e) v in
-    degree-touches g (times_each g es) v ends
+    degree-touches g (times_each g es) v plain
     ∙ sum_to-same (λ k. cond (touches (edge_at g k) v) (slice_index (times_each g es) k) 0) (λ k. cond (t (k + 1)) (times es (k + 1)) 0) (length g.edges)
     (λ k b.
     ap (λ x. cond (touches (edge_at g k) v) x 0) (times_each-at g es k b)
@@ -84,11 +90,7 @@ pub at_most_one_from_degrees : (g : Multigraph) (counts : List ℕ) → All (IsE
 at_most_one_from_degrees g counts ends degrees k b =
     let e = edge_at g k in
     let within : IsEdgeWithin g.vertices e = ends k no_edge b in
-    let one = degrees e.u within.u_low within.u_high in
-    let sum = degree-touches g counts e.u ends in
-    let term = sum_to-has (λ k. cond (touches (edge_at g k) e.u) (slice_index counts k) 0) (length g.edges) k b in
-    let on : cond (touches e e.u) (slice_index counts k) 0 ≡ slice_index counts k = ap (λ (t : Bool). cond t (slice_index counts k) 0) (touches-u e) in
-    omega (arith, one, sum, term, on)
+    omega (arith, degrees e.u within.u_low within.u_high, counted-within g counts e.u k b (touches-u e))
 
 pub perfect_from_degrees : (g : Multigraph) (counts : List ℕ) → All (IsEdgeWithin g.vertices) g.edges → length counts ≡ length g.edges → ((v : ℕ) → 1 ≤ v → v ≤ g.vertices → degree g counts v
     ≡ 1) → IsPerfect g counts
@@ -98,14 +100,14 @@ perfect_from_degrees g counts ends size degrees = record {
   degrees = degrees;
 }
 
-pub perfect_from_list : (g : Multigraph) (es : List ℕ) → All (IsEdgeWithin g.vertices) g.edges → IsPerfectList g es → IsPerfect g (times_each g es)
-perfect_from_list g es ends list = perfect_from_degrees g (times_each g es) ends (times_each-length g es) (λ v low high. times_each-degree g es v ends list.numbers
+pub perfect_from_list : (g : Multigraph) (es : List ℕ) → All (IsEdgeWithin g.vertices) g.edges → HasNoLoop g → IsPerfectList g es → IsPerfect g (times_each g es)
+perfect_from_list g es ends plain list = perfect_from_degrees g (times_each g es) ends (times_each-length g es) (λ v low high. times_each-degree g es v plain list.numbers
     ∙ list.one_each v low high)
 
 -- no edge is listed twice
-pub times-small : (g : Multigraph) (es : List ℕ) (k : ℕ) → All (IsEdgeWithin g.vertices) g.edges → IsPerfectList g es → k < length g.edges → times es (k + 1) ≤ 1
-times-small g es k ends list b =
-    let perfect = perfect_from_list g es ends list in
+pub times-small : (g : Multigraph) (es : List ℕ) (k : ℕ) → All (IsEdgeWithin g.vertices) g.edges → HasNoLoop g → IsPerfectList g es → k < length g.edges → times es (k + 1) ≤ 1
+times-small g es k ends plain list b =
+    let perfect = perfect_from_list g es ends plain list in
     let one = at_most_one_from_degrees g (times_each g es) ends perfect.degrees k b in
     let is = times_each-at g es k b in
     omega (arith, one, is)
@@ -138,11 +140,11 @@ weight_of_list g es numbers =
 
 -- how many edges a perfect matching has
 
-pub list-length : (g : Multigraph) (es : List ℕ) → All (IsEdgeWithin g.vertices) g.edges → IsPerfectList g es → 2 * length es ≡ g.vertices
-list-length g es ends list =
+pub list-length : (g : Multigraph) (es : List ℕ) → All (IsEdgeWithin g.vertices) g.edges → HasNoLoop g → IsPerfectList g es → 2 * length es ≡ g.vertices
+list-length g es ends plain list =
     let m = length g.edges in
     let c : ℕ → ℕ = λ k. slice_index (times_each g es) k in
-    let one = handshake-perfect g (times_each g es) (λ _. pos 1) ends (perfect_from_list g es ends list) in
+    let one = handshake-perfect g (times_each g es) (λ _. pos 1) ends (perfect_from_list g es ends plain list) in
     let vertices = int_sum_to-one g.vertices in
     let twice = int_sum_to-same (λ k. pos (c k) *ℤ (pos 1 +ℤ pos 1)) (λ k. pos (c k) +ℤ pos (c k)) m (λ k _. omega (arith, ints)) in
     let both = int_sum_to-add (λ k. pos (c k)) (λ k. pos (c k)) m in
@@ -158,11 +160,11 @@ list-length g es ends list =
 pub counts-listed : (g : Multigraph) (counts es : List ℕ) → length counts ≡ length g.edges → ListsCounts g counts es → counts ≡ times_each g es
 counts-listed g counts es size lists = is-tabled counts (λ k. times es (k + 1)) (length g.edges) size (λ k b. sym (lists.each k b))
 
-pub list_from_perfect : (g : Multigraph) (counts es : List ℕ) → All (IsEdgeWithin g.vertices) g.edges → IsPerfect g counts → ListsCounts g counts es → IsPerfectList g es
-list_from_perfect g counts es ends perfect lists = record {
+pub list_from_perfect : (g : Multigraph) (counts es : List ℕ) → HasNoLoop g → IsPerfect g counts → ListsCounts g counts es → IsPerfectList g es
+list_from_perfect g counts es plain perfect lists = record {
   numbers = lists.numbers;
   one_each = λ v low high.
-      sym (times_each-degree g es v ends lists.numbers)
+      sym (times_each-degree g es v plain lists.numbers)
       ∙ ap (λ (cs : List ℕ). degree g cs v) (sym (counts-listed g counts es perfect.one_each lists))
       ∙ perfect.degrees v low high;
 }

@@ -1,5 +1,6 @@
 -- Sums over a list of edges, each with its count: in parts, over blocks, rows and rectangles. Degree and weight are such sums.
-use Rattle.std.proofs.Common.{◌≡◌, ℕ, zero, suc, ◌+◌, ◌*◌, ◌<◌, ℤ, pos, ◌+ℤ◌, ◌*ℤ◌, refl, ap, sym, ◌∙◌, arith, List, ◌++◌, length, slice_index, slice_index_or, length-append}
+use Rattle.std.proofs.Common.{◌≡◌, ℕ, zero, suc, ◌+◌, ◌*◌, ◌<◌, ℤ, pos, ◌+ℤ◌, ◌*ℤ◌, Bool, true, false, cond, refl, ap, sym, ◌∙◌, arith, List, [], ◌∷◌, ◌++◌, length, slice_index}
+use Rattle.std.proofs.Common.{slice_index_or, length-append}
 use Rattle.std.proofs.lemmas.Int.{ints}
 use Rattle.std.proofs.lemmas.List.{get_or_append_left, get_or-append-add}
 use Rattle.graph_theory.specs.declared.edge.Edge.{Edge}
@@ -100,6 +101,28 @@ int_over-blocks F es cs (suc n) h =
     let front = int_over-blocks F es cs n (λ k b. h k (omega arith)) in
     let split = int_over-append F (blocks es n) (es n) (blocks cs n) (cs n) (blocks-lengths es cs n (λ k b. h k (omega arith))) in
     omega (arith, ints, front, split)
+
+-- over one edge, or none where a test passes
+
+over-one : (F : Edge → ℕ → ℕ) (e : Edge) (c : ℕ) → over F (e ∷ []) (c ∷ []) ≡ F e c
+over-one F e c = omega arith
+
+int_over-one : (F : Edge → ℕ → ℤ) (e : Edge) (c : ℕ) → int_over F (e ∷ []) (c ∷ []) ≡ F e c
+int_over-one F e c = omega (arith, ints)
+
+pub over-unless : (F : Edge → ℕ → ℕ) (t : Bool) (es : List Edge) (cs : List ℕ) → over F (cond t [] es) (cond t [] cs) ≡ cond t 0 (over F es cs)
+over-unless F true es cs = refl
+over-unless F false es cs = refl
+
+pub int_over-unless : (F : Edge → ℕ → ℤ) (t : Bool) (es : List Edge) (cs : List ℕ) → int_over F (cond t [] es) (cond t [] cs) ≡ cond t (pos 0) (int_over F es cs)
+int_over-unless F true es cs = refl
+int_over-unless F false es cs = refl
+
+pub over-one_unless : (F : Edge → ℕ → ℕ) (t : Bool) (e : Edge) (c : ℕ) → over F (cond t [] (e ∷ [])) (cond t [] (c ∷ [])) ≡ cond t 0 (F e c)
+over-one_unless F t e c = over-unless F t (e ∷ []) (c ∷ []) ∙ ap (cond t 0) (over-one F e c)
+
+pub int_over-one_unless : (F : Edge → ℕ → ℤ) (t : Bool) (e : Edge) (c : ℕ) → int_over F (cond t [] (e ∷ [])) (cond t [] (c ∷ [])) ≡ cond t (pos 0) (F e c)
+int_over-one_unless F t e c = int_over-unless F t (e ∷ []) (c ∷ []) ∙ ap (cond t (pos 0)) (int_over-one F e c)
 
 -- over a rectangle with the counts N a j, row by row
 

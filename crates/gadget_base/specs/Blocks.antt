@@ -1,5 +1,5 @@
 -- Lists made of one block for each of the numbers 0 to n - 1, and edges in rows.
-use Rattle.std.specs.Prelude.{ℕ, zero, suc, ◌+◌, ◌-◌, ℤ, pos, List, [], ◌∷◌, ◌++◌}
+use Rattle.std.specs.Prelude.{ℕ, zero, suc, ◌+◌, ◌-◌, ℤ, List, [], ◌∷◌, ◌++◌}
 use Rattle.graph_theory.specs.declared.edge.Edge.{Edge}
 
 -- the blocks of the numbers below n, one after another
@@ -21,7 +21,7 @@ row u before n w = tabled (λ j. record { u = u; v = before + j + 1; w = w }) n
 abbrev pub rectangle : ℕ → ℕ → ℕ → ℕ → ℤ → List Edge
 rectangle first m second n w = blocks (λ a. row (first + a + 1) second n w) m
 
--- an edge of weight 0 between any two of the n vertices after `before`, the lesser end first and
+-- an edge of weight w between any two of the n vertices after `before`, the lesser end first and
 -- slowest
-abbrev pub clique : ℕ → ℕ → List Edge
-clique before n = blocks (λ a. row (before + a + 1) (before + a + 1) (n - 1 - a) (pos 0)) n
+abbrev pub clique : ℕ → ℕ → ℤ → List Edge
+clique before n w = blocks (λ a. row (before + a + 1) (before + a + 1) (n - 1 - a) w) n

@@ -8,7 +8,7 @@ use Rattle.mb_problem.specs.declared.answer.Parity.TheVariants.{Values}
 use Rattle.mb_problem.specs.declared.gadget.GadgetForm.{GadgetForm}
 use Rattle.mb_problem.specs.declared.gadget.GadgetForm.TheVariants.{Itself, Doubled, Copies, Capped}
 use Rattle.mb_problem.specs.declared.gadget.GadgetForm.TheVariants.{Ports, PathPorts}
-use Rattle.mb_problem.specs.Network.{Network, graph_of}
+use Rattle.mb_problem.specs.Network.{Network, plain_graph}
 use Rattle.mb_problem.specs.Kinds.{gadget_of}
 use Rattle.mb_problem.specs.Feasible.{IsFeasible, weight_of}
 use Rattle.mb_problem.specs.Size.{room_by, odd_at}
@@ -18,7 +18,7 @@ use Rattle.gadget_base.specs.Gadgets.{doubled_graph, copies_graph, capped_graph,
 -- the graph that is built so; a path's duals speak of the graph for joins that are odd at its two
 -- ends
 abbrev pub graph_by : GadgetForm → Network → Multigraph
-graph_by Itself i = graph_of i
+graph_by Itself i = plain_graph i
 graph_by Doubled i = doubled_graph i
 graph_by Copies i = copies_graph i
 graph_by (Capped capacities) i = capped_graph i (room_by capacities i)

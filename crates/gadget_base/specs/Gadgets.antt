@@ -2,18 +2,18 @@
 -- there (Schrijver, Combinatorial Optimization, volume A, chapter 26 for matchings, 29 for joins,
 -- 31 for b-matchings, 32 for capacities, 33 for factors).
 use Rattle.std.specs.Prelude.{ℕ, ◌+◌, ◌-◌, ◌*◌, pos, neg_ℤ, List, [], ◌∷◌, ◌++◌, length}
-use Rattle.std.specs.Prelude.{slice_index}
+use Rattle.std.specs.Prelude.{slice_index, if◌then◌else◌}
 use Rattle.graph_theory.specs.declared.edge.Edge.{Edge}
 use Rattle.graph_theory.specs.Sums.{sum_to}
 use Rattle.graph_theory.specs.Graph.{Multigraph, ends_at}
 use Rattle.mb_problem.specs.Network.{Network, vertices, plain, instance_edge_at}
-use Rattle.mb_problem.specs.Size.{value_total, value_u, value_v, port_count}
+use Rattle.mb_problem.specs.Size.{value_total, value_u, value_v, port_count, is_loop_at}
 use Rattle.gadget_base.specs.Blocks.{blocks, tabled, rectangle, clique}
 
--- two copies of edge number k + 1 with its weight turned round: between its ends, and between the
--- copies of these
+-- two copies of edge number k + 1 with its weight turned round, if it is no loop: between its ends,
+-- and between the copies of these
 abbrev pub two_copies : Network → ℕ → List Edge
-two_copies i k =
+two_copies i k = if is_loop_at i k then [] else
     record {
       u = (instance_edge_at i k).u;
       v = (instance_edge_at i k).v;
@@ -41,9 +41,12 @@ doubled_graph i = record {
 abbrev pub values_below : Network → ℕ → ℕ
 values_below i t = sum_to (λ k. slice_index i.values k) (t - 1)
 
--- each copy of the one end of edge number k + 1 joined to each copy of the other
+-- each copy of the one end of edge number k + 1 joined to each copy of the other; of a loop, any
+-- two copies of its end joined
 abbrev pub pairs_of_copies : Network → ℕ → List Edge
-pairs_of_copies i k = rectangle (values_below i (instance_edge_at i k).u) (value_u i k)
+pairs_of_copies i k = if is_loop_at i k
+    then clique (values_below i (instance_edge_at i k).u) (value_u i k) (instance_edge_at i k).w
+    else rectangle (values_below i (instance_edge_at i k).u) (value_u i k)
     (values_below i (instance_edge_at i k).v) (value_v i k) (instance_edge_at i k).w
 
 -- each vertex as often as its value says, and all pairs of copies of the ends of each edge
@@ -87,11 +90,11 @@ met_below i t k = sum_to (λ j. ends_at (plain (instance_edge_at i j)) t) k
 abbrev pub port_of : Network → (ℕ → ℕ) → ℕ → ℕ → ℕ
 port_of i odd k t = ports_below i odd t + met_below i t k + 1
 
--- edge number k + 1 between its two ports
+-- edge number k + 1 between its two ports; those of a loop stand side by side
 abbrev pub between_ports : Network → (ℕ → ℕ) → ℕ → Edge
 between_ports i odd k = record {
   u = port_of i odd k (instance_edge_at i k).u;
-  v = port_of i odd k (instance_edge_at i k).v;
+  v = port_of i odd k (instance_edge_at i k).v + (if is_loop_at i k then 1 else 0);
   w = (instance_edge_at i k).w;
 }
 
@@ -101,5 +104,5 @@ abbrev pub ports_graph : Network → (ℕ → ℕ) → Multigraph
 ports_graph i odd = record {
   vertices = ports_below i odd (vertices i + 1);
   edges = tabled (between_ports i odd) (length i.edges) ++ blocks
-      (λ k. clique (ports_below i odd (k + 1)) (port_count i odd (k + 1))) (vertices i);
+      (λ k. clique (ports_below i odd (k + 1)) (port_count i odd (k + 1)) (pos 0)) (vertices i);
 }

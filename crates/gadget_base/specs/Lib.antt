@@ -4,3 +4,4 @@ pub mod Gadgets
 pub mod Starts
 pub mod Certified
 pub mod Listed
+pub mod Links

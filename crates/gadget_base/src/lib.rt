@@ -12,5 +12,5 @@ mod rows;
 
 pub use copies::copies_of;
 pub use offsets::{find_block, starts, wide_starts};
-pub use plain::{count_listed, extract_plain};
+pub use plain::{count_listed, extract_plain, with_loops};
 pub use rows::{add_clique, add_rectangle, add_row};

@@ -4,14 +4,16 @@ ghost use Rattle.graph_theory.specs.Graph.{IsEdgeNumber};
 ghost use Rattle.graph_theory.specs.Walk.{walk_weight};
 ghost use Rattle.mb_problem.specs.declared.kind.Kind.TheVariants.{Perfect};
 ghost use Rattle.mb_problem.specs.declared.answer.Answer.TheVariants.{Counts};
-ghost use Rattle.mb_problem.specs.Network.{graph_of};
+ghost use Rattle.mb_problem.specs.Network.{graph_of, plain_graph};
+ghost use Rattle.mb_problem.specs.Size.{link_count};
 ghost use Rattle.mb_problem.specs.Feasible.{IsFeasible, weight_of};
 ghost use Rattle.gadget_base.specs.Certified.{IsPerfectList};
 ghost use Rattle.gadget_base.specs.Blocks.{tabled};
+ghost use Rattle.gadget_base.specs.Links.{with_loops};
 ghost use Rattle.gadget_base.specs.Listed.{times, times_each};
 
 use mb_base::{EdgeId, OutOfMemory, Sequence};
-use mb_problem::{Answer, Instance};
+use mb_problem::{Answer, Instance, link_count};
 use std::alloc::Global;
 
 /// Counts an edge once more.
@@ -38,6 +40,17 @@ fn add_listed(counts: &mut [u32], edges: &[EdgeId])
     }
 }
 
+/// How often each of the numbers 1 to `count` is listed.
+fn count_numbers(alloc: Global, count: usize, numbers: &[EdgeId]) -> Result<Vec<u32>, OutOfMemory>
+    requires numbers { All (λ e. (1 ≤ e) × (e ≤ count)) numbers.now }
+    requires few { length numbers.now < 2 ^ 31 }
+    ensures { IfOk result (λ counts. counts.items ≡ tabled (λ k. times numbers.now (k + 1)) count) }
+{
+    let mut counts = vec![in alloc; 0u32; count]?;
+    add_listed(&mut counts, numbers);
+    Ok(counts)
+}
+
 /// How often each edge is listed.
 pub fn count_listed(
     alloc: Global,
@@ -48,26 +61,49 @@ pub fn count_listed(
     requires few { length edges.now < 2 ^ 31 }
     ensures { IfOk result (λ counts. counts.items ≡ times_each (graph_of instance.now) edges.now) }
 {
-    let mut counts = vec![in alloc; 0u32; instance.edges() as usize]?;
-    add_listed(&mut counts, edges);
-    Ok(counts)
+    count_numbers(alloc, instance.edges() as usize, edges)
 }
 
-/// A perfect matching of the instance's own graph, given as the numbers of its edges, as an answer
-/// that counts each edge as often as it is listed. It takes time linear in the edges. `OutOfMemory`
-/// is its one error.
+/// Counts of the edges that are no loops, one after another, as counts of all edges: 0 for each
+/// loop. The edges of a graph without the instance's loops have other numbers than the instance's.
+pub fn with_loops(
+    alloc: Global,
+    instance: &Instance,
+    counts: &[u32],
+) -> Result<Vec<u32>, OutOfMemory>
+    requires { length counts.now ≡ link_count instance.now }
+    ensures { IfOk result (λ all. all.items ≡ with_loops instance.now counts.now) }
+{
+    let mut all = Vec::with_capacity(alloc, instance.edges() as usize)?;
+    let mut place = 0;
+    for edge in instance.edge_list() {
+        if edge.u == edge.v {
+            all.push(0)?;
+        } else {
+            all.push(counts[place])?;
+            place += 1;
+        }
+    }
+    Ok(all)
+}
+
+/// A perfect matching of the instance's own graph, given as the numbers of its edges in the graph
+/// without loops, as an answer that counts each edge as often as it is listed and each loop 0
+/// times. It takes time linear in the edges. `OutOfMemory` is its one error.
 pub fn extract_plain(
     alloc: Global,
     instance: &Instance,
     edges: &[EdgeId],
 ) -> Result<Answer, OutOfMemory>
-    requires perfect { IsPerfectList (graph_of instance.now) edges.now }
-    ensures counted { IfOk result (λ a. a ≡ Counts (times_each (graph_of instance.now) edges.now)) }
+    requires perfect { IsPerfectList (plain_graph instance.now) edges.now }
+    ensures counted { IfOk result (λ a. a ≡ Counts (with_loops instance.now
+        (times_each (plain_graph instance.now) edges.now))) }
     ensures feasible { IfOk result (IsFeasible Perfect instance.now) }
     ensures weighs { IfOk result (λ a. weight_of Perfect instance.now a
-        ≡ walk_weight (graph_of instance.now) edges.now) }
+        ≡ walk_weight (plain_graph instance.now) edges.now) }
 {
     prove!(edges.len() <= instance.vertices() as usize / 2);
-    let counts = count_listed(alloc, instance, edges)?;
-    Ok(Answer::Counts(Sequence::from_vec(counts)))
+    let counts = count_numbers(alloc, link_count(instance) as usize, edges)?;
+    let all = with_loops(alloc, instance, &counts)?;
+    Ok(Answer::Counts(Sequence::from_vec(all)))
 }

@@ -1,5 +1,5 @@
-ghost use Rattle.std.specs.Prelude.{◌≡◌, ℕ, ◌+◌, ◌-◌, ◌*◌, ◌/◌, ◌<◌, ◌≤◌, ◌⊎◌, ◌^◌, ◌++◌, length};
-ghost use Rattle.std.specs.Prelude.{OnOk, OnErr, pos};
+ghost use Rattle.std.specs.Prelude.{◌≡◌, ℕ, ◌+◌, ◌-◌, ◌*◌, ◌/◌, ◌<◌, ◌≤◌, ◌^◌, ◌++◌, length};
+ghost use Rattle.std.specs.Prelude.{OnOk, OnErr};
 ghost use Rattle.graph_theory.specs.Graph.{IsGraph, IsWeight};
 ghost use Rattle.gadget_base.specs.Added.{AddsFirst};
 ghost use Rattle.gadget_base.specs.Blocks.{row, rectangle, clique};
@@ -20,7 +20,6 @@ pub fn add_row(
     requires u_low { 1 ≤ u }
     requires u_high { u ≤ graph.old.vertices }
     requires inside { before + count ≤ graph.old.vertices }
-    requires apart { (u ≤ before) ⊎ (before + count < u) }
     requires room { length graph.old.edges + count < 2 ^ 32 }
     requires weight { IsWeight w }
     ensures added { OnOk result (graph.new ≡ record graph.old {
@@ -50,7 +49,6 @@ pub fn add_rectangle(
 ) -> Result<(), OutOfMemory>
     requires first_inside { first + m ≤ graph.old.vertices }
     requires second_inside { second + n ≤ graph.old.vertices }
-    requires apart { (first + m ≤ second) ⊎ (second + n ≤ first) }
     requires room { length graph.old.edges + m * n < 2 ^ 32 }
     requires weight { IsWeight w }
     ensures added { OnOk result (graph.new ≡ record graph.old {
@@ -68,21 +66,22 @@ pub fn add_rectangle(
     Ok(())
 }
 
-/// Adds an edge of weight 0 between any two of the `n` vertices after `before`, the lesser end
+/// Adds an edge of weight `w` between any two of the `n` vertices after `before`, the lesser end
 /// first and slowest. After `OutOfMemory` the first of these edges have been added, fewer than all.
-pub fn add_clique(graph: &mut Graph, before: u32, n: u32) -> Result<(), OutOfMemory>
+pub fn add_clique(graph: &mut Graph, before: u32, n: u32, w: i64) -> Result<(), OutOfMemory>
     requires inside { before + n ≤ graph.old.vertices }
     requires room { length graph.old.edges + n * (n - 1) / 2 < 2 ^ 32 }
+    requires weight { IsWeight w }
     ensures added { OnOk result (graph.new ≡ record graph.old {
       edges = graph.old.edges
-          ++ clique before n;
+          ++ clique before n w;
     }) }
-    ensures cut_short { OnErr result (AddsFirst graph.old graph.new (clique before n)) }
+    ensures cut_short { OnErr result (AddsFirst graph.old graph.new (clique before n w)) }
     ensures graph { IsGraph graph.new }
 {
     prove!(graph.vertices() >= before + n);
     for a in 0..n {
-        add_row(graph, before + a + 1, before + a + 1, n - 1 - a, 0)?;
+        add_row(graph, before + a + 1, before + a + 1, n - 1 - a, w)?;
     }
     Ok(())
 }

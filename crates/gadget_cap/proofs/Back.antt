@@ -1,13 +1,12 @@
 -- Each perfect matching of the graph with gates is a matching within the rooms.
-use Rattle.std.proofs.Common.{◌≡◌, ◌≢◌, ℕ, ◌+◌, ◌*◌, ◌-◌, ◌<◌, ◌≤◌, pos, ◌*ℤ◌, true, false, cond, eqb, refl, ap, sym, ◌∙◌, subst, inl, inr, arith, List, ◌++◌, length, slice_index}
-use Rattle.std.proofs.lemmas.Bool.{cases_eq, eq-eqb, ne_eqb}
+use Rattle.std.proofs.Common.{◌≡◌, ℕ, ◌+◌, ◌*◌, ◌-◌, ◌<◌, ◌≤◌, pos, ◌*ℤ◌, false, cond, eqb, refl, ap, sym, ◌∙◌, subst, inl, inr, arith, List, ◌++◌, length, slice_index}
+use Rattle.std.proofs.lemmas.Bool.{cases_eq, ne_eqb}
 use Rattle.graph_theory.specs.Sums.{sum_to}
 use Rattle.graph_theory.specs.Graph.{degree, weight}
 use Rattle.graph_theory.proofs.SumLemmas.{sum_to-same, int_sum_to-same, sum_to-add, sum_to-swap}
 use Rattle.mb_problem.specs.Network.{Network, IsNetwork, vertices, graph_of, instance_edge_at}
 use Rattle.mb_problem.specs.Size.{value_u, value_v}
 use Rattle.mb_problem.specs.Feasible.{IsBMatching}
-use Rattle.mb_problem.proofs.EdgeLemmas.{edge-ends}
 use Rattle.gadget_base.specs.Blocks.{tabled}
 use Rattle.gadget_base.specs.Gadgets.{before_gates, gated, capped_graph}
 use Rattle.gadget_base.proofs.BlockSums.{sum_to-ones, sum_to-cond, sum_to-grows}
@@ -95,6 +94,14 @@ passed i room p = tabled (entered i room p) (length i.edges)
 pub passed-at : (i : Network) (room : ℕ → ℕ) (p : Passage) (k : ℕ) → k < length i.edges → slice_index (passed i room p) k ≡ entered i room p k
 passed-at i room p k b = tabled-at (entered i room p) (length i.edges) k 0 b
 
+-- what holds of all copies of an end holds of those of vertex t + 1, if it is that end
+at_end : (i : Network) (f : ℕ → ℕ) (u t : ℕ) → cond (eqb (u - 1) t) (sum_to f (value i t)) 0 ≡ cond (eqb (u - 1) t) (sum_to f (value i (u - 1))) 0
+at_end i f u t =
+    elim (cases_eq (u - 1) t) [
+      | inl e ↦ ap (λ s. cond (eqb (u - 1) t) (sum_to f (value i s)) 0) (sym e)
+      | inr d ↦ let off : eqb (u - 1) t ≡ false = ne_eqb (u - 1) t d in rw off refl
+    ]
+
 -- the copies of vertex t + 1 that an edge takes
 edge-copies : (i : Network) (room : ℕ → ℕ) (p : Passage) (t k : ℕ) → IsNetwork i → AreOnes i room p → k < length i.edges → sum_to (λ c. cond (eqb ((instance_edge_at i k).u - 1) t)
     (sum_to (p.enter k c) (room k)) 0 + cond (eqb ((instance_edge_at i k).v - 1) t) (sum_to (λ l. p.leave k l c) (room k)) 0) (value i t) ≡ use_at i (passed i room p) (t + 1) k
@@ -104,39 +111,18 @@ edge-copies i room p t k net ones b =
     let r = room k in
     let E : ℕ → ℕ = λ c. sum_to (p.enter k c) r in
     let L : ℕ → ℕ = λ c. sum_to (λ l. p.leave k l c) r in
+    let x = slice_index (passed i room p) k in
     let one = first_gate i room p k net ones b in
     let two = second_gate i room p k net ones b in
     let count = passed-at i room p k b in
     let turned = sum_to-swap (p.leave k) r (value_v i k) in
+    let enters : sum_to E (value_u i k) ≡ x = omega (arith, count) in
+    let leaves : sum_to L (value_v i k) ≡ x = omega (arith, count, turned, one, two) in
+    let both = sum_to-add (λ c. cond (eqb (u - 1) t) (E c) 0) (λ c. cond (eqb (v - 1) t) (L c) 0) (value i t) in
+    let first = sum_to-cond (eqb (u - 1) t) E (value i t) ∙ at_end i E u t ∙ ap (λ y. cond (eqb (u - 1) t) y 0) enters in
+    let second = sum_to-cond (eqb (v - 1) t) L (value i t) ∙ at_end i L v t ∙ ap (λ y. cond (eqb (v - 1) t) y 0) leaves in
     let here = use-at i (passed i room p) t k net b in
-    let is = edge-ends i k net b in
-    let differ : u ≢ v = is.differ in
-    let u_low : 1 ≤ u = is.u_low in
-    let v_low : 1 ≤ v = is.v_low in
-    sum_to-add (λ c. cond (eqb (u - 1) t) (E c) 0) (λ c. cond (eqb (v - 1) t) (L c) 0) (value i t)
-    ∙ ap (λ x. x + sum_to (λ c. cond (eqb (v - 1) t) (L c) 0) (value i t)) (sum_to-cond (eqb (u - 1) t) E (value i t))
-    ∙ ap (λ x. cond (eqb (u - 1) t) (sum_to E (value i t)) 0 + x) (sum_to-cond (eqb (v - 1) t) L (value i t))
-    ∙ elim (cases_eq (u - 1) t) [
-      | inl e ↦
-          let on : eqb (u - 1) t ≡ true = eq-eqb (u - 1) t e in
-          let off : eqb (v - 1) t ≡ false = ne_eqb (v - 1) t (λ h. differ (omega arith)) in
-          let all : sum_to E (value i t) ≡ entered i room p k = ap (λ s. sum_to E (value i s)) (sym e) in
-          let whole : use_at i (passed i room p) (t + 1) k ≡ slice_index (passed i room p) k = here ∙ rw on refl in
-          rw (on, off) (omega (arith, all, count, whole))
-      | inr d ↦
-          let off : eqb (u - 1) t ≡ false = ne_eqb (u - 1) t d in
-          elim (cases_eq (v - 1) t) [
-            | inl e ↦
-                let on : eqb (v - 1) t ≡ true = eq-eqb (v - 1) t e in
-                let all : sum_to L (value i t) ≡ sum_to L (value_v i k) = ap (λ s. sum_to L (value i s)) (sym e) in
-                let whole : use_at i (passed i room p) (t + 1) k ≡ slice_index (passed i room p) k = here ∙ rw (off, on) refl in
-                rw (off, on) (omega (arith, all, count, whole, turned, one, two))
-            | inr d' ↦
-                let off' : eqb (v - 1) t ≡ false = ne_eqb (v - 1) t d' in
-                let none : use_at i (passed i room p) (t + 1) k ≡ 0 = here ∙ rw (off, off') refl in
-                rw (off, off') (sym none)
-          ]
-    ]
+    omega (arith, both, first, second, here)
 
 passed-degree : (i : Network) (room : ℕ → ℕ) (p : Passage) (t : ℕ) → IsNetwork i → AreOnes i room p → t < vertices i → degree (graph_of i) (passed i room p) (t + 1) ≡ value i t
 passed-degree i room p t net ones b =

@@ -1,7 +1,7 @@
--- The edges of the graph with gates lead from vertex to other vertex.
-use Rattle.std.proofs.Common.{ℕ, ◌+◌, ◌<◌, pos, Bool, true, false, inl, inr, arith, ◌++◌, length, All}
+-- The edges of the graph with gates lead from vertex to other vertex, and it is a graph.
+use Rattle.std.proofs.Common.{ℕ, ◌+◌, ◌<◌, pos, Bool, true, false, arith, ◌++◌, length, All}
 use Rattle.std.proofs.lemmas.List.Elements.{All-append}
-use Rattle.graph_theory.specs.Graph.{IsEdgeWithin, IsWeight, IsGraph}
+use Rattle.graph_theory.specs.Graph.{IsEdgeWithin, IsWeight, IsGraph, HasNoLoop}
 use Rattle.mb_problem.specs.declared.kind.Kind.TheVariants.{CapMatch, FFactor}
 use Rattle.mb_problem.specs.Network.{Network, IsNetwork, instance_edge_at}
 use Rattle.mb_problem.specs.Size.{value_u, value_v, size_of, room_of, unit_room_of}
@@ -12,6 +12,7 @@ use Rattle.graph_theory.specs.Limits.{IsWithinLimits}
 use Rattle.gadget_base.specs.Certified.{gadget_graph}
 use Rattle.gadget_base.proofs.Blocks.{All-blocks}
 use Rattle.gadget_base.proofs.Within.{copies-inside, rectangle-within, rectangle-weights, no_weight, graph_within_limits}
+use Rattle.gadget_base.proofs.NoLoop.{capped-no_loop}
 use Rattle.gadget_cap.specs.Capped.{capped_kind}
 use Rattle.gadget_cap.proofs.Sizes.{has_size, room-within}
 
@@ -29,9 +30,9 @@ gated-within i room k net b =
     let is = edge-ends i k net b in
     let at_u = copies-inside i (instance_edge_at i k).u is.u_low is.u_high in
     let at_v = copies-inside i (instance_edge_at i k).v is.v_low is.v_high in
-    let one = rectangle-within total us m before r w (omega (arith, all, at_u)) (omega (arith, all)) (inl (omega (arith, at_u))) in
-    let two = rectangle-within total before r (before + r) r (pos 0) (omega (arith, all)) (omega (arith, all)) (inl (omega arith)) in
-    let three = rectangle-within total (before + r) r vs n (pos 0) (omega (arith, all)) (omega (arith, all, at_v)) (inr (omega (arith, at_v))) in
+    let one = rectangle-within total us m before r w (omega (arith, all, at_u)) (omega (arith, all)) in
+    let two = rectangle-within total before r (before + r) r (pos 0) (omega (arith, all)) (omega (arith, all)) in
+    let three = rectangle-within total (before + r) r vs n (pos 0) (omega (arith, all)) (omega (arith, all, at_v)) in
     All-append (IsEdgeWithin total) (rectangle us m before r w) (rectangle before r (before + r) r (pos 0) ++ rectangle (before + r) r vs n (pos 0)) one
     (All-append (IsEdgeWithin total) (rectangle before r (before + r) r (pos 0)) (rectangle (before + r) r vs n (pos 0)) two three)
 
@@ -63,3 +64,8 @@ capped-graph true i net limits = graph_within_limits (size_of FFactor i) (gadget
     (capped-weights i (unit_room_of i) net)
 capped-graph false i net limits = graph_within_limits (size_of CapMatch i) (gadget_graph CapMatch i) (has_size false i) limits (capped-within i (room_of i) net)
     (capped-weights i (room_of i) net)
+
+-- .. without loops
+pub gates-no_loop : (unit : Bool) (i : Network) → IsNetwork i → HasNoLoop (gadget_graph (capped_kind unit) i)
+gates-no_loop true i net = capped-no_loop i (unit_room_of i) net
+gates-no_loop false i net = capped-no_loop i (room_of i) net

@@ -15,6 +15,7 @@ use Rattle.gadget_base.specs.Certified.{IsPerfectList}
 use Rattle.gadget_base.specs.Listed.{times, times_each}
 use Rattle.gadget_base.proofs.Blocks.{tabled-length}
 use Rattle.gadget_base.proofs.Listed.{perfect_from_list, weight_of_list}
+use Rattle.gadget_base.proofs.NoLoop.{capped-no_loop}
 use Rattle.gadget_cap.specs.Capped.{capped_kind, capped_room}
 use Rattle.gadget_cap.specs.Places.{gates_before, enters}
 use Rattle.gadget_cap.proofs.GateLemmas.{Passage, all_counts, entered}
@@ -33,7 +34,7 @@ listed-all i room es = passage-all i room (λ y. times es (y + 1))
 pub listed-ones : (i : Network) (room : ℕ → ℕ) (es : List ℕ) → IsNetwork i → IsPerfectList (capped_graph i room) es → AreOnes i room (listed i room es)
 listed-ones i room es net perfect =
     let counts : IsPerfect (capped_graph i room) (all_counts i room (listed i room es)) = subst (IsPerfect (capped_graph i room)) (listed-all i room es)
-    (perfect_from_list (capped_graph i room) es (capped-within i room net) perfect) in
+    (perfect_from_list (capped_graph i room) es (capped-within i room net) (capped-no_loop i room net) perfect) in
     counts.degrees
 
 pub listed-numbers : (i : Network) (room : ℕ → ℕ) (es : List ℕ) → IsPerfectList (capped_graph i room) es → All (λ e. (1 ≤ e) × (e ≤ gates_before i room (length i.edges))) es

@@ -49,7 +49,7 @@ pick-block size f p t c b =
 eqb_past : (b a q : ℕ) → eqb (b + a + 1) (q + 1) ≡ eqb (b + a) q
 eqb_past b a q = grind (arith, nat_tests)
 
-times_two_tests : (p q : Bool) (c : ℕ) → c * (cond p 1 0 + cond q 1 0) ≡ cond p c 0 + cond q c 0
+pub times_two_tests : (p q : Bool) (c : ℕ) → c * (cond p 1 0 + cond q 1 0) ≡ cond p c 0 + cond q c 0
 times_two_tests true true c = omega arith
 times_two_tests true false c = omega arith
 times_two_tests false true c = omega arith

@@ -1,12 +1,12 @@
 -- Each matching within the rooms has its perfect matching of the graph with gates.
-use Rattle.std.proofs.Common.{◌≡◌, ◌≢◌, ℕ, ◌+◌, ◌*◌, ◌-◌, ◌<◌, ◌≤◌, pos, ◌*ℤ◌, Bool, true, false, cond, eqb, refl, ap, sym, ◌∙◌, subst, inl, inr, arith, List, ◌++◌, length, slice_index, All}
-use Rattle.std.proofs.lemmas.Bool.{cases_eq, cases_lt, eq-eqb, ne_eqb}
+use Rattle.std.proofs.Common.{◌≡◌, ℕ, ◌+◌, ◌*◌, ◌-◌, ◌<◌, ◌≤◌, pos, ◌*ℤ◌, Bool, false, cond, eqb, refl, ap, sym, ◌∙◌, subst, inl, inr, arith, List, ◌++◌, length, slice_index, All}
+use Rattle.std.proofs.lemmas.Bool.{cases_Bool, cases_eq, cases_lt, ne_eqb, eqb-true}
 use Rattle.std.proofs.lemmas.List.Elements.{All-append}
 use Rattle.graph_theory.specs.Sums.{sum_to}
 use Rattle.graph_theory.specs.Graph.{degree, weight, IsPerfect}
 use Rattle.graph_theory.proofs.SumLemmas.{sum_to-same, int_sum_to-same, times-sum_to}
-use Rattle.mb_problem.specs.Network.{Network, IsNetwork, vertices, graph_of, instance_edge_at}
-use Rattle.mb_problem.specs.Size.{value_total, value_u, value_v}
+use Rattle.mb_problem.specs.Network.{Network, IsNetwork, vertices, graph_of, instance_edge_at, value_of}
+use Rattle.mb_problem.specs.Size.{value_total, value_u, value_v, is_loop_at}
 use Rattle.mb_problem.specs.Feasible.{IsBMatching}
 use Rattle.mb_problem.proofs.EdgeLemmas.{edge-ends}
 use Rattle.gadget_base.specs.Blocks.{tabled}
@@ -15,15 +15,20 @@ use Rattle.gadget_base.proofs.BlockSums.{IsIn, find_block}
 use Rattle.gadget_base.proofs.Blocks.{All-tabled, All-blocks}
 use Rattle.gadget_base.proofs.Over.{table}
 use Rattle.gadget_base.proofs.Units.{taken, units, taken-each, units-row, units-column, units-total}
-use Rattle.gadget_base.proofs.Used.{use_at, used, degree-used, weight-used, used-within_u, used-within_v}
-use Rattle.gadget_cap.proofs.UnitLemmas.{units-most, taken-two}
+use Rattle.gadget_base.proofs.Used.{use_at, used, degree-used, weight-used, used-within_u, used-within_v, used-within_loop}
+use Rattle.gadget_cap.proofs.UnitLemmas.{units-most, taken-append, taken-if, taken-two}
 use Rattle.gadget_cap.proofs.GateLemmas.{Passage, gate_counts, all_counts, all-one_each, value, below, entered, degree-copy, degree-first, degree-second, weight-by_entered}
-use Rattle.gadget_cap.proofs.Uses.{use-at}
+use Rattle.gadget_cap.proofs.Uses.{eqb_before, use-at}
 
 -- a matching that uses each edge at most as often as it has room
 pub record IsWithinRooms (i : Network) (room : ℕ → ℕ) (counts : List ℕ) : Type 0 where
   pub matching : IsBMatching i counts
   pub rooms : (k : ℕ) → k < length i.edges → slice_index counts k ≤ room k
+
+-- how many copies of vertex t are taken before the units of edge number k + 1 come to it as the second end: by the
+-- edges before, and, of a loop, by these units at its first end
+abbrev pub taken_before : Network → List ℕ → ℕ → ℕ → ℕ
+taken_before i counts k t = used i counts t k + cond (eqb (instance_edge_at i k).u t) (slice_index counts k) 0
 
 -- each unit of an edge goes from the next copy of its first end through the next place of both gates to the next copy
 -- of its second end; the places of the gates that are left are joined
@@ -31,7 +36,7 @@ abbrev pub through : Network → (ℕ → ℕ) → List ℕ → Passage
 through i room counts = record {
   enter = λ k. units (used i counts (instance_edge_at i k).u k) 0 (slice_index counts k);
   cross = λ k. units (slice_index counts k) (slice_index counts k) (room k - slice_index counts k);
-  leave = λ k. units 0 (used i counts (instance_edge_at i k).v k) (slice_index counts k);
+  leave = λ k. units 0 (taken_before i counts k (instance_edge_at i k).v) (slice_index counts k);
 }
 
 -- counts of at most one
@@ -45,7 +50,7 @@ through-most i room counts =
     (λ k _.
     let x = slice_index counts k in
     let su = used i counts (instance_edge_at i k).u k in
-    let sv = used i counts (instance_edge_at i k).v k in
+    let sv = taken_before i counts k (instance_edge_at i k).v in
     let r = room k in
     let one = table (units su 0 x) (value_u i k) r in
     let two = table (units x x (r - x)) r r in
@@ -54,11 +59,13 @@ through-most i room counts =
 
 -- the degrees
 
-cond_cond : (p q : Bool) (s : ℕ) (f : ℕ → ℕ) → (p ≡ true → q ≡ true → ⊥) → f 0 ≡ 0 → cond p (f s) 0 + cond q (f s) 0 ≡ f (cond p s (cond q s 0))
-cond_cond true true s f h none = absurd (h refl refl)
-cond_cond true false s f h none = omega arith
-cond_cond false true s f h none = omega arith
-cond_cond false false s f h none = sym none
+-- what the units at one end of an edge take of vertex t + 1, where f says how many of its copies are taken before
+taken-at_end : (f : ℕ → ℕ) (u t x c : ℕ) → 1 ≤ u → cond (eqb (u - 1) t) (taken (f u) x c) 0 ≡ taken (f (t + 1)) (cond (eqb (u - 1) t) x 0) c
+taken-at_end f u t x c low =
+    elim (cases_eq (u - 1) t) [
+      | inl e ↦ let at : u ≡ t + 1 = omega arith in ap (λ y. cond (eqb (u - 1) t) (taken (f y) x c) 0) at ∙ taken-if (eqb (u - 1) t) (f (t + 1)) x c
+      | inr d ↦ let off : eqb (u - 1) t ≡ false = ne_eqb (u - 1) t d in rw off refl
+    ]
 
 -- the copies of vertex t + 1 that an edge takes are the next ones of it
 copy-term : (i : Network) (room : ℕ → ℕ) (counts : List ℕ) (t c k : ℕ) → IsNetwork i → IsWithinRooms i room counts → k < length i.edges → cond (eqb ((instance_edge_at i k).u - 1) t)
@@ -70,40 +77,32 @@ copy-term i room counts t c k net answer b =
     let x = slice_index counts k in
     let r = room k in
     let small : x ≤ r = answer.rooms k b in
-    let row = units-row (used i counts u k) 0 x r c (omega arith) in
-    let column = units-column 0 (used i counts v k) x r c (omega arith) in
-    let here = use-at i counts t k net b in
     let is = edge-ends i k net b in
-    let differ : u ≢ v = is.differ in
-    let u_low : 1 ≤ u = is.u_low in
-    let v_low : 1 ≤ v = is.v_low in
-    ap (λ y. cond (eqb (u - 1) t) y 0 + cond (eqb (v - 1) t) (sum_to (λ l. units 0 (used i counts v k) x l c) r) 0) row
-    ∙ ap (λ y. cond (eqb (u - 1) t) (taken (used i counts u k) x c) 0 + cond (eqb (v - 1) t) y 0) column
-    ∙ elim (cases_eq (u - 1) t) [
-      | inl e ↦
-          let at : u ≡ t + 1 = omega arith in
-          let on : eqb (u - 1) t ≡ true = eq-eqb (u - 1) t e in
-          let off : eqb (v - 1) t ≡ false = ne_eqb (v - 1) t (λ h. differ (omega arith)) in
-          let all : use_at i counts (t + 1) k ≡ x = here ∙ rw on refl in
-          let same : taken (used i counts u k) x c ≡ taken (used i counts (t + 1) k) (use_at i counts (t + 1) k) c = ap (λ s. taken (used i counts s k) x c) at
-          ∙ ap (λ y. taken (used i counts (t + 1) k) y c) (sym all) in
-          rw (on, off) (omega (arith, same))
-      | inr d ↦
-          let off : eqb (u - 1) t ≡ false = ne_eqb (u - 1) t d in
-          elim (cases_eq (v - 1) t) [
-            | inl e ↦
-                let at : v ≡ t + 1 = omega arith in
-                let on : eqb (v - 1) t ≡ true = eq-eqb (v - 1) t e in
-                let all : use_at i counts (t + 1) k ≡ x = here ∙ rw (off, on) refl in
-                let same : taken (used i counts v k) x c ≡ taken (used i counts (t + 1) k) (use_at i counts (t + 1) k) c = ap (λ s. taken (used i counts s k) x c) at
-                ∙ ap (λ y. taken (used i counts (t + 1) k) y c) (sym all) in
-                rw (off, on) (omega (arith, same))
-            | inr d' ↦
-                let off' : eqb (v - 1) t ≡ false = ne_eqb (v - 1) t d' in
-                let all : use_at i counts (t + 1) k ≡ 0 = here ∙ rw (off, off') refl in
-                let same : taken (used i counts (t + 1) k) (use_at i counts (t + 1) k) c ≡ 0 = ap (λ y. taken (used i counts (t + 1) k) y c) all in
-                rw (off, off') (sym same)
-          ]
+    let s = used i counts (t + 1) k in
+    let first = cond (eqb (u - 1) t) x 0 in
+    let second = cond (eqb (v - 1) t) x 0 in
+    let row = ap (λ y. cond (eqb (u - 1) t) y 0) (units-row (used i counts u k) 0 x r c (omega arith)) in
+    let column = ap (λ y. cond (eqb (v - 1) t) y 0) (units-column 0 (taken_before i counts k v) x r c (omega arith)) in
+    let at_u = taken-at_end (λ y. used i counts y k) u t x c is.u_low in
+    let at_v = taken-at_end (taken_before i counts k) v t x c is.v_low in
+    let after : taken (taken_before i counts k (t + 1)) second c ≡ taken (s + first) second c = ap (λ (p : Bool). taken (s + cond p x 0) second c) (eqb_before u t is.u_low) in
+    let both = taken-append s first second c in
+    let all : taken s (use_at i counts (t + 1) k) c ≡ taken s (first + second) c = ap (λ y. taken s y c) (use-at i counts t k net b) in
+    omega (arith, row, column, at_u, at_v, after, both, all)
+
+-- there are copies for an edge at its second end, at a loop after those at its first
+copies-left : (i : Network) (counts : List ℕ) (k : ℕ) → IsNetwork i → IsBMatching i counts → k < length i.edges → taken_before i counts k (instance_edge_at i k).v + slice_index counts k
+    ≤ value_v i k
+copies-left i counts k net matching b =
+    let u = (instance_edge_at i k).u in
+    let v = (instance_edge_at i k).v in
+    let x = slice_index counts k in
+    elim (cases_Bool (is_loop_at i k)) [
+      | inl h ↦
+          let at_u = used-within_loop i counts k net matching b h in
+          let at_v = subst (λ y. used i counts y k + 2 * x ≤ value_of i y) (eqb-true u v h) at_u in
+          rw h (omega (arith, at_v))
+      | inr h ↦ let at_v = used-within_v i counts k net matching b in rw h (omega (arith, at_v))
     ]
 
 through-copy : (i : Network) (room : ℕ → ℕ) (counts : List ℕ) (t c : ℕ) → IsNetwork i → IsWithinRooms i room counts → t < vertices i → c < value i t
@@ -136,11 +135,11 @@ through-second : (i : Network) (room : ℕ → ℕ) (counts : List ℕ) (k j : �
 through-second i room counts k j net answer b l =
     let x = slice_index counts k in
     let r = room k in
-    let sv = used i counts (instance_edge_at i k).v k in
+    let sv = taken_before i counts k (instance_edge_at i k).v in
     let small : x ≤ r = answer.rooms k b in
     let split = degree-second i room (through i room counts) k j net b l in
     let one = units-column x x (r - x) r j (omega arith) in
-    let two = units-row 0 sv x (value_v i k) j (used-within_v i counts k net answer.matching b) in
+    let two = units-row 0 sv x (value_v i k) j (copies-left i counts k net answer.matching b) in
     let both = taken-two x (r - x) j (omega arith) in
     omega (arith, split, one, two, both)
 

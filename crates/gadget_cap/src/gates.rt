@@ -1,6 +1,6 @@
 ghost use Rattle.std.specs.Prelude.{◌≡◌, ℕ, ◌+◌, ◌*◌, ◌<◌, ◌≤◌, ◌^◌, ◌++◌, length, slice_index};
 ghost use Rattle.std.specs.Prelude.{OnOk, IfOk, pos};
-ghost use Rattle.graph_theory.specs.Graph.{IsGraph};
+ghost use Rattle.graph_theory.specs.Graph.{IsGraph, HasNoLoop};
 ghost use Rattle.mb_problem.specs.Network.{vertices, IsInstanceEdge};
 ghost use Rattle.mb_problem.specs.Size.{size_of, value_total};
 ghost use Rattle.gadget_base.specs.Blocks.{rectangle};
@@ -67,14 +67,16 @@ fn add_gates(
 /// Combinatorial Optimization A, chapters 32 and 33). Each vertex has as many copies as its value
 /// says. Each edge has two gates, with a vertex for each time that it can be used: the copies of
 /// its first end are joined to the first gate at the edge's weight, the first gate to the second at
-/// weight 0, and the second to the copies of the other end at weight 0. It takes time linear in the
-/// instance and the graph. `OutOfMemory` is its one error.
+/// weight 0, and the second to the copies of the other end at weight 0, which for a loop are those
+/// of the same end, so that each use of it takes two. It takes time linear in the instance and the
+/// graph. `OutOfMemory` is its one error.
 #[tactic(auto, using(crate::proofs::Sizes::has_size, crate::proofs::Reached::reached))]
 pub fn capped(alloc: Global, instance: &Instance, unit: bool) -> Result<Graph, OutOfMemory>
     requires limits { IsWithinLimits (size_of (capped_kind unit) instance.now) }
     ensures graph { IfOk result (λ h. h ≡ gadget_graph (capped_kind unit) instance.now) }
     ensures size { HasSize (size_of (capped_kind unit) instance.now)
         (gadget_graph (capped_kind unit) instance.now) }
+    ensures plain { IfOk result HasNoLoop }
     ensures reached { ReachesAll (capped_kind unit) instance.now }
 {
     let (vertices, _) = gadget_size(instance, kind_of(unit));

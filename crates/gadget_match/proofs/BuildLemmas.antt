@@ -1,20 +1,22 @@
 -- Lemmas on the graphs of an instance while they are built.
-use Rattle.std.proofs.Common.{◌≡◌, ℕ, ◌+◌, ◌*◌, ◌<◌, ◌≤◌, ◌^◌, ap, ◌∙◌, arith, List, length, slice_index, slice_index_or}
+use Rattle.std.proofs.Common.{◌≡◌, ℕ, ◌+◌, ◌-◌, ◌*◌, ◌/◌, ◌<◌, ◌≤◌, ◌^◌, ap, ◌∙◌, arith, List, length, slice_index, slice_index_or, cond, true, false}
 use Rattle.std.proofs.lemmas.List.{get_or_read}
 use Rattle.graph_theory.specs.Sums.{sum_to}
-use Rattle.graph_theory.specs.Graph.{Multigraph}
-use Rattle.graph_theory.proofs.SumLemmas.{sum_to-same}
+use Rattle.graph_theory.specs.Graph.{Multigraph, is_loop}
 use Rattle.mb_problem.specs.declared.instance.InstanceEdge.{InstanceEdge}
 use Rattle.mb_problem.specs.declared.kind.Kind.TheVariants.{Match, BMatch}
-use Rattle.mb_problem.specs.Network.{Network, vertices, instance_edge_at, value_of}
-use Rattle.mb_problem.specs.Size.{size_of, value_total, value_u, value_v}
+use Rattle.mb_problem.specs.Network.{Network, vertices, plain, instance_edge_at, value_of}
+use Rattle.mb_problem.specs.Size.{size_of, value_total, is_loop_at, link_count}
 use Rattle.gadget_base.specs.Blocks.{blocks}
-use Rattle.gadget_base.specs.Gadgets.{two_copies, pairs_of_copies}
+use Rattle.gadget_base.specs.Gadgets.{two_copies, pairs_of_copies, values_below}
+use Rattle.gadget_base.specs.Links.{links_below}
 use Rattle.gadget_base.specs.Starts.{AreStarts}
 use Rattle.graph_theory.specs.Limits.{IsWithinLimits}
-use Rattle.gadget_base.proofs.BlockSums.{sum_to-grows}
-use Rattle.gadget_base.proofs.Blocks.{blocks-length}
-use Rattle.gadget_base.proofs.Within.{pairs-length, pairs_of_copies-length}
+use Rattle.gadget_base.proofs.BlockSums.{sum_to-grows, sum_to-longer}
+use Rattle.gadget_base.proofs.Blocks.{blocks-length, rectangle-length}
+use Rattle.gadget_base.proofs.Grown.{clique-length}
+use Rattle.gadget_base.proofs.Within.{pairs-length, copies-size}
+use Rattle.gadget_match.specs.Copied.{pairs_between}
 
 -- there is room for two copies of one edge more
 pub room-twice : (i : Network) (g : Multigraph) (k : ℕ) → IsWithinLimits (size_of Match i) → g ≡ record {
@@ -22,9 +24,10 @@ pub room-twice : (i : Network) (g : Multigraph) (k : ℕ) → IsWithinLimits (si
   edges = blocks (two_copies i) k;
 } → k < length i.edges → (length g.edges + 2) < 2 ^ 32
 room-twice i g k limits is b =
-    let size : length g.edges ≡ 2 * k = ap (λ (h : Multigraph). length h.edges) is ∙ pairs-length i k in
-    let few : 2 * length i.edges + vertices i ≤ 1048576 = limits.edges in
-    omega (arith, size, few)
+    let size : length g.edges ≡ 2 * links_below i k = ap (λ (h : Multigraph). length h.edges) is ∙ pairs-length i k in
+    let grows = sum_to-longer (λ j. cond (is_loop_at i j) 0 1) k (length i.edges) (omega arith) in
+    let few : 2 * link_count i + vertices i ≤ 1048576 = limits.edges in
+    omega (arith, size, grows, few)
 
 -- there is room for the edges between the vertices and their copies
 pub room-join : (i : Network) (g : Multigraph) (n : ℕ) → IsWithinLimits (size_of Match i) → g ≡ record {
@@ -32,24 +35,32 @@ pub room-join : (i : Network) (g : Multigraph) (n : ℕ) → IsWithinLimits (siz
   edges = blocks (two_copies i) (length i.edges);
 } → n ≡ vertices i → (length g.edges + n) < 2 ^ 32
 room-join i g n limits is same =
-    let size : length g.edges ≡ 2 * length i.edges = ap (λ (h : Multigraph). length h.edges) is ∙ pairs-length i (length i.edges) in
-    let few : 2 * length i.edges + vertices i ≤ 1048576 = limits.edges in
+    let size : length g.edges ≡ 2 * link_count i = ap (λ (h : Multigraph). length h.edges) is ∙ pairs-length i (length i.edges) in
+    let few : 2 * link_count i + vertices i ≤ 1048576 = limits.edges in
     omega (arith, size, few, same)
 
-pub copies-length : (i : Network) (k : ℕ) → length (blocks (pairs_of_copies i) k) ≡ sum_to (λ j. value_u i j * value_v i j) k
-copies-length i k = blocks-length (pairs_of_copies i) k ∙ sum_to-same (λ j. length (pairs_of_copies i j)) (λ j. value_u i j * value_v i j) k (λ j _. pairs_of_copies-length i j)
+-- how many pairs of copies there are
+
+pub loop-pairs : (i : Network) (e : InstanceEdge) → is_loop (plain e) ≡ true → length (pairs_between i e) ≡ value_of i e.u * (value_of i e.u - 1) / 2
+loop-pairs i e h = rw h (clique-length (values_below i e.u) (value_of i e.u) e.w)
+
+pub link-pairs : (i : Network) (e : InstanceEdge) → is_loop (plain e) ≡ false → length (pairs_between i e) ≡ value_of i e.u * value_of i e.v
+link-pairs i e h = rw h (rectangle-length (values_below i e.u) (value_of i e.u) (values_below i e.v) (value_of i e.v) e.w)
 
 -- there is room for the pairs of copies of one edge more
 pub room-pairs : (i : Network) (g : Multigraph) (k : ℕ) (e : InstanceEdge) → IsWithinLimits (size_of BMatch i) → g ≡ record {
   vertices = value_total i;
   edges = blocks (pairs_of_copies i) k;
-} → k < length i.edges → e ≡ instance_edge_at i k → (length g.edges + value_of i e.u * value_of i e.v) < 2 ^ 32
+} → k < length i.edges → e ≡ instance_edge_at i k → (length g.edges + length (pairs_between i e)) < 2 ^ 32
 room-pairs i g k e limits is b here =
-    let size : length g.edges ≡ sum_to (λ j. value_u i j * value_v i j) k = ap (λ (h : Multigraph). length h.edges) is ∙ copies-length i k in
-    let at : value_of i e.u * value_of i e.v ≡ value_u i k * value_v i k = ap (λ (f : InstanceEdge). value_of i f.u * value_of i f.v) here in
-    let grows = sum_to-grows (λ j. value_u i j * value_v i j) k (length i.edges) b in
-    let few : sum_to (λ j. value_u i j * value_v i j) (length i.edges) ≤ 1048576 = limits.edges in
-    omega (arith, size, at, grows, few)
+    let size : length g.edges ≡ sum_to (λ j. length (pairs_of_copies i j)) k = ap (λ (h : Multigraph). length h.edges) is ∙ blocks-length (pairs_of_copies i) k in
+    let at : length (pairs_between i e) ≡ length (pairs_of_copies i k) = ap (λ (f : InstanceEdge). length (pairs_between i f)) here in
+    let grows = sum_to-grows (λ j. length (pairs_of_copies i j)) k (length i.edges) b in
+    let all = blocks-length (pairs_of_copies i) (length i.edges) in
+    let whole = copies-size i in
+    let count = whole.edges in
+    let few = limits.edges in
+    omega (arith, size, at, grows, all, count, few)
 
 -- the copies of all vertices end where those after the last would start
 pub start-total : (i : Network) (values starts : List ℕ) (n x : ℕ) → values ≡ i.values → AreStarts (λ k. slice_index values k) (length values) starts → n ≡ vertices i → x

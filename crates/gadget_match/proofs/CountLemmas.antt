@@ -1,16 +1,16 @@
 -- Lemmas on counting the edges of a list block by block.
-use Rattle.std.proofs.Common.{◌≡◌, ℕ, ◌+◌, ◌-◌, ◌*◌, ◌<◌, ◌≤◌, true, false, cond, eqb, refl, ap, sym, ◌∙◌, inl, inr, arith, List, [], ◌∷◌, ◌++◌, length, take, slice_index}
+use Rattle.std.proofs.Common.{◌≡◌, ℕ, ◌+◌, ◌-◌, ◌<◌, ◌≤◌, true, false, cond, eqb, refl, ap, sym, ◌∙◌, inl, inr, arith, List, [], ◌∷◌, ◌++◌, length, take, slice_index}
 use Rattle.std.proofs.lemmas.Bool.{cases_eq, cases_lt, eq-eqb, ne_eqb}
 use Rattle.std.proofs.lemmas.List.{get_or_append_left, get_or-append-add}
 use Rattle.graph_theory.specs.Sums.{sum_to}
 use Rattle.graph_theory.proofs.SumLemmas.{sum_to-same, sum_to-add, sum_to-more}
 use Rattle.mb_problem.specs.Network.{Network}
-use Rattle.mb_problem.specs.Size.{value_u, value_v}
+use Rattle.mb_problem.specs.Size.{copy_pairs}
 use Rattle.gadget_base.specs.Listed.{times}
 use Rattle.gadget_base.proofs.BlockSums.{sum_to-none, sum_to-grows, sum_to-hit}
 use Rattle.gadget_base.proofs.Times.{times-more}
 use Rattle.gadget_base.specs.Starts.{AreStarts}
-use Rattle.gadget_match.specs.Extracted.{pair_count, pairs_before, listed_pairs}
+use Rattle.gadget_match.specs.Extracted.{pairs_before, listed_pairs}
 
 -- a number lies in one block alone
 in_block : (size : ℕ → ℕ) (p k e : ℕ) → 1 ≤ e → sum_to size p ≤ e - 1 → e - 1 < sum_to size p + size p → sum_to (λ r. cond (eqb e (sum_to size k + r + 1)) 1 0) (size k) ≡ cond (eqb p k) 1 0
@@ -44,11 +44,11 @@ in_block size p k e low begun ends =
     ]
 
 -- one edge more is counted once, in its block
-pub listed-more : (i : Network) (starts edges : List ℕ) (n p k : ℕ) → AreStarts (pair_count i) (length i.edges) starts → n < length edges → 1 ≤ slice_index edges n → p < length i.edges
+pub listed-more : (i : Network) (starts edges : List ℕ) (n p k : ℕ) → AreStarts (copy_pairs i) (length i.edges) starts → n < length edges → 1 ≤ slice_index edges n → p < length i.edges
     → slice_index starts p ≤ slice_index edges n - 1 → slice_index edges n - 1 < slice_index starts (p + 1) → listed_pairs i (take (n + 1) edges) k ≡ listed_pairs i (take n edges) k + cond
     (eqb p k) 1 0
 listed-more i starts edges n p k are b low inside begun ends =
-    let size : ℕ → ℕ = pair_count i in
+    let size : ℕ → ℕ = copy_pairs i in
     let e = slice_index edges n in
     let from : slice_index starts p ≡ sum_to size p = are.each p (omega arith) in
     let to : slice_index starts (p + 1) ≡ sum_to size p + size p = are.each (p + 1) (omega arith) ∙ sum_to-more size p in
@@ -58,7 +58,7 @@ listed-more i starts edges n p k are b low inside begun ends =
     ∙ ap (λ x. listed_pairs i (take n edges) k + x) (in_block size p k e low (omega (arith, from, begun)) (omega (arith, to, ends)))
 
 pub listed-none : (i : Network) (k : ℕ) → listed_pairs i [] k ≡ 0
-listed-none i k = sum_to-none (λ r. times [] (pairs_before i k + r + 1)) (value_u i k * value_v i k) (λ r _. refl)
+listed-none i k = sum_to-none (λ r. times [] (pairs_before i k + r + 1)) (copy_pairs i k) (λ r _. refl)
 
 -- a list of the values of f with one more at the end
 pub pushed-each : (old new : List ℕ) (x n : ℕ) (f : ℕ → ℕ) → new ≡ old ++ x ∷ [] → length old ≡ n → ((k : ℕ) → k < n → slice_index old k ≡ f k) → x ≡ f n → (k : ℕ) → k < n + 1

@@ -1,104 +1,117 @@
 -- Each perfect matching of the doubled graph is a matching on either copy.
-use Rattle.std.proofs.Common.{◌≡◌, ℕ, ◌+◌, ◌-◌, ◌*◌, ◌<◌, ◌≤◌, ◌^◌, ℤ, pos, neg_ℤ, ◌+ℤ◌, ◌*ℤ◌, ◌≤ℤ◌, ◌<ℤ◌, int_lt, true, false, ap, ◌∙◌, arith, List, ◌∷◌, [], ◌++◌, length, slice_index}
+use Rattle.std.proofs.Common.{◌≡◌, ℕ, ◌+◌, ◌-◌, ◌*◌, ◌≤◌, ◌<◌, ℤ, pos, neg_ℤ, ◌+ℤ◌, ◌*ℤ◌, ◌≤ℤ◌, ◌<ℤ◌, int_lt, true, false, cond, ap, sym, ◌∙◌, arith, List, ◌∷◌, []}
+use Rattle.std.proofs.Common.{◌++◌, length, slice_index, All}
 use Rattle.std.proofs.lemmas.Int.{ints}
-use Rattle.graph_theory.specs.Sums.{sum_to, int_sum_to}
-use Rattle.graph_theory.specs.Graph.{ends_at, degree, weight}
+use Rattle.graph_theory.specs.Graph.{degree, weight}
 use Rattle.graph_theory.specs.Walk.{walk_weight}
-use Rattle.graph_theory.proofs.SumLemmas.{sum_to-same, int_sum_to-same}
-use Rattle.mb_problem.specs.Network.{Network, IsNetwork, vertices, plain, graph_of, instance_edge_at}
+use Rattle.mb_problem.specs.Network.{Network, IsNetwork, vertices, graph_of, plain_graph}
+use Rattle.mb_problem.specs.Size.{is_loop_at, link_count}
 use Rattle.mb_problem.specs.Feasible.{IsMatching}
-use Rattle.gadget_base.specs.Blocks.{blocks, tabled}
+use Rattle.gadget_base.specs.Blocks.{tabled}
 use Rattle.gadget_base.specs.Gadgets.{doubled_graph}
+use Rattle.gadget_base.specs.Links.{links_below}
 use Rattle.gadget_base.specs.Certified.{IsPerfectList}
 use Rattle.gadget_base.specs.Listed.{times, times_each}
-use Rattle.gadget_base.proofs.Blocks.{tabled-length, tabled-at, tabled-append, tabled-pairs, blocks-same, All-tabled}
+use Rattle.gadget_base.proofs.Blocks.{tabled-length, tabled-append, tabled-pairs, blocks-same, All-tabled}
 use Rattle.gadget_base.proofs.Within.{doubled-size, doubled-within}
-use Rattle.gadget_base.proofs.Used.{use_at, degree-used, weight-used}
+use Rattle.gadget_base.proofs.NoLoop.{doubled-no_loop}
+use Rattle.gadget_base.proofs.Links.{link_counts, blocks-links, tabled-links, with_loops-degree, with_loops-weight, with_loops-small}
 use Rattle.gadget_base.proofs.Listed.{perfect_from_list, times-small, weight_of_list, list-length}
 use Rattle.gadget_match.specs.Extracted.{copy_counts}
-use Rattle.gadget_match.proofs.DoubleLemmas.{on_copies, doubled-low, doubled-high, doubled-weight}
+use Rattle.gadget_match.proofs.DoubleLemmas.{two_counts, on_copies, doubled-low, doubled-high, doubled-weight}
+
+-- how often copy number c of edge number k + 1 is listed, if it is no loop
+abbrev pub copy_by : Network → List ℕ → ℕ → ℕ → ℕ
+copy_by i edges c k = times edges (2 * links_below i k + c)
 
 abbrev pub left_by : Network → List ℕ → ℕ → ℕ
-left_by i edges k = times edges (2 * length i.edges + k + 1)
+left_by i edges k = times edges (2 * link_count i + k + 1)
 
-blocks-next : (edges : List ℕ) (m : ℕ) → blocks (λ k. times edges (2 * k + 1) ∷ times edges (2 * k + 1 + 1) ∷ []) m ≡ blocks (λ k. times edges (2 * k + 1) ∷ times edges (2 * k + 2) ∷ []) m
-blocks-next edges m =
-    blocks-same (λ k. times edges (2 * k + 1) ∷ times edges (2 * k + 1 + 1) ∷ []) (λ k. times edges (2 * k + 1) ∷ times edges (2 * k + 2) ∷ []) m
-    (λ k _. ap (λ e. times edges (2 * k + 1) ∷ times edges e ∷ []) (let z : 2 * k + 1 + 1 ≡ 2 * k + 2 = omega arith in z))
+both_by : (i : Network) (edges : List ℕ) (k : ℕ) → cond (is_loop_at i k) [] (times edges (2 * links_below i k + 1) ∷ times edges (2 * links_below i k + 1 + 1) ∷ [])
+    ≡ two_counts i (copy_by i edges 1) (copy_by i edges 2) k
+both_by i edges k = ap (λ e. cond (is_loop_at i k) [] (times edges (2 * links_below i k + 1) ∷ times edges e ∷ [])) (let z : 2 * links_below i k + 1 + 1 ≡ 2 * links_below i k + 2 = omega
+    arith in z)
 
 -- the counts of the list, copy by copy
-pub listed-in_copies : (i : Network) (edges : List ℕ) → times_each (doubled_graph i) edges ≡ on_copies (λ k. times edges (2 * k + 1)) (λ k. times edges (2 * k + 2)) (left_by i edges)
-    (length i.edges) (vertices i)
+pub listed-in_copies : (i : Network) (edges : List ℕ) → times_each (doubled_graph i) edges ≡ on_copies i (copy_by i edges 1) (copy_by i edges 2) (left_by i edges)
 listed-in_copies i edges =
     let m = length i.edges in
     let n = vertices i in
     let f : ℕ → ℕ = λ k. times edges (k + 1) in
+    let g : ℕ → List ℕ = λ j. f (2 * j) ∷ f (2 * j + 1) ∷ [] in
     let size = doubled-size i in
     ap (tabled f) size.edges
-    ∙ tabled-append f (2 * m) n
-    ∙ ap (λ (xs : List ℕ). xs ++ tabled (left_by i edges) n) (tabled-pairs f m ∙ blocks-next edges m)
+    ∙ tabled-append f (2 * link_count i) n
+    ∙ ap (λ (xs : List ℕ). xs ++ tabled (left_by i edges) n)
+    (tabled-pairs f (link_count i)
+    ∙ blocks-links i g m
+    ∙ blocks-same (λ k. cond (is_loop_at i k) [] (g (links_below i k))) (two_counts i (copy_by i edges 1) (copy_by i edges 2)) m (λ k _. both_by i edges k))
 
-pub copy-degree : (i : Network) (edges : List ℕ) (c v : ℕ) → degree (graph_of i) (copy_counts i edges c) v ≡ sum_to (λ k. times edges (2 * k + c) * ends_at (plain (instance_edge_at i k)) v)
-    (length i.edges)
+copies-length : (i : Network) (edges : List ℕ) (c : ℕ) → length (tabled (λ k. times edges (2 * k + c)) (link_count i)) ≡ link_count i
+copies-length i edges c = tabled-length (λ k. times edges (2 * k + c)) (link_count i)
+
+pub copy-degree : (i : Network) (edges : List ℕ) (c v : ℕ) → degree (graph_of i) (copy_counts i edges c) v ≡ degree (plain_graph i) (link_counts i (copy_by i edges c)) v
 copy-degree i edges c v =
-    degree-used i (copy_counts i edges c) v
-    ∙ sum_to-same (use_at i (copy_counts i edges c) v) (λ k. times edges (2 * k + c) * ends_at (plain (instance_edge_at i k)) v) (length i.edges)
-    (λ k b. ap (λ x. x * ends_at (plain (instance_edge_at i k)) v) (tabled-at (λ k. times edges (2 * k + c)) (length i.edges) k 0 b))
+    let f : ℕ → ℕ = λ k. times edges (2 * k + c) in
+    with_loops-degree i (tabled f (link_count i)) v (copies-length i edges c) ∙ ap (λ (xs : List ℕ). degree (plain_graph i) xs v) (tabled-links i f)
 
-pub copy-weight : (i : Network) (edges : List ℕ) (c : ℕ) → weight (graph_of i) (copy_counts i edges c) ≡ int_sum_to (λ k. pos (times edges (2 * k + c)) *ℤ (instance_edge_at i k).w)
-    (length i.edges)
+pub copy-weight : (i : Network) (edges : List ℕ) (c : ℕ) → weight (graph_of i) (copy_counts i edges c) ≡ weight (plain_graph i) (link_counts i (copy_by i edges c))
 copy-weight i edges c =
-    weight-used i (copy_counts i edges c)
-    ∙ int_sum_to-same (λ k. pos (slice_index (copy_counts i edges c) k) *ℤ (instance_edge_at i k).w) (λ k. pos (times edges (2 * k + c)) *ℤ (instance_edge_at i k).w) (length i.edges)
-    (λ k b. ap (λ x. pos x *ℤ (instance_edge_at i k).w) (tabled-at (λ k. times edges (2 * k + c)) (length i.edges) k 0 b))
+    let f : ℕ → ℕ = λ k. times edges (2 * k + c) in
+    with_loops-weight i (tabled f (link_count i)) (copies-length i edges c) ∙ ap (weight (plain_graph i)) (tabled-links i f)
 
-copy-small : (i : Network) (edges : List ℕ) (c : ℕ) → IsNetwork i → IsPerfectList (doubled_graph i) edges → 1 ≤ c → c ≤ 2 → (k : ℕ) → k < length i.edges → times edges (2 * k + c) ≤ 1
+pub copy_counts-length : (i : Network) (edges : List ℕ) (c : ℕ) → length (copy_counts i edges c) ≡ length i.edges
+copy_counts-length i edges c = tabled-length (λ k. cond (is_loop_at i k) 0 (slice_index (tabled (λ k. times edges (2 * k + c)) (link_count i)) (links_below i k))) (length i.edges)
+
+copy-small : (i : Network) (edges : List ℕ) (c : ℕ) → IsNetwork i → IsPerfectList (doubled_graph i) edges → 1 ≤ c → c ≤ 2 → (k : ℕ) → k < link_count i → times edges (2 * k + c) ≤ 1
 copy-small i edges c network perfect low high k b =
     let size = doubled-size i in
     let many = size.edges in
     let place : 2 * k + c - 1 < length (doubled_graph i).edges = omega (arith, many, b, low, high) in
-    let small = times-small (doubled_graph i) edges (2 * k + c - 1) (doubled-within i network) perfect place in
+    let small = times-small (doubled_graph i) edges (2 * k + c - 1) (doubled-within i network) (doubled-no_loop i) perfect place in
     let back : 2 * k + c - 1 + 1 ≡ 2 * k + c = omega (arith, low) in
     let same = ap (times edges) back in
     omega (arith, small, same)
 
+copies-small : (i : Network) (edges : List ℕ) (c : ℕ) → IsNetwork i → IsPerfectList (doubled_graph i) edges → 1 ≤ c → c ≤ 2 → All (λ x. x ≤ 1) (copy_counts i edges c)
+copies-small i edges c network perfect low high =
+    let f : ℕ → ℕ = λ k. times edges (2 * k + c) in
+    with_loops-small i (tabled f (link_count i)) (copies-length i edges c) (All-tabled (λ x. x ≤ 1) f (link_count i) (copy-small i edges c network perfect low high))
+
+-- each vertex of the doubled graph has degree 1
+listed-degree : (i : Network) (edges : List ℕ) (v : ℕ) → IsNetwork i → IsPerfectList (doubled_graph i) edges → 1 ≤ v → v ≤ 2 * vertices i
+    → degree (doubled_graph i) (on_copies i (copy_by i edges 1) (copy_by i edges 2) (left_by i edges)) v ≡ 1
+listed-degree i edges v network perfect low high =
+    let p = perfect_from_list (doubled_graph i) edges (doubled-within i network) (doubled-no_loop i) perfect in
+    ap (λ (cs : List ℕ). degree (doubled_graph i) cs v) (sym (listed-in_copies i edges)) ∙ p.degrees v low high
+
 pub first-matching : (i : Network) (edges : List ℕ) → IsNetwork i → IsPerfectList (doubled_graph i) edges → IsMatching i (copy_counts i edges 1)
 first-matching i edges network perfect = record {
-  one_each = tabled-length (λ k. times edges (2 * k + 1)) (length i.edges);
-  at_most_once = All-tabled (λ c. c ≤ 1) (λ k. times edges (2 * k + 1)) (length i.edges) (copy-small i edges 1 network perfect (omega arith) (omega arith));
+  one_each = copy_counts-length i edges 1;
+  at_most_once = copies-small i edges 1 network perfect (omega arith) (omega arith);
   degrees = λ v low high.
-      let x : ℕ → ℕ = λ k. times edges (2 * k + 1) in
-      let y : ℕ → ℕ = λ k. times edges (2 * k + 2) in
-      let p = perfect_from_list (doubled_graph i) edges (doubled-within i network) perfect in
-      let one : degree (doubled_graph i) (times_each (doubled_graph i) edges) v ≡ 1 = p.degrees v low (omega (arith, high)) in
-      let same = ap (λ (cs : List ℕ). degree (doubled_graph i) cs v) (listed-in_copies i edges) in
-      let parts = doubled-low i x y (left_by i edges) v network low high in
+      let one = listed-degree i edges v network perfect low (omega (arith, high)) in
+      let parts = doubled-low i (copy_by i edges 1) (copy_by i edges 2) (left_by i edges) v network low high in
       let here = copy-degree i edges 1 v in
-      omega (arith, one, same, parts, here);
+      omega (arith, one, parts, here);
 }
 
 pub second-matching : (i : Network) (edges : List ℕ) → IsNetwork i → IsPerfectList (doubled_graph i) edges → IsMatching i (copy_counts i edges 2)
 second-matching i edges network perfect = record {
-  one_each = tabled-length (λ k. times edges (2 * k + 2)) (length i.edges);
-  at_most_once = All-tabled (λ c. c ≤ 1) (λ k. times edges (2 * k + 2)) (length i.edges) (copy-small i edges 2 network perfect (omega arith) (omega arith));
+  one_each = copy_counts-length i edges 2;
+  at_most_once = copies-small i edges 2 network perfect (omega arith) (omega arith);
   degrees = λ v low high.
-      let x : ℕ → ℕ = λ k. times edges (2 * k + 1) in
-      let y : ℕ → ℕ = λ k. times edges (2 * k + 2) in
-      let p = perfect_from_list (doubled_graph i) edges (doubled-within i network) perfect in
-      let one : degree (doubled_graph i) (times_each (doubled_graph i) edges) (v + vertices i) ≡ 1 = p.degrees (v + vertices i) (omega (arith, low)) (omega (arith, high)) in
-      let same = ap (λ (cs : List ℕ). degree (doubled_graph i) cs (v + vertices i)) (listed-in_copies i edges) in
-      let parts = doubled-high i x y (left_by i edges) v network low high in
+      let one = listed-degree i edges (v + vertices i) network perfect (omega (arith, low)) (omega (arith, high)) in
+      let parts = doubled-high i (copy_by i edges 1) (copy_by i edges 2) (left_by i edges) v network low high in
       let here = copy-degree i edges 2 v in
-      omega (arith, one, same, parts, here);
+      omega (arith, one, parts, here);
 }
 
 -- the copies together weigh minus the perfect matching
 pub copies-weigh : (i : Network) (edges : List ℕ) → IsPerfectList (doubled_graph i) edges → walk_weight (doubled_graph i) edges +ℤ (weight (graph_of i) (copy_counts i edges 1) +ℤ weight
     (graph_of i) (copy_counts i edges 2)) ≡ pos 0
 copies-weigh i edges perfect =
-    let x : ℕ → ℕ = λ k. times edges (2 * k + 1) in
-    let y : ℕ → ℕ = λ k. times edges (2 * k + 2) in
-    let sum = doubled-weight i x y (left_by i edges) in
+    let sum = doubled-weight i (copy_by i edges 1) (copy_by i edges 2) (left_by i edges) in
     let same = ap (weight (doubled_graph i)) (listed-in_copies i edges) in
     let walk = weight_of_list (doubled_graph i) edges perfect.numbers in
     let one = copy-weight i edges 1 in
@@ -106,11 +119,10 @@ copies-weigh i edges perfect =
     omega (arith, ints, sum, same, walk, one, two)
 
 -- a perfect matching has few edges
-pub double-few : (i : Network) (edges : List ℕ) → IsNetwork i → IsPerfectList (doubled_graph i) edges → length edges < 2 ^ 31
+pub double-few : (i : Network) (edges : List ℕ) → IsNetwork i → IsPerfectList (doubled_graph i) edges → length edges ≤ vertices i
 double-few i edges network perfect =
-    let size = list-length (doubled_graph i) edges (doubled-within i network) perfect in
-    let few = network.few_vertices in
-    omega (arith, size, few)
+    let size = list-length (doubled_graph i) edges (doubled-within i network) (doubled-no_loop i) perfect in
+    omega (arith, size)
 
 -- the copy that weighs more weighs at least half of both
 pub second-heavier : (walk a b : ℤ) → walk +ℤ (a +ℤ b) ≡ pos 0 → int_lt a b ≡ true → neg_ℤ walk ≤ℤ (pos 2 *ℤ b)

@@ -1,1 +1,2 @@
 pub mod Extracted
+pub mod Copied

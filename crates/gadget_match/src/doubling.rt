@@ -1,8 +1,8 @@
 ghost use Rattle.std.specs.Prelude.{◌≡◌, ℕ, ◌+◌, ◌-◌, ◌*◌, ◌<◌, ◌≤◌, ◌^◌, ◌++◌, ◌∷◌, [], length};
-ghost use Rattle.std.specs.Prelude.{OnOk, IfOk, pos, neg_ℤ};
-ghost use Rattle.graph_theory.specs.Graph.{IsGraph};
+ghost use Rattle.std.specs.Prelude.{OnOk, IfOk, pos, neg_ℤ, if◌then◌else◌};
+ghost use Rattle.graph_theory.specs.Graph.{IsGraph, HasNoLoop, is_loop};
 ghost use Rattle.mb_problem.specs.declared.kind.Kind.TheVariants.{Match};
-ghost use Rattle.mb_problem.specs.Network.{IsInstanceEdge, vertices};
+ghost use Rattle.mb_problem.specs.Network.{IsInstanceEdge, vertices, plain};
 ghost use Rattle.mb_problem.specs.Size.{size_of};
 ghost use Rattle.gadget_base.specs.Blocks.{blocks, tabled};
 ghost use Rattle.gadget_base.specs.Gadgets.{doubled_graph, two_copies};
@@ -14,20 +14,23 @@ use mb_problem::{Instance, InstanceEdge};
 use std::alloc::Global;
 use weighted_graph::Graph;
 
-/// Adds two copies of an edge with its weight turned round, the second `n` vertices further on.
+/// Adds two copies of an edge with its weight turned round, the second `n` vertices further on, or
+/// none of a loop.
 fn add_twice(graph: &mut Graph, edge: &InstanceEdge, n: u32) -> Result<(), OutOfMemory>
     requires vertices { graph.old.vertices ≡ 2 * n }
     requires room { length graph.old.edges + 2 < 2 ^ 32 }
     requires edge { IsInstanceEdge n edge.now }
     ensures added { OnOk result (graph.new ≡ record graph.old {
-      edges = graph.old.edges ++ (record {
+      edges = graph.old.edges ++ (if is_loop (plain edge.now) then [] else record {
         u = edge.now.u;
         v = edge.now.v;
         w = neg_ℤ edge.now.w;
       } ∷ record { u = edge.now.u + n; v = edge.now.v + n; w = neg_ℤ edge.now.w } ∷ []);
     }) }
-    ensures graph { IsGraph graph.new }
 {
+    if edge.u == edge.v {
+        return Ok(());
+    }
     graph.add(edge.u, edge.v, -edge.w)?;
     let u = VertexId::new(edge.u.number() + n);
     let v = VertexId::new(edge.v.number() + n);
@@ -35,7 +38,7 @@ fn add_twice(graph: &mut Graph, edge: &InstanceEdge, n: u32) -> Result<(), OutOf
     Ok(())
 }
 
-/// Adds two copies of each edge, with its weight turned round.
+/// Adds two copies of each edge that is no loop, with its weight turned round.
 fn add_edges_twice(graph: &mut Graph, instance: &Instance) -> Result<(), OutOfMemory>
     requires limits { IsWithinLimits (size_of Match instance.now) }
     requires start { graph.old ≡ record { vertices = 2 * vertices instance.now; edges = [] } }
@@ -43,7 +46,6 @@ fn add_edges_twice(graph: &mut Graph, instance: &Instance) -> Result<(), OutOfMe
       vertices = 2 * vertices instance.now;
       edges = blocks (two_copies instance.now) (length instance.now.edges);
     }) }
-    ensures graph { IsGraph graph.new }
 {
     let n = instance.vertices();
     prove!(graph.vertices() == 2 * n);
@@ -70,14 +72,15 @@ fn join_copies(graph: &mut Graph, n: u32) -> Result<(), OutOfMemory>
 }
 
 /// The graph in which a matching of greatest weight is a perfect matching of least weight: the
-/// graph of the instance twice with the weights turned round, and each vertex joined to its copy at
-/// weight 0 (Schrijver, Combinatorial Optimization, volume A, chapter 26). `gadget_size` says
-/// whether it is within the limits. It takes time linear in the instance. `OutOfMemory` is its one
-/// error.
+/// graph of the instance without its loops, which no matching has, twice with the weights turned
+/// round, and each vertex joined to its copy at weight 0 (Schrijver, Combinatorial Optimization,
+/// volume A, chapter 26). `gadget_size` says whether it is within the limits. It takes time linear
+/// in the instance. `OutOfMemory` is its one error.
 pub fn double(alloc: Global, instance: &Instance) -> Result<Graph, OutOfMemory>
     requires limits { IsWithinLimits (size_of Match instance.now) }
     ensures graph { IfOk result (λ h. h ≡ doubled_graph instance.now) }
     ensures size { HasSize (size_of Match instance.now) (doubled_graph instance.now) }
+    ensures plain { IfOk result HasNoLoop }
     ensures reached { ReachesAll Match instance.now }
 {
     let n = instance.vertices();

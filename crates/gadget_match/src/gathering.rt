@@ -5,33 +5,34 @@ ghost use Rattle.mb_problem.specs.declared.kind.Kind.TheVariants.{BMatch};
 ghost use Rattle.mb_problem.specs.declared.answer.Answer.TheVariants.{Counts};
 ghost use Rattle.mb_problem.specs.Feasible.{IsFeasible, weight_of};
 ghost use Rattle.mb_problem.specs.Network.{IsNetwork};
+ghost use Rattle.mb_problem.specs.Size.{copy_pairs};
 ghost use Rattle.gadget_base.specs.Gadgets.{copies_graph};
 ghost use Rattle.gadget_base.specs.Certified.{IsPerfectList};
 ghost use Rattle.gadget_base.specs.Starts.{AreStarts};
-ghost use Rattle.gadget_match.specs.Extracted.{pair_count, pairs_before, gathered};
+ghost use Rattle.gadget_match.specs.Extracted.{pairs_before, gathered};
 
 use gadget_base::{find_block, wide_starts};
 use mb_base::{EdgeId, OutOfMemory, Sequence};
-use mb_problem::{Answer, Instance};
+use mb_problem::{Answer, Instance, copy_pairs};
 use std::alloc::Global;
 
 /// How many edges of the graph stand for each edge of the instance.
 fn pair_counts(alloc: Global, instance: &Instance) -> Result<Vec<u32>, OutOfMemory>
     ensures size { IfOk result (λ counts. length counts.items ≡ length instance.now.edges) }
     ensures each { IfOk result (λ counts. (k : ℕ) → k < length instance.now.edges
-        → slice_index counts.items k ≡ pair_count instance.now k) }
+        → slice_index counts.items k ≡ copy_pairs instance.now k) }
     ensures network { IsNetwork instance.now }
 {
     let mut counts = Vec::with_capacity(alloc, instance.edges() as usize)?;
     for edge in instance.edge_list() {
-        counts.push(instance.value(edge.u) * instance.value(edge.v))?;
+        counts.push(copy_pairs(instance, edge) as u32)?;
     }
     Ok(counts)
 }
 
 /// How many edges of the graph stand before those of each edge of the instance, and at last all.
 fn pair_starts(alloc: Global, instance: &Instance) -> Result<Vec<u64>, OutOfMemory>
-    ensures starts { IfOk result (λ starts. AreStarts (pair_count instance.now)
+    ensures starts { IfOk result (λ starts. AreStarts (copy_pairs instance.now)
         (length instance.now.edges) starts.items) }
     ensures network { IsNetwork instance.now }
 {
@@ -54,7 +55,7 @@ fn add_one(counts: &mut [u32], place: usize)
 /// Counts how often edges of the graph that stand for each edge of the instance are listed. At the
 /// start all counts are 0.
 fn add_pairs(counts: &mut [u32], instance: &Instance, starts: &[u64], edges: &[EdgeId])
-    requires starts { AreStarts (pair_count instance.now) (length instance.now.edges) starts.now }
+    requires starts { AreStarts (copy_pairs instance.now) (length instance.now.edges) starts.now }
     requires numbers { All (λ e. (1 ≤ e)
         × (e ≤ pairs_before instance.now (length instance.now.edges))) edges.now }
     requires few { length edges.now < 2 ^ 31 }
@@ -75,7 +76,7 @@ fn count_pairs(
     starts: &[u64],
     edges: &[EdgeId],
 ) -> Result<Vec<u32>, OutOfMemory>
-    requires starts { AreStarts (pair_count instance.now) (length instance.now.edges) starts.now }
+    requires starts { AreStarts (copy_pairs instance.now) (length instance.now.edges) starts.now }
     requires numbers { All (λ e. (1 ≤ e)
         × (e ≤ pairs_before instance.now (length instance.now.edges))) edges.now }
     requires few { length edges.now < 2 ^ 31 }

@@ -9,10 +9,11 @@ ghost use Rattle.gadget_base.specs.Blocks.{tabled};
 ghost use Rattle.gadget_base.specs.Gadgets.{doubled_graph};
 ghost use Rattle.gadget_base.specs.Certified.{IsPerfectList};
 ghost use Rattle.gadget_base.specs.Listed.{times};
-ghost use Rattle.gadget_match.specs.Extracted.{heavier_copy};
+ghost use Rattle.gadget_match.specs.Extracted.{copy_counts, heavier_copy};
 
+use gadget_base::with_loops;
 use mb_base::{EdgeId, OutOfMemory, Sequence};
-use mb_problem::{Answer, Instance, Kind, weight};
+use mb_problem::{Answer, Instance, Kind, link_count, weight};
 use std::alloc::Global;
 
 /// Counts an edge of the graph, where it is copy number `copy`, 1 or 2, of an edge.
@@ -32,8 +33,8 @@ fn add_copy(counts: &mut [u32], edge: EdgeId, copy: u32)
     }
 }
 
-/// Counts how often copy number `copy`, 1 or 2, of each edge is listed. At the start all counts are
-/// 0.
+/// Counts how often copy number `copy`, 1 or 2, of each edge that has some is listed. At the start
+/// all counts are 0.
 fn add_copies(counts: &mut [u32], edges: &[EdgeId], copy: u32)
     requires first { 1 ≤ copy }
     requires last { copy ≤ 2 }
@@ -47,10 +48,10 @@ fn add_copies(counts: &mut [u32], edges: &[EdgeId], copy: u32)
     }
 }
 
-/// How often copy number `copy`, 1 or 2, of each of `m` edges is listed.
+/// How often copy number `copy`, 1 or 2, of each edge is listed; a loop has none.
 fn count_copies(
     alloc: Global,
-    m: usize,
+    instance: &Instance,
     edges: &[EdgeId],
     copy: u32,
 ) -> Result<Vec<u32>, OutOfMemory>
@@ -58,12 +59,12 @@ fn count_copies(
     requires last { copy ≤ 2 }
     requires numbers { All (λ e. 1 ≤ e) edges.now }
     requires few { length edges.now < 2 ^ 31 }
-    ensures { IfOk result (λ counts. counts.items
-        ≡ tabled (λ k. times edges.now (2 * k + copy)) m) }
+    ensures { IfOk result (λ counts. counts.items ≡ copy_counts instance.now edges.now copy) }
 {
-    let mut counts = vec![in alloc; 0u32; m]?;
+    let mut counts = vec![in alloc; 0u32; link_count(instance) as usize]?;
     add_copies(&mut counts, edges, copy);
-    Ok(counts)
+    let all = with_loops(alloc, instance, &counts)?;
+    Ok(all)
 }
 
 /// Whether the one answer weighs less than the other.
@@ -78,8 +79,8 @@ fn weighs_less(instance: &Instance, one: &Answer, other: &Answer) -> bool
 
 /// The matching that a perfect matching of the graph of `double` stands for, given as the numbers
 /// of its edges: what it is on the copy of the graph where it weighs more, and on the first where
-/// both weigh the same (Schrijver, Combinatorial Optimization, volume A, chapter 26). It takes time
-/// linear in the instance. `OutOfMemory` is its one error.
+/// both weigh the same, with each loop 0 times (Schrijver, Combinatorial Optimization, volume A,
+/// chapter 26). It takes time linear in the instance. `OutOfMemory` is its one error.
 pub fn extract_double(
     alloc: Global,
     instance: &Instance,
@@ -92,9 +93,9 @@ pub fn extract_double(
         (pos 2 *ℤ weight_of Match instance.now a)) }
     ensures answer { IfOk result (λ a. a ≡ Counts (heavier_copy instance.now edges.now)) }
 {
-    let m = instance.edges() as usize;
-    let first = Answer::Counts(Sequence::from_vec(count_copies(alloc, m, edges, 1)?));
-    let second = Answer::Counts(Sequence::from_vec(count_copies(alloc, m, edges, 2)?));
+    prove!(edges.len() <= instance.vertices() as usize);
+    let first = Answer::Counts(Sequence::from_vec(count_copies(alloc, instance, edges, 1)?));
+    let second = Answer::Counts(Sequence::from_vec(count_copies(alloc, instance, edges, 2)?));
     if weighs_less(instance, &first, &second) {
         Ok(second)
     } else {

@@ -1,5 +1,5 @@
 -- The edges of the instance in a perfect matching of the graph of ports are a join.
-use Rattle.std.proofs.Common.{◌≡◌, ℕ, ◌+◌, ◌-◌, ◌*◌, ◌/◌, ◌%◌, ◌<◌, ◌≤◌, Bool, cond, ap, sym, ◌∙◌, subst, inl, inr, arith, List, length, get_or, slice_index, All}
+use Rattle.std.proofs.Common.{◌≡◌, ℕ, ◌+◌, ◌-◌, ◌*◌, ◌/◌, ◌%◌, ◌<◌, ◌≤◌, pos, Bool, cond, ap, sym, ◌∙◌, subst, inl, inr, arith, List, length, get_or, slice_index, All}
 use Rattle.std.specs.List.{range_with_len}
 use Rattle.std.specs.List.Sorted.{IsStrictlyIncreasing}
 use Rattle.std.proofs.lemmas.Bool.{cases_eq}
@@ -26,7 +26,7 @@ use Rattle.gadget_tjoin.proofs.OneTerm.{sum_to-even}
 use Rattle.gadget_tjoin.proofs.Cliques.{pair, meets_group, all_clique, pair-meets_own, pair-meets_other}
 use Rattle.gadget_tjoin.proofs.Places.{here, degree-here, group_size, groups-apart, groups-before_or_after, link-meets}
 use Rattle.gadget_tjoin.proofs.Reached.{cliques, edges-size, link-here, clique-here, IsOddAt, ports-weight}
-use Rattle.gadget_tjoin.proofs.PortEdges.{ports-within}
+use Rattle.gadget_tjoin.proofs.PortEdges.{ports-within, ports-no_loop}
 
 times_even : (q a : ℕ) → a % 2 ≡ 0 → q * a % 2 ≡ 0
 times_even q a e =
@@ -42,7 +42,7 @@ clique-even i odd t =
     let before : ℕ → ℕ = λ s. ports_below i odd (s + 1) in
     let size : ℕ → ℕ = group_size i odd in
     let P : Edge → Type 0 = λ e. meets_group (before t) (size t) e % 2 ≡ 0 in
-    All-blocks P (λ s. clique (before s) (size s)) (vertices i)
+    All-blocks P (λ s. clique (before s) (size s) (pos 0)) (vertices i)
     (λ s b. all_clique P (before s) (size s)
     (λ a c l l'. elim (cases_eq s t) [
       | inl e ↦
@@ -108,7 +108,7 @@ pub record AreOwn (m : ℕ) (join matching : List ℕ) : Type 0 where
 own-times : (i : Network) (odd : ℕ → ℕ) (join matching : List ℕ) (k : ℕ) → IsNetwork i → AreOwn (length i.edges) join matching → IsPerfectList (ports_graph i odd) matching
     → k < length i.edges → times matching (k + 1) ≡ times join (k + 1)
 own-times i odd join matching k ok own perfect b =
-    let few = times-small (ports_graph i odd) matching k (ports-within i odd ok) perfect (omega (arith, edges-size i odd)) in
+    let few = times-small (ports_graph i odd) matching k (ports-within i odd ok) (ports-no_loop i odd ok) perfect (omega (arith, edges-size i odd)) in
     times-holds matching (k + 1) few
     ∙ ap (λ (t : Bool). cond {A = ℕ} t 1 0) (sym (own.exact k b))
     ∙ sym (ascending-times join (k + 1) own.ascending)
@@ -118,7 +118,7 @@ pub own-join : (i : Network) (odd : ℕ → ℕ) (join matching : List ℕ) → 
 own-join i odd join matching ok bit own perfect =
     let m = length i.edges in
     let g = ports_graph i odd in
-    back-join i odd (listed_counts join m) (times_each g matching) ok bit (perfect_from_list g matching (ports-within i odd ok) perfect)
+    back-join i odd (listed_counts join m) (times_each g matching) ok bit (perfect_from_list g matching (ports-within i odd ok) (ports-no_loop i odd ok) perfect)
     (listed-length join m)
     (All-map (λ c. c ≤ 1) (λ e. cond (holds join e) 1 0) (range_with_len 1 m) (λ k d b. test-small (holds join (get_or (range_with_len 1 m) k d))))
     (λ k b.

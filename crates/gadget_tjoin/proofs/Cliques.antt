@@ -27,10 +27,10 @@ others-parts f x n b =
     omega (arith, whole, split, front, own, back)
 
 -- at the place x of the group the edges count what x has with the others
-pub clique-others : (c : ℕ → ℕ → ℕ) (before n x : ℕ) → ((a b : ℕ) → c a b ≡ c b a) → x < n → over (at_vertex (before + x + 1)) (clique before n) (clique_table c n) ≡ to_others c x n
+pub clique-others : (c : ℕ → ℕ → ℕ) (before n x : ℕ) → ((a b : ℕ) → c a b ≡ c b a) → x < n → over (at_vertex (before + x + 1)) (clique before n (pos 0)) (clique_table c n) ≡ to_others c x n
 clique-others c before n x swap b =
     let turned = sum_to-same (λ a. c a x) (c x) x (λ a l. swap a x) in
-    omega (arith, clique-at c before n x b, turned, others-parts (c x) x n b)
+    omega (arith, clique-at c before n (pos 0) x b, turned, others-parts (c x) x n b)
 
 -- the edge of weight 0 between the places a and b of the group after `before`
 abbrev pub pair : ℕ → ℕ → ℕ → Edge
@@ -40,12 +40,12 @@ row-pairs : (before a n : ℕ) → row (before + a + 1) (before + a + 1) n (pos 
 row-pairs before a n = tabled-same (λ j. record { u = before + a + 1; v = before + a + 1 + j + 1; w = pos 0 }) (λ j. pair before a (a + 1 + j)) n
     (λ j b. ap (λ (x : ℕ). record { u = before + a + 1; v = x; w = pos 0 }) (let e : before + a + 1 + j + 1 ≡ before + (a + 1 + j) + 1 = omega arith in e))
 
-clique-pairs : (before n : ℕ) → clique before n ≡ blocks (λ a. tabled (λ j. pair before a (a + 1 + j)) (n - 1 - a)) n
+clique-pairs : (before n : ℕ) → clique before n (pos 0) ≡ blocks (λ a. tabled (λ j. pair before a (a + 1 + j)) (n - 1 - a)) n
 clique-pairs before n = blocks-same (λ a. row (before + a + 1) (before + a + 1) (n - 1 - a) (pos 0)) (λ a. tabled (λ j. pair before a (a + 1 + j)) (n - 1 - a)) n
     (λ a b. row-pairs before a (n - 1 - a))
 
 -- what holds of each pair
-pub all_clique : (P : Edge → Type 0) (before n : ℕ) → ((a b : ℕ) → a < b → b < n → P (pair before a b)) → All P (clique before n)
+pub all_clique : (P : Edge → Type 0) (before n : ℕ) → ((a b : ℕ) → a < b → b < n → P (pair before a b)) → All P (clique before n (pos 0))
 all_clique P before n h =
     subst (All P) (sym (clique-pairs before n))
     (All-blocks P (λ a. tabled (λ j. pair before a (a + 1 + j)) (n - 1 - a)) n

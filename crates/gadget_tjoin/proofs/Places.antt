@@ -1,20 +1,20 @@
 -- The ports of an instance: where they stand, and which vertices an edge between ports meets.
 use Rattle.std.proofs.Common.{◌≡◌, ◌⊎◌, ℕ, suc, ◌+◌, ◌-◌, ◌*◌, ◌<◌, ◌≤◌, Bool, true, false, cond, eqb, refl, ap, sym, ◌∙◌, inl, inr, arith, List, length, slice_index, replicate, All}
-use Rattle.std.proofs.lemmas.Bool.{cases_eq, cases_lt, cases_order, eq-eqb, ne_eqb}
+use Rattle.std.proofs.lemmas.Bool.{cases_eq, cases_order, eq-eqb, ne_eqb, false≢true}
 use Rattle.std.proofs.lemmas.List.{get_or-replicate, length-map}
 use Rattle.std.proofs.lemmas.List.Elements.{All-map}
 use Rattle.graph_theory.specs.Sums.{sum_to}
 use Rattle.graph_theory.specs.declared.edge.Edge.{Edge}
 use Rattle.graph_theory.specs.Graph.{IsEdgeWithin, edge_at, ends_at, degree}
 use Rattle.graph_theory.proofs.SumLemmas.{sum_to-same}
-use Rattle.graph_theory.proofs.Edges.{ends_at-u, ends_at-v}
+use Rattle.graph_theory.proofs.Edges.{ends_at-some, touches-u}
 use Rattle.mb_problem.specs.Network.{Network, IsNetwork, vertices, graph_of, plain, instance_edge_at, no_instance_edge}
-use Rattle.mb_problem.specs.Size.{edge_count_at, port_count}
+use Rattle.mb_problem.specs.Size.{edge_count_at, port_count, is_loop_at}
 use Rattle.mb_problem.proofs.EdgeLemmas.{edge_at-graph_of}
-use Rattle.gadget_base.specs.Gadgets.{ports_below, met_below, port_of, between_ports}
-use Rattle.gadget_base.proofs.BlockSums.{sum_to-none, sum_to-longer, find_block, sum_to-only, block-once, sum_to-grows}
+use Rattle.gadget_base.specs.Gadgets.{ports_below, met_below, between_ports}
+use Rattle.gadget_base.proofs.BlockSums.{sum_to-longer, find_block, block-once, sum_to-grows}
+use Rattle.gadget_base.proofs.Units.{taken, taken-total}
 use Rattle.gadget_tjoin.proofs.OneTerm.{one_if, one_if-same, one_if-other}
-use Rattle.gadget_tjoin.proofs.Ranks.{none_if_zero}
 use Rattle.gadget_tjoin.proofs.Cliques.{meets_group}
 
 -- the edge at a place, without its capacity
@@ -41,17 +41,29 @@ met-all i v =
     (λ k b. let one : slice_index (replicate (length i.edges) 1) k ≡ 1 = get_or-replicate (length i.edges) k 1 0 b in rw one (omega arith))
     ∙ sym (degree-here i (replicate (length i.edges) 1) v)
 
--- an edge's port is one of its vertex's
-pub met-room : (i : Network) (odd : ℕ → ℕ) (k v : ℕ) → k < length i.edges → 1 ≤ ends_at (here i k) v → met_below i v k < port_count i odd v
-met-room i odd k v b meets =
+-- an edge's ports are its vertex's: of a loop the next two
+pub met-room : (i : Network) (odd : ℕ → ℕ) (k v : ℕ) → k < length i.edges → met_below i v k + ends_at (here i k) v ≤ port_count i odd v
+met-room i odd k v b =
     let longer : met_below i v k + ends_at (here i k) v ≤ met_below i v (length i.edges) = sum_to-longer (λ j. ends_at (here i j) v) (suc k) (length i.edges) (omega arith) in
-    omega (arith, longer, met-all i v, meets)
+    omega (arith, longer, met-all i v)
 
-pub met-room_u : (i : Network) (odd : ℕ → ℕ) (k : ℕ) → IsNetwork i → k < length i.edges → met_below i (here i k).u k < port_count i odd (here i k).u
-met-room_u i odd k ok b = let e = ends_at-u (vertices i) (here i k) (within i k ok b) in met-room i odd k (here i k).u b (omega (arith, e))
+pub met-room_u : (i : Network) (odd : ℕ → ℕ) (k : ℕ) → k < length i.edges → met_below i (here i k).u k < port_count i odd (here i k).u
+met-room_u i odd k b =
+    let e = here i k in
+    omega (arith, met-room i odd k e.u b, ends_at-some e e.u (touches-u e))
 
-pub met-room_v : (i : Network) (odd : ℕ → ℕ) (k : ℕ) → IsNetwork i → k < length i.edges → met_below i (here i k).v k < port_count i odd (here i k).v
-met-room_v i odd k ok b = let e = ends_at-v (vertices i) (here i k) (within i k ok b) in met-room i odd k (here i k).v b (omega (arith, e))
+-- 1 for a loop
+abbrev pub beside : Network → ℕ → ℕ
+beside i k = cond (is_loop_at i k) 1 0
+
+beside_ends : (p q : Bool) → q ≡ true → cond {A = ℕ} p 1 0 + 1 ≤ cond p 1 0 + cond q 1 0
+beside_ends p true h = omega arith
+beside_ends p false h = absurd (false≢true h)
+
+pub met-room_v : (i : Network) (odd : ℕ → ℕ) (k : ℕ) → k < length i.edges → met_below i (here i k).v k + beside i k < port_count i odd (here i k).v
+met-room_v i odd k b =
+    let e = here i k in
+    omega (arith, met-room i odd k e.v b, beside_ends (eqb e.u e.v) (eqb e.v e.v) (eq-eqb e.v e.v refl))
 
 -- how many ports and spares vertex t + 1 has
 abbrev pub group_size : Network → (ℕ → ℕ) → ℕ → ℕ
@@ -80,16 +92,15 @@ group-of i odd n v low high =
     let r = find_block (group_size i odd) n (v - 1) (let e = before-is i odd n in omega (arith, e, low, high)) in
     (r.block, r.place, r.block_low, r.place_low, let e = before-is i odd r.block in let p = r.is in omega (arith, e, p, low))
 
--- whether a port is the place x of the group of vertex t + 1
-port-is : (i : Network) (odd : ℕ → ℕ) (k w t x : ℕ) → 1 ≤ w → met_below i w k < port_count i odd w → x < group_size i odd t
-    → one_if (eqb (port_of i odd k w) (ports_below i odd (t + 1) + x + 1)) ≡ cond (eqb w (t + 1)) (one_if (eqb (met_below i (t + 1) k) x)) 0
-port-is i odd k w t x low room in_group =
+-- whether the place m of the group of w is the place x of the group of vertex t + 1
+port-is : (i : Network) (odd : ℕ → ℕ) (w m t x : ℕ) → 1 ≤ w → m < port_count i odd w → x < group_size i odd t
+    → one_if (eqb (ports_below i odd w + m + 1) (ports_below i odd (t + 1) + x + 1)) ≡ cond (eqb w (t + 1)) (one_if (eqb m x)) 0
+port-is i odd w m t x low room in_group =
     let B = ports_below i odd (t + 1) in
-    let m = met_below i (t + 1) k in
     elim (cases_eq w (t + 1)) [
       | inl e ↦
           let on = eq-eqb w (t + 1) e in
-          let same : port_of i odd k w ≡ B + m + 1 = ap (port_of i odd k) e in
+          let same : ports_below i odd w + m + 1 ≡ B + m + 1 = ap (λ z. ports_below i odd z + m + 1) e in
           rw on
           (ap (λ (y : ℕ). one_if (eqb y (B + x + 1))) same
           ∙ elim (cases_eq m x) [
@@ -99,45 +110,71 @@ port-is i odd k w t x low room in_group =
       | inr d ↦
           let off = ne_eqb w (t + 1) d in
           let back : w - 1 + 1 ≡ w = omega arith in
-          let own : met_below i w k < group_size i odd (w - 1) = rw back room in
+          let own : m < group_size i odd (w - 1) = rw back room in
           let base : ports_below i odd w ≡ sum_to (group_size i odd) (w - 1) = refl in
           let there = before-is i odd t in
-          rw off (one_if-other (port_of i odd k w) (B + x + 1)
-          (λ e. d (let same : w - 1 ≡ t = block-once (group_size i odd) (w - 1) t (met_below i w k) x own in_group (omega (arith, e, base, there)) in omega (arith, same, low))))
+          rw off (one_if-other (ports_below i odd w + m + 1) (B + x + 1)
+          (λ e. d (let same : w - 1 ≡ t = block-once (group_size i odd) (w - 1) t m x own in_group (omega (arith, e, base, there)) in omega (arith, same, low))))
     ]
 
-either : (p q : Bool) (a : ℕ) → cond p a 0 + cond q a 0 ≡ (cond p 1 0 + cond q 1 0) * a
-either true true a = omega arith
-either true false a = omega arith
-either false true a = omega arith
-either false false a = omega arith
+taken-one : (s x : ℕ) → taken s 1 x ≡ one_if (eqb s x)
+taken-one s x = let here : one_if (eqb (s + 0) x) ≡ one_if (eqb s x) = ap (λ y. one_if (eqb y x)) (let e : s + 0 ≡ s = omega arith in e) in omega (arith, here)
 
--- an edge between ports is at the place x where the edge is at the vertex and x others came before it
+taken-two : (s x : ℕ) → taken s 2 x ≡ one_if (eqb s x) + one_if (eqb (s + 1) x)
+taken-two s x = omega (arith, taken-one s x)
+
+-- the two ports of an edge from u to v at the place x of the group of w, where m counts those taken before
+ports-at : (u v w x : ℕ) (m : ℕ → ℕ) → cond (eqb u w) (one_if (eqb (m u) x)) 0 + cond (eqb v w) (one_if (eqb (m v + cond (eqb u v) 1 0) x)) 0
+    ≡ taken (m w) (cond (eqb u w) 1 0 + cond (eqb v w) 1 0) x
+ports-at u v w x m =
+    elim (cases_eq u w) [
+      | inl e ↦ elim (cases_eq v w) [
+        | inl e' ↦
+            let on = eq-eqb u w e in
+            let on' = eq-eqb v w e' in
+            let both = eq-eqb u v (e ∙ sym e') in
+            let one : one_if (eqb (m u) x) ≡ one_if (eqb (m w) x) = ap (λ z. one_if (eqb (m z) x)) e in
+            let two : one_if (eqb (m v + 1) x) ≡ one_if (eqb (m w + 1) x) = ap (λ z. one_if (eqb (m z + 1) x)) e' in
+            rw (on, on', both) (omega (arith, one, two, taken-two (m w) x))
+        | inr d' ↦
+            let on = eq-eqb u w e in
+            let off' = ne_eqb v w d' in
+            let one : one_if (eqb (m u) x) ≡ one_if (eqb (m w) x) = ap (λ z. one_if (eqb (m z) x)) e in
+            rw (on, off') (omega (arith, one, taken-one (m w) x))
+      ]
+      | inr d ↦ elim (cases_eq v w) [
+        | inl e' ↦
+            let off = ne_eqb u w d in
+            let on' = eq-eqb v w e' in
+            let apart = ne_eqb u v (λ h. d (h ∙ e')) in
+            let two : one_if (eqb (m v + 0) x) ≡ one_if (eqb (m w) x) = ap (λ z. one_if (eqb z x)) (let z : m v + 0 ≡ m v = omega arith in z ∙ ap m e') in
+            rw (off, on', apart) (omega (arith, two, taken-one (m w) x))
+        | inr d' ↦
+            let off = ne_eqb u w d in
+            let off' = ne_eqb v w d' in
+            rw (off, off') refl
+      ]
+    ]
+
+-- an edge between ports is at the place x where the edge is at the vertex and x others came before it; a loop is at two places
 pub link-at : (i : Network) (odd : ℕ → ℕ) (k t x : ℕ) → IsNetwork i → k < length i.edges → x < group_size i odd t → ends_at (between_ports i odd k) (ports_below i odd (t + 1) + x + 1)
-    ≡ ends_at (here i k) (t + 1) * one_if (eqb (met_below i (t + 1) k) x)
+    ≡ taken (met_below i (t + 1) k) (ends_at (here i k) (t + 1)) x
 link-at i odd k t x ok b in_group =
     let e = here i k in
     let ends = within i k ok b in
-    let one = port-is i odd k e.u t x ends.u_low (met-room_u i odd k ok b) in_group in
-    let other = port-is i odd k e.v t x ends.v_low (met-room_v i odd k ok b) in_group in
-    let sum = either (eqb e.u (t + 1)) (eqb e.v (t + 1)) (one_if (eqb (met_below i (t + 1) k) x)) in
-    omega (arith, one, other, sum)
+    let there = ports_below i odd (t + 1) + x + 1 in
+    let m : ℕ → ℕ = λ w. met_below i w k in
+    let one = port-is i odd e.u (m e.u) t x ends.u_low (met-room_u i odd k b) in_group in
+    let other = port-is i odd e.v (m e.v + beside i k) t x ends.v_low (met-room_v i odd k b) in_group in
+    let next : one_if (eqb (between_ports i odd k).v there) ≡ one_if (eqb (ports_below i odd e.v + (m e.v + beside i k) + 1) there) = ap (λ y. one_if (eqb y there))
+    (let z : ports_below i odd e.v + m e.v + 1 + beside i k ≡ ports_below i odd e.v + (m e.v + beside i k) + 1 = omega arith in z) in
+    omega (arith, one, next, other, ports-at e.u e.v (t + 1) x m)
 
 -- it meets the group of a vertex as often as the edge meets the vertex
 pub link-meets : (i : Network) (odd : ℕ → ℕ) (k t : ℕ) → IsNetwork i → k < length i.edges → meets_group (ports_below i odd (t + 1)) (group_size i odd t) (between_ports i odd k)
     ≡ ends_at (here i k) (t + 1)
 link-meets i odd k t ok b =
-    let n = group_size i odd t in
-    let a = ends_at (here i k) (t + 1) in
     let m = met_below i (t + 1) k in
-    let parts = sum_to-same (λ x. ends_at (between_ports i odd k) (ports_below i odd (t + 1) + x + 1)) (λ x. a * one_if (eqb m x)) n (λ x l. link-at i odd k t x ok b l) in
-    elim (cases_lt 0 a) [
-      | inl some ↦
-          let only = sum_to-only (λ x. a * one_if (eqb m x)) m n (met-room i odd k (t + 1) b some) (λ x l d. let off = one_if-other m x (λ e. d (sym e)) in rw off (omega arith)) in
-          let on : a * one_if (eqb m m) ≡ a = let on = one_if-same m m refl in rw on (omega arith) in
-          omega (arith, parts, only, on)
-      | inr none ↦
-          let zero : a ≡ 0 = omega arith in
-          let nothing = sum_to-none (λ x. a * one_if (eqb m x)) n (λ x l. none_if_zero a (one_if (eqb m x)) zero) in
-          omega (arith, parts, nothing, zero)
-    ]
+    let a = ends_at (here i k) (t + 1) in
+    sum_to-same (λ x. ends_at (between_ports i odd k) (ports_below i odd (t + 1) + x + 1)) (taken m a) (group_size i odd t) (λ x l. link-at i odd k t x ok b l)
+    ∙ taken-total m a (group_size i odd t) (met-room i odd k (t + 1) b)

@@ -1,34 +1,33 @@
 -- Each join has its perfect matching of the graph of ports: its edges between their ports, and the
 -- free ports of each vertex, of which there is an even number, in pairs.
-use Rattle.std.proofs.Common.{◌≡◌, ℕ, ◌+◌, ◌-◌, ◌*◌, ◌%◌, ◌<◌, ◌≤◌, ℤ, pos, ◌*ℤ◌, ltb, eqb, refl, ap, sym, ◌∙◌, inl, inr, arith, List, ◌++◌, length, length-append, get_or, slice_index, All}
+use Rattle.std.proofs.Common.{◌≡◌, ℕ, ◌+◌, ◌-◌, ◌*◌, ◌%◌, ◌<◌, ◌≤◌, ℤ, pos, ◌*ℤ◌, refl, ap, sym, ◌∙◌, inl, inr, arith, List, ◌++◌, length, length-append, get_or, slice_index, All}
 use Rattle.std.proofs.lemmas.Int.{ints}
 use Rattle.std.proofs.lemmas.List.{get_or_append_left, get_or-append-add, length-map}
 use Rattle.std.proofs.lemmas.List.Elements.{All-append}
 use Rattle.graph_theory.specs.Sums.{sum_to, int_sum_to}
 use Rattle.graph_theory.specs.declared.edge.Edge.{Edge}
-use Rattle.graph_theory.specs.Graph.{no_edge, edge_at, touches, ends_at, degree, weight, IsPerfect}
+use Rattle.graph_theory.specs.Graph.{no_edge, edge_at, ends_at, degree, weight, IsPerfect}
 use Rattle.graph_theory.proofs.SumLemmas.{sum_to-same, sum_to-add, sum_to-swap, sum_to-le, sum_to-one, times-sum_to, int_sum_to-same, int_sum_to-append}
-use Rattle.graph_theory.proofs.Edges.{ends_at-touches}
 use Rattle.mb_problem.specs.Network.{Network, IsNetwork, vertices, graph_of, plain}
 use Rattle.mb_problem.specs.Size.{port_count}
 use Rattle.mb_problem.proofs.EdgeLemmas.{edge_at-graph_of}
-use Rattle.gadget_base.specs.Blocks.{blocks, tabled, row, clique}
+use Rattle.gadget_base.specs.Blocks.{blocks, tabled, clique}
 use Rattle.gadget_base.specs.Gadgets.{ports_below, between_ports, ports_graph}
-use Rattle.gadget_base.proofs.BlockSums.{int_sum_to-none, test-small, sum_to-only}
+use Rattle.gadget_base.proofs.BlockSums.{int_sum_to-none, sum_to-only}
 use Rattle.gadget_base.proofs.Blocks.{tabled-length, tabled-at, All-tabled, All-blocks}
 use Rattle.gadget_base.proofs.Over.{over, at_vertex, over-append, over-blocks, blocks-lengths}
-use Rattle.gadget_base.proofs.Degrees.{clique_table, clique-table, clique-none}
-use Rattle.gadget_tjoin.proofs.OneTerm.{one_if}
-use Rattle.gadget_tjoin.proofs.Ranks.{zero_or_one, once_of_rank, partners, partners-swap, partners-small, partners-each}
+use Rattle.gadget_base.proofs.Degrees.{clique_table, clique-lengths, clique-none}
+use Rattle.gadget_base.proofs.Units.{taken, taken-small}
+use Rattle.gadget_tjoin.proofs.Ranks.{zero_or_one, partners, partners-swap, partners-small, partners-each}
 use Rattle.gadget_tjoin.proofs.Cliques.{clique-others, all_clique}
-use Rattle.gadget_tjoin.proofs.Places.{here, within, degree-here, group_size, groups-before_or_after, group-of, link-at, link-meets}
+use Rattle.gadget_tjoin.proofs.Places.{here, degree-here, group_size, groups-before_or_after, group-of, link-at, link-meets}
 
 -- the edges between ports, and the cliques
 abbrev pub links : Network → (ℕ → ℕ) → List Edge
 links i odd = tabled (between_ports i odd) (length i.edges)
 
 abbrev pub cliques : Network → (ℕ → ℕ) → List Edge
-cliques i odd = blocks (λ k. clique (ports_below i odd (k + 1)) (port_count i odd (k + 1))) (vertices i)
+cliques i odd = blocks (λ k. clique (ports_below i odd (k + 1)) (port_count i odd (k + 1)) (pos 0)) (vertices i)
 
 pub links-size : (i : Network) (odd : ℕ → ℕ) → length (links i odd) ≡ length i.edges
 links-size i odd = tabled-length (between_ports i odd) (length i.edges)
@@ -43,9 +42,6 @@ pub clique-here : (i : Network) (odd : ℕ → ℕ) (k : ℕ) → edge_at (ports
 clique-here i odd k =
     ap (λ (n : ℕ). get_or (links i odd ++ cliques i odd) (n + k) no_edge) (sym (links-size i odd))
     ∙ get_or-append-add (links i odd) (cliques i odd) k no_edge
-
-clique-size : (c : ℕ → ℕ → ℕ) (before n : ℕ) → length (clique before n) ≡ length (clique_table c n)
-clique-size c before n = blocks-lengths (λ a. row (before + a + 1) (before + a + 1) (n - 1 - a) (pos 0)) (λ a. tabled (λ d. c a (a + d + 1)) (n - 1 - a)) n (λ a _. clique-table c before n a)
 
 -- how often the counted edges are at the place x of the group of vertex t + 1
 abbrev pub used : Network → (ℕ → ℕ) → List ℕ → ℕ → ℕ → ℕ
@@ -64,25 +60,17 @@ pub record IsOddAt (i : Network) (odd : ℕ → ℕ) (counts : List ℕ) : Type 
   pub small : All (λ c. c ≤ 1) counts
   pub parity : (v : ℕ) → 1 ≤ v → v ≤ vertices i → degree (graph_of i) counts v % 2 ≡ odd v
 
-times_small : (c a q : ℕ) → c ≤ 1 → c * (a * q) ≤ a * q
-times_small c a q h = elim (zero_or_one c h) [ inl e ↦ rw e (omega arith) | inr e ↦ rw e (omega arith) ]
-
-ends-small : (i : Network) (k v : ℕ) → IsNetwork i → k < length i.edges → ends_at (here i k) v ≤ 1
-ends-small i k v ok b =
-    let e = here i k in
-    let ends = within i k ok b in
-    let two = ends_at-touches (vertices i) e v ends in
-    omega (arith, two, test-small (touches e v))
+times_small : (c a : ℕ) → c ≤ 1 → c * a ≤ a
+times_small c a h = elim (zero_or_one c h) [ inl e ↦ rw e (omega arith) | inr e ↦ rw e (omega arith) ]
 
 used-small : (i : Network) (odd : ℕ → ℕ) (counts : List ℕ) (t x : ℕ) → IsNetwork i → length counts ≡ length i.edges → All (λ c. c ≤ 1) counts → x < group_size i odd t → used i odd counts t x
     ≤ 1
 used-small i odd counts t x ok size small in_group =
     let m = length i.edges in
     let a : ℕ → ℕ = λ k. ends_at (here i k) (t + 1) in
-    let below = sum_to-le (λ k. slice_index counts k * ends_at (between_ports i odd k) (ports_below i odd (t + 1) + x + 1)) (λ k. a k * one_if (eqb (sum_to a k) x)) m
-    (λ k b. let is = link-at i odd k t x ok b in_group in rw is (times_small (slice_index counts k) (a k) (one_if (eqb (sum_to a k) x)) (small k 0 (omega (arith, size))))) in
-    let once = once_of_rank a x m (λ k b. ends-small i k (t + 1) ok b) in
-    omega (arith, below, once, test-small (ltb x (sum_to a m)))
+    let below = sum_to-le (λ k. slice_index counts k * ends_at (between_ports i odd k) (ports_below i odd (t + 1) + x + 1)) (λ k. taken (sum_to a k) (a k) x) m
+    (λ k b. let is = link-at i odd k t x ok b in_group in rw is (times_small (slice_index counts k) (taken (sum_to a k) (a k) x) (small k 0 (omega (arith, size))))) in
+    omega (arith, below, taken-small a m x)
 
 -- the places of a group together
 pub used-total : (i : Network) (odd : ℕ → ℕ) (counts : List ℕ) (t : ℕ) → IsNetwork i → sum_to (used i odd counts t) (group_size i odd t) ≡ degree (graph_of i) counts (t + 1)
@@ -115,15 +103,15 @@ paired-degree i odd counts t x ok join b in_group =
     let F : Edge → ℕ → ℕ = at_vertex v in
     let size : ℕ → ℕ = group_size i odd in
     let c : ℕ → ℕ → ℕ → ℕ = λ s. partners (free i odd counts s) in
-    let f : ℕ → List Edge = λ s. clique (ports_below i odd (s + 1)) (size s) in
+    let f : ℕ → List Edge = λ s. clique (ports_below i odd (s + 1)) (size s) (pos 0) in
     let h : ℕ → List ℕ = λ s. clique_table (c s) (size s) in
     let split = over-append F (links i odd) (cliques i odd) counts (blocks h (vertices i)) (links-size i odd ∙ sym join.one_each) in
     let front = ap (sum_to (λ k. F (get_or (links i odd) k no_edge) (get_or counts k 0))) (links-size i odd)
     ∙ sum_to-same (λ k. F (get_or (links i odd) k no_edge) (get_or counts k 0)) (λ k. slice_index counts k * ends_at (between_ports i odd k) v) m
     (λ k l. ap (λ (e : Edge). F e (get_or counts k 0)) (tabled-at (between_ports i odd) m k no_edge l)) in
-    let back = over-blocks F f h (vertices i) (λ s _. clique-size (c s) (ports_below i odd (s + 1)) (size s))
+    let back = over-blocks F f h (vertices i) (λ s _. clique-lengths (c s) (ports_below i odd (s + 1)) (size s) (pos 0))
     ∙ sum_to-only (λ s. over F (f s) (h s)) t (vertices i) b
-    (λ s l d. clique-none (c s) (ports_below i odd (s + 1)) (size s) v
+    (λ s l d. clique-none (c s) (ports_below i odd (s + 1)) (size s) (pos 0) v
     (λ a l' e. elim (groups-before_or_after i odd s t d) [ inl h ↦ omega (arith, h, in_group, e) | inr h ↦ omega (arith, h, l', e) ]))
     ∙ clique-others (c t) (ports_below i odd (t + 1)) (size t) x (partners-swap (free i odd counts t)) in_group in
     let even = free-total i odd counts t ok join b in
@@ -141,8 +129,8 @@ paired-perfect i odd counts ok join =
     let size : ℕ → ℕ = group_size i odd in
     let c : ℕ → ℕ → ℕ → ℕ = λ s. partners (free i odd counts s) in
     let h : ℕ → List ℕ = λ s. clique_table (c s) (size s) in
-    let same : length (cliques i odd) ≡ length (blocks h (vertices i)) = blocks-lengths (λ s. clique (ports_below i odd (s + 1)) (size s)) h (vertices i)
-    (λ s _. clique-size (c s) (ports_below i odd (s + 1)) (size s)) in
+    let same : length (cliques i odd) ≡ length (blocks h (vertices i)) = blocks-lengths (λ s. clique (ports_below i odd (s + 1)) (size s) (pos 0)) h (vertices i)
+    (λ s _. clique-lengths (c s) (ports_below i odd (s + 1)) (size s) (pos 0)) in
     record {
       one_each = length-append counts (blocks h (vertices i)) ∙ (let one = join.one_each in let all = edges-size i odd in omega (arith, one, all, same));
       at_most_one = All-append (λ q. q ≤ 1) counts (blocks h (vertices i)) join.small
@@ -170,7 +158,7 @@ ports-weight i odd front counts same =
     let e : (edge_at g k).w ≡ (edge_at (graph_of i) k).w = ap (λ (x : Edge). x.w) (link-here i odd k b) ∙ sym (ap (λ (x : Edge). x.w) (edge_at-graph_of i k)) in
     let c = same k b in
     rw (e, c) refl) in
-    let nothing = All-blocks (λ e. e.w ≡ pos 0) (λ k. clique (ports_below i odd (k + 1)) (port_count i odd (k + 1))) (vertices i)
+    let nothing = All-blocks (λ e. e.w ≡ pos 0) (λ k. clique (ports_below i odd (k + 1)) (port_count i odd (k + 1)) (pos 0)) (vertices i)
     (λ k b. all_clique (λ e. e.w ≡ pos 0) (ports_below i odd (k + 1)) (port_count i odd (k + 1)) (λ a b l l'. refl)) in
     let rest = int_sum_to-none (λ k. term (m + k)) (length (cliques i odd))
     (λ k b. times_none (slice_index counts (m + k)) (edge_at g (m + k)).w (ap (λ (x : Edge). x.w) (clique-here i odd k) ∙ nothing k no_edge b)) in

@@ -1,5 +1,5 @@
 -- What the steps of the builder owe: sizes that fit, and the tables of the groups.
-use Rattle.std.proofs.Common.{◌≡◌, ℕ, ◌+◌, ◌-◌, ◌*◌, ◌/◌, ◌<◌, ◌≤◌, ◌^◌, ℤ, ap, sym, ◌∙◌, arith, List, [], ◌∷◌, ◌++◌, length, slice_index}
+use Rattle.std.proofs.Common.{◌≡◌, ℕ, ◌+◌, ◌-◌, ◌*◌, ◌/◌, ◌<◌, ◌≤◌, ◌^◌, pos, cond, ap, sym, subst, ◌∙◌, arith, List, [], ◌∷◌, ◌++◌, length, slice_index}
 use Rattle.graph_theory.specs.Sums.{sum_to}
 use Rattle.graph_theory.specs.declared.edge.Edge.{Edge}
 use Rattle.graph_theory.specs.declared.limits.TheConstants.{GRAPH_VERTEX_LIMIT}
@@ -7,15 +7,15 @@ use Rattle.graph_theory.specs.Graph.{Multigraph, ends_at}
 use Rattle.graph_theory.proofs.SumLemmas.{sum_to-same, sum_to-more}
 use Rattle.mb_problem.specs.declared.instance.InstanceEdge.{InstanceEdge}
 use Rattle.mb_problem.specs.Network.{Network, IsNetwork, vertices, plain, instance_edge_at}
-use Rattle.mb_problem.specs.Size.{port_count, ports_size}
+use Rattle.mb_problem.specs.Size.{port_count, ports_size, is_loop_at}
 use Rattle.gadget_base.specs.Blocks.{blocks, tabled, clique}
-use Rattle.gadget_base.specs.Gadgets.{ports_below, met_below, between_ports, ports_graph}
+use Rattle.gadget_base.specs.Gadgets.{ports_below, met_below, port_of, between_ports, ports_graph}
 use Rattle.graph_theory.specs.Limits.{IsWithinLimits}
 use Rattle.gadget_base.specs.Starts.{AreStarts}
 use Rattle.gadget_base.proofs.BlockSums.{sum_to-grows}
 use Rattle.gadget_base.proofs.Blocks.{tabled-length, tabled-more, blocks-length, blocks-same}
 use Rattle.gadget_base.proofs.Grown.{clique-length, grown-length}
-use Rattle.gadget_tjoin.specs.Groups.{AreGroups}
+use Rattle.gadget_tjoin.specs.Groups.{AreGroups, next_link}
 use Rattle.gadget_tjoin.proofs.Places.{here, within, group_size, before-is, groups-apart}
 use Rattle.gadget_tjoin.proofs.PortEdges.{link-within}
 
@@ -61,12 +61,13 @@ links-fit i odd g n k is = ap (λ (h : Multigraph). length h.edges) is ∙ table
 -- the cliques
 
 pub cliques-fit : (g h : Multigraph) (before sizes : List ℕ) (k : ℕ) → length g.edges + sum_to (λ k. slice_index sizes k * (slice_index sizes k - 1) / 2) (length sizes) < 2 ^ 32
-    → k < length sizes → h ≡ record g { edges = g.edges ++ blocks (λ j. clique (slice_index before j) (slice_index sizes j)) k } → length h.edges + slice_index sizes k *
+    → k < length sizes → h ≡ record g { edges = g.edges ++ blocks (λ j. clique (slice_index before j) (slice_index sizes j) (pos 0)) k } → length h.edges + slice_index sizes k *
     (slice_index sizes k - 1) / 2 < 2 ^ 32
 cliques-fit g h before sizes k room b is =
-    let f : ℕ → List Edge = λ j. clique (slice_index before j) (slice_index sizes j) in
+    let f : ℕ → List Edge = λ j. clique (slice_index before j) (slice_index sizes j) (pos 0) in
     let count : ℕ → ℕ = λ j. slice_index sizes j * (slice_index sizes j - 1) / 2 in
-    let so_far : length (blocks f k) ≡ sum_to count k = blocks-length f k ∙ sum_to-same (λ j. length (f j)) count k (λ j l. clique-length (slice_index before j) (slice_index sizes j)) in
+    let so_far : length (blocks f k) ≡ sum_to count k = blocks-length f k
+    ∙ sum_to-same (λ j. length (f j)) count k (λ j l. clique-length (slice_index before j) (slice_index sizes j) (pos 0)) in
     let now = grown-length g h (blocks f k) is in
     let grows = sum_to-grows count k (length sizes) b in
     omega (arith, so_far, now, grows, room)
@@ -89,26 +90,30 @@ groups-room i odd before sizes limits groups =
     let same = sum_to-same count (λ k. port_count i odd (k + 1) * (port_count i odd (k + 1) - 1) / 2) (vertices i) (λ k b. ap (λ (n : ℕ). n * (n - 1) / 2) (groups.sizes_are k b)) in
     omega (arith, most, whole, same)
 
-pub groups-cliques : (i : Network) (odd : ℕ → ℕ) (before sizes : List ℕ) → AreGroups i odd before sizes → blocks (λ k. clique (slice_index before k) (slice_index sizes k)) (length sizes)
-    ≡ blocks (λ k. clique (ports_below i odd (k + 1)) (port_count i odd (k + 1))) (vertices i)
+pub groups-cliques : (i : Network) (odd : ℕ → ℕ) (before sizes : List ℕ) → AreGroups i odd before sizes
+    → blocks (λ k. clique (slice_index before k) (slice_index sizes k) (pos 0)) (length sizes)
+    ≡ blocks (λ k. clique (ports_below i odd (k + 1)) (port_count i odd (k + 1)) (pos 0)) (vertices i)
 groups-cliques i odd before sizes groups =
-    let f : ℕ → List Edge = λ k. clique (slice_index before k) (slice_index sizes k) in
+    let f : ℕ → List Edge = λ k. clique (slice_index before k) (slice_index sizes k) (pos 0) in
     ap (blocks f) groups.one_size_each
-    ∙ blocks-same f (λ k. clique (ports_below i odd (k + 1)) (port_count i odd (k + 1))) (vertices i)
-    (λ k b. ap (λ (n : ℕ). clique n (slice_index sizes k)) (groups.before_are k (omega arith)) ∙ ap (clique (ports_below i odd (k + 1))) (groups.sizes_are k b))
+    ∙ blocks-same f (λ k. clique (ports_below i odd (k + 1)) (port_count i odd (k + 1)) (pos 0)) (vertices i)
+    (λ k b. ap (λ (n : ℕ). clique n (slice_index sizes k) (pos 0)) (groups.before_are k (omega arith))
+    ∙ ap (λ (n : ℕ). clique (ports_below i odd (k + 1)) n (pos 0)) (groups.sizes_are k b))
 
 -- the step of the loop over the edges
 
--- the next ports of an edge that was read
-pub next-ports : (i : Network) (odd : ℕ → ℕ) (next : List ℕ) (k : ℕ) (e : InstanceEdge) → IsNetwork i → k < length i.edges → e ≡ instance_edge_at i k → ((t : ℕ) → t < vertices i
-    → slice_index next t ≡ ports_below i odd (t + 1) + met_below i (t + 1) k) → (slice_index next (e.u - 1) + 1 ≡ (between_ports i odd k).u) × (slice_index next (e.v - 1) + 1
-    ≡ (between_ports i odd k).v)
-next-ports i odd next k e ok b is each =
+-- the edge between the next ports of an edge that was read
+pub next-link : (i : Network) (odd : ℕ → ℕ) (next : List ℕ) (k : ℕ) (e : InstanceEdge) → IsNetwork i → k < length i.edges → e ≡ instance_edge_at i k → ((t : ℕ) → t < vertices i
+    → slice_index next t ≡ ports_below i odd (t + 1) + met_below i (t + 1) k) → next_link next e ≡ between_ports i odd k
+next-link i odd next k e ok b is each =
     let ends = within i k ok b in
-    let port : ℕ → ℕ = λ w. slice_index next (w - 1) + 1 in
+    let w = (here i k).w in
+    let side = cond {A = ℕ} (is_loop_at i k) 1 0 in
     let at_u = next-at i odd next k (here i k).u ends.u_low ends.u_high each in
     let at_v = next-at i odd next k (here i k).v ends.v_low ends.v_high each in
-    (ap (λ (x : InstanceEdge). port x.u) is ∙ ap (λ (y : ℕ). y + 1) at_u, ap (λ (x : InstanceEdge). port x.v) is ∙ ap (λ (y : ℕ). y + 1) at_v)
+    ap (next_link next) is
+    ∙ ap (λ (x : ℕ). record { u = x + 1; v = slice_index next ((here i k).v - 1) + 1 + side; w = w }) at_u
+    ∙ ap (λ (x : ℕ). record { u = port_of i odd k (here i k).u; v = x + 1 + side; w = w }) at_v
 
 pub link-ends : (i : Network) (odd : ℕ → ℕ) (k : ℕ) → IsNetwork i → k < length i.edges → IsWithinLimits (ports_size i odd) → ((between_ports i odd k).u ≤ GRAPH_VERTEX_LIMIT)
     × ((between_ports i odd k).v ≤ GRAPH_VERTEX_LIMIT)
@@ -117,14 +122,14 @@ link-ends i odd k ok b limits =
     let few = few-ports i odd limits in
     (let high = ends.u_high in omega (arith, high, few), let high = ends.v_high in omega (arith, high, few))
 
--- the edge that is added
-pub added-link : (i : Network) (odd : ℕ → ℕ) (next : List ℕ) (k : ℕ) (e : InstanceEdge) → e ≡ instance_edge_at i k → (slice_index next (e.u - 1) + 1 ≡ (between_ports i odd k).u)
-    × (slice_index next (e.v - 1) + 1 ≡ (between_ports i odd k).v) → record { u = slice_index next (e.u - 1) + 1; v = slice_index next (e.v - 1) + 1; w = e.w } ≡ between_ports i odd k
-added-link i odd next k e is at =
-    let make : ℕ → ℕ → ℤ → Edge = λ u v w. record { u = u; v = v; w = w } in
-    ap (λ (x : ℕ). make x (slice_index next (e.v - 1) + 1) e.w) at.0
-    ∙ ap (λ (x : ℕ). make (between_ports i odd k).u x e.w) at.1
-    ∙ ap (make (between_ports i odd k).u (between_ports i odd k).v) (ap (λ (x : InstanceEdge). x.w) is)
+-- there are so few ports
+pub next-small : (i : Network) (odd : ℕ → ℕ) (next : List ℕ) (k : ℕ) (e : InstanceEdge) → IsNetwork i → k < length i.edges → IsWithinLimits (ports_size i odd) → next_link next e
+    ≡ between_ports i odd k → (slice_index next (e.u - 1) < GRAPH_VERTEX_LIMIT) × (slice_index next (e.v - 1) < GRAPH_VERTEX_LIMIT)
+next-small i odd next k e ok b limits same =
+    let most = link-ends i odd k ok b limits in
+    let high_u : (next_link next e).u ≤ GRAPH_VERTEX_LIMIT = subst (λ (x : Edge). x.u ≤ GRAPH_VERTEX_LIMIT) (sym same) most.0 in
+    let high_v : (next_link next e).v ≤ GRAPH_VERTEX_LIMIT = subst (λ (x : Edge). x.v ≤ GRAPH_VERTEX_LIMIT) (sym same) most.1 in
+    (omega (arith, high_u), omega (arith, high_v))
 
 pub grown-link : (f : ℕ → Edge) (h new : Multigraph) (n k : ℕ) (e : Edge) → h ≡ record { vertices = n; edges = tabled f k } → new ≡ record {
   vertices = h.vertices;
@@ -149,9 +154,9 @@ next-step i odd k t x y e is old new =
 pub filled-graph : (i : Network) (odd : ℕ → ℕ) (before sizes : List ℕ) (n : ℕ) (g h : Multigraph) → AreGroups i odd before sizes → n ≡ ports_below i odd (vertices i + 1) → g ≡ record {
   vertices = n;
   edges = tabled (between_ports i odd) (length i.edges);
-} → h ≡ record { vertices = g.vertices; edges = g.edges ++ blocks (λ k. clique (slice_index before k) (slice_index sizes k)) (length sizes) } → h ≡ ports_graph i odd
+} → h ≡ record { vertices = g.vertices; edges = g.edges ++ blocks (λ k. clique (slice_index before k) (slice_index sizes k) (pos 0)) (length sizes) } → h ≡ ports_graph i odd
 filled-graph i odd before sizes n g h groups size first second =
-    let f : ℕ → List Edge = λ k. clique (slice_index before k) (slice_index sizes k) in
+    let f : ℕ → List Edge = λ k. clique (slice_index before k) (slice_index sizes k) (pos 0) in
     let make : ℕ → List Edge → Multigraph = λ n es. record { vertices = n; edges = es } in
     second
     ∙ ap (λ (x : Multigraph). make x.vertices (x.edges ++ blocks f (length sizes))) first

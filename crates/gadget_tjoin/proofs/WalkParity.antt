@@ -1,8 +1,8 @@
 -- Walks and parity, in any graph: a walk is at its start and at its end an odd number of times where they
 -- differ, and else an even number; and a count that changes by an odd number turns the parity of the degrees
 -- at the two ends of its edge.
-use Rattle.std.proofs.Common.{◌≡◌, ℕ, ◌+◌, ◌*◌, ◌/◌, ◌%◌, ◌<◌, ◌≤◌, Bool, true, false, cond, eqb, ◌||◌, refl, ap, sym, ◌∙◌, subst, inl, inr, arith, List, [], ◌∷◌, length, slice_index, All}
-use Rattle.std.proofs.Common.{count_by}
+use Rattle.std.proofs.Common.{◌≡◌, ℕ, ◌+◌, ◌*◌, ◌/◌, ◌%◌, ◌<◌, ◌≤◌, true, false, cond, eqb, ◌||◌, refl, ap, sym, ◌∙◌, subst, inl, inr, arith, List, [], ◌∷◌, length, slice_index, All}
+use Rattle.std.proofs.Common.{sum_by}
 use Rattle.std.proofs.lemmas.Bool.{cases_eq, cases_Bool, eq-eqb, ne_eqb, eqb-true, or_cases, or_left, or_right, false≢true, true≢false, false_from_ne_true}
 use Rattle.std.proofs.lemmas.List.Sums.{sum_by-cons}
 use Rattle.graph_theory.specs.declared.edge.Edge.{Edge}
@@ -10,13 +10,13 @@ use Rattle.graph_theory.specs.Graph.{Multigraph, IsEdgeWithin, edge_at, edge_of,
 use Rattle.graph_theory.specs.Parts.{holds}
 use Rattle.graph_theory.specs.Walk.{IsWalk, walk_end, walk_vertices, AllDiffer}
 use Rattle.graph_theory.proofs.SumLemmas.{sum_to-add, sum_to-parity}
-use Rattle.graph_theory.proofs.Edges.{edge_of_within, ends_at-touches}
+use Rattle.graph_theory.proofs.Edges.{edge_of_within, ends_at-some}
 use Rattle.graph_theory.proofs.Members.{differ-tail, differ-head}
 use Rattle.graph_theory.proofs.Walks.{walk-numbers, start_held}
 use Rattle.gadget_base.specs.Listed.{times, times_each}
 use Rattle.gadget_base.proofs.BlockSums.{sum_to-hit}
 use Rattle.gadget_base.proofs.Times.{times-cons, not_held-times}
-use Rattle.gadget_base.proofs.Listed.{times_each-degree}
+use Rattle.gadget_base.proofs.Listed.{times_each-ends}
 use Rattle.gadget_tjoin.proofs.OneTerm.{one_if, one_if-same, one_if-other}
 
 -- an edge is at the end that a step leaves and at the one that it comes to
@@ -32,27 +32,20 @@ ends_of_step n e v x within meets =
           rw (off, at_v) (omega arith)
     ]
 
-count_by-cons : (p : ℕ → Bool) (e : ℕ) (es : List ℕ) → count_by p (e ∷ es) ≡ one_if (p e) + count_by p es
-count_by-cons p e es = sum_by-cons (λ x. cond (p x) 1 0) e es
-
-count-parity : (g : Multigraph) (v x : ℕ) (es : List ℕ) → All (IsEdgeWithin g.vertices) g.edges → IsWalk g v es → (count_by (λ e. touches (edge_of g e) x) es + one_if (eqb v x) + one_if
+ends-parity : (g : Multigraph) (v x : ℕ) (es : List ℕ) → All (IsEdgeWithin g.vertices) g.edges → IsWalk g v es → (sum_by (λ e. ends_at (edge_of g e) x) es + one_if (eqb v x) + one_if
     (eqb (walk_end g v es) x)) % 2 ≡ 0
-count-parity g v x [] ends walk = let twice : (0 + one_if (eqb v x) + one_if (eqb v x)) % 2 ≡ 0 = omega arith in twice
-count-parity g v x (e ∷ es) ends walk =
+ends-parity g v x [] ends walk = let twice : (0 + one_if (eqb v x) + one_if (eqb v x)) % 2 ≡ 0 = omega arith in twice
+ends-parity g v x (e ∷ es) ends walk =
     let edge = edge_of g e in
-    let within = edge_of_within g e ends walk.0 in
-    let rest = count-parity g (other_end edge v) x es ends walk.2 in
-    let more = count_by-cons (λ e. touches (edge_of g e) x) e es in
-    let both = ends_of_step g.vertices edge v x within walk.1 in
-    let here = ends_at-touches g.vertices edge x within in
-    omega (arith, rest, more, both, here)
+    let rest = ends-parity g (other_end edge v) x es ends walk.2 in
+    let more = sum_by-cons (λ f. ends_at (edge_of g f) x) e es in
+    let both = ends_of_step g.vertices edge v x (edge_of_within g e ends walk.0) walk.1 in
+    omega (arith, rest, more, both)
 
 -- a walk's degree at x, with 1 where x is its start and 1 where x is its end, is even
 pub walk-parity : (g : Multigraph) (v x : ℕ) (es : List ℕ) → All (IsEdgeWithin g.vertices) g.edges → IsWalk g v es → (degree g (times_each g es) x + one_if (eqb v x) + one_if
     (eqb (walk_end g v es) x)) % 2 ≡ 0
-walk-parity g v x es ends walk =
-    let same = times_each-degree g es x ends (walk-numbers g v es walk) in
-    omega (arith, same, count-parity g v x es ends walk)
+walk-parity g v x es ends walk = omega (arith, times_each-ends g es x (walk-numbers g v es walk), ends-parity g v x es ends walk)
 
 product-parity : (a b c : ℕ) → a % 2 ≡ b % 2 → a * c % 2 ≡ b * c % 2
 product-parity a b c e =
@@ -114,7 +107,7 @@ used_ends g v e x (f ∷ fs) ends walk used meets =
           let within = edge_of_within g f ends walk.0 in
           let own : touches (edge_of g f) x ≡ true = ap (λ (i : ℕ). touches (edge_of g i) x) (eqb-true f e here) ∙ meets in
           let both = ends_of_step g.vertices (edge_of g f) v x within walk.1 in
-          let one : ends_at (edge_of g f) x ≡ 1 = ends_at-touches g.vertices (edge_of g f) x within ∙ ap (λ (t : Bool). cond {A = ℕ} t 1 0) own in
+          let one = ends_at-some (edge_of g f) x own in
           elim (or_cases (eqb v x) (eqb w x) (one_of v w x (omega (arith, both, one)))) [
             | inl h ↦ or_left (eqb v x) later h
             | inr h ↦ or_right (eqb v x) later (let P : ℕ → Type 0 = λ y. holds (walk_vertices g w fs) y ≡ true in subst P (eqb-true w x h) (start_held g w fs))

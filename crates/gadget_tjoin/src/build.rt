@@ -1,4 +1,5 @@
 ghost use Rattle.std.specs.Prelude.{◌≡◌, IfOk};
+ghost use Rattle.graph_theory.specs.Graph.{HasNoLoop};
 ghost use Rattle.mb_problem.specs.Network.{Network, IsNetwork};
 ghost use Rattle.mb_problem.specs.Ready.{HasWeightsFromZero};
 ghost use Rattle.mb_problem.specs.Size.{ports_size, odd_at};
@@ -54,15 +55,17 @@ fn build(alloc: Global, instance: &Instance, parity: Parity) -> Result<Graph, Ou
 
 /// The graph in which the joins of this parity are perfect matchings: each vertex as one port for
 /// each edge at it, and a spare where the number of these and the parity that it asks for differ;
-/// each edge between its two ports, with its weight and number; and the ports of a vertex all
-/// joined, at weight 0 (Schrijver, Combinatorial Optimization, volume A, chapter 29). It takes time
-/// linear in the instance and the graph. `OutOfMemory` is its one error.
+/// each edge between its two ports, with its weight and number, so that a loop joins two ports of
+/// one vertex; and the ports of a vertex all joined, at weight 0 (Schrijver, Combinatorial
+/// Optimization, volume A, chapter 29). It takes time linear in the instance and the graph.
+/// `OutOfMemory` is its one error.
 pub fn ports(alloc: Global, instance: &Instance, parity: &Parity) -> Result<Graph, OutOfMemory>
     requires limits { IsWithinLimits (ports_size instance.now (odd_at parity.now instance.now)) }
     ensures graph { IfOk result (λ h. h
         ≡ ports_graph instance.now (odd_at parity.now instance.now)) }
     ensures size { HasSize (ports_size instance.now (odd_at parity.now instance.now))
         (ports_graph instance.now (odd_at parity.now instance.now)) }
+    ensures plain { IfOk result HasNoLoop }
     ensures reached { ReachesJoins parity.now instance.now }
     ensures tjoin { parity.now ≡ Values → ReachesAll TJoin instance.now }
     ensures postman { parity.now ≡ OddDegrees → HasWeightsFromZero instance.now

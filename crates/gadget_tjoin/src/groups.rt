@@ -1,5 +1,5 @@
-ghost use Rattle.std.specs.Prelude.{◌≡◌, ℕ, ◌+◌, ◌-◌, ◌*◌, ◌/◌, ◌%◌, ◌<◌, ◌≤◌, ◌^◌, ◌++◌, ◌==◌};
-ghost use Rattle.std.specs.Prelude.{if◌then◌else◌, length, slice_index, IfOk, OnOk};
+ghost use Rattle.std.specs.Prelude.{◌≡◌, ℕ, ◌+◌, ◌-◌, ◌*◌, ◌/◌, ◌%◌, ◌<◌, ◌≤◌, ◌^◌, ◌++◌, pos};
+ghost use Rattle.std.specs.Prelude.{length, slice_index, IfOk, OnOk};
 ghost use Rattle.graph_theory.specs.Sums.{sum_to};
 ghost use Rattle.mb_problem.specs.declared.limits.TheConstants.{EDGE_LIMIT};
 ghost use Rattle.mb_problem.specs.Network.{IsNetwork, vertices};
@@ -7,30 +7,14 @@ ghost use Rattle.mb_problem.specs.Size.{edge_count_at, port_count};
 ghost use Rattle.mb_problem.specs.Size.{odd_at};
 ghost use Rattle.gadget_base.specs.Blocks.{blocks, clique};
 
-use crate::links::take_ports;
 use gadget_base::add_clique;
 use mb_base::OutOfMemory;
-use mb_problem::{Instance, Parity, ports_by};
+use mb_problem::{Instance, Parity, count_edges, ports_by};
 use std::alloc::Global;
 use weighted_graph::Graph;
 
-/// Counts the edges at each vertex: as many as the ports that they take from 0 on.
-fn count_edges(counts: &mut [u32], instance: &Instance)
-    requires one_each { length counts.old ≡ vertices instance.now }
-    requires start { (k : ℕ) → k < length counts.old → slice_index counts.old k ≡ 0 }
-    ensures size { length counts.new ≡ length counts.old }
-    ensures each { (k : ℕ) → k < vertices instance.now → slice_index counts.new k
-        ≡ edge_count_at instance.now (k + 1) }
-    ensures small { (k : ℕ) → k < vertices instance.now → slice_index counts.new k
-        ≤ 2 * EDGE_LIMIT }
-{
-    for edge in instance.edge_list() {
-        take_ports(counts, edge);
-    }
-}
-
-/// How many edges meet each vertex.
-fn edge_counts(alloc: Global, instance: &Instance) -> Result<Vec<u32>, OutOfMemory>
+/// How many edges meet each vertex, a loop counted twice.
+fn edge_counts(alloc: Global, instance: &Instance) -> Result<Vec<u64>, OutOfMemory>
     ensures size { IfOk result (λ counts. length counts.items ≡ vertices instance.now) }
     ensures each { IfOk result (λ counts. (k : ℕ) → k < vertices instance.now
         → slice_index counts.items k ≡ edge_count_at instance.now (k + 1)) }
@@ -38,7 +22,7 @@ fn edge_counts(alloc: Global, instance: &Instance) -> Result<Vec<u32>, OutOfMemo
         → slice_index counts.items k ≤ 2 * EDGE_LIMIT) }
     ensures network { IsNetwork instance.now }
 {
-    let mut counts = vec![in alloc; 0u32; instance.vertices() as usize]?;
+    let mut counts = vec![in alloc; 0u64; instance.vertices() as usize]?;
     count_edges(&mut counts, instance);
     Ok(counts)
 }
@@ -58,7 +42,7 @@ pub fn group_sizes(
     let counts = edge_counts(alloc, instance)?;
     let mut sizes = Vec::with_capacity(alloc, counts.len())?;
     for (k, value) in instance.value_list().iter().enumerate() {
-        let ports = ports_by(parity, u64::from(counts[k]), *value);
+        let ports = ports_by(parity, counts[k], *value);
         sizes.push(ports as u32)?;
     }
     Ok(sizes)
@@ -74,11 +58,12 @@ pub fn add_cliques(graph: &mut Graph, before: &[u32], sizes: &[u32]) -> Result<(
         (length sizes.now) < 2 ^ 32 }
     ensures added { OnOk result (graph.new ≡ record graph.old {
       edges = graph.old.edges ++ blocks
-          (λ k. clique (slice_index before.now k) (slice_index sizes.now k)) (length sizes.now);
+          (λ k. clique (slice_index before.now k) (slice_index sizes.now k) (pos 0))
+          (length sizes.now);
     }) }
 {
     for (k, size) in sizes.iter().enumerate() {
-        add_clique(graph, before[k], *size)?;
+        add_clique(graph, before[k], *size, 0)?;
     }
     Ok(())
 }

@@ -1,4 +1,4 @@
-ghost use Rattle.std.specs.Prelude.{◌≡◌, ◌≢◌, ℕ, ◌+◌, ◌-◌, ◌<◌, ◌≤◌, ◌^◌, ◌==◌, if◌then◌else◌, []};
+ghost use Rattle.std.specs.Prelude.{◌≡◌, ℕ, ◌+◌, ◌-◌, ◌<◌, ◌≤◌, ◌^◌, ◌==◌, if◌then◌else◌, []};
 ghost use Rattle.std.specs.Prelude.{◌∷◌, ◌++◌, length, slice_index, OnOk};
 ghost use Rattle.graph_theory.specs.Graph.{IsEdgeWithin, IsWeight, ends_at};
 ghost use Rattle.mb_problem.specs.Network.{vertices, plain};
@@ -7,6 +7,7 @@ ghost use Rattle.mb_problem.specs.Size.{odd_at};
 ghost use Rattle.gadget_base.specs.Blocks.{tabled};
 ghost use Rattle.gadget_base.specs.Gadgets.{ports_below, between_ports, ports_graph};
 ghost use Rattle.graph_theory.specs.Limits.{IsWithinLimits};
+ghost use Rattle.gadget_tjoin.specs.Groups.{next_link};
 
 use mb_base::{OutOfMemory, VertexId};
 use mb_problem::{Instance, InstanceEdge, Parity};
@@ -16,7 +17,7 @@ use weighted_graph::Graph;
 fn take_port(next: &mut [u32], v: VertexId) -> VertexId
     requires low { 1 ≤ v }
     requires high { v ≤ length next.old }
-    requires small { slice_index next.old (v - 1) < 2 ^ 31 }
+    requires small { slice_index next.old (v - 1) ≤ 2 ^ 31 }
     ensures port { result ≡ slice_index next.old (v - 1) + 1 }
     ensures size { length next.new ≡ length next.old }
     ensures each { (k : ℕ) → k < length next.old → slice_index next.new k
@@ -27,17 +28,14 @@ fn take_port(next: &mut [u32], v: VertexId) -> VertexId
     VertexId::new(next[place])
 }
 
-/// The next ports of the two ends of an edge, which are taken.
-pub fn take_ports(next: &mut [u32], edge: &InstanceEdge) -> (VertexId, VertexId)
-    requires u_low { 1 ≤ edge.now.u }
-    requires u_high { edge.now.u ≤ length next.old }
-    requires v_low { 1 ≤ edge.now.v }
-    requires v_high { edge.now.v ≤ length next.old }
-    requires differ { edge.now.u ≢ edge.now.v }
+/// The next ports of the two ends of an edge, which are taken: two that follow one another for a
+/// loop.
+fn take_ports(next: &mut [u32], edge: &InstanceEdge) -> (VertexId, VertexId)
+    requires ends { IsEdgeWithin (length next.old) (plain edge.now) }
     requires small_u { slice_index next.old (edge.now.u - 1) < 2 ^ 31 }
     requires small_v { slice_index next.old (edge.now.v - 1) < 2 ^ 31 }
-    ensures u { result.0 ≡ slice_index next.old (edge.now.u - 1) + 1 }
-    ensures v { result.1 ≡ slice_index next.old (edge.now.v - 1) + 1 }
+    ensures u { result.0 ≡ (next_link next.old edge.now).u }
+    ensures v { result.1 ≡ (next_link next.old edge.now).v }
     ensures size { length next.new ≡ length next.old }
     ensures each { (k : ℕ) → k < length next.old → slice_index next.new k
         ≡ slice_index next.old k + ends_at (plain edge.now) (k + 1) }
@@ -49,26 +47,14 @@ pub fn take_ports(next: &mut [u32], edge: &InstanceEdge) -> (VertexId, VertexId)
 
 /// Adds an edge between the next ports of its ends, which are taken.
 fn add_link(graph: &mut Graph, edge: &InstanceEdge, next: &mut [u32]) -> Result<(), OutOfMemory>
-    requires u_low { 1 ≤ edge.now.u }
-    requires u_high { edge.now.u ≤ length next.old }
-    requires v_low { 1 ≤ edge.now.v }
-    requires v_high { edge.now.v ≤ length next.old }
-    requires differ { edge.now.u ≢ edge.now.v }
+    requires from { IsEdgeWithin (length next.old) (plain edge.now) }
     requires small_u { slice_index next.old (edge.now.u - 1) < 2 ^ 31 }
     requires small_v { slice_index next.old (edge.now.v - 1) < 2 ^ 31 }
     requires room { length graph.old.edges < 2 ^ 32 - 1 }
-    requires ends { IsEdgeWithin graph.old.vertices (record {
-      u = slice_index next.old (edge.now.u - 1) + 1;
-      v = slice_index next.old (edge.now.v - 1) + 1;
-      w = edge.now.w;
-    }) }
+    requires ends { IsEdgeWithin graph.old.vertices (next_link next.old edge.now) }
     requires weight { IsWeight edge.now.w }
     ensures added { OnOk result (graph.new ≡ record graph.old {
-      edges = graph.old.edges ++ record {
-        u = slice_index next.old (edge.now.u - 1) + 1;
-        v = slice_index next.old (edge.now.v - 1) + 1;
-        w = edge.now.w;
-      } ∷ [];
+      edges = graph.old.edges ++ next_link next.old edge.now ∷ [];
     }) }
     ensures size { length next.new ≡ length next.old }
     ensures each { (k : ℕ) → k < length next.old → slice_index next.new k

@@ -1,40 +1,53 @@
-use Rattle.std.proofs.Common.{◌≡◌, ◌<◌, ◌≤◌, ◌*◌, ◌/◌, List, ℕ, length, ap, sym, subst, ◌∙◌, arith}
+use Rattle.std.proofs.Common.{◌≡◌, ◌<◌, ◌≤◌, ◌+◌, ◌*◌, ◌/◌, List, ℕ, length, All, ap, sym, subst, ◌∙◌, arith}
 use Rattle.graph_theory.specs.Graph.{IsPerfect, weight}
 use Rattle.mb_problem.specs.declared.answer.Answer.TheVariants.{Counts}
-use Rattle.mb_problem.specs.Network.{graph_of, vertices}
-use Rattle.mb_problem.proofs.EdgeLemmas.{network-graph}
-use Rattle.gadget_base.specs.Listed.{times_each}
-use Rattle.gadget_base.proofs.Listed.{perfect_from_list, weight_of_list, list-length}
+use Rattle.mb_problem.specs.Network.{graph_of, plain_graph, vertices}
+use Rattle.gadget_base.specs.Links.{with_loops}
+use Rattle.gadget_base.specs.Listed.{times, times_each}
+use Rattle.gadget_base.proofs.Blocks.{tabled-length}
+use Rattle.gadget_base.proofs.Listed.{times_each-length, perfect_from_list, weight_of_list, list-length}
+use Rattle.gadget_base.proofs.NoLoop.{plain-no_loop}
+use Rattle.gadget_base.proofs.Links.{plain-length, plain-within, listed-links, with_loops-perfect, with_loops-weight}
 use Rattle.gadget_base.proofs.plain.extract_plain.Goals as goal
 
 pub prove-unreachable-requires : goal.prove-unreachable-requires
 prove-unreachable-requires c =
     let i = c.args.instance.now in
-    let twice : 2 * length c.args.edges.now ≡ vertices i = list-length (graph_of i) c.args.edges.now (network-graph i c.vertices.ensures.network).ends c.requires.perfect in
+    let twice : 2 * length c.args.edges.now ≡ vertices i = list-length (plain_graph i) c.args.edges.now (plain-within i c.vertices.ensures.network) (plain-no_loop i) c.requires.perfect in
     let count : c.vertices.result ≡ vertices i = c.vertices.ensures.count in
     let more : c.vertices.result / 2 < length c.args.edges.now = c.if-prove.true in
     omega (arith, twice, count, more)
 
-pub count_listed-requires-clause-few : goal.count_listed-requires-clause-few
-count_listed-requires-clause-few c =
+pub count_numbers-requires-clause-numbers : goal.count_numbers-requires-clause-numbers
+count_numbers-requires-clause-numbers c =
     let i = c.args.instance.now in
-    let few : vertices i ≤ 4096 = c.vertices.ensures.network.few_vertices in
-    let twice : 2 * length c.args.edges.now ≡ vertices i = list-length (graph_of i) c.args.edges.now (network-graph i c.vertices.ensures.network).ends c.requires.perfect in
-    omega arith
+    subst (λ (m : ℕ). All (λ e. (1 ≤ e) × (e ≤ m)) c.args.edges.now) (plain-length i ∙ sym c.link_count.ensures.count) c.requires.perfect.numbers
+
+pub with_loops-requires : goal.with_loops-requires
+with_loops-requires c =
+    let f : ℕ → ℕ = λ k. times c.args.edges.now (k + 1) in
+    ap (λ (xs : List ℕ). length xs) (c.deref.ensures.value ∙ c.in_ok-counts.ensures) ∙ tabled-length f c.link_count.result ∙ c.link_count.ensures.count
 
 pub returns-clause-counted : goal.returns-clause-counted
-returns-clause-counted c = ap Counts (c.from_vec.ensures ∙ c.in_ok-counts.ensures)
+returns-clause-counted c =
+    let i = c.args.instance.now in
+    let edges = c.args.edges.now in
+    ap Counts (c.from_vec.ensures ∙ c.in_ok-all.ensures
+    ∙ ap (with_loops i) (c.deref.ensures.value ∙ c.in_ok-counts.ensures ∙ listed-links i edges c.link_count.result c.link_count.ensures.count))
 
 pub returns-clause-feasible : goal.returns-clause-feasible
 returns-clause-feasible c =
     let i = c.args.instance.now in
     let edges = c.args.edges.now in
-    let is : c.from_vec.result ≡ times_each (graph_of i) edges = c.from_vec.ensures ∙ c.in_ok-counts.ensures in
-    subst (λ (xs : List ℕ). IsPerfect (graph_of i) xs) (sym is) (perfect_from_list (graph_of i) edges (network-graph i c.vertices.ensures.network).ends c.requires.perfect)
+    let listed = c.deref.ensures.value ∙ c.in_ok-counts.ensures ∙ listed-links i edges c.link_count.result c.link_count.ensures.count in
+    subst (λ (xs : List ℕ). IsPerfect (graph_of i) xs) (sym (c.from_vec.ensures ∙ c.in_ok-all.ensures ∙ ap (with_loops i) listed))
+    (with_loops-perfect i (times_each (plain_graph i) edges) (perfect_from_list (plain_graph i) edges (plain-within i c.vertices.ensures.network) (plain-no_loop i) c.requires.perfect))
 
 pub returns-clause-weighs : goal.returns-clause-weighs
 returns-clause-weighs c =
     let i = c.args.instance.now in
     let edges = c.args.edges.now in
-    let is : c.from_vec.result ≡ times_each (graph_of i) edges = c.from_vec.ensures ∙ c.in_ok-counts.ensures in
-    ap (weight (graph_of i)) is ∙ weight_of_list (graph_of i) edges c.requires.perfect.numbers
+    let listed = c.deref.ensures.value ∙ c.in_ok-counts.ensures ∙ listed-links i edges c.link_count.result c.link_count.ensures.count in
+    ap (weight (graph_of i)) (c.from_vec.ensures ∙ c.in_ok-all.ensures ∙ ap (with_loops i) listed)
+    ∙ with_loops-weight i (times_each (plain_graph i) edges) (times_each-length (plain_graph i) edges ∙ plain-length i)
+    ∙ weight_of_list (plain_graph i) edges c.requires.perfect.numbers

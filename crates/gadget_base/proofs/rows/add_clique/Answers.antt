@@ -1,6 +1,7 @@
-use Rattle.std.proofs.Common.{ℕ, ◌+◌, ◌-◌, List, pos, arith}
+use Rattle.std.proofs.Common.{rules, ◌≡◌, ℕ, ◌+◌, ◌-◌, ℤ, List, arith, to_z, of_z, w64, subst}
 use Rattle.graph_theory.specs.declared.edge.Edge.{Edge}
-use Rattle.gadget_base.specs.Blocks.{blocks, row}
+use Rattle.gadget_base.specs.Added.{AddsFirst}
+use Rattle.gadget_base.specs.Blocks.{blocks, row, clique}
 use Rattle.gadget_base.proofs.BlockSums.{sum_to-grows}
 use Rattle.gadget_base.proofs.Grown.{grown-length, cut-block, on_err, clique-rows, clique-length}
 use Rattle.gadget_base.proofs.rows.add_clique.Goals as goal
@@ -10,11 +11,12 @@ add_row-requires-clause-room c =
     let a = c.loop-a.a in
     let n = c.args.n in
     let before = c.args.before in
-    let f : ℕ → List Edge = λ a. row (before + a + 1) (before + a + 1) (n - 1 - a) (pos 0) in
+    let w = to_z w64 (of_z w64 c.args.w) in
+    let f : ℕ → List Edge = λ a. row (before + a + 1) (before + a + 1) (n - 1 - a) w in
     let size = grown-length c.args.graph.now c.loop-a.graph (blocks f a) c.loop-a.invariant.added in
-    let here = clique-rows before n a in
-    let all = clique-rows before n n in
-    let whole = clique-length before n in
+    let here = clique-rows before n w a in
+    let all = clique-rows before n w n in
+    let whole = clique-length before n w in
     let grows = sum_to-grows (λ j. n - 1 - j) a n (omega arith) in
     let room = c.requires.room in
     omega (arith, size, here, all, whole, grows, room)
@@ -23,6 +25,10 @@ pub returns-in_err-add_row-clause-cut_short : goal.returns-in_err-add_row-clause
 returns-in_err-add_row-clause-cut_short c =
     let n = c.args.n in
     let before = c.args.before in
-    on_err c.from_residual.result
-    (cut-block c.args.graph.now c.loop-a.graph c.add_row.new.graph (λ a. row (before + a + 1) (before + a + 1) (n - 1 - a) (pos 0)) c.loop-a.a n
-    (omega arith) c.loop-a.invariant.added c.in_err-add_row.ensures.cut_short)
+    let w = to_z w64 (of_z w64 c.args.w) in
+    let same : w ≡ c.args.w = search rules in
+    let old = c.args.graph.now in
+    let new = c.add_row.new.graph in
+    let P : ℤ → Type 0 = λ z. AddsFirst old new (clique before n z) in
+    on_err c.from_residual.result (subst P same (cut-block old c.loop-a.graph new (λ a. row (before + a + 1) (before + a + 1) (n - 1 - a) w) c.loop-a.a n (omega arith)
+    c.loop-a.invariant.added c.in_err-add_row.ensures.cut_short))

@@ -1,10 +1,10 @@
-use Rattle.std.proofs.Common.{◌≡◌, ◌-◌, ◌+◌, ◌++◌, pos}
+use Rattle.std.proofs.Common.{◌≡◌, ◌-◌, ◌+◌, ◌++◌}
 use Rattle.graph_theory.specs.Graph.{IsGraph}
 use Rattle.gadget_base.specs.Blocks.{blocks, row}
 use Rattle.gadget_base.proofs.rows.add_clique.Given as goal
 
 abbrev pub invariant-loop-a : goal.invariant-loop-a
 invariant-loop-a l = record {
-  added : l.graph ≡ record l.initial.graph { edges = l.initial.graph.edges ++ blocks (λ a. row (l.before + a + 1) (l.before + a + 1) (l.n - 1 - a) (pos 0)) l.a };
+  added : l.graph ≡ record l.initial.graph { edges = l.initial.graph.edges ++ blocks (λ a. row (l.before + a + 1) (l.before + a + 1) (l.n - 1 - a) l.w) l.a };
   graph : IsGraph l.graph;
 }

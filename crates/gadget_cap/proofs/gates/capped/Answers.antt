@@ -1,17 +1,20 @@
-use Rattle.std.proofs.Common.{◌≡◌, ◌<◌, refl, ap, sym, ◌∙◌, subst, arith, List, length, slice_index}
+use Rattle.std.proofs.Common.{rules, ◌≡◌, ◌<◌, refl, ap, sym, ◌∙◌, subst, arith, List, length, slice_index}
 use Rattle.graph_theory.specs.declared.edge.Edge.{Edge}
+use Rattle.graph_theory.specs.Graph.{HasNoLoop}
 use Rattle.mb_problem.specs.declared.instance.InstanceEdge.{InstanceEdge}
 use Rattle.mb_problem.specs.Network.{vertices, instance_edge_at}
 use Rattle.mb_problem.specs.Size.{capped_size}
 use Rattle.gadget_base.specs.Blocks.{blocks}
 use Rattle.gadget_base.specs.Gadgets.{before_gates, gated}
 use Rattle.graph_theory.specs.Limits.{IsWithinLimits}
+use Rattle.gadget_base.specs.Certified.{gadget_graph}
 use Rattle.gadget_base.specs.Starts.{AreStarts}
 use Rattle.gadget_base.proofs.StartLemmas.{starts_of}
 use Rattle.gadget_base.proofs.Within.{edge_here, place_here}
-use Rattle.gadget_cap.specs.Capped.{capped_room, room_at}
+use Rattle.gadget_cap.specs.Capped.{capped_kind, capped_room, room_at}
 use Rattle.gadget_cap.specs.Places.{gates_of}
 use Rattle.gadget_cap.proofs.Sizes.{size-is, room-is, gates-within, room-within}
+use Rattle.gadget_cap.proofs.Ends.{gates-no_loop}
 use Rattle.gadget_cap.proofs.gates.capped.Goals as goal
 
 pub add_gates-requires-clause-starts : goal.add_gates-requires-clause-starts
@@ -67,3 +70,9 @@ overflow_add-before c =
     let few = limits.vertices in
     let most = room-within i (capped_room unit i) k below in
     omega (arith, room, before, few, most)
+
+pub returns-clause-plain : goal.returns-clause-plain
+returns-clause-plain c =
+    let i = c.args.instance.now in
+    let same : c.loop-edge.graph ≡ gadget_graph (capped_kind c.args.unit) i = search rules in
+    subst HasNoLoop (sym same) (gates-no_loop c.args.unit i c.value_list.ensures.network)

@@ -1,5 +1,8 @@
-use Rattle.std.proofs.Common.{◌≡◌, ℕ, ◌<◌, [], length, arith, ap, ◌∙◌}
+use Rattle.std.proofs.Common.{rules, ◌≡◌, ℕ, ◌<◌, [], length, arith, ap, sym, subst, ◌∙◌}
+use Rattle.graph_theory.specs.Graph.{HasNoLoop}
 use Rattle.mb_problem.specs.Size.{value_total}
+use Rattle.gadget_base.specs.Gadgets.{copies_graph}
+use Rattle.gadget_base.proofs.NoLoop.{copies-no_loop}
 use Rattle.gadget_base.proofs.Within.{edge_here, copies-size}
 use Rattle.gadget_match.proofs.BuildLemmas.{room-pairs, start-total}
 use Rattle.gadget_match.proofs.CopyLemmas.{copies-reach}
@@ -13,6 +16,12 @@ returns-in_err-add_pairs-clause-size c = copies-size c.args.instance.now
 
 pub returns-clause-size : goal.returns-clause-size
 returns-clause-size c = copies-size c.args.instance.now
+
+pub returns-clause-plain : goal.returns-clause-plain
+returns-clause-plain c =
+    let i = c.args.instance.now in
+    let same : c.loop-edge.graph ≡ copies_graph i = search rules in
+    subst HasNoLoop (sym same) (copies-no_loop i c.value_list.ensures.network)
 
 pub loop-edge-init : goal.loop-edge-init
 loop-edge-init c =

@@ -8,4 +8,4 @@ add_twice-requires-clause-room c =
     let k = c.loop-edge.edge-index in
     let same = ap length c.edge_list-edge-items.ensures.list in
     let below : k < length i.edges = omega (arith, same) in
-    room-twice i c.loop-edge.graph k c.requires.limits c.loop-edge.invariant.added below
+    room-twice i c.loop-edge.graph k c.requires.limits c.loop-edge.invariant below

@@ -1,12 +1,8 @@
 use Rattle.std.proofs.Common.{◌≡◌, ◌*◌}
-use Rattle.graph_theory.specs.Graph.{IsGraph}
 use Rattle.mb_problem.specs.Network.{vertices}
 use Rattle.gadget_base.specs.Blocks.{blocks}
 use Rattle.gadget_base.specs.Gadgets.{two_copies}
 use Rattle.gadget_match.proofs.doubling.add_edges_twice.Given as goal
 
 abbrev pub invariant-loop-edge : goal.invariant-loop-edge
-invariant-loop-edge l = record {
-  added : l.graph ≡ record { vertices = 2 * vertices l.instance; edges = blocks (two_copies l.instance) l.edge-index };
-  graph : IsGraph l.graph;
-}
+invariant-loop-edge l = l.graph ≡ record { vertices = 2 * vertices l.instance; edges = blocks (two_copies l.instance) l.edge-index }

@@ -25,5 +25,4 @@ add-requires-clause-ends c =
       u_high = omega (arith, u, same, twice);
       v_low = omega (arith, v);
       v_high = omega (arith, v, same, twice);
-      differ = λ e. omega (arith, u, v, e);
     }

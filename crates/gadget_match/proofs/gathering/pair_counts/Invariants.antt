@@ -1,9 +1,9 @@
 use Rattle.std.proofs.Common.{◌≡◌, ℕ, ◌<◌, length, slice_index}
-use Rattle.gadget_match.specs.Extracted.{pair_count}
+use Rattle.mb_problem.specs.Size.{copy_pairs}
 use Rattle.gadget_match.proofs.gathering.pair_counts.Given as goal
 
 abbrev pub invariant-loop-edge : goal.invariant-loop-edge
 invariant-loop-edge l = record {
   size : length l.counts.items ≡ l.edge-index;
-  each : (k : ℕ) → k < l.edge-index → slice_index l.counts.items k ≡ pair_count l.instance k;
+  each : (k : ℕ) → k < l.edge-index → slice_index l.counts.items k ≡ copy_pairs l.instance k;
 }

@@ -1,11 +1,12 @@
-use Rattle.std.proofs.Common.{◌≡◌, ℕ, ◌+◌, ◌-◌, ap, sym, ◌∙◌, subst, arith, slice_index}
+use Rattle.std.proofs.Common.{◌≡◌, ℕ, ◌+◌, ap, sym, ◌∙◌, subst, arith, slice_index}
 use Rattle.graph_theory.specs.Graph.{Multigraph, IsEdgeWithin}
 use Rattle.mb_problem.specs.Network.{vertices}
 use Rattle.mb_problem.specs.Size.{odd_at}
 use Rattle.gadget_base.specs.Gadgets.{ports_below, between_ports}
 use Rattle.gadget_base.proofs.Within.{edge_here, place_here}
+use Rattle.gadget_tjoin.specs.Groups.{next_link}
 use Rattle.gadget_tjoin.proofs.PortEdges.{link-within}
-use Rattle.gadget_tjoin.proofs.Steps.{next-ports, link-ends, links-fit, added-link, grown-link, next-step}
+use Rattle.gadget_tjoin.proofs.Steps.{next-link, next-small, links-fit, grown-link, next-step}
 use Rattle.gadget_tjoin.proofs.links.add_links.Goals as goal
 
 pub add_link-requires-clause-small_u : goal.add_link-requires-clause-small_u
@@ -14,10 +15,11 @@ add_link-requires-clause-small_u c =
     let odd = odd_at c.args.parity i in
     let k = c.loop-edge.edge-index in
     let items = c.edge_list-edge-items in
+    let ok = items.ensures.network in
     let b = place_here i items.result.now k items.ensures.list c.loop-edge-test.true in
     let is = edge_here i items.result.now k c.edge-item.result items.ensures.list c.loop-edge-test.true c.edge-item.is in
-    let ports = next-ports i odd c.loop-edge.next k c.edge-item.result items.ensures.network b is c.loop-edge.invariant.each in
-    omega (arith, ports.0, (link-ends i odd k items.ensures.network b c.requires.limits).0)
+    let link = next-link i odd c.loop-edge.next k c.edge-item.result ok b is c.loop-edge.invariant.each in
+    omega (arith, (next-small i odd c.loop-edge.next k c.edge-item.result ok b c.requires.limits link).0)
 
 pub add_link-requires-clause-small_v : goal.add_link-requires-clause-small_v
 add_link-requires-clause-small_v c =
@@ -25,10 +27,11 @@ add_link-requires-clause-small_v c =
     let odd = odd_at c.args.parity i in
     let k = c.loop-edge.edge-index in
     let items = c.edge_list-edge-items in
+    let ok = items.ensures.network in
     let b = place_here i items.result.now k items.ensures.list c.loop-edge-test.true in
     let is = edge_here i items.result.now k c.edge-item.result items.ensures.list c.loop-edge-test.true c.edge-item.is in
-    let ports = next-ports i odd c.loop-edge.next k c.edge-item.result items.ensures.network b is c.loop-edge.invariant.each in
-    omega (arith, ports.1, (link-ends i odd k items.ensures.network b c.requires.limits).1)
+    let link = next-link i odd c.loop-edge.next k c.edge-item.result ok b is c.loop-edge.invariant.each in
+    omega (arith, (next-small i odd c.loop-edge.next k c.edge-item.result ok b c.requires.limits link).1)
 
 pub add_link-requires-clause-room : goal.add_link-requires-clause-room
 add_link-requires-clause-room c =
@@ -48,11 +51,11 @@ add_link-requires-clause-ends c =
     let items = c.edge_list-edge-items in
     let b = place_here i items.result.now k items.ensures.list c.loop-edge-test.true in
     let is = edge_here i items.result.now k e items.ensures.list c.loop-edge-test.true c.edge-item.is in
-    let edge = added-link i odd c.loop-edge.next k e is (next-ports i odd c.loop-edge.next k e items.ensures.network b is c.loop-edge.invariant.each) in
+    let link = next-link i odd c.loop-edge.next k e items.ensures.network b is c.loop-edge.invariant.each in
     let size : c.loop-edge.graph.vertices ≡ ports_below i odd (vertices i + 1) = ap (λ (g : Multigraph). g.vertices) c.loop-edge.invariant.graph
     ∙ ap (λ (g : Multigraph). g.vertices) c.requires.start in
-    subst (λ (n : ℕ). IsEdgeWithin n (record { u = slice_index c.loop-edge.next (e.u - 1) + 1; v = slice_index c.loop-edge.next (e.v - 1) + 1; w = e.w })) (sym size)
-    (subst (IsEdgeWithin (ports_below i odd (vertices i + 1))) (sym edge) (link-within i odd k items.ensures.network b))
+    subst (λ (n : ℕ). IsEdgeWithin n (next_link c.loop-edge.next e)) (sym size)
+    (subst (IsEdgeWithin (ports_below i odd (vertices i + 1))) (sym link) (link-within i odd k items.ensures.network b))
 
 pub loop-edge-preserved : goal.loop-edge-preserved
 loop-edge-preserved c =
@@ -63,13 +66,10 @@ loop-edge-preserved c =
     let items = c.edge_list-edge-items in
     let b = place_here i items.result.now k items.ensures.list c.loop-edge-test.true in
     let is = edge_here i items.result.now k e items.ensures.list c.loop-edge-test.true c.edge-item.is in
-    let edge = added-link i odd c.loop-edge.next k e is (next-ports i odd c.loop-edge.next k e items.ensures.network b is c.loop-edge.invariant.each) in
+    let link = next-link i odd c.loop-edge.next k e items.ensures.network b is c.loop-edge.invariant.each in
     record {
-      graph = grown-link (between_ports i odd) c.loop-edge.graph c.add_link.new.graph c.args.graph.now.vertices k (record {
-        u = slice_index c.loop-edge.next (e.u - 1) + 1;
-        v = slice_index c.loop-edge.next (e.v - 1) + 1;
-        w = e.w;
-      }) c.loop-edge.invariant.graph c.in_ok-add_link.ensures.added edge;
+      graph = grown-link (between_ports i odd) c.loop-edge.graph c.add_link.new.graph c.args.graph.now.vertices k (next_link c.loop-edge.next e) c.loop-edge.invariant.graph
+          c.in_ok-add_link.ensures.added link;
       size = c.in_ok-add_link.ensures.size ∙ c.loop-edge.invariant.size;
       each = λ t below.
           let long = c.requires.size in

@@ -1,0 +1,18 @@
+use Rattle.std.proofs.Common.{◌≡◌, ap, sym, ◌∙◌, false, arith}
+use Rattle.graph_theory.specs.Graph.{is_loop}
+use Rattle.mb_problem.specs.declared.instance.InstanceEdge.{InstanceEdge}
+use Rattle.mb_problem.specs.Network.{plain}
+use Rattle.mb_problem.specs.Size.{is_loop_at}
+use Rattle.gadget_base.proofs.Within.{edge_here, place_here}
+use Rattle.gadget_base.proofs.Links.{link-place}
+use Rattle.gadget_base.proofs.plain.with_loops.Goals as goal
+
+pub bounds-counts-place : goal.bounds-counts-place
+bounds-counts-place c =
+    let i = c.args.instance.now in
+    let k = c.loop-edge.edge-index in
+    let items = c.edge_list-edge-items in
+    let b = place_here i items.result.now k items.ensures.list c.loop-edge-test.true in
+    let is = edge_here i items.result.now k c.edge-item.result items.ensures.list c.loop-edge-test.true c.edge-item.is in
+    let link : is_loop_at i k ≡ false = ap (λ (e : InstanceEdge). is_loop (plain e)) (sym is) ∙ sym c.eq.ensures ∙ c.if-eq.false in
+    omega (arith, c.loop-edge.invariant.place, link-place i k b link, c.requires)
