@@ -1,6 +1,6 @@
 -- The first fault of arrays. The order is that of the rules: the lengths, the numbers of vertices and edges, the edges in their
--- order, the vertices in theirs, and then what the kind needs. Of an edge the ends come first, then the weight, the capacity,
--- and last that its ends are equal.
+-- order, the vertices in theirs, and then what the kind needs. Of an edge the ends come first, then the weight, and last
+-- the capacity; the ends may be equal.
 use Rattle.std.specs.Prelude.{◌≡◌, ◌≤◌, ℕ, zero, suc, ◌+◌, ◌%◌, ◌==◌, nat_lt, Bool, not, ◌&&◌, ◌||◌, if◌then◌else◌, ℤ, pos, neg_ℤ, negsuc, int_lt, length, slice_index, Option, None, Some}
 use Rattle.std.specs.Option.{option_map, option_or}
 use Rattle.graph_theory.specs.declared.limits.TheConstants.{WEIGHT_LIMIT}
@@ -12,7 +12,7 @@ use Rattle.mb_problem.specs.declared.limits.TheConstants.{VERTEX_LIMIT, EDGE_LIM
 use Rattle.mb_problem.specs.Kinds.{need_of}
 use Rattle.certificates.specs.Ranges.{is_between}
 use Rattle.array_call.specs.declared.rule.ArrayRule.{ArrayRule}
-use Rattle.array_call.specs.declared.rule.ArrayRule.TheVariants.{Lengths, Vertices, Edges, End, Weight, Capacity, Loop, Value, Negative, PathEnds}
+use Rattle.array_call.specs.declared.rule.ArrayRule.TheVariants.{Lengths, Vertices, Edges, End, Weight, Capacity, Value, Negative, PathEnds}
 use Rattle.array_call.specs.declared.rule.ArrayFault.{ArrayFault}
 use Rattle.array_call.specs.Arrays.{Arrays, edge_count, weight_at, capacity_mark, value_at}
 
@@ -45,8 +45,7 @@ abbrev pub edge_rule : ℕ → ℕ → ℕ → ℤ → ℤ → Option ArrayRule
 edge_rule n u v w capacity =
     if not (is_vertex n u && is_vertex n v) then Some End else
     (if not (is_between (neg_ℤ WEIGHT_LIMIT) WEIGHT_LIMIT w) then Some Weight else
-    (if not (is_between (negsuc 0) (pos VALUE_LIMIT) capacity) then Some Capacity else
-    (if u == v then Some Loop else None)))
+    (if not (is_between (negsuc 0) (pos VALUE_LIMIT) capacity) then Some Capacity else None))
 
 -- the rule that the edge at a place breaks, from 0
 abbrev pub edge_fault : Arrays → ℕ → Option ArrayRule

@@ -103,9 +103,6 @@ fn edge_rule(n: u32, u: u32, v: u32, weight: i64, capacity: i64) -> Option<Array
     if capacity < -1 || capacity > i64::from(VALUE_LIMIT) {
         return Some(ArrayRule::Capacity);
     }
-    if u == v {
-        return Some(ArrayRule::Loop);
-    }
     None
 }
 

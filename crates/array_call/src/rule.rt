@@ -17,8 +17,6 @@ pub enum ArrayRule {
     Weight,
     /// A capacity is out of its range.
     Capacity,
-    /// An edge has two equal ends.
-    Loop,
     /// The value of a vertex is out of its range.
     Value,
     /// An edge weighs less than 0, and the kind asks for weights from 0.
@@ -28,7 +26,8 @@ pub enum ArrayRule {
 }
 
 impl ArrayRule {
-    /// The number by which callers in C name the rule, from 1.
+    /// The number by which callers in C name the rule, from 1; none has 7, which a rule had that
+    /// stands no longer.
     pub fn number(self) -> u32
         ensures { result ≡ number_of_rule self }
     {
@@ -39,7 +38,6 @@ impl ArrayRule {
             ArrayRule::End => 4,
             ArrayRule::Weight => 5,
             ArrayRule::Capacity => 6,
-            ArrayRule::Loop => 7,
             ArrayRule::Value => 8,
             ArrayRule::Negative => 9,
             ArrayRule::PathEnds => 10,

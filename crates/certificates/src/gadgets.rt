@@ -1,7 +1,8 @@
 ghost use Rattle.std.specs.Prelude.{◌≡◌, ◌≤◌, IfOk};
-ghost use Rattle.graph_theory.specs.Graph.{IsGraph};
+ghost use Rattle.graph_theory.specs.Graph.{IsGraph, HasNoLoop};
 ghost use Rattle.graph_theory.specs.Limits.{IsWithinLimits, HasSize};
-ghost use Rattle.mb_problem.specs.Network.{IsNetwork};
+ghost use Rattle.mb_problem.specs.declared.kind.Kind.TheVariants.{Perfect};
+ghost use Rattle.mb_problem.specs.Network.{IsNetwork, plain_graph};
 ghost use Rattle.mb_problem.specs.Ready.{HasNeededWeights};
 ghost use Rattle.mb_problem.specs.Size.{size_of, certified_size};
 ghost use Rattle.gadget_base.specs.Certified.{gadget_graph, ReachesAll};
@@ -28,18 +29,30 @@ pub fn certified_vertices(instance: &Instance, kind: Kind) -> u32
     vertices as u32
 }
 
+/// The graph of an instance without its loops: perfect matchings have none of them.
+fn plain(instance: &Instance) -> Result<Graph, OutOfMemory>
+    ensures graph { IfOk result (λ h. h ≡ plain_graph instance.now) }
+    ensures size { HasSize (size_of Perfect instance.now) (plain_graph instance.now) }
+    ensures plain { IfOk result HasNoLoop }
+    ensures reached { ReachesAll Perfect instance.now }
+{
+    prove!(instance.vertices() <= VERTEX_LIMIT);
+    instance.plain()
+}
+
 /// That graph, by the builder that knows the kind's answers.
 fn build(alloc: Global, instance: &Instance, kind: Kind) -> Result<Graph, OutOfMemory>
     requires limits { IsWithinLimits (size_of kind instance.now) }
     requires weights { HasNeededWeights kind instance.now }
     ensures graph { IfOk result (λ h. h ≡ gadget_graph kind instance.now) }
     ensures size { IfOk result (HasSize (certified_size kind instance.now)) }
+    ensures plain { IfOk result HasNoLoop }
     ensures reached { IfOk result (λ h. ReachesAll kind instance.now) }
     ensures network { IsNetwork instance.now }
 {
     prove!(instance.vertices() <= VERTEX_LIMIT);
     match kind {
-        Kind::Perfect => instance.graph(),
+        Kind::Perfect => plain(instance),
         Kind::Match => double(alloc, instance),
         Kind::BMatch => copies(alloc, instance),
         Kind::CapMatch => capped(alloc, instance, false),
@@ -50,13 +63,14 @@ fn build(alloc: Global, instance: &Instance, kind: Kind) -> Result<Graph, OutOfM
     }
 }
 
-/// The graph that the certificates of a kind speak of: each feasible answer has its perfect matching there. It
-/// takes time linear in the instance and the graph. An error is want of memory.
+/// The graph that the certificates of a kind speak of: each feasible answer has its perfect matching there, and no
+/// edge is a loop. It takes time linear in the instance and the graph. An error is want of memory.
 pub fn certified(alloc: Global, instance: &Instance, kind: Kind) -> Result<Graph, OutOfMemory>
     requires limits { IsWithinLimits (size_of kind instance.now) }
     requires weights { HasNeededWeights kind instance.now }
     ensures graph { IfOk result (λ h. h ≡ gadget_graph kind instance.now) }
     ensures size { IfOk result (HasSize (certified_size kind instance.now)) }
+    ensures plain { IfOk result HasNoLoop }
     ensures reached { IfOk result (λ h. ReachesAll kind instance.now) }
 
     // Both are what `laws` asks of an instance and its graph.

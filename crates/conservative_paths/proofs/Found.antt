@@ -3,17 +3,17 @@ use Rattle.std.proofs.Common.{◌≡◌, ◌≢◌, ℕ, ◌+◌, ◌-◌, ◌<�
 use Rattle.std.proofs.Common.{List, [], length, slice_index, take, drop, length-drop, take-append-drop, All}
 use Rattle.std.proofs.lemmas.Int.{ints}
 use Rattle.std.proofs.lemmas.Bool.{cases_Bool, cases_lt}
-use Rattle.graph_theory.specs.Graph.{Multigraph, IsEdgeWithin, IsEdgeNumber, weight, CountsNoneAt, edge_of, touches}
+use Rattle.graph_theory.specs.Graph.{Multigraph, IsEdgeNumber, weight, CountsNoneAt, edge_of, touches}
 use Rattle.std.proofs.lemmas.List.Elements.{All-get_or}
 use Rattle.graph_theory.specs.Parts.{holds}
 use Rattle.graph_theory.specs.Walk.{walk_left, walk_weight, AllDiffer}
 use Rattle.graph_theory.proofs.Members.{holds_place}
 use Rattle.graph_theory.proofs.Walks.{walk-numbers}
 use Rattle.mb_problem.specs.declared.answer.Parity.TheVariants.{Empty}
-use Rattle.mb_problem.specs.Network.{Network, IsNetwork, graph_of}
+use Rattle.mb_problem.specs.Network.{Network, graph_of}
 use Rattle.mb_problem.specs.Size.{odd_at}
 use Rattle.mb_problem.specs.Joins.{ListsJoin, listed_counts}
-use Rattle.mb_problem.proofs.EdgeLemmas.{edges-count, network-graph}
+use Rattle.mb_problem.proofs.EdgeLemmas.{edges-count}
 use Rattle.mb_problem.proofs.JoinLemmas.{listed-at}
 use Rattle.conservative_paths.specs.declared.trail.Trail.{Trail}
 use Rattle.conservative_paths.specs.Within.{IsPathWithin, IsNegativeCircuitWithin}
@@ -40,13 +40,13 @@ join-even i join lists negative =
 
 -- at its end a path between the two odd vertices has come to the other one
 
-pub path-found : (i : Network) (s t : ℕ) (join left : List ℕ) (trail : Trail) → IsNetwork i → s ≢ t → IsOpen (graph_of i) (listed_counts join (length i.edges)) left s t trail
+pub path-found : (i : Network) (s t : ℕ) (join left : List ℕ) (trail : Trail) → s ≢ t → IsOpen (graph_of i) (listed_counts join (length i.edges)) left s t trail
     → CountsNoneAt (graph_of i) left trail.here → IsPathWithin (graph_of i) join s t s trail.edges.items
-path-found i s t join left trail ok apart r settled =
+path-found i s t join left trail apart r settled =
     let g = graph_of i in
     let total = listed_counts join (length i.edges) in
     let way = r.trail.way in
-    let home = stuck_at_target g total left s t trail.here trail.edges.items (network-graph i ok).ends way r.trail.within settled in
+    let home = stuck_at_target g total left s t trail.here trail.edges.items way r.trail.within settled in
     let arrives = way.ends ∙ home in
     record {
       starts = refl;
@@ -60,10 +60,10 @@ path-found i s t join left trail ok apart r settled =
 
 -- a circuit
 
-pub circuit-found : (g : Multigraph) (total left : List ℕ) (base target place : ℕ) (t : Trail) → All (IsEdgeWithin g.vertices) g.edges
+pub circuit-found : (g : Multigraph) (total left : List ℕ) (base target place : ℕ) (t : Trail)
     → ((k : ℕ) → k < length g.edges → slice_index total k ≤ 1) → IsClosed g total left base target place t → walk_weight g (drop place t.edges.items) <ℤ pos 0
     → IsNegativeOver g total t.here (drop place t.edges.items)
-circuit-found g total left base target place t ends small r negative =
+circuit-found g total left base target place t small r negative =
     let front = take place t.edges.items in
     let rest = drop place t.edges.items in
     let parts = closed-parts g total left base target place t r in
@@ -72,7 +72,7 @@ circuit-found g total left base target place t ends small r negative =
     let D : List ℕ → Type 0 = λ es. AllDiffer (walk_left g base es) in
     let differ : AllDiffer (walk_left g base t.edges.items) = subst AllDiffer r.vertices (places-differ t.place.items t.vertices.items r.trail.places) in
     record {
-      circuit = way-circuit g total left base target t.here front rest ends small parts (subst D (sym (take-append-drop place t.edges.items)) differ) home
+      circuit = way-circuit g total left base target t.here front rest small parts (subst D (sym (take-append-drop place t.edges.items)) differ) home
           (omega (arith, below, length-drop place t.edges.items));
       within = way-within g total left base target t.here front rest parts;
       negative = negative;
@@ -92,11 +92,11 @@ circuit-within i join counts start edges fewer is =
 
 -- a path that is stuck at its start is empty, and what is left is even and weighs less than 0
 
-pub drained : (g : Multigraph) (total left : List ℕ) (base : ℕ) (t : Trail) → All (IsEdgeWithin g.vertices) g.edges → IsNegativeEven g total → IsOpen g total left base base t
+pub drained : (g : Multigraph) (total left : List ℕ) (base : ℕ) (t : Trail) → IsNegativeEven g total → IsOpen g total left base base t
     → (weight g left +ℤ walk_weight g t.edges.items) <ℤ pos 0 → CountsNoneAt g left t.here → IsDrained g base total left
-drained g total left base t ends even r less settled =
+drained g total left base t even r less settled =
     let way = r.trail.way in
-    let home = stuck_at_target g total left base base t.here t.edges.items ends way r.trail.within settled in
+    let home = stuck_at_target g total left base base t.here t.edges.items way r.trail.within settled in
     let differ = subst AllDiffer r.vertices (places-differ t.place.items t.vertices.items r.trail.places) in
     let none : t.edges.items ≡ [] = home-none g base t.edges.items differ (way.ends ∙ home) in
     let L : List ℕ → Type 0 = λ xs. (weight g left +ℤ walk_weight g xs) <ℤ pos 0 in

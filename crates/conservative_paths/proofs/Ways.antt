@@ -1,11 +1,11 @@
 -- Walks over edges that are taken from a set, and what is left of it.
 use Rattle.std.proofs.Common.{◌≡◌, ◌≢◌, ℕ, zero, suc, ◌+◌, ◌-◌, ◌%◌, ◌<◌, ◌≤◌, Bool, true, false, cond, eqb, refl, ap, sym, ◌∙◌, subst, inl, inr}
 use Rattle.std.proofs.Common.{arith, List, [], ◌∷◌, ◌++◌, length, get_or, slice_index, take, add-one, All}
-use Rattle.std.proofs.lemmas.Bool.{cases_eq, cases_Bool, eq-eqb, ne_eqb, eqb-true, true≢false}
+use Rattle.std.proofs.lemmas.Bool.{cases_eq, eq-eqb, ne_eqb}
 use Rattle.graph_theory.specs.Sums.{sum_to}
 use Rattle.graph_theory.specs.Graph.{Multigraph, IsEdgeWithin, edge_of, IsEdgeNumber, touches, other_end, degree, CountsNoneAt}
 use Rattle.graph_theory.specs.Walk.{IsWalk, IsCircuit, walk_end, walk_left, walk_vertices, AllDiffer}
-use Rattle.graph_theory.proofs.Edges.{edge_of_within, degree-none}
+use Rattle.graph_theory.proofs.Edges.{degree-none}
 use Rattle.graph_theory.proofs.Members.{holds_place}
 use Rattle.graph_theory.proofs.Walks.{walk-numbers, walk-push, end-push, walk-front, walk-rest, end-append, left-append, vertices-left, end_held}
 use Rattle.weighted_graph.specs.Left.{IsTaken}
@@ -80,34 +80,15 @@ take-left g v (suc p) (e ∷ es) b = ap (λ (xs : List ℕ). v ∷ xs) (take-lef
 pub left-take : (g : Multigraph) (v p : ℕ) (es : List ℕ) → p < length es → take (p + 1) (walk_left g v es) ≡ walk_vertices g v (take p es)
 left-take g v p es b = rw add-one (take-left g v p es b)
 
--- an edge leads away
-away : (g : Multigraph) (e v : ℕ) → All (IsEdgeWithin g.vertices) g.edges → IsEdgeNumber g e → other_end (edge_of g e) v ≡ v → ⊥
-away g e v ends is same =
-    let edge = edge_of g e in
-    let within = edge_of_within g e ends is in
-    elim (cases_Bool (eqb edge.u v)) [
-      | inl h ↦
-          let to : other_end edge v ≡ edge.v = rw h refl in
-          within.differ (eqb-true edge.u v h ∙ sym same ∙ to)
-      | inr h ↦
-          let to : other_end edge v ≡ edge.u = rw h refl in
-          true≢false (sym (eq-eqb edge.u v (sym to ∙ same)) ∙ h)
-    ]
-
-closed-two : (g : Multigraph) (v : ℕ) (es : List ℕ) → All (IsEdgeWithin g.vertices) g.edges → IsWalk g v es → walk_end g v es ≡ v → 1 ≤ length es → 2 ≤ length es
-closed-two g v [] ends walk home some = absurd (omega arith)
-closed-two g v (e ∷ []) ends walk home some = absurd (away g e v ends walk.0 home)
-closed-two g v (e ∷ f ∷ es) ends walk home some = omega arith
-
 pub differ-back : (xs ys : List ℕ) → AllDiffer (xs ++ ys) → AllDiffer ys
 differ-back [] ys d = d
 differ-back (x ∷ xs) ys d = differ-back xs ys (λ i j a b. d (suc i) (suc j) (omega arith) (omega arith))
 
 -- the part of a walk that comes back is a circuit
-pub way-circuit : (g : Multigraph) (total left : List ℕ) (base target here : ℕ) (front rest : List ℕ) → All (IsEdgeWithin g.vertices) g.edges
+pub way-circuit : (g : Multigraph) (total left : List ℕ) (base target here : ℕ) (front rest : List ℕ)
     → ((k : ℕ) → k < length g.edges → slice_index total k ≤ 1) → IsWayOver g total left base target here (front ++ rest) → AllDiffer (walk_left g base (front ++ rest))
     → walk_end g base front ≡ here → 1 ≤ length rest → IsCircuit g here rest
-way-circuit g total left base target here front rest ends small r differ home some =
+way-circuit g total left base target here front rest small r differ home some =
     let W : ℕ → Type 0 = λ v. IsWalk g v rest in
     let D : ℕ → Type 0 = λ v. AllDiffer (walk_left g v rest) in
     let walk : IsWalk g here rest = subst W home (walk-rest g base front rest r.walk) in
@@ -116,7 +97,7 @@ way-circuit g total left base target here front rest ends small r differ home so
     record {
       walk = walk;
       closed = closed;
-      two = closed-two g here rest ends walk closed some;
+      some = some;
       edges_differ = once-differ rest (λ i b.
           let e = get_or rest i 0 in
           let is : IsEdgeNumber g e = walk-numbers g here rest walk i 0 b in
@@ -136,10 +117,10 @@ pub way-within : (g : Multigraph) (total left : List ℕ) (base target here : �
 way-within g total left base target here front rest r k b = let s = r.shared k b in omega (arith, s, times-append front rest (k + 1))
 
 -- where no edge is left here, this is the target
-pub stuck_at_target : (g : Multigraph) (total left : List ℕ) (base target here : ℕ) (way : List ℕ) → All (IsEdgeWithin g.vertices) g.edges
-    → IsWayOver g total left base target here way → (1 ≤ here) × (here ≤ g.vertices) → CountsNoneAt g left here → here ≡ target
-stuck_at_target g total left base target here way ends r within settled =
-    let none = degree-none g left here ends settled in
+pub stuck_at_target : (g : Multigraph) (total left : List ℕ) (base target here : ℕ) (way : List ℕ) → IsWayOver g total left base target here way
+    → (1 ≤ here) × (here ≤ g.vertices) → CountsNoneAt g left here → here ≡ target
+stuck_at_target g total left base target here way r within settled =
+    let none = degree-none g left here settled in
     let even = r.parity here within.0 within.1 in
     let on : cond {A = ℕ} (eqb here here) 1 0 ≡ 1 = ap (λ (t : Bool). cond {A = ℕ} t 1 0) (eq-eqb here here refl) in
     elim (cases_eq target here) [

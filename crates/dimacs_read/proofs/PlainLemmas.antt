@@ -1,12 +1,12 @@
 -- An edge line as tools write it: what its bytes say of the line, and of the row of its fields.
-use Rattle.std.proofs.Common.{◌≡◌, ◌≢◌, ℕ, ◌+◌, ◌-◌, ◌*◌, ◌^◌, ◌<◌, ◌≤◌, suc, Bool, true, false, cond, eqb, Some, None, Ok}
+use Rattle.std.proofs.Common.{◌≡◌, ℕ, ◌+◌, ◌-◌, ◌*◌, ◌^◌, ◌<◌, ◌≤◌, suc, Bool, true, false, cond, eqb, Some, None, Ok}
 use Rattle.std.proofs.Common.{List, [], ◌∷◌, ◌++◌, length, take, drop, get_or, map, filter}
 use Rattle.std.proofs.Common.{ℤ, pos, refl, sym, ap, subst, ◌∙◌, arith, length-append, append_assoc}
 use Rattle.std.specs.Prelude.{◌&&◌, ◌||◌, ◌==◌, ◌≤ℤ◌, neg_ℤ, int_le}
 use Rattle.std.specs.Option.{option_map}
 use Rattle.std.specs.List.{list_all, slice_split, position_or_len, All}
 use Rattle.std.specs.Str.Lines.{strip_carriage_return}
-use Rattle.std.proofs.lemmas.Bool.{le-leb, ne_eqb}
+use Rattle.std.proofs.lemmas.Bool.{le-leb}
 use Rattle.std.proofs.lemmas.Bool.Decides.{nat_tests}
 use Rattle.std.proofs.lemmas.Int.{ints}
 use Rattle.std.proofs.lemmas.Nat.{pow-add}
@@ -182,22 +182,21 @@ int_le-yes : (a b : ℤ) → a ≤ℤ b → int_le a b ≡ true
 int_le-yes a b h = grind (arith, ints)
 
 edge_row : (s : Sizes) (f g h : List ℕ) (u v : ℕ) (w : ℤ) → numeral f ≡ Some (pos u) → numeral g ≡ Some (pos v) → numeral h ≡ Some w → 1 ≤ u → u ≤ s.vertices →
-    1 ≤ v → v ≤ s.vertices → u ≢ v → IsWeight w → edge_at (Some s) ((101 ∷ []) ∷ f ∷ g ∷ h ∷ []) ≡ Ok (record { u = u; v = v; w = w; capacity = None })
+    1 ≤ v → v ≤ s.vertices → IsWeight w → edge_at (Some s) ((101 ∷ []) ∷ f ∷ g ∷ h ∷ []) ≡ Ok (record { u = u; v = v; w = w; capacity = None })
 unfolding edge_at
-edge_row s f g h u v w ef eg eh u_low u_high v_low v_high ne range =
+edge_row s f g h u v w ef eg eh u_low u_high v_low v_high range =
     let a = le-leb 1 u u_low in
     let b = le-leb u s.vertices u_high in
     let c = le-leb 1 v v_low in
     let d = le-leb v s.vertices v_high in
     let i = int_le-yes (neg_ℤ WEIGHT_LIMIT) w range.0 in
     let j = int_le-yes w WEIGHT_LIMIT range.1 in
-    let k = ne_eqb u v ne in
-    rw (ef, eg, eh, a, b, c, d, i, j, k) refl
+    rw (ef, eg, eh, a, b, c, d, i, j) refl
 
-made_fits : (header : Header) (u v : ℕ) (w : ℤ) → 1 ≤ u → u ≤ header.vertices → 1 ≤ v → v ≤ header.vertices → u ≢ v → IsWeight w →
+made_fits : (header : Header) (u v : ℕ) (w : ℤ) → 1 ≤ u → u ≤ header.vertices → 1 ≤ v → v ≤ header.vertices → IsWeight w →
     FitsHeader (Some header) (record { u = u; v = v; w = w; capacity = None })
-made_fits header u v w u_low u_high v_low v_high ne range = record {
-  ends = record { u_low = u_low; u_high = u_high; v_low = v_low; v_high = v_high; differ = ne };
+made_fits header u v w u_low u_high v_low v_high range = record {
+  ends = record { u_low = u_low; u_high = u_high; v_low = v_low; v_high = v_high };
   weight = range;
   capacity = tt;
 }
@@ -207,9 +206,9 @@ given_row : (header : Header) (f g h : List ℕ) (edge : InstanceEdge) → edge_
 given_row header f g h edge e fits named count = (ap fault_of e, (refl, refl, refl, e, fits))
 
 pub edge_line : (header : Header) (bytes r1 r2 r3 after : List ℕ) (u v : ℕ) (w : ℤ) → bytes ≡ 101 ∷ 32 ∷ r1 → LeadsWith r1 32 u r2 → LeadsWith r2 32 v r3 →
-    LeadsWithWeight r3 w after → 1 ≤ u → u ≤ header.vertices → 1 ≤ v → v ≤ header.vertices → u ≢ v → IsWeight w →
+    LeadsWithWeight r3 w after → 1 ≤ u → u ≤ header.vertices → 1 ≤ v → v ≤ header.vertices → IsWeight w →
     IsPlainEdge (Some header) bytes (record { u = u; v = v; w = w; capacity = None }) after
-edge_line header bytes r1 r2 r3 after u v w e first second third u_low u_high v_low v_high ne range =
+edge_line header bytes r1 r2 r3 after u v w e first second third u_low u_high v_low v_high range =
     let f = first.digits in
     let g = second.digits in
     let h = third.field in
@@ -221,7 +220,7 @@ edge_line header bytes r1 r2 r3 after u v w e first second third u_low u_high v_
     let row : fields text ≡ (101 ∷ []) ∷ f ∷ g ∷ h ∷ [] = row_is f g h (pos u) (pos v) w nf ng third.numeric ef eg third.spelled in
     let made : InstanceEdge = record { u = u; v = v; w = w; capacity = None } in
     let edge : edge_at (Some (sizes_of_header header)) ((101 ∷ []) ∷ f ∷ g ∷ h ∷ []) ≡ Ok made =
-    edge_row (sizes_of_header header) f g h u v w ef eg third.spelled u_low u_high v_low v_high ne range in
+    edge_row (sizes_of_header header) f g h u v w ef eg third.spelled u_low u_high v_low v_high range in
     let joined : f ++ 32 ∷ (g ++ 32 ∷ (h ++ 10 ∷ after)) ≡ (f ++ 32 ∷ (g ++ 32 ∷ h)) ++ 10 ∷ after =
     sym (append_assoc f (32 ∷ (g ++ 32 ∷ h)) (10 ∷ after) ∙ ap (λ (l : List ℕ). f ++ 32 ∷ l) (append_assoc g (32 ∷ h) (10 ∷ after))) in
     let whole : bytes ≡ text ++ 10 ∷ after =
@@ -231,5 +230,5 @@ edge_line header bytes r1 r2 r3 after u v w e first second third u_low u_high v_
       begins = subst (λ (l : List ℕ). BeginsWith l text after) (sym whole)
           (begins_at text after (omega arith) (inner_text f g h nf ng third.numeric) (ap is_solution row));
       given = λ named count. subst (λ (r : Row). GivesLine (Some header) named count (take 6 r) (Ok (line.Edge made))) (sym row)
-          (given_row header f g h made edge (made_fits header u v w u_low u_high v_low v_high ne range) named count);
+          (given_row header f g h made edge (made_fits header u v w u_low u_high v_low v_high range) named count);
     }

@@ -10,7 +10,7 @@ use Rattle.dimacs_read.specs.declared.line.Node.{Node}
 use Rattle.std.proofs.Common.{◌≤◌, negsuc}
 use Rattle.std.proofs.lemmas.Bool.{leb-true}
 use Rattle.dimacs_read.specs.declared.rule.Rule.{Rule}
-use Rattle.dimacs_read.specs.declared.rule.Rule.TheVariants.{HeaderForm, FieldCount, Loop, NodeTwice, Range}
+use Rattle.dimacs_read.specs.declared.rule.Rule.TheVariants.{HeaderForm, FieldCount, NodeTwice, Range}
 use Rattle.mb_base.specs.Rows.{Row, field_at}
 use Rattle.dimacs_read.specs.Format.{◌>>=◌, Sizes, ranged, number_in, natural_in, number_at, natural_at, sizes_at, header_at, row_weight, row_capacity, edge_at, node_at, row_edge, sizes_of}
 
@@ -82,14 +82,13 @@ edge_is (Some s) row e h =
     let v = bind_ok (natural_in 1 s.vertices (field_at row 2)) _ e u.2 in
     let w = bind_ok (row_weight row) _ e v.2 in
     let c = bind_ok (row_capacity row) _ e w.2 in
-    let last = guard_ok (eqb u.0 v.0) Loop _ e c.2 in
     let made : InstanceEdge = record { u = u.0; v = v.0; w = w.0; capacity = c.0 } in
     let ue = natural_is 1 s.vertices row 1 u.0 u.1 in
     let ve = natural_is 1 s.vertices row 2 v.0 v.1 in
     let we = weight_is (ltb (length row) 4) row w.0 w.1 in
     let ce = capacity_is (ltb (length row) 5) row c.0 c.1 in
     let e1 : row_edge row ≡ made = cc in
-    e1 ∙ ok_is made e last
+    e1 ∙ ok_is made e c.2
 
 pub node_is : (h : Option Sizes) (named : ℕ → Bool) (row : Row) (node : Node) → node_at h named row ≡ Ok node → (natural_at row 1 ≡ node.vertex) × (natural_at row 2 ≡ node.value)
 unfolding node_at

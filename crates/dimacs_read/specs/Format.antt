@@ -21,7 +21,7 @@ use Rattle.mb_problem.specs.Network.{Network}
 use Rattle.dimacs_read.specs.declared.rule.Rule.{Rule}
 use Rattle.dimacs_read.specs.declared.rule.Rule.TheVariants.{UnknownLine, HeaderMissing}
 use Rattle.dimacs_read.specs.declared.rule.Rule.TheVariants.{HeaderTwice, HeaderForm, FieldCount}
-use Rattle.dimacs_read.specs.declared.rule.Rule.TheVariants.{Number, Range, Loop, NodeTwice}
+use Rattle.dimacs_read.specs.declared.rule.Rule.TheVariants.{Number, Range, NodeTwice}
 use Rattle.dimacs_read.specs.declared.rule.Rule.TheVariants.{EdgeCount, Negative, PathEnds}
 use Rattle.dimacs_read.specs.declared.rule.Fault.{Fault}
 use Rattle.dimacs_read.specs.declared.line.Node.{Node}
@@ -84,7 +84,7 @@ edge_at (Some s) row =
     natural_in 1 s.vertices (field_at row 2) >>= λ v.
     row_weight row >>= λ w.
     row_capacity row >>= λ c.
-    (if u == v then Err Loop else Ok (record { u = u; v = v; w = w; capacity = c })))
+    Ok (record { u = u; v = v; w = w; capacity = c }))
 
 -- A value line, after a header or none. `named` tells the vertices of earlier value lines.
 unfoldable pub node_at : Option Sizes → (ℕ → Bool) → Row → Result Node Rule

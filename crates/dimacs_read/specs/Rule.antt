@@ -3,7 +3,7 @@ use Rattle.std.specs.Prelude.{ℕ, List, codes}
 use Rattle.dimacs_read.specs.declared.rule.Rule.{Rule}
 use Rattle.dimacs_read.specs.declared.rule.Rule.TheVariants.{UnknownLine, HeaderMissing}
 use Rattle.dimacs_read.specs.declared.rule.Rule.TheVariants.{HeaderTwice, HeaderForm, FieldCount}
-use Rattle.dimacs_read.specs.declared.rule.Rule.TheVariants.{Number, Range, Loop, NodeTwice}
+use Rattle.dimacs_read.specs.declared.rule.Rule.TheVariants.{Number, Range, NodeTwice}
 use Rattle.dimacs_read.specs.declared.rule.Rule.TheVariants.{EdgeCount, Negative, PathEnds}
 
 abbrev pub rule_name : Rule → List ℕ
@@ -14,7 +14,6 @@ rule_name HeaderForm = codes "HeaderForm"
 rule_name FieldCount = codes "FieldCount"
 rule_name Number = codes "Number"
 rule_name Range = codes "Range"
-rule_name Loop = codes "Loop"
 rule_name NodeTwice = codes "NodeTwice"
 rule_name EdgeCount = codes "EdgeCount"
 rule_name Negative = codes "Negative"

@@ -119,9 +119,6 @@ pub fn read_edge(earlier: Option<Header>, row: &[&[u8]]) -> Result<InstanceEdge,
     let v = natural_between(row[2], 1, header.vertices)?;
     let w = weight(row)?;
     let capacity = capacity(row)?;
-    if u == v {
-        return Err(Rule::Loop);
-    }
     Ok(InstanceEdge {
         u: VertexId::new(u),
         v: VertexId::new(v),

@@ -103,9 +103,6 @@ pub fn plain_edge(earlier: Option<Header>, bytes: &[u8]) -> Option<(InstanceEdge
     let (u, rest) = vertex_before_space(rest, header.vertices)?;
     let (v, rest) = vertex_before_space(rest, header.vertices)?;
     let (w, rest) = weight_before_line_feed(rest)?;
-    if u == v {
-        return None;
-    }
     let edge = InstanceEdge {
         u: VertexId::new(u),
         v: VertexId::new(v),

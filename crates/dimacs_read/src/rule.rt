@@ -19,8 +19,6 @@ pub enum Rule {
     Number,
     /// A number is out of its range.
     Range,
-    /// An edge has two equal ends.
-    Loop,
     /// A vertex is given a second value.
     NodeTwice,
     /// There are fewer or more edges than the header says.
@@ -46,7 +44,6 @@ impl Rule {
             Rule::FieldCount => "FieldCount",
             Rule::Number => "Number",
             Rule::Range => "Range",
-            Rule::Loop => "Loop",
             Rule::NodeTwice => "NodeTwice",
             Rule::EdgeCount => "EdgeCount",
             Rule::Negative => "Negative",

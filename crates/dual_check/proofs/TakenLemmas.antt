@@ -1,15 +1,16 @@
 -- Lemmas on the sets that are taken out of all: their part of what an edge crosses, from what they share at its two ends.
-use Rattle.std.proofs.Common.{◌≡◌, ◌≢◌, ◌∙◌, sym, ap, ap₂, refl, inl, inr, arith, ℕ, zero, suc, ◌+◌, ◌<◌, ◌≤◌, ℤ, pos, neg_ℤ, ◌+ℤ◌, ◌-ℤ◌, ◌*ℤ◌, ◌≤ℤ◌, Bool, true, false, not, cond, eqb, ◌||◌}
+use Rattle.std.proofs.Common.{◌≡◌, ◌∙◌, sym, ap, ap₂, refl, inl, inr, arith, ℕ, zero, suc, ◌+◌, ◌<◌, ◌≤◌, ℤ, pos, neg_ℤ, ◌+ℤ◌, ◌-ℤ◌, ◌*ℤ◌, ◌≤ℤ◌, Bool, true, false, not, cond, eqb, ◌||◌}
 use Rattle.std.proofs.Common.{◌&&◌, List, [], ◌∷◌, length, get_or, All}
 use Rattle.std.proofs.lemmas.Int.{ints}
-use Rattle.std.proofs.lemmas.Bool.{ne_eqb, eqb-true, cases_lt}
+use Rattle.std.proofs.lemmas.Bool.{eqb-true, cases_lt}
 use Rattle.graph_theory.specs.declared.edge.Edge.{Edge}
 use Rattle.graph_theory.specs.declared.limits.TheConstants.{NUMBER_LIMIT}
 use Rattle.graph_theory.specs.declared.odd_set.OddSet.{OddSet}
 use Rattle.graph_theory.specs.Sums.{int_sum_to}
-use Rattle.graph_theory.specs.Graph.{IsEdgeWithin, touches, other_end}
+use Rattle.graph_theory.specs.Graph.{IsEdgeWithin, touches, other_end, is_loop}
 use Rattle.graph_theory.specs.Parts.{crosses, holds}
 use Rattle.graph_theory.specs.Duals.{IsNumber, set_at, no_set, crossed_by}
+use Rattle.graph_theory.proofs.Members.{eqb-turned}
 use Rattle.graph_parts.specs.Marks.{is_marked}
 use Rattle.dual_check.specs.Crossed.{total_at}
 use Rattle.dual_check.specs.Shared.{sum_over, set_dual, dual_with, taken_dual, other_dual, is_held, crossed_at, IsHolders, AreShares}
@@ -130,15 +131,15 @@ one_of_two true false z off = omega (arith, ints)
 one_of_two false true z off = omega (arith, ints)
 one_of_two false false z off = refl
 
-given_twice : (e : Edge) (f : ℕ → ℤ) (n : ℕ) → e.u ≢ e.v → given_to e f n ≡ (int_sum_to (λ i. cond (eqb e.u (i + 1)) (f (i + 1)) (pos 0)) n +ℤ int_sum_to
+given_twice : (e : Edge) (f : ℕ → ℤ) (n : ℕ) → is_loop e ≡ false → given_to e f n ≡ (int_sum_to (λ i. cond (eqb e.u (i + 1)) (f (i + 1)) (pos 0)) n +ℤ int_sum_to
     (λ i. cond (eqb e.v (i + 1)) (f (i + 1)) (pos 0)) n)
-given_twice e f n differ =
+given_twice e f n plain =
     int_sum_to-same (λ i. cond (touches e (i + 1)) (f (i + 1)) (pos 0)) (λ i. cond (eqb e.u (i + 1)) (f (i + 1)) (pos 0) +ℤ cond (eqb e.v (i + 1)) (f (i + 1)) (pos 0)) n
-    (λ i b. one_of_two (eqb e.u (i + 1)) (eqb e.v (i + 1)) (f (i + 1)) (λ h. ne_eqb e.v (i + 1) (λ same. differ (eqb-true e.u (i + 1) h ∙ sym same))))
+    (λ i b. one_of_two (eqb e.u (i + 1)) (eqb e.v (i + 1)) (f (i + 1)) (λ h. sym (ap (λ (x : ℕ). eqb e.v x) (eqb-true e.u (i + 1) h)) ∙ eqb-turned e.v e.u ∙ plain))
     ∙ int_sum_to-add _ _ n
 
-pub given_whole : (e : Edge) (f : ℕ → ℤ) (n : ℕ) → IsEdgeWithin n e → given_to e f n ≡ (f e.u +ℤ f e.v)
-given_whole e f n within = given_twice e f n within.differ ∙ ap₂ (λ a b. a +ℤ b) (int_sum_to-at_one f e.u n within.u_low within.u_high) (int_sum_to-at_one f e.v n within.v_low within.v_high)
+pub given_whole : (e : Edge) (f : ℕ → ℤ) (n : ℕ) → IsEdgeWithin n e → is_loop e ≡ false → given_to e f n ≡ (f e.u +ℤ f e.v)
+given_whole e f n within plain = given_twice e f n plain ∙ ap₂ (λ a b. a +ℤ b) (int_sum_to-at_one f e.u n within.u_low within.u_high) (int_sum_to-at_one f e.v n within.v_low within.v_high)
 
 -- what one end has given so far: nothing, or all
 end_within : (f : ℕ → ℤ) (u n : ℕ) (c : ℕ) → 1 ≤ u → (neg_ℤ (pos c) ≤ℤ f u) × (f u ≤ℤ pos c)
@@ -149,10 +150,11 @@ end_within f u n c low small =
       | inr after ↦ let all = int_sum_to-at_one f u n low after in (omega (arith, ints, all, small.0), omega (arith, ints, all, small.1))
     ]
 
-pub given-within : (e : Edge) (f : ℕ → ℤ) (vertices n c : ℕ) → IsEdgeWithin vertices e → (neg_ℤ (pos c) ≤ℤ f e.u) × (f e.u ≤ℤ pos c) → (neg_ℤ (pos c) ≤ℤ f e.v) × (f e.v ≤ℤ pos c)
+pub given-within : (e : Edge) (f : ℕ → ℤ) (vertices n c : ℕ) → IsEdgeWithin vertices e → is_loop e ≡ false
+    → (neg_ℤ (pos c) ≤ℤ f e.u) × (f e.u ≤ℤ pos c) → (neg_ℤ (pos c) ≤ℤ f e.v) × (f e.v ≤ℤ pos c)
     → (neg_ℤ (pos (c + c)) ≤ℤ given_to e f n) × (given_to e f n ≤ℤ pos (c + c))
-given-within e f vertices n c within at_u at_v =
-    let twice = given_twice e f n within.differ in
+given-within e f vertices n c within plain at_u at_v =
+    let twice = given_twice e f n plain in
     let u = end_within f e.u n c within.u_low at_u in
     let v = end_within f e.v n c within.v_low at_v in
     (omega (arith, ints, twice, u.0, v.0), omega (arith, ints, twice, u.1, v.1))
@@ -162,15 +164,15 @@ pub given_more : (e : Edge) (f : ℕ → ℤ) (n : ℕ) → given_to e f (n + 1)
 given_more e f n = int_sum_to-more (λ i. cond (touches e (i + 1)) (f (i + 1)) (pos 0)) n
 
 -- the other end, seen from v
-pub other_of_v : (e : Edge) → e.u ≢ e.v → other_end e e.v ≡ e.u
-other_of_v e differ = ap (λ t. cond t e.v e.u) (ne_eqb e.u e.v differ)
+pub other_of_v : (e : Edge) → is_loop e ≡ false → other_end e e.v ≡ e.u
+other_of_v e plain = ap (λ t. cond t e.v e.u) plain
 
 -- all vertices together give an edge what it crosses of the taken sets
-pub all_given : (sets : List OddSet) (taken : List Bool) (e : Edge) (n : ℕ) → IsEdgeWithin n e → given_to e (λ w. left_at sets taken w (other_end e w)) n
+pub all_given : (sets : List OddSet) (taken : List Bool) (e : Edge) (n : ℕ) → IsEdgeWithin n e → is_loop e ≡ false → given_to e (λ w. left_at sets taken w (other_end e w)) n
     ≡ crossed_at sets (taken_dual sets taken) (length sets) e
-all_given sets taken e n within =
-    given_whole e (λ w. left_at sets taken w (other_end e w)) n within
-    ∙ ap₂ (λ a b. left_at sets taken e.u a +ℤ left_at sets taken e.v b) (other_end-u e) (other_of_v e within.differ)
+all_given sets taken e n within plain =
+    given_whole e (λ w. left_at sets taken w (other_end e w)) n within plain
+    ∙ ap₂ (λ a b. left_at sets taken e.u a +ℤ left_at sets taken e.v b) (other_end-u e) (other_of_v e plain)
     ∙ sym (crossed_ends sets taken e)
 
 pub nothing_given : (t : Bool) (a z : ℤ) → z ≡ pos 0 → a ≡ (a +ℤ cond t z (pos 0))

@@ -1,6 +1,6 @@
 ghost use Rattle.std.specs.Prelude.{◌≡◌, ℕ, ◌+◌, ◌≤◌, false, length, All, IfOk};
 ghost use Rattle.std.specs.List.Sorted.{IsStrictlyIncreasing};
-ghost use Rattle.graph_theory.specs.Graph.{IsEdgeNumber, edge_of, edges_around};
+ghost use Rattle.graph_theory.specs.Graph.{IsEdgeNumber, HasNoLoop, edge_of, edges_around};
 ghost use Rattle.graph_theory.specs.Duals.{HasForm, IsNumber, IsSetWithin};
 ghost use Rattle.weighted_graph.specs.Index.{IsIndex};
 ghost use Rattle.graph_parts.specs.Marks.{is_marked};
@@ -111,6 +111,7 @@ pub(crate) fn crossed_all(
     requires numbers { All (λ s. IsNumber s.dual) sets.now }
     requires within { All (IsSetWithin graph.now.vertices) sets.now }
     requires forms { All (λ s. HasForm s.members) sets.now }
+    requires plain { HasNoLoop graph.now }
     ensures totals { IfOk result (λ totals. AreCrossed graph.now sets.now totals.items) }
 {
     let incidence = graph.index()?;

@@ -1,7 +1,7 @@
 ghost use Rattle.std.specs.Prelude.{◌≡◌, ℕ, List, length, ℤ, pos, neg_ℤ, ◌*ℤ◌, ◌≤ℤ◌, All, IfOk};
 ghost use Rattle.std.specs.Prelude.{IfErr, OnOk, slice_index_or};
 ghost use Rattle.graph_theory.specs.Sums.{int_sum_to};
-ghost use Rattle.graph_theory.specs.Graph.{IsPerfect, weight};
+ghost use Rattle.graph_theory.specs.Graph.{HasNoLoop, IsPerfect, weight};
 ghost use Rattle.graph_theory.specs.Duals.{AreDuals, IsNumber, IsSetWithin, dual_value};
 ghost use Rattle.dual_check.specs.Fault.{IsFirstDualFault};
 
@@ -37,6 +37,7 @@ pub fn bound(alloc: Global, graph: &Graph, y: &[i64], sets: &[OddSet]) -> Result
     requires y_numbers { All IsNumber y.now }
     requires set_numbers { All (λ s. IsNumber s.dual) sets.now }
     requires sets_within { All (IsSetWithin graph.now.vertices) sets.now }
+    requires plain { HasNoLoop graph.now }
 
     ensures value { IfOk result (λ value. value ≡ dual_value y.now sets.now) }
     ensures duals { OnOk result (AreDuals graph.now y.now sets.now) }

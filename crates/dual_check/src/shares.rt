@@ -1,7 +1,7 @@
 ghost use Rattle.std.specs.Prelude.{◌≡◌, ℕ, ◌+◌, ◌<◌, ◌≤◌, ◌+ℤ◌, pos, length, All, IfOk, OnOk};
 ghost use Rattle.std.specs.Prelude.{if◌then◌else◌};
 ghost use Rattle.std.specs.List.Sorted.{IsStrictlyIncreasing};
-ghost use Rattle.graph_theory.specs.Graph.{IsEdgeNumber, edges_around};
+ghost use Rattle.graph_theory.specs.Graph.{IsEdgeNumber, HasNoLoop, edges_around};
 ghost use Rattle.graph_theory.specs.Parts.{holds};
 ghost use Rattle.graph_theory.specs.Duals.{HasForm, IsNumber, IsSetWithin};
 ghost use Rattle.weighted_graph.specs.Index.{IsIndex};
@@ -93,6 +93,7 @@ pub(crate) fn add_taken(
     totals: &mut [i128],
 ) -> Result<(), OutOfMemory>
     requires index { IsIndex graph.now incidence.now }
+    requires plain { HasNoLoop graph.now }
     requires numbers { All (λ s. IsNumber s.dual) sets.now }
     requires within { All (IsSetWithin graph.now.vertices) sets.now }
     requires forms { All (λ s. HasForm s.members) sets.now }

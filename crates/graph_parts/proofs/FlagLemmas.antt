@@ -1,15 +1,15 @@
 -- Lemmas on flags that are carried along links, and on the parity of the edges that are taken.
-use Rattle.std.proofs.Common.{◌≡◌, ◌≢◌, ◌⊎◌, ℕ, ◌+◌, ◌*◌, ◌%◌, ◌<◌, ◌≤◌, Bool, true, false, not, cond, ◌||◌, eqb, refl, ap, sym, ◌∙◌, inl, inr, arith, List, [], ◌∷◌, ◌++◌, length}
+use Rattle.std.proofs.Common.{◌≡◌, ◌≢◌, ◌⊎◌, ℕ, ◌+◌, ◌*◌, ◌%◌, ◌<◌, ◌≤◌, Bool, true, false, not, cond, eqb, refl, ap, sym, ◌∙◌, subst, inl, inr, arith, List, [], ◌∷◌, ◌++◌, length}
 use Rattle.std.proofs.Common.{slice_index}
 use Rattle.std.proofs.lemmas.Bool.{cases_eq, cases_lt, cases_Bool, eqb-true, eq-eqb, ne_eqb, false≢true, or_cases}
 use Rattle.std.proofs.lemmas.List.{get_or_past}
 use Rattle.std.proofs.lemmas.List.FromFn.{get_or-map-range_with_len}
 use Rattle.graph_theory.specs.Sums.{sum_to}
 use Rattle.graph_theory.specs.declared.edge.Edge.{Edge}
-use Rattle.graph_theory.specs.Graph.{Multigraph, IsEdgeWithin, IsEdgeNumber, edge_at, edge_of, touches, other_end, ends_at, degree}
+use Rattle.graph_theory.specs.Graph.{Multigraph, IsEdgeNumber, edge_at, edge_of, touches, other_end, ends_at, degree}
 use Rattle.graph_theory.specs.Parts.{holds}
 use Rattle.graph_theory.proofs.SumLemmas.{sum_to-same, sum_to-add, sum_to-zero, sum_to-parity, sum_to-at_one}
-use Rattle.graph_theory.proofs.Edges.{edge_of-place}
+use Rattle.graph_theory.proofs.Edges.{edge_of-place, ends_at-none}
 use Rattle.graph_parts.specs.declared.links.Link.{Link}
 use Rattle.graph_parts.specs.Marks.{is_marked}
 use Rattle.graph_parts.specs.Links.{tos, from_of, IsTree}
@@ -94,22 +94,23 @@ balanced-switch g e u v odd taken after flags middle last number at_u at_v one t
     (one_if (eqb (edge_of g e).u x)) (one_if (eqb (edge_of g e).v x)) (odd x)
     (even x low high) changed (turned-flag u x flags middle one ∙ p) (turned-flag v x middle last two ∙ q)
 
-twice-test : (p q b : Bool) → (p ≡ true → q ≡ true → ⊥) → cond q (not (cond p (not b) b)) (cond p (not b) b) ≡ cond (p || q) (not b) b
-twice-test true true b h = absurd (h refl refl)
-twice-test true false b h = refl
-twice-test false true b h = refl
-twice-test false false b h = refl
+-- a flag that is turned at both ends stays
+twice-test : (p q b : Bool) → cond q (not (cond p (not b) b)) (cond p (not b) b) ≡ cond (eqb (one_if p + one_if q) 1) (not b) b
+twice-test true true true = refl
+twice-test true true false = refl
+twice-test true false b = refl
+twice-test false true b = refl
+twice-test false false b = refl
 
-pub turned-switch : (n : ℕ) (e : Edge) (u v x : ℕ) (flags middle last : List Bool) → IsEdgeWithin n e → u ≡ e.u → v ≡ e.v → IsToggled u flags middle → IsToggled v middle last
-    → is_marked last x ≡ cond (touches e x) (not (is_marked flags x)) (is_marked flags x)
-turned-switch n e u v x flags middle last within at_u at_v one two =
+pub turned-switch : (e : Edge) (u v x : ℕ) (flags middle last : List Bool) → u ≡ e.u → v ≡ e.v → IsToggled u flags middle → IsToggled v middle last
+    → is_marked last x ≡ cond (eqb (ends_at e x) 1) (not (is_marked flags x)) (is_marked flags x)
+turned-switch e u v x flags middle last at_u at_v one two =
     let b = is_marked flags x in
-    let differ : eqb u x ≡ true → eqb v x ≡ true → ⊥ = λ p q. within.differ (sym at_u ∙ eqb-true u x p ∙ sym (eqb-true v x q) ∙ at_v) in
     two x
     ∙ ap (λ (t : Bool). cond (eqb v x) (not t) t) (one x)
-    ∙ twice-test (eqb u x) (eqb v x) b differ
-    ∙ ap (λ (y : ℕ). cond (eqb y x || eqb v x) (not b) b) at_u
-    ∙ ap (λ (y : ℕ). cond (eqb e.u x || eqb y x) (not b) b) at_v
+    ∙ twice-test (eqb u x) (eqb v x) b
+    ∙ ap (λ (y : ℕ). cond (eqb (one_if (eqb y x) + one_if (eqb v x)) 1) (not b) b) at_u
+    ∙ ap (λ (y : ℕ). cond (eqb (one_if (eqb e.u x) + one_if (eqb y x)) 1) (not b) b) at_v
 
 -- links along which flags are carried
 
@@ -129,20 +130,44 @@ one_end e to v at_to at_v =
           ]
     ]
 
-pub cleared-switch : (e : Edge) (to v : ℕ) (flags last : List Bool) → touches e to ≡ true → is_marked flags to ≡ true → ((x : ℕ) → is_marked last x
-    ≡ cond (touches e x) (not (is_marked flags x)) (is_marked flags x)) → is_marked last v ≡ true → (v ≡ other_end e to) ⊎ ((v ≢ to) × (is_marked flags v ≡ true))
-cleared-switch e to v flags last meets on turned h =
+touches-once : (e : Edge) (v : ℕ) → eqb (ends_at e v) 1 ≡ true → touches e v ≡ true
+touches-once e v once =
     elim (cases_Bool (touches e v)) [
-      | inl at ↦ elim (one_end e to v meets at) [
+      | inl h ↦ h
+      | inr h ↦ absurd (false≢true (ap (λ (x : ℕ). eqb x 1) (sym (ends_at-none e v h)) ∙ once))
+    ]
+
+-- an edge that has other than one end at a vertex is a loop there
+both_ends : (e : Edge) (v : ℕ) → touches e v ≡ true → eqb (ends_at e v) 1 ≡ false → v ≡ other_end e v
+both_ends e v meets other =
+    elim (cases_Bool (eqb e.u v)) [
+      | inl p ↦ elim (cases_Bool (eqb e.v v)) [
+        | inl q ↦ rw p (sym (eqb-true e.v v q))
+        | inr q ↦ absurd (false≢true (sym other ∙ rw (p, q) refl))
+      ]
+      | inr p ↦ elim (or_cases (eqb e.u v) (eqb e.v v) meets) [
+        | inl q ↦ absurd (false≢true (sym p ∙ q))
+        | inr q ↦ absurd (false≢true (sym other ∙ rw (p, q) refl))
+      ]
+    ]
+
+pub cleared-switch : (e : Edge) (to v : ℕ) (flags last : List Bool) → touches e to ≡ true → is_marked flags to ≡ true → ((x : ℕ) → is_marked last x
+    ≡ cond (eqb (ends_at e x) 1) (not (is_marked flags x)) (is_marked flags x)) → is_marked last v ≡ true → (v ≡ other_end e to) ⊎ ((v ≢ to) × (is_marked flags v ≡ true))
+cleared-switch e to v flags last meets on turned h =
+    let turn : Bool → Bool = λ t. cond t (not (is_marked flags v)) (is_marked flags v) in
+    elim (cases_Bool (eqb (ends_at e v) 1)) [
+      | inl once ↦ elim (one_end e to v meets (touches-once e v once)) [
         | inl same ↦
-            let off : is_marked last v ≡ false = turned v ∙ ap (λ (t : Bool). cond t (not (is_marked flags v)) (is_marked flags v)) at ∙ ap (λ (y : ℕ). not (is_marked flags y)) same
-            ∙ ap not on in
+            let off : is_marked last v ≡ false = turned v ∙ ap turn once ∙ ap (λ (y : ℕ). not (is_marked flags y)) same ∙ ap not on in
             absurd (false≢true (sym off ∙ h))
         | inr there ↦ inl there
       ]
-      | inr away ↦
-          let kept : is_marked last v ≡ is_marked flags v = turned v ∙ ap (λ (t : Bool). cond t (not (is_marked flags v)) (is_marked flags v)) away in
-          inr (λ e'. false≢true (sym away ∙ ap (touches e) e' ∙ meets), sym kept ∙ h)
+      | inr other ↦
+          let kept : is_marked flags v ≡ true = sym (turned v ∙ ap turn other) ∙ h in
+          elim (cases_eq v to) [
+            | inl same ↦ inl (subst (λ (x : ℕ). v ≡ other_end e x) same (both_ends e v (ap (touches e) same ∙ meets) other))
+            | inr apart ↦ inr (apart, kept)
+          ]
     ]
 
 -- a flag is at a root, or a link that is left leads to it

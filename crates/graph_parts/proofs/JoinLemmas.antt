@@ -1,17 +1,14 @@
 -- Lemmas on the two outcomes: the edges that are taken as a join, and an odd part that excludes joins.
-use Rattle.std.proofs.Common.{◌≡◌, ℕ, ◌+◌, ◌*◌, ◌≤◌, Bool, false, cond, eqb, ap, sym, ◌∙◌, subst, arith, List, length, slice_index, replicate}
+use Rattle.std.proofs.Common.{◌≡◌, ℕ, ◌+◌, ◌*◌, ◌≤◌, Bool, false, eqb, ap, sym, ◌∙◌, subst, arith, List, length, slice_index}
 use Rattle.std.proofs.lemmas.Bool.{eqb-true, eq-eqb}
-use Rattle.std.proofs.lemmas.List.{get_or-replicate}
-use Rattle.graph_theory.specs.Graph.{Multigraph, IsEdgeNumber, edge_at, edges_around, touches, ends_at, degree}
+use Rattle.graph_theory.specs.Graph.{Multigraph, IsEdgeNumber, edge_at, ends_at, degree}
 use Rattle.graph_theory.specs.Parts.{holds, IsOddPart}
 use Rattle.graph_theory.proofs.SumLemmas.{sum_to-same, one_if-most}
-use Rattle.graph_theory.proofs.Edges.{degree-touches}
-use Rattle.graph_theory.proofs.Around.{edges_below-count}
 use Rattle.graph_theory.proofs.Members.{all_holds, same_tests}
 use Rattle.graph_theory.proofs.OddParts.{odd_part_excludes}
 use Rattle.mb_problem.specs.declared.answer.Parity.{Parity}
 use Rattle.mb_problem.specs.Network.{Network, IsNetwork, graph_of}
-use Rattle.mb_problem.specs.Size.{edge_count_at, odd_at}
+use Rattle.mb_problem.specs.Size.{odd_at}
 use Rattle.mb_problem.specs.Joins.{IsJoinOf, listed_counts, ListsJoin}
 use Rattle.mb_problem.proofs.EdgeLemmas.{edges-count, network-graph}
 use Rattle.mb_problem.proofs.JoinLemmas.{listed-length, listed-at}
@@ -24,18 +21,6 @@ use Rattle.graph_parts.proofs.FlagLemmas.{one_if, bit-test, flag-within, taken-a
 pub balanced-flags : (g : Multigraph) (odd : ℕ → ℕ) (taken first flags : List Bool) → ((v : ℕ) → odd v ≤ 1) → ((v : ℕ) → 1 ≤ v → v ≤ g.vertices → is_marked first v ≡ eqb (odd v) 1)
     → IsBalanced g (λ v. one_if (is_marked first v)) taken flags → IsBalanced g odd taken flags
 balanced-flags g odd taken first flags small are even = λ v low high. even v low high ∙ ap one_if (are v low high) ∙ bit-test (odd v) (small v)
-
--- as many edges are listed at a vertex as it has
-pub around-count : (i : Network) (v : ℕ) → IsNetwork i → length (edges_around (graph_of i) v) ≡ edge_count_at i v
-around-count i v ok =
-    let g = graph_of i in
-    let m = length g.edges in
-    let count : m ≡ length i.edges = edges-count i in
-    let ones : List ℕ = replicate (length i.edges) 1 in
-    edges_below-count g v m
-    ∙ sum_to-same (λ k. cond (touches (edge_at g k) v) 1 0) (λ k. cond (touches (edge_at g k) v) (slice_index ones k) 0) m
-    (λ k b. ap (λ (x : ℕ). cond (touches (edge_at g k) v) x 0) (sym (get_or-replicate (length i.edges) k 1 0 (omega (arith, count, b)))))
-    ∙ sym (degree-touches g ones v (network-graph i ok).ends)
 
 -- the taken edges are a join where no flag is left
 

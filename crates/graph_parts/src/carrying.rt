@@ -1,6 +1,6 @@
-ghost use Rattle.std.specs.Prelude.{◌≡◌, ◌≢◌, ℕ, ◌+◌, ◌<◌, ◌⊎◌, true, false, [], not, length};
+ghost use Rattle.std.specs.Prelude.{◌≡◌, ◌≢◌, ℕ, ◌+◌, ◌<◌, ◌==◌, ◌⊎◌, true, false, [], not, length};
 ghost use Rattle.std.specs.Prelude.{if◌then◌else◌};
-ghost use Rattle.graph_theory.specs.Graph.{IsEdgeNumber, edge_of, touches};
+ghost use Rattle.graph_theory.specs.Graph.{IsEdgeNumber, edge_of, ends_at};
 ghost use Rattle.graph_parts.specs.Marks.{is_marked};
 ghost use Rattle.graph_parts.specs.Links.{from_of, IsLink};
 ghost use Rattle.graph_parts.specs.Forests.{IsLeastTogether, IsSpanningForest};
@@ -19,7 +19,8 @@ fn turn(marks: &mut [bool], place: usize)
     marks[place] = !marks[place];
 }
 
-/// Takes an edge, or gives it back, and turns the flags at its two ends.
+/// Takes an edge, or gives it back, and turns the flags at its two ends. That at a loop is turned
+/// twice, and stays.
 fn switch(graph: &Graph, edge: EdgeId, flags: &mut [bool], taken: &mut [bool])
     requires edge { IsEdgeNumber graph.now edge }
     requires flags { length flags.old ≡ graph.now.vertices + 1 }
@@ -27,7 +28,7 @@ fn switch(graph: &Graph, edge: EdgeId, flags: &mut [bool], taken: &mut [bool])
     ensures flags { length flags.new ≡ graph.now.vertices + 1 }
     ensures taken { length taken.new ≡ length graph.now.edges + 1 }
     ensures turned { (v : ℕ) → is_marked flags.new v
-        ≡ (if touches (edge_of graph.now edge) v then not (is_marked flags.old v)
+        ≡ (if ends_at (edge_of graph.now edge) v == 1 then not (is_marked flags.old v)
         else is_marked flags.old v) }
     ensures balanced { (odd : ℕ → ℕ) → IsBalanced graph.now odd taken.old flags.old
         → IsBalanced graph.now odd taken.new flags.new }

@@ -62,7 +62,7 @@ pub fn join_or_odd(
 {
     let graph = instance.graph()?;
     let index = graph.index()?;
-    let mut flags = odd_flags(alloc, instance, &index, parity)?;
+    let mut flags = odd_flags(alloc, instance, parity)?;
     let taken = take_edges(alloc, &graph, &index, &mut flags)?;
     match first_marked(&flags) {
         Some(root) => {

@@ -1,7 +1,7 @@
 -- A made instance is within the ranges that every instance keeps.
-use Rattle.std.proofs.Common.{◌≡◌, ◌≢◌, ℕ, ◌+◌, ◌-◌, ◌*◌, ◌<◌, ◌≤◌, ◌/◌, ◌^◌, ◌||◌, ◌==◌, Bool, true, false, cond, ltb, leb, All, pos}
+use Rattle.std.proofs.Common.{◌≡◌, ℕ, ◌+◌, ◌-◌, ◌*◌, ◌<◌, ◌≤◌, ◌/◌, ◌^◌, ◌||◌, ◌==◌, Bool, true, false, cond, ltb, leb, All, pos}
 use Rattle.std.proofs.Common.{◌-ℤ◌, refl, sym, subst, arith}
-use Rattle.std.proofs.lemmas.Bool.{ltb-true, leb-true, leb-false}
+use Rattle.std.proofs.lemmas.Bool.{ltb-true}
 use Rattle.std.proofs.lemmas.Int.{ints}
 use Rattle.std.proofs.lemmas.Nat.{mod_below}
 use Rattle.std.specs.Prelude.{IfSome}
@@ -55,31 +55,26 @@ capacity_small Once s = tt
 capacity_small AnyNumber s = tt
 capacity_small WithinCapacity s = omega (arith, drawn_below MADE_CAPACITY_LIMIT s (omega arith))
 
-between_fits : (kind : Kind) (s u v n : ℕ) → 1 ≤ u → u ≤ n → 1 ≤ v → v ≤ n → u ≢ v → IsInstanceEdge n (edge_between kind s u v)
-between_fits kind s u v n u_low u_high v_low v_high differ = record {
-  ends = record { u_low = u_low; u_high = u_high; v_low = v_low; v_high = v_high; differ = differ };
+between_fits : (kind : Kind) (s u v n : ℕ) → 1 ≤ u → u ≤ n → 1 ≤ v → v ≤ n → IsInstanceEdge n (edge_between kind s u v)
+between_fits kind s u v n u_low u_high v_low v_high = record {
+  ends = record { u_low = u_low; u_high = u_high; v_low = v_low; v_high = v_high };
   weight = weight_fits (is_from_zero kind) s;
   capacity = capacity_small (edge_use_of kind) (next_state s);
 }
 
-pub record IsOther (n u v : ℕ) : Type 0 where
-  pub low : 1 ≤ v
-  pub high : v ≤ n
-  pub differ : u ≢ v
-
-other_by : (n u r : ℕ) (b : Bool) → leb u (1 + r) ≡ b → r < n - 1 → u ≤ n → IsOther n u (cond b (2 + r) (1 + r))
-other_by n u r true e below high = let past = leb-true u (1 + r) e in record { low = omega arith; high = omega (arith, below); differ = λ same. omega (arith, past, same) }
-other_by n u r false e below high = let short = leb-false u (1 + r) e in record { low = omega arith; high = omega (arith, below); differ = λ same. omega (arith, short, same) }
+other_fits : (n r : ℕ) (b : Bool) → r < n - 1 → (1 ≤ cond b (2 + r) (1 + r)) × (cond b (2 + r) (1 + r) ≤ n)
+other_fits n r true below = (omega arith, omega (arith, below))
+other_fits n r false below = (omega arith, omega (arith, below))
 
 drawn_fits : (kind : Kind) (s n r t : ℕ) → r < n → t < n - 1 → IsInstanceEdge n (edge_between kind s (1 + r) (other_than (1 + r) t))
 drawn_fits kind s n r t first second =
-    let other = other_by n (1 + r) t (leb (1 + r) (1 + t)) refl second (omega (arith, first)) in
-    between_fits kind s (1 + r) (other_than (1 + r) t) n (omega arith) (omega (arith, first)) other.low other.high other.differ
+    let other = other_fits n t (leb (1 + r) (1 + t)) second in
+    between_fits kind s (1 + r) (other_than (1 + r) t) n (omega arith) (omega (arith, first)) other.0 other.1
 
 edge_by : (kind : Kind) (s n k : ℕ) (b : Bool) → ltb (k + 1) n ≡ b → 2 ≤ n →
     IsInstanceEdge n (cond b (edge_between kind s (k + 1) (k + 2)) (edge_between kind (state_after s 2) (1 + drawn n s) (other_than (1 + drawn n s) (drawn (n - 1) (next_state s)))))
 edge_by kind s n k true e two =
-    let less = ltb-true (k + 1) n e in between_fits kind s (k + 1) (k + 2) n (omega arith) (omega (arith, less)) (omega arith) (omega (arith, less)) (λ same. omega (arith, same))
+    let less = ltb-true (k + 1) n e in between_fits kind s (k + 1) (k + 2) n (omega arith) (omega (arith, less)) (omega arith) (omega (arith, less))
 edge_by kind s n k false e two =
     drawn_fits kind (state_after s 2) n (drawn n s) (drawn (n - 1) (next_state s)) (drawn_below n s (omega (arith, two))) (drawn_below (n - 1) (next_state s) (omega (arith, two)))
 

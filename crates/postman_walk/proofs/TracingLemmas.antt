@@ -59,7 +59,7 @@ stuck : (g : Multigraph) (uses left : List ℕ) (start here : ℕ) (opened finis
 stuck g uses left start here opened finished ends within t settled =
     let there = here_within g uses left start here opened finished ends within t in
     let even = t.even here there.0 there.1 in
-    let none = degree-none g left here ends settled in
+    let none = degree-none g left here settled in
     let one : cond {A = ℕ} (eqb here here) 1 0 ≡ 1 = ap (λ (b : Bool). cond {A = ℕ} b 1 0) (eq-eqb here here refl) in
     elim (cases_eq (walk_end g start finished) here) [
       | inl e ↦ e

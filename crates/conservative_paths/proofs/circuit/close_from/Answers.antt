@@ -33,7 +33,7 @@ returns-in-Some-2-clause-found c =
     let closes : ClosesBelow g c.in-Some.step.edge c.in-Some.step.there c.in-Some-2.place c.loop-step.trail c.go_on_or_close.new.trail = subst A c.in-Some-2.is c.in_ok-place.ensures in
     let closed = closes.closed c.args.left.now.counts.items c.loop-step.left.counts.items c.take.new.self.counts.items c.args.base c.args.base c.loop-step.invariant.path
     c.in-Some.ensures.step in
-    circuit-found g c.args.left.now.counts.items c.take.new.self.counts.items c.args.base c.args.base c.in-Some-2.place c.go_on_or_close.new.trail c.requires.graph.ends c.requires.even.small
+    circuit-found g c.args.left.now.counts.items c.take.new.self.counts.items c.args.base c.args.base c.in-Some-2.place c.go_on_or_close.new.trail c.requires.even.small
     closed closes.negative
 
 pub loop-step-smaller : goal.loop-step-smaller
@@ -59,5 +59,5 @@ returns-clause-found c =
     let step = c.in_default.ensures.step in
     let P : List ℕ → Type 0 = λ xs. IsOpen g c.args.left.now.counts.items xs c.args.base c.args.base c.loop-step.trail in
     let L : List ℕ → Type 0 = λ xs. (weight g xs +ℤ walk_weight g c.loop-step.trail.edges.items) <ℤ pos 0 in
-    drained g c.args.left.now.counts.items c.take.new.self.counts.items c.args.base c.loop-step.trail c.requires.graph.ends c.requires.even (subst P (sym step.0) c.loop-step.invariant.path)
+    drained g c.args.left.now.counts.items c.take.new.self.counts.items c.args.base c.loop-step.trail c.requires.even (subst P (sym step.0) c.loop-step.invariant.path)
     (subst L (sym step.0) c.loop-step.invariant.less) step.1

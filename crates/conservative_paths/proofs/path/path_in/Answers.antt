@@ -37,7 +37,7 @@ returns-clause-path c =
     let settled = subst S c.in_ok-graph.ensures step.1 in
     let O : List ℕ → Type 0 = λ xs. IsOpen (graph_of i) (listed_counts c.args.join.now.edges (length i.edges)) xs c.args.s c.args.t c.loop-step.trail in
     let P : List ℕ → Type 0 = IsPathWithin (graph_of i) c.args.join.now.edges c.args.s c.args.t c.args.s in
-    subst P (sym c.from_vec-edges.ensures) (path-found i c.args.s c.args.t c.args.join.now.edges c.take.new.self.counts.items c.loop-step.trail c.vertices.ensures.network c.requires.apart
+    subst P (sym c.from_vec-edges.ensures) (path-found i c.args.s c.args.t c.args.join.now.edges c.take.new.self.counts.items c.loop-step.trail c.requires.apart
     (subst O (sym step.0) c.loop-step.invariant.path) settled)
 
 pub returns-clause-weighs : goal.returns-clause-weighs
@@ -47,7 +47,7 @@ returns-clause-weighs c = λ even.
     let step = c.in_default.ensures.step in
     let settled = subst S c.in_ok-graph.ensures step.1 in
     let O : List ℕ → Type 0 = λ xs. IsOpen (graph_of i) (listed_counts c.args.join.now.edges (length i.edges)) xs c.args.s c.args.t c.loop-step.trail in
-    let is = path-found i c.args.s c.args.t c.args.join.now.edges c.take.new.self.counts.items c.loop-step.trail c.vertices.ensures.network c.requires.apart
+    let is = path-found i c.args.s c.args.t c.args.join.now.edges c.take.new.self.counts.items c.loop-step.trail c.requires.apart
     (subst O (sym step.0) c.loop-step.invariant.path) settled in
     let shared = c.loop-step.invariant.path.trail.way.shared in
     let low = path-weighs i c.args.s c.args.t c.args.join.now.edges c.loop-step.trail.edges.items c.vertices.ensures.network c.requires.apart c.requires.join is.walk is.arrives

@@ -17,5 +17,5 @@ returns c =
     let back : to_z w64 (of_z w64 w) ≡ w = search rules in
     let few : IsPlainEdge (Some c.in_ok-header.header) bytes (record { u = u; v = v; w = w; capacity = None }) c.in_ok-w.rest.now =
     edge_line c.in_ok-header.header bytes (take (length bytes - 2) (drop 2 bytes)) c.in_ok-u.rest.now c.in_ok-v.rest.now c.in_ok-w.rest.now u v w front c.in_ok-u.ensures.leads
-    c.in_ok-v.ensures.leads c.in_ok-w.ensures.leads c.in_ok-u.ensures.low c.in_ok-u.ensures.high c.in_ok-v.ensures.low c.in_ok-v.ensures.high c.if-u-v.false c.in_ok-w.ensures.range in
+    c.in_ok-v.ensures.leads c.in_ok-w.ensures.leads c.in_ok-u.ensures.low c.in_ok-u.ensures.high c.in_ok-v.ensures.low c.in_ok-v.ensures.high c.in_ok-w.ensures.range in
     rw (who, c.new.ensures, c.new-2.ensures, back) few
